@@ -1,0 +1,61 @@
+-- What a call leaves in the slice that it answers the front of, from what the calls in it say.
+use Rattle.std.proofs.Common.{◌≡◌, ℕ, ◌≤◌, ◌++◌, List, [], ◌∷◌, length, take, drop, refl, sym, ap, subst, arith, ◌∙◌, Result, Ok, Err, IfOk, IfErr, OnOk, OnErr, MatchResult, length-append}
+use Rattle.std.proofs.Math.Seq.{take-append_seam}
+use Rattle.std.specs.Bool.{⊤}
+use Rattle.std.specs.Borrow.{Bor, MutBor, u8, Array}
+use mathlib.Core.Option.{none}
+use seplogic.Ra.Ura.{Ura}
+use base.Logic.{ent, ex, guard}
+use base.Fml.{fres}
+use base.Stored.{coded_list}
+use types.Logic.{Logic, sem}
+use mir.Syntax.{erased}
+use types.Kit.{rewrite, show, check, fpick, ‵, ◌$◌, ◌∵◌, !, qed, use1, fpack, done}
+use denote.Slice.{finally, res-finally}
+use denote.Follow.{such_by, follows_by}
+use denote.FollowSlice.{finally-res, heres_id}
+use Rattle.der_core.specs.Lent.{IsFront, SliceRests}
+
+-- a slice whose last list is known rests at it
+module _ {M : Type 1} {𝓤 : Ura M} (𝓛 : Logic 𝓤) where
+  pub rests : (s : MutBor (List ℕ)) (ys : List ℕ) (P : List ℕ → Type 0) → P ys → ent 𝓤 (sem 𝓛 (finally u8 s.ghost_name ys)) (sem 𝓛 (SliceRests s P))
+  unfolding such_by follows_by
+  rests s ys P p = qed 𝓛 (‵ (finally u8 s.ghost_name ys) ∷ []) ∵
+      use1 𝓛 (‵ (fres s.ghost_name ((coded_list u8.coded).code ys))) (finally-res 𝓛 u8 s.ghost_name ys) $
+      fpack ! ((t : (List ℕ → List ℕ) × List ℕ) × ((w : List ℕ) → ⊤) × P t.1) (λ t. follows_by (List ℕ) (List ℕ) (Array u8 0).coded.code (Array u8 0).coded.code s.ghost_name none t.0.0 t.0.1) (((λ w. w), ys), (λ w. tt), p) $ done !
+
+module _ {M : Type 1} {𝓤 : Ura M} (𝓛 : Logic 𝓤) where
+  -- and back, for a caller by hand
+  pub rested : (s : MutBor (List ℕ)) (P : List ℕ → Type 0) → ent 𝓤 (sem 𝓛 (SliceRests s P)) (ex 𝓤 (λ (ys : List ℕ). guard 𝓤 (P ys) (sem 𝓛 (finally u8 s.ghost_name ys))))
+  unfolding such_by follows_by
+  rested s P = qed 𝓛 (‵ (SliceRests s P) ∷ []) ∵ fpick ! (λ t.
+      rewrite ! 0 (λ (l : List ℕ). ‵ (fres s.ghost_name ((coded_list u8.coded).code l))) (sym (heres_id u8 t.0.1)) refl $
+      use1 𝓛 (‵ (finally u8 s.ghost_name t.0.1)) (res-finally 𝓛 erased [] u8 s.ghost_name t.0.1) $ show ! (λ (ys : List ℕ). guard 𝓤 (P ys) (sem 𝓛 (finally u8 s.ghost_name ys))) t.0.1 $ check ! t.2 $ done !)
+
+-- A text was written over xs, which gave ys, and r is its length, or why it wasn't.
+abbrev pub Wrote : {E : Type 0} → List ℕ → List ℕ → List ℕ → Result ℕ E → Type 0
+Wrote text xs ys r = IfOk r (λ n. (n ≡ length text) × (ys ≡ text ++ drop n xs))
+
+module _ {E : Type 0} (text xs ys : List ℕ) where
+  pub fits : (r : Result ℕ E) → Wrote text xs ys r → IfOk r (λ n. n ≤ length ys)
+  fits (Ok n) w = let l : length ys ≡ length (text ++ drop n xs) = ap length w.1 in let k = length-append text (drop n xs) in let e = w.0 in omega arith
+  fits (Err e) w = tt
+
+  pub leaves_rest : (r : Result ℕ E) (t : Result (Bor (List ℕ)) E) → Wrote text xs ys r → OnErr r (ys ≡ xs) → IsFront ys r t
+      → MatchResult t (λ _. ys ≡ text ++ drop (length text) xs) (λ _. ys ≡ xs)
+  leaves_rest (Ok n) (Ok front) w k a = rw w.0 at w.1
+  leaves_rest (Ok n) (Err e) w k a = absurd a
+  leaves_rest (Err e) (Ok front) w k a = absurd a
+  leaves_rest (Err e) (Err e') w k a = k
+
+  pub on_front : (H : Type 0) (P : List ℕ → Type 0) → (H → P text) → (r : Result ℕ E) (t : Result (Bor (List ℕ)) E) → Wrote text xs ys r → OnOk r H → IsFront ys r t → IfOk t (λ front. P front.now)
+  on_front H P f (Ok n) (Ok front) w h a = let seam = take-append_seam text (drop n xs) in subst P (sym (a ∙ ap (λ l. take n l) w.1 ∙ (rw (sym w.0) at seam))) (f h)
+  on_front H P f (Ok n) (Err e) w h a = absurd a
+  on_front H P f (Err e) (Ok front) w h a = absurd a
+  on_front H P f (Err e) (Err e') w h a = tt
+
+pub on_error : {E : Type 0} (ys : List ℕ) (Q : E → Type 0) (r : Result ℕ E) (t : Result (Bor (List ℕ)) E) → IfErr r Q → IsFront ys r t → IfErr t Q
+on_error ys Q (Ok n) (Ok front) h a = tt
+on_error ys Q (Ok n) (Err e) h a = absurd a
+on_error ys Q (Err e) (Ok front) h a = absurd a
+on_error ys Q (Err e) (Err e') h a = subst Q (sym a) h

@@ -1,0 +1,11 @@
+pub mod Base
+pub mod Headers
+pub mod Blanket
+pub mod Whole
+pub mod Sequences
+pub mod Stopping
+pub mod Counting
+pub mod IntegerFaults
+pub mod IntegerLengths
+pub mod Refusals
+pub mod Lent

@@ -1,0 +1,6 @@
+use Rattle.std.proofs.Common.{arith}
+use Rattle.der_core.specs.LengthLaws.{length_octets-within}
+use Rattle.der_core.proofs.length.Length.to_bytes.Goals as goal
+
+pub returns-clause-counted : goal.returns-clause-counted
+returns-clause-counted c = rw c.octets.ensures.written (length_octets-within _ (omega (arith, c.octets.ensures.within)))

@@ -1,0 +1,59 @@
+-- Encodings as a whole, within the limit on their length.
+use Rattle.std.specs.Prelude.{ℕ, List, ◌≡◌, ◌<◌, ◌≤◌, ◌⊎◌, length}
+use Rattle.der_core.specs.Texts.{AreBytes}
+use Rattle.der_core.specs.Tlv.{Tlv}
+use Rattle.der_core.specs.Length.{limit}
+
+-- The value has this text, and it is within the limit.
+abbrev pub Means : {V : Type 0} → (V → List ℕ → Type 0) → List ℕ → V → Type 0
+Means Grammar text v = (length text ≤ limit) × Grammar v text
+
+-- One whole SEQUENCE, whose contents are any bytes.
+abbrev pub IsDocument : List ℕ → Type 0
+IsDocument text = (length text ≤ limit) × Tlv 48 AreBytes text
+
+-- The texts of a value within the limit.
+abbrev pub Spellings : {V : Type 0} → (V → List ℕ → Type 0) → V → List ℕ → Type 0
+Spellings Grammar v text = Means Grammar text v
+
+-- A spelling; every other one is longer.
+pub record IsShortest {V : Type 0} (Grammar : V → List ℕ → Type 0) (v : V) (text : List ℕ) : Type 0 where
+  pub spells : Spellings Grammar v text
+  pub least : (other : List ℕ) → Spellings Grammar v other → (other ≡ text) ⊎ (length text < length other)
+
+-- Both texts mean one value.
+abbrev pub MeanTheSame : {V : Type 0} → (V → List ℕ → Type 0) → List ℕ → List ℕ → Type 0
+MeanTheSame {V} Grammar a b = (v : V) × Means Grammar a v × Means Grammar b v
+
+-- No text is one of both.
+abbrev pub Excludes : {V W : Type 0} → (V → List ℕ → Type 0) → (W → List ℕ → Type 0) → Type 0
+Excludes {V} {W} G H = (v : V) (w : W) (text : List ℕ) → G v text → H w text → ⊥
+
+-- The text is the only one of the value.
+abbrev pub IsAlone : {V : Type 0} → (V → List ℕ → Type 0) → V → List ℕ → Type 0
+IsAlone Grammar v text = (other : List ℕ) → Spellings Grammar v other → other ≡ text
+
+-- Why a value isn't written.
+pub data Fault : Type 0 where
+  no_text : Fault
+  too_long : Fault
+  no_room : Fault
+  another : Fault
+
+-- Why a value's text isn't counted: it has no text, or it has some (as Some says) and none of them is within the limit.
+abbrev pub IsUncountable : {V : Type 0} → Type 0 → (V → List ℕ → Type 0) → V → Fault → Type 0
+IsUncountable Some Grammar v no_text = (text : List ℕ) → Grammar v text → ⊥
+IsUncountable Some Grammar v too_long = Some × ((text : List ℕ) → Means Grammar text v → ⊥)
+IsUncountable Some Grammar v no_room = ⊥
+IsUncountable Some Grammar v another = ⊥
+
+-- Why a value isn't written: its text isn't counted, or the shortest one has no room.
+abbrev pub IsRefused : {V : Type 0} → Type 0 → (V → List ℕ → Type 0) → V → ℕ → Fault → Type 0
+IsRefused Some Grammar v room no_text = (text : List ℕ) → Grammar v text → ⊥
+IsRefused Some Grammar v room too_long = Some × ((text : List ℕ) → Means Grammar text v → ⊥)
+IsRefused Some Grammar v room no_room = (text : List ℕ) × IsShortest Grammar v text × (room < length text)
+IsRefused Some Grammar v room another = ⊥
+
+-- The value has a text.
+abbrev pub HasText : {V : Type 0} → (V → List ℕ → Type 0) → V → Type 0
+HasText Grammar v = (text : List ℕ) × Grammar v text

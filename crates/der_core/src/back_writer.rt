@@ -1,0 +1,71 @@
+//! Writing from the end.
+ghost use Rattle.std.specs.Prelude.{◌≤◌, length};
+
+use crate::header::Header;
+
+/// Fills a slice from its end to its start, so that the length of what was written last is known when its header is
+/// written.
+#[derive(Drop)]
+pub struct BackWriter<'b> {
+    slice: &'b mut [u8],
+    free: usize,
+    ghost fits: { free ≤ length slice.now },
+}
+
+impl<'b> BackWriter<'b> {
+    ghost use Rattle.std.specs.Prelude.{◌≡◌, ◌+◌, ◌∷◌, drop};
+    ghost use Rattle.der_core.specs.Length.{length_octets};
+    ghost use Rattle.der_core.specs.BackWriters.{slice_of, free_of, Prepends};
+
+    /// A writer over a slice of which nothing is filled.
+    pub fn new(slice: &'b mut [u8]) -> BackWriter<'b>
+        ensures same_reference { (slice_of result).ghost_name ≡ slice.entry.ghost_name }
+        ensures same_slice { (slice_of result).now ≡ slice.old }
+        ensures empty { free_of result ≡ length slice.old }
+    {
+        let free = slice.len();
+        BackWriter { slice, free }
+    }
+
+    /// How many octets may still be prepended.
+    pub fn free(&self) -> usize
+        ensures { result ≡ free_of self.now }
+    {
+        self.free
+    }
+
+    /// How many octets were prepended.
+    pub fn filled_len(&self) -> usize
+        ensures { result + free_of self.now ≡ length (slice_of self.now).now }
+    {
+        self.slice.len() - self.free
+    }
+
+    /// Puts the octets before what is filled.
+    pub fn prepend(&mut self, bytes: &[u8])
+        requires { length bytes.now ≤ free_of self.old }
+        ensures { Prepends bytes.now self.old self.new }
+    {
+        let end = self.free;
+        let start = end - bytes.len();
+        self.slice[start..end].copy_from_slice(bytes);
+        self.free = start;
+    }
+
+    /// Puts a header before what is filled.
+    pub fn prepend_header(&mut self, header: Header)
+        requires { 1 + length (length_octets header.length) ≤ free_of self.old }
+        ensures { Prepends (header.tag.octet ∷ length_octets header.length) self.old self.new }
+    {
+        self.prepend(&header.to_bytes());
+    }
+
+    /// What is filled: the end of the slice.
+    pub fn finish(self) -> &'b [u8]
+        ensures { result.now ≡ drop (free_of self.entry) (slice_of self.entry).now }
+    {
+        let free = self.free;
+        let slice = self.slice;
+        &slice[free..]
+    }
+}

@@ -1,0 +1,62 @@
+//! Reading of values.
+ghost use Rattle.std.specs.Prelude.{ℕ, List};
+ghost use Rattle.der_core.specs.Tlv.{Tlv};
+ghost use Rattle.der_core.specs.Reading.{ReadsContents, ReadsText, ReadsAll, HoldsBytes};
+
+use crate::error::{ErrorKind, Result};
+use crate::header::Header;
+use crate::memory::Memory;
+use crate::reader::{Octets, Reader};
+use crate::slice_reader::SliceReader;
+use crate::types::{Contents, FixedTag, Text};
+
+/// A type whose values are read from their contents octets.
+pub trait DecodeValue<B: Octets, M: Memory>: Contents + Sized + Drop {
+    /// The contents for which memory may be asked for.
+    ghost asks: { List ℕ → Type 0 };
+
+    /// Reads all that is left, which is as many bytes as the header says, as the contents of a value.
+    fn decode_value<R: Reader<B>>(memory: M, reader: &mut R, header: Header) -> Result<Self>
+        requires { HoldsBytes (R.left reader.old) header.length }
+        ensures { ReadsContents Self.value Self.contents asks result (R.left reader.old) (R.left reader.new) };
+}
+
+/// A type whose values are read from their texts.
+pub trait Decode<B: Octets, M: Memory>: Text + Sized + Drop {
+    /// The texts for which memory may be asked for.
+    ghost asks: { List ℕ → Type 0 };
+
+    /// Reads the text at the front of the reader.
+    fn decode<R: Reader<B>>(memory: M, reader: &mut R) -> Result<Self>
+        ensures { ReadsText Self.value Self.text asks result (R.left reader.old) (R.left reader.new) };
+
+    /// Reads a whole slice: `Overflow` past `Length::MAX`, `TrailingData` where bytes follow the text.
+    fn from_der(memory: M, bytes: B) -> Result<Self>
+        ensures { ReadsAll Self.value Self.text asks result (B.octets bytes) };
+}
+
+impl<'a, M: Memory, T: DecodeValue<&'a [u8], M> + FixedTag> Decode<&'a [u8], M> for T {
+    ghost asks = { Tlv T.TAG.octet T.DecodeValue.asks };
+
+    fn decode<R: Reader<&'a [u8]>>(memory: M, reader: &mut R) -> Result<T> {
+        let header = Header::decode(reader)?;
+        if header.tag != T::TAG {
+            return Err(reader.error(ErrorKind::TagUnexpected {
+                expected: T::TAG,
+                actual: header.tag,
+            }));
+        }
+        let mut nested = reader.nested(header.length)?;
+        match T::decode_value(memory, &mut nested, header) {
+            Ok(value) => Ok(value),
+            Err(e) => Err(reader.error(e.kind())),
+        }
+    }
+
+    fn from_der(memory: M, bytes: &'a [u8]) -> Result<T> {
+        let mut reader = SliceReader::new(bytes)?;
+        let value = T::decode(memory, &mut reader)?;
+        reader.finish()?;
+        Ok(value)
+    }
+}

@@ -1,0 +1,122 @@
+//! Refusals.
+ghost use Rattle.std.specs.Prelude.{◌≡◌, Some};
+ghost use Rattle.der_core.specs.Writing.{fault, is_no_text};
+
+use crate::tag::{PrintedOctet, Tag};
+use std::fmt;
+
+/// Why a call was refused.
+#[derive(Clone, Copy, Debug, PartialEq, Eq, Drop)]
+pub enum ErrorKind {
+    /// The reader has refused before.
+    Failed,
+    /// Fewer bytes are left than are asked for.
+    Incomplete,
+    /// The length octet is 80 (X.690 8.1.3.6), which DER forbids (10.1).
+    IndefiniteLength,
+    /// An INTEGER without contents.
+    Length { tag: Tag },
+    /// Contents that aren't in shortest form, as an INTEGER with a needless leading zero.
+    Noncanonical { tag: Tag },
+    /// Identifier contents outside the grammar.
+    OidMalformed,
+    /// Another identifier than the one asked for.
+    OidUnknown,
+    /// A length or a sum of lengths past `Length::MAX`.
+    Overflow,
+    /// A length in more octets than it needs.
+    Overlength,
+    /// Algorithm parameters are asked for and absent.
+    ParametersMissing,
+    /// Another tag than the type's.
+    TagUnexpected { expected: Tag, actual: Tag },
+    /// A tag octet that isn't allowed.
+    TagUnknown { octet: u8 },
+    /// Bytes are left where the value has ended.
+    TrailingData,
+    /// A negative number, one out of range, or another value that the type hasn't.
+    Value { tag: Tag },
+    /// A slice or a writer has too little room.
+    NoRoom,
+    /// A read, a write, a flush, opening or creating failed.
+    File,
+    /// A growth was refused.
+    OutOfMemory,
+}
+
+impl fmt::Display for ErrorKind {
+    ghost use Rattle.der_core.specs.ErrorText.{kind_text};
+
+    ghost output = { λ kind. Some (kind_text kind) };
+
+    fn fmt<W: fmt::Write>(&self, f: &mut fmt::Formatter<W>) -> fmt::Result {
+        match *self {
+            ErrorKind::Failed => write!(f, "an earlier read failed"),
+            ErrorKind::Incomplete => write!(f, "the input ends too early"),
+            ErrorKind::IndefiniteLength => write!(f, "the length is indefinite"),
+            ErrorKind::Length { tag } => {
+                write!(f, "the contents of tag {tag} have a wrong length")
+            }
+            ErrorKind::Noncanonical { tag } => {
+                write!(f, "the contents of tag {tag} are not in shortest form")
+            }
+            ErrorKind::OidMalformed => write!(f, "the object identifier is malformed"),
+            ErrorKind::OidUnknown => write!(f, "the object identifier is another one"),
+            ErrorKind::Overflow => write!(f, "a length passes the limit"),
+            ErrorKind::Overlength => write!(f, "the length is not in shortest form"),
+            ErrorKind::ParametersMissing => write!(f, "the algorithm parameters are missing"),
+            ErrorKind::TagUnexpected { expected, actual } => {
+                write!(f, "tag {expected} was expected, {actual} was found")
+            }
+            ErrorKind::TagUnknown { octet } => {
+                write!(f, "the tag octet {} is not known", PrintedOctet(octet))
+            }
+            ErrorKind::TrailingData => write!(f, "bytes follow the value"),
+            ErrorKind::Value { tag } => write!(f, "the value of tag {tag} is not allowed"),
+            ErrorKind::NoRoom => write!(f, "the slice has no room"),
+            ErrorKind::File => write!(f, "a read or a write failed"),
+            ErrorKind::OutOfMemory => write!(f, "no memory was found"),
+        }
+    }
+}
+
+/// A refusal.
+#[derive(Clone, Copy, Debug, PartialEq, Eq, Drop)]
+pub struct Error {
+    pub kind: ErrorKind,
+}
+
+/// What a call of this crate answers.
+pub type Result<T> = std::result::Result<T, Error>;
+
+impl Error {
+    pub fn new(kind: ErrorKind) -> Error
+        ensures { result ≡ record { kind = kind } }
+    {
+        Error { kind }
+    }
+
+    pub fn kind(&self) -> ErrorKind
+        ensures { result ≡ self.now.kind }
+    {
+        self.kind
+    }
+
+    /// Whether the value has no text.
+    pub(crate) fn is_value(self) -> bool
+        ensures { result ≡ is_no_text (fault self.kind) }
+    {
+        matches!(self.kind, ErrorKind::Value { .. })
+    }
+}
+
+impl fmt::Display for Error {
+    ghost use Rattle.der_core.specs.ErrorText.{kind_text};
+
+    ghost output = { λ error. Some (kind_text error.kind) };
+
+    /// Prints the text of the kind.
+    fn fmt<W: fmt::Write>(&self, f: &mut fmt::Formatter<W>) -> fmt::Result {
+        write!(f, "{}", self.kind)
+    }
+}

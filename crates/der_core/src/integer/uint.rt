@@ -1,0 +1,162 @@
+//! Unsigned numbers that borrow their bytes.
+ghost use Rattle.std.specs.Prelude.{◌≡◌, ◌≤◌, ◌<◌, ◌⊎◌, ℕ, List, length, slice_index, IfOk, IfErr, Some};
+ghost use Rattle.std.specs.Int.Digits.{number_from_digits};
+ghost use Rattle.der_core.specs.Length.{limit};
+ghost use Rattle.der_core.specs.Reading.{ReadsContents, HoldsBytes};
+ghost use Rattle.der_core.specs.Integer.{HoldsNumber, IsCanonical, IntegerContents, integer_contents};
+ghost use Rattle.der_core.specs.IntegerReading.{integer_of, Answers};
+ghost use Rattle.der_core.specs.IntegerLaws.{integer_means_one, integer_of_bytes, integer_relates, integer_shortest};
+ghost use Rattle.der_core.specs.Tags.{integer};
+
+use crate::back_writer::BackWriter;
+use crate::decode::DecodeValue;
+use crate::encode::EncodeValue;
+use crate::error::{Error, ErrorKind, Result};
+use crate::header::Header;
+use crate::length::Length;
+use crate::memory::Memory;
+use crate::reader::Reader;
+use crate::tag::Tag;
+use crate::types::{Contents, IntegerTag, Kinded};
+use crate::writer::Writer;
+
+/// An unsigned number, by its bytes: most significant first, the first one 0 only in the number 0. It borrows them.
+#[derive(Clone, Copy, Debug, PartialEq, Eq, Drop)]
+pub struct UintRef<'a> {
+    bytes: &'a [u8],
+    ghost canonical: { HoldsNumber bytes.now },
+    ghost bounded: { length bytes.now ≤ limit },
+}
+
+/// The bytes without needless zeros.
+fn strip(bytes: &[u8]) -> &[u8]
+    ensures number { number_from_digits 256 result.now ≡ number_from_digits 256 bytes.now }
+    ensures fewest { 1 < length result.now → 0 < slice_index result.now 0 }
+    ensures empty { length result.now ≡ 0 → length bytes.now ≡ 0 }
+    ensures bound { length result.now ≤ length bytes.now }
+{
+    let mut rest = bytes;
+    while rest.len() > 1 && rest[0] == 0 {
+        rest = &rest[1..];
+    }
+    rest
+}
+
+impl<'a> UintRef<'a> {
+    ghost use Rattle.der_core.specs.UintRefs.{bytes_of};
+
+    /// The number of these bytes, without leading zeros: `Length` of INTEGER where there is no byte, `Overflow` where
+    /// more than `Length::MAX` bytes are left.
+    pub fn new(bytes: &'a [u8]) -> Result<UintRef<'a>>
+        ensures ok { IfOk result (λ number. (number_from_digits 256 (bytes_of number) ≡ number_from_digits 256 bytes.now) × IsCanonical (bytes_of number)) }
+        ensures err { IfErr result (λ e. ((length bytes.now ≡ 0) × (e.kind ≡ ErrorKind.Length integer)) ⊎ (((x : List ℕ) → IsCanonical x → number_from_digits 256 x ≡ number_from_digits 256 bytes.now → limit < length x) × (e.kind ≡ ErrorKind.Overflow))) }
+    {
+        let bytes = strip(bytes);
+        if bytes.is_empty() {
+            return Err(Error::new(ErrorKind::Length { tag: Tag::INTEGER }));
+        }
+        if bytes.len() > Length::MAX.to_usize() {
+            return Err(Error::new(ErrorKind::Overflow));
+        }
+        Ok(UintRef { bytes })
+    }
+
+    /// The bytes, most significant first, at least one.
+    pub fn as_bytes(&self) -> &'a [u8]
+        ensures number { result.now ≡ bytes_of self.now }
+        ensures canonical { IsCanonical result.now }
+        ensures bound { length result.now ≤ limit }
+    {
+        self.bytes
+    }
+}
+
+/// The number of some contents.
+fn integer(contents: &[u8]) -> Result<UintRef<'_>>
+    requires { length contents.now ≤ limit }
+    ensures { Answers (λ u. u.bytes.now) result (integer_of contents.now) }
+{
+    if contents.is_empty() {
+        return Err(Error::new(ErrorKind::Length { tag: Tag::INTEGER }));
+    }
+    match contents {
+        [first, ..] if *first >= 0x80 => Err(Error::new(ErrorKind::Value { tag: Tag::INTEGER })),
+        [0, second, ..] if *second < 0x80 => Err(Error::new(ErrorKind::Noncanonical {
+            tag: Tag::INTEGER,
+        })),
+        [0, _, ..] => Ok(UintRef {
+            bytes: &contents[1..],
+        }),
+        _ => Ok(UintRef { bytes: contents }),
+    }
+}
+
+impl<'a> Contents for UintRef<'a> {
+    ghost Value = { List ℕ };
+
+    ghost use Rattle.der_core.specs.UintRefs.{bytes_of};
+
+    ghost value = { bytes_of };
+
+    ghost contents = { IntegerContents };
+
+    ghost has_contents = { IsCanonical };
+
+    ghost written_contents = { integer_contents };
+
+    ghost means_one = { integer_means_one };
+
+    ghost contents_of_bytes = { integer_of_bytes };
+}
+
+impl<'a> Kinded for UintRef<'a> {
+    type Kind = IntegerTag;
+}
+
+impl<'a, M: Memory> DecodeValue<&'a [u8], M> for UintRef<'a> {
+    ghost use Rattle.der_core.specs.UintRefs.{bytes_of};
+
+    ghost asks = { λ _. ⊥ };
+
+    fn decode_value<R: Reader<&'a [u8]>>(
+        _memory: M,
+        reader: &mut R,
+        header: Header,
+    ) -> Result<UintRef<'a>>
+        requires { HoldsBytes (R.left reader.old) header.length }
+        ensures reads { ReadsContents bytes_of IntegerContents (λ _. ⊥) result (R.left reader.old) (R.left reader.new) }
+        ensures exact { (c : List ℕ) → R.left reader.old ≡ Some c → Answers bytes_of result (integer_of c) }
+    {
+        let contents = reader.read_slice(header.length)?;
+        match integer(contents) {
+            Ok(value) => Ok(value),
+            Err(e) => Err(reader.error(e.kind())),
+        }
+    }
+}
+
+impl EncodeValue for UintRef<'_> {
+    fn value_len(&self) -> Result<Length> {
+        let zeros = if self.bytes[0] < 0x80 { 0 } else { 1 };
+        Length::try_from(self.bytes.len() + zeros)
+    }
+
+    fn encode_value<W: Writer>(&self, writer: &mut W) -> Result<()> {
+        self.value_len()?;
+        if self.bytes[0] >= 0x80 {
+            writer.write(&[0])?;
+        }
+        writer.write(self.bytes)
+    }
+
+    fn prepend_value(&self, writer: &mut BackWriter<'_>) {
+        writer.prepend(self.bytes);
+        if self.bytes[0] >= 0x80 {
+            writer.prepend(&[0]);
+        }
+    }
+
+    ghost contents_relate = { λ bytes has fits. integer_relates bytes has };
+
+    ghost contents_shortest = { integer_shortest };
+}

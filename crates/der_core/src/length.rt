@@ -1,0 +1,208 @@
+//! Lengths.
+ghost use Rattle.std.specs.Prelude.{◌≡◌, ℕ, List, ◌+◌, ◌≤◌, ◌<◌, length, IfOk, IfErr, MatchResult};
+ghost use Rattle.der_core.specs.declared.error.ErrorKind.TheVariants.{Overflow};
+ghost use Rattle.std.specs.Int.Digits.{number_from_digits};
+ghost use Rattle.der_core.specs.Length.{limit, IsLength, length_octets};
+ghost use Rattle.der_core.specs.Input.{Reads, length_at};
+ghost use Rattle.der_core.specs.Input as specs;
+ghost use Rattle.der_core.specs.Reading.{ReadsText};
+ghost use Rattle.der_core.specs.Headers.{LengthText};
+ghost use Rattle.der_core.specs.Texts.{Is};
+ghost use Rattle.der_core.specs.Tlv.{Tlv};
+
+use crate::error::{Error, ErrorKind, Result};
+use crate::header::Header;
+use crate::reader::{Reader, read_octet};
+use crate::tag::Tag;
+use arrayvec::ArrayVec;
+use std::marker::Model;
+
+/// A number of octets, at most `Length::MAX`.
+#[derive(Clone, Copy, Debug, PartialEq, Eq, PartialOrd, Ord, Drop)]
+pub struct Length {
+    value: u32,
+}
+
+impl Model for Length {
+    ghost use Rattle.std.specs.Prelude.{ℕ, ◌≤◌};
+    ghost use Rattle.der_core.specs.Length.{limit};
+
+    ghost Value = { ℕ };
+
+    ghost view = { λ l. l.value };
+
+    ghost invariant = { λ l. l.value ≤ limit };
+
+    ghost inverse = { λ n. record { value = n } };
+}
+
+/// The number that at most four octets spell.
+fn number(octets: &[u8]) -> u32
+    requires { length octets.now ≤ 4 }
+    ensures { result ≡ number_from_digits 256 octets.now }
+{
+    let mut n: u32 = 0;
+    for octet in octets {
+        n = n * 256 + *octet as u32;
+    }
+    n
+}
+
+/// Whether the short form, or fewer octets, would do.
+fn is_overlong(octets: &[u8]) -> bool
+    ensures { result ≡ specs.is_overlong octets.now }
+{
+    match octets {
+        [] => true,
+        [octet] => *octet < 0x80,
+        [first, ..] => *first == 0,
+    }
+}
+
+/// Reads the length octets.
+#[tactic(auto, unfolding(crate::specs::Input::length_at))]
+fn read_length<'a, R: Reader<&'a [u8]>>(reader: &mut R) -> Result<Length>
+    ensures { Reads (λ n. n) result (R.left reader.old) (R.left reader.new) length_at }
+{
+    let first = read_octet(reader)?;
+    if first < 0x80 {
+        return Ok(Length {
+            value: first as u32,
+        });
+    }
+    if first == 0x80 {
+        return Err(reader.error(ErrorKind::IndefiniteLength));
+    }
+    if first > 0x84 {
+        return Err(reader.error(ErrorKind::Overflow));
+    }
+    let octets = reader.read_slice(Length {
+        value: (first - 0x80) as u32,
+    })?;
+    if is_overlong(octets) {
+        return Err(reader.error(ErrorKind::Overlength));
+    }
+    let value = number(octets);
+    if value > Length::MAX.value {
+        return Err(reader.error(ErrorKind::Overflow));
+    }
+    Ok(Length { value })
+}
+
+impl TryFrom<usize> for Length {
+    type Error = Error;
+
+    ghost try_from_gives = { λ value result. MatchResult result (λ n. (n ≡ value) × (value ≤ limit)) (λ e. (e.kind ≡ Overflow) × (limit < value)) };
+
+    /// The number as a length, or `Overflow` past `MAX`.
+    fn try_from(value: usize) -> Result<Length>
+        ensures ok { IfOk result (λ n. (n ≡ value) × (value ≤ limit)) }
+        ensures err { IfErr result (λ e. (e.kind ≡ ErrorKind.Overflow) × (limit < value)) }
+    {
+        if value <= 268435455 {
+            Ok(Length {
+                value: value as u32,
+            })
+        } else {
+            Err(Error::new(ErrorKind::Overflow))
+        }
+    }
+}
+
+impl Length {
+    pub const ZERO: Length = Length { value: 0 };
+
+    pub const ONE: Length = Length { value: 1 };
+
+    pub const MAX: Length = Length { value: 268435455 };
+
+    /// The length `value`.
+    pub(crate) fn of(value: usize) -> Length
+        requires { value ≤ limit }
+        ensures { result ≡ value }
+    {
+        Length {
+            value: value as u32,
+        }
+    }
+
+    pub fn to_usize(self) -> usize
+        ensures value { result ≡ self }
+        ensures bound { result ≤ limit }
+    {
+        self.value as usize
+    }
+
+    /// The sum, or `Overflow` past `MAX`.
+    pub fn checked_add(self, other: Length) -> Result<Length>
+        ensures ok { IfOk result (λ sum. (sum ≡ self + other) × (sum ≤ limit)) }
+        ensures err { IfErr result (λ e. (e.kind ≡ ErrorKind.Overflow) × (limit < self + other)) }
+    {
+        let sum = self.value + other.value;
+        if sum <= Length::MAX.value {
+            Ok(Length { value: sum })
+        } else {
+            Err(Error::new(ErrorKind::Overflow))
+        }
+    }
+
+    /// The length of a text whose contents have this length, or `Overflow` past `MAX`.
+    pub fn for_tlv(self, tag: Tag) -> Result<Length>
+        ensures ok { IfOk result (λ total. (total ≡ 1 + length (length_octets self) + self) × (total ≤ limit)) }
+        ensures err { IfErr result (λ e. (e.kind ≡ ErrorKind.Overflow) × (limit < 1 + length (length_octets self) + self)) }
+        ensures text { (octet : ℕ) (contents text : List ℕ) → length contents ≡ self → Tlv octet (Is contents) text → length text ≡ 1 + length (length_octets self) + self }
+    {
+        let header = Header { tag, length: self };
+        let len = header.to_bytes().len() as u32;
+        Length { value: len }.checked_add(self)
+    }
+
+    /// The length octets.
+    pub fn to_bytes(self) -> ArrayVec<u8, 5>
+        ensures counted { IsLength self result.items }
+        ensures written { result.items ≡ length_octets self }
+        ensures few { length result.items ≤ 5 }
+    {
+        self.octets()
+    }
+
+    /// The length octets.
+    fn octets(self) -> ArrayVec<u8, 5>
+        ensures written { result.items ≡ length_octets self }
+        ensures few { length result.items ≤ 5 }
+        ensures within { self ≤ limit }
+    {
+        let number = self.value;
+        let mut bytes = ArrayVec::new();
+        if number < 0x80 {
+            bytes.push(number as u8);
+        } else if number < 0x100 {
+            bytes.push(0x81);
+            bytes.push(number as u8);
+        } else if number < 0x1_0000 {
+            bytes.push(0x82);
+            bytes.push((number / 0x100) as u8);
+            bytes.push((number % 0x100) as u8);
+        } else if number < 0x100_0000 {
+            bytes.push(0x83);
+            bytes.push((number / 0x1_0000) as u8);
+            bytes.push((number / 0x100 % 0x100) as u8);
+            bytes.push((number % 0x100) as u8);
+        } else {
+            bytes.push(0x84);
+            bytes.push((number / 0x100_0000) as u8);
+            bytes.push((number / 0x1_0000 % 0x100) as u8);
+            bytes.push((number / 0x100 % 0x100) as u8);
+            bytes.push((number % 0x100) as u8);
+        }
+        bytes
+    }
+
+    /// Reads the length octets.
+    pub fn decode<'a, R: Reader<&'a [u8]>>(reader: &mut R) -> Result<Length>
+        ensures exact { Reads (λ n. n) result (R.left reader.old) (R.left reader.new) length_at }
+        ensures text { ReadsText (λ n. n) LengthText (λ _. ⊥) result (R.left reader.old) (R.left reader.new) }
+    {
+        read_length(reader)
+    }
+}

@@ -1,0 +1,70 @@
+//! Tag octets.
+ghost use Rattle.std.specs.Prelude.{◌≡◌, IsTrue, IfOk, IfErr, Some, false};
+ghost use Rattle.der_core.specs.Tag.{is_allowed};
+
+use crate::error::{Error, ErrorKind, Result};
+use std::fmt;
+
+/// A tag of one octet (X.690 8.1.2): class in bits 8 and 7, the constructed bit in bit 6, the number in bits 5 to 1.
+/// An octet is allowed where its number isn't 31 and it is neither `00` nor `20`.
+#[derive(Clone, Copy, Debug, PartialEq, Eq, Drop)]
+pub struct Tag {
+    pub octet: u8,
+    pub ghost allowed: { IsTrue (is_allowed octet) },
+}
+
+impl Tag {
+    pub const INTEGER: Tag = Tag { octet: 0x02 };
+
+    pub const OCTET_STRING: Tag = Tag { octet: 0x04 };
+
+    pub const NULL: Tag = Tag { octet: 0x05 };
+
+    pub const OBJECT_IDENTIFIER: Tag = Tag { octet: 0x06 };
+
+    pub const SEQUENCE: Tag = Tag { octet: 0x30 };
+
+    /// The tag with this octet, or `TagUnknown` where the octet isn't allowed.
+    pub fn from_octet(octet: u8) -> Result<Tag>
+        ensures ok { IfOk result (λ tag. tag.octet ≡ octet) }
+        ensures err { IfErr result (λ e. (e.kind ≡ ErrorKind.TagUnknown octet) × (is_allowed octet ≡ false)) }
+    {
+        if octet & 0x1f == 0x1f || octet == 0 || octet == 0x20 {
+            Err(Error::new(ErrorKind::TagUnknown { octet }))
+        } else {
+            Ok(Tag { octet })
+        }
+    }
+
+    pub fn octet(self) -> u8
+        ensures { result ≡ self.octet }
+    {
+        self.octet
+    }
+}
+
+impl fmt::Display for Tag {
+    ghost use Rattle.der_core.specs.ErrorText.{tag_text};
+
+    ghost output = { λ tag. Some (tag_text tag) };
+
+    /// Prints the octet.
+    fn fmt<W: fmt::Write>(&self, f: &mut fmt::Formatter<W>) -> fmt::Result {
+        write!(f, "{}", PrintedOctet(self.octet))
+    }
+}
+
+/// An octet that is printed as `0x` and two hexadecimal digits, in lower case.
+#[derive(Clone, Copy, Drop)]
+pub(crate) struct PrintedOctet(pub(crate) u8);
+
+impl fmt::Display for PrintedOctet {
+    ghost use Rattle.der_core.specs.ErrorText.{octet_text};
+
+    ghost output = { λ printed. Some (octet_text printed.0) };
+
+    fn fmt<W: fmt::Write>(&self, f: &mut fmt::Formatter<W>) -> fmt::Result {
+        let PrintedOctet(octet) = *self;
+        write!(f, "0x{octet:02x}")
+    }
+}

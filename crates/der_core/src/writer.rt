@@ -1,0 +1,83 @@
+//! Writers.
+ghost use Rattle.std.specs.Prelude.{◌≡◌, ℕ, ◌+◌, ◌≤◌, ◌<◌, List, ◌++◌, length, OnOk, OnErr, IfErr};
+
+use crate::error::{Error, ErrorKind, Result};
+
+/// Where octets go, one slice after another.
+pub trait Writer {
+    /// How many octets may still be written.
+    ghost room: { Self → ℕ };
+
+    /// What was written.
+    ghost written: { Self → List ℕ };
+
+    /// What no write changes, from the writer before it to the one after it.
+    ghost keeps: { Self → Self → Type 0 };
+
+    /// Appends all of the octets, or, where there is less room than that, nothing.
+    fn write(&mut self, bytes: &[u8]) -> Result<()>
+        ensures written { OnOk result (written self.new ≡ written self.old ++ bytes.now) }
+        ensures room { OnOk result (room self.new + length bytes.now ≡ room self.old) }
+        ensures err { IfErr result (λ error. (error.kind ≡ ErrorKind.NoRoom) × (room self.old < length bytes.now)) }
+        ensures nothing { OnErr result ((written self.new ≡ written self.old) × (room self.new ≡ room self.old)) }
+        ensures kept { keeps self.old self.new };
+
+    ghost keeps_itself: { (w : Self) → keeps w w };
+
+    ghost keeps_through: { (u v w : Self) → keeps u v → keeps v w → keeps u w };
+}
+
+/// Writes to the front of a slice. Its room is the bytes that are left.
+#[derive(Drop)]
+pub struct SliceWriter<'b> {
+    slice: &'b mut [u8],
+    len: usize,
+    ghost fits: { len ≤ length slice.now },
+}
+
+impl<'b> SliceWriter<'b> {
+    ghost use Rattle.der_core.specs.SliceWriters.{slice_of, len_of, written_of};
+
+    pub fn new(slice: &'b mut [u8]) -> SliceWriter<'b>
+        ensures same_reference { (slice_of result).ghost_name ≡ slice.entry.ghost_name }
+        ensures same_slice { (slice_of result).now ≡ slice.old }
+        ensures empty { len_of result ≡ 0 }
+    {
+        SliceWriter { slice, len: 0 }
+    }
+
+    /// What was written.
+    pub fn finish(self) -> &'b [u8]
+        ensures { result.now ≡ written_of self.entry }
+    {
+        let len = self.len;
+        let slice = self.slice;
+        &slice[..len]
+    }
+}
+
+impl Writer for SliceWriter<'_> {
+    ghost use Rattle.der_core.specs.SliceWriters.{room_of, written_of, Keeps};
+    ghost use Rattle.der_core.specs.SliceLaws.{Keeps-itself, Keeps-through};
+
+    ghost room = { room_of };
+
+    ghost written = { written_of };
+
+    ghost keeps = { Keeps };
+
+    fn write(&mut self, bytes: &[u8]) -> Result<()> {
+        if self.slice.len() - self.len < bytes.len() {
+            return Err(Error::new(ErrorKind::NoRoom));
+        }
+        let start = self.len;
+        let end = start + bytes.len();
+        self.slice[start..end].copy_from_slice(bytes);
+        self.len = end;
+        Ok(())
+    }
+
+    ghost keeps_itself = { Keeps-itself };
+
+    ghost keeps_through = { Keeps-through };
+}
