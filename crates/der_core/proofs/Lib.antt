@@ -9,3 +9,4 @@ pub mod IntegerFaults
 pub mod IntegerLengths
 pub mod Refusals
 pub mod Lent
+pub mod Known

@@ -1,9 +1,12 @@
 -- Why a value isn't written, and that its text is alone.
-use Rattle.std.proofs.Common.{ℕ, List}
+use Rattle.std.proofs.Common.{ℕ, List, ◌≡◌, ◌≤◌, ◌<◌, ◌^◌, length, arith, inl, inr}
+use Rattle.std.proofs.lemmas.Bool.{cases_lt}
 use Rattle.std.specs.Prelude.{Result, Ok, Err, IfOk, IfErr}
-use Rattle.der_core.specs.Texts.{AtMostOne}
-use Rattle.der_core.specs.Document.{IsShortest, IsAlone, IsRefused, HasText, Fault, no_text, too_long, no_room, another}
-use Rattle.der_core.specs.Writing.{fault}
+use Rattle.der_core.specs.Texts.{AtMostOne, IsDelimited}
+use Rattle.der_core.specs.ShortestLaws.{means_one}
+use Rattle.der_core.specs.Length.{limit}
+use Rattle.der_core.specs.Document.{Means, IsShortest, IsAlone, IsUncountable, IsRefused, HasText, Fault, no_text, too_long, no_room, another}
+use Rattle.der_core.specs.Writing.{IsLeast, IsUncounted, Counts, Stops, fault}
 use Rattle.der_core.specs.declared.error.Error.{Error}
 
 module _ {V : Type 0} (Grammar : V → List ℕ → Type 0) (v : V) where
@@ -23,3 +26,44 @@ module _ {V : Type 0} (Grammar : V → List ℕ → Type 0) (v : V) where
   pub alone_if : {S E : Type 0} (now : S → List ℕ) → AtMostOne (Grammar v) → (r : Result S E) → IfOk r (λ s. IsShortest Grammar v (now s)) → IfOk r (λ s. IsAlone Grammar v (now s))
   alone_if now one (Ok s) h = λ other p. one other (now s) p.1 h.spells.1
   alone_if now one (Err e) h = tt
+
+  -- a text means no other value
+  pub one_if : {S E : Type 0} (now : S → List ℕ) → IsDelimited Grammar → (r : Result S E) → IfOk r (λ s. IsShortest Grammar v (now s)) → IfOk r (λ s. (other : V) → Grammar other (now s) → other ≡ v)
+  one_if now d (Ok s) h = λ other p. means_one d other v (now s) p h.spells.1
+  one_if now d (Err e) h = tt
+
+-- What is said of the text that is written, said of the grammar.
+module _ {V : Type 0} (Grammar : V → List ℕ → Type 0) (v : V) {has : Type 0} (written : List ℕ) (least : (b : List ℕ) → Grammar v b → IsLeast has written b) where
+  none_fits : limit < length written → (text : List ℕ) → Means Grammar text v → ⊥
+  none_fits long text p = omega (arith, long, p.0, (least text p.1).1)
+
+  uncounted_as : (k : Fault) → IsUncounted has written k → IsUncountable has Grammar v k
+  uncounted_as no_text h = λ text p. h (least text p).0
+  uncounted_as too_long h = (h.0, none_fits h.1)
+  uncounted_as no_room h = h
+  uncounted_as another h = h
+
+  pub uncounted : (r : Result ℕ Error) → Counts has written r → IfErr r (λ e. IsUncountable has Grammar v (fault e.kind))
+  uncounted (Ok n) h = tt
+  uncounted (Err e) h = uncounted_as (fault e.kind) h
+
+  -- what is written is the shortest text
+  pub shortest_is : Grammar v written → length written ≤ limit → IsShortest Grammar v written
+  shortest_is relates fits = record {
+    spells = (fits, relates);
+    least = λ other p. elim (cases_lt (length written) (length other)) [
+      | inl longer ↦ inr longer
+      | inr no_longer ↦ inl ((least other p.1).2 no_longer)
+    ];
+  }
+
+  module _ (relates : has → length written < 2 ^ 128 → Grammar v written) (room : ℕ) (old new : List ℕ) where
+    stopped_as : (k : Fault) → Stops has written room old new k → IsRefused has Grammar v room k
+    stopped_as no_text h = λ text p. h.0 (least text p).0
+    stopped_as too_long h = (h.0, none_fits h.1)
+    stopped_as no_room h = (written, shortest_is (relates h.0 (omega (arith, h.1))) h.1, h.2)
+    stopped_as another h = h
+
+    pub stopped : {A : Type 0} (r : Result A Error) → IfErr r (λ e. Stops has written room old new (fault e.kind)) → IfErr r (λ e. IsRefused has Grammar v room (fault e.kind))
+    stopped (Ok x) h = tt
+    stopped (Err e) h = stopped_as (fault e.kind) h

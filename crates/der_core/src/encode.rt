@@ -2,12 +2,11 @@
 ghost use Rattle.std.specs.Prelude.{◌≡◌, ℕ, ◌^◌, ◌+◌, ◌≤◌, ◌<◌, List, ◌∷◌, ◌++◌, length, take, drop, OnOk, OnErr, IfOk, IfErr};
 ghost use Rattle.der_core.specs.Length.{limit, length_octets};
 ghost use Rattle.der_core.specs.Tlv.{Tlv, tlv};
-ghost use Rattle.der_core.specs.Document.{IsShortest};
+ghost use Rattle.der_core.specs.Document.{IsShortest, IsUncountable, IsRefused};
 ghost use Rattle.der_core.specs.BackWriters.{free_of, Prepends};
 ghost use Rattle.der_core.specs.Lent.{IsFront, LeavesRest};
 ghost use Rattle.std.specs.Borrow.{sem};
 ghost use Rattle.der_core.specs.Writing.{IsLeast, Counts, Stops, fault, joined};
-ghost use Rattle.der_core.specs.Document.{IsRefused};
 
 use crate::back_writer::BackWriter;
 use crate::error::{Error, ErrorKind, Result};
@@ -27,7 +26,7 @@ pub trait EncodeValue: Contents {
         ensures has { OnOk result (Self.has_contents (Self.value self.now) × (length (Self.written_contents (Self.value self.now)) ≤ limit)) }
         ensures written { OnOk result (W.written writer.new ≡ W.written writer.old ++ Self.written_contents (Self.value self.now)) }
         ensures room { OnOk result (W.room writer.new + length (Self.written_contents (Self.value self.now)) ≡ W.room writer.old) }
-        ensures err { IfErr result (λ e. Stops (Self.has_contents (Self.value self.now)) (Self.written_contents (Self.value self.now)) (W.room writer.old) (W.written writer.old) (W.written writer.new) (fault e.kind)) }
+        ensures left { IfErr result (λ e. Stops (Self.has_contents (Self.value self.now)) (Self.written_contents (Self.value self.now)) (W.room writer.old) (W.written writer.old) (W.written writer.new) (fault e.kind)) }
         ensures kept { W.keeps writer.old writer.new };
 
     /// Puts the contents before what is filled.
@@ -46,16 +45,18 @@ pub trait EncodeValue: Contents {
 
 /// A type whose values are written as texts.
 pub trait Encode: Text {
-    /// How many octets the text has.
+    /// How many octets the text has: `Value` where the value has no text, `Overflow` where it has some and none fits.
     fn encoded_len(&self) -> Result<Length>
-        ensures { Counts (Self.has_text (Self.value self.now)) (Self.written_text (Self.value self.now)) result };
+        ensures counted { Counts (Self.has_text (Self.value self.now)) (Self.written_text (Self.value self.now)) result }
+        ensures err { IfErr result (λ e. IsUncountable (Self.has_text (Self.value self.now)) Self.text (Self.value self.now) (fault e.kind)) };
 
-    /// Appends the text.
+    /// Appends the text: `Value` and `Overflow` before any octet, `NoRoom` after a beginning of it.
     fn encode<W: Writer>(&self, writer: &mut W) -> Result<()>
         ensures has { OnOk result (Self.has_text (Self.value self.now) × (length (Self.written_text (Self.value self.now)) ≤ limit)) }
         ensures written { OnOk result (W.written writer.new ≡ W.written writer.old ++ Self.written_text (Self.value self.now)) }
         ensures room { OnOk result (W.room writer.new + length (Self.written_text (Self.value self.now)) ≡ W.room writer.old) }
-        ensures err { IfErr result (λ e. Stops (Self.has_text (Self.value self.now)) (Self.written_text (Self.value self.now)) (W.room writer.old) (W.written writer.old) (W.written writer.new) (fault e.kind)) }
+        ensures left { IfErr result (λ e. Stops (Self.has_text (Self.value self.now)) (Self.written_text (Self.value self.now)) (W.room writer.old) (W.written writer.old) (W.written writer.new) (fault e.kind)) }
+        ensures err { IfErr result (λ e. IsRefused (Self.has_text (Self.value self.now)) Self.text (Self.value self.now) (W.room writer.old) (fault e.kind)) }
         ensures kept { W.keeps writer.old writer.new };
 
     /// Puts the text before what is filled.
@@ -117,20 +118,38 @@ fn front<'b>(out: &'b [u8], written: Result<usize>) -> Result<&'b [u8]>
     }
 }
 
+/// How many octets the text of these contents has.
+fn text_len<T: EncodeValue + FixedTag>(value: &T) -> Result<Length>
+    ensures { Counts (T.has_contents (T.value value.now)) (tlv T.TAG.octet (T.written_contents (T.value value.now))) result }
+{
+    value.value_len()?.for_tlv(T::TAG)
+}
+
+/// Appends a header and the contents.
+fn encode_text<T: EncodeValue + FixedTag, W: Writer>(value: &T, writer: &mut W) -> Result<()>
+    ensures has { OnOk result (T.has_contents (T.value value.now) × (length (tlv T.TAG.octet (T.written_contents (T.value value.now))) ≤ limit)) }
+    ensures written { OnOk result (W.written writer.new ≡ W.written writer.old ++ tlv T.TAG.octet (T.written_contents (T.value value.now))) }
+    ensures room { OnOk result (W.room writer.new + length (tlv T.TAG.octet (T.written_contents (T.value value.now))) ≡ W.room writer.old) }
+    ensures left { IfErr result (λ e. Stops (T.has_contents (T.value value.now)) (tlv T.TAG.octet (T.written_contents (T.value value.now))) (W.room writer.old) (W.written writer.old) (W.written writer.new) (fault e.kind)) }
+    ensures kept { W.keeps writer.old writer.new }
+{
+    let length = value.value_len()?;
+    length.for_tlv(T::TAG)?;
+    let header = Header {
+        tag: T::TAG,
+        length,
+    };
+    writer.write(&header.to_bytes())?;
+    value.encode_value(writer)
+}
+
 impl<T: EncodeValue + FixedTag> Encode for T {
     fn encoded_len(&self) -> Result<Length> {
-        self.value_len()?.for_tlv(T::TAG)
+        text_len(self)
     }
 
     fn encode<W: Writer>(&self, writer: &mut W) -> Result<()> {
-        let length = self.value_len()?;
-        length.for_tlv(T::TAG)?;
-        let header = Header {
-            tag: T::TAG,
-            length,
-        };
-        writer.write(&header.to_bytes())?;
-        self.encode_value(writer)
+        encode_text(self, writer)
     }
 
     fn prepend(&self, writer: &mut BackWriter<'_>) {

@@ -1,0 +1,34 @@
+-- Texts that are written out, of fewer than 128 bytes of contents: making one, and taking one apart.
+use Rattle.std.proofs.Common.{ℕ, List, [], ◌∷◌, ◌++◌, ◌≡◌, ◌<◌, inl, inr, length, refl, sym, arith}
+use Rattle.std.proofs.lemmas.Bool.{cases_lt}
+use Rattle.der_core.specs.Length.{short}
+use Rattle.der_core.specs.Texts.{Is}
+use Rattle.der_core.specs.Tlv.{Tlv}
+use Rattle.der_core.specs.Integer.{Integer, Small}
+use Rattle.der_core.specs.TextLaws.{tlv_split}
+
+pub known_tlv : (t : ℕ) {P : List ℕ → Type 0} (c : List ℕ) → P c → length c < 128 → Tlv t P (t ∷ length c ∷ c)
+known_tlv t c p l = record { octets = length c ∷ []; contents = c; counted = short l refl; holds = p; written = refl }
+
+-- Where a text stands at the front of known bytes, its contents are known, and so is what follows.
+pub known_front : {t u : ℕ} {P : List ℕ → Type 0} (c rest x y : List ℕ) → Tlv t P x → (u ∷ length c ∷ c) ++ rest ≡ x ++ y → length c < 128 → (t ≡ u) × P c × (y ≡ rest)
+known_front {t} {u} c rest x y p e l =
+    let k : Tlv u (Is c) (u ∷ length c ∷ c) = known_tlv u c refl l in
+    let s = tlv_split x y (u ∷ length c ∷ c) rest p k (sym e) in
+    (s.1, rw s.5 at s.4, s.2)
+
+pub known_whole : {t u : ℕ} {P : List ℕ → Type 0} (c : List ℕ) → Tlv t P (u ∷ length c ∷ c) → length c < 128 → P c
+known_whole {t} {u} c p l = (known_front c [] (u ∷ length c ∷ c) [] p refl l).1
+
+-- INTEGER texts of one byte.
+pub integer_byte : (n : ℕ) → n < 128 → Integer (n ∷ []) (2 ∷ 1 ∷ n ∷ [])
+integer_byte n l = elim (cases_lt 0 n) [
+  | inl h ↦ known_tlv 2 (n ∷ []) (inr ((omega arith, tt), h), inl (l, refl)) (omega arith)
+  | inr h ↦ let z : n ≡ 0 = omega arith in known_tlv 2 (n ∷ []) (inl (rw z refl), inl (l, refl)) (omega arith)
+]
+
+pub small_byte : (n : ℕ) → n < 128 → Small n (2 ∷ 1 ∷ n ∷ [])
+small_byte n l = elim (cases_lt 0 n) [
+  | inl h ↦ known_tlv 2 (n ∷ []) (omega arith, n ∷ [], omega arith, (inr ((omega arith, tt), h), inl (l, refl))) (omega arith)
+  | inr h ↦ let z : n ≡ 0 = omega arith in known_tlv 2 (n ∷ []) (omega arith, n ∷ [], omega arith, (inl (rw z refl), inl (l, refl))) (omega arith)
+]

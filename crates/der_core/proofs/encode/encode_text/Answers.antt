@@ -1,0 +1,30 @@
+use Rattle.std.proofs.Common.{arith, rules, ◌≡◌, ◌+◌, ◌<◌, ◌++◌, length, length-append, ◌≤◌, ap}
+use Rattle.std.proofs.lemmas.Result.{err_from_is_err_and}
+use Rattle.der_core.specs.Length.{limit, length_octets}
+use Rattle.der_core.specs.Tlv.{tlv}
+use Rattle.der_core.proofs.Stopping.{stops_at_once, if_stops_behind}
+use Rattle.der_core.proofs.encode.encode_text.Goals as goal
+
+pub returns-in_err-write-clause-left : goal.returns-in_err-write-clause-left
+returns-in_err-write-clause-left g c =
+    let p = err_from_is_err_and c.from_residual-in_err-write.result c.from_residual-in_err-write.ensures.1 in
+    let t = g.T.Contents in
+    let v = t.value c.args.value.now in
+    let size : length (length_octets c.in_ok-length.length) ≡ length (length_octets (length (t.written_contents v))) = ap (λ n. length (length_octets n)) c.in_ok-length.ensures.1 in
+    let few : length (tlv g.T.FixedTag.TAG.octet (t.written_contents v)) ≤ limit = omega (arith, size, c.in_ok-for_tlv.ensures.ok, c.in_ok-length.ensures, length-append (length_octets (length (t.written_contents v))) (t.written_contents v)) in
+    let head : length c.deref.result.now ≡ 1 + length (length_octets c.in_ok-length.length) = search rules in
+    let full : g.W.Writer.room c.args.writer.now < length (tlv g.T.FixedTag.TAG.octet (t.written_contents v)) = omega (arith, size, head, c.in_err-write.ensures.err.1, length-append (length_octets (length (t.written_contents v))) (t.written_contents v)) in
+    rw (p.1, p.2, c.in_err-write.ensures.err.0) (stops_at_once _ _ _ _ c.in_ok-length.ensures.0 few full c.in_err-write.ensures.nothing.0)
+
+pub returns-clause-left : goal.returns-clause-left
+returns-clause-left g c =
+    let t = g.T.Contents in
+    let v = t.value c.args.value.now in
+    let head = c.to_bytes.result.items in
+    let has : t.has_contents v = c.in_ok-length.ensures.0 in
+    let text : tlv g.T.FixedTag.TAG.octet (t.written_contents v) ≡ head ++ t.written_contents v = search rules in
+    let size : length (length_octets c.in_ok-length.length) ≡ length (length_octets (length (t.written_contents v))) = ap (λ n. length (length_octets n)) c.in_ok-length.ensures.1 in
+    let few : length (tlv g.T.FixedTag.TAG.octet (t.written_contents v)) ≤ limit = omega (arith, size, c.in_ok-for_tlv.ensures.ok, c.in_ok-length.ensures, length-append (length_octets (length (t.written_contents v))) (t.written_contents v)) in
+    let mid : g.W.Writer.written c.write.new.self ≡ g.W.Writer.written c.args.writer.now ++ head = search rules in
+    let room : g.W.Writer.room c.write.new.self + length head ≡ g.W.Writer.room c.args.writer.now = search rules in
+    if_stops_behind _ _ _ _ _ _ _ _ _ has has text few mid room c.encode_value.ensures.left

@@ -1,0 +1,123 @@
+//! RSA public keys.
+ghost use Rattle.std.specs.Prelude.{refl};
+ghost use Rattle.der_core.specs.Reading.{AsksWithin};
+ghost use Rattle.pkcs1.specs.Keys.{PublicKey, PublicKeyContents, HasPublicKey, written_public_key};
+ghost use Rattle.pkcs1.specs.KeyLaws.{public_key_means_one, public_key_of_bytes, public_key_relates, public_key_shortest};
+
+use der_core::{
+    BackWriter, Contents, Decode, DecodeValue, Encode, EncodeValue, Error, Header, Kinded, Length,
+    Memory, NoMemory, Reader, Result, Sequence, SequenceTag, Text, UintRef, Writer, joined_len,
+};
+
+/// An RSA public key (RFC 8017 A.1.1). No relation of its numbers is checked.
+#[derive(Clone, Copy, Debug, PartialEq, Eq, Drop)]
+pub struct RsaPublicKey<U> {
+    pub modulus: U,
+    pub public_exponent: U,
+}
+
+/// A public key that borrows its numbers.
+pub type RsaPublicKeyRef<'a> = RsaPublicKey<UintRef<'a>>;
+
+impl<U: Text> Contents for RsaPublicKey<U> {
+    ghost Value = { PublicKey U.Value };
+
+    ghost value = { λ key. record { modulus = U.value key.modulus; public_exponent = U.value key.public_exponent } };
+
+    ghost contents = { PublicKeyContents U.text };
+
+    ghost has_contents = { HasPublicKey U.has_text };
+
+    ghost written_contents = { written_public_key U.written_text };
+
+    ghost means_one = { public_key_means_one U.text U.delimited };
+
+    ghost contents_of_bytes = { public_key_of_bytes U.text U.text_of_bytes };
+}
+
+impl<U> Kinded for RsaPublicKey<U> {
+    type Kind = SequenceTag;
+}
+
+impl<'a, U> Sequence<'a> for RsaPublicKey<U> {
+    ghost is_sequence = { refl };
+}
+
+impl<'a, M: Memory, U: Decode<&'a [u8], M>> DecodeValue<&'a [u8], M> for RsaPublicKey<U> {
+    ghost asks = { AsksWithin U.Decode.asks };
+
+    fn decode_value<R: Reader<&'a [u8]>>(
+        memory: M,
+        reader: &mut R,
+        _header: Header,
+    ) -> Result<RsaPublicKey<U>> {
+        let modulus = U::decode(memory, reader)?;
+        let public_exponent = U::decode(memory, reader)?;
+        reader.finish()?;
+        Ok(RsaPublicKey {
+            modulus,
+            public_exponent,
+        })
+    }
+}
+
+impl<U: Encode> EncodeValue for RsaPublicKey<U> {
+    fn value_len(&self) -> Result<Length> {
+        joined_len(
+            self.modulus.encoded_len(),
+            self.public_exponent.encoded_len(),
+        )
+    }
+
+    fn encode_value<W: Writer>(&self, writer: &mut W) -> Result<()> {
+        self.value_len()?;
+        self.modulus.encode(writer)?;
+        self.public_exponent.encode(writer)
+    }
+
+    fn prepend_value(&self, writer: &mut BackWriter<'_>) {
+        self.public_exponent.prepend(writer);
+        self.modulus.prepend(writer);
+    }
+
+    ghost contents_relate = { public_key_relates U.text U.has_text U.written_text U.text_relates };
+
+    ghost contents_shortest = { public_key_shortest U.text U.has_text U.written_text U.text_shortest };
+}
+
+impl<'a> TryFrom<&'a [u8]> for RsaPublicKey<UintRef<'a>> {
+    ghost use Rattle.std.specs.Prelude.{◌≡◌, ℕ, List, IfOk, OnErr};
+    ghost use Rattle.der_core.specs.Document.{Means};
+    ghost use Rattle.pkcs1.specs.Keys as grammar;
+    ghost use Rattle.pkcs1.specs.PublicKeys.{key_of};
+
+    type Error = Error;
+
+    /// Reads a whole slice, without memory.
+    fn try_from(bytes: &'a [u8]) -> Result<RsaPublicKey<UintRef<'a>>>
+        ensures ok { IfOk result (λ key. Means grammar.RsaPublicKey bytes.now (key_of key)) }
+        ensures one { IfOk result (λ key. (other : PublicKey (List ℕ)) → Means grammar.RsaPublicKey bytes.now other → other ≡ key_of key) }
+        ensures err { OnErr result ((key : PublicKey (List ℕ)) → Means grammar.RsaPublicKey bytes.now key → ⊥) }
+    {
+        RsaPublicKey::from_der(NoMemory, bytes)
+    }
+}
+
+impl<'a> RsaPublicKey<UintRef<'a>> {
+    ghost use Rattle.std.specs.Prelude.{◌≡◌, ℕ, List, length, IfOk, IfErr};
+    ghost use Rattle.der_core.specs.Document.{IsShortest, IsAlone, IsRefused, HasText};
+    ghost use Rattle.der_core.specs.Writing.{fault};
+    ghost use Rattle.pkcs1.specs.Keys as grammar;
+    ghost use Rattle.pkcs1.specs.PublicKeys.{key_of};
+
+    /// Writes the key's one text to the front of a slice, and answers it: `encode_to_slice`, with all that is known of
+    /// a key's text. `Overflow` where the text passes `Length::MAX`, `NoRoom` where the slice is shorter.
+    pub fn encode_key<'b>(&self, out: &'b mut [u8]) -> Result<&'b [u8]>
+        ensures shortest { IfOk result (λ text. IsShortest grammar.RsaPublicKey (key_of self.now) text.now) }
+        ensures alone { IfOk result (λ text. IsAlone grammar.RsaPublicKey (key_of self.now) text.now) }
+        ensures one { IfOk result (λ text. (other : PublicKey (List ℕ)) → grammar.RsaPublicKey other text.now → other ≡ key_of self.now) }
+        ensures err { IfErr result (λ e. IsRefused (HasText grammar.RsaPublicKey (key_of self.now)) grammar.RsaPublicKey (key_of self.now) (length out.old) (fault e.kind)) }
+    {
+        self.encode_to_slice(out)
+    }
+}
