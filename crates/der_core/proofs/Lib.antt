@@ -10,3 +10,5 @@ pub mod IntegerLengths
 pub mod Refusals
 pub mod Lent
 pub mod Known
+pub mod LengthRows
+pub mod IntegerRows

@@ -1,0 +1,20 @@
+//! Bytes and printed texts, for tables of rows.
+use std::alloc::Global;
+use std::fmt::Display;
+use std::test::Fail;
+
+/// The bytes that the hexadecimal text spells.
+pub fn bytes_of(alloc: Global, text: &str) -> Result<Vec<u8>, Fail> {
+    Ok(hex::decode(alloc, text)?)
+}
+
+/// What is printed of a value, or of why there is none.
+pub fn printed<T: Display + Drop, E: Display + Drop>(
+    alloc: Global,
+    answer: Result<T, E>,
+) -> Result<String, Fail> {
+    match answer {
+        Ok(value) => Ok(format!(in alloc; "{value}")?),
+        Err(error) => Ok(format!(in alloc; "{error}")?),
+    }
+}

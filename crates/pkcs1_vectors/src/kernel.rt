@@ -1,0 +1,293 @@
+//! Rows of the kernel.
+use crate::bytes::{bytes_of, printed};
+use der_core::{
+    BackWriter, Decode, Encode, EncodeValue, Error, ErrorKind, Header, Length, NoMemory, Reader,
+    SliceReader, SliceWriter, Tag, UintRef, Writer,
+};
+use std::alloc::Global;
+use std::test::Fail;
+
+/// A length, and its octets.
+const LENGTHS: &str = "\
+127 7f
+128 8180
+255 81ff
+256 820100
+65535 82ffff
+65536 83010000
+16777216 8401000000
+268435455 840fffffff";
+
+#[test]
+fn lengths_are_written_and_read_again(rt: HostRuntime) -> Result<(), Fail> {
+    for row in LENGTHS.lines() {
+        let (number, octets) = row.split_once(' ').ok_or("two parts")?;
+        let octets = bytes_of(rt.alloc(), octets)?;
+        let length = Length::try_from(number.parse::<usize>()?)?;
+        assert_eq!(rt; length.to_bytes().as_slice(), octets.as_slice(), "at {row}");
+        let mut reader = SliceReader::new(octets.as_slice())?;
+        assert_eq!(rt; Length::decode(&mut reader)?, length, "at {row}");
+        assert_eq!(rt; reader.finish(), Ok(()), "at {row}");
+    }
+    Ok(())
+}
+
+/// Octets, and why they are no length.
+const NO_LENGTHS: &str = "\
+817f the length is not in shortest form
+8100 the length is not in shortest form
+820080 the length is not in shortest form
+81 the input ends too early
+80 the length is indefinite
+85 a length passes the limit
+ff a length passes the limit
+8410000000 a length passes the limit";
+
+#[test]
+fn lengths_are_refused(rt: HostRuntime) -> Result<(), Fail> {
+    for row in NO_LENGTHS.lines() {
+        let (octets, text) = row.split_once(' ').ok_or("two parts")?;
+        let octets = bytes_of(rt.alloc(), octets)?;
+        let mut reader = SliceReader::new(octets.as_slice())?;
+        let refused = Length::decode(&mut reader).map(|length| length.to_usize());
+        assert_eq!(rt; printed(rt.alloc(), refused)?.as_str(), text, "at {row}");
+        assert_eq!(rt; reader.remaining_len(), Length::ZERO, "at {row}");
+        assert_eq!(rt; reader.peek_octet(), None, "at {row}");
+        assert_eq!(rt;
+            Length::decode(&mut reader),
+            Err(Error::new(ErrorKind::Failed)),
+            "at {row}"
+        );
+    }
+    Ok(())
+}
+
+#[test]
+fn lengths_are_added(rt: HostRuntime) -> Result<(), Fail> {
+    let overflow = Err(Error::new(ErrorKind::Overflow));
+    let limit = Length::MAX;
+    assert_eq!(rt; limit.to_usize(), 268435455);
+    assert_eq!(rt; Length::ZERO.checked_add(limit), Ok(limit));
+    assert_eq!(rt; limit.checked_add(Length::ONE), overflow);
+    assert_eq!(rt; Length::try_from(268435456usize), overflow);
+    assert_eq!(rt;
+        Length::try_from(268435449usize)?.for_tlv(Tag::SEQUENCE),
+        Ok(limit)
+    );
+    assert_eq!(rt;
+        Length::try_from(268435450usize)?.for_tlv(Tag::SEQUENCE),
+        overflow
+    );
+    assert!(rt; Length::ZERO < Length::ONE);
+    Ok(())
+}
+
+#[test]
+fn tags_and_headers(rt: HostRuntime) -> Result<(), Fail> {
+    for (tag, octet) in [
+        (Tag::INTEGER, 0x02),
+        (Tag::OCTET_STRING, 0x04),
+        (Tag::NULL, 0x05),
+        (Tag::OBJECT_IDENTIFIER, 0x06),
+        (Tag::SEQUENCE, 0x30),
+    ] {
+        assert_eq!(rt; tag.octet(), octet);
+        assert_eq!(rt; Tag::from_octet(octet), Ok(tag));
+    }
+    for octet in [0x00, 0x20, 0x1f, 0xff] {
+        assert_eq!(rt;
+            Tag::from_octet(octet),
+            Err(Error::new(ErrorKind::TagUnknown { octet }))
+        );
+    }
+    let header = Header {
+        tag: Tag::SEQUENCE,
+        length: Length::try_from(250usize)?,
+    };
+    assert_eq!(rt; header.to_bytes().as_slice(), [0x30, 0x81, 0xfa].as_slice());
+    let mut reader = SliceReader::new(&[0x30, 0x81, 0xfa, 0x07])?;
+    assert_eq!(rt; Header::decode(&mut reader), Ok(header));
+    assert_eq!(rt; reader.remaining_len(), Length::ONE);
+    Ok(())
+}
+
+#[test]
+fn readers_read_fronts(rt: HostRuntime) -> Result<(), Fail> {
+    let mut reader = SliceReader::new(&[0x01, 0x02, 0x03])?;
+    assert_eq!(rt; reader.peek_octet(), Some(0x01));
+    assert_eq!(rt; reader.read_slice(Length::ONE)?, [0x01].as_slice());
+    let mut nested = reader.nested(Length::ONE)?;
+    assert_eq!(rt; nested.read_slice(Length::ONE)?, [0x02].as_slice());
+    assert_eq!(rt; nested.finish(), Ok(()));
+    assert_eq!(rt; reader.finish(), Err(Error::new(ErrorKind::TrailingData)));
+    assert_eq!(rt; reader.finish(), Err(Error::new(ErrorKind::Failed)));
+    let mut reader = SliceReader::new(&[0x01])?;
+    assert_eq!(rt;
+        reader.error(ErrorKind::OidUnknown).kind(),
+        ErrorKind::OidUnknown
+    );
+    assert_eq!(rt; reader.remaining_len(), Length::ZERO);
+    Ok(())
+}
+
+#[test]
+fn writers_append_or_change_nothing(rt: HostRuntime) -> Result<(), Fail> {
+    let mut slice = [0xaa; 3];
+    let mut writer = SliceWriter::new(&mut slice);
+    assert_eq!(rt; writer.write(&[0x01, 0x02]), Ok(()));
+    assert_eq!(rt;
+        writer.write(&[0x03, 0x04]),
+        Err(Error::new(ErrorKind::NoRoom))
+    );
+    assert_eq!(rt; writer.finish(), [0x01, 0x02].as_slice());
+    assert_eq!(rt; slice[2], 0xaa);
+    Ok(())
+}
+
+#[test]
+fn back_writers_prepend(rt: HostRuntime) {
+    let mut slice = [0xaa; 8];
+    let mut writer = BackWriter::new(&mut slice);
+    assert_eq!(rt; writer.free(), 8);
+    writer.prepend(&[0x07]);
+    let length = Length::ONE;
+    let header = Header {
+        tag: Tag::INTEGER,
+        length,
+    };
+    let room = header.to_bytes().len() <= writer.free();
+    assert!(rt; room);
+    writer.prepend_header(header);
+    assert_eq!(rt; writer.filled_len(), 3);
+    assert_eq!(rt; writer.finish(), [0x02, 0x01, 0x07].as_slice());
+    assert_eq!(rt; slice[0], 0xaa);
+}
+
+/// Bytes, the number's bytes, and its text.
+const INTEGERS: &str = "\
+07 07 020107
+0007 07 020107
+80 80 02020080
+000080ff 80ff 02030080ff
+0000 00 020100";
+
+#[test]
+fn integers_are_written_and_read_again(rt: HostRuntime) -> Result<(), Fail> {
+    for row in INTEGERS.lines() {
+        let (bytes, rest) = row.split_once(' ').ok_or("three parts")?;
+        let (number, text) = rest.split_once(' ').ok_or("three parts")?;
+        let (bytes, number) = (bytes_of(rt.alloc(), bytes)?, bytes_of(rt.alloc(), number)?);
+        let text = bytes_of(rt.alloc(), text)?;
+        let integer = UintRef::new(bytes.as_slice())?;
+        assert_eq!(rt; integer.as_bytes(), number.as_slice(), "at {row}");
+        let mut slice = [0; 8];
+        assert_eq!(rt;
+            integer.encode_to_slice(&mut slice)?,
+            text.as_slice(),
+            "at {row}"
+        );
+        assert_eq!(rt; integer.encoded_len()?.to_usize(), text.len(), "at {row}");
+        assert_eq!(rt;
+            UintRef::from_der(NoMemory, text.as_slice())?,
+            integer,
+            "at {row}"
+        );
+    }
+    Ok(())
+}
+
+#[test]
+fn integers_are_appended(rt: HostRuntime) -> Result<(), Fail> {
+    let integer = UintRef::new(&[0x80])?;
+    assert_eq!(rt; integer.value_len()?.to_usize(), 2);
+    let mut slice = [0; 8];
+    let mut writer = SliceWriter::new(&mut slice);
+    integer.encode(&mut writer)?;
+    integer.encode_value(&mut writer)?;
+    assert_eq!(rt;
+        writer.finish(),
+        [0x02, 0x02, 0x00, 0x80, 0x00, 0x80].as_slice()
+    );
+    let tag = Tag::INTEGER;
+    assert_eq!(rt;
+        UintRef::new(&[]),
+        Err(Error::new(ErrorKind::Length { tag }))
+    );
+    Ok(())
+}
+
+/// The kinds without a tag, in their order, as they are printed.
+const PLAIN_KINDS: &str = "\
+an earlier read failed
+the input ends too early
+the length is indefinite
+the object identifier is malformed
+the object identifier is another one
+a length passes the limit
+the length is not in shortest form
+the algorithm parameters are missing
+bytes follow the value
+the slice has no room
+a read or a write failed
+no memory was found";
+
+#[test]
+fn plain_refusals_are_printed(rt: HostRuntime) -> Result<(), Fail> {
+    let kinds = [
+        ErrorKind::Failed,
+        ErrorKind::Incomplete,
+        ErrorKind::IndefiniteLength,
+        ErrorKind::OidMalformed,
+        ErrorKind::OidUnknown,
+        ErrorKind::Overflow,
+        ErrorKind::Overlength,
+        ErrorKind::ParametersMissing,
+        ErrorKind::TrailingData,
+        ErrorKind::NoRoom,
+        ErrorKind::File,
+        ErrorKind::OutOfMemory,
+    ];
+    let mut texts = PLAIN_KINDS.lines();
+    for kind in kinds {
+        let text = texts.next().ok_or("a text for each kind")?;
+        let refused: Result<u8, Error> = Err(Error::new(kind));
+        assert_eq!(rt; printed(rt.alloc(), refused)?.as_str(), text);
+    }
+    assert_eq!(rt; texts.next(), None);
+    Ok(())
+}
+
+/// Whether the text is printed of the kind.
+fn prints(alloc: Global, kind: ErrorKind, text: &str) -> Result<bool, Fail> {
+    let refused: Result<u8, Error> = Err(Error::new(kind));
+    Ok(printed(alloc, refused)?.as_str() == text)
+}
+
+#[test]
+fn refusals_of_tags_are_printed(rt: HostRuntime) -> Result<(), Fail> {
+    let (alloc, tag, octet) = (rt.alloc(), Tag::SEQUENCE, 0x1f);
+    let (expected, actual) = (Tag::INTEGER, Tag::NULL);
+    let length = ErrorKind::Length { tag };
+    assert!(rt;
+        prints(
+            alloc,
+            length,
+            "the contents of tag 0x30 have a wrong length"
+        )?
+    );
+    let noncanonical = ErrorKind::Noncanonical { tag };
+    assert!(rt;
+        prints(
+            alloc,
+            noncanonical,
+            "the contents of tag 0x30 are not in shortest form"
+        )?
+    );
+    let unexpected = ErrorKind::TagUnexpected { expected, actual };
+    assert!(rt; prints(alloc, unexpected, "tag 0x02 was expected, 0x05 was found")?);
+    let unknown = ErrorKind::TagUnknown { octet };
+    assert!(rt; prints(alloc, unknown, "the tag octet 0x1f is not known")?);
+    let value = ErrorKind::Value { tag };
+    assert!(rt; prints(alloc, value, "the value of tag 0x30 is not allowed")?);
+    Ok(())
+}

@@ -1,0 +1,118 @@
+//! Rows of RSA public keys.
+use crate::bytes::{bytes_of, printed};
+use der_core::{Decode, Encode, Error, ErrorKind, NoMemory, SliceReader, UintRef};
+use pkcs1::{RsaPublicKey, RsaPublicKeyRef};
+use std::test::Fail;
+
+/// A text, and the modulus and public exponent of its key.
+const SENTENCES: &str = "\
+3006020107020103 07 03
+300702020080020103 80 03
+3006020100020100 00 00
+300602010702010B 07 0b";
+
+#[test]
+fn sentences_are_read_and_written_again(rt: HostRuntime) -> Result<(), Fail> {
+    for row in SENTENCES.lines() {
+        let (text, numbers) = row.split_once(' ').ok_or("three parts")?;
+        let (modulus, exponent) = numbers.split_once(' ').ok_or("three parts")?;
+        let text = bytes_of(rt.alloc(), text)?;
+        let (modulus, exponent) = (
+            bytes_of(rt.alloc(), modulus)?,
+            bytes_of(rt.alloc(), exponent)?,
+        );
+        let key = RsaPublicKeyRef::try_from(text.as_slice())?;
+        assert_eq!(rt; key.modulus.as_bytes(), modulus.as_slice(), "at {row}");
+        assert_eq!(rt;
+            key.public_exponent.as_bytes(),
+            exponent.as_slice(),
+            "at {row}"
+        );
+        let mut slice = [0xaa; 12];
+        assert_eq!(rt; key.encode_key(&mut slice)?, text.as_slice(), "at {row}");
+        assert_eq!(rt; slice[11], 0xaa, "at {row}");
+        let mut reader = SliceReader::new(text.as_slice())?;
+        assert_eq!(rt;
+            RsaPublicKeyRef::decode(NoMemory, &mut reader)?,
+            key,
+            "at {row}"
+        );
+    }
+    Ok(())
+}
+
+/// A text, and why it is no key's.
+const NO_SENTENCES: &str = "\
+300602010702010300 bytes follow the value
+300702020007020103 the contents of tag 0x02 are not in shortest form
+3006020180020103 the value of tag 0x02 is not allowed
+30050200020103 the contents of tag 0x02 have a wrong length
+308106020107020103 the length is not in shortest form
+3080020107020103 the length is indefinite
+308410000000 a length passes the limit
+30840fffffff the input ends too early
+308501 a length passes the limit
+3006020107 the input ends too early
+0206020107020103 tag 0x30 was expected, 0x02 was found
+1f00 the tag octet 0x1f is not known
+3003020107 the input ends too early
+3009020107020103020101 bytes follow the value";
+
+#[test]
+fn other_texts_are_refused(rt: HostRuntime) -> Result<(), Fail> {
+    for row in NO_SENTENCES.lines() {
+        let (text, want) = row.split_once(' ').ok_or("two parts")?;
+        let text = bytes_of(rt.alloc(), text)?;
+        let answer = RsaPublicKeyRef::try_from(text.as_slice()).map(|_| "accepted");
+        assert_eq!(rt; printed(rt.alloc(), answer)?.as_str(), want, "at {row}");
+    }
+    let nothing = RsaPublicKeyRef::try_from([].as_slice());
+    assert_eq!(rt; nothing.map(|_| ()), Err(Error::new(ErrorKind::Incomplete)));
+    Ok(())
+}
+
+#[test]
+fn a_short_slice_stays_as_it_was(rt: HostRuntime) -> Result<(), Fail> {
+    let key = RsaPublicKey {
+        modulus: UintRef::new(&[0x07])?,
+        public_exponent: UintRef::new(&[0x03])?,
+    };
+    let mut slice = [0xaa; 7];
+    let no_room = Error::new(ErrorKind::NoRoom);
+    assert_eq!(rt; key.encode_into(&mut slice), Err(no_room));
+    assert_eq!(rt; slice, [0xaa; 7]);
+    assert_eq!(rt; key.encode_to_slice(&mut slice).map(|_| ()), Err(no_room));
+    assert_eq!(rt; slice, [0xaa; 7]);
+    let mut slice = [0xaa; 8];
+    assert_eq!(rt;
+        key.encode_to_slice(&mut slice)?,
+        [0x30, 0x06, 0x02, 0x01, 0x07, 0x02, 0x01, 0x03].as_slice()
+    );
+    Ok(())
+}
+
+/// How many bytes the modulus has, and what the text begins with.
+const HEADERS: &str = "\
+122 307f027a
+123 308180027b
+249 3081ff0281f9
+250 308201000281fa";
+
+#[test]
+fn headers_grow_with_the_modulus(rt: HostRuntime) -> Result<(), Fail> {
+    for row in HEADERS.lines() {
+        let (count, front) = row.split_once(' ').ok_or("two parts")?;
+        let (count, begins) = (count.parse::<usize>()?, bytes_of(rt.alloc(), front)?);
+        let bytes = vec![in rt.alloc(); 0x11; count]?;
+        let key = RsaPublicKey {
+            modulus: UintRef::new(bytes.as_slice())?,
+            public_exponent: UintRef::new(&[0x03])?,
+        };
+        let mut slice = [0; 270];
+        let text = key.encode_to_slice(&mut slice)?;
+        assert!(rt; text.starts_with(begins.as_slice()), "at {row}");
+        assert!(rt; text.ends_with(&[0x02, 0x01, 0x03]), "at {row}");
+        assert_eq!(rt; RsaPublicKeyRef::try_from(text)?, key, "at {row}");
+    }
+    Ok(())
+}
