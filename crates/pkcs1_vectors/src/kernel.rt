@@ -155,8 +155,6 @@ fn back_writers_prepend(rt: HostRuntime) {
         tag: Tag::INTEGER,
         length,
     };
-    let room = header.to_bytes().len() <= writer.free();
-    assert!(rt; room);
     writer.prepend_header(header);
     assert_eq!(rt; writer.filled_len(), 3);
     assert_eq!(rt; writer.finish(), [0x02, 0x01, 0x07].as_slice());
