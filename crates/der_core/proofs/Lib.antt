@@ -12,3 +12,5 @@ pub mod Lent
 pub mod Known
 pub mod LengthRows
 pub mod IntegerRows
+pub mod SequenceOf
+pub mod Items

@@ -10,6 +10,7 @@ pub mod Input
 pub mod Reading
 pub mod IntegerReading
 pub mod Writing
+pub mod SequenceOf
 pub mod ErrorText
 pub mod UintRefs
 pub mod SliceReaders
@@ -25,3 +26,4 @@ pub mod ShortestLaws
 pub mod InputLaws
 pub mod SliceLaws
 pub mod TagLaws
+pub mod SequenceOfLaws

@@ -1,10 +1,11 @@
 //! Reading of values.
 ghost use Rattle.std.specs.Prelude.{ℕ, List};
 ghost use Rattle.der_core.specs.Tlv.{Tlv};
-ghost use Rattle.der_core.specs.Reading.{ReadsContents, ReadsText, ReadsAll, HoldsBytes};
+ghost use Rattle.der_core.specs.Reading.{ReadsContents, ReadsText, ReadsAll, ReadsOptional, HoldsBytes};
 
 use crate::error::{ErrorKind, Result};
 use crate::header::Header;
+use crate::length::Length;
 use crate::memory::Memory;
 use crate::reader::{Octets, Reader};
 use crate::slice_reader::SliceReader;
@@ -59,4 +60,19 @@ impl<'a, M: Memory, T: DecodeValue<&'a [u8], M> + FixedTag> Decode<&'a [u8], M> 
         reader.finish()?;
         Ok(value)
     }
+}
+
+/// Reads a text exactly where the next octet is the type's tag. On a reader that has failed the answer is `Failed`.
+pub fn decode_optional<'a, T: DecodeValue<&'a [u8], M> + FixedTag, M: Memory, R: Reader<&'a [u8]>>(
+    memory: M,
+    reader: &mut R,
+) -> Result<Option<T>>
+    ensures { ReadsOptional T.TAG.octet T.value (λ v. Tlv T.TAG.octet (T.contents v)) (Tlv T.TAG.octet T.DecodeValue.asks) result (R.left reader.old) (R.left reader.new) }
+{
+    reader.read_slice(Length::ZERO)?;
+    if reader.peek_octet() != Some(T::TAG.octet()) {
+        return Ok(None);
+    }
+    let value = T::decode(memory, reader)?;
+    Ok(Some(value))
 }

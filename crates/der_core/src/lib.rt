@@ -14,13 +14,14 @@ mod integer;
 mod length;
 mod memory;
 mod reader;
+mod sequence_of;
 mod slice_reader;
 mod tag;
 mod types;
 mod writer;
 
 pub use back_writer::BackWriter;
-pub use decode::{Decode, DecodeValue};
+pub use decode::{Decode, DecodeValue, decode_optional};
 pub use encode::{Encode, EncodeValue, joined_len};
 pub use error::{Error, ErrorKind, Result};
 pub use header::Header;

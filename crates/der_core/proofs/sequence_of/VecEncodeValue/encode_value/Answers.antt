@@ -1,0 +1,22 @@
+use Rattle.std.proofs.Common.{arith, ◌≤◌, length, map}
+use Rattle.der_core.specs.Length.{limit}
+use Rattle.der_core.specs.SequenceOf.{all_texts}
+use Rattle.der_core.proofs.Items.{have_map, texts_map}
+use Rattle.der_core.proofs.sequence_of.VecEncodeValue.encode_value.Goals as goal
+
+pub encode_texts-requires-clause-has : goal.encode_texts-requires-clause-has
+encode_texts-requires-clause-has g c = rw (c.as_slice.ensures.value, ← have_map g.T.Text.value g.T.Text.has_text c.args.self.now.items) c.in_ok-value_len.ensures.0
+
+pub encode_texts-requires-clause-fits : goal.encode_texts-requires-clause-fits
+encode_texts-requires-clause-fits g c =
+    let fits : length (all_texts g.T.Text.written_text (map g.T.Text.value c.args.self.now.items)) ≤ limit = omega (arith, c.in_ok-value_len.ensures) in
+    rw (c.as_slice.ensures.value, ← texts_map g.T.Text.value g.T.Text.written_text c.args.self.now.items) fits
+
+pub returns-clause-written : goal.returns-clause-written
+returns-clause-written g c = rw (texts_map g.T.Text.value g.T.Text.written_text c.args.self.now.items, ← c.as_slice.ensures.value) c.encode_texts.ensures.written
+
+pub returns-clause-room : goal.returns-clause-room
+returns-clause-room g c = rw (texts_map g.T.Text.value g.T.Text.written_text c.args.self.now.items, ← c.as_slice.ensures.value) c.encode_texts.ensures.room
+
+pub returns-clause-left : goal.returns-clause-left
+returns-clause-left g c = rw (have_map g.T.Text.value g.T.Text.has_text c.args.self.now.items, texts_map g.T.Text.value g.T.Text.written_text c.args.self.now.items, ← c.as_slice.ensures.value) c.encode_texts.ensures.left

@@ -1,0 +1,117 @@
+//! SEQUENCE OF (X.690 8.10), as a `Vec` of its items.
+ghost use Rattle.std.specs.Prelude.{◌≡◌, ◌≤◌, ◌+◌, ◌++◌, List, length, map, ⊤, OnOk, IfErr};
+ghost use Rattle.der_core.specs.Length.{limit};
+ghost use Rattle.der_core.specs.BackWriters.{free_of, Prepends};
+ghost use Rattle.der_core.specs.Writing.{Counts, Stops, fault};
+ghost use Rattle.der_core.specs.SequenceOfLaws.{items_of_bytes, items_relate, items_shortest};
+ghost use Rattle.der_core.specs.SequenceOf.{ItemsContents, AllHave, all_texts};
+ghost use Rattle.der_core.specs.TextLaws.{joins_map};
+
+use crate::back_writer::BackWriter;
+use crate::decode::{Decode, DecodeValue};
+use crate::encode::{Encode, EncodeValue, joined_len};
+use crate::error::{ErrorKind, Result};
+use crate::header::Header;
+use crate::length::Length;
+use crate::reader::Reader;
+use crate::types::{Contents, Kinded, SequenceTag, Text};
+use crate::writer::Writer;
+use std::alloc::Global;
+
+impl<T: Text> Contents for Vec<T> {
+    ghost Value = { List T.Value };
+
+    ghost value = { λ v. map T.value v.items };
+
+    ghost contents = { ItemsContents T.text };
+
+    ghost has_contents = { AllHave T.has_text };
+
+    ghost written_contents = { all_texts T.written_text };
+
+    ghost means_one = { joins_map T.text T.delimited };
+
+    ghost contents_of_bytes = { items_of_bytes T.text T.text_of_bytes };
+}
+
+impl<T> Kinded for Vec<T> {
+    type Kind = SequenceTag;
+}
+
+impl<'a, T: Decode<&'a [u8], Global>> DecodeValue<&'a [u8], Global> for Vec<T> {
+    ghost asks = { λ _. ⊤ };
+
+    fn decode_value<R: Reader<&'a [u8]>>(
+        memory: Global,
+        reader: &mut R,
+        _header: Header,
+    ) -> Result<Vec<T>> {
+        let mut items = Vec::new(memory);
+        while reader.peek_octet().is_some() {
+            let item = T::decode(memory, reader)?;
+            if items.push(item).is_err() {
+                return Err(reader.error(ErrorKind::OutOfMemory));
+            }
+        }
+        Ok(items)
+    }
+}
+
+/// How many octets the texts of the items have.
+fn texts_len<T: Encode>(items: &[T]) -> Result<Length>
+    ensures { Counts (AllHave (λ x. T.has_text (T.value x)) items.now) (all_texts (λ x. T.written_text (T.value x)) items.now) result }
+{
+    let mut total = Ok(Length::ZERO);
+    for item in items {
+        total = joined_len(total, item.encoded_len());
+    }
+    total
+}
+
+/// Appends the texts of the items.
+fn encode_texts<T: Encode, W: Writer>(items: &[T], writer: &mut W) -> Result<()>
+    requires has { AllHave (λ x. T.has_text (T.value x)) items.now }
+    requires fits { length (all_texts (λ x. T.written_text (T.value x)) items.now) ≤ limit }
+    ensures written { OnOk result (W.written writer.new ≡ W.written writer.old ++ all_texts (λ x. T.written_text (T.value x)) items.now) }
+    ensures room { OnOk result (W.room writer.new + length (all_texts (λ x. T.written_text (T.value x)) items.now) ≡ W.room writer.old) }
+    ensures left { IfErr result (λ e. Stops (AllHave (λ x. T.has_text (T.value x)) items.now) (all_texts (λ x. T.written_text (T.value x)) items.now) (W.room writer.old) (W.written writer.old) (W.written writer.new) (fault e.kind)) }
+    ensures kept { W.keeps writer.old writer.new }
+{
+    for item in items {
+        item.encode(writer)?;
+    }
+    Ok(())
+}
+
+/// Puts the texts of the items before what is filled, the last one first.
+fn prepend_texts<T: Encode>(items: &[T], writer: &mut BackWriter<'_>)
+    requires has { AllHave (λ x. T.has_text (T.value x)) items.now }
+    requires fits { length (all_texts (λ x. T.written_text (T.value x)) items.now) ≤ limit }
+    requires room { length (all_texts (λ x. T.written_text (T.value x)) items.now) ≤ free_of writer.old }
+    ensures { Prepends (all_texts (λ x. T.written_text (T.value x)) items.now) writer.old writer.new }
+{
+    let mut left = items.len();
+    while left > 0 {
+        left -= 1;
+        items[left].prepend(writer);
+    }
+}
+
+impl<T: Encode> EncodeValue for Vec<T> {
+    fn value_len(&self) -> Result<Length> {
+        texts_len(self.as_slice())
+    }
+
+    fn encode_value<W: Writer>(&self, writer: &mut W) -> Result<()> {
+        self.value_len()?;
+        encode_texts(self.as_slice(), writer)
+    }
+
+    fn prepend_value(&self, writer: &mut BackWriter<'_>) {
+        prepend_texts(self.as_slice(), writer);
+    }
+
+    ghost contents_relate = { items_relate T.text T.has_text T.written_text T.text_relates };
+
+    ghost contents_shortest = { items_shortest T.text T.has_text T.written_text T.text_shortest };
+}
