@@ -14,3 +14,4 @@ pub mod LengthRows
 pub mod IntegerRows
 pub mod SequenceOf
 pub mod Items
+pub mod Moves

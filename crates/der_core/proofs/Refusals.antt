@@ -1,5 +1,5 @@
 -- Why a value isn't written, and that its text is alone.
-use Rattle.std.proofs.Common.{ℕ, List, ◌≡◌, ◌≤◌, ◌<◌, ◌^◌, length, arith, inl, inr}
+use Rattle.std.proofs.Common.{ℕ, List, ◌≡◌, ◌≤◌, ◌<◌, ◌^◌, length, arith, ap, inl, inr}
 use Rattle.std.proofs.lemmas.Bool.{cases_lt}
 use Rattle.std.specs.Prelude.{Result, Ok, Err, IfOk, IfErr}
 use Rattle.der_core.specs.Texts.{AtMostOne, IsDelimited}
@@ -21,6 +21,16 @@ module _ {V : Type 0} (Grammar : V → List ℕ → Type 0) (v : V) where
       → IfErr r (λ e. IsRefused (HasText Grammar v) Grammar v room (fault e.kind))
   refused_with_text has room some (Ok x) h = tt
   refused_with_text has room some (Err e) h = refused_as has room some (fault e.kind) h
+
+  -- a value with a text is written where there is room for that text
+  pub never_refused : (some : Type 0) (text : List ℕ) (room : ℕ) (k : Fault) → Means Grammar text v → length text ≤ room → IsRefused some Grammar v room k → ⊥
+  never_refused some text room no_text means fits refused = refused text means.1
+  never_refused some text room too_long means fits refused = refused.1 text means
+  never_refused some text room no_room means fits refused = elim (refused.1.least text means) [
+    | inl same ↦ absurd (omega (arith, refused.2, fits, ap length same))
+    | inr longer ↦ absurd (omega (arith, refused.2, fits, longer))
+  ]
+  never_refused some text room another means fits refused = refused
 
   -- a shortest text is alone where there is at most one
   pub alone_if : {S E : Type 0} (now : S → List ℕ) → AtMostOne (Grammar v) → (r : Result S E) → IfOk r (λ s. IsShortest Grammar v (now s)) → IfOk r (λ s. IsAlone Grammar v (now s))

@@ -27,3 +27,6 @@ pub mod InputLaws
 pub mod SliceLaws
 pub mod TagLaws
 pub mod SequenceOfLaws
+pub mod Outside
+pub mod Wrap
+pub mod Refusal

@@ -1,0 +1,8 @@
+-- Kinds of refusals.
+use Rattle.std.specs.Prelude.{◌≡◌}
+use Rattle.der_core.specs.declared.error.Error.{Error}
+use Rattle.der_core.specs.declared.error.ErrorKind.TheVariants.{File}
+
+-- a file, a source or a sink refused
+abbrev pub IsFile : Error → Type 0
+IsFile error = error.kind ≡ File

@@ -1,0 +1,134 @@
+//! Sources and sinks over std's readers and writers.
+ghost use Rattle.std.specs.Prelude.{◌≡◌, ◌<◌, ◌+◌, ◌-◌, ◌^◌, min, length, IfOk, IfErr};
+ghost use Rattle.std.specs.Io.{ReadsAtMost, WritesAtMost};
+ghost use Rattle.std.specs.Io.KnownBytes.{Keeps, ReadConsumes, WriteAppends};
+ghost use Rattle.der_core.specs.Outside.{CountsRefusal};
+ghost use Rattle.der_core.specs.Refusal.{IsFile};
+
+use crate::error::{Error, ErrorKind, Result};
+use crate::source_sink::{Sink, Source};
+use std::io::{Read, Write};
+
+// One more refusal.
+fn refused(faults: &mut u64) -> Error
+    ensures counted { faults.new ≡ min (faults.old + 1) (2 ^ 64 - 1) }
+    ensures file { IsFile result }
+{
+    *faults = faults.saturating_add(1);
+    Error::new(ErrorKind::File)
+}
+
+/// A source over a reader. Each error of the reader is a refusal.
+#[derive(Debug, Drop)]
+pub struct FromRead<R> {
+    inner: R,
+    faults: u64,
+}
+
+impl<R: Read> FromRead<R> {
+    ghost use Rattle.der_core.specs.Wrap.{reader_of, read_faults};
+
+    /// A source that has refused no call.
+    pub fn new(inner: R) -> Self
+        ensures reader { reader_of result ≡ inner }
+        ensures faults { read_faults result ≡ 0 }
+    {
+        FromRead { inner, faults: 0 }
+    }
+
+    /// The reader.
+    pub fn into_inner(self) -> R
+        ensures { result ≡ reader_of self }
+    {
+        let FromRead { inner, faults: _ } = self;
+        inner
+    }
+}
+
+impl<R: Read> Source for FromRead<R> {
+    ghost use Rattle.der_core.specs.Wrap.{reader_of, read_faults};
+
+    ghost remaining = { λ source. R.remaining (reader_of source) };
+
+    ghost refusals = { read_faults };
+
+    fn read(&mut self, buf: &mut [u8]) -> Result<usize>
+        ensures bound { ReadsAtMost result buf.new }
+        ensures bytes { ReadConsumes (R.remaining (reader_of self.old)) (R.remaining (reader_of self.new)) result buf.new }
+        ensures faults { CountsRefusal (read_faults self.old) (read_faults self.new) result }
+        ensures file { IfErr result IsFile }
+    {
+        match self.inner.read(buf) {
+            Ok(count) => Ok(count),
+            Err(_) => Err(refused(&mut self.faults)),
+        }
+    }
+
+    fn faults(&self) -> u64 {
+        self.faults
+    }
+}
+
+/// A sink over a writer. Each error of the writer is a refusal, and so is a write of no byte out
+/// of one or more.
+#[derive(Debug, Drop)]
+pub struct ToWrite<W> {
+    inner: W,
+    faults: u64,
+}
+
+impl<W: Write> ToWrite<W> {
+    ghost use Rattle.der_core.specs.Wrap.{writer_of, write_faults};
+
+    /// A sink that has refused no call.
+    pub fn new(inner: W) -> Self
+        ensures writer { writer_of result ≡ inner }
+        ensures faults { write_faults result ≡ 0 }
+    {
+        ToWrite { inner, faults: 0 }
+    }
+
+    /// The writer.
+    pub fn into_inner(self) -> W
+        ensures { result ≡ writer_of self }
+    {
+        let ToWrite { inner, faults: _ } = self;
+        inner
+    }
+}
+
+impl<W: Write> Sink for ToWrite<W> {
+    ghost use Rattle.der_core.specs.Wrap.{writer_of, write_faults};
+
+    ghost contents = { λ sink. W.contents (writer_of sink) };
+
+    ghost refusals = { write_faults };
+
+    fn write(&mut self, bytes: &[u8]) -> Result<usize>
+        ensures bound { WritesAtMost result bytes.now }
+        ensures progress { 0 < length bytes.now → IfOk result (λ n. 0 < n) }
+        ensures bytes { WriteAppends (W.contents (writer_of self.old)) (W.contents (writer_of self.new)) result bytes.now }
+        ensures faults { CountsRefusal (write_faults self.old) (write_faults self.new) result }
+        ensures file { IfErr result IsFile }
+    {
+        match self.inner.write(bytes) {
+            Ok(count) if count > 0 || bytes.is_empty() => Ok(count),
+            _ => Err(refused(&mut self.faults)),
+        }
+    }
+
+    fn flush(&mut self) -> Result<()>
+        ensures bytes { Keeps (W.contents (writer_of self.old)) (W.contents (writer_of self.new)) }
+        ensures faults { CountsRefusal (write_faults self.old) (write_faults self.new) result }
+        ensures file { IfErr result IsFile }
+    {
+        match self.inner.flush() {
+            Ok(()) => Ok(()),
+            Err(_) => Err(refused(&mut self.faults)),
+        }
+    }
+
+    fn faults(&self) -> u64 {
+        self.faults
+    }
+}

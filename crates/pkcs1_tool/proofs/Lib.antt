@@ -1,0 +1,5 @@
+pub mod Cuts
+pub mod Requests
+pub mod Only
+pub mod Runs
+pub mod Put

@@ -1,0 +1,35 @@
+-- A line has at most one answer, and an input at most one output.
+use Rattle.std.proofs.Common.{◌≡◌, ℕ, inl, inr, List, [], ◌∷◌, ◌++◌, sym, ◌∙◌, subst}
+use Rattle.der_core.specs.Texts.{AtMostOne, MeansOne}
+use Rattle.der_core.specs.Document.{Means, IsShortest}
+use Rattle.der_core.specs.ShortestLaws.{means_one, shortest_same}
+use Rattle.pkcs1.specs.Keys.{RsaPublicKey}
+use Rattle.pkcs1.proofs.Keys.{public_delimited}
+use Rattle.pkcs1_tool.specs.Request.{Asked, bad_line, asks_pub, asked_by}
+use Rattle.pkcs1_tool.specs.Answer.{Tells, AnswerTo, Answer, Answers, pub_answer}
+
+tells_one : {V : Type 0} (Grammar : V → List ℕ → Type 0) (told : V → List ℕ → List ℕ) → MeansOne Grammar → (text : List ℕ) → AtMostOne (Tells Grammar told text)
+tells_one Grammar told one text a b (inl p) (inl q) = p.1 ∙ sym q.1
+tells_one Grammar told one text a b (inl p) (inr q) = absurd (p.0 q.0 q.1)
+tells_one Grammar told one text a b (inr p) (inl q) = absurd (q.0 p.0 p.1)
+tells_one {V} Grammar told one text a b (inr p) (inr q) =
+    let value : p.0 ≡ q.0 = one p.0 q.0 text p.1.1 q.1.1 in
+    let again : p.2 ≡ q.2 = shortest_same q.0 p.2 q.2 (subst (λ v. IsShortest Grammar v p.2) value p.3) q.3 in
+    p.4 ∙ (λ i. told (value i) (again i)) ∙ sym q.4
+
+public_means_one : MeansOne RsaPublicKey
+public_means_one v w text p q = means_one public_delimited v w text p q
+
+answer_to_one : (asked : Asked) → AtMostOne (AnswerTo asked)
+answer_to_one bad_line a b p q = p ∙ sym q
+answer_to_one (asks_pub text) a b p q = tells_one RsaPublicKey pub_answer public_means_one text a b p q
+
+pub answers_at_most_one : (line : List ℕ) → AtMostOne (Answer line)
+answers_at_most_one line a b p q = answer_to_one (asked_by line) a b p q
+
+pub output_at_most_one : (lines : List (List ℕ)) → AtMostOne (Answers lines)
+output_at_most_one [] a b p q = p ∙ sym q
+output_at_most_one (line ∷ lines) a b p q =
+    let answer : p.0 ≡ q.0 = answers_at_most_one line p.0 q.0 p.2 q.2 in
+    let more : p.1 ≡ q.1 = output_at_most_one lines p.1 q.1 p.3 q.3 in
+    p.4 ∙ (λ i. answer i ++ 10 ∷ more i) ∙ sym q.4

@@ -1,0 +1,7 @@
+use Rattle.pkcs1_tool.proofs.answer.answer_line.Goals as goal
+
+pub returns-in-Pub : goal.returns-in-Pub
+returns-in-Pub c =
+    let asked = c.in_ok-request_of.ensures in
+    let answer = rw c.as_slice.ensures.value at c.answer_pub.ensures in
+    rw (← asked, c.in-Pub.is) answer

@@ -1,0 +1,9 @@
+use Rattle.std.proofs.Common.{sym, ◌∙◌}
+use Rattle.pkcs1_tool.proofs.Requests.{asked_by-many}
+use Rattle.pkcs1_tool.proofs.request.request_of.Goals as goal
+
+pub returns-then-is_some : goal.returns-then-is_some
+returns-then-is_some c =
+    let some = sym c.is_some.ensures ∙ c.if-is_some.true in
+    let first = c.split_part.ensures in
+    sym (asked_by-many c.args.line.now c.in-Some.rest.now c.split_part.result.0.now c.split_part-2.result.0.now c.split_part-2.result.1 some (rw c.in-Some.is at first) c.split_part-2.ensures)

@@ -1,0 +1,7 @@
+pub mod Lines
+pub mod Request
+pub mod Seen
+pub mod Answer
+pub mod Written
+pub mod Fault
+pub mod Plan

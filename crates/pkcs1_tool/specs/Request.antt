@@ -1,0 +1,36 @@
+-- What a line asks for.
+use Rattle.std.specs.Prelude.{ℕ, if◌then◌else◌, List, [], ◌∷◌, Option, Some, None, codes}
+use Rattle.std.specs.Str.{bytes_eq}
+use Rattle.std.specs.declared.result.Result.{Result}
+use Rattle.std.specs.declared.result.Result.TheVariants.{Ok, Err}
+use Rattle.hex.specs.Hex.{decode_of}
+use Rattle.hex.specs.declared.error.FromHexError.{FromHexError}
+use Rattle.pkcs1_tool.specs.Lines.{parts_of}
+
+-- a word with the texts that its HEX parts stand for, or a line of no known form
+pub data Asked : Type 0 where
+  bad_line : Asked
+  asks_pub : List ℕ → Asked
+
+abbrev pub decoded : Result (List ℕ) FromHexError → Option (List ℕ)
+decoded (Ok text) = Some text
+decoded (Err e) = None
+
+-- the text that an even number of digits, of either case, stands for
+abbrev pub text_of : List ℕ → Option (List ℕ)
+text_of hex = decoded (decode_of hex)
+
+-- what a word asks for with a text
+abbrev pub asked_with : (List ℕ → Asked) → Option (List ℕ) → Asked
+asked_with word (Some text) = word text
+asked_with word None = bad_line
+
+abbrev pub asked_by_parts : List (List ℕ) → Asked
+asked_by_parts [] = bad_line
+asked_by_parts (word ∷ []) = bad_line
+asked_by_parts (word ∷ hex ∷ []) = if bytes_eq word (codes "pub") then asked_with asks_pub (text_of hex) else bad_line
+asked_by_parts (word ∷ hex ∷ more ∷ rest) = bad_line
+
+-- what the line asks for
+abbrev pub asked_by : List ℕ → Asked
+asked_by line = asked_by_parts (parts_of line)

@@ -1,0 +1,123 @@
+//! Lines in, answers out.
+ghost use Rattle.std.specs.Prelude.{◌≡◌, ◌≤◌, ◌⊎◌, ℕ, List, length, IfSome, IfOk, OnOk, OnErr, IsErrOf, vec_len};
+ghost use Rattle.std.specs.Io.KnownBytes.{Appends, Keeps, IsAtEnd};
+ghost use Rattle.der_core.specs.Outside.{AppendsFront, GivesAll, GivesMore, SomeRefused};
+ghost use Rattle.der_core.specs.Texts.{AtMostOne};
+ghost use Rattle.pkcs1_tool.specs.Answer.{Answer, Output};
+ghost use Rattle.pkcs1_tool.specs.Lines.{lines_of};
+ghost use Rattle.pkcs1_tool.specs.Written.{Writes, WritesFirst, WritesFront, WritesFrontOfAll};
+
+use crate::answer::answer_line;
+use crate::fault::Fault;
+use crate::lines::split_line;
+use der_core::{Sink, Source};
+use std::alloc::Global;
+
+/// The longest input.
+pub const LIMIT: usize = 16777216;
+
+const PIECE: usize = 65536;
+
+// All that the source gives up to its end.
+fn read_input<R: Source>(alloc: Global, source: &mut R) -> Result<Vec<u8>, Fault>
+    ensures all { IfOk result (λ input. GivesAll (R.remaining source.old) (R.remaining source.new) input.items) }
+    ensures within { IfOk result (λ input. vec_len input ≤ LIMIT) }
+    ensures same { OnOk result (R.refusals source.new ≡ R.refusals source.old) }
+    ensures read { IsErrOf result Fault.Read → SomeRefused (R.refusals source.old) (R.refusals source.new)
+        ⊎ GivesMore LIMIT PIECE (R.remaining source.old) (R.remaining source.new) }
+    ensures write { ¬ IsErrOf result Fault.Write }
+{
+    let mut input = Vec::new(alloc);
+    let mut piece = [0u8; PIECE];
+    loop {
+        let count = match source.read(&mut piece) {
+            Ok(count) => count,
+            Err(_) => return Err(Fault::Read),
+        };
+        if count == 0 {
+            return Ok(input);
+        }
+        if count > LIMIT - input.len() {
+            return Err(Fault::Read);
+        }
+        input.extend_from_slice(&piece[..count])?;
+    }
+}
+
+// Writes all the bytes, in order.
+fn put_all<W: Sink>(bytes: &[u8], sink: &mut W) -> Result<(), Fault>
+    ensures ok { OnOk result (Appends (W.contents sink.old) (W.contents sink.new) bytes.now) }
+    ensures same { OnOk result (W.refusals sink.new ≡ W.refusals sink.old) }
+    ensures front { OnErr result (AppendsFront (W.contents sink.old) (W.contents sink.new) bytes.now) }
+    ensures refused { OnErr result (SomeRefused (W.refusals sink.old) (W.refusals sink.new)) }
+    ensures write { OnErr result (IsErrOf result Fault.Write) }
+{
+    let mut done = 0;
+    while done < bytes.len() {
+        match sink.write(&bytes[done..]) {
+            Ok(count) => done += count,
+            Err(_) => return Err(Fault::Write),
+        }
+    }
+    Ok(())
+}
+
+// Answers each line in order.
+fn answer_lines<W: Sink>(alloc: Global, input: &[u8], sink: &mut W) -> Result<(), Fault>
+    ensures ok { OnOk result (Writes (W.contents sink.old) (W.contents sink.new) (lines_of input.now)) }
+    ensures same { OnOk result (W.refusals sink.new ≡ W.refusals sink.old) }
+    ensures read { ¬ IsErrOf result Fault.Read }
+    ensures write { IsErrOf result Fault.Write → SomeRefused (W.refusals sink.old) (W.refusals sink.new)
+        × WritesFront (W.contents sink.old) (W.contents sink.new) (lines_of input.now) }
+    ensures memory { IsErrOf result Fault.Memory → WritesFirst (W.contents sink.old) (W.contents sink.new) (lines_of input.now) }
+{
+    let mut answer = Vec::new(alloc);
+    let mut rest = input;
+    while !rest.is_empty() {
+        let (line, more) = split_line(rest);
+        answer.clear();
+        answer_line(alloc, line, &mut answer)?;
+        answer.push(b'\n')?;
+        match put_all(answer.as_slice(), sink) {
+            Ok(()) => rest = more,
+            Err(_) => return Err(Fault::Write),
+        }
+    }
+    Ok(())
+}
+
+// Answers each line in order, and flushes.
+fn answer_input<W: Sink>(alloc: Global, input: &[u8], sink: &mut W) -> Result<(), Fault>
+    ensures ok { OnOk result (Writes (W.contents sink.old) (W.contents sink.new) (lines_of input.now)) }
+    ensures same { OnOk result (W.refusals sink.new ≡ W.refusals sink.old) }
+    ensures read { ¬ IsErrOf result Fault.Read }
+    ensures write { IsErrOf result Fault.Write → SomeRefused (W.refusals sink.old) (W.refusals sink.new)
+        × WritesFront (W.contents sink.old) (W.contents sink.new) (lines_of input.now) }
+    ensures memory { IsErrOf result Fault.Memory → WritesFirst (W.contents sink.old) (W.contents sink.new) (lines_of input.now) }
+{
+    answer_lines(alloc, input, sink)?;
+    match sink.flush() {
+        Ok(()) => Ok(()),
+        Err(_) => Err(Fault::Write),
+    }
+}
+
+/// Reads the whole input, and answers line by line.
+pub fn run<R: Source, W: Sink>(alloc: Global, source: &mut R, sink: &mut W) -> Result<(), Fault>
+    ensures ok { OnOk result (IfSome (R.remaining source.old) (λ input. Writes (W.contents sink.old) (W.contents sink.new) (lines_of input))) }
+    ensures whole { OnOk result (IfSome (R.remaining source.old) (λ input. GivesAll (R.remaining source.old) (R.remaining source.new) input)) }
+    ensures within { OnOk result (IfSome (R.remaining source.old) (λ input. length input ≤ LIMIT)) }
+    ensures quiet { OnOk result ((R.refusals source.new ≡ R.refusals source.old) × (W.refusals sink.new ≡ W.refusals sink.old)) }
+    ensures read { IsErrOf result Fault.Read → SomeRefused (R.refusals source.old) (R.refusals source.new)
+        ⊎ GivesMore LIMIT PIECE (R.remaining source.old) (R.remaining source.new) }
+    ensures untouched { IsErrOf result Fault.Read → Keeps (W.contents sink.old) (W.contents sink.new) × (W.refusals sink.new ≡ W.refusals sink.old) }
+    ensures write { IsErrOf result Fault.Write → SomeRefused (W.refusals sink.old) (W.refusals sink.new) }
+    ensures front { IsErrOf result Fault.Write → IfSome (R.remaining source.old) (λ input. WritesFront (W.contents sink.old) (W.contents sink.new) (lines_of input)) }
+    ensures front_of_all { IsErrOf result Fault.Write → IfSome (R.remaining source.old) (λ input. WritesFrontOfAll (W.contents sink.old) (W.contents sink.new) (lines_of input)) }
+    ensures memory { IsErrOf result Fault.Memory → IfSome (R.remaining source.old) (λ input. WritesFirst (W.contents sink.old) (W.contents sink.new) (lines_of input)) }
+    ensures one_answer { (line : List ℕ) → AtMostOne (Answer line) }
+    ensures one_output { (input : List ℕ) → AtMostOne (Output input) }
+{
+    let input = read_input(alloc, source)?;
+    answer_input(alloc, input.as_slice(), sink)
+}
