@@ -15,3 +15,4 @@ pub mod IntegerRows
 pub mod SequenceOf
 pub mod Items
 pub mod Moves
+pub mod Smalls

@@ -123,3 +123,6 @@ canonical_of_bytes bytes (inr p) = p.0
 pub integer_of_bytes : IsOfBytes IntegerContents
 integer_of_bytes bytes c (p, inl a) = rw a.1 (canonical_of_bytes bytes p)
 integer_of_bytes bytes c (p, inr a) = rw a.1 (omega arith, canonical_of_bytes bytes p)
+
+pub small_of_bytes : IsOfBytes SmallContents
+small_of_bytes n c (l, bytes, e, i) = integer_of_bytes bytes c i

@@ -30,3 +30,4 @@ pub mod SequenceOfLaws
 pub mod Outside
 pub mod Wrap
 pub mod Refusal
+pub mod SmallLaws

@@ -27,7 +27,7 @@ pub use decode::{Decode, DecodeValue, decode_optional};
 pub use encode::{Encode, EncodeValue, joined_len};
 pub use error::{Error, ErrorKind, Result};
 pub use header::Header;
-pub use integer::UintRef;
+pub use integer::{AsUintRef, UintRef};
 pub use length::Length;
 pub use memory::{Memory, NoMemory};
 pub use reader::{BytesLeft, Octets, Reader};

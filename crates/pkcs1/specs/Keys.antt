@@ -1,24 +1,70 @@
--- RSA keys (RFC 8017 A.1.1). A number is its canonical bytes; a grammar of numbers says their texts.
-use Rattle.std.specs.Prelude.{ℕ, List, [], ◌∷◌, ◌++◌}
+-- RSA keys (RFC 8017 A.1.1, A.1.2). A number is its canonical bytes; a grammar of numbers says their texts.
+use Rattle.std.specs.Prelude.{ℕ, List, [], ◌∷◌, ◌≡◌, ◌<◌, length, Option, Some, None}
 use Rattle.der_core.specs.Tlv.{Tlv}
 use Rattle.der_core.specs.Texts.{Joins}
-use Rattle.der_core.specs.Integer.{Integer}
+use Rattle.der_core.specs.Integer.{Integer, Small}
+use Rattle.der_core.specs.SequenceOf.{ItemsContents}
 
 pub record PublicKey (Number : Type 0) : Type 0 where
   pub modulus : Number
   pub public_exponent : Number
 
--- RSAPublicKey ::= SEQUENCE { modulus INTEGER, publicExponent INTEGER } (A.1.1): its contents, with the texts of a number.
+-- RSAPublicKey ::= SEQUENCE { modulus INTEGER, publicExponent INTEGER } (A.1.1)
 abbrev pub PublicKeyContents : {Number : Type 0} → (Number → List ℕ → Type 0) → PublicKey Number → List ℕ → Type 0
 PublicKeyContents NumberText key contents = Joins (NumberText key.modulus ∷ NumberText key.public_exponent ∷ []) contents
 
 abbrev pub RsaPublicKey : PublicKey (List ℕ) → List ℕ → Type 0
 RsaPublicKey key text = Tlv 48 (PublicKeyContents Integer key) text
 
--- Which keys have contents.
-abbrev pub HasPublicKey : {Number : Type 0} → (Number → Type 0) → PublicKey Number → Type 0
-HasPublicKey has key = has key.modulus × has key.public_exponent
+pub record OtherPrime (Number : Type 0) : Type 0 where
+  pub prime : Number
+  pub exponent : Number
+  pub coefficient : Number
 
--- The contents that are written.
-abbrev pub written_public_key : {Number : Type 0} → (Number → List ℕ) → PublicKey Number → List ℕ
-written_public_key text key = text key.modulus ++ text key.public_exponent
+-- OtherPrimeInfo ::= SEQUENCE { prime INTEGER, exponent INTEGER, coefficient INTEGER } (A.1.2)
+abbrev pub OtherPrimeContents : {Number : Type 0} → (Number → List ℕ → Type 0) → OtherPrime Number → List ℕ → Type 0
+OtherPrimeContents NumberText other contents = Joins (NumberText other.prime ∷ NumberText other.exponent ∷ NumberText other.coefficient ∷ []) contents
+
+abbrev pub OtherPrimeInfo : {Number : Type 0} → (Number → List ℕ → Type 0) → OtherPrime Number → List ℕ → Type 0
+OtherPrimeInfo NumberText other text = Tlv 48 (OtherPrimeContents NumberText other) text
+
+-- OtherPrimeInfos ::= SEQUENCE SIZE(1..MAX) OF OtherPrimeInfo, OPTIONAL (A.1.2)
+abbrev pub OtherPrimeInfos : {Number : Type 0} → (Number → List ℕ → Type 0) → Option (List (OtherPrime Number)) → List ℕ → Type 0
+OtherPrimeInfos NumberText None text = text ≡ []
+OtherPrimeInfos NumberText (Some others) text = (0 < length others) × Tlv 48 (ItemsContents (OtherPrimeInfo NumberText) others) text
+
+-- Version ::= INTEGER { two-prime(0), multi(1) }: multi where there are other primes (A.1.2)
+abbrev pub version_of : {Number : Type 0} → Option (List (OtherPrime Number)) → ℕ
+version_of None = 0
+version_of (Some others) = 1
+
+pub record PrivateKey (Number : Type 0) : Type 0 where
+  pub modulus : Number
+  pub public_exponent : Number
+  pub private_exponent : Number
+  pub prime1 : Number
+  pub prime2 : Number
+  pub exponent1 : Number
+  pub exponent2 : Number
+  pub coefficient : Number
+  pub other_prime_infos : Option (List (OtherPrime Number))
+
+-- RSAPrivateKey ::= SEQUENCE { version Version, modulus INTEGER, .., coefficient INTEGER, otherPrimeInfos OtherPrimeInfos OPTIONAL } (A.1.2)
+abbrev pub PrivateKeyContents : {Number : Type 0} → (Number → List ℕ → Type 0) → PrivateKey Number → List ℕ → Type 0
+PrivateKeyContents NumberText key contents =
+    Joins
+    (Small (version_of key.other_prime_infos)
+    ∷ NumberText key.modulus
+    ∷ NumberText key.public_exponent
+    ∷ NumberText key.private_exponent
+    ∷ NumberText key.prime1
+    ∷ NumberText key.prime2
+    ∷ NumberText key.exponent1
+    ∷ NumberText key.exponent2
+    ∷ NumberText key.coefficient
+    ∷ OtherPrimeInfos NumberText key.other_prime_infos
+    ∷ [])
+    contents
+
+abbrev pub RsaPrivateKey : PrivateKey (List ℕ) → List ℕ → Type 0
+RsaPrivateKey key text = Tlv 48 (PrivateKeyContents Integer key) text

@@ -1,3 +1,9 @@
 pub mod Keys
-pub mod KeyLaws
+pub mod Versions
+pub mod Asking
+pub mod Writing
 pub mod PublicKeys
+pub mod PrivateKeys
+pub mod PublicKeyLaws
+pub mod PrivateKeyLaws
+pub mod VersionLaws

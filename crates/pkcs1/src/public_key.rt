@@ -1,8 +1,9 @@
 //! RSA public keys.
 ghost use Rattle.std.specs.Prelude.{refl};
 ghost use Rattle.der_core.specs.Reading.{AsksWithin};
-ghost use Rattle.pkcs1.specs.Keys.{PublicKey, PublicKeyContents, HasPublicKey, written_public_key};
-ghost use Rattle.pkcs1.specs.KeyLaws.{public_key_means_one, public_key_of_bytes, public_key_relates, public_key_shortest};
+ghost use Rattle.pkcs1.specs.Keys.{PublicKey, PublicKeyContents};
+ghost use Rattle.pkcs1.specs.Writing.{HasPublicKey, written_public_key};
+ghost use Rattle.pkcs1.specs.PublicKeyLaws.{public_key_means_one, public_key_of_bytes, public_key_relates, public_key_shortest};
 
 use der_core::{
     BackWriter, Contents, Decode, DecodeValue, Encode, EncodeValue, Error, Header, Kinded, Length,

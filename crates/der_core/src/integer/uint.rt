@@ -28,6 +28,28 @@ pub struct UintRef<'a> {
     ghost bounded: { length bytes.now ≤ limit },
 }
 
+/// A type that holds an unsigned number.
+pub trait AsUintRef {
+    ghost use Rattle.der_core.specs.UintRefs.{bytes_of};
+
+    /// The number's bytes.
+    ghost number: { Self → List ℕ };
+
+    /// The same number, borrowed.
+    fn as_uint_ref(&self) -> UintRef<'_>
+        ensures { bytes_of result ≡ number self.now };
+}
+
+impl AsUintRef for UintRef<'_> {
+    ghost use Rattle.der_core.specs.UintRefs.{bytes_of};
+
+    ghost number = { bytes_of };
+
+    fn as_uint_ref(&self) -> UintRef<'_> {
+        *self
+    }
+}
+
 /// The bytes without needless zeros.
 fn strip(bytes: &[u8]) -> &[u8]
     ensures number { number_from_digits 256 result.now ≡ number_from_digits 256 bytes.now }
@@ -72,7 +94,7 @@ impl<'a> UintRef<'a> {
 }
 
 /// The number of some contents.
-fn integer(contents: &[u8]) -> Result<UintRef<'_>>
+pub(crate) fn integer(contents: &[u8]) -> Result<UintRef<'_>>
     requires { length contents.now ≤ limit }
     ensures { Answers (λ u. u.bytes.now) result (integer_of contents.now) }
 {

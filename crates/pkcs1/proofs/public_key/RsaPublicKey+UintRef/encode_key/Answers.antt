@@ -2,7 +2,7 @@ use Rattle.der_core.specs.IntegerLaws.{holds_canonical}
 use Rattle.der_core.proofs.Refusals.{refused_with_text, alone_if, one_if}
 use Rattle.pkcs1.specs.Keys.{RsaPublicKey}
 use Rattle.pkcs1.specs.PublicKeys.{key_of}
-use Rattle.pkcs1.proofs.Keys.{public_delimited, public_at_most_one, public_made}
+use Rattle.pkcs1.proofs.PublicKeys.{public_delimited, public_at_most_one, public_made}
 use Rattle.pkcs1.proofs.public_key.RsaPublicKey+UintRef.encode_key.Goals as goal
 
 pub returns-clause-alone : goal.returns-clause-alone

@@ -4,7 +4,8 @@ use Rattle.std.proofs.Common.{arith, length-append}
 use Rattle.der_core.specs.Texts.{MeansOne, IsDelimited, IsOfBytes}
 use Rattle.der_core.specs.TextLaws.{then_step, then_least, last_least, then_holds, last_holds, then_of_bytes, last_of_bytes}
 use Rattle.der_core.specs.Writing.{IsLeast}
-use Rattle.pkcs1.specs.Keys.{PublicKey, PublicKeyContents, HasPublicKey, written_public_key}
+use Rattle.pkcs1.specs.Keys.{PublicKey, PublicKeyContents}
+use Rattle.pkcs1.specs.Writing.{HasPublicKey, written_public_key}
 
 module _ {Number : Type 0} (NumberText : Number → List ℕ → Type 0) where
   pub public_key_means_one : IsDelimited NumberText → MeansOne (PublicKeyContents NumberText)

@@ -6,7 +6,7 @@ use Rattle.der_core.specs.Integer.{Integer, IsCanonical}
 use Rattle.der_core.specs.TextLaws.{tlv_delimited, tlv_at_most_one, joins_at_most_one, tlv_made, then_holds, last_holds}
 use Rattle.der_core.specs.IntegerLaws.{integer_delimited, integer_at_most_one, integer_made}
 use Rattle.pkcs1.specs.Keys.{PublicKey, PublicKeyContents, RsaPublicKey}
-use Rattle.pkcs1.specs.KeyLaws.{public_key_means_one}
+use Rattle.pkcs1.specs.PublicKeyLaws.{public_key_means_one}
 
 pub public_delimited : IsDelimited RsaPublicKey
 public_delimited = tlv_delimited 48 (PublicKeyContents Integer) (public_key_means_one Integer integer_delimited)

@@ -1,0 +1,95 @@
+//! INTEGER from 0 to 255, as `u8`.
+ghost use Rattle.std.specs.Prelude.{◌≡◌, ◌≤◌, ◌<◌, ℕ, List, ◌∷◌, [], length, Some};
+ghost use Rattle.der_core.specs.Length.{limit};
+ghost use Rattle.der_core.specs.Reading.{ReadsContents, HoldsBytes};
+ghost use Rattle.der_core.specs.Integer.{SmallContents, integer_contents};
+ghost use Rattle.der_core.specs.IntegerReading.{Answers, small_of};
+ghost use Rattle.der_core.specs.IntegerLaws.{small_means_one, small_of_bytes};
+ghost use Rattle.der_core.specs.SmallLaws.{small_relates, small_shortest};
+
+use crate::back_writer::BackWriter;
+use crate::decode::DecodeValue;
+use crate::encode::EncodeValue;
+use crate::error::{Error, ErrorKind, Result};
+use crate::header::Header;
+use crate::integer::uint::integer;
+use crate::length::Length;
+use crate::memory::Memory;
+use crate::reader::Reader;
+use crate::tag::Tag;
+use crate::types::{Contents, IntegerTag, Kinded};
+use crate::writer::Writer;
+
+/// The number of some contents.
+fn small(contents: &[u8]) -> Result<u8>
+    requires { length contents.now ≤ limit }
+    ensures { Answers (λ n. n) result (small_of contents.now) }
+{
+    let number = integer(contents)?;
+    let bytes = number.as_bytes();
+    if bytes.len() > 1 {
+        return Err(Error::new(ErrorKind::Value { tag: Tag::INTEGER }));
+    }
+    Ok(bytes[0])
+}
+
+impl Contents for u8 {
+    ghost Value = { ℕ };
+
+    ghost value = { λ n. n };
+
+    ghost contents = { SmallContents };
+
+    ghost has_contents = { λ n. n < 256 };
+
+    ghost written_contents = { λ n. integer_contents (n ∷ []) };
+
+    ghost means_one = { small_means_one };
+
+    ghost contents_of_bytes = { small_of_bytes };
+}
+
+impl Kinded for u8 {
+    type Kind = IntegerTag;
+}
+
+impl<'a, M: Memory> DecodeValue<&'a [u8], M> for u8 {
+    ghost asks = { λ _. ⊥ };
+
+    fn decode_value<R: Reader<&'a [u8]>>(_memory: M, reader: &mut R, header: Header) -> Result<u8>
+        requires { HoldsBytes (R.left reader.old) header.length }
+        ensures reads { ReadsContents (λ n. n) SmallContents (λ _. ⊥) result (R.left reader.old) (R.left reader.new) }
+        ensures exact { (c : List ℕ) → R.left reader.old ≡ Some c → Answers (λ n. n) result (small_of c) }
+    {
+        let contents = reader.read_slice(header.length)?;
+        match small(contents) {
+            Ok(value) => Ok(value),
+            Err(e) => Err(reader.error(e.kind())),
+        }
+    }
+}
+
+impl EncodeValue for u8 {
+    fn value_len(&self) -> Result<Length> {
+        Length::try_from(if *self < 0x80 { 1 } else { 2 })
+    }
+
+    fn encode_value<W: Writer>(&self, writer: &mut W) -> Result<()> {
+        if *self < 0x80 {
+            writer.write(&[*self])
+        } else {
+            writer.write(&[0, *self])
+        }
+    }
+
+    fn prepend_value(&self, writer: &mut BackWriter<'_>) {
+        writer.prepend(&[*self]);
+        if *self >= 0x80 {
+            writer.prepend(&[0]);
+        }
+    }
+
+    ghost contents_relate = { λ n has fits. small_relates n has };
+
+    ghost contents_shortest = { small_shortest };
+}

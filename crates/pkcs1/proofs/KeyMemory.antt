@@ -1,0 +1,56 @@
+-- Reading a key of two primes asks for no memory, where its numbers ask for none.
+use Rattle.std.proofs.Common.{ℕ, List, [], ◌∷◌, ◌++◌, ◌≡◌, length, map, sym, ap, ◌∙◌, append_assoc, inl, inr, Option, Some, None, Result, Ok, Err}
+use Rattle.std.specs.Prelude.{IsOk, refl}
+use Rattle.der_core.specs.Tlv.{Tlv}
+use Rattle.der_core.specs.Texts.{Joins, IsDelimited}
+use Rattle.der_core.specs.ListLaws.{same_fronts}
+use Rattle.der_core.specs.TextLaws.{tlv_split}
+use Rattle.der_core.specs.Document.{Means}
+use Rattle.der_core.specs.Integer.{Integer}
+use Rattle.der_core.specs.IntegerLaws.{integer_delimited, small_delimited}
+use Rattle.der_core.specs.Reading.{AskedIn, AsksWithin, ReadsAll}
+use Rattle.der_core.specs.declared.error.Error.{Error}
+use Rattle.pkcs1.specs.Asking.{BeginsSequence, OthersFollow, AsksForKey}
+use Rattle.pkcs1.specs.Keys.{OtherPrime, OtherPrimeInfos, version_of, PrivateKey, PrivateKeyContents, RsaPrivateKey}
+use Rattle.pkcs1.specs.Writing.{key_numbers}
+use Rattle.pkcs1.proofs.NumberReads.{as_many}
+use Rattle.pkcs1.proofs.KeyReads.{last_is}
+
+module _ {V : Type 0} {text : V → List ℕ → Type 0} (d : IsDelimited text) (key : PrivateKey V) (two : key.other_prime_infos ≡ None) where
+  none_follow : (others : Option (List (OtherPrime V))) (rest : List ℕ) → others ≡ None → OtherPrimeInfos text others rest → BeginsSequence rest → ⊥
+  none_follow None rest e p b = let same : [] ≡ 48 ∷ b.0 = sym p ∙ b.1 in cc
+  none_follow (Some others) rest e p b = cc
+
+  no_others : (c : List ℕ) → PrivateKeyContents text key c → OthersFollow text c → ⊥
+  no_others c p (n, vs, front, rest, l, (a, b, small, joined, f), begins, whole) =
+      let e : a ++ (b ++ rest) ≡ p.0 ++ p.1 = sym (append_assoc a b rest) ∙ ap (λ r. r ++ rest) (sym f) ∙ sym whole ∙ p.4 in
+      let one = small_delimited.one n (version_of key.other_prime_infos) a (b ++ rest) p.0 p.1 small p.2 e in
+      let tails = same_fronts a (b ++ rest) p.0 p.1 (ap length one.0) e in
+      let numbers : Joins (map text (key_numbers key) ++ OtherPrimeInfos text key.other_prime_infos ∷ []) p.1 = p.3 in
+      let s = as_many text d vs (key_numbers key) (OtherPrimeInfos text key.other_prime_infos ∷ []) b rest p.1 joined l (sym tails.1) numbers in
+      none_follow key.other_prime_infos rest two (last_is rest s.1) begins
+
+  pub two_primes_ask : (asks : List ℕ → Type 0) → ((c : List ℕ) → AsksWithin asks c → ⊥) → (whole : List ℕ) → Tlv 48 (PrivateKeyContents text key) whole → AskedIn (Tlv 48 (AsksForKey text asks)) whole → ⊥
+  two_primes_ask asks none whole p (b, rest, e, q) =
+      let same : b ++ rest ≡ whole ++ [] = sym e ∙ ends whole in
+      let s = tlv_split b rest whole [] q p same in
+      asked s.3 s.5 s.4
+    where
+      ends : (l : List ℕ) → l ≡ l ++ []
+      ends [] = refl
+      ends (x ∷ l) = ap (λ r. x ∷ r) (ends l)
+
+      asked : (c : List ℕ) → PrivateKeyContents text key c → AsksForKey text asks c → ⊥
+      asked c h (inl w) = none c w
+      asked c h (inr w) = no_others c h w
+
+-- A number that is borrowed asks for none.
+borrowed_ask : (c : List ℕ) → AsksWithin (Tlv 2 (λ _. ⊥)) c → ⊥
+borrowed_ask c w = w.4.holds
+
+-- So each text of two primes is read by the borrowed key.
+pub two_primes_read : {X : Type 0} (value : X → PrivateKey (List ℕ)) (key : PrivateKey (List ℕ)) (whole : List ℕ) (r : Result X Error) → key.other_prime_infos ≡ None → Means RsaPrivateKey whole key
+    → ReadsAll value RsaPrivateKey (Tlv 48 (AsksForKey Integer (Tlv 2 (λ _. ⊥)))) r whole → IsOk r
+two_primes_read value key whole (Ok x) two means reads = refl
+two_primes_read value key whole (Err e) two means (inl w) = absurd (two_primes_ask integer_delimited key two (Tlv 2 (λ _. ⊥)) borrowed_ask whole means.1 w.1)
+two_primes_read value key whole (Err e) two means (inr w) = absurd (w.1 key means)

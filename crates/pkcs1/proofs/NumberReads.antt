@@ -1,0 +1,103 @@
+-- Reading texts of one kind, one after another.
+use Rattle.std.proofs.Common.{◌≡◌, ℕ, ◌<◌, List, [], ◌∷◌, ◌++◌, length, map, refl, sym, ap, ◌∙◌, arith, append_assoc, inl, inr, ⊎_elim, Some, None, Err}
+use Rattle.std.proofs.lemmas.List.{map-append}
+use Rattle.der_core.specs.Texts.{Joins, IsDelimited}
+use Rattle.der_core.specs.ListLaws.{same_fronts, cons_path}
+use Rattle.der_core.specs.declared.error.ErrorKind.{ErrorKind}
+use Rattle.der_core.specs.Input.{Input, read_from, end_of}
+use Rattle.der_core.specs.Reading.{Refuses, NoneIn, AsksWithin}
+use Rattle.der_core.proofs.Sequences.{TextFails, TextGives, ContentsFail}
+use Rattle.der_core.proofs.Whole.{trailing_is}
+use Rattle.pkcs1.specs.Keys.{OtherPrimeContents}
+use Rattle.pkcs1.specs.Writing.{other_numbers}
+use Rattle.pkcs1.specs.PrivateKeyLaws.{joins_put}
+
+-- These values were read.
+pub record GivesAll {V : Type 0} (text : V → List ℕ → Type 0) (vs : List V) (before after : Input) : Type 0 where
+  pub read : List ℕ
+  pub rest : List ℕ
+  pub from : before ≡ Some (read ++ rest)
+  pub left : after ≡ Some rest
+  pub joined : Joins (map text vs) read
+
+pub some_same : (a b : List ℕ) (e : ◌≡◌ {A = Input} (Some a) (Some b)) → a ≡ b
+some_same a b e = cc
+
+module _ {V : Type 0} (text : V → List ℕ → Type 0) where
+  pub gives_none : {before : Input} (c : List ℕ) → before ≡ Some c → GivesAll text [] before before
+  gives_none c is = record { read = []; rest = c; from = is; left = is; joined = refl }
+
+  pub gives_more : {vs : List V} {v : V} {before mid after : Input} → GivesAll text vs before mid → TextGives text v mid after → GivesAll text (vs ++ v ∷ []) before after
+  gives_more {vs} {v} all one =
+      let same : all.rest ≡ one.0 ++ one.1 = some_same all.rest (one.0 ++ one.1) (sym all.left ∙ one.2) in
+      record {
+        read = all.read ++ one.0;
+        rest = one.1;
+        from = all.from ∙ ap (λ l. Some (all.read ++ l)) same ∙ ap (λ l. Some l) (sym (append_assoc all.read one.0 one.1));
+        left = one.3;
+        joined = rw map-append (joins_put (map text vs) (text v ∷ []) all.read one.0 all.joined (one.0, [], one.4, refl, ends one.0));
+      }
+    where
+      ends : (l : List ℕ) → l ≡ l ++ []
+      ends [] = refl
+      ends (x ∷ l) = cons_path refl (ends l)
+
+  module _ (d : IsDelimited text) where
+    -- fewer values were read, and nothing fits behind them
+    fewer : (vs ws : List V) (parts : List (List ℕ → Type 0)) (read rest c : List ℕ) → Joins (map text vs) read → length vs < length ws → NoneIn text rest → c ≡ read ++ rest → Joins (map text ws ++ parts) c → ⊥
+    fewer vs [] parts read rest c p l none is has = omega arith
+    fewer [] (w ∷ ws) parts read rest c p l none is has = none w has.0 has.1 (ap (λ r. r ++ rest) (sym p) ∙ sym is ∙ has.4) has.2
+    fewer (v ∷ vs) (w ∷ ws) parts read rest c p l none is has =
+        let e : p.0 ++ (p.1 ++ rest) ≡ has.0 ++ has.1 = sym (append_assoc p.0 p.1 rest) ∙ ap (λ r. r ++ rest) (sym p.4) ∙ sym is ∙ has.4 in
+        let same = d.one v w p.0 (p.1 ++ rest) has.0 has.1 p.2 has.2 e in
+        let tails = same_fronts p.0 (p.1 ++ rest) has.0 has.1 (ap length same.0) e in
+        fewer vs ws parts p.1 rest has.1 p.3 (omega arith) none (sym tails.1) has.3
+
+    -- as many were read: they are the same, and the other parts follow
+    pub as_many : (vs ws : List V) (parts : List (List ℕ → Type 0)) (read rest c : List ℕ) → Joins (map text vs) read → length vs ≡ length ws → c ≡ read ++ rest → Joins (map text ws ++ parts) c → (vs ≡ ws) × Joins parts rest
+    as_many [] [] parts read rest c p l is has = let same : c ≡ rest = is ∙ ap (λ r. r ++ rest) p in (refl, rw same at has)
+    as_many [] (w ∷ ws) parts read rest c p l is has = absurd (omega arith)
+    as_many (v ∷ vs) [] parts read rest c p l is has = absurd (omega arith)
+    as_many (v ∷ vs) (w ∷ ws) parts read rest c p l is has =
+        let e : p.0 ++ (p.1 ++ rest) ≡ has.0 ++ has.1 = sym (append_assoc p.0 p.1 rest) ∙ ap (λ r. r ++ rest) (sym p.4) ∙ sym is ∙ has.4 in
+        let same = d.one v w p.0 (p.1 ++ rest) has.0 has.1 p.2 has.2 e in
+        let tails = same_fronts p.0 (p.1 ++ rest) has.0 has.1 (ap length same.0) e in
+        let more = as_many vs ws parts p.1 rest has.1 p.3 (omega arith) (sym tails.1) has.3 in
+        (cons_path same.1 more.0, more.1)
+
+    pub numbers_fail : {W : Type 0} (numbers : W → List V) (parts : W → List (List ℕ → Type 0)) {vs : List V} {before mid after : Input} {e : ErrorKind} (asks : List ℕ → Type 0)
+        → ((w : W) → length vs < length (numbers w)) → GivesAll text vs before mid → TextFails text asks e mid after
+        → (c : List ℕ) → before ≡ Some c → Refuses e (AsksWithin asks c) ((w : W) → Joins (map text (numbers w) ++ parts w) c → ⊥)
+    numbers_fail numbers parts {vs} asks l all fails c is =
+        let same : c ≡ all.read ++ all.rest = some_same c (all.read ++ all.rest) (sym is ∙ all.from) in
+        ⊎_elim
+        (λ w. let p = w.1 in inl (w.0, (all.read, p.0, p.1, same ∙ ap (λ r. all.read ++ r) p.2, p.3)))
+        (λ w. inr (w.0, λ k has. fewer vs (numbers k) (parts k) all.read all.rest c all.joined (l k) w.1 same has))
+        (fails.2 all.rest all.left)
+
+    pub numbers_same : {vs : List V} {before mid : Input} → GivesAll text vs before mid → (c : List ℕ) → before ≡ Some c
+        → (ws : List V) (parts : List (List ℕ → Type 0)) → length vs ≡ length ws → Joins (map text ws ++ parts) c → (rest : List ℕ) × (mid ≡ Some rest) × (vs ≡ ws) × Joins parts rest
+    numbers_same {vs} all c is ws parts l has =
+        let same : c ≡ all.read ++ all.rest = some_same c (all.read ++ all.rest) (sym is ∙ all.from) in
+        let s = as_many vs ws parts all.read all.rest c all.joined l same has in
+        (all.rest, all.left, s.0, s.1)
+
+    -- the contents of another prime
+    pub other_number_fails : {vs : List V} {before mid after : Input} {e : ErrorKind} (asks : List ℕ → Type 0) → length vs < 3 → GivesAll text vs before mid → TextFails text asks e mid after
+        → ContentsFail (OtherPrimeContents text) asks e before after
+    other_number_fails asks l all fails = (fails.0, λ c is. numbers_fail other_numbers (λ _. []) asks (λ _. l) all fails c is)
+
+    pub other_end_fails : {vs : List V} {before mid after : Input} {e : ErrorKind} (asks : List ℕ → Type 0) → length vs ≡ 3 → GivesAll text vs before mid → (read_from mid end_of ≡ Err e) × (after ≡ None)
+        → ContentsFail (OtherPrimeContents text) asks e before after
+    other_end_fails {vs} {before} {mid} {after} {e} asks l all fails =
+        let more = trailing_is mid all.rest e all.left fails.0 in (
+          fails.1,
+          λ c is.
+              inr (
+                λ memory. let kind = more.0 in cc,
+                λ other has.
+                    let s = numbers_same all c is (other_numbers other) [] l has in
+                    let rest : all.rest ≡ s.0 = some_same all.rest s.0 (sym all.left ∙ s.1) in
+                    omega (arith, ap length rest, ap length s.3, ap length more.3),
+              ),
+        )

@@ -1,0 +1,145 @@
+-- Reading the other primes of a private key.
+use Rattle.std.proofs.Common.{◌≡◌, ◌≢◌, ◌↔◌, ℕ, ◌<◌, List, [], ◌∷◌, ◌++◌, length, map, refl, sym, ap, ◌∙◌, arith, append-nil, length-append, inl, inr, ⊎_elim, Option, Some, None, Result, Ok, Err, Bool, true, false, IsTrue, is_some}
+use Rattle.std.proofs.lemmas.List.{length-map}
+use Rattle.std.specs.Prelude.{slice_get, not}
+use mathlib.Core.Bool.{beq}
+use Rattle.std.specs.declared.alloc.Global.{Global}
+use Rattle.std.specs.declared.vec.Vec.{Vec}
+use Rattle.der_core.specs.Tlv.{Tlv}
+use Rattle.der_core.specs.Texts.{IsDelimited}
+use Rattle.der_core.specs.TextLaws.{tlv_split, tlv_not_empty, joins_map}
+use Rattle.der_core.specs.SequenceOf.{ItemsContents}
+use Rattle.der_core.specs.declared.error.Error.{Error}
+use Rattle.der_core.specs.declared.error.ErrorKind.{ErrorKind}
+use Rattle.der_core.specs.declared.error.ErrorKind.TheVariants.{OutOfMemory}
+use Rattle.der_core.specs.Input.{Input, read_from, end_of}
+use Rattle.der_core.specs.Reading.{ReadsOptional, Refuses}
+use Rattle.der_core.proofs.Sequences.{end_gives}
+use Rattle.pkcs1.specs.declared.other_prime_info.OtherPrimeInfo as declared
+use Rattle.pkcs1.specs.declared.version.Version.{Version}
+use Rattle.pkcs1.specs.declared.version.Version.TheVariants.{TwoPrime, Multi}
+use Rattle.pkcs1.specs.Asking.{BeginsSequence}
+use Rattle.pkcs1.specs.Keys.{OtherPrime, OtherPrimeInfo, OtherPrimeInfos, version_of}
+use Rattle.pkcs1.specs.PrivateKeyLaws.{other_delimited}
+use Rattle.pkcs1.specs.PrivateKeys.{other_of, others_of, ListsNone}
+use Rattle.pkcs1.specs.Versions.{number_of}
+use Rattle.pkcs1.proofs.NumberReads.{some_same}
+
+begins : (c : List ℕ) → slice_get c 0 ≡ Some 48 → BeginsSequence c
+begins [] e = cc
+begins (x ∷ rest) e = let f : ◌≡◌ {A = Option ℕ} (Some x) (Some 48) = e in let same : x ≡ 48 = cc in (rest, ap (λ y. y ∷ rest) same)
+
+same_flags : (a b : Bool) → not (beq a b) ≡ false → a ≡ b
+same_flags true true e = refl
+same_flags false false e = refl
+same_flags true false e = cc
+same_flags false true e = cc
+
+agreed : {U V : Type 0} (value : U → V) (multi some : Bool) (v : Version) (r : Option (Vec (declared.OtherPrimeInfo U) Global)) → IsTrue multi ↔ (v ≡ Multi) → some ≡ is_some r → multi ≡ some → version_of (others_of value r) ≡ number_of v
+agreed value multi some TwoPrime None h e s = refl
+agreed value multi some Multi (Some x) h e s = refl
+agreed value multi some Multi None h e s = let t : multi ≡ true = h.1 refl in cc
+agreed value multi some TwoPrime (Some x) h e s = let t : multi ≡ true = s ∙ e in let no : TwoPrime ≡ Multi = h.0 t in cc
+
+pub agree : {U V : Type 0} (value : U → V) (multi some : Bool) (v : Version) (r : Option (Vec (declared.OtherPrimeInfo U) Global)) → IsTrue multi ↔ (v ≡ Multi) → some ≡ is_some r → not (beq multi some) ≡ false → version_of (others_of value r) ≡ number_of v
+agree value multi some v r h e s = agreed value multi some v r h e (same_flags multi some s)
+
+-- whether there is a list of no primes
+pub listed : {U : Type 0} (r : Option (Vec (declared.OtherPrimeInfo U) Global)) (none : Bool) → IsTrue none ↔ ListsNone r → none ≡ false → (v : Vec (declared.OtherPrimeInfo U) Global) → r ≡ Some v → 0 < length v.items
+listed None none h e v is = cc
+listed (Some w) none h e v is =
+    let same : w ≡ v = cc in
+    let no : length w.items ≡ 0 → ⊥ = λ z. let t : none ≡ true = h.1 z in cc in
+    rw (← same) (omega (arith, no))
+
+pub unlisted : {U : Type 0} (r : Option (Vec (declared.OtherPrimeInfo U) Global)) (none : Bool) → IsTrue none ↔ ListsNone r → none ≡ true → (v : Vec (declared.OtherPrimeInfo U) Global) × (r ≡ Some v) × (length v.items ≡ 0)
+unlisted None none h e = absurd (h.0 e)
+unlisted (Some w) none h e = (w, refl, h.0 e)
+
+module _ {U V : Type 0} (value : U → V) (text : V → List ℕ → Type 0) (d : IsDelimited text) (asks : List ℕ → Type 0) where
+  abbrev pub Found : Result (Option (Vec (declared.OtherPrimeInfo U) Global)) Error → Input → Input → Type 0
+  Found r before after = ReadsOptional 48 (λ v. map (other_of value) v.items) (λ vs. Tlv 48 (ItemsContents (OtherPrimeInfo text) vs)) asks r before after
+
+  -- Where all that is left is a text of other primes, they were read, or there are none.
+  others_only : (r : Option (Vec (declared.OtherPrimeInfo U) Global)) (before mid : Input) → Found (Ok r) before mid
+      → (c : List ℕ) → before ≡ Some c → (o : Option (List (OtherPrime V))) → OtherPrimeInfos text o c → (others_of value r ≡ o) × (mid ≡ Some [])
+  others_only None before mid f c is None has =
+      let same : f.0 ≡ c = some_same f.0 c (sym f.1 ∙ is) in
+      (refl, f.2 ∙ ap (λ l. Some l) (same ∙ has))
+  others_only None before mid f c is (Some os) has =
+      let same : f.0 ≡ c = some_same f.0 c (sym f.1 ∙ is) in
+      absurd (f.3 (ap (λ l. slice_get l 0) (same ∙ has.1.written)))
+  others_only (Some v) before mid f c is None has =
+      let same : f.0 ++ f.1 ≡ c = some_same (f.0 ++ f.1) c (sym f.2 ∙ is) in
+      absurd (omega (arith, tlv_not_empty f.0 f.4, ap length same, ap length has, length-append f.0 f.1))
+  others_only (Some v) before mid f c is (Some os) has =
+      let same : f.0 ++ f.1 ≡ c = some_same (f.0 ++ f.1) c (sym f.2 ∙ is) in
+      let s = tlv_split f.0 f.1 c [] f.4 has.1 (same ∙ sym (append-nil c)) in
+      let one : map (other_of value) v.items ≡ os = joins_map (OtherPrimeInfo text) (other_delimited d) (map (other_of value) v.items) os s.3 s.4 s.5 in
+      (ap (λ l. Some l) one, f.3 ∙ ap (λ l. Some l) s.2)
+
+  -- a fault inside the other primes
+  pub others_fail : (n : ℕ) (before after : Input) (e : Error) → Found (Err e) before after
+      → (after ≡ None) × ((c : List ℕ) → before ≡ Some c → Refuses e.kind (BeginsSequence c) ((o : Option (List (OtherPrime V))) → (version_of o ≡ n) × OtherPrimeInfos text o c → ⊥))
+  others_fail n before after e f = (
+    f.0,
+    λ c is.
+        let g = f.2 c is in
+        ⊎_elim
+        (λ w. inl (w.0, begins c g.0))
+        (λ w. inr (w.0, λ o has. none c g.0 w.1 o has.1))
+        g.1,
+  )
+    where
+      none : (c : List ℕ) → slice_get c 0 ≡ Some 48 → ((vs : List (OtherPrime V)) (b rest : List ℕ) → c ≡ b ++ rest → Tlv 48 (ItemsContents (OtherPrimeInfo text) vs) b → ⊥)
+          → (o : Option (List (OtherPrime V))) → OtherPrimeInfos text o c → ⊥
+      none c first nothing None has = let e : slice_get c 0 ≡ None = ap (λ l. slice_get l 0) has in cc
+      none c first nothing (Some os) has = nothing os c [] (sym (append-nil c)) has.1
+
+  -- a list of no primes
+  pub empty_fails : (n : ℕ) (r : Option (Vec (declared.OtherPrimeInfo U) Global)) (v : Vec (declared.OtherPrimeInfo U) Global) (before mid : Input) (k : ErrorKind)
+      → Found (Ok r) before mid → r ≡ Some v → length v.items ≡ 0 → k ≢ OutOfMemory
+      → (c : List ℕ) → before ≡ Some c → Refuses k (BeginsSequence c) ((o : Option (List (OtherPrime V))) → (version_of o ≡ n) × OtherPrimeInfos text o c → ⊥)
+  empty_fails n r v before mid k f e l other c is =
+      inr (other, λ o has. none o c (sym (others_only r before mid f c is o has.1).0 ∙ ap (others_of value) e) has.1)
+    where
+      none : (o : Option (List (OtherPrime V))) (c : List ℕ) → o ≡ Some (map (other_of value) v.items) → OtherPrimeInfos text o c → ⊥
+      none None c same has = cc
+      none (Some os) c same has =
+          let items : os ≡ map (other_of value) v.items = cc in
+          let len : length (map (other_of value) v.items) ≡ length v.items = length-map v.items (other_of value) in
+          omega (arith, has.0, ap length items, len, l)
+
+  -- bytes behind them
+  pub more_fails : (n : ℕ) (r : Option (Vec (declared.OtherPrimeInfo U) Global)) (before mid after : Input) (e : ErrorKind)
+      → Found (Ok r) before mid → (read_from mid end_of ≡ Err e) × (after ≡ None)
+      → (after ≡ None) × ((c : List ℕ) → before ≡ Some c → Refuses e (BeginsSequence c) ((o : Option (List (OtherPrime V))) → (version_of o ≡ n) × OtherPrimeInfos text o c → ⊥))
+  more_fails n r before mid after e f fails = (
+    fails.1,
+    λ c is.
+        inr (
+          kind mid e fails.0,
+          λ o has. ends mid e fails.0 (others_only r before mid f c is o has.1).1,
+        ),
+  )
+    where
+      kind : (m : Input) (k : ErrorKind) → read_from m end_of ≡ Err k → k ≢ OutOfMemory
+      kind None k h = λ memory. cc
+      kind (Some []) k h = λ memory. cc
+      kind (Some (x ∷ xs)) k h = λ memory. cc
+
+      ends : (m : Input) (k : ErrorKind) → read_from m end_of ≡ Err k → m ≡ Some [] → ⊥
+      ends m k h is = let no = rw is at h in cc
+
+  pub others_given : (r : Option (Vec (declared.OtherPrimeInfo U) Global)) (n : ℕ) (before mid after : Input) → Found (Ok r) before mid → version_of (others_of value r) ≡ n
+      → ((v : Vec (declared.OtherPrimeInfo U) Global) → r ≡ Some v → 0 < length v.items) → ((rest : List ℕ) × (read_from mid end_of ≡ Ok (tt, rest)) × (after ≡ Some rest))
+      → (c : List ℕ) × (before ≡ Some c) × (after ≡ Some []) × ((version_of (others_of value r) ≡ n) × OtherPrimeInfos text (others_of value r) c)
+  others_given None n before mid after f agrees some ended =
+      let g = end_gives mid after ended in
+      let same : f.0 ≡ g.0 = some_same f.0 g.0 (sym f.2 ∙ g.1) in
+      (f.0, f.1, g.2, (agrees, same ∙ g.3))
+  others_given (Some v) n before mid after f agrees some ended =
+      let g = end_gives mid after ended in
+      let rest : f.1 ≡ [] = some_same f.1 g.0 (sym f.3 ∙ g.1) ∙ g.3 in
+      let len : length (map (other_of value) v.items) ≡ length v.items = length-map v.items (other_of value) in
+      (f.0, f.2 ∙ ap (λ l. Some l) (ap (λ l. f.0 ++ l) rest ∙ append-nil f.0), g.2, (agrees, (omega (arith, some v refl, len), f.4)))

@@ -1,0 +1,26 @@
+use Rattle.std.proofs.lemmas.Result.{err_from_is_err_and}
+use Rattle.pkcs1.proofs.OtherReads.{agree, others_fail, empty_fails, more_fails, others_given, listed, unlisted}
+use Rattle.pkcs1.proofs.other_prime_info.read_other_primes.Goals as goal
+
+pub returns-in_err-others : goal.returns-in_err-others
+returns-in_err-others g c =
+    let p = err_from_is_err_and c.from_residual.result c.from_residual.ensures.1 in
+    rw (p.1, p.2) (others_fail g.U.Text.value g.U.Text.text g.U.Text.delimited _ _ _ _ _ c.in_err-others.ensures)
+
+pub returns-then-lists_none : goal.returns-then-lists_none
+returns-then-lists_none g c =
+    let none = unlisted _ _ c.lists_none.ensures c.if-lists_none.true in (
+      c.error-then-lists_none.ensures.failed,
+      empty_fails g.U.Text.value g.U.Text.text g.U.Text.delimited (λ _. ⊥) _ _ none.0 _ _ _ c.in_ok-others.ensures none.1 none.2 (λ memory. let kind = c.error-then-lists_none.ensures.value in cc),
+    )
+
+pub returns-in_err-finish : goal.returns-in_err-finish
+returns-in_err-finish g c =
+    let p = err_from_is_err_and c.from_residual-in_err-finish.result c.from_residual-in_err-finish.ensures.1 in
+    rw (p.1, p.2) (more_fails g.U.Text.value g.U.Text.text g.U.Text.delimited (λ _. ⊥) _ _ _ _ _ _ c.in_ok-others.ensures c.in_err-finish.ensures)
+
+pub returns : goal.returns
+returns g c =
+    others_given g.U.Text.value g.U.Text.text g.U.Text.delimited (λ _. ⊥) _ _ _ _ _ c.in_ok-others.ensures
+    (agree g.U.Text.value _ _ _ _ c.is_multi.ensures c.is_some.ensures c.if-is_multi-is_some.false)
+    (listed _ _ c.lists_none.ensures c.if-lists_none.false) c.in_ok-finish.ensures

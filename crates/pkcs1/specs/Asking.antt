@@ -1,0 +1,19 @@
+-- The contents of a private key for which memory may be asked for.
+use Rattle.std.specs.Prelude.{ℕ, List, ◌∷◌, ◌++◌, ◌≡◌, ◌⊎◌, length, map}
+use Rattle.der_core.specs.Texts.{Joins}
+use Rattle.der_core.specs.Integer.{Small}
+use Rattle.der_core.specs.Reading.{AsksWithin}
+
+-- The octet of a SEQUENCE stands first.
+abbrev pub BeginsSequence : List ℕ → Type 0
+BeginsSequence c = (rest : List ℕ) × (c ≡ 48 ∷ rest)
+
+-- It stands behind a version and eight numbers.
+abbrev pub OthersFollow : {Number : Type 0} → (Number → List ℕ → Type 0) → List ℕ → Type 0
+OthersFollow {Number} NumberText c =
+    (n : ℕ) × (numbers : List Number) × (front : List ℕ) × (rest : List ℕ)
+    × (length numbers ≡ 8) × Joins (Small n ∷ map NumberText numbers) front × BeginsSequence rest × (c ≡ front ++ rest)
+
+-- A number may ask for memory, or other primes are there.
+abbrev pub AsksForKey : {Number : Type 0} → (Number → List ℕ → Type 0) → (List ℕ → Type 0) → List ℕ → Type 0
+AsksForKey NumberText asks c = AsksWithin asks c ⊎ OthersFollow NumberText c

@@ -1,0 +1,32 @@
+-- What a private key means, by what its numbers mean.
+use Rattle.std.specs.Prelude.{List, ◌≡◌, length, Option, Some, None, map}
+use Rattle.std.specs.declared.alloc.Global.{Global}
+use Rattle.std.specs.declared.vec.Vec.{Vec}
+use Rattle.pkcs1.specs.declared.other_prime_info.OtherPrimeInfo.{OtherPrimeInfo}
+use Rattle.pkcs1.specs.declared.private_key.RsaPrivateKey.{RsaPrivateKey}
+use Rattle.pkcs1.specs.Keys.{OtherPrime, PrivateKey}
+
+abbrev pub other_of : {U V : Type 0} → (U → V) → OtherPrimeInfo U → OtherPrime V
+other_of value other = record { prime = value other.prime; exponent = value other.exponent; coefficient = value other.coefficient }
+
+abbrev pub others_of : {U V : Type 0} → (U → V) → Option (Vec (OtherPrimeInfo U) Global) → Option (List (OtherPrime V))
+others_of value None = None
+others_of value (Some v) = Some (map (other_of value) v.items)
+
+-- There is a list of no primes.
+abbrev pub ListsNone : {U : Type 0} → Option (Vec (OtherPrimeInfo U) Global) → Type 0
+ListsNone None = ⊥
+ListsNone (Some v) = length v.items ≡ 0
+
+abbrev pub private_of : {U V : Type 0} → (U → V) → RsaPrivateKey U → PrivateKey V
+private_of value key = record {
+  modulus = value key.modulus;
+  public_exponent = value key.public_exponent;
+  private_exponent = value key.private_exponent;
+  prime1 = value key.prime1;
+  prime2 = value key.prime2;
+  exponent1 = value key.exponent1;
+  exponent2 = value key.exponent2;
+  coefficient = value key.coefficient;
+  other_prime_infos = others_of value key.other_prime_infos;
+}

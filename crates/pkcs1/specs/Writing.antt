@@ -1,0 +1,51 @@
+-- RSA keys as they are written: which ones have contents, and the contents.
+use Rattle.std.specs.Prelude.{ℕ, List, [], ◌∷◌, ◌++◌, ◌<◌, length, Option, Some, None}
+use Rattle.der_core.specs.Tlv.{tlv}
+use Rattle.der_core.specs.Integer.{integer_contents}
+use Rattle.der_core.specs.SequenceOf.{AllHave, all_texts}
+use Rattle.pkcs1.specs.Keys.{PublicKey, OtherPrime, PrivateKey, version_of}
+
+abbrev pub HasPublicKey : {Number : Type 0} → (Number → Type 0) → PublicKey Number → Type 0
+HasPublicKey has key = has key.modulus × has key.public_exponent
+
+abbrev pub written_public_key : {Number : Type 0} → (Number → List ℕ) → PublicKey Number → List ℕ
+written_public_key text key = text key.modulus ++ text key.public_exponent
+
+-- The numbers of a value, in order.
+abbrev pub other_numbers : {Number : Type 0} → OtherPrime Number → List Number
+other_numbers other = other.prime ∷ other.exponent ∷ other.coefficient ∷ []
+
+abbrev pub key_numbers : {Number : Type 0} → PrivateKey Number → List Number
+key_numbers key =
+    key.modulus
+    ∷ key.public_exponent
+    ∷ key.private_exponent
+    ∷ key.prime1
+    ∷ key.prime2
+    ∷ key.exponent1
+    ∷ key.exponent2
+    ∷ key.coefficient
+    ∷ []
+
+-- Which values have a text, and what is written of them.
+module _ {Number : Type 0} (has : Number → Type 0) where
+  abbrev pub HasOther : OtherPrime Number → Type 0
+  HasOther other = AllHave has (other_numbers other)
+
+  abbrev pub HasOthers : Option (List (OtherPrime Number)) → Type 0
+  HasOthers None = Unit {0}
+  HasOthers (Some others) = (0 < length others) × AllHave HasOther others
+
+  abbrev pub HasPrivateKey : PrivateKey Number → Type 0
+  HasPrivateKey key = (version_of key.other_prime_infos < 2) × (AllHave has (key_numbers key) × HasOthers key.other_prime_infos)
+
+module _ {Number : Type 0} (text : Number → List ℕ) where
+  abbrev pub written_other : OtherPrime Number → List ℕ
+  written_other other = all_texts text (other_numbers other)
+
+  abbrev pub written_others : Option (List (OtherPrime Number)) → List ℕ
+  written_others None = []
+  written_others (Some others) = tlv 48 (all_texts (λ other. tlv 48 (written_other other)) others)
+
+  abbrev pub written_private_key : PrivateKey Number → List ℕ
+  written_private_key key = tlv 2 (integer_contents (version_of key.other_prime_infos ∷ [])) ++ (all_texts text (key_numbers key) ++ written_others key.other_prime_infos)

@@ -1,0 +1,168 @@
+//! Other primes of private keys.
+ghost use Rattle.std.specs.Prelude.{◌≡◌, ◌≤◌, ◌+◌, ◌++◌, length, List, ℕ, ◌↔◌, IsTrue, OnOk, IfErr, refl};
+ghost use Rattle.der_core.specs.Length.{limit};
+ghost use Rattle.der_core.specs.Reading.{ReadsContents, AsksWithin};
+ghost use Rattle.der_core.specs.BackWriters.{free_of, Prepends};
+ghost use Rattle.der_core.specs.Writing.{Counts, Stops, fault};
+ghost use Rattle.pkcs1.specs.Asking.{BeginsSequence};
+ghost use Rattle.pkcs1.specs.Keys as grammar;
+ghost use Rattle.pkcs1.specs.Keys.{OtherPrime, OtherPrimeContents, version_of};
+ghost use Rattle.pkcs1.specs.Writing.{HasOther, HasOthers, written_other, written_others};
+ghost use Rattle.pkcs1.specs.PrivateKeyLaws.{other_means_one, other_of_bytes, other_relates, other_shortest};
+ghost use Rattle.pkcs1.specs.PrivateKeys.{others_of, ListsNone};
+ghost use Rattle.pkcs1.specs.Versions.{number_of};
+
+use crate::numbers::{encode_numbers, numbers_len, prepend_numbers};
+use crate::version::Version;
+use der_core::{
+    BackWriter, Contents, Decode, DecodeValue, Encode, EncodeValue, ErrorKind, Header, Kinded,
+    Length, Memory, Reader, Result, Sequence, SequenceTag, Tag, Text, Writer, decode_optional,
+};
+use std::alloc::Global;
+
+/// A prime of a private key past the first two.
+#[derive(Clone, Drop)]
+pub struct OtherPrimeInfo<U> {
+    pub prime: U,
+    pub exponent: U,
+    pub coefficient: U,
+}
+
+/// The primes of a private key past the first two.
+pub type OtherPrimeInfos<U> = Vec<OtherPrimeInfo<U>>;
+
+impl<U: Text> Contents for OtherPrimeInfo<U> {
+    ghost Value = { OtherPrime U.Value };
+
+    ghost value = { λ other. record { prime = U.value other.prime; exponent = U.value other.exponent; coefficient = U.value other.coefficient } };
+
+    ghost contents = { OtherPrimeContents U.text };
+
+    ghost has_contents = { HasOther U.has_text };
+
+    ghost written_contents = { written_other U.written_text };
+
+    ghost means_one = { other_means_one U.delimited };
+
+    ghost contents_of_bytes = { other_of_bytes U.text U.text_of_bytes };
+}
+
+impl<U> Kinded for OtherPrimeInfo<U> {
+    type Kind = SequenceTag;
+}
+
+impl<'a, U> Sequence<'a> for OtherPrimeInfo<U> {
+    ghost is_sequence = { refl };
+}
+
+impl<'a, M: Memory, U: Decode<&'a [u8], M>> DecodeValue<&'a [u8], M> for OtherPrimeInfo<U> {
+    ghost asks = { AsksWithin U.Decode.asks };
+
+    fn decode_value<R: Reader<&'a [u8]>>(
+        memory: M,
+        reader: &mut R,
+        _header: Header,
+    ) -> Result<OtherPrimeInfo<U>> {
+        let prime = U::decode(memory, reader)?;
+        let exponent = U::decode(memory, reader)?;
+        let coefficient = U::decode(memory, reader)?;
+        reader.finish()?;
+        Ok(OtherPrimeInfo {
+            prime,
+            exponent,
+            coefficient,
+        })
+    }
+}
+
+impl<U: Encode> EncodeValue for OtherPrimeInfo<U> {
+    fn value_len(&self) -> Result<Length> {
+        numbers_len(&[&self.prime, &self.exponent, &self.coefficient])
+    }
+
+    fn encode_value<W: Writer>(&self, writer: &mut W) -> Result<()> {
+        self.value_len()?;
+        encode_numbers(&[&self.prime, &self.exponent, &self.coefficient], writer)
+    }
+
+    fn prepend_value(&self, writer: &mut BackWriter<'_>) {
+        prepend_numbers(&[&self.prime, &self.exponent, &self.coefficient], writer);
+    }
+
+    ghost contents_relate = { other_relates U.text U.has_text U.written_text U.text_relates };
+
+    ghost contents_shortest = { other_shortest U.text U.has_text U.written_text U.text_shortest };
+}
+
+/// Whether there is a list of no primes.
+pub(crate) fn lists_none<U>(others: &Option<OtherPrimeInfos<U>>) -> bool
+    ensures { IsTrue result ↔ ListsNone others.now }
+{
+    match others {
+        Some(infos) => infos.is_empty(),
+        None => false,
+    }
+}
+
+/// Reads the other primes, which are all that is left and agree with the version.
+pub(crate) fn read_other_primes<'a, U: Decode<&'a [u8], Global>, R: Reader<&'a [u8]>>(
+    memory: Global,
+    reader: &mut R,
+    version: Version,
+) -> Result<Option<OtherPrimeInfos<U>>>
+    ensures { ReadsContents (others_of U.value) (λ others c. (version_of others ≡ number_of version) × grammar.OtherPrimeInfos U.text others c) BeginsSequence result (R.left reader.old) (R.left reader.new) }
+{
+    let others: Option<OtherPrimeInfos<U>> = decode_optional(memory, reader)?;
+    if version.is_multi() != others.is_some() {
+        return Err(reader.error(ErrorKind::Value { tag: Tag::INTEGER }));
+    }
+    if lists_none(&others) {
+        return Err(reader.error(ErrorKind::Value { tag: Tag::SEQUENCE }));
+    }
+    reader.finish()?;
+    Ok(others)
+}
+
+/// How many octets the text of the other primes has.
+pub(crate) fn other_primes_len<U: Encode>(others: &Option<OtherPrimeInfos<U>>) -> Result<Length>
+    requires { ¬ (ListsNone others.now) }
+    ensures { Counts (HasOthers U.has_text (others_of U.value others.now)) (written_others U.written_text (others_of U.value others.now)) result }
+{
+    match others {
+        None => Ok(Length::ZERO),
+        Some(infos) => infos.encoded_len(),
+    }
+}
+
+/// Appends the text of the other primes.
+pub(crate) fn encode_other_primes<U: Encode, W: Writer>(
+    others: &Option<OtherPrimeInfos<U>>,
+    writer: &mut W,
+) -> Result<()>
+    requires has { HasOthers U.has_text (others_of U.value others.now) }
+    requires fits { length (written_others U.written_text (others_of U.value others.now)) ≤ limit }
+    ensures written { OnOk result (W.written writer.new ≡ W.written writer.old ++ written_others U.written_text (others_of U.value others.now)) }
+    ensures room { OnOk result (W.room writer.new + length (written_others U.written_text (others_of U.value others.now)) ≡ W.room writer.old) }
+    ensures left { IfErr result (λ e. Stops (HasOthers U.has_text (others_of U.value others.now)) (written_others U.written_text (others_of U.value others.now)) (W.room writer.old) (W.written writer.old) (W.written writer.new) (fault e.kind)) }
+    ensures kept { W.keeps writer.old writer.new }
+{
+    match others {
+        None => Ok(()),
+        Some(infos) => infos.encode(writer),
+    }
+}
+
+/// Puts the text of the other primes before what is filled.
+pub(crate) fn prepend_other_primes<U: Encode>(
+    others: &Option<OtherPrimeInfos<U>>,
+    writer: &mut BackWriter<'_>,
+)
+    requires has { HasOthers U.has_text (others_of U.value others.now) }
+    requires fits { length (written_others U.written_text (others_of U.value others.now)) ≤ limit }
+    requires room { length (written_others U.written_text (others_of U.value others.now)) ≤ free_of writer.old }
+    ensures { Prepends (written_others U.written_text (others_of U.value others.now)) writer.old writer.new }
+{
+    if let Some(infos) = others {
+        infos.prepend(writer);
+    }
+}

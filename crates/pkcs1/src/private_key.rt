@@ -1,0 +1,189 @@
+//! RSA private keys.
+ghost use Rattle.std.specs.Prelude.{◌≡◌, ◌↔◌, ◌≤◌, ◌+◌, ◌++◌, length, List, ℕ, map, IsSome, IsErrAnd, OnOk, IfErr, refl};
+ghost use Rattle.der_core.specs.Length.{limit};
+ghost use Rattle.der_core.specs.Tags.{sequence};
+ghost use Rattle.der_core.specs.Writing.{Counts, Stops, fault};
+ghost use Rattle.pkcs1.specs.Asking.{AsksForKey};
+ghost use Rattle.pkcs1.specs.Keys.{PrivateKey, PrivateKeyContents};
+ghost use Rattle.pkcs1.specs.Writing.{HasPrivateKey, written_private_key, key_numbers};
+ghost use Rattle.pkcs1.specs.PrivateKeyLaws.{private_means_one, private_of_bytes, private_relates, private_shortest};
+ghost use Rattle.pkcs1.specs.PublicKeys.{key_of};
+ghost use Rattle.pkcs1.specs.PrivateKeys.{private_of, ListsNone};
+
+use crate::numbers::{encode_numbers, numbers_len, prepend_numbers};
+use crate::other_prime_info::{
+    OtherPrimeInfos, encode_other_primes, lists_none, other_primes_len, prepend_other_primes,
+    read_other_primes,
+};
+use crate::public_key::{RsaPublicKey, RsaPublicKeyRef};
+use crate::version::Version;
+use der_core::{
+    AsUintRef, BackWriter, Contents, Decode, DecodeValue, Encode, EncodeValue, Error, ErrorKind,
+    Header, Kinded, Length, Reader, Result, Sequence, SequenceTag, Tag, Text, UintRef, Writer,
+    joined_len,
+};
+use std::alloc::Global;
+
+/// An RSA private key.
+#[derive(Drop)]
+pub struct RsaPrivateKey<U> {
+    pub modulus: U,
+    pub public_exponent: U,
+    pub private_exponent: U,
+    pub prime1: U,
+    pub prime2: U,
+    pub exponent1: U,
+    pub exponent2: U,
+    pub coefficient: U,
+    /// The primes past the first two.
+    pub other_prime_infos: Option<OtherPrimeInfos<U>>,
+}
+
+pub type RsaPrivateKeyRef<'a> = RsaPrivateKey<UintRef<'a>>;
+
+impl<U> RsaPrivateKey<U> {
+    /// The version: whether there are other primes.
+    pub fn version(&self) -> Version
+        ensures { (result ≡ Version.Multi) ↔ IsSome self.now.other_prime_infos }
+    {
+        if self.other_prime_infos.is_some() {
+            Version::Multi
+        } else {
+            Version::TwoPrime
+        }
+    }
+}
+
+impl<U: AsUintRef> RsaPrivateKey<U> {
+    /// The public key.
+    pub fn public_key(&self) -> RsaPublicKeyRef<'_>
+        ensures { key_of result ≡ record { modulus = U.number self.now.modulus; public_exponent = U.number self.now.public_exponent } }
+    {
+        RsaPublicKey {
+            modulus: self.modulus.as_uint_ref(),
+            public_exponent: self.public_exponent.as_uint_ref(),
+        }
+    }
+}
+
+impl<U: Text> RsaPrivateKey<U> {
+    /// The eight numbers, in the order of the text.
+    fn numbers(&self) -> [&U; 8]
+        ensures { map (λ n. U.value n.now) result ≡ key_numbers (private_of U.value self.now) }
+    {
+        [
+            &self.modulus,
+            &self.public_exponent,
+            &self.private_exponent,
+            &self.prime1,
+            &self.prime2,
+            &self.exponent1,
+            &self.exponent2,
+            &self.coefficient,
+        ]
+    }
+}
+
+impl<'a, U: AsUintRef> From<&'a RsaPrivateKey<U>> for RsaPublicKey<UintRef<'a>> {
+    ghost from_gives = { λ key public. key_of public ≡ record { modulus = U.number key.now.modulus; public_exponent = U.number key.now.public_exponent } };
+
+    fn from(key: &'a RsaPrivateKey<U>) -> RsaPublicKey<UintRef<'a>> {
+        key.public_key()
+    }
+}
+
+impl<U: Text> Contents for RsaPrivateKey<U> {
+    ghost Value = { PrivateKey U.Value };
+
+    ghost value = { private_of U.value };
+
+    ghost contents = { PrivateKeyContents U.text };
+
+    ghost has_contents = { HasPrivateKey U.has_text };
+
+    ghost written_contents = { written_private_key U.written_text };
+
+    ghost means_one = { private_means_one U.delimited };
+
+    ghost contents_of_bytes = { private_of_bytes U.text U.text_of_bytes };
+}
+
+impl<U> Kinded for RsaPrivateKey<U> {
+    type Kind = SequenceTag;
+}
+
+impl<'a, U> Sequence<'a> for RsaPrivateKey<U> {
+    ghost is_sequence = { refl };
+}
+
+impl<'a, U: Decode<&'a [u8], Global>> DecodeValue<&'a [u8], Global> for RsaPrivateKey<U> {
+    ghost asks = { AsksForKey U.text U.Decode.asks };
+
+    fn decode_value<R: Reader<&'a [u8]>>(
+        memory: Global,
+        reader: &mut R,
+        _header: Header,
+    ) -> Result<RsaPrivateKey<U>> {
+        let version = Version::decode(memory, reader)?;
+        let modulus = U::decode(memory, reader)?;
+        let public_exponent = U::decode(memory, reader)?;
+        let private_exponent = U::decode(memory, reader)?;
+        let prime1 = U::decode(memory, reader)?;
+        let prime2 = U::decode(memory, reader)?;
+        let exponent1 = U::decode(memory, reader)?;
+        let exponent2 = U::decode(memory, reader)?;
+        let coefficient = U::decode(memory, reader)?;
+        let other_prime_infos = read_other_primes(memory, reader, version)?;
+        Ok(RsaPrivateKey {
+            modulus,
+            public_exponent,
+            private_exponent,
+            prime1,
+            prime2,
+            exponent1,
+            exponent2,
+            coefficient,
+            other_prime_infos,
+        })
+    }
+}
+
+impl<U: Encode> EncodeValue for RsaPrivateKey<U> {
+    fn value_len(&self) -> Result<Length>
+        ensures counts { Counts (HasPrivateKey U.has_text (private_of U.value self.now)) (written_private_key U.written_text (private_of U.value self.now)) result }
+        ensures no_primes { ListsNone self.now.other_prime_infos → IsErrAnd result (λ e. e.kind ≡ ErrorKind.Value sequence) }
+    {
+        if lists_none(&self.other_prime_infos) {
+            return Err(Error::new(ErrorKind::Value { tag: Tag::SEQUENCE }));
+        }
+        let others = other_primes_len(&self.other_prime_infos);
+        joined_len(
+            self.version().encoded_len(),
+            joined_len(numbers_len(&self.numbers()), others),
+        )
+    }
+
+    fn encode_value<W: Writer>(&self, writer: &mut W) -> Result<()>
+        ensures has { OnOk result (HasPrivateKey U.has_text (private_of U.value self.now) × (length (written_private_key U.written_text (private_of U.value self.now)) ≤ limit)) }
+        ensures written { OnOk result (W.written writer.new ≡ W.written writer.old ++ written_private_key U.written_text (private_of U.value self.now)) }
+        ensures room { OnOk result (W.room writer.new + length (written_private_key U.written_text (private_of U.value self.now)) ≡ W.room writer.old) }
+        ensures left { IfErr result (λ e. Stops (HasPrivateKey U.has_text (private_of U.value self.now)) (written_private_key U.written_text (private_of U.value self.now)) (W.room writer.old) (W.written writer.old) (W.written writer.new) (fault e.kind)) }
+        ensures kept { W.keeps writer.old writer.new }
+        ensures no_primes { ListsNone self.now.other_prime_infos → IsErrAnd result (λ e. e.kind ≡ ErrorKind.Value sequence) }
+    {
+        self.value_len()?;
+        self.version().encode(writer)?;
+        encode_numbers(&self.numbers(), writer)?;
+        encode_other_primes(&self.other_prime_infos, writer)
+    }
+
+    fn prepend_value(&self, writer: &mut BackWriter<'_>) {
+        prepend_other_primes(&self.other_prime_infos, writer);
+        prepend_numbers(&self.numbers(), writer);
+        self.version().prepend(writer);
+    }
+
+    ghost contents_relate = { private_relates U.text U.has_text U.written_text U.text_relates };
+
+    ghost contents_shortest = { private_shortest U.text U.has_text U.written_text U.text_shortest };
+}

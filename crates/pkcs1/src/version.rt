@@ -1,0 +1,115 @@
+//! Versions of private keys.
+ghost use Rattle.std.specs.Prelude.{◌≡◌, ◌<◌, ◌↔◌, ℕ, List, ◌∷◌, [], IsTrue, Some};
+ghost use Rattle.der_core.specs.Integer.{integer_contents};
+ghost use Rattle.der_core.specs.IntegerReading.{Answers};
+ghost use Rattle.der_core.specs.Reading.{ReadsContents, HoldsBytes};
+ghost use Rattle.pkcs1.specs.Versions.{number_of, IsVersionOf, VersionContents, version_at};
+ghost use Rattle.pkcs1.specs.VersionLaws.{version_means_one, version_of_bytes, version_relates, version_shortest};
+
+use crate::error::Error;
+use der_core::{
+    BackWriter, Contents, DecodeValue, EncodeValue, ErrorKind, Header, IntegerTag, Kinded, Length,
+    Memory, Reader, Result, Tag, Writer,
+};
+
+/// The version of a private key: whether it has other primes.
+#[derive(Clone, Copy, Debug, PartialEq, Eq, PartialOrd, Ord, Drop)]
+pub enum Version {
+    /// Two primes.
+    TwoPrime = 0,
+    /// More than two primes.
+    Multi = 1,
+}
+
+impl Version {
+    /// Whether there are more than two primes.
+    pub fn is_multi(self) -> bool
+        ensures { IsTrue result ↔ (self ≡ Version.Multi) }
+    {
+        matches!(self, Version::Multi)
+    }
+}
+
+impl From<Version> for u8 {
+    ghost from_gives = { λ version n. n ≡ number_of version };
+
+    fn from(version: Version) -> u8
+        ensures { result ≡ number_of version }
+    {
+        version as u8
+    }
+}
+
+impl TryFrom<u8> for Version {
+    type Error = Error;
+
+    ghost try_from_gives = { IsVersionOf };
+
+    fn try_from(number: u8) -> std::result::Result<Version, Error>
+        ensures { IsVersionOf number result }
+    {
+        match number {
+            0 => Ok(Version::TwoPrime),
+            1 => Ok(Version::Multi),
+            _ => Err(Error::Version),
+        }
+    }
+}
+
+impl Contents for Version {
+    ghost Value = { ℕ };
+
+    ghost value = { number_of };
+
+    ghost contents = { VersionContents };
+
+    ghost has_contents = { λ n. n < 2 };
+
+    ghost written_contents = { λ n. integer_contents (n ∷ []) };
+
+    ghost means_one = { version_means_one };
+
+    ghost contents_of_bytes = { version_of_bytes };
+}
+
+impl Kinded for Version {
+    type Kind = IntegerTag;
+}
+
+impl<'a, M: Memory> DecodeValue<&'a [u8], M> for Version {
+    ghost asks = { λ _. ⊥ };
+
+    fn decode_value<R: Reader<&'a [u8]>>(
+        memory: M,
+        reader: &mut R,
+        header: Header,
+    ) -> Result<Version>
+        requires { HoldsBytes (R.left reader.old) header.length }
+        ensures reads { ReadsContents number_of VersionContents (λ _. ⊥) result (R.left reader.old) (R.left reader.new) }
+        ensures exact { (c : List ℕ) → R.left reader.old ≡ Some c → Answers number_of result (version_at c) }
+    {
+        let number = u8::decode_value(memory, reader, header)?;
+        match Version::try_from(number) {
+            Ok(version) => Ok(version),
+            Err(_) => Err(reader.error(ErrorKind::Value { tag: Tag::INTEGER })),
+        }
+    }
+}
+
+impl EncodeValue for Version {
+    fn value_len(&self) -> Result<Length> {
+        u8::from(*self).value_len()
+    }
+
+    fn encode_value<W: Writer>(&self, writer: &mut W) -> Result<()> {
+        u8::from(*self).encode_value(writer)
+    }
+
+    fn prepend_value(&self, writer: &mut BackWriter<'_>) {
+        u8::from(*self).prepend_value(writer);
+    }
+
+    ghost contents_relate = { λ n has fits. version_relates n has };
+
+    ghost contents_shortest = { version_shortest };
+}
