@@ -1,4 +1,4 @@
--- Why a value isn't written, and that its text is alone.
+-- Why a value isn't written.
 use Rattle.std.proofs.Common.{ℕ, List, ◌≡◌, ◌≤◌, ◌<◌, ◌^◌, length, arith, ap, inl, inr}
 use Rattle.std.proofs.lemmas.Bool.{cases_lt}
 use Rattle.std.specs.Prelude.{Result, Ok, Err, IfOk, IfErr}
@@ -10,17 +10,12 @@ use Rattle.der_core.specs.Writing.{IsLeast, IsUncounted, Counts, Stops, fault}
 use Rattle.der_core.specs.declared.error.Error.{Error}
 
 module _ {V : Type 0} (Grammar : V → List ℕ → Type 0) (v : V) where
-  refused_as : (has : Type 0) (room : ℕ) → HasText Grammar v → (k : Fault) → IsRefused has Grammar v room k → IsRefused (HasText Grammar v) Grammar v room k
+  -- the same of a value that has a text
+  pub refused_as : (has : Type 0) (room : ℕ) → HasText Grammar v → (k : Fault) → IsRefused has Grammar v room k → IsRefused (HasText Grammar v) Grammar v room k
   refused_as has room some no_text h = h
   refused_as has room some too_long h = (some, h.1)
   refused_as has room some no_room h = h
   refused_as has room some another h = h
-
-  -- the same of a value that has a text
-  pub refused_with_text : {A : Type 0} (has : Type 0) (room : ℕ) → HasText Grammar v → (r : Result A Error) → IfErr r (λ e. IsRefused has Grammar v room (fault e.kind))
-      → IfErr r (λ e. IsRefused (HasText Grammar v) Grammar v room (fault e.kind))
-  refused_with_text has room some (Ok x) h = tt
-  refused_with_text has room some (Err e) h = refused_as has room some (fault e.kind) h
 
   -- a value with a text is written where there is room for that text
   pub never_refused : (some : Type 0) (text : List ℕ) (room : ℕ) (k : Fault) → Means Grammar text v → length text ≤ room → IsRefused some Grammar v room k → ⊥
@@ -31,16 +26,6 @@ module _ {V : Type 0} (Grammar : V → List ℕ → Type 0) (v : V) where
     | inr longer ↦ absurd (omega (arith, refused.2, fits, longer))
   ]
   never_refused some text room another means fits refused = refused
-
-  -- a shortest text is alone where there is at most one
-  pub alone_if : {S E : Type 0} (now : S → List ℕ) → AtMostOne (Grammar v) → (r : Result S E) → IfOk r (λ s. IsShortest Grammar v (now s)) → IfOk r (λ s. IsAlone Grammar v (now s))
-  alone_if now one (Ok s) h = λ other p. one other (now s) p.1 h.spells.1
-  alone_if now one (Err e) h = tt
-
-  -- a text means no other value
-  pub one_if : {S E : Type 0} (now : S → List ℕ) → IsDelimited Grammar → (r : Result S E) → IfOk r (λ s. IsShortest Grammar v (now s)) → IfOk r (λ s. (other : V) → Grammar other (now s) → other ≡ v)
-  one_if now d (Ok s) h = λ other p. means_one d other v (now s) p h.spells.1
-  one_if now d (Err e) h = tt
 
 -- What is said of the text that is written, said of the grammar.
 module _ {V : Type 0} (Grammar : V → List ℕ → Type 0) (v : V) {has : Type 0} (written : List ℕ) (least : (b : List ℕ) → Grammar v b → IsLeast has written b) where

@@ -8,9 +8,10 @@ use Rattle.der_core.specs.TextLaws.{tlv_split}
 use Rattle.der_core.specs.Document.{Means}
 use Rattle.der_core.specs.Integer.{Integer}
 use Rattle.der_core.specs.IntegerLaws.{integer_delimited, small_delimited}
-use Rattle.der_core.specs.Reading.{AskedIn, AsksWithin, ReadsAll}
+use Rattle.der_core.specs.Reading.{AskedIn, AsksWithin, ReadsAll, Refuses}
 use Rattle.der_core.specs.declared.error.Error.{Error}
-use Rattle.pkcs1.specs.Asking.{BeginsSequence, OthersFollow, AsksForKey}
+use Rattle.der_core.specs.declared.error.ErrorKind.{ErrorKind}
+use Rattle.pkcs1.specs.Asking.{BeginsSequence, OthersFollow, AsksForKey, MayAsk}
 use Rattle.pkcs1.specs.Keys.{OtherPrime, OtherPrimeInfos, version_of, PrivateKey, PrivateKeyContents, RsaPrivateKey}
 use Rattle.pkcs1.specs.Writing.{key_numbers}
 use Rattle.pkcs1.proofs.NumberReads.{as_many}
@@ -48,9 +49,20 @@ module _ {V : Type 0} {text : V → List ℕ → Type 0} (d : IsDelimited text) 
 borrowed_ask : (c : List ℕ) → AsksWithin (Tlv 2 (λ _. ⊥)) c → ⊥
 borrowed_ask c w = w.4.holds
 
--- So each text of two primes is read by the borrowed key.
-pub two_primes_read : {X : Type 0} (value : X → PrivateKey (List ℕ)) (key : PrivateKey (List ℕ)) (whole : List ℕ) (r : Result X Error) → key.other_prime_infos ≡ None → Means RsaPrivateKey whole key
-    → ReadsAll value RsaPrivateKey (Tlv 48 (AsksForKey Integer (Tlv 2 (λ _. ⊥)))) r whole → IsOk r
-two_primes_read value key whole (Ok x) two means reads = refl
-two_primes_read value key whole (Err e) two means (inl w) = absurd (two_primes_ask integer_delimited key two (Tlv 2 (λ _. ⊥)) borrowed_ask whole means.1 w.1)
-two_primes_read value key whole (Err e) two means (inr w) = absurd (w.1 key means)
+-- So a text of two primes isn't refused by the borrowed key.
+pub two_primes_refused : (key : PrivateKey (List ℕ)) (whole : List ℕ) (kind : ErrorKind) → key.other_prime_infos ≡ None → Means RsaPrivateKey whole key
+    → Refuses kind (AskedIn (Tlv 48 (AsksForKey Integer (Tlv 2 (λ _. ⊥)))) whole) ((v : PrivateKey (List ℕ)) → Means RsaPrivateKey whole v → ⊥) → ⊥
+two_primes_refused key whole kind two means (inl w) = two_primes_ask integer_delimited key two (Tlv 2 (λ _. ⊥)) borrowed_ask whole means.1 w.1
+two_primes_refused key whole kind two means (inr w) = w.1 key means
+
+-- A borrowed key asks for memory only where other primes follow.
+pub may_ask : (text : List ℕ) → AskedIn (Tlv 48 (AsksForKey Integer (Tlv 2 (λ _. ⊥)))) text → MayAsk text
+may_ask text (b, rest, e, p) = (b, rest, e, record { octets = p.octets; contents = p.contents; counted = p.counted; holds = follow p.holds; written = p.written })
+  where
+    follow : {c : List ℕ} → AsksForKey Integer (Tlv 2 (λ _. ⊥)) c → OthersFollow Integer c
+    follow {c} (inl w) = absurd (borrowed_ask c w)
+    follow (inr w) = w
+
+pub refuses_as : (kind : ErrorKind) (text : List ℕ) {none : Type 0} → Refuses kind (AskedIn (Tlv 48 (AsksForKey Integer (Tlv 2 (λ _. ⊥)))) text) none → Refuses kind (MayAsk text) none
+refuses_as kind text (inl w) = inl (w.0, may_ask text w.1)
+refuses_as kind text (inr w) = inr w

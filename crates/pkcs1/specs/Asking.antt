@@ -1,8 +1,9 @@
 -- The contents of a private key for which memory may be asked for.
 use Rattle.std.specs.Prelude.{ℕ, List, ◌∷◌, ◌++◌, ◌≡◌, ◌⊎◌, length, map}
 use Rattle.der_core.specs.Texts.{Joins}
-use Rattle.der_core.specs.Integer.{Small}
-use Rattle.der_core.specs.Reading.{AsksWithin}
+use Rattle.der_core.specs.Integer.{Small, Integer}
+use Rattle.der_core.specs.Tlv.{Tlv}
+use Rattle.der_core.specs.Reading.{AskedIn, AsksWithin}
 
 -- The octet of a SEQUENCE stands first.
 abbrev pub BeginsSequence : List ℕ → Type 0
@@ -17,3 +18,7 @@ OthersFollow {Number} NumberText c =
 -- A number may ask for memory, or other primes are there.
 abbrev pub AsksForKey : {Number : Type 0} → (Number → List ℕ → Type 0) → (List ℕ → Type 0) → List ℕ → Type 0
 AsksForKey NumberText asks c = AsksWithin asks c ⊎ OthersFollow NumberText c
+
+-- The octet of a SEQUENCE stands behind the eighth number of a private key at the front of the text.
+abbrev pub MayAsk : List ℕ → Type 0
+MayAsk text = AskedIn (Tlv 48 (OthersFollow Integer)) text

@@ -7,3 +7,5 @@ pub mod PrivateKeys
 pub mod PublicKeyLaws
 pub mod PrivateKeyLaws
 pub mod VersionLaws
+pub mod ErrorText
+pub mod Refusals

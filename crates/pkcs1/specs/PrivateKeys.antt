@@ -1,5 +1,7 @@
 -- What a private key means, by what its numbers mean.
-use Rattle.std.specs.Prelude.{List, ◌≡◌, length, Option, Some, None, map}
+use Rattle.der_core.specs.declared.integer.uint.UintRef.{UintRef}
+use Rattle.der_core.specs.UintRefs.{bytes_of}
+use Rattle.std.specs.Prelude.{ℕ, List, ◌≡◌, length, Option, Some, None, map}
 use Rattle.std.specs.declared.alloc.Global.{Global}
 use Rattle.std.specs.declared.vec.Vec.{Vec}
 use Rattle.pkcs1.specs.declared.other_prime_info.OtherPrimeInfo.{OtherPrimeInfo}
@@ -30,3 +32,7 @@ private_of value key = record {
   coefficient = value key.coefficient;
   other_prime_infos = others_of value key.other_prime_infos;
 }
+
+-- What a borrowed private key means.
+abbrev pub private_key_of : RsaPrivateKey UintRef → PrivateKey (List ℕ)
+private_key_of key = private_of bytes_of key

@@ -10,6 +10,7 @@ ghost use Rattle.pkcs1.specs.PrivateKeyLaws.{private_means_one, private_of_bytes
 ghost use Rattle.pkcs1.specs.PublicKeys.{key_of};
 ghost use Rattle.pkcs1.specs.PrivateKeys.{private_of, ListsNone};
 
+use crate::error::Error;
 use crate::numbers::{encode_numbers, numbers_len, prepend_numbers};
 use crate::other_prime_info::{
     OtherPrimeInfos, encode_other_primes, lists_none, other_primes_len, prepend_other_primes,
@@ -18,13 +19,14 @@ use crate::other_prime_info::{
 use crate::public_key::{RsaPublicKey, RsaPublicKeyRef};
 use crate::version::Version;
 use der_core::{
-    AsUintRef, BackWriter, Contents, Decode, DecodeValue, Encode, EncodeValue, Error, ErrorKind,
-    Header, Kinded, Length, Reader, Result, Sequence, SequenceTag, Tag, Text, UintRef, Writer,
-    joined_len,
+    AsUintRef, BackWriter, Contents, Decode, DecodeValue, Encode, EncodeValue, ErrorKind, Header,
+    Kinded, Length, Reader, Result, Sequence, SequenceTag, Tag, Text, UintRef, Writer, joined_len,
 };
 use std::alloc::Global;
+use std::fmt;
 
-/// An RSA private key.
+/// An RSA private key (RFC 8017 A.1.2). No relation of its numbers is checked. Its version isn't stored: it is `Multi`
+/// exactly where there are other primes. A list of no primes has no text: writing it is refused by `Value` of SEQUENCE.
 #[derive(Drop)]
 pub struct RsaPrivateKey<U> {
     pub modulus: U,
@@ -39,6 +41,7 @@ pub struct RsaPrivateKey<U> {
     pub other_prime_infos: Option<OtherPrimeInfos<U>>,
 }
 
+/// A private key that borrows its numbers.
 pub type RsaPrivateKeyRef<'a> = RsaPrivateKey<UintRef<'a>>;
 
 impl<U> RsaPrivateKey<U> {
@@ -154,7 +157,7 @@ impl<U: Encode> EncodeValue for RsaPrivateKey<U> {
         ensures no_primes { ListsNone self.now.other_prime_infos → IsErrAnd result (λ e. e.kind ≡ ErrorKind.Value sequence) }
     {
         if lists_none(&self.other_prime_infos) {
-            return Err(Error::new(ErrorKind::Value { tag: Tag::SEQUENCE }));
+            return Err(der_core::Error::new(ErrorKind::Value { tag: Tag::SEQUENCE }));
         }
         let others = other_primes_len(&self.other_prime_infos);
         joined_len(
@@ -186,4 +189,53 @@ impl<U: Encode> EncodeValue for RsaPrivateKey<U> {
     ghost contents_relate = { private_relates U.text U.has_text U.written_text U.text_relates };
 
     ghost contents_shortest = { private_shortest U.text U.has_text U.written_text U.text_shortest };
+}
+
+impl<'a> RsaPrivateKey<UintRef<'a>> {
+    ghost use Rattle.std.specs.Prelude.{IfOk, IsOk, None};
+    ghost use Rattle.der_core.specs.Document.{Means, IsShortest, IsAlone, IsRefused, HasText};
+    ghost use Rattle.der_core.specs.Reading.{Refuses};
+    ghost use Rattle.pkcs1.specs.Asking.{MayAsk};
+    ghost use Rattle.pkcs1.specs.Keys as grammar;
+    ghost use Rattle.pkcs1.specs.PrivateKeys.{private_key_of};
+    ghost use Rattle.pkcs1.specs.Refusals.{IsAsn1};
+
+    /// Reads a whole slice: `from_der`, with all that is known of a private key's text. Memory is asked for only where
+    /// there are other primes.
+    pub fn decode_key(memory: Global, bytes: &'a [u8]) -> crate::Result<RsaPrivateKey<UintRef<'a>>>
+        ensures ok { IfOk result (λ key. Means grammar.RsaPrivateKey bytes.now (private_key_of key)) }
+        ensures one { IfOk result (λ key. (other : PrivateKey (List ℕ)) → Means grammar.RsaPrivateKey bytes.now other → other ≡ private_key_of key) }
+        ensures err { IfErr result (IsAsn1 (λ e. Refuses e.kind (MayAsk bytes.now) ((key : PrivateKey (List ℕ)) → Means grammar.RsaPrivateKey bytes.now key → ⊥))) }
+        ensures two_primes { (key : PrivateKey (List ℕ)) → key.other_prime_infos ≡ None → Means grammar.RsaPrivateKey bytes.now key → IsOk result }
+    {
+        Ok(RsaPrivateKey::from_der(memory, bytes)?)
+    }
+
+    /// Writes the key's one text to the front of a slice, and answers it: `encode_to_slice`, with all that is known of
+    /// a key's text. `Value` of SEQUENCE where the list of other primes is there and empty, `Overflow` where the text
+    /// passes `Length::MAX`, `NoRoom` where the slice is shorter.
+    pub fn encode_key<'b>(&self, out: &'b mut [u8]) -> crate::Result<&'b [u8]>
+        ensures shortest { IfOk result (λ text. IsShortest grammar.RsaPrivateKey (private_key_of self.now) text.now) }
+        ensures alone { IfOk result (λ text. IsAlone grammar.RsaPrivateKey (private_key_of self.now) text.now) }
+        ensures one { IfOk result (λ text. (other : PrivateKey (List ℕ)) → grammar.RsaPrivateKey other text.now → other ≡ private_key_of self.now) }
+        ensures err { IfErr result (IsAsn1 (λ e. IsRefused (HasText grammar.RsaPrivateKey (private_key_of self.now)) grammar.RsaPrivateKey (private_key_of self.now) (length out.old) (fault e.kind))) }
+        ensures no_primes { ListsNone self.now.other_prime_infos → IsErrAnd result (IsAsn1 (λ e. e.kind ≡ ErrorKind.Value sequence)) }
+    {
+        if lists_none(&self.other_prime_infos) {
+            let kind = ErrorKind::Value { tag: Tag::SEQUENCE };
+            return Err(Error::Asn1(der_core::Error::new(kind)));
+        }
+        Ok(self.encode_to_slice(out)?)
+    }
+}
+
+impl<U: fmt::Debug> fmt::Debug for RsaPrivateKey<U> {
+    /// Prints the version, the modulus and the public exponent, and nothing that is secret.
+    fn fmt<W: fmt::Write>(&self, f: &mut fmt::Formatter<W>) -> fmt::Result {
+        f.debug_struct("RsaPrivateKey")
+            .field("version", &self.version())
+            .field("modulus", &self.modulus)
+            .field("public_exponent", &self.public_exponent)
+            .finish_non_exhaustive()
+    }
 }

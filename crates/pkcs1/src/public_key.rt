@@ -5,9 +5,10 @@ ghost use Rattle.pkcs1.specs.Keys.{PublicKey, PublicKeyContents};
 ghost use Rattle.pkcs1.specs.Writing.{HasPublicKey, written_public_key};
 ghost use Rattle.pkcs1.specs.PublicKeyLaws.{public_key_means_one, public_key_of_bytes, public_key_relates, public_key_shortest};
 
+use crate::error::{Error, Result};
 use der_core::{
-    BackWriter, Contents, Decode, DecodeValue, Encode, EncodeValue, Error, Header, Kinded, Length,
-    Memory, NoMemory, Reader, Result, Sequence, SequenceTag, Text, UintRef, Writer, joined_len,
+    BackWriter, Contents, Decode, DecodeValue, Encode, EncodeValue, Header, Kinded, Length, Memory,
+    NoMemory, Reader, Sequence, SequenceTag, Text, UintRef, Writer, joined_len,
 };
 
 /// An RSA public key (RFC 8017 A.1.1). No relation of its numbers is checked.
@@ -51,7 +52,7 @@ impl<'a, M: Memory, U: Decode<&'a [u8], M>> DecodeValue<&'a [u8], M> for RsaPubl
         memory: M,
         reader: &mut R,
         _header: Header,
-    ) -> Result<RsaPublicKey<U>> {
+    ) -> der_core::Result<RsaPublicKey<U>> {
         let modulus = U::decode(memory, reader)?;
         let public_exponent = U::decode(memory, reader)?;
         reader.finish()?;
@@ -63,14 +64,14 @@ impl<'a, M: Memory, U: Decode<&'a [u8], M>> DecodeValue<&'a [u8], M> for RsaPubl
 }
 
 impl<U: Encode> EncodeValue for RsaPublicKey<U> {
-    fn value_len(&self) -> Result<Length> {
+    fn value_len(&self) -> der_core::Result<Length> {
         joined_len(
             self.modulus.encoded_len(),
             self.public_exponent.encoded_len(),
         )
     }
 
-    fn encode_value<W: Writer>(&self, writer: &mut W) -> Result<()> {
+    fn encode_value<W: Writer>(&self, writer: &mut W) -> der_core::Result<()> {
         self.value_len()?;
         self.modulus.encode(writer)?;
         self.public_exponent.encode(writer)
@@ -87,10 +88,11 @@ impl<U: Encode> EncodeValue for RsaPublicKey<U> {
 }
 
 impl<'a> TryFrom<&'a [u8]> for RsaPublicKey<UintRef<'a>> {
-    ghost use Rattle.std.specs.Prelude.{◌≡◌, ℕ, List, IfOk, OnErr};
+    ghost use Rattle.std.specs.Prelude.{◌≡◌, ℕ, List, IfOk, IfErr, OnErr, ⊤};
     ghost use Rattle.der_core.specs.Document.{Means};
     ghost use Rattle.pkcs1.specs.Keys as grammar;
     ghost use Rattle.pkcs1.specs.PublicKeys.{key_of};
+    ghost use Rattle.pkcs1.specs.Refusals.{IsAsn1};
 
     type Error = Error;
 
@@ -99,8 +101,9 @@ impl<'a> TryFrom<&'a [u8]> for RsaPublicKey<UintRef<'a>> {
         ensures ok { IfOk result (λ key. Means grammar.RsaPublicKey bytes.now (key_of key)) }
         ensures one { IfOk result (λ key. (other : PublicKey (List ℕ)) → Means grammar.RsaPublicKey bytes.now other → other ≡ key_of key) }
         ensures err { OnErr result ((key : PublicKey (List ℕ)) → Means grammar.RsaPublicKey bytes.now key → ⊥) }
+        ensures asn1 { IfErr result (IsAsn1 (λ _. ⊤)) }
     {
-        RsaPublicKey::from_der(NoMemory, bytes)
+        Ok(RsaPublicKey::from_der(NoMemory, bytes)?)
     }
 }
 
@@ -110,6 +113,7 @@ impl<'a> RsaPublicKey<UintRef<'a>> {
     ghost use Rattle.der_core.specs.Writing.{fault};
     ghost use Rattle.pkcs1.specs.Keys as grammar;
     ghost use Rattle.pkcs1.specs.PublicKeys.{key_of};
+    ghost use Rattle.pkcs1.specs.Refusals.{IsAsn1};
 
     /// Writes the key's one text to the front of a slice, and answers it: `encode_to_slice`, with all that is known of
     /// a key's text. `Overflow` where the text passes `Length::MAX`, `NoRoom` where the slice is shorter.
@@ -117,8 +121,8 @@ impl<'a> RsaPublicKey<UintRef<'a>> {
         ensures shortest { IfOk result (λ text. IsShortest grammar.RsaPublicKey (key_of self.now) text.now) }
         ensures alone { IfOk result (λ text. IsAlone grammar.RsaPublicKey (key_of self.now) text.now) }
         ensures one { IfOk result (λ text. (other : PublicKey (List ℕ)) → grammar.RsaPublicKey other text.now → other ≡ key_of self.now) }
-        ensures err { IfErr result (λ e. IsRefused (HasText grammar.RsaPublicKey (key_of self.now)) grammar.RsaPublicKey (key_of self.now) (length out.old) (fault e.kind)) }
+        ensures err { IfErr result (IsAsn1 (λ e. IsRefused (HasText grammar.RsaPublicKey (key_of self.now)) grammar.RsaPublicKey (key_of self.now) (length out.old) (fault e.kind))) }
     {
-        self.encode_to_slice(out)
+        Ok(self.encode_to_slice(out)?)
     }
 }

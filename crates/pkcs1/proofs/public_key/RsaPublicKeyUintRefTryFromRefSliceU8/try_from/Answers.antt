@@ -1,7 +1,6 @@
-use Rattle.der_core.proofs.Whole.{reads_one}
-use Rattle.pkcs1.specs.PublicKeys.{key_of}
+use Rattle.der_core.specs.ShortestLaws.{means_one}
 use Rattle.pkcs1.proofs.PublicKeys.{public_delimited}
 use Rattle.pkcs1.proofs.public_key.RsaPublicKeyUintRefTryFromRefSliceU8.try_from.Goals as goal
 
 pub returns-clause-one : goal.returns-clause-one
-returns-clause-one c = reads_one key_of _ public_delimited _ _ c.from_der.ensures
+returns-clause-one c other p = means_one public_delimited other _ _ p.1 c.in_ok-from_der.ensures.1

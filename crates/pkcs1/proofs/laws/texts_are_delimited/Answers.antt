@@ -1,0 +1,9 @@
+use Rattle.pkcs1.proofs.PublicKeys.{public_delimited}
+use Rattle.pkcs1.proofs.PrivateKeys.{private_delimited}
+use Rattle.pkcs1.proofs.laws.texts_are_delimited.Goals as goal
+
+pub returns-clause-public : goal.returns-clause-public
+returns-clause-public c = public_delimited
+
+pub returns-clause-private : goal.returns-clause-private
+returns-clause-private c = private_delimited

@@ -1,0 +1,16 @@
+use Rattle.std.proofs.lemmas.Result.{err_from_is_err_and}
+use Rattle.der_core.specs.ShortestLaws.{means_one}
+use Rattle.pkcs1.proofs.KeyMemory.{refuses_as, two_primes_refused}
+use Rattle.pkcs1.proofs.PrivateKeys.{private_delimited}
+use Rattle.pkcs1.proofs.private_key.RsaPrivateKey+UintRef.decode_key.Goals as goal
+
+pub returns-clause-one : goal.returns-clause-one
+returns-clause-one c other p = means_one private_delimited other _ _ p.1 c.in_ok-from_der.ensures.1
+
+pub returns-in_err-from_der-clause-err : goal.returns-in_err-from_der-clause-err
+returns-in_err-from_der-clause-err c =
+    let p = err_from_is_err_and c.from_residual.result c.from_residual.ensures.1 in
+    rw (p.1, p.2) (refuses_as _ _ c.in_err-from_der.ensures)
+
+pub returns-in_err-from_der-clause-two_primes : goal.returns-in_err-from_der-clause-two_primes
+returns-in_err-from_der-clause-two_primes c key two means = absurd (two_primes_refused key _ _ two means c.in_err-from_der.ensures)

@@ -1,0 +1,22 @@
+//! What the grammars of the keys promise of themselves: functions that do nothing, each with a law as its contract.
+ghost use Rattle.std.specs.Prelude.{ℕ, List};
+ghost use Rattle.der_core.specs.Texts.{AtMostOne, IsDelimited};
+ghost use Rattle.der_core.specs.Document.{Excludes};
+ghost use Rattle.pkcs1.specs.Keys.{PublicKey, PrivateKey, RsaPublicKey, RsaPrivateKey};
+
+/// No proper beginning of a key's text is a key's text, none is empty, and each means one key.
+pub fn texts_are_delimited()
+    ensures public { IsDelimited RsaPublicKey }
+    ensures private { IsDelimited RsaPrivateKey }
+{}
+
+/// A key has at most one text.
+pub fn keys_have_one_text()
+    ensures public { (key : PublicKey (List ℕ)) → AtMostOne (RsaPublicKey key) }
+    ensures private { (key : PrivateKey (List ℕ)) → AtMostOne (RsaPrivateKey key) }
+{}
+
+/// No text is both a public key's and a private key's.
+pub fn key_types_exclude_each_other()
+    ensures { Excludes RsaPublicKey RsaPrivateKey }
+{}
