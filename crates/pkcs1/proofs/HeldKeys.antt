@@ -27,7 +27,7 @@ each_held (other ∷ others) = (other_held other, each_held others)
 others_held : (others : Option (Vec (OtherPrimeInfo UintRef) Global)) → (ListsNone others → ⊥) → AreHeld (others_of bytes_of others)
 others_held None some = tt
 others_held (Some v) some =
-    let same = length-map (other_of bytes_of) v.items in
+    let same = length-map v.items (other_of bytes_of) in
     (positive v.items some, omega (arith, same, v.ok, v.small), each_held v.items)
   where
     positive : (items : List (OtherPrimeInfo UintRef)) → (length items ≡ 0 → ⊥) → 0 < length (map (other_of bytes_of) items)
