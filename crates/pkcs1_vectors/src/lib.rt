@@ -6,4 +6,8 @@ mod bytes;
 #[cfg(test)]
 mod kernel;
 #[cfg(test)]
+mod private_keys;
+#[cfg(test)]
 mod public_keys;
+#[cfg(test)]
+mod small_calls;

@@ -43,20 +43,20 @@ fn sentences_are_read_and_written_again(rt: HostRuntime) -> Result<(), Fail> {
 
 /// A text, and why it is no key's.
 const NO_SENTENCES: &str = "\
-300602010702010300 bytes follow the value
-300702020007020103 the contents of tag 0x02 are not in shortest form
-3006020180020103 the value of tag 0x02 is not allowed
-30050200020103 the contents of tag 0x02 have a wrong length
-308106020107020103 the length is not in shortest form
-3080020107020103 the length is indefinite
-308410000000 a length passes the limit
-30840fffffff the input ends too early
-308501 a length passes the limit
-3006020107 the input ends too early
-0206020107020103 tag 0x30 was expected, 0x02 was found
-1f00 the tag octet 0x1f is not known
-3003020107 the input ends too early
-3009020107020103020101 bytes follow the value";
+300602010702010300 PKCS#1 ASN.1 error: bytes follow the value
+300702020007020103 PKCS#1 ASN.1 error: the contents of tag 0x02 are not in shortest form
+3006020180020103 PKCS#1 ASN.1 error: the value of tag 0x02 is not allowed
+30050200020103 PKCS#1 ASN.1 error: the contents of tag 0x02 have a wrong length
+308106020107020103 PKCS#1 ASN.1 error: the length is not in shortest form
+3080020107020103 PKCS#1 ASN.1 error: the length is indefinite
+308410000000 PKCS#1 ASN.1 error: a length passes the limit
+30840fffffff PKCS#1 ASN.1 error: the input ends too early
+308501 PKCS#1 ASN.1 error: a length passes the limit
+3006020107 PKCS#1 ASN.1 error: the input ends too early
+0206020107020103 PKCS#1 ASN.1 error: tag 0x30 was expected, 0x02 was found
+1f00 PKCS#1 ASN.1 error: the tag octet 0x1f is not known
+3003020107 PKCS#1 ASN.1 error: the input ends too early
+3009020107020103020101 PKCS#1 ASN.1 error: bytes follow the value";
 
 #[test]
 fn other_texts_are_refused(rt: HostRuntime) -> Result<(), Fail> {
@@ -66,8 +66,9 @@ fn other_texts_are_refused(rt: HostRuntime) -> Result<(), Fail> {
         let answer = RsaPublicKeyRef::try_from(text.as_slice()).map(|_| "accepted");
         assert_eq!(rt; printed(rt.alloc(), answer)?.as_str(), want, "at {row}");
     }
-    let nothing = RsaPublicKeyRef::try_from([].as_slice());
-    assert_eq!(rt; nothing.map(|_| ()), Err(Error::new(ErrorKind::Incomplete)));
+    let nothing = RsaPublicKeyRef::try_from([].as_slice()).map(|_| "accepted");
+    let want = "PKCS#1 ASN.1 error: the input ends too early";
+    assert_eq!(rt; printed(rt.alloc(), nothing)?.as_str(), want);
     Ok(())
 }
 
@@ -79,6 +80,11 @@ fn a_short_slice_stays_as_it_was(rt: HostRuntime) -> Result<(), Fail> {
     };
     let mut slice = [0xaa; 7];
     let no_room = Error::new(ErrorKind::NoRoom);
+    assert_eq!(rt;
+        key.encode_key(&mut slice).map(|_| ()),
+        Err(pkcs1::Error::Asn1(no_room))
+    );
+    assert_eq!(rt; slice, [0xaa; 7]);
     assert_eq!(rt; key.encode_into(&mut slice), Err(no_room));
     assert_eq!(rt; slice, [0xaa; 7]);
     assert_eq!(rt; key.encode_to_slice(&mut slice).map(|_| ()), Err(no_room));

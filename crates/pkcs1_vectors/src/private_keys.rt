@@ -1,0 +1,187 @@
+//! Rows of RSA private keys.
+use crate::bytes::{bytes_of, printed};
+use pkcs1::der::{Decode, Encode, EncodeValue, Error, ErrorKind, SliceWriter, Tag};
+use pkcs1::{OtherPrimeInfo, RsaPrivateKey, RsaPrivateKeyRef, RsaPublicKeyRef, UintRef, Version};
+use std::alloc::Global;
+use std::test::Fail;
+
+/// Texts of keys with two, three and four primes, and their versions.
+const SENTENCES: &str = "\
+301b02010002010702010302010502010b02010d020102020104020106 TwoPrime
+302802010102010702010302010502010b02010d020102020104020106300b3009020111020102020103 Multi
+303302010102010702010302010502010b02010d020102020104020106301630090201110201020201033009020113020104020105 Multi";
+
+#[test]
+fn sentences_are_read_and_written_again(rt: HostRuntime) -> Result<(), Fail> {
+    for row in SENTENCES.lines() {
+        let (text, version) = row.split_once(' ').ok_or("two parts")?;
+        let text = bytes_of(rt.alloc(), text)?;
+        let key = RsaPrivateKeyRef::decode_key(rt.alloc(), text.as_slice())?;
+        assert_eq!(rt;
+            format!(in rt.alloc(); "{:?}", key.version())?.as_str(),
+            version,
+            "at {row}"
+        );
+        let mut slice = [0xaa; 60];
+        assert_eq!(rt; key.encode_key(&mut slice)?, text.as_slice(), "at {row}");
+        assert_eq!(rt; slice[59], 0xaa, "at {row}");
+        let mut writer = SliceWriter::new(&mut slice);
+        key.encode(&mut writer)?;
+        assert_eq!(rt; writer.finish(), text.as_slice(), "at {row}");
+        assert_eq!(rt; key.encoded_len()?.to_usize(), text.len(), "at {row}");
+    }
+    Ok(())
+}
+
+#[test]
+fn fields_are_those_of_the_text(rt: HostRuntime) -> Result<(), Fail> {
+    let text =
+        "302802010102010702010302010502010b02010d020102020104020106300b3009020111020102020103";
+    let text = bytes_of(rt.alloc(), text)?;
+    let key = RsaPrivateKeyRef::from_der(rt.alloc(), text.as_slice())?;
+    assert_eq!(rt; key.modulus.as_bytes(), [0x07].as_slice());
+    assert_eq!(rt; key.public_exponent.as_bytes(), [0x03].as_slice());
+    assert_eq!(rt; key.private_exponent.as_bytes(), [0x05].as_slice());
+    assert_eq!(rt; key.prime1.as_bytes(), [0x0b].as_slice());
+    assert_eq!(rt; key.prime2.as_bytes(), [0x0d].as_slice());
+    assert_eq!(rt; key.exponent1.as_bytes(), [0x02].as_slice());
+    assert_eq!(rt; key.exponent2.as_bytes(), [0x04].as_slice());
+    assert_eq!(rt; key.coefficient.as_bytes(), [0x06].as_slice());
+    let others = key.other_prime_infos.ok_or("other primes")?;
+    for other in &others {
+        assert_eq!(rt; other.prime.as_bytes(), [0x11].as_slice());
+        assert_eq!(rt; other.exponent.as_bytes(), [0x02].as_slice());
+        assert_eq!(rt; other.coefficient.as_bytes(), [0x03].as_slice());
+    }
+    assert_eq!(rt; others.len(), 1);
+    Ok(())
+}
+
+/// A text, and why it is no key's.
+const NO_SENTENCES: &str = "\
+302802010002010702010302010502010b02010d020102020104020106300b3009020111020102020103 the value of tag 0x02 is not allowed
+301b02010102010702010302010502010b02010d020102020104020106 the value of tag 0x02 is not allowed
+301b02010202010702010302010502010b02010d020102020104020106 the value of tag 0x02 is not allowed
+301d02010002010702010302010502010b02010d0201020201040201063000 the value of tag 0x02 is not allowed
+301d02010102010702010302010502010b02010d0201020201040201063000 the value of tag 0x30 is not allowed
+301d02010002010702010302010502010b02010d0201020201040201060500 bytes follow the value
+302a02010102010702010302010502010b02010d020102020104020106300b30090201110201020201030500 bytes follow the value
+302802010102010702010302010502010b02010d020102020104020106300b3009020111020180020103 the value of tag 0x02 is not allowed
+301b02010002010702010302010502010b02010d02010202010402010600 bytes follow the value
+301b02010002010702010302010502010b02010d0201020201040201 the input ends too early
+3006020107020103 the value of tag 0x02 is not allowed";
+
+#[test]
+fn other_texts_are_refused(rt: HostRuntime) -> Result<(), Fail> {
+    for row in NO_SENTENCES.lines() {
+        let (text, want) = row.split_once(' ').ok_or("two parts")?;
+        let text = bytes_of(rt.alloc(), text)?;
+        let answer = RsaPrivateKeyRef::from_der(rt.alloc(), text.as_slice()).map(|_| "accepted");
+        assert_eq!(rt; printed(rt.alloc(), answer)?.as_str(), want, "at {row}");
+    }
+    let public = RsaPublicKeyRef::try_from([0x30, 0x03, 0x02, 0x01, 0x00].as_slice()).map(
+        |_| "accepted",
+    );
+    assert_eq!(rt;
+        printed(rt.alloc(), public)?.as_str(),
+        "PKCS#1 ASN.1 error: the input ends too early"
+    );
+    Ok(())
+}
+
+/// A key of small numbers, with a list of no other primes.
+fn key_of_no_others(alloc: Global) -> Result<RsaPrivateKeyRef<'static>, Fail> {
+    let number = UintRef::new(&[0x07])?;
+    Ok(RsaPrivateKey {
+        modulus: number,
+        public_exponent: number,
+        private_exponent: number,
+        prime1: number,
+        prime2: number,
+        exponent1: number,
+        exponent2: number,
+        coefficient: number,
+        other_prime_infos: Some(Vec::new(alloc)),
+    })
+}
+
+#[test]
+fn a_list_of_no_primes_is_never_written(rt: HostRuntime) -> Result<(), Fail> {
+    let key = key_of_no_others(rt.alloc())?;
+    let refused = Error::new(ErrorKind::Value { tag: Tag::SEQUENCE });
+    assert_eq!(rt; key.version(), Version::Multi);
+    let mut slice = [0xaa; 64];
+    assert_eq!(rt; key.encode_to_slice(&mut slice).map(|_| ()), Err(refused));
+    assert_eq!(rt; key.encode_into(&mut slice), Err(refused));
+    assert_eq!(rt;
+        key.encode_key(&mut slice).map(|_| ()),
+        Err(pkcs1::Error::Asn1(refused))
+    );
+    assert_eq!(rt; key.encode_into(&mut []), Err(refused));
+    assert_eq!(rt; key.encoded_len(), Err(refused));
+    assert_eq!(rt; key.value_len(), Err(refused));
+    let mut writer = SliceWriter::new(&mut slice);
+    assert_eq!(rt; key.encode(&mut writer), Err(refused));
+    assert_eq!(rt; writer.finish().len(), 0);
+    assert_eq!(rt; slice, [0xaa; 64]);
+    Ok(())
+}
+
+#[test]
+fn the_public_key_has_its_two_fields(rt: HostRuntime) -> Result<(), Fail> {
+    let text = bytes_of(
+        rt.alloc(),
+        "301b02010002010702010302010502010b02010d020102020104020106",
+    )?;
+    let key = RsaPrivateKeyRef::decode_key(rt.alloc(), text.as_slice())?;
+    let public = key.public_key();
+    assert_eq!(rt; public.modulus.as_bytes(), [0x07].as_slice());
+    assert_eq!(rt; public.public_exponent.as_bytes(), [0x03].as_slice());
+    assert_eq!(rt; RsaPublicKeyRef::from(&key), public);
+    let number = UintRef::new(&[0x05])?;
+    let other = OtherPrimeInfo {
+        prime: number,
+        exponent: number,
+        coefficient: number,
+    };
+    let again = other.clone()?;
+    let mut slice = [0; 16];
+    let text = again.encode_to_slice(&mut slice)?;
+    assert_eq!(rt;
+        text,
+        [
+            0x30, 0x09, 0x02, 0x01, 0x05, 0x02, 0x01, 0x05, 0x02, 0x01, 0x05
+        ]
+        .as_slice()
+    );
+    assert_eq!(rt;
+        OtherPrimeInfo::<UintRef>::from_der(rt.alloc(), text)?.prime,
+        number
+    );
+    Ok(())
+}
+
+#[test]
+fn secrets_are_not_printed(rt: HostRuntime) -> Result<(), Fail> {
+    let text = bytes_of(
+        rt.alloc(),
+        "301b02010002010702010302010502010b02010d020102020104020106",
+    )?;
+    let key = RsaPrivateKeyRef::decode_key(rt.alloc(), text.as_slice())?;
+    let printed = format!(in rt.alloc(); "{key:?}")?;
+    for word in ["RsaPrivateKey", "version", "modulus", "public_exponent"] {
+        assert!(rt; printed.contains(word), "{word}");
+    }
+    for word in [
+        "private_exponent",
+        "prime1",
+        "prime2",
+        "exponent1",
+        "exponent2",
+        "coefficient",
+        "other_prime_infos",
+    ] {
+        assert!(rt; !printed.contains(word), "{word}");
+    }
+    Ok(())
+}
