@@ -77,6 +77,22 @@ three_primes = known_tlv 48 (0x02 ∷ 0x01 ∷ 0x01 ∷ bytes_of eight ++ (0x30 
     (key_contents (Some (other ∷ [])) (0x30 ∷ 0x0b ∷ other_bytes) (omega arith, known_tlv 48 other_bytes (other_bytes, [], other_text, refl, refl) (omega arith)))
     (omega arith)
 
+-- 30 09 020113 020104 020105
+abbrev another_bytes : List ℕ
+another_bytes = 0x30 ∷ 0x09 ∷ 0x02 ∷ 0x01 ∷ 0x13 ∷ 0x02 ∷ 0x01 ∷ 0x04 ∷ 0x02 ∷ 0x01 ∷ 0x05 ∷ []
+
+abbrev another : OtherPrime (List ℕ)
+another = record { prime = 0x13 ∷ []; exponent = 0x04 ∷ []; coefficient = 0x05 ∷ [] }
+
+another_text : OtherPrimeInfo Integer another another_bytes
+another_text = known_tlv 48 (bytes_of (0x13 ∷ 0x04 ∷ 0x05 ∷ [])) (bytes_join (0x13 ∷ 0x04 ∷ 0x05 ∷ []) (omega arith, (omega arith, (omega arith, tt)))) (omega arith)
+
+-- 3033 020101 020107 .. 020106 3016 3009 020111 020102 020103 3009 020113 020104 020105: four primes, in order
+pub four_primes : RsaPrivateKey (key_with (Some (other ∷ another ∷ []))) (0x30 ∷ 0x33 ∷ 0x02 ∷ 0x01 ∷ 0x01 ∷ bytes_of eight ++ (0x30 ∷ 0x16 ∷ other_bytes ++ another_bytes))
+four_primes = known_tlv 48 (0x02 ∷ 0x01 ∷ 0x01 ∷ bytes_of eight ++ (0x30 ∷ 0x16 ∷ other_bytes ++ another_bytes))
+    (key_contents (Some (other ∷ another ∷ [])) (0x30 ∷ 0x16 ∷ other_bytes ++ another_bytes) (omega arith, known_tlv 48 (other_bytes ++ another_bytes) (other_bytes, another_bytes, other_text, (another_bytes, [], another_text, refl, refl), refl) (omega arith)))
+    (omega arith)
+
 -- What stands behind the numbers, and the version.
 behind : (key : PrivateKey (List ℕ)) (v : ℕ) (rest : List ℕ) → v < 128 → PrivateKeyContents Integer key (0x02 ∷ 0x01 ∷ v ∷ bytes_of eight ++ rest) → (version_of key.other_prime_infos ≡ v) × OtherPrimeInfos Integer key.other_prime_infos rest
 behind key v rest l p =
