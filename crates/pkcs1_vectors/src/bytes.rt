@@ -8,13 +8,13 @@ pub fn bytes_of(alloc: Global, text: &str) -> Result<Vec<u8>, Fail> {
     Ok(hex::decode(alloc, text)?)
 }
 
-/// What is printed of a value, or of why there is none.
-pub fn printed<T: Display + Drop, E: Display + Drop>(
+/// What is printed of a refusal, or `accepted`.
+pub fn printed<T: Drop, E: Display + Drop>(
     alloc: Global,
     answer: Result<T, E>,
 ) -> Result<String, Fail> {
     match answer {
-        Ok(value) => Ok(format!(in alloc; "{value}")?),
+        Ok(_) => Ok(format!(in alloc; "accepted")?),
         Err(error) => Ok(format!(in alloc; "{error}")?),
     }
 }

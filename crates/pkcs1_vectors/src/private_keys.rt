@@ -76,7 +76,7 @@ fn other_texts_are_refused(rt: HostRuntime) -> Result<(), Fail> {
     for row in NO_SENTENCES.lines() {
         let (text, want) = row.split_once(' ').ok_or("two parts")?;
         let text = bytes_of(rt.alloc(), text)?;
-        let answer = RsaPrivateKeyRef::from_der(rt.alloc(), text.as_slice()).map(|_| "accepted");
+        let answer = RsaPrivateKeyRef::from_der(rt.alloc(), text.as_slice());
         assert_eq!(rt; printed(rt.alloc(), answer)?.as_str(), want, "at {row}");
     }
     let public = RsaPublicKeyRef::try_from([0x30, 0x03, 0x02, 0x01, 0x00].as_slice()).map(

@@ -63,10 +63,10 @@ fn other_texts_are_refused(rt: HostRuntime) -> Result<(), Fail> {
     for row in NO_SENTENCES.lines() {
         let (text, want) = row.split_once(' ').ok_or("two parts")?;
         let text = bytes_of(rt.alloc(), text)?;
-        let answer = RsaPublicKeyRef::try_from(text.as_slice()).map(|_| "accepted");
+        let answer = RsaPublicKeyRef::try_from(text.as_slice());
         assert_eq!(rt; printed(rt.alloc(), answer)?.as_str(), want, "at {row}");
     }
-    let nothing = RsaPublicKeyRef::try_from([].as_slice()).map(|_| "accepted");
+    let nothing = RsaPublicKeyRef::try_from([].as_slice());
     let want = "PKCS#1 ASN.1 error: the input ends too early";
     assert_eq!(rt; printed(rt.alloc(), nothing)?.as_str(), want);
     Ok(())
