@@ -1,12 +1,13 @@
 -- A line has at most one answer, and an input at most one output.
 use Rattle.std.proofs.Common.{◌≡◌, ℕ, inl, inr, List, [], ◌∷◌, ◌++◌, sym, ◌∙◌, subst}
 use Rattle.der_core.specs.Texts.{AtMostOne, MeansOne}
-use Rattle.der_core.specs.Document.{Means, IsShortest}
+use Rattle.der_core.specs.Document.{IsShortest}
 use Rattle.der_core.specs.ShortestLaws.{means_one, shortest_same}
-use Rattle.pkcs1.specs.Keys.{RsaPublicKey}
-use Rattle.pkcs1.proofs.Keys.{public_delimited}
-use Rattle.pkcs1_tool.specs.Request.{Asked, bad_line, asks_pub, asked_by}
-use Rattle.pkcs1_tool.specs.Answer.{Tells, AnswerTo, Answer, Answers, pub_answer}
+use Rattle.pkcs1.specs.Keys.{RsaPublicKey, RsaPrivateKey}
+use Rattle.pkcs1.proofs.PublicKeys.{public_delimited}
+use Rattle.pkcs1.proofs.PrivateKeys.{private_delimited}
+use Rattle.pkcs1_tool.specs.Request.{Asked, bad_line, asks_pub, asks_priv, asked_by}
+use Rattle.pkcs1_tool.specs.Answer.{Tells, AnswerTo, Answer, Answers, pub_answer, priv_answer}
 
 tells_one : {V : Type 0} (Grammar : V → List ℕ → Type 0) (told : V → List ℕ → List ℕ) → MeansOne Grammar → (text : List ℕ) → AtMostOne (Tells Grammar told text)
 tells_one Grammar told one text a b (inl p) (inl q) = p.1 ∙ sym q.1
@@ -20,9 +21,13 @@ tells_one {V} Grammar told one text a b (inr p) (inr q) =
 public_means_one : MeansOne RsaPublicKey
 public_means_one v w text p q = means_one public_delimited v w text p q
 
+private_means_one : MeansOne RsaPrivateKey
+private_means_one v w text p q = means_one private_delimited v w text p q
+
 answer_to_one : (asked : Asked) → AtMostOne (AnswerTo asked)
 answer_to_one bad_line a b p q = p ∙ sym q
 answer_to_one (asks_pub text) a b p q = tells_one RsaPublicKey pub_answer public_means_one text a b p q
+answer_to_one (asks_priv text) a b p q = tells_one RsaPrivateKey priv_answer private_means_one text a b p q
 
 pub answers_at_most_one : (line : List ℕ) → AtMostOne (Answer line)
 answers_at_most_one line a b p q = answer_to_one (asked_by line) a b p q

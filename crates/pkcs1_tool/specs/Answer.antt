@@ -1,10 +1,11 @@
 -- The answers.
-use Rattle.std.specs.Prelude.{◌≡◌, ℕ, ◌⊎◌, List, [], ◌∷◌, ◌++◌, codes}
+use Rattle.std.specs.Prelude.{◌≡◌, ℕ, ◌⊎◌, List, [], ◌∷◌, ◌++◌, Option, Some, None, codes}
+use Rattle.std.specs.List.{flat_map}
 use Rattle.hex.specs.Hex.{encode_lower}
 use Rattle.der_core.specs.Document.{Means, IsShortest}
-use Rattle.pkcs1.specs.Keys.{PublicKey, RsaPublicKey}
+use Rattle.pkcs1.specs.Keys.{PublicKey, RsaPublicKey, OtherPrime, PrivateKey, RsaPrivateKey}
 use Rattle.pkcs1_tool.specs.Lines.{lines_of}
-use Rattle.pkcs1_tool.specs.Request.{Asked, bad_line, asks_pub, asked_by}
+use Rattle.pkcs1_tool.specs.Request.{Asked, bad_line, asks_pub, asks_priv, asked_by}
 
 -- no value has the text
 abbrev pub HasNone : {V : Type 0} → (V → List ℕ → Type 0) → List ℕ → Type 0
@@ -15,14 +16,55 @@ abbrev pub Tells : {V : Type 0} → (V → List ℕ → Type 0) → (V → List 
 Tells {V} Grammar told text answer = (HasNone Grammar text × (answer ≡ codes "refused"))
     ⊎ ((value : V) × Means Grammar text value × (again : List ℕ) × IsShortest Grammar value again × (answer ≡ told value again))
 
+-- a label, and bytes in hexadecimal digits
+abbrev pub field : List ℕ → List ℕ → List ℕ
+field label bytes = label ++ encode_lower bytes
+
+abbrev pub fields : List (List ℕ × List ℕ) → List ℕ
+fields told = flat_map (λ f. field f.0 f.1) told
+
 -- `pub n=N e=E again=HEX`
 abbrev pub pub_answer : PublicKey (List ℕ) → List ℕ → List ℕ
 pub_answer key again =
-    codes "pub n=" ++ (encode_lower key.modulus ++ (codes " e=" ++ (encode_lower key.public_exponent ++ (codes " again=" ++ encode_lower again))))
+    codes "pub" ++ (fields ((codes " n=", key.modulus) ∷ (codes " e=", key.public_exponent) ∷ []) ++ field (codes " again=") again)
+
+-- the version is 1 where there are other primes
+abbrev pub version_told : Option (List (OtherPrime (List ℕ))) → List ℕ
+version_told None = codes " version=0"
+version_told (Some others) = codes " version=1"
+
+-- ` n=N e=E d=D p=P q=Q dp=DP dq=DQ qi=QI`
+abbrev pub numbers_told : PrivateKey (List ℕ) → List ℕ
+numbers_told key =
+    fields
+    ((codes " n=", key.modulus)
+    ∷ (codes " e=", key.public_exponent)
+    ∷ (codes " d=", key.private_exponent)
+    ∷ (codes " p=", key.prime1)
+    ∷ (codes " q=", key.prime2)
+    ∷ (codes " dp=", key.exponent1)
+    ∷ (codes " dq=", key.exponent2)
+    ∷ (codes " qi=", key.coefficient)
+    ∷ [])
+
+-- ` other=R,D,T`
+abbrev pub other_told : OtherPrime (List ℕ) → List ℕ
+other_told other = fields ((codes " other=", other.prime) ∷ (codes ",", other.exponent) ∷ (codes ",", other.coefficient) ∷ [])
+
+-- each other prime, in order
+abbrev pub others_told : Option (List (OtherPrime (List ℕ))) → List ℕ
+others_told None = []
+others_told (Some others) = flat_map other_told others
+
+-- `priv version=V n=N e=E d=D p=P q=Q dp=DP dq=DQ qi=QI`, ` other=R,D,T` for each other prime, and ` again=HEX`
+abbrev pub priv_answer : PrivateKey (List ℕ) → List ℕ → List ℕ
+priv_answer key again =
+    codes "priv" ++ (version_told key.other_prime_infos ++ (numbers_told key ++ (others_told key.other_prime_infos ++ field (codes " again=") again)))
 
 abbrev pub AnswerTo : Asked → List ℕ → Type 0
 AnswerTo bad_line answer = answer ≡ codes "bad line"
 AnswerTo (asks_pub text) answer = Tells RsaPublicKey pub_answer text answer
+AnswerTo (asks_priv text) answer = Tells RsaPrivateKey priv_answer text answer
 
 -- the answer of a line
 abbrev pub Answer : List ℕ → List ℕ → Type 0

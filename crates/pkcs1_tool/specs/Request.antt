@@ -11,6 +11,7 @@ use Rattle.pkcs1_tool.specs.Lines.{parts_of}
 pub data Asked : Type 0 where
   bad_line : Asked
   asks_pub : List ℕ → Asked
+  asks_priv : List ℕ → Asked
 
 abbrev pub decoded : Result (List ℕ) FromHexError → Option (List ℕ)
 decoded (Ok text) = Some text
@@ -21,14 +22,18 @@ abbrev pub text_of : List ℕ → Option (List ℕ)
 text_of hex = decoded (decode_of hex)
 
 -- what a word asks for with a text
-abbrev pub asked_with : (List ℕ → Asked) → Option (List ℕ) → Asked
-asked_with word (Some text) = word text
-asked_with word None = bad_line
+abbrev pub word_asks : List ℕ → Option (List ℕ → Asked)
+word_asks word = if bytes_eq word (codes "pub") then Some asks_pub else (if bytes_eq word (codes "priv") then Some asks_priv else None)
+
+abbrev pub asked_with : Option (List ℕ → Asked) → Option (List ℕ) → Asked
+asked_with (Some asks) (Some text) = asks text
+asked_with (Some asks) None = bad_line
+asked_with None text = bad_line
 
 abbrev pub asked_by_parts : List (List ℕ) → Asked
 asked_by_parts [] = bad_line
 asked_by_parts (word ∷ []) = bad_line
-asked_by_parts (word ∷ hex ∷ []) = if bytes_eq word (codes "pub") then asked_with asks_pub (text_of hex) else bad_line
+asked_by_parts (word ∷ hex ∷ []) = asked_with (word_asks word) (text_of hex)
 asked_by_parts (word ∷ hex ∷ more ∷ rest) = bad_line
 
 -- what the line asks for

@@ -1,8 +1,17 @@
 -- A request without where it lies in memory.
+use Rattle.std.specs.Prelude.{ℕ, List}
 use Rattle.pkcs1_tool.specs.declared.request.Request.{Request}
-use Rattle.pkcs1_tool.specs.declared.request.Request.TheVariants.{BadLine, Pub}
-use Rattle.pkcs1_tool.specs.Request.{Asked, bad_line, asks_pub}
+use Rattle.pkcs1_tool.specs.declared.request.Request.TheVariants.{BadLine, Pub, Priv}
+use Rattle.pkcs1_tool.specs.declared.request.Word.{Word}
+use Rattle.pkcs1_tool.specs.declared.request.Word.TheVariants as word
+use Rattle.pkcs1_tool.specs.Request.{Asked, bad_line, asks_pub, asks_priv}
 
 abbrev pub seen : Request → Asked
 seen BadLine = bad_line
 seen (Pub text) = asks_pub text.items
+seen (Priv text) = asks_priv text.items
+
+-- what the word asks for with a text
+abbrev pub asks_of : Word → List ℕ → Asked
+asks_of word.Pub = asks_pub
+asks_of word.Priv = asks_priv

@@ -1,4 +1,4 @@
-//! Lines in, lines out: `pub HEX` asks for the RSA public key that the bytes stand for.
+//! Lines in, lines out: `pub HEX` asks for the RSA public key that the bytes stand for, `priv HEX` for the private key.
 #![tactic(auto)]
 
 mod answer;

@@ -1,8 +1,8 @@
 //! What a line asks for.
 ghost use Rattle.std.specs.Prelude.{◌≡◌, IfOk};
 ghost use Rattle.std.specs.Option.{option_map};
-ghost use Rattle.pkcs1_tool.specs.Request.{asked_by, text_of};
-ghost use Rattle.pkcs1_tool.specs.Seen.{seen};
+ghost use Rattle.pkcs1_tool.specs.Request.{asked_by, text_of, word_asks};
+ghost use Rattle.pkcs1_tool.specs.Seen.{seen, asks_of};
 
 use crate::lines::split_part;
 use hex::FromHexError;
@@ -13,6 +13,39 @@ use std::alloc::{AllocError, Global};
 pub enum Request {
     BadLine,
     Pub(Vec<u8>),
+    Priv(Vec<u8>),
+}
+
+// The first part of a request.
+#[derive(Clone, Copy)]
+enum Word {
+    Pub,
+    Priv,
+}
+
+impl Word {
+    // The word that the part is.
+    fn of(part: &[u8]) -> Option<Word>
+        ensures { option_map asks_of result ≡ word_asks part.now }
+    {
+        if part == b"pub".as_slice() {
+            Some(Word::Pub)
+        } else if part == b"priv".as_slice() {
+            Some(Word::Priv)
+        } else {
+            None
+        }
+    }
+
+    // What the word asks for with the text.
+    fn with(self, text: Vec<u8>) -> Request
+        ensures { seen result ≡ asks_of self text.items }
+    {
+        match self {
+            Word::Pub => Request::Pub(text),
+            Word::Priv => Request::Priv(text),
+        }
+    }
 }
 
 // The bytes that an even number of digits stands for.
@@ -38,11 +71,11 @@ pub fn request_of(alloc: Global, line: &[u8]) -> Result<Request, AllocError>
     if more.is_some() {
         return Ok(Request::BadLine);
     }
-    if word != b"pub".as_slice() {
+    let Some(word) = Word::of(word) else {
         return Ok(Request::BadLine);
-    }
+    };
     match bytes_of(alloc, hex)? {
-        Some(text) => Ok(Request::Pub(text)),
+        Some(text) => Ok(word.with(text)),
         None => Ok(Request::BadLine),
     }
 }

@@ -192,6 +192,59 @@ fn answers_lines(rt: HostRuntime) -> std::result::Result<(), Fail> {
 }
 
 #[test]
+fn answers_private_keys(rt: HostRuntime) -> std::result::Result<(), Fail> {
+    let cases: [(&[u8], &[u8]); 11] = [
+        (
+            b"priv 301b02010002010702010302010502010b02010d020102020104020106",
+            b"priv version=0 n=07 e=03 d=05 p=0b q=0d dp=02 dq=04 qi=06 again=301b02010002010702010302010502010b02010d020102020104020106\n",
+        ),
+        (
+            b"priv 302802010102010702010302010502010b02010d020102020104020106300b3009020111020102020103",
+            b"priv version=1 n=07 e=03 d=05 p=0b q=0d dp=02 dq=04 qi=06 other=11,02,03 again=302802010102010702010302010502010b02010d020102020104020106300b3009020111020102020103\n",
+        ),
+        (
+            b"priv 303302010102010702010302010502010b02010d020102020104020106301630090201110201020201033009020113020104020105",
+            b"priv version=1 n=07 e=03 d=05 p=0b q=0d dp=02 dq=04 qi=06 other=11,02,03 other=13,04,05 again=303302010102010702010302010502010b02010d020102020104020106301630090201110201020201033009020113020104020105\n",
+        ),
+        (
+            b"priv 302802010002010702010302010502010b02010d020102020104020106300b3009020111020102020103",
+            b"refused\n",
+        ),
+        (
+            b"priv 301b02010102010702010302010502010b02010d020102020104020106",
+            b"refused\n",
+        ),
+        (
+            b"priv 301b02010202010702010302010502010b02010d020102020104020106",
+            b"refused\n",
+        ),
+        (
+            b"priv 301d02010002010702010302010502010b02010d0201020201040201063000",
+            b"refused\n",
+        ),
+        (
+            b"priv 301d02010102010702010302010502010b02010d0201020201040201063000",
+            b"refused\n",
+        ),
+        (b"priv 3006020107020103", b"refused\n"),
+        (
+            b"pub 301b02010002010702010302010502010b02010d020102020104020106",
+            b"refused\n",
+        ),
+        (
+            b"priv\npriv \npriv 300\npriv 30 00\nprivate 3000",
+            b"bad line\nrefused\nbad line\nbad line\nbad line\n",
+        ),
+    ];
+    for (input, want) in cases {
+        let mut sink = ToWrite::new(Vec::new(rt.alloc()));
+        run(rt.alloc(), &mut FromRead::new(input), &mut sink)?;
+        assert_eq!(rt; sink.into_inner().as_slice(), want);
+    }
+    Ok(())
+}
+
+#[test]
 fn stops_on_a_refused_read(rt: HostRuntime) {
     for refused in 0..48 {
         let mut source = Slow {

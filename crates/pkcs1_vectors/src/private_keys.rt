@@ -79,9 +79,7 @@ fn other_texts_are_refused(rt: HostRuntime) -> Result<(), Fail> {
         let answer = RsaPrivateKeyRef::from_der(rt.alloc(), text.as_slice());
         assert_eq!(rt; printed(rt.alloc(), answer)?.as_str(), want, "at {row}");
     }
-    let public = RsaPublicKeyRef::try_from([0x30, 0x03, 0x02, 0x01, 0x00].as_slice()).map(
-        |_| "accepted",
-    );
+    let public = RsaPublicKeyRef::try_from([0x30, 0x03, 0x02, 0x01, 0x00].as_slice());
     assert_eq!(rt;
         printed(rt.alloc(), public)?.as_str(),
         "PKCS#1 ASN.1 error: the input ends too early"

@@ -5,3 +5,9 @@ returns-in-Pub c =
     let asked = c.in_ok-request_of.ensures in
     let answer = rw c.as_slice.ensures.value at c.answer_pub.ensures in
     rw (← asked, c.in-Pub.is) answer
+
+pub returns-in-Priv : goal.returns-in-Priv
+returns-in-Priv c =
+    let asked = c.in_ok-request_of.ensures in
+    let answer = rw c.as_slice-in-Priv.ensures.value at c.answer_priv.ensures in
+    rw (← asked, c.in-Priv.is) answer
