@@ -24,14 +24,6 @@ module _ {M : Type 1} {𝓤 : Ura M} (𝓛 : Logic 𝓤) where
       use1 𝓛 (‵ (fres s.ghost_name ((coded_list u8.coded).code ys))) (finally-res 𝓛 u8 s.ghost_name ys) $
       fpack ! ((t : (List ℕ → List ℕ) × List ℕ) × ((w : List ℕ) → ⊤) × P t.1) (λ t. follows_by (List ℕ) (List ℕ) (Array u8 0).coded.code (Array u8 0).coded.code s.ghost_name none t.0.0 t.0.1) (((λ w. w), ys), (λ w. tt), p) $ done !
 
-module _ {M : Type 1} {𝓤 : Ura M} (𝓛 : Logic 𝓤) where
-  -- and back, for a caller by hand
-  pub rested : (s : MutBor (List ℕ)) (P : List ℕ → Type 0) → ent 𝓤 (sem 𝓛 (SliceRests s P)) (ex 𝓤 (λ (ys : List ℕ). guard 𝓤 (P ys) (sem 𝓛 (finally u8 s.ghost_name ys))))
-  unfolding such_by follows_by
-  rested s P = qed 𝓛 (‵ (SliceRests s P) ∷ []) ∵ fpick ! (λ t.
-      rewrite ! 0 (λ (l : List ℕ). ‵ (fres s.ghost_name ((coded_list u8.coded).code l))) (sym (heres_id u8 t.0.1)) refl $
-      use1 𝓛 (‵ (finally u8 s.ghost_name t.0.1)) (res-finally 𝓛 erased [] u8 s.ghost_name t.0.1) $ show ! (λ (ys : List ℕ). guard 𝓤 (P ys) (sem 𝓛 (finally u8 s.ghost_name ys))) t.0.1 $ check ! t.2 $ done !)
-
 -- A text was written over xs, which gave ys, and r is its length, or why it wasn't.
 abbrev pub Wrote : {E : Type 0} → List ℕ → List ℕ → List ℕ → Result ℕ E → Type 0
 Wrote text xs ys r = IfOk r (λ n. (n ≡ length text) × (ys ≡ text ++ drop n xs))

@@ -16,3 +16,4 @@ pub mod SequenceOf
 pub mod Items
 pub mod Moves
 pub mod Smalls
+pub mod Fronts

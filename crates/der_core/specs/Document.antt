@@ -1,5 +1,5 @@
 -- Encodings as a whole, within the limit on their length.
-use Rattle.std.specs.Prelude.{ℕ, List, ◌≡◌, ◌<◌, ◌≤◌, ◌⊎◌, length}
+use Rattle.std.specs.Prelude.{ℕ, List, ◌≡◌, ◌<◌, ◌≤◌, ◌⊎◌, ◌↔◌, length}
 use Rattle.der_core.specs.Texts.{AreBytes}
 use Rattle.der_core.specs.Tlv.{Tlv}
 use Rattle.der_core.specs.Length.{limit}
@@ -7,10 +7,6 @@ use Rattle.der_core.specs.Length.{limit}
 -- The value has this text, and it is within the limit.
 abbrev pub Means : {V : Type 0} → (V → List ℕ → Type 0) → List ℕ → V → Type 0
 Means Grammar text v = (length text ≤ limit) × Grammar v text
-
--- One whole SEQUENCE, whose contents are any bytes.
-abbrev pub IsDocument : List ℕ → Type 0
-IsDocument text = (length text ≤ limit) × Tlv 48 AreBytes text
 
 -- The texts of a value within the limit.
 abbrev pub Spellings : {V : Type 0} → (V → List ℕ → Type 0) → V → List ℕ → Type 0
@@ -24,6 +20,12 @@ pub record IsShortest {V : Type 0} (Grammar : V → List ℕ → Type 0) (v : V)
 -- Both texts mean one value.
 abbrev pub MeanTheSame : {V : Type 0} → (V → List ℕ → Type 0) → List ℕ → List ℕ → Type 0
 MeanTheSame {V} Grammar a b = (v : V) × Means Grammar a v × Means Grammar b v
+
+-- Two texts that mean values mean the same exactly where the shortest texts of those values are one.
+abbrev pub SameByShortest : {V : Type 0} → (V → List ℕ → Type 0) → Type 0
+SameByShortest {V} Grammar =
+    (v w : V) (a b s t : List ℕ) → Means Grammar a v → Means Grammar b w → IsShortest Grammar v s → IsShortest Grammar w t
+    → MeanTheSame Grammar a b ↔ (s ≡ t)
 
 -- No text is one of both.
 abbrev pub Excludes : {V W : Type 0} → (V → List ℕ → Type 0) → (W → List ℕ → Type 0) → Type 0

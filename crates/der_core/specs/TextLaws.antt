@@ -37,12 +37,6 @@ tlv_at_most_one t P m x y p q =
     let o : p.octets ≡ q.octets = length_same (length q.contents) p.octets q.octets l q.counted in
     rw (p.written, q.written, c, o)
 
--- Longer contents make a text longer by no less.
-pub tlv_grows : {t u : ℕ} {P Q : List ℕ → Type 0} (n : ℕ) (x y : List ℕ) (p : Tlv t P x) (q : Tlv u Q y) → length p.contents + n ≤ length q.contents → length x + n ≤ length y
-tlv_grows n x y p q l =
-    let o : length p.octets ≤ length q.octets = length_grows (length p.contents) (length q.contents) p.octets q.octets p.counted q.counted (omega arith) in
-    rw (p.written, q.written) (omega (arith, length-append p.octets p.contents, length-append q.octets q.contents))
-
 -- Parts with at most one text each.
 abbrev pub AllAtMostOne : List (List ℕ → Type 0) → Type 0
 AllAtMostOne [] = Unit {0}
@@ -82,17 +76,6 @@ pub tlv_made : (t : ℕ) (P : List ℕ → Type 0) (c : List ℕ) → P c → le
 tlv_made t P c p l =
     let o = length_made (length c) l in
     (t ∷ o.0 ++ c, record { octets = o.0; contents = c; counted = o.1; holds = p; written = refl }, refl)
-
--- Texts of one tag with the same contents are the same.
-pub tlv_same : {t : ℕ} {P Q : List ℕ → Type 0} (x y : List ℕ) (p : Tlv t P x) (q : Tlv t Q y) → p.contents ≡ q.contents → x ≡ y
-tlv_same x y p q c =
-    let l : IsLength (length q.contents) p.octets = rw c at p.counted in
-    let o : p.octets ≡ q.octets = length_same (length q.contents) p.octets q.octets l q.counted in
-    rw (p.written, q.written, c, o)
-
--- Contents are no longer than the text.
-pub contents_shorter : {t : ℕ} {P : List ℕ → Type 0} (x : List ℕ) (p : Tlv t P x) → length p.contents ≤ length x
-contents_shorter x p = rw p.written (omega (arith, length-append p.octets p.contents))
 
 -- What is written.
 module _ {V : Type 0} (tag : ℕ) (Contents : V → List ℕ → Type 0) (written : V → List ℕ) where

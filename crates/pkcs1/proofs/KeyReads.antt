@@ -9,14 +9,14 @@ use Rattle.der_core.specs.IntegerLaws.{small_delimited}
 use Rattle.der_core.specs.declared.error.ErrorKind.{ErrorKind}
 use Rattle.der_core.specs.Input.{Input}
 use Rattle.der_core.specs.Reading.{Refuses}
-use Rattle.der_core.proofs.Sequences.{TextFails, TextGives}
+use Rattle.der_core.proofs.Sequences.{some_same, TextFails, TextGives}
 use Rattle.std.specs.Prelude.{Option}
 use Rattle.pkcs1.specs.Asking.{BeginsSequence, AsksForKey}
 use Rattle.pkcs1.specs.Keys.{OtherPrime, OtherPrimeInfos, version_of, PrivateKey, PrivateKeyContents}
 use Rattle.pkcs1.specs.Writing.{key_numbers}
 use Rattle.pkcs1.specs.PrivateKeyLaws.{version_small, joins_put}
 use Rattle.pkcs1.specs.Versions.{VersionContents}
-use Rattle.pkcs1.proofs.NumberReads.{GivesAll, some_same, numbers_fail, numbers_same}
+use Rattle.pkcs1.proofs.NumberReads.{GivesAll, numbers_fail, numbers_same}
 
 abbrev VersionText : ℕ → List ℕ → Type 0
 VersionText n text = Tlv 2 (VersionContents n) text

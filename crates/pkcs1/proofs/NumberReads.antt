@@ -6,7 +6,7 @@ use Rattle.der_core.specs.ListLaws.{same_fronts, cons_path}
 use Rattle.der_core.specs.declared.error.ErrorKind.{ErrorKind}
 use Rattle.der_core.specs.Input.{Input, read_from, end_of}
 use Rattle.der_core.specs.Reading.{Refuses, NoneIn, AsksWithin}
-use Rattle.der_core.proofs.Sequences.{TextFails, TextGives, ContentsFail}
+use Rattle.der_core.proofs.Sequences.{some_same, TextFails, TextGives, ContentsFail}
 use Rattle.der_core.proofs.Whole.{trailing_is}
 use Rattle.pkcs1.specs.Keys.{OtherPrimeContents}
 use Rattle.pkcs1.specs.Writing.{other_numbers}
@@ -19,9 +19,6 @@ pub record GivesAll {V : Type 0} (text : V → List ℕ → Type 0) (vs : List V
   pub from : before ≡ Some (read ++ rest)
   pub left : after ≡ Some rest
   pub joined : Joins (map text vs) read
-
-pub some_same : (a b : List ℕ) (e : ◌≡◌ {A = Input} (Some a) (Some b)) → a ≡ b
-some_same a b e = cc
 
 module _ {V : Type 0} (text : V → List ℕ → Type 0) where
   pub gives_none : {before : Input} (c : List ℕ) → before ≡ Some c → GivesAll text [] before before

@@ -14,7 +14,7 @@ use Rattle.der_core.specs.declared.error.ErrorKind.{ErrorKind}
 use Rattle.der_core.specs.declared.error.ErrorKind.TheVariants.{OutOfMemory}
 use Rattle.der_core.specs.Input.{Input, read_from, end_of}
 use Rattle.der_core.specs.Reading.{ReadsOptional, Refuses}
-use Rattle.der_core.proofs.Sequences.{end_gives}
+use Rattle.der_core.proofs.Sequences.{some_same, end_gives}
 use Rattle.pkcs1.specs.declared.other_prime_info.OtherPrimeInfo as declared
 use Rattle.pkcs1.specs.declared.version.Version.{Version}
 use Rattle.pkcs1.specs.declared.version.Version.TheVariants.{TwoPrime, Multi}
@@ -23,7 +23,6 @@ use Rattle.pkcs1.specs.Keys.{OtherPrime, OtherPrimeInfo, OtherPrimeInfos, versio
 use Rattle.pkcs1.specs.PrivateKeyLaws.{other_delimited}
 use Rattle.pkcs1.specs.PrivateKeys.{other_of, others_of, ListsNone}
 use Rattle.pkcs1.specs.Versions.{number_of}
-use Rattle.pkcs1.proofs.NumberReads.{some_same}
 
 begins : (c : List ℕ) → slice_get c 0 ≡ Some 48 → BeginsSequence c
 begins [] e = cc

@@ -9,7 +9,7 @@ use Rattle.der_core.specs.SequenceOf.{ItemsContents, AllHave}
 use Rattle.der_core.proofs.Known.{known_tlv, known_whole, integer_byte, small_byte}
 use Rattle.pkcs1.specs.Keys.{OtherPrime, OtherPrimeInfo, OtherPrimeInfos, version_of, PrivateKey, PrivateKeyContents, RsaPrivateKey}
 use Rattle.pkcs1.specs.Writing.{key_numbers}
-use Rattle.pkcs1.specs.PrivateKeyLaws.{joins_put, version_small}
+use Rattle.pkcs1.specs.PrivateKeyLaws.{joins_take, joins_put, version_small}
 use Rattle.pkcs1.proofs.NumberReads.{as_many}
 use Rattle.pkcs1.proofs.KeyReads.{last_is}
 
@@ -146,3 +146,9 @@ pub list_empty : (key : PrivateKey (List ℕ)) → RsaPrivateKey key (0x30 ∷ 0
 list_empty key p =
     let b = behind key 1 (0x30 ∷ 0x00 ∷ []) (omega arith) (known_whole (0x02 ∷ 0x01 ∷ 0x01 ∷ bytes_of eight ++ (0x30 ∷ 0x00 ∷ [])) p (omega arith)) in
     empty key.other_prime_infos b.0 b.1
+
+-- a key with a list of no primes has no text at all
+pub no_primes_no_text : (text : List ℕ) → RsaPrivateKey (key_with (Some [])) text → ⊥
+no_primes_no_text text p =
+    let rest = joins_take (map Integer (key_numbers (key_with (Some [])))) (OtherPrimeInfos Integer (Some []) ∷ []) p.holds.1 p.holds.3 in
+    omega (arith, rest.3.2.0)

@@ -192,7 +192,7 @@ impl<U: Encode> EncodeValue for RsaPrivateKey<U> {
 }
 
 impl<'a> RsaPrivateKey<UintRef<'a>> {
-    ghost use Rattle.std.specs.Prelude.{IfOk, IsOk, None};
+    ghost use Rattle.std.specs.Prelude.{take, drop, IfOk, IsOk, OnErr, None};
     ghost use Rattle.der_core.specs.Document.{Means, IsShortest, IsAlone, IsRefused, HasText};
     ghost use Rattle.der_core.specs.Reading.{Refuses};
     ghost use Rattle.pkcs1.specs.Asking.{MayAsk};
@@ -211,13 +211,15 @@ impl<'a> RsaPrivateKey<UintRef<'a>> {
         Ok(RsaPrivateKey::from_der(memory, bytes)?)
     }
 
-    /// Writes the key's one text to the front of a slice, and answers it: `encode_to_slice`, with all that is known of
-    /// a key's text. `Value` of SEQUENCE where the list of other primes is there and empty, `Overflow` where the text
+    /// Writes the key's one text to the front of a slice, and answers its length: `encode_into`, with all that is known
+    /// of a key's text. `Value` of SEQUENCE where the list of other primes is there and empty, `Overflow` where the text
     /// passes `Length::MAX`, `NoRoom` where the slice is shorter.
-    pub fn encode_key<'b>(&self, out: &'b mut [u8]) -> crate::Result<&'b [u8]>
-        ensures shortest { IfOk result (λ text. IsShortest grammar.RsaPrivateKey (private_key_of self.now) text.now) }
-        ensures alone { IfOk result (λ text. IsAlone grammar.RsaPrivateKey (private_key_of self.now) text.now) }
-        ensures one { IfOk result (λ text. (other : PrivateKey (List ℕ)) → grammar.RsaPrivateKey other text.now → other ≡ private_key_of self.now) }
+    pub fn encode_key(&self, out: &mut [u8]) -> crate::Result<usize>
+        ensures shortest { IfOk result (λ n. IsShortest grammar.RsaPrivateKey (private_key_of self.now) (take n out.new)) }
+        ensures rest { IfOk result (λ n. (n ≤ length out.new) × (drop n out.new ≡ drop n out.old)) }
+        ensures alone { IfOk result (λ n. IsAlone grammar.RsaPrivateKey (private_key_of self.now) (take n out.new)) }
+        ensures one { IfOk result (λ n. (other : PrivateKey (List ℕ)) → grammar.RsaPrivateKey other (take n out.new) → other ≡ private_key_of self.now) }
+        ensures unchanged { OnErr result (out.new ≡ out.old) }
         ensures err { IfErr result (IsAsn1 (λ e. IsRefused (HasText grammar.RsaPrivateKey (private_key_of self.now)) grammar.RsaPrivateKey (private_key_of self.now) (length out.old) (fault e.kind))) }
         ensures no_primes { ListsNone self.now.other_prime_infos → IsErrAnd result (IsAsn1 (λ e. e.kind ≡ ErrorKind.Value sequence)) }
     {
@@ -225,7 +227,7 @@ impl<'a> RsaPrivateKey<UintRef<'a>> {
             let kind = ErrorKind::Value { tag: Tag::SEQUENCE };
             return Err(Error::Asn1(der_core::Error::new(kind)));
         }
-        Ok(self.encode_to_slice(out)?)
+        Ok(self.encode_into(out)?)
     }
 }
 

@@ -88,7 +88,8 @@ impl<U: Encode> EncodeValue for RsaPublicKey<U> {
 }
 
 impl<'a> TryFrom<&'a [u8]> for RsaPublicKey<UintRef<'a>> {
-    ghost use Rattle.std.specs.Prelude.{◌≡◌, ℕ, List, IfOk, IfErr, OnErr, ⊤};
+    ghost use Rattle.std.specs.Prelude.{◌≡◌, ◌≢◌, ℕ, List, IfOk, IfErr, OnErr};
+    ghost use Rattle.der_core.specs.declared.error.ErrorKind.TheVariants.{OutOfMemory};
     ghost use Rattle.der_core.specs.Document.{Means};
     ghost use Rattle.pkcs1.specs.Keys as grammar;
     ghost use Rattle.pkcs1.specs.PublicKeys.{key_of};
@@ -101,28 +102,30 @@ impl<'a> TryFrom<&'a [u8]> for RsaPublicKey<UintRef<'a>> {
         ensures ok { IfOk result (λ key. Means grammar.RsaPublicKey bytes.now (key_of key)) }
         ensures one { IfOk result (λ key. (other : PublicKey (List ℕ)) → Means grammar.RsaPublicKey bytes.now other → other ≡ key_of key) }
         ensures err { OnErr result ((key : PublicKey (List ℕ)) → Means grammar.RsaPublicKey bytes.now key → ⊥) }
-        ensures asn1 { IfErr result (IsAsn1 (λ _. ⊤)) }
+        ensures asn1 { IfErr result (IsAsn1 (λ e. e.kind ≢ OutOfMemory)) }
     {
         Ok(RsaPublicKey::from_der(NoMemory, bytes)?)
     }
 }
 
 impl<'a> RsaPublicKey<UintRef<'a>> {
-    ghost use Rattle.std.specs.Prelude.{◌≡◌, ℕ, List, length, IfOk, IfErr};
+    ghost use Rattle.std.specs.Prelude.{◌≡◌, ◌≤◌, ℕ, List, length, take, drop, IfOk, IfErr, OnErr};
     ghost use Rattle.der_core.specs.Document.{IsShortest, IsAlone, IsRefused, HasText};
     ghost use Rattle.der_core.specs.Writing.{fault};
     ghost use Rattle.pkcs1.specs.Keys as grammar;
     ghost use Rattle.pkcs1.specs.PublicKeys.{key_of};
     ghost use Rattle.pkcs1.specs.Refusals.{IsAsn1};
 
-    /// Writes the key's one text to the front of a slice, and answers it: `encode_to_slice`, with all that is known of
-    /// a key's text. `Overflow` where the text passes `Length::MAX`, `NoRoom` where the slice is shorter.
-    pub fn encode_key<'b>(&self, out: &'b mut [u8]) -> Result<&'b [u8]>
-        ensures shortest { IfOk result (λ text. IsShortest grammar.RsaPublicKey (key_of self.now) text.now) }
-        ensures alone { IfOk result (λ text. IsAlone grammar.RsaPublicKey (key_of self.now) text.now) }
-        ensures one { IfOk result (λ text. (other : PublicKey (List ℕ)) → grammar.RsaPublicKey other text.now → other ≡ key_of self.now) }
+    /// Writes the key's one text to the front of a slice, and answers its length: `encode_into`, with all that is known
+    /// of a key's text. `Overflow` where the text passes `Length::MAX`, `NoRoom` where the slice is shorter.
+    pub fn encode_key(&self, out: &mut [u8]) -> Result<usize>
+        ensures shortest { IfOk result (λ n. IsShortest grammar.RsaPublicKey (key_of self.now) (take n out.new)) }
+        ensures rest { IfOk result (λ n. (n ≤ length out.new) × (drop n out.new ≡ drop n out.old)) }
+        ensures alone { IfOk result (λ n. IsAlone grammar.RsaPublicKey (key_of self.now) (take n out.new)) }
+        ensures one { IfOk result (λ n. (other : PublicKey (List ℕ)) → grammar.RsaPublicKey other (take n out.new) → other ≡ key_of self.now) }
+        ensures unchanged { OnErr result (out.new ≡ out.old) }
         ensures err { IfErr result (IsAsn1 (λ e. IsRefused (HasText grammar.RsaPublicKey (key_of self.now)) grammar.RsaPublicKey (key_of self.now) (length out.old) (fault e.kind))) }
     {
-        Ok(self.encode_to_slice(out)?)
+        Ok(self.encode_into(out)?)
     }
 }

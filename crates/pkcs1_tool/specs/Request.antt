@@ -7,7 +7,7 @@ use Rattle.hex.specs.Hex.{decode_of}
 use Rattle.hex.specs.declared.error.FromHexError.{FromHexError}
 use Rattle.pkcs1_tool.specs.Lines.{parts_of}
 
--- a word with the texts that its HEX parts stand for, or a line of no known form
+-- a word with the text that its HEX part stands for, or a line of no known form
 pub data Asked : Type 0 where
   bad_line : Asked
   asks_pub : List ℕ → Asked

@@ -61,7 +61,7 @@ fn shortest_public<'b>(text: &[u8], key: &RsaPublicKeyRef<'_>, buffer: &'b mut [
     ensures { IsShortest RsaPublicKey (key_of key.now) result.now }
 {
     match key.encode_key(buffer) {
-        Ok(again) => again,
+        Ok(length) => &buffer[..length],
         Err(_) => unreachable!(),
     }
 }
@@ -96,7 +96,7 @@ fn shortest_private<'b>(text: &[u8], key: &RsaPrivateKeyRef<'_>, buffer: &'b mut
     ensures { IsShortest RsaPrivateKey (private_key_of key.now) result.now }
 {
     match key.encode_key(buffer) {
-        Ok(again) => again,
+        Ok(length) => &buffer[..length],
         Err(_) => unreachable!(),
     }
 }

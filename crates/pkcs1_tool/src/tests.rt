@@ -111,7 +111,7 @@ impl Sink for Narrow {
     }
 }
 
-/// A reader and writer of no use.
+/// A reader of no use.
 #[derive(Drop)]
 struct Broken;
 

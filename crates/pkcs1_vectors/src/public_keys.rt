@@ -29,7 +29,8 @@ fn sentences_are_read_and_written_again(rt: HostRuntime) -> Result<(), Fail> {
             "at {row}"
         );
         let mut slice = [0xaa; 12];
-        assert_eq!(rt; key.encode_key(&mut slice)?, text.as_slice(), "at {row}");
+        let length = key.encode_key(&mut slice)?;
+        assert_eq!(rt; &slice[..length], text.as_slice(), "at {row}");
         assert_eq!(rt; slice[11], 0xaa, "at {row}");
         let mut reader = SliceReader::new(text.as_slice())?;
         assert_eq!(rt;
@@ -81,7 +82,7 @@ fn a_short_slice_stays_as_it_was(rt: HostRuntime) -> Result<(), Fail> {
     let mut slice = [0xaa; 7];
     let no_room = Error::new(ErrorKind::NoRoom);
     assert_eq!(rt;
-        key.encode_key(&mut slice).map(|_| ()),
+        key.encode_key(&mut slice),
         Err(pkcs1::Error::Asn1(no_room))
     );
     assert_eq!(rt; slice, [0xaa; 7]);
@@ -89,11 +90,11 @@ fn a_short_slice_stays_as_it_was(rt: HostRuntime) -> Result<(), Fail> {
     assert_eq!(rt; slice, [0xaa; 7]);
     assert_eq!(rt; key.encode_to_slice(&mut slice).map(|_| ()), Err(no_room));
     assert_eq!(rt; slice, [0xaa; 7]);
-    let mut slice = [0xaa; 8];
-    assert_eq!(rt;
-        key.encode_to_slice(&mut slice)?,
-        [0x30, 0x06, 0x02, 0x01, 0x07, 0x02, 0x01, 0x03].as_slice()
-    );
+    let mut slice = [0xaa; 10];
+    let text = [0x30, 0x06, 0x02, 0x01, 0x07, 0x02, 0x01, 0x03];
+    assert_eq!(rt; key.encode_to_slice(&mut slice[..8])?, text.as_slice());
+    assert_eq!(rt; key.encode_to_slice(&mut slice)?, text.as_slice());
+    assert_eq!(rt; &slice[8..], [0xaa, 0xaa].as_slice());
     Ok(())
 }
 

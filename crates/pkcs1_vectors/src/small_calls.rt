@@ -113,4 +113,5 @@ fn laws_are_called() {
     pkcs1::texts_are_delimited();
     pkcs1::keys_have_one_text();
     pkcs1::key_types_exclude_each_other();
+    pkcs1::same_keys_have_the_same_text();
 }

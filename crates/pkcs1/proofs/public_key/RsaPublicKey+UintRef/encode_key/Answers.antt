@@ -1,23 +1,45 @@
 use Rattle.std.proofs.lemmas.Result.{err_from_is_err_and}
 use Rattle.der_core.specs.IntegerLaws.{holds_canonical}
 use Rattle.der_core.specs.ShortestLaws.{means_one}
+use Rattle.der_core.specs.Tlv.{tlv}
+use Rattle.der_core.specs.Integer.{integer_contents}
+use Rattle.der_core.proofs.Fronts.{front_is, rest_is}
 use Rattle.der_core.proofs.Refusals.{refused_as}
+use Rattle.pkcs1.specs.Writing.{written_public_key}
 use Rattle.pkcs1.specs.Keys.{RsaPublicKey}
 use Rattle.pkcs1.specs.PublicKeys.{key_of}
 use Rattle.pkcs1.proofs.PublicKeys.{public_delimited, public_at_most_one, public_made}
 use Rattle.pkcs1.proofs.public_key.RsaPublicKey+UintRef.encode_key.Goals as goal
 
+pub returns-clause-shortest : goal.returns-clause-shortest
+returns-clause-shortest c =
+    let text = tlv 48 (written_public_key (λ n. tlv 2 (integer_contents n)) (key_of c.args.self.now)) in
+    let made = c.in_ok-encode_into.ensures in
+    rw (front_is text c.args.out.now _ _ made.ok.0 made.ok.1) made.shortest
+
+pub returns-clause-rest : goal.returns-clause-rest
+returns-clause-rest c =
+    let text = tlv 48 (written_public_key (λ n. tlv 2 (integer_contents n)) (key_of c.args.self.now)) in
+    let made = c.in_ok-encode_into.ensures.ok in
+    rest_is text c.args.out.now _ _ made.0 made.1
+
 pub returns-clause-alone : goal.returns-clause-alone
-returns-clause-alone c other p = public_at_most_one (key_of c.args.self.now) other _ p.1 c.in_ok-encode_to_slice.ensures.shortest.spells.1
+returns-clause-alone c other p =
+    let text = tlv 48 (written_public_key (λ n. tlv 2 (integer_contents n)) (key_of c.args.self.now)) in
+    let made = c.in_ok-encode_into.ensures in
+    rw (front_is text c.args.out.now _ _ made.ok.0 made.ok.1) (public_at_most_one (key_of c.args.self.now) other _ p.1 made.shortest.spells.1)
 
 pub returns-clause-one : goal.returns-clause-one
-returns-clause-one c other p = means_one public_delimited other (key_of c.args.self.now) _ p c.in_ok-encode_to_slice.ensures.shortest.spells.1
+returns-clause-one c other p =
+    let text = tlv 48 (written_public_key (λ n. tlv 2 (integer_contents n)) (key_of c.args.self.now)) in
+    let made = c.in_ok-encode_into.ensures in
+    means_one public_delimited other (key_of c.args.self.now) _ (rw (front_is text c.args.out.now _ _ made.ok.0 made.ok.1) at p) made.shortest.spells.1
 
-pub returns-in_err-encode_to_slice-clause-err : goal.returns-in_err-encode_to_slice-clause-err
-returns-in_err-encode_to_slice-clause-err c =
+pub returns-in_err-encode_into-clause-err : goal.returns-in_err-encode_into-clause-err
+returns-in_err-encode_into-clause-err c =
     let p = err_from_is_err_and c.from_residual.result c.from_residual.ensures.1 in
     let key = key_of c.args.self.now in
     let n = c.args.self.now.modulus in
     let e = c.args.self.now.public_exponent in
     let some = public_made key (holds_canonical _ n.canonical) (holds_canonical _ e.canonical) n.bounded e.bounded in
-    rw (p.1, p.2) (refused_as RsaPublicKey key _ _ some _ c.in_err-encode_to_slice.ensures.err)
+    rw (p.1, p.2) (refused_as RsaPublicKey key _ _ some _ c.in_err-encode_into.ensures.err)
