@@ -1,19 +1,18 @@
 -- What a call leaves in the slice that it answers the front of, from what the calls in it say.
-use Rattle.std.proofs.Common.{◌≡◌, ℕ, ◌≤◌, ◌++◌, List, [], ◌∷◌, length, take, drop, refl, sym, ap, subst, arith, ◌∙◌, Result, Ok, Err, IfOk, IfErr, OnOk, OnErr, MatchResult, length-append}
+use Rattle.std.proofs.Common.{◌≡◌, ℕ, ◌≤◌, ◌++◌, List, [], ◌∷◌, length, take, drop, sym, ap, subst, arith, ◌∙◌, Result, Ok, Err, IfOk, IfErr, OnOk, OnErr, MatchResult, length-append}
 use Rattle.std.proofs.Math.Seq.{take-append_seam}
 use Rattle.std.specs.Bool.{⊤}
 use Rattle.std.specs.Borrow.{Bor, MutBor, u8, Array}
 use mathlib.Core.Option.{none}
 use seplogic.Ra.Ura.{Ura}
-use base.Logic.{ent, ex, guard}
+use base.Logic.{ent}
 use base.Fml.{fres}
 use base.Stored.{coded_list}
 use types.Logic.{Logic, sem}
-use mir.Syntax.{erased}
-use types.Kit.{rewrite, show, check, fpick, ‵, ◌$◌, ◌∵◌, !, qed, use1, fpack, done}
-use denote.Slice.{finally, res-finally}
+use types.Kit.{‵, ◌$◌, ◌∵◌, !, qed, use1, fpack, done}
+use denote.Slice.{finally}
 use denote.Follow.{such_by, follows_by}
-use denote.FollowSlice.{finally-res, heres_id}
+use denote.FollowSlice.{finally-res}
 use Rattle.der_core.specs.Lent.{IsFront, SliceRests}
 
 -- a slice whose last list is known rests at it

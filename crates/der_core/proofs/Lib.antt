@@ -3,6 +3,9 @@ pub mod Headers
 pub mod Blanket
 pub mod Whole
 pub mod Sequences
+pub mod LastParts
+pub mod Members
+pub mod Growing
 pub mod Stopping
 pub mod Counting
 pub mod IntegerFaults
@@ -17,3 +20,5 @@ pub mod Items
 pub mod Moves
 pub mod Smalls
 pub mod Fronts
+pub mod Documents
+pub mod DocumentRows

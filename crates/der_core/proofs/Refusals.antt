@@ -1,11 +1,9 @@
 -- Why a value isn't written.
-use Rattle.std.proofs.Common.{ℕ, List, ◌≡◌, ◌≤◌, ◌<◌, ◌^◌, length, arith, ap, inl, inr}
+use Rattle.std.proofs.Common.{ℕ, List, ◌≤◌, ◌<◌, ◌^◌, length, arith, ap, inl, inr}
 use Rattle.std.proofs.lemmas.Bool.{cases_lt}
-use Rattle.std.specs.Prelude.{Result, Ok, Err, IfOk, IfErr}
-use Rattle.der_core.specs.Texts.{AtMostOne, IsDelimited}
-use Rattle.der_core.specs.ShortestLaws.{means_one}
+use Rattle.std.specs.Prelude.{Result, Ok, Err, IfErr}
 use Rattle.der_core.specs.Length.{limit}
-use Rattle.der_core.specs.Document.{Means, IsShortest, IsAlone, IsUncountable, IsRefused, HasText, Fault, no_text, too_long, no_room, another}
+use Rattle.der_core.specs.Document.{Means, IsShortest, IsUncountable, IsRefused, HasText, Fault, no_text, too_long, no_room, another}
 use Rattle.der_core.specs.Writing.{IsLeast, IsUncounted, Counts, Stops, fault}
 use Rattle.der_core.specs.declared.error.Error.{Error}
 
@@ -16,6 +14,13 @@ module _ {V : Type 0} (Grammar : V → List ℕ → Type 0) (v : V) where
   refused_as has room some too_long h = (some, h.1)
   refused_as has room some no_room h = h
   refused_as has room some another h = h
+
+  -- the same of a value that has a text where it has what is written
+  pub refused_by : (has : Type 0) (room : ℕ) → (has → HasText Grammar v) → (k : Fault) → IsRefused has Grammar v room k → IsRefused (HasText Grammar v) Grammar v room k
+  refused_by has room some no_text h = h
+  refused_by has room some too_long h = (some h.0, h.1)
+  refused_by has room some no_room h = h
+  refused_by has room some another h = h
 
   -- a value with a text is written where there is room for that text
   pub never_refused : (some : Type 0) (text : List ℕ) (room : ℕ) (k : Fault) → Means Grammar text v → length text ≤ room → IsRefused some Grammar v room k → ⊥

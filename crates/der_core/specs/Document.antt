@@ -1,8 +1,8 @@
 -- Encodings as a whole, within the limit on their length.
 use Rattle.std.specs.Prelude.{ℕ, List, ◌≡◌, ◌<◌, ◌≤◌, ◌⊎◌, ◌↔◌, length}
+use Rattle.der_core.specs.Length.{limit}
 use Rattle.der_core.specs.Texts.{AreBytes}
 use Rattle.der_core.specs.Tlv.{Tlv}
-use Rattle.der_core.specs.Length.{limit}
 
 -- The value has this text, and it is within the limit.
 abbrev pub Means : {V : Type 0} → (V → List ℕ → Type 0) → List ℕ → V → Type 0
@@ -59,3 +59,7 @@ IsRefused Some Grammar v room another = ⊥
 -- The value has a text.
 abbrev pub HasText : {V : Type 0} → (V → List ℕ → Type 0) → V → Type 0
 HasText Grammar v = (text : List ℕ) × Grammar v text
+
+-- One whole SEQUENCE, whatever its contents are.
+abbrev pub IsDocument : List ℕ → Type 0
+IsDocument text = (length text ≤ limit) × Tlv 48 AreBytes text

@@ -13,6 +13,9 @@ pub mod Writing
 pub mod SequenceOf
 pub mod ErrorText
 pub mod UintRefs
+pub mod Uints
+pub mod Documents
+pub mod DocumentLaws
 pub mod SliceReaders
 pub mod SliceWriters
 pub mod BackWriters
@@ -31,3 +34,10 @@ pub mod Outside
 pub mod Wrap
 pub mod Refusal
 pub mod SmallLaws
+pub mod Optional
+pub mod OptionalLaws
+pub mod EqualityLaws
+pub mod OctetString
+pub mod OctetStringLaws
+pub mod OctetStringRefs
+pub mod Members

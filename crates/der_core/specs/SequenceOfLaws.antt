@@ -1,5 +1,5 @@
 -- What is written of a list of items.
-use Rattle.std.proofs.Common.{ℕ, ◌≤◌, ◌<◌, ◌^◌, ◌++◌, append-nil, List, [], ◌∷◌, length, refl, arith, length-append}
+use Rattle.std.proofs.Common.{ℕ, ◌≤◌, ◌<◌, ◌^◌, List, [], ◌∷◌, length, refl, arith, length-append}
 use Rattle.der_core.specs.Texts.{IsOfBytes}
 use Rattle.der_core.specs.TextLaws.{then_holds, then_least, then_of_bytes}
 use Rattle.der_core.specs.Writing.{IsLeast}

@@ -116,8 +116,8 @@ impl Length {
 
     pub const MAX: Length = Length { value: 268435455 };
 
-    /// The length `value`.
-    pub(crate) fn of(value: usize) -> Length
+    /// The length `value`, which is at most `MAX`.
+    pub fn of(value: usize) -> Length
         requires { value ≤ limit }
         ensures { result ≡ value }
     {

@@ -7,33 +7,43 @@
 
 mod back_writer;
 mod decode;
+mod document;
 mod encode;
 mod error;
 mod header;
 mod integer;
+mod last_part;
 mod length;
 mod memory;
+mod octet_string;
 mod reader;
 mod sequence_of;
 mod slice_reader;
 mod source_sink;
 mod tag;
+mod try_clone;
 mod types;
 mod wrap;
 mod writer;
 
 pub use back_writer::BackWriter;
 pub use decode::{Decode, DecodeValue, decode_optional};
+pub use document::{Document, SecretDocument};
 pub use encode::{Encode, EncodeValue, joined_len};
 pub use error::{Error, ErrorKind, Result};
 pub use header::Header;
-pub use integer::{AsUintRef, UintRef};
+pub use integer::{AsUintRef, Uint, UintRef};
+pub use last_part::{decode_last, decode_whole, encode_optional, optional_len, prepend_optional};
 pub use length::Length;
 pub use memory::{Memory, NoMemory};
+pub use octet_string::{OctetStringRef, OctetStringTag};
 pub use reader::{BytesLeft, Octets, Reader};
 pub use slice_reader::SliceReader;
 pub use source_sink::{Sink, Source};
-pub use tag::Tag;
-pub use types::{Contents, FixedTag, IntegerTag, Kinded, Sequence, SequenceTag, TagKind, Text};
+pub use tag::{Tag, TagNumber};
+pub use try_clone::TryClone;
+pub use types::{
+    Contents, EqualByValue, FixedTag, IntegerTag, Kinded, Sequence, SequenceTag, TagKind, Text,
+};
 pub use wrap::{FromRead, ToWrite};
 pub use writer::{SliceWriter, Writer};

@@ -1,5 +1,5 @@
 //! Tag octets.
-ghost use Rattle.std.specs.Prelude.{◌≡◌, IsTrue, IfOk, IfErr, Some, false};
+ghost use Rattle.std.specs.Prelude.{◌≡◌, ◌+◌, ◌≤◌, IsTrue, IfOk, IfErr, Some, false};
 ghost use Rattle.der_core.specs.Tag.{is_allowed};
 
 use crate::error::{Error, ErrorKind, Result};
@@ -36,10 +36,41 @@ impl Tag {
         }
     }
 
+    /// The tag `[number]`: of the class context-specific, constructed (X.690 8.1.2.2, 8.14.3).
+    pub fn context(number: TagNumber) -> Tag
+        ensures { result.octet ≡ 160 + number.value }
+    {
+        Tag {
+            octet: 0xa0 + number.value,
+        }
+    }
+
     pub fn octet(self) -> u8
         ensures { result ≡ self.octet }
     {
         self.octet
+    }
+}
+
+/// The number of a tag: at most 30, since a greater one needs more than one octet (X.690 8.1.2.4).
+#[derive(Clone, Copy, Debug, PartialEq, Eq, Drop)]
+pub struct TagNumber {
+    pub value: u8,
+    pub ghost fits: { value ≤ 30 },
+}
+
+impl TagNumber {
+    pub fn new(value: u8) -> TagNumber
+        requires { value ≤ 30 }
+        ensures { result.value ≡ value }
+    {
+        TagNumber { value }
+    }
+
+    pub fn value(self) -> u8
+        ensures { result ≡ self.value }
+    {
+        self.value
     }
 }
 

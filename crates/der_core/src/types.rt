@@ -7,6 +7,7 @@ ghost use Rattle.der_core.specs.Tlv.{Tlv, tlv};
 ghost use Rattle.der_core.specs.TextLaws.{tlv_delimited, tlv_of_bytes};
 ghost use Rattle.der_core.specs.Tags.{integer, sequence};
 ghost use Rattle.der_core.specs.declared.tag.Tag.{Tag};
+ghost use Rattle.std.specs.Bool.{Decides};
 
 use crate::tag::Tag;
 
@@ -50,6 +51,11 @@ pub trait Text {
     ghost delimited: { IsDelimited text };
 
     ghost text_of_bytes: { IsOfBytes text };
+}
+
+/// A type whose values are equal exactly where they mean the same.
+pub trait EqualByValue: Text + PartialEq {
+    ghost decides: { (a b : Self) → Decides (Self.eq a b) (Self.value a ≡ Self.value b) };
 }
 
 /// A tag, as a type: so that a type of any lifetime and parameters can name its tag by `Kinded`.

@@ -17,7 +17,7 @@ use crate::length::Length;
 use crate::memory::Memory;
 use crate::reader::Reader;
 use crate::tag::Tag;
-use crate::types::{Contents, IntegerTag, Kinded};
+use crate::types::{Contents, EqualByValue, IntegerTag, Kinded};
 use crate::writer::Writer;
 
 /// The number of some contents.
@@ -51,6 +51,12 @@ impl Contents for u8 {
 
 impl Kinded for u8 {
     type Kind = IntegerTag;
+}
+
+impl EqualByValue for u8 {
+    ghost use Rattle.der_core.specs.EqualityLaws.{number_decides};
+
+    ghost decides = { λ a b. number_decides a b };
 }
 
 impl<'a, M: Memory> DecodeValue<&'a [u8], M> for u8 {

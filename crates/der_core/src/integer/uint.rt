@@ -1,5 +1,5 @@
 //! Unsigned numbers that borrow their bytes.
-ghost use Rattle.std.specs.Prelude.{◌≡◌, ◌≤◌, ◌<◌, ◌⊎◌, ℕ, List, length, slice_index, IfOk, IfErr, Some};
+ghost use Rattle.std.specs.Prelude.{◌≡◌, ◌≤◌, ◌<◌, ◌⊎◌, ℕ, List, length, slice_index, OnOk, IfOk, IfErr, Some};
 ghost use Rattle.std.specs.Int.Digits.{number_from_digits};
 ghost use Rattle.der_core.specs.Length.{limit};
 ghost use Rattle.der_core.specs.Reading.{ReadsContents, HoldsBytes};
@@ -17,7 +17,7 @@ use crate::length::Length;
 use crate::memory::Memory;
 use crate::reader::Reader;
 use crate::tag::Tag;
-use crate::types::{Contents, IntegerTag, Kinded};
+use crate::types::{Contents, EqualByValue, IntegerTag, Kinded};
 use crate::writer::Writer;
 
 /// An unsigned number, by its bytes: most significant first, the first one 0 only in the number 0. It borrows them.
@@ -71,6 +71,7 @@ impl<'a> UintRef<'a> {
     /// more than `Length::MAX` bytes are left.
     pub fn new(bytes: &'a [u8]) -> Result<UintRef<'a>>
         ensures ok { IfOk result (λ number. (number_from_digits 256 (bytes_of number) ≡ number_from_digits 256 bytes.now) × IsCanonical (bytes_of number)) }
+        ensures some { OnOk result (0 < length bytes.now) }
         ensures err { IfErr result (λ e. ((length bytes.now ≡ 0) × (e.kind ≡ ErrorKind.Length integer)) ⊎ (((x : List ℕ) → IsCanonical x → number_from_digits 256 x ≡ number_from_digits 256 bytes.now → limit < length x) × (e.kind ≡ ErrorKind.Overflow))) }
     {
         let bytes = strip(bytes);
@@ -81,6 +82,15 @@ impl<'a> UintRef<'a> {
             return Err(Error::new(ErrorKind::Overflow));
         }
         Ok(UintRef { bytes })
+    }
+
+    /// The number that these are the bytes of.
+    pub(super) fn over(bytes: &'a [u8]) -> UintRef<'a>
+        requires canonical { HoldsNumber bytes.now }
+        requires bounded { length bytes.now ≤ limit }
+        ensures { bytes_of result ≡ bytes.now }
+    {
+        UintRef { bytes }
     }
 
     /// The bytes, most significant first, at least one.
@@ -133,6 +143,12 @@ impl<'a> Contents for UintRef<'a> {
 
 impl<'a> Kinded for UintRef<'a> {
     type Kind = IntegerTag;
+}
+
+impl EqualByValue for UintRef<'_> {
+    ghost use Rattle.der_core.specs.EqualityLaws.{bytes_decide};
+
+    ghost decides = { λ a b. bytes_decide a.bytes.now b.bytes.now };
 }
 
 impl<'a, M: Memory> DecodeValue<&'a [u8], M> for UintRef<'a> {

@@ -1,0 +1,33 @@
+use Rattle.std.proofs.Common.{◌∙◌, ◌≡◌, ◌≤◌, ◌++◌, length, take, drop, sym, subst, ap, arith}
+use Rattle.der_core.specs.Length.{limit}
+use Rattle.der_core.specs.Tlv.{Tlv, tlv}
+use Rattle.der_core.specs.Document.{IsDocument, IsShortest}
+use Rattle.der_core.specs.TextLaws.{tlv_relates, tlv_shortest}
+use Rattle.der_core.proofs.Refusals.{shortest_is}
+use Rattle.der_core.proofs.Documents.{written_document, written_over}
+use Rattle.der_core.proofs.document.Document.encode_msg.Goals as goal
+
+pub invariant_of-result : goal.invariant_of-result
+invariant_of-result g c =
+    let t = g.T.Contents in
+    let v = t.value c.args.message.now in
+    let tag = g.T.FixedTag.TAG.octet in
+    let text = tlv tag (t.written_contents v) in
+    let same : take c.in-Ok.bytes.len (c.write_over.new.out ++ drop (length c.write_over.new.out) c.in-Ok.bytes.items) ≡ text = written_over _ _ _ text c.write_over.ensures (c.in-Ok.ensures.len ∙ c.to_usize-length.ensures.value ∙ c.in_ok-encoded_len.ensures.counted.1) in
+    let fits : length text ≤ limit = omega (arith, c.in_ok-encoded_len.ensures.counted) in
+    let claim : g.claim c.lifetimes = assumption in
+    let is : tag ≡ 48 = ap (λ x. x.octet) (g.met.T.Sequence c.lifetimes claim).is_sequence in
+    let relates = g.met.T.EncodeValue.contents_relate v c.in_ok-encoded_len.ensures.counted.0 in
+    record { whole = subst IsDocument (sym same) (written_document t.contents t.written_contents v tag is t.contents_of_bytes relates fits) }
+
+pub returns-clause-shortest : goal.returns-clause-shortest
+returns-clause-shortest g c =
+    let t = g.T.Contents in
+    let v = t.value c.args.message.now in
+    let tag = g.T.FixedTag.TAG.octet in
+    let text = tlv tag (t.written_contents v) in
+    let same : take c.in-Ok.bytes.len (c.write_over.new.out ++ drop (length c.write_over.new.out) c.in-Ok.bytes.items) ≡ text = written_over _ _ _ text c.write_over.ensures (c.in-Ok.ensures.len ∙ c.to_usize-length.ensures.value ∙ c.in_ok-encoded_len.ensures.counted.1) in
+    let fits : length text ≤ limit = omega (arith, c.in_ok-encoded_len.ensures.counted) in
+    let relates = tlv_relates tag t.contents t.written_contents v (g.met.T.EncodeValue.contents_relate v c.in_ok-encoded_len.ensures.counted.0) (omega (arith, fits)) in
+    let least = tlv_shortest tag t.contents t.written_contents t.has_contents g.met.T.EncodeValue.contents_shortest v in
+    subst (IsShortest (λ w. Tlv tag (t.contents w)) v) (sym same) (shortest_is (λ w. Tlv tag (t.contents w)) v text least relates fits)

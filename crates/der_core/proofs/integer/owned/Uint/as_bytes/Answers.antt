@@ -1,0 +1,5 @@
+use Rattle.der_core.specs.IntegerLaws.{holds_canonical}
+use Rattle.der_core.proofs.integer.owned.Uint.as_bytes.Goals as goal
+
+pub returns-clause-canonical : goal.returns-clause-canonical
+returns-clause-canonical c = rw c.as_slice.ensures.value (holds_canonical _ c.args.self.now.canonical)

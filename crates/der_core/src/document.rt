@@ -1,0 +1,179 @@
+//! Documents: whole SEQUENCEs, whose contents aren't looked at.
+ghost use Rattle.std.specs.Prelude.{◌≡◌, ◌≤◌, ◌⊎◌, [], length, refl, ⊤, OnOk, IfOk, IfErr};
+ghost use Rattle.der_core.specs.Document.{IsDocument, IsShortest, IsUncountable};
+ghost use Rattle.der_core.specs.DocumentLaws.{IsDocument-prop};
+ghost use Rattle.der_core.specs.Length.{limit};
+ghost use Rattle.der_core.specs.Reading.{Refuses};
+ghost use Rattle.der_core.specs.Texts.{AreBytes};
+ghost use Rattle.der_core.specs.Tlv.{Tlv, tlv};
+ghost use Rattle.der_core.specs.Writing.{IsUncounted, LacksMemory, fault};
+
+use crate::back_writer::BackWriter;
+use crate::decode::{Decode, DecodeValue};
+use crate::encode::{Encode, EncodeValue};
+use crate::error::{Error, ErrorKind, Result};
+use crate::header::Header;
+use crate::length::Length;
+use crate::memory::{NoMemory, copy_of};
+use crate::reader::Reader;
+use crate::types::{Contents, FixedTag, Kinded, Sequence, SequenceTag};
+use std::alloc::Global;
+
+/// A SEQUENCE that was there. Its contents aren't kept.
+#[derive(Drop)]
+struct AnySequence;
+
+impl Contents for AnySequence {
+    ghost Value = { Unit {0} };
+
+    ghost value = { λ _. tt };
+
+    ghost contents = { λ _ octets. AreBytes octets };
+
+    ghost has_contents = { λ _. ⊤ };
+
+    ghost written_contents = { λ _. [] };
+
+    ghost means_one = { λ v w contents p q. refl };
+
+    ghost contents_of_bytes = { λ v contents p. p };
+}
+
+impl Kinded for AnySequence {
+    type Kind = SequenceTag;
+}
+
+impl<'a> DecodeValue<&'a [u8], NoMemory> for AnySequence {
+    ghost asks = { λ _. ⊥ };
+
+    fn decode_value<R: Reader<&'a [u8]>>(
+        _memory: NoMemory,
+        reader: &mut R,
+        header: Header,
+    ) -> Result<AnySequence> {
+        reader.read_slice(header.length)?;
+        Ok(AnySequence)
+    }
+}
+
+/// Writes the text of a message over a slice of its length.
+fn write_over<T: EncodeValue + FixedTag>(message: &T, out: &mut [u8])
+    requires has { T.has_contents (T.value message.now) }
+    requires fits { length (tlv T.TAG.octet (T.written_contents (T.value message.now))) ≤ limit }
+    requires room { length out.old ≡ length (tlv T.TAG.octet (T.written_contents (T.value message.now))) }
+    ensures { out.new ≡ tlv T.TAG.octet (T.written_contents (T.value message.now)) }
+{
+    let mut writer = BackWriter::new(out);
+    message.prepend(&mut writer);
+}
+
+/// One whole SEQUENCE, of at most `Length::MAX` bytes.
+#[derive(Debug, PartialEq, Eq, Drop)]
+pub struct Document {
+    bytes: Vec<u8>,
+    ghost whole: { IsDocument bytes.items } by { IsDocument-prop bytes.items },
+}
+
+impl Document {
+    ghost use Rattle.der_core.specs.Documents.{text_of};
+
+    /// A copy of these bytes, where they are one SEQUENCE. `OutOfMemory` is answered only where they are.
+    pub fn from_der(alloc: Global, bytes: &[u8]) -> Result<Document>
+        ensures ok { IfOk result (λ document. IsDocument bytes.now × (text_of document ≡ bytes.now)) }
+        ensures err { IfErr result (λ e. Refuses e.kind (IsDocument bytes.now) (IsDocument bytes.now → ⊥)) }
+    {
+        AnySequence::from_der(NoMemory, bytes)?;
+        Ok(Document {
+            bytes: copy_of(alloc, bytes)?,
+        })
+    }
+
+    /// The text of a message: `Value` where it has none, `Overflow` where it has some and none fits. Only then memory
+    /// is asked for.
+    pub fn encode_msg<'a, T: EncodeValue + Sequence<'a>>(
+        alloc: Global,
+        message: &T,
+    ) -> Result<Document>
+        ensures has { OnOk result (T.has_contents (T.value message.now)) }
+        ensures ok { IfOk result (λ document. text_of document ≡ tlv T.TAG.octet (T.written_contents (T.value message.now))) }
+        ensures shortest { IfOk result (λ document. IsShortest (λ v. Tlv T.TAG.octet (T.contents v)) (T.value message.now) (text_of document)) }
+        ensures uncounted { IfErr result (λ e. LacksMemory (T.has_contents (T.value message.now)) (tlv T.TAG.octet (T.written_contents (T.value message.now))) e.kind ⊎ IsUncounted (T.has_contents (T.value message.now)) (tlv T.TAG.octet (T.written_contents (T.value message.now))) (fault e.kind)) }
+        ensures err { IfErr result (λ e. LacksMemory (T.has_contents (T.value message.now)) (tlv T.TAG.octet (T.written_contents (T.value message.now))) e.kind ⊎ IsUncountable (T.has_contents (T.value message.now)) (λ v. Tlv T.TAG.octet (T.contents v)) (T.value message.now) (fault e.kind)) }
+    {
+        let length = message.encoded_len()?.to_usize();
+        let mut bytes = match vec![in alloc; 0u8; length] {
+            Ok(bytes) => bytes,
+            Err(_) => return Err(Error::new(ErrorKind::OutOfMemory)),
+        };
+        write_over(message, bytes.as_mut_slice());
+        Ok(Document { bytes })
+    }
+
+    /// The whole text.
+    pub fn as_bytes(&self) -> &[u8]
+        ensures text { result.now ≡ text_of self.now }
+        ensures whole { IsDocument result.now }
+    {
+        self.bytes.as_slice()
+    }
+
+    /// How many bytes the text has.
+    pub fn len(&self) -> Length
+        ensures { result ≡ length (text_of self.now) }
+    {
+        Length::of(self.bytes.len())
+    }
+}
+
+/// One whole SEQUENCE, of at most `Length::MAX` bytes, that is secret: it isn't shown by `Debug`, and is nowhere taken
+/// for a `Document`.
+#[derive(PartialEq, Eq, Drop)]
+pub struct SecretDocument {
+    document: Document,
+}
+
+impl SecretDocument {
+    ghost use Rattle.der_core.specs.Documents.{secret_text_of};
+
+    /// A copy of these bytes, where they are one SEQUENCE. `OutOfMemory` is answered only where they are.
+    pub fn from_der(alloc: Global, bytes: &[u8]) -> Result<SecretDocument>
+        ensures ok { IfOk result (λ document. IsDocument bytes.now × (secret_text_of document ≡ bytes.now)) }
+        ensures err { IfErr result (λ e. Refuses e.kind (IsDocument bytes.now) (IsDocument bytes.now → ⊥)) }
+    {
+        Ok(SecretDocument {
+            document: Document::from_der(alloc, bytes)?,
+        })
+    }
+
+    /// The text of a message: `Value` where it has none, `Overflow` where it has some and none fits. Only then memory
+    /// is asked for.
+    pub fn encode_msg<'a, T: EncodeValue + Sequence<'a>>(
+        alloc: Global,
+        message: &T,
+    ) -> Result<SecretDocument>
+        ensures has { OnOk result (T.has_contents (T.value message.now)) }
+        ensures ok { IfOk result (λ document. secret_text_of document ≡ tlv T.TAG.octet (T.written_contents (T.value message.now))) }
+        ensures shortest { IfOk result (λ document. IsShortest (λ v. Tlv T.TAG.octet (T.contents v)) (T.value message.now) (secret_text_of document)) }
+        ensures uncounted { IfErr result (λ e. LacksMemory (T.has_contents (T.value message.now)) (tlv T.TAG.octet (T.written_contents (T.value message.now))) e.kind ⊎ IsUncounted (T.has_contents (T.value message.now)) (tlv T.TAG.octet (T.written_contents (T.value message.now))) (fault e.kind)) }
+        ensures err { IfErr result (λ e. LacksMemory (T.has_contents (T.value message.now)) (tlv T.TAG.octet (T.written_contents (T.value message.now))) e.kind ⊎ IsUncountable (T.has_contents (T.value message.now)) (λ v. Tlv T.TAG.octet (T.contents v)) (T.value message.now) (fault e.kind)) }
+    {
+        Ok(SecretDocument {
+            document: Document::encode_msg(alloc, message)?,
+        })
+    }
+
+    /// The whole text.
+    pub fn as_bytes(&self) -> &[u8]
+        ensures text { result.now ≡ secret_text_of self.now }
+        ensures whole { IsDocument result.now }
+    {
+        self.document.as_bytes()
+    }
+
+    /// How many bytes the text has.
+    pub fn len(&self) -> Length
+        ensures { result ≡ length (secret_text_of self.now) }
+    {
+        self.document.len()
+    }
+}

@@ -1,0 +1,149 @@
+//! Unsigned numbers that own their bytes.
+ghost use Rattle.std.specs.Prelude.{◌≡◌, ◌≤◌, ◌<◌, ◌⊎◌, ℕ, List, length, OnOk, IfOk, IfErr, Some};
+ghost use Rattle.std.specs.Int.Digits.{number_from_digits};
+ghost use Rattle.der_core.specs.Length.{limit};
+ghost use Rattle.der_core.specs.Reading.{HoldsBytes, ReadsContents};
+ghost use Rattle.der_core.specs.Integer.{HoldsNumber, IsCanonical, IntegerContents, integer_contents};
+ghost use Rattle.der_core.specs.IntegerReading.{integer_of, AnswersOrWants};
+ghost use Rattle.der_core.specs.IntegerLaws.{integer_means_one, integer_of_bytes, integer_relates, integer_shortest};
+ghost use Rattle.der_core.specs.Tags.{integer};
+
+use super::uint::{AsUintRef, UintRef};
+use crate::back_writer::BackWriter;
+use crate::decode::DecodeValue;
+use crate::encode::EncodeValue;
+use crate::error::{ErrorKind, Result};
+use crate::header::Header;
+use crate::length::Length;
+use crate::memory::copy_of;
+use crate::reader::Reader;
+use crate::try_clone::TryClone;
+use crate::types::{Contents, EqualByValue, IntegerTag, Kinded};
+use crate::writer::Writer;
+use std::alloc::Global;
+
+/// An unsigned number, by its bytes: most significant first, the first one 0 only in the number 0. It owns them.
+#[derive(Debug, PartialEq, Eq, Drop)]
+pub struct Uint {
+    bytes: Vec<u8>,
+    ghost canonical: { HoldsNumber bytes.items },
+    ghost bounded: { length bytes.items ≤ limit },
+}
+
+impl Uint {
+    ghost use Rattle.der_core.specs.UintRefs.{bytes_of};
+    ghost use Rattle.der_core.specs.Uints.{own_bytes_of};
+
+    /// The number of these bytes, without leading zeros: `Length` of INTEGER where there is no byte, `Overflow` where
+    /// more than `Length::MAX` bytes are left. `OutOfMemory` is answered only where there is a number.
+    pub fn new(alloc: Global, bytes: &[u8]) -> Result<Uint>
+        ensures ok { IfOk result (λ number. (number_from_digits 256 (own_bytes_of number) ≡ number_from_digits 256 bytes.now) × IsCanonical (own_bytes_of number)) }
+        ensures some { OnOk result (0 < length bytes.now) }
+        ensures err { IfErr result (λ e. ((length bytes.now ≡ 0) × (e.kind ≡ ErrorKind.Length integer)) ⊎ (((x : List ℕ) → IsCanonical x → number_from_digits 256 x ≡ number_from_digits 256 bytes.now → limit < length x) × (e.kind ≡ ErrorKind.Overflow)) ⊎ ((0 < length bytes.now) × ((x : List ℕ) × IsCanonical x × (number_from_digits 256 x ≡ number_from_digits 256 bytes.now) × (length x ≤ limit)) × (e.kind ≡ ErrorKind.OutOfMemory))) }
+    {
+        Uint::copy(alloc, UintRef::new(bytes)?)
+    }
+
+    /// The bytes, most significant first, at least one.
+    pub fn as_bytes(&self) -> &[u8]
+        ensures number { result.now ≡ own_bytes_of self.now }
+        ensures canonical { IsCanonical result.now }
+        ensures bound { length result.now ≤ limit }
+    {
+        self.bytes.as_slice()
+    }
+
+    /// The same number, with bytes of its own.
+    fn copy(alloc: Global, number: UintRef<'_>) -> Result<Uint>
+        ensures ok { IfOk result (λ copy. own_bytes_of copy ≡ bytes_of number.entry) }
+        ensures err { IfErr result (λ e. e.kind ≡ ErrorKind.OutOfMemory) }
+    {
+        Ok(Uint {
+            bytes: copy_of(alloc, number.as_bytes())?,
+        })
+    }
+}
+
+impl AsUintRef for Uint {
+    ghost use Rattle.der_core.specs.Uints.{own_bytes_of};
+
+    ghost number = { own_bytes_of };
+
+    fn as_uint_ref(&self) -> UintRef<'_> {
+        UintRef::over(self.bytes.as_slice())
+    }
+}
+
+impl TryClone for Uint {
+    fn try_clone(&self, alloc: Global) -> Result<Uint> {
+        Uint::copy(alloc, self.as_uint_ref())
+    }
+}
+
+impl Contents for Uint {
+    ghost Value = { List ℕ };
+
+    ghost use Rattle.der_core.specs.Uints.{own_bytes_of};
+
+    ghost value = { own_bytes_of };
+
+    ghost contents = { IntegerContents };
+
+    ghost has_contents = { IsCanonical };
+
+    ghost written_contents = { integer_contents };
+
+    ghost means_one = { integer_means_one };
+
+    ghost contents_of_bytes = { integer_of_bytes };
+}
+
+impl Kinded for Uint {
+    type Kind = IntegerTag;
+}
+
+impl EqualByValue for Uint {
+    ghost use Rattle.der_core.specs.EqualityLaws.{bytes_decide};
+
+    ghost decides = { λ a b. bytes_decide a.bytes.items b.bytes.items };
+}
+
+impl<'a> DecodeValue<&'a [u8], Global> for Uint {
+    ghost use Rattle.der_core.specs.Uints.{own_bytes_of};
+
+    ghost asks = { λ c. (bytes : List ℕ) × IntegerContents bytes c };
+
+    fn decode_value<R: Reader<&'a [u8]>>(
+        memory: Global,
+        reader: &mut R,
+        header: Header,
+    ) -> Result<Uint>
+        requires { HoldsBytes (R.left reader.old) header.length }
+        ensures reads { ReadsContents own_bytes_of IntegerContents (λ c. (bytes : List ℕ) × IntegerContents bytes c) result (R.left reader.old) (R.left reader.new) }
+        ensures exact { (c : List ℕ) → R.left reader.old ≡ Some c → AnswersOrWants own_bytes_of result (integer_of c) }
+    {
+        let number = UintRef::decode_value(memory, reader, header)?;
+        match Uint::copy(memory, number) {
+            Ok(copy) => Ok(copy),
+            Err(e) => Err(reader.error(e.kind())),
+        }
+    }
+}
+
+impl EncodeValue for Uint {
+    fn value_len(&self) -> Result<Length> {
+        self.as_uint_ref().value_len()
+    }
+
+    fn encode_value<W: Writer>(&self, writer: &mut W) -> Result<()> {
+        self.as_uint_ref().encode_value(writer)
+    }
+
+    fn prepend_value(&self, writer: &mut BackWriter<'_>) {
+        self.as_uint_ref().prepend_value(writer);
+    }
+
+    ghost contents_relate = { λ bytes has fits. integer_relates bytes has };
+
+    ghost contents_shortest = { integer_shortest };
+}

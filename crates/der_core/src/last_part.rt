@@ -1,0 +1,80 @@
+//! The last part of contents: one text, or an OPTIONAL one.
+ghost use Rattle.std.specs.Prelude.{◌≡◌, ◌≤◌, ◌+◌, ◌++◌, length, OnOk, IfErr};
+ghost use Rattle.std.specs.Option.{option_map};
+ghost use Rattle.der_core.specs.Length.{limit};
+ghost use Rattle.der_core.specs.BackWriters.{free_of, Prepends};
+ghost use Rattle.der_core.specs.Optional.{Optional, HasOptional, written_optional};
+ghost use Rattle.der_core.specs.Reading.{ReadsContents, AsksWithin};
+ghost use Rattle.der_core.specs.Writing.{Counts, Stops, fault};
+
+use crate::back_writer::BackWriter;
+use crate::decode::Decode;
+use crate::encode::Encode;
+use crate::error::Result;
+use crate::length::Length;
+use crate::memory::Memory;
+use crate::reader::Reader;
+use crate::writer::Writer;
+
+/// Reads all that is left as one text: `TrailingData` where bytes follow it.
+pub fn decode_whole<'a, T: Decode<&'a [u8], M>, M: Memory, R: Reader<&'a [u8]>>(
+    memory: M,
+    reader: &mut R,
+) -> Result<T>
+    ensures { ReadsContents T.value T.text (AsksWithin T.Decode.asks) result (R.left reader.old) (R.left reader.new) }
+{
+    let value = T::decode(memory, reader)?;
+    reader.finish()?;
+    Ok(value)
+}
+
+/// Reads all that is left: nothing, or one text. `TrailingData` where bytes follow that.
+pub fn decode_last<'a, T: Decode<&'a [u8], M>, M: Memory, R: Reader<&'a [u8]>>(
+    memory: M,
+    reader: &mut R,
+) -> Result<Option<T>>
+    ensures { ReadsContents (option_map T.value) (Optional T.text) (AsksWithin T.Decode.asks) result (R.left reader.old) (R.left reader.new) }
+{
+    if reader.peek_octet().is_none() {
+        reader.finish()?;
+        return Ok(None);
+    }
+    let value = decode_whole(memory, reader)?;
+    Ok(Some(value))
+}
+
+/// How many octets are written of the part.
+pub fn optional_len<T: Encode>(part: &Option<T>) -> Result<Length>
+    ensures { Counts (HasOptional T.has_text (option_map T.value part.now)) (written_optional T.written_text (option_map T.value part.now)) result }
+{
+    match part {
+        Some(value) => value.encoded_len(),
+        None => Ok(Length::ZERO),
+    }
+}
+
+/// Appends the part.
+pub fn encode_optional<T: Encode, W: Writer>(part: &Option<T>, writer: &mut W) -> Result<()>
+    ensures has { OnOk result (HasOptional T.has_text (option_map T.value part.now) × (length (written_optional T.written_text (option_map T.value part.now)) ≤ limit)) }
+    ensures written { OnOk result (W.written writer.new ≡ W.written writer.old ++ written_optional T.written_text (option_map T.value part.now)) }
+    ensures room { OnOk result (W.room writer.new + length (written_optional T.written_text (option_map T.value part.now)) ≡ W.room writer.old) }
+    ensures left { IfErr result (λ e. Stops (HasOptional T.has_text (option_map T.value part.now)) (written_optional T.written_text (option_map T.value part.now)) (W.room writer.old) (W.written writer.old) (W.written writer.new) (fault e.kind)) }
+    ensures kept { W.keeps writer.old writer.new }
+{
+    match part {
+        Some(value) => value.encode(writer),
+        None => Ok(()),
+    }
+}
+
+/// Puts the part before what is filled.
+pub fn prepend_optional<T: Encode>(part: &Option<T>, writer: &mut BackWriter<'_>)
+    requires has { HasOptional T.has_text (option_map T.value part.now) }
+    requires fits { length (written_optional T.written_text (option_map T.value part.now)) ≤ limit }
+    requires room { length (written_optional T.written_text (option_map T.value part.now)) ≤ free_of writer.old }
+    ensures { Prepends (written_optional T.written_text (option_map T.value part.now)) writer.old writer.new }
+{
+    if let Some(value) = part {
+        value.prepend(writer);
+    }
+}

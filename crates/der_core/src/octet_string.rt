@@ -1,0 +1,130 @@
+//! OCTET STRING (X.690 8.7).
+ghost use Rattle.std.specs.Prelude.{◌≡◌, ◌≤◌, ◌<◌, ◌↔◌, ℕ, List, IsTrue, length, slice_index, IfOk, IfErr};
+ghost use Rattle.der_core.specs.Length.{limit};
+ghost use Rattle.der_core.specs.OctetString.{OctetContents};
+ghost use Rattle.der_core.specs.OctetStringLaws.{octets_mean_one, octets_of_bytes, octets_relate, octets_shortest};
+ghost use Rattle.der_core.specs.Tags.{octet_string};
+ghost use Rattle.der_core.specs.Texts.{AreBytes};
+
+use crate::back_writer::BackWriter;
+use crate::decode::DecodeValue;
+use crate::encode::EncodeValue;
+use crate::error::{Error, ErrorKind, Result};
+use crate::header::Header;
+use crate::length::Length;
+use crate::memory::Memory;
+use crate::reader::Reader;
+use crate::tag::Tag;
+use crate::types::{Contents, EqualByValue, Kinded, TagKind};
+use crate::writer::Writer;
+
+/// Octets, at most `Length::MAX`. It borrows them.
+#[derive(Clone, Copy, Debug, PartialEq, Eq, Drop)]
+pub struct OctetStringRef<'a> {
+    bytes: &'a [u8],
+    ghost bounded: { length bytes.now ≤ limit },
+    ghost octets: { (i : ℕ) → slice_index bytes.now i < 256 },
+}
+
+impl<'a> OctetStringRef<'a> {
+    ghost use Rattle.der_core.specs.OctetStringRefs.{octets_of};
+
+    /// These octets, or `Overflow` where they pass `Length::MAX`.
+    pub fn new(bytes: &'a [u8]) -> Result<OctetStringRef<'a>>
+        ensures ok { IfOk result (λ string. octets_of string ≡ bytes.now) }
+        ensures err { IfErr result (λ e. (e.kind ≡ ErrorKind.Overflow) × (limit < length bytes.now)) }
+    {
+        if bytes.len() > Length::MAX.to_usize() {
+            return Err(Error::new(ErrorKind::Overflow));
+        }
+        Ok(OctetStringRef { bytes })
+    }
+
+    pub fn as_bytes(&self) -> &'a [u8]
+        ensures octets { result.now ≡ octets_of self.now }
+        ensures bound { length result.now ≤ limit }
+    {
+        self.bytes
+    }
+
+    /// How many octets there are.
+    pub fn len(&self) -> Length
+        ensures { result ≡ length (octets_of self.now) }
+    {
+        Length::of(self.bytes.len())
+    }
+
+    pub fn is_empty(&self) -> bool
+        ensures { IsTrue result ↔ (length (octets_of self.now) ≡ 0) }
+    {
+        self.bytes.is_empty()
+    }
+}
+
+/// The tag of OCTET STRING.
+pub struct OctetStringTag;
+
+impl TagKind for OctetStringTag {
+    ghost TAG = { octet_string };
+
+    const TAG: Tag = Tag::OCTET_STRING;
+}
+
+impl Contents for OctetStringRef<'_> {
+    ghost use Rattle.der_core.specs.OctetStringRefs.{octets_of};
+
+    ghost Value = { List ℕ };
+
+    ghost value = { octets_of };
+
+    ghost contents = { OctetContents };
+
+    ghost has_contents = { AreBytes };
+
+    ghost written_contents = { λ octets. octets };
+
+    ghost means_one = { octets_mean_one };
+
+    ghost contents_of_bytes = { octets_of_bytes };
+}
+
+impl Kinded for OctetStringRef<'_> {
+    type Kind = OctetStringTag;
+}
+
+impl EqualByValue for OctetStringRef<'_> {
+    ghost use Rattle.der_core.specs.EqualityLaws.{bytes_decide};
+
+    ghost decides = { λ a b. bytes_decide a.bytes.now b.bytes.now };
+}
+
+impl<'a, M: Memory> DecodeValue<&'a [u8], M> for OctetStringRef<'a> {
+    ghost asks = { λ _. ⊥ };
+
+    fn decode_value<R: Reader<&'a [u8]>>(
+        _memory: M,
+        reader: &mut R,
+        header: Header,
+    ) -> Result<OctetStringRef<'a>> {
+        let bytes = reader.read_slice(header.length)?;
+        Ok(OctetStringRef { bytes })
+    }
+}
+
+impl EncodeValue for OctetStringRef<'_> {
+    fn value_len(&self) -> Result<Length> {
+        Ok(self.len())
+    }
+
+    fn encode_value<W: Writer>(&self, writer: &mut W) -> Result<()> {
+        writer.write(self.bytes)
+    }
+
+    fn prepend_value(&self, writer: &mut BackWriter<'_>) {
+        writer.prepend(self.bytes);
+    }
+
+    ghost contents_relate = { λ octets has fits. octets_relate octets has };
+
+    ghost contents_shortest = { octets_shortest };
+}
