@@ -1,0 +1,95 @@
+-- Reading a text of any tag.
+use Rattle.std.proofs.Common.{◌≡◌, ℕ, ◌<◌, ◌≤◌, List, [], ◌∷◌, ◌++◌, length, take, drop, refl, sym, ap, ◌∙◌, arith, length-append, length-take, append_assoc, inr, ⊎_elim, Ok, Err, Some, None}
+use Rattle.std.proofs.lemmas.Bool.Decides.{nat_tests}
+use Rattle.std.proofs.lemmas.List.{take-append-drop}
+use Rattle.std.specs.Prelude.{nat_lt}
+use Rattle.der_core.specs.Length.{limit}
+use Rattle.der_core.specs.Texts.{AreBytes}
+use Rattle.der_core.specs.declared.error.ErrorKind.{ErrorKind}
+use Rattle.der_core.specs.declared.error.ErrorKind.TheVariants.{Incomplete}
+use Rattle.der_core.specs.Input.{Input, left_in, read_from, front_of, header_at}
+use Rattle.der_core.proofs.Base.{chosen, ok_pair}
+use Rattle.der_core.proofs.Headers.{tlv_header, header_at-sound, header_at-no_memory}
+use Rattle.der_core.proofs.Blanket.{Headed}
+use Rattle.der_core.proofs.Sequences.{TextFails, TextGives}
+use Rattle.spki_core.specs.Any.{Any}
+
+front_fails : (n : ℕ) (left : List ℕ) (e : ErrorKind) → front_of n left ≡ Err e → (length left < n) × (e ≡ Incomplete)
+front_fails n left e is =
+    ⊎_elim (λ w. let few : length left < n = grind (arith, nat_tests, w.0) in let kind = w.1 in (few, cc)) (λ w. let no = w.1 in cc)
+    (chosen (nat_lt (length left) n) _ _ _ is)
+
+front_gives : (n : ℕ) (left c rest : List ℕ) → front_of n left ≡ Ok (c, rest) → (length c ≡ n) × (left ≡ c ++ rest)
+front_gives n left c rest is =
+    ⊎_elim (λ w. let no = w.1 in cc)
+    (λ w.
+    let parts = ok_pair (take n left) c (drop n left) rest w.1 in
+    let enough : n ≤ length left = grind (arith, nat_tests, w.0) in
+    let len : length (take n left) ≡ n = simp length-take (omega arith) in
+    (sym (ap length parts.0) ∙ len, sym (take-append-drop n left) ∙ ap (λ l. l ++ drop n left) parts.0 ∙ ap (λ l. c ++ l) parts.1))
+    (chosen (nat_lt (length left) n) _ _ _ is)
+
+bytes_rest : (a b : List ℕ) → AreBytes (a ++ b) → AreBytes b
+bytes_rest [] b o = o
+bytes_rest (x ∷ a) b o = bytes_rest a b o.1
+
+bytes_front : (a b : List ℕ) → AreBytes (a ++ b) → AreBytes a
+bytes_front [] b o = tt
+bytes_front (x ∷ a) b o = (o.0, bytes_front a b o.1)
+
+-- no header, so no text
+pub no_header : (before after : Input) (e : ErrorKind) → length (left_in before) ≤ limit
+    → read_from before header_at ≡ Err e → after ≡ None → TextFails Any (λ _. ⊥) e before after
+no_header None after e within read failed = (failed, λ _. cc, λ i is. cc)
+no_header (Some i) after e within read failed = (
+  failed,
+  λ none. cc,
+  λ j is.
+      let same : i ≡ j = cc in
+      inr (
+        λ memory. header_at-no_memory i (read ∙ ap (λ k. Err k) memory),
+        λ v b rest split text.
+            let found = tlv_header v.tag b i rest text.0.0 within text.1 (same ∙ split) in
+            cc,
+      ),
+)
+
+-- no room for the contents, so no text
+pub no_room : (before mid after : Input) (e : ErrorKind) (t n : ℕ) → length (left_in before) ≤ limit
+    → Headed before mid t n → read_from mid (front_of n) ≡ Err e → after ≡ None → TextFails Any (λ _. ⊥) e before after
+no_room None mid after e t n within head short failed = let no = head.1 in cc
+no_room (Some i) mid after e t n within head short failed =
+    let few = front_fails n head.0 e (rw head.2 at short) in (
+      failed,
+      λ none. cc,
+      λ j is.
+          let same : i ≡ j = cc in
+          inr (
+            λ memory. let kind = few.1 in cc,
+            λ v b rest split text.
+                let p = text.1 in
+                let found = tlv_header v.tag b i rest text.0.0 within p (same ∙ split) in
+                let parts = ok_pair (t, n) (v.tag, length p.contents) head.0 (p.contents ++ rest) (sym head.1 ∙ found) in
+                let number : n ≡ length p.contents = ap (λ q. q.1) parts.0 in
+                omega (arith, few.0, ap length parts.1, length-append p.contents rest),
+          ),
+    )
+
+-- a header and its contents
+pub any_read : (before mid after : Input) (t n : ℕ) (c : List ℕ) → AreBytes (left_in before)
+    → Headed before mid t n → ((rest : List ℕ) × (read_from mid (front_of n) ≡ Ok (c, rest)) × (after ≡ Some rest))
+    → TextGives Any (record { tag = t; contents = c }) before after
+any_read None mid after t n c octets head got = let no = head.1 in cc
+any_read (Some i) mid after t n c octets head got =
+    let whole = header_at-sound i head.0 t n octets head.1 in
+    let part = front_gives n head.0 c got.0 (rw head.2 at got.1) in
+    let s = whole.0 in
+    let all : i ≡ (t ∷ s ++ c) ++ got.0 = whole.2 ∙ ap (λ l. t ∷ s ++ l) part.1 ∙ ap (λ l. t ∷ l) (sym (append_assoc s c got.0)) in
+    let split : i ≡ (t ∷ s) ++ (c ++ got.0) = whole.2 ∙ ap (λ l. t ∷ s ++ l) part.1 in
+    let bytes : AreBytes c = bytes_front c got.0 (bytes_rest (t ∷ s) (c ++ got.0) (rw split at octets)) in (
+      t ∷ s ++ c,
+      got.0,
+      ap (λ l. Some l) all,
+      got.2,
+      ((whole.4, bytes), record { octets = s; contents = c; counted = rw part.0 whole.1; holds = refl; written = refl }),
+    )

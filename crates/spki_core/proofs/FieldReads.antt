@@ -1,0 +1,99 @@
+-- Reading one field, and the fields behind it: each exit of the code is one lemma.
+use Rattle.std.proofs.Common.{◌≡◌, ℕ, ◌+◌, List, [], ◌∷◌, ◌++◌, map, sym, ap, ◌∙◌, append_assoc, inl, inr, ⊎_elim, Some, None}
+use Rattle.std.specs.Prelude.{slice_get}
+use Rattle.der_core.specs.declared.error.ErrorKind.{ErrorKind}
+use Rattle.der_core.specs.declared.error.ErrorKind.TheVariants.{Failed}
+use Rattle.der_core.specs.Input.{Input}
+use Rattle.der_core.specs.Texts.{IsDelimited, Joins}
+use Rattle.der_core.specs.Tlv.{Tlv}
+use Rattle.der_core.specs.Reading.{AskedIn, NoneIn, Refuses, AsksWithin}
+use Rattle.der_core.proofs.Sequences.{ContentsFail, ContentsGive, some_same}
+use Rattle.spki_core.specs.Explicit.{Field, field, Defaultable, IsNext, FieldRead, FieldRefused}
+use Rattle.spki_core.specs.FieldLaws.{AreLater}
+use Rattle.spki_core.proofs.Fields.{refused_step, read_step, read_joins}
+
+is_next : (i : List ℕ) (n : ℕ) → slice_get i 0 ≡ Some (160 + n) → IsNext n i
+is_next [] n e = cc
+is_next (x ∷ xs) n e = (xs, let same : x ≡ 160 + n = cc in ap (λ k. k ∷ xs) same)
+
+-- Its octet is next, and no text of it.
+pub field_refused : {V : Type 0} (text : V → List ℕ → Type 0) (asks : List ℕ → Type 0) (n : ℕ) (before after : Input) (e : ErrorKind)
+    → (after ≡ None) × (before ≡ None → e ≡ Failed)
+    × ((i : List ℕ) → before ≡ Some i → (slice_get i 0 ≡ Some (160 + n)) × Refuses e (AskedIn (Tlv (160 + n) asks) i) (NoneIn (λ v. Tlv (160 + n) (text v)) i))
+    → (after ≡ None) × ((bytes : List ℕ) → before ≡ Some bytes → Refuses e (AskedIn (Tlv (160 + n) asks) bytes) (FieldRefused n text bytes))
+field_refused text asks n before after e h = (
+  h.0,
+  λ i is.
+      let w = h.2 i is in
+      ⊎_elim inl (λ q. inr (q.0, (is_next i n w.0, λ v rest p. q.1 v p.0 p.1 p.4 p.2))) w.1,
+)
+
+-- What reading a field ensures of a refusal, and of a value.
+abbrev pub FieldFails : {V : Type 0} → ℕ → (V → List ℕ → Type 0) → (List ℕ → Type 0) → ErrorKind → Input → Input → Type 0
+FieldFails n text own e before after =
+    (after ≡ None) × ((bytes : List ℕ) → before ≡ Some bytes → Refuses e (AskedIn (Tlv (160 + n) (AsksWithin own)) bytes) (FieldRefused n text bytes))
+
+abbrev pub FieldGives : {V : Type 0} → ℕ → (V → List ℕ → Type 0) → V → V → Input → Input → Type 0
+FieldGives n text default x before after =
+    (bytes : List ℕ) × (rest : List ℕ) × (before ≡ Some bytes) × (after ≡ Some rest) × FieldRead n text default bytes x rest
+
+-- Memory is asked for within: by a part, and by the contents of a text.
+asks_part : (p : List ℕ → Type 0) (x b y c : List ℕ) → c ≡ x ++ (b ++ y) → AsksWithin p b → AsksWithin p c
+asks_part p x b y c is (u, v, w, at_b, q) = (
+  x ++ u,
+  v,
+  w ++ y,
+  is ∙ ap (λ l. x ++ (l ++ y)) at_b ∙ ap (λ l. x ++ l) (append_assoc u (v ++ w) y ∙ ap (λ l. u ++ l) (append_assoc v w y)) ∙ sym (append_assoc x u (v ++ (w ++ y))),
+  q,
+)
+
+module _ (own asks : List ℕ → Type 0) (in_own : (b : List ℕ) → own b → AsksWithin asks b) where
+  asks_parts : (c : List ℕ) → AsksWithin own c → AsksWithin asks c
+  asks_parts c (x, b, y, is, a) = asks_part asks x b y c is (in_own b a)
+
+  pub asks_contents : (t : ℕ) (b : List ℕ) → Tlv t (AsksWithin own) b → AsksWithin asks b
+  asks_contents t b p =
+      let w = asks_parts p.contents p.holds in
+      ((t ∷ p.octets) ++ w.0, w.1, w.2, p.written ∙ ap (λ l. t ∷ p.octets ++ l) w.3 ∙ sym (append_assoc (t ∷ p.octets) w.0 (w.1 ++ w.2)), w.4)
+
+-- What asks for nothing.
+pub asks_nothing : (t : ℕ) (asks : List ℕ → Type 0) (b : List ℕ) → Tlv t (λ _. ⊥) b → AsksWithin asks b
+asks_nothing t asks b p = absurd p.holds
+
+-- What is left is a rest of what was.
+rest_of : {V : Type 0} (n : ℕ) (text : V → List ℕ → Type 0) (default x : V) (bytes rest : List ℕ) → FieldRead n text default bytes x rest → (front : List ℕ) × (bytes ≡ front ++ rest)
+rest_of n text default x bytes rest (inl p) = ([], sym p.2)
+rest_of n text default x bytes rest (inr (a, b, p, i, e)) = (a, e ∙ ap (λ l. a ++ l) i)
+
+-- A field, and the fields behind it.
+module _ {W V : Type 0} (n : ℕ) (text : V → List ℕ → Type 0) (default : V) (head : W → V) (fields : W → List Field) (later : (w : W) → AreLater n (fields w)) (asks : List ℕ → Type 0) where
+  pub field_fails : (own : List ℕ → Type 0) → ((b : List ℕ) → own b → AsksWithin asks b) → (before after : Input) (e : ErrorKind)
+      → FieldFails n text own e before after → ContentsFail (λ w. Joins (map Defaultable (field n text default (head w) ∷ fields w))) asks e before after
+  field_fails own in_own before after e fails = (
+    fails.0,
+    λ c is. ⊎_elim (λ q. inl (q.0, asked c q.1)) (λ q. inr (q.0, λ w has. refused_step n text default (head w) (fields w) c (later w) q.1.0 q.1.1 has)) (fails.1 c is),
+  )
+    where
+      asked : (c : List ℕ) → AskedIn (Tlv (160 + n) (AsksWithin own)) c → AsksWithin asks c
+      asked c (b, rest, is, a) = asks_part asks [] b rest c is (asks_contents own asks in_own (160 + n) b a)
+
+  pub fields_fail : IsDelimited text → (before mid after : Input) (e : ErrorKind) (x : V)
+      → FieldGives n text default x before mid → ContentsFail (λ w. Joins (map Defaultable (fields w))) asks e mid after
+      → ContentsFail (λ w. Joins (map Defaultable (field n text default (head w) ∷ fields w))) asks e before after
+  fields_fail d before mid after e x (bytes, rest, at, left, read) fails = (
+    fails.0,
+    λ c is.
+        let same : c ≡ bytes = some_same c bytes (sym is ∙ at) in
+        let front = rest_of n text default x bytes rest read in
+        ⊎_elim
+        (λ q. let w = q.1 in inl (q.0, (front.0 ++ w.0, w.1, w.2, same ∙ front.1 ∙ ap (λ l. front.0 ++ l) w.3 ∙ sym (append_assoc front.0 w.0 (w.1 ++ w.2)), w.4)))
+        (λ q. inr (q.0, λ w has. q.1 w (read_step n text d default x (head w) (fields w) bytes rest (later w) read (rw same at has)).1))
+        (fails.1 rest left),
+  )
+
+  pub fields_give : (before mid after : Input) (w : W)
+      → FieldGives n text default (head w) before mid → ContentsGive (Joins (map Defaultable (fields w))) mid after
+      → ContentsGive (Joins (map Defaultable (field n text default (head w) ∷ fields w))) before after
+  fields_give before mid after w (bytes, rest, at, left, read) (c, is, done, joins) =
+      let same : c ≡ rest = some_same c rest (sym is ∙ left) in
+      (bytes, at, done, read_joins n text default (head w) (fields w) bytes rest read (rw same at joins))

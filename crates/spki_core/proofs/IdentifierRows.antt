@@ -1,0 +1,53 @@
+-- Contents octets of identifiers at worked examples.
+use Rattle.std.proofs.Common.{ℕ, zero, suc, List, [], ◌∷◌, ◌≡◌, refl, sym, ◌∙◌, arith}
+use Rattle.std.specs.Prelude.{false}
+use Rattle.der_core.specs.Texts.{AreBytes}
+use Rattle.spki_core.specs.ObjectIdentifier.{IsIdentifier}
+use Rattle.spki_core.specs.IdentifierTest.{is_identifier, is_identifier-sound, is_identifier-complete}
+
+-- What the test denies are no contents.
+denied : (c : List ℕ) → is_identifier c ≡ false → IsIdentifier c → ⊥
+denied c fails p = let e = sym fails ∙ is_identifier-complete c p in cc
+
+-- 2b0e03021a: SHA-1
+abbrev pub sha1_contents : List ℕ
+sha1_contents = 0x2b ∷ 0x0e ∷ 0x03 ∷ 0x02 ∷ 0x1a ∷ []
+
+pub sha1_identifier : IsIdentifier sha1_contents
+sha1_identifier = is_identifier-sound sha1_contents (omega arith, (omega arith, (omega arith, (omega arith, (omega arith, tt))))) refl
+
+-- 2a864886f70d010108: MGF1
+abbrev pub mgf1_contents : List ℕ
+mgf1_contents = 0x2a ∷ 0x86 ∷ 0x48 ∷ 0x86 ∷ 0xf7 ∷ 0x0d ∷ 0x01 ∷ 0x01 ∷ 0x08 ∷ []
+
+pub mgf1_identifier : IsIdentifier mgf1_contents
+mgf1_identifier = is_identifier-sound mgf1_contents (omega arith, (omega arith, (omega arith, (omega arith, (omega arith, (omega arith, (omega arith, (omega arith, (omega arith, tt))))))))) refl
+
+-- octets 01, so many
+abbrev ones : ℕ → List ℕ
+ones zero = []
+ones (suc n) = 0x01 ∷ ones n
+
+ones_are_bytes : (n : ℕ) → AreBytes (ones n)
+ones_are_bytes zero = tt
+ones_are_bytes (suc n) = (omega arith, ones_are_bytes n)
+
+-- 39 octets 01
+thirty_nine_octets : IsIdentifier (ones 39)
+thirty_nine_octets = is_identifier-sound (ones 39) (ones_are_bytes 39) refl
+
+-- 2a80: it ends within a subidentifier
+unended_refused : IsIdentifier (0x2a ∷ 0x80 ∷ []) → ⊥
+unended_refused = denied (0x2a ∷ 0x80 ∷ []) refl
+
+-- 8001: a subidentifier begins with 80
+padded_subidentifier_refused : IsIdentifier (0x80 ∷ 0x01 ∷ []) → ⊥
+padded_subidentifier_refused = denied (0x80 ∷ 0x01 ∷ []) refl
+
+-- no octet
+pub no_octet_refused : IsIdentifier [] → ⊥
+no_octet_refused = denied [] refl
+
+-- 40 octets 01
+forty_octets_refused : IsIdentifier (ones 40) → ⊥
+forty_octets_refused = denied (ones 40) refl

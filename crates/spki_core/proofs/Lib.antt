@@ -1,0 +1,12 @@
+pub mod Octets
+pub mod Anys
+pub mod Carried
+pub mod FieldReads
+pub mod KnownFields
+pub mod IdentifierRows
+pub mod AlgorithmRows
+pub mod FieldRows
+pub mod Fields
+pub mod Spellings
+pub mod Algorithms
+pub mod Copies

@@ -1,0 +1,17 @@
+use Rattle.der_core.proofs.Counting.{counts_text}
+use Rattle.der_core.proofs.Refusals.{uncounted}
+use Rattle.spki_core.specs.Any.{Any}
+use Rattle.spki_core.specs.AnyLaws.{any_shortest}
+use Rattle.spki_core.specs.AnyRefs.{any_of}
+use Rattle.der_core.specs.InputLaws.{are_bytes}
+use Rattle.spki_core.proofs.any.AnyRefEncode.encoded_len.Goals as goal
+
+pub returns-clause-counted : goal.returns-clause-counted
+returns-clause-counted c =
+    let any = c.args.self.now in
+    counts_text any.tag.octet any.contents.now _ _ (any.tag.allowed, are_bytes any.contents.now any.octets) c.header.ensures.length c.for_tlv.ensures.ok c.for_tlv.ensures.err
+
+pub returns-clause-err : goal.returns-clause-err
+returns-clause-err c =
+    let any = any_of c.args.self.now in
+    uncounted Any any _ (any_shortest any) _ (returns-clause-counted c)

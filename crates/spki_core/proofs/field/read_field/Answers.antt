@@ -1,0 +1,5 @@
+use Rattle.spki_core.proofs.FieldReads.{field_refused}
+use Rattle.spki_core.proofs.field.read_field.Goals as goal
+
+pub returns-in-Err : goal.returns-in-Err
+returns-in-Err g c = field_refused g.T.Text.text _ _ _ _ _ c.in-Err.ensures

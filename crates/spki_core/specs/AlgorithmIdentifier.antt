@@ -1,0 +1,60 @@
+-- AlgorithmIdentifier ::= SEQUENCE { algorithm OBJECT IDENTIFIER, parameters ANY DEFINED BY algorithm OPTIONAL } (RFC 5280 4.1.1.2)
+use Rattle.std.specs.Prelude.{ℕ, Bool, List, [], ◌∷◌, ◌++◌, ◌&&◌, eqb, Option}
+use Rattle.std.specs.Option.{option_eq}
+use Rattle.std.specs.Str.{bytes_eq}
+use Rattle.der_core.specs.Texts.{Joins}
+use Rattle.der_core.specs.Tlv.{Tlv, tlv}
+use Rattle.der_core.specs.Optional.{Optional, HasOptional, written_optional}
+use Rattle.spki_core.specs.ObjectIdentifier.{IsIdentifier, ObjectIdentifier}
+use Rattle.spki_core.specs.Any.{TagAndContents, IsAny, Any, written_any}
+
+pub record Algorithm (P : Type 0) : Type 0 where
+  pub oid : List ℕ
+  pub parameters : Option P
+
+-- The identifier, then the parameters if there are any.
+abbrev pub AlgorithmContents : {P : Type 0} → (P → List ℕ → Type 0) → Algorithm P → List ℕ → Type 0
+AlgorithmContents Parameters a contents = Joins (ObjectIdentifier a.oid ∷ Optional Parameters a.parameters ∷ []) contents
+
+abbrev pub AlgorithmIdentifier : {P : Type 0} → (P → List ℕ → Type 0) → Algorithm P → List ℕ → Type 0
+AlgorithmIdentifier Parameters a text = Tlv 48 (AlgorithmContents Parameters a) text
+
+-- An algorithm whose parameters are any text.
+abbrev pub PlainAlgorithm : Algorithm TagAndContents → List ℕ → Type 0
+PlainAlgorithm = AlgorithmIdentifier Any
+
+-- A mask generation function, whose parameters name the algorithm under it (RFC 8017 B.2.1).
+abbrev pub MaskAlgorithm : Algorithm (Algorithm TagAndContents) → List ℕ → Type 0
+MaskAlgorithm = AlgorithmIdentifier PlainAlgorithm
+
+-- Which values have contents, and the contents that are written.
+abbrev pub HasAlgorithm : {P : Type 0} → (P → Type 0) → Algorithm P → Type 0
+HasAlgorithm has a = IsIdentifier a.oid × HasOptional has a.parameters
+
+abbrev pub written_algorithm : {P : Type 0} → (P → List ℕ) → Algorithm P → List ℕ
+written_algorithm text a = tlv 6 a.oid ++ written_optional text a.parameters
+
+abbrev pub HasPlain : Algorithm TagAndContents → Type 0
+HasPlain = HasAlgorithm IsAny
+
+abbrev pub written_plain : Algorithm TagAndContents → List ℕ
+written_plain a = tlv 48 (written_algorithm written_any a)
+
+abbrev pub HasMask : Algorithm (Algorithm TagAndContents) → Type 0
+HasMask = HasAlgorithm HasPlain
+
+abbrev pub written_mask : Algorithm (Algorithm TagAndContents) → List ℕ
+written_mask a = tlv 48 (written_algorithm written_plain a)
+
+-- Tests for equality.
+abbrev pub same_any : TagAndContents → TagAndContents → Bool
+same_any v w = eqb v.tag w.tag && bytes_eq v.contents w.contents
+
+abbrev pub same_algorithm : {P : Type 0} → (P → P → Bool) → Algorithm P → Algorithm P → Bool
+same_algorithm same a b = bytes_eq a.oid b.oid && option_eq same a.parameters b.parameters
+
+abbrev pub same_plain : Algorithm TagAndContents → Algorithm TagAndContents → Bool
+same_plain = same_algorithm same_any
+
+abbrev pub same_mask : Algorithm (Algorithm TagAndContents) → Algorithm (Algorithm TagAndContents) → Bool
+same_mask = same_algorithm same_plain

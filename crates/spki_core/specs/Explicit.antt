@@ -1,0 +1,64 @@
+-- Fields [n] EXPLICIT .. DEFAULT .. of a SEQUENCE, in rising order (X.690 8.14.2, 11.5).
+use Rattle.std.specs.Prelude.{ℕ, suc, List, [], ◌∷◌, ◌≡◌, ◌+◌, ◌*◌, ◌⊎◌, map}
+use Rattle.der_core.specs.Texts.{Is, Then, Joins}
+use Rattle.der_core.specs.Tlv.{Tlv}
+
+-- A field with its value: its number, the texts of the value, and whether the value is the default.
+pub record Field : Type 1 where
+  pub number : ℕ
+  pub Inner : List ℕ → Type 0
+  pub IsDefault : Type 0
+
+-- The field [number] of a grammar, at a value and with a default.
+abbrev pub field : {V : Type 0} → ℕ → (V → List ℕ → Type 0) → V → V → Field
+field number Grammar default value = record { number = number; Inner = Grammar value; IsDefault = value ≡ default }
+
+-- Written: one text of the value inside the tag [number].
+abbrev pub Explicit : Field → List ℕ → Type 0
+Explicit f text = Tlv (160 + f.number) f.Inner text
+
+-- A default may be left out.
+abbrev pub Defaultable : Field → List ℕ → Type 0
+Defaultable f text = ((text ≡ []) × f.IsDefault) ⊎ Explicit f text
+
+abbrev pub FieldSequence : List Field → List ℕ → Type 0
+FieldSequence fields text = Tlv 48 (Joins (map Defaultable fields)) text
+
+-- How many of the fields have their defaults.
+abbrev pub HaveDefaults : List Field → ℕ → Type 0
+HaveDefaults [] k = k ≡ 0
+HaveDefaults (f ∷ fields) k = (f.IsDefault × (j : ℕ) × (k ≡ suc j) × HaveDefaults fields j) ⊎ ((f.IsDefault → ⊥) × HaveDefaults fields k)
+
+-- One field under a mask: the lowest bit says whether a default is written, and the rest is for the later ones.
+pub data MaskedField (f : Field) (mask rest : ℕ) (text : List ℕ) : Type 0 where
+  left_out : f.IsDefault → mask ≡ 2 * rest → text ≡ [] → MaskedField f mask rest text
+  written : f.IsDefault → mask ≡ 2 * rest + 1 → Explicit f text → MaskedField f mask rest text
+  forced : (f.IsDefault → ⊥) → mask ≡ rest → Explicit f text → MaskedField f mask rest text
+
+-- The contents in which the j-th of the default fields is written exactly where bit j of the mask is one,
+-- and every other field is written.
+abbrev pub MaskedContents : List Field → ℕ → List ℕ → Type 0
+MaskedContents [] mask text = (text ≡ []) × (mask ≡ 0)
+MaskedContents (f ∷ fields) mask text = (rest : ℕ) × Then (MaskedField f mask rest) (MaskedContents fields rest) text
+
+abbrev pub Masked : List Field → ℕ → List ℕ → Type 0
+Masked fields mask text = Tlv 48 (MaskedContents fields mask) text
+
+-- Every field is written.
+abbrev pub AllExplicit : List Field → List ℕ → Type 0
+AllExplicit fields text = Tlv 48 (Joins (map Explicit fields)) text
+
+-- The octet of the field [number] comes next.
+abbrev pub IsNext : ℕ → List ℕ → Type 0
+IsNext number bytes = (rest : List ℕ) × (bytes ≡ (160 + number) ∷ rest)
+
+-- What reading of a field with a default gives: its value, and the bytes after it.
+-- The field is left out exactly where its octet isn't next.
+abbrev pub FieldRead : {V : Type 0} → ℕ → (V → List ℕ → Type 0) → V → List ℕ → V → List ℕ → Type 0
+FieldRead number Grammar default bytes value rest =
+    ((IsNext number bytes → ⊥) × (value ≡ default) × (rest ≡ bytes)) ⊎
+    Then (Tlv (160 + number) (Grammar value)) (Is rest) bytes
+
+-- Its octet is next, and no text of the field.
+abbrev pub FieldRefused : {V : Type 0} → ℕ → (V → List ℕ → Type 0) → List ℕ → Type 0
+FieldRefused {V} number Grammar bytes = IsNext number bytes × ((value : V) (rest : List ℕ) → Then (Tlv (160 + number) (Grammar value)) (Is rest) bytes → ⊥)

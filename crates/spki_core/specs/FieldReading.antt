@@ -1,0 +1,14 @@
+-- What reading a field with a default gives.
+use Rattle.std.specs.Prelude.{ℕ, List, ◌≡◌, ◌+◌, Result, Ok, Err, Some, None}
+use Rattle.der_core.specs.declared.error.Error.{Error}
+use Rattle.der_core.specs.Input.{Input}
+use Rattle.der_core.specs.Tlv.{Tlv}
+use Rattle.der_core.specs.Reading.{AskedIn, Refuses}
+use Rattle.spki_core.specs.Explicit.{FieldRead, FieldRefused}
+
+-- The field was read, or it has its default; or the reader has failed, and its octet is next, but no text of it.
+abbrev pub ReadsField : {X V : Type 0} → ℕ → (X → V) → (V → List ℕ → Type 0) → X → (List ℕ → Type 0) → Result X Error → Input → Input → Type 0
+ReadsField n value text default asks (Ok x) before after =
+    (bytes : List ℕ) × (rest : List ℕ) × (before ≡ Some bytes) × (after ≡ Some rest) × FieldRead n text (value default) bytes (value x) rest
+ReadsField n value text default asks (Err e) before after =
+    (after ≡ None) × ((bytes : List ℕ) → before ≡ Some bytes → Refuses e.kind (AskedIn (Tlv (160 + n) asks) bytes) (FieldRefused n text bytes))

@@ -1,0 +1,12 @@
+-- What is written of a field that may be left out.
+use Rattle.std.specs.Prelude.{ℕ, Bool, true, false, List, [], ◌+◌}
+use Rattle.der_core.specs.Tlv.{tlv}
+
+-- It can be written where it is left out, or where its value can.
+abbrev pub HasField : Bool → Type 0 → Type 0
+HasField true has = Unit {0}
+HasField false has = has
+
+abbrev pub written_field : Bool → ℕ → List ℕ → List ℕ
+written_field true number text = []
+written_field false number text = tlv (160 + number) text

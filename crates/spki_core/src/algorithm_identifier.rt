@@ -1,0 +1,166 @@
+//! Algorithm identifiers (RFC 5280 4.1.1.2).
+ghost use Rattle.std.specs.Prelude.{◌≡◌, ◌≢◌, refl, IfOk, IfErr};
+ghost use Rattle.std.specs.Option.{option_map};
+ghost use Rattle.der_core.specs.Reading.{AsksWithin};
+ghost use Rattle.spki_core.specs.Any.{TagAndContents};
+ghost use Rattle.spki_core.specs.AlgorithmIdentifier.{Algorithm, AlgorithmContents, HasAlgorithm, written_algorithm};
+ghost use Rattle.spki_core.specs.AlgorithmLaws.{algorithm_means_one, algorithm_of_bytes, algorithm_relates, algorithm_shortest, algorithm_decides};
+
+use crate::any::{AnyRef, AnyValue};
+use crate::object_identifier::ObjectIdentifier;
+use der_core::{
+    BackWriter, Contents, Decode, DecodeValue, Encode, EncodeValue, EqualByValue, Error, ErrorKind,
+    Header, Kinded, Length, Memory, Reader, Result, Sequence, SequenceTag, Text, TryClone, Writer,
+    decode_last, encode_optional, joined_len, optional_len, prepend_optional,
+};
+use std::alloc::Global;
+
+/// An identifier, and parameters that are there or not.
+#[derive(Clone, Copy, Debug, PartialEq, Eq, Drop)]
+pub struct AlgorithmIdentifier<P> {
+    pub oid: ObjectIdentifier,
+    pub parameters: Option<P>,
+}
+
+/// An identifier whose parameters are any text, and borrowed.
+pub type AlgorithmIdentifierRef<'a> = AlgorithmIdentifier<AnyRef<'a>>;
+
+impl<P: Text> Contents for AlgorithmIdentifier<P> {
+    ghost use Rattle.spki_core.specs.AlgorithmRefs.{algorithm_with};
+
+    ghost Value = { Algorithm P.Value };
+
+    ghost value = { algorithm_with P.value };
+
+    ghost contents = { AlgorithmContents P.text };
+
+    ghost has_contents = { HasAlgorithm P.has_text };
+
+    ghost written_contents = { written_algorithm P.written_text };
+
+    ghost means_one = { algorithm_means_one P.text P.delimited };
+
+    ghost contents_of_bytes = { algorithm_of_bytes P.text P.text_of_bytes };
+}
+
+impl<P> Kinded for AlgorithmIdentifier<P> {
+    type Kind = SequenceTag;
+}
+
+impl<'a, P> Sequence<'a> for AlgorithmIdentifier<P> {
+    ghost is_sequence = { refl };
+}
+
+impl<P: EqualByValue> EqualByValue for AlgorithmIdentifier<P> {
+    ghost use Rattle.spki_core.specs.ObjectIdentifiers.{octets_of};
+
+    ghost decides = { λ a b. algorithm_decides P.value P.eq P.decides (octets_of a.oid) (octets_of b.oid) a.parameters b.parameters };
+}
+
+impl<'a, M: Memory, P: Decode<&'a [u8], M>> DecodeValue<&'a [u8], M> for AlgorithmIdentifier<P> {
+    ghost asks = { AsksWithin P.Decode.asks };
+
+    fn decode_value<R: Reader<&'a [u8]>>(
+        memory: M,
+        reader: &mut R,
+        _header: Header,
+    ) -> Result<AlgorithmIdentifier<P>> {
+        let oid = ObjectIdentifier::decode(memory, reader)?;
+        let parameters = decode_last(memory, reader)?;
+        Ok(AlgorithmIdentifier { oid, parameters })
+    }
+}
+
+impl<P: Encode> EncodeValue for AlgorithmIdentifier<P> {
+    fn value_len(&self) -> Result<Length> {
+        joined_len(self.oid.encoded_len(), optional_len(&self.parameters))
+    }
+
+    fn encode_value<W: Writer>(&self, writer: &mut W) -> Result<()> {
+        self.value_len()?;
+        self.oid.encode(writer)?;
+        encode_optional(&self.parameters, writer)
+    }
+
+    fn prepend_value(&self, writer: &mut BackWriter<'_>) {
+        prepend_optional(&self.parameters, writer);
+        self.oid.prepend(writer);
+    }
+
+    ghost contents_relate = { algorithm_relates P.text P.has_text P.written_text P.text_relates };
+
+    ghost contents_shortest = { algorithm_shortest P.text P.has_text P.written_text P.text_shortest };
+}
+
+impl<P: TryClone> TryClone for AlgorithmIdentifier<P> {
+    fn try_clone(&self, alloc: Global) -> Result<AlgorithmIdentifier<P>> {
+        let parameters = match &self.parameters {
+            Some(parameters) => Some(parameters.try_clone(alloc)?),
+            None => None,
+        };
+        Ok(AlgorithmIdentifier {
+            oid: self.oid,
+            parameters,
+        })
+    }
+}
+
+impl<P> AlgorithmIdentifier<P> {
+    ghost use Rattle.spki_core.specs.ObjectIdentifiers.{octets_of};
+
+    /// The identifier where it is the one that is asked for, else `OidUnknown`.
+    pub fn assert_algorithm_oid(&self, expected: ObjectIdentifier) -> Result<ObjectIdentifier>
+        ensures ok { IfOk result (λ oid. (oid ≡ self.now.oid) × (octets_of self.now.oid ≡ octets_of expected)) }
+        ensures err { IfErr result (λ e. (e.kind ≡ ErrorKind.OidUnknown) × (octets_of self.now.oid ≢ octets_of expected)) }
+    {
+        if self.oid == expected {
+            Ok(self.oid)
+        } else {
+            Err(Error::new(ErrorKind::OidUnknown))
+        }
+    }
+}
+
+impl<P: AnyValue> AlgorithmIdentifier<P> {
+    ghost use Rattle.std.specs.Prelude.{Some, None};
+    ghost use Rattle.spki_core.specs.AnyRefs.{any_of};
+
+    /// The parameters, borrowed, or `ParametersMissing` where they are absent.
+    pub fn parameters_any(&self) -> Result<AnyRef<'_>>
+        ensures ok { IfOk result (λ any. option_map P.any self.now.parameters ≡ Some (any_of any)) }
+        ensures err { IfErr result (λ e. (e.kind ≡ ErrorKind.ParametersMissing) × (option_map P.any self.now.parameters ≡ None)) }
+    {
+        match &self.parameters {
+            Some(parameters) => Ok(parameters.as_any_ref()),
+            None => Err(Error::new(ErrorKind::ParametersMissing)),
+        }
+    }
+}
+
+/// A type that holds an identifier whose parameters are any text.
+pub trait AsAlgorithmIdentifierRef {
+    ghost use Rattle.spki_core.specs.AlgorithmRefs.{algorithm_of};
+
+    /// What it holds.
+    ghost algorithm: { Self → Algorithm TagAndContents };
+
+    /// The same, borrowed.
+    fn as_algo_ref(&self) -> AlgorithmIdentifier<AnyRef<'_>>
+        ensures { algorithm_of result ≡ algorithm self.now };
+}
+
+impl<P: AnyValue> AsAlgorithmIdentifierRef for AlgorithmIdentifier<P> {
+    ghost use Rattle.spki_core.specs.AlgorithmRefs.{algorithm_with};
+
+    ghost algorithm = { algorithm_with P.any };
+
+    fn as_algo_ref(&self) -> AlgorithmIdentifier<AnyRef<'_>> {
+        AlgorithmIdentifier {
+            oid: self.oid,
+            parameters: match &self.parameters {
+                Some(parameters) => Some(parameters.as_any_ref()),
+                None => None,
+            },
+        }
+    }
+}

@@ -1,0 +1,204 @@
+//! Texts of any tag.
+ghost use Rattle.std.specs.Prelude.{◌≡◌, ◌≢◌, ◌≤◌, ◌<◌, ℕ, [], length, slice_index, refl, IfOk, IfErr};
+ghost use Rattle.der_core.specs.Length.{limit};
+ghost use Rattle.der_core.specs.Reading.{ReadsText, Refuses};
+ghost use Rattle.der_core.specs.Refusal.{IsUnexpected};
+ghost use Rattle.spki_core.specs.Any.{TagAndContents, IsAny, Any, null_value, written_any};
+ghost use Rattle.spki_core.specs.AnyLaws.{any_delimited, any_of_bytes, any_relates, any_shortest};
+
+use der_core::{
+    BackWriter, Decode, DecodeValue, Encode, EqualByValue, Error, ErrorKind, FixedTag, Header,
+    Length, Memory, Reader, Result, SliceReader, Tag, Text, Writer,
+};
+
+/// A tag and contents octets that are not looked at. It borrows them.
+#[derive(Clone, Copy, Debug, PartialEq, Eq, Drop)]
+pub struct AnyRef<'a> {
+    tag: Tag,
+    contents: &'a [u8],
+    ghost bounded: { length contents.now ≤ limit },
+    ghost octets: { (i : ℕ) → slice_index contents.now i < 256 },
+}
+
+impl<'a> AnyRef<'a> {
+    ghost use Rattle.spki_core.specs.AnyRefs.{any_of};
+
+    /// A tag and contents, or `Overflow` where the contents pass `Length::MAX`.
+    pub fn new(tag: Tag, contents: &'a [u8]) -> Result<AnyRef<'a>>
+        ensures ok { IfOk result (λ any. any_of any ≡ record { tag = tag.octet; contents = contents.now }) }
+        ensures err { IfErr result (λ e. (e.kind ≡ ErrorKind.Overflow) × (limit < length contents.now)) }
+    {
+        if contents.len() > Length::MAX.to_usize() {
+            return Err(Error::new(ErrorKind::Overflow));
+        }
+        Ok(AnyRef { tag, contents })
+    }
+
+    /// NULL (X.690 8.8), which has no contents octet.
+    pub fn null() -> AnyRef<'static>
+        ensures { any_of result ≡ null_value }
+    {
+        AnyRef {
+            tag: Tag::NULL,
+            contents: &[],
+        }
+    }
+
+    pub fn tag(&self) -> Tag
+        ensures { result.octet ≡ (any_of self.now).tag }
+    {
+        self.tag
+    }
+
+    /// The contents octets.
+    pub fn value(&self) -> &'a [u8]
+        ensures contents { result.now ≡ (any_of self.now).contents }
+        ensures bound { length result.now ≤ limit }
+    {
+        self.contents
+    }
+
+    /// The value whose contents octets these are: the tag must be the type's (`TagUnexpected`), and the octets its whole
+    /// contents.
+    pub fn decode_as<T: DecodeValue<&'a [u8], M> + FixedTag, M: Memory>(
+        self,
+        memory: M,
+    ) -> Result<T>
+        ensures ok { IfOk result (λ value. ((any_of self.entry).tag ≡ T.TAG.octet) × T.contents (T.value value) (any_of self.entry).contents) }
+        ensures err { IfErr result (λ e. Refuses e.kind (T.asks (any_of self.entry).contents) ((value : T.Value) → (any_of self.entry).tag ≡ T.TAG.octet → T.contents value (any_of self.entry).contents → ⊥)) }
+        ensures tag { IfErr result (λ e. (any_of self.entry).tag ≢ T.TAG.octet → IsUnexpected T.TAG (any_of self.entry).tag e.kind) }
+    {
+        if self.tag != T::TAG {
+            return Err(Error::new(ErrorKind::TagUnexpected {
+                expected: T::TAG,
+                actual: self.tag,
+            }));
+        }
+        let mut reader = SliceReader::new(self.contents)?;
+        T::decode_value(memory, &mut reader, self.header())
+    }
+
+    /// Its header.
+    fn header(&self) -> Header
+        ensures tag { result.tag ≡ self.now.tag }
+        ensures length { result.length ≡ length self.now.contents.now }
+    {
+        Header {
+            tag: self.tag,
+            length: Length::of(self.contents.len()),
+        }
+    }
+}
+
+impl Text for AnyRef<'_> {
+    ghost use Rattle.spki_core.specs.AnyRefs.{any_of};
+
+    ghost Value = { TagAndContents };
+
+    ghost value = { any_of };
+
+    ghost text = { Any };
+
+    ghost has_text = { IsAny };
+
+    ghost written_text = { written_any };
+
+    ghost delimited = { any_delimited };
+
+    ghost text_of_bytes = { any_of_bytes };
+}
+
+impl<'a, M: Memory> Decode<&'a [u8], M> for AnyRef<'a> {
+    ghost asks = { λ _. ⊥ };
+
+    fn decode<R: Reader<&'a [u8]>>(_memory: M, reader: &mut R) -> Result<AnyRef<'a>> {
+        read_any(reader)
+    }
+
+    fn from_der(_memory: M, bytes: &'a [u8]) -> Result<AnyRef<'a>> {
+        let mut reader = SliceReader::new(bytes)?;
+        let any = read_any(&mut reader)?;
+        reader.finish()?;
+        Ok(any)
+    }
+}
+
+/// Reads the text at the front of the reader.
+fn read_any<'a, R: Reader<&'a [u8]>>(reader: &mut R) -> Result<AnyRef<'a>>
+    ensures { ReadsText (λ (any : AnyRef). record { tag = any.tag.octet; contents = any.contents.now }) Any (λ _. ⊥) result (R.left reader.old) (R.left reader.new) }
+{
+    let header = Header::decode(reader)?;
+    let contents = reader.read_slice(header.length)?;
+    Ok(AnyRef {
+        tag: header.tag,
+        contents,
+    })
+}
+
+impl Encode for AnyRef<'_> {
+    fn encoded_len(&self) -> Result<Length> {
+        self.header().length.for_tlv(self.tag)
+    }
+
+    fn encode<W: Writer>(&self, writer: &mut W) -> Result<()> {
+        self.encoded_len()?;
+        writer.write(&self.header().to_bytes())?;
+        writer.write(self.contents)
+    }
+
+    fn prepend(&self, writer: &mut BackWriter<'_>) {
+        writer.prepend(self.contents);
+        writer.prepend_header(self.header());
+    }
+
+    ghost text_relates = { any_relates };
+
+    ghost text_shortest = { any_shortest };
+}
+
+/// A type that holds a tag with contents octets: its texts are texts of any tag.
+pub trait AnyValue: EqualByValue {
+    ghost use Rattle.spki_core.specs.AnyRefs.{any_of};
+    ghost use Rattle.spki_core.specs.AnyValues.{HoldsAny};
+
+    /// What it holds.
+    ghost any: { Self → TagAndContents };
+
+    /// The same, borrowed.
+    fn as_any_ref(&self) -> AnyRef<'_>
+        ensures { any_of result ≡ any self.now };
+
+    ghost holds: { HoldsAny Self.value Self.text Self.any };
+}
+
+impl EqualByValue for AnyRef<'_> {
+    ghost use Rattle.spki_core.specs.AnyLaws.{any_decides};
+
+    ghost decides = { λ a b. any_decides a.tag.octet b.tag.octet a.contents.now b.contents.now };
+}
+
+impl AnyValue for AnyRef<'_> {
+    ghost use Rattle.spki_core.specs.AnyRefs.{any_of};
+    ghost use Rattle.spki_core.specs.AnyValues.{holds_itself};
+
+    ghost any = { any_of };
+
+    fn as_any_ref(&self) -> AnyRef<'_> {
+        *self
+    }
+
+    ghost holds = { holds_itself any_of };
+}
+
+/// Parameters that are texts of any tag, and that can be made without memory.
+pub trait AnyParams<M: Memory>: AnyValue + Sized {
+    /// A tag with no contents octet.
+    fn empty(memory: M, tag: Tag) -> Self
+        ensures { Self.any result ≡ record { tag = tag.octet; contents = [] } };
+}
+
+impl<'a, M: Memory> AnyParams<M> for AnyRef<'a> {
+    fn empty(_memory: M, tag: Tag) -> AnyRef<'a> {
+        AnyRef { tag, contents: &[] }
+    }
+}

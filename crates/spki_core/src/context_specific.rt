@@ -1,0 +1,110 @@
+//! Values inside explicit tags of the class context-specific (X.690 8.14.2).
+ghost use Rattle.std.specs.Prelude.{◌≡◌, ◌+◌};
+ghost use Rattle.der_core.specs.Tlv.{Tlv};
+ghost use Rattle.der_core.specs.Reading.{ReadsText, ReadsOptional, AsksWithin};
+ghost use Rattle.spki_core.specs.ContextSpecific.{Numbered, ContextSpecific, HasNumbered, written_numbered};
+ghost use Rattle.spki_core.specs.ContextSpecificLaws.{numbered_delimited, numbered_of_bytes, numbered_relates, numbered_shortest};
+
+use der_core::{
+    BackWriter, Decode, Encode, ErrorKind, Header, Length, Memory, Reader, Result, Tag, TagNumber,
+    Text, Writer, decode_whole,
+};
+
+/// A value that is written inside the tag `[tag_number]`. It borrows the value.
+#[derive(Clone, Copy, Drop)]
+pub struct ContextSpecificRef<'b, T> {
+    pub tag_number: TagNumber,
+    pub value: &'b T,
+}
+
+impl<'b, T> ContextSpecificRef<'b, T> {
+    fn tag(&self) -> Tag
+        ensures { result.octet ≡ 160 + self.now.tag_number.value }
+    {
+        Tag::context(self.tag_number)
+    }
+}
+
+impl<'b, T: Text> Text for ContextSpecificRef<'b, T> {
+    ghost Value = { Numbered T.Value };
+
+    ghost value = { λ v. record { number = v.tag_number.value; value = T.value v.value.now } };
+
+    ghost text = { ContextSpecific T.text };
+
+    ghost has_text = { HasNumbered T.has_text };
+
+    ghost written_text = { written_numbered T.written_text };
+
+    ghost delimited = { numbered_delimited T.text T.delimited };
+
+    ghost text_of_bytes = { numbered_of_bytes T.text T.text_of_bytes };
+}
+
+impl<'b, T: Encode> Encode for ContextSpecificRef<'b, T> {
+    fn encoded_len(&self) -> Result<Length> {
+        self.value.encoded_len()?.for_tlv(self.tag())
+    }
+
+    fn encode<W: Writer>(&self, writer: &mut W) -> Result<()> {
+        let tag = self.tag();
+        let length = self.value.encoded_len()?;
+        length.for_tlv(tag)?;
+        writer.write(&Header { tag, length }.to_bytes())?;
+        self.value.encode(writer)
+    }
+
+    fn prepend(&self, writer: &mut BackWriter<'_>) {
+        let before = writer.filled_len();
+        self.value.prepend(writer);
+        let length = Length::of(writer.filled_len() - before);
+        writer.prepend_header(Header {
+            tag: self.tag(),
+            length,
+        });
+    }
+
+    ghost text_relates = { numbered_relates T.text T.has_text T.written_text T.text_relates };
+
+    ghost text_shortest = { numbered_shortest T.text T.has_text T.written_text T.text_shortest };
+}
+
+/// Reads the value of an explicit field exactly where the octet of its tag comes next. The tag wraps exactly one text:
+/// bytes behind that are `TrailingData`. On a reader that has failed the answer is `Failed`.
+pub fn read_context_specific<'a, T: Decode<&'a [u8], M>, M: Memory, R: Reader<&'a [u8]>>(
+    memory: M,
+    reader: &mut R,
+    number: TagNumber,
+) -> Result<Option<T>>
+    ensures { ReadsOptional (160 + number.value) T.value (λ v. Tlv (160 + number.value) (T.text v)) (Tlv (160 + number.value) (AsksWithin T.Decode.asks)) result (R.left reader.old) (R.left reader.new) }
+{
+    reader.read_slice(Length::ZERO)?;
+    let tag = Tag::context(number);
+    if reader.peek_octet() != Some(tag.octet()) {
+        return Ok(None);
+    }
+    let value = read_explicit(memory, reader, tag)?;
+    Ok(Some(value))
+}
+
+/// Reads one text inside a tag.
+fn read_explicit<'a, T: Decode<&'a [u8], M>, M: Memory, R: Reader<&'a [u8]>>(
+    memory: M,
+    reader: &mut R,
+    tag: Tag,
+) -> Result<T>
+    ensures { ReadsText T.value (λ v. Tlv tag.octet (T.text v)) (Tlv tag.octet (AsksWithin T.Decode.asks)) result (R.left reader.old) (R.left reader.new) }
+{
+    let header = Header::decode(reader)?;
+    if header.tag != tag {
+        return Err(reader.error(ErrorKind::TagUnexpected {
+            expected: tag,
+            actual: header.tag,
+        }));
+    }
+    let mut nested = reader.nested(header.length)?;
+    match decode_whole(memory, &mut nested) {
+        Ok(value) => Ok(value),
+        Err(e) => Err(reader.error(e.kind())),
+    }
+}

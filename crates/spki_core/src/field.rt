@@ -1,0 +1,77 @@
+//! Explicit fields with defaults (X.690 8.14.2, 11.5).
+ghost use Rattle.std.specs.Prelude.{◌≡◌, ◌≤◌, ◌+◌, ◌++◌, length, OnOk, IfErr};
+ghost use Rattle.der_core.specs.Length.{limit};
+ghost use Rattle.der_core.specs.BackWriters.{free_of, Prepends};
+ghost use Rattle.der_core.specs.Reading.{AsksWithin};
+ghost use Rattle.der_core.specs.Writing.{Counts, Stops, fault};
+ghost use Rattle.spki_core.specs.FieldReading.{ReadsField};
+ghost use Rattle.spki_core.specs.FieldWriting.{HasField, written_field};
+
+use crate::context_specific::{ContextSpecificRef, read_context_specific};
+use der_core::{
+    BackWriter, Decode, Encode, Length, Memory, Reader, Result, TagNumber, Text, Writer,
+};
+
+/// Reads an explicit field, or takes its default where the octet of its tag isn't next.
+pub fn read_field<'a, T: Decode<&'a [u8], M>, M: Memory, R: Reader<&'a [u8]>>(
+    memory: M,
+    reader: &mut R,
+    number: TagNumber,
+    default: T,
+) -> Result<T>
+    ensures { ReadsField number.value T.value T.text default (AsksWithin T.Decode.asks) result (R.left reader.old) (R.left reader.new) }
+{
+    match read_context_specific(memory, reader, number) {
+        Ok(Some(value)) => Ok(value),
+        Ok(None) => Ok(default),
+        Err(e) => Err(e),
+    }
+}
+
+/// How many octets are written of a field, which may be left out.
+pub fn field_len<T: Encode>(left_out: bool, tag_number: TagNumber, value: &T) -> Result<Length>
+    ensures { Counts (HasField left_out (T.has_text (T.value value.now))) (written_field left_out tag_number.value (T.written_text (T.value value.now))) result }
+{
+    if left_out {
+        Ok(Length::ZERO)
+    } else {
+        ContextSpecificRef { tag_number, value }.encoded_len()
+    }
+}
+
+/// Appends a field, which may be left out.
+pub fn encode_field<T: Encode, W: Writer>(
+    left_out: bool,
+    tag_number: TagNumber,
+    value: &T,
+    writer: &mut W,
+) -> Result<()>
+    ensures has { OnOk result (HasField left_out (T.has_text (T.value value.now)) × (length (written_field left_out tag_number.value (T.written_text (T.value value.now))) ≤ limit)) }
+    ensures written { OnOk result (W.written writer.new ≡ W.written writer.old ++ written_field left_out tag_number.value (T.written_text (T.value value.now))) }
+    ensures room { OnOk result (W.room writer.new + length (written_field left_out tag_number.value (T.written_text (T.value value.now))) ≡ W.room writer.old) }
+    ensures left { IfErr result (λ e. Stops (HasField left_out (T.has_text (T.value value.now))) (written_field left_out tag_number.value (T.written_text (T.value value.now))) (W.room writer.old) (W.written writer.old) (W.written writer.new) (fault e.kind)) }
+    ensures kept { W.keeps writer.old writer.new }
+{
+    if left_out {
+        Ok(())
+    } else {
+        ContextSpecificRef { tag_number, value }.encode(writer)
+    }
+}
+
+/// Puts a field before what is filled, or leaves it out.
+pub fn prepend_field<T: Encode>(
+    left_out: bool,
+    tag_number: TagNumber,
+    value: &T,
+    writer: &mut BackWriter<'_>,
+)
+    requires has { HasField left_out (T.has_text (T.value value.now)) }
+    requires fits { length (written_field left_out tag_number.value (T.written_text (T.value value.now))) ≤ limit }
+    requires room { length (written_field left_out tag_number.value (T.written_text (T.value value.now))) ≤ free_of writer.old }
+    ensures { Prepends (written_field left_out tag_number.value (T.written_text (T.value value.now))) writer.old writer.new }
+{
+    if !left_out {
+        ContextSpecificRef { tag_number, value }.prepend(writer);
+    }
+}

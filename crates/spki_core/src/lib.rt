@@ -1,0 +1,18 @@
+//! Algorithm identifiers, texts of any tag, and explicit fields, over the DER kernel.
+#![tactic(auto)]
+
+mod algorithm_identifier;
+mod any;
+mod context_specific;
+mod field;
+mod object_identifier;
+mod owned_any;
+
+pub use algorithm_identifier::{
+    AlgorithmIdentifier, AlgorithmIdentifierRef, AsAlgorithmIdentifierRef,
+};
+pub use any::{AnyParams, AnyRef, AnyValue};
+pub use context_specific::{ContextSpecificRef, read_context_specific};
+pub use field::{encode_field, field_len, prepend_field, read_field};
+pub use object_identifier::{AssociatedOid, ObjectIdentifier, ObjectIdentifierTag};
+pub use owned_any::Any;

@@ -1,0 +1,197 @@
+//! Object identifiers.
+ghost use Rattle.std.specs.Prelude.{◌≡◌, ℕ, ◌≤◌, ◌<◌, List, take, slice_index, IsTrue, IfOk, IfErr};
+ghost use Rattle.spki_core.specs.IdentifierTest as specs;
+ghost use Rattle.spki_core.specs.ObjectIdentifier.{IsIdentifier, IdentifierContents};
+ghost use Rattle.spki_core.specs.IdentifierLaws.{identifier_means_one, identifier_contents_of_bytes, identifier_contents_relate, identifier_contents_shortest};
+ghost use Rattle.std.proofs.Common.{rules};
+ghost use Rattle.std.specs.Hash as fed;
+ghost use Rattle.std.specs.Str.{bytes_eq};
+ghost use Rattle.std.specs.Cmp.Rules.{comparing, hashing};
+ghost use Rattle.der_core.specs.Tags.{object_identifier};
+
+use der_core::{
+    BackWriter, Contents, DecodeValue, EncodeValue, EqualByValue, Error, ErrorKind, Header, Kinded,
+    Length, Memory, Reader, Result, Tag, TagKind, Writer,
+};
+use std::hash::{Hash, Hasher};
+
+/// An object identifier, by its contents octets (X.690 8.19). At most 39 octets are kept, without memory.
+#[derive(Clone, Copy, Debug, Drop)]
+pub struct ObjectIdentifier {
+    octets: [u8; 39],
+    length: u8,
+    ghost fits: { length ≤ 39 },
+    ghost valid: { IsTrue (specs.is_identifier (take length octets)) },
+    ghost bytes: { (i : ℕ) → slice_index (take length octets) i < 256 },
+}
+
+/// Whether the octets are one or more whole subidentifiers, of at most 39 octets together.
+fn is_identifier(octets: &[u8]) -> bool
+    ensures { result ≡ specs.is_identifier octets.now }
+{
+    let mut start = true;
+    for octet in octets {
+        if start && *octet == 0x80 {
+            return false;
+        }
+        start = *octet < 0x80;
+    }
+    start && !octets.is_empty() && octets.len() <= 39
+}
+
+/// A type that stands for an algorithm, by the identifier of that.
+pub trait AssociatedOid {
+    /// The contents octets of the identifier.
+    ghost contents: { List ℕ };
+
+    ghost valid: { IsTrue (specs.is_identifier contents) };
+
+    const OID: &'static [u8];
+
+    /// `OID`, where a contract can name it.
+    fn octets() -> &'static [u8]
+        ensures { result.now ≡ contents };
+}
+
+impl ObjectIdentifier {
+    ghost use Rattle.spki_core.specs.ObjectIdentifiers.{octets_of};
+
+    /// The identifier with these contents.
+    fn new(bytes: &[u8]) -> ObjectIdentifier
+        requires { IsTrue (specs.is_identifier bytes.now) }
+        ensures { octets_of result ≡ bytes.now }
+    {
+        let mut octets = [0; 39];
+        octets[..bytes.len()].copy_from_slice(bytes);
+        ObjectIdentifier {
+            octets,
+            length: bytes.len() as u8,
+        }
+    }
+
+    /// The identifier with these contents octets, or `OidMalformed`.
+    pub fn from_bytes(bytes: &[u8]) -> Result<ObjectIdentifier>
+        ensures ok { IfOk result (λ oid. IsIdentifier bytes.now × (octets_of oid ≡ bytes.now)) }
+        ensures err { IfErr result (λ e. (e.kind ≡ ErrorKind.OidMalformed) × (IsIdentifier bytes.now → ⊥)) }
+    {
+        if !is_identifier(bytes) {
+            return Err(Error::new(ErrorKind::OidMalformed));
+        }
+        Ok(ObjectIdentifier::new(bytes))
+    }
+
+    /// The contents octets, at least one.
+    pub fn as_bytes(&self) -> &[u8]
+        ensures octets { result.now ≡ octets_of self.now }
+        ensures valid { IsIdentifier (octets_of self.now) }
+    {
+        &self.octets[..self.length as usize]
+    }
+
+    /// The identifier of an algorithm.
+    pub fn of<D: AssociatedOid>() -> ObjectIdentifier
+        ensures { octets_of result ≡ D.contents }
+    {
+        ObjectIdentifier::new(D::octets())
+    }
+}
+
+impl PartialEq for ObjectIdentifier {
+    ghost use Rattle.spki_core.specs.ObjectIdentifiers.{octets_of};
+
+    ghost eq = { λ a b. bytes_eq (octets_of a) (octets_of b) };
+
+    ghost laws = { Prim.search (comparing, rules) };
+
+    fn eq(&self, other: &ObjectIdentifier) -> bool {
+        self.as_bytes() == other.as_bytes()
+    }
+}
+
+impl Eq for ObjectIdentifier {
+    ghost laws = { Prim.search (comparing, rules) };
+}
+
+impl Hash for ObjectIdentifier {
+    ghost use Rattle.spki_core.specs.ObjectIdentifiers.{octets_of};
+
+    ghost hash_input = { λ oid. fed.slice fed.u8 (octets_of oid) };
+
+    ghost respects_eq = { Prim.search (hashing, rules) };
+
+    fn hash<H: Hasher>(&self, state: &mut H) {
+        self.as_bytes().hash(state);
+    }
+}
+
+/// The tag of OBJECT IDENTIFIER.
+pub struct ObjectIdentifierTag;
+
+impl TagKind for ObjectIdentifierTag {
+    ghost TAG = { object_identifier };
+
+    const TAG: Tag = Tag::OBJECT_IDENTIFIER;
+}
+
+impl Contents for ObjectIdentifier {
+    ghost use Rattle.spki_core.specs.ObjectIdentifiers.{octets_of};
+
+    ghost Value = { List ℕ };
+
+    ghost value = { octets_of };
+
+    ghost contents = { IdentifierContents };
+
+    ghost has_contents = { IsIdentifier };
+
+    ghost written_contents = { λ oid. oid };
+
+    ghost means_one = { identifier_means_one };
+
+    ghost contents_of_bytes = { identifier_contents_of_bytes };
+}
+
+impl Kinded for ObjectIdentifier {
+    type Kind = ObjectIdentifierTag;
+}
+
+impl EqualByValue for ObjectIdentifier {
+    ghost use Rattle.spki_core.specs.ObjectIdentifiers.{octets_of};
+    ghost use Rattle.der_core.specs.EqualityLaws.{bytes_decide};
+
+    ghost decides = { λ a b. bytes_decide (octets_of a) (octets_of b) };
+}
+
+impl<'a, M: Memory> DecodeValue<&'a [u8], M> for ObjectIdentifier {
+    ghost asks = { λ _. ⊥ };
+
+    fn decode_value<R: Reader<&'a [u8]>>(
+        _memory: M,
+        reader: &mut R,
+        header: Header,
+    ) -> Result<ObjectIdentifier> {
+        let contents = reader.read_slice(header.length)?;
+        match ObjectIdentifier::from_bytes(contents) {
+            Ok(oid) => Ok(oid),
+            Err(e) => Err(reader.error(e.kind())),
+        }
+    }
+}
+
+impl EncodeValue for ObjectIdentifier {
+    fn value_len(&self) -> Result<Length> {
+        Length::try_from(self.as_bytes().len())
+    }
+
+    fn encode_value<W: Writer>(&self, writer: &mut W) -> Result<()> {
+        writer.write(self.as_bytes())
+    }
+
+    fn prepend_value(&self, writer: &mut BackWriter<'_>) {
+        writer.prepend(self.as_bytes());
+    }
+
+    ghost contents_relate = { λ oid has fits. identifier_contents_relate oid has };
+
+    ghost contents_shortest = { identifier_contents_shortest };
+}

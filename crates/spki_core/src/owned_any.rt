@@ -1,0 +1,144 @@
+//! Texts of any tag that own their contents.
+ghost use Rattle.std.specs.Prelude.{◌≡◌, ◌≤◌, ◌<◌, ◌⊎◌, ℕ, length, slice_index, IfOk, IfErr};
+ghost use Rattle.der_core.specs.Length.{limit};
+ghost use Rattle.spki_core.specs.Any.{TagAndContents, IsAny, written_any};
+ghost use Rattle.spki_core.specs.Any as grammar;
+ghost use Rattle.spki_core.specs.AnyLaws.{any_delimited, any_of_bytes, any_relates, any_shortest};
+
+use crate::any::{AnyParams, AnyRef, AnyValue};
+use der_core::{
+    BackWriter, Decode, Encode, EqualByValue, Error, ErrorKind, Length, NoMemory, Reader, Result,
+    Tag, Text, TryClone, Writer,
+};
+use std::alloc::Global;
+
+/// A tag and contents octets that are not looked at. It owns them.
+#[derive(Debug, PartialEq, Eq, Drop)]
+pub struct Any {
+    tag: Tag,
+    contents: Vec<u8>,
+    ghost bounded: { length contents.items ≤ limit },
+    ghost octets: { (i : ℕ) → slice_index contents.items i < 256 },
+}
+
+impl Any {
+    ghost use Rattle.spki_core.specs.Anys.{any_in};
+    ghost use Rattle.spki_core.specs.AnyRefs.{any_of};
+
+    /// A tag and a copy of contents: `Overflow` where the contents pass `Length::MAX`.
+    pub fn new(alloc: Global, tag: Tag, contents: &[u8]) -> Result<Any>
+        ensures ok { IfOk result (λ any. any_in any ≡ record { tag = tag.octet; contents = contents.now }) }
+        ensures err { IfErr result (λ e. ((e.kind ≡ ErrorKind.Overflow) × (limit < length contents.now)) ⊎ ((e.kind ≡ ErrorKind.OutOfMemory) × (length contents.now ≤ limit))) }
+    {
+        if contents.len() > Length::MAX.to_usize() {
+            return Err(Error::new(ErrorKind::Overflow));
+        }
+        Any::copy_of(alloc, tag, contents)
+    }
+
+    /// A tag and a copy of contents.
+    fn copy_of(alloc: Global, tag: Tag, contents: &[u8]) -> Result<Any>
+        requires { length contents.now ≤ limit }
+        ensures ok { IfOk result (λ any. any_in any ≡ record { tag = tag.octet; contents = contents.now }) }
+        ensures err { IfErr result (λ e. e.kind ≡ ErrorKind.OutOfMemory) }
+    {
+        let mut copy = Vec::new(alloc);
+        if copy.extend_from_slice(contents).is_err() {
+            return Err(Error::new(ErrorKind::OutOfMemory));
+        }
+        Ok(Any {
+            tag,
+            contents: copy,
+        })
+    }
+}
+
+impl Text for Any {
+    ghost use Rattle.spki_core.specs.Anys.{any_in};
+
+    ghost Value = { TagAndContents };
+
+    ghost value = { any_in };
+
+    ghost text = { grammar.Any };
+
+    ghost has_text = { IsAny };
+
+    ghost written_text = { written_any };
+
+    ghost delimited = { any_delimited };
+
+    ghost text_of_bytes = { any_of_bytes };
+}
+
+impl<'a> Decode<&'a [u8], Global> for Any {
+    ghost asks = { λ b. (v : TagAndContents) × grammar.Any v b };
+
+    fn decode<R: Reader<&'a [u8]>>(memory: Global, reader: &mut R) -> Result<Any> {
+        let any = AnyRef::decode(NoMemory, reader)?;
+        match Any::copy_of(memory, any.tag(), any.value()) {
+            Ok(any) => Ok(any),
+            Err(e) => Err(reader.error(e.kind())),
+        }
+    }
+
+    fn from_der(memory: Global, bytes: &'a [u8]) -> Result<Any> {
+        let any = AnyRef::from_der(NoMemory, bytes)?;
+        Any::copy_of(memory, any.tag(), any.value())
+    }
+}
+
+impl Encode for Any {
+    fn encoded_len(&self) -> Result<Length> {
+        self.as_any_ref().encoded_len()
+    }
+
+    fn encode<W: Writer>(&self, writer: &mut W) -> Result<()> {
+        self.as_any_ref().encode(writer)
+    }
+
+    fn prepend(&self, writer: &mut BackWriter<'_>) {
+        self.as_any_ref().prepend(writer);
+    }
+
+    ghost text_relates = { any_relates };
+
+    ghost text_shortest = { any_shortest };
+}
+
+impl EqualByValue for Any {
+    ghost use Rattle.spki_core.specs.AnyLaws.{any_decides};
+
+    ghost decides = { λ a b. any_decides a.tag.octet b.tag.octet a.contents.items b.contents.items };
+}
+
+impl AnyValue for Any {
+    ghost use Rattle.spki_core.specs.Anys.{any_in};
+    ghost use Rattle.spki_core.specs.AnyValues.{holds_itself};
+
+    ghost any = { any_in };
+
+    fn as_any_ref(&self) -> AnyRef<'_> {
+        match AnyRef::new(self.tag, self.contents.as_slice()) {
+            Ok(any) => any,
+            Err(_) => unreachable!(),
+        }
+    }
+
+    ghost holds = { holds_itself any_in };
+}
+
+impl AnyParams<Global> for Any {
+    fn empty(memory: Global, tag: Tag) -> Any {
+        Any {
+            tag,
+            contents: Vec::new(memory),
+        }
+    }
+}
+
+impl TryClone for Any {
+    fn try_clone(&self, alloc: Global) -> Result<Any> {
+        Any::copy_of(alloc, self.tag, self.contents.as_slice())
+    }
+}
