@@ -1,6 +1,6 @@
 -- Reading a key of two primes asks for no memory, where its numbers ask for none.
-use Rattle.std.proofs.Common.{ℕ, List, [], ◌∷◌, ◌++◌, ◌≡◌, length, map, sym, ap, ◌∙◌, append_assoc, inl, inr, Option, Some, None, Result, Ok, Err}
-use Rattle.std.specs.Prelude.{IsOk, refl}
+use Rattle.std.proofs.Common.{ℕ, List, [], ◌∷◌, ◌++◌, ◌≡◌, length, map, sym, ap, ◌∙◌, append_assoc, inl, inr, Option, Some, None}
+use Rattle.std.specs.Prelude.{refl}
 use Rattle.der_core.specs.Tlv.{Tlv}
 use Rattle.der_core.specs.Texts.{Joins, IsDelimited}
 use Rattle.der_core.specs.ListLaws.{same_fronts}
@@ -8,8 +8,7 @@ use Rattle.der_core.specs.TextLaws.{tlv_split}
 use Rattle.der_core.specs.Document.{Means}
 use Rattle.der_core.specs.Integer.{Integer}
 use Rattle.der_core.specs.IntegerLaws.{integer_delimited, small_delimited}
-use Rattle.der_core.specs.Reading.{AskedIn, AsksWithin, ReadsAll, Refuses}
-use Rattle.der_core.specs.declared.error.Error.{Error}
+use Rattle.der_core.specs.Reading.{AskedIn, AsksWithin, Refuses}
 use Rattle.der_core.specs.declared.error.ErrorKind.{ErrorKind}
 use Rattle.pkcs1.specs.Asking.{BeginsSequence, OthersFollow, AsksForKey, MayAsk}
 use Rattle.pkcs1.specs.Keys.{OtherPrime, OtherPrimeInfos, version_of, PrivateKey, PrivateKeyContents, RsaPrivateKey}

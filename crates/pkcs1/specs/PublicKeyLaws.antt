@@ -1,6 +1,7 @@
 -- Public keys: each text means one key, is bytes, and what is written of a key is the shortest of its texts.
 use Rattle.std.specs.Prelude.{ℕ, List, ◌<◌, ◌^◌, length}
-use Rattle.std.proofs.Common.{arith, length-append}
+use Rattle.std.proofs.Common.{Bool, ◌≡◌, ◌&&◌, ap, arith, length-append, Decides}
+use Rattle.der_core.specs.EqualityLaws.{both_decide}
 use Rattle.der_core.specs.Texts.{MeansOne, IsDelimited, IsOfBytes}
 use Rattle.der_core.specs.TextLaws.{then_step, then_least, last_least, then_holds, last_holds, then_of_bytes, last_of_bytes}
 use Rattle.der_core.specs.Writing.{IsLeast}
@@ -29,3 +30,9 @@ module _ {Number : Type 0} (NumberText : Number → List ℕ → Type 0) where
         → (key : PublicKey Number) (c : List ℕ) → PublicKeyContents NumberText key c → IsLeast (HasPublicKey has key) (written_public_key text key) c
     public_key_shortest least key c p =
         then_least (text key.modulus) (text key.public_exponent) (least key.modulus) (last_least (text key.public_exponent) (least key.public_exponent)) c p
+
+-- Equality, by that of the numbers.
+pub public_key_decides : {U V : Type 0} (value : U → V) (E : U → U → Bool) → ((a b : U) → Decides (E a b) (value a ≡ value b)) → (m n e f : U)
+    → Decides (E m n && E e f) (◌≡◌ {A = PublicKey V} (record { modulus = value m; public_exponent = value e }) (record { modulus = value n; public_exponent = value f }))
+public_key_decides {U} {V} value E d m n e f =
+    both_decide (d m n) (d e f) (λ p q. λ i. record { modulus = p i; public_exponent = q i }) (λ s. ap (λ (k : PublicKey V). k.modulus) s) (λ s. ap (λ (k : PublicKey V). k.public_exponent) s)

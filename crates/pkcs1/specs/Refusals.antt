@@ -1,7 +1,5 @@
 -- Refusals of the kernel, as errors of this crate.
-use Rattle.std.specs.Prelude.{ℕ, List, ◌≡◌, ◌≢◌, ◌⊎◌}
 use Rattle.der_core.specs.declared.error.Error as der
-use Rattle.der_core.specs.declared.error.ErrorKind.TheVariants.{OutOfMemory}
 use Rattle.pkcs1.specs.declared.error.Error.{Error}
 use Rattle.pkcs1.specs.declared.error.Error.TheVariants as error
 

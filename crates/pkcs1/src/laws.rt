@@ -1,28 +1,85 @@
-//! What the grammars of the keys promise of themselves: functions that do nothing, each with a law as its contract.
+//! What the grammars of keys and of parameters promise of themselves: functions that do nothing, each with a law as its contract.
 ghost use Rattle.std.specs.Prelude.{ℕ, List};
+ghost use Rattle.pkcs1.specs.Forms.{SameTexts};
 ghost use Rattle.der_core.specs.Texts.{AtMostOne, IsDelimited};
 ghost use Rattle.der_core.specs.Document.{Excludes, SameByShortest};
-ghost use Rattle.pkcs1.specs.Keys.{PublicKey, PrivateKey, RsaPublicKey, RsaPrivateKey};
+ghost use Rattle.pkcs1.specs.Keys.{PublicKey, PrivateKey};
+ghost use Rattle.pkcs1.specs.Keys as keys;
+ghost use Rattle.pkcs1.specs.Parameters.{pss_fields, oaep_fields};
+ghost use Rattle.pkcs1.specs.Parameters as parameters;
+ghost use Rattle.pkcs1.specs.Spellings.{
+  DefaultsAreCounted,
+  EachHasOneMask,
+  EachMaskHasOne,
+  ShortestHasNoDefaults,
+  AcceptedFits,
+  TwoToTheDefaults,
+};
 
-/// No proper beginning of a key's text is a key's text, none is empty, and each means one key.
+use crate::params::{RsaOaepParams, RsaPssParams};
+use crate::private_key::RsaPrivateKey;
+use crate::public_key::RsaPublicKey;
+use der_core::{Text, Uint, UintRef};
+use spki_core::{Any, AnyRef};
+
+/// No proper beginning of a text is a text of the same type, none is empty, and each means one value.
 pub fn texts_are_delimited()
-    ensures public { IsDelimited RsaPublicKey }
-    ensures private { IsDelimited RsaPrivateKey }
+    ensures public { IsDelimited keys.RsaPublicKey }
+    ensures private { IsDelimited keys.RsaPrivateKey }
+    ensures pss { IsDelimited parameters.RsaPssParams }
+    ensures oaep { IsDelimited parameters.RsaOaepParams }
 {}
 
 /// A key has at most one text.
 pub fn keys_have_one_text()
-    ensures public { (key : PublicKey (List ℕ)) → AtMostOne (RsaPublicKey key) }
-    ensures private { (key : PrivateKey (List ℕ)) → AtMostOne (RsaPrivateKey key) }
+    ensures public { (key : PublicKey (List ℕ)) → AtMostOne (keys.RsaPublicKey key) }
+    ensures private { (key : PrivateKey (List ℕ)) → AtMostOne (keys.RsaPrivateKey key) }
 {}
 
-/// No text is both a public key's and a private key's.
-pub fn key_types_exclude_each_other()
-    ensures { Excludes RsaPublicKey RsaPrivateKey }
+/// No text is both a public key's and a private key's, and none is both a key's and one of parameters.
+pub fn types_exclude_each_other()
+    ensures keys { Excludes keys.RsaPublicKey keys.RsaPrivateKey }
+    ensures public_pss { Excludes keys.RsaPublicKey parameters.RsaPssParams }
+    ensures public_oaep { Excludes keys.RsaPublicKey parameters.RsaOaepParams }
+    ensures private_pss { Excludes keys.RsaPrivateKey parameters.RsaPssParams }
+    ensures private_oaep { Excludes keys.RsaPrivateKey parameters.RsaOaepParams }
 {}
 
 /// Two texts of keys mean the same key exactly where the shortest texts of what they mean are the same bytes.
 pub fn same_keys_have_the_same_text()
-    ensures public { SameByShortest RsaPublicKey }
-    ensures private { SameByShortest RsaPrivateKey }
+    ensures public { SameByShortest keys.RsaPublicKey }
+    ensures private { SameByShortest keys.RsaPrivateKey }
+{}
+
+/// The texts of PSS parameters within the limit are those under the masks that say which defaults are written,
+/// the shortest under mask 0; two texts mean the same exactly where the shortest texts of what they mean are the same bytes.
+pub fn pss_spellings()
+    ensures defaults { DefaultsAreCounted pss_fields }
+    ensures mask { EachHasOneMask pss_fields }
+    ensures text { EachMaskHasOne pss_fields }
+    ensures shortest { ShortestHasNoDefaults pss_fields }
+    ensures fits { AcceptedFits pss_fields }
+    ensures count { TwoToTheDefaults pss_fields }
+    ensures same { SameByShortest parameters.RsaPssParams }
+{}
+
+/// The texts of OAEP parameters within the limit are those under the masks that say which defaults are written,
+/// the shortest under mask 0; two texts mean the same exactly where the shortest texts of what they mean are the same bytes.
+pub fn oaep_spellings()
+    ensures defaults { DefaultsAreCounted oaep_fields }
+    ensures mask { EachHasOneMask oaep_fields }
+    ensures text { EachMaskHasOne oaep_fields }
+    ensures shortest { ShortestHasNoDefaults oaep_fields }
+    ensures fits { AcceptedFits oaep_fields }
+    ensures count { TwoToTheDefaults oaep_fields }
+    ensures same { SameByShortest parameters.RsaOaepParams }
+{}
+
+/// What a type reads and writes is its grammar, in the borrowed form and in the owned one: a clause of `Decode` or
+/// `Encode` at one of these types speaks of the grammar that the laws here speak of.
+pub fn forms_share_the_grammars()
+    ensures public { SameTexts ⟦<RsaPublicKey<UintRef<'static>> as Text>⟧.text keys.RsaPublicKey × SameTexts ⟦<RsaPublicKey<Uint> as Text>⟧.text keys.RsaPublicKey }
+    ensures private { SameTexts ⟦<RsaPrivateKey<UintRef<'static>> as Text>⟧.text keys.RsaPrivateKey × SameTexts ⟦<RsaPrivateKey<Uint> as Text>⟧.text keys.RsaPrivateKey }
+    ensures pss { SameTexts ⟦<RsaPssParams<AnyRef<'static>> as Text>⟧.text parameters.RsaPssParams × SameTexts ⟦<RsaPssParams<Any> as Text>⟧.text parameters.RsaPssParams }
+    ensures oaep { SameTexts ⟦<RsaOaepParams<AnyRef<'static>> as Text>⟧.text parameters.RsaOaepParams × SameTexts ⟦<RsaOaepParams<Any> as Text>⟧.text parameters.RsaOaepParams }
 {}

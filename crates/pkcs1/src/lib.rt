@@ -1,22 +1,31 @@
-//! RSA keys of PKCS #1 (RFC 8017) in DER.
+//! RSA keys and parameters of PKCS #1 (RFC 8017) in DER.
 #![tactic(auto)]
 
+mod algorithm;
 mod error;
 mod laws;
 mod numbers;
 mod other_prime_info;
+mod params;
 mod private_key;
 mod public_key;
 mod version;
 
+pub use algorithm::{ALGORITHM_OID, algorithm_id, rsa_encryption_oid};
 pub use der_core as der;
-pub use der_core::UintRef;
+pub use der_core::{Uint, UintRef};
 pub use error::{Error, Result};
 pub use laws::{
-    key_types_exclude_each_other, keys_have_one_text, same_keys_have_the_same_text,
-    texts_are_delimited,
+    forms_share_the_grammars, keys_have_one_text, oaep_spellings, pss_spellings,
+    same_keys_have_the_same_text, texts_are_delimited, types_exclude_each_other,
 };
 pub use other_prime_info::{OtherPrimeInfo, OtherPrimeInfos};
-pub use private_key::{RsaPrivateKey, RsaPrivateKeyRef};
-pub use public_key::{RsaPublicKey, RsaPublicKeyRef};
+pub use params::{
+    RsaOaepParams, RsaOaepParamsOwned, RsaOaepParamsRef, RsaPssParams, RsaPssParamsOwned,
+    RsaPssParamsRef, TrailerField,
+};
+pub use private_key::{RsaPrivateKey, RsaPrivateKeyOwned, RsaPrivateKeyRef};
+pub use public_key::{RsaPublicKey, RsaPublicKeyOwned, RsaPublicKeyRef};
+pub use spki_core as spki;
+pub use spki_core::ObjectIdentifier;
 pub use version::Version;

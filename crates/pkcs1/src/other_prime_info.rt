@@ -1,5 +1,5 @@
 //! Other primes of private keys.
-ghost use Rattle.std.specs.Prelude.{◌≡◌, ◌≤◌, ◌+◌, ◌++◌, length, List, ℕ, ◌↔◌, IsTrue, OnOk, IfErr, refl};
+ghost use Rattle.std.specs.Prelude.{◌≡◌, ◌≤◌, ◌+◌, ◌++◌, length, List, ℕ, ◌↔◌, IsTrue, OnOk, IfOk, IfErr, refl};
 ghost use Rattle.der_core.specs.Length.{limit};
 ghost use Rattle.der_core.specs.Reading.{ReadsContents, AsksWithin};
 ghost use Rattle.der_core.specs.BackWriters.{free_of, Prepends};
@@ -16,7 +16,8 @@ use crate::numbers::{encode_numbers, numbers_len, prepend_numbers};
 use crate::version::Version;
 use der_core::{
     BackWriter, Contents, Decode, DecodeValue, Encode, EncodeValue, ErrorKind, Header, Kinded,
-    Length, Memory, Reader, Result, Sequence, SequenceTag, Tag, Text, Writer, decode_optional,
+    Length, Memory, Reader, Result, Sequence, SequenceTag, Tag, Text, TryClone, Writer,
+    decode_optional,
 };
 use std::alloc::Global;
 
@@ -53,6 +54,16 @@ impl<U> Kinded for OtherPrimeInfo<U> {
 
 impl<'a, U> Sequence<'a> for OtherPrimeInfo<U> {
     ghost is_sequence = { refl };
+}
+
+impl<U: TryClone> TryClone for OtherPrimeInfo<U> {
+    fn try_clone(&self, alloc: Global) -> Result<OtherPrimeInfo<U>> {
+        Ok(OtherPrimeInfo {
+            prime: self.prime.try_clone(alloc)?,
+            exponent: self.exponent.try_clone(alloc)?,
+            coefficient: self.coefficient.try_clone(alloc)?,
+        })
+    }
 }
 
 impl<'a, M: Memory, U: Decode<&'a [u8], M>> DecodeValue<&'a [u8], M> for OtherPrimeInfo<U> {
@@ -164,5 +175,19 @@ pub(crate) fn prepend_other_primes<U: Encode>(
 {
     if let Some(infos) = others {
         infos.prepend(writer);
+    }
+}
+
+/// Copies the other primes.
+pub(crate) fn clone_other_primes<U: TryClone>(
+    others: &Option<OtherPrimeInfos<U>>,
+    alloc: Global,
+) -> Result<Option<OtherPrimeInfos<U>>>
+    ensures ok { IfOk result (λ copies. others_of U.value copies ≡ others_of U.value others.now) }
+    ensures err { IfErr result (λ e. e.kind ≡ ErrorKind.OutOfMemory) }
+{
+    match others {
+        Some(others) => Ok(Some(others.try_clone(alloc)?)),
+        None => Ok(None),
     }
 }

@@ -13,14 +13,15 @@ ghost use Rattle.pkcs1.specs.PrivateKeys.{private_of, ListsNone};
 use crate::error::Error;
 use crate::numbers::{encode_numbers, numbers_len, prepend_numbers};
 use crate::other_prime_info::{
-    OtherPrimeInfos, encode_other_primes, lists_none, other_primes_len, prepend_other_primes,
-    read_other_primes,
+    OtherPrimeInfos, clone_other_primes, encode_other_primes, lists_none, other_primes_len,
+    prepend_other_primes, read_other_primes,
 };
 use crate::public_key::{RsaPublicKey, RsaPublicKeyRef};
 use crate::version::Version;
 use der_core::{
     AsUintRef, BackWriter, Contents, Decode, DecodeValue, Encode, EncodeValue, ErrorKind, Header,
-    Kinded, Length, Reader, Result, Sequence, SequenceTag, Tag, Text, UintRef, Writer, joined_len,
+    Kinded, Length, OctetStringRef, Reader, Result, Sequence, SequenceTag, Tag, Text, TryClone,
+    Uint, UintRef, Writer, joined_len,
 };
 use std::alloc::Global;
 use std::fmt;
@@ -43,6 +44,9 @@ pub struct RsaPrivateKey<U> {
 
 /// A private key that borrows its numbers.
 pub type RsaPrivateKeyRef<'a> = RsaPrivateKey<UintRef<'a>>;
+
+/// A private key that owns its numbers.
+pub type RsaPrivateKeyOwned = RsaPrivateKey<Uint>;
 
 impl<U> RsaPrivateKey<U> {
     /// The version: whether there are other primes.
@@ -189,6 +193,44 @@ impl<U: Encode> EncodeValue for RsaPrivateKey<U> {
     ghost contents_relate = { private_relates U.text U.has_text U.written_text U.text_relates };
 
     ghost contents_shortest = { private_shortest U.text U.has_text U.written_text U.text_shortest };
+}
+
+impl<U: TryClone> TryClone for RsaPrivateKey<U> {
+    fn try_clone(&self, alloc: Global) -> Result<RsaPrivateKey<U>> {
+        Ok(RsaPrivateKey {
+            modulus: self.modulus.try_clone(alloc)?,
+            public_exponent: self.public_exponent.try_clone(alloc)?,
+            private_exponent: self.private_exponent.try_clone(alloc)?,
+            prime1: self.prime1.try_clone(alloc)?,
+            prime2: self.prime2.try_clone(alloc)?,
+            exponent1: self.exponent1.try_clone(alloc)?,
+            exponent2: self.exponent2.try_clone(alloc)?,
+            coefficient: self.coefficient.try_clone(alloc)?,
+            other_prime_infos: clone_other_primes(&self.other_prime_infos, alloc)?,
+        })
+    }
+}
+
+impl<U> RsaPrivateKey<U> {
+    ghost use Rattle.std.specs.Prelude.{IfOk};
+    ghost use Rattle.der_core.specs.Document.{Means};
+    ghost use Rattle.der_core.specs.OctetStringRefs.{octets_of};
+    ghost use Rattle.der_core.specs.Reading.{AskedIn, Refuses};
+    ghost use Rattle.der_core.specs.Tlv.{Tlv};
+    ghost use Rattle.pkcs1.specs.Refusals.{IsAsn1};
+
+    /// Reads all octets of an OCTET STRING: `from_der` on its bytes.
+    pub fn from_octet_string<'a>(
+        alloc: Global,
+        octets: OctetStringRef<'a>,
+    ) -> crate::Result<RsaPrivateKey<U>>
+    where
+        U: Decode<&'a [u8], Global>,
+        ensures ok { IfOk result (λ key. Means (λ v. Tlv 48 (PrivateKeyContents U.text v)) (octets_of octets.entry) (private_of U.value key)) }
+        ensures err { IfErr result (IsAsn1 (λ e. Refuses e.kind (AskedIn (Tlv 48 (AsksForKey U.text U.Decode.asks)) (octets_of octets.entry)) ((key : PrivateKey U.Value) → Means (λ v. Tlv 48 (PrivateKeyContents U.text v)) (octets_of octets.entry) key → ⊥))) }
+    {
+        Ok(RsaPrivateKey::from_der(alloc, octets.as_bytes())?)
+    }
 }
 
 impl<'a> RsaPrivateKey<UintRef<'a>> {

@@ -7,9 +7,11 @@ ghost use Rattle.pkcs1.specs.PublicKeyLaws.{public_key_means_one, public_key_of_
 
 use crate::error::{Error, Result};
 use der_core::{
-    BackWriter, Contents, Decode, DecodeValue, Encode, EncodeValue, Header, Kinded, Length, Memory,
-    NoMemory, Reader, Sequence, SequenceTag, Text, UintRef, Writer, joined_len,
+    BackWriter, Contents, Decode, DecodeValue, Encode, EncodeValue, EqualByValue, Header, Kinded,
+    Length, Memory, NoMemory, Reader, Sequence, SequenceTag, Text, TryClone, Uint, UintRef, Writer,
+    joined_len,
 };
+use std::alloc::Global;
 
 /// An RSA public key (RFC 8017 A.1.1). No relation of its numbers is checked.
 #[derive(Clone, Copy, Debug, PartialEq, Eq, Drop)]
@@ -20,6 +22,9 @@ pub struct RsaPublicKey<U> {
 
 /// A public key that borrows its numbers.
 pub type RsaPublicKeyRef<'a> = RsaPublicKey<UintRef<'a>>;
+
+/// A public key that owns its numbers.
+pub type RsaPublicKeyOwned = RsaPublicKey<Uint>;
 
 impl<U: Text> Contents for RsaPublicKey<U> {
     ghost Value = { PublicKey U.Value };
@@ -85,6 +90,21 @@ impl<U: Encode> EncodeValue for RsaPublicKey<U> {
     ghost contents_relate = { public_key_relates U.text U.has_text U.written_text U.text_relates };
 
     ghost contents_shortest = { public_key_shortest U.text U.has_text U.written_text U.text_shortest };
+}
+
+impl<U: EqualByValue> EqualByValue for RsaPublicKey<U> {
+    ghost use Rattle.pkcs1.specs.PublicKeyLaws.{public_key_decides};
+
+    ghost decides = { λ a b. public_key_decides U.value U.eq U.decides a.modulus b.modulus a.public_exponent b.public_exponent };
+}
+
+impl<U: TryClone> TryClone for RsaPublicKey<U> {
+    fn try_clone(&self, alloc: Global) -> der_core::Result<RsaPublicKey<U>> {
+        Ok(RsaPublicKey {
+            modulus: self.modulus.try_clone(alloc)?,
+            public_exponent: self.public_exponent.try_clone(alloc)?,
+        })
+    }
 }
 
 impl<'a> TryFrom<&'a [u8]> for RsaPublicKey<UintRef<'a>> {

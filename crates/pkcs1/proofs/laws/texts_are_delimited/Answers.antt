@@ -1,5 +1,6 @@
 use Rattle.pkcs1.proofs.PublicKeys.{public_delimited}
 use Rattle.pkcs1.proofs.PrivateKeys.{private_delimited}
+use Rattle.pkcs1.proofs.Parameters.{pss_delimited, oaep_delimited}
 use Rattle.pkcs1.proofs.laws.texts_are_delimited.Goals as goal
 
 pub returns-clause-public : goal.returns-clause-public
@@ -7,3 +8,9 @@ returns-clause-public c = public_delimited
 
 pub returns-clause-private : goal.returns-clause-private
 returns-clause-private c = private_delimited
+
+pub returns-clause-pss : goal.returns-clause-pss
+returns-clause-pss c = pss_delimited
+
+pub returns-clause-oaep : goal.returns-clause-oaep
+returns-clause-oaep c = oaep_delimited

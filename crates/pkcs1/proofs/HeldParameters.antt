@@ -1,0 +1,113 @@
+-- Borrowed parameters are far shorter than 2 ^ 128 octets, and so have texts.
+use Rattle.std.proofs.Common.{ℕ, List, [], ◌∷◌, ◌++◌, ◌≤◌, ◌<◌, ◌+◌, ◌^◌, length, arith, length-append, Option, Some, None, Bool, true, false}
+use Rattle.std.specs.Prelude.{nat_lt, if◌then◌else◌}
+use Rattle.std.specs.Option.{option_map}
+use Rattle.der_core.specs.InputLaws.{are_bytes}
+use Rattle.der_core.specs.Integer.{integer_contents}
+use Rattle.der_core.specs.Length.{limit, length_octets}
+use Rattle.der_core.specs.LengthLaws.{length_few, length_octets-within}
+use Rattle.der_core.specs.Optional.{written_optional}
+use Rattle.der_core.specs.TextLaws.{tlv_made}
+use Rattle.der_core.specs.Tlv.{tlv}
+use Rattle.spki_core.specs.Any.{written_any}
+use Rattle.spki_core.specs.AlgorithmIdentifier.{written_plain, written_mask}
+use Rattle.spki_core.specs.AlgorithmRefs.{algorithm_of, mask_of}
+use Rattle.spki_core.specs.AnyRefs.{any_of}
+use Rattle.spki_core.specs.FieldWriting.{written_field}
+use Rattle.spki_core.specs.IdentifierTest.{is_identifier-sound}
+use Rattle.spki_core.specs.ObjectIdentifier.{IsIdentifier}
+use Rattle.spki_core.specs.ObjectIdentifiers.{octets_of}
+use Rattle.spki_core.specs.declared.algorithm_identifier.AlgorithmIdentifier.{AlgorithmIdentifier}
+use Rattle.spki_core.specs.declared.any.AnyRef.{AnyRef}
+use Rattle.spki_core.specs.declared.object_identifier.ObjectIdentifier.{ObjectIdentifier}
+use Rattle.pkcs1.specs.DigestWriting.{written_digest}
+use Rattle.pkcs1.specs.Parameters.{PssContents, RsaPssParams, OaepContents, RsaOaepParams}
+use Rattle.pkcs1.specs.OaepLaws.{oaep_relates}
+use Rattle.pkcs1.specs.OaepParams.{oaep_of}
+use Rattle.pkcs1.specs.OaepWriting.{oaep_defaults, HasOaep}
+use Rattle.pkcs1.specs.declared.params.oaep.RsaOaepParams.{RsaOaepParams as OaepParams}
+use Rattle.pkcs1.specs.PssLaws.{pss_relates}
+use Rattle.pkcs1.specs.PssParams.{pss_of}
+use Rattle.pkcs1.specs.PssWriting.{pss_defaults, HasPss}
+use Rattle.pkcs1.specs.declared.params.pss.RsaPssParams.{RsaPssParams as PssParams}
+
+pub identifier_held : (oid : ObjectIdentifier) → IsIdentifier (octets_of oid)
+identifier_held oid = is_identifier-sound (octets_of oid) (are_bytes (octets_of oid) oid.bytes) oid.valid
+
+pub tlv_short : (tag m : ℕ) (c : List ℕ) → length c ≤ m → m < 2 ^ 64 → length (tlv tag c) ≤ m + 128
+tlv_short tag m c h small =
+    let few = length_few (length c) (length_octets (length c)) (length_octets-within (length c) (omega (arith, h, small))) in
+    omega (arith, few, h, length-append (length_octets (length c)) c)
+
+any_short : (any : AnyRef) → length (written_any (any_of any)) ≤ limit + 128
+any_short any = tlv_short any.tag.octet limit any.contents.now any.bounded (omega arith)
+
+identifier_short : (oid : ObjectIdentifier) → length (tlv 6 (octets_of oid)) ≤ 167
+identifier_short oid = tlv_short 6 39 (octets_of oid) (let p = identifier_held oid in p.short) (omega arith)
+
+pub plain_short : (a : AlgorithmIdentifier AnyRef) → length (written_plain (algorithm_of a)) ≤ limit + 423
+plain_short a =
+    let oid = tlv 6 (octets_of a.oid) in
+    let parameters = written_optional written_any (option_map any_of a.parameters) in
+    let l = length-append oid parameters in
+    tlv_short 48 (limit + 295) (oid ++ parameters) (omega (arith, l, identifier_short a.oid, go a.parameters)) (omega arith)
+  where
+    go : (p : Option AnyRef) → length (written_optional written_any (option_map any_of p)) ≤ limit + 128
+    go None = omega arith
+    go (Some any) = any_short any
+
+mask_short : (a : AlgorithmIdentifier (AlgorithmIdentifier AnyRef)) → length (written_mask (mask_of a)) ≤ limit + 718
+mask_short a =
+    let oid = tlv 6 (octets_of a.oid) in
+    let parameters = written_optional written_plain (option_map algorithm_of a.parameters) in
+    let l = length-append oid parameters in
+    tlv_short 48 (limit + 590) (oid ++ parameters) (omega (arith, l, identifier_short a.oid, go a.parameters)) (omega arith)
+  where
+    go : (p : Option (AlgorithmIdentifier AnyRef)) → length (written_optional written_plain (option_map algorithm_of p)) ≤ limit + 423
+    go None = omega arith
+    go (Some plain) = plain_short plain
+
+pub field_short : (out : Bool) (number m : ℕ) (text : List ℕ) → length text ≤ m → m < 2 ^ 64 → length (written_field out number text) ≤ m + 128
+field_short true number m text h small = omega arith
+field_short false number m text h small = tlv_short (160 + number) m text h small
+
+pub digest_short : (hash_out mask_out : Bool) (hash : AlgorithmIdentifier AnyRef) (mask_gen : AlgorithmIdentifier (AlgorithmIdentifier AnyRef))
+    → length (written_digest hash_out mask_out (algorithm_of hash) (mask_of mask_gen)) ≤ limit + limit + 2000
+digest_short hash_out mask_out hash mask_gen =
+    let a = field_short hash_out 0 (limit + 423) (written_plain (algorithm_of hash)) (plain_short hash) (omega arith) in
+    let b = field_short mask_out 1 (limit + 718) (written_mask (mask_of mask_gen)) (mask_short mask_gen) (omega arith) in
+    omega (arith, a, b, length-append (written_field hash_out 0 (written_plain (algorithm_of hash))) (written_field mask_out 1 (written_mask (mask_of mask_gen))))
+
+number_short : (n : ℕ) → length (tlv 2 (integer_contents (n ∷ []))) ≤ 130
+number_short n = tlv_short 2 2 (integer_contents (n ∷ [])) (go (nat_lt n 128)) (omega arith)
+  where
+    go : (b : Bool) → length (if b then n ∷ [] else (0 ∷ n ∷ [])) ≤ 2
+    go true = omega arith
+    go false = omega arith
+
+-- So parameters that can be written have a text.
+pub pss_made : (p : PssParams AnyRef) → HasPss (pss_defaults (pss_of p)) (pss_of p) → (text : List ℕ) × RsaPssParams (pss_of p) text
+pss_made p has =
+    let v = pss_of p in
+    let out = pss_defaults v in
+    let d = written_digest out.hash out.mask_gen v.hash v.mask_gen in
+    let s = written_field out.salt_len 2 (tlv 2 (integer_contents (v.salt_len ∷ []))) in
+    let t = written_field out.trailer_field 3 (tlv 2 (integer_contents (1 ∷ []))) in
+    let a = digest_short out.hash out.mask_gen p.hash p.mask_gen in
+    let b = field_short out.salt_len 2 130 (tlv 2 (integer_contents (v.salt_len ∷ []))) (number_short v.salt_len) (omega arith) in
+    let e = field_short out.trailer_field 3 130 (tlv 2 (integer_contents (1 ∷ []))) (number_short 1) (omega arith) in
+    let few : length (d ++ (s ++ t)) < 2 ^ 128 = omega (arith, a, b, e, length-append d (s ++ t), length-append s t) in
+    let made = tlv_made 48 (PssContents v) (d ++ (s ++ t)) (pss_relates v has few) few in
+    (made.0, made.1)
+
+pub oaep_made : (p : OaepParams AnyRef) → HasOaep (oaep_defaults (oaep_of p)) (oaep_of p) → (text : List ℕ) × RsaOaepParams (oaep_of p) text
+oaep_made p has =
+    let v = oaep_of p in
+    let out = oaep_defaults v in
+    let d = written_digest out.hash out.mask_gen v.hash v.mask_gen in
+    let s = written_field out.p_source 2 (written_plain v.p_source) in
+    let a = digest_short out.hash out.mask_gen p.hash p.mask_gen in
+    let b = field_short out.p_source 2 (limit + 423) (written_plain v.p_source) (plain_short p.p_source) (omega arith) in
+    let few : length (d ++ s) < 2 ^ 128 = omega (arith, a, b, length-append d s) in
+    let made = tlv_made 48 (OaepContents v) (d ++ s) (oaep_relates v has few) few in
+    (made.0, made.1)

@@ -1,0 +1,12 @@
+-- What is written of hashAlgorithm and maskGenAlgorithm.
+use Rattle.std.specs.Prelude.{ℕ, Bool, List, ◌++◌}
+use Rattle.spki_core.specs.Any.{TagAndContents}
+use Rattle.spki_core.specs.AlgorithmIdentifier.{Algorithm, HasPlain, written_plain, HasMask, written_mask}
+use Rattle.spki_core.specs.FieldWriting.{HasField, written_field}
+
+-- hash_out and mask_out say that a field is left out.
+abbrev pub HasDigest : Bool → Bool → Algorithm TagAndContents → Algorithm (Algorithm TagAndContents) → Type 0
+HasDigest hash_out mask_out hash mask_gen = HasField hash_out (HasPlain hash) × HasField mask_out (HasMask mask_gen)
+
+abbrev pub written_digest : Bool → Bool → Algorithm TagAndContents → Algorithm (Algorithm TagAndContents) → List ℕ
+written_digest hash_out mask_out hash mask_gen = written_field hash_out 0 (written_plain hash) ++ written_field mask_out 1 (written_mask mask_gen)

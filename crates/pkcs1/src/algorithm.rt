@@ -1,0 +1,42 @@
+//! The identifier of RSA keys (RFC 8017 A.1).
+ghost use Rattle.std.specs.Prelude.{◌≡◌, refl};
+ghost use Rattle.spki_core.specs.Any.{null_value};
+ghost use Rattle.spki_core.specs.AlgorithmRefs.{algorithm_of};
+ghost use Rattle.spki_core.specs.ObjectIdentifiers.{octets_of};
+ghost use Rattle.pkcs1.specs.Parameters.{id_rsa_encryption, with_parameters};
+
+use crate::params::with_null;
+use der_core::NoMemory;
+use spki_core::{AlgorithmIdentifierRef, AnyRef, AssociatedOid, ObjectIdentifier};
+
+/// The contents octets of the identifier rsaEncryption, 1.2.840.113549.1.1.1.
+pub const ALGORITHM_OID: &'static [u8] = &[0x2a, 0x86, 0x48, 0x86, 0xf7, 0x0d, 0x01, 0x01, 0x01];
+
+/// RSA keys.
+struct RsaEncryption;
+
+impl AssociatedOid for RsaEncryption {
+    ghost contents = { id_rsa_encryption };
+
+    ghost valid = { refl };
+
+    const OID: &'static [u8] = ALGORITHM_OID;
+
+    fn octets() -> &'static [u8] {
+        Self::OID
+    }
+}
+
+/// The identifier rsaEncryption.
+pub fn rsa_encryption_oid() -> ObjectIdentifier
+    ensures { octets_of result ≡ id_rsa_encryption }
+{
+    ObjectIdentifier::of::<RsaEncryption>()
+}
+
+/// rsaEncryption with NULL, which identifies RSA keys in containers.
+pub fn algorithm_id() -> AlgorithmIdentifierRef<'static>
+    ensures { algorithm_of result ≡ with_parameters id_rsa_encryption null_value }
+{
+    with_null::<RsaEncryption, AnyRef<'static>, NoMemory>(NoMemory)
+}
