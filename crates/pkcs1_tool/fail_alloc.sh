@@ -8,7 +8,7 @@ for n in $(seq 1 "${1:-99}"); do
     rt try --fail-alloc "$n" < stdin > /tmp/fail_alloc.out 2>&1
     status=$(sed -n 's/.*status=\([0-9]*\).*/\1/p' /tmp/fail_alloc.out | tail -n 1)
     fault=$(grep -c '^fault: memory$' /tmp/fail_alloc.out)
-    lines=$(grep -cE '^(pub |priv |bad line$|refused$)' /tmp/fail_alloc.out)
+    lines=$(grep -cE '^(pub |priv |pss |oaep |bad line$|refused$)' /tmp/fail_alloc.out)
     echo "request $n: status $status, faults told $fault, lines written $lines"
     if [ "$status" = 0 ]; then
         break

@@ -3,7 +3,8 @@ use Rattle.std.proofs.Common.{◌≡◌, ℕ, List, ◌++◌, inr, refl, ap, ◌
 use Rattle.std.specs.Prelude.{Result, OnOk}
 use Rattle.std.proofs.lemmas.Result.{on_ok_weaker}
 use Rattle.der_core.specs.Document.{Means, IsShortest}
-use Rattle.pkcs1_tool.specs.Answer.{Tells}
+use Rattle.spki_core.specs.Explicit.{Field, HaveDefaults}
+use Rattle.pkcs1_tool.specs.Answer.{Tells, TellsParameters}
 
 -- one piece more in front of those that follow
 more : (old now new piece rest : List ℕ) → now ≡ old ++ piece → new ≡ now ++ rest → new ≡ old ++ (piece ++ rest)
@@ -18,3 +19,10 @@ pub told : {V T E : Type 0} (Grammar : V → List ℕ → Type 0) (tell : V → 
     → Means Grammar text v → IsShortest Grammar v again → OnOk r (new ≡ old ++ tell v again)
     → OnOk r ((answer : List ℕ) × Tells Grammar tell text answer × (new ≡ old ++ answer))
 told Grammar tell v text again old new r means shortest put = on_ok_weaker r (λ p. (tell v again, inr (v, means, again, shortest, refl), p)) put
+
+-- what is put of parameters, with how many of their fields have their defaults and with their shortest text, is an answer
+pub parameters_told : {V T E : Type 0} (Grammar : V → List ℕ → Type 0) (fields : V → List Field) (tell : V → ℕ → List ℕ → List ℕ) (v : V) (k : ℕ) (text again old new : List ℕ)
+    (r : Result T E) → Means Grammar text v → HaveDefaults (fields v) k → IsShortest Grammar v again → OnOk r (new ≡ old ++ tell v k again)
+    → OnOk r ((answer : List ℕ) × TellsParameters Grammar fields tell text answer × (new ≡ old ++ answer))
+parameters_told Grammar fields tell v k text again old new r means defaults shortest put =
+    on_ok_weaker r (λ p. (tell v k again, inr (v, means, k, defaults, again, shortest, refl), p)) put

@@ -1,11 +1,16 @@
 -- The answers.
 use Rattle.std.specs.Prelude.{◌≡◌, ℕ, ◌⊎◌, List, [], ◌∷◌, ◌++◌, Option, Some, None, codes}
 use Rattle.std.specs.List.{flat_map}
+use Rattle.std.specs.Fmt.{decimal}
 use Rattle.hex.specs.Hex.{encode_lower}
 use Rattle.der_core.specs.Document.{Means, IsShortest}
+use Rattle.spki_core.specs.Any.{TagAndContents}
+use Rattle.spki_core.specs.AlgorithmIdentifier.{Algorithm}
+use Rattle.spki_core.specs.Explicit.{Field, HaveDefaults}
 use Rattle.pkcs1.specs.Keys.{PublicKey, RsaPublicKey, OtherPrime, PrivateKey, RsaPrivateKey}
+use Rattle.pkcs1.specs.Parameters.{PssParameters, RsaPssParams, pss_fields, OaepParameters, RsaOaepParams, oaep_fields}
 use Rattle.pkcs1_tool.specs.Lines.{lines_of}
-use Rattle.pkcs1_tool.specs.Request.{Asked, bad_line, asks_pub, asks_priv, asked_by}
+use Rattle.pkcs1_tool.specs.Request.{Asked, bad_line, asks_pub, asks_priv, asks_pss, asks_oaep, asked_by}
 
 -- no value has the text
 abbrev pub HasNone : {V : Type 0} → (V → List ℕ → Type 0) → List ℕ → Type 0
@@ -15,6 +20,13 @@ HasNone {V} Grammar text = (value : V) → Means Grammar text value → ⊥
 abbrev pub Tells : {V : Type 0} → (V → List ℕ → Type 0) → (V → List ℕ → List ℕ) → List ℕ → List ℕ → Type 0
 Tells {V} Grammar told text answer = (HasNone Grammar text × (answer ≡ codes "refused"))
     ⊎ ((value : V) × Means Grammar text value × (again : List ℕ) × IsShortest Grammar value again × (answer ≡ told value again))
+
+-- Where no value has the text, the answer is `refused`. Otherwise it tells the value, how many of its fields have their
+-- defaults, and the value's shortest text.
+abbrev pub TellsParameters : {V : Type 0} → (V → List ℕ → Type 0) → (V → List Field) → (V → ℕ → List ℕ → List ℕ) → List ℕ → List ℕ → Type 0
+TellsParameters {V} Grammar fields told text answer = (HasNone Grammar text × (answer ≡ codes "refused"))
+    ⊎ ((value : V) × Means Grammar text value × (k : ℕ) × HaveDefaults (fields value) k
+    × (again : List ℕ) × IsShortest Grammar value again × (answer ≡ told value k again))
 
 -- a label, and bytes in hexadecimal digits
 abbrev pub field : List ℕ → List ℕ → List ℕ
@@ -61,10 +73,64 @@ abbrev pub priv_answer : PrivateKey (List ℕ) → List ℕ → List ℕ
 priv_answer key again =
     codes "priv" ++ (version_told key.other_prime_infos ++ (numbers_told key ++ (others_told key.other_prime_infos ++ field (codes " again=") again)))
 
+-- a label, and a number in decimal digits
+abbrev pub number_field : List ℕ → ℕ → List ℕ
+number_field label number = label ++ decimal number
+
+-- a tag in two hexadecimal digits, `:`, and the contents in hexadecimal digits
+abbrev pub any_told : TagAndContents → List ℕ
+any_told any = encode_lower (any.tag ∷ []) ++ field (codes ":") any.contents
+
+-- `-` where parameters are absent, else what is told of them
+abbrev pub parameters_told : {P : Type 0} → (P → List ℕ) → Option P → List ℕ
+parameters_told told None = codes "-"
+parameters_told told (Some parameters) = told parameters
+
+-- the contents of an identifier in hexadecimal digits, and `/`
+abbrev pub identifier_told : List ℕ → List ℕ
+identifier_told oid = encode_lower oid ++ codes "/"
+
+abbrev pub algorithm_told : {P : Type 0} → (P → List ℕ) → Algorithm P → List ℕ
+algorithm_told told algorithm = identifier_told algorithm.oid ++ parameters_told told algorithm.parameters
+
+-- ALG: an algorithm whose parameters are any text
+abbrev pub plain_told : Algorithm TagAndContents → List ℕ
+plain_told algorithm = algorithm_told any_told algorithm
+
+-- `[` ALG `]`
+abbrev pub bracketed : Algorithm TagAndContents → List ℕ
+bracketed algorithm = codes "[" ++ (plain_told algorithm ++ codes "]")
+
+-- MASK: an algorithm whose parameters are one
+abbrev pub mask_told : Algorithm (Algorithm TagAndContents) → List ℕ
+mask_told mask_gen = algorithm_told bracketed mask_gen
+
+-- ` hash=ALG mask=MASK`
+abbrev pub digest_told : Algorithm TagAndContents → Algorithm (Algorithm TagAndContents) → List ℕ
+digest_told hash mask_gen = codes " hash=" ++ (plain_told hash ++ (codes " mask=" ++ mask_told mask_gen))
+
+-- ` defaults=K again=HEX`
+abbrev pub spelling_told : ℕ → List ℕ → List ℕ
+spelling_told k again = number_field (codes " defaults=") k ++ field (codes " again=") again
+
+-- `pss hash=ALG mask=MASK salt=S trailer=T defaults=K again=HEX`; T is 1 wherever there is a text
+abbrev pub pss_answer : PssParameters → ℕ → List ℕ → List ℕ
+pss_answer p k again =
+    codes "pss"
+    ++ (digest_told p.hash p.mask_gen
+    ++ (number_field (codes " salt=") p.salt_len ++ (number_field (codes " trailer=") p.trailer_field ++ spelling_told k again)))
+
+-- `oaep hash=ALG mask=MASK source=ALG defaults=K again=HEX`
+abbrev pub oaep_answer : OaepParameters → ℕ → List ℕ → List ℕ
+oaep_answer p k again =
+    codes "oaep" ++ (digest_told p.hash p.mask_gen ++ (codes " source=" ++ (plain_told p.p_source ++ spelling_told k again)))
+
 abbrev pub AnswerTo : Asked → List ℕ → Type 0
 AnswerTo bad_line answer = answer ≡ codes "bad line"
 AnswerTo (asks_pub text) answer = Tells RsaPublicKey pub_answer text answer
 AnswerTo (asks_priv text) answer = Tells RsaPrivateKey priv_answer text answer
+AnswerTo (asks_pss text) answer = TellsParameters RsaPssParams pss_fields pss_answer text answer
+AnswerTo (asks_oaep text) answer = TellsParameters RsaOaepParams oaep_fields oaep_answer text answer
 
 -- the answer of a line
 abbrev pub Answer : List ℕ → List ℕ → Type 0

@@ -12,6 +12,8 @@ pub data Asked : Type 0 where
   bad_line : Asked
   asks_pub : List ℕ → Asked
   asks_priv : List ℕ → Asked
+  asks_pss : List ℕ → Asked
+  asks_oaep : List ℕ → Asked
 
 abbrev pub decoded : Result (List ℕ) FromHexError → Option (List ℕ)
 decoded (Ok text) = Some text
@@ -23,7 +25,12 @@ text_of hex = decoded (decode_of hex)
 
 -- what a word asks for with a text
 abbrev pub word_asks : List ℕ → Option (List ℕ → Asked)
-word_asks word = if bytes_eq word (codes "pub") then Some asks_pub else (if bytes_eq word (codes "priv") then Some asks_priv else None)
+word_asks word =
+    if bytes_eq word (codes "pub")
+    then Some asks_pub
+    else (if bytes_eq word (codes "priv")
+    then Some asks_priv
+    else (if bytes_eq word (codes "pss") then Some asks_pss else (if bytes_eq word (codes "oaep") then Some asks_oaep else None)))
 
 abbrev pub asked_with : Option (List ℕ → Asked) → Option (List ℕ) → Asked
 asked_with (Some asks) (Some text) = asks text

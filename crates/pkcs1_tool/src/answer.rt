@@ -1,7 +1,6 @@
 //! The answer of a line.
 ghost use Rattle.std.specs.Prelude.{◌≡◌, ◌↔◌, ℕ, List, ◌++◌, ◌≤◌, length, IsTrue, OnOk};
 ghost use Rattle.std.specs.List.{flat_map};
-ghost use Rattle.hex.specs.Hex.{encode_lower};
 ghost use Rattle.der_core.specs.Document.{Means, IsShortest};
 ghost use Rattle.der_core.specs.UintRefs.{bytes_of};
 ghost use Rattle.pkcs1.specs.Keys.{RsaPublicKey, RsaPrivateKey};
@@ -11,38 +10,14 @@ ghost use Rattle.pkcs1_tool.specs.Answer.{AnswerTo, Tells, field, pub_answer, pr
 ghost use Rattle.pkcs1_tool.specs.Refused.{WantsMemory};
 ghost use Rattle.pkcs1_tool.specs.Written.{PutsAnswer};
 
+use crate::digits::put_field;
+use crate::parameters::{answer_oaep, answer_pss};
 use crate::request::{Request, request_of};
 use der_core::ErrorKind;
 use pkcs1::{
     Error, OtherPrimeInfo, OtherPrimeInfos, RsaPrivateKeyRef, RsaPublicKeyRef, UintRef, Version,
 };
 use std::alloc::{AllocError, Global};
-
-// Puts the bytes behind `out`, in hexadecimal digits.
-fn put_hex(bytes: &[u8], out: &mut Vec<u8>) -> Result<(), AllocError>
-    ensures { OnOk result (out.new.items ≡ out.old.items ++ encode_lower bytes.now) }
-{
-    let start = out.len();
-    let Some(digits) = bytes.len().checked_mul(2) else {
-        return Err(AllocError);
-    };
-    let Some(end) = start.checked_add(digits) else {
-        return Err(AllocError);
-    };
-    out.resize(end, 0)?;
-    match hex::encode_to_slice(bytes, &mut out.as_mut_slice()[start..]) {
-        Ok(()) => Ok(()),
-        Err(_) => unreachable!(),
-    }
-}
-
-// Puts the label behind `out`, and then the bytes.
-fn put_field(label: &[u8], bytes: &[u8], out: &mut Vec<u8>) -> Result<(), AllocError>
-    ensures { OnOk result (out.new.items ≡ out.old.items ++ field label.now bytes.now) }
-{
-    out.extend_from_slice(label)?;
-    put_hex(bytes, out)
-}
 
 // Puts each number behind `out`, after its label.
 fn put_numbers(numbers: &[(&[u8], UintRef<'_>)], out: &mut Vec<u8>) -> Result<(), AllocError>
@@ -207,5 +182,7 @@ pub fn answer_line(alloc: Global, line: &[u8], out: &mut Vec<u8>) -> Result<(), 
         Request::BadLine => out.extend_from_slice(b"bad line"),
         Request::Pub(text) => answer_pub(alloc, text.as_slice(), out),
         Request::Priv(text) => answer_priv(alloc, text.as_slice(), out),
+        Request::Pss(text) => answer_pss(alloc, text.as_slice(), out),
+        Request::Oaep(text) => answer_oaep(alloc, text.as_slice(), out),
     }
 }

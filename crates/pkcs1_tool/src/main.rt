@@ -1,9 +1,12 @@
-//! Lines in, lines out: `pub HEX` asks for the RSA public key that the bytes stand for, `priv HEX` for the private key.
+//! Lines in, lines out: `pub HEX` asks for the RSA public key that the bytes stand for, `priv HEX` for the private key,
+//! `pss HEX` for parameters of RSASSA-PSS, `oaep HEX` for those of RSAES-OAEP.
 #![tactic(auto)]
 
 mod answer;
+mod digits;
 mod fault;
 mod lines;
+mod parameters;
 mod plan;
 mod request;
 mod run;

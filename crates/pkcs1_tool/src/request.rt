@@ -14,6 +14,8 @@ pub enum Request {
     BadLine,
     Pub(Vec<u8>),
     Priv(Vec<u8>),
+    Pss(Vec<u8>),
+    Oaep(Vec<u8>),
 }
 
 // The first part of a request.
@@ -21,6 +23,8 @@ pub enum Request {
 enum Word {
     Pub,
     Priv,
+    Pss,
+    Oaep,
 }
 
 impl Word {
@@ -32,6 +36,10 @@ impl Word {
             Some(Word::Pub)
         } else if part == b"priv".as_slice() {
             Some(Word::Priv)
+        } else if part == b"pss".as_slice() {
+            Some(Word::Pss)
+        } else if part == b"oaep".as_slice() {
+            Some(Word::Oaep)
         } else {
             None
         }
@@ -44,6 +52,8 @@ impl Word {
         match self {
             Word::Pub => Request::Pub(text),
             Word::Priv => Request::Priv(text),
+            Word::Pss => Request::Pss(text),
+            Word::Oaep => Request::Oaep(text),
         }
     }
 }

@@ -5,7 +5,9 @@ use crate::fault::Fault;
 use crate::plan::{Plan, plan_of, status};
 use crate::run::run;
 use der_core::{Error, ErrorKind, FromRead, Result, Sink, Source, ToWrite};
+use std::alloc::Global;
 use std::io::{self, Read, Write};
+use std::process::Abort;
 use std::test::Fail;
 
 const INPUT: &[u8; 45] = b"pub 3006020107020103\n\npub 300602010702010300\n";
@@ -139,6 +141,23 @@ impl Write for Full {
     }
 }
 
+/// Runs on each input, and compares what was written.
+fn check_answers(
+    rt: &impl Abort,
+    alloc: Global,
+    cases: &[(&[u8], &[u8])],
+) -> std::result::Result<(), Fail> {
+    for (input, want) in cases {
+        let mut source = FromRead::new(*input);
+        let mut sink = ToWrite::new(Vec::new(alloc));
+        run(alloc, &mut source, &mut sink)?;
+        assert_eq!(rt; source.faults(), 0);
+        assert_eq!(rt; sink.faults(), 0);
+        assert_eq!(rt; sink.into_inner().as_slice(), *want);
+    }
+    Ok(())
+}
+
 #[test]
 fn answers_lines(rt: HostRuntime) -> std::result::Result<(), Fail> {
     let cases: [(&[u8], &[u8]); 13] = [
@@ -180,15 +199,7 @@ fn answers_lines(rt: HostRuntime) -> std::result::Result<(), Fail> {
             b"bad line\nbad line\nbad line\n",
         ),
     ];
-    for (input, want) in cases {
-        let mut source = FromRead::new(input);
-        let mut sink = ToWrite::new(Vec::new(rt.alloc()));
-        run(rt.alloc(), &mut source, &mut sink)?;
-        assert_eq!(rt; source.faults(), 0);
-        assert_eq!(rt; sink.faults(), 0);
-        assert_eq!(rt; sink.into_inner().as_slice(), want);
-    }
-    Ok(())
+    check_answers(&rt, rt.alloc(), &cases)
 }
 
 #[test]
@@ -236,12 +247,113 @@ fn answers_private_keys(rt: HostRuntime) -> std::result::Result<(), Fail> {
             b"bad line\nrefused\nbad line\nbad line\nbad line\n",
         ),
     ];
-    for (input, want) in cases {
-        let mut sink = ToWrite::new(Vec::new(rt.alloc()));
-        run(rt.alloc(), &mut FromRead::new(input), &mut sink)?;
-        assert_eq!(rt; sink.into_inner().as_slice(), want);
-    }
-    Ok(())
+    check_answers(&rt, rt.alloc(), &cases)
+}
+
+#[test]
+fn answers_pss_parameters(rt: HostRuntime) -> std::result::Result<(), Fail> {
+    let cases: [(&[u8], &[u8]); 10] = [
+        (
+            b"pss 3000",
+            b"pss hash=2b0e03021a/05: mask=2a864886f70d010108/[2b0e03021a/05:] salt=20 trailer=1 defaults=4 again=3000\n",
+        ),
+        (
+            b"pss 3005a203020114",
+            b"pss hash=2b0e03021a/05: mask=2a864886f70d010108/[2b0e03021a/05:] salt=20 trailer=1 defaults=4 again=3000\n",
+        ),
+        (
+            b"pss 3005a303020101",
+            b"pss hash=2b0e03021a/05: mask=2a864886f70d010108/[2b0e03021a/05:] salt=20 trailer=1 defaults=4 again=3000\n",
+        ),
+        (
+            b"pss 3031a00b300906052b0e03021a0500a118301606092a864886f70d010108300906052b0e03021a0500a203020114a303020101",
+            b"pss hash=2b0e03021a/05: mask=2a864886f70d010108/[2b0e03021a/05:] salt=20 trailer=1 defaults=4 again=3000\n",
+        ),
+        (
+            b"pss 3034a00f300d06096086480165030402010500a11c301a06092a864886f70d010108300d06096086480165030402010500a203020120",
+            b"pss hash=608648016503040201/05: mask=2a864886f70d010108/[608648016503040201/05:] salt=32 trailer=1 defaults=1 again=3034a00f300d06096086480165030402010500a11c301a06092a864886f70d010108300d06096086480165030402010500a203020120\n",
+        ),
+        (
+            b"pss 300ba009300706052b0e03021a",
+            b"pss hash=2b0e03021a/- mask=2a864886f70d010108/[2b0e03021a/05:] salt=20 trailer=1 defaults=3 again=300ba009300706052b0e03021a\n",
+        ),
+        (
+            b"pss 300ea00c300a06052b0e03021a050100",
+            b"pss hash=2b0e03021a/05:00 mask=2a864886f70d010108/[2b0e03021a/05:] salt=20 trailer=1 defaults=3 again=300ea00c300a06052b0e03021a050100\n",
+        ),
+        (
+            b"pss 300fa10d300b06092a864886f70d010108",
+            b"pss hash=2b0e03021a/05: mask=2a864886f70d010108/- salt=20 trailer=1 defaults=3 again=300fa10d300b06092a864886f70d010108\n",
+        ),
+        (
+            b"pss 3005a203020100",
+            b"pss hash=2b0e03021a/05: mask=2a864886f70d010108/[2b0e03021a/05:] salt=0 trailer=1 defaults=3 again=3005a203020100\n",
+        ),
+        (
+            b"pss 3006a204020200ff",
+            b"pss hash=2b0e03021a/05: mask=2a864886f70d010108/[2b0e03021a/05:] salt=255 trailer=1 defaults=3 again=3006a204020200ff\n",
+        ),
+    ];
+    check_answers(&rt, rt.alloc(), &cases)
+}
+
+#[test]
+fn refuses_pss_parameters(rt: HostRuntime) -> std::result::Result<(), Fail> {
+    let cases: [(&[u8], &[u8]); 11] = [
+        (b"pss 300ca00a300806052b0e03021a0500", b"refused\n"),
+        (b"pss 3011a10f300d06092a864886f70d0101080500", b"refused\n"),
+        (b"pss 3005a303020102", b"refused\n"),
+        (b"pss 3006a20402020100", b"refused\n"),
+        (b"pss 300aa303020101a203020114", b"refused\n"),
+        (b"pss 300aa203020114a203020114", b"refused\n"),
+        (b"pss 3005a403020101", b"refused\n"),
+        (b"pss 30058203020114", b"refused\n"),
+        (b"pss 3008a206020114020114", b"refused\n"),
+        (
+            b"pss 3006020107020103\npub 3000\npriv 3000\npss ",
+            b"refused\nrefused\nrefused\nrefused\n",
+        ),
+        (
+            b"pss\npss 300\npss 30 00\nPSS 3000\npsss 3000",
+            b"bad line\nbad line\nbad line\nbad line\nbad line\n",
+        ),
+    ];
+    check_answers(&rt, rt.alloc(), &cases)
+}
+
+#[test]
+fn answers_oaep_parameters(rt: HostRuntime) -> std::result::Result<(), Fail> {
+    let cases: [(&[u8], &[u8]); 7] = [
+        (
+            b"oaep 3000",
+            b"oaep hash=2b0e03021a/05: mask=2a864886f70d010108/[2b0e03021a/05:] source=2a864886f70d010109/04: defaults=3 again=3000\n",
+        ),
+        (
+            b"oaep 3038a00b300906052b0e03021a0500a118301606092a864886f70d010108300906052b0e03021a0500a20f300d06092a864886f70d0101090400",
+            b"oaep hash=2b0e03021a/05: mask=2a864886f70d010108/[2b0e03021a/05:] source=2a864886f70d010109/04: defaults=3 again=3000\n",
+        ),
+        (
+            b"oaep 300fa20d300b06092a864886f70d010109",
+            b"oaep hash=2b0e03021a/05: mask=2a864886f70d010108/[2b0e03021a/05:] source=2a864886f70d010109/- defaults=2 again=300fa20d300b06092a864886f70d010109\n",
+        ),
+        (
+            b"oaep 3013a211300f06092a864886f70d01010904024869",
+            b"oaep hash=2b0e03021a/05: mask=2a864886f70d010108/[2b0e03021a/05:] source=2a864886f70d010109/04:4869 defaults=2 again=3013a211300f06092a864886f70d01010904024869\n",
+        ),
+        (
+            b"oaep 302fa00f300d06096086480165030402010500a11c301a06092a864886f70d010108300d06096086480165030402010500",
+            b"oaep hash=608648016503040201/05: mask=2a864886f70d010108/[608648016503040201/05:] source=2a864886f70d010109/04: defaults=1 again=302fa00f300d06096086480165030402010500a11c301a06092a864886f70d010108300d06096086480165030402010500\n",
+        ),
+        (
+            b"oaep 3005a303020101\noaep 3005a203020114\noaep 300ca00a300806052b0e03021a0500\noaep ",
+            b"refused\nrefused\nrefused\nrefused\n",
+        ),
+        (
+            b"oaep\noaep 300\noaep 30 00\nOAEP 3000\noae 3000",
+            b"bad line\nbad line\nbad line\nbad line\nbad line\n",
+        ),
+    ];
+    check_answers(&rt, rt.alloc(), &cases)
 }
 
 #[test]
