@@ -112,6 +112,9 @@ fn lists_of_texts(rt: HostRuntime) -> Result<(), Fail> {
 fn laws_are_called() {
     pkcs1::texts_are_delimited();
     pkcs1::keys_have_one_text();
-    pkcs1::key_types_exclude_each_other();
+    pkcs1::types_exclude_each_other();
     pkcs1::same_keys_have_the_same_text();
+    pkcs1::pss_spellings();
+    pkcs1::forms_share_the_grammars();
+    pkcs1::oaep_spellings();
 }

@@ -1,0 +1,203 @@
+//! Numbers and documents that own their bytes.
+use crate::bytes::{bytes_of, printed};
+use der_core::{
+    AsUintRef, Decode, Document, Encode, Error, ErrorKind, Length, SecretDocument, Tag, TryClone,
+    Uint, UintRef,
+};
+use pkcs1::{RsaPrivateKeyRef, RsaPublicKey};
+use std::alloc::Global;
+use std::test::Fail;
+
+#[test]
+fn a_sequence_is_a_document(rt: HostRuntime) -> Result<(), Fail> {
+    for row in ["3000", "3003020107", "300401020304", "3006020107020103"] {
+        let text = bytes_of(rt.alloc(), row)?;
+        let document = Document::from_der(rt.alloc(), text.as_slice())?;
+        assert_eq!(rt; document.as_bytes(), text.as_slice(), "at {row}");
+        assert_eq!(rt; document.len(), Length::try_from(text.len())?, "at {row}");
+        let secret = SecretDocument::from_der(rt.alloc(), text.as_slice())?;
+        assert_eq!(rt; secret.as_bytes(), text.as_slice(), "at {row}");
+        assert_eq!(rt; secret.len(), Length::try_from(text.len())?, "at {row}");
+        assert_eq!(rt;
+            document,
+            Document::from_der(rt.alloc(), text.as_slice())?,
+            "at {row}"
+        );
+        let again = SecretDocument::from_der(rt.alloc(), text.as_slice())?;
+        assert!(rt; secret == again, "at {row}");
+    }
+    Ok(())
+}
+
+/// Bytes, and why they are no document.
+const NO_DOCUMENTS: &str = "\
+0500 tag 0x30 was expected, 0x05 was found
+300000 bytes follow the value
+3001 the input ends too early
+308100 the length is not in shortest form
+30800000 the length is indefinite
+8410000000 tag 0x30 was expected, 0x84 was found";
+
+#[test]
+fn other_bytes_are_no_document(rt: HostRuntime) -> Result<(), Fail> {
+    for row in NO_DOCUMENTS.lines() {
+        let (text, want) = row.split_once(' ').ok_or("two parts")?;
+        let text = bytes_of(rt.alloc(), text)?;
+        let refused = Document::from_der(rt.alloc(), text.as_slice());
+        assert_eq!(rt; printed(rt.alloc(), refused)?.as_str(), want, "at {row}");
+        let refused = SecretDocument::from_der(rt.alloc(), text.as_slice());
+        assert_eq!(rt; printed(rt.alloc(), refused)?.as_str(), want, "at {row}");
+    }
+    let incomplete = Error::new(ErrorKind::Incomplete);
+    assert_eq!(rt; Document::from_der(rt.alloc(), &[]), Err(incomplete));
+    assert_eq!(rt;
+        SecretDocument::from_der(rt.alloc(), &[]).map(|_| ()),
+        Err(incomplete)
+    );
+    Ok(())
+}
+
+#[test]
+fn a_document_holds_the_text_of_a_key(rt: HostRuntime) -> Result<(), Fail> {
+    let key = RsaPublicKey {
+        modulus: UintRef::new(&[0x07])?,
+        public_exponent: UintRef::new(&[0x03])?,
+    };
+    let text = bytes_of(rt.alloc(), "3006020107020103")?;
+    let document = Document::encode_msg(rt.alloc(), &key)?;
+    assert_eq!(rt; document.as_bytes(), text.as_slice());
+    assert_eq!(rt; document.len(), key.encoded_len()?);
+    let secret = SecretDocument::encode_msg(rt.alloc(), &key)?;
+    assert_eq!(rt; secret.as_bytes(), text.as_slice());
+    assert_eq!(rt; secret.len(), key.encoded_len()?);
+    let bytes = vec![in rt.alloc(); 0x11; 300]?;
+    let long = RsaPublicKey {
+        modulus: UintRef::new(bytes.as_slice())?,
+        public_exponent: UintRef::new(&[0x03])?,
+    };
+    let document = Document::encode_msg(rt.alloc(), &long)?;
+    assert_eq!(rt; document.len(), Length::try_from(4 + 4 + 300 + 3)?);
+    assert_eq!(rt; RsaPublicKey::try_from(document.as_bytes())?, long);
+    Ok(())
+}
+
+#[test]
+fn a_key_without_a_text_is_no_document(rt: HostRuntime) -> Result<(), Fail> {
+    let text = bytes_of(
+        rt.alloc(),
+        "301b02010002010702010302010502010b02010d020102020104020106",
+    )?;
+    let mut key = RsaPrivateKeyRef::decode_key(rt.alloc(), text.as_slice())?;
+    let secret = SecretDocument::encode_msg(rt.alloc(), &key)?;
+    assert_eq!(rt; secret.as_bytes(), text.as_slice());
+    key.other_prime_infos = Some(Vec::new(rt.alloc()));
+    let refused = Error::new(ErrorKind::Value { tag: Tag::SEQUENCE });
+    assert_eq!(rt; Document::encode_msg(rt.alloc(), &key), Err(refused));
+    assert_eq!(rt;
+        SecretDocument::encode_msg(rt.alloc(), &key).map(|_| ()),
+        Err(refused)
+    );
+    Ok(())
+}
+
+#[test]
+fn a_document_shows_its_bytes(rt: HostRuntime) -> Result<(), Fail> {
+    let document = Document::from_der(rt.alloc(), &[0x30, 0x00])?;
+    assert_eq!(rt;
+        format!(in rt.alloc(); "{document:?}")?.as_str(),
+        "Document { bytes: [48, 0] }"
+    );
+    Ok(())
+}
+
+/// Bytes, and those of their number.
+const NUMBERS: &str = "\
+00 00
+0000 00
+07 07
+0007 07
+00000080 80
+0100 0100
+ff00 ff00";
+
+#[test]
+fn a_number_is_stripped(rt: HostRuntime) -> Result<(), Fail> {
+    for row in NUMBERS.lines() {
+        let (given, want) = row.split_once(' ').ok_or("two parts")?;
+        let given = bytes_of(rt.alloc(), given)?;
+        let want = bytes_of(rt.alloc(), want)?;
+        let number = Uint::new(rt.alloc(), given.as_slice())?;
+        assert_eq!(rt; number.as_bytes(), want.as_slice(), "at {row}");
+        let borrowed = UintRef::new(given.as_slice())?;
+        assert_eq!(rt; number.as_uint_ref(), borrowed, "at {row}");
+        assert_eq!(rt; number.try_clone(rt.alloc())?, number, "at {row}");
+        let mut slice = [0xaa; 8];
+        let mut other = [0xaa; 8];
+        let length = number.encode_into(&mut slice)?;
+        assert_eq!(rt; borrowed.encode_into(&mut other)?, length, "at {row}");
+        assert_eq!(rt; slice, other, "at {row}");
+        let again = Uint::from_der(rt.alloc(), &slice[..length])?;
+        assert_eq!(rt; again, number, "at {row}");
+    }
+    let refused = Error::new(ErrorKind::Length { tag: Tag::INTEGER });
+    assert_eq!(rt; Uint::new(rt.alloc(), &[]), Err(refused));
+    assert_eq!(rt; UintRef::new(&[]), Err(refused));
+    Ok(())
+}
+
+/// A text, and the number or why there is none.
+const INTEGERS: &str = "\
+02020080 80
+020100 00
+02020000 the contents of tag 0x02 are not in shortest form
+020180 the value of tag 0x02 is not allowed
+0200 the contents of tag 0x02 have a wrong length
+0201 the input ends too early
+02010700 bytes follow the value
+0400 tag 0x02 was expected, 0x04 was found";
+
+#[test]
+fn owned_numbers_are_read_as_borrowed_ones(rt: HostRuntime) -> Result<(), Fail> {
+    for row in INTEGERS.lines() {
+        let (text, want) = row.split_once(' ').ok_or("two parts")?;
+        let text = bytes_of(rt.alloc(), text)?;
+        match UintRef::from_der(rt.alloc(), text.as_slice()) {
+            Ok(number) => {
+                let owned = Uint::from_der(rt.alloc(), text.as_slice())?;
+                let bytes = bytes_of(rt.alloc(), want)?;
+                assert_eq!(rt; number.as_bytes(), bytes.as_slice(), "at {row}");
+                assert_eq!(rt; owned.as_bytes(), bytes.as_slice(), "at {row}");
+            }
+            Err(error) => {
+                let answer = Uint::from_der(rt.alloc(), text.as_slice());
+                assert_eq!(rt; answer, Err(error), "at {row}");
+                assert_eq!(rt; printed(rt.alloc(), answer)?.as_str(), want, "at {row}");
+            }
+        }
+    }
+    Ok(())
+}
+
+/// The numbers 7 and 128.
+fn two_numbers(alloc: Global) -> Result<Vec<Uint>, Fail> {
+    let mut numbers = Vec::new(alloc);
+    numbers.push(Uint::new(alloc, &[0x07])?)?;
+    numbers.push(Uint::new(alloc, &[0x80])?)?;
+    Ok(numbers)
+}
+
+#[test]
+fn lists_of_numbers_are_copied(rt: HostRuntime) -> Result<(), Fail> {
+    let numbers = two_numbers(rt.alloc())?;
+    let copies = numbers.try_clone(rt.alloc())?;
+    assert_eq!(rt; copies, numbers);
+    let mut slice = [0xaa; 12];
+    let length = copies.encode_into(&mut slice)?;
+    let text = bytes_of(rt.alloc(), "300702010702020080")?;
+    assert_eq!(rt; &slice[..length], text.as_slice());
+    let again = Vec::<Uint>::from_der(rt.alloc(), text.as_slice())?;
+    assert_eq!(rt; again, numbers);
+    let none = Vec::<Uint>::from_der(rt.alloc(), &[0x30, 0x00])?;
+    assert_eq!(rt; none.try_clone(rt.alloc())?.len(), 0);
+    Ok(())
+}
