@@ -17,8 +17,10 @@ use crate::length::Length;
 use crate::memory::Memory;
 use crate::reader::Reader;
 use crate::tag::Tag;
+use crate::try_clone::TryClone;
 use crate::types::{Contents, EqualByValue, IntegerTag, Kinded};
 use crate::writer::Writer;
+use std::alloc::Global;
 
 /// An unsigned number, by its bytes: most significant first, the first one 0 only in the number 0. It borrows them.
 #[derive(Clone, Copy, Debug, PartialEq, Eq, Drop)]
@@ -120,6 +122,13 @@ pub(crate) fn integer(contents: &[u8]) -> Result<UintRef<'_>>
             bytes: &contents[1..],
         }),
         _ => Ok(UintRef { bytes: contents }),
+    }
+}
+
+impl<'a> TryClone for UintRef<'a> {
+    /// The same number, over the same bytes. No memory is asked for.
+    fn try_clone(&self, _alloc: Global) -> Result<UintRef<'a>> {
+        Ok(*self)
     }
 }
 
