@@ -1,5 +1,5 @@
 //! SEQUENCE OF (X.690 8.10), as a `Vec` of its items.
-ghost use Rattle.std.specs.Prelude.{◌≡◌, ◌≤◌, ◌+◌, ◌++◌, List, length, map, ⊤, OnOk, IfErr};
+ghost use Rattle.std.specs.Prelude.{◌≡◌, ◌≤◌, ◌<◌, ◌+◌, ◌++◌, List, length, map, OnOk, IfErr};
 ghost use Rattle.der_core.specs.Length.{limit};
 ghost use Rattle.der_core.specs.BackWriters.{free_of, Prepends};
 ghost use Rattle.der_core.specs.Writing.{Counts, Stops, fault};
@@ -39,7 +39,7 @@ impl<T> Kinded for Vec<T> {
 }
 
 impl<'a, T: Decode<&'a [u8], Global>> DecodeValue<&'a [u8], Global> for Vec<T> {
-    ghost asks = { λ _. ⊤ };
+    ghost asks = { λ c. 0 < length c };
 
     fn decode_value<R: Reader<&'a [u8]>>(
         memory: Global,
