@@ -1,10 +1,10 @@
 -- Reading a key of two primes asks for no memory, where its numbers ask for none.
-use Rattle.std.proofs.Common.{ℕ, List, [], ◌∷◌, ◌++◌, ◌≡◌, length, map, sym, ap, ◌∙◌, append_assoc, inl, inr, Option, Some, None}
+use Rattle.std.proofs.Common.{ℕ, List, [], ◌∷◌, ◌++◌, ◌≡◌, length, map, sym, ap, ◌∙◌, arith, append_assoc, length-append, inl, inr, Option, Some, None}
 use Rattle.std.specs.Prelude.{refl}
 use Rattle.der_core.specs.Tlv.{Tlv}
 use Rattle.der_core.specs.Texts.{Joins, IsDelimited}
 use Rattle.der_core.specs.ListLaws.{same_fronts}
-use Rattle.der_core.specs.TextLaws.{tlv_split}
+use Rattle.der_core.specs.TextLaws.{tlv_split, tlv_not_empty}
 use Rattle.der_core.specs.Document.{Means}
 use Rattle.der_core.specs.Integer.{Integer}
 use Rattle.der_core.specs.IntegerLaws.{integer_delimited, small_delimited}
@@ -18,7 +18,7 @@ use Rattle.pkcs1.proofs.KeyReads.{last_is}
 
 module _ {V : Type 0} {text : V → List ℕ → Type 0} (d : IsDelimited text) (key : PrivateKey V) (two : key.other_prime_infos ≡ None) where
   none_follow : (others : Option (List (OtherPrime V))) (rest : List ℕ) → others ≡ None → OtherPrimeInfos text others rest → BeginsSequence rest → ⊥
-  none_follow None rest e p b = let same : [] ≡ 48 ∷ b.0 = sym p ∙ b.1 in cc
+  none_follow None rest e p b = omega (arith, tlv_not_empty b.0 b.3, ap length p, ap length b.2, length-append b.0 b.1)
   none_follow (Some others) rest e p b = cc
 
   no_others : (c : List ℕ) → PrivateKeyContents text key c → OthersFollow text c → ⊥

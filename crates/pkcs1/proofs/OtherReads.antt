@@ -13,7 +13,7 @@ use Rattle.der_core.specs.declared.error.Error.{Error}
 use Rattle.der_core.specs.declared.error.ErrorKind.{ErrorKind}
 use Rattle.der_core.specs.declared.error.ErrorKind.TheVariants.{OutOfMemory}
 use Rattle.der_core.specs.Input.{Input, read_from, end_of}
-use Rattle.der_core.specs.Reading.{ReadsOptional, Refuses}
+use Rattle.der_core.specs.Reading.{ReadsOptional, Refuses, AskedIn}
 use Rattle.der_core.proofs.Sequences.{some_same, end_gives}
 use Rattle.pkcs1.specs.declared.other_prime_info.OtherPrimeInfo as declared
 use Rattle.pkcs1.specs.declared.version.Version.{Version}
@@ -23,10 +23,6 @@ use Rattle.pkcs1.specs.Keys.{OtherPrime, OtherPrimeInfo, OtherPrimeInfos, versio
 use Rattle.pkcs1.specs.PrivateKeyLaws.{other_delimited}
 use Rattle.pkcs1.specs.PrivateKeys.{other_of, others_of, ListsNone}
 use Rattle.pkcs1.specs.Versions.{number_of}
-
-begins : (c : List ℕ) → slice_get c 0 ≡ Some 48 → BeginsSequence c
-begins [] e = cc
-begins (x ∷ rest) e = let f : ◌≡◌ {A = Option ℕ} (Some x) (Some 48) = e in let same : x ≡ 48 = cc in (rest, ap (λ y. y ∷ rest) same)
 
 same_flags : (a b : Bool) → not (beq a b) ≡ false → a ≡ b
 same_flags true true e = refl
@@ -79,13 +75,13 @@ module _ {U V : Type 0} (value : U → V) (text : V → List ℕ → Type 0) (d 
 
   -- a fault inside the other primes
   pub others_fail : (n : ℕ) (before after : Input) (e : Error) → Found (Err e) before after
-      → (after ≡ None) × ((c : List ℕ) → before ≡ Some c → Refuses e.kind (BeginsSequence c) ((o : Option (List (OtherPrime V))) → (version_of o ≡ n) × OtherPrimeInfos text o c → ⊥))
+      → (after ≡ None) × ((c : List ℕ) → before ≡ Some c → Refuses e.kind (AskedIn asks c) ((o : Option (List (OtherPrime V))) → (version_of o ≡ n) × OtherPrimeInfos text o c → ⊥))
   others_fail n before after e f = (
     f.0,
     λ c is.
         let g = f.2 c is in
         ⊎_elim
-        (λ w. inl (w.0, begins c g.0))
+        (λ w. inl w)
         (λ w. inr (w.0, λ o has. none c g.0 w.1 o has.1))
         g.1,
   )

@@ -1,13 +1,13 @@
 -- The contents of a private key for which memory may be asked for.
-use Rattle.std.specs.Prelude.{ℕ, List, ◌∷◌, ◌++◌, ◌≡◌, ◌⊎◌, length, map}
+use Rattle.std.specs.Prelude.{ℕ, List, ◌∷◌, ◌++◌, ◌≡◌, ◌<◌, ◌⊎◌, length, map}
 use Rattle.der_core.specs.Texts.{Joins}
 use Rattle.der_core.specs.Integer.{Small, Integer}
 use Rattle.der_core.specs.Tlv.{Tlv}
 use Rattle.der_core.specs.Reading.{AskedIn, AsksWithin}
 
--- The octet of a SEQUENCE stands first.
+-- A SEQUENCE that isn't empty stands first.
 abbrev pub BeginsSequence : List ℕ → Type 0
-BeginsSequence c = (rest : List ℕ) × (c ≡ 48 ∷ rest)
+BeginsSequence c = AskedIn (Tlv 48 (λ octets. 0 < length octets)) c
 
 -- It stands behind a version and eight numbers.
 abbrev pub OthersFollow : {Number : Type 0} → (Number → List ℕ → Type 0) → List ℕ → Type 0
@@ -15,10 +15,10 @@ OthersFollow {Number} NumberText c =
     (n : ℕ) × (numbers : List Number) × (front : List ℕ) × (rest : List ℕ)
     × (length numbers ≡ 8) × Joins (Small n ∷ map NumberText numbers) front × BeginsSequence rest × (c ≡ front ++ rest)
 
--- A number may ask for memory, or other primes are there.
+-- A number may ask for memory, or a list that isn't empty is there.
 abbrev pub AsksForKey : {Number : Type 0} → (Number → List ℕ → Type 0) → (List ℕ → Type 0) → List ℕ → Type 0
 AsksForKey NumberText asks c = AsksWithin asks c ⊎ OthersFollow NumberText c
 
--- The octet of a SEQUENCE stands behind the eighth number of a private key at the front of the text.
+-- A SEQUENCE that isn't empty stands behind the eighth number of a private key at the front of the text.
 abbrev pub MayAsk : List ℕ → Type 0
 MayAsk text = AskedIn (Tlv 48 (OthersFollow Integer)) text

@@ -242,8 +242,8 @@ impl<'a> RsaPrivateKey<UintRef<'a>> {
     ghost use Rattle.pkcs1.specs.PrivateKeys.{private_key_of};
     ghost use Rattle.pkcs1.specs.Refusals.{IsAsn1};
 
-    /// Reads a whole slice: `from_der`, with all that is known of a private key's text. Memory is asked for only where
-    /// there are other primes.
+    /// Reads a whole slice: `from_der`, with all that is known of a private key's text. `OutOfMemory` is answered only
+    /// where a SEQUENCE that isn't empty stands behind the eighth number.
     pub fn decode_key(memory: Global, bytes: &'a [u8]) -> crate::Result<RsaPrivateKey<UintRef<'a>>>
         ensures ok { IfOk result (λ key. Means grammar.RsaPrivateKey bytes.now (private_key_of key)) }
         ensures one { IfOk result (λ key. (other : PrivateKey (List ℕ)) → Means grammar.RsaPrivateKey bytes.now other → other ≡ private_key_of key) }

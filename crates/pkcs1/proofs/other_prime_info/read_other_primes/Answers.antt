@@ -1,11 +1,13 @@
+use Rattle.std.proofs.Common.{◌<◌, length}
 use Rattle.std.proofs.lemmas.Result.{err_from_is_err_and}
+use Rattle.der_core.specs.Tlv.{Tlv}
 use Rattle.pkcs1.proofs.OtherReads.{agree, others_fail, empty_fails, more_fails, others_given, listed, unlisted}
 use Rattle.pkcs1.proofs.other_prime_info.read_other_primes.Goals as goal
 
 pub returns-in_err-others : goal.returns-in_err-others
 returns-in_err-others g c =
     let p = err_from_is_err_and c.from_residual.result c.from_residual.ensures.1 in
-    rw (p.1, p.2) (others_fail g.U.Text.value g.U.Text.text g.U.Text.delimited _ _ _ _ _ c.in_err-others.ensures)
+    rw (p.1, p.2) (others_fail g.U.Text.value g.U.Text.text g.U.Text.delimited (Tlv 48 (λ octets. 0 < length octets)) _ _ _ _ c.in_err-others.ensures)
 
 pub returns-then-lists_none : goal.returns-then-lists_none
 returns-then-lists_none g c =
