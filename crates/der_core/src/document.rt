@@ -11,7 +11,7 @@ ghost use Rattle.der_core.specs.Writing.{IsUncounted, LacksMemory, fault};
 use crate::back_writer::BackWriter;
 use crate::decode::{Decode, DecodeValue};
 use crate::encode::{Encode, EncodeValue};
-use crate::error::{Error, ErrorKind, Result};
+use crate::error::Result;
 use crate::header::Header;
 use crate::length::Length;
 use crate::memory::{NoMemory, copy_of};
@@ -101,10 +101,7 @@ impl Document {
         ensures err { IfErr result (λ e. LacksMemory (T.has_contents (T.value message.now)) (tlv T.TAG.octet (T.written_contents (T.value message.now))) e.kind ⊎ IsUncountable (T.has_contents (T.value message.now)) (λ v. Tlv T.TAG.octet (T.contents v)) (T.value message.now) (fault e.kind)) }
     {
         let length = message.encoded_len()?.to_usize();
-        let mut bytes = match vec![in alloc; 0u8; length] {
-            Ok(bytes) => bytes,
-            Err(_) => return Err(Error::new(ErrorKind::OutOfMemory)),
-        };
+        let mut bytes = vec![in alloc; 0u8; length]?;
         write_over(message, bytes.as_mut_slice());
         Ok(Document { bytes })
     }

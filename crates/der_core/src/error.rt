@@ -3,6 +3,7 @@ ghost use Rattle.std.specs.Prelude.{◌≡◌, Some};
 ghost use Rattle.der_core.specs.Writing.{fault, is_no_text};
 
 use crate::tag::{PrintedOctet, Tag};
+use std::alloc::{AllocError, AllocFailed};
 use std::fmt;
 
 /// Why a call was refused.
@@ -107,6 +108,32 @@ impl Error {
         ensures { result ≡ is_no_text (fault self.kind) }
     {
         matches!(self.kind, ErrorKind::Value { .. })
+    }
+}
+
+impl From<AllocError> for Error {
+    ghost use Rattle.der_core.specs.declared.error.ErrorKind.TheVariants.{OutOfMemory};
+
+    ghost from_gives = { λ _ error. error.kind ≡ OutOfMemory };
+
+    /// The refusal `OutOfMemory`.
+    fn from(_error: AllocError) -> Error
+        ensures { result.kind ≡ ErrorKind.OutOfMemory }
+    {
+        Error::new(ErrorKind::OutOfMemory)
+    }
+}
+
+impl<T: Drop> From<AllocFailed<T>> for Error {
+    ghost use Rattle.der_core.specs.declared.error.ErrorKind.TheVariants.{OutOfMemory};
+
+    ghost from_gives = { λ _ error. error.kind ≡ OutOfMemory };
+
+    /// The refusal `OutOfMemory`. What couldn't be stored is let go.
+    fn from(_error: AllocFailed<T>) -> Error
+        ensures { result.kind ≡ ErrorKind.OutOfMemory }
+    {
+        Error::new(ErrorKind::OutOfMemory)
     }
 }
 

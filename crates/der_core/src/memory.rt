@@ -1,7 +1,8 @@
 //! What may ask for memory.
 ghost use Rattle.std.specs.Prelude.{◌≡◌, IfOk, IfErr};
+ghost use Rattle.der_core.specs.declared.error.ErrorKind.{ErrorKind};
 
-use crate::error::{Error, ErrorKind, Result};
+use crate::error::Result;
 use std::alloc::Global;
 
 /// What a reading call is handed to ask for memory: `NoMemory` or `Global`.
@@ -20,8 +21,5 @@ pub(crate) fn copy_of(alloc: Global, bytes: &[u8]) -> Result<Vec<u8>>
     ensures ok { IfOk result (λ copy. copy.items ≡ bytes.now) }
     ensures err { IfErr result (λ e. e.kind ≡ ErrorKind.OutOfMemory) }
 {
-    match Vec::from_slice(alloc, bytes) {
-        Ok(copy) => Ok(copy),
-        Err(_) => Err(Error::new(ErrorKind::OutOfMemory)),
-    }
+    Ok(Vec::from_slice(alloc, bytes)?)
 }

@@ -1,7 +1,8 @@
 //! Copies of values that own memory.
 ghost use Rattle.std.specs.Prelude.{◌≡◌, IfOk, IfErr};
+ghost use Rattle.der_core.specs.declared.error.ErrorKind.{ErrorKind};
 
-use crate::error::{Error, ErrorKind, Result};
+use crate::error::Result;
 use crate::types::Text;
 use std::alloc::Global;
 
@@ -18,10 +19,7 @@ impl<T: TryClone> TryClone for Vec<T> {
     fn try_clone(&self, alloc: Global) -> Result<Vec<T>> {
         let mut copies = Vec::new(alloc);
         for item in self {
-            let copy = item.try_clone(alloc)?;
-            if copies.push(copy).is_err() {
-                return Err(Error::new(ErrorKind::OutOfMemory));
-            }
+            copies.push(item.try_clone(alloc)?)?;
         }
         Ok(copies)
     }

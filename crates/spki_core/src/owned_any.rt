@@ -42,13 +42,9 @@ impl Any {
         ensures ok { IfOk result (λ any. any_in any ≡ record { tag = tag.octet; contents = contents.now }) }
         ensures err { IfErr result (λ e. e.kind ≡ ErrorKind.OutOfMemory) }
     {
-        let mut copy = Vec::new(alloc);
-        if copy.extend_from_slice(contents).is_err() {
-            return Err(Error::new(ErrorKind::OutOfMemory));
-        }
         Ok(Any {
             tag,
-            contents: copy,
+            contents: Vec::from_slice(alloc, contents)?,
         })
     }
 }
