@@ -18,6 +18,7 @@ use crate::memory::{NoMemory, copy_of};
 use crate::reader::Reader;
 use crate::types::{Contents, FixedTag, Kinded, Sequence, SequenceTag};
 use std::alloc::Global;
+use std::fmt;
 
 /// A SEQUENCE that was there. Its contents aren't kept.
 #[derive(Drop)]
@@ -88,8 +89,8 @@ impl Document {
         })
     }
 
-    /// The text of a message: `Value` where it has none, `Overflow` where it has some and none fits. Only then memory
-    /// is asked for.
+    /// The text of a message: `Value` where it has none, `Overflow` where it has some and none fits. `OutOfMemory` is
+    /// answered only where one fits.
     pub fn encode_msg<'a, T: EncodeValue + Sequence<'a>>(
         alloc: Global,
         message: &T,
@@ -122,9 +123,9 @@ impl Document {
     }
 }
 
-/// One whole SEQUENCE, of at most `Length::MAX` bytes, that is secret: it isn't shown by `Debug`, and is nowhere taken
-/// for a `Document`.
-#[derive(PartialEq, Eq, Drop)]
+/// One whole SEQUENCE, of at most `Length::MAX` bytes, that is secret: `Debug` shows none of its bytes, it can't be
+/// compared, and it is nowhere taken for a `Document`.
+#[derive(Drop)]
 pub struct SecretDocument {
     document: Document,
 }
@@ -142,8 +143,8 @@ impl SecretDocument {
         })
     }
 
-    /// The text of a message: `Value` where it has none, `Overflow` where it has some and none fits. Only then memory
-    /// is asked for.
+    /// The text of a message: `Value` where it has none, `Overflow` where it has some and none fits. `OutOfMemory` is
+    /// answered only where one fits.
     pub fn encode_msg<'a, T: EncodeValue + Sequence<'a>>(
         alloc: Global,
         message: &T,
@@ -172,5 +173,12 @@ impl SecretDocument {
         ensures { result ≡ length (secret_text_of self.now) }
     {
         self.document.len()
+    }
+}
+
+impl fmt::Debug for SecretDocument {
+    /// Prints the name of the type, and no byte.
+    fn fmt<W: fmt::Write>(&self, f: &mut fmt::Formatter<W>) -> fmt::Result {
+        f.debug_struct("SecretDocument").finish_non_exhaustive()
     }
 }
