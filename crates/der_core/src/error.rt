@@ -84,6 +84,7 @@ impl fmt::Display for ErrorKind {
 /// A refusal.
 #[derive(Clone, Copy, Debug, PartialEq, Eq, Drop)]
 pub struct Error {
+    /// Why the call was refused.
     pub kind: ErrorKind,
 }
 
@@ -91,12 +92,14 @@ pub struct Error {
 pub type Result<T> = std::result::Result<T, Error>;
 
 impl Error {
+    /// A refusal of this kind. No reader is marked as failed: that is what `Reader::error` does.
     pub fn new(kind: ErrorKind) -> Error
         ensures { result ≡ record { kind = kind } }
     {
         Error { kind }
     }
 
+    /// Why the call was refused.
     pub fn kind(&self) -> ErrorKind
         ensures { result ≡ self.now.kind }
     {

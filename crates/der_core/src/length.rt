@@ -110,10 +110,13 @@ impl TryFrom<usize> for Length {
 }
 
 impl Length {
+    /// No octet.
     pub const ZERO: Length = Length { value: 0 };
 
+    /// One octet.
     pub const ONE: Length = Length { value: 1 };
 
+    /// The most octets that contents, or a text that is read or written whole, may have: one less than 2^28.
     pub const MAX: Length = Length { value: 268435455 };
 
     /// The length `value`, which is at most `MAX`.
@@ -126,6 +129,7 @@ impl Length {
         }
     }
 
+    /// The number of octets, as slices count them.
     pub fn to_usize(self) -> usize
         ensures value { result ≡ self }
         ensures bound { result ≤ limit }

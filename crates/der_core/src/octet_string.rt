@@ -40,6 +40,7 @@ impl<'a> OctetStringRef<'a> {
         Ok(OctetStringRef { bytes })
     }
 
+    /// The octets, over the bytes that were read or handed in.
     pub fn as_bytes(&self) -> &'a [u8]
         ensures octets { result.now ≡ octets_of self.now }
         ensures bound { length result.now ≤ limit }
@@ -54,6 +55,7 @@ impl<'a> OctetStringRef<'a> {
         Length::of(self.bytes.len())
     }
 
+    /// Whether there is no octet. An OCTET STRING may have none (X.690 8.7.2).
     pub fn is_empty(&self) -> bool
         ensures { IsTrue result ↔ (length (octets_of self.now) ≡ 0) }
     {

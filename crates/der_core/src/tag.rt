@@ -9,19 +9,25 @@ use std::fmt;
 /// An octet is allowed where its number isn't 31 and it is neither `00` nor `20`.
 #[derive(Clone, Copy, Debug, PartialEq, Eq, Drop)]
 pub struct Tag {
+    /// The identifier octet, as it stands in a text.
     pub octet: u8,
     pub ghost allowed: { IsTrue (is_allowed octet) },
 }
 
 impl Tag {
+    /// The tag of INTEGER (X.690 8.3): universal, primitive, number 2.
     pub const INTEGER: Tag = Tag { octet: 0x02 };
 
+    /// The tag of OCTET STRING (X.690 8.7): universal, number 4, and primitive, as DER demands (10.2).
     pub const OCTET_STRING: Tag = Tag { octet: 0x04 };
 
+    /// The tag of NULL (X.690 8.8): universal, primitive, number 5.
     pub const NULL: Tag = Tag { octet: 0x05 };
 
+    /// The tag of OBJECT IDENTIFIER (X.690 8.19): universal, primitive, number 6.
     pub const OBJECT_IDENTIFIER: Tag = Tag { octet: 0x06 };
 
+    /// The tag of SEQUENCE (X.690 8.9) and SEQUENCE OF (8.10): universal, constructed, number 16.
     pub const SEQUENCE: Tag = Tag { octet: 0x30 };
 
     /// The tag with this octet, or `TagUnknown` where the octet isn't allowed.
@@ -45,6 +51,7 @@ impl Tag {
         }
     }
 
+    /// The identifier octet, as it stands in a text.
     pub fn octet(self) -> u8
         ensures { result ≡ self.octet }
     {
@@ -55,11 +62,13 @@ impl Tag {
 /// The number of a tag: at most 30, since a greater one needs more than one octet (X.690 8.1.2.4).
 #[derive(Clone, Copy, Debug, PartialEq, Eq, Drop)]
 pub struct TagNumber {
+    /// The number alone, without the class and the constructed bit.
     pub value: u8,
     pub ghost fits: { value ≤ 30 },
 }
 
 impl TagNumber {
+    /// The number of the tag `[value]`.
     pub fn new(value: u8) -> TagNumber
         requires { value ≤ 30 }
         ensures { result.value ≡ value }
@@ -67,6 +76,7 @@ impl TagNumber {
         TagNumber { value }
     }
 
+    /// The number alone, without the class and the constructed bit.
     pub fn value(self) -> u8
         ensures { result ≡ self.value }
     {

@@ -60,20 +60,25 @@ pub trait EqualByValue: Text + PartialEq {
 
 /// A tag, as a type: so that a type of any lifetime and parameters can name its tag by `Kinded`.
 pub trait TagKind {
+    /// The tag, where a contract names it.
     ghost TAG: { Tag };
 
+    /// The tag of the kind: one octet that tells class, constructed bit and number.
     const TAG: Tag;
 }
 
 /// A type whose texts have the tag of a kind.
 pub trait Kinded {
+    /// The kind whose tag the texts have. Types of the same kind can't be told apart by their tags.
     type Kind: TagKind;
 }
 
 /// A type whose texts have one tag.
 pub trait FixedTag {
+    /// The tag, where a contract names it.
     ghost TAG: { Tag };
 
+    /// The tag that each text of the type begins with.
     const TAG: Tag;
 }
 

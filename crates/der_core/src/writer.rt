@@ -38,6 +38,7 @@ pub struct SliceWriter<'b> {
 impl<'b> SliceWriter<'b> {
     ghost use Rattle.der_core.specs.SliceWriters.{slice_of, len_of, written_of};
 
+    /// A writer over a slice of which nothing is written. Bytes that are never written stay as they are.
     pub fn new(slice: &'b mut [u8]) -> SliceWriter<'b>
         ensures same_reference { (slice_of result).ghost_name ≡ slice.entry.ghost_name }
         ensures same_slice { (slice_of result).now ≡ slice.old }

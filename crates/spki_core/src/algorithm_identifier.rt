@@ -18,7 +18,9 @@ use std::alloc::Global;
 /// An identifier, and parameters that are there or not.
 #[derive(Clone, Copy, Debug, PartialEq, Eq, Drop)]
 pub struct AlgorithmIdentifier<P> {
+    /// Which algorithm it is.
     pub oid: ObjectIdentifier,
+    /// What the algorithm is given. `None` means that no octet follows the identifier, which is another value than NULL.
     pub parameters: Option<P>,
 }
 

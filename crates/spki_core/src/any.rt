@@ -44,6 +44,7 @@ impl<'a> AnyRef<'a> {
         }
     }
 
+    /// The tag, of whatever class and number.
     pub fn tag(&self) -> Tag
         ensures { result.octet ≡ (any_of self.now).tag }
     {

@@ -13,7 +13,9 @@ use der_core::{
 /// A value that is written inside the tag `[tag_number]`. It borrows the value.
 #[derive(Clone, Copy, Drop)]
 pub struct ContextSpecificRef<'b, T> {
+    /// The number in the tag.
     pub tag_number: TagNumber,
+    /// The value, whose one text is the contents of the tag.
     pub value: &'b T,
 }
 

@@ -46,6 +46,7 @@ pub trait AssociatedOid {
 
     ghost valid: { IsTrue (specs.is_identifier contents) };
 
+    /// The contents octets of the identifier (X.690 8.19), without tag and length.
     const OID: &'static [u8];
 
     /// `OID`, where a contract can name it.

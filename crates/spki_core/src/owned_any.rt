@@ -25,7 +25,8 @@ impl Any {
     ghost use Rattle.spki_core.specs.Anys.{any_in};
     ghost use Rattle.spki_core.specs.AnyRefs.{any_of};
 
-    /// A tag and a copy of contents: `Overflow` where the contents pass `Length::MAX`.
+    /// A tag and a copy of contents: `Overflow` where the contents pass `Length::MAX`, `OutOfMemory` where they
+    /// don't and no memory is found for the copy.
     pub fn new(alloc: Global, tag: Tag, contents: &[u8]) -> Result<Any>
         ensures ok { IfOk result (λ any. any_in any ≡ record { tag = tag.octet; contents = contents.now }) }
         ensures err { IfErr result (λ e. ((e.kind ≡ ErrorKind.Overflow) × (limit < length contents.now)) ⊎ ((e.kind ≡ ErrorKind.OutOfMemory) × (length contents.now ≤ limit))) }
