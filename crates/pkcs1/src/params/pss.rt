@@ -36,6 +36,7 @@ pub struct RsaPssParams<P> {
     pub mask_gen: AlgorithmIdentifier<AlgorithmIdentifier<P>>,
     /// The length of the salt in octets, from 0 to 255; 20 by default.
     pub salt_len: u8,
+    /// What ends an encoded message; `BC` by default.
     pub trailer_field: TrailerField,
 }
 
@@ -93,7 +94,12 @@ impl<'a, M: Memory, P: Decode<&'a [u8], M> + AnyParams<M>> DecodeValue<&'a [u8],
         let hash = read_plain(memory, reader, TagNumber::new(0), default_hash)?;
         let default_mask_gen = mgf1_with::<Sha1, P, M>(memory);
         let mask_gen = read_mask_gen(memory, reader, TagNumber::new(1), default_mask_gen)?;
-        let salt_len = read_field(memory, reader, TagNumber::new(2), 20)?;
+        let salt_len = read_field(
+            memory,
+            reader,
+            TagNumber::new(2),
+            RsaPssParamsRef::SALT_LEN_DEFAULT,
+        )?;
         let trailer_field = read_field(memory, reader, TagNumber::new(3), TrailerField::BC)?;
         reader.finish()?;
         Ok(RsaPssParams {
