@@ -1,5 +1,5 @@
 -- What private keys hold: canonical numbers, none longer than a text may be, and fewer primes than memory has bytes.
-use Rattle.std.proofs.Common.{ℕ, List, [], ◌∷◌, length, map, arith, Option, Some, None}
+use Rattle.std.proofs.Common.{ℕ, List, [], ◌∷◌, map, arith, Option, Some, None}
 use Rattle.std.proofs.lemmas.List.{length-map}
 use Rattle.std.specs.Prelude.{Result, Ok, Err, IfErr}
 use Rattle.std.specs.declared.alloc.Global.{Global}

@@ -249,6 +249,7 @@ impl<U> RsaPrivateKey<U> {
     where
         U: Decode<&'a [u8], Global>,
         ensures ok { IfOk result (λ key. Means (λ v. Tlv 48 (PrivateKeyContents U.text v)) (octets_of octets.entry) (private_of U.value key)) }
+        ensures one { IfOk result (λ key. (other : PrivateKey U.Value) → Means (λ v. Tlv 48 (PrivateKeyContents U.text v)) (octets_of octets.entry) other → other ≡ private_of U.value key) }
         ensures err { IfErr result (IsAsn1 (λ e. Refuses e.kind (AskedIn (Tlv 48 (AsksForKey U.text U.Decode.asks)) (octets_of octets.entry)) ((key : PrivateKey U.Value) → Means (λ v. Tlv 48 (PrivateKeyContents U.text v)) (octets_of octets.entry) key → ⊥))) }
     {
         Ok(RsaPrivateKey::from_der(alloc, octets.as_bytes())?)
