@@ -30,13 +30,21 @@ use std::fmt;
 /// exactly where there are other primes. A list of no primes has no text: writing it is refused by `Value` of SEQUENCE.
 #[derive(Drop)]
 pub struct RsaPrivateKey<U> {
+    /// The modulus n.
     pub modulus: U,
+    /// The public exponent e.
     pub public_exponent: U,
+    /// The private exponent d.
     pub private_exponent: U,
+    /// The first prime p.
     pub prime1: U,
+    /// The second prime q.
     pub prime2: U,
+    /// The exponent of the first prime: d modulo p - 1.
     pub exponent1: U,
+    /// The exponent of the second prime: d modulo q - 1.
     pub exponent2: U,
+    /// The coefficient: the inverse of q modulo p.
     pub coefficient: U,
     /// The primes past the first two.
     pub other_prime_infos: Option<OtherPrimeInfos<U>>,
