@@ -4,18 +4,21 @@ use Rattle.std.proofs.Common.{ℕ, List, [], ◌∷◌, ◌++◌, ◌≡◌, ◌
 use Rattle.der_core.specs.Length.{limit}
 use Rattle.der_core.specs.Tlv.{Tlv}
 use Rattle.der_core.specs.Texts.{Then, Joins, IsDelimited, AtMostOne}
-use Rattle.der_core.specs.Document.{Excludes}
+use Rattle.der_core.specs.Document.{Excludes, IsShortest}
 use Rattle.der_core.specs.Integer.{Integer, IsCanonical, IntegerContents, Small, SmallContents, integer_contents}
 use Rattle.der_core.specs.IntegerLaws.{integer_delimited, integer_at_most_one, integer_relates, small_at_most_one}
 use Rattle.der_core.proofs.IntegerLengths.{length_small, length_large}
 use Rattle.std.proofs.lemmas.Bool.{cases_lt}
-use Rattle.std.specs.Prelude.{slice_index}
+use Rattle.std.specs.Prelude.{slice_index, take, Result, Ok, Err, IfOk}
 use Rattle.der_core.specs.SmallLaws.{small_relates}
 use Rattle.der_core.specs.SequenceOf.{AllHave}
 use Rattle.der_core.specs.TextLaws.{tlv_split, tlv_delimited, tlv_not_empty, tlv_at_most_one, tlv_made, tlv_little_longer, joins_at_most_one, map_at_most_one, last_holds, then_holds}
+use Rattle.pkcs1.specs.declared.error.Error.{Error}
+use Rattle.pkcs1.specs.KeyTexts.{IsOnlyText}
 use Rattle.pkcs1.specs.Keys.{RsaPublicKey, OtherPrime, OtherPrimeContents, OtherPrimeInfo, OtherPrimeInfos, version_of, PrivateKey, PrivateKeyContents, RsaPrivateKey}
 use Rattle.pkcs1.specs.Writing.{other_numbers, key_numbers}
 use Rattle.pkcs1.specs.PrivateKeyLaws.{version_small, private_means_one, joins_put}
+use Rattle.pkcs1.proofs.KeyTexts.{only_text}
 
 pub private_delimited : IsDelimited RsaPrivateKey
 private_delimited = tlv_delimited 48 (PrivateKeyContents Integer) (private_means_one integer_delimited)
@@ -41,6 +44,11 @@ private_at_most_one key = tlv_at_most_one 48 _ (joins_at_most_one
     ∷ OtherPrimeInfos Integer key.other_prime_infos
     ∷ [])
     (small_at_most_one (version_of key.other_prime_infos), (integer_at_most_one key.modulus, (integer_at_most_one key.public_exponent, (integer_at_most_one key.private_exponent, (integer_at_most_one key.prime1, (integer_at_most_one key.prime2, (integer_at_most_one key.exponent1, (integer_at_most_one key.exponent2, (integer_at_most_one key.coefficient, (others_at_most_one key.other_prime_infos, tt)))))))))))
+
+pub private_only : (key : PrivateKey (List ℕ)) (result : Result ℕ Error) (out : List ℕ)
+    → IfOk result (λ n. IsShortest RsaPrivateKey key (take n out)) → IfOk result (λ n. IsOnlyText RsaPrivateKey key (take n out))
+private_only key (Ok n) out h = only_text RsaPrivateKey private_delimited key (private_at_most_one key) (take n out) h
+private_only key (Err e) out h = tt
 
 -- Two texts of one tag in front of the same bytes leave the same rest.
 rest_same : {t : ℕ} {P Q Ps Qs : List ℕ → Type 0} (c : List ℕ) → Then (Tlv t P) Ps c → Then (Tlv t Q) Qs c → (rest : List ℕ) × Ps rest × Qs rest

@@ -5,14 +5,20 @@ use Rattle.der_core.specs.Length.{limit}
 use Rattle.der_core.specs.Integer.{Integer, IsCanonical}
 use Rattle.der_core.specs.TextLaws.{tlv_delimited, tlv_at_most_one, joins_at_most_one, tlv_made, then_holds, last_holds}
 use Rattle.der_core.specs.IntegerLaws.{integer_delimited, integer_at_most_one, integer_made}
+use Rattle.der_core.specs.Document.{IsShortest}
+use Rattle.pkcs1.specs.KeyTexts.{IsOnlyText}
 use Rattle.pkcs1.specs.Keys.{PublicKey, PublicKeyContents, RsaPublicKey}
 use Rattle.pkcs1.specs.PublicKeyLaws.{public_key_means_one}
+use Rattle.pkcs1.proofs.KeyTexts.{only_text}
 
 pub public_delimited : IsDelimited RsaPublicKey
 public_delimited = tlv_delimited 48 (PublicKeyContents Integer) (public_key_means_one Integer integer_delimited)
 
 pub public_at_most_one : (key : PublicKey (List ℕ)) → AtMostOne (RsaPublicKey key)
 public_at_most_one key = tlv_at_most_one 48 _ (joins_at_most_one (Integer key.modulus ∷ Integer key.public_exponent ∷ []) (integer_at_most_one key.modulus, (integer_at_most_one key.public_exponent, tt)))
+
+pub public_only : (key : PublicKey (List ℕ)) (text : List ℕ) → IsShortest RsaPublicKey key text → IsOnlyText RsaPublicKey key text
+public_only key text = only_text RsaPublicKey public_delimited key (public_at_most_one key) text
 
 pub public_made : (key : PublicKey (List ℕ)) → IsCanonical key.modulus → IsCanonical key.public_exponent → length key.modulus ≤ limit → length key.public_exponent ≤ limit
     → (text : List ℕ) × RsaPublicKey key text

@@ -17,6 +17,7 @@ pub mod DigestEquality
 pub mod Versions
 pub mod Asking
 pub mod Writing
+pub mod KeyTexts
 pub mod PublicKeys
 pub mod PrivateKeys
 pub mod PublicKeyLaws

@@ -1,9 +1,13 @@
--- What a borrowed public key means.
+-- What a public key means, by what its numbers mean.
 use Rattle.std.specs.Prelude.{ℕ, List}
 use Rattle.der_core.specs.declared.integer.uint.UintRef.{UintRef}
 use Rattle.der_core.specs.UintRefs.{bytes_of}
 use Rattle.pkcs1.specs.declared.public_key.RsaPublicKey.{RsaPublicKey}
 use Rattle.pkcs1.specs.Keys.{PublicKey}
 
+abbrev pub public_of : {U V : Type 0} → (U → V) → RsaPublicKey U → PublicKey V
+public_of value key = record { modulus = value key.modulus; public_exponent = value key.public_exponent }
+
+-- What a borrowed public key means.
 abbrev pub key_of : RsaPublicKey UintRef → PublicKey (List ℕ)
-key_of key = record { modulus = bytes_of key.modulus; public_exponent = bytes_of key.public_exponent }
+key_of key = public_of bytes_of key

@@ -24,8 +24,11 @@ use std::alloc::Global;
 /// A prime of a private key past the first two.
 #[derive(Clone, Drop)]
 pub struct OtherPrimeInfo<U> {
+    /// The prime.
     pub prime: U,
+    /// Its exponent: the private exponent modulo the prime less 1.
     pub exponent: U,
+    /// Its coefficient: the inverse of the product of the primes before it, modulo the prime.
     pub coefficient: U,
 }
 

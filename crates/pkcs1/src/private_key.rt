@@ -30,13 +30,21 @@ use std::fmt;
 /// exactly where there are other primes. A list of no primes has no text: writing it is refused by `Value` of SEQUENCE.
 #[derive(Drop)]
 pub struct RsaPrivateKey<U> {
+    /// The modulus n.
     pub modulus: U,
+    /// The public exponent e.
     pub public_exponent: U,
+    /// The private exponent d.
     pub private_exponent: U,
+    /// The first prime p.
     pub prime1: U,
+    /// The second prime q.
     pub prime2: U,
+    /// The exponent of the first prime: d modulo p - 1.
     pub exponent1: U,
+    /// The exponent of the second prime: d modulo q - 1.
     pub exponent2: U,
+    /// The coefficient: the inverse of q modulo p.
     pub coefficient: U,
     /// The primes past the first two.
     pub other_prime_infos: Option<OtherPrimeInfos<U>>,
@@ -195,6 +203,28 @@ impl<U: Encode> EncodeValue for RsaPrivateKey<U> {
     ghost contents_shortest = { private_shortest U.text U.has_text U.written_text U.text_shortest };
 }
 
+impl<U: Encode> RsaPrivateKey<U> {
+    ghost use Rattle.std.specs.Prelude.{take, drop, IfOk, OnErr};
+    ghost use Rattle.der_core.specs.Document.{IsShortest, IsRefused};
+    ghost use Rattle.der_core.specs.Tlv.{Tlv};
+    ghost use Rattle.pkcs1.specs.Refusals.{IsAsn1};
+
+    /// `encode_into`, which answers `Value` of SEQUENCE where the list of other primes is there and empty.
+    fn encode_front(&self, out: &mut [u8]) -> crate::Result<usize>
+        ensures shortest { IfOk result (λ n. IsShortest (λ v. Tlv 48 (PrivateKeyContents U.text v)) (private_of U.value self.now) (take n out.new)) }
+        ensures rest { IfOk result (λ n. (n ≤ length out.new) × (drop n out.new ≡ drop n out.old)) }
+        ensures unchanged { OnErr result (out.new ≡ out.old) }
+        ensures err { IfErr result (IsAsn1 (λ e. IsRefused (HasPrivateKey U.has_text (private_of U.value self.now)) (λ v. Tlv 48 (PrivateKeyContents U.text v)) (private_of U.value self.now) (length out.old) (fault e.kind))) }
+        ensures no_primes { ListsNone self.now.other_prime_infos → IsErrAnd result (IsAsn1 (λ e. e.kind ≡ ErrorKind.Value sequence)) }
+    {
+        if lists_none(&self.other_prime_infos) {
+            let kind = ErrorKind::Value { tag: Tag::SEQUENCE };
+            return Err(Error::Asn1(der_core::Error::new(kind)));
+        }
+        Ok(self.encode_into(out)?)
+    }
+}
+
 impl<U: TryClone> TryClone for RsaPrivateKey<U> {
     fn try_clone(&self, alloc: Global) -> Result<RsaPrivateKey<U>> {
         Ok(RsaPrivateKey {
@@ -227,6 +257,7 @@ impl<U> RsaPrivateKey<U> {
     where
         U: Decode<&'a [u8], Global>,
         ensures ok { IfOk result (λ key. Means (λ v. Tlv 48 (PrivateKeyContents U.text v)) (octets_of octets.entry) (private_of U.value key)) }
+        ensures one { IfOk result (λ key. (other : PrivateKey U.Value) → Means (λ v. Tlv 48 (PrivateKeyContents U.text v)) (octets_of octets.entry) other → other ≡ private_of U.value key) }
         ensures err { IfErr result (IsAsn1 (λ e. Refuses e.kind (AskedIn (Tlv 48 (AsksForKey U.text U.Decode.asks)) (octets_of octets.entry)) ((key : PrivateKey U.Value) → Means (λ v. Tlv 48 (PrivateKeyContents U.text v)) (octets_of octets.entry) key → ⊥))) }
     {
         Ok(RsaPrivateKey::from_der(alloc, octets.as_bytes())?)
@@ -235,8 +266,9 @@ impl<U> RsaPrivateKey<U> {
 
 impl<'a> RsaPrivateKey<UintRef<'a>> {
     ghost use Rattle.std.specs.Prelude.{take, drop, IfOk, IsOk, OnErr, None};
-    ghost use Rattle.der_core.specs.Document.{Means, IsShortest, IsAlone, IsRefused, HasText};
+    ghost use Rattle.der_core.specs.Document.{Means, IsRefused, HasText};
     ghost use Rattle.der_core.specs.Reading.{Refuses};
+    ghost use Rattle.pkcs1.specs.KeyTexts.{IsOnlyText};
     ghost use Rattle.pkcs1.specs.Asking.{MayAsk};
     ghost use Rattle.pkcs1.specs.Keys as grammar;
     ghost use Rattle.pkcs1.specs.PrivateKeys.{private_key_of};
@@ -257,19 +289,33 @@ impl<'a> RsaPrivateKey<UintRef<'a>> {
     /// of a key's text. `Value` of SEQUENCE where the list of other primes is there and empty, `Overflow` where the text
     /// passes `Length::MAX`, `NoRoom` where the slice is shorter.
     pub fn encode_key(&self, out: &mut [u8]) -> crate::Result<usize>
-        ensures shortest { IfOk result (λ n. IsShortest grammar.RsaPrivateKey (private_key_of self.now) (take n out.new)) }
+        ensures text { IfOk result (λ n. IsOnlyText grammar.RsaPrivateKey (private_key_of self.now) (take n out.new)) }
         ensures rest { IfOk result (λ n. (n ≤ length out.new) × (drop n out.new ≡ drop n out.old)) }
-        ensures alone { IfOk result (λ n. IsAlone grammar.RsaPrivateKey (private_key_of self.now) (take n out.new)) }
-        ensures one { IfOk result (λ n. (other : PrivateKey (List ℕ)) → grammar.RsaPrivateKey other (take n out.new) → other ≡ private_key_of self.now) }
         ensures unchanged { OnErr result (out.new ≡ out.old) }
         ensures err { IfErr result (IsAsn1 (λ e. IsRefused (HasText grammar.RsaPrivateKey (private_key_of self.now)) grammar.RsaPrivateKey (private_key_of self.now) (length out.old) (fault e.kind))) }
         ensures no_primes { ListsNone self.now.other_prime_infos → IsErrAnd result (IsAsn1 (λ e. e.kind ≡ ErrorKind.Value sequence)) }
     {
-        if lists_none(&self.other_prime_infos) {
-            let kind = ErrorKind::Value { tag: Tag::SEQUENCE };
-            return Err(Error::Asn1(der_core::Error::new(kind)));
-        }
-        Ok(self.encode_into(out)?)
+        self.encode_front(out)
+    }
+}
+
+impl RsaPrivateKey<Uint> {
+    ghost use Rattle.std.specs.Prelude.{take, drop, IfOk, OnErr};
+    ghost use Rattle.der_core.specs.Document.{IsRefused, HasText};
+    ghost use Rattle.der_core.specs.Uints.{own_bytes_of};
+    ghost use Rattle.pkcs1.specs.KeyTexts.{IsOnlyText};
+    ghost use Rattle.pkcs1.specs.Keys as grammar;
+    ghost use Rattle.pkcs1.specs.Refusals.{IsAsn1};
+
+    /// Writes the key's one text to the front of a slice, as `encode_key` of a key that borrows its numbers does.
+    pub fn encode_key(&self, out: &mut [u8]) -> crate::Result<usize>
+        ensures text { IfOk result (λ n. IsOnlyText grammar.RsaPrivateKey (private_of own_bytes_of self.now) (take n out.new)) }
+        ensures rest { IfOk result (λ n. (n ≤ length out.new) × (drop n out.new ≡ drop n out.old)) }
+        ensures unchanged { OnErr result (out.new ≡ out.old) }
+        ensures err { IfErr result (IsAsn1 (λ e. IsRefused (HasText grammar.RsaPrivateKey (private_of own_bytes_of self.now)) grammar.RsaPrivateKey (private_of own_bytes_of self.now) (length out.old) (fault e.kind))) }
+        ensures no_primes { ListsNone self.now.other_prime_infos → IsErrAnd result (IsAsn1 (λ e. e.kind ≡ ErrorKind.Value sequence)) }
+    {
+        self.encode_front(out)
     }
 }
 

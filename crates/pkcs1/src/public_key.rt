@@ -3,20 +3,23 @@ ghost use Rattle.std.specs.Prelude.{refl};
 ghost use Rattle.der_core.specs.Reading.{AsksWithin};
 ghost use Rattle.pkcs1.specs.Keys.{PublicKey, PublicKeyContents};
 ghost use Rattle.pkcs1.specs.Writing.{HasPublicKey, written_public_key};
+ghost use Rattle.pkcs1.specs.PublicKeys.{public_of, key_of};
 ghost use Rattle.pkcs1.specs.PublicKeyLaws.{public_key_means_one, public_key_of_bytes, public_key_relates, public_key_shortest};
 
 use crate::error::{Error, Result};
 use der_core::{
-    BackWriter, Contents, Decode, DecodeValue, Encode, EncodeValue, EqualByValue, Header, Kinded,
-    Length, Memory, NoMemory, Reader, Sequence, SequenceTag, Text, TryClone, Uint, UintRef, Writer,
-    joined_len,
+    AsUintRef, BackWriter, Contents, Decode, DecodeValue, Encode, EncodeValue, EqualByValue,
+    Header, Kinded, Length, Memory, NoMemory, Reader, Sequence, SequenceTag, Text, TryClone, Uint,
+    UintRef, Writer, joined_len,
 };
 use std::alloc::Global;
 
 /// An RSA public key (RFC 8017 A.1.1). No relation of its numbers is checked.
 #[derive(Clone, Copy, Debug, PartialEq, Eq, Drop)]
 pub struct RsaPublicKey<U> {
+    /// The modulus n.
     pub modulus: U,
+    /// The public exponent e.
     pub public_exponent: U,
 }
 
@@ -29,7 +32,7 @@ pub type RsaPublicKeyOwned = RsaPublicKey<Uint>;
 impl<U: Text> Contents for RsaPublicKey<U> {
     ghost Value = { PublicKey U.Value };
 
-    ghost value = { λ key. record { modulus = U.value key.modulus; public_exponent = U.value key.public_exponent } };
+    ghost value = { public_of U.value };
 
     ghost contents = { PublicKeyContents U.text };
 
@@ -112,7 +115,6 @@ impl<'a> TryFrom<&'a [u8]> for RsaPublicKey<UintRef<'a>> {
     ghost use Rattle.der_core.specs.declared.error.ErrorKind.TheVariants.{OutOfMemory};
     ghost use Rattle.der_core.specs.Document.{Means};
     ghost use Rattle.pkcs1.specs.Keys as grammar;
-    ghost use Rattle.pkcs1.specs.PublicKeys.{key_of};
     ghost use Rattle.pkcs1.specs.Refusals.{IsAsn1};
 
     type Error = Error;
@@ -128,24 +130,32 @@ impl<'a> TryFrom<&'a [u8]> for RsaPublicKey<UintRef<'a>> {
     }
 }
 
-impl<'a> RsaPublicKey<UintRef<'a>> {
-    ghost use Rattle.std.specs.Prelude.{◌≡◌, ◌≤◌, ℕ, List, length, take, drop, IfOk, IfErr, OnErr};
-    ghost use Rattle.der_core.specs.Document.{IsShortest, IsAlone, IsRefused, HasText};
+impl<U: AsUintRef> RsaPublicKey<U> {
+    ghost use Rattle.std.specs.Prelude.{◌≡◌, ◌≤◌, length, take, drop, IfOk, IfErr, OnErr};
+    ghost use Rattle.der_core.specs.Document.{IsRefused, HasText};
     ghost use Rattle.der_core.specs.Writing.{fault};
+    ghost use Rattle.pkcs1.specs.KeyTexts.{IsOnlyText};
     ghost use Rattle.pkcs1.specs.Keys as grammar;
-    ghost use Rattle.pkcs1.specs.PublicKeys.{key_of};
     ghost use Rattle.pkcs1.specs.Refusals.{IsAsn1};
+
+    /// The same, borrowed.
+    fn as_key_ref(&self) -> RsaPublicKey<UintRef<'_>>
+        ensures { key_of result ≡ public_of U.number self.now }
+    {
+        RsaPublicKey {
+            modulus: self.modulus.as_uint_ref(),
+            public_exponent: self.public_exponent.as_uint_ref(),
+        }
+    }
 
     /// Writes the key's one text to the front of a slice, and answers its length: `encode_into`, with all that is known
     /// of a key's text. `Overflow` where the text passes `Length::MAX`, `NoRoom` where the slice is shorter.
     pub fn encode_key(&self, out: &mut [u8]) -> Result<usize>
-        ensures shortest { IfOk result (λ n. IsShortest grammar.RsaPublicKey (key_of self.now) (take n out.new)) }
+        ensures text { IfOk result (λ n. IsOnlyText grammar.RsaPublicKey (public_of U.number self.now) (take n out.new)) }
         ensures rest { IfOk result (λ n. (n ≤ length out.new) × (drop n out.new ≡ drop n out.old)) }
-        ensures alone { IfOk result (λ n. IsAlone grammar.RsaPublicKey (key_of self.now) (take n out.new)) }
-        ensures one { IfOk result (λ n. (other : PublicKey (List ℕ)) → grammar.RsaPublicKey other (take n out.new) → other ≡ key_of self.now) }
         ensures unchanged { OnErr result (out.new ≡ out.old) }
-        ensures err { IfErr result (IsAsn1 (λ e. IsRefused (HasText grammar.RsaPublicKey (key_of self.now)) grammar.RsaPublicKey (key_of self.now) (length out.old) (fault e.kind))) }
+        ensures err { IfErr result (IsAsn1 (λ e. IsRefused (HasText grammar.RsaPublicKey (public_of U.number self.now)) grammar.RsaPublicKey (public_of U.number self.now) (length out.old) (fault e.kind))) }
     {
-        Ok(self.encode_into(out)?)
+        Ok(self.as_key_ref().encode_into(out)?)
     }
 }

@@ -153,7 +153,12 @@ impl<'a, M: Memory, P: Decode<&'a [u8], M> + AnyParams<M>> DecodeValue<&'a [u8],
 }
 
 impl<P: AnyValue> RsaOaepParams<P> {
+    ghost use Rattle.std.specs.Prelude.{drop, take, IfOk, OnErr};
+    ghost use Rattle.der_core.specs.Document.{IsShortest, IsRefused, HasText};
+    ghost use Rattle.spki_core.specs.Explicit.{Masked};
+    ghost use Rattle.pkcs1.specs.Parameters as grammar;
     ghost use Rattle.pkcs1.specs.OaepParams.{oaep_with, oaep_of};
+    ghost use Rattle.pkcs1.specs.Refusals.{IsAsn1};
 
     /// The same, borrowed.
     fn as_params_ref(&self) -> RsaOaepParams<AnyRef<'_>>
@@ -172,6 +177,20 @@ impl<P: AnyValue> RsaOaepParams<P> {
     {
         let defaults = self.as_params_ref().defaults();
         u8::from(defaults.hash) + u8::from(defaults.mask_gen) + u8::from(defaults.p_source)
+    }
+
+    /// Writes the shortest text, in which no default is written, to the front of a slice, and answers its length:
+    /// `encode_into`, with all that is known of it. `Overflow` where the text passes `Length::MAX`, `NoRoom` where the
+    /// slice is shorter.
+    pub fn encode_params(&self, out: &mut [u8]) -> Result<usize>
+        ensures shortest { IfOk result (λ n. IsShortest grammar.RsaOaepParams (oaep_with P.any self.now) (take n out.new)) }
+        ensures no_default { IfOk result (λ n. Masked (oaep_fields (oaep_with P.any self.now)) 0 (take n out.new)) }
+        ensures rest { IfOk result (λ n. (n ≤ length out.new) × (drop n out.new ≡ drop n out.old)) }
+        ensures one { IfOk result (λ n. (other : OaepParameters) → grammar.RsaOaepParams other (take n out.new) → other ≡ oaep_with P.any self.now) }
+        ensures unchanged { OnErr result (out.new ≡ out.old) }
+        ensures err { IfErr result (IsAsn1 (λ e. IsRefused (HasText grammar.RsaOaepParams (oaep_with P.any self.now)) grammar.RsaOaepParams (oaep_with P.any self.now) (length out.old) (fault e.kind))) }
+    {
+        Ok(self.as_params_ref().encode_into(out)?)
     }
 }
 
@@ -263,12 +282,8 @@ impl RsaOaepParams<AnyRef<'_>> {
 }
 
 impl<'a> RsaOaepParams<AnyRef<'a>> {
-    ghost use Rattle.std.specs.Prelude.{true, false, drop, take, IfOk, OnErr};
-    ghost use Rattle.der_core.specs.Document.{IsShortest, IsRefused, HasText};
-    ghost use Rattle.spki_core.specs.Explicit.{Masked};
-    ghost use Rattle.pkcs1.specs.Parameters as grammar;
+    ghost use Rattle.std.specs.Prelude.{true, false};
     ghost use Rattle.pkcs1.specs.OaepParams.{oaep_of, LabelFits, NoLabelFits};
-    ghost use Rattle.pkcs1.specs.Refusals.{IsAsn1};
 
     /// The hash function D with NULL, MGF1 with the same, and the empty label.
     pub fn new<D: AssociatedOid>() -> RsaOaepParams<AnyRef<'a>>
@@ -300,20 +315,6 @@ impl<'a> RsaOaepParams<AnyRef<'a>> {
         ensures too_long { result ≡ false → NoLabelFits D.contents len }
     {
         labelled_len::<D>(len).is_ok()
-    }
-
-    /// Writes the shortest text, in which no default is written, to the front of a slice, and answers its length:
-    /// `encode_into`, with all that is known of it. `Overflow` where the text passes `Length::MAX`, `NoRoom` where the
-    /// slice is shorter.
-    pub fn encode_params(&self, out: &mut [u8]) -> Result<usize>
-        ensures shortest { IfOk result (λ n. IsShortest grammar.RsaOaepParams (oaep_of self.now) (take n out.new)) }
-        ensures no_default { IfOk result (λ n. Masked (oaep_fields (oaep_of self.now)) 0 (take n out.new)) }
-        ensures rest { IfOk result (λ n. (n ≤ length out.new) × (drop n out.new ≡ drop n out.old)) }
-        ensures one { IfOk result (λ n. (other : OaepParameters) → grammar.RsaOaepParams other (take n out.new) → other ≡ oaep_of self.now) }
-        ensures unchanged { OnErr result (out.new ≡ out.old) }
-        ensures err { IfErr result (IsAsn1 (λ e. IsRefused (HasText grammar.RsaOaepParams (oaep_of self.now)) grammar.RsaOaepParams (oaep_of self.now) (length out.old) (fault e.kind))) }
-    {
-        Ok(self.encode_into(out)?)
     }
 }
 

@@ -36,6 +36,7 @@ pub struct RsaPssParams<P> {
     pub mask_gen: AlgorithmIdentifier<AlgorithmIdentifier<P>>,
     /// The length of the salt in octets, from 0 to 255; 20 by default.
     pub salt_len: u8,
+    /// What ends an encoded message; `BC` by default.
     pub trailer_field: TrailerField,
 }
 
@@ -93,7 +94,12 @@ impl<'a, M: Memory, P: Decode<&'a [u8], M> + AnyParams<M>> DecodeValue<&'a [u8],
         let hash = read_plain(memory, reader, TagNumber::new(0), default_hash)?;
         let default_mask_gen = mgf1_with::<Sha1, P, M>(memory);
         let mask_gen = read_mask_gen(memory, reader, TagNumber::new(1), default_mask_gen)?;
-        let salt_len = read_field(memory, reader, TagNumber::new(2), 20)?;
+        let salt_len = read_field(
+            memory,
+            reader,
+            TagNumber::new(2),
+            RsaPssParamsRef::SALT_LEN_DEFAULT,
+        )?;
         let trailer_field = read_field(memory, reader, TagNumber::new(3), TrailerField::BC)?;
         reader.finish()?;
         Ok(RsaPssParams {
@@ -106,7 +112,12 @@ impl<'a, M: Memory, P: Decode<&'a [u8], M> + AnyParams<M>> DecodeValue<&'a [u8],
 }
 
 impl<P: AnyValue> RsaPssParams<P> {
+    ghost use Rattle.std.specs.Prelude.{ℕ, List, drop, take, IfOk, OnErr};
+    ghost use Rattle.der_core.specs.Document.{IsShortest, IsRefused, HasText};
+    ghost use Rattle.spki_core.specs.Explicit.{Masked};
+    ghost use Rattle.pkcs1.specs.Parameters as grammar;
     ghost use Rattle.pkcs1.specs.PssParams.{pss_with, pss_of};
+    ghost use Rattle.pkcs1.specs.Refusals.{IsAsn1};
 
     /// The same, borrowed.
     fn as_params_ref(&self) -> RsaPssParams<AnyRef<'_>>
@@ -129,6 +140,19 @@ impl<P: AnyValue> RsaPssParams<P> {
             + u8::from(defaults.mask_gen)
             + u8::from(defaults.salt_len)
             + u8::from(defaults.trailer_field)
+    }
+
+    /// Writes the shortest text, in which no default is written, to the front of a slice, and answers its length:
+    /// `encode_into`, with all that is known of it. `NoRoom` where the slice is shorter.
+    pub fn encode_params(&self, out: &mut [u8]) -> Result<usize>
+        ensures shortest { IfOk result (λ n. IsShortest grammar.RsaPssParams (pss_with P.any self.now) (take n out.new)) }
+        ensures no_default { IfOk result (λ n. Masked (pss_fields (pss_with P.any self.now)) 0 (take n out.new)) }
+        ensures rest { IfOk result (λ n. (n ≤ length out.new) × (drop n out.new ≡ drop n out.old)) }
+        ensures one { IfOk result (λ n. (other : PssParameters) → grammar.RsaPssParams other (take n out.new) → other ≡ pss_with P.any self.now) }
+        ensures unchanged { OnErr result (out.new ≡ out.old) }
+        ensures err { IfErr result (IsAsn1 (λ e. IsRefused (HasText grammar.RsaPssParams (pss_with P.any self.now)) grammar.RsaPssParams (pss_with P.any self.now) (length out.old) (fault e.kind))) }
+    {
+        Ok(self.as_params_ref().encode_into(out)?)
     }
 }
 
@@ -240,12 +264,7 @@ impl RsaPssParams<AnyRef<'_>> {
 }
 
 impl<'a> RsaPssParams<AnyRef<'a>> {
-    ghost use Rattle.std.specs.Prelude.{ℕ, List, drop, take, IfOk, OnErr};
-    ghost use Rattle.der_core.specs.Document.{IsShortest, IsRefused, HasText};
-    ghost use Rattle.spki_core.specs.Explicit.{Masked};
-    ghost use Rattle.pkcs1.specs.Parameters as grammar;
     ghost use Rattle.pkcs1.specs.PssParams.{pss_of};
-    ghost use Rattle.pkcs1.specs.Refusals.{IsAsn1};
 
     /// The default length of the salt, in octets: that of a hash of SHA-1.
     pub const SALT_LEN_DEFAULT: u8 = 20;
@@ -260,19 +279,6 @@ impl<'a> RsaPssParams<AnyRef<'a>> {
             salt_len,
             trailer_field: TrailerField::BC,
         }
-    }
-
-    /// Writes the shortest text, in which no default is written, to the front of a slice, and answers its length:
-    /// `encode_into`, with all that is known of it. `NoRoom` where the slice is shorter.
-    pub fn encode_params(&self, out: &mut [u8]) -> Result<usize>
-        ensures shortest { IfOk result (λ n. IsShortest grammar.RsaPssParams (pss_of self.now) (take n out.new)) }
-        ensures no_default { IfOk result (λ n. Masked (pss_fields (pss_of self.now)) 0 (take n out.new)) }
-        ensures rest { IfOk result (λ n. (n ≤ length out.new) × (drop n out.new ≡ drop n out.old)) }
-        ensures one { IfOk result (λ n. (other : PssParameters) → grammar.RsaPssParams other (take n out.new) → other ≡ pss_of self.now) }
-        ensures unchanged { OnErr result (out.new ≡ out.old) }
-        ensures err { IfErr result (IsAsn1 (λ e. IsRefused (HasText grammar.RsaPssParams (pss_of self.now)) grammar.RsaPssParams (pss_of self.now) (length out.old) (fault e.kind))) }
-    {
-        Ok(self.encode_into(out)?)
     }
 }
 

@@ -1,5 +1,14 @@
 use Rattle.std.proofs.lemmas.Result.{err_from_is_err_and}
+use Rattle.der_core.specs.ShortestLaws.{means_one}
+use Rattle.der_core.specs.TextLaws.{tlv_delimited}
+use Rattle.pkcs1.specs.Keys.{PrivateKeyContents}
+use Rattle.pkcs1.specs.PrivateKeyLaws.{private_means_one}
 use Rattle.pkcs1.proofs.private_key.RsaPrivateKey.from_octet_string.Goals as goal
+
+pub returns-clause-one : goal.returns-clause-one
+returns-clause-one g c other p =
+    let delimited = tlv_delimited 48 (PrivateKeyContents g.U.Text.text) (private_means_one g.U.Text.delimited) in
+    means_one delimited other _ _ (rw (← c.as_bytes.ensures.octets) at p.1) c.in_ok-from_der.ensures.1
 
 pub returns-in_err-from_der-clause-err : goal.returns-in_err-from_der-clause-err
 returns-in_err-from_der-clause-err g c =
