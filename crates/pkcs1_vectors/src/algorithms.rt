@@ -1,5 +1,8 @@
 //! Rows of algorithm identifiers, texts of any tag, explicit fields, and last parts.
 use crate::bytes::{bytes_of, printed};
+use crate::checks::{equal, equal_at, holds, holds_at};
+use crate::marks::Sha1;
+use crate::written::is_written;
 use der_core::{
     BackWriter, Decode, Encode, EncodeValue, Error, ErrorKind, Length, NoMemory, Reader,
     SliceReader, SliceWriter, Tag, TagNumber, decode_last, decode_whole, encode_optional,
@@ -12,34 +15,6 @@ use spki_core::{
 };
 use std::hash::{DefaultHasher, Hash, Hasher};
 use std::test::Fail;
-
-/// SHA-1 (RFC 8017 B.1).
-struct Sha1;
-
-impl AssociatedOid for Sha1 {
-    ghost use Rattle.std.specs.Prelude.{[], ◌∷◌, refl};
-
-    ghost contents = { 0x2b ∷ 0x0e ∷ 0x03 ∷ 0x02 ∷ 0x1a ∷ [] };
-
-    ghost valid = { refl };
-
-    const OID: &'static [u8] = &[0x2b, 0x0e, 0x03, 0x02, 0x1a];
-
-    fn octets() -> &'static [u8] {
-        Self::OID
-    }
-}
-
-/// Whether each way of writing the value gives the text.
-fn is_written<T: Encode>(value: &T, text: &[u8]) -> Result<bool, Fail> {
-    let mut slice = [0; 24];
-    let counted = value.encoded_len()?.to_usize() == text.len();
-    let filled = value.encode_to_slice(&mut slice)? == text;
-    let mut slice = [0; 24];
-    let mut writer = SliceWriter::new(&mut slice);
-    value.encode(&mut writer)?;
-    Ok(counted && filled && writer.finish() == text)
-}
 
 /// What the identifier is hashed to.
 fn hash_of(oid: ObjectIdentifier) -> u64 {
@@ -60,19 +35,20 @@ fn identifiers_are_whole_subidentifiers_of_at_most_39_octets(rt: HostRuntime) ->
     let malformed = Err(Error::new(ErrorKind::OidMalformed));
     for row in NO_IDENTIFIERS.lines() {
         let octets = bytes_of(rt.alloc(), row)?;
-        assert_eq!(rt;
+        equal_at(
+            &rt,
+            row,
             ObjectIdentifier::from_bytes(octets.as_slice()),
             malformed,
-            "at {row}"
         );
     }
-    assert_eq!(rt; ObjectIdentifier::from_bytes(&[]), malformed);
-    assert_eq!(rt; ObjectIdentifier::from_bytes(&[0x01; 40]), malformed);
+    equal(&rt, ObjectIdentifier::from_bytes(&[]), malformed);
+    equal(&rt, ObjectIdentifier::from_bytes(&[0x01; 40]), malformed);
     let longest = [0x01; 39];
     let oid = ObjectIdentifier::from_bytes(&longest)?;
-    assert_eq!(rt; oid.as_bytes(), longest.as_slice());
+    equal(&rt, oid.as_bytes(), longest.as_slice());
     let oid = ObjectIdentifier::from_bytes(&[0x88, 0x80, 0x00])?;
-    assert_eq!(rt; oid.as_bytes(), [0x88, 0x80, 0x00].as_slice());
+    equal(&rt, oid.as_bytes(), [0x88, 0x80, 0x00].as_slice());
     Ok(())
 }
 
@@ -80,20 +56,23 @@ fn identifiers_are_whole_subidentifiers_of_at_most_39_octets(rt: HostRuntime) ->
 fn identifiers_are_equal_by_their_octets_and_hashed_alike(rt: HostRuntime) -> Result<(), Fail> {
     let sha1 = ObjectIdentifier::of::<Sha1>();
     let read = ObjectIdentifier::from_der(NoMemory, &[0x06, 0x05, 0x2b, 0x0e, 0x03, 0x02, 0x1a])?;
-    assert_eq!(rt; sha1.as_bytes(), Sha1::OID);
-    assert_eq!(rt; sha1, ObjectIdentifier::from_bytes(Sha1::octets())?);
-    assert_eq!(rt; sha1, read);
-    assert_eq!(rt; hash_of(sha1), hash_of(read));
+    equal(&rt, sha1.as_bytes(), Sha1::OID);
+    equal(&rt, sha1, ObjectIdentifier::from_bytes(Sha1::octets())?);
+    equal(&rt, sha1, read);
+    equal(&rt, hash_of(sha1), hash_of(read));
     let front = ObjectIdentifier::from_bytes(&[0x2b, 0x0e, 0x03, 0x02])?;
-    assert!(rt; front != sha1);
-    assert!(rt; hash_of(front) != hash_of(sha1));
-    assert_eq!(rt; read.value_len()?.to_usize(), 5);
-    assert!(rt; is_written(&read, &[0x06, 0x05, 0x2b, 0x0e, 0x03, 0x02, 0x1a])?);
+    holds(&rt, front != sha1);
+    holds(&rt, hash_of(front) != hash_of(sha1));
+    equal(&rt, read.value_len()?.to_usize(), 5);
+    holds(
+        &rt,
+        is_written(&read, &[0x06, 0x05, 0x2b, 0x0e, 0x03, 0x02, 0x1a])?,
+    );
     Ok(())
 }
 
 /// A text, and the identifier and the text of the parameters of its algorithm.
-const ALGORITHMS: &str = "\
+pub const ALGORITHMS: &str = "\
 300d06092a864886f70d0101010500 2a864886f70d010101 0500
 300b06092a864886f70d010101 2a864886f70d010101 absent
 300706052b0e03021a 2b0e03021a absent
@@ -107,30 +86,31 @@ fn algorithms_are_read_and_written_again(rt: HostRuntime) -> Result<(), Fail> {
         let (oid, parameters) = rest.split_once(' ').ok_or("three parts")?;
         let (text, oid) = (bytes_of(rt.alloc(), text)?, bytes_of(rt.alloc(), oid)?);
         let algorithm = AlgorithmIdentifierRef::from_der(NoMemory, text.as_slice())?;
-        assert_eq!(rt; algorithm.oid.as_bytes(), oid.as_slice(), "at {row}");
+        equal_at(&rt, row, algorithm.oid.as_bytes(), oid.as_slice());
         match algorithm.parameters {
-            None => assert_eq!(rt; parameters, "absent", "at {row}"),
+            None => equal_at(&rt, row, parameters, "absent"),
             Some(any) => {
                 let parameters = bytes_of(rt.alloc(), parameters)?;
-                assert!(rt; is_written(&any, parameters.as_slice())?, "at {row}");
+                holds_at(&rt, row, is_written(&any, parameters.as_slice())?);
             }
         }
-        assert!(rt; is_written(&algorithm, text.as_slice())?, "at {row}");
+        holds_at(&rt, row, is_written(&algorithm, text.as_slice())?);
         let original = algorithm;
         let borrowed = original.as_algo_ref();
-        assert_eq!(rt; borrowed, algorithm, "at {row}");
+        equal_at(&rt, row, borrowed, algorithm);
     }
     let rsa = &[0x2a, 0x86, 0x48, 0x86, 0xf7, 0x0d, 0x01, 0x01, 0x01];
     let algorithm = AlgorithmIdentifier {
         oid: ObjectIdentifier::from_bytes(rsa)?,
         parameters: Some(AnyRef::null()),
     };
-    assert_eq!(rt; algorithm.value_len()?.to_usize(), 13);
+    equal(&rt, algorithm.value_len()?.to_usize(), 13);
     let text = bytes_of(rt.alloc(), "300d06092a864886f70d0101010500")?;
-    assert!(rt; is_written(&algorithm, text.as_slice())?);
-    assert_eq!(rt;
+    holds(&rt, is_written(&algorithm, text.as_slice())?);
+    equal(
+        &rt,
         AlgorithmIdentifierRef::from_der(NoMemory, text.as_slice())?,
-        algorithm
+        algorithm,
     );
     Ok(())
 }
@@ -153,7 +133,7 @@ fn other_texts_are_no_algorithms(rt: HostRuntime) -> Result<(), Fail> {
         let (text, want) = row.split_once(' ').ok_or("two parts")?;
         let text = bytes_of(rt.alloc(), text)?;
         let answer = AlgorithmIdentifierRef::from_der(NoMemory, text.as_slice());
-        assert_eq!(rt; printed(rt.alloc(), answer)?.as_str(), want, "at {row}");
+        equal_at(&rt, row, printed(rt.alloc(), answer)?.as_str(), want);
     }
     Ok(())
 }
@@ -167,17 +147,18 @@ fn parameters_may_be_an_algorithm(rt: HostRuntime) -> Result<(), Fail> {
         text.as_slice(),
     )?;
     let hash = mask.parameters.ok_or("parameters")?;
-    assert_eq!(rt; hash.oid, ObjectIdentifier::of::<Sha1>());
-    assert_eq!(rt; hash.parameters, Some(AnyRef::null()));
-    assert!(rt; is_written(&mask, text.as_slice())?);
+    equal(&rt, hash.oid, ObjectIdentifier::of::<Sha1>());
+    equal(&rt, hash.parameters, Some(AnyRef::null()));
+    holds(&rt, is_written(&mask, text.as_slice())?);
     let no_algorithm = bytes_of(rt.alloc(), "300d06092a864886f70d0101080500")?;
     let answer = AlgorithmIdentifier::<AlgorithmIdentifierRef<'_>>::from_der(
         NoMemory,
         no_algorithm.as_slice(),
     );
-    assert_eq!(rt;
+    equal(
+        &rt,
         printed(rt.alloc(), answer)?.as_str(),
-        "tag 0x30 was expected, 0x05 was found"
+        "tag 0x30 was expected, 0x05 was found",
     );
     Ok(())
 }
@@ -189,11 +170,12 @@ fn an_algorithm_is_asked_for_its_identifier(rt: HostRuntime) -> Result<(), Fail>
         oid: sha1,
         parameters: Some(AnyRef::empty(NoMemory, Tag::NULL)),
     };
-    assert_eq!(rt; algorithm.assert_algorithm_oid(sha1), Ok(sha1));
+    equal(&rt, algorithm.assert_algorithm_oid(sha1), Ok(sha1));
     let another = ObjectIdentifier::from_bytes(&[0x2b, 0x0e, 0x03, 0x02])?;
-    assert_eq!(rt;
+    equal(
+        &rt,
         algorithm.assert_algorithm_oid(another),
-        Err(Error::new(ErrorKind::OidUnknown))
+        Err(Error::new(ErrorKind::OidUnknown)),
     );
     Ok(())
 }
@@ -201,22 +183,22 @@ fn an_algorithm_is_asked_for_its_identifier(rt: HostRuntime) -> Result<(), Fail>
 #[test]
 fn null_is_the_only_text_of_its_tag_without_contents(rt: HostRuntime) -> Result<(), Fail> {
     let null = AnyRef::null();
-    assert_eq!(rt; null.tag(), Tag::NULL);
-    assert_eq!(rt; null.value(), [].as_slice());
-    assert!(rt; is_written(&null, &[0x05, 0x00])?);
-    assert_eq!(rt; AnyRef::from_der(NoMemory, &[0x05, 0x00])?, null);
-    assert_eq!(rt; AnyRef::empty(NoMemory, Tag::NULL), null);
-    assert_eq!(rt; null.as_any_ref(), null);
+    equal(&rt, null.tag(), Tag::NULL);
+    equal(&rt, null.value(), [].as_slice());
+    holds(&rt, is_written(&null, &[0x05, 0x00])?);
+    equal(&rt, AnyRef::from_der(NoMemory, &[0x05, 0x00])?, null);
+    equal(&rt, AnyRef::empty(NoMemory, Tag::NULL), null);
+    equal(&rt, null.as_any_ref(), null);
     let other = AnyRef::from_der(NoMemory, &[0x05, 0x01, 0x00])?;
-    assert_eq!(rt; other.tag(), Tag::NULL);
-    assert_eq!(rt; other.value(), [0x00].as_slice());
-    assert!(rt; other != null);
-    assert!(rt; AnyRef::empty(NoMemory, Tag::SEQUENCE) != null);
-    assert!(rt; is_written(&other, &[0x05, 0x01, 0x00])?);
+    equal(&rt, other.tag(), Tag::NULL);
+    equal(&rt, other.value(), [0x00].as_slice());
+    holds(&rt, other != null);
+    holds(&rt, AnyRef::empty(NoMemory, Tag::SEQUENCE) != null);
+    holds(&rt, is_written(&other, &[0x05, 0x01, 0x00])?);
     let mut reader = SliceReader::new(&[0x05, 0x00, 0x05, 0x01, 0x00])?;
-    assert_eq!(rt; AnyRef::decode(NoMemory, &mut reader)?, null);
-    assert_eq!(rt; AnyRef::decode(NoMemory, &mut reader)?, other);
-    assert_eq!(rt; reader.finish(), Ok(()));
+    equal(&rt, AnyRef::decode(NoMemory, &mut reader)?, null);
+    equal(&rt, AnyRef::decode(NoMemory, &mut reader)?, other);
+    equal(&rt, reader.finish(), Ok(()));
     Ok(())
 }
 
@@ -224,13 +206,13 @@ fn null_is_the_only_text_of_its_tag_without_contents(rt: HostRuntime) -> Result<
 fn ample_contents_stand_behind_a_long_length(rt: HostRuntime) -> Result<(), Fail> {
     let contents = [0x11; 300];
     let any = AnyRef::new(Tag::OCTET_STRING, &contents)?;
-    assert_eq!(rt; any.tag(), Tag::OCTET_STRING);
-    assert_eq!(rt; any.value(), contents.as_slice());
+    equal(&rt, any.tag(), Tag::OCTET_STRING);
+    equal(&rt, any.value(), contents.as_slice());
     let mut slice = [0; 304];
     let text = any.encode_to_slice(&mut slice)?;
-    assert_eq!(rt; &text[..4], [0x04, 0x82, 0x01, 0x2c].as_slice());
-    assert_eq!(rt; &text[4..], contents.as_slice());
-    assert_eq!(rt; AnyRef::from_der(NoMemory, text)?, any);
+    equal(&rt, &text[..4], [0x04, 0x82, 0x01, 0x2c].as_slice());
+    equal(&rt, &text[4..], contents.as_slice());
+    equal(&rt, AnyRef::from_der(NoMemory, text)?, any);
     Ok(())
 }
 
@@ -249,17 +231,17 @@ fn other_octets_are_no_texts(rt: HostRuntime) -> Result<(), Fail> {
         let (text, want) = row.split_once(' ').ok_or("two parts")?;
         let text = bytes_of(rt.alloc(), text)?;
         let answer = AnyRef::from_der(NoMemory, text.as_slice());
-        assert_eq!(rt; printed(rt.alloc(), answer)?.as_str(), want, "at {row}");
+        equal_at(&rt, row, printed(rt.alloc(), answer)?.as_str(), want);
     }
     Ok(())
 }
 
 #[test]
 fn numbers_of_tags_go_up_to_30(rt: HostRuntime) {
-    assert_eq!(rt; Tag::context(TagNumber::new(0)).octet(), 0xa0);
-    assert_eq!(rt; Tag::context(TagNumber::new(30)).octet(), 0xbe);
-    assert_eq!(rt; TagNumber::new(30).value(), 30);
-    assert_eq!(rt; Length::of(268435455), Length::MAX);
+    equal(&rt, Tag::context(TagNumber::new(0)).octet(), 0xa0);
+    equal(&rt, Tag::context(TagNumber::new(30)).octet(), 0xbe);
+    equal(&rt, TagNumber::new(30).value(), 30);
+    equal(&rt, Length::of(268435455), Length::MAX);
 }
 
 /// The octets of a reader, and what is read of the field [2].
@@ -281,29 +263,32 @@ fn a_field_is_read_exactly_where_its_octet_is_next(rt: HostRuntime) -> Result<()
         let next = reader.peek_octet();
         match read_context_specific::<u8, _, _>(NoMemory, &mut reader, number)? {
             Some(value) => {
-                assert_eq!(rt; want.parse::<u8>()?, value, "at {row}");
-                assert_eq!(rt;
+                equal_at(&rt, row, want.parse::<u8>()?, value);
+                equal_at(
+                    &rt,
+                    row,
                     reader.remaining_len().to_usize() + 5,
                     octets.len(),
-                    "at {row}"
                 );
             }
             None => {
-                assert_eq!(rt; want, "absent", "at {row}");
-                assert_eq!(rt; reader.peek_octet(), next, "at {row}");
-                assert_eq!(rt; reader.remaining_len().to_usize(), octets.len(), "at {row}");
+                equal_at(&rt, row, want, "absent");
+                equal_at(&rt, row, reader.peek_octet(), next);
+                equal_at(&rt, row, reader.remaining_len().to_usize(), octets.len());
             }
         }
-        assert_eq!(rt;
+        equal_at(
+            &rt,
+            row,
             read_context_specific::<u8, _, _>(NoMemory, &mut reader, number)?,
             None,
-            "at {row}"
         );
     }
     let mut reader = SliceReader::new(&[])?;
-    assert_eq!(rt;
+    equal(
+        &rt,
         read_context_specific::<u8, _, _>(NoMemory, &mut reader, number)?,
-        None
+        None,
     );
     Ok(())
 }
@@ -325,22 +310,24 @@ fn a_refused_field_leaves_a_reader_that_has_failed(rt: HostRuntime) -> Result<()
         let octets = bytes_of(rt.alloc(), octets)?;
         let mut reader = SliceReader::new(octets.as_slice())?;
         let refused = read_context_specific::<u8, _, _>(NoMemory, &mut reader, number);
-        assert_eq!(rt; printed(rt.alloc(), refused)?.as_str(), want, "at {row}");
-        assert_eq!(rt; reader.remaining_len(), Length::ZERO, "at {row}");
-        assert_eq!(rt; reader.peek_octet(), None, "at {row}");
-        assert_eq!(rt; reader.read_slice(Length::ZERO), Err(failed), "at {row}");
-        assert_eq!(rt;
+        equal_at(&rt, row, printed(rt.alloc(), refused)?.as_str(), want);
+        equal_at(&rt, row, reader.remaining_len(), Length::ZERO);
+        equal_at(&rt, row, reader.peek_octet(), None);
+        equal_at(&rt, row, reader.read_slice(Length::ZERO), Err(failed));
+        equal_at(
+            &rt,
+            row,
             read_context_specific::<u8, _, _>(NoMemory, &mut reader, number),
             Err(failed),
-            "at {row}"
         );
         let mut reader = SliceReader::new(octets.as_slice())?;
         let refused = read_field(NoMemory, &mut reader, number, 20_u8);
-        assert_eq!(rt; printed(rt.alloc(), refused)?.as_str(), want, "at {row}");
-        assert_eq!(rt;
+        equal_at(&rt, row, printed(rt.alloc(), refused)?.as_str(), want);
+        equal_at(
+            &rt,
+            row,
             read_field(NoMemory, &mut reader, number, 20_u8),
             Err(failed),
-            "at {row}"
         );
     }
     Ok(())
@@ -350,10 +337,18 @@ fn a_refused_field_leaves_a_reader_that_has_failed(rt: HostRuntime) -> Result<()
 fn an_absent_field_has_its_default(rt: HostRuntime) -> Result<(), Fail> {
     let number = TagNumber::new(2);
     let mut reader = SliceReader::new(&[0xa2, 0x03, 0x02, 0x01, 0x15, 0xa3, 0x00])?;
-    assert_eq!(rt; read_field(NoMemory, &mut reader, number, 20_u8), Ok(21));
-    assert_eq!(rt; read_field(NoMemory, &mut reader, number, 20_u8), Ok(20));
-    assert_eq!(rt; reader.remaining_len().to_usize(), 2);
-    assert_eq!(rt; reader.peek_octet(), Some(0xa3));
+    equal(
+        &rt,
+        read_field(NoMemory, &mut reader, number, 20_u8),
+        Ok(21),
+    );
+    equal(
+        &rt,
+        read_field(NoMemory, &mut reader, number, 20_u8),
+        Ok(20),
+    );
+    equal(&rt, reader.remaining_len().to_usize(), 2);
+    equal(&rt, reader.peek_octet(), Some(0xa3));
     Ok(())
 }
 
@@ -364,14 +359,18 @@ fn a_field_is_written_inside_its_tag(rt: HostRuntime) -> Result<(), Fail> {
         value: &20_u8,
     };
     let text = [0xa2, 0x03, 0x02, 0x01, 0x14];
-    assert!(rt; is_written(&field, &text)?);
+    holds(&rt, is_written(&field, &text)?);
     let no_room = Error::new(ErrorKind::NoRoom);
     let mut slice = [0xaa; 4];
-    assert_eq!(rt; field.encode_to_slice(&mut slice).map(|_| ()), Err(no_room));
-    assert_eq!(rt; slice, [0xaa; 4]);
+    equal(
+        &rt,
+        field.encode_to_slice(&mut slice).map(|_| ()),
+        Err(no_room),
+    );
+    equal(&rt, slice, [0xaa; 4]);
     let mut writer = SliceWriter::new(&mut slice);
-    assert_eq!(rt; field.encode(&mut writer), Err(no_room));
-    assert!(rt; text.starts_with(writer.finish()));
+    equal(&rt, field.encode(&mut writer), Err(no_room));
+    holds(&rt, text.starts_with(writer.finish()));
     Ok(())
 }
 
@@ -379,18 +378,18 @@ fn a_field_is_written_inside_its_tag(rt: HostRuntime) -> Result<(), Fail> {
 fn a_field_is_written_unless_it_is_left_out(rt: HostRuntime) -> Result<(), Fail> {
     let number = TagNumber::new(2);
     let text = [0xa2, 0x03, 0x02, 0x01, 0x14];
-    assert_eq!(rt; field_len(true, number, &20_u8)?, Length::ZERO);
-    assert_eq!(rt; field_len(false, number, &20_u8)?.to_usize(), 5);
+    equal(&rt, field_len(true, number, &20_u8)?, Length::ZERO);
+    equal(&rt, field_len(false, number, &20_u8)?.to_usize(), 5);
     let mut slice = [0; 8];
     let mut writer = SliceWriter::new(&mut slice);
     encode_field(true, number, &20_u8, &mut writer)?;
     encode_field(false, number, &20_u8, &mut writer)?;
-    assert_eq!(rt; writer.finish(), text.as_slice());
+    equal(&rt, writer.finish(), text.as_slice());
     let mut slice = [0; 8];
     let mut writer = BackWriter::new(&mut slice);
     prepend_field(true, number, &20_u8, &mut writer);
     prepend_field(false, number, &20_u8, &mut writer);
-    assert_eq!(rt; writer.finish(), text.as_slice());
+    equal(&rt, writer.finish(), text.as_slice());
     Ok(())
 }
 
@@ -404,28 +403,38 @@ const NO_LAST_PARTS: &str = "\
 #[test]
 fn last_parts_are_all_that_is_left(rt: HostRuntime) -> Result<(), Fail> {
     let mut reader = SliceReader::new(&[0x02, 0x01, 0x14])?;
-    assert_eq!(rt; decode_whole::<u8, _, _>(NoMemory, &mut reader), Ok(20));
-    assert_eq!(rt; decode_last::<u8, _, _>(NoMemory, &mut reader), Ok(None));
-    assert_eq!(rt;
+    equal(&rt, decode_whole::<u8, _, _>(NoMemory, &mut reader), Ok(20));
+    equal(
+        &rt,
+        decode_last::<u8, _, _>(NoMemory, &mut reader),
+        Ok(None),
+    );
+    equal(
+        &rt,
         decode_whole::<u8, _, _>(NoMemory, &mut reader),
-        Err(Error::new(ErrorKind::Incomplete))
+        Err(Error::new(ErrorKind::Incomplete)),
     );
     let failed = Error::new(ErrorKind::Failed);
-    assert_eq!(rt; decode_last::<u8, _, _>(NoMemory, &mut reader), Err(failed));
-    let mut reader = SliceReader::new(&[0x02, 0x01, 0x14])?;
-    assert_eq!(rt;
+    equal(
+        &rt,
         decode_last::<u8, _, _>(NoMemory, &mut reader),
-        Ok(Some(20))
+        Err(failed),
+    );
+    let mut reader = SliceReader::new(&[0x02, 0x01, 0x14])?;
+    equal(
+        &rt,
+        decode_last::<u8, _, _>(NoMemory, &mut reader),
+        Ok(Some(20)),
     );
     for row in NO_LAST_PARTS.lines() {
         let (octets, want) = row.split_once(' ').ok_or("two parts")?;
         let octets = bytes_of(rt.alloc(), octets)?;
         let mut reader = SliceReader::new(octets.as_slice())?;
         let refused = decode_whole::<u8, _, _>(NoMemory, &mut reader);
-        assert_eq!(rt; printed(rt.alloc(), refused)?.as_str(), want, "at {row}");
+        equal_at(&rt, row, printed(rt.alloc(), refused)?.as_str(), want);
         let mut reader = SliceReader::new(octets.as_slice())?;
         let refused = decode_last::<u8, _, _>(NoMemory, &mut reader);
-        assert_eq!(rt; printed(rt.alloc(), refused)?.as_str(), want, "at {row}");
+        equal_at(&rt, row, printed(rt.alloc(), refused)?.as_str(), want);
     }
     Ok(())
 }
@@ -433,17 +442,17 @@ fn last_parts_are_all_that_is_left(rt: HostRuntime) -> Result<(), Fail> {
 #[test]
 fn an_optional_part_is_written_where_it_is_there(rt: HostRuntime) -> Result<(), Fail> {
     let text = [0x02, 0x01, 0x14];
-    assert_eq!(rt; optional_len(&Some(20_u8))?.to_usize(), 3);
-    assert_eq!(rt; optional_len::<u8>(&None)?, Length::ZERO);
+    equal(&rt, optional_len(&Some(20_u8))?.to_usize(), 3);
+    equal(&rt, optional_len::<u8>(&None)?, Length::ZERO);
     let mut slice = [0; 8];
     let mut writer = SliceWriter::new(&mut slice);
     encode_optional::<u8, _>(&None, &mut writer)?;
     encode_optional(&Some(20_u8), &mut writer)?;
-    assert_eq!(rt; writer.finish(), text.as_slice());
+    equal(&rt, writer.finish(), text.as_slice());
     let mut slice = [0; 8];
     let mut writer = BackWriter::new(&mut slice);
     prepend_optional::<u8>(&None, &mut writer);
     prepend_optional(&Some(20_u8), &mut writer);
-    assert_eq!(rt; writer.finish(), text.as_slice());
+    equal(&rt, writer.finish(), text.as_slice());
     Ok(())
 }

@@ -8,6 +8,21 @@ pub fn bytes_of(alloc: Global, text: &str) -> Result<Vec<u8>, Fail> {
     Ok(hex::decode(alloc, text)?)
 }
 
+/// The SEQUENCE of those defaults that the choice takes: the first where its lowest bit is one, and so on.
+pub fn spelled(alloc: Global, defaults: &str, choice: u8) -> Result<Vec<u8>, Fail> {
+    let mut contents = Vec::new(alloc);
+    let mut rest = choice;
+    for default in defaults.lines() {
+        if rest % 2 == 1 {
+            contents.extend_from_slice(bytes_of(alloc, default)?.as_slice())?;
+        }
+        rest /= 2;
+    }
+    let mut text = Vec::from_array(alloc, [0x30, u8::try_from(contents.len())?])?;
+    text.extend_from_slice(contents.as_slice())?;
+    Ok(text)
+}
+
 /// What is printed of a refusal, or `accepted`.
 pub fn printed<T: Drop, E: Display + Drop>(
     alloc: Global,
@@ -16,5 +31,13 @@ pub fn printed<T: Drop, E: Display + Drop>(
     match answer {
         Ok(_) => Ok(format!(in alloc; "accepted")?),
         Err(error) => Ok(format!(in alloc; "{error}")?),
+    }
+}
+
+/// What is printed of a refusal by the kernel that stands in a refusal of a key or of parameters.
+pub fn printed_within<T: Drop>(alloc: Global, answer: der_core::Result<T>) -> Result<String, Fail> {
+    match answer {
+        Ok(_) => Ok(format!(in alloc; "accepted")?),
+        Err(error) => Ok(format!(in alloc; "{}", pkcs1::Error::from(error))?),
     }
 }

@@ -1,5 +1,6 @@
 //! Rows of the kernel.
 use crate::bytes::{bytes_of, printed};
+use crate::checks::{equal, equal_at, holds};
 use der_core::{
     BackWriter, Decode, Encode, EncodeValue, Error, ErrorKind, Header, Length, NoMemory, Reader,
     SliceReader, SliceWriter, Tag, UintRef, Writer,
@@ -24,10 +25,10 @@ fn lengths_are_written_and_read_again(rt: HostRuntime) -> Result<(), Fail> {
         let (number, octets) = row.split_once(' ').ok_or("two parts")?;
         let octets = bytes_of(rt.alloc(), octets)?;
         let length = Length::try_from(number.parse::<usize>()?)?;
-        assert_eq!(rt; length.to_bytes().as_slice(), octets.as_slice(), "at {row}");
+        equal_at(&rt, row, length.to_bytes().as_slice(), octets.as_slice());
         let mut reader = SliceReader::new(octets.as_slice())?;
-        assert_eq!(rt; Length::decode(&mut reader)?, length, "at {row}");
-        assert_eq!(rt; reader.finish(), Ok(()), "at {row}");
+        equal_at(&rt, row, Length::decode(&mut reader)?, length);
+        equal_at(&rt, row, reader.finish(), Ok(()));
     }
     Ok(())
 }
@@ -50,13 +51,14 @@ fn lengths_are_refused(rt: HostRuntime) -> Result<(), Fail> {
         let octets = bytes_of(rt.alloc(), octets)?;
         let mut reader = SliceReader::new(octets.as_slice())?;
         let refused = Length::decode(&mut reader);
-        assert_eq!(rt; printed(rt.alloc(), refused)?.as_str(), text, "at {row}");
-        assert_eq!(rt; reader.remaining_len(), Length::ZERO, "at {row}");
-        assert_eq!(rt; reader.peek_octet(), None, "at {row}");
-        assert_eq!(rt;
+        equal_at(&rt, row, printed(rt.alloc(), refused)?.as_str(), text);
+        equal_at(&rt, row, reader.remaining_len(), Length::ZERO);
+        equal_at(&rt, row, reader.peek_octet(), None);
+        equal_at(
+            &rt,
+            row,
             Length::decode(&mut reader),
             Err(Error::new(ErrorKind::Failed)),
-            "at {row}"
         );
     }
     Ok(())
@@ -66,24 +68,26 @@ fn lengths_are_refused(rt: HostRuntime) -> Result<(), Fail> {
 fn lengths_are_added(rt: HostRuntime) -> Result<(), Fail> {
     let overflow = Err(Error::new(ErrorKind::Overflow));
     let limit = Length::MAX;
-    assert_eq!(rt; limit.to_usize(), 268435455);
-    assert_eq!(rt; Length::ZERO.checked_add(limit), Ok(limit));
-    assert_eq!(rt; limit.checked_add(Length::ONE), overflow);
-    assert_eq!(rt; Length::try_from(268435456usize), overflow);
-    assert_eq!(rt;
+    equal(&rt, limit.to_usize(), 268435455);
+    equal(&rt, Length::ZERO.checked_add(limit), Ok(limit));
+    equal(&rt, limit.checked_add(Length::ONE), overflow);
+    equal(&rt, Length::try_from(268435456usize), overflow);
+    equal(
+        &rt,
         Length::try_from(268435449usize)?.for_tlv(Tag::SEQUENCE),
-        Ok(limit)
+        Ok(limit),
     );
-    assert_eq!(rt;
+    equal(
+        &rt,
         Length::try_from(268435450usize)?.for_tlv(Tag::SEQUENCE),
-        overflow
+        overflow,
     );
-    assert!(rt; Length::ZERO < Length::ONE);
+    holds(&rt, Length::ZERO < Length::ONE);
     Ok(())
 }
 
 #[test]
-fn tags_and_headers(rt: HostRuntime) -> Result<(), Fail> {
+fn tags_are_octets(rt: HostRuntime) {
     for (tag, octet) in [
         (Tag::INTEGER, 0x02),
         (Tag::OCTET_STRING, 0x04),
@@ -91,42 +95,60 @@ fn tags_and_headers(rt: HostRuntime) -> Result<(), Fail> {
         (Tag::OBJECT_IDENTIFIER, 0x06),
         (Tag::SEQUENCE, 0x30),
     ] {
-        assert_eq!(rt; tag.octet(), octet);
-        assert_eq!(rt; Tag::from_octet(octet), Ok(tag));
+        equal(&rt, tag.octet(), octet);
+        equal(&rt, Tag::from_octet(octet), Ok(tag));
     }
+}
+
+#[test]
+fn other_octets_are_no_tags(rt: HostRuntime) {
     for octet in [0x00, 0x20, 0x1f, 0xff] {
-        assert_eq!(rt;
+        equal(
+            &rt,
             Tag::from_octet(octet),
-            Err(Error::new(ErrorKind::TagUnknown { octet }))
+            Err(Error::new(ErrorKind::TagUnknown { octet })),
         );
     }
+}
+
+#[test]
+fn headers_are_written_and_read_again(rt: HostRuntime) -> Result<(), Fail> {
     let header = Header {
         tag: Tag::SEQUENCE,
         length: Length::try_from(250usize)?,
     };
-    assert_eq!(rt; header.to_bytes().as_slice(), [0x30, 0x81, 0xfa].as_slice());
+    equal(
+        &rt,
+        header.to_bytes().as_slice(),
+        [0x30, 0x81, 0xfa].as_slice(),
+    );
     let mut reader = SliceReader::new(&[0x30, 0x81, 0xfa, 0x07])?;
-    assert_eq!(rt; Header::decode(&mut reader), Ok(header));
-    assert_eq!(rt; reader.remaining_len(), Length::ONE);
+    equal(&rt, Header::decode(&mut reader), Ok(header));
+    equal(&rt, reader.remaining_len(), Length::ONE);
     Ok(())
 }
 
 #[test]
 fn readers_read_fronts(rt: HostRuntime) -> Result<(), Fail> {
     let mut reader = SliceReader::new(&[0x01, 0x02, 0x03])?;
-    assert_eq!(rt; reader.peek_octet(), Some(0x01));
-    assert_eq!(rt; reader.read_slice(Length::ONE)?, [0x01].as_slice());
+    equal(&rt, reader.peek_octet(), Some(0x01));
+    equal(&rt, reader.read_slice(Length::ONE)?, [0x01].as_slice());
     let mut nested = reader.nested(Length::ONE)?;
-    assert_eq!(rt; nested.read_slice(Length::ONE)?, [0x02].as_slice());
-    assert_eq!(rt; nested.finish(), Ok(()));
-    assert_eq!(rt; reader.finish(), Err(Error::new(ErrorKind::TrailingData)));
-    assert_eq!(rt; reader.finish(), Err(Error::new(ErrorKind::Failed)));
-    let mut reader = SliceReader::new(&[0x01])?;
-    assert_eq!(rt;
-        reader.error(ErrorKind::OidUnknown).kind(),
-        ErrorKind::OidUnknown
+    equal(&rt, nested.read_slice(Length::ONE)?, [0x02].as_slice());
+    equal(&rt, nested.finish(), Ok(()));
+    equal(
+        &rt,
+        reader.finish(),
+        Err(Error::new(ErrorKind::TrailingData)),
     );
-    assert_eq!(rt; reader.remaining_len(), Length::ZERO);
+    equal(&rt, reader.finish(), Err(Error::new(ErrorKind::Failed)));
+    let mut reader = SliceReader::new(&[0x01])?;
+    equal(
+        &rt,
+        reader.error(ErrorKind::OidUnknown).kind(),
+        ErrorKind::OidUnknown,
+    );
+    equal(&rt, reader.remaining_len(), Length::ZERO);
     Ok(())
 }
 
@@ -134,13 +156,14 @@ fn readers_read_fronts(rt: HostRuntime) -> Result<(), Fail> {
 fn writers_append_or_change_nothing(rt: HostRuntime) -> Result<(), Fail> {
     let mut slice = [0xaa; 3];
     let mut writer = SliceWriter::new(&mut slice);
-    assert_eq!(rt; writer.write(&[0x01, 0x02]), Ok(()));
-    assert_eq!(rt;
+    equal(&rt, writer.write(&[0x01, 0x02]), Ok(()));
+    equal(
+        &rt,
         writer.write(&[0x03, 0x04]),
-        Err(Error::new(ErrorKind::NoRoom))
+        Err(Error::new(ErrorKind::NoRoom)),
     );
-    assert_eq!(rt; writer.finish(), [0x01, 0x02].as_slice());
-    assert_eq!(rt; slice[2], 0xaa);
+    equal(&rt, writer.finish(), [0x01, 0x02].as_slice());
+    equal(&rt, slice[2], 0xaa);
     Ok(())
 }
 
@@ -148,7 +171,7 @@ fn writers_append_or_change_nothing(rt: HostRuntime) -> Result<(), Fail> {
 fn back_writers_prepend(rt: HostRuntime) {
     let mut slice = [0xaa; 8];
     let mut writer = BackWriter::new(&mut slice);
-    assert_eq!(rt; writer.free(), 8);
+    equal(&rt, writer.free(), 8);
     writer.prepend(&[0x07]);
     let length = Length::ONE;
     let header = Header {
@@ -156,9 +179,9 @@ fn back_writers_prepend(rt: HostRuntime) {
         length,
     };
     writer.prepend_header(header);
-    assert_eq!(rt; writer.filled_len(), 3);
-    assert_eq!(rt; writer.finish(), [0x02, 0x01, 0x07].as_slice());
-    assert_eq!(rt; slice[0], 0xaa);
+    equal(&rt, writer.filled_len(), 3);
+    equal(&rt, writer.finish(), [0x02, 0x01, 0x07].as_slice());
+    equal(&rt, slice[0], 0xaa);
 }
 
 /// Bytes, the number's bytes, and its text.
@@ -177,18 +200,20 @@ fn integers_are_written_and_read_again(rt: HostRuntime) -> Result<(), Fail> {
         let (bytes, number) = (bytes_of(rt.alloc(), bytes)?, bytes_of(rt.alloc(), number)?);
         let text = bytes_of(rt.alloc(), text)?;
         let integer = UintRef::new(bytes.as_slice())?;
-        assert_eq!(rt; integer.as_bytes(), number.as_slice(), "at {row}");
+        equal_at(&rt, row, integer.as_bytes(), number.as_slice());
         let mut slice = [0; 8];
-        assert_eq!(rt;
+        equal_at(
+            &rt,
+            row,
             integer.encode_to_slice(&mut slice)?,
             text.as_slice(),
-            "at {row}"
         );
-        assert_eq!(rt; integer.encoded_len()?.to_usize(), text.len(), "at {row}");
-        assert_eq!(rt;
+        equal_at(&rt, row, integer.encoded_len()?.to_usize(), text.len());
+        equal_at(
+            &rt,
+            row,
             UintRef::from_der(NoMemory, text.as_slice())?,
             integer,
-            "at {row}"
         );
     }
     Ok(())
@@ -197,19 +222,21 @@ fn integers_are_written_and_read_again(rt: HostRuntime) -> Result<(), Fail> {
 #[test]
 fn integers_are_appended(rt: HostRuntime) -> Result<(), Fail> {
     let integer = UintRef::new(&[0x80])?;
-    assert_eq!(rt; integer.value_len()?.to_usize(), 2);
+    equal(&rt, integer.value_len()?.to_usize(), 2);
     let mut slice = [0; 8];
     let mut writer = SliceWriter::new(&mut slice);
     integer.encode(&mut writer)?;
     integer.encode_value(&mut writer)?;
-    assert_eq!(rt;
+    equal(
+        &rt,
         writer.finish(),
-        [0x02, 0x02, 0x00, 0x80, 0x00, 0x80].as_slice()
+        [0x02, 0x02, 0x00, 0x80, 0x00, 0x80].as_slice(),
     );
     let tag = Tag::INTEGER;
-    assert_eq!(rt;
+    equal(
+        &rt,
         UintRef::new(&[]),
-        Err(Error::new(ErrorKind::Length { tag }))
+        Err(Error::new(ErrorKind::Length { tag })),
     );
     Ok(())
 }
@@ -249,9 +276,9 @@ fn plain_refusals_are_printed(rt: HostRuntime) -> Result<(), Fail> {
     for kind in kinds {
         let text = texts.next().ok_or("a text for each kind")?;
         let refused: Result<u8, Error> = Err(Error::new(kind));
-        assert_eq!(rt; printed(rt.alloc(), refused)?.as_str(), text);
+        equal(&rt, printed(rt.alloc(), refused)?.as_str(), text);
     }
-    assert_eq!(rt; texts.next(), None);
+    equal(&rt, texts.next(), None);
     Ok(())
 }
 
@@ -266,26 +293,37 @@ fn refusals_of_tags_are_printed(rt: HostRuntime) -> Result<(), Fail> {
     let (alloc, tag, octet) = (rt.alloc(), Tag::SEQUENCE, 0x1f);
     let (expected, actual) = (Tag::INTEGER, Tag::NULL);
     let length = ErrorKind::Length { tag };
-    assert!(rt;
+    holds(
+        &rt,
         prints(
             alloc,
             length,
-            "the contents of tag 0x30 have a wrong length"
-        )?
+            "the contents of tag 0x30 have a wrong length",
+        )?,
     );
     let noncanonical = ErrorKind::Noncanonical { tag };
-    assert!(rt;
+    holds(
+        &rt,
         prints(
             alloc,
             noncanonical,
-            "the contents of tag 0x30 are not in shortest form"
-        )?
+            "the contents of tag 0x30 are not in shortest form",
+        )?,
     );
     let unexpected = ErrorKind::TagUnexpected { expected, actual };
-    assert!(rt; prints(alloc, unexpected, "tag 0x02 was expected, 0x05 was found")?);
+    holds(
+        &rt,
+        prints(alloc, unexpected, "tag 0x02 was expected, 0x05 was found")?,
+    );
     let unknown = ErrorKind::TagUnknown { octet };
-    assert!(rt; prints(alloc, unknown, "the tag octet 0x1f is not known")?);
+    holds(
+        &rt,
+        prints(alloc, unknown, "the tag octet 0x1f is not known")?,
+    );
     let value = ErrorKind::Value { tag };
-    assert!(rt; prints(alloc, value, "the value of tag 0x30 is not allowed")?);
+    holds(
+        &rt,
+        prints(alloc, value, "the value of tag 0x30 is not allowed")?,
+    );
     Ok(())
 }

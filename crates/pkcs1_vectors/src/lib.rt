@@ -8,11 +8,15 @@ mod any_values;
 #[cfg(test)]
 mod bytes;
 #[cfg(test)]
+mod checks;
+#[cfg(test)]
 mod documents;
 #[cfg(test)]
 mod kernel;
 #[cfg(test)]
 mod labels;
+#[cfg(test)]
+mod marks;
 #[cfg(test)]
 mod oaep;
 #[cfg(test)]
@@ -27,3 +31,5 @@ mod public_keys;
 mod rsa2048;
 #[cfg(test)]
 mod small_calls;
+#[cfg(test)]
+mod written;

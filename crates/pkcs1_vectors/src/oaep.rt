@@ -1,13 +1,17 @@
 //! Rows of RSAES-OAEP parameters, and which texts are keys or parameters.
-use crate::bytes::{bytes_of, printed};
-use crate::pss::{Sha1, Sha256};
-use pkcs1::der::{Decode, Encode, Error, ErrorKind, NoMemory, SliceWriter};
-use pkcs1::{RsaOaepParamsRef, RsaPrivateKeyRef, RsaPssParamsRef, RsaPublicKeyRef};
+use crate::bytes::{bytes_of, printed, printed_within, spelled};
+use crate::checks::{equal, equal_at, holds, holds_at};
+use crate::marks::{Sha1, Sha256};
+use crate::written::{is_carried, is_written};
+use pkcs1::der::{Decode, Encode, Error, ErrorKind, NoMemory};
+use pkcs1::{
+    RsaOaepParamsOwned, RsaOaepParamsRef, RsaPrivateKeyRef, RsaPssParamsRef, RsaPublicKeyRef,
+};
 use spki_core::AssociatedOid;
 use std::test::Fail;
 
 /// A text, how many fields have their defaults, and what is written again.
-const TEXTS: &str = "\
+pub const TEXTS: &str = "\
 3000 3 3000
 3038a00b300906052b0e03021a0500a118301606092a864886f70d010108300906052b0e03021a0500a20f300d06092a864886f70d0101090400 3 3000
 3011a20f300d06092a864886f70d0101090400 3 3000
@@ -23,21 +27,15 @@ fn texts_are_read_and_written_without_defaults(rt: HostRuntime) -> Result<(), Fa
         let (count, again) = rest.split_once(' ').ok_or("three parts")?;
         let (text, again) = (bytes_of(rt.alloc(), text)?, bytes_of(rt.alloc(), again)?);
         let params = RsaOaepParamsRef::try_from(text.as_slice())?;
-        assert_eq!(rt; params.default_fields(), count.parse::<u8>()?, "at {row}");
+        equal_at(&rt, row, params.default_fields(), count.parse::<u8>()?);
         let is_default = params == RsaOaepParamsRef::default();
-        assert_eq!(rt; is_default, count == "3", "at {row}");
-        let mut slice = [0xaa; 60];
-        assert_eq!(rt;
-            params.encode_to_slice(&mut slice)?,
-            again.as_slice(),
-            "at {row}"
-        );
-        assert_eq!(rt; slice[59], 0xaa, "at {row}");
-        assert_eq!(rt; params.encoded_len()?.to_usize(), again.len(), "at {row}");
-        assert_eq!(rt;
+        equal_at(&rt, row, is_default, count == "3");
+        holds_at(&rt, row, is_written(&params, again.as_slice())?);
+        equal_at(
+            &rt,
+            row,
             RsaOaepParamsRef::from_der(NoMemory, again.as_slice())?,
             params,
-            "at {row}"
         );
     }
     Ok(())
@@ -49,30 +47,26 @@ fn each_way_of_writing_gives_the_same_text(rt: HostRuntime) -> Result<(), Fail> 
         "302fa00f300d06096086480165030402010500a11c301a06092a864886f70d010108300d06096086480165030402010500";
     let text = bytes_of(rt.alloc(), text)?;
     let params = RsaOaepParamsRef::new::<Sha256>();
-    assert_eq!(rt; RsaOaepParamsRef::try_from(text.as_slice())?, params);
+    equal(&rt, RsaOaepParamsRef::try_from(text.as_slice())?, params);
+    holds(&rt, is_written(&params, text.as_slice())?);
     let mut slice = [0xaa; 51];
-    assert_eq!(rt; params.encode_params(&mut slice)?, 49);
-    assert_eq!(rt; &slice[..49], text.as_slice());
-    assert_eq!(rt; &slice[49..], [0xaa, 0xaa].as_slice());
-    let mut slice = [0xaa; 51];
-    assert_eq!(rt; params.encode_to_slice(&mut slice)?, text.as_slice());
-    assert_eq!(rt; &slice[49..], [0xaa, 0xaa].as_slice());
-    let mut slice = [0xaa; 51];
-    let mut writer = SliceWriter::new(&mut slice);
-    params.encode(&mut writer)?;
-    assert_eq!(rt; writer.finish(), text.as_slice());
+    let length = params.encode_params(&mut slice)?;
+    equal(&rt, &slice[..length], text.as_slice());
+    equal(&rt, slice[50], 0xaa);
     let mut short = [0xaa; 48];
     let no_room = Error::new(ErrorKind::NoRoom);
-    assert_eq!(rt;
+    equal(
+        &rt,
         params.encode_to_slice(&mut short).map(|_| ()),
-        Err(no_room)
+        Err(no_room),
     );
-    assert_eq!(rt; short, [0xaa; 48]);
-    assert_eq!(rt;
+    equal(&rt, short, [0xaa; 48]);
+    equal(
+        &rt,
         params.encode_params(&mut short),
-        Err(pkcs1::Error::Asn1(no_room))
+        Err(pkcs1::Error::Asn1(no_room)),
     );
-    assert_eq!(rt; short, [0xaa; 48]);
+    equal(&rt, short, [0xaa; 48]);
     Ok(())
 }
 
@@ -80,22 +74,25 @@ fn each_way_of_writing_gives_the_same_text(rt: HostRuntime) -> Result<(), Fail> 
 fn fields_are_those_of_the_text(rt: HostRuntime) -> Result<(), Fail> {
     let default = RsaOaepParamsRef::default();
     let params = RsaOaepParamsRef::new::<Sha256>();
-    assert_eq!(rt; params.hash.oid.as_bytes(), Sha256::OID);
-    assert_eq!(rt; params.mask_gen.parameters, Some(params.hash));
-    assert_eq!(rt; params.mask_gen.oid, default.mask_gen.oid);
-    assert_eq!(rt; params.p_source, default.p_source);
+    equal(&rt, params.hash.oid.as_bytes(), Sha256::OID);
+    equal(&rt, params.mask_gen.parameters, Some(params.hash));
+    equal(&rt, params.mask_gen.oid, default.mask_gen.oid);
+    equal(&rt, params.p_source, default.p_source);
     let text = bytes_of(rt.alloc(), "300fa20d300b06092a864886f70d010109")?;
     let absent = RsaOaepParamsRef::try_from(text.as_slice())?;
-    assert_eq!(rt; absent.p_source.oid, default.p_source.oid);
-    assert_eq!(rt; absent.p_source.parameters, None);
-    assert_eq!(rt; absent.hash, default.hash);
-    assert_eq!(rt; absent.mask_gen, default.mask_gen);
-    assert_eq!(rt; params.clone()?, params);
-    assert!(rt; params != default && params != absent && absent != default);
-    assert_eq!(rt; RsaOaepParamsRef::new::<Sha1>(), default);
+    equal(&rt, absent.p_source.oid, default.p_source.oid);
+    equal(&rt, absent.p_source.parameters, None);
+    equal(&rt, absent.hash, default.hash);
+    equal(&rt, absent.mask_gen, default.mask_gen);
+    equal(&rt, params.clone()?, params);
+    holds(
+        &rt,
+        params != default && params != absent && absent != default,
+    );
+    equal(&rt, RsaOaepParamsRef::new::<Sha1>(), default);
     let printed = format!(in rt.alloc(); "{params:?}")?;
     for word in ["RsaOaepParams", "hash", "mask_gen", "p_source"] {
-        assert!(rt; printed.contains(word), "{word}");
+        holds_at(&rt, word, printed.contains(word));
     }
     Ok(())
 }
@@ -119,12 +116,15 @@ fn other_texts_are_refused(rt: HostRuntime) -> Result<(), Fail> {
         let (text, want) = row.split_once(' ').ok_or("two parts")?;
         let text = bytes_of(rt.alloc(), text)?;
         let answer = RsaOaepParamsRef::try_from(text.as_slice());
-        assert_eq!(rt; printed(rt.alloc(), answer)?.as_str(), want, "at {row}");
+        equal_at(&rt, row, printed(rt.alloc(), answer)?.as_str(), want);
+        let answer = RsaOaepParamsOwned::from_der(rt.alloc(), text.as_slice());
+        equal_at(&rt, row, printed_within(rt.alloc(), answer)?.as_str(), want);
     }
     let incomplete = Error::new(ErrorKind::Incomplete);
-    assert_eq!(rt;
+    equal(
+        &rt,
         RsaOaepParamsRef::try_from([].as_slice()),
-        Err(pkcs1::Error::Asn1(incomplete))
+        Err(pkcs1::Error::Asn1(incomplete)),
     );
     Ok(())
 }
@@ -138,24 +138,14 @@ a20f300d06092a864886f70d0101090400";
 #[test]
 fn each_choice_of_written_defaults_is_the_default(rt: HostRuntime) -> Result<(), Fail> {
     for choice in 0..8_u8 {
-        let mut contents = Vec::new(rt.alloc());
-        let mut rest = choice;
-        for default in DEFAULTS.lines() {
-            if rest % 2 == 1 {
-                contents.extend_from_slice(bytes_of(rt.alloc(), default)?.as_slice())?;
-            }
-            rest /= 2;
-        }
-        let mut text = Vec::from_array(rt.alloc(), [0x30, u8::try_from(contents.len())?])?;
-        text.extend_from_slice(contents.as_slice())?;
+        let text = spelled(rt.alloc(), DEFAULTS, choice)?;
         let params = RsaOaepParamsRef::try_from(text.as_slice())?;
-        assert_eq!(rt; params, RsaOaepParamsRef::default(), "at {choice}");
-        let mut slice = [0xaa; 2];
-        assert_eq!(rt;
-            params.encode_to_slice(&mut slice)?,
-            [0x30, 0x00].as_slice(),
-            "at {choice}"
-        );
+        equal_at(&rt, choice, params, RsaOaepParamsRef::default());
+        equal_at(&rt, choice, params.default_fields(), 3);
+        let empty = [0x30, 0x00];
+        holds_at(&rt, choice, is_written(&params, &empty)?);
+        let carried = is_carried::<RsaOaepParamsOwned>(rt.alloc(), text.as_slice(), &empty)?;
+        holds_at(&rt, choice, carried);
     }
     Ok(())
 }
@@ -166,14 +156,14 @@ fn no_text_is_a_key_and_parameters(rt: HostRuntime) -> Result<(), Fail> {
     let key = bytes_of(alloc, "3006020107020103")?;
     let follow = "PKCS#1 ASN.1 error: bytes follow the value";
     let pss = RsaPssParamsRef::try_from(key.as_slice());
-    assert_eq!(rt; printed(alloc, pss)?.as_str(), follow);
+    equal(&rt, printed(alloc, pss)?.as_str(), follow);
     let oaep = RsaOaepParamsRef::try_from(key.as_slice());
-    assert_eq!(rt; printed(alloc, oaep)?.as_str(), follow);
+    equal(&rt, printed(alloc, oaep)?.as_str(), follow);
     let params = bytes_of(alloc, "3000")?;
     let early = "PKCS#1 ASN.1 error: the input ends too early";
     let public = RsaPublicKeyRef::try_from(params.as_slice());
-    assert_eq!(rt; printed(alloc, public)?.as_str(), early);
+    equal(&rt, printed(alloc, public)?.as_str(), early);
     let private = RsaPrivateKeyRef::decode_key(alloc, params.as_slice());
-    assert_eq!(rt; printed(alloc, private)?.as_str(), early);
+    equal(&rt, printed(alloc, private)?.as_str(), early);
     Ok(())
 }

@@ -1,5 +1,8 @@
-//! Rows of the owned forms: keys and parameters that hold what they were read from, and copies.
+//! Owned forms: each text that is accepted is read, copied, held by documents, and written again.
 use crate::bytes::bytes_of;
+use crate::checks::{equal, equal_at, holds, holds_at};
+use crate::written::{is_carried, is_held, is_written};
+use crate::{algorithms, oaep, private_keys, pss, public_keys};
 use pkcs1::der::{
     AsUintRef, Decode, Encode, Error, ErrorKind, OctetStringRef, Reader, SliceReader, Tag,
     TryClone, Uint,
@@ -12,59 +15,44 @@ use spki_core::{AlgorithmIdentifier, AlgorithmIdentifierRef, Any, AnyParams, Any
 use std::alloc::Global;
 use std::test::Fail;
 
-/// Texts of public keys.
-const PUBLIC_KEYS: &str = "\
-3006020107020103
-300702020080020103
-3006020100020100";
+/// Whether a copy of the value is equal to it.
+fn copies_equal<T: TryClone + PartialEq>(alloc: Global, value: &T) -> Result<bool, Fail> {
+    Ok(value.try_clone(alloc)? == *value)
+}
 
-/// Texts of private keys with two, three and four primes.
-const PRIVATE_KEYS: &str = "\
-301b02010002010702010302010502010b02010d020102020104020106
-302802010102010702010302010502010b02010d020102020104020106300b3009020111020102020103
-303302010102010702010302010502010b02010d020102020104020106301630090201110201020201033009020113020104020105";
-
-/// Texts of PSS parameters, and what is written again.
-const PSS: &str = "\
-3000 3000
-3005a203020114 3000
-3005a303020101 3000
-3031a00b300906052b0e03021a0500a118301606092a864886f70d010108300906052b0e03021a0500a203020114a303020101 3000
-3034a00f300d06096086480165030402010500a11c301a06092a864886f70d010108300d06096086480165030402010500a203020120 3034a00f300d06096086480165030402010500a11c301a06092a864886f70d010108300d06096086480165030402010500a203020120
-300ba009300706052b0e03021a 300ba009300706052b0e03021a
-300ea00c300a06052b0e03021a050100 300ea00c300a06052b0e03021a050100
-300fa10d300b06092a864886f70d010108 300fa10d300b06092a864886f70d010108";
-
-/// Texts of OAEP parameters, and what is written again.
-const OAEP: &str = "\
-3000 3000
-3038a00b300906052b0e03021a0500a118301606092a864886f70d010108300906052b0e03021a0500a20f300d06092a864886f70d0101090400 3000
-300fa20d300b06092a864886f70d010109 300fa20d300b06092a864886f70d010109
-302fa00f300d06096086480165030402010500a11c301a06092a864886f70d010108300d06096086480165030402010500 302fa00f300d06096086480165030402010500a11c301a06092a864886f70d010108300d06096086480165030402010500
-3012a210300e06092a864886f70d010109040161 3012a210300e06092a864886f70d010109040161";
+/// What comes before the first space.
+fn first(row: &str) -> Result<&str, Fail> {
+    let (first, _) = row.split_once(' ').ok_or("two parts")?;
+    Ok(first)
+}
 
 #[test]
-fn public_keys_are_read_and_written_again(rt: HostRuntime) -> Result<(), Fail> {
-    for row in PUBLIC_KEYS.lines() {
-        let text = bytes_of(rt.alloc(), row)?;
-        let key = RsaPublicKeyOwned::from_der(rt.alloc(), text.as_slice())?;
-        let borrowed = RsaPublicKeyRef::try_from(text.as_slice())?;
-        let (modulus, exponent) = (borrowed.modulus, borrowed.public_exponent);
-        assert_eq!(rt; key.modulus.as_uint_ref(), modulus, "at {row}");
-        assert_eq!(rt; key.modulus.as_bytes(), modulus.as_bytes(), "at {row}");
-        assert_eq!(rt; key.public_exponent.as_uint_ref(), exponent, "at {row}");
-        assert_eq!(rt;
-            key.public_exponent.as_bytes(),
-            exponent.as_bytes(),
-            "at {row}"
+fn public_keys_are_carried(rt: HostRuntime) -> Result<(), Fail> {
+    let alloc = rt.alloc();
+    for row in public_keys::SENTENCES.lines() {
+        let text = bytes_of(alloc, first(row)?)?;
+        let text = text.as_slice();
+        let key = RsaPublicKeyOwned::from_der(alloc, text)?;
+        let borrowed = RsaPublicKeyRef::try_from(text)?;
+        equal_at(&rt, row, key.modulus.as_uint_ref(), borrowed.modulus);
+        equal_at(
+            &rt,
+            row,
+            key.modulus.as_bytes(),
+            borrowed.modulus.as_bytes(),
         );
+        let exponent = borrowed.public_exponent;
+        equal_at(&rt, row, key.public_exponent.as_uint_ref(), exponent);
+        holds_at(
+            &rt,
+            row,
+            is_carried::<RsaPublicKeyOwned>(alloc, text, text)?,
+        );
+        holds_at(&rt, row, is_held(alloc, &key, text)?);
+        holds_at(&rt, row, copies_equal(alloc, &key)?);
         let mut slice = [0xaa; 12];
-        assert_eq!(rt;
-            key.encode_to_slice(&mut slice)?,
-            text.as_slice(),
-            "at {row}"
-        );
-        assert_eq!(rt; slice[11], 0xaa, "at {row}");
+        let length = key.encode_key(&mut slice)?;
+        equal_at(&rt, row, &slice[..length], text);
     }
     Ok(())
 }
@@ -106,21 +94,50 @@ pub fn same_key(owned: &RsaPrivateKeyOwned, borrowed: &RsaPrivateKeyRef<'_>) -> 
 }
 
 #[test]
-fn private_keys_are_read_and_written_again(rt: HostRuntime) -> Result<(), Fail> {
-    for row in PRIVATE_KEYS.lines() {
-        let text = bytes_of(rt.alloc(), row)?;
-        let key = RsaPrivateKeyOwned::from_der(rt.alloc(), text.as_slice())?;
-        let borrowed = RsaPrivateKeyRef::decode_key(rt.alloc(), text.as_slice())?;
-        assert!(rt; same_key(&key, &borrowed), "at {row}");
-        assert_eq!(rt; key.public_key(), borrowed.public_key(), "at {row}");
-        let mut slice = [0xaa; 60];
-        assert_eq!(rt;
-            key.encode_to_slice(&mut slice)?,
-            text.as_slice(),
-            "at {row}"
+fn private_keys_are_carried(rt: HostRuntime) -> Result<(), Fail> {
+    let alloc = rt.alloc();
+    for row in private_keys::SENTENCES.lines() {
+        let text = bytes_of(alloc, first(row)?)?;
+        let text = text.as_slice();
+        let key = RsaPrivateKeyOwned::from_der(alloc, text)?;
+        let borrowed = RsaPrivateKeyRef::decode_key(alloc, text)?;
+        holds_at(&rt, row, same_key(&key, &borrowed));
+        equal_at(&rt, row, key.public_key(), borrowed.public_key());
+        equal_at(&rt, row, RsaPublicKeyRef::from(&key), key.public_key());
+        holds_at(
+            &rt,
+            row,
+            is_carried::<RsaPrivateKeyOwned>(alloc, text, text)?,
         );
-        assert_eq!(rt; slice[59], 0xaa, "at {row}");
+        holds_at(&rt, row, is_held(alloc, &key, text)?);
+        holds_at(&rt, row, is_held(alloc, &borrowed, text)?);
+        holds_at(&rt, row, is_written(&borrowed.try_clone(alloc)?, text)?);
+        let mut slice = [0xaa; 60];
+        let length = key.encode_key(&mut slice)?;
+        equal_at(&rt, row, &slice[..length], text);
     }
+    Ok(())
+}
+
+#[test]
+fn private_keys_stand_in_octet_strings(rt: HostRuntime) -> Result<(), Fail> {
+    let alloc = rt.alloc();
+    for row in private_keys::SENTENCES.lines() {
+        let text = bytes_of(alloc, first(row)?)?;
+        let octets = OctetStringRef::new(text.as_slice())?;
+        let borrowed = RsaPrivateKeyRef::from_octet_string(alloc, octets)?;
+        let owned = RsaPrivateKeyOwned::from_octet_string(alloc, octets)?;
+        holds_at(&rt, row, same_key(&owned, &borrowed));
+        holds_at(&rt, row, is_written(&owned, text.as_slice())?);
+        holds_at(&rt, row, is_written(&borrowed, text.as_slice())?);
+    }
+    let (expected, actual) = (Tag::SEQUENCE, Tag::NULL);
+    let refused = pkcs1::Error::Asn1(Error::new(ErrorKind::TagUnexpected { expected, actual }));
+    let octets = OctetStringRef::new(&[0x05, 0x00])?;
+    let borrowed = RsaPrivateKeyRef::from_octet_string(alloc, octets);
+    equal(&rt, borrowed.err(), Some(refused));
+    let owned = RsaPrivateKeyOwned::from_octet_string(alloc, octets);
+    equal(&rt, owned.err(), Some(refused));
     Ok(())
 }
 
@@ -148,126 +165,123 @@ fn same_mask_gen(
 }
 
 #[test]
-fn pss_parameters_are_read_and_written_again(rt: HostRuntime) -> Result<(), Fail> {
-    for row in PSS.lines() {
-        let (text, again) = row.split_once(' ').ok_or("two parts")?;
-        let (text, again) = (bytes_of(rt.alloc(), text)?, bytes_of(rt.alloc(), again)?);
-        let params = RsaPssParamsOwned::from_der(rt.alloc(), text.as_slice())?;
-        let borrowed = RsaPssParamsRef::try_from(text.as_slice())?;
-        assert!(rt; same_algorithm(&params.hash, &borrowed.hash), "at {row}");
-        assert!(rt;
+fn pss_parameters_are_carried(rt: HostRuntime) -> Result<(), Fail> {
+    let alloc = rt.alloc();
+    for row in pss::TEXTS.lines() {
+        let (text, rest) = row.split_once(' ').ok_or("three parts")?;
+        let (_, again) = rest.split_once(' ').ok_or("three parts")?;
+        let (text, again) = (bytes_of(alloc, text)?, bytes_of(alloc, again)?);
+        let (text, again) = (text.as_slice(), again.as_slice());
+        let params = RsaPssParamsOwned::from_der(alloc, text)?;
+        let borrowed = RsaPssParamsRef::try_from(text)?;
+        holds_at(&rt, row, same_algorithm(&params.hash, &borrowed.hash));
+        holds_at(
+            &rt,
+            row,
             same_mask_gen(&params.mask_gen, &borrowed.mask_gen),
-            "at {row}"
         );
-        assert_eq!(rt; params.salt_len, borrowed.salt_len, "at {row}");
-        assert_eq!(rt; params.trailer_field, borrowed.trailer_field, "at {row}");
-        assert_eq!(rt;
-            params.default_fields(),
-            borrowed.default_fields(),
-            "at {row}"
+        equal_at(&rt, row, params.salt_len, borrowed.salt_len);
+        equal_at(&rt, row, params.trailer_field, borrowed.trailer_field);
+        let defaults = borrowed.default_fields();
+        equal_at(&rt, row, params.default_fields(), defaults);
+        holds_at(
+            &rt,
+            row,
+            is_carried::<RsaPssParamsOwned>(alloc, text, again)?,
         );
+        holds_at(&rt, row, is_held(alloc, &params, again)?);
+        holds_at(&rt, row, copies_equal(alloc, &params)?);
         let mut slice = [0xaa; 60];
-        assert_eq!(rt;
-            params.encode_to_slice(&mut slice)?,
-            again.as_slice(),
-            "at {row}"
-        );
-        assert_eq!(rt; slice[59], 0xaa, "at {row}");
+        let length = params.encode_params(&mut slice)?;
+        equal_at(&rt, row, &slice[..length], again);
     }
     Ok(())
 }
 
 #[test]
-fn oaep_parameters_are_read_and_written_again(rt: HostRuntime) -> Result<(), Fail> {
-    for row in OAEP.lines() {
-        let (text, again) = row.split_once(' ').ok_or("two parts")?;
-        let (text, again) = (bytes_of(rt.alloc(), text)?, bytes_of(rt.alloc(), again)?);
-        let params = RsaOaepParamsOwned::from_der(rt.alloc(), text.as_slice())?;
-        let borrowed = RsaOaepParamsRef::try_from(text.as_slice())?;
-        assert!(rt; same_algorithm(&params.hash, &borrowed.hash), "at {row}");
-        assert!(rt;
+fn oaep_parameters_are_carried(rt: HostRuntime) -> Result<(), Fail> {
+    let alloc = rt.alloc();
+    for row in oaep::TEXTS.lines() {
+        let (text, rest) = row.split_once(' ').ok_or("three parts")?;
+        let (_, again) = rest.split_once(' ').ok_or("three parts")?;
+        let (text, again) = (bytes_of(alloc, text)?, bytes_of(alloc, again)?);
+        let (text, again) = (text.as_slice(), again.as_slice());
+        let params = RsaOaepParamsOwned::from_der(alloc, text)?;
+        let borrowed = RsaOaepParamsRef::try_from(text)?;
+        holds_at(&rt, row, same_algorithm(&params.hash, &borrowed.hash));
+        holds_at(
+            &rt,
+            row,
             same_mask_gen(&params.mask_gen, &borrowed.mask_gen),
-            "at {row}"
         );
-        assert!(rt;
+        holds_at(
+            &rt,
+            row,
             same_algorithm(&params.p_source, &borrowed.p_source),
-            "at {row}"
         );
-        assert_eq!(rt;
-            params.default_fields(),
-            borrowed.default_fields(),
-            "at {row}"
+        let defaults = borrowed.default_fields();
+        equal_at(&rt, row, params.default_fields(), defaults);
+        holds_at(
+            &rt,
+            row,
+            is_carried::<RsaOaepParamsOwned>(alloc, text, again)?,
         );
+        holds_at(&rt, row, is_held(alloc, &params, again)?);
+        holds_at(&rt, row, copies_equal(alloc, &params)?);
         let mut slice = [0xaa; 60];
-        assert_eq!(rt;
-            params.encode_to_slice(&mut slice)?,
-            again.as_slice(),
-            "at {row}"
-        );
-        assert_eq!(rt; slice[59], 0xaa, "at {row}");
+        let length = params.encode_params(&mut slice)?;
+        equal_at(&rt, row, &slice[..length], again);
     }
     Ok(())
 }
 
 #[test]
 fn parameters_at_their_defaults(rt: HostRuntime) -> Result<(), Fail> {
+    let (alloc, empty) = (rt.alloc(), [0x30, 0x00]);
     let (incomplete, no_room) = (
         Error::new(ErrorKind::Incomplete),
         Error::new(ErrorKind::NoRoom),
     );
-    let mut slice = [0xaa; 4];
-    assert_eq!(rt;
-        RsaPssParamsOwned::from_der(rt.alloc(), &[]),
-        Err(incomplete)
-    );
-    let pss = RsaPssParamsOwned::default_in(rt.alloc());
-    assert_eq!(rt; pss.default_fields(), 4);
-    assert_eq!(rt; pss.encode_to_slice(&mut []).map(|_| ()), Err(no_room));
-    assert_eq!(rt; pss.encode_to_slice(&mut slice)?, [0x30, 0x00].as_slice());
-    assert_eq!(rt; slice, [0x30, 0x00, 0xaa, 0xaa]);
-    let mut slice = [0xaa; 4];
-    assert_eq!(rt;
-        RsaOaepParamsOwned::from_der(rt.alloc(), &[]),
-        Err(incomplete)
-    );
-    let oaep = RsaOaepParamsOwned::default_in(rt.alloc());
-    assert_eq!(rt; oaep.default_fields(), 3);
-    assert_eq!(rt; oaep.encode_to_slice(&mut []).map(|_| ()), Err(no_room));
-    assert_eq!(rt; oaep.encode_to_slice(&mut slice)?, [0x30, 0x00].as_slice());
-    assert_eq!(rt; slice, [0x30, 0x00, 0xaa, 0xaa]);
+    let pss = RsaPssParamsOwned::default_in(alloc);
+    equal(&rt, pss.default_fields(), 4);
+    equal(&rt, pss.encode_to_slice(&mut []).map(|_| ()), Err(no_room));
+    holds(&rt, is_written(&pss, &empty)?);
+    holds(&rt, is_held(alloc, &pss, &empty)?);
+    let nothing = RsaPssParamsOwned::from_der(alloc, &[]);
+    equal(&rt, nothing.err(), Some(incomplete));
+    let oaep = RsaOaepParamsOwned::default_in(alloc);
+    equal(&rt, oaep.default_fields(), 3);
+    equal(&rt, oaep.encode_to_slice(&mut []).map(|_| ()), Err(no_room));
+    holds(&rt, is_written(&oaep, &empty)?);
+    holds(&rt, is_held(alloc, &oaep, &empty)?);
+    let nothing = RsaOaepParamsOwned::from_der(alloc, &[]);
+    equal(&rt, nothing.err(), Some(incomplete));
     Ok(())
-}
-
-/// Whether a copy of the value has this text, as the value has.
-fn copies<T: TryClone + Encode>(alloc: Global, value: &T, text: &[u8]) -> Result<bool, Fail> {
-    let copy = value.try_clone(alloc)?;
-    let (mut first, mut second) = ([0xaa; 80], [0x55; 80]);
-    Ok(value.encode_to_slice(&mut first)? == text && copy.encode_to_slice(&mut second)? == text)
-}
-
-/// Whether a copy of the value is equal to it.
-fn copies_equal<T: TryClone + PartialEq>(alloc: Global, value: &T) -> Result<bool, Fail> {
-    Ok(value.try_clone(alloc)? == *value)
 }
 
 #[test]
-fn small_values_are_copied(rt: HostRuntime) -> Result<(), Fail> {
+fn algorithms_are_carried(rt: HostRuntime) -> Result<(), Fail> {
     let alloc = rt.alloc();
-    let number = Uint::new(alloc, &[0x00, 0x80])?;
-    assert_eq!(rt; number.as_bytes(), [0x80].as_slice());
-    assert!(rt; copies(alloc, &number, &[0x02, 0x02, 0x00, 0x80])?);
-    assert!(rt; copies_equal(alloc, &number)?);
-    let any = Any::new(alloc, Tag::OCTET_STRING, &[0x61, 0x62])?;
-    assert!(rt; copies(alloc, &any, &[0x04, 0x02, 0x61, 0x62])?);
-    assert!(rt; copies_equal(alloc, &any)?);
+    for row in algorithms::ALGORITHMS.lines() {
+        let text = bytes_of(alloc, first(row)?)?;
+        let text = text.as_slice();
+        let algorithm = AlgorithmIdentifier::<Any>::from_der(alloc, text)?;
+        let borrowed = AlgorithmIdentifierRef::from_der(alloc, text)?;
+        holds_at(&rt, row, same_algorithm(&algorithm, &borrowed));
+        let parameters = borrowed.parameters_any();
+        equal_at(&rt, row, algorithm.parameters_any(), parameters);
+        holds_at(
+            &rt,
+            row,
+            is_carried::<AlgorithmIdentifier<Any>>(alloc, text, text)?,
+        );
+        holds_at(&rt, row, copies_equal(alloc, &algorithm)?);
+    }
     Ok(())
 }
 
-/// Texts of identifiers: with parameters, and without.
-const ALGORITHMS: &str = "\
-300906052b0e03021a0500
-300e06092a864886f70d010109040161
-300706052b0e03021a";
+/// An algorithm under an algorithm.
+type Nested = AlgorithmIdentifier<AlgorithmIdentifier<Any>>;
 
 /// Texts of identifiers whose parameters are one: with parameters under it, without, and without any.
 const MASK_GENS: &str = "\
@@ -276,134 +290,67 @@ const MASK_GENS: &str = "\
 300b06092a864886f70d010108";
 
 #[test]
-fn identifiers_are_copied(rt: HostRuntime) -> Result<(), Fail> {
+fn algorithms_under_algorithms_are_carried(rt: HostRuntime) -> Result<(), Fail> {
     let alloc = rt.alloc();
-    for row in ALGORITHMS.lines() {
-        let text = bytes_of(alloc, row)?;
-        let algorithm = AlgorithmIdentifier::<Any>::from_der(alloc, text.as_slice())?;
-        assert!(rt; copies(alloc, &algorithm, text.as_slice())?, "at {row}");
-        assert!(rt; copies_equal(alloc, &algorithm)?, "at {row}");
-    }
     for row in MASK_GENS.lines() {
         let text = bytes_of(alloc, row)?;
-        let mask_gen = AlgorithmIdentifier::<AlgorithmIdentifier<Any>>::from_der(
-            alloc,
-            text.as_slice(),
-        )?;
-        assert!(rt; copies(alloc, &mask_gen, text.as_slice())?, "at {row}");
-        assert!(rt; copies_equal(alloc, &mask_gen)?, "at {row}");
+        let text = text.as_slice();
+        holds_at(&rt, row, is_carried::<Nested>(alloc, text, text)?);
+        let mask_gen = Nested::from_der(alloc, text)?;
+        holds_at(&rt, row, copies_equal(alloc, &mask_gen)?);
     }
     Ok(())
 }
 
 #[test]
-fn lists_are_copied(rt: HostRuntime) -> Result<(), Fail> {
+fn lists_are_carried(rt: HostRuntime) -> Result<(), Fail> {
     let alloc = rt.alloc();
     let text = bytes_of(alloc, "3007020107020200ff")?;
-    let numbers = Vec::<Uint>::from_der(alloc, text.as_slice())?;
-    assert!(rt; copies(alloc, &numbers, text.as_slice())?);
-    assert!(rt; copies_equal(alloc, &numbers)?);
+    let text = text.as_slice();
+    holds(&rt, is_carried::<Vec<Uint>>(alloc, text, text)?);
+    holds(
+        &rt,
+        copies_equal(alloc, &Vec::<Uint>::from_der(alloc, text)?)?,
+    );
     let text = bytes_of(alloc, "300704026162050100")?;
-    let values = Vec::<Any>::from_der(alloc, text.as_slice())?;
-    assert!(rt; copies(alloc, &values, text.as_slice())?);
-    assert!(rt; copies_equal(alloc, &values)?);
+    let text = text.as_slice();
+    holds(&rt, is_carried::<Vec<Any>>(alloc, text, text)?);
     let text = bytes_of(alloc, "3014300906052b0e03021a0500300706052b0e03021a")?;
-    let algorithms = Vec::<AlgorithmIdentifier<Any>>::from_der(alloc, text.as_slice())?;
-    assert!(rt; copies(alloc, &algorithms, text.as_slice())?);
-    assert!(rt; copies_equal(alloc, &algorithms)?);
-    let text = "3023301406092a864886f70d010108300706052b0e03021a300b06092a864886f70d010108";
-    let text = bytes_of(alloc, text)?;
-    let mask_gens = Vec::<AlgorithmIdentifier<AlgorithmIdentifier<Any>>>::from_der(
-        alloc,
-        text.as_slice(),
-    )?;
-    assert!(rt; copies(alloc, &mask_gens, text.as_slice())?);
-    assert!(rt; copies_equal(alloc, &mask_gens)?);
+    let text = text.as_slice();
+    holds(
+        &rt,
+        is_carried::<Vec<AlgorithmIdentifier<Any>>>(alloc, text, text)?,
+    );
     let text = bytes_of(alloc, "30173009020111020102020103300a02011302010402020080")?;
-    let primes = Vec::<OtherPrimeInfo<Uint>>::from_der(alloc, text.as_slice())?;
-    assert!(rt; copies(alloc, &primes, text.as_slice())?);
-    for prime in &primes {
-        assert_eq!(rt; prime.try_clone(alloc)?.prime, prime.prime);
-    }
+    let text = text.as_slice();
+    holds(
+        &rt,
+        is_carried::<Vec<OtherPrimeInfo<Uint>>>(alloc, text, text)?,
+    );
     let text = bytes_of(alloc, "300a02011302010402020080")?;
-    let prime = OtherPrimeInfo::<Uint>::from_der(alloc, text.as_slice())?;
-    assert!(rt; copies(alloc, &prime, text.as_slice())?);
-    let none = Vec::<Uint>::new(alloc);
-    assert!(rt; copies(alloc, &none, &[0x30, 0x00])?);
-    Ok(())
-}
-
-#[test]
-fn keys_and_parameters_are_copied(rt: HostRuntime) -> Result<(), Fail> {
-    let alloc = rt.alloc();
-    for row in PUBLIC_KEYS.lines() {
-        let text = bytes_of(alloc, row)?;
-        let key = RsaPublicKeyOwned::from_der(alloc, text.as_slice())?;
-        assert!(rt; copies(alloc, &key, text.as_slice())?, "at {row}");
-        assert!(rt; copies_equal(alloc, &key)?, "at {row}");
-    }
-    for row in PRIVATE_KEYS.lines() {
-        let text = bytes_of(alloc, row)?;
-        let key = RsaPrivateKeyOwned::from_der(alloc, text.as_slice())?;
-        assert!(rt; copies(alloc, &key, text.as_slice())?, "at {row}");
-    }
-    for row in PSS.lines() {
-        let (text, again) = row.split_once(' ').ok_or("two parts")?;
-        let (text, again) = (bytes_of(alloc, text)?, bytes_of(alloc, again)?);
-        let params = RsaPssParamsOwned::from_der(alloc, text.as_slice())?;
-        assert!(rt; copies(alloc, &params, again.as_slice())?, "at {row}");
-        assert!(rt; copies_equal(alloc, &params)?, "at {row}");
-    }
-    for row in OAEP.lines() {
-        let (text, again) = row.split_once(' ').ok_or("two parts")?;
-        let (text, again) = (bytes_of(alloc, text)?, bytes_of(alloc, again)?);
-        let params = RsaOaepParamsOwned::from_der(alloc, text.as_slice())?;
-        assert!(rt; copies(alloc, &params, again.as_slice())?, "at {row}");
-        assert!(rt; copies_equal(alloc, &params)?, "at {row}");
-    }
-    Ok(())
-}
-
-#[test]
-fn keys_stand_in_octet_strings(rt: HostRuntime) -> Result<(), Fail> {
-    let text = "301b02010002010702010302010502010b02010d020102020104020106";
-    let text = bytes_of(rt.alloc(), text)?;
-    let octets = OctetStringRef::new(text.as_slice())?;
-    let borrowed = RsaPrivateKeyRef::from_octet_string(rt.alloc(), octets)?;
-    let read = RsaPrivateKeyRef::decode_key(rt.alloc(), text.as_slice())?;
-    let owned = RsaPrivateKeyOwned::from_octet_string(rt.alloc(), octets)?;
-    assert!(rt; same_key(&owned, &borrowed));
-    assert!(rt; same_key(&owned, &read));
-    let mut slice = [0xaa; 60];
-    assert_eq!(rt; owned.encode_to_slice(&mut slice)?, text.as_slice());
-    assert_eq!(rt; borrowed.encode_to_slice(&mut slice)?, text.as_slice());
-    let (expected, actual) = (Tag::SEQUENCE, Tag::NULL);
-    let refused = pkcs1::Error::Asn1(Error::new(ErrorKind::TagUnexpected { expected, actual }));
-    let octets = OctetStringRef::new(&[0x05, 0x00])?;
-    let borrowed = RsaPrivateKeyRef::from_octet_string(rt.alloc(), octets);
-    assert_eq!(rt; borrowed.err(), Some(refused));
-    let owned = RsaPrivateKeyOwned::from_octet_string(rt.alloc(), octets);
-    assert_eq!(rt; owned.err(), Some(refused));
+    let text = text.as_slice();
+    holds(&rt, is_carried::<OtherPrimeInfo<Uint>>(alloc, text, text)?);
+    let text = &[0x30, 0x00];
+    holds(&rt, is_carried::<Vec<Uint>>(alloc, text, text)?);
     Ok(())
 }
 
 #[test]
 fn an_owned_list_of_no_primes_is_never_written(rt: HostRuntime) -> Result<(), Fail> {
+    let alloc = rt.alloc();
     let text = "301b02010002010702010302010502010b02010d020102020104020106";
-    let text = bytes_of(rt.alloc(), text)?;
-    let mut key = RsaPrivateKeyOwned::from_der(rt.alloc(), text.as_slice())?;
-    key.other_prime_infos = Some(Vec::new(rt.alloc()));
+    let text = bytes_of(alloc, text)?;
+    let mut key = RsaPrivateKeyOwned::from_der(alloc, text.as_slice())?;
+    key.other_prime_infos = Some(Vec::new(alloc));
     let refused = Error::new(ErrorKind::Value { tag: Tag::SEQUENCE });
     let mut slice = [0xaa; 64];
-    assert_eq!(rt; key.encode_to_slice(&mut slice).map(|_| ()), Err(refused));
-    assert_eq!(rt; slice, [0xaa; 64]);
-    assert_eq!(rt;
-        key.try_clone(rt.alloc())?
-            .encode_to_slice(&mut slice)
-            .map(|_| ()),
-        Err(refused)
-    );
-    assert_eq!(rt; slice, [0xaa; 64]);
+    equal(&rt, key.encode_into(&mut slice), Err(refused));
+    let of_key = Err(pkcs1::Error::Asn1(refused));
+    equal(&rt, key.encode_key(&mut slice), of_key);
+    equal(&rt, slice, [0xaa; 64]);
+    let copy = key.try_clone(alloc)?;
+    equal(&rt, copy.encode_into(&mut slice), Err(refused));
+    equal(&rt, slice, [0xaa; 64]);
     Ok(())
 }
 
@@ -411,24 +358,23 @@ fn an_owned_list_of_no_primes_is_never_written(rt: HostRuntime) -> Result<(), Fa
 fn texts_of_any_tag_own_their_contents(rt: HostRuntime) -> Result<(), Fail> {
     let alloc = rt.alloc();
     let any = Any::new(alloc, Tag::OCTET_STRING, &[0x61])?;
-    assert_eq!(rt; any.as_any_ref(), AnyRef::new(Tag::OCTET_STRING, &[0x61])?);
     let text = [0x04, 0x01, 0x61];
-    let mut slice = [0xaa; 5];
-    assert_eq!(rt; any.encoded_len()?.to_usize(), 3);
-    assert_eq!(rt; any.encode_to_slice(&mut slice)?, text.as_slice());
-    assert_eq!(rt; slice, [0x04, 0x01, 0x61, 0xaa, 0xaa]);
-    assert_eq!(rt; Any::from_der(alloc, &text)?, any);
+    let borrowed = AnyRef::new(Tag::OCTET_STRING, &[0x61])?;
+    equal(&rt, any.as_any_ref(), borrowed);
+    holds(&rt, is_written(&any, &text)?);
+    holds(&rt, is_carried::<Any>(alloc, &text, &text)?);
+    holds(&rt, copies_equal(alloc, &any)?);
     let mut reader = SliceReader::new(&text)?;
-    assert_eq!(rt; Any::decode(alloc, &mut reader)?, any);
-    assert_eq!(rt; reader.finish(), Ok(()));
+    equal(&rt, &Any::decode(alloc, &mut reader)?, &any);
+    equal(&rt, reader.finish(), Ok(()));
     let unknown = Error::new(ErrorKind::TagUnknown { octet: 0x00 });
-    assert_eq!(rt; Any::from_der(alloc, &[0x00, 0x00]), Err(unknown));
+    equal(&rt, Any::from_der(alloc, &[0x00, 0x00]), Err(unknown));
     let mut reader = SliceReader::new(&[0x00, 0x00])?;
-    assert_eq!(rt; Any::decode(alloc, &mut reader), Err(unknown));
+    equal(&rt, Any::decode(alloc, &mut reader), Err(unknown));
     let null = Any::empty(alloc, Tag::NULL);
-    assert_eq!(rt; null.as_any_ref(), AnyRef::null());
-    assert_eq!(rt; null, Any::new(alloc, Tag::NULL, &[])?);
-    assert!(rt; null != any);
-    assert_eq!(rt; null.encode_to_slice(&mut slice)?, [0x05, 0x00].as_slice());
+    equal(&rt, null.as_any_ref(), AnyRef::null());
+    equal(&rt, &null, &Any::new(alloc, Tag::NULL, &[])?);
+    holds(&rt, null != any);
+    holds(&rt, is_written(&null, &[0x05, 0x00])?);
     Ok(())
 }

@@ -1,12 +1,17 @@
 //! Rows of RSA private keys.
 use crate::bytes::{bytes_of, printed};
+use crate::checks::{equal, equal_at, holds_at};
+use crate::written::is_written;
 use pkcs1::der::{Decode, Encode, EncodeValue, Error, ErrorKind, SliceWriter, Tag};
-use pkcs1::{OtherPrimeInfo, RsaPrivateKey, RsaPrivateKeyRef, RsaPublicKeyRef, UintRef, Version};
+use pkcs1::{
+    OtherPrimeInfo, RsaPrivateKey, RsaPrivateKeyOwned, RsaPrivateKeyRef, RsaPublicKeyRef, UintRef,
+    Version,
+};
 use std::alloc::Global;
 use std::test::Fail;
 
 /// Texts of keys with two, three and four primes, and their versions.
-const SENTENCES: &str = "\
+pub const SENTENCES: &str = "\
 301b02010002010702010302010502010b02010d020102020104020106 TwoPrime
 302802010102010702010302010502010b02010d020102020104020106300b3009020111020102020103 Multi
 303302010102010702010302010502010b02010d020102020104020106301630090201110201020201033009020113020104020105 Multi";
@@ -17,19 +22,17 @@ fn sentences_are_read_and_written_again(rt: HostRuntime) -> Result<(), Fail> {
         let (text, version) = row.split_once(' ').ok_or("two parts")?;
         let text = bytes_of(rt.alloc(), text)?;
         let key = RsaPrivateKeyRef::decode_key(rt.alloc(), text.as_slice())?;
-        assert_eq!(rt;
+        equal_at(
+            &rt,
+            row,
             format!(in rt.alloc(); "{:?}", key.version())?.as_str(),
             version,
-            "at {row}"
         );
         let mut slice = [0xaa; 60];
         let length = key.encode_key(&mut slice)?;
-        assert_eq!(rt; &slice[..length], text.as_slice(), "at {row}");
-        assert_eq!(rt; slice[59], 0xaa, "at {row}");
-        let mut writer = SliceWriter::new(&mut slice);
-        key.encode(&mut writer)?;
-        assert_eq!(rt; writer.finish(), text.as_slice(), "at {row}");
-        assert_eq!(rt; key.encoded_len()?.to_usize(), text.len(), "at {row}");
+        equal_at(&rt, row, &slice[..length], text.as_slice());
+        equal_at(&rt, row, slice[59], 0xaa);
+        holds_at(&rt, row, is_written(&key, text.as_slice())?);
     }
     Ok(())
 }
@@ -40,21 +43,21 @@ fn fields_are_those_of_the_text(rt: HostRuntime) -> Result<(), Fail> {
         "302802010102010702010302010502010b02010d020102020104020106300b3009020111020102020103";
     let text = bytes_of(rt.alloc(), text)?;
     let key = RsaPrivateKeyRef::from_der(rt.alloc(), text.as_slice())?;
-    assert_eq!(rt; key.modulus.as_bytes(), [0x07].as_slice());
-    assert_eq!(rt; key.public_exponent.as_bytes(), [0x03].as_slice());
-    assert_eq!(rt; key.private_exponent.as_bytes(), [0x05].as_slice());
-    assert_eq!(rt; key.prime1.as_bytes(), [0x0b].as_slice());
-    assert_eq!(rt; key.prime2.as_bytes(), [0x0d].as_slice());
-    assert_eq!(rt; key.exponent1.as_bytes(), [0x02].as_slice());
-    assert_eq!(rt; key.exponent2.as_bytes(), [0x04].as_slice());
-    assert_eq!(rt; key.coefficient.as_bytes(), [0x06].as_slice());
+    equal(&rt, key.modulus.as_bytes(), [0x07].as_slice());
+    equal(&rt, key.public_exponent.as_bytes(), [0x03].as_slice());
+    equal(&rt, key.private_exponent.as_bytes(), [0x05].as_slice());
+    equal(&rt, key.prime1.as_bytes(), [0x0b].as_slice());
+    equal(&rt, key.prime2.as_bytes(), [0x0d].as_slice());
+    equal(&rt, key.exponent1.as_bytes(), [0x02].as_slice());
+    equal(&rt, key.exponent2.as_bytes(), [0x04].as_slice());
+    equal(&rt, key.coefficient.as_bytes(), [0x06].as_slice());
     let others = key.other_prime_infos.ok_or("other primes")?;
     for other in &others {
-        assert_eq!(rt; other.prime.as_bytes(), [0x11].as_slice());
-        assert_eq!(rt; other.exponent.as_bytes(), [0x02].as_slice());
-        assert_eq!(rt; other.coefficient.as_bytes(), [0x03].as_slice());
+        equal(&rt, other.prime.as_bytes(), [0x11].as_slice());
+        equal(&rt, other.exponent.as_bytes(), [0x02].as_slice());
+        equal(&rt, other.coefficient.as_bytes(), [0x03].as_slice());
     }
-    assert_eq!(rt; others.len(), 1);
+    equal(&rt, others.len(), 1);
     Ok(())
 }
 
@@ -78,12 +81,15 @@ fn other_texts_are_refused(rt: HostRuntime) -> Result<(), Fail> {
         let (text, want) = row.split_once(' ').ok_or("two parts")?;
         let text = bytes_of(rt.alloc(), text)?;
         let answer = RsaPrivateKeyRef::from_der(rt.alloc(), text.as_slice());
-        assert_eq!(rt; printed(rt.alloc(), answer)?.as_str(), want, "at {row}");
+        equal_at(&rt, row, printed(rt.alloc(), answer)?.as_str(), want);
+        let answer = RsaPrivateKeyOwned::from_der(rt.alloc(), text.as_slice());
+        equal_at(&rt, row, printed(rt.alloc(), answer)?.as_str(), want);
     }
     let public = RsaPublicKeyRef::try_from([0x30, 0x03, 0x02, 0x01, 0x00].as_slice());
-    assert_eq!(rt;
+    equal(
+        &rt,
         printed(rt.alloc(), public)?.as_str(),
-        "PKCS#1 ASN.1 error: the input ends too early"
+        "PKCS#1 ASN.1 error: the input ends too early",
     );
     Ok(())
 }
@@ -108,22 +114,27 @@ fn key_of_no_others(alloc: Global) -> Result<RsaPrivateKeyRef<'static>, Fail> {
 fn a_list_of_no_primes_is_never_written(rt: HostRuntime) -> Result<(), Fail> {
     let key = key_of_no_others(rt.alloc())?;
     let refused = Error::new(ErrorKind::Value { tag: Tag::SEQUENCE });
-    assert_eq!(rt; key.version(), Version::Multi);
+    equal(&rt, key.version(), Version::Multi);
     let mut slice = [0xaa; 64];
-    assert_eq!(rt; key.encode_to_slice(&mut slice).map(|_| ()), Err(refused));
-    assert_eq!(rt; key.encode_into(&mut slice), Err(refused));
-    assert_eq!(rt;
-        key.encode_key(&mut slice),
-        Err(pkcs1::Error::Asn1(refused))
+    equal(
+        &rt,
+        key.encode_to_slice(&mut slice).map(|_| ()),
+        Err(refused),
     );
-    assert_eq!(rt; key.encode_into(&mut []), Err(refused));
-    assert_eq!(rt; key.encoded_len(), Err(refused));
-    assert_eq!(rt; key.value_len(), Err(refused));
+    equal(&rt, key.encode_into(&mut slice), Err(refused));
+    equal(
+        &rt,
+        key.encode_key(&mut slice),
+        Err(pkcs1::Error::Asn1(refused)),
+    );
+    equal(&rt, key.encode_into(&mut []), Err(refused));
+    equal(&rt, key.encoded_len(), Err(refused));
+    equal(&rt, key.value_len(), Err(refused));
     let mut writer = SliceWriter::new(&mut slice);
-    assert_eq!(rt; key.encode(&mut writer), Err(refused));
-    assert_eq!(rt; key.encode_value(&mut writer), Err(refused));
-    assert_eq!(rt; writer.finish().len(), 0);
-    assert_eq!(rt; slice, [0xaa; 64]);
+    equal(&rt, key.encode(&mut writer), Err(refused));
+    equal(&rt, key.encode_value(&mut writer), Err(refused));
+    equal(&rt, writer.finish().len(), 0);
+    equal(&rt, slice, [0xaa; 64]);
     Ok(())
 }
 
@@ -135,9 +146,9 @@ fn the_public_key_has_its_two_fields(rt: HostRuntime) -> Result<(), Fail> {
     )?;
     let key = RsaPrivateKeyRef::decode_key(rt.alloc(), text.as_slice())?;
     let public = key.public_key();
-    assert_eq!(rt; public.modulus.as_bytes(), [0x07].as_slice());
-    assert_eq!(rt; public.public_exponent.as_bytes(), [0x03].as_slice());
-    assert_eq!(rt; RsaPublicKeyRef::from(&key), public);
+    equal(&rt, public.modulus.as_bytes(), [0x07].as_slice());
+    equal(&rt, public.public_exponent.as_bytes(), [0x03].as_slice());
+    equal(&rt, RsaPublicKeyRef::from(&key), public);
     let number = UintRef::new(&[0x05])?;
     let other = OtherPrimeInfo {
         prime: number,
@@ -147,16 +158,18 @@ fn the_public_key_has_its_two_fields(rt: HostRuntime) -> Result<(), Fail> {
     let again = other.clone()?;
     let mut slice = [0; 16];
     let text = again.encode_to_slice(&mut slice)?;
-    assert_eq!(rt;
+    equal(
+        &rt,
         text,
         [
-            0x30, 0x09, 0x02, 0x01, 0x05, 0x02, 0x01, 0x05, 0x02, 0x01, 0x05
+            0x30, 0x09, 0x02, 0x01, 0x05, 0x02, 0x01, 0x05, 0x02, 0x01, 0x05,
         ]
-        .as_slice()
+        .as_slice(),
     );
-    assert_eq!(rt;
+    equal(
+        &rt,
         OtherPrimeInfo::<UintRef>::from_der(rt.alloc(), text)?.prime,
-        number
+        number,
     );
     Ok(())
 }
@@ -169,19 +182,20 @@ fn secrets_are_not_printed(rt: HostRuntime) -> Result<(), Fail> {
     )?;
     let key = RsaPrivateKeyRef::decode_key(rt.alloc(), text.as_slice())?;
     let printed = format!(in rt.alloc(); "{key:?}")?;
-    for word in ["RsaPrivateKey", "version", "modulus", "public_exponent"] {
-        assert!(rt; printed.contains(word), "{word}");
-    }
-    for word in [
-        "private_exponent",
-        "prime1",
-        "prime2",
-        "exponent1",
-        "exponent2",
-        "coefficient",
-        "other_prime_infos",
+    for (word, is_shown) in [
+        ("RsaPrivateKey", true),
+        ("version", true),
+        ("modulus", true),
+        ("public_exponent", true),
+        ("private_exponent", false),
+        ("prime1", false),
+        ("prime2", false),
+        ("exponent1", false),
+        ("exponent2", false),
+        ("coefficient", false),
+        ("other_prime_infos", false),
     ] {
-        assert!(rt; !printed.contains(word), "{word}");
+        equal_at(&rt, word, printed.contains(word), is_shown);
     }
     Ok(())
 }

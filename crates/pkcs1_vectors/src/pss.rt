@@ -1,44 +1,15 @@
 //! Rows of RSASSA-PSS parameters.
-ghost use Rattle.std.specs.Prelude.{[], ◌∷◌, refl};
-
-use crate::bytes::{bytes_of, printed};
+use crate::bytes::{bytes_of, printed, printed_within, spelled};
+use crate::checks::{equal, equal_at, holds, holds_at};
+use crate::marks::{Sha1, Sha256};
+use crate::written::{is_carried, is_written};
 use pkcs1::der::{Decode, Encode, Error, ErrorKind, NoMemory, SliceWriter};
-use pkcs1::{RsaPssParamsRef, TrailerField};
+use pkcs1::{RsaPssParamsOwned, RsaPssParamsRef, TrailerField};
 use spki_core::{AnyRef, AssociatedOid};
 use std::test::Fail;
 
-/// SHA-1.
-pub struct Sha1;
-
-impl AssociatedOid for Sha1 {
-    ghost contents = { 0x2b ∷ 0x0e ∷ 0x03 ∷ 0x02 ∷ 0x1a ∷ [] };
-
-    ghost valid = { refl };
-
-    const OID: &'static [u8] = &[0x2b, 0x0e, 0x03, 0x02, 0x1a];
-
-    fn octets() -> &'static [u8] {
-        Self::OID
-    }
-}
-
-/// SHA-256.
-pub struct Sha256;
-
-impl AssociatedOid for Sha256 {
-    ghost contents = { 0x60 ∷ 0x86 ∷ 0x48 ∷ 0x01 ∷ 0x65 ∷ 0x03 ∷ 0x04 ∷ 0x02 ∷ 0x01 ∷ [] };
-
-    ghost valid = { refl };
-
-    const OID: &'static [u8] = &[0x60, 0x86, 0x48, 0x01, 0x65, 0x03, 0x04, 0x02, 0x01];
-
-    fn octets() -> &'static [u8] {
-        Self::OID
-    }
-}
-
 /// A text, how many fields have their defaults, and what is written again.
-const TEXTS: &str = "\
+pub const TEXTS: &str = "\
 3000 4 3000
 3005a203020114 4 3000
 3005a303020101 4 3000
@@ -56,21 +27,15 @@ fn texts_are_read_and_written_without_defaults(rt: HostRuntime) -> Result<(), Fa
         let (count, again) = rest.split_once(' ').ok_or("three parts")?;
         let (text, again) = (bytes_of(rt.alloc(), text)?, bytes_of(rt.alloc(), again)?);
         let params = RsaPssParamsRef::try_from(text.as_slice())?;
-        assert_eq!(rt; params.default_fields(), count.parse::<u8>()?, "at {row}");
+        equal_at(&rt, row, params.default_fields(), count.parse::<u8>()?);
         let is_default = params == RsaPssParamsRef::default();
-        assert_eq!(rt; is_default, count == "4", "at {row}");
-        let mut slice = [0xaa; 60];
-        assert_eq!(rt;
-            params.encode_to_slice(&mut slice)?,
-            again.as_slice(),
-            "at {row}"
-        );
-        assert_eq!(rt; slice[59], 0xaa, "at {row}");
-        assert_eq!(rt; params.encoded_len()?.to_usize(), again.len(), "at {row}");
-        assert_eq!(rt;
+        equal_at(&rt, row, is_default, count == "4");
+        holds_at(&rt, row, is_written(&params, again.as_slice())?);
+        equal_at(
+            &rt,
+            row,
             RsaPssParamsRef::from_der(NoMemory, again.as_slice())?,
             params,
-            "at {row}"
         );
     }
     Ok(())
@@ -82,19 +47,19 @@ fn each_way_of_writing_gives_the_same_text(rt: HostRuntime) -> Result<(), Fail> 
     let text = [0x30, 0x06, 0xa2, 0x04, 0x02, 0x02, 0x00, 0x80];
     let whole = [0x30, 0x06, 0xa2, 0x04, 0x02, 0x02, 0x00, 0x80, 0xaa, 0xaa];
     let mut slice = [0xaa; 10];
-    assert_eq!(rt; params.encode_params(&mut slice)?, 8);
-    assert_eq!(rt; slice, whole);
+    equal(&rt, params.encode_params(&mut slice)?, 8);
+    equal(&rt, slice, whole);
     let mut slice = [0xaa; 10];
-    assert_eq!(rt; params.encode_into(&mut slice)?, 8);
-    assert_eq!(rt; slice, whole);
+    equal(&rt, params.encode_into(&mut slice)?, 8);
+    equal(&rt, slice, whole);
     let mut slice = [0xaa; 10];
-    assert_eq!(rt; params.encode_to_slice(&mut slice)?, text.as_slice());
-    assert_eq!(rt; slice, whole);
+    equal(&rt, params.encode_to_slice(&mut slice)?, text.as_slice());
+    equal(&rt, slice, whole);
     let mut slice = [0xaa; 10];
     let mut writer = SliceWriter::new(&mut slice);
     params.encode(&mut writer)?;
-    assert_eq!(rt; writer.finish(), text.as_slice());
-    assert_eq!(rt; slice, whole);
+    equal(&rt, writer.finish(), text.as_slice());
+    equal(&rt, slice, whole);
     Ok(())
 }
 
@@ -104,16 +69,17 @@ fn sha_256_stands_in_both_fields(rt: HostRuntime) -> Result<(), Fail> {
         "3034a00f300d06096086480165030402010500a11c301a06092a864886f70d010108300d06096086480165030402010500a203020120";
     let text = bytes_of(rt.alloc(), text)?;
     let params = RsaPssParamsRef::try_from(text.as_slice())?;
-    assert_eq!(rt; params, RsaPssParamsRef::new::<Sha256>(32));
-    assert_eq!(rt; params.hash.oid.as_bytes(), Sha256::OID);
-    assert_eq!(rt; params.hash.parameters, Some(AnyRef::null()));
-    assert_eq!(rt; params.mask_gen.parameters, Some(params.hash));
-    assert_eq!(rt; params.salt_len, 32);
-    assert_eq!(rt; params.trailer_field, TrailerField::BC);
+    equal(&rt, params, RsaPssParamsRef::new::<Sha256>(32));
+    equal(&rt, params.hash.oid.as_bytes(), Sha256::OID);
+    equal(&rt, params.hash.parameters, Some(AnyRef::null()));
+    equal(&rt, params.mask_gen.parameters, Some(params.hash));
+    equal(&rt, params.salt_len, 32);
+    equal(&rt, params.trailer_field, TrailerField::BC);
     let mut slice = [0xaa; 54];
-    assert_eq!(rt;
+    equal(
+        &rt,
         RsaPssParamsRef::new::<Sha256>(32).encode_to_slice(&mut slice)?,
-        text.as_slice()
+        text.as_slice(),
     );
     Ok(())
 }
@@ -123,20 +89,20 @@ fn absent_parameters_are_no_null(rt: HostRuntime) -> Result<(), Fail> {
     let default = RsaPssParamsRef::default();
     let text = bytes_of(rt.alloc(), "300ba009300706052b0e03021a")?;
     let absent = RsaPssParamsRef::try_from(text.as_slice())?;
-    assert_eq!(rt; absent.hash.oid, default.hash.oid);
-    assert_eq!(rt; absent.hash.parameters, None);
-    assert_eq!(rt; absent.mask_gen, default.mask_gen);
+    equal(&rt, absent.hash.oid, default.hash.oid);
+    equal(&rt, absent.hash.parameters, None);
+    equal(&rt, absent.mask_gen, default.mask_gen);
     let text = bytes_of(rt.alloc(), "300ea00c300a06052b0e03021a050100")?;
     let long = RsaPssParamsRef::try_from(text.as_slice())?;
     let parameters = long.hash.parameters.ok_or("parameters")?;
-    assert_eq!(rt; parameters.tag(), AnyRef::null().tag());
-    assert_eq!(rt; parameters.value(), [0x00].as_slice());
-    assert!(rt; long != absent && long != default && absent != default);
+    equal(&rt, parameters.tag(), AnyRef::null().tag());
+    equal(&rt, parameters.value(), [0x00].as_slice());
+    holds(&rt, long != absent && long != default && absent != default);
     let text = bytes_of(rt.alloc(), "300fa10d300b06092a864886f70d010108")?;
     let mask = RsaPssParamsRef::try_from(text.as_slice())?;
-    assert_eq!(rt; mask.hash, default.hash);
-    assert_eq!(rt; mask.mask_gen.oid, default.mask_gen.oid);
-    assert_eq!(rt; mask.mask_gen.parameters, None);
+    equal(&rt, mask.hash, default.hash);
+    equal(&rt, mask.mask_gen.oid, default.mask_gen.oid);
+    equal(&rt, mask.mask_gen.parameters, None);
     Ok(())
 }
 
@@ -166,12 +132,15 @@ fn other_texts_are_refused(rt: HostRuntime) -> Result<(), Fail> {
         let (text, want) = row.split_once(' ').ok_or("two parts")?;
         let text = bytes_of(rt.alloc(), text)?;
         let answer = RsaPssParamsRef::try_from(text.as_slice());
-        assert_eq!(rt; printed(rt.alloc(), answer)?.as_str(), want, "at {row}");
+        equal_at(&rt, row, printed(rt.alloc(), answer)?.as_str(), want);
+        let answer = RsaPssParamsOwned::from_der(rt.alloc(), text.as_slice());
+        equal_at(&rt, row, printed_within(rt.alloc(), answer)?.as_str(), want);
     }
     let incomplete = Error::new(ErrorKind::Incomplete);
-    assert_eq!(rt;
+    equal(
+        &rt,
         RsaPssParamsRef::try_from([].as_slice()),
-        Err(pkcs1::Error::Asn1(incomplete))
+        Err(pkcs1::Error::Asn1(incomplete)),
     );
     Ok(())
 }
@@ -186,21 +155,19 @@ const SALTS: &str = "\
 
 #[test]
 fn lengths_of_salts_are_written(rt: HostRuntime) -> Result<(), Fail> {
-    assert_eq!(rt; RsaPssParamsRef::SALT_LEN_DEFAULT, 20);
+    equal(&rt, RsaPssParamsRef::SALT_LEN_DEFAULT, 20);
     for row in SALTS.lines() {
         let (salt_len, text) = row.split_once(' ').ok_or("two parts")?;
         let (salt_len, text) = (salt_len.parse::<u8>()?, bytes_of(rt.alloc(), text)?);
         let params = RsaPssParamsRef::new::<Sha1>(salt_len);
-        let mut slice = [0xaa; 8];
-        assert_eq!(rt;
-            params.encode_to_slice(&mut slice)?,
-            text.as_slice(),
-            "at {row}"
-        );
-        assert_eq!(rt;
-            RsaPssParamsRef::try_from(text.as_slice())?.salt_len,
-            salt_len,
-            "at {row}"
+        holds_at(&rt, row, is_written(&params, text.as_slice())?);
+        let read = RsaPssParamsRef::try_from(text.as_slice())?;
+        equal_at(&rt, row, read.salt_len, salt_len);
+        let text = text.as_slice();
+        holds_at(
+            &rt,
+            row,
+            is_carried::<RsaPssParamsOwned>(rt.alloc(), text, text)?,
         );
     }
     Ok(())
@@ -211,27 +178,30 @@ fn a_short_slice_stays_as_it_was(rt: HostRuntime) {
     let params = RsaPssParamsRef::new::<Sha256>(32);
     let no_room = Error::new(ErrorKind::NoRoom);
     let mut slice = [0xaa; 53];
-    assert_eq!(rt;
+    equal(
+        &rt,
         params.encode_to_slice(&mut slice).map(|_| ()),
-        Err(no_room)
+        Err(no_room),
     );
-    assert_eq!(rt; slice, [0xaa; 53]);
-    assert_eq!(rt;
+    equal(&rt, slice, [0xaa; 53]);
+    equal(
+        &rt,
         params.encode_params(&mut slice),
-        Err(pkcs1::Error::Asn1(no_room))
+        Err(pkcs1::Error::Asn1(no_room)),
     );
-    assert_eq!(rt; slice, [0xaa; 53]);
+    equal(&rt, slice, [0xaa; 53]);
 }
 
 #[test]
 fn values_are_compared_cloned_and_printed(rt: HostRuntime) -> Result<(), Fail> {
     let params = RsaPssParamsRef::new::<Sha256>(32);
-    assert_eq!(rt; params.clone()?, params);
-    assert!(rt; params != RsaPssParamsRef::new::<Sha256>(33));
-    assert!(rt; params != RsaPssParamsRef::new::<Sha1>(32));
-    assert_eq!(rt;
+    equal(&rt, params.clone()?, params);
+    holds(&rt, params != RsaPssParamsRef::new::<Sha256>(33));
+    holds(&rt, params != RsaPssParamsRef::new::<Sha1>(32));
+    equal(
+        &rt,
         RsaPssParamsRef::default(),
-        RsaPssParamsRef::new::<Sha1>(20)
+        RsaPssParamsRef::new::<Sha1>(20),
     );
     let printed = format!(in rt.alloc(); "{params:?}")?;
     for word in [
@@ -241,7 +211,7 @@ fn values_are_compared_cloned_and_printed(rt: HostRuntime) -> Result<(), Fail> {
         "salt_len: 32",
         "trailer_field: BC",
     ] {
-        assert!(rt; printed.contains(word), "{word}");
+        holds_at(&rt, word, printed.contains(word));
     }
     Ok(())
 }
@@ -249,15 +219,15 @@ fn values_are_compared_cloned_and_printed(rt: HostRuntime) -> Result<(), Fail> {
 #[test]
 fn the_trailer_field_is_one(rt: HostRuntime) -> Result<(), Fail> {
     let trailer = TrailerField::default();
-    assert_eq!(rt; trailer, TrailerField::BC);
+    equal(&rt, trailer, TrailerField::BC);
     let mut slice = [0xaa; 4];
     let text = [0x02, 0x01, 0x01];
-    assert_eq!(rt; trailer.encode_to_slice(&mut slice)?, text.as_slice());
-    assert_eq!(rt; slice[3], 0xaa);
+    equal(&rt, trailer.encode_to_slice(&mut slice)?, text.as_slice());
+    equal(&rt, slice[3], 0xaa);
     let mut writer = SliceWriter::new(&mut slice);
     trailer.encode(&mut writer)?;
-    assert_eq!(rt; writer.finish(), text.as_slice());
-    assert_eq!(rt; TrailerField::from_der(NoMemory, &text)?, trailer);
+    equal(&rt, writer.finish(), text.as_slice());
+    equal(&rt, TrailerField::from_der(NoMemory, &text)?, trailer);
     Ok(())
 }
 
@@ -271,25 +241,14 @@ a303020101";
 #[test]
 fn each_choice_of_written_defaults_is_the_default(rt: HostRuntime) -> Result<(), Fail> {
     for choice in 0..16_u8 {
-        let mut contents = Vec::new(rt.alloc());
-        let mut rest = choice;
-        for default in DEFAULTS.lines() {
-            if rest % 2 == 1 {
-                contents.extend_from_slice(bytes_of(rt.alloc(), default)?.as_slice())?;
-            }
-            rest /= 2;
-        }
-        let mut text = Vec::from_array(rt.alloc(), [0x30, u8::try_from(contents.len())?])?;
-        text.extend_from_slice(contents.as_slice())?;
+        let text = spelled(rt.alloc(), DEFAULTS, choice)?;
         let params = RsaPssParamsRef::try_from(text.as_slice())?;
-        assert_eq!(rt; params, RsaPssParamsRef::default(), "at {choice}");
-        assert_eq!(rt; params.default_fields(), 4, "at {choice}");
-        let mut slice = [0xaa; 2];
-        assert_eq!(rt;
-            params.encode_to_slice(&mut slice)?,
-            [0x30, 0x00].as_slice(),
-            "at {choice}"
-        );
+        equal_at(&rt, choice, params, RsaPssParamsRef::default());
+        equal_at(&rt, choice, params.default_fields(), 4);
+        let empty = [0x30, 0x00];
+        holds_at(&rt, choice, is_written(&params, &empty)?);
+        let carried = is_carried::<RsaPssParamsOwned>(rt.alloc(), text.as_slice(), &empty)?;
+        holds_at(&rt, choice, carried);
     }
     Ok(())
 }

@@ -1,11 +1,13 @@
 //! Rows of RSA public keys.
-use crate::bytes::{bytes_of, printed};
+use crate::bytes::{bytes_of, printed, printed_within};
+use crate::checks::{equal, equal_at, holds_at};
+use crate::written::{is_carried, is_written};
 use der_core::{Decode, Encode, Error, ErrorKind, NoMemory, SliceReader, UintRef};
-use pkcs1::{RsaPublicKey, RsaPublicKeyRef};
+use pkcs1::{RsaPublicKey, RsaPublicKeyOwned, RsaPublicKeyRef};
 use std::test::Fail;
 
 /// A text, and the modulus and public exponent of its key.
-const SENTENCES: &str = "\
+pub const SENTENCES: &str = "\
 3006020107020103 07 03
 300702020080020103 80 03
 3006020100020100 00 00
@@ -22,21 +24,23 @@ fn sentences_are_read_and_written_again(rt: HostRuntime) -> Result<(), Fail> {
             bytes_of(rt.alloc(), exponent)?,
         );
         let key = RsaPublicKeyRef::try_from(text.as_slice())?;
-        assert_eq!(rt; key.modulus.as_bytes(), modulus.as_slice(), "at {row}");
-        assert_eq!(rt;
+        equal_at(&rt, row, key.modulus.as_bytes(), modulus.as_slice());
+        equal_at(
+            &rt,
+            row,
             key.public_exponent.as_bytes(),
             exponent.as_slice(),
-            "at {row}"
         );
         let mut slice = [0xaa; 12];
         let length = key.encode_key(&mut slice)?;
-        assert_eq!(rt; &slice[..length], text.as_slice(), "at {row}");
-        assert_eq!(rt; slice[11], 0xaa, "at {row}");
+        equal_at(&rt, row, &slice[..length], text.as_slice());
+        equal_at(&rt, row, slice[11], 0xaa);
         let mut reader = SliceReader::new(text.as_slice())?;
-        assert_eq!(rt;
+        equal_at(
+            &rt,
+            row,
             RsaPublicKeyRef::decode(NoMemory, &mut reader)?,
             key,
-            "at {row}"
         );
     }
     Ok(())
@@ -65,11 +69,13 @@ fn other_texts_are_refused(rt: HostRuntime) -> Result<(), Fail> {
         let (text, want) = row.split_once(' ').ok_or("two parts")?;
         let text = bytes_of(rt.alloc(), text)?;
         let answer = RsaPublicKeyRef::try_from(text.as_slice());
-        assert_eq!(rt; printed(rt.alloc(), answer)?.as_str(), want, "at {row}");
+        equal_at(&rt, row, printed(rt.alloc(), answer)?.as_str(), want);
+        let answer = RsaPublicKeyOwned::from_der(rt.alloc(), text.as_slice());
+        equal_at(&rt, row, printed_within(rt.alloc(), answer)?.as_str(), want);
     }
     let nothing = RsaPublicKeyRef::try_from([].as_slice());
     let want = "PKCS#1 ASN.1 error: the input ends too early";
-    assert_eq!(rt; printed(rt.alloc(), nothing)?.as_str(), want);
+    equal(&rt, printed(rt.alloc(), nothing)?.as_str(), want);
     Ok(())
 }
 
@@ -81,20 +87,25 @@ fn a_short_slice_stays_as_it_was(rt: HostRuntime) -> Result<(), Fail> {
     };
     let mut slice = [0xaa; 7];
     let no_room = Error::new(ErrorKind::NoRoom);
-    assert_eq!(rt;
+    equal(
+        &rt,
         key.encode_key(&mut slice),
-        Err(pkcs1::Error::Asn1(no_room))
+        Err(pkcs1::Error::Asn1(no_room)),
     );
-    assert_eq!(rt; slice, [0xaa; 7]);
-    assert_eq!(rt; key.encode_into(&mut slice), Err(no_room));
-    assert_eq!(rt; slice, [0xaa; 7]);
-    assert_eq!(rt; key.encode_to_slice(&mut slice).map(|_| ()), Err(no_room));
-    assert_eq!(rt; slice, [0xaa; 7]);
+    equal(&rt, slice, [0xaa; 7]);
+    equal(&rt, key.encode_into(&mut slice), Err(no_room));
+    equal(&rt, slice, [0xaa; 7]);
+    equal(
+        &rt,
+        key.encode_to_slice(&mut slice).map(|_| ()),
+        Err(no_room),
+    );
+    equal(&rt, slice, [0xaa; 7]);
     let mut slice = [0xaa; 10];
     let text = [0x30, 0x06, 0x02, 0x01, 0x07, 0x02, 0x01, 0x03];
-    assert_eq!(rt; key.encode_to_slice(&mut slice[..8])?, text.as_slice());
-    assert_eq!(rt; key.encode_to_slice(&mut slice)?, text.as_slice());
-    assert_eq!(rt; &slice[8..], [0xaa, 0xaa].as_slice());
+    equal(&rt, key.encode_to_slice(&mut slice[..8])?, text.as_slice());
+    equal(&rt, key.encode_to_slice(&mut slice)?, text.as_slice());
+    equal(&rt, &slice[8..], [0xaa, 0xaa].as_slice());
     Ok(())
 }
 
@@ -117,9 +128,15 @@ fn headers_grow_with_the_modulus(rt: HostRuntime) -> Result<(), Fail> {
         };
         let mut slice = [0; 270];
         let text = key.encode_to_slice(&mut slice)?;
-        assert!(rt; text.starts_with(begins.as_slice()), "at {row}");
-        assert!(rt; text.ends_with(&[0x02, 0x01, 0x03]), "at {row}");
-        assert_eq!(rt; RsaPublicKeyRef::try_from(text)?, key, "at {row}");
+        holds_at(&rt, row, text.starts_with(begins.as_slice()));
+        holds_at(&rt, row, text.ends_with(&[0x02, 0x01, 0x03]));
+        equal_at(&rt, row, RsaPublicKeyRef::try_from(text)?, key);
+        holds_at(&rt, row, is_written(&key, text)?);
+        holds_at(
+            &rt,
+            row,
+            is_carried::<RsaPublicKeyOwned>(rt.alloc(), text, text)?,
+        );
     }
     Ok(())
 }

@@ -1,6 +1,8 @@
 //! A key of 2048 bits.
 use crate::bytes::bytes_of;
+use crate::checks::{equal, holds};
 use crate::owned::same_key;
+use crate::written::{is_carried, is_held, is_written};
 use pkcs1::der::{AsUintRef, Decode, Encode, Error, ErrorKind, Uint};
 use pkcs1::{
     RsaPrivateKey, RsaPrivateKeyOwned, RsaPrivateKeyRef, RsaPublicKey, RsaPublicKeyOwned,
@@ -105,74 +107,50 @@ fn private_text(alloc: Global) -> Result<Vec<u8>, Fail> {
 
 #[test]
 fn the_public_key_is_written_and_read_again(rt: HostRuntime) -> Result<(), Fail> {
-    let (key, want) = (public_key(rt.alloc())?, public_text(rt.alloc())?);
-    let borrowed = RsaPublicKey {
-        modulus: key.modulus.as_uint_ref(),
-        public_exponent: key.public_exponent.as_uint_ref(),
-    };
-    let mut slice = [0xaa; 280];
-    let text = borrowed.encode_to_slice(&mut slice)?;
-    assert_eq!(rt; text.len(), 270);
-    let begins = bytes_of(rt.alloc(), "3082010a0282010100b6c42c51")?;
-    assert!(rt; text.starts_with(begins.as_slice()));
-    assert_eq!(rt; text, want.as_slice());
-    assert_eq!(rt; RsaPublicKeyRef::try_from(text)?, borrowed);
-    assert_eq!(rt; RsaPublicKeyOwned::from_der(rt.alloc(), text)?, key);
-    let mut slice = [0xaa; 270];
-    assert_eq!(rt; key.encode_to_slice(&mut slice)?, want.as_slice());
+    let alloc = rt.alloc();
+    let (key, text) = (public_key(alloc)?, public_text(alloc)?);
+    let text = text.as_slice();
+    equal(&rt, text.len(), 270);
+    let begins = bytes_of(alloc, "3082010a0282010100b6c42c51")?;
+    holds(&rt, text.starts_with(begins.as_slice()));
+    let read = RsaPublicKeyRef::try_from(text)?;
+    equal(&rt, read.modulus, key.modulus.as_uint_ref());
+    equal(&rt, read.public_exponent, key.public_exponent.as_uint_ref());
+    holds(&rt, is_written(&read, text)?);
+    holds(&rt, is_written(&key, text)?);
+    holds(&rt, is_held(alloc, &key, text)?);
+    holds(&rt, is_carried::<RsaPublicKeyOwned>(alloc, text, text)?);
     let mut slice = [0xaa; 269];
     let no_room = Error::new(ErrorKind::NoRoom);
-    assert_eq!(rt;
-        borrowed.encode_to_slice(&mut slice).map(|_| ()),
-        Err(no_room)
-    );
-    assert_eq!(rt; slice, [0xaa; 269]);
-    assert_eq!(rt; key.encode_to_slice(&mut slice).map(|_| ()), Err(no_room));
-    assert_eq!(rt; slice, [0xaa; 269]);
+    equal(&rt, read.encode_into(&mut slice), Err(no_room));
+    equal(&rt, key.encode_into(&mut slice), Err(no_room));
+    equal(&rt, slice, [0xaa; 269]);
     Ok(())
 }
 
 #[test]
 fn the_private_key_is_written_and_read_again(rt: HostRuntime) -> Result<(), Fail> {
-    let (key, want) = (private_key(rt.alloc())?, private_text(rt.alloc())?);
-    let borrowed = RsaPrivateKey {
-        modulus: key.modulus.as_uint_ref(),
-        public_exponent: key.public_exponent.as_uint_ref(),
-        private_exponent: key.private_exponent.as_uint_ref(),
-        prime1: key.prime1.as_uint_ref(),
-        prime2: key.prime2.as_uint_ref(),
-        exponent1: key.exponent1.as_uint_ref(),
-        exponent2: key.exponent2.as_uint_ref(),
-        coefficient: key.coefficient.as_uint_ref(),
-        other_prime_infos: None,
-    };
-    let mut slice = [0xaa; 1200];
-    let text = borrowed.encode_to_slice(&mut slice)?;
-    assert_eq!(rt; text.len(), 1191);
-    let begins = bytes_of(rt.alloc(), "308204a30201000282010100b6c42c51")?;
-    assert!(rt; text.starts_with(begins.as_slice()));
-    assert_eq!(rt; text, want.as_slice());
-    let read = RsaPrivateKeyRef::decode_key(rt.alloc(), text)?;
-    assert!(rt; same_key(&key, &read));
-    let owned = RsaPrivateKeyOwned::from_der(rt.alloc(), text)?;
-    assert!(rt; same_key(&owned, &borrowed));
-    let public = public_key(rt.alloc())?;
-    assert_eq!(rt; read.public_key().modulus, public.modulus.as_uint_ref());
-    assert_eq!(rt;
-        read.public_key().public_exponent,
-        public.public_exponent.as_uint_ref()
-    );
-    assert_eq!(rt; owned.public_key(), read.public_key());
-    let mut slice = [0xaa; 1191];
-    assert_eq!(rt; key.encode_to_slice(&mut slice)?, want.as_slice());
+    let alloc = rt.alloc();
+    let (key, text) = (private_key(alloc)?, private_text(alloc)?);
+    let text = text.as_slice();
+    equal(&rt, text.len(), 1191);
+    let begins = bytes_of(alloc, "308204a30201000282010100b6c42c51")?;
+    holds(&rt, text.starts_with(begins.as_slice()));
+    let read = RsaPrivateKeyRef::decode_key(alloc, text)?;
+    holds(&rt, same_key(&key, &read));
+    holds(&rt, is_written(&read, text)?);
+    holds(&rt, is_written(&key, text)?);
+    holds(&rt, is_held(alloc, &key, text)?);
+    holds(&rt, is_carried::<RsaPrivateKeyOwned>(alloc, text, text)?);
+    let public = public_key(alloc)?;
+    equal(&rt, read.public_key().modulus, public.modulus.as_uint_ref());
+    equal(&rt, key.public_key(), read.public_key());
+    let exponent = public.public_exponent.as_uint_ref();
+    equal(&rt, read.public_key().public_exponent, exponent);
     let mut slice = [0xaa; 1190];
     let no_room = Error::new(ErrorKind::NoRoom);
-    assert_eq!(rt;
-        borrowed.encode_to_slice(&mut slice).map(|_| ()),
-        Err(no_room)
-    );
-    assert_eq!(rt; slice, [0xaa; 1190]);
-    assert_eq!(rt; key.encode_to_slice(&mut slice).map(|_| ()), Err(no_room));
-    assert_eq!(rt; slice, [0xaa; 1190]);
+    equal(&rt, read.encode_into(&mut slice), Err(no_room));
+    equal(&rt, key.encode_into(&mut slice), Err(no_room));
+    equal(&rt, slice, [0xaa; 1190]);
     Ok(())
 }
