@@ -1,6 +1,6 @@
 //! Rows of algorithm identifiers, texts of any tag, explicit fields, and last parts.
-use crate::bytes::{bytes_of, printed};
-use crate::checks::{equal, equal_at, holds, holds_at};
+use crate::bytes::{bytes_of, printed, three_parts, two_parts};
+use crate::checks::{equal, equal_at, holds, holds_at, refused_at};
 use crate::marks::Sha1;
 use crate::written::is_written;
 use der_core::{
@@ -82,8 +82,7 @@ pub const ALGORITHMS: &str = "\
 #[test]
 fn algorithms_are_read_and_written_again(rt: HostRuntime) -> Result<(), Fail> {
     for row in ALGORITHMS.lines() {
-        let (text, rest) = row.split_once(' ').ok_or("three parts")?;
-        let (oid, parameters) = rest.split_once(' ').ok_or("three parts")?;
+        let (text, oid, parameters) = three_parts(row)?;
         let (text, oid) = (bytes_of(rt.alloc(), text)?, bytes_of(rt.alloc(), oid)?);
         let algorithm = AlgorithmIdentifierRef::from_der(NoMemory, text.as_slice())?;
         equal_at(&rt, row, algorithm.oid.as_bytes(), oid.as_slice());
@@ -130,10 +129,10 @@ const NO_ALGORITHMS: &str = "\
 #[test]
 fn other_texts_are_no_algorithms(rt: HostRuntime) -> Result<(), Fail> {
     for row in NO_ALGORITHMS.lines() {
-        let (text, want) = row.split_once(' ').ok_or("two parts")?;
+        let (text, want) = two_parts(row)?;
         let text = bytes_of(rt.alloc(), text)?;
         let answer = AlgorithmIdentifierRef::from_der(NoMemory, text.as_slice());
-        equal_at(&rt, row, printed(rt.alloc(), answer)?.as_str(), want);
+        refused_at(&rt, rt.alloc(), row, answer, want)?;
     }
     Ok(())
 }
@@ -228,10 +227,10 @@ ff00 the tag octet 0xff is not known
 #[test]
 fn other_octets_are_no_texts(rt: HostRuntime) -> Result<(), Fail> {
     for row in NO_TEXTS.lines() {
-        let (text, want) = row.split_once(' ').ok_or("two parts")?;
+        let (text, want) = two_parts(row)?;
         let text = bytes_of(rt.alloc(), text)?;
         let answer = AnyRef::from_der(NoMemory, text.as_slice());
-        equal_at(&rt, row, printed(rt.alloc(), answer)?.as_str(), want);
+        refused_at(&rt, rt.alloc(), row, answer, want)?;
     }
     Ok(())
 }
@@ -257,7 +256,7 @@ a103020114 absent
 fn a_field_is_read_exactly_where_its_octet_is_next(rt: HostRuntime) -> Result<(), Fail> {
     let number = TagNumber::new(2);
     for row in EXPLICIT_FIELDS.lines() {
-        let (octets, want) = row.split_once(' ').ok_or("two parts")?;
+        let (octets, want) = two_parts(row)?;
         let octets = bytes_of(rt.alloc(), octets)?;
         let mut reader = SliceReader::new(octets.as_slice())?;
         let next = reader.peek_octet();
@@ -306,11 +305,11 @@ a2 the input ends too early";
 fn a_refused_field_leaves_a_reader_that_has_failed(rt: HostRuntime) -> Result<(), Fail> {
     let (number, failed) = (TagNumber::new(2), Error::new(ErrorKind::Failed));
     for row in NO_EXPLICIT_FIELDS.lines() {
-        let (octets, want) = row.split_once(' ').ok_or("two parts")?;
+        let (octets, want) = two_parts(row)?;
         let octets = bytes_of(rt.alloc(), octets)?;
         let mut reader = SliceReader::new(octets.as_slice())?;
         let refused = read_context_specific::<u8, _, _>(NoMemory, &mut reader, number);
-        equal_at(&rt, row, printed(rt.alloc(), refused)?.as_str(), want);
+        refused_at(&rt, rt.alloc(), row, refused, want)?;
         equal_at(&rt, row, reader.remaining_len(), Length::ZERO);
         equal_at(&rt, row, reader.peek_octet(), None);
         equal_at(&rt, row, reader.read_slice(Length::ZERO), Err(failed));
@@ -322,7 +321,7 @@ fn a_refused_field_leaves_a_reader_that_has_failed(rt: HostRuntime) -> Result<()
         );
         let mut reader = SliceReader::new(octets.as_slice())?;
         let refused = read_field(NoMemory, &mut reader, number, 20_u8);
-        equal_at(&rt, row, printed(rt.alloc(), refused)?.as_str(), want);
+        refused_at(&rt, rt.alloc(), row, refused, want)?;
         equal_at(
             &rt,
             row,
@@ -427,14 +426,14 @@ fn last_parts_are_all_that_is_left(rt: HostRuntime) -> Result<(), Fail> {
         Ok(Some(20)),
     );
     for row in NO_LAST_PARTS.lines() {
-        let (octets, want) = row.split_once(' ').ok_or("two parts")?;
+        let (octets, want) = two_parts(row)?;
         let octets = bytes_of(rt.alloc(), octets)?;
         let mut reader = SliceReader::new(octets.as_slice())?;
         let refused = decode_whole::<u8, _, _>(NoMemory, &mut reader);
-        equal_at(&rt, row, printed(rt.alloc(), refused)?.as_str(), want);
+        refused_at(&rt, rt.alloc(), row, refused, want)?;
         let mut reader = SliceReader::new(octets.as_slice())?;
         let refused = decode_last::<u8, _, _>(NoMemory, &mut reader);
-        equal_at(&rt, row, printed(rt.alloc(), refused)?.as_str(), want);
+        refused_at(&rt, rt.alloc(), row, refused, want)?;
     }
     Ok(())
 }

@@ -8,6 +8,18 @@ pub fn bytes_of(alloc: Global, text: &str) -> Result<Vec<u8>, Fail> {
     Ok(hex::decode(alloc, text)?)
 }
 
+/// The two parts of a row, of which the second may have spaces.
+pub fn two_parts(row: &str) -> Result<(&str, &str), Fail> {
+    Ok(row.split_once(' ').ok_or("two parts")?)
+}
+
+/// The three parts of a row.
+pub fn three_parts(row: &str) -> Result<(&str, &str, &str), Fail> {
+    let (first, rest) = two_parts(row)?;
+    let (second, third) = two_parts(rest)?;
+    Ok((first, second, third))
+}
+
 /// The SEQUENCE of those defaults that the choice takes: the first where its lowest bit is one, and so on.
 pub fn spelled(alloc: Global, defaults: &str, choice: u8) -> Result<Vec<u8>, Fail> {
     let mut contents = Vec::new(alloc);

@@ -1,6 +1,7 @@
 //! Numbers and documents that own their bytes.
-use crate::bytes::{bytes_of, printed};
-use crate::checks::{equal, equal_at, holds};
+use crate::bytes::{bytes_of, two_parts};
+use crate::checks::{equal, equal_at, holds, holds_at, refused_at};
+use crate::written::{is_held, is_written};
 use der_core::{
     AsUintRef, Decode, Document, Encode, Error, ErrorKind, Length, SecretDocument, Tag, TryClone,
     Uint, UintRef,
@@ -40,12 +41,12 @@ const NO_DOCUMENTS: &str = "\
 #[test]
 fn other_bytes_are_no_document(rt: HostRuntime) -> Result<(), Fail> {
     for row in NO_DOCUMENTS.lines() {
-        let (text, want) = row.split_once(' ').ok_or("two parts")?;
+        let (text, want) = two_parts(row)?;
         let text = bytes_of(rt.alloc(), text)?;
         let refused = Document::from_der(rt.alloc(), text.as_slice());
-        equal_at(&rt, row, printed(rt.alloc(), refused)?.as_str(), want);
+        refused_at(&rt, rt.alloc(), row, refused, want)?;
         let refused = SecretDocument::from_der(rt.alloc(), text.as_slice());
-        equal_at(&rt, row, printed(rt.alloc(), refused)?.as_str(), want);
+        refused_at(&rt, rt.alloc(), row, refused, want)?;
     }
     let incomplete = Error::new(ErrorKind::Incomplete);
     equal(&rt, Document::from_der(rt.alloc(), &[]), Err(incomplete));
@@ -64,12 +65,12 @@ fn a_document_holds_the_text_of_a_key(rt: HostRuntime) -> Result<(), Fail> {
         public_exponent: UintRef::new(&[0x03])?,
     };
     let text = bytes_of(rt.alloc(), "3006020107020103")?;
-    let document = Document::encode_msg(rt.alloc(), &key)?;
-    equal(&rt, document.as_bytes(), text.as_slice());
-    equal(&rt, document.len(), key.encoded_len()?);
-    let secret = SecretDocument::encode_msg(rt.alloc(), &key)?;
-    equal(&rt, secret.as_bytes(), text.as_slice());
-    equal(&rt, secret.len(), key.encoded_len()?);
+    holds(&rt, is_held(rt.alloc(), &key, text.as_slice())?);
+    Ok(())
+}
+
+#[test]
+fn a_document_may_have_a_long_length(rt: HostRuntime) -> Result<(), Fail> {
     let bytes = vec![in rt.alloc(); 0x11; 300]?;
     let long = RsaPublicKey {
         modulus: UintRef::new(bytes.as_slice())?,
@@ -125,7 +126,7 @@ ff00 ff00";
 #[test]
 fn a_number_is_stripped(rt: HostRuntime) -> Result<(), Fail> {
     for row in NUMBERS.lines() {
-        let (given, want) = row.split_once(' ').ok_or("two parts")?;
+        let (given, want) = two_parts(row)?;
         let given = bytes_of(rt.alloc(), given)?;
         let want = bytes_of(rt.alloc(), want)?;
         let number = Uint::new(rt.alloc(), given.as_slice())?;
@@ -134,12 +135,9 @@ fn a_number_is_stripped(rt: HostRuntime) -> Result<(), Fail> {
         equal_at(&rt, row, number.as_uint_ref(), borrowed);
         equal_at(&rt, row, &number.try_clone(rt.alloc())?, &number);
         let mut slice = [0xaa; 8];
-        let mut other = [0xaa; 8];
-        let length = number.encode_into(&mut slice)?;
-        equal_at(&rt, row, borrowed.encode_into(&mut other)?, length);
-        equal_at(&rt, row, slice, other);
-        let again = Uint::from_der(rt.alloc(), &slice[..length])?;
-        equal_at(&rt, row, again, number);
+        let text = borrowed.encode_to_slice(&mut slice)?;
+        holds_at(&rt, row, is_written(&number, text)?);
+        equal_at(&rt, row, Uint::from_der(rt.alloc(), text)?, number);
     }
     let refused = Error::new(ErrorKind::Length { tag: Tag::INTEGER });
     equal(&rt, Uint::new(rt.alloc(), &[]), Err(refused));
@@ -161,7 +159,7 @@ const INTEGERS: &str = "\
 #[test]
 fn owned_numbers_are_read_as_borrowed_ones(rt: HostRuntime) -> Result<(), Fail> {
     for row in INTEGERS.lines() {
-        let (text, want) = row.split_once(' ').ok_or("two parts")?;
+        let (text, want) = two_parts(row)?;
         let text = bytes_of(rt.alloc(), text)?;
         match UintRef::from_der(rt.alloc(), text.as_slice()) {
             Ok(number) => {
@@ -173,7 +171,7 @@ fn owned_numbers_are_read_as_borrowed_ones(rt: HostRuntime) -> Result<(), Fail> 
             Err(error) => {
                 let answer = Uint::from_der(rt.alloc(), text.as_slice());
                 equal_at(&rt, row, &answer, &Err(error));
-                equal_at(&rt, row, printed(rt.alloc(), answer)?.as_str(), want);
+                refused_at(&rt, rt.alloc(), row, answer, want)?;
             }
         }
     }

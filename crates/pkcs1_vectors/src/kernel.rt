@@ -1,6 +1,7 @@
 //! Rows of the kernel.
-use crate::bytes::{bytes_of, printed};
-use crate::checks::{equal, equal_at, holds};
+use crate::bytes::{bytes_of, printed, three_parts, two_parts};
+use crate::checks::{equal, equal_at, holds, holds_at, refused_at};
+use crate::written::is_written;
 use der_core::{
     BackWriter, Decode, Encode, EncodeValue, Error, ErrorKind, Header, Length, NoMemory, Reader,
     SliceReader, SliceWriter, Tag, UintRef, Writer,
@@ -22,7 +23,7 @@ const LENGTHS: &str = "\
 #[test]
 fn lengths_are_written_and_read_again(rt: HostRuntime) -> Result<(), Fail> {
     for row in LENGTHS.lines() {
-        let (number, octets) = row.split_once(' ').ok_or("two parts")?;
+        let (number, octets) = two_parts(row)?;
         let octets = bytes_of(rt.alloc(), octets)?;
         let length = Length::try_from(number.parse::<usize>()?)?;
         equal_at(&rt, row, length.to_bytes().as_slice(), octets.as_slice());
@@ -47,11 +48,11 @@ ff a length passes the limit
 #[test]
 fn lengths_are_refused(rt: HostRuntime) -> Result<(), Fail> {
     for row in NO_LENGTHS.lines() {
-        let (octets, text) = row.split_once(' ').ok_or("two parts")?;
+        let (octets, text) = two_parts(row)?;
         let octets = bytes_of(rt.alloc(), octets)?;
         let mut reader = SliceReader::new(octets.as_slice())?;
         let refused = Length::decode(&mut reader);
-        equal_at(&rt, row, printed(rt.alloc(), refused)?.as_str(), text);
+        refused_at(&rt, rt.alloc(), row, refused, text)?;
         equal_at(&rt, row, reader.remaining_len(), Length::ZERO);
         equal_at(&rt, row, reader.peek_octet(), None);
         equal_at(
@@ -195,20 +196,12 @@ const INTEGERS: &str = "\
 #[test]
 fn integers_are_written_and_read_again(rt: HostRuntime) -> Result<(), Fail> {
     for row in INTEGERS.lines() {
-        let (bytes, rest) = row.split_once(' ').ok_or("three parts")?;
-        let (number, text) = rest.split_once(' ').ok_or("three parts")?;
+        let (bytes, number, text) = three_parts(row)?;
         let (bytes, number) = (bytes_of(rt.alloc(), bytes)?, bytes_of(rt.alloc(), number)?);
         let text = bytes_of(rt.alloc(), text)?;
         let integer = UintRef::new(bytes.as_slice())?;
         equal_at(&rt, row, integer.as_bytes(), number.as_slice());
-        let mut slice = [0; 8];
-        equal_at(
-            &rt,
-            row,
-            integer.encode_to_slice(&mut slice)?,
-            text.as_slice(),
-        );
-        equal_at(&rt, row, integer.encoded_len()?.to_usize(), text.len());
+        holds_at(&rt, row, is_written(&integer, text.as_slice())?);
         equal_at(
             &rt,
             row,

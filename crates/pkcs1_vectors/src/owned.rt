@@ -1,5 +1,5 @@
 //! Owned forms: each text that is accepted is read, copied, held by documents, and written again.
-use crate::bytes::bytes_of;
+use crate::bytes::{bytes_of, three_parts, two_parts};
 use crate::checks::{equal, equal_at, holds, holds_at};
 use crate::written::{is_carried, is_held, is_written};
 use crate::{algorithms, oaep, private_keys, pss, public_keys};
@@ -9,47 +9,42 @@ use pkcs1::der::{
 };
 use pkcs1::{
     OtherPrimeInfo, RsaOaepParamsOwned, RsaOaepParamsRef, RsaPrivateKeyOwned, RsaPrivateKeyRef,
-    RsaPssParamsOwned, RsaPssParamsRef, RsaPublicKeyOwned, RsaPublicKeyRef, UintRef,
+    RsaPssParamsOwned, RsaPssParamsRef, RsaPublicKeyOwned, RsaPublicKeyRef,
 };
-use spki_core::{AlgorithmIdentifier, AlgorithmIdentifierRef, Any, AnyParams, AnyRef, AnyValue};
+use spki_core::{
+    AlgorithmIdentifier, AlgorithmIdentifierRef, Any, AnyParams, AnyRef, AnyValue,
+    AsAlgorithmIdentifierRef,
+};
 use std::alloc::Global;
 use std::test::Fail;
+
+/// The number that the hexadecimal text spells.
+pub fn number(alloc: Global, text: &str) -> Result<Uint, Fail> {
+    let bytes = bytes_of(alloc, text)?;
+    Ok(Uint::new(alloc, bytes.as_slice())?)
+}
 
 /// Whether a copy of the value is equal to it.
 fn copies_equal<T: TryClone + PartialEq>(alloc: Global, value: &T) -> Result<bool, Fail> {
     Ok(value.try_clone(alloc)? == *value)
 }
 
-/// What comes before the first space.
-fn first(row: &str) -> Result<&str, Fail> {
-    let (first, _) = row.split_once(' ').ok_or("two parts")?;
-    Ok(first)
-}
-
 #[test]
 fn public_keys_are_carried(rt: HostRuntime) -> Result<(), Fail> {
     let alloc = rt.alloc();
     for row in public_keys::SENTENCES.lines() {
-        let text = bytes_of(alloc, first(row)?)?;
+        let (text, modulus, exponent) = three_parts(row)?;
+        let text = bytes_of(alloc, text)?;
         let text = text.as_slice();
-        let key = RsaPublicKeyOwned::from_der(alloc, text)?;
-        let borrowed = RsaPublicKeyRef::try_from(text)?;
-        equal_at(&rt, row, key.modulus.as_uint_ref(), borrowed.modulus);
-        equal_at(
-            &rt,
-            row,
-            key.modulus.as_bytes(),
-            borrowed.modulus.as_bytes(),
-        );
-        let exponent = borrowed.public_exponent;
-        equal_at(&rt, row, key.public_exponent.as_uint_ref(), exponent);
         holds_at(
             &rt,
             row,
             is_carried::<RsaPublicKeyOwned>(alloc, text, text)?,
         );
+        let key = RsaPublicKeyOwned::from_der(alloc, text)?;
         holds_at(&rt, row, is_held(alloc, &key, text)?);
-        holds_at(&rt, row, copies_equal(alloc, &key)?);
+        equal_at(&rt, row, &key.modulus, &number(alloc, modulus)?);
+        equal_at(&rt, row, &key.public_exponent, &number(alloc, exponent)?);
         let mut slice = [0xaa; 12];
         let length = key.encode_key(&mut slice)?;
         equal_at(&rt, row, &slice[..length], text);
@@ -57,61 +52,21 @@ fn public_keys_are_carried(rt: HostRuntime) -> Result<(), Fail> {
     Ok(())
 }
 
-/// Whether all fields are the same numbers.
-fn same_prime(owned: &OtherPrimeInfo<Uint>, borrowed: &OtherPrimeInfo<UintRef<'_>>) -> bool {
-    owned.prime.as_uint_ref() == borrowed.prime
-        && owned.exponent.as_uint_ref() == borrowed.exponent
-        && owned.coefficient.as_uint_ref() == borrowed.coefficient
-}
-
-/// Whether both have the same other primes, in the same order.
-fn same_primes(owned: &RsaPrivateKeyOwned, borrowed: &RsaPrivateKeyRef<'_>) -> bool {
-    match (&owned.other_prime_infos, &borrowed.other_prime_infos) {
-        (Some(owned), Some(borrowed)) => {
-            owned.len() == borrowed.len()
-                && owned
-                    .iter()
-                    .zip(borrowed.iter())
-                    .all(|(owned, borrowed)| same_prime(owned, borrowed))
-        }
-        (None, None) => true,
-        _ => false,
-    }
-}
-
-/// Whether all fields are the same.
-pub fn same_key(owned: &RsaPrivateKeyOwned, borrowed: &RsaPrivateKeyRef<'_>) -> bool {
-    owned.version() == borrowed.version()
-        && owned.modulus.as_uint_ref() == borrowed.modulus
-        && owned.public_exponent.as_uint_ref() == borrowed.public_exponent
-        && owned.private_exponent.as_uint_ref() == borrowed.private_exponent
-        && owned.prime1.as_uint_ref() == borrowed.prime1
-        && owned.prime2.as_uint_ref() == borrowed.prime2
-        && owned.exponent1.as_uint_ref() == borrowed.exponent1
-        && owned.exponent2.as_uint_ref() == borrowed.exponent2
-        && owned.coefficient.as_uint_ref() == borrowed.coefficient
-        && same_primes(owned, borrowed)
-}
-
 #[test]
 fn private_keys_are_carried(rt: HostRuntime) -> Result<(), Fail> {
     let alloc = rt.alloc();
     for row in private_keys::SENTENCES.lines() {
-        let text = bytes_of(alloc, first(row)?)?;
+        let (text, _) = two_parts(row)?;
+        let text = bytes_of(alloc, text)?;
         let text = text.as_slice();
-        let key = RsaPrivateKeyOwned::from_der(alloc, text)?;
-        let borrowed = RsaPrivateKeyRef::decode_key(alloc, text)?;
-        holds_at(&rt, row, same_key(&key, &borrowed));
-        equal_at(&rt, row, key.public_key(), borrowed.public_key());
-        equal_at(&rt, row, RsaPublicKeyRef::from(&key), key.public_key());
         holds_at(
             &rt,
             row,
             is_carried::<RsaPrivateKeyOwned>(alloc, text, text)?,
         );
+        holds_at(&rt, row, is_carried::<RsaPrivateKeyRef>(alloc, text, text)?);
+        let key = RsaPrivateKeyOwned::from_der(alloc, text)?;
         holds_at(&rt, row, is_held(alloc, &key, text)?);
-        holds_at(&rt, row, is_held(alloc, &borrowed, text)?);
-        holds_at(&rt, row, is_written(&borrowed.try_clone(alloc)?, text)?);
         let mut slice = [0xaa; 60];
         let length = key.encode_key(&mut slice)?;
         equal_at(&rt, row, &slice[..length], text);
@@ -119,18 +74,72 @@ fn private_keys_are_carried(rt: HostRuntime) -> Result<(), Fail> {
     Ok(())
 }
 
+/// Whether the eight numbers are the same, and neither has other primes.
+pub fn same_two_primes(owned: &RsaPrivateKeyOwned, borrowed: &RsaPrivateKeyRef<'_>) -> bool {
+    owned.modulus.as_uint_ref() == borrowed.modulus
+        && owned.public_exponent.as_uint_ref() == borrowed.public_exponent
+        && owned.private_exponent.as_uint_ref() == borrowed.private_exponent
+        && owned.prime1.as_uint_ref() == borrowed.prime1
+        && owned.prime2.as_uint_ref() == borrowed.prime2
+        && owned.exponent1.as_uint_ref() == borrowed.exponent1
+        && owned.exponent2.as_uint_ref() == borrowed.exponent2
+        && owned.coefficient.as_uint_ref() == borrowed.coefficient
+        && owned.other_prime_infos.is_none()
+        && borrowed.other_prime_infos.is_none()
+}
+
+#[test]
+fn fields_of_owned_private_keys(rt: HostRuntime) -> Result<(), Fail> {
+    let alloc = rt.alloc();
+    let text = bytes_of(
+        alloc,
+        "301b02010002010702010302010502010b02010d020102020104020106",
+    )?;
+    let text = text.as_slice();
+    let key = RsaPrivateKeyOwned::from_der(alloc, text)?;
+    let borrowed = RsaPrivateKeyRef::decode_key(alloc, text)?;
+    holds(&rt, same_two_primes(&key, &borrowed));
+    equal(&rt, key.version(), borrowed.version());
+    equal(&rt, key.public_key(), borrowed.public_key());
+    equal(&rt, RsaPublicKeyRef::from(&key), key.public_key());
+    Ok(())
+}
+
+#[test]
+fn other_primes_are_owned(rt: HostRuntime) -> Result<(), Fail> {
+    let alloc = rt.alloc();
+    let text =
+        "302802010102010702010302010502010b02010d020102020104020106300b3009020111020102020103";
+    let text = bytes_of(alloc, text)?;
+    let key = RsaPrivateKeyOwned::from_der(alloc, text.as_slice())?;
+    let others = key.other_prime_infos.ok_or("other primes")?;
+    for other in &others {
+        equal(&rt, other.prime.as_bytes(), [0x11].as_slice());
+        equal(&rt, other.exponent.as_bytes(), [0x02].as_slice());
+        equal(&rt, other.coefficient.as_bytes(), [0x03].as_slice());
+    }
+    equal(&rt, others.len(), 1);
+    Ok(())
+}
+
 #[test]
 fn private_keys_stand_in_octet_strings(rt: HostRuntime) -> Result<(), Fail> {
     let alloc = rt.alloc();
     for row in private_keys::SENTENCES.lines() {
-        let text = bytes_of(alloc, first(row)?)?;
+        let (text, _) = two_parts(row)?;
+        let text = bytes_of(alloc, text)?;
         let octets = OctetStringRef::new(text.as_slice())?;
         let borrowed = RsaPrivateKeyRef::from_octet_string(alloc, octets)?;
-        let owned = RsaPrivateKeyOwned::from_octet_string(alloc, octets)?;
-        holds_at(&rt, row, same_key(&owned, &borrowed));
-        holds_at(&rt, row, is_written(&owned, text.as_slice())?);
         holds_at(&rt, row, is_written(&borrowed, text.as_slice())?);
+        let owned = RsaPrivateKeyOwned::from_octet_string(alloc, octets)?;
+        holds_at(&rt, row, is_written(&owned, text.as_slice())?);
     }
+    Ok(())
+}
+
+#[test]
+fn other_octet_strings_hold_no_private_key(rt: HostRuntime) -> Result<(), Fail> {
+    let alloc = rt.alloc();
     let (expected, actual) = (Tag::SEQUENCE, Tag::NULL);
     let refused = pkcs1::Error::Asn1(Error::new(ErrorKind::TagUnexpected { expected, actual }));
     let octets = OctetStringRef::new(&[0x05, 0x00])?;
@@ -141,56 +150,21 @@ fn private_keys_stand_in_octet_strings(rt: HostRuntime) -> Result<(), Fail> {
     Ok(())
 }
 
-/// Whether both have the same identifier and the same parameters.
-fn same_algorithm(owned: &AlgorithmIdentifier<Any>, borrowed: &AlgorithmIdentifierRef<'_>) -> bool {
-    let same_parameters = match (&owned.parameters, &borrowed.parameters) {
-        (Some(owned), Some(borrowed)) => owned.as_any_ref() == *borrowed,
-        (None, None) => true,
-        _ => false,
-    };
-    owned.oid.as_bytes() == borrowed.oid.as_bytes() && same_parameters
-}
-
-/// Whether both have the same identifier, and the same one under it.
-fn same_mask_gen(
-    owned: &AlgorithmIdentifier<AlgorithmIdentifier<Any>>,
-    borrowed: &AlgorithmIdentifier<AlgorithmIdentifierRef<'_>>,
-) -> bool {
-    let same_parameters = match (&owned.parameters, &borrowed.parameters) {
-        (Some(owned), Some(borrowed)) => same_algorithm(owned, borrowed),
-        (None, None) => true,
-        _ => false,
-    };
-    owned.oid.as_bytes() == borrowed.oid.as_bytes() && same_parameters
-}
-
 #[test]
 fn pss_parameters_are_carried(rt: HostRuntime) -> Result<(), Fail> {
     let alloc = rt.alloc();
     for row in pss::TEXTS.lines() {
-        let (text, rest) = row.split_once(' ').ok_or("three parts")?;
-        let (_, again) = rest.split_once(' ').ok_or("three parts")?;
+        let (text, count, again) = three_parts(row)?;
         let (text, again) = (bytes_of(alloc, text)?, bytes_of(alloc, again)?);
         let (text, again) = (text.as_slice(), again.as_slice());
-        let params = RsaPssParamsOwned::from_der(alloc, text)?;
-        let borrowed = RsaPssParamsRef::try_from(text)?;
-        holds_at(&rt, row, same_algorithm(&params.hash, &borrowed.hash));
-        holds_at(
-            &rt,
-            row,
-            same_mask_gen(&params.mask_gen, &borrowed.mask_gen),
-        );
-        equal_at(&rt, row, params.salt_len, borrowed.salt_len);
-        equal_at(&rt, row, params.trailer_field, borrowed.trailer_field);
-        let defaults = borrowed.default_fields();
-        equal_at(&rt, row, params.default_fields(), defaults);
         holds_at(
             &rt,
             row,
             is_carried::<RsaPssParamsOwned>(alloc, text, again)?,
         );
+        let params = RsaPssParamsOwned::from_der(alloc, text)?;
         holds_at(&rt, row, is_held(alloc, &params, again)?);
-        holds_at(&rt, row, copies_equal(alloc, &params)?);
+        equal_at(&rt, row, params.default_fields(), count.parse::<u8>()?);
         let mut slice = [0xaa; 60];
         let length = params.encode_params(&mut slice)?;
         equal_at(&rt, row, &slice[..length], again);
@@ -202,36 +176,52 @@ fn pss_parameters_are_carried(rt: HostRuntime) -> Result<(), Fail> {
 fn oaep_parameters_are_carried(rt: HostRuntime) -> Result<(), Fail> {
     let alloc = rt.alloc();
     for row in oaep::TEXTS.lines() {
-        let (text, rest) = row.split_once(' ').ok_or("three parts")?;
-        let (_, again) = rest.split_once(' ').ok_or("three parts")?;
+        let (text, count, again) = three_parts(row)?;
         let (text, again) = (bytes_of(alloc, text)?, bytes_of(alloc, again)?);
         let (text, again) = (text.as_slice(), again.as_slice());
-        let params = RsaOaepParamsOwned::from_der(alloc, text)?;
-        let borrowed = RsaOaepParamsRef::try_from(text)?;
-        holds_at(&rt, row, same_algorithm(&params.hash, &borrowed.hash));
-        holds_at(
-            &rt,
-            row,
-            same_mask_gen(&params.mask_gen, &borrowed.mask_gen),
-        );
-        holds_at(
-            &rt,
-            row,
-            same_algorithm(&params.p_source, &borrowed.p_source),
-        );
-        let defaults = borrowed.default_fields();
-        equal_at(&rt, row, params.default_fields(), defaults);
         holds_at(
             &rt,
             row,
             is_carried::<RsaOaepParamsOwned>(alloc, text, again)?,
         );
+        let params = RsaOaepParamsOwned::from_der(alloc, text)?;
         holds_at(&rt, row, is_held(alloc, &params, again)?);
-        holds_at(&rt, row, copies_equal(alloc, &params)?);
+        equal_at(&rt, row, params.default_fields(), count.parse::<u8>()?);
         let mut slice = [0xaa; 60];
         let length = params.encode_params(&mut slice)?;
         equal_at(&rt, row, &slice[..length], again);
     }
+    Ok(())
+}
+
+#[test]
+fn fields_of_owned_pss_parameters(rt: HostRuntime) -> Result<(), Fail> {
+    let alloc = rt.alloc();
+    let text =
+        "3034a00f300d06096086480165030402010500a11c301a06092a864886f70d010108300d06096086480165030402010500a203020120";
+    let text = bytes_of(alloc, text)?;
+    let params = RsaPssParamsOwned::from_der(alloc, text.as_slice())?;
+    let borrowed = RsaPssParamsRef::try_from(text.as_slice())?;
+    equal(&rt, params.hash.as_algo_ref(), borrowed.hash);
+    equal(&rt, params.mask_gen.oid, borrowed.mask_gen.oid);
+    let hash = params.mask_gen.parameters.as_ref().ok_or("parameters")?;
+    equal(&rt, hash.as_algo_ref(), borrowed.hash);
+    equal(&rt, params.salt_len, 32);
+    equal(&rt, params.trailer_field, borrowed.trailer_field);
+    holds(&rt, copies_equal(alloc, &params)?);
+    Ok(())
+}
+
+#[test]
+fn fields_of_owned_oaep_parameters(rt: HostRuntime) -> Result<(), Fail> {
+    let alloc = rt.alloc();
+    let text = bytes_of(alloc, "3014a212301006092a864886f70d0101090403010203")?;
+    let params = RsaOaepParamsOwned::from_der(alloc, text.as_slice())?;
+    let borrowed = RsaOaepParamsRef::try_from(text.as_slice())?;
+    equal(&rt, params.hash.as_algo_ref(), borrowed.hash);
+    equal(&rt, params.mask_gen.oid, borrowed.mask_gen.oid);
+    equal(&rt, params.p_source.as_algo_ref(), borrowed.p_source);
+    holds(&rt, copies_equal(alloc, &params)?);
     Ok(())
 }
 
@@ -263,11 +253,12 @@ fn parameters_at_their_defaults(rt: HostRuntime) -> Result<(), Fail> {
 fn algorithms_are_carried(rt: HostRuntime) -> Result<(), Fail> {
     let alloc = rt.alloc();
     for row in algorithms::ALGORITHMS.lines() {
-        let text = bytes_of(alloc, first(row)?)?;
+        let (text, _) = two_parts(row)?;
+        let text = bytes_of(alloc, text)?;
         let text = text.as_slice();
         let algorithm = AlgorithmIdentifier::<Any>::from_der(alloc, text)?;
         let borrowed = AlgorithmIdentifierRef::from_der(alloc, text)?;
-        holds_at(&rt, row, same_algorithm(&algorithm, &borrowed));
+        equal_at(&rt, row, algorithm.as_algo_ref(), borrowed);
         let parameters = borrowed.parameters_any();
         equal_at(&rt, row, algorithm.parameters_any(), parameters);
         holds_at(
@@ -296,8 +287,6 @@ fn algorithms_under_algorithms_are_carried(rt: HostRuntime) -> Result<(), Fail> 
         let text = bytes_of(alloc, row)?;
         let text = text.as_slice();
         holds_at(&rt, row, is_carried::<Nested>(alloc, text, text)?);
-        let mask_gen = Nested::from_der(alloc, text)?;
-        holds_at(&rt, row, copies_equal(alloc, &mask_gen)?);
     }
     Ok(())
 }

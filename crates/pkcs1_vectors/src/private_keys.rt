@@ -1,6 +1,6 @@
 //! Rows of RSA private keys.
-use crate::bytes::{bytes_of, printed};
-use crate::checks::{equal, equal_at, holds_at};
+use crate::bytes::{bytes_of, printed, two_parts};
+use crate::checks::{equal, equal_at, holds_at, refused_at};
 use crate::written::is_written;
 use pkcs1::der::{Decode, Encode, EncodeValue, Error, ErrorKind, SliceWriter, Tag};
 use pkcs1::{
@@ -19,7 +19,7 @@ pub const SENTENCES: &str = "\
 #[test]
 fn sentences_are_read_and_written_again(rt: HostRuntime) -> Result<(), Fail> {
     for row in SENTENCES.lines() {
-        let (text, version) = row.split_once(' ').ok_or("two parts")?;
+        let (text, version) = two_parts(row)?;
         let text = bytes_of(rt.alloc(), text)?;
         let key = RsaPrivateKeyRef::decode_key(rt.alloc(), text.as_slice())?;
         equal_at(
@@ -78,12 +78,12 @@ const NO_SENTENCES: &str = "\
 #[test]
 fn other_texts_are_refused(rt: HostRuntime) -> Result<(), Fail> {
     for row in NO_SENTENCES.lines() {
-        let (text, want) = row.split_once(' ').ok_or("two parts")?;
+        let (text, want) = two_parts(row)?;
         let text = bytes_of(rt.alloc(), text)?;
         let answer = RsaPrivateKeyRef::from_der(rt.alloc(), text.as_slice());
-        equal_at(&rt, row, printed(rt.alloc(), answer)?.as_str(), want);
+        refused_at(&rt, rt.alloc(), row, answer, want)?;
         let answer = RsaPrivateKeyOwned::from_der(rt.alloc(), text.as_slice());
-        equal_at(&rt, row, printed(rt.alloc(), answer)?.as_str(), want);
+        refused_at(&rt, rt.alloc(), row, answer, want)?;
     }
     let public = RsaPublicKeyRef::try_from([0x30, 0x03, 0x02, 0x01, 0x00].as_slice());
     equal(
@@ -149,6 +149,11 @@ fn the_public_key_has_its_two_fields(rt: HostRuntime) -> Result<(), Fail> {
     equal(&rt, public.modulus.as_bytes(), [0x07].as_slice());
     equal(&rt, public.public_exponent.as_bytes(), [0x03].as_slice());
     equal(&rt, RsaPublicKeyRef::from(&key), public);
+    Ok(())
+}
+
+#[test]
+fn an_other_prime_is_cloned_and_written(rt: HostRuntime) -> Result<(), Fail> {
     let number = UintRef::new(&[0x05])?;
     let other = OtherPrimeInfo {
         prime: number,

@@ -1,6 +1,6 @@
 //! Rows of RSASSA-PSS parameters.
-use crate::bytes::{bytes_of, printed, printed_within, spelled};
-use crate::checks::{equal, equal_at, holds, holds_at};
+use crate::bytes::{bytes_of, spelled, three_parts, two_parts};
+use crate::checks::{equal, equal_at, holds, holds_at, refused_at, refused_within_at};
 use crate::marks::{Sha1, Sha256};
 use crate::written::{is_carried, is_written};
 use pkcs1::der::{Decode, Encode, Error, ErrorKind, NoMemory, SliceWriter};
@@ -23,8 +23,7 @@ pub const TEXTS: &str = "\
 #[test]
 fn texts_are_read_and_written_without_defaults(rt: HostRuntime) -> Result<(), Fail> {
     for row in TEXTS.lines() {
-        let (text, rest) = row.split_once(' ').ok_or("three parts")?;
-        let (count, again) = rest.split_once(' ').ok_or("three parts")?;
+        let (text, count, again) = three_parts(row)?;
         let (text, again) = (bytes_of(rt.alloc(), text)?, bytes_of(rt.alloc(), again)?);
         let params = RsaPssParamsRef::try_from(text.as_slice())?;
         equal_at(&rt, row, params.default_fields(), count.parse::<u8>()?);
@@ -129,12 +128,12 @@ const NO_TEXTS: &str = "\
 #[test]
 fn other_texts_are_refused(rt: HostRuntime) -> Result<(), Fail> {
     for row in NO_TEXTS.lines() {
-        let (text, want) = row.split_once(' ').ok_or("two parts")?;
+        let (text, want) = two_parts(row)?;
         let text = bytes_of(rt.alloc(), text)?;
         let answer = RsaPssParamsRef::try_from(text.as_slice());
-        equal_at(&rt, row, printed(rt.alloc(), answer)?.as_str(), want);
+        refused_at(&rt, rt.alloc(), row, answer, want)?;
         let answer = RsaPssParamsOwned::from_der(rt.alloc(), text.as_slice());
-        equal_at(&rt, row, printed_within(rt.alloc(), answer)?.as_str(), want);
+        refused_within_at(&rt, rt.alloc(), row, answer, want)?;
     }
     let incomplete = Error::new(ErrorKind::Incomplete);
     equal(
@@ -157,7 +156,7 @@ const SALTS: &str = "\
 fn lengths_of_salts_are_written(rt: HostRuntime) -> Result<(), Fail> {
     equal(&rt, RsaPssParamsRef::SALT_LEN_DEFAULT, 20);
     for row in SALTS.lines() {
-        let (salt_len, text) = row.split_once(' ').ok_or("two parts")?;
+        let (salt_len, text) = two_parts(row)?;
         let (salt_len, text) = (salt_len.parse::<u8>()?, bytes_of(rt.alloc(), text)?);
         let params = RsaPssParamsRef::new::<Sha1>(salt_len);
         holds_at(&rt, row, is_written(&params, text.as_slice())?);

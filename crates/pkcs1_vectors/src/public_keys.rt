@@ -1,6 +1,6 @@
 //! Rows of RSA public keys.
-use crate::bytes::{bytes_of, printed, printed_within};
-use crate::checks::{equal, equal_at, holds_at};
+use crate::bytes::{bytes_of, printed, three_parts, two_parts};
+use crate::checks::{equal, equal_at, holds_at, refused_at, refused_within_at};
 use crate::written::{is_carried, is_written};
 use der_core::{Decode, Encode, Error, ErrorKind, NoMemory, SliceReader, UintRef};
 use pkcs1::{RsaPublicKey, RsaPublicKeyOwned, RsaPublicKeyRef};
@@ -16,8 +16,7 @@ pub const SENTENCES: &str = "\
 #[test]
 fn sentences_are_read_and_written_again(rt: HostRuntime) -> Result<(), Fail> {
     for row in SENTENCES.lines() {
-        let (text, numbers) = row.split_once(' ').ok_or("three parts")?;
-        let (modulus, exponent) = numbers.split_once(' ').ok_or("three parts")?;
+        let (text, modulus, exponent) = three_parts(row)?;
         let text = bytes_of(rt.alloc(), text)?;
         let (modulus, exponent) = (
             bytes_of(rt.alloc(), modulus)?,
@@ -66,12 +65,12 @@ const NO_SENTENCES: &str = "\
 #[test]
 fn other_texts_are_refused(rt: HostRuntime) -> Result<(), Fail> {
     for row in NO_SENTENCES.lines() {
-        let (text, want) = row.split_once(' ').ok_or("two parts")?;
+        let (text, want) = two_parts(row)?;
         let text = bytes_of(rt.alloc(), text)?;
         let answer = RsaPublicKeyRef::try_from(text.as_slice());
-        equal_at(&rt, row, printed(rt.alloc(), answer)?.as_str(), want);
+        refused_at(&rt, rt.alloc(), row, answer, want)?;
         let answer = RsaPublicKeyOwned::from_der(rt.alloc(), text.as_slice());
-        equal_at(&rt, row, printed_within(rt.alloc(), answer)?.as_str(), want);
+        refused_within_at(&rt, rt.alloc(), row, answer, want)?;
     }
     let nothing = RsaPublicKeyRef::try_from([].as_slice());
     let want = "PKCS#1 ASN.1 error: the input ends too early";
@@ -119,7 +118,7 @@ const HEADERS: &str = "\
 #[test]
 fn headers_grow_with_the_modulus(rt: HostRuntime) -> Result<(), Fail> {
     for row in HEADERS.lines() {
-        let (count, front) = row.split_once(' ').ok_or("two parts")?;
+        let (count, front) = two_parts(row)?;
         let (count, begins) = (count.parse::<usize>()?, bytes_of(rt.alloc(), front)?);
         let bytes = vec![in rt.alloc(); 0x11; count]?;
         let key = RsaPublicKey {

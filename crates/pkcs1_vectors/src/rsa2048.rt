@@ -1,9 +1,9 @@
 //! A key of 2048 bits.
 use crate::bytes::bytes_of;
 use crate::checks::{equal, holds};
-use crate::owned::same_key;
+use crate::owned::{number, same_two_primes};
 use crate::written::{is_carried, is_held, is_written};
-use pkcs1::der::{AsUintRef, Decode, Encode, Error, ErrorKind, Uint};
+use pkcs1::der::{AsUintRef, Encode, Error, ErrorKind};
 use pkcs1::{
     RsaPrivateKey, RsaPrivateKeyOwned, RsaPrivateKeyRef, RsaPublicKey, RsaPublicKeyOwned,
     RsaPublicKeyRef,
@@ -58,12 +58,6 @@ const COEFFICIENT: &str = "\
 31995406d406207cadeaea35b38d040c5f8a9a1ae0827e9ed06b153d83b6821935b4b36a82be9d56c791b58c27271a57\
 93d53a1d657c08997960b1433e5171987f452f144a7c72306d63e1d3ffc0b71b75ab08f2e45a482e988451cbe478e12e\
 b228d07456c924b66f6ced048d853f533e31a68614f1c3ce6d8ec9983ce72af7";
-
-/// The number that the hexadecimal text spells.
-fn number(alloc: Global, text: &str) -> Result<Uint, Fail> {
-    let bytes = bytes_of(alloc, text)?;
-    Ok(Uint::new(alloc, bytes.as_slice())?)
-}
 
 /// The public key, by its numbers.
 fn public_key(alloc: Global) -> Result<RsaPublicKeyOwned, Fail> {
@@ -137,7 +131,7 @@ fn the_private_key_is_written_and_read_again(rt: HostRuntime) -> Result<(), Fail
     let begins = bytes_of(alloc, "308204a30201000282010100b6c42c51")?;
     holds(&rt, text.starts_with(begins.as_slice()));
     let read = RsaPrivateKeyRef::decode_key(alloc, text)?;
-    holds(&rt, same_key(&key, &read));
+    holds(&rt, same_two_primes(&key, &read));
     holds(&rt, is_written(&read, text)?);
     holds(&rt, is_written(&key, text)?);
     holds(&rt, is_held(alloc, &key, text)?);

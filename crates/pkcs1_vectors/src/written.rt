@@ -16,7 +16,7 @@ pub fn is_written<T: Encode>(value: &T, text: &[u8]) -> Result<bool, Fail> {
     Ok(counted && filled && kept && writer.finish() == text)
 }
 
-/// Whether an owned value is read from the first text, and it and its copy are written as the second.
+/// Whether a value is read from the first text, and it and its copy are written as the second.
 pub fn is_carried<'a, T: Decode<&'a [u8], Global> + Encode + TryClone>(
     alloc: Global,
     text: &'a [u8],
