@@ -10,6 +10,7 @@ mod other_primes;
 mod params;
 mod private_key;
 mod public_key;
+mod reencode;
 mod traits;
 mod version;
 mod view;
@@ -30,6 +31,7 @@ pub use params::{
 };
 pub use private_key::{RsaPrivateKey, RsaPrivateKeyOwned, RsaPrivateKeyRef};
 pub use public_key::{RsaPublicKey, RsaPublicKeyOwned, RsaPublicKeyRef};
+pub use reencode::{reencode_private_key, reencode_public_key};
 pub use spki_core as spki;
 pub use spki_core::ObjectIdentifier;
 pub use traits::{

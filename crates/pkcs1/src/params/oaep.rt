@@ -423,7 +423,7 @@ impl<'a> RsaOaepParams<AnyRef<'a>> {
 }
 
 impl<'a> TryFrom<&'a [u8]> for RsaOaepParams<AnyRef<'a>> {
-    ghost use Rattle.std.specs.Prelude.{◌≢◌, IfOk, OnErr};
+    ghost use Rattle.std.specs.Prelude.{IfOk, OnErr};
     ghost use Rattle.der_core.specs.Reading.{TellsOfBytes};
     ghost use Rattle.der_core.specs.Document.{Means};
     ghost use Rattle.pkcs1.specs.Parameters as grammar;

@@ -365,7 +365,7 @@ impl<'a> Default for RsaPssParams<AnyRef<'a>> {
 }
 
 impl<'a> TryFrom<&'a [u8]> for RsaPssParams<AnyRef<'a>> {
-    ghost use Rattle.std.specs.Prelude.{◌≢◌, ℕ, List, IfOk, OnErr};
+    ghost use Rattle.std.specs.Prelude.{ℕ, List, IfOk, OnErr};
     ghost use Rattle.der_core.specs.Reading.{TellsOfBytes};
     ghost use Rattle.der_core.specs.Document.{Means};
     ghost use Rattle.pkcs1.specs.Parameters as grammar;

@@ -1,0 +1,31 @@
+-- Keys that are read from a text and written again.
+use Rattle.std.proofs.Common.{ℕ, List, ◌≡◌, ◌⊎◌, inl, inr, sym, Result, Ok, Err}
+use Rattle.std.specs.Prelude.{IfOk, IfErr}
+use Rattle.der_core.specs.Document.{Means, IsUncountable, Fault, no_text, too_long, no_room, another}
+use Rattle.der_core.specs.Writing.{fault}
+use Rattle.pkcs1.specs.declared.error.Error.{Error}
+use Rattle.pkcs1.specs.declared.error.Error.TheVariants as error
+use Rattle.pkcs1.specs.KeyTexts.{IsOnlyText, IsUnwritten, IsSentence, IsUnread, IsNotMade}
+
+module _ {V : Type 0} (Grammar : V → List ℕ → Type 0) (v : V) (text : List ℕ) (means : Means Grammar text v) where
+  -- The only text of a value that has this text is this text.
+  pub comes_out : {X : Type 0} (text_of : X → List ℕ) (result : Result X Error)
+      → IfOk result (λ document. IsOnlyText Grammar v (text_of document)) → IfOk result (λ document. text_of document ≡ text)
+  comes_out text_of (Ok document) only = sym (only.alone text means)
+  comes_out text_of (Err e) only = tt
+
+  has_one : (some : Type 0) (k : Fault) → IsUncountable some Grammar v k → ⊥
+  has_one some no_text h = h text means.1
+  has_one some too_long h = h.1 text means
+  has_one some no_room h = h
+  has_one some another h = h
+
+  -- A value that has this text is refused for memory alone.
+  pub wants_memory : {X : Type 0} (asked : Type 0) (result : Result X Error)
+      → IfErr result (IsNotMade Grammar v) → IfErr result (IsUnread Grammar text (asked ⊎ IsSentence Grammar text))
+  wants_memory asked (Ok document) h = tt
+  wants_memory asked (Err (error.Asn1 e)) (inl w) = inl (w.0, inr (v, means))
+  wants_memory asked (Err (error.Asn1 e)) (inr w) = absurd (has_one _ (fault e.kind) w)
+  wants_memory asked (Err error.Crypto) h = h
+  wants_memory asked (Err error.KeyMalformed) h = h
+  wants_memory asked (Err error.Version) h = h

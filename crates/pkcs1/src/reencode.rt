@@ -1,0 +1,38 @@
+//! Keys that are read from a text and written again.
+ghost use Rattle.std.specs.Prelude.{◌≡◌, ◌⊎◌, List, ℕ, IfOk, IfErr};
+ghost use Rattle.der_core.specs.Document.{Means};
+ghost use Rattle.der_core.specs.Documents.{text_of, secret_text_of};
+ghost use Rattle.der_core.specs.Reading.{Refuses};
+ghost use Rattle.pkcs1.specs.Asking.{OwnedKeyAsks, OwnedPublicKeyAsks};
+ghost use Rattle.pkcs1.specs.Keys.{PublicKey, PrivateKey};
+ghost use Rattle.pkcs1.specs.Keys as grammar;
+ghost use Rattle.pkcs1.specs.KeyTexts.{IsSentence, IsUnread};
+
+use crate::error::Result;
+use crate::private_key::RsaPrivateKeyOwned;
+use crate::public_key::RsaPublicKeyOwned;
+use crate::traits::{
+    DecodeRsaPrivateKey, DecodeRsaPublicKey, EncodeRsaPrivateKey, EncodeRsaPublicKey,
+};
+use der_core::{Document, SecretDocument};
+use std::alloc::Global;
+
+/// Reads a public key from all of the bytes and writes it again: the bytes that come out are those that came in. What is
+/// refused is refused by `from_pkcs1_der`, or for memory.
+pub fn reencode_public_key(alloc: Global, bytes: &[u8]) -> Result<Document>
+    ensures same { IfOk result (λ document. text_of document ≡ bytes.now) }
+    ensures sentence { IfOk result (λ document. IsSentence grammar.RsaPublicKey bytes.now) }
+    ensures err { IfErr result (IsUnread grammar.RsaPublicKey bytes.now (OwnedPublicKeyAsks bytes.now ⊎ IsSentence grammar.RsaPublicKey bytes.now)) }
+{
+    RsaPublicKeyOwned::from_pkcs1_der(alloc, bytes)?.to_pkcs1_der(alloc)
+}
+
+/// Reads a private key from all of the bytes and writes it again: the bytes that come out are those that came in. What is
+/// refused is refused by `from_pkcs1_der`, or for memory.
+pub fn reencode_private_key(alloc: Global, bytes: &[u8]) -> Result<SecretDocument>
+    ensures same { IfOk result (λ document. secret_text_of document ≡ bytes.now) }
+    ensures sentence { IfOk result (λ document. IsSentence grammar.RsaPrivateKey bytes.now) }
+    ensures err { IfErr result (IsUnread grammar.RsaPrivateKey bytes.now (OwnedKeyAsks bytes.now ⊎ IsSentence grammar.RsaPrivateKey bytes.now)) }
+{
+    RsaPrivateKeyOwned::from_pkcs1_der(alloc, bytes)?.to_pkcs1_der(alloc)
+}
