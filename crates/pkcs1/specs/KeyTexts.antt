@@ -14,14 +14,19 @@ pub record IsOnlyText {V : Type 0} (Grammar : V → List ℕ → Type 0) (v : V)
   pub alone : IsAlone Grammar v text
   pub one : (other : V) → Grammar other text → other ≡ v
 
--- Why no document of a value is made: memory was wanted, for a text within the limit; or the value has no text, or some and none
--- within the limit.
-abbrev pub IsUnwritten : {V : Type 0} → Type 0 → (V → List ℕ → Type 0) → V → ErrorKind → Type 0
-IsUnwritten Some Grammar v e = ((e ≡ OutOfMemory) × (text : List ℕ) × Means Grammar text v) ⊎ IsUncountable Some Grammar v (fault e)
-
 -- Some value has this text.
 abbrev pub IsSentence : {V : Type 0} → (V → List ℕ → Type 0) → List ℕ → Type 0
 IsSentence {V} Grammar text = (v : V) × Means Grammar text v
+
+-- Why no document of a value is made: memory was wanted, for a text within the limit; or the value has no text, or some
+-- (as Some says) and none within the limit.
+abbrev pub IsUnwritten : {V : Type 0} → Type 0 → (V → List ℕ → Type 0) → V → ErrorKind → Type 0
+IsUnwritten Some Grammar v e =
+    ((e ≡ OutOfMemory) × (text : List ℕ) × Means Grammar text v) ⊎ IsUncountable Some Grammar v (fault e)
+
+-- No other value has this text.
+abbrev pub IsOnlyMeaning : {V : Type 0} → (V → List ℕ → Type 0) → List ℕ → V → Type 0
+IsOnlyMeaning {V} Grammar text v = (other : V) → Means Grammar text other → other ≡ v
 
 -- Why a text isn't read: memory was wanted, and asked for; or no value has the text.
 abbrev pub IsUnread : {V : Type 0} → (V → List ℕ → Type 0) → List ℕ → Type 0 → Error → Type 0

@@ -1,15 +1,13 @@
 //! Keys of any type, read from PKCS #1 texts and written as such, in memory and in files.
 ghost use Rattle.std.specs.Prelude.{◌≡◌, List, ℕ, IfOk, IfErr, OnOk, IsErrAnd};
-ghost use Rattle.der_core.specs.Document.{IsDocument, Means, HasText};
+ghost use Rattle.der_core.specs.Document.{IsDocument, Means};
 ghost use Rattle.der_core.specs.Documents.{text_of, secret_text_of};
-ghost use Rattle.der_core.specs.Reading.{Refuses};
 ghost use Rattle.der_core.specs.Tags.{sequence};
 ghost use Rattle.der_core.specs.UintRefs.{bytes_of};
 ghost use Rattle.der_core.specs.Uints.{own_bytes_of};
 ghost use Rattle.pkcs1.specs.Asking.{OwnedKeyAsks, OwnedPublicKeyAsks};
-ghost use Rattle.pkcs1.specs.Keys.{PublicKey, PrivateKey};
 ghost use Rattle.pkcs1.specs.Keys as grammar;
-ghost use Rattle.pkcs1.specs.KeyTexts.{IsOnlyText, IsUnwritten};
+ghost use Rattle.pkcs1.specs.KeyTexts.{IsNotMade, IsOnlyMeaning, IsOnlyText, IsUnread};
 ghost use Rattle.pkcs1.specs.PrivateKeys.{private_of, ListsNone};
 ghost use Rattle.pkcs1.specs.PublicKeys.{public_of};
 ghost use Rattle.pkcs1.specs.Refusals.{IsAsn1};
@@ -22,7 +20,8 @@ use std::alloc::Global;
 use std::path::Path;
 use std::rt::Files;
 
-/// A private key that is read from a PKCS #1 text.
+/// A private key that is read from a text of PKCS #1 (RFC 8017 A.1.2). A type of a caller's own says by `stands_for` what
+/// its `from_pkcs1_der` keeps.
 pub trait DecodeRsaPrivateKey: Sized + Drop {
     /// The key was read from these bytes.
     ghost stands_for: { Self → List ℕ → Type 0 };
@@ -31,7 +30,8 @@ pub trait DecodeRsaPrivateKey: Sized + Drop {
     fn from_pkcs1_der(alloc: Global, bytes: &[u8]) -> Result<Self>
         ensures { IfOk result (λ key. stands_for key bytes.now) };
 
-    /// Reads a key from a file: the document that the file holds, then `from_pkcs1_der` on its bytes.
+    /// Reads a key from a file: the document that the file holds, then `from_pkcs1_der` on its bytes. `File` where the
+    /// file can't be opened or read, `Overflow` where it has more bytes than `Length::MAX`.
     fn read_pkcs1_der_file<Rt: Files>(rt: &Rt, alloc: Global, path: Path<'_>) -> Result<Self>
         ensures { IfOk result (λ key. (bytes : List ℕ) × IsDocument bytes × stands_for key bytes) }
     {
@@ -40,7 +40,8 @@ pub trait DecodeRsaPrivateKey: Sized + Drop {
     }
 }
 
-/// A public key that is read from a PKCS #1 text.
+/// A public key that is read from a text of PKCS #1 (RFC 8017 A.1.1). A type of a caller's own says by `stands_for` what
+/// its `from_pkcs1_der` keeps.
 pub trait DecodeRsaPublicKey: Sized + Drop {
     /// The key was read from these bytes.
     ghost stands_for: { Self → List ℕ → Type 0 };
@@ -49,7 +50,8 @@ pub trait DecodeRsaPublicKey: Sized + Drop {
     fn from_pkcs1_der(alloc: Global, bytes: &[u8]) -> Result<Self>
         ensures { IfOk result (λ key. stands_for key bytes.now) };
 
-    /// Reads a key from a file: the document that the file holds, then `from_pkcs1_der` on its bytes.
+    /// Reads a key from a file: the document that the file holds, then `from_pkcs1_der` on its bytes. `File` where the
+    /// file can't be opened or read, `Overflow` where it has more bytes than `Length::MAX`.
     fn read_pkcs1_der_file<Rt: Files>(rt: &Rt, alloc: Global, path: Path<'_>) -> Result<Self>
         ensures { IfOk result (λ key. (bytes : List ℕ) × IsDocument bytes × stands_for key bytes) }
     {
@@ -58,7 +60,8 @@ pub trait DecodeRsaPublicKey: Sized + Drop {
     }
 }
 
-/// A private key that is written as a PKCS #1 text.
+/// A private key that is written as a text of PKCS #1 (RFC 8017 A.1.2). A type of a caller's own says by `written_as`
+/// what its `to_pkcs1_der` writes.
 pub trait EncodeRsaPrivateKey {
     /// The key is written as these bytes.
     ghost written_as: { Self → List ℕ → Type 0 };
@@ -67,7 +70,8 @@ pub trait EncodeRsaPrivateKey {
     fn to_pkcs1_der(&self, alloc: Global) -> Result<SecretDocument>
         ensures { IfOk result (λ document. written_as self.now (secret_text_of document)) };
 
-    /// Writes the text of the key to a file. The text is made before the file is created or cut.
+    /// Writes the text of the key to a file. The text is made before the file is created, or an old one cut to nothing:
+    /// a key that is refused leaves the file as it was. `File` where the file can't be created or written.
     fn write_pkcs1_der_file<Rt: Files>(&self, rt: &Rt, alloc: Global, path: Path<'_>) -> Result<()>
         ensures { OnOk result ((bytes : List ℕ) × IsDocument bytes × written_as self.now bytes) }
     {
@@ -76,7 +80,8 @@ pub trait EncodeRsaPrivateKey {
     }
 }
 
-/// A public key that is written as a PKCS #1 text.
+/// A public key that is written as a text of PKCS #1 (RFC 8017 A.1.1). A type of a caller's own says by `written_as`
+/// what its `to_pkcs1_der` writes.
 pub trait EncodeRsaPublicKey {
     /// The key is written as these bytes.
     ghost written_as: { Self → List ℕ → Type 0 };
@@ -85,7 +90,8 @@ pub trait EncodeRsaPublicKey {
     fn to_pkcs1_der(&self, alloc: Global) -> Result<Document>
         ensures { IfOk result (λ document. written_as self.now (text_of document)) };
 
-    /// Writes the text of the key to a file. The text is made before the file is created or cut.
+    /// Writes the text of the key to a file. The text is made before the file is created, or an old one cut to nothing:
+    /// a key that is refused leaves the file as it was. `File` where the file can't be created or written.
     fn write_pkcs1_der_file<Rt: Files>(&self, rt: &Rt, alloc: Global, path: Path<'_>) -> Result<()>
         ensures { OnOk result ((bytes : List ℕ) × IsDocument bytes × written_as self.now bytes) }
     {
@@ -99,8 +105,8 @@ impl DecodeRsaPrivateKey for RsaPrivateKey<Uint> {
 
     fn from_pkcs1_der(alloc: Global, bytes: &[u8]) -> Result<RsaPrivateKey<Uint>>
         ensures ok { IfOk result (λ key. Means grammar.RsaPrivateKey bytes.now (private_of own_bytes_of key)) }
-        ensures one { IfOk result (λ key. (other : PrivateKey (List ℕ)) → Means grammar.RsaPrivateKey bytes.now other → other ≡ private_of own_bytes_of key) }
-        ensures err { IfErr result (IsAsn1 (λ e. Refuses e.kind (OwnedKeyAsks bytes.now) ((key : PrivateKey (List ℕ)) → Means grammar.RsaPrivateKey bytes.now key → ⊥))) }
+        ensures one { IfOk result (λ key. IsOnlyMeaning grammar.RsaPrivateKey bytes.now (private_of own_bytes_of key)) }
+        ensures err { IfErr result (IsUnread grammar.RsaPrivateKey bytes.now (OwnedKeyAsks bytes.now)) }
     {
         Ok(RsaPrivateKey::from_der(alloc, bytes)?)
     }
@@ -111,8 +117,8 @@ impl DecodeRsaPublicKey for RsaPublicKey<Uint> {
 
     fn from_pkcs1_der(alloc: Global, bytes: &[u8]) -> Result<RsaPublicKey<Uint>>
         ensures ok { IfOk result (λ key. Means grammar.RsaPublicKey bytes.now (public_of own_bytes_of key)) }
-        ensures one { IfOk result (λ key. (other : PublicKey (List ℕ)) → Means grammar.RsaPublicKey bytes.now other → other ≡ public_of own_bytes_of key) }
-        ensures err { IfErr result (IsAsn1 (λ e. Refuses e.kind (OwnedPublicKeyAsks bytes.now) ((key : PublicKey (List ℕ)) → Means grammar.RsaPublicKey bytes.now key → ⊥))) }
+        ensures one { IfOk result (λ key. IsOnlyMeaning grammar.RsaPublicKey bytes.now (public_of own_bytes_of key)) }
+        ensures err { IfErr result (IsUnread grammar.RsaPublicKey bytes.now (OwnedPublicKeyAsks bytes.now)) }
     {
         Ok(RsaPublicKey::from_der(alloc, bytes)?)
     }
@@ -122,9 +128,11 @@ impl<'a> EncodeRsaPrivateKey for RsaPrivateKey<UintRef<'a>> {
     ghost written_as = { λ key bytes. IsOnlyText grammar.RsaPrivateKey (private_of bytes_of key) bytes };
 
     fn to_pkcs1_der(&self, alloc: Global) -> Result<SecretDocument>
-        ensures text { IfOk result (λ document. IsOnlyText grammar.RsaPrivateKey (private_of bytes_of self.now) (secret_text_of document)) }
-        ensures err { IfErr result (IsAsn1 (λ e. IsUnwritten (HasText grammar.RsaPrivateKey (private_of bytes_of self.now)) grammar.RsaPrivateKey (private_of bytes_of self.now) e.kind)) }
-        ensures no_primes { ListsNone self.now.other_prime_infos → IsErrAnd result (IsAsn1 (λ e. e.kind ≡ ErrorKind.Value sequence)) }
+        ensures text { IfOk result (λ document.
+            IsOnlyText grammar.RsaPrivateKey (private_of bytes_of self.now) (secret_text_of document)) }
+        ensures err { IfErr result (IsNotMade grammar.RsaPrivateKey (private_of bytes_of self.now)) }
+        ensures no_primes { ListsNone self.now.other_prime_infos
+            → IsErrAnd result (IsAsn1 (λ e. e.kind ≡ ErrorKind.Value sequence)) }
     {
         self.to_document(alloc)
     }
@@ -134,9 +142,11 @@ impl EncodeRsaPrivateKey for RsaPrivateKey<Uint> {
     ghost written_as = { λ key bytes. IsOnlyText grammar.RsaPrivateKey (private_of own_bytes_of key) bytes };
 
     fn to_pkcs1_der(&self, alloc: Global) -> Result<SecretDocument>
-        ensures text { IfOk result (λ document. IsOnlyText grammar.RsaPrivateKey (private_of own_bytes_of self.now) (secret_text_of document)) }
-        ensures err { IfErr result (IsAsn1 (λ e. IsUnwritten (HasText grammar.RsaPrivateKey (private_of own_bytes_of self.now)) grammar.RsaPrivateKey (private_of own_bytes_of self.now) e.kind)) }
-        ensures no_primes { ListsNone self.now.other_prime_infos → IsErrAnd result (IsAsn1 (λ e. e.kind ≡ ErrorKind.Value sequence)) }
+        ensures text { IfOk result (λ document.
+            IsOnlyText grammar.RsaPrivateKey (private_of own_bytes_of self.now) (secret_text_of document)) }
+        ensures err { IfErr result (IsNotMade grammar.RsaPrivateKey (private_of own_bytes_of self.now)) }
+        ensures no_primes { ListsNone self.now.other_prime_infos
+            → IsErrAnd result (IsAsn1 (λ e. e.kind ≡ ErrorKind.Value sequence)) }
     {
         self.to_document(alloc)
     }
@@ -146,8 +156,9 @@ impl<U: AsUintRef> EncodeRsaPublicKey for RsaPublicKey<U> {
     ghost written_as = { λ key bytes. IsOnlyText grammar.RsaPublicKey (public_of U.number key) bytes };
 
     fn to_pkcs1_der(&self, alloc: Global) -> Result<Document>
-        ensures text { IfOk result (λ document. IsOnlyText grammar.RsaPublicKey (public_of U.number self.now) (text_of document)) }
-        ensures err { IfErr result (IsAsn1 (λ e. IsUnwritten (HasText grammar.RsaPublicKey (public_of U.number self.now)) grammar.RsaPublicKey (public_of U.number self.now) e.kind)) }
+        ensures text { IfOk result (λ document.
+            IsOnlyText grammar.RsaPublicKey (public_of U.number self.now) (text_of document)) }
+        ensures err { IfErr result (IsNotMade grammar.RsaPublicKey (public_of U.number self.now)) }
     {
         Ok(Document::encode_msg(alloc, &self.as_key_ref())?)
     }
