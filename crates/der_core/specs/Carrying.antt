@@ -26,11 +26,15 @@ StopsReading e old new refusals refusals2 =
     ⊎ (TellsOfBytes e × GivesNone old new)
 
 -- The document is all that came up to the end, and no call was refused; or reading stopped.
-abbrev pub ReadsDocument : {X : Type 0} → (X → List ℕ) → Result X Error → Option (List ℕ) → Option (List ℕ) → ℕ → ℕ → Type 0
-ReadsDocument text (Ok document) old new refusals refusals2 = GivesAll old new (text document) × (refusals2 ≡ refusals)
+abbrev pub ReadsDocument : {X : Type 0} → (X → List ℕ) → Result X Error
+    → Option (List ℕ) → Option (List ℕ) → ℕ → ℕ → Type 0
+ReadsDocument text (Ok document) old new refusals refusals2 =
+    GivesAll old new (text document) × (refusals2 ≡ refusals)
 ReadsDocument text (Err e) old new refusals refusals2 = StopsReading e.kind old new refusals refusals2
 
 -- All bytes were taken, in order, and no call was refused; or a beginning of them was, and a call was refused.
-abbrev pub WritesAll : {X : Type 0} → List ℕ → Result X Error → Option (List ℕ) → Option (List ℕ) → ℕ → ℕ → Type 0
+abbrev pub WritesAll : {X : Type 0} → List ℕ → Result X Error
+    → Option (List ℕ) → Option (List ℕ) → ℕ → ℕ → Type 0
 WritesAll bytes (Ok x) old new refusals refusals2 = Appends old new bytes × (refusals2 ≡ refusals)
-WritesAll bytes (Err e) old new refusals refusals2 = AppendsFront old new bytes × (e.kind ≡ File) × SomeRefused refusals refusals2
+WritesAll bytes (Err e) old new refusals refusals2 =
+    AppendsFront old new bytes × (e.kind ≡ File) × SomeRefused refusals refusals2

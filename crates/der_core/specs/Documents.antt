@@ -1,10 +1,23 @@
 -- The texts that documents hold.
-use Rattle.std.specs.Prelude.{ℕ, List}
+use Rattle.std.specs.Prelude.{ℕ, List, ◌≡◌, ◌⊎◌, Result, Ok, Err}
 use Rattle.der_core.specs.declared.document.Document.{Document}
 use Rattle.der_core.specs.declared.document.SecretDocument.{SecretDocument}
+use Rattle.der_core.specs.declared.error.Error.{Error}
+use Rattle.der_core.specs.Document.{IsShortest, IsUncountable}
+use Rattle.der_core.specs.Writing.{IsUncounted, LacksMemory, fault}
 
 abbrev pub text_of : Document → List ℕ
 text_of document = document.bytes.items
 
 abbrev pub secret_text_of : SecretDocument → List ℕ
 secret_text_of secret = text_of secret.document
+
+-- The document holds the octets that are written of the value, its shortest text; or memory was wanted, for octets that
+-- can be counted; or they can't be, as the octets and as the grammar tell it.
+abbrev pub HoldsMessage : {X V : Type 0} → (X → List ℕ) → Result X Error
+    → Type 0 → List ℕ → (V → List ℕ → Type 0) → V → Type 0
+HoldsMessage text (Ok document) has octets Grammar v =
+    has × (text document ≡ octets) × IsShortest Grammar v (text document)
+HoldsMessage text (Err e) has octets Grammar v =
+    LacksMemory has octets e.kind
+    ⊎ (IsUncounted has octets (fault e.kind) × IsUncountable has Grammar v (fault e.kind))

@@ -9,6 +9,7 @@ use crate::length::Length;
 use crate::source_sink::{Sink, Source};
 use std::alloc::Global;
 
+/// How many bytes a source is asked for at once.
 const PIECE: usize = 65536;
 
 /// All that the source gives up to its end: `Overflow` as soon as more than `Length::MAX` bytes came.
@@ -16,7 +17,8 @@ pub(crate) fn read_all<R: Source>(alloc: Global, source: &mut R) -> Result<Vec<u
     ensures all { IfOk result (λ bytes. GivesAll (R.remaining source.old) (R.remaining source.new) bytes.items) }
     ensures within { IfOk result (λ bytes. length bytes.items ≤ limit) }
     ensures same { OnOk result (R.refusals source.new ≡ R.refusals source.old) }
-    ensures err { IfErr result (λ e. ((e.kind ≡ ErrorKind.File) × SomeRefused (R.refusals source.old) (R.refusals source.new))
+    ensures err { IfErr result (λ e.
+        ((e.kind ≡ ErrorKind.File) × SomeRefused (R.refusals source.old) (R.refusals source.new))
         ⊎ (e.kind ≡ ErrorKind.OutOfMemory)
         ⊎ ((e.kind ≡ ErrorKind.Overflow) × GivesMore limit piece (R.remaining source.old) (R.remaining source.new))) }
 {
@@ -39,7 +41,8 @@ pub(crate) fn read_all<R: Source>(alloc: Global, source: &mut R) -> Result<Vec<u
 
 /// Hands all the bytes to the sink, in order, and flushes.
 pub(crate) fn write_all<W: Sink>(bytes: &[u8], sink: &mut W) -> Result<()>
-    ensures { WritesAll bytes.now result (W.contents sink.old) (W.contents sink.new) (W.refusals sink.old) (W.refusals sink.new) }
+    ensures { WritesAll bytes.now result (W.contents sink.old) (W.contents sink.new)
+        (W.refusals sink.old) (W.refusals sink.new) }
 {
     let mut done = 0;
     while done < bytes.len() {

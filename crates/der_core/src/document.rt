@@ -1,14 +1,13 @@
 //! Documents: whole SEQUENCEs, whose contents aren't looked at.
-ghost use Rattle.std.specs.Prelude.{◌≡◌, ◌≤◌, ◌⊎◌, [], length, refl, ⊤, OnOk, IfOk, IfErr};
+ghost use Rattle.std.specs.Prelude.{◌≡◌, ◌≢◌, ◌≤◌, [], length, refl, ⊤, IfOk, IfErr};
 ghost use Rattle.der_core.specs.Carrying.{ReadsDocument, WritesAll};
-ghost use Rattle.der_core.specs.Document.{IsDocument, IsShortest, IsUncountable};
+ghost use Rattle.der_core.specs.Document.{IsDocument};
 ghost use Rattle.der_core.specs.DocumentLaws.{IsDocument-prop};
 ghost use Rattle.der_core.specs.Length.{limit};
-ghost use Rattle.der_core.specs.Reading.{Refuses, TellsOfBytes};
+ghost use Rattle.der_core.specs.Reading.{Refuses};
 ghost use Rattle.der_core.specs.Refusal.{IsFile};
 ghost use Rattle.der_core.specs.Texts.{AreBytes};
 ghost use Rattle.der_core.specs.Tlv.{Tlv, tlv};
-ghost use Rattle.der_core.specs.Writing.{IsUncounted, LacksMemory, fault};
 
 use crate::back_writer::BackWriter;
 use crate::carry::{read_all, write_all};
@@ -84,7 +83,7 @@ pub struct Document {
 }
 
 impl Document {
-    ghost use Rattle.der_core.specs.Documents.{text_of};
+    ghost use Rattle.der_core.specs.Documents.{HoldsMessage, text_of};
 
     /// A copy of these bytes, where they are one SEQUENCE. `OutOfMemory` is answered only where they are.
     pub fn from_der(alloc: Global, bytes: &[u8]) -> Result<Document>
@@ -103,11 +102,9 @@ impl Document {
         alloc: Global,
         message: &T,
     ) -> Result<Document>
-        ensures has { OnOk result (T.has_contents (T.value message.now)) }
-        ensures ok { IfOk result (λ document. text_of document ≡ tlv T.TAG.octet (T.written_contents (T.value message.now))) }
-        ensures shortest { IfOk result (λ document. IsShortest (λ v. Tlv T.TAG.octet (T.contents v)) (T.value message.now) (text_of document)) }
-        ensures uncounted { IfErr result (λ e. LacksMemory (T.has_contents (T.value message.now)) (tlv T.TAG.octet (T.written_contents (T.value message.now))) e.kind ⊎ IsUncounted (T.has_contents (T.value message.now)) (tlv T.TAG.octet (T.written_contents (T.value message.now))) (fault e.kind)) }
-        ensures err { IfErr result (λ e. LacksMemory (T.has_contents (T.value message.now)) (tlv T.TAG.octet (T.written_contents (T.value message.now))) e.kind ⊎ IsUncountable (T.has_contents (T.value message.now)) (λ v. Tlv T.TAG.octet (T.contents v)) (T.value message.now) (fault e.kind)) }
+        ensures { HoldsMessage text_of result (T.has_contents (T.value message.now))
+            (tlv T.TAG.octet (T.written_contents (T.value message.now)))
+            (λ v. Tlv T.TAG.octet (T.contents v)) (T.value message.now) }
     {
         let length = message.encoded_len()?.to_usize();
         let mut bytes = vec![in alloc; 0u8; length]?;
@@ -131,25 +128,29 @@ impl Document {
     }
 
     /// All that the source gives up to its end, where that is one SEQUENCE. It stops with `Overflow` as soon as more than
-    /// `Length::MAX` bytes came. `File` is answered only where the source refused a call.
+    /// `Length::MAX` bytes came, so it returns on a source that never ends. `File` is answered only where the source
+    /// refused a call. After a refusal the source has moved on.
     pub fn read_from<R: Source>(alloc: Global, source: &mut R) -> Result<Document>
-        ensures { ReadsDocument text_of result (R.remaining source.old) (R.remaining source.new) (R.refusals source.old) (R.refusals source.new) }
+        ensures { ReadsDocument text_of result (R.remaining source.old) (R.remaining source.new)
+            (R.refusals source.old) (R.refusals source.new) }
     {
         let bytes = read_all(alloc, source)?;
         AnySequence::from_der(NoMemory, bytes.as_slice())?;
         Ok(Document { bytes })
     }
 
-    /// Hands all bytes to the sink, in order, and flushes. `File` is answered where the sink refused a call.
+    /// Hands all bytes to the sink, in order, and flushes. The only refusal is `File`, where the sink refused a call: then
+    /// it took a beginning of the bytes. No memory is taken.
     pub fn write_to<W: Sink>(&self, sink: &mut W) -> Result<()>
-        ensures { WritesAll (text_of self.now) result (W.contents sink.old) (W.contents sink.new) (W.refusals sink.old) (W.refusals sink.new) }
+        ensures { WritesAll (text_of self.now) result (W.contents sink.old) (W.contents sink.new)
+            (W.refusals sink.old) (W.refusals sink.new) }
     {
         write_all(self.bytes.as_slice(), sink)
     }
 
-    /// The document that the file holds: `read_from` on it. `File` is answered too where it can't be opened.
+    /// The document that the file holds: `read_from` on it. `File` is answered too where the file can't be opened.
     pub fn read_der_file<Rt: Files>(rt: &Rt, alloc: Global, path: Path<'_>) -> Result<Document>
-        ensures { IfErr result (λ e. IsFile e ⊎ (e.kind ≡ ErrorKind.OutOfMemory) ⊎ TellsOfBytes e.kind) }
+        ensures { IfErr result (λ e. e.kind ≢ ErrorKind.NoRoom) }
     {
         let Ok(file) = File::open(rt, path) else {
             return Err(Error::new(ErrorKind::File));
@@ -157,7 +158,8 @@ impl Document {
         Document::read_from(alloc, &mut FromRead::new(file))
     }
 
-    /// Creates the file, or cuts an old one to nothing, and then `write_to` on it.
+    /// Creates the file, or cuts an old one to nothing, then `write_to` on it. `File` is answered too where it can't be
+    /// created. After a refusal the file may hold a beginning of the bytes.
     pub fn write_der_file<Rt: Files>(&self, rt: &Rt, path: Path<'_>) -> Result<()>
         ensures { IfErr result IsFile }
     {
@@ -176,7 +178,7 @@ pub struct SecretDocument {
 }
 
 impl SecretDocument {
-    ghost use Rattle.der_core.specs.Documents.{secret_text_of};
+    ghost use Rattle.der_core.specs.Documents.{HoldsMessage, secret_text_of};
 
     /// A copy of these bytes, where they are one SEQUENCE. `OutOfMemory` is answered only where they are.
     pub fn from_der(alloc: Global, bytes: &[u8]) -> Result<SecretDocument>
@@ -194,11 +196,9 @@ impl SecretDocument {
         alloc: Global,
         message: &T,
     ) -> Result<SecretDocument>
-        ensures has { OnOk result (T.has_contents (T.value message.now)) }
-        ensures ok { IfOk result (λ document. secret_text_of document ≡ tlv T.TAG.octet (T.written_contents (T.value message.now))) }
-        ensures shortest { IfOk result (λ document. IsShortest (λ v. Tlv T.TAG.octet (T.contents v)) (T.value message.now) (secret_text_of document)) }
-        ensures uncounted { IfErr result (λ e. LacksMemory (T.has_contents (T.value message.now)) (tlv T.TAG.octet (T.written_contents (T.value message.now))) e.kind ⊎ IsUncounted (T.has_contents (T.value message.now)) (tlv T.TAG.octet (T.written_contents (T.value message.now))) (fault e.kind)) }
-        ensures err { IfErr result (λ e. LacksMemory (T.has_contents (T.value message.now)) (tlv T.TAG.octet (T.written_contents (T.value message.now))) e.kind ⊎ IsUncountable (T.has_contents (T.value message.now)) (λ v. Tlv T.TAG.octet (T.contents v)) (T.value message.now) (fault e.kind)) }
+        ensures { HoldsMessage secret_text_of result (T.has_contents (T.value message.now))
+            (tlv T.TAG.octet (T.written_contents (T.value message.now)))
+            (λ v. Tlv T.TAG.octet (T.contents v)) (T.value message.now) }
     {
         Ok(SecretDocument {
             document: Document::encode_msg(alloc, message)?,
@@ -221,36 +221,41 @@ impl SecretDocument {
     }
 
     /// All that the source gives up to its end, where that is one SEQUENCE. It stops with `Overflow` as soon as more than
-    /// `Length::MAX` bytes came. `File` is answered only where the source refused a call.
+    /// `Length::MAX` bytes came, so it returns on a source that never ends. `File` is answered only where the source
+    /// refused a call. After a refusal the source has moved on.
     pub fn read_from<R: Source>(alloc: Global, source: &mut R) -> Result<SecretDocument>
-        ensures { ReadsDocument secret_text_of result (R.remaining source.old) (R.remaining source.new) (R.refusals source.old) (R.refusals source.new) }
+        ensures { ReadsDocument secret_text_of result (R.remaining source.old) (R.remaining source.new)
+            (R.refusals source.old) (R.refusals source.new) }
     {
         Ok(SecretDocument {
             document: Document::read_from(alloc, source)?,
         })
     }
 
-    /// Hands all bytes to the sink, in order, and flushes. `File` is answered where the sink refused a call.
+    /// Hands all bytes to the sink, in order, and flushes. The only refusal is `File`, where the sink refused a call: then
+    /// it took a beginning of the bytes. No memory is taken.
     pub fn write_to<W: Sink>(&self, sink: &mut W) -> Result<()>
-        ensures { WritesAll (secret_text_of self.now) result (W.contents sink.old) (W.contents sink.new) (W.refusals sink.old) (W.refusals sink.new) }
+        ensures { WritesAll (secret_text_of self.now) result (W.contents sink.old) (W.contents sink.new)
+            (W.refusals sink.old) (W.refusals sink.new) }
     {
         self.document.write_to(sink)
     }
 
-    /// The document that the file holds: `read_from` on it. `File` is answered too where it can't be opened.
+    /// The document that the file holds: `read_from` on it. `File` is answered too where the file can't be opened.
     pub fn read_der_file<Rt: Files>(
         rt: &Rt,
         alloc: Global,
         path: Path<'_>,
     ) -> Result<SecretDocument>
-        ensures { IfErr result (λ e. IsFile e ⊎ (e.kind ≡ ErrorKind.OutOfMemory) ⊎ TellsOfBytes e.kind) }
+        ensures { IfErr result (λ e. e.kind ≢ ErrorKind.NoRoom) }
     {
         Ok(SecretDocument {
             document: Document::read_der_file(rt, alloc, path)?,
         })
     }
 
-    /// Creates the file, or cuts an old one to nothing, and then `write_to` on it.
+    /// Creates the file, or cuts an old one to nothing, then `write_to` on it. `File` is answered too where it can't be
+    /// created. After a refusal the file may hold a beginning of the bytes.
     pub fn write_der_file<Rt: Files>(&self, rt: &Rt, path: Path<'_>) -> Result<()>
         ensures { IfErr result IsFile }
     {

@@ -8,7 +8,7 @@ use Rattle.der_core.specs.IntegerLaws.{integer_relates}
 use Rattle.der_core.specs.Length.{limit}
 use Rattle.der_core.specs.TextLaws.{tlv_relates}
 use Rattle.der_core.specs.Tlv.{tlv}
-use Rattle.der_core.specs.Writing.{LacksMemory, fault}
+use Rattle.der_core.specs.Writing.{IsUncounted, LacksMemory, fault}
 use Rattle.der_core.specs.declared.document.SecretDocument.{SecretDocument}
 use Rattle.der_core.specs.declared.error.ErrorKind.{ErrorKind}
 use Rattle.pkcs1.specs.declared.error.Error.{Error}
@@ -33,9 +33,9 @@ module _ {V : Type 0} (Grammar : V → List ℕ → Type 0) (v : V) {has some : 
 
   -- as making a document of a message tells it
   pub unwritten_as : (written : List ℕ) → (has → length written ≤ limit → Grammar v written) → (e : ErrorKind)
-      → LacksMemory has written e ⊎ IsUncountable has Grammar v (fault e) → IsUnwritten some Grammar v e
+      → LacksMemory has written e ⊎ (IsUncounted has written (fault e) × IsUncountable has Grammar v (fault e)) → IsUnwritten some Grammar v e
   unwritten_as written relates e (inl w) = inl (w.0, written, (w.2, relates w.1 w.2))
-  unwritten_as written relates e (inr w) = inr (uncounted_by (fault e) w)
+  unwritten_as written relates e (inr w) = inr (uncounted_by (fault e) w.1)
 
   pub unwritten_by : (e : ErrorKind) → IsUnwritten has Grammar v e → IsUnwritten some Grammar v e
   unwritten_by e (inl w) = inl w

@@ -20,8 +20,8 @@ invariant_of-result g c =
     let relates = g.met.T.EncodeValue.contents_relate v c.in_ok-encoded_len.ensures.counted.0 in
     record { whole = subst IsDocument (sym same) (written_document t.contents t.written_contents v tag is t.contents_of_bytes relates fits) }
 
-pub returns-clause-shortest : goal.returns-clause-shortest
-returns-clause-shortest g c =
+pub returns : goal.returns
+returns g c =
     let t = g.T.Contents in
     let v = t.value c.args.message.now in
     let tag = g.T.FixedTag.TAG.octet in
@@ -30,4 +30,5 @@ returns-clause-shortest g c =
     let fits : length text ≤ limit = omega (arith, c.in_ok-encoded_len.ensures.counted) in
     let relates = tlv_relates tag t.contents t.written_contents v (g.met.T.EncodeValue.contents_relate v c.in_ok-encoded_len.ensures.counted.0) (omega (arith, fits)) in
     let least = tlv_shortest tag t.contents t.written_contents t.has_contents g.met.T.EncodeValue.contents_shortest v in
-    subst (IsShortest (λ w. Tlv tag (t.contents w)) v) (sym same) (shortest_is (λ w. Tlv tag (t.contents w)) v text least relates fits)
+    let shortest : IsShortest (λ w. Tlv tag (t.contents w)) v text = shortest_is (λ w. Tlv tag (t.contents w)) v text least relates fits in
+    (c.in_ok-encoded_len.ensures.counted.0, same, subst (IsShortest (λ w. Tlv tag (t.contents w)) v) (sym same) shortest)

@@ -22,4 +22,4 @@ returns-in_err-encode_msg-clause-err g c =
     let written = written_private_key g.U.Text.written_text in
     rw (p.1, p.2) (unwritten_as (λ v. Tlv 48 (PrivateKeyContents text v)) key (λ has. has) (tlv 48 (written key))
     (λ has fits. tlv_relates 48 (PrivateKeyContents text) written key (private_relates text g.U.Text.has_text g.U.Text.written_text g.met.U.Encode.text_relates key has) (omega (arith, fits)))
-    _ c.in_err-encode_msg.ensures.err)
+    _ c.in_err-encode_msg.ensures)

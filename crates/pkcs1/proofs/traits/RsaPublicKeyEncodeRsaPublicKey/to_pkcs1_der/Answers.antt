@@ -9,7 +9,7 @@ use Rattle.pkcs1.proofs.traits.RsaPublicKeyEncodeRsaPublicKey.to_pkcs1_der.Goals
 pub returns-clause-text : goal.returns-clause-text
 returns-clause-text g c =
     let key = key_of c.as_key_ref.result in
-    rw (← c.as_key_ref.ensures) (public_only key _ c.in_ok-encode_msg.ensures.shortest)
+    rw (← c.as_key_ref.ensures) (public_only key _ c.in_ok-encode_msg.ensures.2)
 
 pub returns-in_err-encode_msg-clause-err : goal.returns-in_err-encode_msg-clause-err
 returns-in_err-encode_msg-clause-err g c =
@@ -18,4 +18,4 @@ returns-in_err-encode_msg-clause-err g c =
     let n = c.as_key_ref.result.modulus in
     let e = c.as_key_ref.result.public_exponent in
     let some = public_made key (holds_canonical _ n.canonical) (holds_canonical _ e.canonical) n.bounded e.bounded in
-    rw (← c.as_key_ref.ensures, p.1, p.2) (unwritten_as RsaPublicKey key (λ _. some) _ (public_written key) _ c.in_err-encode_msg.ensures.err)
+    rw (← c.as_key_ref.ensures, p.1, p.2) (unwritten_as RsaPublicKey key (λ _. some) _ (public_written key) _ c.in_err-encode_msg.ensures)
