@@ -45,8 +45,8 @@ fn run_lines(rt: &HostRuntime) -> Result<(), Fault> {
     run::run(rt.alloc(), &mut source, &mut sink)
 }
 
-// Whether it went well. What went wrong is told.
-fn told<E: Display + Drop>(rt: &impl Eprint, answer: Result<(), E>) -> bool {
+// Whether it went well. What went wrong is told on standard error.
+fn reported<E: Display + Drop>(rt: &impl Eprint, answer: Result<(), E>) -> bool {
     match answer {
         Ok(()) => true,
         Err(error) => {
@@ -63,15 +63,15 @@ fn main(rt: HostRuntime) -> ExitCode {
         Err(_) => Plan::Usage,
     };
     let ok = match plan {
-        Plan::Usage => told(&rt, Err(USAGE)),
-        Plan::Lines => told(&rt, run_lines(&rt)),
+        Plan::Usage => reported(&rt, Err(USAGE)),
+        Plan::Lines => reported(&rt, run_lines(&rt)),
         Plan::CopyPub { input, output } => {
             let (input, output) = (Path::new(input), Path::new(output));
-            told(&rt, copy_pub(&rt, rt.alloc(), input, output))
+            reported(&rt, copy_pub(&rt, rt.alloc(), input, output))
         }
         Plan::CopyPriv { input, output } => {
             let (input, output) = (Path::new(input), Path::new(output));
-            told(&rt, copy_priv(&rt, rt.alloc(), input, output))
+            reported(&rt, copy_priv(&rt, rt.alloc(), input, output))
         }
     };
     ExitCode::from(status(&plan, ok))

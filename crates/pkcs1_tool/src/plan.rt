@@ -6,36 +6,38 @@ ghost use Rattle.pkcs1_tool.specs.Plan.{asked_by, status_of, task_of};
 /// What the program is to do.
 #[derive(Clone, Copy, Debug, PartialEq, Eq)]
 pub enum Plan<'a> {
+    /// To answer lines.
     Lines,
+    /// To tell how it is used.
     Usage,
+    /// To read a public key from the file `input` and write it to the file `output`.
     CopyPub { input: &'a str, output: &'a str },
+    /// To read a private key from the file `input` and write it to the file `output`.
     CopyPriv { input: &'a str, output: &'a str },
 }
 
-/// The plan for these words.
+/// The plan for these words, which leave out the program's name: `Lines` for none, a copy for exactly `copy pub IN OUT` and
+/// `copy priv IN OUT`, else `Usage`.
 pub fn plan_of(words: &[String]) -> Plan<'_>
     ensures { task_of result ≡ asked_by (map string_bytes words.now) }
 {
-    if words.is_empty() {
-        Plan::Lines
-    } else if words.len() != 4 || words[0].as_str() != "copy" {
-        Plan::Usage
-    } else if words[1].as_str() == "pub" {
-        Plan::CopyPub {
-            input: words[2].as_str(),
-            output: words[3].as_str(),
+    match words {
+        [] => Plan::Lines,
+        [copy, kind, input, output] if copy.as_str() == "copy" => {
+            let (input, output) = (input.as_str(), output.as_str());
+            if kind.as_str() == "pub" {
+                Plan::CopyPub { input, output }
+            } else if kind.as_str() == "priv" {
+                Plan::CopyPriv { input, output }
+            } else {
+                Plan::Usage
+            }
         }
-    } else if words[1].as_str() == "priv" {
-        Plan::CopyPriv {
-            input: words[2].as_str(),
-            output: words[3].as_str(),
-        }
-    } else {
-        Plan::Usage
+        _ => Plan::Usage,
     }
 }
 
-/// The status to end with.
+/// The status to end with: 2 for `Usage`, else 0 where all went well, and 1 where not.
 pub fn status(plan: &Plan<'_>, ok: bool) -> u8
     ensures { result ≡ status_of plan.now ok }
 {

@@ -1,0 +1,30 @@
+//! Keys in memory.
+ghost use Rattle.std.specs.Prelude.{◌≡◌, ℕ, List, IfOk, OnErr};
+ghost use Rattle.der_core.specs.Document.{Means};
+ghost use Rattle.der_core.specs.Documents.{text_of};
+ghost use Rattle.pkcs1.specs.Keys.{PrivateKey, PublicKey, RsaPrivateKey, RsaPublicKey};
+ghost use Rattle.pkcs1.specs.KeyTexts.{IsOnlyText};
+
+use pkcs1::der::Document;
+use pkcs1::{EncodeRsaPublicKey, Result, RsaPrivateKeyRef, RsaPublicKeyRef};
+use std::alloc::Global;
+
+/// The modulus of a public key: its bytes, most significant first, without leading zeros.
+pub fn modulus_of(text: &[u8]) -> Result<&[u8]>
+    ensures ok { IfOk result (λ modulus. (key : PublicKey (List ℕ))
+        × Means RsaPublicKey text.now key × (modulus.now ≡ key.modulus)) }
+    ensures err { OnErr result ((key : PublicKey (List ℕ)) → Means RsaPublicKey text.now key → ⊥) }
+{
+    let key = RsaPublicKeyRef::try_from(text)?;
+    Ok(key.modulus.as_bytes())
+}
+
+/// The text of the public half of a private key.
+pub fn public_half(alloc: Global, text: &[u8]) -> Result<Document>
+    ensures { IfOk result (λ document. (key : PrivateKey (List ℕ)) × Means RsaPrivateKey text.now key
+        × IsOnlyText RsaPublicKey (record { modulus = key.modulus; public_exponent = key.public_exponent })
+        (text_of document)) }
+{
+    let key = RsaPrivateKeyRef::decode_key(alloc, text)?;
+    key.public_key().to_pkcs1_der(alloc)
+}

@@ -1,0 +1,10 @@
+//! Uses of keys: the examples of docs/USING.md.
+#![tactic(auto)]
+
+mod bytes;
+mod files;
+mod refusals;
+
+pub use bytes::{modulus_of, public_half};
+pub use files::publish;
+pub use refusals::Advice;

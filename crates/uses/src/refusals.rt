@@ -1,0 +1,37 @@
+//! What refusals say.
+ghost use Rattle.std.specs.Prelude.{◌≡◌};
+ghost use Rattle.der_core.specs.Reading.{TellsOfBytes};
+ghost use Rattle.der_core.specs.Refusal.{IsFile};
+ghost use Rattle.pkcs1.specs.Refusals.{IsAsn1};
+
+use pkcs1::Error;
+use pkcs1::der::ErrorKind;
+
+/// What to do after a refusal.
+#[derive(Clone, Copy, Debug, PartialEq, Eq)]
+pub enum Advice {
+    /// Memory was wanted. Another time the call may be answered.
+    TryAgain,
+    /// The file couldn't be opened, read, created or written.
+    LookAtTheFile,
+    /// The bytes are no key, or the key has no text.
+    LookAtTheKey,
+}
+
+impl Advice {
+    /// What to do after a key was refused.
+    pub fn after(error: &Error) -> Advice
+        ensures memory { IsAsn1 (λ e. e.kind ≡ ErrorKind.OutOfMemory) error.now → result ≡ Advice.TryAgain }
+        ensures file { IsAsn1 IsFile error.now → result ≡ Advice.LookAtTheFile }
+        ensures bytes { IsAsn1 (λ e. TellsOfBytes e.kind) error.now → result ≡ Advice.LookAtTheKey }
+    {
+        match error {
+            Error::Asn1(refusal) => match refusal.kind() {
+                ErrorKind::OutOfMemory => Advice::TryAgain,
+                ErrorKind::File => Advice::LookAtTheFile,
+                _ => Advice::LookAtTheKey,
+            },
+            _ => Advice::LookAtTheKey,
+        }
+    }
+}
