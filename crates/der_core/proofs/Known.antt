@@ -12,7 +12,7 @@ use Rattle.der_core.specs.Integer.{Integer, IntegerContents, Small}
 use Rattle.der_core.specs.Input.{header_at}
 use Rattle.der_core.specs.ListLaws.{same_cons}
 use Rattle.der_core.specs.TextLaws.{tlv_split, tlv_not_empty}
-use Rattle.der_core.proofs.Base.{ok_pair}
+use Rattle.der_core.specs.InputLaws.{ok_pair}
 use Rattle.der_core.proofs.Headers.{tlv_header}
 
 -- Length octets in the long form.

@@ -1,13 +1,8 @@
 pub mod Base
 pub mod Headers
 pub mod Blanket
-pub mod Whole
-pub mod Sequences
-pub mod LastParts
 pub mod Members
 pub mod Growing
-pub mod Stopping
-pub mod Counting
 pub mod IntegerFaults
 pub mod IntegerLengths
 pub mod Refusals
@@ -19,6 +14,5 @@ pub mod SequenceOf
 pub mod Items
 pub mod Moves
 pub mod Smalls
-pub mod Fronts
 pub mod Documents
 pub mod DocumentRows

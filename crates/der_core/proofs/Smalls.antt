@@ -1,14 +1,16 @@
 -- Reading the contents of an INTEGER from 0 to 255.
-use Rattle.std.proofs.Common.{◌≡◌, ℕ, ◌<◌, ◌≤◌, ◌^◌, List, [], ◌∷◌, length, take, drop, take_all, refl, sym, ap, ◌∙◌, arith, inl, inr, Result, Ok, Err, true, false, cond, Some, None}
+use Rattle.std.proofs.Common.{◌≡◌, ℕ, ◌<◌, ◌≤◌, ◌^◌, List, [], ◌∷◌, length, take, drop, take_all, refl, sym, ap, ◌∙◌, arith, inl, inr, Result, Ok, Err, true, false, Some, None}
 use Rattle.std.specs.Prelude.{nat_lt, ◌==◌}
 use Rattle.std.specs.Int.Digits.{number_from_digits}
 use Rattle.std.proofs.lemmas.Bool.Decides.{nat_tests}
 use Rattle.std.proofs.Math.Nat.{pow-le-pow_right}
 use Rattle.der_core.specs.Integer.{IsCanonical, IntegerContents, SmallContents, HoldsNumber}
 use Rattle.der_core.specs.NumberLaws.{base256_ge}
-use Rattle.der_core.proofs.Base.{chosen, ok_pair}
+use Rattle.der_core.proofs.Base.{chosen}
+use Rattle.der_core.specs.InputLaws.{ok_pair}
 use Rattle.der_core.specs.Input.{Input, read_from, front_of}
-use Rattle.der_core.specs.Reading.{HoldsBytes}
+use Rattle.der_core.specs.Reading.{HoldsBytes, TellsOfBytes}
+use Rattle.der_core.specs.Tells.{is_value}
 use Rattle.der_core.specs.IntegerReading.{integer_of, as_small, small_of}
 use Rattle.der_core.specs.declared.tag.Tag.{Tag}
 use Rattle.der_core.specs.declared.error.ErrorKind.{ErrorKind}
@@ -62,31 +64,36 @@ small_read n c (l, bytes, e, i) =
 pub small_none : (n : ℕ) (c : List ℕ) (k : ErrorKind) → small_of c ≡ Err k → SmallContents n c → ⊥
 small_none n c k e p = let r : small_of c ≡ Ok n = small_read n c p in let no = sym r ∙ e in cc
 
--- It isn't for want of memory.
-no_memory : (r : Result (List ℕ) ErrorKind) → (r ≡ Err kind.OutOfMemory → ⊥) → as_small r ≡ Err kind.OutOfMemory → ⊥
-no_memory (Err k) h e = h (let same : k ≡ kind.OutOfMemory = cc in ap (λ x. Err x) same)
-no_memory (Ok bytes) h e =
-    elim (nat_lt (number_from_digits 256 bytes) 256) as (λ t. cond {A = Result ℕ ErrorKind} t (Ok (number_from_digits 256 bytes)) (Err (kind.Value integer)) ≡ Err kind.OutOfMemory → ⊥) [
-      | true ↦ λ f. cc
-      | false ↦ λ f. cc
-    ] e
-
-integer_no_memory : (c : List ℕ) → integer_of c ≡ Err kind.OutOfMemory → ⊥
-integer_no_memory [] e = cc
-integer_no_memory (x ∷ []) e = elim (chosen (nat_lt x 128) _ _ _ e) [
+-- It is refused by what the bytes are.
+as_tells : (k : ErrorKind) (r : Result (List ℕ) ErrorKind) → ((d : ErrorKind) → r ≡ Err d → TellsOfBytes d) → as_small r ≡ Err k → TellsOfBytes k
+as_tells k (Err d) h e = let same : d ≡ k = cc in h k (ap (λ x. Err x) same)
+as_tells k (Ok bytes) h e = elim (chosen (nat_lt (number_from_digits 256 bytes) 256) _ _ _ e) [
   | inl w ↦ let no = w.1 in cc
-  | inr w ↦ let no = w.1 in cc
+  | inr w ↦ value_tells k w.1
 ]
-integer_no_memory (x ∷ y ∷ ys) e = elim (chosen (nat_lt x 128) _ _ _ e) [
+  where
+    value_tells : (k : ErrorKind) → ◌≡◌ {A = Result ℕ ErrorKind} (Err (kind.Value integer)) (Err k) → TellsOfBytes k
+    value_tells k e = let same : kind.Value integer ≡ k = cc in is_value (sym same)
+
+integer_tells : (c : List ℕ) (k : ErrorKind) → integer_of c ≡ Err k → TellsOfBytes k
+integer_tells [] k e = let same : kind.Length integer ≡ k = cc in (λ no. cc, λ no. cc, λ no. cc)
+integer_tells (x ∷ []) k e = elim (chosen (nat_lt x 128) _ _ _ e) [
+  | inl w ↦ let no = w.1 in cc
+  | inr w ↦ let is = w.1 in let same : kind.Value integer ≡ k = cc in is_value (sym same)
+]
+integer_tells (x ∷ y ∷ ys) k e = elim (chosen (nat_lt x 128) _ _ _ e) [
   | inl w ↦ elim (chosen (x == 0) _ _ _ w.1) [
-    | inl v ↦ elim (chosen (nat_lt y 128) _ _ _ v.1) [ inl u ↦ let no = u.1 in cc | inr u ↦ let no = u.1 in cc ]
+    | inl v ↦ elim (chosen (nat_lt y 128) _ _ _ v.1) [
+      | inl u ↦ let is = u.1 in let same : kind.Noncanonical integer ≡ k = cc in (λ no. cc, λ no. cc, λ no. cc)
+      | inr u ↦ let no = u.1 in cc
+    ]
     | inr v ↦ let no = v.1 in cc
   ]
-  | inr w ↦ let no = w.1 in cc
+  | inr w ↦ let is = w.1 in let same : kind.Value integer ≡ k = cc in is_value (sym same)
 ]
 
-pub small_no_memory : (c : List ℕ) → small_of c ≡ Err kind.OutOfMemory → ⊥
-small_no_memory c e = no_memory (integer_of c) (integer_no_memory c) e
+pub small_tells : (c : List ℕ) (k : ErrorKind) → small_of c ≡ Err k → TellsOfBytes k
+small_tells c k e = as_tells k (integer_of c) (integer_tells c) e
 
 -- All that was left was read.
 pub all_read : (left : Input) (n : ℕ) (c rest all : List ℕ) → HoldsBytes left n → read_from left (front_of n) ≡ Ok (c, rest) → left ≡ Some all → c ≡ all

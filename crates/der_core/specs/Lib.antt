@@ -31,6 +31,7 @@ pub mod SliceLaws
 pub mod TagLaws
 pub mod SequenceOfLaws
 pub mod Outside
+pub mod Carrying
 pub mod Wrap
 pub mod Refusal
 pub mod SmallLaws
@@ -41,3 +42,12 @@ pub mod OctetString
 pub mod OctetStringLaws
 pub mod OctetStringRefs
 pub mod Members
+pub mod Tells
+pub mod Sequences
+pub mod LastParts
+pub mod Counting
+pub mod Stopping
+pub mod Fronts
+pub mod Whole
+pub mod OptionalReads
+pub mod ShortTexts

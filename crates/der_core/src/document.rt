@@ -1,24 +1,32 @@
 //! Documents: whole SEQUENCEs, whose contents aren't looked at.
 ghost use Rattle.std.specs.Prelude.{◌≡◌, ◌≤◌, ◌⊎◌, [], length, refl, ⊤, OnOk, IfOk, IfErr};
+ghost use Rattle.der_core.specs.Carrying.{ReadsDocument, WritesAll};
 ghost use Rattle.der_core.specs.Document.{IsDocument, IsShortest, IsUncountable};
 ghost use Rattle.der_core.specs.DocumentLaws.{IsDocument-prop};
 ghost use Rattle.der_core.specs.Length.{limit};
-ghost use Rattle.der_core.specs.Reading.{Refuses};
+ghost use Rattle.der_core.specs.Reading.{Refuses, TellsOfBytes};
+ghost use Rattle.der_core.specs.Refusal.{IsFile};
 ghost use Rattle.der_core.specs.Texts.{AreBytes};
 ghost use Rattle.der_core.specs.Tlv.{Tlv, tlv};
 ghost use Rattle.der_core.specs.Writing.{IsUncounted, LacksMemory, fault};
 
 use crate::back_writer::BackWriter;
+use crate::carry::{read_all, write_all};
 use crate::decode::{Decode, DecodeValue};
 use crate::encode::{Encode, EncodeValue};
-use crate::error::Result;
+use crate::error::{Error, ErrorKind, Result};
 use crate::header::Header;
 use crate::length::Length;
 use crate::memory::{NoMemory, copy_of};
 use crate::reader::Reader;
+use crate::source_sink::{Sink, Source};
 use crate::types::{Contents, FixedTag, Kinded, Sequence, SequenceTag};
+use crate::wrap::{FromRead, ToWrite};
 use std::alloc::Global;
 use std::fmt;
+use std::fs::File;
+use std::path::Path;
+use std::rt::Files;
 
 /// A SEQUENCE that was there. Its contents aren't kept.
 #[derive(Drop)]
@@ -121,6 +129,43 @@ impl Document {
     {
         Length::of(self.bytes.len())
     }
+
+    /// All that the source gives up to its end, where that is one SEQUENCE. It stops with `Overflow` as soon as more than
+    /// `Length::MAX` bytes came. `File` is answered only where the source refused a call.
+    pub fn read_from<R: Source>(alloc: Global, source: &mut R) -> Result<Document>
+        ensures { ReadsDocument text_of result (R.remaining source.old) (R.remaining source.new) (R.refusals source.old) (R.refusals source.new) }
+    {
+        let bytes = read_all(alloc, source)?;
+        AnySequence::from_der(NoMemory, bytes.as_slice())?;
+        Ok(Document { bytes })
+    }
+
+    /// Hands all bytes to the sink, in order, and flushes. `File` is answered where the sink refused a call.
+    pub fn write_to<W: Sink>(&self, sink: &mut W) -> Result<()>
+        ensures { WritesAll (text_of self.now) result (W.contents sink.old) (W.contents sink.new) (W.refusals sink.old) (W.refusals sink.new) }
+    {
+        write_all(self.bytes.as_slice(), sink)
+    }
+
+    /// The document that the file holds: `read_from` on it. `File` is answered too where it can't be opened.
+    pub fn read_der_file<Rt: Files>(rt: &Rt, alloc: Global, path: Path<'_>) -> Result<Document>
+        ensures { IfErr result (λ e. IsFile e ⊎ (e.kind ≡ ErrorKind.OutOfMemory) ⊎ TellsOfBytes e.kind) }
+    {
+        let Ok(file) = File::open(rt, path) else {
+            return Err(Error::new(ErrorKind::File));
+        };
+        Document::read_from(alloc, &mut FromRead::new(file))
+    }
+
+    /// Creates the file, or cuts an old one to nothing, and then `write_to` on it.
+    pub fn write_der_file<Rt: Files>(&self, rt: &Rt, path: Path<'_>) -> Result<()>
+        ensures { IfErr result IsFile }
+    {
+        let Ok(file) = File::create(rt, path) else {
+            return Err(Error::new(ErrorKind::File));
+        };
+        self.write_to(&mut ToWrite::new(file))
+    }
 }
 
 /// One whole SEQUENCE, of at most `Length::MAX` bytes, that is secret: `Debug` shows none of its bytes, it can't be
@@ -173,6 +218,43 @@ impl SecretDocument {
         ensures { result ≡ length (secret_text_of self.now) }
     {
         self.document.len()
+    }
+
+    /// All that the source gives up to its end, where that is one SEQUENCE. It stops with `Overflow` as soon as more than
+    /// `Length::MAX` bytes came. `File` is answered only where the source refused a call.
+    pub fn read_from<R: Source>(alloc: Global, source: &mut R) -> Result<SecretDocument>
+        ensures { ReadsDocument secret_text_of result (R.remaining source.old) (R.remaining source.new) (R.refusals source.old) (R.refusals source.new) }
+    {
+        Ok(SecretDocument {
+            document: Document::read_from(alloc, source)?,
+        })
+    }
+
+    /// Hands all bytes to the sink, in order, and flushes. `File` is answered where the sink refused a call.
+    pub fn write_to<W: Sink>(&self, sink: &mut W) -> Result<()>
+        ensures { WritesAll (secret_text_of self.now) result (W.contents sink.old) (W.contents sink.new) (W.refusals sink.old) (W.refusals sink.new) }
+    {
+        self.document.write_to(sink)
+    }
+
+    /// The document that the file holds: `read_from` on it. `File` is answered too where it can't be opened.
+    pub fn read_der_file<Rt: Files>(
+        rt: &Rt,
+        alloc: Global,
+        path: Path<'_>,
+    ) -> Result<SecretDocument>
+        ensures { IfErr result (λ e. IsFile e ⊎ (e.kind ≡ ErrorKind.OutOfMemory) ⊎ TellsOfBytes e.kind) }
+    {
+        Ok(SecretDocument {
+            document: Document::read_der_file(rt, alloc, path)?,
+        })
+    }
+
+    /// Creates the file, or cuts an old one to nothing, and then `write_to` on it.
+    pub fn write_der_file<Rt: Files>(&self, rt: &Rt, path: Path<'_>) -> Result<()>
+        ensures { IfErr result IsFile }
+    {
+        self.document.write_der_file(rt, path)
     }
 }
 

@@ -6,6 +6,7 @@
 #![tactic(auto)]
 
 mod back_writer;
+mod carry;
 mod decode;
 mod document;
 mod encode;

@@ -5,7 +5,7 @@ use Rattle.der_core.specs.Input.{Input}
 use Rattle.der_core.specs.Texts.{Joins}
 use Rattle.der_core.specs.Tlv.{Tlv}
 use Rattle.der_core.specs.Reading.{AsksWithin}
-use Rattle.der_core.proofs.Sequences.{ContentsFail, ContentsGive}
+use Rattle.der_core.specs.Sequences.{ContentsFail, ContentsGive}
 use Rattle.spki_core.specs.Any.{TagAndContents}
 use Rattle.spki_core.specs.AlgorithmIdentifier.{Algorithm, PlainAlgorithm, MaskAlgorithm}
 use Rattle.spki_core.specs.AlgorithmLaws.{plain_delimited, mask_delimited}

@@ -55,7 +55,7 @@ module _ {U : Type 0} (number : U → List ℕ) (held : (u : U) → IsHeld (numb
   )
 
   -- So a key that can be written has a text.
-  held_has_text : (key : declared.RsaPrivateKey U) → HasPrivateKey IsCanonical (private_of number key) → HasText RsaPrivateKey (private_of number key)
+  pub held_has_text : (key : declared.RsaPrivateKey U) → HasPrivateKey IsCanonical (private_of number key) → HasText RsaPrivateKey (private_of number key)
   held_has_text key has = private_made (private_of number key) (numbers_held key) (others_held key.other_prime_infos has.1.1)
 
   pub refused_held : (key : declared.RsaPrivateKey U) (room : ℕ) (result : Result ℕ Error)

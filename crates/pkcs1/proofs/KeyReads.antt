@@ -9,7 +9,7 @@ use Rattle.der_core.specs.IntegerLaws.{small_delimited}
 use Rattle.der_core.specs.declared.error.ErrorKind.{ErrorKind}
 use Rattle.der_core.specs.Input.{Input}
 use Rattle.der_core.specs.Reading.{Refuses}
-use Rattle.der_core.proofs.Sequences.{some_same, TextFails, TextGives}
+use Rattle.der_core.specs.Sequences.{some_same, TextFails, TextGives}
 use Rattle.std.specs.Prelude.{Option}
 use Rattle.pkcs1.specs.Asking.{BeginsSequence, AsksForKey}
 use Rattle.pkcs1.specs.Keys.{OtherPrime, OtherPrimeInfos, version_of, PrivateKey, PrivateKeyContents}

@@ -14,8 +14,8 @@ use Rattle.der_core.specs.Writing.{Counts, IsUncounted, Stops, joined, fault}
 use Rattle.der_core.specs.Document.{Fault, no_text, too_long, no_room, another}
 use Rattle.der_core.specs.declared.error.Error.{Error}
 use Rattle.der_core.proofs.Items.{texts_map, have_map}
-use Rattle.der_core.proofs.Counting.{counts_joined}
-use Rattle.der_core.proofs.Stopping.{stops_in_front, stops_behind, if_stops_behind}
+use Rattle.der_core.specs.Counting.{counts_joined}
+use Rattle.der_core.specs.Stopping.{stops_in_front, stops_behind, if_stops_behind}
 use Rattle.der_core.specs.Length.{limit}
 use Rattle.pkcs1.specs.declared.other_prime_info.OtherPrimeInfo as declared
 use Rattle.pkcs1.specs.declared.version.Version.{Version}
@@ -49,7 +49,7 @@ change_counts {P} {Q} x y (Err k) f g e h = go (fault k.kind) h
     go no_room u = absurd u
     go another u = absurd u
 
-change_stops : {P Q : Type 0} (x y old new : List ℕ) (room : ℕ) (k : Fault) → (P → Q) → (Q → P) → x ≡ y → Stops P x room old new k → Stops Q y room old new k
+pub change_stops : {P Q : Type 0} (x y old new : List ℕ) (room : ℕ) (k : Fault) → (P → Q) → (Q → P) → x ≡ y → Stops P x room old new k → Stops Q y room old new k
 change_stops x y old new room no_text f g e h = ((λ q. h.0 (g q)), h.1)
 change_stops x y old new room too_long f g e h = (f h.0, omega (arith, h.1, ap length e), h.2)
 change_stops x y old new room no_room f g e h = (f h.0, omega (arith, h.1, ap length e), omega (arith, h.2, ap length e), (h.3.0, h.3.1, h.3.2 ∙ e, h.3.3))

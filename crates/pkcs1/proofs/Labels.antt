@@ -10,7 +10,7 @@ use Rattle.der_core.specs.Tlv.{tlv}
 use Rattle.der_core.specs.Writing.{Counts, IsUncounted, fault, joined}
 use Rattle.der_core.specs.declared.error.Error.{Error}
 use Rattle.der_core.specs.declared.error.ErrorKind.TheVariants as kind
-use Rattle.der_core.proofs.Counting.{counts_joined}
+use Rattle.der_core.specs.Counting.{counts_joined}
 use Rattle.spki_core.specs.FieldWriting.{HasField}
 use Rattle.spki_core.specs.IdentifierTest.{is_identifier-sound}
 use Rattle.spki_core.specs.ObjectIdentifier.{IsIdentifier}

@@ -6,8 +6,9 @@ use Rattle.der_core.specs.ListLaws.{same_fronts, cons_path}
 use Rattle.der_core.specs.declared.error.ErrorKind.{ErrorKind}
 use Rattle.der_core.specs.Input.{Input, read_from, end_of}
 use Rattle.der_core.specs.Reading.{Refuses, NoneIn, AsksWithin}
-use Rattle.der_core.proofs.Sequences.{some_same, TextFails, TextGives, ContentsFail}
-use Rattle.der_core.proofs.Whole.{trailing_is}
+use Rattle.der_core.specs.Sequences.{some_same, TextFails, TextGives, ContentsFail}
+use Rattle.der_core.specs.Tells.{is_trailing}
+use Rattle.der_core.specs.Whole.{trailing_is}
 use Rattle.pkcs1.specs.Keys.{OtherPrimeContents}
 use Rattle.pkcs1.specs.Writing.{other_numbers}
 use Rattle.pkcs1.specs.PrivateKeyLaws.{joins_put}
@@ -91,7 +92,7 @@ module _ {V : Type 0} (text : V → List ℕ → Type 0) where
           fails.1,
           λ c is.
               inr (
-                λ memory. let kind = more.0 in cc,
+                is_trailing more.0,
                 λ other has.
                     let s = numbers_same all c is (other_numbers other) [] l has in
                     let rest : all.rest ≡ s.0 = some_same all.rest s.0 (sym all.left ∙ s.1) in

@@ -2,7 +2,7 @@
 use Rattle.std.proofs.Common.{◌≡◌, ℕ, List, [], ◌∷◌, arith, Ok, Err, Some, None}
 use Rattle.der_core.specs.declared.error.ErrorKind.{ErrorKind}
 use Rattle.der_core.specs.Input.{Input, read_from, end_of}
-use Rattle.der_core.proofs.Sequences.{ContentsFail, ContentsGive, end_fails, end_gives}
+use Rattle.der_core.specs.Sequences.{ContentsFail, ContentsGive, end_fails, end_gives}
 use Rattle.spki_core.specs.Any.{TagAndContents}
 use Rattle.spki_core.specs.AlgorithmIdentifier.{Algorithm, PlainAlgorithm, MaskAlgorithm}
 use Rattle.spki_core.specs.AlgorithmLaws.{plain_delimited}

@@ -1,5 +1,5 @@
 -- Reading the other primes of a private key.
-use Rattle.std.proofs.Common.{◌≡◌, ◌≢◌, ◌↔◌, ℕ, ◌<◌, List, [], ◌∷◌, ◌++◌, length, map, refl, sym, ap, ◌∙◌, arith, append-nil, length-append, inl, inr, ⊎_elim, Option, Some, None, Result, Ok, Err, Bool, true, false, IsTrue, is_some}
+use Rattle.std.proofs.Common.{◌≡◌, ◌↔◌, ℕ, ◌<◌, List, [], ◌∷◌, ◌++◌, length, map, refl, sym, ap, ◌∙◌, arith, append-nil, length-append, inl, inr, ⊎_elim, Option, Some, None, Result, Ok, Err, Bool, true, false, IsTrue, is_some}
 use Rattle.std.proofs.lemmas.List.{length-map}
 use Rattle.std.specs.Prelude.{slice_get, not}
 use mathlib.Core.Bool.{beq}
@@ -11,10 +11,11 @@ use Rattle.der_core.specs.TextLaws.{tlv_split, tlv_not_empty, joins_map}
 use Rattle.der_core.specs.SequenceOf.{ItemsContents}
 use Rattle.der_core.specs.declared.error.Error.{Error}
 use Rattle.der_core.specs.declared.error.ErrorKind.{ErrorKind}
-use Rattle.der_core.specs.declared.error.ErrorKind.TheVariants.{OutOfMemory}
+use Rattle.der_core.specs.declared.error.ErrorKind.TheVariants.{TrailingData}
 use Rattle.der_core.specs.Input.{Input, read_from, end_of}
-use Rattle.der_core.specs.Reading.{ReadsOptional, Refuses, AskedIn}
-use Rattle.der_core.proofs.Sequences.{some_same, end_gives}
+use Rattle.der_core.specs.Reading.{ReadsOptional, Refuses, TellsOfBytes, AskedIn}
+use Rattle.der_core.specs.Sequences.{some_same, end_gives}
+use Rattle.der_core.specs.Tells.{is_trailing}
 use Rattle.pkcs1.specs.declared.other_prime_info.OtherPrimeInfo as declared
 use Rattle.pkcs1.specs.declared.version.Version.{Version}
 use Rattle.pkcs1.specs.declared.version.Version.TheVariants.{TwoPrime, Multi}
@@ -93,10 +94,10 @@ module _ {U V : Type 0} (value : U → V) (text : V → List ℕ → Type 0) (d 
 
   -- a list of no primes
   pub empty_fails : (n : ℕ) (r : Option (Vec (declared.OtherPrimeInfo U) Global)) (v : Vec (declared.OtherPrimeInfo U) Global) (before mid : Input) (k : ErrorKind)
-      → Found (Ok r) before mid → r ≡ Some v → length v.items ≡ 0 → k ≢ OutOfMemory
+      → Found (Ok r) before mid → r ≡ Some v → length v.items ≡ 0 → TellsOfBytes k
       → (c : List ℕ) → before ≡ Some c → Refuses k (BeginsSequence c) ((o : Option (List (OtherPrime V))) → (version_of o ≡ n) × OtherPrimeInfos text o c → ⊥)
-  empty_fails n r v before mid k f e l other c is =
-      inr (other, λ o has. none o c (sym (others_only r before mid f c is o has.1).0 ∙ ap (others_of value) e) has.1)
+  empty_fails n r v before mid k f e l tells c is =
+      inr (tells, λ o has. none o c (sym (others_only r before mid f c is o has.1).0 ∙ ap (others_of value) e) has.1)
     where
       none : (o : Option (List (OtherPrime V))) (c : List ℕ) → o ≡ Some (map (other_of value) v.items) → OtherPrimeInfos text o c → ⊥
       none None c same has = cc
@@ -118,10 +119,10 @@ module _ {U V : Type 0} (value : U → V) (text : V → List ℕ → Type 0) (d 
         ),
   )
     where
-      kind : (m : Input) (k : ErrorKind) → read_from m end_of ≡ Err k → k ≢ OutOfMemory
-      kind None k h = λ memory. cc
-      kind (Some []) k h = λ memory. cc
-      kind (Some (x ∷ xs)) k h = λ memory. cc
+      kind : (m : Input) (k : ErrorKind) → read_from m end_of ≡ Err k → TellsOfBytes k
+      kind None k h = (λ no. cc, λ no. cc, λ no. cc)
+      kind (Some []) k h = cc
+      kind (Some (x ∷ xs)) k h = let same : TrailingData ≡ k = cc in is_trailing (sym same)
 
       ends : (m : Input) (k : ErrorKind) → read_from m end_of ≡ Err k → m ≡ Some [] → ⊥
       ends m k h is = let no = rw is at h in cc

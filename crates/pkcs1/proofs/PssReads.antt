@@ -6,7 +6,7 @@ use Rattle.der_core.specs.Integer.{Small}
 use Rattle.der_core.specs.IntegerLaws.{small_delimited}
 use Rattle.der_core.specs.Texts.{Joins}
 use Rattle.der_core.specs.Tlv.{Tlv}
-use Rattle.der_core.proofs.Sequences.{ContentsFail, ContentsGive, end_fails, end_gives}
+use Rattle.der_core.specs.Sequences.{ContentsFail, ContentsGive, end_fails, end_gives}
 use Rattle.spki_core.specs.Any.{TagAndContents}
 use Rattle.spki_core.specs.AlgorithmIdentifier.{Algorithm, PlainAlgorithm, MaskAlgorithm}
 use Rattle.spki_core.specs.Explicit.{Field, field, Defaultable}

@@ -1,7 +1,7 @@
 -- The contents of a private key for which memory may be asked for.
 use Rattle.std.specs.Prelude.{ℕ, List, ◌∷◌, ◌++◌, ◌≡◌, ◌<◌, ◌⊎◌, length, map}
 use Rattle.der_core.specs.Texts.{Joins}
-use Rattle.der_core.specs.Integer.{Small, Integer}
+use Rattle.der_core.specs.Integer.{Small, Integer, IntegerContents}
 use Rattle.der_core.specs.Tlv.{Tlv}
 use Rattle.der_core.specs.Reading.{AskedIn, AsksWithin}
 
@@ -22,3 +22,15 @@ AsksForKey NumberText asks c = AsksWithin asks c ⊎ OthersFollow NumberText c
 -- A SEQUENCE that isn't empty stands behind the eighth number of a private key at the front of the text.
 abbrev pub MayAsk : List ℕ → Type 0
 MayAsk text = AskedIn (Tlv 48 (OthersFollow Integer)) text
+
+-- The text of a number, which a number that owns its bytes copies.
+abbrev pub IsCopied : List ℕ → Type 0
+IsCopied text = Tlv 2 (λ c. (bytes : List ℕ) × IntegerContents bytes c) text
+
+-- A number, or a SEQUENCE that isn't empty behind the eighth, stands in a SEQUENCE at the front of the text.
+abbrev pub OwnedKeyAsks : List ℕ → Type 0
+OwnedKeyAsks text = AskedIn (Tlv 48 (AsksForKey Integer IsCopied)) text
+
+-- A number stands in a SEQUENCE at the front of the text.
+abbrev pub OwnedPublicKeyAsks : List ℕ → Type 0
+OwnedPublicKeyAsks text = AskedIn (Tlv 48 (AsksWithin IsCopied)) text

@@ -43,10 +43,10 @@ plain_relates v h fits = tlv_relates 48 (AlgorithmContents Any) (written_algorit
 pub plain_shortest : (v : Algorithm TagAndContents) (b : List ℕ) → PlainAlgorithm v b → IsLeast (HasPlain v) (written_plain v) b
 plain_shortest = tlv_shortest 48 (AlgorithmContents Any) (written_algorithm written_any) HasPlain (algorithm_shortest Any IsAny written_any any_shortest)
 
-mask_relates : (v : Algorithm (Algorithm TagAndContents)) → HasMask v → length (written_mask v) < 2 ^ 128 → MaskAlgorithm v (written_mask v)
+pub mask_relates : (v : Algorithm (Algorithm TagAndContents)) → HasMask v → length (written_mask v) < 2 ^ 128 → MaskAlgorithm v (written_mask v)
 mask_relates v h fits = tlv_relates 48 (AlgorithmContents PlainAlgorithm) (written_algorithm written_plain) v (algorithm_relates PlainAlgorithm HasPlain written_plain plain_relates v h) fits
 
-mask_shortest : (v : Algorithm (Algorithm TagAndContents)) (b : List ℕ) → MaskAlgorithm v b → IsLeast (HasMask v) (written_mask v) b
+pub mask_shortest : (v : Algorithm (Algorithm TagAndContents)) (b : List ℕ) → MaskAlgorithm v b → IsLeast (HasMask v) (written_mask v) b
 mask_shortest = tlv_shortest 48 (AlgorithmContents PlainAlgorithm) (written_algorithm written_plain) HasMask (algorithm_shortest PlainAlgorithm HasPlain written_plain plain_shortest)
 
 -- What is written of both fields, and behind them.

@@ -11,6 +11,7 @@ pub mod OaepWriting
 pub mod OaepParams
 pub mod OaepLaws
 pub mod Spellings
+pub mod StrictFields
 pub mod Forms
 pub mod ParameterEquality
 pub mod DigestEquality
@@ -25,3 +26,12 @@ pub mod PrivateKeyLaws
 pub mod VersionLaws
 pub mod ErrorText
 pub mod Refusals
+pub mod OtherPrimesHeld
+pub mod OtherPrimesLeft
+pub mod PssMasks
+pub mod ViewParts
+pub mod PssSpellings
+pub mod PssSpelled
+pub mod MaskWrites
+pub mod Defaults
+pub mod ParameterLaws

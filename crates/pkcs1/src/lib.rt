@@ -6,10 +6,13 @@ mod error;
 mod laws;
 mod numbers;
 mod other_prime_info;
+mod other_primes;
 mod params;
 mod private_key;
 mod public_key;
+mod traits;
 mod version;
+mod view;
 
 pub use algorithm::{ALGORITHM_OID, algorithm_id, rsa_encryption_oid};
 pub use der_core as der;
@@ -20,12 +23,17 @@ pub use laws::{
     same_keys_have_the_same_text, texts_are_delimited, types_exclude_each_other,
 };
 pub use other_prime_info::{OtherPrimeInfo, OtherPrimeInfos};
+pub use other_primes::OtherPrimes;
 pub use params::{
     RsaOaepParams, RsaOaepParamsOwned, RsaOaepParamsRef, RsaPssParams, RsaPssParamsOwned,
-    RsaPssParamsRef, TrailerField,
+    RsaPssParamsRef, TrailerField, spell_pss_into,
 };
 pub use private_key::{RsaPrivateKey, RsaPrivateKeyOwned, RsaPrivateKeyRef};
 pub use public_key::{RsaPublicKey, RsaPublicKeyOwned, RsaPublicKeyRef};
 pub use spki_core as spki;
 pub use spki_core::ObjectIdentifier;
+pub use traits::{
+    DecodeRsaPrivateKey, DecodeRsaPublicKey, EncodeRsaPrivateKey, EncodeRsaPublicKey,
+};
 pub use version::Version;
+pub use view::RsaPrivateKeyView;

@@ -20,8 +20,8 @@ use crate::public_key::{RsaPublicKey, RsaPublicKeyRef};
 use crate::version::Version;
 use der_core::{
     AsUintRef, BackWriter, Contents, Decode, DecodeValue, Encode, EncodeValue, ErrorKind, Header,
-    Kinded, Length, OctetStringRef, Reader, Result, Sequence, SequenceTag, Tag, Text, TryClone,
-    Uint, UintRef, Writer, joined_len,
+    Kinded, Length, OctetStringRef, Reader, Result, SecretDocument, Sequence, SequenceTag, Tag,
+    Text, TryClone, Uint, UintRef, Writer, joined_len,
 };
 use std::alloc::Global;
 use std::fmt;
@@ -206,6 +206,8 @@ impl<U: Encode> EncodeValue for RsaPrivateKey<U> {
 impl<U: Encode> RsaPrivateKey<U> {
     ghost use Rattle.std.specs.Prelude.{take, drop, IfOk, OnErr};
     ghost use Rattle.der_core.specs.Document.{IsShortest, IsRefused};
+    ghost use Rattle.der_core.specs.Documents.{secret_text_of};
+    ghost use Rattle.pkcs1.specs.KeyTexts.{IsUnwritten};
     ghost use Rattle.der_core.specs.Tlv.{Tlv};
     ghost use Rattle.pkcs1.specs.Refusals.{IsAsn1};
 
@@ -222,6 +224,20 @@ impl<U: Encode> RsaPrivateKey<U> {
             return Err(Error::Asn1(der_core::Error::new(kind)));
         }
         Ok(self.encode_into(out)?)
+    }
+
+    /// The text, as a document: `encode_msg`, which answers `Value` of SEQUENCE where the list of other primes is there
+    /// and empty.
+    pub(crate) fn to_document(&self, alloc: Global) -> crate::Result<SecretDocument>
+        ensures shortest { IfOk result (λ document. IsShortest (λ v. Tlv 48 (PrivateKeyContents U.text v)) (private_of U.value self.now) (secret_text_of document)) }
+        ensures err { IfErr result (IsAsn1 (λ e. IsUnwritten (HasPrivateKey U.has_text (private_of U.value self.now)) (λ v. Tlv 48 (PrivateKeyContents U.text v)) (private_of U.value self.now) e.kind)) }
+        ensures no_primes { ListsNone self.now.other_prime_infos → IsErrAnd result (IsAsn1 (λ e. e.kind ≡ ErrorKind.Value sequence)) }
+    {
+        if lists_none(&self.other_prime_infos) {
+            let refused = der_core::Error::new(ErrorKind::Value { tag: Tag::SEQUENCE });
+            return Err(Error::Asn1(refused));
+        }
+        Ok(SecretDocument::encode_msg(alloc, self)?)
     }
 }
 

@@ -112,7 +112,7 @@ impl<U: TryClone> TryClone for RsaPublicKey<U> {
 
 impl<'a> TryFrom<&'a [u8]> for RsaPublicKey<UintRef<'a>> {
     ghost use Rattle.std.specs.Prelude.{◌≡◌, ◌≢◌, ℕ, List, IfOk, IfErr, OnErr};
-    ghost use Rattle.der_core.specs.declared.error.ErrorKind.TheVariants.{OutOfMemory};
+    ghost use Rattle.der_core.specs.Reading.{TellsOfBytes};
     ghost use Rattle.der_core.specs.Document.{Means};
     ghost use Rattle.pkcs1.specs.Keys as grammar;
     ghost use Rattle.pkcs1.specs.Refusals.{IsAsn1};
@@ -124,7 +124,7 @@ impl<'a> TryFrom<&'a [u8]> for RsaPublicKey<UintRef<'a>> {
         ensures ok { IfOk result (λ key. Means grammar.RsaPublicKey bytes.now (key_of key)) }
         ensures one { IfOk result (λ key. (other : PublicKey (List ℕ)) → Means grammar.RsaPublicKey bytes.now other → other ≡ key_of key) }
         ensures err { OnErr result ((key : PublicKey (List ℕ)) → Means grammar.RsaPublicKey bytes.now key → ⊥) }
-        ensures asn1 { IfErr result (IsAsn1 (λ e. e.kind ≢ OutOfMemory)) }
+        ensures asn1 { IfErr result (IsAsn1 (λ e. TellsOfBytes e.kind)) }
     {
         Ok(RsaPublicKey::from_der(NoMemory, bytes)?)
     }
@@ -139,7 +139,7 @@ impl<U: AsUintRef> RsaPublicKey<U> {
     ghost use Rattle.pkcs1.specs.Refusals.{IsAsn1};
 
     /// The same, borrowed.
-    fn as_key_ref(&self) -> RsaPublicKey<UintRef<'_>>
+    pub(crate) fn as_key_ref(&self) -> RsaPublicKey<UintRef<'_>>
         ensures { key_of result ≡ public_of U.number self.now }
     {
         RsaPublicKey {

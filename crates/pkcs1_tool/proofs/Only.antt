@@ -9,7 +9,7 @@ use Rattle.pkcs1.specs.Keys.{RsaPublicKey, RsaPrivateKey}
 use Rattle.pkcs1.specs.Parameters.{RsaPssParams, pss_fields, RsaOaepParams, oaep_fields}
 use Rattle.pkcs1.proofs.PublicKeys.{public_delimited}
 use Rattle.pkcs1.proofs.PrivateKeys.{private_delimited}
-use Rattle.pkcs1.proofs.Parameters.{pss_delimited, oaep_delimited}
+use Rattle.pkcs1.specs.ParameterLaws.{pss_delimited, oaep_delimited}
 use Rattle.pkcs1_tool.specs.Request.{Asked, bad_line, asks_pub, asks_priv, asks_pss, asks_oaep, asked_by}
 use Rattle.pkcs1_tool.specs.Answer.{Tells, TellsParameters, AnswerTo, Answer, Answers, pub_answer, priv_answer, pss_answer, oaep_answer}
 

@@ -1,8 +1,10 @@
 //! Lines in, lines out: `pub HEX` asks for the RSA public key that the bytes stand for, `priv HEX` for the private key,
-//! `pss HEX` for parameters of RSASSA-PSS, `oaep HEX` for those of RSAES-OAEP.
+//! `pss HEX` for parameters of RSASSA-PSS, `oaep HEX` for those of RSAES-OAEP. Or keys from file to file: `copy pub IN OUT`,
+//! `copy priv IN OUT`.
 #![tactic(auto)]
 
 mod answer;
+mod copy;
 mod digits;
 mod fault;
 mod lines;
@@ -11,10 +13,13 @@ mod plan;
 mod request;
 mod run;
 
+use copy::{copy_priv, copy_pub};
 use der_core::{FromRead, ToWrite};
 use fault::Fault;
 use plan::{Plan, plan_of, status};
+use std::fmt::Display;
 use std::io::BufWriter;
+use std::path::Path;
 use std::process::ExitCode;
 use std::{env, io};
 
@@ -40,23 +45,34 @@ fn run_lines(rt: &HostRuntime) -> Result<(), Fault> {
     run::run(rt.alloc(), &mut source, &mut sink)
 }
 
+// Whether it went well. What went wrong is told.
+fn told<E: Display + Drop>(rt: &impl Eprint, answer: Result<(), E>) -> bool {
+    match answer {
+        Ok(()) => true,
+        Err(error) => {
+            let _ = eprintln!(rt; "{error}");
+            false
+        }
+    }
+}
+
 fn main(rt: HostRuntime) -> ExitCode {
-    let plan = match words_of(&rt) {
+    let words = words_of(&rt);
+    let plan = match &words {
         Ok(words) => plan_of(words.as_slice()),
         Err(_) => Plan::Usage,
     };
     let ok = match plan {
-        Plan::Usage => {
-            let _ = eprintln!(rt; "{USAGE}");
-            false
+        Plan::Usage => told(&rt, Err(USAGE)),
+        Plan::Lines => told(&rt, run_lines(&rt)),
+        Plan::CopyPub { input, output } => {
+            let (input, output) = (Path::new(input), Path::new(output));
+            told(&rt, copy_pub(&rt, rt.alloc(), input, output))
         }
-        Plan::Lines => match run_lines(&rt) {
-            Ok(()) => true,
-            Err(fault) => {
-                let _ = eprintln!(rt; "{fault}");
-                false
-            }
-        },
+        Plan::CopyPriv { input, output } => {
+            let (input, output) = (Path::new(input), Path::new(output));
+            told(&rt, copy_priv(&rt, rt.alloc(), input, output))
+        }
     };
     ExitCode::from(status(&plan, ok))
 }

@@ -266,12 +266,38 @@ fn prints_faults(rt: HostRuntime) -> std::result::Result<(), Fail> {
 
 #[test]
 fn plans(rt: HostRuntime) -> std::result::Result<(), Fail> {
-    let word = String::from_str(rt.alloc(), "")?;
     assert_eq!(rt; plan_of(&[]), Plan::Lines);
-    assert_eq!(rt; plan_of(&[word]), Plan::Usage);
+    let pair = Plan::CopyPub {
+        input: "in",
+        output: "out",
+    };
+    let secret = Plan::CopyPriv {
+        input: "in",
+        output: "out",
+    };
+    for (line, want) in [
+        ("", Plan::Usage),
+        ("copy", Plan::Usage),
+        ("copy pub in", Plan::Usage),
+        ("copy pub in out", pair),
+        ("copy priv in out", secret),
+        ("copy pss in out", Plan::Usage),
+        ("move pub in out", Plan::Usage),
+        ("copy pub in out more", Plan::Usage),
+    ] {
+        let mut words = Vec::new(rt.alloc());
+        for word in line.split(' ') {
+            words.push(String::from_str(rt.alloc(), word)?)?;
+        }
+        assert_eq!(rt; plan_of(words.as_slice()), want, "at {line}");
+    }
     for (plan, ok, want) in [
         (Plan::Lines, true, 0),
         (Plan::Lines, false, 1),
+        (pair, true, 0),
+        (pair, false, 1),
+        (secret, true, 0),
+        (secret, false, 1),
         (Plan::Usage, true, 2),
         (Plan::Usage, false, 2),
     ] {

@@ -8,10 +8,12 @@ use Rattle.der_core.specs.Texts.{AreBytes}
 use Rattle.der_core.specs.declared.error.ErrorKind.{ErrorKind}
 use Rattle.der_core.specs.declared.error.ErrorKind.TheVariants.{Incomplete}
 use Rattle.der_core.specs.Input.{Input, left_in, read_from, front_of, header_at}
-use Rattle.der_core.proofs.Base.{chosen, ok_pair}
-use Rattle.der_core.proofs.Headers.{tlv_header, header_at-sound, header_at-no_memory}
+use Rattle.der_core.proofs.Base.{chosen}
+use Rattle.der_core.specs.InputLaws.{ok_pair}
+use Rattle.der_core.proofs.Headers.{tlv_header, header_at-sound, header_at-tells}
+use Rattle.der_core.specs.Tells.{is_incomplete}
 use Rattle.der_core.proofs.Blanket.{Headed}
-use Rattle.der_core.proofs.Sequences.{TextFails, TextGives}
+use Rattle.der_core.specs.Sequences.{TextFails, TextGives}
 use Rattle.spki_core.specs.Any.{Any}
 
 front_fails : (n : ℕ) (left : List ℕ) (e : ErrorKind) → front_of n left ≡ Err e → (length left < n) × (e ≡ Incomplete)
@@ -47,7 +49,7 @@ no_header (Some i) after e within read failed = (
   λ j is.
       let same : i ≡ j = cc in
       inr (
-        λ memory. header_at-no_memory i (read ∙ ap (λ k. Err k) memory),
+        header_at-tells i e read,
         λ v b rest split text.
             let found = tlv_header v.tag b i rest text.0.0 within text.1 (same ∙ split) in
             cc,
@@ -65,7 +67,7 @@ no_room (Some i) mid after e t n within head short failed =
       λ j is.
           let same : i ≡ j = cc in
           inr (
-            λ memory. let kind = few.1 in cc,
+            is_incomplete few.1,
             λ v b rest split text.
                 let p = text.1 in
                 let found = tlv_header v.tag b i rest text.0.0 within p (same ∙ split) in

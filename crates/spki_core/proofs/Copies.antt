@@ -7,7 +7,7 @@ use Rattle.der_core.specs.Document.{Means, IsRefused}
 use Rattle.der_core.specs.Writing.{fault}
 use Rattle.der_core.specs.Input.{Input}
 use Rattle.der_core.specs.Reading.{ReadsAll}
-use Rattle.der_core.proofs.Sequences.{TextFails, TextGives, some_same}
+use Rattle.der_core.specs.Sequences.{TextFails, TextGives, some_same}
 
 module _ {V : Type 0} (text : V → List ℕ → Type 0) where
   pub copy_fails : (before mid after : Input) (e : ErrorKind) (v : V) → TextGives text v before mid → e ≡ OutOfMemory → after ≡ None

@@ -7,7 +7,7 @@ use Rattle.der_core.specs.Input.{Input}
 use Rattle.der_core.specs.Texts.{IsDelimited, Joins}
 use Rattle.der_core.specs.Tlv.{Tlv}
 use Rattle.der_core.specs.Reading.{AskedIn, NoneIn, Refuses, AsksWithin}
-use Rattle.der_core.proofs.Sequences.{ContentsFail, ContentsGive, some_same}
+use Rattle.der_core.specs.Sequences.{ContentsFail, ContentsGive, some_same}
 use Rattle.spki_core.specs.Explicit.{Field, field, Defaultable, IsNext, FieldRead, FieldRefused}
 use Rattle.spki_core.specs.FieldLaws.{AreLater}
 use Rattle.spki_core.proofs.Fields.{refused_step, read_step, read_joins}

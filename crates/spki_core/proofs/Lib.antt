@@ -8,5 +8,4 @@ pub mod AlgorithmRows
 pub mod FieldRows
 pub mod Fields
 pub mod Spellings
-pub mod Algorithms
 pub mod Copies

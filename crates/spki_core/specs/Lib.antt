@@ -16,3 +16,4 @@ pub mod AnyLaws
 pub mod AlgorithmLaws
 pub mod ContextSpecificLaws
 pub mod FieldLaws
+pub mod AlgorithmTexts

@@ -19,6 +19,7 @@ use crate::params::digest::{
     Digest, Sha1, is_default_hash, is_default_mask_gen, mask_gen_ref, mgf1_with, read_mask_gen,
     read_plain, with_null,
 };
+use crate::params::strict::{is_written, written_default};
 use der_core::{
     BackWriter, Contents, Decode, DecodeValue, Encode, EncodeValue, EqualByValue, Header, Kinded,
     Length, Memory, NoMemory, Reader, Sequence, SequenceTag, Tag, TagNumber, TryClone, Writer,
@@ -393,9 +394,37 @@ impl<'a> Default for RsaOaepParams<AnyRef<'a>> {
     }
 }
 
+impl<'a> RsaOaepParams<AnyRef<'a>> {
+    ghost use Rattle.std.specs.Prelude.{IfOk};
+    ghost use Rattle.der_core.specs.Reading.{TellsOfBytes};
+    ghost use Rattle.der_core.specs.Document.{Means, IsShortest};
+    ghost use Rattle.pkcs1.specs.Parameters as grammar;
+    ghost use Rattle.pkcs1.specs.OaepParams.{oaep_of};
+    ghost use Rattle.pkcs1.specs.Refusals.{IsAsn1};
+    ghost use Rattle.pkcs1.specs.StrictFields.{NamesDefault};
+
+    /// Reads a whole slice as `try_from`, and refuses a text in which a default is written by `Noncanonical` of the tag
+    /// of the first such field: what is read is the shortest text of its value.
+    pub fn from_der_strict(bytes: &'a [u8]) -> Result<RsaOaepParams<AnyRef<'a>>>
+        ensures ok { IfOk result (λ params. IsShortest grammar.RsaOaepParams (oaep_of params) bytes.now) }
+        ensures one { IfOk result (λ params. (other : OaepParameters) → Means grammar.RsaOaepParams bytes.now other → other ≡ oaep_of params) }
+        ensures default { IfErr result (λ e. (params : OaepParameters) → Means grammar.RsaOaepParams bytes.now params → IsAsn1 (NamesDefault (oaep_fields params) bytes.now) e) }
+        ensures err { IfErr result (λ e. (params : OaepParameters) → IsShortest grammar.RsaOaepParams params bytes.now → ⊥) }
+        ensures asn1 { IfErr result (IsAsn1 (λ e. TellsOfBytes e.kind)) }
+    {
+        let params = RsaOaepParams::try_from(bytes)?;
+        let defaults = params.defaults();
+        let defaults = [defaults.hash, defaults.mask_gen, defaults.p_source];
+        match written_default(bytes, &defaults) {
+            Some(number) => Err(is_written(number)),
+            None => Ok(params),
+        }
+    }
+}
+
 impl<'a> TryFrom<&'a [u8]> for RsaOaepParams<AnyRef<'a>> {
     ghost use Rattle.std.specs.Prelude.{◌≢◌, IfOk, OnErr};
-    ghost use Rattle.der_core.specs.declared.error.ErrorKind.TheVariants.{OutOfMemory};
+    ghost use Rattle.der_core.specs.Reading.{TellsOfBytes};
     ghost use Rattle.der_core.specs.Document.{Means};
     ghost use Rattle.pkcs1.specs.Parameters as grammar;
     ghost use Rattle.pkcs1.specs.OaepParams.{oaep_of};
@@ -408,7 +437,7 @@ impl<'a> TryFrom<&'a [u8]> for RsaOaepParams<AnyRef<'a>> {
         ensures ok { IfOk result (λ params. Means grammar.RsaOaepParams bytes.now (oaep_of params)) }
         ensures one { IfOk result (λ params. (other : OaepParameters) → Means grammar.RsaOaepParams bytes.now other → other ≡ oaep_of params) }
         ensures err { OnErr result ((params : OaepParameters) → Means grammar.RsaOaepParams bytes.now params → ⊥) }
-        ensures asn1 { IfErr result (IsAsn1 (λ e. e.kind ≢ OutOfMemory)) }
+        ensures asn1 { IfErr result (IsAsn1 (λ e. TellsOfBytes e.kind)) }
     {
         Ok(RsaOaepParams::from_der(NoMemory, bytes)?)
     }

@@ -15,6 +15,7 @@ use crate::params::digest::{
     Digest, Sha1, is_default_hash, is_default_mask_gen, mask_gen_ref, mgf1_with, read_mask_gen,
     read_plain, with_null,
 };
+use crate::params::strict::{is_written, written_default};
 use crate::params::trailer_field::TrailerField;
 use der_core::{
     BackWriter, Contents, Decode, DecodeValue, Encode, EncodeValue, EqualByValue, Header, Kinded,
@@ -181,7 +182,7 @@ impl RsaPssParams<AnyRef<'_>> {
     ghost use Rattle.pkcs1.specs.PssParams.{pss_of};
 
     /// Which fields equal their defaults.
-    fn defaults(&self) -> PssLeftOut
+    pub(crate) fn defaults(&self) -> PssLeftOut
         ensures { result ≡ pss_defaults (pss_of self.now) }
     {
         PssLeftOut {
@@ -206,7 +207,7 @@ impl RsaPssParams<AnyRef<'_>> {
     }
 
     /// How many octets the contents have, without some fields.
-    fn len_without(&self, left_out: PssLeftOut) -> der_core::Result<Length>
+    pub(crate) fn len_without(&self, left_out: PssLeftOut) -> der_core::Result<Length>
         ensures { Counts (HasPss left_out (pss_of self.now)) (written_pss left_out (pss_of self.now)) result }
     {
         joined_len(
@@ -223,7 +224,7 @@ impl RsaPssParams<AnyRef<'_>> {
     }
 
     /// Appends the contents, without some fields.
-    fn encode_without<W: Writer>(
+    pub(crate) fn encode_without<W: Writer>(
         &self,
         left_out: PssLeftOut,
         writer: &mut W,
@@ -246,7 +247,7 @@ impl RsaPssParams<AnyRef<'_>> {
     }
 
     /// Puts the contents before what is filled, without some fields.
-    fn prepend_without(&self, left_out: PssLeftOut, writer: &mut BackWriter<'_>)
+    pub(crate) fn prepend_without(&self, left_out: PssLeftOut, writer: &mut BackWriter<'_>)
         requires has { HasPss left_out (pss_of self.now) }
         requires fits { length (written_pss left_out (pss_of self.now)) ≤ limit }
         requires room { length (written_pss left_out (pss_of self.now)) ≤ free_of writer.old }
@@ -278,6 +279,39 @@ impl<'a> RsaPssParams<AnyRef<'a>> {
             mask_gen: mgf1_with::<D, AnyRef<'a>, NoMemory>(NoMemory),
             salt_len,
             trailer_field: TrailerField::BC,
+        }
+    }
+}
+
+impl<'a> RsaPssParams<AnyRef<'a>> {
+    ghost use Rattle.std.specs.Prelude.{ℕ, List, IfOk};
+    ghost use Rattle.der_core.specs.Reading.{TellsOfBytes};
+    ghost use Rattle.der_core.specs.Document.{Means, IsShortest};
+    ghost use Rattle.pkcs1.specs.Parameters as grammar;
+    ghost use Rattle.pkcs1.specs.PssParams.{pss_of};
+    ghost use Rattle.pkcs1.specs.Refusals.{IsAsn1};
+    ghost use Rattle.pkcs1.specs.StrictFields.{NamesDefault};
+
+    /// Reads a whole slice as `try_from`, and refuses a text in which a default is written by `Noncanonical` of the tag
+    /// of the first such field: what is read is the shortest text of its value.
+    pub fn from_der_strict(bytes: &'a [u8]) -> Result<RsaPssParams<AnyRef<'a>>>
+        ensures ok { IfOk result (λ params. IsShortest grammar.RsaPssParams (pss_of params) bytes.now) }
+        ensures one { IfOk result (λ params. (other : PssParameters) → Means grammar.RsaPssParams bytes.now other → other ≡ pss_of params) }
+        ensures default { IfErr result (λ e. (params : PssParameters) → Means grammar.RsaPssParams bytes.now params → IsAsn1 (NamesDefault (pss_fields params) bytes.now) e) }
+        ensures err { IfErr result (λ e. (params : PssParameters) → IsShortest grammar.RsaPssParams params bytes.now → ⊥) }
+        ensures asn1 { IfErr result (IsAsn1 (λ e. TellsOfBytes e.kind)) }
+    {
+        let params = RsaPssParams::try_from(bytes)?;
+        let defaults = params.defaults();
+        let defaults = [
+            defaults.hash,
+            defaults.mask_gen,
+            defaults.salt_len,
+            defaults.trailer_field,
+        ];
+        match written_default(bytes, &defaults) {
+            Some(number) => Err(is_written(number)),
+            None => Ok(params),
         }
     }
 }
@@ -332,7 +366,7 @@ impl<'a> Default for RsaPssParams<AnyRef<'a>> {
 
 impl<'a> TryFrom<&'a [u8]> for RsaPssParams<AnyRef<'a>> {
     ghost use Rattle.std.specs.Prelude.{◌≢◌, ℕ, List, IfOk, OnErr};
-    ghost use Rattle.der_core.specs.declared.error.ErrorKind.TheVariants.{OutOfMemory};
+    ghost use Rattle.der_core.specs.Reading.{TellsOfBytes};
     ghost use Rattle.der_core.specs.Document.{Means};
     ghost use Rattle.pkcs1.specs.Parameters as grammar;
     ghost use Rattle.pkcs1.specs.PssParams.{pss_of};
@@ -345,7 +379,7 @@ impl<'a> TryFrom<&'a [u8]> for RsaPssParams<AnyRef<'a>> {
         ensures ok { IfOk result (λ params. Means grammar.RsaPssParams bytes.now (pss_of params)) }
         ensures one { IfOk result (λ params. (other : PssParameters) → Means grammar.RsaPssParams bytes.now other → other ≡ pss_of params) }
         ensures err { OnErr result ((params : PssParameters) → Means grammar.RsaPssParams bytes.now params → ⊥) }
-        ensures asn1 { IfErr result (IsAsn1 (λ e. e.kind ≢ OutOfMemory)) }
+        ensures asn1 { IfErr result (IsAsn1 (λ e. TellsOfBytes e.kind)) }
     {
         Ok(RsaPssParams::from_der(NoMemory, bytes)?)
     }

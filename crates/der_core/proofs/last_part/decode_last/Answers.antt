@@ -1,5 +1,5 @@
 use Rattle.std.proofs.lemmas.Result.{err_from_is_err_and}
-use Rattle.der_core.proofs.LastParts.{last_fails, peek_more}
+use Rattle.der_core.specs.LastParts.{last_fails, peek_more}
 use Rattle.der_core.proofs.last_part.decode_last.Goals as goal
 
 pub returns-in_err-value : goal.returns-in_err-value

@@ -1,5 +1,5 @@
 use Rattle.std.proofs.lemmas.Result.{err_from_is_err_and}
-use Rattle.der_core.proofs.LastParts.{whole_fails, whole_trailing}
+use Rattle.der_core.specs.LastParts.{whole_fails, whole_trailing}
 use Rattle.der_core.proofs.last_part.decode_whole.Goals as goal
 
 pub returns-in_err-value : goal.returns-in_err-value

@@ -3,8 +3,8 @@ use Rattle.spki_core.proofs.Fields.{defaults_same}
 use Rattle.spki_core.proofs.Spellings.{masks_are_members}
 use Rattle.pkcs1.specs.Parameters.{pss_fields}
 use Rattle.pkcs1.proofs.ParameterSpellings.{each_has_one_mask, each_mask_has_one, shortest_has_no_defaults, accepted_fits}
-use Rattle.pkcs1.proofs.Parameters.{pss_delimited, pss_in_order}
-use Rattle.pkcs1.proofs.Defaults.{pss_defaults}
+use Rattle.pkcs1.specs.ParameterLaws.{pss_delimited, pss_in_order}
+use Rattle.pkcs1.specs.Defaults.{pss_defaults}
 use Rattle.pkcs1.proofs.laws.pss_spellings.Goals as goal
 
 pub returns-clause-defaults : goal.returns-clause-defaults

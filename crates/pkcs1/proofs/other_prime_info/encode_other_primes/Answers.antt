@@ -1,5 +1,5 @@
 use Rattle.std.proofs.Common.{Some}
-use Rattle.der_core.proofs.Stopping.{if_stops_with}
+use Rattle.der_core.specs.Stopping.{if_stops_with}
 use Rattle.pkcs1.specs.PrivateKeys.{others_of}
 use Rattle.pkcs1.specs.Writing.{written_others}
 use Rattle.pkcs1.proofs.other_prime_info.encode_other_primes.Goals as goal

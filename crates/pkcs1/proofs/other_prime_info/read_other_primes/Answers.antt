@@ -2,6 +2,7 @@ use Rattle.std.proofs.Common.{◌<◌, length}
 use Rattle.std.proofs.lemmas.Result.{err_from_is_err_and}
 use Rattle.der_core.specs.Tlv.{Tlv}
 use Rattle.pkcs1.proofs.OtherReads.{agree, others_fail, empty_fails, more_fails, others_given, listed, unlisted}
+use Rattle.der_core.specs.Tells.{is_value}
 use Rattle.pkcs1.proofs.other_prime_info.read_other_primes.Goals as goal
 
 pub returns-in_err-others : goal.returns-in_err-others
@@ -13,7 +14,7 @@ pub returns-then-lists_none : goal.returns-then-lists_none
 returns-then-lists_none g c =
     let none = unlisted _ _ c.lists_none.ensures c.if-lists_none.true in (
       c.error-then-lists_none.ensures.failed,
-      empty_fails g.U.Text.value g.U.Text.text g.U.Text.delimited (λ _. ⊥) _ _ none.0 _ _ _ c.in_ok-others.ensures none.1 none.2 (λ memory. let kind = c.error-then-lists_none.ensures.value in cc),
+      empty_fails g.U.Text.value g.U.Text.text g.U.Text.delimited (λ _. ⊥) _ _ none.0 _ _ _ c.in_ok-others.ensures none.1 none.2 (is_value c.error-then-lists_none.ensures.value),
     )
 
 pub returns-in_err-finish : goal.returns-in_err-finish

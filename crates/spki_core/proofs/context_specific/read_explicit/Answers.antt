@@ -1,6 +1,7 @@
 use Rattle.std.proofs.Common.{◌≡◌, refl, ◌∙◌}
 use Rattle.std.proofs.lemmas.Result.{err_from_is_err_and}
 use Rattle.der_core.proofs.Blanket.{refused_header, refused_tag, room_refused, value_refused, value_accepted, ne_true, ne_false}
+use Rattle.der_core.specs.Tells.{is_other_tag}
 use Rattle.spki_core.proofs.context_specific.read_explicit.Goals as goal
 
 pub returns-in_err-header : goal.returns-in_err-header
@@ -10,7 +11,7 @@ returns-in_err-header g c =
 
 pub returns-then-ne : goal.returns-then-ne
 returns-then-ne g c =
-    refused_tag g.T.Text.Value c.args.tag.octet g.T.Text.text _ c.args.tag.allowed _ _ _ _ _ _ (g.R.BytesLeft.bounded c.args.reader.now) c.in_ok-header.ensures.exact.1 (ne_true _ _ _ _ c.if-ne.true c.ne.ensures refl) (λ memory. let kind = c.error.ensures.value in cc) c.error.ensures.failed
+    refused_tag g.T.Text.Value c.args.tag.octet g.T.Text.text _ c.args.tag.allowed _ _ _ _ _ _ (g.R.BytesLeft.bounded c.args.reader.now) c.in_ok-header.ensures.exact.1 (ne_true _ _ _ _ c.if-ne.true c.ne.ensures refl) (is_other_tag c.error.ensures.value) c.error.ensures.failed
 
 pub returns-in_err-nested : goal.returns-in_err-nested
 returns-in_err-nested g c =

@@ -1,7 +1,7 @@
 use Rattle.std.proofs.lemmas.Result.{err_from_is_err_and}
 use Rattle.der_core.specs.Tlv.{Tlv}
 use Rattle.der_core.specs.TextLaws.{tlv_delimited}
-use Rattle.der_core.proofs.Whole.{whole_refused, whole_trailing}
+use Rattle.der_core.specs.Whole.{whole_refused, whole_trailing}
 use Rattle.der_core.proofs.decode.AnyDecodeRefSliceU8.from_der.Goals as goal
 
 pub returns-in_err-value : goal.returns-in_err-value

@@ -2,7 +2,7 @@ use Rattle.std.proofs.lemmas.Result.{err_from_is_err_and}
 use Rattle.der_core.specs.IntegerLaws.{holds_canonical}
 use Rattle.der_core.specs.Tlv.{tlv}
 use Rattle.der_core.specs.Integer.{integer_contents}
-use Rattle.der_core.proofs.Fronts.{front_is, rest_is}
+use Rattle.der_core.specs.Fronts.{front_is, rest_is}
 use Rattle.der_core.proofs.Refusals.{refused_as}
 use Rattle.pkcs1.specs.Writing.{written_public_key}
 use Rattle.pkcs1.specs.Keys.{RsaPublicKey}

@@ -1,6 +1,6 @@
 use Rattle.std.proofs.Common.{arith, refl, rules}
 use Rattle.std.proofs.lemmas.Result.{err_from_is_err_and}
-use Rattle.der_core.proofs.Stopping.{stops_in_front, if_stops_behind}
+use Rattle.der_core.specs.Stopping.{stops_in_front, if_stops_behind}
 use Rattle.pkcs1.proofs.public_key.RsaPublicKeyEncodeValue.encode_value.Goals as goal
 
 pub returns-in_err-encode-clause-left : goal.returns-in_err-encode-clause-left

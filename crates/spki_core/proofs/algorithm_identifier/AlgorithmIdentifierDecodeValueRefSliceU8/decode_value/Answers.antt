@@ -2,8 +2,8 @@ use Rattle.std.proofs.Common.{ℕ, List, [], ◌∷◌}
 use Rattle.std.proofs.lemmas.Result.{err_from_is_err_and}
 use Rattle.der_core.specs.Texts.{Joins}
 use Rattle.der_core.specs.Optional.{Optional}
-use Rattle.der_core.proofs.Sequences.{first_fails, rest_fails}
-use Rattle.der_core.proofs.LastParts.{as_last, asks_more}
+use Rattle.der_core.specs.Sequences.{first_fails, rest_fails}
+use Rattle.der_core.specs.LastParts.{as_last, asks_more}
 use Rattle.spki_core.specs.ObjectIdentifier.{ObjectIdentifier}
 use Rattle.spki_core.specs.AlgorithmIdentifier.{Algorithm}
 use Rattle.spki_core.specs.IdentifierLaws.{identifier_delimited}

@@ -4,7 +4,7 @@ use Rattle.der_core.specs.Tlv.{tlv}
 use Rattle.der_core.specs.Optional.{written_optional}
 use Rattle.spki_core.specs.ObjectIdentifiers.{octets_of}
 use Rattle.std.proofs.lemmas.Result.{err_from_is_err_and}
-use Rattle.der_core.proofs.Stopping.{stops_in_front, if_stops_behind}
+use Rattle.der_core.specs.Stopping.{stops_in_front, if_stops_behind}
 use Rattle.spki_core.proofs.algorithm_identifier.AlgorithmIdentifierEncodeValue.encode_value.Goals as goal
 
 pub returns-in_err-encode-clause-left : goal.returns-in_err-encode-clause-left

@@ -1,5 +1,5 @@
 use Rattle.std.proofs.lemmas.Result.{err_from_is_err_and}
-use Rattle.der_core.proofs.Whole.{whole_refused, whole_trailing}
+use Rattle.der_core.specs.Whole.{whole_refused, whole_trailing}
 use Rattle.spki_core.specs.Any.{TagAndContents, Any}
 use Rattle.spki_core.specs.AnyLaws.{any_delimited}
 use Rattle.spki_core.proofs.any.AnyRefDecodeRefSliceU8.from_der.Goals as goal

@@ -2,7 +2,7 @@ use Rattle.std.proofs.Common.{arith, rules, ap, ◌≡◌, ◌+◌, ◌<◌, ◌
 use Rattle.std.proofs.lemmas.Result.{err_from_is_err_and}
 use Rattle.der_core.specs.Length.{limit, length_octets}
 use Rattle.der_core.proofs.Refusals.{stopped}
-use Rattle.der_core.proofs.Stopping.{stops_at_once, if_stops_behind, if_stops_at_once}
+use Rattle.der_core.specs.Stopping.{stops_at_once, if_stops_behind, if_stops_at_once}
 use Rattle.spki_core.specs.Any.{Any, written_any}
 use Rattle.spki_core.specs.AnyLaws.{any_relates, any_shortest}
 use Rattle.spki_core.specs.AnyRefs.{any_of}

@@ -1,4 +1,4 @@
-use Rattle.der_core.proofs.Counting.{counts_text}
+use Rattle.der_core.specs.Counting.{counts_text}
 use Rattle.der_core.proofs.Refusals.{uncounted}
 use Rattle.spki_core.specs.Any.{Any}
 use Rattle.spki_core.specs.AnyLaws.{any_shortest}

@@ -1,5 +1,5 @@
 use Rattle.std.proofs.Common.{◌+◌}
-use Rattle.der_core.proofs.Counting.{counts_text}
+use Rattle.der_core.specs.Counting.{counts_text}
 use Rattle.der_core.proofs.Refusals.{uncounted}
 use Rattle.spki_core.specs.ContextSpecific.{Numbered, ContextSpecific}
 use Rattle.spki_core.specs.ContextSpecificLaws.{numbered_shortest}

@@ -1,6 +1,6 @@
 use Rattle.std.proofs.Common.{◌∙◌}
 use Rattle.std.proofs.lemmas.Result.{err_from_is_err_and}
-use Rattle.der_core.proofs.LastParts.{asks_more}
+use Rattle.der_core.specs.LastParts.{asks_more}
 use Rattle.spki_core.specs.Any.{Any}
 use Rattle.spki_core.proofs.Copies.{copy_fails}
 use Rattle.spki_core.proofs.owned_any.AnyDecodeRefSliceU8Global.decode.Goals as goal

@@ -1,6 +1,6 @@
 use Rattle.std.proofs.Common.{◌≡◌, ℕ, List, ap, sym, ◌∙◌, inr, Err, Some}
 use Rattle.der_core.specs.IntegerReading.{small_of}
-use Rattle.der_core.proofs.Smalls.{all_read, small_none, small_no_memory}
+use Rattle.der_core.proofs.Smalls.{all_read, small_none, small_tells}
 use Rattle.der_core.proofs.integer.small.U8DecodeValueRefSliceU8.decode_value.Goals as goal
 
 pub returns-in-Err-clause-reads : goal.returns-in-Err-clause-reads
@@ -8,4 +8,4 @@ returns-in-Err-clause-reads g c =
     let kind : c.error.result.kind ≡ c.in-Err.e.kind = c.error.ensures.value ∙ c.kind.ensures in
     let exact : (all : List ℕ) → g.R.BytesLeft.left c.args.reader.now ≡ Some all → small_of all ≡ Err c.error.result.kind =
     λ all is. ap small_of (sym (all_read _ _ _ _ all c.requires c.in_ok-contents.ensures.1 is)) ∙ c.in-Err.ensures ∙ ap (λ k. Err k) (sym kind) in
-    (c.error.ensures.failed, λ all is. inr ((λ memory. small_no_memory all (exact all is ∙ ap (λ k. Err k) memory)), λ n p. small_none n all _ (exact all is) p))
+    (c.error.ensures.failed, λ all is. inr (small_tells all _ (exact all is), λ n p. small_none n all _ (exact all is) p))

@@ -1,6 +1,6 @@
 use Rattle.std.proofs.Common.{refl, ◌++◌}
 use Rattle.std.proofs.lemmas.Result.{err_from_is_err_and}
-use Rattle.der_core.proofs.Stopping.{stops_in_front, if_stops_behind}
+use Rattle.der_core.specs.Stopping.{stops_in_front, if_stops_behind}
 use Rattle.spki_core.specs.AlgorithmRefs.{algorithm_of, mask_of}
 use Rattle.spki_core.specs.AlgorithmIdentifier.{written_plain, written_mask}
 use Rattle.spki_core.specs.FieldWriting.{written_field}

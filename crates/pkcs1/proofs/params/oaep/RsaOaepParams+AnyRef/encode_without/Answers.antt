@@ -1,7 +1,7 @@
 use Rattle.std.proofs.Common.{arith, refl, ◌++◌, length, ◌≤◌}
 use Rattle.std.proofs.lemmas.Result.{err_from_is_err_and}
 use Rattle.der_core.specs.Length.{limit}
-use Rattle.der_core.proofs.Stopping.{stops_in_front, if_stops_behind}
+use Rattle.der_core.specs.Stopping.{stops_in_front, if_stops_behind}
 use Rattle.spki_core.specs.AlgorithmIdentifier.{written_plain}
 use Rattle.spki_core.specs.AlgorithmRefs.{algorithm_of, mask_of}
 use Rattle.spki_core.specs.FieldWriting.{written_field}

@@ -1,4 +1,4 @@
-use Rattle.der_core.proofs.Counting.{counts_joined}
+use Rattle.der_core.specs.Counting.{counts_joined}
 use Rattle.spki_core.specs.AlgorithmIdentifier.{written_plain}
 use Rattle.spki_core.specs.AlgorithmRefs.{algorithm_of, mask_of}
 use Rattle.spki_core.specs.FieldWriting.{written_field}

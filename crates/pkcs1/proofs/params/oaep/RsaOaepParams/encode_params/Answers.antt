@@ -2,16 +2,16 @@ use Rattle.std.proofs.Common.{subst}
 use Rattle.std.proofs.lemmas.Result.{err_from_is_err_and}
 use Rattle.der_core.specs.ShortestLaws.{means_one}
 use Rattle.der_core.specs.Tlv.{tlv}
-use Rattle.der_core.proofs.Fronts.{front_is, rest_is}
+use Rattle.der_core.specs.Fronts.{front_is, rest_is}
 use Rattle.der_core.proofs.Refusals.{refused_by}
 use Rattle.spki_core.specs.Explicit.{Masked}
 use Rattle.spki_core.proofs.Spellings.{shortest_zero}
 use Rattle.pkcs1.specs.Parameters.{RsaOaepParams, oaep_fields}
 use Rattle.pkcs1.specs.OaepParams.{oaep_of}
 use Rattle.pkcs1.specs.OaepWriting.{oaep_defaults, written_oaep}
-use Rattle.pkcs1.proofs.Defaults.{oaep_defaults as oaep_count}
+use Rattle.pkcs1.specs.Defaults.{oaep_defaults as oaep_count}
 use Rattle.pkcs1.proofs.HeldParameters.{oaep_made}
-use Rattle.pkcs1.proofs.Parameters.{oaep_delimited, oaep_in_order}
+use Rattle.pkcs1.specs.ParameterLaws.{oaep_delimited, oaep_in_order}
 use Rattle.pkcs1.proofs.params.oaep.RsaOaepParams.encode_params.Goals as goal
 
 pub returns-clause-shortest : goal.returns-clause-shortest

@@ -1,5 +1,5 @@
 use Rattle.der_core.specs.ShortestLaws.{means_one}
-use Rattle.pkcs1.proofs.Parameters.{oaep_delimited}
+use Rattle.pkcs1.specs.ParameterLaws.{oaep_delimited}
 use Rattle.pkcs1.proofs.params.oaep.RsaOaepParamsAnyRefTryFromRefSliceU8.try_from.Goals as goal
 
 pub returns-clause-one : goal.returns-clause-one

@@ -3,7 +3,7 @@ use Rattle.std.proofs.lemmas.Result.{err_from_is_err_and}
 use Rattle.der_core.specs.Tlv.{tlv}
 use Rattle.der_core.specs.Integer.{integer_contents}
 use Rattle.der_core.specs.Length.{limit}
-use Rattle.der_core.proofs.Stopping.{stops_in_front, stops_behind, if_stops_behind}
+use Rattle.der_core.specs.Stopping.{stops_in_front, stops_behind, if_stops_behind}
 use Rattle.spki_core.specs.AlgorithmRefs.{algorithm_of, mask_of}
 use Rattle.spki_core.specs.FieldWriting.{written_field}
 use Rattle.pkcs1.specs.DigestWriting.{written_digest}

@@ -1,7 +1,7 @@
 use Rattle.std.proofs.Common.{[], ◌∷◌, ◌++◌}
 use Rattle.der_core.specs.Tlv.{tlv}
 use Rattle.der_core.specs.Integer.{integer_contents}
-use Rattle.der_core.proofs.Counting.{counts_joined}
+use Rattle.der_core.specs.Counting.{counts_joined}
 use Rattle.spki_core.specs.AlgorithmRefs.{algorithm_of, mask_of}
 use Rattle.spki_core.specs.FieldWriting.{written_field}
 use Rattle.pkcs1.specs.DigestWriting.{written_digest}

@@ -2,16 +2,16 @@ use Rattle.std.proofs.Common.{subst}
 use Rattle.std.proofs.lemmas.Result.{err_from_is_err_and}
 use Rattle.der_core.specs.ShortestLaws.{means_one}
 use Rattle.der_core.specs.Tlv.{tlv}
-use Rattle.der_core.proofs.Fronts.{front_is, rest_is}
+use Rattle.der_core.specs.Fronts.{front_is, rest_is}
 use Rattle.der_core.proofs.Refusals.{refused_by}
 use Rattle.spki_core.specs.Explicit.{Masked}
 use Rattle.spki_core.proofs.Spellings.{shortest_zero}
 use Rattle.pkcs1.specs.Parameters.{RsaPssParams, pss_fields}
 use Rattle.pkcs1.specs.PssParams.{pss_of}
 use Rattle.pkcs1.specs.PssWriting.{pss_defaults, written_pss}
-use Rattle.pkcs1.proofs.Defaults.{pss_defaults as pss_count}
+use Rattle.pkcs1.specs.Defaults.{pss_defaults as pss_count}
 use Rattle.pkcs1.proofs.HeldParameters.{pss_made}
-use Rattle.pkcs1.proofs.Parameters.{pss_delimited, pss_in_order}
+use Rattle.pkcs1.specs.ParameterLaws.{pss_delimited, pss_in_order}
 use Rattle.pkcs1.proofs.params.pss.RsaPssParams.encode_params.Goals as goal
 
 pub returns-clause-shortest : goal.returns-clause-shortest

@@ -1,5 +1,5 @@
 use Rattle.der_core.specs.ShortestLaws.{means_one}
-use Rattle.pkcs1.proofs.Parameters.{pss_delimited}
+use Rattle.pkcs1.specs.ParameterLaws.{pss_delimited}
 use Rattle.pkcs1.proofs.params.pss.RsaPssParamsAnyRefTryFromRefSliceU8.try_from.Goals as goal
 
 pub returns-clause-one : goal.returns-clause-one

@@ -5,8 +5,9 @@ use Rattle.der_core.specs.declared.error.ErrorKind.{ErrorKind}
 use Rattle.der_core.specs.Input.{Input, left_in, read_from, end_of}
 use Rattle.der_core.specs.Texts.{IsDelimited, Joins}
 use Rattle.der_core.specs.Optional.{Optional}
-use Rattle.der_core.proofs.Sequences.{TextFails, TextGives, ContentsFail, some_same}
-use Rattle.der_core.proofs.Whole.{trailing_is, trailing_none}
+use Rattle.der_core.specs.Tells.{is_trailing}
+use Rattle.der_core.specs.Sequences.{TextFails, TextGives, ContentsFail, some_same}
+use Rattle.der_core.specs.Whole.{trailing_is, trailing_none}
 
 module _ {V : Type 0} (text : V → List ℕ → Type 0) (asks : List ℕ → Type 0) where
   pub whole_fails : (before after : Input) (e : ErrorKind) → TextFails text asks e before after → ContentsFail text asks e before after
@@ -26,7 +27,7 @@ module _ {V : Type 0} (text : V → List ℕ → Type 0) (asks : List ℕ → Ty
         λ c is.
             let same : c ≡ gives.0 ++ gives.1 = some_same c (gives.0 ++ gives.1) (sym is ∙ gives.2) in
             let whole : c ≡ gives.0 ++ more.1 ∷ more.2 = same ∙ ap (λ l. gives.0 ++ l) more.3 in
-            inr (λ memory. let kind = more.0 in cc, λ w has. trailing_none d c gives.0 more.1 more.2 x gives.4 whole w has),
+            inr (is_trailing more.0, λ w has. trailing_none d c gives.0 more.1 more.2 x gives.4 whole w has),
       )
 
   -- something is left, and it isn't one text

@@ -1,0 +1,17 @@
+use Rattle.std.proofs.Common.{◌++◌, take, ap, arith, length-append, length-take, inr}
+use Rattle.std.proofs.KnownBytes.{Consumes-trans}
+use Rattle.der_core.proofs.carry.read_all.Goals as goal
+
+pub returns-then-count-to_usize-clause-err : goal.returns-then-count-to_usize-clause-err
+returns-then-count-to_usize-clause-err g c =
+    let last = take c.in-Ok.count c.read.new.buf in
+    let kind = c.new-then-count-to_usize.ensures in
+    inr (inr (
+      ap (λ e. e.kind) kind,
+      (
+        c.loop-count.bytes.items ++ last,
+        Consumes-trans _ _ _ _ _ c.loop-count.invariant.came c.in-Ok.ensures.bytes.0,
+        simp (length-append, length-take) (omega (arith, c.loop-count.bytes.ok.0, c.in-Ok.ensures.bound, c.if-count-to_usize.true, c.len.ensures, c.to_usize.ensures.value)),
+        simp (length-append, length-take) (omega (arith, c.loop-count.bytes.ok.0, c.in-Ok.ensures.bound, c.loop-count.invariant.within)),
+      ),
+    ))

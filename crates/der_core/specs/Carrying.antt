@@ -1,0 +1,36 @@
+-- Documents that come from a source, and that go to a sink.
+use Rattle.std.specs.Prelude.{◌≡◌, ◌⊎◌, ℕ, List, Option, Result, Ok, Err}
+use Rattle.std.specs.Io.KnownBytes.{Appends}
+use Rattle.der_core.specs.declared.error.Error.{Error}
+use Rattle.der_core.specs.declared.error.ErrorKind.{ErrorKind}
+use Rattle.der_core.specs.declared.error.ErrorKind.TheVariants.{File, OutOfMemory, Overflow}
+use Rattle.der_core.specs.Length.{limit}
+use Rattle.der_core.specs.Document.{IsDocument}
+use Rattle.der_core.specs.Outside.{AppendsFront, GivesAll, GivesMore, SomeRefused}
+use Rattle.der_core.specs.Reading.{TellsOfBytes}
+
+-- how many bytes are asked for at once
+abbrev pub piece : ℕ
+piece = 65536
+
+-- What came up to the end is no document.
+abbrev pub GivesNone : Option (List ℕ) → Option (List ℕ) → Type 0
+GivesNone old new = (bytes : List ℕ) × GivesAll old new bytes × (IsDocument bytes → ⊥)
+
+-- The source refused a call; or memory was wanted; or more bytes came than a document has; or what came is no document.
+abbrev pub StopsReading : ErrorKind → Option (List ℕ) → Option (List ℕ) → ℕ → ℕ → Type 0
+StopsReading e old new refusals refusals2 =
+    ((e ≡ File) × SomeRefused refusals refusals2)
+    ⊎ (e ≡ OutOfMemory)
+    ⊎ ((e ≡ Overflow) × GivesMore limit piece old new)
+    ⊎ (TellsOfBytes e × GivesNone old new)
+
+-- The document is all that came up to the end, and no call was refused; or reading stopped.
+abbrev pub ReadsDocument : {X : Type 0} → (X → List ℕ) → Result X Error → Option (List ℕ) → Option (List ℕ) → ℕ → ℕ → Type 0
+ReadsDocument text (Ok document) old new refusals refusals2 = GivesAll old new (text document) × (refusals2 ≡ refusals)
+ReadsDocument text (Err e) old new refusals refusals2 = StopsReading e.kind old new refusals refusals2
+
+-- All bytes were taken, in order, and no call was refused; or a beginning of them was, and a call was refused.
+abbrev pub WritesAll : {X : Type 0} → List ℕ → Result X Error → Option (List ℕ) → Option (List ℕ) → ℕ → ℕ → Type 0
+WritesAll bytes (Ok x) old new refusals refusals2 = Appends old new bytes × (refusals2 ≡ refusals)
+WritesAll bytes (Err e) old new refusals refusals2 = AppendsFront old new bytes × (e.kind ≡ File) × SomeRefused refusals refusals2

@@ -1,0 +1,55 @@
+//! Bytes from a source to its end, and to a sink.
+ghost use Rattle.std.specs.Prelude.{◌≡◌, ◌≤◌, ◌⊎◌, length, IfOk, IfErr, OnOk};
+ghost use Rattle.der_core.specs.Carrying.{WritesAll, piece};
+ghost use Rattle.der_core.specs.Length.{limit};
+ghost use Rattle.der_core.specs.Outside.{GivesAll, GivesMore, SomeRefused};
+
+use crate::error::{Error, ErrorKind, Result};
+use crate::length::Length;
+use crate::source_sink::{Sink, Source};
+use std::alloc::Global;
+
+const PIECE: usize = 65536;
+
+/// All that the source gives up to its end: `Overflow` as soon as more than `Length::MAX` bytes came.
+pub(crate) fn read_all<R: Source>(alloc: Global, source: &mut R) -> Result<Vec<u8>>
+    ensures all { IfOk result (λ bytes. GivesAll (R.remaining source.old) (R.remaining source.new) bytes.items) }
+    ensures within { IfOk result (λ bytes. length bytes.items ≤ limit) }
+    ensures same { OnOk result (R.refusals source.new ≡ R.refusals source.old) }
+    ensures err { IfErr result (λ e. ((e.kind ≡ ErrorKind.File) × SomeRefused (R.refusals source.old) (R.refusals source.new))
+        ⊎ (e.kind ≡ ErrorKind.OutOfMemory)
+        ⊎ ((e.kind ≡ ErrorKind.Overflow) × GivesMore limit piece (R.remaining source.old) (R.remaining source.new))) }
+{
+    let mut bytes = Vec::new(alloc);
+    let mut piece = [0u8; PIECE];
+    loop {
+        let count = match source.read(&mut piece) {
+            Ok(count) => count,
+            Err(_) => return Err(Error::new(ErrorKind::File)),
+        };
+        if count == 0 {
+            return Ok(bytes);
+        }
+        if count > Length::MAX.to_usize() - bytes.len() {
+            return Err(Error::new(ErrorKind::Overflow));
+        }
+        bytes.extend_from_slice(&piece[..count])?;
+    }
+}
+
+/// Hands all the bytes to the sink, in order, and flushes.
+pub(crate) fn write_all<W: Sink>(bytes: &[u8], sink: &mut W) -> Result<()>
+    ensures { WritesAll bytes.now result (W.contents sink.old) (W.contents sink.new) (W.refusals sink.old) (W.refusals sink.new) }
+{
+    let mut done = 0;
+    while done < bytes.len() {
+        match sink.write(&bytes[done..]) {
+            Ok(count) => done += count,
+            Err(_) => return Err(Error::new(ErrorKind::File)),
+        }
+    }
+    match sink.flush() {
+        Ok(()) => Ok(()),
+        Err(_) => Err(Error::new(ErrorKind::File)),
+    }
+}

@@ -1,0 +1,147 @@
+//! Other primes of private keys, read one after another.
+ghost use Rattle.std.specs.Prelude.{◌≡◌, [], ◌++◌, ◌<◌, ◌≤◌, List, ℕ, length, IfOk, IfErr, OnOk};
+ghost use Rattle.std.specs.Iterator.{YieldsFirstBy, item_count};
+ghost use Rattle.der_core.specs.Length.{limit};
+ghost use Rattle.der_core.specs.Integer.{Integer, IsCanonical, integer_contents};
+ghost use Rattle.der_core.specs.IntegerLaws.{integer_delimited};
+ghost use Rattle.der_core.specs.TextLaws.{joins_map};
+ghost use Rattle.der_core.specs.Tlv.{tlv};
+ghost use Rattle.pkcs1.specs.Writing.{HasOther, written_other};
+ghost use Rattle.pkcs1.specs.PrivateKeyLaws.{other_delimited};
+ghost use Rattle.der_core.specs.Reading.{NoneIn, TellsOfBytes};
+ghost use Rattle.der_core.specs.SequenceOf.{ItemsContents, AllHave, all_texts};
+ghost use Rattle.der_core.specs.UintRefs.{bytes_of};
+ghost use Rattle.pkcs1.specs.Keys as grammar;
+ghost use Rattle.pkcs1.specs.PrivateKeys.{other_of};
+ghost use Rattle.pkcs1.specs.OtherPrimesHeld.{HoldsOthers, HoldsOthers-prop, others_are_bytes};
+
+use crate::other_prime_info::OtherPrimeInfo;
+use der_core::{
+    Contents, Decode, DecodeValue, Header, Kinded, Memory, NoMemory, Reader, Result, SequenceTag,
+    SliceReader, UintRef,
+};
+
+/// The other primes of a private key, in order, over the bytes that were read.
+#[derive(Clone, Copy, Drop)]
+pub struct OtherPrimes<'a> {
+    bytes: &'a [u8],
+    left: usize,
+    ghost bounded: { length bytes.now ≤ limit },
+    ghost held: { HoldsOthers bytes.now left } by { HoldsOthers-prop bytes.now left },
+}
+
+/// Reads the first of other primes, and answers it with the bytes behind it.
+fn first_other<'a>(bytes: &'a [u8]) -> Result<(OtherPrimeInfo<UintRef<'a>>, &'a [u8])>
+    requires { length bytes.now ≤ limit }
+    ensures ok { IfOk result (λ p. (text : List ℕ) × (bytes.now ≡ text ++ p.1.now) × grammar.OtherPrimeInfo Integer (other_of bytes_of p.0) text) }
+    ensures err { IfErr result (λ e. TellsOfBytes e.kind × NoneIn (grammar.OtherPrimeInfo Integer) bytes.now) }
+{
+    let mut reader = SliceReader::new(bytes)?;
+    let other = OtherPrimeInfo::decode(NoMemory, &mut reader)?;
+    let rest = reader.read_slice(reader.remaining_len())?;
+    Ok((other, rest))
+}
+
+/// Counts other primes, of which the bytes are the texts, one after another.
+fn count_others(bytes: &[u8]) -> Result<usize>
+    requires { length bytes.now ≤ limit }
+    ensures ok { IfOk result (λ count. (others : List (grammar.OtherPrime (List ℕ))) × ItemsContents (grammar.OtherPrimeInfo Integer) others bytes.now × (length others ≡ count)) }
+    ensures err { IfErr result (λ e. TellsOfBytes e.kind × ((others : List (grammar.OtherPrime (List ℕ))) → ItemsContents (grammar.OtherPrimeInfo Integer) others bytes.now → ⊥)) }
+{
+    let mut rest = bytes;
+    let mut count = 0;
+    while !rest.is_empty() {
+        let (_other, behind) = first_other(rest)?;
+        rest = behind;
+        count += 1;
+    }
+    Ok(count)
+}
+
+impl<'a> OtherPrimes<'a> {
+    ghost use Rattle.pkcs1.specs.OtherPrimesLeft.{others_left};
+
+    /// None at all.
+    #[tactic(auto, unfolding(crate::specs::OtherPrimesLeft::others_left))]
+    pub(crate) fn none() -> OtherPrimes<'a>
+        ensures { others_left result ≡ [] }
+    {
+        OtherPrimes {
+            bytes: &[],
+            left: 0,
+        }
+    }
+
+    /// How many other primes are left.
+    #[tactic(auto, using(crate::proofs::OtherPrimesHeld::left_counted))]
+    pub fn remaining(&self) -> usize
+        ensures { result ≡ length (others_left self.now) }
+    {
+        self.left
+    }
+}
+
+impl Contents for OtherPrimes<'_> {
+    ghost use Rattle.pkcs1.specs.OtherPrimesLeft.{others_left};
+
+    ghost Value = { List (grammar.OtherPrime (List ℕ)) };
+
+    ghost value = { others_left };
+
+    ghost contents = { ItemsContents (grammar.OtherPrimeInfo Integer) };
+
+    ghost has_contents = { AllHave (HasOther IsCanonical) };
+
+    ghost written_contents = { all_texts (λ other. tlv 48 (written_other (λ number. tlv 2 (integer_contents number)) other)) };
+
+    ghost means_one = { joins_map (grammar.OtherPrimeInfo Integer) (other_delimited integer_delimited) };
+
+    ghost contents_of_bytes = { others_are_bytes };
+}
+
+impl Kinded for OtherPrimes<'_> {
+    type Kind = SequenceTag;
+}
+
+impl<'a, M: Memory> DecodeValue<&'a [u8], M> for OtherPrimes<'a> {
+    ghost asks = { λ _. ⊥ };
+
+    fn decode_value<R: Reader<&'a [u8]>>(
+        _memory: M,
+        reader: &mut R,
+        header: Header,
+    ) -> Result<OtherPrimes<'a>> {
+        let bytes = reader.read_slice(header.length)?;
+        match count_others(bytes) {
+            Ok(left) => Ok(OtherPrimes { bytes, left }),
+            Err(e) => Err(reader.error(e.kind())),
+        }
+    }
+}
+
+impl<'a> Iterator for OtherPrimes<'a> {
+    ghost use Rattle.pkcs1.specs.OtherPrimesLeft.{others_left};
+
+    type Item = OtherPrimeInfo<UintRef<'a>>;
+
+    ghost next_gives = { YieldsFirstBy (other_of bytes_of) others_left };
+
+    ghost remaining = { item_count others_left };
+
+    #[tactic(auto, unfolding(crate::specs::OtherPrimesLeft::others_left))]
+    fn next(&mut self) -> Option<OtherPrimeInfo<UintRef<'a>>> {
+        if self.left == 0 {
+            return None;
+        }
+        match first_other(self.bytes) {
+            Ok((other, rest)) => {
+                *self = OtherPrimes {
+                    bytes: rest,
+                    left: self.left - 1,
+                };
+                Some(other)
+            }
+            Err(_) => None,
+        }
+    }
+}

@@ -1,0 +1,154 @@
+//! Keys of any type, read from PKCS #1 texts and written as such, in memory and in files.
+ghost use Rattle.std.specs.Prelude.{◌≡◌, List, ℕ, IfOk, IfErr, OnOk, IsErrAnd};
+ghost use Rattle.der_core.specs.Document.{IsDocument, Means, HasText};
+ghost use Rattle.der_core.specs.Documents.{text_of, secret_text_of};
+ghost use Rattle.der_core.specs.Reading.{Refuses};
+ghost use Rattle.der_core.specs.Tags.{sequence};
+ghost use Rattle.der_core.specs.UintRefs.{bytes_of};
+ghost use Rattle.der_core.specs.Uints.{own_bytes_of};
+ghost use Rattle.pkcs1.specs.Asking.{OwnedKeyAsks, OwnedPublicKeyAsks};
+ghost use Rattle.pkcs1.specs.Keys.{PublicKey, PrivateKey};
+ghost use Rattle.pkcs1.specs.Keys as grammar;
+ghost use Rattle.pkcs1.specs.KeyTexts.{IsOnlyText, IsUnwritten};
+ghost use Rattle.pkcs1.specs.PrivateKeys.{private_of, ListsNone};
+ghost use Rattle.pkcs1.specs.PublicKeys.{public_of};
+ghost use Rattle.pkcs1.specs.Refusals.{IsAsn1};
+
+use crate::error::Result;
+use crate::private_key::RsaPrivateKey;
+use crate::public_key::RsaPublicKey;
+use der_core::{AsUintRef, Decode, Document, ErrorKind, SecretDocument, Uint, UintRef};
+use std::alloc::Global;
+use std::path::Path;
+use std::rt::Files;
+
+/// A private key that is read from a PKCS #1 text.
+pub trait DecodeRsaPrivateKey: Sized + Drop {
+    /// The key was read from these bytes.
+    ghost stands_for: { Self → List ℕ → Type 0 };
+
+    /// Reads a key from all of the bytes.
+    fn from_pkcs1_der(alloc: Global, bytes: &[u8]) -> Result<Self>
+        ensures { IfOk result (λ key. stands_for key bytes.now) };
+
+    /// Reads a key from a file: the document that the file holds, then `from_pkcs1_der` on its bytes.
+    fn read_pkcs1_der_file<Rt: Files>(rt: &Rt, alloc: Global, path: Path<'_>) -> Result<Self>
+        ensures { IfOk result (λ key. (bytes : List ℕ) × IsDocument bytes × stands_for key bytes) }
+    {
+        let document = SecretDocument::read_der_file(rt, alloc, path)?;
+        Self::from_pkcs1_der(alloc, document.as_bytes())
+    }
+}
+
+/// A public key that is read from a PKCS #1 text.
+pub trait DecodeRsaPublicKey: Sized + Drop {
+    /// The key was read from these bytes.
+    ghost stands_for: { Self → List ℕ → Type 0 };
+
+    /// Reads a key from all of the bytes.
+    fn from_pkcs1_der(alloc: Global, bytes: &[u8]) -> Result<Self>
+        ensures { IfOk result (λ key. stands_for key bytes.now) };
+
+    /// Reads a key from a file: the document that the file holds, then `from_pkcs1_der` on its bytes.
+    fn read_pkcs1_der_file<Rt: Files>(rt: &Rt, alloc: Global, path: Path<'_>) -> Result<Self>
+        ensures { IfOk result (λ key. (bytes : List ℕ) × IsDocument bytes × stands_for key bytes) }
+    {
+        let document = Document::read_der_file(rt, alloc, path)?;
+        Self::from_pkcs1_der(alloc, document.as_bytes())
+    }
+}
+
+/// A private key that is written as a PKCS #1 text.
+pub trait EncodeRsaPrivateKey {
+    /// The key is written as these bytes.
+    ghost written_as: { Self → List ℕ → Type 0 };
+
+    /// The text of the key.
+    fn to_pkcs1_der(&self, alloc: Global) -> Result<SecretDocument>
+        ensures { IfOk result (λ document. written_as self.now (secret_text_of document)) };
+
+    /// Writes the text of the key to a file. The text is made before the file is created or cut.
+    fn write_pkcs1_der_file<Rt: Files>(&self, rt: &Rt, alloc: Global, path: Path<'_>) -> Result<()>
+        ensures { OnOk result ((bytes : List ℕ) × IsDocument bytes × written_as self.now bytes) }
+    {
+        let document = self.to_pkcs1_der(alloc)?;
+        Ok(document.write_der_file(rt, path)?)
+    }
+}
+
+/// A public key that is written as a PKCS #1 text.
+pub trait EncodeRsaPublicKey {
+    /// The key is written as these bytes.
+    ghost written_as: { Self → List ℕ → Type 0 };
+
+    /// The text of the key.
+    fn to_pkcs1_der(&self, alloc: Global) -> Result<Document>
+        ensures { IfOk result (λ document. written_as self.now (text_of document)) };
+
+    /// Writes the text of the key to a file. The text is made before the file is created or cut.
+    fn write_pkcs1_der_file<Rt: Files>(&self, rt: &Rt, alloc: Global, path: Path<'_>) -> Result<()>
+        ensures { OnOk result ((bytes : List ℕ) × IsDocument bytes × written_as self.now bytes) }
+    {
+        let document = self.to_pkcs1_der(alloc)?;
+        Ok(document.write_der_file(rt, path)?)
+    }
+}
+
+impl DecodeRsaPrivateKey for RsaPrivateKey<Uint> {
+    ghost stands_for = { λ key bytes. Means grammar.RsaPrivateKey bytes (private_of own_bytes_of key) };
+
+    fn from_pkcs1_der(alloc: Global, bytes: &[u8]) -> Result<RsaPrivateKey<Uint>>
+        ensures ok { IfOk result (λ key. Means grammar.RsaPrivateKey bytes.now (private_of own_bytes_of key)) }
+        ensures one { IfOk result (λ key. (other : PrivateKey (List ℕ)) → Means grammar.RsaPrivateKey bytes.now other → other ≡ private_of own_bytes_of key) }
+        ensures err { IfErr result (IsAsn1 (λ e. Refuses e.kind (OwnedKeyAsks bytes.now) ((key : PrivateKey (List ℕ)) → Means grammar.RsaPrivateKey bytes.now key → ⊥))) }
+    {
+        Ok(RsaPrivateKey::from_der(alloc, bytes)?)
+    }
+}
+
+impl DecodeRsaPublicKey for RsaPublicKey<Uint> {
+    ghost stands_for = { λ key bytes. Means grammar.RsaPublicKey bytes (public_of own_bytes_of key) };
+
+    fn from_pkcs1_der(alloc: Global, bytes: &[u8]) -> Result<RsaPublicKey<Uint>>
+        ensures ok { IfOk result (λ key. Means grammar.RsaPublicKey bytes.now (public_of own_bytes_of key)) }
+        ensures one { IfOk result (λ key. (other : PublicKey (List ℕ)) → Means grammar.RsaPublicKey bytes.now other → other ≡ public_of own_bytes_of key) }
+        ensures err { IfErr result (IsAsn1 (λ e. Refuses e.kind (OwnedPublicKeyAsks bytes.now) ((key : PublicKey (List ℕ)) → Means grammar.RsaPublicKey bytes.now key → ⊥))) }
+    {
+        Ok(RsaPublicKey::from_der(alloc, bytes)?)
+    }
+}
+
+impl<'a> EncodeRsaPrivateKey for RsaPrivateKey<UintRef<'a>> {
+    ghost written_as = { λ key bytes. IsOnlyText grammar.RsaPrivateKey (private_of bytes_of key) bytes };
+
+    fn to_pkcs1_der(&self, alloc: Global) -> Result<SecretDocument>
+        ensures text { IfOk result (λ document. IsOnlyText grammar.RsaPrivateKey (private_of bytes_of self.now) (secret_text_of document)) }
+        ensures err { IfErr result (IsAsn1 (λ e. IsUnwritten (HasText grammar.RsaPrivateKey (private_of bytes_of self.now)) grammar.RsaPrivateKey (private_of bytes_of self.now) e.kind)) }
+        ensures no_primes { ListsNone self.now.other_prime_infos → IsErrAnd result (IsAsn1 (λ e. e.kind ≡ ErrorKind.Value sequence)) }
+    {
+        self.to_document(alloc)
+    }
+}
+
+impl EncodeRsaPrivateKey for RsaPrivateKey<Uint> {
+    ghost written_as = { λ key bytes. IsOnlyText grammar.RsaPrivateKey (private_of own_bytes_of key) bytes };
+
+    fn to_pkcs1_der(&self, alloc: Global) -> Result<SecretDocument>
+        ensures text { IfOk result (λ document. IsOnlyText grammar.RsaPrivateKey (private_of own_bytes_of self.now) (secret_text_of document)) }
+        ensures err { IfErr result (IsAsn1 (λ e. IsUnwritten (HasText grammar.RsaPrivateKey (private_of own_bytes_of self.now)) grammar.RsaPrivateKey (private_of own_bytes_of self.now) e.kind)) }
+        ensures no_primes { ListsNone self.now.other_prime_infos → IsErrAnd result (IsAsn1 (λ e. e.kind ≡ ErrorKind.Value sequence)) }
+    {
+        self.to_document(alloc)
+    }
+}
+
+impl<U: AsUintRef> EncodeRsaPublicKey for RsaPublicKey<U> {
+    ghost written_as = { λ key bytes. IsOnlyText grammar.RsaPublicKey (public_of U.number key) bytes };
+
+    fn to_pkcs1_der(&self, alloc: Global) -> Result<Document>
+        ensures text { IfOk result (λ document. IsOnlyText grammar.RsaPublicKey (public_of U.number self.now) (text_of document)) }
+        ensures err { IfErr result (IsAsn1 (λ e. IsUnwritten (HasText grammar.RsaPublicKey (public_of U.number self.now)) grammar.RsaPublicKey (public_of U.number self.now) e.kind)) }
+    {
+        Ok(Document::encode_msg(alloc, &self.as_key_ref())?)
+    }
+}

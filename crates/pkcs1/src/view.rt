@@ -1,0 +1,195 @@
+//! RSA private keys, seen without a list.
+ghost use Rattle.std.specs.Prelude.{◌≡◌, ℕ, List, length, map, IsTrue, IsSome, IfOk, IfErr, OnErr, ◌↔◌};
+ghost use Rattle.std.specs.Option.{option_map};
+ghost use Rattle.der_core.specs.Integer.{Integer, IntegerContents, IsCanonical, integer_contents};
+ghost use Rattle.der_core.specs.IntegerLaws.{integer_delimited, integer_of_bytes};
+ghost use Rattle.der_core.specs.Reading.{ReadsContents, TellsOfBytes};
+ghost use Rattle.der_core.specs.TextLaws.{tlv_of_bytes};
+ghost use Rattle.der_core.specs.Tlv.{tlv};
+ghost use Rattle.pkcs1.specs.Keys as grammar;
+ghost use Rattle.pkcs1.specs.Keys.{PrivateKey, PrivateKeyContents, version_of};
+ghost use Rattle.pkcs1.specs.OtherPrimesLeft.{others_left, HoldsNone};
+ghost use Rattle.pkcs1.specs.PrivateKeyLaws.{private_means_one, private_of_bytes};
+ghost use Rattle.pkcs1.specs.Versions.{number_of};
+ghost use Rattle.pkcs1.specs.ViewParts.{parts_of, view_of, viewed_text, listed_others};
+ghost use Rattle.pkcs1.specs.Refusals.{IsAsn1};
+ghost use Rattle.der_core.specs.Document.{Means};
+ghost use Rattle.der_core.specs.UintRefs.{bytes_of};
+ghost use Rattle.pkcs1.specs.Writing.{HasPrivateKey, written_private_key};
+ghost use Rattle.std.specs.Prelude.{refl};
+
+use crate::error::Error;
+use crate::other_primes::OtherPrimes;
+use crate::version::Version;
+use der_core::{
+    Contents, Decode, DecodeValue, ErrorKind, Header, Kinded, NoMemory, Reader, Result,
+    SequenceTag, Tag, UintRef, decode_optional,
+};
+
+/// The parts of a private key, over the bytes that were read.
+#[derive(Clone, Copy, Drop)]
+pub(crate) struct Parts<'a> {
+    pub(crate) modulus: UintRef<'a>,
+    pub(crate) public_exponent: UintRef<'a>,
+    pub(crate) private_exponent: UintRef<'a>,
+    pub(crate) prime1: UintRef<'a>,
+    pub(crate) prime2: UintRef<'a>,
+    pub(crate) exponent1: UintRef<'a>,
+    pub(crate) exponent2: UintRef<'a>,
+    pub(crate) coefficient: UintRef<'a>,
+    pub(crate) other_primes: Option<OtherPrimes<'a>>,
+}
+
+/// Whether there is a list of no primes.
+fn lists_none(others: &Option<OtherPrimes<'_>>) -> bool
+    ensures { IsTrue result ↔ HoldsNone others.now }
+{
+    match others {
+        Some(primes) => primes.remaining() == 0,
+        None => false,
+    }
+}
+
+/// Reads the other primes, which are all that is left and agree with the version.
+fn read_listed<'a, R: Reader<&'a [u8]>>(
+    reader: &mut R,
+    version: Version,
+) -> Result<Option<OtherPrimes<'a>>>
+    ensures { ReadsContents (option_map others_left) (λ others c. (version_of others ≡ number_of version) × grammar.OtherPrimeInfos Integer others c) (λ _. ⊥) result (R.left reader.old) (R.left reader.new) }
+{
+    let others: Option<OtherPrimes<'a>> = decode_optional(NoMemory, reader)?;
+    if version.is_multi() != others.is_some() {
+        return Err(reader.error(ErrorKind::Value { tag: Tag::INTEGER }));
+    }
+    if lists_none(&others) {
+        return Err(reader.error(ErrorKind::Value { tag: Tag::SEQUENCE }));
+    }
+    reader.finish()?;
+    Ok(others)
+}
+
+impl Contents for Parts<'_> {
+    ghost Value = { PrivateKey (List ℕ) };
+
+    ghost value = { parts_of };
+
+    ghost contents = { PrivateKeyContents Integer };
+
+    ghost has_contents = { HasPrivateKey IsCanonical };
+
+    ghost written_contents = { written_private_key (λ number. tlv 2 (integer_contents number)) };
+
+    ghost means_one = { private_means_one integer_delimited };
+
+    ghost contents_of_bytes = { private_of_bytes Integer (tlv_of_bytes 2 refl IntegerContents integer_of_bytes) };
+}
+
+impl Kinded for Parts<'_> {
+    type Kind = SequenceTag;
+}
+
+impl<'a> DecodeValue<&'a [u8], NoMemory> for Parts<'a> {
+    ghost asks = { λ _. ⊥ };
+
+    fn decode_value<R: Reader<&'a [u8]>>(
+        memory: NoMemory,
+        reader: &mut R,
+        _header: Header,
+    ) -> Result<Parts<'a>> {
+        let version = Version::decode(memory, reader)?;
+        let modulus = UintRef::decode(memory, reader)?;
+        let public_exponent = UintRef::decode(memory, reader)?;
+        let private_exponent = UintRef::decode(memory, reader)?;
+        let prime1 = UintRef::decode(memory, reader)?;
+        let prime2 = UintRef::decode(memory, reader)?;
+        let exponent1 = UintRef::decode(memory, reader)?;
+        let exponent2 = UintRef::decode(memory, reader)?;
+        let coefficient = UintRef::decode(memory, reader)?;
+        let other_primes = read_listed(reader, version)?;
+        Ok(Parts {
+            modulus,
+            public_exponent,
+            private_exponent,
+            prime1,
+            prime2,
+            exponent1,
+            exponent2,
+            coefficient,
+            other_primes,
+        })
+    }
+}
+
+/// An RSA private key, over its text. No memory is taken, however many primes it has.
+#[derive(Clone, Copy, Drop)]
+pub struct RsaPrivateKeyView<'a> {
+    bytes: &'a [u8],
+    parts: Parts<'a>,
+}
+
+impl<'a> RsaPrivateKeyView<'a> {
+    /// The version: whether there are other primes.
+    pub fn version(&self) -> Version
+        ensures { (result ≡ Version.Multi) ↔ IsSome (view_of self.now).other_prime_infos }
+    {
+        if self.parts.other_primes.is_some() {
+            Version::Multi
+        } else {
+            Version::TwoPrime
+        }
+    }
+
+    /// The modulus n.
+    pub fn modulus(&self) -> UintRef<'a>
+        ensures { bytes_of result ≡ (view_of self.now).modulus }
+    {
+        self.parts.modulus
+    }
+
+    /// The primes past the first two, in order.
+    pub fn other_primes(&self) -> OtherPrimes<'a>
+        ensures { others_left result ≡ listed_others (view_of self.now).other_prime_infos }
+    {
+        if let Some(primes) = self.parts.other_primes {
+            return primes;
+        }
+        OtherPrimes::none()
+    }
+
+    /// The whole text.
+    pub fn as_bytes(&self) -> &'a [u8]
+        ensures { result.now ≡ viewed_text self.now }
+    {
+        self.bytes
+    }
+}
+
+impl<'a> TryFrom<&'a [u8]> for RsaPrivateKeyView<'a> {
+    type Error = Error;
+
+    /// Reads a whole slice, without memory.
+    fn try_from(bytes: &'a [u8]) -> crate::Result<RsaPrivateKeyView<'a>>
+        ensures ok { IfOk result (λ view. Means grammar.RsaPrivateKey bytes.now (view_of view)) }
+        ensures one { IfOk result (λ view. (other : PrivateKey (List ℕ)) → Means grammar.RsaPrivateKey bytes.now other → other ≡ view_of view) }
+        ensures bytes { IfOk result (λ view. viewed_text view ≡ bytes.now) }
+        ensures err { OnErr result ((key : PrivateKey (List ℕ)) → Means grammar.RsaPrivateKey bytes.now key → ⊥) }
+        ensures asn1 { IfErr result (IsAsn1 (λ e. TellsOfBytes e.kind)) }
+    {
+        let parts = Parts::from_der(NoMemory, bytes)?;
+        Ok(RsaPrivateKeyView { bytes, parts })
+    }
+}
+
+/// The primes past the first two.
+pub fn primes_of<'a>(
+    alloc: std::alloc::Global,
+    view: &RsaPrivateKeyView<'a>,
+) -> std::result::Result<Vec<UintRef<'a>>, std::alloc::AllocError>
+    ensures { IfOk result (λ primes. map bytes_of primes.items ≡ map (λ other. other.prime) (listed_others (view_of view.now).other_prime_infos)) }
+{
+    let mut primes = Vec::new(alloc);
+    for other in view.other_primes() {
+        primes.push(other.prime)?;
+    }
+    Ok(primes)
+}

@@ -1,0 +1,88 @@
+-- Writing of containers: each value has a text, and no more than one.
+use Rattle.std.proofs.Common.{◌≡◌, ℕ, List, [], ◌∷◌, ◌++◌, ◌<◌, ◌≤◌, ◌+◌, ◌^◌, length, length-append, take, sym, ◌∙◌, arith, Option, Some, None}
+use Rattle.std.specs.Prelude.{Result, Ok, Err, IfOk, IfErr}
+use Rattle.std.specs.Option.{option_map}
+use Rattle.der_core.specs.Document.{Means, HasText, IsAlone, IsShortest, IsRefused, Fault, no_text, too_long, no_room, another}
+use Rattle.der_core.specs.Integer.{Small}
+use Rattle.der_core.specs.OctetString.{OctetContents, OctetString}
+use Rattle.der_core.specs.Optional.{Optional, HasOptional, written_optional}
+use Rattle.der_core.specs.Texts.{AtMostOne, AreBytes}
+use Rattle.der_core.specs.TextLaws.{tlv_at_most_one, tlv_made, joins_at_most_one}
+use Rattle.der_core.specs.IntegerLaws.{small_at_most_one}
+use Rattle.spki_core.specs.AlgorithmIdentifier.{PlainAlgorithm, written_plain}
+use Rattle.spki_core.specs.AlgorithmTexts.{plain_at_most_one, optional_at_most_one}
+use Rattle.pkcs8_core.specs.Container.{Info, AttributesText, InfoContents, PrivateKeyInfo, HasInfo, written_info, IsUnwritten}
+use Rattle.pkcs8_core.specs.Laws.{info_relates}
+use Rattle.pkcs8_core.specs.Held.{attributes_of}
+use Rattle.pkcs8_core.specs.declared.attributes.Attributes.{Attributes}
+use Rattle.der_core.specs.ShortTexts.{tlv_short}
+use Rattle.der_core.specs.Fronts.{front_is}
+use Rattle.der_core.specs.InputLaws.{are_bytes}
+use Rattle.der_core.specs.Length.{limit}
+use Rattle.der_core.specs.Writing.{fault}
+use Rattle.der_core.specs.Tlv.{tlv}
+use Rattle.der_core.specs.Integer.{integer_contents}
+use Rattle.der_core.specs.declared.error.Error.{Error}
+use Rattle.spki_core.specs.Any.{IsAny, written_any}
+use Rattle.spki_core.specs.ObjectIdentifier.{IsIdentifier}
+use Rattle.std.proofs.Common.{drop, ◌-◌}
+use Rattle.std.specs.Prelude.{OnOk}
+
+octets_at_most_one : (o : List ℕ) → AtMostOne (OctetContents o)
+octets_at_most_one o x y p q = p.1 ∙ sym q.1
+
+pub info_at_most_one : (info : Info) → AtMostOne (PrivateKeyInfo info)
+info_at_most_one info =
+    tlv_at_most_one 48 (InfoContents info)
+    (joins_at_most_one (Small 0 ∷ PlainAlgorithm info.algorithm ∷ OctetString info.private_key ∷ Optional AttributesText info.attributes ∷ []) (
+      small_at_most_one 0,
+      (
+        plain_at_most_one info.algorithm,
+        (
+          tlv_at_most_one 4 (OctetContents info.private_key) (octets_at_most_one info.private_key),
+          (optional_at_most_one AttributesText (λ o. tlv_at_most_one 160 (OctetContents o) (octets_at_most_one o)) info.attributes, tt),
+        ),
+      ),
+    ))
+
+pub has_text : (info : Info) → HasInfo info → length (written_info info) < 2 ^ 128 → HasText PrivateKeyInfo info
+has_text info has few = let made = tlv_made 48 (InfoContents info) (written_info info) (info_relates info has few) few in (made.0, made.1)
+
+pub unwritten : (has : Type 0) (info : Info) (room : ℕ) → HasText PrivateKeyInfo info → (k : Fault) → IsRefused has PrivateKeyInfo info room k → IsUnwritten info room k
+unwritten has info room some no_text h = h some.0 some.1
+unwritten has info room some too_long h = h.1
+unwritten has info room some no_room h = (h.0, h.1.spells, h.2)
+unwritten has info room some another h = h
+
+pub if_unwritten : {A : Type 0} (has : Type 0) (info : Info) (room : ℕ) → HasText PrivateKeyInfo info → (r : Result A Error) → IfErr r (λ e. IsRefused has PrivateKeyInfo info room (fault e.kind))
+    → IfErr r (λ e. IsUnwritten info room (fault e.kind))
+if_unwritten has info room some (Ok x) h = tt
+if_unwritten has info room some (Err e) h = unwritten has info room some (fault e.kind) h
+
+pub alone : (info : Info) (r : Result ℕ Error) (text old new : List ℕ) → IfOk r (λ n. (n ≡ length text) × (new ≡ text ++ drop n old)) → OnOk r (IsShortest PrivateKeyInfo info text)
+    → IfOk r (λ n. Means PrivateKeyInfo (take n new) info × IsAlone PrivateKeyInfo info (take n new))
+alone info (Err e) text old new h s = tt
+alone info (Ok n) text old new h s =
+    rw (front_is text old new n h.0 h.1) (s.spells, λ other p. info_at_most_one info other text p.1 s.spells.1)
+
+-- Of bytes that are far fewer than 2 ^ 128 a container has a text.
+pub text_held : (info : Info) → IsIdentifier info.algorithm.oid → HasOptional IsAny info.algorithm.parameters → AreBytes info.private_key → HasOptional AreBytes info.attributes
+    → length (written_optional written_any info.algorithm.parameters) ≤ limit + 128 → length info.private_key ≤ limit → length (written_optional (λ (o : List ℕ). tlv 160 o) info.attributes) ≤ 2 ^ 64 + 128
+    → HasText PrivateKeyInfo info
+text_held info oid parameters bytes attributes few_parameters few_bytes few_attributes =
+    let o = tlv 6 info.algorithm.oid in
+    let p = written_optional written_any info.algorithm.parameters in
+    let a = written_plain info.algorithm in
+    let k = tlv 4 info.private_key in
+    let t = written_optional (λ x. tlv 160 x) info.attributes in
+    let v = tlv 2 (integer_contents (0 ∷ [])) in
+    let few_oid : length o ≤ 167 = tlv_short 6 39 info.algorithm.oid oid.short (omega arith) in
+    let few_algorithm : length a ≤ limit + 423 = tlv_short 48 (limit + 295) (o ++ p) (omega (arith, few_oid, few_parameters, length-append o p)) (omega arith) in
+    let few_key : length k ≤ limit + 128 = tlv_short 4 limit info.private_key few_bytes (omega arith) in
+    let few_version : length v ≤ 130 = tlv_short 2 2 (integer_contents (0 ∷ [])) (omega arith) (omega arith) in
+    has_text info (omega arith, ((oid, parameters), (bytes, attributes)))
+    (omega (arith, length-append v (a ++ (k ++ t)), length-append a (k ++ t), length-append k t, few_algorithm, few_key, few_version, few_attributes))
+
+pub attributes_held : (a : Option Attributes) → HasOptional AreBytes (option_map attributes_of a) × (length (written_optional (λ (o : List ℕ). tlv 160 o) (option_map attributes_of a)) ≤ 2 ^ 64 + 128)
+attributes_held None = (tt, omega arith)
+attributes_held (Some a) = (are_bytes a.bytes.now a.octets, let s = tlv_short 160 (2 ^ 64 - 1) a.bytes.now (omega (arith, a.short)) (omega arith) in omega (arith, s))

@@ -1,0 +1,3 @@
+pub mod ContainerReads
+pub mod ContainerWrites
+pub mod RsaHeld

@@ -1,0 +1,13 @@
+use Rattle.std.proofs.lemmas.Result.{err_from_is_err_and}
+use Rattle.der_core.specs.Tells.{is_value}
+use Rattle.pkcs8_core.proofs.ContainerReads.{version_fails, other_version}
+use Rattle.pkcs8_core.proofs.info.read_version.Goals as goal
+
+pub returns-in_err-decode : goal.returns-in_err-decode
+returns-in_err-decode g c =
+    let p = err_from_is_err_and c.from_residual.result c.from_residual.ensures.1 in
+    rw (p.1, p.2) (version_fails _ _ _ c.in_err-decode.ensures)
+
+pub returns-then-branch-ne0 : goal.returns-then-branch-ne0
+returns-then-branch-ne0 g c =
+    other_version _ _ _ _ _ c.in_ok-decode.ensures c.if-branch-ne0.true (is_value c.error.ensures.value) c.error.ensures.failed

@@ -1,0 +1,42 @@
+-- PrivateKeyInfo (RFC 5208 5).
+use Rattle.std.specs.Prelude.{ℕ, List, [], ◌∷◌, ◌++◌, ◌<◌, length, Option}
+use Rattle.der_core.specs.Document.{Means, Fault, no_text, too_long, no_room, another}
+use Rattle.der_core.specs.Integer.{Small, integer_contents}
+use Rattle.der_core.specs.OctetString.{OctetContents, OctetString}
+use Rattle.der_core.specs.Optional.{Optional, HasOptional, written_optional}
+use Rattle.der_core.specs.Texts.{AreBytes, Joins}
+use Rattle.der_core.specs.Tlv.{Tlv, tlv}
+use Rattle.spki_core.specs.Any.{TagAndContents}
+use Rattle.spki_core.specs.AlgorithmIdentifier.{Algorithm, PlainAlgorithm, HasPlain, written_plain}
+
+pub record Info : Type 0 where
+  pub algorithm : Algorithm TagAndContents
+  pub private_key : List ℕ
+  pub attributes : Option (List ℕ)
+
+-- attributes [0] IMPLICIT SET OF Attribute: the contents aren't looked at.
+abbrev pub AttributesText : List ℕ → List ℕ → Type 0
+AttributesText octets text = Tlv 160 (OctetContents octets) text
+
+abbrev pub InfoContents : Info → List ℕ → Type 0
+InfoContents info contents =
+    Joins (Small 0 ∷ PlainAlgorithm info.algorithm ∷ OctetString info.private_key ∷ Optional AttributesText info.attributes ∷ []) contents
+
+-- PrivateKeyInfo ::= SEQUENCE { version INTEGER (0), privateKeyAlgorithm AlgorithmIdentifier, privateKey OCTET STRING, attributes [0] IMPLICIT Attributes OPTIONAL }
+abbrev pub PrivateKeyInfo : Info → List ℕ → Type 0
+PrivateKeyInfo info text = Tlv 48 (InfoContents info) text
+
+-- Which values have contents, and the contents that are written.
+abbrev pub HasInfo : Info → Type 0
+HasInfo info = (0 < 256) × (HasPlain info.algorithm × (AreBytes info.private_key × HasOptional AreBytes info.attributes))
+
+abbrev pub written_info : Info → List ℕ
+written_info info =
+    tlv 2 (integer_contents (0 ∷ [])) ++ (written_plain info.algorithm ++ (tlv 4 info.private_key ++ written_optional (λ octets. tlv 160 octets) info.attributes))
+
+-- Why a container isn't written: it has no text within the limit, or its text has no room.
+abbrev pub IsUnwritten : Info → ℕ → Fault → Type 0
+IsUnwritten info room no_text = ⊥
+IsUnwritten info room too_long = (text : List ℕ) → Means PrivateKeyInfo text info → ⊥
+IsUnwritten info room no_room = (text : List ℕ) × Means PrivateKeyInfo text info × (room < length text)
+IsUnwritten info room another = ⊥

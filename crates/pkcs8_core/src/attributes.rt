@@ -1,0 +1,93 @@
+//! Attributes of containers, as one opaque text.
+ghost use Rattle.std.specs.Prelude.{◌≡◌, ◌<◌, ◌^◌, ℕ, List, length, slice_index};
+ghost use Rattle.der_core.specs.OctetString.{OctetContents};
+ghost use Rattle.der_core.specs.OctetStringLaws.{octets_mean_one, octets_of_bytes, octets_relate, octets_shortest};
+ghost use Rattle.der_core.specs.Texts.{AreBytes};
+ghost use Rattle.pkcs8_core.specs.Tags.{attributes_tag};
+
+use pkcs1::der::{
+    BackWriter, Contents, DecodeValue, EncodeValue, Header, Kinded, Length, Memory, Reader, Result,
+    Tag, TagKind, Writer,
+};
+
+/// The tag of attributes.
+pub(crate) struct AttributesTag;
+
+impl TagKind for AttributesTag {
+    ghost TAG = { attributes_tag };
+
+    const TAG: Tag = Tag { octet: 0xa0 };
+}
+
+/// Attributes, whose contents aren't looked at and may pass `Length::MAX`.
+#[derive(Clone, Copy, Drop)]
+pub(crate) struct Attributes<'a> {
+    pub(crate) bytes: &'a [u8],
+    pub(crate) ghost octets: { (i : ℕ) → slice_index bytes.now i < 256 },
+    pub(crate) ghost short: { length bytes.now < 2 ^ 64 },
+}
+
+impl<'a> Attributes<'a> {
+    ghost use Rattle.pkcs8_core.specs.Held.{attributes_of};
+
+    /// Attributes with these contents.
+    pub(crate) fn new(bytes: &'a [u8]) -> Attributes<'a>
+        ensures { attributes_of result ≡ bytes.now }
+    {
+        Attributes { bytes }
+    }
+}
+
+impl Contents for Attributes<'_> {
+    ghost use Rattle.pkcs8_core.specs.Held.{attributes_of};
+
+    ghost Value = { List ℕ };
+
+    ghost value = { attributes_of };
+
+    ghost contents = { OctetContents };
+
+    ghost has_contents = { AreBytes };
+
+    ghost written_contents = { λ octets. octets };
+
+    ghost means_one = { octets_mean_one };
+
+    ghost contents_of_bytes = { octets_of_bytes };
+}
+
+impl Kinded for Attributes<'_> {
+    type Kind = AttributesTag;
+}
+
+impl<'a, M: Memory> DecodeValue<&'a [u8], M> for Attributes<'a> {
+    ghost asks = { λ _. ⊥ };
+
+    fn decode_value<R: Reader<&'a [u8]>>(
+        _memory: M,
+        reader: &mut R,
+        header: Header,
+    ) -> Result<Attributes<'a>> {
+        let bytes = reader.read_slice(header.length)?;
+        Ok(Attributes::new(bytes))
+    }
+}
+
+impl EncodeValue for Attributes<'_> {
+    fn value_len(&self) -> Result<Length> {
+        Length::try_from(self.bytes.len())
+    }
+
+    fn encode_value<W: Writer>(&self, writer: &mut W) -> Result<()> {
+        self.value_len()?;
+        writer.write(self.bytes)
+    }
+
+    fn prepend_value(&self, writer: &mut BackWriter<'_>) {
+        writer.prepend(self.bytes);
+    }
+
+    ghost contents_relate = { λ octets has fits. octets_relate octets has };
+
+    ghost contents_shortest = { octets_shortest };
+}

@@ -1,0 +1,220 @@
+//! Containers of private keys.
+ghost use Rattle.std.specs.Prelude.{◌≡◌, ◌≤◌, ◌+◌, ℕ, List, length, take, drop, IfOk, IfErr, OnErr, refl};
+ghost use Rattle.std.specs.Option.{option_map};
+ghost use Rattle.der_core.specs.Document.{Means, IsAlone, HasText};
+ghost use Rattle.der_core.specs.Integer.{Small};
+ghost use Rattle.der_core.specs.Length.{limit};
+ghost use Rattle.der_core.specs.Optional.{Optional, HasOptional, written_optional};
+ghost use Rattle.spki_core.specs.Any.{IsAny, written_any};
+ghost use Rattle.spki_core.specs.AnyRefs.{any_of};
+ghost use Rattle.der_core.specs.Texts.{AtMostOne, AreBytes};
+ghost use Rattle.der_core.specs.Reading.{ReadsContents, ReadsText, TellsOfBytes};
+ghost use Rattle.der_core.specs.Writing.{fault};
+ghost use Rattle.pkcs8_core.specs.Container.{Info, AttributesText, InfoContents, PrivateKeyInfo, HasInfo, written_info, IsUnwritten};
+ghost use Rattle.pkcs8_core.specs.Held.{info_of, attributes_of, slice_now};
+ghost use Rattle.pkcs8_core.specs.Laws.{info_means_one, info_of_bytes, info_relates, info_shortest};
+
+use crate::attributes::Attributes;
+use pkcs1::der::{
+    BackWriter, Contents, Decode, DecodeValue, Encode, EncodeValue, Error, ErrorKind, Header,
+    Kinded, Length, Memory, NoMemory, OctetStringRef, Reader, Result, Sequence, SequenceTag, Tag,
+    Writer, decode_optional, encode_optional, joined_len, optional_len, prepend_optional,
+};
+use pkcs1::spki::{AlgorithmIdentifierRef, AnyRef};
+
+/// A private key, the algorithm that it is for, and attributes.
+#[derive(Clone, Copy, Drop)]
+pub struct PrivateKeyInfoRef<'a> {
+    /// What the private key is for.
+    pub algorithm: AlgorithmIdentifierRef<'a>,
+    /// The private key, in the form of its algorithm.
+    pub private_key: OctetStringRef<'a>,
+    /// The contents of the attributes, which aren't looked at.
+    pub attributes: Option<&'a [u8]>,
+}
+
+/// The contents of attributes, if there are any.
+fn contents_of<'a>(attributes: Option<Attributes<'a>>) -> Option<&'a [u8]>
+    ensures { option_map slice_now result ≡ option_map attributes_of attributes.entry }
+{
+    match attributes {
+        Some(attributes) => Some(attributes.bytes),
+        None => None,
+    }
+}
+
+/// Reads the attributes, which are all that is left, or that there are none.
+fn read_attributes<'a, R: Reader<&'a [u8]>>(reader: &mut R) -> Result<Option<&'a [u8]>>
+    ensures { ReadsContents (option_map slice_now) (Optional AttributesText) (λ _. ⊥) result (R.left reader.old) (R.left reader.new) }
+{
+    let attributes: Option<Attributes<'a>> = decode_optional(NoMemory, reader)?;
+    reader.finish()?;
+    Ok(contents_of(attributes))
+}
+
+/// Octets are bytes.
+fn hold_octets(octets: &[u8])
+    ensures { AreBytes octets.now }
+{}
+
+/// Parameters have a text, little longer than the limit.
+fn hold_parameters(parameters: &Option<AnyRef<'_>>)
+    ensures has { HasOptional IsAny (option_map any_of parameters.now) }
+    ensures short { length (written_optional written_any (option_map any_of parameters.now)) ≤ limit + 128 }
+{
+    if let Some(any) = parameters {
+        let _tag = any.tag();
+        hold_octets(any.value());
+    }
+}
+
+/// Reads the version, which is 0.
+fn read_version<'a, M: Memory, R: Reader<&'a [u8]>>(memory: M, reader: &mut R) -> Result<()>
+    ensures { ReadsText (λ _. tt) (λ (_ : Unit {0}). Small 0) (λ _. ⊥) result (R.left reader.old) (R.left reader.new) }
+{
+    if u8::decode(memory, reader)? != 0 {
+        return Err(reader.error(ErrorKind::Value { tag: Tag::INTEGER }));
+    }
+    Ok(())
+}
+
+impl Contents for PrivateKeyInfoRef<'_> {
+    ghost Value = { Info };
+
+    ghost value = { info_of };
+
+    ghost contents = { InfoContents };
+
+    ghost has_contents = { HasInfo };
+
+    ghost written_contents = { written_info };
+
+    ghost means_one = { info_means_one };
+
+    ghost contents_of_bytes = { info_of_bytes };
+}
+
+impl Kinded for PrivateKeyInfoRef<'_> {
+    type Kind = SequenceTag;
+}
+
+impl<'a> Sequence<'a> for PrivateKeyInfoRef<'_> {
+    ghost is_sequence = { refl };
+}
+
+impl<'a, M: Memory> DecodeValue<&'a [u8], M> for PrivateKeyInfoRef<'a> {
+    ghost asks = { λ _. ⊥ };
+
+    fn decode_value<R: Reader<&'a [u8]>>(
+        memory: M,
+        reader: &mut R,
+        _header: Header,
+    ) -> Result<PrivateKeyInfoRef<'a>> {
+        read_version(memory, reader)?;
+        let algorithm = AlgorithmIdentifierRef::decode(memory, reader)?;
+        let private_key = OctetStringRef::decode(memory, reader)?;
+        let attributes = read_attributes(reader)?;
+        Ok(PrivateKeyInfoRef {
+            algorithm,
+            private_key,
+            attributes,
+        })
+    }
+}
+
+/// The version of a container.
+const VERSION: u8 = 0;
+
+impl EncodeValue for PrivateKeyInfoRef<'_> {
+    fn value_len(&self) -> Result<Length> {
+        joined_len(
+            VERSION.encoded_len(),
+            joined_len(
+                self.algorithm.encoded_len(),
+                joined_len(
+                    self.private_key.encoded_len(),
+                    optional_len(&self.attributes_text()),
+                ),
+            ),
+        )
+    }
+
+    fn encode_value<W: Writer>(&self, writer: &mut W) -> Result<()> {
+        self.value_len()?;
+        VERSION.encode(writer)?;
+        self.algorithm.encode(writer)?;
+        self.private_key.encode(writer)?;
+        encode_optional(&self.attributes_text(), writer)
+    }
+
+    fn prepend_value(&self, writer: &mut BackWriter<'_>) {
+        prepend_optional(&self.attributes_text(), writer);
+        self.private_key.prepend(writer);
+        self.algorithm.prepend(writer);
+        VERSION.prepend(writer);
+    }
+
+    ghost contents_relate = { info_relates };
+
+    ghost contents_shortest = { info_shortest };
+}
+
+impl<'a> PrivateKeyInfoRef<'a> {
+    /// The contents of the attributes, if there are any.
+    pub fn attributes(&self) -> Option<&'a [u8]>
+        ensures { option_map slice_now result ≡ (info_of self.now).attributes }
+    {
+        self.attributes
+    }
+
+    /// The attributes, as a text is made of them.
+    fn attributes_text(&self) -> Option<Attributes<'a>>
+        ensures { option_map attributes_of result ≡ (info_of self.now).attributes }
+    {
+        match self.attributes {
+            Some(bytes) => Some(Attributes::new(bytes)),
+            None => None,
+        }
+    }
+
+    /// Every container has a text, within the limit or not: so no call that encodes it answers `Value`.
+    pub fn has_text(&self)
+        ensures { HasText PrivateKeyInfo (info_of self.now) }
+    {
+        let _identifier = self.algorithm.oid.as_bytes();
+        hold_parameters(&self.algorithm.parameters);
+        hold_octets(self.private_key.as_bytes());
+        let _attributes = self.attributes_text();
+    }
+
+    /// Writes the container's one text to the front of a slice, and answers its length: `encode_into`, with all that is
+    /// known of a container's text. `Overflow` where the text passes `Length::MAX`, `NoRoom` where the slice is shorter.
+    pub fn encode_info(&self, out: &mut [u8]) -> Result<usize>
+        ensures text { IfOk result (λ n. Means PrivateKeyInfo (take n out.new) (info_of self.now) × IsAlone PrivateKeyInfo (info_of self.now) (take n out.new)) }
+        ensures rest { IfOk result (λ n. (n ≤ length out.new) × (drop n out.new ≡ drop n out.old)) }
+        ensures unchanged { OnErr result (out.new ≡ out.old) }
+        ensures err { IfErr result (λ e. IsUnwritten (info_of self.now) (length out.old) (fault e.kind)) }
+    {
+        self.has_text();
+        self.encode_into(out)
+    }
+}
+
+impl<'a> TryFrom<&'a [u8]> for PrivateKeyInfoRef<'a> {
+    type Error = Error;
+
+    /// Reads a whole slice, without memory.
+    fn try_from(bytes: &'a [u8]) -> Result<PrivateKeyInfoRef<'a>>
+        ensures ok { IfOk result (λ info. Means PrivateKeyInfo bytes.now (info_of info)) }
+        ensures one { IfOk result (λ info. (other : Info) → Means PrivateKeyInfo bytes.now other → other ≡ info_of info) }
+        ensures err { OnErr result ((info : Info) → Means PrivateKeyInfo bytes.now info → ⊥) }
+        ensures memory { IfErr result (λ e. TellsOfBytes e.kind) }
+    {
+        PrivateKeyInfoRef::from_der(NoMemory, bytes)
+    }
+}
+
+/// A container has at most one text.
+pub fn containers_have_one_text()
+    ensures { (info : Info) → AtMostOne (PrivateKeyInfo info) }
+{}

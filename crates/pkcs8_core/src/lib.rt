@@ -1,0 +1,9 @@
+//! PKCS #8 containers of private keys (RFC 5208) in DER.
+#![tactic(auto)]
+
+mod attributes;
+mod info;
+mod rsa;
+
+pub use info::{PrivateKeyInfoRef, containers_have_one_text};
+pub use pkcs1;

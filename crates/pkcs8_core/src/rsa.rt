@@ -1,0 +1,57 @@
+//! RSA keys in containers.
+ghost use Rattle.std.specs.Prelude.{◌≡◌, ℕ, List, IfOk, IfErr, OnErr};
+ghost use Rattle.der_core.specs.Reading.{Refuses, TellsOfBytes};
+ghost use Rattle.spki_core.specs.AlgorithmRefs.{algorithm_of};
+ghost use Rattle.pkcs1.specs.Asking.{MayAsk};
+ghost use Rattle.pkcs1.specs.Keys.{PrivateKey};
+ghost use Rattle.pkcs1.specs.PrivateKeys.{private_key_of};
+ghost use Rattle.pkcs1.specs.Refusals.{IsAsn1};
+ghost use Rattle.pkcs1.specs.ViewParts.{view_of, viewed_text};
+ghost use Rattle.pkcs8_core.specs.Held.{info_of};
+ghost use Rattle.pkcs8_core.specs.Rsa.{rsa_encryption, HoldsRsa, NotRsa};
+
+use crate::info::PrivateKeyInfoRef;
+use pkcs1::der::{Error, ErrorKind, Result, Tag};
+use pkcs1::spki::AlgorithmIdentifierRef;
+use pkcs1::{RsaPrivateKeyRef, RsaPrivateKeyView, rsa_encryption_oid};
+use std::alloc::Global;
+
+/// Refuses an algorithm that isn't rsaEncryption with NULL.
+fn require_rsa(algorithm: &AlgorithmIdentifierRef<'_>) -> Result<()>
+    ensures ok { IfOk result (λ _. algorithm_of algorithm.now ≡ rsa_encryption) }
+    ensures err { IfErr result (λ e. NotRsa (algorithm_of algorithm.now) e.kind) }
+{
+    algorithm.assert_algorithm_oid(rsa_encryption_oid())?;
+    let parameters = algorithm.parameters_any()?;
+    if parameters.tag() != Tag::NULL || !parameters.value().is_empty() {
+        return Err(Error::new(ErrorKind::Value {
+            tag: parameters.tag(),
+        }));
+    }
+    Ok(())
+}
+
+impl<'a> PrivateKeyInfoRef<'a> {
+    /// The RSA key, without memory. The algorithm must be rsaEncryption (`OidUnknown`) with parameters
+    /// (`ParametersMissing`) that are NULL (`Value` of their tag).
+    pub fn rsa_view(&self) -> pkcs1::Result<RsaPrivateKeyView<'a>>
+        ensures ok { IfOk result (λ view. HoldsRsa (info_of self.now) (view_of view)) }
+        ensures one { IfOk result (λ view. (other : PrivateKey (List ℕ)) → HoldsRsa (info_of self.now) other → other ≡ view_of view) }
+        ensures bytes { IfOk result (λ view. viewed_text view ≡ (info_of self.now).private_key) }
+        ensures err { OnErr result ((key : PrivateKey (List ℕ)) → HoldsRsa (info_of self.now) key → ⊥) }
+        ensures asn1 { IfErr result (IsAsn1 (λ e. TellsOfBytes e.kind)) }
+    {
+        require_rsa(&self.algorithm)?;
+        RsaPrivateKeyView::try_from(self.private_key.as_bytes())
+    }
+
+    /// The RSA key. Refused as `rsa_view`, or by `OutOfMemory` where memory is asked for.
+    pub fn rsa_key(&self, alloc: Global) -> pkcs1::Result<RsaPrivateKeyRef<'a>>
+        ensures ok { IfOk result (λ key. HoldsRsa (info_of self.now) (private_key_of key)) }
+        ensures one { IfOk result (λ key. (other : PrivateKey (List ℕ)) → HoldsRsa (info_of self.now) other → other ≡ private_key_of key) }
+        ensures err { IfErr result (IsAsn1 (λ e. Refuses e.kind (MayAsk (info_of self.now).private_key) ((key : PrivateKey (List ℕ)) → HoldsRsa (info_of self.now) key → ⊥))) }
+    {
+        require_rsa(&self.algorithm)?;
+        RsaPrivateKeyRef::decode_key(alloc, self.private_key.as_bytes())
+    }
+}
