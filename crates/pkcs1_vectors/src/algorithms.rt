@@ -1,11 +1,11 @@
 //! Identifiers, texts of any tag, and algorithms.
-use crate::answer::{Answer, Trouble, agreed, digits, refused};
+use crate::answer::{Answer, Trouble, agreed, refused};
 use crate::arguments::Arguments;
 use crate::marks::{Sha1, Sha256};
-use crate::read::{borrowed, both, owned, read};
+use crate::read::{borrowed, both, owned};
 use crate::shown::Shown;
 use crate::written::written;
-use der_core::{Decode, Encode, NoMemory, OctetStringRef, Result, Tag, UintRef};
+use der_core::{Decode, NoMemory, OctetStringRef, Result, Tag, UintRef};
 use pkcs1::{RsaPublicKeyRef, algorithm_id, rsa_encryption_oid};
 use spki_core::{
     AlgorithmIdentifier, AlgorithmIdentifierRef, Any, AnyParams, AnyRef, AnyValue,

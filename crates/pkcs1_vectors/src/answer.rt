@@ -1,5 +1,5 @@
 //! Answers, and texts that several of them have.
-use std::alloc::{AllocError, Global};
+use std::alloc::{AllocError, AllocFailed, Global};
 use std::fmt::Display;
 use std::num::ParseIntError;
 
@@ -17,6 +17,12 @@ pub type Answer = Result<String, Trouble>;
 
 impl From<AllocError> for Trouble {
     fn from(_: AllocError) -> Trouble {
+        Trouble::Memory
+    }
+}
+
+impl<T: Drop> From<AllocFailed<T>> for Trouble {
+    fn from(_: AllocFailed<T>) -> Trouble {
         Trouble::Memory
     }
 }

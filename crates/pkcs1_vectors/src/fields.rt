@@ -1,14 +1,11 @@
 //! Parts that may be absent, last parts, and explicit fields, of small INTEGERs.
-use crate::answer::{Answer, Trouble, agreed, digits, refused};
+use crate::answer::{Answer, Trouble, agreed, refused};
 use crate::arguments::Arguments;
 use crate::written::written;
 use der_core::{
-    BackWriter, NoMemory, Reader, Result, SliceReader, SliceWriter, TagNumber, decode_last,
-    decode_optional, decode_whole, encode_optional, optional_len, prepend_optional,
+    NoMemory, Reader, Result, SliceReader, TagNumber, decode_last, decode_optional, decode_whole,
 };
-use spki_core::{
-    ContextSpecificRef, encode_field, field_len, prepend_field, read_context_specific, read_field,
-};
+use spki_core::{ContextSpecificRef, read_context_specific, read_field};
 use std::alloc::Global;
 
 // What was read, and how many bytes are left; a refusal, and whether the reader goes on reading behind it.

@@ -1,13 +1,14 @@
 //! Versions, keys and other primes.
-use crate::answer::{Answer, Trouble, agreed, digits, refused, refused_key};
+use crate::answer::{Answer, Trouble, agreed, digits, refused_key};
 use crate::arguments::Arguments;
-use crate::read::{borrowed, both, owned, read, read_key};
+use crate::carried::{private_der, public_der, viewed, with_document};
+use crate::read::{borrowed, both, owned, read_key};
 use crate::shown::Shown;
 use crate::written::{contents, held, in_slice, written};
-use der_core::{Decode, Encode, EncodeValue, OctetStringRef, UintRef};
+use der_core::{Decode, Encode, OctetStringRef, UintRef};
 use pkcs1::{
-    OtherPrimeInfo, OtherPrimeInfos, RsaPrivateKeyOwned, RsaPrivateKeyRef, RsaPublicKey,
-    RsaPublicKeyOwned, RsaPublicKeyRef, Uint, Version,
+    EncodeRsaPrivateKey, OtherPrimeInfo, OtherPrimeInfos, RsaPrivateKeyOwned, RsaPrivateKeyRef,
+    RsaPublicKey, RsaPublicKeyOwned, RsaPublicKeyRef, Uint, Version,
 };
 use std::alloc::Global;
 
@@ -34,18 +35,11 @@ pub fn public_key(alloc: Global, arguments: &mut Arguments<'_>) -> Answer {
     let answer = both::<RsaPublicKeyRef, RsaPublicKeyOwned>(alloc, bytes)?;
     let tried = RsaPublicKeyRef::try_from(bytes);
     let answer = agreed(alloc, answer, "try_from", read_key(alloc, bytes, tried)?)?;
+    let answer = agreed(alloc, answer, "pkcs1_der", public_der(alloc, bytes)?)?;
     match RsaPublicKeyOwned::from_der(alloc, bytes) {
-        Ok(key) => with_documents(alloc, bytes, answer, held(alloc, &key)?),
+        Ok(key) => with_document(alloc, bytes, answer, held(alloc, &key)?),
         Err(_) => Ok(answer),
     }
-}
-
-// The answer, and what documents hold where that is another text.
-fn with_documents(alloc: Global, bytes: &[u8], answer: String, held: String) -> Answer {
-    if held == digits(alloc, bytes)? {
-        return Ok(answer);
-    }
-    Ok(format!(in alloc; "{answer}; document: {held}")?)
 }
 
 /// `pub-into N HEX`: what a slice of so many bytes holds after the key of the text was to be written into it.
@@ -102,21 +96,15 @@ pub fn private_key(alloc: Global, arguments: &mut Arguments<'_>) -> Answer {
     let bytes = arguments.bytes(alloc)?;
     let bytes = bytes.as_slice();
     let answer = owned::<RsaPrivateKeyRef>(alloc, bytes)?;
-    let answer = agreed(
-        alloc,
-        answer,
-        "owned",
-        owned::<RsaPrivateKeyOwned>(alloc, bytes)?,
-    )?;
+    let own = owned::<RsaPrivateKeyOwned>(alloc, bytes)?;
+    let answer = agreed(alloc, answer, "owned", own)?;
     let decoded = RsaPrivateKeyRef::decode_key(alloc, bytes);
-    let answer = agreed(
-        alloc,
-        answer,
-        "decode_key",
-        read_key(alloc, bytes, decoded)?,
-    )?;
+    let decoded = read_key(alloc, bytes, decoded)?;
+    let answer = agreed(alloc, answer, "decode_key", decoded)?;
+    let answer = agreed(alloc, answer, "view", viewed(alloc, bytes)?)?;
+    let answer = agreed(alloc, answer, "pkcs1_der", private_der(alloc, bytes)?)?;
     match RsaPrivateKeyOwned::from_der(alloc, bytes) {
-        Ok(key) => with_documents(alloc, bytes, answer, held(alloc, &key)?),
+        Ok(key) => with_document(alloc, bytes, answer, held(alloc, &key)?),
         Err(_) => Ok(answer),
     }
 }
@@ -196,6 +184,11 @@ pub fn empty_list(alloc: Global, arguments: &mut Arguments<'_>) -> Answer {
         contents(alloc, &key)?,
         held(alloc, &key)?,
     );
+    let der = match key.to_pkcs1_der(alloc) {
+        Ok(document) => digits(alloc, document.as_bytes())?,
+        Err(error) => refused_key(alloc, error)?,
+    };
+    let held = agreed(alloc, held, "to_pkcs1_der", der)?;
     let shown = key.version().shown(alloc)?;
     let Ok(mut key) = RsaPrivateKeyOwned::from_der(alloc, bytes.as_slice()) else {
         return Err(Trouble::Malformed);

@@ -6,6 +6,8 @@
 mod algorithms;
 mod answer;
 mod arguments;
+mod carried;
+mod containers;
 mod fields;
 mod keys;
 mod lengths;

@@ -1,8 +1,8 @@
 //! Parameters of RSASSA-PSS and RSAES-OAEP.
-use crate::answer::{Answer, Trouble, agreed, digits, text, yes_or_no};
+use crate::answer::{Answer, Trouble, agreed, text, yes_or_no};
 use crate::arguments::Arguments;
 use crate::keys::into_each;
-use crate::read::{borrowed, both, read_key, told};
+use crate::read::{borrowed, both, read_key};
 use crate::shown::Shown;
 use crate::written::{held, written};
 use der_core::{Decode, Encode};
@@ -66,6 +66,13 @@ pub fn pss_default(alloc: Global) -> Answer {
     Ok(format!(in alloc; "{answer} {text} {}", RsaPssParamsRef::SALT_LEN_DEFAULT)?)
 }
 
+/// `pss-strict HEX`: PSS parameters, where the text is the shortest of theirs.
+pub fn pss_strict(alloc: Global, arguments: &mut Arguments<'_>) -> Answer {
+    let bytes = arguments.bytes(alloc)?;
+    let bytes = bytes.as_slice();
+    read_key(alloc, bytes, RsaPssParamsRef::from_der_strict(bytes))
+}
+
 /// `pss-same HEX HEX`: whether two texts have equal parameters.
 pub fn pss_same(alloc: Global, arguments: &mut Arguments<'_>) -> Answer {
     let (first, second) = (arguments.bytes(alloc)?, arguments.bytes(alloc)?);
@@ -117,6 +124,13 @@ pub fn oaep_default(alloc: Global) -> Answer {
     let answer = agreed(alloc, answer, "owned", own.shown(alloc)?)?;
     let text = agreed(alloc, text, "owned", written(alloc, &own)?)?;
     Ok(format!(in alloc; "{answer} {text}")?)
+}
+
+/// `oaep-strict HEX`: OAEP parameters, where the text is the shortest of theirs.
+pub fn oaep_strict(alloc: Global, arguments: &mut Arguments<'_>) -> Answer {
+    let bytes = arguments.bytes(alloc)?;
+    let bytes = bytes.as_slice();
+    read_key(alloc, bytes, RsaOaepParamsRef::from_der_strict(bytes))
 }
 
 /// `oaep-same HEX HEX`: whether two texts have equal parameters.

@@ -2,8 +2,10 @@
 use crate::answer::{Answer, digits, text};
 use der_core::{AsUintRef, OctetStringRef, Uint, UintRef};
 use pkcs1::{
-    OtherPrimeInfo, RsaOaepParams, RsaPrivateKey, RsaPssParams, RsaPublicKey, TrailerField, Version,
+    OtherPrimeInfo, RsaOaepParams, RsaPrivateKey, RsaPrivateKeyView, RsaPssParams, RsaPublicKey,
+    TrailerField, Version,
 };
+use pkcs8_core::PrivateKeyInfoRef;
 use spki_core::{AlgorithmIdentifier, Any, AnyRef, AnyValue, ObjectIdentifier};
 use std::alloc::Global;
 
@@ -112,23 +114,82 @@ impl<U: AsUintRef> Shown for OtherPrimeInfo<U> {
     }
 }
 
+// The version, eight numbers in their order, and other primes, as they are shown.
+fn private_shown(
+    alloc: Global,
+    version: Version,
+    numbers: [UintRef<'_>; 8],
+    others: String,
+) -> Answer {
+    let mut all = version.shown(alloc)?;
+    for (name, number) in ["n", "e", "d", "p", "q", "dp", "dq", "qi"]
+        .iter()
+        .zip(&numbers)
+    {
+        let number = number.shown(alloc)?;
+        all.push_str(" ")?;
+        all.push_str(name)?;
+        all.push_str("=")?;
+        all.push_str(number.as_str())?;
+    }
+    Ok(format!(in alloc; "{all} others={others}")?)
+}
+
 impl<U: AsUintRef> Shown for RsaPrivateKey<U> {
     fn shown(&self, alloc: Global) -> Answer {
-        let version = self.version().shown(alloc)?;
-        let public = self.public_key().shown(alloc)?;
-        let exponent = self.private_exponent.as_uint_ref().shown(alloc)?;
-        let prime1 = self.prime1.as_uint_ref().shown(alloc)?;
-        let prime2 = self.prime2.as_uint_ref().shown(alloc)?;
-        let exponent1 = self.exponent1.as_uint_ref().shown(alloc)?;
-        let exponent2 = self.exponent2.as_uint_ref().shown(alloc)?;
-        let coefficient = self.coefficient.as_uint_ref().shown(alloc)?;
+        let public = self.public_key();
+        let numbers = [
+            public.modulus,
+            public.public_exponent,
+            self.private_exponent.as_uint_ref(),
+            self.prime1.as_uint_ref(),
+            self.prime2.as_uint_ref(),
+            self.exponent1.as_uint_ref(),
+            self.exponent2.as_uint_ref(),
+            self.coefficient.as_uint_ref(),
+        ];
         let others = match &self.other_prime_infos {
             Some(others) => others.shown(alloc)?,
             None => text(alloc, "-")?,
         };
-        Ok(format!(in alloc;
-            "{version} {public} d={exponent} p={prime1} q={prime2} dp={exponent1} dq={exponent2} qi={coefficient} others={others}"
-        )?)
+        private_shown(alloc, self.version(), numbers, others)
+    }
+}
+
+impl Shown for RsaPrivateKeyView<'_> {
+    fn shown(&self, alloc: Global) -> Answer {
+        let public = self.public_key();
+        let numbers = [
+            public.modulus,
+            public.public_exponent,
+            self.private_exponent(),
+            self.prime1(),
+            self.prime2(),
+            self.exponent1(),
+            self.exponent2(),
+            self.coefficient(),
+        ];
+        let mut others = Vec::new(alloc);
+        for other in self.other_primes() {
+            others.push(other)?;
+        }
+        let others = if others.is_empty() {
+            text(alloc, "-")?
+        } else {
+            others.shown(alloc)?
+        };
+        private_shown(alloc, self.version(), numbers, others)
+    }
+}
+
+impl Shown for PrivateKeyInfoRef<'_> {
+    fn shown(&self, alloc: Global) -> Answer {
+        let (algorithm, key) = (self.algorithm.shown(alloc)?, self.private_key.shown(alloc)?);
+        let attributes = match self.attributes() {
+            Some(contents) => digits(alloc, contents)?,
+            None => text(alloc, "none")?,
+        };
+        Ok(format!(in alloc; "{algorithm} {key} attributes={attributes}")?)
     }
 }
 

@@ -2,7 +2,7 @@
 use crate::answer::{Answer, Trouble};
 use crate::arguments::Arguments;
 use crate::marks::{Sha1, Sha256};
-use crate::{algorithms, fields, keys, lengths, parameters, refusals, values};
+use crate::{algorithms, containers, fields, keys, lengths, parameters, refusals, values};
 use std::alloc::Global;
 
 /// The answer of a row's word to what stands behind it.
@@ -74,7 +74,7 @@ fn algorithm_word(alloc: Global, word: &str, arguments: &mut Arguments<'_>) -> A
     }
 }
 
-// Keys.
+// Keys, and containers of them.
 fn key_word(alloc: Global, word: &str, arguments: &mut Arguments<'_>) -> Answer {
     match word {
         "version" => keys::version(alloc, arguments),
@@ -90,6 +90,8 @@ fn key_word(alloc: Global, word: &str, arguments: &mut Arguments<'_>) -> Answer 
         "priv-empty-list" => keys::empty_list(alloc, arguments),
         "prime" => keys::other_prime(alloc, arguments),
         "primes" => keys::other_primes(alloc, arguments),
+        "info" => containers::info(alloc, arguments),
+        "info-into" => containers::info_into(alloc, arguments),
         _ => parameter_word(alloc, word, arguments),
     }
 }
@@ -101,10 +103,12 @@ fn parameter_word(alloc: Global, word: &str, arguments: &mut Arguments<'_>) -> A
         "pss" => parameters::pss(alloc, arguments),
         "pss-into" => parameters::pss_into(alloc, arguments),
         "pss-default" => parameters::pss_default(alloc),
+        "pss-strict" => parameters::pss_strict(alloc, arguments),
         "pss-same" => parameters::pss_same(alloc, arguments),
         "oaep" => parameters::oaep(alloc, arguments),
         "oaep-into" => parameters::oaep_into(alloc, arguments),
         "oaep-default" => parameters::oaep_default(alloc),
+        "oaep-strict" => parameters::oaep_strict(alloc, arguments),
         "oaep-same" => parameters::oaep_same(alloc, arguments),
         _ => made_word(alloc, word, arguments),
     }

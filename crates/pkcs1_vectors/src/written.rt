@@ -1,8 +1,6 @@
 //! Ways of writing a value, as hexadecimal digits.
 use crate::answer::{Answer, agreed, digits, refused};
-use der_core::{
-    Document, Encode, EncodeValue, Length, Result, SecretDocument, Sequence, SliceWriter,
-};
+use der_core::{Document, Encode, EncodeValue, SecretDocument, Sequence, SliceWriter};
 use std::alloc::Global;
 
 /// As much room as the longest text of a row needs, and more.
