@@ -64,6 +64,9 @@ small_read n c (l, bytes, e, i) =
 pub small_none : (n : ℕ) (c : List ℕ) (k : ErrorKind) → small_of c ≡ Err k → SmallContents n c → ⊥
 small_none n c k e p = let r : small_of c ≡ Ok n = small_read n c p in let no = sym r ∙ e in cc
 
+pub integer_none : (bytes c : List ℕ) (k : ErrorKind) → integer_of c ≡ Err k → IntegerContents bytes c → ⊥
+integer_none bytes c k e p = let r : integer_of c ≡ Ok bytes = contents_read bytes c p in let no = sym r ∙ e in cc
+
 -- It is refused by what the bytes are.
 as_tells : (k : ErrorKind) (r : Result (List ℕ) ErrorKind) → ((d : ErrorKind) → r ≡ Err d → TellsOfBytes d) → as_small r ≡ Err k → TellsOfBytes k
 as_tells k (Err d) h e = let same : d ≡ k = cc in h k (ap (λ x. Err x) same)
@@ -75,7 +78,7 @@ as_tells k (Ok bytes) h e = elim (chosen (nat_lt (number_from_digits 256 bytes) 
     value_tells : (k : ErrorKind) → ◌≡◌ {A = Result ℕ ErrorKind} (Err (kind.Value integer)) (Err k) → TellsOfBytes k
     value_tells k e = let same : kind.Value integer ≡ k = cc in is_value (sym same)
 
-integer_tells : (c : List ℕ) (k : ErrorKind) → integer_of c ≡ Err k → TellsOfBytes k
+pub integer_tells : (c : List ℕ) (k : ErrorKind) → integer_of c ≡ Err k → TellsOfBytes k
 integer_tells [] k e = let same : kind.Length integer ≡ k = cc in (λ no. cc, λ no. cc, λ no. cc)
 integer_tells (x ∷ []) k e = elim (chosen (nat_lt x 128) _ _ _ e) [
   | inl w ↦ let no = w.1 in cc

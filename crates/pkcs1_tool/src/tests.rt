@@ -5,9 +5,7 @@ use crate::fault::Fault;
 use crate::plan::{Plan, plan_of, status};
 use crate::run::run;
 use der_core::{Error, ErrorKind, FromRead, Result, Sink, Source, ToWrite};
-use std::alloc::Global;
 use std::io::{self, Read, Write};
-use std::process::Abort;
 use std::test::Fail;
 
 const INPUT: &[u8; 45] = b"pub 3006020107020103\n\npub 300602010702010300\n";
@@ -141,219 +139,23 @@ impl Write for Full {
     }
 }
 
-/// Runs on each input, and compares what was written.
-fn check_answers(
-    rt: &impl Abort,
-    alloc: Global,
-    cases: &[(&[u8], &[u8])],
-) -> std::result::Result<(), Fail> {
-    for (input, want) in cases {
-        let mut source = FromRead::new(*input);
-        let mut sink = ToWrite::new(Vec::new(alloc));
-        run(alloc, &mut source, &mut sink)?;
-        assert_eq!(rt; source.faults(), 0);
-        assert_eq!(rt; sink.faults(), 0);
-        assert_eq!(rt; sink.into_inner().as_slice(), *want);
-    }
-    Ok(())
-}
-
 #[test]
 fn answers_lines(rt: HostRuntime) -> std::result::Result<(), Fail> {
-    let cases: [(&[u8], &[u8]); 13] = [
-        (b"", b""),
-        (b"\n", b"bad line\n"),
-        (INPUT, OUTPUT),
-        (&INPUT[..44], OUTPUT),
-        (
-            b"pub 300702020080020103\npub 300702020007020103\n",
-            b"pub n=80 e=03 again=300702020080020103\nrefused\n",
-        ),
-        (
-            b"pub 3006020180020103\npub 30050200020103",
-            b"refused\nrefused\n",
-        ),
-        (
-            b"pub 3006020100020100\npub 300602010702010B",
-            b"pub n=00 e=00 again=3006020100020100\npub n=07 e=0b again=300602010702010b\n",
-        ),
-        (
-            b"pub 308106020107020103\npub 3080020107020103\npub 308410000000\npub 30840fffffff\npub 308501",
-            b"refused\nrefused\nrefused\nrefused\nrefused\n",
-        ),
-        (b"pub \npub", b"refused\nbad line\n"),
-        (
-            b"pub 3006020107\npub 0206020107020103\npub 1f00",
-            b"refused\nrefused\nrefused\n",
-        ),
-        (
-            b"pub 30060201070201030\npub zz\npub 00 00\npub  00\npub 00 \n pub 00",
-            b"bad line\nbad line\nbad line\nbad line\nbad line\nbad line\n",
-        ),
-        (
-            b"\xff\xfe\0\npub 3006020107020103\r\nPUB 3006020107020103",
-            b"bad line\nbad line\nbad line\n",
-        ),
-        (
-            b"other 3006020107020103\n\n\n",
-            b"bad line\nbad line\nbad line\n",
-        ),
-    ];
-    check_answers(&rt, rt.alloc(), &cases)
-}
-
-#[test]
-fn answers_private_keys(rt: HostRuntime) -> std::result::Result<(), Fail> {
-    let cases: [(&[u8], &[u8]); 11] = [
-        (
-            b"priv 301b02010002010702010302010502010b02010d020102020104020106",
-            b"priv version=0 n=07 e=03 d=05 p=0b q=0d dp=02 dq=04 qi=06 again=301b02010002010702010302010502010b02010d020102020104020106\n",
-        ),
-        (
-            b"priv 302802010102010702010302010502010b02010d020102020104020106300b3009020111020102020103",
-            b"priv version=1 n=07 e=03 d=05 p=0b q=0d dp=02 dq=04 qi=06 other=11,02,03 again=302802010102010702010302010502010b02010d020102020104020106300b3009020111020102020103\n",
-        ),
-        (
-            b"priv 303302010102010702010302010502010b02010d020102020104020106301630090201110201020201033009020113020104020105",
-            b"priv version=1 n=07 e=03 d=05 p=0b q=0d dp=02 dq=04 qi=06 other=11,02,03 other=13,04,05 again=303302010102010702010302010502010b02010d020102020104020106301630090201110201020201033009020113020104020105\n",
-        ),
-        (
-            b"priv 302802010002010702010302010502010b02010d020102020104020106300b3009020111020102020103",
-            b"refused\n",
-        ),
-        (
-            b"priv 301b02010102010702010302010502010b02010d020102020104020106",
-            b"refused\n",
-        ),
-        (
-            b"priv 301b02010202010702010302010502010b02010d020102020104020106",
-            b"refused\n",
-        ),
-        (
-            b"priv 301d02010002010702010302010502010b02010d0201020201040201063000",
-            b"refused\n",
-        ),
-        (
-            b"priv 301d02010102010702010302010502010b02010d0201020201040201063000",
-            b"refused\n",
-        ),
-        (b"priv 3006020107020103", b"refused\n"),
-        (
-            b"pub 301b02010002010702010302010502010b02010d020102020104020106",
-            b"refused\n",
-        ),
-        (
-            b"priv\npriv \npriv 300\npriv 30 00\nprivate 3000",
-            b"bad line\nrefused\nbad line\nbad line\nbad line\n",
-        ),
-    ];
-    check_answers(&rt, rt.alloc(), &cases)
-}
-
-#[test]
-fn answers_pss_parameters(rt: HostRuntime) -> std::result::Result<(), Fail> {
-    let cases: [(&[u8], &[u8]); 10] = [
-        (
-            b"pss 3000",
-            b"pss hash=2b0e03021a/05: mask=2a864886f70d010108/[2b0e03021a/05:] salt=20 trailer=1 defaults=4 again=3000\n",
-        ),
-        (
-            b"pss 3005a203020114",
-            b"pss hash=2b0e03021a/05: mask=2a864886f70d010108/[2b0e03021a/05:] salt=20 trailer=1 defaults=4 again=3000\n",
-        ),
-        (
-            b"pss 3005a303020101",
-            b"pss hash=2b0e03021a/05: mask=2a864886f70d010108/[2b0e03021a/05:] salt=20 trailer=1 defaults=4 again=3000\n",
-        ),
-        (
-            b"pss 3031a00b300906052b0e03021a0500a118301606092a864886f70d010108300906052b0e03021a0500a203020114a303020101",
-            b"pss hash=2b0e03021a/05: mask=2a864886f70d010108/[2b0e03021a/05:] salt=20 trailer=1 defaults=4 again=3000\n",
-        ),
-        (
-            b"pss 3034a00f300d06096086480165030402010500a11c301a06092a864886f70d010108300d06096086480165030402010500a203020120",
-            b"pss hash=608648016503040201/05: mask=2a864886f70d010108/[608648016503040201/05:] salt=32 trailer=1 defaults=1 again=3034a00f300d06096086480165030402010500a11c301a06092a864886f70d010108300d06096086480165030402010500a203020120\n",
-        ),
-        (
-            b"pss 300ba009300706052b0e03021a",
-            b"pss hash=2b0e03021a/- mask=2a864886f70d010108/[2b0e03021a/05:] salt=20 trailer=1 defaults=3 again=300ba009300706052b0e03021a\n",
-        ),
-        (
-            b"pss 300ea00c300a06052b0e03021a050100",
-            b"pss hash=2b0e03021a/05:00 mask=2a864886f70d010108/[2b0e03021a/05:] salt=20 trailer=1 defaults=3 again=300ea00c300a06052b0e03021a050100\n",
-        ),
-        (
-            b"pss 300fa10d300b06092a864886f70d010108",
-            b"pss hash=2b0e03021a/05: mask=2a864886f70d010108/- salt=20 trailer=1 defaults=3 again=300fa10d300b06092a864886f70d010108\n",
-        ),
-        (
-            b"pss 3005a203020100",
-            b"pss hash=2b0e03021a/05: mask=2a864886f70d010108/[2b0e03021a/05:] salt=0 trailer=1 defaults=3 again=3005a203020100\n",
-        ),
-        (
-            b"pss 3006a204020200ff",
-            b"pss hash=2b0e03021a/05: mask=2a864886f70d010108/[2b0e03021a/05:] salt=255 trailer=1 defaults=3 again=3006a204020200ff\n",
-        ),
-    ];
-    check_answers(&rt, rt.alloc(), &cases)
-}
-
-#[test]
-fn refuses_pss_parameters(rt: HostRuntime) -> std::result::Result<(), Fail> {
-    let cases: [(&[u8], &[u8]); 11] = [
-        (b"pss 300ca00a300806052b0e03021a0500", b"refused\n"),
-        (b"pss 3011a10f300d06092a864886f70d0101080500", b"refused\n"),
-        (b"pss 3005a303020102", b"refused\n"),
-        (b"pss 3006a20402020100", b"refused\n"),
-        (b"pss 300aa303020101a203020114", b"refused\n"),
-        (b"pss 300aa203020114a203020114", b"refused\n"),
-        (b"pss 3005a403020101", b"refused\n"),
-        (b"pss 30058203020114", b"refused\n"),
-        (b"pss 3008a206020114020114", b"refused\n"),
-        (
-            b"pss 3006020107020103\npub 3000\npriv 3000\npss ",
-            b"refused\nrefused\nrefused\nrefused\n",
-        ),
-        (
-            b"pss\npss 300\npss 30 00\nPSS 3000\npsss 3000",
-            b"bad line\nbad line\nbad line\nbad line\nbad line\n",
-        ),
-    ];
-    check_answers(&rt, rt.alloc(), &cases)
-}
-
-#[test]
-fn answers_oaep_parameters(rt: HostRuntime) -> std::result::Result<(), Fail> {
-    let cases: [(&[u8], &[u8]); 7] = [
-        (
-            b"oaep 3000",
-            b"oaep hash=2b0e03021a/05: mask=2a864886f70d010108/[2b0e03021a/05:] source=2a864886f70d010109/04: defaults=3 again=3000\n",
-        ),
-        (
-            b"oaep 3038a00b300906052b0e03021a0500a118301606092a864886f70d010108300906052b0e03021a0500a20f300d06092a864886f70d0101090400",
-            b"oaep hash=2b0e03021a/05: mask=2a864886f70d010108/[2b0e03021a/05:] source=2a864886f70d010109/04: defaults=3 again=3000\n",
-        ),
-        (
-            b"oaep 300fa20d300b06092a864886f70d010109",
-            b"oaep hash=2b0e03021a/05: mask=2a864886f70d010108/[2b0e03021a/05:] source=2a864886f70d010109/- defaults=2 again=300fa20d300b06092a864886f70d010109\n",
-        ),
-        (
-            b"oaep 3013a211300f06092a864886f70d01010904024869",
-            b"oaep hash=2b0e03021a/05: mask=2a864886f70d010108/[2b0e03021a/05:] source=2a864886f70d010109/04:4869 defaults=2 again=3013a211300f06092a864886f70d01010904024869\n",
-        ),
-        (
-            b"oaep 302fa00f300d06096086480165030402010500a11c301a06092a864886f70d010108300d06096086480165030402010500",
-            b"oaep hash=608648016503040201/05: mask=2a864886f70d010108/[608648016503040201/05:] source=2a864886f70d010109/04: defaults=1 again=302fa00f300d06096086480165030402010500a11c301a06092a864886f70d010108300d06096086480165030402010500\n",
-        ),
-        (
-            b"oaep 3005a303020101\noaep 3005a203020114\noaep 300ca00a300806052b0e03021a0500\noaep ",
-            b"refused\nrefused\nrefused\nrefused\n",
-        ),
-        (
-            b"oaep\noaep 300\noaep 30 00\nOAEP 3000\noae 3000",
-            b"bad line\nbad line\nbad line\nbad line\nbad line\n",
-        ),
-    ];
-    check_answers(&rt, rt.alloc(), &cases)
+    let odd = b"\xff\xfe\0\npub 3006020107020103\r\n";
+    for (input, want) in [
+        (b"".as_slice(), b"".as_slice()),
+        (INPUT.as_slice(), OUTPUT.as_slice()),
+        (&INPUT[..44], OUTPUT.as_slice()),
+        (odd.as_slice(), b"bad line\nbad line\n".as_slice()),
+    ] {
+        let mut source = FromRead::new(input);
+        let mut sink = ToWrite::new(Vec::new(rt.alloc()));
+        run(rt.alloc(), &mut source, &mut sink)?;
+        assert_eq!(rt; source.faults(), 0);
+        assert_eq!(rt; sink.faults(), 0);
+        assert_eq!(rt; sink.into_inner().as_slice(), want);
+    }
+    Ok(())
 }
 
 #[test]

@@ -1,79 +1,47 @@
-//! Containers of private keys.
-use crate::bytes::{bytes_of, printed, three_parts};
-use crate::checks::{equal, equal_at, holds};
-use pkcs1::der::{Encode, Error, ErrorKind};
+//! Containers of private keys (PKCS #8).
+use crate::answer::{Answer, Trouble, agreed, refused_key};
+use crate::arguments::Arguments;
+use crate::keys::into_each;
+use crate::read::{borrowed, read};
+use crate::shown::Shown;
 use pkcs8_core::PrivateKeyInfoRef;
-use std::test::Fail;
+use std::alloc::Global;
 
-/// A text, its attributes or `-`, and what `rsa_view` and `rsa_key` answer: `refused` where the container is.
-const ROWS: &str = "\
-3031020100300d06092a864886f70d0101010500041d301b02010002010702010302010502010b02010d020102020104020106 - accepted
-3033020100300d06092a864886f70d0101010500041d301b02010002010702010302010502010b02010d020102020104020106a000  accepted
-3036020100300d06092a864886f70d0101010500041d301b02010002010702010302010502010b02010d020102020104020106a003020100 020100 accepted
-303e020100300d06092a864886f70d0101010500042a302802010102010702010302010502010b02010d020102020104020106300b3009020111020102020103 - accepted
-302f020100300b06092a864886f70d010101041d301b02010002010702010302010502010b02010d020102020104020106 - PKCS#1 ASN.1 error: the algorithm parameters are missing
-3032020100300e06092a864886f70d010101050100041d301b02010002010702010302010502010b02010d020102020104020106 - PKCS#1 ASN.1 error: the value of tag 0x05 is not allowed
-3031020100300d06092a864886f70d0101080500041d301b02010002010702010302010502010b02010d020102020104020106 - PKCS#1 ASN.1 error: the object identifier is another one
-301c020100300d06092a864886f70d010101050004083006020107020103 - PKCS#1 ASN.1 error: the value of tag 0x02 is not allowed";
+// The key inside the container, by the view and by the key with a list.
+fn key_inside(alloc: Global, info: &PrivateKeyInfoRef<'_>) -> Answer {
+    let view = match info.rsa_view() {
+        Ok(view) => view.shown(alloc)?,
+        Err(error) => refused_key(alloc, error)?,
+    };
+    let key = match info.rsa_key(alloc) {
+        Ok(key) => key.shown(alloc)?,
+        Err(error) => refused_key(alloc, error)?,
+    };
+    agreed(alloc, view, "rsa_key", key)
+}
 
-/// A text that is refused, and how.
-const NO_ROWS: &str = "\
-3031020101300d06092a864886f70d0101010500041d301b02010002010702010302010502010b02010d020102020104020106 - the value of tag 0x02 is not allowed
-3033020100300d06092a864886f70d0101010500041d301b02010002010702010302010502010b02010d020102020104020106a100 - bytes follow the value
-3035020100300d06092a864886f70d0101010500041d301b02010002010702010302010502010b02010d020102020104020106a000a100 - bytes follow the value
-3031020180300d06092a864886f70d0101010500041d301b02010002010702010302010502010b02010d020102020104020106 - the value of tag 0x02 is not allowed";
-
-#[test]
-fn containers_are_read_and_written(rt: HostRuntime) -> Result<(), Fail> {
-    for row in ROWS.lines() {
-        let (text, attributes, view) = three_parts(row)?;
-        let text = bytes_of(rt.alloc(), text)?;
-        let info = PrivateKeyInfoRef::try_from(text.as_slice())?;
-        match info.attributes() {
-            Some(contents) => {
-                let want = bytes_of(rt.alloc(), attributes)?;
-                equal_at(&rt, row, contents, want.as_slice());
-            }
-            None => equal_at(&rt, row, attributes, "-"),
+/// `info HEX`: a container, its algorithm and attributes, and the key in it.
+pub fn info(alloc: Global, arguments: &mut Arguments<'_>) -> Answer {
+    let bytes = arguments.bytes(alloc)?;
+    let bytes = bytes.as_slice();
+    let answer = borrowed::<PrivateKeyInfoRef>(alloc, bytes)?;
+    let tried = PrivateKeyInfoRef::try_from(bytes);
+    let answer = agreed(alloc, answer, "try_from", read(alloc, bytes, tried)?)?;
+    match PrivateKeyInfoRef::try_from(bytes) {
+        Ok(info) => {
+            let key = key_inside(alloc, &info)?;
+            Ok(format!(in alloc; "{answer}; {key}")?)
         }
-        let got = printed(rt.alloc(), info.rsa_view())?;
-        equal_at(&rt, row, got.as_str(), view);
-        let got = printed(rt.alloc(), info.rsa_key(rt.alloc()))?;
-        equal_at(&rt, row, got.as_str(), view);
-        let mut slice = [0xaa; 80];
-        equal_at(&rt, row, info.encode_to_slice(&mut slice)?, text.as_slice());
-        let mut short = [0xaa; 29];
-        equal_at(
-            &rt,
-            row,
-            info.encode_into(&mut short),
-            Err(Error::new(ErrorKind::NoRoom)),
-        );
+        Err(_) => Ok(answer),
     }
-    Ok(())
 }
 
-#[test]
-fn others_are_refused(rt: HostRuntime) -> Result<(), Fail> {
-    for row in NO_ROWS.lines() {
-        let (text, _, want) = three_parts(row)?;
-        let text = bytes_of(rt.alloc(), text)?;
-        let got = printed(rt.alloc(), PrivateKeyInfoRef::try_from(text.as_slice()))?;
-        equal_at(&rt, row, got.as_str(), want);
-    }
-    Ok(())
-}
-
-#[test]
-fn the_key_is_seen(rt: HostRuntime) -> Result<(), Fail> {
-    let (text, _, _) = three_parts(ROWS)?;
-    let text = bytes_of(rt.alloc(), text)?;
-    let info = PrivateKeyInfoRef::try_from(text.as_slice())?;
-    let view = info.rsa_view()?;
-    equal(&rt, view.modulus().as_bytes(), [0x07].as_slice());
-    equal(&rt, view.as_bytes(), info.private_key.as_bytes());
-    let key = info.rsa_key(rt.alloc())?;
-    equal(&rt, key.modulus, view.modulus());
-    holds(&rt, key.other_prime_infos.is_none());
-    Ok(())
+/// `info-into N HEX`: what a slice of so many bytes holds after the container was to be written into it.
+pub fn info_into(alloc: Global, arguments: &mut Arguments<'_>) -> Answer {
+    let room = arguments.number::<usize>()?;
+    let bytes = arguments.bytes(alloc)?;
+    let Ok(info) = PrivateKeyInfoRef::try_from(bytes.as_slice()) else {
+        return Err(Trouble::Malformed);
+    };
+    into_each(alloc, room, &info, |slice| Ok(info.encode_info(slice)?))
 }

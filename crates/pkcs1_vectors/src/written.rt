@@ -1,40 +1,112 @@
-//! Ways of reading, copying and writing, each in one call.
-use der_core::{
-    Decode, Document, Encode, EncodeValue, SecretDocument, Sequence, SliceWriter, TryClone,
-};
+//! Ways of writing a value, as hexadecimal digits.
+use crate::answer::{Answer, agreed, digits, refused};
+use der_core::{Document, Encode, EncodeValue, SecretDocument, Sequence, SliceWriter};
 use std::alloc::Global;
-use std::test::Fail;
 
-/// Whether each way of writing the value gives the text and leaves what is behind it.
-pub fn is_written<T: Encode>(value: &T, text: &[u8]) -> Result<bool, Fail> {
-    let mut slice = [0xaa; 1200];
-    let counted = value.encoded_len()?.to_usize() == text.len();
-    let filled = value.encode_to_slice(&mut slice)? == text;
-    let kept = slice[1199] == 0xaa;
+/// As much room as the longest text of a row needs, and more.
+const ROOM: usize = 1200;
+
+/// What each byte of a slice is before anything is written into it.
+const UNTOUCHED: u8 = 0xaa;
+
+// The text at the front of the slice.
+fn filled<T: Encode>(alloc: Global, value: &T) -> Answer {
+    match value.encode_to_slice(&mut [UNTOUCHED; ROOM]) {
+        Ok(text) => digits(alloc, text),
+        Err(error) => refused(alloc, error),
+    }
+}
+
+// What is appended by a writer.
+fn streamed<T: Encode>(alloc: Global, value: &T) -> Answer {
+    let mut slice = [UNTOUCHED; ROOM];
     let mut writer = SliceWriter::new(&mut slice);
-    value.encode(&mut writer)?;
-    Ok(counted && filled && kept && writer.finish() == text)
+    match value.encode(&mut writer) {
+        Ok(()) => digits(alloc, writer.finish()),
+        Err(error) => refused(alloc, error),
+    }
 }
 
-/// Whether a value is read from the first text, and it and its copy are written as the second.
-pub fn is_carried<'a, T: Decode<&'a [u8], Global> + Encode + TryClone>(
-    alloc: Global,
-    text: &'a [u8],
-    again: &[u8],
-) -> Result<bool, Fail> {
-    let value = T::from_der(alloc, text)?;
-    let copy = value.try_clone(alloc)?;
-    Ok(is_written(&value, again)? && is_written(&copy, again)?)
+// As many digits of the text as are counted.
+fn counted<T: Encode>(alloc: Global, value: &T, text: &str) -> Answer {
+    match value.encoded_len() {
+        Ok(length) if length.to_usize().checked_mul(2) == Some(text.len()) => {
+            Ok(String::from_str(alloc, text)?)
+        }
+        Ok(length) => Ok(format!(in alloc; "{} bytes", length.to_usize())?),
+        Err(error) => refused(alloc, error),
+    }
 }
 
-/// Whether documents of the value hold the text.
-pub fn is_held<'a, T: EncodeValue + Sequence<'a>>(
-    alloc: Global,
-    value: &T,
-    text: &[u8],
-) -> Result<bool, Fail> {
-    let document = Document::encode_msg(alloc, value)?;
-    let secret = SecretDocument::encode_msg(alloc, value)?;
-    let counted = document.len().to_usize() == text.len() && secret.len() == document.len();
-    Ok(counted && document.as_bytes() == text && secret.as_bytes() == text)
+/// The value's text by each call of `Encode`.
+pub fn written<T: Encode>(alloc: Global, value: &T) -> Answer {
+    let text = filled(alloc, value)?;
+    let count = counted(alloc, value, text.as_str())?;
+    let text = agreed(alloc, text, "encoded_len", count)?;
+    agreed(alloc, text, "encode", streamed(alloc, value)?)
+}
+
+// What is appended of the contents.
+fn appended<T: EncodeValue>(alloc: Global, value: &T) -> Answer {
+    let mut slice = [UNTOUCHED; ROOM];
+    let mut writer = SliceWriter::new(&mut slice);
+    match value.encode_value(&mut writer) {
+        Ok(()) => digits(alloc, writer.finish()),
+        Err(error) => refused(alloc, error),
+    }
+}
+
+/// The value's contents, and how many octets they are.
+pub fn contents<T: EncodeValue>(alloc: Global, value: &T) -> Answer {
+    let octets = appended(alloc, value)?;
+    match value.value_len() {
+        Ok(length) => Ok(format!(in alloc; "{} {octets}", length.to_usize())?),
+        Err(error) => agreed(alloc, octets, "value_len", refused(alloc, error)?),
+    }
+}
+
+/// What documents of the value hold.
+pub fn held<'a, T: EncodeValue + Sequence<'a>>(alloc: Global, value: &T) -> Answer {
+    let document = match Document::encode_msg(alloc, value) {
+        Ok(document) => digits(alloc, document.as_bytes())?,
+        Err(error) => refused(alloc, error)?,
+    };
+    let secret = match SecretDocument::encode_msg(alloc, value) {
+        Ok(secret) => digits(alloc, secret.as_bytes())?,
+        Err(error) => refused(alloc, error)?,
+    };
+    agreed(alloc, document, "secret", secret)
+}
+
+// The whole slice, the untouched bytes at its end as their number.
+fn slice_shown(alloc: Global, slice: &[u8]) -> Answer {
+    let untouched = slice
+        .iter()
+        .rev()
+        .take_while(|byte| **byte == UNTOUCHED)
+        .count();
+    let front = &slice[..slice.len() - untouched];
+    if front.is_empty() {
+        return Ok(format!(in alloc; "aa*{untouched}")?);
+    }
+    let front = hex::encode(alloc, front)?;
+    Ok(format!(in alloc; "{front} aa*{untouched}")?)
+}
+
+/// What a slice of so many bytes is after a way of writing into it, and why that was refused.
+pub fn in_slice<F>(alloc: Global, room: usize, write: F) -> Answer
+where
+    F: FnOnce(&mut [u8]) -> pkcs1::Result<usize>,
+    requires { F.IsAlwaysCallable write }
+{
+    let mut slice = vec![in alloc; UNTOUCHED; room]?;
+    let answer = write(slice.as_mut_slice());
+    let shown = slice_shown(alloc, slice.as_slice())?;
+    match answer {
+        Ok(_) => Ok(shown),
+        Err(error) => {
+            let refusal = crate::answer::refused_key(alloc, error)?;
+            Ok(format!(in alloc; "{refusal}, {shown}")?)
+        }
+    }
 }

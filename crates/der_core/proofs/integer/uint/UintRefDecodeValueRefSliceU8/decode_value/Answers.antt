@@ -1,0 +1,11 @@
+use Rattle.std.proofs.Common.{◌≡◌, ℕ, List, ap, sym, ◌∙◌, inr, Err, Some}
+use Rattle.der_core.specs.IntegerReading.{integer_of}
+use Rattle.der_core.proofs.Smalls.{all_read, integer_none, integer_tells}
+use Rattle.der_core.proofs.integer.uint.UintRefDecodeValueRefSliceU8.decode_value.Goals as goal
+
+pub returns-in-Err-clause-reads : goal.returns-in-Err-clause-reads
+returns-in-Err-clause-reads g c =
+    let kind : c.error.result.kind ≡ c.in-Err.e.kind = c.error.ensures.value ∙ c.kind.ensures in
+    let exact : (all : List ℕ) → g.R.BytesLeft.left c.args.reader.now ≡ Some all → integer_of all ≡ Err c.error.result.kind =
+    λ all is. ap integer_of (sym (all_read _ _ _ _ all c.requires c.in_ok-contents.ensures.1 is)) ∙ c.in-Err.ensures ∙ ap (λ k. Err k) (sym kind) in
+    (c.error.ensures.failed, λ all is. inr (integer_tells all _ (exact all is), λ v p. integer_none v all _ (exact all is) p))

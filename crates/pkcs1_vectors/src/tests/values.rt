@@ -1,0 +1,99 @@
+//! Values that are hashed, compared, copied and printed.
+use super::checks::{equal, holds};
+use crate::marks::{Sha1, Sha256};
+use der_core::{AsUintRef, Document, SecretDocument, UintRef};
+use pkcs1::{ALGORITHM_OID, OtherPrimeInfo, RsaOaepParamsRef, RsaPssParamsRef, Version};
+use spki_core::{AnyRef, AssociatedOid, ObjectIdentifier};
+use std::alloc::Global;
+use std::fmt::Debug;
+use std::hash::{DefaultHasher, Hash, Hasher};
+use std::test::Fail;
+
+/// What the identifier is hashed to.
+fn hash_of(oid: ObjectIdentifier) -> u64 {
+    let mut state = DefaultHasher::new();
+    oid.hash(&mut state);
+    state.finish()
+}
+
+#[test]
+fn identifiers_are_hashed_by_their_octets(rt: HostRuntime) -> Result<(), Fail> {
+    let sha1 = ObjectIdentifier::of::<Sha1>();
+    let same = ObjectIdentifier::from_bytes(&[0x2b, 0x0e, 0x03, 0x02, 0x1a])?;
+    let front = ObjectIdentifier::from_bytes(&[0x2b, 0x0e, 0x03, 0x02])?;
+    holds(&rt, sha1 == same && sha1 != front);
+    equal(&rt, hash_of(sha1), hash_of(same));
+    holds(&rt, hash_of(sha1) != hash_of(front));
+    holds(
+        &rt,
+        Sha1::OID == Sha1::octets() && Sha256::OID == Sha256::octets(),
+    );
+    equal(&rt, ALGORITHM_OID, pkcs1::rsa_encryption_oid().as_bytes());
+    Ok(())
+}
+
+#[test]
+fn values_are_compared_by_what_they_mean(rt: HostRuntime) -> Result<(), Fail> {
+    let (number, other) = (UintRef::new(&[0x00, 0x07])?, UintRef::new(&[0x08])?);
+    holds(&rt, number == UintRef::new(&[0x07])? && number != other);
+    equal(&rt, number.as_uint_ref(), number);
+    holds(
+        &rt,
+        AnyRef::null() != AnyRef::new(AnyRef::null().tag(), &[0x00])?,
+    );
+    holds(&rt, Version::TwoPrime < Version::Multi);
+    let pss = RsaPssParamsRef::new::<Sha256>(32);
+    equal(&rt, pss.clone()?, pss);
+    holds(&rt, pss != RsaPssParamsRef::new::<Sha256>(33));
+    holds(&rt, pss != RsaPssParamsRef::new::<Sha1>(32));
+    let oaep = RsaOaepParamsRef::new::<Sha256>();
+    equal(&rt, oaep.clone()?, oaep);
+    holds(&rt, oaep != RsaOaepParamsRef::new::<Sha1>());
+    let prime = OtherPrimeInfo {
+        prime: number,
+        exponent: other,
+        coefficient: number,
+    };
+    let copy = prime.clone()?;
+    holds(
+        &rt,
+        copy.prime == number && copy.exponent == other && copy.coefficient == number,
+    );
+    Ok(())
+}
+
+/// Whether what is printed for the reader of a program begins so.
+fn prints<T: Debug>(alloc: Global, value: &T, front: &str) -> Result<bool, Fail> {
+    Ok(format!(in alloc; "{value:?}")?.as_str().starts_with(front))
+}
+
+#[test]
+fn a_secret_document_shows_no_byte(rt: HostRuntime) -> Result<(), Fail> {
+    let alloc = rt.alloc();
+    let document = Document::from_der(alloc, &[0x30, 0x00])?;
+    holds(&rt, prints(alloc, &document, "Document {")?);
+    let secret = SecretDocument::from_der(alloc, &[0x30, 0x00])?;
+    holds(&rt, prints(alloc, &secret, "SecretDocument { .. }")?);
+    let pss = RsaPssParamsRef::new::<Sha256>(32);
+    holds(
+        &rt,
+        prints(alloc, &pss, "RsaPssParams { hash: AlgorithmIdentifier {")?,
+    );
+    let oaep = RsaOaepParamsRef::new::<Sha256>();
+    holds(
+        &rt,
+        prints(alloc, &oaep, "RsaOaepParams { hash: AlgorithmIdentifier {")?,
+    );
+    Ok(())
+}
+
+#[test]
+fn laws_are_called() {
+    pkcs1::texts_are_delimited();
+    pkcs1::keys_have_one_text();
+    pkcs1::types_exclude_each_other();
+    pkcs1::same_keys_have_the_same_text();
+    pkcs1::pss_spellings();
+    pkcs1::forms_share_the_grammars();
+    pkcs1::oaep_spellings();
+}

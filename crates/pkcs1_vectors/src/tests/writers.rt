@@ -1,0 +1,91 @@
+//! Writers: what they append, prepend, and leave.
+use super::checks::{equal, holds};
+use der_core::{
+    BackWriter, Encode, Error, ErrorKind, Header, Length, SliceWriter, Tag, TagNumber, UintRef,
+    Writer, encode_optional, optional_len, prepend_optional,
+};
+use pkcs1::RsaPublicKey;
+use spki_core::{encode_field, field_len, prepend_field};
+use std::test::Fail;
+
+#[test]
+fn all_is_appended_or_nothing(rt: HostRuntime) -> Result<(), Fail> {
+    let mut slice = [0xaa; 3];
+    let mut writer = SliceWriter::new(&mut slice);
+    equal(&rt, writer.write(&[0x01, 0x02]), Ok(()));
+    let no_room = Err(Error::new(ErrorKind::NoRoom));
+    equal(&rt, writer.write(&[0x03, 0x04]), no_room);
+    equal(&rt, writer.finish(), [0x01, 0x02].as_slice());
+    equal(&rt, slice[2], 0xaa);
+    Ok(())
+}
+
+#[test]
+fn a_writer_without_room_got_a_beginning(rt: HostRuntime) -> Result<(), Fail> {
+    let number = UintRef::new(&[0x07])?;
+    let key = RsaPublicKey {
+        modulus: number,
+        public_exponent: number,
+    };
+    let text = [0x30, 0x06, 0x02, 0x01, 0x07, 0x02, 0x01, 0x07];
+    let mut slice = [0xaa; 7];
+    let mut writer = SliceWriter::new(&mut slice);
+    let no_room = Err(Error::new(ErrorKind::NoRoom));
+    equal(&rt, key.encode(&mut writer), no_room);
+    holds(&rt, text.starts_with(writer.finish()));
+    Ok(())
+}
+
+#[test]
+fn regions_are_filled_from_their_end(rt: HostRuntime) {
+    let mut slice = [0xaa; 8];
+    let mut writer = BackWriter::new(&mut slice);
+    equal(&rt, writer.free(), 8);
+    writer.prepend(&[0x07]);
+    let length = Length::ONE;
+    let header = Header {
+        tag: Tag::INTEGER,
+        length,
+    };
+    writer.prepend_header(header);
+    equal(&rt, writer.filled_len(), 3);
+    equal(&rt, writer.finish(), [0x02, 0x01, 0x07].as_slice());
+    equal(&rt, slice[0], 0xaa);
+}
+
+#[test]
+fn an_optional_part_is_written_where_it_is_there(rt: HostRuntime) -> Result<(), Fail> {
+    let text = [0x02, 0x01, 0x14];
+    equal(&rt, optional_len(&Some(20_u8))?.to_usize(), 3);
+    equal(&rt, optional_len::<u8>(&None)?, Length::ZERO);
+    let mut slice = [0; 8];
+    let mut writer = SliceWriter::new(&mut slice);
+    encode_optional::<u8, _>(&None, &mut writer)?;
+    encode_optional(&Some(20_u8), &mut writer)?;
+    equal(&rt, writer.finish(), text.as_slice());
+    let mut slice = [0; 8];
+    let mut writer = BackWriter::new(&mut slice);
+    prepend_optional::<u8>(&None, &mut writer);
+    prepend_optional(&Some(20_u8), &mut writer);
+    equal(&rt, writer.finish(), text.as_slice());
+    Ok(())
+}
+
+#[test]
+fn a_field_is_written_unless_it_is_left_out(rt: HostRuntime) -> Result<(), Fail> {
+    let number = TagNumber::new(2);
+    let text = [0xa2, 0x03, 0x02, 0x01, 0x14];
+    equal(&rt, field_len(true, number, &20_u8)?, Length::ZERO);
+    equal(&rt, field_len(false, number, &20_u8)?.to_usize(), 5);
+    let mut slice = [0; 8];
+    let mut writer = SliceWriter::new(&mut slice);
+    encode_field(true, number, &20_u8, &mut writer)?;
+    encode_field(false, number, &20_u8, &mut writer)?;
+    equal(&rt, writer.finish(), text.as_slice());
+    let mut slice = [0; 8];
+    let mut writer = BackWriter::new(&mut slice);
+    prepend_field(true, number, &20_u8, &mut writer);
+    prepend_field(false, number, &20_u8, &mut writer);
+    equal(&rt, writer.finish(), text.as_slice());
+    Ok(())
+}
