@@ -51,3 +51,4 @@ pub mod Fronts
 pub mod Whole
 pub mod OptionalReads
 pub mod ShortTexts
+pub mod Expected

@@ -1,7 +1,8 @@
 -- OCTET STRING: each text means one list of octets and is bytes, and each list of octets has one text.
 use Rattle.std.proofs.Common.{ℕ, List, ◌≤◌, length, refl, sym, ap, ◌∙◌, arith}
-use Rattle.der_core.specs.Texts.{AreBytes, MeansOne, IsOfBytes}
-use Rattle.der_core.specs.OctetString.{OctetContents}
+use Rattle.der_core.specs.Texts.{AreBytes, AtMostOne, IsDelimited, MeansOne, IsOfBytes}
+use Rattle.der_core.specs.TextLaws.{tlv_at_most_one, tlv_delimited}
+use Rattle.der_core.specs.OctetString.{OctetContents, OctetString}
 use Rattle.der_core.specs.Writing.{IsLeast}
 
 pub octets_mean_one : MeansOne OctetContents
@@ -15,3 +16,12 @@ octets_relate octets h = (h, refl)
 
 pub octets_shortest : (octets c : List ℕ) → OctetContents octets c → IsLeast (AreBytes octets) octets c
 octets_shortest octets c p = (p.0, omega (arith, ap length p.1), (λ (_ : length c ≤ length octets). p.1))
+
+pub octet_string_delimited : IsDelimited OctetString
+octet_string_delimited = tlv_delimited 4 OctetContents octets_mean_one
+
+pub octets_at_most_one : (octets : List ℕ) → AtMostOne (OctetContents octets)
+octets_at_most_one octets x y p q = p.1 ∙ sym q.1
+
+pub octet_string_at_most_one : (octets : List ℕ) → AtMostOne (OctetString octets)
+octet_string_at_most_one octets = tlv_at_most_one 4 (OctetContents octets) (octets_at_most_one octets)

@@ -1,4 +1,4 @@
--- What the crates below are to offer as laws.
+-- A text is little longer than its contents.
 use Rattle.std.proofs.Common.{ℕ, List, ◌≤◌, ◌<◌, ◌+◌, ◌^◌, length, arith, length-append}
 use Rattle.der_core.specs.Length.{length_octets}
 use Rattle.der_core.specs.LengthLaws.{length_few, length_octets-within}

@@ -2,24 +2,19 @@
 use Rattle.std.proofs.Common.{ℕ, List, [], ◌∷◌, ◌++◌, ◌≤◌, ◌<◌, ◌+◌, ◌^◌, length, arith, length-append, Option, Some, None, Bool, true, false}
 use Rattle.std.specs.Prelude.{nat_lt, if◌then◌else◌}
 use Rattle.std.specs.Option.{option_map}
-use Rattle.der_core.specs.InputLaws.{are_bytes}
 use Rattle.der_core.specs.Integer.{integer_contents}
-use Rattle.der_core.specs.Length.{limit, length_octets}
-use Rattle.der_core.specs.LengthLaws.{length_few, length_octets-within}
+use Rattle.der_core.specs.Length.{limit}
 use Rattle.der_core.specs.Optional.{written_optional}
 use Rattle.der_core.specs.TextLaws.{tlv_made}
 use Rattle.der_core.specs.Tlv.{tlv}
-use Rattle.spki_core.specs.Any.{written_any}
 use Rattle.spki_core.specs.AlgorithmIdentifier.{written_plain, written_mask}
 use Rattle.spki_core.specs.AlgorithmRefs.{algorithm_of, mask_of}
-use Rattle.spki_core.specs.AnyRefs.{any_of}
 use Rattle.spki_core.specs.FieldWriting.{written_field}
-use Rattle.spki_core.specs.IdentifierTest.{is_identifier-sound}
-use Rattle.spki_core.specs.ObjectIdentifier.{IsIdentifier}
+use Rattle.spki_core.specs.Held.{identifier_short, plain_short}
+use Rattle.der_core.specs.ShortTexts.{tlv_short}
 use Rattle.spki_core.specs.ObjectIdentifiers.{octets_of}
 use Rattle.spki_core.specs.declared.algorithm_identifier.AlgorithmIdentifier.{AlgorithmIdentifier}
 use Rattle.spki_core.specs.declared.any.AnyRef.{AnyRef}
-use Rattle.spki_core.specs.declared.object_identifier.ObjectIdentifier.{ObjectIdentifier}
 use Rattle.pkcs1.specs.DigestWriting.{written_digest}
 use Rattle.pkcs1.specs.Parameters.{PssContents, RsaPssParams, OaepContents, RsaOaepParams}
 use Rattle.pkcs1.specs.OaepLaws.{oaep_relates}
@@ -30,31 +25,6 @@ use Rattle.pkcs1.specs.PssLaws.{pss_relates}
 use Rattle.pkcs1.specs.PssParams.{pss_of}
 use Rattle.pkcs1.specs.PssWriting.{pss_defaults, HasPss}
 use Rattle.pkcs1.specs.declared.params.pss.RsaPssParams.{RsaPssParams as PssParams}
-
-pub identifier_held : (oid : ObjectIdentifier) → IsIdentifier (octets_of oid)
-identifier_held oid = is_identifier-sound (octets_of oid) (are_bytes (octets_of oid) oid.bytes) oid.valid
-
-pub tlv_short : (tag m : ℕ) (c : List ℕ) → length c ≤ m → m < 2 ^ 64 → length (tlv tag c) ≤ m + 128
-tlv_short tag m c h small =
-    let few = length_few (length c) (length_octets (length c)) (length_octets-within (length c) (omega (arith, h, small))) in
-    omega (arith, few, h, length-append (length_octets (length c)) c)
-
-any_short : (any : AnyRef) → length (written_any (any_of any)) ≤ limit + 128
-any_short any = tlv_short any.tag.octet limit any.contents.now any.bounded (omega arith)
-
-identifier_short : (oid : ObjectIdentifier) → length (tlv 6 (octets_of oid)) ≤ 167
-identifier_short oid = tlv_short 6 39 (octets_of oid) (let p = identifier_held oid in p.short) (omega arith)
-
-pub plain_short : (a : AlgorithmIdentifier AnyRef) → length (written_plain (algorithm_of a)) ≤ limit + 423
-plain_short a =
-    let oid = tlv 6 (octets_of a.oid) in
-    let parameters = written_optional written_any (option_map any_of a.parameters) in
-    let l = length-append oid parameters in
-    tlv_short 48 (limit + 295) (oid ++ parameters) (omega (arith, l, identifier_short a.oid, go a.parameters)) (omega arith)
-  where
-    go : (p : Option AnyRef) → length (written_optional written_any (option_map any_of p)) ≤ limit + 128
-    go None = omega arith
-    go (Some any) = any_short any
 
 mask_short : (a : AlgorithmIdentifier (AlgorithmIdentifier AnyRef)) → length (written_mask (mask_of a)) ≤ limit + 718
 mask_short a =

@@ -15,11 +15,11 @@ use Rattle.pkcs1.specs.ParameterLaws.{pss_in_order, oaep_in_order}
 use Rattle.pkcs1.specs.PssWriting.{pss_defaults}
 use Rattle.pkcs1.specs.OaepWriting.{oaep_defaults}
 use Rattle.pkcs1.specs.TrailerLaws.{trailer_of_bytes}
-use Rattle.pkcs1.specs.StrictFields.{WalksOver, NamesNumber, NamesDefault, WritesDefault}
+use Rattle.spki_core.specs.StrictFields.{WalksOver, NamesNumber, NamesDefault, WritesDefault}
 use Rattle.pkcs1.specs.Refusals.{IsAsn1}
 use Rattle.pkcs1.specs.declared.error.Error.{Error}
 use Rattle.pkcs1.specs.declared.error.Error.TheVariants as error
-use Rattle.pkcs1.proofs.StrictWalk.{FoundIn, text_finds, none_found, found_longer}
+use Rattle.spki_core.proofs.StrictWalk.{FoundIn, text_finds, none_found, found_longer}
 
 -- The first default that is written, named by the error.
 named : (fields : List Field) (text : List ℕ) (n : ℕ) (e : Error) → IsAsn1 (NamesNumber n) e → WritesDefault fields n text → IsAsn1 (NamesDefault fields text) e

@@ -38,6 +38,10 @@ abbrev pub version_of : {Number : Type 0} → Option (List (OtherPrime Number)) 
 version_of None = 0
 version_of (Some others) = 1
 
+-- The other primes at the end of a private key that has this version.
+abbrev pub OthersOf : {Number : Type 0} → (Number → List ℕ → Type 0) → ℕ → Option (List (OtherPrime Number)) → List ℕ → Type 0
+OthersOf NumberText version others text = (version_of others ≡ version) × OtherPrimeInfos NumberText others text
+
 pub record PrivateKey (Number : Type 0) : Type 0 where
   pub modulus : Number
   pub public_exponent : Number

@@ -11,7 +11,6 @@ pub mod OaepWriting
 pub mod OaepParams
 pub mod OaepLaws
 pub mod Spellings
-pub mod StrictFields
 pub mod Forms
 pub mod ParameterEquality
 pub mod DigestEquality

@@ -22,7 +22,8 @@ pub(crate) fn read_key_numbers<'a, M: Memory, U: Decode<&'a [u8], M>, R: Reader<
     memory: M,
     reader: &mut R,
 ) -> Result<KeyNumbers<U>>
-    ensures { ReadsText (numbers_of U.value) (EightNumbers U.text) (AsksWithin U.Decode.asks) result (R.left reader.old) (R.left reader.new) }
+    ensures { ReadsText (numbers_of U.value) (EightNumbers U.text) (AsksWithin U.Decode.asks)
+        result (R.left reader.old) (R.left reader.new) }
 {
     let modulus = U::decode(memory, reader)?;
     let public_exponent = U::decode(memory, reader)?;

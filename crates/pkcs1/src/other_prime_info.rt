@@ -5,8 +5,7 @@ ghost use Rattle.der_core.specs.Reading.{ReadsContents, AsksWithin};
 ghost use Rattle.der_core.specs.BackWriters.{free_of, Prepends};
 ghost use Rattle.der_core.specs.Writing.{Counts, Stops, fault};
 ghost use Rattle.pkcs1.specs.Asking.{BeginsSequence};
-ghost use Rattle.pkcs1.specs.Keys as grammar;
-ghost use Rattle.pkcs1.specs.Keys.{OtherPrime, OtherPrimeContents, version_of};
+ghost use Rattle.pkcs1.specs.Keys.{OtherPrime, OtherPrimeContents, OthersOf};
 ghost use Rattle.pkcs1.specs.Writing.{HasOther, HasOthers, written_other, written_others};
 ghost use Rattle.pkcs1.specs.PrivateKeyLaws.{other_means_one, other_of_bytes, other_relates, other_shortest};
 ghost use Rattle.pkcs1.specs.PrivateKeys.{others_of, ListsNone};
@@ -124,7 +123,8 @@ pub(crate) fn read_other_primes<'a, U: Decode<&'a [u8], Global>, R: Reader<&'a [
     reader: &mut R,
     version: Version,
 ) -> Result<Option<OtherPrimeInfos<U>>>
-    ensures { ReadsContents (others_of U.value) (λ others c. (version_of others ≡ number_of version) × grammar.OtherPrimeInfos U.text others c) BeginsSequence result (R.left reader.old) (R.left reader.new) }
+    ensures { ReadsContents (others_of U.value) (OthersOf U.text (number_of version)) BeginsSequence
+        result (R.left reader.old) (R.left reader.new) }
 {
     let others: Option<OtherPrimeInfos<U>> = decode_optional(memory, reader)?;
     if version.is_multi() != others.is_some() {

@@ -33,7 +33,8 @@ pub struct OtherPrimes<'a> {
 /// Reads the first of other primes, and answers it with the bytes behind it.
 fn first_other<'a>(bytes: &'a [u8]) -> Result<(OtherPrimeInfo<UintRef<'a>>, &'a [u8])>
     requires { length bytes.now ≤ limit }
-    ensures ok { IfOk result (λ p. (text : List ℕ) × (bytes.now ≡ text ++ p.1.now) × grammar.OtherPrimeInfo Integer (other_of bytes_of p.0) text) }
+    ensures ok { IfOk result (λ p. (text : List ℕ) × (bytes.now ≡ text ++ p.1.now)
+        × grammar.OtherPrimeInfo Integer (other_of bytes_of p.0) text) }
     ensures err { IfErr result (λ e. TellsOfBytes e.kind × NoneIn (grammar.OtherPrimeInfo Integer) bytes.now) }
 {
     let mut reader = SliceReader::new(bytes)?;
@@ -45,8 +46,10 @@ fn first_other<'a>(bytes: &'a [u8]) -> Result<(OtherPrimeInfo<UintRef<'a>>, &'a 
 /// Counts other primes, of which the bytes are the texts, one after another.
 fn count_others(bytes: &[u8]) -> Result<usize>
     requires { length bytes.now ≤ limit }
-    ensures ok { IfOk result (λ count. (others : List (grammar.OtherPrime (List ℕ))) × ItemsContents (grammar.OtherPrimeInfo Integer) others bytes.now × (length others ≡ count)) }
-    ensures err { IfErr result (λ e. TellsOfBytes e.kind × ((others : List (grammar.OtherPrime (List ℕ))) → ItemsContents (grammar.OtherPrimeInfo Integer) others bytes.now → ⊥)) }
+    ensures ok { IfOk result (λ count. (others : List (grammar.OtherPrime (List ℕ)))
+        × ItemsContents (grammar.OtherPrimeInfo Integer) others bytes.now × (length others ≡ count)) }
+    ensures err { IfErr result (λ e. TellsOfBytes e.kind × ((others : List (grammar.OtherPrime (List ℕ)))
+        → ItemsContents (grammar.OtherPrimeInfo Integer) others bytes.now → ⊥)) }
 {
     let mut rest = bytes;
     let mut count = 0;
@@ -92,7 +95,8 @@ impl Contents for OtherPrimes<'_> {
 
     ghost has_contents = { AllHave (HasOther IsCanonical) };
 
-    ghost written_contents = { all_texts (λ other. tlv 48 (written_other (λ number. tlv 2 (integer_contents number)) other)) };
+    ghost written_contents = { all_texts (λ other.
+        tlv 48 (written_other (λ number. tlv 2 (integer_contents number)) other)) };
 
     ghost means_one = { joins_map (grammar.OtherPrimeInfo Integer) (other_delimited integer_delimited) };
 

@@ -7,7 +7,7 @@ ghost use Rattle.der_core.specs.Reading.{ReadsContents, TellsOfBytes};
 ghost use Rattle.der_core.specs.TextLaws.{tlv_of_bytes};
 ghost use Rattle.der_core.specs.Tlv.{tlv};
 ghost use Rattle.pkcs1.specs.Keys as grammar;
-ghost use Rattle.pkcs1.specs.Keys.{PrivateKey, PrivateKeyContents, version_of, public_part};
+ghost use Rattle.pkcs1.specs.Keys.{OthersOf, PrivateKey, PrivateKeyContents, public_part};
 ghost use Rattle.pkcs1.specs.OtherPrimesLeft.{others_left, HoldsNone};
 ghost use Rattle.pkcs1.specs.PrivateKeyLaws.{private_means_one, private_of_bytes};
 ghost use Rattle.pkcs1.specs.Versions.{number_of};
@@ -51,7 +51,8 @@ fn read_listed<'a, R: Reader<&'a [u8]>>(
     reader: &mut R,
     version: Version,
 ) -> Result<Option<OtherPrimes<'a>>>
-    ensures { ReadsContents (option_map others_left) (λ others c. (version_of others ≡ number_of version) × grammar.OtherPrimeInfos Integer others c) (λ _. ⊥) result (R.left reader.old) (R.left reader.new) }
+    ensures { ReadsContents (option_map others_left) (OthersOf Integer (number_of version)) (λ _. ⊥)
+        result (R.left reader.old) (R.left reader.new) }
 {
     let others: Option<OtherPrimes<'a>> = decode_optional(NoMemory, reader)?;
     if version.is_multi() != others.is_some() {
@@ -208,10 +209,11 @@ impl<'a> RsaPrivateKeyView<'a> {
 impl<'a> TryFrom<&'a [u8]> for RsaPrivateKeyView<'a> {
     type Error = Error;
 
-    /// Reads a whole slice, without memory.
+    /// Reads a whole slice, without memory however many primes there are.
     fn try_from(bytes: &'a [u8]) -> crate::Result<RsaPrivateKeyView<'a>>
         ensures ok { IfOk result (λ view. Means grammar.RsaPrivateKey bytes.now (view_of view)) }
-        ensures one { IfOk result (λ view. (other : PrivateKey (List ℕ)) → Means grammar.RsaPrivateKey bytes.now other → other ≡ view_of view) }
+        ensures one { IfOk result (λ view. (other : PrivateKey (List ℕ)) → Means grammar.RsaPrivateKey bytes.now other
+            → other ≡ view_of view) }
         ensures bytes { IfOk result (λ view. viewed_text view ≡ bytes.now) }
         ensures err { OnErr result ((key : PrivateKey (List ℕ)) → Means grammar.RsaPrivateKey bytes.now key → ⊥) }
         ensures asn1 { IfErr result (IsAsn1 (λ e. TellsOfBytes e.kind)) }

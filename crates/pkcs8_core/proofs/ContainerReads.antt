@@ -1,50 +1,32 @@
 -- Reading of containers, part after part.
-use Rattle.std.proofs.Common.{◌≡◌, ◌≢◌, ℕ, List, [], ◌∷◌, ◌++◌, refl, sym, ◌∙◌, inr, ⊎_elim, Some, None}
+use Rattle.std.proofs.Common.{◌≡◌, ℕ, List, [], ◌∷◌, inr, ⊎_elim, Some, None}
 use Rattle.der_core.specs.declared.error.ErrorKind.{ErrorKind}
 use Rattle.der_core.specs.Input.{Input}
 use Rattle.der_core.specs.Integer.{Small}
 use Rattle.der_core.specs.IntegerLaws.{small_delimited}
+use Rattle.der_core.specs.Expected.{Expected, expected_delimited, expected_fails}
 use Rattle.der_core.specs.OctetString.{OctetString}
+use Rattle.der_core.specs.OctetStringLaws.{octet_string_delimited}
 use Rattle.der_core.specs.Optional.{Optional}
-use Rattle.der_core.specs.Reading.{Refuses, TellsOfBytes, AsksWithin}
-use Rattle.der_core.specs.Texts.{IsDelimited, Joins}
+use Rattle.der_core.specs.Reading.{Refuses, AsksWithin}
+use Rattle.der_core.specs.Texts.{Joins}
 use Rattle.der_core.specs.Tlv.{Tlv}
-use Rattle.der_core.specs.Sequences.{TextFails, TextGives, ContentsFail, first_fails, rest_fails, some_same}
+use Rattle.der_core.specs.Sequences.{TextFails, TextGives, ContentsFail, first_fails, rest_fails}
 use Rattle.der_core.specs.LastParts.{as_last, asks_more}
 use Rattle.spki_core.specs.AlgorithmIdentifier.{Algorithm, PlainAlgorithm}
 use Rattle.spki_core.specs.AlgorithmLaws.{plain_delimited}
 use Rattle.spki_core.specs.Any.{TagAndContents}
 use Rattle.std.specs.Prelude.{Option}
 use Rattle.pkcs8_core.specs.Container.{Info, AttributesText, InfoContents}
-use Rattle.pkcs8_core.specs.Laws.{octet_string_delimited}
 
 abbrev pub VersionText : Unit {0} → List ℕ → Type 0
-VersionText v text = Small 0 text
-
-pub version_delimited : IsDelimited VersionText
-version_delimited = record {
-  not_empty = λ v text p. small_delimited.not_empty 0 text p;
-  one = λ v w x y x' y' p q e. ((small_delimited.one 0 0 x y x' y' p q e).0, refl);
-}
+VersionText = Expected Small small_delimited 0
 
 abbrev pub Never : List ℕ → Type 0
 Never b = ⊥
 
 pub version_fails : (before after : Input) (e : ErrorKind) → TextFails Small (Tlv 2 (λ _. ⊥)) e before after → TextFails VersionText Never e before after
-version_fails before after e f = (f.0, f.1, λ i is. ⊎_elim (λ w. absurd w.1.3.holds) (λ w. inr (w.0, λ v b rest at p. w.1 0 b rest at p)) (f.2 i is))
-
--- another version
-pub other_version : (n : ℕ) (before mid after : Input) (e : ErrorKind) → TextGives Small n before mid → n ≢ 0 → TellsOfBytes e → after ≡ None → TextFails VersionText Never e before after
-other_version n before mid after e gives other tells failed = (
-  failed,
-  λ none. let no = sym none ∙ gives.2 in cc,
-  λ i is. inr (
-    tells,
-    λ v b rest at p.
-        let same : i ≡ gives.0 ++ gives.1 = some_same i (gives.0 ++ gives.1) (sym is ∙ gives.2) in
-        other (small_delimited.one n 0 gives.0 gives.1 b rest gives.4 p (sym same ∙ at)).1,
-  ),
-)
+version_fails before after e f = asks_more VersionText (Tlv 2 (λ _. ⊥)) Never (λ b w. w.holds) before after e (expected_fails Small small_delimited 0 (Tlv 2 (λ _. ⊥)) before after e f)
 
 abbrev behind_version : Info → List ℕ → Type 0
 behind_version info c = Joins (PlainAlgorithm info.algorithm ∷ OctetString info.private_key ∷ Optional AttributesText info.attributes ∷ []) c
@@ -67,7 +49,7 @@ at_version before after e f = nothing_asked before after e (first_fails (Unit {0
 
 behind : (before mid after : Input) (e : ErrorKind) → TextGives VersionText tt before mid → ContentsFail behind_version Never e mid after → InfoFails e before after
 behind before mid after e gives f =
-    nothing_asked before after e (rest_fails (Unit {0}) VersionText Info (λ _. tt) behind_version Never version_delimited before mid after e tt gives f)
+    nothing_asked before after e (rest_fails (Unit {0}) VersionText Info (λ _. tt) behind_version Never (expected_delimited Small small_delimited 0) before mid after e tt gives f)
 
 pub at_algorithm : (before mid after : Input) (e : ErrorKind) → TextGives VersionText tt before mid → TextFails PlainAlgorithm (Tlv 48 (AsksWithin (λ _. ⊥))) e mid after → InfoFails e before after
 at_algorithm before mid after e gives f =

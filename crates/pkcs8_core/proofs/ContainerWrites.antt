@@ -1,10 +1,15 @@
 -- Writing of containers: each value has a text, and no more than one.
-use Rattle.std.proofs.Common.{◌≡◌, ℕ, List, [], ◌∷◌, ◌++◌, ◌<◌, ◌≤◌, ◌+◌, ◌^◌, length, length-append, take, sym, ◌∙◌, arith, Option, Some, None}
+use Rattle.std.proofs.Common.{◌≡◌, ℕ, List, [], ◌∷◌, ◌++◌, ◌<◌, ◌≤◌, ◌+◌, ◌^◌, length, length-append, take, arith, Option, Some, None}
 use Rattle.std.specs.Prelude.{Result, Ok, Err, IfOk, IfErr}
 use Rattle.std.specs.Option.{option_map}
 use Rattle.der_core.specs.Document.{Means, HasText, IsAlone, IsShortest, IsRefused, Fault, no_text, too_long, no_room, another}
 use Rattle.der_core.specs.Integer.{Small}
 use Rattle.der_core.specs.OctetString.{OctetContents, OctetString}
+use Rattle.der_core.specs.OctetStringLaws.{octets_at_most_one, octet_string_at_most_one}
+use Rattle.der_core.specs.OctetStringRefs.{octets_of, octets_held}
+use Rattle.spki_core.specs.AlgorithmRefs.{algorithm_of}
+use Rattle.spki_core.specs.Held.{plain_held, plain_short}
+use Rattle.pkcs8_core.specs.declared.info.PrivateKeyInfoRef.{PrivateKeyInfoRef}
 use Rattle.der_core.specs.Optional.{Optional, HasOptional, written_optional}
 use Rattle.der_core.specs.Texts.{AtMostOne, AreBytes}
 use Rattle.der_core.specs.TextLaws.{tlv_at_most_one, tlv_made, joins_at_most_one}
@@ -13,7 +18,7 @@ use Rattle.spki_core.specs.AlgorithmIdentifier.{PlainAlgorithm, written_plain}
 use Rattle.spki_core.specs.AlgorithmTexts.{plain_at_most_one, optional_at_most_one}
 use Rattle.pkcs8_core.specs.Container.{Info, AttributesText, InfoContents, PrivateKeyInfo, HasInfo, written_info, IsUnwritten}
 use Rattle.pkcs8_core.specs.Laws.{info_relates}
-use Rattle.pkcs8_core.specs.Held.{attributes_of}
+use Rattle.pkcs8_core.specs.Held.{attributes_of, info_of}
 use Rattle.pkcs8_core.specs.declared.attributes.Attributes.{Attributes}
 use Rattle.der_core.specs.ShortTexts.{tlv_short}
 use Rattle.der_core.specs.Fronts.{front_is}
@@ -23,13 +28,8 @@ use Rattle.der_core.specs.Writing.{fault}
 use Rattle.der_core.specs.Tlv.{tlv}
 use Rattle.der_core.specs.Integer.{integer_contents}
 use Rattle.der_core.specs.declared.error.Error.{Error}
-use Rattle.spki_core.specs.Any.{IsAny, written_any}
-use Rattle.spki_core.specs.ObjectIdentifier.{IsIdentifier}
 use Rattle.std.proofs.Common.{drop, ◌-◌}
 use Rattle.std.specs.Prelude.{OnOk}
-
-octets_at_most_one : (o : List ℕ) → AtMostOne (OctetContents o)
-octets_at_most_one o x y p q = p.1 ∙ sym q.1
 
 pub info_at_most_one : (info : Info) → AtMostOne (PrivateKeyInfo info)
 info_at_most_one info =
@@ -39,7 +39,7 @@ info_at_most_one info =
       (
         plain_at_most_one info.algorithm,
         (
-          tlv_at_most_one 4 (OctetContents info.private_key) (octets_at_most_one info.private_key),
+          octet_string_at_most_one info.private_key,
           (optional_at_most_one AttributesText (λ o. tlv_at_most_one 160 (OctetContents o) (octets_at_most_one o)) info.attributes, tt),
         ),
       ),
@@ -65,23 +65,18 @@ alone info (Err e) text old new h s = tt
 alone info (Ok n) text old new h s =
     rw (front_is text old new n h.0 h.1) (s.spells, λ other p. info_at_most_one info other text p.1 s.spells.1)
 
--- Of bytes that are far fewer than 2 ^ 128 a container has a text.
-pub text_held : (info : Info) → IsIdentifier info.algorithm.oid → HasOptional IsAny info.algorithm.parameters → AreBytes info.private_key → HasOptional AreBytes info.attributes
-    → length (written_optional written_any info.algorithm.parameters) ≤ limit + 128 → length info.private_key ≤ limit → length (written_optional (λ (o : List ℕ). tlv 160 o) info.attributes) ≤ 2 ^ 64 + 128
-    → HasText PrivateKeyInfo info
-text_held info oid parameters bytes attributes few_parameters few_bytes few_attributes =
-    let o = tlv 6 info.algorithm.oid in
-    let p = written_optional written_any info.algorithm.parameters in
-    let a = written_plain info.algorithm in
-    let k = tlv 4 info.private_key in
-    let t = written_optional (λ x. tlv 160 x) info.attributes in
+-- What a container holds is far shorter than 2 ^ 128 octets, so it has a text.
+pub text_held : (info : PrivateKeyInfoRef) → HasOptional AreBytes (info_of info).attributes → length (written_optional (λ (o : List ℕ). tlv 160 o) (info_of info).attributes) ≤ 2 ^ 64 + 128 → HasText PrivateKeyInfo (info_of info)
+text_held info attributes few_attributes =
+    let a = written_plain (algorithm_of info.algorithm) in
+    let k = tlv 4 (octets_of info.private_key) in
+    let t = written_optional (λ x. tlv 160 x) (info_of info).attributes in
     let v = tlv 2 (integer_contents (0 ∷ [])) in
-    let few_oid : length o ≤ 167 = tlv_short 6 39 info.algorithm.oid oid.short (omega arith) in
-    let few_algorithm : length a ≤ limit + 423 = tlv_short 48 (limit + 295) (o ++ p) (omega (arith, few_oid, few_parameters, length-append o p)) (omega arith) in
-    let few_key : length k ≤ limit + 128 = tlv_short 4 limit info.private_key few_bytes (omega arith) in
+    let key = octets_held info.private_key in
+    let few_key : length k ≤ limit + 128 = tlv_short 4 limit (octets_of info.private_key) key.1 (omega arith) in
     let few_version : length v ≤ 130 = tlv_short 2 2 (integer_contents (0 ∷ [])) (omega arith) (omega arith) in
-    has_text info (omega arith, ((oid, parameters), (bytes, attributes)))
-    (omega (arith, length-append v (a ++ (k ++ t)), length-append a (k ++ t), length-append k t, few_algorithm, few_key, few_version, few_attributes))
+    has_text (info_of info) (omega arith, (plain_held info.algorithm, (key.0, attributes)))
+    (omega (arith, length-append v (a ++ (k ++ t)), length-append a (k ++ t), length-append k t, plain_short info.algorithm, few_key, few_version, few_attributes))
 
 pub attributes_held : (a : Option Attributes) → HasOptional AreBytes (option_map attributes_of a) × (length (written_optional (λ (o : List ℕ). tlv 160 o) (option_map attributes_of a)) ≤ 2 ^ 64 + 128)
 attributes_held None = (tt, omega arith)

@@ -3,8 +3,8 @@ use Rattle.std.proofs.Common.{ℕ, List, [], ◌∷◌, ◌++◌, ◌<◌, ◌^�
 use Rattle.der_core.specs.Integer.{SmallContents, integer_contents}
 use Rattle.der_core.specs.IntegerLaws.{small_delimited, small_of_bytes}
 use Rattle.der_core.specs.SmallLaws.{small_relates, small_shortest}
-use Rattle.der_core.specs.OctetString.{OctetContents, OctetString}
-use Rattle.der_core.specs.OctetStringLaws.{octets_mean_one, octets_of_bytes, octets_relate, octets_shortest}
+use Rattle.der_core.specs.OctetString.{OctetContents}
+use Rattle.der_core.specs.OctetStringLaws.{octet_string_delimited, octets_mean_one, octets_of_bytes, octets_relate, octets_shortest}
 use Rattle.der_core.specs.Optional.{written_optional}
 use Rattle.der_core.specs.OptionalLaws.{optional_last, optional_of_bytes, optional_relates, optional_shortest}
 use Rattle.der_core.specs.Texts.{AreBytes, IsDelimited, IsOfBytes, MeansOne}
@@ -16,9 +16,6 @@ use Rattle.spki_core.specs.AnyLaws.{any_of_bytes, any_relates, any_shortest}
 use Rattle.spki_core.specs.AlgorithmIdentifier.{AlgorithmContents, HasPlain, written_plain, written_algorithm}
 use Rattle.spki_core.specs.AlgorithmLaws.{plain_delimited, algorithm_of_bytes, algorithm_relates, algorithm_shortest}
 use Rattle.pkcs8_core.specs.Container.{Info, AttributesText, InfoContents, PrivateKeyInfo, HasInfo, written_info}
-
-pub octet_string_delimited : IsDelimited OctetString
-octet_string_delimited = tlv_delimited 4 OctetContents octets_mean_one
 
 pub attributes_delimited : IsDelimited AttributesText
 attributes_delimited = tlv_delimited 160 OctetContents octets_mean_one

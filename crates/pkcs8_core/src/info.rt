@@ -3,11 +3,8 @@ ghost use Rattle.std.specs.Prelude.{◌≡◌, ◌≤◌, ◌+◌, ℕ, List, le
 ghost use Rattle.std.specs.Option.{option_map};
 ghost use Rattle.der_core.specs.Document.{Means, IsAlone, HasText};
 ghost use Rattle.der_core.specs.Integer.{Small};
-ghost use Rattle.der_core.specs.Length.{limit};
-ghost use Rattle.der_core.specs.Optional.{Optional, HasOptional, written_optional};
-ghost use Rattle.spki_core.specs.Any.{IsAny, written_any};
-ghost use Rattle.spki_core.specs.AnyRefs.{any_of};
-ghost use Rattle.der_core.specs.Texts.{AtMostOne, AreBytes};
+ghost use Rattle.der_core.specs.Optional.{Optional};
+ghost use Rattle.der_core.specs.Texts.{AtMostOne};
 ghost use Rattle.der_core.specs.Reading.{ReadsContents, ReadsText, TellsOfBytes};
 ghost use Rattle.der_core.specs.Writing.{fault};
 ghost use Rattle.pkcs8_core.specs.Container.{Info, AttributesText, InfoContents, PrivateKeyInfo, HasInfo, written_info, IsUnwritten};
@@ -20,7 +17,7 @@ use pkcs1::der::{
     Kinded, Length, Memory, NoMemory, OctetStringRef, Reader, Result, Sequence, SequenceTag, Tag,
     Writer, decode_optional, encode_optional, joined_len, optional_len, prepend_optional,
 };
-use pkcs1::spki::{AlgorithmIdentifierRef, AnyRef};
+use pkcs1::spki::AlgorithmIdentifierRef;
 
 /// A private key, the algorithm that it is for, and attributes.
 #[derive(Clone, Copy, Drop)]
@@ -45,32 +42,18 @@ fn contents_of<'a>(attributes: Option<Attributes<'a>>) -> Option<&'a [u8]>
 
 /// Reads the attributes, which are all that is left, or that there are none.
 fn read_attributes<'a, R: Reader<&'a [u8]>>(reader: &mut R) -> Result<Option<&'a [u8]>>
-    ensures { ReadsContents (option_map slice_now) (Optional AttributesText) (λ _. ⊥) result (R.left reader.old) (R.left reader.new) }
+    ensures { ReadsContents (option_map slice_now) (Optional AttributesText) (λ _. ⊥)
+        result (R.left reader.old) (R.left reader.new) }
 {
     let attributes: Option<Attributes<'a>> = decode_optional(NoMemory, reader)?;
     reader.finish()?;
     Ok(contents_of(attributes))
 }
 
-/// Octets are bytes.
-fn hold_octets(octets: &[u8])
-    ensures { AreBytes octets.now }
-{}
-
-/// Parameters have a text, little longer than the limit.
-fn hold_parameters(parameters: &Option<AnyRef<'_>>)
-    ensures has { HasOptional IsAny (option_map any_of parameters.now) }
-    ensures short { length (written_optional written_any (option_map any_of parameters.now)) ≤ limit + 128 }
-{
-    if let Some(any) = parameters {
-        let _tag = any.tag();
-        hold_octets(any.value());
-    }
-}
-
 /// Reads the version, which is 0.
 fn read_version<'a, M: Memory, R: Reader<&'a [u8]>>(memory: M, reader: &mut R) -> Result<()>
-    ensures { ReadsText (λ _. tt) (λ (_ : Unit {0}). Small 0) (λ _. ⊥) result (R.left reader.old) (R.left reader.new) }
+    ensures { ReadsText (λ _. tt) (λ (_ : Unit {0}). Small 0) (λ _. ⊥)
+        result (R.left reader.old) (R.left reader.new) }
 {
     if u8::decode(memory, reader)? != 0 {
         return Err(reader.error(ErrorKind::Value { tag: Tag::INTEGER }));
@@ -181,16 +164,14 @@ impl<'a> PrivateKeyInfoRef<'a> {
     pub fn has_text(&self)
         ensures { HasText PrivateKeyInfo (info_of self.now) }
     {
-        let _identifier = self.algorithm.oid.as_bytes();
-        hold_parameters(&self.algorithm.parameters);
-        hold_octets(self.private_key.as_bytes());
         let _attributes = self.attributes_text();
     }
 
     /// Writes the container's one text to the front of a slice, and answers its length: `encode_into`, with all that is
     /// known of a container's text. `Overflow` where the text passes `Length::MAX`, `NoRoom` where the slice is shorter.
     pub fn encode_info(&self, out: &mut [u8]) -> Result<usize>
-        ensures text { IfOk result (λ n. Means PrivateKeyInfo (take n out.new) (info_of self.now) × IsAlone PrivateKeyInfo (info_of self.now) (take n out.new)) }
+        ensures text { IfOk result (λ n. Means PrivateKeyInfo (take n out.new) (info_of self.now)
+            × IsAlone PrivateKeyInfo (info_of self.now) (take n out.new)) }
         ensures rest { IfOk result (λ n. (n ≤ length out.new) × (drop n out.new ≡ drop n out.old)) }
         ensures unchanged { OnErr result (out.new ≡ out.old) }
         ensures err { IfErr result (λ e. IsUnwritten (info_of self.now) (length out.old) (fault e.kind)) }
@@ -206,7 +187,8 @@ impl<'a> TryFrom<&'a [u8]> for PrivateKeyInfoRef<'a> {
     /// Reads a whole slice, without memory.
     fn try_from(bytes: &'a [u8]) -> Result<PrivateKeyInfoRef<'a>>
         ensures ok { IfOk result (λ info. Means PrivateKeyInfo bytes.now (info_of info)) }
-        ensures one { IfOk result (λ info. (other : Info) → Means PrivateKeyInfo bytes.now other → other ≡ info_of info) }
+        ensures one { IfOk result (λ info. (other : Info) → Means PrivateKeyInfo bytes.now other
+            → other ≡ info_of info) }
         ensures err { OnErr result ((info : Info) → Means PrivateKeyInfo bytes.now info → ⊥) }
         ensures memory { IfErr result (λ e. TellsOfBytes e.kind) }
     {

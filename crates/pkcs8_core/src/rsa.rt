@@ -36,7 +36,8 @@ impl<'a> PrivateKeyInfoRef<'a> {
     /// (`ParametersMissing`) that are NULL (`Value` of their tag).
     pub fn rsa_view(&self) -> pkcs1::Result<RsaPrivateKeyView<'a>>
         ensures ok { IfOk result (λ view. HoldsRsa (info_of self.now) (view_of view)) }
-        ensures one { IfOk result (λ view. (other : PrivateKey (List ℕ)) → HoldsRsa (info_of self.now) other → other ≡ view_of view) }
+        ensures one { IfOk result (λ view. (other : PrivateKey (List ℕ)) → HoldsRsa (info_of self.now) other
+            → other ≡ view_of view) }
         ensures bytes { IfOk result (λ view. viewed_text view ≡ (info_of self.now).private_key) }
         ensures err { OnErr result ((key : PrivateKey (List ℕ)) → HoldsRsa (info_of self.now) key → ⊥) }
         ensures asn1 { IfErr result (IsAsn1 (λ e. TellsOfBytes e.kind)) }
@@ -48,8 +49,10 @@ impl<'a> PrivateKeyInfoRef<'a> {
     /// The RSA key. Refused as `rsa_view`, or by `OutOfMemory` where memory is asked for.
     pub fn rsa_key(&self, alloc: Global) -> pkcs1::Result<RsaPrivateKeyRef<'a>>
         ensures ok { IfOk result (λ key. HoldsRsa (info_of self.now) (private_key_of key)) }
-        ensures one { IfOk result (λ key. (other : PrivateKey (List ℕ)) → HoldsRsa (info_of self.now) other → other ≡ private_key_of key) }
-        ensures err { IfErr result (IsAsn1 (λ e. Refuses e.kind (MayAsk (info_of self.now).private_key) ((key : PrivateKey (List ℕ)) → HoldsRsa (info_of self.now) key → ⊥))) }
+        ensures one { IfOk result (λ key. (other : PrivateKey (List ℕ)) → HoldsRsa (info_of self.now) other
+            → other ≡ private_key_of key) }
+        ensures err { IfErr result (IsAsn1 (λ e. Refuses e.kind (MayAsk (info_of self.now).private_key)
+            ((key : PrivateKey (List ℕ)) → HoldsRsa (info_of self.now) key → ⊥))) }
     {
         require_rsa(&self.algorithm)?;
         RsaPrivateKeyRef::decode_key(alloc, self.private_key.as_bytes())

@@ -9,3 +9,4 @@ pub mod FieldRows
 pub mod Fields
 pub mod Spellings
 pub mod Copies
+pub mod StrictWalk

@@ -7,6 +7,7 @@ mod context_specific;
 mod field;
 mod object_identifier;
 mod owned_any;
+mod strict;
 
 pub use algorithm_identifier::{
     AlgorithmIdentifier, AlgorithmIdentifierRef, AsAlgorithmIdentifierRef,
@@ -16,3 +17,4 @@ pub use context_specific::{ContextSpecificRef, read_context_specific};
 pub use field::{encode_field, field_len, prepend_field, read_field};
 pub use object_identifier::{AssociatedOid, ObjectIdentifier, ObjectIdentifierTag};
 pub use owned_any::Any;
+pub use strict::written_default;

@@ -19,7 +19,7 @@ use crate::params::digest::{
     Digest, Sha1, is_default_hash, is_default_mask_gen, mask_gen_ref, mgf1_with, read_mask_gen,
     read_plain, with_null,
 };
-use crate::params::strict::{is_written, written_default};
+use crate::params::strict::is_written;
 use der_core::{
     BackWriter, Contents, Decode, DecodeValue, Encode, EncodeValue, EqualByValue, Header, Kinded,
     Length, Memory, NoMemory, Reader, Sequence, SequenceTag, Tag, TagNumber, TryClone, Writer,
@@ -28,7 +28,7 @@ use der_core::{
 use spki_core::{
     AlgorithmIdentifier, AlgorithmIdentifierRef, Any, AnyParams, AnyRef, AnyValue,
     AsAlgorithmIdentifierRef, AssociatedOid, ObjectIdentifier, encode_field, field_len,
-    prepend_field,
+    prepend_field, written_default,
 };
 use std::alloc::Global;
 
@@ -401,7 +401,7 @@ impl<'a> RsaOaepParams<AnyRef<'a>> {
     ghost use Rattle.pkcs1.specs.Parameters as grammar;
     ghost use Rattle.pkcs1.specs.OaepParams.{oaep_of};
     ghost use Rattle.pkcs1.specs.Refusals.{IsAsn1};
-    ghost use Rattle.pkcs1.specs.StrictFields.{NamesDefault};
+    ghost use Rattle.spki_core.specs.StrictFields.{NamesDefault};
 
     /// Reads a whole slice as `try_from`, and refuses a text in which a default is written by `Noncanonical` of the tag
     /// of the first such field: what is read is the shortest text of its value.

@@ -15,7 +15,7 @@ use crate::params::digest::{
     Digest, Sha1, is_default_hash, is_default_mask_gen, mask_gen_ref, mgf1_with, read_mask_gen,
     read_plain, with_null,
 };
-use crate::params::strict::{is_written, written_default};
+use crate::params::strict::is_written;
 use crate::params::trailer_field::TrailerField;
 use der_core::{
     BackWriter, Contents, Decode, DecodeValue, Encode, EncodeValue, EqualByValue, Header, Kinded,
@@ -24,7 +24,7 @@ use der_core::{
 };
 use spki_core::{
     AlgorithmIdentifier, Any, AnyParams, AnyRef, AnyValue, AsAlgorithmIdentifierRef, AssociatedOid,
-    encode_field, field_len, prepend_field, read_field,
+    encode_field, field_len, prepend_field, read_field, written_default,
 };
 use std::alloc::Global;
 
@@ -290,7 +290,7 @@ impl<'a> RsaPssParams<AnyRef<'a>> {
     ghost use Rattle.pkcs1.specs.Parameters as grammar;
     ghost use Rattle.pkcs1.specs.PssParams.{pss_of};
     ghost use Rattle.pkcs1.specs.Refusals.{IsAsn1};
-    ghost use Rattle.pkcs1.specs.StrictFields.{NamesDefault};
+    ghost use Rattle.spki_core.specs.StrictFields.{NamesDefault};
 
     /// Reads a whole slice as `try_from`, and refuses a text in which a default is written by `Noncanonical` of the tag
     /// of the first such field: what is read is the shortest text of its value.

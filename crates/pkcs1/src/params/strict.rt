@@ -1,64 +1,9 @@
-//! Strict reading: fields that equal their defaults aren't written (X.690 11.5).
-ghost use Rattle.std.specs.Prelude.{◌≡◌, ◌≤◌, ◌+◌, ◌++◌, List, ℕ, length, IfOk, OnErr};
-ghost use Rattle.std.specs.Option.{option_map};
-ghost use Rattle.der_core.specs.Length.{limit};
-ghost use Rattle.der_core.specs.Reading.{NoneIn};
-ghost use Rattle.spki_core.specs.Any.{Any};
-ghost use Rattle.spki_core.specs.AnyRefs.{any_of};
-ghost use Rattle.pkcs1.specs.StrictFields.{Walked, WalksOver, NamesNumber, number_in};
+//! The refusal of strict reading.
+ghost use Rattle.spki_core.specs.StrictFields.{NamesNumber, number_in};
 ghost use Rattle.pkcs1.specs.Refusals.{IsAsn1};
 
 use crate::error::Error;
-use der_core::{Decode, ErrorKind, NoMemory, Reader, Result, SliceReader, Tag, TagNumber};
-use spki_core::AnyRef;
-
-/// The first text, of whatever tag, and the bytes behind it.
-fn first_any<'a>(bytes: &'a [u8]) -> Result<(AnyRef<'a>, &'a [u8])>
-    requires { length bytes.now ≤ limit }
-    ensures ok { IfOk result (λ p. (x : List ℕ) × (bytes.now ≡ x ++ p.1.now) × Any (any_of p.0) x) }
-    ensures err { OnErr result (NoneIn Any bytes.now) }
-{
-    let mut reader = SliceReader::new(bytes)?;
-    let any = AnyRef::decode(NoMemory, &mut reader)?;
-    let rest = reader.read_slice(reader.remaining_len())?;
-    Ok((any, rest))
-}
-
-/// The first field from `[number]` on that is written and equals its default, where `defaults` says of each field
-/// whether it does.
-pub(crate) fn first_written(contents: &[u8], number: u8, defaults: &[bool]) -> Option<TagNumber>
-    requires fits { length contents.now ≤ limit }
-    requires few { number + length defaults.now ≤ 31 }
-    ensures { Walked number defaults.now contents.now (option_map number_in result) }
-{
-    match defaults {
-        [] => None,
-        [default, later @ ..] => {
-            if !*default {
-                return match first_any(contents) {
-                    Ok((_any, rest)) => first_written(rest, number + 1, later),
-                    Err(_) => None,
-                };
-            }
-            let field = TagNumber::new(number);
-            if contents.first().copied() == Some(0xa0 + number) {
-                return Some(field);
-            }
-            first_written(contents, number + 1, later)
-        }
-    }
-}
-
-/// The first field of a text that is written and equals its default, where `defaults` says of each field whether it does.
-pub(crate) fn written_default(bytes: &[u8], defaults: &[bool]) -> Option<TagNumber>
-    requires { length defaults.now ≤ 31 }
-    ensures { WalksOver defaults.now bytes.now (option_map number_in result) }
-{
-    match AnyRef::from_der(NoMemory, bytes) {
-        Ok(any) => first_written(any.value(), 0, defaults),
-        Err(_) => None,
-    }
-}
+use der_core::{ErrorKind, Tag, TagNumber};
 
 /// The refusal of a field that is written and equals its default.
 pub(crate) fn is_written(number: TagNumber) -> Error

@@ -1,6 +1,9 @@
 use Rattle.std.proofs.lemmas.Result.{err_from_is_err_and}
 use Rattle.der_core.specs.Tells.{is_value}
-use Rattle.pkcs8_core.proofs.ContainerReads.{version_fails, other_version}
+use Rattle.der_core.specs.Expected.{other_fails}
+use Rattle.der_core.specs.Integer.{Small}
+use Rattle.der_core.specs.IntegerLaws.{small_delimited}
+use Rattle.pkcs8_core.proofs.ContainerReads.{Never, version_fails}
 use Rattle.pkcs8_core.proofs.info.read_version.Goals as goal
 
 pub returns-in_err-decode : goal.returns-in_err-decode
@@ -10,4 +13,4 @@ returns-in_err-decode g c =
 
 pub returns-then-branch-ne0 : goal.returns-then-branch-ne0
 returns-then-branch-ne0 g c =
-    other_version _ _ _ _ _ c.in_ok-decode.ensures c.if-branch-ne0.true (is_value c.error.ensures.value) c.error.ensures.failed
+    other_fails Small small_delimited 0 Never _ _ _ _ _ c.in_ok-decode.ensures c.if-branch-ne0.true (is_value c.error.ensures.value) c.error.ensures.failed

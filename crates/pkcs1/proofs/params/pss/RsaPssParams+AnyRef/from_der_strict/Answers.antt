@@ -4,7 +4,7 @@ use Rattle.pkcs1.specs.Defaults as count
 use Rattle.pkcs1.specs.Parameters.{pss_fields}
 use Rattle.pkcs1.specs.ParameterLaws.{pss_in_order}
 use Rattle.pkcs1.specs.PssParams.{pss_of}
-use Rattle.pkcs1.specs.StrictFields.{number_in}
+use Rattle.spki_core.specs.StrictFields.{number_in}
 use Rattle.pkcs1.proofs.StrictParameters.{strict_names, strict_longer, strict_shortest, pss_found}
 use Rattle.pkcs1.proofs.params.pss.RsaPssParams+AnyRef.from_der_strict.Goals as goal
 

@@ -13,7 +13,7 @@ use Rattle.spki_core.specs.Explicit.{Field, Explicit, Defaultable, FieldSequence
 use Rattle.spki_core.specs.FieldLaws.{AreOfBytes, explicit_starts, not_later, fields_of_bytes}
 use Rattle.spki_core.proofs.Fields.{AreInOrder, joins_masked, mask_same}
 use Rattle.spki_core.proofs.Spellings.{zero_shortest, shortest_zero}
-use Rattle.pkcs1.specs.StrictFields.{Short, FirstWritten, WritesDefault, Walked, WalksOver}
+use Rattle.spki_core.specs.StrictFields.{Short, FirstWritten, WritesDefault, Walked, WalksOver}
 
 -- A step of the walk over a field that doesn't equal its default.
 pub walked_skip : (n : ℕ) (ds : List Bool) (c x rest : List ℕ) (v : TagAndContents) (found : Option ℕ) → 1 ≤ length ds → get_or ds 0 false ≡ false

@@ -3,7 +3,7 @@ use Rattle.der_core.specs.ShortestLaws.{means_one}
 use Rattle.spki_core.specs.Any.{TagAndContents}
 use Rattle.spki_core.specs.AnyLaws.{any_delimited}
 use Rattle.spki_core.specs.AnyRefs.{any_of}
-use Rattle.pkcs1.proofs.params.strict.written_default.Goals as goal
+use Rattle.spki_core.proofs.strict.written_default.Goals as goal
 
 pub returns-in-Ok : goal.returns-in-Ok
 returns-in-Ok c = λ contents means.

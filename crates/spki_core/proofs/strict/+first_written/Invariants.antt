@@ -1,5 +1,5 @@
 use Rattle.std.proofs.Common.{length}
-use Rattle.pkcs1.proofs.params.strict.+first_written.Given as goal
+use Rattle.spki_core.proofs.strict.+first_written.Given as goal
 
 abbrev pub decreases-first_written : goal.decreases-first_written
 decreases-first_written l = length l.defaults.now

@@ -1,0 +1,60 @@
+//! Fields that are written and equal their defaults, which none does in a strict text (X.690 11.5).
+ghost use Rattle.std.specs.Prelude.{◌≡◌, ◌≤◌, ◌+◌, ◌++◌, List, ℕ, length, IfOk, OnErr};
+ghost use Rattle.std.specs.Option.{option_map};
+ghost use Rattle.der_core.specs.Length.{limit};
+ghost use Rattle.der_core.specs.Reading.{NoneIn};
+ghost use Rattle.spki_core.specs.Any.{Any};
+ghost use Rattle.spki_core.specs.AnyRefs.{any_of};
+ghost use Rattle.spki_core.specs.StrictFields.{Walked, WalksOver, number_in};
+
+use crate::any::AnyRef;
+use der_core::{Decode, NoMemory, Reader, Result, SliceReader, TagNumber};
+
+/// The first text, of whatever tag, and the bytes behind it.
+fn first_any<'a>(bytes: &'a [u8]) -> Result<(AnyRef<'a>, &'a [u8])>
+    requires { length bytes.now ≤ limit }
+    ensures ok { IfOk result (λ p. (x : List ℕ) × (bytes.now ≡ x ++ p.1.now) × Any (any_of p.0) x) }
+    ensures err { OnErr result (NoneIn Any bytes.now) }
+{
+    let mut reader = SliceReader::new(bytes)?;
+    let any = AnyRef::decode(NoMemory, &mut reader)?;
+    let rest = reader.read_slice(reader.remaining_len())?;
+    Ok((any, rest))
+}
+
+/// The first field from `[number]` on that is written and equals its default, where `defaults` says of each field
+/// whether it does.
+fn first_written(contents: &[u8], number: u8, defaults: &[bool]) -> Option<TagNumber>
+    requires fits { length contents.now ≤ limit }
+    requires few { number + length defaults.now ≤ 31 }
+    ensures { Walked number defaults.now contents.now (option_map number_in result) }
+{
+    match defaults {
+        [] => None,
+        [default, later @ ..] => {
+            if !*default {
+                return match first_any(contents) {
+                    Ok((_any, rest)) => first_written(rest, number + 1, later),
+                    Err(_) => None,
+                };
+            }
+            let field = TagNumber::new(number);
+            if contents.first().copied() == Some(0xa0 + number) {
+                return Some(field);
+            }
+            first_written(contents, number + 1, later)
+        }
+    }
+}
+
+/// The first field of a text that is written and equals its default, where `defaults` says of each field, numbered from
+/// 0 on, whether it does. What is answered is of use where the text is known to be one of a sequence of such fields.
+pub fn written_default(bytes: &[u8], defaults: &[bool]) -> Option<TagNumber>
+    requires { length defaults.now ≤ 31 }
+    ensures { WalksOver defaults.now bytes.now (option_map number_in result) }
+{
+    match AnyRef::from_der(NoMemory, bytes) {
+        Ok(any) => first_written(any.value(), 0, defaults),
+        Err(_) => None,
+    }
+}
