@@ -10,8 +10,10 @@ use Rattle.pkcs1.specs.Parameters.{RsaPssParams, pss_fields, RsaOaepParams, oaep
 use Rattle.pkcs1.proofs.PublicKeys.{public_delimited}
 use Rattle.pkcs1.proofs.PrivateKeys.{private_delimited}
 use Rattle.pkcs1.specs.ParameterLaws.{pss_delimited, oaep_delimited}
-use Rattle.pkcs1_tool.specs.Request.{Asked, bad_line, asks_pub, asks_priv, asks_pss, asks_oaep, asked_by}
-use Rattle.pkcs1_tool.specs.Answer.{Tells, TellsParameters, AnswerTo, Answer, Answers, pub_answer, priv_answer, pss_answer, oaep_answer}
+use Rattle.pkcs1_tool.specs.declared.request.Word.{Word}
+use Rattle.pkcs1_tool.specs.declared.request.Word.TheVariants as word
+use Rattle.pkcs1_tool.specs.Request.{Asked, bad_line, asks, asked_by}
+use Rattle.pkcs1_tool.specs.Answer.{Tells, TellsParameters, WordAnswer, AnswerTo, Answer, Answers, pub_answer, priv_answer, pss_answer, oaep_answer}
 
 tells_one : {V : Type 0} (Grammar : V → List ℕ → Type 0) (told : V → List ℕ → List ℕ) → MeansOne Grammar → (text : List ℕ) → AtMostOne (Tells Grammar told text)
 tells_one Grammar told one text a b (inl p) (inl q) = p.1 ∙ sym q.1
@@ -45,12 +47,15 @@ pss_means_one v w text p q = means_one pss_delimited v w text p q
 oaep_means_one : MeansOne RsaOaepParams
 oaep_means_one v w text p q = means_one oaep_delimited v w text p q
 
+word_answer_one : (asked : Word) (text : List ℕ) → AtMostOne (WordAnswer asked text)
+word_answer_one word.Pub text a b p q = tells_one RsaPublicKey pub_answer public_means_one text a b p q
+word_answer_one word.Priv text a b p q = tells_one RsaPrivateKey priv_answer private_means_one text a b p q
+word_answer_one word.Pss text a b p q = tells_parameters_one RsaPssParams pss_fields pss_answer pss_means_one text a b p q
+word_answer_one word.Oaep text a b p q = tells_parameters_one RsaOaepParams oaep_fields oaep_answer oaep_means_one text a b p q
+
 answer_to_one : (asked : Asked) → AtMostOne (AnswerTo asked)
 answer_to_one bad_line a b p q = p ∙ sym q
-answer_to_one (asks_pub text) a b p q = tells_one RsaPublicKey pub_answer public_means_one text a b p q
-answer_to_one (asks_priv text) a b p q = tells_one RsaPrivateKey priv_answer private_means_one text a b p q
-answer_to_one (asks_pss text) a b p q = tells_parameters_one RsaPssParams pss_fields pss_answer pss_means_one text a b p q
-answer_to_one (asks_oaep text) a b p q = tells_parameters_one RsaOaepParams oaep_fields oaep_answer oaep_means_one text a b p q
+answer_to_one (asks word text) a b p q = word_answer_one word text a b p q
 
 pub answers_at_most_one : (line : List ℕ) → AtMostOne (Answer line)
 answers_at_most_one line a b p q = answer_to_one (asked_by line) a b p q

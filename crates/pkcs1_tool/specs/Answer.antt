@@ -10,7 +10,9 @@ use Rattle.spki_core.specs.Explicit.{Field, HaveDefaults}
 use Rattle.pkcs1.specs.Keys.{PublicKey, RsaPublicKey, OtherPrime, PrivateKey, RsaPrivateKey}
 use Rattle.pkcs1.specs.Parameters.{PssParameters, RsaPssParams, pss_fields, OaepParameters, RsaOaepParams, oaep_fields}
 use Rattle.pkcs1_tool.specs.Lines.{lines_of}
-use Rattle.pkcs1_tool.specs.Request.{Asked, bad_line, asks_pub, asks_priv, asks_pss, asks_oaep, asked_by}
+use Rattle.pkcs1_tool.specs.declared.request.Word.{Word}
+use Rattle.pkcs1_tool.specs.declared.request.Word.TheVariants as word
+use Rattle.pkcs1_tool.specs.Request.{Asked, bad_line, asks, asked_by}
 
 -- no value has the text
 abbrev pub HasNone : {V : Type 0} → (V → List ℕ → Type 0) → List ℕ → Type 0
@@ -125,12 +127,16 @@ abbrev pub oaep_answer : OaepParameters → ℕ → List ℕ → List ℕ
 oaep_answer p k again =
     codes "oaep" ++ (digest_told p.hash p.mask_gen ++ (codes " source=" ++ (plain_told p.p_source ++ spelling_told k again)))
 
+-- the answers to a word with a text
+abbrev pub WordAnswer : Word → List ℕ → List ℕ → Type 0
+WordAnswer word.Pub text answer = Tells RsaPublicKey pub_answer text answer
+WordAnswer word.Priv text answer = Tells RsaPrivateKey priv_answer text answer
+WordAnswer word.Pss text answer = TellsParameters RsaPssParams pss_fields pss_answer text answer
+WordAnswer word.Oaep text answer = TellsParameters RsaOaepParams oaep_fields oaep_answer text answer
+
 abbrev pub AnswerTo : Asked → List ℕ → Type 0
 AnswerTo bad_line answer = answer ≡ codes "bad line"
-AnswerTo (asks_pub text) answer = Tells RsaPublicKey pub_answer text answer
-AnswerTo (asks_priv text) answer = Tells RsaPrivateKey priv_answer text answer
-AnswerTo (asks_pss text) answer = TellsParameters RsaPssParams pss_fields pss_answer text answer
-AnswerTo (asks_oaep text) answer = TellsParameters RsaOaepParams oaep_fields oaep_answer text answer
+AnswerTo (asks word text) answer = WordAnswer word text answer
 
 -- the answer of a line
 abbrev pub Answer : List ℕ → List ℕ → Type 0

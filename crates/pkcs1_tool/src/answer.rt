@@ -6,13 +6,13 @@ ghost use Rattle.der_core.specs.UintRefs.{bytes_of};
 ghost use Rattle.pkcs1.specs.Keys.{RsaPublicKey, RsaPrivateKey};
 ghost use Rattle.pkcs1.specs.PublicKeys.{key_of};
 ghost use Rattle.pkcs1.specs.PrivateKeys.{other_of, others_of, private_key_of};
-ghost use Rattle.pkcs1_tool.specs.Answer.{AnswerTo, Tells, field, pub_answer, priv_answer, numbers_told, other_told, others_told, version_told};
+ghost use Rattle.pkcs1_tool.specs.Answer.{Tells, WordAnswer, field, pub_answer, priv_answer, numbers_told, other_told, others_told, version_told};
 ghost use Rattle.pkcs1_tool.specs.Refused.{WantsMemory};
 ghost use Rattle.pkcs1_tool.specs.Written.{PutsAnswer};
 
 use crate::digits::put_field;
 use crate::parameters::{answer_oaep, answer_pss};
-use crate::request::{Request, request_of};
+use crate::request::{Request, Word, request_of};
 use der_core::ErrorKind;
 use pkcs1::{
     Error, OtherPrimeInfo, OtherPrimeInfos, RsaPrivateKeyRef, RsaPublicKeyRef, UintRef, Version,
@@ -174,15 +174,24 @@ fn answer_priv(alloc: Global, text: &[u8], out: &mut Vec<u8>) -> Result<(), Allo
     }
 }
 
+// Puts the answer to a word with a text behind `out`.
+fn answer_word(alloc: Global, word: Word, text: &[u8], out: &mut Vec<u8>) -> Result<(), AllocError>
+    ensures { OnOk result ((answer : List ℕ) × WordAnswer word text.now answer × (out.new.items ≡ out.old.items ++ answer)) }
+{
+    match word {
+        Word::Pub => answer_pub(alloc, text, out),
+        Word::Priv => answer_priv(alloc, text, out),
+        Word::Pss => answer_pss(alloc, text, out),
+        Word::Oaep => answer_oaep(alloc, text, out),
+    }
+}
+
 /// Puts the answer of a line behind `out`.
 pub fn answer_line(alloc: Global, line: &[u8], out: &mut Vec<u8>) -> Result<(), AllocError>
     ensures { OnOk result (PutsAnswer line.now out.old.items out.new.items) }
 {
     match request_of(alloc, line)? {
         Request::BadLine => out.extend_from_slice(b"bad line"),
-        Request::Pub(text) => answer_pub(alloc, text.as_slice(), out),
-        Request::Priv(text) => answer_priv(alloc, text.as_slice(), out),
-        Request::Pss(text) => answer_pss(alloc, text.as_slice(), out),
-        Request::Oaep(text) => answer_oaep(alloc, text.as_slice(), out),
+        Request::Word(word, text) => answer_word(alloc, word, text.as_slice(), out),
     }
 }

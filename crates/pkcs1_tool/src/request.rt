@@ -1,61 +1,51 @@
 //! What a line asks for.
 ghost use Rattle.std.specs.Prelude.{◌≡◌, IfOk};
+ghost use Rattle.std.specs.List.{find};
+ghost use Rattle.std.specs.Str.{bytes_eq};
 ghost use Rattle.std.specs.Option.{option_map};
-ghost use Rattle.pkcs1_tool.specs.Request.{asked_by, text_of, word_asks};
-ghost use Rattle.pkcs1_tool.specs.Seen.{seen, asks_of};
+ghost use Rattle.pkcs1_tool.specs.Request.{asked_by, named, text_of, words};
+ghost use Rattle.pkcs1_tool.specs.Seen.{seen};
 
 use crate::lines::split_part;
 use hex::FromHexError;
 use std::alloc::{AllocError, Global};
 
-/// What a line asks for.
-#[derive(Drop)]
-pub enum Request {
-    BadLine,
-    Pub(Vec<u8>),
-    Priv(Vec<u8>),
-    Pss(Vec<u8>),
-    Oaep(Vec<u8>),
-}
-
-// The first part of a request.
-#[derive(Clone, Copy)]
-enum Word {
+/// The first part of a line.
+#[derive(Clone, Copy, Drop)]
+pub enum Word {
     Pub,
     Priv,
     Pss,
     Oaep,
 }
 
-impl Word {
-    // The word that the part is.
-    fn of(part: &[u8]) -> Option<Word>
-        ensures { option_map asks_of result ≡ word_asks part.now }
-    {
-        if part == b"pub".as_slice() {
-            Some(Word::Pub)
-        } else if part == b"priv".as_slice() {
-            Some(Word::Priv)
-        } else if part == b"pss".as_slice() {
-            Some(Word::Pss)
-        } else if part == b"oaep".as_slice() {
-            Some(Word::Oaep)
-        } else {
-            None
-        }
-    }
+/// The words, as they stand in a line.
+const WORDS: [(&[u8], Word); 4] = [
+    (b"pub", Word::Pub),
+    (b"priv", Word::Priv),
+    (b"pss", Word::Pss),
+    (b"oaep", Word::Oaep),
+];
 
-    // What the word asks for with the text.
-    fn with(self, text: Vec<u8>) -> Request
-        ensures { seen result ≡ asks_of self text.items }
-    {
-        match self {
-            Word::Pub => Request::Pub(text),
-            Word::Priv => Request::Priv(text),
-            Word::Pss => Request::Pss(text),
-            Word::Oaep => Request::Oaep(text),
-        }
-    }
+/// What a line asks for.
+#[derive(Drop)]
+pub enum Request {
+    BadLine,
+    Word(Word, Vec<u8>),
+}
+
+// What stands beside the name in a list.
+fn find_named<W: Copy>(rows: &[(&[u8], W)], name: &[u8]) -> Option<W>
+    ensures { result ≡ option_map (λ row. row.1) (find (λ row. bytes_eq row.0.now name.now) rows.now) }
+{
+    rows.iter().find(|row| row.0 == name).map(|row| row.1)
+}
+
+// The word that the part is.
+fn word_of(part: &[u8]) -> Option<Word>
+    ensures { result ≡ named words part.now }
+{
+    find_named(&WORDS, part)
 }
 
 // The bytes that an even number of digits stands for.
@@ -81,11 +71,11 @@ pub fn request_of(alloc: Global, line: &[u8]) -> Result<Request, AllocError>
     if more.is_some() {
         return Ok(Request::BadLine);
     }
-    let Some(word) = Word::of(word) else {
+    let Some(word) = word_of(word) else {
         return Ok(Request::BadLine);
     };
     match bytes_of(alloc, hex)? {
-        Some(text) => Ok(word.with(text)),
+        Some(text) => Ok(Request::Word(word, text)),
         None => Ok(Request::BadLine),
     }
 }
