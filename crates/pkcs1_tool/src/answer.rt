@@ -11,11 +11,13 @@ ghost use Rattle.pkcs1_tool.specs.Refused.{WantsMemory};
 ghost use Rattle.pkcs1_tool.specs.Written.{PutsAnswer};
 
 use crate::digits::put_field;
-use crate::parameters::{answer_oaep, answer_pss};
+use crate::parameters::answer_parameters;
 use crate::request::{Request, Word, request_of};
+use crate::shortest::shortest;
 use der_core::ErrorKind;
 use pkcs1::{
-    Error, OtherPrimeInfo, OtherPrimeInfos, RsaPrivateKeyRef, RsaPublicKeyRef, UintRef, Version,
+    Error, OtherPrimeInfo, OtherPrimeInfos, RsaOaepParamsRef, RsaPrivateKeyRef, RsaPssParamsRef,
+    RsaPublicKeyRef, UintRef, Version,
 };
 use std::alloc::{AllocError, Global};
 
@@ -27,18 +29,6 @@ fn put_numbers(numbers: &[(&[u8], UintRef<'_>)], out: &mut Vec<u8>) -> Result<()
         put_field(label, number.as_bytes(), out)?;
     }
     Ok(())
-}
-
-// The shortest text of the key, in the buffer.
-fn shortest_public<'b>(text: &[u8], key: &RsaPublicKeyRef<'_>, buffer: &'b mut [u8]) -> &'b [u8]
-    requires means { Means RsaPublicKey text.now (key_of key.now) }
-    requires room { length text.now ≤ length buffer.old }
-    ensures { IsShortest RsaPublicKey (key_of key.now) result.now }
-{
-    match key.encode_key(buffer) {
-        Ok(length) => &buffer[..length],
-        Err(_) => unreachable!(),
-    }
 }
 
 // Puts the answer of a public key with its text again behind `out`.
@@ -57,22 +47,10 @@ fn answer_pub(alloc: Global, text: &[u8], out: &mut Vec<u8>) -> Result<(), Alloc
     match RsaPublicKeyRef::try_from(text) {
         Ok(key) => {
             let mut buffer = vec![in alloc; 0u8; text.len()]?;
-            let again = shortest_public(text, &key, buffer.as_mut_slice());
+            let again = shortest(text, &key, buffer.as_mut_slice());
             put_pub(&key, again, out)
         }
         Err(_) => out.extend_from_slice(b"refused"),
-    }
-}
-
-// The shortest text of the key, in the buffer.
-fn shortest_private<'b>(text: &[u8], key: &RsaPrivateKeyRef<'_>, buffer: &'b mut [u8]) -> &'b [u8]
-    requires means { Means RsaPrivateKey text.now (private_key_of key.now) }
-    requires room { length text.now ≤ length buffer.old }
-    ensures { IsShortest RsaPrivateKey (private_key_of key.now) result.now }
-{
-    match key.encode_key(buffer) {
-        Ok(length) => &buffer[..length],
-        Err(_) => unreachable!(),
     }
 }
 
@@ -162,7 +140,7 @@ fn answer_priv(alloc: Global, text: &[u8], out: &mut Vec<u8>) -> Result<(), Allo
     match RsaPrivateKeyRef::decode_key(alloc, text) {
         Ok(key) => {
             let mut buffer = vec![in alloc; 0u8; text.len()]?;
-            let again = shortest_private(text, &key, buffer.as_mut_slice());
+            let again = shortest(text, &key, buffer.as_mut_slice());
             put_priv(&key, again, out)
         }
         Err(error) => {
@@ -181,8 +159,8 @@ fn answer_word(alloc: Global, word: Word, text: &[u8], out: &mut Vec<u8>) -> Res
     match word {
         Word::Pub => answer_pub(alloc, text, out),
         Word::Priv => answer_priv(alloc, text, out),
-        Word::Pss => answer_pss(alloc, text, out),
-        Word::Oaep => answer_oaep(alloc, text, out),
+        Word::Pss => answer_parameters::<RsaPssParamsRef<'_>>(alloc, text, out),
+        Word::Oaep => answer_parameters::<RsaOaepParamsRef<'_>>(alloc, text, out),
     }
 }
 

@@ -12,6 +12,7 @@ mod parameters;
 mod plan;
 mod request;
 mod run;
+mod shortest;
 
 use copy::{copy_priv, copy_pub};
 use der_core::{FromRead, ToWrite};

@@ -6,4 +6,4 @@ use Rattle.pkcs1_tool.proofs.answer.answer_priv.Goals as goal
 
 pub returns-in_ok-buffer-in-Ok : goal.returns-in_ok-buffer-in-Ok
 returns-in_ok-buffer-in-Ok c =
-    told RsaPrivateKey priv_answer (private_key_of c.in-Ok.key) c.args.text.now _ _ _ c.put_priv.result c.in-Ok.ensures.ok c.shortest_private-again.ensures c.put_priv.ensures
+    told RsaPrivateKey priv_answer (private_key_of c.in-Ok.key) c.args.text.now _ _ _ c.put_priv.result c.in-Ok.ensures.ok c.shortest-again.ensures c.put_priv.ensures
