@@ -18,11 +18,11 @@ five o p q r s new a b c d e h i j k l = more o p new a _ h (more p q new b _ i 
 pub told : {V T E : Type 0} (Grammar : V → List ℕ → Type 0) (tell : V → List ℕ → List ℕ) (v : V) (text again old new : List ℕ) (r : Result T E)
     → Means Grammar text v → IsShortest Grammar v again → OnOk r (new ≡ old ++ tell v again)
     → OnOk r ((answer : List ℕ) × Tells Grammar tell text answer × (new ≡ old ++ answer))
-told Grammar tell v text again old new r means shortest put = on_ok_weaker r (λ p. (tell v again, inr (v, means, again, shortest, refl), p)) put
+told Grammar tell v text again old new r means shortest put = on_ok_weaker r (λ p. (tell v again, inr (v, means, (again, shortest, refl)), p)) put
 
 -- what is put of parameters, with how many of their fields have their defaults and with their shortest text, is an answer
 pub parameters_told : {V T E : Type 0} (Grammar : V → List ℕ → Type 0) (fields : V → List Field) (tell : V → ℕ → List ℕ → List ℕ) (v : V) (k : ℕ) (text again old new : List ℕ)
     (r : Result T E) → Means Grammar text v → HaveDefaults (fields v) k → IsShortest Grammar v again → OnOk r (new ≡ old ++ tell v k again)
     → OnOk r ((answer : List ℕ) × TellsParameters Grammar fields tell text answer × (new ≡ old ++ answer))
 parameters_told Grammar fields tell v k text again old new r means defaults shortest put =
-    on_ok_weaker r (λ p. (tell v k again, inr (v, means, k, defaults, again, shortest, refl), p)) put
+    on_ok_weaker r (λ p. (tell v k again, inr (v, means, (k, defaults, again, shortest, refl)), p)) put

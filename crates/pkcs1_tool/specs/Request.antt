@@ -9,16 +9,30 @@ use Rattle.hex.specs.Hex.{decode_of}
 use Rattle.hex.specs.declared.error.FromHexError.{FromHexError}
 use Rattle.pkcs1_tool.specs.declared.request.Word.{Word}
 use Rattle.pkcs1_tool.specs.declared.request.Word.TheVariants as word
+use Rattle.pkcs1_tool.specs.declared.request.PairWord.{PairWord}
+use Rattle.pkcs1_tool.specs.declared.request.PairWord.TheVariants as pair
 use Rattle.pkcs1_tool.specs.Lines.{parts_of}
 
--- The words, as they stand in a line.
+-- The words of lines with one HEX part.
 abbrev pub words : List (List ℕ × Word)
-words = (codes "pub", word.Pub) ∷ (codes "priv", word.Priv) ∷ (codes "pss", word.Pss) ∷ (codes "oaep", word.Oaep) ∷ []
+words =
+    (codes "pub", word.Pub)
+    ∷ (codes "priv", word.Priv)
+    ∷ (codes "pss", word.Pss)
+    ∷ (codes "oaep", word.Oaep)
+    ∷ (codes "strict-pss", word.StrictPss)
+    ∷ (codes "strict-oaep", word.StrictOaep)
+    ∷ []
 
--- a word with the text that its HEX part stands for, or a line of no known form
+-- The words of lines with two HEX parts.
+abbrev pub pair_words : List (List ℕ × PairWord)
+pair_words = (codes "same-pss", pair.SamePss) ∷ (codes "same-oaep", pair.SameOaep) ∷ []
+
+-- a word with the texts that its HEX parts stand for, or a line of no known form
 pub data Asked : Type 0 where
   bad_line : Asked
   asks : Word → List ℕ → Asked
+  asks_pair : PairWord → List ℕ → List ℕ → Asked
 
 abbrev pub decoded : Result (List ℕ) FromHexError → Option (List ℕ)
 decoded (Ok text) = Some text
@@ -37,11 +51,18 @@ asked_with (Some word) (Some text) = asks word text
 asked_with (Some word) None = bad_line
 asked_with None text = bad_line
 
+abbrev pub pair_asked_with : Option PairWord → Option (List ℕ) → Option (List ℕ) → Asked
+pair_asked_with (Some word) (Some first) (Some second) = asks_pair word first second
+pair_asked_with (Some word) (Some first) None = bad_line
+pair_asked_with (Some word) None second = bad_line
+pair_asked_with None first second = bad_line
+
 abbrev pub asked_by_parts : List (List ℕ) → Asked
 asked_by_parts [] = bad_line
 asked_by_parts (word ∷ []) = bad_line
 asked_by_parts (word ∷ hex ∷ []) = asked_with (named words word) (text_of hex)
-asked_by_parts (word ∷ hex ∷ more ∷ rest) = bad_line
+asked_by_parts (word ∷ hex ∷ second ∷ []) = pair_asked_with (named pair_words word) (text_of hex) (text_of second)
+asked_by_parts (word ∷ hex ∷ second ∷ more ∷ rest) = bad_line
 
 -- what the line asks for
 abbrev pub asked_by : List ℕ → Asked

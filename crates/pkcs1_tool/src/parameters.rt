@@ -1,21 +1,23 @@
-//! The answers that tell parameters.
-ghost use Rattle.std.specs.Prelude.{◌≡◌, ℕ, List, ◌++◌, OnOk, IfSome, IfNone};
+//! Parameters, and what is told of them.
+ghost use Rattle.std.specs.Prelude.{◌≡◌, ℕ, List, ◌++◌, ◌↔◌, IsTrue, OnOk, IfSome, IfNone};
 ghost use Rattle.der_core.specs.Document.{Means, IsShortest};
+ghost use Rattle.der_core.specs.Texts.{IsDelimited};
 ghost use Rattle.spki_core.specs.AnyRefs.{any_of};
 ghost use Rattle.spki_core.specs.AlgorithmRefs.{algorithm_of, mask_of};
 ghost use Rattle.spki_core.specs.Explicit.{Field, HaveDefaults};
 ghost use Rattle.spki_core.specs.ObjectIdentifiers.{octets_of};
 ghost use Rattle.pkcs1.specs.Parameters.{PssParameters, RsaPssParams, pss_fields, OaepParameters, RsaOaepParams, oaep_fields};
+ghost use Rattle.pkcs1.specs.ParameterLaws.{pss_delimited, oaep_delimited};
 ghost use Rattle.pkcs1.specs.PssParams.{pss_of};
 ghost use Rattle.pkcs1.specs.OaepParams.{oaep_of};
-ghost use Rattle.pkcs1_tool.specs.Answer.{HasNone, TellsParameters, any_told, identifier_told, plain_told, bracketed, mask_told, digest_told, spelling_told, pss_answer, oaep_answer};
+ghost use Rattle.pkcs1_tool.specs.Answer.{HasNone};
+ghost use Rattle.pkcs1_tool.specs.Told.{any_told, identifier_told, plain_told, bracketed, mask_told, digest_told, spelling_told, pss_answer, oaep_answer};
 
 use crate::digits::{put_field, put_hex, put_number};
-use crate::shortest::shortest;
 use der_core::Encode;
 use pkcs1::{ObjectIdentifier, RsaOaepParamsRef, RsaPssParamsRef};
 use spki_core::{AlgorithmIdentifier, AlgorithmIdentifierRef, AnyRef};
-use std::alloc::{AllocError, Global};
+use std::alloc::AllocError;
 
 /// Parameters of one of the two types, as lines ask for them.
 pub trait Parameters<'a>: Encode + Drop + Sized {
@@ -37,6 +39,10 @@ pub trait Parameters<'a>: Encode + Drop + Sized {
         ensures some { IfSome result (λ params. Means grammar text.now (meaning params)) }
         ensures none { IfNone result (HasNone grammar text.now) };
 
+    /// Whether the text is the shortest of what it means.
+    fn is_strict(text: &'a [u8]) -> bool
+        ensures { IsTrue result ↔ ((params : Meaning) × IsShortest grammar params text.now) };
+
     /// How many fields equal their defaults.
     fn defaults(&self) -> u8
         ensures { HaveDefaults (fields (meaning self.now)) result };
@@ -44,6 +50,9 @@ pub trait Parameters<'a>: Encode + Drop + Sized {
     /// Puts what is told behind `out`.
     fn put(&self, defaults: u8, again: &[u8], out: &mut Vec<u8>) -> Result<(), AllocError>
         ensures { OnOk result (out.new.items ≡ out.old.items ++ told (meaning self.now) defaults again.now) };
+
+    /// Each text means one value.
+    ghost delimited: { IsDelimited grammar };
 
     /// What is written are the texts of the grammar.
     ghost means_as: { (params : Self) (text : List ℕ) → Means grammar text (meaning params) → Means Self.text text (Self.value params) };
@@ -176,6 +185,10 @@ impl<'a> Parameters<'a> for RsaPssParamsRef<'a> {
         RsaPssParamsRef::try_from(text).ok()
     }
 
+    fn is_strict(text: &'a [u8]) -> bool {
+        RsaPssParamsRef::from_der_strict(text).is_ok()
+    }
+
     fn defaults(&self) -> u8 {
         self.default_fields()
     }
@@ -183,6 +196,8 @@ impl<'a> Parameters<'a> for RsaPssParamsRef<'a> {
     fn put(&self, defaults: u8, again: &[u8], out: &mut Vec<u8>) -> Result<(), AllocError> {
         put_pss(self, defaults, again, out)
     }
+
+    ghost delimited = { pss_delimited };
 
     ghost means_as = { λ params text means. means };
 
@@ -204,6 +219,10 @@ impl<'a> Parameters<'a> for RsaOaepParamsRef<'a> {
         RsaOaepParamsRef::try_from(text).ok()
     }
 
+    fn is_strict(text: &'a [u8]) -> bool {
+        RsaOaepParamsRef::from_der_strict(text).is_ok()
+    }
+
     fn defaults(&self) -> u8 {
         self.default_fields()
     }
@@ -212,25 +231,9 @@ impl<'a> Parameters<'a> for RsaOaepParamsRef<'a> {
         put_oaep(self, defaults, again, out)
     }
 
+    ghost delimited = { oaep_delimited };
+
     ghost means_as = { λ params text means. means };
 
     ghost shortest_as = { λ params text shortest. shortest };
-}
-
-/// Puts the answer that tells parameters behind `out`.
-pub fn answer_parameters<'a, T: Parameters<'a>>(
-    alloc: Global,
-    text: &'a [u8],
-    out: &mut Vec<u8>,
-) -> Result<(), AllocError>
-    ensures { OnOk result ((answer : List ℕ) × TellsParameters T.grammar T.fields T.told text.now answer × (out.new.items ≡ out.old.items ++ answer)) }
-{
-    match T::read(text) {
-        Some(params) => {
-            let mut buffer = vec![in alloc; 0u8; text.len()]?;
-            let again = shortest(text, &params, buffer.as_mut_slice());
-            params.put(params.defaults(), again, out)
-        }
-        None => out.extend_from_slice(b"refused"),
-    }
 }

@@ -2,8 +2,8 @@ use Rattle.std.proofs.lemmas.List.{take_all}
 use Rattle.std.proofs.lemmas.List.Folds.{flat_map-map}
 use Rattle.der_core.specs.UintRefs.{bytes_of}
 use Rattle.pkcs1.specs.PrivateKeys.{other_of}
-use Rattle.pkcs1_tool.specs.Answer.{other_told}
-use Rattle.pkcs1_tool.proofs.answer.put_others.Goals as goal
+use Rattle.pkcs1_tool.specs.Told.{other_told}
+use Rattle.pkcs1_tool.proofs.keys.put_others.Goals as goal
 
 pub returns-after-loop-info : goal.returns-after-loop-info
 returns-after-loop-info c =

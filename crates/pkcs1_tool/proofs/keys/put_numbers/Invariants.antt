@@ -1,8 +1,8 @@
 use Rattle.std.proofs.Common.{◌≡◌, ◌++◌, take}
 use Rattle.std.specs.List.{flat_map}
 use Rattle.der_core.specs.UintRefs.{bytes_of}
-use Rattle.pkcs1_tool.specs.Answer.{field}
-use Rattle.pkcs1_tool.proofs.answer.put_numbers.Given as goal
+use Rattle.pkcs1_tool.specs.Told.{field}
+use Rattle.pkcs1_tool.proofs.keys.put_numbers.Given as goal
 
 -- so many of the numbers were put
 abbrev pub invariant-loop-label : goal.invariant-loop-label

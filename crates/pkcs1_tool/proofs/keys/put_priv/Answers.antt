@@ -1,6 +1,6 @@
 use Rattle.std.proofs.lemmas.Result.{on_ok_weaker}
 use Rattle.pkcs1_tool.proofs.Put.{five}
-use Rattle.pkcs1_tool.proofs.answer.put_priv.Goals as goal
+use Rattle.pkcs1_tool.proofs.keys.put_priv.Goals as goal
 
 pub returns : goal.returns
 returns c =

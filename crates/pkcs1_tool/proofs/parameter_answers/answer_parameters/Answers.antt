@@ -1,5 +1,5 @@
 use Rattle.pkcs1_tool.proofs.Put.{parameters_told}
-use Rattle.pkcs1_tool.proofs.parameters.answer_parameters.Goals as goal
+use Rattle.pkcs1_tool.proofs.parameter_answers.answer_parameters.Goals as goal
 
 pub shortest-again-requires-clause-means : goal.shortest-again-requires-clause-means
 shortest-again-requires-clause-means g c =

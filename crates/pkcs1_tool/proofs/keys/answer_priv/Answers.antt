@@ -1,8 +1,8 @@
 use Rattle.pkcs1.specs.Keys.{RsaPrivateKey}
 use Rattle.pkcs1.specs.PrivateKeys.{private_key_of}
-use Rattle.pkcs1_tool.specs.Answer.{priv_answer}
+use Rattle.pkcs1_tool.specs.Told.{priv_answer}
 use Rattle.pkcs1_tool.proofs.Put.{told}
-use Rattle.pkcs1_tool.proofs.answer.answer_priv.Goals as goal
+use Rattle.pkcs1_tool.proofs.keys.answer_priv.Goals as goal
 
 pub returns-in_ok-buffer-in-Ok : goal.returns-in_ok-buffer-in-Ok
 returns-in_ok-buffer-in-Ok c =
