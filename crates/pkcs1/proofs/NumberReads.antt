@@ -1,14 +1,16 @@
 -- Reading texts of one kind, one after another.
-use Rattle.std.proofs.Common.{◌≡◌, ℕ, ◌<◌, List, [], ◌∷◌, ◌++◌, length, map, refl, sym, ap, ◌∙◌, arith, append_assoc, inl, inr, ⊎_elim, Some, None, Err}
+use Rattle.std.proofs.Common.{◌≡◌, ℕ, ◌<◌, List, [], ◌∷◌, ◌++◌, length, map, refl, sym, ap, ◌∙◌, arith, append_assoc, append-nil, inl, inr, ⊎_elim, Some, None, Err}
 use Rattle.std.proofs.lemmas.List.{map-append}
 use Rattle.der_core.specs.Texts.{Joins, IsDelimited}
 use Rattle.der_core.specs.ListLaws.{same_fronts, cons_path}
 use Rattle.der_core.specs.declared.error.ErrorKind.{ErrorKind}
 use Rattle.der_core.specs.Input.{Input, read_from, end_of}
-use Rattle.der_core.specs.Reading.{Refuses, NoneIn, AsksWithin}
+use Rattle.der_core.specs.Reading.{Refuses, NoneIn, AskedIn, AsksWithin}
+use Rattle.der_core.specs.TextLaws.{last_holds}
 use Rattle.der_core.specs.Sequences.{some_same, TextFails, TextGives, ContentsFail}
 use Rattle.der_core.specs.Tells.{is_trailing}
 use Rattle.der_core.specs.Whole.{trailing_is}
+use Rattle.pkcs1.specs.KeyNumbers.{EightNumbers}
 use Rattle.pkcs1.specs.Keys.{OtherPrimeContents}
 use Rattle.pkcs1.specs.Writing.{other_numbers}
 use Rattle.pkcs1.specs.PrivateKeyLaws.{joins_put}
@@ -39,6 +41,9 @@ module _ {V : Type 0} (text : V → List ℕ → Type 0) where
       ends : (l : List ℕ) → l ≡ l ++ []
       ends [] = refl
       ends (x ∷ l) = cons_path refl (ends l)
+
+  pub one_given : {v : V} {before after : Input} → TextGives text v before after → GivesAll text (v ∷ []) before after
+  one_given one = gives_more (gives_none (one.0 ++ one.1) one.2) one
 
   module _ (d : IsDelimited text) where
     -- fewer values were read, and nothing fits behind them
@@ -99,3 +104,28 @@ module _ {V : Type 0} (text : V → List ℕ → Type 0) where
                     omega (arith, ap length rest, ap length s.3, ap length more.3),
               ),
         )
+
+    abbrev Eight : Type 0
+    Eight = (ns : List V) × (length ns ≡ 8)
+
+    abbrev Anything : List ℕ → Type 0
+    Anything c = Unit {0}
+
+    -- eight numbers: one of them is refused
+    eight_fail : {vs : List V} {before mid after : Input} {e : ErrorKind} (asks : List ℕ → Type 0) → length vs < 8 → GivesAll text vs before mid → TextFails text asks e mid after
+        → (i : List ℕ) → before ≡ Some i → Refuses e (AskedIn (AsksWithin asks) i) (NoneIn (EightNumbers text) i)
+    eight_fail {vs} asks l all fails i is =
+        ⊎_elim
+        (λ w. inl (w.0, (i, [], sym (append-nil i), w.1)))
+        (λ w. inr (w.0, λ ns b rest at has. w.1 (ns, has.0) (rw at (joins_put (map text ns) (Anything ∷ []) b rest has.1 (last_holds rest tt)))))
+        (numbers_fail (λ (w : Eight). w.0) (λ _. Anything ∷ []) asks (λ (w : Eight). omega (arith, l, w.1)) all fails i is)
+
+    pub first_of_eight_fails : {before after : Input} {e : ErrorKind} (asks : List ℕ → Type 0) → TextFails text asks e before after → TextFails (EightNumbers text) (AsksWithin asks) e before after
+    first_of_eight_fails asks fails = (fails.0, fails.1, λ i is. eight_fail asks (omega arith) (gives_none i is) fails i is)
+
+    pub next_of_eight_fails : {vs : List V} {before mid after : Input} {e : ErrorKind} (asks : List ℕ → Type 0) → length vs < 8 → GivesAll text vs before mid → TextFails text asks e mid after
+        → TextFails (EightNumbers text) (AsksWithin asks) e before after
+    next_of_eight_fails asks l all fails = (fails.0, (λ none. let no = sym none ∙ all.from in cc), λ i is. eight_fail asks l all fails i is)
+
+  pub eight_given : {vs : List V} {before after : Input} → length vs ≡ 8 → GivesAll text vs before after → TextGives (EightNumbers text) vs before after
+  eight_given l all = (all.read, all.rest, all.from, all.left, (l, all.joined))

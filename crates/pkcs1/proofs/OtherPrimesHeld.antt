@@ -17,7 +17,7 @@ use Rattle.der_core.proofs.SequenceOf.{items_refused, items_more}
 use Rattle.pkcs1.specs.declared.other_prime_info.OtherPrimeInfo as declared
 use Rattle.pkcs1.specs.PrivateKeys.{other_of}
 use Rattle.std.proofs.Math.Logic.{∥∥₁_elim}
-use Prim.{IsProp, IsSet, ∥◌∥₁, ∣◌∣₁, squash₁}
+use Prim.{IsSet, ∥◌∥₁, ∣◌∣₁, squash₁}
 use denote.Struct.Props.{props}
 use Rattle.der_core.specs.Texts.{Then, Joins}
 use Rattle.der_core.specs.ListLaws.{same_fronts}

@@ -1,10 +1,7 @@
--- Reading the other primes of a private key.
-use Rattle.std.proofs.Common.{◌≡◌, ◌↔◌, ℕ, ◌<◌, List, [], ◌∷◌, ◌++◌, length, map, refl, sym, ap, ◌∙◌, arith, append-nil, length-append, inl, inr, ⊎_elim, Option, Some, None, Result, Ok, Err, Bool, true, false, IsTrue, is_some}
-use Rattle.std.proofs.lemmas.List.{length-map}
+-- Reading the other primes of a private key, whatever holds them.
+use Rattle.std.proofs.Common.{◌≡◌, ◌↔◌, ℕ, ◌<◌, List, [], ◌∷◌, ◌++◌, length, refl, sym, ap, ◌∙◌, arith, append-nil, length-append, inl, inr, ⊎_elim, Option, Some, None, Result, Ok, Err, Bool, true, false, IsTrue, is_some}
 use Rattle.std.specs.Prelude.{slice_get, not}
 use mathlib.Core.Bool.{beq}
-use Rattle.std.specs.declared.alloc.Global.{Global}
-use Rattle.std.specs.declared.vec.Vec.{Vec}
 use Rattle.der_core.specs.Tlv.{Tlv}
 use Rattle.der_core.specs.Texts.{IsDelimited}
 use Rattle.der_core.specs.TextLaws.{tlv_split, tlv_not_empty, joins_map}
@@ -16,13 +13,11 @@ use Rattle.der_core.specs.Input.{Input, read_from, end_of}
 use Rattle.der_core.specs.Reading.{ReadsOptional, Refuses, TellsOfBytes, AskedIn}
 use Rattle.der_core.specs.Sequences.{some_same, end_gives}
 use Rattle.der_core.specs.Tells.{is_trailing}
-use Rattle.pkcs1.specs.declared.other_prime_info.OtherPrimeInfo as declared
 use Rattle.pkcs1.specs.declared.version.Version.{Version}
 use Rattle.pkcs1.specs.declared.version.Version.TheVariants.{TwoPrime, Multi}
-use Rattle.pkcs1.specs.Asking.{BeginsSequence}
 use Rattle.pkcs1.specs.Keys.{OtherPrime, OtherPrimeInfo, OtherPrimeInfos, version_of}
 use Rattle.pkcs1.specs.PrivateKeyLaws.{other_delimited}
-use Rattle.pkcs1.specs.PrivateKeys.{other_of, others_of, ListsNone}
+use Rattle.std.specs.Option.{option_map}
 use Rattle.pkcs1.specs.Versions.{number_of}
 
 same_flags : (a b : Bool) → not (beq a b) ≡ false → a ≡ b
@@ -31,34 +26,39 @@ same_flags false false e = refl
 same_flags true false e = cc
 same_flags false true e = cc
 
-agreed : {U V : Type 0} (value : U → V) (multi some : Bool) (v : Version) (r : Option (Vec (declared.OtherPrimeInfo U) Global)) → IsTrue multi ↔ (v ≡ Multi) → some ≡ is_some r → multi ≡ some → version_of (others_of value r) ≡ number_of v
-agreed value multi some TwoPrime None h e s = refl
-agreed value multi some Multi (Some x) h e s = refl
-agreed value multi some Multi None h e s = let t : multi ≡ true = h.1 refl in cc
-agreed value multi some TwoPrime (Some x) h e s = let t : multi ≡ true = s ∙ e in let no : TwoPrime ≡ Multi = h.0 t in cc
+agreed : {X V : Type 0} (items : X → List (OtherPrime V)) (multi some : Bool) (v : Version) (r : Option X) → IsTrue multi ↔ (v ≡ Multi) → some ≡ is_some r → multi ≡ some → version_of (option_map items r) ≡ number_of v
+agreed items multi some TwoPrime None h e s = refl
+agreed items multi some Multi (Some x) h e s = refl
+agreed items multi some Multi None h e s = let t : multi ≡ true = h.1 refl in cc
+agreed items multi some TwoPrime (Some x) h e s = let t : multi ≡ true = s ∙ e in let no : TwoPrime ≡ Multi = h.0 t in cc
 
-pub agree : {U V : Type 0} (value : U → V) (multi some : Bool) (v : Version) (r : Option (Vec (declared.OtherPrimeInfo U) Global)) → IsTrue multi ↔ (v ≡ Multi) → some ≡ is_some r → not (beq multi some) ≡ false → version_of (others_of value r) ≡ number_of v
-agree value multi some v r h e s = agreed value multi some v r h e (same_flags multi some s)
+pub agree : {X V : Type 0} (items : X → List (OtherPrime V)) (multi some : Bool) (v : Version) (r : Option X) → IsTrue multi ↔ (v ≡ Multi) → some ≡ is_some r → not (beq multi some) ≡ false → version_of (option_map items r) ≡ number_of v
+agree items multi some v r h e s = agreed items multi some v r h e (same_flags multi some s)
 
--- whether there is a list of no primes
-pub listed : {U : Type 0} (r : Option (Vec (declared.OtherPrimeInfo U) Global)) (none : Bool) → IsTrue none ↔ ListsNone r → none ≡ false → (v : Vec (declared.OtherPrimeInfo U) Global) → r ≡ Some v → 0 < length v.items
-listed None none h e v is = cc
-listed (Some w) none h e v is =
-    let same : w ≡ v = cc in
-    let no : length w.items ≡ 0 → ⊥ = λ z. let t : none ≡ true = h.1 z in cc in
-    rw (← same) (omega (arith, no))
+-- There is a list of no primes.
+module _ {X : Type 0} (count : X → ℕ) where
+  abbrev pub CountsNone : Option X → Type 0
+  CountsNone None = ⊥
+  CountsNone (Some v) = count v ≡ 0
 
-pub unlisted : {U : Type 0} (r : Option (Vec (declared.OtherPrimeInfo U) Global)) (none : Bool) → IsTrue none ↔ ListsNone r → none ≡ true → (v : Vec (declared.OtherPrimeInfo U) Global) × (r ≡ Some v) × (length v.items ≡ 0)
-unlisted None none h e = absurd (h.0 e)
-unlisted (Some w) none h e = (w, refl, h.0 e)
+  pub listed : (r : Option X) (none : Bool) → IsTrue none ↔ CountsNone r → none ≡ false → (v : X) → r ≡ Some v → 0 < count v
+  listed None none h e v is = cc
+  listed (Some w) none h e v is =
+      let same : w ≡ v = cc in
+      let no : count w ≡ 0 → ⊥ = λ z. let t : none ≡ true = h.1 z in cc in
+      rw (← same) (omega (arith, no))
 
-module _ {U V : Type 0} (value : U → V) (text : V → List ℕ → Type 0) (d : IsDelimited text) (asks : List ℕ → Type 0) where
-  abbrev pub Found : Result (Option (Vec (declared.OtherPrimeInfo U) Global)) Error → Input → Input → Type 0
-  Found r before after = ReadsOptional 48 (λ v. map (other_of value) v.items) (λ vs. Tlv 48 (ItemsContents (OtherPrimeInfo text) vs)) asks r before after
+  pub unlisted : (r : Option X) (none : Bool) → IsTrue none ↔ CountsNone r → none ≡ true → (v : X) × (r ≡ Some v) × (count v ≡ 0)
+  unlisted None none h e = absurd (h.0 e)
+  unlisted (Some w) none h e = (w, refl, h.0 e)
+
+module _ {X V : Type 0} (items : X → List (OtherPrime V)) (text : V → List ℕ → Type 0) (d : IsDelimited text) (asks : List ℕ → Type 0) where
+  abbrev pub Found : Result (Option X) Error → Input → Input → Type 0
+  Found r before after = ReadsOptional 48 items (λ vs. Tlv 48 (ItemsContents (OtherPrimeInfo text) vs)) asks r before after
 
   -- Where all that is left is a text of other primes, they were read, or there are none.
-  others_only : (r : Option (Vec (declared.OtherPrimeInfo U) Global)) (before mid : Input) → Found (Ok r) before mid
-      → (c : List ℕ) → before ≡ Some c → (o : Option (List (OtherPrime V))) → OtherPrimeInfos text o c → (others_of value r ≡ o) × (mid ≡ Some [])
+  others_only : (r : Option X) (before mid : Input) → Found (Ok r) before mid
+      → (c : List ℕ) → before ≡ Some c → (o : Option (List (OtherPrime V))) → OtherPrimeInfos text o c → (option_map items r ≡ o) × (mid ≡ Some [])
   others_only None before mid f c is None has =
       let same : f.0 ≡ c = some_same f.0 c (sym f.1 ∙ is) in
       (refl, f.2 ∙ ap (λ l. Some l) (same ∙ has))
@@ -71,7 +71,7 @@ module _ {U V : Type 0} (value : U → V) (text : V → List ℕ → Type 0) (d 
   others_only (Some v) before mid f c is (Some os) has =
       let same : f.0 ++ f.1 ≡ c = some_same (f.0 ++ f.1) c (sym f.2 ∙ is) in
       let s = tlv_split f.0 f.1 c [] f.4 has.1 (same ∙ sym (append-nil c)) in
-      let one : map (other_of value) v.items ≡ os = joins_map (OtherPrimeInfo text) (other_delimited d) (map (other_of value) v.items) os s.3 s.4 s.5 in
+      let one : items v ≡ os = joins_map (OtherPrimeInfo text) (other_delimited d) (items v) os s.3 s.4 s.5 in
       (ap (λ l. Some l) one, f.3 ∙ ap (λ l. Some l) s.2)
 
   -- a fault inside the other primes
@@ -93,24 +93,23 @@ module _ {U V : Type 0} (value : U → V) (text : V → List ℕ → Type 0) (d 
       none c first nothing (Some os) has = nothing os c [] (sym (append-nil c)) has.1
 
   -- a list of no primes
-  pub empty_fails : (n : ℕ) (r : Option (Vec (declared.OtherPrimeInfo U) Global)) (v : Vec (declared.OtherPrimeInfo U) Global) (before mid : Input) (k : ErrorKind)
-      → Found (Ok r) before mid → r ≡ Some v → length v.items ≡ 0 → TellsOfBytes k
-      → (c : List ℕ) → before ≡ Some c → Refuses k (BeginsSequence c) ((o : Option (List (OtherPrime V))) → (version_of o ≡ n) × OtherPrimeInfos text o c → ⊥)
-  empty_fails n r v before mid k f e l tells c is =
-      inr (tells, λ o has. none o c (sym (others_only r before mid f c is o has.1).0 ∙ ap (others_of value) e) has.1)
+  pub empty_fails : (asked : List ℕ → Type 0) (n : ℕ) (r : Option X) (v : X) (before mid : Input) (k : ErrorKind)
+      → Found (Ok r) before mid → r ≡ Some v → length (items v) ≡ 0 → TellsOfBytes k
+      → (c : List ℕ) → before ≡ Some c → Refuses k (asked c) ((o : Option (List (OtherPrime V))) → (version_of o ≡ n) × OtherPrimeInfos text o c → ⊥)
+  empty_fails asked n r v before mid k f e l tells c is =
+      inr (tells, λ o has. none o c (sym (others_only r before mid f c is o has.1).0 ∙ ap (option_map items) e) has.1)
     where
-      none : (o : Option (List (OtherPrime V))) (c : List ℕ) → o ≡ Some (map (other_of value) v.items) → OtherPrimeInfos text o c → ⊥
+      none : (o : Option (List (OtherPrime V))) (c : List ℕ) → o ≡ Some (items v) → OtherPrimeInfos text o c → ⊥
       none None c same has = cc
       none (Some os) c same has =
-          let items : os ≡ map (other_of value) v.items = cc in
-          let len : length (map (other_of value) v.items) ≡ length v.items = length-map v.items (other_of value) in
-          omega (arith, has.0, ap length items, len, l)
+          let items : os ≡ items v = cc in
+          omega (arith, has.0, ap length items, l)
 
   -- bytes behind them
-  pub more_fails : (n : ℕ) (r : Option (Vec (declared.OtherPrimeInfo U) Global)) (before mid after : Input) (e : ErrorKind)
+  pub more_fails : (asked : List ℕ → Type 0) (n : ℕ) (r : Option X) (before mid after : Input) (e : ErrorKind)
       → Found (Ok r) before mid → (read_from mid end_of ≡ Err e) × (after ≡ None)
-      → (after ≡ None) × ((c : List ℕ) → before ≡ Some c → Refuses e (BeginsSequence c) ((o : Option (List (OtherPrime V))) → (version_of o ≡ n) × OtherPrimeInfos text o c → ⊥))
-  more_fails n r before mid after e f fails = (
+      → (after ≡ None) × ((c : List ℕ) → before ≡ Some c → Refuses e (asked c) ((o : Option (List (OtherPrime V))) → (version_of o ≡ n) × OtherPrimeInfos text o c → ⊥))
+  more_fails asked n r before mid after e f fails = (
     fails.1,
     λ c is.
         inr (
@@ -127,9 +126,9 @@ module _ {U V : Type 0} (value : U → V) (text : V → List ℕ → Type 0) (d 
       ends : (m : Input) (k : ErrorKind) → read_from m end_of ≡ Err k → m ≡ Some [] → ⊥
       ends m k h is = let no = rw is at h in cc
 
-  pub others_given : (r : Option (Vec (declared.OtherPrimeInfo U) Global)) (n : ℕ) (before mid after : Input) → Found (Ok r) before mid → version_of (others_of value r) ≡ n
-      → ((v : Vec (declared.OtherPrimeInfo U) Global) → r ≡ Some v → 0 < length v.items) → ((rest : List ℕ) × (read_from mid end_of ≡ Ok (tt, rest)) × (after ≡ Some rest))
-      → (c : List ℕ) × (before ≡ Some c) × (after ≡ Some []) × ((version_of (others_of value r) ≡ n) × OtherPrimeInfos text (others_of value r) c)
+  pub others_given : (r : Option X) (n : ℕ) (before mid after : Input) → Found (Ok r) before mid → version_of (option_map items r) ≡ n
+      → ((v : X) → r ≡ Some v → 0 < length (items v)) → ((rest : List ℕ) × (read_from mid end_of ≡ Ok (tt, rest)) × (after ≡ Some rest))
+      → (c : List ℕ) × (before ≡ Some c) × (after ≡ Some []) × ((version_of (option_map items r) ≡ n) × OtherPrimeInfos text (option_map items r) c)
   others_given None n before mid after f agrees some ended =
       let g = end_gives mid after ended in
       let same : f.0 ≡ g.0 = some_same f.0 g.0 (sym f.2 ∙ g.1) in
@@ -137,5 +136,4 @@ module _ {U V : Type 0} (value : U → V) (text : V → List ℕ → Type 0) (d 
   others_given (Some v) n before mid after f agrees some ended =
       let g = end_gives mid after ended in
       let rest : f.1 ≡ [] = some_same f.1 g.0 (sym f.3 ∙ g.1) ∙ g.3 in
-      let len : length (map (other_of value) v.items) ≡ length v.items = length-map v.items (other_of value) in
-      (f.0, f.2 ∙ ap (λ l. Some l) (ap (λ l. f.0 ++ l) rest ∙ append-nil f.0), g.2, (agrees, (omega (arith, some v refl, len), f.4)))
+      (f.0, f.2 ∙ ap (λ l. Some l) (ap (λ l. f.0 ++ l) rest ∙ append-nil f.0), g.2, (agrees, (omega (arith, some v refl), f.4)))

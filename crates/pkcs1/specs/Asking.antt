@@ -9,15 +9,22 @@ use Rattle.der_core.specs.Reading.{AskedIn, AsksWithin}
 abbrev pub BeginsSequence : List ℕ → Type 0
 BeginsSequence c = AskedIn (Tlv 48 (λ octets. 0 < length octets)) c
 
--- It stands behind a version and eight numbers.
-abbrev pub OthersFollow : {Number : Type 0} → (Number → List ℕ → Type 0) → List ℕ → Type 0
-OthersFollow {Number} NumberText c =
+-- Such a rest stands behind a version and eight numbers.
+abbrev pub BehindNumbers : {Number : Type 0} → (Number → List ℕ → Type 0) → (List ℕ → Type 0) → List ℕ → Type 0
+BehindNumbers {Number} NumberText Rest c =
     (n : ℕ) × (numbers : List Number) × (front : List ℕ) × (rest : List ℕ)
-    × (length numbers ≡ 8) × Joins (Small n ∷ map NumberText numbers) front × BeginsSequence rest × (c ≡ front ++ rest)
+    × (length numbers ≡ 8) × Joins (Small n ∷ map NumberText numbers) front × Rest rest × (c ≡ front ++ rest)
+
+abbrev pub OthersFollow : {Number : Type 0} → (Number → List ℕ → Type 0) → List ℕ → Type 0
+OthersFollow NumberText c = BehindNumbers NumberText BeginsSequence c
+
+-- A number may ask for memory, or what stands behind the numbers may.
+abbrev pub AsksInKey : {Number : Type 0} → (Number → List ℕ → Type 0) → (List ℕ → Type 0) → (List ℕ → Type 0) → List ℕ → Type 0
+AsksInKey NumberText asks Rest c = AsksWithin asks c ⊎ BehindNumbers NumberText Rest c
 
 -- A number may ask for memory, or a list that isn't empty is there.
 abbrev pub AsksForKey : {Number : Type 0} → (Number → List ℕ → Type 0) → (List ℕ → Type 0) → List ℕ → Type 0
-AsksForKey NumberText asks c = AsksWithin asks c ⊎ OthersFollow NumberText c
+AsksForKey NumberText asks c = AsksInKey NumberText asks BeginsSequence c
 
 -- A SEQUENCE that isn't empty stands behind the eighth number of a private key at the front of the text.
 abbrev pub MayAsk : List ℕ → Type 0

@@ -68,3 +68,7 @@ PrivateKeyContents NumberText key contents =
 
 abbrev pub RsaPrivateKey : PrivateKey (List ℕ) → List ℕ → Type 0
 RsaPrivateKey key text = Tlv 48 (PrivateKeyContents Integer key) text
+
+-- The public key (n, e) of a private key (RFC 8017 3.1, 3.2).
+abbrev pub public_part : {Number : Type 0} → PrivateKey Number → PublicKey Number
+public_part key = record { modulus = key.modulus; public_exponent = key.public_exponent }

@@ -18,6 +18,7 @@ pub mod DigestEquality
 pub mod Versions
 pub mod Asking
 pub mod Writing
+pub mod KeyNumbers
 pub mod KeyTexts
 pub mod PublicKeys
 pub mod PrivateKeys

@@ -2,6 +2,7 @@
 use Rattle.der_core.specs.declared.integer.uint.UintRef.{UintRef}
 use Rattle.der_core.specs.UintRefs.{bytes_of}
 use Rattle.std.specs.Prelude.{ℕ, List, ◌≡◌, length, Option, Some, None, map}
+use Rattle.std.specs.Option.{option_map}
 use Rattle.std.specs.declared.alloc.Global.{Global}
 use Rattle.std.specs.declared.vec.Vec.{Vec}
 use Rattle.pkcs1.specs.declared.other_prime_info.OtherPrimeInfo.{OtherPrimeInfo}
@@ -12,8 +13,7 @@ abbrev pub other_of : {U V : Type 0} → (U → V) → OtherPrimeInfo U → Othe
 other_of value other = record { prime = value other.prime; exponent = value other.exponent; coefficient = value other.coefficient }
 
 abbrev pub others_of : {U V : Type 0} → (U → V) → Option (Vec (OtherPrimeInfo U) Global) → Option (List (OtherPrime V))
-others_of value None = None
-others_of value (Some v) = Some (map (other_of value) v.items)
+others_of value = option_map (λ (v : Vec (OtherPrimeInfo _) Global). map (other_of value) v.items)
 
 -- There is a list of no primes.
 abbrev pub ListsNone : {U : Type 0} → Option (Vec (OtherPrimeInfo U) Global) → Type 0

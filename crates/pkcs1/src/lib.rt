@@ -3,6 +3,7 @@
 
 mod algorithm;
 mod error;
+mod key_numbers;
 mod laws;
 mod numbers;
 mod other_prime_info;

@@ -144,4 +144,15 @@ impl<'a> Iterator for OtherPrimes<'a> {
             Err(_) => None,
         }
     }
+
+    fn size_hint(&self) -> (usize, Option<usize>) {
+        (self.left, Some(self.left))
+    }
+}
+
+impl ExactSizeIterator for OtherPrimes<'_> {
+    #[tactic(auto, using(crate::proofs::OtherPrimesHeld::left_counted))]
+    fn len(&self) -> usize {
+        self.left
+    }
 }

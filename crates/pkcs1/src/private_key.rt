@@ -11,6 +11,7 @@ ghost use Rattle.pkcs1.specs.PublicKeys.{key_of};
 ghost use Rattle.pkcs1.specs.PrivateKeys.{private_of, ListsNone};
 
 use crate::error::Error;
+use crate::key_numbers::read_key_numbers;
 use crate::numbers::{encode_numbers, numbers_len, prepend_numbers};
 use crate::other_prime_info::{
     OtherPrimeInfos, clone_other_primes, encode_other_primes, lists_none, other_primes_len,
@@ -140,24 +141,17 @@ impl<'a, U: Decode<&'a [u8], Global>> DecodeValue<&'a [u8], Global> for RsaPriva
         _header: Header,
     ) -> Result<RsaPrivateKey<U>> {
         let version = Version::decode(memory, reader)?;
-        let modulus = U::decode(memory, reader)?;
-        let public_exponent = U::decode(memory, reader)?;
-        let private_exponent = U::decode(memory, reader)?;
-        let prime1 = U::decode(memory, reader)?;
-        let prime2 = U::decode(memory, reader)?;
-        let exponent1 = U::decode(memory, reader)?;
-        let exponent2 = U::decode(memory, reader)?;
-        let coefficient = U::decode(memory, reader)?;
+        let numbers = read_key_numbers(memory, reader)?;
         let other_prime_infos = read_other_primes(memory, reader, version)?;
         Ok(RsaPrivateKey {
-            modulus,
-            public_exponent,
-            private_exponent,
-            prime1,
-            prime2,
-            exponent1,
-            exponent2,
-            coefficient,
+            modulus: numbers.modulus,
+            public_exponent: numbers.public_exponent,
+            private_exponent: numbers.private_exponent,
+            prime1: numbers.prime1,
+            prime2: numbers.prime2,
+            exponent1: numbers.exponent1,
+            exponent2: numbers.exponent2,
+            coefficient: numbers.coefficient,
             other_prime_infos,
         })
     }

@@ -1,5 +1,5 @@
 //! RSA private keys, seen without a list.
-ghost use Rattle.std.specs.Prelude.{◌≡◌, ℕ, List, length, map, IsTrue, IsSome, IfOk, IfErr, OnErr, ◌↔◌};
+ghost use Rattle.std.specs.Prelude.{◌≡◌, ℕ, List, IsTrue, IsSome, IfOk, IfErr, OnErr, ◌↔◌, refl};
 ghost use Rattle.std.specs.Option.{option_map};
 ghost use Rattle.der_core.specs.Integer.{Integer, IntegerContents, IsCanonical, integer_contents};
 ghost use Rattle.der_core.specs.IntegerLaws.{integer_delimited, integer_of_bytes};
@@ -7,36 +7,32 @@ ghost use Rattle.der_core.specs.Reading.{ReadsContents, TellsOfBytes};
 ghost use Rattle.der_core.specs.TextLaws.{tlv_of_bytes};
 ghost use Rattle.der_core.specs.Tlv.{tlv};
 ghost use Rattle.pkcs1.specs.Keys as grammar;
-ghost use Rattle.pkcs1.specs.Keys.{PrivateKey, PrivateKeyContents, version_of};
+ghost use Rattle.pkcs1.specs.Keys.{PrivateKey, PrivateKeyContents, version_of, public_part};
 ghost use Rattle.pkcs1.specs.OtherPrimesLeft.{others_left, HoldsNone};
 ghost use Rattle.pkcs1.specs.PrivateKeyLaws.{private_means_one, private_of_bytes};
 ghost use Rattle.pkcs1.specs.Versions.{number_of};
+ghost use Rattle.pkcs1.specs.PublicKeys.{key_of};
 ghost use Rattle.pkcs1.specs.ViewParts.{parts_of, view_of, viewed_text, listed_others};
 ghost use Rattle.pkcs1.specs.Refusals.{IsAsn1};
 ghost use Rattle.der_core.specs.Document.{Means};
 ghost use Rattle.der_core.specs.UintRefs.{bytes_of};
 ghost use Rattle.pkcs1.specs.Writing.{HasPrivateKey, written_private_key};
-ghost use Rattle.std.specs.Prelude.{refl};
 
 use crate::error::Error;
+use crate::key_numbers::{KeyNumbers, read_key_numbers};
 use crate::other_primes::OtherPrimes;
+use crate::public_key::{RsaPublicKey, RsaPublicKeyRef};
 use crate::version::Version;
 use der_core::{
     Contents, Decode, DecodeValue, ErrorKind, Header, Kinded, NoMemory, Reader, Result,
     SequenceTag, Tag, UintRef, decode_optional,
 };
+use std::fmt;
 
 /// The parts of a private key, over the bytes that were read.
 #[derive(Clone, Copy, Drop)]
 pub(crate) struct Parts<'a> {
-    pub(crate) modulus: UintRef<'a>,
-    pub(crate) public_exponent: UintRef<'a>,
-    pub(crate) private_exponent: UintRef<'a>,
-    pub(crate) prime1: UintRef<'a>,
-    pub(crate) prime2: UintRef<'a>,
-    pub(crate) exponent1: UintRef<'a>,
-    pub(crate) exponent2: UintRef<'a>,
-    pub(crate) coefficient: UintRef<'a>,
+    pub(crate) numbers: KeyNumbers<UintRef<'a>>,
     pub(crate) other_primes: Option<OtherPrimes<'a>>,
 }
 
@@ -97,24 +93,10 @@ impl<'a> DecodeValue<&'a [u8], NoMemory> for Parts<'a> {
         _header: Header,
     ) -> Result<Parts<'a>> {
         let version = Version::decode(memory, reader)?;
-        let modulus = UintRef::decode(memory, reader)?;
-        let public_exponent = UintRef::decode(memory, reader)?;
-        let private_exponent = UintRef::decode(memory, reader)?;
-        let prime1 = UintRef::decode(memory, reader)?;
-        let prime2 = UintRef::decode(memory, reader)?;
-        let exponent1 = UintRef::decode(memory, reader)?;
-        let exponent2 = UintRef::decode(memory, reader)?;
-        let coefficient = UintRef::decode(memory, reader)?;
+        let numbers = read_key_numbers(memory, reader)?;
         let other_primes = read_listed(reader, version)?;
         Ok(Parts {
-            modulus,
-            public_exponent,
-            private_exponent,
-            prime1,
-            prime2,
-            exponent1,
-            exponent2,
-            coefficient,
+            numbers,
             other_primes,
         })
     }
@@ -143,7 +125,66 @@ impl<'a> RsaPrivateKeyView<'a> {
     pub fn modulus(&self) -> UintRef<'a>
         ensures { bytes_of result ≡ (view_of self.now).modulus }
     {
-        self.parts.modulus
+        self.parts.numbers.modulus
+    }
+
+    /// The public exponent e.
+    pub fn public_exponent(&self) -> UintRef<'a>
+        ensures { bytes_of result ≡ (view_of self.now).public_exponent }
+    {
+        self.parts.numbers.public_exponent
+    }
+
+    /// The private exponent d.
+    pub fn private_exponent(&self) -> UintRef<'a>
+        ensures { bytes_of result ≡ (view_of self.now).private_exponent }
+    {
+        self.parts.numbers.private_exponent
+    }
+
+    /// The first prime p.
+    pub fn prime1(&self) -> UintRef<'a>
+        ensures { bytes_of result ≡ (view_of self.now).prime1 }
+    {
+        self.parts.numbers.prime1
+    }
+
+    /// The second prime q.
+    pub fn prime2(&self) -> UintRef<'a>
+        ensures { bytes_of result ≡ (view_of self.now).prime2 }
+    {
+        self.parts.numbers.prime2
+    }
+
+    /// The exponent of the first prime: d modulo p - 1.
+    pub fn exponent1(&self) -> UintRef<'a>
+        ensures { bytes_of result ≡ (view_of self.now).exponent1 }
+    {
+        self.parts.numbers.exponent1
+    }
+
+    /// The exponent of the second prime: d modulo q - 1.
+    pub fn exponent2(&self) -> UintRef<'a>
+        ensures { bytes_of result ≡ (view_of self.now).exponent2 }
+    {
+        self.parts.numbers.exponent2
+    }
+
+    /// The coefficient: the inverse of q modulo p.
+    pub fn coefficient(&self) -> UintRef<'a>
+        ensures { bytes_of result ≡ (view_of self.now).coefficient }
+    {
+        self.parts.numbers.coefficient
+    }
+
+    /// The public key.
+    pub fn public_key(&self) -> RsaPublicKeyRef<'a>
+        ensures { key_of result ≡ public_part (view_of self.now) }
+    {
+        RsaPublicKey {
+            modulus: self.modulus(),
+            public_exponent: self.public_exponent(),
+        }
     }
 
     /// The primes past the first two, in order.
@@ -180,16 +221,13 @@ impl<'a> TryFrom<&'a [u8]> for RsaPrivateKeyView<'a> {
     }
 }
 
-/// The primes past the first two.
-pub fn primes_of<'a>(
-    alloc: std::alloc::Global,
-    view: &RsaPrivateKeyView<'a>,
-) -> std::result::Result<Vec<UintRef<'a>>, std::alloc::AllocError>
-    ensures { IfOk result (λ primes. map bytes_of primes.items ≡ map (λ other. other.prime) (listed_others (view_of view.now).other_prime_infos)) }
-{
-    let mut primes = Vec::new(alloc);
-    for other in view.other_primes() {
-        primes.push(other.prime)?;
+impl fmt::Debug for RsaPrivateKeyView<'_> {
+    /// Prints the version, the modulus and the public exponent, and nothing that is secret.
+    fn fmt<W: fmt::Write>(&self, f: &mut fmt::Formatter<W>) -> fmt::Result {
+        f.debug_struct("RsaPrivateKeyView")
+            .field("version", &self.version())
+            .field("modulus", &self.modulus())
+            .field("public_exponent", &self.public_exponent())
+            .finish_non_exhaustive()
     }
-    Ok(primes)
 }

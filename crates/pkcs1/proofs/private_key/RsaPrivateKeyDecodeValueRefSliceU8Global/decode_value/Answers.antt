@@ -1,113 +1,23 @@
-use Rattle.std.proofs.Common.{refl, arith}
 use Rattle.std.proofs.lemmas.Result.{err_from_is_err_and}
-use Rattle.pkcs1.proofs.NumberReads.{gives_none, gives_more}
-use Rattle.pkcs1.proofs.KeyReads.{version_fails, key_number_fails, key_others_fail, key_given}
+use Rattle.pkcs1.specs.Asking.{BeginsSequence}
+use Rattle.pkcs1.specs.KeyNumbers.{numbers_of}
+use Rattle.pkcs1.proofs.KeyReads.{version_fails, key_numbers_fail, key_others_fail, key_given}
 use Rattle.pkcs1.proofs.private_key.RsaPrivateKeyDecodeValueRefSliceU8Global.decode_value.Goals as goal
 
 pub returns-in_err-version : goal.returns-in_err-version
 returns-in_err-version g c =
     let p = err_from_is_err_and c.from_residual.result c.from_residual.ensures.1 in
-    rw (p.1, p.2) (version_fails g.U.Text.text g.U.Text.delimited _ c.in_err-version.ensures)
+    rw (p.1, p.2) (version_fails g.U.Text.text g.U.Text.delimited g.U.Decode.asks BeginsSequence c.in_err-version.ensures)
 
-pub returns-in_err-modulus : goal.returns-in_err-modulus
-returns-in_err-modulus g c =
-    let p = err_from_is_err_and c.from_residual-in_err-modulus.result c.from_residual-in_err-modulus.ensures.1 in
-    let none = gives_none g.U.Text.text _ c.in_ok-version.ensures.3 in
-    rw (p.1, p.2) (key_number_fails g.U.Text.text g.U.Text.delimited _ c.in_ok-version.ensures (omega arith) none c.in_err-modulus.ensures)
-
-pub returns-in_err-public_exponent : goal.returns-in_err-public_exponent
-returns-in_err-public_exponent g c =
-    let p = err_from_is_err_and c.from_residual-in_err-public_exponent.result c.from_residual-in_err-public_exponent.ensures.1 in
-    let none = gives_none g.U.Text.text _ c.in_ok-version.ensures.3 in
-    let modulus = gives_more g.U.Text.text none c.in_ok-modulus.ensures in
-    rw (p.1, p.2) (key_number_fails g.U.Text.text g.U.Text.delimited _ c.in_ok-version.ensures (omega arith) modulus c.in_err-public_exponent.ensures)
-
-pub returns-in_err-private_exponent : goal.returns-in_err-private_exponent
-returns-in_err-private_exponent g c =
-    let p = err_from_is_err_and c.from_residual-in_err-private_exponent.result c.from_residual-in_err-private_exponent.ensures.1 in
-    let none = gives_none g.U.Text.text _ c.in_ok-version.ensures.3 in
-    let modulus = gives_more g.U.Text.text none c.in_ok-modulus.ensures in
-    let public_exponent = gives_more g.U.Text.text modulus c.in_ok-public_exponent.ensures in
-    rw (p.1, p.2) (key_number_fails g.U.Text.text g.U.Text.delimited _ c.in_ok-version.ensures (omega arith) public_exponent c.in_err-private_exponent.ensures)
-
-pub returns-in_err-prime1 : goal.returns-in_err-prime1
-returns-in_err-prime1 g c =
-    let p = err_from_is_err_and c.from_residual-in_err-prime1.result c.from_residual-in_err-prime1.ensures.1 in
-    let none = gives_none g.U.Text.text _ c.in_ok-version.ensures.3 in
-    let modulus = gives_more g.U.Text.text none c.in_ok-modulus.ensures in
-    let public_exponent = gives_more g.U.Text.text modulus c.in_ok-public_exponent.ensures in
-    let private_exponent = gives_more g.U.Text.text public_exponent c.in_ok-private_exponent.ensures in
-    rw (p.1, p.2) (key_number_fails g.U.Text.text g.U.Text.delimited _ c.in_ok-version.ensures (omega arith) private_exponent c.in_err-prime1.ensures)
-
-pub returns-in_err-prime2 : goal.returns-in_err-prime2
-returns-in_err-prime2 g c =
-    let p = err_from_is_err_and c.from_residual-in_err-prime2.result c.from_residual-in_err-prime2.ensures.1 in
-    let none = gives_none g.U.Text.text _ c.in_ok-version.ensures.3 in
-    let modulus = gives_more g.U.Text.text none c.in_ok-modulus.ensures in
-    let public_exponent = gives_more g.U.Text.text modulus c.in_ok-public_exponent.ensures in
-    let private_exponent = gives_more g.U.Text.text public_exponent c.in_ok-private_exponent.ensures in
-    let prime1 = gives_more g.U.Text.text private_exponent c.in_ok-prime1.ensures in
-    rw (p.1, p.2) (key_number_fails g.U.Text.text g.U.Text.delimited _ c.in_ok-version.ensures (omega arith) prime1 c.in_err-prime2.ensures)
-
-pub returns-in_err-exponent1 : goal.returns-in_err-exponent1
-returns-in_err-exponent1 g c =
-    let p = err_from_is_err_and c.from_residual-in_err-exponent1.result c.from_residual-in_err-exponent1.ensures.1 in
-    let none = gives_none g.U.Text.text _ c.in_ok-version.ensures.3 in
-    let modulus = gives_more g.U.Text.text none c.in_ok-modulus.ensures in
-    let public_exponent = gives_more g.U.Text.text modulus c.in_ok-public_exponent.ensures in
-    let private_exponent = gives_more g.U.Text.text public_exponent c.in_ok-private_exponent.ensures in
-    let prime1 = gives_more g.U.Text.text private_exponent c.in_ok-prime1.ensures in
-    let prime2 = gives_more g.U.Text.text prime1 c.in_ok-prime2.ensures in
-    rw (p.1, p.2) (key_number_fails g.U.Text.text g.U.Text.delimited _ c.in_ok-version.ensures (omega arith) prime2 c.in_err-exponent1.ensures)
-
-pub returns-in_err-exponent2 : goal.returns-in_err-exponent2
-returns-in_err-exponent2 g c =
-    let p = err_from_is_err_and c.from_residual-in_err-exponent2.result c.from_residual-in_err-exponent2.ensures.1 in
-    let none = gives_none g.U.Text.text _ c.in_ok-version.ensures.3 in
-    let modulus = gives_more g.U.Text.text none c.in_ok-modulus.ensures in
-    let public_exponent = gives_more g.U.Text.text modulus c.in_ok-public_exponent.ensures in
-    let private_exponent = gives_more g.U.Text.text public_exponent c.in_ok-private_exponent.ensures in
-    let prime1 = gives_more g.U.Text.text private_exponent c.in_ok-prime1.ensures in
-    let prime2 = gives_more g.U.Text.text prime1 c.in_ok-prime2.ensures in
-    let exponent1 = gives_more g.U.Text.text prime2 c.in_ok-exponent1.ensures in
-    rw (p.1, p.2) (key_number_fails g.U.Text.text g.U.Text.delimited _ c.in_ok-version.ensures (omega arith) exponent1 c.in_err-exponent2.ensures)
-
-pub returns-in_err-coefficient : goal.returns-in_err-coefficient
-returns-in_err-coefficient g c =
-    let p = err_from_is_err_and c.from_residual-in_err-coefficient.result c.from_residual-in_err-coefficient.ensures.1 in
-    let none = gives_none g.U.Text.text _ c.in_ok-version.ensures.3 in
-    let modulus = gives_more g.U.Text.text none c.in_ok-modulus.ensures in
-    let public_exponent = gives_more g.U.Text.text modulus c.in_ok-public_exponent.ensures in
-    let private_exponent = gives_more g.U.Text.text public_exponent c.in_ok-private_exponent.ensures in
-    let prime1 = gives_more g.U.Text.text private_exponent c.in_ok-prime1.ensures in
-    let prime2 = gives_more g.U.Text.text prime1 c.in_ok-prime2.ensures in
-    let exponent1 = gives_more g.U.Text.text prime2 c.in_ok-exponent1.ensures in
-    let exponent2 = gives_more g.U.Text.text exponent1 c.in_ok-exponent2.ensures in
-    rw (p.1, p.2) (key_number_fails g.U.Text.text g.U.Text.delimited _ c.in_ok-version.ensures (omega arith) exponent2 c.in_err-coefficient.ensures)
+pub returns-in_err-numbers : goal.returns-in_err-numbers
+returns-in_err-numbers g c =
+    let p = err_from_is_err_and c.from_residual-in_err-numbers.result c.from_residual-in_err-numbers.ensures.1 in
+    rw (p.1, p.2) (key_numbers_fail g.U.Text.text g.U.Text.delimited g.U.Decode.asks BeginsSequence c.in_ok-version.ensures c.in_err-numbers.ensures)
 
 pub returns-in_err-other_prime_infos : goal.returns-in_err-other_prime_infos
 returns-in_err-other_prime_infos g c =
     let p = err_from_is_err_and c.from_residual-in_err-other_prime_infos.result c.from_residual-in_err-other_prime_infos.ensures.1 in
-    let none = gives_none g.U.Text.text _ c.in_ok-version.ensures.3 in
-    let modulus = gives_more g.U.Text.text none c.in_ok-modulus.ensures in
-    let public_exponent = gives_more g.U.Text.text modulus c.in_ok-public_exponent.ensures in
-    let private_exponent = gives_more g.U.Text.text public_exponent c.in_ok-private_exponent.ensures in
-    let prime1 = gives_more g.U.Text.text private_exponent c.in_ok-prime1.ensures in
-    let prime2 = gives_more g.U.Text.text prime1 c.in_ok-prime2.ensures in
-    let exponent1 = gives_more g.U.Text.text prime2 c.in_ok-exponent1.ensures in
-    let exponent2 = gives_more g.U.Text.text exponent1 c.in_ok-exponent2.ensures in
-    let coefficient = gives_more g.U.Text.text exponent2 c.in_ok-coefficient.ensures in
-    rw (p.1, p.2) (key_others_fail g.U.Text.text g.U.Text.delimited _ c.in_ok-version.ensures refl coefficient c.in_err-other_prime_infos.ensures)
+    rw (p.1, p.2) (key_others_fail g.U.Text.text g.U.Text.delimited g.U.Decode.asks BeginsSequence (numbers_of g.U.Text.value c.in_ok-numbers.numbers) c.in_ok-version.ensures c.in_ok-numbers.ensures c.in_err-other_prime_infos.ensures)
 
 pub returns : goal.returns
-returns g c =
-    let none = gives_none g.U.Text.text _ c.in_ok-version.ensures.3 in
-    let modulus = gives_more g.U.Text.text none c.in_ok-modulus.ensures in
-    let public_exponent = gives_more g.U.Text.text modulus c.in_ok-public_exponent.ensures in
-    let private_exponent = gives_more g.U.Text.text public_exponent c.in_ok-private_exponent.ensures in
-    let prime1 = gives_more g.U.Text.text private_exponent c.in_ok-prime1.ensures in
-    let prime2 = gives_more g.U.Text.text prime1 c.in_ok-prime2.ensures in
-    let exponent1 = gives_more g.U.Text.text prime2 c.in_ok-exponent1.ensures in
-    let exponent2 = gives_more g.U.Text.text exponent1 c.in_ok-exponent2.ensures in
-    let coefficient = gives_more g.U.Text.text exponent2 c.in_ok-coefficient.ensures in
-    key_given g.U.Text.text g.U.Text.delimited (λ _. ⊥) _ c.in_ok-version.ensures coefficient c.in_ok-other_prime_infos.ensures
+returns g c = key_given g.U.Text.text g.U.Text.delimited g.U.Decode.asks BeginsSequence _ c.in_ok-version.ensures c.in_ok-numbers.ensures c.in_ok-other_prime_infos.ensures

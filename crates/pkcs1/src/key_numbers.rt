@@ -1,0 +1,45 @@
+//! The eight numbers of private keys.
+ghost use Rattle.der_core.specs.Reading.{ReadsText, AsksWithin};
+ghost use Rattle.pkcs1.specs.KeyNumbers.{EightNumbers, numbers_of};
+
+use der_core::{Decode, Memory, Reader, Result};
+
+/// The numbers of a private key, in the order of its text (RFC 8017 A.1.2).
+#[derive(Clone, Copy, Drop)]
+pub(crate) struct KeyNumbers<U> {
+    pub(crate) modulus: U,
+    pub(crate) public_exponent: U,
+    pub(crate) private_exponent: U,
+    pub(crate) prime1: U,
+    pub(crate) prime2: U,
+    pub(crate) exponent1: U,
+    pub(crate) exponent2: U,
+    pub(crate) coefficient: U,
+}
+
+/// Reads the eight numbers, one after another.
+pub(crate) fn read_key_numbers<'a, M: Memory, U: Decode<&'a [u8], M>, R: Reader<&'a [u8]>>(
+    memory: M,
+    reader: &mut R,
+) -> Result<KeyNumbers<U>>
+    ensures { ReadsText (numbers_of U.value) (EightNumbers U.text) (AsksWithin U.Decode.asks) result (R.left reader.old) (R.left reader.new) }
+{
+    let modulus = U::decode(memory, reader)?;
+    let public_exponent = U::decode(memory, reader)?;
+    let private_exponent = U::decode(memory, reader)?;
+    let prime1 = U::decode(memory, reader)?;
+    let prime2 = U::decode(memory, reader)?;
+    let exponent1 = U::decode(memory, reader)?;
+    let exponent2 = U::decode(memory, reader)?;
+    let coefficient = U::decode(memory, reader)?;
+    Ok(KeyNumbers {
+        modulus,
+        public_exponent,
+        private_exponent,
+        prime1,
+        prime2,
+        exponent1,
+        exponent2,
+        coefficient,
+    })
+}
