@@ -11,13 +11,14 @@ use Rattle.pkcs1.specs.Parameters.{RsaPssParams, pss_fields, RsaOaepParams, oaep
 use Rattle.pkcs1.proofs.PublicKeys.{public_delimited}
 use Rattle.pkcs1.proofs.PrivateKeys.{private_delimited}
 use Rattle.pkcs1.specs.ParameterLaws.{pss_delimited, oaep_delimited}
+use Rattle.pkcs8_core.specs.Laws.{info_delimited}
 use Rattle.pkcs1_tool.specs.declared.request.Word.{Word}
 use Rattle.pkcs1_tool.specs.declared.request.Word.TheVariants as word
 use Rattle.pkcs1_tool.specs.declared.request.PairWord.{PairWord}
 use Rattle.pkcs1_tool.specs.declared.request.PairWord.TheVariants as pair
 use Rattle.pkcs1_tool.specs.Request.{Asked, bad_line, asks, asks_pair, asked_by}
-use Rattle.pkcs1_tool.specs.Answer.{HasNone, HasSome, Answered, Tells, TellsParameters, SaysWhether, TellsStrict, TellsSame, WordAnswer, PairAnswer, AnswerTo, Answer, Answers}
-use Rattle.pkcs1_tool.specs.Told.{pub_answer, priv_answer, pss_answer, oaep_answer}
+use Rattle.pkcs1_tool.specs.Answer.{HasNone, HasSome, Answered, Tells, TellsParameters, SaysWhether, TellsStrict, TellsSame, RsaPrivateKeyInfo, TellsContainer, WordAnswer, PairAnswer, AnswerTo, Answer, Answers}
+use Rattle.pkcs1_tool.specs.Told.{pub_answer, priv_answer, p8_answer, pss_answer, oaep_answer}
 
 -- what is told of the one value is one
 answered_one : {V : Type 0} (Grammar : V → List ℕ → Type 0) (Told : V → List ℕ → Type 0) → MeansOne Grammar → ((value : V) → AtMostOne (Told value)) → (text : List ℕ)
@@ -75,11 +76,23 @@ pss_means_one v w text p q = means_one pss_delimited v w text p q
 oaep_means_one : MeansOne RsaOaepParams
 oaep_means_one v w text p q = means_one oaep_delimited v w text p q
 
+container_means_one : MeansOne RsaPrivateKeyInfo
+container_means_one v w text p q =
+    let info : v.info ≡ w.info = means_one info_delimited v.info w.info text p.0 q.0 in
+    let same : RsaPrivateKey v.key w.info.private_key = subst (λ i. RsaPrivateKey v.key i.private_key) info p.1.1.1 in
+    let key : v.key ≡ w.key = private_means_one v.key w.key w.info.private_key same q.1.1.1 in
+    λ i. record { info = info i; key = key i }
+
+tells_container_one : (text : List ℕ) → AtMostOne (TellsContainer text)
+tells_container_one text =
+    answered_one RsaPrivateKeyInfo (λ held a. a ≡ p8_answer held.key held.info.attributes text) container_means_one (λ held a b p q. p ∙ sym q) text
+
 word_answer_one : (asked : Word) (text : List ℕ) → AtMostOne (WordAnswer asked text)
 word_answer_one word.Pub text a b p q = tells_one RsaPublicKey pub_answer public_means_one text a b p q
 word_answer_one word.Priv text a b p q = tells_one RsaPrivateKey priv_answer private_means_one text a b p q
 word_answer_one word.Pss text a b p q = tells_parameters_one RsaPssParams pss_fields pss_answer pss_means_one text a b p q
 word_answer_one word.Oaep text a b p q = tells_parameters_one RsaOaepParams oaep_fields oaep_answer oaep_means_one text a b p q
+word_answer_one word.P8 text a b p q = tells_container_one text a b p q
 word_answer_one word.StrictPss text a b p q = tells_strict_one (codes "strict-pss") RsaPssParams pss_means_one text a b p q
 word_answer_one word.StrictOaep text a b p q = tells_strict_one (codes "strict-oaep") RsaOaepParams oaep_means_one text a b p q
 

@@ -2,15 +2,17 @@
 use Rattle.std.specs.Prelude.{◌≡◌, ℕ, ◌⊎◌, List, [], ◌∷◌, ◌++◌, codes}
 use Rattle.der_core.specs.Document.{Means, IsShortest, MeanTheSame}
 use Rattle.spki_core.specs.Explicit.{Field, HaveDefaults}
-use Rattle.pkcs1.specs.Keys.{RsaPublicKey, RsaPrivateKey}
+use Rattle.pkcs1.specs.Keys.{RsaPublicKey, PrivateKey, RsaPrivateKey}
 use Rattle.pkcs1.specs.Parameters.{RsaPssParams, pss_fields, RsaOaepParams, oaep_fields}
+use Rattle.pkcs8_core.specs.Container.{Info, PrivateKeyInfo}
+use Rattle.pkcs8_core.specs.Rsa.{HoldsRsa}
 use Rattle.pkcs1_tool.specs.Lines.{lines_of}
 use Rattle.pkcs1_tool.specs.declared.request.Word.{Word}
 use Rattle.pkcs1_tool.specs.declared.request.Word.TheVariants as word
 use Rattle.pkcs1_tool.specs.declared.request.PairWord.{PairWord}
 use Rattle.pkcs1_tool.specs.declared.request.PairWord.TheVariants as pair
 use Rattle.pkcs1_tool.specs.Request.{Asked, bad_line, asks, asks_pair, asked_by}
-use Rattle.pkcs1_tool.specs.Told.{pub_answer, priv_answer, pss_answer, oaep_answer}
+use Rattle.pkcs1_tool.specs.Told.{pub_answer, priv_answer, p8_answer, pss_answer, oaep_answer}
 
 -- some value has the text, or none has
 abbrev pub HasSome : {V : Type 0} → (V → List ℕ → Type 0) → List ℕ → Type 0
@@ -45,12 +47,25 @@ abbrev pub TellsSame : {V : Type 0} → List ℕ → (V → List ℕ → Type 0)
 TellsSame word Grammar a b answer =
     ((HasNone Grammar a ⊎ HasNone Grammar b) × (answer ≡ codes "refused")) ⊎ (HasSome Grammar a × HasSome Grammar b × SaysWhether word (MeanTheSame Grammar a b) answer)
 
+-- a container of private keys, with the RSA key that it holds
+pub record RsaContainer : Type 0 where
+  pub info : Info
+  pub key : PrivateKey (List ℕ)
+
+abbrev pub RsaPrivateKeyInfo : RsaContainer → List ℕ → Type 0
+RsaPrivateKeyInfo held text = PrivateKeyInfo held.info text × HoldsRsa held.info held.key
+
+-- the RSA key in the container is told, and the container's attributes and text
+abbrev pub TellsContainer : List ℕ → List ℕ → Type 0
+TellsContainer text answer = Answered RsaPrivateKeyInfo (λ held a. a ≡ p8_answer held.key held.info.attributes text) text answer
+
 -- the answers to a word with a text
 abbrev pub WordAnswer : Word → List ℕ → List ℕ → Type 0
 WordAnswer word.Pub text answer = Tells RsaPublicKey pub_answer text answer
 WordAnswer word.Priv text answer = Tells RsaPrivateKey priv_answer text answer
 WordAnswer word.Pss text answer = TellsParameters RsaPssParams pss_fields pss_answer text answer
 WordAnswer word.Oaep text answer = TellsParameters RsaOaepParams oaep_fields oaep_answer text answer
+WordAnswer word.P8 text answer = TellsContainer text answer
 WordAnswer word.StrictPss text answer = TellsStrict (codes "strict-pss") RsaPssParams text answer
 WordAnswer word.StrictOaep text answer = TellsStrict (codes "strict-oaep") RsaOaepParams text answer
 

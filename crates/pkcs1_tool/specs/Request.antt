@@ -20,6 +20,7 @@ words =
     ∷ (codes "priv", word.Priv)
     ∷ (codes "pss", word.Pss)
     ∷ (codes "oaep", word.Oaep)
+    ∷ (codes "p8", word.P8)
     ∷ (codes "strict-pss", word.StrictPss)
     ∷ (codes "strict-oaep", word.StrictOaep)
     ∷ []

@@ -48,10 +48,22 @@ abbrev pub others_told : Option (List (OtherPrime (List ℕ))) → List ℕ
 others_told None = []
 others_told (Some others) = flat_map other_told others
 
+-- ` version=V n=N e=E d=D p=P q=Q dp=DP dq=DQ qi=QI`, and ` other=R,D,T` for each other prime
+abbrev pub key_told : PrivateKey (List ℕ) → List ℕ
+key_told key = version_told key.other_prime_infos ++ (numbers_told key ++ others_told key.other_prime_infos)
+
 -- `priv version=V n=N e=E d=D p=P q=Q dp=DP dq=DQ qi=QI`, ` other=R,D,T` for each other prime, and ` again=HEX`
 abbrev pub priv_answer : PrivateKey (List ℕ) → List ℕ → List ℕ
-priv_answer key again =
-    codes "priv" ++ (version_told key.other_prime_infos ++ (numbers_told key ++ (others_told key.other_prime_infos ++ field (codes " again=") again)))
+priv_answer key again = codes "priv" ++ (key_told key ++ field (codes " again=") again)
+
+-- ` attributes=-`, or ` attributes=` and their contents
+abbrev pub attributes_told : Option (List ℕ) → List ℕ
+attributes_told None = codes " attributes=-"
+attributes_told (Some contents) = field (codes " attributes=") contents
+
+-- as `priv`, with the word `p8`, and with the attributes before ` again=HEX`
+abbrev pub p8_answer : PrivateKey (List ℕ) → Option (List ℕ) → List ℕ → List ℕ
+p8_answer key attributes again = codes "p8" ++ (key_told key ++ (attributes_told attributes ++ field (codes " again=") again))
 
 -- a label, and a number in decimal digits
 abbrev pub number_field : List ℕ → ℕ → List ℕ

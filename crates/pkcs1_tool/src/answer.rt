@@ -3,7 +3,7 @@ ghost use Rattle.std.specs.Prelude.{◌≡◌, ℕ, List, ◌++◌, OnOk};
 ghost use Rattle.pkcs1_tool.specs.Answer.{WordAnswer, PairAnswer};
 ghost use Rattle.pkcs1_tool.specs.Written.{PutsAnswer};
 
-use crate::keys::{answer_priv, answer_pub};
+use crate::keys::{answer_p8, answer_priv, answer_pub};
 use crate::parameter_answers::{answer_parameters, answer_same, answer_strict};
 use crate::request::{PairWord, Request, Word, request_of};
 use pkcs1::{RsaOaepParamsRef, RsaPssParamsRef};
@@ -15,9 +15,10 @@ fn answer_word(alloc: Global, word: Word, text: &[u8], out: &mut Vec<u8>) -> Res
 {
     match word {
         Word::Pub => answer_pub(alloc, text, out),
-        Word::Priv => answer_priv(alloc, text, out),
+        Word::Priv => answer_priv(text, out),
         Word::Pss => answer_parameters::<RsaPssParamsRef<'_>>(alloc, text, out),
         Word::Oaep => answer_parameters::<RsaOaepParamsRef<'_>>(alloc, text, out),
+        Word::P8 => answer_p8(text, out),
         Word::StrictPss => answer_strict::<RsaPssParamsRef<'_>>(b"strict-pss", text, out),
         Word::StrictOaep => answer_strict::<RsaOaepParamsRef<'_>>(b"strict-oaep", text, out),
     }

@@ -15,6 +15,7 @@ pub enum Word {
     Priv,
     Pss,
     Oaep,
+    P8,
     StrictPss,
     StrictOaep,
 }
@@ -35,11 +36,12 @@ pub enum Request {
 }
 
 // The words of lines with one HEX part.
-const WORDS: [(&[u8], Word); 6] = [
+const WORDS: [(&[u8], Word); 7] = [
     (b"pub", Word::Pub),
     (b"priv", Word::Priv),
     (b"pss", Word::Pss),
     (b"oaep", Word::Oaep),
+    (b"p8", Word::P8),
     (b"strict-pss", Word::StrictPss),
     (b"strict-oaep", Word::StrictOaep),
 ];

@@ -1,10 +1,11 @@
-use Rattle.std.proofs.Common.{◌≡◌, ◌++◌, take}
+use Rattle.std.proofs.Common.{◌≡◌, ◌++◌}
 use Rattle.std.specs.List.{flat_map}
-use Rattle.der_core.specs.UintRefs.{bytes_of}
-use Rattle.pkcs1.specs.PrivateKeys.{other_of}
+use Rattle.pkcs1.specs.OtherPrimesLeft.{others_left}
+use Rattle.pkcs1.specs.ViewParts.{view_of, listed_others}
 use Rattle.pkcs1_tool.specs.Told.{other_told}
 use Rattle.pkcs1_tool.proofs.keys.put_others.Given as goal
 
--- so many of the primes were put
-abbrev pub invariant-loop-info : goal.invariant-loop-info
-invariant-loop-info l = l.out.items ≡ l.fn.out.items ++ flat_map (λ info. other_told (other_of bytes_of info)) (take l.info-index l.info-items)
+-- what was put, and what is left, are the primes
+abbrev pub invariant-loop-other : goal.invariant-loop-other
+invariant-loop-other l =
+    l.out.items ++ flat_map other_told (others_left l.other-iterator) ≡ l.fn.out.items ++ flat_map other_told (listed_others (view_of l.key).other_prime_infos)
