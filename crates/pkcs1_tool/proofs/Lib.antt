@@ -3,4 +3,4 @@ pub mod Requests
 pub mod Only
 pub mod Runs
 pub mod Put
-pub mod Refused
+pub mod Verdicts

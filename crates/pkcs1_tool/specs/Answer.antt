@@ -1,136 +1,83 @@
 -- The answers.
-use Rattle.std.specs.Prelude.{◌≡◌, ℕ, ◌⊎◌, List, [], ◌∷◌, ◌++◌, Option, Some, None, codes}
-use Rattle.std.specs.List.{flat_map}
-use Rattle.std.specs.Fmt.{decimal}
-use Rattle.hex.specs.Hex.{encode_lower}
-use Rattle.der_core.specs.Document.{Means, IsShortest}
-use Rattle.spki_core.specs.Any.{TagAndContents}
-use Rattle.spki_core.specs.AlgorithmIdentifier.{Algorithm}
+use Rattle.std.specs.Prelude.{◌≡◌, ℕ, ◌⊎◌, List, [], ◌∷◌, ◌++◌, codes}
+use Rattle.der_core.specs.Document.{Means, IsShortest, MeanTheSame}
 use Rattle.spki_core.specs.Explicit.{Field, HaveDefaults}
-use Rattle.pkcs1.specs.Keys.{PublicKey, RsaPublicKey, OtherPrime, PrivateKey, RsaPrivateKey}
-use Rattle.pkcs1.specs.Parameters.{PssParameters, RsaPssParams, pss_fields, OaepParameters, RsaOaepParams, oaep_fields}
+use Rattle.pkcs1.specs.Keys.{RsaPublicKey, PrivateKey, RsaPrivateKey}
+use Rattle.pkcs1.specs.Parameters.{RsaPssParams, pss_fields, RsaOaepParams, oaep_fields}
+use Rattle.pkcs8_core.specs.Container.{Info, PrivateKeyInfo}
+use Rattle.pkcs8_core.specs.Rsa.{HoldsRsa}
 use Rattle.pkcs1_tool.specs.Lines.{lines_of}
-use Rattle.pkcs1_tool.specs.Request.{Asked, bad_line, asks_pub, asks_priv, asks_pss, asks_oaep, asked_by}
+use Rattle.pkcs1_tool.specs.declared.request.Word.{Word}
+use Rattle.pkcs1_tool.specs.declared.request.Word.TheVariants as word
+use Rattle.pkcs1_tool.specs.declared.request.PairWord.{PairWord}
+use Rattle.pkcs1_tool.specs.declared.request.PairWord.TheVariants as pair
+use Rattle.pkcs1_tool.specs.Request.{Asked, bad_line, asks, asks_pair, asked_by}
+use Rattle.pkcs1_tool.specs.Told.{pub_answer, priv_answer, p8_answer, pss_answer, oaep_answer}
 
--- no value has the text
+-- some value has the text, or none has
+abbrev pub HasSome : {V : Type 0} → (V → List ℕ → Type 0) → List ℕ → Type 0
+HasSome {V} Grammar text = (value : V) × Means Grammar text value
+
 abbrev pub HasNone : {V : Type 0} → (V → List ℕ → Type 0) → List ℕ → Type 0
 HasNone {V} Grammar text = (value : V) → Means Grammar text value → ⊥
 
--- Where no value has the text, the answer is `refused`. Otherwise it tells the value, and the value's shortest text.
+-- Where no value has the text, the answer is `refused`. Otherwise it is what is told of the value.
+abbrev pub Answered : {V : Type 0} → (V → List ℕ → Type 0) → (V → List ℕ → Type 0) → List ℕ → List ℕ → Type 0
+Answered {V} Grammar Told text answer = (HasNone Grammar text × (answer ≡ codes "refused")) ⊎ ((value : V) × Means Grammar text value × Told value answer)
+
+-- the value is told, and the value's shortest text
 abbrev pub Tells : {V : Type 0} → (V → List ℕ → Type 0) → (V → List ℕ → List ℕ) → List ℕ → List ℕ → Type 0
-Tells {V} Grammar told text answer = (HasNone Grammar text × (answer ≡ codes "refused"))
-    ⊎ ((value : V) × Means Grammar text value × (again : List ℕ) × IsShortest Grammar value again × (answer ≡ told value again))
+Tells Grammar told text answer = Answered Grammar (λ value a. (again : List ℕ) × IsShortest Grammar value again × (a ≡ told value again)) text answer
 
--- Where no value has the text, the answer is `refused`. Otherwise it tells the value, how many of its fields have their
--- defaults, and the value's shortest text.
+-- the value is told, how many of its fields have their defaults, and the value's shortest text
 abbrev pub TellsParameters : {V : Type 0} → (V → List ℕ → Type 0) → (V → List Field) → (V → ℕ → List ℕ → List ℕ) → List ℕ → List ℕ → Type 0
-TellsParameters {V} Grammar fields told text answer = (HasNone Grammar text × (answer ≡ codes "refused"))
-    ⊎ ((value : V) × Means Grammar text value × (k : ℕ) × HaveDefaults (fields value) k
-    × (again : List ℕ) × IsShortest Grammar value again × (answer ≡ told value k again))
+TellsParameters Grammar fields told text answer =
+    Answered Grammar (λ value a. (k : ℕ) × HaveDefaults (fields value) k × (again : List ℕ) × IsShortest Grammar value again × (a ≡ told value k again)) text answer
 
--- a label, and bytes in hexadecimal digits
-abbrev pub field : List ℕ → List ℕ → List ℕ
-field label bytes = label ++ encode_lower bytes
+-- the word and ` yes` where the fact holds, and else the word and ` no`
+abbrev pub SaysWhether : List ℕ → Type 0 → List ℕ → Type 0
+SaysWhether word fact answer = (fact × (answer ≡ word ++ codes " yes")) ⊎ ((fact → ⊥) × (answer ≡ word ++ codes " no"))
 
-abbrev pub fields : List (List ℕ × List ℕ) → List ℕ
-fields told = flat_map (λ f. field f.0 f.1) told
+-- whether the text is the shortest of its value
+abbrev pub TellsStrict : {V : Type 0} → List ℕ → (V → List ℕ → Type 0) → List ℕ → List ℕ → Type 0
+TellsStrict word Grammar text answer = Answered Grammar (λ value a. SaysWhether word (IsShortest Grammar value text) a) text answer
 
--- `pub n=N e=E again=HEX`
-abbrev pub pub_answer : PublicKey (List ℕ) → List ℕ → List ℕ
-pub_answer key again =
-    codes "pub" ++ (fields ((codes " n=", key.modulus) ∷ (codes " e=", key.public_exponent) ∷ []) ++ field (codes " again=") again)
+-- Where no value has one of the texts, the answer is `refused`. Otherwise it says whether some value has both.
+abbrev pub TellsSame : {V : Type 0} → List ℕ → (V → List ℕ → Type 0) → List ℕ → List ℕ → List ℕ → Type 0
+TellsSame word Grammar a b answer =
+    ((HasNone Grammar a ⊎ HasNone Grammar b) × (answer ≡ codes "refused")) ⊎ (HasSome Grammar a × HasSome Grammar b × SaysWhether word (MeanTheSame Grammar a b) answer)
 
--- the version is 1 where there are other primes
-abbrev pub version_told : Option (List (OtherPrime (List ℕ))) → List ℕ
-version_told None = codes " version=0"
-version_told (Some others) = codes " version=1"
+-- a container of private keys, with the RSA key that it holds
+pub record RsaContainer : Type 0 where
+  pub info : Info
+  pub key : PrivateKey (List ℕ)
 
--- ` n=N e=E d=D p=P q=Q dp=DP dq=DQ qi=QI`
-abbrev pub numbers_told : PrivateKey (List ℕ) → List ℕ
-numbers_told key =
-    fields
-    ((codes " n=", key.modulus)
-    ∷ (codes " e=", key.public_exponent)
-    ∷ (codes " d=", key.private_exponent)
-    ∷ (codes " p=", key.prime1)
-    ∷ (codes " q=", key.prime2)
-    ∷ (codes " dp=", key.exponent1)
-    ∷ (codes " dq=", key.exponent2)
-    ∷ (codes " qi=", key.coefficient)
-    ∷ [])
+abbrev pub RsaPrivateKeyInfo : RsaContainer → List ℕ → Type 0
+RsaPrivateKeyInfo held text = PrivateKeyInfo held.info text × HoldsRsa held.info held.key
 
--- ` other=R,D,T`
-abbrev pub other_told : OtherPrime (List ℕ) → List ℕ
-other_told other = fields ((codes " other=", other.prime) ∷ (codes ",", other.exponent) ∷ (codes ",", other.coefficient) ∷ [])
+-- the RSA key in the container is told, and the container's attributes and text
+abbrev pub TellsContainer : List ℕ → List ℕ → Type 0
+TellsContainer text answer = Answered RsaPrivateKeyInfo (λ held a. a ≡ p8_answer held.key held.info.attributes text) text answer
 
--- each other prime, in order
-abbrev pub others_told : Option (List (OtherPrime (List ℕ))) → List ℕ
-others_told None = []
-others_told (Some others) = flat_map other_told others
+-- the answers to a word with a text
+abbrev pub WordAnswer : Word → List ℕ → List ℕ → Type 0
+WordAnswer word.Pub text answer = Tells RsaPublicKey pub_answer text answer
+WordAnswer word.Priv text answer = Tells RsaPrivateKey priv_answer text answer
+WordAnswer word.Pss text answer = TellsParameters RsaPssParams pss_fields pss_answer text answer
+WordAnswer word.Oaep text answer = TellsParameters RsaOaepParams oaep_fields oaep_answer text answer
+WordAnswer word.P8 text answer = TellsContainer text answer
+WordAnswer word.StrictPss text answer = TellsStrict (codes "strict-pss") RsaPssParams text answer
+WordAnswer word.StrictOaep text answer = TellsStrict (codes "strict-oaep") RsaOaepParams text answer
 
--- `priv version=V n=N e=E d=D p=P q=Q dp=DP dq=DQ qi=QI`, ` other=R,D,T` for each other prime, and ` again=HEX`
-abbrev pub priv_answer : PrivateKey (List ℕ) → List ℕ → List ℕ
-priv_answer key again =
-    codes "priv" ++ (version_told key.other_prime_infos ++ (numbers_told key ++ (others_told key.other_prime_infos ++ field (codes " again=") again)))
-
--- a label, and a number in decimal digits
-abbrev pub number_field : List ℕ → ℕ → List ℕ
-number_field label number = label ++ decimal number
-
--- a tag in two hexadecimal digits, `:`, and the contents in hexadecimal digits
-abbrev pub any_told : TagAndContents → List ℕ
-any_told any = encode_lower (any.tag ∷ []) ++ field (codes ":") any.contents
-
--- `-` where parameters are absent, else what is told of them
-abbrev pub parameters_told : {P : Type 0} → (P → List ℕ) → Option P → List ℕ
-parameters_told told None = codes "-"
-parameters_told told (Some parameters) = told parameters
-
--- the contents of an identifier in hexadecimal digits, and `/`
-abbrev pub identifier_told : List ℕ → List ℕ
-identifier_told oid = encode_lower oid ++ codes "/"
-
-abbrev pub algorithm_told : {P : Type 0} → (P → List ℕ) → Algorithm P → List ℕ
-algorithm_told told algorithm = identifier_told algorithm.oid ++ parameters_told told algorithm.parameters
-
--- ALG: an algorithm whose parameters are any text
-abbrev pub plain_told : Algorithm TagAndContents → List ℕ
-plain_told algorithm = algorithm_told any_told algorithm
-
--- `[` ALG `]`
-abbrev pub bracketed : Algorithm TagAndContents → List ℕ
-bracketed algorithm = codes "[" ++ (plain_told algorithm ++ codes "]")
-
--- MASK: an algorithm whose parameters are one
-abbrev pub mask_told : Algorithm (Algorithm TagAndContents) → List ℕ
-mask_told mask_gen = algorithm_told bracketed mask_gen
-
--- ` hash=ALG mask=MASK`
-abbrev pub digest_told : Algorithm TagAndContents → Algorithm (Algorithm TagAndContents) → List ℕ
-digest_told hash mask_gen = codes " hash=" ++ (plain_told hash ++ (codes " mask=" ++ mask_told mask_gen))
-
--- ` defaults=K again=HEX`
-abbrev pub spelling_told : ℕ → List ℕ → List ℕ
-spelling_told k again = number_field (codes " defaults=") k ++ field (codes " again=") again
-
--- `pss hash=ALG mask=MASK salt=S trailer=T defaults=K again=HEX`; T is 1 wherever there is a text
-abbrev pub pss_answer : PssParameters → ℕ → List ℕ → List ℕ
-pss_answer p k again =
-    codes "pss"
-    ++ (digest_told p.hash p.mask_gen
-    ++ (number_field (codes " salt=") p.salt_len ++ (number_field (codes " trailer=") p.trailer_field ++ spelling_told k again)))
-
--- `oaep hash=ALG mask=MASK source=ALG defaults=K again=HEX`
-abbrev pub oaep_answer : OaepParameters → ℕ → List ℕ → List ℕ
-oaep_answer p k again =
-    codes "oaep" ++ (digest_told p.hash p.mask_gen ++ (codes " source=" ++ (plain_told p.p_source ++ spelling_told k again)))
+-- the answers to a word with two texts
+abbrev pub PairAnswer : PairWord → List ℕ → List ℕ → List ℕ → Type 0
+PairAnswer pair.SamePss a b answer = TellsSame (codes "same-pss") RsaPssParams a b answer
+PairAnswer pair.SameOaep a b answer = TellsSame (codes "same-oaep") RsaOaepParams a b answer
 
 abbrev pub AnswerTo : Asked → List ℕ → Type 0
 AnswerTo bad_line answer = answer ≡ codes "bad line"
-AnswerTo (asks_pub text) answer = Tells RsaPublicKey pub_answer text answer
-AnswerTo (asks_priv text) answer = Tells RsaPrivateKey priv_answer text answer
-AnswerTo (asks_pss text) answer = TellsParameters RsaPssParams pss_fields pss_answer text answer
-AnswerTo (asks_oaep text) answer = TellsParameters RsaOaepParams oaep_fields oaep_answer text answer
+AnswerTo (asks word text) answer = WordAnswer word text answer
+AnswerTo (asks_pair word a b) answer = PairAnswer word a b answer
 
 -- the answer of a line
 abbrev pub Answer : List ℕ → List ℕ → Type 0

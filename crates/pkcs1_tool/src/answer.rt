@@ -1,175 +1,45 @@
 //! The answer of a line.
-ghost use Rattle.std.specs.Prelude.{◌≡◌, ◌↔◌, ℕ, List, ◌++◌, ◌≤◌, length, IsTrue, OnOk};
-ghost use Rattle.std.specs.List.{flat_map};
-ghost use Rattle.der_core.specs.Document.{Means, IsShortest};
-ghost use Rattle.der_core.specs.UintRefs.{bytes_of};
-ghost use Rattle.pkcs1.specs.Keys.{RsaPublicKey, RsaPrivateKey};
-ghost use Rattle.pkcs1.specs.PublicKeys.{key_of};
-ghost use Rattle.pkcs1.specs.PrivateKeys.{other_of, others_of, private_key_of};
-ghost use Rattle.pkcs1_tool.specs.Answer.{AnswerTo, Tells, field, pub_answer, priv_answer, numbers_told, other_told, others_told, version_told};
-ghost use Rattle.pkcs1_tool.specs.Refused.{WantsMemory};
+ghost use Rattle.std.specs.Prelude.{◌≡◌, ℕ, List, ◌++◌, OnOk};
+ghost use Rattle.pkcs1_tool.specs.Answer.{WordAnswer, PairAnswer};
 ghost use Rattle.pkcs1_tool.specs.Written.{PutsAnswer};
 
-use crate::digits::put_field;
-use crate::parameters::{answer_oaep, answer_pss};
-use crate::request::{Request, request_of};
-use der_core::ErrorKind;
-use pkcs1::{
-    Error, OtherPrimeInfo, OtherPrimeInfos, RsaPrivateKeyRef, RsaPublicKeyRef, UintRef, Version,
-};
+use crate::keys::{answer_p8, answer_priv, answer_pub};
+use crate::parameter_answers::{answer_parameters, answer_same, answer_strict};
+use crate::request::{PairWord, Request, Word, request_of};
+use pkcs1::{RsaOaepParamsRef, RsaPssParamsRef};
 use std::alloc::{AllocError, Global};
 
-// Puts each number behind `out`, after its label.
-fn put_numbers(numbers: &[(&[u8], UintRef<'_>)], out: &mut Vec<u8>) -> Result<(), AllocError>
-    ensures { OnOk result (out.new.items ≡ out.old.items ++ flat_map (λ n. field n.0.now (bytes_of n.1)) numbers.now) }
+// Puts the answer to a word with a text behind `out`.
+fn answer_word(alloc: Global, word: Word, text: &[u8], out: &mut Vec<u8>) -> Result<(), AllocError>
+    ensures { OnOk result ((answer : List ℕ) × WordAnswer word text.now answer × (out.new.items ≡ out.old.items ++ answer)) }
 {
-    for (label, number) in numbers {
-        put_field(label, number.as_bytes(), out)?;
-    }
-    Ok(())
-}
-
-// The shortest text of the key, in the buffer.
-fn shortest_public<'b>(text: &[u8], key: &RsaPublicKeyRef<'_>, buffer: &'b mut [u8]) -> &'b [u8]
-    requires means { Means RsaPublicKey text.now (key_of key.now) }
-    requires room { length text.now ≤ length buffer.old }
-    ensures { IsShortest RsaPublicKey (key_of key.now) result.now }
-{
-    match key.encode_key(buffer) {
-        Ok(length) => &buffer[..length],
-        Err(_) => unreachable!(),
+    match word {
+        Word::Pub => answer_pub(alloc, text, out),
+        Word::Priv => answer_priv(text, out),
+        Word::Pss => answer_parameters::<RsaPssParamsRef<'_>>(alloc, text, out),
+        Word::Oaep => answer_parameters::<RsaOaepParamsRef<'_>>(alloc, text, out),
+        Word::P8 => answer_p8(text, out),
+        Word::StrictPss => answer_strict::<RsaPssParamsRef<'_>>(b"strict-pss", text, out),
+        Word::StrictOaep => answer_strict::<RsaOaepParamsRef<'_>>(b"strict-oaep", text, out),
     }
 }
 
-// Puts the answer of a public key with its text again behind `out`.
-fn put_pub(key: &RsaPublicKeyRef<'_>, again: &[u8], out: &mut Vec<u8>) -> Result<(), AllocError>
-    ensures { OnOk result (out.new.items ≡ out.old.items ++ pub_answer (key_of key.now) again.now) }
-{
-    out.extend_from_slice(b"pub")?;
-    put_numbers(&[(b" n=", key.modulus), (b" e=", key.public_exponent)], out)?;
-    put_field(b" again=", again, out)
-}
-
-// Puts the answer of `pub` behind `out`.
-fn answer_pub(alloc: Global, text: &[u8], out: &mut Vec<u8>) -> Result<(), AllocError>
-    ensures { OnOk result ((answer : List ℕ) × Tells RsaPublicKey pub_answer text.now answer × (out.new.items ≡ out.old.items ++ answer)) }
-{
-    match RsaPublicKeyRef::try_from(text) {
-        Ok(key) => {
-            let mut buffer = vec![in alloc; 0u8; text.len()]?;
-            let again = shortest_public(text, &key, buffer.as_mut_slice());
-            put_pub(&key, again, out)
-        }
-        Err(_) => out.extend_from_slice(b"refused"),
-    }
-}
-
-// The shortest text of the key, in the buffer.
-fn shortest_private<'b>(text: &[u8], key: &RsaPrivateKeyRef<'_>, buffer: &'b mut [u8]) -> &'b [u8]
-    requires means { Means RsaPrivateKey text.now (private_key_of key.now) }
-    requires room { length text.now ≤ length buffer.old }
-    ensures { IsShortest RsaPrivateKey (private_key_of key.now) result.now }
-{
-    match key.encode_key(buffer) {
-        Ok(length) => &buffer[..length],
-        Err(_) => unreachable!(),
-    }
-}
-
-// Puts the version of a private key behind `out`.
-fn put_version(key: &RsaPrivateKeyRef<'_>, out: &mut Vec<u8>) -> Result<(), AllocError>
-    ensures { OnOk result (out.new.items ≡ out.old.items ++ version_told (private_key_of key.now).other_prime_infos) }
-{
-    match key.version() {
-        Version::TwoPrime => out.extend_from_slice(b" version=0"),
-        Version::Multi => out.extend_from_slice(b" version=1"),
-    }
-}
-
-// Puts the eight numbers of a private key behind `out`.
-fn put_private_numbers(key: &RsaPrivateKeyRef<'_>, out: &mut Vec<u8>) -> Result<(), AllocError>
-    ensures { OnOk result (out.new.items ≡ out.old.items ++ numbers_told (private_key_of key.now)) }
-{
-    put_numbers(
-        &[
-            (b" n=", key.modulus),
-            (b" e=", key.public_exponent),
-            (b" d=", key.private_exponent),
-            (b" p=", key.prime1),
-            (b" q=", key.prime2),
-            (b" dp=", key.exponent1),
-            (b" dq=", key.exponent2),
-            (b" qi=", key.coefficient),
-        ],
-        out,
-    )
-}
-
-// Puts one of the other primes behind `out`.
-fn put_other(other: &OtherPrimeInfo<UintRef<'_>>, out: &mut Vec<u8>) -> Result<(), AllocError>
-    ensures { OnOk result (out.new.items ≡ out.old.items ++ other_told (other_of bytes_of other.now)) }
-{
-    put_numbers(
-        &[
-            (b" other=", other.prime),
-            (b",", other.exponent),
-            (b",", other.coefficient),
-        ],
-        out,
-    )
-}
-
-// Puts the other primes behind `out`, in order.
-fn put_others(
-    others: &Option<OtherPrimeInfos<UintRef<'_>>>,
+// Puts the answer to a word with two texts behind `out`.
+fn answer_pair(
+    alloc: Global,
+    word: PairWord,
+    first: &[u8],
+    second: &[u8],
     out: &mut Vec<u8>,
 ) -> Result<(), AllocError>
-    ensures { OnOk result (out.new.items ≡ out.old.items ++ others_told (others_of bytes_of others.now)) }
+    ensures { OnOk result ((answer : List ℕ) × PairAnswer word first.now second.now answer × (out.new.items ≡ out.old.items ++ answer)) }
 {
-    if let Some(infos) = others {
-        for info in infos {
-            put_other(info, out)?;
+    match word {
+        PairWord::SamePss => {
+            answer_same::<RsaPssParamsRef<'_>>(alloc, b"same-pss", first, second, out)
         }
-    }
-    Ok(())
-}
-
-// Puts the answer of a private key with its text again behind `out`.
-fn put_priv(key: &RsaPrivateKeyRef<'_>, again: &[u8], out: &mut Vec<u8>) -> Result<(), AllocError>
-    ensures { OnOk result (out.new.items ≡ out.old.items ++ priv_answer (private_key_of key.now) again.now) }
-{
-    out.extend_from_slice(b"priv")?;
-    put_version(key, out)?;
-    put_private_numbers(key, out)?;
-    put_others(&key.other_prime_infos, out)?;
-    put_field(b" again=", again, out)
-}
-
-// Whether the refusal is want of memory.
-fn wants_memory(error: &Error) -> bool
-    ensures { IsTrue result ↔ WantsMemory error.now }
-{
-    match error {
-        Error::Asn1(error) => error.kind == ErrorKind::OutOfMemory,
-        _ => false,
-    }
-}
-
-// Puts the answer of `priv` behind `out`.
-fn answer_priv(alloc: Global, text: &[u8], out: &mut Vec<u8>) -> Result<(), AllocError>
-    ensures { OnOk result ((answer : List ℕ) × Tells RsaPrivateKey priv_answer text.now answer × (out.new.items ≡ out.old.items ++ answer)) }
-{
-    match RsaPrivateKeyRef::decode_key(alloc, text) {
-        Ok(key) => {
-            let mut buffer = vec![in alloc; 0u8; text.len()]?;
-            let again = shortest_private(text, &key, buffer.as_mut_slice());
-            put_priv(&key, again, out)
-        }
-        Err(error) => {
-            if wants_memory(&error) {
-                return Err(AllocError);
-            }
-            out.extend_from_slice(b"refused")
+        PairWord::SameOaep => {
+            answer_same::<RsaOaepParamsRef<'_>>(alloc, b"same-oaep", first, second, out)
         }
     }
 }
@@ -180,9 +50,9 @@ pub fn answer_line(alloc: Global, line: &[u8], out: &mut Vec<u8>) -> Result<(), 
 {
     match request_of(alloc, line)? {
         Request::BadLine => out.extend_from_slice(b"bad line"),
-        Request::Pub(text) => answer_pub(alloc, text.as_slice(), out),
-        Request::Priv(text) => answer_priv(alloc, text.as_slice(), out),
-        Request::Pss(text) => answer_pss(alloc, text.as_slice(), out),
-        Request::Oaep(text) => answer_oaep(alloc, text.as_slice(), out),
+        Request::Word(word, text) => answer_word(alloc, word, text.as_slice(), out),
+        Request::Pair(word, first, second) => {
+            answer_pair(alloc, word, first.as_slice(), second.as_slice(), out)
+        }
     }
 }

@@ -1,7 +1,7 @@
 //! Bytes and numbers in digits.
 ghost use Rattle.std.specs.Prelude.{◌≡◌, ◌++◌, OnOk};
 ghost use Rattle.hex.specs.Hex.{encode_lower};
-ghost use Rattle.pkcs1_tool.specs.Answer.{field, number_field};
+ghost use Rattle.pkcs1_tool.specs.Told.{field, number_field};
 
 use std::alloc::AllocError;
 use std::io::Write;

@@ -7,11 +7,15 @@ mod answer;
 mod copy;
 mod digits;
 mod fault;
+mod keys;
 mod lines;
+mod parameter_answers;
 mod parameters;
 mod plan;
 mod request;
 mod run;
+mod shortest;
+mod verdict;
 
 use copy::{copy_priv, copy_pub};
 use der_core::{FromRead, ToWrite};

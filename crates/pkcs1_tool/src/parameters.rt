@@ -1,18 +1,64 @@
-//! The answers that tell parameters.
-ghost use Rattle.std.specs.Prelude.{◌≡◌, ℕ, List, ◌++◌, ◌≤◌, length, OnOk};
+//! Parameters, and what is told of them.
+ghost use Rattle.std.specs.Prelude.{◌≡◌, ℕ, List, ◌++◌, ◌↔◌, IsTrue, OnOk, IfSome, IfNone};
 ghost use Rattle.der_core.specs.Document.{Means, IsShortest};
+ghost use Rattle.der_core.specs.Texts.{IsDelimited};
 ghost use Rattle.spki_core.specs.AnyRefs.{any_of};
 ghost use Rattle.spki_core.specs.AlgorithmRefs.{algorithm_of, mask_of};
+ghost use Rattle.spki_core.specs.Explicit.{Field, HaveDefaults};
 ghost use Rattle.spki_core.specs.ObjectIdentifiers.{octets_of};
-ghost use Rattle.pkcs1.specs.Parameters.{RsaPssParams, pss_fields, RsaOaepParams, oaep_fields};
+ghost use Rattle.pkcs1.specs.Parameters.{PssParameters, RsaPssParams, pss_fields, OaepParameters, RsaOaepParams, oaep_fields};
+ghost use Rattle.pkcs1.specs.ParameterLaws.{pss_delimited, oaep_delimited};
 ghost use Rattle.pkcs1.specs.PssParams.{pss_of};
 ghost use Rattle.pkcs1.specs.OaepParams.{oaep_of};
-ghost use Rattle.pkcs1_tool.specs.Answer.{TellsParameters, any_told, identifier_told, plain_told, bracketed, mask_told, digest_told, spelling_told, pss_answer, oaep_answer};
+ghost use Rattle.pkcs1_tool.specs.Answer.{HasNone};
+ghost use Rattle.pkcs1_tool.specs.Told.{any_told, identifier_told, plain_told, bracketed, mask_told, digest_told, spelling_told, pss_answer, oaep_answer};
 
 use crate::digits::{put_field, put_hex, put_number};
+use der_core::Encode;
 use pkcs1::{ObjectIdentifier, RsaOaepParamsRef, RsaPssParamsRef};
 use spki_core::{AlgorithmIdentifier, AlgorithmIdentifierRef, AnyRef};
-use std::alloc::{AllocError, Global};
+use std::alloc::AllocError;
+
+/// Parameters of one of the two types, as lines ask for them.
+pub trait Parameters<'a>: Encode + Drop + Sized {
+    /// What values of the type mean.
+    ghost Meaning: { Type 0 };
+
+    ghost meaning: { Self → Meaning };
+
+    /// The texts of what a value means.
+    ghost grammar: { Meaning → List ℕ → Type 0 };
+
+    ghost fields: { Meaning → List Field };
+
+    /// What is told of a value with so many defaults and with this text.
+    ghost told: { Meaning → ℕ → List ℕ → List ℕ };
+
+    /// The parameters that the text means.
+    fn read(text: &'a [u8]) -> Option<Self>
+        ensures some { IfSome result (λ params. Means grammar text.now (meaning params)) }
+        ensures none { IfNone result (HasNone grammar text.now) };
+
+    /// Whether the text is the shortest of what it means.
+    fn is_strict(text: &'a [u8]) -> bool
+        ensures { IsTrue result ↔ ((params : Meaning) × IsShortest grammar params text.now) };
+
+    /// How many fields equal their defaults.
+    fn defaults(&self) -> u8
+        ensures { HaveDefaults (fields (meaning self.now)) result };
+
+    /// Puts what is told behind `out`.
+    fn put(&self, defaults: u8, again: &[u8], out: &mut Vec<u8>) -> Result<(), AllocError>
+        ensures { OnOk result (out.new.items ≡ out.old.items ++ told (meaning self.now) defaults again.now) };
+
+    /// Each text means one value.
+    ghost delimited: { IsDelimited grammar };
+
+    /// What is written are the texts of the grammar.
+    ghost means_as: { (params : Self) (text : List ℕ) → Means grammar text (meaning params) → Means Self.text text (Self.value params) };
+
+    ghost shortest_as: { (params : Self) (text : List ℕ) → IsShortest Self.text (Self.value params) text → IsShortest grammar (meaning params) text };
+}
 
 // What is told of absent parameters.
 const ABSENT: &[u8] = b"-";
@@ -92,18 +138,6 @@ fn put_spelling(defaults: u8, again: &[u8], out: &mut Vec<u8>) -> Result<(), All
     put_field(b" again=", again, out)
 }
 
-// The shortest text of the parameters, in the buffer.
-fn shortest_pss<'b>(text: &[u8], params: &RsaPssParamsRef<'_>, buffer: &'b mut [u8]) -> &'b [u8]
-    requires means { Means RsaPssParams text.now (pss_of params.now) }
-    requires room { length text.now ≤ length buffer.old }
-    ensures { IsShortest RsaPssParams (pss_of params.now) result.now }
-{
-    match params.encode_params(buffer) {
-        Ok(length) => &buffer[..length],
-        Err(_) => unreachable!(),
-    }
-}
-
 // Puts the answer of `pss` parameters with so many defaults, and with their text again, behind `out`.
 fn put_pss(
     params: &RsaPssParamsRef<'_>,
@@ -118,32 +152,6 @@ fn put_pss(
     put_number(b" salt=", params.salt_len, out)?;
     put_number(b" trailer=", params.trailer_field as u8, out)?;
     put_spelling(defaults, again, out)
-}
-
-/// Puts the answer of `pss` behind `out`.
-pub fn answer_pss(alloc: Global, text: &[u8], out: &mut Vec<u8>) -> Result<(), AllocError>
-    ensures { OnOk result ((answer : List ℕ) × TellsParameters RsaPssParams pss_fields pss_answer text.now answer × (out.new.items ≡ out.old.items ++ answer)) }
-{
-    match RsaPssParamsRef::try_from(text) {
-        Ok(params) => {
-            let mut buffer = vec![in alloc; 0u8; text.len()]?;
-            let again = shortest_pss(text, &params, buffer.as_mut_slice());
-            put_pss(&params, params.default_fields(), again, out)
-        }
-        Err(_) => out.extend_from_slice(b"refused"),
-    }
-}
-
-// The shortest text of the parameters, in the buffer.
-fn shortest_oaep<'b>(text: &[u8], params: &RsaOaepParamsRef<'_>, buffer: &'b mut [u8]) -> &'b [u8]
-    requires means { Means RsaOaepParams text.now (oaep_of params.now) }
-    requires room { length text.now ≤ length buffer.old }
-    ensures { IsShortest RsaOaepParams (oaep_of params.now) result.now }
-{
-    match params.encode_params(buffer) {
-        Ok(length) => &buffer[..length],
-        Err(_) => unreachable!(),
-    }
 }
 
 // Puts the answer of `oaep` parameters with so many defaults, and with their text again, behind `out`.
@@ -162,16 +170,70 @@ fn put_oaep(
     put_spelling(defaults, again, out)
 }
 
-/// Puts the answer of `oaep` behind `out`.
-pub fn answer_oaep(alloc: Global, text: &[u8], out: &mut Vec<u8>) -> Result<(), AllocError>
-    ensures { OnOk result ((answer : List ℕ) × TellsParameters RsaOaepParams oaep_fields oaep_answer text.now answer × (out.new.items ≡ out.old.items ++ answer)) }
-{
-    match RsaOaepParamsRef::try_from(text) {
-        Ok(params) => {
-            let mut buffer = vec![in alloc; 0u8; text.len()]?;
-            let again = shortest_oaep(text, &params, buffer.as_mut_slice());
-            put_oaep(&params, params.default_fields(), again, out)
-        }
-        Err(_) => out.extend_from_slice(b"refused"),
+impl<'a> Parameters<'a> for RsaPssParamsRef<'a> {
+    ghost Meaning = { PssParameters };
+
+    ghost meaning = { pss_of };
+
+    ghost grammar = { RsaPssParams };
+
+    ghost fields = { pss_fields };
+
+    ghost told = { pss_answer };
+
+    fn read(text: &'a [u8]) -> Option<RsaPssParamsRef<'a>> {
+        RsaPssParamsRef::try_from(text).ok()
     }
+
+    fn is_strict(text: &'a [u8]) -> bool {
+        RsaPssParamsRef::from_der_strict(text).is_ok()
+    }
+
+    fn defaults(&self) -> u8 {
+        self.default_fields()
+    }
+
+    fn put(&self, defaults: u8, again: &[u8], out: &mut Vec<u8>) -> Result<(), AllocError> {
+        put_pss(self, defaults, again, out)
+    }
+
+    ghost delimited = { pss_delimited };
+
+    ghost means_as = { λ params text means. means };
+
+    ghost shortest_as = { λ params text shortest. shortest };
+}
+
+impl<'a> Parameters<'a> for RsaOaepParamsRef<'a> {
+    ghost Meaning = { OaepParameters };
+
+    ghost meaning = { oaep_of };
+
+    ghost grammar = { RsaOaepParams };
+
+    ghost fields = { oaep_fields };
+
+    ghost told = { oaep_answer };
+
+    fn read(text: &'a [u8]) -> Option<RsaOaepParamsRef<'a>> {
+        RsaOaepParamsRef::try_from(text).ok()
+    }
+
+    fn is_strict(text: &'a [u8]) -> bool {
+        RsaOaepParamsRef::from_der_strict(text).is_ok()
+    }
+
+    fn defaults(&self) -> u8 {
+        self.default_fields()
+    }
+
+    fn put(&self, defaults: u8, again: &[u8], out: &mut Vec<u8>) -> Result<(), AllocError> {
+        put_oaep(self, defaults, again, out)
+    }
+
+    ghost delimited = { oaep_delimited };
+
+    ghost means_as = { λ params text means. means };
+
+    ghost shortest_as = { λ params text shortest. shortest };
 }

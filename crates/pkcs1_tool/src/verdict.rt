@@ -1,0 +1,23 @@
+//! Answers that tell no value.
+ghost use Rattle.std.specs.Prelude.{◌≡◌, ◌++◌, OnOk, codes, if◌then◌else◌};
+
+use std::alloc::AllocError;
+
+/// Puts `refused` behind `out`.
+pub fn put_refused(out: &mut Vec<u8>) -> Result<(), AllocError>
+    ensures { OnOk result (out.new.items ≡ out.old.items ++ codes "refused") }
+{
+    out.extend_from_slice(b"refused")
+}
+
+/// Puts the word behind `out`, and then ` yes` or ` no`.
+pub fn put_verdict(word: &[u8], holds: bool, out: &mut Vec<u8>) -> Result<(), AllocError>
+    ensures { OnOk result (out.new.items ≡ out.old.items ++ (word.now ++ (if holds then codes " yes" else codes " no"))) }
+{
+    out.extend_from_slice(word)?;
+    if holds {
+        out.extend_from_slice(b" yes")
+    } else {
+        out.extend_from_slice(b" no")
+    }
+}
