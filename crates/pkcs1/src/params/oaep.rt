@@ -162,7 +162,7 @@ impl<P: AnyValue> RsaOaepParams<P> {
     ghost use Rattle.pkcs1.specs.Refusals.{IsAsn1};
 
     /// The same, borrowed.
-    fn as_params_ref(&self) -> RsaOaepParams<AnyRef<'_>>
+    pub(crate) fn as_params_ref(&self) -> RsaOaepParams<AnyRef<'_>>
         ensures { oaep_of result ≡ oaep_with P.any self.now }
     {
         RsaOaepParams {
@@ -220,7 +220,7 @@ impl RsaOaepParams<AnyRef<'_>> {
     ghost use Rattle.pkcs1.specs.OaepParams.{oaep_of};
 
     /// Which fields equal their defaults.
-    fn defaults(&self) -> OaepLeftOut
+    pub(crate) fn defaults(&self) -> OaepLeftOut
         ensures { result ≡ oaep_defaults (oaep_of self.now) }
     {
         OaepLeftOut {
@@ -244,7 +244,7 @@ impl RsaOaepParams<AnyRef<'_>> {
     }
 
     /// How many octets the contents have, without some fields.
-    fn len_without(&self, left_out: OaepLeftOut) -> der_core::Result<Length>
+    pub(crate) fn len_without(&self, left_out: OaepLeftOut) -> der_core::Result<Length>
         ensures { Counts (HasOaep left_out (oaep_of self.now)) (written_oaep left_out (oaep_of self.now)) result }
     {
         joined_len(
@@ -254,7 +254,7 @@ impl RsaOaepParams<AnyRef<'_>> {
     }
 
     /// Appends the contents, without some fields.
-    fn encode_without<W: Writer>(
+    pub(crate) fn encode_without<W: Writer>(
         &self,
         left_out: OaepLeftOut,
         writer: &mut W,
@@ -271,7 +271,7 @@ impl RsaOaepParams<AnyRef<'_>> {
     }
 
     /// Puts the contents before what is filled, without some fields.
-    fn prepend_without(&self, left_out: OaepLeftOut, writer: &mut BackWriter<'_>)
+    pub(crate) fn prepend_without(&self, left_out: OaepLeftOut, writer: &mut BackWriter<'_>)
         requires has { HasOaep left_out (oaep_of self.now) }
         requires fits { length (written_oaep left_out (oaep_of self.now)) ≤ limit }
         requires room { length (written_oaep left_out (oaep_of self.now)) ≤ free_of writer.old }

@@ -121,7 +121,7 @@ impl<P: AnyValue> RsaPssParams<P> {
     ghost use Rattle.pkcs1.specs.Refusals.{IsAsn1};
 
     /// The same, borrowed.
-    fn as_params_ref(&self) -> RsaPssParams<AnyRef<'_>>
+    pub(crate) fn as_params_ref(&self) -> RsaPssParams<AnyRef<'_>>
         ensures { pss_of result ≡ pss_with P.any self.now }
     {
         RsaPssParams {

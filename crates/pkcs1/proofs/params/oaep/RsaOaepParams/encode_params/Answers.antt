@@ -10,7 +10,7 @@ use Rattle.pkcs1.specs.Parameters.{RsaOaepParams, oaep_fields}
 use Rattle.pkcs1.specs.OaepParams.{oaep_of}
 use Rattle.pkcs1.specs.OaepWriting.{oaep_defaults, written_oaep}
 use Rattle.pkcs1.specs.Defaults.{oaep_defaults as oaep_count}
-use Rattle.pkcs1.proofs.HeldParameters.{oaep_made}
+use Rattle.pkcs1.specs.HeldParameters.{oaep_made}
 use Rattle.pkcs1.specs.ParameterLaws.{oaep_delimited, oaep_in_order}
 use Rattle.pkcs1.proofs.params.oaep.RsaOaepParams.encode_params.Goals as goal
 

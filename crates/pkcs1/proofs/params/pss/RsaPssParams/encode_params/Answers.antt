@@ -10,7 +10,7 @@ use Rattle.pkcs1.specs.Parameters.{RsaPssParams, pss_fields}
 use Rattle.pkcs1.specs.PssParams.{pss_of}
 use Rattle.pkcs1.specs.PssWriting.{pss_defaults, written_pss}
 use Rattle.pkcs1.specs.Defaults.{pss_defaults as pss_count}
-use Rattle.pkcs1.proofs.HeldParameters.{pss_made}
+use Rattle.pkcs1.specs.HeldParameters.{pss_made}
 use Rattle.pkcs1.specs.ParameterLaws.{pss_delimited, pss_in_order}
 use Rattle.pkcs1.proofs.params.pss.RsaPssParams.encode_params.Goals as goal
 
