@@ -73,10 +73,13 @@ pub record StandsUnder {V : Type 0} (fields : V → List Field) (v : V) (mask : 
   pub no_other : (other : ℕ) → IsSpelling (fields v) other text → other ≡ mask
   pub each_once : (k : ℕ) (other : List ℕ) → HaveDefaults (fields v) k → Spellings (λ w. FieldSequence (fields w)) v other → HasOneMask (fields v) k other
 
+abbrev pub HasNoSpelling : List Field → ℕ → Type 0
+HasNoSpelling fields mask = (text : List ℕ) → IsSpelling fields mask text → ⊥
+
 -- Why a spelling isn't written: there is none under the mask, or there is one and it has no room.
 abbrev pub WhyUnspelled : List Field → ℕ → ℕ → Fault → Type 0
 WhyUnspelled fields mask room no_text = ⊥
-WhyUnspelled fields mask room too_long = (text : List ℕ) → IsSpelling fields mask text → ⊥
+WhyUnspelled fields mask room too_long = HasNoSpelling fields mask
 WhyUnspelled fields mask room no_room = (text : List ℕ) × IsSpelling fields mask text × (room < length text)
 WhyUnspelled fields mask room another = ⊥
 
@@ -85,6 +88,14 @@ IsUnspelled fields mask room = IsAsn1 (λ e. WhyUnspelled fields mask room (faul
 
 abbrev pub texts_in : Vec (Vec ℕ) → List (List ℕ)
 texts_in texts = map (λ text. text.items) texts.items
+
+-- The first n spellings, each one at its mask.
+abbrev pub AreUnder : List Field → ℕ → List (List ℕ) → Type 0
+AreUnder fields n texts = (length texts ≡ n) × ((mask : ℕ) → mask < n → IsSpelling fields mask (slice_index_or texts mask []))
+
+-- The number of masks of a value of which every spelling is within the limit.
+abbrev pub AreMasks : List Field → ℕ → Type 0
+AreMasks fields n = (k : ℕ) × HaveDefaults fields k × (n ≡ 2 ^ k) × AllFit fields
 
 -- The texts are all spellings of the value, none twice: each one at its mask, and the shortest first.
 pub record AreAllSpellings {V : Type 0} (fields : V → List Field) (v : V) (texts : List (List ℕ)) : Type 0 where

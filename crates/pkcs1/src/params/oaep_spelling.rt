@@ -1,5 +1,5 @@
 //! Parameters of RSAES-OAEP under a mask.
-ghost use Rattle.std.specs.Prelude.{◌≡◌, ◌≤◌, length, take, drop, OnErr, IfOk, IfErr};
+ghost use Rattle.std.specs.Prelude.{◌≡◌, ◌≤◌, length, take, drop, OnOk, OnErr, IfOk, IfErr};
 ghost use Rattle.pkcs1.specs.Defaults.{oaep_defaults as oaep_count};
 ghost use Rattle.pkcs1.specs.OaepLaws.{oaep_means_one, oaep_of_bytes};
 ghost use Rattle.pkcs1.specs.OaepMasks.{oaep_out, has_oaep_under, written_oaep_under};
@@ -8,13 +8,14 @@ ghost use Rattle.pkcs1.specs.OaepWriting.{oaep_defaults};
 ghost use Rattle.pkcs1.specs.ParameterLaws.{oaep_in_order};
 ghost use Rattle.pkcs1.specs.ParameterMasks.{oaep_under_relates, oaep_under_least};
 ghost use Rattle.pkcs1.specs.Parameters.{OaepParameters, oaep_fields};
-ghost use Rattle.pkcs1.specs.Spellings.{IsMask, StandsUnder, IsUnspelled};
+ghost use Rattle.pkcs1.specs.Spellings.{IsMask, StandsUnder, IsUnspelled, AllFit, AreAllSpellings, LacksSpellings, texts_in};
 
 use crate::error::Result;
 use crate::params::oaep::{OaepLeftOut, RsaOaepParams};
-use crate::params::spelling::{DefaultFields, spell_into, under};
+use crate::params::spelling::{DefaultFields, all_spellings, spell_into, under};
 use der_core::{BackWriter, Length, Writer};
 use spki_core::{AnyRef, AnyValue};
+use std::alloc::Global;
 
 impl RsaOaepParams<AnyRef<'_>> {
     /// Which fields are left out under a mask.
@@ -87,5 +88,15 @@ impl<P: AnyValue> RsaOaepParams<P> {
         ensures err { IfErr result (IsUnspelled (oaep_fields (oaep_with P.any self.now)) mask (length out.old)) }
     {
         spell_into(&self.as_params_ref(), mask, out)
+    }
+
+    /// All spellings, each at its mask, so that the shortest is the first: two to the number of default fields.
+    /// `Overflow` where the one with every field passes `Length::MAX`, before memory is asked for.
+    pub fn spellings(&self, alloc: Global) -> Result<Vec<Vec<u8>>>
+        ensures all { IfOk result (λ texts. AreAllSpellings oaep_fields (oaep_with P.any self.now) (texts_in texts)) }
+        ensures fit { OnOk result (AllFit (oaep_fields (oaep_with P.any self.now))) }
+        ensures err { IfErr result (LacksSpellings (oaep_fields (oaep_with P.any self.now))) }
+    {
+        all_spellings(&self.as_params_ref(), alloc)
     }
 }

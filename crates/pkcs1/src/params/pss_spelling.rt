@@ -1,5 +1,5 @@
 //! Parameters of RSASSA-PSS under a mask.
-ghost use Rattle.std.specs.Prelude.{◌≡◌, ◌≤◌, length, take, drop, OnErr, IfOk, IfErr};
+ghost use Rattle.std.specs.Prelude.{◌≡◌, ◌≤◌, length, take, drop, OnOk, OnErr, IfOk, IfErr};
 ghost use Rattle.pkcs1.specs.Defaults.{pss_defaults as pss_count};
 ghost use Rattle.pkcs1.specs.PssLaws.{pss_means_one, pss_of_bytes};
 ghost use Rattle.pkcs1.specs.PssMasks.{pss_out, has_pss_under, written_pss_under};
@@ -8,13 +8,14 @@ ghost use Rattle.pkcs1.specs.PssWriting.{pss_defaults};
 ghost use Rattle.pkcs1.specs.ParameterLaws.{pss_in_order};
 ghost use Rattle.pkcs1.specs.ParameterMasks.{pss_under_relates, pss_under_least};
 ghost use Rattle.pkcs1.specs.Parameters.{PssParameters, pss_fields};
-ghost use Rattle.pkcs1.specs.Spellings.{IsMask, StandsUnder, IsUnspelled};
+ghost use Rattle.pkcs1.specs.Spellings.{IsMask, StandsUnder, IsUnspelled, AllFit, AreAllSpellings, LacksSpellings, texts_in};
 
 use crate::error::Result;
 use crate::params::pss::{PssLeftOut, RsaPssParams};
-use crate::params::spelling::{DefaultFields, spell_into, under};
+use crate::params::spelling::{DefaultFields, all_spellings, spell_into, under};
 use der_core::{BackWriter, Length, Writer};
 use spki_core::{AnyRef, AnyValue};
+use std::alloc::Global;
 
 impl RsaPssParams<AnyRef<'_>> {
     /// Which fields are left out under a mask.
@@ -91,5 +92,15 @@ impl<P: AnyValue> RsaPssParams<P> {
         ensures err { IfErr result (IsUnspelled (pss_fields (pss_with P.any self.now)) mask (length out.old)) }
     {
         spell_into(&self.as_params_ref(), mask, out)
+    }
+
+    /// All spellings, each at its mask, so that the shortest is the first: two to the number of default fields.
+    /// `Overflow` where the one with every field passes `Length::MAX`, before memory is asked for.
+    pub fn spellings(&self, alloc: Global) -> Result<Vec<Vec<u8>>>
+        ensures all { IfOk result (λ texts. AreAllSpellings pss_fields (pss_with P.any self.now) (texts_in texts)) }
+        ensures fit { OnOk result (AllFit (pss_fields (pss_with P.any self.now))) }
+        ensures err { IfErr result (LacksSpellings (pss_fields (pss_with P.any self.now))) }
+    {
+        all_spellings(&self.as_params_ref(), alloc)
     }
 }

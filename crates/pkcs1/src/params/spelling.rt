@@ -7,11 +7,15 @@ ghost use Rattle.der_core.specs.Writing.{Counts, IsLeast, Stops, fault};
 ghost use Rattle.spki_core.specs.Explicit.{Field, HaveDefaults, MaskedContents};
 ghost use Rattle.spki_core.specs.Masks.{out_under, rest_under};
 ghost use Rattle.spki_core.proofs.Fields.{AreInOrder};
-ghost use Rattle.pkcs1.specs.Spellings.{IsMask, StandsUnder, IsUnspelled, AllFit, AreAllSpellings, LacksSpellings, texts_in};
+ghost use Rattle.der_core.specs.declared.error.ErrorKind.{ErrorKind};
+ghost use Rattle.pkcs1.specs.Spellings.{IsMask, IsSpelling, HasNoSpelling, StandsUnder, IsUnspelled, AllFit, AreUnder, AreMasks, AreAllSpellings, LacksSpellings, texts_in};
 ghost use Rattle.pkcs1.specs.MaskedValues.{MaskedValue, InRange, FieldContents, MaskedValueContents, HasMasked, masked_means_one, masked_of_bytes, masked_relates, masked_least};
 
 use crate::error::Result;
-use der_core::{BackWriter, Contents, Encode, EncodeValue, Kinded, Length, SequenceTag, Writer};
+use der_core::{
+    BackWriter, Contents, Encode, EncodeValue, ErrorKind, Kinded, Length, SequenceTag, Writer,
+    write_over,
+};
 use std::alloc::Global;
 
 /// Borrowed parameters: a SEQUENCE of fields with defaults, of which a mask says which ones are written.
@@ -143,4 +147,67 @@ pub(crate) fn spell_into<T: DefaultFields>(params: &T, mask: u8, out: &mut [u8])
         mask,
     };
     Ok(spelling.encode_into(out)?)
+}
+
+impl<T: DefaultFields> Spelling<T> {
+    ghost use Rattle.std.specs.Prelude.{◌⊎◌};
+    ghost use Rattle.der_core.specs.Tlv.{tlv};
+
+    /// How many octets the text has: `Overflow` where there is no spelling under the mask.
+    fn len(&self) -> der_core::Result<usize>
+        ensures ok { IfOk result (λ n. n ≡ length (tlv 48 (T.written_under (T.params self.now.params) self.now.mask))) }
+        ensures has { OnOk result (T.has_under (T.params self.now.params) self.now.mask) }
+        ensures spells { OnOk result (IsSpelling (T.fields (T.params self.now.params)) self.now.mask (tlv 48 (T.written_under (T.params self.now.params) self.now.mask))) }
+        ensures err { IfErr result (λ e. (e.kind ≡ ErrorKind.Overflow) × HasNoSpelling (T.fields (T.params self.now.params)) self.now.mask) }
+    {
+        self.params.is_held();
+        Ok(self.encoded_len()?.to_usize())
+    }
+
+    /// The text, in memory of its own.
+    fn to_vec(&self, alloc: Global) -> der_core::Result<Vec<u8>>
+        ensures ok { IfOk result (λ text. IsSpelling (T.fields (T.params self.now.params)) self.now.mask text.items) }
+        ensures err { IfErr result (λ e. (e.kind ≡ ErrorKind.OutOfMemory) ⊎ ((e.kind ≡ ErrorKind.Overflow) × HasNoSpelling (T.fields (T.params self.now.params)) self.now.mask)) }
+    {
+        let length = self.len()?;
+        let mut text = vec![in alloc; 0u8; length]?;
+        write_over(self, text.as_mut_slice());
+        Ok(text)
+    }
+}
+
+/// The texts under the masks below a number, in their order.
+fn texts_under<T: DefaultFields>(
+    params: &T,
+    count: u8,
+    alloc: Global,
+) -> der_core::Result<Vec<Vec<u8>>>
+    requires { AreMasks (T.fields (T.params params.now)) count }
+    ensures ok { IfOk result (λ texts. AreUnder (T.fields (T.params params.now)) count (texts_in texts)) }
+    ensures err { IfErr result (λ e. e.kind ≡ ErrorKind.OutOfMemory) }
+{
+    let mut texts = Vec::new(alloc);
+    for mask in 0..count {
+        let spelling = Spelling {
+            params: *params,
+            mask,
+        };
+        texts.push(spelling.to_vec(alloc)?)?;
+    }
+    Ok(texts)
+}
+
+/// All spellings, by mask: `Overflow` where the one with every field doesn't fit, before memory is asked for.
+pub(crate) fn all_spellings<T: DefaultFields>(params: &T, alloc: Global) -> Result<Vec<Vec<u8>>>
+    ensures all { IfOk result (λ texts. AreAllSpellings T.fields (T.params params.now) (texts_in texts)) }
+    ensures fit { OnOk result (AllFit (T.fields (T.params params.now))) }
+    ensures err { IfErr result (LacksSpellings (T.fields (T.params params.now))) }
+{
+    let count = 1u8 << params.count_defaults();
+    let longest = Spelling {
+        params: *params,
+        mask: count - 1,
+    };
+    longest.len()?;
+    Ok(texts_under(params, count, alloc)?)
 }
