@@ -6,7 +6,7 @@ use Rattle.der_core.specs.Document.{Spellings, IsShortest, Fault, no_text, too_l
 use Rattle.der_core.specs.declared.error.ErrorKind.{ErrorKind}
 use Rattle.der_core.specs.declared.error.ErrorKind.TheVariants as kind
 use Rattle.der_core.specs.Writing.{fault}
-use Rattle.der_core.specs.Members.{AreTheMembers}
+use Rattle.der_core.specs.Members.{AreTheMembers, HasMembers}
 use Rattle.pkcs1.specs.declared.error.Error.{Error}
 use Rattle.pkcs1.specs.Refusals.{IsAsn1}
 use Rattle.spki_core.specs.Explicit.{Field, FieldSequence, HaveDefaults, Masked, AllExplicit}
@@ -88,6 +88,10 @@ IsUnspelled fields mask room = IsAsn1 (λ e. WhyUnspelled fields mask room (faul
 
 abbrev pub texts_in : Vec (Vec ℕ) → List (List ℕ)
 texts_in texts = map (λ text. text.items) texts.items
+
+-- Where every spelling is within the limit, there are two to the number of default fields.
+abbrev pub HasTwoToTheDefaults : {V : Type 0} → (V → List Field) → V → Type 0
+HasTwoToTheDefaults fields v = (k : ℕ) → HaveDefaults (fields v) k → AllFit (fields v) → HasMembers (Spellings (λ w. FieldSequence (fields w)) v) (2 ^ k)
 
 -- The first n spellings, each one at its mask.
 abbrev pub AreUnder : List Field → ℕ → List (List ℕ) → Type 0

@@ -160,6 +160,7 @@ impl<P: AnyValue> RsaOaepParams<P> {
     ghost use Rattle.pkcs1.specs.Parameters as grammar;
     ghost use Rattle.pkcs1.specs.OaepParams.{oaep_with, oaep_of};
     ghost use Rattle.pkcs1.specs.Refusals.{IsAsn1};
+    ghost use Rattle.pkcs1.specs.Spellings.{HasTwoToTheDefaults};
 
     /// The same, borrowed.
     pub(crate) fn as_params_ref(&self) -> RsaOaepParams<AnyRef<'_>>
@@ -188,6 +189,7 @@ impl<P: AnyValue> RsaOaepParams<P> {
         ensures no_default { IfOk result (λ n. Masked (oaep_fields (oaep_with P.any self.now)) 0 (take n out.new)) }
         ensures rest { IfOk result (λ n. (n ≤ length out.new) × (drop n out.new ≡ drop n out.old)) }
         ensures one { IfOk result (λ n. (other : OaepParameters) → grammar.RsaOaepParams other (take n out.new) → other ≡ oaep_with P.any self.now) }
+        ensures count { OnOk result (HasTwoToTheDefaults oaep_fields (oaep_with P.any self.now)) }
         ensures unchanged { OnErr result (out.new ≡ out.old) }
         ensures err { IfErr result (IsAsn1 (λ e. IsRefused (HasText grammar.RsaOaepParams (oaep_with P.any self.now)) grammar.RsaOaepParams (oaep_with P.any self.now) (length out.old) (fault e.kind))) }
     {
