@@ -19,3 +19,5 @@ pub mod FieldLaws
 pub mod AlgorithmTexts
 pub mod Held
 pub mod StrictFields
+pub mod Masks
+pub mod MaskLaws
