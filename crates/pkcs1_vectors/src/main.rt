@@ -8,6 +8,7 @@ mod answer;
 mod arguments;
 mod carried;
 mod containers;
+mod damaged;
 mod fields;
 mod keys;
 mod lengths;

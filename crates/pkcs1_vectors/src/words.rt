@@ -1,6 +1,7 @@
 //! The words of rows. Each function tries its own and hands what it doesn't know to the next.
 use crate::answer::{Answer, Trouble};
 use crate::arguments::Arguments;
+use crate::damaged::{self, Oaep, Private, Pss, Public};
 use crate::marks::{Sha1, Sha256};
 use crate::{algorithms, containers, fields, keys, lengths, parameters, refusals, values};
 use std::alloc::Global;
@@ -125,6 +126,20 @@ fn made_word(alloc: Global, word: &str, arguments: &mut Arguments<'_>) -> Answer
         "label-sha256" => parameters::with_label::<Sha256>(alloc, arguments),
         "label-fits-sha1" => parameters::label_fits::<Sha1>(alloc, arguments),
         "label-fits-sha256" => parameters::label_fits::<Sha256>(alloc, arguments),
+        _ => damaged_word(alloc, word, arguments),
+    }
+}
+
+// Texts that were damaged.
+fn damaged_word(alloc: Global, word: &str, arguments: &mut Arguments<'_>) -> Answer {
+    match word {
+        "changed-pub" => damaged::changed::<Public>(alloc, arguments),
+        "changed-priv" => damaged::changed::<Private>(alloc, arguments),
+        "changed-pss" => damaged::changed::<Pss>(alloc, arguments),
+        "changed-oaep" => damaged::changed::<Oaep>(alloc, arguments),
+        "types" => damaged::types(alloc, arguments),
+        "joined-pss" => damaged::joined::<Pss>(alloc, arguments),
+        "joined-oaep" => damaged::joined::<Oaep>(alloc, arguments),
         _ => Err(Trouble::Malformed),
     }
 }

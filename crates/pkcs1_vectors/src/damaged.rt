@@ -1,0 +1,202 @@
+//! Texts that were damaged, or put together of parts that don't belong together.
+use crate::answer::{Answer, Trouble};
+use crate::arguments::Arguments;
+use der_core::{
+    Decode, Encode, Error, ErrorKind, Length, NoMemory, Reader, SliceReader, decode_optional,
+};
+use pkcs1::{
+    RsaOaepParamsRef, RsaPrivateKeyRef, RsaPrivateKeyView, RsaPssParamsRef, RsaPublicKeyRef,
+};
+use std::alloc::Global;
+
+/// More room than a damaged text needs.
+const ROOM: usize = 64;
+
+/// A type whose texts are damaged.
+pub trait Damaged {
+    /// Whether the text, where it is read, is answered as it should be; `None` where it is refused.
+    fn is_well(alloc: Global, text: &[u8]) -> Option<bool>;
+}
+
+/// RSA public keys.
+pub struct Public;
+
+/// RSA private keys.
+pub struct Private;
+
+/// Parameters of RSASSA-PSS.
+pub struct Pss;
+
+/// Parameters of RSAES-OAEP.
+pub struct Oaep;
+
+// Whether nothing is read of the reader any more.
+fn has_failed(mut reader: SliceReader<'_>) -> bool {
+    let failed = Error::new(ErrorKind::Failed);
+    reader.read_slice(Length::ZERO) == Err(failed)
+        && decode_optional::<u8, _, _>(NoMemory, &mut reader) == Err(failed)
+}
+
+impl Damaged for Public {
+    fn is_well(_alloc: Global, text: &[u8]) -> Option<bool> {
+        let mut reader = SliceReader::new(text).ok()?;
+        let front = RsaPublicKeyRef::decode(NoMemory, &mut reader);
+        match RsaPublicKeyRef::try_from(text) {
+            Ok(key) => {
+                let again = key.encode_to_slice(&mut [0; ROOM]) == Ok(text);
+                Some(again && front == Ok(key))
+            }
+            Err(_) if front.is_err() && !has_failed(reader) => Some(false),
+            Err(_) => None,
+        }
+    }
+}
+
+impl Damaged for Private {
+    fn is_well(alloc: Global, text: &[u8]) -> Option<bool> {
+        let view = RsaPrivateKeyView::try_from(text).is_ok();
+        match RsaPrivateKeyRef::decode_key(alloc, text) {
+            Ok(key) => Some(view && key.encode_to_slice(&mut [0; ROOM]) == Ok(text)),
+            Err(_) if view => Some(false),
+            Err(_) => None,
+        }
+    }
+}
+
+impl Damaged for Pss {
+    fn is_well(_alloc: Global, text: &[u8]) -> Option<bool> {
+        let params = RsaPssParamsRef::try_from(text).ok()?;
+        let mut slice = [0; ROOM];
+        let again = params.encode_to_slice(&mut slice).ok()?;
+        Some(again.len() <= text.len() && RsaPssParamsRef::try_from(again) == Ok(params))
+    }
+}
+
+impl Damaged for Oaep {
+    fn is_well(_alloc: Global, text: &[u8]) -> Option<bool> {
+        let params = RsaOaepParamsRef::try_from(text).ok()?;
+        let mut slice = [0; ROOM];
+        let again = params.encode_to_slice(&mut slice).ok()?;
+        Some(again.len() <= text.len() && RsaOaepParamsRef::try_from(again) == Ok(params))
+    }
+}
+
+// Which of the types accept the text.
+fn accepting(alloc: Global, text: &[u8]) -> [(&'static str, bool); 4] {
+    [
+        ("pub", Public::is_well(alloc, text).is_some()),
+        ("priv", Private::is_well(alloc, text).is_some()),
+        ("pss", Pss::is_well(alloc, text).is_some()),
+        ("oaep", Oaep::is_well(alloc, text).is_some()),
+    ]
+}
+
+/// `types HEX`: the types that accept the text, and the lengths of its proper beginnings that any type accepts.
+pub fn types(alloc: Global, arguments: &mut Arguments<'_>) -> Answer {
+    let text = arguments.bytes(alloc)?;
+    let text = text.as_slice();
+    let mut answer = String::from_str(alloc, "")?;
+    for (name, accepts) in accepting(alloc, text) {
+        if accepts {
+            answer = format!(in alloc; "{answer}{name} ")?;
+        }
+    }
+    for length in 0..text.len() {
+        for (name, accepts) in accepting(alloc, &text[..length]) {
+            if accepts {
+                answer = format!(in alloc; "{answer}{length} as {name} ")?;
+            }
+        }
+    }
+    Ok(String::from_str(alloc, answer.as_str().trim_end())?)
+}
+
+// How many texts there were, were accepted, and weren't answered as they should be.
+#[derive(Clone, Copy)]
+struct Counts {
+    texts: u64,
+    accepted: u64,
+    wrong: u64,
+}
+
+impl Counts {
+    fn none() -> Counts {
+        Counts {
+            texts: 0,
+            accepted: 0,
+            wrong: 0,
+        }
+    }
+
+    fn add<D: Damaged>(&mut self, alloc: Global, text: &[u8]) {
+        self.texts = self.texts.saturating_add(1);
+        match D::is_well(alloc, text) {
+            Some(is_well) => {
+                self.accepted = self.accepted.saturating_add(1);
+                self.wrong = self.wrong.saturating_add(u64::from(!is_well));
+            }
+            None => {}
+        }
+    }
+
+    fn told(self, alloc: Global) -> Answer {
+        let (texts, accepted, wrong) = (self.texts, self.accepted, self.wrong);
+        Ok(format!(in alloc; "{accepted} of {texts} accepted, {wrong} wrong")?)
+    }
+}
+
+/// `changed-TYPE HEX`: of the texts with one byte set to each of its 255 other values, how many are accepted, and of how
+/// many of those another text is written than it should be.
+pub fn changed<D: Damaged>(alloc: Global, arguments: &mut Arguments<'_>) -> Answer {
+    let mut text = arguments.bytes(alloc)?;
+    let text = text.as_mut_slice();
+    let mut counts = Counts::none();
+    for index in 0..text.len() {
+        let byte = text[index];
+        for value in 0..=255_u8 {
+            if value != byte {
+                text[index] = value;
+                counts.add::<D>(alloc, text);
+            }
+        }
+        text[index] = byte;
+    }
+    counts.told(alloc)
+}
+
+// The SEQUENCE of parts whose places are the digits of the number, the last one first.
+fn sequence(
+    alloc: Global,
+    parts: &[Vec<u8>],
+    count: u32,
+    mut number: usize,
+) -> Result<Vec<u8>, Trouble> {
+    let mut contents = Vec::new(alloc);
+    for _ in 0..count {
+        let part = number.checked_rem(parts.len()).ok_or(Trouble::Malformed)?;
+        contents.extend_from_slice(parts[part].as_slice())?;
+        number /= parts.len();
+    }
+    let length = u8::try_from(contents.len()).map_err(|_| Trouble::Malformed)?;
+    let mut text = Vec::from_array(alloc, [0x30, length])?;
+    text.extend_from_slice(contents.as_slice())?;
+    Ok(text)
+}
+
+/// `joined-TYPE N HEX HEX..`: the same of the SEQUENCEs of up to N of the parts, in any order and as often as you like.
+pub fn joined<D: Damaged>(alloc: Global, arguments: &mut Arguments<'_>) -> Answer {
+    let most = arguments.number::<u32>()?;
+    let mut parts = Vec::new(alloc);
+    while arguments.end().is_err() {
+        parts.push(arguments.bytes(alloc)?)?;
+    }
+    let mut counts = Counts::none();
+    for count in 0..=most {
+        let sequences = parts.len().checked_pow(count).ok_or(Trouble::Malformed)?;
+        for number in 0..sequences {
+            let text = sequence(alloc, parts.as_slice(), count, number)?;
+            counts.add::<D>(alloc, text.as_slice());
+        }
+    }
+    counts.told(alloc)
+}
