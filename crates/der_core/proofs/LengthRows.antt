@@ -35,6 +35,10 @@ length_16777216 = known_long (0x01 ∷ 0x00 ∷ 0x00 ∷ 0x00 ∷ []) (omega ari
 length_268435455 : IsLength 268435455 (0x84 ∷ 0x0f ∷ 0xff ∷ 0xff ∷ 0xff ∷ [])
 length_268435455 = known_long (0x0f ∷ 0xff ∷ 0xff ∷ 0xff ∷ []) (omega arith, (omega arith, (omega arith, (omega arith, tt)))) (omega arith) (omega arith) (omega arith)
 
+-- 84ffffffff
+length_4294967295 : IsLength 4294967295 (0x84 ∷ 0xff ∷ 0xff ∷ 0xff ∷ 0xff ∷ [])
+length_4294967295 = known_long (0xff ∷ 0xff ∷ 0xff ∷ 0xff ∷ []) (omega arith, (omega arith, (omega arith, (omega arith, tt)))) (omega arith) (omega arith) (omega arith)
+
 -- 817f
 needless_long_refused : (n : ℕ) → IsLength n (0x81 ∷ 0x7f ∷ []) → ⊥
 needless_long_refused n = needless_long_form_refused n 0x81 (0x7f ∷ []) (omega arith) (omega arith)

@@ -82,11 +82,9 @@ fn read_length<'a, R: Reader<&'a [u8]>>(reader: &mut R) -> Result<Length>
     if is_overlong(octets) {
         return Err(reader.error(ErrorKind::Overlength));
     }
-    let value = number(octets);
-    if value > Length::MAX.value {
-        return Err(reader.error(ErrorKind::Overflow));
-    }
-    Ok(Length { value })
+    Ok(Length {
+        value: number(octets),
+    })
 }
 
 impl TryFrom<usize> for Length {
@@ -99,7 +97,7 @@ impl TryFrom<usize> for Length {
         ensures ok { IfOk result (λ n. (n ≡ value) × (value ≤ limit)) }
         ensures err { IfErr result (λ e. (e.kind ≡ ErrorKind.Overflow) × (limit < value)) }
     {
-        if value <= 268435455 {
+        if value <= Length::MAX.to_usize() {
             Ok(Length {
                 value: value as u32,
             })
@@ -116,8 +114,8 @@ impl Length {
     /// One octet.
     pub const ONE: Length = Length { value: 1 };
 
-    /// The most octets that contents, or a text that is read or written whole, may have: one less than 2^28.
-    pub const MAX: Length = Length { value: 268435455 };
+    /// The most octets that contents, or a text that is read or written whole, may have: one less than 2^32.
+    pub const MAX: Length = Length { value: 4294967295 };
 
     /// The length `value`, which is at most `MAX`.
     pub fn of(value: usize) -> Length
@@ -142,11 +140,9 @@ impl Length {
         ensures ok { IfOk result (λ sum. (sum ≡ self + other) × (sum ≤ limit)) }
         ensures err { IfErr result (λ e. (e.kind ≡ ErrorKind.Overflow) × (limit < self + other)) }
     {
-        let sum = self.value + other.value;
-        if sum <= Length::MAX.value {
-            Ok(Length { value: sum })
-        } else {
-            Err(Error::new(ErrorKind::Overflow))
+        match self.value.checked_add(other.value) {
+            Some(value) => Ok(Length { value }),
+            None => Err(Error::new(ErrorKind::Overflow)),
         }
     }
 

@@ -79,7 +79,7 @@ all_made Grammar holds most one (v ∷ vs) h =
     let b = all_made Grammar holds most one vs h.1 in
     (a.0 ++ b.0, then_holds a.0 b.0 a.1 b.1, omega (arith, length-append a.0 b.0, a.2, b.2))
 
-number_made : (bytes : List ℕ) → IsHeld bytes → (text : List ℕ) × Integer bytes text × (length text ≤ 2 ^ 29)
+number_made : (bytes : List ℕ) → IsHeld bytes → (text : List ℕ) × Integer bytes text × (length text ≤ 2 ^ 33)
 number_made bytes h =
     let few : length (integer_contents bytes) ≤ length bytes + 1 = elim (cases_lt (slice_index bytes 0) 128) [
       | inl l ↦ omega (arith, length_small bytes l)
@@ -88,9 +88,9 @@ number_made bytes h =
     let made = tlv_made 2 (IntegerContents bytes) (integer_contents bytes) (integer_relates bytes h.0) (omega (arith, few, h.1)) in
     (made.0, made.1, omega (arith, few, h.1, ap length made.2, tlv_little_longer made.0 made.1))
 
-other_made : (other : OtherPrime (List ℕ)) → AllHave IsHeld (other_numbers other) → (text : List ℕ) × OtherPrimeInfo Integer other text × (length text ≤ 2 ^ 31)
+other_made : (other : OtherPrime (List ℕ)) → AllHave IsHeld (other_numbers other) → (text : List ℕ) × OtherPrimeInfo Integer other text × (length text ≤ 2 ^ 35)
 other_made other h =
-    let c = all_made Integer IsHeld (2 ^ 29) number_made (other_numbers other) h in
+    let c = all_made Integer IsHeld (2 ^ 33) number_made (other_numbers other) h in
     let made = tlv_made 48 (OtherPrimeContents Integer other) c.0 c.1 (omega (arith, c.2)) in
     (made.0, made.1, omega (arith, c.2, ap length made.2, tlv_little_longer made.0 made.1))
 
@@ -99,15 +99,15 @@ abbrev pub AreHeld : Option (List (OtherPrime (List ℕ))) → Type 0
 AreHeld None = Unit {0}
 AreHeld (Some others) = (0 < length others) × (length others < 2 ^ 64) × AllHave (λ other. AllHave IsHeld (other_numbers other)) others
 
-others_made : (others : Option (List (OtherPrime (List ℕ)))) → AreHeld others → (text : List ℕ) × OtherPrimeInfos Integer others text × (length text ≤ 2 ^ 96)
+others_made : (others : Option (List (OtherPrime (List ℕ)))) → AreHeld others → (text : List ℕ) × OtherPrimeInfos Integer others text × (length text ≤ 2 ^ 100)
 others_made None h = ([], refl, omega arith)
 others_made (Some others) h =
-    let c = all_made (OtherPrimeInfo Integer) (λ other. AllHave IsHeld (other_numbers other)) (2 ^ 31) other_made others h.2 in
-    let few : length c.0 ≤ 2 ^ 95 = omega (arith, c.2, h.1) in
+    let c = all_made (OtherPrimeInfo Integer) (λ other. AllHave IsHeld (other_numbers other)) (2 ^ 35) other_made others h.2 in
+    let few : length c.0 ≤ 2 ^ 99 = omega (arith, c.2, h.1) in
     let made = tlv_made 48 (Joins (map (OtherPrimeInfo Integer) others)) c.0 c.1 (omega (arith, few)) in
     (made.0, (h.0, made.1), omega (arith, few, ap length made.2, tlv_little_longer made.0 made.1))
 
-version_made : (others : Option (List (OtherPrime (List ℕ)))) → (text : List ℕ) × Small (version_of others) text × (length text ≤ 2 ^ 29)
+version_made : (others : Option (List (OtherPrime (List ℕ)))) → (text : List ℕ) × Small (version_of others) text × (length text ≤ 2 ^ 33)
 version_made others =
     let n = version_of others in
     let few : length (integer_contents (n ∷ [])) ≤ 2 = elim (cases_lt n 128) [
@@ -120,7 +120,7 @@ version_made others =
 pub private_made : (key : PrivateKey (List ℕ)) → AllHave IsHeld (key_numbers key) → AreHeld key.other_prime_infos → (text : List ℕ) × RsaPrivateKey key text
 private_made key h o =
     let v = version_made key.other_prime_infos in
-    let n = all_made Integer IsHeld (2 ^ 29) number_made (key_numbers key) h in
+    let n = all_made Integer IsHeld (2 ^ 33) number_made (key_numbers key) h in
     let r = others_made key.other_prime_infos o in
     let parts : Joins (map Integer (key_numbers key) ++ OtherPrimeInfos Integer key.other_prime_infos ∷ []) (n.0 ++ r.0) = joins_put (map Integer (key_numbers key)) (OtherPrimeInfos Integer key.other_prime_infos ∷ []) n.0 r.0 n.1 (last_holds r.0 r.1) in
     let made = tlv_made 48 (PrivateKeyContents Integer key) (v.0 ++ (n.0 ++ r.0)) (v.0, n.0 ++ r.0, v.1, parts, refl) (omega (arith, v.2, n.2, r.2, length-append v.0 (n.0 ++ r.0), length-append n.0 r.0)) in

@@ -140,19 +140,10 @@ five_length_octets_mean_nothing : (rest : List ℕ) (key : PublicKey (List ℕ))
 unfolding header_at length_at
 five_length_octets_mean_nothing rest key p = refused_header 48 _ Overflow refl p.0 refl p.1
 
--- 308410000000, and what may follow it
-too_long_header : (rest : List ℕ) → header_at (0x30 ∷ 0x84 ∷ 0x10 ∷ 0x00 ∷ 0x00 ∷ 0x00 ∷ rest) ≡ Err Overflow
-unfolding header_at length_at
-too_long_header rest =
-    let room : nat_lt (length (0x10 ∷ 0x00 ∷ 0x00 ∷ 0x00 ∷ rest)) 4 ≡ false = grind (arith, nat_tests) in
-    rw room refl
-
-too_long_means_nothing : (rest : List ℕ) (key : PublicKey (List ℕ)) → Means RsaPublicKey (0x30 ∷ 0x84 ∷ 0x10 ∷ 0x00 ∷ 0x00 ∷ 0x00 ∷ rest) key → ⊥
-too_long_means_nothing rest key p = refused_header 48 _ Overflow refl p.0 (too_long_header rest) p.1
-
 -- 308410000000
-too_long_alone_means_nothing : (key : PublicKey (List ℕ)) → Means RsaPublicKey (0x30 ∷ 0x84 ∷ 0x10 ∷ 0x00 ∷ 0x00 ∷ 0x00 ∷ []) key → ⊥
-too_long_alone_means_nothing = too_long_means_nothing []
+contents_of_a_long_text_missing_refused : (key : PublicKey (List ℕ)) → RsaPublicKey key (0x30 ∷ 0x84 ∷ 0x10 ∷ 0x00 ∷ 0x00 ∷ 0x00 ∷ []) → ⊥
+unfolding header_at length_at
+contents_of_a_long_text_missing_refused key p = let n = (counted_header 48 48 268435456 _ [] refl (omega arith) refl p).1 in omega arith
 
 -- no bytes
 no_bytes_at_all_refused : (key : PublicKey (List ℕ)) → RsaPublicKey key [] → ⊥
