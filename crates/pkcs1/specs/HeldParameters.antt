@@ -10,10 +10,8 @@ use Rattle.der_core.specs.TextLaws.{tlv_made}
 use Rattle.der_core.specs.Tlv.{tlv}
 use Rattle.spki_core.specs.AlgorithmIdentifier.{written_plain, written_mask, HasPlain, HasMask}
 use Rattle.spki_core.specs.AlgorithmRefs.{algorithm_of, mask_of}
-use Rattle.spki_core.specs.Any.{IsAny}
-use Rattle.spki_core.specs.AnyRefs.{any_of}
 use Rattle.spki_core.specs.FieldWriting.{written_field, HasField}
-use Rattle.spki_core.specs.Held.{identifier_short, plain_short}
+use Rattle.spki_core.specs.Held.{identifier_held, identifier_short, plain_held, plain_short}
 use Rattle.spki_core.specs.ObjectIdentifiers.{octets_of}
 use Rattle.spki_core.specs.declared.algorithm_identifier.AlgorithmIdentifier.{AlgorithmIdentifier}
 use Rattle.spki_core.specs.declared.any.AnyRef.{AnyRef}
@@ -60,16 +58,6 @@ number_short n = tlv_short 2 2 (integer_contents (n ∷ [])) (go (nat_lt n 128))
     go false = omega arith
 
 -- They can be written, whichever of their fields are left out.
-any_held : (any : AnyRef) → IsAny (any_of any)
-any_held any = (any.tag.allowed, are_bytes any.contents.now any.octets)
-
-plain_held : (a : AlgorithmIdentifier AnyRef) → HasPlain (algorithm_of a)
-plain_held a = (identifier_held a.oid, go a.parameters)
-  where
-    go : (p : Option AnyRef) → HasOptional IsAny (option_map any_of p)
-    go None = tt
-    go (Some any) = any_held any
-
 mask_held : (a : AlgorithmIdentifier (AlgorithmIdentifier AnyRef)) → HasMask (mask_of a)
 mask_held a = (identifier_held a.oid, go a.parameters)
   where
