@@ -1,6 +1,7 @@
 //! Other primes of private keys, read one after another.
-ghost use Rattle.std.specs.Prelude.{◌≡◌, [], ◌++◌, ◌<◌, ◌≤◌, List, ℕ, length, IfOk, IfErr, OnOk};
-ghost use Rattle.std.specs.Iterator.{YieldsFirstBy, item_count};
+ghost use Rattle.std.specs.Prelude.{◌≡◌, [], ◌++◌, ◌<◌, ◌≤◌, List, ℕ, length, IfOk, IfErr, IfSome, OnOk, Some};
+ghost use Rattle.std.specs.Iterator.{UpTo, YieldsFirstBy, item_count};
+ghost use Rattle.std.specs.Iterator.SizeHint.{IsWithinCount};
 ghost use Rattle.der_core.specs.Length.{limit};
 ghost use Rattle.der_core.specs.Integer.{Integer, IsCanonical, integer_contents};
 ghost use Rattle.der_core.specs.IntegerLaws.{integer_delimited};
@@ -149,7 +150,13 @@ impl<'a> Iterator for OtherPrimes<'a> {
         }
     }
 
-    fn size_hint(&self) -> (usize, Option<usize>) {
+    /// How many are left, as both bounds.
+    fn size_hint(&self) -> (usize, Option<usize>)
+        ensures least { result.0 ≡ length (others_left self.now) }
+        ensures most { result.1 ≡ Some (length (others_left self.now)) }
+        ensures lower { IsWithinCount result.0 (item_count others_left self.now) }
+        ensures upper { IfSome result.1 (λ n. UpTo (item_count others_left self.now) n) }
+    {
         (self.left, Some(self.left))
     }
 }
