@@ -38,7 +38,6 @@ ends() {
 }
 
 runs_to_each_status() {
-    usage="usage: pkcs1_tool [copy pub|priv IN OUT]"
     : > "$room/output"
     "$program" < /dev/null > "$room/output" 2> "$room/error"
     ends "no input" 0 "" "" $?
@@ -65,14 +64,74 @@ runs_to_each_status() {
     ends "the stored run" 0 "" "$(cat stdout)" $?
 }
 
-for program in ./out/pkcs1_tool ./out/pkcs1_tool.by-rattle; do
+# hex BYTES: the bytes that the digits spell.
+hex() {
+    printf "$(printf '%s' "$1" | sed 's/../\\x&/g')"
+}
+
+# copies STATUS ERROR FILE BYTES ARGUMENT..: called with the arguments, the program ends with this status and standard
+# error, and then the file has these bytes; `-` stands for a file that isn't there.
+copies() {
+    local status=$1 error=$2 file=$3 bytes=$4 got
+    shift 4
+    (cd "$room/files" && "$program" "$@" < /dev/null > "$room/output" 2> "$room/error")
+    got=$?
+    if [ "$bytes" = - ]; then
+        [ ! -e "$room/files/$file" ] || fails "copy $*: $file is there"
+    elif ! hex "$bytes" | cmp -s - "$room/files/$file"; then
+        fails "copy $*: $file doesn't hold $bytes"
+    fi
+    ends "$*" "$status" "$error" "" "$got"
+}
+
+copies_keys() {
+    local public=3006020107020103 old=6f6c64
+    local private=301b02010002010702010302010502010b02010d020102020104020106
+    local multi=302802010102010702010302010502010b02010d020102020104020106300b3009020111020102020103
+    local error="PKCS#1 ASN.1 error:" file="PKCS#1 ASN.1 error: a read or a write failed"
+    rm -rf "$room/files" && mkdir "$room/files"
+    hex $public > "$room/files/pub.der"
+    hex $private > "$room/files/priv.der"
+    hex $multi > "$room/files/multi.der"
+    hex ${public}00 > "$room/files/long.der"
+    hex 0500 > "$room/files/null.der"
+    : > "$room/files/empty.der"
+    hex $old > "$room/files/kept.der"
+    hex $public > "$room/files/same.der"
+    copies 0 "" out.der $public copy pub pub.der out.der
+    copies 0 "" out.der $private copy priv priv.der out.der
+    copies 0 "" out.der $multi copy priv multi.der out.der
+    copies 0 "" out.der $public copy pub pub.der out.der
+    copies 0 "" same.der $public copy pub same.der same.der
+    copies 1 "$file" kept.der $old copy pub missing.der kept.der
+    copies 1 "$file" new.der - copy priv missing.der new.der
+    copies 1 "$error bytes follow the value" kept.der $old copy pub long.der kept.der
+    copies 1 "$error tag 0x30 was expected, 0x05 was found" kept.der $old copy pub null.der kept.der
+    copies 1 "$error the input ends too early" kept.der $old copy priv empty.der kept.der
+    copies 1 "$error bytes follow the value" kept.der $old copy pub priv.der kept.der
+    copies 1 "$error the value of tag 0x02 is not allowed" kept.der $old copy priv pub.der kept.der
+    copies 1 "$file" no_such_folder - copy pub pub.der no_such_folder/out.der
+    copies 1 "$file" new.der - copy pub . new.der
+    copies 1 "$file" new.der - copy pub pub.der .
+    copies 1 "$file" new.der - copy pub pub.der /dev/full
+    copies 2 "$usage" kept.der $old copy
+    copies 2 "$usage" new.der - copy pub pub.der
+    copies 2 "$usage" kept.der $old copy pub pub.der kept.der more
+    copies 2 "$usage" kept.der $old copy pem pub.der kept.der
+    copies 2 "$usage" kept.der $old move pub pub.der kept.der
+    copies 2 "$usage" kept.der $old copy pub "$(printf 'pub\377.der')" kept.der
+}
+
+usage="usage: pkcs1_tool [copy pub|priv IN OUT]"
+for program in "$PWD/out/pkcs1_tool" "$PWD/out/pkcs1_tool.by-rattle"; do
     if [ -x "$program" ]; then
         runs_on_rows
         runs_to_each_status
+        copies_keys
     else
         fails "it isn't there: rt ci builds it"
     fi
 done
-echo "run_built: $(grep -c ' => ' rows) rows and 11 runs, by each of two compilers"
+echo "run_built: $(grep -vc -e '^#' -e '^$' rows) rows and 33 runs, by each of two compilers"
 echo "$passed passed, $failed failed"
 [ "$failed" = 0 ]
