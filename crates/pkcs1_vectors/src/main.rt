@@ -18,6 +18,7 @@ mod read;
 mod refusals;
 mod row;
 mod shown;
+mod spellings;
 #[cfg(test)]
 mod tests;
 mod values;

@@ -3,7 +3,9 @@ use crate::answer::{Answer, Trouble};
 use crate::arguments::Arguments;
 use crate::damaged::{self, Oaep, Private, Pss, Public};
 use crate::marks::{Sha1, Sha256};
-use crate::{algorithms, containers, fields, keys, lengths, parameters, refusals, values};
+use crate::{
+    algorithms, containers, fields, keys, lengths, parameters, refusals, spellings, values,
+};
 use std::alloc::Global;
 
 /// The answer of a row's word to what stands behind it.
@@ -105,11 +107,15 @@ fn parameter_word(alloc: Global, word: &str, arguments: &mut Arguments<'_>) -> A
         "pss-into" => parameters::pss_into(alloc, arguments),
         "pss-default" => parameters::pss_default(alloc),
         "pss-strict" => parameters::pss_strict(alloc, arguments),
+        "pss-spell" => spellings::pss_spell(alloc, arguments),
+        "pss-spellings" => spellings::pss_spellings(alloc, arguments),
         "pss-same" => parameters::pss_same(alloc, arguments),
         "oaep" => parameters::oaep(alloc, arguments),
         "oaep-into" => parameters::oaep_into(alloc, arguments),
         "oaep-default" => parameters::oaep_default(alloc),
         "oaep-strict" => parameters::oaep_strict(alloc, arguments),
+        "oaep-spell" => spellings::oaep_spell(alloc, arguments),
+        "oaep-spellings" => spellings::oaep_spellings(alloc, arguments),
         "oaep-same" => parameters::oaep_same(alloc, arguments),
         _ => made_word(alloc, word, arguments),
     }

@@ -1,7 +1,7 @@
 //! Ways of writing a value, as hexadecimal digits.
-use crate::answer::{Answer, agreed, digits, refused};
+use crate::answer::{Answer, agreed, digits, refused, refused_key};
 use der_core::{Document, Encode, EncodeValue, SecretDocument, Sequence, SliceWriter};
-use std::alloc::Global;
+use std::alloc::{AllocError, Global};
 
 /// As much room as the longest text of a row needs, and more.
 const ROOM: usize = 1200;
@@ -93,20 +93,30 @@ fn slice_shown(alloc: Global, slice: &[u8]) -> Answer {
     Ok(format!(in alloc; "{front} aa*{untouched}")?)
 }
 
+/// What the slice is after a way of writing into it, and why that was refused.
+pub fn after(alloc: Global, answer: pkcs1::Result<usize>, slice: &[u8]) -> Answer {
+    let shown = slice_shown(alloc, slice)?;
+    match answer {
+        Ok(_) => Ok(shown),
+        Err(error) => {
+            let refusal = refused_key(alloc, error)?;
+            Ok(format!(in alloc; "{refusal}, {shown}")?)
+        }
+    }
+}
+
+/// A slice of so many bytes before anything is written into it.
+pub fn untouched(alloc: Global, room: usize) -> Result<Vec<u8>, AllocError> {
+    vec![in alloc; UNTOUCHED; room]
+}
+
 /// What a slice of so many bytes is after a way of writing into it, and why that was refused.
 pub fn in_slice<F>(alloc: Global, room: usize, write: F) -> Answer
 where
     F: FnOnce(&mut [u8]) -> pkcs1::Result<usize>,
     requires { F.IsAlwaysCallable write }
 {
-    let mut slice = vec![in alloc; UNTOUCHED; room]?;
+    let mut slice = untouched(alloc, room)?;
     let answer = write(slice.as_mut_slice());
-    let shown = slice_shown(alloc, slice.as_slice())?;
-    match answer {
-        Ok(_) => Ok(shown),
-        Err(error) => {
-            let refusal = crate::answer::refused_key(alloc, error)?;
-            Ok(format!(in alloc; "{refusal}, {shown}")?)
-        }
-    }
+    after(alloc, answer, slice.as_slice())
 }
