@@ -1,0 +1,207 @@
+//! Documents from sources and to sinks that move a few bytes a call, that refuse one, or that never end; and in files.
+ghost use Rattle.std.specs.Prelude.{Some, None};
+
+use super::checks::equal;
+use der_core::{Document, Error, ErrorKind, Result, SecretDocument, Sink, Source, ToWrite};
+use std::alloc::Global;
+use std::io::Write;
+use std::path::Path;
+use std::test::Fail;
+use std::{fs, io};
+
+const TEXT: &[u8] = &[0x30, 0x06, 0x02, 0x01, 0x07, 0x02, 0x01, 0x03];
+
+const REFUSED: Error = Error {
+    kind: ErrorKind::File,
+};
+
+/// Gives one byte a call, and refuses the call of number `refused`, from 1 on.
+#[derive(Drop)]
+struct Slow<'a> {
+    left: &'a [u8],
+    refused: u64,
+    calls: u64,
+    faults: u64,
+}
+
+impl<'a> Source for Slow<'a> {
+    ghost remaining = { λ s. Some s.left.now };
+
+    ghost refusals = { λ s. s.faults };
+
+    fn read(&mut self, buf: &mut [u8]) -> Result<usize> {
+        self.calls = self.calls.saturating_add(1);
+        if self.calls == self.refused {
+            self.faults = self.faults.saturating_add(1);
+            return Err(Error::new(ErrorKind::Failed));
+        }
+        let count = 1.min(self.left.len()).min(buf.len());
+        let (given, left) = self.left.split_at(count);
+        buf[..count].copy_from_slice(given);
+        self.left = left;
+        Ok(count)
+    }
+
+    fn faults(&self) -> u64 {
+        self.faults
+    }
+}
+
+fn giving(left: &[u8], refused: u64) -> Slow<'_> {
+    Slow {
+        left,
+        refused,
+        calls: 0,
+        faults: 0,
+    }
+}
+
+/// Gives zeros, a whole buffer a call, and never ends.
+#[derive(Drop)]
+struct Endless;
+
+impl Source for Endless {
+    ghost remaining = { λ _. None };
+
+    ghost refusals = { λ _. 0 };
+
+    fn read(&mut self, buf: &mut [u8]) -> Result<usize> {
+        buf.fill(0);
+        Ok(buf.len())
+    }
+
+    fn faults(&self) -> u64 {
+        0
+    }
+}
+
+/// Takes up to three bytes a call, and refuses the call of number `refused`, from 1 on.
+#[derive(Drop)]
+struct Narrow {
+    taken: Vec<u8>,
+    refused: u64,
+    calls: u64,
+    flushes: u64,
+    faults: u64,
+}
+
+impl Sink for Narrow {
+    ghost contents = { λ s. Some s.taken.items };
+
+    ghost refusals = { λ s. s.faults };
+
+    fn write(&mut self, bytes: &[u8]) -> Result<usize> {
+        self.calls = self.calls.saturating_add(1);
+        let count = 3.min(bytes.len());
+        if self.calls == self.refused || self.taken.extend_from_slice(&bytes[..count]).is_err() {
+            self.faults = self.faults.saturating_add(1);
+            return Err(Error::new(ErrorKind::Failed));
+        }
+        Ok(count)
+    }
+
+    fn flush(&mut self) -> Result<()> {
+        self.flushes = self.flushes.saturating_add(1);
+        Ok(())
+    }
+
+    fn faults(&self) -> u64 {
+        self.faults
+    }
+}
+
+fn taking(alloc: Global, refused: u64) -> Narrow {
+    Narrow {
+        taken: Vec::new(alloc),
+        refused,
+        calls: 0,
+        flushes: 0,
+        faults: 0,
+    }
+}
+
+/// Takes no byte, and refuses none.
+#[derive(Drop)]
+struct Full;
+
+impl Write for Full {
+    fn write(&mut self, _buf: &[u8]) -> io::Result<usize> {
+        Ok(0)
+    }
+
+    fn flush(&mut self) -> io::Result<()> {
+        Ok(())
+    }
+}
+
+#[test]
+fn documents_come_from_sources(rt: HostRuntime) -> std::result::Result<(), Fail> {
+    let alloc = rt.alloc();
+    let document = Document::read_from(alloc, &mut giving(TEXT, 0))?;
+    equal(&rt, document.as_bytes(), TEXT);
+    let secret = SecretDocument::read_from(alloc, &mut giving(TEXT, 0))?;
+    equal(&rt, secret.as_bytes(), TEXT);
+    for call in 1..10 {
+        let mut source = giving(TEXT, call);
+        let answer = Document::read_from(alloc, &mut source);
+        equal(&rt, (answer, source.faults()), (Err(REFUSED), 1));
+    }
+    let answer = SecretDocument::read_from(alloc, &mut giving(TEXT, 3));
+    equal(&rt, answer.map(|_| ()), Err(REFUSED));
+    let answer = Document::read_from(alloc, &mut giving(&[0x30, 0x06, 0x02], 0));
+    equal(&rt, answer, Err(Error::new(ErrorKind::Incomplete)));
+    let answer = Document::read_from(alloc, &mut Endless);
+    equal(&rt, answer, Err(Error::new(ErrorKind::Overflow)));
+    Ok(())
+}
+
+#[test]
+fn documents_go_to_sinks(rt: HostRuntime) -> std::result::Result<(), Fail> {
+    let alloc = rt.alloc();
+    let document = Document::from_der(alloc, TEXT)?;
+    let secret = SecretDocument::from_der(alloc, TEXT)?;
+    let mut sink = taking(alloc, 0);
+    document.write_to(&mut sink)?;
+    equal(&rt, (sink.taken.as_slice(), sink.flushes), (TEXT, 1));
+    let mut sink = taking(alloc, 0);
+    secret.write_to(&mut sink)?;
+    equal(&rt, (sink.taken.as_slice(), sink.flushes), (TEXT, 1));
+    let mut sink = taking(alloc, 2);
+    equal(&rt, document.write_to(&mut sink), Err(REFUSED));
+    equal(&rt, sink.taken.as_slice(), [0x30, 0x06, 0x02].as_slice());
+    equal(
+        &rt,
+        document.write_to(&mut ToWrite::new(Full)),
+        Err(REFUSED),
+    );
+    Ok(())
+}
+
+#[test]
+fn documents_go_through_files(rt: HostRuntime) -> std::result::Result<(), Fail> {
+    let alloc = rt.alloc();
+    let document = Document::from_der(alloc, TEXT)?;
+    let secret = SecretDocument::from_der(alloc, TEXT)?;
+    let path = Path::new("document.der");
+    let absent = Document::read_der_file(&rt, alloc, path);
+    equal(&rt, absent, Err(REFUSED));
+    fs::write(&rt, path, "an old text that is longer")?;
+    let old = Document::read_der_file(&rt, alloc, path);
+    equal(&rt, old.is_err(), true);
+    document.write_der_file(&rt, path)?;
+    let held = fs::read(&rt, path)?;
+    let read = Document::read_der_file(&rt, alloc, path)?;
+    fs::write(&rt, path, "an old text that is longer")?;
+    secret.write_der_file(&rt, path)?;
+    let held_secret = fs::read(&rt, path)?;
+    let read_secret = SecretDocument::read_der_file(&rt, alloc, path)?;
+    fs::remove_file(&rt, path)?;
+    equal(&rt, held.as_slice(), TEXT);
+    equal(&rt, read.as_bytes(), TEXT);
+    equal(&rt, held_secret.as_slice(), TEXT);
+    equal(&rt, read_secret.as_bytes(), TEXT);
+    let nowhere = Path::new("no_such_folder/document.der");
+    equal(&rt, document.write_der_file(&rt, nowhere), Err(REFUSED));
+    equal(&rt, secret.write_der_file(&rt, nowhere), Err(REFUSED));
+    Ok(())
+}
