@@ -22,7 +22,7 @@ use der_core::{
     SliceReader, UintRef,
 };
 
-/// The other primes of a private key, in order, over the bytes that were read.
+/// The other primes of a private key, in order, over the bytes that were read: an iterator that knows how many are left.
 #[derive(Clone, Copy, Drop)]
 pub struct OtherPrimes<'a> {
     bytes: &'a [u8],

@@ -103,7 +103,8 @@ impl<'a> DecodeValue<&'a [u8], NoMemory> for Parts<'a> {
     }
 }
 
-/// An RSA private key, over its text. No memory is taken, however many primes it has.
+/// An RSA private key (RFC 8017 A.1.2), over its text. No memory is taken, however many primes it has, and no relation of
+/// its numbers is checked.
 #[derive(Clone, Copy, Drop)]
 pub struct RsaPrivateKeyView<'a> {
     bytes: &'a [u8],
@@ -188,7 +189,7 @@ impl<'a> RsaPrivateKeyView<'a> {
         }
     }
 
-    /// The primes past the first two, in order.
+    /// The primes past the first two, in order; none where the version is `TwoPrime`.
     pub fn other_primes(&self) -> OtherPrimes<'a>
         ensures { others_left result ≡ listed_others (view_of self.now).other_prime_infos }
     {
@@ -198,7 +199,7 @@ impl<'a> RsaPrivateKeyView<'a> {
         OtherPrimes::none()
     }
 
-    /// The whole text.
+    /// The whole text: the slice that was read.
     pub fn as_bytes(&self) -> &'a [u8]
         ensures { result.now ≡ viewed_text self.now }
     {
@@ -209,7 +210,8 @@ impl<'a> RsaPrivateKeyView<'a> {
 impl<'a> TryFrom<&'a [u8]> for RsaPrivateKeyView<'a> {
     type Error = Error;
 
-    /// Reads a whole slice, without memory however many primes there are.
+    /// Reads a whole slice, without memory however many primes there are. Refused as `RsaPrivateKeyRef::from_der`, want
+    /// of memory aside: with the kernel's error.
     fn try_from(bytes: &'a [u8]) -> crate::Result<RsaPrivateKeyView<'a>>
         ensures ok { IfOk result (λ view. Means grammar.RsaPrivateKey bytes.now (view_of view)) }
         ensures one { IfOk result (λ view. (other : PrivateKey (List ℕ)) → Means grammar.RsaPrivateKey bytes.now other

@@ -19,7 +19,7 @@ use pkcs1::der::{
 };
 use pkcs1::spki::AlgorithmIdentifierRef;
 
-/// A private key, the algorithm that it is for, and attributes.
+/// A private key, the algorithm that it is for, and attributes (PrivateKeyInfo of RFC 5208 5). Its version is 0.
 #[derive(Clone, Copy, Drop)]
 pub struct PrivateKeyInfoRef<'a> {
     /// What the private key is for.
@@ -184,7 +184,7 @@ impl<'a> PrivateKeyInfoRef<'a> {
 impl<'a> TryFrom<&'a [u8]> for PrivateKeyInfoRef<'a> {
     type Error = Error;
 
-    /// Reads a whole slice, without memory.
+    /// Reads a whole slice, without memory. Another version than 0 is `Value` of INTEGER.
     fn try_from(bytes: &'a [u8]) -> Result<PrivateKeyInfoRef<'a>>
         ensures ok { IfOk result (λ info. Means PrivateKeyInfo bytes.now (info_of info)) }
         ensures one { IfOk result (λ info. (other : Info) → Means PrivateKeyInfo bytes.now other

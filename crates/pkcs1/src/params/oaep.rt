@@ -409,8 +409,10 @@ impl<'a> RsaOaepParams<AnyRef<'a>> {
     /// of the first such field: what is read is the shortest text of its value.
     pub fn from_der_strict(bytes: &'a [u8]) -> Result<RsaOaepParams<AnyRef<'a>>>
         ensures ok { IfOk result (λ params. IsShortest grammar.RsaOaepParams (oaep_of params) bytes.now) }
-        ensures one { IfOk result (λ params. (other : OaepParameters) → Means grammar.RsaOaepParams bytes.now other → other ≡ oaep_of params) }
-        ensures default { IfErr result (λ e. (params : OaepParameters) → Means grammar.RsaOaepParams bytes.now params → IsAsn1 (NamesDefault (oaep_fields params) bytes.now) e) }
+        ensures one { IfOk result (λ params. (other : OaepParameters) → Means grammar.RsaOaepParams bytes.now other
+            → other ≡ oaep_of params) }
+        ensures default { IfErr result (λ e. (params : OaepParameters) → Means grammar.RsaOaepParams bytes.now params
+            → IsAsn1 (NamesDefault (oaep_fields params) bytes.now) e) }
         ensures err { IfErr result (λ e. (params : OaepParameters) → IsShortest grammar.RsaOaepParams params bytes.now → ⊥) }
         ensures asn1 { IfErr result (IsAsn1 (λ e. TellsOfBytes e.kind)) }
     {

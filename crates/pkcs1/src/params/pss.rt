@@ -298,8 +298,10 @@ impl<'a> RsaPssParams<AnyRef<'a>> {
     /// of the first such field: what is read is the shortest text of its value.
     pub fn from_der_strict(bytes: &'a [u8]) -> Result<RsaPssParams<AnyRef<'a>>>
         ensures ok { IfOk result (λ params. IsShortest grammar.RsaPssParams (pss_of params) bytes.now) }
-        ensures one { IfOk result (λ params. (other : PssParameters) → Means grammar.RsaPssParams bytes.now other → other ≡ pss_of params) }
-        ensures default { IfErr result (λ e. (params : PssParameters) → Means grammar.RsaPssParams bytes.now params → IsAsn1 (NamesDefault (pss_fields params) bytes.now) e) }
+        ensures one { IfOk result (λ params. (other : PssParameters) → Means grammar.RsaPssParams bytes.now other
+            → other ≡ pss_of params) }
+        ensures default { IfErr result (λ e. (params : PssParameters) → Means grammar.RsaPssParams bytes.now params
+            → IsAsn1 (NamesDefault (pss_fields params) bytes.now) e) }
         ensures err { IfErr result (λ e. (params : PssParameters) → IsShortest grammar.RsaPssParams params bytes.now → ⊥) }
         ensures asn1 { IfErr result (IsAsn1 (λ e. TellsOfBytes e.kind)) }
     {
