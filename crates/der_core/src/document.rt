@@ -66,7 +66,7 @@ impl<'a> DecodeValue<&'a [u8], NoMemory> for AnySequence {
 }
 
 /// Writes the text of a message over a slice of its length.
-fn write_over<T: EncodeValue + FixedTag>(message: &T, out: &mut [u8])
+pub fn write_over<T: EncodeValue + FixedTag>(message: &T, out: &mut [u8])
     requires has { T.has_contents (T.value message.now) }
     requires fits { length (tlv T.TAG.octet (T.written_contents (T.value message.now))) ≤ limit }
     requires room { length out.old ≡ length (tlv T.TAG.octet (T.written_contents (T.value message.now))) }

@@ -2,8 +2,8 @@
 use Rattle.std.proofs.Common.{List, arith}
 use Rattle.spki_core.specs.Explicit.{Field}
 use Rattle.spki_core.proofs.Fields.{AreInOrder}
-use Rattle.spki_core.proofs.Spellings.{masked_spells, spelled_is_masked, one_mask, one_text, zero_shortest, shortest_zero, zero_fits}
-use Rattle.pkcs1.specs.Spellings.{EachHasOneMask, EachMaskHasOne, ShortestHasNoDefaults, AcceptedFits}
+use Rattle.spki_core.proofs.Spellings.{masked_spells, spelled_is_masked, one_mask, one_text, zero_shortest, shortest_zero, zero_fits, masks_are_members}
+use Rattle.pkcs1.specs.Spellings.{EachHasOneMask, EachMaskHasOne, ShortestHasNoDefaults, AcceptedFits, HasTwoToTheDefaults}
 
 module _ {V : Type 0} (fields : V → List Field) (ordered : (v : V) → AreInOrder (fields v)) where
   pub each_has_one_mask : EachHasOneMask fields
@@ -19,6 +19,9 @@ module _ {V : Type 0} (fields : V → List Field) (ordered : (v : V) → AreInOr
     λ p. zero_shortest fields ordered v k text d p.1 p.0,
     λ p. (p.spells.0, shortest_zero fields ordered v k text d p),
   )
+
+  pub two_to_the_defaults : (v : V) → HasTwoToTheDefaults fields v
+  two_to_the_defaults v k count fit = let r = masks_are_members fields ordered v k fit.0 count fit.1 fit.2 in (r.0, r.1)
 
 pub accepted_fits : {V : Type 0} (fields : V → List Field) → AcceptedFits fields
 accepted_fits fields v k text d p =

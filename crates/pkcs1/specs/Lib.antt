@@ -31,8 +31,10 @@ pub mod OtherPrimesHeld
 pub mod OtherPrimesLeft
 pub mod PssMasks
 pub mod ViewParts
-pub mod PssSpellings
-pub mod PssSpelled
-pub mod MaskWrites
 pub mod Defaults
 pub mod ParameterLaws
+pub mod DigestMasks
+pub mod OaepMasks
+pub mod ParameterMasks
+pub mod MaskedValues
+pub mod HeldParameters

@@ -36,19 +36,19 @@ pss_of_bytes p c j =
     c j
 
 -- What is written of a number.
-abbrev written_number : ℕ → List ℕ
+abbrev pub written_number : ℕ → List ℕ
 written_number n = tlv 2 (integer_contents (n ∷ []))
 
-salt_relates : (n : ℕ) → n < 256 → length (written_number n) < 2 ^ 128 → Small n (written_number n)
+pub salt_relates : (n : ℕ) → n < 256 → length (written_number n) < 2 ^ 128 → Small n (written_number n)
 salt_relates n h fits = tlv_relates 2 SmallContents (λ m. integer_contents (m ∷ [])) n (λ _. small_relates n h) fits
 
-salt_shortest : (n : ℕ) (b : List ℕ) → Small n b → IsLeast (n < 256) (written_number n) b
+pub salt_shortest : (n : ℕ) (b : List ℕ) → Small n b → IsLeast (n < 256) (written_number n) b
 salt_shortest = tlv_shortest 2 SmallContents (λ m. integer_contents (m ∷ [])) (λ m. m < 256) small_shortest
 
-trailer_text_relates : (n : ℕ) → n ≡ 1 → length (written_number n) < 2 ^ 128 → TrailerField n (written_number n)
+pub trailer_text_relates : (n : ℕ) → n ≡ 1 → length (written_number n) < 2 ^ 128 → TrailerField n (written_number n)
 trailer_text_relates n h fits = tlv_relates 2 TrailerContents (λ m. integer_contents (m ∷ [])) n (λ _. trailer_relates n h) fits
 
-trailer_text_shortest : (n : ℕ) (b : List ℕ) → TrailerField n b → IsLeast (n ≡ 1) (written_number n) b
+pub trailer_text_shortest : (n : ℕ) (b : List ℕ) → TrailerField n b → IsLeast (n ≡ 1) (written_number n) b
 trailer_text_shortest = tlv_shortest 2 TrailerContents (λ m. integer_contents (m ∷ [])) (λ m. m ≡ 1) trailer_shortest
 
 pub pss_relates : (p : PssParameters) → HasPss (pss_defaults p) p → length (written_pss (pss_defaults p) p) < 2 ^ 128 → PssContents p (written_pss (pss_defaults p) p)

@@ -15,7 +15,6 @@ ghost use Rattle.pkcs1.specs.Spellings.{
   AcceptedFits,
   TwoToTheDefaults,
 };
-ghost use Rattle.pkcs1.specs.PssMasks.{PssMasksAreWritten};
 
 use crate::params::{RsaOaepParams, RsaPssParams};
 use crate::private_key::RsaPrivateKey;
@@ -83,9 +82,4 @@ pub fn forms_share_the_grammars()
     ensures private { SameTexts ⟦<RsaPrivateKey<UintRef<'static>> as Text>⟧.text keys.RsaPrivateKey × SameTexts ⟦<RsaPrivateKey<Uint> as Text>⟧.text keys.RsaPrivateKey }
     ensures pss { SameTexts ⟦<RsaPssParams<AnyRef<'static>> as Text>⟧.text parameters.RsaPssParams × SameTexts ⟦<RsaPssParams<Any> as Text>⟧.text parameters.RsaPssParams }
     ensures oaep { SameTexts ⟦<RsaOaepParams<AnyRef<'static>> as Text>⟧.text parameters.RsaOaepParams × SameTexts ⟦<RsaOaepParams<Any> as Text>⟧.text parameters.RsaOaepParams }
-{}
-
-/// What is written of PSS parameters without some defaults are the contents under the mask that says so.
-pub fn pss_masks_are_written()
-    ensures { PssMasksAreWritten }
 {}

@@ -27,7 +27,7 @@ pub use other_prime_info::{OtherPrimeInfo, OtherPrimeInfos};
 pub use other_primes::OtherPrimes;
 pub use params::{
     RsaOaepParams, RsaOaepParamsOwned, RsaOaepParamsRef, RsaPssParams, RsaPssParamsOwned,
-    RsaPssParamsRef, TrailerField, spell_pss_into,
+    RsaPssParamsRef, TrailerField,
 };
 pub use private_key::{RsaPrivateKey, RsaPrivateKeyOwned, RsaPrivateKeyRef};
 pub use public_key::{RsaPublicKey, RsaPublicKeyOwned, RsaPublicKeyRef};

@@ -2,13 +2,14 @@
 
 mod digest;
 mod oaep;
+mod oaep_spelling;
 mod pss;
 mod pss_spelling;
+mod spelling;
 mod strict;
 mod trailer_field;
 
 pub(crate) use digest::with_null;
 pub use oaep::{RsaOaepParams, RsaOaepParamsOwned, RsaOaepParamsRef};
 pub use pss::{RsaPssParams, RsaPssParamsOwned, RsaPssParamsRef};
-pub use pss_spelling::spell_pss_into;
 pub use trailer_field::TrailerField;

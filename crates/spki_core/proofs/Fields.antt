@@ -163,6 +163,33 @@ masked_made (f ∷ fields) k m e (inr (a, h)) l (x, y, p, i, g) =
     let r = masked_made fields k m y h l i in
     (x ++ r.0, (m, (x, r.0, forced a refl p, r.1, refl)), omega (arith, r.2, length-append x r.0))
 
+-- Under the last mask every field is written.
+pub last_explicit : (fields : List Field) (k m : ℕ) (c : List ℕ) → HaveDefaults fields k → suc m ≡ 2 ^ k → MaskedContents fields m c → Joins (map Explicit fields) c
+last_explicit [] k m c d e p = p.0
+last_explicit (f ∷ fields) k m c (inl (a, j, s, h)) e (n, (x, y, p, i, g)) =
+    let t : suc m ≡ 2 ^ suc j = rw s at e in
+    let u : suc m ≡ 2 ^ j * 2 = rw (pow-suc 2 j) at t in
+    let r = go p (2 ^ j) u in
+    (x, y, r.1, last_explicit fields j n y h r.0 i, g)
+  where
+    go : MaskedField f m n x → (b : ℕ) → suc m ≡ b * 2 → (suc n ≡ b) × Explicit f x
+    go (left_out d' e' z) b l = absurd (omega arith)
+    go (written d' e' q) b l = (omega arith, q)
+    go (forced d' e' q) b l = absurd (d' a)
+last_explicit (f ∷ fields) k m c (inr (a, h)) e (n, (x, y, left_out d z q, i, g)) = absurd (a d)
+last_explicit (f ∷ fields) k m c (inr (a, h)) e (n, (x, y, written d z q, i, g)) = absurd (a d)
+last_explicit (f ∷ fields) k m c (inr (a, h)) e (n, (x, y, forced d z q, i, g)) = (x, y, q, last_explicit fields k n y h (rw z at e) i, g)
+
+pub explicit_last : (fields : List Field) (k : ℕ) (c : List ℕ) → HaveDefaults fields k → Joins (map Explicit fields) c → (m : ℕ) × (suc m ≡ 2 ^ k) × MaskedContents fields m c
+explicit_last [] k c d p = (0, rw d refl, (p, refl))
+explicit_last (f ∷ fields) k c (inl (a, j, s, h)) (x, y, p, i, g) =
+    let r = explicit_last fields j y h i in
+    let u : 2 ^ suc j ≡ 2 ^ j * 2 = pow-suc 2 j in
+    (2 * r.0 + 1, rw (s, u) (omega (arith, r.1)), (r.0, (x, y, written a refl p, r.2, g)))
+explicit_last (f ∷ fields) k c (inr (a, h)) (x, y, p, i, g) =
+    let r = explicit_last fields k y h i in
+    (r.0, r.1, (r.0, (x, y, forced a refl p, r.2, g)))
+
 -- Contents that join the fields can be written with no default, and are then no longer.
 pub zero_made : (fields : List Field) (k : ℕ) (c : List ℕ) → HaveDefaults fields k → Joins (map Defaultable fields) c → (d : List ℕ) × MaskedContents fields 0 d × (length d ≤ length c)
 zero_made [] k c h p = (c, (p, refl), le_refl (length c))

@@ -1,5 +1,5 @@
 -- The spellings of a value whose type is a SEQUENCE of explicit fields with defaults.
-use Rattle.std.proofs.Common.{ℕ, List, [], ◌≡◌, ◌<◌, ◌≤◌, ◌+◌, ◌^◌, ◌⊎◌, inl, inr, map, length, refl, arith, get_or}
+use Rattle.std.proofs.Common.{ℕ, suc, List, [], ◌≡◌, ◌<◌, ◌≤◌, ◌+◌, ◌^◌, ◌⊎◌, inl, inr, map, length, refl, arith, get_or}
 use Rattle.der_core.specs.Texts.{IsDelimited, MeansOne, Joins}
 use Rattle.der_core.specs.Length.{limit}
 use Rattle.der_core.specs.Document.{Spellings, IsShortest}
@@ -8,7 +8,7 @@ use Rattle.der_core.specs.TextLaws.{tlv_split, tlv_delimited, tlv_at_most_one, t
 use Rattle.der_core.proofs.Growing.{tlv_same, tlv_grows, contents_shorter, tlv_recast}
 use Rattle.der_core.proofs.Members.{list_of}
 use Rattle.spki_core.specs.Explicit.{Field, Defaultable, FieldSequence, HaveDefaults, MaskedContents, Masked, AllExplicit}
-use Rattle.spki_core.proofs.Fields.{AreInOrder, masked_joins, masked_below, joins_masked, masked_same, mask_same, zero_shorter, masked_made, zero_made}
+use Rattle.spki_core.proofs.Fields.{AreInOrder, masked_joins, masked_below, joins_masked, masked_same, mask_same, zero_shorter, masked_made, zero_made, last_explicit, explicit_last}
 
 pub masked_spells : (fields : List Field) (m : ℕ) (text : List ℕ) → Masked fields m text → FieldSequence fields text
 masked_spells fields m text p = tlv_recast text p (masked_joins fields m p.contents p.holds)
@@ -44,6 +44,16 @@ masked_fits fields k m all d l p fits =
     let g : length t.0 + 0 ≤ length all = tlv_grows 0 t.0 all t.1 p (rw t.2 (omega (arith, r.2))) in
     (t.0, (t.1, omega arith))
 
+-- The text under the last mask is the one in which every field is written.
+pub last_is_all : (fields : List Field) (k m : ℕ) (text : List ℕ) → HaveDefaults fields k → suc m ≡ 2 ^ k → Masked fields m text → AllExplicit fields text
+last_is_all fields k m text d e p = tlv_recast text p (last_explicit fields k m p.contents d e p.holds)
+
+pub all_is_last : (fields : List Field) (k m : ℕ) (text : List ℕ) → HaveDefaults fields k → suc m ≡ 2 ^ k → AllExplicit fields text → Masked fields m text
+all_is_last fields k m text d e p =
+    let r = explicit_last fields k p.contents d p.holds in
+    let same : r.0 ≡ m = omega (arith, e, r.1) in
+    tlv_recast text p (rw same at r.2)
+
 -- A spelling within the limit has one with no default, which is no longer.
 pub zero_fits : (fields : List Field) (k : ℕ) (text : List ℕ) → HaveDefaults fields k → FieldSequence fields text → length text ≤ limit → (shortest : List ℕ) × Masked fields 0 shortest × (length shortest ≤ length text)
 zero_fits fields k text d p fits =
@@ -69,19 +79,21 @@ module _ {V : Type 0} (fields : V → List Field) (ordered : (v : V) → AreInOr
         | inr l ↦ absurd (omega (arith, r.2))
       ]
 
-  -- The texts under the masks below two to the number of defaults are the spellings.
+  -- Texts under the masks below two to the number of defaults, one for each, are the spellings.
+  pub members_under : (v : V) (k : ℕ) (texts : List (List ℕ)) → HaveDefaults (fields v) k → length texts ≡ 2 ^ k → ((m : ℕ) → m < 2 ^ k → Masked (fields v) m (get_or texts m []) × (length (get_or texts m []) ≤ limit))
+      → AreTheMembers (Spellings (λ w. FieldSequence (fields w)) v) (2 ^ k) texts
+  members_under v k texts d count under = record {
+    count = count;
+    only = λ i h. ((under i h).1, masked_spells (fields v) i (get_or texts i []) (under i h).0);
+    none_twice = λ i j h h' e. one_mask (fields v) i j (get_or texts j []) (ordered v) (rw e at (under i h).0) (under j h').0;
+    every = λ text s. let q = spelled_is_masked (fields v) k text d s.1 in (q.0, q.1, one_text (fields v) q.0 (get_or texts q.0 []) text (ordered v) (under q.0 q.1).0 q.2);
+  }
+
+  -- So there are such texts where the one with every field is within the limit.
   pub masks_are_members : (v : V) (k : ℕ) (all : List ℕ) → HaveDefaults (fields v) k → AllExplicit (fields v) all → length all ≤ limit → (texts : List (List ℕ)) × AreTheMembers (Spellings (λ w. FieldSequence (fields w)) v) (2 ^ k) texts × ((m : ℕ) → m < 2 ^ k → Masked (fields v) m (get_or texts m []))
   masks_are_members v k all d p l =
-      let r = list_of (2 ^ k) (λ m text. Masked (fields v) m text × (length text ≤ limit)) (λ m h. masked_fits (fields v) k m all d h p l) in (
-        r.0,
-        record {
-          count = r.1;
-          only = λ i h. ((r.2 i h).1, masked_spells (fields v) i (get_or r.0 i []) (r.2 i h).0);
-          none_twice = λ i j h h' e. one_mask (fields v) i j (get_or r.0 j []) (ordered v) (rw e at (r.2 i h).0) (r.2 j h').0;
-          every = λ text s. let q = spelled_is_masked (fields v) k text d s.1 in (q.0, q.1, one_text (fields v) q.0 (get_or r.0 q.0 []) text (ordered v) (r.2 q.0 q.1).0 q.2);
-        },
-        λ m h. (r.2 m h).0,
-      )
+      let r = list_of (2 ^ k) (λ m text. Masked (fields v) m text × (length text ≤ limit)) (λ m h. masked_fits (fields v) k m all d h p l) in
+      (r.0, members_under v k r.0 d r.1 r.2, λ m h. (r.2 m h).0)
 
 module _ {V : Type 0} (fields : V → List Field) (one : MeansOne (λ v. Joins (map Defaultable (fields v)))) where
   pub fields_delimited : IsDelimited (λ v. FieldSequence (fields v))

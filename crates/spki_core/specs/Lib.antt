@@ -17,3 +17,5 @@ pub mod AlgorithmLaws
 pub mod ContextSpecificLaws
 pub mod FieldLaws
 pub mod AlgorithmTexts
+pub mod Masks
+pub mod MaskLaws

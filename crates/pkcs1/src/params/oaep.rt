@@ -160,9 +160,10 @@ impl<P: AnyValue> RsaOaepParams<P> {
     ghost use Rattle.pkcs1.specs.Parameters as grammar;
     ghost use Rattle.pkcs1.specs.OaepParams.{oaep_with, oaep_of};
     ghost use Rattle.pkcs1.specs.Refusals.{IsAsn1};
+    ghost use Rattle.pkcs1.specs.Spellings.{HasTwoToTheDefaults};
 
     /// The same, borrowed.
-    fn as_params_ref(&self) -> RsaOaepParams<AnyRef<'_>>
+    pub(crate) fn as_params_ref(&self) -> RsaOaepParams<AnyRef<'_>>
         ensures { oaep_of result ≡ oaep_with P.any self.now }
     {
         RsaOaepParams {
@@ -188,6 +189,7 @@ impl<P: AnyValue> RsaOaepParams<P> {
         ensures no_default { IfOk result (λ n. Masked (oaep_fields (oaep_with P.any self.now)) 0 (take n out.new)) }
         ensures rest { IfOk result (λ n. (n ≤ length out.new) × (drop n out.new ≡ drop n out.old)) }
         ensures one { IfOk result (λ n. (other : OaepParameters) → grammar.RsaOaepParams other (take n out.new) → other ≡ oaep_with P.any self.now) }
+        ensures count { OnOk result (HasTwoToTheDefaults oaep_fields (oaep_with P.any self.now)) }
         ensures unchanged { OnErr result (out.new ≡ out.old) }
         ensures err { IfErr result (IsAsn1 (λ e. IsRefused (HasText grammar.RsaOaepParams (oaep_with P.any self.now)) grammar.RsaOaepParams (oaep_with P.any self.now) (length out.old) (fault e.kind))) }
     {
@@ -220,7 +222,7 @@ impl RsaOaepParams<AnyRef<'_>> {
     ghost use Rattle.pkcs1.specs.OaepParams.{oaep_of};
 
     /// Which fields equal their defaults.
-    fn defaults(&self) -> OaepLeftOut
+    pub(crate) fn defaults(&self) -> OaepLeftOut
         ensures { result ≡ oaep_defaults (oaep_of self.now) }
     {
         OaepLeftOut {
@@ -244,7 +246,7 @@ impl RsaOaepParams<AnyRef<'_>> {
     }
 
     /// How many octets the contents have, without some fields.
-    fn len_without(&self, left_out: OaepLeftOut) -> der_core::Result<Length>
+    pub(crate) fn len_without(&self, left_out: OaepLeftOut) -> der_core::Result<Length>
         ensures { Counts (HasOaep left_out (oaep_of self.now)) (written_oaep left_out (oaep_of self.now)) result }
     {
         joined_len(
@@ -254,7 +256,7 @@ impl RsaOaepParams<AnyRef<'_>> {
     }
 
     /// Appends the contents, without some fields.
-    fn encode_without<W: Writer>(
+    pub(crate) fn encode_without<W: Writer>(
         &self,
         left_out: OaepLeftOut,
         writer: &mut W,
@@ -271,7 +273,7 @@ impl RsaOaepParams<AnyRef<'_>> {
     }
 
     /// Puts the contents before what is filled, without some fields.
-    fn prepend_without(&self, left_out: OaepLeftOut, writer: &mut BackWriter<'_>)
+    pub(crate) fn prepend_without(&self, left_out: OaepLeftOut, writer: &mut BackWriter<'_>)
         requires has { HasOaep left_out (oaep_of self.now) }
         requires fits { length (written_oaep left_out (oaep_of self.now)) ≤ limit }
         requires room { length (written_oaep left_out (oaep_of self.now)) ≤ free_of writer.old }

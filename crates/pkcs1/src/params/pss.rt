@@ -119,9 +119,10 @@ impl<P: AnyValue> RsaPssParams<P> {
     ghost use Rattle.pkcs1.specs.Parameters as grammar;
     ghost use Rattle.pkcs1.specs.PssParams.{pss_with, pss_of};
     ghost use Rattle.pkcs1.specs.Refusals.{IsAsn1};
+    ghost use Rattle.pkcs1.specs.Spellings.{HasTwoToTheDefaults};
 
     /// The same, borrowed.
-    fn as_params_ref(&self) -> RsaPssParams<AnyRef<'_>>
+    pub(crate) fn as_params_ref(&self) -> RsaPssParams<AnyRef<'_>>
         ensures { pss_of result ≡ pss_with P.any self.now }
     {
         RsaPssParams {
@@ -150,6 +151,7 @@ impl<P: AnyValue> RsaPssParams<P> {
         ensures no_default { IfOk result (λ n. Masked (pss_fields (pss_with P.any self.now)) 0 (take n out.new)) }
         ensures rest { IfOk result (λ n. (n ≤ length out.new) × (drop n out.new ≡ drop n out.old)) }
         ensures one { IfOk result (λ n. (other : PssParameters) → grammar.RsaPssParams other (take n out.new) → other ≡ pss_with P.any self.now) }
+        ensures count { OnOk result (HasTwoToTheDefaults pss_fields (pss_with P.any self.now)) }
         ensures unchanged { OnErr result (out.new ≡ out.old) }
         ensures err { IfErr result (IsAsn1 (λ e. IsRefused (HasText grammar.RsaPssParams (pss_with P.any self.now)) grammar.RsaPssParams (pss_with P.any self.now) (length out.old) (fault e.kind))) }
     {

@@ -1,50 +1,29 @@
-//! PSS parameters with a mask that says which defaults are written.
-ghost use Rattle.std.specs.Prelude.{◌≡◌, ◌≤◌, ◌<◌, ◌^◌, ℕ, length, take, drop, refl, IfOk, IfErr, OnErr};
-ghost use Rattle.der_core.specs.Length.{limit};
-ghost use Rattle.der_core.specs.Document.{IsRefused};
-ghost use Rattle.der_core.specs.Tlv.{Tlv};
-ghost use Rattle.der_core.specs.Writing.{fault};
-ghost use Rattle.spki_core.specs.Explicit.{HaveDefaults, Masked};
-ghost use Rattle.pkcs1.specs.Parameters.{pss_fields};
-ghost use Rattle.pkcs1.specs.PssParams.{pss_of};
-ghost use Rattle.pkcs1.specs.PssMasks.{pss_out, out_under, rest_under};
+//! Parameters of RSASSA-PSS under a mask.
+ghost use Rattle.std.specs.Prelude.{◌≡◌, ◌≤◌, length, take, drop, OnOk, OnErr, IfOk, IfErr};
+ghost use Rattle.pkcs1.specs.Defaults.{pss_defaults as pss_count};
+ghost use Rattle.pkcs1.specs.PssLaws.{pss_means_one, pss_of_bytes};
+ghost use Rattle.pkcs1.specs.PssMasks.{pss_out, has_pss_under, written_pss_under};
+ghost use Rattle.pkcs1.specs.PssParams.{pss_of, pss_with};
 ghost use Rattle.pkcs1.specs.PssWriting.{pss_defaults};
-ghost use Rattle.pkcs1.specs.PssSpellings.{MaskedPss, MaskedPssContents, HasMaskedPss, written_masked_pss, masked_pss_means_one, masked_pss_of_bytes, masked_pss_relates, masked_pss_shortest};
+ghost use Rattle.pkcs1.specs.ParameterLaws.{pss_in_order};
+ghost use Rattle.pkcs1.specs.ParameterMasks.{pss_under_relates, pss_under_least};
+ghost use Rattle.pkcs1.specs.Parameters.{PssParameters, pss_fields};
+ghost use Rattle.pkcs1.specs.Spellings.{IsMask, StandsUnder, IsUnspelled, AllFit, AreAllSpellings, LacksSpellings, texts_in};
 
+use crate::error::Result;
 use crate::params::pss::{PssLeftOut, RsaPssParams};
-use der_core::{
-    BackWriter, Contents, Encode, EncodeValue, Kinded, Length, Result, SequenceTag, Writer,
-};
-use spki_core::AnyRef;
+use crate::params::spelling::{DefaultFields, all_spellings, spell_into, under};
+use der_core::{BackWriter, Length, Writer};
+use spki_core::{AnyRef, AnyValue};
+use std::alloc::Global;
 
-/// Parameters, and a mask that says which of their defaults are written.
-#[derive(Clone, Copy, Drop)]
-pub(crate) struct PssSpelling<'a> {
-    params: RsaPssParams<AnyRef<'a>>,
-    mask: u8,
-    ghost range: { (k : ℕ) → HaveDefaults (pss_fields (pss_of params)) k → mask < 2 ^ k },
-}
-
-/// Whether a field is left out, and the mask for the later ones.
-fn under(default: bool, mask: u8) -> (bool, u8)
-    ensures { result ≡ (out_under default mask, rest_under default mask) }
-{
-    if default {
-        (mask % 2 == 0, mask / 2)
-    } else {
-        (false, mask)
-    }
-}
-
-impl PssSpelling<'_> {
-    ghost use Rattle.pkcs1.specs.PssSpelled.{spelled};
-
-    /// Which fields are left out.
-    fn left_out(&self) -> PssLeftOut
-        ensures { result ≡ pss_out (pss_defaults (pss_of self.now.params)) self.now.mask }
+impl RsaPssParams<AnyRef<'_>> {
+    /// Which fields are left out under a mask.
+    fn left_out(&self, mask: u8) -> PssLeftOut
+        ensures { result ≡ pss_out (pss_defaults (pss_of self.now)) mask }
     {
-        let defaults = self.params.defaults();
-        let (hash, mask) = under(defaults.hash, self.mask);
+        let defaults = self.defaults();
+        let (hash, mask) = under(defaults.hash, mask);
         let (mask_gen, mask) = under(defaults.mask_gen, mask);
         let (salt_len, mask) = under(defaults.salt_len, mask);
         let (trailer_field, _) = under(defaults.trailer_field, mask);
@@ -57,57 +36,71 @@ impl PssSpelling<'_> {
     }
 }
 
-impl Contents for PssSpelling<'_> {
-    ghost use Rattle.pkcs1.specs.PssSpelled.{spelled};
+impl DefaultFields for RsaPssParams<AnyRef<'_>> {
+    ghost Params = { PssParameters };
 
-    ghost Value = { MaskedPss };
+    ghost params = { pss_of };
 
-    ghost value = { spelled };
+    ghost fields = { pss_fields };
 
-    ghost contents = { MaskedPssContents };
+    ghost in_order = { pss_in_order };
 
-    ghost has_contents = { HasMaskedPss };
+    ghost fields_mean_one = { pss_means_one };
 
-    ghost written_contents = { written_masked_pss };
+    ghost fields_of_bytes = { pss_of_bytes };
 
-    ghost means_one = { masked_pss_means_one };
+    ghost has_under = { has_pss_under };
 
-    ghost contents_of_bytes = { masked_pss_of_bytes };
-}
+    ghost written_under = { written_pss_under };
 
-impl Kinded for PssSpelling<'_> {
-    type Kind = SequenceTag;
-}
-
-impl EncodeValue for PssSpelling<'_> {
-    fn value_len(&self) -> Result<Length> {
-        self.params.len_without(self.left_out())
+    fn is_held(&self) {
+        let _salt_len = self.salt_len;
     }
 
-    fn encode_value<W: Writer>(&self, writer: &mut W) -> Result<()> {
-        self.params.encode_without(self.left_out(), writer)
+    fn count_defaults(&self) -> u8 {
+        self.default_fields()
     }
 
-    fn prepend_value(&self, writer: &mut BackWriter<'_>) {
-        self.params.prepend_without(self.left_out(), writer);
+    fn len_under(&self, mask: u8) -> der_core::Result<Length> {
+        self.len_without(self.left_out(mask))
     }
 
-    ghost contents_relate = { masked_pss_relates };
+    fn encode_under<W: Writer>(&self, mask: u8, writer: &mut W) -> der_core::Result<()> {
+        self.encode_without(self.left_out(mask), writer)
+    }
 
-    ghost contents_shortest = { masked_pss_shortest };
+    fn prepend_under(&self, mask: u8, writer: &mut BackWriter<'_>) {
+        self.prepend_without(self.left_out(mask), writer);
+    }
+
+    ghost counted = { pss_count };
+
+    ghost under_relates = { pss_under_relates };
+
+    ghost under_least = { pss_under_least };
 }
 
-/// Writes the text under a mask to the front of a slice, and answers its length.
-pub fn spell_pss_into(params: &RsaPssParams<AnyRef<'_>>, mask: u8, out: &mut [u8]) -> Result<usize>
-    requires { (k : ℕ) → HaveDefaults (pss_fields (pss_of params.now)) k → mask < 2 ^ k }
-    ensures masked { IfOk result (λ n. Masked (pss_fields (pss_of params.now)) mask (take n out.new)) }
-    ensures rest { IfOk result (λ n. (n ≤ length out.new) × (drop n out.new ≡ drop n out.old)) }
-    ensures unchanged { OnErr result (out.new ≡ out.old) }
-    ensures err { IfErr result (λ e. IsRefused (HasMaskedPss (record { params = pss_of params.now; mask = mask })) (λ (v : MaskedPss). Tlv 48 (MaskedPssContents v)) (record { params = pss_of params.now; mask = mask }) (length out.old) (fault e.kind)) }
-{
-    let spelling = PssSpelling {
-        params: *params,
-        mask,
-    };
-    Ok(spelling.encode_into(out)?)
+impl<P: AnyValue> RsaPssParams<P> {
+    /// Writes one spelling to the front of a slice, and answers its length: bit j of the mask (bit 0 is the lowest) says
+    /// whether the j-th of the fields that equal their defaults, in their order, is written. Mask 0 is the shortest.
+    /// `Overflow` where the text passes `Length::MAX`, `NoRoom` where the slice is shorter.
+    pub fn encode_spelling(&self, mask: u8, out: &mut [u8]) -> Result<usize>
+        requires { IsMask (pss_fields (pss_with P.any self.now)) mask }
+        ensures stands { IfOk result (λ n. StandsUnder pss_fields (pss_with P.any self.now) mask (take n out.new)) }
+        ensures rest { IfOk result (λ n. (n ≤ length out.new) × (drop n out.new ≡ drop n out.old)) }
+        ensures unchanged { OnErr result (out.new ≡ out.old) }
+        ensures err { IfErr result (IsUnspelled (pss_fields (pss_with P.any self.now)) mask (length out.old)) }
+    {
+        spell_into(&self.as_params_ref(), mask, out)
+    }
+
+    /// All spellings, each at its mask, so that the shortest is the first: two to the number of default fields.
+    /// `Overflow` where the one with every field passes `Length::MAX`, before memory is asked for.
+    pub fn spellings(&self, alloc: Global) -> Result<Vec<Vec<u8>>>
+        ensures all { IfOk result (λ texts. AreAllSpellings pss_fields (pss_with P.any self.now) (texts_in texts)) }
+        ensures fit { OnOk result (AllFit (pss_fields (pss_with P.any self.now))) }
+        ensures err { IfErr result (LacksSpellings (pss_fields (pss_with P.any self.now))) }
+    {
+        all_spellings(&self.as_params_ref(), alloc)
+    }
 }

@@ -4,7 +4,7 @@ use Rattle.der_core.specs.Tlv.{tlv}
 use Rattle.pkcs1.specs.OaepParams.{oaep_of, labelled}
 use Rattle.pkcs1.specs.OaepWriting.{oaep_defaults, HasOaep, written_oaep}
 use Rattle.pkcs1.specs.Parameters.{OaepParameters}
-use Rattle.pkcs1.proofs.HeldParameters.{identifier_held}
+use Rattle.pkcs1.specs.HeldParameters.{identifier_held}
 use Rattle.pkcs1.proofs.Labels.{counts_as, labelled_counted, labelled_held}
 use Rattle.pkcs1.proofs.params.oaep.labelled_len.Goals as goal
 

@@ -7,11 +7,12 @@ use Rattle.der_core.proofs.Refusals.{refused_by}
 use Rattle.spki_core.specs.Explicit.{Masked}
 use Rattle.spki_core.proofs.Spellings.{shortest_zero}
 use Rattle.pkcs1.specs.Parameters.{RsaOaepParams, oaep_fields}
-use Rattle.pkcs1.specs.OaepParams.{oaep_of}
+use Rattle.pkcs1.specs.OaepParams.{oaep_of, oaep_with}
 use Rattle.pkcs1.specs.OaepWriting.{oaep_defaults, written_oaep}
 use Rattle.pkcs1.specs.Defaults.{oaep_defaults as oaep_count}
-use Rattle.pkcs1.proofs.HeldParameters.{oaep_made}
+use Rattle.pkcs1.specs.HeldParameters.{oaep_made}
 use Rattle.pkcs1.specs.ParameterLaws.{oaep_delimited, oaep_in_order}
+use Rattle.pkcs1.proofs.ParameterSpellings.{two_to_the_defaults}
 use Rattle.pkcs1.proofs.params.oaep.RsaOaepParams.encode_params.Goals as goal
 
 pub returns-clause-shortest : goal.returns-clause-shortest
@@ -45,3 +46,6 @@ returns-in_err-encode_into-clause-err g c =
     let e = err_from_is_err_and c.from_residual.result c.from_residual.ensures.1 in
     let p = c.as_params_ref.result in
     rw (← c.as_params_ref.ensures, e.1, e.2) (refused_by RsaOaepParams (oaep_of p) _ _ (oaep_made p) _ c.in_err-encode_into.ensures.err)
+
+pub returns-clause-count : goal.returns-clause-count
+returns-clause-count g c = two_to_the_defaults oaep_fields oaep_in_order (oaep_with g.P.AnyValue.any c.args.self.now)

@@ -1,19 +1,19 @@
 -- Borrowed parameters are far shorter than 2 ^ 128 octets, and so have texts.
-use Rattle.std.proofs.Common.{ℕ, List, [], ◌∷◌, ◌++◌, ◌≤◌, ◌<◌, ◌+◌, ◌^◌, length, arith, length-append, Option, Some, None, Bool, true, false}
+use Rattle.std.proofs.Common.{ℕ, List, [], ◌∷◌, ◌++◌, ◌≤◌, ◌<◌, ◌+◌, ◌^◌, length, arith, length-append, Option, Some, None, Bool, true, false, refl}
 use Rattle.std.specs.Prelude.{nat_lt, if◌then◌else◌}
 use Rattle.std.specs.Option.{option_map}
 use Rattle.der_core.specs.InputLaws.{are_bytes}
 use Rattle.der_core.specs.Integer.{integer_contents}
 use Rattle.der_core.specs.Length.{limit, length_octets}
 use Rattle.der_core.specs.LengthLaws.{length_few, length_octets-within}
-use Rattle.der_core.specs.Optional.{written_optional}
+use Rattle.der_core.specs.Optional.{HasOptional, written_optional}
 use Rattle.der_core.specs.TextLaws.{tlv_made}
 use Rattle.der_core.specs.Tlv.{tlv}
-use Rattle.spki_core.specs.Any.{written_any}
-use Rattle.spki_core.specs.AlgorithmIdentifier.{written_plain, written_mask}
+use Rattle.spki_core.specs.Any.{IsAny, written_any}
+use Rattle.spki_core.specs.AlgorithmIdentifier.{HasPlain, HasMask, written_plain, written_mask}
 use Rattle.spki_core.specs.AlgorithmRefs.{algorithm_of, mask_of}
 use Rattle.spki_core.specs.AnyRefs.{any_of}
-use Rattle.spki_core.specs.FieldWriting.{written_field}
+use Rattle.spki_core.specs.FieldWriting.{HasField, written_field}
 use Rattle.spki_core.specs.IdentifierTest.{is_identifier-sound}
 use Rattle.spki_core.specs.ObjectIdentifier.{IsIdentifier}
 use Rattle.spki_core.specs.ObjectIdentifiers.{octets_of}
@@ -24,11 +24,13 @@ use Rattle.pkcs1.specs.DigestWriting.{written_digest}
 use Rattle.pkcs1.specs.Parameters.{PssContents, RsaPssParams, OaepContents, RsaOaepParams}
 use Rattle.pkcs1.specs.OaepLaws.{oaep_relates}
 use Rattle.pkcs1.specs.OaepParams.{oaep_of}
-use Rattle.pkcs1.specs.OaepWriting.{oaep_defaults, HasOaep}
+use Rattle.pkcs1.specs.OaepWriting.{oaep_defaults, HasOaep, written_oaep}
+use Rattle.pkcs1.specs.declared.params.oaep.OaepLeftOut.{OaepLeftOut}
 use Rattle.pkcs1.specs.declared.params.oaep.RsaOaepParams.{RsaOaepParams as OaepParams}
 use Rattle.pkcs1.specs.PssLaws.{pss_relates}
 use Rattle.pkcs1.specs.PssParams.{pss_of}
-use Rattle.pkcs1.specs.PssWriting.{pss_defaults, HasPss}
+use Rattle.pkcs1.specs.PssWriting.{pss_defaults, HasPss, written_pss}
+use Rattle.pkcs1.specs.declared.params.pss.PssLeftOut.{PssLeftOut}
 use Rattle.pkcs1.specs.declared.params.pss.RsaPssParams.{RsaPssParams as PssParams}
 
 pub identifier_held : (oid : ObjectIdentifier) → IsIdentifier (octets_of oid)
@@ -85,29 +87,68 @@ number_short n = tlv_short 2 2 (integer_contents (n ∷ [])) (go (nat_lt n 128))
     go true = omega arith
     go false = omega arith
 
--- So parameters that can be written have a text.
-pub pss_made : (p : PssParams AnyRef) → HasPss (pss_defaults (pss_of p)) (pss_of p) → (text : List ℕ) × RsaPssParams (pss_of p) text
-pss_made p has =
+-- They can be written, whichever of their fields are left out.
+any_held : (any : AnyRef) → IsAny (any_of any)
+any_held any = (any.tag.allowed, are_bytes any.contents.now any.octets)
+
+plain_held : (a : AlgorithmIdentifier AnyRef) → HasPlain (algorithm_of a)
+plain_held a = (identifier_held a.oid, go a.parameters)
+  where
+    go : (p : Option AnyRef) → HasOptional IsAny (option_map any_of p)
+    go None = tt
+    go (Some any) = any_held any
+
+mask_held : (a : AlgorithmIdentifier (AlgorithmIdentifier AnyRef)) → HasMask (mask_of a)
+mask_held a = (identifier_held a.oid, go a.parameters)
+  where
+    go : (p : Option (AlgorithmIdentifier AnyRef)) → HasOptional HasPlain (option_map algorithm_of p)
+    go None = tt
+    go (Some plain) = plain_held plain
+
+field_held : {has : Type 0} (out : Bool) → has → HasField out has
+field_held true h = tt
+field_held false h = h
+
+pss_short : (out : PssLeftOut) (p : PssParams AnyRef) → length (written_pss out (pss_of p)) < 2 ^ 64
+pss_short out p =
     let v = pss_of p in
-    let out = pss_defaults v in
     let d = written_digest out.hash out.mask_gen v.hash v.mask_gen in
     let s = written_field out.salt_len 2 (tlv 2 (integer_contents (v.salt_len ∷ []))) in
     let t = written_field out.trailer_field 3 (tlv 2 (integer_contents (1 ∷ []))) in
     let a = digest_short out.hash out.mask_gen p.hash p.mask_gen in
     let b = field_short out.salt_len 2 130 (tlv 2 (integer_contents (v.salt_len ∷ []))) (number_short v.salt_len) (omega arith) in
     let e = field_short out.trailer_field 3 130 (tlv 2 (integer_contents (1 ∷ []))) (number_short 1) (omega arith) in
-    let few : length (d ++ (s ++ t)) < 2 ^ 128 = omega (arith, a, b, e, length-append d (s ++ t), length-append s t) in
-    let made = tlv_made 48 (PssContents v) (d ++ (s ++ t)) (pss_relates v has few) few in
+    omega (arith, a, b, e, length-append d (s ++ t), length-append s t)
+
+oaep_short : (out : OaepLeftOut) (p : OaepParams AnyRef) → length (written_oaep out (oaep_of p)) < 2 ^ 64
+oaep_short out p =
+    let v = oaep_of p in
+    let d = written_digest out.hash out.mask_gen v.hash v.mask_gen in
+    let s = written_field out.p_source 2 (written_plain v.p_source) in
+    let a = digest_short out.hash out.mask_gen p.hash p.mask_gen in
+    let b = field_short out.p_source 2 (limit + 423) (written_plain v.p_source) (plain_short p.p_source) (omega arith) in
+    omega (arith, a, b, length-append d s)
+
+pub pss_held : (p : PssParams AnyRef) → p.salt_len < 256 → (out : PssLeftOut) → HasPss out (pss_of p) × (length (written_pss out (pss_of p)) < 2 ^ 64)
+pss_held p small out =
+    (((field_held out.hash (plain_held p.hash), field_held out.mask_gen (mask_held p.mask_gen)), (field_held out.salt_len small, field_held out.trailer_field refl)), pss_short out p)
+
+pub oaep_held : (p : OaepParams AnyRef) (out : OaepLeftOut) → HasOaep out (oaep_of p) × (length (written_oaep out (oaep_of p)) < 2 ^ 64)
+oaep_held p out = (((field_held out.hash (plain_held p.hash), field_held out.mask_gen (mask_held p.mask_gen)), field_held out.p_source (plain_held p.p_source)), oaep_short out p)
+
+-- So parameters that can be written have a text.
+pub pss_made : (p : PssParams AnyRef) → HasPss (pss_defaults (pss_of p)) (pss_of p) → (text : List ℕ) × RsaPssParams (pss_of p) text
+pss_made p has =
+    let v = pss_of p in
+    let out = pss_defaults v in
+    let few = pss_short out p in
+    let made = tlv_made 48 (PssContents v) (written_pss out v) (pss_relates v has (omega (arith, few))) (omega (arith, few)) in
     (made.0, made.1)
 
 pub oaep_made : (p : OaepParams AnyRef) → HasOaep (oaep_defaults (oaep_of p)) (oaep_of p) → (text : List ℕ) × RsaOaepParams (oaep_of p) text
 oaep_made p has =
     let v = oaep_of p in
     let out = oaep_defaults v in
-    let d = written_digest out.hash out.mask_gen v.hash v.mask_gen in
-    let s = written_field out.p_source 2 (written_plain v.p_source) in
-    let a = digest_short out.hash out.mask_gen p.hash p.mask_gen in
-    let b = field_short out.p_source 2 (limit + 423) (written_plain v.p_source) (plain_short p.p_source) (omega arith) in
-    let few : length (d ++ s) < 2 ^ 128 = omega (arith, a, b, length-append d s) in
-    let made = tlv_made 48 (OaepContents v) (d ++ s) (oaep_relates v has few) few in
+    let few = oaep_short out p in
+    let made = tlv_made 48 (OaepContents v) (written_oaep out v) (oaep_relates v has (omega (arith, few))) (omega (arith, few)) in
     (made.0, made.1)
