@@ -3,6 +3,14 @@ use crate::answer::Trouble;
 use std::alloc::Global;
 use std::str::FromStr;
 
+// The bytes that the digits spell; `-` stands for none.
+fn bytes_of(alloc: Global, digits: &str) -> Result<Vec<u8>, Trouble> {
+    match digits {
+        "-" => Ok(Vec::new(alloc)),
+        digits => hex::decode(alloc, digits).map_err(|_| Trouble::Malformed),
+    }
+}
+
 /// The parts of a row up to ` = `, each behind a single space.
 #[derive(Drop)]
 pub struct Arguments<'a> {
@@ -46,10 +54,19 @@ impl<'a> Arguments<'a> {
 
     /// The next part, bytes in hexadecimal digits; `-` stands for none.
     pub fn bytes(&mut self, alloc: Global) -> Result<Vec<u8>, Trouble> {
-        match self.word()? {
-            "-" => Ok(Vec::new(alloc)),
-            digits => hex::decode(alloc, digits).map_err(|_| Trouble::Malformed),
+        bytes_of(alloc, self.word()?)
+    }
+
+    /// All parts that are left, each bytes in hexadecimal digits.
+    pub fn all_bytes(&mut self, alloc: Global) -> Result<Vec<Vec<u8>>, Trouble> {
+        let Some(left) = self.left.take() else {
+            return Err(Trouble::Malformed);
+        };
+        let mut all = Vec::new(alloc);
+        for digits in left.split(' ') {
+            all.push(bytes_of(alloc, digits)?)?;
         }
+        Ok(all)
     }
 
     /// That nothing is left.

@@ -186,10 +186,7 @@ fn sequence(
 /// `joined-TYPE N HEX HEX..`: the same of the SEQUENCEs of up to N of the parts, in any order and as often as you like.
 pub fn joined<D: Damaged>(alloc: Global, arguments: &mut Arguments<'_>) -> Answer {
     let most = arguments.number::<u32>()?;
-    let mut parts = Vec::new(alloc);
-    while arguments.end().is_err() {
-        parts.push(arguments.bytes(alloc)?)?;
-    }
+    let parts = arguments.all_bytes(alloc)?;
     let mut counts = Counts::none();
     for count in 0..=most {
         let sequences = parts.len().checked_pow(count).ok_or(Trouble::Malformed)?;

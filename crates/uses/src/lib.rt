@@ -3,8 +3,10 @@
 
 mod bytes;
 mod files;
+mod primes;
 mod refusals;
 
 pub use bytes::{modulus_of, public_half};
 pub use files::publish;
+pub use primes::primes_of;
 pub use refusals::Advice;

@@ -1,0 +1,22 @@
+//! The other primes of a key, one after another.
+ghost use Rattle.std.specs.Prelude.{◌≡◌, map, IfOk};
+ghost use Rattle.der_core.specs.UintRefs.{bytes_of};
+ghost use Rattle.pkcs1.specs.ViewParts.{view_of, listed_others};
+
+use pkcs1::{RsaPrivateKeyView, UintRef};
+use std::alloc::{AllocError, Global};
+
+/// The primes of a key past the first two, in order.
+pub fn primes_of<'a>(
+    alloc: Global,
+    view: &RsaPrivateKeyView<'a>,
+) -> Result<Vec<UintRef<'a>>, AllocError>
+    ensures { IfOk result (λ primes. map bytes_of primes.items
+        ≡ map (λ other. other.prime) (listed_others (view_of view.now).other_prime_infos)) }
+{
+    let mut primes = Vec::new(alloc);
+    for other in view.other_primes() {
+        primes.push(other.prime)?;
+    }
+    Ok(primes)
+}
