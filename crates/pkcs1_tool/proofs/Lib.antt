@@ -4,3 +4,4 @@ pub mod Only
 pub mod Runs
 pub mod Put
 pub mod Verdicts
+pub mod Spelled

@@ -1,24 +1,27 @@
 -- A line has at most one answer, and an input at most one output.
-use Rattle.std.proofs.Common.{◌≡◌, ℕ, ◌⊎◌, inl, inr, List, [], ◌∷◌, ◌++◌, sym, ap, ◌∙◌, subst}
+use Rattle.std.proofs.Common.{◌≡◌, ℕ, ◌^◌, ◌⊎◌, inl, inr, List, [], ◌∷◌, ◌++◌, sym, ap, ◌∙◌, subst}
 use Rattle.std.specs.Prelude.{codes}
 use Rattle.der_core.specs.Texts.{AtMostOne, MeansOne}
 use Rattle.der_core.specs.Document.{IsShortest, MeanTheSame}
 use Rattle.der_core.specs.ShortestLaws.{means_one, shortest_same}
-use Rattle.spki_core.specs.Explicit.{Field}
+use Rattle.spki_core.specs.Explicit.{Field, HaveDefaults}
 use Rattle.spki_core.proofs.Fields.{defaults_same}
 use Rattle.pkcs1.specs.Keys.{RsaPublicKey, RsaPrivateKey}
 use Rattle.pkcs1.specs.Parameters.{RsaPssParams, pss_fields, RsaOaepParams, oaep_fields}
 use Rattle.pkcs1.proofs.PublicKeys.{public_delimited}
 use Rattle.pkcs1.proofs.PrivateKeys.{private_delimited}
-use Rattle.pkcs1.specs.ParameterLaws.{pss_delimited, oaep_delimited}
+use Rattle.pkcs1.specs.ParameterLaws.{pss_delimited, oaep_delimited, pss_in_order, oaep_in_order}
+use Rattle.pkcs1.specs.Spellings.{AllFit, AreUnder, EachMaskHasOne}
+use Rattle.pkcs1.proofs.ParameterSpellings.{each_mask_has_one}
 use Rattle.pkcs8_core.specs.Laws.{info_delimited}
 use Rattle.pkcs1_tool.specs.declared.request.Word.{Word}
 use Rattle.pkcs1_tool.specs.declared.request.Word.TheVariants as word
 use Rattle.pkcs1_tool.specs.declared.request.PairWord.{PairWord}
 use Rattle.pkcs1_tool.specs.declared.request.PairWord.TheVariants as pair
 use Rattle.pkcs1_tool.specs.Request.{Asked, bad_line, asks, asks_pair, asked_by}
-use Rattle.pkcs1_tool.specs.Answer.{HasNone, HasSome, Answered, Tells, TellsParameters, SaysWhether, TellsStrict, TellsSame, RsaPrivateKeyInfo, TellsContainer, WordAnswer, PairAnswer, AnswerTo, Answer, Answers}
-use Rattle.pkcs1_tool.specs.Told.{pub_answer, priv_answer, p8_answer, pss_answer, oaep_answer}
+use Rattle.pkcs1_tool.specs.Answer.{HasNone, HasSome, Answered, Tells, TellsParameters, SaysWhether, TellsStrict, TellsSame, TellsSpellings, RsaPrivateKeyInfo, TellsContainer, WordAnswer, PairAnswer, AnswerTo, Answer, Answers}
+use Rattle.pkcs1_tool.specs.Told.{pub_answer, priv_answer, p8_answer, pss_answer, oaep_answer, spell_answer}
+use Rattle.pkcs1_tool.proofs.Spelled.{same_texts}
 
 -- what is told of the one value is one
 answered_one : {V : Type 0} (Grammar : V → List ℕ → Type 0) (Told : V → List ℕ → Type 0) → MeansOne Grammar → ((value : V) → AtMostOne (Told value)) → (text : List ℕ)
@@ -58,6 +61,17 @@ not_both : {V : Type 0} (Grammar : V → List ℕ → Type 0) (a b : List ℕ) �
 not_both Grammar a b (inl none) some other = none some.0 some.1
 not_both Grammar a b (inr none) some other = none other.0 other.1
 
+tells_spellings_one : {V : Type 0} (word : List ℕ) (Grammar : V → List ℕ → Type 0) (fields : V → List Field) → MeansOne Grammar → EachMaskHasOne fields → (text : List ℕ)
+    → AtMostOne (TellsSpellings word Grammar fields text)
+tells_spellings_one word Grammar fields one each text =
+    answered_one (λ value t. Grammar value t × AllFit (fields value))
+    (λ value a. (k : ℕ) × HaveDefaults (fields value) k × (texts : List (List ℕ)) × AreUnder (fields value) (2 ^ k) texts × (a ≡ spell_answer word texts))
+    (λ v w t p q. one v w t p.0 q.0)
+    (λ value a b p q.
+    let k : p.0 ≡ q.0 = defaults_same (fields value) p.0 q.0 p.1 q.1 in
+    p.4 ∙ ap (spell_answer word) (same_texts fields value _ _ p.2 q.2 each (ap (λ n. 2 ^ n) k) p.3 q.3) ∙ sym q.4)
+    text
+
 tells_same_one : {V : Type 0} (word : List ℕ) (Grammar : V → List ℕ → Type 0) (first second : List ℕ) → AtMostOne (TellsSame word Grammar first second)
 tells_same_one word Grammar first second a b (inl p) (inl q) = p.1 ∙ sym q.1
 tells_same_one word Grammar first second a b (inl p) (inr q) = absurd (not_both Grammar first second p.0 q.0 q.1)
@@ -93,6 +107,8 @@ word_answer_one word.Priv text a b p q = tells_one RsaPrivateKey priv_answer pri
 word_answer_one word.Pss text a b p q = tells_parameters_one RsaPssParams pss_fields pss_answer pss_means_one text a b p q
 word_answer_one word.Oaep text a b p q = tells_parameters_one RsaOaepParams oaep_fields oaep_answer oaep_means_one text a b p q
 word_answer_one word.P8 text a b p q = tells_container_one text a b p q
+word_answer_one word.SpellPss text a b p q = tells_spellings_one (codes "spell-pss") RsaPssParams pss_fields pss_means_one (each_mask_has_one pss_fields pss_in_order) text a b p q
+word_answer_one word.SpellOaep text a b p q = tells_spellings_one (codes "spell-oaep") RsaOaepParams oaep_fields oaep_means_one (each_mask_has_one oaep_fields oaep_in_order) text a b p q
 word_answer_one word.StrictPss text a b p q = tells_strict_one (codes "strict-pss") RsaPssParams pss_means_one text a b p q
 word_answer_one word.StrictOaep text a b p q = tells_strict_one (codes "strict-oaep") RsaOaepParams oaep_means_one text a b p q
 

@@ -1,9 +1,10 @@
 -- The answers.
-use Rattle.std.specs.Prelude.{◌≡◌, ℕ, ◌⊎◌, List, [], ◌∷◌, ◌++◌, codes}
+use Rattle.std.specs.Prelude.{◌≡◌, ℕ, ◌^◌, ◌⊎◌, List, [], ◌∷◌, ◌++◌, codes}
 use Rattle.der_core.specs.Document.{Means, IsShortest, MeanTheSame}
 use Rattle.spki_core.specs.Explicit.{Field, HaveDefaults}
 use Rattle.pkcs1.specs.Keys.{RsaPublicKey, PrivateKey, RsaPrivateKey}
 use Rattle.pkcs1.specs.Parameters.{RsaPssParams, pss_fields, RsaOaepParams, oaep_fields}
+use Rattle.pkcs1.specs.Spellings.{AllFit, AreUnder}
 use Rattle.pkcs8_core.specs.Container.{Info, PrivateKeyInfo}
 use Rattle.pkcs8_core.specs.Rsa.{HoldsRsa}
 use Rattle.pkcs1_tool.specs.Lines.{lines_of}
@@ -12,7 +13,7 @@ use Rattle.pkcs1_tool.specs.declared.request.Word.TheVariants as word
 use Rattle.pkcs1_tool.specs.declared.request.PairWord.{PairWord}
 use Rattle.pkcs1_tool.specs.declared.request.PairWord.TheVariants as pair
 use Rattle.pkcs1_tool.specs.Request.{Asked, bad_line, asks, asks_pair, asked_by}
-use Rattle.pkcs1_tool.specs.Told.{pub_answer, priv_answer, p8_answer, pss_answer, oaep_answer}
+use Rattle.pkcs1_tool.specs.Told.{pub_answer, priv_answer, p8_answer, pss_answer, oaep_answer, spell_answer}
 
 -- some value has the text, or none has
 abbrev pub HasSome : {V : Type 0} → (V → List ℕ → Type 0) → List ℕ → Type 0
@@ -42,6 +43,12 @@ SaysWhether word fact answer = (fact × (answer ≡ word ++ codes " yes")) ⊎ (
 abbrev pub TellsStrict : {V : Type 0} → List ℕ → (V → List ℕ → Type 0) → List ℕ → List ℕ → Type 0
 TellsStrict word Grammar text answer = Answered Grammar (λ value a. SaysWhether word (IsShortest Grammar value text) a) text answer
 
+-- Where no value has the text, or the value has a text past the limit, the answer is `refused`. Otherwise the texts of the value are told, by mask.
+abbrev pub TellsSpellings : {V : Type 0} → List ℕ → (V → List ℕ → Type 0) → (V → List Field) → List ℕ → List ℕ → Type 0
+TellsSpellings word Grammar fields text answer =
+    Answered (λ value t. Grammar value t × AllFit (fields value))
+    (λ value a. (k : ℕ) × HaveDefaults (fields value) k × (texts : List (List ℕ)) × AreUnder (fields value) (2 ^ k) texts × (a ≡ spell_answer word texts)) text answer
+
 -- Where no value has one of the texts, the answer is `refused`. Otherwise it says whether some value has both.
 abbrev pub TellsSame : {V : Type 0} → List ℕ → (V → List ℕ → Type 0) → List ℕ → List ℕ → List ℕ → Type 0
 TellsSame word Grammar a b answer =
@@ -66,6 +73,8 @@ WordAnswer word.Priv text answer = Tells RsaPrivateKey priv_answer text answer
 WordAnswer word.Pss text answer = TellsParameters RsaPssParams pss_fields pss_answer text answer
 WordAnswer word.Oaep text answer = TellsParameters RsaOaepParams oaep_fields oaep_answer text answer
 WordAnswer word.P8 text answer = TellsContainer text answer
+WordAnswer word.SpellPss text answer = TellsSpellings (codes "spell-pss") RsaPssParams pss_fields text answer
+WordAnswer word.SpellOaep text answer = TellsSpellings (codes "spell-oaep") RsaOaepParams oaep_fields text answer
 WordAnswer word.StrictPss text answer = TellsStrict (codes "strict-pss") RsaPssParams text answer
 WordAnswer word.StrictOaep text answer = TellsStrict (codes "strict-oaep") RsaOaepParams text answer
 

@@ -1,6 +1,7 @@
 pub mod Lines
 pub mod Request
 pub mod Seen
+pub mod Refused
 pub mod Told
 pub mod Answer
 pub mod Written

@@ -21,6 +21,8 @@ words =
     ∷ (codes "pss", word.Pss)
     ∷ (codes "oaep", word.Oaep)
     ∷ (codes "p8", word.P8)
+    ∷ (codes "spell-pss", word.SpellPss)
+    ∷ (codes "spell-oaep", word.SpellOaep)
     ∷ (codes "strict-pss", word.StrictPss)
     ∷ (codes "strict-oaep", word.StrictOaep)
     ∷ []

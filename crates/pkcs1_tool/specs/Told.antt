@@ -1,5 +1,5 @@
 -- What is told of keys and parameters.
-use Rattle.std.specs.Prelude.{ℕ, List, [], ◌∷◌, ◌++◌, Option, Some, None, codes}
+use Rattle.std.specs.Prelude.{ℕ, List, [], ◌∷◌, ◌++◌, Option, Some, None, length, codes}
 use Rattle.std.specs.List.{flat_map}
 use Rattle.std.specs.Fmt.{decimal}
 use Rattle.hex.specs.Hex.{encode_lower}
@@ -111,6 +111,10 @@ pss_answer p k again =
     codes "pss"
     ++ (digest_told p.hash p.mask_gen
     ++ (number_field (codes " salt=") p.salt_len ++ (number_field (codes " trailer=") p.trailer_field ++ spelling_told k again)))
+
+-- the word, how many texts there are, and each text
+abbrev pub spell_answer : List ℕ → List (List ℕ) → List ℕ
+spell_answer word texts = word ++ (number_field (codes " ") (length texts) ++ flat_map (λ text. field (codes " ") text) texts)
 
 -- `oaep hash=ALG mask=MASK source=ALG defaults=K again=HEX`
 abbrev pub oaep_answer : OaepParameters → ℕ → List ℕ → List ℕ

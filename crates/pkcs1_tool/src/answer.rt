@@ -4,7 +4,7 @@ ghost use Rattle.pkcs1_tool.specs.Answer.{WordAnswer, PairAnswer};
 ghost use Rattle.pkcs1_tool.specs.Written.{PutsAnswer};
 
 use crate::keys::{answer_p8, answer_priv, answer_pub};
-use crate::parameter_answers::{answer_parameters, answer_same, answer_strict};
+use crate::parameter_answers::{answer_parameters, answer_same, answer_spell, answer_strict};
 use crate::request::{PairWord, Request, Word, request_of};
 use pkcs1::{RsaOaepParamsRef, RsaPssParamsRef};
 use std::alloc::{AllocError, Global};
@@ -19,6 +19,8 @@ fn answer_word(alloc: Global, word: Word, text: &[u8], out: &mut Vec<u8>) -> Res
         Word::Pss => answer_parameters::<RsaPssParamsRef<'_>>(alloc, text, out),
         Word::Oaep => answer_parameters::<RsaOaepParamsRef<'_>>(alloc, text, out),
         Word::P8 => answer_p8(text, out),
+        Word::SpellPss => answer_spell::<RsaPssParamsRef<'_>>(alloc, b"spell-pss", text, out),
+        Word::SpellOaep => answer_spell::<RsaOaepParamsRef<'_>>(alloc, b"spell-oaep", text, out),
         Word::StrictPss => answer_strict::<RsaPssParamsRef<'_>>(b"strict-pss", text, out),
         Word::StrictOaep => answer_strict::<RsaOaepParamsRef<'_>>(b"strict-oaep", text, out),
     }

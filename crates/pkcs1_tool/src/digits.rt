@@ -33,7 +33,7 @@ pub fn put_field(label: &[u8], bytes: &[u8], out: &mut Vec<u8>) -> Result<(), Al
 }
 
 /// Puts the label behind `out`, and then the number, in decimal digits.
-pub fn put_number(label: &[u8], number: u8, out: &mut Vec<u8>) -> Result<(), AllocError>
+pub fn put_number(label: &[u8], number: usize, out: &mut Vec<u8>) -> Result<(), AllocError>
     ensures { OnOk result (out.new.items ≡ out.old.items ++ number_field label.now number) }
 {
     out.extend_from_slice(label)?;

@@ -1,7 +1,10 @@
 //! The answers of lines with parameters.
-ghost use Rattle.std.specs.Prelude.{◌≡◌, ℕ, List, ◌++◌, OnOk};
-ghost use Rattle.pkcs1_tool.specs.Answer.{TellsParameters, TellsSame, TellsStrict};
+ghost use Rattle.std.specs.Prelude.{◌≡◌, ℕ, List, ◌++◌, OnOk, map, codes};
+ghost use Rattle.std.specs.List.{flat_map};
+ghost use Rattle.pkcs1_tool.specs.Answer.{TellsParameters, TellsSame, TellsSpellings, TellsStrict};
+ghost use Rattle.pkcs1_tool.specs.Told.{field, spell_answer};
 
+use crate::digits::{put_field, put_number};
 use crate::parameters::Parameters;
 use crate::shortest::shortest;
 use crate::verdict::{put_refused, put_verdict};
@@ -21,6 +24,43 @@ pub fn answer_parameters<'a, T: Parameters<'a>>(
             let again = shortest(text, &params, buffer.as_mut_slice());
             params.put(params.defaults(), again, out)
         }
+        None => put_refused(out),
+    }
+}
+
+// Puts each text behind `out`, in order.
+fn put_texts(texts: &[Vec<u8>], out: &mut Vec<u8>) -> Result<(), AllocError>
+    ensures { OnOk result (out.new.items ≡ out.old.items ++ flat_map (λ text. field (codes " ") text.items) texts.now) }
+{
+    for text in texts {
+        put_field(b" ", text.as_slice(), out)?;
+    }
+    Ok(())
+}
+
+// Puts the word behind `out`, how many texts there are, and each text.
+fn put_spellings(word: &[u8], texts: &[Vec<u8>], out: &mut Vec<u8>) -> Result<(), AllocError>
+    ensures { OnOk result (out.new.items ≡ out.old.items ++ spell_answer word.now (map (λ text. text.items) texts.now)) }
+{
+    out.extend_from_slice(word)?;
+    put_number(b" ", texts.len(), out)?;
+    put_texts(texts, out)
+}
+
+/// Puts behind `out` all texts of the parameters that the text means, by mask.
+pub fn answer_spell<'a, T: Parameters<'a>>(
+    alloc: Global,
+    word: &[u8],
+    text: &'a [u8],
+    out: &mut Vec<u8>,
+) -> Result<(), AllocError>
+    ensures { OnOk result ((answer : List ℕ) × TellsSpellings word.now T.grammar T.fields text.now answer × (out.new.items ≡ out.old.items ++ answer)) }
+{
+    let Some(params) = T::read(text) else {
+        return put_refused(out);
+    };
+    match params.all_texts(alloc)? {
+        Some(texts) => put_spellings(word, texts.as_slice(), out),
         None => put_refused(out),
     }
 }

@@ -1,5 +1,5 @@
 //! Parameters, and what is told of them.
-ghost use Rattle.std.specs.Prelude.{◌≡◌, ℕ, List, ◌++◌, ◌↔◌, IsTrue, OnOk, IfSome, IfNone};
+ghost use Rattle.std.specs.Prelude.{◌≡◌, ℕ, List, ◌++◌, ◌↔◌, IsTrue, OnOk, IfOk, IfSome, IfNone, IsErrAnd};
 ghost use Rattle.der_core.specs.Document.{Means, IsShortest};
 ghost use Rattle.der_core.specs.Texts.{IsDelimited};
 ghost use Rattle.spki_core.specs.AnyRefs.{any_of};
@@ -7,17 +7,20 @@ ghost use Rattle.spki_core.specs.AlgorithmRefs.{algorithm_of, mask_of};
 ghost use Rattle.spki_core.specs.Explicit.{Field, HaveDefaults};
 ghost use Rattle.spki_core.specs.ObjectIdentifiers.{octets_of};
 ghost use Rattle.pkcs1.specs.Parameters.{PssParameters, RsaPssParams, pss_fields, OaepParameters, RsaOaepParams, oaep_fields};
+ghost use Rattle.pkcs1.specs.Defaults.{pss_defaults, oaep_defaults};
 ghost use Rattle.pkcs1.specs.ParameterLaws.{pss_delimited, oaep_delimited};
 ghost use Rattle.pkcs1.specs.PssParams.{pss_of};
 ghost use Rattle.pkcs1.specs.OaepParams.{oaep_of};
+ghost use Rattle.pkcs1.specs.Spellings.{AllFit, AreAllSpellings, texts_in};
+ghost use Rattle.pkcs1_tool.specs.Refused.{WantsMemory};
 ghost use Rattle.pkcs1_tool.specs.Answer.{HasNone};
 ghost use Rattle.pkcs1_tool.specs.Told.{any_told, identifier_told, plain_told, bracketed, mask_told, digest_told, spelling_told, pss_answer, oaep_answer};
 
 use crate::digits::{put_field, put_hex, put_number};
-use der_core::Encode;
-use pkcs1::{ObjectIdentifier, RsaOaepParamsRef, RsaPssParamsRef};
+use der_core::{Encode, ErrorKind};
+use pkcs1::{Error, ObjectIdentifier, RsaOaepParamsRef, RsaPssParamsRef};
 use spki_core::{AlgorithmIdentifier, AlgorithmIdentifierRef, AnyRef};
-use std::alloc::AllocError;
+use std::alloc::{AllocError, Global};
 
 /// Parameters of one of the two types, as lines ask for them.
 pub trait Parameters<'a>: Encode + Drop + Sized {
@@ -43,6 +46,11 @@ pub trait Parameters<'a>: Encode + Drop + Sized {
     fn is_strict(text: &'a [u8]) -> bool
         ensures { IsTrue result ↔ ((params : Meaning) × IsShortest grammar params text.now) };
 
+    /// All texts, by mask; none where not every text fits.
+    fn all_texts(&self, alloc: Global) -> Result<Option<Vec<Vec<u8>>>, AllocError>
+        ensures all { IfOk result (λ found. IfSome found (λ texts. AllFit (fields (meaning self.now)) × AreAllSpellings fields (meaning self.now) (texts_in texts))) }
+        ensures none { IfOk result (λ found. IfNone found (AllFit (fields (meaning self.now)) → ⊥)) };
+
     /// How many fields equal their defaults.
     fn defaults(&self) -> u8
         ensures { HaveDefaults (fields (meaning self.now)) result };
@@ -54,10 +62,39 @@ pub trait Parameters<'a>: Encode + Drop + Sized {
     /// Each text means one value.
     ghost delimited: { IsDelimited grammar };
 
+    /// Each value has a number of defaults.
+    ghost counted: { (params : Meaning) → (k : ℕ) × HaveDefaults (fields params) k };
+
     /// What is written are the texts of the grammar.
     ghost means_as: { (params : Self) (text : List ℕ) → Means grammar text (meaning params) → Means Self.text text (Self.value params) };
 
     ghost shortest_as: { (params : Self) (text : List ℕ) → IsShortest Self.text (Self.value params) text → IsShortest grammar (meaning params) text };
+}
+
+// Whether the refusal is want of memory.
+fn wants_memory(error: &Error) -> bool
+    ensures { IsTrue result ↔ WantsMemory error.now }
+{
+    match error {
+        Error::Asn1(error) => error.kind == ErrorKind::OutOfMemory,
+        _ => false,
+    }
+}
+
+// The texts, or none where they are refused and memory isn't wanted.
+fn found(texts: pkcs1::Result<Vec<Vec<u8>>>) -> Result<Option<Vec<Vec<u8>>>, AllocError>
+    ensures some { IfOk result (λ found. IfSome found (λ list. texts ≡ Ok list)) }
+    ensures none { IfOk result (λ found. IfNone found (IsErrAnd texts (λ e. WantsMemory e → ⊥))) }
+{
+    match texts {
+        Ok(texts) => Ok(Some(texts)),
+        Err(error) => {
+            if wants_memory(&error) {
+                return Err(AllocError);
+            }
+            Ok(None)
+        }
+    }
 }
 
 // What is told of absent parameters.
@@ -134,7 +171,7 @@ fn put_digest(
 fn put_spelling(defaults: u8, again: &[u8], out: &mut Vec<u8>) -> Result<(), AllocError>
     ensures { OnOk result (out.new.items ≡ out.old.items ++ spelling_told defaults again.now) }
 {
-    put_number(b" defaults=", defaults, out)?;
+    put_number(b" defaults=", usize::from(defaults), out)?;
     put_field(b" again=", again, out)
 }
 
@@ -149,8 +186,8 @@ fn put_pss(
 {
     out.extend_from_slice(b"pss")?;
     put_digest(&params.hash, &params.mask_gen, out)?;
-    put_number(b" salt=", params.salt_len, out)?;
-    put_number(b" trailer=", params.trailer_field as u8, out)?;
+    put_number(b" salt=", usize::from(params.salt_len), out)?;
+    put_number(b" trailer=", params.trailer_field as usize, out)?;
     put_spelling(defaults, again, out)
 }
 
@@ -189,6 +226,10 @@ impl<'a> Parameters<'a> for RsaPssParamsRef<'a> {
         RsaPssParamsRef::from_der_strict(text).is_ok()
     }
 
+    fn all_texts(&self, alloc: Global) -> Result<Option<Vec<Vec<u8>>>, AllocError> {
+        found(self.spellings(alloc))
+    }
+
     fn defaults(&self) -> u8 {
         self.default_fields()
     }
@@ -198,6 +239,8 @@ impl<'a> Parameters<'a> for RsaPssParamsRef<'a> {
     }
 
     ghost delimited = { pss_delimited };
+
+    ghost counted = { pss_defaults };
 
     ghost means_as = { λ params text means. means };
 
@@ -223,6 +266,10 @@ impl<'a> Parameters<'a> for RsaOaepParamsRef<'a> {
         RsaOaepParamsRef::from_der_strict(text).is_ok()
     }
 
+    fn all_texts(&self, alloc: Global) -> Result<Option<Vec<Vec<u8>>>, AllocError> {
+        found(self.spellings(alloc))
+    }
+
     fn defaults(&self) -> u8 {
         self.default_fields()
     }
@@ -232,6 +279,8 @@ impl<'a> Parameters<'a> for RsaOaepParamsRef<'a> {
     }
 
     ghost delimited = { oaep_delimited };
+
+    ghost counted = { oaep_defaults };
 
     ghost means_as = { λ params text means. means };
 

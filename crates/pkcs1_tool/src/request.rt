@@ -16,6 +16,8 @@ pub enum Word {
     Pss,
     Oaep,
     P8,
+    SpellPss,
+    SpellOaep,
     StrictPss,
     StrictOaep,
 }
@@ -36,12 +38,14 @@ pub enum Request {
 }
 
 // The words of lines with one HEX part.
-const WORDS: [(&[u8], Word); 7] = [
+const WORDS: [(&[u8], Word); 9] = [
     (b"pub", Word::Pub),
     (b"priv", Word::Priv),
     (b"pss", Word::Pss),
     (b"oaep", Word::Oaep),
     (b"p8", Word::P8),
+    (b"spell-pss", Word::SpellPss),
+    (b"spell-oaep", Word::SpellOaep),
     (b"strict-pss", Word::StrictPss),
     (b"strict-oaep", Word::StrictOaep),
 ];
