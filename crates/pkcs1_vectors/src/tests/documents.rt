@@ -1,4 +1,4 @@
-//! Documents from sources and to sinks that move a few bytes a call, that refuse one, or that never end; and in files.
+//! Documents from sources and to sinks that move a few bytes a call, or refuse one; and in files.
 ghost use Rattle.std.specs.Prelude.{Some, None};
 
 use super::checks::equal;
@@ -53,25 +53,6 @@ fn giving(left: &[u8], refused: u64) -> Slow<'_> {
         refused,
         calls: 0,
         faults: 0,
-    }
-}
-
-/// Gives zeros, a whole buffer a call, and never ends.
-#[derive(Drop)]
-struct Endless;
-
-impl Source for Endless {
-    ghost remaining = { λ _. None };
-
-    ghost refusals = { λ _. 0 };
-
-    fn read(&mut self, buf: &mut [u8]) -> Result<usize> {
-        buf.fill(0);
-        Ok(buf.len())
-    }
-
-    fn faults(&self) -> u64 {
-        0
     }
 }
 
@@ -150,8 +131,6 @@ fn documents_come_from_sources(rt: HostRuntime) -> std::result::Result<(), Fail>
     equal(&rt, answer.map(|_| ()), Err(REFUSED));
     let answer = Document::read_from(alloc, &mut giving(&[0x30, 0x06, 0x02], 0));
     equal(&rt, answer, Err(Error::new(ErrorKind::Incomplete)));
-    let answer = Document::read_from(alloc, &mut Endless);
-    equal(&rt, answer, Err(Error::new(ErrorKind::Overflow)));
     Ok(())
 }
 
