@@ -1,5 +1,5 @@
 //! Documents from sources and to sinks that move a few bytes a call, or refuse one; and in files.
-ghost use Rattle.std.specs.Prelude.{Some, None};
+ghost use Rattle.std.specs.Prelude.{Some};
 
 use super::checks::equal;
 use der_core::{Document, Error, ErrorKind, Result, SecretDocument, Sink, Source, ToWrite};
