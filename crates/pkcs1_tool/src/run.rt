@@ -9,6 +9,7 @@ ghost use Rattle.pkcs1_tool.specs.Written.{Writes, WritesFirst, WritesFront, Wri
 
 use crate::answer::answer_line;
 use crate::fault::Fault;
+use crate::laws::answers_are_one;
 use crate::lines::split_line;
 use der_core::{Sink, Source};
 use std::alloc::Global;
@@ -125,6 +126,7 @@ pub fn run<R: Source, W: Sink>(alloc: Global, source: &mut R, sink: &mut W) -> R
     ensures one_answer { (line : List ℕ) → AtMostOne (Answer line) }
     ensures one_output { (input : List ℕ) → AtMostOne (Output input) }
 {
+    answers_are_one();
     let input = read_input(alloc, source)?;
     answer_input(alloc, input.as_slice(), sink)
 }
