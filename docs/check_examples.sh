@@ -1,11 +1,12 @@
 #!/usr/bin/env bash
-# Fails where an example of docs/USING.md doesn't stand, word for word, in one file of crates/uses/src.
+# Fails where an example of docs/USING.md doesn't stand, word for word, in one file of crates/uses/src or of
+# crates/pkcs8_core/src.
 set -eu
 cd "$(dirname "$0")/.."
 
 stands() {
     local file
-    for file in crates/uses/src/*.rt; do
+    for file in crates/uses/src/*.rt crates/pkcs8_core/src/*.rt; do
         if [[ "$(cat "$file")"$'\n' == *"$1"* ]]; then
             return 0
         fi
@@ -28,7 +29,7 @@ while IFS= read -r line; do
             count=$((count + 1))
             if [ -z "$block" ] || ! stands "$block"; then
                 missing=$((missing + 1))
-                printf 'docs/USING.md: this example stands nowhere in crates/uses/src:\n%s' "$block" >&2
+                printf 'docs/USING.md: this example stands nowhere in the code:\n%s' "$block" >&2
             fi
             ;;
         yes,*)
@@ -41,4 +42,4 @@ if [ "$inside" = yes ] || [ "$count" -eq 0 ] || [ "$missing" -ne 0 ]; then
     printf '%s examples, %s of them missing; inside an open one at the end: %s\n' "$count" "$missing" "$inside" >&2
     exit 1
 fi
-printf '%s examples stand in crates/uses/src\n' "$count"
+printf '%s examples stand in the code\n' "$count"
