@@ -93,7 +93,7 @@ pub trait Encode: Text {
     }
 
     /// Writes the text to the front of a slice, and answers it. The rest of the slice stays, and all of it where there
-    /// is no answer.
+    /// is no answer. A caller whose proof needs that a slice is unchanged takes `encode_into`.
     final fn encode_to_slice<'b>(&self, out: &'b mut [u8]) -> Result<&'b [u8]>
     where
         Self: Sized,

@@ -1,5 +1,5 @@
 //! The last part of contents: one text, or an OPTIONAL one.
-ghost use Rattle.std.specs.Prelude.{◌≡◌, ◌≤◌, ◌+◌, ◌++◌, length, OnOk, IfErr};
+ghost use Rattle.std.specs.Prelude.{◌≡◌, ◌≤◌, ◌+◌, ◌++◌, length, None, OnOk, IfErr, IsErrAnd};
 ghost use Rattle.std.specs.Option.{option_map};
 ghost use Rattle.der_core.specs.Length.{limit};
 ghost use Rattle.der_core.specs.BackWriters.{free_of, Prepends};
@@ -10,30 +10,34 @@ ghost use Rattle.der_core.specs.Writing.{Counts, Stops, fault};
 use crate::back_writer::BackWriter;
 use crate::decode::Decode;
 use crate::encode::Encode;
-use crate::error::Result;
+use crate::error::{ErrorKind, Result};
 use crate::length::Length;
 use crate::memory::Memory;
 use crate::reader::Reader;
 use crate::writer::Writer;
 
-/// Reads all that is left as one text: `TrailingData` where bytes follow it.
+/// Reads all that is left as one text: `TrailingData` where bytes follow it. On a reader that has failed the answer is
+/// `Failed`.
 pub fn decode_whole<'a, T: Decode<&'a [u8], M>, M: Memory, R: Reader<&'a [u8]>>(
     memory: M,
     reader: &mut R,
 ) -> Result<T>
-    ensures { ReadsContents T.value T.text (AsksWithin T.Decode.asks) result (R.left reader.old) (R.left reader.new) }
+    ensures reads { ReadsContents T.value T.text (AsksWithin T.Decode.asks) result (R.left reader.old) (R.left reader.new) }
+    ensures failed { R.left reader.old ≡ None → IsErrAnd result (λ e. e.kind ≡ ErrorKind.Failed) }
 {
     let value = T::decode(memory, reader)?;
     reader.finish()?;
     Ok(value)
 }
 
-/// Reads all that is left: nothing, or one text. `TrailingData` where bytes follow that.
+/// Reads all that is left: nothing, or one text. `TrailingData` where bytes follow that. On a reader that has failed the
+/// answer is `Failed`.
 pub fn decode_last<'a, T: Decode<&'a [u8], M>, M: Memory, R: Reader<&'a [u8]>>(
     memory: M,
     reader: &mut R,
 ) -> Result<Option<T>>
-    ensures { ReadsContents (option_map T.value) (Optional T.text) (AsksWithin T.Decode.asks) result (R.left reader.old) (R.left reader.new) }
+    ensures reads { ReadsContents (option_map T.value) (Optional T.text) (AsksWithin T.Decode.asks) result (R.left reader.old) (R.left reader.new) }
+    ensures failed { R.left reader.old ≡ None → IsErrAnd result (λ e. e.kind ≡ ErrorKind.Failed) }
 {
     if reader.peek_octet().is_none() {
         reader.finish()?;

@@ -7,11 +7,11 @@ use Rattle.der_core.specs.ListLaws.{same_fronts}
 use Rattle.der_core.specs.TextLaws.{tlv_split, tlv_not_empty}
 use Rattle.der_core.specs.Document.{Means}
 use Rattle.der_core.specs.Integer.{Integer}
-use Rattle.der_core.specs.IntegerLaws.{integer_delimited, small_delimited}
+use Rattle.der_core.specs.IntegerLaws.{small_delimited}
 use Rattle.der_core.specs.Reading.{AskedIn, AsksWithin, Refuses}
 use Rattle.der_core.specs.declared.error.ErrorKind.{ErrorKind}
 use Rattle.pkcs1.specs.Asking.{BeginsSequence, OthersFollow, AsksForKey, MayAsk}
-use Rattle.pkcs1.specs.Keys.{OtherPrime, OtherPrimeInfos, version_of, PrivateKey, PrivateKeyContents, RsaPrivateKey}
+use Rattle.pkcs1.specs.Keys.{OtherPrime, OtherPrimeInfos, version_of, PrivateKey, PrivateKeyContents}
 use Rattle.pkcs1.specs.Writing.{key_numbers}
 use Rattle.pkcs1.proofs.NumberReads.{as_many}
 use Rattle.pkcs1.proofs.KeyReads.{last_is}
@@ -44,15 +44,15 @@ module _ {V : Type 0} {text : V → List ℕ → Type 0} (d : IsDelimited text) 
       asked c h (inl w) = none c w
       asked c h (inr w) = no_others c h w
 
--- A number that is borrowed asks for none.
-borrowed_ask : (c : List ℕ) → AsksWithin (Tlv 2 (λ _. ⊥)) c → ⊥
-borrowed_ask c w = w.4.holds
+  -- So such a text isn't refused.
+  pub two_primes_refused : (asks : List ℕ → Type 0) → ((c : List ℕ) → AsksWithin asks c → ⊥) → (whole : List ℕ) (kind : ErrorKind) → Means (λ v. Tlv 48 (PrivateKeyContents text v)) whole key
+      → Refuses kind (AskedIn (Tlv 48 (AsksForKey text asks)) whole) ((v : PrivateKey V) → Means (λ v. Tlv 48 (PrivateKeyContents text v)) whole v → ⊥) → ⊥
+  two_primes_refused asks none whole kind means (inl w) = two_primes_ask asks none whole means.1 w.1
+  two_primes_refused asks none whole kind means (inr w) = w.1 key means
 
--- So a text of two primes isn't refused by the borrowed key.
-pub two_primes_refused : (key : PrivateKey (List ℕ)) (whole : List ℕ) (kind : ErrorKind) → key.other_prime_infos ≡ None → Means RsaPrivateKey whole key
-    → Refuses kind (AskedIn (Tlv 48 (AsksForKey Integer (Tlv 2 (λ _. ⊥)))) whole) ((v : PrivateKey (List ℕ)) → Means RsaPrivateKey whole v → ⊥) → ⊥
-two_primes_refused key whole kind two means (inl w) = two_primes_ask integer_delimited key two (Tlv 2 (λ _. ⊥)) borrowed_ask whole means.1 w.1
-two_primes_refused key whole kind two means (inr w) = w.1 key means
+-- A number that is borrowed asks for none.
+pub borrowed_ask : (c : List ℕ) → AsksWithin (Tlv 2 (λ _. ⊥)) c → ⊥
+borrowed_ask c w = w.4.holds
 
 -- A borrowed key asks for memory only where other primes follow.
 pub may_ask : (text : List ℕ) → AskedIn (Tlv 48 (AsksForKey Integer (Tlv 2 (λ _. ⊥)))) text → MayAsk text

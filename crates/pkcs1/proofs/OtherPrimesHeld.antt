@@ -72,14 +72,14 @@ empty_is : (x : List ℕ) → length x ≡ 0 → x ≡ []
 empty_is [] e = refl
 empty_is (b ∷ x) e = absurd (omega (arith, e))
 
--- counting them
-abbrev Reads : List ℕ → List ℕ → ℕ → Type 0
-Reads bytes rest count =
+-- So many were read, and the rest is left.
+abbrev pub AreCounted : List ℕ → List ℕ → ℕ → Type 0
+AreCounted bytes rest count =
     (read : List ℕ) × (others : List (declared.OtherPrimeInfo UintRef))
     × (bytes ≡ read ++ rest) × ItemsContents (OtherPrimeInfo Integer) (map (other_of bytes_of) others) read × (length others ≡ count)
 
-pub read_first : (bytes rest behind : List ℕ) (count : ℕ) (other : declared.OtherPrimeInfo UintRef) (text : List ℕ) → Reads bytes rest count → rest ≡ text ++ behind
-    → OtherPrimeInfo Integer (other_of bytes_of other) text → Reads bytes behind (count + 1)
+pub read_first : (bytes rest behind : List ℕ) (count : ℕ) (other : declared.OtherPrimeInfo UintRef) (text : List ℕ) → AreCounted bytes rest count → rest ≡ text ++ behind
+    → OtherPrimeInfo Integer (other_of bytes_of other) text → AreCounted bytes behind (count + 1)
 read_first bytes rest behind count other text i is has =
     let m = items_more (OtherPrime (List ℕ)) (OtherPrimeInfo Integer) (other_delimited integer_delimited) (declared.OtherPrimeInfo UintRef) (other_of bytes_of) i.1 other i.0 rest
     (Some bytes) (Some rest) (Some behind) (ap (λ l. Some l) i.2) refl i.3 (text, behind, ap (λ l. Some l) is, refl, has) in
@@ -90,20 +90,20 @@ items_few : (vs : List (OtherPrime (List ℕ))) (c : List ℕ) → ItemsContents
 items_few [] c h = omega arith
 items_few (v ∷ vs) c (x, y, p, q, e) = omega (arith, tlv_not_empty x p, items_few vs y q, ap length e, length-append x y)
 
-pub few_counted : (bytes rest : List ℕ) (count : ℕ) → Reads bytes rest count → count + length rest ≤ length bytes
+pub few_counted : (bytes rest : List ℕ) (count : ℕ) → AreCounted bytes rest count → count + length rest ≤ length bytes
 few_counted bytes rest count i =
     omega (arith, items_few (map (other_of bytes_of) i.1) i.0 i.3, length-map i.1 (other_of bytes_of), i.4, ap length i.2, length-append i.0 rest)
 
 pub shorter_behind : (rest text behind : List ℕ) (other : OtherPrime (List ℕ)) → rest ≡ text ++ behind → OtherPrimeInfo Integer other text → length behind < length rest
 shorter_behind rest text behind other is has = omega (arith, tlv_not_empty text has, ap length is, length-append text behind)
 
-pub counted : (bytes rest : List ℕ) (count : ℕ) → Reads bytes rest count → length rest ≡ 0 → (others : List (OtherPrime (List ℕ))) × ItemsContents (OtherPrimeInfo Integer) others bytes × (length others ≡ count)
+pub counted : (bytes rest : List ℕ) (count : ℕ) → AreCounted bytes rest count → length rest ≡ 0 → (others : List (OtherPrime (List ℕ))) × ItemsContents (OtherPrimeInfo Integer) others bytes × (length others ≡ count)
 counted bytes rest count i ends =
     let nothing : rest ≡ [] = empty_is rest ends in
     let all : bytes ≡ i.0 = i.2 ∙ ap (λ l. i.0 ++ l) nothing ∙ append-nil i.0 in
     (map (other_of bytes_of) i.1, rw all i.3, omega (arith, i.4, length-map i.1 (other_of bytes_of)))
 
-pub none_there : (bytes rest : List ℕ) (count : ℕ) (k : ErrorKind) → Reads bytes rest count → 0 < length rest → TellsOfBytes k → NoneIn (OtherPrimeInfo Integer) rest
+pub none_there : (bytes rest : List ℕ) (count : ℕ) (k : ErrorKind) → AreCounted bytes rest count → 0 < length rest → TellsOfBytes k → NoneIn (OtherPrimeInfo Integer) rest
     → (others : List (OtherPrime (List ℕ))) → ItemsContents (OtherPrimeInfo Integer) others bytes → ⊥
 none_there bytes rest count k i more tells none =
     let r = items_refused (OtherPrime (List ℕ)) (OtherPrimeInfo Integer) (other_delimited integer_delimited) (map (other_of bytes_of) i.1) i.0 rest bytes (λ _. ⊥) k

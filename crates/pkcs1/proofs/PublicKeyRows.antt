@@ -1,7 +1,5 @@
 -- Public keys at worked examples.
-use Rattle.std.proofs.Common.{◌<◌, ◌≡◌, ℕ, List, [], ◌∷◌, ◌++◌, inl, inr, length, length-append, refl, arith, false, Err}
-use Rattle.std.proofs.lemmas.Bool.Decides.{nat_tests}
-use Rattle.std.specs.Prelude.{nat_lt}
+use Rattle.std.proofs.Common.{◌<◌, ◌≡◌, ℕ, List, [], ◌∷◌, ◌++◌, inl, inr, length, length-append, refl, arith}
 use Rattle.der_core.specs.declared.error.ErrorKind.TheVariants.{Incomplete, IndefiniteLength, Overflow, Overlength}
 use Rattle.der_core.specs.Document.{Means}
 use Rattle.der_core.specs.Input.{header_at, length_at}

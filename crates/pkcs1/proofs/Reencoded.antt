@@ -5,7 +5,7 @@ use Rattle.der_core.specs.Document.{Means, IsUncountable, Fault, no_text, too_lo
 use Rattle.der_core.specs.Writing.{fault}
 use Rattle.pkcs1.specs.declared.error.Error.{Error}
 use Rattle.pkcs1.specs.declared.error.Error.TheVariants as error
-use Rattle.pkcs1.specs.KeyTexts.{IsOnlyText, IsUnwritten, IsSentence, IsUnread, IsNotMade}
+use Rattle.pkcs1.specs.KeyTexts.{IsOnlyText, IsSentence, IsUnread, IsNotMade}
 
 module _ {V : Type 0} (Grammar : V → List ℕ → Type 0) (v : V) (text : List ℕ) (means : Means Grammar text v) where
   -- The only text of a value that has this text is this text.

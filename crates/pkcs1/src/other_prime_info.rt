@@ -18,10 +18,10 @@ use der_core::{
     Length, Memory, Reader, Result, Sequence, SequenceTag, Tag, Text, TryClone, Writer,
     decode_optional,
 };
-use std::alloc::Global;
+use std::alloc::{AllocError, Global};
 
 /// A prime of a private key past the first two.
-#[derive(Clone, Drop)]
+#[derive(Drop)]
 pub struct OtherPrimeInfo<U> {
     /// The prime.
     pub prime: U,
@@ -33,6 +33,20 @@ pub struct OtherPrimeInfo<U> {
 
 /// The primes of a private key past the first two.
 pub type OtherPrimeInfos<U> = Vec<OtherPrimeInfo<U>>;
+
+impl<U: Clone> Clone for OtherPrimeInfo<U> {
+    ghost is_clone = { λ other copy. U.is_clone other.prime copy.prime × U.is_clone other.exponent copy.exponent × U.is_clone other.coefficient copy.coefficient };
+
+    ghost is_infallible = { λ other. U.is_infallible other.prime × U.is_infallible other.exponent × U.is_infallible other.coefficient };
+
+    fn clone(&self) -> std::result::Result<OtherPrimeInfo<U>, AllocError> {
+        Ok(OtherPrimeInfo {
+            prime: self.prime.clone()?,
+            exponent: self.exponent.clone()?,
+            coefficient: self.coefficient.clone()?,
+        })
+    }
+}
 
 impl<U: Text> Contents for OtherPrimeInfo<U> {
     ghost Value = { OtherPrime U.Value };

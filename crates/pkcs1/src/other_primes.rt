@@ -11,6 +11,7 @@ ghost use Rattle.pkcs1.specs.Writing.{HasOther, written_other};
 ghost use Rattle.pkcs1.specs.PrivateKeyLaws.{other_delimited};
 ghost use Rattle.der_core.specs.Reading.{NoneIn, TellsOfBytes};
 ghost use Rattle.der_core.specs.SequenceOf.{ItemsContents, AllHave, all_texts};
+ghost use Rattle.der_core.specs.SliceReaders.{left_of};
 ghost use Rattle.der_core.specs.UintRefs.{bytes_of};
 ghost use Rattle.pkcs1.specs.Keys as grammar;
 ghost use Rattle.pkcs1.specs.PrivateKeys.{other_of};
@@ -31,6 +32,18 @@ pub struct OtherPrimes<'a> {
     ghost held: { HoldsOthers bytes.now left } by { HoldsOthers-prop bytes.now left },
 }
 
+/// Reads the other prime that is next.
+fn read_other<'a>(reader: &mut SliceReader<'a>) -> Result<OtherPrimeInfo<UintRef<'a>>>
+    ensures ok { IfOk result (λ other. (text : List ℕ) × (rest : List ℕ)
+        × (left_of reader.old ≡ Some (text ++ rest)) × (left_of reader.new ≡ Some rest)
+        × grammar.OtherPrimeInfo Integer (other_of bytes_of other) text) }
+    ensures err { IfErr result (λ e. (left : List ℕ) → left_of reader.old ≡ Some left
+        → TellsOfBytes e.kind × NoneIn (grammar.OtherPrimeInfo Integer) left) }
+{
+    let other = OtherPrimeInfo::decode(NoMemory, reader)?;
+    Ok(other)
+}
+
 /// Reads the first of other primes, and answers it with the bytes behind it.
 fn first_other<'a>(bytes: &'a [u8]) -> Result<(OtherPrimeInfo<UintRef<'a>>, &'a [u8])>
     requires { length bytes.now ≤ limit }
@@ -39,7 +52,7 @@ fn first_other<'a>(bytes: &'a [u8]) -> Result<(OtherPrimeInfo<UintRef<'a>>, &'a 
     ensures err { IfErr result (λ e. TellsOfBytes e.kind × NoneIn (grammar.OtherPrimeInfo Integer) bytes.now) }
 {
     let mut reader = SliceReader::new(bytes)?;
-    let other = OtherPrimeInfo::decode(NoMemory, &mut reader)?;
+    let other = read_other(&mut reader)?;
     let rest = reader.read_slice(reader.remaining_len())?;
     Ok((other, rest))
 }
@@ -52,11 +65,10 @@ fn count_others(bytes: &[u8]) -> Result<usize>
     ensures err { IfErr result (λ e. TellsOfBytes e.kind × ((others : List (grammar.OtherPrime (List ℕ)))
         → ItemsContents (grammar.OtherPrimeInfo Integer) others bytes.now → ⊥)) }
 {
-    let mut rest = bytes;
+    let mut reader = SliceReader::new(bytes)?;
     let mut count = 0;
-    while !rest.is_empty() {
-        let (_other, behind) = first_other(rest)?;
-        rest = behind;
+    while reader.peek_octet().is_some() {
+        let _other = read_other(&mut reader)?;
         count += 1;
     }
     Ok(count)

@@ -252,14 +252,15 @@ impl<U: TryClone> TryClone for RsaPrivateKey<U> {
 }
 
 impl<U> RsaPrivateKey<U> {
-    ghost use Rattle.std.specs.Prelude.{IfOk};
+    ghost use Rattle.std.specs.Prelude.{IfOk, IsOk, None};
     ghost use Rattle.der_core.specs.Document.{Means};
     ghost use Rattle.der_core.specs.OctetStringRefs.{octets_of};
-    ghost use Rattle.der_core.specs.Reading.{AskedIn, Refuses};
+    ghost use Rattle.der_core.specs.Reading.{AskedIn, AsksWithin, Refuses};
     ghost use Rattle.der_core.specs.Tlv.{Tlv};
     ghost use Rattle.pkcs1.specs.Refusals.{IsAsn1};
 
-    /// Reads all octets of an OCTET STRING: `from_der` on its bytes.
+    /// Reads all octets of an OCTET STRING: `from_der` on its bytes. A key of two primes is never refused where its
+    /// numbers ask for no memory.
     pub fn from_octet_string<'a>(
         alloc: Global,
         octets: OctetStringRef<'a>,
@@ -269,6 +270,8 @@ impl<U> RsaPrivateKey<U> {
         ensures ok { IfOk result (λ key. Means (λ v. Tlv 48 (PrivateKeyContents U.text v)) (octets_of octets.entry) (private_of U.value key)) }
         ensures one { IfOk result (λ key. (other : PrivateKey U.Value) → Means (λ v. Tlv 48 (PrivateKeyContents U.text v)) (octets_of octets.entry) other → other ≡ private_of U.value key) }
         ensures err { IfErr result (IsAsn1 (λ e. Refuses e.kind (AskedIn (Tlv 48 (AsksForKey U.text U.Decode.asks)) (octets_of octets.entry)) ((key : PrivateKey U.Value) → Means (λ v. Tlv 48 (PrivateKeyContents U.text v)) (octets_of octets.entry) key → ⊥))) }
+        ensures two_primes { ((c : List ℕ) → AsksWithin U.Decode.asks c → ⊥) → (key : PrivateKey U.Value) → key.other_prime_infos ≡ None
+            → Means (λ v. Tlv 48 (PrivateKeyContents U.text v)) (octets_of octets.entry) key → IsOk result }
     {
         Ok(RsaPrivateKey::from_der(alloc, octets.as_bytes())?)
     }
@@ -311,11 +314,22 @@ impl<'a> RsaPrivateKey<UintRef<'a>> {
 
 impl RsaPrivateKey<Uint> {
     ghost use Rattle.std.specs.Prelude.{take, drop, IfOk, OnErr};
-    ghost use Rattle.der_core.specs.Document.{IsRefused, HasText};
+    ghost use Rattle.der_core.specs.Document.{Means, IsRefused, HasText};
     ghost use Rattle.der_core.specs.Uints.{own_bytes_of};
-    ghost use Rattle.pkcs1.specs.KeyTexts.{IsOnlyText};
+    ghost use Rattle.pkcs1.specs.Asking.{OwnedKeyAsks};
+    ghost use Rattle.pkcs1.specs.KeyTexts.{IsOnlyMeaning, IsOnlyText, IsUnread};
     ghost use Rattle.pkcs1.specs.Keys as grammar;
     ghost use Rattle.pkcs1.specs.Refusals.{IsAsn1};
+
+    /// Reads a whole slice, as `decode_key` of a key that borrows its numbers does. `OutOfMemory` is answered only where
+    /// a number, or a SEQUENCE that isn't empty behind the eighth, is there.
+    pub fn decode_key(alloc: Global, bytes: &[u8]) -> crate::Result<RsaPrivateKey<Uint>>
+        ensures ok { IfOk result (λ key. Means grammar.RsaPrivateKey bytes.now (private_of own_bytes_of key)) }
+        ensures one { IfOk result (λ key. IsOnlyMeaning grammar.RsaPrivateKey bytes.now (private_of own_bytes_of key)) }
+        ensures err { IfErr result (IsUnread grammar.RsaPrivateKey bytes.now (OwnedKeyAsks bytes.now)) }
+    {
+        Ok(RsaPrivateKey::from_der(alloc, bytes)?)
+    }
 
     /// Writes the key's one text to the front of a slice, as `encode_key` of a key that borrows its numbers does.
     pub fn encode_key(&self, out: &mut [u8]) -> crate::Result<usize>

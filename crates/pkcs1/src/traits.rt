@@ -108,7 +108,7 @@ impl DecodeRsaPrivateKey for RsaPrivateKey<Uint> {
         ensures one { IfOk result (λ key. IsOnlyMeaning grammar.RsaPrivateKey bytes.now (private_of own_bytes_of key)) }
         ensures err { IfErr result (IsUnread grammar.RsaPrivateKey bytes.now (OwnedKeyAsks bytes.now)) }
     {
-        Ok(RsaPrivateKey::from_der(alloc, bytes)?)
+        RsaPrivateKey::<Uint>::decode_key(alloc, bytes)
     }
 }
 

@@ -1,5 +1,9 @@
 //! Versions of private keys.
-ghost use Rattle.std.specs.Prelude.{◌≡◌, ◌<◌, ◌↔◌, ℕ, List, ◌∷◌, [], IsTrue, Some};
+ghost use Rattle.std.specs.Prelude.{◌≡◌, ◌<◌, ◌↔◌, ℕ, List, ◌∷◌, [], IsTrue, Some, nat_eq, refl};
+ghost use Rattle.std.proofs.Common.{rules};
+ghost use Rattle.std.specs.Cmp.{partial_order_from_own_ties};
+ghost use Rattle.std.specs.Cmp.Rules.{comparing};
+ghost use Rattle.std.specs.Ordering.{on, nat_cmp, as_partial_cmp};
 ghost use Rattle.der_core.specs.Integer.{integer_contents};
 ghost use Rattle.der_core.specs.IntegerReading.{Answers};
 ghost use Rattle.der_core.specs.Reading.{ReadsContents, HoldsBytes};
@@ -11,9 +15,10 @@ use der_core::{
     BackWriter, Contents, DecodeValue, EncodeValue, ErrorKind, Header, IntegerTag, Kinded, Length,
     Memory, Reader, Result, Tag, Writer,
 };
+use std::cmp::Ordering;
 
 /// The version of a private key: whether it has other primes.
-#[derive(Clone, Copy, Debug, PartialEq, Eq, PartialOrd, Ord, Drop)]
+#[derive(Clone, Copy, Debug, Drop)]
 pub enum Version {
     /// Two primes.
     TwoPrime = 0,
@@ -27,6 +32,45 @@ impl Version {
         ensures { IsTrue result ↔ (self ≡ Version.Multi) }
     {
         matches!(self, Version::Multi)
+    }
+}
+
+impl PartialEq for Version {
+    ghost eq = { on number_of nat_eq };
+
+    ghost laws = { Prim.search (comparing, rules) };
+
+    fn eq(&self, other: &Version) -> bool {
+        u8::from(*self) == u8::from(*other)
+    }
+}
+
+impl Eq for Version {
+    ghost laws = { Prim.search (comparing, rules) };
+}
+
+impl PartialOrd for Version {
+    ghost partial_cmp = { as_partial_cmp (on number_of nat_cmp) };
+
+    ghost laws = { partial_order_from_own_ties (Prim.search (comparing, rules)) (Prim.search (comparing, rules)) };
+
+    fn partial_cmp(&self, other: &Version) -> Option<Ordering> {
+        Some(self.cmp(other))
+    }
+}
+
+impl Ord for Version {
+    ghost cmp = { on number_of nat_cmp };
+
+    ghost total = { Prim.search (comparing, rules) };
+
+    ghost matches_partial_cmp = { λ x y. refl };
+
+    ghost matches_eq = { Prim.search (comparing, rules) };
+
+    /// The order of the numbers.
+    fn cmp(&self, other: &Version) -> Ordering {
+        u8::from(*self).cmp(&u8::from(*other))
     }
 }
 

@@ -6,9 +6,9 @@ use Rattle.std.proofs.KnownBytes.{Appends-trans, Appends-kept}
 use Rattle.std.proofs.Math.Seq.{take-append-add, take-length}
 use Rattle.std.proofs.lemmas.List.{take-append-le, take_min}
 use Rattle.der_core.specs.Outside.{AppendsFront}
+use Rattle.der_core.specs.Texts.{AtMostOne}
 use Rattle.pkcs1_tool.specs.Answer.{Answer, Answers}
 use Rattle.pkcs1_tool.specs.Written.{Writes, WritesFront, WritesFrontOfAll}
-use Rattle.pkcs1_tool.proofs.Only.{output_at_most_one}
 
 -- one more answer
 pub Answers-push : (lines : List (List ℕ)) (line output answer : List ℕ) → Answers lines output → Answer line answer → Answers (lines ++ line ∷ []) (output ++ (answer ++ 10 ∷ []))
@@ -50,11 +50,11 @@ take-front : (n : ℕ) (xs ys : List ℕ) → take (min n (length xs)) (xs ++ ys
 take-front n xs ys = take-append-le (min n (length xs)) xs ys (omega arith) ∙ take_min n xs
 
 -- what is a beginning of the answers of some first lines is one of whatever answers all of the lines
-pub WritesFront-all : (old new : Option (List ℕ)) (lines : List (List ℕ)) → WritesFront old new lines → WritesFrontOfAll old new lines
-WritesFront-all old new lines written all answers =
+pub WritesFront-all : ((lines : List (List ℕ)) → AtMostOne (Answers lines)) → (old new : Option (List ℕ)) (lines : List (List ℕ)) → WritesFront old new lines → WritesFrontOfAll old new lines
+WritesFront-all one old new lines written all answers =
     let n = written.5.0 in
     let output = written.3 in
     let parts = Answers-split written.0 written.1 all (rw written.2 at answers) in
-    let same : parts.0 ≡ output = output_at_most_one written.0 parts.0 output parts.2 written.4 in
+    let same : parts.0 ≡ output = one written.0 parts.0 output parts.2 written.4 in
     let whole : all ≡ output ++ parts.1 = parts.3 ∙ ap (λ o. o ++ parts.1) same in
     (min n (length output), rw (whole, take-front n output parts.1) written.5.1)

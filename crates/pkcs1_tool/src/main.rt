@@ -8,6 +8,7 @@ mod copy;
 mod digits;
 mod fault;
 mod keys;
+mod laws;
 mod lines;
 mod parameter_answers;
 mod parameters;

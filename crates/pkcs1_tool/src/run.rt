@@ -9,6 +9,7 @@ ghost use Rattle.pkcs1_tool.specs.Written.{Writes, WritesFirst, WritesFront, Wri
 
 use crate::answer::answer_line;
 use crate::fault::Fault;
+use crate::laws::answers_are_one;
 use crate::lines::split_line;
 use der_core::{Sink, Source};
 use std::alloc::Global;
@@ -26,6 +27,7 @@ fn read_input<R: Source>(alloc: Global, source: &mut R) -> Result<Vec<u8>, Fault
     ensures read { IsErrOf result Fault.Read → SomeRefused (R.refusals source.old) (R.refusals source.new)
         ⊎ GivesMore LIMIT PIECE (R.remaining source.old) (R.remaining source.new) }
     ensures write { ¬ IsErrOf result Fault.Write }
+    ensures memory_quiet { IsErrOf result Fault.Memory → R.refusals source.new ≡ R.refusals source.old }
 {
     let mut input = Vec::new(alloc);
     let mut piece = [0u8; PIECE];
@@ -70,6 +72,7 @@ fn answer_lines<W: Sink>(alloc: Global, input: &[u8], sink: &mut W) -> Result<()
     ensures write { IsErrOf result Fault.Write → SomeRefused (W.refusals sink.old) (W.refusals sink.new)
         × WritesFront (W.contents sink.old) (W.contents sink.new) (lines_of input.now) }
     ensures memory { IsErrOf result Fault.Memory → WritesFirst (W.contents sink.old) (W.contents sink.new) (lines_of input.now) }
+    ensures memory_quiet { IsErrOf result Fault.Memory → W.refusals sink.new ≡ W.refusals sink.old }
 {
     let mut answer = Vec::new(alloc);
     let mut rest = input;
@@ -94,6 +97,7 @@ fn answer_input<W: Sink>(alloc: Global, input: &[u8], sink: &mut W) -> Result<()
     ensures write { IsErrOf result Fault.Write → SomeRefused (W.refusals sink.old) (W.refusals sink.new)
         × WritesFront (W.contents sink.old) (W.contents sink.new) (lines_of input.now) }
     ensures memory { IsErrOf result Fault.Memory → WritesFirst (W.contents sink.old) (W.contents sink.new) (lines_of input.now) }
+    ensures memory_quiet { IsErrOf result Fault.Memory → W.refusals sink.new ≡ W.refusals sink.old }
 {
     answer_lines(alloc, input, sink)?;
     match sink.flush() {
@@ -106,6 +110,8 @@ fn answer_input<W: Sink>(alloc: Global, input: &[u8], sink: &mut W) -> Result<()
 pub fn run<R: Source, W: Sink>(alloc: Global, source: &mut R, sink: &mut W) -> Result<(), Fault>
     ensures ok { OnOk result (IfSome (R.remaining source.old) (λ input. Writes (W.contents sink.old) (W.contents sink.new) (lines_of input))) }
     ensures whole { OnOk result (IfSome (R.remaining source.old) (λ input. GivesAll (R.remaining source.old) (R.remaining source.new) input)) }
+    ensures some { OnOk result ((input : List ℕ) × (length input ≤ LIMIT) × GivesAll (R.remaining source.old) (R.remaining source.new) input
+        × Writes (W.contents sink.old) (W.contents sink.new) (lines_of input)) }
     ensures within { OnOk result (IfSome (R.remaining source.old) (λ input. length input ≤ LIMIT)) }
     ensures quiet { OnOk result ((R.refusals source.new ≡ R.refusals source.old) × (W.refusals sink.new ≡ W.refusals sink.old)) }
     ensures read { IsErrOf result Fault.Read → SomeRefused (R.refusals source.old) (R.refusals source.new)
@@ -115,9 +121,12 @@ pub fn run<R: Source, W: Sink>(alloc: Global, source: &mut R, sink: &mut W) -> R
     ensures front { IsErrOf result Fault.Write → IfSome (R.remaining source.old) (λ input. WritesFront (W.contents sink.old) (W.contents sink.new) (lines_of input)) }
     ensures front_of_all { IsErrOf result Fault.Write → IfSome (R.remaining source.old) (λ input. WritesFrontOfAll (W.contents sink.old) (W.contents sink.new) (lines_of input)) }
     ensures memory { IsErrOf result Fault.Memory → IfSome (R.remaining source.old) (λ input. WritesFirst (W.contents sink.old) (W.contents sink.new) (lines_of input)) }
+    ensures memory_quiet { IsErrOf result Fault.Memory → (R.refusals source.new ≡ R.refusals source.old)
+        × (W.refusals sink.new ≡ W.refusals sink.old) }
     ensures one_answer { (line : List ℕ) → AtMostOne (Answer line) }
     ensures one_output { (input : List ℕ) → AtMostOne (Output input) }
 {
+    answers_are_one();
     let input = read_input(alloc, source)?;
     answer_input(alloc, input.as_slice(), sink)
 }

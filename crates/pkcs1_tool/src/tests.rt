@@ -1,146 +1,19 @@
 //! Runs over sources and sinks that move a few bytes a call, and refuse one.
-ghost use Rattle.std.specs.Prelude.{◌≡◌, ◌<◌, Some, None};
+mod doubles;
 
 use crate::fault::Fault;
 use crate::plan::{Plan, plan_of, status};
 use crate::run::run;
-use der_core::{Error, ErrorKind, FromRead, Result, Sink, Source, ToWrite};
-use std::io::{self, Read, Write};
+use der_core::{FromRead, Sink, Source, ToWrite};
+use doubles::{Broken, Full, Many, Narrow, Slow};
 use std::test::Fail;
 
 const INPUT: &[u8; 45] = b"pub 3006020107020103\n\npub 300602010702010300\n";
 
 const OUTPUT: &[u8; 54] = b"pub n=07 e=03 again=3006020107020103\nbad line\nrefused\n";
 
-/// Gives one byte a call, and refuses the call of number `refused`, from 1 on.
-#[derive(Drop)]
-struct Slow<'a> {
-    left: &'a [u8],
-    refused: u64,
-    calls: u64,
-    faults: u64,
-}
-
-impl<'a> Source for Slow<'a> {
-    ghost remaining = { λ s. Some s.left.now };
-
-    ghost refusals = { λ s. s.faults };
-
-    fn read(&mut self, buf: &mut [u8]) -> Result<usize> {
-        self.calls = self.calls.saturating_add(1);
-        if self.calls == self.refused {
-            self.faults = self.faults.saturating_add(1);
-            return Err(Error::new(ErrorKind::File));
-        }
-        let count = 1.min(self.left.len()).min(buf.len());
-        let (given, left) = self.left.split_at(count);
-        buf[..count].copy_from_slice(given);
-        self.left = left;
-        Ok(count)
-    }
-
-    fn faults(&self) -> u64 {
-        self.faults
-    }
-}
-
-/// Gives so many bytes of one kind.
-#[derive(Drop)]
-struct Many {
-    byte: u8,
-    left: u64,
-}
-
-impl Source for Many {
-    ghost remaining = { λ _. None };
-
-    ghost refusals = { λ _. 0 };
-
-    fn read(&mut self, buf: &mut [u8]) -> Result<usize> {
-        let count = self.left.min(buf.len() as u64) as usize;
-        buf[..count].fill(self.byte);
-        self.left -= count as u64;
-        Ok(count)
-    }
-
-    fn faults(&self) -> u64 {
-        0
-    }
-}
-
-/// Takes at most `step` bytes a call, and refuses the call of number `refused`, from 1 on, and
-/// the call of `flush` where `blocked`.
-#[derive(Drop)]
-struct Narrow {
-    taken: Vec<u8>,
-    step: usize,
-    refused: u64,
-    blocked: bool,
-    calls: u64,
-    flushes: u64,
-    faults: u64,
-    ghost moves: { 0 < step },
-}
-
-impl Sink for Narrow {
-    ghost contents = { λ s. Some s.taken.items };
-
-    ghost refusals = { λ s. s.faults };
-
-    fn write(&mut self, bytes: &[u8]) -> Result<usize> {
-        self.calls = self.calls.saturating_add(1);
-        let count = self.step.min(bytes.len());
-        if self.calls == self.refused || self.taken.extend_from_slice(&bytes[..count]).is_err() {
-            self.faults = self.faults.saturating_add(1);
-            return Err(Error::new(ErrorKind::File));
-        }
-        Ok(count)
-    }
-
-    fn flush(&mut self) -> Result<()> {
-        self.flushes = self.flushes.saturating_add(1);
-        if self.blocked {
-            self.faults = self.faults.saturating_add(1);
-            return Err(Error::new(ErrorKind::File));
-        }
-        Ok(())
-    }
-
-    fn faults(&self) -> u64 {
-        self.faults
-    }
-}
-
-/// A reader of no use.
-#[derive(Drop)]
-struct Broken;
-
-impl Read for Broken {
-    ghost remaining = { λ _. None };
-
-    fn read(&mut self, _buf: &mut [u8]) -> io::Result<usize> {
-        Err(io::Error::from(io::ErrorKind::Other))
-    }
-}
-
-/// Takes no byte.
-#[derive(Drop)]
-struct Full;
-
-impl Write for Full {
-    ghost contents = { λ _. None };
-
-    fn write(&mut self, _bytes: &[u8]) -> io::Result<usize> {
-        Ok(0)
-    }
-
-    fn flush(&mut self) -> io::Result<()> {
-        Ok(())
-    }
-}
-
 #[test]
-fn answers_lines(rt: HostRuntime) -> std::result::Result<(), Fail> {
+fn answers_lines(rt: HostRuntime) -> Result<(), Fail> {
     let odd = b"\xff\xfe\0\npub 3006020107020103\r\n";
     for (input, want) in [
         (b"".as_slice(), b"".as_slice()),
@@ -253,7 +126,7 @@ fn stops_on_a_broken_reader(rt: HostRuntime) {
 }
 
 #[test]
-fn prints_faults(rt: HostRuntime) -> std::result::Result<(), Fail> {
+fn prints_faults(rt: HostRuntime) -> Result<(), Fail> {
     for (fault, want) in [
         (Fault::Read, "fault: read"),
         (Fault::Write, "fault: write"),
@@ -265,7 +138,7 @@ fn prints_faults(rt: HostRuntime) -> std::result::Result<(), Fail> {
 }
 
 #[test]
-fn plans(rt: HostRuntime) -> std::result::Result<(), Fail> {
+fn plans(rt: HostRuntime) -> Result<(), Fail> {
     assert_eq!(rt; plan_of(&[]), Plan::Lines);
     let pair = Plan::CopyPub {
         input: "in",

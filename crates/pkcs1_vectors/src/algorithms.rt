@@ -1,7 +1,6 @@
 //! Identifiers, texts of any tag, and algorithms.
 use crate::answer::{Answer, Trouble, agreed, refused};
 use crate::arguments::Arguments;
-use crate::marks::{Sha1, Sha256};
 use crate::read::{borrowed, both, owned};
 use crate::shown::Shown;
 use crate::written::written;
@@ -12,6 +11,7 @@ use spki_core::{
     AsAlgorithmIdentifierRef, ObjectIdentifier,
 };
 use std::alloc::Global;
+use uses::{Sha1, Sha256};
 
 /// `oid HEX`: an OBJECT IDENTIFIER.
 pub fn oid(alloc: Global, arguments: &mut Arguments<'_>) -> Answer {

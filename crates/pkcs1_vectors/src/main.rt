@@ -12,15 +12,12 @@ mod damaged;
 mod fields;
 mod keys;
 mod lengths;
-mod marks;
 mod parameters;
 mod read;
 mod refusals;
 mod row;
 mod shown;
 mod spellings;
-#[cfg(test)]
-mod tests;
 mod values;
 mod words;
 mod written;

@@ -2,11 +2,11 @@
 use crate::answer::{Answer, Trouble};
 use crate::arguments::Arguments;
 use crate::damaged::{self, Oaep, Private, Pss, Public};
-use crate::marks::{Sha1, Sha256};
 use crate::{
     algorithms, containers, fields, keys, lengths, parameters, refusals, spellings, values,
 };
 use std::alloc::Global;
+use uses::{Sha1, Sha256};
 
 /// The answer of a row's word to what stands behind it.
 pub fn answer(alloc: Global, mut arguments: Arguments<'_>) -> Answer {

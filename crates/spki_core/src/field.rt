@@ -1,5 +1,5 @@
 //! Explicit fields with defaults (X.690 8.14.2, 11.5).
-ghost use Rattle.std.specs.Prelude.{◌≡◌, ◌≤◌, ◌+◌, ◌++◌, length, OnOk, IfErr};
+ghost use Rattle.std.specs.Prelude.{◌≡◌, ◌≤◌, ◌+◌, ◌++◌, length, None, OnOk, IfErr, IsErrAnd};
 ghost use Rattle.der_core.specs.Length.{limit};
 ghost use Rattle.der_core.specs.BackWriters.{free_of, Prepends};
 ghost use Rattle.der_core.specs.Reading.{AsksWithin};
@@ -9,17 +9,19 @@ ghost use Rattle.spki_core.specs.FieldWriting.{HasField, written_field};
 
 use crate::context_specific::{ContextSpecificRef, read_context_specific};
 use der_core::{
-    BackWriter, Decode, Encode, Length, Memory, Reader, Result, TagNumber, Text, Writer,
+    BackWriter, Decode, Encode, ErrorKind, Length, Memory, Reader, Result, TagNumber, Text, Writer,
 };
 
-/// Reads an explicit field, or takes its default where the octet of its tag isn't next.
+/// Reads an explicit field, or takes its default where the octet of its tag isn't next. On a reader that has failed the
+/// answer is `Failed`.
 pub fn read_field<'a, T: Decode<&'a [u8], M>, M: Memory, R: Reader<&'a [u8]>>(
     memory: M,
     reader: &mut R,
     number: TagNumber,
     default: T,
 ) -> Result<T>
-    ensures { ReadsField number.value T.value T.text default (AsksWithin T.Decode.asks) result (R.left reader.old) (R.left reader.new) }
+    ensures reads { ReadsField number.value T.value T.text default (AsksWithin T.Decode.asks) result (R.left reader.old) (R.left reader.new) }
+    ensures failed { R.left reader.old ≡ None → IsErrAnd result (λ e. e.kind ≡ ErrorKind.Failed) }
 {
     match read_context_specific(memory, reader, number) {
         Ok(Some(value)) => Ok(value),

@@ -8,6 +8,7 @@ ghost use Rattle.std.specs.Hash as fed;
 ghost use Rattle.std.specs.Str.{bytes_eq};
 ghost use Rattle.std.specs.Cmp.Rules.{comparing, hashing};
 ghost use Rattle.der_core.specs.Tags.{object_identifier};
+ghost use Rattle.der_core.specs.Reading.{ReadsContents, HoldsBytes};
 
 use der_core::{
     BackWriter, Contents, DecodeValue, EncodeValue, EqualByValue, Error, ErrorKind, Header, Kinded,
@@ -164,13 +165,19 @@ impl EqualByValue for ObjectIdentifier {
 }
 
 impl<'a, M: Memory> DecodeValue<&'a [u8], M> for ObjectIdentifier {
+    ghost use Rattle.spki_core.specs.ObjectIdentifiers.{octets_of};
+
     ghost asks = { λ _. ⊥ };
 
     fn decode_value<R: Reader<&'a [u8]>>(
         _memory: M,
         reader: &mut R,
         header: Header,
-    ) -> Result<ObjectIdentifier> {
+    ) -> Result<ObjectIdentifier>
+        requires { HoldsBytes (R.left reader.old) header.length }
+        ensures reads { ReadsContents octets_of IdentifierContents (λ _. ⊥) result (R.left reader.old) (R.left reader.new) }
+        ensures exact { IfErr result (λ e. e.kind ≡ ErrorKind.OidMalformed) }
+    {
         let contents = reader.read_slice(header.length)?;
         match ObjectIdentifier::from_bytes(contents) {
             Ok(oid) => Ok(oid),

@@ -20,9 +20,9 @@ returns-in_err-nested g c =
 
 pub returns-in-Ok : goal.returns-in-Ok
 returns-in-Ok g c =
-    value_accepted g.T.Text.Value c.args.tag.octet g.T.Text.text (λ _. ⊥) c.args.tag.allowed _ _ _ _ _ _ _ _ (g.R.BytesLeft.bytes c.args.reader.now) c.in_ok-header.ensures.exact (ne_false _ _ _ _ c.if-ne.false c.ne.ensures refl) c.in_ok-nested.ensures c.in-Ok.ensures
+    value_accepted g.T.Text.Value c.args.tag.octet g.T.Text.text (λ _. ⊥) c.args.tag.allowed _ _ _ _ _ _ _ _ (g.R.BytesLeft.bytes c.args.reader.now) c.in_ok-header.ensures.exact (ne_false _ _ _ _ c.if-ne.false c.ne.ensures refl) c.in_ok-nested.ensures c.in-Ok.ensures.reads
 
 pub returns : goal.returns
 returns g c =
     let kind : c.error-in-Err.result.kind ≡ c.in-Err.e.kind = c.error-in-Err.ensures.value ∙ c.kind.ensures in
-    rw kind (value_refused g.T.Text.Value c.args.tag.octet g.T.Text.text _ c.args.tag.allowed _ _ _ _ _ _ _ _ (g.R.BytesLeft.bounded c.args.reader.now) (g.R.BytesLeft.bytes c.args.reader.now) c.in_ok-header.ensures.exact (ne_false _ _ _ _ c.if-ne.false c.ne.ensures refl) c.in_ok-nested.ensures c.in-Err.ensures.1 c.error-in-Err.ensures.failed)
+    rw kind (value_refused g.T.Text.Value c.args.tag.octet g.T.Text.text _ c.args.tag.allowed _ _ _ _ _ _ _ _ (g.R.BytesLeft.bounded c.args.reader.now) (g.R.BytesLeft.bytes c.args.reader.now) c.in_ok-header.ensures.exact (ne_false _ _ _ _ c.if-ne.false c.ne.ensures refl) c.in_ok-nested.ensures c.in-Err.ensures.reads.1 c.error-in-Err.ensures.failed)

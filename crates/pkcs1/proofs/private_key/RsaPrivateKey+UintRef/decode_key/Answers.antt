@@ -1,6 +1,7 @@
 use Rattle.std.proofs.lemmas.Result.{err_from_is_err_and}
+use Rattle.der_core.specs.IntegerLaws.{integer_delimited}
 use Rattle.der_core.specs.ShortestLaws.{means_one}
-use Rattle.pkcs1.proofs.KeyMemory.{refuses_as, two_primes_refused}
+use Rattle.pkcs1.proofs.KeyMemory.{refuses_as, borrowed_ask, two_primes_refused}
 use Rattle.pkcs1.proofs.PrivateKeys.{private_delimited}
 use Rattle.pkcs1.proofs.private_key.RsaPrivateKey+UintRef.decode_key.Goals as goal
 
@@ -13,4 +14,4 @@ returns-in_err-from_der-clause-err c =
     rw (p.1, p.2) (refuses_as _ _ c.in_err-from_der.ensures)
 
 pub returns-in_err-from_der-clause-two_primes : goal.returns-in_err-from_der-clause-two_primes
-returns-in_err-from_der-clause-two_primes c key two means = absurd (two_primes_refused key _ _ two means c.in_err-from_der.ensures)
+returns-in_err-from_der-clause-two_primes c key two means = absurd (two_primes_refused integer_delimited key two _ borrowed_ask _ _ means c.in_err-from_der.ensures)

@@ -3,6 +3,7 @@ use Rattle.der_core.specs.ShortestLaws.{means_one}
 use Rattle.der_core.specs.TextLaws.{tlv_delimited}
 use Rattle.pkcs1.specs.Keys.{PrivateKeyContents}
 use Rattle.pkcs1.specs.PrivateKeyLaws.{private_means_one}
+use Rattle.pkcs1.proofs.KeyMemory.{two_primes_refused}
 use Rattle.pkcs1.proofs.private_key.RsaPrivateKey.from_octet_string.Goals as goal
 
 pub returns-clause-one : goal.returns-clause-one
@@ -14,3 +15,7 @@ pub returns-in_err-from_der-clause-err : goal.returns-in_err-from_der-clause-err
 returns-in_err-from_der-clause-err g c =
     let p = err_from_is_err_and c.from_residual.result c.from_residual.ensures.1 in
     rw (p.1, p.2, ← c.as_bytes.ensures.octets) c.in_err-from_der.ensures
+
+pub returns-in_err-from_der-clause-two_primes : goal.returns-in_err-from_der-clause-two_primes
+returns-in_err-from_der-clause-two_primes g c none key two means =
+    absurd (two_primes_refused g.U.Text.delimited key two _ none _ _ (rw (← c.as_bytes.ensures.octets) at means) c.in_err-from_der.ensures)

@@ -21,4 +21,4 @@ returns-in_err-parameters g c =
     let p = err_from_is_err_and c.from_residual-in_err-parameters.result c.from_residual-in_err-parameters.ensures.1 in
     rw (p.1, p.2)
     (rest_fails (List ℕ) ObjectIdentifier (Algorithm g.P.Text.Value) (λ a. a.oid) (λ a. Joins (Optional g.P.Text.text a.parameters ∷ [])) _ identifier_delimited _ _ _ _ _ c.in_ok-oid.ensures
-    (as_last (Optional g.P.Text.text) (λ (a : Algorithm g.P.Text.Value). a.parameters) _ _ _ _ c.in_err-parameters.ensures))
+    (as_last (Optional g.P.Text.text) (λ (a : Algorithm g.P.Text.Value). a.parameters) _ _ _ _ c.in_err-parameters.ensures.reads))

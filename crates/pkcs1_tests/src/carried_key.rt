@@ -6,7 +6,7 @@ ghost use Rattle.der_core.specs.Reading.{Refuses};
 ghost use Rattle.der_core.specs.declared.error.ErrorKind.TheVariants.{OutOfMemory};
 ghost use Rattle.pkcs1.specs.Refusals.{IsAsn1};
 
-use super::checks::equal;
+use crate::checks::equal;
 use der_core::{Error, ErrorKind, SecretDocument, Tag};
 use pkcs1::{
     DecodeRsaPrivateKey, DecodeRsaPublicKey, EncodeRsaPrivateKey, EncodeRsaPublicKey, Result,

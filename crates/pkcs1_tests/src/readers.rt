@@ -1,5 +1,5 @@
 //! Readers, and what one answers behind a refusal.
-use super::checks::equal;
+use crate::checks::equal;
 use der_core::{
     Decode, Error, ErrorKind, Header, Length, NoMemory, Reader, SliceReader, TagNumber, UintRef,
     decode_last, decode_optional, decode_whole,

@@ -1,7 +1,7 @@
 //! Documents from sources and to sinks that move a few bytes a call, or refuse one; and in files.
 ghost use Rattle.std.specs.Prelude.{Some};
 
-use super::checks::equal;
+use crate::checks::equal;
 use der_core::{Document, Error, ErrorKind, Result, SecretDocument, Sink, Source, ToWrite};
 use std::alloc::Global;
 use std::io::Write;

@@ -1,6 +1,5 @@
 //! Values that are hashed, compared, copied and printed.
-use super::checks::{equal, holds};
-use crate::marks::{Sha1, Sha256};
+use crate::checks::{equal, holds};
 use der_core::{AsUintRef, Document, SecretDocument, UintRef};
 use pkcs1::{ALGORITHM_OID, OtherPrimeInfo, RsaOaepParamsRef, RsaPssParamsRef, Version};
 use spki_core::{AnyRef, AssociatedOid, ObjectIdentifier};
@@ -8,6 +7,7 @@ use std::alloc::Global;
 use std::fmt::Debug;
 use std::hash::{DefaultHasher, Hash, Hasher};
 use std::test::Fail;
+use uses::{Sha1, Sha256};
 
 /// What the identifier is hashed to.
 fn hash_of(oid: ObjectIdentifier) -> u64 {

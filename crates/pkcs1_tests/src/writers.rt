@@ -1,5 +1,5 @@
 //! Writers: what they append, prepend, and leave.
-use super::checks::{equal, holds};
+use crate::checks::{equal, holds};
 use der_core::{
     BackWriter, Encode, Error, ErrorKind, Header, Length, SliceWriter, Tag, TagNumber, UintRef,
     Writer, encode_optional, optional_len, prepend_optional,

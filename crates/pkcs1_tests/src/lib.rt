@@ -1,0 +1,17 @@
+//! Tests of what no worked row can say: readers and writers behind a refusal, documents from sources, to sinks and in
+//! files, a key type of a caller's own, values that are hashed, compared and printed. They stand apart from the rows, so
+//! that the gate doesn't prove the program of the rows a second time.
+#![tactic(auto)]
+
+#[cfg(test)]
+mod carried_key;
+#[cfg(test)]
+mod checks;
+#[cfg(test)]
+mod documents;
+#[cfg(test)]
+mod readers;
+#[cfg(test)]
+mod values;
+#[cfg(test)]
+mod writers;

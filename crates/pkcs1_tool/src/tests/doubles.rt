@@ -1,0 +1,132 @@
+//! Sources and sinks that move a few bytes a call, and refuse one; a reader and a writer of no use.
+ghost use Rattle.std.specs.Prelude.{◌≡◌, ◌<◌, Some, None};
+
+use der_core::{Error, ErrorKind, Result, Sink, Source};
+use std::io::{self, Read, Write};
+
+/// Gives one byte a call, and refuses the call of number `refused`, from 1 on.
+#[derive(Drop)]
+pub struct Slow<'a> {
+    pub left: &'a [u8],
+    pub refused: u64,
+    pub calls: u64,
+    pub faults: u64,
+}
+
+impl<'a> Source for Slow<'a> {
+    ghost remaining = { λ s. Some s.left.now };
+
+    ghost refusals = { λ s. s.faults };
+
+    fn read(&mut self, buf: &mut [u8]) -> Result<usize> {
+        self.calls = self.calls.saturating_add(1);
+        if self.calls == self.refused {
+            self.faults = self.faults.saturating_add(1);
+            return Err(Error::new(ErrorKind::File));
+        }
+        let count = 1.min(self.left.len()).min(buf.len());
+        let (given, left) = self.left.split_at(count);
+        buf[..count].copy_from_slice(given);
+        self.left = left;
+        Ok(count)
+    }
+
+    fn faults(&self) -> u64 {
+        self.faults
+    }
+}
+
+/// Gives so many bytes of one kind.
+#[derive(Drop)]
+pub struct Many {
+    pub byte: u8,
+    pub left: u64,
+}
+
+impl Source for Many {
+    ghost remaining = { λ _. None };
+
+    ghost refusals = { λ _. 0 };
+
+    fn read(&mut self, buf: &mut [u8]) -> Result<usize> {
+        let count = self.left.min(buf.len() as u64) as usize;
+        buf[..count].fill(self.byte);
+        self.left -= count as u64;
+        Ok(count)
+    }
+
+    fn faults(&self) -> u64 {
+        0
+    }
+}
+
+/// Takes at most `step` bytes a call, and refuses the call of number `refused`, from 1 on, and
+/// the call of `flush` where `blocked`.
+#[derive(Drop)]
+pub struct Narrow {
+    pub taken: Vec<u8>,
+    pub step: usize,
+    pub refused: u64,
+    pub blocked: bool,
+    pub calls: u64,
+    pub flushes: u64,
+    pub faults: u64,
+    ghost moves: { 0 < step },
+}
+
+impl Sink for Narrow {
+    ghost contents = { λ s. Some s.taken.items };
+
+    ghost refusals = { λ s. s.faults };
+
+    fn write(&mut self, bytes: &[u8]) -> Result<usize> {
+        self.calls = self.calls.saturating_add(1);
+        let count = self.step.min(bytes.len());
+        if self.calls == self.refused || self.taken.extend_from_slice(&bytes[..count]).is_err() {
+            self.faults = self.faults.saturating_add(1);
+            return Err(Error::new(ErrorKind::File));
+        }
+        Ok(count)
+    }
+
+    fn flush(&mut self) -> Result<()> {
+        self.flushes = self.flushes.saturating_add(1);
+        if self.blocked {
+            self.faults = self.faults.saturating_add(1);
+            return Err(Error::new(ErrorKind::File));
+        }
+        Ok(())
+    }
+
+    fn faults(&self) -> u64 {
+        self.faults
+    }
+}
+
+/// A reader of no use.
+#[derive(Drop)]
+pub struct Broken;
+
+impl Read for Broken {
+    ghost remaining = { λ _. None };
+
+    fn read(&mut self, _buf: &mut [u8]) -> io::Result<usize> {
+        Err(io::Error::from(io::ErrorKind::Other))
+    }
+}
+
+/// Takes no byte.
+#[derive(Drop)]
+pub struct Full;
+
+impl Write for Full {
+    ghost contents = { λ _. None };
+
+    fn write(&mut self, _bytes: &[u8]) -> io::Result<usize> {
+        Ok(0)
+    }
+
+    fn flush(&mut self) -> io::Result<()> {
+        Ok(())
+    }
+}
