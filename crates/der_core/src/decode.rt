@@ -67,7 +67,9 @@ pub fn decode_optional<'a, T: DecodeValue<&'a [u8], M> + FixedTag, M: Memory, R:
     memory: M,
     reader: &mut R,
 ) -> Result<Option<T>>
-    ensures { ReadsOptional T.TAG.octet T.value (λ v. Tlv T.TAG.octet (T.contents v)) (Tlv T.TAG.octet T.DecodeValue.asks) result (R.left reader.old) (R.left reader.new) }
+    ensures { let tag = T.TAG.octet in
+        let asks = Tlv tag T.DecodeValue.asks in
+        ReadsOptional tag T.value (λ v. Tlv tag (T.contents v)) asks result (R.left reader.old) (R.left reader.new) }
 {
     reader.read_slice(Length::ZERO)?;
     if reader.peek_octet() != Some(T::TAG.octet()) {

@@ -1,12 +1,12 @@
 //! Writing of values.
-ghost use Rattle.std.specs.Prelude.{◌≡◌, ℕ, ◌^◌, ◌+◌, ◌≤◌, ◌<◌, List, ◌∷◌, ◌++◌, length, take, drop, OnOk, OnErr, IfOk, IfErr};
+ghost use Rattle.std.specs.Prelude.{◌≡◌, ◌≤◌, ◌++◌, length, drop, OnOk, OnErr, IfOk, IfErr};
 ghost use Rattle.der_core.specs.Length.{limit, length_octets};
 ghost use Rattle.der_core.specs.Tlv.{Tlv, tlv};
 ghost use Rattle.der_core.specs.Document.{IsShortest, IsUncountable, IsRefused};
 ghost use Rattle.der_core.specs.BackWriters.{free_of, Prepends};
 ghost use Rattle.der_core.specs.Lent.{IsFront, LeavesRest};
 ghost use Rattle.std.specs.Borrow.{sem};
-ghost use Rattle.der_core.specs.Writing.{IsLeast, Counts, Stops, fault, joined};
+ghost use Rattle.der_core.specs.Writing.{WritesTexts, WritesLeast, Counts, Appends, fault, joined};
 
 use crate::back_writer::BackWriter;
 use crate::error::{Error, ErrorKind, Result};
@@ -19,14 +19,12 @@ use crate::writer::Writer;
 pub trait EncodeValue: Contents {
     /// How many octets the contents have.
     fn value_len(&self) -> Result<Length>
-        ensures { Counts (Self.has_contents (Self.value self.now)) (Self.written_contents (Self.value self.now)) result };
+        ensures { let v = Self.value self.now in Counts (Self.has_contents v) (Self.written_contents v) result };
 
     /// Appends the contents.
     fn encode_value<W: Writer>(&self, writer: &mut W) -> Result<()>
-        ensures has { OnOk result (Self.has_contents (Self.value self.now) × (length (Self.written_contents (Self.value self.now)) ≤ limit)) }
-        ensures written { OnOk result (W.written writer.new ≡ W.written writer.old ++ Self.written_contents (Self.value self.now)) }
-        ensures room { OnOk result (W.room writer.new + length (Self.written_contents (Self.value self.now)) ≡ W.room writer.old) }
-        ensures left { IfErr result (λ e. Stops (Self.has_contents (Self.value self.now)) (Self.written_contents (Self.value self.now)) (W.room writer.old) (W.written writer.old) (W.written writer.new) (fault e.kind)) }
+        ensures appends { let v = Self.value self.now in
+            Appends (Self.has_contents v) (Self.written_contents v) W.room W.written writer.old writer.new result }
         ensures kept { W.keeps writer.old writer.new };
 
     /// Puts the contents before what is filled.
@@ -37,26 +35,26 @@ pub trait EncodeValue: Contents {
         ensures { Prepends (Self.written_contents (Self.value self.now)) writer.old writer.new };
 
     /// What is written are contents of the value, up to a length that no memory holds.
-    ghost contents_relate: { (v : Self.Value) → Self.has_contents v → length (Self.written_contents v) < 2 ^ 128 → Self.contents v (Self.written_contents v) };
+    ghost contents_relate: { WritesTexts Self.contents Self.has_contents Self.written_contents };
 
     /// A value with contents has the written ones, and its others are longer.
-    ghost contents_shortest: { (v : Self.Value) (c : List ℕ) → Self.contents v c → IsLeast (Self.has_contents v) (Self.written_contents v) c };
+    ghost contents_shortest: { WritesLeast Self.contents Self.has_contents Self.written_contents };
 }
 
 /// A type whose values are written as texts.
 pub trait Encode: Text {
     /// How many octets the text has: `Value` where the value has no text, `Overflow` where it has some and none fits.
     fn encoded_len(&self) -> Result<Length>
-        ensures counted { Counts (Self.has_text (Self.value self.now)) (Self.written_text (Self.value self.now)) result }
-        ensures err { IfErr result (λ e. IsUncountable (Self.has_text (Self.value self.now)) Self.text (Self.value self.now) (fault e.kind)) };
+        ensures counted { let v = Self.value self.now in Counts (Self.has_text v) (Self.written_text v) result }
+        ensures err { let v = Self.value self.now in
+            IfErr result (λ e. IsUncountable (Self.has_text v) Self.text v (fault e.kind)) };
 
     /// Appends the text: `Value` and `Overflow` before any octet, `NoRoom` after a beginning of it.
     fn encode<W: Writer>(&self, writer: &mut W) -> Result<()>
-        ensures has { OnOk result (Self.has_text (Self.value self.now) × (length (Self.written_text (Self.value self.now)) ≤ limit)) }
-        ensures written { OnOk result (W.written writer.new ≡ W.written writer.old ++ Self.written_text (Self.value self.now)) }
-        ensures room { OnOk result (W.room writer.new + length (Self.written_text (Self.value self.now)) ≡ W.room writer.old) }
-        ensures left { IfErr result (λ e. Stops (Self.has_text (Self.value self.now)) (Self.written_text (Self.value self.now)) (W.room writer.old) (W.written writer.old) (W.written writer.new) (fault e.kind)) }
-        ensures err { IfErr result (λ e. IsRefused (Self.has_text (Self.value self.now)) Self.text (Self.value self.now) (W.room writer.old) (fault e.kind)) }
+        ensures appends { let v = Self.value self.now in
+            Appends (Self.has_text v) (Self.written_text v) W.room W.written writer.old writer.new result }
+        ensures err { let v = Self.value self.now in
+            IfErr result (λ e. IsRefused (Self.has_text v) Self.text v (W.room writer.old) (fault e.kind)) }
         ensures kept { W.keeps writer.old writer.new };
 
     /// Puts the text before what is filled.
@@ -67,19 +65,21 @@ pub trait Encode: Text {
         ensures { Prepends (Self.written_text (Self.value self.now)) writer.old writer.new };
 
     /// What is written is a text of the value, up to a length that no memory holds.
-    ghost text_relates: { (v : Self.Value) → Self.has_text v → length (Self.written_text v) < 2 ^ 128 → Self.text v (Self.written_text v) };
+    ghost text_relates: { WritesTexts Self.text Self.has_text Self.written_text };
 
     /// A value with a text has the written one, and its others are longer.
-    ghost text_shortest: { (v : Self.Value) (b : List ℕ) → Self.text v b → IsLeast (Self.has_text v) (Self.written_text v) b };
+    ghost text_shortest: { WritesLeast Self.text Self.has_text Self.written_text };
 
     /// Writes the text to the front of a slice, from its end to its start, and answers its length. What a refusal leaves
     /// is the slice as it was.
     final fn encode_into(&self, out: &mut [u8]) -> Result<usize>
     where
         Self: Sized,
-        ensures ok { IfOk result (λ n. (n ≡ length (Self.written_text (Self.value self.now))) × (out.new ≡ Self.written_text (Self.value self.now) ++ drop n out.old)) }
-        ensures shortest { OnOk result (IsShortest Self.text (Self.value self.now) (Self.written_text (Self.value self.now))) }
-        ensures err { IfErr result (λ e. IsRefused (Self.has_text (Self.value self.now)) Self.text (Self.value self.now) (length out.old) (fault e.kind)) }
+        ensures ok { let text = Self.written_text (Self.value self.now) in
+            IfOk result (λ n. (n ≡ length text) × (out.new ≡ text ++ drop n out.old)) }
+        ensures shortest { let v = Self.value self.now in OnOk result (IsShortest Self.text v (Self.written_text v)) }
+        ensures err { let v = Self.value self.now in
+            IfErr result (λ e. IsRefused (Self.has_text v) Self.text v (length out.old) (fault e.kind)) }
         ensures unchanged { OnErr result (out.new ≡ out.old) }
     {
         let length = self.encoded_len()?.to_usize();
@@ -100,7 +100,8 @@ pub trait Encode: Text {
         ensures* leaves { sem 𝓛 (LeavesRest out.entry (Self.written_text (Self.value self.now)) result) }
         ensures ok { IfOk result (λ s. s.now ≡ Self.written_text (Self.value self.now)) }
         ensures shortest { IfOk result (λ s. IsShortest Self.text (Self.value self.now) s.now) }
-        ensures err { IfErr result (λ e. IsRefused (Self.has_text (Self.value self.now)) Self.text (Self.value self.now) (length out.old) (fault e.kind)) }
+        ensures err { let v = Self.value self.now in
+            IfErr result (λ e. IsRefused (Self.has_text v) Self.text v (length out.old) (fault e.kind)) }
     {
         let written = self.encode_into(out);
         front(out, written)
@@ -120,17 +121,17 @@ fn front<'b>(out: &'b [u8], written: Result<usize>) -> Result<&'b [u8]>
 
 /// How many octets the text of these contents has.
 fn text_len<T: EncodeValue + FixedTag>(value: &T) -> Result<Length>
-    ensures { Counts (T.has_contents (T.value value.now)) (tlv T.TAG.octet (T.written_contents (T.value value.now))) result }
+    ensures { let v = T.value value.now in
+        Counts (T.has_contents v) (tlv T.TAG.octet (T.written_contents v)) result }
 {
     value.value_len()?.for_tlv(T::TAG)
 }
 
 /// Appends a header and the contents.
 fn encode_text<T: EncodeValue + FixedTag, W: Writer>(value: &T, writer: &mut W) -> Result<()>
-    ensures has { OnOk result (T.has_contents (T.value value.now) × (length (tlv T.TAG.octet (T.written_contents (T.value value.now))) ≤ limit)) }
-    ensures written { OnOk result (W.written writer.new ≡ W.written writer.old ++ tlv T.TAG.octet (T.written_contents (T.value value.now))) }
-    ensures room { OnOk result (W.room writer.new + length (tlv T.TAG.octet (T.written_contents (T.value value.now))) ≡ W.room writer.old) }
-    ensures left { IfErr result (λ e. Stops (T.has_contents (T.value value.now)) (tlv T.TAG.octet (T.written_contents (T.value value.now))) (W.room writer.old) (W.written writer.old) (W.written writer.new) (fault e.kind)) }
+    ensures appends { let v = T.value value.now in
+        let octets = tlv T.TAG.octet (T.written_contents v) in
+        Appends (T.has_contents v) octets W.room W.written writer.old writer.new result }
     ensures kept { W.keeps writer.old writer.new }
 {
     let length = value.value_len()?;
@@ -164,7 +165,7 @@ impl<T: EncodeValue + FixedTag> Encode for T {
 
     ghost use Rattle.der_core.specs.TextLaws.{tlv_relates, tlv_shortest};
 
-    ghost text_relates = { λ v has fits. tlv_relates T.TAG.octet T.contents T.written_contents v (T.contents_relate v has) fits };
+    ghost text_relates = { λ v has. tlv_relates T.TAG.octet T.contents T.written_contents v (T.contents_relate v has) };
 
     ghost text_shortest = { tlv_shortest T.TAG.octet T.contents T.written_contents T.has_contents T.contents_shortest };
 }

@@ -1,11 +1,11 @@
 //! The last part of contents: one text, or an OPTIONAL one.
-ghost use Rattle.std.specs.Prelude.{◌≡◌, ◌≤◌, ◌+◌, ◌++◌, length, None, OnOk, IfErr, IsErrAnd};
+ghost use Rattle.std.specs.Prelude.{◌≡◌, ◌≤◌, length, None, IsErrAnd};
 ghost use Rattle.std.specs.Option.{option_map};
 ghost use Rattle.der_core.specs.Length.{limit};
 ghost use Rattle.der_core.specs.BackWriters.{free_of, Prepends};
 ghost use Rattle.der_core.specs.Optional.{Optional, HasOptional, written_optional};
 ghost use Rattle.der_core.specs.Reading.{ReadsContents, AsksWithin};
-ghost use Rattle.der_core.specs.Writing.{Counts, Stops, fault};
+ghost use Rattle.der_core.specs.Writing.{Counts, Appends};
 
 use crate::back_writer::BackWriter;
 use crate::decode::Decode;
@@ -22,7 +22,8 @@ pub fn decode_whole<'a, T: Decode<&'a [u8], M>, M: Memory, R: Reader<&'a [u8]>>(
     memory: M,
     reader: &mut R,
 ) -> Result<T>
-    ensures reads { ReadsContents T.value T.text (AsksWithin T.Decode.asks) result (R.left reader.old) (R.left reader.new) }
+    ensures reads { let asks = AsksWithin T.Decode.asks in
+        ReadsContents T.value T.text asks result (R.left reader.old) (R.left reader.new) }
     ensures failed { R.left reader.old ≡ None → IsErrAnd result (λ e. e.kind ≡ ErrorKind.Failed) }
 {
     let value = T::decode(memory, reader)?;
@@ -36,7 +37,8 @@ pub fn decode_last<'a, T: Decode<&'a [u8], M>, M: Memory, R: Reader<&'a [u8]>>(
     memory: M,
     reader: &mut R,
 ) -> Result<Option<T>>
-    ensures reads { ReadsContents (option_map T.value) (Optional T.text) (AsksWithin T.Decode.asks) result (R.left reader.old) (R.left reader.new) }
+    ensures reads { let asks = AsksWithin T.Decode.asks in
+        ReadsContents (option_map T.value) (Optional T.text) asks result (R.left reader.old) (R.left reader.new) }
     ensures failed { R.left reader.old ≡ None → IsErrAnd result (λ e. e.kind ≡ ErrorKind.Failed) }
 {
     if reader.peek_octet().is_none() {
@@ -49,7 +51,8 @@ pub fn decode_last<'a, T: Decode<&'a [u8], M>, M: Memory, R: Reader<&'a [u8]>>(
 
 /// How many octets are written of the part.
 pub fn optional_len<T: Encode>(part: &Option<T>) -> Result<Length>
-    ensures { Counts (HasOptional T.has_text (option_map T.value part.now)) (written_optional T.written_text (option_map T.value part.now)) result }
+    ensures { let value = option_map T.value part.now in
+        Counts (HasOptional T.has_text value) (written_optional T.written_text value) result }
 {
     match part {
         Some(value) => value.encoded_len(),
@@ -59,10 +62,9 @@ pub fn optional_len<T: Encode>(part: &Option<T>) -> Result<Length>
 
 /// Appends the part.
 pub fn encode_optional<T: Encode, W: Writer>(part: &Option<T>, writer: &mut W) -> Result<()>
-    ensures has { OnOk result (HasOptional T.has_text (option_map T.value part.now) × (length (written_optional T.written_text (option_map T.value part.now)) ≤ limit)) }
-    ensures written { OnOk result (W.written writer.new ≡ W.written writer.old ++ written_optional T.written_text (option_map T.value part.now)) }
-    ensures room { OnOk result (W.room writer.new + length (written_optional T.written_text (option_map T.value part.now)) ≡ W.room writer.old) }
-    ensures left { IfErr result (λ e. Stops (HasOptional T.has_text (option_map T.value part.now)) (written_optional T.written_text (option_map T.value part.now)) (W.room writer.old) (W.written writer.old) (W.written writer.new) (fault e.kind)) }
+    ensures appends { let value = option_map T.value part.now in
+        let octets = written_optional T.written_text value in
+        Appends (HasOptional T.has_text value) octets W.room W.written writer.old writer.new result }
     ensures kept { W.keeps writer.old writer.new }
 {
     match part {

@@ -2,7 +2,7 @@
 ghost use Rattle.std.specs.Prelude.{◌≡◌, ℕ, List, ◌+◌, ◌≤◌, ◌<◌, length, IfOk, IfErr, MatchResult};
 ghost use Rattle.der_core.specs.declared.error.ErrorKind.TheVariants.{Overflow};
 ghost use Rattle.std.specs.Int.Digits.{number_from_digits};
-ghost use Rattle.der_core.specs.Length.{limit, IsLength, length_octets};
+ghost use Rattle.der_core.specs.Length.{limit, IsLength, length_octets, tlv_len};
 ghost use Rattle.der_core.specs.Input.{Reads, length_at};
 ghost use Rattle.der_core.specs.Input as specs;
 ghost use Rattle.der_core.specs.Reading.{ReadsText};
@@ -89,7 +89,8 @@ fn read_length<'a, R: Reader<&'a [u8]>>(reader: &mut R) -> Result<Length>
 impl TryFrom<usize> for Length {
     type Error = Error;
 
-    ghost try_from_gives = { λ value result. MatchResult result (λ n. (n ≡ value) × (value ≤ limit)) (λ e. (e.kind ≡ Overflow) × (limit < value)) };
+    ghost try_from_gives = { λ value. λ result.
+        MatchResult result (λ n. (n ≡ value) × (value ≤ limit)) (λ e. (e.kind ≡ Overflow) × (limit < value)) };
 
     /// The number as a length, or `Overflow` past `MAX`.
     fn try_from(value: usize) -> Result<Length>
@@ -147,9 +148,10 @@ impl Length {
 
     /// The length of a text whose contents have this length, or `Overflow` past `MAX`.
     pub fn for_tlv(self, _tag: Tag) -> Result<Length>
-        ensures ok { IfOk result (λ total. (total ≡ 1 + length (length_octets self) + self) × (total ≤ limit)) }
-        ensures err { IfErr result (λ e. (e.kind ≡ ErrorKind.Overflow) × (limit < 1 + length (length_octets self) + self)) }
-        ensures text { (octet : ℕ) (contents text : List ℕ) → length contents ≡ self → Tlv octet (Is contents) text → length text ≡ 1 + length (length_octets self) + self }
+        ensures ok { IfOk result (λ total. (total ≡ tlv_len self) × (total ≤ limit)) }
+        ensures err { IfErr result (λ e. (e.kind ≡ ErrorKind.Overflow) × (limit < tlv_len self)) }
+        ensures text { (octet : ℕ) (contents text : List ℕ)
+            → length contents ≡ self → Tlv octet (Is contents) text → length text ≡ tlv_len self }
     {
         self.header_len().checked_add(self)
     }

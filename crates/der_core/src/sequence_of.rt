@@ -1,8 +1,8 @@
 //! SEQUENCE OF (X.690 8.10), as a `Vec` of its items.
-ghost use Rattle.std.specs.Prelude.{◌≡◌, ◌≤◌, ◌<◌, ◌+◌, ◌++◌, List, length, map, OnOk, IfErr};
+ghost use Rattle.std.specs.Prelude.{◌≡◌, ◌≤◌, ◌<◌, List, length, map};
 ghost use Rattle.der_core.specs.Length.{limit};
 ghost use Rattle.der_core.specs.BackWriters.{free_of, Prepends};
-ghost use Rattle.der_core.specs.Writing.{Counts, Stops, fault};
+ghost use Rattle.der_core.specs.Writing.{Counts, Appends};
 ghost use Rattle.der_core.specs.SequenceOfLaws.{items_of_bytes, items_relate, items_shortest};
 ghost use Rattle.der_core.specs.SequenceOf.{ItemsContents, AllHave, all_texts};
 ghost use Rattle.der_core.specs.TextLaws.{joins_map};
@@ -59,7 +59,8 @@ impl<'a, T: Decode<&'a [u8], Global>> DecodeValue<&'a [u8], Global> for Vec<T> {
 
 /// How many octets the texts of the items have.
 fn texts_len<T: Encode>(items: &[T]) -> Result<Length>
-    ensures { Counts (AllHave (λ x. T.has_text (T.value x)) items.now) (all_texts (λ x. T.written_text (T.value x)) items.now) result }
+    ensures { let have = AllHave (λ x. T.has_text (T.value x)) items.now in
+        Counts have (all_texts (λ x. T.written_text (T.value x)) items.now) result }
 {
     let mut total = Ok(Length::ZERO);
     for item in items {
@@ -72,9 +73,9 @@ fn texts_len<T: Encode>(items: &[T]) -> Result<Length>
 fn encode_texts<T: Encode, W: Writer>(items: &[T], writer: &mut W) -> Result<()>
     requires has { AllHave (λ x. T.has_text (T.value x)) items.now }
     requires fits { length (all_texts (λ x. T.written_text (T.value x)) items.now) ≤ limit }
-    ensures written { OnOk result (W.written writer.new ≡ W.written writer.old ++ all_texts (λ x. T.written_text (T.value x)) items.now) }
-    ensures room { OnOk result (W.room writer.new + length (all_texts (λ x. T.written_text (T.value x)) items.now) ≡ W.room writer.old) }
-    ensures left { IfErr result (λ e. Stops (AllHave (λ x. T.has_text (T.value x)) items.now) (all_texts (λ x. T.written_text (T.value x)) items.now) (W.room writer.old) (W.written writer.old) (W.written writer.new) (fault e.kind)) }
+    ensures appends { let have = AllHave (λ x. T.has_text (T.value x)) items.now in
+        let octets = all_texts (λ x. T.written_text (T.value x)) items.now in
+        Appends have octets W.room W.written writer.old writer.new result }
     ensures kept { W.keeps writer.old writer.new }
 {
     for item in items {

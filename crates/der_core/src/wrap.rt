@@ -54,7 +54,8 @@ impl<R: Read> Source for FromRead<R> {
 
     fn read(&mut self, buf: &mut [u8]) -> Result<usize>
         ensures bound { ReadsAtMost result buf.new }
-        ensures bytes { ReadConsumes (R.remaining (reader_of self.old)) (R.remaining (reader_of self.new)) result buf.new }
+        ensures bytes { let before = R.remaining (reader_of self.old) in
+            ReadConsumes before (R.remaining (reader_of self.new)) result buf.new }
         ensures faults { CountsRefusal (read_faults self.old) (read_faults self.new) result }
         ensures file { IfErr result IsFile }
     {
@@ -107,7 +108,8 @@ impl<W: Write> Sink for ToWrite<W> {
     fn write(&mut self, bytes: &[u8]) -> Result<usize>
         ensures bound { WritesAtMost result bytes.now }
         ensures progress { 0 < length bytes.now → IfOk result (λ n. 0 < n) }
-        ensures bytes { WriteAppends (W.contents (writer_of self.old)) (W.contents (writer_of self.new)) result bytes.now }
+        ensures bytes { let before = W.contents (writer_of self.old) in
+            WriteAppends before (W.contents (writer_of self.new)) result bytes.now }
         ensures faults { CountsRefusal (write_faults self.old) (write_faults self.new) result }
         ensures file { IfErr result IsFile }
     {

@@ -2,7 +2,6 @@
 use Rattle.std.proofs.Common.{◌≡◌, ◌↔◌, ℕ, ◌+◌, ◌≤◌, ◌<◌, List, [], ◌∷◌, ◌++◌, length, map, take, drop, arith, ap, sym, ◌∙◌, refl, append_assoc, length-append, Option, Some, None, IsSome, Result, Ok, Err}
 use Rattle.std.proofs.lemmas.Grind.{common_steps}
 use Rattle.std.proofs.lemmas.List.{length-map}
-use Rattle.std.specs.Prelude.{OnOk, IfErr}
 use Rattle.std.specs.declared.alloc.Global.{Global}
 use Rattle.std.specs.declared.vec.Vec.{Vec}
 use Rattle.der_core.specs.Tlv.{tlv}
@@ -10,12 +9,12 @@ use Rattle.der_core.specs.Integer.{integer_contents}
 use Rattle.der_core.specs.SequenceOf.{AllHave, all_texts}
 use Rattle.der_core.specs.BackWriters.{Prepends}
 use Rattle.der_core.specs.declared.back_writer.BackWriter.{BackWriter}
-use Rattle.der_core.specs.Writing.{Counts, IsUncounted, Stops, joined, fault}
+use Rattle.der_core.specs.Writing.{Counts, IsUncounted, Appends, joined, fault}
 use Rattle.der_core.specs.Document.{Fault, no_text, too_long, no_room, another}
 use Rattle.der_core.specs.declared.error.Error.{Error}
 use Rattle.der_core.proofs.Items.{texts_map, have_map}
 use Rattle.der_core.specs.Counting.{counts_joined}
-use Rattle.der_core.specs.Stopping.{stops_in_front, stops_behind, if_stops_behind}
+use Rattle.der_core.specs.Stopping.{appends_as, appends_in_front, appends_behind}
 use Rattle.der_core.specs.Length.{limit}
 use Rattle.pkcs1.specs.declared.other_prime_info.OtherPrimeInfo as declared
 use Rattle.pkcs1.specs.declared.version.Version.{Version}
@@ -49,12 +48,6 @@ change_counts {P} {Q} x y (Err k) f g e h = go (fault k.kind) h
     go no_room u = absurd u
     go another u = absurd u
 
-pub change_stops : {P Q : Type 0} (x y old new : List ℕ) (room : ℕ) (k : Fault) → (P → Q) → (Q → P) → x ≡ y → Stops P x room old new k → Stops Q y room old new k
-change_stops x y old new room no_text f g e h = ((λ q. h.0 (g q)), h.1)
-change_stops x y old new room too_long f g e h = (f h.0, omega (arith, h.1, ap length e), h.2)
-change_stops x y old new room no_room f g e h = (f h.0, omega (arith, h.1, ap length e), omega (arith, h.2, ap length e), (h.3.0, h.3.1, h.3.2 ∙ e, h.3.3))
-change_stops x y old new room another f g e h = absurd h
-
 -- the version
 module _ (m n : ℕ) (e : m ≡ n) where
   pub version_text : tlv 2 (integer_contents (m ∷ [])) ≡ tlv 2 (integer_contents (n ∷ []))
@@ -63,8 +56,9 @@ module _ (m n : ℕ) (e : m ≡ n) where
   pub version_counts : (r : Result ℕ Error) → Counts (m < 2) (tlv 2 (integer_contents (m ∷ []))) r → Counts (n < 2) (tlv 2 (integer_contents (n ∷ []))) r
   version_counts r h = change_counts (tlv 2 (integer_contents (m ∷ []))) (tlv 2 (integer_contents (n ∷ []))) r (λ p. omega arith) (λ p. omega arith) version_text h
 
-  pub version_stops : (old new : List ℕ) (room : ℕ) (k : Fault) → Stops (m < 2) (tlv 2 (integer_contents (m ∷ []))) room old new k → Stops (n < 2) (tlv 2 (integer_contents (n ∷ []))) room old new k
-  version_stops old new room k h = change_stops (tlv 2 (integer_contents (m ∷ []))) (tlv 2 (integer_contents (n ∷ []))) old new room k (λ p. omega arith) (λ p. omega arith) version_text h
+  pub version_appends : {W A : Type 0} {Room : W → ℕ} {Written : W → List ℕ} {old new : W} {r : Result A Error}
+      → Appends (m < 2) (tlv 2 (integer_contents (m ∷ []))) Room Written old new r → Appends (n < 2) (tlv 2 (integer_contents (n ∷ []))) Room Written old new r
+  version_appends a = appends_as _ _ (λ p. omega arith) (λ p. omega arith) version_text a
 
 -- the numbers, by references to them
 module _ {B V : Type 0} (value : B → V) (has : V → Type 0) (text : V → List ℕ) (references : List B) (vs : List V) (e : map value references ≡ vs) where
@@ -83,8 +77,9 @@ module _ {B V : Type 0} (value : B → V) (has : V → Type 0) (text : V → Lis
   pub numbers_counts : (r : Result ℕ Error) → Counts (AllHave (λ n. has (value n)) references) (all_texts (λ n. text (value n)) references) r → Counts (AllHave has vs) (all_texts text vs) r
   numbers_counts r h = change_counts (all_texts (λ n. text (value n)) references) (all_texts text vs) r have_numbers numbers_have numbers_text h
 
-  pub numbers_stops : (old new : List ℕ) (room : ℕ) (k : Fault) → Stops (AllHave (λ n. has (value n)) references) (all_texts (λ n. text (value n)) references) room old new k → Stops (AllHave has vs) (all_texts text vs) room old new k
-  numbers_stops old new room k h = change_stops (all_texts (λ n. text (value n)) references) (all_texts text vs) old new room k have_numbers numbers_have numbers_text h
+  pub numbers_append : {W A : Type 0} {Room : W → ℕ} {Written : W → List ℕ} {old new : W} {r : Result A Error}
+      → Appends (AllHave (λ n. has (value n)) references) (all_texts (λ n. text (value n)) references) Room Written old new r → Appends (AllHave has vs) (all_texts text vs) Room Written old new r
+  numbers_append a = appends_as _ _ have_numbers numbers_have numbers_text a
 
 -- the three parts
 module _ {V : Type 0} (has : V → Type 0) (text : V → List ℕ) (key : PrivateKey V) where
@@ -101,34 +96,24 @@ module _ {V : Type 0} (has : V → Type 0) (text : V → List ℕ) (key : Privat
       → Counts (HasPrivateKey has key) (written_private_key text key) (joined a (joined b c))
   private_counts a b c p q r = counts_joined front (middle ++ back) (λ s t. (s, t)) (λ s. s) a (joined b c) p (counts_joined middle back (λ s t. (s, t)) (λ s. s) b c q r)
 
-  pub front_stops : (old new : List ℕ) (room : ℕ) (k : Fault) → HasPrivateKey has key → length (written_private_key text key) ≤ limit
-      → Stops (version_of key.other_prime_infos < 2) front room old new k → Stops (HasPrivateKey has key) (written_private_key text key) room old new k
-  front_stops old new room k h few s = stops_in_front (front ++ (middle ++ back)) front (middle ++ back) old new room k h.0 h refl few s
+  behind_fits : length (written_private_key text key) ≤ limit → length (middle ++ back) ≤ limit
+  behind_fits fits = omega (arith, fits, length-append front (middle ++ back))
 
-  pub middle_stops : (old one new : List ℕ) (room left : ℕ) (k : Fault) → HasPrivateKey has key → length (written_private_key text key) ≤ limit
-      → one ≡ old ++ front → left + length front ≡ room
-      → Stops (AllHave has (key_numbers key)) middle left one new k → Stops (HasPrivateKey has key) (written_private_key text key) room old new k
-  middle_stops old one new room left k h few e l s =
-      let less : length (middle ++ back) ≤ limit = omega (arith, few, length-append front (middle ++ back)) in
-      stops_behind (front ++ (middle ++ back)) front (middle ++ back) old one new room left k h.1 h refl few e l
-      (stops_in_front (middle ++ back) middle back one new left k h.1.0 h.1 refl less s)
+  module _ {W A : Type 0} {Room : W → ℕ} {Written : W → List ℕ} (h : HasPrivateKey has key) (fits : length (written_private_key text key) ≤ limit) where
+    pub front_refused : {old new : W} {e : Error} → Appends {A = A} (version_of key.other_prime_infos < 2) front Room Written old new (Err e)
+        → Appends {A = A} (HasPrivateKey has key) (written_private_key text key) Room Written old new (Err e)
+    front_refused a = appends_in_front (front ++ (middle ++ back)) front (middle ++ back) h.0 h refl fits a
 
-  pub back_stops : {A : Type 0} (r : Result A Error) (old one two new : List ℕ) (room left last : ℕ) → HasPrivateKey has key → length (written_private_key text key) ≤ limit
-      → one ≡ old ++ front → left + length front ≡ room → two ≡ one ++ middle → last + length middle ≡ left
-      → IfErr r (λ e. Stops (HasOthers has key.other_prime_infos) back last two new (fault e.kind)) → IfErr r (λ e. Stops (HasPrivateKey has key) (written_private_key text key) room old new (fault e.kind))
-  back_stops r old one two new room left last h few e l f m s =
-      if_stops_behind r (front ++ (middle ++ back)) (front ++ middle) back old two new room last h.1.1 h (sym (append_assoc front middle back)) few
-      (f ∙ ap (λ x. x ++ middle) e ∙ append_assoc old front middle)
-      (omega (arith, l, m, length-append front middle))
-      s
+    pub middle_refused : {B : Type 0} {x : B} {old one new : W} {e : Error} → Appends (version_of key.other_prime_infos < 2) front Room Written old one (Ok x)
+        → Appends {A = A} (AllHave has (key_numbers key)) middle Room Written one new (Err e) → Appends {A = A} (HasPrivateKey has key) (written_private_key text key) Room Written old new (Err e)
+    middle_refused a b = appends_behind (front ++ (middle ++ back)) front (middle ++ back) h.1 h refl fits a.written a.room
+        (appends_in_front (middle ++ back) middle back h.1.0 h.1 refl (behind_fits fits) b)
 
-pub three_written : {A E : Type 0} (r : Result A E) (x y z old one two three : List ℕ) → one ≡ old ++ x → two ≡ one ++ y → OnOk r (three ≡ two ++ z) → OnOk r (three ≡ old ++ (x ++ (y ++ z)))
-three_written (Ok u) x y z old one two three e f h = h ∙ ap (λ l. l ++ z) (f ∙ ap (λ l. l ++ y) e) ∙ append_assoc (old ++ x) y z ∙ append_assoc old x (y ++ z)
-three_written (Err u) x y z old one two three e f h = h
-
-pub three_room : {A E : Type 0} (r : Result A E) (x y z : List ℕ) (old one two three : ℕ) → one + length x ≡ old → two + length y ≡ one → OnOk r (three + length z ≡ two) → OnOk r (three + length (x ++ (y ++ z)) ≡ old)
-three_room (Ok u) x y z old one two three e f h = omega (arith, h, length-append x (y ++ z), length-append y z)
-three_room (Err u) x y z old one two three e f h = h
+    pub private_appends : {B C : Type 0} {x : B} {y : C} {old one two new : W} {r : Result A Error} → Appends (version_of key.other_prime_infos < 2) front Room Written old one (Ok x)
+        → Appends (AllHave has (key_numbers key)) middle Room Written one two (Ok y) → Appends (HasOthers has key.other_prime_infos) back Room Written two new r
+        → Appends (HasPrivateKey has key) (written_private_key text key) Room Written old new r
+    private_appends a b d = appends_behind (front ++ (middle ++ back)) front (middle ++ back) h.1 h refl fits a.written a.room
+        (appends_behind (middle ++ back) middle back h.1.1 h.1 refl (behind_fits fits) b.written b.room d)
 
 -- More was put before what was.
 pub prepends_before : (x y : List ℕ) (s t u : BackWriter) → Prepends y s t → Prepends x t u → Prepends (x ++ y) s u

@@ -70,6 +70,10 @@ PrivateKeyContents NumberText key contents =
     ∷ [])
     contents
 
+-- The same SEQUENCE, over the texts of its numbers.
+abbrev pub PrivateKeyText : {Number : Type 0} → (Number → List ℕ → Type 0) → PrivateKey Number → List ℕ → Type 0
+PrivateKeyText NumberText key text = Tlv 48 (PrivateKeyContents NumberText key) text
+
 abbrev pub RsaPrivateKey : PrivateKey (List ℕ) → List ℕ → Type 0
 RsaPrivateKey key text = Tlv 48 (PrivateKeyContents Integer key) text
 

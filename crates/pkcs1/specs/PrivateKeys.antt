@@ -7,7 +7,7 @@ use Rattle.std.specs.declared.alloc.Global.{Global}
 use Rattle.std.specs.declared.vec.Vec.{Vec}
 use Rattle.pkcs1.specs.declared.other_prime_info.OtherPrimeInfo.{OtherPrimeInfo}
 use Rattle.pkcs1.specs.declared.private_key.RsaPrivateKey.{RsaPrivateKey}
-use Rattle.pkcs1.specs.Keys.{OtherPrime, PrivateKey}
+use Rattle.pkcs1.specs.Keys.{OtherPrime, PrivateKey, PublicKey}
 
 abbrev pub other_of : {U V : Type 0} → (U → V) → OtherPrimeInfo U → OtherPrime V
 other_of value other = record { prime = value other.prime; exponent = value other.exponent; coefficient = value other.coefficient }
@@ -32,6 +32,10 @@ private_of value key = record {
   coefficient = value key.coefficient;
   other_prime_infos = others_of value key.other_prime_infos;
 }
+
+-- The public key in a private key (RFC 8017 3.1, 3.2).
+abbrev pub public_in : {U V : Type 0} → (U → V) → RsaPrivateKey U → PublicKey V
+public_in value key = record { modulus = value key.modulus; public_exponent = value key.public_exponent }
 
 -- What a borrowed private key means.
 abbrev pub private_key_of : RsaPrivateKey UintRef → PrivateKey (List ℕ)

@@ -78,8 +78,12 @@ pub fn oaep_spellings()
 /// What a type reads and writes is its grammar, in the borrowed form and in the owned one: a clause of `Decode` or
 /// `Encode` at one of these types speaks of the grammar that the laws here speak of.
 pub fn forms_share_the_grammars()
-    ensures public { SameTexts ⟦<RsaPublicKey<UintRef<'static>> as Text>⟧.text keys.RsaPublicKey × SameTexts ⟦<RsaPublicKey<Uint> as Text>⟧.text keys.RsaPublicKey }
-    ensures private { SameTexts ⟦<RsaPrivateKey<UintRef<'static>> as Text>⟧.text keys.RsaPrivateKey × SameTexts ⟦<RsaPrivateKey<Uint> as Text>⟧.text keys.RsaPrivateKey }
-    ensures pss { SameTexts ⟦<RsaPssParams<AnyRef<'static>> as Text>⟧.text parameters.RsaPssParams × SameTexts ⟦<RsaPssParams<Any> as Text>⟧.text parameters.RsaPssParams }
-    ensures oaep { SameTexts ⟦<RsaOaepParams<AnyRef<'static>> as Text>⟧.text parameters.RsaOaepParams × SameTexts ⟦<RsaOaepParams<Any> as Text>⟧.text parameters.RsaOaepParams }
+    ensures public { SameTexts ⟦<RsaPublicKey<UintRef<'static>> as Text>⟧.text keys.RsaPublicKey
+        × SameTexts ⟦<RsaPublicKey<Uint> as Text>⟧.text keys.RsaPublicKey }
+    ensures private { SameTexts ⟦<RsaPrivateKey<UintRef<'static>> as Text>⟧.text keys.RsaPrivateKey
+        × SameTexts ⟦<RsaPrivateKey<Uint> as Text>⟧.text keys.RsaPrivateKey }
+    ensures pss { SameTexts ⟦<RsaPssParams<AnyRef<'static>> as Text>⟧.text parameters.RsaPssParams
+        × SameTexts ⟦<RsaPssParams<Any> as Text>⟧.text parameters.RsaPssParams }
+    ensures oaep { SameTexts ⟦<RsaOaepParams<AnyRef<'static>> as Text>⟧.text parameters.RsaOaepParams
+        × SameTexts ⟦<RsaOaepParams<Any> as Text>⟧.text parameters.RsaOaepParams }
 {}

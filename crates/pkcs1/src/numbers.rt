@@ -1,15 +1,16 @@
 //! Writing of numbers, one after another.
-ghost use Rattle.std.specs.Prelude.{◌≡◌, ◌≤◌, ◌+◌, ◌++◌, length, OnOk, IfErr};
+ghost use Rattle.std.specs.Prelude.{◌≡◌, ◌≤◌, length};
 ghost use Rattle.der_core.specs.Length.{limit};
 ghost use Rattle.der_core.specs.BackWriters.{free_of, Prepends};
 ghost use Rattle.der_core.specs.SequenceOf.{AllHave, all_texts};
-ghost use Rattle.der_core.specs.Writing.{Counts, Stops, fault};
+ghost use Rattle.der_core.specs.Writing.{Counts, Appends};
 
 use der_core::{BackWriter, Encode, Length, Result, Writer, joined_len};
 
 /// How many octets the texts of the numbers have.
 pub(crate) fn numbers_len<U: Encode>(numbers: &[&U]) -> Result<Length>
-    ensures { Counts (AllHave (λ n. U.has_text (U.value n.now)) numbers.now) (all_texts (λ n. U.written_text (U.value n.now)) numbers.now) result }
+    ensures { let have = AllHave (λ n. U.has_text (U.value n.now)) numbers.now in
+        Counts have (all_texts (λ n. U.written_text (U.value n.now)) numbers.now) result }
 {
     let mut total = Ok(Length::ZERO);
     for number in numbers {
@@ -22,9 +23,9 @@ pub(crate) fn numbers_len<U: Encode>(numbers: &[&U]) -> Result<Length>
 pub(crate) fn encode_numbers<U: Encode, W: Writer>(numbers: &[&U], writer: &mut W) -> Result<()>
     requires has { AllHave (λ n. U.has_text (U.value n.now)) numbers.now }
     requires fits { length (all_texts (λ n. U.written_text (U.value n.now)) numbers.now) ≤ limit }
-    ensures written { OnOk result (W.written writer.new ≡ W.written writer.old ++ all_texts (λ n. U.written_text (U.value n.now)) numbers.now) }
-    ensures room { OnOk result (W.room writer.new + length (all_texts (λ n. U.written_text (U.value n.now)) numbers.now) ≡ W.room writer.old) }
-    ensures left { IfErr result (λ e. Stops (AllHave (λ n. U.has_text (U.value n.now)) numbers.now) (all_texts (λ n. U.written_text (U.value n.now)) numbers.now) (W.room writer.old) (W.written writer.old) (W.written writer.new) (fault e.kind)) }
+    ensures appends { let have = AllHave (λ n. U.has_text (U.value n.now)) numbers.now in
+        let octets = all_texts (λ n. U.written_text (U.value n.now)) numbers.now in
+        Appends have octets W.room W.written writer.old writer.new result }
     ensures kept { W.keeps writer.old writer.new }
 {
     for number in numbers {

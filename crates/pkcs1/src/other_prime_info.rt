@@ -1,14 +1,14 @@
 //! Other primes of private keys.
-ghost use Rattle.std.specs.Prelude.{◌≡◌, ◌≤◌, ◌+◌, ◌++◌, length, List, ℕ, ◌↔◌, IsTrue, OnOk, IfOk, IfErr, refl};
+ghost use Rattle.std.specs.Prelude.{◌≡◌, ◌≤◌, length, List, ℕ, ◌↔◌, IsTrue, IfOk, IfErr, refl};
 ghost use Rattle.der_core.specs.Length.{limit};
 ghost use Rattle.der_core.specs.Reading.{ReadsContents, AsksWithin};
 ghost use Rattle.der_core.specs.BackWriters.{free_of, Prepends};
-ghost use Rattle.der_core.specs.Writing.{Counts, Stops, fault};
+ghost use Rattle.der_core.specs.Writing.{Counts, Appends};
 ghost use Rattle.pkcs1.specs.Asking.{BeginsSequence};
 ghost use Rattle.pkcs1.specs.Keys.{OtherPrime, OtherPrimeContents, OthersOf};
 ghost use Rattle.pkcs1.specs.Writing.{HasOther, HasOthers, written_other, written_others};
 ghost use Rattle.pkcs1.specs.PrivateKeyLaws.{other_means_one, other_of_bytes, other_relates, other_shortest};
-ghost use Rattle.pkcs1.specs.PrivateKeys.{others_of, ListsNone};
+ghost use Rattle.pkcs1.specs.PrivateKeys.{other_of, others_of, ListsNone};
 ghost use Rattle.pkcs1.specs.Versions.{number_of};
 
 use crate::numbers::{encode_numbers, numbers_len, prepend_numbers};
@@ -35,9 +35,12 @@ pub struct OtherPrimeInfo<U> {
 pub type OtherPrimeInfos<U> = Vec<OtherPrimeInfo<U>>;
 
 impl<U: Clone> Clone for OtherPrimeInfo<U> {
-    ghost is_clone = { λ other copy. U.is_clone other.prime copy.prime × U.is_clone other.exponent copy.exponent × U.is_clone other.coefficient copy.coefficient };
+    ghost is_clone = { λ other copy.
+        U.is_clone other.prime copy.prime × U.is_clone other.exponent copy.exponent
+        × U.is_clone other.coefficient copy.coefficient };
 
-    ghost is_infallible = { λ other. U.is_infallible other.prime × U.is_infallible other.exponent × U.is_infallible other.coefficient };
+    ghost is_infallible = { λ other.
+        U.is_infallible other.prime × U.is_infallible other.exponent × U.is_infallible other.coefficient };
 
     fn clone(&self) -> std::result::Result<OtherPrimeInfo<U>, AllocError> {
         Ok(OtherPrimeInfo {
@@ -51,7 +54,7 @@ impl<U: Clone> Clone for OtherPrimeInfo<U> {
 impl<U: Text> Contents for OtherPrimeInfo<U> {
     ghost Value = { OtherPrime U.Value };
 
-    ghost value = { λ other. record { prime = U.value other.prime; exponent = U.value other.exponent; coefficient = U.value other.coefficient } };
+    ghost value = { other_of U.value };
 
     ghost contents = { OtherPrimeContents U.text };
 
@@ -154,7 +157,8 @@ pub(crate) fn read_other_primes<'a, U: Decode<&'a [u8], Global>, R: Reader<&'a [
 /// How many octets the text of the other primes has.
 pub(crate) fn other_primes_len<U: Encode>(others: &Option<OtherPrimeInfos<U>>) -> Result<Length>
     requires { ¬ (ListsNone others.now) }
-    ensures { Counts (HasOthers U.has_text (others_of U.value others.now)) (written_others U.written_text (others_of U.value others.now)) result }
+    ensures { let primes = others_of U.value others.now in
+        Counts (HasOthers U.has_text primes) (written_others U.written_text primes) result }
 {
     match others {
         None => Ok(Length::ZERO),
@@ -169,9 +173,9 @@ pub(crate) fn encode_other_primes<U: Encode, W: Writer>(
 ) -> Result<()>
     requires has { HasOthers U.has_text (others_of U.value others.now) }
     requires fits { length (written_others U.written_text (others_of U.value others.now)) ≤ limit }
-    ensures written { OnOk result (W.written writer.new ≡ W.written writer.old ++ written_others U.written_text (others_of U.value others.now)) }
-    ensures room { OnOk result (W.room writer.new + length (written_others U.written_text (others_of U.value others.now)) ≡ W.room writer.old) }
-    ensures left { IfErr result (λ e. Stops (HasOthers U.has_text (others_of U.value others.now)) (written_others U.written_text (others_of U.value others.now)) (W.room writer.old) (W.written writer.old) (W.written writer.new) (fault e.kind)) }
+    ensures appends { let primes = others_of U.value others.now in
+        let octets = written_others U.written_text primes in
+        Appends (HasOthers U.has_text primes) octets W.room W.written writer.old writer.new result }
     ensures kept { W.keeps writer.old writer.new }
 {
     match others {

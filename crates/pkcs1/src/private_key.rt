@@ -1,14 +1,14 @@
 //! RSA private keys.
-ghost use Rattle.std.specs.Prelude.{◌≡◌, ◌↔◌, ◌≤◌, ◌+◌, ◌++◌, length, List, ℕ, map, IsSome, IsErrAnd, OnOk, IfErr, refl};
+ghost use Rattle.std.specs.Prelude.{◌≡◌, ◌↔◌, ◌≤◌, length, List, ℕ, map, IsSome, IsErrAnd, IfErr, refl};
 ghost use Rattle.der_core.specs.Length.{limit};
 ghost use Rattle.der_core.specs.Tags.{sequence};
-ghost use Rattle.der_core.specs.Writing.{Counts, Stops, fault};
+ghost use Rattle.der_core.specs.Writing.{Counts, Appends, fault};
 ghost use Rattle.pkcs1.specs.Asking.{AsksForKey};
-ghost use Rattle.pkcs1.specs.Keys.{PrivateKey, PrivateKeyContents};
+ghost use Rattle.pkcs1.specs.Keys.{PrivateKey, PrivateKeyContents, PrivateKeyText};
 ghost use Rattle.pkcs1.specs.Writing.{HasPrivateKey, written_private_key, key_numbers};
 ghost use Rattle.pkcs1.specs.PrivateKeyLaws.{private_means_one, private_of_bytes, private_relates, private_shortest};
 ghost use Rattle.pkcs1.specs.PublicKeys.{key_of};
-ghost use Rattle.pkcs1.specs.PrivateKeys.{private_of, ListsNone};
+ghost use Rattle.pkcs1.specs.PrivateKeys.{private_of, public_in, ListsNone};
 
 use crate::error::Error;
 use crate::key_numbers::read_key_numbers;
@@ -73,7 +73,7 @@ impl<U> RsaPrivateKey<U> {
 impl<U: AsUintRef> RsaPrivateKey<U> {
     /// The public key.
     pub fn public_key(&self) -> RsaPublicKeyRef<'_>
-        ensures { key_of result ≡ record { modulus = U.number self.now.modulus; public_exponent = U.number self.now.public_exponent } }
+        ensures { key_of result ≡ public_in U.number self.now }
     {
         RsaPublicKey {
             modulus: self.modulus.as_uint_ref(),
@@ -101,7 +101,8 @@ impl<U: Text> RsaPrivateKey<U> {
 }
 
 impl<'a, U: AsUintRef> From<&'a RsaPrivateKey<U>> for RsaPublicKey<UintRef<'a>> {
-    ghost from_gives = { λ key public. key_of public ≡ record { modulus = U.number key.now.modulus; public_exponent = U.number key.now.public_exponent } };
+    ghost from_gives = { λ key public.
+        key_of public ≡ public_in U.number key.now };
 
     fn from(key: &'a RsaPrivateKey<U>) -> RsaPublicKey<UintRef<'a>> {
         key.public_key()
@@ -159,8 +160,10 @@ impl<'a, U: Decode<&'a [u8], Global>> DecodeValue<&'a [u8], Global> for RsaPriva
 
 impl<U: Encode> EncodeValue for RsaPrivateKey<U> {
     fn value_len(&self) -> Result<Length>
-        ensures counts { Counts (HasPrivateKey U.has_text (private_of U.value self.now)) (written_private_key U.written_text (private_of U.value self.now)) result }
-        ensures no_primes { ListsNone self.now.other_prime_infos → IsErrAnd result (λ e. e.kind ≡ ErrorKind.Value sequence) }
+        ensures counts { let key = private_of U.value self.now in
+            Counts (HasPrivateKey U.has_text key) (written_private_key U.written_text key) result }
+        ensures no_primes { ListsNone self.now.other_prime_infos
+            → IsErrAnd result (λ e. e.kind ≡ ErrorKind.Value sequence) }
     {
         if lists_none(&self.other_prime_infos) {
             return Err(der_core::Error::new(ErrorKind::Value { tag: Tag::SEQUENCE }));
@@ -173,12 +176,12 @@ impl<U: Encode> EncodeValue for RsaPrivateKey<U> {
     }
 
     fn encode_value<W: Writer>(&self, writer: &mut W) -> Result<()>
-        ensures has { OnOk result (HasPrivateKey U.has_text (private_of U.value self.now) × (length (written_private_key U.written_text (private_of U.value self.now)) ≤ limit)) }
-        ensures written { OnOk result (W.written writer.new ≡ W.written writer.old ++ written_private_key U.written_text (private_of U.value self.now)) }
-        ensures room { OnOk result (W.room writer.new + length (written_private_key U.written_text (private_of U.value self.now)) ≡ W.room writer.old) }
-        ensures left { IfErr result (λ e. Stops (HasPrivateKey U.has_text (private_of U.value self.now)) (written_private_key U.written_text (private_of U.value self.now)) (W.room writer.old) (W.written writer.old) (W.written writer.new) (fault e.kind)) }
+        ensures appends { let key = private_of U.value self.now in
+            let octets = written_private_key U.written_text key in
+            Appends (HasPrivateKey U.has_text key) octets W.room W.written writer.old writer.new result }
         ensures kept { W.keeps writer.old writer.new }
-        ensures no_primes { ListsNone self.now.other_prime_infos → IsErrAnd result (λ e. e.kind ≡ ErrorKind.Value sequence) }
+        ensures no_primes { ListsNone self.now.other_prime_infos
+            → IsErrAnd result (λ e. e.kind ≡ ErrorKind.Value sequence) }
     {
         self.value_len()?;
         self.version().encode(writer)?;
@@ -202,16 +205,19 @@ impl<U: Encode> RsaPrivateKey<U> {
     ghost use Rattle.der_core.specs.Document.{IsShortest, IsRefused};
     ghost use Rattle.der_core.specs.Documents.{secret_text_of};
     ghost use Rattle.pkcs1.specs.KeyTexts.{IsUnwritten};
-    ghost use Rattle.der_core.specs.Tlv.{Tlv};
     ghost use Rattle.pkcs1.specs.Refusals.{IsAsn1};
 
     /// `encode_into`, which answers `Value` of SEQUENCE where the list of other primes is there and empty.
     fn encode_front(&self, out: &mut [u8]) -> crate::Result<usize>
-        ensures shortest { IfOk result (λ n. IsShortest (λ v. Tlv 48 (PrivateKeyContents U.text v)) (private_of U.value self.now) (take n out.new)) }
+        ensures shortest { let key = private_of U.value self.now in
+            IfOk result (λ n. IsShortest (PrivateKeyText U.text) key (take n out.new)) }
         ensures rest { IfOk result (λ n. (n ≤ length out.new) × (drop n out.new ≡ drop n out.old)) }
         ensures unchanged { OnErr result (out.new ≡ out.old) }
-        ensures err { IfErr result (IsAsn1 (λ e. IsRefused (HasPrivateKey U.has_text (private_of U.value self.now)) (λ v. Tlv 48 (PrivateKeyContents U.text v)) (private_of U.value self.now) (length out.old) (fault e.kind))) }
-        ensures no_primes { ListsNone self.now.other_prime_infos → IsErrAnd result (IsAsn1 (λ e. e.kind ≡ ErrorKind.Value sequence)) }
+        ensures err { let key = private_of U.value self.now in
+            let some = HasPrivateKey U.has_text key in
+            IfErr result (IsAsn1 (λ e. IsRefused some (PrivateKeyText U.text) key (length out.old) (fault e.kind))) }
+        ensures no_primes { ListsNone self.now.other_prime_infos
+            → IsErrAnd result (IsAsn1 (λ e. e.kind ≡ ErrorKind.Value sequence)) }
     {
         if lists_none(&self.other_prime_infos) {
             let kind = ErrorKind::Value { tag: Tag::SEQUENCE };
@@ -223,9 +229,12 @@ impl<U: Encode> RsaPrivateKey<U> {
     /// The text, as a document: `encode_msg`, which answers `Value` of SEQUENCE where the list of other primes is there
     /// and empty.
     pub(crate) fn to_document(&self, alloc: Global) -> crate::Result<SecretDocument>
-        ensures shortest { IfOk result (λ document. IsShortest (λ v. Tlv 48 (PrivateKeyContents U.text v)) (private_of U.value self.now) (secret_text_of document)) }
-        ensures err { IfErr result (IsAsn1 (λ e. IsUnwritten (HasPrivateKey U.has_text (private_of U.value self.now)) (λ v. Tlv 48 (PrivateKeyContents U.text v)) (private_of U.value self.now) e.kind)) }
-        ensures no_primes { ListsNone self.now.other_prime_infos → IsErrAnd result (IsAsn1 (λ e. e.kind ≡ ErrorKind.Value sequence)) }
+        ensures shortest { let key = private_of U.value self.now in
+            IfOk result (λ document. IsShortest (PrivateKeyText U.text) key (secret_text_of document)) }
+        ensures err { let key = private_of U.value self.now in
+            IfErr result (IsAsn1 (λ e. IsUnwritten (HasPrivateKey U.has_text key) (PrivateKeyText U.text) key e.kind)) }
+        ensures no_primes { ListsNone self.now.other_prime_infos
+            → IsErrAnd result (IsAsn1 (λ e. e.kind ≡ ErrorKind.Value sequence)) }
     {
         if lists_none(&self.other_prime_infos) {
             let refused = der_core::Error::new(ErrorKind::Value { tag: Tag::SEQUENCE });
@@ -255,9 +264,9 @@ impl<U> RsaPrivateKey<U> {
     ghost use Rattle.std.specs.Prelude.{IfOk, IsOk, None};
     ghost use Rattle.der_core.specs.Document.{Means};
     ghost use Rattle.der_core.specs.OctetStringRefs.{octets_of};
-    ghost use Rattle.der_core.specs.Reading.{AskedIn, AsksWithin, Refuses};
+    ghost use Rattle.der_core.specs.Reading.{AskedIn, AsksWithin};
     ghost use Rattle.der_core.specs.Tlv.{Tlv};
-    ghost use Rattle.pkcs1.specs.Refusals.{IsAsn1};
+    ghost use Rattle.pkcs1.specs.KeyTexts.{IsOnlyMeaning, IsUnread};
 
     /// Reads all octets of an OCTET STRING: `from_der` on its bytes. A key of two primes is never refused where its
     /// numbers ask for no memory.
@@ -267,11 +276,16 @@ impl<U> RsaPrivateKey<U> {
     ) -> crate::Result<RsaPrivateKey<U>>
     where
         U: Decode<&'a [u8], Global>,
-        ensures ok { IfOk result (λ key. Means (λ v. Tlv 48 (PrivateKeyContents U.text v)) (octets_of octets.entry) (private_of U.value key)) }
-        ensures one { IfOk result (λ key. (other : PrivateKey U.Value) → Means (λ v. Tlv 48 (PrivateKeyContents U.text v)) (octets_of octets.entry) other → other ≡ private_of U.value key) }
-        ensures err { IfErr result (IsAsn1 (λ e. Refuses e.kind (AskedIn (Tlv 48 (AsksForKey U.text U.Decode.asks)) (octets_of octets.entry)) ((key : PrivateKey U.Value) → Means (λ v. Tlv 48 (PrivateKeyContents U.text v)) (octets_of octets.entry) key → ⊥))) }
-        ensures two_primes { ((c : List ℕ) → AsksWithin U.Decode.asks c → ⊥) → (key : PrivateKey U.Value) → key.other_prime_infos ≡ None
-            → Means (λ v. Tlv 48 (PrivateKeyContents U.text v)) (octets_of octets.entry) key → IsOk result }
+        ensures ok { let bytes = octets_of octets.entry in
+            IfOk result (λ key. Means (PrivateKeyText U.text) bytes (private_of U.value key)) }
+        ensures one { let bytes = octets_of octets.entry in
+            IfOk result (λ key. IsOnlyMeaning (PrivateKeyText U.text) bytes (private_of U.value key)) }
+        ensures err { let bytes = octets_of octets.entry in
+            let asked = AskedIn (Tlv 48 (AsksForKey U.text U.Decode.asks)) bytes in
+            IfErr result (IsUnread (PrivateKeyText U.text) bytes asked) }
+        ensures two_primes { ((c : List ℕ) → AsksWithin U.Decode.asks c → ⊥)
+            → (key : PrivateKey U.Value) → key.other_prime_infos ≡ None
+            → Means (PrivateKeyText U.text) (octets_of octets.entry) key → IsOk result }
     {
         Ok(RsaPrivateKey::from_der(alloc, octets.as_bytes())?)
     }
@@ -279,9 +293,8 @@ impl<U> RsaPrivateKey<U> {
 
 impl<'a> RsaPrivateKey<UintRef<'a>> {
     ghost use Rattle.std.specs.Prelude.{take, drop, IfOk, IsOk, OnErr, None};
-    ghost use Rattle.der_core.specs.Document.{Means, IsRefused, HasText};
-    ghost use Rattle.der_core.specs.Reading.{Refuses};
-    ghost use Rattle.pkcs1.specs.KeyTexts.{IsOnlyText};
+    ghost use Rattle.der_core.specs.Document.{Means};
+    ghost use Rattle.pkcs1.specs.KeyTexts.{IsNotWritten, IsOnlyMeaning, IsOnlyText, IsUnread};
     ghost use Rattle.pkcs1.specs.Asking.{MayAsk};
     ghost use Rattle.pkcs1.specs.Keys as grammar;
     ghost use Rattle.pkcs1.specs.PrivateKeys.{private_key_of};
@@ -291,9 +304,10 @@ impl<'a> RsaPrivateKey<UintRef<'a>> {
     /// where a SEQUENCE that isn't empty stands behind the eighth number.
     pub fn decode_key(memory: Global, bytes: &'a [u8]) -> crate::Result<RsaPrivateKey<UintRef<'a>>>
         ensures ok { IfOk result (λ key. Means grammar.RsaPrivateKey bytes.now (private_key_of key)) }
-        ensures one { IfOk result (λ key. (other : PrivateKey (List ℕ)) → Means grammar.RsaPrivateKey bytes.now other → other ≡ private_key_of key) }
-        ensures err { IfErr result (IsAsn1 (λ e. Refuses e.kind (MayAsk bytes.now) ((key : PrivateKey (List ℕ)) → Means grammar.RsaPrivateKey bytes.now key → ⊥))) }
-        ensures two_primes { (key : PrivateKey (List ℕ)) → key.other_prime_infos ≡ None → Means grammar.RsaPrivateKey bytes.now key → IsOk result }
+        ensures one { IfOk result (λ key. IsOnlyMeaning grammar.RsaPrivateKey bytes.now (private_key_of key)) }
+        ensures err { IfErr result (IsUnread grammar.RsaPrivateKey bytes.now (MayAsk bytes.now)) }
+        ensures two_primes { (key : PrivateKey (List ℕ))
+            → key.other_prime_infos ≡ None → Means grammar.RsaPrivateKey bytes.now key → IsOk result }
     {
         Ok(RsaPrivateKey::from_der(memory, bytes)?)
     }
@@ -305,8 +319,9 @@ impl<'a> RsaPrivateKey<UintRef<'a>> {
         ensures text { IfOk result (λ n. IsOnlyText grammar.RsaPrivateKey (private_key_of self.now) (take n out.new)) }
         ensures rest { IfOk result (λ n. (n ≤ length out.new) × (drop n out.new ≡ drop n out.old)) }
         ensures unchanged { OnErr result (out.new ≡ out.old) }
-        ensures err { IfErr result (IsAsn1 (λ e. IsRefused (HasText grammar.RsaPrivateKey (private_key_of self.now)) grammar.RsaPrivateKey (private_key_of self.now) (length out.old) (fault e.kind))) }
-        ensures no_primes { ListsNone self.now.other_prime_infos → IsErrAnd result (IsAsn1 (λ e. e.kind ≡ ErrorKind.Value sequence)) }
+        ensures err { IfErr result (IsNotWritten grammar.RsaPrivateKey (private_key_of self.now) (length out.old)) }
+        ensures no_primes { ListsNone self.now.other_prime_infos
+            → IsErrAnd result (IsAsn1 (λ e. e.kind ≡ ErrorKind.Value sequence)) }
     {
         self.encode_front(out)
     }
@@ -314,10 +329,10 @@ impl<'a> RsaPrivateKey<UintRef<'a>> {
 
 impl RsaPrivateKey<Uint> {
     ghost use Rattle.std.specs.Prelude.{take, drop, IfOk, OnErr};
-    ghost use Rattle.der_core.specs.Document.{Means, IsRefused, HasText};
+    ghost use Rattle.der_core.specs.Document.{Means};
     ghost use Rattle.der_core.specs.Uints.{own_bytes_of};
     ghost use Rattle.pkcs1.specs.Asking.{OwnedKeyAsks};
-    ghost use Rattle.pkcs1.specs.KeyTexts.{IsOnlyMeaning, IsOnlyText, IsUnread};
+    ghost use Rattle.pkcs1.specs.KeyTexts.{IsNotWritten, IsOnlyMeaning, IsOnlyText, IsUnread};
     ghost use Rattle.pkcs1.specs.Keys as grammar;
     ghost use Rattle.pkcs1.specs.Refusals.{IsAsn1};
 
@@ -333,11 +348,14 @@ impl RsaPrivateKey<Uint> {
 
     /// Writes the key's one text to the front of a slice, as `encode_key` of a key that borrows its numbers does.
     pub fn encode_key(&self, out: &mut [u8]) -> crate::Result<usize>
-        ensures text { IfOk result (λ n. IsOnlyText grammar.RsaPrivateKey (private_of own_bytes_of self.now) (take n out.new)) }
+        ensures text { let key = private_of own_bytes_of self.now in
+            IfOk result (λ n. IsOnlyText grammar.RsaPrivateKey key (take n out.new)) }
         ensures rest { IfOk result (λ n. (n ≤ length out.new) × (drop n out.new ≡ drop n out.old)) }
         ensures unchanged { OnErr result (out.new ≡ out.old) }
-        ensures err { IfErr result (IsAsn1 (λ e. IsRefused (HasText grammar.RsaPrivateKey (private_of own_bytes_of self.now)) grammar.RsaPrivateKey (private_of own_bytes_of self.now) (length out.old) (fault e.kind))) }
-        ensures no_primes { ListsNone self.now.other_prime_infos → IsErrAnd result (IsAsn1 (λ e. e.kind ≡ ErrorKind.Value sequence)) }
+        ensures err { let key = private_of own_bytes_of self.now in
+            IfErr result (IsNotWritten grammar.RsaPrivateKey key (length out.old)) }
+        ensures no_primes { ListsNone self.now.other_prime_infos
+            → IsErrAnd result (IsAsn1 (λ e. e.kind ≡ ErrorKind.Value sequence)) }
     {
         self.encode_front(out)
     }

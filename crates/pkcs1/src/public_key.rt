@@ -98,7 +98,8 @@ impl<U: Encode> EncodeValue for RsaPublicKey<U> {
 impl<U: EqualByValue> EqualByValue for RsaPublicKey<U> {
     ghost use Rattle.pkcs1.specs.PublicKeyLaws.{public_key_decides};
 
-    ghost decides = { λ a b. public_key_decides U.value U.eq U.decides a.modulus b.modulus a.public_exponent b.public_exponent };
+    ghost decides = { λ a b.
+        public_key_decides U.value U.eq U.decides a.modulus b.modulus a.public_exponent b.public_exponent };
 }
 
 impl<U: TryClone> TryClone for RsaPublicKey<U> {
@@ -111,9 +112,10 @@ impl<U: TryClone> TryClone for RsaPublicKey<U> {
 }
 
 impl<'a> TryFrom<&'a [u8]> for RsaPublicKey<UintRef<'a>> {
-    ghost use Rattle.std.specs.Prelude.{◌≡◌, ℕ, List, IfOk, IfErr, OnErr};
+    ghost use Rattle.std.specs.Prelude.{IfOk, IfErr, OnErr};
     ghost use Rattle.der_core.specs.Reading.{TellsOfBytes};
     ghost use Rattle.der_core.specs.Document.{Means};
+    ghost use Rattle.pkcs1.specs.KeyTexts.{IsNoSentence, IsOnlyMeaning};
     ghost use Rattle.pkcs1.specs.Keys as grammar;
     ghost use Rattle.pkcs1.specs.Refusals.{IsAsn1};
 
@@ -122,8 +124,8 @@ impl<'a> TryFrom<&'a [u8]> for RsaPublicKey<UintRef<'a>> {
     /// Reads a whole slice, without memory.
     fn try_from(bytes: &'a [u8]) -> Result<RsaPublicKey<UintRef<'a>>>
         ensures ok { IfOk result (λ key. Means grammar.RsaPublicKey bytes.now (key_of key)) }
-        ensures one { IfOk result (λ key. (other : PublicKey (List ℕ)) → Means grammar.RsaPublicKey bytes.now other → other ≡ key_of key) }
-        ensures err { OnErr result ((key : PublicKey (List ℕ)) → Means grammar.RsaPublicKey bytes.now key → ⊥) }
+        ensures one { IfOk result (λ key. IsOnlyMeaning grammar.RsaPublicKey bytes.now (key_of key)) }
+        ensures err { OnErr result (IsNoSentence grammar.RsaPublicKey bytes.now) }
         ensures asn1 { IfErr result (IsAsn1 (λ e. TellsOfBytes e.kind)) }
     {
         Ok(RsaPublicKey::from_der(NoMemory, bytes)?)
@@ -132,11 +134,8 @@ impl<'a> TryFrom<&'a [u8]> for RsaPublicKey<UintRef<'a>> {
 
 impl<U: AsUintRef> RsaPublicKey<U> {
     ghost use Rattle.std.specs.Prelude.{◌≡◌, ◌≤◌, length, take, drop, IfOk, IfErr, OnErr};
-    ghost use Rattle.der_core.specs.Document.{IsRefused, HasText};
-    ghost use Rattle.der_core.specs.Writing.{fault};
-    ghost use Rattle.pkcs1.specs.KeyTexts.{IsOnlyText};
+    ghost use Rattle.pkcs1.specs.KeyTexts.{IsNotWritten, IsOnlyText};
     ghost use Rattle.pkcs1.specs.Keys as grammar;
-    ghost use Rattle.pkcs1.specs.Refusals.{IsAsn1};
 
     /// The same, borrowed.
     pub(crate) fn as_key_ref(&self) -> RsaPublicKey<UintRef<'_>>
@@ -151,10 +150,11 @@ impl<U: AsUintRef> RsaPublicKey<U> {
     /// Writes the key's one text to the front of a slice, and answers its length: `encode_into`, with all that is known
     /// of a key's text. `Overflow` where the text passes `Length::MAX`, `NoRoom` where the slice is shorter.
     pub fn encode_key(&self, out: &mut [u8]) -> Result<usize>
-        ensures text { IfOk result (λ n. IsOnlyText grammar.RsaPublicKey (public_of U.number self.now) (take n out.new)) }
+        ensures text { let key = public_of U.number self.now in
+            IfOk result (λ n. IsOnlyText grammar.RsaPublicKey key (take n out.new)) }
         ensures rest { IfOk result (λ n. (n ≤ length out.new) × (drop n out.new ≡ drop n out.old)) }
         ensures unchanged { OnErr result (out.new ≡ out.old) }
-        ensures err { IfErr result (IsAsn1 (λ e. IsRefused (HasText grammar.RsaPublicKey (public_of U.number self.now)) grammar.RsaPublicKey (public_of U.number self.now) (length out.old) (fault e.kind))) }
+        ensures err { IfErr result (IsNotWritten grammar.RsaPublicKey (public_of U.number self.now) (length out.old)) }
     {
         Ok(self.as_key_ref().encode_into(out)?)
     }

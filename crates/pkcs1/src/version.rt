@@ -129,7 +129,8 @@ impl<'a, M: Memory> DecodeValue<&'a [u8], M> for Version {
         header: Header,
     ) -> Result<Version>
         requires { HoldsBytes (R.left reader.old) header.length }
-        ensures reads { ReadsContents number_of VersionContents (λ _. ⊥) result (R.left reader.old) (R.left reader.new) }
+        ensures reads { let before = R.left reader.old in
+            ReadsContents number_of VersionContents (λ _. ⊥) result before (R.left reader.new) }
         ensures exact { (c : List ℕ) → R.left reader.old ≡ Some c → Answers number_of result (version_at c) }
     {
         let number = u8::decode_value(memory, reader, header)?;

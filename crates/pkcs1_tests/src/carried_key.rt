@@ -52,7 +52,8 @@ impl EncodeRsaPrivateKey for CarriedKey {
 
     fn to_pkcs1_der(&self, alloc: Global) -> Result<SecretDocument>
         ensures text { IfOk result (λ document. self.now.bytes.items ≡ secret_text_of document) }
-        ensures err { IfErr result (IsAsn1 (λ e. Refuses e.kind (IsDocument self.now.bytes.items) (IsDocument self.now.bytes.items → ⊥))) }
+        ensures err { let is_document = IsDocument self.now.bytes.items in
+            IfErr result (IsAsn1 (λ e. Refuses e.kind is_document (is_document → ⊥))) }
     {
         Ok(SecretDocument::from_der(alloc, self.bytes.as_slice())?)
     }

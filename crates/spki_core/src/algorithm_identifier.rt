@@ -56,7 +56,8 @@ impl<'a, P> Sequence<'a> for AlgorithmIdentifier<P> {
 impl<P: EqualByValue> EqualByValue for AlgorithmIdentifier<P> {
     ghost use Rattle.spki_core.specs.ObjectIdentifiers.{octets_of};
 
-    ghost decides = { λ a b. algorithm_decides P.value P.eq P.decides (octets_of a.oid) (octets_of b.oid) a.parameters b.parameters };
+    ghost decides = { λ a b.
+        algorithm_decides P.value P.eq P.decides (octets_of a.oid) (octets_of b.oid) a.parameters b.parameters };
 }
 
 impl<'a, M: Memory, P: Decode<&'a [u8], M>> DecodeValue<&'a [u8], M> for AlgorithmIdentifier<P> {
@@ -113,7 +114,8 @@ impl<P> AlgorithmIdentifier<P> {
     /// The identifier where it is the one that is asked for, else `OidUnknown`.
     pub fn assert_algorithm_oid(&self, expected: ObjectIdentifier) -> Result<ObjectIdentifier>
         ensures ok { IfOk result (λ oid. (oid ≡ self.now.oid) × (octets_of self.now.oid ≡ octets_of expected)) }
-        ensures err { IfErr result (λ e. (e.kind ≡ ErrorKind.OidUnknown) × (octets_of self.now.oid ≢ octets_of expected)) }
+        ensures err { IfErr result (λ e. (e.kind ≡ ErrorKind.OidUnknown)
+            × (octets_of self.now.oid ≢ octets_of expected)) }
     {
         if self.oid == expected {
             Ok(self.oid)
@@ -130,7 +132,8 @@ impl<P: AnyValue> AlgorithmIdentifier<P> {
     /// The parameters, borrowed, or `ParametersMissing` where they are absent.
     pub fn parameters_any(&self) -> Result<AnyRef<'_>>
         ensures ok { IfOk result (λ any. option_map P.any self.now.parameters ≡ Some (any_of any)) }
-        ensures err { IfErr result (λ e. (e.kind ≡ ErrorKind.ParametersMissing) × (option_map P.any self.now.parameters ≡ None)) }
+        ensures err { IfErr result (λ e. (e.kind ≡ ErrorKind.ParametersMissing)
+            × (option_map P.any self.now.parameters ≡ None)) }
     {
         match &self.parameters {
             Some(parameters) => Ok(parameters.as_any_ref()),

@@ -65,9 +65,13 @@ impl<'a> AnyRef<'a> {
         self,
         memory: M,
     ) -> Result<T>
-        ensures ok { IfOk result (λ value. ((any_of self.entry).tag ≡ T.TAG.octet) × T.contents (T.value value) (any_of self.entry).contents) }
-        ensures err { IfErr result (λ e. Refuses e.kind (T.asks (any_of self.entry).contents) ((value : T.Value) → (any_of self.entry).tag ≡ T.TAG.octet → T.contents value (any_of self.entry).contents → ⊥)) }
-        ensures tag { IfErr result (λ e. (any_of self.entry).tag ≢ T.TAG.octet → IsUnexpected T.TAG (any_of self.entry).tag e.kind) }
+        ensures ok { let any = any_of self.entry in
+            IfOk result (λ value. (any.tag ≡ T.TAG.octet) × T.contents (T.value value) any.contents) }
+        ensures err { let any = any_of self.entry in
+            let no_value : Type 0 = (value : T.Value) → any.tag ≡ T.TAG.octet → T.contents value any.contents → ⊥ in
+            IfErr result (λ e. Refuses e.kind (T.asks any.contents) no_value) }
+        ensures tag { let tag = (any_of self.entry).tag in
+            IfErr result (λ e. tag ≢ T.TAG.octet → IsUnexpected T.TAG tag e.kind) }
     {
         if self.tag != T::TAG {
             return Err(Error::new(ErrorKind::TagUnexpected {
@@ -126,7 +130,8 @@ impl<'a, M: Memory> Decode<&'a [u8], M> for AnyRef<'a> {
 
 /// Reads the text at the front of the reader.
 fn read_any<'a, R: Reader<&'a [u8]>>(reader: &mut R) -> Result<AnyRef<'a>>
-    ensures { ReadsText (λ (any : AnyRef). record { tag = any.tag.octet; contents = any.contents.now }) Any (λ _. ⊥) result (R.left reader.old) (R.left reader.new) }
+    ensures { ReadsText (λ (any : AnyRef). record { tag = any.tag.octet; contents = any.contents.now }) Any (λ _. ⊥)
+        result (R.left reader.old) (R.left reader.new) }
 {
     let header = Header::decode(reader)?;
     let contents = reader.read_slice(header.length)?;

@@ -87,7 +87,9 @@ pub fn read_context_specific<'a, T: Decode<&'a [u8], M>, M: Memory, R: Reader<&'
     reader: &mut R,
     number: TagNumber,
 ) -> Result<Option<T>>
-    ensures { ReadsOptional (160 + number.value) T.value (λ v. Tlv (160 + number.value) (T.text v)) (Tlv (160 + number.value) (AsksWithin T.Decode.asks)) result (R.left reader.old) (R.left reader.new) }
+    ensures { let tag = 160 + number.value in
+        let asks = Tlv tag (AsksWithin T.Decode.asks) in
+        ReadsOptional tag T.value (λ v. Tlv tag (T.text v)) asks result (R.left reader.old) (R.left reader.new) }
 {
     if !is_field_next(reader, number)? {
         return Ok(None);
@@ -113,7 +115,8 @@ fn read_inside<'a, T: Decode<&'a [u8], M>, M: Memory, R: Reader<&'a [u8]>>(
     reader: &mut R,
     tag: Tag,
 ) -> Result<T>
-    ensures { ReadsText T.value (λ v. Tlv tag.octet (T.text v)) (Tlv tag.octet (AsksWithin T.Decode.asks)) result (R.left reader.old) (R.left reader.new) }
+    ensures { let asks = Tlv tag.octet (AsksWithin T.Decode.asks) in
+        ReadsText T.value (λ v. Tlv tag.octet (T.text v)) asks result (R.left reader.old) (R.left reader.new) }
 {
     let header = Header::decode(reader)?;
     if header.tag != tag {

@@ -1,9 +1,9 @@
 //! Explicit fields with defaults (X.690 8.14.2, 11.5).
-ghost use Rattle.std.specs.Prelude.{◌≡◌, ◌≤◌, ◌+◌, ◌++◌, length, None, OnOk, IfErr, IsErrAnd};
+ghost use Rattle.std.specs.Prelude.{◌≡◌, ◌≤◌, ◌+◌, length, None, IsErrAnd};
 ghost use Rattle.der_core.specs.Length.{limit};
 ghost use Rattle.der_core.specs.BackWriters.{free_of, Prepends};
 ghost use Rattle.der_core.specs.Reading.{AsksWithin};
-ghost use Rattle.der_core.specs.Writing.{Counts, Stops, fault};
+ghost use Rattle.der_core.specs.Writing.{Counts, Appends};
 ghost use Rattle.spki_core.specs.FieldReading.{ReadsField};
 ghost use Rattle.spki_core.specs.FieldWriting.{HasField, written_field};
 
@@ -20,7 +20,8 @@ pub fn read_field<'a, T: Decode<&'a [u8], M>, M: Memory, R: Reader<&'a [u8]>>(
     number: TagNumber,
     default: T,
 ) -> Result<T>
-    ensures reads { ReadsField number.value T.value T.text (T.value default) (AsksWithin T.Decode.asks) result (R.left reader.old) (R.left reader.new) }
+    ensures reads { let asks = AsksWithin T.Decode.asks in
+        ReadsField number.value T.value T.text (T.value default) asks result (R.left reader.old) (R.left reader.new) }
     ensures failed { R.left reader.old ≡ None → IsErrAnd result (λ e. e.kind ≡ ErrorKind.Failed) }
 {
     if is_field_next(reader, number)? {
@@ -32,7 +33,8 @@ pub fn read_field<'a, T: Decode<&'a [u8], M>, M: Memory, R: Reader<&'a [u8]>>(
 
 /// How many octets are written of a field, which may be left out.
 pub fn field_len<T: Encode>(left_out: bool, tag_number: TagNumber, value: &T) -> Result<Length>
-    ensures { Counts (HasField left_out (T.has_text (T.value value.now))) (written_field left_out tag_number.value (T.written_text (T.value value.now))) result }
+    ensures { let v = T.value value.now in
+        Counts (HasField left_out (T.has_text v)) (written_field left_out tag_number.value (T.written_text v)) result }
 {
     if left_out {
         Ok(Length::ZERO)
@@ -48,10 +50,9 @@ pub fn encode_field<T: Encode, W: Writer>(
     value: &T,
     writer: &mut W,
 ) -> Result<()>
-    ensures has { OnOk result (HasField left_out (T.has_text (T.value value.now)) × (length (written_field left_out tag_number.value (T.written_text (T.value value.now))) ≤ limit)) }
-    ensures written { OnOk result (W.written writer.new ≡ W.written writer.old ++ written_field left_out tag_number.value (T.written_text (T.value value.now))) }
-    ensures room { OnOk result (W.room writer.new + length (written_field left_out tag_number.value (T.written_text (T.value value.now))) ≡ W.room writer.old) }
-    ensures left { IfErr result (λ e. Stops (HasField left_out (T.has_text (T.value value.now))) (written_field left_out tag_number.value (T.written_text (T.value value.now))) (W.room writer.old) (W.written writer.old) (W.written writer.new) (fault e.kind)) }
+    ensures appends { let has = HasField left_out (T.has_text (T.value value.now)) in
+        let octets = written_field left_out tag_number.value (T.written_text (T.value value.now)) in
+        Appends has octets W.room W.written writer.old writer.new result }
     ensures kept { W.keeps writer.old writer.new }
 {
     if left_out {
@@ -70,8 +71,10 @@ pub fn prepend_field<T: Encode>(
 )
     requires has { HasField left_out (T.has_text (T.value value.now)) }
     requires fits { length (written_field left_out tag_number.value (T.written_text (T.value value.now))) ≤ limit }
-    requires room { length (written_field left_out tag_number.value (T.written_text (T.value value.now))) ≤ free_of writer.old }
-    ensures { Prepends (written_field left_out tag_number.value (T.written_text (T.value value.now))) writer.old writer.new }
+    requires room { length (written_field left_out tag_number.value (T.written_text (T.value value.now)))
+        ≤ free_of writer.old }
+    ensures { Prepends (written_field left_out tag_number.value (T.written_text (T.value value.now)))
+        writer.old writer.new }
 {
     if !left_out {
         ContextSpecificRef { tag_number, value }.prepend(writer);

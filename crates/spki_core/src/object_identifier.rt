@@ -175,7 +175,8 @@ impl<'a, M: Memory> DecodeValue<&'a [u8], M> for ObjectIdentifier {
         header: Header,
     ) -> Result<ObjectIdentifier>
         requires { HoldsBytes (R.left reader.old) header.length }
-        ensures reads { ReadsContents octets_of IdentifierContents (λ _. ⊥) result (R.left reader.old) (R.left reader.new) }
+        ensures reads { let before = R.left reader.old in
+            ReadsContents octets_of IdentifierContents (λ _. ⊥) result before (R.left reader.new) }
         ensures exact { IfErr result (λ e. e.kind ≡ ErrorKind.OidMalformed) }
     {
         let contents = reader.read_slice(header.length)?;

@@ -29,7 +29,9 @@ impl Any {
     /// don't and no memory is found for the copy.
     pub fn new(alloc: Global, tag: Tag, contents: &[u8]) -> Result<Any>
         ensures ok { IfOk result (λ any. any_in any ≡ record { tag = tag.octet; contents = contents.now }) }
-        ensures err { IfErr result (λ e. ((e.kind ≡ ErrorKind.Overflow) × (limit < length contents.now)) ⊎ ((e.kind ≡ ErrorKind.OutOfMemory) × (length contents.now ≤ limit))) }
+        ensures err { let many : Type 0 = limit < length contents.now in
+            let fits : Type 0 = length contents.now ≤ limit in
+            IfErr result (λ e. ((e.kind ≡ ErrorKind.Overflow) × many) ⊎ ((e.kind ≡ ErrorKind.OutOfMemory) × fits)) }
     {
         if contents.len() > Length::MAX.to_usize() {
             return Err(Error::new(ErrorKind::Overflow));

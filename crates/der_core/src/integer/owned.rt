@@ -3,8 +3,8 @@ ghost use Rattle.std.specs.Prelude.{◌≡◌, ◌≤◌, ◌<◌, ◌⊎◌, �
 ghost use Rattle.std.specs.Int.Digits.{number_from_digits};
 ghost use Rattle.der_core.specs.Length.{limit};
 ghost use Rattle.der_core.specs.Reading.{HoldsBytes, ReadsContents};
-ghost use Rattle.der_core.specs.Integer.{HoldsNumber, IsCanonical, IntegerContents, integer_contents};
-ghost use Rattle.der_core.specs.IntegerReading.{integer_of, AnswersOrWants};
+ghost use Rattle.der_core.specs.Integer.{HoldsNumber, IsCanonical, AreCanonicalOf, IntegerContents, integer_contents};
+ghost use Rattle.der_core.specs.IntegerReading.{integer_of, AnswersOrWants, IsNoNumber, LacksNumber};
 ghost use Rattle.der_core.specs.IntegerLaws.{integer_means_one, integer_of_bytes, integer_relates, integer_shortest};
 ghost use Rattle.der_core.specs.Tags.{integer};
 
@@ -37,9 +37,9 @@ impl Uint {
     /// The number of these bytes, without leading zeros: `Length` of INTEGER where there is no byte, `Overflow` where
     /// more than `Length::MAX` bytes are left. `OutOfMemory` is answered only where there is a number.
     pub fn new(alloc: Global, bytes: &[u8]) -> Result<Uint>
-        ensures ok { IfOk result (λ number. (number_from_digits 256 (own_bytes_of number) ≡ number_from_digits 256 bytes.now) × IsCanonical (own_bytes_of number)) }
+        ensures ok { IfOk result (λ number. AreCanonicalOf bytes.now (own_bytes_of number)) }
         ensures some { OnOk result (0 < length bytes.now) }
-        ensures err { IfErr result (λ e. ((length bytes.now ≡ 0) × (e.kind ≡ ErrorKind.Length integer)) ⊎ (((x : List ℕ) → IsCanonical x → number_from_digits 256 x ≡ number_from_digits 256 bytes.now → limit < length x) × (e.kind ≡ ErrorKind.Overflow)) ⊎ ((0 < length bytes.now) × ((x : List ℕ) × IsCanonical x × (number_from_digits 256 x ≡ number_from_digits 256 bytes.now) × (length x ≤ limit)) × (e.kind ≡ ErrorKind.OutOfMemory))) }
+        ensures err { IfErr result (λ e. IsNoNumber bytes.now e.kind ⊎ LacksNumber bytes.now e.kind) }
     {
         Uint::copy(alloc, UintRef::new(bytes)?)
     }
@@ -119,7 +119,8 @@ impl<'a> DecodeValue<&'a [u8], Global> for Uint {
         header: Header,
     ) -> Result<Uint>
         requires { HoldsBytes (R.left reader.old) header.length }
-        ensures reads { ReadsContents own_bytes_of IntegerContents (λ c. (bytes : List ℕ) × IntegerContents bytes c) result (R.left reader.old) (R.left reader.new) }
+        ensures reads { let asks = λ (c : List ℕ). (bytes : List ℕ) × IntegerContents bytes c in
+            ReadsContents own_bytes_of IntegerContents asks result (R.left reader.old) (R.left reader.new) }
         ensures exact { (c : List ℕ) → R.left reader.old ≡ Some c → AnswersOrWants own_bytes_of result (integer_of c) }
     {
         let number = UintRef::decode_value(memory, reader, header)?;

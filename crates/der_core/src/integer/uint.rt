@@ -3,8 +3,8 @@ ghost use Rattle.std.specs.Prelude.{◌≡◌, ◌≤◌, ◌<◌, ◌⊎◌, �
 ghost use Rattle.std.specs.Int.Digits.{number_from_digits};
 ghost use Rattle.der_core.specs.Length.{limit};
 ghost use Rattle.der_core.specs.Reading.{ReadsContents, HoldsBytes};
-ghost use Rattle.der_core.specs.Integer.{HoldsNumber, IsCanonical, IntegerContents, integer_contents};
-ghost use Rattle.der_core.specs.IntegerReading.{integer_of, Answers};
+ghost use Rattle.der_core.specs.Integer.{HoldsNumber, IsCanonical, AreCanonicalOf, IntegerContents, integer_contents};
+ghost use Rattle.der_core.specs.IntegerReading.{integer_of, Answers, IsNoNumber};
 ghost use Rattle.der_core.specs.IntegerLaws.{integer_means_one, integer_of_bytes, integer_relates, integer_shortest};
 ghost use Rattle.der_core.specs.Tags.{integer};
 
@@ -72,9 +72,9 @@ impl<'a> UintRef<'a> {
     /// The number of these bytes, without leading zeros: `Length` of INTEGER where there is no byte, `Overflow` where
     /// more than `Length::MAX` bytes are left.
     pub fn new(bytes: &'a [u8]) -> Result<UintRef<'a>>
-        ensures ok { IfOk result (λ number. (number_from_digits 256 (bytes_of number) ≡ number_from_digits 256 bytes.now) × IsCanonical (bytes_of number)) }
+        ensures ok { IfOk result (λ number. AreCanonicalOf bytes.now (bytes_of number)) }
         ensures some { OnOk result (0 < length bytes.now) }
-        ensures err { IfErr result (λ e. ((length bytes.now ≡ 0) × (e.kind ≡ ErrorKind.Length integer)) ⊎ (((x : List ℕ) → IsCanonical x → number_from_digits 256 x ≡ number_from_digits 256 bytes.now → limit < length x) × (e.kind ≡ ErrorKind.Overflow))) }
+        ensures err { IfErr result (λ e. IsNoNumber bytes.now e.kind) }
     {
         let bytes = strip(bytes);
         if bytes.is_empty() {

@@ -1,16 +1,16 @@
 //! What both sets of parameters begin with: hashAlgorithm and maskGenAlgorithm.
-ghost use Rattle.std.specs.Prelude.{◌≡◌, ◌≤◌, ◌+◌, ◌++◌, ◌∷◌, [], refl, length, OnOk, IfErr};
+ghost use Rattle.std.specs.Prelude.{◌≡◌, ◌≤◌, ◌∷◌, [], refl, length};
 ghost use Rattle.der_core.specs.Length.{limit};
 ghost use Rattle.der_core.specs.Tlv.{Tlv};
 ghost use Rattle.der_core.specs.BackWriters.{free_of, Prepends};
 ghost use Rattle.der_core.specs.Reading.{AsksWithin};
-ghost use Rattle.der_core.specs.Writing.{Counts, Stops, fault};
+ghost use Rattle.der_core.specs.Writing.{Counts, Appends};
 ghost use Rattle.spki_core.specs.Any.{null_value};
 ghost use Rattle.spki_core.specs.AlgorithmIdentifier.{PlainAlgorithm, MaskAlgorithm, same_plain, same_mask};
 ghost use Rattle.spki_core.specs.AlgorithmRefs.{algorithm_with, algorithm_of, mask_of};
 ghost use Rattle.spki_core.specs.FieldReading.{ReadsField};
 ghost use Rattle.pkcs1.specs.Parameters.{id_sha1, id_mgf1, with_parameters, sha1, mgf1_sha1};
-ghost use Rattle.pkcs1.specs.DigestWriting.{HasDigest, written_digest};
+ghost use Rattle.pkcs1.specs.DigestWriting.{HasBoth, written_both};
 
 use der_core::{
     BackWriter, Decode, Length, Memory, Reader, Result, Tag, TagNumber, Writer, joined_len,
@@ -71,7 +71,8 @@ pub(crate) fn with_null<D: AssociatedOid, P: AnyParams<M>, M: Memory>(
 
 /// MGF1 with (D with NULL).
 pub(crate) fn mgf1_with<D: AssociatedOid, P: AnyParams<M>, M: Memory>(memory: M) -> MaskGen<P>
-    ensures { algorithm_with (algorithm_with P.any) result ≡ with_parameters id_mgf1 (with_parameters D.contents null_value) }
+    ensures { let hash = with_parameters D.contents null_value in
+        algorithm_with (algorithm_with P.any) result ≡ with_parameters id_mgf1 hash }
 {
     AlgorithmIdentifier {
         oid: ObjectIdentifier::of::<Mgf1>(),
@@ -114,7 +115,9 @@ pub(crate) fn read_hash<'a, P: Decode<&'a [u8], M> + AnyParams<M>, M: Memory, R:
     memory: M,
     reader: &mut R,
 ) -> Result<AlgorithmIdentifier<P>>
-    ensures { ReadsField 0 (algorithm_with P.any) PlainAlgorithm sha1 (AsksWithin (Tlv 48 (AsksWithin P.Decode.asks))) result (R.left reader.old) (R.left reader.new) }
+    ensures { let asks = AsksWithin (Tlv 48 (AsksWithin P.Decode.asks)) in
+        let value = algorithm_with P.any in
+        ReadsField 0 value PlainAlgorithm sha1 asks result (R.left reader.old) (R.left reader.new) }
 {
     if is_field_next(reader, TagNumber::new(0))? {
         read_explicit(memory, reader, TagNumber::new(0))
@@ -130,7 +133,9 @@ pub(crate) fn read_mask_gen<
     M: Memory,
     R: Reader<&'a [u8]>,
 >(memory: M, reader: &mut R) -> Result<MaskGen<P>>
-    ensures { ReadsField 1 (algorithm_with (algorithm_with P.any)) MaskAlgorithm mgf1_sha1 (AsksWithin (Tlv 48 (AsksWithin (Tlv 48 (AsksWithin P.Decode.asks))))) result (R.left reader.old) (R.left reader.new) }
+    ensures { let asks = AsksWithin (Tlv 48 (AsksWithin (Tlv 48 (AsksWithin P.Decode.asks)))) in
+        let value = algorithm_with (algorithm_with P.any) in
+        ReadsField 1 value MaskAlgorithm mgf1_sha1 asks result (R.left reader.old) (R.left reader.new) }
 {
     if is_field_next(reader, TagNumber::new(1))? {
         read_explicit(memory, reader, TagNumber::new(1))
@@ -151,7 +156,7 @@ pub(crate) struct Digest<'b> {
 impl Digest<'_> {
     /// How many octets both have.
     pub(crate) fn len(&self) -> Result<Length>
-        ensures { Counts (HasDigest self.now.hash_out self.now.mask_out (algorithm_of self.now.hash.now) (mask_of self.now.mask_gen.now)) (written_digest self.now.hash_out self.now.mask_out (algorithm_of self.now.hash.now) (mask_of self.now.mask_gen.now)) result }
+        ensures { Counts (HasBoth self.now) (written_both self.now) result }
     {
         joined_len(
             field_len(self.hash_out, TagNumber::new(0), self.hash),
@@ -161,11 +166,10 @@ impl Digest<'_> {
 
     /// Appends both.
     pub(crate) fn encode<W: Writer>(&self, writer: &mut W) -> Result<()>
-        requires has { HasDigest self.now.hash_out self.now.mask_out (algorithm_of self.now.hash.now) (mask_of self.now.mask_gen.now) }
-        requires fits { length (written_digest self.now.hash_out self.now.mask_out (algorithm_of self.now.hash.now) (mask_of self.now.mask_gen.now)) ≤ limit }
-        ensures written { OnOk result (W.written writer.new ≡ W.written writer.old ++ written_digest self.now.hash_out self.now.mask_out (algorithm_of self.now.hash.now) (mask_of self.now.mask_gen.now)) }
-        ensures room { OnOk result (W.room writer.new + length (written_digest self.now.hash_out self.now.mask_out (algorithm_of self.now.hash.now) (mask_of self.now.mask_gen.now)) ≡ W.room writer.old) }
-        ensures left { IfErr result (λ e. Stops (HasDigest self.now.hash_out self.now.mask_out (algorithm_of self.now.hash.now) (mask_of self.now.mask_gen.now)) (written_digest self.now.hash_out self.now.mask_out (algorithm_of self.now.hash.now) (mask_of self.now.mask_gen.now)) (W.room writer.old) (W.written writer.old) (W.written writer.new) (fault e.kind)) }
+        requires has { HasBoth self.now }
+        requires fits { length (written_both self.now) ≤ limit }
+        ensures appends { let d = self.now in
+            Appends (HasBoth d) (written_both d) W.room W.written writer.old writer.new result }
         ensures kept { W.keeps writer.old writer.new }
     {
         encode_field(self.hash_out, TagNumber::new(0), self.hash, writer)?;
@@ -174,10 +178,10 @@ impl Digest<'_> {
 
     /// Puts both before what is filled.
     pub(crate) fn prepend(&self, writer: &mut BackWriter<'_>)
-        requires has { HasDigest self.now.hash_out self.now.mask_out (algorithm_of self.now.hash.now) (mask_of self.now.mask_gen.now) }
-        requires fits { length (written_digest self.now.hash_out self.now.mask_out (algorithm_of self.now.hash.now) (mask_of self.now.mask_gen.now)) ≤ limit }
-        requires room { length (written_digest self.now.hash_out self.now.mask_out (algorithm_of self.now.hash.now) (mask_of self.now.mask_gen.now)) ≤ free_of writer.old }
-        ensures { Prepends (written_digest self.now.hash_out self.now.mask_out (algorithm_of self.now.hash.now) (mask_of self.now.mask_gen.now)) writer.old writer.new }
+        requires has { HasBoth self.now }
+        requires fits { length (written_both self.now) ≤ limit }
+        requires room { length (written_both self.now) ≤ free_of writer.old }
+        ensures { Prepends (written_both self.now) writer.old writer.new }
     {
         prepend_field(self.mask_out, TagNumber::new(1), self.mask_gen, writer);
         prepend_field(self.hash_out, TagNumber::new(0), self.hash, writer);

@@ -5,7 +5,7 @@ ghost use Rattle.pkcs1.specs.OaepParams.{labelled};
 ghost use Rattle.der_core.specs.Length.{limit};
 ghost use Rattle.der_core.specs.BackWriters.{free_of, Prepends};
 ghost use Rattle.der_core.specs.Reading.{AsksWithin};
-ghost use Rattle.der_core.specs.Writing.{Counts, Stops, fault};
+ghost use Rattle.der_core.specs.Writing.{Counts, Appends};
 ghost use Rattle.spki_core.specs.AlgorithmIdentifier.{PlainAlgorithm, same_plain};
 ghost use Rattle.spki_core.specs.FieldReading.{ReadsField};
 ghost use Rattle.spki_core.specs.AlgorithmRefs.{algorithm_with, algorithm_of};
@@ -169,7 +169,8 @@ impl<'a, M: Memory, P: Decode<&'a [u8], M> + AnyParams<M>> DecodeValue<&'a [u8],
 
 impl<P: AnyValue> RsaOaepParams<P> {
     ghost use Rattle.std.specs.Prelude.{drop, take, IfOk, OnErr};
-    ghost use Rattle.der_core.specs.Document.{IsShortest, IsRefused, HasText};
+    ghost use Rattle.der_core.specs.Document.{IsShortest};
+    ghost use Rattle.pkcs1.specs.KeyTexts.{IsNotWritten};
     ghost use Rattle.spki_core.specs.Explicit.{Masked};
     ghost use Rattle.pkcs1.specs.Parameters as grammar;
     ghost use Rattle.pkcs1.specs.OaepParams.{oaep_with, oaep_of};
@@ -199,13 +200,16 @@ impl<P: AnyValue> RsaOaepParams<P> {
     /// `encode_into`, with all that is known of it. `Overflow` where the text passes `Length::MAX`, `NoRoom` where the
     /// slice is shorter.
     pub fn encode_params(&self, out: &mut [u8]) -> Result<usize>
-        ensures shortest { IfOk result (λ n. IsShortest grammar.RsaOaepParams (oaep_with P.any self.now) (take n out.new)) }
+        ensures shortest { let params = oaep_with P.any self.now in
+            IfOk result (λ n. IsShortest grammar.RsaOaepParams params (take n out.new)) }
         ensures no_default { IfOk result (λ n. Masked (oaep_fields (oaep_with P.any self.now)) 0 (take n out.new)) }
         ensures rest { IfOk result (λ n. (n ≤ length out.new) × (drop n out.new ≡ drop n out.old)) }
-        ensures one { IfOk result (λ n. (other : OaepParameters) → grammar.RsaOaepParams other (take n out.new) → other ≡ oaep_with P.any self.now) }
+        ensures one { let params = oaep_with P.any self.now in
+            IfOk result (λ n.
+            (other : OaepParameters) → grammar.RsaOaepParams other (take n out.new) → other ≡ params) }
         ensures count { OnOk result (HasTwoToTheDefaults oaep_fields (oaep_with P.any self.now)) }
         ensures unchanged { OnErr result (out.new ≡ out.old) }
-        ensures err { IfErr result (IsAsn1 (λ e. IsRefused (HasText grammar.RsaOaepParams (oaep_with P.any self.now)) grammar.RsaOaepParams (oaep_with P.any self.now) (length out.old) (fault e.kind))) }
+        ensures err { IfErr result (IsNotWritten grammar.RsaOaepParams (oaep_with P.any self.now) (length out.old)) }
     {
         Ok(self.as_params_ref().encode_into(out)?)
     }
@@ -275,10 +279,9 @@ impl RsaOaepParams<AnyRef<'_>> {
         left_out: OaepLeftOut,
         writer: &mut W,
     ) -> der_core::Result<()>
-        ensures has { OnOk result (HasOaep left_out (oaep_of self.now) × (length (written_oaep left_out (oaep_of self.now)) ≤ limit)) }
-        ensures written { OnOk result (W.written writer.new ≡ W.written writer.old ++ written_oaep left_out (oaep_of self.now)) }
-        ensures room { OnOk result (W.room writer.new + length (written_oaep left_out (oaep_of self.now)) ≡ W.room writer.old) }
-        ensures left { IfErr result (λ e. Stops (HasOaep left_out (oaep_of self.now)) (written_oaep left_out (oaep_of self.now)) (W.room writer.old) (W.written writer.old) (W.written writer.new) (fault e.kind)) }
+        ensures appends { let params = oaep_of self.now in
+            let octets = written_oaep left_out params in
+            Appends (HasOaep left_out params) octets W.room W.written writer.old writer.new result }
         ensures kept { W.keeps writer.old writer.new }
     {
         self.len_without(left_out)?;
@@ -370,7 +373,11 @@ impl<P: AnyValue> EqualByValue for RsaOaepParams<P> {
     ghost use Rattle.pkcs1.specs.OaepParams.{oaep_with};
     ghost use Rattle.pkcs1.specs.DigestEquality.{plain_decides, mask_decides};
 
-    ghost decides = { λ a b. oaep_decides (oaep_with P.any a) (oaep_with P.any b) (plain_decides P.any P.eq (holds_decides P.eq P.holds P.decides) a.hash b.hash) (mask_decides P.any P.eq (holds_decides P.eq P.holds P.decides) a.mask_gen b.mask_gen) (plain_decides P.any P.eq (holds_decides P.eq P.holds P.decides) a.p_source b.p_source) };
+    ghost decides = { λ a b.
+        oaep_decides (oaep_with P.any a) (oaep_with P.any b)
+        (plain_decides P.any P.eq (holds_decides P.eq P.holds P.decides) a.hash b.hash)
+        (mask_decides P.any P.eq (holds_decides P.eq P.holds P.decides) a.mask_gen b.mask_gen)
+        (plain_decides P.any P.eq (holds_decides P.eq P.holds P.decides) a.p_source b.p_source) };
 }
 
 impl<P: AnyValue + TryClone> TryClone for RsaOaepParams<P> {
@@ -427,7 +434,8 @@ impl<'a> RsaOaepParams<AnyRef<'a>> {
             → other ≡ oaep_of params) }
         ensures default { IfErr result (λ e. (params : OaepParameters) → Means grammar.RsaOaepParams bytes.now params
             → IsAsn1 (NamesDefault (oaep_fields params) bytes.now) e) }
-        ensures err { IfErr result (λ e. (params : OaepParameters) → IsShortest grammar.RsaOaepParams params bytes.now → ⊥) }
+        ensures err { IfErr result (λ e. (params : OaepParameters)
+            → IsShortest grammar.RsaOaepParams params bytes.now → ⊥) }
         ensures asn1 { IfErr result (IsAsn1 (λ e. TellsOfBytes e.kind)) }
     {
         let params = RsaOaepParams::try_from(bytes)?;
@@ -444,6 +452,7 @@ impl<'a> TryFrom<&'a [u8]> for RsaOaepParams<AnyRef<'a>> {
     ghost use Rattle.std.specs.Prelude.{IfOk, OnErr};
     ghost use Rattle.der_core.specs.Reading.{TellsOfBytes};
     ghost use Rattle.der_core.specs.Document.{Means};
+    ghost use Rattle.pkcs1.specs.KeyTexts.{IsNoSentence, IsOnlyMeaning};
     ghost use Rattle.pkcs1.specs.Parameters as grammar;
     ghost use Rattle.pkcs1.specs.OaepParams.{oaep_of};
     ghost use Rattle.pkcs1.specs.Refusals.{IsAsn1};
@@ -453,8 +462,8 @@ impl<'a> TryFrom<&'a [u8]> for RsaOaepParams<AnyRef<'a>> {
     /// Reads a whole slice, without memory.
     fn try_from(bytes: &'a [u8]) -> Result<RsaOaepParams<AnyRef<'a>>>
         ensures ok { IfOk result (λ params. Means grammar.RsaOaepParams bytes.now (oaep_of params)) }
-        ensures one { IfOk result (λ params. (other : OaepParameters) → Means grammar.RsaOaepParams bytes.now other → other ≡ oaep_of params) }
-        ensures err { OnErr result ((params : OaepParameters) → Means grammar.RsaOaepParams bytes.now params → ⊥) }
+        ensures one { IfOk result (λ params. IsOnlyMeaning grammar.RsaOaepParams bytes.now (oaep_of params)) }
+        ensures err { OnErr result (IsNoSentence grammar.RsaOaepParams bytes.now) }
         ensures asn1 { IfErr result (IsAsn1 (λ e. TellsOfBytes e.kind)) }
     {
         Ok(RsaOaepParams::from_der(NoMemory, bytes)?)

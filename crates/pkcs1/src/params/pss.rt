@@ -3,7 +3,7 @@ ghost use Rattle.std.specs.Prelude.{◌≡◌, ◌≤◌, ◌+◌, ◌++◌, ref
 ghost use Rattle.der_core.specs.Length.{limit};
 ghost use Rattle.der_core.specs.BackWriters.{free_of, Prepends};
 ghost use Rattle.der_core.specs.Reading.{AsksWithin};
-ghost use Rattle.der_core.specs.Writing.{Counts, Stops, fault};
+ghost use Rattle.der_core.specs.Writing.{Counts, Appends};
 ghost use Rattle.spki_core.specs.Any.{null_value};
 ghost use Rattle.spki_core.specs.Explicit.{HaveDefaults};
 ghost use Rattle.pkcs1.specs.Parameters.{PssParameters, PssContents, pss_fields, with_parameters, id_mgf1, sha1, mgf1_sha1};
@@ -113,7 +113,8 @@ impl<'a, M: Memory, P: Decode<&'a [u8], M> + AnyParams<M>> DecodeValue<&'a [u8],
 
 impl<P: AnyValue> RsaPssParams<P> {
     ghost use Rattle.std.specs.Prelude.{ℕ, List, drop, take, IfOk, OnErr};
-    ghost use Rattle.der_core.specs.Document.{IsShortest, IsRefused, HasText};
+    ghost use Rattle.der_core.specs.Document.{IsShortest};
+    ghost use Rattle.pkcs1.specs.KeyTexts.{IsNotWritten};
     ghost use Rattle.spki_core.specs.Explicit.{Masked};
     ghost use Rattle.pkcs1.specs.Parameters as grammar;
     ghost use Rattle.pkcs1.specs.PssParams.{pss_with, pss_of};
@@ -146,13 +147,16 @@ impl<P: AnyValue> RsaPssParams<P> {
     /// Writes the shortest text, in which no default is written, to the front of a slice, and answers its length:
     /// `encode_into`, with all that is known of it. `NoRoom` where the slice is shorter.
     pub fn encode_params(&self, out: &mut [u8]) -> Result<usize>
-        ensures shortest { IfOk result (λ n. IsShortest grammar.RsaPssParams (pss_with P.any self.now) (take n out.new)) }
+        ensures shortest { let params = pss_with P.any self.now in
+            IfOk result (λ n. IsShortest grammar.RsaPssParams params (take n out.new)) }
         ensures no_default { IfOk result (λ n. Masked (pss_fields (pss_with P.any self.now)) 0 (take n out.new)) }
         ensures rest { IfOk result (λ n. (n ≤ length out.new) × (drop n out.new ≡ drop n out.old)) }
-        ensures one { IfOk result (λ n. (other : PssParameters) → grammar.RsaPssParams other (take n out.new) → other ≡ pss_with P.any self.now) }
+        ensures one { let params = pss_with P.any self.now in
+            IfOk result (λ n.
+            (other : PssParameters) → grammar.RsaPssParams other (take n out.new) → other ≡ params) }
         ensures count { OnOk result (HasTwoToTheDefaults pss_fields (pss_with P.any self.now)) }
         ensures unchanged { OnErr result (out.new ≡ out.old) }
-        ensures err { IfErr result (IsAsn1 (λ e. IsRefused (HasText grammar.RsaPssParams (pss_with P.any self.now)) grammar.RsaPssParams (pss_with P.any self.now) (length out.old) (fault e.kind))) }
+        ensures err { IfErr result (IsNotWritten grammar.RsaPssParams (pss_with P.any self.now) (length out.old)) }
     {
         Ok(self.as_params_ref().encode_into(out)?)
     }
@@ -230,10 +234,9 @@ impl RsaPssParams<AnyRef<'_>> {
         left_out: PssLeftOut,
         writer: &mut W,
     ) -> der_core::Result<()>
-        ensures has { OnOk result (HasPss left_out (pss_of self.now) × (length (written_pss left_out (pss_of self.now)) ≤ limit)) }
-        ensures written { OnOk result (W.written writer.new ≡ W.written writer.old ++ written_pss left_out (pss_of self.now)) }
-        ensures room { OnOk result (W.room writer.new + length (written_pss left_out (pss_of self.now)) ≡ W.room writer.old) }
-        ensures left { IfErr result (λ e. Stops (HasPss left_out (pss_of self.now)) (written_pss left_out (pss_of self.now)) (W.room writer.old) (W.written writer.old) (W.written writer.new) (fault e.kind)) }
+        ensures appends { let params = pss_of self.now in
+            let octets = written_pss left_out params in
+            Appends (HasPss left_out params) octets W.room W.written writer.old writer.new result }
         ensures kept { W.keeps writer.old writer.new }
     {
         self.len_without(left_out)?;
@@ -273,7 +276,9 @@ impl<'a> RsaPssParams<AnyRef<'a>> {
 
     /// The hash function D with NULL, MGF1 with the same, a salt of this many octets, and the trailer field.
     pub fn new<D: AssociatedOid>(salt_len: u8) -> RsaPssParams<AnyRef<'a>>
-        ensures { pss_of result ≡ record { hash = with_parameters D.contents null_value; mask_gen = with_parameters id_mgf1 (with_parameters D.contents null_value); salt_len = salt_len; trailer_field = 1 } }
+        ensures { let hash = with_parameters D.contents null_value in
+            let mask_gen = with_parameters id_mgf1 hash in
+            pss_of result ≡ record { hash = hash; mask_gen = mask_gen; salt_len = salt_len; trailer_field = 1 } }
     {
         RsaPssParams {
             hash: with_null::<D, AnyRef<'a>, NoMemory>(NoMemory),
@@ -301,7 +306,8 @@ impl<'a> RsaPssParams<AnyRef<'a>> {
             → other ≡ pss_of params) }
         ensures default { IfErr result (λ e. (params : PssParameters) → Means grammar.RsaPssParams bytes.now params
             → IsAsn1 (NamesDefault (pss_fields params) bytes.now) e) }
-        ensures err { IfErr result (λ e. (params : PssParameters) → IsShortest grammar.RsaPssParams params bytes.now → ⊥) }
+        ensures err { IfErr result (λ e. (params : PssParameters)
+            → IsShortest grammar.RsaPssParams params bytes.now → ⊥) }
         ensures asn1 { IfErr result (IsAsn1 (λ e. TellsOfBytes e.kind)) }
     {
         let params = RsaPssParams::try_from(bytes)?;
@@ -325,7 +331,10 @@ impl<P: AnyValue> EqualByValue for RsaPssParams<P> {
     ghost use Rattle.pkcs1.specs.PssParams.{pss_with};
     ghost use Rattle.pkcs1.specs.DigestEquality.{plain_decides, mask_decides};
 
-    ghost decides = { λ a b. pss_decides (pss_with P.any a) (pss_with P.any b) (plain_decides P.any P.eq (holds_decides P.eq P.holds P.decides) a.hash b.hash) (mask_decides P.any P.eq (holds_decides P.eq P.holds P.decides) a.mask_gen b.mask_gen) refl };
+    ghost decides = { λ a b.
+        pss_decides (pss_with P.any a) (pss_with P.any b)
+        (plain_decides P.any P.eq (holds_decides P.eq P.holds P.decides) a.hash b.hash)
+        (mask_decides P.any P.eq (holds_decides P.eq P.holds P.decides) a.mask_gen b.mask_gen) refl };
 }
 
 impl<P: AnyValue + TryClone> TryClone for RsaPssParams<P> {
@@ -345,7 +354,8 @@ impl RsaPssParams<Any> {
 
     /// Every field at its default, without memory.
     pub fn default_in(alloc: Global) -> RsaPssParams<Any>
-        ensures { pss_with any_in result ≡ record { hash = sha1; mask_gen = mgf1_sha1; salt_len = 20; trailer_field = 1 } }
+        ensures { pss_with any_in result
+            ≡ record { hash = sha1; mask_gen = mgf1_sha1; salt_len = 20; trailer_field = 1 } }
     {
         RsaPssParams {
             hash: with_null::<Sha1, Any, Global>(alloc),
@@ -371,6 +381,7 @@ impl<'a> TryFrom<&'a [u8]> for RsaPssParams<AnyRef<'a>> {
     ghost use Rattle.std.specs.Prelude.{ℕ, List, IfOk, OnErr};
     ghost use Rattle.der_core.specs.Reading.{TellsOfBytes};
     ghost use Rattle.der_core.specs.Document.{Means};
+    ghost use Rattle.pkcs1.specs.KeyTexts.{IsNoSentence, IsOnlyMeaning};
     ghost use Rattle.pkcs1.specs.Parameters as grammar;
     ghost use Rattle.pkcs1.specs.PssParams.{pss_of};
     ghost use Rattle.pkcs1.specs.Refusals.{IsAsn1};
@@ -380,8 +391,8 @@ impl<'a> TryFrom<&'a [u8]> for RsaPssParams<AnyRef<'a>> {
     /// Reads a whole slice, without memory.
     fn try_from(bytes: &'a [u8]) -> Result<RsaPssParams<AnyRef<'a>>>
         ensures ok { IfOk result (λ params. Means grammar.RsaPssParams bytes.now (pss_of params)) }
-        ensures one { IfOk result (λ params. (other : PssParameters) → Means grammar.RsaPssParams bytes.now other → other ≡ pss_of params) }
-        ensures err { OnErr result ((params : PssParameters) → Means grammar.RsaPssParams bytes.now params → ⊥) }
+        ensures one { IfOk result (λ params. IsOnlyMeaning grammar.RsaPssParams bytes.now (pss_of params)) }
+        ensures err { OnErr result (IsNoSentence grammar.RsaPssParams bytes.now) }
         ensures asn1 { IfErr result (IsAsn1 (λ e. TellsOfBytes e.kind)) }
     {
         Ok(RsaPssParams::from_der(NoMemory, bytes)?)

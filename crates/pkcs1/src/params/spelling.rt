@@ -3,7 +3,7 @@ ghost use Rattle.std.specs.Prelude.{◌≡◌, ◌≤◌, ◌<◌, ◌+◌, ◌+
 ghost use Rattle.der_core.specs.BackWriters.{free_of, Prepends};
 ghost use Rattle.der_core.specs.Length.{limit};
 ghost use Rattle.der_core.specs.Texts.{IsOfBytes, MeansOne};
-ghost use Rattle.der_core.specs.Writing.{Counts, IsLeast, Stops, fault};
+ghost use Rattle.der_core.specs.Writing.{Counts, IsLeast, Appends};
 ghost use Rattle.spki_core.specs.Explicit.{Field, HaveDefaults, MaskedContents};
 ghost use Rattle.spki_core.specs.Masks.{out_under, rest_under};
 ghost use Rattle.spki_core.proofs.Fields.{AreInOrder};
@@ -40,7 +40,8 @@ pub(crate) trait DefaultFields: Copy + Drop {
 
     /// What is borrowed has contents under each mask, and no more of them than memory holds: a call that does nothing.
     fn is_held(&self)
-        ensures { (mask : ℕ) → has_under (params self.now) mask × (length (written_under (params self.now) mask) < 2 ^ 64) };
+        ensures { (mask : ℕ)
+            → has_under (params self.now) mask × (length (written_under (params self.now) mask) < 2 ^ 64) };
 
     /// How many fields equal their defaults.
     fn count_defaults(&self) -> u8
@@ -53,10 +54,8 @@ pub(crate) trait DefaultFields: Copy + Drop {
 
     /// Appends the contents under a mask.
     fn encode_under<W: Writer>(&self, mask: u8, writer: &mut W) -> der_core::Result<()>
-        ensures has { OnOk result (has_under (params self.now) mask × (length (written_under (params self.now) mask) ≤ limit)) }
-        ensures written { OnOk result (W.written writer.new ≡ W.written writer.old ++ written_under (params self.now) mask) }
-        ensures room { OnOk result (W.room writer.new + length (written_under (params self.now) mask) ≡ W.room writer.old) }
-        ensures left { IfErr result (λ e. Stops (has_under (params self.now) mask) (written_under (params self.now) mask) (W.room writer.old) (W.written writer.old) (W.written writer.new) (fault e.kind)) }
+        ensures appends { let params = params self.now in
+            Appends (has_under params mask) (written_under params mask) W.room W.written writer.old writer.new result }
         ensures kept { W.keeps writer.old writer.new };
 
     /// Puts the contents under a mask before what is filled.
@@ -70,10 +69,13 @@ pub(crate) trait DefaultFields: Copy + Drop {
     ghost counted: { (p : Params) → (k : ℕ) × HaveDefaults (fields p) k };
 
     /// What is written are the contents under the mask, up to a length that no memory holds.
-    ghost under_relates: { (p : Params) (mask k : ℕ) → HaveDefaults (fields p) k → mask < 2 ^ k → has_under p mask → length (written_under p mask) < 2 ^ 128 → MaskedContents (fields p) mask (written_under p mask) };
+    ghost under_relates: { (p : Params) (mask k : ℕ)
+        → HaveDefaults (fields p) k → mask < 2 ^ k → has_under p mask → length (written_under p mask) < 2 ^ 128
+        → MaskedContents (fields p) mask (written_under p mask) };
 
     /// They are the shortest.
-    ghost under_least: { (p : Params) (mask : ℕ) (c : List ℕ) → MaskedContents (fields p) mask c → IsLeast (has_under p mask) (written_under p mask) c };
+    ghost under_least: { (p : Params) (mask : ℕ) (c : List ℕ)
+        → MaskedContents (fields p) mask c → IsLeast (has_under p mask) (written_under p mask) c };
 }
 
 /// Whether a field is left out, and the mask for the later ones.
@@ -157,8 +159,11 @@ impl<T: DefaultFields> Spelling<T> {
     fn len(&self) -> der_core::Result<usize>
         ensures ok { IfOk result (λ n. n ≡ length (tlv 48 (T.written_under (T.params self.now.params) self.now.mask))) }
         ensures has { OnOk result (T.has_under (T.params self.now.params) self.now.mask) }
-        ensures spells { OnOk result (IsSpelling (T.fields (T.params self.now.params)) self.now.mask (tlv 48 (T.written_under (T.params self.now.params) self.now.mask))) }
-        ensures err { IfErr result (λ e. (e.kind ≡ ErrorKind.Overflow) × HasNoSpelling (T.fields (T.params self.now.params)) self.now.mask) }
+        ensures spells { let params = T.params self.now.params in
+            let text = tlv 48 (T.written_under params self.now.mask) in
+            OnOk result (IsSpelling (T.fields params) self.now.mask text) }
+        ensures err { let none = HasNoSpelling (T.fields (T.params self.now.params)) self.now.mask in
+            IfErr result (λ e. (e.kind ≡ ErrorKind.Overflow) × none) }
     {
         self.params.is_held();
         Ok(self.encoded_len()?.to_usize())
@@ -167,7 +172,8 @@ impl<T: DefaultFields> Spelling<T> {
     /// The text, in memory of its own.
     fn to_vec(&self, alloc: Global) -> der_core::Result<Vec<u8>>
         ensures ok { IfOk result (λ text. IsSpelling (T.fields (T.params self.now.params)) self.now.mask text.items) }
-        ensures err { IfErr result (λ e. (e.kind ≡ ErrorKind.OutOfMemory) ⊎ ((e.kind ≡ ErrorKind.Overflow) × HasNoSpelling (T.fields (T.params self.now.params)) self.now.mask)) }
+        ensures err { let none = HasNoSpelling (T.fields (T.params self.now.params)) self.now.mask in
+            IfErr result (λ e. (e.kind ≡ ErrorKind.OutOfMemory) ⊎ ((e.kind ≡ ErrorKind.Overflow) × none)) }
     {
         let length = self.len()?;
         let mut text = vec![in alloc; 0u8; length]?;

@@ -58,8 +58,10 @@ impl<'a, M: Memory> DecodeValue<&'a [u8], M> for TrailerField {
         header: Header,
     ) -> Result<TrailerField>
         requires { HoldsBytes (R.left reader.old) header.length }
-        ensures reads { ReadsContents (λ (_ : TrailerField). 1) TrailerContents (λ _. ⊥) result (R.left reader.old) (R.left reader.new) }
-        ensures exact { (c : List ℕ) → R.left reader.old ≡ Some c → Answers (λ (_ : TrailerField). 1) result (trailer_at c) }
+        ensures reads { let before = R.left reader.old in
+            ReadsContents (λ (_ : TrailerField). 1) TrailerContents (λ _. ⊥) result before (R.left reader.new) }
+        ensures exact { (c : List ℕ)
+            → R.left reader.old ≡ Some c → Answers (λ (_ : TrailerField). 1) result (trailer_at c) }
     {
         match u8::decode_value(memory, reader, header)? {
             1 => Ok(TrailerField::BC),

@@ -2,11 +2,11 @@ use Rattle.std.proofs.Common.{arith, rules, ◌≡◌, ◌+◌, ◌<◌, ◌++�
 use Rattle.std.proofs.lemmas.Result.{err_from_is_err_and}
 use Rattle.der_core.specs.Length.{limit, length_octets}
 use Rattle.der_core.specs.Tlv.{tlv}
-use Rattle.der_core.specs.Stopping.{stops_at_once, if_stops_behind}
+use Rattle.der_core.specs.Stopping.{appends_nothing, appends_behind}
 use Rattle.der_core.proofs.encode.encode_text.Goals as goal
 
-pub returns-in_err-write-clause-left : goal.returns-in_err-write-clause-left
-returns-in_err-write-clause-left g c =
+pub returns-in_err-write-clause-appends : goal.returns-in_err-write-clause-appends
+returns-in_err-write-clause-appends g c =
     let p = err_from_is_err_and c.from_residual-in_err-write.result c.from_residual-in_err-write.ensures.1 in
     let t = g.T.Contents in
     let v = t.value c.args.value.now in
@@ -14,10 +14,10 @@ returns-in_err-write-clause-left g c =
     let few : length (tlv g.T.FixedTag.TAG.octet (t.written_contents v)) ≤ limit = omega (arith, size, c.in_ok-for_tlv.ensures.ok, c.in_ok-length.ensures, length-append (length_octets (length (t.written_contents v))) (t.written_contents v)) in
     let head : length c.deref.result.now ≡ 1 + length (length_octets c.in_ok-length.length) = search rules in
     let full : g.W.Writer.room c.args.writer.now < length (tlv g.T.FixedTag.TAG.octet (t.written_contents v)) = omega (arith, size, head, c.in_err-write.ensures.err.1, length-append (length_octets (length (t.written_contents v))) (t.written_contents v)) in
-    rw (p.1, p.2, c.in_err-write.ensures.err.0) (stops_at_once _ _ _ _ c.in_ok-length.ensures.0 few full c.in_err-write.ensures.nothing.0)
+    rw (p.1, p.2) (appends_nothing c.in_ok-length.ensures.0 few c.in_err-write.ensures.err.0 full c.in_err-write.ensures.nothing.0)
 
-pub returns-clause-left : goal.returns-clause-left
-returns-clause-left g c =
+pub returns-clause-appends : goal.returns-clause-appends
+returns-clause-appends g c =
     let t = g.T.Contents in
     let v = t.value c.args.value.now in
     let head = c.to_bytes.result.items in
@@ -27,4 +27,4 @@ returns-clause-left g c =
     let few : length (tlv g.T.FixedTag.TAG.octet (t.written_contents v)) ≤ limit = omega (arith, size, c.in_ok-for_tlv.ensures.ok, c.in_ok-length.ensures, length-append (length_octets (length (t.written_contents v))) (t.written_contents v)) in
     let mid : g.W.Writer.written c.write.new.self ≡ g.W.Writer.written c.args.writer.now ++ head = search rules in
     let room : g.W.Writer.room c.write.new.self + length head ≡ g.W.Writer.room c.args.writer.now = search rules in
-    if_stops_behind _ _ _ _ _ _ _ _ _ has has text few mid room c.encode_value.ensures.left
+    appends_behind _ _ _ has has text few mid room c.encode_value.ensures.appends

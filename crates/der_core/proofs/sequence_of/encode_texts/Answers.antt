@@ -3,7 +3,7 @@ use Rattle.std.proofs.lemmas.Result.{err_from_is_err_and}
 use Rattle.der_core.specs.SequenceOf.{AllHave, all_texts}
 use Rattle.der_core.specs.Length.{limit}
 use Rattle.der_core.proofs.Items.{texts_more, texts_around, have_at}
-use Rattle.der_core.specs.Stopping.{stops_in_front, stops_behind}
+use Rattle.der_core.specs.Stopping.{appends_in_front, appends_behind}
 use Rattle.der_core.proofs.sequence_of.encode_texts.Goals as goal
 
 module _ {T : Type 0} (has : T → Type 0) (text : T → List ℕ) (xs : List T) (i : ℕ) (x : T) (h : i < length xs) (e : x ≡ get_or xs i x) where
@@ -16,8 +16,8 @@ module _ {T : Type 0} (has : T → Type 0) (text : T → List ℕ) (xs : List T)
   here : AllHave has xs → has x
   here p = subst has (sym e) (have_at has text xs i x h p)
 
-pub returns-in_err-encode-clause-left : goal.returns-in_err-encode-clause-left
-returns-in_err-encode-clause-left g c =
+pub returns-in_err-encode-clause-appends : goal.returns-in_err-encode-clause-appends
+returns-in_err-encode-clause-appends g c =
     let p = err_from_is_err_and c.from_residual.result c.from_residual.ensures.1 in
     let xs = c.args.items.now in
     let all : AllHave (λ (x : g.row.T.Denot). g.T.Text.has_text (g.T.Text.value x)) xs = c.requires.has in
@@ -28,14 +28,14 @@ returns-in_err-encode-clause-left g c =
     let whole = around (λ (x : g.row.T.Denot). g.T.Text.has_text (g.T.Text.value x)) (λ (x : g.row.T.Denot). g.T.Text.written_text (g.T.Text.value x)) xs i x c.loop-item-test.true c.item-item.is in
     let rest = all_texts (λ (x : g.row.T.Denot). g.T.Text.written_text (g.T.Text.value x)) (drop (i + 1) xs) in
     let less : length ((λ (x : g.row.T.Denot). g.T.Text.written_text (g.T.Text.value x)) x ++ rest) ≤ limit = omega (arith, few, ap length whole, length-append (all_texts (λ (x : g.row.T.Denot). g.T.Text.written_text (g.T.Text.value x)) (take i xs)) ((λ (x : g.row.T.Denot). g.T.Text.written_text (g.T.Text.value x)) x ++ rest)) in
-    rw (p.1, p.2) (stops_behind _ _ _ _ _ _ _ _ _ has all whole few c.loop-item.invariant.written c.loop-item.invariant.room
-    (stops_in_front _ _ rest _ _ _ _ has has refl less c.in_err-encode.ensures.left))
+    rw (p.1, p.2) (appends_behind _ _ _ has all whole few c.loop-item.invariant.written c.loop-item.invariant.room
+    (appends_in_front _ _ rest has has refl less c.in_err-encode.ensures.appends))
 
 pub loop-item-preserved : goal.loop-item-preserved
 loop-item-preserved g c =
     let q = more (λ (x : g.row.T.Denot). g.T.Text.has_text (g.T.Text.value x)) (λ (x : g.row.T.Denot). g.T.Text.written_text (g.T.Text.value x)) c.args.items.now c.loop-item.item-index c.item-item.result c.loop-item-test.true c.item-item.is in
     record {
-      written = rw q (c.in_ok-encode.ensures.written ∙ ap (λ w. w ++ (λ (x : g.row.T.Denot). g.T.Text.written_text (g.T.Text.value x)) c.item-item.result) c.loop-item.invariant.written ∙ append_assoc (g.W.Writer.written c.args.writer.now) (all_texts (λ (x : g.row.T.Denot). g.T.Text.written_text (g.T.Text.value x)) (take c.loop-item.item-index c.args.items.now)) ((λ (x : g.row.T.Denot). g.T.Text.written_text (g.T.Text.value x)) c.item-item.result));
-      room = rw q (omega (arith, c.in_ok-encode.ensures.room, c.loop-item.invariant.room, length-append (all_texts (λ (x : g.row.T.Denot). g.T.Text.written_text (g.T.Text.value x)) (take c.loop-item.item-index c.args.items.now)) ((λ (x : g.row.T.Denot). g.T.Text.written_text (g.T.Text.value x)) c.item-item.result)));
+      written = rw q (c.in_ok-encode.ensures.appends.written ∙ ap (λ w. w ++ (λ (x : g.row.T.Denot). g.T.Text.written_text (g.T.Text.value x)) c.item-item.result) c.loop-item.invariant.written ∙ append_assoc (g.W.Writer.written c.args.writer.now) (all_texts (λ (x : g.row.T.Denot). g.T.Text.written_text (g.T.Text.value x)) (take c.loop-item.item-index c.args.items.now)) ((λ (x : g.row.T.Denot). g.T.Text.written_text (g.T.Text.value x)) c.item-item.result));
+      room = rw q (omega (arith, c.in_ok-encode.ensures.appends.room, c.loop-item.invariant.room, length-append (all_texts (λ (x : g.row.T.Denot). g.T.Text.written_text (g.T.Text.value x)) (take c.loop-item.item-index c.args.items.now)) ((λ (x : g.row.T.Denot). g.T.Text.written_text (g.T.Text.value x)) c.item-item.result)));
       kept = search rules;
     }

@@ -12,11 +12,5 @@ encode_texts-requires-clause-fits g c =
     let fits : length (all_texts g.T.Text.written_text (map g.T.Text.value c.args.self.now.items)) ≤ limit = omega (arith, c.in_ok-value_len.ensures) in
     rw (c.as_slice.ensures.value, ← texts_map g.T.Text.value g.T.Text.written_text c.args.self.now.items) fits
 
-pub returns-clause-written : goal.returns-clause-written
-returns-clause-written g c = rw (texts_map g.T.Text.value g.T.Text.written_text c.args.self.now.items, ← c.as_slice.ensures.value) c.encode_texts.ensures.written
-
-pub returns-clause-room : goal.returns-clause-room
-returns-clause-room g c = rw (texts_map g.T.Text.value g.T.Text.written_text c.args.self.now.items, ← c.as_slice.ensures.value) c.encode_texts.ensures.room
-
-pub returns-clause-left : goal.returns-clause-left
-returns-clause-left g c = rw (have_map g.T.Text.value g.T.Text.has_text c.args.self.now.items, texts_map g.T.Text.value g.T.Text.written_text c.args.self.now.items, ← c.as_slice.ensures.value) c.encode_texts.ensures.left
+pub returns-clause-appends : goal.returns-clause-appends
+returns-clause-appends g c = rw (have_map g.T.Text.value g.T.Text.has_text c.args.self.now.items, texts_map g.T.Text.value g.T.Text.written_text c.args.self.now.items, ← c.as_slice.ensures.value) c.encode_texts.ensures.appends

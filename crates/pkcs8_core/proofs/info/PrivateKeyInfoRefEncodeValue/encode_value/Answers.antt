@@ -5,23 +5,23 @@ use Rattle.der_core.specs.Integer.{integer_contents}
 use Rattle.der_core.specs.Length.{limit}
 use Rattle.der_core.specs.OctetStringRefs.{octets_of}
 use Rattle.der_core.specs.Optional.{written_optional}
-use Rattle.der_core.specs.Stopping.{stops_in_front, stops_behind, if_stops_behind}
+use Rattle.der_core.specs.Stopping.{appends_in_front, appends_behind}
 use Rattle.spki_core.specs.AlgorithmIdentifier.{written_plain}
 use Rattle.spki_core.specs.AlgorithmRefs.{algorithm_of}
 use Rattle.pkcs8_core.specs.Held.{info_of}
 use Rattle.pkcs8_core.proofs.info.PrivateKeyInfoRefEncodeValue.encode_value.Goals as goal
 
-pub returns-in_err-encode-clause-left : goal.returns-in_err-encode-clause-left
-returns-in_err-encode-clause-left g c =
+pub returns-in_err-encode-clause-appends : goal.returns-in_err-encode-clause-appends
+returns-in_err-encode-clause-appends g c =
     let e = err_from_is_err_and c.from_residual-in_err-encode.result c.from_residual-in_err-encode.ensures.1 in
     let i = c.args.self.now in
     let all = c.in_ok-value_len.ensures in
     let version = tlv 2 (integer_contents (0 ∷ [])) in
     let behind = written_plain (algorithm_of i.algorithm) ++ (tlv 4 (octets_of i.private_key) ++ written_optional (λ o. tlv 160 o) (info_of i).attributes) in
-    rw (e.1, e.2) (stops_in_front (version ++ behind) version behind _ _ _ _ all.0.0 all.0 refl (omega (arith, all.1, all.2)) c.in_err-encode.ensures.left)
+    rw (e.1, e.2) (appends_in_front (version ++ behind) version behind all.0.0 all.0 refl (omega (arith, all.1, all.2)) c.in_err-encode.ensures.appends)
 
-pub returns-in_err-encode-2-clause-left : goal.returns-in_err-encode-2-clause-left
-returns-in_err-encode-2-clause-left g c =
+pub returns-in_err-encode-2-clause-appends : goal.returns-in_err-encode-2-clause-appends
+returns-in_err-encode-2-clause-appends g c =
     let e = err_from_is_err_and c.from_residual-in_err-encode-2.result c.from_residual-in_err-encode-2.ensures.1 in
     let i = c.args.self.now in
     let all = c.in_ok-value_len.ensures in
@@ -31,11 +31,11 @@ returns-in_err-encode-2-clause-left g c =
     let fits : length (version ++ (algorithm ++ behind)) ≤ limit = omega (arith, all.1, all.2) in
     let less : length (algorithm ++ behind) ≤ limit = omega (arith, fits, length-append version (algorithm ++ behind)) in
     rw (e.1, e.2)
-    (stops_behind (version ++ (algorithm ++ behind)) version (algorithm ++ behind) _ _ _ _ _ _ all.0.1 all.0 refl fits c.in_ok-encode.ensures.written c.in_ok-encode.ensures.room
-    (stops_in_front (algorithm ++ behind) algorithm behind _ _ _ _ all.0.1.0 all.0.1 refl less c.in_err-encode-2.ensures.left))
+    (appends_behind (version ++ (algorithm ++ behind)) version (algorithm ++ behind) all.0.1 all.0 refl fits c.in_ok-encode.ensures.appends.written c.in_ok-encode.ensures.appends.room
+    (appends_in_front (algorithm ++ behind) algorithm behind all.0.1.0 all.0.1 refl less c.in_err-encode-2.ensures.appends))
 
-pub returns-in_err-encode-3-clause-left : goal.returns-in_err-encode-3-clause-left
-returns-in_err-encode-3-clause-left g c =
+pub returns-in_err-encode-3-clause-appends : goal.returns-in_err-encode-3-clause-appends
+returns-in_err-encode-3-clause-appends g c =
     let e = err_from_is_err_and c.from_residual-in_err-encode-3.result c.from_residual-in_err-encode-3.ensures.1 in
     let i = c.args.self.now in
     let all = c.in_ok-value_len.ensures in
@@ -47,12 +47,12 @@ returns-in_err-encode-3-clause-left g c =
     let less : length (algorithm ++ (key ++ behind)) ≤ limit = omega (arith, fits, length-append version (algorithm ++ (key ++ behind))) in
     let least : length (key ++ behind) ≤ limit = omega (arith, less, length-append algorithm (key ++ behind)) in
     rw (e.1, e.2)
-    (stops_behind (version ++ (algorithm ++ (key ++ behind))) version (algorithm ++ (key ++ behind)) _ _ _ _ _ _ all.0.1 all.0 refl fits c.in_ok-encode.ensures.written c.in_ok-encode.ensures.room
-    (stops_behind (algorithm ++ (key ++ behind)) algorithm (key ++ behind) _ _ _ _ _ _ all.0.1.1 all.0.1 refl less c.in_ok-encode-2.ensures.written c.in_ok-encode-2.ensures.room
-    (stops_in_front (key ++ behind) key behind _ _ _ _ all.0.1.1.0 all.0.1.1 refl least c.in_err-encode-3.ensures.left)))
+    (appends_behind (version ++ (algorithm ++ (key ++ behind))) version (algorithm ++ (key ++ behind)) all.0.1 all.0 refl fits c.in_ok-encode.ensures.appends.written c.in_ok-encode.ensures.appends.room
+    (appends_behind (algorithm ++ (key ++ behind)) algorithm (key ++ behind) all.0.1.1 all.0.1 refl less c.in_ok-encode-2.ensures.appends.written c.in_ok-encode-2.ensures.appends.room
+    (appends_in_front (key ++ behind) key behind all.0.1.1.0 all.0.1.1 refl least c.in_err-encode-3.ensures.appends)))
 
-pub returns-clause-left : goal.returns-clause-left
-returns-clause-left g c =
+pub returns-clause-appends : goal.returns-clause-appends
+returns-clause-appends g c =
     let i = c.args.self.now in
     let all = c.in_ok-value_len.ensures in
     let version = tlv 2 (integer_contents (0 ∷ [])) in
@@ -62,7 +62,7 @@ returns-clause-left g c =
     let fits : length (version ++ (algorithm ++ (key ++ behind))) ≤ limit = omega (arith, all.1, all.2) in
     let less : length (algorithm ++ (key ++ behind)) ≤ limit = omega (arith, fits, length-append version (algorithm ++ (key ++ behind))) in
     let least : length (key ++ behind) ≤ limit = omega (arith, less, length-append algorithm (key ++ behind)) in
-    let left = rw c.attributes_text.ensures at c.encode_optional.ensures.left in
-    if_stops_behind _ (version ++ (algorithm ++ (key ++ behind))) version (algorithm ++ (key ++ behind)) _ _ _ _ _ all.0.1 all.0 refl fits c.in_ok-encode.ensures.written c.in_ok-encode.ensures.room
-    (if_stops_behind _ (algorithm ++ (key ++ behind)) algorithm (key ++ behind) _ _ _ _ _ all.0.1.1 all.0.1 refl less c.in_ok-encode-2.ensures.written c.in_ok-encode-2.ensures.room
-    (if_stops_behind _ (key ++ behind) key behind _ _ _ _ _ all.0.1.1.1 all.0.1.1 refl least c.in_ok-encode-3.ensures.written c.in_ok-encode-3.ensures.room left))
+    let left = rw c.attributes_text.ensures at c.encode_optional.ensures.appends in
+    appends_behind (version ++ (algorithm ++ (key ++ behind))) version (algorithm ++ (key ++ behind)) all.0.1 all.0 refl fits c.in_ok-encode.ensures.appends.written c.in_ok-encode.ensures.appends.room
+    (appends_behind (algorithm ++ (key ++ behind)) algorithm (key ++ behind) all.0.1.1 all.0.1 refl less c.in_ok-encode-2.ensures.appends.written c.in_ok-encode-2.ensures.appends.room
+    (appends_behind (key ++ behind) key behind all.0.1.1.1 all.0.1.1 refl least c.in_ok-encode-3.ensures.appends.written c.in_ok-encode-3.ensures.appends.room left))

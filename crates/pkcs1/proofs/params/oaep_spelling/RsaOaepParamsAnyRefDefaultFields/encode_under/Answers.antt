@@ -2,10 +2,10 @@ use Rattle.std.proofs.Common.{refl}
 use Rattle.pkcs1.specs.OaepMasks.{oaep_out}
 use Rattle.pkcs1.specs.OaepParams.{oaep_of}
 use Rattle.pkcs1.specs.OaepWriting.{oaep_defaults, HasOaep, written_oaep}
-use Rattle.pkcs1.proofs.ParameterWrites.{stops_as}
+use Rattle.pkcs1.proofs.ParameterWrites.{appends_of}
 use Rattle.pkcs1.proofs.params.oaep_spelling.RsaOaepParamsAnyRefDefaultFields.encode_under.Goals as goal
 
-pub returns-clause-left : goal.returns-clause-left
-returns-clause-left g c =
+pub returns-clause-appends : goal.returns-clause-appends
+returns-clause-appends g c =
     let v = oaep_of c.args.self.now in
-    stops_as HasOaep written_oaep (λ p. oaep_out (oaep_defaults p) c.args.mask) _ _ v v _ _ _ c.left_out.ensures refl c.encode_without.ensures.left
+    appends_of HasOaep written_oaep (λ p. oaep_out (oaep_defaults p) c.args.mask) _ v v c.left_out.ensures refl c.encode_without.ensures.appends
