@@ -14,13 +14,13 @@ use Rattle.der_core.specs.Writing.{fault}
 use Rattle.der_core.specs.declared.integer.owned.Uint.{Uint}
 use Rattle.der_core.specs.declared.integer.uint.UintRef.{UintRef}
 use Rattle.der_core.proofs.Refusals.{refused_by}
-use Rattle.pkcs1.specs.declared.error.Error.{Error}
-use Rattle.pkcs1.specs.declared.error.Error.TheVariants as error
+use Rattle.pkcs1_params.specs.declared.error.Error.{Error}
+use Rattle.pkcs1_params.specs.declared.error.Error.TheVariants as error
 use Rattle.pkcs1.specs.declared.other_prime_info.OtherPrimeInfo.{OtherPrimeInfo}
 use Rattle.pkcs1.specs.declared.private_key.RsaPrivateKey as declared
 use Rattle.pkcs1.specs.Keys.{RsaPrivateKey}
 use Rattle.pkcs1.specs.PrivateKeys.{other_of, others_of, private_of}
-use Rattle.pkcs1.specs.Refusals.{IsAsn1}
+use Rattle.pkcs1_params.specs.Refusals.{IsAsn1}
 use Rattle.pkcs1.specs.Writing.{HasOthers, HasPrivateKey, other_numbers, key_numbers}
 use Rattle.pkcs1.proofs.PrivateKeys.{IsHeld, AreHeld, private_made}
 

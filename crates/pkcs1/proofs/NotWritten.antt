@@ -11,14 +11,14 @@ use Rattle.der_core.specs.Tlv.{tlv}
 use Rattle.der_core.specs.Writing.{IsUncounted, LacksMemory, fault}
 use Rattle.der_core.specs.declared.document.SecretDocument.{SecretDocument}
 use Rattle.der_core.specs.declared.error.ErrorKind.{ErrorKind}
-use Rattle.pkcs1.specs.declared.error.Error.{Error}
-use Rattle.pkcs1.specs.declared.error.Error.TheVariants as error
+use Rattle.pkcs1_params.specs.declared.error.Error.{Error}
+use Rattle.pkcs1_params.specs.declared.error.Error.TheVariants as error
 use Rattle.pkcs1.specs.declared.private_key.RsaPrivateKey as declared
 use Rattle.pkcs1.specs.Keys.{PublicKey, PublicKeyContents, RsaPublicKey, PrivateKey, RsaPrivateKey}
 use Rattle.pkcs1.specs.KeyTexts.{IsOnlyText, IsUnwritten}
 use Rattle.pkcs1.specs.PrivateKeys.{private_of}
 use Rattle.pkcs1.specs.PublicKeyLaws.{public_key_relates}
-use Rattle.pkcs1.specs.Refusals.{IsAsn1}
+use Rattle.pkcs1_params.specs.Refusals.{IsAsn1}
 use Rattle.pkcs1.specs.Writing.{HasPublicKey, HasPrivateKey, written_public_key}
 use Rattle.pkcs1.proofs.HeldKeys.{held_has_text}
 use Rattle.pkcs1.proofs.KeyTexts.{only_text}

@@ -13,7 +13,7 @@ use Rattle.std.specs.Prelude.{slice_index, take, Result, Ok, Err, IfOk}
 use Rattle.der_core.specs.SmallLaws.{small_relates}
 use Rattle.der_core.specs.SequenceOf.{AllHave}
 use Rattle.der_core.specs.TextLaws.{tlv_split, tlv_delimited, tlv_not_empty, tlv_at_most_one, tlv_made, tlv_little_longer, joins_at_most_one, map_at_most_one, last_holds, then_holds}
-use Rattle.pkcs1.specs.declared.error.Error.{Error}
+use Rattle.pkcs1_params.specs.declared.error.Error.{Error}
 use Rattle.pkcs1.specs.KeyTexts.{IsOnlyText}
 use Rattle.pkcs1.specs.Keys.{RsaPublicKey, OtherPrime, OtherPrimeContents, OtherPrimeInfo, OtherPrimeInfos, version_of, PrivateKey, PrivateKeyContents, RsaPrivateKey}
 use Rattle.pkcs1.specs.Writing.{other_numbers, key_numbers}

@@ -3,8 +3,8 @@ use Rattle.std.proofs.Common.{ℕ, List, ◌≡◌, ◌⊎◌, inl, inr, sym, Re
 use Rattle.std.specs.Prelude.{IfOk, IfErr}
 use Rattle.der_core.specs.Document.{Means, IsUncountable, Fault, no_text, too_long, no_room, another}
 use Rattle.der_core.specs.Writing.{fault}
-use Rattle.pkcs1.specs.declared.error.Error.{Error}
-use Rattle.pkcs1.specs.declared.error.Error.TheVariants as error
+use Rattle.pkcs1_params.specs.declared.error.Error.{Error}
+use Rattle.pkcs1_params.specs.declared.error.Error.TheVariants as error
 use Rattle.pkcs1.specs.KeyTexts.{IsOnlyText, IsSentence, IsUnread, IsNotMade}
 
 module _ {V : Type 0} (Grammar : V → List ℕ → Type 0) (v : V) (text : List ℕ) (means : Means Grammar text v) where

@@ -1,12 +1,12 @@
 -- The one text of a key.
 use Rattle.std.specs.Prelude.{ℕ, List, ◌≡◌, ◌⊎◌}
-use Rattle.der_core.specs.Document.{Means, IsShortest, IsAlone, IsUncountable, IsRefused, HasText}
+use Rattle.der_core.specs.Document.{Means, IsShortest, IsAlone, IsUncountable, HasText}
 use Rattle.der_core.specs.Reading.{Refuses}
 use Rattle.der_core.specs.Writing.{fault}
 use Rattle.der_core.specs.declared.error.ErrorKind.{ErrorKind}
 use Rattle.der_core.specs.declared.error.ErrorKind.TheVariants.{OutOfMemory}
-use Rattle.pkcs1.specs.declared.error.Error.{Error}
-use Rattle.pkcs1.specs.Refusals.{IsAsn1}
+use Rattle.pkcs1_params.specs.declared.error.Error.{Error}
+use Rattle.pkcs1_params.specs.Refusals.{IsAsn1}
 
 -- The value has this text, no other one, and no other value has it.
 pub record IsOnlyText {V : Type 0} (Grammar : V → List ℕ → Type 0) (v : V) (text : List ℕ) : Type 0 where
@@ -24,21 +24,11 @@ abbrev pub IsUnwritten : {V : Type 0} → Type 0 → (V → List ℕ → Type 0)
 IsUnwritten Some Grammar v e =
     ((e ≡ OutOfMemory) × (text : List ℕ) × Means Grammar text v) ⊎ IsUncountable Some Grammar v (fault e)
 
--- No other value has this text.
-abbrev pub IsOnlyMeaning : {V : Type 0} → (V → List ℕ → Type 0) → List ℕ → V → Type 0
-IsOnlyMeaning {V} Grammar text v = (other : V) → Means Grammar text other → other ≡ v
-
 -- Why a text isn't read: memory was wanted, and asked for; or no value has the text.
 abbrev pub IsUnread : {V : Type 0} → (V → List ℕ → Type 0) → List ℕ → Type 0 → Error → Type 0
 IsUnread {V} Grammar text asked = IsAsn1 (λ e. Refuses e.kind asked ((v : V) → Means Grammar text v → ⊥))
 
--- No value has this text.
-abbrev pub IsNoSentence : {V : Type 0} → (V → List ℕ → Type 0) → List ℕ → Type 0
-IsNoSentence {V} Grammar text = (v : V) → Means Grammar text v → ⊥
 
--- Why a value isn't written to so many bytes: it has no text, none is within the limit, or the shortest has no room.
-abbrev pub IsNotWritten : {V : Type 0} → (V → List ℕ → Type 0) → V → ℕ → Error → Type 0
-IsNotWritten Grammar v room = IsAsn1 (λ e. IsRefused (HasText Grammar v) Grammar v room (fault e.kind))
 
 -- Why no document of a key is made: as IsUnwritten.
 abbrev pub IsNotMade : {V : Type 0} → (V → List ℕ → Type 0) → V → Error → Type 0

@@ -5,8 +5,8 @@ use Rattle.der_core.specs.declared.error.ErrorKind.TheVariants as kind
 use Rattle.der_core.specs.Tags.{integer}
 use Rattle.der_core.specs.Integer.{SmallContents}
 use Rattle.der_core.specs.IntegerReading.{small_of}
-use Rattle.pkcs1.specs.declared.error.Error.{Error}
-use Rattle.pkcs1.specs.declared.error.Error.TheVariants as error
+use Rattle.pkcs1_params.specs.declared.error.Error.{Error}
+use Rattle.pkcs1_params.specs.declared.error.Error.TheVariants as error
 use Rattle.pkcs1.specs.declared.version.Version.{Version}
 use Rattle.pkcs1.specs.declared.version.Version.TheVariants.{TwoPrime, Multi}
 

@@ -3,9 +3,9 @@ ghost use Rattle.std.specs.Prelude.{◌≡◌, refl};
 ghost use Rattle.spki_core.specs.Any.{null_value};
 ghost use Rattle.spki_core.specs.AlgorithmRefs.{algorithm_of};
 ghost use Rattle.spki_core.specs.ObjectIdentifiers.{octets_of};
-ghost use Rattle.pkcs1.specs.Parameters.{id_rsa_encryption, with_parameters};
+ghost use Rattle.pkcs1_params.specs.Parameters.{id_rsa_encryption, with_parameters};
 
-use crate::params::with_null;
+use pkcs1_params::with_null;
 use der_core::NoMemory;
 use spki_core::{AlgorithmIdentifierRef, AnyRef, AssociatedOid, ObjectIdentifier};
 

@@ -5,21 +5,12 @@ ghost use Rattle.der_core.specs.Texts.{AtMostOne, IsDelimited};
 ghost use Rattle.der_core.specs.Document.{Excludes, SameByShortest};
 ghost use Rattle.pkcs1.specs.Keys.{PublicKey, PrivateKey};
 ghost use Rattle.pkcs1.specs.Keys as keys;
-ghost use Rattle.pkcs1.specs.Parameters.{pss_fields, oaep_fields};
-ghost use Rattle.pkcs1.specs.Parameters as parameters;
-ghost use Rattle.pkcs1.specs.Spellings.{
-  DefaultsAreCounted,
-  EachHasOneMask,
-  EachMaskHasOne,
-  ShortestHasNoDefaults,
-  AcceptedFits,
-  TwoToTheDefaults,
-};
+ghost use Rattle.pkcs1_params.specs.Parameters as parameters;
 
-use crate::params::{RsaOaepParams, RsaPssParams};
 use crate::private_key::RsaPrivateKey;
 use crate::public_key::RsaPublicKey;
 use der_core::{Text, Uint, UintRef};
+use pkcs1_params::{RsaOaepParams, RsaPssParams};
 use spki_core::{Any, AnyRef};
 
 /// No proper beginning of a text is a text of the same type, none is empty, and each means one value.
@@ -49,30 +40,6 @@ pub fn types_exclude_each_other()
 pub fn same_keys_have_the_same_text()
     ensures public { SameByShortest keys.RsaPublicKey }
     ensures private { SameByShortest keys.RsaPrivateKey }
-{}
-
-/// The texts of PSS parameters within the limit are those under the masks that say which defaults are written,
-/// the shortest under mask 0; two texts mean the same exactly where the shortest texts of what they mean are the same bytes.
-pub fn pss_spellings()
-    ensures defaults { DefaultsAreCounted pss_fields }
-    ensures mask { EachHasOneMask pss_fields }
-    ensures text { EachMaskHasOne pss_fields }
-    ensures shortest { ShortestHasNoDefaults pss_fields }
-    ensures fits { AcceptedFits pss_fields }
-    ensures count { TwoToTheDefaults pss_fields }
-    ensures same { SameByShortest parameters.RsaPssParams }
-{}
-
-/// The texts of OAEP parameters within the limit are those under the masks that say which defaults are written,
-/// the shortest under mask 0; two texts mean the same exactly where the shortest texts of what they mean are the same bytes.
-pub fn oaep_spellings()
-    ensures defaults { DefaultsAreCounted oaep_fields }
-    ensures mask { EachHasOneMask oaep_fields }
-    ensures text { EachMaskHasOne oaep_fields }
-    ensures shortest { ShortestHasNoDefaults oaep_fields }
-    ensures fits { AcceptedFits oaep_fields }
-    ensures count { TwoToTheDefaults oaep_fields }
-    ensures same { SameByShortest parameters.RsaOaepParams }
 {}
 
 /// What a type reads and writes is its grammar, in the borrowed form and in the owned one: a clause of `Decode` or

@@ -2,13 +2,11 @@
 #![tactic(auto)]
 
 mod algorithm;
-mod error;
 mod key_numbers;
 mod laws;
 mod numbers;
 mod other_prime_info;
 mod other_primes;
-mod params;
 mod private_key;
 mod public_key;
 mod reencode;
@@ -19,16 +17,15 @@ mod view;
 pub use algorithm::{ALGORITHM_OID, algorithm_id, rsa_encryption_oid};
 pub use der_core as der;
 pub use der_core::{Uint, UintRef};
-pub use error::{Error, Result};
 pub use laws::{
-    forms_share_the_grammars, keys_have_one_text, oaep_spellings, pss_spellings,
-    same_keys_have_the_same_text, texts_are_delimited, types_exclude_each_other,
+    forms_share_the_grammars, keys_have_one_text, same_keys_have_the_same_text, texts_are_delimited,
+    types_exclude_each_other,
 };
 pub use other_prime_info::{OtherPrimeInfo, OtherPrimeInfos};
 pub use other_primes::OtherPrimes;
-pub use params::{
-    RsaOaepParams, RsaOaepParamsOwned, RsaOaepParamsRef, RsaPssParams, RsaPssParamsOwned,
-    RsaPssParamsRef, TrailerField,
+pub use pkcs1_params::{
+    Error, Result, RsaOaepParams, RsaOaepParamsOwned, RsaOaepParamsRef, RsaPssParams,
+    RsaPssParamsOwned, RsaPssParamsRef, TrailerField, oaep_spellings, pss_spellings,
 };
 pub use private_key::{RsaPrivateKey, RsaPrivateKeyOwned, RsaPrivateKeyRef};
 pub use public_key::{RsaPublicKey, RsaPublicKeyOwned, RsaPublicKeyRef};

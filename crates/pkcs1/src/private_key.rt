@@ -10,7 +10,7 @@ ghost use Rattle.pkcs1.specs.PrivateKeyLaws.{private_means_one, private_of_bytes
 ghost use Rattle.pkcs1.specs.PublicKeys.{key_of};
 ghost use Rattle.pkcs1.specs.PrivateKeys.{private_of, public_in, ListsNone};
 
-use crate::error::Error;
+use pkcs1_params::Error;
 use crate::key_numbers::read_key_numbers;
 use crate::numbers::{encode_numbers, numbers_len, prepend_numbers};
 use crate::other_prime_info::{
@@ -205,7 +205,7 @@ impl<U: Encode> RsaPrivateKey<U> {
     ghost use Rattle.der_core.specs.Document.{IsShortest, IsRefused};
     ghost use Rattle.der_core.specs.Documents.{secret_text_of};
     ghost use Rattle.pkcs1.specs.KeyTexts.{IsUnwritten};
-    ghost use Rattle.pkcs1.specs.Refusals.{IsAsn1};
+    ghost use Rattle.pkcs1_params.specs.Refusals.{IsAsn1};
 
     /// `encode_into`, which answers `Value` of SEQUENCE where the list of other primes is there and empty.
     fn encode_front(&self, out: &mut [u8]) -> crate::Result<usize>
@@ -266,7 +266,8 @@ impl<U> RsaPrivateKey<U> {
     ghost use Rattle.der_core.specs.OctetStringRefs.{octets_of};
     ghost use Rattle.der_core.specs.Reading.{AskedIn, AsksWithin};
     ghost use Rattle.der_core.specs.Tlv.{Tlv};
-    ghost use Rattle.pkcs1.specs.KeyTexts.{IsOnlyMeaning, IsUnread};
+    ghost use Rattle.pkcs1.specs.KeyTexts.{IsUnread};
+    ghost use Rattle.pkcs1_params.specs.Meanings.{IsOnlyMeaning};
 
     /// Reads all octets of an OCTET STRING: `from_der` on its bytes. A key of two primes is never refused where its
     /// numbers ask for no memory.
@@ -294,11 +295,12 @@ impl<U> RsaPrivateKey<U> {
 impl<'a> RsaPrivateKey<UintRef<'a>> {
     ghost use Rattle.std.specs.Prelude.{take, drop, IfOk, IsOk, OnErr, None};
     ghost use Rattle.der_core.specs.Document.{Means};
-    ghost use Rattle.pkcs1.specs.KeyTexts.{IsNotWritten, IsOnlyMeaning, IsOnlyText, IsUnread};
+    ghost use Rattle.pkcs1.specs.KeyTexts.{IsOnlyText, IsUnread};
+    ghost use Rattle.pkcs1_params.specs.Meanings.{IsNotWritten, IsOnlyMeaning};
     ghost use Rattle.pkcs1.specs.Asking.{MayAsk};
     ghost use Rattle.pkcs1.specs.Keys as grammar;
     ghost use Rattle.pkcs1.specs.PrivateKeys.{private_key_of};
-    ghost use Rattle.pkcs1.specs.Refusals.{IsAsn1};
+    ghost use Rattle.pkcs1_params.specs.Refusals.{IsAsn1};
 
     /// Reads a whole slice: `from_der`, with all that is known of a private key's text. `OutOfMemory` is answered only
     /// where a SEQUENCE that isn't empty stands behind the eighth number.
@@ -332,9 +334,10 @@ impl RsaPrivateKey<Uint> {
     ghost use Rattle.der_core.specs.Document.{Means};
     ghost use Rattle.der_core.specs.Uints.{own_bytes_of};
     ghost use Rattle.pkcs1.specs.Asking.{OwnedKeyAsks};
-    ghost use Rattle.pkcs1.specs.KeyTexts.{IsNotWritten, IsOnlyMeaning, IsOnlyText, IsUnread};
+    ghost use Rattle.pkcs1.specs.KeyTexts.{IsOnlyText, IsUnread};
+    ghost use Rattle.pkcs1_params.specs.Meanings.{IsNotWritten, IsOnlyMeaning};
     ghost use Rattle.pkcs1.specs.Keys as grammar;
-    ghost use Rattle.pkcs1.specs.Refusals.{IsAsn1};
+    ghost use Rattle.pkcs1_params.specs.Refusals.{IsAsn1};
 
     /// Reads a whole slice, as `decode_key` of a key that borrows its numbers does. `OutOfMemory` is answered only where
     /// a number, or a SEQUENCE that isn't empty behind the eighth, is there.

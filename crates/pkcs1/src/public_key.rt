@@ -6,7 +6,7 @@ ghost use Rattle.pkcs1.specs.Writing.{HasPublicKey, written_public_key};
 ghost use Rattle.pkcs1.specs.PublicKeys.{public_of, key_of};
 ghost use Rattle.pkcs1.specs.PublicKeyLaws.{public_key_means_one, public_key_of_bytes, public_key_relates, public_key_shortest};
 
-use crate::error::{Error, Result};
+use pkcs1_params::{Error, Result};
 use der_core::{
     AsUintRef, BackWriter, Contents, Decode, DecodeValue, Encode, EncodeValue, EqualByValue,
     Header, Kinded, Length, Memory, NoMemory, Reader, Sequence, SequenceTag, Text, TryClone, Uint,
@@ -115,9 +115,9 @@ impl<'a> TryFrom<&'a [u8]> for RsaPublicKey<UintRef<'a>> {
     ghost use Rattle.std.specs.Prelude.{IfOk, IfErr, OnErr};
     ghost use Rattle.der_core.specs.Reading.{TellsOfBytes};
     ghost use Rattle.der_core.specs.Document.{Means};
-    ghost use Rattle.pkcs1.specs.KeyTexts.{IsNoSentence, IsOnlyMeaning};
+    ghost use Rattle.pkcs1_params.specs.Meanings.{IsNoSentence, IsOnlyMeaning};
     ghost use Rattle.pkcs1.specs.Keys as grammar;
-    ghost use Rattle.pkcs1.specs.Refusals.{IsAsn1};
+    ghost use Rattle.pkcs1_params.specs.Refusals.{IsAsn1};
 
     type Error = Error;
 
@@ -134,7 +134,8 @@ impl<'a> TryFrom<&'a [u8]> for RsaPublicKey<UintRef<'a>> {
 
 impl<U: AsUintRef> RsaPublicKey<U> {
     ghost use Rattle.std.specs.Prelude.{◌≡◌, ◌≤◌, length, take, drop, IfOk, IfErr, OnErr};
-    ghost use Rattle.pkcs1.specs.KeyTexts.{IsNotWritten, IsOnlyText};
+    ghost use Rattle.pkcs1.specs.KeyTexts.{IsOnlyText};
+    ghost use Rattle.pkcs1_params.specs.Meanings.{IsNotWritten};
     ghost use Rattle.pkcs1.specs.Keys as grammar;
 
     /// The same, borrowed.

@@ -5,7 +5,7 @@ ghost use Rattle.pkcs1.specs.Asking.{OwnedKeyAsks, OwnedPublicKeyAsks};
 ghost use Rattle.pkcs1.specs.Keys as grammar;
 ghost use Rattle.pkcs1.specs.KeyTexts.{IsSentence, IsUnread};
 
-use crate::error::Result;
+use pkcs1_params::Result;
 use crate::private_key::RsaPrivateKeyOwned;
 use crate::public_key::RsaPublicKeyOwned;
 use crate::traits::{

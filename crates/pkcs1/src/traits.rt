@@ -7,12 +7,13 @@ ghost use Rattle.der_core.specs.UintRefs.{bytes_of};
 ghost use Rattle.der_core.specs.Uints.{own_bytes_of};
 ghost use Rattle.pkcs1.specs.Asking.{OwnedKeyAsks, OwnedPublicKeyAsks};
 ghost use Rattle.pkcs1.specs.Keys as grammar;
-ghost use Rattle.pkcs1.specs.KeyTexts.{IsNotMade, IsOnlyMeaning, IsOnlyText, IsUnread};
+ghost use Rattle.pkcs1.specs.KeyTexts.{IsNotMade, IsOnlyText, IsUnread};
+ghost use Rattle.pkcs1_params.specs.Meanings.{IsOnlyMeaning};
 ghost use Rattle.pkcs1.specs.PrivateKeys.{private_of, ListsNone};
 ghost use Rattle.pkcs1.specs.PublicKeys.{public_of};
-ghost use Rattle.pkcs1.specs.Refusals.{IsAsn1};
+ghost use Rattle.pkcs1_params.specs.Refusals.{IsAsn1};
 
-use crate::error::Result;
+use pkcs1_params::Result;
 use crate::private_key::RsaPrivateKey;
 use crate::public_key::RsaPublicKey;
 use der_core::{AsUintRef, Decode, Document, ErrorKind, SecretDocument, Uint, UintRef};

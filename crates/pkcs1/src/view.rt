@@ -13,12 +13,12 @@ ghost use Rattle.pkcs1.specs.PrivateKeyLaws.{private_means_one, private_of_bytes
 ghost use Rattle.pkcs1.specs.Versions.{number_of};
 ghost use Rattle.pkcs1.specs.PublicKeys.{key_of};
 ghost use Rattle.pkcs1.specs.ViewParts.{parts_of, view_of, viewed_text, listed_others};
-ghost use Rattle.pkcs1.specs.Refusals.{IsAsn1};
+ghost use Rattle.pkcs1_params.specs.Refusals.{IsAsn1};
 ghost use Rattle.der_core.specs.Document.{Means};
 ghost use Rattle.der_core.specs.UintRefs.{bytes_of};
 ghost use Rattle.pkcs1.specs.Writing.{HasPrivateKey, written_private_key};
 
-use crate::error::Error;
+use pkcs1_params::Error;
 use crate::key_numbers::{KeyNumbers, read_key_numbers};
 use crate::other_primes::OtherPrimes;
 use crate::public_key::{RsaPublicKey, RsaPublicKeyRef};

@@ -4,7 +4,7 @@ ghost use Rattle.der_core.specs.Document.{IsDocument};
 ghost use Rattle.der_core.specs.Documents.{secret_text_of};
 ghost use Rattle.der_core.specs.Reading.{Refuses};
 ghost use Rattle.der_core.specs.declared.error.ErrorKind.TheVariants.{OutOfMemory};
-ghost use Rattle.pkcs1.specs.Refusals.{IsAsn1};
+ghost use Rattle.pkcs1_params.specs.Refusals.{IsAsn1};
 
 use crate::checks::equal;
 use der_core::{Error, ErrorKind, SecretDocument, Tag};

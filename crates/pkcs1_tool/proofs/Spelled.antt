@@ -10,7 +10,7 @@ use Rattle.der_core.specs.Document.{Means}
 use Rattle.der_core.specs.ShortestLaws.{means_one}
 use Rattle.der_core.specs.Texts.{IsDelimited}
 use Rattle.spki_core.specs.Explicit.{Field, HaveDefaults}
-use Rattle.pkcs1.specs.Spellings.{AllFit, AreAllSpellings, AreUnder, EachMaskHasOne}
+use Rattle.pkcs1_params.specs.Spellings.{AllFit, AreAllSpellings, AreUnder, EachMaskHasOne}
 use Rattle.pkcs1_tool.specs.Answer.{HasNone, TellsSpellings}
 use Rattle.pkcs1_tool.specs.Told.{field, number_field, spell_answer}
 use Rattle.pkcs1_tool.proofs.Put.{three}

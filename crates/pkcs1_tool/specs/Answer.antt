@@ -3,8 +3,8 @@ use Rattle.std.specs.Prelude.{◌≡◌, ℕ, ◌^◌, ◌⊎◌, List, [], ◌�
 use Rattle.der_core.specs.Document.{Means, IsShortest, MeanTheSame}
 use Rattle.spki_core.specs.Explicit.{Field, HaveDefaults}
 use Rattle.pkcs1.specs.Keys.{RsaPublicKey, PrivateKey, RsaPrivateKey}
-use Rattle.pkcs1.specs.Parameters.{RsaPssParams, pss_fields, RsaOaepParams, oaep_fields}
-use Rattle.pkcs1.specs.Spellings.{AllFit, AreUnder}
+use Rattle.pkcs1_params.specs.Parameters.{RsaPssParams, pss_fields, RsaOaepParams, oaep_fields}
+use Rattle.pkcs1_params.specs.Spellings.{AllFit, AreUnder}
 use Rattle.pkcs8_core.specs.Container.{Info, PrivateKeyInfo}
 use Rattle.pkcs8_core.specs.Rsa.{HoldsRsa}
 use Rattle.pkcs1_tool.specs.Lines.{lines_of}

@@ -1,8 +1,8 @@
 -- Refusals that are no answer.
 use Rattle.std.specs.Prelude.{◌≡◌}
 use Rattle.der_core.specs.declared.error.ErrorKind.TheVariants.{OutOfMemory}
-use Rattle.pkcs1.specs.declared.error.Error.{Error}
-use Rattle.pkcs1.specs.Refusals.{IsAsn1}
+use Rattle.pkcs1_params.specs.declared.error.Error.{Error}
+use Rattle.pkcs1_params.specs.Refusals.{IsAsn1}
 
 -- The kernel found no memory.
 abbrev pub WantsMemory : Error → Type 0

@@ -6,7 +6,7 @@ use Rattle.hex.specs.Hex.{encode_lower}
 use Rattle.spki_core.specs.Any.{TagAndContents}
 use Rattle.spki_core.specs.AlgorithmIdentifier.{Algorithm}
 use Rattle.pkcs1.specs.Keys.{PublicKey, OtherPrime, PrivateKey}
-use Rattle.pkcs1.specs.Parameters.{PssParameters, OaepParameters}
+use Rattle.pkcs1_params.specs.Parameters.{PssParameters, OaepParameters}
 
 -- a label, and bytes in hexadecimal digits
 abbrev pub field : List ℕ → List ℕ → List ℕ

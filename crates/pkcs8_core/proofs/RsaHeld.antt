@@ -5,9 +5,9 @@ use Rattle.der_core.specs.Document.{Means}
 use Rattle.der_core.specs.Reading.{Refuses}
 use Rattle.pkcs1.specs.Asking.{MayAsk}
 use Rattle.pkcs1.specs.Keys.{PrivateKey, RsaPrivateKey}
-use Rattle.pkcs1.specs.Refusals.{IsAsn1}
-use Rattle.pkcs1.specs.declared.error.Error.{Error}
-use Rattle.pkcs1.specs.declared.error.Error.TheVariants as error
+use Rattle.pkcs1_params.specs.Refusals.{IsAsn1}
+use Rattle.pkcs1_params.specs.declared.error.Error.{Error}
+use Rattle.pkcs1_params.specs.declared.error.Error.TheVariants as error
 use Rattle.pkcs8_core.specs.Container.{Info}
 use Rattle.pkcs8_core.specs.Rsa.{HoldsRsa}
 

@@ -6,7 +6,7 @@ use Rattle.der_core.specs.declared.error.ErrorKind.{ErrorKind}
 use Rattle.der_core.specs.declared.error.ErrorKind.TheVariants as kind
 use Rattle.spki_core.specs.Any.{TagAndContents, null_value}
 use Rattle.spki_core.specs.AlgorithmIdentifier.{Algorithm}
-use Rattle.pkcs1.specs.Parameters.{id_rsa_encryption, with_parameters}
+use Rattle.pkcs1_params.specs.Parameters.{id_rsa_encryption, with_parameters}
 use Rattle.pkcs1.specs.Keys.{PrivateKey, RsaPrivateKey}
 use Rattle.pkcs8_core.specs.Container.{Info}
 

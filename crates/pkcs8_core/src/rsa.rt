@@ -5,7 +5,7 @@ ghost use Rattle.spki_core.specs.AlgorithmRefs.{algorithm_of};
 ghost use Rattle.pkcs1.specs.Asking.{MayAsk};
 ghost use Rattle.pkcs1.specs.Keys.{PrivateKey};
 ghost use Rattle.pkcs1.specs.PrivateKeys.{private_key_of};
-ghost use Rattle.pkcs1.specs.Refusals.{IsAsn1};
+ghost use Rattle.pkcs1_params.specs.Refusals.{IsAsn1};
 ghost use Rattle.pkcs1.specs.ViewParts.{view_of, viewed_text};
 ghost use Rattle.pkcs8_core.specs.Held.{info_of};
 ghost use Rattle.pkcs8_core.specs.Rsa.{rsa_encryption, HoldsRsa, NotRsa};

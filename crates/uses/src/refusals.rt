@@ -2,7 +2,7 @@
 ghost use Rattle.std.specs.Prelude.{◌≡◌};
 ghost use Rattle.der_core.specs.Reading.{TellsOfBytes};
 ghost use Rattle.der_core.specs.Refusal.{IsFile};
-ghost use Rattle.pkcs1.specs.Refusals.{IsAsn1};
+ghost use Rattle.pkcs1_params.specs.Refusals.{IsAsn1};
 
 use pkcs1::Error;
 use pkcs1::der::ErrorKind;

@@ -1,7 +1,7 @@
 use Rattle.std.proofs.Common.{inl, refl}
 use Rattle.std.specs.Prelude.{codes}
 use Rattle.std.proofs.lemmas.Result.{on_ok_weaker}
-use Rattle.pkcs1.specs.Spellings.{texts_in}
+use Rattle.pkcs1_params.specs.Spellings.{texts_in}
 use Rattle.pkcs1_tool.proofs.Spelled.{not_all_fit, spellings_told}
 use Rattle.pkcs1_tool.proofs.parameter_answers.answer_spell.Goals as goal
 

@@ -3,7 +3,7 @@ use Rattle.std.specs.Prelude.{IfOk}
 use Rattle.der_core.specs.Document.{Means}
 use Rattle.der_core.specs.Documents.{text_of}
 use Rattle.der_core.specs.declared.document.Document.{Document}
-use Rattle.pkcs1.specs.declared.error.Error.{Error}
+use Rattle.pkcs1_params.specs.declared.error.Error.{Error}
 use Rattle.pkcs1.specs.Keys.{PrivateKey, PublicKey, RsaPrivateKey, RsaPublicKey}
 use Rattle.pkcs1.specs.KeyTexts.{IsOnlyText}
 use Rattle.uses.proofs.bytes.public_half.Goals as goal

@@ -1,9 +1,0 @@
-use Rattle.std.proofs.Common.{arith}
-use Rattle.der_core.specs.InputLaws.{are_bytes}
-use Rattle.pkcs1.proofs.Labels.{label_within}
-use Rattle.pkcs1.proofs.params.oaep.RsaOaepParams+AnyRef.new_with_label.Goals as goal
-
-pub source_of-requires : goal.source_of-requires
-source_of-requires g c =
-    let label = c.args.label.now in
-    label_within g.D.AssociatedOid.contents label (are_bytes label (λ i. omega (arith, c.type_inv.label i))) c.requires

@@ -1,8 +1,0 @@
-use Rattle.pkcs1.specs.HeldParameters.{oaep_held}
-use Rattle.pkcs1.specs.OaepMasks.{oaep_out}
-use Rattle.pkcs1.specs.OaepParams.{oaep_of}
-use Rattle.pkcs1.specs.OaepWriting.{oaep_defaults}
-use Rattle.pkcs1.proofs.params.oaep_spelling.RsaOaepParamsAnyRefDefaultFields.is_held.Goals as goal
-
-pub returns : goal.returns
-returns c = λ mask. oaep_held c.args.self.now (oaep_out (oaep_defaults (oaep_of c.args.self.now)) mask)

@@ -1,6 +1,0 @@
-use Rattle.der_core.specs.ShortestLaws.{means_one}
-use Rattle.pkcs1.specs.ParameterLaws.{pss_delimited}
-use Rattle.pkcs1.proofs.params.pss.RsaPssParamsAnyRefTryFromRefSliceU8.try_from.Goals as goal
-
-pub returns-clause-one : goal.returns-clause-one
-returns-clause-one c other p = means_one pss_delimited other _ _ p.1 c.in_ok-from_der.ensures.1

@@ -1,6 +1,0 @@
-use Rattle.pkcs1.specs.PssWriting.{HasPss, written_pss, pss_defaults}
-use Rattle.pkcs1.proofs.ParameterWrites.{appends_of}
-use Rattle.pkcs1.proofs.params.pss.RsaPssParamsEncodeValue.encode_value.Goals as goal
-
-pub returns-clause-appends : goal.returns-clause-appends
-returns-clause-appends g c = appends_of HasPss written_pss pss_defaults _ _ _ c.defaults.ensures c.as_params_ref-params.ensures c.encode_without.ensures.appends

@@ -1,5 +1,0 @@
-use Rattle.pkcs1.specs.Spellings.{AreUnder, texts_in}
-use Rattle.pkcs1.proofs.params.spelling.texts_under.Given as goal
-
-abbrev pub invariant-loop-mask : goal.invariant-loop-mask
-invariant-loop-mask g l = let t = g.T.DefaultFields in AreUnder (t.fields (t.params l.params)) l.mask (texts_in l.texts)

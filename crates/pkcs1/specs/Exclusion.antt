@@ -1,0 +1,17 @@
+-- No text is one of a key and of parameters.
+use Rattle.der_core.specs.Document.{Excludes}
+use Rattle.pkcs1.specs.Keys.{RsaPublicKey, RsaPrivateKey}
+use Rattle.pkcs1_params.specs.Parameters.{RsaPssParams, pss_fields, RsaOaepParams, oaep_fields}
+use Rattle.pkcs1_params.specs.ParameterLaws.{sequences_exclude}
+
+pub public_pss : Excludes RsaPublicKey RsaPssParams
+public_pss v w text p q = sequences_exclude (pss_fields w) text p q
+
+pub public_oaep : Excludes RsaPublicKey RsaOaepParams
+public_oaep v w text p q = sequences_exclude (oaep_fields w) text p q
+
+pub private_pss : Excludes RsaPrivateKey RsaPssParams
+private_pss v w text p q = sequences_exclude (pss_fields w) text p q
+
+pub private_oaep : Excludes RsaPrivateKey RsaOaepParams
+private_oaep v w text p q = sequences_exclude (oaep_fields w) text p q

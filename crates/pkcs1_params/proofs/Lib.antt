@@ -1,0 +1,11 @@
+pub mod ParameterRows
+pub mod ParameterSpellings
+pub mod Masks
+pub mod Counting
+pub mod ParameterWrites
+pub mod Trailers
+pub mod DigestReads
+pub mod PssReads
+pub mod StrictParameters
+pub mod OaepReads
+pub mod Labels

@@ -1,0 +1,99 @@
+-- Spellings under masks: what writing tells of them.
+use Rattle.std.proofs.Common.{ℕ, suc, List, [], ◌∷◌, ◌++◌, ◌≡◌, ◌<◌, ◌^◌, ◌⊎◌, inl, inr, length, length-append, map, ◌+◌, ap, ◌∙◌, arith}
+use Rattle.std.specs.Global.{Vec}
+use Rattle.std.proofs.lemmas.Bool.{cases_lt}
+use Rattle.std.proofs.lemmas.List.{map-append}
+use Rattle.std.proofs.lemmas.Nat.{pow_pos}
+use Rattle.std.proofs.Math.ListN.{get_or-append}
+use Rattle.std.proofs.Math.Seq.{get_or-append_seam}
+use Rattle.der_core.specs.Document.{IsRefused, Fault, no_text, too_long, no_room, another}
+use Rattle.der_core.specs.Tlv.{Tlv}
+use Rattle.der_core.specs.declared.error.ErrorKind.{ErrorKind}
+use Rattle.der_core.specs.declared.error.ErrorKind.TheVariants.{OutOfMemory, Overflow}
+use Rattle.der_core.specs.TextLaws.{tlv_made}
+use Rattle.spki_core.specs.Explicit.{Field, HaveDefaults, MaskedContents, Masked}
+use Rattle.spki_core.proofs.Fields.{AreInOrder, defaults_same}
+use Rattle.spki_core.proofs.Spellings.{one_mask, masked_fits, last_is_all, all_is_last, members_under, zero_shortest}
+use Rattle.pkcs1_params.specs.MaskedValues.{MaskedValue, MaskedValueContents, InRange}
+use Rattle.pkcs1_params.specs.Spellings.{IsMask, AllFit, IsSpelling, HasNoSpelling, StandsUnder, WhyUnspelled, AreUnder, AreMasks, AreAllSpellings, texts_in}
+use Rattle.pkcs1_params.proofs.ParameterSpellings.{each_has_one_mask}
+
+module _ {V : Type 0} (fields : V → List Field) (v : V) (mask : ℕ) where
+  pub stands_under : ((w : V) → AreInOrder (fields w)) → (text : List ℕ) → IsSpelling (fields v) mask text → StandsUnder fields v mask text
+  stands_under ordered text p = record {
+    spelling = p;
+    no_other = λ other q. one_mask (fields v) other mask text (ordered v) q.1 p.1;
+    each_once = each_has_one_mask fields ordered v;
+  }
+
+  -- A refusal of a value that has a text under the mask.
+  pub unspelled_as : (has : Type 0) (room : ℕ) → (text : List ℕ) × Masked (fields v) mask text → (k : Fault)
+      → IsRefused has (λ (w : MaskedValue V). Tlv 48 (MaskedValueContents fields w)) (record { value = v; mask = mask }) room k → WhyUnspelled (fields v) mask room k
+  unspelled_as has room made no_text h = h made.0 made.1
+  unspelled_as has room made too_long h = h.1
+  unspelled_as has room made no_room h = (h.0, h.1.spells, h.2)
+  unspelled_as has room made another h = h
+
+-- The mask is in range by any count of the defaults.
+pub in_range : (fields : List Field) (mask : ℕ) → IsMask fields mask → InRange fields mask
+in_range fields mask m k count = rw (defaults_same fields k m.0 count m.1) m.2
+
+-- Contents that are not too long have a text.
+pub text_under : (fields : List Field) (mask : ℕ) (contents : List ℕ) → MaskedContents fields mask contents → length contents < 2 ^ 64 → (text : List ℕ) × Masked fields mask text
+text_under fields mask contents p few = let made = tlv_made 48 (MaskedContents fields mask) contents p (omega (arith, few)) in (made.0, made.1)
+
+-- Where every spelling is within the limit, there is one under each mask.
+pub spelling_there : (fields : List Field) (n mask : ℕ) → AreMasks fields n → mask < n → (text : List ℕ) × IsSpelling fields mask text
+spelling_there fields n mask masks below =
+    let e = masks.2 in
+    let all = masks.3 in
+    let r = masked_fits fields masks.0 mask all.0 masks.1 (rw e at below) all.1 all.2 in
+    (r.0, (r.1.1, r.1.0))
+
+pub mask_in_range : (fields : List Field) (n mask : ℕ) → AreMasks fields n → mask < n → InRange fields mask
+mask_in_range fields n mask masks below = let e = masks.2 in in_range fields mask (masks.0, masks.1, rw e at below)
+
+-- So no refusal but want of memory is left.
+pub memory_alone : (fields : List Field) (n mask : ℕ) {kind : ErrorKind} → AreMasks fields n → mask < n → (kind ≡ OutOfMemory) ⊎ ((kind ≡ Overflow) × HasNoSpelling fields mask) → kind ≡ OutOfMemory
+memory_alone fields n mask masks below (inl e) = e
+memory_alone fields n mask masks below (inr h) = let s = spelling_there fields n mask masks below in absurd (h.1 s.0 s.1)
+
+-- One more text.
+module _ (fields : List Field) (n : ℕ) where
+  under_next : (texts : List (List ℕ)) (text : List ℕ) → AreUnder fields n texts → IsSpelling fields n text → AreUnder fields (n + 1) (texts ++ text ∷ [])
+  under_next texts text under p = (
+    omega (arith, length-append texts (text ∷ []), under.0),
+    λ mask below. elim (cases_lt mask n) [
+      | inl earlier ↦ rw (get_or-append texts (text ∷ []) [] mask (omega (arith, earlier, under.0))) (under.1 mask earlier)
+      | inr later ↦
+          let last : mask ≡ length texts = omega (arith, below, later, under.0) in
+          rw (last, get_or-append_seam texts text [] [], under.0) p
+    ],
+  )
+
+  pub under_more : (texts new : Vec (Vec ℕ)) (text : Vec ℕ) → new.items ≡ texts.items ++ text ∷ [] → AreUnder fields n (texts_in texts) → IsSpelling fields n text.items → AreUnder fields (n + 1) (texts_in new)
+  under_more texts new text e under p =
+      let all : texts_in new ≡ texts_in texts ++ text.items ∷ [] = ap (map (λ (t : Vec ℕ). t.items)) e ∙ map-append (λ (t : Vec ℕ). t.items) texts.items (text ∷ []) in
+      rw all (under_next (texts_in texts) text.items under p)
+
+-- The last mask writes every field.
+module _ (fields : List Field) (k m : ℕ) (count : HaveDefaults fields k) (last : suc m ≡ 2 ^ k) where
+  pub all_fit : (text : List ℕ) → IsSpelling fields m text → AllFit fields
+  all_fit text p = (text, last_is_all fields k m text count last p.1, p.0)
+
+  pub none_fit : HasNoSpelling fields m → AllFit fields → ⊥
+  none_fit none fit = none fit.0 (fit.2, all_is_last fields k m fit.0 count last fit.1)
+
+-- The texts under all masks are all spellings.
+pub are_all : {V : Type 0} (fields : V → List Field) → ((v : V) → AreInOrder (fields v)) → (v : V) (n : ℕ) (texts : List (List ℕ)) → AreMasks (fields v) n → AreUnder (fields v) n texts → AreAllSpellings fields v texts
+are_all fields ordered v n texts masks under =
+    let k = masks.0 in
+    let e = masks.2 in
+    let first = under.1 0 (omega (arith, e, pow_pos k)) in
+    record {
+      members = λ j count.
+          let same : j ≡ k = defaults_same (fields v) j k count masks.1 in
+          rw same (members_under fields ordered v k texts masks.1 (under.0 ∙ e) (λ m below. let p = under.1 m (omega (arith, e, below)) in (p.1, p.0)));
+      under = λ mask below. under.1 mask (omega (arith, below, under.0));
+      shortest = zero_shortest fields ordered v k _ masks.1 first.1 first.0;
+    }

@@ -1,0 +1,10 @@
+use Rattle.std.proofs.Common.{OnOk, IfErr, subst}
+use Rattle.pkcs1_params.specs.Parameters.{oaep_fields}
+use Rattle.pkcs1_params.specs.Spellings.{AllFit, LacksSpellings}
+use Rattle.pkcs1_params.proofs.oaep.RsaOaepParams.spellings.Goals as goal
+
+pub returns-clause-fit : goal.returns-clause-fit
+returns-clause-fit g c = subst (λ p. OnOk c.all_spellings.result (AllFit (oaep_fields p))) c.as_params_ref.ensures c.all_spellings.ensures.fit
+
+pub returns-clause-err : goal.returns-clause-err
+returns-clause-err g c = subst (λ p. IfErr c.all_spellings.result (LacksSpellings (oaep_fields p))) c.as_params_ref.ensures c.all_spellings.ensures.err

@@ -1,0 +1,75 @@
+-- hashAlgorithm and maskGenAlgorithm: each text means one value and is bytes, and what is written is the shortest text.
+use Rattle.std.proofs.Common.{ℕ, List, [], ◌∷◌, ◌++◌, ◌≡◌, ◌<◌, ◌≤◌, ◌^◌, map, length, length-append, append_assoc, refl, arith}
+use Rattle.der_core.specs.Texts.{IsOfBytes, Joins}
+use Rattle.der_core.specs.TextLaws.{tlv_of_bytes, tlv_relates, tlv_shortest, then_holds, then_least}
+use Rattle.der_core.specs.Writing.{IsLeast}
+use Rattle.spki_core.specs.Any.{TagAndContents, IsAny, Any, written_any}
+use Rattle.spki_core.specs.AnyLaws.{any_of_bytes, any_relates, any_shortest}
+use Rattle.spki_core.specs.AlgorithmIdentifier.{Algorithm, AlgorithmContents, PlainAlgorithm, MaskAlgorithm, HasPlain, HasMask, written_algorithm, written_plain, written_mask, same_plain, same_mask}
+use Rattle.spki_core.specs.AlgorithmLaws.{plain_delimited, mask_delimited, algorithm_of_bytes, algorithm_relates, algorithm_shortest, same_plain_decides, same_mask_decides}
+use Rattle.spki_core.specs.Explicit.{Field, field, Defaultable}
+use Rattle.spki_core.specs.FieldLaws.{AreLater, AreOfBytes, value_step, field_relates, field_shortest}
+use Rattle.spki_core.specs.FieldWriting.{written_field}
+use Rattle.pkcs1_params.specs.Parameters.{sha1, mgf1_sha1, digest_fields}
+use Rattle.pkcs1_params.specs.DigestWriting.{HasDigest, written_digest}
+
+-- Later than a field is later than an earlier one.
+pub later_still : (m n : ℕ) (fields : List Field) → m ≤ n → AreLater n fields → AreLater m fields
+later_still m n [] le later = tt
+later_still m n (f ∷ fields) le later = (omega (arith, later.0), later_still m n fields le later.1)
+
+pub digest_step : (h h' : Algorithm TagAndContents) (g g' : Algorithm (Algorithm TagAndContents)) (fs gs : List Field) → AreLater 1 fs → AreLater 1 gs → (c : List ℕ)
+    → Joins (map Defaultable (digest_fields h g fs)) c → Joins (map Defaultable (digest_fields h' g' gs)) c
+    → (h ≡ h') × (g ≡ g') × (rest : List ℕ) × Joins (map Defaultable fs) rest × Joins (map Defaultable gs) rest
+digest_step h h' g g' fs gs lf lg c p q =
+    let second : Algorithm (Algorithm TagAndContents) → Field = λ v. field 1 MaskAlgorithm mgf1_sha1 v in
+    let a = value_step 0 PlainAlgorithm plain_delimited sha1 h h' (second g ∷ fs) (second g' ∷ gs) (omega arith, later_still 0 1 fs (omega arith) lf) (omega arith, later_still 0 1 gs (omega arith) lg) c p q in
+    let b = value_step 1 MaskAlgorithm mask_delimited mgf1_sha1 g g' fs gs lf lg a.1 a.2 a.3 in
+    (a.0, b.0, b.1, b.2, b.3)
+
+pub plain_of_bytes : IsOfBytes PlainAlgorithm
+plain_of_bytes = tlv_of_bytes 48 refl (AlgorithmContents Any) (algorithm_of_bytes Any any_of_bytes)
+
+mask_of_bytes : IsOfBytes MaskAlgorithm
+mask_of_bytes = tlv_of_bytes 48 refl (AlgorithmContents PlainAlgorithm) (algorithm_of_bytes PlainAlgorithm plain_of_bytes)
+
+pub digest_of_bytes : (h : Algorithm TagAndContents) (g : Algorithm (Algorithm TagAndContents)) (later : List Field) → AreOfBytes later → AreOfBytes (digest_fields h g later)
+digest_of_bytes h g later all = (omega arith, plain_of_bytes h, (omega arith, mask_of_bytes g, all))
+
+-- What is written of an identifier.
+pub plain_relates : (v : Algorithm TagAndContents) → HasPlain v → length (written_plain v) < 2 ^ 128 → PlainAlgorithm v (written_plain v)
+plain_relates v h fits = tlv_relates 48 (AlgorithmContents Any) (written_algorithm written_any) v (algorithm_relates Any IsAny written_any any_relates v h) fits
+
+pub plain_shortest : (v : Algorithm TagAndContents) (b : List ℕ) → PlainAlgorithm v b → IsLeast (HasPlain v) (written_plain v) b
+plain_shortest = tlv_shortest 48 (AlgorithmContents Any) (written_algorithm written_any) HasPlain (algorithm_shortest Any IsAny written_any any_shortest)
+
+pub mask_relates : (v : Algorithm (Algorithm TagAndContents)) → HasMask v → length (written_mask v) < 2 ^ 128 → MaskAlgorithm v (written_mask v)
+mask_relates v h fits = tlv_relates 48 (AlgorithmContents PlainAlgorithm) (written_algorithm written_plain) v (algorithm_relates PlainAlgorithm HasPlain written_plain plain_relates v h) fits
+
+pub mask_shortest : (v : Algorithm (Algorithm TagAndContents)) (b : List ℕ) → MaskAlgorithm v b → IsLeast (HasMask v) (written_mask v) b
+mask_shortest = tlv_shortest 48 (AlgorithmContents PlainAlgorithm) (written_algorithm written_plain) HasMask (algorithm_shortest PlainAlgorithm HasPlain written_plain plain_shortest)
+
+-- What is written of both fields, and behind them.
+module _ (hash : Algorithm TagAndContents) (mask_gen : Algorithm (Algorithm TagAndContents)) (fields : List Field) (later : List ℕ) where
+  pub digest_relates : HasDigest (same_plain hash sha1) (same_mask mask_gen mgf1_sha1) hash mask_gen
+      → length (written_digest (same_plain hash sha1) (same_mask mask_gen mgf1_sha1) hash mask_gen ++ later) < 2 ^ 128 → Joins (map Defaultable fields) later
+      → Joins (map Defaultable (digest_fields hash mask_gen fields)) (written_digest (same_plain hash sha1) (same_mask mask_gen mgf1_sha1) hash mask_gen ++ later)
+  digest_relates h fits p =
+      let a = written_field (same_plain hash sha1) 0 (written_plain hash) in
+      let b = written_field (same_mask mask_gen mgf1_sha1) 1 (written_mask mask_gen) in
+      let split = append_assoc a b later in
+      let l = length-append (a ++ b) later in
+      let m = length-append a b in
+      rw split
+      (then_holds a (b ++ later) (field_relates 0 PlainAlgorithm sha1 hash (same_plain hash sha1) (written_plain hash) (same_plain_decides hash sha1) (plain_relates hash) h.0 (omega (arith, l, m, fits)))
+      (then_holds b later (field_relates 1 MaskAlgorithm mgf1_sha1 mask_gen (same_mask mask_gen mgf1_sha1) (written_mask mask_gen) (same_mask_decides mask_gen mgf1_sha1) (mask_relates mask_gen) h.1 (omega (arith, l, m, fits))) p))
+
+  pub digest_shortest : {has : Type 0} → ((c : List ℕ) → Joins (map Defaultable fields) c → IsLeast has later c)
+      → (c : List ℕ) → Joins (map Defaultable (digest_fields hash mask_gen fields)) c
+      → IsLeast (HasDigest (same_plain hash sha1) (same_mask mask_gen mgf1_sha1) hash mask_gen × has) (written_digest (same_plain hash sha1) (same_mask mask_gen mgf1_sha1) hash mask_gen ++ later) c
+  digest_shortest least c p =
+      let a = written_field (same_plain hash sha1) 0 (written_plain hash) in
+      let b = written_field (same_mask mask_gen mgf1_sha1) 1 (written_mask mask_gen) in
+      let s = then_least a (b ++ later) (field_shortest 0 PlainAlgorithm HasPlain written_plain sha1 hash (same_plain hash sha1) (same_plain_decides hash sha1) plain_shortest)
+      (then_least b later (field_shortest 1 MaskAlgorithm HasMask written_mask mgf1_sha1 mask_gen (same_mask mask_gen mgf1_sha1) (same_mask_decides mask_gen mgf1_sha1) mask_shortest) least) c p in
+      rw (append_assoc a b later) (((s.0.0, s.0.1.0), s.0.1.1), s.1, s.2)

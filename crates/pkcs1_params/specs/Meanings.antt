@@ -1,0 +1,18 @@
+-- What a text means and no other, and why a value isn't written, as errors of this crate.
+use Rattle.std.specs.Prelude.{ℕ, List, ◌≡◌}
+use Rattle.der_core.specs.Document.{Means, IsRefused, HasText}
+use Rattle.der_core.specs.Writing.{fault}
+use Rattle.pkcs1_params.specs.declared.error.Error.{Error}
+use Rattle.pkcs1_params.specs.Refusals.{IsAsn1}
+
+-- No other value has this text.
+abbrev pub IsOnlyMeaning : {V : Type 0} → (V → List ℕ → Type 0) → List ℕ → V → Type 0
+IsOnlyMeaning {V} Grammar text v = (other : V) → Means Grammar text other → other ≡ v
+
+-- No value has this text.
+abbrev pub IsNoSentence : {V : Type 0} → (V → List ℕ → Type 0) → List ℕ → Type 0
+IsNoSentence {V} Grammar text = (v : V) → Means Grammar text v → ⊥
+
+-- Why a value isn't written to so many bytes: it has no text, none is within the limit, or the shortest has no room.
+abbrev pub IsNotWritten : {V : Type 0} → (V → List ℕ → Type 0) → V → ℕ → Error → Type 0
+IsNotWritten Grammar v room = IsAsn1 (λ e. IsRefused (HasText Grammar v) Grammar v room (fault e.kind))

@@ -1,0 +1,115 @@
+-- The texts of a value whose type is a SEQUENCE of fields with defaults: one for each mask, the shortest under mask 0.
+use Rattle.std.specs.Global.{Vec}
+use Rattle.std.specs.Prelude.{ℕ, List, [], ◌≡◌, ◌<◌, ◌≤◌, ◌^◌, ◌↔◌, ◌⊎◌, length, map, slice_index_or}
+use Rattle.der_core.specs.Length.{limit}
+use Rattle.der_core.specs.Document.{Spellings, IsShortest, Fault, no_text, too_long, no_room, another}
+use Rattle.der_core.specs.declared.error.ErrorKind.{ErrorKind}
+use Rattle.der_core.specs.declared.error.ErrorKind.TheVariants as kind
+use Rattle.der_core.specs.Writing.{fault}
+use Rattle.der_core.specs.Members.{AreTheMembers, HasMembers}
+use Rattle.pkcs1_params.specs.declared.error.Error.{Error}
+use Rattle.pkcs1_params.specs.Refusals.{IsAsn1}
+use Rattle.spki_core.specs.Explicit.{Field, FieldSequence, HaveDefaults, Masked, AllExplicit}
+
+-- The spelling under a mask.
+abbrev pub IsSpelling : List Field → ℕ → List ℕ → Type 0
+IsSpelling fields mask text = (length text ≤ limit) × Masked fields mask text
+
+-- The mask is below two to the number of default fields.
+abbrev pub IsMask : List Field → ℕ → Type 0
+IsMask fields mask = (k : ℕ) × HaveDefaults fields k × (mask < 2 ^ k)
+
+-- The text with every field written is within the limit.
+abbrev pub AllFit : List Field → Type 0
+AllFit fields = (all : List ℕ) × AllExplicit fields all × (length all ≤ limit)
+
+-- The text stands under exactly one mask, and that is below two to the k.
+abbrev pub HasOneMask : List Field → ℕ → List ℕ → Type 0
+HasOneMask fields k text = (mask : ℕ) × (mask < 2 ^ k) × IsSpelling fields mask text × ((other : ℕ) → IsSpelling fields other text → other ≡ mask)
+
+-- Each value has one number of default fields.
+abbrev pub DefaultsAreCounted : {V : Type 0} → (V → List Field) → Type 0
+DefaultsAreCounted {V} fields = (v : V) → (k : ℕ) × HaveDefaults (fields v) k × ((j : ℕ) → HaveDefaults (fields v) j → j ≡ k)
+
+-- Each spelling stands under exactly one mask, and that is below two to the number of default fields.
+abbrev pub EachHasOneMask : {V : Type 0} → (V → List Field) → Type 0
+EachHasOneMask {V} fields = (v : V) (k : ℕ) (text : List ℕ) → HaveDefaults (fields v) k → Spellings (λ w. FieldSequence (fields w)) v text → HasOneMask (fields v) k text
+
+-- Each mask has at most one spelling, and it is a spelling of the value.
+abbrev pub EachMaskHasOne : {V : Type 0} → (V → List Field) → Type 0
+EachMaskHasOne {V} fields =
+    (v : V) (mask : ℕ) (x y : List ℕ) →
+    IsSpelling (fields v) mask x →
+    IsSpelling (fields v) mask y →
+    (x ≡ y) × Spellings (λ w. FieldSequence (fields w)) v x
+
+-- The shortest spelling is the one in which no default field is written.
+abbrev pub ShortestHasNoDefaults : {V : Type 0} → (V → List Field) → Type 0
+ShortestHasNoDefaults {V} fields =
+    (v : V) (k : ℕ) (text : List ℕ) →
+    HaveDefaults (fields v) k →
+    IsSpelling (fields v) 0 text ↔ IsShortest (λ w. FieldSequence (fields w)) v text
+
+-- A value with a spelling has one in which no default field is written.
+abbrev pub AcceptedFits : {V : Type 0} → (V → List Field) → Type 0
+AcceptedFits {V} fields =
+    (v : V) (k : ℕ) (text : List ℕ) →
+    HaveDefaults (fields v) k →
+    Spellings (λ w. FieldSequence (fields w)) v text →
+    (shortest : List ℕ) × IsSpelling (fields v) 0 shortest × (length shortest ≤ length text)
+
+-- Where the text with every field written is within the limit, there are two to the k spellings.
+abbrev pub TwoToTheDefaults : {V : Type 0} → (V → List Field) → Type 0
+TwoToTheDefaults {V} fields =
+    (v : V) (k : ℕ) (all : List ℕ) →
+    HaveDefaults (fields v) k →
+    AllExplicit (fields v) all →
+    length all ≤ limit →
+    (texts : List (List ℕ)) × AreTheMembers (Spellings (λ w. FieldSequence (fields w)) v) (2 ^ k) texts × ((m : ℕ) → m < 2 ^ k → Masked (fields v) m (slice_index_or texts m []))
+
+-- The text is the spelling under this mask and under no other; each spelling of the value stands under exactly one mask.
+pub record StandsUnder {V : Type 0} (fields : V → List Field) (v : V) (mask : ℕ) (text : List ℕ) : Type 0 where
+  pub spelling : IsSpelling (fields v) mask text
+  pub no_other : (other : ℕ) → IsSpelling (fields v) other text → other ≡ mask
+  pub each_once : (k : ℕ) (other : List ℕ) → HaveDefaults (fields v) k → Spellings (λ w. FieldSequence (fields w)) v other → HasOneMask (fields v) k other
+
+abbrev pub HasNoSpelling : List Field → ℕ → Type 0
+HasNoSpelling fields mask = (text : List ℕ) → IsSpelling fields mask text → ⊥
+
+-- Why a spelling isn't written: there is none under the mask, or there is one and it has no room.
+abbrev pub WhyUnspelled : List Field → ℕ → ℕ → Fault → Type 0
+WhyUnspelled fields mask room no_text = ⊥
+WhyUnspelled fields mask room too_long = HasNoSpelling fields mask
+WhyUnspelled fields mask room no_room = (text : List ℕ) × IsSpelling fields mask text × (room < length text)
+WhyUnspelled fields mask room another = ⊥
+
+abbrev pub IsUnspelled : List Field → ℕ → ℕ → Error → Type 0
+IsUnspelled fields mask room = IsAsn1 (λ e. WhyUnspelled fields mask room (fault e.kind))
+
+abbrev pub texts_in : Vec (Vec ℕ) → List (List ℕ)
+texts_in texts = map (λ text. text.items) texts.items
+
+-- Where every spelling is within the limit, there are two to the number of default fields.
+abbrev pub HasTwoToTheDefaults : {V : Type 0} → (V → List Field) → V → Type 0
+HasTwoToTheDefaults fields v = (k : ℕ) → HaveDefaults (fields v) k → AllFit (fields v) → HasMembers (Spellings (λ w. FieldSequence (fields w)) v) (2 ^ k)
+
+-- The first n spellings, each one at its mask.
+abbrev pub AreUnder : List Field → ℕ → List (List ℕ) → Type 0
+AreUnder fields n texts = (length texts ≡ n) × ((mask : ℕ) → mask < n → IsSpelling fields mask (slice_index_or texts mask []))
+
+-- The number of masks of a value of which every spelling is within the limit.
+abbrev pub AreMasks : List Field → ℕ → Type 0
+AreMasks fields n = (k : ℕ) × HaveDefaults fields k × (n ≡ 2 ^ k) × AllFit fields
+
+-- The texts are all spellings of the value, none twice: each one at its mask, and the shortest first.
+pub record AreAllSpellings {V : Type 0} (fields : V → List Field) (v : V) (texts : List (List ℕ)) : Type 0 where
+  pub members : (k : ℕ) → HaveDefaults (fields v) k → AreTheMembers (Spellings (λ w. FieldSequence (fields w)) v) (2 ^ k) texts
+  pub under : (mask : ℕ) → mask < length texts → IsSpelling (fields v) mask (slice_index_or texts mask [])
+  pub shortest : IsShortest (λ w. FieldSequence (fields w)) v (slice_index_or texts 0 [])
+
+-- Why there is no list: memory is wanted for one that fits, or the text with every field written is past the limit.
+abbrev pub WhyNoSpellings : List Field → ErrorKind → Type 0
+WhyNoSpellings fields e = ((e ≡ kind.OutOfMemory) × AllFit fields) ⊎ ((e ≡ kind.Overflow) × (AllFit fields → ⊥))
+
+abbrev pub LacksSpellings : List Field → Error → Type 0
+LacksSpellings fields = IsAsn1 (λ e. WhyNoSpellings fields e.kind)

@@ -1,0 +1,36 @@
+//! What the grammars of parameters promise of themselves: functions that do nothing, each with a law as its contract.
+ghost use Rattle.der_core.specs.Document.{SameByShortest};
+ghost use Rattle.pkcs1_params.specs.Parameters.{pss_fields, oaep_fields};
+ghost use Rattle.pkcs1_params.specs.Parameters as parameters;
+ghost use Rattle.pkcs1_params.specs.Spellings.{
+  DefaultsAreCounted,
+  EachHasOneMask,
+  EachMaskHasOne,
+  ShortestHasNoDefaults,
+  AcceptedFits,
+  TwoToTheDefaults,
+};
+
+/// The texts of PSS parameters within the limit are those under the masks that say which defaults are written,
+/// the shortest under mask 0; two texts mean the same exactly where the shortest texts of what they mean are the same bytes.
+pub fn pss_spellings()
+    ensures defaults { DefaultsAreCounted pss_fields }
+    ensures mask { EachHasOneMask pss_fields }
+    ensures text { EachMaskHasOne pss_fields }
+    ensures shortest { ShortestHasNoDefaults pss_fields }
+    ensures fits { AcceptedFits pss_fields }
+    ensures count { TwoToTheDefaults pss_fields }
+    ensures same { SameByShortest parameters.RsaPssParams }
+{}
+
+/// The texts of OAEP parameters within the limit are those under the masks that say which defaults are written,
+/// the shortest under mask 0; two texts mean the same exactly where the shortest texts of what they mean are the same bytes.
+pub fn oaep_spellings()
+    ensures defaults { DefaultsAreCounted oaep_fields }
+    ensures mask { EachHasOneMask oaep_fields }
+    ensures text { EachMaskHasOne oaep_fields }
+    ensures shortest { ShortestHasNoDefaults oaep_fields }
+    ensures fits { AcceptedFits oaep_fields }
+    ensures count { TwoToTheDefaults oaep_fields }
+    ensures same { SameByShortest parameters.RsaOaepParams }
+{}

@@ -1,0 +1,20 @@
+//! Parameters of RSASSA-PSS and RSAES-OAEP (RFC 8017 A.2.3, A.2.1), and the error of keys and parameters.
+#![tactic(auto)]
+
+mod digest;
+mod error;
+mod laws;
+mod oaep;
+mod oaep_spelling;
+mod pss;
+mod pss_spelling;
+mod spelling;
+mod strict;
+mod trailer_field;
+
+pub use digest::with_null;
+pub use error::{Error, Result};
+pub use laws::{oaep_spellings, pss_spellings};
+pub use oaep::{RsaOaepParams, RsaOaepParamsOwned, RsaOaepParamsRef};
+pub use pss::{RsaPssParams, RsaPssParamsOwned, RsaPssParamsRef};
+pub use trailer_field::TrailerField;

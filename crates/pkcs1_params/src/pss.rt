@@ -1,0 +1,400 @@
+//! Parameters of RSASSA-PSS (RFC 8017 A.2.3).
+ghost use Rattle.std.specs.Prelude.{◌≡◌, ◌≤◌, ◌+◌, ◌++◌, refl, length, OnOk, IfErr};
+ghost use Rattle.der_core.specs.Length.{limit};
+ghost use Rattle.der_core.specs.BackWriters.{free_of, Prepends};
+ghost use Rattle.der_core.specs.Reading.{AsksWithin};
+ghost use Rattle.der_core.specs.Writing.{Counts, Appends};
+ghost use Rattle.spki_core.specs.Any.{null_value};
+ghost use Rattle.spki_core.specs.Explicit.{HaveDefaults};
+ghost use Rattle.pkcs1_params.specs.Parameters.{PssParameters, PssContents, pss_fields, with_parameters, id_mgf1, sha1, mgf1_sha1};
+ghost use Rattle.pkcs1_params.specs.PssWriting.{pss_defaults, HasPss, written_pss};
+ghost use Rattle.pkcs1_params.specs.PssLaws.{pss_means_one, pss_of_bytes, pss_relates, pss_shortest};
+
+use crate::error::{Error, Result};
+use crate::digest::{
+    Digest, Sha1, is_default_hash, is_default_mask_gen, mask_gen_ref, mgf1_with, read_hash,
+    read_mask_gen, with_null,
+};
+use crate::strict::is_written;
+use crate::trailer_field::TrailerField;
+use der_core::{
+    BackWriter, Contents, Decode, DecodeValue, Encode, EncodeValue, EqualByValue, Header, Kinded,
+    Length, Memory, NoMemory, Reader, Sequence, SequenceTag, TagNumber, TryClone, Writer,
+    joined_len,
+};
+use spki_core::{
+    AlgorithmIdentifier, Any, AnyParams, AnyRef, AnyValue, AsAlgorithmIdentifierRef, AssociatedOid,
+    encode_field, field_len, prepend_field, read_field, written_default,
+};
+use std::alloc::Global;
+
+/// Parameters of RSASSA-PSS. A field that has its default is read explicit too, and never written.
+#[derive(Clone, Copy, Debug, PartialEq, Eq, Drop)]
+pub struct RsaPssParams<P> {
+    /// The hash function; SHA-1 with NULL by default.
+    pub hash: AlgorithmIdentifier<P>,
+    /// The mask generation function and the hash function under it; MGF1 with (SHA-1 with NULL) by default.
+    pub mask_gen: AlgorithmIdentifier<AlgorithmIdentifier<P>>,
+    /// The length of the salt in octets, from 0 to 255; 20 by default.
+    pub salt_len: u8,
+    /// What ends an encoded message; `BC` by default.
+    pub trailer_field: TrailerField,
+}
+
+/// Parameters of RSASSA-PSS that borrow the parameters of their identifiers.
+pub type RsaPssParamsRef<'a> = RsaPssParams<AnyRef<'a>>;
+
+/// Parameters of RSASSA-PSS that own the parameters of their identifiers.
+pub type RsaPssParamsOwned = RsaPssParams<Any>;
+
+/// Which fields are left out when parameters are written.
+#[derive(Clone, Copy, Drop)]
+pub(crate) struct PssLeftOut {
+    pub(crate) hash: bool,
+    pub(crate) mask_gen: bool,
+    pub(crate) salt_len: bool,
+    pub(crate) trailer_field: bool,
+}
+
+impl<P: AnyValue> Contents for RsaPssParams<P> {
+    ghost use Rattle.pkcs1_params.specs.PssParams.{pss_with};
+
+    ghost Value = { PssParameters };
+
+    ghost value = { pss_with P.any };
+
+    ghost contents = { PssContents };
+
+    ghost has_contents = { λ p. HasPss (pss_defaults p) p };
+
+    ghost written_contents = { λ p. written_pss (pss_defaults p) p };
+
+    ghost means_one = { pss_means_one };
+
+    ghost contents_of_bytes = { pss_of_bytes };
+}
+
+impl<P> Kinded for RsaPssParams<P> {
+    type Kind = SequenceTag;
+}
+
+impl<'a, P> Sequence<'a> for RsaPssParams<P> {
+    ghost is_sequence = { refl };
+}
+
+impl<'a, M: Memory, P: Decode<&'a [u8], M> + AnyParams<M>> DecodeValue<&'a [u8], M>
+    for RsaPssParams<P> {
+    ghost asks = { AsksWithin P.Decode.asks };
+
+    #[inline(never)]
+    fn decode_value<R: Reader<&'a [u8]>>(
+        memory: M,
+        reader: &mut R,
+        _header: Header,
+    ) -> der_core::Result<RsaPssParams<P>> {
+        let hash = read_hash(memory, reader)?;
+        let mask_gen = read_mask_gen(memory, reader)?;
+        let salt_len = read_field(
+            memory,
+            reader,
+            TagNumber::new(2),
+            RsaPssParamsRef::SALT_LEN_DEFAULT,
+        )?;
+        let trailer_field = read_field(memory, reader, TagNumber::new(3), TrailerField::BC)?;
+        reader.finish()?;
+        Ok(RsaPssParams {
+            hash,
+            mask_gen,
+            salt_len,
+            trailer_field,
+        })
+    }
+}
+
+impl<P: AnyValue> RsaPssParams<P> {
+    ghost use Rattle.std.specs.Prelude.{ℕ, List, drop, take, IfOk, OnErr};
+    ghost use Rattle.der_core.specs.Document.{IsShortest};
+    ghost use Rattle.pkcs1_params.specs.Meanings.{IsNotWritten};
+    ghost use Rattle.spki_core.specs.Explicit.{Masked};
+    ghost use Rattle.pkcs1_params.specs.Parameters as grammar;
+    ghost use Rattle.pkcs1_params.specs.PssParams.{pss_with, pss_of};
+    ghost use Rattle.pkcs1_params.specs.Refusals.{IsAsn1};
+    ghost use Rattle.pkcs1_params.specs.Spellings.{HasTwoToTheDefaults};
+
+    /// The same, borrowed.
+    pub(crate) fn as_params_ref(&self) -> RsaPssParams<AnyRef<'_>>
+        ensures { pss_of result ≡ pss_with P.any self.now }
+    {
+        RsaPssParams {
+            hash: self.hash.as_algo_ref(),
+            mask_gen: mask_gen_ref(&self.mask_gen),
+            salt_len: self.salt_len,
+            trailer_field: self.trailer_field,
+        }
+    }
+
+    /// How many fields equal their defaults.
+    pub fn default_fields(&self) -> u8
+        ensures { HaveDefaults (pss_fields (pss_with P.any self.now)) result }
+    {
+        let defaults = self.as_params_ref().defaults();
+        u8::from(defaults.hash)
+            + u8::from(defaults.mask_gen)
+            + u8::from(defaults.salt_len)
+            + u8::from(defaults.trailer_field)
+    }
+
+    /// Writes the shortest text, in which no default is written, to the front of a slice, and answers its length:
+    /// `encode_into`, with all that is known of it. `NoRoom` where the slice is shorter.
+    pub fn encode_params(&self, out: &mut [u8]) -> Result<usize>
+        ensures shortest { let params = pss_with P.any self.now in
+            IfOk result (λ n. IsShortest grammar.RsaPssParams params (take n out.new)) }
+        ensures no_default { IfOk result (λ n. Masked (pss_fields (pss_with P.any self.now)) 0 (take n out.new)) }
+        ensures rest { IfOk result (λ n. (n ≤ length out.new) × (drop n out.new ≡ drop n out.old)) }
+        ensures one { let params = pss_with P.any self.now in
+            IfOk result (λ n.
+            (other : PssParameters) → grammar.RsaPssParams other (take n out.new) → other ≡ params) }
+        ensures count { OnOk result (HasTwoToTheDefaults pss_fields (pss_with P.any self.now)) }
+        ensures unchanged { OnErr result (out.new ≡ out.old) }
+        ensures err { IfErr result (IsNotWritten grammar.RsaPssParams (pss_with P.any self.now) (length out.old)) }
+    {
+        Ok(self.as_params_ref().encode_into(out)?)
+    }
+}
+
+impl<P: AnyValue> EncodeValue for RsaPssParams<P> {
+    fn value_len(&self) -> der_core::Result<Length> {
+        let params = self.as_params_ref();
+        params.len_without(params.defaults())
+    }
+
+    fn encode_value<W: Writer>(&self, writer: &mut W) -> der_core::Result<()> {
+        let params = self.as_params_ref();
+        params.encode_without(params.defaults(), writer)
+    }
+
+    fn prepend_value(&self, writer: &mut BackWriter<'_>) {
+        let params = self.as_params_ref();
+        params.prepend_without(params.defaults(), writer);
+    }
+
+    ghost contents_relate = { pss_relates };
+
+    ghost contents_shortest = { pss_shortest };
+}
+
+impl RsaPssParams<AnyRef<'_>> {
+    ghost use Rattle.pkcs1_params.specs.PssParams.{pss_of};
+
+    /// Which fields equal their defaults.
+    pub(crate) fn defaults(&self) -> PssLeftOut
+        ensures { result ≡ pss_defaults (pss_of self.now) }
+    {
+        PssLeftOut {
+            hash: is_default_hash(&self.hash),
+            mask_gen: is_default_mask_gen(&self.mask_gen),
+            salt_len: self.salt_len == RsaPssParamsRef::SALT_LEN_DEFAULT,
+            trailer_field: self.trailer_field == TrailerField::BC,
+        }
+    }
+
+    fn digest(&self, left_out: PssLeftOut) -> Digest<'_>
+        ensures hash { result.hash.now ≡ self.now.hash }
+        ensures mask_gen { result.mask_gen.now ≡ self.now.mask_gen }
+        ensures left_out { (result.hash_out ≡ left_out.hash) × (result.mask_out ≡ left_out.mask_gen) }
+    {
+        Digest {
+            hash: &self.hash,
+            hash_out: left_out.hash,
+            mask_gen: &self.mask_gen,
+            mask_out: left_out.mask_gen,
+        }
+    }
+
+    /// How many octets the contents have, without some fields.
+    pub(crate) fn len_without(&self, left_out: PssLeftOut) -> der_core::Result<Length>
+        ensures { Counts (HasPss left_out (pss_of self.now)) (written_pss left_out (pss_of self.now)) result }
+    {
+        joined_len(
+            self.digest(left_out).len(),
+            joined_len(
+                field_len(left_out.salt_len, TagNumber::new(2), &self.salt_len),
+                field_len(
+                    left_out.trailer_field,
+                    TagNumber::new(3),
+                    &self.trailer_field,
+                ),
+            ),
+        )
+    }
+
+    /// Appends the contents, without some fields.
+    pub(crate) fn encode_without<W: Writer>(
+        &self,
+        left_out: PssLeftOut,
+        writer: &mut W,
+    ) -> der_core::Result<()>
+        ensures appends { let params = pss_of self.now in
+            let octets = written_pss left_out params in
+            Appends (HasPss left_out params) octets W.room W.written writer.old writer.new result }
+        ensures kept { W.keeps writer.old writer.new }
+    {
+        self.len_without(left_out)?;
+        self.digest(left_out).encode(writer)?;
+        encode_field(left_out.salt_len, TagNumber::new(2), &self.salt_len, writer)?;
+        encode_field(
+            left_out.trailer_field,
+            TagNumber::new(3),
+            &self.trailer_field,
+            writer,
+        )
+    }
+
+    /// Puts the contents before what is filled, without some fields.
+    pub(crate) fn prepend_without(&self, left_out: PssLeftOut, writer: &mut BackWriter<'_>)
+        requires has { HasPss left_out (pss_of self.now) }
+        requires fits { length (written_pss left_out (pss_of self.now)) ≤ limit }
+        requires room { length (written_pss left_out (pss_of self.now)) ≤ free_of writer.old }
+        ensures { Prepends (written_pss left_out (pss_of self.now)) writer.old writer.new }
+    {
+        prepend_field(
+            left_out.trailer_field,
+            TagNumber::new(3),
+            &self.trailer_field,
+            writer,
+        );
+        prepend_field(left_out.salt_len, TagNumber::new(2), &self.salt_len, writer);
+        self.digest(left_out).prepend(writer);
+    }
+}
+
+impl<'a> RsaPssParams<AnyRef<'a>> {
+    ghost use Rattle.pkcs1_params.specs.PssParams.{pss_of};
+
+    /// The default length of the salt, in octets: that of a hash of SHA-1.
+    pub const SALT_LEN_DEFAULT: u8 = 20;
+
+    /// The hash function D with NULL, MGF1 with the same, a salt of this many octets, and the trailer field.
+    pub fn new<D: AssociatedOid>(salt_len: u8) -> RsaPssParams<AnyRef<'a>>
+        ensures { let hash = with_parameters D.contents null_value in
+            let mask_gen = with_parameters id_mgf1 hash in
+            pss_of result ≡ record { hash = hash; mask_gen = mask_gen; salt_len = salt_len; trailer_field = 1 } }
+    {
+        RsaPssParams {
+            hash: with_null::<D, AnyRef<'a>, NoMemory>(NoMemory),
+            mask_gen: mgf1_with::<D, AnyRef<'a>, NoMemory>(NoMemory),
+            salt_len,
+            trailer_field: TrailerField::BC,
+        }
+    }
+}
+
+impl<'a> RsaPssParams<AnyRef<'a>> {
+    ghost use Rattle.std.specs.Prelude.{ℕ, List, IfOk};
+    ghost use Rattle.der_core.specs.Reading.{TellsOfBytes};
+    ghost use Rattle.der_core.specs.Document.{Means, IsShortest};
+    ghost use Rattle.pkcs1_params.specs.Parameters as grammar;
+    ghost use Rattle.pkcs1_params.specs.PssParams.{pss_of};
+    ghost use Rattle.pkcs1_params.specs.Refusals.{IsAsn1};
+    ghost use Rattle.spki_core.specs.StrictFields.{NamesDefault};
+
+    /// Reads a whole slice as `try_from`, and refuses a text in which a default is written by `Noncanonical` of the tag
+    /// of the first such field: what is read is the shortest text of its value.
+    pub fn from_der_strict(bytes: &'a [u8]) -> Result<RsaPssParams<AnyRef<'a>>>
+        ensures ok { IfOk result (λ params. IsShortest grammar.RsaPssParams (pss_of params) bytes.now) }
+        ensures one { IfOk result (λ params. (other : PssParameters) → Means grammar.RsaPssParams bytes.now other
+            → other ≡ pss_of params) }
+        ensures default { IfErr result (λ e. (params : PssParameters) → Means grammar.RsaPssParams bytes.now params
+            → IsAsn1 (NamesDefault (pss_fields params) bytes.now) e) }
+        ensures err { IfErr result (λ e. (params : PssParameters)
+            → IsShortest grammar.RsaPssParams params bytes.now → ⊥) }
+        ensures asn1 { IfErr result (IsAsn1 (λ e. TellsOfBytes e.kind)) }
+    {
+        let params = RsaPssParams::try_from(bytes)?;
+        let defaults = params.defaults();
+        let defaults = [
+            defaults.hash,
+            defaults.mask_gen,
+            defaults.salt_len,
+            defaults.trailer_field,
+        ];
+        match written_default(bytes, &defaults) {
+            Some(number) => Err(is_written(number)),
+            None => Ok(params),
+        }
+    }
+}
+
+impl<P: AnyValue> EqualByValue for RsaPssParams<P> {
+    ghost use Rattle.spki_core.specs.AnyValues.{holds_decides};
+    ghost use Rattle.pkcs1_params.specs.ParameterEquality.{pss_decides};
+    ghost use Rattle.pkcs1_params.specs.PssParams.{pss_with};
+    ghost use Rattle.pkcs1_params.specs.DigestEquality.{plain_decides, mask_decides};
+
+    ghost decides = { λ a b.
+        pss_decides (pss_with P.any a) (pss_with P.any b)
+        (plain_decides P.any P.eq (holds_decides P.eq P.holds P.decides) a.hash b.hash)
+        (mask_decides P.any P.eq (holds_decides P.eq P.holds P.decides) a.mask_gen b.mask_gen) refl };
+}
+
+impl<P: AnyValue + TryClone> TryClone for RsaPssParams<P> {
+    fn try_clone(&self, alloc: Global) -> der_core::Result<RsaPssParams<P>> {
+        Ok(RsaPssParams {
+            hash: self.hash.try_clone(alloc)?,
+            mask_gen: self.mask_gen.try_clone(alloc)?,
+            salt_len: self.salt_len,
+            trailer_field: self.trailer_field,
+        })
+    }
+}
+
+impl RsaPssParams<Any> {
+    ghost use Rattle.pkcs1_params.specs.PssParams.{pss_with};
+    ghost use Rattle.spki_core.specs.Anys.{any_in};
+
+    /// Every field at its default, without memory.
+    pub fn default_in(alloc: Global) -> RsaPssParams<Any>
+        ensures { pss_with any_in result
+            ≡ record { hash = sha1; mask_gen = mgf1_sha1; salt_len = 20; trailer_field = 1 } }
+    {
+        RsaPssParams {
+            hash: with_null::<Sha1, Any, Global>(alloc),
+            mask_gen: mgf1_with::<Sha1, Any, Global>(alloc),
+            salt_len: RsaPssParamsRef::SALT_LEN_DEFAULT,
+            trailer_field: TrailerField::BC,
+        }
+    }
+}
+
+impl<'a> Default for RsaPssParams<AnyRef<'a>> {
+    ghost use Rattle.pkcs1_params.specs.PssParams.{pss_of};
+
+    /// Every field at its default.
+    fn default() -> RsaPssParams<AnyRef<'a>>
+        ensures { pss_of result ≡ record { hash = sha1; mask_gen = mgf1_sha1; salt_len = 20; trailer_field = 1 } }
+    {
+        RsaPssParams::new::<Sha1>(RsaPssParamsRef::SALT_LEN_DEFAULT)
+    }
+}
+
+impl<'a> TryFrom<&'a [u8]> for RsaPssParams<AnyRef<'a>> {
+    ghost use Rattle.std.specs.Prelude.{ℕ, List, IfOk, OnErr};
+    ghost use Rattle.der_core.specs.Reading.{TellsOfBytes};
+    ghost use Rattle.der_core.specs.Document.{Means};
+    ghost use Rattle.pkcs1_params.specs.Meanings.{IsNoSentence, IsOnlyMeaning};
+    ghost use Rattle.pkcs1_params.specs.Parameters as grammar;
+    ghost use Rattle.pkcs1_params.specs.PssParams.{pss_of};
+    ghost use Rattle.pkcs1_params.specs.Refusals.{IsAsn1};
+
+    type Error = Error;
+
+    /// Reads a whole slice, without memory.
+    fn try_from(bytes: &'a [u8]) -> Result<RsaPssParams<AnyRef<'a>>>
+        ensures ok { IfOk result (λ params. Means grammar.RsaPssParams bytes.now (pss_of params)) }
+        ensures one { IfOk result (λ params. IsOnlyMeaning grammar.RsaPssParams bytes.now (pss_of params)) }
+        ensures err { OnErr result (IsNoSentence grammar.RsaPssParams bytes.now) }
+        ensures asn1 { IfErr result (IsAsn1 (λ e. TellsOfBytes e.kind)) }
+    {
+        Ok(RsaPssParams::from_der(NoMemory, bytes)?)
+    }
+}

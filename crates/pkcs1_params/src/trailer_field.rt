@@ -1,0 +1,89 @@
+//! The trailer field of RSASSA-PSS.
+ghost use Rattle.std.specs.Prelude.{◌≡◌, ℕ, List, ◌∷◌, [], Some, refl};
+ghost use Rattle.der_core.specs.Integer.{integer_contents};
+ghost use Rattle.der_core.specs.IntegerReading.{Answers};
+ghost use Rattle.der_core.specs.Reading.{ReadsContents, HoldsBytes};
+ghost use Rattle.pkcs1_params.specs.Parameters.{TrailerContents};
+ghost use Rattle.pkcs1_params.specs.Trailers.{trailer_at};
+ghost use Rattle.pkcs1_params.specs.TrailerLaws.{trailer_means_one, trailer_of_bytes, trailer_relates, trailer_shortest};
+
+use der_core::{
+    BackWriter, Contents, DecodeValue, EncodeValue, EqualByValue, ErrorKind, Header, IntegerTag,
+    Kinded, Length, Memory, Reader, Result, Tag, Writer,
+};
+
+/// The trailer field: the one that is known (RFC 8017 A.2.3).
+#[derive(Clone, Copy, Debug, PartialEq, Eq, Drop)]
+pub enum TrailerField {
+    /// The octet `bc`.
+    BC = 1,
+}
+
+impl Default for TrailerField {
+    fn default() -> TrailerField {
+        TrailerField::BC
+    }
+}
+
+impl Contents for TrailerField {
+    ghost Value = { ℕ };
+
+    ghost value = { λ _. 1 };
+
+    ghost contents = { TrailerContents };
+
+    ghost has_contents = { λ n. n ≡ 1 };
+
+    ghost written_contents = { λ n. integer_contents (n ∷ []) };
+
+    ghost means_one = { trailer_means_one };
+
+    ghost contents_of_bytes = { trailer_of_bytes };
+}
+
+impl Kinded for TrailerField {
+    type Kind = IntegerTag;
+}
+
+impl EqualByValue for TrailerField {
+    ghost decides = { λ a b. (λ h. refl, λ h. refl) };
+}
+
+impl<'a, M: Memory> DecodeValue<&'a [u8], M> for TrailerField {
+    ghost asks = { λ _. ⊥ };
+
+    fn decode_value<R: Reader<&'a [u8]>>(
+        memory: M,
+        reader: &mut R,
+        header: Header,
+    ) -> Result<TrailerField>
+        requires { HoldsBytes (R.left reader.old) header.length }
+        ensures reads { let before = R.left reader.old in
+            ReadsContents (λ (_ : TrailerField). 1) TrailerContents (λ _. ⊥) result before (R.left reader.new) }
+        ensures exact { (c : List ℕ)
+            → R.left reader.old ≡ Some c → Answers (λ (_ : TrailerField). 1) result (trailer_at c) }
+    {
+        match u8::decode_value(memory, reader, header)? {
+            1 => Ok(TrailerField::BC),
+            _ => Err(reader.error(ErrorKind::Value { tag: Tag::INTEGER })),
+        }
+    }
+}
+
+impl EncodeValue for TrailerField {
+    fn value_len(&self) -> Result<Length> {
+        (*self as u8).value_len()
+    }
+
+    fn encode_value<W: Writer>(&self, writer: &mut W) -> Result<()> {
+        (*self as u8).encode_value(writer)
+    }
+
+    fn prepend_value(&self, writer: &mut BackWriter<'_>) {
+        (*self as u8).prepend_value(writer);
+    }
+
+    ghost contents_relate = { λ n has fits. trailer_relates n has };
+
+    ghost contents_shortest = { trailer_shortest };
+}
