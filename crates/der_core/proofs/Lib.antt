@@ -8,6 +8,7 @@ pub mod IntegerLengths
 pub mod Refusals
 pub mod Lent
 pub mod Known
+pub mod LengthOctets
 pub mod LengthRows
 pub mod IntegerRows
 pub mod SequenceOf

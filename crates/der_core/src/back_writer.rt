@@ -53,11 +53,37 @@ impl<'b> BackWriter<'b> {
     }
 
     /// Puts a header before what is filled.
+    #[tactic(auto, using(crate::proofs::LengthOctets::known_lengths))]
     pub fn prepend_header(&mut self, header: Header)
         requires { 1 + length (length_octets header.length) ≤ free_of self.old }
         ensures { Prepends (header.tag.octet ∷ length_octets header.length) self.old self.new }
     {
-        self.prepend(&header.to_bytes());
+        let tag = header.tag.octet();
+        let number = header.length.to_usize();
+        if number < 0x80 {
+            self.prepend(&[tag, number as u8]);
+        } else if number < 0x100 {
+            self.prepend(&[tag, 0x81, number as u8]);
+        } else if number < 0x1_0000 {
+            self.prepend(&[tag, 0x82, (number / 0x100) as u8, (number % 0x100) as u8]);
+        } else if number < 0x100_0000 {
+            self.prepend(&[
+                tag,
+                0x83,
+                (number / 0x1_0000) as u8,
+                (number / 0x100 % 0x100) as u8,
+                (number % 0x100) as u8,
+            ]);
+        } else {
+            self.prepend(&[
+                tag,
+                0x84,
+                (number / 0x100_0000) as u8,
+                (number / 0x1_0000 % 0x100) as u8,
+                (number / 0x100 % 0x100) as u8,
+                (number % 0x100) as u8,
+            ]);
+        }
     }
 
     /// What is filled: the end of the slice.

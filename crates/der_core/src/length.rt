@@ -11,7 +11,6 @@ ghost use Rattle.der_core.specs.Texts.{Is};
 ghost use Rattle.der_core.specs.Tlv.{Tlv};
 
 use crate::error::{Error, ErrorKind, Result};
-use crate::header::Header;
 use crate::reader::{Reader, read_octet};
 use crate::tag::Tag;
 use arrayvec::ArrayVec;
@@ -148,15 +147,32 @@ impl Length {
     }
 
     /// The length of a text whose contents have this length, or `Overflow` past `MAX`.
-    pub fn for_tlv(self, tag: Tag) -> Result<Length>
+    pub fn for_tlv(self, _tag: Tag) -> Result<Length>
         ensures ok { IfOk result (λ total. (total ≡ tlv_len self) × (total ≤ limit)) }
         ensures err { IfErr result (λ e. (e.kind ≡ ErrorKind.Overflow) × (limit < tlv_len self)) }
         ensures text { (octet : ℕ) (contents text : List ℕ)
             → length contents ≡ self → Tlv octet (Is contents) text → length text ≡ tlv_len self }
     {
-        let header = Header { tag, length: self };
-        let len = header.to_bytes().len() as u32;
-        Length { value: len }.checked_add(self)
+        self.header_len().checked_add(self)
+    }
+
+    /// How many octets the tag and the length octets are.
+    #[tactic(auto, using(crate::proofs::LengthOctets::known_lengths))]
+    fn header_len(self) -> Length
+        ensures { result ≡ 1 + length (length_octets self) }
+    {
+        let value = if self.value < 0x80 {
+            2
+        } else if self.value < 0x100 {
+            3
+        } else if self.value < 0x1_0000 {
+            4
+        } else if self.value < 0x100_0000 {
+            5
+        } else {
+            6
+        };
+        Length { value }
     }
 
     /// The length octets.
@@ -169,6 +185,7 @@ impl Length {
     }
 
     /// The length octets.
+    #[tactic(auto, using(crate::proofs::LengthOctets::known_lengths))]
     fn octets(self) -> ArrayVec<u8, 5>
         ensures written { result.items ≡ length_octets self }
         ensures few { length result.items ≤ 5 }

@@ -31,10 +31,9 @@ pub record DigestRead (hash : Algorithm TagAndContents) (mask_gen : Algorithm (A
   pub hash_read : FieldGives 0 PlainAlgorithm sha1 hash before between
   pub mask_read : FieldGives 1 MaskAlgorithm mgf1_sha1 mask_gen between after
 
-pub digest_read : (n m : ℕ) → n ≡ 0 → m ≡ 1 → (before between after : Input) (first hash : Algorithm TagAndContents) (second mask_gen : Algorithm (Algorithm TagAndContents)) → first ≡ sha1 → second ≡ mgf1_sha1
-    → FieldGives n PlainAlgorithm first hash before between → FieldGives m MaskAlgorithm second mask_gen between after → DigestRead hash mask_gen before after
-digest_read n m zeroth is_first before between after first hash second mask_gen d e h g =
-    record { between = between; hash_read = rw (zeroth, d) at h; mask_read = rw (is_first, e) at g }
+pub both_read : {hash : Algorithm TagAndContents} {mask_gen : Algorithm (Algorithm TagAndContents)} {before between after : Input}
+    → FieldGives 0 PlainAlgorithm sha1 hash before between → FieldGives 1 MaskAlgorithm mgf1_sha1 mask_gen between after → DigestRead hash mask_gen before after
+both_read {hash} {mask_gen} {before} {between} h g = record { between = between; hash_read = h; mask_read = g }
 
 module _ {W : Type 0} (hash : W → Algorithm TagAndContents) (mask_gen : W → Algorithm (Algorithm TagAndContents)) (fields : W → List Field) (later : (w : W) → AreLater 1 (fields w)) (asks : List ℕ → Type 0) where
   abbrev behind_hash : W → List Field
@@ -43,17 +42,16 @@ module _ {W : Type 0} (hash : W → Algorithm TagAndContents) (mask_gen : W → 
   later_than_hash : (w : W) → AreLater 0 (behind_hash w)
   later_than_hash w = (omega arith, later_still 0 1 (fields w) (omega arith) (later w))
 
-  pub hash_fails : (n : ℕ) → n ≡ 0 → (before after : Input) (e : ErrorKind)
-      → FieldFails n PlainAlgorithm (InPlain asks) e before after → ContentsFail (λ w. Joins (map Defaultable (digest_fields (hash w) (mask_gen w) (fields w)))) asks e before after
-  hash_fails n zeroth before after e h =
-      field_fails 0 PlainAlgorithm sha1 hash behind_hash later_than_hash asks (InPlain asks) (plain_asks asks) before after e (rw zeroth at h)
+  pub hash_fails : (before after : Input) (e : ErrorKind)
+      → FieldFails 0 PlainAlgorithm (InPlain asks) e before after → ContentsFail (λ w. Joins (map Defaultable (digest_fields (hash w) (mask_gen w) (fields w)))) asks e before after
+  hash_fails = field_fails 0 PlainAlgorithm sha1 hash behind_hash later_than_hash asks (InPlain asks) (plain_asks asks)
 
-  pub mask_fails : (n m : ℕ) → n ≡ 0 → m ≡ 1 → (before mid after : Input) (e : ErrorKind) (default x : Algorithm TagAndContents) → default ≡ sha1
-      → FieldGives n PlainAlgorithm default x before mid → FieldFails m MaskAlgorithm (InPlain (InPlain asks)) e mid after
+  pub mask_fails : (before mid after : Input) (e : ErrorKind) (x : Algorithm TagAndContents)
+      → FieldGives 0 PlainAlgorithm sha1 x before mid → FieldFails 1 MaskAlgorithm (InPlain (InPlain asks)) e mid after
       → ContentsFail (λ w. Joins (map Defaultable (digest_fields (hash w) (mask_gen w) (fields w)))) asks e before after
-  mask_fails n m zeroth is_first before mid after e default x same h g =
-      fields_fail 0 PlainAlgorithm sha1 hash behind_hash later_than_hash asks plain_delimited before mid after e x (rw (zeroth, same) at h)
-      (field_fails 1 MaskAlgorithm mgf1_sha1 mask_gen fields later asks (InPlain (InPlain asks)) (mask_asks asks) mid after e (rw is_first at g))
+  mask_fails before mid after e x h g =
+      fields_fail 0 PlainAlgorithm sha1 hash behind_hash later_than_hash asks plain_delimited before mid after e x h
+      (field_fails 1 MaskAlgorithm mgf1_sha1 mask_gen fields later asks (InPlain (InPlain asks)) (mask_asks asks) mid after e g)
 
   pub later_fails : (before mid after : Input) (e : ErrorKind) (h : Algorithm TagAndContents) (g : Algorithm (Algorithm TagAndContents))
       → DigestRead h g before mid → ContentsFail (λ w. Joins (map Defaultable (fields w))) asks e mid after

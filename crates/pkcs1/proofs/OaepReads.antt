@@ -21,28 +21,28 @@ later_than_mask : (p : OaepParameters) → AreLater 1 (source p)
 later_than_mask p = (omega arith, tt)
 
 module _ (asks : List ℕ → Type 0) where
-  pub hash_fails : (n : ℕ) → n ≡ 0 → (before after : Input) (e : ErrorKind) → FieldFails n PlainAlgorithm (InPlain asks) e before after → ContentsFail OaepContents asks e before after
+  pub hash_fails : (before after : Input) (e : ErrorKind) → FieldFails 0 PlainAlgorithm (InPlain asks) e before after → ContentsFail OaepContents asks e before after
   hash_fails = digest.hash_fails (λ p. p.hash) (λ p. p.mask_gen) source later_than_mask asks
 
-  pub mask_fails : (n m : ℕ) → n ≡ 0 → m ≡ 1 → (before mid after : Input) (e : ErrorKind) (default x : Algorithm TagAndContents) → default ≡ sha1
-      → FieldGives n PlainAlgorithm default x before mid → FieldFails m MaskAlgorithm (InPlain (InPlain asks)) e mid after → ContentsFail OaepContents asks e before after
+  pub mask_fails : (before mid after : Input) (e : ErrorKind) (x : Algorithm TagAndContents)
+      → FieldGives 0 PlainAlgorithm sha1 x before mid → FieldFails 1 MaskAlgorithm (InPlain (InPlain asks)) e mid after → ContentsFail OaepContents asks e before after
   mask_fails = digest.mask_fails (λ p. p.hash) (λ p. p.mask_gen) source later_than_mask asks
 
-  pub source_fails : (n : ℕ) → n ≡ 2 → (before mid after : Input) (e : ErrorKind) (h : Algorithm TagAndContents) (g : Algorithm (Algorithm TagAndContents))
-      → DigestRead h g before mid → FieldFails n PlainAlgorithm (InPlain asks) e mid after → ContentsFail OaepContents asks e before after
-  source_fails n is before mid after e h g read fails =
+  pub source_fails : (before mid after : Input) (e : ErrorKind) (h : Algorithm TagAndContents) (g : Algorithm (Algorithm TagAndContents))
+      → DigestRead h g before mid → FieldFails 2 PlainAlgorithm (InPlain asks) e mid after → ContentsFail OaepContents asks e before after
+  source_fails before mid after e h g read fails =
       digest.later_fails (λ p. p.hash) (λ p. p.mask_gen) source later_than_mask asks before mid after e h g read
-      (field_fails 2 PlainAlgorithm empty_label (λ p. p.p_source) (λ _. []) (λ _. tt) asks (InPlain asks) (plain_asks asks) mid after e (rw is at fails))
+      (field_fails 2 PlainAlgorithm empty_label (λ p. p.p_source) (λ _. []) (λ _. tt) asks (InPlain asks) (plain_asks asks) mid after e fails)
 
-  pub finish_fails : (n : ℕ) → n ≡ 2 → (before mid last after : Input) (e : ErrorKind) (h : Algorithm TagAndContents) (g : Algorithm (Algorithm TagAndContents)) (default s : Algorithm TagAndContents) → default ≡ empty_label
-      → DigestRead h g before mid → FieldGives n PlainAlgorithm default s mid last → (read_from last end_of ≡ Err e) × (after ≡ None) → ContentsFail OaepContents asks e before after
-  finish_fails n is before mid last after e h g default s same read gives finish =
+  pub finish_fails : (before mid last after : Input) (e : ErrorKind) (h : Algorithm TagAndContents) (g : Algorithm (Algorithm TagAndContents)) (s : Algorithm TagAndContents)
+      → DigestRead h g before mid → FieldGives 2 PlainAlgorithm empty_label s mid last → (read_from last end_of ≡ Err e) × (after ≡ None) → ContentsFail OaepContents asks e before after
+  finish_fails before mid last after e h g s read gives finish =
       digest.later_fails (λ p. p.hash) (λ p. p.mask_gen) source later_than_mask asks before mid after e h g read
-      (fields_fail 2 PlainAlgorithm empty_label (λ p. p.p_source) (λ _. []) (λ _. tt) asks plain_delimited mid last after e s (rw (is, same) at gives) (end_fails OaepParameters asks last after e finish))
+      (fields_fail 2 PlainAlgorithm empty_label (λ p. p.p_source) (λ _. []) (λ _. tt) asks plain_delimited mid last after e s gives (end_fails OaepParameters asks last after e finish))
 
-pub oaep_gives : (n : ℕ) → n ≡ 2 → (before mid last after : Input) (p : OaepParameters) (default : Algorithm TagAndContents) → default ≡ empty_label
-    → DigestRead p.hash p.mask_gen before mid → FieldGives n PlainAlgorithm default p.p_source mid last
+pub oaep_gives : (before mid last after : Input) (p : OaepParameters)
+    → DigestRead p.hash p.mask_gen before mid → FieldGives 2 PlainAlgorithm empty_label p.p_source mid last
     → ((rest : List ℕ) × (read_from last end_of ≡ Ok (tt, rest)) × (after ≡ Some rest)) → ContentsGive (OaepContents p) before after
-oaep_gives n is before mid last after p default same read gives finish =
+oaep_gives before mid last after p read gives finish =
     digest.later_gives (λ p. p.hash) (λ p. p.mask_gen) source later_than_mask (λ _. ⊥) before mid after p read
-    (fields_give 2 PlainAlgorithm empty_label (λ p. p.p_source) (λ _. []) (λ _. tt) (λ _. ⊥) mid last after p (rw (is, same) at gives) (end_gives last after finish))
+    (fields_give 2 PlainAlgorithm empty_label (λ p. p.p_source) (λ _. []) (λ _. tt) (λ _. ⊥) mid last after p gives (end_gives last after finish))

@@ -31,11 +31,11 @@ later_than_mask : (p : PssParameters) → AreLater 1 (salt_and_trailer p)
 later_than_mask p = (omega arith, (omega arith, tt))
 
 module _ (asks : List ℕ → Type 0) where
-  pub hash_fails : (n : ℕ) → n ≡ 0 → (before after : Input) (e : ErrorKind) → FieldFails n PlainAlgorithm (InPlain asks) e before after → ContentsFail PssContents asks e before after
+  pub hash_fails : (before after : Input) (e : ErrorKind) → FieldFails 0 PlainAlgorithm (InPlain asks) e before after → ContentsFail PssContents asks e before after
   hash_fails = digest.hash_fails (λ p. p.hash) (λ p. p.mask_gen) salt_and_trailer later_than_mask asks
 
-  pub mask_fails : (n m : ℕ) → n ≡ 0 → m ≡ 1 → (before mid after : Input) (e : ErrorKind) (default x : Algorithm TagAndContents) → default ≡ sha1
-      → FieldGives n PlainAlgorithm default x before mid → FieldFails m MaskAlgorithm (InPlain (InPlain asks)) e mid after → ContentsFail PssContents asks e before after
+  pub mask_fails : (before mid after : Input) (e : ErrorKind) (x : Algorithm TagAndContents)
+      → FieldGives 0 PlainAlgorithm sha1 x before mid → FieldFails 1 MaskAlgorithm (InPlain (InPlain asks)) e mid after → ContentsFail PssContents asks e before after
   mask_fails = digest.mask_fails (λ p. p.hash) (λ p. p.mask_gen) salt_and_trailer later_than_mask asks
 
   pub salt_fails : (n : ℕ) → n ≡ 2 → (before mid after : Input) (e : ErrorKind) (h : Algorithm TagAndContents) (g : Algorithm (Algorithm TagAndContents))

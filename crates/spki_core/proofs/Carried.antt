@@ -1,8 +1,6 @@
--- Values that are carried to other ones and back, with their texts: what reading a field gives of the one is given of the other.
-use Rattle.std.proofs.Common.{◌≡◌, ℕ, List, refl, sym, ap, ◌∙◌, inl, inr, ⊎_elim, Option, Some, None, Result, Ok, Err}
+-- Values that are carried to other ones and back, with their texts.
+use Rattle.std.proofs.Common.{◌≡◌, ℕ, List, refl, sym, ap, ◌∙◌, Option, Some, None}
 use Rattle.std.specs.Option.{option_map}
-use Rattle.der_core.specs.declared.error.Error.{Error}
-use Rattle.der_core.specs.Input.{Input}
 use Rattle.der_core.specs.Optional.{Optional}
 use Rattle.der_core.specs.Tlv.{Tlv}
 use Rattle.der_core.proofs.Growing.{tlv_recast}
@@ -10,8 +8,6 @@ use Rattle.spki_core.specs.Any.{TagAndContents, Any}
 use Rattle.spki_core.specs.AnyValues.{HoldsAny}
 use Rattle.spki_core.specs.AlgorithmIdentifier.{Algorithm, AlgorithmContents}
 use Rattle.spki_core.specs.AlgorithmRefs.{algorithm_with}
-use Rattle.spki_core.specs.Explicit.{FieldRead, FieldRefused}
-use Rattle.spki_core.specs.FieldReading.{ReadsField}
 
 -- What X means by G is carried to what it means by H.
 pub record Carried {X V W : Type 0} (value : X → V) (G : V → List ℕ → Type 0) (other : X → W) (H : W → List ℕ → Type 0) : Type 0 where
@@ -51,21 +47,10 @@ algorithm_carried {X} {V} {W} {value} {G} {other} {H} k = record {
   text_back = λ a b t. tlv_recast b t (contents_carried H G k.back k.text_back a t.contents t.holds);
 }
 
+pub itself_carried : {X V : Type 0} {value : X → V} {G : V → List ℕ → Type 0} → Carried value G value G
+itself_carried = record { there = λ v. v; back = λ v. v; meant = λ x. refl; text_there = λ v b p. p; text_back = λ v b p. p }
+
 -- Two that mean the same by the one mean the same by the other.
 pub same_carried : {X V W : Type 0} {value : X → V} {G : V → List ℕ → Type 0} {other : X → W} {H : W → List ℕ → Type 0} → Carried value G other H
     → (x y : X) → value x ≡ value y → other x ≡ other y
 same_carried k x y same = k.meant x ∙ ap k.there same ∙ sym (k.meant y)
-
--- Reading a field.
-module _ {X V W : Type 0} {value : X → V} {G : V → List ℕ → Type 0} {other : X → W} {H : W → List ℕ → Type 0} (k : Carried value G other H) where
-  read_carried : (n : ℕ) (default x : X) (bytes rest : List ℕ) → FieldRead n G (value default) bytes (value x) rest → FieldRead n H (other default) bytes (other x) rest
-  read_carried n default x bytes rest (inl (absent, same, left)) = inl (absent, same_carried k x default same, left)
-  read_carried n default x bytes rest (inr (a, b, t, left, e)) = inr (a, b, tlv_recast a t (rw (k.meant x) (k.text_there (value x) t.contents t.holds)), left, e)
-
-  refused_carried : (n : ℕ) (bytes : List ℕ) → FieldRefused n G bytes → FieldRefused n H bytes
-  refused_carried n bytes (next, none) = (next, λ w rest (a, b, t, left, e). none (k.back w) rest (a, b, tlv_recast a t (k.text_back w t.contents t.holds), left, e))
-
-  pub field_carried : (n : ℕ) (default : X) (asks : List ℕ → Type 0) (result : Result X Error) (before after : Input)
-      → ReadsField n value G default asks result before after → ReadsField n other H default asks result before after
-  field_carried n default asks (Ok x) before after (bytes, rest, at, left, read) = (bytes, rest, at, left, read_carried n default x bytes rest read)
-  field_carried n default asks (Err e) before after (failed, why) = (failed, λ bytes is. ⊎_elim inl (λ w. inr (w.0, refused_carried n bytes w.1)) (why bytes is))

@@ -1,32 +1,58 @@
 -- Reading one field, and the fields behind it: each exit of the code is one lemma.
-use Rattle.std.proofs.Common.{◌≡◌, ℕ, ◌+◌, List, [], ◌∷◌, ◌++◌, map, sym, ap, ◌∙◌, append_assoc, inl, inr, ⊎_elim, Some, None}
+use Rattle.std.proofs.Common.{◌≡◌, ℕ, ◌+◌, List, [], ◌∷◌, ◌++◌, map, sym, ap, ◌∙◌, append_assoc, inl, inr, refl, ⊎_elim, true, false, Some, None, Result, Ok, Err}
 use Rattle.std.specs.Prelude.{slice_get}
 use Rattle.der_core.specs.declared.error.ErrorKind.{ErrorKind}
+use Rattle.der_core.specs.declared.error.Error.{Error}
 use Rattle.der_core.specs.declared.error.ErrorKind.TheVariants.{Failed}
 use Rattle.der_core.specs.Input.{Input}
 use Rattle.der_core.specs.Texts.{IsDelimited, Joins}
 use Rattle.der_core.specs.Tlv.{Tlv}
-use Rattle.der_core.specs.Reading.{AskedIn, NoneIn, Refuses, AsksWithin}
+use Rattle.der_core.specs.Reading.{AskedIn, NoneIn, ReadsText, Refuses, AsksWithin}
+use Rattle.der_core.proofs.Growing.{tlv_recast}
 use Rattle.der_core.specs.Sequences.{ContentsFail, ContentsGive, some_same}
 use Rattle.spki_core.specs.Explicit.{Field, field, Defaultable, IsNext, FieldRead, FieldRefused}
 use Rattle.spki_core.specs.FieldLaws.{AreLater}
+use Rattle.spki_core.specs.FieldReading.{TellsNext, ReadsField}
+use Rattle.spki_core.proofs.Carried.{Carried}
 use Rattle.spki_core.proofs.Fields.{refused_step, read_step, read_joins}
 
 is_next : (i : List ℕ) (n : ℕ) → slice_get i 0 ≡ Some (160 + n) → IsNext n i
 is_next [] n e = cc
 is_next (x ∷ xs) n e = (xs, let same : x ≡ 160 + n = cc in ap (λ k. k ∷ xs) same)
 
--- Its octet is next, and no text of it.
-pub field_refused : {V : Type 0} (text : V → List ℕ → Type 0) (asks : List ℕ → Type 0) (n : ℕ) (before after : Input) (e : ErrorKind)
-    → (after ≡ None) × (before ≡ None → e ≡ Failed)
-    × ((i : List ℕ) → before ≡ Some i → (slice_get i 0 ≡ Some (160 + n)) × Refuses e (AskedIn (Tlv (160 + n) asks) i) (NoneIn (λ v. Tlv (160 + n) (text v)) i))
-    → (after ≡ None) × ((bytes : List ℕ) → before ≡ Some bytes → Refuses e (AskedIn (Tlv (160 + n) asks) bytes) (FieldRefused n text bytes))
-field_refused text asks n before after e h = (
-  h.0,
-  λ i is.
-      let w = h.2 i is in
-      ⊎_elim inl (λ q. inr (q.0, (is_next i n w.0, λ v rest p. q.1 v p.0 p.1 p.4 p.2))) w.1,
+-- Its octet isn't next: the default is given.
+pub field_absent : {X V : Type 0} (n : ℕ) (value : X → V) (text : V → List ℕ → Type 0) (asks : List ℕ → Type 0) (default : V) (x : X) (before after : Input)
+    → TellsNext n (Ok false) before after → value x ≡ default → ReadsField n value text default asks (Ok x) before after
+field_absent n value text asks default x before after (i, is, left, told) same =
+    (i, i, is, left, inl ((λ (rest, starts). let no : false ≡ true = told.1 (rw starts refl) in cc), same, refl))
+
+-- Its octet is next: a text was read, or none is there.
+pub field_present : {X V W : Type 0} {value : X → V} {G : V → List ℕ → Type 0} {other : X → W} {H : W → List ℕ → Type 0} → Carried value G other H
+    → (n : ℕ) (asks : List ℕ → Type 0) (default : W) (result : Result X Error) (before mid after : Input)
+    → TellsNext n (Ok true) before mid → ReadsText value (λ v. Tlv (160 + n) (G v)) (Tlv (160 + n) asks) result mid after → ReadsField n other H default asks result before after
+field_present k n asks default (Ok x) before mid after (i, is, at, told) (b, rest, e, left, t) =
+    (i, rest, is, left, inr (b, rest, tlv_recast b t (rw (k.meant x) (k.text_there _ t.contents t.holds)), refl, some_same i (b ++ rest) (sym at ∙ e)))
+field_present k n asks default (Err e) before mid after (i, is, at, told) (failed, _, why) = (
+  failed,
+  λ bytes here.
+      let same : i ≡ bytes = some_same i bytes (sym is ∙ here) in
+      ⊎_elim inl (λ q. inr (q.0, (is_next bytes n (rw same at (told.0 refl)), λ w rest (x, y, t, _, f). q.1 (k.back w) x y f (tlv_recast x t (k.text_back w t.contents t.holds))))) (why bytes (rw same at at)),
 )
+
+-- Its octet is next, and no text is there.
+pub explicit_refused : {V : Type 0} (n : ℕ) (text : V → List ℕ → Type 0) (asks : List ℕ → Type 0) (e : ErrorKind) (before mid after : Input)
+    → TellsNext n (Ok true) before mid → (after ≡ None) × (mid ≡ None → e ≡ Failed) × ((i : List ℕ) → mid ≡ Some i → Refuses e (AskedIn asks i) (NoneIn text i))
+    → (after ≡ None) × (before ≡ None → e ≡ Failed) × ((i : List ℕ) → before ≡ Some i → (slice_get i 0 ≡ Some (160 + n)) × Refuses e (AskedIn asks i) (NoneIn text i))
+explicit_refused n text asks e before mid after (i, is, at, told) (failed, _, why) = (
+  failed,
+  (λ none. let no : ◌≡◌ {A = Input} None (Some i) = sym none ∙ is in cc),
+  λ j here. let same : i ≡ j = some_same i j (sym is ∙ here) in (rw same at (told.0 refl), why j (rw same at at)),
+)
+
+-- The reader had failed.
+pub field_failed : {X V : Type 0} (n : ℕ) (value : X → V) (text : V → List ℕ → Type 0) (asks : List ℕ → Type 0) (default : V) (e : Error) (before after : Input)
+    → TellsNext n (Err e) before after → ReadsField n value text default asks (Err e) before after
+field_failed n value text asks default e before after (none, failed, _) = (failed, λ bytes is. let no : ◌≡◌ {A = Input} None (Some bytes) = sym none ∙ is in cc)
 
 -- What reading a field ensures of a refusal, and of a value.
 abbrev pub FieldFails : {V : Type 0} → ℕ → (V → List ℕ → Type 0) → (List ℕ → Type 0) → ErrorKind → Input → Input → Type 0

@@ -2,6 +2,7 @@
 ghost use Rattle.std.specs.Prelude.{◌≡◌, ◌+◌};
 ghost use Rattle.der_core.specs.Tlv.{Tlv};
 ghost use Rattle.der_core.specs.Reading.{ReadsText, ReadsOptional, AsksWithin};
+ghost use Rattle.spki_core.specs.FieldReading.{TellsNext};
 ghost use Rattle.spki_core.specs.ContextSpecific.{Numbered, ContextSpecific, HasNumbered, written_numbered};
 ghost use Rattle.spki_core.specs.ContextSpecificLaws.{numbered_delimited, numbered_of_bytes, numbered_relates, numbered_shortest};
 
@@ -71,6 +72,14 @@ impl<'b, T: Encode> Encode for ContextSpecificRef<'b, T> {
     ghost text_shortest = { numbered_shortest T.text T.has_text T.written_text T.text_shortest };
 }
 
+/// Whether the octet of a field's tag comes next: `Failed` on a reader that has failed.
+pub fn is_field_next<'a, R: Reader<&'a [u8]>>(reader: &mut R, number: TagNumber) -> Result<bool>
+    ensures { TellsNext number.value result (R.left reader.old) (R.left reader.new) }
+{
+    reader.read_slice(Length::ZERO)?;
+    Ok(reader.peek_octet() == Some(Tag::context(number).octet()))
+}
+
 /// Reads the value of an explicit field exactly where the octet of its tag comes next. The tag wraps exactly one text:
 /// bytes behind that are `TrailingData`. On a reader that has failed the answer is `Failed`.
 pub fn read_context_specific<'a, T: Decode<&'a [u8], M>, M: Memory, R: Reader<&'a [u8]>>(
@@ -82,17 +91,26 @@ pub fn read_context_specific<'a, T: Decode<&'a [u8], M>, M: Memory, R: Reader<&'
         let asks = Tlv tag (AsksWithin T.Decode.asks) in
         ReadsOptional tag T.value (λ v. Tlv tag (T.text v)) asks result (R.left reader.old) (R.left reader.new) }
 {
-    reader.read_slice(Length::ZERO)?;
-    let tag = Tag::context(number);
-    if reader.peek_octet() != Some(tag.octet()) {
+    if !is_field_next(reader, number)? {
         return Ok(None);
     }
-    let value = read_explicit(memory, reader, tag)?;
+    let value = read_explicit(memory, reader, number)?;
     Ok(Some(value))
 }
 
+/// Reads one text inside the tag of a field.
+pub fn read_explicit<'a, T: Decode<&'a [u8], M>, M: Memory, R: Reader<&'a [u8]>>(
+    memory: M,
+    reader: &mut R,
+    number: TagNumber,
+) -> Result<T>
+    ensures { ReadsText T.value (λ v. Tlv (160 + number.value) (T.text v)) (Tlv (160 + number.value) (AsksWithin T.Decode.asks)) result (R.left reader.old) (R.left reader.new) }
+{
+    read_inside(memory, reader, Tag::context(number))
+}
+
 /// Reads one text inside a tag.
-fn read_explicit<'a, T: Decode<&'a [u8], M>, M: Memory, R: Reader<&'a [u8]>>(
+fn read_inside<'a, T: Decode<&'a [u8], M>, M: Memory, R: Reader<&'a [u8]>>(
     memory: M,
     reader: &mut R,
     tag: Tag,

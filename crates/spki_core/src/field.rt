@@ -7,13 +7,13 @@ ghost use Rattle.der_core.specs.Writing.{Counts, Appends};
 ghost use Rattle.spki_core.specs.FieldReading.{ReadsField};
 ghost use Rattle.spki_core.specs.FieldWriting.{HasField, written_field};
 
-use crate::context_specific::{ContextSpecificRef, read_context_specific};
+use crate::context_specific::{ContextSpecificRef, is_field_next, read_explicit};
 use der_core::{
     BackWriter, Decode, Encode, ErrorKind, Length, Memory, Reader, Result, TagNumber, Text, Writer,
 };
 
-/// Reads an explicit field, or takes its default where the octet of its tag isn't next. On a reader that has failed the
-/// answer is `Failed`.
+/// Reads an explicit field, or takes its default where the octet of its tag isn't next. Where a default is dear to make,
+/// ask `is_field_next` first. On a reader that has failed the answer is `Failed`.
 pub fn read_field<'a, T: Decode<&'a [u8], M>, M: Memory, R: Reader<&'a [u8]>>(
     memory: M,
     reader: &mut R,
@@ -21,13 +21,13 @@ pub fn read_field<'a, T: Decode<&'a [u8], M>, M: Memory, R: Reader<&'a [u8]>>(
     default: T,
 ) -> Result<T>
     ensures reads { let asks = AsksWithin T.Decode.asks in
-        ReadsField number.value T.value T.text default asks result (R.left reader.old) (R.left reader.new) }
+        ReadsField number.value T.value T.text (T.value default) asks result (R.left reader.old) (R.left reader.new) }
     ensures failed { R.left reader.old ≡ None → IsErrAnd result (λ e. e.kind ≡ ErrorKind.Failed) }
 {
-    match read_context_specific(memory, reader, number) {
-        Ok(Some(value)) => Ok(value),
-        Ok(None) => Ok(default),
-        Err(e) => Err(e),
+    if is_field_next(reader, number)? {
+        read_explicit(memory, reader, number)
+    } else {
+        Ok(default)
     }
 }
 

@@ -13,7 +13,9 @@ pub use algorithm_identifier::{
     AlgorithmIdentifier, AlgorithmIdentifierRef, AsAlgorithmIdentifierRef,
 };
 pub use any::{AnyParams, AnyRef, AnyValue};
-pub use context_specific::{ContextSpecificRef, read_context_specific};
+pub use context_specific::{
+    ContextSpecificRef, is_field_next, read_context_specific, read_explicit,
+};
 pub use field::{encode_field, field_len, prepend_field, read_field};
 pub use object_identifier::{AssociatedOid, ObjectIdentifier, ObjectIdentifierTag};
 pub use owned_any::Any;

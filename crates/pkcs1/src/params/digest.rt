@@ -13,13 +13,12 @@ ghost use Rattle.pkcs1.specs.Parameters.{id_sha1, id_mgf1, with_parameters, sha1
 ghost use Rattle.pkcs1.specs.DigestWriting.{HasBoth, written_both};
 
 use der_core::{
-    BackWriter, Decode, Length, Memory, NoMemory, Reader, Result, Tag, TagNumber, Writer,
-    joined_len,
+    BackWriter, Decode, Length, Memory, Reader, Result, Tag, TagNumber, Writer, joined_len,
 };
 use spki_core::{
     AlgorithmIdentifier, AlgorithmIdentifierRef, AnyParams, AnyRef, AnyValue,
     AsAlgorithmIdentifierRef, AssociatedOid, ObjectIdentifier, encode_field, field_len,
-    prepend_field, read_field,
+    is_field_next, prepend_field, read_explicit,
 };
 
 /// SHA-1.
@@ -85,14 +84,17 @@ pub(crate) fn mgf1_with<D: AssociatedOid, P: AnyParams<M>, M: Memory>(memory: M)
 pub(crate) fn is_default_hash(hash: &AlgorithmIdentifierRef<'_>) -> bool
     ensures { result ≡ same_plain (algorithm_of hash.now) sha1 }
 {
-    *hash == with_null::<Sha1, AnyRef<'static>, NoMemory>(NoMemory)
+    hash.oid.as_bytes() == Sha1::octets() && hash.parameters == Some(AnyRef::null())
 }
 
 /// Whether the mask generation function is the default, MGF1 with (SHA-1 with NULL).
 pub(crate) fn is_default_mask_gen(mask_gen: &MaskGenRef<'_>) -> bool
     ensures { result ≡ same_mask (mask_of mask_gen.now) mgf1_sha1 }
 {
-    *mask_gen == mgf1_with::<Sha1, AnyRef<'static>, NoMemory>(NoMemory)
+    match &mask_gen.parameters {
+        Some(hash) => mask_gen.oid.as_bytes() == Mgf1::octets() && is_default_hash(hash),
+        None => false,
+    }
 }
 
 /// The same, borrowed.
@@ -108,32 +110,38 @@ pub(crate) fn mask_gen_ref<P: AnyValue>(mask_gen: &MaskGen<P>) -> MaskGenRef<'_>
     }
 }
 
-/// Reads a field that is an identifier.
-pub(crate) fn read_plain<'a, P: Decode<&'a [u8], M> + AnyParams<M>, M: Memory, R: Reader<&'a [u8]>>(
+/// Reads the hash function, SHA-1 with NULL where its field is absent.
+pub(crate) fn read_hash<'a, P: Decode<&'a [u8], M> + AnyParams<M>, M: Memory, R: Reader<&'a [u8]>>(
     memory: M,
     reader: &mut R,
-    number: TagNumber,
-    default: AlgorithmIdentifier<P>,
 ) -> Result<AlgorithmIdentifier<P>>
     ensures { let asks = AsksWithin (Tlv 48 (AsksWithin P.Decode.asks)) in
         let value = algorithm_with P.any in
-        ReadsField number.value value PlainAlgorithm default asks result (R.left reader.old) (R.left reader.new) }
+        ReadsField 0 value PlainAlgorithm sha1 asks result (R.left reader.old) (R.left reader.new) }
 {
-    read_field(memory, reader, number, default)
+    if is_field_next(reader, TagNumber::new(0))? {
+        read_explicit(memory, reader, TagNumber::new(0))
+    } else {
+        Ok(with_null::<Sha1, P, M>(memory))
+    }
 }
 
-/// Reads a field that is a mask generation function.
+/// Reads the mask generation function, MGF1 with (SHA-1 with NULL) where its field is absent.
 pub(crate) fn read_mask_gen<
     'a,
     P: Decode<&'a [u8], M> + AnyParams<M>,
     M: Memory,
     R: Reader<&'a [u8]>,
->(memory: M, reader: &mut R, number: TagNumber, default: MaskGen<P>) -> Result<MaskGen<P>>
+>(memory: M, reader: &mut R) -> Result<MaskGen<P>>
     ensures { let asks = AsksWithin (Tlv 48 (AsksWithin (Tlv 48 (AsksWithin P.Decode.asks)))) in
         let value = algorithm_with (algorithm_with P.any) in
-        ReadsField number.value value MaskAlgorithm default asks result (R.left reader.old) (R.left reader.new) }
+        ReadsField 1 value MaskAlgorithm mgf1_sha1 asks result (R.left reader.old) (R.left reader.new) }
 {
-    read_field(memory, reader, number, default)
+    if is_field_next(reader, TagNumber::new(1))? {
+        read_explicit(memory, reader, TagNumber::new(1))
+    } else {
+        Ok(mgf1_with::<Sha1, P, M>(memory))
+    }
 }
 
 /// Both, borrowed, and which of them are left out when they are written.

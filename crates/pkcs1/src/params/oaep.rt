@@ -1,12 +1,13 @@
 //! Parameters of RSAES-OAEP (RFC 8017 A.2.1).
 ghost use Rattle.std.specs.Prelude.{◌≡◌, ◌≤◌, ◌+◌, ◌++◌, [], ⊤, refl, length, OnOk, IfErr, ℕ, List};
-ghost use Rattle.der_core.specs.Tlv.{tlv};
+ghost use Rattle.der_core.specs.Tlv.{Tlv, tlv};
 ghost use Rattle.pkcs1.specs.OaepParams.{labelled};
 ghost use Rattle.der_core.specs.Length.{limit};
 ghost use Rattle.der_core.specs.BackWriters.{free_of, Prepends};
 ghost use Rattle.der_core.specs.Reading.{AsksWithin};
 ghost use Rattle.der_core.specs.Writing.{Counts, Appends};
-ghost use Rattle.spki_core.specs.AlgorithmIdentifier.{same_plain};
+ghost use Rattle.spki_core.specs.AlgorithmIdentifier.{PlainAlgorithm, same_plain};
+ghost use Rattle.spki_core.specs.FieldReading.{ReadsField};
 ghost use Rattle.spki_core.specs.AlgorithmRefs.{algorithm_with, algorithm_of};
 ghost use Rattle.spki_core.specs.Explicit.{HaveDefaults};
 ghost use Rattle.pkcs1.specs.Parameters.{OaepParameters, OaepContents, oaep_fields, with_parameters, id_p_specified, octets_value, sha1, mgf1_sha1, empty_label};
@@ -16,8 +17,8 @@ ghost use Rattle.pkcs1.specs.OaepLaws.{oaep_means_one, oaep_of_bytes, oaep_relat
 
 use crate::error::{Error, Result};
 use crate::params::digest::{
-    Digest, Sha1, is_default_hash, is_default_mask_gen, mask_gen_ref, mgf1_with, read_mask_gen,
-    read_plain, with_null,
+    Digest, Sha1, is_default_hash, is_default_mask_gen, mask_gen_ref, mgf1_with, read_hash,
+    read_mask_gen, with_null,
 };
 use crate::params::strict::is_written;
 use der_core::{
@@ -28,7 +29,7 @@ use der_core::{
 use spki_core::{
     AlgorithmIdentifier, AlgorithmIdentifierRef, Any, AnyParams, AnyRef, AnyValue,
     AsAlgorithmIdentifierRef, AssociatedOid, ObjectIdentifier, encode_field, field_len,
-    prepend_field, written_default,
+    is_field_next, prepend_field, read_explicit, written_default,
 };
 use std::alloc::Global;
 
@@ -82,11 +83,26 @@ fn empty_source<P: AnyParams<M>, M: Memory>(memory: M) -> AlgorithmIdentifier<P>
     }
 }
 
+/// Reads the source of the label, that of the empty one where its field is absent.
+fn read_source<'a, P: Decode<&'a [u8], M> + AnyParams<M>, M: Memory, R: Reader<&'a [u8]>>(
+    memory: M,
+    reader: &mut R,
+) -> der_core::Result<AlgorithmIdentifier<P>>
+    ensures { ReadsField 2 (algorithm_with P.any) PlainAlgorithm empty_label (AsksWithin (Tlv 48 (AsksWithin P.Decode.asks))) result (R.left reader.old) (R.left reader.new) }
+{
+    if is_field_next(reader, TagNumber::new(2))? {
+        read_explicit(memory, reader, TagNumber::new(2))
+    } else {
+        Ok(empty_source::<P, M>(memory))
+    }
+}
+
 /// Whether the source is the default, that of the empty label.
 fn is_default_source(p_source: &AlgorithmIdentifierRef<'_>) -> bool
     ensures { result ≡ same_plain (algorithm_of p_source.now) empty_label }
 {
-    *p_source == empty_source::<AnyRef<'static>, NoMemory>(NoMemory)
+    let empty = AnyRef::empty(NoMemory, Tag::OCTET_STRING);
+    p_source.oid.as_bytes() == PSpecified::octets() && p_source.parameters == Some(empty)
 }
 
 /// The source of a label.
@@ -133,17 +149,15 @@ impl<'a, M: Memory, P: Decode<&'a [u8], M> + AnyParams<M>> DecodeValue<&'a [u8],
     for RsaOaepParams<P> {
     ghost asks = { AsksWithin P.Decode.asks };
 
+    #[inline(never)]
     fn decode_value<R: Reader<&'a [u8]>>(
         memory: M,
         reader: &mut R,
         _header: Header,
     ) -> der_core::Result<RsaOaepParams<P>> {
-        let default_hash = with_null::<Sha1, P, M>(memory);
-        let hash = read_plain(memory, reader, TagNumber::new(0), default_hash)?;
-        let default_mask_gen = mgf1_with::<Sha1, P, M>(memory);
-        let mask_gen = read_mask_gen(memory, reader, TagNumber::new(1), default_mask_gen)?;
-        let default_source = empty_source::<P, M>(memory);
-        let p_source = read_plain(memory, reader, TagNumber::new(2), default_source)?;
+        let hash = read_hash(memory, reader)?;
+        let mask_gen = read_mask_gen(memory, reader)?;
+        let p_source = read_source(memory, reader)?;
         reader.finish()?;
         Ok(RsaOaepParams {
             hash,

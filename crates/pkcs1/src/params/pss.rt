@@ -12,8 +12,8 @@ ghost use Rattle.pkcs1.specs.PssLaws.{pss_means_one, pss_of_bytes, pss_relates, 
 
 use crate::error::{Error, Result};
 use crate::params::digest::{
-    Digest, Sha1, is_default_hash, is_default_mask_gen, mask_gen_ref, mgf1_with, read_mask_gen,
-    read_plain, with_null,
+    Digest, Sha1, is_default_hash, is_default_mask_gen, mask_gen_ref, mgf1_with, read_hash,
+    read_mask_gen, with_null,
 };
 use crate::params::strict::is_written;
 use crate::params::trailer_field::TrailerField;
@@ -86,15 +86,14 @@ impl<'a, M: Memory, P: Decode<&'a [u8], M> + AnyParams<M>> DecodeValue<&'a [u8],
     for RsaPssParams<P> {
     ghost asks = { AsksWithin P.Decode.asks };
 
+    #[inline(never)]
     fn decode_value<R: Reader<&'a [u8]>>(
         memory: M,
         reader: &mut R,
         _header: Header,
     ) -> der_core::Result<RsaPssParams<P>> {
-        let default_hash = with_null::<Sha1, P, M>(memory);
-        let hash = read_plain(memory, reader, TagNumber::new(0), default_hash)?;
-        let default_mask_gen = mgf1_with::<Sha1, P, M>(memory);
-        let mask_gen = read_mask_gen(memory, reader, TagNumber::new(1), default_mask_gen)?;
+        let hash = read_hash(memory, reader)?;
+        let mask_gen = read_mask_gen(memory, reader)?;
         let salt_len = read_field(
             memory,
             reader,
