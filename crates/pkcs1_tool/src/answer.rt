@@ -1,7 +1,7 @@
 //! The answer of a line.
-ghost use Rattle.std.specs.Prelude.{◌≡◌, ℕ, List, ◌++◌, OnOk};
+ghost use Rattle.std.specs.Prelude.{OnOk};
 ghost use Rattle.pkcs1_tool.specs.Answer.{WordAnswer, PairAnswer};
-ghost use Rattle.pkcs1_tool.specs.Written.{PutsAnswer};
+ghost use Rattle.pkcs1_tool.specs.Written.{Puts, PutsAnswer};
 
 use crate::keys::{answer_p8, answer_priv, answer_pub};
 use crate::parameter_answers::{answer_parameters, answer_same, answer_spell, answer_strict};
@@ -11,7 +11,7 @@ use std::alloc::{AllocError, Global};
 
 // Puts the answer to a word with a text behind `out`.
 fn answer_word(alloc: Global, word: Word, text: &[u8], out: &mut Vec<u8>) -> Result<(), AllocError>
-    ensures { OnOk result ((answer : List ℕ) × WordAnswer word text.now answer × (out.new.items ≡ out.old.items ++ answer)) }
+    ensures { OnOk result (Puts (WordAnswer word text.now) out.old.items out.new.items) }
 {
     match word {
         Word::Pub => answer_pub(alloc, text, out),
@@ -34,7 +34,7 @@ fn answer_pair(
     second: &[u8],
     out: &mut Vec<u8>,
 ) -> Result<(), AllocError>
-    ensures { OnOk result ((answer : List ℕ) × PairAnswer word first.now second.now answer × (out.new.items ≡ out.old.items ++ answer)) }
+    ensures { OnOk result (Puts (PairAnswer word first.now second.now) out.old.items out.new.items) }
 {
     match word {
         PairWord::SamePss => {

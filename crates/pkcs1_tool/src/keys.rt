@@ -9,6 +9,7 @@ ghost use Rattle.pkcs1.specs.PrivateKeys.{other_of};
 ghost use Rattle.pkcs1.specs.ViewParts.{view_of, viewed_text};
 ghost use Rattle.pkcs8_core.specs.Held.{info_of};
 ghost use Rattle.pkcs1_tool.specs.Answer.{HasNone, Tells, RsaPrivateKeyInfo, TellsContainer};
+ghost use Rattle.pkcs1_tool.specs.Written.{Puts};
 ghost use Rattle.pkcs1_tool.specs.Told.{field, pub_answer, version_told, numbers_told, other_told, others_told, key_told, priv_answer, attributes_told, p8_answer};
 
 use crate::digits::put_field;
@@ -39,7 +40,7 @@ fn put_pub(key: &RsaPublicKeyRef<'_>, again: &[u8], out: &mut Vec<u8>) -> Result
 
 /// Puts the answer of `pub` behind `out`.
 pub fn answer_pub(alloc: Global, text: &[u8], out: &mut Vec<u8>) -> Result<(), AllocError>
-    ensures { OnOk result ((answer : List ℕ) × Tells RsaPublicKey pub_answer text.now answer × (out.new.items ≡ out.old.items ++ answer)) }
+    ensures { OnOk result (Puts (Tells RsaPublicKey pub_answer text.now) out.old.items out.new.items) }
 {
     match RsaPublicKeyRef::try_from(text) {
         Ok(key) => {
@@ -124,7 +125,7 @@ fn put_priv(key: &RsaPrivateKeyView<'_>, out: &mut Vec<u8>) -> Result<(), AllocE
 
 /// Puts the answer of `priv` behind `out`. Memory is asked for by `out` alone.
 pub fn answer_priv(text: &[u8], out: &mut Vec<u8>) -> Result<(), AllocError>
-    ensures { OnOk result ((answer : List ℕ) × Tells RsaPrivateKey priv_answer text.now answer × (out.new.items ≡ out.old.items ++ answer)) }
+    ensures { OnOk result (Puts (Tells RsaPrivateKey priv_answer text.now) out.old.items out.new.items) }
 {
     match RsaPrivateKeyView::try_from(text) {
         Ok(key) => put_priv(&key, out),
@@ -134,7 +135,8 @@ pub fn answer_priv(text: &[u8], out: &mut Vec<u8>) -> Result<(), AllocError>
 
 // The container that the text means, and the RSA key in it.
 fn read_container<'a>(text: &'a [u8]) -> Option<(PrivateKeyInfoRef<'a>, RsaPrivateKeyView<'a>)>
-    ensures some { IfSome result (λ p. Means RsaPrivateKeyInfo text.now (record { info = info_of p.0; key = view_of p.1 })) }
+    ensures some { IfSome result (λ p.
+        Means RsaPrivateKeyInfo text.now (record { info = info_of p.0; key = view_of p.1 })) }
     ensures none { IfNone result (HasNone RsaPrivateKeyInfo text.now) }
 {
     let Ok(info) = PrivateKeyInfoRef::try_from(text) else {
@@ -163,7 +165,8 @@ fn put_p8(
     text: &[u8],
     out: &mut Vec<u8>,
 ) -> Result<(), AllocError>
-    ensures { OnOk result (out.new.items ≡ out.old.items ++ p8_answer (view_of key.now) (info_of info.now).attributes text.now) }
+    ensures { let told = p8_answer (view_of key.now) (info_of info.now).attributes text.now in
+        OnOk result (out.new.items ≡ out.old.items ++ told) }
 {
     out.extend_from_slice(b"p8")?;
     put_key(key, out)?;
@@ -173,7 +176,7 @@ fn put_p8(
 
 /// Puts the answer of `p8` behind `out`. Memory is asked for by `out` alone.
 pub fn answer_p8(text: &[u8], out: &mut Vec<u8>) -> Result<(), AllocError>
-    ensures { OnOk result ((answer : List ℕ) × TellsContainer text.now answer × (out.new.items ≡ out.old.items ++ answer)) }
+    ensures { OnOk result (Puts (TellsContainer text.now) out.old.items out.new.items) }
 {
     match read_container(text) {
         Some((info, key)) => put_p8(&info, &key, text, out),

@@ -1,6 +1,7 @@
 //! The answers of lines with parameters.
 ghost use Rattle.std.specs.Prelude.{◌≡◌, ℕ, List, ◌++◌, OnOk, map, codes};
 ghost use Rattle.std.specs.List.{flat_map};
+ghost use Rattle.pkcs1_tool.specs.Written.{Puts};
 ghost use Rattle.pkcs1_tool.specs.Answer.{TellsParameters, TellsSame, TellsSpellings, TellsStrict};
 ghost use Rattle.pkcs1_tool.specs.Told.{field, spell_answer};
 
@@ -16,7 +17,8 @@ pub fn answer_parameters<'a, T: Parameters<'a>>(
     text: &'a [u8],
     out: &mut Vec<u8>,
 ) -> Result<(), AllocError>
-    ensures { OnOk result ((answer : List ℕ) × TellsParameters T.grammar T.fields T.told text.now answer × (out.new.items ≡ out.old.items ++ answer)) }
+    ensures { let answers = TellsParameters T.grammar T.fields T.told text.now in
+        OnOk result (Puts answers out.old.items out.new.items) }
 {
     match T::read(text) {
         Some(params) => {
@@ -40,7 +42,8 @@ fn put_texts(texts: &[Vec<u8>], out: &mut Vec<u8>) -> Result<(), AllocError>
 
 // Puts the word behind `out`, how many texts there are, and each text.
 fn put_spellings(word: &[u8], texts: &[Vec<u8>], out: &mut Vec<u8>) -> Result<(), AllocError>
-    ensures { OnOk result (out.new.items ≡ out.old.items ++ spell_answer word.now (map (λ text. text.items) texts.now)) }
+    ensures { let told = spell_answer word.now (map (λ text. text.items) texts.now) in
+        OnOk result (out.new.items ≡ out.old.items ++ told) }
 {
     out.extend_from_slice(word)?;
     put_number(b" ", texts.len(), out)?;
@@ -54,7 +57,8 @@ pub fn answer_spell<'a, T: Parameters<'a>>(
     text: &'a [u8],
     out: &mut Vec<u8>,
 ) -> Result<(), AllocError>
-    ensures { OnOk result ((answer : List ℕ) × TellsSpellings word.now T.grammar T.fields text.now answer × (out.new.items ≡ out.old.items ++ answer)) }
+    ensures { let answers = TellsSpellings word.now T.grammar T.fields text.now in
+        OnOk result (Puts answers out.old.items out.new.items) }
 {
     let Some(params) = T::read(text) else {
         return put_refused(out);
@@ -71,7 +75,7 @@ pub fn answer_strict<'a, T: Parameters<'a>>(
     text: &'a [u8],
     out: &mut Vec<u8>,
 ) -> Result<(), AllocError>
-    ensures { OnOk result ((answer : List ℕ) × TellsStrict word.now T.grammar text.now answer × (out.new.items ≡ out.old.items ++ answer)) }
+    ensures { OnOk result (Puts (TellsStrict word.now T.grammar text.now) out.old.items out.new.items) }
 {
     match T::read(text) {
         Some(_params) => put_verdict(word, T::is_strict(text), out),
@@ -87,7 +91,8 @@ pub fn answer_same<'a, T: Parameters<'a>>(
     second: &'a [u8],
     out: &mut Vec<u8>,
 ) -> Result<(), AllocError>
-    ensures { OnOk result ((answer : List ℕ) × TellsSame word.now T.grammar first.now second.now answer × (out.new.items ≡ out.old.items ++ answer)) }
+    ensures { let answers = TellsSame word.now T.grammar first.now second.now in
+        OnOk result (Puts answers out.old.items out.new.items) }
 {
     match (T::read(first), T::read(second)) {
         (Some(params), Some(others)) => {

@@ -48,7 +48,9 @@ pub trait Parameters<'a>: Encode + Drop + Sized {
 
     /// All texts, by mask; none where not every text fits.
     fn all_texts(&self, alloc: Global) -> Result<Option<Vec<Vec<u8>>>, AllocError>
-        ensures all { IfOk result (λ found. IfSome found (λ texts. AllFit (fields (meaning self.now)) × AreAllSpellings fields (meaning self.now) (texts_in texts))) }
+        ensures all { let params = meaning self.now in
+            IfOk result (λ found. IfSome found (λ texts.
+            AllFit (fields params) × AreAllSpellings fields params (texts_in texts))) }
         ensures none { IfOk result (λ found. IfNone found (AllFit (fields (meaning self.now)) → ⊥)) };
 
     /// How many fields equal their defaults.
@@ -66,9 +68,11 @@ pub trait Parameters<'a>: Encode + Drop + Sized {
     ghost counted: { (params : Meaning) → (k : ℕ) × HaveDefaults (fields params) k };
 
     /// What is written are the texts of the grammar.
-    ghost means_as: { (params : Self) (text : List ℕ) → Means grammar text (meaning params) → Means Self.text text (Self.value params) };
+    ghost means_as: { (params : Self) (text : List ℕ)
+        → Means grammar text (meaning params) → Means Self.text text (Self.value params) };
 
-    ghost shortest_as: { (params : Self) (text : List ℕ) → IsShortest Self.text (Self.value params) text → IsShortest grammar (meaning params) text };
+    ghost shortest_as: { (params : Self) (text : List ℕ)
+        → IsShortest Self.text (Self.value params) text → IsShortest grammar (meaning params) text };
 }
 
 // Whether the refusal is want of memory.
@@ -159,7 +163,8 @@ fn put_digest(
     mask_gen: &MaskGenRef<'_>,
     out: &mut Vec<u8>,
 ) -> Result<(), AllocError>
-    ensures { OnOk result (out.new.items ≡ out.old.items ++ digest_told (algorithm_of hash.now) (mask_of mask_gen.now)) }
+    ensures { let told = digest_told (algorithm_of hash.now) (mask_of mask_gen.now) in
+        OnOk result (out.new.items ≡ out.old.items ++ told) }
 {
     out.extend_from_slice(b" hash=")?;
     put_plain(hash, out)?;

@@ -113,7 +113,8 @@ fn pair_request_with(
     first: &[u8],
     second: &[u8],
 ) -> Result<Request, AllocError>
-    ensures { IfOk result (λ request. seen request ≡ pair_asked_with (named pair_words word.now) (text_of first.now) (text_of second.now)) }
+    ensures { let asked = pair_asked_with (named pair_words word.now) (text_of first.now) (text_of second.now) in
+        IfOk result (λ request. seen request ≡ asked) }
 {
     let Some(word) = pair_word_of(word) else {
         return Ok(Request::BadLine);

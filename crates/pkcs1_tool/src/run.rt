@@ -71,7 +71,8 @@ fn answer_lines<W: Sink>(alloc: Global, input: &[u8], sink: &mut W) -> Result<()
     ensures read { ¬ IsErrOf result Fault.Read }
     ensures write { IsErrOf result Fault.Write → SomeRefused (W.refusals sink.old) (W.refusals sink.new)
         × WritesFront (W.contents sink.old) (W.contents sink.new) (lines_of input.now) }
-    ensures memory { IsErrOf result Fault.Memory → WritesFirst (W.contents sink.old) (W.contents sink.new) (lines_of input.now) }
+    ensures memory { IsErrOf result Fault.Memory
+        → WritesFirst (W.contents sink.old) (W.contents sink.new) (lines_of input.now) }
     ensures memory_quiet { IsErrOf result Fault.Memory → W.refusals sink.new ≡ W.refusals sink.old }
 {
     let mut answer = Vec::new(alloc);
@@ -96,7 +97,8 @@ fn answer_input<W: Sink>(alloc: Global, input: &[u8], sink: &mut W) -> Result<()
     ensures read { ¬ IsErrOf result Fault.Read }
     ensures write { IsErrOf result Fault.Write → SomeRefused (W.refusals sink.old) (W.refusals sink.new)
         × WritesFront (W.contents sink.old) (W.contents sink.new) (lines_of input.now) }
-    ensures memory { IsErrOf result Fault.Memory → WritesFirst (W.contents sink.old) (W.contents sink.new) (lines_of input.now) }
+    ensures memory { IsErrOf result Fault.Memory
+        → WritesFirst (W.contents sink.old) (W.contents sink.new) (lines_of input.now) }
     ensures memory_quiet { IsErrOf result Fault.Memory → W.refusals sink.new ≡ W.refusals sink.old }
 {
     answer_lines(alloc, input, sink)?;
@@ -108,19 +110,27 @@ fn answer_input<W: Sink>(alloc: Global, input: &[u8], sink: &mut W) -> Result<()
 
 /// Reads the whole input, and answers line by line.
 pub fn run<R: Source, W: Sink>(alloc: Global, source: &mut R, sink: &mut W) -> Result<(), Fault>
-    ensures ok { OnOk result (IfSome (R.remaining source.old) (λ input. Writes (W.contents sink.old) (W.contents sink.new) (lines_of input))) }
-    ensures whole { OnOk result (IfSome (R.remaining source.old) (λ input. GivesAll (R.remaining source.old) (R.remaining source.new) input)) }
-    ensures some { OnOk result ((input : List ℕ) × (length input ≤ LIMIT) × GivesAll (R.remaining source.old) (R.remaining source.new) input
+    ensures ok { let writes = Writes (W.contents sink.old) (W.contents sink.new) in
+        OnOk result (IfSome (R.remaining source.old) (λ input. writes (lines_of input))) }
+    ensures whole { let gives = GivesAll (R.remaining source.old) (R.remaining source.new) in
+        OnOk result (IfSome (R.remaining source.old) (λ input. gives input)) }
+    ensures some { OnOk result ((input : List ℕ) × (length input ≤ LIMIT)
+        × GivesAll (R.remaining source.old) (R.remaining source.new) input
         × Writes (W.contents sink.old) (W.contents sink.new) (lines_of input)) }
     ensures within { OnOk result (IfSome (R.remaining source.old) (λ input. length input ≤ LIMIT)) }
-    ensures quiet { OnOk result ((R.refusals source.new ≡ R.refusals source.old) × (W.refusals sink.new ≡ W.refusals sink.old)) }
+    ensures quiet { OnOk result ((R.refusals source.new ≡ R.refusals source.old)
+        × (W.refusals sink.new ≡ W.refusals sink.old)) }
     ensures read { IsErrOf result Fault.Read → SomeRefused (R.refusals source.old) (R.refusals source.new)
         ⊎ GivesMore LIMIT PIECE (R.remaining source.old) (R.remaining source.new) }
-    ensures untouched { IsErrOf result Fault.Read → Keeps (W.contents sink.old) (W.contents sink.new) × (W.refusals sink.new ≡ W.refusals sink.old) }
+    ensures untouched { IsErrOf result Fault.Read
+        → Keeps (W.contents sink.old) (W.contents sink.new) × (W.refusals sink.new ≡ W.refusals sink.old) }
     ensures write { IsErrOf result Fault.Write → SomeRefused (W.refusals sink.old) (W.refusals sink.new) }
-    ensures front { IsErrOf result Fault.Write → IfSome (R.remaining source.old) (λ input. WritesFront (W.contents sink.old) (W.contents sink.new) (lines_of input)) }
-    ensures front_of_all { IsErrOf result Fault.Write → IfSome (R.remaining source.old) (λ input. WritesFrontOfAll (W.contents sink.old) (W.contents sink.new) (lines_of input)) }
-    ensures memory { IsErrOf result Fault.Memory → IfSome (R.remaining source.old) (λ input. WritesFirst (W.contents sink.old) (W.contents sink.new) (lines_of input)) }
+    ensures front { let writes = WritesFront (W.contents sink.old) (W.contents sink.new) in
+        IsErrOf result Fault.Write → IfSome (R.remaining source.old) (λ input. writes (lines_of input)) }
+    ensures front_of_all { let writes = WritesFrontOfAll (W.contents sink.old) (W.contents sink.new) in
+        IsErrOf result Fault.Write → IfSome (R.remaining source.old) (λ input. writes (lines_of input)) }
+    ensures memory { let writes = WritesFirst (W.contents sink.old) (W.contents sink.new) in
+        IsErrOf result Fault.Memory → IfSome (R.remaining source.old) (λ input. writes (lines_of input)) }
     ensures memory_quiet { IsErrOf result Fault.Memory → (R.refusals source.new ≡ R.refusals source.old)
         × (W.refusals sink.new ≡ W.refusals sink.old) }
     ensures one_answer { (line : List ℕ) → AtMostOne (Answer line) }

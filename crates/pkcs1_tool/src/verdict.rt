@@ -12,7 +12,8 @@ pub fn put_refused(out: &mut Vec<u8>) -> Result<(), AllocError>
 
 /// Puts the word behind `out`, and then ` yes` or ` no`.
 pub fn put_verdict(word: &[u8], holds: bool, out: &mut Vec<u8>) -> Result<(), AllocError>
-    ensures { OnOk result (out.new.items ≡ out.old.items ++ (word.now ++ (if holds then codes " yes" else codes " no"))) }
+    ensures { let told = word.now ++ (if holds then codes " yes" else codes " no") in
+        OnOk result (out.new.items ≡ out.old.items ++ told) }
 {
     out.extend_from_slice(word)?;
     if holds {

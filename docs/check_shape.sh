@@ -1,0 +1,42 @@
+#!/usr/bin/env bash
+# The shape of src/: no line of a clause has more than 120 columns, and no file of code more than 300 lines. Each place
+# that breaks this is named. `long_files` are the exceptions, which only become fewer: one that is short again is named too.
+set -eu
+cd "$(dirname "$0")/.."
+export LC_ALL=C.UTF-8
+long_files="crates/pkcs1/src/params/oaep.rt crates/pkcs1/src/params/pss.rt crates/pkcs1/src/private_key.rt"
+
+find crates -name out -prune -o -path '*/src/*' -name '*.rt' -print | sort | LONG_FILES="$long_files" perl -CSAD -e '
+  use utf8;
+  my %excepted = map { $_ => 1 } split " ", $ENV{LONG_FILES};
+  my $wrong = 0;
+  while (my $file = <STDIN>) {
+    chomp $file;
+    open(my $code, "<", $file) or die "$file: $!";
+    my ($line, $in_clause) = (0, 0);
+    while (my $text = <$code>) {
+      chomp $text;
+      $line++;
+      next if $text =~ m{^\s*//};
+      if ($text =~ /^\s*(?:also_\w+|ensures|requires|invariant|decreases|ghost (?!use\b))/) {
+        $in_clause = 1;
+      } elsif ($text =~ /^\s*(?:\{|pub\b|fn\b|impl\b|ghost use\b|type\b|const\b|$)/) {
+        $in_clause = 0;
+      }
+      if ($in_clause && length($text) > 120) {
+        print "$file:$line: a clause of ", length($text), " columns\n";
+        $wrong = 1;
+      }
+    }
+    if ($line > 300 && !$excepted{$file}) {
+      print "$file: $line lines\n";
+      $wrong = 1;
+    }
+    if ($line <= 300 && $excepted{$file}) {
+      print "$file: $line lines: take it out of long_files\n";
+      $wrong = 1;
+    }
+  }
+  exit $wrong;
+'
+echo "src/: clauses within 120 columns, files within 300 lines"
