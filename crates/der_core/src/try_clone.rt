@@ -1,5 +1,5 @@
 //! Copies of values that own memory.
-ghost use Rattle.std.specs.Prelude.{◌≡◌, IfOk, IfErr};
+ghost use Rattle.std.specs.Prelude.{◌≡◌, length, IfOk, IsOk, IfErr};
 ghost use Rattle.der_core.specs.declared.error.ErrorKind.{ErrorKind};
 
 use crate::error::Result;
@@ -8,14 +8,20 @@ use std::alloc::Global;
 
 /// A type whose values are copied into memory that is asked for.
 pub trait TryClone: Text + Sized + Drop {
-    /// A copy, which means the same.
+    /// The values whose copies ask for no memory.
+    ghost asks_nothing: { Self → Type 0 };
+
+    /// A copy, which means the same. It is never refused where it asks for no memory.
     fn try_clone(&self, alloc: Global) -> Result<Self>
         ensures ok { IfOk result (λ copy. Self.value copy ≡ Self.value self.now) }
-        ensures err { IfErr result (λ e. e.kind ≡ ErrorKind.OutOfMemory) };
+        ensures err { IfErr result (λ e. e.kind ≡ ErrorKind.OutOfMemory) }
+        ensures asks { asks_nothing self.now → IsOk result };
 }
 
 /// An item for each item, in order.
 impl<T: TryClone> TryClone for Vec<T> {
+    ghost asks_nothing = { λ items. length items.items ≡ 0 };
+
     fn try_clone(&self, alloc: Global) -> Result<Vec<T>> {
         let mut copies = Vec::new(alloc);
         for item in self {

@@ -1,7 +1,7 @@
 //! What the grammars of keys and of parameters promise of themselves: functions that do nothing, each with a law as its contract.
 ghost use Rattle.std.specs.Prelude.{ℕ, List};
 ghost use Rattle.pkcs1.specs.Forms.{SameTexts};
-ghost use Rattle.der_core.specs.Texts.{AtMostOne, IsDelimited};
+ghost use Rattle.der_core.specs.Texts.{AtMostOne, IsDelimited, MeansOne};
 ghost use Rattle.der_core.specs.Document.{Excludes, SameByShortest};
 ghost use Rattle.pkcs1.specs.Keys.{PublicKey, PrivateKey};
 ghost use Rattle.pkcs1.specs.Keys as keys;
@@ -19,6 +19,12 @@ pub fn texts_are_delimited()
     ensures private { IsDelimited keys.RsaPrivateKey }
     ensures pss { IsDelimited parameters.RsaPssParams }
     ensures oaep { IsDelimited parameters.RsaOaepParams }
+{}
+
+/// Each text means one value, whatever the type, borrowed or owned: so where `from_der` answers a value of a slice, it is
+/// the one that the slice means.
+pub fn texts_mean_one<T: Text>()
+    ensures one { MeansOne T.text }
 {}
 
 /// A key has at most one text.

@@ -19,7 +19,7 @@ pub use der_core as der;
 pub use der_core::{Uint, UintRef};
 pub use laws::{
     forms_share_the_grammars, keys_have_one_text, same_keys_have_the_same_text, texts_are_delimited,
-    types_exclude_each_other,
+    texts_mean_one, types_exclude_each_other,
 };
 pub use other_prime_info::{OtherPrimeInfo, OtherPrimeInfos};
 pub use other_primes::OtherPrimes;

@@ -1,5 +1,5 @@
 //! Other primes of private keys.
-ghost use Rattle.std.specs.Prelude.{◌≡◌, ◌≤◌, length, List, ℕ, ◌↔◌, IsTrue, IfOk, IfErr, refl};
+ghost use Rattle.std.specs.Prelude.{◌≡◌, ◌≤◌, length, List, ℕ, ◌↔◌, IsTrue, None, IfOk, IsOk, IfErr, refl};
 ghost use Rattle.der_core.specs.Length.{limit};
 ghost use Rattle.der_core.specs.Reading.{ReadsContents, AsksWithin};
 ghost use Rattle.der_core.specs.BackWriters.{free_of, Prepends};
@@ -76,6 +76,8 @@ impl<'a, U> Sequence<'a> for OtherPrimeInfo<U> {
 }
 
 impl<U: TryClone> TryClone for OtherPrimeInfo<U> {
+    ghost asks_nothing = { λ other. U.asks_nothing other.prime × U.asks_nothing other.exponent × U.asks_nothing other.coefficient };
+
     fn try_clone(&self, alloc: Global) -> Result<OtherPrimeInfo<U>> {
         Ok(OtherPrimeInfo {
             prime: self.prime.try_clone(alloc)?,
@@ -206,6 +208,7 @@ pub(crate) fn clone_other_primes<U: TryClone>(
 ) -> Result<Option<OtherPrimeInfos<U>>>
     ensures ok { IfOk result (λ copies. others_of U.value copies ≡ others_of U.value others.now) }
     ensures err { IfErr result (λ e. e.kind ≡ ErrorKind.OutOfMemory) }
+    ensures asks { others.now ≡ None → IsOk result }
 {
     match others {
         Some(others) => Ok(Some(others.try_clone(alloc)?)),

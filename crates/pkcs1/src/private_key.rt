@@ -245,6 +245,13 @@ impl<U: Encode> RsaPrivateKey<U> {
 }
 
 impl<U: TryClone> TryClone for RsaPrivateKey<U> {
+    ghost use Rattle.std.specs.Prelude.{None};
+
+    ghost asks_nothing = { λ key. U.asks_nothing key.modulus × U.asks_nothing key.public_exponent
+        × U.asks_nothing key.private_exponent × U.asks_nothing key.prime1 × U.asks_nothing key.prime2
+        × U.asks_nothing key.exponent1 × U.asks_nothing key.exponent2 × U.asks_nothing key.coefficient
+        × (key.other_prime_infos ≡ None) };
+
     fn try_clone(&self, alloc: Global) -> Result<RsaPrivateKey<U>> {
         Ok(RsaPrivateKey {
             modulus: self.modulus.try_clone(alloc)?,

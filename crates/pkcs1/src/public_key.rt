@@ -103,6 +103,8 @@ impl<U: EqualByValue> EqualByValue for RsaPublicKey<U> {
 }
 
 impl<U: TryClone> TryClone for RsaPublicKey<U> {
+    ghost asks_nothing = { λ key. U.asks_nothing key.modulus × U.asks_nothing key.public_exponent };
+
     fn try_clone(&self, alloc: Global) -> der_core::Result<RsaPublicKey<U>> {
         Ok(RsaPublicKey {
             modulus: self.modulus.try_clone(alloc)?,

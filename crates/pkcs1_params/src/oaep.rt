@@ -381,6 +381,12 @@ impl<P: AnyValue> EqualByValue for RsaOaepParams<P> {
 }
 
 impl<P: AnyValue + TryClone> TryClone for RsaOaepParams<P> {
+    ghost use Rattle.std.specs.Prelude.{IfSome};
+
+    ghost asks_nothing = { λ p. IfSome p.hash.parameters P.asks_nothing
+        × IfSome p.mask_gen.parameters (λ digest. IfSome digest.parameters P.asks_nothing)
+        × IfSome p.p_source.parameters P.asks_nothing };
+
     fn try_clone(&self, alloc: Global) -> der_core::Result<RsaOaepParams<P>> {
         Ok(RsaOaepParams {
             hash: self.hash.try_clone(alloc)?,

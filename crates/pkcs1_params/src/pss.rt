@@ -338,6 +338,11 @@ impl<P: AnyValue> EqualByValue for RsaPssParams<P> {
 }
 
 impl<P: AnyValue + TryClone> TryClone for RsaPssParams<P> {
+    ghost use Rattle.std.specs.Prelude.{IfSome};
+
+    ghost asks_nothing = { λ p. IfSome p.hash.parameters P.asks_nothing
+        × IfSome p.mask_gen.parameters (λ digest. IfSome digest.parameters P.asks_nothing) };
+
     fn try_clone(&self, alloc: Global) -> der_core::Result<RsaPssParams<P>> {
         Ok(RsaPssParams {
             hash: self.hash.try_clone(alloc)?,

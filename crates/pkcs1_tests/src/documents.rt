@@ -2,9 +2,11 @@
 ghost use Rattle.std.specs.Prelude.{Some};
 
 use crate::checks::equal;
-use der_core::{Document, Error, ErrorKind, Result, SecretDocument, Sink, Source, ToWrite};
+use der_core::{
+    Document, Error, ErrorKind, FromRead, Result, SecretDocument, Sink, Source, ToWrite,
+};
 use std::alloc::Global;
-use std::io::Write;
+use std::io::{Read, Write};
 use std::path::Path;
 use std::test::Fail;
 use std::{fs, io};
@@ -115,6 +117,61 @@ impl Write for Full {
     }
 }
 
+/// Refuses its first call, and gives its bytes from then on.
+#[derive(Drop)]
+struct RefusingOnce<'a> {
+    left: &'a [u8],
+    calls: u64,
+}
+
+impl Read for RefusingOnce<'_> {
+    fn read(&mut self, buf: &mut [u8]) -> io::Result<usize> {
+        self.calls = self.calls.saturating_add(1);
+        if self.calls == 1 {
+            return Err(io::Error::from(io::ErrorKind::Other));
+        }
+        self.left.read(buf)
+    }
+}
+
+/// Refuses the call of number `refused`, from 1 on, whether it is told to write or to flush; in each other call it takes
+/// every byte.
+#[derive(Drop)]
+struct Refusing {
+    taken: Vec<u8>,
+    refused: u64,
+    calls: u64,
+}
+
+impl Refusing {
+    fn call(&mut self, bytes: &[u8]) -> io::Result<()> {
+        self.calls = self.calls.saturating_add(1);
+        if self.calls == self.refused || self.taken.extend_from_slice(bytes).is_err() {
+            return Err(io::Error::from(io::ErrorKind::Other));
+        }
+        Ok(())
+    }
+}
+
+impl Write for Refusing {
+    fn write(&mut self, buf: &[u8]) -> io::Result<usize> {
+        self.call(buf)?;
+        Ok(buf.len())
+    }
+
+    fn flush(&mut self) -> io::Result<()> {
+        self.call(&[])
+    }
+}
+
+fn refusing_at(alloc: Global, refused: u64) -> ToWrite<Refusing> {
+    ToWrite::new(Refusing {
+        taken: Vec::new(alloc),
+        refused,
+        calls: 0,
+    })
+}
+
 #[test]
 fn documents_come_from_sources(rt: HostRuntime) -> std::result::Result<(), Fail> {
     let alloc = rt.alloc();
@@ -127,6 +184,10 @@ fn documents_come_from_sources(rt: HostRuntime) -> std::result::Result<(), Fail>
         let answer = Document::read_from(alloc, &mut source);
         equal(&rt, (answer, source.faults()), (Err(REFUSED), 1));
     }
+    let mut source = giving(TEXT, 1);
+    source.faults = u64::MAX;
+    let answer = Document::read_from(alloc, &mut source);
+    equal(&rt, (answer, source.faults()), (Err(REFUSED), u64::MAX));
     let answer = SecretDocument::read_from(alloc, &mut giving(TEXT, 3));
     equal(&rt, answer.map(|_| ()), Err(REFUSED));
     let answer = Document::read_from(alloc, &mut giving(&[0x30, 0x06, 0x02], 0));
@@ -148,11 +209,35 @@ fn documents_go_to_sinks(rt: HostRuntime) -> std::result::Result<(), Fail> {
     let mut sink = taking(alloc, 2);
     equal(&rt, document.write_to(&mut sink), Err(REFUSED));
     equal(&rt, sink.taken.as_slice(), [0x30, 0x06, 0x02].as_slice());
-    equal(
-        &rt,
-        document.write_to(&mut ToWrite::new(Full)),
-        Err(REFUSED),
-    );
+    let mut sink = ToWrite::new(Full);
+    equal(&rt, document.write_to(&mut sink), Err(REFUSED));
+    equal(&rt, sink.faults(), 1);
+    Ok(())
+}
+
+#[test]
+fn a_refusal_of_std_is_told_once(rt: HostRuntime) -> std::result::Result<(), Fail> {
+    let alloc = rt.alloc();
+    let mut source = FromRead::new(RefusingOnce {
+        left: TEXT,
+        calls: 0,
+    });
+    let answer = Document::read_from(alloc, &mut source);
+    equal(&rt, (answer, source.faults()), (Err(REFUSED), 1));
+    let document = Document::read_from(alloc, &mut source)?;
+    equal(&rt, (document.as_bytes(), source.faults()), (TEXT, 1));
+    let mut sink = refusing_at(alloc, 1);
+    equal(&rt, document.write_to(&mut sink), Err(REFUSED));
+    equal(&rt, sink.faults(), 1);
+    document.write_to(&mut sink)?;
+    equal(&rt, sink.faults(), 1);
+    let writer = sink.into_inner();
+    equal(&rt, (writer.taken.as_slice(), writer.calls), (TEXT, 3));
+    let mut sink = refusing_at(alloc, 2);
+    equal(&rt, document.write_to(&mut sink), Err(REFUSED));
+    equal(&rt, sink.faults(), 1);
+    let writer = sink.into_inner();
+    equal(&rt, (writer.taken.as_slice(), writer.calls), (TEXT, 2));
     Ok(())
 }
 

@@ -1,7 +1,9 @@
 //! Values that are hashed, compared, copied and printed.
 use crate::checks::{equal, holds};
 use der_core::{AsUintRef, Document, SecretDocument, UintRef};
-use pkcs1::{ALGORITHM_OID, OtherPrimeInfo, RsaOaepParamsRef, RsaPssParamsRef, Version};
+use pkcs1::{
+    ALGORITHM_OID, OtherPrimeInfo, RsaOaepParamsRef, RsaPrivateKeyOwned, RsaPssParamsRef, Version,
+};
 use spki_core::{AnyRef, AssociatedOid, ObjectIdentifier};
 use std::alloc::Global;
 use std::fmt::Debug;
@@ -90,6 +92,7 @@ fn a_secret_document_shows_no_byte(rt: HostRuntime) -> Result<(), Fail> {
 #[test]
 fn laws_are_called() {
     pkcs1::texts_are_delimited();
+    pkcs1::texts_mean_one::<RsaPrivateKeyOwned>();
     pkcs1::keys_have_one_text();
     pkcs1::types_exclude_each_other();
     pkcs1::same_keys_have_the_same_text();

@@ -1,5 +1,5 @@
 //! Algorithm identifiers (RFC 5280 4.1.1.2).
-ghost use Rattle.std.specs.Prelude.{◌≡◌, ◌≢◌, refl, IfOk, IfErr};
+ghost use Rattle.std.specs.Prelude.{◌≡◌, ◌≢◌, refl, IfOk, IfErr, IfSome};
 ghost use Rattle.std.specs.Option.{option_map};
 ghost use Rattle.der_core.specs.Reading.{AsksWithin};
 ghost use Rattle.spki_core.specs.Any.{TagAndContents};
@@ -96,6 +96,8 @@ impl<P: Encode> EncodeValue for AlgorithmIdentifier<P> {
 }
 
 impl<P: TryClone> TryClone for AlgorithmIdentifier<P> {
+    ghost asks_nothing = { λ algorithm. IfSome algorithm.parameters P.asks_nothing };
+
     fn try_clone(&self, alloc: Global) -> Result<AlgorithmIdentifier<P>> {
         let parameters = match &self.parameters {
             Some(parameters) => Some(parameters.try_clone(alloc)?),

@@ -1,5 +1,5 @@
 //! Texts of any tag.
-ghost use Rattle.std.specs.Prelude.{◌≡◌, ◌≢◌, ◌≤◌, ◌<◌, ℕ, [], length, slice_index, refl, IfOk, IfErr};
+ghost use Rattle.std.specs.Prelude.{◌≡◌, ◌≢◌, ◌≤◌, ◌<◌, ℕ, [], length, slice_index, refl, ⊤, IfOk, IsOk, IfErr};
 ghost use Rattle.der_core.specs.Length.{limit};
 ghost use Rattle.der_core.specs.Reading.{ReadsText, Refuses};
 ghost use Rattle.der_core.specs.Refusal.{IsUnexpected};
@@ -8,8 +8,9 @@ ghost use Rattle.spki_core.specs.AnyLaws.{any_delimited, any_of_bytes, any_relat
 
 use der_core::{
     BackWriter, Decode, DecodeValue, Encode, EqualByValue, Error, ErrorKind, FixedTag, Header,
-    Length, Memory, Reader, Result, SliceReader, Tag, Text, Writer,
+    Length, Memory, Reader, Result, SliceReader, Tag, Text, TryClone, Writer,
 };
+use std::alloc::Global;
 
 /// A tag and contents octets that are not looked at. It borrows them.
 #[derive(Clone, Copy, Debug, PartialEq, Eq, Drop)]
@@ -160,6 +161,21 @@ impl Encode for AnyRef<'_> {
     ghost text_relates = { any_relates };
 
     ghost text_shortest = { any_shortest };
+}
+
+impl<'a> TryClone for AnyRef<'a> {
+    ghost use Rattle.spki_core.specs.AnyRefs.{any_of};
+
+    ghost asks_nothing = { λ _. ⊤ };
+
+    /// The same tag, over the same contents. No memory is asked for.
+    fn try_clone(&self, _alloc: Global) -> Result<AnyRef<'a>>
+        ensures ok { IfOk result (λ copy. any_of copy ≡ any_of self.now) }
+        ensures err { IfErr result (λ e. e.kind ≡ ErrorKind.OutOfMemory) }
+        ensures asks { IsOk result }
+    {
+        Ok(*self)
+    }
 }
 
 /// A type that holds a tag with contents octets: its texts are texts of any tag.

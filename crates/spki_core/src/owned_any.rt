@@ -137,6 +137,8 @@ impl AnyParams<Global> for Any {
 }
 
 impl TryClone for Any {
+    ghost asks_nothing = { λ _. ⊥ };
+
     fn try_clone(&self, alloc: Global) -> Result<Any> {
         Any::copy_of(alloc, self.tag, self.contents.as_slice())
     }

@@ -75,6 +75,8 @@ impl AsUintRef for Uint {
 }
 
 impl TryClone for Uint {
+    ghost asks_nothing = { λ _. ⊥ };
+
     fn try_clone(&self, alloc: Global) -> Result<Uint> {
         Uint::copy(alloc, self.as_uint_ref())
     }

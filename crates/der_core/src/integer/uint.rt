@@ -1,5 +1,5 @@
 //! Unsigned numbers that borrow their bytes.
-ghost use Rattle.std.specs.Prelude.{◌≡◌, ◌≤◌, ◌<◌, ◌⊎◌, ℕ, List, length, slice_index, OnOk, IfOk, IfErr, IsOk, Some};
+ghost use Rattle.std.specs.Prelude.{◌≡◌, ◌≤◌, ◌<◌, ◌⊎◌, ℕ, List, length, slice_index, OnOk, IfOk, IfErr, IsOk, Some, ⊤};
 ghost use Rattle.std.specs.Int.Digits.{number_from_digits};
 ghost use Rattle.der_core.specs.Length.{limit};
 ghost use Rattle.der_core.specs.Reading.{ReadsContents, HoldsBytes};
@@ -128,11 +128,13 @@ pub(crate) fn integer(contents: &[u8]) -> Result<UintRef<'_>>
 impl<'a> TryClone for UintRef<'a> {
     ghost use Rattle.der_core.specs.UintRefs.{bytes_of};
 
+    ghost asks_nothing = { λ _. ⊤ };
+
     /// The same number, over the same bytes. No memory is asked for.
     fn try_clone(&self, _alloc: Global) -> Result<UintRef<'a>>
         ensures ok { IfOk result (λ copy. bytes_of copy ≡ bytes_of self.now) }
         ensures err { IfErr result (λ e. e.kind ≡ ErrorKind.OutOfMemory) }
-        ensures always { IsOk result }
+        ensures asks { IsOk result }
     {
         Ok(*self)
     }
