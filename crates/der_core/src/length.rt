@@ -40,11 +40,16 @@ fn number(octets: &[u8]) -> u32
     requires { length octets.now ≤ 4 }
     ensures { result ≡ number_from_digits 256 octets.now }
 {
-    let mut n: u32 = 0;
-    for octet in octets {
-        n = n * 256 + *octet as u32;
+    match octets {
+        [] => 0,
+        [a] => *a as u32,
+        [a, b] => *a as u32 * 0x100 + *b as u32,
+        [a, b, c] => *a as u32 * 0x1_0000 + *b as u32 * 0x100 + *c as u32,
+        [a, b, c, d] => {
+            *a as u32 * 0x100_0000 + *b as u32 * 0x1_0000 + *c as u32 * 0x100 + *d as u32
+        }
+        _ => unreachable!(),
     }
-    n
 }
 
 /// Whether the short form, or fewer octets, would do.
