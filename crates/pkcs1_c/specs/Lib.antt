@@ -1,0 +1,6 @@
+pub mod Fits
+pub mod Given
+pub mod Numbers
+pub mod Refusals
+pub mod Seen
+pub mod Status

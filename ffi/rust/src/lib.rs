@@ -1,0 +1,200 @@
+//! RSA keys and parameters of PKCS #1 in DER, by a proved library (`include/pkcs1.h`). No allocation here but where a `Vec` is answered.
+#![deny(unsafe_op_in_unsafe_fn)]
+mod raw;
+
+use std::fmt;
+
+/// Why a call was refused: a status of `pkcs1.h`.
+#[derive(Clone, Copy, Debug, PartialEq, Eq)]
+pub struct Error(pub u32);
+
+impl Error {
+    pub const OUT_OF_MEMORY: Error = Error(17);
+    pub const NO_ROOM: Error = Error(15);
+}
+
+impl fmt::Display for Error {
+    fn fmt(&self, f: &mut fmt::Formatter<'_>) -> fmt::Result {
+        let mut text = raw::Bytes::default();
+        raw::pkcs1_c_status_text(self.0, &mut text);
+        let bytes = text.get();
+        f.write_str(std::str::from_utf8(&bytes[..bytes.len() - 1]).unwrap_or("?"))
+    }
+}
+
+impl std::error::Error for Error {}
+
+/// The version of the library.
+pub fn version() -> &'static str {
+    let mut text = raw::Bytes::default();
+    raw::pkcs1_c_version(&mut text);
+    let bytes = text.get();
+    std::str::from_utf8(&bytes[..bytes.len() - 1]).unwrap_or("?")
+}
+
+fn answer<T>(status: u32, value: impl FnOnce() -> T) -> Result<T, Error> {
+    if status == 0 { Ok(value()) } else { Err(Error(status)) }
+}
+
+/// An encoder's answer: the text in the front of `out`, or the refusal; and the length at `NO_ROOM`.
+fn written(call: impl Fn(*mut u8, usize, &mut usize) -> u32) -> Result<Vec<u8>, Error> {
+    let mut len = 0;
+    match call(std::ptr::NonNull::dangling().as_ptr(), 0, &mut len) {
+        15 => {}
+        status => return Err(Error(status)), // no text is empty
+    }
+    let mut out = vec![0; len];
+    let status = call(out.as_mut_ptr(), out.len(), &mut len);
+    answer(status, || out)
+}
+
+#[derive(Clone, Copy, Debug, PartialEq, Eq)]
+pub struct PublicKey<'a> {
+    pub modulus: &'a [u8],
+    pub public_exponent: &'a [u8],
+}
+
+impl<'a> PublicKey<'a> {
+    pub fn decode(text: &'a [u8]) -> Result<PublicKey<'a>, Error> {
+        let mut key = raw::PublicKey::default();
+        // SAFETY: pointer and length of one slice; the export has no `requires`.
+        let status = unsafe { raw::pkcs1_c_public_key_decode(text.as_ptr(), text.len(), &mut key) };
+        answer(status, || PublicKey { modulus: key.modulus.get(), public_exponent: key.public_exponent.get() })
+    }
+
+    pub fn encode(&self) -> Result<Vec<u8>, Error> {
+        let key = raw::PublicKey { modulus: raw::Bytes::new(self.modulus), public_exponent: raw::Bytes::new(self.public_exponent) };
+        // SAFETY: as above; `out` is fresh, so it overlaps nothing.
+        written(|out, room, len| unsafe { raw::pkcs1_c_public_key_encode(&key, out, room, len) })
+    }
+}
+
+#[derive(Clone, Copy, Debug, PartialEq, Eq)]
+pub struct OtherPrime<'a> {
+    pub prime: &'a [u8],
+    pub exponent: &'a [u8],
+    pub coefficient: &'a [u8],
+}
+
+#[derive(Clone, Debug, PartialEq, Eq)]
+pub struct PrivateKey<'a> {
+    /// n, e, d, p, q, d mod (p-1), d mod (q-1), q^-1 mod p.
+    pub numbers: [&'a [u8]; 8],
+    pub other_primes: Vec<OtherPrime<'a>>,
+}
+
+impl<'a> PrivateKey<'a> {
+    pub fn decode(text: &'a [u8]) -> Result<PrivateKey<'a>, Error> {
+        let mut key = raw::PrivateKey::default();
+        let mut others: Vec<raw::OtherPrime<'a>> = Vec::new();
+        loop {
+            // SAFETY: pointers and lengths of slices; the export has no `requires`.
+            let status = unsafe { raw::pkcs1_c_private_key_decode(text.as_ptr(), text.len(), &mut key, others.as_mut_ptr(), others.len()) };
+            if status != 0 {
+                return Err(Error(status));
+            }
+            if key.other_primes <= others.len() {
+                break;
+            }
+            others.resize(key.other_primes, Default::default());
+        }
+        let other = |o: &raw::OtherPrime<'a>| OtherPrime { prime: o.prime.get(), exponent: o.exponent.get(), coefficient: o.coefficient.get() };
+        Ok(PrivateKey { numbers: key.numbers.map(raw::Bytes::get), other_primes: others.iter().map(other).collect() })
+    }
+
+    pub fn encode(&self) -> Result<Vec<u8>, Error> {
+        let bytes = raw::Bytes::new;
+        let others: Vec<_> = self.other_primes.iter().map(|o| raw::OtherPrime { prime: bytes(o.prime), exponent: bytes(o.exponent), coefficient: bytes(o.coefficient) }).collect();
+        let key = raw::PrivateKey { numbers: self.numbers.map(raw::Bytes::new), other_primes: others.len() };
+        // SAFETY: as above.
+        written(|out, room, len| unsafe { raw::pkcs1_c_private_key_encode(&key, others.as_ptr(), others.len(), out, room, len) })
+    }
+}
+
+/// An algorithm: the identifier's contents octets, and the parameters' tag and contents.
+#[derive(Clone, Debug, PartialEq, Eq)]
+pub struct Algorithm<'a> {
+    pub oid: Vec<u8>,
+    pub parameters: Option<(u8, &'a [u8])>,
+}
+
+#[derive(Clone, Debug, PartialEq, Eq)]
+pub struct MaskGen<'a> {
+    pub oid: Vec<u8>,
+    pub hash: Option<Algorithm<'a>>,
+}
+
+fn oid_from(oid: &[u8]) -> raw::Oid {
+    let mut made = raw::Oid::default();
+    let n = oid.len().min(39);
+    made.octets[..n].copy_from_slice(&oid[..n]);
+    made.len = oid.len().min(40) as u8; // 40 is refused as OID_MALFORMED
+    made
+}
+
+impl<'a> Algorithm<'a> {
+    fn seen(a: &raw::Algorithm<'a>) -> Algorithm<'a> {
+        let parameters = a.has_parameters.then(|| (a.tag, a.parameters.get()));
+        Algorithm { oid: a.oid.octets[..a.oid.len as usize].to_vec(), parameters }
+    }
+
+    fn raw(&self) -> raw::Algorithm<'a> {
+        let (tag, parameters) = self.parameters.unwrap_or((0, &[]));
+        raw::Algorithm { oid: oid_from(&self.oid), has_parameters: self.parameters.is_some(), tag, parameters: raw::Bytes::new(parameters) }
+    }
+}
+
+impl<'a> MaskGen<'a> {
+    fn seen(m: &raw::MaskGen<'a>) -> MaskGen<'a> {
+        MaskGen { oid: m.oid.octets[..m.oid.len as usize].to_vec(), hash: m.has_hash.then(|| Algorithm::seen(&m.hash)) }
+    }
+
+    fn raw(&self) -> raw::MaskGen<'a> {
+        let hash = self.hash.as_ref().map(Algorithm::raw);
+        raw::MaskGen { oid: oid_from(&self.oid), has_hash: hash.is_some(), hash: hash.unwrap_or_default() }
+    }
+}
+
+#[derive(Clone, Debug, PartialEq, Eq)]
+pub struct PssParams<'a> {
+    pub hash: Algorithm<'a>,
+    pub mask_gen: MaskGen<'a>,
+    pub salt_len: u8,
+}
+
+impl<'a> PssParams<'a> {
+    pub fn decode(text: &'a [u8]) -> Result<PssParams<'a>, Error> {
+        let mut p = raw::PssParams::default();
+        // SAFETY: pointer and length of one slice; the export has no `requires`.
+        let status = unsafe { raw::pkcs1_c_pss_params_decode(text.as_ptr(), text.len(), &mut p) };
+        answer(status, || PssParams { hash: Algorithm::seen(&p.hash), mask_gen: MaskGen::seen(&p.mask_gen), salt_len: p.salt_len })
+    }
+
+    pub fn encode(&self) -> Result<Vec<u8>, Error> {
+        let p = raw::PssParams { hash: self.hash.raw(), mask_gen: self.mask_gen.raw(), salt_len: self.salt_len, trailer_field: 1 };
+        // SAFETY: as above.
+        written(|out, room, len| unsafe { raw::pkcs1_c_pss_params_encode(&p, out, room, len) })
+    }
+}
+
+#[derive(Clone, Debug, PartialEq, Eq)]
+pub struct OaepParams<'a> {
+    pub hash: Algorithm<'a>,
+    pub mask_gen: MaskGen<'a>,
+    pub p_source: Algorithm<'a>,
+}
+
+impl<'a> OaepParams<'a> {
+    pub fn decode(text: &'a [u8]) -> Result<OaepParams<'a>, Error> {
+        let mut p = raw::OaepParams::default();
+        // SAFETY: pointer and length of one slice; the export has no `requires`.
+        let status = unsafe { raw::pkcs1_c_oaep_params_decode(text.as_ptr(), text.len(), &mut p) };
+        answer(status, || OaepParams { hash: Algorithm::seen(&p.hash), mask_gen: MaskGen::seen(&p.mask_gen), p_source: Algorithm::seen(&p.p_source) })
+    }
+
+    pub fn encode(&self) -> Result<Vec<u8>, Error> {
+        let p = raw::OaepParams { hash: self.hash.raw(), mask_gen: self.mask_gen.raw(), p_source: self.p_source.raw() };
+        // SAFETY: as above.
+        written(|out, room, len| unsafe { raw::pkcs1_c_oaep_params_encode(&p, out, room, len) })
+    }
+}
