@@ -37,6 +37,8 @@ for key in 2:2048 3:2048 4:4096; do
     openssl rsa -in "$room/key.pem" -RSAPublicKey_out -outform DER -out "$room/pub.der" 2> /dev/null
     again priv "$room/key.der" "$@"
     again pub "$room/pub.der" "$@"
+    openssl pkcs8 -topk8 -nocrypt -in "$room/key.pem" -outform DER -out "$room/p8.der"
+    again p8 "$room/p8.der" "$@"
     openssl rsa -in "$room/key.pem" -noout -modulus | sed 's/Modulus=//' | tr A-F a-f > "$room/modulus"
     "$1" pub "$room/pub.der" | sed -n 's/^n=//p' | cmp - "$room/modulus"
 done

@@ -1,5 +1,5 @@
 /* read_key KIND FILE [OUT]: reads the key or the parameters in a file, prints their numbers, and writes them again to
- * OUT. KIND is pub, priv, pss or oaep. */
+ * OUT. KIND is pub, priv, p8, pss or oaep. */
 #include "pkcs1.h"
 #include <stdio.h>
 #include <stdlib.h>
@@ -82,6 +82,14 @@ static void private_key(void) {
     free(others);
 }
 
+static void container(void) {
+    struct pkcs1_private_key_info info = {NO, false, NO};
+    struct pkcs1_private_key key = {NO, NO, NO, NO, NO, NO, NO, NO, 0};
+    ok(pkcs1_c_private_key_info_decode(text, text_len, &info, &key, NULL, 0));
+    put("n", key.modulus);
+    ENCODE(pkcs1_c_private_key_info_encode, &info);
+}
+
 static void pss(void) {
     struct pkcs1_pss_params params = {NO_ALG, {{{0}, 0}, false, NO_ALG}, 0, 0};
     ok(pkcs1_c_pss_params_decode(text, text_len, &params));
@@ -102,7 +110,7 @@ static void oaep(void) {
 
 int main(int argc, char **argv) {
     static const struct { const char *name; void (*read)(void); } kinds[] = {
-        {"pub", public_key}, {"priv", private_key}, {"pss", pss}, {"oaep", oaep}};
+        {"pub", public_key}, {"priv", private_key}, {"p8", container}, {"pss", pss}, {"oaep", oaep}};
     if (argc != 3 && argc != 4) {
         fputs("usage: read_key KIND FILE [OUT]\n", stderr);
         return 2;

@@ -60,7 +60,30 @@ static void private_keys(void) {
     CHECK(pkcs1_c_private_key_decode(three, sizeof three - 1, &key, NULL, 0) != PKCS1_OK);
 }
 
+static void containers(void) {
+    static const uint8_t text[] = {0x30, 0x31, 2, 1, 0, 0x30, 13, 6, 9, 0x2a, 0x86, 0x48, 0x86, 0xf7, 0x0d, 1, 1, 1, 5, 0, 4, 29,
+                                   0x30, 27, 2, 1, 0, 2, 1, 1, 2, 1, 2, 2, 1, 3, 2, 1, 4, 2, 1, 5, 2, 1, 6, 2, 1, 7, 2, 1, 8};
+    uint8_t changed[sizeof text], out[64];
+    struct pkcs1_private_key_info info = {NO, false, NO};
+    struct pkcs1_private_key key = {NO, NO, NO, NO, NO, NO, NO, NO, 0};
+    size_t len = 0;
+    CHECK(pkcs1_c_private_key_info_decode(text, sizeof text, &info, &key, NULL, 0) == PKCS1_OK);
+    CHECK(info.private_key.data == text + 22 && info.private_key.len == 29 && !info.has_attributes);
+    CHECK(same(key.modulus, "\1", 1) && same(key.coefficient, "\10", 1) && key.other_primes == 0);
+    CHECK(pkcs1_c_private_key_info_encode(&info, out, 9, &len) == PKCS1_NO_ROOM && len == sizeof text);
+    CHECK(pkcs1_c_private_key_info_encode(&info, out, sizeof out, &len) == PKCS1_OK && len == sizeof text && memcmp(out, text, len) == 0);
+    info.has_attributes = true;
+    CHECK(pkcs1_c_private_key_info_encode(&info, out, sizeof out, &len) == PKCS1_OK && len == sizeof text + 2);
+    CHECK(pkcs1_c_private_key_info_decode(out, len, &info, &key, NULL, 0) == PKCS1_OK && info.has_attributes && info.attributes.len == 0);
+    info.private_key.len--;
+    CHECK(pkcs1_c_private_key_info_encode(&info, out, sizeof out, &len) == PKCS1_INCOMPLETE && len == sizeof text + 2);
+    memcpy(changed, text, sizeof text);
+    changed[17] = 2; /* another identifier */
+    CHECK(pkcs1_c_private_key_info_decode(changed, sizeof changed, &info, &key, NULL, 0) == PKCS1_OID_UNKNOWN);
+}
+
 static void parameters(void) {
+    static const uint8_t written[] = {0x30, 5, 0xa2, 3, 2, 1, 20};
     static const uint8_t none[] = {0x30, 0};
     static const uint8_t sha256[] = {0x30, 0x0f, 0xa0, 0x0d, 0x30, 0x0b, 0x06, 0x09, 0x60, 0x86, 0x48, 0x01, 0x65, 0x03, 0x04, 0x02, 0x01};
     struct pkcs1_pss_params pss = {NO_ALG, {NO_OID, false, NO_ALG}, 0, 0};
@@ -71,6 +94,10 @@ static void parameters(void) {
     CHECK(pss.hash.oid.len == 5 && memcmp(pss.hash.oid.octets, "\x2b\x0e\x03\x02\x1a", 5) == 0);
     CHECK(pss.hash.has_parameters && pss.hash.tag == 5 && pss.hash.parameters.len == 0 && pss.salt_len == 20 && pss.trailer_field == 1);
     CHECK(pss.mask_gen.has_hash && pss.mask_gen.hash.oid.len == 5);
+    CHECK(pkcs1_c_pss_params_decode_strict(none, sizeof none, &pss) == PKCS1_OK);
+    CHECK(pkcs1_c_pss_params_decode(written, sizeof written, &pss) == PKCS1_OK);
+    CHECK(pkcs1_c_pss_params_decode_strict(written, sizeof written, &pss) == PKCS1_NONCANONICAL);
+    CHECK(pkcs1_c_oaep_params_decode_strict(none, sizeof none, &oaep) == PKCS1_OK && oaep.p_source.tag == 4);
     CHECK(pkcs1_c_pss_params_encode(&pss, out, sizeof out, &len) == PKCS1_OK && len == 2 && memcmp(out, none, 2) == 0);
     pss.salt_len = 32;
     CHECK(pkcs1_c_pss_params_encode(&pss, out, sizeof out, &len) == PKCS1_OK && len == 7 && memcmp(out, "\x30\x05\xa2\x03\x02\x01\x20", 7) == 0);
@@ -93,12 +120,14 @@ static void parameters(void) {
 int main(void) {
     public_keys();
     private_keys();
+    containers();
     parameters();
     struct pkcs1_bytes version = NO;
     pkcs1_c_version(&version);
     CHECK(strcmp((const char *)version.data, "0.8.0") == 0 && version.len == 6);
     CHECK(strcmp(pkcs1_strerror(PKCS1_TRAILING_DATA), "bytes follow the value") == 0);
     CHECK(strcmp(pkcs1_strerror(0), "no error") == 0 && strcmp(pkcs1_strerror(1000), "another error") == 0);
+    CHECK(strcmp(pkcs1_strerror(PKCS1_OTHER_PRIMES), "the other primes are not as many as the key says") == 0);
     puts("c: ok");
     return 0;
 }

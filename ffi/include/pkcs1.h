@@ -112,10 +112,27 @@ uint32_t pkcs1_c_private_key_decode(const uint8_t *text, size_t text_len, struct
 uint32_t pkcs1_c_private_key_encode(const struct pkcs1_private_key *key, const struct pkcs1_other_prime *others,
                                     size_t others_len, uint8_t *out, size_t room, size_t *len);
 
-/* The shortest text is written: no default stands in it. */
+/* The RSA key in a PKCS #8 container (RFC 5208), whose algorithm is rsaEncryption with NULL. Reading fills `info`, and the
+ * key and its other primes as pkcs1_c_private_key_decode does; writing takes the key's text, which
+ * pkcs1_c_private_key_encode makes, and refuses octets that are none. */
+struct pkcs1_private_key_info {
+    struct pkcs1_bytes private_key; /* the key's text */
+    bool has_attributes;
+    struct pkcs1_bytes attributes; /* their contents, which aren't looked at */
+};
+uint32_t pkcs1_c_private_key_info_decode(const uint8_t *text, size_t text_len, struct pkcs1_private_key_info *info,
+                                         struct pkcs1_private_key *key, struct pkcs1_other_prime *others,
+                                         size_t others_room);
+uint32_t pkcs1_c_private_key_info_encode(const struct pkcs1_private_key_info *info, uint8_t *out, size_t room,
+                                         size_t *len);
+
+/* The shortest text is written: no default stands in it. `.._strict` reads no other: a text in which a default is written
+ * is PKCS1_NONCANONICAL. */
 uint32_t pkcs1_c_pss_params_decode(const uint8_t *text, size_t text_len, struct pkcs1_pss_params *params);
+uint32_t pkcs1_c_pss_params_decode_strict(const uint8_t *text, size_t text_len, struct pkcs1_pss_params *params);
 uint32_t pkcs1_c_pss_params_encode(const struct pkcs1_pss_params *params, uint8_t *out, size_t room, size_t *len);
 uint32_t pkcs1_c_oaep_params_decode(const uint8_t *text, size_t text_len, struct pkcs1_oaep_params *params);
+uint32_t pkcs1_c_oaep_params_decode_strict(const uint8_t *text, size_t text_len, struct pkcs1_oaep_params *params);
 uint32_t pkcs1_c_oaep_params_encode(const struct pkcs1_oaep_params *params, uint8_t *out, size_t room, size_t *len);
 
 /* Static texts with a zero at the end, which `len` counts. */

@@ -1,11 +1,13 @@
 -- What the code of a refusal says.
-use Rattle.std.proofs.Common.{ℕ, List, ◌≡◌, ◌≢◌, ◌<◌, length, ap, arith, inl, inr}
+use Rattle.std.proofs.Common.{ℕ, List, ◌≡◌, ◌≢◌, ◌<◌, length, refl, ap, arith}
 use Rattle.der_core.specs.declared.error.Error as der
 use Rattle.der_core.specs.declared.error.ErrorKind.{ErrorKind}
 use Rattle.der_core.specs.declared.error.ErrorKind.TheVariants as kind
 use Rattle.der_core.specs.Document.{Fault, no_text, too_long, no_room, another, Means, IsShortest, IsUncountable, IsRefused}
-use Rattle.der_core.specs.Reading.{Refuses}
+use Rattle.der_core.specs.Reading.{TellsOfBytes}
 use Rattle.der_core.specs.Writing.{fault}
+use Rattle.spki_core.specs.Explicit.{Field}
+use Rattle.spki_core.specs.StrictFields.{NamesDefault}
 use Rattle.pkcs1.specs.Refusals.{IsAsn1}
 use Rattle.pkcs1.specs.declared.error.Error.{Error}
 use Rattle.pkcs1.specs.declared.error.Error.TheVariants as error
@@ -18,13 +20,65 @@ none_means Some Grammar v too_long p text m = p.1 text m
 none_means Some Grammar v no_room p text m = p
 none_means Some Grammar v another p text m = p
 
--- Another refusal than want of memory.
-pub refused_else : (asked none : Type 0) (e : Error) → IsAsn1 (λ (e : der.Error). Refuses e.kind asked none) e → status_of e ≢ 17 → none
-refused_else asked none (error.Asn1 e) (inl p) other = absurd (other (ap kind_number p.0))
-refused_else asked none (error.Asn1 e) (inr p) other = p.1
-refused_else asked none error.Crypto p other = absurd p
-refused_else asked none error.KeyMalformed p other = absurd p
-refused_else asked none error.Version p other = absurd p
+-- A refusal that names a default has the number 5.
+pub names_default : (fields : List Field) (text : List ℕ) (e : Error) → IsAsn1 (NamesDefault fields text) e → status_of e ≡ 5
+names_default fields text (error.Asn1 e) p = ap kind_number p.1.1
+names_default fields text error.Crypto p = absurd p
+names_default fields text error.KeyMalformed p = absurd p
+names_default fields text error.Version p = absurd p
+
+-- What was read tells of no room.
+kind_of_bytes : (k : ErrorKind) → TellsOfBytes k → kind_number k ≢ 15
+kind_of_bytes kind.NoRoom p e = p.2 refl
+kind_of_bytes (kind.Value tag) p e = omega (arith, e)
+kind_of_bytes kind.Overflow p e = omega (arith, e)
+kind_of_bytes kind.Failed p e = omega (arith, e)
+kind_of_bytes kind.Incomplete p e = omega (arith, e)
+kind_of_bytes kind.IndefiniteLength p e = omega (arith, e)
+kind_of_bytes (kind.Length tag) p e = omega (arith, e)
+kind_of_bytes (kind.Noncanonical tag) p e = omega (arith, e)
+kind_of_bytes kind.OidMalformed p e = omega (arith, e)
+kind_of_bytes kind.OidUnknown p e = omega (arith, e)
+kind_of_bytes kind.Overlength p e = omega (arith, e)
+kind_of_bytes kind.ParametersMissing p e = omega (arith, e)
+kind_of_bytes (kind.TagUnexpected expected actual) p e = omega (arith, e)
+kind_of_bytes (kind.TagUnknown octet) p e = omega (arith, e)
+kind_of_bytes kind.TrailingData p e = omega (arith, e)
+kind_of_bytes kind.File p e = omega (arith, e)
+kind_of_bytes kind.OutOfMemory p e = omega (arith, e)
+
+-- A refusal isn't 0.
+pub not_zero : (k : ErrorKind) → kind_number k ≢ 0
+not_zero kind.NoRoom e = omega (arith, e)
+not_zero (kind.Value tag) e = omega (arith, e)
+not_zero kind.Overflow e = omega (arith, e)
+not_zero kind.Failed e = omega (arith, e)
+not_zero kind.Incomplete e = omega (arith, e)
+not_zero kind.IndefiniteLength e = omega (arith, e)
+not_zero (kind.Length tag) e = omega (arith, e)
+not_zero (kind.Noncanonical tag) e = omega (arith, e)
+not_zero kind.OidMalformed e = omega (arith, e)
+not_zero kind.OidUnknown e = omega (arith, e)
+not_zero kind.Overlength e = omega (arith, e)
+not_zero kind.ParametersMissing e = omega (arith, e)
+not_zero (kind.TagUnexpected expected actual) e = omega (arith, e)
+not_zero (kind.TagUnknown octet) e = omega (arith, e)
+not_zero kind.TrailingData e = omega (arith, e)
+not_zero kind.File e = omega (arith, e)
+not_zero kind.OutOfMemory e = omega (arith, e)
+
+pub of_bytes : (e : Error) → IsAsn1 (λ (e : der.Error). TellsOfBytes e.kind) e → status_of e ≢ 15
+of_bytes (error.Asn1 e) p = kind_of_bytes e.kind p
+of_bytes error.Crypto p = absurd p
+of_bytes error.KeyMalformed p = absurd p
+of_bytes error.Version p = absurd p
+
+-- A refusal by one reason for a text is one by another.
+pub has_some : {V : Type 0} (Some Other : Type 0) (Grammar : V → List ℕ → Type 0) (v : V) (room : ℕ) (f : Fault) → Other → IsRefused Some Grammar v room f → IsRefused Other Grammar v room f
+has_some Some Other Grammar v room no_text o p = p
+has_some Some Other Grammar v room too_long o p = (o, p.1)
+has_some Some Other Grammar v room no_room o p = p
+has_some Some Other Grammar v room another o p = p
 
 module _ {V : Type 0} (Some : Type 0) (Grammar : V → List ℕ → Type 0) (v : V) (room : ℕ) where
   kind_lacks_room : (k : ErrorKind) → IsRefused Some Grammar v room (fault k) → kind_number k ≡ 15 → IsRefused Some Grammar v room no_room

@@ -1,3 +1,4 @@
+pub mod Containers
 pub mod Fits
 pub mod Given
 pub mod Numbers

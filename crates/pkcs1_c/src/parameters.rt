@@ -43,6 +43,29 @@ pub struct OaepParams<'a> {
     pub p_source: Algorithm<'a>,
 }
 
+/// The parameters, as C sees them.
+fn pss_view<'a>(read: &RsaPssParamsRef<'a>) -> PssParams<'a>
+    ensures { pss_seen result ≡ pss_of read.now }
+{
+    PssParams {
+        hash: algorithm_view(&read.hash),
+        mask_gen: mask_gen_view(&read.mask_gen),
+        salt_len: read.salt_len,
+        trailer_field: 1,
+    }
+}
+
+/// The parameters, as C sees them.
+fn oaep_view<'a>(read: &RsaOaepParamsRef<'a>) -> OaepParams<'a>
+    ensures { oaep_seen result ≡ oaep_of read.now }
+{
+    OaepParams {
+        hash: algorithm_view(&read.hash),
+        mask_gen: mask_gen_view(&read.mask_gen),
+        p_source: algorithm_view(&read.p_source),
+    }
+}
+
 /// Reads parameters of RSASSA-PSS: 0 where the text is one of those.
 #[unsafe(no_mangle)]
 pub extern "C" fn pkcs1_c_pss_params_decode<'a>(text: &'a [u8], params: &mut PssParams<'a>) -> u32
@@ -54,12 +77,7 @@ pub extern "C" fn pkcs1_c_pss_params_decode<'a>(text: &'a [u8], params: &mut Pss
 {
     match RsaPssParamsRef::try_from(text) {
         Ok(read) => {
-            *params = PssParams {
-                hash: algorithm_view(&read.hash),
-                mask_gen: mask_gen_view(&read.mask_gen),
-                salt_len: read.salt_len,
-                trailer_field: 1,
-            };
+            *params = pss_view(&read);
             OK
         }
         Err(error) => status(&error),
@@ -77,11 +95,30 @@ pub extern "C" fn pkcs1_c_oaep_params_decode<'a>(text: &'a [u8], params: &mut Oa
 {
     match RsaOaepParamsRef::try_from(text) {
         Ok(read) => {
-            *params = OaepParams {
-                hash: algorithm_view(&read.hash),
-                mask_gen: mask_gen_view(&read.mask_gen),
-                p_source: algorithm_view(&read.p_source),
-            };
+            *params = oaep_view(&read);
+            OK
+        }
+        Err(error) => status(&error),
+    }
+}
+
+/// Reads parameters of RSASSA-PSS, as `pkcs1_c_pss_params_decode`: 0 only where the text is the shortest one. A default that
+/// is written is refused by 5.
+#[unsafe(no_mangle)]
+pub extern "C" fn pkcs1_c_pss_params_decode_strict<'a>(
+    text: &'a [u8],
+    params: &mut PssParams<'a>,
+) -> u32
+    ensures ok { result ≡ 0 → IsShortest grammar.RsaPssParams (pss_seen params.new) text.now }
+    ensures one { result ≡ 0 → (other : grammar.PssParameters) → Means grammar.RsaPssParams text.now other
+        → other ≡ pss_seen params.new }
+    ensures refused { result ≢ 0 → (other : grammar.PssParameters) → IsShortest grammar.RsaPssParams other text.now → ⊥ }
+    ensures default { result ≢ 0 → (other : grammar.PssParameters) → Means grammar.RsaPssParams text.now other → result ≡ 5 }
+    ensures unchanged { result ≢ 0 → params.new ≡ params.old }
+{
+    match RsaPssParamsRef::from_der_strict(text) {
+        Ok(read) => {
+            *params = pss_view(&read);
             OK
         }
         Err(error) => status(&error),
@@ -104,6 +141,29 @@ fn pss_from<'a>(params: &PssParams<'a>) -> pkcs1::Result<RsaPssParamsRef<'a>>
         salt_len: params.salt_len,
         trailer_field: TrailerField::BC,
     })
+}
+
+/// Reads parameters of RSAES-OAEP, as `pkcs1_c_oaep_params_decode`: 0 only where the text is the shortest one. A default that
+/// is written is refused by 5.
+#[unsafe(no_mangle)]
+pub extern "C" fn pkcs1_c_oaep_params_decode_strict<'a>(
+    text: &'a [u8],
+    params: &mut OaepParams<'a>,
+) -> u32
+    ensures ok { result ≡ 0 → IsShortest grammar.RsaOaepParams (oaep_seen params.new) text.now }
+    ensures one { result ≡ 0 → (other : grammar.OaepParameters) → Means grammar.RsaOaepParams text.now other
+        → other ≡ oaep_seen params.new }
+    ensures refused { result ≢ 0 → (other : grammar.OaepParameters) → IsShortest grammar.RsaOaepParams other text.now → ⊥ }
+    ensures default { result ≢ 0 → (other : grammar.OaepParameters) → Means grammar.RsaOaepParams text.now other → result ≡ 5 }
+    ensures unchanged { result ≢ 0 → params.new ≡ params.old }
+{
+    match RsaOaepParamsRef::from_der_strict(text) {
+        Ok(read) => {
+            *params = oaep_view(&read);
+            OK
+        }
+        Err(error) => status(&error),
+    }
 }
 
 /// The parameters that C gives.

@@ -1,6 +1,6 @@
 //! `read_key KIND FILE [OUT]`: reads the key or the parameters in a file, prints their numbers, and writes them again to
-//! OUT. KIND is pub, priv, pss or oaep.
-use pkcs1_proved::{Algorithm, OaepParams, PrivateKey, PssParams, PublicKey};
+//! OUT. KIND is pub, priv, p8, pss or oaep.
+use pkcs1_proved::{Algorithm, OaepParams, PrivateKey, PrivateKeyInfo, PssParams, PublicKey};
 
 fn put(name: &str, number: &[u8]) {
     let digits: Vec<String> = number.iter().map(|octet| format!("{octet:02x}")).collect();
@@ -33,6 +33,11 @@ fn read(kind: &str, text: &[u8]) -> Result<Vec<u8>, Box<dyn std::error::Error>> 
                 put("t", other.coefficient);
             }
             Ok(key.encode()?)
+        }
+        "p8" => {
+            let info = PrivateKeyInfo::decode(text)?;
+            put("n", PrivateKey::decode(info.private_key)?.numbers[0]);
+            Ok(info.encode()?)
         }
         "pss" => {
             let params = PssParams::decode(text)?;

@@ -1,4 +1,15 @@
-//! RSA keys and parameters of PKCS #1 in DER, by a proved library (`include/pkcs1.h`). No allocation here but where a `Vec` is answered.
+//! RSA keys and parameters of PKCS #1 in DER, by a proved library (`include/pkcs1.h`). What is read borrows its numbers
+//! from the text; memory is taken only where a `Vec` is answered.
+//!
+//! ```
+//! use pkcs1_proved::{Error, PublicKey};
+//! let text = [0x30, 0x08, 0x02, 0x03, 0x00, 0xc1, 0x7f, 0x02, 0x01, 0x03];
+//! let key = PublicKey::decode(&text)?;
+//! assert_eq!(key.modulus, [0xc1, 0x7f]);
+//! assert_eq!(key.encode()?, text);
+//! assert_eq!(PublicKey::decode(&text[1..]), Err(Error(11)));
+//! # Ok::<(), Error>(())
+//! ```
 #![deny(unsafe_op_in_unsafe_fn)]
 mod raw;
 
@@ -48,13 +59,17 @@ fn written(call: impl Fn(*mut u8, usize, &mut usize) -> u32) -> Result<Vec<u8>, 
     answer(status, || out)
 }
 
+/// A public key (RFC 8017 A.1.1), by its numbers: most significant octet first.
 #[derive(Clone, Copy, Debug, PartialEq, Eq)]
 pub struct PublicKey<'a> {
+    /// n.
     pub modulus: &'a [u8],
+    /// e.
     pub public_exponent: &'a [u8],
 }
 
 impl<'a> PublicKey<'a> {
+    /// The key that this is the whole text of.
     pub fn decode(text: &'a [u8]) -> Result<PublicKey<'a>, Error> {
         let mut key = raw::PublicKey::default();
         // SAFETY: pointer and length of one slice; the export has no `requires`.
@@ -62,6 +77,7 @@ impl<'a> PublicKey<'a> {
         answer(status, || PublicKey { modulus: key.modulus.get(), public_exponent: key.public_exponent.get() })
     }
 
+    /// The key's one text.
     pub fn encode(&self) -> Result<Vec<u8>, Error> {
         let key = raw::PublicKey { modulus: raw::Bytes::new(self.modulus), public_exponent: raw::Bytes::new(self.public_exponent) };
         // SAFETY: as above; `out` is fresh, so it overlaps nothing.
@@ -69,21 +85,35 @@ impl<'a> PublicKey<'a> {
     }
 }
 
-#[derive(Clone, Copy, Debug, PartialEq, Eq)]
+/// A prime past the first two.
+#[derive(Clone, Copy, PartialEq, Eq)]
 pub struct OtherPrime<'a> {
+    /// r.
     pub prime: &'a [u8],
+    /// d modulo r - 1.
     pub exponent: &'a [u8],
+    /// The inverse, modulo r, of the product of the primes before it.
     pub coefficient: &'a [u8],
 }
 
-#[derive(Clone, Debug, PartialEq, Eq)]
+/// A private key (RFC 8017 A.1.2), of any number of primes.
+#[derive(Clone, PartialEq, Eq)]
 pub struct PrivateKey<'a> {
     /// n, e, d, p, q, d mod (p-1), d mod (q-1), q^-1 mod p.
     pub numbers: [&'a [u8]; 8],
+    /// The primes past the first two, in order.
     pub other_primes: Vec<OtherPrime<'a>>,
 }
 
+impl fmt::Debug for PrivateKey<'_> {
+    /// Prints the modulus and the public exponent, and nothing that is secret.
+    fn fmt(&self, f: &mut fmt::Formatter<'_>) -> fmt::Result {
+        f.debug_struct("PrivateKey").field("modulus", &self.numbers[0]).field("public_exponent", &self.numbers[1]).finish_non_exhaustive()
+    }
+}
+
 impl<'a> PrivateKey<'a> {
+    /// The key that this is the whole text of.
     pub fn decode(text: &'a [u8]) -> Result<PrivateKey<'a>, Error> {
         let mut key = raw::PrivateKey::default();
         let mut others: Vec<raw::OtherPrime<'a>> = Vec::new();
@@ -102,12 +132,41 @@ impl<'a> PrivateKey<'a> {
         Ok(PrivateKey { numbers: key.numbers.map(raw::Bytes::get), other_primes: others.iter().map(other).collect() })
     }
 
+    /// The key's one text.
     pub fn encode(&self) -> Result<Vec<u8>, Error> {
         let bytes = raw::Bytes::new;
         let others: Vec<_> = self.other_primes.iter().map(|o| raw::OtherPrime { prime: bytes(o.prime), exponent: bytes(o.exponent), coefficient: bytes(o.coefficient) }).collect();
         let key = raw::PrivateKey { numbers: self.numbers.map(raw::Bytes::new), other_primes: others.len() };
         // SAFETY: as above.
         written(|out, room, len| unsafe { raw::pkcs1_c_private_key_encode(&key, others.as_ptr(), others.len(), out, room, len) })
+    }
+}
+
+/// A container (PrivateKeyInfo of RFC 5208) of an RSA key, whose algorithm is rsaEncryption with NULL.
+#[derive(Clone, Copy, PartialEq, Eq)]
+pub struct PrivateKeyInfo<'a> {
+    /// The text of the private key, which `PrivateKey::decode` reads.
+    pub private_key: &'a [u8],
+    /// The contents of the attributes, which aren't looked at.
+    pub attributes: Option<&'a [u8]>,
+}
+
+impl<'a> PrivateKeyInfo<'a> {
+    /// The container that this is the whole text of; the octets in it are a private key's text.
+    pub fn decode(text: &'a [u8]) -> Result<PrivateKeyInfo<'a>, Error> {
+        let (mut info, mut key) = (raw::PrivateKeyInfo::default(), raw::PrivateKey::default());
+        let others = std::ptr::NonNull::dangling().as_ptr();
+        // SAFETY: pointers and lengths of slices, one of them empty; the export has no `requires`.
+        let status = unsafe { raw::pkcs1_c_private_key_info_decode(text.as_ptr(), text.len(), &mut info, &mut key, others, 0) };
+        answer(status, || PrivateKeyInfo { private_key: info.private_key.get(), attributes: info.has_attributes.then(|| info.attributes.get()) })
+    }
+
+    /// The container's one text. Refused where the octets are no private key's text.
+    pub fn encode(&self) -> Result<Vec<u8>, Error> {
+        let attributes = raw::Bytes::new(self.attributes.unwrap_or(&[]));
+        let info = raw::PrivateKeyInfo { private_key: raw::Bytes::new(self.private_key), has_attributes: self.attributes.is_some(), attributes };
+        // SAFETY: as above.
+        written(|out, room, len| unsafe { raw::pkcs1_c_private_key_info_encode(&info, out, room, len) })
     }
 }
 
@@ -155,6 +214,7 @@ impl<'a> MaskGen<'a> {
     }
 }
 
+/// Parameters of RSASSA-PSS. A field that a text leaves out has its default here.
 #[derive(Clone, Debug, PartialEq, Eq)]
 pub struct PssParams<'a> {
     pub hash: Algorithm<'a>,
@@ -163,13 +223,27 @@ pub struct PssParams<'a> {
 }
 
 impl<'a> PssParams<'a> {
+    /// The parameters that this is a whole text of.
     pub fn decode(text: &'a [u8]) -> Result<PssParams<'a>, Error> {
         let mut p = raw::PssParams::default();
         // SAFETY: pointer and length of one slice; the export has no `requires`.
         let status = unsafe { raw::pkcs1_c_pss_params_decode(text.as_ptr(), text.len(), &mut p) };
-        answer(status, || PssParams { hash: Algorithm::seen(&p.hash), mask_gen: MaskGen::seen(&p.mask_gen), salt_len: p.salt_len })
+        answer(status, || PssParams::seen(&p))
     }
 
+    /// The parameters that this is the shortest text of, in which no default is written.
+    pub fn decode_strict(text: &'a [u8]) -> Result<PssParams<'a>, Error> {
+        let mut p = raw::PssParams::default();
+        // SAFETY: as above.
+        let status = unsafe { raw::pkcs1_c_pss_params_decode_strict(text.as_ptr(), text.len(), &mut p) };
+        answer(status, || PssParams::seen(&p))
+    }
+
+    fn seen(p: &raw::PssParams<'a>) -> PssParams<'a> {
+        PssParams { hash: Algorithm::seen(&p.hash), mask_gen: MaskGen::seen(&p.mask_gen), salt_len: p.salt_len }
+    }
+
+    /// The shortest text, in which no default is written.
     pub fn encode(&self) -> Result<Vec<u8>, Error> {
         let p = raw::PssParams { hash: self.hash.raw(), mask_gen: self.mask_gen.raw(), salt_len: self.salt_len, trailer_field: 1 };
         // SAFETY: as above.
@@ -177,6 +251,7 @@ impl<'a> PssParams<'a> {
     }
 }
 
+/// Parameters of RSAES-OAEP. A field that a text leaves out has its default here.
 #[derive(Clone, Debug, PartialEq, Eq)]
 pub struct OaepParams<'a> {
     pub hash: Algorithm<'a>,
@@ -185,13 +260,27 @@ pub struct OaepParams<'a> {
 }
 
 impl<'a> OaepParams<'a> {
+    /// The parameters that this is a whole text of.
     pub fn decode(text: &'a [u8]) -> Result<OaepParams<'a>, Error> {
         let mut p = raw::OaepParams::default();
         // SAFETY: pointer and length of one slice; the export has no `requires`.
         let status = unsafe { raw::pkcs1_c_oaep_params_decode(text.as_ptr(), text.len(), &mut p) };
-        answer(status, || OaepParams { hash: Algorithm::seen(&p.hash), mask_gen: MaskGen::seen(&p.mask_gen), p_source: Algorithm::seen(&p.p_source) })
+        answer(status, || OaepParams::seen(&p))
     }
 
+    /// The parameters that this is the shortest text of, in which no default is written.
+    pub fn decode_strict(text: &'a [u8]) -> Result<OaepParams<'a>, Error> {
+        let mut p = raw::OaepParams::default();
+        // SAFETY: as above.
+        let status = unsafe { raw::pkcs1_c_oaep_params_decode_strict(text.as_ptr(), text.len(), &mut p) };
+        answer(status, || OaepParams::seen(&p))
+    }
+
+    fn seen(p: &raw::OaepParams<'a>) -> OaepParams<'a> {
+        OaepParams { hash: Algorithm::seen(&p.hash), mask_gen: MaskGen::seen(&p.mask_gen), p_source: Algorithm::seen(&p.p_source) }
+    }
+
+    /// The shortest text, in which no default is written.
     pub fn encode(&self) -> Result<Vec<u8>, Error> {
         let p = raw::OaepParams { hash: self.hash.raw(), mask_gen: self.mask_gen.raw(), p_source: self.p_source.raw() };
         // SAFETY: as above.

@@ -96,6 +96,14 @@ pub struct OaepParams<'a> {
     pub p_source: Algorithm<'a>,
 }
 
+#[repr(C)]
+#[derive(Clone, Copy, Default)]
+pub struct PrivateKeyInfo<'a> {
+    pub private_key: Bytes<'a>,
+    pub has_attributes: bool,
+    pub attributes: Bytes<'a>,
+}
+
 unsafe extern "C" {
     pub fn pkcs1_c_public_key_decode<'a>(text: *const u8, len: usize, key: &mut PublicKey<'a>) -> u32;
     pub safe fn pkcs1_c_status_text(status: u32, text: &mut Bytes<'static>);
@@ -104,6 +112,10 @@ unsafe extern "C" {
     pub fn pkcs1_c_private_key_decode<'a>(text: *const u8, len: usize, key: &mut PrivateKey<'a>, others: *mut OtherPrime<'a>, room: usize) -> u32;
     pub fn pkcs1_c_private_key_encode(key: &PrivateKey<'_>, others: *const OtherPrime<'_>, others_len: usize, out: *mut u8, room: usize, len: &mut usize) -> u32;
     pub fn pkcs1_c_pss_params_decode<'a>(text: *const u8, len: usize, params: &mut PssParams<'a>) -> u32;
+    pub fn pkcs1_c_private_key_info_decode<'a>(text: *const u8, len: usize, info: &mut PrivateKeyInfo<'a>, key: &mut PrivateKey<'a>, others: *mut OtherPrime<'a>, room: usize) -> u32;
+    pub fn pkcs1_c_private_key_info_encode(info: &PrivateKeyInfo<'_>, out: *mut u8, room: usize, len: &mut usize) -> u32;
+    pub fn pkcs1_c_pss_params_decode_strict<'a>(text: *const u8, len: usize, params: &mut PssParams<'a>) -> u32;
+    pub fn pkcs1_c_oaep_params_decode_strict<'a>(text: *const u8, len: usize, params: &mut OaepParams<'a>) -> u32;
     pub fn pkcs1_c_pss_params_encode(params: &PssParams<'_>, out: *mut u8, room: usize, len: &mut usize) -> u32;
     pub fn pkcs1_c_oaep_params_decode<'a>(text: *const u8, len: usize, params: &mut OaepParams<'a>) -> u32;
     pub fn pkcs1_c_oaep_params_encode(params: &OaepParams<'_>, out: *mut u8, room: usize, len: &mut usize) -> u32;

@@ -21,7 +21,7 @@ fn private_keys() {
     let three = [0x30, 40, 2, 1, 1, 2, 1, 1, 2, 1, 2, 2, 1, 3, 2, 1, 4, 2, 1, 5, 2, 1, 6, 2, 1, 7, 2, 1, 8, 0x30, 11, 0x30, 9, 2, 1, 9, 2, 1, 10, 2, 1, 11];
     let key = PrivateKey::decode(&three).unwrap();
     assert_eq!(key.numbers[7], [8]);
-    assert_eq!(key.other_primes, [OtherPrime { prime: &[9], exponent: &[10], coefficient: &[11] }]);
+    assert!(key.other_primes == [OtherPrime { prime: &[9], exponent: &[10], coefficient: &[11] }]);
     assert_eq!(key.encode().unwrap(), three);
     let two = PrivateKey { other_primes: vec![], ..key };
     let text = two.encode().unwrap();
@@ -41,4 +41,26 @@ fn parameters() {
     oaep.p_source.parameters = Some((4, b"label"));
     let text = oaep.encode().unwrap();
     assert_eq!(OaepParams::decode(&text).unwrap(), oaep);
+}
+
+#[test]
+fn strict() {
+    let written = [0x30, 5, 0xa2, 3, 2, 1, 20];
+    assert_eq!(PssParams::decode(&written), PssParams::decode_strict(&[0x30, 0]));
+    assert_eq!(PssParams::decode_strict(&written), Err(Error(5)));
+    assert!(OaepParams::decode_strict(&[0x30, 0]).is_ok());
+}
+
+#[test]
+fn containers() {
+    let text = [
+        0x30, 0x31, 2, 1, 0, 0x30, 13, 6, 9, 0x2a, 0x86, 0x48, 0x86, 0xf7, 0x0d, 1, 1, 1, 5, 0, 4, 29, 0x30, 27, 2, 1, 0, 2, 1, 1, 2, 1, 2, 2, 1, 3, 2, 1,
+        4, 2, 1, 5, 2, 1, 6, 2, 1, 7, 2, 1, 8,
+    ];
+    let info = PrivateKeyInfo::decode(&text).unwrap();
+    assert_eq!(PrivateKey::decode(info.private_key).unwrap().numbers[1], [2]);
+    assert!(info.attributes.is_none());
+    assert_eq!(info.encode().unwrap(), text);
+    let none = PrivateKeyInfo { private_key: &[], attributes: Some(&[]) };
+    assert_eq!(none.encode(), Err(Error(2)));
 }

@@ -2,5 +2,4 @@ use Rattle.std.proofs.Common.{◌∙◌, sym}
 use Rattle.pkcs1_c.proofs.parameters.pkcs1_c_pss_params_decode.Goals as goal
 
 pub returns-in-Ok-clause-one : goal.returns-in-Ok-clause-one
-returns-in-Ok-clause-one c = λ _ other p.
-    c.in-Ok.ensures.one other p ∙ (λ i. record { hash = sym c.algorithm_view.ensures i; mask_gen = sym c.mask_gen_view.ensures i; salt_len = c.in-Ok.read.salt_len; trailer_field = 1 })
+returns-in-Ok-clause-one c = λ _ other p. c.in-Ok.ensures.one other p ∙ sym c.pss_view.ensures
