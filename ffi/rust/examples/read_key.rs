@@ -20,7 +20,7 @@ fn read(kind: &str, text: &[u8]) -> Result<Vec<u8>, Box<dyn std::error::Error>> 
             let key = PublicKey::decode(text)?;
             put("n", key.modulus);
             put("e", key.public_exponent);
-            Ok(key.encode()?)
+            Ok(key.to_vec()?)
         }
         "priv" => {
             let key = PrivateKey::decode(text)?;
@@ -32,12 +32,12 @@ fn read(kind: &str, text: &[u8]) -> Result<Vec<u8>, Box<dyn std::error::Error>> 
                 put("d", other.exponent);
                 put("t", other.coefficient);
             }
-            Ok(key.encode()?)
+            Ok(key.to_vec()?)
         }
         "p8" => {
             let info = PrivateKeyInfo::decode(text)?;
             put("n", PrivateKey::decode(info.private_key)?.numbers[0]);
-            Ok(info.encode()?)
+            Ok(info.to_vec()?)
         }
         "pss" => {
             let params = PssParams::decode(text)?;
@@ -46,7 +46,7 @@ fn read(kind: &str, text: &[u8]) -> Result<Vec<u8>, Box<dyn std::error::Error>> 
                 put_algorithm("mask", hash);
             }
             println!("salt={}", params.salt_len);
-            Ok(params.encode()?)
+            Ok(params.to_vec()?)
         }
         "oaep" => {
             let params = OaepParams::decode(text)?;
@@ -55,7 +55,7 @@ fn read(kind: &str, text: &[u8]) -> Result<Vec<u8>, Box<dyn std::error::Error>> 
                 put_algorithm("mask", hash);
             }
             put_algorithm("source", &params.p_source);
-            Ok(params.encode()?)
+            Ok(params.to_vec()?)
         }
         _ => Err("an unknown kind".into()),
     }

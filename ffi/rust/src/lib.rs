@@ -6,7 +6,7 @@
 //! let text = [0x30, 0x08, 0x02, 0x03, 0x00, 0xc1, 0x7f, 0x02, 0x01, 0x03];
 //! let key = PublicKey::decode(&text)?;
 //! assert_eq!(key.modulus, [0xc1, 0x7f]);
-//! assert_eq!(key.encode()?, text);
+//! assert_eq!(key.to_vec()?, text);
 //! assert_eq!(PublicKey::decode(&text[1..]), Err(Error(11)));
 //! # Ok::<(), Error>(())
 //! ```
@@ -20,7 +20,9 @@ use std::fmt;
 pub struct Error(pub u32);
 
 impl Error {
+    /// No memory was found.
     pub const OUT_OF_MEMORY: Error = Error(17);
+    /// The text has no room in `out`.
     pub const NO_ROOM: Error = Error(15);
 }
 
@@ -47,17 +49,54 @@ fn answer<T>(status: u32, value: impl FnOnce() -> T) -> Result<T, Error> {
     if status == 0 { Ok(value()) } else { Err(Error(status)) }
 }
 
-/// An encoder's answer: the text in the front of `out`, or the refusal; and the length at `NO_ROOM`.
-fn written(call: impl Fn(*mut u8, usize, &mut usize) -> u32) -> Result<Vec<u8>, Error> {
-    let mut len = 0;
-    match call(std::ptr::NonNull::dangling().as_ptr(), 0, &mut len) {
-        15 => {}
-        status => return Err(Error(status)), // no text is empty
+/// A type that the library writes.
+trait Writes {
+    /// The library's call; `len` is the text's length, or the one that is needed.
+    ///
+    /// # Safety
+    /// Writing must be allowed at `out` for `room` octets.
+    unsafe fn write(&self, out: *mut u8, room: usize, len: &mut usize) -> u32;
+
+    fn into_slice(&self, out: &mut [u8]) -> Result<usize, Error> {
+        let mut len = 0;
+        // SAFETY: pointer and length of one slice.
+        let status = unsafe { self.write(out.as_mut_ptr(), out.len(), &mut len) };
+        answer(status, || len)
     }
-    let mut out = vec![0; len];
-    let status = call(out.as_mut_ptr(), out.len(), &mut len);
-    answer(status, || out)
+
+    fn into_vec(&self) -> Result<Vec<u8>, Error> {
+        let mut len = 0;
+        // SAFETY: no octet is written.
+        let status = unsafe { self.write(std::ptr::NonNull::dangling().as_ptr(), 0, &mut len) };
+        if Error(status) != Error::NO_ROOM {
+            return Err(Error(status)); // no text is empty
+        }
+        let mut out = vec![0; len];
+        self.into_slice(&mut out)?;
+        Ok(out)
+    }
 }
+
+macro_rules! writes {
+    ($type:ident) => {
+        impl $type<'_> {
+            /// Writes the shortest text to the front of `out`, whose rest stays, and answers its length.
+            pub fn encode(&self, out: &mut [u8]) -> Result<usize, Error> {
+                self.into_slice(out)
+            }
+
+            /// The shortest text.
+            pub fn to_vec(&self) -> Result<Vec<u8>, Error> {
+                self.into_vec()
+            }
+        }
+    };
+}
+writes!(PublicKey);
+writes!(PrivateKey);
+writes!(PrivateKeyInfo);
+writes!(PssParams);
+writes!(OaepParams);
 
 /// A public key (RFC 8017 A.1.1), by its numbers: most significant octet first.
 #[derive(Clone, Copy, Debug, PartialEq, Eq)]
@@ -76,12 +115,13 @@ impl<'a> PublicKey<'a> {
         let status = unsafe { raw::pkcs1_c_public_key_decode(text.as_ptr(), text.len(), &mut key) };
         answer(status, || PublicKey { modulus: key.modulus.get(), public_exponent: key.public_exponent.get() })
     }
+}
 
-    /// The key's one text.
-    pub fn encode(&self) -> Result<Vec<u8>, Error> {
+impl Writes for PublicKey<'_> {
+    unsafe fn write(&self, out: *mut u8, room: usize, len: &mut usize) -> u32 {
         let key = raw::PublicKey { modulus: raw::Bytes::new(self.modulus), public_exponent: raw::Bytes::new(self.public_exponent) };
-        // SAFETY: as above; `out` is fresh, so it overlaps nothing.
-        written(|out, room, len| unsafe { raw::pkcs1_c_public_key_encode(&key, out, room, len) })
+        // SAFETY: the structs hold slices, and the caller answers for `out`.
+        unsafe { raw::pkcs1_c_public_key_encode(&key, out, room, len) }
     }
 }
 
@@ -131,14 +171,15 @@ impl<'a> PrivateKey<'a> {
         let other = |o: &raw::OtherPrime<'a>| OtherPrime { prime: o.prime.get(), exponent: o.exponent.get(), coefficient: o.coefficient.get() };
         Ok(PrivateKey { numbers: key.numbers.map(raw::Bytes::get), other_primes: others.iter().map(other).collect() })
     }
+}
 
-    /// The key's one text.
-    pub fn encode(&self) -> Result<Vec<u8>, Error> {
+impl Writes for PrivateKey<'_> {
+    unsafe fn write(&self, out: *mut u8, room: usize, len: &mut usize) -> u32 {
         let bytes = raw::Bytes::new;
         let others: Vec<_> = self.other_primes.iter().map(|o| raw::OtherPrime { prime: bytes(o.prime), exponent: bytes(o.exponent), coefficient: bytes(o.coefficient) }).collect();
         let key = raw::PrivateKey { numbers: self.numbers.map(raw::Bytes::new), other_primes: others.len() };
-        // SAFETY: as above.
-        written(|out, room, len| unsafe { raw::pkcs1_c_private_key_encode(&key, others.as_ptr(), others.len(), out, room, len) })
+        // SAFETY: the structs hold slices, and the caller answers for `out`.
+        unsafe { raw::pkcs1_c_private_key_encode(&key, others.as_ptr(), others.len(), out, room, len) }
     }
 }
 
@@ -160,13 +201,14 @@ impl<'a> PrivateKeyInfo<'a> {
         let status = unsafe { raw::pkcs1_c_private_key_info_decode(text.as_ptr(), text.len(), &mut info, &mut key, others, 0) };
         answer(status, || PrivateKeyInfo { private_key: info.private_key.get(), attributes: info.has_attributes.then(|| info.attributes.get()) })
     }
+}
 
-    /// The container's one text. Refused where the octets are no private key's text.
-    pub fn encode(&self) -> Result<Vec<u8>, Error> {
+impl Writes for PrivateKeyInfo<'_> {
+    unsafe fn write(&self, out: *mut u8, room: usize, len: &mut usize) -> u32 {
         let attributes = raw::Bytes::new(self.attributes.unwrap_or(&[]));
         let info = raw::PrivateKeyInfo { private_key: raw::Bytes::new(self.private_key), has_attributes: self.attributes.is_some(), attributes };
-        // SAFETY: as above.
-        written(|out, room, len| unsafe { raw::pkcs1_c_private_key_info_encode(&info, out, room, len) })
+        // SAFETY: the structs hold slices, and the caller answers for `out`.
+        unsafe { raw::pkcs1_c_private_key_info_encode(&info, out, room, len) }
     }
 }
 
@@ -242,12 +284,13 @@ impl<'a> PssParams<'a> {
     fn seen(p: &raw::PssParams<'a>) -> PssParams<'a> {
         PssParams { hash: Algorithm::seen(&p.hash), mask_gen: MaskGen::seen(&p.mask_gen), salt_len: p.salt_len }
     }
+}
 
-    /// The shortest text, in which no default is written.
-    pub fn encode(&self) -> Result<Vec<u8>, Error> {
+impl Writes for PssParams<'_> {
+    unsafe fn write(&self, out: *mut u8, room: usize, len: &mut usize) -> u32 {
         let p = raw::PssParams { hash: self.hash.raw(), mask_gen: self.mask_gen.raw(), salt_len: self.salt_len, trailer_field: 1 };
-        // SAFETY: as above.
-        written(|out, room, len| unsafe { raw::pkcs1_c_pss_params_encode(&p, out, room, len) })
+        // SAFETY: the structs hold slices, and the caller answers for `out`.
+        unsafe { raw::pkcs1_c_pss_params_encode(&p, out, room, len) }
     }
 }
 
@@ -279,11 +322,12 @@ impl<'a> OaepParams<'a> {
     fn seen(p: &raw::OaepParams<'a>) -> OaepParams<'a> {
         OaepParams { hash: Algorithm::seen(&p.hash), mask_gen: MaskGen::seen(&p.mask_gen), p_source: Algorithm::seen(&p.p_source) }
     }
+}
 
-    /// The shortest text, in which no default is written.
-    pub fn encode(&self) -> Result<Vec<u8>, Error> {
+impl Writes for OaepParams<'_> {
+    unsafe fn write(&self, out: *mut u8, room: usize, len: &mut usize) -> u32 {
         let p = raw::OaepParams { hash: self.hash.raw(), mask_gen: self.mask_gen.raw(), p_source: self.p_source.raw() };
-        // SAFETY: as above.
-        written(|out, room, len| unsafe { raw::pkcs1_c_oaep_params_encode(&p, out, room, len) })
+        // SAFETY: the structs hold slices, and the caller answers for `out`.
+        unsafe { raw::pkcs1_c_oaep_params_encode(&p, out, room, len) }
     }
 }
