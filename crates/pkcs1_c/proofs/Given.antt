@@ -1,0 +1,142 @@
+-- Keys of given numbers.
+use Rattle.std.proofs.Common.{ℕ, zero, suc, List, [], ◌∷◌, ◌++◌, ◌≡◌, ◌≤◌, ◌<◌, length, length-append, map, get_or, refl, sym, ap, subst, ◌∙◌, arith, Option, Some, None, inl, inr}
+use Rattle.std.specs.Prelude.{Result, Ok, Err, IfErr, OnErr, IsErrAnd}
+use Rattle.der_core.specs.Document.{Means}
+use Rattle.der_core.specs.Length.{limit}
+use Rattle.der_core.specs.Texts.{Joins}
+use Rattle.der_core.specs.Tlv.{Tlv}
+use Rattle.der_core.specs.Integer.{Integer, IntegerContents}
+use Rattle.der_core.specs.IntegerLaws.{canonical_same}
+use Rattle.pkcs1.specs.Writing.{key_numbers}
+use Rattle.pkcs1.specs.Keys.{PublicKey, PrivateKey, RsaPrivateKey, OtherPrime, OtherPrimeInfo, OtherPrimeInfos}
+use Rattle.pkcs1_c.specs.Given.{HasNoOther, HaveNoOthers}
+use Rattle.pkcs1_c.specs.Numbers.{IsNumberOf, ArePublicNumbers, IsOtherOf, AreOthersOf, AreOtherNumbers, ArePrivateNumbers}
+
+-- What holds whatever the error is.
+pub err_all : {T E : Type 0} (P : E → Type 0) (r : Result T E) → ((e : E) → P e) → IfErr r P
+err_all P (Ok x) p = tt
+err_all P (Err e) p = p e
+
+pub on_err : {T E : Type 0} (P : Type 0) (r : Result T E) → P → OnErr r P
+on_err P (Ok x) p = tt
+on_err P (Err e) p = p
+
+-- What holds of an error that was handed on.
+pub err_handed : {T E : Type 0} (P : E → Type 0) (first : E) (r : Result T E) → IsErrAnd r (λ e. e ≡ first) → P first → IfErr r P
+err_handed P first (Ok x) same p = absurd same
+err_handed P first (Err e) same p = subst P (sym same) p
+
+-- The contents of a text are no longer than the text.
+contents_within : {t most : ℕ} {P : List ℕ → Type 0} (x : List ℕ) (p : Tlv t P x) → length x ≤ most → length p.contents ≤ most
+contents_within x p few = let l = ap length p.written in let k = length-append p.octets p.contents in omega (arith, l, k, few)
+
+-- A number is no longer than its contents, nor than a text that its text stands in.
+contents_hold : (n c : List ℕ) → IntegerContents n c → length n ≤ length c
+contents_hold n c (p, inl a) = omega (arith, ap length a.1)
+contents_hold n c (p, inr a) = omega (arith, ap length a.1)
+
+number_within : {most : ℕ} (n x : List ℕ) → Integer n x → length x ≤ most → length n ≤ most
+number_within n x p few = omega (arith, contents_hold n p.contents p.holds, contents_within x p few)
+
+abbrev pub AreWithin : List (List ℕ) → ℕ → Type 0
+AreWithin [] most = Unit {0}
+AreWithin (n ∷ ns) most = (length n ≤ most) × AreWithin ns most
+
+-- Numbers at the front of contents, and what stands behind them, are within the contents.
+joins_hold : (ns : List (List ℕ)) (Qs : List (List ℕ → Type 0)) (c : List ℕ) (most : ℕ) → Joins (map Integer ns ++ Qs) c → length c ≤ most
+    → AreWithin ns most × (d : List ℕ) × Joins Qs d × (length d ≤ most)
+joins_hold [] Qs c most p few = (tt, c, p, few)
+joins_hold (n ∷ ns) Qs c most (x, d, p, i, e) few =
+    let l = ap length e in
+    let k = length-append x d in
+    let r = joins_hold ns Qs d most i (omega (arith, l, k, few)) in
+    ((number_within n x p (omega (arith, l, k, few)), r.0), r.1, r.2, r.3)
+
+pub private_within : (key : PrivateKey (List ℕ)) (text : List ℕ) → Means RsaPrivateKey text key
+    → AreWithin (key_numbers key) limit × (d : List ℕ) × OtherPrimeInfos Integer key.other_prime_infos d × (length d ≤ limit)
+private_within key text m =
+    let (x, c, version, numbers, e) = m.1.holds in
+    let l = ap length e in
+    let k = length-append x c in
+    let r = joins_hold (key_numbers key) (OtherPrimeInfos Integer key.other_prime_infos ∷ []) c limit numbers (omega (arith, l, k, contents_within text m.1 m.0)) in
+    let (y, z, others, nil, f) = r.2 in
+    let j = ap length f in
+    let h = length-append y z in
+    (r.0, y, others, omega (arith, r.3, j, h))
+
+pub other_within : (other : OtherPrime (List ℕ)) (text : List ℕ) → OtherPrimeInfo Integer other text → length text ≤ limit
+    → AreWithin (other.prime ∷ other.exponent ∷ other.coefficient ∷ []) limit
+other_within other text p few = (joins_hold (other.prime ∷ other.exponent ∷ other.coefficient ∷ []) [] p.contents limit p.holds (contents_within text p few)).0
+
+-- One of the primes has no text: so the list has none.
+pub one_has_none : {X : Type 0} (f : X → OtherPrime (List ℕ)) (gs : List X) (i : ℕ) (d : X) → i < length gs → HasNoOther (f (get_or gs i d)) → HaveNoOthers (map f gs)
+one_has_none f [] i d l none others given c p few = omega (arith, l)
+one_has_none f (g ∷ gs) i d l none [] given c p few = absurd given
+one_has_none f (g ∷ gs) zero d l none (o ∷ os) given c (x, r, q, rest, e) few =
+    let k = ap length e in
+    let j = length-append x r in
+    none o given.0 x q (omega (arith, k, j, few))
+one_has_none f (g ∷ gs) (suc i) d l none (o ∷ os) given c (x, r, q, rest, e) few =
+    let k = ap length e in
+    let j = length-append x r in
+    one_has_none f gs i d (omega (arith, l)) none os given.1 r rest (omega (arith, k, j, few))
+
+-- No other primes of the numbers have texts: so no key has.
+pub infos_have_none : (given : List (OtherPrime (List ℕ))) → 0 < length given → HaveNoOthers given → (infos : Option (List (OtherPrime (List ℕ))))
+    → AreOtherNumbers infos given → (d : List ℕ) → OtherPrimeInfos Integer infos d → length d ≤ limit → ⊥
+infos_have_none given some none None are d p few = omega (arith, some, ap length are)
+infos_have_none given some none (Some others) are d p few = none others are.1 p.1.contents p.1.holds (contents_within d p.1 few)
+
+-- Bytes have one number.
+number_same : (bytes m n : List ℕ) → IsNumberOf bytes m → IsNumberOf bytes n → m ≡ n
+number_same bytes m n p q = canonical_same m n p.1 q.1 (p.2 ∙ sym q.2)
+
+pub public_same : (given k l : PublicKey (List ℕ)) → ArePublicNumbers k given → ArePublicNumbers l given → k ≡ l
+public_same given k l p q =
+    let m = number_same given.modulus k.modulus l.modulus p.0 q.0 in
+    let e = number_same given.public_exponent k.public_exponent l.public_exponent p.1 q.1 in
+    λ i. record { modulus = m i; public_exponent = e i }
+
+other_same : (given k l : OtherPrime (List ℕ)) → IsOtherOf given k → IsOtherOf given l → k ≡ l
+other_same given k l p q =
+    let a = number_same given.prime k.prime l.prime p.0 q.0 in
+    let b = number_same given.exponent k.exponent l.exponent p.1 q.1 in
+    let c = number_same given.coefficient k.coefficient l.coefficient p.2 q.2 in
+    λ i. record { prime = a i; exponent = b i; coefficient = c i }
+
+others_same : (given ks ls : List (OtherPrime (List ℕ))) → AreOthersOf given ks → AreOthersOf given ls → ks ≡ ls
+others_same [] [] [] p q = refl
+others_same [] [] (l ∷ ls) p q = absurd q
+others_same [] (k ∷ ks) ls p q = absurd p
+others_same (g ∷ gs) [] ls p q = absurd p
+others_same (g ∷ gs) (k ∷ ks) [] p q = absurd q
+others_same (g ∷ gs) (k ∷ ks) (l ∷ ls) p q = λ i. other_same g k l p.0 q.0 i ∷ others_same gs ks ls p.1 q.1 i
+
+listed_same : (given : List (OtherPrime (List ℕ))) (ks ls : Option (List (OtherPrime (List ℕ)))) → AreOtherNumbers ks given → AreOtherNumbers ls given → ks ≡ ls
+listed_same given None None p q = refl
+listed_same given None (Some ls) p q = absurd (omega (arith, ap length p, q.0))
+listed_same given (Some ks) None p q = absurd (omega (arith, ap length q, p.0))
+listed_same given (Some ks) (Some ls) p q = ap Some (others_same given ks ls p.1 q.1)
+
+pub private_same : (given k l : PrivateKey (List ℕ)) (others : List (OtherPrime (List ℕ))) → ArePrivateNumbers k given others → ArePrivateNumbers l given others → k ≡ l
+private_same given k l others p q =
+    let a = number_same given.modulus k.modulus l.modulus p.0 q.0 in
+    let b = number_same given.public_exponent k.public_exponent l.public_exponent p.1 q.1 in
+    let c = number_same given.private_exponent k.private_exponent l.private_exponent p.2 q.2 in
+    let d = number_same given.prime1 k.prime1 l.prime1 p.3 q.3 in
+    let e = number_same given.prime2 k.prime2 l.prime2 p.4 q.4 in
+    let f = number_same given.exponent1 k.exponent1 l.exponent1 p.5 q.5 in
+    let g = number_same given.exponent2 k.exponent2 l.exponent2 p.6 q.6 in
+    let h = number_same given.coefficient k.coefficient l.coefficient p.7 q.7 in
+    let o = listed_same others k.other_prime_infos l.other_prime_infos p.8 q.8 in
+    λ i. record {
+      modulus = a i;
+      public_exponent = b i;
+      private_exponent = c i;
+      prime1 = d i;
+      prime2 = e i;
+      exponent1 = f i;
+      exponent2 = g i;
+      coefficient = h i;
+      other_prime_infos = o i;
+    }

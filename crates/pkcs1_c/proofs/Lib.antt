@@ -1,0 +1,4 @@
+pub mod Fits
+pub mod Given
+pub mod Lists
+pub mod Refusals

@@ -1,0 +1,16 @@
+use Rattle.std.proofs.Common.{◌∙◌, sym, ap, subst}
+use Rattle.der_core.specs.Document.{Means}
+use Rattle.pkcs1.specs.Keys.{RsaPrivateKey}
+use Rattle.pkcs8_core.specs.Container.{Info}
+use Rattle.pkcs1_c.specs.Seen.{private_key_seen}
+use Rattle.pkcs1_c.proofs.container.pkcs1_c_private_key_info_decode.Goals as goal
+
+pub returns-in-Ok-clause-one : goal.returns-in-Ok-clause-one
+returns-in-Ok-clause-one c = λ _ other m. c.in-Ok.ensures.one other m ∙ sym (c.seen_info.ensures c.in-Ok.ensures.ok.1.0)
+
+pub returns-in-Ok-clause-one_key : goal.returns-in-Ok-clause-one_key
+returns-in-Ok-clause-one_key c = λ _ other m.
+    let rsa = c.in-Ok.ensures.ok.1.0 in
+    let octets = ap (λ (i : Info). i.private_key) (c.seen_info.ensures rsa) in
+    let same = c.in-Ok.ensures.key other (rsa, subst (λ t. Means RsaPrivateKey t other) octets m) in
+    same ∙ sym c.seen_key.ensures.key ∙ (λ i. private_key_seen c.seen_key.result (sym same i).other_prime_infos)

@@ -1,0 +1,8 @@
+use Rattle.std.proofs.Common.{◌∙◌, sym}
+use Rattle.pkcs1_c.specs.Seen.{private_key_seen}
+use Rattle.pkcs1_c.proofs.private_key.pkcs1_c_private_key_decode.Goals as goal
+
+pub returns-in-Ok-clause-one : goal.returns-in-Ok-clause-one
+returns-in-Ok-clause-one c = λ _ other m.
+    let same = c.in-Ok.ensures.one other m in
+    same ∙ sym c.seen_key.ensures.key ∙ (λ i. private_key_seen c.seen_key.result (sym same i).other_prime_infos)

@@ -1,0 +1,8 @@
+use Rattle.std.proofs.Common.{◌≡◌, ◌++◌, take, map}
+use Rattle.pkcs1.specs.OtherPrimesLeft.{others_left}
+use Rattle.pkcs1_c.specs.Seen.{other_prime_seen}
+use Rattle.pkcs1_c.proofs.private_key.place_others.Given as goal
+
+-- What was placed, and what is left, are the primes.
+abbrev pub invariant-loop-i : goal.invariant-loop-i
+invariant-loop-i l = take l.i (map other_prime_seen l.others) ++ others_left l.left ≡ others_left l.primes

@@ -1,0 +1,19 @@
+-- What C sees of a container with an RSA key.
+use Rattle.std.specs.Prelude.{ℕ, List, Some, None, if◌then◌else◌}
+use Rattle.der_core.specs.Document.{Means}
+use Rattle.pkcs1.specs.Keys.{PrivateKey, RsaPrivateKey}
+use Rattle.pkcs8_core.specs.Container.{Info}
+use Rattle.pkcs8_core.specs.Rsa.{rsa_encryption}
+use Rattle.pkcs1_c.specs.declared.container.PrivateKeyInfo.{PrivateKeyInfo}
+
+-- The algorithm is rsaEncryption with NULL.
+abbrev pub info_seen : PrivateKeyInfo → Info
+info_seen info = record {
+  algorithm = rsa_encryption;
+  private_key = info.private_key.now;
+  attributes = if info.has_attributes then Some info.attributes.now else None;
+}
+
+-- The octets are the text of a private key.
+abbrev pub HoldsKey : PrivateKeyInfo → PrivateKey (List ℕ) → Type 0
+HoldsKey info key = Means RsaPrivateKey info.private_key.now key

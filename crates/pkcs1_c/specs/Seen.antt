@@ -1,0 +1,58 @@
+-- What C sees in the structs.
+use Rattle.std.specs.Prelude.{ℕ, List, [], ◌≡◌, length, take, map, nat_le, Option, Some, None, if◌then◌else◌}
+use Rattle.spki_core.specs.Any.{TagAndContents}
+use Rattle.spki_core.specs.AlgorithmIdentifier as spki
+use Rattle.pkcs1.specs.Keys as keys
+use Rattle.pkcs1_params.specs.Parameters.{PssParameters, OaepParameters}
+use Rattle.pkcs1.specs.ViewParts.{listed_others}
+use Rattle.pkcs1_c.specs.declared.public_key.PublicKey.{PublicKey}
+use Rattle.pkcs1_c.specs.declared.private_key.PrivateKey.{PrivateKey}
+use Rattle.pkcs1_c.specs.declared.private_key.OtherPrime.{OtherPrime}
+use Rattle.pkcs1_c.specs.declared.algorithm.Oid.{Oid}
+use Rattle.pkcs1_c.specs.declared.algorithm.Algorithm.{Algorithm}
+use Rattle.pkcs1_c.specs.declared.algorithm.MaskGen.{MaskGen}
+use Rattle.pkcs1_c.specs.declared.parameters.PssParams.{PssParams}
+use Rattle.pkcs1_c.specs.declared.parameters.OaepParams.{OaepParams}
+
+abbrev pub public_key_seen : PublicKey → keys.PublicKey (List ℕ)
+public_key_seen key = record { modulus = key.modulus.now; public_exponent = key.public_exponent.now }
+
+abbrev pub other_prime_seen : OtherPrime → keys.OtherPrime (List ℕ)
+other_prime_seen other = record { prime = other.prime.now; exponent = other.exponent.now; coefficient = other.coefficient.now }
+
+-- The first of the other primes, as many as there are places, stand in the array.
+abbrev pub ArePlaced : List (keys.OtherPrime (List ℕ)) → List OtherPrime → Type 0
+ArePlaced others array = take (length array) others ≡ take (length others) (map other_prime_seen array)
+
+-- There are these many other primes, and they are placed.
+abbrev pub AreListed : ℕ → List OtherPrime → Option (List (keys.OtherPrime (List ℕ))) → Type 0
+AreListed count array others = (count ≡ length (listed_others others)) × ArePlaced (listed_others others) array
+
+abbrev pub private_key_seen : PrivateKey → Option (List (keys.OtherPrime (List ℕ))) → keys.PrivateKey (List ℕ)
+private_key_seen key others = record {
+  modulus = key.modulus.now;
+  public_exponent = key.public_exponent.now;
+  private_exponent = key.private_exponent.now;
+  prime1 = key.prime1.now;
+  prime2 = key.prime2.now;
+  exponent1 = key.exponent1.now;
+  exponent2 = key.exponent2.now;
+  coefficient = key.coefficient.now;
+  other_prime_infos = others;
+}
+
+-- The octets of an identifier, the first of those in the array: none where there should be more than it has.
+abbrev pub oid_seen : Oid → List ℕ
+oid_seen oid = if nat_le oid.len 39 then take oid.len oid.octets else []
+
+abbrev pub algorithm_seen : Algorithm → spki.Algorithm TagAndContents
+algorithm_seen a = record { oid = oid_seen a.oid; parameters = if a.has_parameters then Some (record { tag = a.tag; contents = a.parameters.now }) else None }
+
+abbrev pub mask_gen_seen : MaskGen → spki.Algorithm (spki.Algorithm TagAndContents)
+mask_gen_seen m = record { oid = oid_seen m.oid; parameters = if m.has_hash then Some (algorithm_seen m.hash) else None }
+
+abbrev pub pss_seen : PssParams → PssParameters
+pss_seen p = record { hash = algorithm_seen p.hash; mask_gen = mask_gen_seen p.mask_gen; salt_len = p.salt_len; trailer_field = p.trailer_field }
+
+abbrev pub oaep_seen : OaepParams → OaepParameters
+oaep_seen p = record { hash = algorithm_seen p.hash; mask_gen = mask_gen_seen p.mask_gen; p_source = algorithm_seen p.p_source }

@@ -1,0 +1,61 @@
+-- Numbers of refusals, and their texts.
+use Rattle.std.specs.Prelude.{ℕ, List, [], ◌∷◌, codes, get_or}
+use Rattle.der_core.specs.declared.error.ErrorKind.{ErrorKind}
+use Rattle.der_core.specs.declared.error.ErrorKind.TheVariants as kind
+use Rattle.pkcs1_params.specs.declared.error.Error.{Error}
+use Rattle.pkcs1_params.specs.declared.error.Error.TheVariants as error
+
+abbrev pub kind_number : ErrorKind → ℕ
+kind_number kind.Failed = 1
+kind_number kind.Incomplete = 2
+kind_number kind.IndefiniteLength = 3
+kind_number (kind.Length tag) = 4
+kind_number (kind.Noncanonical tag) = 5
+kind_number kind.OidMalformed = 6
+kind_number kind.OidUnknown = 7
+kind_number kind.Overflow = 8
+kind_number kind.Overlength = 9
+kind_number kind.ParametersMissing = 10
+kind_number (kind.TagUnexpected expected actual) = 11
+kind_number (kind.TagUnknown octet) = 12
+kind_number kind.TrailingData = 13
+kind_number (kind.Value tag) = 14
+kind_number kind.NoRoom = 15
+kind_number kind.File = 16
+kind_number kind.OutOfMemory = 17
+
+abbrev pub status_of : Error → ℕ
+status_of (error.Asn1 e) = kind_number e.kind
+status_of error.Crypto = 18
+status_of error.KeyMalformed = 19
+status_of error.Version = 20
+
+-- By number.
+abbrev pub status_texts : List (List ℕ)
+status_texts =
+    codes "no error"
+    ∷ codes "an earlier read failed"
+    ∷ codes "the input ends too early"
+    ∷ codes "the length is indefinite"
+    ∷ codes "the contents have a wrong length"
+    ∷ codes "the contents are not in shortest form"
+    ∷ codes "the object identifier is malformed"
+    ∷ codes "the object identifier is another one"
+    ∷ codes "a length passes the limit"
+    ∷ codes "the length is not in shortest form"
+    ∷ codes "the algorithm parameters are missing"
+    ∷ codes "another tag was expected"
+    ∷ codes "the tag octet is not known"
+    ∷ codes "bytes follow the value"
+    ∷ codes "the value is not allowed"
+    ∷ codes "there is too little room"
+    ∷ codes "a read or a write failed"
+    ∷ codes "no memory was found"
+    ∷ codes "another error"
+    ∷ codes "another error"
+    ∷ codes "another error"
+    ∷ codes "the other primes are not as many as the key says"
+    ∷ []
+
+abbrev pub status_text : ℕ → List ℕ
+status_text status = get_or status_texts status (codes "another error")

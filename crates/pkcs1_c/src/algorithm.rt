@@ -1,0 +1,161 @@
+//! Algorithm identifiers.
+ghost use Rattle.std.specs.Prelude.{◌≡◌, ◌≢◌, ℕ, IfOk, IfErr};
+ghost use Rattle.spki_core.specs.ObjectIdentifier.{IsIdentifier};
+ghost use Rattle.spki_core.specs.AlgorithmRefs.{algorithm_of, mask_of};
+ghost use Rattle.spki_core.specs.ObjectIdentifiers.{octets_of};
+ghost use Rattle.pkcs1_c.specs.Fits.{PlainFits, MaskFits};
+ghost use Rattle.pkcs1_c.specs.Status.{kind_number};
+ghost use Rattle.pkcs1_c.specs.Seen.{oid_seen, algorithm_seen, mask_gen_seen};
+
+use der_core::{Error, ErrorKind, Result, Tag};
+use spki_core::{AlgorithmIdentifier, AlgorithmIdentifierRef, AnyRef, ObjectIdentifier};
+
+/// An object identifier, by its contents octets: the first `len`.
+#[repr(C)]
+#[derive(Clone, Copy, Drop)]
+pub struct Oid {
+    /// The octets.
+    pub octets: [u8; 39],
+    /// How many there are.
+    pub len: u8,
+}
+
+/// An algorithm, and parameters that are there or not.
+#[repr(C)]
+#[derive(Clone, Copy, Drop)]
+pub struct Algorithm<'a> {
+    /// Which algorithm it is.
+    pub oid: Oid,
+    /// Whether parameters are there.
+    pub has_parameters: bool,
+    /// The tag octet of the parameters.
+    pub tag: u8,
+    /// Their contents octets.
+    pub parameters: &'a [u8],
+}
+
+/// A mask generation function.
+#[repr(C)]
+#[derive(Clone, Copy, Drop)]
+pub struct MaskGen<'a> {
+    /// Which function it is.
+    pub oid: Oid,
+    /// Whether the hash function under it is there.
+    pub has_hash: bool,
+    /// The hash function under it.
+    pub hash: Algorithm<'a>,
+}
+
+/// The identifier, as C sees it.
+fn oid_view(oid: &ObjectIdentifier) -> Oid
+    ensures { oid_seen result ≡ octets_of oid.now }
+{
+    let bytes = oid.as_bytes();
+    let mut octets = [0; 39];
+    octets[..bytes.len()].copy_from_slice(bytes);
+    Oid {
+        octets,
+        len: bytes.len() as u8,
+    }
+}
+
+/// The algorithm, as C sees it.
+pub(crate) fn algorithm_view<'a>(algorithm: &AlgorithmIdentifierRef<'a>) -> Algorithm<'a>
+    ensures { algorithm_seen result ≡ algorithm_of algorithm.now }
+{
+    let oid = oid_view(&algorithm.oid);
+    match &algorithm.parameters {
+        None => Algorithm {
+            oid,
+            has_parameters: false,
+            tag: 0,
+            parameters: &[],
+        },
+        Some(any) => Algorithm {
+            oid,
+            has_parameters: true,
+            tag: any.tag().octet(),
+            parameters: any.value(),
+        },
+    }
+}
+
+/// The mask generation function, as C sees it.
+pub(crate) fn mask_gen_view<'a>(
+    mask_gen: &AlgorithmIdentifier<AlgorithmIdentifierRef<'a>>,
+) -> MaskGen<'a>
+    ensures { mask_gen_seen result ≡ mask_of mask_gen.now }
+{
+    let oid = oid_view(&mask_gen.oid);
+    match &mask_gen.parameters {
+        None => MaskGen {
+            oid,
+            has_hash: false,
+            hash: Algorithm {
+                oid,
+                has_parameters: false,
+                tag: 0,
+                parameters: &[],
+            },
+        },
+        Some(hash) => MaskGen {
+            oid,
+            has_hash: true,
+            hash: algorithm_view(hash),
+        },
+    }
+}
+
+/// The identifier that C gives, or `OidMalformed`.
+fn oid_from(oid: &Oid) -> Result<ObjectIdentifier>
+    ensures ok { IfOk result (λ made. octets_of made ≡ oid_seen oid.now) }
+    ensures err { IfErr result (λ e. (kind_number e.kind ≡ 6) × (IsIdentifier (oid_seen oid.now) → ⊥)) }
+{
+    if oid.len > 39 {
+        return Err(Error::new(ErrorKind::OidMalformed));
+    }
+    ObjectIdentifier::from_bytes(&oid.octets[..oid.len as usize])
+}
+
+/// The algorithm that C gives.
+pub(crate) fn algorithm_from<'a>(algorithm: &Algorithm<'a>) -> Result<AlgorithmIdentifierRef<'a>>
+    ensures ok { IfOk result (λ made. algorithm_of made ≡ algorithm_seen algorithm.now) }
+    ensures err { IfErr result (λ e. kind_number e.kind ≢ 15) }
+    ensures refused { IfErr result (λ e. PlainFits (algorithm_seen algorithm.now) → ⊥) }
+{
+    let oid = oid_from(&algorithm.oid)?;
+    if !algorithm.has_parameters {
+        return Ok(AlgorithmIdentifier {
+            oid,
+            parameters: None,
+        });
+    }
+    let tag = Tag::from_octet(algorithm.tag)?;
+    let any = AnyRef::new(tag, algorithm.parameters)?;
+    Ok(AlgorithmIdentifier {
+        oid,
+        parameters: Some(any),
+    })
+}
+
+/// The mask generation function that C gives.
+pub(crate) fn mask_gen_from<'a>(
+    mask_gen: &MaskGen<'a>,
+) -> Result<AlgorithmIdentifier<AlgorithmIdentifierRef<'a>>>
+    ensures ok { IfOk result (λ made. mask_of made ≡ mask_gen_seen mask_gen.now) }
+    ensures err { IfErr result (λ e. kind_number e.kind ≢ 15) }
+    ensures refused { IfErr result (λ e. MaskFits (mask_gen_seen mask_gen.now) → ⊥) }
+{
+    let oid = oid_from(&mask_gen.oid)?;
+    if !mask_gen.has_hash {
+        return Ok(AlgorithmIdentifier {
+            oid,
+            parameters: None,
+        });
+    }
+    let hash = algorithm_from(&mask_gen.hash)?;
+    Ok(AlgorithmIdentifier {
+        oid,
+        parameters: Some(hash),
+    })
+}

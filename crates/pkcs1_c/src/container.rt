@@ -1,0 +1,150 @@
+//! RSA keys in PKCS #8 containers.
+ghost use Rattle.std.specs.Prelude.{◌≡◌, ◌≢◌, ◌≤◌, ℕ, List, Option, length, take, drop, IfOk, IfErr, OnErr};
+ghost use Rattle.der_core.specs.Document.{Means, IsShortest};
+ghost use Rattle.pkcs1.specs.Keys.{OtherPrime as Prime, PrivateKey as Key};
+ghost use Rattle.pkcs1.specs.ViewParts.{view_of, viewed_text};
+ghost use Rattle.pkcs8_core.specs.Container as container;
+ghost use Rattle.pkcs8_core.specs.Held.{info_of};
+ghost use Rattle.pkcs8_core.specs.Rsa.{rsa_encryption, HoldsRsa};
+ghost use Rattle.pkcs1_c.specs.Containers.{info_seen, HoldsKey};
+ghost use Rattle.pkcs1_c.specs.Refusals.{HasNoText, LacksRoom};
+ghost use Rattle.pkcs1_c.specs.Seen.{private_key_seen, AreListed};
+ghost use Rattle.pkcs1_c.specs.Status.{status_of};
+
+use crate::needed::refusal;
+use crate::private_key::{OtherPrime, PrivateKey, seen_key};
+use crate::status::{OK, status};
+use der_core::{Encode, OctetStringRef};
+use pkcs1::{Error, RsaPrivateKeyView, algorithm_id};
+use pkcs8_core::PrivateKeyInfoRef;
+
+/// A container (PrivateKeyInfo of RFC 5208 5) of an RSA key, whose algorithm is rsaEncryption with NULL.
+#[repr(C)]
+#[derive(Clone, Copy, Drop)]
+pub struct PrivateKeyInfo<'a> {
+    /// The private key's text.
+    pub private_key: &'a [u8],
+    /// Whether attributes are there.
+    pub has_attributes: bool,
+    /// Their contents octets, which aren't looked at.
+    pub attributes: &'a [u8],
+}
+
+/// Reads a container and the RSA key in it.
+fn read_container<'a>(
+    text: &'a [u8],
+) -> pkcs1::Result<(PrivateKeyInfoRef<'a>, RsaPrivateKeyView<'a>)>
+    ensures ok { IfOk result (λ read. Means container.PrivateKeyInfo text.now (info_of read.0)
+        × HoldsRsa (info_of read.0) (view_of read.1)) }
+    ensures one { IfOk result (λ read. (other : container.Info) → Means container.PrivateKeyInfo text.now other
+        → other ≡ info_of read.0) }
+    ensures key { IfOk result (λ read. (other : Key (List ℕ)) → HoldsRsa (info_of read.0) other
+        → other ≡ view_of read.1) }
+    ensures err { OnErr result ((info : container.Info) (key : Key (List ℕ))
+        → Means container.PrivateKeyInfo text.now info → HoldsRsa info key → ⊥) }
+{
+    let info = PrivateKeyInfoRef::try_from(text)?;
+    let view = info.rsa_view()?;
+    Ok((info, view))
+}
+
+/// The container of an RSA key, as C sees it.
+fn seen_info<'a>(info: &PrivateKeyInfoRef<'a>) -> PrivateKeyInfo<'a>
+    ensures { (info_of info.now).algorithm ≡ rsa_encryption → info_seen result ≡ info_of info.now }
+{
+    let private_key = info.private_key.as_bytes();
+    match info.attributes {
+        Some(attributes) => PrivateKeyInfo {
+            private_key,
+            has_attributes: true,
+            attributes,
+        },
+        None => PrivateKeyInfo {
+            private_key,
+            has_attributes: false,
+            attributes: &[],
+        },
+    }
+}
+
+/// Reads a container, without memory: 0 where the text is one, its algorithm is rsaEncryption with NULL, and its octets
+/// are a private key's text; and then that key's numbers, as `pkcs1_c_private_key_decode`.
+#[unsafe(no_mangle)]
+pub extern "C" fn pkcs1_c_private_key_info_decode<'a>(
+    text: &'a [u8],
+    info: &mut PrivateKeyInfo<'a>,
+    key: &mut PrivateKey<'a>,
+    others: &mut [OtherPrime<'a>],
+) -> u32
+    ensures ok { result ≡ 0 → Means container.PrivateKeyInfo text.now (info_seen info.new) }
+    ensures one { result ≡ 0 → (other : container.Info) → Means container.PrivateKeyInfo text.now other
+        → other ≡ info_seen info.new }
+    ensures key { result ≡ 0 → (infos : Option (List (Prime (List ℕ))))
+        × AreListed key.new.other_primes others.new infos × HoldsKey info.new (private_key_seen key.new infos) }
+    ensures one_key { result ≡ 0 → (other : Key (List ℕ)) → HoldsKey info.new other
+        → other ≡ private_key_seen key.new other.other_prime_infos }
+    ensures refused { result ≢ 0 → (other : container.Info) (held : Key (List ℕ))
+        → Means container.PrivateKeyInfo text.now other → HoldsRsa other held → ⊥ }
+    ensures unchanged { result ≢ 0 → (info.new ≡ info.old) × (key.new ≡ key.old) × (others.new ≡ others.old) }
+{
+    match read_container(text) {
+        Ok((read, view)) => {
+            *info = seen_info(&read);
+            *key = seen_key(&view, others);
+            OK
+        }
+        Err(error) => status(&error),
+    }
+}
+
+/// The container that C gives. Its octets must be a private key's text.
+fn info_from<'a>(info: &PrivateKeyInfo<'a>) -> pkcs1::Result<PrivateKeyInfoRef<'a>>
+    ensures ok { IfOk result (λ made. info_of made ≡ info_seen info.now) }
+    ensures key { IfOk result (λ made. (key : Key (List ℕ)) × HoldsKey info.now key) }
+    ensures err { IfErr result (λ e. status_of e ≢ 15) }
+    ensures refused { OnErr result ((key : Key (List ℕ)) → HoldsKey info.now key → ⊥) }
+{
+    let _view = RsaPrivateKeyView::try_from(info.private_key)?;
+    let private_key = OctetStringRef::new(info.private_key)?;
+    let attributes = if info.has_attributes {
+        Some(info.attributes)
+    } else {
+        None
+    };
+    Ok(PrivateKeyInfoRef {
+        algorithm: algorithm_id(),
+        private_key,
+        attributes,
+    })
+}
+
+/// Writes a container: 0, and then the length of its text in `len`. Where the text has no room, `len` is the length that
+/// it needs.
+#[unsafe(no_mangle)]
+pub extern "C" fn pkcs1_c_private_key_info_encode(
+    info: &PrivateKeyInfo<'_>,
+    out: &mut [u8],
+    len: &mut usize,
+) -> u32
+    ensures ok { result ≡ 0 → IsShortest container.PrivateKeyInfo (info_seen info.now) (take len.new out.new) }
+    ensures key { result ≡ 0 → (key : Key (List ℕ)) × HoldsKey info.now key }
+    ensures rest { result ≡ 0 → (len.new ≤ length out.new) × (drop len.new out.new ≡ drop len.new out.old) }
+    ensures no_room { result ≡ 15 → LacksRoom container.PrivateKeyInfo (info_seen info.now) (length out.old) len.new }
+    ensures refused { result ≢ 0 → result ≢ 15 → (key : Key (List ℕ)) → HoldsKey info.now key
+        → HasNoText container.PrivateKeyInfo (info_seen info.now) }
+    ensures unchanged { result ≢ 0 → out.new ≡ out.old }
+    ensures kept { result ≢ 0 → result ≢ 15 → len.new ≡ len.old }
+{
+    let made = match info_from(info) {
+        Ok(made) => made,
+        Err(error) => return status(&error),
+    };
+    made.has_text();
+    match made.encode_into(out) {
+        Ok(written) => {
+            *len = written;
+            OK
+        }
+        Err(error) => refusal(&made, &Error::Asn1(error), len),
+    }
+}

@@ -1,0 +1,26 @@
+//! Keys and parameters of PKCS #1 for programs in C: `ffi/include/pkcs1.h` declares what is exported here.
+#![tactic(auto)]
+
+mod algorithm;
+mod container;
+mod given_key;
+mod needed;
+mod numbers;
+mod parameters;
+mod private_key;
+mod public_key;
+mod status;
+
+pub use algorithm::{Algorithm, MaskGen, Oid};
+pub use container::{
+    PrivateKeyInfo, pkcs1_c_private_key_info_decode, pkcs1_c_private_key_info_encode,
+};
+pub use given_key::pkcs1_c_private_key_encode;
+pub use parameters::{
+    OaepParams, PssParams, pkcs1_c_oaep_params_decode, pkcs1_c_oaep_params_decode_strict,
+    pkcs1_c_oaep_params_encode, pkcs1_c_pss_params_decode, pkcs1_c_pss_params_decode_strict,
+    pkcs1_c_pss_params_encode,
+};
+pub use private_key::{OtherPrime, PrivateKey, pkcs1_c_private_key_decode};
+pub use public_key::{PublicKey, pkcs1_c_public_key_decode, pkcs1_c_public_key_encode};
+pub use status::{Text, pkcs1_c_status_text, pkcs1_c_version};

@@ -1,0 +1,236 @@
+//! Parameters of RSASSA-PSS and RSAES-OAEP.
+ghost use Rattle.std.specs.Prelude.{◌≡◌, ◌≢◌, ◌≤◌, length, take, drop, IfOk, IfErr};
+ghost use Rattle.der_core.specs.Document.{Means, IsShortest};
+ghost use Rattle.pkcs1_params.specs.Parameters as grammar;
+ghost use Rattle.pkcs1_params.specs.PssParams.{pss_of};
+ghost use Rattle.pkcs1_params.specs.OaepParams.{oaep_of};
+ghost use Rattle.pkcs1_c.specs.Fits.{PssFits, OaepFits};
+ghost use Rattle.pkcs1_c.specs.Refusals.{HasNoText, LacksRoom};
+ghost use Rattle.pkcs1_c.specs.Status.{status_of};
+ghost use Rattle.pkcs1_c.specs.Seen.{pss_seen, oaep_seen};
+
+use crate::algorithm::{
+    Algorithm, MaskGen, algorithm_from, algorithm_view, mask_gen_from, mask_gen_view,
+};
+use crate::needed::refusal;
+use crate::status::{OK, status};
+use der_core::{ErrorKind, Tag};
+use pkcs1::{Error, RsaOaepParams, RsaOaepParamsRef, RsaPssParams, RsaPssParamsRef, TrailerField};
+
+/// Parameters of RSASSA-PSS.
+#[repr(C)]
+#[derive(Clone, Copy, Drop)]
+pub struct PssParams<'a> {
+    /// The hash function.
+    pub hash: Algorithm<'a>,
+    /// The mask generation function.
+    pub mask_gen: MaskGen<'a>,
+    /// The length of the salt in octets.
+    pub salt_len: u8,
+    /// The trailer field: 1.
+    pub trailer_field: u8,
+}
+
+/// Parameters of RSAES-OAEP.
+#[repr(C)]
+#[derive(Clone, Copy, Drop)]
+pub struct OaepParams<'a> {
+    /// The hash function.
+    pub hash: Algorithm<'a>,
+    /// The mask generation function.
+    pub mask_gen: MaskGen<'a>,
+    /// Where the label comes from.
+    pub p_source: Algorithm<'a>,
+}
+
+/// The parameters, as C sees them.
+fn pss_view<'a>(read: &RsaPssParamsRef<'a>) -> PssParams<'a>
+    ensures { pss_seen result ≡ pss_of read.now }
+{
+    PssParams {
+        hash: algorithm_view(&read.hash),
+        mask_gen: mask_gen_view(&read.mask_gen),
+        salt_len: read.salt_len,
+        trailer_field: 1,
+    }
+}
+
+/// The parameters, as C sees them.
+fn oaep_view<'a>(read: &RsaOaepParamsRef<'a>) -> OaepParams<'a>
+    ensures { oaep_seen result ≡ oaep_of read.now }
+{
+    OaepParams {
+        hash: algorithm_view(&read.hash),
+        mask_gen: mask_gen_view(&read.mask_gen),
+        p_source: algorithm_view(&read.p_source),
+    }
+}
+
+/// Reads parameters of RSASSA-PSS: 0 where the text is one of those.
+#[unsafe(no_mangle)]
+pub extern "C" fn pkcs1_c_pss_params_decode<'a>(text: &'a [u8], params: &mut PssParams<'a>) -> u32
+    ensures ok { result ≡ 0 → Means grammar.RsaPssParams text.now (pss_seen params.new) }
+    ensures one { result ≡ 0 → (other : grammar.PssParameters) → Means grammar.RsaPssParams text.now other
+        → other ≡ pss_seen params.new }
+    ensures refused { result ≢ 0 → (other : grammar.PssParameters) → Means grammar.RsaPssParams text.now other → ⊥ }
+    ensures unchanged { result ≢ 0 → params.new ≡ params.old }
+{
+    match RsaPssParamsRef::try_from(text) {
+        Ok(read) => {
+            *params = pss_view(&read);
+            OK
+        }
+        Err(error) => status(&error),
+    }
+}
+
+/// Reads parameters of RSAES-OAEP: 0 where the text is one of those.
+#[unsafe(no_mangle)]
+pub extern "C" fn pkcs1_c_oaep_params_decode<'a>(text: &'a [u8], params: &mut OaepParams<'a>) -> u32
+    ensures ok { result ≡ 0 → Means grammar.RsaOaepParams text.now (oaep_seen params.new) }
+    ensures one { result ≡ 0 → (other : grammar.OaepParameters) → Means grammar.RsaOaepParams text.now other
+        → other ≡ oaep_seen params.new }
+    ensures refused { result ≢ 0 → (other : grammar.OaepParameters) → Means grammar.RsaOaepParams text.now other → ⊥ }
+    ensures unchanged { result ≢ 0 → params.new ≡ params.old }
+{
+    match RsaOaepParamsRef::try_from(text) {
+        Ok(read) => {
+            *params = oaep_view(&read);
+            OK
+        }
+        Err(error) => status(&error),
+    }
+}
+
+/// Reads parameters of RSASSA-PSS, as `pkcs1_c_pss_params_decode`: 0 only where the text is the shortest one. A default that
+/// is written is refused by 5.
+#[unsafe(no_mangle)]
+pub extern "C" fn pkcs1_c_pss_params_decode_strict<'a>(
+    text: &'a [u8],
+    params: &mut PssParams<'a>,
+) -> u32
+    ensures ok { result ≡ 0 → IsShortest grammar.RsaPssParams (pss_seen params.new) text.now }
+    ensures one { result ≡ 0 → (other : grammar.PssParameters) → Means grammar.RsaPssParams text.now other
+        → other ≡ pss_seen params.new }
+    ensures refused { result ≢ 0 → (other : grammar.PssParameters) → IsShortest grammar.RsaPssParams other text.now → ⊥ }
+    ensures default { result ≢ 0 → (other : grammar.PssParameters) → Means grammar.RsaPssParams text.now other → result ≡ 5 }
+    ensures unchanged { result ≢ 0 → params.new ≡ params.old }
+{
+    match RsaPssParamsRef::from_der_strict(text) {
+        Ok(read) => {
+            *params = pss_view(&read);
+            OK
+        }
+        Err(error) => status(&error),
+    }
+}
+
+/// The parameters that C gives.
+fn pss_from<'a>(params: &PssParams<'a>) -> pkcs1::Result<RsaPssParamsRef<'a>>
+    ensures ok { IfOk result (λ made. pss_of made ≡ pss_seen params.now) }
+    ensures err { IfErr result (λ e. status_of e ≢ 15) }
+    ensures refused { IfErr result (λ e. PssFits (pss_seen params.now) → ⊥) }
+{
+    if params.trailer_field != 1 {
+        let kind = ErrorKind::Value { tag: Tag::INTEGER };
+        return Err(Error::Asn1(der_core::Error::new(kind)));
+    }
+    Ok(RsaPssParams {
+        hash: algorithm_from(&params.hash)?,
+        mask_gen: mask_gen_from(&params.mask_gen)?,
+        salt_len: params.salt_len,
+        trailer_field: TrailerField::BC,
+    })
+}
+
+/// Reads parameters of RSAES-OAEP, as `pkcs1_c_oaep_params_decode`: 0 only where the text is the shortest one. A default that
+/// is written is refused by 5.
+#[unsafe(no_mangle)]
+pub extern "C" fn pkcs1_c_oaep_params_decode_strict<'a>(
+    text: &'a [u8],
+    params: &mut OaepParams<'a>,
+) -> u32
+    ensures ok { result ≡ 0 → IsShortest grammar.RsaOaepParams (oaep_seen params.new) text.now }
+    ensures one { result ≡ 0 → (other : grammar.OaepParameters) → Means grammar.RsaOaepParams text.now other
+        → other ≡ oaep_seen params.new }
+    ensures refused { result ≢ 0 → (other : grammar.OaepParameters) → IsShortest grammar.RsaOaepParams other text.now → ⊥ }
+    ensures default { result ≢ 0 → (other : grammar.OaepParameters) → Means grammar.RsaOaepParams text.now other → result ≡ 5 }
+    ensures unchanged { result ≢ 0 → params.new ≡ params.old }
+{
+    match RsaOaepParamsRef::from_der_strict(text) {
+        Ok(read) => {
+            *params = oaep_view(&read);
+            OK
+        }
+        Err(error) => status(&error),
+    }
+}
+
+/// The parameters that C gives.
+fn oaep_from<'a>(params: &OaepParams<'a>) -> pkcs1::Result<RsaOaepParamsRef<'a>>
+    ensures ok { IfOk result (λ made. oaep_of made ≡ oaep_seen params.now) }
+    ensures err { IfErr result (λ e. status_of e ≢ 15) }
+    ensures refused { IfErr result (λ e. OaepFits (oaep_seen params.now) → ⊥) }
+{
+    Ok(RsaOaepParams {
+        hash: algorithm_from(&params.hash)?,
+        mask_gen: mask_gen_from(&params.mask_gen)?,
+        p_source: algorithm_from(&params.p_source)?,
+    })
+}
+
+/// Writes the shortest text of parameters of RSASSA-PSS: 0, and then its length in `len`. Where it has no room, `len` is the length
+/// that it needs.
+#[unsafe(no_mangle)]
+pub extern "C" fn pkcs1_c_pss_params_encode(
+    params: &PssParams<'_>,
+    out: &mut [u8],
+    len: &mut usize,
+) -> u32
+    ensures ok { result ≡ 0 → IsShortest grammar.RsaPssParams (pss_seen params.now) (take len.new out.new) }
+    ensures rest { result ≡ 0 → (len.new ≤ length out.new) × (drop len.new out.new ≡ drop len.new out.old) }
+    ensures no_room { result ≡ 15 → LacksRoom grammar.RsaPssParams (pss_seen params.now) (length out.old) len.new }
+    ensures refused { result ≢ 0 → result ≢ 15 → HasNoText grammar.RsaPssParams (pss_seen params.now) }
+    ensures unchanged { result ≢ 0 → out.new ≡ out.old }
+    ensures kept { result ≢ 0 → result ≢ 15 → len.new ≡ len.old }
+{
+    let made = match pss_from(params) {
+        Ok(made) => made,
+        Err(error) => return status(&error),
+    };
+    match made.encode_params(out) {
+        Ok(written) => {
+            *len = written;
+            OK
+        }
+        Err(error) => refusal(&made, &error, len),
+    }
+}
+
+/// Writes the shortest text of parameters of RSAES-OAEP: 0, and then its length in `len`. Where it has no room, `len` is the length
+/// that it needs.
+#[unsafe(no_mangle)]
+pub extern "C" fn pkcs1_c_oaep_params_encode(
+    params: &OaepParams<'_>,
+    out: &mut [u8],
+    len: &mut usize,
+) -> u32
+    ensures ok { result ≡ 0 → IsShortest grammar.RsaOaepParams (oaep_seen params.now) (take len.new out.new) }
+    ensures rest { result ≡ 0 → (len.new ≤ length out.new) × (drop len.new out.new ≡ drop len.new out.old) }
+    ensures no_room { result ≡ 15 → LacksRoom grammar.RsaOaepParams (oaep_seen params.now) (length out.old) len.new }
+    ensures refused { result ≢ 0 → result ≢ 15 → HasNoText grammar.RsaOaepParams (oaep_seen params.now) }
+    ensures unchanged { result ≢ 0 → out.new ≡ out.old }
+    ensures kept { result ≢ 0 → result ≢ 15 → len.new ≡ len.old }
+{
+    let made = match oaep_from(params) {
+        Ok(made) => made,
+        Err(error) => return status(&error),
+    };
+    match made.encode_params(out) {
+        Ok(written) => {
+            *len = written;
+            OK
+        }
+        Err(error) => refusal(&made, &error, len),
+    }
+}

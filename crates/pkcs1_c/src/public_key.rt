@@ -1,0 +1,88 @@
+//! Public keys.
+ghost use Rattle.std.specs.Prelude.{◌≡◌, ◌≢◌, ◌≤◌, ℕ, List, length, take, drop, IfOk, IfErr};
+ghost use Rattle.der_core.specs.Document.{Means};
+ghost use Rattle.pkcs1.specs.Keys as grammar;
+ghost use Rattle.pkcs1.specs.KeyTexts.{IsOnlyText};
+ghost use Rattle.pkcs1.specs.PublicKeys.{key_of};
+ghost use Rattle.pkcs1_c.specs.Numbers.{ArePublicNumbers};
+ghost use Rattle.pkcs1_c.specs.Refusals.{HasNoText, LacksRoom};
+ghost use Rattle.pkcs1_c.specs.Seen.{public_key_seen};
+ghost use Rattle.pkcs1_c.specs.Status.{status_of};
+
+use crate::needed::refusal;
+use crate::numbers::number;
+use crate::status::{OK, status};
+use pkcs1::{RsaPublicKey, RsaPublicKeyRef};
+
+/// The numbers of a public key, most significant byte first.
+#[repr(C)]
+#[derive(Clone, Copy, Drop)]
+pub struct PublicKey<'a> {
+    /// The modulus n.
+    pub modulus: &'a [u8],
+    /// The public exponent e.
+    pub public_exponent: &'a [u8],
+}
+
+/// Reads a public key: 0 where the text is one, and then its numbers, which stay in the text.
+#[unsafe(no_mangle)]
+pub extern "C" fn pkcs1_c_public_key_decode<'a>(text: &'a [u8], key: &mut PublicKey<'a>) -> u32
+    ensures ok { result ≡ 0 → Means grammar.RsaPublicKey text.now (public_key_seen key.new) }
+    ensures one { result ≡ 0 → (other : grammar.PublicKey (List ℕ)) → Means grammar.RsaPublicKey text.now other
+        → other ≡ public_key_seen key.new }
+    ensures refused { result ≢ 0 → (other : grammar.PublicKey (List ℕ)) → Means grammar.RsaPublicKey text.now other → ⊥ }
+    ensures unchanged { result ≢ 0 → key.new ≡ key.old }
+{
+    match RsaPublicKeyRef::try_from(text) {
+        Ok(read) => {
+            key.modulus = read.modulus.as_bytes();
+            key.public_exponent = read.public_exponent.as_bytes();
+            OK
+        }
+        Err(error) => status(&error),
+    }
+}
+
+/// The key of these numbers.
+fn key_from<'a>(key: &PublicKey<'a>) -> pkcs1::Result<RsaPublicKeyRef<'a>>
+    ensures ok { IfOk result (λ made. ArePublicNumbers (key_of made) (public_key_seen key.now)) }
+    ensures err { IfErr result (λ e. status_of e ≢ 15) }
+    ensures refused { IfErr result (λ e. (made : grammar.PublicKey (List ℕ))
+        → ArePublicNumbers made (public_key_seen key.now) → HasNoText grammar.RsaPublicKey made) }
+{
+    Ok(RsaPublicKey {
+        modulus: number(key.modulus)?,
+        public_exponent: number(key.public_exponent)?,
+    })
+}
+
+/// Writes a public key: 0, and then the length of its text in `len`. Where the text has no room, `len` is the length that
+/// it needs.
+#[unsafe(no_mangle)]
+pub extern "C" fn pkcs1_c_public_key_encode(
+    key: &PublicKey<'_>,
+    out: &mut [u8],
+    len: &mut usize,
+) -> u32
+    ensures ok { result ≡ 0 → (made : grammar.PublicKey (List ℕ)) × ArePublicNumbers made (public_key_seen key.now)
+        × IsOnlyText grammar.RsaPublicKey made (take len.new out.new) }
+    ensures rest { result ≡ 0 → (len.new ≤ length out.new) × (drop len.new out.new ≡ drop len.new out.old) }
+    ensures no_room { result ≡ 15 → (made : grammar.PublicKey (List ℕ))
+        × ArePublicNumbers made (public_key_seen key.now) × LacksRoom grammar.RsaPublicKey made (length out.old) len.new }
+    ensures refused { result ≢ 0 → result ≢ 15 → (made : grammar.PublicKey (List ℕ))
+        → ArePublicNumbers made (public_key_seen key.now) → HasNoText grammar.RsaPublicKey made }
+    ensures unchanged { result ≢ 0 → out.new ≡ out.old }
+    ensures kept { result ≢ 0 → result ≢ 15 → len.new ≡ len.old }
+{
+    let key = match key_from(key) {
+        Ok(key) => key,
+        Err(error) => return status(&error),
+    };
+    match key.encode_key(out) {
+        Ok(written) => {
+            *len = written;
+            OK
+        }
+        Err(error) => refusal(&key, &error, len),
+    }
+}

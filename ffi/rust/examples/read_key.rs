@@ -1,0 +1,76 @@
+//! `read_key KIND FILE [OUT]`: reads the key or the parameters in a file, prints their numbers, and writes them again to
+//! OUT. KIND is pub, priv, p8, pss or oaep.
+use pkcs1_proved::{Algorithm, OaepParams, PrivateKey, PrivateKeyInfo, PssParams, PublicKey};
+
+fn put(name: &str, number: &[u8]) {
+    let digits: Vec<String> = number.iter().map(|octet| format!("{octet:02x}")).collect();
+    println!("{name}={}", digits.concat());
+}
+
+fn put_algorithm(name: &str, algorithm: &Algorithm<'_>) {
+    put(name, &algorithm.oid);
+    if let Some((_, contents)) = algorithm.parameters {
+        put(" parameters", contents);
+    }
+}
+
+fn read(kind: &str, text: &[u8]) -> Result<Vec<u8>, Box<dyn std::error::Error>> {
+    match kind {
+        "pub" => {
+            let key = PublicKey::decode(text)?;
+            put("n", key.modulus);
+            put("e", key.public_exponent);
+            Ok(key.to_vec()?)
+        }
+        "priv" => {
+            let key = PrivateKey::decode(text)?;
+            for (name, number) in ["n", "e", "d", "p", "q", "dp", "dq", "qi"].iter().zip(key.numbers) {
+                put(name, number);
+            }
+            for other in &key.other_primes {
+                put("r", other.prime);
+                put("d", other.exponent);
+                put("t", other.coefficient);
+            }
+            Ok(key.to_vec()?)
+        }
+        "p8" => {
+            let info = PrivateKeyInfo::decode(text)?;
+            put("n", PrivateKey::decode(info.private_key)?.numbers[0]);
+            Ok(info.to_vec()?)
+        }
+        "pss" => {
+            let params = PssParams::decode(text)?;
+            put_algorithm("hash", &params.hash);
+            if let Some(hash) = &params.mask_gen.hash {
+                put_algorithm("mask", hash);
+            }
+            println!("salt={}", params.salt_len);
+            Ok(params.to_vec()?)
+        }
+        "oaep" => {
+            let params = OaepParams::decode(text)?;
+            put_algorithm("hash", &params.hash);
+            if let Some(hash) = &params.mask_gen.hash {
+                put_algorithm("mask", hash);
+            }
+            put_algorithm("source", &params.p_source);
+            Ok(params.to_vec()?)
+        }
+        _ => Err("an unknown kind".into()),
+    }
+}
+
+fn main() -> Result<(), Box<dyn std::error::Error>> {
+    let words: Vec<String> = std::env::args().skip(1).collect();
+    let (kind, path, out) = match words.as_slice() {
+        [kind, path] => (kind, path, None),
+        [kind, path, out] => (kind, path, Some(out)),
+        _ => return Err("usage: read_key KIND FILE [OUT]".into()),
+    };
+    let again = read(kind, &std::fs::read(path)?)?;
+    if let Some(out) = out {
+        std::fs::write(out, again)?;
+    }
+    Ok(())
+}
