@@ -76,7 +76,8 @@ impl<'a, U> Sequence<'a> for OtherPrimeInfo<U> {
 }
 
 impl<U: TryClone> TryClone for OtherPrimeInfo<U> {
-    ghost asks_nothing = { λ other. U.asks_nothing other.prime × U.asks_nothing other.exponent × U.asks_nothing other.coefficient };
+    ghost asks_nothing = { λ other. U.asks_nothing other.prime × U.asks_nothing other.exponent
+        × U.asks_nothing other.coefficient };
 
     fn try_clone(&self, alloc: Global) -> Result<OtherPrimeInfo<U>> {
         Ok(OtherPrimeInfo {

@@ -112,8 +112,10 @@ pub extern "C" fn pkcs1_c_pss_params_decode_strict<'a>(
     ensures ok { result ≡ 0 → IsShortest grammar.RsaPssParams (pss_seen params.new) text.now }
     ensures one { result ≡ 0 → (other : grammar.PssParameters) → Means grammar.RsaPssParams text.now other
         → other ≡ pss_seen params.new }
-    ensures refused { result ≢ 0 → (other : grammar.PssParameters) → IsShortest grammar.RsaPssParams other text.now → ⊥ }
-    ensures default { result ≢ 0 → (other : grammar.PssParameters) → Means grammar.RsaPssParams text.now other → result ≡ 5 }
+    ensures refused { result ≢ 0
+        → (other : grammar.PssParameters) → IsShortest grammar.RsaPssParams other text.now → ⊥ }
+    ensures default { result ≢ 0
+        → (other : grammar.PssParameters) → Means grammar.RsaPssParams text.now other → result ≡ 5 }
     ensures unchanged { result ≢ 0 → params.new ≡ params.old }
 {
     match RsaPssParamsRef::from_der_strict(text) {
@@ -153,8 +155,10 @@ pub extern "C" fn pkcs1_c_oaep_params_decode_strict<'a>(
     ensures ok { result ≡ 0 → IsShortest grammar.RsaOaepParams (oaep_seen params.new) text.now }
     ensures one { result ≡ 0 → (other : grammar.OaepParameters) → Means grammar.RsaOaepParams text.now other
         → other ≡ oaep_seen params.new }
-    ensures refused { result ≢ 0 → (other : grammar.OaepParameters) → IsShortest grammar.RsaOaepParams other text.now → ⊥ }
-    ensures default { result ≢ 0 → (other : grammar.OaepParameters) → Means grammar.RsaOaepParams text.now other → result ≡ 5 }
+    ensures refused { result ≢ 0
+        → (other : grammar.OaepParameters) → IsShortest grammar.RsaOaepParams other text.now → ⊥ }
+    ensures default { result ≢ 0
+        → (other : grammar.OaepParameters) → Means grammar.RsaOaepParams text.now other → result ≡ 5 }
     ensures unchanged { result ≢ 0 → params.new ≡ params.old }
 {
     match RsaOaepParamsRef::from_der_strict(text) {

@@ -30,7 +30,8 @@ pub extern "C" fn pkcs1_c_public_key_decode<'a>(text: &'a [u8], key: &mut Public
     ensures ok { result ≡ 0 → Means grammar.RsaPublicKey text.now (public_key_seen key.new) }
     ensures one { result ≡ 0 → (other : grammar.PublicKey (List ℕ)) → Means grammar.RsaPublicKey text.now other
         → other ≡ public_key_seen key.new }
-    ensures refused { result ≢ 0 → (other : grammar.PublicKey (List ℕ)) → Means grammar.RsaPublicKey text.now other → ⊥ }
+    ensures refused { result ≢ 0
+        → (other : grammar.PublicKey (List ℕ)) → Means grammar.RsaPublicKey text.now other → ⊥ }
     ensures unchanged { result ≢ 0 → key.new ≡ key.old }
 {
     match RsaPublicKeyRef::try_from(text) {
@@ -68,7 +69,8 @@ pub extern "C" fn pkcs1_c_public_key_encode(
         × IsOnlyText grammar.RsaPublicKey made (take len.new out.new) }
     ensures rest { result ≡ 0 → (len.new ≤ length out.new) × (drop len.new out.new ≡ drop len.new out.old) }
     ensures no_room { result ≡ 15 → (made : grammar.PublicKey (List ℕ))
-        × ArePublicNumbers made (public_key_seen key.now) × LacksRoom grammar.RsaPublicKey made (length out.old) len.new }
+        × ArePublicNumbers made (public_key_seen key.now)
+        × LacksRoom grammar.RsaPublicKey made (length out.old) len.new }
     ensures refused { result ≢ 0 → result ≢ 15 → (made : grammar.PublicKey (List ℕ))
         → ArePublicNumbers made (public_key_seen key.now) → HasNoText grammar.RsaPublicKey made }
     ensures unchanged { result ≢ 0 → out.new ≡ out.old }

@@ -104,7 +104,9 @@ pub fn read_explicit<'a, T: Decode<&'a [u8], M>, M: Memory, R: Reader<&'a [u8]>>
     reader: &mut R,
     number: TagNumber,
 ) -> Result<T>
-    ensures { ReadsText T.value (λ v. Tlv (160 + number.value) (T.text v)) (Tlv (160 + number.value) (AsksWithin T.Decode.asks)) result (R.left reader.old) (R.left reader.new) }
+    ensures { let text = λ v. Tlv (160 + number.value) (T.text v) in
+        let asks = Tlv (160 + number.value) (AsksWithin T.Decode.asks) in
+        ReadsText T.value text asks result (R.left reader.old) (R.left reader.new) }
 {
     read_inside(memory, reader, Tag::context(number))
 }
