@@ -33,6 +33,7 @@ pub struct OtherPrimes<'a> {
 }
 
 /// Reads the other prime that is next.
+#[inline(always)]
 fn read_other<'a>(reader: &mut SliceReader<'a>) -> Result<OtherPrimeInfo<UintRef<'a>>>
     ensures ok { IfOk result (λ other. (text : List ℕ) × (rest : List ℕ)
         × (left_of reader.old ≡ Some (text ++ rest)) × (left_of reader.new ≡ Some rest)

@@ -1,5 +1,5 @@
 -- Reading hashAlgorithm and maskGenAlgorithm, and the fields behind them: each exit of the code is one lemma.
-use Rattle.std.proofs.Common.{◌≡◌, ℕ, List, [], ◌∷◌, map, sym, arith, append-nil}
+use Rattle.std.proofs.Common.{ℕ, List, [], ◌∷◌, map, sym, arith, append-nil}
 use Rattle.der_core.specs.declared.error.ErrorKind.{ErrorKind}
 use Rattle.der_core.specs.Input.{Input}
 use Rattle.der_core.specs.Texts.{Joins}
