@@ -88,7 +88,9 @@ fn read_source<'a, P: Decode<&'a [u8], M> + AnyParams<M>, M: Memory, R: Reader<&
     memory: M,
     reader: &mut R,
 ) -> der_core::Result<AlgorithmIdentifier<P>>
-    ensures { ReadsField 2 (algorithm_with P.any) PlainAlgorithm empty_label (AsksWithin (Tlv 48 (AsksWithin P.Decode.asks))) result (R.left reader.old) (R.left reader.new) }
+    ensures { let asks = AsksWithin (Tlv 48 (AsksWithin P.Decode.asks)) in
+        let value = algorithm_with P.any in
+        ReadsField 2 value PlainAlgorithm empty_label asks result (R.left reader.old) (R.left reader.new) }
 {
     if is_field_next(reader, TagNumber::new(2))? {
         read_explicit(memory, reader, TagNumber::new(2))
