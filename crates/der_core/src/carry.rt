@@ -39,8 +39,9 @@ pub(crate) fn read_all<R: Source>(alloc: Global, source: &mut R) -> Result<Vec<u
     }
 }
 
-/// Hands all the bytes to the sink, in order, and flushes.
-pub(crate) fn write_all<W: Sink>(bytes: &[u8], sink: &mut W) -> Result<()>
+/// Hands all the bytes to the sink, in order. The only refusal is `File`, where the sink refused a call: then a beginning
+/// of the bytes was taken.
+pub fn put_all<W: Sink>(bytes: &[u8], sink: &mut W) -> Result<()>
     ensures { WritesAll bytes.now result (W.contents sink.old) (W.contents sink.new)
         (W.refusals sink.old) (W.refusals sink.new) }
 {
@@ -51,6 +52,15 @@ pub(crate) fn write_all<W: Sink>(bytes: &[u8], sink: &mut W) -> Result<()>
             Err(_) => return Err(Error::new(ErrorKind::File)),
         }
     }
+    Ok(())
+}
+
+/// The same, and flushes.
+pub(crate) fn write_all<W: Sink>(bytes: &[u8], sink: &mut W) -> Result<()>
+    ensures { WritesAll bytes.now result (W.contents sink.old) (W.contents sink.new)
+        (W.refusals sink.old) (W.refusals sink.new) }
+{
+    put_all(bytes, sink)?;
     match sink.flush() {
         Ok(()) => Ok(()),
         Err(_) => Err(Error::new(ErrorKind::File)),

@@ -28,6 +28,7 @@ mod wrap;
 mod writer;
 
 pub use back_writer::BackWriter;
+pub use carry::put_all;
 pub use decode::{Decode, DecodeValue, decode_optional};
 pub use document::{Document, SecretDocument, write_over};
 pub use encode::{Encode, EncodeValue, joined_len};

@@ -9,7 +9,7 @@ use crate::request::{PairWord, Request, Word, request_of};
 use pkcs1::{RsaOaepParamsRef, RsaPssParamsRef};
 use std::alloc::{AllocError, Global};
 
-// Puts the answer to a word with a text behind `out`.
+/// Puts the answer to a word with a text behind `out`.
 fn answer_word(alloc: Global, word: Word, text: &[u8], out: &mut Vec<u8>) -> Result<(), AllocError>
     ensures { OnOk result (Puts (WordAnswer word text.now) out.old.items out.new.items) }
 {
@@ -26,7 +26,7 @@ fn answer_word(alloc: Global, word: Word, text: &[u8], out: &mut Vec<u8>) -> Res
     }
 }
 
-// Puts the answer to a word with two texts behind `out`.
+/// Puts the answer to a word with two texts behind `out`.
 fn answer_pair(
     alloc: Global,
     word: PairWord,

@@ -19,7 +19,7 @@ use pkcs1::{OtherPrimeInfo, RsaPrivateKeyView, RsaPublicKeyRef, UintRef, Version
 use pkcs8_core::PrivateKeyInfoRef;
 use std::alloc::{AllocError, Global};
 
-// Puts each number behind `out`, after its label.
+/// Puts each number behind `out`, after its label.
 fn put_numbers(numbers: &[(&[u8], UintRef<'_>)], out: &mut Vec<u8>) -> Result<(), AllocError>
     ensures { OnOk result (out.new.items ≡ out.old.items ++ flat_map (λ n. field n.0.now (bytes_of n.1)) numbers.now) }
 {
@@ -29,7 +29,7 @@ fn put_numbers(numbers: &[(&[u8], UintRef<'_>)], out: &mut Vec<u8>) -> Result<()
     Ok(())
 }
 
-// Puts the answer of a public key with its text again behind `out`.
+/// Puts the answer of a public key with its text again behind `out`.
 fn put_pub(key: &RsaPublicKeyRef<'_>, again: &[u8], out: &mut Vec<u8>) -> Result<(), AllocError>
     ensures { OnOk result (out.new.items ≡ out.old.items ++ pub_answer (key_of key.now) again.now) }
 {
@@ -52,7 +52,7 @@ pub fn answer_pub(alloc: Global, text: &[u8], out: &mut Vec<u8>) -> Result<(), A
     }
 }
 
-// Puts the version of a private key behind `out`.
+/// Puts the version of a private key behind `out`.
 fn put_version(key: &RsaPrivateKeyView<'_>, out: &mut Vec<u8>) -> Result<(), AllocError>
     ensures { OnOk result (out.new.items ≡ out.old.items ++ version_told (view_of key.now).other_prime_infos) }
 {
@@ -62,7 +62,7 @@ fn put_version(key: &RsaPrivateKeyView<'_>, out: &mut Vec<u8>) -> Result<(), All
     }
 }
 
-// Puts the eight numbers of a private key behind `out`.
+/// Puts the eight numbers of a private key behind `out`.
 fn put_private_numbers(key: &RsaPrivateKeyView<'_>, out: &mut Vec<u8>) -> Result<(), AllocError>
     ensures { OnOk result (out.new.items ≡ out.old.items ++ numbers_told (view_of key.now)) }
 {
@@ -81,7 +81,7 @@ fn put_private_numbers(key: &RsaPrivateKeyView<'_>, out: &mut Vec<u8>) -> Result
     )
 }
 
-// Puts one of the other primes behind `out`.
+/// Puts one of the other primes behind `out`.
 fn put_other(other: &OtherPrimeInfo<UintRef<'_>>, out: &mut Vec<u8>) -> Result<(), AllocError>
     ensures { OnOk result (out.new.items ≡ out.old.items ++ other_told (other_of bytes_of other.now)) }
 {
@@ -95,7 +95,7 @@ fn put_other(other: &OtherPrimeInfo<UintRef<'_>>, out: &mut Vec<u8>) -> Result<(
     )
 }
 
-// Puts the other primes of a private key behind `out`, in order.
+/// Puts the other primes of a private key behind `out`, in order.
 fn put_others(key: &RsaPrivateKeyView<'_>, out: &mut Vec<u8>) -> Result<(), AllocError>
     ensures { OnOk result (out.new.items ≡ out.old.items ++ others_told (view_of key.now).other_prime_infos) }
 {
@@ -105,7 +105,7 @@ fn put_others(key: &RsaPrivateKeyView<'_>, out: &mut Vec<u8>) -> Result<(), Allo
     Ok(())
 }
 
-// Puts what is told of a private key behind `out`.
+/// Puts what is told of a private key behind `out`.
 fn put_key(key: &RsaPrivateKeyView<'_>, out: &mut Vec<u8>) -> Result<(), AllocError>
     ensures { OnOk result (out.new.items ≡ out.old.items ++ key_told (view_of key.now)) }
 {
@@ -114,7 +114,7 @@ fn put_key(key: &RsaPrivateKeyView<'_>, out: &mut Vec<u8>) -> Result<(), AllocEr
     put_others(key, out)
 }
 
-// Puts the answer of a private key with its text behind `out`.
+/// Puts the answer of a private key with its text behind `out`.
 fn put_priv(key: &RsaPrivateKeyView<'_>, out: &mut Vec<u8>) -> Result<(), AllocError>
     ensures { OnOk result (out.new.items ≡ out.old.items ++ priv_answer (view_of key.now) (viewed_text key.now)) }
 {
@@ -133,7 +133,7 @@ pub fn answer_priv(text: &[u8], out: &mut Vec<u8>) -> Result<(), AllocError>
     }
 }
 
-// The container that the text means, and the RSA key in it.
+/// The container that the text means, and the RSA key in it.
 fn read_container<'a>(text: &'a [u8]) -> Option<(PrivateKeyInfoRef<'a>, RsaPrivateKeyView<'a>)>
     ensures some { IfSome result (λ p.
         Means RsaPrivateKeyInfo text.now (record { info = info_of p.0; key = view_of p.1 })) }
@@ -148,7 +148,7 @@ fn read_container<'a>(text: &'a [u8]) -> Option<(PrivateKeyInfoRef<'a>, RsaPriva
     }
 }
 
-// Puts the attributes of a container behind `out`.
+/// Puts the attributes of a container behind `out`.
 fn put_attributes(info: &PrivateKeyInfoRef<'_>, out: &mut Vec<u8>) -> Result<(), AllocError>
     ensures { OnOk result (out.new.items ≡ out.old.items ++ attributes_told (info_of info.now).attributes) }
 {
@@ -158,7 +158,7 @@ fn put_attributes(info: &PrivateKeyInfoRef<'_>, out: &mut Vec<u8>) -> Result<(),
     }
 }
 
-// Puts the answer of a private key in a container behind `out`.
+/// Puts the answer of a private key in a container behind `out`.
 fn put_p8(
     info: &PrivateKeyInfoRef<'_>,
     key: &RsaPrivateKeyView<'_>,

@@ -32,7 +32,7 @@ const USAGE: &str = "usage: pkcs1_tool [copy pub|priv IN OUT]";
 
 const BUFFER: usize = 65536;
 
-// The words after the program's name.
+/// The words after the program's name.
 fn words_of(rt: &HostRuntime) -> io::Result<Vec<String>> {
     let mut words = Vec::new(rt.alloc());
     for word in env::args(rt)?.skip(1) {
@@ -50,7 +50,7 @@ fn run_lines(rt: &HostRuntime) -> Result<(), Fault> {
     run::run(rt.alloc(), &mut source, &mut sink)
 }
 
-// Whether it went well. What went wrong is told on standard error.
+/// Whether it went well. What went wrong is told on standard error.
 fn reported<E: Display + Drop>(rt: &impl Eprint, answer: Result<(), E>) -> bool {
     match answer {
         Ok(()) => true,

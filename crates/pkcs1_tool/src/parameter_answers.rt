@@ -30,7 +30,7 @@ pub fn answer_parameters<'a, T: Parameters<'a>>(
     }
 }
 
-// Puts each text behind `out`, in order.
+/// Puts each text behind `out`, in order.
 fn put_texts(texts: &[Vec<u8>], out: &mut Vec<u8>) -> Result<(), AllocError>
     ensures { OnOk result (out.new.items ≡ out.old.items ++ flat_map (λ text. field (codes " ") text.items) texts.now) }
 {
@@ -40,7 +40,7 @@ fn put_texts(texts: &[Vec<u8>], out: &mut Vec<u8>) -> Result<(), AllocError>
     Ok(())
 }
 
-// Puts the word behind `out`, how many texts there are, and each text.
+/// Puts the word behind `out`, how many texts there are, and each text.
 fn put_spellings(word: &[u8], texts: &[Vec<u8>], out: &mut Vec<u8>) -> Result<(), AllocError>
     ensures { let told = spell_answer word.now (map (λ text. text.items) texts.now) in
         OnOk result (out.new.items ≡ out.old.items ++ told) }

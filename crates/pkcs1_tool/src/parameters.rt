@@ -75,7 +75,7 @@ pub trait Parameters<'a>: Encode + Drop + Sized {
         → IsShortest Self.text (Self.value params) text → IsShortest grammar (meaning params) text };
 }
 
-// Whether the refusal is want of memory.
+/// Whether the refusal is want of memory.
 fn wants_memory(error: &Error) -> bool
     ensures { IsTrue result ↔ WantsMemory error.now }
 {
@@ -85,7 +85,7 @@ fn wants_memory(error: &Error) -> bool
     }
 }
 
-// The texts, or none where they are refused and memory isn't wanted.
+/// The texts, or none where they are refused and memory isn't wanted.
 fn found(texts: pkcs1::Result<Vec<Vec<u8>>>) -> Result<Option<Vec<Vec<u8>>>, AllocError>
     ensures some { IfOk result (λ found. IfSome found (λ list. texts ≡ Ok list)) }
     ensures none { IfOk result (λ found. IfNone found (IsErrAnd texts (λ e. WantsMemory e → ⊥))) }
@@ -101,13 +101,13 @@ fn found(texts: pkcs1::Result<Vec<Vec<u8>>>) -> Result<Option<Vec<Vec<u8>>>, All
     }
 }
 
-// What is told of absent parameters.
+/// What is told of absent parameters.
 const ABSENT: &[u8] = b"-";
 
-// A mask generation function.
+/// A mask generation function.
 type MaskGenRef<'a> = AlgorithmIdentifier<AlgorithmIdentifierRef<'a>>;
 
-// Puts a tag and contents behind `out`.
+/// Puts a tag and contents behind `out`.
 fn put_any(any: &AnyRef<'_>, out: &mut Vec<u8>) -> Result<(), AllocError>
     ensures { OnOk result (out.new.items ≡ out.old.items ++ any_told (any_of any.now)) }
 {
@@ -115,7 +115,7 @@ fn put_any(any: &AnyRef<'_>, out: &mut Vec<u8>) -> Result<(), AllocError>
     put_field(b":", any.value(), out)
 }
 
-// Puts an identifier and `/` behind `out`.
+/// Puts an identifier and `/` behind `out`.
 fn put_identifier(oid: &ObjectIdentifier, out: &mut Vec<u8>) -> Result<(), AllocError>
     ensures { OnOk result (out.new.items ≡ out.old.items ++ identifier_told (octets_of oid.now)) }
 {
@@ -123,7 +123,7 @@ fn put_identifier(oid: &ObjectIdentifier, out: &mut Vec<u8>) -> Result<(), Alloc
     out.extend_from_slice(b"/")
 }
 
-// Puts an algorithm whose parameters are any text behind `out`.
+/// Puts an algorithm whose parameters are any text behind `out`.
 fn put_plain(algorithm: &AlgorithmIdentifierRef<'_>, out: &mut Vec<u8>) -> Result<(), AllocError>
     ensures { OnOk result (out.new.items ≡ out.old.items ++ plain_told (algorithm_of algorithm.now)) }
 {
@@ -134,7 +134,7 @@ fn put_plain(algorithm: &AlgorithmIdentifierRef<'_>, out: &mut Vec<u8>) -> Resul
     }
 }
 
-// Puts an algorithm in brackets behind `out`.
+/// Puts an algorithm in brackets behind `out`.
 fn put_bracketed(
     algorithm: &AlgorithmIdentifierRef<'_>,
     out: &mut Vec<u8>,
@@ -146,7 +146,7 @@ fn put_bracketed(
     out.extend_from_slice(b"]")
 }
 
-// Puts a mask generation function behind `out`.
+/// Puts a mask generation function behind `out`.
 fn put_mask(mask_gen: &MaskGenRef<'_>, out: &mut Vec<u8>) -> Result<(), AllocError>
     ensures { OnOk result (out.new.items ≡ out.old.items ++ mask_told (mask_of mask_gen.now)) }
 {
@@ -157,7 +157,7 @@ fn put_mask(mask_gen: &MaskGenRef<'_>, out: &mut Vec<u8>) -> Result<(), AllocErr
     }
 }
 
-// Puts the hash function and the mask generation function behind `out`.
+/// Puts the hash function and the mask generation function behind `out`.
 fn put_digest(
     hash: &AlgorithmIdentifierRef<'_>,
     mask_gen: &MaskGenRef<'_>,
@@ -172,7 +172,7 @@ fn put_digest(
     put_mask(mask_gen, out)
 }
 
-// Puts how many fields have their defaults, and the text again, behind `out`.
+/// Puts how many fields have their defaults, and the text again, behind `out`.
 fn put_spelling(defaults: u8, again: &[u8], out: &mut Vec<u8>) -> Result<(), AllocError>
     ensures { OnOk result (out.new.items ≡ out.old.items ++ spelling_told defaults again.now) }
 {
@@ -180,7 +180,7 @@ fn put_spelling(defaults: u8, again: &[u8], out: &mut Vec<u8>) -> Result<(), All
     put_field(b" again=", again, out)
 }
 
-// Puts the answer of `pss` parameters with so many defaults, and with their text again, behind `out`.
+/// Puts the answer of `pss` parameters with so many defaults, and with their text again, behind `out`.
 fn put_pss(
     params: &RsaPssParamsRef<'_>,
     defaults: u8,
@@ -196,7 +196,7 @@ fn put_pss(
     put_spelling(defaults, again, out)
 }
 
-// Puts the answer of `oaep` parameters with so many defaults, and with their text again, behind `out`.
+/// Puts the answer of `oaep` parameters with so many defaults, and with their text again, behind `out`.
 fn put_oaep(
     params: &RsaOaepParamsRef<'_>,
     defaults: u8,

@@ -37,7 +37,7 @@ pub enum Request {
     Pair(PairWord, Vec<u8>, Vec<u8>),
 }
 
-// The words of lines with one HEX part.
+/// The words of lines with one HEX part.
 const WORDS: [(&[u8], Word); 9] = [
     (b"pub", Word::Pub),
     (b"priv", Word::Priv),
@@ -50,13 +50,13 @@ const WORDS: [(&[u8], Word); 9] = [
     (b"strict-oaep", Word::StrictOaep),
 ];
 
-// The words of lines with two HEX parts.
+/// The words of lines with two HEX parts.
 const PAIR_WORDS: [(&[u8], PairWord); 2] = [
     (b"same-pss", PairWord::SamePss),
     (b"same-oaep", PairWord::SameOaep),
 ];
 
-// What stands beside the name in a list.
+/// What stands beside the name in a list.
 fn find_named<W: Copy>(rows: &[(&[u8], W)], name: &[u8]) -> Option<W>
     ensures { result ≡ named (map (λ row. (row.0.now, row.1)) rows.now) name.now }
 {
@@ -68,21 +68,21 @@ fn find_named<W: Copy>(rows: &[(&[u8], W)], name: &[u8]) -> Option<W>
     None
 }
 
-// The word of a line with one HEX part.
+/// The word of a line with one HEX part.
 fn word_of(part: &[u8]) -> Option<Word>
     ensures { result ≡ named words part.now }
 {
     find_named(&WORDS, part)
 }
 
-// The word of a line with two HEX parts.
+/// The word of a line with two HEX parts.
 fn pair_word_of(part: &[u8]) -> Option<PairWord>
     ensures { result ≡ named pair_words part.now }
 {
     find_named(&PAIR_WORDS, part)
 }
 
-// The bytes that an even number of digits stands for.
+/// The bytes that an even number of digits stands for.
 fn bytes_of(alloc: Global, hex: &[u8]) -> Result<Option<Vec<u8>>, AllocError>
     ensures { IfOk result (λ bytes. option_map (λ found. found.items) bytes ≡ text_of hex.now) }
 {
@@ -93,7 +93,7 @@ fn bytes_of(alloc: Global, hex: &[u8]) -> Result<Option<Vec<u8>>, AllocError>
     }
 }
 
-// What a word asks for with one HEX part.
+/// What a word asks for with one HEX part.
 fn request_with(alloc: Global, word: &[u8], hex: &[u8]) -> Result<Request, AllocError>
     ensures { IfOk result (λ request. seen request ≡ asked_with (named words word.now) (text_of hex.now)) }
 {
@@ -106,7 +106,7 @@ fn request_with(alloc: Global, word: &[u8], hex: &[u8]) -> Result<Request, Alloc
     }
 }
 
-// What a word asks for with two HEX parts.
+/// What a word asks for with two HEX parts.
 fn pair_request_with(
     alloc: Global,
     word: &[u8],

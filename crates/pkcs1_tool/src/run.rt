@@ -11,7 +11,7 @@ use crate::answer::answer_line;
 use crate::fault::Fault;
 use crate::laws::answers_are_one;
 use crate::lines::split_line;
-use der_core::{Sink, Source};
+use der_core::{Sink, Source, put_all};
 use std::alloc::Global;
 
 /// The longest input.
@@ -19,7 +19,7 @@ pub const LIMIT: usize = 16777216;
 
 const PIECE: usize = 65536;
 
-// All that the source gives up to its end.
+/// All that the source gives up to its end.
 fn read_input<R: Source>(alloc: Global, source: &mut R) -> Result<Vec<u8>, Fault>
     ensures all { IfOk result (λ input. GivesAll (R.remaining source.old) (R.remaining source.new) input.items) }
     ensures within { IfOk result (λ input. vec_len input ≤ LIMIT) }
@@ -46,25 +46,7 @@ fn read_input<R: Source>(alloc: Global, source: &mut R) -> Result<Vec<u8>, Fault
     }
 }
 
-// Writes all the bytes, in order.
-fn put_all<W: Sink>(bytes: &[u8], sink: &mut W) -> Result<(), Fault>
-    ensures ok { OnOk result (Appends (W.contents sink.old) (W.contents sink.new) bytes.now) }
-    ensures same { OnOk result (W.refusals sink.new ≡ W.refusals sink.old) }
-    ensures front { OnErr result (AppendsFront (W.contents sink.old) (W.contents sink.new) bytes.now) }
-    ensures refused { OnErr result (SomeRefused (W.refusals sink.old) (W.refusals sink.new)) }
-    ensures write { OnErr result (IsErrOf result Fault.Write) }
-{
-    let mut done = 0;
-    while done < bytes.len() {
-        match sink.write(&bytes[done..]) {
-            Ok(count) => done += count,
-            Err(_) => return Err(Fault::Write),
-        }
-    }
-    Ok(())
-}
-
-// Answers each line in order.
+/// Answers each line in order.
 fn answer_lines<W: Sink>(alloc: Global, input: &[u8], sink: &mut W) -> Result<(), Fault>
     ensures ok { OnOk result (Writes (W.contents sink.old) (W.contents sink.new) (lines_of input.now)) }
     ensures same { OnOk result (W.refusals sink.new ≡ W.refusals sink.old) }
@@ -90,7 +72,7 @@ fn answer_lines<W: Sink>(alloc: Global, input: &[u8], sink: &mut W) -> Result<()
     Ok(())
 }
 
-// Answers each line in order, and flushes.
+/// Answers each line in order, and flushes.
 fn answer_input<W: Sink>(alloc: Global, input: &[u8], sink: &mut W) -> Result<(), Fault>
     ensures ok { OnOk result (Writes (W.contents sink.old) (W.contents sink.new) (lines_of input.now)) }
     ensures same { OnOk result (W.refusals sink.new ≡ W.refusals sink.old) }

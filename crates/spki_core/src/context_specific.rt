@@ -104,9 +104,9 @@ pub fn read_explicit<'a, T: Decode<&'a [u8], M>, M: Memory, R: Reader<&'a [u8]>>
     reader: &mut R,
     number: TagNumber,
 ) -> Result<T>
-    ensures { let text = λ v. Tlv (160 + number.value) (T.text v) in
-        let asks = Tlv (160 + number.value) (AsksWithin T.Decode.asks) in
-        ReadsText T.value text asks result (R.left reader.old) (R.left reader.new) }
+    ensures { let tag = 160 + number.value in
+        let asks = Tlv tag (AsksWithin T.Decode.asks) in
+        ReadsText T.value (λ v. Tlv tag (T.text v)) asks result (R.left reader.old) (R.left reader.new) }
 {
     read_inside(memory, reader, Tag::context(number))
 }

@@ -1,14 +1,18 @@
-use Rattle.std.proofs.Common.{arith, length-drop, length-take}
-use Rattle.std.proofs.Math.Seq.{take-add}
-use Rattle.std.proofs.lemmas.List.{take_rest}
-use Rattle.std.proofs.KnownBytes.{Appends-trans}
+use Rattle.std.proofs.Common.{rules, length}
+use Rattle.std.proofs.Math.Seq.{take-length}
+use Rattle.std.proofs.lemmas.Result.{err_from_is_err_and}
+use Rattle.std.specs.Io.KnownBytes.{Appends}
+use Rattle.der_core.specs.Outside.{SomeRefused}
 use Rattle.der_core.proofs.carry.write_all.Goals as goal
 
-pub loop-done-preserved : goal.loop-done-preserved
-loop-done-preserved g c =
-    let before = c.loop-done.invariant in
-    record {
-      within = omega (arith, simp (length-take, length-drop) at c.in-Ok.ensures.bound);
-      taken = rw take-add (Appends-trans _ _ _ _ _ before.taken (rw take_rest at c.in-Ok.ensures.bytes));
-      faults = cc (c.in-Ok.ensures.faults);
-    }
+pub returns-in_err-put_all : goal.returns-in_err-put_all
+returns-in_err-put_all g c =
+    let p = err_from_is_err_and c.from_residual.result c.from_residual.ensures.1 in
+    rw (p.1, p.2) c.in_err-put_all.ensures
+
+-- all bytes were taken, and then the flush was refused
+pub returns-in-Err : goal.returns-in-Err
+returns-in-Err g c =
+    let all : Appends (g.W.Sink.contents c.args.sink.now) (g.W.Sink.contents c.flush.new.self) c.args.bytes.now = search rules in
+    let refused : SomeRefused (g.W.Sink.refusals c.args.sink.now) (g.W.Sink.refusals c.flush.new.self) = search rules in
+    ((length c.args.bytes.now, rw take-length all), search rules, refused)

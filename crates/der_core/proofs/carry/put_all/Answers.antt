@@ -2,7 +2,7 @@ use Rattle.std.proofs.Common.{arith, length-drop, length-take}
 use Rattle.std.proofs.Math.Seq.{take-add}
 use Rattle.std.proofs.lemmas.List.{take_rest}
 use Rattle.std.proofs.KnownBytes.{Appends-trans}
-use Rattle.pkcs1_tool.proofs.run.put_all.Goals as goal
+use Rattle.der_core.proofs.carry.put_all.Goals as goal
 
 pub loop-done-preserved : goal.loop-done-preserved
 loop-done-preserved g c =

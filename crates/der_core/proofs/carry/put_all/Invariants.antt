@@ -1,6 +1,6 @@
 use Rattle.std.proofs.Common.{◌≡◌, ◌≤◌, ◌-◌, length, take}
 use Rattle.std.specs.Io.KnownBytes.{Appends}
-use Rattle.der_core.proofs.carry.write_all.Given as goal
+use Rattle.der_core.proofs.carry.put_all.Given as goal
 
 -- so many of the bytes were taken
 abbrev pub invariant-loop-done : goal.invariant-loop-done
