@@ -95,6 +95,7 @@ copies_keys() {
     hex $multi > "$room/files/multi.der"
     hex ${public}00 > "$room/files/long.der"
     hex 0500 > "$room/files/null.der"
+    hex 3000 > "$room/files/sequence.der"
     : > "$room/files/empty.der"
     hex $old > "$room/files/kept.der"
     hex $public > "$room/files/same.der"
@@ -108,6 +109,7 @@ copies_keys() {
     copies 1 "$error bytes follow the value" kept.der $old copy pub long.der kept.der
     copies 1 "$error tag 0x30 was expected, 0x05 was found" kept.der $old copy pub null.der kept.der
     copies 1 "$error the input ends too early" kept.der $old copy priv empty.der kept.der
+    copies 1 "$error the input ends too early" kept.der $old copy pub sequence.der kept.der
     copies 1 "$error bytes follow the value" kept.der $old copy pub priv.der kept.der
     copies 1 "$error the value of tag 0x02 is not allowed" kept.der $old copy priv pub.der kept.der
     copies 1 "$file" no_such_folder - copy pub pub.der no_such_folder/out.der
@@ -132,6 +134,6 @@ for program in "$PWD/out/pkcs1_tool" "$PWD/out/pkcs1_tool.by-rattle"; do
         fails "it isn't there: rt ci builds it"
     fi
 done
-echo "run_built: $(grep -vc -e '^#' -e '^$' rows) rows and 33 runs, by each of two compilers"
+echo "run_built: $(grep -vc -e '^#' -e '^$' rows) rows and 34 runs, by each of two compilers"
 echo "$passed passed, $failed failed"
 [ "$failed" = 0 ]

@@ -5,7 +5,7 @@ use crate::fault::Fault;
 use crate::plan::{Plan, plan_of, status};
 use crate::run::run;
 use der_core::{FromRead, Sink, Source, ToWrite};
-use doubles::{Broken, Full, Many, Narrow, Slow};
+use doubles::{Full, Many, Narrow, Refusing, RefusingOnce, Slow};
 use std::test::Fail;
 
 const INPUT: &[u8; 45] = b"pub 3006020107020103\n\npub 300602010702010300\n";
@@ -62,7 +62,6 @@ fn stops_on_a_refused_write(rt: HostRuntime) {
                 taken: Vec::new(rt.alloc()),
                 step,
                 refused,
-                blocked: false,
                 calls: 0,
                 flushes: 0,
                 faults: 0,
@@ -81,23 +80,6 @@ fn stops_on_a_refused_write(rt: HostRuntime) {
 }
 
 #[test]
-fn stops_on_a_refused_flush(rt: HostRuntime) {
-    let mut sink = Narrow {
-        taken: Vec::new(rt.alloc()),
-        step: 100,
-        refused: 0,
-        blocked: true,
-        calls: 0,
-        flushes: 0,
-        faults: 0,
-    };
-    let done = run(rt.alloc(), &mut FromRead::new(INPUT.as_slice()), &mut sink);
-    assert_eq!(rt; done, Err(Fault::Write));
-    assert_eq!(rt; sink.faults(), 1);
-    assert_eq!(rt; sink.taken.as_slice(), OUTPUT.as_slice());
-}
-
-#[test]
 fn stops_past_the_longest_input(rt: HostRuntime) {
     for (byte, left, want, output) in [
         (b'x', 16777216, Ok(()), b"bad line\n".as_slice()),
@@ -113,16 +95,40 @@ fn stops_past_the_longest_input(rt: HostRuntime) {
     }
 }
 
+// What comes of a run into the sink: the answer, its refusals, and what it gives up.
+fn into_sink(rt: &HostRuntime, refused: u64) -> (Result<(), Fault>, u64, Refusing) {
+    let mut sink = ToWrite::new(Refusing {
+        taken: Vec::new(rt.alloc()),
+        refused,
+        calls: 0,
+    });
+    let done = run(rt.alloc(), &mut FromRead::new(INPUT.as_slice()), &mut sink);
+    (done, sink.faults(), sink.into_inner())
+}
+
 #[test]
-fn stops_on_a_broken_reader(rt: HostRuntime) {
-    let mut source = FromRead::new(Broken);
+fn stops_on_the_first_refusal_of_std(rt: HostRuntime) {
+    let mut source = FromRead::new(RefusingOnce {
+        left: INPUT,
+        calls: 0,
+    });
     let mut sink = ToWrite::new(Full);
     assert_eq!(rt; run(rt.alloc(), &mut source, &mut sink), Err(Fault::Read));
     assert_eq!(rt; source.faults(), 1);
+    assert_eq!(rt; source.into_inner().calls, 1);
     assert_eq!(rt; sink.faults(), 0);
     let done = run(rt.alloc(), &mut FromRead::new(b"\n".as_slice()), &mut sink);
     assert_eq!(rt; done, Err(Fault::Write));
     assert_eq!(rt; sink.faults(), 1);
+    for (refused, output) in [(1, 0), (2, 37), (3, 46), (4, 54)] {
+        let (done, faults, writer) = into_sink(&rt, refused);
+        assert_eq!(rt; done, Err(Fault::Write), "at {refused}");
+        assert_eq!(rt; (faults, writer.calls), (1, refused));
+        assert_eq!(rt; writer.taken.as_slice(), &OUTPUT[..output]);
+    }
+    let (done, faults, writer) = into_sink(&rt, 5);
+    assert_eq!(rt; (done, faults, writer.calls), (Ok(()), 0, 4));
+    assert_eq!(rt; writer.taken.as_slice(), OUTPUT.as_slice());
 }
 
 #[test]

@@ -1,4 +1,4 @@
-//! Sources and sinks that move a few bytes a call, and refuse one; a reader and a writer of no use.
+//! Sources and sinks that move a few bytes a call, and refuse one; readers and writers of std that refuse.
 ghost use Rattle.std.specs.Prelude.{◌≡◌, ◌<◌, Some, None};
 
 use der_core::{Error, ErrorKind, Result, Sink, Source};
@@ -60,14 +60,12 @@ impl Source for Many {
     }
 }
 
-/// Takes at most `step` bytes a call, and refuses the call of number `refused`, from 1 on, and
-/// the call of `flush` where `blocked`.
+/// Takes at most `step` bytes a call, and refuses the call of number `refused`, from 1 on.
 #[derive(Drop)]
 pub struct Narrow {
     pub taken: Vec<u8>,
     pub step: usize,
     pub refused: u64,
-    pub blocked: bool,
     pub calls: u64,
     pub flushes: u64,
     pub faults: u64,
@@ -91,10 +89,6 @@ impl Sink for Narrow {
 
     fn flush(&mut self) -> Result<()> {
         self.flushes = self.flushes.saturating_add(1);
-        if self.blocked {
-            self.faults = self.faults.saturating_add(1);
-            return Err(Error::new(ErrorKind::File));
-        }
         Ok(())
     }
 
@@ -103,15 +97,54 @@ impl Sink for Narrow {
     }
 }
 
-/// A reader of no use.
+/// A reader that refuses its first call, and gives its bytes from then on.
 #[derive(Drop)]
-pub struct Broken;
+pub struct RefusingOnce<'a> {
+    pub left: &'a [u8],
+    pub calls: u64,
+}
 
-impl Read for Broken {
+impl Read for RefusingOnce<'_> {
     ghost remaining = { λ _. None };
 
-    fn read(&mut self, _buf: &mut [u8]) -> io::Result<usize> {
-        Err(io::Error::from(io::ErrorKind::Other))
+    fn read(&mut self, buf: &mut [u8]) -> io::Result<usize> {
+        self.calls = self.calls.saturating_add(1);
+        if self.calls == 1 {
+            return Err(io::Error::from(io::ErrorKind::Other));
+        }
+        self.left.read(buf)
+    }
+}
+
+/// A writer that refuses the call of number `refused`, from 1 on, whether it is told to write or to flush; in each other
+/// call it takes every byte.
+#[derive(Drop)]
+pub struct Refusing {
+    pub taken: Vec<u8>,
+    pub refused: u64,
+    pub calls: u64,
+}
+
+impl Refusing {
+    fn call(&mut self, bytes: &[u8]) -> io::Result<()> {
+        self.calls = self.calls.saturating_add(1);
+        if self.calls == self.refused || self.taken.extend_from_slice(bytes).is_err() {
+            return Err(io::Error::from(io::ErrorKind::Other));
+        }
+        Ok(())
+    }
+}
+
+impl Write for Refusing {
+    ghost contents = { λ _. None };
+
+    fn write(&mut self, bytes: &[u8]) -> io::Result<usize> {
+        self.call(bytes)?;
+        Ok(bytes.len())
+    }
+
+    fn flush(&mut self) -> io::Result<()> {
+        self.call(&[])
     }
 }
 
