@@ -28,8 +28,6 @@ IsUnwritten Some Grammar v e =
 abbrev pub IsUnread : {V : Type 0} → (V → List ℕ → Type 0) → List ℕ → Type 0 → Error → Type 0
 IsUnread {V} Grammar text asked = IsAsn1 (λ e. Refuses e.kind asked ((v : V) → Means Grammar text v → ⊥))
 
-
-
 -- Why no document of a key is made: as IsUnwritten.
 abbrev pub IsNotMade : {V : Type 0} → (V → List ℕ → Type 0) → V → Error → Type 0
 IsNotMade Grammar v = IsAsn1 (λ e. IsUnwritten (HasText Grammar v) Grammar v e.kind)

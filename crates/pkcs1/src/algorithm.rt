@@ -5,8 +5,8 @@ ghost use Rattle.spki_core.specs.AlgorithmRefs.{algorithm_of};
 ghost use Rattle.spki_core.specs.ObjectIdentifiers.{octets_of};
 ghost use Rattle.pkcs1_params.specs.Parameters.{id_rsa_encryption, with_parameters};
 
-use pkcs1_params::with_null;
 use der_core::NoMemory;
+use pkcs1_params::with_null;
 use spki_core::{AlgorithmIdentifierRef, AnyRef, AssociatedOid, ObjectIdentifier};
 
 /// The contents octets of the identifier rsaEncryption, 1.2.840.113549.1.1.1.

@@ -18,8 +18,8 @@ pub use algorithm::{ALGORITHM_OID, algorithm_id, rsa_encryption_oid};
 pub use der_core as der;
 pub use der_core::{Uint, UintRef};
 pub use laws::{
-    forms_share_the_grammars, keys_have_one_text, same_keys_have_the_same_text, texts_are_delimited,
-    texts_mean_one, types_exclude_each_other,
+    forms_share_the_grammars, keys_have_one_text, same_keys_have_the_same_text,
+    texts_are_delimited, texts_mean_one, types_exclude_each_other,
 };
 pub use other_prime_info::{OtherPrimeInfo, OtherPrimeInfos};
 pub use other_primes::OtherPrimes;

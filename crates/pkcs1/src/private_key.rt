@@ -10,7 +10,6 @@ ghost use Rattle.pkcs1.specs.PrivateKeyLaws.{private_means_one, private_of_bytes
 ghost use Rattle.pkcs1.specs.PublicKeys.{key_of};
 ghost use Rattle.pkcs1.specs.PrivateKeys.{private_of, public_in, ListsNone};
 
-use pkcs1_params::Error;
 use crate::key_numbers::read_key_numbers;
 use crate::numbers::{encode_numbers, numbers_len, prepend_numbers};
 use crate::other_prime_info::{
@@ -24,6 +23,7 @@ use der_core::{
     Kinded, Length, OctetStringRef, Reader, Result, SecretDocument, Sequence, SequenceTag, Tag,
     Text, TryClone, Uint, UintRef, Writer, joined_len,
 };
+use pkcs1_params::Error;
 use std::alloc::Global;
 use std::fmt;
 

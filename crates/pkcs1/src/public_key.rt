@@ -6,12 +6,12 @@ ghost use Rattle.pkcs1.specs.Writing.{HasPublicKey, written_public_key};
 ghost use Rattle.pkcs1.specs.PublicKeys.{public_of, key_of};
 ghost use Rattle.pkcs1.specs.PublicKeyLaws.{public_key_means_one, public_key_of_bytes, public_key_relates, public_key_shortest};
 
-use pkcs1_params::{Error, Result};
 use der_core::{
     AsUintRef, BackWriter, Contents, Decode, DecodeValue, Encode, EncodeValue, EqualByValue,
     Header, Kinded, Length, Memory, NoMemory, Reader, Sequence, SequenceTag, Text, TryClone, Uint,
     UintRef, Writer, joined_len,
 };
+use pkcs1_params::{Error, Result};
 use std::alloc::Global;
 
 /// An RSA public key (RFC 8017 A.1.1). No relation of its numbers is checked.

@@ -5,13 +5,13 @@ ghost use Rattle.pkcs1.specs.Asking.{OwnedKeyAsks, OwnedPublicKeyAsks};
 ghost use Rattle.pkcs1.specs.Keys as grammar;
 ghost use Rattle.pkcs1.specs.KeyTexts.{IsSentence, IsUnread};
 
-use pkcs1_params::Result;
 use crate::private_key::RsaPrivateKeyOwned;
 use crate::public_key::RsaPublicKeyOwned;
 use crate::traits::{
     DecodeRsaPrivateKey, DecodeRsaPublicKey, EncodeRsaPrivateKey, EncodeRsaPublicKey,
 };
 use der_core::{Document, SecretDocument};
+use pkcs1_params::Result;
 use std::alloc::Global;
 
 /// Reads a public key from all of the bytes and writes it again: the bytes that come out are those that came in. What is

@@ -13,10 +13,10 @@ ghost use Rattle.pkcs1.specs.PrivateKeys.{private_of, ListsNone};
 ghost use Rattle.pkcs1.specs.PublicKeys.{public_of};
 ghost use Rattle.pkcs1_params.specs.Refusals.{IsAsn1};
 
-use pkcs1_params::Result;
 use crate::private_key::RsaPrivateKey;
 use crate::public_key::RsaPublicKey;
 use der_core::{AsUintRef, Decode, Document, ErrorKind, SecretDocument, Uint, UintRef};
+use pkcs1_params::Result;
 use std::alloc::Global;
 use std::path::Path;
 use std::rt::Files;

@@ -10,11 +10,11 @@ ghost use Rattle.der_core.specs.Reading.{ReadsContents, HoldsBytes};
 ghost use Rattle.pkcs1.specs.Versions.{number_of, IsVersionOf, VersionContents, version_at};
 ghost use Rattle.pkcs1.specs.VersionLaws.{version_means_one, version_of_bytes, version_relates, version_shortest};
 
-use pkcs1_params::Error;
 use der_core::{
     BackWriter, Contents, DecodeValue, EncodeValue, ErrorKind, Header, IntegerTag, Kinded, Length,
     Memory, Reader, Result, Tag, Writer,
 };
+use pkcs1_params::Error;
 use std::cmp::Ordering;
 
 /// The version of a private key: whether it has other primes.

@@ -18,7 +18,6 @@ ghost use Rattle.der_core.specs.Document.{Means};
 ghost use Rattle.der_core.specs.UintRefs.{bytes_of};
 ghost use Rattle.pkcs1.specs.Writing.{HasPrivateKey, written_private_key};
 
-use pkcs1_params::Error;
 use crate::key_numbers::{KeyNumbers, read_key_numbers};
 use crate::other_primes::OtherPrimes;
 use crate::public_key::{RsaPublicKey, RsaPublicKeyRef};
@@ -27,6 +26,7 @@ use der_core::{
     Contents, Decode, DecodeValue, ErrorKind, Header, Kinded, NoMemory, Reader, Result,
     SequenceTag, Tag, UintRef, decode_optional,
 };
+use pkcs1_params::Error;
 use std::fmt;
 
 /// The parts of a private key, over the bytes that were read.

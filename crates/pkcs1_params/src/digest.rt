@@ -58,9 +58,7 @@ pub(crate) type MaskGen<P> = AlgorithmIdentifier<AlgorithmIdentifier<P>>;
 pub(crate) type MaskGenRef<'a> = AlgorithmIdentifier<AlgorithmIdentifierRef<'a>>;
 
 /// D with NULL.
-pub fn with_null<D: AssociatedOid, P: AnyParams<M>, M: Memory>(
-    memory: M,
-) -> AlgorithmIdentifier<P>
+pub fn with_null<D: AssociatedOid, P: AnyParams<M>, M: Memory>(memory: M) -> AlgorithmIdentifier<P>
     ensures { algorithm_with P.any result ≡ with_parameters D.contents null_value }
 {
     AlgorithmIdentifier {

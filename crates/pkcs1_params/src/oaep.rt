@@ -15,11 +15,11 @@ ghost use Rattle.pkcs1_params.specs.OaepWriting.{oaep_defaults, HasOaep, written
 ghost use Rattle.der_core.specs.Texts.{AreBytes};
 ghost use Rattle.pkcs1_params.specs.OaepLaws.{oaep_means_one, oaep_of_bytes, oaep_relates, oaep_shortest};
 
-use crate::error::{Error, Result};
 use crate::digest::{
     Digest, Sha1, is_default_hash, is_default_mask_gen, mask_gen_ref, mgf1_with, read_hash,
     read_mask_gen, with_null,
 };
+use crate::error::{Error, Result};
 use crate::strict::is_written;
 use der_core::{
     BackWriter, Contents, Decode, DecodeValue, Encode, EncodeValue, EqualByValue, Header, Kinded,
