@@ -1,6 +1,6 @@
 #!/usr/bin/env bash
 # Builds libpkcs1 for callers in C and in Rust into ffi/out, and runs its tests: gcc, g++, binutils and cargo; valgrind
-# and openssl where they are installed. No network. Called by .ci/run behind rt ci.
+# and openssl where they are installed. No network. .ci/run calls it behind rt ci, with --over-ci.
 set -eu
 here=$(cd "$(dirname "$0")" && pwd)
 out=$here/out
@@ -14,14 +14,32 @@ for tool in rt "$cc" "$cxx" ar ld nm objcopy cargo; do
     }
 done
 mkdir -p "$out"
-(cd "$here/../crates/pkcs1_c" && rt lib > "$out/rt.log" 2>&1) || {
+crate=$here/../crates/pkcs1_c
+kit=$(dirname "$(rt doc)")
+
+# Behind rt ci, which proved the libraries below and left them, this crate alone is proved again, since rt ci builds no
+# static library, and rt lib would prove them all.
+build_over_ci() {
+    local words=(--extern "std=$kit/rlibs/std.rlib" -L "dependency=$kit/rlibs") name
+    for name in der_core spki_core pkcs1_params pkcs1 pkcs8_core; do
+        words+=(--extern "$name=$here/../crates/$name/out/rlib/$name.rlib" -L "dependency=$here/../crates/$name/out/rlib")
+    done
+    mkdir -p out
+    "$kit/bin/rattle" build --crate-name pkcs1_c --crate-type staticlib src/lib.rt "${words[@]}" --jobs 2 \
+        --antt-project "$kit/rattle/logic/antt-project.json" --logic-built "$kit/logic_built" \
+        --toolchain "$kit/toolchain" -o out/libpkcs1_c.a
+}
+build_library() {
+    if [ "${1-}" = --over-ci ]; then build_over_ci; else rt lib; fi
+}
+(cd "$crate" && build_library "$@" > "$out/rt.log" 2>&1) || {
     cat "$out/rt.log" >&2
     exit 1
 }
 
 # One object of the crate and of what stands for the C library's calls, in which only what the header declares is global.
 grep -o 'pkcs1_c_[a-z0-9_]*' "$here/include/pkcs1.h" | sort -u > "$out/declared"
-ld -r -o "$out/pkcs1.o" --whole-archive "$here/../crates/pkcs1_c/out/libpkcs1_c.a" "$(dirname "$(rt doc)")/c/liblibc_c.a"
+ld -r -o "$out/pkcs1.o" --whole-archive "$crate/out/libpkcs1_c.a" "$kit/c/liblibc_c.a"
 objcopy --keep-global-symbols="$out/declared" "$out/pkcs1.o"
 rm -f "$out/libpkcs1.a"
 ar rcs "$out/libpkcs1.a" "$out/pkcs1.o"

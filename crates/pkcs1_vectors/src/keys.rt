@@ -4,7 +4,7 @@ use crate::arguments::Arguments;
 use crate::carried::{private_der, public_der, viewed, with_document};
 use crate::read::{borrowed, both, owned, read_key};
 use crate::shown::Shown;
-use crate::written::{contents, held, in_slice, written};
+use crate::written::{contents, held, in_each_room, in_slice, written};
 use der_core::{Decode, Encode, OctetStringRef, UintRef};
 use pkcs1::{
     EncodeRsaPrivateKey, OtherPrimeInfo, OtherPrimeInfos, RsaPrivateKeyOwned, RsaPrivateKeyRef,
@@ -122,6 +122,16 @@ pub fn private_key_into(alloc: Global, arguments: &mut Arguments<'_>) -> Answer 
     };
     let own = into_each(alloc, room, &key, |slice| key.encode_key(slice))?;
     agreed(alloc, answer, "owned", own)
+}
+
+/// `priv-rooms HEX`: how many slices are too short for the private key and left as they were, and what comes of one as long
+/// as its text.
+pub fn private_key_rooms(alloc: Global, arguments: &mut Arguments<'_>) -> Answer {
+    let bytes = arguments.bytes(alloc)?;
+    let Ok(key) = RsaPrivateKeyRef::from_der(alloc, bytes.as_slice()) else {
+        return Err(Trouble::Malformed);
+    };
+    in_each_room(alloc, &key, bytes.as_slice())
 }
 
 /// `priv-octets HEX`: the private key inside an octet string of these octets.

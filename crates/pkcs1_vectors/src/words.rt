@@ -87,6 +87,7 @@ fn key_word(alloc: Global, word: &str, arguments: &mut Arguments<'_>) -> Answer 
         "pub-filled" => keys::filled(alloc, arguments),
         "priv" => keys::private_key(alloc, arguments),
         "priv-into" => keys::private_key_into(alloc, arguments),
+        "priv-rooms" => keys::private_key_rooms(alloc, arguments),
         "priv-octets" => keys::from_octets(alloc, arguments),
         "priv-pub" => keys::public_of_private(alloc, arguments),
         "priv-debug" => keys::debug(alloc, arguments),

@@ -1,6 +1,8 @@
 //! Ways of writing a value, as hexadecimal digits.
 use crate::answer::{Answer, agreed, digits, refused, refused_key};
-use der_core::{Document, Encode, EncodeValue, SecretDocument, Sequence, SliceWriter};
+use der_core::{
+    Document, Encode, EncodeValue, Error, ErrorKind, SecretDocument, Sequence, SliceWriter,
+};
 use std::alloc::{AllocError, Global};
 
 /// As much room as the longest text of a row needs, and more.
@@ -119,4 +121,22 @@ where
     let mut slice = untouched(alloc, room)?;
     let answer = write(slice.as_mut_slice());
     after(alloc, answer, slice.as_slice())
+}
+
+/// How many of the slices that are shorter than the text are too short for the value, and left as they were; and what
+/// comes of a slice as long as the text.
+pub fn in_each_room<T: Encode>(alloc: Global, value: &T, text: &[u8]) -> Answer {
+    let no_room = Error::new(ErrorKind::NoRoom);
+    let mut refused = 0_u64;
+    for room in 0..text.len() {
+        let mut slice = untouched(alloc, room)?;
+        let is_refused = value.encode_to_slice(slice.as_mut_slice()) == Err(no_room);
+        if is_refused && slice.as_slice().iter().all(|byte| *byte == UNTOUCHED) {
+            refused = refused.saturating_add(1);
+        }
+    }
+    let mut slice = untouched(alloc, text.len())?;
+    let is_written = value.encode_to_slice(slice.as_mut_slice()) == Ok(text);
+    let last = if is_written { "written" } else { "not written" };
+    Ok(format!(in alloc; "{refused} too short, {} {last}", text.len())?)
 }
