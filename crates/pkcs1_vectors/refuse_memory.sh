@@ -29,6 +29,9 @@ rows() {
 62 pub 3006020107020103
 76 priv-octets 3033
 75 priv-empty-list 0
+114 pss 3034
+6 pss-spell 12 12
+86 pss-spellings 3000
 ROWS
 }
 
