@@ -3,27 +3,27 @@ use Rattle.std.proofs.Common.{ℕ, List, ◌≤◌, ◌<◌, ◌^◌, length, ar
 use Rattle.std.proofs.lemmas.Bool.{cases_lt}
 use Rattle.std.specs.Prelude.{Result, Ok, Err, IfErr}
 use Rattle.der_core.specs.Length.{limit}
-use Rattle.der_core.specs.Document.{Means, IsShortest, IsUncountable, IsRefused, HasText, Fault, no_text, too_long, no_room, another}
-use Rattle.der_core.specs.Writing.{IsLeast, IsUncounted, Counts, Stops, fault}
+use Rattle.der_core.specs.Document.{Means, IsShortest, IsUncountable, IsRefused, HasText, EncodeRefusal, no_text, too_long, no_room, another}
+use Rattle.der_core.specs.Writing.{IsLeast, IsUncounted, Counts, Stops, encode_refusal}
 use Rattle.der_core.specs.declared.error.Error.{Error}
 
 module _ {V : Type 0} (Grammar : V → List ℕ → Type 0) (v : V) where
   -- the same of a value that has a text
-  pub refused_as : (has : Type 0) (room : ℕ) → HasText Grammar v → (k : Fault) → IsRefused has Grammar v room k → IsRefused (HasText Grammar v) Grammar v room k
+  pub refused_as : (has : Type 0) (room : ℕ) → HasText Grammar v → (k : EncodeRefusal) → IsRefused has Grammar v room k → IsRefused (HasText Grammar v) Grammar v room k
   refused_as has room some no_text h = h
   refused_as has room some too_long h = (some, h.1)
   refused_as has room some no_room h = h
   refused_as has room some another h = h
 
   -- the same of a value that has a text where it has what is written
-  pub refused_by : (has : Type 0) (room : ℕ) → (has → HasText Grammar v) → (k : Fault) → IsRefused has Grammar v room k → IsRefused (HasText Grammar v) Grammar v room k
+  pub refused_by : (has : Type 0) (room : ℕ) → (has → HasText Grammar v) → (k : EncodeRefusal) → IsRefused has Grammar v room k → IsRefused (HasText Grammar v) Grammar v room k
   refused_by has room some no_text h = h
   refused_by has room some too_long h = (some h.0, h.1)
   refused_by has room some no_room h = h
   refused_by has room some another h = h
 
   -- a value with a text is written where there is room for that text
-  pub never_refused : (some : Type 0) (text : List ℕ) (room : ℕ) (k : Fault) → Means Grammar text v → length text ≤ room → IsRefused some Grammar v room k → ⊥
+  pub never_refused : (some : Type 0) (text : List ℕ) (room : ℕ) (k : EncodeRefusal) → Means Grammar text v → length text ≤ room → IsRefused some Grammar v room k → ⊥
   never_refused some text room no_text means fits refused = refused text means.1
   never_refused some text room too_long means fits refused = refused.1 text means
   never_refused some text room no_room means fits refused = elim (refused.1.least text means) [
@@ -37,15 +37,15 @@ module _ {V : Type 0} (Grammar : V → List ℕ → Type 0) (v : V) {has : Type 
   none_fits : limit < length written → (text : List ℕ) → Means Grammar text v → ⊥
   none_fits long text p = omega (arith, long, p.0, (least text p.1).1)
 
-  uncounted_as : (k : Fault) → IsUncounted has written k → IsUncountable has Grammar v k
+  uncounted_as : (k : EncodeRefusal) → IsUncounted has written k → IsUncountable has Grammar v k
   uncounted_as no_text h = λ text p. h (least text p).0
   uncounted_as too_long h = (h.0, none_fits h.1)
   uncounted_as no_room h = h
   uncounted_as another h = h
 
-  pub uncounted : (r : Result ℕ Error) → Counts has written r → IfErr r (λ e. IsUncountable has Grammar v (fault e.kind))
+  pub uncounted : (r : Result ℕ Error) → Counts has written r → IfErr r (λ e. IsUncountable has Grammar v (encode_refusal e.kind))
   uncounted (Ok n) h = tt
-  uncounted (Err e) h = uncounted_as (fault e.kind) h
+  uncounted (Err e) h = uncounted_as (encode_refusal e.kind) h
 
   -- what is written is the shortest text
   pub shortest_is : Grammar v written → length written ≤ limit → IsShortest Grammar v written
@@ -58,12 +58,12 @@ module _ {V : Type 0} (Grammar : V → List ℕ → Type 0) (v : V) {has : Type 
   }
 
   module _ (relates : has → length written < 2 ^ 128 → Grammar v written) (room : ℕ) (old new : List ℕ) where
-    stopped_as : (k : Fault) → Stops has written room old new k → IsRefused has Grammar v room k
+    stopped_as : (k : EncodeRefusal) → Stops has written room old new k → IsRefused has Grammar v room k
     stopped_as no_text h = λ text p. h.0 (least text p).0
     stopped_as too_long h = (h.0, none_fits h.1)
     stopped_as no_room h = (written, shortest_is (relates h.0 (omega (arith, h.1))) h.1, h.2)
     stopped_as another h = h
 
-    pub stopped : {A : Type 0} (r : Result A Error) → IfErr r (λ e. Stops has written room old new (fault e.kind)) → IfErr r (λ e. IsRefused has Grammar v room (fault e.kind))
+    pub stopped : {A : Type 0} (r : Result A Error) → IfErr r (λ e. Stops has written room old new (encode_refusal e.kind)) → IfErr r (λ e. IsRefused has Grammar v room (encode_refusal e.kind))
     stopped (Ok x) h = tt
-    stopped (Err e) h = stopped_as (fault e.kind) h
+    stopped (Err e) h = stopped_as (encode_refusal e.kind) h

@@ -6,7 +6,7 @@ use Rattle.der_core.specs.declared.error.ErrorKind.{ErrorKind}
 use Rattle.der_core.specs.declared.error.ErrorKind.TheVariants.{File, OutOfMemory, Overflow}
 use Rattle.der_core.specs.Length.{limit}
 use Rattle.der_core.specs.Document.{IsDocument}
-use Rattle.der_core.specs.Outside.{AppendsFront, GivesAll, GivesMore, SomeRefused}
+use Rattle.der_core.specs.SourcesSinks.{AppendsFront, GivesAll, GivesMore, SomeRefused}
 use Rattle.der_core.specs.Reading.{TellsOfBytes}
 
 -- how many bytes are asked for at once

@@ -36,21 +36,21 @@ abbrev pub IsAlone : {V : Type 0} → (V → List ℕ → Type 0) → V → List
 IsAlone Grammar v text = (other : List ℕ) → Spellings Grammar v other → other ≡ text
 
 -- Why a value isn't written.
-pub data Fault : Type 0 where
-  no_text : Fault
-  too_long : Fault
-  no_room : Fault
-  another : Fault
+pub data EncodeRefusal : Type 0 where
+  no_text : EncodeRefusal
+  too_long : EncodeRefusal
+  no_room : EncodeRefusal
+  another : EncodeRefusal
 
 -- Why a value's text isn't counted: it has no text, or it has some (as Some says) and none of them is within the limit.
-abbrev pub IsUncountable : {V : Type 0} → Type 0 → (V → List ℕ → Type 0) → V → Fault → Type 0
+abbrev pub IsUncountable : {V : Type 0} → Type 0 → (V → List ℕ → Type 0) → V → EncodeRefusal → Type 0
 IsUncountable Some Grammar v no_text = (text : List ℕ) → Grammar v text → ⊥
 IsUncountable Some Grammar v too_long = Some × ((text : List ℕ) → Means Grammar text v → ⊥)
 IsUncountable Some Grammar v no_room = ⊥
 IsUncountable Some Grammar v another = ⊥
 
 -- Why a value isn't written: its text isn't counted, or the shortest one has no room.
-abbrev pub IsRefused : {V : Type 0} → Type 0 → (V → List ℕ → Type 0) → V → ℕ → Fault → Type 0
+abbrev pub IsRefused : {V : Type 0} → Type 0 → (V → List ℕ → Type 0) → V → ℕ → EncodeRefusal → Type 0
 IsRefused Some Grammar v room no_text = (text : List ℕ) → Grammar v text → ⊥
 IsRefused Some Grammar v room too_long = Some × ((text : List ℕ) → Means Grammar text v → ⊥)
 IsRefused Some Grammar v room no_room = (text : List ℕ) × IsShortest Grammar v text × (room < length text)

@@ -9,8 +9,8 @@ use Rattle.der_core.specs.Tells.{is_trailing}
 use Rattle.der_core.specs.Sequences.{TextFails, TextGives, ContentsFail, some_same}
 use Rattle.der_core.specs.Whole.{trailing_is, trailing_none}
 
-module _ {V : Type 0} (text : V → List ℕ → Type 0) (asks : List ℕ → Type 0) where
-  pub whole_fails : (before after : Input) (e : ErrorKind) → TextFails text asks e before after → ContentsFail text asks e before after
+module _ {V : Type 0} (text : V → List ℕ → Type 0) (may_allocate : List ℕ → Type 0) where
+  pub whole_fails : (before after : Input) (e : ErrorKind) → TextFails text may_allocate e before after → ContentsFail text may_allocate e before after
   whole_fails before after e fails = (
     fails.0,
     λ c is. ⊎_elim
@@ -20,7 +20,7 @@ module _ {V : Type 0} (text : V → List ℕ → Type 0) (asks : List ℕ → Ty
   )
 
   pub whole_trailing : IsDelimited text → (before mid after : Input) (e : ErrorKind) (x : V) → TextGives text x before mid
-      → (read_from mid end_of ≡ Err e) × (after ≡ None) → ContentsFail text asks e before after
+      → (read_from mid end_of ≡ Err e) × (after ≡ None) → ContentsFail text may_allocate e before after
   whole_trailing d before mid after e x gives finish =
       let more = trailing_is mid gives.1 e gives.3 finish.0 in (
         finish.1,
@@ -31,7 +31,7 @@ module _ {V : Type 0} (text : V → List ℕ → Type 0) (asks : List ℕ → Ty
       )
 
   -- something is left, and it isn't one text
-  pub last_fails : (before after : Input) (e : ErrorKind) → 0 < length (left_in before) → ContentsFail text asks e before after → ContentsFail (Optional text) asks e before after
+  pub last_fails : (before after : Input) (e : ErrorKind) → 0 < length (left_in before) → ContentsFail text may_allocate e before after → ContentsFail (Optional text) may_allocate e before after
   last_fails before after e more fails =
       (fails.0, λ c is. ⊎_elim inl (λ w. inr (w.0, λ v has. go v c is has w.1)) (fails.1 c is))
     where
@@ -45,15 +45,15 @@ peek_more (Some []) r o e f g = let no : false ≡ true = ap is_some (sym g) ∙
 peek_more (Some (x ∷ xs)) r o e f g = omega arith
 
 -- The same refusal, of what asks for more.
-pub asks_more : {A : Type 0} (text : A → List ℕ → Type 0) (asks more : List ℕ → Type 0) → ((b : List ℕ) → asks b → more b)
-    → (before after : Input) (e : ErrorKind) → TextFails text asks e before after → TextFails text more e before after
-asks_more text asks more f before after e fails =
+pub allocates_more : {A : Type 0} (text : A → List ℕ → Type 0) (may_allocate more : List ℕ → Type 0) → ((b : List ℕ) → may_allocate b → more b)
+    → (before after : Input) (e : ErrorKind) → TextFails text may_allocate e before after → TextFails text more e before after
+allocates_more text may_allocate more f before after e fails =
     (fails.0, fails.1, λ i is. ⊎_elim (λ w. let p = w.1 in inl (w.0, (p.0, p.1, p.2, f p.0 p.3))) inr (fails.2 i is))
 
 -- One part joins to itself, and it may be that of a greater value.
-pub as_last : {V W : Type 0} (contents : V → List ℕ → Type 0) (part : W → V) (asks : List ℕ → Type 0)
-    → (before after : Input) (e : ErrorKind) → ContentsFail contents asks e before after → ContentsFail (λ w. Joins (contents (part w) ∷ [])) asks e before after
-as_last contents part asks before after e fails =
+pub as_last : {V W : Type 0} (contents : V → List ℕ → Type 0) (part : W → V) (may_allocate : List ℕ → Type 0)
+    → (before after : Input) (e : ErrorKind) → ContentsFail contents may_allocate e before after → ContentsFail (λ w. Joins (contents (part w) ∷ [])) may_allocate e before after
+as_last contents part may_allocate before after e fails =
     (fails.0, λ c is. ⊎_elim inl (λ w. inr (w.0, λ v has. w.1 (part v) (only (contents (part v)) c has))) (fails.1 c is))
   where
     only : (P : List ℕ → Type 0) (c : List ℕ) → Joins (P ∷ []) c → P c

@@ -2,7 +2,7 @@
 ghost use Rattle.std.specs.Prelude.{◌≡◌, ◌≤◌, ◌⊎◌, length, IfOk, IfErr, OnOk};
 ghost use Rattle.der_core.specs.Carrying.{WritesAll, piece};
 ghost use Rattle.der_core.specs.Length.{limit};
-ghost use Rattle.der_core.specs.Outside.{GivesAll, GivesMore, SomeRefused};
+ghost use Rattle.der_core.specs.SourcesSinks.{GivesAll, GivesMore, SomeRefused};
 
 use crate::error::{Error, ErrorKind, Result};
 use crate::length::Length;

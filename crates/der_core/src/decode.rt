@@ -14,30 +14,30 @@ use crate::types::{Contents, FixedTag, Text};
 /// A type whose values are read from their contents octets.
 pub trait DecodeValue<B: Octets, M: Memory>: Contents + Sized + Drop {
     /// The contents for which memory may be asked for.
-    ghost asks: { List ℕ → Type 0 };
+    ghost may_allocate: { List ℕ → Type 0 };
 
     /// Reads all that is left, which is as many bytes as the header says, as the contents of a value.
     fn decode_value<R: Reader<B>>(memory: M, reader: &mut R, header: Header) -> Result<Self>
         requires { HoldsBytes (R.left reader.old) header.length }
-        ensures { ReadsContents Self.value Self.contents asks result (R.left reader.old) (R.left reader.new) };
+        ensures { ReadsContents Self.value Self.contents may_allocate result (R.left reader.old) (R.left reader.new) };
 }
 
 /// A type whose values are read from their texts.
 pub trait Decode<B: Octets, M: Memory>: Text + Sized + Drop {
     /// The texts for which memory may be asked for.
-    ghost asks: { List ℕ → Type 0 };
+    ghost may_allocate: { List ℕ → Type 0 };
 
     /// Reads the text at the front of the reader.
     fn decode<R: Reader<B>>(memory: M, reader: &mut R) -> Result<Self>
-        ensures { ReadsText Self.value Self.text asks result (R.left reader.old) (R.left reader.new) };
+        ensures { ReadsText Self.value Self.text may_allocate result (R.left reader.old) (R.left reader.new) };
 
     /// Reads a whole slice: `Overflow` past `Length::MAX`, `TrailingData` where bytes follow the text.
     fn from_der(memory: M, bytes: B) -> Result<Self>
-        ensures { ReadsAll Self.value Self.text asks result (B.octets bytes) };
+        ensures { ReadsAll Self.value Self.text may_allocate result (B.octets bytes) };
 }
 
 impl<'a, M: Memory, T: DecodeValue<&'a [u8], M> + FixedTag> Decode<&'a [u8], M> for T {
-    ghost asks = { Tlv T.TAG.octet T.DecodeValue.asks };
+    ghost may_allocate = { Tlv T.TAG.octet T.DecodeValue.may_allocate };
 
     fn decode<R: Reader<&'a [u8]>>(memory: M, reader: &mut R) -> Result<T> {
         let header = Header::decode(reader)?;
@@ -68,8 +68,8 @@ pub fn decode_optional<'a, T: DecodeValue<&'a [u8], M> + FixedTag, M: Memory, R:
     reader: &mut R,
 ) -> Result<Option<T>>
     ensures { let tag = T.TAG.octet in
-        let asks = Tlv tag T.DecodeValue.asks in
-        ReadsOptional tag T.value (λ v. Tlv tag (T.contents v)) asks result (R.left reader.old) (R.left reader.new) }
+        let may_allocate = Tlv tag T.DecodeValue.may_allocate in
+        ReadsOptional tag T.value (λ v. Tlv tag (T.contents v)) may_allocate result (R.left reader.old) (R.left reader.new) }
 {
     reader.read_slice(Length::ZERO)?;
     if reader.peek_octet() != Some(T::TAG.octet()) {

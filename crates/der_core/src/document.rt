@@ -19,7 +19,7 @@ use crate::length::Length;
 use crate::memory::{NoMemory, copy_of};
 use crate::reader::Reader;
 use crate::source_sink::{Sink, Source};
-use crate::types::{Contents, FixedTag, Kinded, Sequence, SequenceTag};
+use crate::types::{Contents, FixedTag, TaggedBy, Sequence, SequenceTag};
 use crate::wrap::{FromRead, ToWrite};
 use std::alloc::Global;
 use std::fmt;
@@ -47,12 +47,12 @@ impl Contents for AnySequence {
     ghost contents_of_bytes = { λ v contents p. p };
 }
 
-impl Kinded for AnySequence {
-    type Kind = SequenceTag;
+impl TaggedBy for AnySequence {
+    type Marker = SequenceTag;
 }
 
 impl<'a> DecodeValue<&'a [u8], NoMemory> for AnySequence {
-    ghost asks = { λ _. ⊥ };
+    ghost may_allocate = { λ _. ⊥ };
 
     fn decode_value<R: Reader<&'a [u8]>>(
         _memory: NoMemory,
@@ -83,7 +83,7 @@ pub struct Document {
 }
 
 impl Document {
-    ghost use Rattle.der_core.specs.Documents.{HoldsMessage, text_of};
+    ghost use Rattle.der_core.specs.DocumentValue.{HoldsMessage, text_of};
 
     /// A copy of these bytes, where they are one SEQUENCE. `OutOfMemory` is answered only where they are.
     pub fn from_der(alloc: Global, bytes: &[u8]) -> Result<Document>
@@ -178,7 +178,7 @@ pub struct SecretDocument {
 }
 
 impl SecretDocument {
-    ghost use Rattle.der_core.specs.Documents.{HoldsMessage, secret_text_of};
+    ghost use Rattle.der_core.specs.DocumentValue.{HoldsMessage, secret_text_of};
 
     /// A copy of these bytes, where they are one SEQUENCE. `OutOfMemory` is answered only where they are.
     pub fn from_der(alloc: Global, bytes: &[u8]) -> Result<SecretDocument>

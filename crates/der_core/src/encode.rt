@@ -4,9 +4,9 @@ ghost use Rattle.der_core.specs.Length.{limit, length_octets};
 ghost use Rattle.der_core.specs.Tlv.{Tlv, tlv};
 ghost use Rattle.der_core.specs.Document.{IsShortest, IsUncountable, IsRefused};
 ghost use Rattle.der_core.specs.BackWriters.{free_of, Prepends};
-ghost use Rattle.der_core.specs.Lent.{IsFront, LeavesRest};
+ghost use Rattle.der_core.specs.EncodeToSlice.{IsFront, LeavesRest};
 ghost use Rattle.std.specs.Borrow.{sem};
-ghost use Rattle.der_core.specs.Writing.{WritesTexts, WritesLeast, Counts, Appends, fault, joined};
+ghost use Rattle.der_core.specs.Writing.{WritesTexts, WritesLeast, Counts, Appends, encode_refusal, joined};
 
 use crate::back_writer::BackWriter;
 use crate::error::{Error, ErrorKind, Result};
@@ -47,14 +47,14 @@ pub trait Encode: Text {
     fn encoded_len(&self) -> Result<Length>
         ensures counted { let v = Self.value self.now in Counts (Self.has_text v) (Self.written_text v) result }
         ensures err { let v = Self.value self.now in
-            IfErr result (λ e. IsUncountable (Self.has_text v) Self.text v (fault e.kind)) };
+            IfErr result (λ e. IsUncountable (Self.has_text v) Self.text v (encode_refusal e.kind)) };
 
     /// Appends the text: `Value` and `Overflow` before any octet, `NoRoom` after a beginning of it.
     fn encode<W: Writer>(&self, writer: &mut W) -> Result<()>
         ensures appends { let v = Self.value self.now in
             Appends (Self.has_text v) (Self.written_text v) W.room W.written writer.old writer.new result }
         ensures err { let v = Self.value self.now in
-            IfErr result (λ e. IsRefused (Self.has_text v) Self.text v (W.room writer.old) (fault e.kind)) }
+            IfErr result (λ e. IsRefused (Self.has_text v) Self.text v (W.room writer.old) (encode_refusal e.kind)) }
         ensures kept { W.keeps writer.old writer.new };
 
     /// Puts the text before what is filled.
@@ -79,7 +79,7 @@ pub trait Encode: Text {
             IfOk result (λ n. (n ≡ length text) × (out.new ≡ text ++ drop n out.old)) }
         ensures shortest { let v = Self.value self.now in OnOk result (IsShortest Self.text v (Self.written_text v)) }
         ensures err { let v = Self.value self.now in
-            IfErr result (λ e. IsRefused (Self.has_text v) Self.text v (length out.old) (fault e.kind)) }
+            IfErr result (λ e. IsRefused (Self.has_text v) Self.text v (length out.old) (encode_refusal e.kind)) }
         ensures unchanged { OnErr result (out.new ≡ out.old) }
     {
         let length = self.encoded_len()?.to_usize();
@@ -101,7 +101,7 @@ pub trait Encode: Text {
         ensures ok { IfOk result (λ s. s.now ≡ Self.written_text (Self.value self.now)) }
         ensures shortest { IfOk result (λ s. IsShortest Self.text (Self.value self.now) s.now) }
         ensures err { let v = Self.value self.now in
-            IfErr result (λ e. IsRefused (Self.has_text v) Self.text v (length out.old) (fault e.kind)) }
+            IfErr result (λ e. IsRefused (Self.has_text v) Self.text v (length out.old) (encode_refusal e.kind)) }
     {
         let written = self.encode_into(out);
         front(out, written)

@@ -1,6 +1,6 @@
 //! Refusals.
 ghost use Rattle.std.specs.Prelude.{◌≡◌, Some};
-ghost use Rattle.der_core.specs.Writing.{fault, is_no_text};
+ghost use Rattle.der_core.specs.Writing.{encode_refusal, is_no_text};
 
 use crate::tag::{PrintedOctet, Tag};
 use std::alloc::{AllocError, AllocFailed};
@@ -108,7 +108,7 @@ impl Error {
 
     /// Whether the value has no text.
     pub(crate) fn is_value(self) -> bool
-        ensures { result ≡ is_no_text (fault self.kind) }
+        ensures { result ≡ is_no_text (encode_refusal self.kind) }
     {
         matches!(self.kind, ErrorKind::Value { .. })
     }

@@ -15,7 +15,7 @@ use crate::length::Length;
 use crate::memory::Memory;
 use crate::reader::Reader;
 use crate::tag::Tag;
-use crate::types::{Contents, EqualByValue, Kinded, TagKind};
+use crate::types::{Contents, EqualByValue, TaggedBy, TagMarker};
 use crate::writer::Writer;
 
 /// Octets, at most `Length::MAX`. It borrows them.
@@ -27,7 +27,7 @@ pub struct OctetStringRef<'a> {
 }
 
 impl<'a> OctetStringRef<'a> {
-    ghost use Rattle.der_core.specs.OctetStringRefs.{octets_of};
+    ghost use Rattle.der_core.specs.OctetStringRefValue.{octets_of};
 
     /// These octets, or `Overflow` where they pass `Length::MAX`.
     pub fn new(bytes: &'a [u8]) -> Result<OctetStringRef<'a>>
@@ -66,14 +66,14 @@ impl<'a> OctetStringRef<'a> {
 /// The tag of OCTET STRING.
 pub struct OctetStringTag;
 
-impl TagKind for OctetStringTag {
+impl TagMarker for OctetStringTag {
     ghost TAG = { octet_string };
 
     const TAG: Tag = Tag::OCTET_STRING;
 }
 
 impl Contents for OctetStringRef<'_> {
-    ghost use Rattle.der_core.specs.OctetStringRefs.{octets_of};
+    ghost use Rattle.der_core.specs.OctetStringRefValue.{octets_of};
 
     ghost Value = { List ℕ };
 
@@ -90,8 +90,8 @@ impl Contents for OctetStringRef<'_> {
     ghost contents_of_bytes = { octets_of_bytes };
 }
 
-impl Kinded for OctetStringRef<'_> {
-    type Kind = OctetStringTag;
+impl TaggedBy for OctetStringRef<'_> {
+    type Marker = OctetStringTag;
 }
 
 impl EqualByValue for OctetStringRef<'_> {
@@ -101,7 +101,7 @@ impl EqualByValue for OctetStringRef<'_> {
 }
 
 impl<'a, M: Memory> DecodeValue<&'a [u8], M> for OctetStringRef<'a> {
-    ghost asks = { λ _. ⊥ };
+    ghost may_allocate = { λ _. ⊥ };
 
     fn decode_value<R: Reader<&'a [u8]>>(
         _memory: M,

@@ -14,7 +14,7 @@ use crate::error::{ErrorKind, Result};
 use crate::header::Header;
 use crate::length::Length;
 use crate::reader::Reader;
-use crate::types::{Contents, Kinded, SequenceTag, Text};
+use crate::types::{Contents, TaggedBy, SequenceTag, Text};
 use crate::writer::Writer;
 use std::alloc::Global;
 
@@ -34,12 +34,12 @@ impl<T: Text> Contents for Vec<T> {
     ghost contents_of_bytes = { items_of_bytes T.text T.text_of_bytes };
 }
 
-impl<T> Kinded for Vec<T> {
-    type Kind = SequenceTag;
+impl<T> TaggedBy for Vec<T> {
+    type Marker = SequenceTag;
 }
 
 impl<'a, T: Decode<&'a [u8], Global>> DecodeValue<&'a [u8], Global> for Vec<T> {
-    ghost asks = { λ c. 0 < length c };
+    ghost may_allocate = { λ c. 0 < length c };
 
     fn decode_value<R: Reader<&'a [u8]>>(
         memory: Global,

@@ -9,18 +9,18 @@ use std::alloc::Global;
 /// A type whose values are copied into memory that is asked for.
 pub trait TryClone: Text + Sized + Drop {
     /// The values whose copies ask for no memory.
-    ghost asks_nothing: { Self → Type 0 };
+    ghost allocates_nothing: { Self → Type 0 };
 
     /// A copy, which means the same. It is never refused where it asks for no memory.
     fn try_clone(&self, alloc: Global) -> Result<Self>
         ensures ok { IfOk result (λ copy. Self.value copy ≡ Self.value self.now) }
         ensures err { IfErr result (λ e. e.kind ≡ ErrorKind.OutOfMemory) }
-        ensures asks { asks_nothing self.now → IsOk result };
+        ensures may_allocate { allocates_nothing self.now → IsOk result };
 }
 
 /// An item for each item, in order.
 impl<T: TryClone> TryClone for Vec<T> {
-    ghost asks_nothing = { λ items. length items.items ≡ 0 };
+    ghost allocates_nothing = { λ items. length items.items ≡ 0 };
 
     fn try_clone(&self, alloc: Global) -> Result<Vec<T>> {
         let mut copies = Vec::new(alloc);

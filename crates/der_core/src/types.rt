@@ -1,6 +1,6 @@
 //! What a type says of its values and their bytes: the same for reading and for writing, for borrowed and owned types.
 //!
-//! A type author writes `Contents` (ghosts alone), `Kinded` (the tag), and then `DecodeValue` or `EncodeValue` or both.
+//! A type author writes `Contents` (ghosts alone), `TaggedBy` (the tag), and then `DecodeValue` or `EncodeValue` or both.
 ghost use Rattle.std.specs.Prelude.{◌≡◌, ℕ, List};
 ghost use Rattle.der_core.specs.Texts.{MeansOne, IsDelimited, IsOfBytes};
 ghost use Rattle.der_core.specs.Tlv.{Tlv, tlv};
@@ -58,8 +58,8 @@ pub trait EqualByValue: Text + PartialEq {
     ghost decides: { (a b : Self) → Decides (Self.eq a b) (Self.value a ≡ Self.value b) };
 }
 
-/// A tag, as a type: so that a type of any lifetime and parameters can name its tag by `Kinded`.
-pub trait TagKind {
+/// A tag, as a type: so that a type of any lifetime and parameters can name its tag by `TaggedBy`.
+pub trait TagMarker {
     /// The tag, where a contract names it.
     ghost TAG: { Tag };
 
@@ -68,9 +68,9 @@ pub trait TagKind {
 }
 
 /// A type whose texts have the tag of a kind.
-pub trait Kinded {
+pub trait TaggedBy {
     /// The kind whose tag the texts have. Types of the same kind can't be told apart by their tags.
-    type Kind: TagKind;
+    type Marker: TagMarker;
 }
 
 /// A type whose texts have one tag.
@@ -82,16 +82,16 @@ pub trait FixedTag {
     const TAG: Tag;
 }
 
-impl<T: Kinded> FixedTag for T {
-    ghost TAG = { T.Kind.TAG };
+impl<T: TaggedBy> FixedTag for T {
+    ghost TAG = { T.Marker.TAG };
 
-    const TAG: Tag = T::Kind::TAG;
+    const TAG: Tag = T::Marker::TAG;
 }
 
 /// The tag of INTEGER.
 pub struct IntegerTag;
 
-impl TagKind for IntegerTag {
+impl TagMarker for IntegerTag {
     ghost TAG = { integer };
 
     const TAG: Tag = Tag::INTEGER;
@@ -100,7 +100,7 @@ impl TagKind for IntegerTag {
 /// The tag of SEQUENCE and SEQUENCE OF.
 pub struct SequenceTag;
 
-impl TagKind for SequenceTag {
+impl TagMarker for SequenceTag {
     ghost TAG = { sequence };
 
     const TAG: Tag = Tag::SEQUENCE;

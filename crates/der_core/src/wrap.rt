@@ -2,7 +2,7 @@
 ghost use Rattle.std.specs.Prelude.{◌≡◌, ◌<◌, ◌+◌, ◌-◌, ◌^◌, min, length, IfOk, IfErr};
 ghost use Rattle.std.specs.Io.{ReadsAtMost, WritesAtMost};
 ghost use Rattle.std.specs.Io.KnownBytes.{Keeps, ReadConsumes, WriteAppends};
-ghost use Rattle.der_core.specs.Outside.{CountsRefusal};
+ghost use Rattle.der_core.specs.SourcesSinks.{CountsRefusal};
 ghost use Rattle.der_core.specs.Refusal.{IsFile};
 
 use crate::error::{Error, ErrorKind, Result};

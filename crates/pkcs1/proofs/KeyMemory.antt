@@ -8,9 +8,9 @@ use Rattle.der_core.specs.TextLaws.{tlv_split, tlv_not_empty}
 use Rattle.der_core.specs.Document.{Means}
 use Rattle.der_core.specs.Integer.{Integer}
 use Rattle.der_core.specs.IntegerLaws.{small_delimited}
-use Rattle.der_core.specs.Reading.{AskedIn, AsksWithin, Refuses}
+use Rattle.der_core.specs.Reading.{AllocatesIn, AllocatesWithin, Refuses}
 use Rattle.der_core.specs.declared.error.ErrorKind.{ErrorKind}
-use Rattle.pkcs1.specs.Asking.{BeginsSequence, OthersFollow, AsksForKey, MayAsk}
+use Rattle.pkcs1.specs.Allocating.{BeginsSequence, OthersFollow, AllocatesForKey, MayAllocate}
 use Rattle.pkcs1.specs.Keys.{OtherPrime, OtherPrimeInfos, version_of, PrivateKey, PrivateKeyContents}
 use Rattle.pkcs1.specs.Writing.{key_numbers}
 use Rattle.pkcs1.proofs.NumberReads.{as_many}
@@ -30,8 +30,8 @@ module _ {V : Type 0} {text : V → List ℕ → Type 0} (d : IsDelimited text) 
       let s = as_many text d vs (key_numbers key) (OtherPrimeInfos text key.other_prime_infos ∷ []) b rest p.1 joined l (sym tails.1) numbers in
       none_follow key.other_prime_infos rest two (last_is rest s.1) begins
 
-  pub two_primes_ask : (asks : List ℕ → Type 0) → ((c : List ℕ) → AsksWithin asks c → ⊥) → (whole : List ℕ) → Tlv 48 (PrivateKeyContents text key) whole → AskedIn (Tlv 48 (AsksForKey text asks)) whole → ⊥
-  two_primes_ask asks none whole p (b, rest, e, q) =
+  pub two_primes_ask : (may_allocate : List ℕ → Type 0) → ((c : List ℕ) → AllocatesWithin may_allocate c → ⊥) → (whole : List ℕ) → Tlv 48 (PrivateKeyContents text key) whole → AllocatesIn (Tlv 48 (AllocatesForKey text may_allocate)) whole → ⊥
+  two_primes_ask may_allocate none whole p (b, rest, e, q) =
       let same : b ++ rest ≡ whole ++ [] = sym e ∙ ends whole in
       let s = tlv_split b rest whole [] q p same in
       asked s.3 s.5 s.4
@@ -40,28 +40,28 @@ module _ {V : Type 0} {text : V → List ℕ → Type 0} (d : IsDelimited text) 
       ends [] = refl
       ends (x ∷ l) = ap (λ r. x ∷ r) (ends l)
 
-      asked : (c : List ℕ) → PrivateKeyContents text key c → AsksForKey text asks c → ⊥
+      asked : (c : List ℕ) → PrivateKeyContents text key c → AllocatesForKey text may_allocate c → ⊥
       asked c h (inl w) = none c w
       asked c h (inr w) = no_others c h w
 
   -- So such a text isn't refused.
-  pub two_primes_refused : (asks : List ℕ → Type 0) → ((c : List ℕ) → AsksWithin asks c → ⊥) → (whole : List ℕ) (kind : ErrorKind) → Means (λ v. Tlv 48 (PrivateKeyContents text v)) whole key
-      → Refuses kind (AskedIn (Tlv 48 (AsksForKey text asks)) whole) ((v : PrivateKey V) → Means (λ v. Tlv 48 (PrivateKeyContents text v)) whole v → ⊥) → ⊥
-  two_primes_refused asks none whole kind means (inl w) = two_primes_ask asks none whole means.1 w.1
-  two_primes_refused asks none whole kind means (inr w) = w.1 key means
+  pub two_primes_refused : (may_allocate : List ℕ → Type 0) → ((c : List ℕ) → AllocatesWithin may_allocate c → ⊥) → (whole : List ℕ) (kind : ErrorKind) → Means (λ v. Tlv 48 (PrivateKeyContents text v)) whole key
+      → Refuses kind (AllocatesIn (Tlv 48 (AllocatesForKey text may_allocate)) whole) ((v : PrivateKey V) → Means (λ v. Tlv 48 (PrivateKeyContents text v)) whole v → ⊥) → ⊥
+  two_primes_refused may_allocate none whole kind means (inl w) = two_primes_ask may_allocate none whole means.1 w.1
+  two_primes_refused may_allocate none whole kind means (inr w) = w.1 key means
 
 -- A number that is borrowed asks for none.
-pub borrowed_ask : (c : List ℕ) → AsksWithin (Tlv 2 (λ _. ⊥)) c → ⊥
+pub borrowed_ask : (c : List ℕ) → AllocatesWithin (Tlv 2 (λ _. ⊥)) c → ⊥
 borrowed_ask c w = w.4.holds
 
 -- A borrowed key asks for memory only where other primes follow.
-pub may_ask : (text : List ℕ) → AskedIn (Tlv 48 (AsksForKey Integer (Tlv 2 (λ _. ⊥)))) text → MayAsk text
+pub may_ask : (text : List ℕ) → AllocatesIn (Tlv 48 (AllocatesForKey Integer (Tlv 2 (λ _. ⊥)))) text → MayAllocate text
 may_ask text (b, rest, e, p) = (b, rest, e, record { octets = p.octets; contents = p.contents; counted = p.counted; holds = follow p.holds; written = p.written })
   where
-    follow : {c : List ℕ} → AsksForKey Integer (Tlv 2 (λ _. ⊥)) c → OthersFollow Integer c
+    follow : {c : List ℕ} → AllocatesForKey Integer (Tlv 2 (λ _. ⊥)) c → OthersFollow Integer c
     follow {c} (inl w) = absurd (borrowed_ask c w)
     follow (inr w) = w
 
-pub refuses_as : (kind : ErrorKind) (text : List ℕ) {none : Type 0} → Refuses kind (AskedIn (Tlv 48 (AsksForKey Integer (Tlv 2 (λ _. ⊥)))) text) none → Refuses kind (MayAsk text) none
+pub refuses_as : (kind : ErrorKind) (text : List ℕ) {none : Type 0} → Refuses kind (AllocatesIn (Tlv 48 (AllocatesForKey Integer (Tlv 2 (λ _. ⊥)))) text) none → Refuses kind (MayAllocate text) none
 refuses_as kind text (inl w) = inl (w.0, may_ask text w.1)
 refuses_as kind text (inr w) = inr w

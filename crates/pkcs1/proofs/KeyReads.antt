@@ -8,10 +8,10 @@ use Rattle.der_core.specs.Integer.{Small}
 use Rattle.der_core.specs.IntegerLaws.{small_delimited}
 use Rattle.der_core.specs.declared.error.ErrorKind.{ErrorKind}
 use Rattle.der_core.specs.Input.{Input}
-use Rattle.der_core.specs.Reading.{Refuses, AskedIn, AsksWithin}
+use Rattle.der_core.specs.Reading.{Refuses, AllocatesIn, AllocatesWithin}
 use Rattle.der_core.specs.Sequences.{some_same, TextFails, TextGives}
 use Rattle.std.specs.Prelude.{Option}
-use Rattle.pkcs1.specs.Asking.{AsksInKey}
+use Rattle.pkcs1.specs.Allocating.{AllocatesInKey}
 use Rattle.pkcs1.specs.KeyNumbers.{EightNumbers}
 use Rattle.pkcs1.specs.Keys.{OtherPrime, OtherPrimeInfos, version_of, PrivateKey, PrivateKeyContents}
 use Rattle.pkcs1.specs.Writing.{key_numbers}
@@ -31,11 +31,11 @@ as_version n text l p = record { octets = p.octets; contents = p.contents; count
 pub last_is : {P : List ℕ → Type 0} (c : List ℕ) → Joins (P ∷ []) c → P c
 last_is c (x, y, p, q, e) = let same : c ≡ x = e ∙ ap (λ l. x ++ l) q ∙ append-nil x in rw same p
 
-module _ {V : Type 0} (text : V → List ℕ → Type 0) (d : IsDelimited text) (asks others_ask : List ℕ → Type 0) where
+module _ {V : Type 0} (text : V → List ℕ → Type 0) (d : IsDelimited text) (may_allocate others_ask : List ℕ → Type 0) where
   -- what decode_value is to ensure of a refusal
   abbrev pub KeyFails : ErrorKind → Input → Input → Type 0
   KeyFails e before after =
-      (after ≡ None) × ((c : List ℕ) → before ≡ Some c → Refuses e (AsksInKey text asks others_ask c) ((key : PrivateKey V) → PrivateKeyContents text key c → ⊥))
+      (after ≡ None) × ((c : List ℕ) → before ≡ Some c → Refuses e (AllocatesInKey text may_allocate others_ask c) ((key : PrivateKey V) → PrivateKeyContents text key c → ⊥))
 
   abbrev parts : PrivateKey V → List (List ℕ → Type 0)
   parts key = OtherPrimeInfos text key.other_prime_infos ∷ []
@@ -68,7 +68,7 @@ module _ {V : Type 0} (text : V → List ℕ → Type 0) (d : IsDelimited text) 
   fronted : (key : PrivateKey V) (c : List ℕ) → Joins (map text (key_numbers key) ++ parts key) c → Then (EightNumbers text (key_numbers key)) (Joins (parts key)) c
   fronted key c p = let s = joins_take (map text (key_numbers key)) (parts key) c p in (s.0, s.1, (refl, s.2), s.3, s.4)
 
-  pub key_numbers_fail : {n : ℕ} {before one after : Input} {e : ErrorKind} → TextGives VersionText n before one → TextFails (EightNumbers text) (AsksWithin asks) e one after → KeyFails e before after
+  pub key_numbers_fail : {n : ℕ} {before one after : Input} {e : ErrorKind} → TextGives VersionText n before one → TextFails (EightNumbers text) (AllocatesWithin may_allocate) e one after → KeyFails e before after
   key_numbers_fail gives fails = (
     fails.0,
     λ c is.
@@ -79,7 +79,7 @@ module _ {V : Type 0} (text : V → List ℕ → Type 0) (d : IsDelimited text) 
         (fails.2 gives.1 gives.3),
   )
     where
-      within : (a r c : List ℕ) → c ≡ a ++ r → AskedIn (AsksWithin asks) r → AsksWithin asks c
+      within : (a r c : List ℕ) → c ≡ a ++ r → AllocatesIn (AllocatesWithin may_allocate) r → AllocatesWithin may_allocate c
       within a r c is (b, rest, at, (x, y, z, e, asked)) =
           (a ++ x, y, z ++ rest, is ∙ ap (λ l. a ++ l) (at ∙ ap (λ l. l ++ rest) e) ∙ simp append_assoc, asked)
 

@@ -9,19 +9,19 @@ use Rattle.der_core.specs.Integer.{integer_contents}
 use Rattle.der_core.specs.SequenceOf.{AllHave, all_texts}
 use Rattle.der_core.specs.BackWriters.{Prepends}
 use Rattle.der_core.specs.declared.back_writer.BackWriter.{BackWriter}
-use Rattle.der_core.specs.Writing.{Counts, IsUncounted, Appends, joined, fault}
-use Rattle.der_core.specs.Document.{Fault, no_text, too_long, no_room, another}
+use Rattle.der_core.specs.Writing.{Counts, IsUncounted, Appends, joined, encode_refusal}
+use Rattle.der_core.specs.Document.{EncodeRefusal, no_text, too_long, no_room, another}
 use Rattle.der_core.specs.declared.error.Error.{Error}
 use Rattle.der_core.proofs.Items.{texts_map, have_map}
 use Rattle.der_core.specs.Counting.{counts_joined}
-use Rattle.der_core.specs.Stopping.{appends_as, appends_in_front, appends_behind}
+use Rattle.der_core.specs.StoppedWriting.{appends_as, appends_in_front, appends_behind}
 use Rattle.der_core.specs.Length.{limit}
 use Rattle.pkcs1.specs.declared.other_prime_info.OtherPrimeInfo as declared
 use Rattle.pkcs1.specs.declared.version.Version.{Version}
 use Rattle.pkcs1.specs.declared.version.Version.TheVariants.{TwoPrime, Multi}
 use Rattle.pkcs1.specs.Keys.{PrivateKey, version_of}
 use Rattle.pkcs1.specs.Writing.{key_numbers, HasOthers, HasPrivateKey, written_others, written_private_key}
-use Rattle.pkcs1.specs.PrivateKeys.{other_of, others_of, ListsNone}
+use Rattle.pkcs1.specs.PrivateKeyValue.{other_of, others_of, ListsNone}
 use Rattle.pkcs1.specs.Versions.{number_of}
 
 pub version_number : {U V : Type 0} (value : U → V) (v : Version) (r : Option (Vec (declared.OtherPrimeInfo U) Global)) → (v ≡ Multi) ↔ IsSome r → number_of v ≡ version_of (others_of value r)
@@ -40,9 +40,9 @@ none_has value has (Some v) none h =
 -- The same octets of the same values, said in two ways.
 change_counts : {P Q : Type 0} (x y : List ℕ) (r : Result ℕ Error) → (P → Q) → (Q → P) → x ≡ y → Counts P x r → Counts Q y r
 change_counts x y (Ok n) f g e h = (f h.0, h.1 ∙ ap length e, h.2)
-change_counts {P} {Q} x y (Err k) f g e h = go (fault k.kind) h
+change_counts {P} {Q} x y (Err k) f g e h = go (encode_refusal k.kind) h
   where
-    go : (k : Fault) → IsUncounted P x k → IsUncounted Q y k
+    go : (k : EncodeRefusal) → IsUncounted P x k → IsUncounted Q y k
     go no_text u = λ q. u (g q)
     go too_long u = (f u.0, omega (arith, u.1, ap length e))
     go no_room u = absurd u

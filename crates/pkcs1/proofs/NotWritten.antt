@@ -1,14 +1,14 @@
 -- Why no document of a key is made.
 use Rattle.std.proofs.Common.{ℕ, List, ◌≤◌, ◌<◌, ◌^◌, ◌⊎◌, length, arith, inl, inr, Result, Ok, Err}
 use Rattle.std.specs.Prelude.{IfOk, IfErr}
-use Rattle.der_core.specs.Document.{HasText, IsShortest, IsUncountable, Fault, no_text, too_long, no_room, another}
-use Rattle.der_core.specs.Documents.{secret_text_of}
+use Rattle.der_core.specs.Document.{HasText, IsShortest, IsUncountable, EncodeRefusal, no_text, too_long, no_room, another}
+use Rattle.der_core.specs.DocumentValue.{secret_text_of}
 use Rattle.der_core.specs.Integer.{Integer, IsCanonical, integer_contents, IntegerContents}
 use Rattle.der_core.specs.IntegerLaws.{integer_relates}
 use Rattle.der_core.specs.Length.{limit}
 use Rattle.der_core.specs.TextLaws.{tlv_relates}
 use Rattle.der_core.specs.Tlv.{tlv}
-use Rattle.der_core.specs.Writing.{IsUncounted, LacksMemory, fault}
+use Rattle.der_core.specs.Writing.{IsUncounted, LacksMemory, encode_refusal}
 use Rattle.der_core.specs.declared.document.SecretDocument.{SecretDocument}
 use Rattle.der_core.specs.declared.error.ErrorKind.{ErrorKind}
 use Rattle.pkcs1_params.specs.declared.error.Error.{Error}
@@ -16,7 +16,7 @@ use Rattle.pkcs1_params.specs.declared.error.Error.TheVariants as error
 use Rattle.pkcs1.specs.declared.private_key.RsaPrivateKey as declared
 use Rattle.pkcs1.specs.Keys.{PublicKey, PublicKeyContents, RsaPublicKey, PrivateKey, RsaPrivateKey}
 use Rattle.pkcs1.specs.KeyTexts.{IsOnlyText, IsUnwritten}
-use Rattle.pkcs1.specs.PrivateKeys.{private_of}
+use Rattle.pkcs1.specs.PrivateKeyValue.{private_key_with}
 use Rattle.pkcs1.specs.PublicKeyLaws.{public_key_relates}
 use Rattle.pkcs1_params.specs.Refusals.{IsAsn1}
 use Rattle.pkcs1.specs.Writing.{HasPublicKey, HasPrivateKey, written_public_key}
@@ -25,7 +25,7 @@ use Rattle.pkcs1.proofs.KeyTexts.{only_text}
 use Rattle.pkcs1.proofs.PrivateKeys.{IsHeld, private_delimited, private_at_most_one}
 
 module _ {V : Type 0} (Grammar : V → List ℕ → Type 0) (v : V) {has some : Type 0} (has_some : has → some) where
-  uncounted_by : (k : Fault) → IsUncountable has Grammar v k → IsUncountable some Grammar v k
+  uncounted_by : (k : EncodeRefusal) → IsUncountable has Grammar v k → IsUncountable some Grammar v k
   uncounted_by no_text h = h
   uncounted_by too_long h = (has_some h.0, h.1)
   uncounted_by no_room h = h
@@ -33,13 +33,13 @@ module _ {V : Type 0} (Grammar : V → List ℕ → Type 0) (v : V) {has some : 
 
   -- as making a document of a message tells it
   pub unwritten_as : (written : List ℕ) → (has → length written ≤ limit → Grammar v written) → (e : ErrorKind)
-      → LacksMemory has written e ⊎ (IsUncounted has written (fault e) × IsUncountable has Grammar v (fault e)) → IsUnwritten some Grammar v e
+      → LacksMemory has written e ⊎ (IsUncounted has written (encode_refusal e) × IsUncountable has Grammar v (encode_refusal e)) → IsUnwritten some Grammar v e
   unwritten_as written relates e (inl w) = inl (w.0, written, (w.2, relates w.1 w.2))
-  unwritten_as written relates e (inr w) = inr (uncounted_by (fault e) w.1)
+  unwritten_as written relates e (inr w) = inr (uncounted_by (encode_refusal e) w.1)
 
   pub unwritten_by : (e : ErrorKind) → IsUnwritten has Grammar v e → IsUnwritten some Grammar v e
   unwritten_by e (inl w) = inl w
-  unwritten_by e (inr w) = inr (uncounted_by (fault e) w)
+  unwritten_by e (inr w) = inr (uncounted_by (encode_refusal e) w)
 
 -- What is written of a public key is a text of it.
 pub public_written : (key : PublicKey (List ℕ)) → HasPublicKey IsCanonical key
@@ -57,10 +57,10 @@ document_only key (Err e) h = tt
 
 -- A private key that holds its numbers has a text, where it has what is written.
 pub unwritten_held : {U : Type 0} (number : U → List ℕ) (held : (u : U) → IsHeld (number u)) (key : declared.RsaPrivateKey U) (result : Result SecretDocument Error)
-    → IfErr result (IsAsn1 (λ e. IsUnwritten (HasPrivateKey IsCanonical (private_of number key)) RsaPrivateKey (private_of number key) e.kind))
-    → IfErr result (IsAsn1 (λ e. IsUnwritten (HasText RsaPrivateKey (private_of number key)) RsaPrivateKey (private_of number key) e.kind))
+    → IfErr result (IsAsn1 (λ e. IsUnwritten (HasPrivateKey IsCanonical (private_key_with number key)) RsaPrivateKey (private_key_with number key) e.kind))
+    → IfErr result (IsAsn1 (λ e. IsUnwritten (HasText RsaPrivateKey (private_key_with number key)) RsaPrivateKey (private_key_with number key) e.kind))
 unwritten_held number held key (Ok document) h = tt
-unwritten_held number held key (Err (error.Asn1 e)) h = unwritten_by RsaPrivateKey (private_of number key) (held_has_text number held key) e.kind h
+unwritten_held number held key (Err (error.Asn1 e)) h = unwritten_by RsaPrivateKey (private_key_with number key) (held_has_text number held key) e.kind h
 unwritten_held number held key (Err error.Crypto) h = h
 unwritten_held number held key (Err error.KeyMalformed) h = h
 unwritten_held number held key (Err error.Version) h = h

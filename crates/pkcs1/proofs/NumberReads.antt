@@ -5,7 +5,7 @@ use Rattle.der_core.specs.Texts.{Joins, IsDelimited}
 use Rattle.der_core.specs.ListLaws.{same_fronts, cons_path}
 use Rattle.der_core.specs.declared.error.ErrorKind.{ErrorKind}
 use Rattle.der_core.specs.Input.{Input, read_from, end_of}
-use Rattle.der_core.specs.Reading.{Refuses, NoneIn, AskedIn, AsksWithin}
+use Rattle.der_core.specs.Reading.{Refuses, NoneIn, AllocatesIn, AllocatesWithin}
 use Rattle.der_core.specs.TextLaws.{last_holds}
 use Rattle.der_core.specs.Sequences.{some_same, TextFails, TextGives, ContentsFail}
 use Rattle.der_core.specs.Tells.{is_trailing}
@@ -68,10 +68,10 @@ module _ {V : Type 0} (text : V → List ℕ → Type 0) where
         let more = as_many vs ws parts p.1 rest has.1 p.3 (omega arith) (sym tails.1) has.3 in
         (cons_path same.1 more.0, more.1)
 
-    pub numbers_fail : {W : Type 0} (numbers : W → List V) (parts : W → List (List ℕ → Type 0)) {vs : List V} {before mid after : Input} {e : ErrorKind} (asks : List ℕ → Type 0)
-        → ((w : W) → length vs < length (numbers w)) → GivesAll text vs before mid → TextFails text asks e mid after
-        → (c : List ℕ) → before ≡ Some c → Refuses e (AsksWithin asks c) ((w : W) → Joins (map text (numbers w) ++ parts w) c → ⊥)
-    numbers_fail numbers parts {vs} asks l all fails c is =
+    pub numbers_fail : {W : Type 0} (numbers : W → List V) (parts : W → List (List ℕ → Type 0)) {vs : List V} {before mid after : Input} {e : ErrorKind} (may_allocate : List ℕ → Type 0)
+        → ((w : W) → length vs < length (numbers w)) → GivesAll text vs before mid → TextFails text may_allocate e mid after
+        → (c : List ℕ) → before ≡ Some c → Refuses e (AllocatesWithin may_allocate c) ((w : W) → Joins (map text (numbers w) ++ parts w) c → ⊥)
+    numbers_fail numbers parts {vs} may_allocate l all fails c is =
         let same : c ≡ all.read ++ all.rest = some_same c (all.read ++ all.rest) (sym is ∙ all.from) in
         ⊎_elim
         (λ w. let p = w.1 in inl (w.0, (all.read, p.0, p.1, same ∙ ap (λ r. all.read ++ r) p.2, p.3)))
@@ -86,13 +86,13 @@ module _ {V : Type 0} (text : V → List ℕ → Type 0) where
         (all.rest, all.left, s.0, s.1)
 
     -- the contents of another prime
-    pub other_number_fails : {vs : List V} {before mid after : Input} {e : ErrorKind} (asks : List ℕ → Type 0) → length vs < 3 → GivesAll text vs before mid → TextFails text asks e mid after
-        → ContentsFail (OtherPrimeContents text) asks e before after
-    other_number_fails asks l all fails = (fails.0, λ c is. numbers_fail other_numbers (λ _. []) asks (λ _. l) all fails c is)
+    pub other_number_fails : {vs : List V} {before mid after : Input} {e : ErrorKind} (may_allocate : List ℕ → Type 0) → length vs < 3 → GivesAll text vs before mid → TextFails text may_allocate e mid after
+        → ContentsFail (OtherPrimeContents text) may_allocate e before after
+    other_number_fails may_allocate l all fails = (fails.0, λ c is. numbers_fail other_numbers (λ _. []) may_allocate (λ _. l) all fails c is)
 
-    pub other_end_fails : {vs : List V} {before mid after : Input} {e : ErrorKind} (asks : List ℕ → Type 0) → length vs ≡ 3 → GivesAll text vs before mid → (read_from mid end_of ≡ Err e) × (after ≡ None)
-        → ContentsFail (OtherPrimeContents text) asks e before after
-    other_end_fails {vs} {before} {mid} {after} {e} asks l all fails =
+    pub other_end_fails : {vs : List V} {before mid after : Input} {e : ErrorKind} (may_allocate : List ℕ → Type 0) → length vs ≡ 3 → GivesAll text vs before mid → (read_from mid end_of ≡ Err e) × (after ≡ None)
+        → ContentsFail (OtherPrimeContents text) may_allocate e before after
+    other_end_fails {vs} {before} {mid} {after} {e} may_allocate l all fails =
         let more = trailing_is mid all.rest e all.left fails.0 in (
           fails.1,
           λ c is.
@@ -112,20 +112,20 @@ module _ {V : Type 0} (text : V → List ℕ → Type 0) where
     Anything c = Unit {0}
 
     -- eight numbers: one of them is refused
-    eight_fail : {vs : List V} {before mid after : Input} {e : ErrorKind} (asks : List ℕ → Type 0) → length vs < 8 → GivesAll text vs before mid → TextFails text asks e mid after
-        → (i : List ℕ) → before ≡ Some i → Refuses e (AskedIn (AsksWithin asks) i) (NoneIn (EightNumbers text) i)
-    eight_fail {vs} asks l all fails i is =
+    eight_fail : {vs : List V} {before mid after : Input} {e : ErrorKind} (may_allocate : List ℕ → Type 0) → length vs < 8 → GivesAll text vs before mid → TextFails text may_allocate e mid after
+        → (i : List ℕ) → before ≡ Some i → Refuses e (AllocatesIn (AllocatesWithin may_allocate) i) (NoneIn (EightNumbers text) i)
+    eight_fail {vs} may_allocate l all fails i is =
         ⊎_elim
         (λ w. inl (w.0, (i, [], sym (append-nil i), w.1)))
         (λ w. inr (w.0, λ ns b rest at has. w.1 (ns, has.0) (rw at (joins_put (map text ns) (Anything ∷ []) b rest has.1 (last_holds rest tt)))))
-        (numbers_fail (λ (w : Eight). w.0) (λ _. Anything ∷ []) asks (λ (w : Eight). omega (arith, l, w.1)) all fails i is)
+        (numbers_fail (λ (w : Eight). w.0) (λ _. Anything ∷ []) may_allocate (λ (w : Eight). omega (arith, l, w.1)) all fails i is)
 
-    pub first_of_eight_fails : {before after : Input} {e : ErrorKind} (asks : List ℕ → Type 0) → TextFails text asks e before after → TextFails (EightNumbers text) (AsksWithin asks) e before after
-    first_of_eight_fails asks fails = (fails.0, fails.1, λ i is. eight_fail asks (omega arith) (gives_none i is) fails i is)
+    pub first_of_eight_fails : {before after : Input} {e : ErrorKind} (may_allocate : List ℕ → Type 0) → TextFails text may_allocate e before after → TextFails (EightNumbers text) (AllocatesWithin may_allocate) e before after
+    first_of_eight_fails may_allocate fails = (fails.0, fails.1, λ i is. eight_fail may_allocate (omega arith) (gives_none i is) fails i is)
 
-    pub next_of_eight_fails : {vs : List V} {before mid after : Input} {e : ErrorKind} (asks : List ℕ → Type 0) → length vs < 8 → GivesAll text vs before mid → TextFails text asks e mid after
-        → TextFails (EightNumbers text) (AsksWithin asks) e before after
-    next_of_eight_fails asks l all fails = (fails.0, (λ none. let no = sym none ∙ all.from in cc), λ i is. eight_fail asks l all fails i is)
+    pub next_of_eight_fails : {vs : List V} {before mid after : Input} {e : ErrorKind} (may_allocate : List ℕ → Type 0) → length vs < 8 → GivesAll text vs before mid → TextFails text may_allocate e mid after
+        → TextFails (EightNumbers text) (AllocatesWithin may_allocate) e before after
+    next_of_eight_fails may_allocate l all fails = (fails.0, (λ none. let no = sym none ∙ all.from in cc), λ i is. eight_fail may_allocate l all fails i is)
 
   pub eight_given : {vs : List V} {before after : Input} → length vs ≡ 8 → GivesAll text vs before after → TextGives (EightNumbers text) vs before after
   eight_given l all = (all.read, all.rest, all.from, all.left, (l, all.joined))

@@ -3,7 +3,7 @@ use Rattle.std.proofs.Common.{◌≡◌, ℕ, ◌+◌, ◌-◌, ◌<◌, ◌≤�
 use Rattle.std.proofs.lemmas.List.{length-map}
 use Rattle.der_core.specs.SequenceOf.{ItemsContents}
 use Rattle.der_core.specs.TextLaws.{tlv_not_empty}
-use Rattle.der_core.specs.UintRefs.{bytes_of}
+use Rattle.der_core.specs.UintRefValue.{bytes_of}
 use Rattle.der_core.specs.declared.integer.uint.UintRef.{UintRef}
 use Rattle.der_core.specs.declared.error.ErrorKind.{ErrorKind}
 use Rattle.der_core.specs.Sequences.{some_same}
@@ -15,7 +15,7 @@ use Rattle.std.proofs.lemmas.Grind.{common_steps}
 use Rattle.std.proofs.lemmas.Bool.Decides.{nat_tests}
 use Rattle.der_core.proofs.SequenceOf.{items_refused, items_more}
 use Rattle.pkcs1.specs.declared.other_prime_info.OtherPrimeInfo as declared
-use Rattle.pkcs1.specs.PrivateKeys.{other_of}
+use Rattle.pkcs1.specs.PrivateKeyValue.{other_of}
 use Rattle.std.proofs.Math.Logic.{∥∥₁_elim}
 use Prim.{IsSet, ∥◌∥₁, ∣◌∣₁, squash₁}
 use denote.Struct.Props.{props}

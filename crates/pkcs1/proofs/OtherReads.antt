@@ -10,7 +10,7 @@ use Rattle.der_core.specs.declared.error.Error.{Error}
 use Rattle.der_core.specs.declared.error.ErrorKind.{ErrorKind}
 use Rattle.der_core.specs.declared.error.ErrorKind.TheVariants.{TrailingData}
 use Rattle.der_core.specs.Input.{Input, read_from, end_of}
-use Rattle.der_core.specs.Reading.{ReadsOptional, Refuses, TellsOfBytes, AskedIn}
+use Rattle.der_core.specs.Reading.{ReadsOptional, Refuses, TellsOfBytes, AllocatesIn}
 use Rattle.der_core.specs.Sequences.{some_same, end_gives}
 use Rattle.der_core.specs.Tells.{is_trailing}
 use Rattle.pkcs1.specs.declared.version.Version.{Version}
@@ -52,9 +52,9 @@ module _ {X : Type 0} (count : X → ℕ) where
   unlisted None none h e = absurd (h.0 e)
   unlisted (Some w) none h e = (w, refl, h.0 e)
 
-module _ {X V : Type 0} (items : X → List (OtherPrime V)) (text : V → List ℕ → Type 0) (d : IsDelimited text) (asks : List ℕ → Type 0) where
+module _ {X V : Type 0} (items : X → List (OtherPrime V)) (text : V → List ℕ → Type 0) (d : IsDelimited text) (may_allocate : List ℕ → Type 0) where
   abbrev pub Found : Result (Option X) Error → Input → Input → Type 0
-  Found r before after = ReadsOptional 48 items (λ vs. Tlv 48 (ItemsContents (OtherPrimeInfo text) vs)) asks r before after
+  Found r before after = ReadsOptional 48 items (λ vs. Tlv 48 (ItemsContents (OtherPrimeInfo text) vs)) may_allocate r before after
 
   -- Where all that is left is a text of other primes, they were read, or there are none.
   others_only : (r : Option X) (before mid : Input) → Found (Ok r) before mid
@@ -76,7 +76,7 @@ module _ {X V : Type 0} (items : X → List (OtherPrime V)) (text : V → List �
 
   -- a fault inside the other primes
   pub others_fail : (n : ℕ) (before after : Input) (e : Error) → Found (Err e) before after
-      → (after ≡ None) × ((c : List ℕ) → before ≡ Some c → Refuses e.kind (AskedIn asks c) ((o : Option (List (OtherPrime V))) → (version_of o ≡ n) × OtherPrimeInfos text o c → ⊥))
+      → (after ≡ None) × ((c : List ℕ) → before ≡ Some c → Refuses e.kind (AllocatesIn may_allocate c) ((o : Option (List (OtherPrime V))) → (version_of o ≡ n) × OtherPrimeInfos text o c → ⊥))
   others_fail n before after e f = (
     f.0,
     λ c is.

@@ -6,7 +6,7 @@ use Rattle.der_core.specs.TextLaws.{tlv_not_empty}
 use Rattle.der_core.specs.Integer.{Integer}
 use Rattle.der_core.specs.IntegerLaws.{integer_delimited, small_delimited}
 use Rattle.der_core.specs.SequenceOf.{ItemsContents, AllHave}
-use Rattle.der_core.proofs.Known.{known_tlv, known_whole, integer_byte, small_byte}
+use Rattle.der_core.proofs.WrittenOut.{known_tlv, known_whole, integer_byte, small_byte}
 use Rattle.pkcs1.specs.Keys.{OtherPrime, OtherPrimeInfo, OtherPrimeInfos, version_of, PrivateKey, PrivateKeyContents, RsaPrivateKey}
 use Rattle.pkcs1.specs.Writing.{key_numbers}
 use Rattle.pkcs1.specs.PrivateKeyLaws.{joins_take, joins_put, version_small}

@@ -1,8 +1,8 @@
 -- Keys that are read from a text and written again.
 use Rattle.std.proofs.Common.{ℕ, List, ◌≡◌, ◌⊎◌, inl, inr, sym, Result, Ok, Err}
 use Rattle.std.specs.Prelude.{IfOk, IfErr}
-use Rattle.der_core.specs.Document.{Means, IsUncountable, Fault, no_text, too_long, no_room, another}
-use Rattle.der_core.specs.Writing.{fault}
+use Rattle.der_core.specs.Document.{Means, IsUncountable, EncodeRefusal, no_text, too_long, no_room, another}
+use Rattle.der_core.specs.Writing.{encode_refusal}
 use Rattle.pkcs1_params.specs.declared.error.Error.{Error}
 use Rattle.pkcs1_params.specs.declared.error.Error.TheVariants as error
 use Rattle.pkcs1.specs.KeyTexts.{IsOnlyText, IsSentence, IsUnread, IsNotMade}
@@ -14,7 +14,7 @@ module _ {V : Type 0} (Grammar : V → List ℕ → Type 0) (v : V) (text : List
   comes_out text_of (Ok document) only = sym (only.alone text means)
   comes_out text_of (Err e) only = tt
 
-  has_one : (some : Type 0) (k : Fault) → IsUncountable some Grammar v k → ⊥
+  has_one : (some : Type 0) (k : EncodeRefusal) → IsUncountable some Grammar v k → ⊥
   has_one some no_text h = h text means.1
   has_one some too_long h = h.1 text means
   has_one some no_room h = h
@@ -25,7 +25,7 @@ module _ {V : Type 0} (Grammar : V → List ℕ → Type 0) (v : V) (text : List
       → IfErr result (IsNotMade Grammar v) → IfErr result (IsUnread Grammar text (asked ⊎ IsSentence Grammar text))
   wants_memory asked (Ok document) h = tt
   wants_memory asked (Err (error.Asn1 e)) (inl w) = inl (w.0, inr (v, means))
-  wants_memory asked (Err (error.Asn1 e)) (inr w) = absurd (has_one _ (fault e.kind) w)
+  wants_memory asked (Err (error.Asn1 e)) (inr w) = absurd (has_one _ (encode_refusal e.kind) w)
   wants_memory asked (Err error.Crypto) h = h
   wants_memory asked (Err error.KeyMalformed) h = h
   wants_memory asked (Err error.Version) h = h

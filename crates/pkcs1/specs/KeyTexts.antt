@@ -2,7 +2,7 @@
 use Rattle.std.specs.Prelude.{ℕ, List, ◌≡◌, ◌⊎◌}
 use Rattle.der_core.specs.Document.{Means, IsShortest, IsAlone, IsUncountable, HasText}
 use Rattle.der_core.specs.Reading.{Refuses}
-use Rattle.der_core.specs.Writing.{fault}
+use Rattle.der_core.specs.Writing.{encode_refusal}
 use Rattle.der_core.specs.declared.error.ErrorKind.{ErrorKind}
 use Rattle.der_core.specs.declared.error.ErrorKind.TheVariants.{OutOfMemory}
 use Rattle.pkcs1_params.specs.declared.error.Error.{Error}
@@ -22,7 +22,7 @@ IsSentence {V} Grammar text = (v : V) × Means Grammar text v
 -- (as Some says) and none within the limit.
 abbrev pub IsUnwritten : {V : Type 0} → Type 0 → (V → List ℕ → Type 0) → V → ErrorKind → Type 0
 IsUnwritten Some Grammar v e =
-    ((e ≡ OutOfMemory) × (text : List ℕ) × Means Grammar text v) ⊎ IsUncountable Some Grammar v (fault e)
+    ((e ≡ OutOfMemory) × (text : List ℕ) × Means Grammar text v) ⊎ IsUncountable Some Grammar v (encode_refusal e)
 
 -- Why a text isn't read: memory was wanted, and asked for; or no value has the text.
 abbrev pub IsUnread : {V : Type 0} → (V → List ℕ → Type 0) → List ℕ → Type 0 → Error → Type 0

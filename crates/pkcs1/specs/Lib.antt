@@ -1,12 +1,12 @@
 pub mod Keys
 pub mod Forms
 pub mod Versions
-pub mod Asking
+pub mod Allocating
 pub mod Writing
 pub mod KeyNumbers
 pub mod KeyTexts
-pub mod PublicKeys
-pub mod PrivateKeys
+pub mod PublicKeyValue
+pub mod PrivateKeyValue
 pub mod PublicKeyLaws
 pub mod PrivateKeyLaws
 pub mod VersionLaws

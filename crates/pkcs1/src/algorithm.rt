@@ -1,8 +1,8 @@
 //! The identifier of RSA keys (RFC 8017 A.1).
 ghost use Rattle.std.specs.Prelude.{◌≡◌, refl};
 ghost use Rattle.spki_core.specs.Any.{null_value};
-ghost use Rattle.spki_core.specs.AlgorithmRefs.{algorithm_of};
-ghost use Rattle.spki_core.specs.ObjectIdentifiers.{octets_of};
+ghost use Rattle.spki_core.specs.AlgorithmValue.{algorithm_of};
+ghost use Rattle.spki_core.specs.ObjectIdentifierValue.{octets_of};
 ghost use Rattle.pkcs1_params.specs.Parameters.{id_rsa_encryption, with_parameters};
 
 use der_core::NoMemory;

@@ -1,5 +1,5 @@
 //! The eight numbers of private keys.
-ghost use Rattle.der_core.specs.Reading.{ReadsText, AsksWithin};
+ghost use Rattle.der_core.specs.Reading.{ReadsText, AllocatesWithin};
 ghost use Rattle.pkcs1.specs.KeyNumbers.{EightNumbers, numbers_of};
 
 use der_core::{Decode, Memory, Reader, Result};
@@ -22,7 +22,7 @@ pub(crate) fn read_key_numbers<'a, M: Memory, U: Decode<&'a [u8], M>, R: Reader<
     memory: M,
     reader: &mut R,
 ) -> Result<KeyNumbers<U>>
-    ensures { ReadsText (numbers_of U.value) (EightNumbers U.text) (AsksWithin U.Decode.asks)
+    ensures { ReadsText (numbers_of U.value) (EightNumbers U.text) (AllocatesWithin U.Decode.may_allocate)
         result (R.left reader.old) (R.left reader.new) }
 {
     let modulus = U::decode(memory, reader)?;

@@ -1,20 +1,20 @@
 //! Other primes of private keys.
 ghost use Rattle.std.specs.Prelude.{◌≡◌, ◌≤◌, length, List, ℕ, ◌↔◌, IsTrue, None, IfOk, IsOk, IfErr, refl};
 ghost use Rattle.der_core.specs.Length.{limit};
-ghost use Rattle.der_core.specs.Reading.{ReadsContents, AsksWithin};
+ghost use Rattle.der_core.specs.Reading.{ReadsContents, AllocatesWithin};
 ghost use Rattle.der_core.specs.BackWriters.{free_of, Prepends};
 ghost use Rattle.der_core.specs.Writing.{Counts, Appends};
-ghost use Rattle.pkcs1.specs.Asking.{BeginsSequence};
+ghost use Rattle.pkcs1.specs.Allocating.{BeginsSequence};
 ghost use Rattle.pkcs1.specs.Keys.{OtherPrime, OtherPrimeContents, OthersOf};
 ghost use Rattle.pkcs1.specs.Writing.{HasOther, HasOthers, written_other, written_others};
 ghost use Rattle.pkcs1.specs.PrivateKeyLaws.{other_means_one, other_of_bytes, other_relates, other_shortest};
-ghost use Rattle.pkcs1.specs.PrivateKeys.{other_of, others_of, ListsNone};
+ghost use Rattle.pkcs1.specs.PrivateKeyValue.{other_of, others_of, ListsNone};
 ghost use Rattle.pkcs1.specs.Versions.{number_of};
 
 use crate::numbers::{encode_numbers, numbers_len, prepend_numbers};
 use crate::version::Version;
 use der_core::{
-    BackWriter, Contents, Decode, DecodeValue, Encode, EncodeValue, ErrorKind, Header, Kinded,
+    BackWriter, Contents, Decode, DecodeValue, Encode, EncodeValue, ErrorKind, Header, TaggedBy,
     Length, Memory, Reader, Result, Sequence, SequenceTag, Tag, Text, TryClone, Writer,
     decode_optional,
 };
@@ -67,8 +67,8 @@ impl<U: Text> Contents for OtherPrimeInfo<U> {
     ghost contents_of_bytes = { other_of_bytes U.text U.text_of_bytes };
 }
 
-impl<U> Kinded for OtherPrimeInfo<U> {
-    type Kind = SequenceTag;
+impl<U> TaggedBy for OtherPrimeInfo<U> {
+    type Marker = SequenceTag;
 }
 
 impl<'a, U> Sequence<'a> for OtherPrimeInfo<U> {
@@ -76,8 +76,8 @@ impl<'a, U> Sequence<'a> for OtherPrimeInfo<U> {
 }
 
 impl<U: TryClone> TryClone for OtherPrimeInfo<U> {
-    ghost asks_nothing = { λ other. U.asks_nothing other.prime × U.asks_nothing other.exponent
-        × U.asks_nothing other.coefficient };
+    ghost allocates_nothing = { λ other. U.allocates_nothing other.prime × U.allocates_nothing other.exponent
+        × U.allocates_nothing other.coefficient };
 
     fn try_clone(&self, alloc: Global) -> Result<OtherPrimeInfo<U>> {
         Ok(OtherPrimeInfo {
@@ -89,7 +89,7 @@ impl<U: TryClone> TryClone for OtherPrimeInfo<U> {
 }
 
 impl<'a, M: Memory, U: Decode<&'a [u8], M>> DecodeValue<&'a [u8], M> for OtherPrimeInfo<U> {
-    ghost asks = { AsksWithin U.Decode.asks };
+    ghost may_allocate = { AllocatesWithin U.Decode.may_allocate };
 
     fn decode_value<R: Reader<&'a [u8]>>(
         memory: M,
@@ -209,7 +209,7 @@ pub(crate) fn clone_other_primes<U: TryClone>(
 ) -> Result<Option<OtherPrimeInfos<U>>>
     ensures ok { IfOk result (λ copies. others_of U.value copies ≡ others_of U.value others.now) }
     ensures err { IfErr result (λ e. e.kind ≡ ErrorKind.OutOfMemory) }
-    ensures asks { others.now ≡ None → IsOk result }
+    ensures may_allocate { others.now ≡ None → IsOk result }
 {
     match others {
         Some(others) => Ok(Some(others.try_clone(alloc)?)),

@@ -12,14 +12,14 @@ ghost use Rattle.pkcs1.specs.PrivateKeyLaws.{other_delimited};
 ghost use Rattle.der_core.specs.Reading.{NoneIn, TellsOfBytes};
 ghost use Rattle.der_core.specs.SequenceOf.{ItemsContents, AllHave, all_texts};
 ghost use Rattle.der_core.specs.SliceReaders.{left_of};
-ghost use Rattle.der_core.specs.UintRefs.{bytes_of};
+ghost use Rattle.der_core.specs.UintRefValue.{bytes_of};
 ghost use Rattle.pkcs1.specs.Keys as grammar;
-ghost use Rattle.pkcs1.specs.PrivateKeys.{other_of};
+ghost use Rattle.pkcs1.specs.PrivateKeyValue.{other_of};
 ghost use Rattle.pkcs1.specs.OtherPrimesHeld.{HoldsOthers, HoldsOthers-prop, others_are_bytes};
 
 use crate::other_prime_info::OtherPrimeInfo;
 use der_core::{
-    Contents, Decode, DecodeValue, Header, Kinded, Memory, NoMemory, Reader, Result, SequenceTag,
+    Contents, Decode, DecodeValue, Header, TaggedBy, Memory, NoMemory, Reader, Result, SequenceTag,
     SliceReader, UintRef,
 };
 
@@ -126,12 +126,12 @@ impl Contents for OtherPrimes<'_> {
     ghost contents_of_bytes = { others_are_bytes };
 }
 
-impl Kinded for OtherPrimes<'_> {
-    type Kind = SequenceTag;
+impl TaggedBy for OtherPrimes<'_> {
+    type Marker = SequenceTag;
 }
 
 impl<'a, M: Memory> DecodeValue<&'a [u8], M> for OtherPrimes<'a> {
-    ghost asks = { λ _. ⊥ };
+    ghost may_allocate = { λ _. ⊥ };
 
     fn decode_value<R: Reader<&'a [u8]>>(
         _memory: M,

@@ -2,13 +2,13 @@
 ghost use Rattle.std.specs.Prelude.{◌≡◌, ◌↔◌, ◌≤◌, length, List, ℕ, map, IsSome, IsErrAnd, IfErr, refl};
 ghost use Rattle.der_core.specs.Length.{limit};
 ghost use Rattle.der_core.specs.Tags.{sequence};
-ghost use Rattle.der_core.specs.Writing.{Counts, Appends, fault};
-ghost use Rattle.pkcs1.specs.Asking.{AsksForKey};
+ghost use Rattle.der_core.specs.Writing.{Counts, Appends, encode_refusal};
+ghost use Rattle.pkcs1.specs.Allocating.{AllocatesForKey};
 ghost use Rattle.pkcs1.specs.Keys.{PrivateKey, PrivateKeyContents, PrivateKeyText};
 ghost use Rattle.pkcs1.specs.Writing.{HasPrivateKey, written_private_key, key_numbers};
 ghost use Rattle.pkcs1.specs.PrivateKeyLaws.{private_means_one, private_of_bytes, private_relates, private_shortest};
-ghost use Rattle.pkcs1.specs.PublicKeys.{key_of};
-ghost use Rattle.pkcs1.specs.PrivateKeys.{private_of, public_in, ListsNone};
+ghost use Rattle.pkcs1.specs.PublicKeyValue.{public_key_of};
+ghost use Rattle.pkcs1.specs.PrivateKeyValue.{private_key_with, public_in, ListsNone};
 
 use crate::key_numbers::read_key_numbers;
 use crate::numbers::{encode_numbers, numbers_len, prepend_numbers};
@@ -20,7 +20,7 @@ use crate::public_key::{RsaPublicKey, RsaPublicKeyRef};
 use crate::version::Version;
 use der_core::{
     AsUintRef, BackWriter, Contents, Decode, DecodeValue, Encode, EncodeValue, ErrorKind, Header,
-    Kinded, Length, OctetStringRef, Reader, Result, SecretDocument, Sequence, SequenceTag, Tag,
+    TaggedBy, Length, OctetStringRef, Reader, Result, SecretDocument, Sequence, SequenceTag, Tag,
     Text, TryClone, Uint, UintRef, Writer, joined_len,
 };
 use pkcs1_params::Error;
@@ -73,7 +73,7 @@ impl<U> RsaPrivateKey<U> {
 impl<U: AsUintRef> RsaPrivateKey<U> {
     /// The public key.
     pub fn public_key(&self) -> RsaPublicKeyRef<'_>
-        ensures { key_of result ≡ public_in U.number self.now }
+        ensures { public_key_of result ≡ public_in U.number self.now }
     {
         RsaPublicKey {
             modulus: self.modulus.as_uint_ref(),
@@ -85,7 +85,7 @@ impl<U: AsUintRef> RsaPrivateKey<U> {
 impl<U: Text> RsaPrivateKey<U> {
     /// The eight numbers, in the order of the text.
     fn numbers(&self) -> [&U; 8]
-        ensures { map (λ n. U.value n.now) result ≡ key_numbers (private_of U.value self.now) }
+        ensures { map (λ n. U.value n.now) result ≡ key_numbers (private_key_with U.value self.now) }
     {
         [
             &self.modulus,
@@ -102,7 +102,7 @@ impl<U: Text> RsaPrivateKey<U> {
 
 impl<'a, U: AsUintRef> From<&'a RsaPrivateKey<U>> for RsaPublicKey<UintRef<'a>> {
     ghost from_gives = { λ key public.
-        key_of public ≡ public_in U.number key.now };
+        public_key_of public ≡ public_in U.number key.now };
 
     fn from(key: &'a RsaPrivateKey<U>) -> RsaPublicKey<UintRef<'a>> {
         key.public_key()
@@ -112,7 +112,7 @@ impl<'a, U: AsUintRef> From<&'a RsaPrivateKey<U>> for RsaPublicKey<UintRef<'a>> 
 impl<U: Text> Contents for RsaPrivateKey<U> {
     ghost Value = { PrivateKey U.Value };
 
-    ghost value = { private_of U.value };
+    ghost value = { private_key_with U.value };
 
     ghost contents = { PrivateKeyContents U.text };
 
@@ -125,8 +125,8 @@ impl<U: Text> Contents for RsaPrivateKey<U> {
     ghost contents_of_bytes = { private_of_bytes U.text U.text_of_bytes };
 }
 
-impl<U> Kinded for RsaPrivateKey<U> {
-    type Kind = SequenceTag;
+impl<U> TaggedBy for RsaPrivateKey<U> {
+    type Marker = SequenceTag;
 }
 
 impl<'a, U> Sequence<'a> for RsaPrivateKey<U> {
@@ -134,7 +134,7 @@ impl<'a, U> Sequence<'a> for RsaPrivateKey<U> {
 }
 
 impl<'a, U: Decode<&'a [u8], Global>> DecodeValue<&'a [u8], Global> for RsaPrivateKey<U> {
-    ghost asks = { AsksForKey U.text U.Decode.asks };
+    ghost may_allocate = { AllocatesForKey U.text U.Decode.may_allocate };
 
     fn decode_value<R: Reader<&'a [u8]>>(
         memory: Global,
@@ -160,7 +160,7 @@ impl<'a, U: Decode<&'a [u8], Global>> DecodeValue<&'a [u8], Global> for RsaPriva
 
 impl<U: Encode> EncodeValue for RsaPrivateKey<U> {
     fn value_len(&self) -> Result<Length>
-        ensures counts { let key = private_of U.value self.now in
+        ensures counts { let key = private_key_with U.value self.now in
             Counts (HasPrivateKey U.has_text key) (written_private_key U.written_text key) result }
         ensures no_primes { ListsNone self.now.other_prime_infos
             → IsErrAnd result (λ e. e.kind ≡ ErrorKind.Value sequence) }
@@ -176,7 +176,7 @@ impl<U: Encode> EncodeValue for RsaPrivateKey<U> {
     }
 
     fn encode_value<W: Writer>(&self, writer: &mut W) -> Result<()>
-        ensures appends { let key = private_of U.value self.now in
+        ensures appends { let key = private_key_with U.value self.now in
             let octets = written_private_key U.written_text key in
             Appends (HasPrivateKey U.has_text key) octets W.room W.written writer.old writer.new result }
         ensures kept { W.keeps writer.old writer.new }
@@ -203,19 +203,19 @@ impl<U: Encode> EncodeValue for RsaPrivateKey<U> {
 impl<U: Encode> RsaPrivateKey<U> {
     ghost use Rattle.std.specs.Prelude.{take, drop, IfOk, OnErr};
     ghost use Rattle.der_core.specs.Document.{IsShortest, IsRefused};
-    ghost use Rattle.der_core.specs.Documents.{secret_text_of};
+    ghost use Rattle.der_core.specs.DocumentValue.{secret_text_of};
     ghost use Rattle.pkcs1.specs.KeyTexts.{IsUnwritten};
     ghost use Rattle.pkcs1_params.specs.Refusals.{IsAsn1};
 
     /// `encode_into`, which answers `Value` of SEQUENCE where the list of other primes is there and empty.
     fn encode_front(&self, out: &mut [u8]) -> crate::Result<usize>
-        ensures shortest { let key = private_of U.value self.now in
+        ensures shortest { let key = private_key_with U.value self.now in
             IfOk result (λ n. IsShortest (PrivateKeyText U.text) key (take n out.new)) }
         ensures rest { IfOk result (λ n. (n ≤ length out.new) × (drop n out.new ≡ drop n out.old)) }
         ensures unchanged { OnErr result (out.new ≡ out.old) }
-        ensures err { let key = private_of U.value self.now in
+        ensures err { let key = private_key_with U.value self.now in
             let some = HasPrivateKey U.has_text key in
-            IfErr result (IsAsn1 (λ e. IsRefused some (PrivateKeyText U.text) key (length out.old) (fault e.kind))) }
+            IfErr result (IsAsn1 (λ e. IsRefused some (PrivateKeyText U.text) key (length out.old) (encode_refusal e.kind))) }
         ensures no_primes { ListsNone self.now.other_prime_infos
             → IsErrAnd result (IsAsn1 (λ e. e.kind ≡ ErrorKind.Value sequence)) }
     {
@@ -229,9 +229,9 @@ impl<U: Encode> RsaPrivateKey<U> {
     /// The text, as a document: `encode_msg`, which answers `Value` of SEQUENCE where the list of other primes is there
     /// and empty.
     pub(crate) fn to_document(&self, alloc: Global) -> crate::Result<SecretDocument>
-        ensures shortest { let key = private_of U.value self.now in
+        ensures shortest { let key = private_key_with U.value self.now in
             IfOk result (λ document. IsShortest (PrivateKeyText U.text) key (secret_text_of document)) }
-        ensures err { let key = private_of U.value self.now in
+        ensures err { let key = private_key_with U.value self.now in
             IfErr result (IsAsn1 (λ e. IsUnwritten (HasPrivateKey U.has_text key) (PrivateKeyText U.text) key e.kind)) }
         ensures no_primes { ListsNone self.now.other_prime_infos
             → IsErrAnd result (IsAsn1 (λ e. e.kind ≡ ErrorKind.Value sequence)) }
@@ -247,9 +247,9 @@ impl<U: Encode> RsaPrivateKey<U> {
 impl<U: TryClone> TryClone for RsaPrivateKey<U> {
     ghost use Rattle.std.specs.Prelude.{None};
 
-    ghost asks_nothing = { λ key. U.asks_nothing key.modulus × U.asks_nothing key.public_exponent
-        × U.asks_nothing key.private_exponent × U.asks_nothing key.prime1 × U.asks_nothing key.prime2
-        × U.asks_nothing key.exponent1 × U.asks_nothing key.exponent2 × U.asks_nothing key.coefficient
+    ghost allocates_nothing = { λ key. U.allocates_nothing key.modulus × U.allocates_nothing key.public_exponent
+        × U.allocates_nothing key.private_exponent × U.allocates_nothing key.prime1 × U.allocates_nothing key.prime2
+        × U.allocates_nothing key.exponent1 × U.allocates_nothing key.exponent2 × U.allocates_nothing key.coefficient
         × (key.other_prime_infos ≡ None) };
 
     fn try_clone(&self, alloc: Global) -> Result<RsaPrivateKey<U>> {
@@ -270,8 +270,8 @@ impl<U: TryClone> TryClone for RsaPrivateKey<U> {
 impl<U> RsaPrivateKey<U> {
     ghost use Rattle.std.specs.Prelude.{IfOk, IsOk, None};
     ghost use Rattle.der_core.specs.Document.{Means};
-    ghost use Rattle.der_core.specs.OctetStringRefs.{octets_of};
-    ghost use Rattle.der_core.specs.Reading.{AskedIn, AsksWithin};
+    ghost use Rattle.der_core.specs.OctetStringRefValue.{octets_of};
+    ghost use Rattle.der_core.specs.Reading.{AllocatesIn, AllocatesWithin};
     ghost use Rattle.der_core.specs.Tlv.{Tlv};
     ghost use Rattle.pkcs1.specs.KeyTexts.{IsUnread};
     ghost use Rattle.pkcs1_params.specs.Meanings.{IsOnlyMeaning};
@@ -285,13 +285,13 @@ impl<U> RsaPrivateKey<U> {
     where
         U: Decode<&'a [u8], Global>,
         ensures ok { let bytes = octets_of octets.entry in
-            IfOk result (λ key. Means (PrivateKeyText U.text) bytes (private_of U.value key)) }
+            IfOk result (λ key. Means (PrivateKeyText U.text) bytes (private_key_with U.value key)) }
         ensures one { let bytes = octets_of octets.entry in
-            IfOk result (λ key. IsOnlyMeaning (PrivateKeyText U.text) bytes (private_of U.value key)) }
+            IfOk result (λ key. IsOnlyMeaning (PrivateKeyText U.text) bytes (private_key_with U.value key)) }
         ensures err { let bytes = octets_of octets.entry in
-            let asked = AskedIn (Tlv 48 (AsksForKey U.text U.Decode.asks)) bytes in
+            let asked = AllocatesIn (Tlv 48 (AllocatesForKey U.text U.Decode.may_allocate)) bytes in
             IfErr result (IsUnread (PrivateKeyText U.text) bytes asked) }
-        ensures two_primes { ((c : List ℕ) → AsksWithin U.Decode.asks c → ⊥)
+        ensures two_primes { ((c : List ℕ) → AllocatesWithin U.Decode.may_allocate c → ⊥)
             → (key : PrivateKey U.Value) → key.other_prime_infos ≡ None
             → Means (PrivateKeyText U.text) (octets_of octets.entry) key → IsOk result }
     {
@@ -304,9 +304,9 @@ impl<'a> RsaPrivateKey<UintRef<'a>> {
     ghost use Rattle.der_core.specs.Document.{Means};
     ghost use Rattle.pkcs1.specs.KeyTexts.{IsOnlyText, IsUnread};
     ghost use Rattle.pkcs1_params.specs.Meanings.{IsNotWritten, IsOnlyMeaning};
-    ghost use Rattle.pkcs1.specs.Asking.{MayAsk};
+    ghost use Rattle.pkcs1.specs.Allocating.{MayAllocate};
     ghost use Rattle.pkcs1.specs.Keys as grammar;
-    ghost use Rattle.pkcs1.specs.PrivateKeys.{private_key_of};
+    ghost use Rattle.pkcs1.specs.PrivateKeyValue.{private_key_of};
     ghost use Rattle.pkcs1_params.specs.Refusals.{IsAsn1};
 
     /// Reads a whole slice: `from_der`, with all that is known of a private key's text. `OutOfMemory` is answered only
@@ -314,7 +314,7 @@ impl<'a> RsaPrivateKey<UintRef<'a>> {
     pub fn decode_key(memory: Global, bytes: &'a [u8]) -> crate::Result<RsaPrivateKey<UintRef<'a>>>
         ensures ok { IfOk result (λ key. Means grammar.RsaPrivateKey bytes.now (private_key_of key)) }
         ensures one { IfOk result (λ key. IsOnlyMeaning grammar.RsaPrivateKey bytes.now (private_key_of key)) }
-        ensures err { IfErr result (IsUnread grammar.RsaPrivateKey bytes.now (MayAsk bytes.now)) }
+        ensures err { IfErr result (IsUnread grammar.RsaPrivateKey bytes.now (MayAllocate bytes.now)) }
         ensures two_primes { (key : PrivateKey (List ℕ))
             → key.other_prime_infos ≡ None → Means grammar.RsaPrivateKey bytes.now key → IsOk result }
     {
@@ -339,8 +339,8 @@ impl<'a> RsaPrivateKey<UintRef<'a>> {
 impl RsaPrivateKey<Uint> {
     ghost use Rattle.std.specs.Prelude.{take, drop, IfOk, OnErr};
     ghost use Rattle.der_core.specs.Document.{Means};
-    ghost use Rattle.der_core.specs.Uints.{own_bytes_of};
-    ghost use Rattle.pkcs1.specs.Asking.{OwnedKeyAsks};
+    ghost use Rattle.der_core.specs.UintValue.{own_bytes_of};
+    ghost use Rattle.pkcs1.specs.Allocating.{OwnedKeyAllocates};
     ghost use Rattle.pkcs1.specs.KeyTexts.{IsOnlyText, IsUnread};
     ghost use Rattle.pkcs1_params.specs.Meanings.{IsNotWritten, IsOnlyMeaning};
     ghost use Rattle.pkcs1.specs.Keys as grammar;
@@ -349,20 +349,20 @@ impl RsaPrivateKey<Uint> {
     /// Reads a whole slice, as `decode_key` of a key that borrows its numbers does. `OutOfMemory` is answered only where
     /// a number, or a SEQUENCE that isn't empty behind the eighth, is there.
     pub fn decode_key(alloc: Global, bytes: &[u8]) -> crate::Result<RsaPrivateKey<Uint>>
-        ensures ok { IfOk result (λ key. Means grammar.RsaPrivateKey bytes.now (private_of own_bytes_of key)) }
-        ensures one { IfOk result (λ key. IsOnlyMeaning grammar.RsaPrivateKey bytes.now (private_of own_bytes_of key)) }
-        ensures err { IfErr result (IsUnread grammar.RsaPrivateKey bytes.now (OwnedKeyAsks bytes.now)) }
+        ensures ok { IfOk result (λ key. Means grammar.RsaPrivateKey bytes.now (private_key_with own_bytes_of key)) }
+        ensures one { IfOk result (λ key. IsOnlyMeaning grammar.RsaPrivateKey bytes.now (private_key_with own_bytes_of key)) }
+        ensures err { IfErr result (IsUnread grammar.RsaPrivateKey bytes.now (OwnedKeyAllocates bytes.now)) }
     {
         Ok(RsaPrivateKey::from_der(alloc, bytes)?)
     }
 
     /// Writes the key's one text to the front of a slice, as `encode_key` of a key that borrows its numbers does.
     pub fn encode_key(&self, out: &mut [u8]) -> crate::Result<usize>
-        ensures text { let key = private_of own_bytes_of self.now in
+        ensures text { let key = private_key_with own_bytes_of self.now in
             IfOk result (λ n. IsOnlyText grammar.RsaPrivateKey key (take n out.new)) }
         ensures rest { IfOk result (λ n. (n ≤ length out.new) × (drop n out.new ≡ drop n out.old)) }
         ensures unchanged { OnErr result (out.new ≡ out.old) }
-        ensures err { let key = private_of own_bytes_of self.now in
+        ensures err { let key = private_key_with own_bytes_of self.now in
             IfErr result (IsNotWritten grammar.RsaPrivateKey key (length out.old)) }
         ensures no_primes { ListsNone self.now.other_prime_infos
             → IsErrAnd result (IsAsn1 (λ e. e.kind ≡ ErrorKind.Value sequence)) }

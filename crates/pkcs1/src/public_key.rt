@@ -1,14 +1,14 @@
 //! RSA public keys.
 ghost use Rattle.std.specs.Prelude.{refl};
-ghost use Rattle.der_core.specs.Reading.{AsksWithin};
+ghost use Rattle.der_core.specs.Reading.{AllocatesWithin};
 ghost use Rattle.pkcs1.specs.Keys.{PublicKey, PublicKeyContents};
 ghost use Rattle.pkcs1.specs.Writing.{HasPublicKey, written_public_key};
-ghost use Rattle.pkcs1.specs.PublicKeys.{public_of, key_of};
+ghost use Rattle.pkcs1.specs.PublicKeyValue.{public_key_with, public_key_of};
 ghost use Rattle.pkcs1.specs.PublicKeyLaws.{public_key_means_one, public_key_of_bytes, public_key_relates, public_key_shortest};
 
 use der_core::{
     AsUintRef, BackWriter, Contents, Decode, DecodeValue, Encode, EncodeValue, EqualByValue,
-    Header, Kinded, Length, Memory, NoMemory, Reader, Sequence, SequenceTag, Text, TryClone, Uint,
+    Header, TaggedBy, Length, Memory, NoMemory, Reader, Sequence, SequenceTag, Text, TryClone, Uint,
     UintRef, Writer, joined_len,
 };
 use pkcs1_params::{Error, Result};
@@ -32,7 +32,7 @@ pub type RsaPublicKeyOwned = RsaPublicKey<Uint>;
 impl<U: Text> Contents for RsaPublicKey<U> {
     ghost Value = { PublicKey U.Value };
 
-    ghost value = { public_of U.value };
+    ghost value = { public_key_with U.value };
 
     ghost contents = { PublicKeyContents U.text };
 
@@ -45,8 +45,8 @@ impl<U: Text> Contents for RsaPublicKey<U> {
     ghost contents_of_bytes = { public_key_of_bytes U.text U.text_of_bytes };
 }
 
-impl<U> Kinded for RsaPublicKey<U> {
-    type Kind = SequenceTag;
+impl<U> TaggedBy for RsaPublicKey<U> {
+    type Marker = SequenceTag;
 }
 
 impl<'a, U> Sequence<'a> for RsaPublicKey<U> {
@@ -54,7 +54,7 @@ impl<'a, U> Sequence<'a> for RsaPublicKey<U> {
 }
 
 impl<'a, M: Memory, U: Decode<&'a [u8], M>> DecodeValue<&'a [u8], M> for RsaPublicKey<U> {
-    ghost asks = { AsksWithin U.Decode.asks };
+    ghost may_allocate = { AllocatesWithin U.Decode.may_allocate };
 
     fn decode_value<R: Reader<&'a [u8]>>(
         memory: M,
@@ -103,7 +103,7 @@ impl<U: EqualByValue> EqualByValue for RsaPublicKey<U> {
 }
 
 impl<U: TryClone> TryClone for RsaPublicKey<U> {
-    ghost asks_nothing = { λ key. U.asks_nothing key.modulus × U.asks_nothing key.public_exponent };
+    ghost allocates_nothing = { λ key. U.allocates_nothing key.modulus × U.allocates_nothing key.public_exponent };
 
     fn try_clone(&self, alloc: Global) -> der_core::Result<RsaPublicKey<U>> {
         Ok(RsaPublicKey {
@@ -125,8 +125,8 @@ impl<'a> TryFrom<&'a [u8]> for RsaPublicKey<UintRef<'a>> {
 
     /// Reads a whole slice, without memory.
     fn try_from(bytes: &'a [u8]) -> Result<RsaPublicKey<UintRef<'a>>>
-        ensures ok { IfOk result (λ key. Means grammar.RsaPublicKey bytes.now (key_of key)) }
-        ensures one { IfOk result (λ key. IsOnlyMeaning grammar.RsaPublicKey bytes.now (key_of key)) }
+        ensures ok { IfOk result (λ key. Means grammar.RsaPublicKey bytes.now (public_key_of key)) }
+        ensures one { IfOk result (λ key. IsOnlyMeaning grammar.RsaPublicKey bytes.now (public_key_of key)) }
         ensures err { OnErr result (IsNoSentence grammar.RsaPublicKey bytes.now) }
         ensures asn1 { IfErr result (IsAsn1 (λ e. TellsOfBytes e.kind)) }
     {
@@ -142,7 +142,7 @@ impl<U: AsUintRef> RsaPublicKey<U> {
 
     /// The same, borrowed.
     pub(crate) fn as_key_ref(&self) -> RsaPublicKey<UintRef<'_>>
-        ensures { key_of result ≡ public_of U.number self.now }
+        ensures { public_key_of result ≡ public_key_with U.number self.now }
     {
         RsaPublicKey {
             modulus: self.modulus.as_uint_ref(),
@@ -153,11 +153,11 @@ impl<U: AsUintRef> RsaPublicKey<U> {
     /// Writes the key's one text to the front of a slice, and answers its length: `encode_into`, with all that is known
     /// of a key's text. `Overflow` where the text passes `Length::MAX`, `NoRoom` where the slice is shorter.
     pub fn encode_key(&self, out: &mut [u8]) -> Result<usize>
-        ensures text { let key = public_of U.number self.now in
+        ensures text { let key = public_key_with U.number self.now in
             IfOk result (λ n. IsOnlyText grammar.RsaPublicKey key (take n out.new)) }
         ensures rest { IfOk result (λ n. (n ≤ length out.new) × (drop n out.new ≡ drop n out.old)) }
         ensures unchanged { OnErr result (out.new ≡ out.old) }
-        ensures err { IfErr result (IsNotWritten grammar.RsaPublicKey (public_of U.number self.now) (length out.old)) }
+        ensures err { IfErr result (IsNotWritten grammar.RsaPublicKey (public_key_with U.number self.now) (length out.old)) }
     {
         Ok(self.as_key_ref().encode_into(out)?)
     }

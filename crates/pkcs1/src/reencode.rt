@@ -1,7 +1,7 @@
 //! Keys that are read from a text and written again.
 ghost use Rattle.std.specs.Prelude.{◌≡◌, ◌⊎◌, IfOk, IfErr};
-ghost use Rattle.der_core.specs.Documents.{text_of, secret_text_of};
-ghost use Rattle.pkcs1.specs.Asking.{OwnedKeyAsks, OwnedPublicKeyAsks};
+ghost use Rattle.der_core.specs.DocumentValue.{text_of, secret_text_of};
+ghost use Rattle.pkcs1.specs.Allocating.{OwnedKeyAllocates, OwnedPublicKeyAllocates};
 ghost use Rattle.pkcs1.specs.Keys as grammar;
 ghost use Rattle.pkcs1.specs.KeyTexts.{IsSentence, IsUnread};
 
@@ -20,7 +20,7 @@ pub fn reencode_public_key(alloc: Global, bytes: &[u8]) -> Result<Document>
     ensures same { IfOk result (λ document. text_of document ≡ bytes.now) }
     ensures sentence { IfOk result (λ document. IsSentence grammar.RsaPublicKey bytes.now) }
     ensures err { IfErr result (IsUnread grammar.RsaPublicKey bytes.now
-        (OwnedPublicKeyAsks bytes.now ⊎ IsSentence grammar.RsaPublicKey bytes.now)) }
+        (OwnedPublicKeyAllocates bytes.now ⊎ IsSentence grammar.RsaPublicKey bytes.now)) }
 {
     RsaPublicKeyOwned::from_pkcs1_der(alloc, bytes)?.to_pkcs1_der(alloc)
 }
@@ -31,7 +31,7 @@ pub fn reencode_private_key(alloc: Global, bytes: &[u8]) -> Result<SecretDocumen
     ensures same { IfOk result (λ document. secret_text_of document ≡ bytes.now) }
     ensures sentence { IfOk result (λ document. IsSentence grammar.RsaPrivateKey bytes.now) }
     ensures err { IfErr result (IsUnread grammar.RsaPrivateKey bytes.now
-        (OwnedKeyAsks bytes.now ⊎ IsSentence grammar.RsaPrivateKey bytes.now)) }
+        (OwnedKeyAllocates bytes.now ⊎ IsSentence grammar.RsaPrivateKey bytes.now)) }
 {
     RsaPrivateKeyOwned::from_pkcs1_der(alloc, bytes)?.to_pkcs1_der(alloc)
 }

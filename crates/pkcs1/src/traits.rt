@@ -1,16 +1,16 @@
 //! Keys of any type, read from PKCS #1 texts and written as such, in memory and in files.
 ghost use Rattle.std.specs.Prelude.{◌≡◌, List, ℕ, IfOk, IfErr, OnOk, IsErrAnd};
 ghost use Rattle.der_core.specs.Document.{IsDocument, Means};
-ghost use Rattle.der_core.specs.Documents.{text_of, secret_text_of};
+ghost use Rattle.der_core.specs.DocumentValue.{text_of, secret_text_of};
 ghost use Rattle.der_core.specs.Tags.{sequence};
-ghost use Rattle.der_core.specs.UintRefs.{bytes_of};
-ghost use Rattle.der_core.specs.Uints.{own_bytes_of};
-ghost use Rattle.pkcs1.specs.Asking.{OwnedKeyAsks, OwnedPublicKeyAsks};
+ghost use Rattle.der_core.specs.UintRefValue.{bytes_of};
+ghost use Rattle.der_core.specs.UintValue.{own_bytes_of};
+ghost use Rattle.pkcs1.specs.Allocating.{OwnedKeyAllocates, OwnedPublicKeyAllocates};
 ghost use Rattle.pkcs1.specs.Keys as grammar;
 ghost use Rattle.pkcs1.specs.KeyTexts.{IsNotMade, IsOnlyText, IsUnread};
 ghost use Rattle.pkcs1_params.specs.Meanings.{IsOnlyMeaning};
-ghost use Rattle.pkcs1.specs.PrivateKeys.{private_of, ListsNone};
-ghost use Rattle.pkcs1.specs.PublicKeys.{public_of};
+ghost use Rattle.pkcs1.specs.PrivateKeyValue.{private_key_with, ListsNone};
+ghost use Rattle.pkcs1.specs.PublicKeyValue.{public_key_with};
 ghost use Rattle.pkcs1_params.specs.Refusals.{IsAsn1};
 
 use crate::private_key::RsaPrivateKey;
@@ -102,36 +102,36 @@ pub trait EncodeRsaPublicKey {
 }
 
 impl DecodeRsaPrivateKey for RsaPrivateKey<Uint> {
-    ghost stands_for = { λ key bytes. Means grammar.RsaPrivateKey bytes (private_of own_bytes_of key) };
+    ghost stands_for = { λ key bytes. Means grammar.RsaPrivateKey bytes (private_key_with own_bytes_of key) };
 
     fn from_pkcs1_der(alloc: Global, bytes: &[u8]) -> Result<RsaPrivateKey<Uint>>
-        ensures ok { IfOk result (λ key. Means grammar.RsaPrivateKey bytes.now (private_of own_bytes_of key)) }
-        ensures one { IfOk result (λ key. IsOnlyMeaning grammar.RsaPrivateKey bytes.now (private_of own_bytes_of key)) }
-        ensures err { IfErr result (IsUnread grammar.RsaPrivateKey bytes.now (OwnedKeyAsks bytes.now)) }
+        ensures ok { IfOk result (λ key. Means grammar.RsaPrivateKey bytes.now (private_key_with own_bytes_of key)) }
+        ensures one { IfOk result (λ key. IsOnlyMeaning grammar.RsaPrivateKey bytes.now (private_key_with own_bytes_of key)) }
+        ensures err { IfErr result (IsUnread grammar.RsaPrivateKey bytes.now (OwnedKeyAllocates bytes.now)) }
     {
         RsaPrivateKey::<Uint>::decode_key(alloc, bytes)
     }
 }
 
 impl DecodeRsaPublicKey for RsaPublicKey<Uint> {
-    ghost stands_for = { λ key bytes. Means grammar.RsaPublicKey bytes (public_of own_bytes_of key) };
+    ghost stands_for = { λ key bytes. Means grammar.RsaPublicKey bytes (public_key_with own_bytes_of key) };
 
     fn from_pkcs1_der(alloc: Global, bytes: &[u8]) -> Result<RsaPublicKey<Uint>>
-        ensures ok { IfOk result (λ key. Means grammar.RsaPublicKey bytes.now (public_of own_bytes_of key)) }
-        ensures one { IfOk result (λ key. IsOnlyMeaning grammar.RsaPublicKey bytes.now (public_of own_bytes_of key)) }
-        ensures err { IfErr result (IsUnread grammar.RsaPublicKey bytes.now (OwnedPublicKeyAsks bytes.now)) }
+        ensures ok { IfOk result (λ key. Means grammar.RsaPublicKey bytes.now (public_key_with own_bytes_of key)) }
+        ensures one { IfOk result (λ key. IsOnlyMeaning grammar.RsaPublicKey bytes.now (public_key_with own_bytes_of key)) }
+        ensures err { IfErr result (IsUnread grammar.RsaPublicKey bytes.now (OwnedPublicKeyAllocates bytes.now)) }
     {
         Ok(RsaPublicKey::from_der(alloc, bytes)?)
     }
 }
 
 impl<'a> EncodeRsaPrivateKey for RsaPrivateKey<UintRef<'a>> {
-    ghost written_as = { λ key bytes. IsOnlyText grammar.RsaPrivateKey (private_of bytes_of key) bytes };
+    ghost written_as = { λ key bytes. IsOnlyText grammar.RsaPrivateKey (private_key_with bytes_of key) bytes };
 
     fn to_pkcs1_der(&self, alloc: Global) -> Result<SecretDocument>
         ensures text { IfOk result (λ document.
-            IsOnlyText grammar.RsaPrivateKey (private_of bytes_of self.now) (secret_text_of document)) }
-        ensures err { IfErr result (IsNotMade grammar.RsaPrivateKey (private_of bytes_of self.now)) }
+            IsOnlyText grammar.RsaPrivateKey (private_key_with bytes_of self.now) (secret_text_of document)) }
+        ensures err { IfErr result (IsNotMade grammar.RsaPrivateKey (private_key_with bytes_of self.now)) }
         ensures no_primes { ListsNone self.now.other_prime_infos
             → IsErrAnd result (IsAsn1 (λ e. e.kind ≡ ErrorKind.Value sequence)) }
     {
@@ -140,12 +140,12 @@ impl<'a> EncodeRsaPrivateKey for RsaPrivateKey<UintRef<'a>> {
 }
 
 impl EncodeRsaPrivateKey for RsaPrivateKey<Uint> {
-    ghost written_as = { λ key bytes. IsOnlyText grammar.RsaPrivateKey (private_of own_bytes_of key) bytes };
+    ghost written_as = { λ key bytes. IsOnlyText grammar.RsaPrivateKey (private_key_with own_bytes_of key) bytes };
 
     fn to_pkcs1_der(&self, alloc: Global) -> Result<SecretDocument>
         ensures text { IfOk result (λ document.
-            IsOnlyText grammar.RsaPrivateKey (private_of own_bytes_of self.now) (secret_text_of document)) }
-        ensures err { IfErr result (IsNotMade grammar.RsaPrivateKey (private_of own_bytes_of self.now)) }
+            IsOnlyText grammar.RsaPrivateKey (private_key_with own_bytes_of self.now) (secret_text_of document)) }
+        ensures err { IfErr result (IsNotMade grammar.RsaPrivateKey (private_key_with own_bytes_of self.now)) }
         ensures no_primes { ListsNone self.now.other_prime_infos
             → IsErrAnd result (IsAsn1 (λ e. e.kind ≡ ErrorKind.Value sequence)) }
     {
@@ -154,12 +154,12 @@ impl EncodeRsaPrivateKey for RsaPrivateKey<Uint> {
 }
 
 impl<U: AsUintRef> EncodeRsaPublicKey for RsaPublicKey<U> {
-    ghost written_as = { λ key bytes. IsOnlyText grammar.RsaPublicKey (public_of U.number key) bytes };
+    ghost written_as = { λ key bytes. IsOnlyText grammar.RsaPublicKey (public_key_with U.number key) bytes };
 
     fn to_pkcs1_der(&self, alloc: Global) -> Result<Document>
         ensures text { IfOk result (λ document.
-            IsOnlyText grammar.RsaPublicKey (public_of U.number self.now) (text_of document)) }
-        ensures err { IfErr result (IsNotMade grammar.RsaPublicKey (public_of U.number self.now)) }
+            IsOnlyText grammar.RsaPublicKey (public_key_with U.number self.now) (text_of document)) }
+        ensures err { IfErr result (IsNotMade grammar.RsaPublicKey (public_key_with U.number self.now)) }
     {
         Ok(Document::encode_msg(alloc, &self.as_key_ref())?)
     }

@@ -11,7 +11,7 @@ ghost use Rattle.pkcs1.specs.Versions.{number_of, IsVersionOf, VersionContents, 
 ghost use Rattle.pkcs1.specs.VersionLaws.{version_means_one, version_of_bytes, version_relates, version_shortest};
 
 use der_core::{
-    BackWriter, Contents, DecodeValue, EncodeValue, ErrorKind, Header, IntegerTag, Kinded, Length,
+    BackWriter, Contents, DecodeValue, EncodeValue, ErrorKind, Header, IntegerTag, TaggedBy, Length,
     Memory, Reader, Result, Tag, Writer,
 };
 use pkcs1_params::Error;
@@ -116,12 +116,12 @@ impl Contents for Version {
     ghost contents_of_bytes = { version_of_bytes };
 }
 
-impl Kinded for Version {
-    type Kind = IntegerTag;
+impl TaggedBy for Version {
+    type Marker = IntegerTag;
 }
 
 impl<'a, M: Memory> DecodeValue<&'a [u8], M> for Version {
-    ghost asks = { λ _. ⊥ };
+    ghost may_allocate = { λ _. ⊥ };
 
     fn decode_value<R: Reader<&'a [u8]>>(
         memory: M,

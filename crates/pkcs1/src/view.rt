@@ -11,11 +11,11 @@ ghost use Rattle.pkcs1.specs.Keys.{OthersOf, PrivateKey, PrivateKeyContents, pub
 ghost use Rattle.pkcs1.specs.OtherPrimesLeft.{others_left, HoldsNone};
 ghost use Rattle.pkcs1.specs.PrivateKeyLaws.{private_means_one, private_of_bytes};
 ghost use Rattle.pkcs1.specs.Versions.{number_of};
-ghost use Rattle.pkcs1.specs.PublicKeys.{key_of};
+ghost use Rattle.pkcs1.specs.PublicKeyValue.{public_key_of};
 ghost use Rattle.pkcs1.specs.ViewParts.{parts_of, view_of, viewed_text, listed_others};
 ghost use Rattle.pkcs1_params.specs.Refusals.{IsAsn1};
 ghost use Rattle.der_core.specs.Document.{Means};
-ghost use Rattle.der_core.specs.UintRefs.{bytes_of};
+ghost use Rattle.der_core.specs.UintRefValue.{bytes_of};
 ghost use Rattle.pkcs1.specs.Writing.{HasPrivateKey, written_private_key};
 
 use crate::key_numbers::{KeyNumbers, read_key_numbers};
@@ -23,7 +23,7 @@ use crate::other_primes::OtherPrimes;
 use crate::public_key::{RsaPublicKey, RsaPublicKeyRef};
 use crate::version::Version;
 use der_core::{
-    Contents, Decode, DecodeValue, ErrorKind, Header, Kinded, NoMemory, Reader, Result,
+    Contents, Decode, DecodeValue, ErrorKind, Header, TaggedBy, NoMemory, Reader, Result,
     SequenceTag, Tag, UintRef, decode_optional,
 };
 use pkcs1_params::Error;
@@ -81,12 +81,12 @@ impl Contents for Parts<'_> {
     ghost contents_of_bytes = { private_of_bytes Integer (tlv_of_bytes 2 refl IntegerContents integer_of_bytes) };
 }
 
-impl Kinded for Parts<'_> {
-    type Kind = SequenceTag;
+impl TaggedBy for Parts<'_> {
+    type Marker = SequenceTag;
 }
 
 impl<'a> DecodeValue<&'a [u8], NoMemory> for Parts<'a> {
-    ghost asks = { λ _. ⊥ };
+    ghost may_allocate = { λ _. ⊥ };
 
     fn decode_value<R: Reader<&'a [u8]>>(
         memory: NoMemory,
@@ -181,7 +181,7 @@ impl<'a> RsaPrivateKeyView<'a> {
 
     /// The public key.
     pub fn public_key(&self) -> RsaPublicKeyRef<'a>
-        ensures { key_of result ≡ public_part (view_of self.now) }
+        ensures { public_key_of result ≡ public_part (view_of self.now) }
     {
         RsaPublicKey {
             modulus: self.modulus(),

@@ -3,9 +3,9 @@ use Rattle.std.proofs.Common.{ℕ, List, ◌≡◌, ◌≢◌, ◌<◌, length, 
 use Rattle.der_core.specs.declared.error.Error as der
 use Rattle.der_core.specs.declared.error.ErrorKind.{ErrorKind}
 use Rattle.der_core.specs.declared.error.ErrorKind.TheVariants as kind
-use Rattle.der_core.specs.Document.{Fault, no_text, too_long, no_room, another, Means, IsShortest, IsUncountable, IsRefused}
+use Rattle.der_core.specs.Document.{EncodeRefusal, no_text, too_long, no_room, another, Means, IsShortest, IsUncountable, IsRefused}
 use Rattle.der_core.specs.Reading.{TellsOfBytes}
-use Rattle.der_core.specs.Writing.{fault}
+use Rattle.der_core.specs.Writing.{encode_refusal}
 use Rattle.spki_core.specs.Explicit.{Field}
 use Rattle.spki_core.specs.StrictFields.{NamesDefault}
 use Rattle.pkcs1_params.specs.Refusals.{IsAsn1}
@@ -14,7 +14,7 @@ use Rattle.pkcs1_params.specs.declared.error.Error.TheVariants as error
 use Rattle.pkcs1_c.specs.Status.{kind_number, status_of}
 
 -- No text is counted: none is within the limit.
-pub none_means : {V : Type 0} (Some : Type 0) (Grammar : V → List ℕ → Type 0) (v : V) (f : Fault) → IsUncountable Some Grammar v f → (text : List ℕ) → Means Grammar text v → ⊥
+pub none_means : {V : Type 0} (Some : Type 0) (Grammar : V → List ℕ → Type 0) (v : V) (f : EncodeRefusal) → IsUncountable Some Grammar v f → (text : List ℕ) → Means Grammar text v → ⊥
 none_means Some Grammar v no_text p text m = p text m.1
 none_means Some Grammar v too_long p text m = p.1 text m
 none_means Some Grammar v no_room p text m = p
@@ -74,14 +74,14 @@ of_bytes error.KeyMalformed p = absurd p
 of_bytes error.Version p = absurd p
 
 -- A refusal by one reason for a text is one by another.
-pub has_some : {V : Type 0} (Some Other : Type 0) (Grammar : V → List ℕ → Type 0) (v : V) (room : ℕ) (f : Fault) → Other → IsRefused Some Grammar v room f → IsRefused Other Grammar v room f
+pub has_some : {V : Type 0} (Some Other : Type 0) (Grammar : V → List ℕ → Type 0) (v : V) (room : ℕ) (f : EncodeRefusal) → Other → IsRefused Some Grammar v room f → IsRefused Other Grammar v room f
 has_some Some Other Grammar v room no_text o p = p
 has_some Some Other Grammar v room too_long o p = (o, p.1)
 has_some Some Other Grammar v room no_room o p = p
 has_some Some Other Grammar v room another o p = p
 
 module _ {V : Type 0} (Some : Type 0) (Grammar : V → List ℕ → Type 0) (v : V) (room : ℕ) where
-  kind_lacks_room : (k : ErrorKind) → IsRefused Some Grammar v room (fault k) → kind_number k ≡ 15 → IsRefused Some Grammar v room no_room
+  kind_lacks_room : (k : ErrorKind) → IsRefused Some Grammar v room (encode_refusal k) → kind_number k ≡ 15 → IsRefused Some Grammar v room no_room
   kind_lacks_room kind.NoRoom p e = p
   kind_lacks_room (kind.Value tag) p e = absurd (omega (arith, e))
   kind_lacks_room kind.Overflow p e = absurd (omega (arith, e))
@@ -101,13 +101,13 @@ module _ {V : Type 0} (Some : Type 0) (Grammar : V → List ℕ → Type 0) (v :
   kind_lacks_room kind.OutOfMemory p e = absurd p
 
   -- There is a shortest text, and it has no room.
-  pub lacks_room : (e : Error) → IsAsn1 (λ (e : der.Error). IsRefused Some Grammar v room (fault e.kind)) e → status_of e ≡ 15 → (text : List ℕ) × IsShortest Grammar v text × (room < length text)
+  pub lacks_room : (e : Error) → IsAsn1 (λ (e : der.Error). IsRefused Some Grammar v room (encode_refusal e.kind)) e → status_of e ≡ 15 → (text : List ℕ) × IsShortest Grammar v text × (room < length text)
   lacks_room (error.Asn1 e) p c = kind_lacks_room e.kind p c
   lacks_room error.Crypto p c = absurd p
   lacks_room error.KeyMalformed p c = absurd p
   lacks_room error.Version p c = absurd p
 
-  kind_has_none : (k : ErrorKind) → IsRefused Some Grammar v room (fault k) → kind_number k ≢ 15 → (text : List ℕ) → Means Grammar text v → ⊥
+  kind_has_none : (k : ErrorKind) → IsRefused Some Grammar v room (encode_refusal k) → kind_number k ≢ 15 → (text : List ℕ) → Means Grammar text v → ⊥
   kind_has_none kind.NoRoom p e text m = absurd (e (λ _. 15))
   kind_has_none (kind.Value tag) p e text m = p text m.1
   kind_has_none kind.Overflow p e text m = p.1 text m
@@ -127,13 +127,13 @@ module _ {V : Type 0} (Some : Type 0) (Grammar : V → List ℕ → Type 0) (v :
   kind_has_none kind.OutOfMemory p e text m = p
 
   -- No text is within the limit.
-  pub has_none : (e : Error) → IsAsn1 (λ (e : der.Error). IsRefused Some Grammar v room (fault e.kind)) e → status_of e ≢ 15 → (text : List ℕ) → Means Grammar text v → ⊥
+  pub has_none : (e : Error) → IsAsn1 (λ (e : der.Error). IsRefused Some Grammar v room (encode_refusal e.kind)) e → status_of e ≢ 15 → (text : List ℕ) → Means Grammar text v → ⊥
   has_none (error.Asn1 e) p c text m = kind_has_none e.kind p c text m
   has_none error.Crypto p c text m = p
   has_none error.KeyMalformed p c text m = p
   has_none error.Version p c text m = p
 
-  kind_has_memory : (k : ErrorKind) → IsRefused Some Grammar v room (fault k) → kind_number k ≢ 17
+  kind_has_memory : (k : ErrorKind) → IsRefused Some Grammar v room (encode_refusal k) → kind_number k ≢ 17
   kind_has_memory kind.NoRoom p e = absurd (omega (arith, e))
   kind_has_memory (kind.Value tag) p e = absurd (omega (arith, e))
   kind_has_memory kind.Overflow p e = absurd (omega (arith, e))
@@ -153,7 +153,7 @@ module _ {V : Type 0} (Some : Type 0) (Grammar : V → List ℕ → Type 0) (v :
   kind_has_memory kind.OutOfMemory p e = p
 
   -- Memory isn't what was wanted.
-  pub has_memory : (e : Error) → IsAsn1 (λ (e : der.Error). IsRefused Some Grammar v room (fault e.kind)) e → status_of e ≢ 17
+  pub has_memory : (e : Error) → IsAsn1 (λ (e : der.Error). IsRefused Some Grammar v room (encode_refusal e.kind)) e → status_of e ≢ 17
   has_memory (error.Asn1 e) p c = kind_has_memory e.kind p c
   has_memory error.Crypto p c = p
   has_memory error.KeyMalformed p c = p

@@ -3,5 +3,5 @@ pub mod Fits
 pub mod Given
 pub mod Numbers
 pub mod Refusals
-pub mod Seen
+pub mod StructValues
 pub mod Status

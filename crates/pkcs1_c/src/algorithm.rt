@@ -1,11 +1,11 @@
 //! Algorithm identifiers.
 ghost use Rattle.std.specs.Prelude.{◌≡◌, ◌≢◌, ℕ, IfOk, IfErr};
 ghost use Rattle.spki_core.specs.ObjectIdentifier.{IsIdentifier};
-ghost use Rattle.spki_core.specs.AlgorithmRefs.{algorithm_of, mask_of};
-ghost use Rattle.spki_core.specs.ObjectIdentifiers.{octets_of};
+ghost use Rattle.spki_core.specs.AlgorithmValue.{algorithm_of, mask_of};
+ghost use Rattle.spki_core.specs.ObjectIdentifierValue.{octets_of};
 ghost use Rattle.pkcs1_c.specs.Fits.{PlainFits, MaskFits};
 ghost use Rattle.pkcs1_c.specs.Status.{kind_number};
-ghost use Rattle.pkcs1_c.specs.Seen.{oid_seen, algorithm_seen, mask_gen_seen};
+ghost use Rattle.pkcs1_c.specs.StructValues.{oid_seen, algorithm_seen, mask_gen_seen};
 
 use der_core::{Error, ErrorKind, Result, Tag};
 use spki_core::{AlgorithmIdentifier, AlgorithmIdentifierRef, AnyRef, ObjectIdentifier};

@@ -8,7 +8,7 @@ ghost use Rattle.pkcs8_core.specs.Held.{info_of};
 ghost use Rattle.pkcs8_core.specs.Rsa.{rsa_encryption, HoldsRsa};
 ghost use Rattle.pkcs1_c.specs.Containers.{info_seen, HoldsKey};
 ghost use Rattle.pkcs1_c.specs.Refusals.{HasNoText, LacksRoom};
-ghost use Rattle.pkcs1_c.specs.Seen.{private_key_seen, AreListed};
+ghost use Rattle.pkcs1_c.specs.StructValues.{private_key_seen, AreListed};
 ghost use Rattle.pkcs1_c.specs.Status.{status_of};
 
 use crate::needed::refusal;

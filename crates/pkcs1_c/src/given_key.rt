@@ -1,13 +1,13 @@
 //! Writing of private keys.
 ghost use Rattle.std.specs.Prelude.{◌≡◌, ◌≢◌, ◌≤◌, ◌<◌, ℕ, List, Option, length, take, drop, map, ◌++◌, ◌∷◌, [], OnOk, IfOk, IfErr};
-ghost use Rattle.der_core.specs.UintRefs.{bytes_of};
+ghost use Rattle.der_core.specs.UintRefValue.{bytes_of};
 ghost use Rattle.pkcs1.specs.Keys as grammar;
 ghost use Rattle.pkcs1.specs.KeyTexts.{IsOnlyText};
-ghost use Rattle.pkcs1.specs.PrivateKeys.{private_key_of, other_of, others_of};
+ghost use Rattle.pkcs1.specs.PrivateKeyValue.{private_key_of, other_of, others_of};
 ghost use Rattle.pkcs1_c.specs.Given.{IsGiven, HasNoOther, HaveNoOthers};
 ghost use Rattle.pkcs1_c.specs.Numbers.{IsOtherOf, AreOtherNumbers};
 ghost use Rattle.pkcs1_c.specs.Refusals.{HasNoText, LacksRoom};
-ghost use Rattle.pkcs1_c.specs.Seen.{other_prime_seen};
+ghost use Rattle.pkcs1_c.specs.StructValues.{other_prime_seen};
 ghost use Rattle.pkcs1_c.specs.Status.{status_of};
 
 use crate::needed::refusal;

@@ -1,7 +1,7 @@
 //! Numbers that a caller gives.
 ghost use Rattle.std.specs.Prelude.{◌≡◌, ◌≢◌, ◌<◌, ℕ, List, length, IfOk, IfErr};
 ghost use Rattle.der_core.specs.Length.{limit};
-ghost use Rattle.der_core.specs.UintRefs.{bytes_of};
+ghost use Rattle.der_core.specs.UintRefValue.{bytes_of};
 ghost use Rattle.pkcs1_c.specs.Numbers.{IsNumberOf};
 ghost use Rattle.pkcs1_c.specs.Status.{status_of};
 

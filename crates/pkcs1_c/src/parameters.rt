@@ -2,12 +2,12 @@
 ghost use Rattle.std.specs.Prelude.{◌≡◌, ◌≢◌, ◌≤◌, length, take, drop, IfOk, IfErr};
 ghost use Rattle.der_core.specs.Document.{Means, IsShortest};
 ghost use Rattle.pkcs1_params.specs.Parameters as grammar;
-ghost use Rattle.pkcs1_params.specs.PssParams.{pss_of};
-ghost use Rattle.pkcs1_params.specs.OaepParams.{oaep_of};
+ghost use Rattle.pkcs1_params.specs.PssValue.{pss_of};
+ghost use Rattle.pkcs1_params.specs.OaepValue.{oaep_of};
 ghost use Rattle.pkcs1_c.specs.Fits.{PssFits, OaepFits};
 ghost use Rattle.pkcs1_c.specs.Refusals.{HasNoText, LacksRoom};
 ghost use Rattle.pkcs1_c.specs.Status.{status_of};
-ghost use Rattle.pkcs1_c.specs.Seen.{pss_seen, oaep_seen};
+ghost use Rattle.pkcs1_c.specs.StructValues.{pss_seen, oaep_seen};
 
 use crate::algorithm::{
     Algorithm, MaskGen, algorithm_from, algorithm_view, mask_gen_from, mask_gen_view,

@@ -1,12 +1,12 @@
 //! Reading of private keys.
 ghost use Rattle.std.specs.Prelude.{◌≡◌, ◌≢◌, ℕ, List, Option};
 ghost use Rattle.der_core.specs.Document.{Means};
-ghost use Rattle.der_core.specs.UintRefs.{bytes_of};
+ghost use Rattle.der_core.specs.UintRefValue.{bytes_of};
 ghost use Rattle.pkcs1.specs.Keys as grammar;
 ghost use Rattle.pkcs1.specs.OtherPrimesLeft.{others_left};
-ghost use Rattle.pkcs1.specs.PrivateKeys.{other_of};
+ghost use Rattle.pkcs1.specs.PrivateKeyValue.{other_of};
 ghost use Rattle.pkcs1.specs.ViewParts.{view_of, listed_others};
-ghost use Rattle.pkcs1_c.specs.Seen.{private_key_seen, other_prime_seen, ArePlaced, AreListed};
+ghost use Rattle.pkcs1_c.specs.StructValues.{private_key_seen, other_prime_seen, ArePlaced, AreListed};
 
 use crate::status::{OK, status};
 use pkcs1::{OtherPrimeInfo, OtherPrimes, RsaPrivateKeyView, UintRef};

@@ -3,10 +3,10 @@ ghost use Rattle.std.specs.Prelude.{◌≡◌, ◌≢◌, ◌≤◌, ℕ, List, 
 ghost use Rattle.der_core.specs.Document.{Means};
 ghost use Rattle.pkcs1.specs.Keys as grammar;
 ghost use Rattle.pkcs1.specs.KeyTexts.{IsOnlyText};
-ghost use Rattle.pkcs1.specs.PublicKeys.{key_of};
+ghost use Rattle.pkcs1.specs.PublicKeyValue.{public_key_of};
 ghost use Rattle.pkcs1_c.specs.Numbers.{ArePublicNumbers};
 ghost use Rattle.pkcs1_c.specs.Refusals.{HasNoText, LacksRoom};
-ghost use Rattle.pkcs1_c.specs.Seen.{public_key_seen};
+ghost use Rattle.pkcs1_c.specs.StructValues.{public_key_seen};
 ghost use Rattle.pkcs1_c.specs.Status.{status_of};
 
 use crate::needed::refusal;
@@ -46,7 +46,7 @@ pub extern "C" fn pkcs1_c_public_key_decode<'a>(text: &'a [u8], key: &mut Public
 
 /// The key of these numbers.
 fn key_from<'a>(key: &PublicKey<'a>) -> pkcs1::Result<RsaPublicKeyRef<'a>>
-    ensures ok { IfOk result (λ made. ArePublicNumbers (key_of made) (public_key_seen key.now)) }
+    ensures ok { IfOk result (λ made. ArePublicNumbers (public_key_of made) (public_key_seen key.now)) }
     ensures err { IfErr result (λ e. status_of e ≢ 15) }
     ensures refused { IfErr result (λ e. (made : grammar.PublicKey (List ℕ))
         → ArePublicNumbers made (public_key_seen key.now) → HasNoText grammar.RsaPublicKey made) }

@@ -2,30 +2,30 @@
 use Rattle.std.proofs.Common.{◌≡◌, ℕ, ◌≤◌, ◌<◌, List, [], ◌∷◌, ◌++◌, length, refl, rules, arith, length-append, Bool, true, false, Result, Ok, Err}
 use Rattle.std.specs.Prelude.{⊤, IfOk, IfErr}
 use Rattle.std.specs.Result.{is_ok}
-use Rattle.der_core.specs.Document.{Fault, no_text, too_long, no_room, another}
+use Rattle.der_core.specs.Document.{EncodeRefusal, no_text, too_long, no_room, another}
 use Rattle.der_core.specs.Length.{limit, length_octets}
 use Rattle.der_core.specs.Texts.{AreBytes}
 use Rattle.der_core.specs.TextLaws.{tlv_relates, tlv_shortest}
 use Rattle.der_core.specs.Tlv.{tlv}
-use Rattle.der_core.specs.Writing.{Counts, IsUncounted, fault, joined}
+use Rattle.der_core.specs.Writing.{Counts, IsUncounted, encode_refusal, joined}
 use Rattle.der_core.specs.declared.error.Error.{Error}
 use Rattle.der_core.specs.declared.error.ErrorKind.TheVariants as kind
 use Rattle.der_core.specs.Counting.{counts_joined}
 use Rattle.spki_core.specs.FieldWriting.{HasField}
 use Rattle.spki_core.specs.IdentifierTest.{is_identifier-sound}
 use Rattle.spki_core.specs.ObjectIdentifier.{IsIdentifier}
-use Rattle.pkcs1_params.specs.DigestWriting.{HasDigest, written_digest}
+use Rattle.pkcs1_params.specs.HashFieldsWriting.{HasHashFields, written_hash_fields}
 use Rattle.pkcs1_params.specs.OaepLaws.{oaep_relates, oaep_shortest}
-use Rattle.pkcs1_params.specs.OaepParams.{labelled, LabelFits, NoLabelFits}
+use Rattle.pkcs1_params.specs.OaepValue.{labelled, LabelFits, NoLabelFits}
 use Rattle.pkcs1_params.specs.OaepWriting.{oaep_defaults, HasOaep, written_oaep, written_source, CountsLabelled}
 use Rattle.pkcs1_params.specs.Parameters.{id_mgf1, id_p_specified, OaepParameters, OaepContents}
 
 -- Counted under one premise is counted under another.
 pub counts_as : {P Q : Type 0} (octets : List ℕ) (r : Result ℕ Error) → (P → Q) → (Q → P) → Counts P octets r → Counts Q octets r
 counts_as octets (Ok n) there back c = (there c.0, c.1, c.2)
-counts_as {P} {Q} octets (Err e) there back c = go (fault e.kind) c
+counts_as {P} {Q} octets (Err e) there back c = go (encode_refusal e.kind) c
   where
-    go : (k : Fault) → IsUncounted P octets k → IsUncounted Q octets k
+    go : (k : EncodeRefusal) → IsUncounted P octets k → IsUncounted Q octets k
     go no_text u = λ q. u (back q)
     go too_long u = (there u.0, u.1)
     go no_room u = absurd u
@@ -44,14 +44,14 @@ field_holds : {has : Type 0} (out : Bool) → has → HasField out has
 field_holds true h = tt
 field_holds false h = h
 
-pub digest_held : (oid : List ℕ) → IsIdentifier oid → let p = labelled oid [] in HasDigest (oaep_defaults p).hash (oaep_defaults p).mask_gen p.hash p.mask_gen
-digest_held oid h =
+pub hash_fields_held : (oid : List ℕ) → IsIdentifier oid → let p = labelled oid [] in HasHashFields (oaep_defaults p).hash (oaep_defaults p).mask_gen p.hash p.mask_gen
+hash_fields_held oid h =
     let p = labelled oid [] in
     (field_holds (oaep_defaults p).hash (h, (refl, tt)), field_holds (oaep_defaults p).mask_gen (is_identifier-sound id_mgf1 (search rules) refl, (h, (refl, tt))))
 
 pub labelled_held : (oid label : List ℕ) → IsIdentifier oid → AreBytes label → let p = labelled oid label in HasOaep (oaep_defaults p) p
 labelled_held oid label h bytes =
-    (digest_held oid h, field_holds (oaep_defaults (labelled oid label)).p_source (source_held, (refl, bytes)))
+    (hash_fields_held oid h, field_holds (oaep_defaults (labelled oid label)).p_source (source_held, (refl, bytes)))
 
 -- What is counted of a label.
 pub label_counted : (label : List ℕ) (n : ℕ) (r : Result ℕ Error) → length label ≡ n
@@ -64,16 +64,16 @@ pub source_counted : (label : List ℕ) (identifier octets : Result ℕ Error)
 source_counted label = counts_joined (tlv 6 id_p_specified) (tlv 4 label) (λ (_ : IsIdentifier id_p_specified) (_ : ⊤). tt) (λ (_ : ⊤). (source_held, tt))
 
 -- hashAlgorithm and maskGenAlgorithm are counted.
-abbrev CountsDigest : OaepParameters → Result ℕ Error → Type 0
-CountsDigest p r = let out = oaep_defaults p in Counts (HasDigest out.hash out.mask_gen p.hash p.mask_gen) (written_digest out.hash out.mask_gen p.hash p.mask_gen) r
+abbrev CountsHashFields : OaepParameters → Result ℕ Error → Type 0
+CountsHashFields p r = let out = oaep_defaults p in Counts (HasHashFields out.hash out.mask_gen p.hash p.mask_gen) (written_hash_fields out.hash out.mask_gen p.hash p.mask_gen) r
 
-pub labelled_counted : (oid label : List ℕ) (v : OaepParameters) (digest source : Result ℕ Error) → IsIdentifier oid → v ≡ labelled oid []
-    → CountsDigest v digest → Counts ⊤ (written_source label) source → let p = labelled oid label in Counts ⊤ (written_oaep (oaep_defaults p) p) (joined digest source)
-labelled_counted oid label v digest source held same c d =
+pub labelled_counted : (oid label : List ℕ) (v : OaepParameters) (hash_fields source : Result ℕ Error) → IsIdentifier oid → v ≡ labelled oid []
+    → CountsHashFields v hash_fields → Counts ⊤ (written_source label) source → let p = labelled oid label in Counts ⊤ (written_oaep (oaep_defaults p) p) (joined hash_fields source)
+labelled_counted oid label v hash_fields source held same c d =
     let p = labelled oid label in
     let out = oaep_defaults p in
-    let first : CountsDigest p digest = rw same at c in
-    counts_joined (written_digest out.hash out.mask_gen p.hash p.mask_gen) (written_source label) (λ (_ : HasDigest out.hash out.mask_gen p.hash p.mask_gen) (_ : ⊤). tt) (λ (_ : ⊤). (digest_held oid held, tt)) digest source first d
+    let first : CountsHashFields p hash_fields = rw same at c in
+    counts_joined (written_hash_fields out.hash out.mask_gen p.hash p.mask_gen) (written_source label) (λ (_ : HasHashFields out.hash out.mask_gen p.hash p.mask_gen) (_ : ⊤). tt) (λ (_ : ⊤). (hash_fields_held oid held, tt)) hash_fields source first d
 
 -- Where the text is counted, one fits, and else none does.
 pub fits_where_counted : (oid : List ℕ) (n : ℕ) (r : Result ℕ Error) → is_ok r ≡ true
@@ -91,9 +91,9 @@ none_where_uncounted oid n (Ok m) ok all label bytes e text means = cc
 none_where_uncounted oid n (Err x) ok all label bytes e text means =
     let p = labelled oid label in
     let least = tlv_shortest 48 OaepContents (λ v. written_oaep (oaep_defaults v) v) (λ v. HasOaep (oaep_defaults v) v) oaep_shortest p text means.1 in
-    go (fault x.kind) (tlv 48 (written_oaep (oaep_defaults p) p)) least.0 (omega (arith, least.1, means.0)) (all label bytes e)
+    go (encode_refusal x.kind) (tlv 48 (written_oaep (oaep_defaults p) p)) least.0 (omega (arith, least.1, means.0)) (all label bytes e)
   where
-    go : {has : Type 0} (k : Fault) (octets : List ℕ) → has → length octets ≤ limit → IsUncounted has octets k → ⊥
+    go : {has : Type 0} (k : EncodeRefusal) (octets : List ℕ) → has → length octets ≤ limit → IsUncounted has octets k → ⊥
     go no_text octets h few u = u h
     go too_long octets h few u = omega (arith, few, u.1)
     go no_room octets h few u = u
@@ -116,5 +116,5 @@ label_within oid label bytes fits =
     let means = fits label bytes refl in
     let least = tlv_shortest 48 OaepContents (λ v. written_oaep (oaep_defaults v) v) (λ v. HasOaep (oaep_defaults v) v) oaep_shortest p means.0 means.1.1 in
     let out = oaep_defaults p in
-    let digest = written_digest out.hash out.mask_gen p.hash p.mask_gen in
-    omega (arith, source_longer label, length-append digest (written_source label), tlv_longer 48 (digest ++ written_source label), least.1, means.1.0)
+    let hash_fields = written_hash_fields out.hash out.mask_gen p.hash p.mask_gen in
+    omega (arith, source_longer label, length-append hash_fields (written_source label), tlv_longer 48 (hash_fields ++ written_source label), least.1, means.1.0)

@@ -4,7 +4,7 @@ pub mod Masks
 pub mod Counting
 pub mod ParameterWrites
 pub mod Trailers
-pub mod DigestReads
+pub mod HashFieldsReads
 pub mod PssReads
 pub mod StrictParameters
 pub mod OaepReads

@@ -6,7 +6,7 @@ use Rattle.std.proofs.lemmas.List.{map-append}
 use Rattle.std.proofs.lemmas.Nat.{pow_pos}
 use Rattle.std.proofs.Math.ListN.{get_or-append}
 use Rattle.std.proofs.Math.Seq.{get_or-append_seam}
-use Rattle.der_core.specs.Document.{IsRefused, Fault, no_text, too_long, no_room, another}
+use Rattle.der_core.specs.Document.{IsRefused, EncodeRefusal, no_text, too_long, no_room, another}
 use Rattle.der_core.specs.Tlv.{Tlv}
 use Rattle.der_core.specs.declared.error.ErrorKind.{ErrorKind}
 use Rattle.der_core.specs.declared.error.ErrorKind.TheVariants.{OutOfMemory, Overflow}
@@ -27,7 +27,7 @@ module _ {V : Type 0} (fields : V → List Field) (v : V) (mask : ℕ) where
   }
 
   -- A refusal of a value that has a text under the mask.
-  pub unspelled_as : (has : Type 0) (room : ℕ) → (text : List ℕ) × Masked (fields v) mask text → (k : Fault)
+  pub unspelled_as : (has : Type 0) (room : ℕ) → (text : List ℕ) × Masked (fields v) mask text → (k : EncodeRefusal)
       → IsRefused has (λ (w : MaskedValue V). Tlv 48 (MaskedValueContents fields w)) (record { value = v; mask = mask }) room k → WhyUnspelled (fields v) mask room k
   unspelled_as has room made no_text h = h made.0 made.1
   unspelled_as has room made too_long h = h.1

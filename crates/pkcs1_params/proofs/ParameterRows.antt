@@ -6,7 +6,7 @@ use Rattle.der_core.specs.IntegerLaws.{small_delimited}
 use Rattle.der_core.specs.ListLaws.{same_cons}
 use Rattle.der_core.specs.ShortestLaws.{means_one}
 use Rattle.der_core.specs.Texts.{Joins}
-use Rattle.der_core.proofs.Known.{known_tlv, known_whole, small_byte, other_tag_refused}
+use Rattle.der_core.proofs.WrittenOut.{known_tlv, known_whole, small_byte, other_tag_refused}
 use Rattle.spki_core.specs.ObjectIdentifier.{IsIdentifier}
 use Rattle.spki_core.specs.Any.{TagAndContents, Any}
 use Rattle.spki_core.specs.AlgorithmIdentifier.{Algorithm, AlgorithmIdentifier, PlainAlgorithm}

@@ -11,11 +11,11 @@ use Rattle.spki_core.specs.Any.{TagAndContents}
 use Rattle.spki_core.specs.AlgorithmIdentifier.{Algorithm, PlainAlgorithm, MaskAlgorithm}
 use Rattle.spki_core.specs.Explicit.{Field, field, Defaultable}
 use Rattle.spki_core.specs.FieldLaws.{AreLater}
-use Rattle.spki_core.proofs.FieldReads.{FieldFails, FieldGives, asks_nothing, field_fails, fields_fail, fields_give}
+use Rattle.spki_core.proofs.FieldReads.{FieldFails, FieldGives, allocates_nothing, field_fails, fields_fail, fields_give}
 use Rattle.pkcs1_params.specs.Parameters.{sha1, TrailerField, PssParameters, PssContents}
 use Rattle.pkcs1_params.specs.TrailerLaws.{trailer_delimited}
-use Rattle.pkcs1_params.proofs.DigestReads as digest
-use Rattle.pkcs1_params.proofs.DigestReads.{InPlain, DigestRead}
+use Rattle.pkcs1_params.proofs.HashFieldsReads as hash_fields
+use Rattle.pkcs1_params.proofs.HashFieldsReads.{InPlain, HashFieldsRead}
 
 -- trailerField alone, and behind saltLength
 abbrev trailer : PssParameters → List Field
@@ -30,44 +30,44 @@ later_than_salt p = (omega arith, tt)
 later_than_mask : (p : PssParameters) → AreLater 1 (salt_and_trailer p)
 later_than_mask p = (omega arith, (omega arith, tt))
 
-module _ (asks : List ℕ → Type 0) where
-  pub hash_fails : (before after : Input) (e : ErrorKind) → FieldFails 0 PlainAlgorithm (InPlain asks) e before after → ContentsFail PssContents asks e before after
-  hash_fails = digest.hash_fails (λ p. p.hash) (λ p. p.mask_gen) salt_and_trailer later_than_mask asks
+module _ (may_allocate : List ℕ → Type 0) where
+  pub hash_fails : (before after : Input) (e : ErrorKind) → FieldFails 0 PlainAlgorithm (InPlain may_allocate) e before after → ContentsFail PssContents may_allocate e before after
+  hash_fails = hash_fields.hash_fails (λ p. p.hash) (λ p. p.mask_gen) salt_and_trailer later_than_mask may_allocate
 
   pub mask_fails : (before mid after : Input) (e : ErrorKind) (x : Algorithm TagAndContents)
-      → FieldGives 0 PlainAlgorithm sha1 x before mid → FieldFails 1 MaskAlgorithm (InPlain (InPlain asks)) e mid after → ContentsFail PssContents asks e before after
-  mask_fails = digest.mask_fails (λ p. p.hash) (λ p. p.mask_gen) salt_and_trailer later_than_mask asks
+      → FieldGives 0 PlainAlgorithm sha1 x before mid → FieldFails 1 MaskAlgorithm (InPlain (InPlain may_allocate)) e mid after → ContentsFail PssContents may_allocate e before after
+  mask_fails = hash_fields.mask_fails (λ p. p.hash) (λ p. p.mask_gen) salt_and_trailer later_than_mask may_allocate
 
   pub salt_fails : (n : ℕ) → n ≡ 2 → (before mid after : Input) (e : ErrorKind) (h : Algorithm TagAndContents) (g : Algorithm (Algorithm TagAndContents))
-      → DigestRead h g before mid → FieldFails n Small (Tlv 2 (λ _. ⊥)) e mid after → ContentsFail PssContents asks e before after
+      → HashFieldsRead h g before mid → FieldFails n Small (Tlv 2 (λ _. ⊥)) e mid after → ContentsFail PssContents may_allocate e before after
   salt_fails n is before mid after e h g read fails =
-      digest.later_fails (λ p. p.hash) (λ p. p.mask_gen) salt_and_trailer later_than_mask asks before mid after e h g read
-      (field_fails 2 Small 20 (λ p. p.salt_len) trailer later_than_salt asks (Tlv 2 (λ _. ⊥)) (asks_nothing 2 asks) mid after e (rw is at fails))
+      hash_fields.later_fails (λ p. p.hash) (λ p. p.mask_gen) salt_and_trailer later_than_mask may_allocate before mid after e h g read
+      (field_fails 2 Small 20 (λ p. p.salt_len) trailer later_than_salt may_allocate (Tlv 2 (λ _. ⊥)) (allocates_nothing 2 may_allocate) mid after e (rw is at fails))
 
   -- behind a salt that was read
   behind_salt : (n : ℕ) → n ≡ 2 → (before mid at after : Input) (e : ErrorKind) (h : Algorithm TagAndContents) (g : Algorithm (Algorithm TagAndContents)) (s : ℕ)
-      → DigestRead h g before mid → FieldGives n Small 20 s mid at → ContentsFail (λ p. Joins (map Defaultable (trailer p))) asks e at after → ContentsFail PssContents asks e before after
+      → HashFieldsRead h g before mid → FieldGives n Small 20 s mid at → ContentsFail (λ p. Joins (map Defaultable (trailer p))) may_allocate e at after → ContentsFail PssContents may_allocate e before after
   behind_salt n is before mid at after e h g s read salt fails =
-      digest.later_fails (λ p. p.hash) (λ p. p.mask_gen) salt_and_trailer later_than_mask asks before mid after e h g read
-      (fields_fail 2 Small 20 (λ p. p.salt_len) trailer later_than_salt asks small_delimited mid at after e s (rw is at salt) fails)
+      hash_fields.later_fails (λ p. p.hash) (λ p. p.mask_gen) salt_and_trailer later_than_mask may_allocate before mid after e h g read
+      (fields_fail 2 Small 20 (λ p. p.salt_len) trailer later_than_salt may_allocate small_delimited mid at after e s (rw is at salt) fails)
 
   pub trailer_fails : (n m : ℕ) → n ≡ 2 → m ≡ 3 → (before mid at after : Input) (e : ErrorKind) (h : Algorithm TagAndContents) (g : Algorithm (Algorithm TagAndContents)) (s : ℕ)
-      → DigestRead h g before mid → FieldGives n Small 20 s mid at → FieldFails m TrailerField (Tlv 2 (λ _. ⊥)) e at after → ContentsFail PssContents asks e before after
+      → HashFieldsRead h g before mid → FieldGives n Small 20 s mid at → FieldFails m TrailerField (Tlv 2 (λ _. ⊥)) e at after → ContentsFail PssContents may_allocate e before after
   trailer_fails n m is third before mid at after e h g s read salt fails =
       behind_salt n is before mid at after e h g s read salt
-      (field_fails 3 TrailerField 1 (λ p. p.trailer_field) (λ _. []) (λ _. tt) asks (Tlv 2 (λ _. ⊥)) (asks_nothing 2 asks) at after e (rw third at fails))
+      (field_fails 3 TrailerField 1 (λ p. p.trailer_field) (λ _. []) (λ _. tt) may_allocate (Tlv 2 (λ _. ⊥)) (allocates_nothing 2 may_allocate) at after e (rw third at fails))
 
   pub finish_fails : (n m : ℕ) → n ≡ 2 → m ≡ 3 → (before mid at last after : Input) (e : ErrorKind) (h : Algorithm TagAndContents) (g : Algorithm (Algorithm TagAndContents)) (s : ℕ)
-      → DigestRead h g before mid → FieldGives n Small 20 s mid at → FieldGives m TrailerField 1 1 at last → (read_from last end_of ≡ Err e) × (after ≡ None)
-      → ContentsFail PssContents asks e before after
+      → HashFieldsRead h g before mid → FieldGives n Small 20 s mid at → FieldGives m TrailerField 1 1 at last → (read_from last end_of ≡ Err e) × (after ≡ None)
+      → ContentsFail PssContents may_allocate e before after
   finish_fails n m is third before mid at last after e h g s read salt trailing finish =
       behind_salt n is before mid at after e h g s read salt
-      (fields_fail 3 TrailerField 1 (λ p. p.trailer_field) (λ _. []) (λ _. tt) asks trailer_delimited at last after e 1 (rw third at trailing) (end_fails PssParameters asks last after e finish))
+      (fields_fail 3 TrailerField 1 (λ p. p.trailer_field) (λ _. []) (λ _. tt) may_allocate trailer_delimited at last after e 1 (rw third at trailing) (end_fails PssParameters may_allocate last after e finish))
 
 pub pss_gives : (n m : ℕ) → n ≡ 2 → m ≡ 3 → (before mid at last after : Input) (p : PssParameters)
-    → DigestRead p.hash p.mask_gen before mid → FieldGives n Small 20 p.salt_len mid at → FieldGives m TrailerField 1 p.trailer_field at last
+    → HashFieldsRead p.hash p.mask_gen before mid → FieldGives n Small 20 p.salt_len mid at → FieldGives m TrailerField 1 p.trailer_field at last
     → ((rest : List ℕ) × (read_from last end_of ≡ Ok (tt, rest)) × (after ≡ Some rest)) → ContentsGive (PssContents p) before after
 pss_gives n m is third before mid at last after p read salt trailing finish =
-    digest.later_gives (λ p. p.hash) (λ p. p.mask_gen) salt_and_trailer later_than_mask (λ _. ⊥) before mid after p read
+    hash_fields.later_gives (λ p. p.hash) (λ p. p.mask_gen) salt_and_trailer later_than_mask (λ _. ⊥) before mid after p read
     (fields_give 2 Small 20 (λ p. p.salt_len) trailer later_than_salt (λ _. ⊥) mid at after p (rw is at salt)
     (fields_give 3 TrailerField 1 (λ p. p.trailer_field) (λ _. []) (λ _. tt) (λ _. ⊥) at last after p (rw third at trailing) (end_gives last after finish)))

@@ -9,7 +9,7 @@ use Rattle.spki_core.specs.AlgorithmIdentifier.{PlainAlgorithm}
 use Rattle.spki_core.specs.AlgorithmLaws.{same_plain_decides, same_mask_decides}
 use Rattle.spki_core.specs.Explicit.{Field, field, FieldSequence, HaveDefaults}
 use Rattle.spki_core.proofs.Fields.{AreInOrder}
-use Rattle.pkcs1_params.specs.DigestLaws.{digest_of_bytes, plain_of_bytes}
+use Rattle.pkcs1_params.specs.HashFieldsLaws.{hash_fields_of_bytes, plain_of_bytes}
 use Rattle.pkcs1_params.specs.Parameters.{sha1, mgf1_sha1, empty_label, TrailerField, TrailerContents, PssParameters, pss_fields, RsaPssParams, OaepParameters, oaep_fields, RsaOaepParams}
 use Rattle.pkcs1_params.specs.ParameterLaws.{pss_in_order, oaep_in_order}
 use Rattle.pkcs1_params.specs.PssWriting.{pss_defaults}
@@ -47,7 +47,7 @@ pub pss_found : (p : PssParameters) (text : List ℕ) (found : Option ℕ) → M
     → WalksOver ((pss_defaults p).hash ∷ (pss_defaults p).mask_gen ∷ (pss_defaults p).salt_len ∷ (pss_defaults p).trailer_field ∷ []) text found → FoundIn (pss_fields p) text found
 pss_found p text found means walks =
     text_finds (pss_fields p) ((pss_defaults p).hash ∷ (pss_defaults p).mask_gen ∷ (pss_defaults p).salt_len ∷ (pss_defaults p).trailer_field ∷ []) text found (pss_in_order p)
-    (digest_of_bytes p.hash p.mask_gen (field 2 Small 20 p.salt_len ∷ field 3 TrailerField 1 p.trailer_field ∷ []) (omega arith, tlv_of_bytes 2 refl SmallContents small_of_bytes p.salt_len, (omega arith, tlv_of_bytes 2 refl TrailerContents trailer_of_bytes p.trailer_field, tt)))
+    (hash_fields_of_bytes p.hash p.mask_gen (field 2 Small 20 p.salt_len ∷ field 3 TrailerField 1 p.trailer_field ∷ []) (omega arith, tlv_of_bytes 2 refl SmallContents small_of_bytes p.salt_len, (omega arith, tlv_of_bytes 2 refl TrailerContents trailer_of_bytes p.trailer_field, tt)))
     (refl, same_plain_decides p.hash sha1, (refl, same_mask_decides p.mask_gen mgf1_sha1, (refl, number_decides p.salt_len 20, (refl, number_decides p.trailer_field 1, tt))))
     means.0 means.1 walks
 
@@ -55,6 +55,6 @@ pub oaep_found : (p : OaepParameters) (text : List ℕ) (found : Option ℕ) →
     → WalksOver ((oaep_defaults p).hash ∷ (oaep_defaults p).mask_gen ∷ (oaep_defaults p).p_source ∷ []) text found → FoundIn (oaep_fields p) text found
 oaep_found p text found means walks =
     text_finds (oaep_fields p) ((oaep_defaults p).hash ∷ (oaep_defaults p).mask_gen ∷ (oaep_defaults p).p_source ∷ []) text found (oaep_in_order p)
-    (digest_of_bytes p.hash p.mask_gen (field 2 PlainAlgorithm empty_label p.p_source ∷ []) (omega arith, plain_of_bytes p.p_source, tt))
+    (hash_fields_of_bytes p.hash p.mask_gen (field 2 PlainAlgorithm empty_label p.p_source ∷ []) (omega arith, plain_of_bytes p.p_source, tt))
     (refl, same_plain_decides p.hash sha1, (refl, same_mask_decides p.mask_gen mgf1_sha1, (refl, same_plain_decides p.p_source empty_label, tt)))
     means.0 means.1 walks

@@ -9,21 +9,21 @@ use Rattle.der_core.specs.ShortTexts.{tlv_short}
 use Rattle.der_core.specs.TextLaws.{tlv_made}
 use Rattle.der_core.specs.Tlv.{tlv}
 use Rattle.spki_core.specs.AlgorithmIdentifier.{written_plain, written_mask, HasPlain, HasMask}
-use Rattle.spki_core.specs.AlgorithmRefs.{algorithm_of, mask_of}
+use Rattle.spki_core.specs.AlgorithmValue.{algorithm_of, mask_of}
 use Rattle.spki_core.specs.FieldWriting.{written_field, HasField}
 use Rattle.spki_core.specs.Held.{identifier_held, identifier_short, plain_held, plain_short}
-use Rattle.spki_core.specs.ObjectIdentifiers.{octets_of}
+use Rattle.spki_core.specs.ObjectIdentifierValue.{octets_of}
 use Rattle.spki_core.specs.declared.algorithm_identifier.AlgorithmIdentifier.{AlgorithmIdentifier}
 use Rattle.spki_core.specs.declared.any.AnyRef.{AnyRef}
-use Rattle.pkcs1_params.specs.DigestWriting.{written_digest}
+use Rattle.pkcs1_params.specs.HashFieldsWriting.{written_hash_fields}
 use Rattle.pkcs1_params.specs.Parameters.{PssContents, RsaPssParams, OaepContents, RsaOaepParams}
 use Rattle.pkcs1_params.specs.OaepLaws.{oaep_relates}
-use Rattle.pkcs1_params.specs.OaepParams.{oaep_of}
+use Rattle.pkcs1_params.specs.OaepValue.{oaep_of}
 use Rattle.pkcs1_params.specs.OaepWriting.{oaep_defaults, HasOaep, written_oaep}
 use Rattle.pkcs1_params.specs.declared.oaep.OaepLeftOut.{OaepLeftOut}
 use Rattle.pkcs1_params.specs.declared.oaep.RsaOaepParams.{RsaOaepParams as OaepParams}
 use Rattle.pkcs1_params.specs.PssLaws.{pss_relates}
-use Rattle.pkcs1_params.specs.PssParams.{pss_of}
+use Rattle.pkcs1_params.specs.PssValue.{pss_of}
 use Rattle.pkcs1_params.specs.PssWriting.{pss_defaults, HasPss, written_pss}
 use Rattle.pkcs1_params.specs.declared.pss.PssLeftOut.{PssLeftOut}
 use Rattle.pkcs1_params.specs.declared.pss.RsaPssParams.{RsaPssParams as PssParams}
@@ -43,12 +43,12 @@ pub field_short : (out : Bool) (number m : ℕ) (text : List ℕ) → length tex
 field_short true number m text h small = omega arith
 field_short false number m text h small = tlv_short (160 + number) m text h small
 
-pub digest_short : (hash_out mask_out : Bool) (hash : AlgorithmIdentifier AnyRef) (mask_gen : AlgorithmIdentifier (AlgorithmIdentifier AnyRef))
-    → length (written_digest hash_out mask_out (algorithm_of hash) (mask_of mask_gen)) ≤ limit + limit + 2000
-digest_short hash_out mask_out hash mask_gen =
-    let a = field_short hash_out 0 (limit + 423) (written_plain (algorithm_of hash)) (plain_short hash) (omega arith) in
-    let b = field_short mask_out 1 (limit + 718) (written_mask (mask_of mask_gen)) (mask_short mask_gen) (omega arith) in
-    omega (arith, a, b, length-append (written_field hash_out 0 (written_plain (algorithm_of hash))) (written_field mask_out 1 (written_mask (mask_of mask_gen))))
+pub hash_fields_short : (hash_left_out mask_gen_left_out : Bool) (hash : AlgorithmIdentifier AnyRef) (mask_gen : AlgorithmIdentifier (AlgorithmIdentifier AnyRef))
+    → length (written_hash_fields hash_left_out mask_gen_left_out (algorithm_of hash) (mask_of mask_gen)) ≤ limit + limit + 2000
+hash_fields_short hash_left_out mask_gen_left_out hash mask_gen =
+    let a = field_short hash_left_out 0 (limit + 423) (written_plain (algorithm_of hash)) (plain_short hash) (omega arith) in
+    let b = field_short mask_gen_left_out 1 (limit + 718) (written_mask (mask_of mask_gen)) (mask_short mask_gen) (omega arith) in
+    omega (arith, a, b, length-append (written_field hash_left_out 0 (written_plain (algorithm_of hash))) (written_field mask_gen_left_out 1 (written_mask (mask_of mask_gen))))
 
 number_short : (n : ℕ) → length (tlv 2 (integer_contents (n ∷ []))) ≤ 130
 number_short n = tlv_short 2 2 (integer_contents (n ∷ [])) (go (nat_lt n 128)) (omega arith)
@@ -72,10 +72,10 @@ field_held false h = h
 pss_short : (out : PssLeftOut) (p : PssParams AnyRef) → length (written_pss out (pss_of p)) < 2 ^ 64
 pss_short out p =
     let v = pss_of p in
-    let d = written_digest out.hash out.mask_gen v.hash v.mask_gen in
+    let d = written_hash_fields out.hash out.mask_gen v.hash v.mask_gen in
     let s = written_field out.salt_len 2 (tlv 2 (integer_contents (v.salt_len ∷ []))) in
     let t = written_field out.trailer_field 3 (tlv 2 (integer_contents (1 ∷ []))) in
-    let a = digest_short out.hash out.mask_gen p.hash p.mask_gen in
+    let a = hash_fields_short out.hash out.mask_gen p.hash p.mask_gen in
     let b = field_short out.salt_len 2 130 (tlv 2 (integer_contents (v.salt_len ∷ []))) (number_short v.salt_len) (omega arith) in
     let e = field_short out.trailer_field 3 130 (tlv 2 (integer_contents (1 ∷ []))) (number_short 1) (omega arith) in
     omega (arith, a, b, e, length-append d (s ++ t), length-append s t)
@@ -83,9 +83,9 @@ pss_short out p =
 oaep_short : (out : OaepLeftOut) (p : OaepParams AnyRef) → length (written_oaep out (oaep_of p)) < 2 ^ 64
 oaep_short out p =
     let v = oaep_of p in
-    let d = written_digest out.hash out.mask_gen v.hash v.mask_gen in
+    let d = written_hash_fields out.hash out.mask_gen v.hash v.mask_gen in
     let s = written_field out.p_source 2 (written_plain v.p_source) in
-    let a = digest_short out.hash out.mask_gen p.hash p.mask_gen in
+    let a = hash_fields_short out.hash out.mask_gen p.hash p.mask_gen in
     let b = field_short out.p_source 2 (limit + 423) (written_plain v.p_source) (plain_short p.p_source) (omega arith) in
     omega (arith, a, b, length-append d s)
 

@@ -1,7 +1,7 @@
 -- What a text means and no other, and why a value isn't written, as errors of this crate.
 use Rattle.std.specs.Prelude.{ℕ, List, ◌≡◌}
 use Rattle.der_core.specs.Document.{Means, IsRefused, HasText}
-use Rattle.der_core.specs.Writing.{fault}
+use Rattle.der_core.specs.Writing.{encode_refusal}
 use Rattle.pkcs1_params.specs.declared.error.Error.{Error}
 use Rattle.pkcs1_params.specs.Refusals.{IsAsn1}
 
@@ -15,4 +15,4 @@ IsNoSentence {V} Grammar text = (v : V) → Means Grammar text v → ⊥
 
 -- Why a value isn't written to so many bytes: it has no text, none is within the limit, or the shortest has no room.
 abbrev pub IsNotWritten : {V : Type 0} → (V → List ℕ → Type 0) → V → ℕ → Error → Type 0
-IsNotWritten Grammar v room = IsAsn1 (λ e. IsRefused (HasText Grammar v) Grammar v room (fault e.kind))
+IsNotWritten Grammar v room = IsAsn1 (λ e. IsRefused (HasText Grammar v) Grammar v room (encode_refusal e.kind))

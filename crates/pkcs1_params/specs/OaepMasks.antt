@@ -1,7 +1,7 @@
 -- RSAES-OAEP parameters under a mask: the parts, and what is written of them.
 use Rattle.std.specs.Prelude.{ℕ, List, [], ◌∷◌}
 use Rattle.spki_core.specs.Masks.{out_under, rest_under, Part}
-use Rattle.pkcs1_params.specs.DigestMasks.{plain_part, digest_parts}
+use Rattle.pkcs1_params.specs.HashFieldsMasks.{plain_part, hash_parts_then}
 use Rattle.pkcs1_params.specs.Parameters.{empty_label, OaepParameters}
 use Rattle.pkcs1_params.specs.OaepWriting.{oaep_defaults, HasOaep, written_oaep}
 use Rattle.pkcs1_params.specs.declared.oaep.OaepLeftOut.{OaepLeftOut}
@@ -21,4 +21,4 @@ abbrev pub written_oaep_under : OaepParameters → ℕ → List ℕ
 written_oaep_under p mask = written_oaep (oaep_out (oaep_defaults p) mask) p
 
 abbrev pub oaep_parts : OaepParameters → List Part
-oaep_parts p = digest_parts p.hash p.mask_gen (plain_part 2 empty_label p.p_source ∷ [])
+oaep_parts p = hash_parts_then p.hash p.mask_gen (plain_part 2 empty_label p.p_source ∷ [])

@@ -46,8 +46,8 @@ abbrev pub TrailerField : ℕ → List ℕ → Type 0
 TrailerField n text = Tlv 2 (TrailerContents n) text
 
 -- hashAlgorithm [0] and maskGenAlgorithm [1], which both sets of parameters begin with
-abbrev pub digest_fields : Algorithm TagAndContents → Algorithm (Algorithm TagAndContents) → List Field → List Field
-digest_fields hash mask_gen later = field 0 PlainAlgorithm sha1 hash ∷ field 1 MaskAlgorithm mgf1_sha1 mask_gen ∷ later
+abbrev pub hash_fields_then : Algorithm TagAndContents → Algorithm (Algorithm TagAndContents) → List Field → List Field
+hash_fields_then hash mask_gen later = field 0 PlainAlgorithm sha1 hash ∷ field 1 MaskAlgorithm mgf1_sha1 mask_gen ∷ later
 
 pub record PssParameters : Type 0 where
   pub hash : Algorithm TagAndContents
@@ -56,7 +56,7 @@ pub record PssParameters : Type 0 where
   pub trailer_field : ℕ
 
 abbrev pub pss_fields : PssParameters → List Field
-pss_fields p = digest_fields p.hash p.mask_gen (field 2 Small 20 p.salt_len ∷ field 3 TrailerField 1 p.trailer_field ∷ [])
+pss_fields p = hash_fields_then p.hash p.mask_gen (field 2 Small 20 p.salt_len ∷ field 3 TrailerField 1 p.trailer_field ∷ [])
 
 abbrev pub PssContents : PssParameters → List ℕ → Type 0
 PssContents p contents = Joins (map Defaultable (pss_fields p)) contents
@@ -71,7 +71,7 @@ pub record OaepParameters : Type 0 where
   pub p_source : Algorithm TagAndContents
 
 abbrev pub oaep_fields : OaepParameters → List Field
-oaep_fields p = digest_fields p.hash p.mask_gen (field 2 PlainAlgorithm empty_label p.p_source ∷ [])
+oaep_fields p = hash_fields_then p.hash p.mask_gen (field 2 PlainAlgorithm empty_label p.p_source ∷ [])
 
 abbrev pub OaepContents : OaepParameters → List ℕ → Type 0
 OaepContents p contents = Joins (map Defaultable (oaep_fields p)) contents

@@ -4,7 +4,7 @@ use Rattle.der_core.specs.EqualityLaws.{number_decides}
 use Rattle.der_core.specs.Integer.{Small}
 use Rattle.spki_core.specs.Explicit.{field}
 use Rattle.spki_core.specs.Masks.{out_under, rest_under, Part}
-use Rattle.pkcs1_params.specs.DigestMasks.{digest_parts}
+use Rattle.pkcs1_params.specs.HashFieldsMasks.{hash_parts_then}
 use Rattle.pkcs1_params.specs.Parameters.{TrailerField, PssParameters}
 use Rattle.pkcs1_params.specs.PssLaws.{written_number, salt_relates, salt_shortest, trailer_text_relates, trailer_text_shortest}
 use Rattle.pkcs1_params.specs.PssWriting.{pss_defaults, HasPss, written_pss}
@@ -27,7 +27,7 @@ written_pss_under p mask = written_pss (pss_out (pss_defaults p) mask) p
 
 abbrev pub pss_parts : PssParameters → List Part
 pss_parts p =
-    digest_parts p.hash p.mask_gen
+    hash_parts_then p.hash p.mask_gen
     (record {
       field = field 2 Small 20 p.salt_len;
       is_default = eqb p.salt_len 20;

@@ -5,7 +5,7 @@ use Rattle.der_core.specs.Integer.{integer_contents}
 use Rattle.spki_core.specs.AlgorithmIdentifier.{same_plain, same_mask}
 use Rattle.spki_core.specs.FieldWriting.{HasField, written_field}
 use Rattle.pkcs1_params.specs.Parameters.{sha1, mgf1_sha1, PssParameters}
-use Rattle.pkcs1_params.specs.DigestWriting.{HasDigest, written_digest}
+use Rattle.pkcs1_params.specs.HashFieldsWriting.{HasHashFields, written_hash_fields}
 use Rattle.pkcs1_params.specs.declared.pss.PssLeftOut.{PssLeftOut}
 
 -- Which fields have their defaults.
@@ -19,11 +19,11 @@ pss_defaults p = record {
 
 abbrev pub HasPss : PssLeftOut → PssParameters → Type 0
 HasPss out p =
-    HasDigest out.hash out.mask_gen p.hash p.mask_gen
+    HasHashFields out.hash out.mask_gen p.hash p.mask_gen
     × (HasField out.salt_len (p.salt_len < 256) × HasField out.trailer_field (p.trailer_field ≡ 1))
 
 abbrev pub written_pss : PssLeftOut → PssParameters → List ℕ
 written_pss out p =
-    written_digest out.hash out.mask_gen p.hash p.mask_gen
+    written_hash_fields out.hash out.mask_gen p.hash p.mask_gen
     ++ (written_field out.salt_len 2 (tlv 2 (integer_contents (p.salt_len ∷ [])))
     ++ written_field out.trailer_field 3 (tlv 2 (integer_contents (p.trailer_field ∷ []))))

@@ -2,10 +2,10 @@
 use Rattle.std.specs.Global.{Vec}
 use Rattle.std.specs.Prelude.{ℕ, List, [], ◌≡◌, ◌<◌, ◌≤◌, ◌^◌, ◌↔◌, ◌⊎◌, length, map, slice_index_or}
 use Rattle.der_core.specs.Length.{limit}
-use Rattle.der_core.specs.Document.{Spellings, IsShortest, Fault, no_text, too_long, no_room, another}
+use Rattle.der_core.specs.Document.{Spellings, IsShortest, EncodeRefusal, no_text, too_long, no_room, another}
 use Rattle.der_core.specs.declared.error.ErrorKind.{ErrorKind}
 use Rattle.der_core.specs.declared.error.ErrorKind.TheVariants as kind
-use Rattle.der_core.specs.Writing.{fault}
+use Rattle.der_core.specs.Writing.{encode_refusal}
 use Rattle.der_core.specs.Members.{AreTheMembers, HasMembers}
 use Rattle.pkcs1_params.specs.declared.error.Error.{Error}
 use Rattle.pkcs1_params.specs.Refusals.{IsAsn1}
@@ -77,14 +77,14 @@ abbrev pub HasNoSpelling : List Field → ℕ → Type 0
 HasNoSpelling fields mask = (text : List ℕ) → IsSpelling fields mask text → ⊥
 
 -- Why a spelling isn't written: there is none under the mask, or there is one and it has no room.
-abbrev pub WhyUnspelled : List Field → ℕ → ℕ → Fault → Type 0
+abbrev pub WhyUnspelled : List Field → ℕ → ℕ → EncodeRefusal → Type 0
 WhyUnspelled fields mask room no_text = ⊥
 WhyUnspelled fields mask room too_long = HasNoSpelling fields mask
 WhyUnspelled fields mask room no_room = (text : List ℕ) × IsSpelling fields mask text × (room < length text)
 WhyUnspelled fields mask room another = ⊥
 
 abbrev pub IsUnspelled : List Field → ℕ → ℕ → Error → Type 0
-IsUnspelled fields mask room = IsAsn1 (λ e. WhyUnspelled fields mask room (fault e.kind))
+IsUnspelled fields mask room = IsAsn1 (λ e. WhyUnspelled fields mask room (encode_refusal e.kind))
 
 abbrev pub texts_in : Vec (Vec ℕ) → List (List ℕ)
 texts_in texts = map (λ text. text.items) texts.items

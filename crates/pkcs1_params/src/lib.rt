@@ -1,7 +1,7 @@
 //! Parameters of RSASSA-PSS and RSAES-OAEP (RFC 8017 A.2.3, A.2.1), and the error of keys and parameters.
 #![tactic(auto)]
 
-mod digest;
+mod hash_fields;
 mod error;
 mod laws;
 mod oaep;
@@ -12,7 +12,7 @@ mod spelling;
 mod strict;
 mod trailer_field;
 
-pub use digest::with_null;
+pub use hash_fields::with_null;
 pub use error::{Error, Result};
 pub use laws::{oaep_spellings, pss_spellings};
 pub use oaep::{RsaOaepParams, RsaOaepParamsOwned, RsaOaepParamsRef};

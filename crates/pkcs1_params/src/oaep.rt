@@ -1,28 +1,28 @@
 //! Parameters of RSAES-OAEP (RFC 8017 A.2.1).
 ghost use Rattle.std.specs.Prelude.{◌≡◌, ◌≤◌, ◌+◌, ◌++◌, [], ⊤, refl, length, OnOk, IfErr, ℕ, List};
 ghost use Rattle.der_core.specs.Tlv.{Tlv, tlv};
-ghost use Rattle.pkcs1_params.specs.OaepParams.{labelled};
+ghost use Rattle.pkcs1_params.specs.OaepValue.{labelled};
 ghost use Rattle.der_core.specs.Length.{limit};
 ghost use Rattle.der_core.specs.BackWriters.{free_of, Prepends};
-ghost use Rattle.der_core.specs.Reading.{AsksWithin};
+ghost use Rattle.der_core.specs.Reading.{AllocatesWithin};
 ghost use Rattle.der_core.specs.Writing.{Counts, Appends};
 ghost use Rattle.spki_core.specs.AlgorithmIdentifier.{PlainAlgorithm, same_plain};
 ghost use Rattle.spki_core.specs.FieldReading.{ReadsField};
-ghost use Rattle.spki_core.specs.AlgorithmRefs.{algorithm_with, algorithm_of};
+ghost use Rattle.spki_core.specs.AlgorithmValue.{algorithm_with, algorithm_of};
 ghost use Rattle.spki_core.specs.Explicit.{HaveDefaults};
 ghost use Rattle.pkcs1_params.specs.Parameters.{OaepParameters, OaepContents, oaep_fields, with_parameters, id_p_specified, octets_value, sha1, mgf1_sha1, empty_label};
 ghost use Rattle.pkcs1_params.specs.OaepWriting.{oaep_defaults, HasOaep, written_oaep, written_source, CountsLabelled};
 ghost use Rattle.der_core.specs.Texts.{AreBytes};
 ghost use Rattle.pkcs1_params.specs.OaepLaws.{oaep_means_one, oaep_of_bytes, oaep_relates, oaep_shortest};
 
-use crate::digest::{
-    Digest, Sha1, is_default_hash, is_default_mask_gen, mask_gen_ref, mgf1_with, read_hash,
+use crate::hash_fields::{
+    HashFields, Sha1, is_default_hash, is_default_mask_gen, mask_gen_ref, mgf1_with, read_hash,
     read_mask_gen, with_null,
 };
 use crate::error::{Error, Result};
 use crate::strict::is_written;
 use der_core::{
-    BackWriter, Contents, Decode, DecodeValue, Encode, EncodeValue, EqualByValue, Header, Kinded,
+    BackWriter, Contents, Decode, DecodeValue, Encode, EncodeValue, EqualByValue, Header, TaggedBy,
     Length, Memory, NoMemory, Reader, Sequence, SequenceTag, Tag, TagNumber, TryClone, Writer,
     joined_len,
 };
@@ -88,9 +88,9 @@ fn read_source<'a, P: Decode<&'a [u8], M> + AnyParams<M>, M: Memory, R: Reader<&
     memory: M,
     reader: &mut R,
 ) -> der_core::Result<AlgorithmIdentifier<P>>
-    ensures { let asks = AsksWithin (Tlv 48 (AsksWithin P.Decode.asks)) in
+    ensures { let may_allocate = AllocatesWithin (Tlv 48 (AllocatesWithin P.Decode.may_allocate)) in
         let value = algorithm_with P.any in
-        ReadsField 2 value PlainAlgorithm empty_label asks result (R.left reader.old) (R.left reader.new) }
+        ReadsField 2 value PlainAlgorithm empty_label may_allocate result (R.left reader.old) (R.left reader.new) }
 {
     if is_field_next(reader, TagNumber::new(2))? {
         read_explicit(memory, reader, TagNumber::new(2))
@@ -122,7 +122,7 @@ fn source_of<'a>(label: &'a [u8]) -> AlgorithmIdentifierRef<'a>
 }
 
 impl<P: AnyValue> Contents for RsaOaepParams<P> {
-    ghost use Rattle.pkcs1_params.specs.OaepParams.{oaep_with};
+    ghost use Rattle.pkcs1_params.specs.OaepValue.{oaep_with};
 
     ghost Value = { OaepParameters };
 
@@ -139,8 +139,8 @@ impl<P: AnyValue> Contents for RsaOaepParams<P> {
     ghost contents_of_bytes = { oaep_of_bytes };
 }
 
-impl<P> Kinded for RsaOaepParams<P> {
-    type Kind = SequenceTag;
+impl<P> TaggedBy for RsaOaepParams<P> {
+    type Marker = SequenceTag;
 }
 
 impl<'a, P> Sequence<'a> for RsaOaepParams<P> {
@@ -149,7 +149,7 @@ impl<'a, P> Sequence<'a> for RsaOaepParams<P> {
 
 impl<'a, M: Memory, P: Decode<&'a [u8], M> + AnyParams<M>> DecodeValue<&'a [u8], M>
     for RsaOaepParams<P> {
-    ghost asks = { AsksWithin P.Decode.asks };
+    ghost may_allocate = { AllocatesWithin P.Decode.may_allocate };
 
     #[inline(never)]
     fn decode_value<R: Reader<&'a [u8]>>(
@@ -175,7 +175,7 @@ impl<P: AnyValue> RsaOaepParams<P> {
     ghost use Rattle.pkcs1_params.specs.Meanings.{IsNotWritten};
     ghost use Rattle.spki_core.specs.Explicit.{Masked};
     ghost use Rattle.pkcs1_params.specs.Parameters as grammar;
-    ghost use Rattle.pkcs1_params.specs.OaepParams.{oaep_with, oaep_of};
+    ghost use Rattle.pkcs1_params.specs.OaepValue.{oaep_with, oaep_of};
     ghost use Rattle.pkcs1_params.specs.Refusals.{IsAsn1};
     ghost use Rattle.pkcs1_params.specs.Spellings.{HasTwoToTheDefaults};
 
@@ -239,7 +239,7 @@ impl<P: AnyValue> EncodeValue for RsaOaepParams<P> {
 }
 
 impl RsaOaepParams<AnyRef<'_>> {
-    ghost use Rattle.pkcs1_params.specs.OaepParams.{oaep_of};
+    ghost use Rattle.pkcs1_params.specs.OaepValue.{oaep_of};
 
     /// Which fields equal their defaults.
     pub(crate) fn defaults(&self) -> OaepLeftOut
@@ -252,16 +252,16 @@ impl RsaOaepParams<AnyRef<'_>> {
         }
     }
 
-    fn digest(&self, left_out: OaepLeftOut) -> Digest<'_>
+    fn hash_fields(&self, left_out: OaepLeftOut) -> HashFields<'_>
         ensures hash { result.hash.now ≡ self.now.hash }
         ensures mask_gen { result.mask_gen.now ≡ self.now.mask_gen }
-        ensures left_out { (result.hash_out ≡ left_out.hash) × (result.mask_out ≡ left_out.mask_gen) }
+        ensures left_out { (result.hash_left_out ≡ left_out.hash) × (result.mask_gen_left_out ≡ left_out.mask_gen) }
     {
-        Digest {
+        HashFields {
             hash: &self.hash,
-            hash_out: left_out.hash,
+            hash_left_out: left_out.hash,
             mask_gen: &self.mask_gen,
-            mask_out: left_out.mask_gen,
+            mask_gen_left_out: left_out.mask_gen,
         }
     }
 
@@ -270,7 +270,7 @@ impl RsaOaepParams<AnyRef<'_>> {
         ensures { Counts (HasOaep left_out (oaep_of self.now)) (written_oaep left_out (oaep_of self.now)) result }
     {
         joined_len(
-            self.digest(left_out).len(),
+            self.hash_fields(left_out).len(),
             field_len(left_out.p_source, TagNumber::new(2), &self.p_source),
         )
     }
@@ -287,7 +287,7 @@ impl RsaOaepParams<AnyRef<'_>> {
         ensures kept { W.keeps writer.old writer.new }
     {
         self.len_without(left_out)?;
-        self.digest(left_out).encode(writer)?;
+        self.hash_fields(left_out).encode(writer)?;
         encode_field(left_out.p_source, TagNumber::new(2), &self.p_source, writer)
     }
 
@@ -299,13 +299,13 @@ impl RsaOaepParams<AnyRef<'_>> {
         ensures { Prepends (written_oaep left_out (oaep_of self.now)) writer.old writer.new }
     {
         prepend_field(left_out.p_source, TagNumber::new(2), &self.p_source, writer);
-        self.digest(left_out).prepend(writer);
+        self.hash_fields(left_out).prepend(writer);
     }
 }
 
 impl<'a> RsaOaepParams<AnyRef<'a>> {
     ghost use Rattle.std.specs.Prelude.{true, false};
-    ghost use Rattle.pkcs1_params.specs.OaepParams.{oaep_of, LabelFits, NoLabelFits};
+    ghost use Rattle.pkcs1_params.specs.OaepValue.{oaep_of, LabelFits, NoLabelFits};
 
     /// The hash function D with NULL, MGF1 with the same, and the empty label.
     pub fn new<D: AssociatedOid>() -> RsaOaepParams<AnyRef<'a>>
@@ -365,15 +365,15 @@ fn labelled_len<D: AssociatedOid>(len: usize) -> der_core::Result<Length>
     ensures { (label : List ℕ) → AreBytes label → length label ≡ len → CountsLabelled D.contents label result }
 {
     let params = RsaOaepParamsRef::new::<D>();
-    let digest = params.digest(params.defaults()).len();
-    tagged_len(joined_len(digest, source_len(len)), Tag::SEQUENCE)
+    let hash_fields = params.hash_fields(params.defaults()).len();
+    tagged_len(joined_len(hash_fields, source_len(len)), Tag::SEQUENCE)
 }
 
 impl<P: AnyValue> EqualByValue for RsaOaepParams<P> {
     ghost use Rattle.spki_core.specs.AnyValues.{holds_decides};
     ghost use Rattle.pkcs1_params.specs.ParameterEquality.{oaep_decides};
-    ghost use Rattle.pkcs1_params.specs.OaepParams.{oaep_with};
-    ghost use Rattle.pkcs1_params.specs.DigestEquality.{plain_decides, mask_decides};
+    ghost use Rattle.pkcs1_params.specs.OaepValue.{oaep_with};
+    ghost use Rattle.pkcs1_params.specs.AlgorithmEquality.{plain_decides, mask_decides};
 
     ghost decides = { λ a b.
         oaep_decides (oaep_with P.any a) (oaep_with P.any b)
@@ -385,9 +385,9 @@ impl<P: AnyValue> EqualByValue for RsaOaepParams<P> {
 impl<P: AnyValue + TryClone> TryClone for RsaOaepParams<P> {
     ghost use Rattle.std.specs.Prelude.{IfSome};
 
-    ghost asks_nothing = { λ p. IfSome p.hash.parameters P.asks_nothing
-        × IfSome p.mask_gen.parameters (λ digest. IfSome digest.parameters P.asks_nothing)
-        × IfSome p.p_source.parameters P.asks_nothing };
+    ghost allocates_nothing = { λ p. IfSome p.hash.parameters P.allocates_nothing
+        × IfSome p.mask_gen.parameters (λ hash. IfSome hash.parameters P.allocates_nothing)
+        × IfSome p.p_source.parameters P.allocates_nothing };
 
     fn try_clone(&self, alloc: Global) -> der_core::Result<RsaOaepParams<P>> {
         Ok(RsaOaepParams {
@@ -399,8 +399,8 @@ impl<P: AnyValue + TryClone> TryClone for RsaOaepParams<P> {
 }
 
 impl RsaOaepParams<Any> {
-    ghost use Rattle.pkcs1_params.specs.OaepParams.{oaep_with};
-    ghost use Rattle.spki_core.specs.Anys.{any_in};
+    ghost use Rattle.pkcs1_params.specs.OaepValue.{oaep_with};
+    ghost use Rattle.spki_core.specs.OwnedAnyValue.{any_in};
 
     /// Every field at its default, without memory.
     pub fn default_in(alloc: Global) -> RsaOaepParams<Any>
@@ -415,7 +415,7 @@ impl RsaOaepParams<Any> {
 }
 
 impl<'a> Default for RsaOaepParams<AnyRef<'a>> {
-    ghost use Rattle.pkcs1_params.specs.OaepParams.{oaep_of};
+    ghost use Rattle.pkcs1_params.specs.OaepValue.{oaep_of};
 
     /// Every field at its default.
     fn default() -> RsaOaepParams<AnyRef<'a>>
@@ -430,7 +430,7 @@ impl<'a> RsaOaepParams<AnyRef<'a>> {
     ghost use Rattle.der_core.specs.Reading.{TellsOfBytes};
     ghost use Rattle.der_core.specs.Document.{Means, IsShortest};
     ghost use Rattle.pkcs1_params.specs.Parameters as grammar;
-    ghost use Rattle.pkcs1_params.specs.OaepParams.{oaep_of};
+    ghost use Rattle.pkcs1_params.specs.OaepValue.{oaep_of};
     ghost use Rattle.pkcs1_params.specs.Refusals.{IsAsn1};
     ghost use Rattle.spki_core.specs.StrictFields.{NamesDefault};
 
@@ -462,7 +462,7 @@ impl<'a> TryFrom<&'a [u8]> for RsaOaepParams<AnyRef<'a>> {
     ghost use Rattle.der_core.specs.Document.{Means};
     ghost use Rattle.pkcs1_params.specs.Meanings.{IsNoSentence, IsOnlyMeaning};
     ghost use Rattle.pkcs1_params.specs.Parameters as grammar;
-    ghost use Rattle.pkcs1_params.specs.OaepParams.{oaep_of};
+    ghost use Rattle.pkcs1_params.specs.OaepValue.{oaep_of};
     ghost use Rattle.pkcs1_params.specs.Refusals.{IsAsn1};
 
     type Error = Error;

@@ -3,7 +3,7 @@ ghost use Rattle.std.specs.Prelude.{◌≡◌, ◌≤◌, length, take, drop, On
 ghost use Rattle.pkcs1_params.specs.Defaults.{oaep_defaults as oaep_count};
 ghost use Rattle.pkcs1_params.specs.OaepLaws.{oaep_means_one, oaep_of_bytes};
 ghost use Rattle.pkcs1_params.specs.OaepMasks.{oaep_out, has_oaep_under, written_oaep_under};
-ghost use Rattle.pkcs1_params.specs.OaepParams.{oaep_of, oaep_with};
+ghost use Rattle.pkcs1_params.specs.OaepValue.{oaep_of, oaep_with};
 ghost use Rattle.pkcs1_params.specs.OaepWriting.{oaep_defaults};
 ghost use Rattle.pkcs1_params.specs.ParameterLaws.{oaep_in_order};
 ghost use Rattle.pkcs1_params.specs.ParameterMasks.{oaep_under_relates, oaep_under_least};

@@ -2,7 +2,7 @@
 ghost use Rattle.std.specs.Prelude.{◌≡◌, ◌≤◌, ◌+◌, ◌++◌, refl, length, OnOk, IfErr};
 ghost use Rattle.der_core.specs.Length.{limit};
 ghost use Rattle.der_core.specs.BackWriters.{free_of, Prepends};
-ghost use Rattle.der_core.specs.Reading.{AsksWithin};
+ghost use Rattle.der_core.specs.Reading.{AllocatesWithin};
 ghost use Rattle.der_core.specs.Writing.{Counts, Appends};
 ghost use Rattle.spki_core.specs.Any.{null_value};
 ghost use Rattle.spki_core.specs.Explicit.{HaveDefaults};
@@ -10,15 +10,15 @@ ghost use Rattle.pkcs1_params.specs.Parameters.{PssParameters, PssContents, pss_
 ghost use Rattle.pkcs1_params.specs.PssWriting.{pss_defaults, HasPss, written_pss};
 ghost use Rattle.pkcs1_params.specs.PssLaws.{pss_means_one, pss_of_bytes, pss_relates, pss_shortest};
 
-use crate::digest::{
-    Digest, Sha1, is_default_hash, is_default_mask_gen, mask_gen_ref, mgf1_with, read_hash,
+use crate::hash_fields::{
+    HashFields, Sha1, is_default_hash, is_default_mask_gen, mask_gen_ref, mgf1_with, read_hash,
     read_mask_gen, with_null,
 };
 use crate::error::{Error, Result};
 use crate::strict::is_written;
 use crate::trailer_field::TrailerField;
 use der_core::{
-    BackWriter, Contents, Decode, DecodeValue, Encode, EncodeValue, EqualByValue, Header, Kinded,
+    BackWriter, Contents, Decode, DecodeValue, Encode, EncodeValue, EqualByValue, Header, TaggedBy,
     Length, Memory, NoMemory, Reader, Sequence, SequenceTag, TagNumber, TryClone, Writer,
     joined_len,
 };
@@ -57,7 +57,7 @@ pub(crate) struct PssLeftOut {
 }
 
 impl<P: AnyValue> Contents for RsaPssParams<P> {
-    ghost use Rattle.pkcs1_params.specs.PssParams.{pss_with};
+    ghost use Rattle.pkcs1_params.specs.PssValue.{pss_with};
 
     ghost Value = { PssParameters };
 
@@ -74,8 +74,8 @@ impl<P: AnyValue> Contents for RsaPssParams<P> {
     ghost contents_of_bytes = { pss_of_bytes };
 }
 
-impl<P> Kinded for RsaPssParams<P> {
-    type Kind = SequenceTag;
+impl<P> TaggedBy for RsaPssParams<P> {
+    type Marker = SequenceTag;
 }
 
 impl<'a, P> Sequence<'a> for RsaPssParams<P> {
@@ -84,7 +84,7 @@ impl<'a, P> Sequence<'a> for RsaPssParams<P> {
 
 impl<'a, M: Memory, P: Decode<&'a [u8], M> + AnyParams<M>> DecodeValue<&'a [u8], M>
     for RsaPssParams<P> {
-    ghost asks = { AsksWithin P.Decode.asks };
+    ghost may_allocate = { AllocatesWithin P.Decode.may_allocate };
 
     #[inline(never)]
     fn decode_value<R: Reader<&'a [u8]>>(
@@ -117,7 +117,7 @@ impl<P: AnyValue> RsaPssParams<P> {
     ghost use Rattle.pkcs1_params.specs.Meanings.{IsNotWritten};
     ghost use Rattle.spki_core.specs.Explicit.{Masked};
     ghost use Rattle.pkcs1_params.specs.Parameters as grammar;
-    ghost use Rattle.pkcs1_params.specs.PssParams.{pss_with, pss_of};
+    ghost use Rattle.pkcs1_params.specs.PssValue.{pss_with, pss_of};
     ghost use Rattle.pkcs1_params.specs.Refusals.{IsAsn1};
     ghost use Rattle.pkcs1_params.specs.Spellings.{HasTwoToTheDefaults};
 
@@ -184,7 +184,7 @@ impl<P: AnyValue> EncodeValue for RsaPssParams<P> {
 }
 
 impl RsaPssParams<AnyRef<'_>> {
-    ghost use Rattle.pkcs1_params.specs.PssParams.{pss_of};
+    ghost use Rattle.pkcs1_params.specs.PssValue.{pss_of};
 
     /// Which fields equal their defaults.
     pub(crate) fn defaults(&self) -> PssLeftOut
@@ -198,16 +198,16 @@ impl RsaPssParams<AnyRef<'_>> {
         }
     }
 
-    fn digest(&self, left_out: PssLeftOut) -> Digest<'_>
+    fn hash_fields(&self, left_out: PssLeftOut) -> HashFields<'_>
         ensures hash { result.hash.now ≡ self.now.hash }
         ensures mask_gen { result.mask_gen.now ≡ self.now.mask_gen }
-        ensures left_out { (result.hash_out ≡ left_out.hash) × (result.mask_out ≡ left_out.mask_gen) }
+        ensures left_out { (result.hash_left_out ≡ left_out.hash) × (result.mask_gen_left_out ≡ left_out.mask_gen) }
     {
-        Digest {
+        HashFields {
             hash: &self.hash,
-            hash_out: left_out.hash,
+            hash_left_out: left_out.hash,
             mask_gen: &self.mask_gen,
-            mask_out: left_out.mask_gen,
+            mask_gen_left_out: left_out.mask_gen,
         }
     }
 
@@ -216,7 +216,7 @@ impl RsaPssParams<AnyRef<'_>> {
         ensures { Counts (HasPss left_out (pss_of self.now)) (written_pss left_out (pss_of self.now)) result }
     {
         joined_len(
-            self.digest(left_out).len(),
+            self.hash_fields(left_out).len(),
             joined_len(
                 field_len(left_out.salt_len, TagNumber::new(2), &self.salt_len),
                 field_len(
@@ -240,7 +240,7 @@ impl RsaPssParams<AnyRef<'_>> {
         ensures kept { W.keeps writer.old writer.new }
     {
         self.len_without(left_out)?;
-        self.digest(left_out).encode(writer)?;
+        self.hash_fields(left_out).encode(writer)?;
         encode_field(left_out.salt_len, TagNumber::new(2), &self.salt_len, writer)?;
         encode_field(
             left_out.trailer_field,
@@ -264,12 +264,12 @@ impl RsaPssParams<AnyRef<'_>> {
             writer,
         );
         prepend_field(left_out.salt_len, TagNumber::new(2), &self.salt_len, writer);
-        self.digest(left_out).prepend(writer);
+        self.hash_fields(left_out).prepend(writer);
     }
 }
 
 impl<'a> RsaPssParams<AnyRef<'a>> {
-    ghost use Rattle.pkcs1_params.specs.PssParams.{pss_of};
+    ghost use Rattle.pkcs1_params.specs.PssValue.{pss_of};
 
     /// The default length of the salt, in octets: that of a hash of SHA-1.
     pub const SALT_LEN_DEFAULT: u8 = 20;
@@ -294,7 +294,7 @@ impl<'a> RsaPssParams<AnyRef<'a>> {
     ghost use Rattle.der_core.specs.Reading.{TellsOfBytes};
     ghost use Rattle.der_core.specs.Document.{Means, IsShortest};
     ghost use Rattle.pkcs1_params.specs.Parameters as grammar;
-    ghost use Rattle.pkcs1_params.specs.PssParams.{pss_of};
+    ghost use Rattle.pkcs1_params.specs.PssValue.{pss_of};
     ghost use Rattle.pkcs1_params.specs.Refusals.{IsAsn1};
     ghost use Rattle.spki_core.specs.StrictFields.{NamesDefault};
 
@@ -328,8 +328,8 @@ impl<'a> RsaPssParams<AnyRef<'a>> {
 impl<P: AnyValue> EqualByValue for RsaPssParams<P> {
     ghost use Rattle.spki_core.specs.AnyValues.{holds_decides};
     ghost use Rattle.pkcs1_params.specs.ParameterEquality.{pss_decides};
-    ghost use Rattle.pkcs1_params.specs.PssParams.{pss_with};
-    ghost use Rattle.pkcs1_params.specs.DigestEquality.{plain_decides, mask_decides};
+    ghost use Rattle.pkcs1_params.specs.PssValue.{pss_with};
+    ghost use Rattle.pkcs1_params.specs.AlgorithmEquality.{plain_decides, mask_decides};
 
     ghost decides = { λ a b.
         pss_decides (pss_with P.any a) (pss_with P.any b)
@@ -340,8 +340,8 @@ impl<P: AnyValue> EqualByValue for RsaPssParams<P> {
 impl<P: AnyValue + TryClone> TryClone for RsaPssParams<P> {
     ghost use Rattle.std.specs.Prelude.{IfSome};
 
-    ghost asks_nothing = { λ p. IfSome p.hash.parameters P.asks_nothing
-        × IfSome p.mask_gen.parameters (λ digest. IfSome digest.parameters P.asks_nothing) };
+    ghost allocates_nothing = { λ p. IfSome p.hash.parameters P.allocates_nothing
+        × IfSome p.mask_gen.parameters (λ hash. IfSome hash.parameters P.allocates_nothing) };
 
     fn try_clone(&self, alloc: Global) -> der_core::Result<RsaPssParams<P>> {
         Ok(RsaPssParams {
@@ -354,8 +354,8 @@ impl<P: AnyValue + TryClone> TryClone for RsaPssParams<P> {
 }
 
 impl RsaPssParams<Any> {
-    ghost use Rattle.pkcs1_params.specs.PssParams.{pss_with};
-    ghost use Rattle.spki_core.specs.Anys.{any_in};
+    ghost use Rattle.pkcs1_params.specs.PssValue.{pss_with};
+    ghost use Rattle.spki_core.specs.OwnedAnyValue.{any_in};
 
     /// Every field at its default, without memory.
     pub fn default_in(alloc: Global) -> RsaPssParams<Any>
@@ -372,7 +372,7 @@ impl RsaPssParams<Any> {
 }
 
 impl<'a> Default for RsaPssParams<AnyRef<'a>> {
-    ghost use Rattle.pkcs1_params.specs.PssParams.{pss_of};
+    ghost use Rattle.pkcs1_params.specs.PssValue.{pss_of};
 
     /// Every field at its default.
     fn default() -> RsaPssParams<AnyRef<'a>>
@@ -388,7 +388,7 @@ impl<'a> TryFrom<&'a [u8]> for RsaPssParams<AnyRef<'a>> {
     ghost use Rattle.der_core.specs.Document.{Means};
     ghost use Rattle.pkcs1_params.specs.Meanings.{IsNoSentence, IsOnlyMeaning};
     ghost use Rattle.pkcs1_params.specs.Parameters as grammar;
-    ghost use Rattle.pkcs1_params.specs.PssParams.{pss_of};
+    ghost use Rattle.pkcs1_params.specs.PssValue.{pss_of};
     ghost use Rattle.pkcs1_params.specs.Refusals.{IsAsn1};
 
     type Error = Error;

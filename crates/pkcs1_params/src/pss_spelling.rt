@@ -3,7 +3,7 @@ ghost use Rattle.std.specs.Prelude.{◌≡◌, ◌≤◌, length, take, drop, On
 ghost use Rattle.pkcs1_params.specs.Defaults.{pss_defaults as pss_count};
 ghost use Rattle.pkcs1_params.specs.PssLaws.{pss_means_one, pss_of_bytes};
 ghost use Rattle.pkcs1_params.specs.PssMasks.{pss_out, has_pss_under, written_pss_under};
-ghost use Rattle.pkcs1_params.specs.PssParams.{pss_of, pss_with};
+ghost use Rattle.pkcs1_params.specs.PssValue.{pss_of, pss_with};
 ghost use Rattle.pkcs1_params.specs.PssWriting.{pss_defaults};
 ghost use Rattle.pkcs1_params.specs.ParameterLaws.{pss_in_order};
 ghost use Rattle.pkcs1_params.specs.ParameterMasks.{pss_under_relates, pss_under_least};

@@ -13,7 +13,7 @@ ghost use Rattle.pkcs1_params.specs.MaskedValues.{MaskedValue, InRange, FieldCon
 
 use crate::error::Result;
 use der_core::{
-    BackWriter, Contents, Encode, EncodeValue, ErrorKind, Kinded, Length, SequenceTag, Writer,
+    BackWriter, Contents, Encode, EncodeValue, ErrorKind, TaggedBy, Length, SequenceTag, Writer,
     write_over,
 };
 use std::alloc::Global;
@@ -113,8 +113,8 @@ impl<T: DefaultFields> Contents for Spelling<T> {
     ghost contents_of_bytes = { masked_of_bytes T.fields T.fields_of_bytes };
 }
 
-impl<T: DefaultFields> Kinded for Spelling<T> {
-    type Kind = SequenceTag;
+impl<T: DefaultFields> TaggedBy for Spelling<T> {
+    type Marker = SequenceTag;
 }
 
 impl<T: DefaultFields> EncodeValue for Spelling<T> {

@@ -9,7 +9,7 @@ ghost use Rattle.pkcs1_params.specs.TrailerLaws.{trailer_means_one, trailer_of_b
 
 use der_core::{
     BackWriter, Contents, DecodeValue, EncodeValue, EqualByValue, ErrorKind, Header, IntegerTag,
-    Kinded, Length, Memory, Reader, Result, Tag, Writer,
+    TaggedBy, Length, Memory, Reader, Result, Tag, Writer,
 };
 
 /// The trailer field: the one that is known (RFC 8017 A.2.3).
@@ -41,8 +41,8 @@ impl Contents for TrailerField {
     ghost contents_of_bytes = { trailer_of_bytes };
 }
 
-impl Kinded for TrailerField {
-    type Kind = IntegerTag;
+impl TaggedBy for TrailerField {
+    type Marker = IntegerTag;
 }
 
 impl EqualByValue for TrailerField {
@@ -50,7 +50,7 @@ impl EqualByValue for TrailerField {
 }
 
 impl<'a, M: Memory> DecodeValue<&'a [u8], M> for TrailerField {
-    ghost asks = { λ _. ⊥ };
+    ghost may_allocate = { λ _. ⊥ };
 
     fn decode_value<R: Reader<&'a [u8]>>(
         memory: M,

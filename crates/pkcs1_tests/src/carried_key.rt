@@ -1,7 +1,7 @@
 //! A key type of a caller's own: the traits of keys can be implemented outside. And keys in files.
 ghost use Rattle.std.specs.Prelude.{◌≡◌, List, ℕ, IfOk, IfErr};
 ghost use Rattle.der_core.specs.Document.{IsDocument};
-ghost use Rattle.der_core.specs.Documents.{secret_text_of};
+ghost use Rattle.der_core.specs.DocumentValue.{secret_text_of};
 ghost use Rattle.der_core.specs.Reading.{Refuses};
 ghost use Rattle.der_core.specs.declared.error.ErrorKind.TheVariants.{OutOfMemory};
 ghost use Rattle.pkcs1_params.specs.Refusals.{IsAsn1};

@@ -1,7 +1,7 @@
-pub mod Cuts
+pub mod CutAtByte
 pub mod Requests
-pub mod Only
+pub mod OneAnswer
 pub mod Runs
-pub mod Put
+pub mod PutBehind
 pub mod Verdicts
 pub mod Spelled

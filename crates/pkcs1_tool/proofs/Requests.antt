@@ -5,7 +5,7 @@ use Rattle.std.specs.Option.{option_map_or}
 use Rattle.std.specs.Borrow.{Bor}
 use Rattle.pkcs1_tool.specs.Lines.{parts_of}
 use Rattle.pkcs1_tool.specs.Request.{bad_line, asked_by, asked_by_parts}
-use Rattle.pkcs1_tool.proofs.Cuts.{parts_of-some}
+use Rattle.pkcs1_tool.proofs.CutAtByte.{parts_of-some}
 
 -- four parts are too many
 asked_by_parts-many : (word first second : List ℕ) (parts : List (List ℕ)) → 0 < length parts → asked_by_parts (word ∷ first ∷ second ∷ parts) ≡ bad_line

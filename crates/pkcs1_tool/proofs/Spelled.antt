@@ -13,7 +13,7 @@ use Rattle.spki_core.specs.Explicit.{Field, HaveDefaults}
 use Rattle.pkcs1_params.specs.Spellings.{AllFit, AreAllSpellings, AreUnder, EachMaskHasOne}
 use Rattle.pkcs1_tool.specs.Answer.{HasNone, TellsSpellings}
 use Rattle.pkcs1_tool.specs.Told.{field, number_field, spell_answer}
-use Rattle.pkcs1_tool.proofs.Put.{three}
+use Rattle.pkcs1_tool.proofs.PutBehind.{three}
 
 module _ {V : Type 0} (Grammar : V → List ℕ → Type 0) (fields : V → List Field) (word text : List ℕ) (v : V) (means : Means Grammar text v) where
   -- a value with a text past the limit

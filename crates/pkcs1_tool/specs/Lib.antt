@@ -1,6 +1,6 @@
 pub mod Lines
 pub mod Request
-pub mod Seen
+pub mod RequestValue
 pub mod Refused
 pub mod Told
 pub mod Answer

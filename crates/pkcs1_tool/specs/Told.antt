@@ -98,8 +98,8 @@ abbrev pub mask_told : Algorithm (Algorithm TagAndContents) → List ℕ
 mask_told mask_gen = algorithm_told bracketed mask_gen
 
 -- ` hash=ALG mask=MASK`
-abbrev pub digest_told : Algorithm TagAndContents → Algorithm (Algorithm TagAndContents) → List ℕ
-digest_told hash mask_gen = codes " hash=" ++ (plain_told hash ++ (codes " mask=" ++ mask_told mask_gen))
+abbrev pub hash_fields_told : Algorithm TagAndContents → Algorithm (Algorithm TagAndContents) → List ℕ
+hash_fields_told hash mask_gen = codes " hash=" ++ (plain_told hash ++ (codes " mask=" ++ mask_told mask_gen))
 
 -- ` defaults=K again=HEX`
 abbrev pub spelling_told : ℕ → List ℕ → List ℕ
@@ -109,7 +109,7 @@ spelling_told k again = number_field (codes " defaults=") k ++ field (codes " ag
 abbrev pub pss_answer : PssParameters → ℕ → List ℕ → List ℕ
 pss_answer p k again =
     codes "pss"
-    ++ (digest_told p.hash p.mask_gen
+    ++ (hash_fields_told p.hash p.mask_gen
     ++ (number_field (codes " salt=") p.salt_len ++ (number_field (codes " trailer=") p.trailer_field ++ spelling_told k again)))
 
 -- the word, how many texts there are, and each text
@@ -119,4 +119,4 @@ spell_answer word texts = word ++ (number_field (codes " ") (length texts) ++ fl
 -- `oaep hash=ALG mask=MASK source=ALG defaults=K again=HEX`
 abbrev pub oaep_answer : OaepParameters → ℕ → List ℕ → List ℕ
 oaep_answer p k again =
-    codes "oaep" ++ (digest_told p.hash p.mask_gen ++ (codes " source=" ++ (plain_told p.p_source ++ spelling_told k again)))
+    codes "oaep" ++ (hash_fields_told p.hash p.mask_gen ++ (codes " source=" ++ (plain_told p.p_source ++ spelling_told k again)))

@@ -1,7 +1,7 @@
 -- What was written of the answers.
 use Rattle.std.specs.Prelude.{◌≡◌, ℕ, List, ◌++◌, Option}
 use Rattle.std.specs.Io.KnownBytes.{Appends}
-use Rattle.der_core.specs.Outside.{AppendsFront}
+use Rattle.der_core.specs.SourcesSinks.{AppendsFront}
 use Rattle.pkcs1_tool.specs.Answer.{Answer, Answers}
 
 -- Bytes that the fact holds of were put behind the others.

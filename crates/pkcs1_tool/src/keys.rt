@@ -2,10 +2,10 @@
 ghost use Rattle.std.specs.Prelude.{◌≡◌, ℕ, List, ◌++◌, OnOk, IfSome, IfNone};
 ghost use Rattle.std.specs.List.{flat_map};
 ghost use Rattle.der_core.specs.Document.{Means};
-ghost use Rattle.der_core.specs.UintRefs.{bytes_of};
+ghost use Rattle.der_core.specs.UintRefValue.{bytes_of};
 ghost use Rattle.pkcs1.specs.Keys.{RsaPublicKey, RsaPrivateKey};
-ghost use Rattle.pkcs1.specs.PublicKeys.{key_of};
-ghost use Rattle.pkcs1.specs.PrivateKeys.{other_of};
+ghost use Rattle.pkcs1.specs.PublicKeyValue.{public_key_of};
+ghost use Rattle.pkcs1.specs.PrivateKeyValue.{other_of};
 ghost use Rattle.pkcs1.specs.ViewParts.{view_of, viewed_text};
 ghost use Rattle.pkcs8_core.specs.Held.{info_of};
 ghost use Rattle.pkcs1_tool.specs.Answer.{HasNone, Tells, RsaPrivateKeyInfo, TellsContainer};
@@ -31,7 +31,7 @@ fn put_numbers(numbers: &[(&[u8], UintRef<'_>)], out: &mut Vec<u8>) -> Result<()
 
 /// Puts the answer of a public key with its text again behind `out`.
 fn put_pub(key: &RsaPublicKeyRef<'_>, again: &[u8], out: &mut Vec<u8>) -> Result<(), AllocError>
-    ensures { OnOk result (out.new.items ≡ out.old.items ++ pub_answer (key_of key.now) again.now) }
+    ensures { OnOk result (out.new.items ≡ out.old.items ++ pub_answer (public_key_of key.now) again.now) }
 {
     out.extend_from_slice(b"pub")?;
     put_numbers(&[(b" n=", key.modulus), (b" e=", key.public_exponent)], out)?;

@@ -2,19 +2,19 @@
 ghost use Rattle.std.specs.Prelude.{◌≡◌, ℕ, List, ◌++◌, ◌↔◌, IsTrue, OnOk, IfOk, IfSome, IfNone, IsErrAnd};
 ghost use Rattle.der_core.specs.Document.{Means, IsShortest};
 ghost use Rattle.der_core.specs.Texts.{IsDelimited};
-ghost use Rattle.spki_core.specs.AnyRefs.{any_of};
-ghost use Rattle.spki_core.specs.AlgorithmRefs.{algorithm_of, mask_of};
+ghost use Rattle.spki_core.specs.AnyRefValue.{any_of};
+ghost use Rattle.spki_core.specs.AlgorithmValue.{algorithm_of, mask_of};
 ghost use Rattle.spki_core.specs.Explicit.{Field, HaveDefaults};
-ghost use Rattle.spki_core.specs.ObjectIdentifiers.{octets_of};
+ghost use Rattle.spki_core.specs.ObjectIdentifierValue.{octets_of};
 ghost use Rattle.pkcs1_params.specs.Parameters.{PssParameters, RsaPssParams, pss_fields, OaepParameters, RsaOaepParams, oaep_fields};
 ghost use Rattle.pkcs1_params.specs.Defaults.{pss_defaults, oaep_defaults};
 ghost use Rattle.pkcs1_params.specs.ParameterLaws.{pss_delimited, oaep_delimited};
-ghost use Rattle.pkcs1_params.specs.PssParams.{pss_of};
-ghost use Rattle.pkcs1_params.specs.OaepParams.{oaep_of};
+ghost use Rattle.pkcs1_params.specs.PssValue.{pss_of};
+ghost use Rattle.pkcs1_params.specs.OaepValue.{oaep_of};
 ghost use Rattle.pkcs1_params.specs.Spellings.{AllFit, AreAllSpellings, texts_in};
 ghost use Rattle.pkcs1_tool.specs.Refused.{WantsMemory};
 ghost use Rattle.pkcs1_tool.specs.Answer.{HasNone};
-ghost use Rattle.pkcs1_tool.specs.Told.{any_told, identifier_told, plain_told, bracketed, mask_told, digest_told, spelling_told, pss_answer, oaep_answer};
+ghost use Rattle.pkcs1_tool.specs.Told.{any_told, identifier_told, plain_told, bracketed, mask_told, hash_fields_told, spelling_told, pss_answer, oaep_answer};
 
 use crate::digits::{put_field, put_hex, put_number};
 use der_core::{Encode, ErrorKind};
@@ -158,12 +158,12 @@ fn put_mask(mask_gen: &MaskGenRef<'_>, out: &mut Vec<u8>) -> Result<(), AllocErr
 }
 
 /// Puts the hash function and the mask generation function behind `out`.
-fn put_digest(
+fn put_hash_fields(
     hash: &AlgorithmIdentifierRef<'_>,
     mask_gen: &MaskGenRef<'_>,
     out: &mut Vec<u8>,
 ) -> Result<(), AllocError>
-    ensures { let told = digest_told (algorithm_of hash.now) (mask_of mask_gen.now) in
+    ensures { let told = hash_fields_told (algorithm_of hash.now) (mask_of mask_gen.now) in
         OnOk result (out.new.items ≡ out.old.items ++ told) }
 {
     out.extend_from_slice(b" hash=")?;
@@ -190,7 +190,7 @@ fn put_pss(
     ensures { OnOk result (out.new.items ≡ out.old.items ++ pss_answer (pss_of params.now) defaults again.now) }
 {
     out.extend_from_slice(b"pss")?;
-    put_digest(&params.hash, &params.mask_gen, out)?;
+    put_hash_fields(&params.hash, &params.mask_gen, out)?;
     put_number(b" salt=", usize::from(params.salt_len), out)?;
     put_number(b" trailer=", params.trailer_field as usize, out)?;
     put_spelling(defaults, again, out)
@@ -206,7 +206,7 @@ fn put_oaep(
     ensures { OnOk result (out.new.items ≡ out.old.items ++ oaep_answer (oaep_of params.now) defaults again.now) }
 {
     out.extend_from_slice(b"oaep")?;
-    put_digest(&params.hash, &params.mask_gen, out)?;
+    put_hash_fields(&params.hash, &params.mask_gen, out)?;
     out.extend_from_slice(b" source=")?;
     put_plain(&params.p_source, out)?;
     put_spelling(defaults, again, out)

@@ -2,7 +2,7 @@
 ghost use Rattle.std.specs.Prelude.{◌≡◌, IfOk, map};
 ghost use Rattle.std.specs.Option.{option_map};
 ghost use Rattle.pkcs1_tool.specs.Request.{asked_by, asked_with, named, pair_asked_with, pair_words, text_of, words};
-ghost use Rattle.pkcs1_tool.specs.Seen.{seen};
+ghost use Rattle.pkcs1_tool.specs.RequestValue.{seen};
 
 use crate::lines::split_part;
 use hex::FromHexError;

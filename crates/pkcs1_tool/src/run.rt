@@ -1,7 +1,7 @@
 //! Lines in, answers out.
 ghost use Rattle.std.specs.Prelude.{◌≡◌, ◌≤◌, ◌⊎◌, ℕ, List, length, IfSome, IfOk, OnOk, OnErr, IsErrOf, vec_len};
 ghost use Rattle.std.specs.Io.KnownBytes.{Appends, Keeps, IsAtEnd};
-ghost use Rattle.der_core.specs.Outside.{AppendsFront, GivesAll, GivesMore, SomeRefused};
+ghost use Rattle.der_core.specs.SourcesSinks.{AppendsFront, GivesAll, GivesMore, SomeRefused};
 ghost use Rattle.der_core.specs.Texts.{AtMostOne};
 ghost use Rattle.pkcs1_tool.specs.Answer.{Answer, Output};
 ghost use Rattle.pkcs1_tool.specs.Lines.{lines_of};

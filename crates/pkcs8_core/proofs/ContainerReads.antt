@@ -8,11 +8,11 @@ use Rattle.der_core.specs.Expected.{Expected, expected_delimited, expected_fails
 use Rattle.der_core.specs.OctetString.{OctetString}
 use Rattle.der_core.specs.OctetStringLaws.{octet_string_delimited}
 use Rattle.der_core.specs.Optional.{Optional}
-use Rattle.der_core.specs.Reading.{Refuses, AsksWithin}
+use Rattle.der_core.specs.Reading.{Refuses, AllocatesWithin}
 use Rattle.der_core.specs.Texts.{Joins}
 use Rattle.der_core.specs.Tlv.{Tlv}
 use Rattle.der_core.specs.Sequences.{TextFails, TextGives, ContentsFail, first_fails, rest_fails}
-use Rattle.der_core.specs.LastParts.{as_last, asks_more}
+use Rattle.der_core.specs.LastParts.{as_last, allocates_more}
 use Rattle.spki_core.specs.AlgorithmIdentifier.{Algorithm, PlainAlgorithm}
 use Rattle.spki_core.specs.AlgorithmLaws.{plain_delimited}
 use Rattle.spki_core.specs.Any.{TagAndContents}
@@ -26,7 +26,7 @@ abbrev pub Never : List ℕ → Type 0
 Never b = ⊥
 
 pub version_fails : (before after : Input) (e : ErrorKind) → TextFails Small (Tlv 2 (λ _. ⊥)) e before after → TextFails VersionText Never e before after
-version_fails before after e f = asks_more VersionText (Tlv 2 (λ _. ⊥)) Never (λ b w. w.holds) before after e (expected_fails Small small_delimited 0 (Tlv 2 (λ _. ⊥)) before after e f)
+version_fails before after e f = allocates_more VersionText (Tlv 2 (λ _. ⊥)) Never (λ b w. w.holds) before after e (expected_fails Small small_delimited 0 (Tlv 2 (λ _. ⊥)) before after e f)
 
 abbrev behind_version : Info → List ℕ → Type 0
 behind_version info c = Joins (PlainAlgorithm info.algorithm ∷ OctetString info.private_key ∷ Optional AttributesText info.attributes ∷ []) c
@@ -51,11 +51,11 @@ behind : (before mid after : Input) (e : ErrorKind) → TextGives VersionText tt
 behind before mid after e gives f =
     nothing_asked before after e (rest_fails (Unit {0}) VersionText Info (λ _. tt) behind_version Never (expected_delimited Small small_delimited 0) before mid after e tt gives f)
 
-pub at_algorithm : (before mid after : Input) (e : ErrorKind) → TextGives VersionText tt before mid → TextFails PlainAlgorithm (Tlv 48 (AsksWithin (λ _. ⊥))) e mid after → InfoFails e before after
+pub at_algorithm : (before mid after : Input) (e : ErrorKind) → TextGives VersionText tt before mid → TextFails PlainAlgorithm (Tlv 48 (AllocatesWithin (λ _. ⊥))) e mid after → InfoFails e before after
 at_algorithm before mid after e gives f =
     behind before mid after e gives
     (first_fails (Algorithm TagAndContents) PlainAlgorithm Info (λ i. i.algorithm) behind_algorithm Never mid after e
-    (asks_more PlainAlgorithm (Tlv 48 (AsksWithin (λ _. ⊥))) Never (λ b w. w.holds.4) mid after e f))
+    (allocates_more PlainAlgorithm (Tlv 48 (AllocatesWithin (λ _. ⊥))) Never (λ b w. w.holds.4) mid after e f))
 
 behind_two : (before one mid after : Input) (e : ErrorKind) (a : Algorithm TagAndContents) → TextGives VersionText tt before one → TextGives PlainAlgorithm a one mid
     → ContentsFail behind_algorithm Never e mid after → InfoFails e before after
@@ -68,7 +68,7 @@ pub at_key : (before one mid after : Input) (e : ErrorKind) (a : Algorithm TagAn
 at_key before one mid after e a gives algorithm f =
     behind_two before one mid after e a gives algorithm
     (first_fails (List ℕ) OctetString Info (λ i. i.private_key) behind_key Never mid after e
-    (asks_more OctetString (Tlv 4 (λ _. ⊥)) Never (λ b w. w.holds) mid after e f))
+    (allocates_more OctetString (Tlv 4 (λ _. ⊥)) Never (λ b w. w.holds) mid after e f))
 
 pub at_attributes : (before one two mid after : Input) (e : ErrorKind) (a : Algorithm TagAndContents) (k : List ℕ) → TextGives VersionText tt before one → TextGives PlainAlgorithm a one two → TextGives OctetString k two mid
     → (after ≡ None) × ((c : List ℕ) → mid ≡ Some c → Refuses e ⊥ ((o : Option (List ℕ)) → Optional AttributesText o c → ⊥)) → InfoFails e before after

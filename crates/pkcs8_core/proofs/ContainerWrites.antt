@@ -2,12 +2,12 @@
 use Rattle.std.proofs.Common.{◌≡◌, ℕ, List, [], ◌∷◌, ◌++◌, ◌<◌, ◌≤◌, ◌+◌, ◌^◌, length, length-append, take, arith, Option, Some, None}
 use Rattle.std.specs.Prelude.{Result, Ok, Err, IfOk, IfErr}
 use Rattle.std.specs.Option.{option_map}
-use Rattle.der_core.specs.Document.{Means, HasText, IsAlone, IsShortest, IsRefused, Fault, no_text, too_long, no_room, another}
+use Rattle.der_core.specs.Document.{Means, HasText, IsAlone, IsShortest, IsRefused, EncodeRefusal, no_text, too_long, no_room, another}
 use Rattle.der_core.specs.Integer.{Small}
 use Rattle.der_core.specs.OctetString.{OctetContents, OctetString}
 use Rattle.der_core.specs.OctetStringLaws.{octets_at_most_one, octet_string_at_most_one}
-use Rattle.der_core.specs.OctetStringRefs.{octets_of, octets_held}
-use Rattle.spki_core.specs.AlgorithmRefs.{algorithm_of}
+use Rattle.der_core.specs.OctetStringRefValue.{octets_of, octets_held}
+use Rattle.spki_core.specs.AlgorithmValue.{algorithm_of}
 use Rattle.spki_core.specs.Held.{plain_held, plain_short}
 use Rattle.pkcs8_core.specs.declared.info.PrivateKeyInfoRef.{PrivateKeyInfoRef}
 use Rattle.der_core.specs.Optional.{Optional, HasOptional, written_optional}
@@ -24,7 +24,7 @@ use Rattle.der_core.specs.ShortTexts.{tlv_short}
 use Rattle.der_core.specs.Fronts.{front_is}
 use Rattle.der_core.specs.InputLaws.{are_bytes}
 use Rattle.der_core.specs.Length.{limit}
-use Rattle.der_core.specs.Writing.{fault}
+use Rattle.der_core.specs.Writing.{encode_refusal}
 use Rattle.der_core.specs.Tlv.{tlv}
 use Rattle.der_core.specs.Integer.{integer_contents}
 use Rattle.der_core.specs.declared.error.Error.{Error}
@@ -48,16 +48,16 @@ info_at_most_one info =
 pub has_text : (info : Info) → HasInfo info → length (written_info info) < 2 ^ 128 → HasText PrivateKeyInfo info
 has_text info has few = let made = tlv_made 48 (InfoContents info) (written_info info) (info_relates info has few) few in (made.0, made.1)
 
-pub unwritten : (has : Type 0) (info : Info) (room : ℕ) → HasText PrivateKeyInfo info → (k : Fault) → IsRefused has PrivateKeyInfo info room k → IsUnwritten info room k
+pub unwritten : (has : Type 0) (info : Info) (room : ℕ) → HasText PrivateKeyInfo info → (k : EncodeRefusal) → IsRefused has PrivateKeyInfo info room k → IsUnwritten info room k
 unwritten has info room some no_text h = h some.0 some.1
 unwritten has info room some too_long h = h.1
 unwritten has info room some no_room h = (h.0, h.1.spells, h.2)
 unwritten has info room some another h = h
 
-pub if_unwritten : {A : Type 0} (has : Type 0) (info : Info) (room : ℕ) → HasText PrivateKeyInfo info → (r : Result A Error) → IfErr r (λ e. IsRefused has PrivateKeyInfo info room (fault e.kind))
-    → IfErr r (λ e. IsUnwritten info room (fault e.kind))
+pub if_unwritten : {A : Type 0} (has : Type 0) (info : Info) (room : ℕ) → HasText PrivateKeyInfo info → (r : Result A Error) → IfErr r (λ e. IsRefused has PrivateKeyInfo info room (encode_refusal e.kind))
+    → IfErr r (λ e. IsUnwritten info room (encode_refusal e.kind))
 if_unwritten has info room some (Ok x) h = tt
-if_unwritten has info room some (Err e) h = unwritten has info room some (fault e.kind) h
+if_unwritten has info room some (Err e) h = unwritten has info room some (encode_refusal e.kind) h
 
 pub alone : (info : Info) (r : Result ℕ Error) (text old new : List ℕ) → IfOk r (λ n. (n ≡ length text) × (new ≡ text ++ drop n old)) → OnOk r (IsShortest PrivateKeyInfo info text)
     → IfOk r (λ n. Means PrivateKeyInfo (take n new) info × IsAlone PrivateKeyInfo info (take n new))

@@ -3,7 +3,7 @@ use Rattle.std.proofs.Common.{◌≡◌, ℕ, List, ⊎_elim, inl, inr}
 use Rattle.std.specs.Prelude.{Result, Ok, Err, IfOk, IfErr, OnErr}
 use Rattle.der_core.specs.Document.{Means}
 use Rattle.der_core.specs.Reading.{Refuses}
-use Rattle.pkcs1.specs.Asking.{MayAsk}
+use Rattle.pkcs1.specs.Allocating.{MayAllocate}
 use Rattle.pkcs1.specs.Keys.{PrivateKey, RsaPrivateKey}
 use Rattle.pkcs1_params.specs.Refusals.{IsAsn1}
 use Rattle.pkcs1_params.specs.declared.error.Error.{Error}
@@ -21,8 +21,8 @@ module _ {X : Type 0} (value : X → PrivateKey (List ℕ)) (info : Info) (q : L
   none_held (Ok x) f = tt
   none_held (Err e) f = λ key h. f key (rw same h.1)
 
-  pub refused_held : (r : Result X Error) → IfErr r (IsAsn1 (λ e. Refuses e.kind (MayAsk q) ((key : PrivateKey (List ℕ)) → Means RsaPrivateKey q key → ⊥)))
-      → IfErr r (IsAsn1 (λ e. Refuses e.kind (MayAsk info.private_key) ((key : PrivateKey (List ℕ)) → HoldsRsa info key → ⊥)))
+  pub refused_held : (r : Result X Error) → IfErr r (IsAsn1 (λ e. Refuses e.kind (MayAllocate q) ((key : PrivateKey (List ℕ)) → Means RsaPrivateKey q key → ⊥)))
+      → IfErr r (IsAsn1 (λ e. Refuses e.kind (MayAllocate info.private_key) ((key : PrivateKey (List ℕ)) → HoldsRsa info key → ⊥)))
   refused_held (Ok x) f = tt
   refused_held (Err (error.Asn1 e)) f = ⊎_elim (λ w. inl (w.0, rw (← same) w.1)) (λ w. inr (w.0, λ key h. w.1 key (rw same h.1))) f
   refused_held (Err error.Crypto) f = f

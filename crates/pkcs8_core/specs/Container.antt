@@ -1,6 +1,6 @@
 -- PrivateKeyInfo (RFC 5208 5).
 use Rattle.std.specs.Prelude.{ℕ, List, [], ◌∷◌, ◌++◌, ◌<◌, length, Option}
-use Rattle.der_core.specs.Document.{Means, Fault, no_text, too_long, no_room, another}
+use Rattle.der_core.specs.Document.{Means, EncodeRefusal, no_text, too_long, no_room, another}
 use Rattle.der_core.specs.Integer.{Small, integer_contents}
 use Rattle.der_core.specs.OctetString.{OctetContents, OctetString}
 use Rattle.der_core.specs.Optional.{Optional, HasOptional, written_optional}
@@ -35,7 +35,7 @@ written_info info =
     tlv 2 (integer_contents (0 ∷ [])) ++ (written_plain info.algorithm ++ (tlv 4 info.private_key ++ written_optional (λ octets. tlv 160 octets) info.attributes))
 
 -- Why a container isn't written: it has no text within the limit, or its text has no room.
-abbrev pub IsUnwritten : Info → ℕ → Fault → Type 0
+abbrev pub IsUnwritten : Info → ℕ → EncodeRefusal → Type 0
 IsUnwritten info room no_text = ⊥
 IsUnwritten info room too_long = (text : List ℕ) → Means PrivateKeyInfo text info → ⊥
 IsUnwritten info room no_room = (text : List ℕ) × Means PrivateKeyInfo text info × (room < length text)

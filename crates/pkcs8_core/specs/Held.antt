@@ -2,8 +2,8 @@
 use Rattle.std.specs.Prelude.{ℕ, List}
 use Rattle.std.specs.Borrow.{Bor}
 use Rattle.std.specs.Option.{option_map}
-use Rattle.der_core.specs.OctetStringRefs.{octets_of}
-use Rattle.spki_core.specs.AlgorithmRefs.{algorithm_of}
+use Rattle.der_core.specs.OctetStringRefValue.{octets_of}
+use Rattle.spki_core.specs.AlgorithmValue.{algorithm_of}
 use Rattle.pkcs8_core.specs.declared.attributes.Attributes.{Attributes}
 use Rattle.pkcs8_core.specs.declared.info.PrivateKeyInfoRef.{PrivateKeyInfoRef}
 use Rattle.pkcs8_core.specs.Container.{Info}

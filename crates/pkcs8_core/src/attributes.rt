@@ -6,14 +6,14 @@ ghost use Rattle.der_core.specs.Texts.{AreBytes};
 ghost use Rattle.pkcs8_core.specs.Tags.{attributes_tag};
 
 use pkcs1::der::{
-    BackWriter, Contents, DecodeValue, EncodeValue, Header, Kinded, Length, Memory, Reader, Result,
-    Tag, TagKind, Writer,
+    BackWriter, Contents, DecodeValue, EncodeValue, Header, TaggedBy, Length, Memory, Reader, Result,
+    Tag, TagMarker, Writer,
 };
 
 /// The tag of attributes.
 pub(crate) struct AttributesTag;
 
-impl TagKind for AttributesTag {
+impl TagMarker for AttributesTag {
     ghost TAG = { attributes_tag };
 
     const TAG: Tag = Tag { octet: 0xa0 };
@@ -56,12 +56,12 @@ impl Contents for Attributes<'_> {
     ghost contents_of_bytes = { octets_of_bytes };
 }
 
-impl Kinded for Attributes<'_> {
-    type Kind = AttributesTag;
+impl TaggedBy for Attributes<'_> {
+    type Marker = AttributesTag;
 }
 
 impl<'a, M: Memory> DecodeValue<&'a [u8], M> for Attributes<'a> {
-    ghost asks = { λ _. ⊥ };
+    ghost may_allocate = { λ _. ⊥ };
 
     fn decode_value<R: Reader<&'a [u8]>>(
         _memory: M,

@@ -6,7 +6,7 @@ ghost use Rattle.der_core.specs.Integer.{Small};
 ghost use Rattle.der_core.specs.Optional.{Optional};
 ghost use Rattle.der_core.specs.Texts.{AtMostOne};
 ghost use Rattle.der_core.specs.Reading.{ReadsContents, ReadsText, TellsOfBytes};
-ghost use Rattle.der_core.specs.Writing.{fault};
+ghost use Rattle.der_core.specs.Writing.{encode_refusal};
 ghost use Rattle.pkcs8_core.specs.Container.{Info, AttributesText, InfoContents, PrivateKeyInfo, HasInfo, written_info, IsUnwritten};
 ghost use Rattle.pkcs8_core.specs.Held.{info_of, attributes_of, slice_now};
 ghost use Rattle.pkcs8_core.specs.Laws.{info_means_one, info_of_bytes, info_relates, info_shortest};
@@ -14,7 +14,7 @@ ghost use Rattle.pkcs8_core.specs.Laws.{info_means_one, info_of_bytes, info_rela
 use crate::attributes::Attributes;
 use pkcs1::der::{
     BackWriter, Contents, Decode, DecodeValue, Encode, EncodeValue, Error, ErrorKind, Header,
-    Kinded, Length, Memory, NoMemory, OctetStringRef, Reader, Result, Sequence, SequenceTag, Tag,
+    TaggedBy, Length, Memory, NoMemory, OctetStringRef, Reader, Result, Sequence, SequenceTag, Tag,
     Writer, decode_optional, encode_optional, joined_len, optional_len, prepend_optional,
 };
 use pkcs1::spki::AlgorithmIdentifierRef;
@@ -77,8 +77,8 @@ impl Contents for PrivateKeyInfoRef<'_> {
     ghost contents_of_bytes = { info_of_bytes };
 }
 
-impl Kinded for PrivateKeyInfoRef<'_> {
-    type Kind = SequenceTag;
+impl TaggedBy for PrivateKeyInfoRef<'_> {
+    type Marker = SequenceTag;
 }
 
 impl<'a> Sequence<'a> for PrivateKeyInfoRef<'_> {
@@ -86,7 +86,7 @@ impl<'a> Sequence<'a> for PrivateKeyInfoRef<'_> {
 }
 
 impl<'a, M: Memory> DecodeValue<&'a [u8], M> for PrivateKeyInfoRef<'a> {
-    ghost asks = { λ _. ⊥ };
+    ghost may_allocate = { λ _. ⊥ };
 
     fn decode_value<R: Reader<&'a [u8]>>(
         memory: M,
@@ -174,7 +174,7 @@ impl<'a> PrivateKeyInfoRef<'a> {
             × IsAlone PrivateKeyInfo (info_of self.now) (take n out.new)) }
         ensures rest { IfOk result (λ n. (n ≤ length out.new) × (drop n out.new ≡ drop n out.old)) }
         ensures unchanged { OnErr result (out.new ≡ out.old) }
-        ensures err { IfErr result (λ e. IsUnwritten (info_of self.now) (length out.old) (fault e.kind)) }
+        ensures err { IfErr result (λ e. IsUnwritten (info_of self.now) (length out.old) (encode_refusal e.kind)) }
     {
         self.has_text();
         self.encode_into(out)

@@ -1,10 +1,10 @@
 //! RSA keys in containers.
 ghost use Rattle.std.specs.Prelude.{◌≡◌, ℕ, List, IfOk, IfErr, OnErr};
 ghost use Rattle.der_core.specs.Reading.{Refuses, TellsOfBytes};
-ghost use Rattle.spki_core.specs.AlgorithmRefs.{algorithm_of};
-ghost use Rattle.pkcs1.specs.Asking.{MayAsk};
+ghost use Rattle.spki_core.specs.AlgorithmValue.{algorithm_of};
+ghost use Rattle.pkcs1.specs.Allocating.{MayAllocate};
 ghost use Rattle.pkcs1.specs.Keys.{PrivateKey};
-ghost use Rattle.pkcs1.specs.PrivateKeys.{private_key_of};
+ghost use Rattle.pkcs1.specs.PrivateKeyValue.{private_key_of};
 ghost use Rattle.pkcs1_params.specs.Refusals.{IsAsn1};
 ghost use Rattle.pkcs1.specs.ViewParts.{view_of, viewed_text};
 ghost use Rattle.pkcs8_core.specs.Held.{info_of};
@@ -51,7 +51,7 @@ impl<'a> PrivateKeyInfoRef<'a> {
         ensures ok { IfOk result (λ key. HoldsRsa (info_of self.now) (private_key_of key)) }
         ensures one { IfOk result (λ key. (other : PrivateKey (List ℕ)) → HoldsRsa (info_of self.now) other
             → other ≡ private_key_of key) }
-        ensures err { IfErr result (IsAsn1 (λ e. Refuses e.kind (MayAsk (info_of self.now).private_key)
+        ensures err { IfErr result (IsAsn1 (λ e. Refuses e.kind (MayAllocate (info_of self.now).private_key)
             ((key : PrivateKey (List ℕ)) → HoldsRsa (info_of self.now) key → ⊥))) }
     {
         require_rsa(&self.algorithm)?;

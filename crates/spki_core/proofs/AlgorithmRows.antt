@@ -3,7 +3,7 @@ use Rattle.std.proofs.Common.{ℕ, List, [], ◌∷◌, ◌++◌, ◌≡◌, ◌
 use Rattle.der_core.specs.ListLaws.{same_cons}
 use Rattle.der_core.specs.Optional.{Optional}
 use Rattle.der_core.specs.Texts.{Joins}
-use Rattle.der_core.proofs.Known.{known_tlv, known_front, known_whole, no_part_refused}
+use Rattle.der_core.proofs.WrittenOut.{known_tlv, known_front, known_whole, no_part_refused}
 use Rattle.spki_core.specs.ObjectIdentifier.{IsIdentifier, IdentifierContents, ObjectIdentifier}
 use Rattle.spki_core.specs.IdentifierTest.{is_identifier-sound}
 use Rattle.spki_core.specs.Any.{TagAndContents, Any, null_value}

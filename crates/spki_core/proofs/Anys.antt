@@ -8,11 +8,11 @@ use Rattle.der_core.specs.Texts.{AreBytes}
 use Rattle.der_core.specs.declared.error.ErrorKind.{ErrorKind}
 use Rattle.der_core.specs.declared.error.ErrorKind.TheVariants.{Incomplete}
 use Rattle.der_core.specs.Input.{Input, left_in, read_from, front_of, header_at}
-use Rattle.der_core.proofs.Base.{chosen}
+use Rattle.der_core.proofs.LengthReading.{chosen}
 use Rattle.der_core.specs.InputLaws.{ok_pair}
 use Rattle.der_core.proofs.Headers.{tlv_header, header_at-sound, header_at-tells}
 use Rattle.der_core.specs.Tells.{is_incomplete}
-use Rattle.der_core.proofs.Blanket.{Headed}
+use Rattle.der_core.proofs.HeaderAndContents.{Headed}
 use Rattle.der_core.specs.Sequences.{TextFails, TextGives}
 use Rattle.spki_core.specs.Any.{Any}
 

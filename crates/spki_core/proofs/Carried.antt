@@ -7,7 +7,7 @@ use Rattle.der_core.proofs.Growing.{tlv_recast}
 use Rattle.spki_core.specs.Any.{TagAndContents, Any}
 use Rattle.spki_core.specs.AnyValues.{HoldsAny}
 use Rattle.spki_core.specs.AlgorithmIdentifier.{Algorithm, AlgorithmContents}
-use Rattle.spki_core.specs.AlgorithmRefs.{algorithm_with}
+use Rattle.spki_core.specs.AlgorithmValue.{algorithm_with}
 
 -- What X means by G is carried to what it means by H.
 pub record Carried {X V W : Type 0} (value : X → V) (G : V → List ℕ → Type 0) (other : X → W) (H : W → List ℕ → Type 0) : Type 0 where

@@ -4,7 +4,7 @@ use Rattle.der_core.specs.declared.error.Error.{Error}
 use Rattle.der_core.specs.declared.error.ErrorKind.{ErrorKind}
 use Rattle.der_core.specs.declared.error.ErrorKind.TheVariants.{OutOfMemory}
 use Rattle.der_core.specs.Document.{Means, IsRefused}
-use Rattle.der_core.specs.Writing.{fault}
+use Rattle.der_core.specs.Writing.{encode_refusal}
 use Rattle.der_core.specs.Input.{Input}
 use Rattle.der_core.specs.Reading.{ReadsAll}
 use Rattle.der_core.specs.Sequences.{TextFails, TextGives, some_same}
@@ -25,5 +25,5 @@ module _ {V : Type 0} (text : V → List ℕ → Type 0) where
 
 -- A refusal of the same value.
 pub refused_same : {V A : Type 0} (has : V → Type 0) (Grammar : V → List ℕ → Type 0) (r : Result A Error) (v w : V) (room : ℕ) → v ≡ w
-    → IfErr r (λ e. IsRefused (has v) Grammar v room (fault e.kind)) → IfErr r (λ e. IsRefused (has w) Grammar w room (fault e.kind))
+    → IfErr r (λ e. IsRefused (has v) Grammar v room (encode_refusal e.kind)) → IfErr r (λ e. IsRefused (has w) Grammar w room (encode_refusal e.kind))
 refused_same has Grammar r v w room same h = rw same at h

@@ -7,7 +7,7 @@ use Rattle.der_core.specs.declared.error.ErrorKind.TheVariants.{Failed}
 use Rattle.der_core.specs.Input.{Input}
 use Rattle.der_core.specs.Texts.{IsDelimited, Joins}
 use Rattle.der_core.specs.Tlv.{Tlv}
-use Rattle.der_core.specs.Reading.{AskedIn, NoneIn, ReadsText, Refuses, AsksWithin}
+use Rattle.der_core.specs.Reading.{AllocatesIn, NoneIn, ReadsText, Refuses, AllocatesWithin}
 use Rattle.der_core.proofs.Growing.{tlv_recast}
 use Rattle.der_core.specs.Sequences.{ContentsFail, ContentsGive, some_same}
 use Rattle.spki_core.specs.Explicit.{Field, field, Defaultable, IsNext, FieldRead, FieldRefused}
@@ -21,18 +21,18 @@ is_next [] n e = cc
 is_next (x ∷ xs) n e = (xs, let same : x ≡ 160 + n = cc in ap (λ k. k ∷ xs) same)
 
 -- Its octet isn't next: the default is given.
-pub field_absent : {X V : Type 0} (n : ℕ) (value : X → V) (text : V → List ℕ → Type 0) (asks : List ℕ → Type 0) (default : V) (x : X) (before after : Input)
-    → TellsNext n (Ok false) before after → value x ≡ default → ReadsField n value text default asks (Ok x) before after
-field_absent n value text asks default x before after (i, is, left, told) same =
+pub field_absent : {X V : Type 0} (n : ℕ) (value : X → V) (text : V → List ℕ → Type 0) (may_allocate : List ℕ → Type 0) (default : V) (x : X) (before after : Input)
+    → TellsNext n (Ok false) before after → value x ≡ default → ReadsField n value text default may_allocate (Ok x) before after
+field_absent n value text may_allocate default x before after (i, is, left, told) same =
     (i, i, is, left, inl ((λ (rest, starts). let no : false ≡ true = told.1 (rw starts refl) in cc), same, refl))
 
 -- Its octet is next: a text was read, or none is there.
 pub field_present : {X V W : Type 0} {value : X → V} {G : V → List ℕ → Type 0} {other : X → W} {H : W → List ℕ → Type 0} → Carried value G other H
-    → (n : ℕ) (asks : List ℕ → Type 0) (default : W) (result : Result X Error) (before mid after : Input)
-    → TellsNext n (Ok true) before mid → ReadsText value (λ v. Tlv (160 + n) (G v)) (Tlv (160 + n) asks) result mid after → ReadsField n other H default asks result before after
-field_present k n asks default (Ok x) before mid after (i, is, at, told) (b, rest, e, left, t) =
+    → (n : ℕ) (may_allocate : List ℕ → Type 0) (default : W) (result : Result X Error) (before mid after : Input)
+    → TellsNext n (Ok true) before mid → ReadsText value (λ v. Tlv (160 + n) (G v)) (Tlv (160 + n) may_allocate) result mid after → ReadsField n other H default may_allocate result before after
+field_present k n may_allocate default (Ok x) before mid after (i, is, at, told) (b, rest, e, left, t) =
     (i, rest, is, left, inr (b, rest, tlv_recast b t (rw (k.meant x) (k.text_there _ t.contents t.holds)), refl, some_same i (b ++ rest) (sym at ∙ e)))
-field_present k n asks default (Err e) before mid after (i, is, at, told) (failed, _, why) = (
+field_present k n may_allocate default (Err e) before mid after (i, is, at, told) (failed, _, why) = (
   failed,
   λ bytes here.
       let same : i ≡ bytes = some_same i bytes (sym is ∙ here) in
@@ -40,32 +40,32 @@ field_present k n asks default (Err e) before mid after (i, is, at, told) (faile
 )
 
 -- Its octet is next, and no text is there.
-pub explicit_refused : {V : Type 0} (n : ℕ) (text : V → List ℕ → Type 0) (asks : List ℕ → Type 0) (e : ErrorKind) (before mid after : Input)
-    → TellsNext n (Ok true) before mid → (after ≡ None) × (mid ≡ None → e ≡ Failed) × ((i : List ℕ) → mid ≡ Some i → Refuses e (AskedIn asks i) (NoneIn text i))
-    → (after ≡ None) × (before ≡ None → e ≡ Failed) × ((i : List ℕ) → before ≡ Some i → (slice_get i 0 ≡ Some (160 + n)) × Refuses e (AskedIn asks i) (NoneIn text i))
-explicit_refused n text asks e before mid after (i, is, at, told) (failed, _, why) = (
+pub explicit_refused : {V : Type 0} (n : ℕ) (text : V → List ℕ → Type 0) (may_allocate : List ℕ → Type 0) (e : ErrorKind) (before mid after : Input)
+    → TellsNext n (Ok true) before mid → (after ≡ None) × (mid ≡ None → e ≡ Failed) × ((i : List ℕ) → mid ≡ Some i → Refuses e (AllocatesIn may_allocate i) (NoneIn text i))
+    → (after ≡ None) × (before ≡ None → e ≡ Failed) × ((i : List ℕ) → before ≡ Some i → (slice_get i 0 ≡ Some (160 + n)) × Refuses e (AllocatesIn may_allocate i) (NoneIn text i))
+explicit_refused n text may_allocate e before mid after (i, is, at, told) (failed, _, why) = (
   failed,
   (λ none. let no : ◌≡◌ {A = Input} None (Some i) = sym none ∙ is in cc),
   λ j here. let same : i ≡ j = some_same i j (sym is ∙ here) in (rw same at (told.0 refl), why j (rw same at at)),
 )
 
 -- The reader had failed.
-pub field_failed : {X V : Type 0} (n : ℕ) (value : X → V) (text : V → List ℕ → Type 0) (asks : List ℕ → Type 0) (default : V) (e : Error) (before after : Input)
-    → TellsNext n (Err e) before after → ReadsField n value text default asks (Err e) before after
-field_failed n value text asks default e before after (none, failed, _) = (failed, λ bytes is. let no : ◌≡◌ {A = Input} None (Some bytes) = sym none ∙ is in cc)
+pub field_failed : {X V : Type 0} (n : ℕ) (value : X → V) (text : V → List ℕ → Type 0) (may_allocate : List ℕ → Type 0) (default : V) (e : Error) (before after : Input)
+    → TellsNext n (Err e) before after → ReadsField n value text default may_allocate (Err e) before after
+field_failed n value text may_allocate default e before after (none, failed, _) = (failed, λ bytes is. let no : ◌≡◌ {A = Input} None (Some bytes) = sym none ∙ is in cc)
 
 -- What reading a field ensures of a refusal, and of a value.
 abbrev pub FieldFails : {V : Type 0} → ℕ → (V → List ℕ → Type 0) → (List ℕ → Type 0) → ErrorKind → Input → Input → Type 0
 FieldFails n text own e before after =
-    (after ≡ None) × ((bytes : List ℕ) → before ≡ Some bytes → Refuses e (AskedIn (Tlv (160 + n) (AsksWithin own)) bytes) (FieldRefused n text bytes))
+    (after ≡ None) × ((bytes : List ℕ) → before ≡ Some bytes → Refuses e (AllocatesIn (Tlv (160 + n) (AllocatesWithin own)) bytes) (FieldRefused n text bytes))
 
 abbrev pub FieldGives : {V : Type 0} → ℕ → (V → List ℕ → Type 0) → V → V → Input → Input → Type 0
 FieldGives n text default x before after =
     (bytes : List ℕ) × (rest : List ℕ) × (before ≡ Some bytes) × (after ≡ Some rest) × FieldRead n text default bytes x rest
 
 -- Memory is asked for within: by a part, and by the contents of a text.
-asks_part : (p : List ℕ → Type 0) (x b y c : List ℕ) → c ≡ x ++ (b ++ y) → AsksWithin p b → AsksWithin p c
-asks_part p x b y c is (u, v, w, at_b, q) = (
+allocates_part : (p : List ℕ → Type 0) (x b y c : List ℕ) → c ≡ x ++ (b ++ y) → AllocatesWithin p b → AllocatesWithin p c
+allocates_part p x b y c is (u, v, w, at_b, q) = (
   x ++ u,
   v,
   w ++ y,
@@ -73,18 +73,18 @@ asks_part p x b y c is (u, v, w, at_b, q) = (
   q,
 )
 
-module _ (own asks : List ℕ → Type 0) (in_own : (b : List ℕ) → own b → AsksWithin asks b) where
-  asks_parts : (c : List ℕ) → AsksWithin own c → AsksWithin asks c
-  asks_parts c (x, b, y, is, a) = asks_part asks x b y c is (in_own b a)
+module _ (own may_allocate : List ℕ → Type 0) (in_own : (b : List ℕ) → own b → AllocatesWithin may_allocate b) where
+  allocates_parts : (c : List ℕ) → AllocatesWithin own c → AllocatesWithin may_allocate c
+  allocates_parts c (x, b, y, is, a) = allocates_part may_allocate x b y c is (in_own b a)
 
-  pub asks_contents : (t : ℕ) (b : List ℕ) → Tlv t (AsksWithin own) b → AsksWithin asks b
-  asks_contents t b p =
-      let w = asks_parts p.contents p.holds in
+  pub allocates_contents : (t : ℕ) (b : List ℕ) → Tlv t (AllocatesWithin own) b → AllocatesWithin may_allocate b
+  allocates_contents t b p =
+      let w = allocates_parts p.contents p.holds in
       ((t ∷ p.octets) ++ w.0, w.1, w.2, p.written ∙ ap (λ l. t ∷ p.octets ++ l) w.3 ∙ sym (append_assoc (t ∷ p.octets) w.0 (w.1 ++ w.2)), w.4)
 
 -- What asks for nothing.
-pub asks_nothing : (t : ℕ) (asks : List ℕ → Type 0) (b : List ℕ) → Tlv t (λ _. ⊥) b → AsksWithin asks b
-asks_nothing t asks b p = absurd p.holds
+pub allocates_nothing : (t : ℕ) (may_allocate : List ℕ → Type 0) (b : List ℕ) → Tlv t (λ _. ⊥) b → AllocatesWithin may_allocate b
+allocates_nothing t may_allocate b p = absurd p.holds
 
 -- What is left is a rest of what was.
 rest_of : {V : Type 0} (n : ℕ) (text : V → List ℕ → Type 0) (default x : V) (bytes rest : List ℕ) → FieldRead n text default bytes x rest → (front : List ℕ) × (bytes ≡ front ++ rest)
@@ -92,20 +92,20 @@ rest_of n text default x bytes rest (inl p) = ([], sym p.2)
 rest_of n text default x bytes rest (inr (a, b, p, i, e)) = (a, e ∙ ap (λ l. a ++ l) i)
 
 -- A field, and the fields behind it.
-module _ {W V : Type 0} (n : ℕ) (text : V → List ℕ → Type 0) (default : V) (head : W → V) (fields : W → List Field) (later : (w : W) → AreLater n (fields w)) (asks : List ℕ → Type 0) where
-  pub field_fails : (own : List ℕ → Type 0) → ((b : List ℕ) → own b → AsksWithin asks b) → (before after : Input) (e : ErrorKind)
-      → FieldFails n text own e before after → ContentsFail (λ w. Joins (map Defaultable (field n text default (head w) ∷ fields w))) asks e before after
+module _ {W V : Type 0} (n : ℕ) (text : V → List ℕ → Type 0) (default : V) (head : W → V) (fields : W → List Field) (later : (w : W) → AreLater n (fields w)) (may_allocate : List ℕ → Type 0) where
+  pub field_fails : (own : List ℕ → Type 0) → ((b : List ℕ) → own b → AllocatesWithin may_allocate b) → (before after : Input) (e : ErrorKind)
+      → FieldFails n text own e before after → ContentsFail (λ w. Joins (map Defaultable (field n text default (head w) ∷ fields w))) may_allocate e before after
   field_fails own in_own before after e fails = (
     fails.0,
     λ c is. ⊎_elim (λ q. inl (q.0, asked c q.1)) (λ q. inr (q.0, λ w has. refused_step n text default (head w) (fields w) c (later w) q.1.0 q.1.1 has)) (fails.1 c is),
   )
     where
-      asked : (c : List ℕ) → AskedIn (Tlv (160 + n) (AsksWithin own)) c → AsksWithin asks c
-      asked c (b, rest, is, a) = asks_part asks [] b rest c is (asks_contents own asks in_own (160 + n) b a)
+      asked : (c : List ℕ) → AllocatesIn (Tlv (160 + n) (AllocatesWithin own)) c → AllocatesWithin may_allocate c
+      asked c (b, rest, is, a) = allocates_part may_allocate [] b rest c is (allocates_contents own may_allocate in_own (160 + n) b a)
 
   pub fields_fail : IsDelimited text → (before mid after : Input) (e : ErrorKind) (x : V)
-      → FieldGives n text default x before mid → ContentsFail (λ w. Joins (map Defaultable (fields w))) asks e mid after
-      → ContentsFail (λ w. Joins (map Defaultable (field n text default (head w) ∷ fields w))) asks e before after
+      → FieldGives n text default x before mid → ContentsFail (λ w. Joins (map Defaultable (fields w))) may_allocate e mid after
+      → ContentsFail (λ w. Joins (map Defaultable (field n text default (head w) ∷ fields w))) may_allocate e before after
   fields_fail d before mid after e x (bytes, rest, at, left, read) fails = (
     fails.0,
     λ c is.

@@ -4,7 +4,7 @@ use Rattle.der_core.specs.Integer.{Small}
 use Rattle.der_core.specs.IntegerLaws.{small_delimited}
 use Rattle.der_core.specs.ListLaws.{same_cons}
 use Rattle.der_core.specs.Texts.{Joins}
-use Rattle.der_core.proofs.Known.{known_tlv, known_front, known_whole, small_byte, no_bytes_refused, other_tag_refused, no_part_refused}
+use Rattle.der_core.proofs.WrittenOut.{known_tlv, known_front, known_whole, small_byte, no_bytes_refused, other_tag_refused, no_part_refused}
 use Rattle.spki_core.specs.ContextSpecific.{Numbered, ContextSpecific}
 use Rattle.spki_core.specs.Explicit.{Field, field, Defaultable, FieldSequence, HaveDefaults, MaskedField, Masked, AllExplicit, FieldRead, FieldRefused, left_out, written, forced}
 use Rattle.spki_core.proofs.KnownFields.{left_out_field, written_field, field_written}

@@ -2,7 +2,7 @@
 use Rattle.std.proofs.Common.{ℕ, List, [], ◌∷◌, ◌++◌, ◌≡◌, ◌≢◌, ◌<◌, ◌+◌, inl, inr, length, refl, ap, sym, ◌∙◌, map}
 use Rattle.std.specs.Prelude.{◌⊎◌}
 use Rattle.der_core.specs.Texts.{Then, Joins}
-use Rattle.der_core.proofs.Known.{known_tlv, known_front}
+use Rattle.der_core.proofs.WrittenOut.{known_tlv, known_front}
 use Rattle.spki_core.specs.Explicit.{Field, Defaultable}
 
 -- A default that is left out, and a field that is written.

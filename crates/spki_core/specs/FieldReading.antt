@@ -5,7 +5,7 @@ use Rattle.der_core.specs.declared.error.ErrorKind.TheVariants.{Failed}
 use Rattle.der_core.specs.declared.error.Error.{Error}
 use Rattle.der_core.specs.Input.{Input}
 use Rattle.der_core.specs.Tlv.{Tlv}
-use Rattle.der_core.specs.Reading.{AskedIn, Refuses}
+use Rattle.der_core.specs.Reading.{AllocatesIn, Refuses}
 use Rattle.spki_core.specs.Explicit.{FieldRead, FieldRefused}
 
 -- Whether the octet of the field is next, on a reader that reads on; or the reader has failed.
@@ -15,7 +15,7 @@ TellsNext n (Err e) before after = (before ≡ None) × (after ≡ None) × (e.k
 
 -- The field was read, or it has its default; or the reader has failed, and its octet is next, but no text of it.
 abbrev pub ReadsField : {X V : Type 0} → ℕ → (X → V) → (V → List ℕ → Type 0) → V → (List ℕ → Type 0) → Result X Error → Input → Input → Type 0
-ReadsField n value text default asks (Ok x) before after =
+ReadsField n value text default may_allocate (Ok x) before after =
     (bytes : List ℕ) × (rest : List ℕ) × (before ≡ Some bytes) × (after ≡ Some rest) × FieldRead n text default bytes (value x) rest
-ReadsField n value text default asks (Err e) before after =
-    (after ≡ None) × ((bytes : List ℕ) → before ≡ Some bytes → Refuses e.kind (AskedIn (Tlv (160 + n) asks) bytes) (FieldRefused n text bytes))
+ReadsField n value text default may_allocate (Err e) before after =
+    (after ≡ None) × ((bytes : List ℕ) → before ≡ Some bytes → Refuses e.kind (AllocatesIn (Tlv (160 + n) may_allocate) bytes) (FieldRefused n text bytes))

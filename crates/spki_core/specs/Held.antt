@@ -8,11 +8,11 @@ use Rattle.der_core.specs.ShortTexts.{tlv_short}
 use Rattle.der_core.specs.Tlv.{tlv}
 use Rattle.spki_core.specs.Any.{IsAny, written_any}
 use Rattle.spki_core.specs.AlgorithmIdentifier.{HasPlain, written_plain}
-use Rattle.spki_core.specs.AlgorithmRefs.{algorithm_of}
-use Rattle.spki_core.specs.AnyRefs.{any_of}
+use Rattle.spki_core.specs.AlgorithmValue.{algorithm_of}
+use Rattle.spki_core.specs.AnyRefValue.{any_of}
 use Rattle.spki_core.specs.IdentifierTest.{is_identifier-sound}
 use Rattle.spki_core.specs.ObjectIdentifier.{IsIdentifier}
-use Rattle.spki_core.specs.ObjectIdentifiers.{octets_of}
+use Rattle.spki_core.specs.ObjectIdentifierValue.{octets_of}
 use Rattle.spki_core.specs.declared.algorithm_identifier.AlgorithmIdentifier.{AlgorithmIdentifier}
 use Rattle.spki_core.specs.declared.any.AnyRef.{AnyRef}
 use Rattle.spki_core.specs.declared.object_identifier.ObjectIdentifier.{ObjectIdentifier}

@@ -5,11 +5,11 @@ pub mod ContextSpecific
 pub mod Explicit
 pub mod FieldWriting
 pub mod FieldReading
-pub mod ObjectIdentifiers
-pub mod AnyRefs
-pub mod Anys
+pub mod ObjectIdentifierValue
+pub mod AnyRefValue
+pub mod OwnedAnyValue
 pub mod AnyValues
-pub mod AlgorithmRefs
+pub mod AlgorithmValue
 pub mod IdentifierTest
 pub mod IdentifierLaws
 pub mod AnyLaws

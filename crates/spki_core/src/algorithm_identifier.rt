@@ -1,7 +1,7 @@
 //! Algorithm identifiers (RFC 5280 4.1.1.2).
 ghost use Rattle.std.specs.Prelude.{◌≡◌, ◌≢◌, refl, IfOk, IfErr, IfSome};
 ghost use Rattle.std.specs.Option.{option_map};
-ghost use Rattle.der_core.specs.Reading.{AsksWithin};
+ghost use Rattle.der_core.specs.Reading.{AllocatesWithin};
 ghost use Rattle.spki_core.specs.Any.{TagAndContents};
 ghost use Rattle.spki_core.specs.AlgorithmIdentifier.{Algorithm, AlgorithmContents, HasAlgorithm, written_algorithm};
 ghost use Rattle.spki_core.specs.AlgorithmLaws.{algorithm_means_one, algorithm_of_bytes, algorithm_relates, algorithm_shortest, algorithm_decides};
@@ -10,7 +10,7 @@ use crate::any::{AnyRef, AnyValue};
 use crate::object_identifier::ObjectIdentifier;
 use der_core::{
     BackWriter, Contents, Decode, DecodeValue, Encode, EncodeValue, EqualByValue, Error, ErrorKind,
-    Header, Kinded, Length, Memory, Reader, Result, Sequence, SequenceTag, Text, TryClone, Writer,
+    Header, TaggedBy, Length, Memory, Reader, Result, Sequence, SequenceTag, Text, TryClone, Writer,
     decode_last, encode_optional, joined_len, optional_len, prepend_optional,
 };
 use std::alloc::Global;
@@ -28,7 +28,7 @@ pub struct AlgorithmIdentifier<P> {
 pub type AlgorithmIdentifierRef<'a> = AlgorithmIdentifier<AnyRef<'a>>;
 
 impl<P: Text> Contents for AlgorithmIdentifier<P> {
-    ghost use Rattle.spki_core.specs.AlgorithmRefs.{algorithm_with};
+    ghost use Rattle.spki_core.specs.AlgorithmValue.{algorithm_with};
 
     ghost Value = { Algorithm P.Value };
 
@@ -45,8 +45,8 @@ impl<P: Text> Contents for AlgorithmIdentifier<P> {
     ghost contents_of_bytes = { algorithm_of_bytes P.text P.text_of_bytes };
 }
 
-impl<P> Kinded for AlgorithmIdentifier<P> {
-    type Kind = SequenceTag;
+impl<P> TaggedBy for AlgorithmIdentifier<P> {
+    type Marker = SequenceTag;
 }
 
 impl<'a, P> Sequence<'a> for AlgorithmIdentifier<P> {
@@ -54,14 +54,14 @@ impl<'a, P> Sequence<'a> for AlgorithmIdentifier<P> {
 }
 
 impl<P: EqualByValue> EqualByValue for AlgorithmIdentifier<P> {
-    ghost use Rattle.spki_core.specs.ObjectIdentifiers.{octets_of};
+    ghost use Rattle.spki_core.specs.ObjectIdentifierValue.{octets_of};
 
     ghost decides = { λ a b.
         algorithm_decides P.value P.eq P.decides (octets_of a.oid) (octets_of b.oid) a.parameters b.parameters };
 }
 
 impl<'a, M: Memory, P: Decode<&'a [u8], M>> DecodeValue<&'a [u8], M> for AlgorithmIdentifier<P> {
-    ghost asks = { AsksWithin P.Decode.asks };
+    ghost may_allocate = { AllocatesWithin P.Decode.may_allocate };
 
     fn decode_value<R: Reader<&'a [u8]>>(
         memory: M,
@@ -96,7 +96,7 @@ impl<P: Encode> EncodeValue for AlgorithmIdentifier<P> {
 }
 
 impl<P: TryClone> TryClone for AlgorithmIdentifier<P> {
-    ghost asks_nothing = { λ algorithm. IfSome algorithm.parameters P.asks_nothing };
+    ghost allocates_nothing = { λ algorithm. IfSome algorithm.parameters P.allocates_nothing };
 
     fn try_clone(&self, alloc: Global) -> Result<AlgorithmIdentifier<P>> {
         let parameters = match &self.parameters {
@@ -111,7 +111,7 @@ impl<P: TryClone> TryClone for AlgorithmIdentifier<P> {
 }
 
 impl<P> AlgorithmIdentifier<P> {
-    ghost use Rattle.spki_core.specs.ObjectIdentifiers.{octets_of};
+    ghost use Rattle.spki_core.specs.ObjectIdentifierValue.{octets_of};
 
     /// The identifier where it is the one that is asked for, else `OidUnknown`.
     pub fn assert_algorithm_oid(&self, expected: ObjectIdentifier) -> Result<ObjectIdentifier>
@@ -129,7 +129,7 @@ impl<P> AlgorithmIdentifier<P> {
 
 impl<P: AnyValue> AlgorithmIdentifier<P> {
     ghost use Rattle.std.specs.Prelude.{Some, None};
-    ghost use Rattle.spki_core.specs.AnyRefs.{any_of};
+    ghost use Rattle.spki_core.specs.AnyRefValue.{any_of};
 
     /// The parameters, borrowed, or `ParametersMissing` where they are absent.
     pub fn parameters_any(&self) -> Result<AnyRef<'_>>
@@ -146,7 +146,7 @@ impl<P: AnyValue> AlgorithmIdentifier<P> {
 
 /// A type that holds an identifier whose parameters are any text.
 pub trait AsAlgorithmIdentifierRef {
-    ghost use Rattle.spki_core.specs.AlgorithmRefs.{algorithm_of};
+    ghost use Rattle.spki_core.specs.AlgorithmValue.{algorithm_of};
 
     /// What it holds.
     ghost algorithm: { Self → Algorithm TagAndContents };
@@ -157,7 +157,7 @@ pub trait AsAlgorithmIdentifierRef {
 }
 
 impl<P: AnyValue> AsAlgorithmIdentifierRef for AlgorithmIdentifier<P> {
-    ghost use Rattle.spki_core.specs.AlgorithmRefs.{algorithm_with};
+    ghost use Rattle.spki_core.specs.AlgorithmValue.{algorithm_with};
 
     ghost algorithm = { algorithm_with P.any };
 

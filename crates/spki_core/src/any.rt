@@ -22,7 +22,7 @@ pub struct AnyRef<'a> {
 }
 
 impl<'a> AnyRef<'a> {
-    ghost use Rattle.spki_core.specs.AnyRefs.{any_of};
+    ghost use Rattle.spki_core.specs.AnyRefValue.{any_of};
 
     /// A tag and contents, or `Overflow` where the contents pass `Length::MAX`.
     pub fn new(tag: Tag, contents: &'a [u8]) -> Result<AnyRef<'a>>
@@ -70,7 +70,7 @@ impl<'a> AnyRef<'a> {
             IfOk result (λ value. (any.tag ≡ T.TAG.octet) × T.contents (T.value value) any.contents) }
         ensures err { let any = any_of self.entry in
             let no_value : Type 0 = (value : T.Value) → any.tag ≡ T.TAG.octet → T.contents value any.contents → ⊥ in
-            IfErr result (λ e. Refuses e.kind (T.asks any.contents) no_value) }
+            IfErr result (λ e. Refuses e.kind (T.may_allocate any.contents) no_value) }
         ensures tag { let tag = (any_of self.entry).tag in
             IfErr result (λ e. tag ≢ T.TAG.octet → IsUnexpected T.TAG tag e.kind) }
     {
@@ -97,7 +97,7 @@ impl<'a> AnyRef<'a> {
 }
 
 impl Text for AnyRef<'_> {
-    ghost use Rattle.spki_core.specs.AnyRefs.{any_of};
+    ghost use Rattle.spki_core.specs.AnyRefValue.{any_of};
 
     ghost Value = { TagAndContents };
 
@@ -115,7 +115,7 @@ impl Text for AnyRef<'_> {
 }
 
 impl<'a, M: Memory> Decode<&'a [u8], M> for AnyRef<'a> {
-    ghost asks = { λ _. ⊥ };
+    ghost may_allocate = { λ _. ⊥ };
 
     fn decode<R: Reader<&'a [u8]>>(_memory: M, reader: &mut R) -> Result<AnyRef<'a>> {
         read_any(reader)
@@ -164,15 +164,15 @@ impl Encode for AnyRef<'_> {
 }
 
 impl<'a> TryClone for AnyRef<'a> {
-    ghost use Rattle.spki_core.specs.AnyRefs.{any_of};
+    ghost use Rattle.spki_core.specs.AnyRefValue.{any_of};
 
-    ghost asks_nothing = { λ _. ⊤ };
+    ghost allocates_nothing = { λ _. ⊤ };
 
     /// The same tag, over the same contents. No memory is asked for.
     fn try_clone(&self, _alloc: Global) -> Result<AnyRef<'a>>
         ensures ok { IfOk result (λ copy. any_of copy ≡ any_of self.now) }
         ensures err { IfErr result (λ e. e.kind ≡ ErrorKind.OutOfMemory) }
-        ensures asks { IsOk result }
+        ensures may_allocate { IsOk result }
     {
         Ok(*self)
     }
@@ -180,7 +180,7 @@ impl<'a> TryClone for AnyRef<'a> {
 
 /// A type that holds a tag with contents octets: its texts are texts of any tag.
 pub trait AnyValue: EqualByValue {
-    ghost use Rattle.spki_core.specs.AnyRefs.{any_of};
+    ghost use Rattle.spki_core.specs.AnyRefValue.{any_of};
     ghost use Rattle.spki_core.specs.AnyValues.{HoldsAny};
 
     /// What it holds.
@@ -200,7 +200,7 @@ impl EqualByValue for AnyRef<'_> {
 }
 
 impl AnyValue for AnyRef<'_> {
-    ghost use Rattle.spki_core.specs.AnyRefs.{any_of};
+    ghost use Rattle.spki_core.specs.AnyRefValue.{any_of};
     ghost use Rattle.spki_core.specs.AnyValues.{holds_itself};
 
     ghost any = { any_of };

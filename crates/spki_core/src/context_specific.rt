@@ -1,7 +1,7 @@
 //! Values inside explicit tags of the class context-specific (X.690 8.14.2).
 ghost use Rattle.std.specs.Prelude.{◌≡◌, ◌+◌};
 ghost use Rattle.der_core.specs.Tlv.{Tlv};
-ghost use Rattle.der_core.specs.Reading.{ReadsText, ReadsOptional, AsksWithin};
+ghost use Rattle.der_core.specs.Reading.{ReadsText, ReadsOptional, AllocatesWithin};
 ghost use Rattle.spki_core.specs.FieldReading.{TellsNext};
 ghost use Rattle.spki_core.specs.ContextSpecific.{Numbered, ContextSpecific, HasNumbered, written_numbered};
 ghost use Rattle.spki_core.specs.ContextSpecificLaws.{numbered_delimited, numbered_of_bytes, numbered_relates, numbered_shortest};
@@ -88,8 +88,8 @@ pub fn read_context_specific<'a, T: Decode<&'a [u8], M>, M: Memory, R: Reader<&'
     number: TagNumber,
 ) -> Result<Option<T>>
     ensures { let tag = 160 + number.value in
-        let asks = Tlv tag (AsksWithin T.Decode.asks) in
-        ReadsOptional tag T.value (λ v. Tlv tag (T.text v)) asks result (R.left reader.old) (R.left reader.new) }
+        let may_allocate = Tlv tag (AllocatesWithin T.Decode.may_allocate) in
+        ReadsOptional tag T.value (λ v. Tlv tag (T.text v)) may_allocate result (R.left reader.old) (R.left reader.new) }
 {
     if !is_field_next(reader, number)? {
         return Ok(None);
@@ -105,8 +105,8 @@ pub fn read_explicit<'a, T: Decode<&'a [u8], M>, M: Memory, R: Reader<&'a [u8]>>
     number: TagNumber,
 ) -> Result<T>
     ensures { let tag = 160 + number.value in
-        let asks = Tlv tag (AsksWithin T.Decode.asks) in
-        ReadsText T.value (λ v. Tlv tag (T.text v)) asks result (R.left reader.old) (R.left reader.new) }
+        let may_allocate = Tlv tag (AllocatesWithin T.Decode.may_allocate) in
+        ReadsText T.value (λ v. Tlv tag (T.text v)) may_allocate result (R.left reader.old) (R.left reader.new) }
 {
     read_inside(memory, reader, Tag::context(number))
 }
@@ -117,8 +117,8 @@ fn read_inside<'a, T: Decode<&'a [u8], M>, M: Memory, R: Reader<&'a [u8]>>(
     reader: &mut R,
     tag: Tag,
 ) -> Result<T>
-    ensures { let asks = Tlv tag.octet (AsksWithin T.Decode.asks) in
-        ReadsText T.value (λ v. Tlv tag.octet (T.text v)) asks result (R.left reader.old) (R.left reader.new) }
+    ensures { let may_allocate = Tlv tag.octet (AllocatesWithin T.Decode.may_allocate) in
+        ReadsText T.value (λ v. Tlv tag.octet (T.text v)) may_allocate result (R.left reader.old) (R.left reader.new) }
 {
     let header = Header::decode(reader)?;
     if header.tag != tag {

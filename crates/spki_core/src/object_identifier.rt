@@ -11,8 +11,8 @@ ghost use Rattle.der_core.specs.Tags.{object_identifier};
 ghost use Rattle.der_core.specs.Reading.{ReadsContents, HoldsBytes};
 
 use der_core::{
-    BackWriter, Contents, DecodeValue, EncodeValue, EqualByValue, Error, ErrorKind, Header, Kinded,
-    Length, Memory, Reader, Result, Tag, TagKind, Writer,
+    BackWriter, Contents, DecodeValue, EncodeValue, EqualByValue, Error, ErrorKind, Header, TaggedBy,
+    Length, Memory, Reader, Result, Tag, TagMarker, Writer,
 };
 use std::hash::{Hash, Hasher};
 
@@ -56,7 +56,7 @@ pub trait AssociatedOid {
 }
 
 impl ObjectIdentifier {
-    ghost use Rattle.spki_core.specs.ObjectIdentifiers.{octets_of};
+    ghost use Rattle.spki_core.specs.ObjectIdentifierValue.{octets_of};
 
     /// The identifier with these contents.
     fn new(bytes: &[u8]) -> ObjectIdentifier
@@ -99,7 +99,7 @@ impl ObjectIdentifier {
 }
 
 impl PartialEq for ObjectIdentifier {
-    ghost use Rattle.spki_core.specs.ObjectIdentifiers.{octets_of};
+    ghost use Rattle.spki_core.specs.ObjectIdentifierValue.{octets_of};
 
     ghost eq = { λ a b. bytes_eq (octets_of a) (octets_of b) };
 
@@ -115,7 +115,7 @@ impl Eq for ObjectIdentifier {
 }
 
 impl Hash for ObjectIdentifier {
-    ghost use Rattle.spki_core.specs.ObjectIdentifiers.{octets_of};
+    ghost use Rattle.spki_core.specs.ObjectIdentifierValue.{octets_of};
 
     ghost hash_input = { λ oid. fed.slice fed.u8 (octets_of oid) };
 
@@ -129,14 +129,14 @@ impl Hash for ObjectIdentifier {
 /// The tag of OBJECT IDENTIFIER.
 pub struct ObjectIdentifierTag;
 
-impl TagKind for ObjectIdentifierTag {
+impl TagMarker for ObjectIdentifierTag {
     ghost TAG = { object_identifier };
 
     const TAG: Tag = Tag::OBJECT_IDENTIFIER;
 }
 
 impl Contents for ObjectIdentifier {
-    ghost use Rattle.spki_core.specs.ObjectIdentifiers.{octets_of};
+    ghost use Rattle.spki_core.specs.ObjectIdentifierValue.{octets_of};
 
     ghost Value = { List ℕ };
 
@@ -153,21 +153,21 @@ impl Contents for ObjectIdentifier {
     ghost contents_of_bytes = { identifier_contents_of_bytes };
 }
 
-impl Kinded for ObjectIdentifier {
-    type Kind = ObjectIdentifierTag;
+impl TaggedBy for ObjectIdentifier {
+    type Marker = ObjectIdentifierTag;
 }
 
 impl EqualByValue for ObjectIdentifier {
-    ghost use Rattle.spki_core.specs.ObjectIdentifiers.{octets_of};
+    ghost use Rattle.spki_core.specs.ObjectIdentifierValue.{octets_of};
     ghost use Rattle.der_core.specs.EqualityLaws.{bytes_decide};
 
     ghost decides = { λ a b. bytes_decide (octets_of a) (octets_of b) };
 }
 
 impl<'a, M: Memory> DecodeValue<&'a [u8], M> for ObjectIdentifier {
-    ghost use Rattle.spki_core.specs.ObjectIdentifiers.{octets_of};
+    ghost use Rattle.spki_core.specs.ObjectIdentifierValue.{octets_of};
 
-    ghost asks = { λ _. ⊥ };
+    ghost may_allocate = { λ _. ⊥ };
 
     fn decode_value<R: Reader<&'a [u8]>>(
         _memory: M,

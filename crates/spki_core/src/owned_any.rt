@@ -22,8 +22,8 @@ pub struct Any {
 }
 
 impl Any {
-    ghost use Rattle.spki_core.specs.Anys.{any_in};
-    ghost use Rattle.spki_core.specs.AnyRefs.{any_of};
+    ghost use Rattle.spki_core.specs.OwnedAnyValue.{any_in};
+    ghost use Rattle.spki_core.specs.AnyRefValue.{any_of};
 
     /// A tag and a copy of contents: `Overflow` where the contents pass `Length::MAX`, `OutOfMemory` where they
     /// don't and no memory is found for the copy.
@@ -53,7 +53,7 @@ impl Any {
 }
 
 impl Text for Any {
-    ghost use Rattle.spki_core.specs.Anys.{any_in};
+    ghost use Rattle.spki_core.specs.OwnedAnyValue.{any_in};
 
     ghost Value = { TagAndContents };
 
@@ -71,7 +71,7 @@ impl Text for Any {
 }
 
 impl<'a> Decode<&'a [u8], Global> for Any {
-    ghost asks = { λ b. (v : TagAndContents) × grammar.Any v b };
+    ghost may_allocate = { λ b. (v : TagAndContents) × grammar.Any v b };
 
     fn decode<R: Reader<&'a [u8]>>(memory: Global, reader: &mut R) -> Result<Any> {
         let any = AnyRef::decode(NoMemory, reader)?;
@@ -112,7 +112,7 @@ impl EqualByValue for Any {
 }
 
 impl AnyValue for Any {
-    ghost use Rattle.spki_core.specs.Anys.{any_in};
+    ghost use Rattle.spki_core.specs.OwnedAnyValue.{any_in};
     ghost use Rattle.spki_core.specs.AnyValues.{holds_itself};
 
     ghost any = { any_in };
@@ -137,7 +137,7 @@ impl AnyParams<Global> for Any {
 }
 
 impl TryClone for Any {
-    ghost asks_nothing = { λ _. ⊥ };
+    ghost allocates_nothing = { λ _. ⊥ };
 
     fn try_clone(&self, alloc: Global) -> Result<Any> {
         Any::copy_of(alloc, self.tag, self.contents.as_slice())

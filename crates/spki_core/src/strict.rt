@@ -4,7 +4,7 @@ ghost use Rattle.std.specs.Option.{option_map};
 ghost use Rattle.der_core.specs.Length.{limit};
 ghost use Rattle.der_core.specs.Reading.{NoneIn};
 ghost use Rattle.spki_core.specs.Any.{Any};
-ghost use Rattle.spki_core.specs.AnyRefs.{any_of};
+ghost use Rattle.spki_core.specs.AnyRefValue.{any_of};
 ghost use Rattle.spki_core.specs.StrictFields.{Walked, WalksOver, number_in};
 
 use crate::any::AnyRef;

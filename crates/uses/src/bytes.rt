@@ -1,7 +1,7 @@
 //! Keys in memory.
 ghost use Rattle.std.specs.Prelude.{◌≡◌, ℕ, List, IfOk, OnErr};
 ghost use Rattle.der_core.specs.Document.{Means};
-ghost use Rattle.der_core.specs.Documents.{text_of};
+ghost use Rattle.der_core.specs.DocumentValue.{text_of};
 ghost use Rattle.pkcs1.specs.Keys.{PrivateKey, PublicKey, RsaPrivateKey, RsaPublicKey};
 ghost use Rattle.pkcs1.specs.KeyTexts.{IsOnlyText};
 

@@ -1,6 +1,6 @@
 //! The other primes of a key, one after another.
 ghost use Rattle.std.specs.Prelude.{◌≡◌, map, IfOk};
-ghost use Rattle.der_core.specs.UintRefs.{bytes_of};
+ghost use Rattle.der_core.specs.UintRefValue.{bytes_of};
 ghost use Rattle.pkcs1.specs.ViewParts.{view_of, listed_others};
 
 use pkcs1::{RsaPrivateKeyView, UintRef};

@@ -18,7 +18,7 @@ use crate::length::Length;
 use crate::memory::copy_of;
 use crate::reader::Reader;
 use crate::try_clone::TryClone;
-use crate::types::{Contents, EqualByValue, IntegerTag, Kinded};
+use crate::types::{Contents, EqualByValue, IntegerTag, TaggedBy};
 use crate::writer::Writer;
 use std::alloc::Global;
 
@@ -31,8 +31,8 @@ pub struct Uint {
 }
 
 impl Uint {
-    ghost use Rattle.der_core.specs.UintRefs.{bytes_of};
-    ghost use Rattle.der_core.specs.Uints.{own_bytes_of};
+    ghost use Rattle.der_core.specs.UintRefValue.{bytes_of};
+    ghost use Rattle.der_core.specs.UintValue.{own_bytes_of};
 
     /// The number of these bytes, without leading zeros: `Length` of INTEGER where there is no byte, `Overflow` where
     /// more than `Length::MAX` bytes are left. `OutOfMemory` is answered only where there is a number.
@@ -65,7 +65,7 @@ impl Uint {
 }
 
 impl AsUintRef for Uint {
-    ghost use Rattle.der_core.specs.Uints.{own_bytes_of};
+    ghost use Rattle.der_core.specs.UintValue.{own_bytes_of};
 
     ghost number = { own_bytes_of };
 
@@ -75,7 +75,7 @@ impl AsUintRef for Uint {
 }
 
 impl TryClone for Uint {
-    ghost asks_nothing = { λ _. ⊥ };
+    ghost allocates_nothing = { λ _. ⊥ };
 
     fn try_clone(&self, alloc: Global) -> Result<Uint> {
         Uint::copy(alloc, self.as_uint_ref())
@@ -85,7 +85,7 @@ impl TryClone for Uint {
 impl Contents for Uint {
     ghost Value = { List ℕ };
 
-    ghost use Rattle.der_core.specs.Uints.{own_bytes_of};
+    ghost use Rattle.der_core.specs.UintValue.{own_bytes_of};
 
     ghost value = { own_bytes_of };
 
@@ -100,8 +100,8 @@ impl Contents for Uint {
     ghost contents_of_bytes = { integer_of_bytes };
 }
 
-impl Kinded for Uint {
-    type Kind = IntegerTag;
+impl TaggedBy for Uint {
+    type Marker = IntegerTag;
 }
 
 impl EqualByValue for Uint {
@@ -111,9 +111,9 @@ impl EqualByValue for Uint {
 }
 
 impl<'a> DecodeValue<&'a [u8], Global> for Uint {
-    ghost use Rattle.der_core.specs.Uints.{own_bytes_of};
+    ghost use Rattle.der_core.specs.UintValue.{own_bytes_of};
 
-    ghost asks = { λ c. (bytes : List ℕ) × IntegerContents bytes c };
+    ghost may_allocate = { λ c. (bytes : List ℕ) × IntegerContents bytes c };
 
     fn decode_value<R: Reader<&'a [u8]>>(
         memory: Global,
@@ -121,8 +121,8 @@ impl<'a> DecodeValue<&'a [u8], Global> for Uint {
         header: Header,
     ) -> Result<Uint>
         requires { HoldsBytes (R.left reader.old) header.length }
-        ensures reads { let asks = λ (c : List ℕ). (bytes : List ℕ) × IntegerContents bytes c in
-            ReadsContents own_bytes_of IntegerContents asks result (R.left reader.old) (R.left reader.new) }
+        ensures reads { let may_allocate = λ (c : List ℕ). (bytes : List ℕ) × IntegerContents bytes c in
+            ReadsContents own_bytes_of IntegerContents may_allocate result (R.left reader.old) (R.left reader.new) }
         ensures exact { (c : List ℕ) → R.left reader.old ≡ Some c → AnswersOrWants own_bytes_of result (integer_of c) }
     {
         let number = UintRef::decode_value(memory, reader, header)?;

@@ -17,7 +17,7 @@ use crate::length::Length;
 use crate::memory::Memory;
 use crate::reader::Reader;
 use crate::tag::Tag;
-use crate::types::{Contents, EqualByValue, IntegerTag, Kinded};
+use crate::types::{Contents, EqualByValue, IntegerTag, TaggedBy};
 use crate::writer::Writer;
 
 /// The number of some contents.
@@ -49,8 +49,8 @@ impl Contents for u8 {
     ghost contents_of_bytes = { small_of_bytes };
 }
 
-impl Kinded for u8 {
-    type Kind = IntegerTag;
+impl TaggedBy for u8 {
+    type Marker = IntegerTag;
 }
 
 impl EqualByValue for u8 {
@@ -60,7 +60,7 @@ impl EqualByValue for u8 {
 }
 
 impl<'a, M: Memory> DecodeValue<&'a [u8], M> for u8 {
-    ghost asks = { λ _. ⊥ };
+    ghost may_allocate = { λ _. ⊥ };
 
     fn decode_value<R: Reader<&'a [u8]>>(_memory: M, reader: &mut R, header: Header) -> Result<u8>
         requires { HoldsBytes (R.left reader.old) header.length }

@@ -18,7 +18,7 @@ use crate::memory::Memory;
 use crate::reader::Reader;
 use crate::tag::Tag;
 use crate::try_clone::TryClone;
-use crate::types::{Contents, EqualByValue, IntegerTag, Kinded};
+use crate::types::{Contents, EqualByValue, IntegerTag, TaggedBy};
 use crate::writer::Writer;
 use std::alloc::Global;
 
@@ -32,7 +32,7 @@ pub struct UintRef<'a> {
 
 /// A type that holds an unsigned number.
 pub trait AsUintRef {
-    ghost use Rattle.der_core.specs.UintRefs.{bytes_of};
+    ghost use Rattle.der_core.specs.UintRefValue.{bytes_of};
 
     /// The number's bytes.
     ghost number: { Self → List ℕ };
@@ -43,7 +43,7 @@ pub trait AsUintRef {
 }
 
 impl AsUintRef for UintRef<'_> {
-    ghost use Rattle.der_core.specs.UintRefs.{bytes_of};
+    ghost use Rattle.der_core.specs.UintRefValue.{bytes_of};
 
     ghost number = { bytes_of };
 
@@ -67,7 +67,7 @@ fn strip(bytes: &[u8]) -> &[u8]
 }
 
 impl<'a> UintRef<'a> {
-    ghost use Rattle.der_core.specs.UintRefs.{bytes_of};
+    ghost use Rattle.der_core.specs.UintRefValue.{bytes_of};
 
     /// The number of these bytes, without leading zeros: `Length` of INTEGER where there is no byte, `Overflow` where
     /// more than `Length::MAX` bytes are left.
@@ -126,15 +126,15 @@ pub(crate) fn integer(contents: &[u8]) -> Result<UintRef<'_>>
 }
 
 impl<'a> TryClone for UintRef<'a> {
-    ghost use Rattle.der_core.specs.UintRefs.{bytes_of};
+    ghost use Rattle.der_core.specs.UintRefValue.{bytes_of};
 
-    ghost asks_nothing = { λ _. ⊤ };
+    ghost allocates_nothing = { λ _. ⊤ };
 
     /// The same number, over the same bytes. No memory is asked for.
     fn try_clone(&self, _alloc: Global) -> Result<UintRef<'a>>
         ensures ok { IfOk result (λ copy. bytes_of copy ≡ bytes_of self.now) }
         ensures err { IfErr result (λ e. e.kind ≡ ErrorKind.OutOfMemory) }
-        ensures asks { IsOk result }
+        ensures may_allocate { IsOk result }
     {
         Ok(*self)
     }
@@ -143,7 +143,7 @@ impl<'a> TryClone for UintRef<'a> {
 impl<'a> Contents for UintRef<'a> {
     ghost Value = { List ℕ };
 
-    ghost use Rattle.der_core.specs.UintRefs.{bytes_of};
+    ghost use Rattle.der_core.specs.UintRefValue.{bytes_of};
 
     ghost value = { bytes_of };
 
@@ -158,8 +158,8 @@ impl<'a> Contents for UintRef<'a> {
     ghost contents_of_bytes = { integer_of_bytes };
 }
 
-impl<'a> Kinded for UintRef<'a> {
-    type Kind = IntegerTag;
+impl<'a> TaggedBy for UintRef<'a> {
+    type Marker = IntegerTag;
 }
 
 impl EqualByValue for UintRef<'_> {
@@ -169,9 +169,9 @@ impl EqualByValue for UintRef<'_> {
 }
 
 impl<'a, M: Memory> DecodeValue<&'a [u8], M> for UintRef<'a> {
-    ghost use Rattle.der_core.specs.UintRefs.{bytes_of};
+    ghost use Rattle.der_core.specs.UintRefValue.{bytes_of};
 
-    ghost asks = { λ _. ⊥ };
+    ghost may_allocate = { λ _. ⊥ };
 
     fn decode_value<R: Reader<&'a [u8]>>(
         _memory: M,

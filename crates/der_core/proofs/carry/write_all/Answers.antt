@@ -2,7 +2,7 @@ use Rattle.std.proofs.Common.{rules, length}
 use Rattle.std.proofs.Math.Seq.{take-length}
 use Rattle.std.proofs.lemmas.Result.{err_from_is_err_and}
 use Rattle.std.specs.Io.KnownBytes.{Appends}
-use Rattle.der_core.specs.Outside.{SomeRefused}
+use Rattle.der_core.specs.SourcesSinks.{SomeRefused}
 use Rattle.der_core.proofs.carry.write_all.Goals as goal
 
 pub returns-in_err-put_all : goal.returns-in_err-put_all

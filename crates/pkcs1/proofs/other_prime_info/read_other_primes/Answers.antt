@@ -5,10 +5,10 @@ use Rattle.std.specs.declared.alloc.Global.{Global}
 use Rattle.std.specs.declared.vec.Vec.{Vec}
 use Rattle.der_core.specs.Tells.{is_value}
 use Rattle.der_core.specs.Tlv.{Tlv}
-use Rattle.pkcs1.specs.Asking.{BeginsSequence}
+use Rattle.pkcs1.specs.Allocating.{BeginsSequence}
 use Rattle.pkcs1.specs.declared.other_prime_info.OtherPrimeInfo.{OtherPrimeInfo}
 use Rattle.pkcs1.specs.Keys.{OtherPrime}
-use Rattle.pkcs1.specs.PrivateKeys.{other_of}
+use Rattle.pkcs1.specs.PrivateKeyValue.{other_of}
 use Rattle.pkcs1.proofs.OtherReads.{agree, others_fail, empty_fails, more_fails, others_given, listed, unlisted}
 use Rattle.pkcs1.proofs.other_prime_info.read_other_primes.Goals as goal
 

@@ -1,4 +1,4 @@
-use Rattle.der_core.specs.Documents.{secret_text_of}
+use Rattle.der_core.specs.DocumentValue.{secret_text_of}
 use Rattle.pkcs1.specs.Keys.{RsaPrivateKey}
 use Rattle.pkcs1.proofs.Reencoded.{comes_out, wants_memory}
 use Rattle.pkcs1.proofs.reencode.reencode_private_key.Goals as goal

@@ -1,4 +1,4 @@
-use Rattle.der_core.specs.Documents.{text_of}
+use Rattle.der_core.specs.DocumentValue.{text_of}
 use Rattle.pkcs1.specs.Keys.{RsaPublicKey}
 use Rattle.pkcs1.proofs.Reencoded.{comes_out, wants_memory}
 use Rattle.pkcs1.proofs.reencode.reencode_public_key.Goals as goal

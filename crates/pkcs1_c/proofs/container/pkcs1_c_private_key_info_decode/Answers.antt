@@ -2,7 +2,7 @@ use Rattle.std.proofs.Common.{◌∙◌, sym, ap, subst}
 use Rattle.der_core.specs.Document.{Means}
 use Rattle.pkcs1.specs.Keys.{RsaPrivateKey}
 use Rattle.pkcs8_core.specs.Container.{Info}
-use Rattle.pkcs1_c.specs.Seen.{private_key_seen}
+use Rattle.pkcs1_c.specs.StructValues.{private_key_seen}
 use Rattle.pkcs1_c.proofs.container.pkcs1_c_private_key_info_decode.Goals as goal
 
 pub returns-in-Ok-clause-one : goal.returns-in-Ok-clause-one

@@ -1,7 +1,7 @@
 use Rattle.std.proofs.Common.{◌∙◌, sym, subst, length, take}
 use Rattle.der_core.specs.Document.{Means, IsShortest, HasText}
 use Rattle.der_core.specs.Tlv.{tlv}
-use Rattle.der_core.specs.Writing.{fault}
+use Rattle.der_core.specs.Writing.{encode_refusal}
 use Rattle.pkcs8_core.specs.Container.{PrivateKeyInfo, HasInfo, written_info}
 use Rattle.pkcs8_core.specs.Held.{info_of}
 use Rattle.pkcs1_c.proofs.Lists.{front_taken}
@@ -26,7 +26,7 @@ pub returns-in-Err-encode_into-clause-no_room : goal.returns-in-Err-encode_into-
 returns-in-Err-encode_into-clause-no_room c = λ e.
     let v = info_of c.in-Ok.made in
     let room = length c.args.out.now in
-    let why = has_some (HasInfo v) (HasText PrivateKeyInfo v) PrivateKeyInfo v room (fault c.in-Err-encode_into.error.kind) c.has_text.ensures c.in-Err-encode_into.ensures.err in
+    let why = has_some (HasInfo v) (HasText PrivateKeyInfo v) PrivateKeyInfo v room (encode_refusal c.in-Err-encode_into.error.kind) c.has_text.ensures c.in-Err-encode_into.ensures.err in
     let s = c.refusal.ensures.lacks room why e in
     (s.0, subst (λ w. IsShortest PrivateKeyInfo w s.0) c.in-Ok.ensures.ok s.1, s.2, s.3)
 
@@ -34,12 +34,12 @@ pub returns-in-Err-encode_into-clause-refused : goal.returns-in-Err-encode_into-
 returns-in-Err-encode_into-clause-refused c = λ _ other _ _ text m.
     let v = info_of c.in-Ok.made in
     let room = length c.args.out.now in
-    let why = has_some (HasInfo v) (HasText PrivateKeyInfo v) PrivateKeyInfo v room (fault c.in-Err-encode_into.error.kind) c.has_text.ensures c.in-Err-encode_into.ensures.err in
+    let why = has_some (HasInfo v) (HasText PrivateKeyInfo v) PrivateKeyInfo v room (encode_refusal c.in-Err-encode_into.error.kind) c.has_text.ensures c.in-Err-encode_into.ensures.err in
     c.refusal.ensures.has_none room why other text (subst (λ w. Means PrivateKeyInfo text w) (sym c.in-Ok.ensures.ok) m)
 
 pub returns-in-Err-encode_into-clause-kept : goal.returns-in-Err-encode_into-clause-kept
 returns-in-Err-encode_into-clause-kept c = λ _ other.
     let v = info_of c.in-Ok.made in
     let room = length c.args.out.now in
-    let why = has_some (HasInfo v) (HasText PrivateKeyInfo v) PrivateKeyInfo v room (fault c.in-Err-encode_into.error.kind) c.has_text.ensures c.in-Err-encode_into.ensures.err in
+    let why = has_some (HasInfo v) (HasText PrivateKeyInfo v) PrivateKeyInfo v room (encode_refusal c.in-Err-encode_into.error.kind) c.has_text.ensures c.in-Err-encode_into.ensures.err in
     c.refusal.ensures.kept room why other

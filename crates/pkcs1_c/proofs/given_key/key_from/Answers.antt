@@ -6,7 +6,7 @@ use Rattle.pkcs1_c.specs.declared.private_key.PrivateKey as view
 use Rattle.pkcs1_c.specs.declared.private_key.OtherPrime.{OtherPrime}
 use Rattle.pkcs1_c.specs.Given.{IsGiven}
 use Rattle.pkcs1_c.specs.Refusals.{HasNoText}
-use Rattle.pkcs1_c.specs.Seen.{other_prime_seen}
+use Rattle.pkcs1_c.specs.StructValues.{other_prime_seen}
 use Rattle.pkcs1_c.specs.Status.{status_of}
 use Rattle.pkcs1_c.proofs.Given.{err_all, err_handed, private_within, infos_have_none}
 use Rattle.pkcs1_c.proofs.given_key.key_from.Goals as goal

@@ -1,6 +1,6 @@
 use Rattle.std.proofs.Common.{arith}
 use Rattle.pkcs1_c.specs.Given.{HasNoOther}
-use Rattle.pkcs1_c.specs.Seen.{other_prime_seen}
+use Rattle.pkcs1_c.specs.StructValues.{other_prime_seen}
 use Rattle.pkcs1_c.proofs.Given.{err_all, other_within}
 use Rattle.pkcs1_c.proofs.given_key.other_from.Goals as goal
 

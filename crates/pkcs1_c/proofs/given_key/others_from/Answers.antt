@@ -1,8 +1,8 @@
 use Rattle.std.proofs.Common.{map, ◌≢◌}
-use Rattle.der_core.specs.UintRefs.{bytes_of}
-use Rattle.pkcs1.specs.PrivateKeys.{other_of}
+use Rattle.der_core.specs.UintRefValue.{bytes_of}
+use Rattle.pkcs1.specs.PrivateKeyValue.{other_of}
 use Rattle.pkcs1_c.specs.Given.{HaveNoOthers}
-use Rattle.pkcs1_c.specs.Seen.{other_prime_seen}
+use Rattle.pkcs1_c.specs.StructValues.{other_prime_seen}
 use Rattle.pkcs1_c.specs.Status.{status_of}
 use Rattle.pkcs1_c.proofs.Given.{err_all, one_has_none}
 use Rattle.pkcs1_c.proofs.Lists.{others_step}

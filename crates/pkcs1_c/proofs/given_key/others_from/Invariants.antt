@@ -1,7 +1,7 @@
 use Rattle.std.proofs.Common.{take, map}
-use Rattle.der_core.specs.UintRefs.{bytes_of}
-use Rattle.pkcs1.specs.PrivateKeys.{other_of}
-use Rattle.pkcs1_c.specs.Seen.{other_prime_seen}
+use Rattle.der_core.specs.UintRefValue.{bytes_of}
+use Rattle.pkcs1.specs.PrivateKeyValue.{other_of}
+use Rattle.pkcs1_c.specs.StructValues.{other_prime_seen}
 use Rattle.pkcs1_c.specs.Numbers.{AreOthersOf}
 use Rattle.pkcs1_c.proofs.given_key.others_from.Given as goal
 

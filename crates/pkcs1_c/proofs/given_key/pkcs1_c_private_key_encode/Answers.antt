@@ -1,8 +1,8 @@
-use Rattle.pkcs1.specs.PrivateKeys.{private_key_of}
+use Rattle.pkcs1.specs.PrivateKeyValue.{private_key_of}
 use Rattle.std.proofs.Common.{subst, map, None, ◌∙◌}
 use Rattle.der_core.specs.Document.{Means}
 use Rattle.pkcs1.specs.Keys.{RsaPrivateKey}
-use Rattle.pkcs1_c.specs.Seen.{private_key_seen, other_prime_seen}
+use Rattle.pkcs1_c.specs.StructValues.{private_key_seen, other_prime_seen}
 use Rattle.pkcs1_c.proofs.Given.{private_same}
 use Rattle.pkcs1_c.proofs.given_key.pkcs1_c_private_key_encode.Goals as goal
 

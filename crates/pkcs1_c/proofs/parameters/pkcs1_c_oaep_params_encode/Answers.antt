@@ -1,7 +1,7 @@
 use Rattle.std.proofs.Common.{length, subst, sym}
 use Rattle.der_core.specs.Document.{Means}
 use Rattle.pkcs1_params.specs.Parameters.{RsaOaepParams}
-use Rattle.pkcs1_c.specs.Seen.{oaep_seen}
+use Rattle.pkcs1_c.specs.StructValues.{oaep_seen}
 use Rattle.pkcs1_c.proofs.Fits.{oaep_fits}
 use Rattle.pkcs1_c.proofs.parameters.pkcs1_c_oaep_params_encode.Goals as goal
 

@@ -1,7 +1,7 @@
 use Rattle.std.proofs.Common.{length, subst, sym}
 use Rattle.der_core.specs.Document.{Means}
 use Rattle.pkcs1_params.specs.Parameters.{RsaPssParams}
-use Rattle.pkcs1_c.specs.Seen.{pss_seen}
+use Rattle.pkcs1_c.specs.StructValues.{pss_seen}
 use Rattle.pkcs1_c.proofs.Fits.{pss_fits}
 use Rattle.pkcs1_c.proofs.parameters.pkcs1_c_pss_params_encode.Goals as goal
 

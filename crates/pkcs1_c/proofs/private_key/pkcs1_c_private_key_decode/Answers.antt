@@ -1,5 +1,5 @@
 use Rattle.std.proofs.Common.{◌∙◌, sym}
-use Rattle.pkcs1_c.specs.Seen.{private_key_seen}
+use Rattle.pkcs1_c.specs.StructValues.{private_key_seen}
 use Rattle.pkcs1_c.proofs.private_key.pkcs1_c_private_key_decode.Goals as goal
 
 pub returns-in-Ok-clause-one : goal.returns-in-Ok-clause-one

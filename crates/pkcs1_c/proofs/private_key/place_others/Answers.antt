@@ -1,8 +1,8 @@
 use Rattle.std.proofs.Common.{arith}
-use Rattle.der_core.specs.UintRefs.{bytes_of}
+use Rattle.der_core.specs.UintRefValue.{bytes_of}
 use Rattle.pkcs1.specs.OtherPrimesLeft.{others_left}
-use Rattle.pkcs1.specs.PrivateKeys.{other_of}
-use Rattle.pkcs1_c.specs.Seen.{other_prime_seen}
+use Rattle.pkcs1.specs.PrivateKeyValue.{other_of}
+use Rattle.pkcs1_c.specs.StructValues.{other_prime_seen}
 use Rattle.pkcs1_c.proofs.Lists.{place_step}
 use Rattle.pkcs1_c.proofs.private_key.place_others.Goals as goal
 

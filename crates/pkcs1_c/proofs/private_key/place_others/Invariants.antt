@@ -1,6 +1,6 @@
 use Rattle.std.proofs.Common.{◌≡◌, ◌++◌, take, map}
 use Rattle.pkcs1.specs.OtherPrimesLeft.{others_left}
-use Rattle.pkcs1_c.specs.Seen.{other_prime_seen}
+use Rattle.pkcs1_c.specs.StructValues.{other_prime_seen}
 use Rattle.pkcs1_c.proofs.private_key.place_others.Given as goal
 
 -- What was placed, and what is left, are the primes.

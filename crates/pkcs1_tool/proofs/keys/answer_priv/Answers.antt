@@ -4,7 +4,7 @@ use Rattle.pkcs1.specs.Keys.{RsaPrivateKey}
 use Rattle.pkcs1.specs.ViewParts.{view_of, viewed_text}
 use Rattle.pkcs1.proofs.PrivateKeys.{private_at_most_one}
 use Rattle.pkcs1_tool.specs.Told.{priv_answer}
-use Rattle.pkcs1_tool.proofs.Put.{told, only_shortest}
+use Rattle.pkcs1_tool.proofs.PutBehind.{told, only_shortest}
 use Rattle.pkcs1_tool.proofs.keys.answer_priv.Goals as goal
 
 pub returns-in-Ok : goal.returns-in-Ok

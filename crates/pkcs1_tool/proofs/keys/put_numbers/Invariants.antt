@@ -1,6 +1,6 @@
 use Rattle.std.proofs.Common.{◌≡◌, ◌++◌, take}
 use Rattle.std.specs.List.{flat_map}
-use Rattle.der_core.specs.UintRefs.{bytes_of}
+use Rattle.der_core.specs.UintRefValue.{bytes_of}
 use Rattle.pkcs1_tool.specs.Told.{field}
 use Rattle.pkcs1_tool.proofs.keys.put_numbers.Given as goal
 

@@ -1,5 +1,5 @@
 use Rattle.std.proofs.lemmas.Result.{on_ok_weaker}
-use Rattle.pkcs1_tool.proofs.Put.{four}
+use Rattle.pkcs1_tool.proofs.PutBehind.{four}
 use Rattle.pkcs1_tool.proofs.keys.put_p8.Goals as goal
 
 pub returns : goal.returns

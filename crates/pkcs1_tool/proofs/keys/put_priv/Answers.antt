@@ -1,5 +1,5 @@
 use Rattle.std.proofs.lemmas.Result.{on_ok_weaker}
-use Rattle.pkcs1_tool.proofs.Put.{three}
+use Rattle.pkcs1_tool.proofs.PutBehind.{three}
 use Rattle.pkcs1_tool.proofs.keys.put_priv.Goals as goal
 
 pub returns : goal.returns

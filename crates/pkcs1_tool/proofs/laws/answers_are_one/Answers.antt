@@ -1,4 +1,4 @@
-use Rattle.pkcs1_tool.proofs.Only.{Laws, answers_at_most_one, output_at_most_one}
+use Rattle.pkcs1_tool.proofs.OneAnswer.{Laws, answers_at_most_one, output_at_most_one}
 use Rattle.pkcs1_tool.proofs.laws.answers_are_one.Goals as goal
 
 pub returns : goal.returns

@@ -1,6 +1,6 @@
 use Rattle.std.proofs.Common.{sym}
 use Rattle.std.proofs.lemmas.List.{take_rest}
-use Rattle.pkcs1_tool.proofs.Cuts.{position-some, position-none, lines_of-at, lines_of-none}
+use Rattle.pkcs1_tool.proofs.CutAtByte.{position-some, position-none, lines_of-at, lines_of-none}
 use Rattle.pkcs1_tool.proofs.lines.split_line.Goals as goal
 
 pub returns-in-Some-clause-lines : goal.returns-in-Some-clause-lines

@@ -2,7 +2,7 @@ use Rattle.std.proofs.Common.{◌<◌, ◌==◌, length, sym, arith}
 use Rattle.std.specs.List.{position_or_len}
 use Rattle.std.proofs.lemmas.List.{take_rest}
 use Rattle.std.proofs.lemmas.List.Splits.{slice_split_first}
-use Rattle.pkcs1_tool.proofs.Cuts.{position-some, position-none, parts_of-none}
+use Rattle.pkcs1_tool.proofs.CutAtByte.{position-some, position-none, parts_of-none}
 use Rattle.pkcs1_tool.proofs.lines.split_part.Goals as goal
 
 pub returns-in-Some : goal.returns-in-Some

@@ -1,4 +1,4 @@
-use Rattle.pkcs1_tool.proofs.Put.{parameters_told}
+use Rattle.pkcs1_tool.proofs.PutBehind.{parameters_told}
 use Rattle.pkcs1_tool.proofs.parameter_answers.answer_parameters.Goals as goal
 
 pub shortest-again-requires-clause-means : goal.shortest-again-requires-clause-means

@@ -2,7 +2,7 @@ use Rattle.std.specs.Prelude.{not}
 use Rattle.std.proofs.Common.{true, false, eqb, ◌≡◌, ◌∙◌, sym, ap, ℕ, length}
 use Rattle.der_core.specs.declared.error.Error.{Error}
 use Rattle.spki_core.specs.Any.{TagAndContents}
-use Rattle.spki_core.specs.AnyRefs.{any_of}
+use Rattle.spki_core.specs.AnyRefValue.{any_of}
 use Rattle.pkcs8_core.specs.Rsa.{other}
 use Rattle.pkcs8_core.proofs.rsa.require_rsa.Goals as goal
 use Rattle.pkcs8_core.proofs.rsa.require_rsa.Goals.{then-ne-via-then-ne, then-ne-via-else-ne+then-not-is_empty}

@@ -1,6 +1,6 @@
 use Rattle.std.proofs.Common.{◌≡◌, refl, ◌∙◌}
 use Rattle.std.proofs.lemmas.Result.{err_from_is_err_and}
-use Rattle.der_core.proofs.Blanket.{refused_header, refused_tag, room_refused, value_refused, value_accepted, ne_true, ne_false}
+use Rattle.der_core.proofs.HeaderAndContents.{refused_header, refused_tag, room_refused, value_refused, value_accepted, ne_true, ne_false}
 use Rattle.der_core.specs.Tells.{is_other_tag}
 use Rattle.spki_core.proofs.context_specific.read_inside.Goals as goal
 

@@ -2,7 +2,7 @@ use Rattle.std.proofs.Common.{◌≡◌, ◌∙◌, ap, ⊎_elim}
 use Rattle.der_core.specs.ShortestLaws.{means_one}
 use Rattle.spki_core.specs.Any.{TagAndContents}
 use Rattle.spki_core.specs.AnyLaws.{any_delimited}
-use Rattle.spki_core.specs.AnyRefs.{any_of}
+use Rattle.spki_core.specs.AnyRefValue.{any_of}
 use Rattle.spki_core.proofs.strict.written_default.Goals as goal
 
 pub returns-in-Ok : goal.returns-in-Ok

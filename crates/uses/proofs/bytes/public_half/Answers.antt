@@ -1,7 +1,7 @@
 use Rattle.std.proofs.Common.{ℕ, List, ◌≡◌, subst, Result, Ok, Err}
 use Rattle.std.specs.Prelude.{IfOk}
 use Rattle.der_core.specs.Document.{Means}
-use Rattle.der_core.specs.Documents.{text_of}
+use Rattle.der_core.specs.DocumentValue.{text_of}
 use Rattle.der_core.specs.declared.document.Document.{Document}
 use Rattle.pkcs1_params.specs.declared.error.Error.{Error}
 use Rattle.pkcs1.specs.Keys.{PrivateKey, PublicKey, RsaPrivateKey, RsaPublicKey}

@@ -1,5 +1,5 @@
 use Rattle.std.proofs.Common.{◌≡◌, ◌++◌, List, ℕ, map}
-use Rattle.der_core.specs.UintRefs.{bytes_of}
+use Rattle.der_core.specs.UintRefValue.{bytes_of}
 use Rattle.pkcs1.specs.Keys.{OtherPrime}
 use Rattle.pkcs1.specs.OtherPrimesLeft.{others_left}
 use Rattle.pkcs1.specs.ViewParts.{view_of, listed_others}

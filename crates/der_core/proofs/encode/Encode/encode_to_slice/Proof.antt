@@ -39,8 +39,8 @@ use Rattle.der_core.specs.contracts.encode.Encode.encode_to_slice.Key.{name as #
 use Rattle.der_core.specs.contracts.encode.Encode.encode_into as g
 use Rattle.der_core.proofs.encode.Encode.encode_into.Met.{met as writes}
 use Rattle.der_core.specs.contracts.encode.front as h
-use Rattle.der_core.specs.Lent.{IsFront, LeavesRest}
-use Rattle.der_core.proofs.Lent.{rests, Wrote, fits, leaves_rest, on_front, on_error}
+use Rattle.der_core.specs.EncodeToSlice.{IsFront, LeavesRest}
+use Rattle.der_core.proofs.EncodeToSlice.{rests, Wrote, fits, leaves_rest, on_front, on_error}
 use Rattle.std.proofs.result.Result.TheLaws.{the_row_laws as result_laws}
 use denote.Param.Laws.{Laws, of_field}
 use denote.Param.Shared.{copy_shared}
@@ -51,7 +51,7 @@ use Rattle.der_core.specs.contracts.error.Error.{the_row as ErrorRow}
 use Rattle.der_core.proofs.error.Error.TheLaws.{the_row_laws as error_laws}
 use Rattle.der_core.specs.declared.error.Error.{Error}
 use Rattle.der_core.specs.Document.{IsShortest, IsRefused}
-use Rattle.der_core.specs.Writing.{fault}
+use Rattle.der_core.specs.Writing.{encode_refusal}
 use Rattle.der_core.proofs.encode.Encode.encode_to_slice.Statement.{statement}
 use Rattle.der_core.proofs.encode.Encode.encode_to_slice.Code as code
 
@@ -105,7 +105,7 @@ encode_to_slice_spec 𝓤 𝓛 𝓜 𝓡 wired W L gh d gt dt met of_text =
     nothing ! $ move ! (6 ∷ 0 ∷ []) $ join ! $ move ! (4 ∷ 0 ∷ []) $ join ! $ move ! (4 ∷ 0 ∷ []) $ join ! $ join ! $ join ! $
     use1 𝓛 (raw (G.pre z)) (id⊢ 𝓤 _) $
     calls_at ! (framed 𝓤 H 𝓜 𝓣) G (writes 𝓤 𝓛 𝓜 𝓡 (code.calls-der_core::encode::Encode::encode_into 𝓡.env wired) W L gh d gt dt met of_text) z (and_then ! (get ! refl) (and_then ! (get ! refl) (no_more !))) (λ v.
-    let value : gt.Value = gt.value a.0.now in let text : List ℕ = gt.written_text value in let Refused : Error → Type 0 = λ e. IsRefused (gt.has_text value) gt.text value (length xs) (fault e.kind) in
+    let value : gt.Value = gt.value a.0.now in let text : List ℕ = gt.written_text value in let Refused : Error → Type 0 = λ e. IsRefused (gt.has_text value) gt.text value (length xs) (encode_refusal e.kind) in
     use1 𝓛 (later (some (λ (r : Result ℕ Error). ((‵ (flft κ₀ qs.0) ⊛ ‵ (flft (α ∷ []) full_share) ⊛ ‵ (flft κ₂ qs.1.1.0) ⊛ ‵ ftrue) ⊛ ‵ (Count.own_val r (v ∷ []))) ⊛ some (λ (ws : Unit {0} × (List ℕ × Unit {0})). ‵ (lasts (g.ended W gh d gt dt) z.0.0 z.0.3 ws)
     ⊛ given (Wrote text xs ws.1.0 r) (‵ ftrue) ⊛ given (OnOk r (IsShortest gt.text value text)) (‵ ftrue) ⊛ given (IfErr r Refused) (‵ ftrue) ⊛ given (OnErr r (ws.1.0 ≡ xs)) (‵ ftrue))))) (id⊢ 𝓤 _) $
     await ! tt $ pick ! (λ r. split ! $ split ! $ move ! (1 ∷ []) $ peeks ! Count (Is Count) (shows 𝓛 Count) r (v ∷ []) (λ told.

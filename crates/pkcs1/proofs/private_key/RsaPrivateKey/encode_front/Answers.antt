@@ -5,7 +5,7 @@ use Rattle.der_core.specs.declared.error.ErrorKind.TheVariants as kind
 use Rattle.der_core.specs.Tlv.{tlv}
 use Rattle.der_core.specs.Fronts.{front_is, rest_is}
 use Rattle.pkcs1.specs.Writing.{written_private_key}
-use Rattle.pkcs1.specs.PrivateKeys.{private_of}
+use Rattle.pkcs1.specs.PrivateKeyValue.{private_key_with}
 use Rattle.pkcs1.proofs.private_key.RsaPrivateKey.encode_front.Goals as goal
 
 pub returns-then-lists_none-clause-no_primes : goal.returns-then-lists_none-clause-no_primes
@@ -13,13 +13,13 @@ returns-then-lists_none-clause-no_primes g c = λ _. ap (λ e. e.kind) c.new.ens
 
 pub returns-clause-shortest : goal.returns-clause-shortest
 returns-clause-shortest g c =
-    let text = tlv 48 (written_private_key g.U.Text.written_text (private_of g.U.Text.value c.args.self.now)) in
+    let text = tlv 48 (written_private_key g.U.Text.written_text (private_key_with g.U.Text.value c.args.self.now)) in
     let made = c.in_ok-encode_into.ensures in
     rw (front_is text c.args.out.now _ _ made.ok.0 made.ok.1) made.shortest
 
 pub returns-clause-rest : goal.returns-clause-rest
 returns-clause-rest g c =
-    let text = tlv 48 (written_private_key g.U.Text.written_text (private_of g.U.Text.value c.args.self.now)) in
+    let text = tlv 48 (written_private_key g.U.Text.written_text (private_key_with g.U.Text.value c.args.self.now)) in
     let made = c.in_ok-encode_into.ensures.ok in
     rest_is text c.args.out.now _ _ made.0 made.1
 

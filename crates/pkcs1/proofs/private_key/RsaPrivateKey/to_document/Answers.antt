@@ -6,7 +6,7 @@ use Rattle.der_core.specs.Tlv.{Tlv, tlv}
 use Rattle.der_core.specs.declared.error.ErrorKind.TheVariants as kind
 use Rattle.pkcs1.specs.Keys.{PrivateKeyContents}
 use Rattle.pkcs1.specs.PrivateKeyLaws.{private_relates}
-use Rattle.pkcs1.specs.PrivateKeys.{private_of}
+use Rattle.pkcs1.specs.PrivateKeyValue.{private_key_with}
 use Rattle.pkcs1.specs.Writing.{written_private_key}
 use Rattle.pkcs1.proofs.NotWritten.{unwritten_as}
 use Rattle.pkcs1.proofs.private_key.RsaPrivateKey.to_document.Goals as goal
@@ -17,7 +17,7 @@ returns-then-lists_none-clause-no_primes g c = λ _. ap (λ e. e.kind) c.new-ref
 pub returns-in_err-encode_msg-clause-err : goal.returns-in_err-encode_msg-clause-err
 returns-in_err-encode_msg-clause-err g c =
     let p = err_from_is_err_and c.from_residual.result c.from_residual.ensures.1 in
-    let key = private_of g.U.Text.value c.args.self.now in
+    let key = private_key_with g.U.Text.value c.args.self.now in
     let text = g.U.Text.text in
     let written = written_private_key g.U.Text.written_text in
     rw (p.1, p.2) (unwritten_as (λ v. Tlv 48 (PrivateKeyContents text v)) key (λ has. has) (tlv 48 (written key))

@@ -1,7 +1,7 @@
 use Rattle.std.proofs.Common.{Bor, arith, ◌≤◌, ◌++◌, length, length-append}
 use Rattle.std.proofs.lemmas.Result.{err_from_is_err_and}
 use Rattle.der_core.specs.Length.{limit}
-use Rattle.pkcs1.specs.PrivateKeys.{private_of}
+use Rattle.pkcs1.specs.PrivateKeyValue.{private_key_with}
 use Rattle.pkcs1.specs.Writing.{key_numbers, written_private_key}
 use Rattle.pkcs1.proofs.KeyWrites.{version_number, version_appends, numbers_text, numbers_have, numbers_append, front, middle, back, front_refused, middle_refused, private_appends}
 use Rattle.pkcs1.proofs.private_key.RsaPrivateKeyEncodeValue.encode_value.Goals as goal
@@ -9,7 +9,7 @@ use Rattle.pkcs1.proofs.private_key.RsaPrivateKeyEncodeValue.encode_value.Goals 
 pub returns-in_err-encode-clause-appends : goal.returns-in_err-encode-clause-appends
 returns-in_err-encode-clause-appends g c =
     let p = err_from_is_err_and c.from_residual-in_err-encode.result c.from_residual-in_err-encode.ensures.1 in
-    let key = private_of g.U.Text.value c.args.self.now in
+    let key = private_key_with g.U.Text.value c.args.self.now in
     let all = c.in_ok-value_len.ensures.counts in
     let few : length (written_private_key g.U.Text.written_text key) ≤ limit = omega (arith, all) in
     let version = version_appends _ _ (version_number g.U.Text.value _ _ c.version.ensures) c.in_err-encode.ensures.appends in
@@ -21,7 +21,7 @@ encode_numbers-requires-clause-has g c =
 
 pub encode_numbers-requires-clause-fits : goal.encode_numbers-requires-clause-fits
 encode_numbers-requires-clause-fits g c =
-    let key = private_of g.U.Text.value c.args.self.now in
+    let key = private_key_with g.U.Text.value c.args.self.now in
     let same = numbers_text (λ (n : Bor g.row.U.Denot). g.U.Text.value n.now) g.U.Text.has_text g.U.Text.written_text c.numbers.result (key_numbers key) c.numbers.ensures in
     let n = front g.U.Text.has_text g.U.Text.written_text key in
     let t = middle g.U.Text.has_text g.U.Text.written_text key in
@@ -33,7 +33,7 @@ encode_numbers-requires-clause-fits g c =
 pub returns-in_err-encode_numbers-clause-appends : goal.returns-in_err-encode_numbers-clause-appends
 returns-in_err-encode_numbers-clause-appends g c =
     let p = err_from_is_err_and c.from_residual-in_err-encode_numbers.result c.from_residual-in_err-encode_numbers.ensures.1 in
-    let key = private_of g.U.Text.value c.args.self.now in
+    let key = private_key_with g.U.Text.value c.args.self.now in
     let all = c.in_ok-value_len.ensures.counts in
     let few : length (written_private_key g.U.Text.written_text key) ≤ limit = omega (arith, all) in
     let version = version_appends _ _ (version_number g.U.Text.value _ _ c.version.ensures) c.in_ok-encode.ensures.appends in
@@ -42,7 +42,7 @@ returns-in_err-encode_numbers-clause-appends g c =
 
 pub returns-clause-appends : goal.returns-clause-appends
 returns-clause-appends g c =
-    let key = private_of g.U.Text.value c.args.self.now in
+    let key = private_key_with g.U.Text.value c.args.self.now in
     let all = c.in_ok-value_len.ensures.counts in
     let few : length (written_private_key g.U.Text.written_text key) ≤ limit = omega (arith, all) in
     let version = version_appends _ _ (version_number g.U.Text.value _ _ c.version.ensures) c.in_ok-encode.ensures.appends in

@@ -1,6 +1,6 @@
 use Rattle.std.proofs.Common.{Bor, arith, ap, sym, ◌≡◌, ◌∙◌, ◌+◌, ◌≤◌, ◌++◌, length, length-append}
 use Rattle.der_core.specs.Length.{limit}
-use Rattle.pkcs1.specs.PrivateKeys.{private_of}
+use Rattle.pkcs1.specs.PrivateKeyValue.{private_key_with}
 use Rattle.pkcs1.specs.Writing.{key_numbers}
 use Rattle.pkcs1.proofs.KeyWrites.{version_number, version_text, numbers_text, numbers_have, front, middle, back, le_along, three_prepended}
 use Rattle.pkcs1.proofs.private_key.RsaPrivateKeyEncodeValue.prepend_value.Goals as goal
@@ -11,7 +11,7 @@ prepend_numbers-requires-clause-has g c =
 
 pub prepend_numbers-requires-clause-fits : goal.prepend_numbers-requires-clause-fits
 prepend_numbers-requires-clause-fits g c =
-    let key = private_of g.U.Text.value c.args.self.now in
+    let key = private_key_with g.U.Text.value c.args.self.now in
     let n = front g.U.Text.has_text g.U.Text.written_text key in
     let t = middle g.U.Text.has_text g.U.Text.written_text key in
     let o = back g.U.Text.has_text g.U.Text.written_text key in
@@ -21,7 +21,7 @@ prepend_numbers-requires-clause-fits g c =
 
 pub prepend_numbers-requires-clause-room : goal.prepend_numbers-requires-clause-room
 prepend_numbers-requires-clause-room g c =
-    let key = private_of g.U.Text.value c.args.self.now in
+    let key = private_key_with g.U.Text.value c.args.self.now in
     let n = front g.U.Text.has_text g.U.Text.written_text key in
     let t = middle g.U.Text.has_text g.U.Text.written_text key in
     let o = back g.U.Text.has_text g.U.Text.written_text key in
@@ -32,7 +32,7 @@ prepend_numbers-requires-clause-room g c =
 
 pub prepend-requires-clause-room : goal.prepend-requires-clause-room
 prepend-requires-clause-room g c =
-    let key = private_of g.U.Text.value c.args.self.now in
+    let key = private_key_with g.U.Text.value c.args.self.now in
     let n = front g.U.Text.has_text g.U.Text.written_text key in
     let t = middle g.U.Text.has_text g.U.Text.written_text key in
     let o = back g.U.Text.has_text g.U.Text.written_text key in
@@ -46,7 +46,7 @@ prepend-requires-clause-room g c =
 
 pub returns : goal.returns
 returns g c =
-    let key = private_of g.U.Text.value c.args.self.now in
+    let key = private_key_with g.U.Text.value c.args.self.now in
     let n = front g.U.Text.has_text g.U.Text.written_text key in
     let t = middle g.U.Text.has_text g.U.Text.written_text key in
     let o = back g.U.Text.has_text g.U.Text.written_text key in

@@ -1,14 +1,14 @@
 use Rattle.std.proofs.Common.{Bor, true, ◌≡◌, ◌∙◌, ap, refl}
 use Rattle.der_core.specs.declared.error.ErrorKind.TheVariants as kind
 use Rattle.der_core.specs.TagLaws.{same_tag}
-use Rattle.pkcs1.specs.PrivateKeys.{private_of, ListsNone}
+use Rattle.pkcs1.specs.PrivateKeyValue.{private_key_with, ListsNone}
 use Rattle.pkcs1.specs.Writing.{key_numbers}
 use Rattle.pkcs1.proofs.KeyWrites.{none_has, version_number, version_counts, numbers_counts, private_counts}
 use Rattle.pkcs1.proofs.private_key.RsaPrivateKeyEncodeValue.value_len.Goals as goal
 
 pub returns-clause-counts : goal.returns-clause-counts
 returns-clause-counts g c =
-    let key = private_of g.U.Text.value c.args.self.now in
+    let key = private_key_with g.U.Text.value c.args.self.now in
     rw (c.joined_len-2.ensures, c.joined_len.ensures) (private_counts g.U.Text.has_text g.U.Text.written_text key _ _ _
     (version_counts _ _ (version_number g.U.Text.value _ _ c.version.ensures) _ c.encoded_len.ensures.counted)
     (numbers_counts (λ (n : Bor g.row.U.Denot). g.U.Text.value n.now) g.U.Text.has_text g.U.Text.written_text _ (key_numbers key) c.numbers.ensures _ c.numbers_len.ensures)

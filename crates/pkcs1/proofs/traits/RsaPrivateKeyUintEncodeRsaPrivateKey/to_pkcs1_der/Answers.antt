@@ -1,11 +1,11 @@
-use Rattle.der_core.specs.Uints.{own_bytes_of}
-use Rattle.pkcs1.specs.PrivateKeys.{private_of}
+use Rattle.der_core.specs.UintValue.{own_bytes_of}
+use Rattle.pkcs1.specs.PrivateKeyValue.{private_key_with}
 use Rattle.pkcs1.proofs.HeldKeys.{own_held}
 use Rattle.pkcs1.proofs.NotWritten.{document_only, unwritten_held}
 use Rattle.pkcs1.proofs.traits.RsaPrivateKeyUintEncodeRsaPrivateKey.to_pkcs1_der.Goals as goal
 
 pub returns-clause-text : goal.returns-clause-text
-returns-clause-text c = document_only (private_of own_bytes_of c.args.self.now) c.to_document.result c.to_document.ensures.shortest
+returns-clause-text c = document_only (private_key_with own_bytes_of c.args.self.now) c.to_document.result c.to_document.ensures.shortest
 
 pub returns-clause-err : goal.returns-clause-err
 returns-clause-err c = unwritten_held own_bytes_of own_held c.args.self.now c.to_document.result c.to_document.ensures.err

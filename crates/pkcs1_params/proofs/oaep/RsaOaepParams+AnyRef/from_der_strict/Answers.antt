@@ -3,7 +3,7 @@ use Rattle.std.proofs.Common.{Some, None}
 use Rattle.pkcs1_params.specs.Defaults as count
 use Rattle.pkcs1_params.specs.Parameters.{oaep_fields}
 use Rattle.pkcs1_params.specs.ParameterLaws.{oaep_in_order}
-use Rattle.pkcs1_params.specs.OaepParams.{oaep_of}
+use Rattle.pkcs1_params.specs.OaepValue.{oaep_of}
 use Rattle.spki_core.specs.StrictFields.{number_in}
 use Rattle.pkcs1_params.proofs.StrictParameters.{strict_names, strict_longer, strict_shortest, oaep_found}
 use Rattle.pkcs1_params.proofs.oaep.RsaOaepParams+AnyRef.from_der_strict.Goals as goal

@@ -7,7 +7,7 @@ use Rattle.der_core.proofs.Refusals.{refused_by}
 use Rattle.spki_core.specs.Explicit.{Masked}
 use Rattle.spki_core.proofs.Spellings.{shortest_zero}
 use Rattle.pkcs1_params.specs.Parameters.{RsaOaepParams, oaep_fields}
-use Rattle.pkcs1_params.specs.OaepParams.{oaep_of, oaep_with}
+use Rattle.pkcs1_params.specs.OaepValue.{oaep_of, oaep_with}
 use Rattle.pkcs1_params.specs.OaepWriting.{oaep_defaults, written_oaep}
 use Rattle.pkcs1_params.specs.Defaults.{oaep_defaults as oaep_count}
 use Rattle.pkcs1_params.specs.HeldParameters.{oaep_made}

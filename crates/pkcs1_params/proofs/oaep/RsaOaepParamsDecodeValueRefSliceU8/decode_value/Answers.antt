@@ -1,5 +1,5 @@
 use Rattle.std.proofs.lemmas.Result.{err_from_is_err_and}
-use Rattle.pkcs1_params.proofs.DigestReads.{both_read}
+use Rattle.pkcs1_params.proofs.HashFieldsReads.{both_read}
 use Rattle.pkcs1_params.proofs.OaepReads.{hash_fails, mask_fails, source_fails, finish_fails, oaep_gives}
 use Rattle.pkcs1_params.proofs.oaep.RsaOaepParamsDecodeValueRefSliceU8.decode_value.Goals as goal
 

@@ -1,6 +1,6 @@
 use Rattle.std.proofs.Common.{refl}
 use Rattle.pkcs1_params.specs.OaepMasks.{oaep_out}
-use Rattle.pkcs1_params.specs.OaepParams.{oaep_of}
+use Rattle.pkcs1_params.specs.OaepValue.{oaep_of}
 use Rattle.pkcs1_params.specs.OaepWriting.{oaep_defaults, HasOaep, written_oaep}
 use Rattle.pkcs1_params.proofs.ParameterWrites.{appends_of}
 use Rattle.pkcs1_params.proofs.oaep_spelling.RsaOaepParamsAnyRefDefaultFields.encode_under.Goals as goal

@@ -1,6 +1,6 @@
 use Rattle.pkcs1_params.specs.HeldParameters.{oaep_held}
 use Rattle.pkcs1_params.specs.OaepMasks.{oaep_out}
-use Rattle.pkcs1_params.specs.OaepParams.{oaep_of}
+use Rattle.pkcs1_params.specs.OaepValue.{oaep_of}
 use Rattle.pkcs1_params.specs.OaepWriting.{oaep_defaults}
 use Rattle.pkcs1_params.proofs.oaep_spelling.RsaOaepParamsAnyRefDefaultFields.is_held.Goals as goal
 

@@ -7,7 +7,7 @@ use Rattle.der_core.proofs.Refusals.{refused_by}
 use Rattle.spki_core.specs.Explicit.{Masked}
 use Rattle.spki_core.proofs.Spellings.{shortest_zero}
 use Rattle.pkcs1_params.specs.Parameters.{RsaPssParams, pss_fields}
-use Rattle.pkcs1_params.specs.PssParams.{pss_of, pss_with}
+use Rattle.pkcs1_params.specs.PssValue.{pss_of, pss_with}
 use Rattle.pkcs1_params.specs.PssWriting.{pss_defaults, written_pss}
 use Rattle.pkcs1_params.specs.Defaults.{pss_defaults as pss_count}
 use Rattle.pkcs1_params.specs.HeldParameters.{pss_made}

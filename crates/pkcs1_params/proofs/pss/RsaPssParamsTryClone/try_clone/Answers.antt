@@ -1,6 +1,6 @@
 use Rattle.std.proofs.Common.{◌≡◌}
 use Rattle.spki_core.proofs.Carried.{any_carried, algorithm_carried, same_carried}
-use Rattle.spki_core.specs.AlgorithmRefs.{algorithm_with}
+use Rattle.spki_core.specs.AlgorithmValue.{algorithm_with}
 use Rattle.pkcs1_params.proofs.pss.RsaPssParamsTryClone.try_clone.Goals as goal
 
 pub returns-clause-ok : goal.returns-clause-ok

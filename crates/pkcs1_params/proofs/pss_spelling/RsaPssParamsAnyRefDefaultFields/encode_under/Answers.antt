@@ -1,6 +1,6 @@
 use Rattle.std.proofs.Common.{refl}
 use Rattle.pkcs1_params.specs.PssMasks.{pss_out}
-use Rattle.pkcs1_params.specs.PssParams.{pss_of}
+use Rattle.pkcs1_params.specs.PssValue.{pss_of}
 use Rattle.pkcs1_params.specs.PssWriting.{pss_defaults, HasPss, written_pss}
 use Rattle.pkcs1_params.proofs.ParameterWrites.{appends_of}
 use Rattle.pkcs1_params.proofs.pss_spelling.RsaPssParamsAnyRefDefaultFields.encode_under.Goals as goal

@@ -1,7 +1,7 @@
 use Rattle.std.proofs.Common.{arith}
 use Rattle.pkcs1_params.specs.HeldParameters.{pss_held}
 use Rattle.pkcs1_params.specs.PssMasks.{pss_out}
-use Rattle.pkcs1_params.specs.PssParams.{pss_of}
+use Rattle.pkcs1_params.specs.PssValue.{pss_of}
 use Rattle.pkcs1_params.specs.PssWriting.{pss_defaults}
 use Rattle.pkcs1_params.proofs.pss_spelling.RsaPssParamsAnyRefDefaultFields.is_held.Goals as goal
 

@@ -1,4 +1,4 @@
-use Rattle.pkcs1.specs.PrivateKeys.{private_key_of}
+use Rattle.pkcs1.specs.PrivateKeyValue.{private_key_of}
 use Rattle.pkcs8_core.specs.Held.{info_of}
 use Rattle.pkcs8_core.proofs.RsaHeld.{one_held, refused_held}
 use Rattle.pkcs8_core.proofs.info.PrivateKeyInfoRef.rsa_key.Goals as goal

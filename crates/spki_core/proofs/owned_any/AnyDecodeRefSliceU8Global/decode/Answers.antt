@@ -1,6 +1,6 @@
 use Rattle.std.proofs.Common.{◌∙◌}
 use Rattle.std.proofs.lemmas.Result.{err_from_is_err_and}
-use Rattle.der_core.specs.LastParts.{asks_more}
+use Rattle.der_core.specs.LastParts.{allocates_more}
 use Rattle.spki_core.specs.Any.{Any}
 use Rattle.spki_core.proofs.Copies.{copy_fails}
 use Rattle.spki_core.proofs.owned_any.AnyDecodeRefSliceU8Global.decode.Goals as goal
@@ -8,7 +8,7 @@ use Rattle.spki_core.proofs.owned_any.AnyDecodeRefSliceU8Global.decode.Goals as 
 pub returns-in_err-any : goal.returns-in_err-any
 returns-in_err-any g c =
     let p = err_from_is_err_and c.from_residual.result c.from_residual.ensures.1 in
-    rw (p.1, p.2) (asks_more Any _ _ (λ b w. absurd w) _ _ _ c.in_err-any.ensures)
+    rw (p.1, p.2) (allocates_more Any _ _ (λ b w. absurd w) _ _ _ c.in_err-any.ensures)
 
 pub returns-in-Err : goal.returns-in-Err
 returns-in-Err g c = copy_fails Any _ _ _ _ _ c.in_ok-any.ensures (c.error.ensures.value ∙ c.kind.ensures ∙ c.in-Err.ensures.err) c.error.ensures.failed

@@ -1,6 +1,6 @@
 use Rattle.spki_core.specs.Any.{Any}
-use Rattle.spki_core.specs.AnyRefs.{any_of}
-use Rattle.spki_core.specs.Anys.{any_in}
+use Rattle.spki_core.specs.AnyRefValue.{any_of}
+use Rattle.spki_core.specs.OwnedAnyValue.{any_in}
 use Rattle.spki_core.proofs.Copies.{copy_reads_all}
 use Rattle.spki_core.proofs.owned_any.AnyDecodeRefSliceU8Global.from_der.Goals as goal
 

@@ -1,6 +1,6 @@
 use Rattle.spki_core.specs.Any.{IsAny, Any}
-use Rattle.spki_core.specs.AnyRefs.{any_of}
-use Rattle.spki_core.specs.Anys.{any_in}
+use Rattle.spki_core.specs.AnyRefValue.{any_of}
+use Rattle.spki_core.specs.OwnedAnyValue.{any_in}
 use Rattle.spki_core.proofs.Copies.{refused_same}
 use Rattle.spki_core.proofs.owned_any.AnyEncode.encode.Goals as goal
 

@@ -3,11 +3,11 @@ use Rattle.std.specs.Prelude.{ℕ, List, ◌∷◌, ◌++◌, ◌≡◌, ◌<◌
 use Rattle.der_core.specs.Texts.{Joins}
 use Rattle.der_core.specs.Integer.{Small, Integer, IntegerContents}
 use Rattle.der_core.specs.Tlv.{Tlv}
-use Rattle.der_core.specs.Reading.{AskedIn, AsksWithin}
+use Rattle.der_core.specs.Reading.{AllocatesIn, AllocatesWithin}
 
 -- A SEQUENCE that isn't empty stands first.
 abbrev pub BeginsSequence : List ℕ → Type 0
-BeginsSequence c = AskedIn (Tlv 48 (λ octets. 0 < length octets)) c
+BeginsSequence c = AllocatesIn (Tlv 48 (λ octets. 0 < length octets)) c
 
 -- Such a rest stands behind a version and eight numbers.
 abbrev pub BehindNumbers : {Number : Type 0} → (Number → List ℕ → Type 0) → (List ℕ → Type 0) → List ℕ → Type 0
@@ -19,25 +19,25 @@ abbrev pub OthersFollow : {Number : Type 0} → (Number → List ℕ → Type 0)
 OthersFollow NumberText c = BehindNumbers NumberText BeginsSequence c
 
 -- A number may ask for memory, or what stands behind the numbers may.
-abbrev pub AsksInKey : {Number : Type 0} → (Number → List ℕ → Type 0) → (List ℕ → Type 0) → (List ℕ → Type 0) → List ℕ → Type 0
-AsksInKey NumberText asks Rest c = AsksWithin asks c ⊎ BehindNumbers NumberText Rest c
+abbrev pub AllocatesInKey : {Number : Type 0} → (Number → List ℕ → Type 0) → (List ℕ → Type 0) → (List ℕ → Type 0) → List ℕ → Type 0
+AllocatesInKey NumberText may_allocate Rest c = AllocatesWithin may_allocate c ⊎ BehindNumbers NumberText Rest c
 
 -- A number may ask for memory, or a list that isn't empty is there.
-abbrev pub AsksForKey : {Number : Type 0} → (Number → List ℕ → Type 0) → (List ℕ → Type 0) → List ℕ → Type 0
-AsksForKey NumberText asks c = AsksInKey NumberText asks BeginsSequence c
+abbrev pub AllocatesForKey : {Number : Type 0} → (Number → List ℕ → Type 0) → (List ℕ → Type 0) → List ℕ → Type 0
+AllocatesForKey NumberText may_allocate c = AllocatesInKey NumberText may_allocate BeginsSequence c
 
 -- A SEQUENCE that isn't empty stands behind the eighth number of a private key at the front of the text.
-abbrev pub MayAsk : List ℕ → Type 0
-MayAsk text = AskedIn (Tlv 48 (OthersFollow Integer)) text
+abbrev pub MayAllocate : List ℕ → Type 0
+MayAllocate text = AllocatesIn (Tlv 48 (OthersFollow Integer)) text
 
 -- The text of a number, which a number that owns its bytes copies.
 abbrev pub IsCopied : List ℕ → Type 0
 IsCopied text = Tlv 2 (λ c. (bytes : List ℕ) × IntegerContents bytes c) text
 
 -- A number, or a SEQUENCE that isn't empty behind the eighth, stands in a SEQUENCE at the front of the text.
-abbrev pub OwnedKeyAsks : List ℕ → Type 0
-OwnedKeyAsks text = AskedIn (Tlv 48 (AsksForKey Integer IsCopied)) text
+abbrev pub OwnedKeyAllocates : List ℕ → Type 0
+OwnedKeyAllocates text = AllocatesIn (Tlv 48 (AllocatesForKey Integer IsCopied)) text
 
 -- A number stands in a SEQUENCE at the front of the text.
-abbrev pub OwnedPublicKeyAsks : List ℕ → Type 0
-OwnedPublicKeyAsks text = AskedIn (Tlv 48 (AsksWithin IsCopied)) text
+abbrev pub OwnedPublicKeyAllocates : List ℕ → Type 0
+OwnedPublicKeyAllocates text = AllocatesIn (Tlv 48 (AllocatesWithin IsCopied)) text

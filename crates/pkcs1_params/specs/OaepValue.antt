@@ -3,9 +3,9 @@ use Rattle.std.specs.Prelude.{ℕ, List, ◌≡◌, length}
 use Rattle.der_core.specs.Texts.{AreBytes}
 use Rattle.der_core.specs.Document.{Means}
 use Rattle.spki_core.specs.Any.{TagAndContents, null_value}
-use Rattle.spki_core.specs.AnyRefs.{any_of}
+use Rattle.spki_core.specs.AnyRefValue.{any_of}
 use Rattle.spki_core.specs.declared.any.AnyRef.{AnyRef}
-use Rattle.spki_core.specs.AlgorithmRefs.{algorithm_with}
+use Rattle.spki_core.specs.AlgorithmValue.{algorithm_with}
 use Rattle.pkcs1_params.specs.Parameters.{id_mgf1, id_p_specified, with_parameters, octets_value, OaepParameters}
 use Rattle.pkcs1_params.specs.Parameters as grammar
 use Rattle.pkcs1_params.specs.declared.oaep.RsaOaepParams.{RsaOaepParams}

@@ -1,8 +1,8 @@
 -- What RSASSA-PSS parameters mean, by what an algorithm's parameters hold.
 use Rattle.spki_core.specs.Any.{TagAndContents}
-use Rattle.spki_core.specs.AnyRefs.{any_of}
+use Rattle.spki_core.specs.AnyRefValue.{any_of}
 use Rattle.spki_core.specs.declared.any.AnyRef.{AnyRef}
-use Rattle.spki_core.specs.AlgorithmRefs.{algorithm_with}
+use Rattle.spki_core.specs.AlgorithmValue.{algorithm_with}
 use Rattle.pkcs1_params.specs.Parameters.{PssParameters}
 use Rattle.pkcs1_params.specs.declared.pss.RsaPssParams.{RsaPssParams}
 

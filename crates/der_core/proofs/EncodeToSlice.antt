@@ -13,7 +13,7 @@ use types.Kit.{‵, ◌$◌, ◌∵◌, !, qed, use1, fpack, done}
 use denote.Slice.{finally}
 use denote.Follow.{such_by, follows_by}
 use denote.FollowSlice.{finally-res}
-use Rattle.der_core.specs.Lent.{IsFront, SliceRests}
+use Rattle.der_core.specs.EncodeToSlice.{IsFront, SliceRests}
 
 -- a slice whose last list is known rests at it
 module _ {M : Type 1} {𝓤 : Ura M} (𝓛 : Logic 𝓤) where

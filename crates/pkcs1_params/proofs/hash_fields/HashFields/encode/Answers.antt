@@ -1,7 +1,7 @@
 use Rattle.std.proofs.Common.{refl}
 use Rattle.std.proofs.lemmas.Result.{err_from_is_err_and}
-use Rattle.der_core.specs.Stopping.{appends_in_front, appends_behind}
-use Rattle.pkcs1_params.proofs.digest.Digest.encode.Goals as goal
+use Rattle.der_core.specs.StoppedWriting.{appends_in_front, appends_behind}
+use Rattle.pkcs1_params.proofs.hash_fields.HashFields.encode.Goals as goal
 
 pub returns-in_err-encode_field-clause-appends : goal.returns-in_err-encode_field-clause-appends
 returns-in_err-encode_field-clause-appends g c =

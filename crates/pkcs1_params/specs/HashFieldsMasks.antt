@@ -5,7 +5,7 @@ use Rattle.spki_core.specs.AlgorithmIdentifier.{Algorithm, PlainAlgorithm, MaskA
 use Rattle.spki_core.specs.AlgorithmLaws.{same_plain_decides, same_mask_decides}
 use Rattle.spki_core.specs.Explicit.{field}
 use Rattle.spki_core.specs.Masks.{Part}
-use Rattle.pkcs1_params.specs.DigestLaws.{plain_relates, plain_shortest, mask_relates, mask_shortest}
+use Rattle.pkcs1_params.specs.HashFieldsLaws.{plain_relates, plain_shortest, mask_relates, mask_shortest}
 use Rattle.pkcs1_params.specs.Parameters.{sha1, mgf1_sha1}
 use Rattle.std.specs.Prelude.{ℕ}
 
@@ -31,5 +31,5 @@ mask_gen_part v = record {
   least = mask_shortest v;
 }
 
-abbrev pub digest_parts : Algorithm TagAndContents → Algorithm (Algorithm TagAndContents) → List Part → List Part
-digest_parts hash mask_gen later = plain_part 0 sha1 hash ∷ mask_gen_part mask_gen ∷ later
+abbrev pub hash_parts_then : Algorithm TagAndContents → Algorithm (Algorithm TagAndContents) → List Part → List Part
+hash_parts_then hash mask_gen later = plain_part 0 sha1 hash ∷ mask_gen_part mask_gen ∷ later

@@ -4,7 +4,7 @@ use Rattle.der_core.specs.declared.document.Document.{Document}
 use Rattle.der_core.specs.declared.document.SecretDocument.{SecretDocument}
 use Rattle.der_core.specs.declared.error.Error.{Error}
 use Rattle.der_core.specs.Document.{IsShortest, IsUncountable}
-use Rattle.der_core.specs.Writing.{IsUncounted, LacksMemory, fault}
+use Rattle.der_core.specs.Writing.{IsUncounted, LacksMemory, encode_refusal}
 
 abbrev pub text_of : Document → List ℕ
 text_of document = document.bytes.items
@@ -20,4 +20,4 @@ HoldsMessage text (Ok document) has octets Grammar v =
     has × (text document ≡ octets) × IsShortest Grammar v (text document)
 HoldsMessage text (Err e) has octets Grammar v =
     LacksMemory has octets e.kind
-    ⊎ (IsUncounted has octets (fault e.kind) × IsUncountable has Grammar v (fault e.kind))
+    ⊎ (IsUncounted has octets (encode_refusal e.kind) × IsUncountable has Grammar v (encode_refusal e.kind))

@@ -10,18 +10,18 @@ use Rattle.spki_core.specs.AlgorithmLaws.{plain_delimited, mask_delimited, algor
 use Rattle.spki_core.specs.Explicit.{Field, field, Defaultable}
 use Rattle.spki_core.specs.FieldLaws.{AreLater, AreOfBytes, value_step, field_relates, field_shortest}
 use Rattle.spki_core.specs.FieldWriting.{written_field}
-use Rattle.pkcs1_params.specs.Parameters.{sha1, mgf1_sha1, digest_fields}
-use Rattle.pkcs1_params.specs.DigestWriting.{HasDigest, written_digest}
+use Rattle.pkcs1_params.specs.Parameters.{sha1, mgf1_sha1, hash_fields_then}
+use Rattle.pkcs1_params.specs.HashFieldsWriting.{HasHashFields, written_hash_fields}
 
 -- Later than a field is later than an earlier one.
 pub later_still : (m n : ℕ) (fields : List Field) → m ≤ n → AreLater n fields → AreLater m fields
 later_still m n [] le later = tt
 later_still m n (f ∷ fields) le later = (omega (arith, later.0), later_still m n fields le later.1)
 
-pub digest_step : (h h' : Algorithm TagAndContents) (g g' : Algorithm (Algorithm TagAndContents)) (fs gs : List Field) → AreLater 1 fs → AreLater 1 gs → (c : List ℕ)
-    → Joins (map Defaultable (digest_fields h g fs)) c → Joins (map Defaultable (digest_fields h' g' gs)) c
+pub hash_fields_step : (h h' : Algorithm TagAndContents) (g g' : Algorithm (Algorithm TagAndContents)) (fs gs : List Field) → AreLater 1 fs → AreLater 1 gs → (c : List ℕ)
+    → Joins (map Defaultable (hash_fields_then h g fs)) c → Joins (map Defaultable (hash_fields_then h' g' gs)) c
     → (h ≡ h') × (g ≡ g') × (rest : List ℕ) × Joins (map Defaultable fs) rest × Joins (map Defaultable gs) rest
-digest_step h h' g g' fs gs lf lg c p q =
+hash_fields_step h h' g g' fs gs lf lg c p q =
     let second : Algorithm (Algorithm TagAndContents) → Field = λ v. field 1 MaskAlgorithm mgf1_sha1 v in
     let a = value_step 0 PlainAlgorithm plain_delimited sha1 h h' (second g ∷ fs) (second g' ∷ gs) (omega arith, later_still 0 1 fs (omega arith) lf) (omega arith, later_still 0 1 gs (omega arith) lg) c p q in
     let b = value_step 1 MaskAlgorithm mask_delimited mgf1_sha1 g g' fs gs lf lg a.1 a.2 a.3 in
@@ -33,8 +33,8 @@ plain_of_bytes = tlv_of_bytes 48 refl (AlgorithmContents Any) (algorithm_of_byte
 mask_of_bytes : IsOfBytes MaskAlgorithm
 mask_of_bytes = tlv_of_bytes 48 refl (AlgorithmContents PlainAlgorithm) (algorithm_of_bytes PlainAlgorithm plain_of_bytes)
 
-pub digest_of_bytes : (h : Algorithm TagAndContents) (g : Algorithm (Algorithm TagAndContents)) (later : List Field) → AreOfBytes later → AreOfBytes (digest_fields h g later)
-digest_of_bytes h g later all = (omega arith, plain_of_bytes h, (omega arith, mask_of_bytes g, all))
+pub hash_fields_of_bytes : (h : Algorithm TagAndContents) (g : Algorithm (Algorithm TagAndContents)) (later : List Field) → AreOfBytes later → AreOfBytes (hash_fields_then h g later)
+hash_fields_of_bytes h g later all = (omega arith, plain_of_bytes h, (omega arith, mask_of_bytes g, all))
 
 -- What is written of an identifier.
 pub plain_relates : (v : Algorithm TagAndContents) → HasPlain v → length (written_plain v) < 2 ^ 128 → PlainAlgorithm v (written_plain v)
@@ -51,10 +51,10 @@ mask_shortest = tlv_shortest 48 (AlgorithmContents PlainAlgorithm) (written_algo
 
 -- What is written of both fields, and behind them.
 module _ (hash : Algorithm TagAndContents) (mask_gen : Algorithm (Algorithm TagAndContents)) (fields : List Field) (later : List ℕ) where
-  pub digest_relates : HasDigest (same_plain hash sha1) (same_mask mask_gen mgf1_sha1) hash mask_gen
-      → length (written_digest (same_plain hash sha1) (same_mask mask_gen mgf1_sha1) hash mask_gen ++ later) < 2 ^ 128 → Joins (map Defaultable fields) later
-      → Joins (map Defaultable (digest_fields hash mask_gen fields)) (written_digest (same_plain hash sha1) (same_mask mask_gen mgf1_sha1) hash mask_gen ++ later)
-  digest_relates h fits p =
+  pub hash_fields_relate : HasHashFields (same_plain hash sha1) (same_mask mask_gen mgf1_sha1) hash mask_gen
+      → length (written_hash_fields (same_plain hash sha1) (same_mask mask_gen mgf1_sha1) hash mask_gen ++ later) < 2 ^ 128 → Joins (map Defaultable fields) later
+      → Joins (map Defaultable (hash_fields_then hash mask_gen fields)) (written_hash_fields (same_plain hash sha1) (same_mask mask_gen mgf1_sha1) hash mask_gen ++ later)
+  hash_fields_relate h fits p =
       let a = written_field (same_plain hash sha1) 0 (written_plain hash) in
       let b = written_field (same_mask mask_gen mgf1_sha1) 1 (written_mask mask_gen) in
       let split = append_assoc a b later in
@@ -64,10 +64,10 @@ module _ (hash : Algorithm TagAndContents) (mask_gen : Algorithm (Algorithm TagA
       (then_holds a (b ++ later) (field_relates 0 PlainAlgorithm sha1 hash (same_plain hash sha1) (written_plain hash) (same_plain_decides hash sha1) (plain_relates hash) h.0 (omega (arith, l, m, fits)))
       (then_holds b later (field_relates 1 MaskAlgorithm mgf1_sha1 mask_gen (same_mask mask_gen mgf1_sha1) (written_mask mask_gen) (same_mask_decides mask_gen mgf1_sha1) (mask_relates mask_gen) h.1 (omega (arith, l, m, fits))) p))
 
-  pub digest_shortest : {has : Type 0} → ((c : List ℕ) → Joins (map Defaultable fields) c → IsLeast has later c)
-      → (c : List ℕ) → Joins (map Defaultable (digest_fields hash mask_gen fields)) c
-      → IsLeast (HasDigest (same_plain hash sha1) (same_mask mask_gen mgf1_sha1) hash mask_gen × has) (written_digest (same_plain hash sha1) (same_mask mask_gen mgf1_sha1) hash mask_gen ++ later) c
-  digest_shortest least c p =
+  pub hash_fields_shortest : {has : Type 0} → ((c : List ℕ) → Joins (map Defaultable fields) c → IsLeast has later c)
+      → (c : List ℕ) → Joins (map Defaultable (hash_fields_then hash mask_gen fields)) c
+      → IsLeast (HasHashFields (same_plain hash sha1) (same_mask mask_gen mgf1_sha1) hash mask_gen × has) (written_hash_fields (same_plain hash sha1) (same_mask mask_gen mgf1_sha1) hash mask_gen ++ later) c
+  hash_fields_shortest least c p =
       let a = written_field (same_plain hash sha1) 0 (written_plain hash) in
       let b = written_field (same_mask mask_gen mgf1_sha1) 1 (written_mask mask_gen) in
       let s = then_least a (b ++ later) (field_shortest 0 PlainAlgorithm HasPlain written_plain sha1 hash (same_plain hash sha1) (same_plain_decides hash sha1) plain_shortest)

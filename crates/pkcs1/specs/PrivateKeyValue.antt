@@ -1,6 +1,6 @@
 -- What a private key means, by what its numbers mean.
 use Rattle.der_core.specs.declared.integer.uint.UintRef.{UintRef}
-use Rattle.der_core.specs.UintRefs.{bytes_of}
+use Rattle.der_core.specs.UintRefValue.{bytes_of}
 use Rattle.std.specs.Prelude.{ℕ, List, ◌≡◌, length, Option, Some, None, map}
 use Rattle.std.specs.Option.{option_map}
 use Rattle.std.specs.declared.alloc.Global.{Global}
@@ -20,8 +20,8 @@ abbrev pub ListsNone : {U : Type 0} → Option (Vec (OtherPrimeInfo U) Global) �
 ListsNone None = ⊥
 ListsNone (Some v) = length v.items ≡ 0
 
-abbrev pub private_of : {U V : Type 0} → (U → V) → RsaPrivateKey U → PrivateKey V
-private_of value key = record {
+abbrev pub private_key_with : {U V : Type 0} → (U → V) → RsaPrivateKey U → PrivateKey V
+private_key_with value key = record {
   modulus = value key.modulus;
   public_exponent = value key.public_exponent;
   private_exponent = value key.private_exponent;
@@ -39,4 +39,4 @@ public_in value key = record { modulus = value key.modulus; public_exponent = va
 
 -- What a borrowed private key means.
 abbrev pub private_key_of : RsaPrivateKey UintRef → PrivateKey (List ℕ)
-private_key_of key = private_of bytes_of key
+private_key_of key = private_key_with bytes_of key

@@ -3,8 +3,8 @@ use Rattle.std.specs.Option.{option_map}
 use Rattle.spki_core.specs.declared.any.AnyRef.{AnyRef}
 use Rattle.spki_core.specs.declared.algorithm_identifier.AlgorithmIdentifier.{AlgorithmIdentifier}
 use Rattle.spki_core.specs.Any.{TagAndContents}
-use Rattle.spki_core.specs.AnyRefs.{any_of}
-use Rattle.spki_core.specs.ObjectIdentifiers.{octets_of}
+use Rattle.spki_core.specs.AnyRefValue.{any_of}
+use Rattle.spki_core.specs.ObjectIdentifierValue.{octets_of}
 use Rattle.spki_core.specs.AlgorithmIdentifier.{Algorithm}
 
 abbrev pub algorithm_with : {X V : Type 0} → (X → V) → AlgorithmIdentifier X → Algorithm V

@@ -3,14 +3,14 @@ ghost use Rattle.std.specs.Prelude.{◌≡◌, ◌≤◌, ◌∷◌, [], refl, l
 ghost use Rattle.der_core.specs.Length.{limit};
 ghost use Rattle.der_core.specs.Tlv.{Tlv};
 ghost use Rattle.der_core.specs.BackWriters.{free_of, Prepends};
-ghost use Rattle.der_core.specs.Reading.{AsksWithin};
+ghost use Rattle.der_core.specs.Reading.{AllocatesWithin};
 ghost use Rattle.der_core.specs.Writing.{Counts, Appends};
 ghost use Rattle.spki_core.specs.Any.{null_value};
 ghost use Rattle.spki_core.specs.AlgorithmIdentifier.{PlainAlgorithm, MaskAlgorithm, same_plain, same_mask};
-ghost use Rattle.spki_core.specs.AlgorithmRefs.{algorithm_with, algorithm_of, mask_of};
+ghost use Rattle.spki_core.specs.AlgorithmValue.{algorithm_with, algorithm_of, mask_of};
 ghost use Rattle.spki_core.specs.FieldReading.{ReadsField};
 ghost use Rattle.pkcs1_params.specs.Parameters.{id_sha1, id_mgf1, with_parameters, sha1, mgf1_sha1};
-ghost use Rattle.pkcs1_params.specs.DigestWriting.{HasBoth, written_both};
+ghost use Rattle.pkcs1_params.specs.HashFieldsWriting.{HasBoth, written_both};
 
 use der_core::{
     BackWriter, Decode, Length, Memory, Reader, Result, Tag, TagNumber, Writer, joined_len,
@@ -113,9 +113,9 @@ pub(crate) fn read_hash<'a, P: Decode<&'a [u8], M> + AnyParams<M>, M: Memory, R:
     memory: M,
     reader: &mut R,
 ) -> Result<AlgorithmIdentifier<P>>
-    ensures { let asks = AsksWithin (Tlv 48 (AsksWithin P.Decode.asks)) in
+    ensures { let may_allocate = AllocatesWithin (Tlv 48 (AllocatesWithin P.Decode.may_allocate)) in
         let value = algorithm_with P.any in
-        ReadsField 0 value PlainAlgorithm sha1 asks result (R.left reader.old) (R.left reader.new) }
+        ReadsField 0 value PlainAlgorithm sha1 may_allocate result (R.left reader.old) (R.left reader.new) }
 {
     if is_field_next(reader, TagNumber::new(0))? {
         read_explicit(memory, reader, TagNumber::new(0))
@@ -131,9 +131,9 @@ pub(crate) fn read_mask_gen<
     M: Memory,
     R: Reader<&'a [u8]>,
 >(memory: M, reader: &mut R) -> Result<MaskGen<P>>
-    ensures { let asks = AsksWithin (Tlv 48 (AsksWithin (Tlv 48 (AsksWithin P.Decode.asks)))) in
+    ensures { let may_allocate = AllocatesWithin (Tlv 48 (AllocatesWithin (Tlv 48 (AllocatesWithin P.Decode.may_allocate)))) in
         let value = algorithm_with (algorithm_with P.any) in
-        ReadsField 1 value MaskAlgorithm mgf1_sha1 asks result (R.left reader.old) (R.left reader.new) }
+        ReadsField 1 value MaskAlgorithm mgf1_sha1 may_allocate result (R.left reader.old) (R.left reader.new) }
 {
     if is_field_next(reader, TagNumber::new(1))? {
         read_explicit(memory, reader, TagNumber::new(1))
@@ -144,21 +144,21 @@ pub(crate) fn read_mask_gen<
 
 /// Both, borrowed, and which of them are left out when they are written.
 #[derive(Clone, Copy, Drop)]
-pub(crate) struct Digest<'b> {
+pub(crate) struct HashFields<'b> {
     pub(crate) hash: &'b AlgorithmIdentifierRef<'b>,
-    pub(crate) hash_out: bool,
+    pub(crate) hash_left_out: bool,
     pub(crate) mask_gen: &'b MaskGenRef<'b>,
-    pub(crate) mask_out: bool,
+    pub(crate) mask_gen_left_out: bool,
 }
 
-impl Digest<'_> {
+impl HashFields<'_> {
     /// How many octets both have.
     pub(crate) fn len(&self) -> Result<Length>
         ensures { Counts (HasBoth self.now) (written_both self.now) result }
     {
         joined_len(
-            field_len(self.hash_out, TagNumber::new(0), self.hash),
-            field_len(self.mask_out, TagNumber::new(1), self.mask_gen),
+            field_len(self.hash_left_out, TagNumber::new(0), self.hash),
+            field_len(self.mask_gen_left_out, TagNumber::new(1), self.mask_gen),
         )
     }
 
@@ -170,8 +170,8 @@ impl Digest<'_> {
             Appends (HasBoth d) (written_both d) W.room W.written writer.old writer.new result }
         ensures kept { W.keeps writer.old writer.new }
     {
-        encode_field(self.hash_out, TagNumber::new(0), self.hash, writer)?;
-        encode_field(self.mask_out, TagNumber::new(1), self.mask_gen, writer)
+        encode_field(self.hash_left_out, TagNumber::new(0), self.hash, writer)?;
+        encode_field(self.mask_gen_left_out, TagNumber::new(1), self.mask_gen, writer)
     }
 
     /// Puts both before what is filled.
@@ -181,7 +181,7 @@ impl Digest<'_> {
         requires room { length (written_both self.now) ≤ free_of writer.old }
         ensures { Prepends (written_both self.now) writer.old writer.new }
     {
-        prepend_field(self.mask_out, TagNumber::new(1), self.mask_gen, writer);
-        prepend_field(self.hash_out, TagNumber::new(0), self.hash, writer);
+        prepend_field(self.mask_gen_left_out, TagNumber::new(1), self.mask_gen, writer);
+        prepend_field(self.hash_left_out, TagNumber::new(0), self.hash, writer);
     }
 }

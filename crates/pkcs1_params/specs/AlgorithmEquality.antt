@@ -3,8 +3,8 @@ use Rattle.std.proofs.Common.{Bool, ◌≡◌, ◌&&◌, Decides}
 use Rattle.std.specs.Option.{option_eq}
 use Rattle.std.specs.Str.{bytes_eq}
 use Rattle.spki_core.specs.AlgorithmLaws.{algorithm_decides}
-use Rattle.spki_core.specs.AlgorithmRefs.{algorithm_with}
-use Rattle.spki_core.specs.ObjectIdentifiers.{octets_of}
+use Rattle.spki_core.specs.AlgorithmValue.{algorithm_with}
+use Rattle.spki_core.specs.ObjectIdentifierValue.{octets_of}
 use Rattle.spki_core.specs.declared.algorithm_identifier.AlgorithmIdentifier.{AlgorithmIdentifier}
 
 -- What two identifiers are equal by.
