@@ -1,5 +1,6 @@
 -- Encodings as a whole, within the limit on their length.
 use Rattle.std.specs.Prelude.{ℕ, List, ◌≡◌, ◌<◌, ◌≤◌, ◌⊎◌, ◌↔◌, length}
+use Rattle.der_core.specs.Tag.{sequence_tag}
 use Rattle.der_core.specs.Length.{limit}
 use Rattle.der_core.specs.Texts.{AreBytes}
 use Rattle.der_core.specs.Tlv.{Tlv}
@@ -62,4 +63,4 @@ HasText Grammar v = (text : List ℕ) × Grammar v text
 
 -- One whole SEQUENCE, whatever its contents are.
 abbrev pub IsDocument : List ℕ → Type 0
-IsDocument text = (length text ≤ limit) × Tlv 48 AreBytes text
+IsDocument text = (length text ≤ limit) × Tlv sequence_tag AreBytes text

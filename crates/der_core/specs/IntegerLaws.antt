@@ -2,6 +2,7 @@
 use Rattle.std.proofs.Common.{take_all, ℕ, suc, List, [], ◌∷◌, ◌≡◌, ◌<◌, ◌≤◌, ◌-◌, ◌+◌, ◌^◌, length, get_or, take, drop, refl, sym, ap, ◌∙◌, arith, inl, inr}
 use Rattle.std.specs.Prelude.{slice_index}
 use Rattle.std.specs.Int.Digits.{number_from_digits}
+use Rattle.der_core.specs.Tag.{integer_tag}
 use Rattle.der_core.specs.Texts.{AreBytes, IsDelimited, IsOfBytes, MeansOne, AtMostOne}
 use Rattle.der_core.specs.Integer.{IsCanonical, IntegerContents, Integer, SmallContents, Small, HoldsNumber, integer_contents}
 use Rattle.der_core.specs.InputLaws.{are_bytes}
@@ -29,7 +30,7 @@ integer_means_one v w c (p, inr a) (q, inl b) = absurd (not_padded w v q a.0 (sy
 integer_means_one v w c (p, inr a) (q, inr b) = (same_cons (sym a.1 ∙ b.1)).1
 
 pub integer_delimited : IsDelimited Integer
-integer_delimited = tlv_delimited 2 IntegerContents integer_means_one
+integer_delimited = tlv_delimited integer_tag IntegerContents integer_means_one
 
 pub contents_at_most_one : (bytes : List ℕ) → AtMostOne (IntegerContents bytes)
 contents_at_most_one n x y (p, inl a) (q, inl b) = a.1 ∙ sym b.1
@@ -38,7 +39,7 @@ contents_at_most_one n x y (p, inr a) (q, inl b) = absurd (omega arith)
 contents_at_most_one n x y (p, inr a) (q, inr b) = a.1 ∙ sym b.1
 
 pub integer_at_most_one : (bytes : List ℕ) → AtMostOne (Integer bytes)
-integer_at_most_one bytes = tlv_at_most_one 2 (IntegerContents bytes) (contents_at_most_one bytes)
+integer_at_most_one bytes = tlv_at_most_one integer_tag (IntegerContents bytes) (contents_at_most_one bytes)
 
 -- A number has one list of canonical bytes.
 pub canonical_same : (x y : List ℕ) → IsCanonical x → IsCanonical y → number_from_digits 256 x ≡ number_from_digits 256 y → x ≡ y
@@ -60,7 +61,7 @@ small_means_one m n c (p, x, e, i) (q, y, f, j) =
     sym e ∙ k ∙ f
 
 pub small_delimited : IsDelimited Small
-small_delimited = tlv_delimited 2 SmallContents small_means_one
+small_delimited = tlv_delimited integer_tag SmallContents small_means_one
 
 small_contents_at_most_one : (n : ℕ) → AtMostOne (SmallContents n)
 small_contents_at_most_one n c d (p, x, e, i) (q, y, f, j) =
@@ -68,7 +69,7 @@ small_contents_at_most_one n c d (p, x, e, i) (q, y, f, j) =
     contents_at_most_one y c d (rw s at i) j
 
 pub small_at_most_one : (n : ℕ) → AtMostOne (Small n)
-small_at_most_one n = tlv_at_most_one 2 (SmallContents n) (small_contents_at_most_one n)
+small_at_most_one n = tlv_at_most_one integer_tag (SmallContents n) (small_contents_at_most_one n)
 
 -- What a type holds of a number's bytes.
 pub holds_canonical : (bytes : List ℕ) → HoldsNumber bytes → IsCanonical bytes
@@ -112,7 +113,7 @@ integer_made bytes p h =
       | inl l ↦ omega (arith, ap length (written_small bytes l))
       | inr l ↦ omega (arith, ap length (written_large bytes l))
     ] in
-    let made = tlv_made 2 (IntegerContents bytes) (integer_contents bytes) (integer_relates bytes p) (omega (arith, few, h)) in
+    let made = tlv_made integer_tag (IntegerContents bytes) (integer_contents bytes) (integer_relates bytes p) (omega (arith, few, h)) in
     (made.0, made.1, omega (arith, few, h, ap length made.2, tlv_little_longer made.0 made.1))
 
 -- Contents of numbers are bytes.

@@ -1,5 +1,6 @@
 -- OCTET STRING: each text means one list of octets and is bytes, and each list of octets has one text.
 use Rattle.std.proofs.Common.{ℕ, List, ◌≤◌, length, refl, sym, ap, ◌∙◌, arith}
+use Rattle.der_core.specs.Tag.{octet_string_tag}
 use Rattle.der_core.specs.Texts.{AreBytes, AtMostOne, IsDelimited, MeansOne, IsOfBytes}
 use Rattle.der_core.specs.TextLaws.{tlv_at_most_one, tlv_delimited}
 use Rattle.der_core.specs.OctetString.{OctetContents, OctetString}
@@ -18,10 +19,10 @@ pub octets_shortest : (octets c : List ℕ) → OctetContents octets c → IsLea
 octets_shortest octets c p = (p.0, omega (arith, ap length p.1), (λ (_ : length c ≤ length octets). p.1))
 
 pub octet_string_delimited : IsDelimited OctetString
-octet_string_delimited = tlv_delimited 4 OctetContents octets_mean_one
+octet_string_delimited = tlv_delimited octet_string_tag OctetContents octets_mean_one
 
 pub octets_at_most_one : (octets : List ℕ) → AtMostOne (OctetContents octets)
 octets_at_most_one octets x y p q = p.1 ∙ sym q.1
 
 pub octet_string_at_most_one : (octets : List ℕ) → AtMostOne (OctetString octets)
-octet_string_at_most_one octets = tlv_at_most_one 4 (OctetContents octets) (octets_at_most_one octets)
+octet_string_at_most_one octets = tlv_at_most_one octet_string_tag (OctetContents octets) (octets_at_most_one octets)

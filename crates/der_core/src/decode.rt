@@ -68,8 +68,8 @@ pub fn decode_optional<'a, T: DecodeValue<&'a [u8], M> + FixedTag, M: Memory, R:
     reader: &mut R,
 ) -> Result<Option<T>>
     ensures { let tag = T.TAG.octet in
-        let may_allocate = Tlv tag T.DecodeValue.may_allocate in
-        ReadsOptional tag T.value (λ v. Tlv tag (T.contents v)) may_allocate result (R.left reader.old) (R.left reader.new) }
+        let may = Tlv tag T.DecodeValue.may_allocate in
+        ReadsOptional tag T.value (λ v. Tlv tag (T.contents v)) may result (R.left reader.old) (R.left reader.new) }
 {
     reader.read_slice(Length::ZERO)?;
     if reader.peek_octet() != Some(T::TAG.octet()) {

@@ -19,7 +19,7 @@ use crate::length::Length;
 use crate::memory::{NoMemory, copy_of};
 use crate::reader::Reader;
 use crate::source_sink::{Sink, Source};
-use crate::types::{Contents, FixedTag, TaggedBy, Sequence, SequenceTag};
+use crate::types::{Contents, FixedTag, Sequence, SequenceTag, TaggedBy};
 use crate::wrap::{FromRead, ToWrite};
 use std::alloc::Global;
 use std::fmt;

@@ -22,8 +22,8 @@ pub fn decode_whole<'a, T: Decode<&'a [u8], M>, M: Memory, R: Reader<&'a [u8]>>(
     memory: M,
     reader: &mut R,
 ) -> Result<T>
-    ensures reads { let may_allocate = AllocatesWithin T.Decode.may_allocate in
-        ReadsContents T.value T.text may_allocate result (R.left reader.old) (R.left reader.new) }
+    ensures reads { let may = AllocatesWithin T.Decode.may_allocate in
+        ReadsContents T.value T.text may result (R.left reader.old) (R.left reader.new) }
     ensures failed { R.left reader.old ≡ None → IsErrAnd result (λ e. e.kind ≡ ErrorKind.Failed) }
 {
     let value = T::decode(memory, reader)?;
@@ -37,8 +37,8 @@ pub fn decode_last<'a, T: Decode<&'a [u8], M>, M: Memory, R: Reader<&'a [u8]>>(
     memory: M,
     reader: &mut R,
 ) -> Result<Option<T>>
-    ensures reads { let may_allocate = AllocatesWithin T.Decode.may_allocate in
-        ReadsContents (option_map T.value) (Optional T.text) may_allocate result (R.left reader.old) (R.left reader.new) }
+    ensures reads { let may = AllocatesWithin T.Decode.may_allocate in
+        ReadsContents (option_map T.value) (Optional T.text) may result (R.left reader.old) (R.left reader.new) }
     ensures failed { R.left reader.old ≡ None → IsErrAnd result (λ e. e.kind ≡ ErrorKind.Failed) }
 {
     if reader.peek_octet().is_none() {

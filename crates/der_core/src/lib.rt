@@ -45,7 +45,7 @@ pub use source_sink::{Sink, Source};
 pub use tag::{Tag, TagNumber};
 pub use try_clone::TryClone;
 pub use types::{
-    Contents, EqualByValue, FixedTag, IntegerTag, TaggedBy, Sequence, SequenceTag, TagMarker, Text,
+    Contents, EqualByValue, FixedTag, IntegerTag, Sequence, SequenceTag, TagMarker, TaggedBy, Text,
 };
 pub use wrap::{FromRead, ToWrite};
 pub use writer::{SliceWriter, Writer};

@@ -15,7 +15,7 @@ use crate::length::Length;
 use crate::memory::Memory;
 use crate::reader::Reader;
 use crate::tag::Tag;
-use crate::types::{Contents, EqualByValue, TaggedBy, TagMarker};
+use crate::types::{Contents, EqualByValue, TagMarker, TaggedBy};
 use crate::writer::Writer;
 
 /// Octets, at most `Length::MAX`. It borrows them.

@@ -14,7 +14,7 @@ use crate::error::{ErrorKind, Result};
 use crate::header::Header;
 use crate::length::Length;
 use crate::reader::Reader;
-use crate::types::{Contents, TaggedBy, SequenceTag, Text};
+use crate::types::{Contents, SequenceTag, TaggedBy, Text};
 use crate::writer::Writer;
 use std::alloc::Global;
 

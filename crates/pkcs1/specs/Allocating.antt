@@ -1,5 +1,6 @@
 -- The contents of a private key for which memory may be asked for.
 use Rattle.std.specs.Prelude.{ℕ, List, ◌∷◌, ◌++◌, ◌≡◌, ◌<◌, ◌⊎◌, length, map}
+use Rattle.der_core.specs.Tag.{integer_tag, sequence_tag}
 use Rattle.der_core.specs.Texts.{Joins}
 use Rattle.der_core.specs.Integer.{Small, Integer, IntegerContents}
 use Rattle.der_core.specs.Tlv.{Tlv}
@@ -7,7 +8,7 @@ use Rattle.der_core.specs.Reading.{AllocatesIn, AllocatesWithin}
 
 -- A SEQUENCE that isn't empty stands first.
 abbrev pub BeginsSequence : List ℕ → Type 0
-BeginsSequence c = AllocatesIn (Tlv 48 (λ octets. 0 < length octets)) c
+BeginsSequence c = AllocatesIn (Tlv sequence_tag (λ octets. 0 < length octets)) c
 
 -- Such a rest stands behind a version and eight numbers.
 abbrev pub BehindNumbers : {Number : Type 0} → (Number → List ℕ → Type 0) → (List ℕ → Type 0) → List ℕ → Type 0
@@ -28,16 +29,16 @@ AllocatesForKey NumberText may_allocate c = AllocatesInKey NumberText may_alloca
 
 -- A SEQUENCE that isn't empty stands behind the eighth number of a private key at the front of the text.
 abbrev pub MayAllocate : List ℕ → Type 0
-MayAllocate text = AllocatesIn (Tlv 48 (OthersFollow Integer)) text
+MayAllocate text = AllocatesIn (Tlv sequence_tag (OthersFollow Integer)) text
 
 -- The text of a number, which a number that owns its bytes copies.
 abbrev pub IsCopied : List ℕ → Type 0
-IsCopied text = Tlv 2 (λ c. (bytes : List ℕ) × IntegerContents bytes c) text
+IsCopied text = Tlv integer_tag (λ c. (bytes : List ℕ) × IntegerContents bytes c) text
 
 -- A number, or a SEQUENCE that isn't empty behind the eighth, stands in a SEQUENCE at the front of the text.
 abbrev pub OwnedKeyAllocates : List ℕ → Type 0
-OwnedKeyAllocates text = AllocatesIn (Tlv 48 (AllocatesForKey Integer IsCopied)) text
+OwnedKeyAllocates text = AllocatesIn (Tlv sequence_tag (AllocatesForKey Integer IsCopied)) text
 
 -- A number stands in a SEQUENCE at the front of the text.
 abbrev pub OwnedPublicKeyAllocates : List ℕ → Type 0
-OwnedPublicKeyAllocates text = AllocatesIn (Tlv 48 (AllocatesWithin IsCopied)) text
+OwnedPublicKeyAllocates text = AllocatesIn (Tlv sequence_tag (AllocatesWithin IsCopied)) text

@@ -1,5 +1,6 @@
 -- RSA keys (RFC 8017 A.1.1, A.1.2). A number is its canonical bytes; a grammar of numbers says their texts.
 use Rattle.std.specs.Prelude.{ℕ, List, [], ◌∷◌, ◌≡◌, ◌<◌, length, Option, Some, None}
+use Rattle.der_core.specs.Tag.{sequence_tag}
 use Rattle.der_core.specs.Tlv.{Tlv}
 use Rattle.der_core.specs.Texts.{Joins}
 use Rattle.der_core.specs.Integer.{Integer, Small}
@@ -14,7 +15,7 @@ abbrev pub PublicKeyContents : {Number : Type 0} → (Number → List ℕ → Ty
 PublicKeyContents NumberText key contents = Joins (NumberText key.modulus ∷ NumberText key.public_exponent ∷ []) contents
 
 abbrev pub RsaPublicKey : PublicKey (List ℕ) → List ℕ → Type 0
-RsaPublicKey key text = Tlv 48 (PublicKeyContents Integer key) text
+RsaPublicKey key text = Tlv sequence_tag (PublicKeyContents Integer key) text
 
 pub record OtherPrime (Number : Type 0) : Type 0 where
   pub prime : Number
@@ -26,12 +27,12 @@ abbrev pub OtherPrimeContents : {Number : Type 0} → (Number → List ℕ → T
 OtherPrimeContents NumberText other contents = Joins (NumberText other.prime ∷ NumberText other.exponent ∷ NumberText other.coefficient ∷ []) contents
 
 abbrev pub OtherPrimeInfo : {Number : Type 0} → (Number → List ℕ → Type 0) → OtherPrime Number → List ℕ → Type 0
-OtherPrimeInfo NumberText other text = Tlv 48 (OtherPrimeContents NumberText other) text
+OtherPrimeInfo NumberText other text = Tlv sequence_tag (OtherPrimeContents NumberText other) text
 
 -- OtherPrimeInfos ::= SEQUENCE SIZE(1..MAX) OF OtherPrimeInfo, OPTIONAL (A.1.2)
 abbrev pub OtherPrimeInfos : {Number : Type 0} → (Number → List ℕ → Type 0) → Option (List (OtherPrime Number)) → List ℕ → Type 0
 OtherPrimeInfos NumberText None text = text ≡ []
-OtherPrimeInfos NumberText (Some others) text = (0 < length others) × Tlv 48 (ItemsContents (OtherPrimeInfo NumberText) others) text
+OtherPrimeInfos NumberText (Some others) text = (0 < length others) × Tlv sequence_tag (ItemsContents (OtherPrimeInfo NumberText) others) text
 
 -- Version ::= INTEGER { two-prime(0), multi(1) }: multi where there are other primes (A.1.2)
 abbrev pub version_of : {Number : Type 0} → Option (List (OtherPrime Number)) → ℕ
@@ -72,10 +73,10 @@ PrivateKeyContents NumberText key contents =
 
 -- The same SEQUENCE, over the texts of its numbers.
 abbrev pub PrivateKeyText : {Number : Type 0} → (Number → List ℕ → Type 0) → PrivateKey Number → List ℕ → Type 0
-PrivateKeyText NumberText key text = Tlv 48 (PrivateKeyContents NumberText key) text
+PrivateKeyText NumberText key text = Tlv sequence_tag (PrivateKeyContents NumberText key) text
 
 abbrev pub RsaPrivateKey : PrivateKey (List ℕ) → List ℕ → Type 0
-RsaPrivateKey key text = Tlv 48 (PrivateKeyContents Integer key) text
+RsaPrivateKey key text = Tlv sequence_tag (PrivateKeyContents Integer key) text
 
 -- The public key (n, e) of a private key (RFC 8017 3.1, 3.2).
 abbrev pub public_part : {Number : Type 0} → PrivateKey Number → PublicKey Number

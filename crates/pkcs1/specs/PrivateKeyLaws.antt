@@ -1,5 +1,6 @@
 -- RSA private keys: each text means one key and is bytes, and what is written of a key is its shortest text.
 use Rattle.std.proofs.Common.{ℕ, List, [], ◌∷◌, ◌++◌, ◌≡◌, ◌<◌, ◌≤◌, ◌^◌, length, map, refl, sym, ap, ◌∙◌, arith, append_assoc, length-append, Option, Some, None}
+use Rattle.der_core.specs.Tag.{integer_tag, sequence_tag}
 use Rattle.der_core.specs.Tlv.{tlv}
 use Rattle.der_core.specs.Texts.{AreBytes, Then, Joins, MeansOne, IsDelimited, IsOfBytes}
 use Rattle.der_core.specs.TextLaws.{tlv_of_bytes, then_of_bytes, last_of_bytes, tlv_split, tlv_delimited, then_step, joins_map, then_holds, last_holds, then_least, last_least, tlv_relates, tlv_shortest}
@@ -36,7 +37,7 @@ module _ {Number : Type 0} {NumberText : Number → List ℕ → Type 0} (d : Is
       λ i. record { prime = a.0 i; exponent = b.0 i; coefficient = e.0 i }
 
   pub other_delimited : IsDelimited (OtherPrimeInfo NumberText)
-  other_delimited = tlv_delimited 48 (OtherPrimeContents NumberText) other_means_one
+  other_delimited = tlv_delimited sequence_tag (OtherPrimeContents NumberText) other_means_one
 
   -- The other primes at the end, where the versions agree.
   pub others_same : (v w : Option (List (OtherPrime Number))) (c : List ℕ) → version_of v ≡ version_of w → Joins (OtherPrimeInfos NumberText v ∷ []) c → Joins (OtherPrimeInfos NumberText w ∷ []) c → v ≡ w
@@ -80,20 +81,20 @@ module _ {Number : Type 0} (NumberText : Number → List ℕ → Type 0) (has : 
     others_relate None h fits = refl
     others_relate (Some others) h fits = (
       h.0,
-      tlv_relates 48 (λ vs c. Joins (map (OtherPrimeInfo NumberText) vs) c) (all_texts (λ other. tlv 48 (written_other text other))) others
-          (items_relate (OtherPrimeInfo NumberText) (HasOther has) (λ other. tlv 48 (written_other text other))
-          (λ other k. tlv_relates 48 (OtherPrimeContents NumberText) (written_other text) other (other_relates other k)) others h.1)
+      tlv_relates sequence_tag (λ vs c. Joins (map (OtherPrimeInfo NumberText) vs) c) (all_texts (λ other. tlv sequence_tag (written_other text other))) others
+          (items_relate (OtherPrimeInfo NumberText) (HasOther has) (λ other. tlv sequence_tag (written_other text other))
+          (λ other k. tlv_relates sequence_tag (OtherPrimeContents NumberText) (written_other text) other (other_relates other k)) others h.1)
           fits,
     )
 
     pub private_relates : (key : PrivateKey Number) → HasPrivateKey has key → length (written_private_key text key) < 2 ^ 128 → PrivateKeyContents NumberText key (written_private_key text key)
     private_relates key h fits =
-        let n = tlv 2 (integer_contents (version_of key.other_prime_infos ∷ [])) in
+        let n = tlv integer_tag (integer_contents (version_of key.other_prime_infos ∷ [])) in
         let t = all_texts text (key_numbers key) in
         let o = written_others text key.other_prime_infos in
         let l = length-append n (t ++ o) in
         let m = length-append t o in
-        then_holds n (t ++ o) (tlv_relates 2 SmallContents (λ k. integer_contents (k ∷ [])) (version_of key.other_prime_infos) (λ _. small_relates (version_of key.other_prime_infos) (omega (arith, h.0))) (omega (arith, fits, l)))
+        then_holds n (t ++ o) (tlv_relates integer_tag SmallContents (λ k. integer_contents (k ∷ [])) (version_of key.other_prime_infos) (λ _. small_relates (version_of key.other_prime_infos) (omega (arith, h.0))) (omega (arith, fits, l)))
         (joins_put (map NumberText (key_numbers key)) (OtherPrimeInfos NumberText key.other_prime_infos ∷ []) t o
         (items_relate NumberText has text relates (key_numbers key) h.1.0 (omega (arith, fits, l, m)))
         (last_holds o (others_relate key.other_prime_infos h.1.1 (omega (arith, fits, l, m)))))
@@ -105,17 +106,17 @@ module _ {Number : Type 0} (NumberText : Number → List ℕ → Type 0) (has : 
     others_shortest : (others : Option (List (OtherPrime Number))) (c : List ℕ) → OtherPrimeInfos NumberText others c → IsLeast (HasOthers has others) (written_others text others) c
     others_shortest None c p = (tt, omega arith, (λ (_ : length c ≤ 0). p))
     others_shortest (Some others) c p =
-        let s = tlv_shortest 48 (λ vs k. Joins (map (OtherPrimeInfo NumberText) vs) k) (all_texts (λ other. tlv 48 (written_other text other))) (AllHave (HasOther has))
-        (items_shortest (OtherPrimeInfo NumberText) (HasOther has) (λ other. tlv 48 (written_other text other))
-        (tlv_shortest 48 (OtherPrimeContents NumberText) (written_other text) (HasOther has) other_shortest)) others c p.1 in
+        let s = tlv_shortest sequence_tag (λ vs k. Joins (map (OtherPrimeInfo NumberText) vs) k) (all_texts (λ other. tlv sequence_tag (written_other text other))) (AllHave (HasOther has))
+        (items_shortest (OtherPrimeInfo NumberText) (HasOther has) (λ other. tlv sequence_tag (written_other text other))
+        (tlv_shortest sequence_tag (OtherPrimeContents NumberText) (written_other text) (HasOther has) other_shortest)) others c p.1 in
         ((p.0, s.0), s.1, s.2)
 
-    small_least : (n : ℕ) (c : List ℕ) → n < 2 → Small n c → IsLeast (n < 2) (tlv 2 (integer_contents (n ∷ []))) c
-    small_least n c l p = let s = tlv_shortest 2 SmallContents (λ k. integer_contents (k ∷ [])) (λ k. k < 256) small_shortest n c p in (l, s.1, s.2)
+    small_least : (n : ℕ) (c : List ℕ) → n < 2 → Small n c → IsLeast (n < 2) (tlv integer_tag (integer_contents (n ∷ []))) c
+    small_least n c l p = let s = tlv_shortest integer_tag SmallContents (λ k. integer_contents (k ∷ [])) (λ k. k < 256) small_shortest n c p in (l, s.1, s.2)
 
     pub private_shortest : (key : PrivateKey Number) (c : List ℕ) → PrivateKeyContents NumberText key c → IsLeast (HasPrivateKey has key) (written_private_key text key) c
     private_shortest key c (a, b, p, i, e) =
-        let n = tlv 2 (integer_contents (version_of key.other_prime_infos ∷ [])) in
+        let n = tlv integer_tag (integer_contents (version_of key.other_prime_infos ∷ [])) in
         let t = all_texts text (key_numbers key) in
         let o = written_others text key.other_prime_infos in
         then_least {Q = Then (Joins (map NumberText (key_numbers key))) (Joins (OtherPrimeInfos NumberText key.other_prime_infos ∷ []))} n (t ++ o)
@@ -135,10 +136,10 @@ module _ {Number : Type 0} (NumberText : Number → List ℕ → Type 0) (bytes 
   others_of_bytes : (others : Option (List (OtherPrime Number))) (c : List ℕ) → OtherPrimeInfos NumberText others c → AreBytes c
   others_of_bytes None c p = rw p tt
   others_of_bytes (Some others) c p =
-      tlv_of_bytes 48 refl (λ vs k. Joins (map (OtherPrimeInfo NumberText) vs) k)
-      (items_of_bytes (OtherPrimeInfo NumberText) (tlv_of_bytes 48 refl (OtherPrimeContents NumberText) other_of_bytes)) others c p.1
+      tlv_of_bytes sequence_tag refl (λ vs k. Joins (map (OtherPrimeInfo NumberText) vs) k)
+      (items_of_bytes (OtherPrimeInfo NumberText) (tlv_of_bytes sequence_tag refl (OtherPrimeContents NumberText) other_of_bytes)) others c p.1
 
   pub private_of_bytes : IsOfBytes (PrivateKeyContents NumberText)
   private_of_bytes key c p =
-      then_of_bytes (tlv_of_bytes 2 refl SmallContents small_of_bytes (version_of key.other_prime_infos))
+      then_of_bytes (tlv_of_bytes integer_tag refl SmallContents small_of_bytes (version_of key.other_prime_infos))
       (λ k q. then_of_bytes (numbers_of_bytes (key_numbers key)) (last_of_bytes (others_of_bytes key.other_prime_infos)) k (joins_take (map NumberText (key_numbers key)) (OtherPrimeInfos NumberText key.other_prime_infos ∷ []) k q)) c p

@@ -1,5 +1,6 @@
 -- RSA keys as they are written: which ones have contents, and the contents.
 use Rattle.std.specs.Prelude.{ℕ, List, [], ◌∷◌, ◌++◌, ◌<◌, length, Option, Some, None}
+use Rattle.der_core.specs.Tag.{integer_tag, sequence_tag}
 use Rattle.der_core.specs.Tlv.{tlv}
 use Rattle.der_core.specs.Integer.{integer_contents}
 use Rattle.der_core.specs.SequenceOf.{AllHave, all_texts}
@@ -45,7 +46,7 @@ module _ {Number : Type 0} (text : Number → List ℕ) where
 
   abbrev pub written_others : Option (List (OtherPrime Number)) → List ℕ
   written_others None = []
-  written_others (Some others) = tlv 48 (all_texts (λ other. tlv 48 (written_other other)) others)
+  written_others (Some others) = tlv sequence_tag (all_texts (λ other. tlv sequence_tag (written_other other)) others)
 
   abbrev pub written_private_key : PrivateKey Number → List ℕ
-  written_private_key key = tlv 2 (integer_contents (version_of key.other_prime_infos ∷ [])) ++ (all_texts text (key_numbers key) ++ written_others key.other_prime_infos)
+  written_private_key key = tlv integer_tag (integer_contents (version_of key.other_prime_infos ∷ [])) ++ (all_texts text (key_numbers key) ++ written_others key.other_prime_infos)

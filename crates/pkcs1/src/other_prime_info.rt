@@ -14,8 +14,8 @@ ghost use Rattle.pkcs1.specs.Versions.{number_of};
 use crate::numbers::{encode_numbers, numbers_len, prepend_numbers};
 use crate::version::Version;
 use der_core::{
-    BackWriter, Contents, Decode, DecodeValue, Encode, EncodeValue, ErrorKind, Header, TaggedBy,
-    Length, Memory, Reader, Result, Sequence, SequenceTag, Tag, Text, TryClone, Writer,
+    BackWriter, Contents, Decode, DecodeValue, Encode, EncodeValue, ErrorKind, Header, Length,
+    Memory, Reader, Result, Sequence, SequenceTag, Tag, TaggedBy, Text, TryClone, Writer,
     decode_optional,
 };
 use std::alloc::{AllocError, Global};

@@ -2,6 +2,7 @@
 ghost use Rattle.std.specs.Prelude.{◌≡◌, [], ◌++◌, ◌<◌, ◌≤◌, List, ℕ, length, IfOk, IfErr, IfSome, OnOk, Some};
 ghost use Rattle.std.specs.Iterator.{UpTo, YieldsFirstBy, item_count};
 ghost use Rattle.std.specs.Iterator.SizeHint.{IsWithinCount};
+ghost use Rattle.der_core.specs.Tag.{integer_tag, sequence_tag};
 ghost use Rattle.der_core.specs.Length.{limit};
 ghost use Rattle.der_core.specs.Integer.{Integer, IsCanonical, integer_contents};
 ghost use Rattle.der_core.specs.IntegerLaws.{integer_delimited};
@@ -19,8 +20,8 @@ ghost use Rattle.pkcs1.specs.OtherPrimesHeld.{HoldsOthers, HoldsOthers-prop, oth
 
 use crate::other_prime_info::OtherPrimeInfo;
 use der_core::{
-    Contents, Decode, DecodeValue, Header, TaggedBy, Memory, NoMemory, Reader, Result, SequenceTag,
-    SliceReader, UintRef,
+    Contents, Decode, DecodeValue, Header, Memory, NoMemory, Reader, Result, SequenceTag,
+    SliceReader, TaggedBy, UintRef,
 };
 
 /// The other primes of a private key, in order, over the bytes that were read: an iterator that knows how many are left.
@@ -119,7 +120,7 @@ impl Contents for OtherPrimes<'_> {
     ghost has_contents = { AllHave (HasOther IsCanonical) };
 
     ghost written_contents = { all_texts (λ other.
-        tlv 48 (written_other (λ number. tlv 2 (integer_contents number)) other)) };
+        tlv sequence_tag (written_other (λ number. tlv integer_tag (integer_contents number)) other)) };
 
     ghost means_one = { joins_map (grammar.OtherPrimeInfo Integer) (other_delimited integer_delimited) };
 

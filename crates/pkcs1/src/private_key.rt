@@ -1,5 +1,6 @@
 //! RSA private keys.
 ghost use Rattle.std.specs.Prelude.{◌≡◌, ◌↔◌, ◌≤◌, length, List, ℕ, map, IsSome, IsErrAnd, IfErr, refl};
+ghost use Rattle.der_core.specs.Tag.{sequence_tag};
 ghost use Rattle.der_core.specs.Length.{limit};
 ghost use Rattle.der_core.specs.Tags.{sequence};
 ghost use Rattle.der_core.specs.Writing.{Counts, Appends, encode_refusal};
@@ -20,7 +21,7 @@ use crate::public_key::{RsaPublicKey, RsaPublicKeyRef};
 use crate::version::Version;
 use der_core::{
     AsUintRef, BackWriter, Contents, Decode, DecodeValue, Encode, EncodeValue, ErrorKind, Header,
-    TaggedBy, Length, OctetStringRef, Reader, Result, SecretDocument, Sequence, SequenceTag, Tag,
+    Length, OctetStringRef, Reader, Result, SecretDocument, Sequence, SequenceTag, Tag, TaggedBy,
     Text, TryClone, Uint, UintRef, Writer, joined_len,
 };
 use pkcs1_params::Error;
@@ -215,7 +216,8 @@ impl<U: Encode> RsaPrivateKey<U> {
         ensures unchanged { OnErr result (out.new ≡ out.old) }
         ensures err { let key = private_key_with U.value self.now in
             let some = HasPrivateKey U.has_text key in
-            IfErr result (IsAsn1 (λ e. IsRefused some (PrivateKeyText U.text) key (length out.old) (encode_refusal e.kind))) }
+            let refused = IsRefused some (PrivateKeyText U.text) key (length out.old) in
+            IfErr result (IsAsn1 (λ e. refused (encode_refusal e.kind))) }
         ensures no_primes { ListsNone self.now.other_prime_infos
             → IsErrAnd result (IsAsn1 (λ e. e.kind ≡ ErrorKind.Value sequence)) }
     {
@@ -289,7 +291,7 @@ impl<U> RsaPrivateKey<U> {
         ensures one { let bytes = octets_of octets.entry in
             IfOk result (λ key. IsOnlyMeaning (PrivateKeyText U.text) bytes (private_key_with U.value key)) }
         ensures err { let bytes = octets_of octets.entry in
-            let asked = AllocatesIn (Tlv 48 (AllocatesForKey U.text U.Decode.may_allocate)) bytes in
+            let asked = AllocatesIn (Tlv sequence_tag (AllocatesForKey U.text U.Decode.may_allocate)) bytes in
             IfErr result (IsUnread (PrivateKeyText U.text) bytes asked) }
         ensures two_primes { ((c : List ℕ) → AllocatesWithin U.Decode.may_allocate c → ⊥)
             → (key : PrivateKey U.Value) → key.other_prime_infos ≡ None
@@ -350,7 +352,8 @@ impl RsaPrivateKey<Uint> {
     /// a number, or a SEQUENCE that isn't empty behind the eighth, is there.
     pub fn decode_key(alloc: Global, bytes: &[u8]) -> crate::Result<RsaPrivateKey<Uint>>
         ensures ok { IfOk result (λ key. Means grammar.RsaPrivateKey bytes.now (private_key_with own_bytes_of key)) }
-        ensures one { IfOk result (λ key. IsOnlyMeaning grammar.RsaPrivateKey bytes.now (private_key_with own_bytes_of key)) }
+        ensures one { let is_only = IsOnlyMeaning grammar.RsaPrivateKey bytes.now in
+            IfOk result (λ key. is_only (private_key_with own_bytes_of key)) }
         ensures err { IfErr result (IsUnread grammar.RsaPrivateKey bytes.now (OwnedKeyAllocates bytes.now)) }
     {
         Ok(RsaPrivateKey::from_der(alloc, bytes)?)

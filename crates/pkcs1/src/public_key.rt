@@ -8,8 +8,8 @@ ghost use Rattle.pkcs1.specs.PublicKeyLaws.{public_key_means_one, public_key_of_
 
 use der_core::{
     AsUintRef, BackWriter, Contents, Decode, DecodeValue, Encode, EncodeValue, EqualByValue,
-    Header, TaggedBy, Length, Memory, NoMemory, Reader, Sequence, SequenceTag, Text, TryClone, Uint,
-    UintRef, Writer, joined_len,
+    Header, Length, Memory, NoMemory, Reader, Sequence, SequenceTag, TaggedBy, Text, TryClone,
+    Uint, UintRef, Writer, joined_len,
 };
 use pkcs1_params::{Error, Result};
 use std::alloc::Global;
@@ -157,7 +157,8 @@ impl<U: AsUintRef> RsaPublicKey<U> {
             IfOk result (λ n. IsOnlyText grammar.RsaPublicKey key (take n out.new)) }
         ensures rest { IfOk result (λ n. (n ≤ length out.new) × (drop n out.new ≡ drop n out.old)) }
         ensures unchanged { OnErr result (out.new ≡ out.old) }
-        ensures err { IfErr result (IsNotWritten grammar.RsaPublicKey (public_key_with U.number self.now) (length out.old)) }
+        ensures err { let key = public_key_with U.number self.now in
+            IfErr result (IsNotWritten grammar.RsaPublicKey key (length out.old)) }
     {
         Ok(self.as_key_ref().encode_into(out)?)
     }

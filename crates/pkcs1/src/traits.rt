@@ -106,7 +106,8 @@ impl DecodeRsaPrivateKey for RsaPrivateKey<Uint> {
 
     fn from_pkcs1_der(alloc: Global, bytes: &[u8]) -> Result<RsaPrivateKey<Uint>>
         ensures ok { IfOk result (λ key. Means grammar.RsaPrivateKey bytes.now (private_key_with own_bytes_of key)) }
-        ensures one { IfOk result (λ key. IsOnlyMeaning grammar.RsaPrivateKey bytes.now (private_key_with own_bytes_of key)) }
+        ensures one { let is_only = IsOnlyMeaning grammar.RsaPrivateKey bytes.now in
+            IfOk result (λ key. is_only (private_key_with own_bytes_of key)) }
         ensures err { IfErr result (IsUnread grammar.RsaPrivateKey bytes.now (OwnedKeyAllocates bytes.now)) }
     {
         RsaPrivateKey::<Uint>::decode_key(alloc, bytes)
@@ -118,7 +119,8 @@ impl DecodeRsaPublicKey for RsaPublicKey<Uint> {
 
     fn from_pkcs1_der(alloc: Global, bytes: &[u8]) -> Result<RsaPublicKey<Uint>>
         ensures ok { IfOk result (λ key. Means grammar.RsaPublicKey bytes.now (public_key_with own_bytes_of key)) }
-        ensures one { IfOk result (λ key. IsOnlyMeaning grammar.RsaPublicKey bytes.now (public_key_with own_bytes_of key)) }
+        ensures one { let is_only = IsOnlyMeaning grammar.RsaPublicKey bytes.now in
+            IfOk result (λ key. is_only (public_key_with own_bytes_of key)) }
         ensures err { IfErr result (IsUnread grammar.RsaPublicKey bytes.now (OwnedPublicKeyAllocates bytes.now)) }
     {
         Ok(RsaPublicKey::from_der(alloc, bytes)?)

@@ -11,8 +11,8 @@ ghost use Rattle.pkcs1.specs.Versions.{number_of, IsVersionOf, VersionContents, 
 ghost use Rattle.pkcs1.specs.VersionLaws.{version_means_one, version_of_bytes, version_relates, version_shortest};
 
 use der_core::{
-    BackWriter, Contents, DecodeValue, EncodeValue, ErrorKind, Header, IntegerTag, TaggedBy, Length,
-    Memory, Reader, Result, Tag, Writer,
+    BackWriter, Contents, DecodeValue, EncodeValue, ErrorKind, Header, IntegerTag, Length, Memory,
+    Reader, Result, Tag, TaggedBy, Writer,
 };
 use pkcs1_params::Error;
 use std::cmp::Ordering;

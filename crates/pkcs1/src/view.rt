@@ -1,15 +1,16 @@
 //! RSA private keys, seen without a list.
 ghost use Rattle.std.specs.Prelude.{◌≡◌, ℕ, List, IsTrue, IsSome, IfOk, IfErr, OnErr, ◌↔◌, refl};
 ghost use Rattle.std.specs.Option.{option_map};
+ghost use Rattle.der_core.specs.Tag.{integer_tag};
 ghost use Rattle.der_core.specs.Integer.{Integer, IntegerContents, IsCanonical, integer_contents};
-ghost use Rattle.der_core.specs.IntegerLaws.{integer_delimited, integer_of_bytes};
+ghost use Rattle.der_core.specs.IntegerLaws.{integer_delimited};
 ghost use Rattle.der_core.specs.Reading.{ReadsContents, TellsOfBytes};
-ghost use Rattle.der_core.specs.TextLaws.{tlv_of_bytes};
 ghost use Rattle.der_core.specs.Tlv.{tlv};
 ghost use Rattle.pkcs1.specs.Keys as grammar;
 ghost use Rattle.pkcs1.specs.Keys.{OthersOf, PrivateKey, PrivateKeyContents, public_part};
 ghost use Rattle.pkcs1.specs.OtherPrimesLeft.{others_left, HoldsNone};
-ghost use Rattle.pkcs1.specs.PrivateKeyLaws.{private_means_one, private_of_bytes};
+ghost use Rattle.pkcs1.specs.PrivateKeyLaws.{private_means_one};
+ghost use Rattle.pkcs1.specs.OtherPrimesHeld.{keys_are_bytes};
 ghost use Rattle.pkcs1.specs.Versions.{number_of};
 ghost use Rattle.pkcs1.specs.PublicKeyValue.{public_key_of};
 ghost use Rattle.pkcs1.specs.ViewParts.{parts_of, view_of, viewed_text, listed_others};
@@ -23,8 +24,8 @@ use crate::other_primes::OtherPrimes;
 use crate::public_key::{RsaPublicKey, RsaPublicKeyRef};
 use crate::version::Version;
 use der_core::{
-    Contents, Decode, DecodeValue, ErrorKind, Header, TaggedBy, NoMemory, Reader, Result,
-    SequenceTag, Tag, UintRef, decode_optional,
+    Contents, Decode, DecodeValue, ErrorKind, Header, NoMemory, Reader, Result, SequenceTag, Tag,
+    TaggedBy, UintRef, decode_optional,
 };
 use pkcs1_params::Error;
 use std::fmt;
@@ -74,11 +75,11 @@ impl Contents for Parts<'_> {
 
     ghost has_contents = { HasPrivateKey IsCanonical };
 
-    ghost written_contents = { written_private_key (λ number. tlv 2 (integer_contents number)) };
+    ghost written_contents = { written_private_key (λ number. tlv integer_tag (integer_contents number)) };
 
     ghost means_one = { private_means_one integer_delimited };
 
-    ghost contents_of_bytes = { private_of_bytes Integer (tlv_of_bytes 2 refl IntegerContents integer_of_bytes) };
+    ghost contents_of_bytes = { keys_are_bytes };
 }
 
 impl TaggedBy for Parts<'_> {

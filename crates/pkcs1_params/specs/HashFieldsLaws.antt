@@ -1,5 +1,6 @@
 -- hashAlgorithm and maskGenAlgorithm: each text means one value and is bytes, and what is written is the shortest text.
 use Rattle.std.proofs.Common.{ℕ, List, [], ◌∷◌, ◌++◌, ◌≡◌, ◌<◌, ◌≤◌, ◌^◌, map, length, length-append, append_assoc, refl, arith}
+use Rattle.der_core.specs.Tag.{sequence_tag}
 use Rattle.der_core.specs.Texts.{IsOfBytes, Joins}
 use Rattle.der_core.specs.TextLaws.{tlv_of_bytes, tlv_relates, tlv_shortest, then_holds, then_least}
 use Rattle.der_core.specs.Writing.{IsLeast}
@@ -28,26 +29,26 @@ hash_fields_step h h' g g' fs gs lf lg c p q =
     (a.0, b.0, b.1, b.2, b.3)
 
 pub plain_of_bytes : IsOfBytes PlainAlgorithm
-plain_of_bytes = tlv_of_bytes 48 refl (AlgorithmContents Any) (algorithm_of_bytes Any any_of_bytes)
+plain_of_bytes = tlv_of_bytes sequence_tag refl (AlgorithmContents Any) (algorithm_of_bytes Any any_of_bytes)
 
 mask_of_bytes : IsOfBytes MaskAlgorithm
-mask_of_bytes = tlv_of_bytes 48 refl (AlgorithmContents PlainAlgorithm) (algorithm_of_bytes PlainAlgorithm plain_of_bytes)
+mask_of_bytes = tlv_of_bytes sequence_tag refl (AlgorithmContents PlainAlgorithm) (algorithm_of_bytes PlainAlgorithm plain_of_bytes)
 
 pub hash_fields_of_bytes : (h : Algorithm TagAndContents) (g : Algorithm (Algorithm TagAndContents)) (later : List Field) → AreOfBytes later → AreOfBytes (hash_fields_then h g later)
 hash_fields_of_bytes h g later all = (omega arith, plain_of_bytes h, (omega arith, mask_of_bytes g, all))
 
 -- What is written of an identifier.
 pub plain_relates : (v : Algorithm TagAndContents) → HasPlain v → length (written_plain v) < 2 ^ 128 → PlainAlgorithm v (written_plain v)
-plain_relates v h fits = tlv_relates 48 (AlgorithmContents Any) (written_algorithm written_any) v (algorithm_relates Any IsAny written_any any_relates v h) fits
+plain_relates v h fits = tlv_relates sequence_tag (AlgorithmContents Any) (written_algorithm written_any) v (algorithm_relates Any IsAny written_any any_relates v h) fits
 
 pub plain_shortest : (v : Algorithm TagAndContents) (b : List ℕ) → PlainAlgorithm v b → IsLeast (HasPlain v) (written_plain v) b
-plain_shortest = tlv_shortest 48 (AlgorithmContents Any) (written_algorithm written_any) HasPlain (algorithm_shortest Any IsAny written_any any_shortest)
+plain_shortest = tlv_shortest sequence_tag (AlgorithmContents Any) (written_algorithm written_any) HasPlain (algorithm_shortest Any IsAny written_any any_shortest)
 
 pub mask_relates : (v : Algorithm (Algorithm TagAndContents)) → HasMask v → length (written_mask v) < 2 ^ 128 → MaskAlgorithm v (written_mask v)
-mask_relates v h fits = tlv_relates 48 (AlgorithmContents PlainAlgorithm) (written_algorithm written_plain) v (algorithm_relates PlainAlgorithm HasPlain written_plain plain_relates v h) fits
+mask_relates v h fits = tlv_relates sequence_tag (AlgorithmContents PlainAlgorithm) (written_algorithm written_plain) v (algorithm_relates PlainAlgorithm HasPlain written_plain plain_relates v h) fits
 
 pub mask_shortest : (v : Algorithm (Algorithm TagAndContents)) (b : List ℕ) → MaskAlgorithm v b → IsLeast (HasMask v) (written_mask v) b
-mask_shortest = tlv_shortest 48 (AlgorithmContents PlainAlgorithm) (written_algorithm written_plain) HasMask (algorithm_shortest PlainAlgorithm HasPlain written_plain plain_shortest)
+mask_shortest = tlv_shortest sequence_tag (AlgorithmContents PlainAlgorithm) (written_algorithm written_plain) HasMask (algorithm_shortest PlainAlgorithm HasPlain written_plain plain_shortest)
 
 -- What is written of both fields, and behind them.
 module _ (hash : Algorithm TagAndContents) (mask_gen : Algorithm (Algorithm TagAndContents)) (fields : List Field) (later : List ℕ) where

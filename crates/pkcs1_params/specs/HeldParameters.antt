@@ -2,6 +2,7 @@
 use Rattle.std.proofs.Common.{ℕ, List, [], ◌∷◌, ◌++◌, ◌≤◌, ◌<◌, ◌+◌, ◌^◌, length, arith, length-append, Option, Some, None, Bool, true, false, refl}
 use Rattle.std.specs.Prelude.{nat_lt, if◌then◌else◌}
 use Rattle.std.specs.Option.{option_map}
+use Rattle.der_core.specs.Tag.{context_tag, integer_tag, object_identifier_tag, sequence_tag}
 use Rattle.der_core.specs.Integer.{integer_contents}
 use Rattle.der_core.specs.Length.{limit}
 use Rattle.der_core.specs.Optional.{written_optional, HasOptional}
@@ -30,10 +31,10 @@ use Rattle.pkcs1_params.specs.declared.pss.RsaPssParams.{RsaPssParams as PssPara
 
 mask_short : (a : AlgorithmIdentifier (AlgorithmIdentifier AnyRef)) → length (written_mask (mask_of a)) ≤ limit + 718
 mask_short a =
-    let oid = tlv 6 (octets_of a.oid) in
+    let oid = tlv object_identifier_tag (octets_of a.oid) in
     let parameters = written_optional written_plain (option_map algorithm_of a.parameters) in
     let l = length-append oid parameters in
-    tlv_short 48 (limit + 590) (oid ++ parameters) (omega (arith, l, identifier_short a.oid, go a.parameters)) (omega arith)
+    tlv_short sequence_tag (limit + 590) (oid ++ parameters) (omega (arith, l, identifier_short a.oid, go a.parameters)) (omega arith)
   where
     go : (p : Option (AlgorithmIdentifier AnyRef)) → length (written_optional written_plain (option_map algorithm_of p)) ≤ limit + 423
     go None = omega arith
@@ -41,7 +42,7 @@ mask_short a =
 
 pub field_short : (out : Bool) (number m : ℕ) (text : List ℕ) → length text ≤ m → m < 2 ^ 64 → length (written_field out number text) ≤ m + 128
 field_short true number m text h small = omega arith
-field_short false number m text h small = tlv_short (160 + number) m text h small
+field_short false number m text h small = tlv_short (context_tag number) m text h small
 
 pub hash_fields_short : (hash_left_out mask_gen_left_out : Bool) (hash : AlgorithmIdentifier AnyRef) (mask_gen : AlgorithmIdentifier (AlgorithmIdentifier AnyRef))
     → length (written_hash_fields hash_left_out mask_gen_left_out (algorithm_of hash) (mask_of mask_gen)) ≤ limit + limit + 2000
@@ -50,8 +51,8 @@ hash_fields_short hash_left_out mask_gen_left_out hash mask_gen =
     let b = field_short mask_gen_left_out 1 (limit + 718) (written_mask (mask_of mask_gen)) (mask_short mask_gen) (omega arith) in
     omega (arith, a, b, length-append (written_field hash_left_out 0 (written_plain (algorithm_of hash))) (written_field mask_gen_left_out 1 (written_mask (mask_of mask_gen))))
 
-number_short : (n : ℕ) → length (tlv 2 (integer_contents (n ∷ []))) ≤ 130
-number_short n = tlv_short 2 2 (integer_contents (n ∷ [])) (go (nat_lt n 128)) (omega arith)
+number_short : (n : ℕ) → length (tlv integer_tag (integer_contents (n ∷ []))) ≤ 130
+number_short n = tlv_short integer_tag 2 (integer_contents (n ∷ [])) (go (nat_lt n 128)) (omega arith)
   where
     go : (b : Bool) → length (if b then n ∷ [] else (0 ∷ n ∷ [])) ≤ 2
     go true = omega arith
@@ -73,11 +74,11 @@ pss_short : (out : PssLeftOut) (p : PssParams AnyRef) → length (written_pss ou
 pss_short out p =
     let v = pss_of p in
     let d = written_hash_fields out.hash out.mask_gen v.hash v.mask_gen in
-    let s = written_field out.salt_len 2 (tlv 2 (integer_contents (v.salt_len ∷ []))) in
-    let t = written_field out.trailer_field 3 (tlv 2 (integer_contents (1 ∷ []))) in
+    let s = written_field out.salt_len 2 (tlv integer_tag (integer_contents (v.salt_len ∷ []))) in
+    let t = written_field out.trailer_field 3 (tlv integer_tag (integer_contents (1 ∷ []))) in
     let a = hash_fields_short out.hash out.mask_gen p.hash p.mask_gen in
-    let b = field_short out.salt_len 2 130 (tlv 2 (integer_contents (v.salt_len ∷ []))) (number_short v.salt_len) (omega arith) in
-    let e = field_short out.trailer_field 3 130 (tlv 2 (integer_contents (1 ∷ []))) (number_short 1) (omega arith) in
+    let b = field_short out.salt_len 2 130 (tlv integer_tag (integer_contents (v.salt_len ∷ []))) (number_short v.salt_len) (omega arith) in
+    let e = field_short out.trailer_field 3 130 (tlv integer_tag (integer_contents (1 ∷ []))) (number_short 1) (omega arith) in
     omega (arith, a, b, e, length-append d (s ++ t), length-append s t)
 
 oaep_short : (out : OaepLeftOut) (p : OaepParams AnyRef) → length (written_oaep out (oaep_of p)) < 2 ^ 64
@@ -102,7 +103,7 @@ pss_made p has =
     let v = pss_of p in
     let out = pss_defaults v in
     let few = pss_short out p in
-    let made = tlv_made 48 (PssContents v) (written_pss out v) (pss_relates v has (omega (arith, few))) (omega (arith, few)) in
+    let made = tlv_made sequence_tag (PssContents v) (written_pss out v) (pss_relates v has (omega (arith, few))) (omega (arith, few)) in
     (made.0, made.1)
 
 pub oaep_made : (p : OaepParams AnyRef) → HasOaep (oaep_defaults (oaep_of p)) (oaep_of p) → (text : List ℕ) × RsaOaepParams (oaep_of p) text
@@ -110,5 +111,5 @@ oaep_made p has =
     let v = oaep_of p in
     let out = oaep_defaults v in
     let few = oaep_short out p in
-    let made = tlv_made 48 (OaepContents v) (written_oaep out v) (oaep_relates v has (omega (arith, few))) (omega (arith, few)) in
+    let made = tlv_made sequence_tag (OaepContents v) (written_oaep out v) (oaep_relates v has (omega (arith, few))) (omega (arith, few)) in
     (made.0, made.1)

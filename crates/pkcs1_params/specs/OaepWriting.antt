@@ -1,5 +1,6 @@
 -- What is written of RSAES-OAEP parameters.
 use Rattle.std.specs.Prelude.{List, ℕ, ◌++◌, Result}
+use Rattle.der_core.specs.Tag.{sequence_tag}
 use Rattle.der_core.specs.Tlv.{tlv}
 use Rattle.der_core.specs.Writing.{Counts}
 use Rattle.der_core.specs.declared.error.Error.{Error}
@@ -26,4 +27,4 @@ written_source label = let source = with_parameters id_p_specified (octets_value
 
 -- The octets of the text that is written of parameters with a label are counted.
 abbrev pub CountsLabelled : List ℕ → List ℕ → Result ℕ Error → Type 0
-CountsLabelled oid label r = let p = labelled oid label in Counts (HasOaep (oaep_defaults p) p) (tlv 48 (written_oaep (oaep_defaults p) p)) r
+CountsLabelled oid label r = let p = labelled oid label in Counts (HasOaep (oaep_defaults p) p) (tlv sequence_tag (written_oaep (oaep_defaults p) p)) r

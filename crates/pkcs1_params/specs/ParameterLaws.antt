@@ -1,5 +1,6 @@
 -- Parameters: each text means one value, the fields stand in rising order, and no text of them begins with an INTEGER.
 use Rattle.std.proofs.Common.{ℕ, List, [], ◌++◌, map, refl, arith}
+use Rattle.der_core.specs.Tag.{integer_tag, sequence_tag}
 use Rattle.der_core.specs.Texts.{IsDelimited, AtMostOne, Joins, Then}
 use Rattle.der_core.specs.Tlv.{Tlv}
 use Rattle.der_core.specs.TextLaws.{tlv_split, tlv_delimited}
@@ -13,10 +14,10 @@ use Rattle.pkcs1_params.specs.PssLaws.{pss_means_one}
 use Rattle.pkcs1_params.specs.OaepLaws.{oaep_means_one}
 
 pub pss_delimited : IsDelimited RsaPssParams
-pss_delimited = tlv_delimited 48 PssContents pss_means_one
+pss_delimited = tlv_delimited sequence_tag PssContents pss_means_one
 
 pub oaep_delimited : IsDelimited RsaOaepParams
-oaep_delimited = tlv_delimited 48 OaepContents oaep_means_one
+oaep_delimited = tlv_delimited sequence_tag OaepContents oaep_means_one
 
 trailer_at_most_one : (n : ℕ) → AtMostOne (TrailerField n)
 trailer_at_most_one n x y p q = small_at_most_one n x y (tlv_recast x p p.holds.1) (tlv_recast y q q.holds.1)
@@ -48,11 +49,11 @@ oaep_in_order p = (
 )
 
 -- A joining that begins with an INTEGER is no joining of fields.
-integer_not_fields : {P Rest : List ℕ → Type 0} (fields : List Field) (c : List ℕ) → Then (Tlv 2 P) Rest c → Joins (map Defaultable fields) c → ⊥
+integer_not_fields : {P Rest : List ℕ → Type 0} (fields : List Field) (c : List ℕ) → Then (Tlv integer_tag P) Rest c → Joins (map Defaultable fields) c → ⊥
 integer_not_fields fields c (x, y, p, i, e) q = fields_start fields 2 c ((p.octets ++ p.contents) ++ y) (omega arith) q (rw (e, p.written) refl)
 
 -- Nor is a SEQUENCE of the one a SEQUENCE of the other.
-pub sequences_exclude : {P Rest : List ℕ → Type 0} (fields : List Field) (text : List ℕ) → Tlv 48 (Then (Tlv 2 P) Rest) text → FieldSequence fields text → ⊥
+pub sequences_exclude : {P Rest : List ℕ → Type 0} (fields : List Field) (text : List ℕ) → Tlv sequence_tag (Then (Tlv integer_tag P) Rest) text → FieldSequence fields text → ⊥
 sequences_exclude fields text p q =
     let s = tlv_split text [] text [] p q refl in
     integer_not_fields fields s.3 s.4 s.5

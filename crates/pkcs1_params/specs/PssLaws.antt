@@ -1,5 +1,6 @@
 -- RSASSA-PSS parameters: each text means one value and is bytes, and what is written of a value is the shortest of its texts.
 use Rattle.std.proofs.Common.{ℕ, List, [], ◌∷◌, ◌++◌, ◌≡◌, ◌<◌, ◌^◌, eqb, length, length-append, refl, arith}
+use Rattle.der_core.specs.Tag.{integer_tag}
 use Rattle.der_core.specs.Texts.{IsOfBytes, MeansOne}
 use Rattle.der_core.specs.Tlv.{tlv}
 use Rattle.der_core.specs.Integer.{Small, SmallContents, integer_contents}
@@ -32,24 +33,24 @@ pub pss_of_bytes : IsOfBytes PssContents
 pss_of_bytes p c j =
     fields_of_bytes (pss_fields p)
     (hash_fields_of_bytes p.hash p.mask_gen (later p)
-    (omega arith, tlv_of_bytes 2 refl SmallContents small_of_bytes p.salt_len, (omega arith, tlv_of_bytes 2 refl TrailerContents trailer_of_bytes p.trailer_field, tt)))
+    (omega arith, tlv_of_bytes integer_tag refl SmallContents small_of_bytes p.salt_len, (omega arith, tlv_of_bytes integer_tag refl TrailerContents trailer_of_bytes p.trailer_field, tt)))
     c j
 
 -- What is written of a number.
 abbrev pub written_number : ℕ → List ℕ
-written_number n = tlv 2 (integer_contents (n ∷ []))
+written_number n = tlv integer_tag (integer_contents (n ∷ []))
 
 pub salt_relates : (n : ℕ) → n < 256 → length (written_number n) < 2 ^ 128 → Small n (written_number n)
-salt_relates n h fits = tlv_relates 2 SmallContents (λ m. integer_contents (m ∷ [])) n (λ _. small_relates n h) fits
+salt_relates n h fits = tlv_relates integer_tag SmallContents (λ m. integer_contents (m ∷ [])) n (λ _. small_relates n h) fits
 
 pub salt_shortest : (n : ℕ) (b : List ℕ) → Small n b → IsLeast (n < 256) (written_number n) b
-salt_shortest = tlv_shortest 2 SmallContents (λ m. integer_contents (m ∷ [])) (λ m. m < 256) small_shortest
+salt_shortest = tlv_shortest integer_tag SmallContents (λ m. integer_contents (m ∷ [])) (λ m. m < 256) small_shortest
 
 pub trailer_text_relates : (n : ℕ) → n ≡ 1 → length (written_number n) < 2 ^ 128 → TrailerField n (written_number n)
-trailer_text_relates n h fits = tlv_relates 2 TrailerContents (λ m. integer_contents (m ∷ [])) n (λ _. trailer_relates n h) fits
+trailer_text_relates n h fits = tlv_relates integer_tag TrailerContents (λ m. integer_contents (m ∷ [])) n (λ _. trailer_relates n h) fits
 
 pub trailer_text_shortest : (n : ℕ) (b : List ℕ) → TrailerField n b → IsLeast (n ≡ 1) (written_number n) b
-trailer_text_shortest = tlv_shortest 2 TrailerContents (λ m. integer_contents (m ∷ [])) (λ m. m ≡ 1) trailer_shortest
+trailer_text_shortest = tlv_shortest integer_tag TrailerContents (λ m. integer_contents (m ∷ [])) (λ m. m ≡ 1) trailer_shortest
 
 pub pss_relates : (p : PssParameters) → HasPss (pss_defaults p) p → length (written_pss (pss_defaults p) p) < 2 ^ 128 → PssContents p (written_pss (pss_defaults p) p)
 pss_relates p h fits =

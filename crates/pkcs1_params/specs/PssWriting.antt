@@ -1,5 +1,6 @@
 -- What is written of RSASSA-PSS parameters.
 use Rattle.std.specs.Prelude.{ℕ, List, [], ◌∷◌, ◌++◌, ◌≡◌, ◌<◌, eqb}
+use Rattle.der_core.specs.Tag.{integer_tag}
 use Rattle.der_core.specs.Tlv.{tlv}
 use Rattle.der_core.specs.Integer.{integer_contents}
 use Rattle.spki_core.specs.AlgorithmIdentifier.{same_plain, same_mask}
@@ -25,5 +26,5 @@ HasPss out p =
 abbrev pub written_pss : PssLeftOut → PssParameters → List ℕ
 written_pss out p =
     written_hash_fields out.hash out.mask_gen p.hash p.mask_gen
-    ++ (written_field out.salt_len 2 (tlv 2 (integer_contents (p.salt_len ∷ [])))
-    ++ written_field out.trailer_field 3 (tlv 2 (integer_contents (p.trailer_field ∷ []))))
+    ++ (written_field out.salt_len 2 (tlv integer_tag (integer_contents (p.salt_len ∷ [])))
+    ++ written_field out.trailer_field 3 (tlv integer_tag (integer_contents (p.trailer_field ∷ []))))

@@ -1,6 +1,7 @@
 -- Trailer fields: each text means one and is bytes, and what is written is its shortest text.
 use Rattle.std.specs.Prelude.{ℕ, List, [], ◌∷◌, ◌≡◌}
 use Rattle.std.proofs.Common.{arith, sym, ◌∙◌}
+use Rattle.der_core.specs.Tag.{integer_tag}
 use Rattle.der_core.specs.Texts.{MeansOne, IsOfBytes, IsDelimited}
 use Rattle.der_core.specs.TextLaws.{tlv_delimited}
 use Rattle.der_core.specs.Integer.{integer_contents}
@@ -13,7 +14,7 @@ pub trailer_means_one : MeansOne TrailerContents
 trailer_means_one m n c p q = p.0 ∙ sym q.0
 
 pub trailer_delimited : IsDelimited TrailerField
-trailer_delimited = tlv_delimited 2 TrailerContents trailer_means_one
+trailer_delimited = tlv_delimited integer_tag TrailerContents trailer_means_one
 
 pub trailer_relates : (n : ℕ) → n ≡ 1 → TrailerContents n (integer_contents (n ∷ []))
 trailer_relates n is = (is, small_relates n (omega (arith, is)))

@@ -1,5 +1,6 @@
 //! What both sets of parameters begin with: hashAlgorithm and maskGenAlgorithm.
 ghost use Rattle.std.specs.Prelude.{◌≡◌, ◌≤◌, ◌∷◌, [], refl, length};
+ghost use Rattle.der_core.specs.Tag.{sequence_tag};
 ghost use Rattle.der_core.specs.Length.{limit};
 ghost use Rattle.der_core.specs.Tlv.{Tlv};
 ghost use Rattle.der_core.specs.BackWriters.{free_of, Prepends};
@@ -113,9 +114,9 @@ pub(crate) fn read_hash<'a, P: Decode<&'a [u8], M> + AnyParams<M>, M: Memory, R:
     memory: M,
     reader: &mut R,
 ) -> Result<AlgorithmIdentifier<P>>
-    ensures { let may_allocate = AllocatesWithin (Tlv 48 (AllocatesWithin P.Decode.may_allocate)) in
+    ensures { let may = AllocatesWithin (Tlv sequence_tag (AllocatesWithin P.Decode.may_allocate)) in
         let value = algorithm_with P.any in
-        ReadsField 0 value PlainAlgorithm sha1 may_allocate result (R.left reader.old) (R.left reader.new) }
+        ReadsField 0 value PlainAlgorithm sha1 may result (R.left reader.old) (R.left reader.new) }
 {
     if is_field_next(reader, TagNumber::new(0))? {
         read_explicit(memory, reader, TagNumber::new(0))
@@ -131,9 +132,10 @@ pub(crate) fn read_mask_gen<
     M: Memory,
     R: Reader<&'a [u8]>,
 >(memory: M, reader: &mut R) -> Result<MaskGen<P>>
-    ensures { let may_allocate = AllocatesWithin (Tlv 48 (AllocatesWithin (Tlv 48 (AllocatesWithin P.Decode.may_allocate)))) in
+    ensures { let may_hash = AllocatesWithin (Tlv sequence_tag (AllocatesWithin P.Decode.may_allocate)) in
+        let may = AllocatesWithin (Tlv sequence_tag may_hash) in
         let value = algorithm_with (algorithm_with P.any) in
-        ReadsField 1 value MaskAlgorithm mgf1_sha1 may_allocate result (R.left reader.old) (R.left reader.new) }
+        ReadsField 1 value MaskAlgorithm mgf1_sha1 may result (R.left reader.old) (R.left reader.new) }
 {
     if is_field_next(reader, TagNumber::new(1))? {
         read_explicit(memory, reader, TagNumber::new(1))
@@ -171,7 +173,12 @@ impl HashFields<'_> {
         ensures kept { W.keeps writer.old writer.new }
     {
         encode_field(self.hash_left_out, TagNumber::new(0), self.hash, writer)?;
-        encode_field(self.mask_gen_left_out, TagNumber::new(1), self.mask_gen, writer)
+        encode_field(
+            self.mask_gen_left_out,
+            TagNumber::new(1),
+            self.mask_gen,
+            writer,
+        )
     }
 
     /// Puts both before what is filled.
@@ -181,7 +188,12 @@ impl HashFields<'_> {
         requires room { length (written_both self.now) ≤ free_of writer.old }
         ensures { Prepends (written_both self.now) writer.old writer.new }
     {
-        prepend_field(self.mask_gen_left_out, TagNumber::new(1), self.mask_gen, writer);
+        prepend_field(
+            self.mask_gen_left_out,
+            TagNumber::new(1),
+            self.mask_gen,
+            writer,
+        );
         prepend_field(self.hash_left_out, TagNumber::new(0), self.hash, writer);
     }
 }

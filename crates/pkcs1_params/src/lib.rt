@@ -1,8 +1,8 @@
 //! Parameters of RSASSA-PSS and RSAES-OAEP (RFC 8017 A.2.3, A.2.1), and the error of keys and parameters.
 #![tactic(auto)]
 
-mod hash_fields;
 mod error;
+mod hash_fields;
 mod laws;
 mod oaep;
 mod oaep_spelling;
@@ -12,8 +12,8 @@ mod spelling;
 mod strict;
 mod trailer_field;
 
-pub use hash_fields::with_null;
 pub use error::{Error, Result};
+pub use hash_fields::with_null;
 pub use laws::{oaep_spellings, pss_spellings};
 pub use oaep::{RsaOaepParams, RsaOaepParamsOwned, RsaOaepParamsRef};
 pub use pss::{RsaPssParams, RsaPssParamsOwned, RsaPssParamsRef};

@@ -1,5 +1,6 @@
 //! Parameters of RSAES-OAEP (RFC 8017 A.2.1).
 ghost use Rattle.std.specs.Prelude.{◌≡◌, ◌≤◌, ◌+◌, ◌++◌, [], ⊤, refl, length, OnOk, IfErr, ℕ, List};
+ghost use Rattle.der_core.specs.Tag.{sequence_tag};
 ghost use Rattle.der_core.specs.Tlv.{Tlv, tlv};
 ghost use Rattle.pkcs1_params.specs.OaepValue.{labelled};
 ghost use Rattle.der_core.specs.Length.{limit};
@@ -15,15 +16,15 @@ ghost use Rattle.pkcs1_params.specs.OaepWriting.{oaep_defaults, HasOaep, written
 ghost use Rattle.der_core.specs.Texts.{AreBytes};
 ghost use Rattle.pkcs1_params.specs.OaepLaws.{oaep_means_one, oaep_of_bytes, oaep_relates, oaep_shortest};
 
+use crate::error::{Error, Result};
 use crate::hash_fields::{
     HashFields, Sha1, is_default_hash, is_default_mask_gen, mask_gen_ref, mgf1_with, read_hash,
     read_mask_gen, with_null,
 };
-use crate::error::{Error, Result};
 use crate::strict::is_written;
 use der_core::{
-    BackWriter, Contents, Decode, DecodeValue, Encode, EncodeValue, EqualByValue, Header, TaggedBy,
-    Length, Memory, NoMemory, Reader, Sequence, SequenceTag, Tag, TagNumber, TryClone, Writer,
+    BackWriter, Contents, Decode, DecodeValue, Encode, EncodeValue, EqualByValue, Header, Length,
+    Memory, NoMemory, Reader, Sequence, SequenceTag, Tag, TagNumber, TaggedBy, TryClone, Writer,
     joined_len,
 };
 use spki_core::{
@@ -88,9 +89,9 @@ fn read_source<'a, P: Decode<&'a [u8], M> + AnyParams<M>, M: Memory, R: Reader<&
     memory: M,
     reader: &mut R,
 ) -> der_core::Result<AlgorithmIdentifier<P>>
-    ensures { let may_allocate = AllocatesWithin (Tlv 48 (AllocatesWithin P.Decode.may_allocate)) in
+    ensures { let may = AllocatesWithin (Tlv sequence_tag (AllocatesWithin P.Decode.may_allocate)) in
         let value = algorithm_with P.any in
-        ReadsField 2 value PlainAlgorithm empty_label may_allocate result (R.left reader.old) (R.left reader.new) }
+        ReadsField 2 value PlainAlgorithm empty_label may result (R.left reader.old) (R.left reader.new) }
 {
     if is_field_next(reader, TagNumber::new(2))? {
         read_explicit(memory, reader, TagNumber::new(2))

@@ -10,16 +10,16 @@ ghost use Rattle.pkcs1_params.specs.Parameters.{PssParameters, PssContents, pss_
 ghost use Rattle.pkcs1_params.specs.PssWriting.{pss_defaults, HasPss, written_pss};
 ghost use Rattle.pkcs1_params.specs.PssLaws.{pss_means_one, pss_of_bytes, pss_relates, pss_shortest};
 
+use crate::error::{Error, Result};
 use crate::hash_fields::{
     HashFields, Sha1, is_default_hash, is_default_mask_gen, mask_gen_ref, mgf1_with, read_hash,
     read_mask_gen, with_null,
 };
-use crate::error::{Error, Result};
 use crate::strict::is_written;
 use crate::trailer_field::TrailerField;
 use der_core::{
-    BackWriter, Contents, Decode, DecodeValue, Encode, EncodeValue, EqualByValue, Header, TaggedBy,
-    Length, Memory, NoMemory, Reader, Sequence, SequenceTag, TagNumber, TryClone, Writer,
+    BackWriter, Contents, Decode, DecodeValue, Encode, EncodeValue, EqualByValue, Header, Length,
+    Memory, NoMemory, Reader, Sequence, SequenceTag, TagNumber, TaggedBy, TryClone, Writer,
     joined_len,
 };
 use spki_core::{

@@ -1,5 +1,6 @@
 //! Parameters under a mask that says which of their defaults are written.
 ghost use Rattle.std.specs.Prelude.{◌≡◌, ◌≤◌, ◌<◌, ◌+◌, ◌++◌, ◌^◌, ℕ, List, length, take, drop, OnOk, OnErr, IfOk, IfErr};
+ghost use Rattle.der_core.specs.Tag.{sequence_tag};
 ghost use Rattle.der_core.specs.BackWriters.{free_of, Prepends};
 ghost use Rattle.der_core.specs.Length.{limit};
 ghost use Rattle.der_core.specs.Texts.{IsOfBytes, MeansOne};
@@ -13,7 +14,7 @@ ghost use Rattle.pkcs1_params.specs.MaskedValues.{MaskedValue, InRange, FieldCon
 
 use crate::error::Result;
 use der_core::{
-    BackWriter, Contents, Encode, EncodeValue, ErrorKind, TaggedBy, Length, SequenceTag, Writer,
+    BackWriter, Contents, Encode, EncodeValue, ErrorKind, Length, SequenceTag, TaggedBy, Writer,
     write_over,
 };
 use std::alloc::Global;
@@ -157,10 +158,11 @@ impl<T: DefaultFields> Spelling<T> {
 
     /// How many octets the text has: `Overflow` where there is no spelling under the mask.
     fn len(&self) -> der_core::Result<usize>
-        ensures ok { IfOk result (λ n. n ≡ length (tlv 48 (T.written_under (T.params self.now.params) self.now.mask))) }
+        ensures ok { let text = tlv sequence_tag (T.written_under (T.params self.now.params) self.now.mask) in
+            IfOk result (λ n. n ≡ length text) }
         ensures has { OnOk result (T.has_under (T.params self.now.params) self.now.mask) }
         ensures spells { let params = T.params self.now.params in
-            let text = tlv 48 (T.written_under params self.now.mask) in
+            let text = tlv sequence_tag (T.written_under params self.now.mask) in
             OnOk result (IsSpelling (T.fields params) self.now.mask text) }
         ensures err { let none = HasNoSpelling (T.fields (T.params self.now.params)) self.now.mask in
             IfErr result (λ e. (e.kind ≡ ErrorKind.Overflow) × none) }

@@ -9,7 +9,7 @@ ghost use Rattle.pkcs1_params.specs.TrailerLaws.{trailer_means_one, trailer_of_b
 
 use der_core::{
     BackWriter, Contents, DecodeValue, EncodeValue, EqualByValue, ErrorKind, Header, IntegerTag,
-    TaggedBy, Length, Memory, Reader, Result, Tag, Writer,
+    Length, Memory, Reader, Result, Tag, TaggedBy, Writer,
 };
 
 /// The trailer field: the one that is known (RFC 8017 A.2.3).

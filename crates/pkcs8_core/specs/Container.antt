@@ -1,5 +1,6 @@
 -- PrivateKeyInfo (RFC 5208 5).
 use Rattle.std.specs.Prelude.{ℕ, List, [], ◌∷◌, ◌++◌, ◌<◌, length, Option}
+use Rattle.der_core.specs.Tag.{context_tag, integer_tag, octet_string_tag, sequence_tag}
 use Rattle.der_core.specs.Document.{Means, EncodeRefusal, no_text, too_long, no_room, another}
 use Rattle.der_core.specs.Integer.{Small, integer_contents}
 use Rattle.der_core.specs.OctetString.{OctetContents, OctetString}
@@ -16,7 +17,7 @@ pub record Info : Type 0 where
 
 -- attributes [0] IMPLICIT SET OF Attribute: the contents aren't looked at.
 abbrev pub AttributesText : List ℕ → List ℕ → Type 0
-AttributesText octets text = Tlv 160 (OctetContents octets) text
+AttributesText octets text = Tlv (context_tag 0) (OctetContents octets) text
 
 abbrev pub InfoContents : Info → List ℕ → Type 0
 InfoContents info contents =
@@ -24,7 +25,7 @@ InfoContents info contents =
 
 -- PrivateKeyInfo ::= SEQUENCE { version INTEGER (0), privateKeyAlgorithm AlgorithmIdentifier, privateKey OCTET STRING, attributes [0] IMPLICIT Attributes OPTIONAL }
 abbrev pub PrivateKeyInfo : Info → List ℕ → Type 0
-PrivateKeyInfo info text = Tlv 48 (InfoContents info) text
+PrivateKeyInfo info text = Tlv sequence_tag (InfoContents info) text
 
 -- Which values have contents, and the contents that are written.
 abbrev pub HasInfo : Info → Type 0
@@ -32,7 +33,7 @@ HasInfo info = (0 < 256) × (HasPlain info.algorithm × (AreBytes info.private_k
 
 abbrev pub written_info : Info → List ℕ
 written_info info =
-    tlv 2 (integer_contents (0 ∷ [])) ++ (written_plain info.algorithm ++ (tlv 4 info.private_key ++ written_optional (λ octets. tlv 160 octets) info.attributes))
+    tlv integer_tag (integer_contents (0 ∷ [])) ++ (written_plain info.algorithm ++ (tlv octet_string_tag info.private_key ++ written_optional (λ octets. tlv (context_tag 0) octets) info.attributes))
 
 -- Why a container isn't written: it has no text within the limit, or its text has no room.
 abbrev pub IsUnwritten : Info → ℕ → EncodeRefusal → Type 0

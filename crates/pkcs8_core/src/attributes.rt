@@ -6,8 +6,8 @@ ghost use Rattle.der_core.specs.Texts.{AreBytes};
 ghost use Rattle.pkcs8_core.specs.Tags.{attributes_tag};
 
 use pkcs1::der::{
-    BackWriter, Contents, DecodeValue, EncodeValue, Header, TaggedBy, Length, Memory, Reader, Result,
-    Tag, TagMarker, Writer,
+    BackWriter, Contents, DecodeValue, EncodeValue, Header, Length, Memory, Reader, Result, Tag,
+    TagMarker, TaggedBy, Writer,
 };
 
 /// The tag of attributes.

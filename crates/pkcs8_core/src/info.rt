@@ -14,7 +14,7 @@ ghost use Rattle.pkcs8_core.specs.Laws.{info_means_one, info_of_bytes, info_rela
 use crate::attributes::Attributes;
 use pkcs1::der::{
     BackWriter, Contents, Decode, DecodeValue, Encode, EncodeValue, Error, ErrorKind, Header,
-    TaggedBy, Length, Memory, NoMemory, OctetStringRef, Reader, Result, Sequence, SequenceTag, Tag,
+    Length, Memory, NoMemory, OctetStringRef, Reader, Result, Sequence, SequenceTag, Tag, TaggedBy,
     Writer, decode_optional, encode_optional, joined_len, optional_len, prepend_optional,
 };
 use pkcs1::spki::AlgorithmIdentifierRef;

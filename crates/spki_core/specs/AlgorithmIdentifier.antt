@@ -2,6 +2,7 @@
 use Rattle.std.specs.Prelude.{ℕ, Bool, List, [], ◌∷◌, ◌++◌, ◌&&◌, eqb, Option}
 use Rattle.std.specs.Option.{option_eq}
 use Rattle.std.specs.Str.{bytes_eq}
+use Rattle.der_core.specs.Tag.{object_identifier_tag, sequence_tag}
 use Rattle.der_core.specs.Texts.{Joins}
 use Rattle.der_core.specs.Tlv.{Tlv, tlv}
 use Rattle.der_core.specs.Optional.{Optional, HasOptional, written_optional}
@@ -17,7 +18,7 @@ abbrev pub AlgorithmContents : {P : Type 0} → (P → List ℕ → Type 0) → 
 AlgorithmContents Parameters a contents = Joins (ObjectIdentifier a.oid ∷ Optional Parameters a.parameters ∷ []) contents
 
 abbrev pub AlgorithmIdentifier : {P : Type 0} → (P → List ℕ → Type 0) → Algorithm P → List ℕ → Type 0
-AlgorithmIdentifier Parameters a text = Tlv 48 (AlgorithmContents Parameters a) text
+AlgorithmIdentifier Parameters a text = Tlv sequence_tag (AlgorithmContents Parameters a) text
 
 -- An algorithm whose parameters are any text.
 abbrev pub PlainAlgorithm : Algorithm TagAndContents → List ℕ → Type 0
@@ -32,19 +33,19 @@ abbrev pub HasAlgorithm : {P : Type 0} → (P → Type 0) → Algorithm P → Ty
 HasAlgorithm has a = IsIdentifier a.oid × HasOptional has a.parameters
 
 abbrev pub written_algorithm : {P : Type 0} → (P → List ℕ) → Algorithm P → List ℕ
-written_algorithm text a = tlv 6 a.oid ++ written_optional text a.parameters
+written_algorithm text a = tlv object_identifier_tag a.oid ++ written_optional text a.parameters
 
 abbrev pub HasPlain : Algorithm TagAndContents → Type 0
 HasPlain = HasAlgorithm IsAny
 
 abbrev pub written_plain : Algorithm TagAndContents → List ℕ
-written_plain a = tlv 48 (written_algorithm written_any a)
+written_plain a = tlv sequence_tag (written_algorithm written_any a)
 
 abbrev pub HasMask : Algorithm (Algorithm TagAndContents) → Type 0
 HasMask = HasAlgorithm HasPlain
 
 abbrev pub written_mask : Algorithm (Algorithm TagAndContents) → List ℕ
-written_mask a = tlv 48 (written_algorithm written_plain a)
+written_mask a = tlv sequence_tag (written_algorithm written_plain a)
 
 -- Tests for equality.
 abbrev pub same_any : TagAndContents → TagAndContents → Bool

@@ -1,5 +1,6 @@
 -- Algorithm identifiers: each text means one value and is bytes, and what is written of a value is the shortest of its texts.
 use Rattle.std.proofs.Common.{ℕ, List, ◌≡◌, ◌<◌, ◌^◌, length, refl, ap, arith, length-append, Option, Some, None}
+use Rattle.der_core.specs.Tag.{object_identifier_tag, sequence_tag}
 use Rattle.der_core.specs.Texts.{IsDelimited, IsOfBytes, MeansOne}
 use Rattle.der_core.specs.Tlv.{tlv}
 use Rattle.der_core.specs.TextLaws.{tlv_delimited, then_step, then_least, last_least, then_holds, last_holds, then_of_bytes, last_of_bytes}
@@ -26,7 +27,7 @@ module _ {P : Type 0} (Parameters : P → List ℕ → Type 0) where
       algorithm_path s.0 (optional_last Parameters d v.parameters w.parameters s.1 s.2 s.3)
 
   pub algorithm_delimited : IsDelimited Parameters → IsDelimited (AlgorithmIdentifier Parameters)
-  algorithm_delimited d = tlv_delimited 48 (AlgorithmContents Parameters) (algorithm_means_one d)
+  algorithm_delimited d = tlv_delimited sequence_tag (AlgorithmContents Parameters) (algorithm_means_one d)
 
   pub algorithm_of_bytes : IsOfBytes Parameters → IsOfBytes (AlgorithmContents Parameters)
   algorithm_of_bytes of_bytes v c p = then_of_bytes (identifier_of_bytes v.oid) (last_of_bytes (optional_of_bytes Parameters of_bytes v.parameters)) c p
@@ -35,14 +36,14 @@ module _ {P : Type 0} (Parameters : P → List ℕ → Type 0) where
     pub algorithm_relates : ((v : P) → has v → length (text v) < 2 ^ 128 → Parameters v (text v))
         → (v : Algorithm P) → HasAlgorithm has v → length (written_algorithm text v) < 2 ^ 128 → AlgorithmContents Parameters v (written_algorithm text v)
     algorithm_relates relates v h fits =
-        let l = length-append (tlv 6 v.oid) (written_optional text v.parameters) in
-        then_holds (tlv 6 v.oid) (written_optional text v.parameters) (identifier_relates v.oid h.0)
+        let l = length-append (tlv object_identifier_tag v.oid) (written_optional text v.parameters) in
+        then_holds (tlv object_identifier_tag v.oid) (written_optional text v.parameters) (identifier_relates v.oid h.0)
         (last_holds (written_optional text v.parameters) (optional_relates Parameters has text relates v.parameters h.1 (omega (arith, fits, l))))
 
     pub algorithm_shortest : ((v : P) (b : List ℕ) → Parameters v b → IsLeast (has v) (text v) b)
         → (v : Algorithm P) (c : List ℕ) → AlgorithmContents Parameters v c → IsLeast (HasAlgorithm has v) (written_algorithm text v) c
     algorithm_shortest least v c p =
-        then_least (tlv 6 v.oid) (written_optional text v.parameters) (identifier_shortest v.oid)
+        then_least (tlv object_identifier_tag v.oid) (written_optional text v.parameters) (identifier_shortest v.oid)
         (last_least (written_optional text v.parameters) (optional_shortest Parameters has text least v.parameters)) c p
 
 pub plain_delimited : IsDelimited PlainAlgorithm

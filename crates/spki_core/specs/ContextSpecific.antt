@@ -1,5 +1,6 @@
 -- A value inside an explicit tag of the class context-specific (X.690 8.14.2).
 use Rattle.std.specs.Prelude.{ℕ, List, ◌+◌, ◌≤◌}
+use Rattle.der_core.specs.Tag.{context_tag}
 use Rattle.der_core.specs.Tlv.{Tlv, tlv}
 
 pub record Numbered (V : Type 0) : Type 0 where
@@ -8,10 +9,10 @@ pub record Numbered (V : Type 0) : Type 0 where
 
 -- The tag [number] wraps one text of the value.
 abbrev pub ContextSpecific : {V : Type 0} → (V → List ℕ → Type 0) → Numbered V → List ℕ → Type 0
-ContextSpecific Grammar v text = (v.number ≤ 30) × Tlv (160 + v.number) (Grammar v.value) text
+ContextSpecific Grammar v text = (v.number ≤ 30) × Tlv (context_tag v.number) (Grammar v.value) text
 
 abbrev pub HasNumbered : {V : Type 0} → (V → Type 0) → Numbered V → Type 0
 HasNumbered has v = (v.number ≤ 30) × has v.value
 
 abbrev pub written_numbered : {V : Type 0} → (V → List ℕ) → Numbered V → List ℕ
-written_numbered text v = tlv (160 + v.number) (text v.value)
+written_numbered text v = tlv (context_tag v.number) (text v.value)

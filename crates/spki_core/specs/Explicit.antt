@@ -1,5 +1,6 @@
 -- Fields [n] EXPLICIT .. DEFAULT .. of a SEQUENCE, in rising order (X.690 8.14.2, 11.5).
 use Rattle.std.specs.Prelude.{ℕ, suc, List, [], ◌∷◌, ◌≡◌, ◌+◌, ◌*◌, ◌⊎◌, map}
+use Rattle.der_core.specs.Tag.{context_tag, sequence_tag}
 use Rattle.der_core.specs.Texts.{Is, Then, Joins}
 use Rattle.der_core.specs.Tlv.{Tlv}
 
@@ -15,14 +16,14 @@ field number Grammar default value = record { number = number; Inner = Grammar v
 
 -- Written: one text of the value inside the tag [number].
 abbrev pub Explicit : Field → List ℕ → Type 0
-Explicit f text = Tlv (160 + f.number) f.Inner text
+Explicit f text = Tlv (context_tag f.number) f.Inner text
 
 -- A default may be left out.
 abbrev pub Defaultable : Field → List ℕ → Type 0
 Defaultable f text = ((text ≡ []) × f.IsDefault) ⊎ Explicit f text
 
 abbrev pub FieldSequence : List Field → List ℕ → Type 0
-FieldSequence fields text = Tlv 48 (Joins (map Defaultable fields)) text
+FieldSequence fields text = Tlv sequence_tag (Joins (map Defaultable fields)) text
 
 -- How many of the fields have their defaults.
 abbrev pub HaveDefaults : List Field → ℕ → Type 0
@@ -42,23 +43,23 @@ MaskedContents [] mask text = (text ≡ []) × (mask ≡ 0)
 MaskedContents (f ∷ fields) mask text = (rest : ℕ) × Then (MaskedField f mask rest) (MaskedContents fields rest) text
 
 abbrev pub Masked : List Field → ℕ → List ℕ → Type 0
-Masked fields mask text = Tlv 48 (MaskedContents fields mask) text
+Masked fields mask text = Tlv sequence_tag (MaskedContents fields mask) text
 
 -- Every field is written.
 abbrev pub AllExplicit : List Field → List ℕ → Type 0
-AllExplicit fields text = Tlv 48 (Joins (map Explicit fields)) text
+AllExplicit fields text = Tlv sequence_tag (Joins (map Explicit fields)) text
 
 -- The octet of the field [number] comes next.
 abbrev pub IsNext : ℕ → List ℕ → Type 0
-IsNext number bytes = (rest : List ℕ) × (bytes ≡ (160 + number) ∷ rest)
+IsNext number bytes = (rest : List ℕ) × (bytes ≡ (context_tag number) ∷ rest)
 
 -- What reading of a field with a default gives: its value, and the bytes after it.
 -- The field is left out exactly where its octet isn't next.
 abbrev pub FieldRead : {V : Type 0} → ℕ → (V → List ℕ → Type 0) → V → List ℕ → V → List ℕ → Type 0
 FieldRead number Grammar default bytes value rest =
     ((IsNext number bytes → ⊥) × (value ≡ default) × (rest ≡ bytes)) ⊎
-    Then (Tlv (160 + number) (Grammar value)) (Is rest) bytes
+    Then (Tlv (context_tag number) (Grammar value)) (Is rest) bytes
 
 -- Its octet is next, and no text of the field.
 abbrev pub FieldRefused : {V : Type 0} → ℕ → (V → List ℕ → Type 0) → List ℕ → Type 0
-FieldRefused {V} number Grammar bytes = IsNext number bytes × ((value : V) (rest : List ℕ) → Then (Tlv (160 + number) (Grammar value)) (Is rest) bytes → ⊥)
+FieldRefused {V} number Grammar bytes = IsNext number bytes × ((value : V) (rest : List ℕ) → Then (Tlv (context_tag number) (Grammar value)) (Is rest) bytes → ⊥)

@@ -2,6 +2,7 @@
 use Rattle.std.proofs.Common.{ℕ, List, [], ◌∷◌, ◌++◌, ◌≡◌, ◌≤◌, ◌<◌, ◌+◌, ◌^◌, inl, inr, map, length, refl, sym, ap, ◌∙◌, arith, true, false}
 use Rattle.std.specs.Prelude.{Bool}
 use Rattle.std.specs.Bool.{Decides}
+use Rattle.der_core.specs.Tag.{context_tag}
 use Rattle.der_core.specs.Texts.{AreBytes, IsDelimited, Joins}
 use Rattle.der_core.specs.ListLaws.{same_cons}
 use Rattle.der_core.specs.ShortestLaws.{means_one}
@@ -17,11 +18,11 @@ AreLater n [] = Unit {0}
 AreLater n (f ∷ fields) = (n < f.number) × AreLater n fields
 
 -- A written field begins with its octet.
-pub explicit_starts : (f : Field) (x y c : List ℕ) → Explicit f x → c ≡ x ++ y → (r : List ℕ) × (c ≡ (160 + f.number) ∷ r)
+pub explicit_starts : (f : Field) (x y c : List ℕ) → Explicit f x → c ≡ x ++ y → (r : List ℕ) × (c ≡ (context_tag f.number) ∷ r)
 explicit_starts f x y c p e = ((p.octets ++ p.contents) ++ y, rw (e, p.written) refl)
 
 -- Later fields don't begin with an earlier one's octet.
-pub not_later : (n : ℕ) (fields : List Field) (c r : List ℕ) → AreLater n fields → Joins (map Defaultable fields) c → c ≡ (160 + n) ∷ r → ⊥
+pub not_later : (n : ℕ) (fields : List Field) (c r : List ℕ) → AreLater n fields → Joins (map Defaultable fields) c → c ≡ (context_tag n) ∷ r → ⊥
 not_later n [] c r l p e = omega (arith, ap length p, ap length e)
 not_later n (f ∷ fields) c r l (x, y, inl p, j, e) h =
     not_later n fields y r l.1 j (let s : c ≡ y = rw p.0 at e in sym s ∙ h)
@@ -60,7 +61,7 @@ AreOfBytes (f ∷ fields) = (f.number ≤ 30) × ((text : List ℕ) → f.Inner 
 
 field_of_bytes : (f : Field) → f.number ≤ 30 → ((text : List ℕ) → f.Inner text → AreBytes text) → (c : List ℕ) → Defaultable f c → AreBytes c
 field_of_bytes f small bytes c (inl p) = rw p.0 tt
-field_of_bytes f small bytes c (inr p) = tlv_of_bytes (160 + f.number) (number_allowed f.number small) (λ (_ : Unit {0}) x. f.Inner x) (λ _ x q. bytes x q) tt c p
+field_of_bytes f small bytes c (inr p) = tlv_of_bytes (context_tag f.number) (number_allowed f.number small) (λ (_ : Unit {0}) x. f.Inner x) (λ _ x q. bytes x q) tt c p
 
 pub fields_of_bytes : (fields : List Field) → AreOfBytes fields → (c : List ℕ) → Joins (map Defaultable fields) c → AreBytes c
 fields_of_bytes [] all c p = rw p tt
@@ -71,7 +72,7 @@ pub field_relates : {V : Type 0} {has : Type 0} (number : ℕ) (Grammar : V → 
     → Decides is_default (v ≡ default) → (has → length text < 2 ^ 128 → Grammar v text) → HasField is_default has → length (written_field is_default number text) < 2 ^ 128
     → Defaultable (field number Grammar default v) (written_field is_default number text)
 field_relates number Grammar default v true text decides related h fits = inl (refl, decides.0 refl)
-field_relates number Grammar default v false text decides related h fits = inr (tlv_relates (160 + number) (λ (_ : Unit {0}). Grammar v) (λ _. text) tt (related h) fits)
+field_relates number Grammar default v false text decides related h fits = inr (tlv_relates (context_tag number) (λ (_ : Unit {0}). Grammar v) (λ _. text) tt (related h) fits)
 
 pub field_shortest : {V : Type 0} (number : ℕ) (Grammar : V → List ℕ → Type 0) (has : V → Type 0) (text : V → List ℕ) (default v : V) (is_default : Bool)
     → Decides is_default (v ≡ default) → ((w : V) (b : List ℕ) → Grammar w b → IsLeast (has w) (text w) b)
@@ -80,4 +81,4 @@ field_shortest number Grammar has text default v true decides least c (inl p) = 
 field_shortest number Grammar has text default v true decides least c (inr p) =
     (tt, omega arith, (λ (l : length c ≤ 0). absurd (omega (arith, l, tlv_not_empty c p))))
 field_shortest number Grammar has text default v false decides least c (inl p) = let no : false ≡ true = decides.1 p.1 in cc
-field_shortest number Grammar has text default v false decides least c (inr p) = tlv_shortest (160 + number) Grammar text has least v c p
+field_shortest number Grammar has text default v false decides least c (inr p) = tlv_shortest (context_tag number) Grammar text has least v c p

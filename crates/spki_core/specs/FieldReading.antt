@@ -1,6 +1,7 @@
 -- What reading a field with a default gives.
 use Rattle.std.specs.Prelude.{ℕ, Bool, List, ◌≡◌, ◌+◌, Result, Ok, Err, Some, None, slice_get}
 use Rattle.std.specs.Bool.{Decides}
+use Rattle.der_core.specs.Tag.{context_tag}
 use Rattle.der_core.specs.declared.error.ErrorKind.TheVariants.{Failed}
 use Rattle.der_core.specs.declared.error.Error.{Error}
 use Rattle.der_core.specs.Input.{Input}
@@ -10,7 +11,7 @@ use Rattle.spki_core.specs.Explicit.{FieldRead, FieldRefused}
 
 -- Whether the octet of the field is next, on a reader that reads on; or the reader has failed.
 abbrev pub TellsNext : ℕ → Result Bool Error → Input → Input → Type 0
-TellsNext n (Ok next) before after = (i : List ℕ) × (before ≡ Some i) × (after ≡ Some i) × Decides next (slice_get i 0 ≡ Some (160 + n))
+TellsNext n (Ok next) before after = (i : List ℕ) × (before ≡ Some i) × (after ≡ Some i) × Decides next (slice_get i 0 ≡ Some (context_tag n))
 TellsNext n (Err e) before after = (before ≡ None) × (after ≡ None) × (e.kind ≡ Failed)
 
 -- The field was read, or it has its default; or the reader has failed, and its octet is next, but no text of it.
@@ -18,4 +19,4 @@ abbrev pub ReadsField : {X V : Type 0} → ℕ → (X → V) → (V → List ℕ
 ReadsField n value text default may_allocate (Ok x) before after =
     (bytes : List ℕ) × (rest : List ℕ) × (before ≡ Some bytes) × (after ≡ Some rest) × FieldRead n text default bytes (value x) rest
 ReadsField n value text default may_allocate (Err e) before after =
-    (after ≡ None) × ((bytes : List ℕ) → before ≡ Some bytes → Refuses e.kind (AllocatesIn (Tlv (160 + n) may_allocate) bytes) (FieldRefused n text bytes))
+    (after ≡ None) × ((bytes : List ℕ) → before ≡ Some bytes → Refuses e.kind (AllocatesIn (Tlv (context_tag n) may_allocate) bytes) (FieldRefused n text bytes))

@@ -1,5 +1,6 @@
 -- What is written of a field that may be left out.
 use Rattle.std.specs.Prelude.{ℕ, Bool, true, false, List, [], ◌+◌}
+use Rattle.der_core.specs.Tag.{context_tag}
 use Rattle.der_core.specs.Tlv.{tlv}
 
 -- It can be written where it is left out, or where its value can.
@@ -9,4 +10,4 @@ HasField false has = has
 
 abbrev pub written_field : Bool → ℕ → List ℕ → List ℕ
 written_field true number text = []
-written_field false number text = tlv (160 + number) text
+written_field false number text = tlv (context_tag number) text

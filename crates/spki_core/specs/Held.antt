@@ -1,6 +1,7 @@
 -- What identifiers and borrowed texts of any tag hold: each has a text, little longer than the limit.
 use Rattle.std.proofs.Common.{◌++◌, ◌≤◌, ◌+◌, length, arith, length-append, Option, Some, None}
 use Rattle.std.specs.Option.{option_map}
+use Rattle.der_core.specs.Tag.{object_identifier_tag, sequence_tag}
 use Rattle.der_core.specs.InputLaws.{are_bytes}
 use Rattle.der_core.specs.Length.{limit}
 use Rattle.der_core.specs.Optional.{HasOptional, written_optional}
@@ -20,8 +21,8 @@ use Rattle.spki_core.specs.declared.object_identifier.ObjectIdentifier.{ObjectId
 pub identifier_held : (oid : ObjectIdentifier) → IsIdentifier (octets_of oid)
 identifier_held oid = is_identifier-sound (octets_of oid) (are_bytes (octets_of oid) oid.bytes) oid.valid
 
-pub identifier_short : (oid : ObjectIdentifier) → length (tlv 6 (octets_of oid)) ≤ 167
-identifier_short oid = tlv_short 6 39 (octets_of oid) (let p = identifier_held oid in p.short) (omega arith)
+pub identifier_short : (oid : ObjectIdentifier) → length (tlv object_identifier_tag (octets_of oid)) ≤ 167
+identifier_short oid = tlv_short object_identifier_tag 39 (octets_of oid) (let p = identifier_held oid in p.short) (omega arith)
 
 pub any_held : (any : AnyRef) → IsAny (any_of any)
 any_held any = (any.tag.allowed, are_bytes any.contents.now any.octets)
@@ -42,6 +43,6 @@ plain_held a = (identifier_held a.oid, parameters_held a.parameters)
 
 pub plain_short : (a : AlgorithmIdentifier AnyRef) → length (written_plain (algorithm_of a)) ≤ limit + 423
 plain_short a =
-    let oid = tlv 6 (octets_of a.oid) in
+    let oid = tlv object_identifier_tag (octets_of a.oid) in
     let parameters = written_optional written_any (option_map any_of a.parameters) in
-    tlv_short 48 (limit + 295) (oid ++ parameters) (omega (arith, length-append oid parameters, identifier_short a.oid, parameters_short a.parameters)) (omega arith)
+    tlv_short sequence_tag (limit + 295) (oid ++ parameters) (omega (arith, length-append oid parameters, identifier_short a.oid, parameters_short a.parameters)) (omega arith)

@@ -4,6 +4,7 @@ use Rattle.std.proofs.lemmas.Bool.Decides.{nat_tests}
 use Rattle.std.proofs.Math.Nat.{pow-suc}
 use Rattle.std.specs.Bool.{Decides}
 use Rattle.std.specs.Prelude.{◌==◌, ◌%◌, ◌/◌}
+use Rattle.der_core.specs.Tag.{context_tag}
 use Rattle.der_core.specs.Texts.{Is}
 use Rattle.der_core.specs.Writing.{IsLeast}
 use Rattle.der_core.specs.TextLaws.{tlv_relates, tlv_shortest, then_least}
@@ -17,14 +18,14 @@ module _ (f : Field) {has : Type 0} (text : List ℕ) where
       → Decides is_default f.IsDefault → (has → length text < 2 ^ 128 → f.Inner text) → HasField (out_under is_default mask) has → length (written_field (out_under is_default mask) f.number text) < 2 ^ 128
       → MaskedField f mask (rest_under is_default mask) (written_field (out_under is_default mask) f.number text)
   field_masked false mask decides related h fits =
-      forced (λ d. let no : false ≡ true = decides.1 d in cc) refl (tlv_relates (160 + f.number) (λ (_ : Unit {0}). f.Inner) (λ _. text) tt (related h) fits)
+      forced (λ d. let no : false ≡ true = decides.1 d in cc) refl (tlv_relates (context_tag f.number) (λ (_ : Unit {0}). f.Inner) (λ _. text) tt (related h) fits)
   field_masked true mask decides related h fits = go (mask % 2 == 0) refl h fits
     where
       go : (b : Bool) → (mask % 2 == 0) ≡ b → HasField b has → length (written_field b f.number text) < 2 ^ 128 → MaskedField f mask (mask / 2) (written_field b f.number text)
       go true e h fits = let even : mask ≡ 2 * (mask / 2) = grind (arith, nat_tests, e) in left_out (decides.0 refl) even refl
       go false e h fits =
           let odd : mask ≡ 2 * (mask / 2) + 1 = grind (arith, nat_tests, e) in
-          written (decides.0 refl) odd (tlv_relates (160 + f.number) (λ (_ : Unit {0}). f.Inner) (λ _. text) tt (related h) fits)
+          written (decides.0 refl) odd (tlv_relates (context_tag f.number) (λ (_ : Unit {0}). f.Inner) (λ _. text) tt (related h) fits)
 
   field_least : (is_default : Bool) (mask rest : ℕ) (c : List ℕ)
       → Decides is_default f.IsDefault → ((b : List ℕ) → f.Inner b → IsLeast has text b) → MaskedField f mask rest c
@@ -34,11 +35,11 @@ module _ (f : Field) {has : Type 0} (text : List ℕ) where
       rw even (omega (arith, m), (tt, omega arith, (λ (_ : length c ≤ 0). e)))
   field_least true mask rest c decides least (written d m p) =
       let odd : (mask % 2 == 0) ≡ false = grind (arith, nat_tests, m) in
-      rw odd (omega (arith, m), tlv_shortest (160 + f.number) (λ (_ : Unit {0}). f.Inner) (λ _. text) (λ _. has) (λ _. least) tt c p)
+      rw odd (omega (arith, m), tlv_shortest (context_tag f.number) (λ (_ : Unit {0}). f.Inner) (λ _. text) (λ _. has) (λ _. least) tt c p)
   field_least true mask rest c decides least (forced n m p) = absurd (n (decides.0 refl))
   field_least false mask rest c decides least (left_out d m e) = let no : false ≡ true = decides.1 d in cc
   field_least false mask rest c decides least (written d m p) = let no : false ≡ true = decides.1 d in cc
-  field_least false mask rest c decides least (forced n m p) = (sym m, tlv_shortest (160 + f.number) (λ (_ : Unit {0}). f.Inner) (λ _. text) (λ _. has) (λ _. least) tt c p)
+  field_least false mask rest c decides least (forced n m p) = (sym m, tlv_shortest (context_tag f.number) (λ (_ : Unit {0}). f.Inner) (λ _. text) (λ _. has) (λ _. least) tt c p)
 
 -- The mask for the later fields is below two to the number of their defaults.
 rest_below : (f : Field) (fields : List Field) (k mask : ℕ) (is_default : Bool) → Decides is_default f.IsDefault → HaveDefaults (f ∷ fields) k → mask < 2 ^ k

@@ -1,5 +1,6 @@
 -- Fields with defaults, of which none is to be written that equals its default (X.690 11.5).
 use Rattle.std.specs.Prelude.{ℕ, Bool, true, false, List, [], ◌∷◌, ◌++◌, ◌≡◌, ◌+◌, ◌⊎◌, map, Option, Some, None}
+use Rattle.der_core.specs.Tag.{context_tag, sequence_tag}
 use Rattle.der_core.specs.Document.{Means}
 use Rattle.der_core.specs.Reading.{NoneIn}
 use Rattle.der_core.specs.Texts.{Then, Joins}
@@ -23,11 +24,11 @@ FirstWritten (f ∷ fields) n contents =
     ⊎ Then (Short f) (FirstWritten fields n) contents
 
 abbrev pub WritesDefault : List Field → ℕ → List ℕ → Type 0
-WritesDefault fields n text = Tlv 48 (FirstWritten fields n) text
+WritesDefault fields n text = Tlv sequence_tag (FirstWritten fields n) text
 
 -- The refusal names the tag [n].
 abbrev pub NamesNumber : ℕ → Error → Type 0
-NamesNumber n e = (tag : Tag) × (e.kind ≡ Noncanonical tag) × (tag.octet ≡ 160 + n)
+NamesNumber n e = (tag : Tag) × (e.kind ≡ Noncanonical tag) × (tag.octet ≡ context_tag n)
 
 -- The refusal names the tag of the first default that is written.
 abbrev pub NamesDefault : List Field → List ℕ → Error → Type 0
@@ -47,4 +48,4 @@ number_in number = number.value
 
 -- What walks over the contents of a text.
 abbrev pub WalksOver : List Bool → List ℕ → Option ℕ → Type 0
-WalksOver ds text found = (c : List ℕ) → Means Any text (record { tag = 48; contents = c }) → Walked 0 ds c found
+WalksOver ds text found = (c : List ℕ) → Means Any text (record { tag = sequence_tag; contents = c }) → Walked 0 ds c found

@@ -10,8 +10,8 @@ use crate::any::{AnyRef, AnyValue};
 use crate::object_identifier::ObjectIdentifier;
 use der_core::{
     BackWriter, Contents, Decode, DecodeValue, Encode, EncodeValue, EqualByValue, Error, ErrorKind,
-    Header, TaggedBy, Length, Memory, Reader, Result, Sequence, SequenceTag, Text, TryClone, Writer,
-    decode_last, encode_optional, joined_len, optional_len, prepend_optional,
+    Header, Length, Memory, Reader, Result, Sequence, SequenceTag, TaggedBy, Text, TryClone,
+    Writer, decode_last, encode_optional, joined_len, optional_len, prepend_optional,
 };
 use std::alloc::Global;
 

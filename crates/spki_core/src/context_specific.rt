@@ -1,5 +1,6 @@
 //! Values inside explicit tags of the class context-specific (X.690 8.14.2).
 ghost use Rattle.std.specs.Prelude.{◌≡◌, ◌+◌};
+ghost use Rattle.der_core.specs.Tag.{context_tag};
 ghost use Rattle.der_core.specs.Tlv.{Tlv};
 ghost use Rattle.der_core.specs.Reading.{ReadsText, ReadsOptional, AllocatesWithin};
 ghost use Rattle.spki_core.specs.FieldReading.{TellsNext};
@@ -22,7 +23,7 @@ pub struct ContextSpecificRef<'b, T> {
 
 impl<'b, T> ContextSpecificRef<'b, T> {
     fn tag(&self) -> Tag
-        ensures { result.octet ≡ 160 + self.now.tag_number.value }
+        ensures { result.octet ≡ context_tag self.now.tag_number.value }
     {
         Tag::context(self.tag_number)
     }
@@ -87,9 +88,9 @@ pub fn read_context_specific<'a, T: Decode<&'a [u8], M>, M: Memory, R: Reader<&'
     reader: &mut R,
     number: TagNumber,
 ) -> Result<Option<T>>
-    ensures { let tag = 160 + number.value in
-        let may_allocate = Tlv tag (AllocatesWithin T.Decode.may_allocate) in
-        ReadsOptional tag T.value (λ v. Tlv tag (T.text v)) may_allocate result (R.left reader.old) (R.left reader.new) }
+    ensures { let tag = context_tag number.value in
+        let may = Tlv tag (AllocatesWithin T.Decode.may_allocate) in
+        ReadsOptional tag T.value (λ v. Tlv tag (T.text v)) may result (R.left reader.old) (R.left reader.new) }
 {
     if !is_field_next(reader, number)? {
         return Ok(None);
@@ -104,9 +105,9 @@ pub fn read_explicit<'a, T: Decode<&'a [u8], M>, M: Memory, R: Reader<&'a [u8]>>
     reader: &mut R,
     number: TagNumber,
 ) -> Result<T>
-    ensures { let tag = 160 + number.value in
-        let may_allocate = Tlv tag (AllocatesWithin T.Decode.may_allocate) in
-        ReadsText T.value (λ v. Tlv tag (T.text v)) may_allocate result (R.left reader.old) (R.left reader.new) }
+    ensures { let tag = context_tag number.value in
+        let may = Tlv tag (AllocatesWithin T.Decode.may_allocate) in
+        ReadsText T.value (λ v. Tlv tag (T.text v)) may result (R.left reader.old) (R.left reader.new) }
 {
     read_inside(memory, reader, Tag::context(number))
 }
@@ -117,8 +118,8 @@ fn read_inside<'a, T: Decode<&'a [u8], M>, M: Memory, R: Reader<&'a [u8]>>(
     reader: &mut R,
     tag: Tag,
 ) -> Result<T>
-    ensures { let may_allocate = Tlv tag.octet (AllocatesWithin T.Decode.may_allocate) in
-        ReadsText T.value (λ v. Tlv tag.octet (T.text v)) may_allocate result (R.left reader.old) (R.left reader.new) }
+    ensures { let may = Tlv tag.octet (AllocatesWithin T.Decode.may_allocate) in
+        ReadsText T.value (λ v. Tlv tag.octet (T.text v)) may result (R.left reader.old) (R.left reader.new) }
 {
     let header = Header::decode(reader)?;
     if header.tag != tag {

@@ -20,8 +20,8 @@ pub fn read_field<'a, T: Decode<&'a [u8], M>, M: Memory, R: Reader<&'a [u8]>>(
     number: TagNumber,
     default: T,
 ) -> Result<T>
-    ensures reads { let may_allocate = AllocatesWithin T.Decode.may_allocate in
-        ReadsField number.value T.value T.text (T.value default) may_allocate result (R.left reader.old) (R.left reader.new) }
+    ensures reads { let may = AllocatesWithin T.Decode.may_allocate in
+        ReadsField number.value T.value T.text (T.value default) may result (R.left reader.old) (R.left reader.new) }
     ensures failed { R.left reader.old ≡ None → IsErrAnd result (λ e. e.kind ≡ ErrorKind.Failed) }
 {
     if is_field_next(reader, number)? {

@@ -11,8 +11,8 @@ ghost use Rattle.der_core.specs.Tags.{object_identifier};
 ghost use Rattle.der_core.specs.Reading.{ReadsContents, HoldsBytes};
 
 use der_core::{
-    BackWriter, Contents, DecodeValue, EncodeValue, EqualByValue, Error, ErrorKind, Header, TaggedBy,
-    Length, Memory, Reader, Result, Tag, TagMarker, Writer,
+    BackWriter, Contents, DecodeValue, EncodeValue, EqualByValue, Error, ErrorKind, Header, Length,
+    Memory, Reader, Result, Tag, TagMarker, TaggedBy, Writer,
 };
 use std::hash::{Hash, Hasher};
 
