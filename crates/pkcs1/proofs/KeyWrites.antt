@@ -16,7 +16,7 @@ use Rattle.der_core.proofs.Items.{texts_map, have_map}
 use Rattle.der_core.specs.Counting.{counts_joined}
 use Rattle.der_core.specs.StoppedWriting.{appends_as, appends_in_front, appends_behind}
 use Rattle.der_core.specs.Length.{limit}
-use Rattle.pkcs1.specs.declared.other_prime_info.OtherPrimeInfo as declared
+use Rattle.pkcs1.specs.declared.private_key.other_prime_info.OtherPrimeInfo as declared
 use Rattle.pkcs1.specs.declared.version.Version.{Version}
 use Rattle.pkcs1.specs.declared.version.Version.TheVariants.{TwoPrime, Multi}
 use Rattle.pkcs1.specs.Keys.{PrivateKey, version_of}

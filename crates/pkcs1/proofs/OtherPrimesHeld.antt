@@ -14,7 +14,7 @@ use Rattle.std.specs.Prelude.{nat_lt}
 use Rattle.std.proofs.lemmas.Grind.{common_steps}
 use Rattle.std.proofs.lemmas.Bool.Decides.{nat_tests}
 use Rattle.der_core.proofs.SequenceOf.{items_refused, items_more}
-use Rattle.pkcs1.specs.declared.other_prime_info.OtherPrimeInfo as declared
+use Rattle.pkcs1.specs.declared.private_key.other_prime_info.OtherPrimeInfo as declared
 use Rattle.pkcs1.specs.PrivateKeyValue.{other_of}
 use Rattle.std.proofs.Math.Logic.{∥∥₁_elim}
 use Prim.{IsSet, ∥◌∥₁, ∣◌∣₁, squash₁}

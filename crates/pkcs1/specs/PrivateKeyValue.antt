@@ -5,7 +5,7 @@ use Rattle.std.specs.Prelude.{ℕ, List, ◌≡◌, length, Option, Some, None, 
 use Rattle.std.specs.Option.{option_map}
 use Rattle.std.specs.declared.alloc.Global.{Global}
 use Rattle.std.specs.declared.vec.Vec.{Vec}
-use Rattle.pkcs1.specs.declared.other_prime_info.OtherPrimeInfo.{OtherPrimeInfo}
+use Rattle.pkcs1.specs.declared.private_key.other_prime_info.OtherPrimeInfo.{OtherPrimeInfo}
 use Rattle.pkcs1.specs.declared.private_key.RsaPrivateKey.{RsaPrivateKey}
 use Rattle.pkcs1.specs.Keys.{OtherPrime, PrivateKey, PublicKey}
 

@@ -5,7 +5,6 @@ mod algorithm;
 mod key_numbers;
 mod laws;
 mod numbers;
-mod other_prime_info;
 mod other_primes;
 mod private_key;
 mod public_key;
@@ -21,12 +20,12 @@ pub use laws::{
     forms_share_the_grammars, keys_have_one_text, same_keys_have_the_same_text,
     texts_are_delimited, texts_mean_one, types_exclude_each_other,
 };
-pub use other_prime_info::{OtherPrimeInfo, OtherPrimeInfos};
 pub use other_primes::OtherPrimes;
 pub use pkcs1_params::{
     Error, Result, RsaOaepParams, RsaOaepParamsOwned, RsaOaepParamsRef, RsaPssParams,
     RsaPssParamsOwned, RsaPssParamsRef, TrailerField, oaep_spellings, pss_spellings,
 };
+pub use private_key::other_prime_info::{OtherPrimeInfo, OtherPrimeInfos};
 pub use private_key::{RsaPrivateKey, RsaPrivateKeyOwned, RsaPrivateKeyRef};
 pub use public_key::{RsaPublicKey, RsaPublicKeyOwned, RsaPublicKeyRef};
 pub use reencode::{reencode_private_key, reencode_public_key};

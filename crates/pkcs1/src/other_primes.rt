@@ -18,7 +18,7 @@ ghost use Rattle.pkcs1.specs.Keys as grammar;
 ghost use Rattle.pkcs1.specs.PrivateKeyValue.{other_of};
 ghost use Rattle.pkcs1.specs.OtherPrimesHeld.{HoldsOthers, HoldsOthers-prop, others_are_bytes};
 
-use crate::other_prime_info::OtherPrimeInfo;
+use crate::private_key::other_prime_info::OtherPrimeInfo;
 use der_core::{
     Contents, Decode, DecodeValue, Header, Memory, NoMemory, Reader, Result, SequenceTag,
     SliceReader, TaggedBy, UintRef,

@@ -1,6 +1,6 @@
 use Rattle.std.proofs.Common.{refl}
 use Rattle.der_core.specs.StoppedWriting.{appends_as}
-use Rattle.pkcs1.proofs.other_prime_info.encode_other_primes.Goals as goal
+use Rattle.pkcs1.proofs.private_key.other_prime_info.encode_other_primes.Goals as goal
 
 pub returns-in-Some-clause-appends : goal.returns-in-Some-clause-appends
 returns-in-Some-clause-appends g c =

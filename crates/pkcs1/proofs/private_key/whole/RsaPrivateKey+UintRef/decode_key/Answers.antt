@@ -3,7 +3,7 @@ use Rattle.der_core.specs.IntegerLaws.{integer_delimited}
 use Rattle.der_core.specs.ShortestLaws.{means_one}
 use Rattle.pkcs1.proofs.KeyMemory.{refuses_as, borrowed_ask, two_primes_refused}
 use Rattle.pkcs1.proofs.PrivateKeys.{private_delimited}
-use Rattle.pkcs1.proofs.private_key.RsaPrivateKey+UintRef.decode_key.Goals as goal
+use Rattle.pkcs1.proofs.private_key.whole.RsaPrivateKey+UintRef.decode_key.Goals as goal
 
 pub returns-clause-one : goal.returns-clause-one
 returns-clause-one c other p = means_one private_delimited other _ _ p.1 c.in_ok-from_der.ensures.1

@@ -6,11 +6,11 @@ use Rattle.std.specs.declared.vec.Vec.{Vec}
 use Rattle.der_core.specs.Tells.{is_value}
 use Rattle.der_core.specs.Tlv.{Tlv}
 use Rattle.pkcs1.specs.Allocating.{BeginsSequence}
-use Rattle.pkcs1.specs.declared.other_prime_info.OtherPrimeInfo.{OtherPrimeInfo}
+use Rattle.pkcs1.specs.declared.private_key.other_prime_info.OtherPrimeInfo.{OtherPrimeInfo}
 use Rattle.pkcs1.specs.Keys.{OtherPrime}
 use Rattle.pkcs1.specs.PrivateKeyValue.{other_of}
 use Rattle.pkcs1.proofs.OtherReads.{agree, others_fail, empty_fails, more_fails, others_given, listed, unlisted}
-use Rattle.pkcs1.proofs.other_prime_info.read_other_primes.Goals as goal
+use Rattle.pkcs1.proofs.private_key.other_prime_info.read_other_primes.Goals as goal
 
 abbrev items : {U V : Type 0} → (U → V) → Vec (OtherPrimeInfo U) Global → List (OtherPrime V)
 items value v = map (other_of value) v.items

@@ -2,7 +2,7 @@ use Rattle.der_core.specs.UintRefValue.{bytes_of}
 use Rattle.pkcs1.specs.PrivateKeyValue.{private_key_with}
 use Rattle.pkcs1.proofs.HeldKeys.{borrowed_held, refused_held}
 use Rattle.pkcs1.proofs.PrivateKeys.{private_only}
-use Rattle.pkcs1.proofs.private_key.RsaPrivateKey+UintRef.encode_key.Goals as goal
+use Rattle.pkcs1.proofs.private_key.whole.RsaPrivateKey+UintRef.encode_key.Goals as goal
 
 pub returns-clause-text : goal.returns-clause-text
 returns-clause-text c = private_only (private_key_with bytes_of c.args.self.now) c.encode_front.result _ c.encode_front.ensures.shortest

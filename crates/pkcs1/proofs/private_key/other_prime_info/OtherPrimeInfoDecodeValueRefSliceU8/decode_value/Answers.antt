@@ -2,7 +2,7 @@ use Rattle.std.proofs.Common.{refl, arith}
 use Rattle.std.proofs.lemmas.Result.{err_from_is_err_and}
 use Rattle.der_core.proofs.SequenceOf.{holds_some}
 use Rattle.pkcs1.proofs.NumberReads.{gives_none, gives_more, other_number_fails, other_end_fails}
-use Rattle.pkcs1.proofs.other_prime_info.OtherPrimeInfoDecodeValueRefSliceU8.decode_value.Goals as goal
+use Rattle.pkcs1.proofs.private_key.other_prime_info.OtherPrimeInfoDecodeValueRefSliceU8.decode_value.Goals as goal
 
 pub returns-in_err-prime : goal.returns-in_err-prime
 returns-in_err-prime g c =

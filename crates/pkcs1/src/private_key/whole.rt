@@ -1,0 +1,150 @@
+//! Private keys from whole slices, and to them.
+ghost use Rattle.std.specs.Prelude.{◌≡◌, ◌≤◌, length, List, ℕ, take, drop, IfOk, IfErr, IsOk, IsErrAnd, OnErr, None};
+ghost use Rattle.der_core.specs.Document.{Means, IsShortest, IsRefused};
+ghost use Rattle.der_core.specs.Reading.{AllocatesIn, AllocatesWithin};
+ghost use Rattle.der_core.specs.Tag.{sequence_tag};
+ghost use Rattle.der_core.specs.Tags.{sequence};
+ghost use Rattle.der_core.specs.Tlv.{Tlv};
+ghost use Rattle.der_core.specs.Writing.{encode_refusal};
+ghost use Rattle.pkcs1.specs.Allocating.{AllocatesForKey};
+ghost use Rattle.pkcs1.specs.Keys as grammar;
+ghost use Rattle.pkcs1.specs.Keys.{PrivateKey, PrivateKeyText};
+ghost use Rattle.pkcs1.specs.KeyTexts.{IsOnlyText, IsUnread, IsUnwritten};
+ghost use Rattle.pkcs1.specs.PrivateKeyValue.{private_key_with, ListsNone};
+ghost use Rattle.pkcs1.specs.Writing.{HasPrivateKey};
+ghost use Rattle.pkcs1_params.specs.Meanings.{IsNotWritten, IsOnlyMeaning};
+ghost use Rattle.pkcs1_params.specs.Refusals.{IsAsn1};
+
+use super::RsaPrivateKey;
+use super::other_prime_info::lists_none;
+use der_core::{Decode, Encode, ErrorKind, OctetStringRef, SecretDocument, Tag, Uint, UintRef};
+use pkcs1_params::Error;
+use std::alloc::Global;
+
+impl<U: Encode> RsaPrivateKey<U> {
+    ghost use Rattle.der_core.specs.DocumentValue.{secret_text_of};
+
+    /// `encode_into`, which answers `Value` of SEQUENCE where the list of other primes is there and empty.
+    fn encode_front(&self, out: &mut [u8]) -> crate::Result<usize>
+        ensures shortest { let key = private_key_with U.value self.now in
+            IfOk result (λ n. IsShortest (PrivateKeyText U.text) key (take n out.new)) }
+        ensures rest { IfOk result (λ n. (n ≤ length out.new) × (drop n out.new ≡ drop n out.old)) }
+        ensures unchanged { OnErr result (out.new ≡ out.old) }
+        ensures err { let key = private_key_with U.value self.now in
+            let some = HasPrivateKey U.has_text key in
+            let refused = IsRefused some (PrivateKeyText U.text) key (length out.old) in
+            IfErr result (IsAsn1 (λ e. refused (encode_refusal e.kind))) }
+        ensures no_primes { ListsNone self.now.other_prime_infos
+            → IsErrAnd result (IsAsn1 (λ e. e.kind ≡ ErrorKind.Value sequence)) }
+    {
+        if lists_none(&self.other_prime_infos) {
+            let kind = ErrorKind::Value { tag: Tag::SEQUENCE };
+            return Err(Error::Asn1(der_core::Error::new(kind)));
+        }
+        Ok(self.encode_into(out)?)
+    }
+
+    /// The text, as a document: `encode_msg`, which answers `Value` of SEQUENCE where the list of other primes is there
+    /// and empty.
+    pub(crate) fn to_document(&self, alloc: Global) -> crate::Result<SecretDocument>
+        ensures shortest { let key = private_key_with U.value self.now in
+            IfOk result (λ document. IsShortest (PrivateKeyText U.text) key (secret_text_of document)) }
+        ensures err { let key = private_key_with U.value self.now in
+            IfErr result (IsAsn1 (λ e. IsUnwritten (HasPrivateKey U.has_text key) (PrivateKeyText U.text) key e.kind)) }
+        ensures no_primes { ListsNone self.now.other_prime_infos
+            → IsErrAnd result (IsAsn1 (λ e. e.kind ≡ ErrorKind.Value sequence)) }
+    {
+        if lists_none(&self.other_prime_infos) {
+            let refused = der_core::Error::new(ErrorKind::Value { tag: Tag::SEQUENCE });
+            return Err(Error::Asn1(refused));
+        }
+        Ok(SecretDocument::encode_msg(alloc, self)?)
+    }
+}
+
+impl<U> RsaPrivateKey<U> {
+    ghost use Rattle.der_core.specs.OctetStringRefValue.{octets_of};
+
+    /// Reads all octets of an OCTET STRING: `from_der` on its bytes. A key of two primes is never refused where its
+    /// numbers ask for no memory.
+    pub fn from_octet_string<'a>(
+        alloc: Global,
+        octets: OctetStringRef<'a>,
+    ) -> crate::Result<RsaPrivateKey<U>>
+    where
+        U: Decode<&'a [u8], Global>,
+        ensures ok { let bytes = octets_of octets.entry in
+            IfOk result (λ key. Means (PrivateKeyText U.text) bytes (private_key_with U.value key)) }
+        ensures one { let bytes = octets_of octets.entry in
+            IfOk result (λ key. IsOnlyMeaning (PrivateKeyText U.text) bytes (private_key_with U.value key)) }
+        ensures err { let bytes = octets_of octets.entry in
+            let asked = AllocatesIn (Tlv sequence_tag (AllocatesForKey U.text U.Decode.may_allocate)) bytes in
+            IfErr result (IsUnread (PrivateKeyText U.text) bytes asked) }
+        ensures two_primes { ((c : List ℕ) → AllocatesWithin U.Decode.may_allocate c → ⊥)
+            → (key : PrivateKey U.Value) → key.other_prime_infos ≡ None
+            → Means (PrivateKeyText U.text) (octets_of octets.entry) key → IsOk result }
+    {
+        Ok(RsaPrivateKey::from_der(alloc, octets.as_bytes())?)
+    }
+}
+
+impl<'a> RsaPrivateKey<UintRef<'a>> {
+    ghost use Rattle.pkcs1.specs.Allocating.{MayAllocate};
+    ghost use Rattle.pkcs1.specs.PrivateKeyValue.{private_key_of};
+
+    /// Reads a whole slice: `from_der`, with all that is known of a private key's text. `OutOfMemory` is answered only
+    /// where a SEQUENCE that isn't empty stands behind the eighth number.
+    pub fn decode_key(memory: Global, bytes: &'a [u8]) -> crate::Result<RsaPrivateKey<UintRef<'a>>>
+        ensures ok { IfOk result (λ key. Means grammar.RsaPrivateKey bytes.now (private_key_of key)) }
+        ensures one { IfOk result (λ key. IsOnlyMeaning grammar.RsaPrivateKey bytes.now (private_key_of key)) }
+        ensures err { IfErr result (IsUnread grammar.RsaPrivateKey bytes.now (MayAllocate bytes.now)) }
+        ensures two_primes { (key : PrivateKey (List ℕ))
+            → key.other_prime_infos ≡ None → Means grammar.RsaPrivateKey bytes.now key → IsOk result }
+    {
+        Ok(RsaPrivateKey::from_der(memory, bytes)?)
+    }
+
+    /// Writes the key's one text to the front of a slice, and answers its length: `encode_into`, with all that is known
+    /// of a key's text. `Value` of SEQUENCE where the list of other primes is there and empty, `Overflow` where the text
+    /// passes `Length::MAX`, `NoRoom` where the slice is shorter.
+    pub fn encode_key(&self, out: &mut [u8]) -> crate::Result<usize>
+        ensures text { IfOk result (λ n. IsOnlyText grammar.RsaPrivateKey (private_key_of self.now) (take n out.new)) }
+        ensures rest { IfOk result (λ n. (n ≤ length out.new) × (drop n out.new ≡ drop n out.old)) }
+        ensures unchanged { OnErr result (out.new ≡ out.old) }
+        ensures err { IfErr result (IsNotWritten grammar.RsaPrivateKey (private_key_of self.now) (length out.old)) }
+        ensures no_primes { ListsNone self.now.other_prime_infos
+            → IsErrAnd result (IsAsn1 (λ e. e.kind ≡ ErrorKind.Value sequence)) }
+    {
+        self.encode_front(out)
+    }
+}
+
+impl RsaPrivateKey<Uint> {
+    ghost use Rattle.der_core.specs.UintValue.{own_bytes_of};
+    ghost use Rattle.pkcs1.specs.Allocating.{OwnedKeyAllocates};
+
+    /// Reads a whole slice, as `decode_key` of a key that borrows its numbers does. `OutOfMemory` is answered only where
+    /// a number, or a SEQUENCE that isn't empty behind the eighth, is there.
+    pub fn decode_key(alloc: Global, bytes: &[u8]) -> crate::Result<RsaPrivateKey<Uint>>
+        ensures ok { IfOk result (λ key. Means grammar.RsaPrivateKey bytes.now (private_key_with own_bytes_of key)) }
+        ensures one { let is_only = IsOnlyMeaning grammar.RsaPrivateKey bytes.now in
+            IfOk result (λ key. is_only (private_key_with own_bytes_of key)) }
+        ensures err { IfErr result (IsUnread grammar.RsaPrivateKey bytes.now (OwnedKeyAllocates bytes.now)) }
+    {
+        Ok(RsaPrivateKey::from_der(alloc, bytes)?)
+    }
+
+    /// Writes the key's one text to the front of a slice, as `encode_key` of a key that borrows its numbers does.
+    pub fn encode_key(&self, out: &mut [u8]) -> crate::Result<usize>
+        ensures text { let key = private_key_with own_bytes_of self.now in
+            IfOk result (λ n. IsOnlyText grammar.RsaPrivateKey key (take n out.new)) }
+        ensures rest { IfOk result (λ n. (n ≤ length out.new) × (drop n out.new ≡ drop n out.old)) }
+        ensures unchanged { OnErr result (out.new ≡ out.old) }
+        ensures err { let key = private_key_with own_bytes_of self.now in
+            IfErr result (IsNotWritten grammar.RsaPrivateKey key (length out.old)) }
+        ensures no_primes { ListsNone self.now.other_prime_infos
+            → IsErrAnd result (IsAsn1 (λ e. e.kind ≡ ErrorKind.Value sequence)) }
+    {
+        self.encode_front(out)
+    }
+}
