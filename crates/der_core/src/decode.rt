@@ -1,7 +1,7 @@
 //! Reading of values.
 ghost use Rattle.std.specs.Prelude.{ℕ, List};
 ghost use Rattle.der_core.specs.Tlv.{Tlv};
-ghost use Rattle.der_core.specs.Reading.{ReadsContents, ReadsText, ReadsAll, ReadsOptional, HoldsBytes};
+ghost use Rattle.der_core.specs.Reading.{ReadsContents, ReadsText, ReadsAll, ReadsOptional, HoldsBytes, TellsNext};
 
 use crate::error::{ErrorKind, Result};
 use crate::header::Header;
@@ -9,6 +9,7 @@ use crate::length::Length;
 use crate::memory::Memory;
 use crate::reader::{Octets, Reader};
 use crate::slice_reader::SliceReader;
+use crate::tag::Tag;
 use crate::types::{Contents, FixedTag, Text};
 
 /// A type whose values are read from their contents octets.
@@ -62,6 +63,14 @@ impl<'a, M: Memory, T: DecodeValue<&'a [u8], M> + FixedTag> Decode<&'a [u8], M> 
     }
 }
 
+/// Whether the octet of a tag comes next. On a reader that has failed the answer is `Failed`.
+pub fn is_tag_next<'a, R: Reader<&'a [u8]>>(reader: &mut R, tag: Tag) -> Result<bool>
+    ensures { TellsNext tag.octet result (R.left reader.old) (R.left reader.new) }
+{
+    reader.read_slice(Length::ZERO)?;
+    Ok(reader.peek_octet() == Some(tag.octet()))
+}
+
 /// Reads a text exactly where the next octet is the type's tag. On a reader that has failed the answer is `Failed`.
 pub fn decode_optional<'a, T: DecodeValue<&'a [u8], M> + FixedTag, M: Memory, R: Reader<&'a [u8]>>(
     memory: M,
@@ -71,8 +80,7 @@ pub fn decode_optional<'a, T: DecodeValue<&'a [u8], M> + FixedTag, M: Memory, R:
         let may = Tlv tag T.DecodeValue.may_allocate in
         ReadsOptional tag T.value (λ v. Tlv tag (T.contents v)) may result (R.left reader.old) (R.left reader.new) }
 {
-    reader.read_slice(Length::ZERO)?;
-    if reader.peek_octet() != Some(T::TAG.octet()) {
+    if !is_tag_next(reader, T::TAG)? {
         return Ok(None);
     }
     let value = T::decode(memory, reader)?;

@@ -7,12 +7,12 @@ use Rattle.der_core.specs.declared.error.ErrorKind.TheVariants.{Failed}
 use Rattle.der_core.specs.Input.{Input}
 use Rattle.der_core.specs.Texts.{IsDelimited, Joins}
 use Rattle.der_core.specs.Tlv.{Tlv}
-use Rattle.der_core.specs.Reading.{AllocatesIn, NoneIn, ReadsText, Refuses, AllocatesWithin}
+use Rattle.der_core.specs.Reading.{AllocatesIn, NoneIn, ReadsText, Refuses, AllocatesWithin, TellsNext}
 use Rattle.der_core.proofs.Growing.{tlv_recast}
 use Rattle.der_core.specs.Sequences.{ContentsFail, ContentsGive, some_same}
 use Rattle.spki_core.specs.Explicit.{Field, field, Defaultable, IsNext, FieldRead, FieldRefused}
 use Rattle.spki_core.specs.FieldLaws.{AreLater}
-use Rattle.spki_core.specs.FieldReading.{TellsNext, ReadsField}
+use Rattle.spki_core.specs.FieldReading.{ReadsField}
 use Rattle.spki_core.proofs.Carried.{Carried}
 use Rattle.spki_core.proofs.Fields.{refused_step, read_step, read_joins}
 
@@ -22,14 +22,14 @@ is_next (x ∷ xs) n e = (xs, let same : x ≡ 160 + n = cc in ap (λ k. k ∷ x
 
 -- Its octet isn't next: the default is given.
 pub field_absent : {X V : Type 0} (n : ℕ) (value : X → V) (text : V → List ℕ → Type 0) (may_allocate : List ℕ → Type 0) (default : V) (x : X) (before after : Input)
-    → TellsNext n (Ok false) before after → value x ≡ default → ReadsField n value text default may_allocate (Ok x) before after
+    → TellsNext (160 + n) (Ok false) before after → value x ≡ default → ReadsField n value text default may_allocate (Ok x) before after
 field_absent n value text may_allocate default x before after (i, is, left, told) same =
     (i, i, is, left, inl ((λ (rest, starts). let no : false ≡ true = told.1 (rw starts refl) in cc), same, refl))
 
 -- Its octet is next: a text was read, or none is there.
 pub field_present : {X V W : Type 0} {value : X → V} {G : V → List ℕ → Type 0} {other : X → W} {H : W → List ℕ → Type 0} → Carried value G other H
     → (n : ℕ) (may_allocate : List ℕ → Type 0) (default : W) (result : Result X Error) (before mid after : Input)
-    → TellsNext n (Ok true) before mid → ReadsText value (λ v. Tlv (160 + n) (G v)) (Tlv (160 + n) may_allocate) result mid after → ReadsField n other H default may_allocate result before after
+    → TellsNext (160 + n) (Ok true) before mid → ReadsText value (λ v. Tlv (160 + n) (G v)) (Tlv (160 + n) may_allocate) result mid after → ReadsField n other H default may_allocate result before after
 field_present k n may_allocate default (Ok x) before mid after (i, is, at, told) (b, rest, e, left, t) =
     (i, rest, is, left, inr (b, rest, tlv_recast b t (rw (k.meant x) (k.text_there _ t.contents t.holds)), refl, some_same i (b ++ rest) (sym at ∙ e)))
 field_present k n may_allocate default (Err e) before mid after (i, is, at, told) (failed, _, why) = (
@@ -39,19 +39,9 @@ field_present k n may_allocate default (Err e) before mid after (i, is, at, told
       ⊎_elim inl (λ q. inr (q.0, (is_next bytes n (rw same at (told.0 refl)), λ w rest (x, y, t, _, f). q.1 (k.back w) x y f (tlv_recast x t (k.text_back w t.contents t.holds))))) (why bytes (rw same at at)),
 )
 
--- Its octet is next, and no text is there.
-pub explicit_refused : {V : Type 0} (n : ℕ) (text : V → List ℕ → Type 0) (may_allocate : List ℕ → Type 0) (e : ErrorKind) (before mid after : Input)
-    → TellsNext n (Ok true) before mid → (after ≡ None) × (mid ≡ None → e ≡ Failed) × ((i : List ℕ) → mid ≡ Some i → Refuses e (AllocatesIn may_allocate i) (NoneIn text i))
-    → (after ≡ None) × (before ≡ None → e ≡ Failed) × ((i : List ℕ) → before ≡ Some i → (slice_get i 0 ≡ Some (160 + n)) × Refuses e (AllocatesIn may_allocate i) (NoneIn text i))
-explicit_refused n text may_allocate e before mid after (i, is, at, told) (failed, _, why) = (
-  failed,
-  (λ none. let no : ◌≡◌ {A = Input} None (Some i) = sym none ∙ is in cc),
-  λ j here. let same : i ≡ j = some_same i j (sym is ∙ here) in (rw same at (told.0 refl), why j (rw same at at)),
-)
-
 -- The reader had failed.
 pub field_failed : {X V : Type 0} (n : ℕ) (value : X → V) (text : V → List ℕ → Type 0) (may_allocate : List ℕ → Type 0) (default : V) (e : Error) (before after : Input)
-    → TellsNext n (Err e) before after → ReadsField n value text default may_allocate (Err e) before after
+    → TellsNext (160 + n) (Err e) before after → ReadsField n value text default may_allocate (Err e) before after
 field_failed n value text may_allocate default e before after (none, failed, _) = (failed, λ bytes is. let no : ◌≡◌ {A = Input} None (Some bytes) = sym none ∙ is in cc)
 
 -- What reading a field ensures of a refusal, and of a value.

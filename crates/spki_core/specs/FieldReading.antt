@@ -1,18 +1,11 @@
 -- What reading a field with a default gives.
-use Rattle.std.specs.Prelude.{ℕ, Bool, List, ◌≡◌, ◌+◌, Result, Ok, Err, Some, None, slice_get}
-use Rattle.std.specs.Bool.{Decides}
+use Rattle.std.specs.Prelude.{ℕ, List, ◌≡◌, Result, Ok, Err, Some, None}
 use Rattle.der_core.specs.Tag.{context_tag}
-use Rattle.der_core.specs.declared.error.ErrorKind.TheVariants.{Failed}
 use Rattle.der_core.specs.declared.error.Error.{Error}
 use Rattle.der_core.specs.Input.{Input}
 use Rattle.der_core.specs.Tlv.{Tlv}
 use Rattle.der_core.specs.Reading.{AllocatesIn, Refuses}
 use Rattle.spki_core.specs.Explicit.{FieldRead, FieldRefused}
-
--- Whether the octet of the field is next, on a reader that reads on; or the reader has failed.
-abbrev pub TellsNext : ℕ → Result Bool Error → Input → Input → Type 0
-TellsNext n (Ok next) before after = (i : List ℕ) × (before ≡ Some i) × (after ≡ Some i) × Decides next (slice_get i 0 ≡ Some (context_tag n))
-TellsNext n (Err e) before after = (before ≡ None) × (after ≡ None) × (e.kind ≡ Failed)
 
 -- The field was read, or it has its default; or the reader has failed, and its octet is next, but no text of it.
 abbrev pub ReadsField : {X V : Type 0} → ℕ → (X → V) → (V → List ℕ → Type 0) → V → (List ℕ → Type 0) → Result X Error → Input → Input → Type 0

@@ -2,14 +2,13 @@
 ghost use Rattle.std.specs.Prelude.{◌≡◌, ◌+◌};
 ghost use Rattle.der_core.specs.Tag.{context_tag};
 ghost use Rattle.der_core.specs.Tlv.{Tlv};
-ghost use Rattle.der_core.specs.Reading.{ReadsText, ReadsOptional, AllocatesWithin};
-ghost use Rattle.spki_core.specs.FieldReading.{TellsNext};
+ghost use Rattle.der_core.specs.Reading.{ReadsText, ReadsOptional, AllocatesWithin, TellsNext};
 ghost use Rattle.spki_core.specs.ContextSpecific.{Numbered, ContextSpecific, HasNumbered, written_numbered};
 ghost use Rattle.spki_core.specs.ContextSpecificLaws.{numbered_delimited, numbered_of_bytes, numbered_relates, numbered_shortest};
 
 use der_core::{
     BackWriter, Decode, Encode, ErrorKind, Header, Length, Memory, Reader, Result, Tag, TagNumber,
-    Text, Writer, decode_whole,
+    Text, Writer, decode_whole, is_tag_next,
 };
 
 /// A value that is written inside the tag `[tag_number]`. It borrows the value.
@@ -75,10 +74,9 @@ impl<'b, T: Encode> Encode for ContextSpecificRef<'b, T> {
 
 /// Whether the octet of a field's tag comes next: `Failed` on a reader that has failed.
 pub fn is_field_next<'a, R: Reader<&'a [u8]>>(reader: &mut R, number: TagNumber) -> Result<bool>
-    ensures { TellsNext number.value result (R.left reader.old) (R.left reader.new) }
+    ensures { TellsNext (context_tag number.value) result (R.left reader.old) (R.left reader.new) }
 {
-    reader.read_slice(Length::ZERO)?;
-    Ok(reader.peek_octet() == Some(Tag::context(number).octet()))
+    is_tag_next(reader, Tag::context(number))
 }
 
 /// Reads the value of an explicit field exactly where the octet of its tag comes next. The tag wraps exactly one text:

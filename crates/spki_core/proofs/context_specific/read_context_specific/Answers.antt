@@ -1,11 +1,11 @@
 use Rattle.std.proofs.Common.{◌+◌}
 use Rattle.std.proofs.lemmas.Result.{err_from_is_err_and}
 use Rattle.der_core.specs.Tlv.{Tlv}
-use Rattle.spki_core.proofs.FieldReads.{explicit_refused}
+use Rattle.der_core.proofs.HeaderAndContents.{next_refused}
 use Rattle.spki_core.proofs.context_specific.read_context_specific.Goals as goal
 
 pub returns-in_err-value : goal.returns-in_err-value
 returns-in_err-value g c =
     let p = err_from_is_err_and c.from_residual-in_err-value.result c.from_residual-in_err-value.ensures.1 in
     rw (p.1, p.2)
-    (explicit_refused c.args.number.value (λ v. Tlv (160 + c.args.number.value) (g.T.Text.text v)) _ _ _ _ _ (rw c.if-not-branch.false at c.in_ok-is_field_next.ensures) c.in_err-value.ensures)
+    (next_refused (160 + c.args.number.value) (λ v. Tlv (160 + c.args.number.value) (g.T.Text.text v)) _ _ _ _ _ (rw c.if-not-branch.false at c.in_ok-is_field_next.ensures) c.in_err-value.ensures)
