@@ -30,6 +30,21 @@ use std::fmt;
 
 /// An RSA private key (RFC 8017 A.1.2). No relation of its numbers is checked. Its version isn't stored: it is `Multi`
 /// exactly where there are other primes. A list of no primes has no text: writing it is refused by `Value` of SEQUENCE.
+///
+/// ```text
+/// RSAPrivateKey ::= SEQUENCE {
+///     version          Version,
+///     modulus          INTEGER,
+///     publicExponent   INTEGER,
+///     privateExponent  INTEGER,
+///     prime1           INTEGER,
+///     prime2           INTEGER,
+///     exponent1        INTEGER,
+///     exponent2        INTEGER,
+///     coefficient      INTEGER,
+///     otherPrimeInfos  OtherPrimeInfos OPTIONAL
+/// }
+/// ```
 #[derive(Drop)]
 pub struct RsaPrivateKey<U> {
     /// The modulus n.

@@ -15,6 +15,13 @@ use pkcs1_params::{Error, Result};
 use std::alloc::Global;
 
 /// An RSA public key (RFC 8017 A.1.1). No relation of its numbers is checked.
+///
+/// ```text
+/// RSAPublicKey ::= SEQUENCE {
+///     modulus         INTEGER,
+///     publicExponent  INTEGER
+/// }
+/// ```
 #[derive(Clone, Copy, Debug, PartialEq, Eq, Drop)]
 pub struct RsaPublicKey<U> {
     /// The modulus n.

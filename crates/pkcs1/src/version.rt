@@ -17,7 +17,11 @@ use der_core::{
 use pkcs1_params::Error;
 use std::cmp::Ordering;
 
-/// The version of a private key: whether it has other primes.
+/// The version of a private key: whether it has other primes (RFC 8017 A.1.2).
+///
+/// ```text
+/// Version ::= INTEGER { two-prime(0), multi(1) }
+/// ```
 #[derive(Clone, Copy, Debug, Drop)]
 pub enum Version {
     /// Two primes.

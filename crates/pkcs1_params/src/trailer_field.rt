@@ -13,6 +13,10 @@ use der_core::{
 };
 
 /// The trailer field: the one that is known (RFC 8017 A.2.3).
+///
+/// ```text
+/// TrailerField ::= INTEGER { trailerFieldBC(1) }
+/// ```
 #[derive(Clone, Copy, Debug, PartialEq, Eq, Drop)]
 pub enum TrailerField {
     /// The octet `bc`.

@@ -19,7 +19,16 @@ use pkcs1::der::{
 };
 use pkcs1::spki::AlgorithmIdentifierRef;
 
-/// A private key, the algorithm that it is for, and attributes (PrivateKeyInfo of RFC 5208 5). Its version is 0.
+/// A private key, the algorithm that it is for, and attributes (RFC 5208 5). Its version is 0.
+///
+/// ```text
+/// PrivateKeyInfo ::= SEQUENCE {
+///     version              INTEGER { v1(0) },
+///     privateKeyAlgorithm  AlgorithmIdentifier,
+///     privateKey           OCTET STRING,
+///     attributes           [0] IMPLICIT Attributes OPTIONAL
+/// }
+/// ```
 #[derive(Clone, Copy, Drop)]
 pub struct PrivateKeyInfoRef<'a> {
     /// What the private key is for.

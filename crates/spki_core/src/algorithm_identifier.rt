@@ -15,7 +15,14 @@ use der_core::{
 };
 use std::alloc::Global;
 
-/// An identifier, and parameters that are there or not.
+/// An identifier, and parameters that are there or not (RFC 5280 4.1.1.2).
+///
+/// ```text
+/// AlgorithmIdentifier ::= SEQUENCE {
+///     algorithm   OBJECT IDENTIFIER,
+///     parameters  ANY DEFINED BY algorithm OPTIONAL
+/// }
+/// ```
 #[derive(Clone, Copy, Debug, PartialEq, Eq, Drop)]
 pub struct AlgorithmIdentifier<P> {
     /// Which algorithm it is.

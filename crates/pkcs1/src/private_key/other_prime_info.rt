@@ -20,7 +20,16 @@ use der_core::{
 };
 use std::alloc::{AllocError, Global};
 
-/// A prime of a private key past the first two.
+/// A prime of a private key past the first two (RFC 8017 A.1.2).
+///
+/// ```text
+/// OtherPrimeInfos ::= SEQUENCE SIZE(1..MAX) OF OtherPrimeInfo
+/// OtherPrimeInfo ::= SEQUENCE {
+///     prime        INTEGER,
+///     exponent     INTEGER,
+///     coefficient  INTEGER
+/// }
+/// ```
 #[derive(Drop)]
 pub struct OtherPrimeInfo<U> {
     /// The prime.
