@@ -1,19 +1,19 @@
 -- Documents, as they are read and made.
-use Rattle.std.proofs.Common.{ℕ, List, ◌≡◌, ◌≤◌, ◌<◌, ◌^◌, length, take, ◌++◌, arith, subst, inr, ⊎_elim}
+use Rattle.std.proofs.Common.{ℕ, List, ◌≡◌, ◌≤◌, ◌<◌, ◌^◌, length, take, ◌++◌, arith, subst, ⊎_elim}
 use Rattle.std.proofs.Math.Seq.{take-append_seam}
 use Rattle.der_core.specs.Texts.{AreBytes, IsOfBytes}
 use Rattle.der_core.specs.Tlv.{Tlv, tlv}
 use Rattle.der_core.specs.Length.{limit}
 use Rattle.der_core.specs.Document.{Means, IsDocument}
-use Rattle.der_core.specs.Reading.{Refuses, AllocatesIn}
+use Rattle.der_core.specs.Reading.{Refuses, AllocatesIn, TellsOfBytes}
 use Rattle.der_core.specs.declared.error.ErrorKind.{ErrorKind}
 use Rattle.der_core.specs.TextLaws.{tlv_relates}
 use Rattle.der_core.proofs.Growing.{tlv_recast}
 
 -- A refusal of a SEQUENCE for which no memory is asked.
 pub no_document : (e : ErrorKind) (b : List ℕ) → Refuses e (AllocatesIn (Tlv 48 (λ _. ⊥)) b) ((v : Unit {0}) → Means (λ _. Tlv 48 AreBytes) b v → ⊥)
-    → Refuses e (IsDocument b) (IsDocument b → ⊥)
-no_document e b r = ⊎_elim (λ w. absurd w.1.3.holds) (λ w. inr (w.0, λ p. w.1 tt p)) r
+    → TellsOfBytes e × (IsDocument b → ⊥)
+no_document e b r = ⊎_elim (λ w. absurd w.1.3.holds) (λ w. (w.0, λ p. w.1 tt p)) r
 
 -- The text of a message is a document.
 pub written_document : {V : Type 0} (Contents : V → List ℕ → Type 0) (written : V → List ℕ) (v : V) (tag : ℕ) → tag ≡ 48 → IsOfBytes Contents

@@ -17,13 +17,17 @@ piece = 65536
 abbrev pub GivesNone : Option (List ℕ) → Option (List ℕ) → Type 0
 GivesNone old new = (bytes : List ℕ) × GivesAll old new bytes × (IsDocument bytes → ⊥)
 
--- The source refused a call; or memory was wanted; or more bytes came than a document has; or what came is no document.
+-- The source refused a call; or none was, and memory was wanted; or more bytes came than these.
+abbrev pub StopsCarrying : ℕ → ErrorKind → Option (List ℕ) → Option (List ℕ) → ℕ → ℕ → Type 0
+StopsCarrying most e old new refusals refusals2 =
+    ((e ≡ File) × SomeRefused refusals refusals2)
+    ⊎ ((e ≡ OutOfMemory) × (refusals2 ≡ refusals))
+    ⊎ ((e ≡ Overflow) × GivesMore most piece old new)
+
+-- So it stopped, with more bytes than a document has; or what came is no document.
 abbrev pub StopsReading : ErrorKind → Option (List ℕ) → Option (List ℕ) → ℕ → ℕ → Type 0
 StopsReading e old new refusals refusals2 =
-    ((e ≡ File) × SomeRefused refusals refusals2)
-    ⊎ (e ≡ OutOfMemory)
-    ⊎ ((e ≡ Overflow) × GivesMore limit piece old new)
-    ⊎ (TellsOfBytes e × GivesNone old new)
+    StopsCarrying limit e old new refusals refusals2 ⊎ (TellsOfBytes e × GivesNone old new)
 
 -- The document is all that came up to the end, and no call was refused; or reading stopped.
 abbrev pub ReadsDocument : {X : Type 0} → (X → List ℕ) → Result X Error

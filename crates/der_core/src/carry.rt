@@ -1,8 +1,7 @@
 //! Bytes from a source to its end, and to a sink.
 ghost use Rattle.std.specs.Prelude.{◌≡◌, ◌≤◌, ◌⊎◌, length, IfOk, IfErr, OnOk};
-ghost use Rattle.der_core.specs.Carrying.{WritesAll, piece};
-ghost use Rattle.der_core.specs.Length.{limit};
-ghost use Rattle.der_core.specs.SourcesSinks.{GivesAll, GivesMore, SomeRefused};
+ghost use Rattle.der_core.specs.Carrying.{StopsCarrying, WritesAll};
+ghost use Rattle.der_core.specs.SourcesSinks.{GivesAll};
 
 use crate::error::{Error, ErrorKind, Result};
 use crate::length::Length;
@@ -12,15 +11,15 @@ use std::alloc::Global;
 /// How many bytes a source is asked for at once.
 const PIECE: usize = 65536;
 
-/// All that the source gives up to its end: `Overflow` as soon as more than `Length::MAX` bytes came.
-pub(crate) fn read_all<R: Source>(alloc: Global, source: &mut R) -> Result<Vec<u8>>
+/// All that the source gives up to its end, of at most so many bytes: `Overflow` as soon as more came, so it returns on a
+/// source that never ends. `File` is answered only where the source refused a call. After a refusal the source has moved
+/// on.
+pub fn read_all<R: Source>(alloc: Global, source: &mut R, most: Length) -> Result<Vec<u8>>
     ensures all { IfOk result (λ bytes. GivesAll (R.remaining source.old) (R.remaining source.new) bytes.items) }
-    ensures within { IfOk result (λ bytes. length bytes.items ≤ limit) }
+    ensures within { IfOk result (λ bytes. length bytes.items ≤ most) }
     ensures same { OnOk result (R.refusals source.new ≡ R.refusals source.old) }
-    ensures err { IfErr result (λ e.
-        ((e.kind ≡ ErrorKind.File) × SomeRefused (R.refusals source.old) (R.refusals source.new))
-        ⊎ (e.kind ≡ ErrorKind.OutOfMemory)
-        ⊎ ((e.kind ≡ ErrorKind.Overflow) × GivesMore limit piece (R.remaining source.old) (R.remaining source.new))) }
+    ensures err { IfErr result (λ e. StopsCarrying most e.kind (R.remaining source.old) (R.remaining source.new)
+        (R.refusals source.old) (R.refusals source.new)) }
 {
     let mut bytes = Vec::new(alloc);
     let mut piece = [0u8; PIECE];
@@ -32,7 +31,7 @@ pub(crate) fn read_all<R: Source>(alloc: Global, source: &mut R) -> Result<Vec<u
         if count == 0 {
             return Ok(bytes);
         }
-        if count > Length::MAX.to_usize() - bytes.len() {
+        if count > most.to_usize() - bytes.len() {
             return Err(Error::new(ErrorKind::Overflow));
         }
         bytes.extend_from_slice(&piece[..count])?;

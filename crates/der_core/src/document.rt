@@ -134,7 +134,7 @@ impl Document {
         ensures { ReadsDocument text_of result (R.remaining source.old) (R.remaining source.new)
             (R.refusals source.old) (R.refusals source.new) }
     {
-        let bytes = read_all(alloc, source)?;
+        let bytes = read_all(alloc, source, Length::MAX)?;
         AnySequence::from_der(NoMemory, bytes.as_slice())?;
         Ok(Document { bytes })
     }
