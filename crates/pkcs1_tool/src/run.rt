@@ -1,6 +1,7 @@
 //! Lines in, answers out.
 ghost use Rattle.std.specs.Prelude.{◌≡◌, ◌≤◌, ◌⊎◌, ℕ, List, length, IfSome, IfOk, OnOk, OnErr, IsErrOf, vec_len};
 ghost use Rattle.std.specs.Io.KnownBytes.{Appends, Keeps, IsAtEnd};
+ghost use Rattle.der_core.specs.Carrying.{piece};
 ghost use Rattle.der_core.specs.SourcesSinks.{AppendsFront, GivesAll, GivesMore, SomeRefused};
 ghost use Rattle.der_core.specs.Texts.{AtMostOne};
 ghost use Rattle.pkcs1_tool.specs.Answer.{Answer, Output};
@@ -11,13 +12,11 @@ use crate::answer::answer_line;
 use crate::fault::Fault;
 use crate::laws::answers_are_one;
 use crate::lines::split_line;
-use der_core::{Sink, Source, put_all};
+use der_core::{ErrorKind, Length, Sink, Source, put_all, read_all};
 use std::alloc::Global;
 
 /// The longest input.
 pub const LIMIT: usize = 16777216;
-
-const PIECE: usize = 65536;
 
 /// All that the source gives up to its end.
 fn read_input<R: Source>(alloc: Global, source: &mut R) -> Result<Vec<u8>, Fault>
@@ -25,24 +24,14 @@ fn read_input<R: Source>(alloc: Global, source: &mut R) -> Result<Vec<u8>, Fault
     ensures within { IfOk result (λ input. vec_len input ≤ LIMIT) }
     ensures same { OnOk result (R.refusals source.new ≡ R.refusals source.old) }
     ensures read { IsErrOf result Fault.Read → SomeRefused (R.refusals source.old) (R.refusals source.new)
-        ⊎ GivesMore LIMIT PIECE (R.remaining source.old) (R.remaining source.new) }
+        ⊎ GivesMore LIMIT piece (R.remaining source.old) (R.remaining source.new) }
     ensures write { ¬ IsErrOf result Fault.Write }
     ensures memory_quiet { IsErrOf result Fault.Memory → R.refusals source.new ≡ R.refusals source.old }
 {
-    let mut input = Vec::new(alloc);
-    let mut piece = [0u8; PIECE];
-    loop {
-        let count = match source.read(&mut piece) {
-            Ok(count) => count,
-            Err(_) => return Err(Fault::Read),
-        };
-        if count == 0 {
-            return Ok(input);
-        }
-        if count > LIMIT - input.len() {
-            return Err(Fault::Read);
-        }
-        input.extend_from_slice(&piece[..count])?;
+    match read_all(alloc, source, Length::of(LIMIT)) {
+        Ok(input) => Ok(input),
+        Err(error) if error.kind() == ErrorKind::OutOfMemory => Err(Fault::Memory),
+        Err(_) => Err(Fault::Read),
     }
 }
 
@@ -103,7 +92,7 @@ pub fn run<R: Source, W: Sink>(alloc: Global, source: &mut R, sink: &mut W) -> R
     ensures quiet { OnOk result ((R.refusals source.new ≡ R.refusals source.old)
         × (W.refusals sink.new ≡ W.refusals sink.old)) }
     ensures read { IsErrOf result Fault.Read → SomeRefused (R.refusals source.old) (R.refusals source.new)
-        ⊎ GivesMore LIMIT PIECE (R.remaining source.old) (R.remaining source.new) }
+        ⊎ GivesMore LIMIT piece (R.remaining source.old) (R.remaining source.new) }
     ensures untouched { IsErrOf result Fault.Read
         → Keeps (W.contents sink.old) (W.contents sink.new) × (W.refusals sink.new ≡ W.refusals sink.old) }
     ensures write { IsErrOf result Fault.Write → SomeRefused (W.refusals sink.old) (W.refusals sink.new) }
