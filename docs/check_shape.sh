@@ -4,7 +4,7 @@
 set -eu
 cd "$(dirname "$0")/.."
 export LC_ALL=C.UTF-8
-long_files="crates/pkcs1_params/src/oaep.rt crates/pkcs1_params/src/pss.rt crates/pkcs1/src/private_key.rt"
+long_files="crates/pkcs1/src/private_key.rt"
 
 find crates -name out -prune -o -path '*/src/*' -name '*.rt' -print | sort | LONG_FILES="$long_files" perl -CSAD -e '
   use utf8;
