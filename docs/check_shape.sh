@@ -1,14 +1,12 @@
 #!/usr/bin/env bash
 # The shape of src/: no line of a clause has more than 120 columns, and no file of code more than 300 lines. Each place
-# that breaks this is named. `long_files` are the exceptions, which only become fewer: one that is short again is named too.
+# that breaks this is named.
 set -eu
 cd "$(dirname "$0")/.."
 export LC_ALL=C.UTF-8
-long_files="crates/pkcs1_params/src/oaep.rt crates/pkcs1_params/src/pss.rt"
 
-find crates -name out -prune -o -path '*/src/*' -name '*.rt' -print | sort | LONG_FILES="$long_files" perl -CSAD -e '
+find crates -name out -prune -o -path '*/src/*' -name '*.rt' -print | sort | perl -CSAD -e '
   use utf8;
-  my %excepted = map { $_ => 1 } split " ", $ENV{LONG_FILES};
   my $wrong = 0;
   while (my $file = <STDIN>) {
     chomp $file;
@@ -28,12 +26,8 @@ find crates -name out -prune -o -path '*/src/*' -name '*.rt' -print | sort | LON
         $wrong = 1;
       }
     }
-    if ($line > 300 && !$excepted{$file}) {
+    if ($line > 300) {
       print "$file: $line lines\n";
-      $wrong = 1;
-    }
-    if ($line <= 300 && $excepted{$file}) {
-      print "$file: $line lines: take it out of long_files\n";
       $wrong = 1;
     }
   }

@@ -21,12 +21,12 @@ use Rattle.pkcs1_params.specs.Parameters.{PssContents, RsaPssParams, OaepContent
 use Rattle.pkcs1_params.specs.OaepLaws.{oaep_relates}
 use Rattle.pkcs1_params.specs.OaepValue.{oaep_of}
 use Rattle.pkcs1_params.specs.OaepWriting.{oaep_defaults, HasOaep, written_oaep}
-use Rattle.pkcs1_params.specs.declared.oaep.OaepLeftOut.{OaepLeftOut}
+use Rattle.pkcs1_params.specs.declared.oaep_spelling.OaepLeftOut.{OaepLeftOut}
 use Rattle.pkcs1_params.specs.declared.oaep.RsaOaepParams.{RsaOaepParams as OaepParams}
 use Rattle.pkcs1_params.specs.PssLaws.{pss_relates}
 use Rattle.pkcs1_params.specs.PssValue.{pss_of}
 use Rattle.pkcs1_params.specs.PssWriting.{pss_defaults, HasPss, written_pss}
-use Rattle.pkcs1_params.specs.declared.pss.PssLeftOut.{PssLeftOut}
+use Rattle.pkcs1_params.specs.declared.pss_spelling.PssLeftOut.{PssLeftOut}
 use Rattle.pkcs1_params.specs.declared.pss.RsaPssParams.{RsaPssParams as PssParams}
 
 mask_short : (a : AlgorithmIdentifier (AlgorithmIdentifier AnyRef)) → length (written_mask (mask_of a)) ≤ limit + 718

@@ -4,7 +4,7 @@ use Rattle.spki_core.specs.Masks.{out_under, rest_under, Part}
 use Rattle.pkcs1_params.specs.HashFieldsMasks.{plain_part, hash_parts_then}
 use Rattle.pkcs1_params.specs.Parameters.{empty_label, OaepParameters}
 use Rattle.pkcs1_params.specs.OaepWriting.{oaep_defaults, HasOaep, written_oaep}
-use Rattle.pkcs1_params.specs.declared.oaep.OaepLeftOut.{OaepLeftOut}
+use Rattle.pkcs1_params.specs.declared.oaep_spelling.OaepLeftOut.{OaepLeftOut}
 
 -- Which fields are left out.
 abbrev pub oaep_out : OaepLeftOut → ℕ → OaepLeftOut

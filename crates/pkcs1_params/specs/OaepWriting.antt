@@ -9,7 +9,7 @@ use Rattle.spki_core.specs.FieldWriting.{HasField, written_field}
 use Rattle.pkcs1_params.specs.Parameters.{sha1, mgf1_sha1, empty_label, with_parameters, id_p_specified, octets_value, OaepParameters}
 use Rattle.pkcs1_params.specs.OaepValue.{labelled}
 use Rattle.pkcs1_params.specs.HashFieldsWriting.{HasHashFields, written_hash_fields}
-use Rattle.pkcs1_params.specs.declared.oaep.OaepLeftOut.{OaepLeftOut}
+use Rattle.pkcs1_params.specs.declared.oaep_spelling.OaepLeftOut.{OaepLeftOut}
 
 -- Which fields have their defaults.
 abbrev pub oaep_defaults : OaepParameters → OaepLeftOut

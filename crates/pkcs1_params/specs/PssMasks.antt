@@ -8,7 +8,7 @@ use Rattle.pkcs1_params.specs.HashFieldsMasks.{hash_parts_then}
 use Rattle.pkcs1_params.specs.Parameters.{TrailerField, PssParameters}
 use Rattle.pkcs1_params.specs.PssLaws.{written_number, salt_relates, salt_shortest, trailer_text_relates, trailer_text_shortest}
 use Rattle.pkcs1_params.specs.PssWriting.{pss_defaults, HasPss, written_pss}
-use Rattle.pkcs1_params.specs.declared.pss.PssLeftOut.{PssLeftOut}
+use Rattle.pkcs1_params.specs.declared.pss_spelling.PssLeftOut.{PssLeftOut}
 
 -- Which fields are left out.
 abbrev pub pss_out : PssLeftOut → ℕ → PssLeftOut

@@ -7,7 +7,7 @@ use Rattle.spki_core.specs.AlgorithmIdentifier.{same_plain, same_mask}
 use Rattle.spki_core.specs.FieldWriting.{HasField, written_field}
 use Rattle.pkcs1_params.specs.Parameters.{sha1, mgf1_sha1, PssParameters}
 use Rattle.pkcs1_params.specs.HashFieldsWriting.{HasHashFields, written_hash_fields}
-use Rattle.pkcs1_params.specs.declared.pss.PssLeftOut.{PssLeftOut}
+use Rattle.pkcs1_params.specs.declared.pss_spelling.PssLeftOut.{PssLeftOut}
 
 -- Which fields have their defaults.
 abbrev pub pss_defaults : PssParameters → PssLeftOut

@@ -3,9 +3,11 @@
 
 mod error;
 mod hash_fields;
+mod label;
 mod laws;
 mod oaep;
 mod oaep_spelling;
+mod p_source;
 mod pss;
 mod pss_spelling;
 mod spelling;

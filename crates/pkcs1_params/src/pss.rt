@@ -1,30 +1,22 @@
 //! Parameters of RSASSA-PSS (RFC 8017 A.2.3).
-ghost use Rattle.std.specs.Prelude.{◌≡◌, ◌≤◌, ◌+◌, ◌++◌, refl, length, OnOk, IfErr};
-ghost use Rattle.der_core.specs.Length.{limit};
-ghost use Rattle.der_core.specs.BackWriters.{free_of, Prepends};
+ghost use Rattle.std.specs.Prelude.{◌≡◌, ◌≤◌, refl, length, OnOk, IfErr};
 ghost use Rattle.der_core.specs.Reading.{AllocatesWithin};
-ghost use Rattle.der_core.specs.Writing.{Counts, Appends};
 ghost use Rattle.spki_core.specs.Any.{null_value};
-ghost use Rattle.spki_core.specs.Explicit.{HaveDefaults};
 ghost use Rattle.pkcs1_params.specs.Parameters.{PssParameters, PssContents, pss_fields, with_parameters, id_mgf1, sha1, mgf1_sha1};
 ghost use Rattle.pkcs1_params.specs.PssWriting.{pss_defaults, HasPss, written_pss};
 ghost use Rattle.pkcs1_params.specs.PssLaws.{pss_means_one, pss_of_bytes, pss_relates, pss_shortest};
 
 use crate::error::{Error, Result};
-use crate::hash_fields::{
-    HashFields, Sha1, is_default_hash, is_default_mask_gen, mask_gen_ref, mgf1_with, read_hash,
-    read_mask_gen, with_null,
-};
+use crate::hash_fields::{Sha1, mask_gen_ref, mgf1_with, read_hash, read_mask_gen, with_null};
 use crate::strict::is_written;
 use crate::trailer_field::TrailerField;
 use der_core::{
     BackWriter, Contents, Decode, DecodeValue, Encode, EncodeValue, EqualByValue, Header, Length,
     Memory, NoMemory, Reader, Sequence, SequenceTag, TagNumber, TaggedBy, TryClone, Writer,
-    joined_len,
 };
 use spki_core::{
     AlgorithmIdentifier, Any, AnyParams, AnyRef, AnyValue, AsAlgorithmIdentifierRef, AssociatedOid,
-    encode_field, field_len, prepend_field, read_field, written_default,
+    read_field, written_default,
 };
 use std::alloc::Global;
 
@@ -46,15 +38,6 @@ pub type RsaPssParamsRef<'a> = RsaPssParams<AnyRef<'a>>;
 
 /// Parameters of RSASSA-PSS that own the parameters of their identifiers.
 pub type RsaPssParamsOwned = RsaPssParams<Any>;
-
-/// Which fields are left out when parameters are written.
-#[derive(Clone, Copy, Drop)]
-pub(crate) struct PssLeftOut {
-    pub(crate) hash: bool,
-    pub(crate) mask_gen: bool,
-    pub(crate) salt_len: bool,
-    pub(crate) trailer_field: bool,
-}
 
 impl<P: AnyValue> Contents for RsaPssParams<P> {
     ghost use Rattle.pkcs1_params.specs.PssValue.{pss_with};
@@ -133,17 +116,6 @@ impl<P: AnyValue> RsaPssParams<P> {
         }
     }
 
-    /// How many fields equal their defaults.
-    pub fn default_fields(&self) -> u8
-        ensures { HaveDefaults (pss_fields (pss_with P.any self.now)) result }
-    {
-        let defaults = self.as_params_ref().defaults();
-        u8::from(defaults.hash)
-            + u8::from(defaults.mask_gen)
-            + u8::from(defaults.salt_len)
-            + u8::from(defaults.trailer_field)
-    }
-
     /// Writes the shortest text, in which no default is written, to the front of a slice, and answers its length:
     /// `encode_into`, with all that is known of it. `NoRoom` where the slice is shorter.
     pub fn encode_params(&self, out: &mut [u8]) -> Result<usize>
@@ -181,91 +153,6 @@ impl<P: AnyValue> EncodeValue for RsaPssParams<P> {
     ghost contents_relate = { pss_relates };
 
     ghost contents_shortest = { pss_shortest };
-}
-
-impl RsaPssParams<AnyRef<'_>> {
-    ghost use Rattle.pkcs1_params.specs.PssValue.{pss_of};
-
-    /// Which fields equal their defaults.
-    pub(crate) fn defaults(&self) -> PssLeftOut
-        ensures { result ≡ pss_defaults (pss_of self.now) }
-    {
-        PssLeftOut {
-            hash: is_default_hash(&self.hash),
-            mask_gen: is_default_mask_gen(&self.mask_gen),
-            salt_len: self.salt_len == RsaPssParamsRef::SALT_LEN_DEFAULT,
-            trailer_field: self.trailer_field == TrailerField::BC,
-        }
-    }
-
-    fn hash_fields(&self, left_out: PssLeftOut) -> HashFields<'_>
-        ensures hash { result.hash.now ≡ self.now.hash }
-        ensures mask_gen { result.mask_gen.now ≡ self.now.mask_gen }
-        ensures left_out { (result.hash_left_out ≡ left_out.hash) × (result.mask_gen_left_out ≡ left_out.mask_gen) }
-    {
-        HashFields {
-            hash: &self.hash,
-            hash_left_out: left_out.hash,
-            mask_gen: &self.mask_gen,
-            mask_gen_left_out: left_out.mask_gen,
-        }
-    }
-
-    /// How many octets the contents have, without some fields.
-    pub(crate) fn len_without(&self, left_out: PssLeftOut) -> der_core::Result<Length>
-        ensures { Counts (HasPss left_out (pss_of self.now)) (written_pss left_out (pss_of self.now)) result }
-    {
-        joined_len(
-            self.hash_fields(left_out).len(),
-            joined_len(
-                field_len(left_out.salt_len, TagNumber::new(2), &self.salt_len),
-                field_len(
-                    left_out.trailer_field,
-                    TagNumber::new(3),
-                    &self.trailer_field,
-                ),
-            ),
-        )
-    }
-
-    /// Appends the contents, without some fields.
-    pub(crate) fn encode_without<W: Writer>(
-        &self,
-        left_out: PssLeftOut,
-        writer: &mut W,
-    ) -> der_core::Result<()>
-        ensures appends { let params = pss_of self.now in
-            let octets = written_pss left_out params in
-            Appends (HasPss left_out params) octets W.room W.written writer.old writer.new result }
-        ensures kept { W.keeps writer.old writer.new }
-    {
-        self.len_without(left_out)?;
-        self.hash_fields(left_out).encode(writer)?;
-        encode_field(left_out.salt_len, TagNumber::new(2), &self.salt_len, writer)?;
-        encode_field(
-            left_out.trailer_field,
-            TagNumber::new(3),
-            &self.trailer_field,
-            writer,
-        )
-    }
-
-    /// Puts the contents before what is filled, without some fields.
-    pub(crate) fn prepend_without(&self, left_out: PssLeftOut, writer: &mut BackWriter<'_>)
-        requires has { HasPss left_out (pss_of self.now) }
-        requires fits { length (written_pss left_out (pss_of self.now)) ≤ limit }
-        requires room { length (written_pss left_out (pss_of self.now)) ≤ free_of writer.old }
-        ensures { Prepends (written_pss left_out (pss_of self.now)) writer.old writer.new }
-    {
-        prepend_field(
-            left_out.trailer_field,
-            TagNumber::new(3),
-            &self.trailer_field,
-            writer,
-        );
-        prepend_field(left_out.salt_len, TagNumber::new(2), &self.salt_len, writer);
-        self.hash_fields(left_out).prepend(writer);
-    }
 }
 
 impl<'a> RsaPssParams<AnyRef<'a>> {

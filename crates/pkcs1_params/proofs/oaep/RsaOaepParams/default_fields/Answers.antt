@@ -2,7 +2,7 @@ use Rattle.std.proofs.Common.{ap, ◌∙◌}
 use Rattle.std.specs.Int.{from_bool}
 use Rattle.pkcs1_params.specs.OaepWriting.{oaep_defaults}
 use Rattle.pkcs1_params.specs.OaepValue.{oaep_with}
-use Rattle.pkcs1_params.specs.declared.oaep.OaepLeftOut.{OaepLeftOut}
+use Rattle.pkcs1_params.specs.declared.oaep_spelling.OaepLeftOut.{OaepLeftOut}
 use Rattle.pkcs1_params.proofs.Counting.{oaep_counted}
 use Rattle.pkcs1_params.proofs.oaep.RsaOaepParams.default_fields.Goals as goal
 

@@ -2,7 +2,7 @@ use Rattle.std.proofs.Common.{ap, ◌∙◌}
 use Rattle.std.specs.Int.{from_bool}
 use Rattle.pkcs1_params.specs.PssWriting.{pss_defaults}
 use Rattle.pkcs1_params.specs.PssValue.{pss_with}
-use Rattle.pkcs1_params.specs.declared.pss.PssLeftOut.{PssLeftOut}
+use Rattle.pkcs1_params.specs.declared.pss_spelling.PssLeftOut.{PssLeftOut}
 use Rattle.pkcs1_params.proofs.Counting.{pss_counted}
 use Rattle.pkcs1_params.proofs.pss.RsaPssParams.default_fields.Goals as goal
 

@@ -7,7 +7,7 @@ use Rattle.der_core.specs.StoppedWriting.{appends_in_front, appends_behind}
 use Rattle.spki_core.specs.AlgorithmValue.{algorithm_of, mask_of}
 use Rattle.spki_core.specs.FieldWriting.{written_field}
 use Rattle.pkcs1_params.specs.HashFieldsWriting.{written_hash_fields}
-use Rattle.pkcs1_params.proofs.pss.RsaPssParams+AnyRef.encode_without.Goals as goal
+use Rattle.pkcs1_params.proofs.pss_spelling.RsaPssParams+AnyRef.encode_without.Goals as goal
 
 pub returns-in_err-encode-clause-appends : goal.returns-in_err-encode-clause-appends
 returns-in_err-encode-clause-appends g c =

@@ -1,7 +1,7 @@
 use Rattle.std.proofs.Common.{arith}
 use Rattle.der_core.specs.InputLaws.{are_bytes}
 use Rattle.pkcs1_params.proofs.Labels.{label_within}
-use Rattle.pkcs1_params.proofs.oaep.RsaOaepParams+AnyRef.new_with_label.Goals as goal
+use Rattle.pkcs1_params.proofs.label.RsaOaepParams+AnyRef.new_with_label.Goals as goal
 
 pub source_of-requires : goal.source_of-requires
 source_of-requires g c =

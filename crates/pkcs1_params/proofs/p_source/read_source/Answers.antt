@@ -2,7 +2,7 @@ use Rattle.der_core.specs.Reading.{AllocatesWithin}
 use Rattle.der_core.specs.Tlv.{Tlv}
 use Rattle.spki_core.proofs.Carried.{any_carried, algorithm_carried}
 use Rattle.spki_core.proofs.FieldReads.{field_present}
-use Rattle.pkcs1_params.proofs.oaep.read_source.Goals as goal
+use Rattle.pkcs1_params.proofs.p_source.read_source.Goals as goal
 
 pub returns-then-branch : goal.returns-then-branch
 returns-then-branch g c =

@@ -5,7 +5,7 @@ use Rattle.der_core.specs.Counting.{counts_joined}
 use Rattle.spki_core.specs.AlgorithmValue.{algorithm_of, mask_of}
 use Rattle.spki_core.specs.FieldWriting.{written_field}
 use Rattle.pkcs1_params.specs.HashFieldsWriting.{written_hash_fields}
-use Rattle.pkcs1_params.proofs.pss.RsaPssParams+AnyRef.len_without.Goals as goal
+use Rattle.pkcs1_params.proofs.pss_spelling.RsaPssParams+AnyRef.len_without.Goals as goal
 
 pub returns : goal.returns
 returns c =

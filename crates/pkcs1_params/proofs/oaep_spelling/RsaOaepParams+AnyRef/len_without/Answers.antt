@@ -3,7 +3,7 @@ use Rattle.spki_core.specs.AlgorithmIdentifier.{written_plain}
 use Rattle.spki_core.specs.AlgorithmValue.{algorithm_of, mask_of}
 use Rattle.spki_core.specs.FieldWriting.{written_field}
 use Rattle.pkcs1_params.specs.HashFieldsWriting.{written_hash_fields}
-use Rattle.pkcs1_params.proofs.oaep.RsaOaepParams+AnyRef.len_without.Goals as goal
+use Rattle.pkcs1_params.proofs.oaep_spelling.RsaOaepParams+AnyRef.len_without.Goals as goal
 
 pub returns : goal.returns
 returns c =

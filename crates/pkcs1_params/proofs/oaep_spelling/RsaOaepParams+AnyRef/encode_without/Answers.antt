@@ -6,7 +6,7 @@ use Rattle.spki_core.specs.AlgorithmIdentifier.{written_plain}
 use Rattle.spki_core.specs.AlgorithmValue.{algorithm_of, mask_of}
 use Rattle.spki_core.specs.FieldWriting.{written_field}
 use Rattle.pkcs1_params.specs.HashFieldsWriting.{written_hash_fields}
-use Rattle.pkcs1_params.proofs.oaep.RsaOaepParams+AnyRef.encode_without.Goals as goal
+use Rattle.pkcs1_params.proofs.oaep_spelling.RsaOaepParams+AnyRef.encode_without.Goals as goal
 
 pub returns-in_err-encode-clause-appends : goal.returns-in_err-encode-clause-appends
 returns-in_err-encode-clause-appends g c =

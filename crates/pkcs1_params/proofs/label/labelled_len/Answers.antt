@@ -6,7 +6,7 @@ use Rattle.pkcs1_params.specs.OaepWriting.{oaep_defaults, HasOaep, written_oaep}
 use Rattle.pkcs1_params.specs.Parameters.{OaepParameters}
 use Rattle.spki_core.specs.Held.{identifier_held}
 use Rattle.pkcs1_params.proofs.Labels.{counts_as, labelled_counted, labelled_held}
-use Rattle.pkcs1_params.proofs.oaep.labelled_len.Goals as goal
+use Rattle.pkcs1_params.proofs.label.labelled_len.Goals as goal
 
 pub returns : goal.returns
 returns g c label bytes same =

@@ -1,0 +1,81 @@
+//! Where the label of RSAES-OAEP comes from (RFC 8017 A.2.1): pSourceAlgorithm.
+ghost use Rattle.std.specs.Prelude.{◌≡◌, ◌≤◌, refl, length};
+ghost use Rattle.der_core.specs.Tag.{sequence_tag};
+ghost use Rattle.der_core.specs.Tlv.{Tlv};
+ghost use Rattle.der_core.specs.Length.{limit};
+ghost use Rattle.der_core.specs.Reading.{AllocatesWithin};
+ghost use Rattle.spki_core.specs.AlgorithmIdentifier.{PlainAlgorithm, same_plain};
+ghost use Rattle.spki_core.specs.AlgorithmValue.{algorithm_with, algorithm_of};
+ghost use Rattle.spki_core.specs.FieldReading.{ReadsField};
+ghost use Rattle.pkcs1_params.specs.Parameters.{with_parameters, id_p_specified, octets_value, empty_label};
+
+use der_core::{Decode, Memory, NoMemory, Reader, Result, Tag, TagNumber};
+use spki_core::{
+    AlgorithmIdentifier, AlgorithmIdentifierRef, AnyParams, AnyRef, AssociatedOid,
+    ObjectIdentifier, is_field_next, read_explicit,
+};
+
+/// The source of a label that the parameters hold (RFC 8017 A.2.1).
+pub(crate) struct PSpecified;
+
+impl AssociatedOid for PSpecified {
+    ghost contents = { id_p_specified };
+
+    ghost valid = { refl };
+
+    const OID: &'static [u8] = &[0x2a, 0x86, 0x48, 0x86, 0xf7, 0x0d, 0x01, 0x01, 0x09];
+
+    fn octets() -> &'static [u8] {
+        Self::OID
+    }
+}
+
+/// The source of the empty label.
+pub(crate) fn empty_source<P: AnyParams<M>, M: Memory>(memory: M) -> AlgorithmIdentifier<P>
+    ensures { algorithm_with P.any result ≡ empty_label }
+{
+    AlgorithmIdentifier {
+        oid: ObjectIdentifier::of::<PSpecified>(),
+        parameters: Some(P::empty(memory, Tag::OCTET_STRING)),
+    }
+}
+
+/// Reads the source of the label, that of the empty one where its field is absent.
+pub(crate) fn read_source<
+    'a,
+    P: Decode<&'a [u8], M> + AnyParams<M>,
+    M: Memory,
+    R: Reader<&'a [u8]>,
+>(memory: M, reader: &mut R) -> Result<AlgorithmIdentifier<P>>
+    ensures { let may = AllocatesWithin (Tlv sequence_tag (AllocatesWithin P.Decode.may_allocate)) in
+        let value = algorithm_with P.any in
+        ReadsField 2 value PlainAlgorithm empty_label may result (R.left reader.old) (R.left reader.new) }
+{
+    if is_field_next(reader, TagNumber::new(2))? {
+        read_explicit(memory, reader, TagNumber::new(2))
+    } else {
+        Ok(empty_source::<P, M>(memory))
+    }
+}
+
+/// Whether the source is the default, that of the empty label.
+pub(crate) fn is_default_source(p_source: &AlgorithmIdentifierRef<'_>) -> bool
+    ensures { result ≡ same_plain (algorithm_of p_source.now) empty_label }
+{
+    let empty = AnyRef::empty(NoMemory, Tag::OCTET_STRING);
+    p_source.oid.as_bytes() == PSpecified::octets() && p_source.parameters == Some(empty)
+}
+
+/// The source of a label.
+pub(crate) fn source_of<'a>(label: &'a [u8]) -> AlgorithmIdentifierRef<'a>
+    requires { length label.now ≤ limit }
+    ensures { algorithm_of result ≡ with_parameters id_p_specified (octets_value label.now) }
+{
+    match AnyRef::new(Tag::OCTET_STRING, label) {
+        Ok(octets) => AlgorithmIdentifier {
+            oid: ObjectIdentifier::of::<PSpecified>(),
+            parameters: Some(octets),
+        },
+        Err(_) => unreachable!(),
+    }
+}
