@@ -1,11 +1,11 @@
 //! Parameters of RSAES-OAEP (RFC 8017 A.2.1).
 ghost use Rattle.std.specs.Prelude.{◌≡◌, ◌≤◌, ◌+◌, ◌++◌, [], ⊤, refl, length, OnOk, IfErr, ℕ, List};
-ghost use Rattle.der_core.specs.Tag.{sequence_tag};
-ghost use Rattle.der_core.specs.Tlv.{Tlv, tlv};
+ghost use Rattle.der_core.specs.Tlv.{tlv};
 ghost use Rattle.pkcs1_params.specs.OaepValue.{labelled};
 ghost use Rattle.der_core.specs.Length.{limit};
 ghost use Rattle.der_core.specs.BackWriters.{free_of, Prepends};
-ghost use Rattle.der_core.specs.Reading.{AllocatesWithin};
+ghost use Rattle.spki_core.specs.Allocating.{AlgorithmAllocates};
+ghost use Rattle.pkcs1_params.specs.Allocating.{OaepAllocates};
 ghost use Rattle.der_core.specs.Writing.{Counts, Appends};
 ghost use Rattle.spki_core.specs.AlgorithmIdentifier.{PlainAlgorithm, same_plain};
 ghost use Rattle.spki_core.specs.FieldReading.{ReadsField};
@@ -89,7 +89,7 @@ fn read_source<'a, P: Decode<&'a [u8], M> + AnyParams<M>, M: Memory, R: Reader<&
     memory: M,
     reader: &mut R,
 ) -> der_core::Result<AlgorithmIdentifier<P>>
-    ensures { let may = AllocatesWithin (Tlv sequence_tag (AllocatesWithin P.Decode.may_allocate)) in
+    ensures { let may = AlgorithmAllocates P.Decode.may_allocate in
         let value = algorithm_with P.any in
         ReadsField 2 value PlainAlgorithm empty_label may result (R.left reader.old) (R.left reader.new) }
 {
@@ -150,7 +150,7 @@ impl<'a, P> Sequence<'a> for RsaOaepParams<P> {
 
 impl<'a, M: Memory, P: Decode<&'a [u8], M> + AnyParams<M>> DecodeValue<&'a [u8], M>
     for RsaOaepParams<P> {
-    ghost may_allocate = { AllocatesWithin P.Decode.may_allocate };
+    ghost may_allocate = { OaepAllocates P.Decode.may_allocate };
 
     #[inline(never)]
     fn decode_value<R: Reader<&'a [u8]>>(

@@ -2,7 +2,7 @@
 ghost use Rattle.std.specs.Prelude.{◌≡◌, ◌≤◌, ◌+◌, ◌++◌, refl, length, OnOk, IfErr};
 ghost use Rattle.der_core.specs.Length.{limit};
 ghost use Rattle.der_core.specs.BackWriters.{free_of, Prepends};
-ghost use Rattle.der_core.specs.Reading.{AllocatesWithin};
+ghost use Rattle.pkcs1_params.specs.Allocating.{PssAllocates};
 ghost use Rattle.der_core.specs.Writing.{Counts, Appends};
 ghost use Rattle.spki_core.specs.Any.{null_value};
 ghost use Rattle.spki_core.specs.Explicit.{HaveDefaults};
@@ -84,7 +84,7 @@ impl<'a, P> Sequence<'a> for RsaPssParams<P> {
 
 impl<'a, M: Memory, P: Decode<&'a [u8], M> + AnyParams<M>> DecodeValue<&'a [u8], M>
     for RsaPssParams<P> {
-    ghost may_allocate = { AllocatesWithin P.Decode.may_allocate };
+    ghost may_allocate = { PssAllocates P.Decode.may_allocate };
 
     #[inline(never)]
     fn decode_value<R: Reader<&'a [u8]>>(
