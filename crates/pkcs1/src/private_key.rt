@@ -297,7 +297,8 @@ impl<U> RsaPrivateKey<U> {
             → (key : PrivateKey U.Value) → key.other_prime_infos ≡ None
             → Means (PrivateKeyText U.text) (octets_of octets.entry) key → IsOk result }
     {
-        Ok(RsaPrivateKey::from_der(alloc, octets.as_bytes())?)
+        let key = RsaPrivateKey::from_der(alloc, octets.as_bytes())?;
+        Ok(key)
     }
 }
 

@@ -1,5 +1,5 @@
 -- What reading a field with a default gives.
-use Rattle.std.specs.Prelude.{ℕ, Bool, List, ◌≡◌, ◌+◌, Result, Ok, Err, Some, None, slice_get}
+use Rattle.std.specs.Prelude.{ℕ, Bool, List, ◌≡◌, Result, Ok, Err, Some, None, slice_get}
 use Rattle.std.specs.Bool.{Decides}
 use Rattle.der_core.specs.Tag.{context_tag}
 use Rattle.der_core.specs.declared.error.ErrorKind.TheVariants.{Failed}

@@ -1,4 +1,4 @@
-use Rattle.std.proofs.Common.{◌≡◌, ℕ, List, [], ◌++◌, length, sym, ap, ◌∙◌, arith, append-nil, length-append}
+use Rattle.std.proofs.Common.{◌≡◌, ℕ, List, [], length, ap, ◌∙◌, arith, append-nil, length-append}
 use Rattle.der_core.specs.TextLaws.{tlv_split}
 use Rattle.spki_core.specs.Allocating.{AlgorithmAllocates, NothingAskedAlone}
 use Rattle.spki_core.specs.IdentifierLaws.{identifier_delimited}
