@@ -6,18 +6,13 @@ use Rattle.der_core.specs.Input.{Input, left_in, read_from, end_of}
 use Rattle.der_core.specs.Texts.{IsDelimited, Joins}
 use Rattle.der_core.specs.Optional.{Optional}
 use Rattle.der_core.specs.Tells.{is_trailing}
+use Rattle.der_core.specs.Reading.{AllocatesIn}
 use Rattle.der_core.specs.Sequences.{TextFails, TextGives, ContentsFail, some_same}
 use Rattle.der_core.specs.Whole.{trailing_is, trailing_none}
 
 module _ {V : Type 0} (text : V → List ℕ → Type 0) (may_allocate : List ℕ → Type 0) where
-  pub whole_fails : (before after : Input) (e : ErrorKind) → TextFails text may_allocate e before after → ContentsFail text may_allocate e before after
-  whole_fails before after e fails = (
-    fails.0,
-    λ c is. ⊎_elim
-        (λ w. let p = w.1 in inl (w.0, ([], p.0, p.1, p.2, p.3)))
-        (λ w. inr (w.0, λ v has. w.1 v c [] (sym (append-nil c)) has))
-        (fails.2 c is),
-  )
+  pub whole_fails : (before after : Input) (e : ErrorKind) → TextFails text may_allocate e before after → ContentsFail text (AllocatesIn may_allocate) e before after
+  whole_fails before after e fails = (fails.0, λ c is. ⊎_elim inl (λ w. inr (w.0, λ v has. w.1 v c [] (sym (append-nil c)) has)) (fails.2 c is))
 
   pub whole_trailing : IsDelimited text → (before mid after : Input) (e : ErrorKind) (x : V) → TextGives text x before mid
       → (read_from mid end_of ≡ Err e) × (after ≡ None) → ContentsFail text may_allocate e before after
@@ -31,9 +26,10 @@ module _ {V : Type 0} (text : V → List ℕ → Type 0) (may_allocate : List �
       )
 
   -- something is left, and it isn't one text
-  pub last_fails : (before after : Input) (e : ErrorKind) → 0 < length (left_in before) → ContentsFail text may_allocate e before after → ContentsFail (Optional text) may_allocate e before after
+  pub last_fails : (before after : Input) (e : ErrorKind) → 0 < length (left_in before) → ContentsFail text may_allocate e before after
+      → ContentsFail (Optional text) (λ c. (0 < length c) × may_allocate c) e before after
   last_fails before after e more fails =
-      (fails.0, λ c is. ⊎_elim inl (λ w. inr (w.0, λ v has. go v c is has w.1)) (fails.1 c is))
+      (fails.0, λ c is. ⊎_elim (λ w. inl (w.0, (rw is at more, w.1))) (λ w. inr (w.0, λ v has. go v c is has w.1)) (fails.1 c is))
     where
       go : (v : Option V) (c : List ℕ) → before ≡ Some c → Optional text v c → ((x : V) → text x c → ⊥) → ⊥
       go None c is has none = let n : left_in before ≡ [] = rw (is, has) refl in omega (arith, ap length n)

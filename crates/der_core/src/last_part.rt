@@ -4,7 +4,7 @@ ghost use Rattle.std.specs.Option.{option_map};
 ghost use Rattle.der_core.specs.Length.{limit};
 ghost use Rattle.der_core.specs.BackWriters.{free_of, Prepends};
 ghost use Rattle.der_core.specs.Optional.{Optional, HasOptional, written_optional};
-ghost use Rattle.der_core.specs.Reading.{ReadsContents, AllocatesWithin};
+ghost use Rattle.der_core.specs.Reading.{ReadsContents, AllocatesIn, AllocatesLast};
 ghost use Rattle.der_core.specs.Writing.{Counts, Appends};
 
 use crate::back_writer::BackWriter;
@@ -22,7 +22,7 @@ pub fn decode_whole<'a, T: Decode<&'a [u8], M>, M: Memory, R: Reader<&'a [u8]>>(
     memory: M,
     reader: &mut R,
 ) -> Result<T>
-    ensures reads { let may = AllocatesWithin T.Decode.may_allocate in
+    ensures reads { let may = AllocatesIn T.Decode.may_allocate in
         ReadsContents T.value T.text may result (R.left reader.old) (R.left reader.new) }
     ensures failed { R.left reader.old ≡ None → IsErrAnd result (λ e. e.kind ≡ ErrorKind.Failed) }
 {
@@ -37,7 +37,7 @@ pub fn decode_last<'a, T: Decode<&'a [u8], M>, M: Memory, R: Reader<&'a [u8]>>(
     memory: M,
     reader: &mut R,
 ) -> Result<Option<T>>
-    ensures reads { let may = AllocatesWithin T.Decode.may_allocate in
+    ensures reads { let may = AllocatesLast T.Decode.may_allocate in
         ReadsContents (option_map T.value) (Optional T.text) may result (R.left reader.old) (R.left reader.new) }
     ensures failed { R.left reader.old ≡ None → IsErrAnd result (λ e. e.kind ≡ ErrorKind.Failed) }
 {

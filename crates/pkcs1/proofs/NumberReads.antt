@@ -87,11 +87,11 @@ module _ {V : Type 0} (text : V → List ℕ → Type 0) where
 
     -- the contents of another prime
     pub other_number_fails : {vs : List V} {before mid after : Input} {e : ErrorKind} (may_allocate : List ℕ → Type 0) → length vs < 3 → GivesAll text vs before mid → TextFails text may_allocate e mid after
-        → ContentsFail (OtherPrimeContents text) may_allocate e before after
+        → ContentsFail (OtherPrimeContents text) (AllocatesWithin may_allocate) e before after
     other_number_fails may_allocate l all fails = (fails.0, λ c is. numbers_fail other_numbers (λ _. []) may_allocate (λ _. l) all fails c is)
 
     pub other_end_fails : {vs : List V} {before mid after : Input} {e : ErrorKind} (may_allocate : List ℕ → Type 0) → length vs ≡ 3 → GivesAll text vs before mid → (read_from mid end_of ≡ Err e) × (after ≡ None)
-        → ContentsFail (OtherPrimeContents text) may_allocate e before after
+        → ContentsFail (OtherPrimeContents text) (AllocatesWithin may_allocate) e before after
     other_end_fails {vs} {before} {mid} {after} {e} may_allocate l all fails =
         let more = trailing_is mid all.rest e all.left fails.0 in (
           fails.1,

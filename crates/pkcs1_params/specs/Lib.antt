@@ -1,4 +1,5 @@
 pub mod Parameters
+pub mod Allocating
 pub mod Trailers
 pub mod TrailerLaws
 pub mod HashFieldsWriting

@@ -1,10 +1,8 @@
 //! What both sets of parameters begin with: hashAlgorithm and maskGenAlgorithm.
 ghost use Rattle.std.specs.Prelude.{◌≡◌, ◌≤◌, ◌∷◌, [], refl, length};
-ghost use Rattle.der_core.specs.Tag.{sequence_tag};
 ghost use Rattle.der_core.specs.Length.{limit};
-ghost use Rattle.der_core.specs.Tlv.{Tlv};
 ghost use Rattle.der_core.specs.BackWriters.{free_of, Prepends};
-ghost use Rattle.der_core.specs.Reading.{AllocatesWithin};
+ghost use Rattle.spki_core.specs.Allocating.{AlgorithmAllocates};
 ghost use Rattle.der_core.specs.Writing.{Counts, Appends};
 ghost use Rattle.spki_core.specs.Any.{null_value};
 ghost use Rattle.spki_core.specs.AlgorithmIdentifier.{PlainAlgorithm, MaskAlgorithm, same_plain, same_mask};
@@ -114,7 +112,7 @@ pub(crate) fn read_hash<'a, P: Decode<&'a [u8], M> + AnyParams<M>, M: Memory, R:
     memory: M,
     reader: &mut R,
 ) -> Result<AlgorithmIdentifier<P>>
-    ensures { let may = AllocatesWithin (Tlv sequence_tag (AllocatesWithin P.Decode.may_allocate)) in
+    ensures { let may = AlgorithmAllocates P.Decode.may_allocate in
         let value = algorithm_with P.any in
         ReadsField 0 value PlainAlgorithm sha1 may result (R.left reader.old) (R.left reader.new) }
 {
@@ -132,8 +130,7 @@ pub(crate) fn read_mask_gen<
     M: Memory,
     R: Reader<&'a [u8]>,
 >(memory: M, reader: &mut R) -> Result<MaskGen<P>>
-    ensures { let may_hash = AllocatesWithin (Tlv sequence_tag (AllocatesWithin P.Decode.may_allocate)) in
-        let may = AllocatesWithin (Tlv sequence_tag may_hash) in
+    ensures { let may = AlgorithmAllocates (AlgorithmAllocates P.Decode.may_allocate) in
         let value = algorithm_with (algorithm_with P.any) in
         ReadsField 1 value MaskAlgorithm mgf1_sha1 may result (R.left reader.old) (R.left reader.new) }
 {

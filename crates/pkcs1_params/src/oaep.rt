@@ -1,6 +1,6 @@
 //! Parameters of RSAES-OAEP (RFC 8017 A.2.1).
 ghost use Rattle.std.specs.Prelude.{◌≡◌, ◌≤◌, [], refl, length, OnOk, IfErr};
-ghost use Rattle.der_core.specs.Reading.{AllocatesWithin};
+ghost use Rattle.pkcs1_params.specs.Allocating.{OaepAllocates};
 ghost use Rattle.pkcs1_params.specs.Parameters.{OaepParameters, OaepContents, oaep_fields, sha1, mgf1_sha1, empty_label};
 ghost use Rattle.pkcs1_params.specs.OaepWriting.{oaep_defaults, HasOaep, written_oaep};
 ghost use Rattle.pkcs1_params.specs.OaepLaws.{oaep_means_one, oaep_of_bytes, oaep_relates, oaep_shortest};
@@ -64,7 +64,7 @@ impl<'a, P> Sequence<'a> for RsaOaepParams<P> {
 
 impl<'a, M: Memory, P: Decode<&'a [u8], M> + AnyParams<M>> DecodeValue<&'a [u8], M>
     for RsaOaepParams<P> {
-    ghost may_allocate = { AllocatesWithin P.Decode.may_allocate };
+    ghost may_allocate = { OaepAllocates P.Decode.may_allocate };
 
     #[inline(never)]
     fn decode_value<R: Reader<&'a [u8]>>(

@@ -1,9 +1,7 @@
 //! Where the label of RSAES-OAEP comes from (RFC 8017 A.2.1): pSourceAlgorithm.
 ghost use Rattle.std.specs.Prelude.{◌≡◌, ◌≤◌, refl, length};
-ghost use Rattle.der_core.specs.Tag.{sequence_tag};
-ghost use Rattle.der_core.specs.Tlv.{Tlv};
 ghost use Rattle.der_core.specs.Length.{limit};
-ghost use Rattle.der_core.specs.Reading.{AllocatesWithin};
+ghost use Rattle.spki_core.specs.Allocating.{AlgorithmAllocates};
 ghost use Rattle.spki_core.specs.AlgorithmIdentifier.{PlainAlgorithm, same_plain};
 ghost use Rattle.spki_core.specs.AlgorithmValue.{algorithm_with, algorithm_of};
 ghost use Rattle.spki_core.specs.FieldReading.{ReadsField};
@@ -47,7 +45,7 @@ pub(crate) fn read_source<
     M: Memory,
     R: Reader<&'a [u8]>,
 >(memory: M, reader: &mut R) -> Result<AlgorithmIdentifier<P>>
-    ensures { let may = AllocatesWithin (Tlv sequence_tag (AllocatesWithin P.Decode.may_allocate)) in
+    ensures { let may = AlgorithmAllocates P.Decode.may_allocate in
         let value = algorithm_with P.any in
         ReadsField 2 value PlainAlgorithm empty_label may result (R.left reader.old) (R.left reader.new) }
 {

@@ -1,6 +1,6 @@
 //! Parameters of RSASSA-PSS (RFC 8017 A.2.3).
 ghost use Rattle.std.specs.Prelude.{◌≡◌, ◌≤◌, refl, length, OnOk, IfErr};
-ghost use Rattle.der_core.specs.Reading.{AllocatesWithin};
+ghost use Rattle.pkcs1_params.specs.Allocating.{PssAllocates};
 ghost use Rattle.spki_core.specs.Any.{null_value};
 ghost use Rattle.pkcs1_params.specs.Parameters.{PssParameters, PssContents, pss_fields, with_parameters, id_mgf1, sha1, mgf1_sha1};
 ghost use Rattle.pkcs1_params.specs.PssWriting.{pss_defaults, HasPss, written_pss};
@@ -67,7 +67,7 @@ impl<'a, P> Sequence<'a> for RsaPssParams<P> {
 
 impl<'a, M: Memory, P: Decode<&'a [u8], M> + AnyParams<M>> DecodeValue<&'a [u8], M>
     for RsaPssParams<P> {
-    ghost may_allocate = { AllocatesWithin P.Decode.may_allocate };
+    ghost may_allocate = { PssAllocates P.Decode.may_allocate };
 
     #[inline(never)]
     fn decode_value<R: Reader<&'a [u8]>>(

@@ -1,5 +1,5 @@
 -- Reading one field, and the fields behind it: each exit of the code is one lemma.
-use Rattle.std.proofs.Common.{◌≡◌, ℕ, ◌+◌, List, [], ◌∷◌, ◌++◌, map, sym, ap, ◌∙◌, append_assoc, inl, inr, refl, ⊎_elim, true, false, Some, None, Result, Ok, Err}
+use Rattle.std.proofs.Common.{◌≡◌, ℕ, ◌+◌, List, [], ◌∷◌, ◌++◌, map, sym, ap, ◌∙◌, inl, inr, refl, ⊎_elim, true, false, Some, None, Result, Ok, Err}
 use Rattle.std.specs.Prelude.{slice_get}
 use Rattle.der_core.specs.declared.error.ErrorKind.{ErrorKind}
 use Rattle.der_core.specs.declared.error.Error.{Error}
@@ -7,14 +7,15 @@ use Rattle.der_core.specs.declared.error.ErrorKind.TheVariants.{Failed}
 use Rattle.der_core.specs.Input.{Input}
 use Rattle.der_core.specs.Texts.{IsDelimited, Joins}
 use Rattle.der_core.specs.Tlv.{Tlv}
-use Rattle.der_core.specs.Reading.{AllocatesIn, NoneIn, ReadsText, Refuses, AllocatesWithin, TellsNext}
+use Rattle.der_core.specs.Reading.{AllocatesIn, NoneIn, ReadsText, Refuses, TellsNext}
 use Rattle.der_core.proofs.Growing.{tlv_recast}
 use Rattle.der_core.specs.Sequences.{ContentsFail, ContentsGive, some_same}
+use Rattle.spki_core.specs.Allocating.{FieldAllocates, AllocatesFromField}
 use Rattle.spki_core.specs.Explicit.{Field, field, Defaultable, IsNext, FieldRead, FieldRefused}
 use Rattle.spki_core.specs.FieldLaws.{AreLater}
 use Rattle.spki_core.specs.FieldReading.{ReadsField}
 use Rattle.spki_core.proofs.Carried.{Carried}
-use Rattle.spki_core.proofs.Fields.{refused_step, read_step, read_joins}
+use Rattle.spki_core.proofs.Fields.{refused_step, read_step, read_then}
 
 is_next : (i : List ℕ) (n : ℕ) → slice_get i 0 ≡ Some (160 + n) → IsNext n i
 is_next [] n e = cc
@@ -29,7 +30,7 @@ field_absent n value text may_allocate default x before after (i, is, left, told
 -- Its octet is next: a text was read, or none is there.
 pub field_present : {X V W : Type 0} {value : X → V} {G : V → List ℕ → Type 0} {other : X → W} {H : W → List ℕ → Type 0} → Carried value G other H
     → (n : ℕ) (may_allocate : List ℕ → Type 0) (default : W) (result : Result X Error) (before mid after : Input)
-    → TellsNext (160 + n) (Ok true) before mid → ReadsText value (λ v. Tlv (160 + n) (G v)) (Tlv (160 + n) may_allocate) result mid after → ReadsField n other H default may_allocate result before after
+    → TellsNext (160 + n) (Ok true) before mid → ReadsText value (λ v. Tlv (160 + n) (G v)) (FieldAllocates n may_allocate) result mid after → ReadsField n other H default may_allocate result before after
 field_present k n may_allocate default (Ok x) before mid after (i, is, at, told) (b, rest, e, left, t) =
     (i, rest, is, left, inr (b, rest, tlv_recast b t (rw (k.meant x) (k.text_there _ t.contents t.holds)), refl, some_same i (b ++ rest) (sym at ∙ e)))
 field_present k n may_allocate default (Err e) before mid after (i, is, at, told) (failed, _, why) = (
@@ -47,69 +48,40 @@ field_failed n value text may_allocate default e before after (none, failed, _) 
 -- What reading a field ensures of a refusal, and of a value.
 abbrev pub FieldFails : {V : Type 0} → ℕ → (V → List ℕ → Type 0) → (List ℕ → Type 0) → ErrorKind → Input → Input → Type 0
 FieldFails n text own e before after =
-    (after ≡ None) × ((bytes : List ℕ) → before ≡ Some bytes → Refuses e (AllocatesIn (Tlv (160 + n) (AllocatesWithin own)) bytes) (FieldRefused n text bytes))
+    (after ≡ None) × ((bytes : List ℕ) → before ≡ Some bytes → Refuses e (AllocatesIn (FieldAllocates n own) bytes) (FieldRefused n text bytes))
 
 abbrev pub FieldGives : {V : Type 0} → ℕ → (V → List ℕ → Type 0) → V → V → Input → Input → Type 0
 FieldGives n text default x before after =
     (bytes : List ℕ) × (rest : List ℕ) × (before ≡ Some bytes) × (after ≡ Some rest) × FieldRead n text default bytes x rest
 
--- Memory is asked for within: by a part, and by the contents of a text.
-allocates_part : (p : List ℕ → Type 0) (x b y c : List ℕ) → c ≡ x ++ (b ++ y) → AllocatesWithin p b → AllocatesWithin p c
-allocates_part p x b y c is (u, v, w, at_b, q) = (
-  x ++ u,
-  v,
-  w ++ y,
-  is ∙ ap (λ l. x ++ (l ++ y)) at_b ∙ ap (λ l. x ++ l) (append_assoc u (v ++ w) y ∙ ap (λ l. u ++ l) (append_assoc v w y)) ∙ sym (append_assoc x u (v ++ (w ++ y))),
-  q,
-)
-
-module _ (own may_allocate : List ℕ → Type 0) (in_own : (b : List ℕ) → own b → AllocatesWithin may_allocate b) where
-  allocates_parts : (c : List ℕ) → AllocatesWithin own c → AllocatesWithin may_allocate c
-  allocates_parts c (x, b, y, is, a) = allocates_part may_allocate x b y c is (in_own b a)
-
-  pub allocates_contents : (t : ℕ) (b : List ℕ) → Tlv t (AllocatesWithin own) b → AllocatesWithin may_allocate b
-  allocates_contents t b p =
-      let w = allocates_parts p.contents p.holds in
-      ((t ∷ p.octets) ++ w.0, w.1, w.2, p.written ∙ ap (λ l. t ∷ p.octets ++ l) w.3 ∙ sym (append_assoc (t ∷ p.octets) w.0 (w.1 ++ w.2)), w.4)
-
--- What asks for nothing.
-pub allocates_nothing : (t : ℕ) (may_allocate : List ℕ → Type 0) (b : List ℕ) → Tlv t (λ _. ⊥) b → AllocatesWithin may_allocate b
-allocates_nothing t may_allocate b p = absurd p.holds
-
--- What is left is a rest of what was.
-rest_of : {V : Type 0} (n : ℕ) (text : V → List ℕ → Type 0) (default x : V) (bytes rest : List ℕ) → FieldRead n text default bytes x rest → (front : List ℕ) × (bytes ≡ front ++ rest)
-rest_of n text default x bytes rest (inl p) = ([], sym p.2)
-rest_of n text default x bytes rest (inr (a, b, p, i, e)) = (a, e ∙ ap (λ l. a ++ l) i)
-
 -- A field, and the fields behind it.
-module _ {W V : Type 0} (n : ℕ) (text : V → List ℕ → Type 0) (default : V) (head : W → V) (fields : W → List Field) (later : (w : W) → AreLater n (fields w)) (may_allocate : List ℕ → Type 0) where
-  pub field_fails : (own : List ℕ → Type 0) → ((b : List ℕ) → own b → AllocatesWithin may_allocate b) → (before after : Input) (e : ErrorKind)
-      → FieldFails n text own e before after → ContentsFail (λ w. Joins (map Defaultable (field n text default (head w) ∷ fields w))) may_allocate e before after
-  field_fails own in_own before after e fails = (
-    fails.0,
-    λ c is. ⊎_elim (λ q. inl (q.0, asked c q.1)) (λ q. inr (q.0, λ w has. refused_step n text default (head w) (fields w) c (later w) q.1.0 q.1.1 has)) (fails.1 c is),
-  )
-    where
-      asked : (c : List ℕ) → AllocatesIn (Tlv (160 + n) (AllocatesWithin own)) c → AllocatesWithin may_allocate c
-      asked c (b, rest, is, a) = allocates_part may_allocate [] b rest c is (allocates_contents own may_allocate in_own (160 + n) b a)
+module _ {W V : Type 0} (n : ℕ) (text : V → List ℕ → Type 0) (default : V) (head : W → V) (fields : W → List Field) (later : (w : W) → AreLater n (fields w)) where
+  abbrev AllFields : W → List ℕ → Type 0
+  AllFields w c = Joins (map Defaultable (field n text default (head w) ∷ fields w)) c
 
-  pub fields_fail : IsDelimited text → (before mid after : Input) (e : ErrorKind) (x : V)
-      → FieldGives n text default x before mid → ContentsFail (λ w. Joins (map Defaultable (fields w))) may_allocate e mid after
-      → ContentsFail (λ w. Joins (map Defaultable (field n text default (head w) ∷ fields w))) may_allocate e before after
-  fields_fail d before mid after e x (bytes, rest, at, left, read) fails = (
-    fails.0,
-    λ c is.
-        let same : c ≡ bytes = some_same c bytes (sym is ∙ at) in
-        let front = rest_of n text default x bytes rest read in
-        ⊎_elim
-        (λ q. let w = q.1 in inl (q.0, (front.0 ++ w.0, w.1, w.2, same ∙ front.1 ∙ ap (λ l. front.0 ++ l) w.3 ∙ sym (append_assoc front.0 w.0 (w.1 ++ w.2)), w.4)))
-        (λ q. inr (q.0, λ w has. q.1 w (read_step n text d default x (head w) (fields w) bytes rest (later w) read (rw same at has)).1))
-        (fails.1 rest left),
-  )
+  module _ (own behind : List ℕ → Type 0) where
+    pub field_fails : (before after : Input) (e : ErrorKind) → FieldFails n text own e before after → ContentsFail AllFields (AllocatesFromField n text default own behind) e before after
+    field_fails before after e fails = (
+      fails.0,
+      λ c is. ⊎_elim (λ q. inl (q.0, inl q.1)) (λ q. inr (q.0, λ w has. refused_step n text default (head w) (fields w) c (later w) q.1.0 q.1.1 has)) (fails.1 c is),
+    )
+
+    pub fields_fail : IsDelimited text → (before mid after : Input) (e : ErrorKind) (x : V)
+        → FieldGives n text default x before mid → ContentsFail (λ w. Joins (map Defaultable (fields w))) behind e mid after
+        → ContentsFail AllFields (AllocatesFromField n text default own behind) e before after
+    fields_fail d before mid after e x (bytes, rest, at, left, read) fails = (
+      fails.0,
+      λ c is.
+          let same : c ≡ bytes = some_same c bytes (sym is ∙ at) in
+          ⊎_elim
+          (λ q. inl (q.0, inr (x, rw same (read_then n text default x behind bytes rest read q.1))))
+          (λ q. inr (q.0, λ w has. q.1 w (read_step n text d default x (head w) (fields w) bytes rest (later w) read (rw same at has)).1))
+          (fails.1 rest left),
+    )
 
   pub fields_give : (before mid after : Input) (w : W)
       → FieldGives n text default (head w) before mid → ContentsGive (Joins (map Defaultable (fields w))) mid after
-      → ContentsGive (Joins (map Defaultable (field n text default (head w) ∷ fields w))) before after
+      → ContentsGive (AllFields w) before after
   fields_give before mid after w (bytes, rest, at, left, read) (c, is, done, joins) =
       let same : c ≡ rest = some_same c rest (sym is ∙ left) in
-      (bytes, at, done, read_joins n text default (head w) (fields w) bytes rest read (rw same at joins))
+      (bytes, at, done, read_then n text default (head w) (Joins (map Defaultable (fields w))) bytes rest read (rw same at joins))

@@ -249,9 +249,9 @@ refused_step n Grammar default w gs c l h refused (x, y, inl p, j, e) =
 refused_step n Grammar default w gs c l h refused (x, y, inr p, j, e) = refused w y (x, y, p, refl, e)
 
 -- What was read joins with the later fields.
-pub read_joins : {V : Type 0} (n : ℕ) (Grammar : V → List ℕ → Type 0) (default v : V) (gs : List Field) (c rest : List ℕ) → FieldRead n Grammar default c v rest → Joins (map Defaultable gs) rest → Joins (map Defaultable (field n Grammar default v ∷ gs)) c
-read_joins n Grammar default v gs c rest (inl p) j = ([], rest, inl (refl, p.1), j, sym p.2)
-read_joins n Grammar default v gs c rest (inr (x, y, p, k, e)) j = (x, y, inr p, rw (← k) at j, e)
+pub read_then : {V : Type 0} (n : ℕ) (Grammar : V → List ℕ → Type 0) (default v : V) (Rest : List ℕ → Type 0) (c rest : List ℕ) → FieldRead n Grammar default c v rest → Rest rest → Then (Defaultable (field n Grammar default v)) Rest c
+read_then n Grammar default v Rest c rest (inl p) j = ([], rest, inl (refl, p.1), j, sym p.2)
+read_then n Grammar default v Rest c rest (inr (x, y, p, k, e)) j = (x, y, inr p, rw (← k) at j, e)
 
 -- Every splitting has the value that was read, and its rest.
 pub read_step : {V : Type 0} (n : ℕ) (Grammar : V → List ℕ → Type 0) → IsDelimited Grammar → (default v w : V) (gs : List Field) (c rest : List ℕ) → AreLater n gs → FieldRead n Grammar default c v rest → Joins (map Defaultable (field n Grammar default w ∷ gs)) c → (w ≡ v) × Joins (map Defaultable gs) rest

@@ -3,8 +3,8 @@ use Rattle.std.specs.Prelude.{ℕ, List, ◌≡◌, Result, Ok, Err, Some, None}
 use Rattle.der_core.specs.Tag.{context_tag}
 use Rattle.der_core.specs.declared.error.Error.{Error}
 use Rattle.der_core.specs.Input.{Input}
-use Rattle.der_core.specs.Tlv.{Tlv}
 use Rattle.der_core.specs.Reading.{AllocatesIn, Refuses}
+use Rattle.spki_core.specs.Allocating.{FieldAllocates}
 use Rattle.spki_core.specs.Explicit.{FieldRead, FieldRefused}
 
 -- The field was read, or it has its default; or the reader has failed, and its octet is next, but no text of it.
@@ -12,4 +12,4 @@ abbrev pub ReadsField : {X V : Type 0} → ℕ → (X → V) → (V → List ℕ
 ReadsField n value text default may_allocate (Ok x) before after =
     (bytes : List ℕ) × (rest : List ℕ) × (before ≡ Some bytes) × (after ≡ Some rest) × FieldRead n text default bytes (value x) rest
 ReadsField n value text default may_allocate (Err e) before after =
-    (after ≡ None) × ((bytes : List ℕ) → before ≡ Some bytes → Refuses e.kind (AllocatesIn (Tlv (context_tag n) may_allocate) bytes) (FieldRefused n text bytes))
+    (after ≡ None) × ((bytes : List ℕ) → before ≡ Some bytes → Refuses e.kind (AllocatesIn (FieldAllocates n may_allocate) bytes) (FieldRefused n text bytes))

@@ -5,6 +5,7 @@ pub mod ContextSpecific
 pub mod Explicit
 pub mod FieldWriting
 pub mod FieldReading
+pub mod Allocating
 pub mod ObjectIdentifierValue
 pub mod AnyRefValue
 pub mod OwnedAnyValue

@@ -1,7 +1,7 @@
 //! Algorithm identifiers (RFC 5280 4.1.1.2).
 ghost use Rattle.std.specs.Prelude.{◌≡◌, ◌≢◌, refl, IfOk, IfErr, IfSome};
 ghost use Rattle.std.specs.Option.{option_map};
-ghost use Rattle.der_core.specs.Reading.{AllocatesWithin};
+ghost use Rattle.spki_core.specs.Allocating.{AllocatesForParameters, NothingAskedAlone};
 ghost use Rattle.spki_core.specs.Any.{TagAndContents};
 ghost use Rattle.spki_core.specs.AlgorithmIdentifier.{Algorithm, AlgorithmContents, HasAlgorithm, written_algorithm};
 ghost use Rattle.spki_core.specs.AlgorithmLaws.{algorithm_means_one, algorithm_of_bytes, algorithm_relates, algorithm_shortest, algorithm_decides};
@@ -68,7 +68,7 @@ impl<P: EqualByValue> EqualByValue for AlgorithmIdentifier<P> {
 }
 
 impl<'a, M: Memory, P: Decode<&'a [u8], M>> DecodeValue<&'a [u8], M> for AlgorithmIdentifier<P> {
-    ghost may_allocate = { AllocatesWithin P.Decode.may_allocate };
+    ghost may_allocate = { AllocatesForParameters P.Decode.may_allocate };
 
     fn decode_value<R: Reader<&'a [u8]>>(
         memory: M,
@@ -80,6 +80,12 @@ impl<'a, M: Memory, P: Decode<&'a [u8], M>> DecodeValue<&'a [u8], M> for Algorit
         Ok(AlgorithmIdentifier { oid, parameters })
     }
 }
+
+/// Reading an identifier without parameters is never refused for want of memory, whatever type they would have: a function
+/// that does nothing, with this law as its contract.
+pub fn identifier_alone_takes_no_memory<'a, P: Decode<&'a [u8], M>, M: Memory>()
+    ensures { NothingAskedAlone ⟦<AlgorithmIdentifier<P> as Decode<&'a [u8], M>>⟧.may_allocate }
+{}
 
 impl<P: Encode> EncodeValue for AlgorithmIdentifier<P> {
     fn value_len(&self) -> Result<Length> {

@@ -2,7 +2,8 @@
 ghost use Rattle.std.specs.Prelude.{◌≡◌, ◌+◌};
 ghost use Rattle.der_core.specs.Tag.{context_tag};
 ghost use Rattle.der_core.specs.Tlv.{Tlv};
-ghost use Rattle.der_core.specs.Reading.{ReadsText, ReadsOptional, AllocatesWithin, TellsNext};
+ghost use Rattle.der_core.specs.Reading.{ReadsText, ReadsOptional, AllocatesIn, TellsNext};
+ghost use Rattle.spki_core.specs.Allocating.{FieldAllocates};
 ghost use Rattle.spki_core.specs.ContextSpecific.{Numbered, ContextSpecific, HasNumbered, written_numbered};
 ghost use Rattle.spki_core.specs.ContextSpecificLaws.{numbered_delimited, numbered_of_bytes, numbered_relates, numbered_shortest};
 
@@ -87,7 +88,7 @@ pub fn read_context_specific<'a, T: Decode<&'a [u8], M>, M: Memory, R: Reader<&'
     number: TagNumber,
 ) -> Result<Option<T>>
     ensures { let tag = context_tag number.value in
-        let may = Tlv tag (AllocatesWithin T.Decode.may_allocate) in
+        let may = FieldAllocates number.value T.Decode.may_allocate in
         ReadsOptional tag T.value (λ v. Tlv tag (T.text v)) may result (R.left reader.old) (R.left reader.new) }
 {
     if !is_field_next(reader, number)? {
@@ -104,7 +105,7 @@ pub fn read_explicit<'a, T: Decode<&'a [u8], M>, M: Memory, R: Reader<&'a [u8]>>
     number: TagNumber,
 ) -> Result<T>
     ensures { let tag = context_tag number.value in
-        let may = Tlv tag (AllocatesWithin T.Decode.may_allocate) in
+        let may = FieldAllocates number.value T.Decode.may_allocate in
         ReadsText T.value (λ v. Tlv tag (T.text v)) may result (R.left reader.old) (R.left reader.new) }
 {
     read_inside(memory, reader, Tag::context(number))
@@ -116,7 +117,7 @@ fn read_inside<'a, T: Decode<&'a [u8], M>, M: Memory, R: Reader<&'a [u8]>>(
     reader: &mut R,
     tag: Tag,
 ) -> Result<T>
-    ensures { let may = Tlv tag.octet (AllocatesWithin T.Decode.may_allocate) in
+    ensures { let may = Tlv tag.octet (AllocatesIn T.Decode.may_allocate) in
         ReadsText T.value (λ v. Tlv tag.octet (T.text v)) may result (R.left reader.old) (R.left reader.new) }
 {
     let header = Header::decode(reader)?;

@@ -2,7 +2,6 @@
 ghost use Rattle.std.specs.Prelude.{◌≡◌, ◌≤◌, ◌+◌, length, None, IsErrAnd};
 ghost use Rattle.der_core.specs.Length.{limit};
 ghost use Rattle.der_core.specs.BackWriters.{free_of, Prepends};
-ghost use Rattle.der_core.specs.Reading.{AllocatesWithin};
 ghost use Rattle.der_core.specs.Writing.{Counts, Appends};
 ghost use Rattle.spki_core.specs.FieldReading.{ReadsField};
 ghost use Rattle.spki_core.specs.FieldWriting.{HasField, written_field};
@@ -20,7 +19,7 @@ pub fn read_field<'a, T: Decode<&'a [u8], M>, M: Memory, R: Reader<&'a [u8]>>(
     number: TagNumber,
     default: T,
 ) -> Result<T>
-    ensures reads { let may = AllocatesWithin T.Decode.may_allocate in
+    ensures reads { let may = T.Decode.may_allocate in
         ReadsField number.value T.value T.text (T.value default) may result (R.left reader.old) (R.left reader.new) }
     ensures failed { R.left reader.old ≡ None → IsErrAnd result (λ e. e.kind ≡ ErrorKind.Failed) }
 {

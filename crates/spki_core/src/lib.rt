@@ -11,6 +11,7 @@ mod strict;
 
 pub use algorithm_identifier::{
     AlgorithmIdentifier, AlgorithmIdentifierRef, AsAlgorithmIdentifierRef,
+    identifier_alone_takes_no_memory,
 };
 pub use any::{AnyParams, AnyRef, AnyValue};
 pub use context_specific::{

@@ -1,0 +1,28 @@
+-- Where reading of algorithm identifiers and of fields may ask for memory.
+use Rattle.std.specs.Prelude.{ℕ, List, ◌⊎◌}
+use Rattle.der_core.specs.Tag.{context_tag, sequence_tag}
+use Rattle.der_core.specs.Tlv.{Tlv}
+use Rattle.der_core.specs.Reading.{AllocatesIn, AllocatesBehind, AllocatesLast}
+use Rattle.spki_core.specs.ObjectIdentifier.{ObjectIdentifier}
+use Rattle.spki_core.specs.Explicit.{field, Defaultable}
+
+-- In an identifier's contents: parameters follow it, and they may ask. Its own text never does.
+abbrev pub AllocatesForParameters : (List ℕ → Type 0) → List ℕ → Type 0
+AllocatesForParameters may_allocate contents = AllocatesBehind ObjectIdentifier (AllocatesLast may_allocate) contents
+
+-- Such contents in their SEQUENCE.
+abbrev pub AlgorithmAllocates : (List ℕ → Type 0) → List ℕ → Type 0
+AlgorithmAllocates may_allocate text = Tlv sequence_tag (AllocatesForParameters may_allocate) text
+
+-- A text of an identifier alone, with no parameters behind it, doesn't ask.
+abbrev pub NothingAskedAlone : (List ℕ → Type 0) → Type 0
+NothingAskedAlone may_allocate = (oid text : List ℕ) → Tlv sequence_tag (ObjectIdentifier oid) text → AllocatesIn may_allocate text → ⊥
+
+-- The value inside the tag [number] may ask.
+abbrev pub FieldAllocates : ℕ → (List ℕ → Type 0) → List ℕ → Type 0
+FieldAllocates number may_allocate text = Tlv (context_tag number) (AllocatesIn may_allocate) text
+
+-- In contents that begin with a field: its value may ask, or what is behind the field may.
+abbrev pub AllocatesFromField : {V : Type 0} → ℕ → (V → List ℕ → Type 0) → V → (List ℕ → Type 0) → (List ℕ → Type 0) → List ℕ → Type 0
+AllocatesFromField number Grammar default may_allocate later contents =
+    AllocatesIn (FieldAllocates number may_allocate) contents ⊎ AllocatesBehind (λ v. Defaultable (field number Grammar default v)) later contents
