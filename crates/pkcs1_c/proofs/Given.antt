@@ -4,9 +4,9 @@ use Rattle.std.specs.Prelude.{Result, Ok, Err, IfErr, OnErr, IsErrAnd}
 use Rattle.der_core.specs.Document.{Means}
 use Rattle.der_core.specs.Length.{limit}
 use Rattle.der_core.specs.Texts.{Joins}
-use Rattle.der_core.specs.Tlv.{Tlv}
 use Rattle.der_core.specs.Integer.{Integer, IntegerContents}
 use Rattle.der_core.specs.IntegerLaws.{canonical_same}
+use Rattle.der_core.proofs.Growing.{contents_shorter}
 use Rattle.pkcs1.specs.Writing.{key_numbers}
 use Rattle.pkcs1.specs.Keys.{PublicKey, PrivateKey, RsaPrivateKey, OtherPrime, OtherPrimeInfo, OtherPrimeInfos}
 use Rattle.pkcs1_c.specs.Given.{HasNoOther, HaveNoOthers}
@@ -26,17 +26,13 @@ pub err_handed : {T E : Type 0} (P : E → Type 0) (first : E) (r : Result T E) 
 err_handed P first (Ok x) same p = absurd same
 err_handed P first (Err e) same p = subst P (sym same) p
 
--- The contents of a text are no longer than the text.
-contents_within : {t most : ℕ} {P : List ℕ → Type 0} (x : List ℕ) (p : Tlv t P x) → length x ≤ most → length p.contents ≤ most
-contents_within x p few = let l = ap length p.written in let k = length-append p.octets p.contents in omega (arith, l, k, few)
-
 -- A number is no longer than its contents, nor than a text that its text stands in.
 contents_hold : (n c : List ℕ) → IntegerContents n c → length n ≤ length c
 contents_hold n c (p, inl a) = omega (arith, ap length a.1)
 contents_hold n c (p, inr a) = omega (arith, ap length a.1)
 
 number_within : {most : ℕ} (n x : List ℕ) → Integer n x → length x ≤ most → length n ≤ most
-number_within n x p few = omega (arith, contents_hold n p.contents p.holds, contents_within x p few)
+number_within n x p few = omega (arith, contents_hold n p.contents p.holds, contents_shorter x p, few)
 
 abbrev pub AreWithin : List (List ℕ) → ℕ → Type 0
 AreWithin [] most = Unit {0}
@@ -58,7 +54,7 @@ private_within key text m =
     let (x, c, version, numbers, e) = m.1.holds in
     let l = ap length e in
     let k = length-append x c in
-    let r = joins_hold (key_numbers key) (OtherPrimeInfos Integer key.other_prime_infos ∷ []) c limit numbers (omega (arith, l, k, contents_within text m.1 m.0)) in
+    let r = joins_hold (key_numbers key) (OtherPrimeInfos Integer key.other_prime_infos ∷ []) c limit numbers (omega (arith, l, k, contents_shorter text m.1, m.0)) in
     let (y, z, others, nil, f) = r.2 in
     let j = ap length f in
     let h = length-append y z in
@@ -66,7 +62,7 @@ private_within key text m =
 
 pub other_within : (other : OtherPrime (List ℕ)) (text : List ℕ) → OtherPrimeInfo Integer other text → length text ≤ limit
     → AreWithin (other.prime ∷ other.exponent ∷ other.coefficient ∷ []) limit
-other_within other text p few = (joins_hold (other.prime ∷ other.exponent ∷ other.coefficient ∷ []) [] p.contents limit p.holds (contents_within text p few)).0
+other_within other text p few = (joins_hold (other.prime ∷ other.exponent ∷ other.coefficient ∷ []) [] p.contents limit p.holds (omega (arith, contents_shorter text p, few))).0
 
 -- One of the primes has no text: so the list has none.
 pub one_has_none : {X : Type 0} (f : X → OtherPrime (List ℕ)) (gs : List X) (i : ℕ) (d : X) → i < length gs → HasNoOther (f (get_or gs i d)) → HaveNoOthers (map f gs)
@@ -85,7 +81,7 @@ one_has_none f (g ∷ gs) (suc i) d l none (o ∷ os) given c (x, r, q, rest, e)
 pub infos_have_none : (given : List (OtherPrime (List ℕ))) → 0 < length given → HaveNoOthers given → (infos : Option (List (OtherPrime (List ℕ))))
     → AreOtherNumbers infos given → (d : List ℕ) → OtherPrimeInfos Integer infos d → length d ≤ limit → ⊥
 infos_have_none given some none None are d p few = omega (arith, some, ap length are)
-infos_have_none given some none (Some others) are d p few = none others are.1 p.1.contents p.1.holds (contents_within d p.1 few)
+infos_have_none given some none (Some others) are d p few = none others are.1 p.1.contents p.1.holds (omega (arith, contents_shorter d p.1, few))
 
 -- Bytes have one number.
 number_same : (bytes m n : List ℕ) → IsNumberOf bytes m → IsNumberOf bytes n → m ≡ n

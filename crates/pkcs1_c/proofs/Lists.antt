@@ -1,5 +1,5 @@
 -- Lists of other primes, one prime longer.
-use Rattle.std.proofs.Common.{ℕ, List, [], ◌∷◌, ◌++◌, ◌≡◌, ◌+◌, ◌<◌, length, append_assoc, map, take, get_or, refl, sym, ap, ◌∙◌, arith}
+use Rattle.std.proofs.Common.{ℕ, List, [], ◌∷◌, ◌++◌, ◌≡◌, ◌+◌, ◌<◌, length, append_assoc, map, take, get_or, sym, ap, ◌∙◌, arith}
 use Rattle.std.specs.Prelude.{set}
 use Rattle.std.proofs.lemmas.List.{map-set, take_more_set, take-map, map_more, length-map, map-append}
 use Rattle.pkcs1.specs.Keys.{OtherPrime}
@@ -24,11 +24,3 @@ others_step f g xs zs zs' i d z l p q e =
     let a : take (i + 1) (map f xs) ≡ take i (map f xs) ++ f (get_or xs i d) ∷ [] = take-map f (i + 1) xs ∙ map_more f xs i d l ∙ ap (λ t. t ++ f (get_or xs i d) ∷ []) (sym (take-map f i xs)) in
     let b : map g zs' ≡ map g zs ++ g z ∷ [] = ap (map g) e ∙ map-append g zs (z ∷ []) in
     rw (a, b) (others_more _ _ _ _ p q)
-
--- The front of what begins with a list.
-take_all : (w rest : List ℕ) → take (length w) (w ++ rest) ≡ w
-take_all [] rest = refl
-take_all (x ∷ w) rest = ap (λ t. x ∷ t) (take_all w rest)
-
-pub front_taken : (w rest out : List ℕ) (n : ℕ) → n ≡ length w → out ≡ w ++ rest → take n out ≡ w
-front_taken w rest out n l e = (λ i. take (l i) (e i)) ∙ take_all w rest

@@ -1,5 +1,5 @@
 -- Which parameters a program can give: those that have texts within the limit can be held.
-use Rattle.std.specs.Prelude.{ℕ, List, ◌≡◌, ◌≤◌, IsTrue, length, Option, Some, None}
+use Rattle.std.specs.Prelude.{◌≡◌, ◌≤◌, IsTrue, length, Option, Some, None}
 use Rattle.der_core.specs.Length.{limit}
 use Rattle.der_core.specs.Tag.{is_allowed}
 use Rattle.spki_core.specs.Any.{TagAndContents}

@@ -1,5 +1,5 @@
 -- Private keys of numbers that a caller gives.
-use Rattle.std.specs.Prelude.{ℕ, List, ◌≡◌, ◌≤◌, length, map, Option, Some, None}
+use Rattle.std.specs.Prelude.{ℕ, List, ◌≡◌, ◌≤◌, length, map, None}
 use Rattle.der_core.specs.Integer.{Integer}
 use Rattle.der_core.specs.Length.{limit}
 use Rattle.der_core.specs.SequenceOf.{ItemsContents}

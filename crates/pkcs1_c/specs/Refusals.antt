@@ -1,13 +1,6 @@
 -- Why a value isn't written.
 use Rattle.std.specs.Prelude.{ℕ, List, ◌≡◌, ◌<◌, length}
-use Rattle.der_core.specs.Document.{Means, IsShortest, IsRefused, HasText}
-use Rattle.der_core.specs.Writing.{encode_refusal}
-use Rattle.pkcs1_params.specs.Refusals.{IsAsn1}
-use Rattle.pkcs1_params.specs.declared.error.Error.{Error}
-
--- The value has no text, none within the limit, or none that fits into so much room, as the refusal tells.
-abbrev pub IsUnwritten : {V : Type 0} → (V → List ℕ → Type 0) → V → ℕ → Error → Type 0
-IsUnwritten Grammar v room = IsAsn1 (λ e. IsRefused (HasText Grammar v) Grammar v room (encode_refusal e.kind))
+use Rattle.der_core.specs.Document.{Means, IsShortest}
 
 -- No text of the value is within the limit.
 abbrev pub HasNoText : {V : Type 0} → (V → List ℕ → Type 0) → V → Type 0

@@ -11,11 +11,11 @@ ghost use Rattle.pkcs1_c.specs.Refusals.{HasNoText, LacksRoom};
 ghost use Rattle.pkcs1_c.specs.StructValues.{private_key_seen, AreListed};
 ghost use Rattle.pkcs1_c.specs.Status.{status_of};
 
-use crate::needed::refusal;
 use crate::private_key::{OtherPrime, PrivateKey, seen_key};
 use crate::status::{OK, status};
-use der_core::{Encode, OctetStringRef};
-use pkcs1::{Error, RsaPrivateKeyView, algorithm_id};
+use crate::written::write_text;
+use der_core::OctetStringRef;
+use pkcs1::{RsaPrivateKeyView, algorithm_id};
 use pkcs8_core::PrivateKeyInfoRef;
 
 /// A container (PrivateKeyInfo of RFC 5208 5) of an RSA key, whose algorithm is rsaEncryption with NULL.
@@ -135,16 +135,8 @@ pub extern "C" fn pkcs1_c_private_key_info_encode(
     ensures unchanged { result ≢ 0 → out.new ≡ out.old }
     ensures kept { result ≢ 0 → result ≢ 15 → len.new ≡ len.old }
 {
-    let made = match info_from(info) {
-        Ok(made) => made,
-        Err(error) => return status(&error),
-    };
-    made.has_text();
-    match made.encode_into(out) {
-        Ok(written) => {
-            *len = written;
-            OK
-        }
-        Err(error) => refusal(&made, &Error::Asn1(error), len),
+    match info_from(info) {
+        Ok(made) => write_text(&made, out, len),
+        Err(error) => status(&error),
     }
 }

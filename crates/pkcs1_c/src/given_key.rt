@@ -10,10 +10,10 @@ ghost use Rattle.pkcs1_c.specs.Refusals.{HasNoText, LacksRoom};
 ghost use Rattle.pkcs1_c.specs.StructValues.{other_prime_seen};
 ghost use Rattle.pkcs1_c.specs.Status.{status_of};
 
-use crate::needed::refusal;
 use crate::numbers::number;
 use crate::private_key::{OtherPrime, PrivateKey};
-use crate::status::{OK, OTHER_PRIMES, status};
+use crate::status::{OTHER_PRIMES, status};
+use crate::written::write_text;
 use der_core::ErrorKind;
 use pkcs1::{Error, OtherPrimeInfo, OtherPrimeInfos, RsaPrivateKey, RsaPrivateKeyRef, UintRef};
 use std::alloc::Global;
@@ -115,15 +115,8 @@ pub extern "C" fn pkcs1_c_private_key_encode(
     if key.other_primes != others.len() {
         return OTHER_PRIMES;
     }
-    let key = match key_from(alloc, key, others) {
-        Ok(key) => key,
-        Err(error) => return status(&error),
-    };
-    match key.encode_key(out) {
-        Ok(written) => {
-            *len = written;
-            OK
-        }
-        Err(error) => refusal(&key, &error, len),
+    match key_from(alloc, key, others) {
+        Ok(key) => write_text(&key, out, len),
+        Err(error) => status(&error),
     }
 }

@@ -4,12 +4,12 @@
 mod algorithm;
 mod container;
 mod given_key;
-mod needed;
 mod numbers;
 mod parameters;
 mod private_key;
 mod public_key;
 mod status;
+mod written;
 
 pub use algorithm::{Algorithm, MaskGen, Oid};
 pub use container::{

@@ -12,8 +12,8 @@ ghost use Rattle.pkcs1_c.specs.StructValues.{pss_seen, oaep_seen};
 use crate::algorithm::{
     Algorithm, MaskGen, algorithm_from, algorithm_view, mask_gen_from, mask_gen_view,
 };
-use crate::needed::refusal;
 use crate::status::{OK, status};
+use crate::written::write_text;
 use der_core::{ErrorKind, Tag};
 use pkcs1::{Error, RsaOaepParams, RsaOaepParamsRef, RsaPssParams, RsaPssParamsRef, TrailerField};
 
@@ -198,16 +198,9 @@ pub extern "C" fn pkcs1_c_pss_params_encode(
     ensures unchanged { result ≢ 0 → out.new ≡ out.old }
     ensures kept { result ≢ 0 → result ≢ 15 → len.new ≡ len.old }
 {
-    let made = match pss_from(params) {
-        Ok(made) => made,
-        Err(error) => return status(&error),
-    };
-    match made.encode_params(out) {
-        Ok(written) => {
-            *len = written;
-            OK
-        }
-        Err(error) => refusal(&made, &error, len),
+    match pss_from(params) {
+        Ok(made) => write_text(&made, out, len),
+        Err(error) => status(&error),
     }
 }
 
@@ -226,15 +219,8 @@ pub extern "C" fn pkcs1_c_oaep_params_encode(
     ensures unchanged { result ≢ 0 → out.new ≡ out.old }
     ensures kept { result ≢ 0 → result ≢ 15 → len.new ≡ len.old }
 {
-    let made = match oaep_from(params) {
-        Ok(made) => made,
-        Err(error) => return status(&error),
-    };
-    match made.encode_params(out) {
-        Ok(written) => {
-            *len = written;
-            OK
-        }
-        Err(error) => refusal(&made, &error, len),
+    match oaep_from(params) {
+        Ok(made) => write_text(&made, out, len),
+        Err(error) => status(&error),
     }
 }

@@ -9,9 +9,9 @@ ghost use Rattle.pkcs1_c.specs.Refusals.{HasNoText, LacksRoom};
 ghost use Rattle.pkcs1_c.specs.StructValues.{public_key_seen};
 ghost use Rattle.pkcs1_c.specs.Status.{status_of};
 
-use crate::needed::refusal;
 use crate::numbers::number;
 use crate::status::{OK, status};
+use crate::written::write_text;
 use pkcs1::{RsaPublicKey, RsaPublicKeyRef};
 
 /// The numbers of a public key, most significant byte first.
@@ -76,15 +76,8 @@ pub extern "C" fn pkcs1_c_public_key_encode(
     ensures unchanged { result ≢ 0 → out.new ≡ out.old }
     ensures kept { result ≢ 0 → result ≢ 15 → len.new ≡ len.old }
 {
-    let key = match key_from(key) {
-        Ok(key) => key,
-        Err(error) => return status(&error),
-    };
-    match key.encode_key(out) {
-        Ok(written) => {
-            *len = written;
-            OK
-        }
-        Err(error) => refusal(&key, &error, len),
+    match key_from(key) {
+        Ok(key) => write_text(&key, out, len),
+        Err(error) => status(&error),
     }
 }

@@ -1,0 +1,32 @@
+//! Writing into a caller's slice.
+ghost use Rattle.std.specs.Prelude.{◌≡◌, ◌≢◌, ◌≤◌, length, take, drop};
+ghost use Rattle.der_core.specs.Document.{IsShortest};
+ghost use Rattle.pkcs1_c.specs.Refusals.{HasNoText, LacksRoom};
+
+use crate::status::{OK, kind_number};
+use der_core::Encode;
+
+/// Writes the shortest text of the value: 0, and then its length in `len`. Where the text has no room, `len` is the length
+/// that it needs.
+pub(crate) fn write_text<T: Encode>(value: &T, out: &mut [u8], len: &mut usize) -> u32
+    ensures ok { result ≡ 0 → IsShortest T.text (T.value value.now) (take len.new out.new) }
+    ensures rest { result ≡ 0 → (len.new ≤ length out.new) × (drop len.new out.new ≡ drop len.new out.old) }
+    ensures no_room { result ≡ 15 → LacksRoom T.text (T.value value.now) (length out.old) len.new }
+    ensures refused { result ≢ 0 → result ≢ 15 → HasNoText T.text (T.value value.now) }
+    ensures memory { result ≢ 17 }
+    ensures unchanged { result ≢ 0 → out.new ≡ out.old }
+    ensures kept { result ≢ 0 → result ≢ 15 → len.new ≡ len.old }
+{
+    match value.encode_into(out) {
+        Ok(written) => {
+            *len = written;
+            OK
+        }
+        Err(error) => {
+            if let Ok(length) = value.encoded_len() {
+                *len = length.to_usize();
+            }
+            kind_number(&error.kind)
+        }
+    }
+}
