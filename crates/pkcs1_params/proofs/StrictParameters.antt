@@ -23,7 +23,15 @@ pub found_among : (values : List FieldValue) → AreNumbered 0 values → (text 
     → WalksOver (defaults_in values) text found → FoundIn (fields_in values) text found
 found_among values numbered text found = text_finds (fields_in values) (defaults_in values) text found (in_order values 0 numbered) (fields_of_bytes values) (marked values 0 numbered)
 
--- Four fields, one after another.
+-- Three or four fields, one after another.
+pub three_defaults : (fields : List FieldRef) (x y z : FieldRef) → length (values_in fields) ≡ 3
+    → (part_in (get_or fields 0 x)).is_default ∷ (part_in (get_or fields 1 y)).is_default ∷ (part_in (get_or fields 2 z)).is_default ∷ [] ≡ defaults_in (values_in fields)
+three_defaults [] x y z three = absurd (omega (arith, three))
+three_defaults (a ∷ []) x y z three = absurd (omega (arith, three))
+three_defaults (a ∷ b ∷ []) x y z three = absurd (omega (arith, three))
+three_defaults (a ∷ b ∷ c ∷ []) x y z three = refl
+three_defaults (a ∷ b ∷ c ∷ d ∷ fields) x y z three = absurd (omega (arith, three))
+
 pub four_defaults : (fields : List FieldRef) (w x y z : FieldRef) → length (values_in fields) ≡ 4
     → (part_in (get_or fields 0 w)).is_default ∷ (part_in (get_or fields 1 x)).is_default ∷ (part_in (get_or fields 2 y)).is_default ∷ (part_in (get_or fields 3 z)).is_default ∷ [] ≡ defaults_in (values_in fields)
 four_defaults [] w x y z four = absurd (omega (arith, four))

@@ -10,5 +10,5 @@ pub returns : goal.returns
 returns c =
     let four = four_defaults c.fields.result c.index-fields-0.result c.index-fields-1.result c.index-fields-2.result c.index-fields-3.result (ap length c.fields.ensures) in
     let same : c.is_default.result ∷ c.is_default-2.result ∷ c.is_default-3.result ∷ c.is_default-4.result ∷ [] ≡ defaults_in (pss_values (pss_of c.args.self.now)) =
-        rw (c.is_default.ensures, c.is_default-2.ensures, c.is_default-3.ensures, c.is_default-4.ensures) (four ∙ ap defaults_in c.fields.ensures) in
+    rw (c.is_default.ensures, c.is_default-2.ensures, c.is_default-3.ensures, c.is_default-4.ensures) (four ∙ ap defaults_in c.fields.ensures) in
     subst (λ defaults. WalksOver defaults c.args.bytes.now (option_map number_in c.written_default.result)) same c.written_default.ensures
