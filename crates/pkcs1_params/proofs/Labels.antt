@@ -1,5 +1,5 @@
 -- Parameters with a label: their texts, by the length of the label.
-use Rattle.std.proofs.Common.{◌≡◌, ℕ, ◌≤◌, ◌<◌, List, [], ◌∷◌, ◌++◌, length, refl, rules, arith, length-append, Bool, true, false, Result, Ok, Err}
+use Rattle.std.proofs.Common.{◌≡◌, ℕ, ◌≤◌, ◌<◌, List, [], ◌∷◌, ◌++◌, length, refl, ap, ◌∙◌, append-nil, rules, arith, length-append, true, false, Result, Ok, Err}
 use Rattle.std.specs.Prelude.{⊤, IfOk, IfErr}
 use Rattle.std.specs.Result.{is_ok}
 use Rattle.der_core.specs.Document.{EncodeRefusal, no_text, too_long, no_room, another}
@@ -11,13 +11,13 @@ use Rattle.der_core.specs.Writing.{Counts, IsUncounted, encode_refusal, joined}
 use Rattle.der_core.specs.declared.error.Error.{Error}
 use Rattle.der_core.specs.declared.error.ErrorKind.TheVariants as kind
 use Rattle.der_core.specs.Counting.{counts_joined}
-use Rattle.spki_core.specs.FieldWriting.{HasField}
 use Rattle.spki_core.specs.IdentifierTest.{is_identifier-sound}
 use Rattle.spki_core.specs.ObjectIdentifier.{IsIdentifier}
-use Rattle.pkcs1_params.specs.HashFieldsWriting.{HasHashFields, written_hash_fields}
 use Rattle.pkcs1_params.specs.OaepLaws.{oaep_relates, oaep_shortest}
 use Rattle.pkcs1_params.specs.OaepValue.{labelled, LabelFits, NoLabelFits}
-use Rattle.pkcs1_params.specs.OaepWriting.{oaep_defaults, HasOaep, written_oaep, written_source, CountsLabelled}
+use Rattle.pkcs1_params.specs.LabelWriting.{written_source, CountsLabelled}
+use Rattle.pkcs1_params.specs.PartLaws.{written_last, have_under}
+use Rattle.pkcs1_params.specs.Parts.{hash_field, mask_gen_field, p_source_field, part_of, parts_of, oaep_values, HasFields, written_fields}
 use Rattle.pkcs1_params.specs.Parameters.{id_mgf1, id_p_specified, OaepParameters, OaepContents}
 
 -- Counted under one premise is counted under another.
@@ -40,18 +40,19 @@ source_written (x ∷ xs) e = refl
 source_held : IsIdentifier id_p_specified
 source_held = is_identifier-sound id_p_specified (search rules) refl
 
-field_holds : {has : Type 0} (out : Bool) → has → HasField out has
-field_holds true h = tt
-field_holds false h = h
-
-pub hash_fields_held : (oid : List ℕ) → IsIdentifier oid → let p = labelled oid [] in HasHashFields (oaep_defaults p).hash (oaep_defaults p).mask_gen p.hash p.mask_gen
-hash_fields_held oid h =
-    let p = labelled oid [] in
-    (field_holds (oaep_defaults p).hash (h, (refl, tt)), field_holds (oaep_defaults p).mask_gen (is_identifier-sound id_mgf1 (search rules) refl, (h, (refl, tt))))
-
-pub labelled_held : (oid label : List ℕ) → IsIdentifier oid → AreBytes label → let p = labelled oid label in HasOaep (oaep_defaults p) p
+pub labelled_held : (oid label : List ℕ) → IsIdentifier oid → AreBytes label → HasFields (oaep_values (labelled oid label)) 0
 labelled_held oid label h bytes =
-    (hash_fields_held oid h, field_holds (oaep_defaults (labelled oid label)).p_source (source_held, (refl, bytes)))
+    have_under (parts_of (oaep_values (labelled oid label))) 0
+    ((h, (refl, tt)), ((is_identifier-sound id_mgf1 (search rules) refl, (h, (refl, tt))), ((source_held, (refl, bytes)), tt)))
+
+-- What is written before the source.
+abbrev written_before : List ℕ → List ℕ
+written_before oid = let p = labelled oid [] in written_fields (hash_field p.hash ∷ mask_gen_field p.mask_gen ∷ []) 0
+
+labelled_written : (oid label : List ℕ) → written_fields (oaep_values (labelled oid label)) 0 ≡ written_before oid ++ written_source label
+labelled_written oid label =
+    let p = labelled oid label in
+    written_last (parts_of (hash_field p.hash ∷ mask_gen_field p.mask_gen ∷ [])) (part_of (p_source_field p.p_source))
 
 -- What is counted of a label.
 pub label_counted : (label : List ℕ) (n : ℕ) (r : Result ℕ Error) → length label ≡ n
@@ -63,17 +64,17 @@ pub source_counted : (label : List ℕ) (identifier octets : Result ℕ Error)
     → Counts (IsIdentifier id_p_specified) (tlv 6 id_p_specified) identifier → Counts ⊤ (tlv 4 label) octets → Counts ⊤ (tlv 6 id_p_specified ++ tlv 4 label) (joined identifier octets)
 source_counted label = counts_joined (tlv 6 id_p_specified) (tlv 4 label) (λ (_ : IsIdentifier id_p_specified) (_ : ⊤). tt) (λ (_ : ⊤). (source_held, tt))
 
--- hashAlgorithm and maskGenAlgorithm are counted.
-abbrev CountsHashFields : OaepParameters → Result ℕ Error → Type 0
-CountsHashFields p r = let out = oaep_defaults p in Counts (HasHashFields out.hash out.mask_gen p.hash p.mask_gen) (written_hash_fields out.hash out.mask_gen p.hash p.mask_gen) r
-
-pub labelled_counted : (oid label : List ℕ) (v : OaepParameters) (hash_fields source : Result ℕ Error) → IsIdentifier oid → v ≡ labelled oid []
-    → CountsHashFields v hash_fields → Counts ⊤ (written_source label) source → let p = labelled oid label in Counts ⊤ (written_oaep (oaep_defaults p) p) (joined hash_fields source)
-labelled_counted oid label v hash_fields source held same c d =
-    let p = labelled oid label in
-    let out = oaep_defaults p in
-    let first : CountsHashFields p hash_fields = rw same at c in
-    counts_joined (written_hash_fields out.hash out.mask_gen p.hash p.mask_gen) (written_source label) (λ (_ : HasHashFields out.hash out.mask_gen p.hash p.mask_gen) (_ : ⊤). tt) (λ (_ : ⊤). (hash_fields_held oid held, tt)) hash_fields source first d
+-- Those without a label are counted, and then the source.
+pub labelled_counted : (oid label : List ℕ) (v : OaepParameters) (contents source : Result ℕ Error) → IsIdentifier oid → v ≡ labelled oid []
+    → Counts (HasFields (oaep_values v) 0) (written_fields (oaep_values v) 0) contents → Counts ⊤ (written_source label) source
+    → Counts ⊤ (written_fields (oaep_values (labelled oid label)) 0) (joined contents source)
+labelled_counted oid label v contents source held same c d =
+    let without = oaep_values (labelled oid []) in
+    let first : Counts (HasFields without 0) (written_fields without 0) contents = rw same at c in
+    let before : written_fields without 0 ≡ written_before oid = labelled_written oid [] ∙ append-nil (written_before oid) in
+    let counted : Counts (HasFields without 0) (written_before oid) contents = rw before at first in
+    rw (labelled_written oid label)
+    (counts_joined (written_before oid) (written_source label) (λ (_ : HasFields without 0) (_ : ⊤). tt) (λ (_ : ⊤). (labelled_held oid [] held tt, tt)) contents source counted d)
 
 -- Where the text is counted, one fits, and else none does.
 pub fits_where_counted : (oid : List ℕ) (n : ℕ) (r : Result ℕ Error) → is_ok r ≡ true
@@ -81,8 +82,8 @@ pub fits_where_counted : (oid : List ℕ) (n : ℕ) (r : Result ℕ Error) → i
 fits_where_counted oid n (Ok m) ok all label bytes e =
     let p = labelled oid label in
     let c = all label bytes e in
-    let few : length (tlv 48 (written_oaep (oaep_defaults p) p)) ≤ limit = omega (arith, c.1, c.2) in
-    (tlv 48 (written_oaep (oaep_defaults p) p), (few, tlv_relates 48 OaepContents (λ v. written_oaep (oaep_defaults v) v) p (oaep_relates p c.0) (omega arith)))
+    let few : length (tlv 48 (written_fields (oaep_values p) 0)) ≤ limit = omega (arith, c.1, c.2) in
+    (tlv 48 (written_fields (oaep_values p) 0), (few, tlv_relates 48 OaepContents (λ v. written_fields (oaep_values v) 0) p (oaep_relates p c.0) (omega arith)))
 fits_where_counted oid n (Err x) ok all label bytes e = cc
 
 pub none_where_uncounted : (oid : List ℕ) (n : ℕ) (r : Result ℕ Error) → is_ok r ≡ false
@@ -90,8 +91,8 @@ pub none_where_uncounted : (oid : List ℕ) (n : ℕ) (r : Result ℕ Error) →
 none_where_uncounted oid n (Ok m) ok all label bytes e text means = cc
 none_where_uncounted oid n (Err x) ok all label bytes e text means =
     let p = labelled oid label in
-    let least = tlv_shortest 48 OaepContents (λ v. written_oaep (oaep_defaults v) v) (λ v. HasOaep (oaep_defaults v) v) oaep_shortest p text means.1 in
-    go (encode_refusal x.kind) (tlv 48 (written_oaep (oaep_defaults p) p)) least.0 (omega (arith, least.1, means.0)) (all label bytes e)
+    let least = tlv_shortest 48 OaepContents (λ v. written_fields (oaep_values v) 0) (λ v. HasFields (oaep_values v) 0) oaep_shortest p text means.1 in
+    go (encode_refusal x.kind) (tlv 48 (written_fields (oaep_values p) 0)) least.0 (omega (arith, least.1, means.0)) (all label bytes e)
   where
     go : {has : Type 0} (k : EncodeRefusal) (octets : List ℕ) → has → length octets ≤ limit → IsUncounted has octets k → ⊥
     go no_text octets h few u = u h
@@ -114,7 +115,6 @@ pub label_within : (oid label : List ℕ) → AreBytes label → LabelFits oid (
 label_within oid label bytes fits =
     let p = labelled oid label in
     let means = fits label bytes refl in
-    let least = tlv_shortest 48 OaepContents (λ v. written_oaep (oaep_defaults v) v) (λ v. HasOaep (oaep_defaults v) v) oaep_shortest p means.0 means.1.1 in
-    let out = oaep_defaults p in
-    let hash_fields = written_hash_fields out.hash out.mask_gen p.hash p.mask_gen in
-    omega (arith, source_longer label, length-append hash_fields (written_source label), tlv_longer 48 (hash_fields ++ written_source label), least.1, means.1.0)
+    let least = tlv_shortest 48 OaepContents (λ v. written_fields (oaep_values v) 0) (λ v. HasFields (oaep_values v) 0) oaep_shortest p means.0 means.1.1 in
+    let written = labelled_written oid label in
+    omega (arith, source_longer label, ap length written, length-append (written_before oid) (written_source label), tlv_longer 48 (written_fields (oaep_values p) 0), least.1, means.1.0)

@@ -1,11 +1,10 @@
 pub mod ParameterRows
 pub mod ParameterSpellings
 pub mod Masks
-pub mod Counting
-pub mod ParameterWrites
 pub mod Trailers
 pub mod HashFieldsReads
 pub mod PssReads
 pub mod StrictParameters
 pub mod OaepReads
 pub mod Labels
+pub mod ParameterWrites

@@ -1,22 +1,39 @@
 -- Spellings under masks: what writing tells of them.
 use Rattle.std.proofs.Common.{ℕ, suc, List, [], ◌∷◌, ◌++◌, ◌≡◌, ◌<◌, ◌^◌, ◌⊎◌, inl, inr, length, length-append, map, ◌+◌, ap, ◌∙◌, arith}
 use Rattle.std.specs.Global.{Vec}
+use Rattle.std.specs.Prelude.{Result, Ok, Err, IfOk, IfErr}
 use Rattle.std.proofs.lemmas.Bool.{cases_lt}
 use Rattle.std.proofs.lemmas.List.{map-append}
 use Rattle.std.proofs.lemmas.Nat.{pow_pos}
 use Rattle.std.proofs.Math.ListN.{get_or-append}
 use Rattle.std.proofs.Math.Seq.{get_or-append_seam}
-use Rattle.der_core.specs.Document.{IsRefused, EncodeRefusal, no_text, too_long, no_room, another}
+use Rattle.der_core.specs.Document.{IsRefused, IsShortest, HasText, EncodeRefusal, no_text, too_long, no_room, another}
+use Rattle.der_core.specs.Texts.{Joins}
+use Rattle.der_core.specs.Writing.{encode_refusal}
 use Rattle.der_core.specs.Tlv.{Tlv}
 use Rattle.der_core.specs.declared.error.ErrorKind.{ErrorKind}
 use Rattle.der_core.specs.declared.error.ErrorKind.TheVariants.{OutOfMemory, Overflow}
 use Rattle.der_core.specs.TextLaws.{tlv_made}
-use Rattle.spki_core.specs.Explicit.{Field, HaveDefaults, MaskedContents, Masked}
+use Rattle.spki_core.specs.Explicit.{Field, Defaultable, HaveDefaults, MaskedContents, Masked}
 use Rattle.spki_core.proofs.Fields.{AreInOrder, defaults_same}
-use Rattle.spki_core.proofs.Spellings.{one_mask, masked_fits, last_is_all, all_is_last, members_under, zero_shortest}
-use Rattle.pkcs1_params.specs.MaskedValues.{MaskedValue, MaskedValueContents, InRange}
-use Rattle.pkcs1_params.specs.Spellings.{IsMask, AllFit, IsSpelling, HasNoSpelling, StandsUnder, WhyUnspelled, AreUnder, AreMasks, AreAllSpellings, texts_in}
+use Rattle.spki_core.proofs.Spellings.{one_mask, masked_fits, last_is_all, all_is_last, members_under, zero_fits, zero_shortest}
+use Rattle.pkcs1_params.specs.MaskedValues.{MaskedValue, InRange}
+use Rattle.pkcs1_params.specs.Spellings.{IsMask, AllFit, IsSpelling, HasNoSpelling, StandsUnder, WhyUnspelled, IsUnspelled, AreUnder, AreMasks, AreAllSpellings, texts_in}
+use Rattle.pkcs1_params.specs.declared.error.Error.{Error}
+use Rattle.pkcs1_params.specs.declared.error.Error.TheVariants as error
+use Rattle.pkcs1_params.specs.FieldValueLaws.{ordered}
+use Rattle.pkcs1_params.specs.Meanings.{IsNotWritten}
+use Rattle.pkcs1_params.specs.PartLaws.{parts_counted, parts_hold}
+use Rattle.pkcs1_params.specs.Parts.{FieldValue, AreNumbered, parts_of, fields_with, Fielded, HasFields, written_fields}
 use Rattle.pkcs1_params.proofs.ParameterSpellings.{each_has_one_mask}
+
+pub if_ok_as : {A E : Type 0} {P Q : A → Type 0} (r : Result A E) → ((a : A) → P a → Q a) → IfOk r P → IfOk r Q
+if_ok_as (Ok a) f p = f a p
+if_ok_as (Err e) f p = tt
+
+pub if_err_as : {A E : Type 0} {P Q : E → Type 0} (r : Result A E) → ((e : E) → P e → Q e) → IfErr r P → IfErr r Q
+if_err_as (Ok a) f p = tt
+if_err_as (Err e) f p = f e p
 
 module _ {V : Type 0} (fields : V → List Field) (v : V) (mask : ℕ) where
   pub stands_under : ((w : V) → AreInOrder (fields w)) → (text : List ℕ) → IsSpelling (fields v) mask text → StandsUnder fields v mask text
@@ -28,7 +45,7 @@ module _ {V : Type 0} (fields : V → List Field) (v : V) (mask : ℕ) where
 
   -- A refusal of a value that has a text under the mask.
   pub unspelled_as : (has : Type 0) (room : ℕ) → (text : List ℕ) × Masked (fields v) mask text → (k : EncodeRefusal)
-      → IsRefused has (λ (w : MaskedValue V). Tlv 48 (MaskedValueContents fields w)) (record { value = v; mask = mask }) room k → WhyUnspelled (fields v) mask room k
+      → IsRefused has (λ (w : MaskedValue V). Tlv 48 (MaskedContents (fields w.value) w.mask)) (record { value = v; mask = mask }) room k → WhyUnspelled (fields v) mask room k
   unspelled_as has room made no_text h = h made.0 made.1
   unspelled_as has room made too_long h = h.1
   unspelled_as has room made no_room h = (h.0, h.1.spells, h.2)
@@ -97,3 +114,38 @@ are_all fields ordered v n texts masks under =
       under = λ mask below. under.1 mask (omega (arith, below, under.0));
       shortest = zero_shortest fields ordered v k _ masks.1 first.1 first.0;
     }
+
+-- The shortest text, which is the one under mask 0.
+module _ {V : Type 0} (values : V → List FieldValue) (numbered : (v : V) → AreNumbered 0 (values v)) (v : V) where
+  pub zero_in_range : IsMask (fields_with values v) 0
+  zero_in_range = let k = parts_counted (parts_of (values v)) in (k.0, k.1, omega (arith, pow_pos k.0))
+
+  pub zero_is_shortest : (text : List ℕ) → IsSpelling (fields_with values v) 0 text → IsShortest (Fielded values) v text
+  zero_is_shortest text p = let k = parts_counted (parts_of (values v)) in zero_shortest (fields_with values) (ordered values numbered) v k.0 text k.1 p.1 p.0
+
+  -- A value with contents that memory holds has a text.
+  has_text : HasFields (values v) 0 × (length (written_fields (values v) 0) < 2 ^ 64) → HasText (Fielded values) v
+  has_text held =
+      let contents = written_fields (values v) 0 in
+      let made = tlv_made 48 (λ c. Joins (map Defaultable (fields_with values v)) c) contents (parts_hold (parts_of (values v)) held.0 (omega (arith, held.1))) (omega (arith, held.1)) in
+      (made.0, made.1)
+
+  unwritten_as : (room : ℕ) → HasFields (values v) 0 × (length (written_fields (values v) 0) < 2 ^ 64)
+      → (k : EncodeRefusal) → WhyUnspelled (fields_with values v) 0 room k → IsRefused (HasText (Fielded values) v) (Fielded values) v room k
+  unwritten_as room held no_text h = absurd h
+  unwritten_as room held too_long h = (
+    has_text held,
+    λ text means.
+        let k = parts_counted (parts_of (values v)) in
+        let zero = zero_fits (fields_with values v) k.0 text k.1 means.1 means.0 in
+        h zero.0 (omega (arith, zero.2, means.0), zero.1),
+  )
+  unwritten_as room held no_room h = (h.0, zero_is_shortest h.0 h.1, h.2)
+  unwritten_as room held another h = h
+
+  pub not_written : (room : ℕ) → HasFields (values v) 0 × (length (written_fields (values v) 0) < 2 ^ 64)
+      → (e : Error) → IsUnspelled (fields_with values v) 0 room e → IsNotWritten (Fielded values) v room e
+  not_written room held (error.Asn1 e) h = unwritten_as room held (encode_refusal e.kind) h
+  not_written room held error.Crypto h = h
+  not_written room held error.KeyMalformed h = h
+  not_written room held error.Version h = h

@@ -1,18 +1,16 @@
 -- hashAlgorithm and maskGenAlgorithm: each text means one value and is bytes, and what is written is the shortest text.
-use Rattle.std.proofs.Common.{ℕ, List, [], ◌∷◌, ◌++◌, ◌≡◌, ◌<◌, ◌≤◌, ◌^◌, map, length, length-append, append_assoc, refl, arith}
+use Rattle.std.proofs.Common.{ℕ, List, [], ◌∷◌, ◌≡◌, ◌<◌, ◌≤◌, ◌^◌, map, length, refl, arith}
 use Rattle.der_core.specs.Tag.{sequence_tag}
 use Rattle.der_core.specs.Texts.{IsOfBytes, Joins}
-use Rattle.der_core.specs.TextLaws.{tlv_of_bytes, tlv_relates, tlv_shortest, then_holds, then_least}
+use Rattle.der_core.specs.TextLaws.{tlv_of_bytes, tlv_relates, tlv_shortest}
 use Rattle.der_core.specs.Writing.{IsLeast}
 use Rattle.spki_core.specs.Any.{TagAndContents, IsAny, Any, written_any}
 use Rattle.spki_core.specs.AnyLaws.{any_of_bytes, any_relates, any_shortest}
-use Rattle.spki_core.specs.AlgorithmIdentifier.{Algorithm, AlgorithmContents, PlainAlgorithm, MaskAlgorithm, HasPlain, HasMask, written_algorithm, written_plain, written_mask, same_plain, same_mask}
-use Rattle.spki_core.specs.AlgorithmLaws.{plain_delimited, mask_delimited, algorithm_of_bytes, algorithm_relates, algorithm_shortest, same_plain_decides, same_mask_decides}
+use Rattle.spki_core.specs.AlgorithmIdentifier.{Algorithm, AlgorithmContents, PlainAlgorithm, MaskAlgorithm, HasPlain, HasMask, written_algorithm, written_plain, written_mask}
+use Rattle.spki_core.specs.AlgorithmLaws.{plain_delimited, mask_delimited, algorithm_of_bytes, algorithm_relates, algorithm_shortest}
 use Rattle.spki_core.specs.Explicit.{Field, field, Defaultable}
-use Rattle.spki_core.specs.FieldLaws.{AreLater, AreOfBytes, value_step, field_relates, field_shortest}
-use Rattle.spki_core.specs.FieldWriting.{written_field}
+use Rattle.spki_core.specs.FieldLaws.{AreLater, value_step}
 use Rattle.pkcs1_params.specs.Parameters.{sha1, mgf1_sha1, hash_fields_then}
-use Rattle.pkcs1_params.specs.HashFieldsWriting.{HasHashFields, written_hash_fields}
 
 -- Later than a field is later than an earlier one.
 pub later_still : (m n : ℕ) (fields : List Field) → m ≤ n → AreLater n fields → AreLater m fields
@@ -31,11 +29,8 @@ hash_fields_step h h' g g' fs gs lf lg c p q =
 pub plain_of_bytes : IsOfBytes PlainAlgorithm
 plain_of_bytes = tlv_of_bytes sequence_tag refl (AlgorithmContents Any) (algorithm_of_bytes Any any_of_bytes)
 
-mask_of_bytes : IsOfBytes MaskAlgorithm
+pub mask_of_bytes : IsOfBytes MaskAlgorithm
 mask_of_bytes = tlv_of_bytes sequence_tag refl (AlgorithmContents PlainAlgorithm) (algorithm_of_bytes PlainAlgorithm plain_of_bytes)
-
-pub hash_fields_of_bytes : (h : Algorithm TagAndContents) (g : Algorithm (Algorithm TagAndContents)) (later : List Field) → AreOfBytes later → AreOfBytes (hash_fields_then h g later)
-hash_fields_of_bytes h g later all = (omega arith, plain_of_bytes h, (omega arith, mask_of_bytes g, all))
 
 -- What is written of an identifier.
 pub plain_relates : (v : Algorithm TagAndContents) → HasPlain v → length (written_plain v) < 2 ^ 128 → PlainAlgorithm v (written_plain v)
@@ -49,28 +44,3 @@ mask_relates v h fits = tlv_relates sequence_tag (AlgorithmContents PlainAlgorit
 
 pub mask_shortest : (v : Algorithm (Algorithm TagAndContents)) (b : List ℕ) → MaskAlgorithm v b → IsLeast (HasMask v) (written_mask v) b
 mask_shortest = tlv_shortest sequence_tag (AlgorithmContents PlainAlgorithm) (written_algorithm written_plain) HasMask (algorithm_shortest PlainAlgorithm HasPlain written_plain plain_shortest)
-
--- What is written of both fields, and behind them.
-module _ (hash : Algorithm TagAndContents) (mask_gen : Algorithm (Algorithm TagAndContents)) (fields : List Field) (later : List ℕ) where
-  pub hash_fields_relate : HasHashFields (same_plain hash sha1) (same_mask mask_gen mgf1_sha1) hash mask_gen
-      → length (written_hash_fields (same_plain hash sha1) (same_mask mask_gen mgf1_sha1) hash mask_gen ++ later) < 2 ^ 128 → Joins (map Defaultable fields) later
-      → Joins (map Defaultable (hash_fields_then hash mask_gen fields)) (written_hash_fields (same_plain hash sha1) (same_mask mask_gen mgf1_sha1) hash mask_gen ++ later)
-  hash_fields_relate h fits p =
-      let a = written_field (same_plain hash sha1) 0 (written_plain hash) in
-      let b = written_field (same_mask mask_gen mgf1_sha1) 1 (written_mask mask_gen) in
-      let split = append_assoc a b later in
-      let l = length-append (a ++ b) later in
-      let m = length-append a b in
-      rw split
-      (then_holds a (b ++ later) (field_relates 0 PlainAlgorithm sha1 hash (same_plain hash sha1) (written_plain hash) (same_plain_decides hash sha1) (plain_relates hash) h.0 (omega (arith, l, m, fits)))
-      (then_holds b later (field_relates 1 MaskAlgorithm mgf1_sha1 mask_gen (same_mask mask_gen mgf1_sha1) (written_mask mask_gen) (same_mask_decides mask_gen mgf1_sha1) (mask_relates mask_gen) h.1 (omega (arith, l, m, fits))) p))
-
-  pub hash_fields_shortest : {has : Type 0} → ((c : List ℕ) → Joins (map Defaultable fields) c → IsLeast has later c)
-      → (c : List ℕ) → Joins (map Defaultable (hash_fields_then hash mask_gen fields)) c
-      → IsLeast (HasHashFields (same_plain hash sha1) (same_mask mask_gen mgf1_sha1) hash mask_gen × has) (written_hash_fields (same_plain hash sha1) (same_mask mask_gen mgf1_sha1) hash mask_gen ++ later) c
-  hash_fields_shortest least c p =
-      let a = written_field (same_plain hash sha1) 0 (written_plain hash) in
-      let b = written_field (same_mask mask_gen mgf1_sha1) 1 (written_mask mask_gen) in
-      let s = then_least a (b ++ later) (field_shortest 0 PlainAlgorithm HasPlain written_plain sha1 hash (same_plain hash sha1) (same_plain_decides hash sha1) plain_shortest)
-      (then_least b later (field_shortest 1 MaskAlgorithm HasMask written_mask mgf1_sha1 mask_gen (same_mask mask_gen mgf1_sha1) (same_mask_decides mask_gen mgf1_sha1) mask_shortest) least) c p in
-      rw (append_assoc a b later) (((s.0.0, s.0.1.0), s.0.1.1), s.1, s.2)

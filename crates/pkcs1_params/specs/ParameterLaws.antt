@@ -1,15 +1,14 @@
 -- Parameters: each text means one value, the fields stand in rising order, and no text of them begins with an INTEGER.
 use Rattle.std.proofs.Common.{ℕ, List, [], ◌++◌, map, refl, arith}
 use Rattle.der_core.specs.Tag.{integer_tag, sequence_tag}
-use Rattle.der_core.specs.Texts.{IsDelimited, AtMostOne, Joins, Then}
+use Rattle.der_core.specs.Texts.{IsDelimited, Joins, Then}
 use Rattle.der_core.specs.Tlv.{Tlv}
 use Rattle.der_core.specs.TextLaws.{tlv_split, tlv_delimited}
-use Rattle.der_core.specs.IntegerLaws.{small_at_most_one}
-use Rattle.der_core.proofs.Growing.{tlv_recast}
 use Rattle.spki_core.specs.Explicit.{Field, Defaultable, FieldSequence}
-use Rattle.spki_core.specs.AlgorithmTexts.{plain_at_most_one, mask_at_most_one}
 use Rattle.spki_core.proofs.Fields.{AreInOrder, fields_start}
-use Rattle.pkcs1_params.specs.Parameters.{TrailerField, PssParameters, PssContents, RsaPssParams, pss_fields, OaepParameters, OaepContents, RsaOaepParams, oaep_fields}
+use Rattle.pkcs1_params.specs.Parameters.{PssParameters, PssContents, RsaPssParams, pss_fields, OaepParameters, OaepContents, RsaOaepParams, oaep_fields}
+use Rattle.pkcs1_params.specs.FieldValueLaws.{in_order}
+use Rattle.pkcs1_params.specs.Parts.{AreNumbered, pss_values, oaep_values}
 use Rattle.pkcs1_params.specs.PssLaws.{pss_means_one}
 use Rattle.pkcs1_params.specs.OaepLaws.{oaep_means_one}
 
@@ -19,34 +18,17 @@ pss_delimited = tlv_delimited sequence_tag PssContents pss_means_one
 pub oaep_delimited : IsDelimited RsaOaepParams
 oaep_delimited = tlv_delimited sequence_tag OaepContents oaep_means_one
 
-trailer_at_most_one : (n : ℕ) → AtMostOne (TrailerField n)
-trailer_at_most_one n x y p q = small_at_most_one n x y (tlv_recast x p p.holds.1) (tlv_recast y q q.holds.1)
+pub pss_numbered : (p : PssParameters) → AreNumbered 0 (pss_values p)
+pss_numbered p = (refl, (refl, (refl, (refl, tt))))
+
+pub oaep_numbered : (p : OaepParameters) → AreNumbered 0 (oaep_values p)
+oaep_numbered p = (refl, (refl, (refl, tt)))
 
 pub pss_in_order : (p : PssParameters) → AreInOrder (pss_fields p)
-pss_in_order p = (
-  plain_at_most_one p.hash,
-  (omega arith, (omega arith, (omega arith, tt))),
-  (
-    mask_at_most_one p.mask_gen,
-    (omega arith, (omega arith, tt)),
-    (
-      small_at_most_one p.salt_len,
-      (omega arith, tt),
-      (trailer_at_most_one p.trailer_field, tt, tt),
-    ),
-  ),
-)
+pss_in_order p = in_order (pss_values p) 0 (pss_numbered p)
 
 pub oaep_in_order : (p : OaepParameters) → AreInOrder (oaep_fields p)
-oaep_in_order p = (
-  plain_at_most_one p.hash,
-  (omega arith, (omega arith, tt)),
-  (
-    mask_at_most_one p.mask_gen,
-    (omega arith, tt),
-    (plain_at_most_one p.p_source, tt, tt),
-  ),
-)
+oaep_in_order p = in_order (oaep_values p) 0 (oaep_numbered p)
 
 -- A joining that begins with an INTEGER is no joining of fields.
 integer_not_fields : {P Rest : List ℕ → Type 0} (fields : List Field) (c : List ℕ) → Then (Tlv integer_tag P) Rest c → Joins (map Defaultable fields) c → ⊥

@@ -1,23 +1,16 @@
 //! What both sets of parameters begin with: hashAlgorithm and maskGenAlgorithm.
-ghost use Rattle.std.specs.Prelude.{◌≡◌, ◌≤◌, ◌∷◌, [], refl, length};
-ghost use Rattle.der_core.specs.Length.{limit};
-ghost use Rattle.der_core.specs.BackWriters.{free_of, Prepends};
+ghost use Rattle.std.specs.Prelude.{◌≡◌, ◌∷◌, [], refl};
 ghost use Rattle.spki_core.specs.Allocating.{AlgorithmAllocates};
-ghost use Rattle.der_core.specs.Writing.{Counts, Appends};
 ghost use Rattle.spki_core.specs.Any.{null_value};
 ghost use Rattle.spki_core.specs.AlgorithmIdentifier.{PlainAlgorithm, MaskAlgorithm, same_plain, same_mask};
 ghost use Rattle.spki_core.specs.AlgorithmValue.{algorithm_with, algorithm_of, mask_of};
 ghost use Rattle.spki_core.specs.FieldReading.{ReadsField};
 ghost use Rattle.pkcs1_params.specs.Parameters.{id_sha1, id_mgf1, with_parameters, sha1, mgf1_sha1};
-ghost use Rattle.pkcs1_params.specs.HashFieldsWriting.{HasBoth, written_both};
 
-use der_core::{
-    BackWriter, Decode, Length, Memory, Reader, Result, Tag, TagNumber, Writer, joined_len,
-};
+use der_core::{Decode, Memory, Reader, Result, Tag, TagNumber};
 use spki_core::{
     AlgorithmIdentifier, AlgorithmIdentifierRef, AnyParams, AnyRef, AnyValue,
-    AsAlgorithmIdentifierRef, AssociatedOid, ObjectIdentifier, encode_field, field_len,
-    is_field_next, prepend_field, read_explicit,
+    AsAlgorithmIdentifierRef, AssociatedOid, ObjectIdentifier, is_field_next, read_explicit,
 };
 
 /// SHA-1.
@@ -138,59 +131,5 @@ pub(crate) fn read_mask_gen<
         read_explicit(memory, reader, TagNumber::new(1))
     } else {
         Ok(mgf1_with::<Sha1, P, M>(memory))
-    }
-}
-
-/// Both, borrowed, and which of them are left out when they are written.
-#[derive(Clone, Copy, Drop)]
-pub(crate) struct HashFields<'b> {
-    pub(crate) hash: &'b AlgorithmIdentifierRef<'b>,
-    pub(crate) hash_left_out: bool,
-    pub(crate) mask_gen: &'b MaskGenRef<'b>,
-    pub(crate) mask_gen_left_out: bool,
-}
-
-impl HashFields<'_> {
-    /// How many octets both have.
-    pub(crate) fn len(&self) -> Result<Length>
-        ensures { Counts (HasBoth self.now) (written_both self.now) result }
-    {
-        joined_len(
-            field_len(self.hash_left_out, TagNumber::new(0), self.hash),
-            field_len(self.mask_gen_left_out, TagNumber::new(1), self.mask_gen),
-        )
-    }
-
-    /// Appends both.
-    pub(crate) fn encode<W: Writer>(&self, writer: &mut W) -> Result<()>
-        requires has { HasBoth self.now }
-        requires fits { length (written_both self.now) ≤ limit }
-        ensures appends { let d = self.now in
-            Appends (HasBoth d) (written_both d) W.room W.written writer.old writer.new result }
-        ensures kept { W.keeps writer.old writer.new }
-    {
-        encode_field(self.hash_left_out, TagNumber::new(0), self.hash, writer)?;
-        encode_field(
-            self.mask_gen_left_out,
-            TagNumber::new(1),
-            self.mask_gen,
-            writer,
-        )
-    }
-
-    /// Puts both before what is filled.
-    pub(crate) fn prepend(&self, writer: &mut BackWriter<'_>)
-        requires has { HasBoth self.now }
-        requires fits { length (written_both self.now) ≤ limit }
-        requires room { length (written_both self.now) ≤ free_of writer.old }
-        ensures { Prepends (written_both self.now) writer.old writer.new }
-    {
-        prepend_field(
-            self.mask_gen_left_out,
-            TagNumber::new(1),
-            self.mask_gen,
-            writer,
-        );
-        prepend_field(self.hash_left_out, TagNumber::new(0), self.hash, writer);
     }
 }

@@ -4,12 +4,12 @@ ghost use Rattle.der_core.specs.Tlv.{tlv};
 ghost use Rattle.der_core.specs.Texts.{AreBytes};
 ghost use Rattle.der_core.specs.Writing.{Counts};
 ghost use Rattle.pkcs1_params.specs.OaepValue.{oaep_of, labelled, LabelFits, NoLabelFits};
-ghost use Rattle.pkcs1_params.specs.OaepWriting.{written_source, CountsLabelled};
+ghost use Rattle.pkcs1_params.specs.LabelWriting.{written_source, CountsLabelled};
 
 use crate::hash_fields::{mgf1_with, with_null};
 use crate::oaep::{RsaOaepParams, RsaOaepParamsRef};
 use crate::p_source::{PSpecified, source_of};
-use der_core::{Encode, Length, NoMemory, Result, Tag, TagNumber, joined_len};
+use der_core::{Encode, EncodeValue, Length, NoMemory, Result, Tag, TagNumber, joined_len};
 use spki_core::{AnyRef, AssociatedOid, ObjectIdentifier};
 
 impl<'a> RsaOaepParams<AnyRef<'a>> {
@@ -59,7 +59,6 @@ fn source_len(len: usize) -> Result<Length>
 fn labelled_len<D: AssociatedOid>(len: usize) -> Result<Length>
     ensures { (label : List ℕ) → AreBytes label → length label ≡ len → CountsLabelled D.contents label result }
 {
-    let params = RsaOaepParamsRef::new::<D>();
-    let hash_fields = params.hash_fields(params.defaults()).len();
+    let hash_fields = RsaOaepParamsRef::new::<D>().value_len();
     tagged_len(joined_len(hash_fields, source_len(len)), Tag::SEQUENCE)
 }

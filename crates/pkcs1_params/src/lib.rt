@@ -2,6 +2,7 @@
 #![tactic(auto)]
 
 mod error;
+mod fields;
 mod hash_fields;
 mod label;
 mod laws;

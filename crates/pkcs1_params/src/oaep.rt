@@ -2,20 +2,20 @@
 ghost use Rattle.std.specs.Prelude.{◌≡◌, ◌≤◌, [], refl, length, OnOk, IfErr};
 ghost use Rattle.pkcs1_params.specs.Allocating.{OaepAllocates};
 ghost use Rattle.pkcs1_params.specs.Parameters.{OaepParameters, OaepContents, oaep_fields, sha1, mgf1_sha1, empty_label};
-ghost use Rattle.pkcs1_params.specs.OaepWriting.{oaep_defaults, HasOaep, written_oaep};
+ghost use Rattle.pkcs1_params.specs.Parts.{oaep_values, HasFields, written_fields};
 ghost use Rattle.pkcs1_params.specs.OaepLaws.{oaep_means_one, oaep_of_bytes, oaep_relates, oaep_shortest};
 
 use crate::error::{Error, Result};
 use crate::hash_fields::{Sha1, mask_gen_ref, mgf1_with, read_hash, read_mask_gen, with_null};
 use crate::p_source::{empty_source, read_source};
-use crate::strict::is_written;
+use crate::spelling::{DefaultFields, encode_shortest};
+use crate::strict::refuse_defaults;
 use der_core::{
-    BackWriter, Contents, Decode, DecodeValue, Encode, EncodeValue, EqualByValue, Header, Length,
-    Memory, NoMemory, Reader, Sequence, SequenceTag, TaggedBy, TryClone, Writer,
+    BackWriter, Contents, Decode, DecodeValue, EncodeValue, EqualByValue, Header, Length, Memory,
+    NoMemory, Reader, Sequence, SequenceTag, TaggedBy, TryClone, Writer,
 };
 use spki_core::{
     AlgorithmIdentifier, Any, AnyParams, AnyRef, AnyValue, AsAlgorithmIdentifierRef, AssociatedOid,
-    written_default,
 };
 use std::alloc::Global;
 
@@ -45,9 +45,9 @@ impl<P: AnyValue> Contents for RsaOaepParams<P> {
 
     ghost contents = { OaepContents };
 
-    ghost has_contents = { λ p. HasOaep (oaep_defaults p) p };
+    ghost has_contents = { λ p. HasFields (oaep_values p) 0 };
 
-    ghost written_contents = { λ p. written_oaep (oaep_defaults p) p };
+    ghost written_contents = { λ p. written_fields (oaep_values p) 0 };
 
     ghost means_one = { oaep_means_one };
 
@@ -120,24 +120,21 @@ impl<P: AnyValue> RsaOaepParams<P> {
         ensures unchanged { OnErr result (out.new ≡ out.old) }
         ensures err { IfErr result (IsNotWritten grammar.RsaOaepParams (oaep_with P.any self.now) (length out.old)) }
     {
-        Ok(self.as_params_ref().encode_into(out)?)
+        encode_shortest(&self.as_params_ref(), out)
     }
 }
 
 impl<P: AnyValue> EncodeValue for RsaOaepParams<P> {
     fn value_len(&self) -> der_core::Result<Length> {
-        let params = self.as_params_ref();
-        params.len_without(params.defaults())
+        self.as_params_ref().len_under(0)
     }
 
     fn encode_value<W: Writer>(&self, writer: &mut W) -> der_core::Result<()> {
-        let params = self.as_params_ref();
-        params.encode_without(params.defaults(), writer)
+        self.as_params_ref().encode_under(0, writer)
     }
 
     fn prepend_value(&self, writer: &mut BackWriter<'_>) {
-        let params = self.as_params_ref();
-        params.prepend_without(params.defaults(), writer);
+        self.as_params_ref().prepend_under(0, writer);
     }
 
     ghost contents_relate = { oaep_relates };
@@ -238,12 +235,8 @@ impl<'a> RsaOaepParams<AnyRef<'a>> {
         ensures asn1 { IfErr result (IsAsn1 (λ e. TellsOfBytes e.kind)) }
     {
         let params = RsaOaepParams::try_from(bytes)?;
-        let defaults = params.defaults();
-        let defaults = [defaults.hash, defaults.mask_gen, defaults.p_source];
-        match written_default(bytes, &defaults) {
-            Some(number) => Err(is_written(number)),
-            None => Ok(params),
-        }
+        refuse_defaults(&params, bytes)?;
+        Ok(params)
     }
 }
 

@@ -3,20 +3,21 @@ ghost use Rattle.std.specs.Prelude.{◌≡◌, ◌≤◌, refl, length, OnOk, If
 ghost use Rattle.pkcs1_params.specs.Allocating.{PssAllocates};
 ghost use Rattle.spki_core.specs.Any.{null_value};
 ghost use Rattle.pkcs1_params.specs.Parameters.{PssParameters, PssContents, pss_fields, with_parameters, id_mgf1, sha1, mgf1_sha1};
-ghost use Rattle.pkcs1_params.specs.PssWriting.{pss_defaults, HasPss, written_pss};
+ghost use Rattle.pkcs1_params.specs.Parts.{pss_values, HasFields, written_fields};
 ghost use Rattle.pkcs1_params.specs.PssLaws.{pss_means_one, pss_of_bytes, pss_relates, pss_shortest};
 
 use crate::error::{Error, Result};
 use crate::hash_fields::{Sha1, mask_gen_ref, mgf1_with, read_hash, read_mask_gen, with_null};
-use crate::strict::is_written;
+use crate::spelling::{DefaultFields, encode_shortest};
+use crate::strict::refuse_defaults;
 use crate::trailer_field::TrailerField;
 use der_core::{
-    BackWriter, Contents, Decode, DecodeValue, Encode, EncodeValue, EqualByValue, Header, Length,
-    Memory, NoMemory, Reader, Sequence, SequenceTag, TagNumber, TaggedBy, TryClone, Writer,
+    BackWriter, Contents, Decode, DecodeValue, EncodeValue, EqualByValue, Header, Length, Memory,
+    NoMemory, Reader, Sequence, SequenceTag, TagNumber, TaggedBy, TryClone, Writer,
 };
 use spki_core::{
     AlgorithmIdentifier, Any, AnyParams, AnyRef, AnyValue, AsAlgorithmIdentifierRef, AssociatedOid,
-    read_field, written_default,
+    read_field,
 };
 use std::alloc::Global;
 
@@ -48,9 +49,9 @@ impl<P: AnyValue> Contents for RsaPssParams<P> {
 
     ghost contents = { PssContents };
 
-    ghost has_contents = { λ p. HasPss (pss_defaults p) p };
+    ghost has_contents = { λ p. HasFields (pss_values p) 0 };
 
-    ghost written_contents = { λ p. written_pss (pss_defaults p) p };
+    ghost written_contents = { λ p. written_fields (pss_values p) 0 };
 
     ghost means_one = { pss_means_one };
 
@@ -130,24 +131,21 @@ impl<P: AnyValue> RsaPssParams<P> {
         ensures unchanged { OnErr result (out.new ≡ out.old) }
         ensures err { IfErr result (IsNotWritten grammar.RsaPssParams (pss_with P.any self.now) (length out.old)) }
     {
-        Ok(self.as_params_ref().encode_into(out)?)
+        encode_shortest(&self.as_params_ref(), out)
     }
 }
 
 impl<P: AnyValue> EncodeValue for RsaPssParams<P> {
     fn value_len(&self) -> der_core::Result<Length> {
-        let params = self.as_params_ref();
-        params.len_without(params.defaults())
+        self.as_params_ref().len_under(0)
     }
 
     fn encode_value<W: Writer>(&self, writer: &mut W) -> der_core::Result<()> {
-        let params = self.as_params_ref();
-        params.encode_without(params.defaults(), writer)
+        self.as_params_ref().encode_under(0, writer)
     }
 
     fn prepend_value(&self, writer: &mut BackWriter<'_>) {
-        let params = self.as_params_ref();
-        params.prepend_without(params.defaults(), writer);
+        self.as_params_ref().prepend_under(0, writer);
     }
 
     ghost contents_relate = { pss_relates };
@@ -198,17 +196,8 @@ impl<'a> RsaPssParams<AnyRef<'a>> {
         ensures asn1 { IfErr result (IsAsn1 (λ e. TellsOfBytes e.kind)) }
     {
         let params = RsaPssParams::try_from(bytes)?;
-        let defaults = params.defaults();
-        let defaults = [
-            defaults.hash,
-            defaults.mask_gen,
-            defaults.salt_len,
-            defaults.trailer_field,
-        ];
-        match written_default(bytes, &defaults) {
-            Some(number) => Err(is_written(number)),
-            None => Ok(params),
-        }
+        refuse_defaults(&params, bytes)?;
+        Ok(params)
     }
 }
 

@@ -3,19 +3,22 @@ ghost use Rattle.std.specs.Prelude.{◌≡◌, ◌≤◌, ◌<◌, ◌+◌, ◌+
 ghost use Rattle.der_core.specs.Tag.{sequence_tag};
 ghost use Rattle.der_core.specs.BackWriters.{free_of, Prepends};
 ghost use Rattle.der_core.specs.Length.{limit};
-ghost use Rattle.der_core.specs.Texts.{IsOfBytes, MeansOne};
-ghost use Rattle.der_core.specs.Writing.{Counts, IsLeast, Appends};
-ghost use Rattle.spki_core.specs.Explicit.{Field, HaveDefaults, MaskedContents};
-ghost use Rattle.spki_core.specs.Masks.{out_under, rest_under};
-ghost use Rattle.spki_core.proofs.Fields.{AreInOrder};
+ghost use Rattle.der_core.specs.Document.{IsShortest};
+ghost use Rattle.der_core.specs.Texts.{MeansOne};
+ghost use Rattle.std.specs.Option.{option_map};
+ghost use Rattle.der_core.specs.Writing.{Counts, Appends};
+ghost use Rattle.spki_core.specs.Explicit.{HaveDefaults, Masked};
+ghost use Rattle.spki_core.specs.StrictFields.{WalksOver, number_in};
 ghost use Rattle.der_core.specs.declared.error.ErrorKind.{ErrorKind};
-ghost use Rattle.pkcs1_params.specs.Spellings.{IsMask, IsSpelling, HasNoSpelling, StandsUnder, IsUnspelled, AllFit, AreUnder, AreMasks, AreAllSpellings, LacksSpellings, texts_in};
-ghost use Rattle.pkcs1_params.specs.MaskedValues.{MaskedValue, InRange, FieldContents, MaskedValueContents, HasMasked, masked_means_one, masked_of_bytes, masked_relates, masked_least};
+ghost use Rattle.pkcs1_params.specs.Spellings.{IsMask, IsSpelling, HasNoSpelling, StandsUnder, IsUnspelled, AllFit, AreUnder, AreMasks, AreAllSpellings, LacksSpellings, HasTwoToTheDefaults, texts_in};
+ghost use Rattle.pkcs1_params.specs.Meanings.{IsNotWritten};
+ghost use Rattle.pkcs1_params.specs.Parts.{FieldValue, AreNumbered, defaults_in, fields_with, Fielded, HasFields, written_fields};
+ghost use Rattle.pkcs1_params.specs.MaskedValues.{MaskedValue, InRange, FieldContents, MaskedValueContents, HasMasked, written_masked, masked_means_one, masked_of_bytes, masked_relates, masked_least};
 
 use crate::error::Result;
 use der_core::{
-    BackWriter, Contents, Encode, EncodeValue, ErrorKind, Length, SequenceTag, TaggedBy, Writer,
-    write_over,
+    BackWriter, Contents, Encode, EncodeValue, ErrorKind, Length, SequenceTag, TagNumber, TaggedBy,
+    Writer, write_over,
 };
 use std::alloc::Global;
 
@@ -25,69 +28,45 @@ pub(crate) trait DefaultFields: Copy + Drop {
 
     ghost params: { Self → Params };
 
-    ghost fields: { Params → List Field };
+    ghost values: { Params → List FieldValue };
 
-    ghost in_order: { (p : Params) → AreInOrder (fields p) };
+    ghost numbered: { (p : Params) → AreNumbered 0 (values p) };
 
-    ghost fields_mean_one: { MeansOne (FieldContents fields) };
-
-    ghost fields_of_bytes: { IsOfBytes (FieldContents fields) };
-
-    /// Which values have contents under a mask.
-    ghost has_under: { Params → ℕ → Type 0 };
-
-    /// The contents that are written under a mask.
-    ghost written_under: { Params → ℕ → List ℕ };
+    ghost fields_mean_one: { MeansOne (FieldContents values) };
 
     /// What is borrowed has contents under each mask, and no more of them than memory holds: a call that does nothing.
     fn is_held(&self)
-        ensures { (mask : ℕ)
-            → has_under (params self.now) mask × (length (written_under (params self.now) mask) < 2 ^ 64) };
+        ensures { let values = values (params self.now) in
+            (mask : ℕ) → HasFields values mask × (length (written_fields values mask) < 2 ^ 64) };
 
     /// How many fields equal their defaults.
     fn count_defaults(&self) -> u8
-        ensures count { HaveDefaults (fields (params self.now)) result }
+        ensures count { HaveDefaults (fields_with values (params self.now)) result }
         ensures few { result < 8 };
+
+    /// The first field of a text that is written and equals its default. What is answered is of use where the text is
+    /// known to be one of these parameters.
+    fn written_default(&self, bytes: &[u8]) -> Option<TagNumber>
+        ensures { WalksOver (defaults_in (values (params self.now))) bytes.now (option_map number_in result) };
 
     /// How many octets the contents under a mask have.
     fn len_under(&self, mask: u8) -> der_core::Result<Length>
-        ensures { Counts (has_under (params self.now) mask) (written_under (params self.now) mask) result };
+        ensures { let values = values (params self.now) in
+            Counts (HasFields values mask) (written_fields values mask) result };
 
     /// Appends the contents under a mask.
     fn encode_under<W: Writer>(&self, mask: u8, writer: &mut W) -> der_core::Result<()>
-        ensures appends { let params = params self.now in
-            Appends (has_under params mask) (written_under params mask) W.room W.written writer.old writer.new result }
+        ensures appends { let values = values (params self.now) in
+            let octets = written_fields values mask in
+            Appends (HasFields values mask) octets W.room W.written writer.old writer.new result }
         ensures kept { W.keeps writer.old writer.new };
 
     /// Puts the contents under a mask before what is filled.
     fn prepend_under(&self, mask: u8, writer: &mut BackWriter<'_>)
-        requires has { has_under (params self.now) mask }
-        requires fits { length (written_under (params self.now) mask) ≤ limit }
-        requires room { length (written_under (params self.now) mask) ≤ free_of writer.old }
-        ensures { Prepends (written_under (params self.now) mask) writer.old writer.new };
-
-    /// Each value has a number of defaults.
-    ghost counted: { (p : Params) → (k : ℕ) × HaveDefaults (fields p) k };
-
-    /// What is written are the contents under the mask, up to a length that no memory holds.
-    ghost under_relates: { (p : Params) (mask k : ℕ)
-        → HaveDefaults (fields p) k → mask < 2 ^ k → has_under p mask → length (written_under p mask) < 2 ^ 128
-        → MaskedContents (fields p) mask (written_under p mask) };
-
-    /// They are the shortest.
-    ghost under_least: { (p : Params) (mask : ℕ) (c : List ℕ)
-        → MaskedContents (fields p) mask c → IsLeast (has_under p mask) (written_under p mask) c };
-}
-
-/// Whether a field is left out, and the mask for the later ones.
-pub(crate) fn under(default: bool, mask: u8) -> (bool, u8)
-    ensures { result ≡ (out_under default mask, rest_under default mask) }
-{
-    if default {
-        (mask % 2 == 0, mask / 2)
-    } else {
-        (false, mask)
-    }
+        requires has { HasFields (values (params self.now)) mask }
+        requires fits { length (written_fields (values (params self.now)) mask) ≤ limit }
+        requires room { length (written_fields (values (params self.now)) mask) ≤ free_of writer.old }
+        ensures { Prepends (written_fields (values (params self.now)) mask) writer.old writer.new };
 }
 
 /// Parameters, and a mask that says which of their defaults are written.
@@ -95,7 +74,7 @@ pub(crate) fn under(default: bool, mask: u8) -> (bool, u8)
 pub(crate) struct Spelling<T: DefaultFields> {
     pub(crate) params: T,
     pub(crate) mask: u8,
-    ghost range: { InRange (T.fields (T.params params)) mask },
+    ghost range: { InRange (fields_with T.values (T.params params)) mask },
 }
 
 impl<T: DefaultFields> Contents for Spelling<T> {
@@ -103,15 +82,15 @@ impl<T: DefaultFields> Contents for Spelling<T> {
 
     ghost value = { λ s. record { value = T.params s.params; mask = s.mask } };
 
-    ghost contents = { MaskedValueContents T.fields };
+    ghost contents = { MaskedValueContents T.values };
 
-    ghost has_contents = { HasMasked T.fields T.has_under };
+    ghost has_contents = { HasMasked T.values };
 
-    ghost written_contents = { λ v. T.written_under v.value v.mask };
+    ghost written_contents = { written_masked T.values };
 
-    ghost means_one = { masked_means_one T.fields T.in_order T.fields_mean_one };
+    ghost means_one = { masked_means_one T.values T.numbered T.fields_mean_one };
 
-    ghost contents_of_bytes = { masked_of_bytes T.fields T.fields_of_bytes };
+    ghost contents_of_bytes = { masked_of_bytes T.values };
 }
 
 impl<T: DefaultFields> TaggedBy for Spelling<T> {
@@ -131,18 +110,18 @@ impl<T: DefaultFields> EncodeValue for Spelling<T> {
         self.params.prepend_under(self.mask, writer);
     }
 
-    ghost contents_relate = { masked_relates T.fields T.has_under T.written_under T.counted T.under_relates };
+    ghost contents_relate = { masked_relates T.values };
 
-    ghost contents_shortest = { masked_least T.fields T.has_under T.written_under T.under_least };
+    ghost contents_shortest = { masked_least T.values };
 }
 
 /// Writes the text under a mask to the front of a slice, and answers its length.
 pub(crate) fn spell_into<T: DefaultFields>(params: &T, mask: u8, out: &mut [u8]) -> Result<usize>
-    requires { IsMask (T.fields (T.params params.now)) mask }
-    ensures stands { IfOk result (λ n. StandsUnder T.fields (T.params params.now) mask (take n out.new)) }
+    requires { IsMask (fields_with T.values (T.params params.now)) mask }
+    ensures stands { IfOk result (λ n. StandsUnder (fields_with T.values) (T.params params.now) mask (take n out.new)) }
     ensures rest { IfOk result (λ n. (n ≤ length out.new) × (drop n out.new ≡ drop n out.old)) }
     ensures unchanged { OnErr result (out.new ≡ out.old) }
-    ensures err { IfErr result (IsUnspelled (T.fields (T.params params.now)) mask (length out.old)) }
+    ensures err { IfErr result (IsUnspelled (fields_with T.values (T.params params.now)) mask (length out.old)) }
 {
     params.is_held();
     let spelling = Spelling {
@@ -152,19 +131,34 @@ pub(crate) fn spell_into<T: DefaultFields>(params: &T, mask: u8, out: &mut [u8])
     Ok(spelling.encode_into(out)?)
 }
 
+/// Writes the shortest text to the front of a slice, and answers its length.
+pub(crate) fn encode_shortest<T: DefaultFields>(params: &T, out: &mut [u8]) -> Result<usize>
+    ensures shortest { IfOk result (λ n. IsShortest (Fielded T.values) (T.params params.now) (take n out.new)) }
+    ensures no_default { IfOk result (λ n. Masked (fields_with T.values (T.params params.now)) 0 (take n out.new)) }
+    ensures rest { IfOk result (λ n. (n ≤ length out.new) × (drop n out.new ≡ drop n out.old)) }
+    ensures one { IfOk result (λ n. (other : T.Params) → Fielded T.values other (take n out.new)
+        → other ≡ T.params params.now) }
+    ensures count { OnOk result (HasTwoToTheDefaults (fields_with T.values) (T.params params.now)) }
+    ensures unchanged { OnErr result (out.new ≡ out.old) }
+    ensures err { IfErr result (IsNotWritten (Fielded T.values) (T.params params.now) (length out.old)) }
+{
+    params.is_held();
+    spell_into(params, 0, out)
+}
+
 impl<T: DefaultFields> Spelling<T> {
     ghost use Rattle.std.specs.Prelude.{◌⊎◌};
     ghost use Rattle.der_core.specs.Tlv.{tlv};
 
     /// How many octets the text has: `Overflow` where there is no spelling under the mask.
     fn len(&self) -> der_core::Result<usize>
-        ensures ok { let text = tlv sequence_tag (T.written_under (T.params self.now.params) self.now.mask) in
+        ensures ok { let text = tlv sequence_tag (written_fields (T.values (T.params self.now.params)) self.now.mask) in
             IfOk result (λ n. n ≡ length text) }
-        ensures has { OnOk result (T.has_under (T.params self.now.params) self.now.mask) }
+        ensures has { OnOk result (HasFields (T.values (T.params self.now.params)) self.now.mask) }
         ensures spells { let params = T.params self.now.params in
-            let text = tlv sequence_tag (T.written_under params self.now.mask) in
-            OnOk result (IsSpelling (T.fields params) self.now.mask text) }
-        ensures err { let none = HasNoSpelling (T.fields (T.params self.now.params)) self.now.mask in
+            let text = tlv sequence_tag (written_fields (T.values params) self.now.mask) in
+            OnOk result (IsSpelling (fields_with T.values params) self.now.mask text) }
+        ensures err { let none = HasNoSpelling (fields_with T.values (T.params self.now.params)) self.now.mask in
             IfErr result (λ e. (e.kind ≡ ErrorKind.Overflow) × none) }
     {
         self.params.is_held();
@@ -173,8 +167,9 @@ impl<T: DefaultFields> Spelling<T> {
 
     /// The text, in memory of its own.
     fn to_vec(&self, alloc: Global) -> der_core::Result<Vec<u8>>
-        ensures ok { IfOk result (λ text. IsSpelling (T.fields (T.params self.now.params)) self.now.mask text.items) }
-        ensures err { let none = HasNoSpelling (T.fields (T.params self.now.params)) self.now.mask in
+        ensures ok { let fields = fields_with T.values (T.params self.now.params) in
+            IfOk result (λ text. IsSpelling fields self.now.mask text.items) }
+        ensures err { let none = HasNoSpelling (fields_with T.values (T.params self.now.params)) self.now.mask in
             IfErr result (λ e. (e.kind ≡ ErrorKind.OutOfMemory) ⊎ ((e.kind ≡ ErrorKind.Overflow) × none)) }
     {
         let length = self.len()?;
@@ -190,8 +185,8 @@ fn texts_under<T: DefaultFields>(
     count: u8,
     alloc: Global,
 ) -> der_core::Result<Vec<Vec<u8>>>
-    requires { AreMasks (T.fields (T.params params.now)) count }
-    ensures ok { IfOk result (λ texts. AreUnder (T.fields (T.params params.now)) count (texts_in texts)) }
+    requires { AreMasks (fields_with T.values (T.params params.now)) count }
+    ensures ok { IfOk result (λ texts. AreUnder (fields_with T.values (T.params params.now)) count (texts_in texts)) }
     ensures err { IfErr result (λ e. e.kind ≡ ErrorKind.OutOfMemory) }
 {
     let mut texts = Vec::new(alloc);
@@ -207,9 +202,9 @@ fn texts_under<T: DefaultFields>(
 
 /// All spellings, by mask: `Overflow` where the one with every field doesn't fit, before memory is asked for.
 pub(crate) fn all_spellings<T: DefaultFields>(params: &T, alloc: Global) -> Result<Vec<Vec<u8>>>
-    ensures all { IfOk result (λ texts. AreAllSpellings T.fields (T.params params.now) (texts_in texts)) }
-    ensures fit { OnOk result (AllFit (T.fields (T.params params.now))) }
-    ensures err { IfErr result (LacksSpellings (T.fields (T.params params.now))) }
+    ensures all { IfOk result (λ texts. AreAllSpellings (fields_with T.values) (T.params params.now) (texts_in texts)) }
+    ensures fit { OnOk result (AllFit (fields_with T.values (T.params params.now))) }
+    ensures err { IfErr result (LacksSpellings (fields_with T.values (T.params params.now))) }
 {
     let count = 1u8 << params.count_defaults();
     let longest = Spelling {

@@ -1,14 +1,33 @@
-//! The refusal of strict reading.
-ghost use Rattle.spki_core.specs.StrictFields.{NamesNumber, number_in};
+//! Strict reading: no default is written.
+ghost use Rattle.std.specs.Prelude.{OnOk, OnErr, IfErr};
+ghost use Rattle.der_core.specs.Document.{Means, IsShortest};
+ghost use Rattle.der_core.specs.Reading.{TellsOfBytes};
+ghost use Rattle.spki_core.specs.StrictFields.{NamesNumber, NamesDefault, number_in};
+ghost use Rattle.pkcs1_params.specs.Parts.{fields_with, Fielded};
 ghost use Rattle.pkcs1_params.specs.Refusals.{IsAsn1};
 
-use crate::error::Error;
+use crate::error::{Error, Result};
+use crate::spelling::DefaultFields;
 use der_core::{ErrorKind, Tag, TagNumber};
 
 /// The refusal of a field that is written and equals its default.
-pub(crate) fn is_written(number: TagNumber) -> Error
+fn is_written(number: TagNumber) -> Error
     ensures { IsAsn1 (NamesNumber (number_in number)) result }
 {
     let tag = Tag::context(number);
     Error::Asn1(der_core::Error::new(ErrorKind::Noncanonical { tag }))
+}
+
+/// Refuses a text of the parameters in which a default is written, by the tag of the first.
+pub(crate) fn refuse_defaults<T: DefaultFields>(params: &T, bytes: &[u8]) -> Result<()>
+    requires { Means (Fielded T.values) bytes.now (T.params params.now) }
+    ensures ok { OnOk result (IsShortest (Fielded T.values) (T.params params.now) bytes.now) }
+    ensures default { IfErr result (IsAsn1 (NamesDefault (fields_with T.values (T.params params.now)) bytes.now)) }
+    ensures err { OnErr result (IsShortest (Fielded T.values) (T.params params.now) bytes.now → ⊥) }
+    ensures asn1 { IfErr result (IsAsn1 (λ e. TellsOfBytes e.kind)) }
+{
+    match params.written_default(bytes) {
+        Some(number) => Err(is_written(number)),
+        None => Ok(()),
+    }
 }

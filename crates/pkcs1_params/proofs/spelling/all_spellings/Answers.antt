@@ -1,6 +1,8 @@
 use Rattle.std.proofs.Common.{ℕ, suc, ◌≡◌, ◌<◌, ◌-◌, ◌*◌, ◌%◌, ◌^◌, inl, inr, arith}
 use Rattle.std.proofs.lemmas.Nat.{one_shl, pow_pos}
 use Rattle.std.proofs.lemmas.Result.{err_from_is_err_and}
+use Rattle.pkcs1_params.specs.FieldValueLaws.{ordered}
+use Rattle.pkcs1_params.specs.Parts.{fields_with}
 use Rattle.pkcs1_params.proofs.Masks.{in_range, all_fit, none_fit, are_all}
 use Rattle.pkcs1_params.proofs.spelling.all_spellings.Goals as goal
 
@@ -15,7 +17,7 @@ invariant_of-longest g c =
     let t = g.T.DefaultFields in
     let k = c.count_defaults-count.result in
     let known = c.count_defaults-count.ensures in
-    record { range = in_range (t.fields (t.params c.args.params.now)) (1 * 2 ^ k % 256 - 1) (k, known.count, omega (arith, last k known.few)) }
+    record { range = in_range (fields_with t.values (t.params c.args.params.now)) (1 * 2 ^ k % 256 - 1) (k, known.count, omega (arith, last k known.few)) }
 
 pub returns-in_err-len-clause-err : goal.returns-in_err-len-clause-err
 returns-in_err-len-clause-err g c =
@@ -24,14 +26,14 @@ returns-in_err-len-clause-err g c =
     let known = c.count_defaults-count.ensures in
     let e = err_from_is_err_and c.from_residual.result c.from_residual.ensures.1 in
     let why = c.in_err-len.ensures.err in
-    rw (e.1, e.2) (inr (why.0, none_fit (t.fields (t.params c.args.params.now)) k _ known.count (last k known.few) why.1))
+    rw (e.1, e.2) (inr (why.0, none_fit (fields_with t.values (t.params c.args.params.now)) k _ known.count (last k known.few) why.1))
 
 pub texts_under-requires : goal.texts_under-requires
 texts_under-requires g c =
     let t = g.T.DefaultFields in
     let k = c.count_defaults-count.result in
     let known = c.count_defaults-count.ensures in
-    (k, known.count, shifted k known.few, all_fit (t.fields (t.params c.args.params.now)) k _ known.count (last k known.few) _ c.in_ok-len.ensures.spells)
+    (k, known.count, shifted k known.few, all_fit (fields_with t.values (t.params c.args.params.now)) k _ known.count (last k known.few) _ c.in_ok-len.ensures.spells)
 
 pub returns-in_err-texts_under-clause-err : goal.returns-in_err-texts_under-clause-err
 returns-in_err-texts_under-clause-err g c =
@@ -39,7 +41,7 @@ returns-in_err-texts_under-clause-err g c =
     let k = c.count_defaults-count.result in
     let known = c.count_defaults-count.ensures in
     let e = err_from_is_err_and c.from_residual-in_err-texts_under.result c.from_residual-in_err-texts_under.ensures.1 in
-    rw (e.1, e.2) (inl (c.in_err-texts_under.ensures.err, all_fit (t.fields (t.params c.args.params.now)) k _ known.count (last k known.few) _ c.in_ok-len.ensures.spells))
+    rw (e.1, e.2) (inl (c.in_err-texts_under.ensures.err, all_fit (fields_with t.values (t.params c.args.params.now)) k _ known.count (last k known.few) _ c.in_ok-len.ensures.spells))
 
 pub returns-clause-all : goal.returns-clause-all
 returns-clause-all g c =
@@ -47,12 +49,12 @@ returns-clause-all g c =
     let k = c.count_defaults-count.result in
     let known = c.count_defaults-count.ensures in
     let v = t.params c.args.params.now in
-    let fit = all_fit (t.fields v) k _ known.count (last k known.few) _ c.in_ok-len.ensures.spells in
-    are_all t.fields t.in_order v _ _ (k, known.count, shifted k known.few, fit) c.in_ok-texts_under.ensures.ok
+    let fit = all_fit (fields_with t.values v) k _ known.count (last k known.few) _ c.in_ok-len.ensures.spells in
+    are_all (fields_with t.values) (ordered t.values t.numbered) v _ _ (k, known.count, shifted k known.few, fit) c.in_ok-texts_under.ensures.ok
 
 pub returns-clause-fit : goal.returns-clause-fit
 returns-clause-fit g c =
     let t = g.T.DefaultFields in
     let k = c.count_defaults-count.result in
     let known = c.count_defaults-count.ensures in
-    all_fit (t.fields (t.params c.args.params.now)) k _ known.count (last k known.few) _ c.in_ok-len.ensures.spells
+    all_fit (fields_with t.values (t.params c.args.params.now)) k _ known.count (last k known.few) _ c.in_ok-len.ensures.spells

@@ -1,11 +1,4 @@
 use Rattle.std.proofs.lemmas.Result.{err_from_is_err_and}
-use Rattle.std.proofs.Common.{Some, None}
-use Rattle.pkcs1_params.specs.Defaults as count
-use Rattle.pkcs1_params.specs.Parameters.{pss_fields}
-use Rattle.pkcs1_params.specs.ParameterLaws.{pss_in_order}
-use Rattle.pkcs1_params.specs.PssValue.{pss_of}
-use Rattle.spki_core.specs.StrictFields.{number_in}
-use Rattle.pkcs1_params.proofs.StrictParameters.{strict_names, strict_longer, strict_shortest, pss_found}
 use Rattle.pkcs1_params.proofs.pss.RsaPssParams+AnyRef.from_der_strict.Goals as goal
 
 pub returns-in_err-params-clause-default : goal.returns-in_err-params-clause-default
@@ -13,22 +6,12 @@ returns-in_err-params-clause-default c =
     let p = err_from_is_err_and c.from_residual.result c.from_residual.ensures.1 in
     rw p.1 (λ params means. absurd (c.in_err-params.ensures.err params means))
 
-pub returns-in-Some-clause-default : goal.returns-in-Some-clause-default
-returns-in-Some-clause-default c =
-    let read = c.in_ok-params.ensures in
-    let p = pss_of c.in_ok-params.params in
-    let found = pss_found p _ (Some (number_in c.in-Some.number)) read.ok (rw c.defaults-defaults.ensures at c.in-Some.ensures) in
-    strict_names pss_fields pss_in_order count.pss_defaults p _ read.ok read.one _ _ found c.is_written.ensures
+pub returns-in_err-refuse_defaults-clause-default : goal.returns-in_err-refuse_defaults-clause-default
+returns-in_err-refuse_defaults-clause-default c =
+    let p = err_from_is_err_and c.from_residual-in_err-refuse_defaults.result c.from_residual-in_err-refuse_defaults.ensures.1 in
+    rw (p.1, p.2) (λ other means. let same = c.in_ok-params.ensures.one other means in rw same c.in_err-refuse_defaults.ensures.default)
 
-pub returns-in-Some-clause-err : goal.returns-in-Some-clause-err
-returns-in-Some-clause-err c =
-    let read = c.in_ok-params.ensures in
-    let p = pss_of c.in_ok-params.params in
-    let found = pss_found p _ (Some (number_in c.in-Some.number)) read.ok (rw c.defaults-defaults.ensures at c.in-Some.ensures) in
-    strict_longer pss_fields pss_in_order count.pss_defaults p _ read.ok read.one _ found
-
-pub returns-in-None-clause-ok : goal.returns-in-None-clause-ok
-returns-in-None-clause-ok c =
-    let read = c.in_ok-params.ensures in
-    let p = pss_of c.in_ok-params.params in
-    strict_shortest pss_fields pss_in_order count.pss_defaults p _ read.ok read.one (pss_found p _ None read.ok (rw c.defaults-defaults.ensures at c.in-None.ensures))
+pub returns-in_err-refuse_defaults-clause-err : goal.returns-in_err-refuse_defaults-clause-err
+returns-in_err-refuse_defaults-clause-err c =
+    let p = err_from_is_err_and c.from_residual-in_err-refuse_defaults.result c.from_residual-in_err-refuse_defaults.ensures.1 in
+    rw p.1 (λ other shortest. let same = c.in_ok-params.ensures.one other shortest.spells in c.in_err-refuse_defaults.ensures.err (rw same at shortest))

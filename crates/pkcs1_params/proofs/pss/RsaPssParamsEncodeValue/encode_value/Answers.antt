@@ -1,6 +1,6 @@
-use Rattle.pkcs1_params.specs.PssWriting.{HasPss, written_pss, pss_defaults}
-use Rattle.pkcs1_params.proofs.ParameterWrites.{appends_of}
+use Rattle.pkcs1_params.specs.Parts.{pss_values, HasFields, written_fields}
+use Rattle.pkcs1_params.proofs.ParameterWrites.{appends_for}
 use Rattle.pkcs1_params.proofs.pss.RsaPssParamsEncodeValue.encode_value.Goals as goal
 
 pub returns-clause-appends : goal.returns-clause-appends
-returns-clause-appends g c = appends_of HasPss written_pss pss_defaults _ _ _ c.defaults.ensures c.as_params_ref-params.ensures c.encode_without.ensures.appends
+returns-clause-appends g c = appends_for (λ p. HasFields (pss_values p) 0) (λ p. written_fields (pss_values p) 0) _ _ c.as_params_ref.ensures c.encode_under.ensures.appends

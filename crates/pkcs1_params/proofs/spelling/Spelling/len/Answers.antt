@@ -1,16 +1,12 @@
 use Rattle.std.proofs.Common.{arith}
 use Rattle.der_core.specs.TextLaws.{tlv_relates}
-use Rattle.pkcs1_params.specs.MaskedValues.{MaskedValue, MaskedValueContents, masked_relates}
+use Rattle.pkcs1_params.specs.MaskedValues.{MaskedValue, MaskedValueContents, written_masked, masked_relates}
 use Rattle.pkcs1_params.proofs.spelling.Spelling.len.Goals as goal
 
 pub returns-clause-spells : goal.returns-clause-spells
 returns-clause-spells g c =
     let t = g.T.DefaultFields in
-    let laws = g.met.T.DefaultFields in
     let s = c.args.self.now in
     let v : MaskedValue t.Params = record { value = t.params s.params; mask = s.mask } in
-    let n = c.in_ok-encoded_len.ensures.counted in (
-      omega (arith, n),
-      tlv_relates 48 (MaskedValueContents t.fields) (λ (w : MaskedValue t.Params). t.written_under w.value w.mask) v
-          (masked_relates t.fields t.has_under t.written_under laws.counted laws.under_relates v n.0) (omega (arith, n)),
-    )
+    let n = c.in_ok-encoded_len.ensures.counted in
+    (omega (arith, n), tlv_relates 48 (MaskedValueContents t.values) (written_masked t.values) v (masked_relates t.values v n.0) (omega (arith, n)))

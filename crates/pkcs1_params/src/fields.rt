@@ -1,0 +1,223 @@
+//! The fields of parameters, and what is written of them under a mask that says which of their defaults are.
+ghost use Rattle.std.specs.Prelude.{◌≡◌, ◌≤◌, ◌<◌, ◌+◌, ◌*◌, ◌++◌, ℕ, length};
+ghost use Rattle.der_core.specs.BackWriters.{free_of, Prepends};
+ghost use Rattle.der_core.specs.Length.{limit};
+ghost use Rattle.der_core.specs.Writing.{Counts, Appends};
+ghost use Rattle.spki_core.specs.Explicit.{HaveDefaults};
+ghost use Rattle.spki_core.specs.FieldWriting.{HasField, written_field};
+ghost use Rattle.spki_core.specs.Masks.{out_under, rest_under};
+ghost use Rattle.spki_core.specs.StrictFields.{number_in};
+ghost use Rattle.pkcs1_params.specs.FieldRefs.{value_of, part_in, values_in};
+ghost use Rattle.pkcs1_params.specs.Parts.{fields_in, HasFields, written_fields};
+
+use crate::hash_fields::{MaskGenRef, is_default_hash, is_default_mask_gen};
+use crate::p_source::is_default_source;
+use crate::pss::RsaPssParamsRef;
+use crate::trailer_field::TrailerField;
+use der_core::{BackWriter, Length, Result, TagNumber, Writer, joined_len};
+use spki_core::{AlgorithmIdentifierRef, encode_field, field_len, prepend_field};
+
+/// A field with its value.
+#[derive(Clone, Copy, Drop)]
+pub(crate) enum FieldRef<'b> {
+    Hash(&'b AlgorithmIdentifierRef<'b>),
+    MaskGen(&'b MaskGenRef<'b>),
+    SaltLen(u8),
+    Trailer(TrailerField),
+    PSource(&'b AlgorithmIdentifierRef<'b>),
+}
+
+/// A call that does nothing.
+fn is_octet(number: u8)
+    ensures { number < 256 }
+{
+    let _ = number;
+}
+
+impl FieldRef<'_> {
+    fn number(&self) -> TagNumber
+        ensures { number_in result ≡ (part_in self.now).field.number }
+    {
+        TagNumber::new(match self {
+            FieldRef::Hash(_) => 0,
+            FieldRef::MaskGen(_) => 1,
+            FieldRef::SaltLen(_) => 2,
+            FieldRef::Trailer(_) => 3,
+            FieldRef::PSource(_) => 2,
+        })
+    }
+
+    /// Whether the value is the default.
+    pub(crate) fn is_default(&self) -> bool
+        ensures { result ≡ (part_in self.now).is_default }
+    {
+        match *self {
+            FieldRef::Hash(hash) => is_default_hash(hash),
+            FieldRef::MaskGen(mask_gen) => is_default_mask_gen(mask_gen),
+            FieldRef::SaltLen(salt_len) => salt_len == RsaPssParamsRef::SALT_LEN_DEFAULT,
+            FieldRef::Trailer(trailer) => trailer == TrailerField::BC,
+            FieldRef::PSource(p_source) => is_default_source(p_source),
+        }
+    }
+
+    /// What is borrowed has a text that memory holds: a call that does nothing.
+    fn is_held(&self)
+        ensures { (part_in self.now).has × (length (part_in self.now).text ≤ limit + 718) }
+    {
+        match *self {
+            FieldRef::Hash(_) => {}
+            FieldRef::MaskGen(_) => {}
+            FieldRef::SaltLen(salt_len) => is_octet(salt_len),
+            FieldRef::Trailer(_) => {}
+            FieldRef::PSource(_) => {}
+        }
+    }
+
+    /// How many octets are written of it, where it may be left out.
+    fn len(&self, left_out: bool) -> Result<Length>
+        ensures { let part = part_in self.now in
+            Counts (HasField left_out part.has) (written_field left_out part.field.number part.text) result }
+    {
+        let number = self.number();
+        match *self {
+            FieldRef::Hash(hash) => field_len(left_out, number, hash),
+            FieldRef::MaskGen(mask_gen) => field_len(left_out, number, mask_gen),
+            FieldRef::SaltLen(salt_len) => field_len(left_out, number, &salt_len),
+            FieldRef::Trailer(trailer) => field_len(left_out, number, &trailer),
+            FieldRef::PSource(p_source) => field_len(left_out, number, p_source),
+        }
+    }
+
+    /// Appends it, where it may be left out.
+    fn encode<W: Writer>(&self, left_out: bool, writer: &mut W) -> Result<()>
+        ensures appends { let part = part_in self.now in
+            let octets = written_field left_out part.field.number part.text in
+            Appends (HasField left_out part.has) octets W.room W.written writer.old writer.new result }
+        ensures kept { W.keeps writer.old writer.new }
+    {
+        let number = self.number();
+        match *self {
+            FieldRef::Hash(hash) => encode_field(left_out, number, hash, writer),
+            FieldRef::MaskGen(mask_gen) => encode_field(left_out, number, mask_gen, writer),
+            FieldRef::SaltLen(salt_len) => encode_field(left_out, number, &salt_len, writer),
+            FieldRef::Trailer(trailer) => encode_field(left_out, number, &trailer, writer),
+            FieldRef::PSource(p_source) => encode_field(left_out, number, p_source, writer),
+        }
+    }
+
+    /// Puts it before what is filled, where it may be left out.
+    fn prepend(&self, left_out: bool, writer: &mut BackWriter<'_>)
+        requires has { HasField left_out (part_in self.now).has }
+        requires fits { let part = part_in self.now in
+            length (written_field left_out part.field.number part.text) ≤ limit }
+        requires room { let part = part_in self.now in
+            length (written_field left_out part.field.number part.text) ≤ free_of writer.old }
+        ensures { let part = part_in self.now in
+            Prepends (written_field left_out part.field.number part.text) writer.old writer.new }
+    {
+        let number = self.number();
+        match *self {
+            FieldRef::Hash(hash) => prepend_field(left_out, number, hash, writer),
+            FieldRef::MaskGen(mask_gen) => prepend_field(left_out, number, mask_gen, writer),
+            FieldRef::SaltLen(salt_len) => prepend_field(left_out, number, &salt_len, writer),
+            FieldRef::Trailer(trailer) => prepend_field(left_out, number, &trailer, writer),
+            FieldRef::PSource(p_source) => prepend_field(left_out, number, p_source, writer),
+        }
+    }
+}
+
+/// Whether a field is left out, and the mask for the later ones.
+pub(crate) fn under(default: bool, mask: u8) -> (bool, u8)
+    ensures { result ≡ (out_under default mask, rest_under default mask) }
+{
+    if default {
+        (mask % 2 == 0, mask / 2)
+    } else {
+        (false, mask)
+    }
+}
+
+/// How many of the fields have their defaults.
+pub(crate) fn count_defaults(fields: &[FieldRef<'_>]) -> u8
+    requires { length fields.now ≤ 7 }
+    ensures count { HaveDefaults (fields_in (values_in fields.now)) result }
+    ensures few { result ≤ length fields.now }
+{
+    match fields.split_first() {
+        None => 0,
+        Some((field, later)) => u8::from(field.is_default()) + count_defaults(later),
+    }
+}
+
+/// What is borrowed has contents under each mask, and no more of them than memory holds: a call that does nothing.
+pub(crate) fn are_held(fields: &[FieldRef<'_>])
+    ensures { (mask : ℕ) → HasFields (values_in fields.now) mask
+        × (length (written_fields (values_in fields.now) mask) ≤ length (values_in fields.now) * (limit + 846)) }
+{
+    if let Some((field, later)) = fields.split_first() {
+        field.is_held();
+        are_held(later);
+    }
+}
+
+/// How many octets the fields have under a mask.
+pub(crate) fn fields_len(fields: &[FieldRef<'_>], mask: u8) -> Result<Length>
+    ensures { let values = values_in fields.now in
+        Counts (HasFields values mask) (written_fields values mask) result }
+{
+    match fields.split_first() {
+        None => Ok(Length::ZERO),
+        Some((field, later)) => {
+            let (left_out, mask) = under(field.is_default(), mask);
+            joined_len(field.len(left_out), fields_len(later, mask))
+        }
+    }
+}
+
+/// Appends fields that can be written.
+fn append_fields<W: Writer>(fields: &[FieldRef<'_>], mask: u8, writer: &mut W) -> Result<()>
+    requires has { HasFields (values_in fields.now) mask }
+    requires fits { length (written_fields (values_in fields.now) mask) ≤ limit }
+    ensures appends { let values = values_in fields.now in
+        let octets = written_fields values mask in
+        Appends (HasFields values mask) octets W.room W.written writer.old writer.new result }
+    ensures kept { W.keeps writer.old writer.new }
+{
+    match fields.split_first() {
+        None => Ok(()),
+        Some((field, later)) => {
+            let (left_out, mask) = under(field.is_default(), mask);
+            field.encode(left_out, writer)?;
+            append_fields(later, mask, writer)
+        }
+    }
+}
+
+/// Appends the fields under a mask.
+pub(crate) fn encode_fields<W: Writer>(
+    fields: &[FieldRef<'_>],
+    mask: u8,
+    writer: &mut W,
+) -> Result<()>
+    ensures appends { let values = values_in fields.now in
+        let octets = written_fields values mask in
+        Appends (HasFields values mask) octets W.room W.written writer.old writer.new result }
+    ensures kept { W.keeps writer.old writer.new }
+{
+    fields_len(fields, mask)?;
+    append_fields(fields, mask, writer)
+}
+
+/// Puts the fields under a mask before what is filled, the last one first.
+pub(crate) fn prepend_fields(fields: &[FieldRef<'_>], mask: u8, writer: &mut BackWriter<'_>)
+    requires has { HasFields (values_in fields.now) mask }
+    requires fits { length (written_fields (values_in fields.now) mask) ≤ limit }
+    requires room { length (written_fields (values_in fields.now) mask) ≤ free_of writer.old }
+    ensures { Prepends (written_fields (values_in fields.now) mask) writer.old writer.new }
+{
+    if let Some((field, later)) = fields.split_first() {
+        let (left_out, mask) = under(field.is_default(), mask);
+        prepend_fields(later, mask, writer);
+        field.prepend(left_out, writer);
+    }
+}
