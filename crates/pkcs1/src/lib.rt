@@ -24,7 +24,7 @@ pub use laws::{
 pub use other_prime_info::{OtherPrimeInfo, OtherPrimeInfos};
 pub use other_primes::OtherPrimes;
 pub use pkcs1_params::{
-    Error, Result, RsaOaepParams, RsaOaepParamsOwned, RsaOaepParamsRef, RsaPssParams,
+    DefaultSalt, Error, Result, RsaOaepParams, RsaOaepParamsOwned, RsaOaepParamsRef, RsaPssParams,
     RsaPssParamsOwned, RsaPssParamsRef, TrailerField, oaep_spellings, pss_spellings,
 };
 pub use private_key::{RsaPrivateKey, RsaPrivateKeyOwned, RsaPrivateKeyRef};

@@ -10,6 +10,7 @@ ghost use Rattle.pkcs1_params.specs.Parameters.{PssParameters, PssContents, pss_
 ghost use Rattle.pkcs1_params.specs.PssWriting.{pss_defaults, HasPss, written_pss};
 ghost use Rattle.pkcs1_params.specs.PssLaws.{pss_means_one, pss_of_bytes, pss_relates, pss_shortest};
 
+use crate::default_salt::DefaultSalt;
 use crate::error::{Error, Result};
 use crate::hash_fields::{
     HashFields, Sha1, is_default_hash, is_default_mask_gen, mask_gen_ref, mgf1_with, read_hash,
@@ -365,7 +366,7 @@ impl RsaPssParams<Any> {
         RsaPssParams {
             hash: with_null::<Sha1, Any, Global>(alloc),
             mask_gen: mgf1_with::<Sha1, Any, Global>(alloc),
-            salt_len: RsaPssParamsRef::SALT_LEN_DEFAULT,
+            salt_len: RsaPssParamsOwned::SALT_LEN_DEFAULT,
             trailer_field: TrailerField::BC,
         }
     }
