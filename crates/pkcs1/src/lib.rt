@@ -22,7 +22,7 @@ pub use laws::{
 };
 pub use other_primes::OtherPrimes;
 pub use pkcs1_params::{
-    Error, Result, RsaOaepParams, RsaOaepParamsOwned, RsaOaepParamsRef, RsaPssParams,
+    DefaultSalt, Error, Result, RsaOaepParams, RsaOaepParamsOwned, RsaOaepParamsRef, RsaPssParams,
     RsaPssParamsOwned, RsaPssParamsRef, TrailerField, oaep_spellings, pss_spellings,
 };
 pub use private_key::other_prime_info::{OtherPrimeInfo, OtherPrimeInfos};

@@ -1,6 +1,7 @@
 //! Parameters of RSASSA-PSS and RSAES-OAEP (RFC 8017 A.2.3, A.2.1), and the error of keys and parameters.
 #![tactic(auto)]
 
+mod default_salt;
 mod error;
 mod fields;
 mod hash_fields;
@@ -15,6 +16,7 @@ mod spelling;
 mod strict;
 mod trailer_field;
 
+pub use default_salt::DefaultSalt;
 pub use error::{Error, Result};
 pub use hash_fields::with_null;
 pub use laws::{oaep_spellings, pss_spellings};

@@ -6,6 +6,7 @@ ghost use Rattle.pkcs1_params.specs.Parameters.{PssParameters, PssContents, pss_
 ghost use Rattle.pkcs1_params.specs.Parts.{pss_values, HasFields, written_fields};
 ghost use Rattle.pkcs1_params.specs.PssLaws.{pss_means_one, pss_of_bytes, pss_relates, pss_shortest};
 
+use crate::default_salt::DefaultSalt;
 use crate::error::{Error, Result};
 use crate::hash_fields::{Sha1, mask_gen_ref, mgf1_with, read_hash, read_mask_gen, with_null};
 use crate::spelling::{DefaultFields, encode_shortest};
@@ -241,7 +242,7 @@ impl RsaPssParams<Any> {
         RsaPssParams {
             hash: with_null::<Sha1, Any, Global>(alloc),
             mask_gen: mgf1_with::<Sha1, Any, Global>(alloc),
-            salt_len: RsaPssParamsRef::SALT_LEN_DEFAULT,
+            salt_len: RsaPssParamsOwned::SALT_LEN_DEFAULT,
             trailer_field: TrailerField::BC,
         }
     }
