@@ -124,18 +124,13 @@ pub(crate) fn algorithm_from<'a>(algorithm: &Algorithm<'a>) -> Result<AlgorithmI
     ensures refused { IfErr result (λ e. PlainFits (algorithm_seen algorithm.now) → ⊥) }
 {
     let oid = oid_from(&algorithm.oid)?;
-    if !algorithm.has_parameters {
-        return Ok(AlgorithmIdentifier {
-            oid,
-            parameters: None,
-        });
-    }
-    let tag = Tag::from_octet(algorithm.tag)?;
-    let any = AnyRef::new(tag, algorithm.parameters)?;
-    Ok(AlgorithmIdentifier {
-        oid,
-        parameters: Some(any),
-    })
+    let parameters = if algorithm.has_parameters {
+        let tag = Tag::from_octet(algorithm.tag)?;
+        Some(AnyRef::new(tag, algorithm.parameters)?)
+    } else {
+        None
+    };
+    Ok(AlgorithmIdentifier { oid, parameters })
 }
 
 /// The mask generation function that C gives.
@@ -147,15 +142,10 @@ pub(crate) fn mask_gen_from<'a>(
     ensures refused { IfErr result (λ e. MaskFits (mask_gen_seen mask_gen.now) → ⊥) }
 {
     let oid = oid_from(&mask_gen.oid)?;
-    if !mask_gen.has_hash {
-        return Ok(AlgorithmIdentifier {
-            oid,
-            parameters: None,
-        });
-    }
-    let hash = algorithm_from(&mask_gen.hash)?;
-    Ok(AlgorithmIdentifier {
-        oid,
-        parameters: Some(hash),
-    })
+    let parameters = if mask_gen.has_hash {
+        Some(algorithm_from(&mask_gen.hash)?)
+    } else {
+        None
+    };
+    Ok(AlgorithmIdentifier { oid, parameters })
 }

@@ -61,25 +61,32 @@ fn reported<E: Display + Drop>(rt: &impl Eprint, answer: Result<(), E>) -> bool 
     }
 }
 
-fn main(rt: HostRuntime) -> ExitCode {
-    let words = words_of(&rt);
-    let plan = match &words {
-        Ok(words) => plan_of(words.as_slice()),
-        Err(_) => Plan::Usage,
-    };
+/// Does what was planned, and answers the status to end with.
+fn carry_out(rt: &HostRuntime, plan: &Plan<'_>) -> u8 {
     let ok = match plan {
-        Plan::Usage => reported(&rt, Err(USAGE)),
-        Plan::Lines => reported(&rt, run_lines(&rt)),
+        Plan::Usage => reported(rt, Err(USAGE)),
+        Plan::Lines => reported(rt, run_lines(rt)),
         Plan::CopyPub { input, output } => {
             let (input, output) = (Path::new(input), Path::new(output));
-            reported(&rt, copy_pub(&rt, rt.alloc(), input, output))
+            reported(rt, copy_pub(rt, rt.alloc(), input, output))
         }
         Plan::CopyPriv { input, output } => {
             let (input, output) = (Path::new(input), Path::new(output));
-            reported(&rt, copy_priv(&rt, rt.alloc(), input, output))
+            reported(rt, copy_priv(rt, rt.alloc(), input, output))
         }
     };
-    ExitCode::from(status(&plan, ok))
+    status(plan, ok)
+}
+
+fn main(rt: HostRuntime) -> ExitCode {
+    let status = match words_of(&rt) {
+        Ok(words) => carry_out(&rt, &plan_of(words.as_slice())),
+        Err(error) if error.kind() == io::ErrorKind::OutOfMemory => {
+            status(&Plan::Lines, reported(&rt, Err(Fault::Memory)))
+        }
+        Err(_) => carry_out(&rt, &Plan::Usage),
+    };
+    ExitCode::from(status)
 }
 
 #[cfg(test)]

@@ -48,7 +48,7 @@ pub fn anys(alloc: Global, arguments: &mut Arguments<'_>) -> Answer {
     owned::<Vec<Any>>(alloc, arguments.bytes(alloc)?.as_slice())
 }
 
-// The next part, a tag's octet.
+/// The next part, a tag's octet.
 fn next_tag(alloc: Global, arguments: &mut Arguments<'_>) -> std::result::Result<Tag, Trouble> {
     match arguments.bytes(alloc)?.as_slice() {
         [octet] => Tag::from_octet(*octet).map_err(|_| Trouble::Malformed),
@@ -83,7 +83,7 @@ pub fn null(alloc: Global) -> Answer {
     written(alloc, &AnyRef::null())
 }
 
-// What the contents mean as a value of another type.
+/// What the contents mean as a value of another type.
 fn shown_as<T: Shown + Drop>(alloc: Global, answer: Result<T>) -> Answer {
     match answer {
         Ok(value) => value.shown(alloc),
@@ -131,7 +131,7 @@ pub fn as_public_key(alloc: Global, arguments: &mut Arguments<'_>) -> Answer {
     }
 }
 
-// The text of the parameters, or that there are none.
+/// The text of the parameters, or that there are none.
 fn parameters_of<P: AnyValue>(alloc: Global, algorithm: &AlgorithmIdentifier<P>) -> Answer {
     match algorithm.parameters_any() {
         Ok(parameters) => written(alloc, &parameters),

@@ -3,7 +3,7 @@ use crate::answer::Trouble;
 use std::alloc::Global;
 use std::str::FromStr;
 
-// The bytes that the digits spell; `-` stands for none.
+/// The bytes that the digits spell; `-` stands for none.
 fn bytes_of(alloc: Global, digits: &str) -> Result<Vec<u8>, Trouble> {
     match digits {
         "-" => Ok(Vec::new(alloc)),

@@ -7,7 +7,7 @@ use crate::shown::Shown;
 use pkcs8_core::PrivateKeyInfoRef;
 use std::alloc::Global;
 
-// The key inside the container, by the view and by the key with a list.
+/// The key inside the container, by the view and by the key with a list.
 fn key_inside(alloc: Global, info: &PrivateKeyInfoRef<'_>) -> Answer {
     let view = match info.rsa_view() {
         Ok(view) => view.shown(alloc)?,

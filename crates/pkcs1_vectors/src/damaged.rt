@@ -30,7 +30,7 @@ pub struct Pss;
 /// Parameters of RSAES-OAEP.
 pub struct Oaep;
 
-// Whether nothing is read of the reader any more.
+/// Whether nothing is read of the reader any more.
 fn has_failed(mut reader: SliceReader<'_>) -> bool {
     let failed = Error::new(ErrorKind::Failed);
     reader.read_slice(Length::ZERO) == Err(failed)
@@ -81,7 +81,7 @@ impl Damaged for Oaep {
     }
 }
 
-// Which of the types accept the text.
+/// Which of the types accept the text.
 fn accepting(alloc: Global, text: &[u8]) -> [(&'static str, bool); 4] {
     [
         ("pub", Public::is_well(alloc, text).is_some()),
@@ -111,7 +111,7 @@ pub fn types(alloc: Global, arguments: &mut Arguments<'_>) -> Answer {
     Ok(String::from_str(alloc, answer.as_str().trim_end())?)
 }
 
-// How many texts there were, were accepted, and weren't answered as they should be.
+/// How many texts there were, were accepted, and weren't answered as they should be.
 #[derive(Clone, Copy)]
 struct Counts {
     texts: u64,
@@ -164,7 +164,7 @@ pub fn changed<D: Damaged>(alloc: Global, arguments: &mut Arguments<'_>) -> Answ
     counts.told(alloc)
 }
 
-// The SEQUENCE of parts whose places are the digits of the number, the last one first.
+/// The SEQUENCE of parts whose places are the digits of the number, the last one first.
 fn sequence(
     alloc: Global,
     parts: &[Vec<u8>],

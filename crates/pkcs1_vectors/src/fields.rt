@@ -8,7 +8,7 @@ use der_core::{
 use spki_core::{ContextSpecificRef, read_context_specific, read_field};
 use std::alloc::Global;
 
-// What was read, and how many bytes are left; a refusal, and whether the reader goes on reading behind it.
+/// What was read, and how many bytes are left; a refusal, and whether the reader goes on reading behind it.
 fn told(alloc: Global, reader: &SliceReader<'_>, answer: Result<Option<u8>>) -> Answer {
     let left = reader.remaining_len().to_usize();
     match answer {
@@ -19,7 +19,7 @@ fn told(alloc: Global, reader: &SliceReader<'_>, answer: Result<Option<u8>>) -> 
     }
 }
 
-// A reader over the bytes.
+/// A reader over the bytes.
 fn reader_of(bytes: &[u8]) -> std::result::Result<SliceReader<'_>, Trouble> {
     SliceReader::new(bytes).map_err(|_| Trouble::Malformed)
 }
@@ -48,7 +48,7 @@ pub fn last(alloc: Global, arguments: &mut Arguments<'_>) -> Answer {
     told(alloc, &reader, answer)
 }
 
-// The next part, the number of a tag.
+/// The next part, the number of a tag.
 fn tag_number(arguments: &mut Arguments<'_>) -> std::result::Result<TagNumber, Trouble> {
     let number = arguments.number::<u8>()?;
     if number > 30 {

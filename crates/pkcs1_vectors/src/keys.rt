@@ -1,5 +1,5 @@
 //! Versions, keys and other primes.
-use crate::answer::{Answer, Trouble, agreed, digits, refused_key};
+use crate::answer::{Answer, Trouble, agreed, digits, refused, refused_key};
 use crate::arguments::Arguments;
 use crate::carried::{private_der, public_der, viewed, with_document};
 use crate::read::{borrowed, both, owned, read_key};
@@ -38,7 +38,7 @@ pub fn public_key(alloc: Global, arguments: &mut Arguments<'_>) -> Answer {
     let answer = agreed(alloc, answer, "pkcs1_der", public_der(alloc, bytes)?)?;
     match RsaPublicKeyOwned::from_der(alloc, bytes) {
         Ok(key) => with_document(alloc, bytes, answer, held(alloc, &key)?),
-        Err(_) => Ok(answer),
+        Err(error) => agreed(alloc, answer, "from_der", refused(alloc, error)?),
     }
 }
 
@@ -105,7 +105,7 @@ pub fn private_key(alloc: Global, arguments: &mut Arguments<'_>) -> Answer {
     let answer = agreed(alloc, answer, "pkcs1_der", private_der(alloc, bytes)?)?;
     match RsaPrivateKeyOwned::from_der(alloc, bytes) {
         Ok(key) => with_document(alloc, bytes, answer, held(alloc, &key)?),
-        Err(_) => Ok(answer),
+        Err(error) => agreed(alloc, answer, "from_der", refused(alloc, error)?),
     }
 }
 
@@ -151,7 +151,7 @@ pub fn from_octets(alloc: Global, arguments: &mut Arguments<'_>) -> Answer {
     )
 }
 
-// The private key of the next part.
+/// The private key of the next part.
 macro_rules! private_key_of {
     ($alloc:expr, $bytes:expr) => {
         match RsaPrivateKeyRef::decode_key($alloc, $bytes) {

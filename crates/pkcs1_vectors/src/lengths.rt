@@ -4,7 +4,7 @@ use crate::arguments::Arguments;
 use der_core::{Header, Length, Reader, Result, SliceReader, Tag, TagNumber};
 use std::alloc::Global;
 
-// The length that was read, how many bytes are left, and its octets where they are others.
+/// The length that was read, how many bytes are left, and its octets where they are others.
 fn read_length(bytes: &[u8]) -> Result<(Length, usize)> {
     let mut reader = SliceReader::new(bytes)?;
     let length = Length::decode(&mut reader)?;
@@ -23,7 +23,7 @@ pub fn length(alloc: Global, arguments: &mut Arguments<'_>) -> Answer {
     }
 }
 
-// The length in decimal digits, and its octets.
+/// The length in decimal digits, and its octets.
 fn told(alloc: Global, answer: Result<Length>) -> Answer {
     match answer {
         Ok(length) => {
@@ -44,7 +44,7 @@ pub fn max(alloc: Global) -> Answer {
     told(alloc, Ok(Length::MAX))
 }
 
-// The length of the next part.
+/// The length of the next part.
 fn next_length(arguments: &mut Arguments<'_>) -> std::result::Result<Length, Trouble> {
     match Length::try_from(arguments.number::<usize>()?) {
         Ok(length) => Ok(length),
@@ -105,7 +105,7 @@ pub fn context(alloc: Global, arguments: &mut Arguments<'_>) -> Answer {
     digits(alloc, &[Tag::context(TagNumber::new(number)).octet()])
 }
 
-// The header that was read, and how many bytes are left.
+/// The header that was read, and how many bytes are left.
 fn read_header(bytes: &[u8]) -> Result<(Header, usize)> {
     let mut reader = SliceReader::new(bytes)?;
     let header = Header::decode(&mut reader)?;

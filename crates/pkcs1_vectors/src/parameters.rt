@@ -1,5 +1,5 @@
 //! Parameters of RSASSA-PSS and RSAES-OAEP.
-use crate::answer::{Answer, Trouble, agreed, text, yes_or_no};
+use crate::answer::{Answer, Trouble, agreed, refused, text, yes_or_no};
 use crate::arguments::Arguments;
 use crate::keys::into_each;
 use crate::read::{borrowed, both, read_key};
@@ -29,11 +29,11 @@ pub fn pss(alloc: Global, arguments: &mut Arguments<'_>) -> Answer {
             let held = held(alloc, &params)?;
             with_documents(alloc, answer, held, written(alloc, &params)?)
         }
-        Err(_) => Ok(answer),
+        Err(error) => agreed(alloc, answer, "from_der", refused(alloc, error)?),
     }
 }
 
-// The answer, and what documents hold where that isn't what is written.
+/// The answer, and what documents hold where that isn't what is written.
 fn with_documents(alloc: Global, answer: String, held: String, written: String) -> Answer {
     if held == written {
         return Ok(answer);
@@ -97,7 +97,7 @@ pub fn oaep(alloc: Global, arguments: &mut Arguments<'_>) -> Answer {
             let held = held(alloc, &params)?;
             with_documents(alloc, answer, held, written(alloc, &params)?)
         }
-        Err(_) => Ok(answer),
+        Err(error) => agreed(alloc, answer, "from_der", refused(alloc, error)?),
     }
 }
 
@@ -145,7 +145,7 @@ pub fn oaep_same(alloc: Global, arguments: &mut Arguments<'_>) -> Answer {
     yes_or_no(alloc, one == other)
 }
 
-// How many bytes the text has, and the text.
+/// How many bytes the text has, and the text.
 fn made<T: Encode>(alloc: Global, params: &T) -> Answer {
     let text = written(alloc, params)?;
     Ok(format!(in alloc; "{} {text}", text.len() / 2)?)

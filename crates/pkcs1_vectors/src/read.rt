@@ -35,7 +35,7 @@ pub fn read_key<T: Shown + Encode + Drop>(
     }
 }
 
-// The value at the front of a reader that has nothing else.
+/// The value at the front of a reader that has nothing else.
 fn front<'a, T: Decode<&'a [u8], NoMemory>>(bytes: &'a [u8]) -> Result<T> {
     let mut reader = SliceReader::new(bytes)?;
     let value = T::decode(NoMemory, &mut reader)?;

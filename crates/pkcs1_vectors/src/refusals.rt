@@ -4,7 +4,7 @@ use crate::arguments::Arguments;
 use der_core::{Error, ErrorKind, Tag};
 use std::alloc::Global;
 
-// The kinds that name no tag.
+/// The kinds that name no tag.
 fn plain_kind(name: &str) -> Result<ErrorKind, Trouble> {
     match name {
         "Failed" => Ok(ErrorKind::Failed),
@@ -23,7 +23,7 @@ fn plain_kind(name: &str) -> Result<ErrorKind, Trouble> {
     }
 }
 
-// The kind of that name; those of a tag are told of SEQUENCE, and NULL where INTEGER was expected.
+/// The kind of that name; those of a tag are told of SEQUENCE, and NULL where INTEGER was expected.
 fn named_kind(name: &str) -> Result<ErrorKind, Trouble> {
     let tag = Tag::SEQUENCE;
     let (expected, actual) = (Tag::INTEGER, Tag::NULL);

@@ -114,7 +114,7 @@ impl<U: AsUintRef> Shown for OtherPrimeInfo<U> {
     }
 }
 
-// The version, eight numbers in their order, and other primes, as they are shown.
+/// The version, eight numbers in their order, and other primes, as they are shown.
 fn private_shown(
     alloc: Global,
     version: Version,

@@ -6,7 +6,7 @@ use der_core::Decode;
 use pkcs1::{Result, RsaOaepParamsOwned, RsaOaepParamsRef, RsaPssParamsOwned, RsaPssParamsRef};
 use std::alloc::Global;
 
-// The texts of the list, each behind a space.
+/// The texts of the list, each behind a space.
 fn listed(alloc: Global, answer: Result<Vec<Vec<u8>>>) -> Answer {
     let texts = match answer {
         Ok(texts) => texts,

@@ -5,7 +5,7 @@ use crate::read::{borrowed, both, owned};
 use crate::shown::Shown;
 use crate::written::{contents, written};
 use der_core::{
-    Document, Encode, EncodeValue, OctetStringRef, Result, SecretDocument, Uint, UintRef,
+    Document, Encode, EncodeValue, FromRead, OctetStringRef, Result, SecretDocument, Uint, UintRef,
 };
 use std::alloc::Global;
 
@@ -29,7 +29,7 @@ pub fn uints(alloc: Global, arguments: &mut Arguments<'_>) -> Answer {
     owned::<Vec<Uint>>(alloc, arguments.bytes(alloc)?.as_slice())
 }
 
-// The value, its text, and its contents.
+/// The value, its text, and its contents.
 fn made<T: Shown + Encode + EncodeValue + Drop>(alloc: Global, answer: Result<T>) -> Answer {
     match answer {
         Ok(value) => {
@@ -68,7 +68,7 @@ pub fn octets_new(alloc: Global, arguments: &mut Arguments<'_>) -> Answer {
     }
 }
 
-// What a document that was made holds, and how many bytes that is.
+/// What a document that was made holds, and how many bytes that is.
 fn held(alloc: Global, answer: Result<Document>) -> Answer {
     match answer {
         Ok(document) => {
@@ -79,7 +79,7 @@ fn held(alloc: Global, answer: Result<Document>) -> Answer {
     }
 }
 
-// The same of a document that shows none of its bytes.
+/// The same of a document that shows none of its bytes.
 fn held_secret(alloc: Global, answer: Result<SecretDocument>) -> Answer {
     match answer {
         Ok(document) => {
@@ -90,10 +90,15 @@ fn held_secret(alloc: Global, answer: Result<SecretDocument>) -> Answer {
     }
 }
 
-/// `document HEX`: what documents of these bytes hold.
+/// `document HEX`: what documents of these bytes hold, given as a slice or by a source.
 pub fn document(alloc: Global, arguments: &mut Arguments<'_>) -> Answer {
     let bytes = arguments.bytes(alloc)?;
-    let answer = held(alloc, Document::from_der(alloc, bytes.as_slice()))?;
-    let secret = held_secret(alloc, SecretDocument::from_der(alloc, bytes.as_slice()))?;
-    agreed(alloc, answer, "secret", secret)
+    let bytes = bytes.as_slice();
+    let answer = held(alloc, Document::from_der(alloc, bytes))?;
+    let secret = held_secret(alloc, SecretDocument::from_der(alloc, bytes))?;
+    let answer = agreed(alloc, answer, "secret", secret)?;
+    let read = Document::read_from(alloc, &mut FromRead::new(bytes));
+    let answer = agreed(alloc, answer, "read_from", held(alloc, read)?)?;
+    let read = SecretDocument::read_from(alloc, &mut FromRead::new(bytes));
+    agreed(alloc, answer, "secret_read_from", held_secret(alloc, read)?)
 }

@@ -16,7 +16,7 @@ pub fn answer(alloc: Global, mut arguments: Arguments<'_>) -> Answer {
     Ok(answer)
 }
 
-// Lengths, tags, headers, refusals.
+/// Lengths, tags, headers, refusals.
 fn kernel_word(alloc: Global, word: &str, arguments: &mut Arguments<'_>) -> Answer {
     match word {
         "length" => lengths::length(alloc, arguments),
@@ -34,7 +34,7 @@ fn kernel_word(alloc: Global, word: &str, arguments: &mut Arguments<'_>) -> Answ
     }
 }
 
-// Integers, octet strings, lists, documents, last parts.
+/// Integers, octet strings, lists, documents, last parts.
 fn value_word(alloc: Global, word: &str, arguments: &mut Arguments<'_>) -> Answer {
     match word {
         "uint" => values::uint(alloc, arguments),
@@ -54,7 +54,7 @@ fn value_word(alloc: Global, word: &str, arguments: &mut Arguments<'_>) -> Answe
     }
 }
 
-// Identifiers, texts of any tag, algorithms.
+/// Identifiers, texts of any tag, algorithms.
 fn algorithm_word(alloc: Global, word: &str, arguments: &mut Arguments<'_>) -> Answer {
     match word {
         "oid" => algorithms::oid(alloc, arguments),
@@ -77,7 +77,7 @@ fn algorithm_word(alloc: Global, word: &str, arguments: &mut Arguments<'_>) -> A
     }
 }
 
-// Keys, and containers of them.
+/// Keys, and containers of them.
 fn key_word(alloc: Global, word: &str, arguments: &mut Arguments<'_>) -> Answer {
     match word {
         "version" => keys::version(alloc, arguments),
@@ -100,7 +100,7 @@ fn key_word(alloc: Global, word: &str, arguments: &mut Arguments<'_>) -> Answer 
     }
 }
 
-// Parameters.
+/// Parameters.
 fn parameter_word(alloc: Global, word: &str, arguments: &mut Arguments<'_>) -> Answer {
     match word {
         "trailer" => parameters::trailer(alloc, arguments),
@@ -122,7 +122,7 @@ fn parameter_word(alloc: Global, word: &str, arguments: &mut Arguments<'_>) -> A
     }
 }
 
-// Parameters that are made of a hash function.
+/// Parameters that are made of a hash function.
 fn made_word(alloc: Global, word: &str, arguments: &mut Arguments<'_>) -> Answer {
     match word {
         "new-pss-sha1" => parameters::new_pss::<Sha1>(alloc, arguments),
@@ -137,7 +137,7 @@ fn made_word(alloc: Global, word: &str, arguments: &mut Arguments<'_>) -> Answer
     }
 }
 
-// Texts that were damaged.
+/// Texts that were damaged.
 fn damaged_word(alloc: Global, word: &str, arguments: &mut Arguments<'_>) -> Answer {
     match word {
         "changed-pub" => damaged::changed::<Public>(alloc, arguments),

@@ -11,7 +11,7 @@ const ROOM: usize = 1200;
 /// What each byte of a slice is before anything is written into it.
 const UNTOUCHED: u8 = 0xaa;
 
-// The text at the front of the slice.
+/// The text at the front of the slice.
 fn filled<T: Encode>(alloc: Global, value: &T) -> Answer {
     match value.encode_to_slice(&mut [UNTOUCHED; ROOM]) {
         Ok(text) => digits(alloc, text),
@@ -19,7 +19,7 @@ fn filled<T: Encode>(alloc: Global, value: &T) -> Answer {
     }
 }
 
-// What is appended by a writer.
+/// What is appended by a writer.
 fn streamed<T: Encode>(alloc: Global, value: &T) -> Answer {
     let mut slice = [UNTOUCHED; ROOM];
     let mut writer = SliceWriter::new(&mut slice);
@@ -29,7 +29,7 @@ fn streamed<T: Encode>(alloc: Global, value: &T) -> Answer {
     }
 }
 
-// As many digits of the text as are counted.
+/// As many digits of the text as are counted.
 fn counted<T: Encode>(alloc: Global, value: &T, text: &str) -> Answer {
     match value.encoded_len() {
         Ok(length) if length.to_usize().checked_mul(2) == Some(text.len()) => {
@@ -48,7 +48,7 @@ pub fn written<T: Encode>(alloc: Global, value: &T) -> Answer {
     agreed(alloc, text, "encode", streamed(alloc, value)?)
 }
 
-// What is appended of the contents.
+/// What is appended of the contents.
 fn appended<T: EncodeValue>(alloc: Global, value: &T) -> Answer {
     let mut slice = [UNTOUCHED; ROOM];
     let mut writer = SliceWriter::new(&mut slice);
@@ -80,7 +80,7 @@ pub fn held<'a, T: EncodeValue + Sequence<'a>>(alloc: Global, value: &T) -> Answ
     agreed(alloc, document, "secret", secret)
 }
 
-// The whole slice, the untouched bytes at its end as their number.
+/// The whole slice, the untouched bytes at its end as their number.
 fn slice_shown(alloc: Global, slice: &[u8]) -> Answer {
     let untouched = slice
         .iter()
