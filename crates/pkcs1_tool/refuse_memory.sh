@@ -13,33 +13,7 @@ failed=0
     exit 1
 }
 
-# Refuses the request of the number REFUSED, and tells so on descriptor 9.
-"${CC:-gcc}" -shared -fPIC -O1 -Wall -Wextra -Werror -o "$room/refuse.so" -x c - << 'C' || exit 1
-#include <errno.h>
-#include <stdlib.h>
-#include <unistd.h>
-
-extern void *__libc_malloc(size_t size);
-extern void *__libc_realloc(void *old, size_t size);
-
-static int is_refused(void) {
-    static long requests;
-    const char *number = getenv("REFUSED");
-    if (number == NULL || ++requests != atol(number)) {
-        return 0;
-    }
-    errno = ENOMEM;
-    return write(9, "x", 1) == 1;
-}
-
-void *malloc(size_t size) {
-    return is_refused() ? NULL : __libc_malloc(size);
-}
-
-void *realloc(void *old, size_t size) {
-    return is_refused() ? NULL : __libc_realloc(old, size);
-}
-C
+"${CC:-gcc}" -shared -fPIC -O1 -Wall -Wextra -Werror -o "$room/refuse.so" refuse_memory.c || exit 1
 
 # hex BYTES: the bytes that the digits spell.
 hex() {

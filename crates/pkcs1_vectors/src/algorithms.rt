@@ -147,8 +147,9 @@ pub fn algorithm(alloc: Global, arguments: &mut Arguments<'_>) -> Answer {
         return Ok(answer);
     };
     let parameters = parameters_of(alloc, &borrowed)?;
-    let Ok(own) = AlgorithmIdentifier::<Any>::from_der(alloc, bytes.as_slice()) else {
-        return Ok(answer);
+    let own = match AlgorithmIdentifier::<Any>::from_der(alloc, bytes.as_slice()) {
+        Ok(own) => own,
+        Err(error) => return agreed(alloc, answer, "from_der", refused(alloc, error)?),
     };
     let parameters = agreed(alloc, parameters, "owned", parameters_of(alloc, &own)?)?;
     let answer = agreed(

@@ -1,0 +1,25 @@
+// Refuses the request for memory of the number REFUSED, and tells so on descriptor 9: preloaded by refuse_memory.sh.
+#include <errno.h>
+#include <stdlib.h>
+#include <unistd.h>
+
+extern void *__libc_malloc(size_t size);
+extern void *__libc_realloc(void *old, size_t size);
+
+static int is_refused(void) {
+    static long requests;
+    const char *number = getenv("REFUSED");
+    if (number == NULL || ++requests != atol(number)) {
+        return 0;
+    }
+    errno = ENOMEM;
+    return write(9, "x", 1) == 1;
+}
+
+void *malloc(size_t size) {
+    return is_refused() ? NULL : __libc_malloc(size);
+}
+
+void *realloc(void *old, size_t size) {
+    return is_refused() ? NULL : __libc_realloc(old, size);
+}
