@@ -19,7 +19,15 @@ use spki_core::{
 };
 use std::alloc::Global;
 
-/// Parameters of RSAES-OAEP. A field that has its default is read explicit too, and never written.
+/// Parameters of RSAES-OAEP (RFC 8017 A.2.1). A field that has its default is read explicit too, and never written.
+///
+/// ```text
+/// RSAES-OAEP-params ::= SEQUENCE {
+///     hashAlgorithm     [0] HashAlgorithm     DEFAULT sha1,
+///     maskGenAlgorithm  [1] MaskGenAlgorithm  DEFAULT mgf1SHA1,
+///     pSourceAlgorithm  [2] PSourceAlgorithm  DEFAULT pSpecifiedEmpty
+/// }
+/// ```
 #[derive(Clone, Copy, Debug, PartialEq, Eq, Drop)]
 pub struct RsaOaepParams<P> {
     /// The hash function; SHA-1 with NULL by default.

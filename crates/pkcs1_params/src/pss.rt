@@ -22,7 +22,16 @@ use spki_core::{
 };
 use std::alloc::Global;
 
-/// Parameters of RSASSA-PSS. A field that has its default is read explicit too, and never written.
+/// Parameters of RSASSA-PSS (RFC 8017 A.2.3). A field that has its default is read explicit too, and never written.
+///
+/// ```text
+/// RSASSA-PSS-params ::= SEQUENCE {
+///     hashAlgorithm     [0] HashAlgorithm     DEFAULT sha1,
+///     maskGenAlgorithm  [1] MaskGenAlgorithm  DEFAULT mgf1SHA1,
+///     saltLength        [2] INTEGER           DEFAULT 20,
+///     trailerField      [3] TrailerField      DEFAULT trailerFieldBC
+/// }
+/// ```
 #[derive(Clone, Copy, Debug, PartialEq, Eq, Drop)]
 pub struct RsaPssParams<P> {
     /// The hash function; SHA-1 with NULL by default.
