@@ -9,7 +9,7 @@ use crate::error::{Error, ErrorKind, Result};
 use crate::source_sink::{Sink, Source};
 use std::io::{Read, Write};
 
-// One more refusal.
+/// One more refusal.
 fn refused(faults: &mut u64) -> Error
     ensures counted { faults.new ≡ min (faults.old + 1) (2 ^ 64 - 1) }
     ensures file { IsFile result }
