@@ -3,6 +3,9 @@
 //!
 //! A type names its relation of values and contents once (`Contents`). Reading accepts exactly that relation, and
 //! writing gives the shortest text of it.
+//!
+//! A text is one whole DER encoding: tag, length and contents octets. A sentence is a text within the limit on its
+//! length that means a value.
 #![tactic(auto)]
 
 mod back_writer;

@@ -1,4 +1,7 @@
 //! RSA keys and parameters of PKCS #1 (RFC 8017) in DER.
+//!
+//! A text is one whole DER encoding: tag, length and contents octets. A sentence is a text within the limit on its
+//! length that means a value.
 #![tactic(auto)]
 
 mod algorithm;
