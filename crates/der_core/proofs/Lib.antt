@@ -1,5 +1,3 @@
-pub mod LengthReading
-pub mod Headers
 pub mod HeaderAndContents
 pub mod Members
 pub mod Growing
@@ -11,9 +9,7 @@ pub mod WrittenOut
 pub mod LengthOctets
 pub mod LengthRows
 pub mod IntegerRows
-pub mod SequenceOf
 pub mod Items
 pub mod SourceMoves
-pub mod Smalls
 pub mod Documents
 pub mod DocumentRows

@@ -13,7 +13,7 @@ use Rattle.der_core.specs.Input.{header_at}
 use Rattle.der_core.specs.ListLaws.{same_cons}
 use Rattle.der_core.specs.TextLaws.{tlv_split, tlv_not_empty}
 use Rattle.der_core.specs.InputLaws.{ok_pair}
-use Rattle.der_core.proofs.Headers.{tlv_header}
+use Rattle.der_core.specs.HeaderLaws.{tlv_header}
 
 -- Length octets in the long form.
 pub known_long : (digits : List ℕ) → AreBytes digits → 0 < slice_index digits 0 → 128 ≤ number_from_digits 256 digits → length digits ≤ 126 → IsLength (number_from_digits 256 digits) ((128 + length digits) ∷ digits)

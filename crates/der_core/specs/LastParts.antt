@@ -5,6 +5,7 @@ use Rattle.der_core.specs.declared.error.ErrorKind.{ErrorKind}
 use Rattle.der_core.specs.Input.{Input, left_in, read_from, end_of}
 use Rattle.der_core.specs.Texts.{IsDelimited, Joins}
 use Rattle.der_core.specs.Optional.{Optional}
+use Rattle.der_core.specs.Faults.{AloneFault, LastFault, FaultyWhole}
 use Rattle.der_core.specs.Tells.{is_trailing}
 use Rattle.der_core.specs.Reading.{AllocatesIn}
 use Rattle.der_core.specs.Sequences.{TextFails, TextGives, ContentsFail, some_same}
@@ -54,3 +55,8 @@ as_last contents part may_allocate before after e fails =
   where
     only : (P : List ℕ → Type 0) (c : List ℕ) → Joins (P ∷ []) c → P c
     only P c (x, y, p, e, h) = let same : c ≡ x = h ∙ ap (λ l. x ++ l) e ∙ append-nil x in rw same p
+
+-- Something is left, and it has a fault.
+pub last_faults : {V : Type 0} (text : V → List ℕ → Type 0) (Fault : ErrorKind → List ℕ → Type 0) (may_allocate : List ℕ → Type 0) (before : Input) (e : ErrorKind) → 0 < length (left_in before) → FaultyWhole (AloneFault text Fault) may_allocate e before
+    → FaultyWhole (LastFault text Fault) (λ c. (0 < length c) × may_allocate c) e before
+last_faults text Fault may_allocate before e more fault c is = let some : 0 < length c = rw is at more in ⊎_elim (λ w. inl (w.0, (some, w.1))) (λ f. inr (some, f)) (fault c is)

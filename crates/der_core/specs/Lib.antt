@@ -52,3 +52,9 @@ pub mod Whole
 pub mod OptionalReads
 pub mod ShortTexts
 pub mod Expected
+pub mod LengthReading
+pub mod HeaderLaws
+pub mod Smalls
+pub mod Faults
+pub mod ItemReads
+pub mod FaultLaws

@@ -1,7 +1,10 @@
 //! Reading of values.
-ghost use Rattle.std.specs.Prelude.{ℕ, List};
+ghost use Rattle.std.specs.Prelude.{ℕ, List, IfErr};
 ghost use Rattle.der_core.specs.Tlv.{Tlv};
-ghost use Rattle.der_core.specs.Reading.{ReadsContents, ReadsText, ReadsAll, ReadsOptional, HoldsBytes, TellsNext};
+ghost use Rattle.der_core.specs.Reading.{ReadsOrFaults, ReadsText, ReadsAll, ReadsOptional, HoldsBytes, TellsNext, NoneHas, NoneIn, AllocatesIn};
+ghost use Rattle.der_core.specs.Faults.{TextFault, WholeFault, Faulty, FaultyFront, AreNone};
+ghost use Rattle.der_core.specs.FaultLaws.{text_fault_none};
+ghost use Rattle.der_core.specs.declared.error.ErrorKind.{ErrorKind};
 
 use crate::error::{ErrorKind, Result};
 use crate::header::Header;
@@ -17,10 +20,16 @@ pub trait DecodeValue<B: Octets, M: Memory>: Contents + Sized + Drop {
     /// The contents for which memory may be asked for.
     ghost may_allocate: { List ℕ → Type 0 };
 
+    /// Contents of no value, by the kind of their first fault.
+    ghost fault: { ErrorKind → List ℕ → Type 0 };
+
     /// Reads all that is left, which is as many bytes as the header says, as the contents of a value.
     fn decode_value<R: Reader<B>>(memory: M, reader: &mut R, header: Header) -> Result<Self>
         requires { HoldsBytes (R.left reader.old) header.length }
-        ensures { ReadsContents Self.value Self.contents may_allocate result (R.left reader.old) (R.left reader.new) };
+        ensures { let before = R.left reader.old in
+            ReadsOrFaults Self.value Self.contents fault may_allocate result before (R.left reader.new) };
+
+    ghost fault_none: { AreNone (NoneHas Self.contents) fault };
 }
 
 /// A type whose values are read from their texts.
@@ -28,18 +37,29 @@ pub trait Decode<B: Octets, M: Memory>: Text + Sized + Drop {
     /// The texts for which memory may be asked for.
     ghost may_allocate: { List ℕ → Type 0 };
 
+    /// Bytes with no text at the front, by the kind of the first fault.
+    ghost fault: { ErrorKind → List ℕ → Type 0 };
+
     /// Reads the text at the front of the reader.
     fn decode<R: Reader<B>>(memory: M, reader: &mut R) -> Result<Self>
-        ensures { ReadsText Self.value Self.text may_allocate result (R.left reader.old) (R.left reader.new) };
+        ensures text { ReadsText Self.value Self.text may_allocate result (R.left reader.old) (R.left reader.new) }
+        ensures exact { IfErr result (λ e. FaultyFront fault may_allocate e.kind (R.left reader.old)) };
 
     /// Reads a whole slice: `Overflow` past `Length::MAX`, `TrailingData` where bytes follow the text.
     fn from_der(memory: M, bytes: B) -> Result<Self>
-        ensures { ReadsAll Self.value Self.text may_allocate result (B.octets bytes) };
+        ensures text { ReadsAll Self.value Self.text may_allocate result (B.octets bytes) }
+        ensures exact { let b = B.octets bytes in
+            IfErr result (λ e. Faulty e.kind (AllocatesIn may_allocate b) (WholeFault Self.text fault e.kind b)) };
+
+    ghost fault_none: { AreNone (NoneIn Self.text) fault };
 }
 
 impl<'a, M: Memory, T: DecodeValue<&'a [u8], M> + FixedTag> Decode<&'a [u8], M> for T {
     ghost may_allocate = { Tlv T.TAG.octet T.DecodeValue.may_allocate };
 
+    ghost fault = { TextFault T.TAG T.DecodeValue.fault };
+
+    #[inline(always)]
     fn decode<R: Reader<&'a [u8]>>(memory: M, reader: &mut R) -> Result<T> {
         let header = Header::decode(reader)?;
         if header.tag != T::TAG {
@@ -55,15 +75,19 @@ impl<'a, M: Memory, T: DecodeValue<&'a [u8], M> + FixedTag> Decode<&'a [u8], M> 
         }
     }
 
+    #[inline(always)]
     fn from_der(memory: M, bytes: &'a [u8]) -> Result<T> {
         let mut reader = SliceReader::new(bytes)?;
         let value = T::decode(memory, &mut reader)?;
         reader.finish()?;
         Ok(value)
     }
+
+    ghost fault_none = { text_fault_none T.TAG T.DecodeValue.fault T.contents T.DecodeValue.fault_none };
 }
 
 /// Whether the octet of a tag comes next. On a reader that has failed the answer is `Failed`.
+#[inline(always)]
 pub fn is_tag_next<'a, R: Reader<&'a [u8]>>(reader: &mut R, tag: Tag) -> Result<bool>
     ensures { TellsNext tag.octet result (R.left reader.old) (R.left reader.new) }
 {
@@ -76,9 +100,11 @@ pub fn decode_optional<'a, T: DecodeValue<&'a [u8], M> + FixedTag, M: Memory, R:
     memory: M,
     reader: &mut R,
 ) -> Result<Option<T>>
-    ensures { let tag = T.TAG.octet in
+    ensures reads { let tag = T.TAG.octet in
         let may = Tlv tag T.DecodeValue.may_allocate in
         ReadsOptional tag T.value (λ v. Tlv tag (T.contents v)) may result (R.left reader.old) (R.left reader.new) }
+    ensures exact { let may = Tlv T.TAG.octet T.DecodeValue.may_allocate in
+        IfErr result (λ e. FaultyFront (TextFault T.TAG T.DecodeValue.fault) may e.kind (R.left reader.old)) }
 {
     if !is_tag_next(reader, T::TAG)? {
         return Ok(None);

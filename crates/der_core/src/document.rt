@@ -4,7 +4,8 @@ ghost use Rattle.der_core.specs.Carrying.{ReadsDocument, WritesAll};
 ghost use Rattle.der_core.specs.Document.{IsDocument};
 ghost use Rattle.der_core.specs.DocumentLaws.{IsDocument-prop};
 ghost use Rattle.der_core.specs.Length.{limit};
-ghost use Rattle.der_core.specs.Reading.{Refuses};
+ghost use Rattle.der_core.specs.Faults.{Untold};
+ghost use Rattle.der_core.specs.Reading.{Refuses, NoneHas};
 ghost use Rattle.der_core.specs.Refusal.{IsFile};
 ghost use Rattle.der_core.specs.Texts.{AreBytes};
 ghost use Rattle.der_core.specs.Tlv.{Tlv, tlv};
@@ -54,6 +55,8 @@ impl TaggedBy for AnySequence {
 impl<'a> DecodeValue<&'a [u8], NoMemory> for AnySequence {
     ghost may_allocate = { λ _. ⊥ };
 
+    ghost fault = { Untold (NoneHas (λ (_ : Unit {0}) octets. AreBytes octets)) };
+
     fn decode_value<R: Reader<&'a [u8]>>(
         _memory: NoMemory,
         reader: &mut R,
@@ -62,6 +65,8 @@ impl<'a> DecodeValue<&'a [u8], NoMemory> for AnySequence {
         reader.read_slice(header.length)?;
         Ok(AnySequence)
     }
+
+    ghost fault_none = { λ kind bytes within fault. fault };
 }
 
 /// Writes the text of a message over a slice of its length.

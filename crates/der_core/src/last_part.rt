@@ -1,5 +1,6 @@
 //! The last part of contents: one text, or an OPTIONAL one.
-ghost use Rattle.std.specs.Prelude.{◌≡◌, ◌≤◌, length, None, IsErrAnd};
+ghost use Rattle.std.specs.Prelude.{◌≡◌, ◌≤◌, length, None, IsErrAnd, IfErr};
+ghost use Rattle.der_core.specs.Faults.{AloneFault, LastFault, FaultyWhole};
 ghost use Rattle.std.specs.Option.{option_map};
 ghost use Rattle.der_core.specs.Length.{limit};
 ghost use Rattle.der_core.specs.BackWriters.{free_of, Prepends};
@@ -18,12 +19,15 @@ use crate::writer::Writer;
 
 /// Reads all that is left as one text: `TrailingData` where bytes follow it. On a reader that has failed the answer is
 /// `Failed`.
+#[inline(always)]
 pub fn decode_whole<'a, T: Decode<&'a [u8], M>, M: Memory, R: Reader<&'a [u8]>>(
     memory: M,
     reader: &mut R,
 ) -> Result<T>
     ensures reads { let may = AllocatesIn T.Decode.may_allocate in
         ReadsContents T.value T.text may result (R.left reader.old) (R.left reader.new) }
+    ensures exact { let may = AllocatesIn T.Decode.may_allocate in
+        IfErr result (λ e. FaultyWhole (AloneFault T.text T.Decode.fault) may e.kind (R.left reader.old)) }
     ensures failed { R.left reader.old ≡ None → IsErrAnd result (λ e. e.kind ≡ ErrorKind.Failed) }
 {
     let value = T::decode(memory, reader)?;
@@ -33,12 +37,15 @@ pub fn decode_whole<'a, T: Decode<&'a [u8], M>, M: Memory, R: Reader<&'a [u8]>>(
 
 /// Reads all that is left: nothing, or one text. `TrailingData` where bytes follow that. On a reader that has failed the
 /// answer is `Failed`.
+#[inline(always)]
 pub fn decode_last<'a, T: Decode<&'a [u8], M>, M: Memory, R: Reader<&'a [u8]>>(
     memory: M,
     reader: &mut R,
 ) -> Result<Option<T>>
     ensures reads { let may = AllocatesLast T.Decode.may_allocate in
         ReadsContents (option_map T.value) (Optional T.text) may result (R.left reader.old) (R.left reader.new) }
+    ensures exact { let may = AllocatesLast T.Decode.may_allocate in
+        IfErr result (λ e. FaultyWhole (LastFault T.text T.Decode.fault) may e.kind (R.left reader.old)) }
     ensures failed { R.left reader.old ≡ None → IsErrAnd result (λ e. e.kind ≡ ErrorKind.Failed) }
 {
     if reader.peek_octet().is_none() {

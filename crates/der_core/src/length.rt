@@ -36,6 +36,7 @@ impl Model for Length {
 }
 
 /// The number that at most four octets spell.
+#[inline(always)]
 fn number(octets: &[u8]) -> u32
     requires { length octets.now ≤ 4 }
     ensures { result ≡ number_from_digits 256 octets.now }
@@ -64,6 +65,7 @@ fn is_overlong(octets: &[u8]) -> bool
 }
 
 /// Reads the length octets.
+#[inline(always)]
 #[tactic(auto, unfolding(crate::specs::Input::length_at))]
 fn read_length<'a, R: Reader<&'a [u8]>>(reader: &mut R) -> Result<Length>
     ensures { Reads (λ n. n) result (R.left reader.old) (R.left reader.new) length_at }
@@ -223,6 +225,7 @@ impl Length {
     }
 
     /// Reads the length octets.
+    #[inline(always)]
     pub fn decode<'a, R: Reader<&'a [u8]>>(reader: &mut R) -> Result<Length>
         ensures exact { Reads (λ n. n) result (R.left reader.old) (R.left reader.new) length_at }
         ensures text { ReadsText (λ n. n) LengthText (λ _. ⊥) result (R.left reader.old) (R.left reader.new) }

@@ -2,6 +2,8 @@
 ghost use Rattle.std.specs.Prelude.{◌≡◌, ◌≤◌, ◌<◌, List, length, map};
 ghost use Rattle.der_core.specs.Length.{limit};
 ghost use Rattle.der_core.specs.BackWriters.{free_of, Prepends};
+ghost use Rattle.der_core.specs.Faults.{ItemsFault};
+ghost use Rattle.der_core.specs.FaultLaws.{items_fault_none};
 ghost use Rattle.der_core.specs.Writing.{Counts, Appends};
 ghost use Rattle.der_core.specs.SequenceOfLaws.{items_of_bytes, items_relate, items_shortest};
 ghost use Rattle.der_core.specs.SequenceOf.{ItemsContents, AllHave, all_texts};
@@ -41,6 +43,8 @@ impl<T> TaggedBy for Vec<T> {
 impl<'a, T: Decode<&'a [u8], Global>> DecodeValue<&'a [u8], Global> for Vec<T> {
     ghost may_allocate = { λ c. 0 < length c };
 
+    ghost fault = { ItemsFault T.text T.Decode.fault };
+
     fn decode_value<R: Reader<&'a [u8]>>(
         memory: Global,
         reader: &mut R,
@@ -55,6 +59,8 @@ impl<'a, T: Decode<&'a [u8], Global>> DecodeValue<&'a [u8], Global> for Vec<T> {
         }
         Ok(items)
     }
+
+    ghost fault_none = { items_fault_none T.text T.Decode.fault T.delimited T.Decode.fault_none };
 }
 
 /// How many octets the texts of the items have.

@@ -6,6 +6,7 @@ use Rattle.der_core.specs.Texts.{Joins, IsDelimited}
 use Rattle.der_core.specs.ListLaws.{same_fronts}
 use Rattle.der_core.specs.TextLaws.{tlv_split, tlv_not_empty}
 use Rattle.der_core.specs.Document.{Means}
+use Rattle.der_core.specs.Faults.{Faulty}
 use Rattle.der_core.specs.Integer.{Integer}
 use Rattle.der_core.specs.IntegerLaws.{small_delimited}
 use Rattle.der_core.specs.Reading.{AllocatesIn, AllocatesWithin, Refuses}
@@ -65,3 +66,12 @@ may_ask text (b, rest, e, p) = (b, rest, e, record { octets = p.octets; contents
 pub refuses_as : (kind : ErrorKind) (text : List ℕ) {none : Type 0} → Refuses kind (AllocatesIn (Tlv 48 (AllocatesForKey Integer (Tlv 2 (λ _. ⊥)))) text) none → Refuses kind (MayAllocate text) none
 refuses_as kind text (inl w) = inl (w.0, may_ask text w.1)
 refuses_as kind text (inr w) = inr w
+
+pub faulty_as : (kind : ErrorKind) (text : List ℕ) {fault : Type 0} → Faulty kind (AllocatesIn (Tlv 48 (AllocatesForKey Integer (Tlv 2 (λ _. ⊥)))) text) fault → Faulty kind (MayAllocate text) fault
+faulty_as kind text (inl w) = inl (w.0, may_ask text w.1)
+faulty_as kind text (inr f) = inr f
+
+-- Of bytes with a fault the refusal is that of the fault, or want of memory.
+pub faulty_first : (Fault : ErrorKind → List ℕ → Type 0) → ((j k : ErrorKind) (b : List ℕ) → Fault j b → Fault k b → j ≡ k) → (e kind : ErrorKind) (text : List ℕ) {asked : Type 0} → Fault kind text → Faulty e asked (Fault e text) → Faulty e asked (e ≡ kind)
+faulty_first Fault first e kind text fault (inl w) = inl w
+faulty_first Fault first e kind text fault (inr f) = inr (first e kind text f fault)

@@ -7,12 +7,10 @@ use Rattle.der_core.specs.declared.error.ErrorKind.{ErrorKind}
 use Rattle.der_core.specs.Input.{Input, read_from, end_of}
 use Rattle.der_core.specs.Reading.{Refuses, NoneIn, AllocatesIn, AllocatesWithin}
 use Rattle.der_core.specs.TextLaws.{last_holds}
-use Rattle.der_core.specs.Sequences.{some_same, TextFails, TextGives, ContentsFail}
-use Rattle.der_core.specs.Tells.{is_trailing}
-use Rattle.der_core.specs.Whole.{trailing_is}
+use Rattle.der_core.specs.Faults.{Faulty, FaultyFront}
+use Rattle.pkcs1.specs.KeyFaults.{CountedFault, OtherPrimeFault}
+use Rattle.der_core.specs.Sequences.{some_same, TextFails, TextGives, ContentsFaulty, more_than_end}
 use Rattle.pkcs1.specs.KeyNumbers.{EightNumbers}
-use Rattle.pkcs1.specs.Keys.{OtherPrimeContents}
-use Rattle.pkcs1.specs.Writing.{other_numbers}
 use Rattle.pkcs1.specs.PrivateKeyLaws.{joins_put}
 
 -- These values were read.
@@ -78,33 +76,6 @@ module _ {V : Type 0} (text : V → List ℕ → Type 0) where
         (λ w. inr (w.0, λ k has. fewer vs (numbers k) (parts k) all.read all.rest c all.joined (l k) w.1 same has))
         (fails.2 all.rest all.left)
 
-    pub numbers_same : {vs : List V} {before mid : Input} → GivesAll text vs before mid → (c : List ℕ) → before ≡ Some c
-        → (ws : List V) (parts : List (List ℕ → Type 0)) → length vs ≡ length ws → Joins (map text ws ++ parts) c → (rest : List ℕ) × (mid ≡ Some rest) × (vs ≡ ws) × Joins parts rest
-    numbers_same {vs} all c is ws parts l has =
-        let same : c ≡ all.read ++ all.rest = some_same c (all.read ++ all.rest) (sym is ∙ all.from) in
-        let s = as_many vs ws parts all.read all.rest c all.joined l same has in
-        (all.rest, all.left, s.0, s.1)
-
-    -- the contents of another prime
-    pub other_number_fails : {vs : List V} {before mid after : Input} {e : ErrorKind} (may_allocate : List ℕ → Type 0) → length vs < 3 → GivesAll text vs before mid → TextFails text may_allocate e mid after
-        → ContentsFail (OtherPrimeContents text) (AllocatesWithin may_allocate) e before after
-    other_number_fails may_allocate l all fails = (fails.0, λ c is. numbers_fail other_numbers (λ _. []) may_allocate (λ _. l) all fails c is)
-
-    pub other_end_fails : {vs : List V} {before mid after : Input} {e : ErrorKind} (may_allocate : List ℕ → Type 0) → length vs ≡ 3 → GivesAll text vs before mid → (read_from mid end_of ≡ Err e) × (after ≡ None)
-        → ContentsFail (OtherPrimeContents text) (AllocatesWithin may_allocate) e before after
-    other_end_fails {vs} {before} {mid} {after} {e} may_allocate l all fails =
-        let more = trailing_is mid all.rest e all.left fails.0 in (
-          fails.1,
-          λ c is.
-              inr (
-                is_trailing more.0,
-                λ other has.
-                    let s = numbers_same all c is (other_numbers other) [] l has in
-                    let rest : all.rest ≡ s.0 = some_same all.rest s.0 (sym all.left ∙ s.1) in
-                    omega (arith, ap length rest, ap length s.3, ap length more.3),
-              ),
-        )
-
     abbrev Eight : Type 0
     Eight = (ns : List V) × (length ns ≡ 8)
 
@@ -129,3 +100,37 @@ module _ {V : Type 0} (text : V → List ℕ → Type 0) where
 
   pub eight_given : {vs : List V} {before after : Input} → length vs ≡ 8 → GivesAll text vs before after → TextGives (EightNumbers text) vs before after
   eight_given l all = (all.read, all.rest, all.from, all.left, (l, all.joined))
+
+-- The faults of numbers, one after another.
+module _ {V : Type 0} (text : V → List ℕ → Type 0) (Fault : ErrorKind → List ℕ → Type 0) (may_allocate : List ℕ → Type 0) where
+  flat : (c : List ℕ) → AllocatesIn may_allocate c → AllocatesWithin may_allocate c
+  flat c (b, rest, is, asked) = ([], b, rest, is, asked)
+
+  pub numbers_fault : (n : ℕ) {vs : List V} {before mid : Input} {e : ErrorKind} → length vs < n → GivesAll text vs before mid → FaultyFront Fault may_allocate e mid
+      → (c : List ℕ) → before ≡ Some c → Faulty e (AllocatesWithin may_allocate c) (CountedFault n text Fault e c)
+  numbers_fault n {vs} l all fault c is =
+      let same : c ≡ all.read ++ all.rest = some_same c (all.read ++ all.rest) (sym is ∙ all.from) in
+      ⊎_elim
+      (λ w. let p = w.1 in inl (w.0, (all.read, p.0, p.1, same ∙ ap (λ r. all.read ++ r) p.2, p.3)))
+      (λ f. inr (vs, l, (all.read, all.rest, all.joined, f, same)))
+      (fault all.rest all.left)
+
+  pub first_fault : (n : ℕ) {before : Input} {e : ErrorKind} → 0 < n → FaultyFront Fault may_allocate e before → FaultyFront (CountedFault n text Fault) (AllocatesWithin may_allocate) e before
+  first_fault n l fault i is = ⊎_elim (λ w. inl (w.0, (i, [], sym (append-nil i), flat i w.1))) (λ f. inr ([], l, ([], i, refl, f, refl))) (fault i is)
+
+  pub next_fault : (n : ℕ) {vs : List V} {before mid : Input} {e : ErrorKind} → length vs < n → GivesAll text vs before mid → FaultyFront Fault may_allocate e mid
+      → FaultyFront (CountedFault n text Fault) (AllocatesWithin may_allocate) e before
+  next_fault n l all fault i is = ⊎_elim (λ w. inl (w.0, (i, [], sym (append-nil i), w.1))) (λ f. inr f) (numbers_fault n l all fault i is)
+
+  pub other_number_faults : {vs : List V} {before mid after : Input} {e : ErrorKind} → length vs < 3 → GivesAll text vs before mid → after ≡ None → FaultyFront Fault may_allocate e mid
+      → ContentsFaulty (OtherPrimeFault text Fault) (AllocatesWithin may_allocate) e before after
+  other_number_faults l all failed fault = (failed, λ c is. ⊎_elim inl (λ f. inr (inl f)) (numbers_fault 3 l all fault c is))
+
+  pub other_end_faults : {vs : List V} {before mid after : Input} {e : ErrorKind} → length vs ≡ 3 → GivesAll text vs before mid → (read_from mid end_of ≡ Err e) × (after ≡ None)
+      → ContentsFaulty (OtherPrimeFault text Fault) (AllocatesWithin may_allocate) e before after
+  other_end_faults {vs} {before} {mid} {after} {e} l all ends = (
+    ends.1,
+    λ c is.
+        let same : c ≡ all.read ++ all.rest = some_same c (all.read ++ all.rest) (sym is ∙ all.from) in
+        inr (inr (vs, (all.read, all.rest, (l, all.joined), more_than_end mid all.rest e all.left ends.0, same))),
+  )

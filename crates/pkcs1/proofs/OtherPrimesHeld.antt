@@ -1,6 +1,8 @@
 -- The first of the other primes that bytes hold, and those behind it.
 use Rattle.std.proofs.Common.{◌≡◌, ℕ, ◌+◌, ◌-◌, ◌<◌, ◌≤◌, List, [], ◌∷◌, ◌++◌, length, map, refl, sym, ap, ◌∙◌, arith, append-nil, length-append, inr, ⊎_elim, Some, None, Ok, false, take, drop}
 use Rattle.std.proofs.lemmas.List.{length-map}
+use Rattle.der_core.specs.Faults.{ItemsFault}
+use Rattle.pkcs1.specs.KeyFaults.{OneOtherFault}
 use Rattle.der_core.specs.SequenceOf.{ItemsContents}
 use Rattle.der_core.specs.TextLaws.{tlv_not_empty}
 use Rattle.der_core.specs.UintRefValue.{bytes_of}
@@ -8,12 +10,12 @@ use Rattle.der_core.specs.declared.integer.uint.UintRef.{UintRef}
 use Rattle.der_core.specs.declared.error.ErrorKind.{ErrorKind}
 use Rattle.der_core.specs.Sequences.{some_same}
 use Rattle.der_core.specs.InputLaws.{ok_pair}
-use Rattle.der_core.proofs.Smalls.{all_read}
+use Rattle.der_core.specs.Smalls.{all_read}
 use Rattle.der_core.specs.Input.{Input, read_from, front_of}
 use Rattle.std.specs.Prelude.{nat_lt}
 use Rattle.std.proofs.lemmas.Grind.{common_steps}
 use Rattle.std.proofs.lemmas.Bool.Decides.{nat_tests}
-use Rattle.der_core.proofs.SequenceOf.{items_refused, items_more}
+use Rattle.der_core.specs.ItemReads.{items_refused, items_more}
 use Rattle.pkcs1.specs.declared.private_key.other_prime_info.OtherPrimeInfo as declared
 use Rattle.pkcs1.specs.PrivateKeyValue.{other_of}
 use Rattle.std.proofs.Math.Logic.{∥∥₁_elim}
@@ -102,6 +104,9 @@ counted bytes rest count i ends =
     let nothing : rest ≡ [] = empty_is rest ends in
     let all : bytes ≡ i.0 = i.2 ∙ ap (λ l. i.0 ++ l) nothing ∙ append-nil i.0 in
     (map (other_of bytes_of) i.1, rw all i.3, omega (arith, i.4, length-map i.1 (other_of bytes_of)))
+
+pub fault_there : (bytes rest : List ℕ) (count : ℕ) (k : ErrorKind) → AreCounted bytes rest count → 0 < length rest → OneOtherFault k rest → ItemsFault (OtherPrimeInfo Integer) OneOtherFault k bytes
+fault_there bytes rest count k i more fault = (map (other_of bytes_of) i.1, (i.0, rest, i.3, (more, fault), i.2))
 
 pub none_there : (bytes rest : List ℕ) (count : ℕ) (k : ErrorKind) → AreCounted bytes rest count → 0 < length rest → TellsOfBytes k → NoneIn (OtherPrimeInfo Integer) rest
     → (others : List (OtherPrime (List ℕ))) → ItemsContents (OtherPrimeInfo Integer) others bytes → ⊥

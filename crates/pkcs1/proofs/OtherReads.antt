@@ -1,5 +1,5 @@
 -- Reading the other primes of a private key, whatever holds them.
-use Rattle.std.proofs.Common.{◌≡◌, ◌↔◌, ℕ, ◌<◌, List, [], ◌∷◌, ◌++◌, length, refl, sym, ap, ◌∙◌, arith, append-nil, length-append, inl, inr, ⊎_elim, Option, Some, None, Result, Ok, Err, Bool, true, false, IsTrue, is_some}
+use Rattle.std.proofs.Common.{◌≡◌, ◌≢◌, ◌↔◌, ℕ, ◌<◌, List, [], ◌∷◌, ◌++◌, length, refl, sym, ap, ◌∙◌, arith, append-nil, length-append, inl, inr, ⊎_elim, Option, Some, None, Result, Ok, Err, Bool, true, false, IsTrue, is_some}
 use Rattle.std.specs.Prelude.{slice_get, not}
 use mathlib.Core.Bool.{beq}
 use Rattle.der_core.specs.Tlv.{Tlv}
@@ -11,7 +11,11 @@ use Rattle.der_core.specs.declared.error.ErrorKind.{ErrorKind}
 use Rattle.der_core.specs.declared.error.ErrorKind.TheVariants.{TrailingData}
 use Rattle.der_core.specs.Input.{Input, read_from, end_of}
 use Rattle.der_core.specs.Reading.{ReadsOptional, Refuses, TellsOfBytes, AllocatesIn}
-use Rattle.der_core.specs.Sequences.{some_same, end_gives}
+use Rattle.der_core.specs.declared.error.ErrorKind.TheVariants as kind
+use Rattle.der_core.specs.Faults.{TextFault, ItemsFault, FaultyFront, FaultyWhole}
+use Rattle.der_core.specs.Tags.{integer, sequence}
+use Rattle.pkcs1.specs.KeyFaults.{OtherPrimeFault, OthersFault}
+use Rattle.der_core.specs.Sequences.{some_same, end_gives, more_than_end}
 use Rattle.der_core.specs.Tells.{is_trailing}
 use Rattle.pkcs1.specs.declared.version.Version.{Version}
 use Rattle.pkcs1.specs.declared.version.Version.TheVariants.{TwoPrime, Multi}
@@ -137,3 +141,57 @@ module _ {X V : Type 0} (items : X → List (OtherPrime V)) (text : V → List �
       let g = end_gives mid after ended in
       let rest : f.1 ≡ [] = some_same f.1 g.0 (sym f.3 ∙ g.1) ∙ g.3 in
       (f.0, f.2 ∙ ap (λ l. Some l) (ap (λ l. f.0 ++ l) rest ∙ append-nil f.0), g.2, (agrees, (omega (arith, some v refl), f.4)))
+
+-- The fault of what is left behind the numbers.
+not_equal : (a b : Bool) → not (beq a b) ≡ true → a ≡ not b
+not_equal true true e = cc
+not_equal true false e = refl
+not_equal false true e = refl
+not_equal false false e = cc
+
+module _ {X V : Type 0} (items : X → List (OtherPrime V)) (text : V → List ℕ → Type 0) (Fault : ErrorKind → List ℕ → Type 0) (may_allocate : List ℕ → Type 0) where
+  abbrev There : Result (Option X) Error → Input → Input → Type 0
+  There r before after = ReadsOptional 48 items (λ vs. Tlv 48 (ItemsContents (OtherPrimeInfo text) vs)) may_allocate r before after
+
+  pub others_faults : (n : ℕ) (before after : Input) (e : Error) → There (Err e) before after
+      → FaultyFront (TextFault sequence (ItemsFault (OtherPrimeInfo text) (TextFault sequence (OtherPrimeFault text Fault)))) may_allocate e.kind before
+      → FaultyWhole (OthersFault text Fault n) (AllocatesIn may_allocate) e.kind before
+  others_faults n before after e f fault c is = let g = f.2 c is in ⊎_elim inl (λ x. inr (inl (g.0, inl x))) (fault c is)
+
+  -- they were found
+  stands : (v : X) (before mid : Input) → There (Ok (Some v)) before mid → (c : List ℕ) → before ≡ Some c
+      → (slice_get c 0 ≡ Some 48) × (b : List ℕ) × (rest : List ℕ) × (mid ≡ Some rest) × Tlv 48 (ItemsContents (OtherPrimeInfo text) (items v)) b × (c ≡ b ++ rest)
+  stands v before mid f c is =
+      let same : c ≡ f.0 ++ f.1 = some_same c (f.0 ++ f.1) (sym is ∙ f.2) in
+      (ap (λ l. slice_get l 0) (same ∙ ap (λ l. l ++ f.1) f.4.written), f.0, f.1, f.3, f.4, same)
+
+  missing : (before mid : Input) → There (Ok None) before mid → (c : List ℕ) → before ≡ Some c → (slice_get c 0 ≢ Some 48) × (mid ≡ Some c)
+  missing before mid f c is = let same : f.0 ≡ c = some_same f.0 c (sym f.1 ∙ is) in (rw (← same) f.3, f.2 ∙ ap (λ l. Some l) same)
+
+  pub disagree_faults : (v : Version) (multi some : Bool) (r : Option X) (before mid : Input) (k : ErrorKind) → IsTrue multi ↔ (v ≡ Multi) → some ≡ is_some r → not (beq multi some) ≡ true → There (Ok r) before mid → k ≡ kind.Value integer
+      → (c : List ℕ) → before ≡ Some c → OthersFault text Fault (number_of v) k c
+  disagree_faults TwoPrime multi some None before mid k h e s f is c at = let t : multi ≡ true = not_equal multi some s ∙ ap not e in let no : TwoPrime ≡ Multi = h.0 t in cc
+  disagree_faults Multi multi some None before mid k h e s f is c at = let m = missing before mid f c at in inr (m.0, inl (refl, is))
+  disagree_faults TwoPrime multi some (Some x) before mid k h e s f is c at =
+      let t = stands x before mid f c at in
+      inl (t.0, inr (items x, (t.1, t.2, t.4, inl ((λ (no : 0 ≡ 1). omega (arith, no)), is), t.5)))
+  disagree_faults Multi multi some (Some x) before mid k h e s f is c at = let t : multi ≡ false = not_equal multi some s ∙ ap not e in let u : multi ≡ true = h.1 refl in cc
+
+  pub empty_faults : (n : ℕ) (r : Option X) (v : X) (before mid : Input) (k : ErrorKind) → There (Ok r) before mid → r ≡ Some v → length (items v) ≡ 0 → version_of (option_map items r) ≡ n → k ≡ kind.Value sequence
+      → (c : List ℕ) → before ≡ Some c → OthersFault text Fault n k c
+  empty_faults n None v before mid k f e l agrees is c at = cc
+  empty_faults n (Some w) v before mid k f e l agrees is c at =
+      let same : w ≡ v = cc in
+      let none : length (items w) ≡ 0 = rw same l in
+      let t = stands w before mid f c at in
+      inl (t.0, inr (items w, (t.1, t.2, t.4, inr (inl (sym agrees, none, is)), t.5)))
+
+  pub more_faults : (n : ℕ) (r : Option X) (before mid : Input) (k : ErrorKind) → There (Ok r) before mid → version_of (option_map items r) ≡ n → ((v : X) → r ≡ Some v → 0 < length (items v)) → read_from mid end_of ≡ Err k
+      → (c : List ℕ) → before ≡ Some c → OthersFault text Fault n k c
+  more_faults n None before mid k f agrees some ends c at =
+      let m = missing before mid f c at in
+      let other : (n ≡ 1) → ⊥ = λ no. omega (arith, no, agrees) in
+      inr (m.0, inr (other, more_than_end mid c k m.1 ends))
+  more_faults n (Some w) before mid k f agrees some ends c at =
+      let t = stands w before mid f c at in
+      inl (t.0, inr (items w, (t.1, t.2, t.4, inr (inr (sym agrees, some w refl, more_than_end mid t.2 k t.3 ends)), t.5)))

@@ -14,3 +14,5 @@ pub mod OtherPrimesHeld
 pub mod OtherPrimesLeft
 pub mod ViewParts
 pub mod Exclusion
+pub mod KeyFaults
+pub mod KeyFaultLaws

@@ -1,4 +1,7 @@
 //! The eight numbers of private keys.
+ghost use Rattle.std.specs.Prelude.{IfErr};
+ghost use Rattle.der_core.specs.Faults.{FaultyFront};
+ghost use Rattle.pkcs1.specs.KeyFaults.{CountedFault};
 ghost use Rattle.der_core.specs.Reading.{ReadsText, AllocatesWithin};
 ghost use Rattle.pkcs1.specs.KeyNumbers.{EightNumbers, numbers_of};
 
@@ -22,8 +25,10 @@ pub(crate) fn read_key_numbers<'a, M: Memory, U: Decode<&'a [u8], M>, R: Reader<
     memory: M,
     reader: &mut R,
 ) -> Result<KeyNumbers<U>>
-    ensures { ReadsText (numbers_of U.value) (EightNumbers U.text) (AllocatesWithin U.Decode.may_allocate)
+    ensures text { ReadsText (numbers_of U.value) (EightNumbers U.text) (AllocatesWithin U.Decode.may_allocate)
         result (R.left reader.old) (R.left reader.new) }
+    ensures exact { let fault = CountedFault 8 U.text U.Decode.fault in
+        IfErr result (λ e. FaultyFront fault (AllocatesWithin U.Decode.may_allocate) e.kind (R.left reader.old)) }
 {
     let modulus = U::decode(memory, reader)?;
     let public_exponent = U::decode(memory, reader)?;

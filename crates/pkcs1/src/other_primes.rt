@@ -10,7 +10,9 @@ ghost use Rattle.der_core.specs.TextLaws.{joins_map};
 ghost use Rattle.der_core.specs.Tlv.{tlv};
 ghost use Rattle.pkcs1.specs.Writing.{HasOther, written_other};
 ghost use Rattle.pkcs1.specs.PrivateKeyLaws.{other_delimited};
+ghost use Rattle.der_core.specs.Faults.{ItemsFault};
 ghost use Rattle.der_core.specs.Reading.{NoneIn, TellsOfBytes};
+ghost use Rattle.pkcs1.specs.KeyFaults.{OneOtherFault};
 ghost use Rattle.der_core.specs.SequenceOf.{ItemsContents, AllHave, all_texts};
 ghost use Rattle.der_core.specs.SliceReaders.{left_of};
 ghost use Rattle.der_core.specs.UintRefValue.{bytes_of};
@@ -50,6 +52,7 @@ fn read_other<'a, M: Memory>(
         × grammar.OtherPrimeInfo Integer (other_of bytes_of other) text) }
     ensures err { IfErr result (λ e. (left : List ℕ) → left_of reader.old ≡ Some left
         → TellsOfBytes e.kind × NoneIn (grammar.OtherPrimeInfo Integer) left) }
+    ensures exact { IfErr result (λ e. (left : List ℕ) → left_of reader.old ≡ Some left → OneOtherFault e.kind left) }
 {
     let other = OtherPrimeInfo::decode(memory, reader)?;
     Ok(other)
@@ -75,6 +78,7 @@ fn count_others(bytes: &[u8]) -> Result<usize>
         × ItemsContents (grammar.OtherPrimeInfo Integer) others bytes.now × (length others ≡ count)) }
     ensures err { IfErr result (λ e. TellsOfBytes e.kind × ((others : List (grammar.OtherPrime (List ℕ)))
         → ItemsContents (grammar.OtherPrimeInfo Integer) others bytes.now → ⊥)) }
+    ensures exact { IfErr result (λ e. ItemsFault (grammar.OtherPrimeInfo Integer) OneOtherFault e.kind bytes.now) }
 {
     let mut reader = SliceReader::new(bytes)?;
     let mut count = 0;
@@ -132,7 +136,11 @@ impl TaggedBy for OtherPrimes<'_> {
 }
 
 impl<'a, M: Memory> DecodeValue<&'a [u8], M> for OtherPrimes<'a> {
+    ghost use Rattle.pkcs1.specs.KeyFaultLaws.{listed_fault_none};
+
     ghost may_allocate = { λ _. ⊥ };
+
+    ghost fault = { ItemsFault (grammar.OtherPrimeInfo Integer) OneOtherFault };
 
     fn decode_value<R: Reader<&'a [u8]>>(
         _memory: M,
@@ -145,6 +153,8 @@ impl<'a, M: Memory> DecodeValue<&'a [u8], M> for OtherPrimes<'a> {
             Err(e) => Err(reader.error(e.kind())),
         }
     }
+
+    ghost fault_none = { listed_fault_none };
 }
 
 impl<'a> Iterator for OtherPrimes<'a> {

@@ -150,7 +150,12 @@ impl<'a, U> Sequence<'a> for RsaPrivateKey<U> {
 }
 
 impl<'a, U: Decode<&'a [u8], Global>> DecodeValue<&'a [u8], Global> for RsaPrivateKey<U> {
+    ghost use Rattle.pkcs1.specs.KeyFaults.{PrivateKeyFault};
+    ghost use Rattle.pkcs1.specs.KeyFaultLaws.{private_key_fault_none};
+
     ghost may_allocate = { AllocatesForKey U.text U.Decode.may_allocate };
+
+    ghost fault = { PrivateKeyFault U.text U.Decode.fault };
 
     fn decode_value<R: Reader<&'a [u8]>>(
         memory: Global,
@@ -172,6 +177,8 @@ impl<'a, U: Decode<&'a [u8], Global>> DecodeValue<&'a [u8], Global> for RsaPriva
             other_prime_infos,
         })
     }
+
+    ghost fault_none = { private_key_fault_none U.text U.Decode.fault U.delimited U.Decode.fault_none };
 }
 
 impl<U: Encode> EncodeValue for RsaPrivateKey<U> {

@@ -2,6 +2,8 @@
 ghost use Rattle.std.specs.Prelude.{refl};
 ghost use Rattle.der_core.specs.Reading.{AllocatesWithin};
 ghost use Rattle.pkcs1.specs.Keys.{PublicKey, PublicKeyContents};
+ghost use Rattle.pkcs1.specs.KeyFaults.{PublicKeyFault};
+ghost use Rattle.pkcs1.specs.KeyFaultLaws.{public_key_fault_none};
 ghost use Rattle.pkcs1.specs.Writing.{HasPublicKey, written_public_key};
 ghost use Rattle.pkcs1.specs.PublicKeyValue.{public_key_with, public_key_of};
 ghost use Rattle.pkcs1.specs.PublicKeyLaws.{public_key_means_one, public_key_of_bytes, public_key_relates, public_key_shortest};
@@ -63,6 +65,8 @@ impl<'a, U> Sequence<'a> for RsaPublicKey<U> {
 impl<'a, M: Memory, U: Decode<&'a [u8], M>> DecodeValue<&'a [u8], M> for RsaPublicKey<U> {
     ghost may_allocate = { AllocatesWithin U.Decode.may_allocate };
 
+    ghost fault = { PublicKeyFault U.text U.Decode.fault };
+
     fn decode_value<R: Reader<&'a [u8]>>(
         memory: M,
         reader: &mut R,
@@ -76,6 +80,8 @@ impl<'a, M: Memory, U: Decode<&'a [u8], M>> DecodeValue<&'a [u8], M> for RsaPubl
             public_exponent,
         })
     }
+
+    ghost fault_none = { public_key_fault_none U.text U.Decode.fault U.delimited U.Decode.fault_none };
 }
 
 impl<U: Encode> EncodeValue for RsaPublicKey<U> {
@@ -121,8 +127,10 @@ impl<U: TryClone> TryClone for RsaPublicKey<U> {
 }
 
 impl<'a> TryFrom<&'a [u8]> for RsaPublicKey<UintRef<'a>> {
-    ghost use Rattle.std.specs.Prelude.{IfOk, IfErr, OnErr};
+    ghost use Rattle.std.specs.Prelude.{◌≡◌, IfOk, IfErr, OnErr, IsErrAnd};
+    ghost use Rattle.der_core.specs.declared.error.ErrorKind as der;
     ghost use Rattle.der_core.specs.Reading.{TellsOfBytes};
+    ghost use Rattle.pkcs1.specs.KeyFaults.{RsaPublicKeyFault};
     ghost use Rattle.der_core.specs.Document.{Means};
     ghost use Rattle.pkcs1_params.specs.Meanings.{IsNoSentence, IsOnlyMeaning};
     ghost use Rattle.pkcs1.specs.Keys as grammar;
@@ -136,6 +144,9 @@ impl<'a> TryFrom<&'a [u8]> for RsaPublicKey<UintRef<'a>> {
         ensures one { IfOk result (λ key. IsOnlyMeaning grammar.RsaPublicKey bytes.now (public_key_of key)) }
         ensures err { OnErr result (IsNoSentence grammar.RsaPublicKey bytes.now) }
         ensures asn1 { IfErr result (IsAsn1 (λ e. TellsOfBytes e.kind)) }
+        ensures exact { IfErr result (IsAsn1 (λ e. RsaPublicKeyFault e.kind bytes.now)) }
+        ensures only { (kind : der.ErrorKind)
+            → RsaPublicKeyFault kind bytes.now → IsErrAnd result (IsAsn1 (λ e. e.kind ≡ kind)) }
     {
         Ok(RsaPublicKey::from_der(NoMemory, bytes)?)
     }

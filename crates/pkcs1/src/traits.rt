@@ -2,10 +2,13 @@
 ghost use Rattle.std.specs.Prelude.{◌≡◌, List, ℕ, IfOk, IfErr, OnOk, IsErrAnd};
 ghost use Rattle.der_core.specs.Document.{IsDocument, Means};
 ghost use Rattle.der_core.specs.DocumentValue.{text_of, secret_text_of};
+ghost use Rattle.der_core.specs.Faults.{Faulty};
+ghost use Rattle.der_core.specs.declared.error.ErrorKind as der;
 ghost use Rattle.der_core.specs.Tags.{sequence};
 ghost use Rattle.der_core.specs.UintRefValue.{bytes_of};
 ghost use Rattle.der_core.specs.UintValue.{own_bytes_of};
 ghost use Rattle.pkcs1.specs.Allocating.{OwnedKeyAllocates, OwnedPublicKeyAllocates};
+ghost use Rattle.pkcs1.specs.KeyFaults.{RsaPrivateKeyFault, RsaPublicKeyFault};
 ghost use Rattle.pkcs1.specs.Keys as grammar;
 ghost use Rattle.pkcs1.specs.KeyTexts.{IsNotMade, IsOnlyText, IsUnread};
 ghost use Rattle.pkcs1_params.specs.Meanings.{IsOnlyMeaning};
@@ -109,6 +112,10 @@ impl DecodeRsaPrivateKey for RsaPrivateKey<Uint> {
         ensures one { let is_only = IsOnlyMeaning grammar.RsaPrivateKey bytes.now in
             IfOk result (λ key. is_only (private_key_with own_bytes_of key)) }
         ensures err { IfErr result (IsUnread grammar.RsaPrivateKey bytes.now (OwnedKeyAllocates bytes.now)) }
+        ensures exact { let b = bytes.now in
+            IfErr result (IsAsn1 (λ e. Faulty e.kind (OwnedKeyAllocates b) (RsaPrivateKeyFault e.kind b))) }
+        ensures only { let b = bytes.now in (kind : der.ErrorKind) → RsaPrivateKeyFault kind b
+            → IsErrAnd result (IsAsn1 (λ e. Faulty e.kind (OwnedKeyAllocates b) (e.kind ≡ kind))) }
     {
         RsaPrivateKey::<Uint>::decode_key(alloc, bytes)
     }
@@ -122,6 +129,10 @@ impl DecodeRsaPublicKey for RsaPublicKey<Uint> {
         ensures one { let is_only = IsOnlyMeaning grammar.RsaPublicKey bytes.now in
             IfOk result (λ key. is_only (public_key_with own_bytes_of key)) }
         ensures err { IfErr result (IsUnread grammar.RsaPublicKey bytes.now (OwnedPublicKeyAllocates bytes.now)) }
+        ensures exact { let b = bytes.now in
+            IfErr result (IsAsn1 (λ e. Faulty e.kind (OwnedPublicKeyAllocates b) (RsaPublicKeyFault e.kind b))) }
+        ensures only { let b = bytes.now in (kind : der.ErrorKind) → RsaPublicKeyFault kind b
+            → IsErrAnd result (IsAsn1 (λ e. Faulty e.kind (OwnedPublicKeyAllocates b) (e.kind ≡ kind))) }
     {
         Ok(RsaPublicKey::from_der(alloc, bytes)?)
     }

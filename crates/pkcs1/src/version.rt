@@ -125,7 +125,13 @@ impl TaggedBy for Version {
 }
 
 impl<'a, M: Memory> DecodeValue<&'a [u8], M> for Version {
+    ghost use Rattle.der_core.specs.Reading.{ReadsOrFaults};
+    ghost use Rattle.pkcs1.specs.KeyFaults.{VersionFault};
+    ghost use Rattle.pkcs1.specs.KeyFaultLaws.{version_fault_none};
+
     ghost may_allocate = { λ _. ⊥ };
+
+    ghost fault = { VersionFault };
 
     fn decode_value<R: Reader<&'a [u8]>>(
         memory: M,
@@ -136,6 +142,8 @@ impl<'a, M: Memory> DecodeValue<&'a [u8], M> for Version {
         ensures reads { let before = R.left reader.old in
             ReadsContents number_of VersionContents (λ _. ⊥) result before (R.left reader.new) }
         ensures exact { (c : List ℕ) → R.left reader.old ≡ Some c → Answers number_of result (version_at c) }
+        ensures fault { let before = R.left reader.old in
+            ReadsOrFaults number_of VersionContents VersionFault (λ _. ⊥) result before (R.left reader.new) }
     {
         let number = u8::decode_value(memory, reader, header)?;
         match Version::try_from(number) {
@@ -143,6 +151,8 @@ impl<'a, M: Memory> DecodeValue<&'a [u8], M> for Version {
             Err(_) => Err(reader.error(ErrorKind::Value { tag: Tag::INTEGER })),
         }
     }
+
+    ghost fault_none = { version_fault_none };
 }
 
 impl EncodeValue for Version {

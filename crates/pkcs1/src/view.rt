@@ -1,10 +1,13 @@
 //! RSA private keys, seen without a list.
-ghost use Rattle.std.specs.Prelude.{◌≡◌, ℕ, List, IsTrue, IsSome, IfOk, IfErr, OnErr, ◌↔◌, refl};
+ghost use Rattle.std.specs.Prelude.{◌≡◌, ℕ, List, IsTrue, IsSome, IfOk, IfErr, IsErrAnd, OnErr, ◌↔◌, refl};
 ghost use Rattle.std.specs.Option.{option_map};
 ghost use Rattle.der_core.specs.Tag.{integer_tag};
 ghost use Rattle.der_core.specs.Integer.{Integer, IntegerContents, IsCanonical, integer_contents};
 ghost use Rattle.der_core.specs.IntegerLaws.{integer_delimited};
+ghost use Rattle.der_core.specs.declared.error.ErrorKind as der;
+ghost use Rattle.der_core.specs.Faults.{FaultyWhole};
 ghost use Rattle.der_core.specs.Reading.{ReadsContents, TellsOfBytes};
+ghost use Rattle.pkcs1.specs.KeyFaults.{OthersFault, NumberFault, PrivateKeyFault, RsaPrivateKeyFault};
 ghost use Rattle.der_core.specs.Tlv.{tlv};
 ghost use Rattle.pkcs1.specs.Keys as grammar;
 ghost use Rattle.pkcs1.specs.Keys.{OthersOf, PrivateKey, PrivateKeyContents, public_part};
@@ -52,8 +55,10 @@ fn read_listed<'a, R: Reader<&'a [u8]>>(
     reader: &mut R,
     version: Version,
 ) -> Result<Option<OtherPrimes<'a>>>
-    ensures { ReadsContents (option_map others_left) (OthersOf Integer (number_of version)) (λ _. ⊥)
+    ensures reads { ReadsContents (option_map others_left) (OthersOf Integer (number_of version)) (λ _. ⊥)
         result (R.left reader.old) (R.left reader.new) }
+    ensures exact { let fault = OthersFault Integer NumberFault (number_of version) in
+        IfErr result (λ e. FaultyWhole fault (λ _. ⊥) e.kind (R.left reader.old)) }
 {
     let others: Option<OtherPrimes<'a>> = decode_optional(NoMemory, reader)?;
     if version.is_multi() != others.is_some() {
@@ -87,7 +92,11 @@ impl TaggedBy for Parts<'_> {
 }
 
 impl<'a> DecodeValue<&'a [u8], NoMemory> for Parts<'a> {
+    ghost use Rattle.pkcs1.specs.KeyFaultLaws.{private_integers_none};
+
     ghost may_allocate = { λ _. ⊥ };
+
+    ghost fault = { PrivateKeyFault Integer NumberFault };
 
     fn decode_value<R: Reader<&'a [u8]>>(
         memory: NoMemory,
@@ -102,6 +111,8 @@ impl<'a> DecodeValue<&'a [u8], NoMemory> for Parts<'a> {
             other_primes,
         })
     }
+
+    ghost fault_none = { private_integers_none };
 }
 
 /// An RSA private key (RFC 8017 A.1.2), over its text. No memory is taken, however many primes it has, and no relation of
@@ -220,6 +231,9 @@ impl<'a> TryFrom<&'a [u8]> for RsaPrivateKeyView<'a> {
         ensures bytes { IfOk result (λ view. viewed_text view ≡ bytes.now) }
         ensures err { OnErr result ((key : PrivateKey (List ℕ)) → Means grammar.RsaPrivateKey bytes.now key → ⊥) }
         ensures asn1 { IfErr result (IsAsn1 (λ e. TellsOfBytes e.kind)) }
+        ensures exact { IfErr result (IsAsn1 (λ e. RsaPrivateKeyFault e.kind bytes.now)) }
+        ensures only { (kind : der.ErrorKind)
+            → RsaPrivateKeyFault kind bytes.now → IsErrAnd result (IsAsn1 (λ e. e.kind ≡ kind)) }
     {
         let parts = Parts::from_der(NoMemory, bytes)?;
         Ok(RsaPrivateKeyView { bytes, parts })

@@ -128,6 +128,7 @@ pub extern "C" fn pkcs1_c_private_key_info_encode(
 ) -> u32
     ensures ok { result ≡ 0 → IsShortest container.PrivateKeyInfo (info_seen info.now) (take len.new out.new) }
     ensures key { result ≡ 0 → (key : Key (List ℕ)) × HoldsKey info.now key }
+    ensures key_no_room { result ≡ 15 → (key : Key (List ℕ)) × HoldsKey info.now key }
     ensures rest { result ≡ 0 → (len.new ≤ length out.new) × (drop len.new out.new ≡ drop len.new out.old) }
     ensures no_room { result ≡ 15 → LacksRoom container.PrivateKeyInfo (info_seen info.now) (length out.old) len.new }
     ensures refused { result ≢ 0 → result ≢ 15 → (key : Key (List ℕ)) → HoldsKey info.now key

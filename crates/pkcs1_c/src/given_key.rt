@@ -108,6 +108,7 @@ pub extern "C" fn pkcs1_c_private_key_encode(
         × LacksRoom grammar.RsaPrivateKey made (length out.old) len.new }
     ensures refused { result ≢ 0 → result ≢ 15 → result ≢ 17 → (made : grammar.PrivateKey (List ℕ))
         → IsGiven key.now others.now made → HasNoText grammar.RsaPrivateKey made }
+    ensures counts { key.now.other_primes ≢ length others.now → result ≡ 21 }
     ensures memory { result ≡ 17 → 0 < length others.now }
     ensures unchanged { result ≢ 0 → out.new ≡ out.old }
     ensures kept { result ≢ 0 → result ≢ 15 → len.new ≡ len.old }

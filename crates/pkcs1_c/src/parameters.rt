@@ -1,5 +1,5 @@
 //! Parameters of RSASSA-PSS and RSAES-OAEP.
-ghost use Rattle.std.specs.Prelude.{◌≡◌, ◌≢◌, ◌≤◌, length, take, drop, IfOk, IfErr};
+ghost use Rattle.std.specs.Prelude.{◌≡◌, ◌≢◌, ◌<◌, ◌≤◌, length, take, drop, IfOk, IfErr};
 ghost use Rattle.der_core.specs.Document.{Means, IsShortest};
 ghost use Rattle.pkcs1_params.specs.Parameters as grammar;
 ghost use Rattle.pkcs1_params.specs.PssValue.{pss_of};
@@ -72,6 +72,7 @@ pub extern "C" fn pkcs1_c_pss_params_decode<'a>(text: &'a [u8], params: &mut Pss
     ensures ok { result ≡ 0 → Means grammar.RsaPssParams text.now (pss_seen params.new) }
     ensures one { result ≡ 0 → (other : grammar.PssParameters) → Means grammar.RsaPssParams text.now other
         → other ≡ pss_seen params.new }
+    ensures told { result < 15 }
     ensures refused { result ≢ 0 → (other : grammar.PssParameters) → Means grammar.RsaPssParams text.now other → ⊥ }
     ensures unchanged { result ≢ 0 → params.new ≡ params.old }
 {
@@ -90,6 +91,7 @@ pub extern "C" fn pkcs1_c_oaep_params_decode<'a>(text: &'a [u8], params: &mut Oa
     ensures ok { result ≡ 0 → Means grammar.RsaOaepParams text.now (oaep_seen params.new) }
     ensures one { result ≡ 0 → (other : grammar.OaepParameters) → Means grammar.RsaOaepParams text.now other
         → other ≡ oaep_seen params.new }
+    ensures told { result < 15 }
     ensures refused { result ≢ 0 → (other : grammar.OaepParameters) → Means grammar.RsaOaepParams text.now other → ⊥ }
     ensures unchanged { result ≢ 0 → params.new ≡ params.old }
 {
@@ -112,6 +114,7 @@ pub extern "C" fn pkcs1_c_pss_params_decode_strict<'a>(
     ensures ok { result ≡ 0 → IsShortest grammar.RsaPssParams (pss_seen params.new) text.now }
     ensures one { result ≡ 0 → (other : grammar.PssParameters) → Means grammar.RsaPssParams text.now other
         → other ≡ pss_seen params.new }
+    ensures told { result < 15 }
     ensures refused { result ≢ 0
         → (other : grammar.PssParameters) → IsShortest grammar.RsaPssParams other text.now → ⊥ }
     ensures default { result ≢ 0
@@ -155,6 +158,7 @@ pub extern "C" fn pkcs1_c_oaep_params_decode_strict<'a>(
     ensures ok { result ≡ 0 → IsShortest grammar.RsaOaepParams (oaep_seen params.new) text.now }
     ensures one { result ≡ 0 → (other : grammar.OaepParameters) → Means grammar.RsaOaepParams text.now other
         → other ≡ oaep_seen params.new }
+    ensures told { result < 15 }
     ensures refused { result ≢ 0
         → (other : grammar.OaepParameters) → IsShortest grammar.RsaOaepParams other text.now → ⊥ }
     ensures default { result ≢ 0

@@ -1,5 +1,5 @@
 //! Reading of private keys.
-ghost use Rattle.std.specs.Prelude.{◌≡◌, ◌≢◌, ℕ, List, Option};
+ghost use Rattle.std.specs.Prelude.{length, drop, ◌≡◌, ◌≢◌, ◌<◌, ℕ, List, Option};
 ghost use Rattle.der_core.specs.Document.{Means};
 ghost use Rattle.der_core.specs.UintRefValue.{bytes_of};
 ghost use Rattle.pkcs1.specs.Keys as grammar;
@@ -60,7 +60,8 @@ fn other_view<'a>(info: &OtherPrimeInfo<UintRef<'a>>) -> OtherPrime<'a>
 
 /// Places as many of the other primes as there is room for.
 fn place_others<'a>(primes: OtherPrimes<'a>, others: &mut [OtherPrime<'a>])
-    ensures { ArePlaced (others_left primes.entry) others.new }
+    ensures placed { ArePlaced (others_left primes.entry) others.new }
+    ensures rest { let count = length (others_left primes.entry) in drop count others.new ≡ drop count others.old }
 {
     let mut left = primes;
     for i in 0..others.len() {
@@ -78,6 +79,7 @@ pub(crate) fn seen_key<'a>(
 ) -> PrivateKey<'a>
     ensures key { private_key_seen result (view_of view.now).other_prime_infos ≡ view_of view.now }
     ensures listed { AreListed result.other_primes others.new (view_of view.now).other_prime_infos }
+    ensures rest { drop result.other_primes others.new ≡ drop result.other_primes others.old }
 {
     let primes = view.other_primes();
     let other_primes = primes.remaining();
@@ -108,6 +110,8 @@ pub extern "C" fn pkcs1_c_private_key_decode<'a>(
         × Means grammar.RsaPrivateKey text.now (private_key_seen key.new infos) }
     ensures one { result ≡ 0 → (other : grammar.PrivateKey (List ℕ)) → Means grammar.RsaPrivateKey text.now other
         → other ≡ private_key_seen key.new other.other_prime_infos }
+    ensures rest { result ≡ 0 → drop key.new.other_primes others.new ≡ drop key.new.other_primes others.old }
+    ensures told { result < 15 }
     ensures refused { result ≢ 0 → (other : grammar.PrivateKey (List ℕ)) → Means grammar.RsaPrivateKey text.now other
         → ⊥ }
     ensures unchanged { result ≢ 0 → (key.new ≡ key.old) × (others.new ≡ others.old) }

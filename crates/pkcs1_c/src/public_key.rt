@@ -1,5 +1,5 @@
 //! Public keys.
-ghost use Rattle.std.specs.Prelude.{◌≡◌, ◌≢◌, ◌≤◌, ℕ, List, length, take, drop, IfOk, IfErr};
+ghost use Rattle.std.specs.Prelude.{◌≡◌, ◌≢◌, ◌<◌, ◌≤◌, ℕ, List, length, take, drop, IfOk, IfErr};
 ghost use Rattle.der_core.specs.Document.{Means};
 ghost use Rattle.pkcs1.specs.Keys as grammar;
 ghost use Rattle.pkcs1.specs.KeyTexts.{IsOnlyText};
@@ -30,6 +30,7 @@ pub extern "C" fn pkcs1_c_public_key_decode<'a>(text: &'a [u8], key: &mut Public
     ensures ok { result ≡ 0 → Means grammar.RsaPublicKey text.now (public_key_seen key.new) }
     ensures one { result ≡ 0 → (other : grammar.PublicKey (List ℕ)) → Means grammar.RsaPublicKey text.now other
         → other ≡ public_key_seen key.new }
+    ensures told { result < 15 }
     ensures refused { result ≢ 0
         → (other : grammar.PublicKey (List ℕ)) → Means grammar.RsaPublicKey text.now other → ⊥ }
     ensures unchanged { result ≢ 0 → key.new ≡ key.old }

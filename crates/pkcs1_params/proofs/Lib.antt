@@ -8,3 +8,4 @@ pub mod StrictParameters
 pub mod OaepReads
 pub mod Labels
 pub mod ParameterWrites
+pub mod NothingAsked

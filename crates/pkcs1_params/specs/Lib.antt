@@ -22,3 +22,5 @@ pub mod FieldRefs
 pub mod HeldFields
 pub mod FieldValueLaws
 pub mod LabelWriting
+pub mod ParameterFaults
+pub mod ParameterFaultLaws

@@ -1,6 +1,9 @@
 //! What both sets of parameters begin with: hashAlgorithm and maskGenAlgorithm.
-ghost use Rattle.std.specs.Prelude.{◌≡◌, ◌∷◌, [], refl};
-ghost use Rattle.spki_core.specs.Allocating.{AlgorithmAllocates};
+ghost use Rattle.std.specs.Prelude.{IfErr, ◌≡◌, ◌∷◌, [], refl};
+ghost use Rattle.der_core.specs.Faults.{FaultyFront};
+ghost use Rattle.spki_core.specs.Allocating.{AlgorithmAllocates, FieldAllocates};
+ghost use Rattle.spki_core.specs.Faults.{NextFault};
+ghost use Rattle.pkcs1_params.specs.ParameterFaults.{HashFault, MaskFault};
 ghost use Rattle.spki_core.specs.Any.{null_value};
 ghost use Rattle.spki_core.specs.AlgorithmIdentifier.{PlainAlgorithm, MaskAlgorithm, same_plain, same_mask};
 ghost use Rattle.spki_core.specs.AlgorithmValue.{algorithm_with, algorithm_of, mask_of};
@@ -105,9 +108,11 @@ pub(crate) fn read_hash<'a, P: Decode<&'a [u8], M> + AnyParams<M>, M: Memory, R:
     memory: M,
     reader: &mut R,
 ) -> Result<AlgorithmIdentifier<P>>
-    ensures { let may = AlgorithmAllocates P.Decode.may_allocate in
+    ensures reads { let may = AlgorithmAllocates P.Decode.may_allocate in
         let value = algorithm_with P.any in
         ReadsField 0 value PlainAlgorithm sha1 may result (R.left reader.old) (R.left reader.new) }
+    ensures exact { let may = FieldAllocates 0 (AlgorithmAllocates P.Decode.may_allocate) in
+        IfErr result (λ e. FaultyFront (NextFault 0 (HashFault P.text P.Decode.fault)) may e.kind (R.left reader.old)) }
 {
     if is_field_next(reader, TagNumber::new(0))? {
         read_explicit(memory, reader, TagNumber::new(0))
@@ -123,9 +128,11 @@ pub(crate) fn read_mask_gen<
     M: Memory,
     R: Reader<&'a [u8]>,
 >(memory: M, reader: &mut R) -> Result<MaskGen<P>>
-    ensures { let may = AlgorithmAllocates (AlgorithmAllocates P.Decode.may_allocate) in
+    ensures reads { let may = AlgorithmAllocates (AlgorithmAllocates P.Decode.may_allocate) in
         let value = algorithm_with (algorithm_with P.any) in
         ReadsField 1 value MaskAlgorithm mgf1_sha1 may result (R.left reader.old) (R.left reader.new) }
+    ensures exact { let may = FieldAllocates 1 (AlgorithmAllocates (AlgorithmAllocates P.Decode.may_allocate)) in
+        IfErr result (λ e. FaultyFront (NextFault 1 (MaskFault P.text P.Decode.fault)) may e.kind (R.left reader.old)) }
 {
     if is_field_next(reader, TagNumber::new(1))? {
         read_explicit(memory, reader, TagNumber::new(1))

@@ -72,7 +72,12 @@ impl<'a, P> Sequence<'a> for RsaOaepParams<P> {
 
 impl<'a, M: Memory, P: Decode<&'a [u8], M> + AnyParams<M>> DecodeValue<&'a [u8], M>
     for RsaOaepParams<P> {
+    ghost use Rattle.pkcs1_params.specs.ParameterFaults.{OaepFault};
+    ghost use Rattle.pkcs1_params.specs.ParameterFaultLaws.{oaep_fault_none};
+
     ghost may_allocate = { OaepAllocates P.Decode.may_allocate };
+
+    ghost fault = { OaepFault P.text P.Decode.fault };
 
     #[inline(never)]
     fn decode_value<R: Reader<&'a [u8]>>(
@@ -90,6 +95,8 @@ impl<'a, M: Memory, P: Decode<&'a [u8], M> + AnyParams<M>> DecodeValue<&'a [u8],
             p_source,
         })
     }
+
+    ghost fault_none = { oaep_fault_none P.text P.Decode.fault P.delimited P.Decode.fault_none P.holds };
 }
 
 impl<P: AnyValue> RsaOaepParams<P> {
@@ -222,10 +229,12 @@ impl<'a> Default for RsaOaepParams<AnyRef<'a>> {
 }
 
 impl<'a> RsaOaepParams<AnyRef<'a>> {
-    ghost use Rattle.std.specs.Prelude.{IfOk};
+    ghost use Rattle.std.specs.Prelude.{IfOk, IsErrAnd, ◌⊎◌};
+    ghost use Rattle.der_core.specs.declared.error.ErrorKind as der;
     ghost use Rattle.der_core.specs.Reading.{TellsOfBytes};
     ghost use Rattle.der_core.specs.Document.{Means, IsShortest};
     ghost use Rattle.pkcs1_params.specs.Parameters as grammar;
+    ghost use Rattle.pkcs1_params.specs.ParameterFaults.{RsaOaepParamsFault};
     ghost use Rattle.pkcs1_params.specs.OaepValue.{oaep_of};
     ghost use Rattle.pkcs1_params.specs.Refusals.{IsAsn1};
     ghost use Rattle.spki_core.specs.StrictFields.{NamesDefault};
@@ -241,6 +250,11 @@ impl<'a> RsaOaepParams<AnyRef<'a>> {
         ensures err { IfErr result (λ e. (params : OaepParameters)
             → IsShortest grammar.RsaOaepParams params bytes.now → ⊥) }
         ensures asn1 { IfErr result (IsAsn1 (λ e. TellsOfBytes e.kind)) }
+        ensures exact { IfErr result (λ e. IsAsn1 (λ e. RsaOaepParamsFault e.kind bytes.now) e
+            ⊎ ((params : OaepParameters) × Means grammar.RsaOaepParams bytes.now params
+            × IsAsn1 (NamesDefault (oaep_fields params) bytes.now) e)) }
+        ensures only { (kind : der.ErrorKind)
+            → RsaOaepParamsFault kind bytes.now → IsErrAnd result (IsAsn1 (λ e. e.kind ≡ kind)) }
     {
         let params = RsaOaepParams::try_from(bytes)?;
         refuse_defaults(&params, bytes)?;
@@ -256,6 +270,9 @@ impl<'a> TryFrom<&'a [u8]> for RsaOaepParams<AnyRef<'a>> {
     ghost use Rattle.pkcs1_params.specs.Parameters as grammar;
     ghost use Rattle.pkcs1_params.specs.OaepValue.{oaep_of};
     ghost use Rattle.pkcs1_params.specs.Refusals.{IsAsn1};
+    ghost use Rattle.std.specs.Prelude.{IsErrAnd};
+    ghost use Rattle.der_core.specs.declared.error.ErrorKind as der;
+    ghost use Rattle.pkcs1_params.specs.ParameterFaults.{RsaOaepParamsFault};
 
     type Error = Error;
 
@@ -265,6 +282,9 @@ impl<'a> TryFrom<&'a [u8]> for RsaOaepParams<AnyRef<'a>> {
         ensures one { IfOk result (λ params. IsOnlyMeaning grammar.RsaOaepParams bytes.now (oaep_of params)) }
         ensures err { OnErr result (IsNoSentence grammar.RsaOaepParams bytes.now) }
         ensures asn1 { IfErr result (IsAsn1 (λ e. TellsOfBytes e.kind)) }
+        ensures exact { IfErr result (IsAsn1 (λ e. RsaOaepParamsFault e.kind bytes.now)) }
+        ensures only { (kind : der.ErrorKind)
+            → RsaOaepParamsFault kind bytes.now → IsErrAnd result (IsAsn1 (λ e. e.kind ≡ kind)) }
     {
         Ok(RsaOaepParams::from_der(NoMemory, bytes)?)
     }

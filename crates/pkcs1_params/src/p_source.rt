@@ -1,7 +1,10 @@
 //! Where the label of RSAES-OAEP comes from (RFC 8017 A.2.1): pSourceAlgorithm.
-ghost use Rattle.std.specs.Prelude.{◌≡◌, ◌≤◌, refl, length};
+ghost use Rattle.std.specs.Prelude.{IfErr, ◌≡◌, ◌≤◌, refl, length};
 ghost use Rattle.der_core.specs.Length.{limit};
-ghost use Rattle.spki_core.specs.Allocating.{AlgorithmAllocates};
+ghost use Rattle.der_core.specs.Faults.{FaultyFront};
+ghost use Rattle.spki_core.specs.Allocating.{AlgorithmAllocates, FieldAllocates};
+ghost use Rattle.spki_core.specs.Faults.{NextFault};
+ghost use Rattle.pkcs1_params.specs.ParameterFaults.{SourceFault};
 ghost use Rattle.spki_core.specs.AlgorithmIdentifier.{PlainAlgorithm, same_plain};
 ghost use Rattle.spki_core.specs.AlgorithmValue.{algorithm_with, algorithm_of};
 ghost use Rattle.spki_core.specs.FieldReading.{ReadsField};
@@ -45,9 +48,12 @@ pub(crate) fn read_source<
     M: Memory,
     R: Reader<&'a [u8]>,
 >(memory: M, reader: &mut R) -> Result<AlgorithmIdentifier<P>>
-    ensures { let may = AlgorithmAllocates P.Decode.may_allocate in
+    ensures reads { let may = AlgorithmAllocates P.Decode.may_allocate in
         let value = algorithm_with P.any in
         ReadsField 2 value PlainAlgorithm empty_label may result (R.left reader.old) (R.left reader.new) }
+    ensures exact { let may = FieldAllocates 2 (AlgorithmAllocates P.Decode.may_allocate) in
+        let fault = NextFault 2 (SourceFault P.text P.Decode.fault) in
+        IfErr result (λ e. FaultyFront fault may e.kind (R.left reader.old)) }
 {
     if is_field_next(reader, TagNumber::new(2))? {
         read_explicit(memory, reader, TagNumber::new(2))

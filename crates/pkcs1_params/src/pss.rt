@@ -1,10 +1,16 @@
 //! Parameters of RSASSA-PSS (RFC 8017 A.2.3).
 ghost use Rattle.std.specs.Prelude.{◌≡◌, ◌≤◌, refl, length, OnOk, IfErr};
+ghost use Rattle.der_core.specs.Reading.{TellsOfBytes};
+ghost use Rattle.der_core.specs.declared.error.ErrorKind as der;
 ghost use Rattle.pkcs1_params.specs.Allocating.{PssAllocates};
+ghost use Rattle.pkcs1_params.specs.ParameterFaults.{RsaPssParamsFault};
+ghost use Rattle.pkcs1_params.specs.Parameters as grammar;
+ghost use Rattle.pkcs1_params.specs.Refusals.{IsAsn1};
 ghost use Rattle.spki_core.specs.Any.{null_value};
 ghost use Rattle.pkcs1_params.specs.Parameters.{PssParameters, PssContents, pss_fields, with_parameters, id_mgf1, sha1, mgf1_sha1};
 ghost use Rattle.pkcs1_params.specs.Parts.{pss_values, HasFields, written_fields};
 ghost use Rattle.pkcs1_params.specs.PssLaws.{pss_means_one, pss_of_bytes, pss_relates, pss_shortest};
+ghost use Rattle.pkcs1_params.specs.PssValue.{pss_with, pss_of};
 
 use crate::default_salt::DefaultSalt;
 use crate::error::{Error, Result};
@@ -51,8 +57,6 @@ pub type RsaPssParamsRef<'a> = RsaPssParams<AnyRef<'a>>;
 pub type RsaPssParamsOwned = RsaPssParams<Any>;
 
 impl<P: AnyValue> Contents for RsaPssParams<P> {
-    ghost use Rattle.pkcs1_params.specs.PssValue.{pss_with};
-
     ghost Value = { PssParameters };
 
     ghost value = { pss_with P.any };
@@ -78,7 +82,12 @@ impl<'a, P> Sequence<'a> for RsaPssParams<P> {
 
 impl<'a, M: Memory, P: Decode<&'a [u8], M> + AnyParams<M>> DecodeValue<&'a [u8], M>
     for RsaPssParams<P> {
+    ghost use Rattle.pkcs1_params.specs.ParameterFaults.{PssFault};
+    ghost use Rattle.pkcs1_params.specs.ParameterFaultLaws.{pss_fault_none};
+
     ghost may_allocate = { PssAllocates P.Decode.may_allocate };
+
+    ghost fault = { PssFault P.text P.Decode.fault };
 
     #[inline(never)]
     fn decode_value<R: Reader<&'a [u8]>>(
@@ -103,6 +112,8 @@ impl<'a, M: Memory, P: Decode<&'a [u8], M> + AnyParams<M>> DecodeValue<&'a [u8],
             trailer_field,
         })
     }
+
+    ghost fault_none = { pss_fault_none P.text P.Decode.fault P.delimited P.Decode.fault_none P.holds };
 }
 
 impl<P: AnyValue> RsaPssParams<P> {
@@ -110,9 +121,6 @@ impl<P: AnyValue> RsaPssParams<P> {
     ghost use Rattle.der_core.specs.Document.{IsShortest};
     ghost use Rattle.pkcs1_params.specs.Meanings.{IsNotWritten};
     ghost use Rattle.spki_core.specs.Explicit.{Masked};
-    ghost use Rattle.pkcs1_params.specs.Parameters as grammar;
-    ghost use Rattle.pkcs1_params.specs.PssValue.{pss_with, pss_of};
-    ghost use Rattle.pkcs1_params.specs.Refusals.{IsAsn1};
     ghost use Rattle.pkcs1_params.specs.Spellings.{HasTwoToTheDefaults};
 
     /// The same, borrowed.
@@ -164,8 +172,6 @@ impl<P: AnyValue> EncodeValue for RsaPssParams<P> {
 }
 
 impl<'a> RsaPssParams<AnyRef<'a>> {
-    ghost use Rattle.pkcs1_params.specs.PssValue.{pss_of};
-
     /// The default length of the salt, in octets: that of a hash of SHA-1.
     pub const SALT_LEN_DEFAULT: u8 = 20;
 
@@ -185,12 +191,8 @@ impl<'a> RsaPssParams<AnyRef<'a>> {
 }
 
 impl<'a> RsaPssParams<AnyRef<'a>> {
-    ghost use Rattle.std.specs.Prelude.{ℕ, List, IfOk};
-    ghost use Rattle.der_core.specs.Reading.{TellsOfBytes};
+    ghost use Rattle.std.specs.Prelude.{ℕ, List, IfOk, IsErrAnd, ◌⊎◌};
     ghost use Rattle.der_core.specs.Document.{Means, IsShortest};
-    ghost use Rattle.pkcs1_params.specs.Parameters as grammar;
-    ghost use Rattle.pkcs1_params.specs.PssValue.{pss_of};
-    ghost use Rattle.pkcs1_params.specs.Refusals.{IsAsn1};
     ghost use Rattle.spki_core.specs.StrictFields.{NamesDefault};
 
     /// Reads a whole slice as `try_from`, and refuses a text in which a default is written by `Noncanonical` of the tag
@@ -204,6 +206,11 @@ impl<'a> RsaPssParams<AnyRef<'a>> {
         ensures err { IfErr result (λ e. (params : PssParameters)
             → IsShortest grammar.RsaPssParams params bytes.now → ⊥) }
         ensures asn1 { IfErr result (IsAsn1 (λ e. TellsOfBytes e.kind)) }
+        ensures exact { IfErr result (λ e. IsAsn1 (λ e. RsaPssParamsFault e.kind bytes.now) e
+            ⊎ ((params : PssParameters) × Means grammar.RsaPssParams bytes.now params
+            × IsAsn1 (NamesDefault (pss_fields params) bytes.now) e)) }
+        ensures only { (kind : der.ErrorKind)
+            → RsaPssParamsFault kind bytes.now → IsErrAnd result (IsAsn1 (λ e. e.kind ≡ kind)) }
     {
         let params = RsaPssParams::try_from(bytes)?;
         refuse_defaults(&params, bytes)?;
@@ -214,7 +221,6 @@ impl<'a> RsaPssParams<AnyRef<'a>> {
 impl<P: AnyValue> EqualByValue for RsaPssParams<P> {
     ghost use Rattle.spki_core.specs.AnyValues.{holds_decides};
     ghost use Rattle.pkcs1_params.specs.ParameterEquality.{pss_decides};
-    ghost use Rattle.pkcs1_params.specs.PssValue.{pss_with};
     ghost use Rattle.pkcs1_params.specs.AlgorithmEquality.{plain_decides, mask_decides};
 
     ghost decides = { λ a b.
@@ -240,7 +246,6 @@ impl<P: AnyValue + TryClone> TryClone for RsaPssParams<P> {
 }
 
 impl RsaPssParams<Any> {
-    ghost use Rattle.pkcs1_params.specs.PssValue.{pss_with};
     ghost use Rattle.spki_core.specs.OwnedAnyValue.{any_in};
 
     /// Every field at its default, without memory.
@@ -258,8 +263,6 @@ impl RsaPssParams<Any> {
 }
 
 impl<'a> Default for RsaPssParams<AnyRef<'a>> {
-    ghost use Rattle.pkcs1_params.specs.PssValue.{pss_of};
-
     /// Every field at its default.
     fn default() -> RsaPssParams<AnyRef<'a>>
         ensures { pss_of result ≡ record { hash = sha1; mask_gen = mgf1_sha1; salt_len = 20; trailer_field = 1 } }
@@ -269,13 +272,9 @@ impl<'a> Default for RsaPssParams<AnyRef<'a>> {
 }
 
 impl<'a> TryFrom<&'a [u8]> for RsaPssParams<AnyRef<'a>> {
-    ghost use Rattle.std.specs.Prelude.{ℕ, List, IfOk, OnErr};
-    ghost use Rattle.der_core.specs.Reading.{TellsOfBytes};
+    ghost use Rattle.std.specs.Prelude.{ℕ, List, IfOk, IsErrAnd, OnErr};
     ghost use Rattle.der_core.specs.Document.{Means};
     ghost use Rattle.pkcs1_params.specs.Meanings.{IsNoSentence, IsOnlyMeaning};
-    ghost use Rattle.pkcs1_params.specs.Parameters as grammar;
-    ghost use Rattle.pkcs1_params.specs.PssValue.{pss_of};
-    ghost use Rattle.pkcs1_params.specs.Refusals.{IsAsn1};
 
     type Error = Error;
 
@@ -285,6 +284,9 @@ impl<'a> TryFrom<&'a [u8]> for RsaPssParams<AnyRef<'a>> {
         ensures one { IfOk result (λ params. IsOnlyMeaning grammar.RsaPssParams bytes.now (pss_of params)) }
         ensures err { OnErr result (IsNoSentence grammar.RsaPssParams bytes.now) }
         ensures asn1 { IfErr result (IsAsn1 (λ e. TellsOfBytes e.kind)) }
+        ensures exact { IfErr result (IsAsn1 (λ e. RsaPssParamsFault e.kind bytes.now)) }
+        ensures only { (kind : der.ErrorKind)
+            → RsaPssParamsFault kind bytes.now → IsErrAnd result (IsAsn1 (λ e. e.kind ≡ kind)) }
     {
         Ok(RsaPssParams::from_der(NoMemory, bytes)?)
     }

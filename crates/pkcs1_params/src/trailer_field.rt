@@ -54,7 +54,13 @@ impl EqualByValue for TrailerField {
 }
 
 impl<'a, M: Memory> DecodeValue<&'a [u8], M> for TrailerField {
+    ghost use Rattle.der_core.specs.Reading.{ReadsOrFaults};
+    ghost use Rattle.pkcs1_params.specs.ParameterFaults.{TrailerFault};
+    ghost use Rattle.pkcs1_params.specs.ParameterFaultLaws.{trailer_fault_none};
+
     ghost may_allocate = { λ _. ⊥ };
+
+    ghost fault = { TrailerFault };
 
     fn decode_value<R: Reader<&'a [u8]>>(
         memory: M,
@@ -66,12 +72,17 @@ impl<'a, M: Memory> DecodeValue<&'a [u8], M> for TrailerField {
             ReadsContents (λ (_ : TrailerField). 1) TrailerContents (λ _. ⊥) result before (R.left reader.new) }
         ensures exact { (c : List ℕ)
             → R.left reader.old ≡ Some c → Answers (λ (_ : TrailerField). 1) result (trailer_at c) }
+        ensures fault { let before = R.left reader.old in
+            ReadsOrFaults (λ (_ : TrailerField). 1) TrailerContents TrailerFault (λ _. ⊥)
+            result before (R.left reader.new) }
     {
         match u8::decode_value(memory, reader, header)? {
             1 => Ok(TrailerField::BC),
             _ => Err(reader.error(ErrorKind::Value { tag: Tag::INTEGER })),
         }
     }
+
+    ghost fault_none = { trailer_fault_none };
 }
 
 impl EncodeValue for TrailerField {

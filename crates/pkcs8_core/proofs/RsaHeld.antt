@@ -1,15 +1,17 @@
 -- RSA keys in containers.
-use Rattle.std.proofs.Common.{◌≡◌, ℕ, List, ⊎_elim, inl, inr}
+use Rattle.std.proofs.Common.{◌≡◌, ◌⊎◌, ℕ, List, ⊎_elim, inl, inr}
 use Rattle.std.specs.Prelude.{Result, Ok, Err, IfOk, IfErr, OnErr}
 use Rattle.der_core.specs.Document.{Means}
+use Rattle.der_core.specs.Faults.{Faulty}
 use Rattle.der_core.specs.Reading.{Refuses}
 use Rattle.pkcs1.specs.Allocating.{MayAllocate}
+use Rattle.pkcs1.specs.KeyFaults.{RsaPrivateKeyFault}
 use Rattle.pkcs1.specs.Keys.{PrivateKey, RsaPrivateKey}
 use Rattle.pkcs1_params.specs.Refusals.{IsAsn1}
 use Rattle.pkcs1_params.specs.declared.error.Error.{Error}
 use Rattle.pkcs1_params.specs.declared.error.Error.TheVariants as error
 use Rattle.pkcs8_core.specs.Container.{Info}
-use Rattle.pkcs8_core.specs.Rsa.{HoldsRsa}
+use Rattle.pkcs8_core.specs.Rsa.{HoldsRsa, NotRsa, rsa_encryption}
 
 module _ {X : Type 0} (value : X → PrivateKey (List ℕ)) (info : Info) (q : List ℕ) (same : q ≡ info.private_key) where
   pub one_held : (r : Result X Error) → IfOk r (λ x. (other : PrivateKey (List ℕ)) → Means RsaPrivateKey q other → other ≡ value x)
@@ -28,3 +30,20 @@ module _ {X : Type 0} (value : X → PrivateKey (List ℕ)) (info : Info) (q : L
   refused_held (Err error.Crypto) f = f
   refused_held (Err error.KeyMalformed) f = f
   refused_held (Err error.Version) f = f
+
+  -- The algorithm agrees, so the fault is that of the key.
+  pub fault_held : info.algorithm ≡ rsa_encryption → (r : Result X Error) → IfErr r (IsAsn1 (λ e. RsaPrivateKeyFault e.kind q))
+      → IfErr r (IsAsn1 (λ e. NotRsa info.algorithm e.kind ⊎ ((info.algorithm ≡ rsa_encryption) × RsaPrivateKeyFault e.kind info.private_key)))
+  fault_held agrees (Ok x) f = tt
+  fault_held agrees (Err (error.Asn1 e)) f = inr (agrees, rw (← same) f)
+  fault_held agrees (Err error.Crypto) f = f
+  fault_held agrees (Err error.KeyMalformed) f = f
+  fault_held agrees (Err error.Version) f = f
+
+  pub faulty_held : info.algorithm ≡ rsa_encryption → (r : Result X Error) → IfErr r (IsAsn1 (λ e. Faulty e.kind (MayAllocate q) (RsaPrivateKeyFault e.kind q)))
+      → IfErr r (IsAsn1 (λ e. NotRsa info.algorithm e.kind ⊎ ((info.algorithm ≡ rsa_encryption) × Faulty e.kind (MayAllocate info.private_key) (RsaPrivateKeyFault e.kind info.private_key))))
+  faulty_held agrees (Ok x) f = tt
+  faulty_held agrees (Err (error.Asn1 e)) f = inr (agrees, rw (← same) f)
+  faulty_held agrees (Err error.Crypto) f = f
+  faulty_held agrees (Err error.KeyMalformed) f = f
+  faulty_held agrees (Err error.Version) f = f

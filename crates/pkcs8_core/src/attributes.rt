@@ -61,7 +61,12 @@ impl TaggedBy for Attributes<'_> {
 }
 
 impl<'a, M: Memory> DecodeValue<&'a [u8], M> for Attributes<'a> {
+    ghost use Rattle.der_core.specs.Faults.{Untold};
+    ghost use Rattle.der_core.specs.Reading.{NoneHas};
+
     ghost may_allocate = { λ _. ⊥ };
+
+    ghost fault = { Untold (NoneHas OctetContents) };
 
     fn decode_value<R: Reader<&'a [u8]>>(
         _memory: M,
@@ -71,6 +76,8 @@ impl<'a, M: Memory> DecodeValue<&'a [u8], M> for Attributes<'a> {
         let bytes = reader.read_slice(header.length)?;
         Ok(Attributes::new(bytes))
     }
+
+    ghost fault_none = { λ kind bytes within fault. fault };
 }
 
 impl EncodeValue for Attributes<'_> {

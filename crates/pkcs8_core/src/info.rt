@@ -95,7 +95,12 @@ impl<'a> Sequence<'a> for PrivateKeyInfoRef<'_> {
 }
 
 impl<'a, M: Memory> DecodeValue<&'a [u8], M> for PrivateKeyInfoRef<'a> {
+    ghost use Rattle.der_core.specs.Faults.{Untold};
+    ghost use Rattle.der_core.specs.Reading.{NoneHas};
+
     ghost may_allocate = { λ _. ⊥ };
+
+    ghost fault = { Untold (NoneHas InfoContents) };
 
     fn decode_value<R: Reader<&'a [u8]>>(
         memory: M,
@@ -112,6 +117,8 @@ impl<'a, M: Memory> DecodeValue<&'a [u8], M> for PrivateKeyInfoRef<'a> {
             attributes,
         })
     }
+
+    ghost fault_none = { λ kind bytes within fault. fault };
 }
 
 /// The version of a container.

@@ -1,8 +1,10 @@
 //! RSA keys in containers.
-ghost use Rattle.std.specs.Prelude.{◌≡◌, ℕ, List, IfOk, IfErr, OnErr};
+ghost use Rattle.std.specs.Prelude.{◌≡◌, ◌⊎◌, ℕ, List, IfOk, IfErr, OnErr};
+ghost use Rattle.der_core.specs.Faults.{Faulty};
 ghost use Rattle.der_core.specs.Reading.{Refuses, TellsOfBytes};
 ghost use Rattle.spki_core.specs.AlgorithmValue.{algorithm_of};
 ghost use Rattle.pkcs1.specs.Allocating.{MayAllocate};
+ghost use Rattle.pkcs1.specs.KeyFaults.{RsaPrivateKeyFault};
 ghost use Rattle.pkcs1.specs.Keys.{PrivateKey};
 ghost use Rattle.pkcs1.specs.PrivateKeyValue.{private_key_of};
 ghost use Rattle.pkcs1_params.specs.Refusals.{IsAsn1};
@@ -41,6 +43,9 @@ impl<'a> PrivateKeyInfoRef<'a> {
         ensures bytes { IfOk result (λ view. viewed_text view ≡ (info_of self.now).private_key) }
         ensures err { OnErr result ((key : PrivateKey (List ℕ)) → HoldsRsa (info_of self.now) key → ⊥) }
         ensures asn1 { IfErr result (IsAsn1 (λ e. TellsOfBytes e.kind)) }
+        ensures exact { let info = info_of self.now in
+            IfErr result (IsAsn1 (λ e. NotRsa info.algorithm e.kind
+            ⊎ ((info.algorithm ≡ rsa_encryption) × RsaPrivateKeyFault e.kind info.private_key))) }
     {
         require_rsa(&self.algorithm)?;
         RsaPrivateKeyView::try_from(self.private_key.as_bytes())
@@ -53,6 +58,10 @@ impl<'a> PrivateKeyInfoRef<'a> {
             → other ≡ private_key_of key) }
         ensures err { IfErr result (IsAsn1 (λ e. Refuses e.kind (MayAllocate (info_of self.now).private_key)
             ((key : PrivateKey (List ℕ)) → HoldsRsa (info_of self.now) key → ⊥))) }
+        ensures exact { let info = info_of self.now in
+            let asked = MayAllocate info.private_key in
+            IfErr result (IsAsn1 (λ e. NotRsa info.algorithm e.kind
+            ⊎ ((info.algorithm ≡ rsa_encryption) × Faulty e.kind asked (RsaPrivateKeyFault e.kind info.private_key)))) }
     {
         require_rsa(&self.algorithm)?;
         RsaPrivateKeyRef::decode_key(alloc, self.private_key.as_bytes())

@@ -8,12 +8,14 @@ use Rattle.der_core.specs.Texts.{AreBytes}
 use Rattle.der_core.specs.declared.error.ErrorKind.{ErrorKind}
 use Rattle.der_core.specs.declared.error.ErrorKind.TheVariants.{Incomplete}
 use Rattle.der_core.specs.Input.{Input, left_in, read_from, front_of, header_at}
-use Rattle.der_core.proofs.LengthReading.{chosen}
+use Rattle.der_core.specs.LengthReading.{chosen}
 use Rattle.der_core.specs.InputLaws.{ok_pair}
-use Rattle.der_core.proofs.Headers.{tlv_header, header_at-sound, header_at-tells}
+use Rattle.der_core.specs.HeaderLaws.{tlv_header, header_at-sound, header_at-tells, header_sound}
 use Rattle.der_core.specs.Tells.{is_incomplete}
 use Rattle.der_core.proofs.HeaderAndContents.{Headed}
 use Rattle.der_core.specs.Sequences.{TextFails, TextGives}
+use Rattle.der_core.specs.Faults.{FaultyFront}
+use Rattle.spki_core.specs.Faults.{AnyFault, headless, too_few}
 use Rattle.spki_core.specs.Any.{Any}
 
 front_fails : (n : ℕ) (left : List ℕ) (e : ErrorKind) → front_of n left ≡ Err e → (length left < n) × (e ≡ Incomplete)
@@ -76,6 +78,16 @@ no_room (Some i) mid after e t n within head short failed =
                 omega (arith, few.0, ap length parts.1, length-append p.contents rest),
           ),
     )
+
+-- the same, as first faults
+pub header_fault : (before : Input) (e : ErrorKind) → read_from before header_at ≡ Err e → FaultyFront AnyFault (λ _. ⊥) e before
+header_fault before e read i is = inr (headless (rw is at read))
+
+pub room_fault : (before mid : Input) (e : ErrorKind) (t n : ℕ) → AreBytes (left_in before) → Headed before mid t n → read_from mid (front_of n) ≡ Err e → FaultyFront AnyFault (λ _. ⊥) e before
+room_fault before mid e t n bytes head short i is =
+    let few = front_fails n head.0 e (rw head.2 at short) in
+    let front = header_sound i head.0 (t, n) (rw is at bytes) (rw is at head.1) in
+    inr (too_few t n front.0 head.0 front.2 front.1 few.0 few.1)
 
 -- a header and its contents
 pub any_read : (before mid after : Input) (t n : ℕ) (c : List ℕ) → AreBytes (left_in before)

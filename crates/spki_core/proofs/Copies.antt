@@ -1,12 +1,17 @@
 -- Reading what is copied: memory is asked for where a text was found.
-use Rattle.std.proofs.Common.{◌≡◌, List, ℕ, [], ◌++◌, sym, ◌∙◌, inl, Result, Ok, Err, Some, None, IfOk, IfErr, append-nil}
+use Rattle.std.proofs.Common.{◌≡◌, ◌≤◌, List, ℕ, [], ◌++◌, length, sym, ◌∙◌, ◌+◌, subst, inl, inr, ⊎_elim, Result, Ok, Err, Some, None, IfOk, IfErr, append-nil}
 use Rattle.der_core.specs.declared.error.Error.{Error}
 use Rattle.der_core.specs.declared.error.ErrorKind.{ErrorKind}
 use Rattle.der_core.specs.declared.error.ErrorKind.TheVariants.{OutOfMemory}
 use Rattle.der_core.specs.Document.{Means, IsRefused}
 use Rattle.der_core.specs.Writing.{encode_refusal}
 use Rattle.der_core.specs.Input.{Input}
-use Rattle.der_core.specs.Reading.{ReadsAll}
+use Rattle.der_core.specs.declared.tag.Tag.{Tag}
+use Rattle.der_core.specs.TagLaws.{same_tag}
+use Rattle.der_core.specs.Tlv.{Tlv}
+use Rattle.der_core.specs.Faults.{TextFault, WholeFault, Faulty, FaultyFront, AreNone}
+use Rattle.der_core.specs.Length.{limit}
+use Rattle.der_core.specs.Reading.{ReadsAll, ReadsOrFaults, Refuses, AllocatesIn, NoneHas}
 use Rattle.der_core.specs.Sequences.{TextFails, TextGives, some_same}
 
 module _ {V : Type 0} (text : V → List ℕ → Type 0) where
@@ -18,10 +23,36 @@ module _ {V : Type 0} (text : V → List ℕ → Type 0) where
     λ i is. inl (memory, (gives.0, gives.1, some_same i (gives.0 ++ gives.1) (sym is ∙ gives.2), (v, gives.4))),
   )
 
+  pub copied_faults : (Fault : ErrorKind → List ℕ → Type 0) (before mid : Input) (e : ErrorKind) (v : V) → TextGives text v before mid → e ≡ OutOfMemory → FaultyFront Fault (λ b. (w : V) × text w b) e before
+  copied_faults Fault before mid e v gives memory i is = inl (memory, (gives.0, gives.1, some_same i (gives.0 ++ gives.1) (sym is ∙ gives.2), (v, gives.4)))
+
   pub copy_reads_all : {X : Type 0} (value : X → V) (r : Result X Error) (b : List ℕ) (v : V) → Means text b v → IfOk r (λ x. value x ≡ v) → IfErr r (λ e. e.kind ≡ OutOfMemory)
       → ReadsAll value text (λ c. (w : V) × text w c) r b
   copy_reads_all value (Ok x) b v means same memory = rw same means
   copy_reads_all value (Err e) b v means same memory = inl (memory, (b, [], sym (append-nil b), (v, means.1)))
+
+  pub copy_faults : {X : Type 0} (Fault : ErrorKind → List ℕ → Type 0) (r : Result X Error) (b : List ℕ) (v : V) → Means text b v → IfErr r (λ e. e.kind ≡ OutOfMemory)
+      → IfErr r (λ e. Faulty e.kind (AllocatesIn (λ c. (w : V) × text w c) b) (WholeFault text Fault e.kind b))
+  copy_faults Fault (Ok x) b v means memory = tt
+  copy_faults Fault (Err e) b v means memory = inl (memory, (b, [], sym (append-nil b), (v, means.1)))
+
+-- The same, of the tag of this octet.
+pub at_tag : {X : Type 0} (r : Result X Error) (Fault : ErrorKind → List ℕ → Type 0) (may_allocate : List ℕ → Type 0) (n : ℕ) (tag : Tag) (before : Input) → tag.octet ≡ 160 + n
+    → IfErr r (λ e. FaultyFront (TextFault tag Fault) (Tlv tag.octet may_allocate) e.kind before) → IfErr r (λ e. (t : Tag) → t.octet ≡ 160 + n → FaultyFront (TextFault t Fault) (Tlv (160 + n) may_allocate) e.kind before)
+at_tag (Ok x) Fault may_allocate n tag before is fault = tt
+at_tag (Err e) Fault may_allocate n tag before is fault =
+    λ t at.
+    let P : ℕ → Type 0 = λ o. FaultyFront (TextFault tag Fault) (Tlv o may_allocate) e.kind before in
+    let Q : Tag → Type 0 = λ u. FaultyFront (TextFault u Fault) (Tlv (160 + n) may_allocate) e.kind before in
+    subst Q (same_tag tag t (is ∙ sym at)) (subst P is fault)
+
+-- Contents with a fault are those of no value.
+pub refused_by_fault : {X V : Type 0} (tag t : ℕ) (contents : V → List ℕ → Type 0) (Fault : ErrorKind → List ℕ → Type 0) (value : X → V) (may_allocate : List ℕ → Type 0) (r : Result X Error) (before after : Input) (c : List ℕ)
+    → before ≡ Some c → length c ≤ limit → AreNone (NoneHas contents) Fault → ReadsOrFaults value contents Fault may_allocate r before after
+    → IfErr r (λ e. Refuses e.kind (may_allocate c) ((v : V) → t ≡ tag → contents v c → ⊥))
+refused_by_fault tag t contents Fault value may_allocate (Ok x) before after c is within none h = tt
+refused_by_fault tag t contents Fault value may_allocate (Err e) before after c is within none h =
+    ⊎_elim inl (λ f. let told = none e.kind c within f in inr (told.0, λ v _ p. told.1 v p)) (h.1 c is)
 
 -- A refusal of the same value.
 pub refused_same : {V A : Type 0} (has : V → Type 0) (Grammar : V → List ℕ → Type 0) (r : Result A Error) (v w : V) (room : ℕ) → v ≡ w

@@ -1,15 +1,17 @@
 -- Reading one field, and the fields behind it: each exit of the code is one lemma.
 use Rattle.std.proofs.Common.{◌≡◌, ℕ, ◌+◌, List, [], ◌∷◌, ◌++◌, map, sym, ap, ◌∙◌, inl, inr, refl, ⊎_elim, true, false, Some, None, Result, Ok, Err}
-use Rattle.std.specs.Prelude.{slice_get}
+use Rattle.std.specs.Prelude.{slice_get, IfErr}
 use Rattle.der_core.specs.declared.error.ErrorKind.{ErrorKind}
 use Rattle.der_core.specs.declared.error.Error.{Error}
-use Rattle.der_core.specs.declared.error.ErrorKind.TheVariants.{Failed}
 use Rattle.der_core.specs.Input.{Input}
 use Rattle.der_core.specs.Texts.{IsDelimited, Joins}
 use Rattle.der_core.specs.Tlv.{Tlv}
-use Rattle.der_core.specs.Reading.{AllocatesIn, NoneIn, ReadsText, Refuses, TellsNext}
+use Rattle.der_core.specs.Reading.{AllocatesIn, ReadsText, Refuses, TellsNext}
 use Rattle.der_core.proofs.Growing.{tlv_recast}
-use Rattle.der_core.specs.Sequences.{ContentsFail, ContentsGive, some_same}
+use Rattle.der_core.specs.declared.tag.Tag.{Tag}
+use Rattle.der_core.specs.Faults.{FaultyFront}
+use Rattle.der_core.specs.Sequences.{ContentsFail, ContentsFaulty, ContentsGive, some_same}
+use Rattle.spki_core.specs.Faults.{NextFault, FieldThenFault}
 use Rattle.spki_core.specs.Allocating.{FieldAllocates, AllocatesFromField}
 use Rattle.spki_core.specs.Explicit.{Field, field, Defaultable, IsNext, FieldRead, FieldRefused}
 use Rattle.spki_core.specs.FieldLaws.{AreLater}
@@ -39,6 +41,39 @@ field_present k n may_allocate default (Err e) before mid after (i, is, at, told
       let same : i ≡ bytes = some_same i bytes (sym is ∙ here) in
       ⊎_elim inl (λ q. inr (q.0, (is_next bytes n (rw same at (told.0 refl)), λ w rest (x, y, t, _, f). q.1 (k.back w) x y f (tlv_recast x t (k.text_back w t.contents t.holds))))) (why bytes (rw same at at)),
 )
+
+-- Its octet is next, and it has a fault.
+pub field_faulty : {X : Type 0} (r : Result X Error) (n : ℕ) (Fault : Tag → ErrorKind → List ℕ → Type 0) (may_allocate : List ℕ → Type 0) (before mid : Input) → TellsNext (160 + n) (Ok true) before mid
+    → IfErr r (λ e. (t : Tag) → t.octet ≡ 160 + n → FaultyFront (Fault t) may_allocate e.kind mid) → IfErr r (λ e. (t : Tag) → t.octet ≡ 160 + n → FaultyFront (NextFault n (Fault t)) may_allocate e.kind before)
+field_faulty (Ok x) n Fault may_allocate before mid next fault = tt
+field_faulty (Err e) n Fault may_allocate before mid (i, is, at, told) fault =
+    λ t octet j here.
+    let same : i ≡ j = some_same i j (sym is ∙ here) in
+    ⊎_elim inl (λ f. inr (is_next j n (rw same at (told.0 refl)), f)) (fault t octet j (at ∙ ap (λ l. Some l) same))
+
+pub of_tag : {X : Type 0} (r : Result X Error) (n : ℕ) (Fault : Tag → ErrorKind → List ℕ → Type 0) (may_allocate : List ℕ → Type 0) (before : Input) (tag : Tag) → tag.octet ≡ 160 + n
+    → IfErr r (λ e. (t : Tag) → t.octet ≡ 160 + n → FaultyFront (Fault t) may_allocate e.kind before) → IfErr r (λ e. FaultyFront (Fault tag) may_allocate e.kind before)
+of_tag (Ok x) n Fault may_allocate before tag same fault = tt
+of_tag (Err e) n Fault may_allocate before tag same fault = fault tag same
+
+-- The fault of a field, and of what is behind it.
+module _ {V : Type 0} (n : ℕ) (text : V → List ℕ → Type 0) (default : V) (Fault Behind : ErrorKind → List ℕ → Type 0) (own behind : List ℕ → Type 0) where
+  pub field_faults : (before after : Input) (e : ErrorKind) → after ≡ None → FaultyFront (NextFault n Fault) (FieldAllocates n own) e before
+      → ContentsFaulty (FieldThenFault n text default Fault Behind) (AllocatesFromField n text default own behind) e before after
+  field_faults before after e failed fault = (failed, λ c is. ⊎_elim (λ q. inl (q.0, inl q.1)) (λ f. inr (inl f)) (fault c is))
+
+  pub fields_faults : {later : List ℕ → Type 0} → ((c : List ℕ) → later c → behind c) → (before mid after : Input) (e : ErrorKind) (x : V)
+      → ((bytes : List ℕ) × (rest : List ℕ) × (before ≡ Some bytes) × (mid ≡ Some rest) × FieldRead n text default bytes x rest) → ContentsFaulty Behind later e mid after
+      → ContentsFaulty (FieldThenFault n text default Fault Behind) (AllocatesFromField n text default own behind) e before after
+  fields_faults asked before mid after e x (bytes, rest, at, left, read) fails = (
+    fails.0,
+    λ c is.
+        let same : c ≡ bytes = some_same c bytes (sym is ∙ at) in
+        ⊎_elim
+        (λ q. inl (q.0, inr (x, rw same (read_then n text default x behind bytes rest read (asked rest q.1)))))
+        (λ f. inr (inr (x, rest, rw same read, f)))
+        (fails.1 rest left),
+  )
 
 -- The reader had failed.
 pub field_failed : {X V : Type 0} (n : ℕ) (value : X → V) (text : V → List ℕ → Type 0) (may_allocate : List ℕ → Type 0) (default : V) (e : Error) (before after : Input)

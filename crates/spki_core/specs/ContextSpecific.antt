@@ -1,5 +1,5 @@
 -- A value inside an explicit tag of the class context-specific (X.690 8.14.2).
-use Rattle.std.specs.Prelude.{ℕ, List, ◌+◌, ◌≤◌}
+use Rattle.std.specs.Prelude.{ℕ, List, ◌≤◌}
 use Rattle.der_core.specs.Tag.{context_tag}
 use Rattle.der_core.specs.Tlv.{Tlv, tlv}
 

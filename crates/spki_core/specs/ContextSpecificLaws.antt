@@ -1,5 +1,5 @@
 -- Values inside explicit tags: each text means one number with one value, and what is written is the shortest text.
-use Rattle.std.proofs.Common.{ℕ, List, ◌≡◌, ◌≤◌, ◌<◌, ◌+◌, ◌^◌, length, arith, true}
+use Rattle.std.proofs.Common.{ℕ, List, ◌≡◌, ◌≤◌, ◌<◌, ◌^◌, length, arith, true}
 use Rattle.std.specs.Prelude.{IsTrue}
 use Rattle.std.proofs.lemmas.Bool.Decides.{nat_tests}
 use Rattle.der_core.specs.Tag.{is_allowed, context_tag}

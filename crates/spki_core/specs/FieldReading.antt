@@ -1,6 +1,5 @@
 -- What reading a field with a default gives.
 use Rattle.std.specs.Prelude.{ℕ, List, ◌≡◌, Result, Ok, Err, Some, None}
-use Rattle.der_core.specs.Tag.{context_tag}
 use Rattle.der_core.specs.declared.error.Error.{Error}
 use Rattle.der_core.specs.Input.{Input}
 use Rattle.der_core.specs.Reading.{AllocatesIn, Refuses}

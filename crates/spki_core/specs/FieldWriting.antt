@@ -1,5 +1,5 @@
 -- What is written of a field that may be left out.
-use Rattle.std.specs.Prelude.{ℕ, Bool, true, false, List, [], ◌+◌}
+use Rattle.std.specs.Prelude.{ℕ, Bool, true, false, List, []}
 use Rattle.der_core.specs.Tag.{context_tag}
 use Rattle.der_core.specs.Tlv.{tlv}
 

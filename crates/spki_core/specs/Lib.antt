@@ -22,3 +22,5 @@ pub mod Held
 pub mod StrictFields
 pub mod Masks
 pub mod MaskLaws
+pub mod Faults
+pub mod FaultLaws

@@ -68,7 +68,12 @@ impl<P: EqualByValue> EqualByValue for AlgorithmIdentifier<P> {
 }
 
 impl<'a, M: Memory, P: Decode<&'a [u8], M>> DecodeValue<&'a [u8], M> for AlgorithmIdentifier<P> {
+    ghost use Rattle.spki_core.specs.Faults.{AlgorithmFault};
+    ghost use Rattle.spki_core.specs.FaultLaws.{algorithm_fault_none};
+
     ghost may_allocate = { AllocatesForParameters P.Decode.may_allocate };
+
+    ghost fault = { AlgorithmFault P.text P.Decode.fault };
 
     fn decode_value<R: Reader<&'a [u8]>>(
         memory: M,
@@ -79,6 +84,8 @@ impl<'a, M: Memory, P: Decode<&'a [u8], M>> DecodeValue<&'a [u8], M> for Algorit
         let parameters = decode_last(memory, reader)?;
         Ok(AlgorithmIdentifier { oid, parameters })
     }
+
+    ghost fault_none = { algorithm_fault_none P.text P.Decode.fault P.delimited P.Decode.fault_none };
 }
 
 /// Reading an identifier without parameters is never refused for want of memory, whatever type they would have: a function

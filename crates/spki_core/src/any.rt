@@ -1,7 +1,10 @@
 //! Texts of any tag.
-ghost use Rattle.std.specs.Prelude.{◌≡◌, ◌≢◌, ◌≤◌, ◌<◌, ℕ, [], length, slice_index, refl, ⊤, IfOk, IsOk, IfErr};
+ghost use Rattle.std.specs.Prelude.{◌≡◌, ◌≢◌, ◌≤◌, ◌<◌, ℕ, [], length, slice_index, refl, ⊤, IfOk, IsOk, IfErr, IsTrue};
 ghost use Rattle.der_core.specs.Length.{limit};
+ghost use Rattle.der_core.specs.Tag.{is_allowed};
+ghost use Rattle.der_core.specs.Faults.{FaultyFront};
 ghost use Rattle.der_core.specs.Reading.{ReadsText, Refuses};
+ghost use Rattle.spki_core.specs.Faults.{AnyFault};
 ghost use Rattle.der_core.specs.Refusal.{IsUnexpected};
 ghost use Rattle.spki_core.specs.Any.{TagAndContents, IsAny, Any, null_value, written_any};
 ghost use Rattle.spki_core.specs.AnyLaws.{any_delimited, any_of_bytes, any_relates, any_shortest};
@@ -11,11 +14,47 @@ use der_core::{
     Length, Memory, Reader, Result, SliceReader, Tag, Text, TryClone, Writer,
 };
 use std::alloc::Global;
+use std::fmt;
+
+/// A tag in eight octets: a field of one would leave padding in `AnyRef`, which is copied in pieces wherever that is.
+#[derive(Clone, Copy, PartialEq, Eq, Drop)]
+struct WideTag {
+    octet: u64,
+    ghost allowed: { IsTrue (is_allowed octet) },
+    ghost fits: { octet < 256 },
+}
+
+impl WideTag {
+    #[inline(always)]
+    fn of(tag: Tag) -> WideTag
+        ensures { result.octet ≡ tag.octet }
+    {
+        WideTag {
+            octet: tag.octet() as u64,
+        }
+    }
+
+    #[inline(always)]
+    fn tag(self) -> Tag
+        ensures { result.octet ≡ self.octet }
+    {
+        Tag {
+            octet: self.octet as u8,
+        }
+    }
+}
+
+impl fmt::Debug for WideTag {
+    /// Prints the tag.
+    fn fmt<W: fmt::Write>(&self, f: &mut fmt::Formatter<W>) -> fmt::Result {
+        self.tag().fmt(f)
+    }
+}
 
 /// A tag and contents octets that are not looked at. It borrows them.
 #[derive(Clone, Copy, Debug, PartialEq, Eq, Drop)]
 pub struct AnyRef<'a> {
-    tag: Tag,
+    tag: WideTag,
     contents: &'a [u8],
     ghost bounded: { length contents.now ≤ limit },
     ghost octets: { (i : ℕ) → slice_index contents.now i < 256 },
@@ -32,7 +71,10 @@ impl<'a> AnyRef<'a> {
         if contents.len() > Length::MAX.to_usize() {
             return Err(Error::new(ErrorKind::Overflow));
         }
-        Ok(AnyRef { tag, contents })
+        Ok(AnyRef {
+            tag: WideTag::of(tag),
+            contents,
+        })
     }
 
     /// NULL (X.690 8.8), which has no contents octet.
@@ -40,7 +82,7 @@ impl<'a> AnyRef<'a> {
         ensures { any_of result ≡ null_value }
     {
         AnyRef {
-            tag: Tag::NULL,
+            tag: WideTag::of(Tag::NULL),
             contents: &[],
         }
     }
@@ -49,7 +91,7 @@ impl<'a> AnyRef<'a> {
     pub fn tag(&self) -> Tag
         ensures { result.octet ≡ (any_of self.now).tag }
     {
-        self.tag
+        self.tag.tag()
     }
 
     /// The contents octets.
@@ -74,10 +116,10 @@ impl<'a> AnyRef<'a> {
         ensures tag { let tag = (any_of self.entry).tag in
             IfErr result (λ e. tag ≢ T.TAG.octet → IsUnexpected T.TAG tag e.kind) }
     {
-        if self.tag != T::TAG {
+        if self.tag() != T::TAG {
             return Err(Error::new(ErrorKind::TagUnexpected {
                 expected: T::TAG,
-                actual: self.tag,
+                actual: self.tag(),
             }));
         }
         let mut reader = SliceReader::new(self.contents)?;
@@ -86,11 +128,11 @@ impl<'a> AnyRef<'a> {
 
     /// Its header.
     fn header(&self) -> Header
-        ensures tag { result.tag ≡ self.now.tag }
+        ensures tag { result.tag.octet ≡ self.now.tag.octet }
         ensures length { result.length ≡ length self.now.contents.now }
     {
         Header {
-            tag: self.tag,
+            tag: self.tag(),
             length: Length::of(self.contents.len()),
         }
     }
@@ -115,8 +157,13 @@ impl Text for AnyRef<'_> {
 }
 
 impl<'a, M: Memory> Decode<&'a [u8], M> for AnyRef<'a> {
+    ghost use Rattle.spki_core.specs.FaultLaws.{any_fault_none};
+
     ghost may_allocate = { λ _. ⊥ };
 
+    ghost fault = { AnyFault };
+
+    #[inline(always)]
     fn decode<R: Reader<&'a [u8]>>(_memory: M, reader: &mut R) -> Result<AnyRef<'a>> {
         read_any(reader)
     }
@@ -127,24 +174,28 @@ impl<'a, M: Memory> Decode<&'a [u8], M> for AnyRef<'a> {
         reader.finish()?;
         Ok(any)
     }
+
+    ghost fault_none = { any_fault_none };
 }
 
 /// Reads the text at the front of the reader.
+#[inline(always)]
 fn read_any<'a, R: Reader<&'a [u8]>>(reader: &mut R) -> Result<AnyRef<'a>>
-    ensures { ReadsText (λ (any : AnyRef). record { tag = any.tag.octet; contents = any.contents.now }) Any (λ _. ⊥)
-        result (R.left reader.old) (R.left reader.new) }
+    ensures text { ReadsText (λ (any : AnyRef). record { tag = any.tag.octet; contents = any.contents.now })
+        Any (λ _. ⊥) result (R.left reader.old) (R.left reader.new) }
+    ensures exact { IfErr result (λ e. FaultyFront AnyFault (λ _. ⊥) e.kind (R.left reader.old)) }
 {
     let header = Header::decode(reader)?;
     let contents = reader.read_slice(header.length)?;
     Ok(AnyRef {
-        tag: header.tag,
+        tag: WideTag::of(header.tag),
         contents,
     })
 }
 
 impl Encode for AnyRef<'_> {
     fn encoded_len(&self) -> Result<Length> {
-        self.header().length.for_tlv(self.tag)
+        self.header().length.for_tlv(self.tag())
     }
 
     fn encode<W: Writer>(&self, writer: &mut W) -> Result<()> {
@@ -221,6 +272,7 @@ pub trait AnyParams<M: Memory>: AnyValue + Sized {
 
 impl<'a, M: Memory> AnyParams<M> for AnyRef<'a> {
     fn empty(_memory: M, tag: Tag) -> AnyRef<'a> {
+        let tag = WideTag::of(tag);
         AnyRef { tag, contents: &[] }
     }
 }

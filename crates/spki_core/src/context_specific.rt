@@ -1,7 +1,9 @@
 //! Values inside explicit tags of the class context-specific (X.690 8.14.2).
-ghost use Rattle.std.specs.Prelude.{◌≡◌, ◌+◌};
+ghost use Rattle.std.specs.Prelude.{IfErr, ◌≡◌, ◌+◌};
 ghost use Rattle.der_core.specs.Tag.{context_tag};
 ghost use Rattle.der_core.specs.Tlv.{Tlv};
+ghost use Rattle.der_core.specs.declared.tag.Tag.{Tag};
+ghost use Rattle.der_core.specs.Faults.{TextFault, AloneFault, FaultyFront};
 ghost use Rattle.der_core.specs.Reading.{ReadsText, ReadsOptional, AllocatesIn, TellsNext};
 ghost use Rattle.spki_core.specs.Allocating.{FieldAllocates};
 ghost use Rattle.spki_core.specs.ContextSpecific.{Numbered, ContextSpecific, HasNumbered, written_numbered};
@@ -104,9 +106,12 @@ pub fn read_explicit<'a, T: Decode<&'a [u8], M>, M: Memory, R: Reader<&'a [u8]>>
     reader: &mut R,
     number: TagNumber,
 ) -> Result<T>
-    ensures { let tag = context_tag number.value in
+    ensures text { let tag = context_tag number.value in
         let may = FieldAllocates number.value T.Decode.may_allocate in
         ReadsText T.value (λ v. Tlv tag (T.text v)) may result (R.left reader.old) (R.left reader.new) }
+    ensures exact { let may = FieldAllocates number.value T.Decode.may_allocate in
+        IfErr result (λ e. (tag : Tag) → tag.octet ≡ context_tag number.value
+        → FaultyFront (TextFault tag (AloneFault T.text T.Decode.fault)) may e.kind (R.left reader.old)) }
 {
     read_inside(memory, reader, Tag::context(number))
 }
@@ -117,8 +122,11 @@ fn read_inside<'a, T: Decode<&'a [u8], M>, M: Memory, R: Reader<&'a [u8]>>(
     reader: &mut R,
     tag: Tag,
 ) -> Result<T>
-    ensures { let may = Tlv tag.octet (AllocatesIn T.Decode.may_allocate) in
+    ensures text { let may = Tlv tag.octet (AllocatesIn T.Decode.may_allocate) in
         ReadsText T.value (λ v. Tlv tag.octet (T.text v)) may result (R.left reader.old) (R.left reader.new) }
+    ensures exact { let may = Tlv tag.octet (AllocatesIn T.Decode.may_allocate) in
+        let fault = TextFault tag (AloneFault T.text T.Decode.fault) in
+        IfErr result (λ e. FaultyFront fault may e.kind (R.left reader.old)) }
 {
     let header = Header::decode(reader)?;
     if header.tag != tag {

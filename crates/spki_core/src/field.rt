@@ -1,8 +1,13 @@
 //! Explicit fields with defaults (X.690 8.14.2, 11.5).
-ghost use Rattle.std.specs.Prelude.{◌≡◌, ◌≤◌, ◌+◌, length, None, IsErrAnd};
+ghost use Rattle.std.specs.Prelude.{IfErr, ◌≡◌, ◌≤◌, ◌+◌, length, None, IsErrAnd};
 ghost use Rattle.der_core.specs.Length.{limit};
 ghost use Rattle.der_core.specs.BackWriters.{free_of, Prepends};
 ghost use Rattle.der_core.specs.Writing.{Counts, Appends};
+ghost use Rattle.der_core.specs.declared.tag.Tag.{Tag};
+ghost use Rattle.der_core.specs.Tag.{context_tag};
+ghost use Rattle.der_core.specs.Faults.{TextFault, AloneFault, FaultyFront};
+ghost use Rattle.spki_core.specs.Allocating.{FieldAllocates};
+ghost use Rattle.spki_core.specs.Faults.{NextFault};
 ghost use Rattle.spki_core.specs.FieldReading.{ReadsField};
 ghost use Rattle.spki_core.specs.FieldWriting.{HasField, written_field};
 
@@ -21,6 +26,10 @@ pub fn read_field<'a, T: Decode<&'a [u8], M>, M: Memory, R: Reader<&'a [u8]>>(
 ) -> Result<T>
     ensures reads { let may = T.Decode.may_allocate in
         ReadsField number.value T.value T.text (T.value default) may result (R.left reader.old) (R.left reader.new) }
+    ensures exact { let may = FieldAllocates number.value T.Decode.may_allocate in
+        let fault = λ (tag : Tag). NextFault number.value (TextFault tag (AloneFault T.text T.Decode.fault)) in
+        IfErr result (λ e. (tag : Tag) → tag.octet ≡ context_tag number.value
+        → FaultyFront (fault tag) may e.kind (R.left reader.old)) }
     ensures failed { R.left reader.old ≡ None → IsErrAnd result (λ e. e.kind ≡ ErrorKind.Failed) }
 {
     if is_field_next(reader, number)? {

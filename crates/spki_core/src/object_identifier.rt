@@ -165,9 +165,14 @@ impl EqualByValue for ObjectIdentifier {
 }
 
 impl<'a, M: Memory> DecodeValue<&'a [u8], M> for ObjectIdentifier {
+    ghost use Rattle.der_core.specs.Reading.{ReadsOrFaults};
+    ghost use Rattle.spki_core.specs.Faults.{IdentifierFault};
+    ghost use Rattle.spki_core.specs.FaultLaws.{identifier_fault_none};
     ghost use Rattle.spki_core.specs.ObjectIdentifierValue.{octets_of};
 
     ghost may_allocate = { λ _. ⊥ };
+
+    ghost fault = { IdentifierFault };
 
     fn decode_value<R: Reader<&'a [u8]>>(
         _memory: M,
@@ -178,6 +183,8 @@ impl<'a, M: Memory> DecodeValue<&'a [u8], M> for ObjectIdentifier {
         ensures reads { let before = R.left reader.old in
             ReadsContents octets_of IdentifierContents (λ _. ⊥) result before (R.left reader.new) }
         ensures exact { IfErr result (λ e. e.kind ≡ ErrorKind.OidMalformed) }
+        ensures fault { let before = R.left reader.old in
+            ReadsOrFaults octets_of IdentifierContents IdentifierFault (λ _. ⊥) result before (R.left reader.new) }
     {
         let contents = reader.read_slice(header.length)?;
         match ObjectIdentifier::from_bytes(contents) {
@@ -185,6 +192,8 @@ impl<'a, M: Memory> DecodeValue<&'a [u8], M> for ObjectIdentifier {
             Err(e) => Err(reader.error(e.kind())),
         }
     }
+
+    ghost fault_none = { identifier_fault_none };
 }
 
 impl EncodeValue for ObjectIdentifier {

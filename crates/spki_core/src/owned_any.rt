@@ -71,7 +71,12 @@ impl Text for Any {
 }
 
 impl<'a> Decode<&'a [u8], Global> for Any {
+    ghost use Rattle.spki_core.specs.Faults.{AnyFault};
+    ghost use Rattle.spki_core.specs.FaultLaws.{any_fault_none};
+
     ghost may_allocate = { λ b. (v : TagAndContents) × grammar.Any v b };
+
+    ghost fault = { AnyFault };
 
     fn decode<R: Reader<&'a [u8]>>(memory: Global, reader: &mut R) -> Result<Any> {
         let any = AnyRef::decode(NoMemory, reader)?;
@@ -85,6 +90,8 @@ impl<'a> Decode<&'a [u8], Global> for Any {
         let any = AnyRef::from_der(NoMemory, bytes)?;
         Any::copy_of(memory, any.tag(), any.value())
     }
+
+    ghost fault_none = { any_fault_none };
 }
 
 impl Encode for Any {

@@ -2,7 +2,9 @@
 ghost use Rattle.std.specs.Prelude.{◌≡◌, ◌≤◌, ◌<◌, ◌⊎◌, ℕ, List, length, OnOk, IfOk, IfErr, Some};
 ghost use Rattle.std.specs.Int.Digits.{number_from_digits};
 ghost use Rattle.der_core.specs.Length.{limit};
-ghost use Rattle.der_core.specs.Reading.{HoldsBytes, ReadsContents};
+ghost use Rattle.der_core.specs.Reading.{HoldsBytes, ReadsContents, ReadsOrFaults};
+ghost use Rattle.der_core.specs.Faults.{IntegerFault};
+ghost use Rattle.der_core.specs.FaultLaws.{integer_fault_none};
 ghost use Rattle.der_core.specs.Integer.{HoldsNumber, IsCanonical, AreCanonicalOf, IntegerContents, integer_contents};
 ghost use Rattle.der_core.specs.IntegerReading.{integer_of, AnswersOrWants, IsNoNumber, LacksNumber};
 ghost use Rattle.der_core.specs.IntegerLaws.{integer_means_one, integer_of_bytes, integer_relates, integer_shortest};
@@ -115,6 +117,8 @@ impl<'a> DecodeValue<&'a [u8], Global> for Uint {
 
     ghost may_allocate = { λ c. (bytes : List ℕ) × IntegerContents bytes c };
 
+    ghost fault = { IntegerFault };
+
     fn decode_value<R: Reader<&'a [u8]>>(
         memory: Global,
         reader: &mut R,
@@ -124,6 +128,9 @@ impl<'a> DecodeValue<&'a [u8], Global> for Uint {
         ensures reads { let may_allocate = λ (c : List ℕ). (bytes : List ℕ) × IntegerContents bytes c in
             ReadsContents own_bytes_of IntegerContents may_allocate result (R.left reader.old) (R.left reader.new) }
         ensures exact { (c : List ℕ) → R.left reader.old ≡ Some c → AnswersOrWants own_bytes_of result (integer_of c) }
+        ensures fault { let may_allocate = λ (c : List ℕ). (bytes : List ℕ) × IntegerContents bytes c in
+            let before = R.left reader.old in
+            ReadsOrFaults own_bytes_of IntegerContents IntegerFault may_allocate result before (R.left reader.new) }
     {
         let number = UintRef::decode_value(memory, reader, header)?;
         match Uint::copy(memory, number) {
@@ -131,6 +138,8 @@ impl<'a> DecodeValue<&'a [u8], Global> for Uint {
             Err(e) => Err(reader.error(e.kind())),
         }
     }
+
+    ghost fault_none = { integer_fault_none };
 }
 
 impl EncodeValue for Uint {

@@ -1,7 +1,9 @@
 //! INTEGER from 0 to 255, as `u8`.
 ghost use Rattle.std.specs.Prelude.{◌≡◌, ◌≤◌, ◌<◌, ℕ, List, ◌∷◌, [], length, Some};
 ghost use Rattle.der_core.specs.Length.{limit};
-ghost use Rattle.der_core.specs.Reading.{ReadsContents, HoldsBytes};
+ghost use Rattle.der_core.specs.Reading.{ReadsContents, ReadsOrFaults, HoldsBytes};
+ghost use Rattle.der_core.specs.Faults.{SmallFault};
+ghost use Rattle.der_core.specs.FaultLaws.{small_fault_none};
 ghost use Rattle.der_core.specs.Integer.{SmallContents, integer_contents};
 ghost use Rattle.der_core.specs.IntegerReading.{Answers, small_of};
 ghost use Rattle.der_core.specs.IntegerLaws.{small_means_one, small_of_bytes};
@@ -62,10 +64,15 @@ impl EqualByValue for u8 {
 impl<'a, M: Memory> DecodeValue<&'a [u8], M> for u8 {
     ghost may_allocate = { λ _. ⊥ };
 
+    ghost fault = { SmallFault };
+
+    #[inline(always)]
     fn decode_value<R: Reader<&'a [u8]>>(_memory: M, reader: &mut R, header: Header) -> Result<u8>
         requires { HoldsBytes (R.left reader.old) header.length }
         ensures reads { ReadsContents (λ n. n) SmallContents (λ _. ⊥) result (R.left reader.old) (R.left reader.new) }
         ensures exact { (c : List ℕ) → R.left reader.old ≡ Some c → Answers (λ n. n) result (small_of c) }
+        ensures fault { let before = R.left reader.old in
+            ReadsOrFaults (λ n. n) SmallContents SmallFault (λ _. ⊥) result before (R.left reader.new) }
     {
         let contents = reader.read_slice(header.length)?;
         match small(contents) {
@@ -73,6 +80,8 @@ impl<'a, M: Memory> DecodeValue<&'a [u8], M> for u8 {
             Err(e) => Err(reader.error(e.kind())),
         }
     }
+
+    ghost fault_none = { small_fault_none };
 }
 
 impl EncodeValue for u8 {

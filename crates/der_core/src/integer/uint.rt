@@ -2,7 +2,9 @@
 ghost use Rattle.std.specs.Prelude.{◌≡◌, ◌≤◌, ◌<◌, ◌⊎◌, ℕ, List, length, slice_index, OnOk, IfOk, IfErr, IsOk, Some, ⊤};
 ghost use Rattle.std.specs.Int.Digits.{number_from_digits};
 ghost use Rattle.der_core.specs.Length.{limit};
-ghost use Rattle.der_core.specs.Reading.{ReadsContents, HoldsBytes};
+ghost use Rattle.der_core.specs.Reading.{ReadsContents, ReadsOrFaults, HoldsBytes};
+ghost use Rattle.der_core.specs.Faults.{IntegerFault};
+ghost use Rattle.der_core.specs.FaultLaws.{integer_fault_none};
 ghost use Rattle.der_core.specs.Integer.{HoldsNumber, IsCanonical, AreCanonicalOf, IntegerContents, integer_contents};
 ghost use Rattle.der_core.specs.IntegerReading.{integer_of, Answers, IsNoNumber};
 ghost use Rattle.der_core.specs.IntegerLaws.{integer_means_one, integer_of_bytes, integer_relates, integer_shortest};
@@ -173,6 +175,8 @@ impl<'a, M: Memory> DecodeValue<&'a [u8], M> for UintRef<'a> {
 
     ghost may_allocate = { λ _. ⊥ };
 
+    ghost fault = { IntegerFault };
+
     fn decode_value<R: Reader<&'a [u8]>>(
         _memory: M,
         reader: &mut R,
@@ -181,6 +185,8 @@ impl<'a, M: Memory> DecodeValue<&'a [u8], M> for UintRef<'a> {
         requires { HoldsBytes (R.left reader.old) header.length }
         ensures reads { ReadsContents bytes_of IntegerContents (λ _. ⊥) result (R.left reader.old) (R.left reader.new) }
         ensures exact { (c : List ℕ) → R.left reader.old ≡ Some c → Answers bytes_of result (integer_of c) }
+        ensures fault { let before = R.left reader.old in
+            ReadsOrFaults bytes_of IntegerContents IntegerFault (λ _. ⊥) result before (R.left reader.new) }
     {
         let contents = reader.read_slice(header.length)?;
         match integer(contents) {
@@ -188,6 +194,8 @@ impl<'a, M: Memory> DecodeValue<&'a [u8], M> for UintRef<'a> {
             Err(e) => Err(reader.error(e.kind())),
         }
     }
+
+    ghost fault_none = { integer_fault_none };
 }
 
 impl EncodeValue for UintRef<'_> {

@@ -1,7 +1,9 @@
 //! Other primes of private keys.
 ghost use Rattle.std.specs.Prelude.{◌≡◌, ◌≤◌, length, List, ℕ, ◌↔◌, IsTrue, None, IfOk, IsOk, IfErr, refl};
 ghost use Rattle.der_core.specs.Length.{limit};
+ghost use Rattle.der_core.specs.Faults.{FaultyWhole};
 ghost use Rattle.der_core.specs.Reading.{ReadsContents, AllocatesWithin};
+ghost use Rattle.pkcs1.specs.KeyFaults.{OthersFault};
 ghost use Rattle.der_core.specs.BackWriters.{free_of, Prepends};
 ghost use Rattle.der_core.specs.Writing.{Counts, Appends};
 ghost use Rattle.pkcs1.specs.Allocating.{BeginsSequence};
@@ -98,7 +100,12 @@ impl<U: TryClone> TryClone for OtherPrimeInfo<U> {
 }
 
 impl<'a, M: Memory, U: Decode<&'a [u8], M>> DecodeValue<&'a [u8], M> for OtherPrimeInfo<U> {
+    ghost use Rattle.pkcs1.specs.KeyFaults.{OtherPrimeFault};
+    ghost use Rattle.pkcs1.specs.KeyFaultLaws.{other_fault_none};
+
     ghost may_allocate = { AllocatesWithin U.Decode.may_allocate };
+
+    ghost fault = { OtherPrimeFault U.text U.Decode.fault };
 
     fn decode_value<R: Reader<&'a [u8]>>(
         memory: M,
@@ -115,6 +122,8 @@ impl<'a, M: Memory, U: Decode<&'a [u8], M>> DecodeValue<&'a [u8], M> for OtherPr
             coefficient,
         })
     }
+
+    ghost fault_none = { other_fault_none U.text U.Decode.fault U.delimited U.Decode.fault_none };
 }
 
 impl<U: Encode> EncodeValue for OtherPrimeInfo<U> {
@@ -152,8 +161,10 @@ pub(crate) fn read_other_primes<'a, U: Decode<&'a [u8], Global>, R: Reader<&'a [
     reader: &mut R,
     version: Version,
 ) -> Result<Option<OtherPrimeInfos<U>>>
-    ensures { ReadsContents (others_of U.value) (OthersOf U.text (number_of version)) BeginsSequence
+    ensures reads { ReadsContents (others_of U.value) (OthersOf U.text (number_of version)) BeginsSequence
         result (R.left reader.old) (R.left reader.new) }
+    ensures exact { let fault = OthersFault U.text U.Decode.fault (number_of version) in
+        IfErr result (λ e. FaultyWhole fault BeginsSequence e.kind (R.left reader.old)) }
 {
     let others: Option<OtherPrimeInfos<U>> = decode_optional(memory, reader)?;
     if version.is_multi() != others.is_some() {

@@ -1,12 +1,15 @@
 //! Private keys from whole slices, and to them.
 ghost use Rattle.std.specs.Prelude.{◌≡◌, ◌≤◌, length, List, ℕ, take, drop, IfOk, IfErr, IsOk, IsErrAnd, OnErr, None};
 ghost use Rattle.der_core.specs.Document.{Means, IsShortest, IsRefused};
+ghost use Rattle.der_core.specs.Faults.{Faulty};
+ghost use Rattle.der_core.specs.declared.error.ErrorKind as der;
 ghost use Rattle.der_core.specs.Reading.{AllocatesIn, AllocatesWithin};
 ghost use Rattle.der_core.specs.Tag.{sequence_tag};
 ghost use Rattle.der_core.specs.Tags.{sequence};
 ghost use Rattle.der_core.specs.Tlv.{Tlv};
 ghost use Rattle.der_core.specs.Writing.{encode_refusal};
 ghost use Rattle.pkcs1.specs.Allocating.{AllocatesForKey};
+ghost use Rattle.pkcs1.specs.KeyFaults.{RsaPrivateKeyFault};
 ghost use Rattle.pkcs1.specs.Keys as grammar;
 ghost use Rattle.pkcs1.specs.Keys.{PrivateKey, PrivateKeyText};
 ghost use Rattle.pkcs1.specs.KeyTexts.{IsOnlyText, IsUnread, IsUnwritten};
@@ -98,6 +101,10 @@ impl<'a> RsaPrivateKey<UintRef<'a>> {
         ensures ok { IfOk result (λ key. Means grammar.RsaPrivateKey bytes.now (private_key_of key)) }
         ensures one { IfOk result (λ key. IsOnlyMeaning grammar.RsaPrivateKey bytes.now (private_key_of key)) }
         ensures err { IfErr result (IsUnread grammar.RsaPrivateKey bytes.now (MayAllocate bytes.now)) }
+        ensures exact { let b = bytes.now in
+            IfErr result (IsAsn1 (λ e. Faulty e.kind (MayAllocate b) (RsaPrivateKeyFault e.kind b))) }
+        ensures only { let b = bytes.now in (kind : der.ErrorKind) → RsaPrivateKeyFault kind b
+            → IsErrAnd result (IsAsn1 (λ e. Faulty e.kind (MayAllocate b) (e.kind ≡ kind))) }
         ensures two_primes { (key : PrivateKey (List ℕ))
             → key.other_prime_infos ≡ None → Means grammar.RsaPrivateKey bytes.now key → IsOk result }
     {
@@ -130,6 +137,10 @@ impl RsaPrivateKey<Uint> {
         ensures one { let is_only = IsOnlyMeaning grammar.RsaPrivateKey bytes.now in
             IfOk result (λ key. is_only (private_key_with own_bytes_of key)) }
         ensures err { IfErr result (IsUnread grammar.RsaPrivateKey bytes.now (OwnedKeyAllocates bytes.now)) }
+        ensures exact { let b = bytes.now in
+            IfErr result (IsAsn1 (λ e. Faulty e.kind (OwnedKeyAllocates b) (RsaPrivateKeyFault e.kind b))) }
+        ensures only { let b = bytes.now in (kind : der.ErrorKind) → RsaPrivateKeyFault kind b
+            → IsErrAnd result (IsAsn1 (λ e. Faulty e.kind (OwnedKeyAllocates b) (e.kind ≡ kind))) }
     {
         Ok(RsaPrivateKey::from_der(alloc, bytes)?)
     }

@@ -1,6 +1,8 @@
 use Rattle.std.proofs.Common.{◌∙◌, sym}
 use Rattle.pkcs1_params.specs.Parameters.{pss_fields}
 use Rattle.pkcs1_c.proofs.Refusals.{names_default}
+use Rattle.std.proofs.Common.{arith}
+use Rattle.pkcs1_c.proofs.Refusals.{status_below}
 use Rattle.pkcs1_c.proofs.parameters.pkcs1_c_pss_params_decode_strict.Goals as goal
 
 pub returns-in-Ok-clause-one : goal.returns-in-Ok-clause-one
@@ -8,3 +10,6 @@ returns-in-Ok-clause-one c = λ _ other p. c.in-Ok.ensures.one other p ∙ sym c
 
 pub returns-in-Err-clause-default : goal.returns-in-Err-clause-default
 returns-in-Err-clause-default c = λ _ other p. c.status.ensures ∙ names_default (pss_fields other) c.args.text.now c.in-Err.error (c.in-Err.ensures.default other p)
+
+pub returns-in-Err-clause-told : goal.returns-in-Err-clause-told
+returns-in-Err-clause-told c = omega (arith, c.status.ensures, status_below c.in-Err.error c.in-Err.ensures.asn1)

@@ -1,4 +1,5 @@
-use Rattle.std.proofs.Common.{◌∙◌, sym}
+use Rattle.std.proofs.Common.{◌∙◌, sym, arith}
+use Rattle.pkcs1_c.proofs.Refusals.{status_below}
 use Rattle.pkcs1_c.specs.StructValues.{private_key_seen}
 use Rattle.pkcs1_c.proofs.private_key.pkcs1_c_private_key_decode.Goals as goal
 
@@ -6,3 +7,6 @@ pub returns-in-Ok-clause-one : goal.returns-in-Ok-clause-one
 returns-in-Ok-clause-one c = λ _ other m.
     let same = c.in-Ok.ensures.one other m in
     same ∙ sym c.seen_key.ensures.key ∙ (λ i. private_key_seen c.seen_key.result (sym same i).other_prime_infos)
+
+pub returns-in-Err-clause-told : goal.returns-in-Err-clause-told
+returns-in-Err-clause-told c = omega (arith, c.status.ensures, status_below c.in-Err.error c.in-Err.ensures.asn1)

@@ -8,4 +8,4 @@ pub returns-in_err-value : goal.returns-in_err-value
 returns-in_err-value g c =
     let p = err_from_is_err_and c.from_residual-in_err-value.result c.from_residual-in_err-value.ensures.1 in
     rw (p.1, p.2)
-    (next_refused (160 + c.args.number.value) (λ v. Tlv (160 + c.args.number.value) (g.T.Text.text v)) _ _ _ _ _ (rw c.if-not-branch.false at c.in_ok-is_field_next.ensures) c.in_err-value.ensures)
+    (next_refused (160 + c.args.number.value) (λ v. Tlv (160 + c.args.number.value) (g.T.Text.text v)) _ _ _ _ _ (rw c.if-not-branch.false at c.in_ok-is_field_next.ensures) c.in_err-value.ensures.text)

@@ -7,9 +7,9 @@ use Rattle.spki_core.proofs.strict.written_default.Goals as goal
 
 pub returns-in-Ok : goal.returns-in-Ok
 returns-in-Ok c = λ contents means.
-    let same = means_one any_delimited (any_of c.in-Ok.any) _ _ c.in-Ok.ensures.1 means.1 in
+    let same = means_one any_delimited (any_of c.in-Ok.any) _ _ c.in-Ok.ensures.text.1 means.1 in
     let bytes : c.value.result.now ≡ contents = c.value.ensures.contents ∙ ap (λ (v : TagAndContents). v.contents) same in
     rw bytes at c.first_written.ensures
 
 pub returns-in-Err : goal.returns-in-Err
-returns-in-Err c = λ contents means. absurd (⊎_elim (λ w. w.1.3) (λ w. w.1 _ means) c.in-Err.ensures)
+returns-in-Err c = λ contents means. absurd (⊎_elim (λ w. w.1.3) (λ w. w.1 _ means) c.in-Err.ensures.text)

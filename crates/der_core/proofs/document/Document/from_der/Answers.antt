@@ -7,7 +7,7 @@ use Rattle.der_core.proofs.document.Document.from_der.Goals as goal
 pub returns-in_err-from_der-clause-err : goal.returns-in_err-from_der-clause-err
 returns-in_err-from_der-clause-err c =
     let p = err_from_is_err_and c.from_residual.result c.from_residual.ensures.1 in
-    rw (p.1, p.2) (inr (no_document _ _ c.in_err-from_der.ensures))
+    rw (p.1, p.2) (inr (no_document _ _ c.in_err-from_der.ensures.text))
 
 pub invariant_of-result : goal.invariant_of-result
-invariant_of-result c = record { whole = subst IsDocument (sym c.in_ok-copy_of.ensures.ok) c.in_ok-from_der.ensures }
+invariant_of-result c = record { whole = subst IsDocument (sym c.in_ok-copy_of.ensures.ok) c.in_ok-from_der.ensures.text }

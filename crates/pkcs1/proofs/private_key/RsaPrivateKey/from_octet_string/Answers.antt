@@ -9,13 +9,13 @@ use Rattle.pkcs1.proofs.private_key.RsaPrivateKey.from_octet_string.Goals as goa
 pub returns-clause-one : goal.returns-clause-one
 returns-clause-one g c other p =
     let delimited = tlv_delimited 48 (PrivateKeyContents g.U.Text.text) (private_means_one g.U.Text.delimited) in
-    means_one delimited other _ _ (rw (← c.as_bytes.ensures.octets) at p.1) c.in_ok-from_der.ensures.1
+    means_one delimited other _ _ (rw (← c.as_bytes.ensures.octets) at p.1) c.in_ok-from_der.ensures.text.1
 
 pub returns-in_err-from_der-clause-err : goal.returns-in_err-from_der-clause-err
 returns-in_err-from_der-clause-err g c =
     let p = err_from_is_err_and c.from_residual.result c.from_residual.ensures.1 in
-    rw (p.1, p.2, ← c.as_bytes.ensures.octets) c.in_err-from_der.ensures
+    rw (p.1, p.2, ← c.as_bytes.ensures.octets) c.in_err-from_der.ensures.text
 
 pub returns-in_err-from_der-clause-two_primes : goal.returns-in_err-from_der-clause-two_primes
 returns-in_err-from_der-clause-two_primes g c none key two means =
-    absurd (two_primes_refused g.U.Text.delimited key two _ none _ _ (rw (← c.as_bytes.ensures.octets) at means) c.in_err-from_der.ensures)
+    absurd (two_primes_refused g.U.Text.delimited key two _ none _ _ (rw (← c.as_bytes.ensures.octets) at means) c.in_err-from_der.ensures.text)

@@ -1,23 +1,23 @@
 use Rattle.std.proofs.lemmas.Result.{err_from_is_err_and}
 use Rattle.pkcs1.specs.Allocating.{BeginsSequence}
 use Rattle.pkcs1.specs.KeyNumbers.{numbers_of}
-use Rattle.pkcs1.proofs.KeyReads.{version_fails, key_numbers_fail, key_others_fail, key_given}
+use Rattle.pkcs1.proofs.KeyReads.{version_faults, key_numbers_faults, key_others_faults, key_given}
 use Rattle.pkcs1.proofs.private_key.RsaPrivateKeyDecodeValueRefSliceU8Global.decode_value.Goals as goal
 
 pub returns-in_err-version : goal.returns-in_err-version
 returns-in_err-version g c =
     let p = err_from_is_err_and c.from_residual.result c.from_residual.ensures.1 in
-    rw (p.1, p.2) (version_fails g.U.Text.text g.U.Text.delimited g.U.Decode.may_allocate BeginsSequence c.in_err-version.ensures)
+    rw (p.1, p.2) (version_faults g.U.Text.text g.U.Text.delimited g.U.Decode.may_allocate BeginsSequence g.U.Decode.fault c.in_err-version.ensures.text.0 c.in_err-version.ensures.exact)
 
 pub returns-in_err-numbers : goal.returns-in_err-numbers
 returns-in_err-numbers g c =
     let p = err_from_is_err_and c.from_residual-in_err-numbers.result c.from_residual-in_err-numbers.ensures.1 in
-    rw (p.1, p.2) (key_numbers_fail g.U.Text.text g.U.Text.delimited g.U.Decode.may_allocate BeginsSequence c.in_ok-version.ensures c.in_err-numbers.ensures)
+    rw (p.1, p.2) (key_numbers_faults g.U.Text.text g.U.Text.delimited g.U.Decode.may_allocate BeginsSequence g.U.Decode.fault c.in_ok-version.ensures.text c.in_err-numbers.ensures.text.0 c.in_err-numbers.ensures.exact)
 
 pub returns-in_err-other_prime_infos : goal.returns-in_err-other_prime_infos
 returns-in_err-other_prime_infos g c =
     let p = err_from_is_err_and c.from_residual-in_err-other_prime_infos.result c.from_residual-in_err-other_prime_infos.ensures.1 in
-    rw (p.1, p.2) (key_others_fail g.U.Text.text g.U.Text.delimited g.U.Decode.may_allocate BeginsSequence (numbers_of g.U.Text.value c.in_ok-numbers.numbers) c.in_ok-version.ensures c.in_ok-numbers.ensures c.in_err-other_prime_infos.ensures)
+    rw (p.1, p.2) (key_others_faults g.U.Text.text g.U.Text.delimited g.U.Decode.may_allocate BeginsSequence g.U.Decode.fault (numbers_of g.U.Text.value c.in_ok-numbers.numbers) c.in_ok-version.ensures.text c.in_ok-numbers.ensures.text c.in_err-other_prime_infos.ensures.reads.0 c.in_err-other_prime_infos.ensures.exact)
 
 pub returns : goal.returns
-returns g c = key_given g.U.Text.text g.U.Text.delimited g.U.Decode.may_allocate BeginsSequence _ c.in_ok-version.ensures c.in_ok-numbers.ensures c.in_ok-other_prime_infos.ensures
+returns g c = key_given g.U.Text.text g.U.Text.delimited g.U.Decode.may_allocate BeginsSequence _ c.in_ok-version.ensures.text c.in_ok-numbers.ensures.text c.in_ok-other_prime_infos.ensures.reads

@@ -1,4 +1,7 @@
+use Rattle.std.proofs.Common.{inl, inr}
 use Rattle.std.proofs.lemmas.Result.{err_from_is_err_and}
+use Rattle.pkcs1_params.specs.PssValue.{pss_of}
+use Rattle.pkcs1_params.specs.ParameterFaultLaws.{pss_whole_none}
 use Rattle.pkcs1_params.proofs.pss.RsaPssParams+AnyRef.from_der_strict.Goals as goal
 
 pub returns-in_err-params-clause-default : goal.returns-in_err-params-clause-default
@@ -15,3 +18,24 @@ pub returns-in_err-refuse_defaults-clause-err : goal.returns-in_err-refuse_defau
 returns-in_err-refuse_defaults-clause-err c =
     let p = err_from_is_err_and c.from_residual-in_err-refuse_defaults.result c.from_residual-in_err-refuse_defaults.ensures.1 in
     rw p.1 (λ other shortest. let same = c.in_ok-params.ensures.one other shortest.spells in c.in_err-refuse_defaults.ensures.err (rw same at shortest))
+
+pub returns-in_err-params-clause-exact : goal.returns-in_err-params-clause-exact
+returns-in_err-params-clause-exact c =
+    let p = err_from_is_err_and c.from_residual.result c.from_residual.ensures.1 in
+    rw (p.1, p.2) (inl c.in_err-params.ensures.exact)
+
+pub returns-in_err-params-clause-only : goal.returns-in_err-params-clause-only
+returns-in_err-params-clause-only c kind fault =
+    let p = err_from_is_err_and c.from_residual.result c.from_residual.ensures.1 in
+    rw (p.1, p.2) (c.in_err-params.ensures.only kind fault)
+
+pub returns-in_err-refuse_defaults-clause-exact : goal.returns-in_err-refuse_defaults-clause-exact
+returns-in_err-refuse_defaults-clause-exact c =
+    let p = err_from_is_err_and c.from_residual-in_err-refuse_defaults.result c.from_residual-in_err-refuse_defaults.ensures.1 in
+    rw (p.1, p.2) (inr (pss_of c.in_ok-params.params, c.in_ok-params.ensures.ok, c.in_err-refuse_defaults.ensures.default))
+
+pub returns-in_err-refuse_defaults-clause-only : goal.returns-in_err-refuse_defaults-clause-only
+returns-in_err-refuse_defaults-clause-only c kind fault = absurd (pss_whole_none kind _ fault _ c.in_ok-params.ensures.ok)
+
+pub returns-clause-only : goal.returns-clause-only
+returns-clause-only c kind fault = absurd (pss_whole_none kind _ fault _ c.in_ok-params.ensures.ok)

@@ -1,6 +1,8 @@
+use Rattle.std.proofs.Common.{inl}
+use Rattle.std.proofs.lemmas.Result.{err_from_is_err_and}
 use Rattle.pkcs1.specs.PrivateKeyValue.{private_key_of}
 use Rattle.pkcs8_core.specs.Held.{info_of}
-use Rattle.pkcs8_core.proofs.RsaHeld.{one_held, refused_held}
+use Rattle.pkcs8_core.proofs.RsaHeld.{one_held, refused_held, faulty_held}
 use Rattle.pkcs8_core.proofs.info.PrivateKeyInfoRef.rsa_key.Goals as goal
 
 pub returns-clause-one : goal.returns-clause-one
@@ -8,3 +10,11 @@ returns-clause-one c = one_held private_key_of (info_of c.args.self.now) _ c.as_
 
 pub returns-clause-err : goal.returns-clause-err
 returns-clause-err c = refused_held private_key_of (info_of c.args.self.now) _ c.as_bytes.ensures.octets _ c.decode_key.ensures.err
+
+pub returns-in_err-require_rsa-clause-exact : goal.returns-in_err-require_rsa-clause-exact
+returns-in_err-require_rsa-clause-exact c =
+    let p = err_from_is_err_and c.from_residual.result c.from_residual.ensures.1 in
+    rw (p.1, p.2) (inl c.in_err-require_rsa.ensures.err)
+
+pub returns-clause-exact : goal.returns-clause-exact
+returns-clause-exact c = faulty_held private_key_of (info_of c.args.self.now) _ c.as_bytes.ensures.octets c.in_ok-require_rsa.ensures.ok _ c.decode_key.ensures.exact

@@ -1,4 +1,4 @@
-use Rattle.std.proofs.Common.{arith, refl, rules, ap, ◌≡◌, ◌+◌, ◌<◌, ◌≤◌, ◌++◌, length, length-append}
+use Rattle.std.proofs.Common.{arith, rules, ap, ◌≡◌, ◌+◌, ◌<◌, ◌≤◌, ◌++◌, length, length-append}
 use Rattle.std.proofs.lemmas.Result.{err_from_is_err_and}
 use Rattle.der_core.specs.Length.{limit, length_octets}
 use Rattle.der_core.specs.Tlv.{tlv}

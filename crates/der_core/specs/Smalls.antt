@@ -6,7 +6,7 @@ use Rattle.std.proofs.lemmas.Bool.Decides.{nat_tests}
 use Rattle.std.proofs.Math.Nat.{pow-le-pow_right}
 use Rattle.der_core.specs.Integer.{IsCanonical, IntegerContents, SmallContents, HoldsNumber}
 use Rattle.der_core.specs.NumberLaws.{base256_ge}
-use Rattle.der_core.proofs.LengthReading.{chosen}
+use Rattle.der_core.specs.LengthReading.{chosen}
 use Rattle.der_core.specs.InputLaws.{ok_pair}
 use Rattle.der_core.specs.Input.{Input, read_from, front_of}
 use Rattle.der_core.specs.Reading.{HoldsBytes, TellsOfBytes}

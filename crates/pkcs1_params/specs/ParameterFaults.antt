@@ -1,0 +1,66 @@
+-- The first fault of bytes that are no parameters (RFC 8017 A.2.3, A.2.1).
+use Rattle.std.specs.Prelude.{ℕ, List, ◌≡◌, ◌≢◌, ◌⊎◌, refl}
+use Rattle.der_core.specs.declared.error.ErrorKind.{ErrorKind}
+use Rattle.der_core.specs.declared.error.ErrorKind.TheVariants.{Value}
+use Rattle.der_core.specs.declared.tag.Tag.{Tag}
+use Rattle.der_core.specs.Faults.{TextFault, AloneFault, EndFault, WholeFault, SmallFault}
+use Rattle.der_core.specs.Integer.{Small, SmallContents}
+use Rattle.der_core.specs.Tags.{integer, sequence}
+use Rattle.spki_core.specs.AlgorithmIdentifier.{AlgorithmIdentifier, PlainAlgorithm, MaskAlgorithm}
+use Rattle.spki_core.specs.Any.{Any}
+use Rattle.spki_core.specs.Faults.{AnyFault, AlgorithmFault, FieldThenFault}
+use Rattle.pkcs1_params.specs.Parameters.{sha1, mgf1_sha1, empty_label, TrailerField, RsaPssParams, RsaOaepParams}
+
+-- The tags [0] to [3].
+abbrev pub tag_0 : Tag
+tag_0 = record { octet = 160; allowed = refl }
+
+abbrev pub tag_1 : Tag
+tag_1 = record { octet = 161; allowed = refl }
+
+abbrev pub tag_2 : Tag
+tag_2 = record { octet = 162; allowed = refl }
+
+abbrev pub tag_3 : Tag
+tag_3 = record { octet = 163; allowed = refl }
+
+-- No number from 0 to 255, or another than 1.
+abbrev pub TrailerFault : ErrorKind → List ℕ → Type 0
+TrailerFault kind contents = SmallFault kind contents ⊎ ((n : ℕ) × SmallContents n contents × (n ≢ 1) × (kind ≡ Value integer))
+
+-- The fields, by what their tags hold. P is what parameters of an identifier are.
+abbrev pub PlainFault : {P : Type 0} → (P → List ℕ → Type 0) → (ErrorKind → List ℕ → Type 0) → ErrorKind → List ℕ → Type 0
+PlainFault Text Fault = TextFault sequence (AlgorithmFault Text Fault)
+
+abbrev pub HashFault : {P : Type 0} → (P → List ℕ → Type 0) → (ErrorKind → List ℕ → Type 0) → ErrorKind → List ℕ → Type 0
+HashFault Text Fault = TextFault tag_0 (AloneFault (AlgorithmIdentifier Text) (PlainFault Text Fault))
+
+abbrev pub MaskFault : {P : Type 0} → (P → List ℕ → Type 0) → (ErrorKind → List ℕ → Type 0) → ErrorKind → List ℕ → Type 0
+MaskFault Text Fault = TextFault tag_1 (AloneFault (AlgorithmIdentifier (AlgorithmIdentifier Text)) (PlainFault (AlgorithmIdentifier Text) (PlainFault Text Fault)))
+
+abbrev pub SaltFault : ErrorKind → List ℕ → Type 0
+SaltFault = TextFault tag_2 (AloneFault Small (TextFault integer SmallFault))
+
+abbrev pub SourceFault : {P : Type 0} → (P → List ℕ → Type 0) → (ErrorKind → List ℕ → Type 0) → ErrorKind → List ℕ → Type 0
+SourceFault Text Fault = TextFault tag_2 (AloneFault (AlgorithmIdentifier Text) (PlainFault Text Fault))
+
+abbrev pub TrailerFieldFault : ErrorKind → List ℕ → Type 0
+TrailerFieldFault = TextFault tag_3 (AloneFault TrailerField (TextFault integer TrailerFault))
+
+-- One field after another, each left out or there, and nothing behind them.
+abbrev pub PssFault : {P : Type 0} → (P → List ℕ → Type 0) → (ErrorKind → List ℕ → Type 0) → ErrorKind → List ℕ → Type 0
+PssFault Text Fault =
+    FieldThenFault 0 PlainAlgorithm sha1 (HashFault Text Fault)
+    (FieldThenFault 1 MaskAlgorithm mgf1_sha1 (MaskFault Text Fault) (FieldThenFault 2 Small 20 SaltFault (FieldThenFault 3 TrailerField 1 TrailerFieldFault EndFault)))
+
+abbrev pub OaepFault : {P : Type 0} → (P → List ℕ → Type 0) → (ErrorKind → List ℕ → Type 0) → ErrorKind → List ℕ → Type 0
+OaepFault Text Fault =
+    FieldThenFault 0 PlainAlgorithm sha1 (HashFault Text Fault)
+    (FieldThenFault 1 MaskAlgorithm mgf1_sha1 (MaskFault Text Fault) (FieldThenFault 2 PlainAlgorithm empty_label (SourceFault Text Fault) EndFault))
+
+-- Slices that are to be parameters.
+abbrev pub RsaPssParamsFault : ErrorKind → List ℕ → Type 0
+RsaPssParamsFault = WholeFault RsaPssParams (TextFault sequence (PssFault Any AnyFault))
+
+abbrev pub RsaOaepParamsFault : ErrorKind → List ℕ → Type 0
+RsaOaepParamsFault = WholeFault RsaOaepParams (TextFault sequence (OaepFault Any AnyFault))

@@ -1,0 +1,32 @@
+-- The first fault of bytes that are no identifier, and no algorithm.
+use Rattle.std.specs.Prelude.{ℕ, List, ◌≡◌, ◌<◌, ◌++◌, ◌⊎◌, Err, length}
+use Rattle.der_core.specs.declared.error.ErrorKind.{ErrorKind}
+use Rattle.der_core.specs.declared.error.ErrorKind.TheVariants.{Incomplete, OidMalformed}
+use Rattle.der_core.specs.Faults.{TextFault, ThenFault, LastFault}
+use Rattle.der_core.specs.Headers.{HeaderText}
+use Rattle.der_core.specs.Input.{header_at}
+use Rattle.der_core.specs.Reading.{NoneHas}
+use Rattle.der_core.specs.Tags.{object_identifier}
+use Rattle.spki_core.specs.Explicit.{IsNext, FieldRead}
+use Rattle.spki_core.specs.ObjectIdentifier.{IdentifierContents, ObjectIdentifier}
+
+-- What is at the front is no text of any tag: there is no header, or fewer bytes follow than it says.
+pub data AnyFault (kind : ErrorKind) (bytes : List ℕ) : Type 0 where
+  headless : header_at bytes ≡ Err kind → AnyFault kind bytes
+  too_few : (t n : ℕ) (header rest : List ℕ) → HeaderText (t, n) header → bytes ≡ header ++ rest → length rest < n → kind ≡ Incomplete → AnyFault kind bytes
+
+-- Contents of no identifier are malformed, whatever is wrong with them.
+abbrev pub IdentifierFault : ErrorKind → List ℕ → Type 0
+IdentifierFault kind contents = (kind ≡ OidMalformed) × NoneHas IdentifierContents contents
+
+-- The identifier, or behind it the parameters, if there are any.
+abbrev pub AlgorithmFault : {P : Type 0} → (P → List ℕ → Type 0) → (ErrorKind → List ℕ → Type 0) → ErrorKind → List ℕ → Type 0
+AlgorithmFault Parameters ParametersFault = ThenFault ObjectIdentifier (TextFault object_identifier IdentifierFault) (λ _. LastFault Parameters ParametersFault)
+
+-- The octet of the field [n] comes next, and the field has a fault.
+abbrev pub NextFault : ℕ → (ErrorKind → List ℕ → Type 0) → ErrorKind → List ℕ → Type 0
+NextFault n Fault kind bytes = IsNext n bytes × Fault kind bytes
+
+-- A field with a default, and what follows it: the field is there and has a fault; or what follows it has one.
+abbrev pub FieldThenFault : {V : Type 0} → ℕ → (V → List ℕ → Type 0) → V → (ErrorKind → List ℕ → Type 0) → (ErrorKind → List ℕ → Type 0) → ErrorKind → List ℕ → Type 0
+FieldThenFault {V} n Text default Fault Behind kind bytes = NextFault n Fault kind bytes ⊎ ((v : V) × (rest : List ℕ) × FieldRead n Text default bytes v rest × Behind kind rest)
