@@ -87,29 +87,36 @@ fn parameters_of<P: AnyValue>(to: &mut Told, algorithm: &AlgorithmIdentifier<P>)
     made(to, algorithm.parameters_any());
 }
 
+/// The same of the borrowed identifier, and of the one that owns its parts.
+fn parameters(
+    to: &mut Told,
+    borrowed: &AlgorithmIdentifierRef<'_>,
+    own: &AlgorithmIdentifier<Any>,
+) {
+    let mut parameters = Told::new(to.alloc());
+    parameters_of(&mut parameters, borrowed);
+    parameters.way("owned");
+    parameters_of(&mut parameters, own);
+    to.answered(parameters.answer());
+}
+
 /// `algorithm HEX`: an identifier with parameters of any tag, and the text of the parameters.
 pub fn algorithm(to: &mut Told, bytes: &[u8]) {
-    let mut read = Told::new(to.alloc());
-    both::<AlgorithmIdentifierRef, AlgorithmIdentifier<Any>>(&mut read, bytes);
-    let mut parameters = Told::new(to.alloc());
-    if let Ok(borrowed) = AlgorithmIdentifierRef::from_der(NoMemory, bytes) {
-        parameters.text(", ");
-        parameters_of(&mut parameters, &borrowed);
-    }
+    both::<AlgorithmIdentifierRef, AlgorithmIdentifier<Any>>(to, bytes);
+    let Ok(borrowed) = AlgorithmIdentifierRef::from_der(NoMemory, bytes) else {
+        return;
+    };
     match AlgorithmIdentifier::<Any>::from_der(to.alloc(), bytes) {
         Ok(own) => {
-            read.way("as_algo_ref");
-            own.as_algo_ref().shown(&mut read);
-            parameters.way("owned");
-            parameters.text(", ");
-            parameters_of(&mut parameters, &own);
-            to.answered(read.answer());
-            to.answered(parameters.answer());
+            to.way("as_algo_ref");
+            own.as_algo_ref().shown(to);
+            to.rest();
+            to.text(", ");
+            parameters(to, &borrowed, &own);
         }
         Err(error) => {
-            read.way("from_der");
-            error.told(&mut read);
-            to.answered(read.answer());
+            to.way("from_der");
+            error.told(to);
         }
     }
 }

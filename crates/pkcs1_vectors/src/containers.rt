@@ -19,14 +19,13 @@ fn key_inside(to: &mut Told, info: &PrivateKeyInfoRef<'_>) {
 
 /// `info HEX`: a container, its algorithm and attributes, and the key in it.
 pub fn info(to: &mut Told, bytes: &[u8]) {
-    let mut read_so = Told::new(to.alloc());
-    borrowed::<PrivateKeyInfoRef>(&mut read_so, bytes);
-    read_so.way("try_from");
-    read(&mut read_so, bytes, PrivateKeyInfoRef::try_from(bytes));
-    to.answered(read_so.answer());
+    borrowed::<PrivateKeyInfoRef>(to, bytes);
+    to.way("try_from");
+    read(to, bytes, PrivateKeyInfoRef::try_from(bytes));
     if let Ok(info) = PrivateKeyInfoRef::try_from(bytes) {
         let mut key = Told::new(to.alloc());
         key_inside(&mut key, &info);
+        to.rest();
         to.text("; ");
         to.answered(key.answer());
     }

@@ -1,11 +1,15 @@
 //! A row's word, and the parts behind it.
 use crate::told::{Answer, Told, Trouble};
 use crate::words;
+use hex::FromHexError;
 use std::alloc::Global;
 
 /// The answer of the word to the parts behind it, each behind a single space.
 pub fn answer(alloc: Global, asked: &str) -> Answer {
-    let parts: Vec<&str> = asked.split(' ').collect(alloc)?;
+    let mut parts = Vec::new(alloc);
+    for part in asked.split(' ') {
+        parts.push(part)?;
+    }
     let mut to = Told::new(alloc);
     if is_answered(&mut to, parts.as_slice()) {
         to.answer()
@@ -40,7 +44,7 @@ fn of_number(to: &mut Told, word: &str, number: &str) -> bool {
 
 /// Words that are given bytes.
 fn of_bytes(to: &mut Told, word: &str, digits: &str) -> bool {
-    match bytes_of(to.alloc(), digits) {
+    match bytes_of(to, digits) {
         Some(bytes) => words::of_bytes(to, word, bytes.as_slice()),
         None => false,
     }
@@ -56,7 +60,7 @@ fn of_number_and(to: &mut Told, word: &str, number: &str, part: &str) -> bool {
     {
         return true;
     }
-    match bytes_of(to.alloc(), part) {
+    match bytes_of(to, part) {
         Some(bytes) => words::of_room(to, word, number, bytes.as_slice()),
         None => false,
     }
@@ -64,10 +68,10 @@ fn of_number_and(to: &mut Told, word: &str, number: &str, part: &str) -> bool {
 
 /// Words that are given two texts.
 fn of_texts(to: &mut Told, word: &str, first: &str, second: &str) -> bool {
-    let Some(first) = bytes_of(to.alloc(), first) else {
+    let Some(first) = bytes_of(to, first) else {
         return false;
     };
-    match bytes_of(to.alloc(), second) {
+    match bytes_of(to, second) {
         Some(second) => words::of_texts(to, word, first.as_slice(), second.as_slice()),
         None => false,
     }
@@ -78,7 +82,7 @@ fn of_mask(to: &mut Told, word: &str, mask: &str, room: &str, digits: &str) -> b
     let (Ok(mask), Ok(room)) = (mask.parse::<u8>(), room.parse::<usize>()) else {
         return false;
     };
-    match bytes_of(to.alloc(), digits) {
+    match bytes_of(to, digits) {
         Some(bytes) => words::of_mask(to, word, mask, room, bytes.as_slice()),
         None => false,
     }
@@ -89,25 +93,33 @@ fn of_list(to: &mut Told, word: &str, number: &str, parts: &[&str]) -> bool {
     let Ok(number) = number.parse::<u32>() else {
         return false;
     };
-    match all_bytes_of(to.alloc(), parts) {
+    match all_bytes_of(to, parts) {
         Some(texts) => words::of_list(to, word, number, texts.as_slice()),
         None => false,
     }
 }
 
-/// The bytes that the digits spell; `-` stands for none. `None` where they spell no bytes, or no memory was found.
-fn bytes_of(alloc: Global, digits: &str) -> Option<Vec<u8>> {
-    match digits {
-        "-" => Some(Vec::new(alloc)),
-        digits => hex::decode(alloc, digits).ok(),
+/// The bytes that the digits spell; `-` stands for none. `None` where they spell no bytes, or no memory was found, which is
+/// told.
+fn bytes_of(to: &mut Told, digits: &str) -> Option<Vec<u8>> {
+    if digits == "-" {
+        return Some(Vec::new(to.alloc()));
+    }
+    match hex::decode(to.alloc(), digits) {
+        Ok(bytes) => Some(bytes),
+        Err(FromHexError::OutOfMemory) => {
+            to.want_of_memory();
+            None
+        }
+        Err(_) => None,
     }
 }
 
 /// The bytes that each of the parts spells.
-fn all_bytes_of(alloc: Global, parts: &[&str]) -> Option<Vec<Vec<u8>>> {
-    let mut all = Vec::new(alloc);
+fn all_bytes_of(to: &mut Told, parts: &[&str]) -> Option<Vec<Vec<u8>>> {
+    let mut all = Vec::new(to.alloc());
     for part in parts {
-        all.push(bytes_of(alloc, part)?).ok()?;
+        all.push(bytes_of(to, part)?).ok()?;
     }
     Some(all)
 }

@@ -1,5 +1,5 @@
 //! What is told of a row's call.
-use std::alloc::{AllocError, Global};
+use std::alloc::{AllocError, AllocFailed, Global};
 use std::fmt::{Debug, Display};
 
 /// Why a row has no answer.
@@ -67,6 +67,13 @@ impl Told {
             }
         }
         self.now.clear();
+    }
+
+    /// What is told from here on stands behind the first answer, and no other way follows.
+    pub fn rest(&mut self) {
+        self.end_way();
+        self.way.clear();
+        std::mem::swap(&mut self.first, &mut self.now);
     }
 
     /// The whole answer.
@@ -164,6 +171,12 @@ impl Told {
     /// No memory was found.
     pub fn want_of_memory(&mut self) {
         self.trouble = Some(Trouble::Memory);
+    }
+}
+
+impl<T: Drop> From<AllocFailed<T>> for Trouble {
+    fn from(_: AllocFailed<T>) -> Trouble {
+        Trouble::Memory
     }
 }
 
