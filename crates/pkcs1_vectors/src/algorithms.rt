@@ -1,193 +1,133 @@
 //! Identifiers, texts of any tag, and algorithms.
-use crate::answer::{Answer, Trouble, agreed, refused};
-use crate::arguments::Arguments;
-use crate::read::{borrowed, both, owned};
+use crate::read::both;
 use crate::shown::Shown;
+use crate::told::{Refusal, Told};
 use crate::written::written;
-use der_core::{Decode, NoMemory, OctetStringRef, Result, Tag, UintRef};
-use pkcs1::{RsaPublicKeyRef, algorithm_id, rsa_encryption_oid};
+use der_core::{Decode, DecodeValue, Encode, FixedTag, NoMemory, Result, Tag};
+use pkcs1::rsa_encryption_oid;
 use spki_core::{
     AlgorithmIdentifier, AlgorithmIdentifierRef, Any, AnyParams, AnyRef, AnyValue,
     AsAlgorithmIdentifierRef, ObjectIdentifier,
 };
-use std::alloc::Global;
 use uses::{Sha1, Sha256};
 
-/// `oid HEX`: an OBJECT IDENTIFIER.
-pub fn oid(alloc: Global, arguments: &mut Arguments<'_>) -> Answer {
-    borrowed::<ObjectIdentifier>(alloc, arguments.bytes(alloc)?.as_slice())
-}
-
-/// `oid-new HEX`: the text of the identifier with these octets.
-pub fn oid_new(alloc: Global, arguments: &mut Arguments<'_>) -> Answer {
-    let bytes = arguments.bytes(alloc)?;
-    match ObjectIdentifier::from_bytes(bytes.as_slice()) {
-        Ok(oid) => written(alloc, &oid),
-        Err(error) => refused(alloc, error),
+/// What is written of the value, or why there is none.
+fn made<T: Encode + Drop>(to: &mut Told, answer: Result<T>) {
+    match answer {
+        Ok(value) => written(to, &value),
+        Err(error) => error.told(to),
     }
 }
 
+/// `oid-new HEX`: the text of the identifier with these octets.
+pub fn oid_new(to: &mut Told, bytes: &[u8]) {
+    made(to, ObjectIdentifier::from_bytes(bytes));
+}
+
 /// `oid-named NAME`: the octets of an identifier with a name.
-pub fn oid_named(alloc: Global, arguments: &mut Arguments<'_>) -> Answer {
-    let oid = match arguments.word()? {
-        "SHA-1" => ObjectIdentifier::of::<Sha1>(),
-        "SHA-256" => ObjectIdentifier::of::<Sha256>(),
-        "rsaEncryption" => rsa_encryption_oid(),
-        _ => return Err(Trouble::Malformed),
-    };
-    oid.shown(alloc)
+pub fn oid_named(to: &mut Told, name: &str) {
+    match name {
+        "SHA-1" => ObjectIdentifier::of::<Sha1>().shown(to),
+        "SHA-256" => ObjectIdentifier::of::<Sha256>().shown(to),
+        "rsaEncryption" => rsa_encryption_oid().shown(to),
+        _ => to.malformed(),
+    }
 }
 
-/// `any HEX`: a text of any tag.
-pub fn any(alloc: Global, arguments: &mut Arguments<'_>) -> Answer {
-    both::<AnyRef, Any>(alloc, arguments.bytes(alloc)?.as_slice())
-}
-
-/// `anys HEX`: a SEQUENCE OF texts of any tag.
-pub fn anys(alloc: Global, arguments: &mut Arguments<'_>) -> Answer {
-    owned::<Vec<Any>>(alloc, arguments.bytes(alloc)?.as_slice())
-}
-
-/// The next part, a tag's octet.
-fn next_tag(alloc: Global, arguments: &mut Arguments<'_>) -> std::result::Result<Tag, Trouble> {
-    match arguments.bytes(alloc)?.as_slice() {
-        [octet] => Tag::from_octet(*octet).map_err(|_| Trouble::Malformed),
-        _ => Err(Trouble::Malformed),
+/// The tag of the only octet.
+fn tag_of(octets: &[u8]) -> Option<Tag> {
+    match octets {
+        [octet] => Tag::from_octet(*octet).ok(),
+        _ => None,
     }
 }
 
 /// `any-new TAG HEX`: the text of the tag with these contents; without contents, of `empty` too.
-pub fn any_new(alloc: Global, arguments: &mut Arguments<'_>) -> Answer {
-    let tag = next_tag(alloc, arguments)?;
-    let bytes = arguments.bytes(alloc)?;
-    let answer = match AnyRef::new(tag, bytes.as_slice()) {
-        Ok(any) => written(alloc, &any)?,
-        Err(error) => refused(alloc, error)?,
+pub fn any_new(to: &mut Told, tag: &[u8], bytes: &[u8]) {
+    let Some(tag) = tag_of(tag) else {
+        return to.malformed();
     };
-    let own = match Any::new(alloc, tag, bytes.as_slice()) {
-        Ok(any) => written(alloc, &any)?,
-        Err(error) => refused(alloc, error)?,
-    };
-    let answer = agreed(alloc, answer, "owned", own)?;
-    if !bytes.is_empty() {
-        return Ok(answer);
+    let alloc = to.alloc();
+    made(to, AnyRef::new(tag, bytes));
+    to.way("owned");
+    made(to, Any::new(alloc, tag, bytes));
+    if bytes.is_empty() {
+        to.way("empty");
+        written(to, &AnyRef::empty(NoMemory, tag));
+        to.way("owned empty");
+        written(to, &Any::empty(alloc, tag));
     }
-    let empty = AnyRef::empty(NoMemory, tag);
-    let answer = agreed(alloc, answer, "empty", written(alloc, &empty)?)?;
-    let empty = Any::empty(alloc, tag);
-    agreed(alloc, answer, "owned empty", written(alloc, &empty)?)
 }
 
-/// `any-null`: the text of NULL.
-pub fn null(alloc: Global) -> Answer {
-    written(alloc, &AnyRef::null())
-}
-
-/// What the contents mean as a value of another type.
-fn shown_as<T: Shown + Drop>(alloc: Global, answer: Result<T>) -> Answer {
+/// What the value shows, or why there is none.
+fn shown<T: Shown + Drop>(to: &mut Told, answer: Result<T>) {
     match answer {
-        Ok(value) => value.shown(alloc),
-        Err(error) => refused(alloc, error),
+        Ok(value) => value.shown(to),
+        Err(error) => error.told(to),
     }
 }
 
-/// `as-small TAG HEX`: the contents under this tag as those of a small INTEGER.
-pub fn as_small(alloc: Global, arguments: &mut Arguments<'_>) -> Answer {
-    let tag = next_tag(alloc, arguments)?;
-    let bytes = arguments.bytes(alloc)?;
-    match AnyRef::new(tag, bytes.as_slice()) {
-        Ok(any) => shown_as(alloc, any.decode_as::<u8, _>(NoMemory)),
-        Err(error) => refused(alloc, error),
-    }
-}
-
-/// `as-uint TAG HEX`: as those of an INTEGER that isn't negative.
-pub fn as_uint(alloc: Global, arguments: &mut Arguments<'_>) -> Answer {
-    let tag = next_tag(alloc, arguments)?;
-    let bytes = arguments.bytes(alloc)?;
-    match AnyRef::new(tag, bytes.as_slice()) {
-        Ok(any) => shown_as(alloc, any.decode_as::<UintRef, _>(NoMemory)),
-        Err(error) => refused(alloc, error),
-    }
-}
-
-/// `as-octets TAG HEX`: as those of an OCTET STRING.
-pub fn as_octets(alloc: Global, arguments: &mut Arguments<'_>) -> Answer {
-    let tag = next_tag(alloc, arguments)?;
-    let bytes = arguments.bytes(alloc)?;
-    match AnyRef::new(tag, bytes.as_slice()) {
-        Ok(any) => shown_as(alloc, any.decode_as::<OctetStringRef, _>(NoMemory)),
-        Err(error) => refused(alloc, error),
-    }
-}
-
-/// `as-pub TAG HEX`: as those of a public key.
-pub fn as_public_key(alloc: Global, arguments: &mut Arguments<'_>) -> Answer {
-    let tag = next_tag(alloc, arguments)?;
-    let bytes = arguments.bytes(alloc)?;
-    match AnyRef::new(tag, bytes.as_slice()) {
-        Ok(any) => shown_as(alloc, any.decode_as::<RsaPublicKeyRef, _>(NoMemory)),
-        Err(error) => refused(alloc, error),
+/// `as-TYPE TAG HEX`: what the contents under this tag mean as those of another type.
+pub fn read_as<'a, T: DecodeValue<&'a [u8], NoMemory> + FixedTag + Shown>(
+    to: &mut Told,
+    tag: &[u8],
+    bytes: &'a [u8],
+) {
+    let Some(tag) = tag_of(tag) else {
+        return to.malformed();
+    };
+    match AnyRef::new(tag, bytes) {
+        Ok(any) => shown(to, any.decode_as::<T, _>(NoMemory)),
+        Err(error) => error.told(to),
     }
 }
 
 /// The text of the parameters, or that there are none.
-fn parameters_of<P: AnyValue>(alloc: Global, algorithm: &AlgorithmIdentifier<P>) -> Answer {
-    match algorithm.parameters_any() {
-        Ok(parameters) => written(alloc, &parameters),
-        Err(error) => refused(alloc, error),
-    }
+fn parameters_of<P: AnyValue>(to: &mut Told, algorithm: &AlgorithmIdentifier<P>) {
+    made(to, algorithm.parameters_any());
+}
+
+/// The same of the borrowed identifier, and of the one that owns its parts.
+fn parameters(
+    to: &mut Told,
+    borrowed: &AlgorithmIdentifierRef<'_>,
+    own: &AlgorithmIdentifier<Any>,
+) {
+    let mut parameters = Told::new(to.alloc());
+    parameters_of(&mut parameters, borrowed);
+    parameters.way("owned");
+    parameters_of(&mut parameters, own);
+    to.answered(parameters.answer());
 }
 
 /// `algorithm HEX`: an identifier with parameters of any tag, and the text of the parameters.
-pub fn algorithm(alloc: Global, arguments: &mut Arguments<'_>) -> Answer {
-    let bytes = arguments.bytes(alloc)?;
-    let answer = both::<AlgorithmIdentifierRef, AlgorithmIdentifier<Any>>(alloc, bytes.as_slice())?;
-    let Ok(borrowed) = AlgorithmIdentifierRef::from_der(NoMemory, bytes.as_slice()) else {
-        return Ok(answer);
+pub fn algorithm(to: &mut Told, bytes: &[u8]) {
+    both::<AlgorithmIdentifierRef, AlgorithmIdentifier<Any>>(to, bytes);
+    let Ok(borrowed) = AlgorithmIdentifierRef::from_der(NoMemory, bytes) else {
+        return;
     };
-    let parameters = parameters_of(alloc, &borrowed)?;
-    let own = match AlgorithmIdentifier::<Any>::from_der(alloc, bytes.as_slice()) {
-        Ok(own) => own,
-        Err(error) => return agreed(alloc, answer, "from_der", refused(alloc, error)?),
-    };
-    let parameters = agreed(alloc, parameters, "owned", parameters_of(alloc, &own)?)?;
-    let answer = agreed(
-        alloc,
-        answer,
-        "as_algo_ref",
-        own.as_algo_ref().shown(alloc)?,
-    )?;
-    Ok(format!(in alloc; "{answer}, {parameters}")?)
-}
-
-/// `algorithms HEX`: a SEQUENCE OF such identifiers.
-pub fn algorithms(alloc: Global, arguments: &mut Arguments<'_>) -> Answer {
-    owned::<Vec<AlgorithmIdentifier<Any>>>(alloc, arguments.bytes(alloc)?.as_slice())
-}
-
-/// `algorithm-rsa`: the text of rsaEncryption with NULL.
-pub fn rsa_encryption(alloc: Global) -> Answer {
-    written(alloc, &algorithm_id())
-}
-
-/// `mask HEX`: an identifier whose parameters are one.
-pub fn mask(alloc: Global, arguments: &mut Arguments<'_>) -> Answer {
-    let bytes = arguments.bytes(alloc)?;
-    both::<
-        AlgorithmIdentifier<AlgorithmIdentifierRef>,
-        AlgorithmIdentifier<AlgorithmIdentifier<Any>>,
-    >(alloc, bytes.as_slice())
+    match AlgorithmIdentifier::<Any>::from_der(to.alloc(), bytes) {
+        Ok(own) => {
+            to.way("as_algo_ref");
+            own.as_algo_ref().shown(to);
+            to.rest();
+            to.text(", ");
+            parameters(to, &borrowed, &own);
+        }
+        Err(error) => {
+            to.way("from_der");
+            error.told(to);
+        }
+    }
 }
 
 /// `assert-oid HEX HEX`: whether the algorithm of the first text has the identifier of the second octets.
-pub fn asserted(alloc: Global, arguments: &mut Arguments<'_>) -> Answer {
-    let (text, octets) = (arguments.bytes(alloc)?, arguments.bytes(alloc)?);
-    let Ok(algorithm) = AlgorithmIdentifierRef::from_der(NoMemory, text.as_slice()) else {
-        return Err(Trouble::Malformed);
-    };
-    let Ok(oid) = ObjectIdentifier::from_bytes(octets.as_slice()) else {
-        return Err(Trouble::Malformed);
-    };
-    shown_as(alloc, algorithm.assert_algorithm_oid(oid))
+pub fn asserted(to: &mut Told, bytes: &[u8], octets: &[u8]) {
+    match (
+        AlgorithmIdentifierRef::from_der(NoMemory, bytes),
+        ObjectIdentifier::from_bytes(octets),
+    ) {
+        (Ok(algorithm), Ok(oid)) => shown(to, algorithm.assert_algorithm_oid(oid)),
+        _ => to.malformed(),
+    }
 }

@@ -1,51 +1,52 @@
 //! Further ways to a key: the view, documents, and the traits that callers' own types implement.
-use crate::answer::{Answer, digits, refused_key, text};
 use crate::shown::Shown;
+use crate::told::{Refusal, Told};
 use pkcs1::{
     DecodeRsaPrivateKey, DecodeRsaPublicKey, EncodeRsaPrivateKey, EncodeRsaPublicKey,
     RsaPrivateKeyOwned, RsaPrivateKeyView, RsaPublicKeyOwned,
 };
-use std::alloc::Global;
 
-/// The answer, and what a document holds where that is another text.
-pub fn with_document(alloc: Global, bytes: &[u8], answer: String, held: String) -> Answer {
-    if held == digits(alloc, bytes)? {
-        return Ok(answer);
+/// What a document holds, where that is another text.
+fn document(to: &mut Told, bytes: &[u8], held: &[u8]) {
+    if held != bytes {
+        to.text("; document: ");
+        to.digits(held);
     }
-    Ok(format!(in alloc; "{answer}; document: {held}")?)
 }
 
 /// What the view tells of the text, which it keeps.
-pub fn viewed(alloc: Global, bytes: &[u8]) -> Answer {
+pub fn viewed(to: &mut Told, bytes: &[u8]) {
     match RsaPrivateKeyView::try_from(bytes) {
-        Ok(view) if view.as_bytes() == bytes => view.shown(alloc),
-        Ok(_) => text(alloc, "other bytes"),
-        Err(error) => refused_key(alloc, error),
+        Ok(view) if view.as_bytes() == bytes => view.shown(to),
+        Ok(_) => to.text("other bytes"),
+        Err(error) => error.told(to),
     }
 }
 
 /// A private key by the traits, and its document where that isn't the text.
-pub fn private_der(alloc: Global, bytes: &[u8]) -> Answer {
-    let key = match RsaPrivateKeyOwned::from_pkcs1_der(alloc, bytes) {
-        Ok(key) => key,
-        Err(error) => return refused_key(alloc, error),
-    };
-    let shown = key.shown(alloc)?;
-    match key.to_pkcs1_der(alloc) {
-        Ok(document) => with_document(alloc, bytes, shown, digits(alloc, document.as_bytes())?),
-        Err(error) => refused_key(alloc, error),
+pub fn private_der(to: &mut Told, bytes: &[u8]) {
+    match RsaPrivateKeyOwned::from_pkcs1_der(to.alloc(), bytes) {
+        Ok(key) => match key.to_pkcs1_der(to.alloc()) {
+            Ok(der) => {
+                key.shown(to);
+                document(to, bytes, der.as_bytes());
+            }
+            Err(error) => error.told(to),
+        },
+        Err(error) => error.told(to),
     }
 }
 
 /// The same of a public key.
-pub fn public_der(alloc: Global, bytes: &[u8]) -> Answer {
-    let key = match RsaPublicKeyOwned::from_pkcs1_der(alloc, bytes) {
-        Ok(key) => key,
-        Err(error) => return refused_key(alloc, error),
-    };
-    let shown = key.shown(alloc)?;
-    match key.to_pkcs1_der(alloc) {
-        Ok(document) => with_document(alloc, bytes, shown, digits(alloc, document.as_bytes())?),
-        Err(error) => refused_key(alloc, error),
+pub fn public_der(to: &mut Told, bytes: &[u8]) {
+    match RsaPublicKeyOwned::from_pkcs1_der(to.alloc(), bytes) {
+        Ok(key) => match key.to_pkcs1_der(to.alloc()) {
+            Ok(der) => {
+                key.shown(to);
+                document(to, bytes, der.as_bytes());
+            }
+            Err(error) => error.told(to),
+        },
+        Err(error) => error.told(to),
     }
 }

@@ -1,6 +1,5 @@
 //! Texts that were damaged, or put together of parts that don't belong together.
-use crate::answer::{Answer, Trouble};
-use crate::arguments::Arguments;
+use crate::told::Told;
 use der_core::{
     Decode, Encode, Error, ErrorKind, Length, NoMemory, Reader, SliceReader, decode_optional,
 };
@@ -91,24 +90,26 @@ fn accepting(alloc: Global, text: &[u8]) -> [(&'static str, bool); 4] {
     ]
 }
 
-/// `types HEX`: the types that accept the text, and the lengths of its proper beginnings that any type accepts.
-pub fn types(alloc: Global, arguments: &mut Arguments<'_>) -> Answer {
-    let text = arguments.bytes(alloc)?;
-    let text = text.as_slice();
-    let mut answer = String::from_str(alloc, "")?;
-    for (name, accepts) in accepting(alloc, text) {
+/// The types that accept the text, which is a proper beginning where its length is given.
+fn tell_accepting(to: &mut Told, text: &[u8], length: Option<usize>) {
+    for (name, accepts) in accepting(to.alloc(), text) {
         if accepts {
-            answer = format!(in alloc; "{answer}{name} ")?;
-        }
-    }
-    for length in 0..text.len() {
-        for (name, accepts) in accepting(alloc, &text[..length]) {
-            if accepts {
-                answer = format!(in alloc; "{answer}{length} as {name} ")?;
+            to.gap();
+            if let Some(length) = length {
+                to.number(length);
+                to.text(" as ");
             }
+            to.text(name);
         }
     }
-    Ok(String::from_str(alloc, answer.as_str().trim_end())?)
+}
+
+/// `types HEX`: the types that accept the text, and the lengths of its proper beginnings that any type accepts.
+pub fn types(to: &mut Told, text: &[u8]) {
+    tell_accepting(to, text, None);
+    for length in 0..text.len() {
+        tell_accepting(to, &text[..length], Some(length));
+    }
 }
 
 /// How many texts there were, were accepted, and weren't answered as they should be.
@@ -139,16 +140,22 @@ impl Counts {
         }
     }
 
-    fn told(self, alloc: Global) -> Answer {
-        let (texts, accepted, wrong) = (self.texts, self.accepted, self.wrong);
-        Ok(format!(in alloc; "{accepted} of {texts} accepted, {wrong} wrong")?)
+    fn told(self, to: &mut Told) {
+        to.plain(self.accepted);
+        to.text(" of ");
+        to.plain(self.texts);
+        to.text(" accepted, ");
+        to.plain(self.wrong);
+        to.text(" wrong");
     }
 }
 
 /// `changed-TYPE HEX`: of the texts with one byte set to each of its 255 other values, how many are accepted, and of how
 /// many of those another text is written than it should be.
-pub fn changed<D: Damaged>(alloc: Global, arguments: &mut Arguments<'_>) -> Answer {
-    let mut text = arguments.bytes(alloc)?;
+pub fn changed<D: Damaged>(to: &mut Told, bytes: &[u8]) {
+    let Ok(mut text) = Vec::from_slice(to.alloc(), bytes) else {
+        return to.want_of_memory();
+    };
     let text = text.as_mut_slice();
     let mut counts = Counts::none();
     for index in 0..text.len() {
@@ -156,44 +163,41 @@ pub fn changed<D: Damaged>(alloc: Global, arguments: &mut Arguments<'_>) -> Answ
         for value in 0..=255_u8 {
             if value != byte {
                 text[index] = value;
-                counts.add::<D>(alloc, text);
+                counts.add::<D>(to.alloc(), text);
             }
         }
         text[index] = byte;
     }
-    counts.told(alloc)
+    counts.told(to);
 }
 
 /// The SEQUENCE of parts whose places are the digits of the number, the last one first.
-fn sequence(
-    alloc: Global,
-    parts: &[Vec<u8>],
-    count: u32,
-    mut number: usize,
-) -> Result<Vec<u8>, Trouble> {
+fn sequence(alloc: Global, parts: &[Vec<u8>], count: u32, mut number: usize) -> Option<Vec<u8>> {
     let mut contents = Vec::new(alloc);
     for _ in 0..count {
-        let part = number.checked_rem(parts.len()).ok_or(Trouble::Malformed)?;
-        contents.extend_from_slice(parts[part].as_slice())?;
+        let part = number.checked_rem(parts.len())?;
+        contents.extend_from_slice(parts[part].as_slice()).ok()?;
         number /= parts.len();
     }
-    let length = u8::try_from(contents.len()).map_err(|_| Trouble::Malformed)?;
-    let mut text = Vec::from_array(alloc, [0x30, length])?;
-    text.extend_from_slice(contents.as_slice())?;
-    Ok(text)
+    let length = u8::try_from(contents.len()).ok()?;
+    let mut text = Vec::from_array(alloc, [0x30, length]).ok()?;
+    text.extend_from_slice(contents.as_slice()).ok()?;
+    Some(text)
 }
 
 /// `joined-TYPE N HEX HEX..`: the same of the SEQUENCEs of up to N of the parts, in any order and as often as you like.
-pub fn joined<D: Damaged>(alloc: Global, arguments: &mut Arguments<'_>) -> Answer {
-    let most = arguments.number::<u32>()?;
-    let parts = arguments.all_bytes(alloc)?;
+pub fn joined<D: Damaged>(to: &mut Told, most: u32, parts: &[Vec<u8>]) {
     let mut counts = Counts::none();
     for count in 0..=most {
-        let sequences = parts.len().checked_pow(count).ok_or(Trouble::Malformed)?;
+        let Some(sequences) = parts.len().checked_pow(count) else {
+            return to.malformed();
+        };
         for number in 0..sequences {
-            let text = sequence(alloc, parts.as_slice(), count, number)?;
-            counts.add::<D>(alloc, text.as_slice());
+            match sequence(to.alloc(), parts, count, number) {
+                Some(text) => counts.add::<D>(to.alloc(), text.as_slice()),
+                None => return to.malformed(),
+            }
         }
     }
-    counts.told(alloc)
+    counts.told(to);
 }

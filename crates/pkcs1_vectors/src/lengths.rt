@@ -1,108 +1,112 @@
 //! Lengths, tags and headers.
-use crate::answer::{Answer, Trouble, agreed, digits, refused};
-use crate::arguments::Arguments;
+use crate::told::{Refusal, Told};
 use der_core::{Header, Length, Reader, Result, SliceReader, Tag, TagNumber};
-use std::alloc::Global;
 
-/// The length that was read, how many bytes are left, and its octets where they are others.
+/// The length that was read, and how many bytes are left.
 fn read_length(bytes: &[u8]) -> Result<(Length, usize)> {
     let mut reader = SliceReader::new(bytes)?;
     let length = Length::decode(&mut reader)?;
     Ok((length, reader.remaining_len().to_usize()))
 }
 
-/// `length HEX`: the length at the front of the bytes, how many bytes are left, and the octets of that length.
-pub fn length(alloc: Global, arguments: &mut Arguments<'_>) -> Answer {
-    let bytes = arguments.bytes(alloc)?;
-    match read_length(bytes.as_slice()) {
-        Ok((length, left)) => {
-            let octets = digits(alloc, length.to_bytes().as_slice())?;
-            Ok(format!(in alloc; "{} {octets}, {left} left", length.to_usize())?)
+/// How many bytes are left.
+fn left(to: &mut Told, bytes: usize) {
+    to.text(", ");
+    to.number(bytes);
+    to.text(" left");
+}
+
+/// `length HEX`: the length at the front of the bytes, the octets of that length, and how many bytes are left.
+pub fn length(to: &mut Told, bytes: &[u8]) {
+    match read_length(bytes) {
+        Ok((length, rest)) => {
+            told(to, Ok(length));
+            left(to, rest);
         }
-        Err(error) => refused(alloc, error),
+        Err(error) => error.told(to),
     }
 }
 
 /// The length in decimal digits, and its octets.
-fn told(alloc: Global, answer: Result<Length>) -> Answer {
+fn told(to: &mut Told, answer: Result<Length>) {
     match answer {
         Ok(length) => {
-            let octets = digits(alloc, length.to_bytes().as_slice())?;
-            Ok(format!(in alloc; "{} {octets}", length.to_usize())?)
+            to.number(length.to_usize());
+            to.text(" ");
+            to.digits(length.to_bytes().as_slice());
         }
-        Err(error) => refused(alloc, error),
+        Err(error) => error.told(to),
     }
 }
 
 /// `length-of N`: the number as a length.
-pub fn length_of(alloc: Global, arguments: &mut Arguments<'_>) -> Answer {
-    told(alloc, Length::try_from(arguments.number::<usize>()?))
+pub fn length_of(to: &mut Told, number: usize) {
+    told(to, Length::try_from(number));
 }
 
 /// `length-max`: the greatest length.
-pub fn max(alloc: Global) -> Answer {
-    told(alloc, Ok(Length::MAX))
-}
-
-/// The length of the next part.
-fn next_length(arguments: &mut Arguments<'_>) -> std::result::Result<Length, Trouble> {
-    match Length::try_from(arguments.number::<usize>()?) {
-        Ok(length) => Ok(length),
-        Err(_) => Err(Trouble::Malformed),
-    }
+pub fn max(to: &mut Told) {
+    told(to, Ok(Length::MAX));
 }
 
 /// `length-sum M N`: the sum of two lengths, in either order.
-pub fn sum(alloc: Global, arguments: &mut Arguments<'_>) -> Answer {
-    let first = next_length(arguments)?;
-    let second = next_length(arguments)?;
-    let sum = told(alloc, first.checked_add(second))?;
-    agreed(
-        alloc,
-        sum,
-        "exchanged",
-        told(alloc, second.checked_add(first))?,
-    )
+pub fn sum(to: &mut Told, first: usize, second: usize) {
+    match (Length::try_from(first), Length::try_from(second)) {
+        (Ok(first), Ok(second)) => {
+            told(to, first.checked_add(second));
+            to.way("exchanged");
+            told(to, second.checked_add(first));
+        }
+        _ => to.malformed(),
+    }
 }
 
 /// `length-tlv N`: the length of a text with so many octets of contents.
-pub fn for_tlv(alloc: Global, arguments: &mut Arguments<'_>) -> Answer {
-    let length = next_length(arguments)?;
-    told(alloc, length.for_tlv(Tag::SEQUENCE))
+pub fn for_tlv(to: &mut Told, number: usize) {
+    match Length::try_from(number) {
+        Ok(length) => told(to, length.for_tlv(Tag::SEQUENCE)),
+        Err(_) => to.malformed(),
+    }
 }
 
 /// `tag HEX`: the tag of an octet.
-pub fn tag(alloc: Global, arguments: &mut Arguments<'_>) -> Answer {
-    let bytes = arguments.bytes(alloc)?;
-    let [octet] = bytes.as_slice() else {
-        return Err(Trouble::Malformed);
-    };
-    match Tag::from_octet(*octet) {
-        Ok(tag) => digits(alloc, &[tag.octet()]),
-        Err(error) => refused(alloc, error),
+pub fn tag(to: &mut Told, bytes: &[u8]) {
+    match bytes {
+        [octet] => match Tag::from_octet(*octet) {
+            Ok(tag) => to.digits(&[tag.octet()]),
+            Err(error) => error.told(to),
+        },
+        _ => to.malformed(),
     }
 }
 
 /// `tag-named NAME`: the octet of a tag with a name.
-pub fn named(alloc: Global, arguments: &mut Arguments<'_>) -> Answer {
-    let tag = match arguments.word()? {
+pub fn named(to: &mut Told, name: &str) {
+    let tag = match name {
         "INTEGER" => Tag::INTEGER,
         "OCTET_STRING" => Tag::OCTET_STRING,
         "NULL" => Tag::NULL,
         "OBJECT_IDENTIFIER" => Tag::OBJECT_IDENTIFIER,
         "SEQUENCE" => Tag::SEQUENCE,
-        _ => return Err(Trouble::Malformed),
+        _ => return to.malformed(),
     };
-    digits(alloc, &[tag.octet()])
+    to.digits(&[tag.octet()]);
+}
+
+/// The number of a tag.
+pub fn tag_number(number: usize) -> Option<TagNumber> {
+    match u8::try_from(number) {
+        Ok(number) if number <= 30 => Some(TagNumber::new(number)),
+        _ => None,
+    }
 }
 
 /// `tag-context N`: the octet of the tag `[N]`.
-pub fn context(alloc: Global, arguments: &mut Arguments<'_>) -> Answer {
-    let number = arguments.number::<u8>()?;
-    if number > 30 {
-        return Err(Trouble::Malformed);
+pub fn context(to: &mut Told, number: usize) {
+    match tag_number(number) {
+        Some(number) => to.digits(&[Tag::context(number).octet()]),
+        None => to.malformed(),
     }
-    digits(alloc, &[Tag::context(TagNumber::new(number)).octet()])
 }
 
 /// The header that was read, and how many bytes are left.
@@ -113,14 +117,16 @@ fn read_header(bytes: &[u8]) -> Result<(Header, usize)> {
 }
 
 /// `header HEX`: the tag and the length at the front of the bytes, the header's bytes, and how many bytes are left.
-pub fn header(alloc: Global, arguments: &mut Arguments<'_>) -> Answer {
-    let bytes = arguments.bytes(alloc)?;
-    match read_header(bytes.as_slice()) {
-        Ok((header, left)) => {
-            let octets = digits(alloc, header.to_bytes().as_slice())?;
-            let (tag, length) = (header.tag.octet(), header.length.to_usize());
-            Ok(format!(in alloc; "{tag:02x} {length} {octets}, {left} left")?)
+pub fn header(to: &mut Told, bytes: &[u8]) {
+    match read_header(bytes) {
+        Ok((header, rest)) => {
+            to.octets(&[header.tag.octet()]);
+            to.text(" ");
+            to.number(header.length.to_usize());
+            to.text(" ");
+            to.digits(header.to_bytes().as_slice());
+            left(to, rest);
         }
-        Err(error) => refused(alloc, error),
+        Err(error) => error.told(to),
     }
 }

@@ -4,8 +4,6 @@
 #![tactic(auto)]
 
 mod algorithms;
-mod answer;
-mod arguments;
 mod carried;
 mod containers;
 mod damaged;
@@ -13,11 +11,13 @@ mod fields;
 mod keys;
 mod lengths;
 mod parameters;
+mod parts;
 mod read;
 mod refusals;
 mod row;
 mod shown;
 mod spellings;
+mod told;
 mod values;
 mod words;
 mod written;

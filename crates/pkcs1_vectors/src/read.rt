@@ -1,37 +1,27 @@
 //! Ways of reading a text.
-use crate::answer::{Answer, agreed, digits, refused, refused_key};
 use crate::shown::Shown;
-use crate::written::written;
+use crate::told::{Refusal, Told};
+use crate::written::text_of;
 use der_core::{Decode, Encode, NoMemory, Reader, Result, SliceReader, TryClone};
 use std::alloc::Global;
 
 /// The value that was read of the text, and what is written of it where that is another text.
-pub fn told<T: Shown + Encode>(alloc: Global, bytes: &[u8], value: &T) -> Answer {
-    let shown = value.shown(alloc)?;
-    let again = written(alloc, value)?;
-    if again == digits(alloc, bytes)? {
-        return Ok(shown);
-    }
-    Ok(format!(in alloc; "{shown} again={again}")?)
+pub fn told<T: Shown + Encode>(to: &mut Told, bytes: &[u8], value: &T) {
+    value.shown(to);
+    let mut given = Told::new(to.alloc());
+    given.digits(bytes);
+    to.unless(given.answer(), " again=", text_of(to.alloc(), value));
 }
 
 /// What is told of the value, or why there is none.
-pub fn read<T: Shown + Encode + Drop>(alloc: Global, bytes: &[u8], answer: Result<T>) -> Answer {
-    match answer {
-        Ok(value) => told(alloc, bytes, &value),
-        Err(error) => refused(alloc, error),
-    }
-}
-
-/// The same of a call that answers the errors of keys and parameters.
-pub fn read_key<T: Shown + Encode + Drop>(
-    alloc: Global,
+pub fn read<T: Shown + Encode + Drop, E: Refusal>(
+    to: &mut Told,
     bytes: &[u8],
-    answer: pkcs1::Result<T>,
-) -> Answer {
+    answer: std::result::Result<T, E>,
+) {
     match answer {
-        Ok(value) => told(alloc, bytes, &value),
-        Err(error) => refused_key(alloc, error),
+        Ok(value) => told(to, bytes, &value),
+        Err(error) => error.told(to),
     }
 }
 
@@ -45,30 +35,27 @@ fn front<'a, T: Decode<&'a [u8], NoMemory>>(bytes: &'a [u8]) -> Result<T> {
 
 /// What is read without memory.
 pub fn borrowed<'a, T: Decode<&'a [u8], NoMemory> + Shown + Encode>(
-    alloc: Global,
+    to: &mut Told,
     bytes: &'a [u8],
-) -> Answer {
-    let whole = read(alloc, bytes, T::from_der(NoMemory, bytes))?;
-    agreed(
-        alloc,
-        whole,
-        "decode",
-        read(alloc, bytes, front::<T>(bytes))?,
-    )
+) {
+    read(to, bytes, T::from_der(NoMemory, bytes));
+    to.way("decode");
+    read(to, bytes, front::<T>(bytes));
 }
 
 /// What is read into memory, and what is told of a copy.
 pub fn owned<'a, T: Decode<&'a [u8], Global> + Shown + Encode + TryClone>(
-    alloc: Global,
+    to: &mut Told,
     bytes: &'a [u8],
-) -> Answer {
-    match T::from_der(alloc, bytes) {
+) {
+    match T::from_der(to.alloc(), bytes) {
         Ok(value) => {
-            let answer = told(alloc, bytes, &value)?;
-            let copy = read(alloc, bytes, value.try_clone(alloc))?;
-            agreed(alloc, answer, "copy", copy)
+            told(to, bytes, &value);
+            to.way("copy");
+            let copy = value.try_clone(to.alloc());
+            read(to, bytes, copy);
         }
-        Err(error) => refused(alloc, error),
+        Err(error) => error.told(to),
     }
 }
 
@@ -77,7 +64,8 @@ pub fn both<
     'a,
     B: Decode<&'a [u8], NoMemory> + Shown + Encode,
     O: Decode<&'a [u8], Global> + Shown + Encode + TryClone,
->(alloc: Global, bytes: &'a [u8]) -> Answer {
-    let answer = borrowed::<B>(alloc, bytes)?;
-    agreed(alloc, answer, "owned", owned::<O>(alloc, bytes)?)
+>(to: &mut Told, bytes: &'a [u8]) {
+    borrowed::<B>(to, bytes);
+    to.way("owned");
+    owned::<O>(to, bytes);
 }

@@ -1,55 +1,59 @@
 //! Refusals as they are printed.
-use crate::answer::{Answer, Trouble};
-use crate::arguments::Arguments;
+use crate::told::Told;
 use der_core::{Error, ErrorKind, Tag};
-use std::alloc::Global;
 
 /// The kinds that name no tag.
-fn plain_kind(name: &str) -> Result<ErrorKind, Trouble> {
-    match name {
-        "Failed" => Ok(ErrorKind::Failed),
-        "Incomplete" => Ok(ErrorKind::Incomplete),
-        "IndefiniteLength" => Ok(ErrorKind::IndefiniteLength),
-        "OidMalformed" => Ok(ErrorKind::OidMalformed),
-        "OidUnknown" => Ok(ErrorKind::OidUnknown),
-        "Overflow" => Ok(ErrorKind::Overflow),
-        "Overlength" => Ok(ErrorKind::Overlength),
-        "ParametersMissing" => Ok(ErrorKind::ParametersMissing),
-        "TrailingData" => Ok(ErrorKind::TrailingData),
-        "NoRoom" => Ok(ErrorKind::NoRoom),
-        "File" => Ok(ErrorKind::File),
-        "OutOfMemory" => Ok(ErrorKind::OutOfMemory),
-        _ => Err(Trouble::Malformed),
-    }
+fn plain_kind(name: &str) -> Option<ErrorKind> {
+    let kind = match name {
+        "Failed" => ErrorKind::Failed,
+        "Incomplete" => ErrorKind::Incomplete,
+        "IndefiniteLength" => ErrorKind::IndefiniteLength,
+        "OidMalformed" => ErrorKind::OidMalformed,
+        "OidUnknown" => ErrorKind::OidUnknown,
+        "Overflow" => ErrorKind::Overflow,
+        "Overlength" => ErrorKind::Overlength,
+        "ParametersMissing" => ErrorKind::ParametersMissing,
+        "TrailingData" => ErrorKind::TrailingData,
+        "NoRoom" => ErrorKind::NoRoom,
+        "File" => ErrorKind::File,
+        "OutOfMemory" => ErrorKind::OutOfMemory,
+        _ => return None,
+    };
+    Some(kind)
 }
 
 /// The kind of that name; those of a tag are told of SEQUENCE, and NULL where INTEGER was expected.
-fn named_kind(name: &str) -> Result<ErrorKind, Trouble> {
+fn named_kind(name: &str) -> Option<ErrorKind> {
     let tag = Tag::SEQUENCE;
     let (expected, actual) = (Tag::INTEGER, Tag::NULL);
     match name {
-        "Length" => Ok(ErrorKind::Length { tag }),
-        "Noncanonical" => Ok(ErrorKind::Noncanonical { tag }),
-        "Value" => Ok(ErrorKind::Value { tag }),
-        "TagUnexpected" => Ok(ErrorKind::TagUnexpected { expected, actual }),
-        "TagUnknown" => Ok(ErrorKind::TagUnknown { octet: 0x1f }),
+        "Length" => Some(ErrorKind::Length { tag }),
+        "Noncanonical" => Some(ErrorKind::Noncanonical { tag }),
+        "Value" => Some(ErrorKind::Value { tag }),
+        "TagUnexpected" => Some(ErrorKind::TagUnexpected { expected, actual }),
+        "TagUnknown" => Some(ErrorKind::TagUnknown { octet: 0x1f }),
         _ => plain_kind(name),
     }
 }
 
 /// `kind NAME`: the kind, as it is printed of the kernel's error.
-pub fn kind(alloc: Global, arguments: &mut Arguments<'_>) -> Answer {
-    let error = Error::new(named_kind(arguments.word()?)?);
-    Ok(format!(in alloc; "{error}")?)
+pub fn kind(to: &mut Told, name: &str) {
+    match named_kind(name) {
+        Some(kind) => to.plain(Error::new(kind)),
+        None => to.malformed(),
+    }
 }
 
 /// `error NAME`: an error of keys and parameters, as it is printed; a kind stands for the kernel's error of it.
-pub fn error(alloc: Global, arguments: &mut Arguments<'_>) -> Answer {
-    let error = match arguments.word()? {
+pub fn error(to: &mut Told, name: &str) {
+    let error = match name {
         "Version" => pkcs1::Error::Version,
         "KeyMalformed" => pkcs1::Error::KeyMalformed,
         "Crypto" => pkcs1::Error::Crypto,
-        name => pkcs1::Error::from(Error::new(named_kind(name)?)),
+        name => match named_kind(name) {
+            Some(kind) => pkcs1::Error::from(Error::new(kind)),
+            None => return to.malformed(),
+        },
     };
-    Ok(format!(in alloc; "{error}")?)
+    to.plain(error);
 }

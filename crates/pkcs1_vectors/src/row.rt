@@ -1,7 +1,6 @@
 //! One line of the input.
-use crate::answer::Trouble;
-use crate::arguments::Arguments;
-use crate::words;
+use crate::parts;
+use crate::told::Trouble;
 use std::alloc::{AllocError, Global};
 
 /// What comes of a line.
@@ -23,14 +22,19 @@ pub fn compared(alloc: Global, line: &str) -> Result<Outcome, AllocError> {
     if line.is_empty() || line.starts_with('#') {
         return Ok(Outcome::NoRow);
     }
-    let answer = match line.split_once(" = ") {
-        Some((asked, want)) => match words::answer(alloc, Arguments::new(asked)) {
-            Ok(answer) if answer.as_str() == want => return Ok(Outcome::Holds),
-            Ok(answer) => answer,
-            Err(Trouble::Memory) => return Err(AllocError),
-            Err(Trouble::Malformed) => String::from_str(alloc, "not a row")?,
-        },
-        None => String::from_str(alloc, "not a row")?,
+    let Some((asked, want)) = line.split_once(" = ") else {
+        return no_row(alloc);
     };
+    match parts::answer(alloc, asked) {
+        Ok(answer) if answer.as_str() == want => Ok(Outcome::Holds),
+        Ok(answer) => Ok(Outcome::Differs { answer }),
+        Err(Trouble::Memory) => Err(AllocError),
+        Err(Trouble::Malformed) => no_row(alloc),
+    }
+}
+
+/// The line is no row.
+fn no_row(alloc: Global) -> Result<Outcome, AllocError> {
+    let answer = String::from_str(alloc, "not a row")?;
     Ok(Outcome::Differs { answer })
 }

@@ -1,5 +1,5 @@
 //! Values as rows show them: numbers and contents in hexadecimal digits, `-` for what is absent.
-use crate::answer::{Answer, digits, text};
+use crate::told::Told;
 use der_core::{AsUintRef, OctetStringRef, Uint, UintRef};
 use pkcs1::{
     OtherPrimeInfo, RsaOaepParams, RsaPrivateKey, RsaPrivateKeyView, RsaPssParams, RsaPublicKey,
@@ -7,136 +7,127 @@ use pkcs1::{
 };
 use pkcs8_core::PrivateKeyInfoRef;
 use spki_core::{AlgorithmIdentifier, Any, AnyRef, AnyValue, ObjectIdentifier};
-use std::alloc::Global;
 
 /// A value that a row shows.
 pub trait Shown {
     /// All that the value holds.
-    fn shown(&self, alloc: Global) -> Answer;
+    fn shown(&self, to: &mut Told);
 }
 
 impl Shown for u8 {
-    fn shown(&self, alloc: Global) -> Answer {
-        Ok(format!(in alloc; "{self}")?)
+    fn shown(&self, to: &mut Told) {
+        to.plain(*self);
     }
 }
 
 impl Shown for UintRef<'_> {
-    fn shown(&self, alloc: Global) -> Answer {
-        digits(alloc, self.as_bytes())
+    fn shown(&self, to: &mut Told) {
+        to.digits(self.as_bytes());
     }
 }
 
 impl Shown for Uint {
-    fn shown(&self, alloc: Global) -> Answer {
-        digits(alloc, self.as_bytes())
+    fn shown(&self, to: &mut Told) {
+        to.digits(self.as_bytes());
     }
 }
 
 impl Shown for OctetStringRef<'_> {
-    fn shown(&self, alloc: Global) -> Answer {
-        digits(alloc, self.as_bytes())
+    fn shown(&self, to: &mut Told) {
+        to.digits(self.as_bytes());
     }
 }
 
 impl Shown for ObjectIdentifier {
-    fn shown(&self, alloc: Global) -> Answer {
-        digits(alloc, self.as_bytes())
+    fn shown(&self, to: &mut Told) {
+        to.digits(self.as_bytes());
     }
 }
 
 impl Shown for Version {
-    fn shown(&self, alloc: Global) -> Answer {
-        Ok(format!(in alloc; "{self:?}")?)
+    fn shown(&self, to: &mut Told) {
+        to.debug(self);
     }
 }
 
 impl Shown for TrailerField {
-    fn shown(&self, alloc: Global) -> Answer {
-        Ok(format!(in alloc; "{self:?}")?)
+    fn shown(&self, to: &mut Told) {
+        to.debug(self);
     }
 }
 
 impl Shown for AnyRef<'_> {
-    fn shown(&self, alloc: Global) -> Answer {
-        let contents = hex::encode(alloc, self.value())?;
-        Ok(format!(in alloc; "{:02x}:{contents}", self.tag().octet())?)
+    fn shown(&self, to: &mut Told) {
+        to.octets(&[self.tag().octet()]);
+        to.text(":");
+        to.octets(self.value());
     }
 }
 
 impl Shown for Any {
-    fn shown(&self, alloc: Global) -> Answer {
-        self.as_any_ref().shown(alloc)
+    fn shown(&self, to: &mut Told) {
+        self.as_any_ref().shown(to);
     }
 }
 
 impl<P: Shown> Shown for AlgorithmIdentifier<P> {
-    fn shown(&self, alloc: Global) -> Answer {
-        let oid = self.oid.shown(alloc)?;
-        let parameters = match &self.parameters {
-            Some(parameters) => parameters.shown(alloc)?,
-            None => text(alloc, "-")?,
-        };
-        Ok(format!(in alloc; "{oid}/{parameters}")?)
+    fn shown(&self, to: &mut Told) {
+        self.oid.shown(to);
+        to.text("/");
+        match &self.parameters {
+            Some(parameters) => parameters.shown(to),
+            None => to.text("-"),
+        }
     }
 }
 
 impl<T: Shown> Shown for Vec<T> {
-    fn shown(&self, alloc: Global) -> Answer {
+    fn shown(&self, to: &mut Told) {
         if self.is_empty() {
-            return text(alloc, "none");
+            to.text("none");
         }
-        let mut all = String::from_str(alloc, "")?;
         for item in self {
-            let item = item.shown(alloc)?;
-            all.push_str("[")?;
-            all.push_str(item.as_str())?;
-            all.push_str("]")?;
+            to.text("[");
+            item.shown(to);
+            to.text("]");
         }
-        Ok(all)
     }
 }
 
 impl<U: AsUintRef> Shown for RsaPublicKey<U> {
-    fn shown(&self, alloc: Global) -> Answer {
-        let modulus = self.modulus.as_uint_ref().shown(alloc)?;
-        let exponent = self.public_exponent.as_uint_ref().shown(alloc)?;
-        Ok(format!(in alloc; "n={modulus} e={exponent}")?)
+    fn shown(&self, to: &mut Told) {
+        to.text("n=");
+        self.modulus.as_uint_ref().shown(to);
+        to.text(" e=");
+        self.public_exponent.as_uint_ref().shown(to);
     }
 }
 
 impl<U: AsUintRef> Shown for OtherPrimeInfo<U> {
-    fn shown(&self, alloc: Global) -> Answer {
-        let prime = self.prime.as_uint_ref().shown(alloc)?;
-        let exponent = self.exponent.as_uint_ref().shown(alloc)?;
-        let coefficient = self.coefficient.as_uint_ref().shown(alloc)?;
-        Ok(format!(in alloc; "{prime},{exponent},{coefficient}")?)
+    fn shown(&self, to: &mut Told) {
+        self.prime.as_uint_ref().shown(to);
+        to.text(",");
+        self.exponent.as_uint_ref().shown(to);
+        to.text(",");
+        self.coefficient.as_uint_ref().shown(to);
     }
 }
 
-/// The version, eight numbers in their order, and other primes, as they are shown.
-fn private_shown(
-    alloc: Global,
-    version: Version,
-    numbers: [UintRef<'_>; 8],
-    others: String,
-) -> Answer {
-    let mut all = version.shown(alloc)?;
-    for (name, number) in ["n", "e", "d", "p", "q", "dp", "dq", "qi"]
+/// The version, and eight numbers in their order, each with its name.
+fn numbers_shown(to: &mut Told, version: Version, numbers: [UintRef<'_>; 8]) {
+    version.shown(to);
+    for (name, number) in [" n=", " e=", " d=", " p=", " q=", " dp=", " dq=", " qi="]
         .iter()
         .zip(&numbers)
     {
-        let number = number.shown(alloc)?;
-        all.push_str(" ")?;
-        all.push_str(name)?;
-        all.push_str("=")?;
-        all.push_str(number.as_str())?;
+        to.text(name);
+        number.shown(to);
     }
-    Ok(format!(in alloc; "{all} others={others}")?)
+    to.text(" others=");
 }
 
 impl<U: AsUintRef> Shown for RsaPrivateKey<U> {
-    fn shown(&self, alloc: Global) -> Answer {
+    fn shown(&self, to: &mut Told) {
         let public = self.public_key();
         let numbers = [
             public.modulus,
@@ -148,16 +139,16 @@ impl<U: AsUintRef> Shown for RsaPrivateKey<U> {
             self.exponent2.as_uint_ref(),
             self.coefficient.as_uint_ref(),
         ];
-        let others = match &self.other_prime_infos {
-            Some(others) => others.shown(alloc)?,
-            None => text(alloc, "-")?,
-        };
-        private_shown(alloc, self.version(), numbers, others)
+        numbers_shown(to, self.version(), numbers);
+        match &self.other_prime_infos {
+            Some(others) => others.shown(to),
+            None => to.text("-"),
+        }
     }
 }
 
 impl Shown for RsaPrivateKeyView<'_> {
-    fn shown(&self, alloc: Global) -> Answer {
+    fn shown(&self, to: &mut Told) {
         let public = self.public_key();
         let numbers = [
             public.modulus,
@@ -169,48 +160,57 @@ impl Shown for RsaPrivateKeyView<'_> {
             self.exponent2(),
             self.coefficient(),
         ];
-        let mut others = Vec::new(alloc);
+        numbers_shown(to, self.version(), numbers);
+        let mut is_empty = true;
         for other in self.other_primes() {
-            others.push(other)?;
+            is_empty = false;
+            to.text("[");
+            other.shown(to);
+            to.text("]");
         }
-        let others = if others.is_empty() {
-            text(alloc, "-")?
-        } else {
-            others.shown(alloc)?
-        };
-        private_shown(alloc, self.version(), numbers, others)
+        if is_empty {
+            to.text("-");
+        }
     }
 }
 
 impl Shown for PrivateKeyInfoRef<'_> {
-    fn shown(&self, alloc: Global) -> Answer {
-        let (algorithm, key) = (self.algorithm.shown(alloc)?, self.private_key.shown(alloc)?);
-        let attributes = match self.attributes() {
-            Some(contents) => digits(alloc, contents)?,
-            None => text(alloc, "none")?,
-        };
-        Ok(format!(in alloc; "{algorithm} {key} attributes={attributes}")?)
+    fn shown(&self, to: &mut Told) {
+        self.algorithm.shown(to);
+        to.text(" ");
+        self.private_key.shown(to);
+        to.text(" attributes=");
+        match self.attributes() {
+            Some(contents) => to.digits(contents),
+            None => to.text("none"),
+        }
     }
 }
 
 impl<P: AnyValue + Shown> Shown for RsaPssParams<P> {
-    fn shown(&self, alloc: Global) -> Answer {
-        let hash = self.hash.shown(alloc)?;
-        let mask_gen = self.mask_gen.shown(alloc)?;
-        let trailer = self.trailer_field.shown(alloc)?;
-        let (salt_len, defaults) = (self.salt_len, self.default_fields());
-        Ok(format!(in alloc;
-            "hash={hash} mask={mask_gen} salt={salt_len} trailer={trailer} defaults={defaults}"
-        )?)
+    fn shown(&self, to: &mut Told) {
+        to.text("hash=");
+        self.hash.shown(to);
+        to.text(" mask=");
+        self.mask_gen.shown(to);
+        to.text(" salt=");
+        self.salt_len.shown(to);
+        to.text(" trailer=");
+        self.trailer_field.shown(to);
+        to.text(" defaults=");
+        self.default_fields().shown(to);
     }
 }
 
 impl<P: AnyValue + Shown> Shown for RsaOaepParams<P> {
-    fn shown(&self, alloc: Global) -> Answer {
-        let hash = self.hash.shown(alloc)?;
-        let mask_gen = self.mask_gen.shown(alloc)?;
-        let source = self.p_source.shown(alloc)?;
-        let defaults = self.default_fields();
-        Ok(format!(in alloc; "hash={hash} mask={mask_gen} source={source} defaults={defaults}")?)
+    fn shown(&self, to: &mut Told) {
+        to.text("hash=");
+        self.hash.shown(to);
+        to.text(" mask=");
+        self.mask_gen.shown(to);
+        to.text(" source=");
+        self.p_source.shown(to);
+        to.text(" defaults=");
+        self.default_fields().shown(to);
     }
 }

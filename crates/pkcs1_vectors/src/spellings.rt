@@ -1,93 +1,92 @@
 //! Spellings of parameters.
-use crate::answer::{Answer, Trouble, agreed, digits, refused_key};
-use crate::arguments::Arguments;
+use crate::told::{Refusal, Told};
 use crate::written::{after, untouched};
 use der_core::Decode;
-use pkcs1::{Result, RsaOaepParamsOwned, RsaOaepParamsRef, RsaPssParamsOwned, RsaPssParamsRef};
+use pkcs1::{Error, Result, RsaOaepParams, RsaPssParams};
+use spki_core::AnyValue;
 use std::alloc::Global;
 
-/// The texts of the list, each behind a space.
-fn listed(alloc: Global, answer: Result<Vec<Vec<u8>>>) -> Answer {
-    let texts = match answer {
-        Ok(texts) => texts,
-        Err(error) => return refused_key(alloc, error),
-    };
-    let mut all = format!(in alloc; "{}", texts.len())?;
-    for text in &texts {
-        all.push_str(" ")?;
-        all.push_str(digits(alloc, text.as_slice())?.as_str())?;
-    }
-    Ok(all)
+/// Parameters that are spelled.
+pub trait Spelled {
+    /// Why the spelling under the mask isn't written into the slice, if it isn't. `Err` where the mask isn't one of the
+    /// parameters.
+    fn spell_into(&self, mask: u8, slice: &mut [u8]) -> std::result::Result<Option<Error>, NoMask>;
+
+    /// Every spelling, by its mask.
+    fn all_spellings(&self, alloc: Global) -> Result<Vec<Vec<u8>>>;
 }
 
-/// `pss-spellings HEX`: how many spellings the parameters of the text have, and these by their masks.
-pub fn pss_spellings(alloc: Global, arguments: &mut Arguments<'_>) -> Answer {
-    let bytes = arguments.bytes(alloc)?;
-    let Ok(params) = RsaPssParamsRef::try_from(bytes.as_slice()) else {
-        return Err(Trouble::Malformed);
-    };
-    let answer = listed(alloc, params.spellings(alloc))?;
-    let Ok(params) = RsaPssParamsOwned::from_der(alloc, bytes.as_slice()) else {
-        return Err(Trouble::Malformed);
-    };
-    agreed(
-        alloc,
-        answer,
-        "owned",
-        listed(alloc, params.spellings(alloc))?,
-    )
-}
+/// A mask is as great as the number of spellings, or greater.
+#[derive(Drop)]
+pub struct NoMask;
 
-/// `oaep-spellings HEX`: the same.
-pub fn oaep_spellings(alloc: Global, arguments: &mut Arguments<'_>) -> Answer {
-    let bytes = arguments.bytes(alloc)?;
-    let Ok(params) = RsaOaepParamsRef::try_from(bytes.as_slice()) else {
-        return Err(Trouble::Malformed);
-    };
-    let answer = listed(alloc, params.spellings(alloc))?;
-    let Ok(params) = RsaOaepParamsOwned::from_der(alloc, bytes.as_slice()) else {
-        return Err(Trouble::Malformed);
-    };
-    agreed(
-        alloc,
-        answer,
-        "owned",
-        listed(alloc, params.spellings(alloc))?,
-    )
-}
-
-/// `pss-spell M N HEX`: what a slice of N bytes holds after the spelling under the mask M was to be written into it.
-pub fn pss_spell(alloc: Global, arguments: &mut Arguments<'_>) -> Answer {
-    let (mask, room) = (arguments.number::<u8>()?, arguments.number::<usize>()?);
-    let bytes = arguments.bytes(alloc)?;
-    let Ok(params) = RsaPssParamsRef::try_from(bytes.as_slice()) else {
-        return Err(Trouble::Malformed);
-    };
-    let defaults = params.default_fields();
-    match 2_u32.checked_pow(u32::from(defaults)) {
-        Some(masks) if u32::from(mask) < masks => {
-            let mut slice = untouched(alloc, room)?;
-            let answer = params.encode_spelling(mask, slice.as_mut_slice());
-            after(alloc, answer, slice.as_slice())
+impl<P: AnyValue> Spelled for RsaPssParams<P> {
+    fn spell_into(&self, mask: u8, slice: &mut [u8]) -> std::result::Result<Option<Error>, NoMask> {
+        match 2_u32.checked_pow(u32::from(self.default_fields())) {
+            Some(masks) if u32::from(mask) < masks => Ok(self.encode_spelling(mask, slice).err()),
+            _ => Err(NoMask),
         }
-        _ => Err(Trouble::Malformed),
+    }
+
+    fn all_spellings(&self, alloc: Global) -> Result<Vec<Vec<u8>>> {
+        self.spellings(alloc)
     }
 }
 
-/// `oaep-spell M N HEX`: the same.
-pub fn oaep_spell(alloc: Global, arguments: &mut Arguments<'_>) -> Answer {
-    let (mask, room) = (arguments.number::<u8>()?, arguments.number::<usize>()?);
-    let bytes = arguments.bytes(alloc)?;
-    let Ok(params) = RsaOaepParamsRef::try_from(bytes.as_slice()) else {
-        return Err(Trouble::Malformed);
-    };
-    let defaults = params.default_fields();
-    match 2_u32.checked_pow(u32::from(defaults)) {
-        Some(masks) if u32::from(mask) < masks => {
-            let mut slice = untouched(alloc, room)?;
-            let answer = params.encode_spelling(mask, slice.as_mut_slice());
-            after(alloc, answer, slice.as_slice())
+impl<P: AnyValue> Spelled for RsaOaepParams<P> {
+    fn spell_into(&self, mask: u8, slice: &mut [u8]) -> std::result::Result<Option<Error>, NoMask> {
+        match 2_u32.checked_pow(u32::from(self.default_fields())) {
+            Some(masks) if u32::from(mask) < masks => Ok(self.encode_spelling(mask, slice).err()),
+            _ => Err(NoMask),
         }
-        _ => Err(Trouble::Malformed),
+    }
+
+    fn all_spellings(&self, alloc: Global) -> Result<Vec<Vec<u8>>> {
+        self.spellings(alloc)
+    }
+}
+
+/// How many spellings the parameters of the text have, and these by their masks.
+fn listed<'a, T: Decode<&'a [u8], Global> + Spelled>(to: &mut Told, bytes: &'a [u8]) {
+    let Ok(params) = T::from_der(to.alloc(), bytes) else {
+        return to.malformed();
+    };
+    match params.all_spellings(to.alloc()) {
+        Ok(texts) => {
+            to.number(texts.len());
+            for text in &texts {
+                to.text(" ");
+                to.digits(text.as_slice());
+            }
+        }
+        Err(error) => error.told(to),
+    }
+}
+
+/// `pss-spellings HEX`, `oaep-spellings HEX`: these of the borrowed parameters, and of those that own their parts.
+pub fn spellings<'a, B: Decode<&'a [u8], Global> + Spelled, O: Decode<&'a [u8], Global> + Spelled>(
+    to: &mut Told,
+    bytes: &'a [u8],
+) {
+    listed::<B>(to, bytes);
+    to.way("owned");
+    listed::<O>(to, bytes);
+}
+
+/// `pss-spell M N HEX`, `oaep-spell M N HEX`: what a slice of N bytes holds after the spelling under the mask M was to be
+/// written into it.
+pub fn spell<'a, T: Decode<&'a [u8], Global> + Spelled>(
+    to: &mut Told,
+    mask: u8,
+    room: usize,
+    bytes: &'a [u8],
+) {
+    let Ok(params) = T::from_der(to.alloc(), bytes) else {
+        return to.malformed();
+    };
+    let mut slice = untouched(to, room);
+    match params.spell_into(mask, slice.as_mut_slice()) {
+        Ok(refusal) => after(to, refusal, slice.as_slice()),
+        Err(NoMask) => to.malformed(),
     }
 }

@@ -1,152 +1,219 @@
-//! The words of rows. Each function tries its own and hands what it doesn't know to the next.
-use crate::answer::{Answer, Trouble};
-use crate::arguments::Arguments;
+//! The words of rows, by what they are given. Each function answers whether the word is one of its own.
 use crate::damaged::{self, Oaep, Private, Pss, Public};
-use crate::{
-    algorithms, containers, fields, keys, lengths, parameters, refusals, spellings, values,
+use crate::fields::{self, Part};
+use crate::read::{borrowed, both, owned, read};
+use crate::spellings::{spell, spellings};
+use crate::told::Told;
+use crate::written::{into_both, read_into, written};
+use crate::{algorithms, containers, keys, lengths, parameters, refusals, values};
+use der_core::{OctetStringRef, Uint, UintRef};
+use pkcs1::{
+    OtherPrimeInfo, RsaOaepParamsOwned, RsaOaepParamsRef, RsaPrivateKeyOwned, RsaPrivateKeyRef,
+    RsaPssParamsOwned, RsaPssParamsRef, RsaPublicKeyRef, TrailerField, Version, algorithm_id,
 };
-use std::alloc::Global;
+use pkcs8_core::PrivateKeyInfoRef;
+use spki_core::{AlgorithmIdentifier, AlgorithmIdentifierRef, Any, AnyRef, ObjectIdentifier};
 use uses::{Sha1, Sha256};
 
-/// The answer of a row's word to what stands behind it.
-pub fn answer(alloc: Global, mut arguments: Arguments<'_>) -> Answer {
-    let word = arguments.word()?;
-    let answer = kernel_word(alloc, word, &mut arguments)?;
-    arguments.end()?;
-    Ok(answer)
+/// Words that are given nothing.
+pub fn alone(to: &mut Told, word: &str) -> bool {
+    match word {
+        "length-max" => lengths::max(to),
+        "any-null" => written(to, &AnyRef::null()),
+        "algorithm-rsa" => written(to, &algorithm_id()),
+        "pss-default" => parameters::pss_default(to),
+        "oaep-default" => parameters::oaep_default(to),
+        "new-oaep-sha1" => parameters::new_oaep::<Sha1>(to),
+        "new-oaep-sha256" => parameters::new_oaep::<Sha256>(to),
+        _ => return false,
+    }
+    true
 }
 
-/// Lengths, tags, headers, refusals.
-fn kernel_word(alloc: Global, word: &str, arguments: &mut Arguments<'_>) -> Answer {
+/// Words that are given a name.
+pub fn of_name(to: &mut Told, word: &str, name: &str) -> bool {
     match word {
-        "length" => lengths::length(alloc, arguments),
-        "length-of" => lengths::length_of(alloc, arguments),
-        "length-sum" => lengths::sum(alloc, arguments),
-        "length-tlv" => lengths::for_tlv(alloc, arguments),
-        "length-max" => lengths::max(alloc),
-        "tag" => lengths::tag(alloc, arguments),
-        "tag-named" => lengths::named(alloc, arguments),
-        "tag-context" => lengths::context(alloc, arguments),
-        "header" => lengths::header(alloc, arguments),
-        "kind" => refusals::kind(alloc, arguments),
-        "error" => refusals::error(alloc, arguments),
-        _ => value_word(alloc, word, arguments),
+        "tag-named" => lengths::named(to, name),
+        "oid-named" => algorithms::oid_named(to, name),
+        "kind" => refusals::kind(to, name),
+        "error" => refusals::error(to, name),
+        _ => return false,
     }
+    true
 }
 
-/// Integers, octet strings, lists, documents, last parts.
-fn value_word(alloc: Global, word: &str, arguments: &mut Arguments<'_>) -> Answer {
+/// Words that are given a number.
+pub fn of_number(to: &mut Told, word: &str, number: usize) -> bool {
     match word {
-        "uint" => values::uint(alloc, arguments),
-        "uint-new" => values::uint_new(alloc, arguments),
-        "small" => values::small(alloc, arguments),
-        "small-new" => values::small_new(alloc, arguments),
-        "octets" => values::octets(alloc, arguments),
-        "octets-new" => values::octets_new(alloc, arguments),
-        "uints" => values::uints(alloc, arguments),
-        "document" => values::document(alloc, arguments),
-        "optional" => fields::optional(alloc, arguments),
-        "whole" => fields::whole(alloc, arguments),
-        "last" => fields::last(alloc, arguments),
-        "field" => fields::field(alloc, arguments),
-        "field-new" => fields::field_new(alloc, arguments),
-        _ => algorithm_word(alloc, word, arguments),
+        "length-of" => lengths::length_of(to, number),
+        "length-tlv" => lengths::for_tlv(to, number),
+        "tag-context" => lengths::context(to, number),
+        "small-new" => values::small_new(to, number),
+        "version-new" => keys::version_new(to, number),
+        "pub-filled" => keys::filled(to, number),
+        "new-pss-sha1" => parameters::new_pss::<Sha1>(to, number),
+        "new-pss-sha256" => parameters::new_pss::<Sha256>(to, number),
+        "label-fits-sha1" => to.yes_or_no(RsaOaepParamsRef::label_fits::<Sha1>(number)),
+        "label-fits-sha256" => to.yes_or_no(RsaOaepParamsRef::label_fits::<Sha256>(number)),
+        _ => return false,
     }
+    true
 }
 
-/// Identifiers, texts of any tag, algorithms.
-fn algorithm_word(alloc: Global, word: &str, arguments: &mut Arguments<'_>) -> Answer {
+/// Words that are given bytes.
+pub fn of_bytes(to: &mut Told, word: &str, bytes: &[u8]) -> bool {
+    of_kernel_text(to, word, bytes)
+        || of_algorithm_text(to, word, bytes)
+        || of_key_text(to, word, bytes)
+        || of_parameter_text(to, word, bytes)
+        || of_damaged_text(to, word, bytes)
+}
+
+/// Lengths, tags, headers, integers, octet strings, lists, documents, last parts.
+fn of_kernel_text(to: &mut Told, word: &str, bytes: &[u8]) -> bool {
     match word {
-        "oid" => algorithms::oid(alloc, arguments),
-        "oid-new" => algorithms::oid_new(alloc, arguments),
-        "oid-named" => algorithms::oid_named(alloc, arguments),
-        "any" => algorithms::any(alloc, arguments),
-        "any-new" => algorithms::any_new(alloc, arguments),
-        "any-null" => algorithms::null(alloc),
-        "anys" => algorithms::anys(alloc, arguments),
-        "as-small" => algorithms::as_small(alloc, arguments),
-        "as-uint" => algorithms::as_uint(alloc, arguments),
-        "as-octets" => algorithms::as_octets(alloc, arguments),
-        "as-pub" => algorithms::as_public_key(alloc, arguments),
-        "algorithm" => algorithms::algorithm(alloc, arguments),
-        "algorithms" => algorithms::algorithms(alloc, arguments),
-        "algorithm-rsa" => algorithms::rsa_encryption(alloc),
-        "assert-oid" => algorithms::asserted(alloc, arguments),
-        "mask" => algorithms::mask(alloc, arguments),
-        _ => key_word(alloc, word, arguments),
+        "length" => lengths::length(to, bytes),
+        "tag" => lengths::tag(to, bytes),
+        "header" => lengths::header(to, bytes),
+        "uint" => both::<UintRef, Uint>(to, bytes),
+        "uint-new" => values::uint_new(to, bytes),
+        "uints" => owned::<Vec<Uint>>(to, bytes),
+        "small" => borrowed::<u8>(to, bytes),
+        "octets" => borrowed::<OctetStringRef>(to, bytes),
+        "octets-new" => values::octets_new(to, bytes),
+        "document" => values::document(to, bytes),
+        "optional" => fields::read_part(to, bytes, Part::Optional),
+        "whole" => fields::read_part(to, bytes, Part::Whole),
+        "last" => fields::read_part(to, bytes, Part::Last),
+        _ => return false,
     }
+    true
+}
+
+/// Identifiers, texts of any tag, algorithms; a mask is an identifier whose parameters are one.
+fn of_algorithm_text(to: &mut Told, word: &str, bytes: &[u8]) -> bool {
+    match word {
+        "oid" => borrowed::<ObjectIdentifier>(to, bytes),
+        "oid-new" => algorithms::oid_new(to, bytes),
+        "any" => both::<AnyRef, Any>(to, bytes),
+        "anys" => owned::<Vec<Any>>(to, bytes),
+        "algorithm" => algorithms::algorithm(to, bytes),
+        "algorithms" => owned::<Vec<AlgorithmIdentifier<Any>>>(to, bytes),
+        "mask" => both::<
+            AlgorithmIdentifier<AlgorithmIdentifierRef>,
+            AlgorithmIdentifier<AlgorithmIdentifier<Any>>,
+        >(to, bytes),
+        _ => return false,
+    }
+    true
 }
 
 /// Keys, and containers of them.
-fn key_word(alloc: Global, word: &str, arguments: &mut Arguments<'_>) -> Answer {
+fn of_key_text(to: &mut Told, word: &str, bytes: &[u8]) -> bool {
     match word {
-        "version" => keys::version(alloc, arguments),
-        "version-new" => keys::version_new(alloc, arguments),
-        "pub" => keys::public_key(alloc, arguments),
-        "pub-into" => keys::public_key_into(alloc, arguments),
-        "pub-filled" => keys::filled(alloc, arguments),
-        "priv" => keys::private_key(alloc, arguments),
-        "priv-into" => keys::private_key_into(alloc, arguments),
-        "priv-rooms" => keys::private_key_rooms(alloc, arguments),
-        "priv-octets" => keys::from_octets(alloc, arguments),
-        "priv-pub" => keys::public_of_private(alloc, arguments),
-        "priv-debug" => keys::debug(alloc, arguments),
-        "priv-empty-list" => keys::empty_list(alloc, arguments),
-        "prime" => keys::other_prime(alloc, arguments),
-        "primes" => keys::other_primes(alloc, arguments),
-        "info" => containers::info(alloc, arguments),
-        "info-into" => containers::info_into(alloc, arguments),
-        _ => parameter_word(alloc, word, arguments),
+        "version" => borrowed::<Version>(to, bytes),
+        "pub" => keys::public_key(to, bytes),
+        "priv" => keys::private_key(to, bytes),
+        "priv-rooms" => keys::rooms(to, bytes),
+        "priv-octets" => keys::from_octets(to, bytes),
+        "priv-pub" => keys::public_of_private(to, bytes),
+        "priv-debug" => keys::debug(to, bytes),
+        "prime" => both::<OtherPrimeInfo<UintRef>, OtherPrimeInfo<Uint>>(to, bytes),
+        "primes" => keys::other_primes(to, bytes),
+        "info" => containers::info(to, bytes),
+        _ => return false,
     }
+    true
 }
 
-/// Parameters.
-fn parameter_word(alloc: Global, word: &str, arguments: &mut Arguments<'_>) -> Answer {
+/// Parameters, those that the shortest text alone has among them, and a label.
+fn of_parameter_text(to: &mut Told, word: &str, bytes: &[u8]) -> bool {
     match word {
-        "trailer" => parameters::trailer(alloc, arguments),
-        "pss" => parameters::pss(alloc, arguments),
-        "pss-into" => parameters::pss_into(alloc, arguments),
-        "pss-default" => parameters::pss_default(alloc),
-        "pss-strict" => parameters::pss_strict(alloc, arguments),
-        "pss-spell" => spellings::pss_spell(alloc, arguments),
-        "pss-spellings" => spellings::pss_spellings(alloc, arguments),
-        "pss-same" => parameters::pss_same(alloc, arguments),
-        "oaep" => parameters::oaep(alloc, arguments),
-        "oaep-into" => parameters::oaep_into(alloc, arguments),
-        "oaep-default" => parameters::oaep_default(alloc),
-        "oaep-strict" => parameters::oaep_strict(alloc, arguments),
-        "oaep-spell" => spellings::oaep_spell(alloc, arguments),
-        "oaep-spellings" => spellings::oaep_spellings(alloc, arguments),
-        "oaep-same" => parameters::oaep_same(alloc, arguments),
-        _ => made_word(alloc, word, arguments),
+        "trailer" => borrowed::<TrailerField>(to, bytes),
+        "pss" => parameters::pss(to, bytes),
+        "pss-strict" => read(to, bytes, RsaPssParamsRef::from_der_strict(bytes)),
+        "pss-spellings" => spellings::<RsaPssParamsRef, RsaPssParamsOwned>(to, bytes),
+        "oaep" => parameters::oaep(to, bytes),
+        "oaep-strict" => read(to, bytes, RsaOaepParamsRef::from_der_strict(bytes)),
+        "oaep-spellings" => spellings::<RsaOaepParamsRef, RsaOaepParamsOwned>(to, bytes),
+        "label-sha1" => parameters::with_label::<Sha1>(to, bytes),
+        "label-sha256" => parameters::with_label::<Sha256>(to, bytes),
+        _ => return false,
     }
+    true
 }
 
-/// Parameters that are made of a hash function.
-fn made_word(alloc: Global, word: &str, arguments: &mut Arguments<'_>) -> Answer {
+/// Texts that are damaged.
+fn of_damaged_text(to: &mut Told, word: &str, bytes: &[u8]) -> bool {
     match word {
-        "new-pss-sha1" => parameters::new_pss::<Sha1>(alloc, arguments),
-        "new-pss-sha256" => parameters::new_pss::<Sha256>(alloc, arguments),
-        "new-oaep-sha1" => parameters::new_oaep::<Sha1>(alloc),
-        "new-oaep-sha256" => parameters::new_oaep::<Sha256>(alloc),
-        "label-sha1" => parameters::with_label::<Sha1>(alloc, arguments),
-        "label-sha256" => parameters::with_label::<Sha256>(alloc, arguments),
-        "label-fits-sha1" => parameters::label_fits::<Sha1>(alloc, arguments),
-        "label-fits-sha256" => parameters::label_fits::<Sha256>(alloc, arguments),
-        _ => damaged_word(alloc, word, arguments),
+        "changed-pub" => damaged::changed::<Public>(to, bytes),
+        "changed-priv" => damaged::changed::<Private>(to, bytes),
+        "changed-pss" => damaged::changed::<Pss>(to, bytes),
+        "changed-oaep" => damaged::changed::<Oaep>(to, bytes),
+        "types" => damaged::types(to, bytes),
+        _ => return false,
     }
+    true
 }
 
-/// Texts that were damaged.
-fn damaged_word(alloc: Global, word: &str, arguments: &mut Arguments<'_>) -> Answer {
+/// Words that are given two numbers.
+pub fn of_numbers(to: &mut Told, word: &str, first: usize, second: usize) -> bool {
     match word {
-        "changed-pub" => damaged::changed::<Public>(alloc, arguments),
-        "changed-priv" => damaged::changed::<Private>(alloc, arguments),
-        "changed-pss" => damaged::changed::<Pss>(alloc, arguments),
-        "changed-oaep" => damaged::changed::<Oaep>(alloc, arguments),
-        "types" => damaged::types(alloc, arguments),
-        "joined-pss" => damaged::joined::<Pss>(alloc, arguments),
-        "joined-oaep" => damaged::joined::<Oaep>(alloc, arguments),
-        _ => Err(Trouble::Malformed),
+        "length-sum" => lengths::sum(to, first, second),
+        "field-new" => fields::field_new(to, first, second),
+        _ => return false,
     }
+    true
+}
+
+/// Words that are given a number, mostly that of the bytes of a slice, and a text; `TYPE-into N HEX` asks what the slice
+/// holds after what the text means was to be written into it.
+pub fn of_room(to: &mut Told, word: &str, room: usize, bytes: &[u8]) -> bool {
+    match word {
+        "field" => fields::field(to, room, bytes),
+        "pub-into" => read_into::<RsaPublicKeyRef>(to, room, bytes),
+        "priv-into" => into_both::<RsaPrivateKeyRef, RsaPrivateKeyOwned>(to, room, bytes),
+        "priv-empty-list" => keys::empty_list(to, room, bytes),
+        "info-into" => read_into::<PrivateKeyInfoRef>(to, room, bytes),
+        "pss-into" => into_both::<RsaPssParamsRef, RsaPssParamsOwned>(to, room, bytes),
+        "oaep-into" => into_both::<RsaOaepParamsRef, RsaOaepParamsOwned>(to, room, bytes),
+        _ => return false,
+    }
+    true
+}
+
+/// Words that are given two texts; the first of those that read contents under another tag is the tag's octet.
+pub fn of_texts(to: &mut Told, word: &str, first: &[u8], second: &[u8]) -> bool {
+    match word {
+        "any-new" => algorithms::any_new(to, first, second),
+        "as-small" => algorithms::read_as::<u8>(to, first, second),
+        "as-uint" => algorithms::read_as::<UintRef>(to, first, second),
+        "as-octets" => algorithms::read_as::<OctetStringRef>(to, first, second),
+        "as-pub" => algorithms::read_as::<RsaPublicKeyRef>(to, first, second),
+        "assert-oid" => algorithms::asserted(to, first, second),
+        "pss-same" => parameters::pss_same(to, first, second),
+        "oaep-same" => parameters::oaep_same(to, first, second),
+        _ => return false,
+    }
+    true
+}
+
+/// Words that are given a mask, the length of a slice, and a text.
+pub fn of_mask(to: &mut Told, word: &str, mask: u8, room: usize, bytes: &[u8]) -> bool {
+    match word {
+        "pss-spell" => spell::<RsaPssParamsRef>(to, mask, room, bytes),
+        "oaep-spell" => spell::<RsaOaepParamsRef>(to, mask, room, bytes),
+        _ => return false,
+    }
+    true
+}
+
+/// Words that are given a number and a list of texts.
+pub fn of_list(to: &mut Told, word: &str, number: u32, texts: &[Vec<u8>]) -> bool {
+    match word {
+        "joined-pss" => damaged::joined::<Pss>(to, number, texts),
+        "joined-oaep" => damaged::joined::<Oaep>(to, number, texts),
+        _ => return false,
+    }
+    true
 }
