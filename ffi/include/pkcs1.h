@@ -10,7 +10,7 @@
  *   `out` is as it was.
  * Structs: one that a call fills may hold anything before, so `struct pkcs1_public_key key;` will do. One that a call
  *   reads has its fields set; `data` may be null where `len` is 0, and where `has_..` is false the fields behind it aren't
- *   read. `{0}` is such a struct.
+ *   read. `{0}` is such a struct (`{}` in C++).
  * Numbers are unsigned, most significant octet first. Writing takes them with or without zeros in front, and a number has
  *   at least one octet; reading gives them without zeros in front (the number 0 is one octet).
  * Lifetimes: reading copies no number. A `pkcs1_bytes` that a decoder fills points into `der` (or into the library, for a
