@@ -76,6 +76,7 @@ static void one_other_prime(void) {
     CHECK(memcmp(&others[1], &marks[1], sizeof marks[1]) == 0);
     CHECK(pkcs1_private_key_encode(&key, NULL, 0, out, sizeof out, &len) == PKCS1_OTHER_PRIMES && len == 77);
     CHECK(pkcs1_private_key_encode(&key, others, 2, out, sizeof out, &len) == PKCS1_OTHER_PRIMES && len == 77);
+    CHECK(pkcs1_private_key_encode(&key, others, (size_t)1 << 60, out, sizeof out, &len) == PKCS1_OTHER_PRIMES && len == 77);
     CHECK(pkcs1_private_key_encode(&key, others, 1, out, 3, &len) == PKCS1_NO_ROOM && len == sizeof three);
     CHECK(pkcs1_private_key_encode(&key, others, 1, out, sizeof out, &len) == PKCS1_OK && len == sizeof three);
     CHECK(memcmp(out, three, len) == 0);
@@ -177,6 +178,9 @@ static void pss(void) {
     CHECK(pkcs1_pss_params_encode(&params, out, sizeof out, &len) == PKCS1_OID_MALFORMED && len == 77);
     CHECK(!pkcs1_oid_equal(&params.hash.oid, &params.hash.oid));
     params.hash.oid = pkcs1_oid_sha1;
+    params.hash.oid.len = 4;
+    CHECK(!pkcs1_oid_equal(&params.hash.oid, &pkcs1_oid_sha1) && !pkcs1_oid_equal(&pkcs1_oid_sha1, &params.hash.oid));
+    params.hash.oid = pkcs1_oid_sha1;
     params.trailer_field = 2;
     CHECK(pkcs1_pss_params_encode(&params, out, sizeof out, &len) == PKCS1_VALUE && len == 77);
     CHECK(pkcs1_pss_params_decode(no_hash, sizeof no_hash, &params) == PKCS1_OK && !params.mask_gen.has_hash);
@@ -202,6 +206,7 @@ static void absent_fields(void) {
     oaep.p_source.parameters.len = 0;
     CHECK(pkcs1_oaep_params_encode(&oaep, out, sizeof out, &len) == PKCS1_OK && len == 32);
     CHECK(pkcs1_oaep_params_decode_strict(out, len, &oaep) == PKCS1_OK);
+    CHECK(!oaep.mask_gen.has_hash && oaep.mask_gen.hash.oid.len == 0);
     CHECK(!oaep.hash.has_parameters && oaep.hash.tag == 0 && same(oaep.hash.parameters, "", 0));
     CHECK(pkcs1_oid_equal(&oaep.hash.oid, &pkcs1_oid_sha256) && !pkcs1_oid_equal(&oaep.hash.oid, &pkcs1_oid_sha384));
 }
