@@ -52,10 +52,17 @@ diff -r "$room/a b" "$room/stage/usr"
 if have pkg-config "libpkcs1.pc is not used"; then
     export PKG_CONFIG_PATH="$room/a b/lib/pkgconfig"
     [ "$(pkg-config --modversion libpkcs1)" = "$("$room/test" --version)" ] || stop "libpkcs1.pc tells another version"
-    eval "\"$CC\" -Wall -Werror \"$here/c/modulus.c\" $(pkg-config --cflags --libs libpkcs1) -Wl,-rpath,\"$room/a b/lib\" -o \"$room/shared\""
-    eval "\"$CC\" -Wall -Werror \"$here/c/modulus.c\" $(pkg-config --static --cflags --libs libpkcs1) -static -o \"$room/static\""
+    shared=$(pkg-config --cflags --libs libpkcs1)
+    static=$(pkg-config --static --cflags --libs libpkcs1)
 else
-    "$CC" "-I$room/a b/include" "$here/c/modulus.c" "-L$room/a b/lib" -lpkcs1 -Wl,-rpath,"$room/a b/lib" -o "$room/shared"
+    shared="-I\"$room/a b/include\" -L\"$room/a b/lib\" -lpkcs1"
+    static=$shared
+fi
+eval "\"$CC\" -Wall -Werror \"$here/c/modulus.c\" $shared -Wl,-rpath,\"$room/a b/lib\" -o \"$room/shared\""
+if printf 'int main(void) { return 0; }' | "$CC" -static -x c - -o "$room/empty_program" 2> "$room/log"; then
+    eval "\"$CC\" -Wall -Werror -static \"$here/c/modulus.c\" $static -o \"$room/static\""
+else
+    printf 'ffi/test.sh: there is no static C library: no program is linked with -static\n' >&2
     "$CC" "-I$room/a b/include" "$here/c/modulus.c" "$room/a b/lib/libpkcs1.a" -o "$room/static"
 fi
 "$here/build.sh" install > /dev/null 2>&1 && stop "build.sh takes wrong arguments"
