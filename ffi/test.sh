@@ -38,6 +38,8 @@ done
 "$CC" -std=c11 "${flags[@]}" -fsanitize=address,undefined -fno-sanitize-recover=all "$here/c/test.c" "$here/c/pkcs1.c" \
     "$out/proved.o" -o "$room/sanitized"
 "$room/sanitized" "$statuses"
+"$CC" -std=c99 "${flags[@]}" "$here/c/test.c" "-L$out" -lpkcs1 -Wl,-rpath,"$out" -o "$room/test_shared"
+"$room/test_shared" "$statuses"
 "$CC" -std=c99 "${flags[@]}" "$here/c/dlopen.c" -ldl -o "$room/dlopen"
 "$room/dlopen" "$out/libpkcs1.so"
 if have valgrind "the C test runs under the sanitizers alone"; then
