@@ -1,21 +1,62 @@
 #!/usr/bin/env bash
-# Builds libpkcs1 for callers in C and in Rust into ffi/out, and runs its tests: gcc, g++, binutils and cargo; valgrind
-# and openssl where they are installed. No network. .ci/run calls it behind rt ci, with --over-ci.
+# Builds libpkcs1 for callers in C and in Rust; usage says how. It needs rt, gcc and binutils, for the tests g++ and cargo
+# too; what else test.sh can use is told where it is missing. No network. .ci/run calls it behind rt ci, with --over-ci.
 set -eu
+usage="usage: ffi/build.sh                  builds libpkcs1 into ffi/out, and runs its tests
+       ffi/build.sh --over-ci        the same behind rt ci, over the libraries that it proved
+       ffi/build.sh install PREFIX   builds it, and installs it below PREFIX (below DESTDIR too, where that is set)"
 here=$(cd "$(dirname "$0")" && pwd)
 out=$here/out
-cc=${CC:-gcc}
-cxx=${CXX:-g++}
+crate=$here/../crates/pkcs1_c
+library=$crate/out/libpkcs1_c.a
+export CC=${CC:-gcc} CXX=${CXX:-g++}
 
-for tool in rt "$cc" "$cxx" ar ld nm objcopy cargo; do
-    command -v "$tool" > /dev/null || {
-        echo "ffi/build.sh: $tool isn't installed, and the library can't be built and tested without it" >&2
-        exit 1
-    }
+action=test
+prefix=
+case "$#:${1-}" in
+    0:) ;;
+    1:--over-ci) action=over-ci ;;
+    1:-h | 1:--help)
+        printf '%s\n' "$usage"
+        exit 0
+        ;;
+    2:install)
+        action=install
+        prefix=$2
+        ;;
+    *)
+        printf '%s\n' "$usage" >&2
+        exit 2
+        ;;
+esac
+
+say() {
+    printf 'ffi: %s\n' "$*"
+}
+stop() {
+    printf 'ffi/build.sh: %s\n' "$*" >&2
+    exit 1
+}
+
+tools=(rt "$CC" ar ld nm objcopy)
+[ "$action" = install ] || tools+=("$CXX" cargo)
+for tool in "${tools[@]}"; do
+    command -v "$tool" > /dev/null || stop "$tool isn't installed, and is needed"
 done
 mkdir -p "$out"
-crate=$here/../crates/pkcs1_c
 kit=$(dirname "$(rt doc)")
+
+# What the proved library is made of.
+inputs() {
+    {
+        rt version
+        cd "$here/.."
+        cat crates.txt
+        for name in der_core spki_core pkcs1_params pkcs1 pkcs8_core pkcs1_c; do
+            find "crates/$name/src" "crates/$name/specs" "crates/$name/proofs" -type f
+        done | LC_ALL=C sort | tr '\n' '\0' | xargs -0 sha256sum
+    } | sha256sum
+}
 
 # Behind rt ci, which proved the libraries below and left them, this crate alone is proved again, since rt ci builds no
 # static library, and rt lib would prove them all.
@@ -29,64 +70,76 @@ build_over_ci() {
         --antt-project "$kit/rattle/logic/antt-project.json" --logic-built "$kit/logic_built" \
         --toolchain "$kit/toolchain" -o out/libpkcs1_c.a
 }
+prove() {
+    (cd "$crate" && "$@" > "$out/rt.log" 2>&1) || {
+        cat "$out/rt.log" >&2
+        stop "the library isn't proved"
+    }
+}
+# The stamp says what the library was proved of, and which file that gave.
 build_library() {
-    if [ "${1-}" = --over-ci ]; then build_over_ci; else rt lib; fi
-}
-(cd "$crate" && build_library "$@" > "$out/rt.log" 2>&1) || {
-    cat "$out/rt.log" >&2
-    exit 1
+    local made
+    made=$(inputs)
+    if [ "$action" != over-ci ] && [ -e "$library" ] &&
+        [ "$(cat "$out/stamp" 2> /dev/null)" = "$made $(sha256sum < "$library")" ]; then
+        say "the proved library is up to date"
+        return
+    fi
+    rm -f "$out/stamp"
+    say "proving and building the library: 5 to 20 minutes the first time, by how busy the machine is; ffi/out/rt.log tells how far it is"
+    if [ "$action" = over-ci ]; then prove build_over_ci; else prove rt lib; fi
+    printf '%s\n' "$made $(sha256sum < "$library")" > "$out/stamp"
+    say "proved and built, after $SECONDS seconds"
 }
 
-# One object of the crate and of what stands for the C library's calls, in which only what the header declares is global.
-grep -o 'pkcs1_c_[a-z0-9_]*' "$here/include/pkcs1.h" | sort -u > "$out/declared"
-ld -r -o "$out/pkcs1.o" --whole-archive "$crate/out/libpkcs1_c.a" "$kit/c/liblibc_c.a"
-objcopy --keep-global-symbols="$out/declared" "$out/pkcs1.o"
-rm -f "$out/libpkcs1.a"
-ar rcs "$out/libpkcs1.a" "$out/pkcs1.o"
-"$cc" -shared -o "$out/libpkcs1.so" -Wl,-soname,libpkcs1.so "$out/pkcs1.o"
-nm -g --defined-only "$out/libpkcs1.a" | sed -n 's/^[0-9a-f]* T //p' | sort > "$out/exports.a"
-nm -D --defined-only "$out/libpkcs1.so" | sed -n 's/^[0-9a-f]* T //p' | sort > "$out/exports.so"
-for exports in exports.a exports.so; do
-    diff "$out/declared" "$out/$exports" || {
-        echo "ffi/build.sh: what the header declares (<) and $exports (>) differ" >&2
-        exit 1
-    }
-done
-sed "s|@ffi@|$here|g" "$here/pkcs1.pc.in" > "$out/pkcs1.pc"
+# One object of the crate, of what stands for the C library's calls, and of c/pkcs1.c above them. In it only what the
+# headers declare is global.
+link_library() {
+    local headers=("$here/include/pkcs1.h" "$here/include/pkcs1_c.h") exports
+    version=$(sed -n 's/^#define PKCS1_VERSION_[A-Z]* //p' "$here/include/pkcs1.h" | paste -s -d .)
+    grep -oh 'pkcs1_[a-z0-9_]*(' "${headers[@]}" | tr -d '(' > "$out/declared.names"
+    grep -h '^extern const' "${headers[@]}" | grep -o 'pkcs1_oid_[a-z0-9_]*' >> "$out/declared.names"
+    LC_ALL=C sort -u "$out/declared.names" > "$out/declared"
+    ld -r -o "$out/proved.o" --whole-archive "$library" "$kit/c/liblibc_c.a"
+    objcopy --wildcard --keep-global-symbol='pkcs1_c_*' "$out/proved.o"
+    "$CC" -std=c99 -O2 -fPIC -Wall -Wextra -Werror -pedantic "-I$here/include" -c "$here/c/pkcs1.c" -o "$out/calls.o"
+    ld -r -o "$out/pkcs1.o" "$out/proved.o" "$out/calls.o"
+    objcopy --keep-global-symbols="$out/declared" "$out/pkcs1.o"
+    rm -f "$out"/libpkcs1.*
+    ar rcs "$out/libpkcs1.a" "$out/pkcs1.o"
+    "$CC" -shared -o "$out/libpkcs1.so.$version" -Wl,-soname,libpkcs1.so.0 "$out/pkcs1.o"
+    ln -s "libpkcs1.so.$version" "$out/libpkcs1.so.0"
+    ln -s libpkcs1.so.0 "$out/libpkcs1.so"
+    nm -g --defined-only "$out/libpkcs1.a" | sed -n 's/^[0-9a-f]* [A-Z] //p' | LC_ALL=C sort > "$out/exports.a"
+    nm -D --defined-only "$out/libpkcs1.so" | sed -n 's/^[0-9a-f]* [A-Z] //p' | LC_ALL=C sort > "$out/exports.so"
+    for exports in exports.a exports.so; do
+        diff "$out/declared" "$out/$exports" || stop "what the headers declare (<) and $exports (>) differ"
+    done
+    say "ffi/out/libpkcs1.a and libpkcs1.so.$version"
+}
 
-# C, as C++ too, and with what watches memory.
-flags=(-O1 -g -Wall -Wextra -Werror -pedantic "-I$here/include")
-"$cxx" -std=c++17 "${flags[@]}" -x c++ "$here/c/header.cc" -x none "$out/libpkcs1.a" -o "$out/header"
-"$out/header"
-for name in test modulus read_key; do
-    "$cc" -std=c11 "${flags[@]}" "$here/c/$name.c" "$out/libpkcs1.a" -o "$out/$name"
-done
-"$cc" -std=c11 "${flags[@]}" -fsanitize=address,undefined -fno-sanitize-recover=all "$here/c/test.c" "$out/libpkcs1.a" -o "$out/test_sanitized"
-"$cc" -std=c11 "${flags[@]}" "$here/c/test.c" -L"$out" -lpkcs1 -Wl,-rpath,"$out" -o "$out/test_shared"
-"$out/test_sanitized"
-"$out/test_shared"
-if command -v valgrind > /dev/null; then
-    valgrind --quiet --error-exitcode=9 --leak-check=full "$out/test"
-else
-    echo "ffi/build.sh: valgrind isn't installed: the test runs under the sanitizers alone" >&2
+install_library() {
+    local root=${DESTDIR-}$prefix
+    mkdir -p "$root/include" "$root/lib/pkgconfig"
+    cp "$here/include/pkcs1.h" "$here/include/pkcs1_c.h" "$root/include"
+    cp -P "$out/libpkcs1.a" "$out/libpkcs1.so.$version" "$out/libpkcs1.so.0" "$out/libpkcs1.so" "$root/lib"
+    sed "s/@version@/$version/" "$here/libpkcs1.pc.in" > "$root/lib/pkgconfig/libpkcs1.pc"
+    chmod 644 "$root"/include/pkcs1*.h "$root/lib/libpkcs1.a" "$root/lib/pkgconfig/libpkcs1.pc"
+    say "installed below $root: include/pkcs1.h, lib/libpkcs1.a, lib/libpkcs1.so.$version, lib/pkgconfig/libpkcs1.pc"
+}
+
+if [ "$action" = install ]; then
+    case $prefix in
+        /*) ;;
+        '') stop "PREFIX is empty" ;;
+        *) prefix=$PWD/$prefix ;;
+    esac
 fi
-
-# Rust.
-cd "$here/rust"
-export PKCS1_LIB=$out CARGO_TARGET_DIR=$out/target
-cargo test --offline --locked --quiet > "$out/cargo.log" 2>&1 || {
-    cat "$out/cargo.log" >&2
-    exit 1
-}
-cargo build --offline --locked --quiet --examples
-
-# A key in a file, read by an example in each language.
-printf '\060\010\002\003\000\301\177\002\001\003' > "$out/pub.der"
-for program in "$out/modulus" "$out/target/debug/examples/modulus"; do
-    [ "$("$program" "$out/pub.der")" = c17f ] || {
-        echo "ffi/build.sh: $program doesn't print the modulus" >&2
-        exit 1
-    }
-done
-"$here/openssl.sh" "$out/read_key" "$out/target/debug/examples/read_key"
-echo "ffi: libpkcs1.a and libpkcs1.so, $(wc -l < "$out/declared") calls"
+build_library
+link_library
+if [ "$action" = install ]; then
+    install_library
+else
+    say "testing, half a minute"
+    "$here/test.sh"
+fi

@@ -52,4 +52,4 @@ openssl req -new -key "$room/key.pem" -subj /CN=a -sha1 -sigopt rsa_padding_mode
     -outform DER -out "$room/request.der"
 of_params "$room/request.der"
 again pss "$room/params.der" "$@"
-echo "ffi: $count texts that OpenSSL made are read, and written again"
+echo "ffi: $count encodings that OpenSSL made are read, and written again"

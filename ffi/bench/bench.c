@@ -7,8 +7,6 @@
 #include <string.h>
 #include <sys/resource.h>
 
-#define NO PKCS1_NO_BYTES
-#define NO_ALG { { {0}, 0 }, false, 0, NO }
 #define REFUSED ((uint64_t)-1)
 enum { OTHERS = 8, ROUNDS = 7 };
 
@@ -16,29 +14,25 @@ typedef uint64_t reads(const uint8_t *text, size_t len, size_t at);
 typedef uint64_t writes(const uint8_t *text, size_t len, size_t at, uint8_t *out, size_t room);
 
 /* This library: reading into a struct, and writing from it. */
-#define OURS(name, type, none, decode, encode)                                                                        \
+#define OURS(name, type, decode, encode)                                                                              \
     static uint64_t our_##name(const uint8_t *text, size_t len, size_t at) {                                          \
-        type value = none;                                                                                            \
+        type value;                                                                                                   \
         return decode == 0 ? at : REFUSED;                                                                            \
     }                                                                                                                 \
     static uint64_t our_##name##_again(const uint8_t *text, size_t len, size_t at, uint8_t *out, size_t room) {       \
-        type value = none;                                                                                            \
+        type value;                                                                                                   \
         size_t written = 0;                                                                                           \
         return decode == 0 && encode == 0 ? written + at : REFUSED;                                                   \
     }
-#define PUB {NO, NO}
-#define PRIV {NO, NO, NO, NO, NO, NO, NO, NO, 0}
-#define PSS {NO_ALG, {{{0}, 0}, false, NO_ALG}, 0, 0}
-#define OAEP {NO_ALG, {{{0}, 0}, false, NO_ALG}, NO_ALG}
 static struct pkcs1_other_prime others[OTHERS];
-OURS(pub, struct pkcs1_public_key, PUB, pkcs1_c_public_key_decode(text, len, &value),
-     pkcs1_c_public_key_encode(&value, out, room, &written))
-OURS(priv, struct pkcs1_private_key, PRIV, pkcs1_c_private_key_decode(text, len, &value, others, OTHERS),
-     pkcs1_c_private_key_encode(&value, others, value.other_primes, out, room, &written))
-OURS(pss, struct pkcs1_pss_params, PSS, pkcs1_c_pss_params_decode(text, len, &value),
-     pkcs1_c_pss_params_encode(&value, out, room, &written))
-OURS(oaep, struct pkcs1_oaep_params, OAEP, pkcs1_c_oaep_params_decode(text, len, &value),
-     pkcs1_c_oaep_params_encode(&value, out, room, &written))
+OURS(pub, struct pkcs1_public_key, pkcs1_public_key_decode(text, len, &value),
+     pkcs1_public_key_encode(&value, out, room, &written))
+OURS(priv, struct pkcs1_private_key, pkcs1_private_key_decode(text, len, &value, others, OTHERS),
+     pkcs1_private_key_encode(&value, others, value.other_primes, out, room, &written))
+OURS(pss, struct pkcs1_pss_params, pkcs1_pss_params_decode(text, len, &value),
+     pkcs1_pss_params_encode(&value, out, room, &written))
+OURS(oaep, struct pkcs1_oaep_params, pkcs1_oaep_params_decode(text, len, &value),
+     pkcs1_oaep_params_encode(&value, out, room, &written))
 
 /* OpenSSL: it makes numbers of its own and frees them. */
 #define THEIRS(name, type, decode, encode, release)                                                                   \
@@ -128,9 +122,6 @@ static int bench(size_t kind, const char *path) {
 }
 
 int main(int argc, char **argv) {
-    static const struct pkcs1_other_prime none = {NO, NO, NO};
-    for (int i = 0; i < OTHERS; i++)
-        others[i] = none;
     printf("%-10s %6s %10s %10s %10s %10s %10s %10s\n", "text", "octets", "read", "by rust", "by openssl", "and write",
            "by rust", "by openssl");
     for (int i = 1; i < argc; i++) {

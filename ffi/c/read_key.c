@@ -1,15 +1,12 @@
 /* read_key KIND FILE [OUT]: reads the key or the parameters in a file, prints their numbers, and writes them again to
  * OUT. KIND is pub, priv, p8, pss or oaep. */
-#include "pkcs1.h"
+#include <pkcs1.h>
 #include <stdio.h>
 #include <stdlib.h>
 #include <string.h>
 
-#define NO PKCS1_NO_BYTES
-#define NO_ALG { { {0}, 0 }, false, 0, NO }
-
-static uint8_t *text, *again;
-static size_t text_len, again_len;
+static uint8_t *der, *again;
+static size_t der_len, again_len;
 
 static void *must(void *got) {
     if (got == NULL) {
@@ -40,7 +37,7 @@ static void put_algorithm(const char *name, const struct pkcs1_algorithm *algori
         put(" parameters", algorithm->parameters);
 }
 
-/* Asks an encoder how much room the text needs, and calls it again with that. */
+/* Asks an encoder how much room the DER needs, and calls it again with that. */
 #define ENCODE(call, ...)                                                                                             \
     do {                                                                                                              \
         if (call(__VA_ARGS__, NULL, 0, &again_len) != PKCS1_NO_ROOM)                                                  \
@@ -50,21 +47,18 @@ static void put_algorithm(const char *name, const struct pkcs1_algorithm *algori
     } while (0)
 
 static void public_key(void) {
-    struct pkcs1_public_key key = {NO, NO};
-    ok(pkcs1_c_public_key_decode(text, text_len, &key));
+    struct pkcs1_public_key key;
+    ok(pkcs1_public_key_decode(der, der_len, &key));
     put("n", key.modulus);
     put("e", key.public_exponent);
-    ENCODE(pkcs1_c_public_key_encode, &key);
+    ENCODE(pkcs1_public_key_encode, &key);
 }
 
 static void private_key(void) {
-    static const struct pkcs1_other_prime none = {NO, NO, NO};
-    struct pkcs1_private_key key = {NO, NO, NO, NO, NO, NO, NO, NO, 0};
-    ok(pkcs1_c_private_key_decode(text, text_len, &key, NULL, 0));
-    struct pkcs1_other_prime *others = must(malloc((key.other_primes + 1) * sizeof none));
-    for (size_t i = 0; i < key.other_primes; i++)
-        others[i] = none;
-    ok(pkcs1_c_private_key_decode(text, text_len, &key, others, key.other_primes));
+    struct pkcs1_private_key key;
+    ok(pkcs1_private_key_decode(der, der_len, &key, NULL, 0));
+    struct pkcs1_other_prime *others = must(malloc((key.other_primes + 1) * sizeof *others));
+    ok(pkcs1_private_key_decode(der, der_len, &key, others, key.other_primes));
     put("n", key.modulus);
     put("e", key.public_exponent);
     put("d", key.private_exponent);
@@ -78,34 +72,36 @@ static void private_key(void) {
         put("d", others[i].exponent);
         put("t", others[i].coefficient);
     }
-    ENCODE(pkcs1_c_private_key_encode, &key, others, key.other_primes);
+    ENCODE(pkcs1_private_key_encode, &key, others, key.other_primes);
     free(others);
 }
 
 static void container(void) {
-    struct pkcs1_private_key_info info = {NO, false, NO};
-    struct pkcs1_private_key key = {NO, NO, NO, NO, NO, NO, NO, NO, 0};
-    ok(pkcs1_c_private_key_info_decode(text, text_len, &info, &key, NULL, 0));
+    struct pkcs1_private_key_info info;
+    struct pkcs1_private_key key;
+    ok(pkcs1_private_key_info_decode(der, der_len, &info, &key, NULL, 0));
     put("n", key.modulus);
-    ENCODE(pkcs1_c_private_key_info_encode, &info);
+    ENCODE(pkcs1_private_key_info_encode, &info);
 }
 
 static void pss(void) {
-    struct pkcs1_pss_params params = {NO_ALG, {{{0}, 0}, false, NO_ALG}, 0, 0};
-    ok(pkcs1_c_pss_params_decode(text, text_len, &params));
+    struct pkcs1_pss_params params;
+    ok(pkcs1_pss_params_decode(der, der_len, &params));
     put_algorithm("hash", &params.hash);
-    put_algorithm("mask", &params.mask_gen.hash);
+    if (params.mask_gen.has_hash)
+        put_algorithm("mask", &params.mask_gen.hash);
     printf("salt=%u\n", params.salt_len);
-    ENCODE(pkcs1_c_pss_params_encode, &params);
+    ENCODE(pkcs1_pss_params_encode, &params);
 }
 
 static void oaep(void) {
-    struct pkcs1_oaep_params params = {NO_ALG, {{{0}, 0}, false, NO_ALG}, NO_ALG};
-    ok(pkcs1_c_oaep_params_decode(text, text_len, &params));
+    struct pkcs1_oaep_params params;
+    ok(pkcs1_oaep_params_decode(der, der_len, &params));
     put_algorithm("hash", &params.hash);
-    put_algorithm("mask", &params.mask_gen.hash);
+    if (params.mask_gen.has_hash)
+        put_algorithm("mask", &params.mask_gen.hash);
     put_algorithm("source", &params.p_source);
-    ENCODE(pkcs1_c_oaep_params_encode, &params);
+    ENCODE(pkcs1_oaep_params_encode, &params);
 }
 
 int main(int argc, char **argv) {
@@ -116,8 +112,8 @@ int main(int argc, char **argv) {
         return 2;
     }
     FILE *file = must(fopen(argv[2], "rb"));
-    text = must(malloc(1 << 20));
-    text_len = fread(text, 1, 1 << 20, file);
+    der = must(malloc(1 << 20));
+    der_len = fread(der, 1, 1 << 20, file);
     fclose(file);
     for (size_t i = 0; i < sizeof kinds / sizeof kinds[0]; i++) {
         if (strcmp(argv[1], kinds[i].name) != 0)
@@ -129,7 +125,7 @@ int main(int argc, char **argv) {
                 return 1;
         }
         free(again);
-        free(text);
+        free(der);
         return 0;
     }
     fputs("read_key: an unknown kind\n", stderr);

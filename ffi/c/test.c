@@ -1,133 +1,359 @@
-#include "pkcs1.h"
+/* test STATUSES, or test --version: the calls of pkcs1.h. Structs start uninitialised, so that valgrind sees what is read of them. STATUSES is
+ * a table of inputs (rust/tests/statuses). */
+#include "pkcs1_c.h"
 #include <stdio.h>
 #include <stdlib.h>
 #include <string.h>
 
 #define CHECK(c) do { if (!(c)) { fprintf(stderr, "%s:%d: %s\n", __FILE__, __LINE__, #c); exit(1); } } while (0)
-#define NO PKCS1_NO_BYTES
-#define NO_OID { {0}, 0 }
-#define NO_ALG { NO_OID, false, 0, NO }
 
-static bool same(struct pkcs1_bytes b, const char *want, size_t n) { return b.len == n && memcmp(b.data, want, n) == 0; }
+static const uint8_t two[] = {0x30, 27, 2, 1, 0, 2, 1, 1, 2, 1, 2, 2, 1, 3, 2, 1, 4, 2, 1, 5, 2, 1, 6, 2, 1, 7, 2, 1, 8};
+static const uint8_t three[] = {0x30, 40, 2, 1, 1, 2, 1, 1, 2, 1, 2, 2, 1, 3, 2, 1, 4, 2, 1, 5, 2, 1, 6, 2, 1, 7, 2, 1, 8,
+                                0x30, 11, 0x30, 9, 2, 1, 9, 2, 1, 10, 2, 1, 11};
+
+static bool same(struct pkcs1_bytes b, const char *want, size_t n) {
+    return b.data != NULL && b.len == n && memcmp(b.data, want, n) == 0;
+}
+
+static void *filled(size_t n) {
+    void *made = malloc(n);
+    CHECK(made != NULL);
+    return memset(made, 0xa5, n);
+}
 
 static void public_keys(void) {
-    static const uint8_t text[] = {0x30, 0x08, 0x02, 0x03, 0x00, 0xc1, 0x7f, 0x02, 0x01, 0x03};
-    struct pkcs1_public_key key = {NO, NO}, old = key;
-    uint8_t *heap = malloc(sizeof text); /* exactly: valgrind sees a read past the end */
-    memcpy(heap, text, sizeof text);
-    CHECK(pkcs1_c_public_key_decode(heap, sizeof text, &key) == PKCS1_OK);
+    static const uint8_t der[] = {0x30, 0x08, 0x02, 0x03, 0x00, 0xc1, 0x7f, 0x02, 0x01, 0x03};
+    struct pkcs1_public_key key, empty = {0};
+    uint8_t *heap = filled(sizeof der); /* exactly: valgrind sees a read past the end */
+    size_t len = 99;
+    memcpy(heap, der, sizeof der);
+    CHECK(pkcs1_public_key_decode(heap, sizeof der, &key) == PKCS1_OK);
     CHECK(same(key.modulus, "\xc1\x7f", 2) && same(key.public_exponent, "\x03", 1));
     CHECK(key.modulus.data == heap + 5 && key.public_exponent.data == heap + 9);
-    size_t len = 99;
-    CHECK(pkcs1_c_public_key_encode(&key, NULL, 0, &len) == PKCS1_NO_ROOM && len == sizeof text);
-    uint8_t *out = malloc(len);
-    CHECK(pkcs1_c_public_key_encode(&key, out, len - 1, &len) == PKCS1_NO_ROOM && len == sizeof text);
-    CHECK(pkcs1_c_public_key_encode(&key, out, len, &len) == PKCS1_OK && len == sizeof text && memcmp(out, text, len) == 0);
+    CHECK(pkcs1_public_key_encode(&key, NULL, 0, &len) == PKCS1_NO_ROOM && len == sizeof der);
+    uint8_t *out = filled(len);
+    CHECK(pkcs1_public_key_encode(&key, out, len - 1, &len) == PKCS1_NO_ROOM && len == sizeof der && out[0] == 0xa5);
+    CHECK(pkcs1_public_key_encode(&key, out, len, &len) == PKCS1_OK && len == sizeof der && memcmp(out, der, len) == 0);
     struct pkcs1_public_key padded = {{(const uint8_t *)"\0\0\xc1\x7f", 4}, {(const uint8_t *)"\3", 1}};
     memset(out, 0, len);
-    CHECK(pkcs1_c_public_key_encode(&padded, out, len, &len) == PKCS1_OK && memcmp(out, text, sizeof text) == 0);
-    struct pkcs1_public_key empty = {NO, NO};
-    CHECK(pkcs1_c_public_key_encode(&empty, out, len, &len) == PKCS1_LENGTH && len == sizeof text && out[0] == 0x30);
-    for (size_t n = 0; n < sizeof text; n++) { /* each beginning is refused, and the struct stays */
-        uint8_t *cut = malloc(n ? n : 1);
-        memcpy(cut, text, n);
-        struct pkcs1_public_key k = old;
-        CHECK(pkcs1_c_public_key_decode(cut, n, &k) != PKCS1_OK && memcmp(&k, &old, sizeof k) == 0);
+    CHECK(pkcs1_public_key_encode(&padded, out, len, &len) == PKCS1_OK && memcmp(out, der, sizeof der) == 0);
+    CHECK(pkcs1_public_key_encode(&empty, out, len, &len) == PKCS1_LENGTH && len == sizeof der && out[0] == 0x30);
+    for (size_t n = 0; n < sizeof der; n++) { /* each beginning is refused, and the struct stays */
+        uint8_t *cut = filled(n + 1);
+        struct pkcs1_public_key old = key;
+        memcpy(cut + 1, der, n);
+        CHECK(pkcs1_public_key_decode(cut + 1, n, &key) != PKCS1_OK && memcmp(&key, &old, sizeof key) == 0);
         free(cut);
     }
-    CHECK(pkcs1_c_public_key_decode(NULL, 0, &key) == PKCS1_INCOMPLETE);
+    CHECK(pkcs1_public_key_decode(NULL, 0, &key) == PKCS1_INCOMPLETE);
     free(out);
     free(heap);
 }
 
 static void private_keys(void) {
-    static const uint8_t two[] = {0x30, 27, 2, 1, 0, 2, 1, 1, 2, 1, 2, 2, 1, 3, 2, 1, 4, 2, 1, 5, 2, 1, 6, 2, 1, 7, 2, 1, 8};
-    static const uint8_t three[] = {0x30, 40, 2, 1, 1, 2, 1, 1, 2, 1, 2, 2, 1, 3, 2, 1, 4, 2, 1, 5, 2, 1, 6, 2, 1, 7, 2, 1, 8,
-                                    0x30, 11, 0x30, 9, 2, 1, 9, 2, 1, 10, 2, 1, 11};
-    struct pkcs1_private_key key = {NO, NO, NO, NO, NO, NO, NO, NO, 0};
-    struct pkcs1_other_prime others[2] = {{NO, NO, NO}, {NO, NO, NO}};
+    struct pkcs1_private_key key, empty = {0};
     uint8_t out[64];
     size_t len = 0;
-    CHECK(pkcs1_c_private_key_decode(two, sizeof two, &key, NULL, 0) == PKCS1_OK && key.other_primes == 0);
-    CHECK(same(key.modulus, "\1", 1) && same(key.coefficient, "\10", 1));
-    CHECK(pkcs1_c_private_key_encode(&key, NULL, 0, out, sizeof out, &len) == PKCS1_OK && len == sizeof two && memcmp(out, two, len) == 0);
-    CHECK(pkcs1_c_private_key_decode(three, sizeof three, &key, others, 2) == PKCS1_OK && key.other_primes == 1);
+    CHECK(pkcs1_private_key_decode(two, sizeof two, &key, NULL, 0) == PKCS1_OK && key.other_primes == 0);
+    CHECK(same(key.modulus, "\1", 1) && same(key.public_exponent, "\2", 1) && same(key.private_exponent, "\3", 1));
+    CHECK(same(key.prime1, "\4", 1) && same(key.prime2, "\5", 1) && same(key.exponent1, "\6", 1));
+    CHECK(same(key.exponent2, "\7", 1) && same(key.coefficient, "\10", 1));
+    CHECK(pkcs1_private_key_encode(&key, NULL, 0, out, sizeof out, &len) == PKCS1_OK && len == sizeof two);
+    CHECK(memcmp(out, two, len) == 0);
+    CHECK(pkcs1_private_key_encode(&empty, NULL, 0, out, sizeof out, &len) == PKCS1_LENGTH && len == sizeof two);
+}
+
+/* One other prime: the array's first element is filled, and no other. */
+static void one_other_prime(void) {
+    struct pkcs1_private_key key, old;
+    struct pkcs1_other_prime others[2], marks[2];
+    uint8_t out[64];
+    size_t len = 77;
+    memset(marks, 0xa5, sizeof marks);
+    memcpy(others, marks, sizeof marks);
+    CHECK(pkcs1_private_key_decode(three, sizeof three, &key, others, 2) == PKCS1_OK && key.other_primes == 1);
     CHECK(same(others[0].prime, "\11", 1) && same(others[0].exponent, "\12", 1) && same(others[0].coefficient, "\13", 1));
-    CHECK(pkcs1_c_private_key_encode(&key, NULL, 0, out, sizeof out, &len) == PKCS1_OTHER_PRIMES);
-    CHECK(pkcs1_c_private_key_encode(&key, others, 1, out, 3, &len) == PKCS1_NO_ROOM && len == sizeof three);
-    CHECK(pkcs1_c_private_key_encode(&key, others, 1, out, sizeof out, &len) == PKCS1_OK && len == sizeof three && memcmp(out, three, len) == 0);
-    CHECK(pkcs1_c_private_key_decode(three, sizeof three, &key, NULL, 0) == PKCS1_OK && key.other_primes == 1);
-    CHECK(pkcs1_c_private_key_decode(three, sizeof three - 1, &key, NULL, 0) != PKCS1_OK);
+    CHECK(memcmp(&others[1], &marks[1], sizeof marks[1]) == 0);
+    CHECK(pkcs1_private_key_encode(&key, NULL, 0, out, sizeof out, &len) == PKCS1_OTHER_PRIMES && len == 77);
+    CHECK(pkcs1_private_key_encode(&key, others, 2, out, sizeof out, &len) == PKCS1_OTHER_PRIMES && len == 77);
+    CHECK(pkcs1_private_key_encode(&key, others, (size_t)1 << 60, out, sizeof out, &len) == PKCS1_OTHER_PRIMES && len == 77);
+    CHECK(pkcs1_private_key_encode(&key, others, 1, out, 3, &len) == PKCS1_NO_ROOM && len == sizeof three);
+    CHECK(pkcs1_private_key_encode(&key, others, 1, out, sizeof out, &len) == PKCS1_OK && len == sizeof three);
+    CHECK(memcmp(out, three, len) == 0);
+    others[0].exponent.data = NULL;
+    others[0].exponent.len = 0;
+    CHECK(pkcs1_private_key_encode(&key, others, 1, out, sizeof out, &len) == PKCS1_LENGTH);
+    old = key;
+    memcpy(others, marks, sizeof marks);
+    CHECK(pkcs1_private_key_decode(three, sizeof three - 1, &key, others, 2) == PKCS1_INCOMPLETE);
+    CHECK(memcmp(&key, &old, sizeof key) == 0 && memcmp(others, marks, sizeof marks) == 0);
+    CHECK(pkcs1_private_key_decode(three, sizeof three, &key, NULL, 0) == PKCS1_OK && key.other_primes == 1);
+}
+
+/* The key above with this many other primes, in an encoding of fewer than 128 octets. */
+static size_t with_others(uint8_t *der, size_t count) {
+    size_t len = 27;
+    memcpy(der, two, sizeof two);
+    der[4] = 1;
+    der[len + 2] = 0x30;
+    der[len + 3] = (uint8_t)(11 * count);
+    for (size_t i = 0; i < count; i++) {
+        uint8_t prime[] = {0x30, 9, 2, 1, (uint8_t)(3 * i + 9), 2, 1, (uint8_t)(3 * i + 10), 2, 1, (uint8_t)(3 * i + 11)};
+        memcpy(der + len + 4 + 11 * i, prime, sizeof prime);
+    }
+    der[1] = (uint8_t)(len + 2 + 11 * count);
+    return len + 4 + 11 * count;
+}
+
+/* Any number of other primes, any room for them, in PKCS #8 too. */
+static void other_primes(void) {
+    for (size_t count = 1; count <= 8; count++) {
+        uint8_t der[160], out[160], wrapped[200];
+        size_t der_len = with_others(der, count), len, wrapped_len;
+        struct pkcs1_private_key_info info = {{der, der_len}, false, {NULL, 0}}, read;
+        CHECK(pkcs1_private_key_info_encode(&info, wrapped, sizeof wrapped, &wrapped_len) == PKCS1_OK);
+        for (size_t room = 0; room <= 9; room++) {
+            struct pkcs1_private_key key, inner;
+            struct pkcs1_other_prime *others = filled(room * sizeof *others + 1), *copies = filled(room * sizeof *copies + 1);
+            size_t placed = room < count ? room : count;
+            CHECK(pkcs1_private_key_decode(der, der_len, &key, others, room) == PKCS1_OK && key.other_primes == count);
+            CHECK(pkcs1_private_key_info_decode(wrapped, wrapped_len, &read, &inner, copies, room) == PKCS1_OK);
+            CHECK(inner.other_primes == count && same(inner.coefficient, "\10", 1));
+            for (size_t i = 0; i < placed; i++) {
+                CHECK(others[i].prime.data == der + 35 + 11 * i && others[i].prime.len == 1);
+                CHECK(others[i].exponent.data[0] == 3 * i + 10 && others[i].coefficient.data[0] == 3 * i + 11);
+                CHECK(copies[i].prime.data == wrapped + wrapped_len - der_len + 35 + 11 * i);
+            }
+            for (size_t at = placed * sizeof *others; at < room * sizeof *others; at++)
+                CHECK(((uint8_t *)others)[at] == 0xa5 && ((uint8_t *)copies)[at] == 0xa5);
+            if (room >= count) {
+                CHECK(pkcs1_private_key_encode(&key, others, count, out, sizeof out, &len) == PKCS1_OK);
+                CHECK(len == der_len && memcmp(out, der, len) == 0);
+            }
+            free(others);
+            free(copies);
+        }
+    }
 }
 
 static void containers(void) {
-    static const uint8_t text[] = {0x30, 0x31, 2, 1, 0, 0x30, 13, 6, 9, 0x2a, 0x86, 0x48, 0x86, 0xf7, 0x0d, 1, 1, 1, 5, 0, 4, 29,
-                                   0x30, 27, 2, 1, 0, 2, 1, 1, 2, 1, 2, 2, 1, 3, 2, 1, 4, 2, 1, 5, 2, 1, 6, 2, 1, 7, 2, 1, 8};
-    uint8_t changed[sizeof text], out[64];
-    struct pkcs1_private_key_info info = {NO, false, NO};
-    struct pkcs1_private_key key = {NO, NO, NO, NO, NO, NO, NO, NO, 0};
-    size_t len = 0;
-    CHECK(pkcs1_c_private_key_info_decode(text, sizeof text, &info, &key, NULL, 0) == PKCS1_OK);
-    CHECK(info.private_key.data == text + 22 && info.private_key.len == 29 && !info.has_attributes);
-    CHECK(same(key.modulus, "\1", 1) && same(key.coefficient, "\10", 1) && key.other_primes == 0);
-    CHECK(pkcs1_c_private_key_info_encode(&info, out, 9, &len) == PKCS1_NO_ROOM && len == sizeof text);
-    CHECK(pkcs1_c_private_key_info_encode(&info, out, sizeof out, &len) == PKCS1_OK && len == sizeof text && memcmp(out, text, len) == 0);
-    info.has_attributes = true;
-    CHECK(pkcs1_c_private_key_info_encode(&info, out, sizeof out, &len) == PKCS1_OK && len == sizeof text + 2);
-    CHECK(pkcs1_c_private_key_info_decode(out, len, &info, &key, NULL, 0) == PKCS1_OK && info.has_attributes && info.attributes.len == 0);
-    info.private_key.len--;
-    CHECK(pkcs1_c_private_key_info_encode(&info, out, sizeof out, &len) == PKCS1_INCOMPLETE && len == sizeof text + 2);
-    memcpy(changed, text, sizeof text);
-    changed[17] = 2; /* another identifier */
-    CHECK(pkcs1_c_private_key_info_decode(changed, sizeof changed, &info, &key, NULL, 0) == PKCS1_OID_UNKNOWN);
-}
-
-static void parameters(void) {
-    static const uint8_t written[] = {0x30, 5, 0xa2, 3, 2, 1, 20};
-    static const uint8_t none[] = {0x30, 0};
-    static const uint8_t sha256[] = {0x30, 0x0f, 0xa0, 0x0d, 0x30, 0x0b, 0x06, 0x09, 0x60, 0x86, 0x48, 0x01, 0x65, 0x03, 0x04, 0x02, 0x01};
-    struct pkcs1_pss_params pss = {NO_ALG, {NO_OID, false, NO_ALG}, 0, 0};
-    struct pkcs1_oaep_params oaep = {NO_ALG, {NO_OID, false, NO_ALG}, NO_ALG};
+    static const uint8_t der[] = {0x30, 0x31, 2, 1, 0, 0x30, 13, 6, 9, 0x2a, 0x86, 0x48, 0x86, 0xf7, 0x0d, 1, 1, 1, 5, 0, 4, 29,
+                                  0x30, 27, 2, 1, 0, 2, 1, 1, 2, 1, 2, 2, 1, 3, 2, 1, 4, 2, 1, 5, 2, 1, 6, 2, 1, 7, 2, 1, 8};
     uint8_t out[64];
+    struct pkcs1_private_key_info info, old;
+    struct pkcs1_private_key key;
     size_t len = 0;
-    CHECK(pkcs1_c_pss_params_decode(none, sizeof none, &pss) == PKCS1_OK);
-    CHECK(pss.hash.oid.len == 5 && memcmp(pss.hash.oid.octets, "\x2b\x0e\x03\x02\x1a", 5) == 0);
-    CHECK(pss.hash.has_parameters && pss.hash.tag == 5 && pss.hash.parameters.len == 0 && pss.salt_len == 20 && pss.trailer_field == 1);
-    CHECK(pss.mask_gen.has_hash && pss.mask_gen.hash.oid.len == 5);
-    CHECK(pkcs1_c_pss_params_decode_strict(none, sizeof none, &pss) == PKCS1_OK);
-    CHECK(pkcs1_c_pss_params_decode(written, sizeof written, &pss) == PKCS1_OK);
-    CHECK(pkcs1_c_pss_params_decode_strict(written, sizeof written, &pss) == PKCS1_NONCANONICAL);
-    CHECK(pkcs1_c_oaep_params_decode_strict(none, sizeof none, &oaep) == PKCS1_OK && oaep.p_source.tag == 4);
-    CHECK(pkcs1_c_pss_params_encode(&pss, out, sizeof out, &len) == PKCS1_OK && len == 2 && memcmp(out, none, 2) == 0);
-    pss.salt_len = 32;
-    CHECK(pkcs1_c_pss_params_encode(&pss, out, sizeof out, &len) == PKCS1_OK && len == 7 && memcmp(out, "\x30\x05\xa2\x03\x02\x01\x20", 7) == 0);
-    pss.trailer_field = 2;
-    CHECK(pkcs1_c_pss_params_encode(&pss, out, sizeof out, &len) == PKCS1_VALUE);
-    pss.trailer_field = 1;
-    pss.hash.oid.len = 40;
-    len = 77;
-    CHECK(pkcs1_c_pss_params_encode(&pss, out, sizeof out, &len) == PKCS1_OID_MALFORMED && len == 77);
-    CHECK(pkcs1_c_oaep_params_decode(sha256, sizeof sha256, &oaep) == PKCS1_OK);
-    CHECK(oaep.hash.oid.len == 9 && !oaep.hash.has_parameters && oaep.p_source.has_parameters && oaep.p_source.tag == 4);
-    CHECK(pkcs1_c_oaep_params_encode(&oaep, out, 1, &len) == PKCS1_NO_ROOM && len == sizeof sha256);
-    CHECK(pkcs1_c_oaep_params_encode(&oaep, out, sizeof out, &len) == PKCS1_OK && memcmp(out, sha256, len) == 0);
-    oaep.p_source.parameters = (struct pkcs1_bytes){(const uint8_t *)"label", 5};
-    CHECK(pkcs1_c_oaep_params_encode(&oaep, out, sizeof out, &len) == PKCS1_OK);
-    struct pkcs1_oaep_params again = {NO_ALG, {NO_OID, false, NO_ALG}, NO_ALG};
-    CHECK(pkcs1_c_oaep_params_decode(out, len, &again) == PKCS1_OK && same(again.p_source.parameters, "label", 5));
+    CHECK(pkcs1_private_key_info_decode(der, sizeof der, &info, &key, NULL, 0) == PKCS1_OK);
+    CHECK(info.private_key.data == der + 22 && info.private_key.len == 29);
+    CHECK(!info.has_attributes && same(info.attributes, "", 0));
+    CHECK(same(key.modulus, "\1", 1) && same(key.coefficient, "\10", 1) && key.other_primes == 0);
+    CHECK(pkcs1_private_key_info_encode(&info, out, 9, &len) == PKCS1_NO_ROOM && len == sizeof der);
+    CHECK(pkcs1_private_key_info_encode(&info, out, sizeof out, &len) == PKCS1_OK && len == sizeof der && memcmp(out, der, len) == 0);
+    info.has_attributes = true;
+    info.attributes.data = NULL;
+    CHECK(pkcs1_private_key_info_encode(&info, out, sizeof out, &len) == PKCS1_OK && len == sizeof der + 2);
+    CHECK(pkcs1_private_key_info_decode(out, len, &info, &key, NULL, 0) == PKCS1_OK);
+    CHECK(info.has_attributes && same(info.attributes, "", 0));
+    old = info;
+    CHECK(pkcs1_private_key_info_decode(out, len - 1, &info, &key, NULL, 0) == PKCS1_INCOMPLETE && memcmp(&info, &old, sizeof info) == 0);
+    info.private_key.len--;
+    CHECK(pkcs1_private_key_info_encode(&info, out, sizeof out, &len) == PKCS1_INCOMPLETE && len == sizeof der + 2);
 }
 
-int main(void) {
-    public_keys();
-    private_keys();
-    containers();
-    parameters();
-    struct pkcs1_bytes version = NO;
-    pkcs1_c_version(&version);
-    CHECK(strcmp((const char *)version.data, "0.8.0") == 0 && version.len == 6);
+static void pss(void) {
+    static const uint8_t none[] = {0x30, 0};
+    static const uint8_t no_hash[] = {0x30, 0x0f, 0xa1, 0x0d, 0x30, 0x0b, 6, 9, 0x2a, 0x86, 0x48, 0x86, 0xf7, 0x0d, 1, 1, 8};
+    struct pkcs1_pss_params params, zeros = {0};
+    uint8_t out[64];
+    size_t len = 77;
+    CHECK(pkcs1_pss_params_decode(none, sizeof none, &params) == PKCS1_OK);
+    CHECK(pkcs1_oid_equal(&params.hash.oid, &pkcs1_oid_sha1) && params.hash.has_parameters && params.hash.tag == 5);
+    CHECK(same(params.hash.parameters, "", 0) && params.salt_len == 20 && params.trailer_field == 1);
+    CHECK(pkcs1_oid_equal(&params.mask_gen.oid, &pkcs1_oid_mgf1) && params.mask_gen.has_hash);
+    CHECK(pkcs1_oid_equal(&params.mask_gen.hash.oid, &pkcs1_oid_sha1));
+    CHECK(pkcs1_pss_params_encode(&zeros, out, sizeof out, &len) == PKCS1_VALUE && len == 77); /* trailer_field is 0 */
+    zeros.trailer_field = 1;
+    CHECK(pkcs1_pss_params_encode(&zeros, out, sizeof out, &len) == PKCS1_OID_MALFORMED && len == 77);
+    params.hash.oid.len = 40;
+    CHECK(pkcs1_pss_params_encode(&params, out, sizeof out, &len) == PKCS1_OID_MALFORMED && len == 77);
+    CHECK(!pkcs1_oid_equal(&params.hash.oid, &params.hash.oid));
+    params.hash.oid = pkcs1_oid_sha1;
+    params.hash.oid.len = 4;
+    CHECK(!pkcs1_oid_equal(&params.hash.oid, &pkcs1_oid_sha1) && !pkcs1_oid_equal(&pkcs1_oid_sha1, &params.hash.oid));
+    params.hash.oid = pkcs1_oid_sha1;
+    params.trailer_field = 2;
+    CHECK(pkcs1_pss_params_encode(&params, out, sizeof out, &len) == PKCS1_VALUE && len == 77);
+    CHECK(pkcs1_pss_params_decode(no_hash, sizeof no_hash, &params) == PKCS1_OK && !params.mask_gen.has_hash);
+    CHECK(params.mask_gen.hash.oid.len == 0 && !params.mask_gen.hash.has_parameters && same(params.mask_gen.hash.parameters, "", 0));
+    CHECK(pkcs1_pss_params_encode(&params, out, sizeof out, &len) == PKCS1_OK && len == sizeof no_hash && memcmp(out, no_hash, len) == 0);
+    pkcs1_pss_params_init(&params, &pkcs1_oid_sha1, 20);
+    CHECK(pkcs1_pss_params_encode(&params, out, sizeof out, &len) == PKCS1_OK && len == 2 && memcmp(out, none, 2) == 0);
+}
+
+/* What stands behind a `has_..` that is false isn't read. */
+static void absent_fields(void) {
+    struct pkcs1_oaep_params oaep;
+    uint8_t out[64];
+    size_t len;
+    oaep.hash.oid = pkcs1_oid_sha256;
+    oaep.hash.has_parameters = false;
+    oaep.mask_gen.oid = pkcs1_oid_mgf1;
+    oaep.mask_gen.has_hash = false;
+    oaep.p_source.oid = pkcs1_oid_p_specified;
+    oaep.p_source.has_parameters = true;
+    oaep.p_source.tag = 4;
+    oaep.p_source.parameters.data = NULL;
+    oaep.p_source.parameters.len = 0;
+    CHECK(pkcs1_oaep_params_encode(&oaep, out, sizeof out, &len) == PKCS1_OK && len == 32);
+    CHECK(pkcs1_oaep_params_decode_strict(out, len, &oaep) == PKCS1_OK);
+    CHECK(!oaep.mask_gen.has_hash && oaep.mask_gen.hash.oid.len == 0);
+    CHECK(!oaep.hash.has_parameters && oaep.hash.tag == 0 && same(oaep.hash.parameters, "", 0));
+    CHECK(pkcs1_oid_equal(&oaep.hash.oid, &pkcs1_oid_sha256) && !pkcs1_oid_equal(&oaep.hash.oid, &pkcs1_oid_sha384));
+}
+
+/* One hash function: the octets that the constants stand for. */
+static void made_for_a_hash(void) {
+    static const struct { const struct pkcs1_oid *oid; uint8_t last; } hashes[] = {
+        {&pkcs1_oid_sha224, 4}, {&pkcs1_oid_sha256, 1}, {&pkcs1_oid_sha384, 2}, {&pkcs1_oid_sha512, 3}};
+    uint8_t want[] = {0x30, 0x34, 0xa0, 0x0f, 0x30, 0x0d, 6, 9, 0x60, 0x86, 0x48, 1, 0x65, 3, 4, 2, 0, 5, 0,
+                      0xa1, 0x1c, 0x30, 0x1a, 6, 9, 0x2a, 0x86, 0x48, 0x86, 0xf7, 0x0d, 1, 1, 8,
+                      0x30, 0x0d, 6, 9, 0x60, 0x86, 0x48, 1, 0x65, 3, 4, 2, 0, 5, 0, 0xa2, 3, 2, 1, 32};
+    uint8_t out[96];
+    size_t len;
+    for (size_t i = 0; i < sizeof hashes / sizeof hashes[0]; i++) {
+        struct pkcs1_pss_params params;
+        struct pkcs1_oaep_params oaep;
+        want[1] = 0x34;
+        want[16] = want[46] = hashes[i].last;
+        pkcs1_pss_params_init(&params, hashes[i].oid, 32);
+        CHECK(pkcs1_pss_params_encode(&params, out, sizeof out, &len) == PKCS1_OK && len == sizeof want && memcmp(out, want, len) == 0);
+        want[1] = 0x2f;
+        pkcs1_oaep_params_init(&oaep, hashes[i].oid, NULL, 0);
+        CHECK(pkcs1_oaep_params_encode(&oaep, out, sizeof out, &len) == PKCS1_OK && len == 49 && memcmp(out, want, len) == 0);
+        pkcs1_oaep_params_init(&oaep, hashes[i].oid, (const uint8_t *)"label", 5);
+        CHECK(pkcs1_oaep_params_encode(&oaep, out, sizeof out, &len) == PKCS1_OK);
+        CHECK(pkcs1_oaep_params_decode_strict(out, len, &oaep) == PKCS1_OK && oaep.p_source.tag == 4);
+        CHECK(same(oaep.p_source.parameters, "label", 5) && pkcs1_oid_equal(&oaep.p_source.oid, &pkcs1_oid_p_specified));
+        CHECK(pkcs1_oaep_params_encode(&oaep, out, 1, &len) == PKCS1_NO_ROOM);
+    }
+    CHECK(memcmp(pkcs1_oid_rsa_encryption.octets, "\x2a\x86\x48\x86\xf7\x0d\1\1\1", 9) == 0 && pkcs1_oid_rsa_encryption.len == 9);
+}
+
+static void texts(void) {
+    char version[32];
+    sprintf(version, "%d.%d.%d", PKCS1_VERSION_MAJOR, PKCS1_VERSION_MINOR, PKCS1_VERSION_PATCH);
+    CHECK(strcmp(pkcs1_version(), version) == 0);
     CHECK(strcmp(pkcs1_strerror(PKCS1_TRAILING_DATA), "bytes follow the value") == 0);
     CHECK(strcmp(pkcs1_strerror(0), "no error") == 0 && strcmp(pkcs1_strerror(1000), "another error") == 0);
     CHECK(strcmp(pkcs1_strerror(PKCS1_OTHER_PRIMES), "the other primes are not as many as the key says") == 0);
+}
+
+/* The table. A refused struct stays; an accepted one is written again, the same octets where there is one encoding. */
+static const struct { const char *name; uint32_t status; } names[] = {
+    {"OK", PKCS1_OK}, {"INCOMPLETE", PKCS1_INCOMPLETE}, {"INDEFINITE_LENGTH", PKCS1_INDEFINITE_LENGTH},
+    {"LENGTH", PKCS1_LENGTH}, {"NONCANONICAL", PKCS1_NONCANONICAL}, {"OID_MALFORMED", PKCS1_OID_MALFORMED},
+    {"OID_UNKNOWN", PKCS1_OID_UNKNOWN}, {"OVERFLOW", PKCS1_OVERFLOW}, {"OVERLENGTH", PKCS1_OVERLENGTH},
+    {"PARAMETERS_MISSING", PKCS1_PARAMETERS_MISSING}, {"TAG_UNEXPECTED", PKCS1_TAG_UNEXPECTED},
+    {"TAG_UNKNOWN", PKCS1_TAG_UNKNOWN}, {"TRAILING_DATA", PKCS1_TRAILING_DATA}, {"VALUE", PKCS1_VALUE}};
+
+union value {
+    struct pkcs1_public_key key;
+    struct { struct pkcs1_private_key key; struct pkcs1_private_key_info info; struct pkcs1_other_prime others[2]; } priv;
+    struct pkcs1_pss_params pss;
+    struct pkcs1_oaep_params oaep;
+};
+
+static uint32_t read_row(const char *kind, const uint8_t *der, size_t len, union value *v) {
+    if (strcmp(kind, "pub") == 0) return pkcs1_public_key_decode(der, len, &v->key);
+    if (strcmp(kind, "priv") == 0) return pkcs1_private_key_decode(der, len, &v->priv.key, v->priv.others, 2);
+    if (strcmp(kind, "p8") == 0)
+        return pkcs1_private_key_info_decode(der, len, &v->priv.info, &v->priv.key, v->priv.others, 2);
+    if (strcmp(kind, "pss") == 0) return pkcs1_pss_params_decode(der, len, &v->pss);
+    if (strcmp(kind, "pss-strict") == 0) return pkcs1_pss_params_decode_strict(der, len, &v->pss);
+    if (strcmp(kind, "oaep") == 0) return pkcs1_oaep_params_decode(der, len, &v->oaep);
+    CHECK(strcmp(kind, "oaep-strict") == 0);
+    return pkcs1_oaep_params_decode_strict(der, len, &v->oaep);
+}
+
+static uint32_t write_row(const char *kind, union value *v, uint8_t *out, size_t room, size_t *len) {
+    if (strcmp(kind, "pub") == 0) return pkcs1_public_key_encode(&v->key, out, room, len);
+    if (strcmp(kind, "priv") == 0)
+        return pkcs1_private_key_encode(&v->priv.key, v->priv.others, v->priv.key.other_primes, out, room, len);
+    if (strcmp(kind, "p8") == 0) return pkcs1_private_key_info_encode(&v->priv.info, out, room, len);
+    if (strncmp(kind, "pss", 3) == 0) return pkcs1_pss_params_encode(&v->pss, out, room, len);
+    return pkcs1_oaep_params_encode(&v->oaep, out, room, len);
+}
+
+static void row(const char *kind, const char *digits, const char *name) {
+    size_t len = strcmp(digits, "-") == 0 ? 0 : strlen(digits) / 2, at = 0, again_len;
+    uint8_t *der = filled(len ? len : 1), again[256];
+    union value *value = filled(sizeof *value), *old = filled(sizeof *old);
+    for (size_t i = 0; i < len; i++) {
+        unsigned octet;
+        CHECK(sscanf(digits + 2 * i, "%2x", &octet) == 1);
+        der[i] = (uint8_t)octet;
+    }
+    while (at < sizeof names / sizeof names[0] && strcmp(names[at].name, name) != 0)
+        at++;
+    CHECK(at < sizeof names / sizeof names[0]);
+    uint32_t status = read_row(kind, der, len, value);
+    if (status != names[at].status) {
+        fprintf(stderr, "%s %s %s: %s\n", kind, digits, name, pkcs1_strerror(status));
+        exit(1);
+    }
+    if (status != PKCS1_OK) {
+        CHECK(memcmp(value, old, sizeof *value) == 0);
+    } else {
+        CHECK(write_row(kind, value, again, sizeof again, &again_len) == PKCS1_OK);
+        if (strcmp(kind, "pss") != 0 && strcmp(kind, "oaep") != 0)
+            CHECK(again_len == len && memcmp(again, der, len) == 0);
+    }
+    free(der);
+    free(value);
+    free(old);
+}
+
+static void statuses(const char *path) {
+    char line[400], kind[16], digits[300], name[32];
+    FILE *file = fopen(path, "r");
+    CHECK(file != NULL);
+    int rows = 0;
+    while (fgets(line, sizeof line, file) != NULL) {
+        if (line[0] == '#' || line[0] == '\n')
+            continue;
+        CHECK(sscanf(line, "%15s %299s %31s", kind, digits, name) == 3);
+        row(kind, digits, name);
+        rows++;
+    }
+    fclose(file);
+    CHECK(rows > 150);
+}
+
+/* The proved calls are there too, with initialised structs. */
+static void proved_calls(void) {
+    struct pkcs1_private_key key = {PKCS1_NO_BYTES, PKCS1_NO_BYTES, PKCS1_NO_BYTES, PKCS1_NO_BYTES, PKCS1_NO_BYTES,
+                                    PKCS1_NO_BYTES, PKCS1_NO_BYTES, PKCS1_NO_BYTES, 0};
+    struct pkcs1_bytes version = PKCS1_NO_BYTES;
+    CHECK(pkcs1_c_private_key_decode(two, sizeof two, &key, NULL, 0) == PKCS1_OK && same(key.modulus, "\1", 1));
+    pkcs1_c_version(&version);
+    CHECK((const char *)version.data == pkcs1_version() && version.len == 6);
+}
+
+int main(int argc, char **argv) {
+    CHECK(argc == 2);
+    if (strcmp(argv[1], "--version") == 0)
+        return puts(pkcs1_version()) == EOF;
+    public_keys();
+    private_keys();
+    one_other_prime();
+    other_primes();
+    containers();
+    pss();
+    absent_fields();
+    made_for_a_hash();
+    texts();
+    statuses(argv[1]);
+    proved_calls();
     puts("c: ok");
     return 0;
 }

@@ -1,21 +1,26 @@
-/* RSA keys and the parameters of RSASSA-PSS and RSAES-OAEP (RFC 8017) in DER (X.690): a proved reader and writer.
+/* RSA keys and RSA algorithm parameters (PKCS #1, RFC 8017), and RSA keys in PKCS #8 (RFC 5208): reading and writing DER.
+ * Binary DER alone: no PEM, no SubjectPublicKeyInfo ("BEGIN PUBLIC KEY"), nothing encrypted.
  *
- * A call answers 0 or a status below. 0 of a `.._decode` means that the whole text is one value of the type, and the
- * struct then holds that value; another status means that no value has the text, and what the pointers point to is as it
- * was. 0 of a `.._encode` means that the front of `out` is the value's one shortest text and the rest as it was, and
- * `*len` is the text's length. PKCS1_NO_ROOM: `*len` is the length that is needed; call with room 0 to ask for it. Another
- * status (but PKCS1_OUT_OF_MEMORY) means that the value has no text of at most 4294967295 octets, and then `*len` stays.
- * After every refusal `out` is as it was.
- *
- * Numbers are unsigned, most significant byte first. Writing takes them with or without zeros in front, reading gives
- * them without.
- *
- * Lifetimes: reading copies nothing. A `pkcs1_bytes` that a decoder fills points into the text (or, for a default that
- * the text leaves out, into the library), and lives as long as that. No call keeps a pointer.
+ * Status: each call returns PKCS1_OK or an error of the enum below; pkcs1_strerror gives its text.
+ * Reading (.._decode): `der` is the whole encoding. On PKCS1_OK the struct holds the value that it encodes. On an error no
+ *   value of the type has this encoding, and the struct is as it was.
+ * Writing (.._encode): on PKCS1_OK the first `*len` octets of `out` are the value's DER, and the rest is as it was. On
+ *   PKCS1_NO_ROOM `*len` is the length that is needed: call with a null `out` and room 0 to ask for it. On another error
+ *   the value has no encoding of at most 4294967295 octets (or memory is short), and `*len` is as it was. On any error
+ *   `out` is as it was.
+ * Structs: one that a call fills may hold anything before, so `struct pkcs1_public_key key;` will do. One that a call
+ *   reads has its fields set; `data` may be null where `len` is 0, and where `has_..` is false the fields behind it aren't
+ *   read. `{0}` is such a struct (`{}` in C++).
+ * Numbers are unsigned, most significant octet first. Writing takes them with or without zeros in front, and a number has
+ *   at least one octet; reading gives them without zeros in front (the number 0 is one octet).
+ * Lifetimes: reading copies no number. A `pkcs1_bytes` that a decoder fills points into `der` (or into the library, for a
+ *   default that the encoding leaves out), is never null, and is never to be freed. No call keeps a pointer.
  * Overlap: `out`, `*len` and what a decoder fills must overlap nothing else that the call is given.
- * Null: a null pointer may stand only as a call's own pointer beside a length 0. Inside a struct write PKCS1_NO_BYTES.
- * Threads: no call has state or locks, so all may be called at once, each with its own `out` and structs.
- * Memory: only pkcs1_c_private_key_encode takes some, where there are other primes, and gives it back. */
+ * Null: `der`, `others` and `out` may be null beside a length 0. Other pointers are never null.
+ * Threads: no call has state or locks, so all may be called at once.
+ * Memory: only pkcs1_private_key_encode takes some, for a key of more than two primes, and gives it back.
+ *
+ * These calls check nothing but the encoding: not that the primes make the modulus, nor that a key is strong enough. */
 #ifndef PKCS1_H
 #define PKCS1_H
 
@@ -27,123 +32,138 @@
 extern "C" {
 #endif
 
+#define PKCS1_VERSION_MAJOR 0
+#define PKCS1_VERSION_MINOR 8
+#define PKCS1_VERSION_PATCH 0
+
 enum pkcs1_status {
     PKCS1_OK = 0,
-    PKCS1_FAILED = 1, /* an earlier read failed */
-    PKCS1_INCOMPLETE = 2,
-    PKCS1_INDEFINITE_LENGTH = 3,
-    PKCS1_LENGTH = 4,
-    PKCS1_NONCANONICAL = 5,
-    PKCS1_OID_MALFORMED = 6,
-    PKCS1_OID_UNKNOWN = 7,
-    PKCS1_OVERFLOW = 8, /* a length past 4294967295 */
-    PKCS1_OVERLENGTH = 9,
-    PKCS1_PARAMETERS_MISSING = 10,
-    PKCS1_TAG_UNEXPECTED = 11,
-    PKCS1_TAG_UNKNOWN = 12,
-    PKCS1_TRAILING_DATA = 13,
-    PKCS1_VALUE = 14,
-    PKCS1_NO_ROOM = 15,
-    PKCS1_FILE = 16, /* never from these calls */
-    PKCS1_OUT_OF_MEMORY = 17,
-    PKCS1_OTHER_PRIMES = 21 /* key->other_primes isn't others_len */
+    PKCS1_FAILED = 1,              /* not returned by these calls */
+    PKCS1_INCOMPLETE = 2,          /* empty or cut off: a length says more octets than there are, or a field is missing */
+    PKCS1_INDEFINITE_LENGTH = 3,   /* BER with an indefinite length, which isn't DER */
+    PKCS1_LENGTH = 4,              /* a number without octets */
+    PKCS1_NONCANONICAL = 5,        /* not DER: needless zeros in front of a number; .._strict: a default is written out */
+    PKCS1_OID_MALFORMED = 6,       /* an identifier that is empty, cut off, not in shortest form, or over 39 octets */
+    PKCS1_OID_UNKNOWN = 7,         /* PKCS #8 with another key than RSA */
+    PKCS1_OVERFLOW = 8,            /* a length past 4294967295 */
+    PKCS1_OVERLENGTH = 9,          /* not DER: a length in more octets than it needs */
+    PKCS1_PARAMETERS_MISSING = 10, /* PKCS #8 whose rsaEncryption comes without NULL */
+    PKCS1_TAG_UNEXPECTED = 11,     /* another type: PEM, PKCS #8, SubjectPublicKeyInfo or an encrypted key, perhaps */
+    PKCS1_TAG_UNKNOWN = 12,        /* not DER of these types: a tag octet that none of them has */
+    PKCS1_TRAILING_DATA = 13,      /* octets follow the value, or a field follows that the type doesn't have there */
+    PKCS1_VALUE = 14,              /* a negative number; a version, salt length, trailer field or NULL that isn't allowed */
+    PKCS1_NO_ROOM = 15,            /* `out` is too short: `*len` tells the length that is needed */
+    PKCS1_FILE = 16,               /* not returned by these calls */
+    PKCS1_OUT_OF_MEMORY = 17,      /* only from pkcs1_private_key_encode, with other primes */
+    PKCS1_OTHER_PRIMES = 21        /* writing: key->other_primes isn't others_len */
 };
+
+/* A static text, in English, for any number. */
+const char *pkcs1_strerror(uint32_t status);
+
+/* "0.8.0": the version of the library, as the macros above tell that of the header. */
+const char *pkcs1_version(void);
 
 struct pkcs1_bytes {
     const uint8_t *data;
     size_t len;
 };
 
-/* For a struct before its first use: every pkcs1_bytes in it has to be valid, those too that a decoder only fills. */
-#define PKCS1_NO_BYTES { (const uint8_t *)"", 0 }
+/* ---- Keys ---- */
 
 struct pkcs1_public_key {
     struct pkcs1_bytes modulus, public_exponent;
 };
+uint32_t pkcs1_public_key_decode(const uint8_t *der, size_t der_len, struct pkcs1_public_key *key);
+uint32_t pkcs1_public_key_encode(const struct pkcs1_public_key *key, uint8_t *out, size_t room, size_t *len);
 
 struct pkcs1_private_key {
     struct pkcs1_bytes modulus, public_exponent, private_exponent, prime1, prime2, exponent1, exponent2, coefficient;
-    size_t other_primes; /* how many primes there are past the first two */
+    size_t other_primes; /* how many primes there are past the first two: 0 for most keys */
 };
-
 struct pkcs1_other_prime {
     struct pkcs1_bytes prime, exponent, coefficient;
 };
 
+/* Reading puts the first `others_room` of the other primes into `others`, whose further elements are as they were;
+ * key->other_primes is how many there are, which may be more. Writing needs all of them: where `others_len` isn't
+ * key->other_primes, it returns PKCS1_OTHER_PRIMES. */
+uint32_t pkcs1_private_key_decode(const uint8_t *der, size_t der_len, struct pkcs1_private_key *key,
+                                  struct pkcs1_other_prime *others, size_t others_room);
+uint32_t pkcs1_private_key_encode(const struct pkcs1_private_key *key, const struct pkcs1_other_prime *others,
+                                  size_t others_len, uint8_t *out, size_t room, size_t *len);
+
+/* An RSA private key in PKCS #8, not encrypted. Reading fills `info`, and the key in it and its other primes as
+ * pkcs1_private_key_decode does. Writing takes the key's DER, which pkcs1_private_key_encode makes, and refuses octets that
+ * are no private key. */
+struct pkcs1_private_key_info {
+    struct pkcs1_bytes private_key; /* the DER of the key */
+    bool has_attributes;
+    struct pkcs1_bytes attributes; /* their contents, which aren't looked at */
+};
+uint32_t pkcs1_private_key_info_decode(const uint8_t *der, size_t der_len, struct pkcs1_private_key_info *info,
+                                       struct pkcs1_private_key *key, struct pkcs1_other_prime *others,
+                                       size_t others_room);
+uint32_t pkcs1_private_key_info_encode(const struct pkcs1_private_key_info *info, uint8_t *out, size_t room,
+                                       size_t *len);
+
+/* ---- Algorithms ---- */
+
 /* The contents octets of an OBJECT IDENTIFIER: the first `len` of `octets`. */
 struct pkcs1_oid {
     uint8_t octets[39];
-    uint8_t len; /* more than 39: the identifier is malformed */
+    uint8_t len; /* more than 39: PKCS1_OID_MALFORMED */
 };
+extern const struct pkcs1_oid pkcs1_oid_sha1, pkcs1_oid_sha224, pkcs1_oid_sha256, pkcs1_oid_sha384, pkcs1_oid_sha512;
+extern const struct pkcs1_oid pkcs1_oid_mgf1, pkcs1_oid_p_specified, pkcs1_oid_rsa_encryption;
 
+/* Whether both are the same identifier. */
+bool pkcs1_oid_equal(const struct pkcs1_oid *left, const struct pkcs1_oid *right);
+
+/* An AlgorithmIdentifier. The contents of its parameters aren't looked at. Where reading finds no parameters, `tag` is 0
+ * and `parameters` is empty. */
 struct pkcs1_algorithm {
     struct pkcs1_oid oid;
-    bool has_parameters; /* false: no octet follows the identifier, which isn't NULL */
-    uint8_t tag;         /* 0x05: NULL */
-    struct pkcs1_bytes parameters;
+    bool has_parameters; /* false: no octet follows the identifier, which isn't the same as NULL */
+    uint8_t tag;         /* the tag octet of the parameters; 0x05: NULL */
+    struct pkcs1_bytes parameters; /* their contents; of NULL: none */
 };
 
+/* Where reading finds no hash function, `hash` is empty: `hash.oid.len` is 0. */
 struct pkcs1_mask_gen {
     struct pkcs1_oid oid;
     bool has_hash;
     struct pkcs1_algorithm hash;
 };
 
+/* The parameters of RSASSA-PSS (RFC 8017 A.2.3). A field that the encoding leaves out has its default. */
 struct pkcs1_pss_params {
     struct pkcs1_algorithm hash;
     struct pkcs1_mask_gen mask_gen;
-    uint8_t salt_len;
+    uint8_t salt_len;      /* a salt length over 255 isn't read: PKCS1_VALUE */
     uint8_t trailer_field; /* 1 */
 };
 
+/* The parameters of RSAES-OAEP (RFC 8017 A.2.1). */
 struct pkcs1_oaep_params {
     struct pkcs1_algorithm hash;
     struct pkcs1_mask_gen mask_gen;
-    struct pkcs1_algorithm p_source; /* pSpecified: parameters are the label */
+    struct pkcs1_algorithm p_source; /* pSpecified: the parameters are the label, with tag 0x04 */
 };
 
-uint32_t pkcs1_c_public_key_decode(const uint8_t *text, size_t text_len, struct pkcs1_public_key *key);
-uint32_t pkcs1_c_public_key_encode(const struct pkcs1_public_key *key, uint8_t *out, size_t room, size_t *len);
+/* Sets all fields for one hash function: MGF1 with the same one, and NULL parameters. The label isn't copied. */
+void pkcs1_pss_params_init(struct pkcs1_pss_params *params, const struct pkcs1_oid *hash, uint8_t salt_len);
+void pkcs1_oaep_params_init(struct pkcs1_oaep_params *params, const struct pkcs1_oid *hash, const uint8_t *label,
+                            size_t label_len);
 
-/* The first `others_room` of the other primes are put into `others`; key->other_primes says how many there are. Writing
- * needs all of them: where `others_len` isn't key->other_primes, it answers PKCS1_OTHER_PRIMES. */
-uint32_t pkcs1_c_private_key_decode(const uint8_t *text, size_t text_len, struct pkcs1_private_key *key,
-                                    struct pkcs1_other_prime *others, size_t others_room);
-uint32_t pkcs1_c_private_key_encode(const struct pkcs1_private_key *key, const struct pkcs1_other_prime *others,
-                                    size_t others_len, uint8_t *out, size_t room, size_t *len);
-
-/* The RSA key in a PKCS #8 container (RFC 5208), whose algorithm is rsaEncryption with NULL. Reading fills `info`, and the
- * key and its other primes as pkcs1_c_private_key_decode does; writing takes the key's text, which
- * pkcs1_c_private_key_encode makes, and refuses octets that are none. */
-struct pkcs1_private_key_info {
-    struct pkcs1_bytes private_key; /* the key's text */
-    bool has_attributes;
-    struct pkcs1_bytes attributes; /* their contents, which aren't looked at */
-};
-uint32_t pkcs1_c_private_key_info_decode(const uint8_t *text, size_t text_len, struct pkcs1_private_key_info *info,
-                                         struct pkcs1_private_key *key, struct pkcs1_other_prime *others,
-                                         size_t others_room);
-uint32_t pkcs1_c_private_key_info_encode(const struct pkcs1_private_key_info *info, uint8_t *out, size_t room,
-                                         size_t *len);
-
-/* The shortest text is written: no default stands in it. `.._strict` reads no other: a text in which a default is written
- * is PKCS1_NONCANONICAL. */
-uint32_t pkcs1_c_pss_params_decode(const uint8_t *text, size_t text_len, struct pkcs1_pss_params *params);
-uint32_t pkcs1_c_pss_params_decode_strict(const uint8_t *text, size_t text_len, struct pkcs1_pss_params *params);
-uint32_t pkcs1_c_pss_params_encode(const struct pkcs1_pss_params *params, uint8_t *out, size_t room, size_t *len);
-uint32_t pkcs1_c_oaep_params_decode(const uint8_t *text, size_t text_len, struct pkcs1_oaep_params *params);
-uint32_t pkcs1_c_oaep_params_decode_strict(const uint8_t *text, size_t text_len, struct pkcs1_oaep_params *params);
-uint32_t pkcs1_c_oaep_params_encode(const struct pkcs1_oaep_params *params, uint8_t *out, size_t room, size_t *len);
-
-/* Static texts with a zero at the end, which `len` counts. */
-void pkcs1_c_status_text(uint32_t status, struct pkcs1_bytes *text);
-void pkcs1_c_version(struct pkcs1_bytes *text);
-
-static inline const char *pkcs1_strerror(uint32_t status) {
-    struct pkcs1_bytes text = PKCS1_NO_BYTES;
-    pkcs1_c_status_text(status, &text);
-    return (const char *)text.data;
-}
+/* Writing leaves out each field that has its default, as DER wants. Reading takes encodings that spell a default out too;
+ * .._decode_strict doesn't: it returns PKCS1_NONCANONICAL for them. */
+uint32_t pkcs1_pss_params_decode(const uint8_t *der, size_t der_len, struct pkcs1_pss_params *params);
+uint32_t pkcs1_pss_params_decode_strict(const uint8_t *der, size_t der_len, struct pkcs1_pss_params *params);
+uint32_t pkcs1_pss_params_encode(const struct pkcs1_pss_params *params, uint8_t *out, size_t room, size_t *len);
+uint32_t pkcs1_oaep_params_decode(const uint8_t *der, size_t der_len, struct pkcs1_oaep_params *params);
+uint32_t pkcs1_oaep_params_decode_strict(const uint8_t *der, size_t der_len, struct pkcs1_oaep_params *params);
+uint32_t pkcs1_oaep_params_encode(const struct pkcs1_oaep_params *params, uint8_t *out, size_t room, size_t *len);
 
 #ifdef __cplusplus
 }

@@ -8,25 +8,30 @@ fn put(name: &str, number: &[u8]) {
 }
 
 fn put_algorithm(name: &str, algorithm: &Algorithm<'_>) {
-    put(name, &algorithm.oid);
-    if let Some((_, contents)) = algorithm.parameters {
-        put(" parameters", contents);
+    put(name, algorithm.oid.as_bytes());
+    if let Some(parameters) = algorithm.parameters {
+        put(" parameters", parameters.value);
     }
 }
 
-fn read(kind: &str, text: &[u8]) -> Result<Vec<u8>, Box<dyn std::error::Error>> {
+fn read(kind: &str, der: &[u8]) -> Result<Vec<u8>, Box<dyn std::error::Error>> {
     match kind {
         "pub" => {
-            let key = PublicKey::decode(text)?;
+            let key = PublicKey::decode(der)?;
             put("n", key.modulus);
             put("e", key.public_exponent);
             Ok(key.to_vec()?)
         }
         "priv" => {
-            let key = PrivateKey::decode(text)?;
-            for (name, number) in ["n", "e", "d", "p", "q", "dp", "dq", "qi"].iter().zip(key.numbers) {
-                put(name, number);
-            }
+            let key = PrivateKey::decode(der)?;
+            put("n", key.modulus);
+            put("e", key.public_exponent);
+            put("d", key.private_exponent);
+            put("p", key.prime1);
+            put("q", key.prime2);
+            put("dp", key.exponent1);
+            put("dq", key.exponent2);
+            put("qi", key.coefficient);
             for other in &key.other_primes {
                 put("r", other.prime);
                 put("d", other.exponent);
@@ -35,12 +40,12 @@ fn read(kind: &str, text: &[u8]) -> Result<Vec<u8>, Box<dyn std::error::Error>> 
             Ok(key.to_vec()?)
         }
         "p8" => {
-            let info = PrivateKeyInfo::decode(text)?;
-            put("n", PrivateKey::decode(info.private_key)?.numbers[0]);
+            let info = PrivateKeyInfo::decode(der)?;
+            put("n", info.private_key().modulus);
             Ok(info.to_vec()?)
         }
         "pss" => {
-            let params = PssParams::decode(text)?;
+            let params = PssParams::decode(der)?;
             put_algorithm("hash", &params.hash);
             if let Some(hash) = &params.mask_gen.hash {
                 put_algorithm("mask", hash);
@@ -49,7 +54,7 @@ fn read(kind: &str, text: &[u8]) -> Result<Vec<u8>, Box<dyn std::error::Error>> 
             Ok(params.to_vec()?)
         }
         "oaep" => {
-            let params = OaepParams::decode(text)?;
+            let params = OaepParams::decode(der)?;
             put_algorithm("hash", &params.hash);
             if let Some(hash) = &params.mask_gen.hash {
                 put_algorithm("mask", hash);

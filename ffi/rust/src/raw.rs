@@ -1,4 +1,5 @@
-//! The functions of `pkcs1.h`.
+//! The proved calls that `pkcs1_c.h` declares, each with the lifetime of the slice that it reads.
+use crate::{Error, ObjectIdentifier};
 use core::marker::PhantomData;
 
 /// `struct pkcs1_bytes`: never null, and valid for `'a`.
@@ -37,7 +38,14 @@ pub struct PublicKey<'a> {
 #[repr(C)]
 #[derive(Clone, Copy, Default)]
 pub struct PrivateKey<'a> {
-    pub numbers: [Bytes<'a>; 8],
+    pub modulus: Bytes<'a>,
+    pub public_exponent: Bytes<'a>,
+    pub private_exponent: Bytes<'a>,
+    pub prime1: Bytes<'a>,
+    pub prime2: Bytes<'a>,
+    pub exponent1: Bytes<'a>,
+    pub exponent2: Bytes<'a>,
+    pub coefficient: Bytes<'a>,
     pub other_primes: usize,
 }
 
@@ -50,22 +58,9 @@ pub struct OtherPrime<'a> {
 }
 
 #[repr(C)]
-#[derive(Clone, Copy)]
-pub struct Oid {
-    pub octets: [u8; 39],
-    pub len: u8,
-}
-
-impl Default for Oid {
-    fn default() -> Self {
-        Oid { octets: [0; 39], len: 0 }
-    }
-}
-
-#[repr(C)]
 #[derive(Clone, Copy, Default)]
 pub struct Algorithm<'a> {
-    pub oid: Oid,
+    pub oid: ObjectIdentifier,
     pub has_parameters: bool,
     pub tag: u8,
     pub parameters: Bytes<'a>,
@@ -74,7 +69,7 @@ pub struct Algorithm<'a> {
 #[repr(C)]
 #[derive(Clone, Copy, Default)]
 pub struct MaskGen<'a> {
-    pub oid: Oid,
+    pub oid: ObjectIdentifier,
     pub has_hash: bool,
     pub hash: Algorithm<'a>,
 }
@@ -104,19 +99,108 @@ pub struct PrivateKeyInfo<'a> {
     pub attributes: Bytes<'a>,
 }
 
+macro_rules! decoders {
+    ($($name:ident calls $call:ident -> $type:ident;)*) => {
+        unsafe extern "C" {
+            $(fn $call<'a>(der: *const u8, len: usize, value: &mut $type<'a>) -> u32;)*
+        }
+        $(pub fn $name<'a>(der: &'a [u8]) -> Result<$type<'a>, Error> {
+            let mut value = $type::<'a>::default();
+            // SAFETY: pointer and length of one slice, which lives as long as what is answered.
+            let status = unsafe { $call(der.as_ptr(), der.len(), &mut value) };
+            answer(status, value)
+        })*
+    };
+}
+decoders! {
+    public_key calls pkcs1_c_public_key_decode -> PublicKey;
+    pss_params calls pkcs1_c_pss_params_decode -> PssParams;
+    pss_params_strict calls pkcs1_c_pss_params_decode_strict -> PssParams;
+    oaep_params calls pkcs1_c_oaep_params_decode -> OaepParams;
+    oaep_params_strict calls pkcs1_c_oaep_params_decode_strict -> OaepParams;
+}
+
+/// What the library writes: `out` gets the DER, and `len` its length, or the one that is needed.
+pub trait Encode {
+    fn encode(&self, out: &mut [u8], len: &mut usize) -> Result<(), Error>;
+}
+
+macro_rules! encoders {
+    ($($type:ident calls $call:ident;)*) => {
+        unsafe extern "C" {
+            $(fn $call(value: &$type<'_>, out: *mut u8, room: usize, len: &mut usize) -> u32;)*
+        }
+        $(impl Encode for $type<'_> {
+            fn encode(&self, out: &mut [u8], len: &mut usize) -> Result<(), Error> {
+                // SAFETY: the struct holds slices; pointer and length of one slice.
+                answer(unsafe { $call(self, out.as_mut_ptr(), out.len(), len) }, ())
+            }
+        })*
+    };
+}
+encoders! {
+    PublicKey calls pkcs1_c_public_key_encode;
+    PrivateKeyInfo calls pkcs1_c_private_key_info_encode;
+    PssParams calls pkcs1_c_pss_params_encode;
+    OaepParams calls pkcs1_c_oaep_params_encode;
+}
+
 unsafe extern "C" {
-    pub fn pkcs1_c_public_key_decode<'a>(text: *const u8, len: usize, key: &mut PublicKey<'a>) -> u32;
-    pub safe fn pkcs1_c_status_text(status: u32, text: &mut Bytes<'static>);
-    pub safe fn pkcs1_c_version(text: &mut Bytes<'static>);
-    pub fn pkcs1_c_public_key_encode(key: &PublicKey<'_>, out: *mut u8, room: usize, len: &mut usize) -> u32;
-    pub fn pkcs1_c_private_key_decode<'a>(text: *const u8, len: usize, key: &mut PrivateKey<'a>, others: *mut OtherPrime<'a>, room: usize) -> u32;
-    pub fn pkcs1_c_private_key_encode(key: &PrivateKey<'_>, others: *const OtherPrime<'_>, others_len: usize, out: *mut u8, room: usize, len: &mut usize) -> u32;
-    pub fn pkcs1_c_pss_params_decode<'a>(text: *const u8, len: usize, params: &mut PssParams<'a>) -> u32;
-    pub fn pkcs1_c_private_key_info_decode<'a>(text: *const u8, len: usize, info: &mut PrivateKeyInfo<'a>, key: &mut PrivateKey<'a>, others: *mut OtherPrime<'a>, room: usize) -> u32;
-    pub fn pkcs1_c_private_key_info_encode(info: &PrivateKeyInfo<'_>, out: *mut u8, room: usize, len: &mut usize) -> u32;
-    pub fn pkcs1_c_pss_params_decode_strict<'a>(text: *const u8, len: usize, params: &mut PssParams<'a>) -> u32;
-    pub fn pkcs1_c_oaep_params_decode_strict<'a>(text: *const u8, len: usize, params: &mut OaepParams<'a>) -> u32;
-    pub fn pkcs1_c_pss_params_encode(params: &PssParams<'_>, out: *mut u8, room: usize, len: &mut usize) -> u32;
-    pub fn pkcs1_c_oaep_params_decode<'a>(text: *const u8, len: usize, params: &mut OaepParams<'a>) -> u32;
-    pub fn pkcs1_c_oaep_params_encode(params: &OaepParams<'_>, out: *mut u8, room: usize, len: &mut usize) -> u32;
+    fn pkcs1_c_private_key_decode<'a>(der: *const u8, len: usize, key: &mut PrivateKey<'a>, others: *mut OtherPrime<'a>, room: usize) -> u32;
+    fn pkcs1_c_private_key_encode(key: &PrivateKey<'_>, others: *const OtherPrime<'_>, others_len: usize, out: *mut u8, room: usize, len: &mut usize) -> u32;
+    fn pkcs1_c_private_key_info_decode<'a>(der: *const u8, len: usize, info: &mut PrivateKeyInfo<'a>, key: &mut PrivateKey<'a>, others: *mut OtherPrime<'a>, room: usize) -> u32;
+    safe fn pkcs1_c_status_text(status: u32, text: &mut Bytes<'static>);
+    safe fn pkcs1_c_version(text: &mut Bytes<'static>);
+}
+
+/// The key, whose first other primes are put into `others`.
+pub fn private_key<'a>(der: &'a [u8], others: &mut [OtherPrime<'a>]) -> Result<PrivateKey<'a>, Error> {
+    let mut key = PrivateKey::default();
+    // SAFETY: pointers and lengths of slices, the first of which lives as long as what is answered.
+    let status = unsafe { pkcs1_c_private_key_decode(der.as_ptr(), der.len(), &mut key, others.as_mut_ptr(), others.len()) };
+    answer(status, key)
+}
+
+/// The container and the key in it.
+pub fn private_key_info<'a>(der: &'a [u8]) -> Result<(PrivateKeyInfo<'a>, PrivateKey<'a>), Error> {
+    let (mut info, mut key) = (PrivateKeyInfo::default(), PrivateKey::default());
+    let others: &mut [OtherPrime<'a>] = &mut [];
+    // SAFETY: as above.
+    let status = unsafe { pkcs1_c_private_key_info_decode(der.as_ptr(), der.len(), &mut info, &mut key, others.as_mut_ptr(), others.len()) };
+    answer(status, (info, key))
+}
+
+impl Encode for (PrivateKey<'_>, &[OtherPrime<'_>]) {
+    fn encode(&self, out: &mut [u8], len: &mut usize) -> Result<(), Error> {
+        let (key, others) = self;
+        // SAFETY: the structs hold slices; pointers and lengths of slices.
+        let status = unsafe { pkcs1_c_private_key_encode(key, others.as_ptr(), others.len(), out.as_mut_ptr(), out.len(), len) };
+        answer(status, ())
+    }
+}
+
+/// The text of a status.
+pub fn status_text(status: u32) -> &'static str {
+    let mut text = Bytes::default();
+    pkcs1_c_status_text(status, &mut text);
+    without_zero(text)
+}
+
+/// The version of the library.
+pub fn version() -> &'static str {
+    let mut text = Bytes::default();
+    pkcs1_c_version(&mut text);
+    without_zero(text)
+}
+
+fn without_zero(text: Bytes<'static>) -> &'static str {
+    let octets = text.get().split_last().map_or(&[][..], |(_zero, octets)| octets);
+    core::str::from_utf8(octets).unwrap_or_default()
+}
+
+fn answer<T>(status: u32, value: T) -> Result<T, Error> {
+    match status {
+        0 => Ok(value),
+        _ => Err(Error::of(status)),
+    }
 }

@@ -1,0 +1,241 @@
+/* The calls of pkcs1.h over the proved ones of pkcs1_c.h. This file is tested, not proved. A proved call is given structs of
+ * valid values alone: what it fills is a local, copied on success, and what it reads is copied to a local in which nothing is
+ * null. */
+#include "pkcs1_c.h"
+#include <stdlib.h>
+#include <string.h>
+
+#define NO PKCS1_NO_BYTES
+#define NO_ALGORITHM { { {0}, 0 }, false, 0, NO }
+#define NO_MASK_GEN { { {0}, 0 }, false, NO_ALGORITHM }
+
+/* So many other primes are read and written without memory; OpenSSL makes no more. */
+enum { FEW = 3 };
+
+static const struct pkcs1_bytes no_bytes = NO;
+static const struct pkcs1_algorithm no_algorithm = NO_ALGORITHM;
+static const struct pkcs1_other_prime no_prime = {NO, NO, NO};
+
+static struct pkcs1_bytes never_null(struct pkcs1_bytes given) {
+    return given.len == 0 ? no_bytes : given;
+}
+
+const char *pkcs1_strerror(uint32_t status) {
+    struct pkcs1_bytes text = NO;
+    pkcs1_c_status_text(status, &text);
+    return (const char *)text.data;
+}
+
+const char *pkcs1_version(void) {
+    struct pkcs1_bytes text = NO;
+    pkcs1_c_version(&text);
+    return (const char *)text.data;
+}
+
+/* Public keys. */
+
+uint32_t pkcs1_public_key_decode(const uint8_t *der, size_t der_len, struct pkcs1_public_key *key) {
+    struct pkcs1_public_key read = {NO, NO};
+    uint32_t status = pkcs1_c_public_key_decode(der, der_len, &read);
+    if (status == PKCS1_OK)
+        *key = read;
+    return status;
+}
+
+uint32_t pkcs1_public_key_encode(const struct pkcs1_public_key *key, uint8_t *out, size_t room, size_t *len) {
+    struct pkcs1_public_key given = {never_null(key->modulus), never_null(key->public_exponent)};
+    return pkcs1_c_public_key_encode(&given, out, room, len);
+}
+
+/* Private keys. */
+
+/* Puts as many of the other primes as there is room for into `others`: the few that were read, or by reading again. */
+static void put_others(struct pkcs1_bytes der, const struct pkcs1_private_key *key, const struct pkcs1_other_prime *few,
+                       struct pkcs1_other_prime *others, size_t others_room) {
+    size_t count = key->other_primes < others_room ? key->other_primes : others_room;
+    for (size_t i = 0; i < count; i++)
+        others[i] = i < FEW ? few[i] : no_prime;
+    if (count > FEW) {
+        struct pkcs1_private_key again = *key;
+        pkcs1_c_private_key_decode(der.data, der.len, &again, others, count);
+    }
+}
+
+uint32_t pkcs1_private_key_decode(const uint8_t *der, size_t der_len, struct pkcs1_private_key *key,
+                                  struct pkcs1_other_prime *others, size_t others_room) {
+    struct pkcs1_private_key read = {NO, NO, NO, NO, NO, NO, NO, NO, 0};
+    struct pkcs1_other_prime few[FEW] = {no_prime, no_prime, no_prime};
+    uint32_t status = pkcs1_c_private_key_decode(der, der_len, &read, few, FEW);
+    if (status == PKCS1_OK) {
+        struct pkcs1_bytes whole = {der, der_len};
+        *key = read;
+        put_others(whole, &read, few, others, others_room);
+    }
+    return status;
+}
+
+uint32_t pkcs1_private_key_encode(const struct pkcs1_private_key *key, const struct pkcs1_other_prime *others,
+                                  size_t others_len, uint8_t *out, size_t room, size_t *len) {
+    struct pkcs1_private_key given = {
+        never_null(key->modulus),   never_null(key->public_exponent), never_null(key->private_exponent),
+        never_null(key->prime1),    never_null(key->prime2),          never_null(key->exponent1),
+        never_null(key->exponent2), never_null(key->coefficient),     key->other_primes};
+    struct pkcs1_other_prime few[FEW] = {no_prime, no_prime, no_prime}, *primes = few;
+    if (key->other_primes != others_len)
+        return PKCS1_OTHER_PRIMES;
+    if (others_len > FEW && (primes = calloc(others_len, sizeof *primes)) == NULL)
+        return PKCS1_OUT_OF_MEMORY;
+    for (size_t i = 0; i < others_len; i++) {
+        primes[i].prime = never_null(others[i].prime);
+        primes[i].exponent = never_null(others[i].exponent);
+        primes[i].coefficient = never_null(others[i].coefficient);
+    }
+    uint32_t status = pkcs1_c_private_key_encode(&given, primes, others_len, out, room, len);
+    if (primes != few)
+        free(primes);
+    return status;
+}
+
+/* PKCS #8. */
+
+uint32_t pkcs1_private_key_info_decode(const uint8_t *der, size_t der_len, struct pkcs1_private_key_info *info,
+                                       struct pkcs1_private_key *key, struct pkcs1_other_prime *others,
+                                       size_t others_room) {
+    struct pkcs1_private_key_info read = {NO, false, NO};
+    struct pkcs1_private_key read_key = {NO, NO, NO, NO, NO, NO, NO, NO, 0};
+    struct pkcs1_other_prime few[FEW] = {no_prime, no_prime, no_prime};
+    uint32_t status = pkcs1_c_private_key_info_decode(der, der_len, &read, &read_key, few, FEW);
+    if (status == PKCS1_OK) {
+        *info = read;
+        *key = read_key;
+        put_others(read.private_key, &read_key, few, others, others_room);
+    }
+    return status;
+}
+
+uint32_t pkcs1_private_key_info_encode(const struct pkcs1_private_key_info *info, uint8_t *out, size_t room,
+                                       size_t *len) {
+    struct pkcs1_private_key_info given = {never_null(info->private_key), info->has_attributes,
+                                           info->has_attributes ? never_null(info->attributes) : no_bytes};
+    return pkcs1_c_private_key_info_encode(&given, out, room, len);
+}
+
+/* Algorithms. */
+
+const struct pkcs1_oid pkcs1_oid_sha1 = {{0x2b, 0x0e, 0x03, 0x02, 0x1a}, 5};
+const struct pkcs1_oid pkcs1_oid_sha224 = {{0x60, 0x86, 0x48, 0x01, 0x65, 0x03, 0x04, 0x02, 0x04}, 9};
+const struct pkcs1_oid pkcs1_oid_sha256 = {{0x60, 0x86, 0x48, 0x01, 0x65, 0x03, 0x04, 0x02, 0x01}, 9};
+const struct pkcs1_oid pkcs1_oid_sha384 = {{0x60, 0x86, 0x48, 0x01, 0x65, 0x03, 0x04, 0x02, 0x02}, 9};
+const struct pkcs1_oid pkcs1_oid_sha512 = {{0x60, 0x86, 0x48, 0x01, 0x65, 0x03, 0x04, 0x02, 0x03}, 9};
+const struct pkcs1_oid pkcs1_oid_mgf1 = {{0x2a, 0x86, 0x48, 0x86, 0xf7, 0x0d, 0x01, 0x01, 0x08}, 9};
+const struct pkcs1_oid pkcs1_oid_p_specified = {{0x2a, 0x86, 0x48, 0x86, 0xf7, 0x0d, 0x01, 0x01, 0x09}, 9};
+const struct pkcs1_oid pkcs1_oid_rsa_encryption = {{0x2a, 0x86, 0x48, 0x86, 0xf7, 0x0d, 0x01, 0x01, 0x01}, 9};
+
+bool pkcs1_oid_equal(const struct pkcs1_oid *left, const struct pkcs1_oid *right) {
+    return left->len == right->len && left->len <= sizeof left->octets &&
+           memcmp(left->octets, right->octets, left->len) == 0;
+}
+
+/* The algorithm without what stands behind a `has_parameters` that is false. */
+static struct pkcs1_algorithm algorithm(const struct pkcs1_algorithm *given) {
+    struct pkcs1_algorithm made = no_algorithm;
+    made.oid = given->oid;
+    if (given->has_parameters) {
+        made.has_parameters = true;
+        made.tag = given->tag;
+        made.parameters = never_null(given->parameters);
+    }
+    return made;
+}
+
+static struct pkcs1_mask_gen mask_gen(const struct pkcs1_mask_gen *given) {
+    struct pkcs1_mask_gen made = {given->oid, given->has_hash, no_algorithm};
+    if (given->has_hash)
+        made.hash = algorithm(&given->hash);
+    return made;
+}
+
+/* The proved call leaves the mask's identifier there. */
+static void forget_absent(struct pkcs1_mask_gen *read) {
+    if (!read->has_hash)
+        read->hash = no_algorithm;
+}
+
+static struct pkcs1_algorithm with_null(const struct pkcs1_oid *oid) {
+    struct pkcs1_algorithm made = no_algorithm;
+    made.oid = *oid;
+    made.has_parameters = true;
+    made.tag = 0x05;
+    return made;
+}
+
+static struct pkcs1_mask_gen mgf1(const struct pkcs1_oid *hash) {
+    struct pkcs1_mask_gen made = {pkcs1_oid_mgf1, true, with_null(hash)};
+    return made;
+}
+
+/* Parameters. */
+
+typedef uint32_t decode_pss(const uint8_t *, size_t, struct pkcs1_pss_params *);
+typedef uint32_t decode_oaep(const uint8_t *, size_t, struct pkcs1_oaep_params *);
+
+static uint32_t read_pss(decode_pss *decode, const uint8_t *der, size_t der_len, struct pkcs1_pss_params *params) {
+    struct pkcs1_pss_params read = {NO_ALGORITHM, NO_MASK_GEN, 0, 0};
+    uint32_t status = decode(der, der_len, &read);
+    if (status == PKCS1_OK) {
+        *params = read;
+        forget_absent(&params->mask_gen);
+    }
+    return status;
+}
+
+uint32_t pkcs1_pss_params_decode(const uint8_t *der, size_t der_len, struct pkcs1_pss_params *params) {
+    return read_pss(pkcs1_c_pss_params_decode, der, der_len, params);
+}
+
+uint32_t pkcs1_pss_params_decode_strict(const uint8_t *der, size_t der_len, struct pkcs1_pss_params *params) {
+    return read_pss(pkcs1_c_pss_params_decode_strict, der, der_len, params);
+}
+
+uint32_t pkcs1_pss_params_encode(const struct pkcs1_pss_params *params, uint8_t *out, size_t room, size_t *len) {
+    struct pkcs1_pss_params given = {algorithm(&params->hash), mask_gen(&params->mask_gen), params->salt_len,
+                                     params->trailer_field};
+    return pkcs1_c_pss_params_encode(&given, out, room, len);
+}
+
+void pkcs1_pss_params_init(struct pkcs1_pss_params *params, const struct pkcs1_oid *hash, uint8_t salt_len) {
+    struct pkcs1_pss_params made = {with_null(hash), mgf1(hash), salt_len, 1};
+    *params = made;
+}
+
+static uint32_t read_oaep(decode_oaep *decode, const uint8_t *der, size_t der_len, struct pkcs1_oaep_params *params) {
+    struct pkcs1_oaep_params read = {NO_ALGORITHM, NO_MASK_GEN, NO_ALGORITHM};
+    uint32_t status = decode(der, der_len, &read);
+    if (status == PKCS1_OK) {
+        *params = read;
+        forget_absent(&params->mask_gen);
+    }
+    return status;
+}
+
+uint32_t pkcs1_oaep_params_decode(const uint8_t *der, size_t der_len, struct pkcs1_oaep_params *params) {
+    return read_oaep(pkcs1_c_oaep_params_decode, der, der_len, params);
+}
+
+uint32_t pkcs1_oaep_params_decode_strict(const uint8_t *der, size_t der_len, struct pkcs1_oaep_params *params) {
+    return read_oaep(pkcs1_c_oaep_params_decode_strict, der, der_len, params);
+}
+
+uint32_t pkcs1_oaep_params_encode(const struct pkcs1_oaep_params *params, uint8_t *out, size_t room, size_t *len) {
+    struct pkcs1_oaep_params given = {algorithm(&params->hash), mask_gen(&params->mask_gen),
+                                      algorithm(&params->p_source)};
+    return pkcs1_c_oaep_params_encode(&given, out, room, len);
+}
+
+void pkcs1_oaep_params_init(struct pkcs1_oaep_params *params, const struct pkcs1_oid *hash, const uint8_t *label,
+                            size_t label_len) {
+    struct pkcs1_bytes given = {label, label_len};
+    struct pkcs1_oaep_params made = {with_null(hash), mgf1(hash), {pkcs1_oid_p_specified, true, 0x04, no_bytes}};
+    made.p_source.parameters = never_null(given);
+    *params = made;
+}

@@ -1,0 +1,42 @@
+/* The proved calls, which those of pkcs1.h are made of; most callers want pkcs1.h. They do the same, and ask for more:
+ * every struct that they are given holds valid values, also one that a decoder only fills. There each `bool` is 0 or 1, and
+ * each `pkcs1_bytes` isn't null: PKCS1_NO_BYTES is an empty one. Where `has_..` is false, the fields behind it are filled
+ * with valid values that mean nothing. */
+#ifndef PKCS1_C_H
+#define PKCS1_C_H
+
+#include "pkcs1.h"
+
+#ifdef __cplusplus
+extern "C" {
+#define PKCS1_NO_BYTES { reinterpret_cast<const uint8_t *>(""), 0 }
+#else
+#define PKCS1_NO_BYTES { (const uint8_t *)"", 0 }
+#endif
+
+uint32_t pkcs1_c_public_key_decode(const uint8_t *der, size_t der_len, struct pkcs1_public_key *key);
+uint32_t pkcs1_c_public_key_encode(const struct pkcs1_public_key *key, uint8_t *out, size_t room, size_t *len);
+uint32_t pkcs1_c_private_key_decode(const uint8_t *der, size_t der_len, struct pkcs1_private_key *key,
+                                    struct pkcs1_other_prime *others, size_t others_room);
+uint32_t pkcs1_c_private_key_encode(const struct pkcs1_private_key *key, const struct pkcs1_other_prime *others,
+                                    size_t others_len, uint8_t *out, size_t room, size_t *len);
+uint32_t pkcs1_c_private_key_info_decode(const uint8_t *der, size_t der_len, struct pkcs1_private_key_info *info,
+                                         struct pkcs1_private_key *key, struct pkcs1_other_prime *others,
+                                         size_t others_room);
+uint32_t pkcs1_c_private_key_info_encode(const struct pkcs1_private_key_info *info, uint8_t *out, size_t room,
+                                         size_t *len);
+uint32_t pkcs1_c_pss_params_decode(const uint8_t *der, size_t der_len, struct pkcs1_pss_params *params);
+uint32_t pkcs1_c_pss_params_decode_strict(const uint8_t *der, size_t der_len, struct pkcs1_pss_params *params);
+uint32_t pkcs1_c_pss_params_encode(const struct pkcs1_pss_params *params, uint8_t *out, size_t room, size_t *len);
+uint32_t pkcs1_c_oaep_params_decode(const uint8_t *der, size_t der_len, struct pkcs1_oaep_params *params);
+uint32_t pkcs1_c_oaep_params_decode_strict(const uint8_t *der, size_t der_len, struct pkcs1_oaep_params *params);
+uint32_t pkcs1_c_oaep_params_encode(const struct pkcs1_oaep_params *params, uint8_t *out, size_t room, size_t *len);
+
+/* Static texts with a zero at the end, which `len` counts. */
+void pkcs1_c_status_text(uint32_t status, struct pkcs1_bytes *text);
+void pkcs1_c_version(struct pkcs1_bytes *text);
+
+#ifdef __cplusplus
+}
+#endif
+#endif

@@ -1,0 +1,77 @@
+use crate::raw;
+use std::fmt;
+
+/// Why a call failed: one of the constants. `Display` and `Debug` print its text.
+#[derive(Clone, Copy, PartialEq, Eq, Hash)]
+pub struct Error(u32);
+
+macro_rules! errors {
+    ($($(#[doc = $text:literal])* $name:ident = $status:literal;)*) => {
+        impl Error {
+            $($(#[doc = $text])* pub const $name: Error = Error($status);)*
+        }
+    };
+}
+errors! {
+    /// Not answered by this crate.
+    FAILED = 1;
+    /// The input is empty or cut off: a length says more octets than there are, or a field is missing.
+    INCOMPLETE = 2;
+    /// BER with an indefinite length, which isn't DER.
+    INDEFINITE_LENGTH = 3;
+    /// A number without octets.
+    LENGTH = 4;
+    /// Not DER: needless zeros in front of a number; in strict reading, a default that is written out.
+    NONCANONICAL = 5;
+    /// An identifier that is empty, cut off, not in shortest form, or of more than 39 octets.
+    OID_MALFORMED = 6;
+    /// PKCS #8 with another key than RSA.
+    OID_UNKNOWN = 7;
+    /// A length past 4294967295.
+    OVERFLOW = 8;
+    /// Not DER: a length in more octets than it needs.
+    OVERLENGTH = 9;
+    /// PKCS #8 whose rsaEncryption comes without NULL.
+    PARAMETERS_MISSING = 10;
+    /// Another type: PEM, PKCS #8, SubjectPublicKeyInfo or an encrypted key, perhaps.
+    TAG_UNEXPECTED = 11;
+    /// Not DER of these types: a tag octet that none of them has.
+    TAG_UNKNOWN = 12;
+    /// Octets follow the value, or a field follows that the type doesn't have there.
+    TRAILING_DATA = 13;
+    /// A negative number; a version, salt length, trailer field or NULL that isn't allowed.
+    VALUE = 14;
+    /// The output has no room for the DER.
+    NO_ROOM = 15;
+    /// Not answered by this crate.
+    FILE = 16;
+    /// No memory was found.
+    OUT_OF_MEMORY = 17;
+    /// Not answered by this crate, which hands on as many other primes as there are.
+    OTHER_PRIMES = 21;
+}
+
+impl Error {
+    pub(crate) const fn of(status: u32) -> Error {
+        Error(status)
+    }
+
+    /// The number that it has in `pkcs1.h`.
+    pub const fn status(self) -> u32 {
+        self.0
+    }
+}
+
+impl fmt::Display for Error {
+    fn fmt(&self, f: &mut fmt::Formatter<'_>) -> fmt::Result {
+        f.write_str(raw::status_text(self.0))
+    }
+}
+
+impl fmt::Debug for Error {
+    fn fmt(&self, f: &mut fmt::Formatter<'_>) -> fmt::Result {
+        fmt::Display::fmt(self, f)
+    }
+}
+
+impl std::error::Error for Error {}

@@ -1,0 +1,144 @@
+use crate::encode::{collected, Writes};
+use crate::raw::{self, Bytes, Encode};
+use crate::Error;
+use std::fmt;
+
+/// A public key (RFC 8017 A.1.1), by its numbers: unsigned, most significant octet first. Read ones have no zeros in front;
+/// writing takes some. Equality is that of the octets.
+#[derive(Clone, Copy, Debug, PartialEq, Eq, Hash)]
+pub struct PublicKey<'a> {
+    /// n.
+    pub modulus: &'a [u8],
+    /// e.
+    pub public_exponent: &'a [u8],
+}
+
+impl<'a> PublicKey<'a> {
+    /// The key that this is the DER of, the whole slice.
+    pub fn decode(der: &'a [u8]) -> Result<PublicKey<'a>, Error> {
+        let key = raw::public_key(der)?;
+        Ok(PublicKey { modulus: key.modulus.get(), public_exponent: key.public_exponent.get() })
+    }
+}
+
+impl Writes for PublicKey<'_> {
+    fn with_raw<T>(&self, call: impl FnOnce(&dyn Encode) -> Result<T, Error>) -> Result<T, Error> {
+        call(&raw::PublicKey { modulus: Bytes::new(self.modulus), public_exponent: Bytes::new(self.public_exponent) })
+    }
+}
+
+/// A prime of a private key past the first two. It is a secret: `Debug` prints none of it, and it can't be compared.
+#[derive(Clone, Copy)]
+pub struct OtherPrime<'a> {
+    /// r.
+    pub prime: &'a [u8],
+    /// d modulo r - 1.
+    pub exponent: &'a [u8],
+    /// The inverse, modulo r, of the product of the primes before it.
+    pub coefficient: &'a [u8],
+}
+
+impl<'a> OtherPrime<'a> {
+    fn seen(raw: &raw::OtherPrime<'a>) -> OtherPrime<'a> {
+        OtherPrime { prime: raw.prime.get(), exponent: raw.exponent.get(), coefficient: raw.coefficient.get() }
+    }
+
+    fn raw(&self) -> raw::OtherPrime<'a> {
+        raw::OtherPrime { prime: Bytes::new(self.prime), exponent: Bytes::new(self.exponent), coefficient: Bytes::new(self.coefficient) }
+    }
+}
+
+impl fmt::Debug for OtherPrime<'_> {
+    fn fmt(&self, f: &mut fmt::Formatter<'_>) -> fmt::Result {
+        f.debug_struct("OtherPrime").finish_non_exhaustive()
+    }
+}
+
+/// A private key (RFC 8017 A.1.2), of two primes or more. `Debug` prints its public half alone, and it can't be compared.
+#[derive(Clone)]
+pub struct PrivateKey<'a> {
+    /// n.
+    pub modulus: &'a [u8],
+    /// e.
+    pub public_exponent: &'a [u8],
+    /// d.
+    pub private_exponent: &'a [u8],
+    /// p.
+    pub prime1: &'a [u8],
+    /// q.
+    pub prime2: &'a [u8],
+    /// d modulo p - 1.
+    pub exponent1: &'a [u8],
+    /// d modulo q - 1.
+    pub exponent2: &'a [u8],
+    /// The inverse of q modulo p.
+    pub coefficient: &'a [u8],
+    /// The primes past the first two: none for most keys.
+    pub other_primes: Vec<OtherPrime<'a>>,
+}
+
+impl<'a> PrivateKey<'a> {
+    /// The key that this is the DER of, the whole slice. Memory is taken for other primes alone.
+    pub fn decode(der: &'a [u8]) -> Result<PrivateKey<'a>, Error> {
+        let key = raw::private_key(der, &mut [])?;
+        PrivateKey::seen(der, &key)
+    }
+
+    /// The key that was read from this DER.
+    pub(crate) fn seen(der: &'a [u8], key: &raw::PrivateKey<'a>) -> Result<PrivateKey<'a>, Error> {
+        let count = key.other_primes;
+        let mut others = collected(count, std::iter::repeat_n(raw::OtherPrime::default(), count))?;
+        if count > 0 {
+            raw::private_key(der, &mut others)?;
+        }
+        Ok(PrivateKey {
+            modulus: key.modulus.get(),
+            public_exponent: key.public_exponent.get(),
+            private_exponent: key.private_exponent.get(),
+            prime1: key.prime1.get(),
+            prime2: key.prime2.get(),
+            exponent1: key.exponent1.get(),
+            exponent2: key.exponent2.get(),
+            coefficient: key.coefficient.get(),
+            other_primes: collected(count, others.iter().map(OtherPrime::seen))?,
+        })
+    }
+
+    /// The public half.
+    pub fn public_key(&self) -> PublicKey<'a> {
+        PublicKey { modulus: self.modulus, public_exponent: self.public_exponent }
+    }
+}
+
+impl<'a> From<&PrivateKey<'a>> for PublicKey<'a> {
+    fn from(key: &PrivateKey<'a>) -> PublicKey<'a> {
+        key.public_key()
+    }
+}
+
+impl fmt::Debug for PrivateKey<'_> {
+    fn fmt(&self, f: &mut fmt::Formatter<'_>) -> fmt::Result {
+        f.debug_struct("PrivateKey")
+            .field("modulus", &self.modulus)
+            .field("public_exponent", &self.public_exponent)
+            .finish_non_exhaustive()
+    }
+}
+
+impl Writes for PrivateKey<'_> {
+    fn with_raw<T>(&self, call: impl FnOnce(&dyn Encode) -> Result<T, Error>) -> Result<T, Error> {
+        let key = raw::PrivateKey {
+            modulus: Bytes::new(self.modulus),
+            public_exponent: Bytes::new(self.public_exponent),
+            private_exponent: Bytes::new(self.private_exponent),
+            prime1: Bytes::new(self.prime1),
+            prime2: Bytes::new(self.prime2),
+            exponent1: Bytes::new(self.exponent1),
+            exponent2: Bytes::new(self.exponent2),
+            coefficient: Bytes::new(self.coefficient),
+            other_primes: self.other_primes.len(),
+        };
+        let others = collected(self.other_primes.len(), self.other_primes.iter().map(OtherPrime::raw))?;
+        call(&(key, others.as_slice()))
+    }
+}

@@ -1,0 +1,121 @@
+use crate::encode::Writes;
+use crate::raw::{self, Encode};
+use crate::{Algorithm, Any, Error, MaskGen, ObjectIdentifier};
+
+/// The trailer field of RSASSA-PSS (RFC 8017 A.2.3): there is one.
+#[derive(Clone, Copy, Debug, Default, PartialEq, Eq, Hash)]
+#[repr(u8)]
+pub enum TrailerField {
+    /// The octet `bc`.
+    #[default]
+    BC = 1,
+}
+
+/// The parameters of RSASSA-PSS (RFC 8017 A.2.3). A field that the DER leaves out has its default here, and one that has
+/// its default is left out of the DER.
+#[derive(Clone, Copy, Debug, PartialEq, Eq, Hash)]
+pub struct PssParams<'a> {
+    /// The hash function; SHA-1 is the default.
+    pub hash: Algorithm<'a>,
+    /// The mask generation function; MGF1 with SHA-1 is the default.
+    pub mask_gen: MaskGen<'a>,
+    /// The length of the salt in octets, at most 255.
+    pub salt_len: u8,
+    /// The trailer field.
+    pub trailer_field: TrailerField,
+}
+
+impl<'a> PssParams<'a> {
+    /// The default of `salt_len`.
+    pub const SALT_LEN_DEFAULT: u8 = 20;
+
+    /// Those of one hash function: MGF1 with the same one, and NULL as parameters.
+    pub const fn new(hash: ObjectIdentifier, salt_len: u8) -> PssParams<'static> {
+        let hash = Algorithm::with_null(hash);
+        PssParams { hash, mask_gen: MaskGen::mgf1(hash), salt_len, trailer_field: TrailerField::BC }
+    }
+
+    /// The parameters that this is the DER of, the whole slice. A default that is written out is read too.
+    pub fn decode(der: &'a [u8]) -> Result<PssParams<'a>, Error> {
+        raw::pss_params(der).map(PssParams::seen)
+    }
+
+    /// The same, where no default is written out; else `Error::NONCANONICAL`.
+    pub fn decode_strict(der: &'a [u8]) -> Result<PssParams<'a>, Error> {
+        raw::pss_params_strict(der).map(PssParams::seen)
+    }
+
+    fn seen(raw: raw::PssParams<'a>) -> PssParams<'a> {
+        PssParams {
+            hash: Algorithm::seen(&raw.hash),
+            mask_gen: MaskGen::seen(&raw.mask_gen),
+            salt_len: raw.salt_len,
+            trailer_field: TrailerField::BC, // the library reads no other
+        }
+    }
+}
+
+impl Default for PssParams<'_> {
+    fn default() -> Self {
+        PssParams::new(ObjectIdentifier::SHA_1, PssParams::SALT_LEN_DEFAULT)
+    }
+}
+
+impl Writes for PssParams<'_> {
+    fn with_raw<T>(&self, call: impl FnOnce(&dyn Encode) -> Result<T, Error>) -> Result<T, Error> {
+        let (hash, mask_gen) = (self.hash.raw(), self.mask_gen.raw());
+        call(&raw::PssParams { hash, mask_gen, salt_len: self.salt_len, trailer_field: self.trailer_field as u8 })
+    }
+}
+
+/// The parameters of RSAES-OAEP (RFC 8017 A.2.1). A field that the DER leaves out has its default here, and one that has
+/// its default is left out of the DER.
+#[derive(Clone, Copy, Debug, PartialEq, Eq, Hash)]
+pub struct OaepParams<'a> {
+    /// The hash function; SHA-1 is the default.
+    pub hash: Algorithm<'a>,
+    /// The mask generation function; MGF1 with SHA-1 is the default.
+    pub mask_gen: MaskGen<'a>,
+    /// Where the label comes from; the default is pSpecified with an empty label.
+    pub p_source: Algorithm<'a>,
+}
+
+impl<'a> OaepParams<'a> {
+    /// Those of one hash function and an empty label: MGF1 with the same one, and NULL as parameters.
+    pub const fn new(hash: ObjectIdentifier) -> OaepParams<'static> {
+        OaepParams::new_with_label(hash, &[])
+    }
+
+    /// The same with a label.
+    pub const fn new_with_label(hash: ObjectIdentifier, label: &'a [u8]) -> OaepParams<'a> {
+        let hash = Algorithm::with_null(hash);
+        let p_source = Algorithm { oid: ObjectIdentifier::P_SPECIFIED, parameters: Some(Any::octet_string(label)) };
+        OaepParams { hash, mask_gen: MaskGen::mgf1(hash), p_source }
+    }
+
+    /// The parameters that this is the DER of, the whole slice. A default that is written out is read too.
+    pub fn decode(der: &'a [u8]) -> Result<OaepParams<'a>, Error> {
+        raw::oaep_params(der).map(OaepParams::seen)
+    }
+
+    /// The same, where no default is written out; else `Error::NONCANONICAL`.
+    pub fn decode_strict(der: &'a [u8]) -> Result<OaepParams<'a>, Error> {
+        raw::oaep_params_strict(der).map(OaepParams::seen)
+    }
+
+    fn seen(raw: raw::OaepParams<'a>) -> OaepParams<'a> {
+        OaepParams { hash: Algorithm::seen(&raw.hash), mask_gen: MaskGen::seen(&raw.mask_gen), p_source: Algorithm::seen(&raw.p_source) }
+    }
+}
+
+impl Default for OaepParams<'_> {
+    fn default() -> Self {
+        OaepParams::new(ObjectIdentifier::SHA_1)
+    }
+}
+
+impl Writes for OaepParams<'_> {
+    fn with_raw<T>(&self, call: impl FnOnce(&dyn Encode) -> Result<T, Error>) -> Result<T, Error> {
+        call(&raw::OaepParams { hash: self.hash.raw(), mask_gen: self.mask_gen.raw(), p_source: self.p_source.raw() })
+    }
+}

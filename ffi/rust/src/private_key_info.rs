@@ -1,0 +1,61 @@
+use crate::encode::Writes;
+use crate::raw::{self, Bytes, Encode};
+use crate::{Error, PrivateKey};
+use std::fmt;
+
+/// An RSA private key in PKCS #8 (PrivateKeyInfo of RFC 5208), not encrypted. `Debug` prints the public half of the key
+/// alone, and it can't be compared.
+#[derive(Clone)]
+pub struct PrivateKeyInfo<'a> {
+    private_key_der: &'a [u8],
+    private_key: PrivateKey<'a>,
+    attributes: Option<&'a [u8]>,
+}
+
+impl<'a> PrivateKeyInfo<'a> {
+    /// The container that this is the DER of, the whole slice, and the key in it.
+    pub fn decode(der: &'a [u8]) -> Result<PrivateKeyInfo<'a>, Error> {
+        let (info, key) = raw::private_key_info(der)?;
+        let private_key_der = info.private_key.get();
+        let attributes = info.has_attributes.then(|| info.attributes.get());
+        Ok(PrivateKeyInfo { private_key_der, private_key: PrivateKey::seen(private_key_der, &key)?, attributes })
+    }
+
+    /// A container of the key that this is the DER of (`PrivateKey::to_vec` makes it), without attributes.
+    pub fn new(private_key_der: &'a [u8]) -> Result<PrivateKeyInfo<'a>, Error> {
+        Ok(PrivateKeyInfo { private_key_der, private_key: PrivateKey::decode(private_key_der)?, attributes: None })
+    }
+
+    /// The same with attributes, by their contents, which aren't looked at.
+    pub fn with_attributes(self, attributes: &'a [u8]) -> PrivateKeyInfo<'a> {
+        PrivateKeyInfo { attributes: Some(attributes), ..self }
+    }
+
+    /// The key.
+    pub fn private_key(&self) -> &PrivateKey<'a> {
+        &self.private_key
+    }
+
+    /// The DER of the key.
+    pub fn private_key_der(&self) -> &'a [u8] {
+        self.private_key_der
+    }
+
+    /// The contents of the attributes.
+    pub fn attributes(&self) -> Option<&'a [u8]> {
+        self.attributes
+    }
+}
+
+impl fmt::Debug for PrivateKeyInfo<'_> {
+    fn fmt(&self, f: &mut fmt::Formatter<'_>) -> fmt::Result {
+        f.debug_struct("PrivateKeyInfo").field("private_key", &self.private_key).finish_non_exhaustive()
+    }
+}
+
+impl Writes for PrivateKeyInfo<'_> {
+    fn with_raw<T>(&self, call: impl FnOnce(&dyn Encode) -> Result<T, Error>) -> Result<T, Error> {
+        let attributes = Bytes::new(self.attributes.unwrap_or_default());
+        call(&raw::PrivateKeyInfo { private_key: Bytes::new(self.private_key_der), has_attributes: self.attributes.is_some(), attributes })
+    }
+}

@@ -1,0 +1,67 @@
+//! Where memory is asked for, and that want of it is `Error::OUT_OF_MEMORY`: each request is refused in turn.
+use pkcs1_proved::*;
+use std::alloc::{GlobalAlloc, Layout, System};
+use std::cell::Cell;
+
+struct Counting;
+
+thread_local! {
+    /// How many requests of this thread are answered before one is refused; below zero none is counted.
+    static LEFT: Cell<isize> = const { Cell::new(isize::MIN) };
+}
+
+// SAFETY: the system's allocator, or null.
+unsafe impl GlobalAlloc for Counting {
+    unsafe fn alloc(&self, layout: Layout) -> *mut u8 {
+        let left = LEFT.get();
+        if left >= 0 {
+            LEFT.set(left - 1);
+        }
+        if left == 0 {
+            return std::ptr::null_mut();
+        }
+        // SAFETY: as the caller says.
+        unsafe { System.alloc(layout) }
+    }
+
+    unsafe fn dealloc(&self, pointer: *mut u8, layout: Layout) {
+        // SAFETY: as the caller says.
+        unsafe { System.dealloc(pointer, layout) }
+    }
+}
+
+#[global_allocator]
+static ALLOCATOR: Counting = Counting;
+
+/// How many requests the call makes; with each of them refused it answers `OUT_OF_MEMORY`.
+fn requests<T>(call: impl Fn() -> Result<T, Error>) -> isize {
+    for count in 0.. {
+        LEFT.set(count);
+        let answer = call();
+        let refused = LEFT.replace(isize::MIN) < 0;
+        match answer {
+            Ok(_) if !refused => return count,
+            answer => assert_eq!((answer.err(), refused), (Some(Error::OUT_OF_MEMORY), true)),
+        }
+    }
+    unreachable!()
+}
+
+#[test]
+fn want_of_memory_is_told() {
+    let (two, three) = (include_bytes!("keys/priv2.der"), include_bytes!("keys/priv3.der"));
+    let (p8, public) = (include_bytes!("keys/p8_3.der"), include_bytes!("keys/pub3.der"));
+    let (key, long_key) = (PrivateKey::decode(two).unwrap(), PrivateKey::decode(three).unwrap());
+    assert_eq!(requests(|| PublicKey::decode(public)), 0);
+    assert_eq!(requests(|| PublicKey::decode(public)?.encode(&mut [0; 400])), 0);
+    assert_eq!(requests(|| PublicKey::decode(public)?.to_vec()), 1);
+    assert_eq!(requests(|| PrivateKey::decode(two)), 0);
+    assert_eq!(requests(|| key.encode(&mut [0; 2000])), 0);
+    assert_eq!(requests(|| key.to_vec()), 1);
+    assert_eq!(requests(|| PssParams::new(ObjectIdentifier::SHA_256, 32).encode(&mut [0; 99])), 0);
+    assert_eq!(requests(|| OaepParams::default().encoded_len()), 0);
+    assert_eq!(requests(|| PrivateKey::decode(three)), 2);
+    assert_eq!(requests(|| PrivateKeyInfo::decode(p8)), 2);
+    assert_eq!(requests(|| long_key.encode(&mut [0; 2000])), 1);
+    assert_eq!(requests(|| long_key.to_vec()), 2);
+}

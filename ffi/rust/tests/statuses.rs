@@ -1,0 +1,57 @@
+//! The table of inputs: each is read with its status, and an accepted one is written again.
+use pkcs1_proved::{Error, OaepParams, PrivateKey, PrivateKeyInfo, PssParams, PublicKey};
+
+fn octets(digits: &str) -> Vec<u8> {
+    let digits = digits.trim_start_matches('-');
+    (0..digits.len()).step_by(2).map(|at| u8::from_str_radix(&digits[at..at + 2], 16).unwrap()).collect()
+}
+
+fn status(name: &str) -> Option<Error> {
+    Some(match name {
+        "OK" => return None,
+        "INCOMPLETE" => Error::INCOMPLETE,
+        "INDEFINITE_LENGTH" => Error::INDEFINITE_LENGTH,
+        "LENGTH" => Error::LENGTH,
+        "NONCANONICAL" => Error::NONCANONICAL,
+        "OID_MALFORMED" => Error::OID_MALFORMED,
+        "OID_UNKNOWN" => Error::OID_UNKNOWN,
+        "OVERFLOW" => Error::OVERFLOW,
+        "OVERLENGTH" => Error::OVERLENGTH,
+        "PARAMETERS_MISSING" => Error::PARAMETERS_MISSING,
+        "TAG_UNEXPECTED" => Error::TAG_UNEXPECTED,
+        "TAG_UNKNOWN" => Error::TAG_UNKNOWN,
+        "TRAILING_DATA" => Error::TRAILING_DATA,
+        "VALUE" => Error::VALUE,
+        _ => panic!("{name} is no status"),
+    })
+}
+
+/// The DER that is written again.
+fn again(kind: &str, der: &[u8]) -> Result<Vec<u8>, Error> {
+    match kind {
+        "pub" => PublicKey::decode(der)?.to_vec(),
+        "priv" => PrivateKey::decode(der)?.to_vec(),
+        "p8" => PrivateKeyInfo::decode(der)?.to_vec(),
+        "pss" => PssParams::decode(der)?.to_vec(),
+        "pss-strict" => PssParams::decode_strict(der)?.to_vec(),
+        "oaep" => OaepParams::decode(der)?.to_vec(),
+        "oaep-strict" => OaepParams::decode_strict(der)?.to_vec(),
+        _ => panic!("{kind} is no kind"),
+    }
+}
+
+#[test]
+fn each_input_has_its_status() {
+    let mut rows = 0;
+    for line in include_str!("statuses").lines().filter(|line| !line.is_empty() && !line.starts_with('#')) {
+        let [kind, digits, name] = line.split(' ').collect::<Vec<_>>()[..] else { panic!("{line}") };
+        let der = octets(digits);
+        let written = again(kind, &der);
+        assert_eq!(written.as_ref().err().copied(), status(name), "{line}");
+        if let (Ok(written), false) = (written, kind == "pss" || kind == "oaep") {
+            assert_eq!(written, der, "{line}");
+        }
+        rows += 1;
+    }
+    assert!(rows > 150);
+}

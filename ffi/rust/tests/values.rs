@@ -1,0 +1,147 @@
+//! What each type reads, writes and prints.
+use pkcs1_proved::*;
+use std::collections::HashSet;
+
+const PUBLIC: [u8; 10] = [0x30, 0x08, 0x02, 0x03, 0x00, 0xc1, 0x7f, 0x02, 0x01, 0x03];
+const TWO: [u8; 29] = [0x30, 27, 2, 1, 0, 2, 1, 1, 2, 1, 2, 2, 1, 3, 2, 1, 4, 2, 1, 5, 2, 1, 6, 2, 1, 7, 2, 1, 8];
+
+/// The key above with so many primes past the first two, at most eight.
+fn with_others(count: u8) -> Vec<u8> {
+    let mut der = vec![0x30, 29 + 11 * count, 2, 1, 1];
+    der.extend(&TWO[5..]);
+    der.extend([0x30, 11 * count]);
+    (0..count).for_each(|i| der.extend([0x30, 9, 2, 1, 3 * i + 9, 2, 1, 3 * i + 10, 2, 1, 3 * i + 11]));
+    der
+}
+
+#[test]
+fn public_keys() {
+    let key = PublicKey::decode(&PUBLIC).unwrap();
+    assert_eq!((key.modulus, key.public_exponent), (&[0xc1, 0x7f][..], &[3][..]));
+    assert!(std::ptr::eq(key.modulus, &PUBLIC[5..7]));
+    assert_eq!(PublicKey::try_from(&PUBLIC[..]), Ok(key));
+    assert_eq!((key.to_vec().unwrap(), key.encoded_len()), (PUBLIC.to_vec(), Ok(10)));
+    assert_eq!(PublicKey { modulus: &[0, 0, 0xc1, 0x7f], public_exponent: &[3] }.to_vec().unwrap(), PUBLIC);
+    let empty = PublicKey { modulus: &[], public_exponent: &[3] };
+    assert_eq!((empty.to_vec(), empty.encoded_len()), (Err(Error::LENGTH), Err(Error::LENGTH)));
+    for n in 0..PUBLIC.len() {
+        assert_eq!(PublicKey::decode(&PUBLIC[..n]), Err(Error::INCOMPLETE));
+    }
+    let mut out = [7; 12];
+    assert_eq!((key.encode(&mut out[..9]), out), (Err(Error::NO_ROOM), [7; 12]));
+    assert_eq!((key.encode(&mut out), &out[..10], &out[10..]), (Ok(10), &PUBLIC[..], &[7, 7][..]));
+    assert!(HashSet::from([key]).contains(&PublicKey::decode(&PUBLIC).unwrap()));
+}
+
+#[test]
+fn private_keys() {
+    let key = PrivateKey::decode(&TWO).unwrap();
+    let numbers = [
+        key.modulus, key.public_exponent, key.private_exponent, key.prime1, key.prime2, key.exponent1, key.exponent2, key.coefficient,
+    ];
+    assert_eq!(numbers, [[1], [2], [3], [4], [5], [6], [7], [8]]);
+    assert!(key.other_primes.is_empty());
+    assert_eq!(PrivateKey::try_from(&TWO[..]).unwrap().to_vec().unwrap(), TWO);
+    assert_eq!(key.public_key(), PublicKey { modulus: &[1], public_exponent: &[2] });
+    assert_eq!(PublicKey::from(&key), key.public_key());
+    let mut out = [7; 30];
+    assert_eq!((key.encode(&mut out), &out[..29], out[29]), (Ok(29), &TWO[..], 7));
+    let no_prime = PrivateKey { prime2: &[], ..key };
+    assert_eq!(no_prime.to_vec(), Err(Error::LENGTH));
+}
+
+#[test]
+fn other_primes() {
+    for count in 1..=8 {
+        let der = with_others(count);
+        let key = PrivateKey::decode(&der).unwrap();
+        assert_eq!(key.other_primes.len(), usize::from(count));
+        for (i, other) in (0..).zip(&key.other_primes) {
+            assert_eq!([other.prime, other.exponent, other.coefficient], [[3 * i + 9], [3 * i + 10], [3 * i + 11]]);
+        }
+        assert_eq!((key.to_vec().unwrap(), key.encoded_len()), (der.clone(), Ok(der.len())));
+        assert_eq!(PrivateKey { other_primes: vec![], ..key }.to_vec().unwrap(), TWO);
+        let info = PrivateKeyInfo::new(&der).unwrap().to_vec().unwrap();
+        assert_eq!(PrivateKeyInfo::decode(&info).unwrap().private_key().other_primes.len(), usize::from(count));
+    }
+}
+
+#[test]
+fn containers() {
+    let mut der = vec![0x30, 0x31, 2, 1, 0, 0x30, 13, 6, 9];
+    der.extend(ObjectIdentifier::RSA_ENCRYPTION.as_bytes());
+    der.extend([5, 0, 4, 29]);
+    der.extend(TWO);
+    let info = PrivateKeyInfo::decode(&der).unwrap();
+    assert_eq!((info.private_key().prime2, info.private_key_der(), info.attributes()), (&[5][..], &TWO[..], None));
+    assert_eq!(info.to_vec().unwrap(), der);
+    let made = PrivateKeyInfo::new(&TWO).unwrap();
+    assert_eq!((made.to_vec().unwrap(), made.encoded_len()), (der.clone(), Ok(51)));
+    let with = made.with_attributes(&[2, 1, 0]).to_vec().unwrap();
+    assert_eq!(PrivateKeyInfo::try_from(&with[..]).unwrap().attributes(), Some(&[2, 1, 0][..]));
+    assert_eq!(PrivateKeyInfo::new(&TWO[..28]).unwrap_err(), Error::INCOMPLETE);
+    assert_eq!(PrivateKeyInfo::decode(&TWO).unwrap_err(), Error::TAG_UNEXPECTED);
+}
+
+#[test]
+fn identifiers() {
+    assert_eq!(ObjectIdentifier::new(&[0x2b, 0x0e, 3, 2, 0x1a]), Ok(ObjectIdentifier::SHA_1));
+    assert_eq!(ObjectIdentifier::new(&[1; 39]).unwrap().as_bytes(), [1; 39]);
+    assert_eq!(ObjectIdentifier::new(&[1; 40]), Err(Error::OID_MALFORMED));
+    for octets in [&[][..], &[0x80], &[0x2a, 0x80, 0x01]] {
+        let oid = ObjectIdentifier::new(octets).unwrap();
+        assert_eq!(PssParams::new(oid, 20).to_vec(), Err(Error::OID_MALFORMED));
+    }
+    assert_eq!(format!("{:?}", ObjectIdentifier::SHA_256), "ObjectIdentifier(608648016503040201)");
+}
+
+#[test]
+fn pss_parameters() {
+    let params = PssParams::decode(&[0x30, 0]).unwrap();
+    assert_eq!(params, PssParams::default());
+    assert_eq!(params.hash, Algorithm { oid: ObjectIdentifier::SHA_1, parameters: Some(Any::NULL) });
+    assert_eq!(params.mask_gen, MaskGen { oid: ObjectIdentifier::MGF1, hash: Some(params.hash) });
+    assert_eq!((params.salt_len, params.trailer_field), (20, TrailerField::BC));
+    assert_eq!((params.to_vec().unwrap(), params.encoded_len()), (vec![0x30, 0], Ok(2)));
+    assert_eq!(PssParams { salt_len: 32, ..params }.to_vec().unwrap(), [0x30, 5, 0xa2, 3, 2, 1, 32]);
+    assert_eq!(PssParams { salt_len: 255, ..params }.to_vec().unwrap(), [0x30, 6, 0xa2, 4, 2, 2, 0, 255]);
+    for hash in [ObjectIdentifier::SHA_224, ObjectIdentifier::SHA_256, ObjectIdentifier::SHA_384, ObjectIdentifier::SHA_512] {
+        let der = PssParams::new(hash, 64).to_vec().unwrap();
+        assert_eq!((der.len(), PssParams::decode_strict(&der)), (54, Ok(PssParams::new(hash, 64))));
+    }
+    let without = Algorithm { oid: ObjectIdentifier::SHA_1, parameters: None };
+    let der = PssParams { hash: without, mask_gen: MaskGen { oid: ObjectIdentifier::MGF1, hash: None }, ..params }.to_vec().unwrap();
+    let read = PssParams::try_from(&der[..]).unwrap();
+    assert_eq!((read.hash, read.mask_gen.hash), (without, None));
+    let written = [0x30, 5, 0xa2, 3, 2, 1, 20];
+    assert_eq!((PssParams::decode(&written), PssParams::decode_strict(&written)), (Ok(params), Err(Error::NONCANONICAL)));
+}
+
+#[test]
+fn oaep_parameters() {
+    let params = OaepParams::decode(&[0x30, 0]).unwrap();
+    assert_eq!(params, OaepParams::default());
+    assert_eq!(params.p_source.parameters, Some(Any::octet_string(b"")));
+    assert_eq!((params.to_vec().unwrap(), params.encoded_len()), (vec![0x30, 0], Ok(2)));
+    let labelled = OaepParams::new_with_label(ObjectIdentifier::SHA_256, b"label");
+    let der = labelled.to_vec().unwrap();
+    assert_eq!((OaepParams::decode_strict(&der), OaepParams::try_from(&der[..])), (Ok(labelled), Ok(labelled)));
+    assert_eq!(OaepParams::new(ObjectIdentifier::SHA_256).encoded_len(), Ok(49));
+    let written = [0x30, 0x11, 0xa2, 0x0f, 0x30, 0x0d, 6, 9, 0x2a, 0x86, 0x48, 0x86, 0xf7, 0x0d, 1, 1, 9, 4, 0];
+    assert_eq!((OaepParams::decode(&written), OaepParams::decode_strict(&written)), (Ok(params), Err(Error::NONCANONICAL)));
+}
+
+#[test]
+fn what_is_printed() {
+    let der = with_others(1);
+    let key = PrivateKey::decode(&der).unwrap();
+    assert_eq!(format!("{key:?}"), "PrivateKey { modulus: [1], public_exponent: [2], .. }");
+    assert_eq!(format!("{:?}", key.other_primes), "[OtherPrime { .. }]");
+    let info = PrivateKeyInfo::new(&der).unwrap();
+    assert_eq!(format!("{info:?}"), "PrivateKeyInfo { private_key: PrivateKey { modulus: [1], public_exponent: [2], .. }, .. }");
+    let error = PublicKey::decode(&[]).unwrap_err();
+    assert_eq!((error.to_string(), format!("{error:?}")), ("the input ends too early".into(), "the input ends too early".into()));
+    assert_eq!((error.status(), Error::OTHER_PRIMES.status()), (2, 21));
+    assert_eq!(Error::OUT_OF_MEMORY.to_string(), "no memory was found");
+    assert_eq!(version(), env!("CARGO_PKG_VERSION"));
+}

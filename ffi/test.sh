@@ -1,0 +1,135 @@
+#!/usr/bin/env bash
+# The tests of what build.sh made in out/, which calls this: in C by gcc, and by clang where it is installed, C99 and C++;
+# under the sanitizers and valgrind; installed, and found by pkg-config; in Rust; on what OpenSSL makes. What isn't
+# installed is told, and left out.
+set -eu
+here=$(cd "$(dirname "$0")" && pwd)
+out=$here/out
+statuses=$here/rust/tests/statuses
+CC=${CC:-gcc} CXX=${CXX:-g++}
+room=$(mktemp -d)
+trap 'rm -rf "$room"' EXIT
+
+stop() {
+    printf 'ffi/test.sh: %s\n' "$*" >&2
+    exit 1
+}
+# have TOOL WHAT: whether the tool is there; else says what isn't tested.
+have() {
+    command -v "$1" > /dev/null && return
+    printf 'ffi/test.sh: %s is not installed: %s\n' "$1" "$2" >&2
+    return 1
+}
+have clang "the C tests are compiled by $CC alone" && clang=clang || clang=
+have clang++ "the C++ test is compiled by $CXX alone" && clangxx=clang++ || clangxx=
+
+# C and C++.
+flags=(-O1 -g -Wall -Wextra -Werror -pedantic "-I$here/include")
+for compiler in "$CXX" $clangxx; do
+    "$compiler" -std=c++11 -Wold-style-cast "${flags[@]}" -x c++ "$here/c/header.cc" -x none "$out/libpkcs1.a" -o "$room/header"
+    "$room/header"
+done
+for compiler in $clang "$CC"; do
+    for name in test modulus read_key; do
+        "$compiler" -std=c99 "${flags[@]}" "$here/c/$name.c" "$out/libpkcs1.a" -o "$room/$name"
+    done
+    "$room/test" "$statuses"
+done
+"$CC" -std=c11 "${flags[@]}" -fsanitize=address,undefined -fno-sanitize-recover=all "$here/c/test.c" "$here/c/pkcs1.c" \
+    "$out/proved.o" -o "$room/sanitized"
+"$room/sanitized" "$statuses"
+"$CC" -std=c99 "${flags[@]}" "$here/c/test.c" "-L$out" -lpkcs1 -Wl,-rpath,"$out" -o "$room/test_shared"
+"$room/test_shared" "$statuses"
+"$CC" -std=c99 "${flags[@]}" "$here/c/dlopen.c" -ldl -o "$room/dlopen"
+"$room/dlopen" "$out/libpkcs1.so"
+if have valgrind "the C test runs under the sanitizers alone"; then
+    valgrind --quiet --error-exitcode=9 --leak-check=full "$room/test" "$statuses"
+fi
+
+# Installed into a folder with a space in its name, by itself and below DESTDIR.
+printf '\060\010\002\003\000\301\177\002\001\003' > "$room/pub.der"
+"$here/build.sh" install "$room/a b" > /dev/null
+DESTDIR=$room/stage "$here/build.sh" install /usr > /dev/null
+diff -r "$room/a b" "$room/stage/usr"
+if have pkg-config "libpkcs1.pc is not used"; then
+    export PKG_CONFIG_PATH="$room/a b/lib/pkgconfig"
+    [ "$(pkg-config --modversion libpkcs1)" = "$("$room/test" --version)" ] || stop "libpkcs1.pc tells another version"
+    shared=$(pkg-config --cflags --libs libpkcs1)
+    static=$(pkg-config --static --cflags --libs libpkcs1)
+else
+    shared="-I\"$room/a b/include\" -L\"$room/a b/lib\" -lpkcs1"
+    static=$shared
+fi
+eval "\"$CC\" -Wall -Werror \"$here/c/modulus.c\" $shared -Wl,-rpath,\"$room/a b/lib\" -o \"$room/shared\""
+if printf 'int main(void) { return 0; }' | "$CC" -static -x c - -o "$room/empty_program" 2> "$room/log"; then
+    eval "\"$CC\" -Wall -Werror -static \"$here/c/modulus.c\" $static -o \"$room/static\""
+else
+    printf 'ffi/test.sh: there is no static C library: no program is linked with -static\n' >&2
+    "$CC" "-I$room/a b/include" "$here/c/modulus.c" "$room/a b/lib/libpkcs1.a" -o "$room/static"
+fi
+"$here/build.sh" install > /dev/null 2>&1 && stop "build.sh takes wrong arguments"
+
+# Rust.
+cd "$here/rust"
+export PKCS1_LIB=$out CARGO_TARGET_DIR=$out/target
+# cargo_quietly WORD..: shows what cargo prints where it fails.
+cargo_quietly() {
+    cargo "$@" > "$out/cargo.log" 2>&1 || {
+        cat "$out/cargo.log" >&2
+        stop "cargo $1 failed"
+    }
+}
+cargo_quietly test --offline --quiet
+cargo_quietly build --offline --quiet --examples
+RUSTDOCFLAGS='-D warnings' cargo_quietly doc --offline --quiet --no-deps
+if have cargo-clippy "the crate isn't linted"; then
+    cargo_quietly clippy --offline --quiet --all-targets -- -D warnings
+fi
+cargo_quietly package --offline --quiet --allow-dirty --no-verify --list
+for file in Cargo.toml LICENSE-APACHE LICENSE-MIT README.md build.rs src/lib.rs; do
+    grep -qx "$file" "$out/cargo.log" || stop "the crate's package lacks $file"
+done
+# The library is found without PKCS1_LIB; one that is built again is linked again; and a wrong PKCS1_LIB is told.
+(
+    unset PKCS1_LIB
+    cargo_quietly test --offline --quiet --test statuses
+)
+mkdir "$room/lib"
+cp "$out/libpkcs1.a" "$room/lib"
+export PKCS1_LIB=$room/lib
+cargo_quietly test --offline --quiet --test values
+sed 's/0\.8\.0/9.9.9/g' "$out/libpkcs1.a" > "$room/lib/libpkcs1.a"
+cargo test --offline --quiet --test values > "$room/log" 2>&1 && stop "a library that was built again isn't linked again"
+grep -q '"9.9.9"' "$room/log" || stop "the test of another library fails for another reason"
+# Elsewhere, the crate is checked and documented without the library, and linked with an installed one.
+cp -rL "$here/rust" "$room/crate"
+(
+    cd "$room/crate"
+    unset PKCS1_LIB
+    export CARGO_TARGET_DIR=$room/target
+    PKG_CONFIG_PATH='' PKG_CONFIG_LIBDIR=$room cargo_quietly check --offline
+    grep -q "libpkcs1.a isn't found" "$out/cargo.log" || stop "cargo check doesn't say that the library is missing"
+    PKG_CONFIG_PATH='' PKG_CONFIG_LIBDIR=$room cargo_quietly doc --offline --quiet --no-deps
+    if command -v pkg-config > /dev/null; then
+        cargo_quietly test --offline --quiet --test statuses
+    fi
+)
+PKCS1_LIB=$room cargo check --offline --quiet 2> "$room/log" && stop "a folder without the library is taken"
+grep -q '^ *error: PKCS1_LIB' "$room/log" || stop "the build doesn't say that PKCS1_LIB is wrong"
+
+# The example of each language: a key in a file, and files that it refuses.
+: > "$room/empty"
+head -c 65537 /dev/zero > "$room/long"
+programs=("$room/modulus" "$room/shared" "$room/static" "$out/target/debug/examples/modulus")
+for program in "${programs[@]}"; do
+    [ "$("$program" "$room/pub.der")" = c17f ] || stop "$program doesn't print the modulus"
+    for file in none empty long; do
+        "$program" "$room/$file" > "$room/text" 2>&1 && stop "$program reads a key in $file"
+        [ -s "$room/text" ] || stop "$program doesn't say what is wrong with $file"
+    done
+done
+for want in 'none: No such file' 'empty: the file is empty' 'long: the file is longer than 65536 bytes'; do
+    "$room/modulus" "$room/${want%%:*}" 2>&1 | grep -q "$want" || stop "modulus doesn't print '$want'"
+done
+"$here/openssl.sh" "$room/read_key" "$out/target/debug/examples/read_key"
+printf 'ffi: %s calls and constants, tested in C and Rust\n' "$(wc -l < "$out/declared")"
