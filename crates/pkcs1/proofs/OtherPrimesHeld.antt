@@ -1,5 +1,5 @@
 -- The first of the other primes that bytes hold, and those behind it.
-use Rattle.std.proofs.Common.{◌≡◌, ℕ, ◌+◌, ◌-◌, ◌<◌, ◌≤◌, List, [], ◌∷◌, ◌++◌, length, map, refl, sym, ap, ◌∙◌, arith, append-nil, length-append, inr, ⊎_elim, Some, None, Ok, false, take, drop}
+use Rattle.std.proofs.Common.{◌≡◌, ℕ, ◌+◌, ◌-◌, ◌<◌, ◌≤◌, List, [], ◌∷◌, ◌++◌, length, map, refl, sym, ap, ◌∙◌, arith, append-nil, length-append, inr, ⊎_elim, Some, None, Ok, Err, false, take, drop}
 use Rattle.std.proofs.lemmas.List.{length-map}
 use Rattle.der_core.specs.Faults.{ItemsFault}
 use Rattle.pkcs1.specs.KeyFaults.{OneOtherFault}
@@ -124,6 +124,13 @@ all_taken (Some c) n bytes rest h r =
     let none : length rest ≡ 0 = rw (← p.1) (grind (arith, common_steps, h)) in
     let all : bytes ≡ c = all_read (Some c) n bytes rest c h r refl in
     (ap (λ l. Some l) (sym all), empty_is rest none)
+
+-- All that is left can be read.
+pub all_there : (left : List ℕ) (n : ℕ) (e : ErrorKind) → n ≡ length left → front_of n left ≡ Err e → ⊥
+all_there left n e same refused =
+    let room : nat_lt (length left) n ≡ false = grind (arith, nat_tests, same) in
+    let no = rw room at refused in
+    cc
 
 pub list_given : (bytes : List ℕ) (primes : OtherPrimes) (others : List (OtherPrime (List ℕ))) → ItemsContents (OtherPrimeInfo Integer) others bytes → primes.bytes.now ≡ bytes
     → ItemsContents (OtherPrimeInfo Integer) (others_left primes) bytes
