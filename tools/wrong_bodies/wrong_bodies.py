@@ -1,0 +1,268 @@
+#!/usr/bin/env python3
+"""Tries the wrong bodies crates/NAME/wrong/*.edit, many in one check: the prover must refuse each at a goal of the function that it changes.
+
+    tools/wrong_bodies/wrong_bodies.py [--jobs N] [NAME..]      at the top of the repository, behind `rt ci` or `rt check`
+
+README.md beside this file says what counts as refused. The last line is 'N refused, M failed'; the status is 0 exactly where M is 0.
+"""
+import argparse
+import concurrent.futures
+import os
+import re
+import shutil
+import subprocess
+import sys
+import tempfile
+from typing import NamedTuple
+
+sys.dont_write_bytecode = True
+from functions import functions, homes_of
+
+KIT = os.path.dirname(subprocess.run(["rt", "doc"], capture_output=True, text=True, check=True).stdout.strip())
+# Edits of one crate by which this tool itself is tested: it must give credit to those called wrong, and to no other.
+DEMO, DEMO_CRATE = "tools/wrong_bodies/demo", "pkcs8_core"
+# An answer that names what the edit took away: the goal itself was never tried.
+NAMES_WHAT_IS_GONE = re.compile(r"has no |is not in scope|was not admitted|is no name|not checked:|operand is missing|expected the end|cannot continue")
+UNREADABLE = re.compile(r"(?:\./)?(src/\S+?):(\d+):\d+: error")
+NOTE = re.compile(r"note: (src/\S+?):(\d+):\d+: .*\(`([^`]+)`\)")
+
+
+class BadEdit(Exception):
+    """An edit that cannot be tried, and why."""
+
+
+class Edit(NamedTuple):
+    path: str
+    pairs: list  # (file, old text, new text)
+    owned: frozenset  # (file, function) of each body that it changes
+
+    def applied(self, texts):
+        """The texts of the files that it changes."""
+        made = {}
+        for path, old, new in self.pairs:
+            text = made.get(path, texts.get(path, ""))
+            if text.count(old) != 1:
+                raise BadEdit(f"an 'old:' text stands {text.count(old)} times in {path}, and not once")
+            made[path] = text.replace(old, new)
+        return made
+
+
+def read_edit(path, texts, homes):
+    """Reads an edit: lines 'file: src/..', and then pairs of lines 'old: TEXT' and 'new: TEXT'."""
+    pairs, file, old = [], None, None
+    with open(path, encoding="utf-8") as it:
+        for line in it.read().split("\n"):
+            word, _, rest = line.partition(":")
+            rest = rest.removeprefix(" ")
+            if word == "file":
+                file = rest.strip()
+            elif word == "old":
+                old = rest
+            elif word == "new":
+                pairs.append((file, old, rest))
+    edit = Edit(path, pairs, frozenset())
+    made = edit.applied(texts)
+    edit = edit._replace(owned=frozenset(it for file, new in made.items() for it in changed_bodies(file, texts[file], new, homes)))
+    if not edit.owned:
+        raise BadEdit("it changes no body of a function")
+    return edit
+
+
+def changed_bodies(path, old, new, homes):
+    """The functions whose bodies differ between two texts that are the same outside bodies."""
+    (outside, before), (outside_now, now) = cut(path, old, homes), cut(path, new, homes)
+    if outside != outside_now or before.keys() != now.keys():
+        raise BadEdit("it changes more than bodies of functions: must-fail/ is the place for it")
+    return [(path, name) for name in now if now[name] != before[name]]
+
+
+def cut(path, text, homes):
+    """A text without the bodies of its functions, and these bodies."""
+    lines, bodies = text.split("\n"), {}
+    for it in reversed(functions(path, text, homes)):
+        bodies[it.name] = lines[it.body : it.last]
+        del lines[it.body : it.last]
+    return lines, bodies
+
+
+class Crate:
+    """A crate, and what the prover kept of it in this run."""
+
+    def __init__(self, name, crates, paths):
+        self.name, self.kept, self.paths = name, tempfile.mkdtemp(prefix="wrong-kept-"), paths
+        self.words, self.checks, self.seconds = check_words(name, crates), 0, 0.0
+        self.texts = {}
+        for at, _, files in os.walk(f"crates/{name}/src"):
+            for file in files:
+                with open(f"{at}/{file}", encoding="utf-8") as it:
+                    self.texts[f"{at}/{file}".removeprefix(f"crates/{name}/")] = it.read()
+        self.homes = homes_of(self.texts)
+
+    def check(self, texts, names):
+        """What the prover says of these functions of a copy of the crate with these texts in place of its own."""
+        with tempfile.TemporaryDirectory(prefix="wrong-") as room:
+            for part in ("src", "specs", "proofs"):
+                if os.path.isdir(f"crates/{self.name}/{part}"):
+                    shutil.copytree(f"crates/{self.name}/{part}", f"{room}/{part}")
+            for path, text in texts.items():
+                with open(f"{room}/{path}", "w", encoding="utf-8") as it:
+                    it.write(text)
+            words = [f"{KIT}/bin/rattle", "check", *self.words, "--incremental", self.kept]
+            for it in names:
+                words += ["--only", it]
+            with open(f"{room}/said", "w+", errors="replace") as said:
+                ran = subprocess.Popen(words, cwd=room, stdin=subprocess.DEVNULL, stdout=said, stderr=said)
+                _, _, used = os.wait4(ran.pid, 0)
+                self.checks, self.seconds = self.checks + 1, self.seconds + used.ru_utime + used.ru_stime
+                said.seek(0)
+                return said.read().rstrip("\n").split("\n")
+
+    def try_all(self):
+        """Of each edit, by its path: the goal that refused it, or None and why it doesn't count as refused."""
+        verdicts, left = {}, []
+        for path in self.paths:
+            try:
+                left.append(read_edit(path, self.texts, self.homes))
+            except BadEdit as why:
+                verdicts[path] = None, f"BAD EDIT: {why}"
+        while left:
+            together, _ = self.round_of(left)
+            left = [it for it in left if it not in together]
+            self.settle(together, verdicts)
+        shutil.rmtree(self.kept)
+        return verdicts
+
+    def round_of(self, edits):
+        """Edits, the first among them, that change different functions and still apply one after another; and the texts that they make."""
+        together, texts, owned = [], {}, set()
+        for edit in edits:
+            if not edit.owned & owned:
+                try:
+                    texts = texts | edit.applied(self.texts | texts)
+                except BadEdit:
+                    continue
+                together.append(edit)
+                owned |= edit.owned
+        return together, texts
+
+    def settle(self, edits, verdicts):
+        """Tries a round in one check. Edits that it gives no credit are tried once more, each alone."""
+        _, texts = self.round_of(edits)
+        said = self.check(texts, sorted({name for it in edits for _, name in it.owned}))
+        unread = [(it[1], int(it[2])) for it in map(UNREADABLE.match, said) if it]
+        again = []
+        for edit in edits:
+            spans = [(file, it) for file, text in texts.items() for it in functions(file, text, self.homes) if (file, it.name) in edit.owned]
+            if any(file == at and it.first <= line <= it.last for file, it in spans for at, line in unread):
+                verdicts[edit.path] = None, f"BAD EDIT: {next(it for it in said if UNREADABLE.match(it))[:150]}"
+                continue
+            goals = [] if unread else [goal for file, it in spans for goal in own_goals(said, self.name, file, it)]
+            if goals:
+                verdicts[edit.path] = goals[0], None
+            elif len(edits) == 1:
+                verdicts[edit.path] = None, why_not(said)
+            else:
+                again.append(edit)
+        if unread and len(again) < len(edits):
+            self.settle(again, verdicts)
+        else:
+            for edit in again:
+                self.settle([edit], verdicts)
+
+
+def own_goals(said, crate, file, function):
+    """The goals by which a function counts as refused: answers of its own that no longer hold, or goals that are open at a
+    line of its own; these only where no answer was lost because the edit took its goal away."""
+    name = function.name
+    if not any(it.startswith((f"fn {crate}::{name}: not proved", f"fn {crate}::{name}: no proof")) for it in said):
+        return []
+    answer = re.compile(rf"(?:\./)?proofs/{re.escape(name.replace('::', '/'))}/[\w.+-]+\.antt:\d+:\d+: error: (?:`([^`]+)`: )?(.*)")
+    broken, opened, is_lost = [], [], False
+    for line in said:
+        if (at := NOTE.match(line)) and at[1] == file and function.first <= int(at[2]) <= function.last:
+            opened.append(f"{name}: `{at[3]}`")
+        elif at := answer.match(line):
+            if NAMES_WHAT_IS_GONE.search(re.sub(r"`[^`]*`", "", at[2])):
+                is_lost = True
+            elif at[1]:
+                broken.append(f"{name}: `{at[1]}`, whose answer no longer proves it")
+    return broken or ([] if is_lost else opened)
+
+
+def why_not(said):
+    """Why an edit that was tried alone doesn't count as refused."""
+    at = re.match(r"only=(\d+) proved=(\d+)", said[-1])
+    told = next((it for it in said if ": error" in it), said[-1])[:150]
+    if not at:
+        return f"BAD EDIT: {told}"
+    return "NOT REFUSED: what it changes is still proved" if at[1] == at[2] else f"NOT REFUSED at a goal of its own: {told}"
+
+
+def read_crates():
+    """Each crate's libraries and whether it is a static library, by its name, as crates.txt has it."""
+    found = {}
+    with open("crates.txt", encoding="utf-8") as it:
+        for line in it:
+            head, colon, libraries = line.partition("#")[0].partition(":")
+            if colon:
+                found[head.split()[0]] = libraries.split(), "staticlib" in head.split()[1:]
+    return found
+
+
+def check_words(name, crates):
+    """The words after `rattle check` for a crate over the libraries that rt left in out/."""
+    libraries, is_static = crates[name]
+    main = os.path.isfile(f"crates/{name}/src/main.rt")
+    below, todo = set(), [*libraries]
+    while todo:
+        it = todo.pop()
+        if it in crates and it not in below:
+            below.add(it)
+            todo += crates[it][0]
+    words = ["--crate-name", name, "src/main.rt" if main else "src/lib.rt", "-L", f"dependency={KIT}/rlibs"]
+    for it in ["std", *libraries]:
+        at = os.path.abspath(f"crates/{it}/out/rlib") if it in crates else f"{KIT}/rlibs"
+        words += ["--extern", f"{it}={at}/{it}.rlib"]
+    for it in sorted(below):
+        words += ["-L", f"dependency={os.path.abspath(f'crates/{it}/out/rlib')}"]
+    words += ["--antt-project", f"{KIT}/rattle/logic/antt-project.json", "--logic-built", f"{KIT}/logic_built", "--links", f"{name}="]
+    return words + ["--crate-type", "staticlib"] * is_static
+
+
+def lanes(wanted):
+    """How many crates are tried side by side: one for each processor and each 4 GB of memory."""
+    memory = os.sysconf("SC_PAGE_SIZE") * os.sysconf("SC_PHYS_PAGES")
+    return wanted or max(1, min(len(os.sched_getaffinity(0)), memory // 4_000_000_000))
+
+
+def edits_in(folder):
+    return sorted(f"{folder}/{it}" for it in os.listdir(folder) if it.endswith(".edit")) if os.path.isdir(folder) else []
+
+
+def main():
+    given = argparse.ArgumentParser(description=__doc__, formatter_class=argparse.RawDescriptionHelpFormatter)
+    given.add_argument("--jobs", type=int, help="how many crates side by side")
+    given.add_argument("names", nargs="*", metavar="NAME", help="crates, if not all")
+    given = given.parse_args()
+    crates = read_crates()
+    paths = {it: edits_in(f"crates/{it}/wrong") + (edits_in(DEMO) if it == DEMO_CRATE else []) for it in given.names or crates}
+    tried = sorted((Crate(it, crates, paths[it]) for it in paths if paths[it]), key=lambda it: -len(it.paths))
+    refused = failed = 0
+    with concurrent.futures.ThreadPoolExecutor(lanes(given.jobs)) as pool:
+        for crate, verdicts in zip(tried, pool.map(Crate.try_all, tried)):
+            for path, (goal, why) in sorted(verdicts.items()):
+                is_right = bool(goal) == must_be_refused(path)
+                print(f"{path}: {'' if is_right else 'FAILED: '}{f'refused at {goal}' if goal else why}")
+                refused, failed = refused + (is_right and bool(goal)), failed + (not is_right)
+            print(f"({crate.name}: {len(verdicts)} edits, {crate.checks} checks, {crate.seconds:.0f} s of processor time)", flush=True)
+    print(f"{refused} refused, {failed} failed")
+    return 1 if failed else 0
+
+
+def must_be_refused(path):
+    """Of the demo only the edits that are called wrong."""
+    return not path.startswith(DEMO) or os.path.basename(path).startswith("wrong_")
+
+
+if __name__ == "__main__":
+    sys.exit(main())
