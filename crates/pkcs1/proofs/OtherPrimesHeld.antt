@@ -1,5 +1,5 @@
 -- The first of the other primes that bytes hold, and those behind it.
-use Rattle.std.proofs.Common.{◌≡◌, ℕ, ◌+◌, ◌-◌, ◌<◌, ◌≤◌, List, [], ◌∷◌, ◌++◌, length, map, refl, sym, ap, ◌∙◌, arith, append-nil, length-append, inr, ⊎_elim, Some, None, Ok, Err, false}
+use Rattle.std.proofs.Common.{◌≡◌, ℕ, ◌+◌, ◌-◌, ◌<◌, ◌≤◌, List, [], ◌∷◌, ◌++◌, length, map, refl, sym, ap, ◌∙◌, arith, append-nil, length-append, inr, ⊎_elim, Some, None, Err, false}
 use Rattle.std.proofs.lemmas.List.{length-map}
 use Rattle.der_core.specs.Faults.{ItemsFault}
 use Rattle.pkcs1.specs.KeyFaults.{OneOtherFault}
