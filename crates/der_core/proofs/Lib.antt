@@ -12,4 +12,5 @@ pub mod IntegerRows
 pub mod Items
 pub mod SourceMoves
 pub mod Documents
+pub mod ContentsReads
 pub mod DocumentRows

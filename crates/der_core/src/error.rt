@@ -51,33 +51,36 @@ impl fmt::Display for ErrorKind {
     ghost output = { λ kind. Some (kind_text kind) };
 
     fn fmt<W: fmt::Write>(&self, f: &mut fmt::Formatter<W>) -> fmt::Result {
-        match *self {
-            ErrorKind::Failed => write!(f, "an earlier read failed"),
-            ErrorKind::Incomplete => write!(f, "the input ends too early"),
-            ErrorKind::IndefiniteLength => write!(f, "the length is indefinite"),
+        let text = match *self {
             ErrorKind::Length { tag } => {
-                write!(f, "the contents of tag {tag} have a wrong length")
+                return write!(f, "the contents of tag {tag} have a wrong length");
             }
             ErrorKind::Noncanonical { tag } => {
-                write!(f, "the contents of tag {tag} are not in shortest form")
+                return write!(f, "the contents of tag {tag} are not in shortest form");
             }
-            ErrorKind::OidMalformed => write!(f, "the object identifier is malformed"),
-            ErrorKind::OidUnknown => write!(f, "the object identifier is another one"),
-            ErrorKind::Overflow => write!(f, "a length passes the limit"),
-            ErrorKind::Overlength => write!(f, "the length is not in shortest form"),
-            ErrorKind::ParametersMissing => write!(f, "the algorithm parameters are missing"),
             ErrorKind::TagUnexpected { expected, actual } => {
-                write!(f, "tag {expected} was expected, {actual} was found")
+                return write!(f, "tag {expected} was expected, {actual} was found");
             }
             ErrorKind::TagUnknown { octet } => {
-                write!(f, "the tag octet {} is not known", PrintedOctet(octet))
+                return write!(f, "the tag octet {} is not known", PrintedOctet(octet));
             }
-            ErrorKind::TrailingData => write!(f, "bytes follow the value"),
-            ErrorKind::Value { tag } => write!(f, "the value of tag {tag} is not allowed"),
-            ErrorKind::NoRoom => write!(f, "the slice has no room"),
-            ErrorKind::File => write!(f, "a read or a write failed"),
-            ErrorKind::OutOfMemory => write!(f, "no memory was found"),
-        }
+            ErrorKind::Value { tag } => {
+                return write!(f, "the value of tag {tag} is not allowed");
+            }
+            ErrorKind::Failed => "an earlier read failed",
+            ErrorKind::Incomplete => "the input ends too early",
+            ErrorKind::IndefiniteLength => "the length is indefinite",
+            ErrorKind::OidMalformed => "the object identifier is malformed",
+            ErrorKind::OidUnknown => "the object identifier is another one",
+            ErrorKind::Overflow => "a length passes the limit",
+            ErrorKind::Overlength => "the length is not in shortest form",
+            ErrorKind::ParametersMissing => "the algorithm parameters are missing",
+            ErrorKind::TrailingData => "bytes follow the value",
+            ErrorKind::NoRoom => "the slice has no room",
+            ErrorKind::File => "a read or a write failed",
+            ErrorKind::OutOfMemory => "no memory was found",
+        };
+        f.write_str(text)
     }
 }
 

@@ -1,5 +1,5 @@
 -- The first of the other primes that bytes hold, and those behind it.
-use Rattle.std.proofs.Common.{◌≡◌, ℕ, ◌+◌, ◌-◌, ◌<◌, ◌≤◌, List, [], ◌∷◌, ◌++◌, length, map, refl, sym, ap, ◌∙◌, arith, append-nil, length-append, inr, ⊎_elim, Some, None, Ok, false, take, drop}
+use Rattle.std.proofs.Common.{◌≡◌, ℕ, ◌+◌, ◌-◌, ◌<◌, ◌≤◌, List, [], ◌∷◌, ◌++◌, length, map, refl, sym, ap, ◌∙◌, arith, append-nil, length-append, inr, ⊎_elim, Some, None, Err, false}
 use Rattle.std.proofs.lemmas.List.{length-map}
 use Rattle.der_core.specs.Faults.{ItemsFault}
 use Rattle.pkcs1.specs.KeyFaults.{OneOtherFault}
@@ -9,11 +9,9 @@ use Rattle.der_core.specs.UintRefValue.{bytes_of}
 use Rattle.der_core.specs.declared.integer.uint.UintRef.{UintRef}
 use Rattle.der_core.specs.declared.error.ErrorKind.{ErrorKind}
 use Rattle.der_core.specs.Sequences.{some_same}
-use Rattle.der_core.specs.InputLaws.{ok_pair}
-use Rattle.der_core.specs.Smalls.{all_read}
-use Rattle.der_core.specs.Input.{Input, read_from, front_of}
+use Rattle.der_core.specs.Input.{front_of}
+use Rattle.der_core.proofs.ContentsReads.{empty_is}
 use Rattle.std.specs.Prelude.{nat_lt}
-use Rattle.std.proofs.lemmas.Grind.{common_steps}
 use Rattle.std.proofs.lemmas.Bool.Decides.{nat_tests}
 use Rattle.der_core.specs.ItemReads.{items_refused, items_more}
 use Rattle.pkcs1.specs.declared.private_key.other_prime_info.OtherPrimeInfo as declared
@@ -25,7 +23,7 @@ use Rattle.der_core.specs.Texts.{Then, Joins}
 use Rattle.der_core.specs.ListLaws.{same_fronts}
 use Rattle.der_core.specs.Integer.{Integer}
 use Rattle.der_core.specs.IntegerLaws.{integer_delimited}
-use Rattle.der_core.specs.Reading.{HoldsBytes, NoneIn, TellsOfBytes}
+use Rattle.der_core.specs.Reading.{NoneIn, TellsOfBytes}
 use Rattle.pkcs1.specs.Keys.{OtherPrime, OtherPrimeInfo}
 use Rattle.pkcs1.specs.PrivateKeyLaws.{other_delimited}
 use Rattle.pkcs1.specs.OtherPrimesHeld.{HoldsOthers, one_list}
@@ -70,10 +68,6 @@ pub some_first : (bytes : List ℕ) (left : ℕ) → HoldsOthers bytes left → 
 some_first bytes left ([], p, l) some none = some (sym l)
 some_first bytes left (w ∷ ws, p, l) some none = ∥∥₁_elim p (λ x y. absurd x) (λ a. none w a.0 a.1 a.4 a.2)
 
-empty_is : (x : List ℕ) → length x ≡ 0 → x ≡ []
-empty_is [] e = refl
-empty_is (b ∷ x) e = absurd (omega (arith, e))
-
 -- So many were read, and the rest is left.
 abbrev pub AreCounted : List ℕ → List ℕ → ℕ → Type 0
 AreCounted bytes rest count =
@@ -115,15 +109,12 @@ none_there bytes rest count k i more tells none =
     (Some bytes) (Some rest) None (ap (λ l. Some l) i.2) refl i.3 more (refl, λ e. cc, λ j is. inr (tells, rw (some_same rest j is) at none)) refl in
     ⊎_elim (λ w. absurd (tells.0 w.0)) (λ w. w.1) r
 
--- all that is left was taken
-pub all_taken : (before : Input) (n : ℕ) (bytes rest : List ℕ) → HoldsBytes before n → read_from before (front_of n) ≡ Ok (bytes, rest) → (before ≡ Some bytes) × (rest ≡ [])
-all_taken None n bytes rest h r = absurd h
-all_taken (Some c) n bytes rest h r =
-    let room : nat_lt (length c) n ≡ false = grind (arith, nat_tests, h) in
-    let p = ok_pair (take n c) bytes (drop n c) rest (rw room at r) in
-    let none : length rest ≡ 0 = rw (← p.1) (grind (arith, common_steps, h)) in
-    let all : bytes ≡ c = all_read (Some c) n bytes rest c h r refl in
-    (ap (λ l. Some l) (sym all), empty_is rest none)
+-- All that is left can be read.
+pub all_there : (left : List ℕ) (n : ℕ) (e : ErrorKind) → n ≡ length left → front_of n left ≡ Err e → ⊥
+all_there left n e same refused =
+    let room : nat_lt (length left) n ≡ false = grind (arith, nat_tests, same) in
+    let no = rw room at refused in
+    cc
 
 pub list_given : (bytes : List ℕ) (primes : OtherPrimes) (others : List (OtherPrime (List ℕ))) → ItemsContents (OtherPrimeInfo Integer) others bytes → primes.bytes.now ≡ bytes
     → ItemsContents (OtherPrimeInfo Integer) (others_left primes) bytes

@@ -14,6 +14,11 @@ module _ {V : Type 0} (Grammar : V → List ℕ → Type 0) (v : V) (text : List
   comes_out text_of (Ok document) only = sym (only.alone text means)
   comes_out text_of (Err e) only = tt
 
+  -- This text is a sentence.
+  pub is_sentence : {X : Type 0} (result : Result X Error) → IfOk result (λ document. IsSentence Grammar text)
+  is_sentence (Ok document) = (v, means)
+  is_sentence (Err e) = tt
+
   has_one : (some : Type 0) (k : EncodeRefusal) → IsUncountable some Grammar v k → ⊥
   has_one some no_text h = h text means.1
   has_one some too_long h = h.1 text means

@@ -1,14 +1,15 @@
 //! The eight numbers of private keys.
-ghost use Rattle.std.specs.Prelude.{IfErr};
+ghost use Rattle.std.specs.Prelude.{◌≡◌, IfErr, ⊤};
 ghost use Rattle.der_core.specs.Faults.{FaultyFront};
 ghost use Rattle.pkcs1.specs.KeyFaults.{CountedFault};
 ghost use Rattle.der_core.specs.Reading.{ReadsText, AllocatesWithin};
 ghost use Rattle.pkcs1.specs.KeyNumbers.{EightNumbers, numbers_of};
 
 use der_core::{Decode, Memory, Reader, Result};
+use std::alloc::AllocError;
 
 /// The numbers of a private key, in the order of its text (RFC 8017 A.1.2).
-#[derive(Clone, Copy, Drop)]
+#[derive(Copy, Drop)]
 pub(crate) struct KeyNumbers<U> {
     pub(crate) modulus: U,
     pub(crate) public_exponent: U,
@@ -18,6 +19,16 @@ pub(crate) struct KeyNumbers<U> {
     pub(crate) exponent1: U,
     pub(crate) exponent2: U,
     pub(crate) coefficient: U,
+}
+
+impl<U: Copy> Clone for KeyNumbers<U> {
+    ghost is_clone = { λ a b. b ≡ a };
+
+    ghost is_infallible = { λ _. ⊤ };
+
+    fn clone(&self) -> std::result::Result<KeyNumbers<U>, AllocError> {
+        Ok(*self)
+    }
 }
 
 /// Reads the eight numbers, one after another.

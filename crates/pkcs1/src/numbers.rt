@@ -1,11 +1,12 @@
-//! Writing of numbers, one after another.
-ghost use Rattle.std.specs.Prelude.{◌≡◌, ◌≤◌, length};
+//! Several numbers, one after another: writing and copying them.
+ghost use Rattle.std.specs.Prelude.{◌≡◌, ◌≤◌, length, IfOk, IfErr, IsOk};
 ghost use Rattle.der_core.specs.Length.{limit};
 ghost use Rattle.der_core.specs.BackWriters.{free_of, Prepends};
 ghost use Rattle.der_core.specs.SequenceOf.{AllHave, all_texts};
 ghost use Rattle.der_core.specs.Writing.{Counts, Appends};
 
-use der_core::{BackWriter, Encode, Length, Result, Writer, joined_len};
+use der_core::{BackWriter, Encode, ErrorKind, Length, Result, TryClone, Writer, joined_len};
+use std::alloc::Global;
 
 /// How many octets the texts of the numbers have.
 pub(crate) fn numbers_len<U: Encode>(numbers: &[&U]) -> Result<Length>
@@ -46,4 +47,26 @@ pub(crate) fn prepend_numbers<U: Encode>(numbers: &[&U], writer: &mut BackWriter
         left -= 1;
         numbers[left].prepend(writer);
     }
+}
+
+/// Copies four numbers, in order.
+pub(crate) fn clone_four<U: TryClone>(
+    a: &U,
+    b: &U,
+    c: &U,
+    d: &U,
+    alloc: Global,
+) -> Result<(U, U, U, U)>
+    ensures ok { IfOk result (λ copies. (U.value copies.0 ≡ U.value a.now) × (U.value copies.1 ≡ U.value b.now)
+        × (U.value copies.2 ≡ U.value c.now) × (U.value copies.3 ≡ U.value d.now)) }
+    ensures err { IfErr result (λ e. e.kind ≡ ErrorKind.OutOfMemory) }
+    ensures may_allocate { U.allocates_nothing a.now → U.allocates_nothing b.now
+        → U.allocates_nothing c.now → U.allocates_nothing d.now → IsOk result }
+{
+    Ok((
+        a.try_clone(alloc)?,
+        b.try_clone(alloc)?,
+        c.try_clone(alloc)?,
+        d.try_clone(alloc)?,
+    ))
 }

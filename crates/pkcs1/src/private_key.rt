@@ -13,7 +13,7 @@ pub(crate) mod other_prime_info;
 mod whole;
 
 use crate::key_numbers::read_key_numbers;
-use crate::numbers::{encode_numbers, numbers_len, prepend_numbers};
+use crate::numbers::{clone_four, encode_numbers, numbers_len, prepend_numbers};
 use crate::public_key::{RsaPublicKey, RsaPublicKeyRef};
 use crate::version::Version;
 use der_core::{
@@ -232,16 +232,31 @@ impl<U: TryClone> TryClone for RsaPrivateKey<U> {
         × (key.other_prime_infos ≡ None) };
 
     fn try_clone(&self, alloc: Global) -> Result<RsaPrivateKey<U>> {
+        let key = self;
+        let (modulus, public_exponent, private_exponent, prime1) = clone_four(
+            &key.modulus,
+            &key.public_exponent,
+            &key.private_exponent,
+            &key.prime1,
+            alloc,
+        )?;
+        let (prime2, exponent1, exponent2, coefficient) = clone_four(
+            &key.prime2,
+            &key.exponent1,
+            &key.exponent2,
+            &key.coefficient,
+            alloc,
+        )?;
         Ok(RsaPrivateKey {
-            modulus: self.modulus.try_clone(alloc)?,
-            public_exponent: self.public_exponent.try_clone(alloc)?,
-            private_exponent: self.private_exponent.try_clone(alloc)?,
-            prime1: self.prime1.try_clone(alloc)?,
-            prime2: self.prime2.try_clone(alloc)?,
-            exponent1: self.exponent1.try_clone(alloc)?,
-            exponent2: self.exponent2.try_clone(alloc)?,
-            coefficient: self.coefficient.try_clone(alloc)?,
-            other_prime_infos: clone_other_primes(&self.other_prime_infos, alloc)?,
+            modulus,
+            public_exponent,
+            private_exponent,
+            prime1,
+            prime2,
+            exponent1,
+            exponent2,
+            coefficient,
+            other_prime_infos: clone_other_primes(&key.other_prime_infos, alloc)?,
         })
     }
 }
@@ -249,10 +264,22 @@ impl<U: TryClone> TryClone for RsaPrivateKey<U> {
 impl<U: fmt::Debug> fmt::Debug for RsaPrivateKey<U> {
     /// Prints the version, the modulus and the public exponent, and nothing that is secret.
     fn fmt<W: fmt::Write>(&self, f: &mut fmt::Formatter<W>) -> fmt::Result {
-        f.debug_struct("RsaPrivateKey")
-            .field("version", &self.version())
-            .field("modulus", &self.modulus)
-            .field("public_exponent", &self.public_exponent)
-            .finish_non_exhaustive()
+        let (modulus, public_exponent) = (&self.modulus, &self.public_exponent);
+        print_public("RsaPrivateKey", self.version(), modulus, public_exponent, f)
     }
+}
+
+/// Prints of a private key what isn't secret.
+pub(crate) fn print_public<U: fmt::Debug, W: fmt::Write>(
+    name: &str,
+    version: Version,
+    modulus: &U,
+    public_exponent: &U,
+    f: &mut fmt::Formatter<W>,
+) -> fmt::Result {
+    f.debug_struct(name)
+        .field("version", &version)
+        .field("modulus", modulus)
+        .field("public_exponent", public_exponent)
+        .finish_non_exhaustive()
 }

@@ -24,6 +24,7 @@ ghost use Rattle.pkcs1.specs.Writing.{HasPrivateKey, written_private_key};
 
 use crate::key_numbers::{KeyNumbers, read_key_numbers};
 use crate::other_primes::OtherPrimes;
+use crate::private_key::print_public;
 use crate::public_key::{RsaPublicKey, RsaPublicKeyRef};
 use crate::version::Version;
 use der_core::{
@@ -243,10 +244,14 @@ impl<'a> TryFrom<&'a [u8]> for RsaPrivateKeyView<'a> {
 impl fmt::Debug for RsaPrivateKeyView<'_> {
     /// Prints the version, the modulus and the public exponent, and nothing that is secret.
     fn fmt<W: fmt::Write>(&self, f: &mut fmt::Formatter<W>) -> fmt::Result {
-        f.debug_struct("RsaPrivateKeyView")
-            .field("version", &self.version())
-            .field("modulus", &self.modulus())
-            .field("public_exponent", &self.public_exponent())
-            .finish_non_exhaustive()
+        let modulus = self.modulus();
+        let public_exponent = self.public_exponent();
+        print_public(
+            "RsaPrivateKeyView",
+            self.version(),
+            &modulus,
+            &public_exponent,
+            f,
+        )
     }
 }

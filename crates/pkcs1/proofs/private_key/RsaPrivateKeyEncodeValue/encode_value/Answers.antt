@@ -40,6 +40,16 @@ returns-in_err-encode_numbers-clause-appends g c =
     let numbers = numbers_append (λ (n : Bor g.row.U.Denot). g.U.Text.value n.now) g.U.Text.has_text g.U.Text.written_text _ _ c.numbers.ensures c.in_err-encode_numbers.ensures.appends in
     rw (p.1, p.2) (middle_refused g.U.Text.has_text g.U.Text.written_text key all.0 few version numbers)
 
+pub encode_other_primes-requires-clause-fits : goal.encode_other_primes-requires-clause-fits
+encode_other_primes-requires-clause-fits g c =
+    let key = private_key_with g.U.Text.value c.args.self.now in
+    let n = front g.U.Text.has_text g.U.Text.written_text key in
+    let t = middle g.U.Text.has_text g.U.Text.written_text key in
+    let o = back g.U.Text.has_text g.U.Text.written_text key in
+    let few : length (n ++ (t ++ o)) ≤ limit = omega (arith, c.in_ok-value_len.ensures.counts) in
+    let less : length o ≤ limit = omega (arith, few, length-append n (t ++ o), length-append t o) in
+    less
+
 pub returns-clause-appends : goal.returns-clause-appends
 returns-clause-appends g c =
     let key = private_key_with g.U.Text.value c.args.self.now in

@@ -30,6 +30,36 @@ prepend_numbers-requires-clause-room g c =
     let less : length t ≤ c.prepend_other_primes.new.writer.free = omega (arith, room, behind, length-append n (t ++ o), length-append t o) in
     rw (numbers_text (λ (n : Bor g.row.U.Denot). g.U.Text.value n.now) g.U.Text.has_text g.U.Text.written_text c.numbers.result (key_numbers key) c.numbers.ensures) less
 
+pub prepend_other_primes-requires-clause-fits : goal.prepend_other_primes-requires-clause-fits
+prepend_other_primes-requires-clause-fits g c =
+    let key = private_key_with g.U.Text.value c.args.self.now in
+    let n = front g.U.Text.has_text g.U.Text.written_text key in
+    let t = middle g.U.Text.has_text g.U.Text.written_text key in
+    let o = back g.U.Text.has_text g.U.Text.written_text key in
+    let few : length (n ++ (t ++ o)) ≤ limit = c.requires.fits in
+    let less : length o ≤ limit = omega (arith, few, length-append n (t ++ o), length-append t o) in
+    less
+
+pub prepend_other_primes-requires-clause-room : goal.prepend_other_primes-requires-clause-room
+prepend_other_primes-requires-clause-room g c =
+    let key = private_key_with g.U.Text.value c.args.self.now in
+    let n = front g.U.Text.has_text g.U.Text.written_text key in
+    let t = middle g.U.Text.has_text g.U.Text.written_text key in
+    let o = back g.U.Text.has_text g.U.Text.written_text key in
+    let room : length (n ++ (t ++ o)) ≤ c.args.writer.now.free = c.requires.room in
+    let less : length o ≤ c.args.writer.now.free = omega (arith, room, length-append n (t ++ o), length-append t o) in
+    less
+
+pub prepend-requires-clause-fits : goal.prepend-requires-clause-fits
+prepend-requires-clause-fits g c =
+    let key = private_key_with g.U.Text.value c.args.self.now in
+    let n = front g.U.Text.has_text g.U.Text.written_text key in
+    let t = middle g.U.Text.has_text g.U.Text.written_text key in
+    let o = back g.U.Text.has_text g.U.Text.written_text key in
+    let few : length (n ++ (t ++ o)) ≤ limit = c.requires.fits in
+    let less : length n ≤ limit = omega (arith, few, length-append n (t ++ o)) in
+    le_along (ap length (version_text _ _ (version_number g.U.Text.value _ _ c.version.ensures))) less
+
 pub prepend-requires-clause-room : goal.prepend-requires-clause-room
 prepend-requires-clause-room g c =
     let key = private_key_with g.U.Text.value c.args.self.now in

@@ -9,6 +9,16 @@ returns-in_err-params-clause-default c =
     let p = err_from_is_err_and c.from_residual.result c.from_residual.ensures.1 in
     rw p.1 (λ params means. absurd (c.in_err-params.ensures.err params means))
 
+pub returns-in_err-refuse_defaults-clause-ok : goal.returns-in_err-refuse_defaults-clause-ok
+returns-in_err-refuse_defaults-clause-ok c =
+    let p = err_from_is_err_and c.from_residual-in_err-refuse_defaults.result c.from_residual-in_err-refuse_defaults.ensures.1 in
+    rw p.1 tt
+
+pub returns-in_err-refuse_defaults-clause-one : goal.returns-in_err-refuse_defaults-clause-one
+returns-in_err-refuse_defaults-clause-one c =
+    let p = err_from_is_err_and c.from_residual-in_err-refuse_defaults.result c.from_residual-in_err-refuse_defaults.ensures.1 in
+    rw p.1 tt
+
 pub returns-in_err-refuse_defaults-clause-default : goal.returns-in_err-refuse_defaults-clause-default
 returns-in_err-refuse_defaults-clause-default c =
     let p = err_from_is_err_and c.from_residual-in_err-refuse_defaults.result c.from_residual-in_err-refuse_defaults.ensures.1 in
