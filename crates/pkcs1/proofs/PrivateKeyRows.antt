@@ -11,7 +11,7 @@ use Rattle.pkcs1.specs.Keys.{OtherPrime, OtherPrimeInfo, OtherPrimeInfos, versio
 use Rattle.pkcs1.specs.Writing.{key_numbers}
 use Rattle.pkcs1.specs.PrivateKeyLaws.{joins_take, joins_put, version_small}
 use Rattle.pkcs1.proofs.NumberReads.{as_many}
-use Rattle.pkcs1.proofs.KeyReads.{last_is}
+use Rattle.der_core.specs.TextLaws.{joins_last}
 
 -- INTEGERs of one byte, one after another.
 abbrev bytes_of : List ℕ → List ℕ
@@ -101,7 +101,7 @@ behind key v rest l p =
     let tails = same_fronts (0x02 ∷ 0x01 ∷ v ∷ []) (bytes_of eight ++ rest) p.0 p.1 (ap length one.0) e in
     let numbers : Joins (map Integer (key_numbers key) ++ OtherPrimeInfos Integer key.other_prime_infos ∷ []) p.1 = p.3 in
     let s = as_many Integer integer_delimited (map (λ n. n ∷ []) eight) (key_numbers key) (OtherPrimeInfos Integer key.other_prime_infos ∷ []) (bytes_of eight) rest p.1 eight_join refl (sym tails.1) numbers in
-    (sym one.1, last_is rest s.1)
+    (sym one.1, joins_last rest s.1)
 
 -- No text: a version that isn't 0 or 1.
 pub no_version : (key : PrivateKey (List ℕ)) → RsaPrivateKey key (0x30 ∷ 0x1b ∷ 0x02 ∷ 0x01 ∷ 0x02 ∷ bytes_of eight) → ⊥

@@ -73,7 +73,7 @@ impl<'a, P> Sequence<'a> for RsaOaepParams<P> {
 impl<'a, M: Memory, P: Decode<&'a [u8], M> + AnyParams<M>> DecodeValue<&'a [u8], M>
     for RsaOaepParams<P> {
     ghost use Rattle.pkcs1_params.specs.ParameterFaults.{OaepFault};
-    ghost use Rattle.pkcs1_params.specs.ParameterFaultLaws.{oaep_fault_none};
+    ghost use Rattle.pkcs1_params.specs.ParameterFaultLaws.{oaep_fault_none, oaep_fault_first};
 
     ghost may_allocate = { OaepAllocates P.Decode.may_allocate };
 
@@ -97,6 +97,9 @@ impl<'a, M: Memory, P: Decode<&'a [u8], M> + AnyParams<M>> DecodeValue<&'a [u8],
     }
 
     ghost fault_none = { oaep_fault_none P.text P.Decode.fault P.delimited P.Decode.fault_none P.holds };
+
+    ghost fault_first = {
+        oaep_fault_first P.text P.Decode.fault P.delimited P.Decode.fault_none P.holds P.Decode.fault_first };
 }
 
 impl<P: AnyValue> RsaOaepParams<P> {

@@ -83,7 +83,7 @@ impl<'a, P> Sequence<'a> for RsaPssParams<P> {
 impl<'a, M: Memory, P: Decode<&'a [u8], M> + AnyParams<M>> DecodeValue<&'a [u8], M>
     for RsaPssParams<P> {
     ghost use Rattle.pkcs1_params.specs.ParameterFaults.{PssFault};
-    ghost use Rattle.pkcs1_params.specs.ParameterFaultLaws.{pss_fault_none};
+    ghost use Rattle.pkcs1_params.specs.ParameterFaultLaws.{pss_fault_none, pss_fault_first};
 
     ghost may_allocate = { PssAllocates P.Decode.may_allocate };
 
@@ -114,6 +114,9 @@ impl<'a, M: Memory, P: Decode<&'a [u8], M> + AnyParams<M>> DecodeValue<&'a [u8],
     }
 
     ghost fault_none = { pss_fault_none P.text P.Decode.fault P.delimited P.Decode.fault_none P.holds };
+
+    ghost fault_first = {
+        pss_fault_first P.text P.Decode.fault P.delimited P.Decode.fault_none P.holds P.Decode.fault_first };
 }
 
 impl<P: AnyValue> RsaPssParams<P> {

@@ -1,6 +1,7 @@
 use Rattle.der_core.specs.DocumentValue.{text_of}
+use Rattle.pkcs1.specs.KeyFaultLaws.{public_key_whole_none}
 use Rattle.pkcs1.specs.Keys.{RsaPublicKey}
-use Rattle.pkcs1.proofs.Reencoded.{comes_out, wants_memory}
+use Rattle.pkcs1.proofs.Reencoded.{comes_out, wants_memory, memory_wanted}
 use Rattle.pkcs1.proofs.reencode.reencode_public_key.Goals as goal
 
 pub returns-clause-same : goal.returns-clause-same
@@ -8,3 +9,9 @@ returns-clause-same c = comes_out RsaPublicKey _ _ c.in_ok-from_pkcs1_der.ensure
 
 pub returns-clause-err : goal.returns-clause-err
 returns-clause-err c = wants_memory RsaPublicKey _ _ c.in_ok-from_pkcs1_der.ensures.ok _ _ c.to_pkcs1_der.ensures.err
+
+pub returns-clause-exact : goal.returns-clause-exact
+returns-clause-exact c = memory_wanted RsaPublicKey _ _ c.in_ok-from_pkcs1_der.ensures.ok _ _ _ c.to_pkcs1_der.ensures.err
+
+pub returns-clause-only : goal.returns-clause-only
+returns-clause-only c kind fault = absurd (public_key_whole_none kind _ fault _ c.in_ok-from_pkcs1_der.ensures.ok)
