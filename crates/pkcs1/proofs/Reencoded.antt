@@ -10,6 +10,14 @@ use Rattle.pkcs1_params.specs.declared.error.Error.{Error}
 use Rattle.pkcs1_params.specs.declared.error.Error.TheVariants as error
 use Rattle.pkcs1.specs.KeyTexts.{IsOnlyText, IsSentence, IsUnread, IsNotMade}
 
+-- Memory may be wanted for more.
+pub more_asked : (asked more : Type 0) (Fault : ErrorKind → Type 0) (e : Error) → IsAsn1 (λ a. Faulty a.kind asked (Fault a.kind)) e → IsAsn1 (λ a. Faulty a.kind (asked ⊎ more) (Fault a.kind)) e
+more_asked asked more Fault (error.Asn1 a) (inl w) = inl (w.0, inl w.1)
+more_asked asked more Fault (error.Asn1 a) (inr f) = inr f
+more_asked asked more Fault error.Crypto h = h
+more_asked asked more Fault error.KeyMalformed h = h
+more_asked asked more Fault error.Version h = h
+
 module _ {V : Type 0} (Grammar : V → List ℕ → Type 0) (v : V) (text : List ℕ) (means : Means Grammar text v) where
   -- The only text of a value that has this text is this text.
   pub comes_out : {X : Type 0} (text_of : X → List ℕ) (result : Result X Error)
