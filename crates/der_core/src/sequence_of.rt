@@ -62,8 +62,8 @@ impl<'a, T: Decode<&'a [u8], Global>> DecodeValue<&'a [u8], Global> for Vec<T> {
 
     ghost fault_none = { items_fault_none T.text T.Decode.fault T.delimited T.Decode.fault_none };
 
-    ghost fault_first = {
-        items_fault_first T.text T.Decode.fault T.delimited T.Decode.fault_none T.Decode.fault_first };
+    ghost fault_first = { let none = T.Decode.fault_none in
+        items_fault_first T.text T.Decode.fault T.delimited none T.Decode.fault_first };
 }
 
 /// How many octets the texts of the items have.

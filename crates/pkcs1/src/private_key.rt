@@ -180,8 +180,8 @@ impl<'a, U: Decode<&'a [u8], Global>> DecodeValue<&'a [u8], Global> for RsaPriva
 
     ghost fault_none = { private_key_fault_none U.text U.Decode.fault U.delimited U.Decode.fault_none };
 
-    ghost fault_first = {
-        private_key_fault_first U.text U.Decode.fault U.delimited U.Decode.fault_none U.Decode.fault_first };
+    ghost fault_first = { let none = U.Decode.fault_none in
+        private_key_fault_first U.text U.Decode.fault U.delimited none U.Decode.fault_first };
 }
 
 impl<U: Encode> EncodeValue for RsaPrivateKey<U> {

@@ -83,8 +83,8 @@ impl<'a, M: Memory, U: Decode<&'a [u8], M>> DecodeValue<&'a [u8], M> for RsaPubl
 
     ghost fault_none = { public_key_fault_none U.text U.Decode.fault U.delimited U.Decode.fault_none };
 
-    ghost fault_first = {
-        public_key_fault_first U.text U.Decode.fault U.delimited U.Decode.fault_none U.Decode.fault_first };
+    ghost fault_first = { let none = U.Decode.fault_none in
+        public_key_fault_first U.text U.Decode.fault U.delimited none U.Decode.fault_first };
 }
 
 impl<U: Encode> EncodeValue for RsaPublicKey<U> {

@@ -98,8 +98,8 @@ impl<'a, M: Memory, P: Decode<&'a [u8], M> + AnyParams<M>> DecodeValue<&'a [u8],
 
     ghost fault_none = { oaep_fault_none P.text P.Decode.fault P.delimited P.Decode.fault_none P.holds };
 
-    ghost fault_first = {
-        oaep_fault_first P.text P.Decode.fault P.delimited P.Decode.fault_none P.holds P.Decode.fault_first };
+    ghost fault_first = { let none = P.Decode.fault_none in
+        oaep_fault_first P.text P.Decode.fault P.delimited none P.holds P.Decode.fault_first };
 }
 
 impl<P: AnyValue> RsaOaepParams<P> {

@@ -1,5 +1,5 @@
 -- Reading of containers, part after part.
-use Rattle.std.proofs.Common.{ℕ, List, None}
+use Rattle.std.proofs.Common.{ℕ, List, ◌≡◌, None}
 use Rattle.der_core.specs.declared.error.ErrorKind.{ErrorKind}
 use Rattle.der_core.specs.Faults.{TextFault, NoFault, FaultyFront, FaultyWhole}
 use Rattle.der_core.specs.Input.{Input}

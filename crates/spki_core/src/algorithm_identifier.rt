@@ -87,8 +87,8 @@ impl<'a, M: Memory, P: Decode<&'a [u8], M>> DecodeValue<&'a [u8], M> for Algorit
 
     ghost fault_none = { algorithm_fault_none P.text P.Decode.fault P.delimited P.Decode.fault_none };
 
-    ghost fault_first = {
-        algorithm_fault_first P.text P.Decode.fault P.delimited P.Decode.fault_none P.Decode.fault_first };
+    ghost fault_first = { let none = P.Decode.fault_none in
+        algorithm_fault_first P.text P.Decode.fault P.delimited none P.Decode.fault_first };
 }
 
 /// Reading an identifier without parameters is never refused for want of memory, whatever type they would have: a function

@@ -26,4 +26,4 @@ returns-in_err-require_rsa-clause-only c kind fault =
     rw (p.1, p.2) ((rsa_fault_first (info_of c.args.self.now) _ kind (inl c.in_err-require_rsa.ensures.err) fault))
 
 pub returns-clause-only : goal.returns-clause-only
-returns-clause-only c kind fault = c.try_from.ensures.only kind (rsa_key_fault _ kind _ c.as_bytes.ensures.octets c.in_ok-require_rsa.ensures.ok fault)
+returns-clause-only c kind fault = c.try_from.ensures.only kind (rsa_key_fault (info_of c.args.self.now) kind _ c.as_bytes.ensures.octets c.in_ok-require_rsa.ensures.ok fault)
