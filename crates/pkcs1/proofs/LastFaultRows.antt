@@ -1,5 +1,5 @@
 -- The last faults of private keys, one before another: behind the eight numbers stand the other primes, then the version's agreement with them, then that they aren't none, then the end.
-use Rattle.std.proofs.Common.{ℕ, List, [], ◌∷◌, ◌++◌, ◌≡◌, ◌<◌, ◌+◌, length, map, refl, sym, ap, arith, append-nil, inl, inr}
+use Rattle.std.proofs.Common.{ℕ, List, [], ◌∷◌, ◌++◌, ◌≡◌, ◌<◌, length, map, refl, sym, ap, arith, append-nil, inl, inr}
 use Rattle.der_core.specs.declared.error.ErrorKind.{ErrorKind}
 use Rattle.der_core.specs.declared.error.ErrorKind.TheVariants.{Incomplete, Value}
 use Rattle.der_core.specs.Faults.{too_short, in_contents}
@@ -21,14 +21,17 @@ version v l =
     let p = small_byte v (omega (arith, l)) in
     record { octets = p.octets; contents = p.contents; counted = p.counted; holds = (l, p.holds); written = p.written }
 
+abbrev contents : ℕ → List ℕ → List ℕ
+contents v rest = 0x02 ∷ 0x01 ∷ v ∷ bytes_of eight ++ rest
+
 -- The version and the eight numbers stand there, and what is left has a fault.
-behind : (v : ℕ) → v < 2 → (rest : List ℕ) (kind : ErrorKind) → length rest < 64 → OthersFault Integer NumberFault v kind rest
-    → RsaPrivateKeyFault kind (0x30 ∷ (27 + length rest) ∷ (0x02 ∷ 0x01 ∷ v ∷ bytes_of eight ++ rest))
+behind : (v : ℕ) → v < 2 → (rest : List ℕ) (kind : ErrorKind) → length (contents v rest) < 128 → OthersFault Integer NumberFault v kind rest
+    → RsaPrivateKeyFault kind (0x30 ∷ length (contents v rest) ∷ contents v rest)
 behind v l rest kind few fault =
-    let c = 0x02 ∷ 0x01 ∷ v ∷ bytes_of eight ++ rest in
+    let c = contents v rest in
     inr (
       omega (arith, few),
-      inl (in_contents (0x30 ∷ (27 + length rest) ∷ []) c [] (header 0x30 (27 + length rest) (omega (arith, few)) refl) (ap (λ x. 0x30 ∷ (27 + length rest) ∷ x) (sym (append-nil c)))
+      inl (in_contents (0x30 ∷ length c ∷ []) c [] (header 0x30 (length c) few refl) (ap (λ x. 0x30 ∷ length c ∷ x) (sym (append-nil c)))
           (inr (v, (0x02 ∷ 0x01 ∷ v ∷ [], bytes_of eight ++ rest, version v l, inr (map (λ n. n ∷ []) eight, (bytes_of eight, rest, (refl, eight_join), fault, refl)), refl)))),
     )
 

@@ -7,7 +7,7 @@ ghost use Rattle.pkcs1_params.specs.OaepValue.{oaep_of};
 ghost use Rattle.pkcs1_c.specs.Fits.{PssFits, OaepFits};
 ghost use Rattle.pkcs1_c.specs.Refusals.{HasNoText, LacksRoom};
 ghost use Rattle.der_core.specs.declared.error.ErrorKind as der;
-ghost use Rattle.pkcs1_params.specs.ParameterFaults.{RsaPssParamsFault, RsaOaepParamsFault};
+ghost use Rattle.pkcs1_params.specs.ParameterFaults.{RsaPssParamsFault, RsaOaepParamsFault, StrictPssFault, StrictOaepFault};
 ghost use Rattle.pkcs1_params.specs.Parameters.{pss_fields, oaep_fields};
 ghost use Rattle.spki_core.specs.StrictFields.{WritesDefault};
 ghost use Rattle.pkcs1_c.specs.Status.{kind_number, status_of, IsNumberOfFault};
@@ -130,7 +130,7 @@ pub extern "C" fn pkcs1_c_pss_params_decode_strict<'a>(
     ensures exact { result ≢ 0 → IsNumberOfFault (λ kind. RsaPssParamsFault kind text.now) result
         ⊎ ((result ≡ 5) × (other : grammar.PssParameters) × Means grammar.RsaPssParams text.now other
         × (n : ℕ) × WritesDefault (pss_fields other) n text.now) }
-    ensures only { (kind : der.ErrorKind) → RsaPssParamsFault kind text.now → result ≡ kind_number kind }
+    ensures only { (kind : der.ErrorKind) → StrictPssFault kind text.now → result ≡ kind_number kind }
     ensures unchanged { result ≢ 0 → params.new ≡ params.old }
 {
     match RsaPssParamsRef::from_der_strict(text) {
@@ -178,7 +178,7 @@ pub extern "C" fn pkcs1_c_oaep_params_decode_strict<'a>(
     ensures exact { result ≢ 0 → IsNumberOfFault (λ kind. RsaOaepParamsFault kind text.now) result
         ⊎ ((result ≡ 5) × (other : grammar.OaepParameters) × Means grammar.RsaOaepParams text.now other
         × (n : ℕ) × WritesDefault (oaep_fields other) n text.now) }
-    ensures only { (kind : der.ErrorKind) → RsaOaepParamsFault kind text.now → result ≡ kind_number kind }
+    ensures only { (kind : der.ErrorKind) → StrictOaepFault kind text.now → result ≡ kind_number kind }
     ensures unchanged { result ≢ 0 → params.new ≡ params.old }
 {
     match RsaOaepParamsRef::from_der_strict(text) {

@@ -237,7 +237,7 @@ impl<'a> RsaOaepParams<AnyRef<'a>> {
     ghost use Rattle.der_core.specs.Reading.{TellsOfBytes};
     ghost use Rattle.der_core.specs.Document.{Means, IsShortest};
     ghost use Rattle.pkcs1_params.specs.Parameters as grammar;
-    ghost use Rattle.pkcs1_params.specs.ParameterFaults.{RsaOaepParamsFault};
+    ghost use Rattle.pkcs1_params.specs.ParameterFaults.{RsaOaepParamsFault, StrictOaepFault};
     ghost use Rattle.pkcs1_params.specs.OaepValue.{oaep_of};
     ghost use Rattle.pkcs1_params.specs.Refusals.{IsAsn1};
     ghost use Rattle.spki_core.specs.StrictFields.{NamesDefault};
@@ -257,7 +257,7 @@ impl<'a> RsaOaepParams<AnyRef<'a>> {
             ⊎ ((params : OaepParameters) × Means grammar.RsaOaepParams bytes.now params
             × IsAsn1 (NamesDefault (oaep_fields params) bytes.now) e)) }
         ensures only { (kind : der.ErrorKind)
-            → RsaOaepParamsFault kind bytes.now → IsErrAnd result (IsAsn1 (λ e. e.kind ≡ kind)) }
+            → StrictOaepFault kind bytes.now → IsErrAnd result (IsAsn1 (λ e. e.kind ≡ kind)) }
     {
         let params = RsaOaepParams::try_from(bytes)?;
         refuse_defaults(&params, bytes)?;

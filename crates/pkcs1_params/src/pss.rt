@@ -3,7 +3,7 @@ ghost use Rattle.std.specs.Prelude.{◌≡◌, ◌≤◌, refl, length, OnOk, If
 ghost use Rattle.der_core.specs.Reading.{TellsOfBytes};
 ghost use Rattle.der_core.specs.declared.error.ErrorKind as der;
 ghost use Rattle.pkcs1_params.specs.Allocating.{PssAllocates};
-ghost use Rattle.pkcs1_params.specs.ParameterFaults.{RsaPssParamsFault};
+ghost use Rattle.pkcs1_params.specs.ParameterFaults.{RsaPssParamsFault, StrictPssFault};
 ghost use Rattle.pkcs1_params.specs.Parameters as grammar;
 ghost use Rattle.pkcs1_params.specs.Refusals.{IsAsn1};
 ghost use Rattle.spki_core.specs.Any.{null_value};
@@ -213,7 +213,7 @@ impl<'a> RsaPssParams<AnyRef<'a>> {
             ⊎ ((params : PssParameters) × Means grammar.RsaPssParams bytes.now params
             × IsAsn1 (NamesDefault (pss_fields params) bytes.now) e)) }
         ensures only { (kind : der.ErrorKind)
-            → RsaPssParamsFault kind bytes.now → IsErrAnd result (IsAsn1 (λ e. e.kind ≡ kind)) }
+            → StrictPssFault kind bytes.now → IsErrAnd result (IsAsn1 (λ e. e.kind ≡ kind)) }
     {
         let params = RsaPssParams::try_from(bytes)?;
         refuse_defaults(&params, bytes)?;
