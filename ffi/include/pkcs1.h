@@ -1,11 +1,11 @@
 /* RSA keys and the parameters of RSASSA-PSS and RSAES-OAEP (RFC 8017) in DER (X.690): a proved reader and writer.
  *
  * A call answers 0 or a status below. 0 of a `.._decode` means that the whole text is one value of the type, and the
- * struct then holds that value; another status means that no value has the text, and what the pointers point to is as it
- * was. 0 of a `.._encode` means that the front of `out` is the value's one shortest text and the rest as it was, and
- * `*len` is the text's length. PKCS1_NO_ROOM: `*len` is the length that is needed; call with room 0 to ask for it. Another
- * status (but PKCS1_OUT_OF_MEMORY) means that the value has no text of at most 4294967295 octets, and then `*len` stays.
- * After every refusal `out` is as it was.
+ * struct then holds that value; another status means that no value has the text, and it is that of the text's first
+ * fault from the left; what the pointers point to is then as it was. 0 of a `.._encode` means that the front of `out` is
+ * the value's one shortest text and the rest as it was, and `*len` is the text's length. PKCS1_NO_ROOM: `*len` is the
+ * length that is needed; call with room 0 to ask for it. Another status (but PKCS1_OUT_OF_MEMORY) means that the value
+ * has no text of at most 4294967295 octets, and then `*len` stays. After every refusal `out` is as it was.
  *
  * Numbers are unsigned, most significant byte first. Writing takes them with or without zeros in front, reading gives
  * them without.
