@@ -3,7 +3,7 @@
  *
  * Status: each call returns PKCS1_OK or an error of the enum below; pkcs1_strerror gives its text.
  * Reading (.._decode): `der` is the whole encoding. On PKCS1_OK the struct holds the value that it encodes. On an error no
- *   value of the type has this encoding, and the struct is as it was.
+ *   value of the type has this encoding, the status is that of its first fault from the left, and the struct is as it was.
  * Writing (.._encode): on PKCS1_OK the first `*len` octets of `out` are the value's DER, and the rest is as it was. On
  *   PKCS1_NO_ROOM `*len` is the length that is needed: call with a null `out` and room 0 to ask for it. On another error
  *   the value has no encoding of at most 4294967295 octets (or memory is short), and `*len` is as it was. On any error

@@ -6,6 +6,7 @@ use Rattle.der_core.specs.declared.error.ErrorKind.{ErrorKind}
 use Rattle.der_core.specs.declared.error.ErrorKind.TheVariants.{File, OutOfMemory, Overflow}
 use Rattle.der_core.specs.Length.{limit}
 use Rattle.der_core.specs.Document.{IsDocument}
+use Rattle.der_core.specs.Faults.{DocumentFault}
 use Rattle.der_core.specs.SourcesSinks.{AppendsFront, GivesAll, GivesMore, SomeRefused}
 use Rattle.der_core.specs.Reading.{TellsOfBytes}
 
@@ -13,9 +14,9 @@ use Rattle.der_core.specs.Reading.{TellsOfBytes}
 abbrev pub piece : ℕ
 piece = 65536
 
--- What came up to the end is no document.
-abbrev pub GivesNone : Option (List ℕ) → Option (List ℕ) → Type 0
-GivesNone old new = (bytes : List ℕ) × GivesAll old new bytes × (IsDocument bytes → ⊥)
+-- What came up to the end is no document, and this is its first fault.
+abbrev pub GivesNone : ErrorKind → Option (List ℕ) → Option (List ℕ) → Type 0
+GivesNone e old new = (bytes : List ℕ) × GivesAll old new bytes × (IsDocument bytes → ⊥) × DocumentFault e bytes
 
 -- The source refused a call; or none was, and memory was wanted; or more bytes came than these.
 abbrev pub StopsCarrying : ℕ → ErrorKind → Option (List ℕ) → Option (List ℕ) → ℕ → ℕ → Type 0
@@ -27,7 +28,11 @@ StopsCarrying most e old new refusals refusals2 =
 -- So it stopped, with more bytes than a document has; or what came is no document.
 abbrev pub StopsReading : ErrorKind → Option (List ℕ) → Option (List ℕ) → ℕ → ℕ → Type 0
 StopsReading e old new refusals refusals2 =
-    StopsCarrying limit e old new refusals refusals2 ⊎ (TellsOfBytes e × GivesNone old new)
+    StopsCarrying limit e old new refusals refusals2 ⊎ (TellsOfBytes e × GivesNone e old new)
+
+-- Of a file, whose bytes no contract names: it refused a call, or memory was wanted, or some bytes have this fault.
+abbrev pub FileFault : ErrorKind → Type 0
+FileFault e = (e ≡ File) ⊎ (e ≡ OutOfMemory) ⊎ ((bytes : List ℕ) × DocumentFault e bytes)
 
 -- The document is all that came up to the end, and no call was refused; or reading stopped.
 abbrev pub ReadsDocument : {X : Type 0} → (X → List ℕ) → Result X Error

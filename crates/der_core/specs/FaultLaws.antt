@@ -1,13 +1,15 @@
 -- Bytes with a fault are none of the grammar, and have one first fault.
-use Rattle.std.proofs.Common.{◌≡◌, ◌≢◌, ℕ, ◌<◌, ◌≤◌, ◌⊎◌, List, [], ◌∷◌, ◌++◌, length, refl, sym, ap, ◌∙◌, arith, length-append, append-nil, append_assoc, inl, inr, Result, Ok, Err, Option, Some, None}
+use Rattle.std.proofs.Common.{◌≡◌, ◌≢◌, ℕ, ◌<◌, ◌≤◌, ◌⊎◌, List, [], ◌∷◌, ◌++◌, length, refl, sym, ap, ◌∙◌, arith, length-append, append-nil, append_assoc, inl, inr, ⊎_elim, Result, Ok, Err, Option, Some, None}
 use Rattle.der_core.specs.declared.error.ErrorKind.{ErrorKind}
 use Rattle.der_core.specs.declared.error.ErrorKind.TheVariants.{Incomplete, TagUnexpected}
 use Rattle.der_core.specs.declared.tag.Tag.{Tag}
 use Rattle.der_core.specs.Document.{Means}
-use Rattle.der_core.specs.Faults.{TextFault, in_header, other_tag, too_short, in_contents, ThenFault, EndFault, ItemsFault, AloneFault, LastFault, WholeFault, IntegerFault, SmallFault, AreNone, AreFirst}
+use Rattle.std.specs.Prelude.{slice_get, IfErr, IsErrAnd}
+use Rattle.der_core.specs.declared.error.Error.{Error}
+use Rattle.der_core.specs.Faults.{TextFault, in_header, other_tag, too_short, in_contents, ThenFault, EndFault, ItemsFault, AloneFault, LastFault, TaggedLastFault, WholeFault, IntegerFault, SmallFault, NoFault, DocumentFault, AreNone, AreFirst, Faulty, FaultyFront}
 use Rattle.der_core.specs.HeaderLaws.{tlv_header, header_complete, header_at-tells}
 use Rattle.der_core.specs.Headers.{HeaderText}
-use Rattle.der_core.specs.Input.{header_at}
+use Rattle.der_core.specs.Input.{Input, header_at}
 use Rattle.der_core.specs.InputLaws.{ok_pair}
 use Rattle.der_core.specs.ItemReads.{joins_none}
 use Rattle.der_core.specs.Optional.{Optional}
@@ -15,11 +17,13 @@ use Rattle.der_core.specs.SequenceOf.{ItemsContents}
 use Rattle.der_core.specs.Integer.{IntegerContents, SmallContents}
 use Rattle.der_core.specs.Length.{limit}
 use Rattle.der_core.specs.ListLaws.{same_fronts}
-use Rattle.der_core.specs.Reading.{NoneHas, NoneIn}
+use Rattle.der_core.specs.Reading.{NoneHas, NoneIn, AllocatesIn, ReadsText, ReadsAll}
 use Rattle.der_core.specs.Smalls.{integer_none, integer_tells, small_none, small_tells}
 use Rattle.der_core.specs.TagLaws.{same_tag}
 use Rattle.der_core.specs.Tells.{is_incomplete, is_other_tag, is_trailing}
-use Rattle.der_core.specs.Texts.{Then, IsDelimited}
+use Rattle.der_core.specs.Tags.{sequence}
+use Rattle.der_core.specs.TextLaws.{tlv_delimited}
+use Rattle.der_core.specs.Texts.{AreBytes, Then, IsDelimited, MeansOne}
 use Rattle.der_core.specs.Tlv.{Tlv}
 
 -- INTEGER
@@ -206,3 +210,83 @@ module _ {V : Type 0} (text : V → List ℕ → Type 0) (Fault : ErrorKind → 
   whole_fault_first first j k b (inl p) (inr q) = absurd (omega (arith, p.0, q.0))
   whole_fault_first first j k b (inr p) (inl q) = absurd (omega (arith, p.0, q.0))
   whole_fault_first first j k b (inr p) (inr q) = alone_fault_first text Fault d none first j k b p.0 p.1 q.1
+
+-- Contents without a fault.
+pub no_fault_none : (Lacks : List ℕ → Type 0) → AreNone Lacks NoFault
+no_fault_none Lacks k c within f = absurd f
+
+pub no_fault_first : AreFirst NoFault
+no_fault_first j k c within f g = absurd f
+
+-- A text with a tag, as a whole slice, and as a last part that is known by its tag.
+module _ {V : Type 0} (tag : Tag) (Contents : V → List ℕ → Type 0) (Fault : ErrorKind → List ℕ → Type 0) (means : MeansOne Contents) (none : AreNone (NoneHas Contents) Fault) where
+  abbrev Tagged : V → List ℕ → Type 0
+  Tagged v b = Tlv tag.octet (Contents v) b
+
+  tagged_is : IsDelimited Tagged
+  tagged_is = tlv_delimited tag.octet Contents means
+
+  tagged_none : AreNone (NoneIn Tagged) (TextFault tag Fault)
+  tagged_none = text_fault_none tag Fault Contents none
+
+  pub tagged_last_none : AreNone (NoneHas (Optional Tagged)) (TaggedLastFault tag Tagged (TextFault tag Fault))
+  tagged_last_none k c within (inl (next, fault)) = let told = alone_fault_none Tagged (TextFault tag Fault) tagged_is tagged_none k c within fault in (told.0, go c next told.1)
+    where
+      go : (c : List ℕ) → slice_get c 0 ≡ Some tag.octet → NoneHas Tagged c → (o : Option V) → Optional Tagged o c → ⊥
+      go c next nothing None has = let no : slice_get c 0 ≡ None = ap (λ l. slice_get l 0) has in cc
+      go c next nothing (Some v) has = nothing v has
+  tagged_last_none k c within (inr (other, fault)) = (is_trailing fault.1, go c other fault.0)
+    where
+      go : (c : List ℕ) → slice_get c 0 ≢ Some tag.octet → 0 < length c → (o : Option V) → Optional Tagged o c → ⊥
+      go c other more None has = omega (arith, more, ap length has)
+      go c other more (Some v) has = other (ap (λ l. slice_get l 0) has.written)
+
+  -- a whole slice
+  pub tagged_whole_none : (k : ErrorKind) (b : List ℕ) → WholeFault Tagged (TextFault tag Fault) k b → (v : V) → Means Tagged b v → ⊥
+  tagged_whole_none = whole_fault_none Tagged (TextFault tag Fault) tagged_is tagged_none
+
+  pub tagged_whole_first : AreFirst Fault → (j k : ErrorKind) (b : List ℕ) → WholeFault Tagged (TextFault tag Fault) j b → WholeFault Tagged (TextFault tag Fault) k b → j ≡ k
+  tagged_whole_first first = whole_fault_first Tagged (TextFault tag Fault) tagged_is tagged_none (text_fault_first tag Fault first)
+
+  pub tagged_last_first : AreFirst Fault → AreFirst (TaggedLastFault tag Tagged (TextFault tag Fault))
+  tagged_last_first first j k c within (inl (p, f)) (inl (q, g)) = alone_fault_first Tagged (TextFault tag Fault) tagged_is tagged_none (text_fault_first tag Fault first) j k c within f g
+  tagged_last_first first j k c within (inl (p, f)) (inr (q, g)) = absurd (q p)
+  tagged_last_first first j k c within (inr (p, f)) (inl (q, g)) = absurd (p q)
+  tagged_last_first first j k c within (inr (p, f)) (inr (q, g)) = f.1 ∙ sym g.1
+
+-- Documents.
+pub document_fault_none : (k : ErrorKind) (b : List ℕ) → DocumentFault k b → Means {V = Unit {0}} (λ _. Tlv sequence.octet AreBytes) b tt → ⊥
+document_fault_none k b fault means = tagged_whole_none {V = Unit {0}} sequence (λ _. AreBytes) NoFault (λ v w c p q. refl) (no_fault_none _) k b fault tt means
+
+pub document_fault_first : (j k : ErrorKind) (b : List ℕ) → DocumentFault j b → DocumentFault k b → j ≡ k
+document_fault_first = tagged_whole_first {V = Unit {0}} sequence (λ _. AreBytes) NoFault (λ v w c p q. refl) (no_fault_none _) no_fault_first
+
+-- Of bytes with a fault the refusal is that of the fault, or want of memory.
+module _ (Fault : ErrorKind → List ℕ → Type 0) (first : (j k : ErrorKind) (b : List ℕ) → Fault j b → Fault k b → j ≡ k) where
+  pub faulty_first : (e kind : ErrorKind) (b : List ℕ) {asked : Type 0} → Fault kind b → Faulty e asked (Fault e b) → Faulty e asked (e ≡ kind)
+  faulty_first e kind b fault (inl w) = inl w
+  faulty_first e kind b fault (inr f) = inr (first e kind b f fault)
+
+-- What is read of a whole slice, or of the front of a reader, is refused where there is a fault, by that.
+module _ {X V : Type 0} (value : X → V) (text : V → List ℕ → Type 0) (Fault : ErrorKind → List ℕ → Type 0) (may_allocate : List ℕ → Type 0) (none : AreNone (NoneIn text) Fault) (first : AreFirst Fault) where
+  pub only_whole : IsDelimited text → (r : Result X Error) (b : List ℕ) → ReadsAll value text may_allocate r b → IfErr r (λ e. Faulty e.kind (AllocatesIn may_allocate b) (WholeFault text Fault e.kind b))
+      → (kind : ErrorKind) → WholeFault text Fault kind b → IsErrAnd r (λ e. Faulty e.kind (AllocatesIn may_allocate b) (e.kind ≡ kind))
+  only_whole d (Ok x) b reads exact kind fault = absurd (whole_fault_none text Fault d none kind b fault (value x) reads)
+  only_whole d (Err e) b reads exact kind fault = faulty_first (WholeFault text Fault) (whole_fault_first text Fault d none first) e.kind kind b fault exact
+
+  pub only_front : (r : Result X Error) (before after : Input) (i : List ℕ) → before ≡ Some i → length i ≤ limit → ReadsText value text may_allocate r before after → IfErr r (λ e. FaultyFront Fault may_allocate e.kind before)
+      → (kind : ErrorKind) → Fault kind i → IsErrAnd r (λ e. Faulty e.kind (AllocatesIn may_allocate i) (e.kind ≡ kind))
+  only_front (Ok x) before after i is within reads exact kind fault =
+      let some : Some i ≡ Some (reads.0 ++ reads.1) = sym is ∙ reads.2 in
+      let same : i ≡ reads.0 ++ reads.1 = cc in
+      absurd ((none kind i within fault).1 (value x) reads.0 reads.1 same reads.4)
+  only_front (Err e) before after i is within reads exact kind fault = ⊎_elim inl (λ f. inr (first e.kind kind i within f fault)) (exact i is)
+
+-- Where memory isn't asked for, it isn't wanted.
+pub not_asked : {X : Type 0} {asked : Type 0} (Fault : ErrorKind → Type 0) → (asked → ⊥) → (r : Result X Error) → IfErr r (λ e. Faulty e.kind asked (Fault e.kind)) → IfErr r (λ e. Fault e.kind)
+not_asked Fault never (Ok x) h = tt
+not_asked Fault never (Err e) h = ⊎_elim (λ w. absurd (never w.1)) (λ f. f) h
+
+pub only_not_asked : {X : Type 0} {asked : Type 0} (kind : ErrorKind) → (asked → ⊥) → (r : Result X Error) → IsErrAnd r (λ e. Faulty e.kind asked (e.kind ≡ kind)) → IsErrAnd r (λ e. e.kind ≡ kind)
+only_not_asked kind never (Ok x) h = h
+only_not_asked kind never (Err e) h = ⊎_elim (λ w. absurd (never w.1)) (λ f. f) h

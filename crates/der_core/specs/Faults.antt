@@ -2,7 +2,7 @@
 --
 -- Faults are said by the grammar, as texts are: of a text with a tag by those of its contents, of parts that follow one
 -- another by those of the parts. Nothing here reads: what comes before the fault is said by the grammar.
-use Rattle.std.specs.Prelude.{◌≡◌, ◌≢◌, ◌<◌, ◌≤◌, ℕ, List, ◌++◌, Some, ◌⊎◌, Err, length}
+use Rattle.std.specs.Prelude.{◌≡◌, ◌≢◌, ◌<◌, ◌≤◌, ℕ, List, ◌++◌, Some, ◌⊎◌, Err, length, slice_get}
 use Rattle.der_core.specs.declared.error.ErrorKind.{ErrorKind}
 use Rattle.der_core.specs.declared.error.ErrorKind.TheVariants.{Incomplete, OutOfMemory, Overflow, TagUnexpected, TrailingData}
 use Rattle.der_core.specs.declared.tag.Tag.{Tag}
@@ -12,7 +12,9 @@ use Rattle.der_core.specs.Input.{Input, header_at}
 use Rattle.der_core.specs.IntegerReading.{integer_of, small_of}
 use Rattle.der_core.specs.Reading.{AllocatesIn, TellsOfBytes}
 use Rattle.der_core.specs.SequenceOf.{ItemsContents}
-use Rattle.der_core.specs.Texts.{Then}
+use Rattle.der_core.specs.Tags.{sequence}
+use Rattle.der_core.specs.Texts.{AreBytes, Then}
+use Rattle.der_core.specs.Tlv.{Tlv}
 
 -- What is at the front is no text of this tag, whose contents have faults of their own. The first fault is ..
 pub data TextFault (tag : Tag) (ContentsFault : ErrorKind → List ℕ → Type 0) (kind : ErrorKind) (bytes : List ℕ) : Type 0 where
@@ -56,9 +58,25 @@ IntegerFault kind contents = integer_of contents ≡ Err kind
 abbrev pub SmallFault : ErrorKind → List ℕ → Type 0
 SmallFault kind contents = small_of contents ≡ Err kind
 
--- Of a type that doesn't say which fault is which: bytes that are none of it.
-abbrev pub Untold : (List ℕ → Type 0) → ErrorKind → List ℕ → Type 0
-Untold Lacks kind bytes = TellsOfBytes kind × Lacks bytes
+-- Contents of which any octets are fine, as those of an OCTET STRING: they have no fault.
+abbrev pub NoFault : ErrorKind → List ℕ → Type 0
+NoFault kind contents = ⊥
+
+-- A last part that is known by its tag: where the octet of that comes next, its text has a fault, or bytes follow it;
+-- elsewhere bytes are left.
+abbrev pub TaggedLastFault : {V : Type 0} → Tag → (V → List ℕ → Type 0) → (ErrorKind → List ℕ → Type 0) → ErrorKind → List ℕ → Type 0
+TaggedLastFault tag Text Fault kind bytes =
+    ((slice_get bytes 0 ≡ Some tag.octet) × AloneFault Text Fault kind bytes)
+    ⊎ ((slice_get bytes 0 ≢ Some tag.octet) × EndFault kind bytes)
+
+-- Contents of a type of which one value is expected: they have a fault, or mean another value, which is refused so.
+abbrev pub ExpectedFault : {V : Type 0} → (V → List ℕ → Type 0) → (ErrorKind → List ℕ → Type 0) → V → ErrorKind → ErrorKind → List ℕ → Type 0
+ExpectedFault {V} Contents Fault v refusal kind contents =
+    Fault kind contents ⊎ ((w : V) × Contents w contents × (w ≢ v) × (kind ≡ refusal))
+
+-- A whole slice that is to be one SEQUENCE, whatever its contents are.
+abbrev pub DocumentFault : ErrorKind → List ℕ → Type 0
+DocumentFault = WholeFault {V = Unit {0}} (λ _. Tlv sequence.octet AreBytes) (TextFault sequence NoFault)
 
 -- Bytes with a fault are none of the grammar.
 abbrev pub AreNone : (List ℕ → Type 0) → (ErrorKind → List ℕ → Type 0) → Type 0

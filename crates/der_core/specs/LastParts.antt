@@ -8,6 +8,7 @@ use Rattle.der_core.specs.Optional.{Optional}
 use Rattle.der_core.specs.Faults.{AloneFault, LastFault, FaultyWhole}
 use Rattle.der_core.specs.Tells.{is_trailing}
 use Rattle.der_core.specs.Reading.{AllocatesIn}
+use Rattle.der_core.specs.TextLaws.{joins_last}
 use Rattle.der_core.specs.Sequences.{TextFails, TextGives, ContentsFail, some_same}
 use Rattle.der_core.specs.Whole.{trailing_is, trailing_none}
 
@@ -51,10 +52,7 @@ allocates_more text may_allocate more f before after e fails =
 pub as_last : {V W : Type 0} (contents : V → List ℕ → Type 0) (part : W → V) (may_allocate : List ℕ → Type 0)
     → (before after : Input) (e : ErrorKind) → ContentsFail contents may_allocate e before after → ContentsFail (λ w. Joins (contents (part w) ∷ [])) may_allocate e before after
 as_last contents part may_allocate before after e fails =
-    (fails.0, λ c is. ⊎_elim inl (λ w. inr (w.0, λ v has. w.1 (part v) (only (contents (part v)) c has))) (fails.1 c is))
-  where
-    only : (P : List ℕ → Type 0) (c : List ℕ) → Joins (P ∷ []) c → P c
-    only P c (x, y, p, e, h) = let same : c ≡ x = h ∙ ap (λ l. x ++ l) e ∙ append-nil x in rw same p
+    (fails.0, λ c is. ⊎_elim inl (λ w. inr (w.0, λ v has. w.1 (part v) (joins_last c has))) (fails.1 c is))
 
 -- Something is left, and it has a fault.
 pub last_faults : {V : Type 0} (text : V → List ℕ → Type 0) (Fault : ErrorKind → List ℕ → Type 0) (may_allocate : List ℕ → Type 0) (before : Input) (e : ErrorKind) → 0 < length (left_in before) → FaultyWhole (AloneFault text Fault) may_allocate e before

@@ -124,6 +124,9 @@ last_least x f c (a, b, p, q, e) = let same : c ≡ a = e ∙ ap (λ r. a ++ r) 
 pub then_holds : {P Q : List ℕ → Type 0} (x y : List ℕ) → P x → Q y → Then P Q (x ++ y)
 then_holds x y p q = (x, y, p, q, refl)
 
+pub joins_last : {P : List ℕ → Type 0} (c : List ℕ) → Joins (P ∷ []) c → P c
+joins_last c (x, y, p, e, h) = let same : c ≡ x = h ∙ ap (λ l. x ++ l) e ∙ append-nil x in rw same p
+
 pub last_holds : {P : List ℕ → Type 0} (x : List ℕ) → P x → Joins (P ∷ []) x
 last_holds x p = (x, [], p, refl, sym (append-nil x))
 

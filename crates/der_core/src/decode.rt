@@ -1,9 +1,9 @@
 //! Reading of values.
-ghost use Rattle.std.specs.Prelude.{ℕ, List, IfErr};
+ghost use Rattle.std.specs.Prelude.{◌≡◌, ℕ, List, IfErr, IsErrAnd};
 ghost use Rattle.der_core.specs.Tlv.{Tlv};
 ghost use Rattle.der_core.specs.Reading.{ReadsOrFaults, ReadsText, ReadsAll, ReadsOptional, HoldsBytes, TellsNext, NoneHas, NoneIn, AllocatesIn};
-ghost use Rattle.der_core.specs.Faults.{TextFault, WholeFault, Faulty, FaultyFront, AreNone};
-ghost use Rattle.der_core.specs.FaultLaws.{text_fault_none};
+ghost use Rattle.der_core.specs.Faults.{TextFault, WholeFault, Faulty, FaultyFront, AreNone, AreFirst};
+ghost use Rattle.der_core.specs.FaultLaws.{text_fault_none, text_fault_first};
 ghost use Rattle.der_core.specs.declared.error.ErrorKind.{ErrorKind};
 
 use crate::error::{ErrorKind, Result};
@@ -30,6 +30,8 @@ pub trait DecodeValue<B: Octets, M: Memory>: Contents + Sized + Drop {
             ReadsOrFaults Self.value Self.contents fault may_allocate result before (R.left reader.new) };
 
     ghost fault_none: { AreNone (NoneHas Self.contents) fault };
+
+    ghost fault_first: { AreFirst fault };
 }
 
 /// A type whose values are read from their texts.
@@ -49,9 +51,13 @@ pub trait Decode<B: Octets, M: Memory>: Text + Sized + Drop {
     fn from_der(memory: M, bytes: B) -> Result<Self>
         ensures text { ReadsAll Self.value Self.text may_allocate result (B.octets bytes) }
         ensures exact { let b = B.octets bytes in
-            IfErr result (λ e. Faulty e.kind (AllocatesIn may_allocate b) (WholeFault Self.text fault e.kind b)) };
+            IfErr result (λ e. Faulty e.kind (AllocatesIn may_allocate b) (WholeFault Self.text fault e.kind b)) }
+        ensures only { let b = B.octets bytes in (kind : ErrorKind) → WholeFault Self.text fault kind b
+            → IsErrAnd result (λ e. Faulty e.kind (AllocatesIn may_allocate b) (e.kind ≡ kind)) };
 
     ghost fault_none: { AreNone (NoneIn Self.text) fault };
+
+    ghost fault_first: { AreFirst fault };
 }
 
 impl<'a, M: Memory, T: DecodeValue<&'a [u8], M> + FixedTag> Decode<&'a [u8], M> for T {
@@ -84,6 +90,8 @@ impl<'a, M: Memory, T: DecodeValue<&'a [u8], M> + FixedTag> Decode<&'a [u8], M> 
     }
 
     ghost fault_none = { text_fault_none T.TAG T.DecodeValue.fault T.contents T.DecodeValue.fault_none };
+
+    ghost fault_first = { text_fault_first T.TAG T.DecodeValue.fault T.DecodeValue.fault_first };
 }
 
 /// Whether the octet of a tag comes next. On a reader that has failed the answer is `Failed`.

@@ -1,13 +1,15 @@
 //! Documents: whole SEQUENCEs, whose contents aren't looked at.
-ghost use Rattle.std.specs.Prelude.{◌≡◌, ◌≢◌, ◌≤◌, [], length, refl, ⊤, IfOk, IfErr};
-ghost use Rattle.der_core.specs.Carrying.{ReadsDocument, WritesAll};
+ghost use Rattle.std.specs.Prelude.{◌≡◌, ◌≢◌, ◌≤◌, ◌⊎◌, ℕ, List, [], Some, length, refl, ⊤, IfOk, IfErr, IsErrAnd};
+ghost use Rattle.der_core.specs.Carrying.{ReadsDocument, StopsCarrying, FileFault, WritesAll};
 ghost use Rattle.der_core.specs.Document.{IsDocument};
 ghost use Rattle.der_core.specs.DocumentLaws.{IsDocument-prop};
 ghost use Rattle.der_core.specs.Length.{limit};
-ghost use Rattle.der_core.specs.Faults.{Untold};
-ghost use Rattle.der_core.specs.Reading.{Refuses, NoneHas};
+ghost use Rattle.der_core.specs.Faults.{NoFault, DocumentFault, Faulty};
+ghost use Rattle.der_core.specs.FaultLaws.{no_fault_none, no_fault_first};
+ghost use Rattle.der_core.specs.Reading.{Refuses};
 ghost use Rattle.der_core.specs.Refusal.{IsFile};
 ghost use Rattle.der_core.specs.Texts.{AreBytes};
+ghost use Rattle.der_core.specs.declared.error.ErrorKind as der;
 ghost use Rattle.der_core.specs.Tlv.{Tlv, tlv};
 
 use crate::back_writer::BackWriter;
@@ -55,7 +57,7 @@ impl TaggedBy for AnySequence {
 impl<'a> DecodeValue<&'a [u8], NoMemory> for AnySequence {
     ghost may_allocate = { λ _. ⊥ };
 
-    ghost fault = { Untold (NoneHas (λ (_ : Unit {0}) octets. AreBytes octets)) };
+    ghost fault = { NoFault };
 
     fn decode_value<R: Reader<&'a [u8]>>(
         _memory: NoMemory,
@@ -66,7 +68,9 @@ impl<'a> DecodeValue<&'a [u8], NoMemory> for AnySequence {
         Ok(AnySequence)
     }
 
-    ghost fault_none = { λ kind bytes within fault. fault };
+    ghost fault_none = { no_fault_none _ };
+
+    ghost fault_first = { no_fault_first };
 }
 
 /// Writes the text of a message over a slice of its length.
@@ -94,6 +98,10 @@ impl Document {
     pub fn from_der(alloc: Global, bytes: &[u8]) -> Result<Document>
         ensures ok { IfOk result (λ document. IsDocument bytes.now × (text_of document ≡ bytes.now)) }
         ensures err { IfErr result (λ e. Refuses e.kind (IsDocument bytes.now) (IsDocument bytes.now → ⊥)) }
+        ensures exact { let b = bytes.now in
+            IfErr result (λ e. Faulty e.kind (IsDocument b) (DocumentFault e.kind b)) }
+        ensures only { (kind : der.ErrorKind)
+            → DocumentFault kind bytes.now → IsErrAnd result (λ e. e.kind ≡ kind) }
     {
         AnySequence::from_der(NoMemory, bytes)?;
         Ok(Document {
@@ -136,8 +144,12 @@ impl Document {
     /// `Length::MAX` bytes came, so it returns on a source that never ends. `File` is answered only where the source
     /// refused a call. After a refusal the source has moved on.
     pub fn read_from<R: Source>(alloc: Global, source: &mut R) -> Result<Document>
-        ensures { ReadsDocument text_of result (R.remaining source.old) (R.remaining source.new)
+        ensures reads { ReadsDocument text_of result (R.remaining source.old) (R.remaining source.new)
             (R.refusals source.old) (R.refusals source.new) }
+        ensures only { (kind : der.ErrorKind) (bytes : List ℕ)
+            → R.remaining source.old ≡ Some bytes → DocumentFault kind bytes
+            → IsErrAnd result (λ e. StopsCarrying limit e.kind (R.remaining source.old) (R.remaining source.new)
+            (R.refusals source.old) (R.refusals source.new) ⊎ (e.kind ≡ kind)) }
     {
         let bytes = read_all(alloc, source, Length::MAX)?;
         AnySequence::from_der(NoMemory, bytes.as_slice())?;
@@ -155,7 +167,8 @@ impl Document {
 
     /// The document that the file holds: `read_from` on it. `File` is answered too where the file can't be opened.
     pub fn read_der_file<Rt: Files>(rt: &Rt, alloc: Global, path: Path<'_>) -> Result<Document>
-        ensures { IfErr result (λ e. e.kind ≢ ErrorKind.NoRoom) }
+        ensures room { IfErr result (λ e. e.kind ≢ ErrorKind.NoRoom) }
+        ensures exact { IfErr result (λ e. FileFault e.kind) }
     {
         let Ok(file) = File::open(rt, path) else {
             return Err(Error::new(ErrorKind::File));
@@ -189,6 +202,10 @@ impl SecretDocument {
     pub fn from_der(alloc: Global, bytes: &[u8]) -> Result<SecretDocument>
         ensures ok { IfOk result (λ document. IsDocument bytes.now × (secret_text_of document ≡ bytes.now)) }
         ensures err { IfErr result (λ e. Refuses e.kind (IsDocument bytes.now) (IsDocument bytes.now → ⊥)) }
+        ensures exact { let b = bytes.now in
+            IfErr result (λ e. Faulty e.kind (IsDocument b) (DocumentFault e.kind b)) }
+        ensures only { (kind : der.ErrorKind)
+            → DocumentFault kind bytes.now → IsErrAnd result (λ e. e.kind ≡ kind) }
     {
         Ok(SecretDocument {
             document: Document::from_der(alloc, bytes)?,
@@ -229,8 +246,12 @@ impl SecretDocument {
     /// `Length::MAX` bytes came, so it returns on a source that never ends. `File` is answered only where the source
     /// refused a call. After a refusal the source has moved on.
     pub fn read_from<R: Source>(alloc: Global, source: &mut R) -> Result<SecretDocument>
-        ensures { ReadsDocument secret_text_of result (R.remaining source.old) (R.remaining source.new)
+        ensures reads { ReadsDocument secret_text_of result (R.remaining source.old) (R.remaining source.new)
             (R.refusals source.old) (R.refusals source.new) }
+        ensures only { (kind : der.ErrorKind) (bytes : List ℕ)
+            → R.remaining source.old ≡ Some bytes → DocumentFault kind bytes
+            → IsErrAnd result (λ e. StopsCarrying limit e.kind (R.remaining source.old) (R.remaining source.new)
+            (R.refusals source.old) (R.refusals source.new) ⊎ (e.kind ≡ kind)) }
     {
         Ok(SecretDocument {
             document: Document::read_from(alloc, source)?,
@@ -252,7 +273,8 @@ impl SecretDocument {
         alloc: Global,
         path: Path<'_>,
     ) -> Result<SecretDocument>
-        ensures { IfErr result (λ e. e.kind ≢ ErrorKind.NoRoom) }
+        ensures room { IfErr result (λ e. e.kind ≢ ErrorKind.NoRoom) }
+        ensures exact { IfErr result (λ e. FileFault e.kind) }
     {
         Ok(SecretDocument {
             document: Document::read_der_file(rt, alloc, path)?,

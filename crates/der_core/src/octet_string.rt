@@ -2,8 +2,8 @@
 ghost use Rattle.std.specs.Prelude.{◌≡◌, ◌≤◌, ◌<◌, ◌↔◌, ℕ, List, IsTrue, length, slice_index, IfOk, IfErr};
 ghost use Rattle.der_core.specs.Length.{limit};
 ghost use Rattle.der_core.specs.OctetString.{OctetContents};
-ghost use Rattle.der_core.specs.Faults.{Untold};
-ghost use Rattle.der_core.specs.Reading.{NoneHas};
+ghost use Rattle.der_core.specs.Faults.{NoFault};
+ghost use Rattle.der_core.specs.FaultLaws.{no_fault_none, no_fault_first};
 ghost use Rattle.der_core.specs.OctetStringLaws.{octets_mean_one, octets_of_bytes, octets_relate, octets_shortest};
 ghost use Rattle.der_core.specs.Tags.{octet_string};
 ghost use Rattle.der_core.specs.Texts.{AreBytes};
@@ -105,7 +105,7 @@ impl EqualByValue for OctetStringRef<'_> {
 impl<'a, M: Memory> DecodeValue<&'a [u8], M> for OctetStringRef<'a> {
     ghost may_allocate = { λ _. ⊥ };
 
-    ghost fault = { Untold (NoneHas OctetContents) };
+    ghost fault = { NoFault };
 
     fn decode_value<R: Reader<&'a [u8]>>(
         _memory: M,
@@ -116,7 +116,9 @@ impl<'a, M: Memory> DecodeValue<&'a [u8], M> for OctetStringRef<'a> {
         Ok(OctetStringRef { bytes })
     }
 
-    ghost fault_none = { λ kind bytes within fault. fault };
+    ghost fault_none = { no_fault_none _ };
+
+    ghost fault_first = { no_fault_first };
 }
 
 impl EncodeValue for OctetStringRef<'_> {

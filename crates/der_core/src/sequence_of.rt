@@ -3,7 +3,7 @@ ghost use Rattle.std.specs.Prelude.{◌≡◌, ◌≤◌, ◌<◌, List, length,
 ghost use Rattle.der_core.specs.Length.{limit};
 ghost use Rattle.der_core.specs.BackWriters.{free_of, Prepends};
 ghost use Rattle.der_core.specs.Faults.{ItemsFault};
-ghost use Rattle.der_core.specs.FaultLaws.{items_fault_none};
+ghost use Rattle.der_core.specs.FaultLaws.{items_fault_none, items_fault_first};
 ghost use Rattle.der_core.specs.Writing.{Counts, Appends};
 ghost use Rattle.der_core.specs.SequenceOfLaws.{items_of_bytes, items_relate, items_shortest};
 ghost use Rattle.der_core.specs.SequenceOf.{ItemsContents, AllHave, all_texts};
@@ -61,6 +61,9 @@ impl<'a, T: Decode<&'a [u8], Global>> DecodeValue<&'a [u8], Global> for Vec<T> {
     }
 
     ghost fault_none = { items_fault_none T.text T.Decode.fault T.delimited T.Decode.fault_none };
+
+    ghost fault_first = { let none = T.Decode.fault_none in
+        items_fault_first T.text T.Decode.fault T.delimited none T.Decode.fault_first };
 }
 
 /// How many octets the texts of the items have.

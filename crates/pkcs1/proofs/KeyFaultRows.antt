@@ -1,6 +1,6 @@
 -- First faults at worked examples.
 use Rattle.std.proofs.Common.{ℕ, [], ◌∷◌, ◌<◌, refl, arith, inl, inr}
-use Rattle.der_core.specs.declared.error.ErrorKind.TheVariants.{Incomplete, IndefiniteLength, Noncanonical, TagUnexpected, TagUnknown, TrailingData, Value}
+use Rattle.der_core.specs.declared.error.ErrorKind.TheVariants.{Incomplete, IndefiniteLength, Length, Noncanonical, Overflow, Overlength, TagUnexpected, TagUnknown, TrailingData, Value}
 use Rattle.der_core.specs.declared.tag.Tag.{Tag}
 use Rattle.der_core.specs.Faults.{in_header, other_tag, too_short, in_contents}
 use Rattle.der_core.specs.Headers.{HeaderText}
@@ -98,3 +98,21 @@ version_two =
       inl (in_contents (0x30 ∷ 0x03 ∷ []) (0x02 ∷ 0x01 ∷ 0x02 ∷ []) [] (sequence_header 3 (omega arith)) refl
           (inl (in_contents (0x02 ∷ 0x01 ∷ []) (0x02 ∷ []) [] (integer_header 1 (omega arith)) refl (inr (2, (omega arith, 2 ∷ [], refl, (inr ((omega arith, tt), omega arith), inl (omega arith, refl))), omega arith, refl))))),
     )
+
+-- 30020200, an INTEGER without contents
+empty_integer : RsaPublicKeyFault (Length integer) (0x30 ∷ 0x02 ∷ 0x02 ∷ 0x00 ∷ [])
+empty_integer =
+    inr (
+      omega arith,
+      inl (in_contents (0x30 ∷ 0x02 ∷ []) (0x02 ∷ 0x00 ∷ []) [] (sequence_header 2 (omega arith)) refl (inl (in_contents (0x02 ∷ 0x00 ∷ []) [] [] (integer_header 0 (omega arith)) refl refl))),
+    )
+
+-- 30 85 01 00 00 00 00, a length in five octets
+past_the_limit : RsaPublicKeyFault Overflow (0x30 ∷ 0x85 ∷ 0x01 ∷ 0x00 ∷ 0x00 ∷ 0x00 ∷ 0x00 ∷ [])
+unfolding header_at length_at
+past_the_limit = inr (omega arith, inl (in_header refl))
+
+-- 30 81 00, a length in more octets than it needs
+overlong : RsaPublicKeyFault Overlength (0x30 ∷ 0x81 ∷ 0x00 ∷ [])
+unfolding header_at length_at
+overlong = inr (omega arith, inl (in_header refl))

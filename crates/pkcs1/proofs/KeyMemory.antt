@@ -15,7 +15,7 @@ use Rattle.pkcs1.specs.Allocating.{BeginsSequence, OthersFollow, AllocatesForKey
 use Rattle.pkcs1.specs.Keys.{OtherPrime, OtherPrimeInfos, version_of, PrivateKey, PrivateKeyContents}
 use Rattle.pkcs1.specs.Writing.{key_numbers}
 use Rattle.pkcs1.proofs.NumberReads.{as_many}
-use Rattle.pkcs1.proofs.KeyReads.{last_is}
+use Rattle.der_core.specs.TextLaws.{joins_last}
 
 module _ {V : Type 0} {text : V → List ℕ → Type 0} (d : IsDelimited text) (key : PrivateKey V) (two : key.other_prime_infos ≡ None) where
   none_follow : (others : Option (List (OtherPrime V))) (rest : List ℕ) → others ≡ None → OtherPrimeInfos text others rest → BeginsSequence rest → ⊥
@@ -29,7 +29,7 @@ module _ {V : Type 0} {text : V → List ℕ → Type 0} (d : IsDelimited text) 
       let tails = same_fronts a (b ++ rest) p.0 p.1 (ap length one.0) e in
       let numbers : Joins (map text (key_numbers key) ++ OtherPrimeInfos text key.other_prime_infos ∷ []) p.1 = p.3 in
       let s = as_many text d vs (key_numbers key) (OtherPrimeInfos text key.other_prime_infos ∷ []) b rest p.1 joined l (sym tails.1) numbers in
-      none_follow key.other_prime_infos rest two (last_is rest s.1) begins
+      none_follow key.other_prime_infos rest two (joins_last rest s.1) begins
 
   pub two_primes_ask : (may_allocate : List ℕ → Type 0) → ((c : List ℕ) → AllocatesWithin may_allocate c → ⊥) → (whole : List ℕ) → Tlv 48 (PrivateKeyContents text key) whole → AllocatesIn (Tlv 48 (AllocatesForKey text may_allocate)) whole → ⊥
   two_primes_ask may_allocate none whole p (b, rest, e, q) =
@@ -70,8 +70,3 @@ refuses_as kind text (inr w) = inr w
 pub faulty_as : (kind : ErrorKind) (text : List ℕ) {fault : Type 0} → Faulty kind (AllocatesIn (Tlv 48 (AllocatesForKey Integer (Tlv 2 (λ _. ⊥)))) text) fault → Faulty kind (MayAllocate text) fault
 faulty_as kind text (inl w) = inl (w.0, may_ask text w.1)
 faulty_as kind text (inr f) = inr f
-
--- Of bytes with a fault the refusal is that of the fault, or want of memory.
-pub faulty_first : (Fault : ErrorKind → List ℕ → Type 0) → ((j k : ErrorKind) (b : List ℕ) → Fault j b → Fault k b → j ≡ k) → (e kind : ErrorKind) (text : List ℕ) {asked : Type 0} → Fault kind text → Faulty e asked (Fault e text) → Faulty e asked (e ≡ kind)
-faulty_first Fault first e kind text fault (inl w) = inl w
-faulty_first Fault first e kind text fault (inr f) = inr (first e kind text f fault)

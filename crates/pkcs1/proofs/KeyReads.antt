@@ -27,9 +27,6 @@ as_small n text p = record { octets = p.octets; contents = p.contents; counted =
 as_version : (n : ℕ) (text : List ℕ) → n < 2 → Small n text → VersionText n text
 as_version n text l p = record { octets = p.octets; contents = p.contents; counted = p.counted; holds = (l, p.holds); written = p.written }
 
-pub last_is : {P : List ℕ → Type 0} (c : List ℕ) → Joins (P ∷ []) c → P c
-last_is c (x, y, p, q, e) = let same : c ≡ x = e ∙ ap (λ l. x ++ l) q ∙ append-nil x in rw same p
-
 module _ {V : Type 0} (text : V → List ℕ → Type 0) (d : IsDelimited text) (may_allocate others_ask : List ℕ → Type 0) where
   abbrev parts : PrivateKey V → List (List ℕ → Type 0)
   parts key = OtherPrimeInfos text key.other_prime_infos ∷ []

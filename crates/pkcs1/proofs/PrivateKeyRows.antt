@@ -11,23 +11,23 @@ use Rattle.pkcs1.specs.Keys.{OtherPrime, OtherPrimeInfo, OtherPrimeInfos, versio
 use Rattle.pkcs1.specs.Writing.{key_numbers}
 use Rattle.pkcs1.specs.PrivateKeyLaws.{joins_take, joins_put, version_small}
 use Rattle.pkcs1.proofs.NumberReads.{as_many}
-use Rattle.pkcs1.proofs.KeyReads.{last_is}
+use Rattle.der_core.specs.TextLaws.{joins_last}
 
 -- INTEGERs of one byte, one after another.
-abbrev bytes_of : List ℕ → List ℕ
+abbrev pub bytes_of : List ℕ → List ℕ
 bytes_of [] = []
 bytes_of (n ∷ ns) = 0x02 ∷ 0x01 ∷ n ∷ bytes_of ns
 
-bytes_join : (ns : List ℕ) → AllHave (λ n. n < 128) ns → Joins (map Integer (map (λ n. n ∷ []) ns)) (bytes_of ns)
+pub bytes_join : (ns : List ℕ) → AllHave (λ n. n < 128) ns → Joins (map Integer (map (λ n. n ∷ []) ns)) (bytes_of ns)
 bytes_join [] h = refl
 bytes_join (n ∷ ns) h = (0x02 ∷ 0x01 ∷ n ∷ [], bytes_of ns, integer_byte n h.0, bytes_join ns h.1, refl)
 
 -- n, e, d, p, q, dp, dq, qi
-abbrev eight : List ℕ
+abbrev pub eight : List ℕ
 eight = 0x07 ∷ 0x03 ∷ 0x05 ∷ 0x0b ∷ 0x0d ∷ 0x02 ∷ 0x04 ∷ 0x06 ∷ []
 
 -- 020107 020103 020105 02010b 02010d 020102 020104 020106
-eight_join : Joins (map Integer (map (λ n. n ∷ []) eight)) (bytes_of eight)
+pub eight_join : Joins (map Integer (map (λ n. n ∷ []) eight)) (bytes_of eight)
 eight_join = bytes_join eight (omega arith, (omega arith, (omega arith, (omega arith, (omega arith, (omega arith, (omega arith, (omega arith, tt))))))))
 
 abbrev key_with : Option (List (OtherPrime (List ℕ))) → PrivateKey (List ℕ)
@@ -44,13 +44,13 @@ key_with others = record {
 }
 
 -- 30 09 020111 020102 020103
-abbrev other_bytes : List ℕ
+abbrev pub other_bytes : List ℕ
 other_bytes = 0x30 ∷ 0x09 ∷ 0x02 ∷ 0x01 ∷ 0x11 ∷ 0x02 ∷ 0x01 ∷ 0x02 ∷ 0x02 ∷ 0x01 ∷ 0x03 ∷ []
 
-abbrev other : OtherPrime (List ℕ)
+abbrev pub other : OtherPrime (List ℕ)
 other = record { prime = 0x11 ∷ []; exponent = 0x02 ∷ []; coefficient = 0x03 ∷ [] }
 
-other_text : OtherPrimeInfo Integer other other_bytes
+pub other_text : OtherPrimeInfo Integer other other_bytes
 other_text = known_tlv 48 (bytes_of (0x11 ∷ 0x02 ∷ 0x03 ∷ [])) (bytes_join (0x11 ∷ 0x02 ∷ 0x03 ∷ []) (omega arith, (omega arith, (omega arith, tt)))) (omega arith)
 
 key_contents : (others : Option (List (OtherPrime (List ℕ)))) (rest : List ℕ) → OtherPrimeInfos Integer others rest
@@ -101,7 +101,7 @@ behind key v rest l p =
     let tails = same_fronts (0x02 ∷ 0x01 ∷ v ∷ []) (bytes_of eight ++ rest) p.0 p.1 (ap length one.0) e in
     let numbers : Joins (map Integer (key_numbers key) ++ OtherPrimeInfos Integer key.other_prime_infos ∷ []) p.1 = p.3 in
     let s = as_many Integer integer_delimited (map (λ n. n ∷ []) eight) (key_numbers key) (OtherPrimeInfos Integer key.other_prime_infos ∷ []) (bytes_of eight) rest p.1 eight_join refl (sym tails.1) numbers in
-    (sym one.1, last_is rest s.1)
+    (sym one.1, joins_last rest s.1)
 
 -- No text: a version that isn't 0 or 1.
 pub no_version : (key : PrivateKey (List ℕ)) → RsaPrivateKey key (0x30 ∷ 0x1b ∷ 0x02 ∷ 0x01 ∷ 0x02 ∷ bytes_of eight) → ⊥

@@ -14,7 +14,7 @@ use Rattle.der_core.specs.Tells.{is_value, is_trailing}
 use Rattle.der_core.specs.Tlv.{Tlv}
 use Rattle.der_core.specs.Reading.{NoneHas, NoneIn, TellsOfBytes}
 use Rattle.der_core.specs.Tags.{integer, sequence}
-use Rattle.der_core.specs.TextLaws.{tlv_delimited, joins_map}
+use Rattle.der_core.specs.TextLaws.{tlv_delimited, joins_map, joins_last}
 use Rattle.der_core.specs.Texts.{IsDelimited, Joins}
 use Rattle.pkcs1.specs.KeyFaults.{PublicKeyFault, RsaPublicKeyFault, Counted, CountedFault, OtherPrimeFault, VersionFault, ListedFault, OthersFault, PrivateKeyFault, NumberFault, OneOtherFault, RsaPrivateKeyFault}
 use Rattle.pkcs1.specs.Keys.{PublicKey, PublicKeyContents, RsaPublicKey, RsaPrivateKey, OtherPrime, OtherPrimeContents, OtherPrimeInfo, OtherPrimeInfos, PrivateKey, PrivateKeyContents, version_of}
@@ -217,9 +217,6 @@ version_delimited = tlv_delimited 2 VersionContents version_means_one
 as_version : (n : ℕ) (text : List ℕ) → n < 2 → Small n text → VersionText n text
 as_version n text l p = record { octets = p.octets; contents = p.contents; counted = p.counted; holds = (l, p.holds); written = p.written }
 
-last_is : {P : List ℕ → Type 0} (c : List ℕ) → Joins (P ∷ []) c → P c
-last_is c (x, y, p, q, e) = let same : c ≡ x = e ∙ ap (λ l. x ++ l) q ∙ append-nil x in rw same p
-
 -- Private keys.
 module _ {V : Type 0} (text : V → List ℕ → Type 0) (Fault : ErrorKind → List ℕ → Type 0) (d : IsDelimited text) (none : AreNone (NoneIn text) Fault) where
   abbrev OfVersion : ℕ → Type 0
@@ -232,7 +229,7 @@ module _ {V : Type 0} (text : V → List ℕ → Type 0) (Fault : ErrorKind → 
   behind_version n k c within fault =
       let told =
       then_fault_none (EightNumbers text) (CountedFault 8 text Fault) (λ _. OthersFault text Fault n) (counted_delimited text Fault d none 8 (omega arith)) (counted_fault_none text Fault d none 8) (λ (v : OfVersion n). key_numbers v.0) (λ v. others_of v.0)
-      (λ numbers j b few f. let t = others_fault_none text Fault d none n j b few f in (t.0, λ v _ p. t.1 v.0.other_prime_infos v.1 (last_is b p))) k c within fault in
+      (λ numbers j b few f. let t = others_fault_none text Fault d none n j b few f in (t.0, λ v _ p. t.1 v.0.other_prime_infos v.1 (joins_last b p))) k c within fault in
       (told.0, λ key agree p. let s = joins_take (map text (key_numbers key)) (OtherPrimeInfos text key.other_prime_infos ∷ []) c p in told.1 (key, agree) (s.0, s.1, (refl, s.2), s.3, s.4))
 
   pub private_key_fault_none : AreNone (NoneHas (PrivateKeyContents text)) (PrivateKeyFault text Fault)
@@ -251,6 +248,15 @@ module _ {V : Type 0} (text : V → List ℕ → Type 0) (Fault : ErrorKind → 
       (counted_fault_first text Fault d none 8 first) (λ _. others_fault_first text Fault d none first n))
 
 -- Of integers.
+number_first : AreFirst NumberFault
+number_first = text_fault_first integer IntegerFault integer_fault_first
+
+pub listed_fault_first : AreFirst (ItemsFault (OtherPrimeInfo Integer) OneOtherFault)
+listed_fault_first =
+    items_fault_first (OtherPrimeInfo Integer) OneOtherFault (other_delimited integer_delimited)
+    (text_fault_none sequence (OtherPrimeFault Integer NumberFault) (OtherPrimeContents Integer) (other_fault_none Integer NumberFault integer_delimited number_none))
+    (text_fault_first sequence (OtherPrimeFault Integer NumberFault) (other_fault_first Integer NumberFault integer_delimited number_none number_first))
+
 pub listed_fault_none : AreNone (NoneHas (ItemsContents (OtherPrimeInfo Integer))) (ItemsFault (OtherPrimeInfo Integer) OneOtherFault)
 listed_fault_none =
     items_fault_none (OtherPrimeInfo Integer) OneOtherFault (other_delimited integer_delimited)
@@ -258,6 +264,9 @@ listed_fault_none =
 
 pub private_integers_none : AreNone (NoneHas (PrivateKeyContents Integer)) (PrivateKeyFault Integer NumberFault)
 private_integers_none = private_key_fault_none Integer NumberFault integer_delimited number_none
+
+pub private_integers_first : AreFirst (PrivateKeyFault Integer NumberFault)
+private_integers_first = private_key_fault_first Integer NumberFault integer_delimited number_none number_first
 
 private_text_none : AreNone (NoneIn RsaPrivateKey) (TextFault sequence (PrivateKeyFault Integer NumberFault))
 private_text_none = text_fault_none sequence _ (PrivateKeyContents Integer) private_integers_none
@@ -271,4 +280,4 @@ private_key_whole_none = whole_fault_none RsaPrivateKey _ private_delimited priv
 pub private_key_whole_first : (j k : ErrorKind) (b : List ℕ) → RsaPrivateKeyFault j b → RsaPrivateKeyFault k b → j ≡ k
 private_key_whole_first =
     whole_fault_first RsaPrivateKey _ private_delimited private_text_none
-    (text_fault_first sequence _ (private_key_fault_first Integer NumberFault integer_delimited number_none (text_fault_first integer IntegerFault integer_fault_first)))
+    (text_fault_first sequence _ private_integers_first)

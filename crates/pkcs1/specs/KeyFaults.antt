@@ -10,7 +10,7 @@ use Rattle.der_core.specs.Tags.{integer, sequence}
 use Rattle.der_core.specs.Texts.{Then, Joins}
 use Rattle.der_core.specs.Tlv.{Tlv}
 use Rattle.pkcs1.specs.KeyNumbers.{EightNumbers}
-use Rattle.pkcs1.specs.Keys.{RsaPublicKey, RsaPrivateKey, OtherPrime, OtherPrimeInfo}
+use Rattle.pkcs1.specs.Keys.{RsaPublicKey, PrivateKeyText, OtherPrime, OtherPrimeInfo}
 use Rattle.pkcs1.specs.Versions.{VersionContents}
 
 -- The modulus, or behind it the public exponent, or bytes behind that.
@@ -63,6 +63,9 @@ NumberFault = TextFault integer IntegerFault
 abbrev pub OneOtherFault : ErrorKind → List ℕ → Type 0
 OneOtherFault = TextFault sequence (OtherPrimeFault Integer NumberFault)
 
--- A slice that is to be a private key.
+-- A slice that is to be a private key, of numbers of any kind, and of integers.
+abbrev pub PrivateKeyTextFault : {Number : Type 0} → (Number → List ℕ → Type 0) → (ErrorKind → List ℕ → Type 0) → ErrorKind → List ℕ → Type 0
+PrivateKeyTextFault NumberText NumberFault = WholeFault (PrivateKeyText NumberText) (TextFault sequence (PrivateKeyFault NumberText NumberFault))
+
 abbrev pub RsaPrivateKeyFault : ErrorKind → List ℕ → Type 0
-RsaPrivateKeyFault = WholeFault RsaPrivateKey (TextFault sequence (PrivateKeyFault Integer NumberFault))
+RsaPrivateKeyFault = PrivateKeyTextFault Integer NumberFault

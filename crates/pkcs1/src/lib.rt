@@ -5,6 +5,7 @@
 #![tactic(auto)]
 
 mod algorithm;
+mod faults;
 mod key_numbers;
 mod laws;
 mod numbers;
@@ -19,6 +20,7 @@ mod view;
 pub use algorithm::{ALGORITHM_OID, algorithm_id, rsa_encryption_oid};
 pub use der_core as der;
 pub use der_core::{Uint, UintRef};
+pub use faults::{fault_of_private_key, fault_of_public_key};
 pub use laws::{
     forms_share_the_grammars, keys_have_one_text, same_keys_have_the_same_text,
     texts_are_delimited, texts_mean_one, types_exclude_each_other,
@@ -26,7 +28,8 @@ pub use laws::{
 pub use other_primes::OtherPrimes;
 pub use pkcs1_params::{
     DefaultSalt, Error, Result, RsaOaepParams, RsaOaepParamsOwned, RsaOaepParamsRef, RsaPssParams,
-    RsaPssParamsOwned, RsaPssParamsRef, TrailerField, oaep_spellings, pss_spellings,
+    RsaPssParamsOwned, RsaPssParamsRef, TrailerField, fault_of_oaep_params, fault_of_pss_params,
+    oaep_spellings, pss_spellings,
 };
 pub use private_key::other_prime_info::{OtherPrimeInfo, OtherPrimeInfos};
 pub use private_key::{RsaPrivateKey, RsaPrivateKeyOwned, RsaPrivateKeyRef};

@@ -136,7 +136,7 @@ impl TaggedBy for OtherPrimes<'_> {
 }
 
 impl<'a, M: Memory> DecodeValue<&'a [u8], M> for OtherPrimes<'a> {
-    ghost use Rattle.pkcs1.specs.KeyFaultLaws.{listed_fault_none};
+    ghost use Rattle.pkcs1.specs.KeyFaultLaws.{listed_fault_none, listed_fault_first};
 
     ghost may_allocate = { λ _. ⊥ };
 
@@ -155,6 +155,8 @@ impl<'a, M: Memory> DecodeValue<&'a [u8], M> for OtherPrimes<'a> {
     }
 
     ghost fault_none = { listed_fault_none };
+
+    ghost fault_first = { listed_fault_first };
 }
 
 impl<'a> Iterator for OtherPrimes<'a> {

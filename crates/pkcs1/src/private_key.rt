@@ -151,7 +151,7 @@ impl<'a, U> Sequence<'a> for RsaPrivateKey<U> {
 
 impl<'a, U: Decode<&'a [u8], Global>> DecodeValue<&'a [u8], Global> for RsaPrivateKey<U> {
     ghost use Rattle.pkcs1.specs.KeyFaults.{PrivateKeyFault};
-    ghost use Rattle.pkcs1.specs.KeyFaultLaws.{private_key_fault_none};
+    ghost use Rattle.pkcs1.specs.KeyFaultLaws.{private_key_fault_none, private_key_fault_first};
 
     ghost may_allocate = { AllocatesForKey U.text U.Decode.may_allocate };
 
@@ -179,6 +179,9 @@ impl<'a, U: Decode<&'a [u8], Global>> DecodeValue<&'a [u8], Global> for RsaPriva
     }
 
     ghost fault_none = { private_key_fault_none U.text U.Decode.fault U.delimited U.Decode.fault_none };
+
+    ghost fault_first = { let none = U.Decode.fault_none in
+        private_key_fault_first U.text U.Decode.fault U.delimited none U.Decode.fault_first };
 }
 
 impl<U: Encode> EncodeValue for RsaPrivateKey<U> {

@@ -3,7 +3,7 @@ ghost use Rattle.std.specs.Prelude.{refl};
 ghost use Rattle.der_core.specs.Reading.{AllocatesWithin};
 ghost use Rattle.pkcs1.specs.Keys.{PublicKey, PublicKeyContents};
 ghost use Rattle.pkcs1.specs.KeyFaults.{PublicKeyFault};
-ghost use Rattle.pkcs1.specs.KeyFaultLaws.{public_key_fault_none};
+ghost use Rattle.pkcs1.specs.KeyFaultLaws.{public_key_fault_none, public_key_fault_first};
 ghost use Rattle.pkcs1.specs.Writing.{HasPublicKey, written_public_key};
 ghost use Rattle.pkcs1.specs.PublicKeyValue.{public_key_with, public_key_of};
 ghost use Rattle.pkcs1.specs.PublicKeyLaws.{public_key_means_one, public_key_of_bytes, public_key_relates, public_key_shortest};
@@ -82,6 +82,9 @@ impl<'a, M: Memory, U: Decode<&'a [u8], M>> DecodeValue<&'a [u8], M> for RsaPubl
     }
 
     ghost fault_none = { public_key_fault_none U.text U.Decode.fault U.delimited U.Decode.fault_none };
+
+    ghost fault_first = { let none = U.Decode.fault_none in
+        public_key_fault_first U.text U.Decode.fault U.delimited none U.Decode.fault_first };
 }
 
 impl<U: Encode> EncodeValue for RsaPublicKey<U> {

@@ -1,5 +1,6 @@
 //! Keys of any type, read from PKCS #1 texts and written as such, in memory and in files.
-ghost use Rattle.std.specs.Prelude.{◌≡◌, List, ℕ, IfOk, IfErr, OnOk, IsErrAnd};
+ghost use Rattle.std.specs.Prelude.{◌≡◌, ◌⊎◌, List, ℕ, IfOk, IfErr, OnOk, IsErrAnd};
+ghost use Rattle.der_core.specs.Carrying.{FileFault};
 ghost use Rattle.der_core.specs.Document.{IsDocument, Means};
 ghost use Rattle.der_core.specs.DocumentValue.{text_of, secret_text_of};
 ghost use Rattle.der_core.specs.Faults.{Faulty};
@@ -15,6 +16,7 @@ ghost use Rattle.pkcs1_params.specs.Meanings.{IsOnlyMeaning};
 ghost use Rattle.pkcs1.specs.PrivateKeyValue.{private_key_with, ListsNone};
 ghost use Rattle.pkcs1.specs.PublicKeyValue.{public_key_with};
 ghost use Rattle.pkcs1_params.specs.Refusals.{IsAsn1};
+ghost use Rattle.pkcs1_params.specs.declared.error.Error.{Error};
 
 use crate::private_key::RsaPrivateKey;
 use crate::public_key::RsaPublicKey;
@@ -25,19 +27,25 @@ use std::path::Path;
 use std::rt::Files;
 
 /// A private key that is read from a text of PKCS #1 (RFC 8017 A.1.2). A type of a caller's own says by `stands_for` what
-/// its `from_pkcs1_der` keeps.
+/// its `from_pkcs1_der` keeps, and by `refused_by` which bytes it refuses.
 pub trait DecodeRsaPrivateKey: Sized + Drop {
     /// The key was read from these bytes.
     ghost stands_for: { Self → List ℕ → Type 0 };
 
+    /// These bytes are refused by this error.
+    ghost refused_by: { List ℕ → Error → Type 0 };
+
     /// Reads a key from all of the bytes.
     fn from_pkcs1_der(alloc: Global, bytes: &[u8]) -> Result<Self>
-        ensures { IfOk result (λ key. stands_for key bytes.now) };
+        ensures read { IfOk result (λ key. stands_for key bytes.now) }
+        ensures refused { IfErr result (λ e. refused_by bytes.now e) };
 
     /// Reads a key from a file: the document that the file holds, then `from_pkcs1_der` on its bytes. `File` where the
     /// file can't be opened or read, `Overflow` where it has more bytes than `Length::MAX`.
     fn read_pkcs1_der_file<Rt: Files>(rt: &Rt, alloc: Global, path: Path<'_>) -> Result<Self>
-        ensures { IfOk result (λ key. (bytes : List ℕ) × IsDocument bytes × stands_for key bytes) }
+        ensures read { IfOk result (λ key. (bytes : List ℕ) × IsDocument bytes × stands_for key bytes) }
+        ensures refused { IfErr result (λ e. IsAsn1 (λ file. FileFault file.kind) e
+            ⊎ ((bytes : List ℕ) × IsDocument bytes × refused_by bytes e)) }
     {
         let document = SecretDocument::read_der_file(rt, alloc, path)?;
         Self::from_pkcs1_der(alloc, document.as_bytes())
@@ -45,19 +53,25 @@ pub trait DecodeRsaPrivateKey: Sized + Drop {
 }
 
 /// A public key that is read from a text of PKCS #1 (RFC 8017 A.1.1). A type of a caller's own says by `stands_for` what
-/// its `from_pkcs1_der` keeps.
+/// its `from_pkcs1_der` keeps, and by `refused_by` which bytes it refuses.
 pub trait DecodeRsaPublicKey: Sized + Drop {
     /// The key was read from these bytes.
     ghost stands_for: { Self → List ℕ → Type 0 };
 
+    /// These bytes are refused by this error.
+    ghost refused_by: { List ℕ → Error → Type 0 };
+
     /// Reads a key from all of the bytes.
     fn from_pkcs1_der(alloc: Global, bytes: &[u8]) -> Result<Self>
-        ensures { IfOk result (λ key. stands_for key bytes.now) };
+        ensures read { IfOk result (λ key. stands_for key bytes.now) }
+        ensures refused { IfErr result (λ e. refused_by bytes.now e) };
 
     /// Reads a key from a file: the document that the file holds, then `from_pkcs1_der` on its bytes. `File` where the
     /// file can't be opened or read, `Overflow` where it has more bytes than `Length::MAX`.
     fn read_pkcs1_der_file<Rt: Files>(rt: &Rt, alloc: Global, path: Path<'_>) -> Result<Self>
-        ensures { IfOk result (λ key. (bytes : List ℕ) × IsDocument bytes × stands_for key bytes) }
+        ensures read { IfOk result (λ key. (bytes : List ℕ) × IsDocument bytes × stands_for key bytes) }
+        ensures refused { IfErr result (λ e. IsAsn1 (λ file. FileFault file.kind) e
+            ⊎ ((bytes : List ℕ) × IsDocument bytes × refused_by bytes e)) }
     {
         let document = Document::read_der_file(rt, alloc, path)?;
         Self::from_pkcs1_der(alloc, document.as_bytes())
@@ -107,6 +121,9 @@ pub trait EncodeRsaPublicKey {
 impl DecodeRsaPrivateKey for RsaPrivateKey<Uint> {
     ghost stands_for = { λ key bytes. Means grammar.RsaPrivateKey bytes (private_key_with own_bytes_of key) };
 
+    ghost refused_by = { λ bytes e.
+        IsAsn1 (λ asn1. Faulty asn1.kind (OwnedKeyAllocates bytes) (RsaPrivateKeyFault asn1.kind bytes)) e };
+
     fn from_pkcs1_der(alloc: Global, bytes: &[u8]) -> Result<RsaPrivateKey<Uint>>
         ensures ok { IfOk result (λ key. Means grammar.RsaPrivateKey bytes.now (private_key_with own_bytes_of key)) }
         ensures one { let is_only = IsOnlyMeaning grammar.RsaPrivateKey bytes.now in
@@ -123,6 +140,9 @@ impl DecodeRsaPrivateKey for RsaPrivateKey<Uint> {
 
 impl DecodeRsaPublicKey for RsaPublicKey<Uint> {
     ghost stands_for = { λ key bytes. Means grammar.RsaPublicKey bytes (public_key_with own_bytes_of key) };
+
+    ghost refused_by = { λ bytes e.
+        IsAsn1 (λ asn1. Faulty asn1.kind (OwnedPublicKeyAllocates bytes) (RsaPublicKeyFault asn1.kind bytes)) e };
 
     fn from_pkcs1_der(alloc: Global, bytes: &[u8]) -> Result<RsaPublicKey<Uint>>
         ensures ok { IfOk result (λ key. Means grammar.RsaPublicKey bytes.now (public_key_with own_bytes_of key)) }

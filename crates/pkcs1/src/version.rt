@@ -127,7 +127,7 @@ impl TaggedBy for Version {
 impl<'a, M: Memory> DecodeValue<&'a [u8], M> for Version {
     ghost use Rattle.der_core.specs.Reading.{ReadsOrFaults};
     ghost use Rattle.pkcs1.specs.KeyFaults.{VersionFault};
-    ghost use Rattle.pkcs1.specs.KeyFaultLaws.{version_fault_none};
+    ghost use Rattle.pkcs1.specs.KeyFaultLaws.{version_fault_none, version_fault_first};
 
     ghost may_allocate = { λ _. ⊥ };
 
@@ -153,6 +153,8 @@ impl<'a, M: Memory> DecodeValue<&'a [u8], M> for Version {
     }
 
     ghost fault_none = { version_fault_none };
+
+    ghost fault_first = { version_fault_first };
 }
 
 impl EncodeValue for Version {

@@ -93,7 +93,7 @@ impl TaggedBy for Parts<'_> {
 }
 
 impl<'a> DecodeValue<&'a [u8], NoMemory> for Parts<'a> {
-    ghost use Rattle.pkcs1.specs.KeyFaultLaws.{private_integers_none};
+    ghost use Rattle.pkcs1.specs.KeyFaultLaws.{private_integers_none, private_integers_first};
 
     ghost may_allocate = { λ _. ⊥ };
 
@@ -114,6 +114,8 @@ impl<'a> DecodeValue<&'a [u8], NoMemory> for Parts<'a> {
     }
 
     ghost fault_none = { private_integers_none };
+
+    ghost fault_first = { private_integers_first };
 }
 
 /// An RSA private key (RFC 8017 A.1.2), over its text. No memory is taken, however many primes it has, and no relation of

@@ -1,8 +1,11 @@
 -- What C sees of a container with an RSA key.
-use Rattle.std.specs.Prelude.{ℕ, List, Some, None, if◌then◌else◌}
+use Rattle.std.specs.Prelude.{ℕ, List, Some, None, if◌then◌else◌, ◌⊎◌}
+use Rattle.der_core.specs.declared.error.ErrorKind.{ErrorKind}
 use Rattle.der_core.specs.Document.{Means}
 use Rattle.pkcs1.specs.Keys.{PrivateKey, RsaPrivateKey}
 use Rattle.pkcs8_core.specs.Container.{Info}
+use Rattle.pkcs8_core.specs.Container as container
+use Rattle.pkcs8_core.specs.ContainerFaults.{PrivateKeyInfoFault, RsaFault}
 use Rattle.pkcs8_core.specs.Rsa.{rsa_encryption}
 use Rattle.pkcs1_c.specs.declared.container.PrivateKeyInfo.{PrivateKeyInfo}
 
@@ -17,3 +20,8 @@ info_seen info = record {
 -- The octets are the text of a private key.
 abbrev pub HoldsKey : PrivateKeyInfo → PrivateKey (List ℕ) → Type 0
 HoldsKey info key = Means RsaPrivateKey info.private_key.now key
+
+-- The first fault of a text that is to be a container with an RSA key: that of the container, or of what it holds.
+abbrev pub RsaContainerFault : List ℕ → ErrorKind → Type 0
+RsaContainerFault text kind =
+    PrivateKeyInfoFault kind text ⊎ ((info : Info) × Means container.PrivateKeyInfo text info × RsaFault info kind)

@@ -1,5 +1,5 @@
 -- Numbers of refusals, and their texts.
-use Rattle.std.specs.Prelude.{ℕ, List, [], ◌∷◌, codes, get_or}
+use Rattle.std.specs.Prelude.{ℕ, List, [], ◌∷◌, ◌≡◌, codes, get_or}
 use Rattle.der_core.specs.declared.error.ErrorKind.{ErrorKind}
 use Rattle.der_core.specs.declared.error.ErrorKind.TheVariants as kind
 use Rattle.pkcs1_params.specs.declared.error.Error.{Error}
@@ -29,6 +29,10 @@ status_of (error.Asn1 e) = kind_number e.kind
 status_of error.Crypto = 18
 status_of error.KeyMalformed = 19
 status_of error.Version = 20
+
+-- The number is that of the kind of a fault.
+abbrev pub IsNumberOfFault : (ErrorKind → Type 0) → ℕ → Type 0
+IsNumberOfFault Fault number = (kind : ErrorKind) × Fault kind × (number ≡ kind_number kind)
 
 -- By number.
 abbrev pub status_texts : List (List ℕ)

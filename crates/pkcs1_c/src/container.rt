@@ -1,15 +1,17 @@
 //! RSA keys in PKCS #8 containers.
-ghost use Rattle.std.specs.Prelude.{◌≡◌, ◌≢◌, ◌≤◌, ℕ, List, Option, length, take, drop, IfOk, IfErr, OnErr};
+ghost use Rattle.std.specs.Prelude.{◌≡◌, ◌≢◌, ◌≤◌, ℕ, List, Option, length, take, drop, IfOk, IfErr, IsErrAnd, OnErr};
 ghost use Rattle.der_core.specs.Document.{Means, IsShortest};
 ghost use Rattle.pkcs1.specs.Keys.{OtherPrime as Prime, PrivateKey as Key};
 ghost use Rattle.pkcs1.specs.ViewParts.{view_of, viewed_text};
 ghost use Rattle.pkcs8_core.specs.Container as container;
 ghost use Rattle.pkcs8_core.specs.Held.{info_of};
 ghost use Rattle.pkcs8_core.specs.Rsa.{rsa_encryption, HoldsRsa};
-ghost use Rattle.pkcs1_c.specs.Containers.{info_seen, HoldsKey};
+ghost use Rattle.der_core.specs.declared.error.ErrorKind as der;
+ghost use Rattle.pkcs1_params.specs.Refusals.{IsAsn1};
+ghost use Rattle.pkcs1_c.specs.Containers.{info_seen, HoldsKey, RsaContainerFault};
 ghost use Rattle.pkcs1_c.specs.Refusals.{HasNoText, LacksRoom};
 ghost use Rattle.pkcs1_c.specs.StructValues.{private_key_seen, AreListed};
-ghost use Rattle.pkcs1_c.specs.Status.{status_of};
+ghost use Rattle.pkcs1_c.specs.Status.{kind_number, status_of, IsNumberOfFault};
 
 use crate::private_key::{OtherPrime, PrivateKey, seen_key};
 use crate::status::{OK, status};
@@ -42,6 +44,9 @@ fn read_container<'a>(
         → other ≡ view_of read.1) }
     ensures err { OnErr result ((info : container.Info) (key : Key (List ℕ))
         → Means container.PrivateKeyInfo text.now info → HoldsRsa info key → ⊥) }
+    ensures exact { IfErr result (IsAsn1 (λ e. RsaContainerFault text.now e.kind)) }
+    ensures only { (kind : der.ErrorKind)
+        → RsaContainerFault text.now kind → IsErrAnd result (IsAsn1 (λ e. e.kind ≡ kind)) }
 {
     let info = PrivateKeyInfoRef::try_from(text)?;
     let view = info.rsa_view()?;
@@ -85,6 +90,8 @@ pub extern "C" fn pkcs1_c_private_key_info_decode<'a>(
         → other ≡ private_key_seen key.new other.other_prime_infos }
     ensures refused { result ≢ 0 → (other : container.Info) (held : Key (List ℕ))
         → Means container.PrivateKeyInfo text.now other → HoldsRsa other held → ⊥ }
+    ensures exact { result ≢ 0 → IsNumberOfFault (RsaContainerFault text.now) result }
+    ensures only { (kind : der.ErrorKind) → RsaContainerFault text.now kind → result ≡ kind_number kind }
     ensures unchanged { result ≢ 0 → (info.new ≡ info.old) × (key.new ≡ key.old) × (others.new ≡ others.old) }
 {
     match read_container(text) {

@@ -1,12 +1,16 @@
 //! Parameters of RSASSA-PSS and RSAES-OAEP.
-ghost use Rattle.std.specs.Prelude.{◌≡◌, ◌≢◌, ◌<◌, ◌≤◌, length, take, drop, IfOk, IfErr};
+ghost use Rattle.std.specs.Prelude.{◌≡◌, ◌≢◌, ◌<◌, ◌≤◌, ◌⊎◌, ℕ, length, take, drop, IfOk, IfErr};
 ghost use Rattle.der_core.specs.Document.{Means, IsShortest};
 ghost use Rattle.pkcs1_params.specs.Parameters as grammar;
 ghost use Rattle.pkcs1_params.specs.PssValue.{pss_of};
 ghost use Rattle.pkcs1_params.specs.OaepValue.{oaep_of};
 ghost use Rattle.pkcs1_c.specs.Fits.{PssFits, OaepFits};
 ghost use Rattle.pkcs1_c.specs.Refusals.{HasNoText, LacksRoom};
-ghost use Rattle.pkcs1_c.specs.Status.{status_of};
+ghost use Rattle.der_core.specs.declared.error.ErrorKind as der;
+ghost use Rattle.pkcs1_params.specs.ParameterFaults.{RsaPssParamsFault, RsaOaepParamsFault, StrictPssFault, StrictOaepFault};
+ghost use Rattle.pkcs1_params.specs.Parameters.{pss_fields, oaep_fields};
+ghost use Rattle.spki_core.specs.StrictFields.{WritesDefault};
+ghost use Rattle.pkcs1_c.specs.Status.{kind_number, status_of, IsNumberOfFault};
 ghost use Rattle.pkcs1_c.specs.StructValues.{pss_seen, oaep_seen};
 
 use crate::algorithm::{
@@ -74,6 +78,8 @@ pub extern "C" fn pkcs1_c_pss_params_decode<'a>(text: &'a [u8], params: &mut Pss
         → other ≡ pss_seen params.new }
     ensures told { result < 15 }
     ensures refused { result ≢ 0 → (other : grammar.PssParameters) → Means grammar.RsaPssParams text.now other → ⊥ }
+    ensures exact { result ≢ 0 → IsNumberOfFault (λ kind. RsaPssParamsFault kind text.now) result }
+    ensures only { (kind : der.ErrorKind) → RsaPssParamsFault kind text.now → result ≡ kind_number kind }
     ensures unchanged { result ≢ 0 → params.new ≡ params.old }
 {
     match RsaPssParamsRef::try_from(text) {
@@ -93,6 +99,8 @@ pub extern "C" fn pkcs1_c_oaep_params_decode<'a>(text: &'a [u8], params: &mut Oa
         → other ≡ oaep_seen params.new }
     ensures told { result < 15 }
     ensures refused { result ≢ 0 → (other : grammar.OaepParameters) → Means grammar.RsaOaepParams text.now other → ⊥ }
+    ensures exact { result ≢ 0 → IsNumberOfFault (λ kind. RsaOaepParamsFault kind text.now) result }
+    ensures only { (kind : der.ErrorKind) → RsaOaepParamsFault kind text.now → result ≡ kind_number kind }
     ensures unchanged { result ≢ 0 → params.new ≡ params.old }
 {
     match RsaOaepParamsRef::try_from(text) {
@@ -119,6 +127,10 @@ pub extern "C" fn pkcs1_c_pss_params_decode_strict<'a>(
         → (other : grammar.PssParameters) → IsShortest grammar.RsaPssParams other text.now → ⊥ }
     ensures default { result ≢ 0
         → (other : grammar.PssParameters) → Means grammar.RsaPssParams text.now other → result ≡ 5 }
+    ensures exact { result ≢ 0 → IsNumberOfFault (λ kind. RsaPssParamsFault kind text.now) result
+        ⊎ ((result ≡ 5) × (other : grammar.PssParameters) × Means grammar.RsaPssParams text.now other
+        × (n : ℕ) × WritesDefault (pss_fields other) n text.now) }
+    ensures only { (kind : der.ErrorKind) → StrictPssFault kind text.now → result ≡ kind_number kind }
     ensures unchanged { result ≢ 0 → params.new ≡ params.old }
 {
     match RsaPssParamsRef::from_der_strict(text) {
@@ -163,6 +175,10 @@ pub extern "C" fn pkcs1_c_oaep_params_decode_strict<'a>(
         → (other : grammar.OaepParameters) → IsShortest grammar.RsaOaepParams other text.now → ⊥ }
     ensures default { result ≢ 0
         → (other : grammar.OaepParameters) → Means grammar.RsaOaepParams text.now other → result ≡ 5 }
+    ensures exact { result ≢ 0 → IsNumberOfFault (λ kind. RsaOaepParamsFault kind text.now) result
+        ⊎ ((result ≡ 5) × (other : grammar.OaepParameters) × Means grammar.RsaOaepParams text.now other
+        × (n : ℕ) × WritesDefault (oaep_fields other) n text.now) }
+    ensures only { (kind : der.ErrorKind) → StrictOaepFault kind text.now → result ≡ kind_number kind }
     ensures unchanged { result ≢ 0 → params.new ≡ params.old }
 {
     match RsaOaepParamsRef::from_der_strict(text) {

@@ -6,6 +6,9 @@ ghost use Rattle.pkcs1.specs.Keys as grammar;
 ghost use Rattle.pkcs1.specs.OtherPrimesLeft.{others_left};
 ghost use Rattle.pkcs1.specs.PrivateKeyValue.{other_of};
 ghost use Rattle.pkcs1.specs.ViewParts.{view_of, listed_others};
+ghost use Rattle.der_core.specs.declared.error.ErrorKind as der;
+ghost use Rattle.pkcs1.specs.KeyFaults.{RsaPrivateKeyFault};
+ghost use Rattle.pkcs1_c.specs.Status.{kind_number, IsNumberOfFault};
 ghost use Rattle.pkcs1_c.specs.StructValues.{private_key_seen, other_prime_seen, ArePlaced, AreListed};
 
 use crate::status::{OK, status};
@@ -114,6 +117,8 @@ pub extern "C" fn pkcs1_c_private_key_decode<'a>(
     ensures told { result < 15 }
     ensures refused { result ≢ 0 → (other : grammar.PrivateKey (List ℕ)) → Means grammar.RsaPrivateKey text.now other
         → ⊥ }
+    ensures exact { result ≢ 0 → IsNumberOfFault (λ kind. RsaPrivateKeyFault kind text.now) result }
+    ensures only { (kind : der.ErrorKind) → RsaPrivateKeyFault kind text.now → result ≡ kind_number kind }
     ensures unchanged { result ≢ 0 → (key.new ≡ key.old) × (others.new ≡ others.old) }
 {
     match RsaPrivateKeyView::try_from(text) {

@@ -7,7 +7,9 @@ ghost use Rattle.pkcs1.specs.PublicKeyValue.{public_key_of};
 ghost use Rattle.pkcs1_c.specs.Numbers.{ArePublicNumbers};
 ghost use Rattle.pkcs1_c.specs.Refusals.{HasNoText, LacksRoom};
 ghost use Rattle.pkcs1_c.specs.StructValues.{public_key_seen};
-ghost use Rattle.pkcs1_c.specs.Status.{status_of};
+ghost use Rattle.der_core.specs.declared.error.ErrorKind as der;
+ghost use Rattle.pkcs1.specs.KeyFaults.{RsaPublicKeyFault};
+ghost use Rattle.pkcs1_c.specs.Status.{kind_number, status_of, IsNumberOfFault};
 
 use crate::numbers::number;
 use crate::status::{OK, status};
@@ -33,6 +35,8 @@ pub extern "C" fn pkcs1_c_public_key_decode<'a>(text: &'a [u8], key: &mut Public
     ensures told { result < 15 }
     ensures refused { result ≢ 0
         → (other : grammar.PublicKey (List ℕ)) → Means grammar.RsaPublicKey text.now other → ⊥ }
+    ensures exact { result ≢ 0 → IsNumberOfFault (λ kind. RsaPublicKeyFault kind text.now) result }
+    ensures only { (kind : der.ErrorKind) → RsaPublicKeyFault kind text.now → result ≡ kind_number kind }
     ensures unchanged { result ≢ 0 → key.new ≡ key.old }
 {
     match RsaPublicKeyRef::try_from(text) {

@@ -9,3 +9,4 @@ pub mod OaepReads
 pub mod Labels
 pub mod ParameterWrites
 pub mod NothingAsked
+pub mod FaultsTold

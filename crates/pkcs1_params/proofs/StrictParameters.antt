@@ -1,5 +1,8 @@
 -- Strict reading of parameters.
-use Rattle.std.proofs.Common.{ℕ, List, [], ◌∷◌, ◌≡◌, ◌≤◌, length, get_or, refl, arith, Option}
+use Rattle.std.proofs.Common.{ℕ, List, [], ◌∷◌, ◌≡◌, ◌≤◌, ◌+◌, ◌∙◌, ap, sym, length, get_or, refl, arith, Option}
+use Rattle.der_core.specs.declared.error.ErrorKind.TheVariants.{Noncanonical}
+use Rattle.der_core.specs.declared.tag.Tag.{Tag}
+use Rattle.der_core.specs.TagLaws.{same_tag}
 use Rattle.der_core.specs.Length.{limit}
 use Rattle.spki_core.specs.Explicit.{Field, FieldSequence}
 use Rattle.spki_core.specs.StrictFields.{WalksOver, NamesNumber, NamesDefault, WritesDefault}
@@ -18,6 +21,13 @@ named fields text n (error.Asn1 e) names w = (n, names, w)
 named fields text n error.Crypto names w = names
 named fields text n error.KeyMalformed names w = names
 named fields text n error.Version names w = names
+
+-- It is the only one that a default is refused by.
+pub named_only : (n m : ℕ) (tag : Tag) (e : Error) → n ≡ m → tag.octet ≡ 160 + m → IsAsn1 (NamesNumber n) e → IsAsn1 (λ a. a.kind ≡ Noncanonical tag) e
+named_only n m tag (error.Asn1 e) same octet (t, kind, at) = kind ∙ ap (λ u. Noncanonical u) (same_tag t tag (at ∙ ap (λ k. 160 + k) same ∙ sym octet))
+named_only n m tag error.Crypto same octet names = names
+named_only n m tag error.KeyMalformed same octet names = names
+named_only n m tag error.Version same octet names = names
 
 pub found_among : (values : List FieldValue) → AreNumbered 0 values → (text : List ℕ) (found : Option ℕ) → length text ≤ limit → FieldSequence (fields_in values) text
     → WalksOver (defaults_in values) text found → FoundIn (fields_in values) text found

@@ -1,15 +1,19 @@
 -- The first fault of bytes that are no parameters (RFC 8017 A.2.3, A.2.1).
 use Rattle.std.specs.Prelude.{ℕ, List, ◌≡◌, ◌≢◌, ◌⊎◌, refl}
 use Rattle.der_core.specs.declared.error.ErrorKind.{ErrorKind}
-use Rattle.der_core.specs.declared.error.ErrorKind.TheVariants.{Value}
+use Rattle.der_core.specs.declared.error.ErrorKind.TheVariants.{Noncanonical, Value}
+use Rattle.der_core.specs.Document.{Means}
+use Rattle.der_core.specs.Tag.{context_tag}
 use Rattle.der_core.specs.declared.tag.Tag.{Tag}
 use Rattle.der_core.specs.Faults.{TextFault, AloneFault, EndFault, WholeFault, SmallFault}
 use Rattle.der_core.specs.Integer.{Small, SmallContents}
 use Rattle.der_core.specs.Tags.{integer, sequence}
 use Rattle.spki_core.specs.AlgorithmIdentifier.{AlgorithmIdentifier, PlainAlgorithm, MaskAlgorithm}
 use Rattle.spki_core.specs.Any.{Any}
+use Rattle.spki_core.specs.Explicit.{Field}
+use Rattle.spki_core.specs.StrictFields.{WritesDefault}
 use Rattle.spki_core.specs.Faults.{AnyFault, AlgorithmFault, FieldThenFault}
-use Rattle.pkcs1_params.specs.Parameters.{sha1, mgf1_sha1, empty_label, TrailerField, RsaPssParams, RsaOaepParams}
+use Rattle.pkcs1_params.specs.Parameters.{sha1, mgf1_sha1, empty_label, TrailerField, RsaPssParams, RsaOaepParams, pss_fields, oaep_fields}
 
 -- The tags [0] to [3].
 abbrev pub tag_0 : Tag
@@ -64,3 +68,15 @@ RsaPssParamsFault = WholeFault RsaPssParams (TextFault sequence (PssFault Any An
 
 abbrev pub RsaOaepParamsFault : ErrorKind → List ℕ → Type 0
 RsaOaepParamsFault = WholeFault RsaOaepParams (TextFault sequence (OaepFault Any AnyFault))
+
+-- A text means a value, and a default is written in it (X.690 11.5): the fault names the tag of the first.
+abbrev pub DefaultFault : {V : Type 0} → (V → List ℕ → Type 0) → (V → List Field) → ErrorKind → List ℕ → Type 0
+DefaultFault {V} Grammar fields kind text =
+    (v : V) × Means Grammar text v × (n : ℕ) × WritesDefault (fields v) n text × (tag : Tag) × (tag.octet ≡ context_tag n) × (kind ≡ Noncanonical tag)
+
+-- Slices that are to be the shortest text of parameters.
+abbrev pub StrictPssFault : ErrorKind → List ℕ → Type 0
+StrictPssFault kind bytes = RsaPssParamsFault kind bytes ⊎ DefaultFault RsaPssParams pss_fields kind bytes
+
+abbrev pub StrictOaepFault : ErrorKind → List ℕ → Type 0
+StrictOaepFault kind bytes = RsaOaepParamsFault kind bytes ⊎ DefaultFault RsaOaepParams oaep_fields kind bytes

@@ -3,6 +3,7 @@
 
 mod default_salt;
 mod error;
+mod faults;
 mod fields;
 mod hash_fields;
 mod label;
@@ -18,6 +19,7 @@ mod trailer_field;
 
 pub use default_salt::DefaultSalt;
 pub use error::{Error, Result};
+pub use faults::{fault_of_oaep_params, fault_of_pss_params};
 pub use hash_fields::with_null;
 pub use laws::{oaep_spellings, pss_spellings};
 pub use oaep::{RsaOaepParams, RsaOaepParamsOwned, RsaOaepParamsRef};

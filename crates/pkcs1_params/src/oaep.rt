@@ -73,7 +73,7 @@ impl<'a, P> Sequence<'a> for RsaOaepParams<P> {
 impl<'a, M: Memory, P: Decode<&'a [u8], M> + AnyParams<M>> DecodeValue<&'a [u8], M>
     for RsaOaepParams<P> {
     ghost use Rattle.pkcs1_params.specs.ParameterFaults.{OaepFault};
-    ghost use Rattle.pkcs1_params.specs.ParameterFaultLaws.{oaep_fault_none};
+    ghost use Rattle.pkcs1_params.specs.ParameterFaultLaws.{oaep_fault_none, oaep_fault_first};
 
     ghost may_allocate = { OaepAllocates P.Decode.may_allocate };
 
@@ -97,6 +97,9 @@ impl<'a, M: Memory, P: Decode<&'a [u8], M> + AnyParams<M>> DecodeValue<&'a [u8],
     }
 
     ghost fault_none = { oaep_fault_none P.text P.Decode.fault P.delimited P.Decode.fault_none P.holds };
+
+    ghost fault_first = { let none = P.Decode.fault_none in
+        oaep_fault_first P.text P.Decode.fault P.delimited none P.holds P.Decode.fault_first };
 }
 
 impl<P: AnyValue> RsaOaepParams<P> {
@@ -234,7 +237,7 @@ impl<'a> RsaOaepParams<AnyRef<'a>> {
     ghost use Rattle.der_core.specs.Reading.{TellsOfBytes};
     ghost use Rattle.der_core.specs.Document.{Means, IsShortest};
     ghost use Rattle.pkcs1_params.specs.Parameters as grammar;
-    ghost use Rattle.pkcs1_params.specs.ParameterFaults.{RsaOaepParamsFault};
+    ghost use Rattle.pkcs1_params.specs.ParameterFaults.{RsaOaepParamsFault, StrictOaepFault};
     ghost use Rattle.pkcs1_params.specs.OaepValue.{oaep_of};
     ghost use Rattle.pkcs1_params.specs.Refusals.{IsAsn1};
     ghost use Rattle.spki_core.specs.StrictFields.{NamesDefault};
@@ -254,7 +257,7 @@ impl<'a> RsaOaepParams<AnyRef<'a>> {
             ⊎ ((params : OaepParameters) × Means grammar.RsaOaepParams bytes.now params
             × IsAsn1 (NamesDefault (oaep_fields params) bytes.now) e)) }
         ensures only { (kind : der.ErrorKind)
-            → RsaOaepParamsFault kind bytes.now → IsErrAnd result (IsAsn1 (λ e. e.kind ≡ kind)) }
+            → StrictOaepFault kind bytes.now → IsErrAnd result (IsAsn1 (λ e. e.kind ≡ kind)) }
     {
         let params = RsaOaepParams::try_from(bytes)?;
         refuse_defaults(&params, bytes)?;

@@ -3,7 +3,7 @@ ghost use Rattle.std.specs.Prelude.{◌≡◌, ◌≤◌, refl, length, OnOk, If
 ghost use Rattle.der_core.specs.Reading.{TellsOfBytes};
 ghost use Rattle.der_core.specs.declared.error.ErrorKind as der;
 ghost use Rattle.pkcs1_params.specs.Allocating.{PssAllocates};
-ghost use Rattle.pkcs1_params.specs.ParameterFaults.{RsaPssParamsFault};
+ghost use Rattle.pkcs1_params.specs.ParameterFaults.{RsaPssParamsFault, StrictPssFault};
 ghost use Rattle.pkcs1_params.specs.Parameters as grammar;
 ghost use Rattle.pkcs1_params.specs.Refusals.{IsAsn1};
 ghost use Rattle.spki_core.specs.Any.{null_value};
@@ -83,7 +83,7 @@ impl<'a, P> Sequence<'a> for RsaPssParams<P> {
 impl<'a, M: Memory, P: Decode<&'a [u8], M> + AnyParams<M>> DecodeValue<&'a [u8], M>
     for RsaPssParams<P> {
     ghost use Rattle.pkcs1_params.specs.ParameterFaults.{PssFault};
-    ghost use Rattle.pkcs1_params.specs.ParameterFaultLaws.{pss_fault_none};
+    ghost use Rattle.pkcs1_params.specs.ParameterFaultLaws.{pss_fault_none, pss_fault_first};
 
     ghost may_allocate = { PssAllocates P.Decode.may_allocate };
 
@@ -114,6 +114,9 @@ impl<'a, M: Memory, P: Decode<&'a [u8], M> + AnyParams<M>> DecodeValue<&'a [u8],
     }
 
     ghost fault_none = { pss_fault_none P.text P.Decode.fault P.delimited P.Decode.fault_none P.holds };
+
+    ghost fault_first = { let none = P.Decode.fault_none in
+        pss_fault_first P.text P.Decode.fault P.delimited none P.holds P.Decode.fault_first };
 }
 
 impl<P: AnyValue> RsaPssParams<P> {
@@ -210,7 +213,7 @@ impl<'a> RsaPssParams<AnyRef<'a>> {
             ⊎ ((params : PssParameters) × Means grammar.RsaPssParams bytes.now params
             × IsAsn1 (NamesDefault (pss_fields params) bytes.now) e)) }
         ensures only { (kind : der.ErrorKind)
-            → RsaPssParamsFault kind bytes.now → IsErrAnd result (IsAsn1 (λ e. e.kind ≡ kind)) }
+            → StrictPssFault kind bytes.now → IsErrAnd result (IsAsn1 (λ e. e.kind ≡ kind)) }
     {
         let params = RsaPssParams::try_from(bytes)?;
         refuse_defaults(&params, bytes)?;

@@ -1,8 +1,11 @@
 //! Strict reading: no default is written.
-ghost use Rattle.std.specs.Prelude.{OnOk, OnErr, IfErr};
+ghost use Rattle.std.specs.Prelude.{◌≡◌, ℕ, OnOk, OnErr, IfErr, IsErrAnd};
+ghost use Rattle.der_core.specs.Tag.{context_tag};
+ghost use Rattle.der_core.specs.declared.tag.Tag.{Tag};
+ghost use Rattle.der_core.specs.declared.error.ErrorKind.TheVariants.{Noncanonical};
 ghost use Rattle.der_core.specs.Document.{Means, IsShortest};
 ghost use Rattle.der_core.specs.Reading.{TellsOfBytes};
-ghost use Rattle.spki_core.specs.StrictFields.{NamesNumber, NamesDefault, number_in};
+ghost use Rattle.spki_core.specs.StrictFields.{NamesNumber, NamesDefault, WritesDefault, number_in};
 ghost use Rattle.pkcs1_params.specs.Parts.{fields_with, Fielded};
 ghost use Rattle.pkcs1_params.specs.Refusals.{IsAsn1};
 
@@ -23,6 +26,8 @@ pub(crate) fn refuse_defaults<T: DefaultFields>(params: &T, bytes: &[u8]) -> Res
     requires { Means (Fielded T.values) bytes.now (T.params params.now) }
     ensures ok { OnOk result (IsShortest (Fielded T.values) (T.params params.now) bytes.now) }
     ensures default { IfErr result (IsAsn1 (NamesDefault (fields_with T.values (T.params params.now)) bytes.now)) }
+    ensures only { (n : ℕ) (tag : Tag) → WritesDefault (fields_with T.values (T.params params.now)) n bytes.now
+        → tag.octet ≡ context_tag n → IsErrAnd result (IsAsn1 (λ e. e.kind ≡ Noncanonical tag)) }
     ensures err { OnErr result (IsShortest (Fielded T.values) (T.params params.now) bytes.now → ⊥) }
     ensures asn1 { IfErr result (IsAsn1 (λ e. TellsOfBytes e.kind)) }
 {

@@ -56,7 +56,7 @@ impl EqualByValue for TrailerField {
 impl<'a, M: Memory> DecodeValue<&'a [u8], M> for TrailerField {
     ghost use Rattle.der_core.specs.Reading.{ReadsOrFaults};
     ghost use Rattle.pkcs1_params.specs.ParameterFaults.{TrailerFault};
-    ghost use Rattle.pkcs1_params.specs.ParameterFaultLaws.{trailer_fault_none};
+    ghost use Rattle.pkcs1_params.specs.ParameterFaultLaws.{trailer_fault_none, trailer_fault_first};
 
     ghost may_allocate = { λ _. ⊥ };
 
@@ -83,6 +83,8 @@ impl<'a, M: Memory> DecodeValue<&'a [u8], M> for TrailerField {
     }
 
     ghost fault_none = { trailer_fault_none };
+
+    ghost fault_first = { trailer_fault_first };
 }
 
 impl EncodeValue for TrailerField {

@@ -37,6 +37,8 @@ fn copied(alloc: Global, bytes: &[u8]) -> der_core::Result<Vec<u8>>
 impl DecodeRsaPrivateKey for CarriedKey {
     ghost stands_for = { λ key bytes. key.bytes.items ≡ bytes };
 
+    ghost refused_by = { λ bytes e. IsAsn1 (λ asn1. asn1.kind ≡ OutOfMemory) e };
+
     fn from_pkcs1_der(alloc: Global, bytes: &[u8]) -> Result<CarriedKey>
         ensures held { IfOk result (λ key. key.bytes.items ≡ bytes.now) }
         ensures err { IfErr result (IsAsn1 (λ e. e.kind ≡ OutOfMemory)) }

@@ -1,3 +1,4 @@
 pub mod ContainerReads
 pub mod ContainerWrites
 pub mod RsaHeld
+pub mod ContainerFaultRows

@@ -1,6 +1,7 @@
 -- RSA keys in containers.
 use Rattle.std.proofs.Common.{◌≡◌, ◌⊎◌, ℕ, List, ⊎_elim, inl, inr}
-use Rattle.std.specs.Prelude.{Result, Ok, Err, IfOk, IfErr, OnErr}
+use Rattle.std.specs.Prelude.{Result, Ok, Err, IfOk, IfErr, IsErrAnd, OnErr}
+use Rattle.der_core.specs.declared.error.ErrorKind.{ErrorKind}
 use Rattle.der_core.specs.Document.{Means}
 use Rattle.der_core.specs.Faults.{Faulty}
 use Rattle.der_core.specs.Reading.{Refuses}
@@ -11,6 +12,8 @@ use Rattle.pkcs1_params.specs.Refusals.{IsAsn1}
 use Rattle.pkcs1_params.specs.declared.error.Error.{Error}
 use Rattle.pkcs1_params.specs.declared.error.Error.TheVariants as error
 use Rattle.pkcs8_core.specs.Container.{Info}
+use Rattle.pkcs8_core.specs.ContainerFaults.{RsaFault}
+use Rattle.pkcs8_core.specs.ContainerFaultLaws.{rsa_is}
 use Rattle.pkcs8_core.specs.Rsa.{HoldsRsa, NotRsa, rsa_encryption}
 
 module _ {X : Type 0} (value : X → PrivateKey (List ℕ)) (info : Info) (q : List ℕ) (same : q ≡ info.private_key) where
@@ -47,3 +50,11 @@ module _ {X : Type 0} (value : X → PrivateKey (List ℕ)) (info : Info) (q : L
   faulty_held agrees (Err error.Crypto) f = f
   faulty_held agrees (Err error.KeyMalformed) f = f
   faulty_held agrees (Err error.Version) f = f
+
+-- Where the algorithm agrees, the fault is that of the key.
+pub rsa_key_fault : (info : Info) (kind : ErrorKind) (q : List ℕ) → q ≡ info.private_key → info.algorithm ≡ rsa_encryption → RsaFault info kind → RsaPrivateKeyFault kind q
+rsa_key_fault info kind q same agrees (inl other) = absurd (rsa_is info.algorithm kind other agrees)
+rsa_key_fault info kind q same agrees (inr fault) = rw same fault.1
+
+pub faulty_only : {X : Type 0} (kind : ErrorKind) (q octets : List ℕ) → q ≡ octets → (r : Result X Error) → IsErrAnd r (IsAsn1 (λ e. Faulty e.kind (MayAllocate q) (e.kind ≡ kind))) → IsErrAnd r (IsAsn1 (λ e. Faulty e.kind (MayAllocate octets) (e.kind ≡ kind)))
+faulty_only kind q octets same r h = rw same at h

@@ -3,3 +3,5 @@ pub mod Container
 pub mod Held
 pub mod Laws
 pub mod Rsa
+pub mod ContainerFaults
+pub mod ContainerFaultLaws

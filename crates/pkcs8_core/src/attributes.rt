@@ -61,12 +61,12 @@ impl TaggedBy for Attributes<'_> {
 }
 
 impl<'a, M: Memory> DecodeValue<&'a [u8], M> for Attributes<'a> {
-    ghost use Rattle.der_core.specs.Faults.{Untold};
-    ghost use Rattle.der_core.specs.Reading.{NoneHas};
+    ghost use Rattle.der_core.specs.Faults.{NoFault};
+    ghost use Rattle.der_core.specs.FaultLaws.{no_fault_none, no_fault_first};
 
     ghost may_allocate = { λ _. ⊥ };
 
-    ghost fault = { Untold (NoneHas OctetContents) };
+    ghost fault = { NoFault };
 
     fn decode_value<R: Reader<&'a [u8]>>(
         _memory: M,
@@ -77,7 +77,9 @@ impl<'a, M: Memory> DecodeValue<&'a [u8], M> for Attributes<'a> {
         Ok(Attributes::new(bytes))
     }
 
-    ghost fault_none = { λ kind bytes within fault. fault };
+    ghost fault_none = { no_fault_none _ };
+
+    ghost fault_first = { no_fault_first };
 }
 
 impl EncodeValue for Attributes<'_> {

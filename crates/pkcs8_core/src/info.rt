@@ -1,8 +1,11 @@
 //! Containers of private keys.
-ghost use Rattle.std.specs.Prelude.{◌≡◌, ◌≤◌, ◌+◌, ℕ, List, length, take, drop, IfOk, IfErr, OnErr, refl};
+ghost use Rattle.std.specs.Prelude.{◌≡◌, ◌≤◌, ◌+◌, ℕ, List, length, take, drop, IfOk, IfErr, IsErrAnd, OnErr, refl};
 ghost use Rattle.std.specs.Option.{option_map};
 ghost use Rattle.der_core.specs.Document.{Means, IsAlone, HasText};
-ghost use Rattle.der_core.specs.Integer.{Small};
+ghost use Rattle.der_core.specs.Faults.{TextFault, FaultyFront, FaultyWhole};
+ghost use Rattle.der_core.specs.Tags.{integer};
+ghost use Rattle.pkcs8_core.specs.ContainerFaults.{VersionText, VersionFault, AttributesFault, PrivateKeyInfoFault};
+ghost use Rattle.der_core.specs.declared.error.ErrorKind as der;
 ghost use Rattle.der_core.specs.Optional.{Optional};
 ghost use Rattle.der_core.specs.Texts.{AtMostOne};
 ghost use Rattle.der_core.specs.Reading.{ReadsContents, ReadsText, TellsOfBytes};
@@ -51,8 +54,9 @@ fn contents_of<'a>(attributes: Option<Attributes<'a>>) -> Option<&'a [u8]>
 
 /// Reads the attributes, which are all that is left, or that there are none.
 fn read_attributes<'a, R: Reader<&'a [u8]>>(reader: &mut R) -> Result<Option<&'a [u8]>>
-    ensures { ReadsContents (option_map slice_now) (Optional AttributesText) (λ _. ⊥)
+    ensures reads { ReadsContents (option_map slice_now) (Optional AttributesText) (λ _. ⊥)
         result (R.left reader.old) (R.left reader.new) }
+    ensures exact { IfErr result (λ e. FaultyWhole AttributesFault (λ _. ⊥) e.kind (R.left reader.old)) }
 {
     let attributes: Option<Attributes<'a>> = decode_optional(NoMemory, reader)?;
     reader.finish()?;
@@ -61,8 +65,9 @@ fn read_attributes<'a, R: Reader<&'a [u8]>>(reader: &mut R) -> Result<Option<&'a
 
 /// Reads the version, which is 0.
 fn read_version<'a, M: Memory, R: Reader<&'a [u8]>>(memory: M, reader: &mut R) -> Result<()>
-    ensures { ReadsText (λ _. tt) (λ (_ : Unit {0}). Small 0) (λ _. ⊥)
-        result (R.left reader.old) (R.left reader.new) }
+    ensures text { ReadsText (λ _. tt) VersionText (λ _. ⊥) result (R.left reader.old) (R.left reader.new) }
+    ensures exact { let fault = TextFault integer VersionFault in
+        IfErr result (λ e. FaultyFront fault (λ _. ⊥) e.kind (R.left reader.old)) }
 {
     if u8::decode(memory, reader)? != 0 {
         return Err(reader.error(ErrorKind::Value { tag: Tag::INTEGER }));
@@ -95,12 +100,12 @@ impl<'a> Sequence<'a> for PrivateKeyInfoRef<'_> {
 }
 
 impl<'a, M: Memory> DecodeValue<&'a [u8], M> for PrivateKeyInfoRef<'a> {
-    ghost use Rattle.der_core.specs.Faults.{Untold};
-    ghost use Rattle.der_core.specs.Reading.{NoneHas};
+    ghost use Rattle.pkcs8_core.specs.ContainerFaults.{InfoFault};
+    ghost use Rattle.pkcs8_core.specs.ContainerFaultLaws.{info_fault_none, info_fault_first};
 
     ghost may_allocate = { λ _. ⊥ };
 
-    ghost fault = { Untold (NoneHas InfoContents) };
+    ghost fault = { InfoFault };
 
     fn decode_value<R: Reader<&'a [u8]>>(
         memory: M,
@@ -118,7 +123,9 @@ impl<'a, M: Memory> DecodeValue<&'a [u8], M> for PrivateKeyInfoRef<'a> {
         })
     }
 
-    ghost fault_none = { λ kind bytes within fault. fault };
+    ghost fault_none = { info_fault_none };
+
+    ghost fault_first = { info_fault_first };
 }
 
 /// The version of a container.
@@ -207,6 +214,9 @@ impl<'a> TryFrom<&'a [u8]> for PrivateKeyInfoRef<'a> {
             → other ≡ info_of info) }
         ensures err { OnErr result ((info : Info) → Means PrivateKeyInfo bytes.now info → ⊥) }
         ensures memory { IfErr result (λ e. TellsOfBytes e.kind) }
+        ensures exact { IfErr result (λ e. PrivateKeyInfoFault e.kind bytes.now) }
+        ensures only { (kind : der.ErrorKind)
+            → PrivateKeyInfoFault kind bytes.now → IsErrAnd result (λ e. e.kind ≡ kind) }
     {
         PrivateKeyInfoRef::from_der(NoMemory, bytes)
     }

@@ -2,8 +2,10 @@
 #![tactic(auto)]
 
 mod attributes;
+mod faults;
 mod info;
 mod rsa;
 
+pub use faults::fault_of_private_key_info;
 pub use info::{PrivateKeyInfoRef, containers_have_one_text};
 pub use pkcs1;

@@ -1,5 +1,5 @@
 //! RSA keys in containers.
-ghost use Rattle.std.specs.Prelude.{◌≡◌, ◌⊎◌, ℕ, List, IfOk, IfErr, OnErr};
+ghost use Rattle.std.specs.Prelude.{◌≡◌, ◌⊎◌, ℕ, List, IfOk, IfErr, IsErrAnd, OnErr};
 ghost use Rattle.der_core.specs.Faults.{Faulty};
 ghost use Rattle.der_core.specs.Reading.{Refuses, TellsOfBytes};
 ghost use Rattle.spki_core.specs.AlgorithmValue.{algorithm_of};
@@ -9,6 +9,8 @@ ghost use Rattle.pkcs1.specs.Keys.{PrivateKey};
 ghost use Rattle.pkcs1.specs.PrivateKeyValue.{private_key_of};
 ghost use Rattle.pkcs1_params.specs.Refusals.{IsAsn1};
 ghost use Rattle.pkcs1.specs.ViewParts.{view_of, viewed_text};
+ghost use Rattle.pkcs8_core.specs.ContainerFaults.{RsaFault};
+ghost use Rattle.der_core.specs.declared.error.ErrorKind as der;
 ghost use Rattle.pkcs8_core.specs.Held.{info_of};
 ghost use Rattle.pkcs8_core.specs.Rsa.{rsa_encryption, HoldsRsa, NotRsa};
 
@@ -46,6 +48,8 @@ impl<'a> PrivateKeyInfoRef<'a> {
         ensures exact { let info = info_of self.now in
             IfErr result (IsAsn1 (λ e. NotRsa info.algorithm e.kind
             ⊎ ((info.algorithm ≡ rsa_encryption) × RsaPrivateKeyFault e.kind info.private_key))) }
+        ensures only { (kind : der.ErrorKind)
+            → RsaFault (info_of self.now) kind → IsErrAnd result (IsAsn1 (λ e. e.kind ≡ kind)) }
     {
         require_rsa(&self.algorithm)?;
         RsaPrivateKeyView::try_from(self.private_key.as_bytes())
@@ -62,6 +66,9 @@ impl<'a> PrivateKeyInfoRef<'a> {
             let asked = MayAllocate info.private_key in
             IfErr result (IsAsn1 (λ e. NotRsa info.algorithm e.kind
             ⊎ ((info.algorithm ≡ rsa_encryption) × Faulty e.kind asked (RsaPrivateKeyFault e.kind info.private_key)))) }
+        ensures only { let asked = MayAllocate (info_of self.now).private_key in
+            (kind : der.ErrorKind) → RsaFault (info_of self.now) kind
+            → IsErrAnd result (IsAsn1 (λ e. Faulty e.kind asked (e.kind ≡ kind))) }
     {
         require_rsa(&self.algorithm)?;
         RsaPrivateKeyRef::decode_key(alloc, self.private_key.as_bytes())

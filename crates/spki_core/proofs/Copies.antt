@@ -1,15 +1,18 @@
 -- Reading what is copied: memory is asked for where a text was found.
-use Rattle.std.proofs.Common.{◌≡◌, ◌≤◌, List, ℕ, [], ◌++◌, length, sym, ◌∙◌, ◌+◌, subst, inl, inr, ⊎_elim, Result, Ok, Err, Some, None, IfOk, IfErr, append-nil}
+use Rattle.std.specs.Prelude.{IsErrAnd}
+use Rattle.std.proofs.Common.{◌≡◌, ◌≢◌, ◌≤◌, List, ℕ, [], ◌++◌, length, sym, ap, ◌∙◌, ◌+◌, subst, inl, inr, ⊎_elim, Result, Ok, Err, Some, None, IfOk, IfErr, append-nil}
 use Rattle.der_core.specs.declared.error.Error.{Error}
 use Rattle.der_core.specs.declared.error.ErrorKind.{ErrorKind}
-use Rattle.der_core.specs.declared.error.ErrorKind.TheVariants.{OutOfMemory}
+use Rattle.der_core.specs.declared.error.ErrorKind.TheVariants.{OutOfMemory, TagUnexpected}
+use Rattle.spki_core.specs.Any.{TagAndContents}
+use Rattle.spki_core.specs.Faults.{OtherAnyFault}
 use Rattle.der_core.specs.Document.{Means, IsRefused}
 use Rattle.der_core.specs.Writing.{encode_refusal}
 use Rattle.der_core.specs.Input.{Input}
 use Rattle.der_core.specs.declared.tag.Tag.{Tag}
 use Rattle.der_core.specs.TagLaws.{same_tag}
 use Rattle.der_core.specs.Tlv.{Tlv}
-use Rattle.der_core.specs.Faults.{TextFault, WholeFault, Faulty, FaultyFront, AreNone}
+use Rattle.der_core.specs.Faults.{TextFault, WholeFault, Faulty, FaultyFront, AreNone, AreFirst}
 use Rattle.der_core.specs.Length.{limit}
 use Rattle.der_core.specs.Reading.{ReadsAll, ReadsOrFaults, Refuses, AllocatesIn, NoneHas}
 use Rattle.der_core.specs.Sequences.{TextFails, TextGives, some_same}
@@ -53,6 +56,30 @@ pub refused_by_fault : {X V : Type 0} (tag t : ℕ) (contents : V → List ℕ �
 refused_by_fault tag t contents Fault value may_allocate (Ok x) before after c is within none h = tt
 refused_by_fault tag t contents Fault value may_allocate (Err e) before after c is within none h =
     ⊎_elim inl (λ f. let told = none e.kind c within f in inr (told.0, λ v _ p. told.1 v p)) (h.1 c is)
+
+-- Another tag is told, and no other fault is there.
+pub other_tag_told : (tag : Tag) (Fault : ErrorKind → List ℕ → Type 0) (actual : Tag) (e : ErrorKind) (any : TagAndContents) (kind : ErrorKind) → e ≡ TagUnexpected tag actual → actual.octet ≡ any.tag → any.tag ≢ tag.octet
+    → OtherAnyFault tag Fault kind any → e ≡ kind
+other_tag_told tag Fault actual e any kind is at other (inl (_, (found, octet, told))) = is ∙ ap (λ t. TagUnexpected tag t) (same_tag actual found (at ∙ sym octet)) ∙ sym told
+other_tag_told tag Fault actual e any kind is at other (inr (same, _)) = absurd (other same)
+
+-- The fault of contents of the wanted tag.
+module _ {X V : Type 0} (tag : Tag) (contents : V → List ℕ → Type 0) (Fault : ErrorKind → List ℕ → Type 0) (value : X → V) (may_allocate : List ℕ → Type 0) (r : Result X Error) (before after : Input) (c : List ℕ) (t : ℕ)
+    (is : before ≡ Some c) (same : t ≡ tag.octet) (reads : ReadsOrFaults value contents Fault may_allocate r before after) where
+  pub told_by_fault : IfErr r (λ e. Faulty e.kind (may_allocate c) (OtherAnyFault tag Fault e.kind (record { tag = t; contents = c })))
+  told_by_fault = go r reads
+    where
+      go : (r : Result X Error) → ReadsOrFaults value contents Fault may_allocate r before after → IfErr r (λ e. Faulty e.kind (may_allocate c) (OtherAnyFault tag Fault e.kind (record { tag = t; contents = c })))
+      go (Ok x) h = tt
+      go (Err e) h = ⊎_elim inl (λ f. inr (inr (same, f))) (h.1 c is)
+
+  pub only_by_fault : length c ≤ limit → AreNone (NoneHas contents) Fault → AreFirst Fault → (kind : ErrorKind) → OtherAnyFault tag Fault kind (record { tag = t; contents = c }) → IsErrAnd r (λ e. Faulty e.kind (may_allocate c) (e.kind ≡ kind))
+  only_by_fault within none first kind (inl (other, _)) = absurd (other same)
+  only_by_fault within none first kind (inr (_, fault)) = go r reads
+    where
+      go : (r : Result X Error) → ReadsOrFaults value contents Fault may_allocate r before after → IsErrAnd r (λ e. Faulty e.kind (may_allocate c) (e.kind ≡ kind))
+      go (Ok x) h = let all : h.0 ≡ c = some_same h.0 c (sym h.1 ∙ is) in absurd ((none kind c within fault).1 (value x) (rw all at h.3))
+      go (Err e) h = ⊎_elim inl (λ f. inr (first e.kind kind c within f fault)) (h.1 c is)
 
 -- A refusal of the same value.
 pub refused_same : {V A : Type 0} (has : V → Type 0) (Grammar : V → List ℕ → Type 0) (r : Result A Error) (v w : V) (room : ℕ) → v ≡ w

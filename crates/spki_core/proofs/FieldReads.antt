@@ -43,13 +43,16 @@ field_present k n may_allocate default (Err e) before mid after (i, is, at, told
 )
 
 -- Its octet is next, and it has a fault.
+pub field_told : (n : ℕ) (Fault : Tag → ErrorKind → List ℕ → Type 0) (may_allocate : List ℕ → Type 0) (e : ErrorKind) (before mid : Input) → TellsNext (160 + n) (Ok true) before mid
+    → ((t : Tag) → t.octet ≡ 160 + n → FaultyFront (Fault t) may_allocate e mid) → (t : Tag) → t.octet ≡ 160 + n → FaultyFront (NextFault n (Fault t)) may_allocate e before
+field_told n Fault may_allocate e before mid (i, is, at, told) fault t octet j here =
+    let same : i ≡ j = some_same i j (sym is ∙ here) in
+    ⊎_elim inl (λ f. inr (is_next j n (rw same at (told.0 refl)), f)) (fault t octet j (at ∙ ap (λ l. Some l) same))
+
 pub field_faulty : {X : Type 0} (r : Result X Error) (n : ℕ) (Fault : Tag → ErrorKind → List ℕ → Type 0) (may_allocate : List ℕ → Type 0) (before mid : Input) → TellsNext (160 + n) (Ok true) before mid
     → IfErr r (λ e. (t : Tag) → t.octet ≡ 160 + n → FaultyFront (Fault t) may_allocate e.kind mid) → IfErr r (λ e. (t : Tag) → t.octet ≡ 160 + n → FaultyFront (NextFault n (Fault t)) may_allocate e.kind before)
 field_faulty (Ok x) n Fault may_allocate before mid next fault = tt
-field_faulty (Err e) n Fault may_allocate before mid (i, is, at, told) fault =
-    λ t octet j here.
-    let same : i ≡ j = some_same i j (sym is ∙ here) in
-    ⊎_elim inl (λ f. inr (is_next j n (rw same at (told.0 refl)), f)) (fault t octet j (at ∙ ap (λ l. Some l) same))
+field_faulty (Err e) n Fault may_allocate before mid next fault = field_told n Fault may_allocate e.kind before mid next fault
 
 pub of_tag : {X : Type 0} (r : Result X Error) (n : ℕ) (Fault : Tag → ErrorKind → List ℕ → Type 0) (may_allocate : List ℕ → Type 0) (before : Input) (tag : Tag) → tag.octet ≡ 160 + n
     → IfErr r (λ e. (t : Tag) → t.octet ≡ 160 + n → FaultyFront (Fault t) may_allocate e.kind before) → IfErr r (λ e. FaultyFront (Fault tag) may_allocate e.kind before)

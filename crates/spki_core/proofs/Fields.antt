@@ -14,7 +14,7 @@ AreInOrder [] = Unit {0}
 AreInOrder (f ∷ fields) = AtMostOne f.Inner × AreLater f.number fields × AreInOrder fields
 
 -- One field of two splits of the same bytes, before later fields: the splits are the same.
-defaultable_split : (f : Field) (fields : List Field) (x y x' y' : List ℕ) → AreLater f.number fields → Defaultable f x → Joins (map Defaultable fields) y → Defaultable f x' → Joins (map Defaultable fields) y' → x ++ y ≡ x' ++ y' → (x ≡ x') × (y ≡ y')
+pub defaultable_split : (f : Field) (fields : List Field) (x y x' y' : List ℕ) → AreLater f.number fields → Defaultable f x → Joins (map Defaultable fields) y → Defaultable f x' → Joins (map Defaultable fields) y' → x ++ y ≡ x' ++ y' → (x ≡ x') × (y ≡ y')
 defaultable_split f fields x y x' y' l (inl p) i (inl q) j e = (p.0 ∙ sym q.0, rw (p.0, q.0) at e)
 defaultable_split f fields x y x' y' l (inl p) i (inr q) j e =
     let s = explicit_starts f x' y' (x' ++ y') q refl in

@@ -1,5 +1,5 @@
 -- What a walk over fields says of defaults that are written.
-use Rattle.std.proofs.Common.{ℕ, List, [], ◌∷◌, ◌++◌, ◌≡◌, ◌<◌, ◌≤◌, ◌+◌, ◌*◌, ◌-◌, inl, inr, map, length, refl, sym, ◌∙◌, arith, Option, Some, None, Bool, true, false, get_or, take, drop}
+use Rattle.std.proofs.Common.{ℕ, List, [], ◌∷◌, ◌++◌, ◌≡◌, ◌<◌, ◌≤◌, ◌+◌, ◌*◌, ◌-◌, inl, inr, map, length, refl, sym, ap, ◌∙◌, arith, Option, Some, None, Bool, true, false, get_or, take, drop}
 use Rattle.std.proofs.lemmas.List.{take_all}
 use Rattle.std.specs.Bool.{Decides}
 use Rattle.der_core.specs.Length.{limit}
@@ -11,7 +11,7 @@ use Rattle.spki_core.specs.Any.{TagAndContents, Any}
 use Rattle.spki_core.specs.ContextSpecificLaws.{number_allowed}
 use Rattle.spki_core.specs.Explicit.{Field, Explicit, Defaultable, FieldSequence, HaveDefaults, MaskedField, left_out, written, forced, MaskedContents, Masked}
 use Rattle.spki_core.specs.FieldLaws.{AreOfBytes, explicit_starts, not_later, fields_of_bytes}
-use Rattle.spki_core.proofs.Fields.{AreInOrder, joins_masked, mask_same}
+use Rattle.spki_core.proofs.Fields.{AreInOrder, defaultable_split, joins_masked, mask_same}
 use Rattle.spki_core.proofs.Spellings.{zero_shortest, shortest_zero}
 use Rattle.spki_core.specs.StrictFields.{Short, FirstWritten, WritesDefault, Walked, WalksOver}
 
@@ -85,6 +85,36 @@ first_masked (f ∷ fields) k n c (inr (d, h)) (inr (x, y, inl (z, d'), i, g)) =
 first_masked (f ∷ fields) k n c (inr (d, h)) (inr (x, y, inr (d', p), i, g)) =
     let r = first_masked fields k n y h i in
     (r.0, (r.0, (x, y, forced d refl p, r.1, g)), r.2)
+
+-- One default is the first that is written.
+short_is : (f : Field) (x : List ℕ) → Short f x → Defaultable f x
+short_is f x (inl q) = inl q
+short_is f x (inr (o, p)) = inr p
+
+first_joins : (fields : List Field) (n : ℕ) (c : List ℕ) → FirstWritten fields n c → Joins (map Defaultable fields) c
+first_joins [] n c w = absurd w
+first_joins (f ∷ fields) n c (inl (is, d, (x, y, p, i, e))) = (x, y, inr p, i, e)
+first_joins (f ∷ fields) n c (inr (x, y, s, w, e)) = (x, y, short_is f x s, first_joins fields n y w, e)
+
+not_short : (f : Field) (x x' : List ℕ) → f.IsDefault → Explicit f x → x ≡ x' → Short f x' → ⊥
+not_short f x x' d p same (inl (none, _)) = omega (arith, ap length p.written, ap length same, ap length none)
+not_short f x x' d p same (inr (other, _)) = other d
+
+first_one : (fields : List Field) → AreInOrder fields → (n m : ℕ) (c : List ℕ) → FirstWritten fields n c → FirstWritten fields m c → n ≡ m
+first_one [] o n m c p q = absurd p
+first_one (f ∷ fields) o n m c (inl p) (inl q) = p.0 ∙ sym q.0
+first_one (f ∷ fields) o n m c (inl (is, d, (x, y, p, i, e))) (inr (x', y', s, w, e')) =
+    let t = defaultable_split f fields x y x' y' o.1 (inr p) i (short_is f x' s) (first_joins fields m y' w) (sym e ∙ e') in
+    absurd (not_short f x x' d p t.0 s)
+first_one (f ∷ fields) o n m c (inr (x, y, s, w, e)) (inl (is, d, (x', y', p, i, e'))) =
+    let t = defaultable_split f fields x' y' x y o.1 (inr p) i (short_is f x s) (first_joins fields n y w) (sym e' ∙ e) in
+    absurd (not_short f x' x d p t.0 s)
+first_one (f ∷ fields) o n m c (inr (x, y, s, w, e)) (inr (x', y', s', w', e')) =
+    let t = defaultable_split f fields x y x' y' o.1 (short_is f x s) (first_joins fields n y w) (short_is f x' s') (first_joins fields m y' w') (sym e ∙ e') in
+    first_one fields o.2 n m y w (rw t.1 w')
+
+pub writes_one : (fields : List Field) → AreInOrder fields → (n m : ℕ) (text : List ℕ) → WritesDefault fields n text → WritesDefault fields m text → n ≡ m
+writes_one fields o n m text p q = let both = tlv_split text [] text [] p q refl in first_one fields o n m both.3 both.4 both.5
 
 -- The same of whole texts.
 abbrev pub FoundIn : List Field → List ℕ → Option ℕ → Type 0

@@ -12,6 +12,7 @@ use Rattle.der_core.specs.Tells.{is_incomplete}
 use Rattle.der_core.specs.Optional.{Optional}
 use Rattle.der_core.specs.Reading.{NoneHas, NoneIn, TellsOfBytes}
 use Rattle.der_core.specs.Tags.{object_identifier}
+use Rattle.der_core.specs.TextLaws.{joins_last}
 use Rattle.der_core.specs.Texts.{IsDelimited, Joins}
 use Rattle.spki_core.specs.Any.{Any}
 use Rattle.spki_core.specs.AlgorithmIdentifier.{Algorithm, AlgorithmContents}
@@ -31,14 +32,11 @@ identifier_fault_first j k c within f g = f.0 ∙ sym g.0
 oid_none : AreNone (NoneIn ObjectIdentifier) (TextFault object_identifier IdentifierFault)
 oid_none = text_fault_none object_identifier IdentifierFault IdentifierContents identifier_fault_none
 
-only : (P : List ℕ → Type 0) (c : List ℕ) → Joins (P ∷ []) c → P c
-only P c (x, y, p, e, h) = let same : c ≡ x = h ∙ ap (λ l. x ++ l) e ∙ append-nil x in rw same p
-
 module _ {P : Type 0} (text : P → List ℕ → Type 0) (Fault : ErrorKind → List ℕ → Type 0) (d : IsDelimited text) (none : AreNone (NoneIn text) Fault) where
   pub algorithm_fault_none : AreNone (NoneHas (AlgorithmContents text)) (AlgorithmFault text Fault)
   algorithm_fault_none =
       then_fault_none ObjectIdentifier (TextFault object_identifier IdentifierFault) (λ _. LastFault text Fault) identifier_delimited oid_none (λ (a : Algorithm P). a.oid) (λ a. Joins (Optional text a.parameters ∷ []))
-      (λ oid k c within fault. let told = last_fault_none text Fault d none k c within fault in (told.0, λ a _ p. told.1 a.parameters (only (Optional text a.parameters) c p)))
+      (λ oid k c within fault. let told = last_fault_none text Fault d none k c within fault in (told.0, λ a _ p. told.1 a.parameters (joins_last c p)))
 
   pub algorithm_fault_first : AreFirst Fault → AreFirst (AlgorithmFault text Fault)
   algorithm_fault_first first =

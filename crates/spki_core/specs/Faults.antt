@@ -1,8 +1,11 @@
 -- The first fault of bytes that are no identifier, and no algorithm.
-use Rattle.std.specs.Prelude.{ℕ, List, ◌≡◌, ◌<◌, ◌++◌, ◌⊎◌, Err, length}
+use Rattle.std.specs.Prelude.{ℕ, List, ◌≡◌, ◌≢◌, ◌<◌, ◌++◌, ◌⊎◌, Err, length}
 use Rattle.der_core.specs.declared.error.ErrorKind.{ErrorKind}
 use Rattle.der_core.specs.declared.error.ErrorKind.TheVariants.{Incomplete, OidMalformed}
+use Rattle.der_core.specs.declared.tag.Tag.{Tag}
 use Rattle.der_core.specs.Faults.{TextFault, ThenFault, LastFault}
+use Rattle.der_core.specs.Refusal.{IsUnexpected}
+use Rattle.spki_core.specs.Any.{TagAndContents}
 use Rattle.der_core.specs.Headers.{HeaderText}
 use Rattle.der_core.specs.Input.{header_at}
 use Rattle.der_core.specs.Reading.{NoneHas}
@@ -14,6 +17,10 @@ use Rattle.spki_core.specs.ObjectIdentifier.{IdentifierContents, ObjectIdentifie
 pub data AnyFault (kind : ErrorKind) (bytes : List ℕ) : Type 0 where
   headless : header_at bytes ≡ Err kind → AnyFault kind bytes
   too_few : (t n : ℕ) (header rest : List ℕ) → HeaderText (t, n) header → bytes ≡ header ++ rest → length rest < n → kind ≡ Incomplete → AnyFault kind bytes
+
+-- A tag and contents, where a type of another tag is wanted, or one whose contents have faults of their own.
+abbrev pub OtherAnyFault : Tag → (ErrorKind → List ℕ → Type 0) → ErrorKind → TagAndContents → Type 0
+OtherAnyFault tag ContentsFault kind any = ((any.tag ≢ tag.octet) × IsUnexpected tag any.tag kind) ⊎ ((any.tag ≡ tag.octet) × ContentsFault kind any.contents)
 
 -- Contents of no identifier are malformed, whatever is wrong with them.
 abbrev pub IdentifierFault : ErrorKind → List ℕ → Type 0

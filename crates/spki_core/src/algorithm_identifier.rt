@@ -69,7 +69,7 @@ impl<P: EqualByValue> EqualByValue for AlgorithmIdentifier<P> {
 
 impl<'a, M: Memory, P: Decode<&'a [u8], M>> DecodeValue<&'a [u8], M> for AlgorithmIdentifier<P> {
     ghost use Rattle.spki_core.specs.Faults.{AlgorithmFault};
-    ghost use Rattle.spki_core.specs.FaultLaws.{algorithm_fault_none};
+    ghost use Rattle.spki_core.specs.FaultLaws.{algorithm_fault_none, algorithm_fault_first};
 
     ghost may_allocate = { AllocatesForParameters P.Decode.may_allocate };
 
@@ -86,6 +86,9 @@ impl<'a, M: Memory, P: Decode<&'a [u8], M>> DecodeValue<&'a [u8], M> for Algorit
     }
 
     ghost fault_none = { algorithm_fault_none P.text P.Decode.fault P.delimited P.Decode.fault_none };
+
+    ghost fault_first = { let none = P.Decode.fault_none in
+        algorithm_fault_first P.text P.Decode.fault P.delimited none P.Decode.fault_first };
 }
 
 /// Reading an identifier without parameters is never refused for want of memory, whatever type they would have: a function

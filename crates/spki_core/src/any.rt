@@ -1,10 +1,11 @@
 //! Texts of any tag.
-ghost use Rattle.std.specs.Prelude.{◌≡◌, ◌≢◌, ◌≤◌, ◌<◌, ℕ, [], length, slice_index, refl, ⊤, IfOk, IsOk, IfErr, IsTrue};
+ghost use Rattle.std.specs.Prelude.{◌≡◌, ◌≢◌, ◌≤◌, ◌<◌, ℕ, [], length, slice_index, refl, ⊤, IfOk, IsOk, IfErr, IsErrAnd, IsTrue};
 ghost use Rattle.der_core.specs.Length.{limit};
 ghost use Rattle.der_core.specs.Tag.{is_allowed};
-ghost use Rattle.der_core.specs.Faults.{FaultyFront};
+ghost use Rattle.der_core.specs.Faults.{Faulty, FaultyFront};
 ghost use Rattle.der_core.specs.Reading.{ReadsText, Refuses};
-ghost use Rattle.spki_core.specs.Faults.{AnyFault};
+ghost use Rattle.spki_core.specs.Faults.{AnyFault, OtherAnyFault};
+ghost use Rattle.der_core.specs.declared.error.ErrorKind as der;
 ghost use Rattle.der_core.specs.Refusal.{IsUnexpected};
 ghost use Rattle.spki_core.specs.Any.{TagAndContents, IsAny, Any, null_value, written_any};
 ghost use Rattle.spki_core.specs.AnyLaws.{any_delimited, any_of_bytes, any_relates, any_shortest};
@@ -115,6 +116,12 @@ impl<'a> AnyRef<'a> {
             IfErr result (λ e. Refuses e.kind (T.may_allocate any.contents) no_value) }
         ensures tag { let tag = (any_of self.entry).tag in
             IfErr result (λ e. tag ≢ T.TAG.octet → IsUnexpected T.TAG tag e.kind) }
+        ensures exact { let any = any_of self.entry in
+            let asked = T.may_allocate any.contents in
+            IfErr result (λ e. Faulty e.kind asked (OtherAnyFault T.TAG T.DecodeValue.fault e.kind any)) }
+        ensures only { let any = any_of self.entry in
+            (kind : der.ErrorKind) → OtherAnyFault T.TAG T.DecodeValue.fault kind any
+            → IsErrAnd result (λ e. Faulty e.kind (T.may_allocate any.contents) (e.kind ≡ kind)) }
     {
         if self.tag() != T::TAG {
             return Err(Error::new(ErrorKind::TagUnexpected {
@@ -157,7 +164,7 @@ impl Text for AnyRef<'_> {
 }
 
 impl<'a, M: Memory> Decode<&'a [u8], M> for AnyRef<'a> {
-    ghost use Rattle.spki_core.specs.FaultLaws.{any_fault_none};
+    ghost use Rattle.spki_core.specs.FaultLaws.{any_fault_none, any_fault_first};
 
     ghost may_allocate = { λ _. ⊥ };
 
@@ -176,6 +183,8 @@ impl<'a, M: Memory> Decode<&'a [u8], M> for AnyRef<'a> {
     }
 
     ghost fault_none = { any_fault_none };
+
+    ghost fault_first = { any_fault_first };
 }
 
 /// Reads the text at the front of the reader.

@@ -6,6 +6,7 @@ ghost use Rattle.der_core.specs.declared.tag.Tag.{Tag};
 ghost use Rattle.der_core.specs.Faults.{TextFault, AloneFault, FaultyFront};
 ghost use Rattle.der_core.specs.Reading.{ReadsText, ReadsOptional, AllocatesIn, TellsNext};
 ghost use Rattle.spki_core.specs.Allocating.{FieldAllocates};
+ghost use Rattle.spki_core.specs.Faults.{NextFault};
 ghost use Rattle.spki_core.specs.ContextSpecific.{Numbered, ContextSpecific, HasNumbered, written_numbered};
 ghost use Rattle.spki_core.specs.ContextSpecificLaws.{numbered_delimited, numbered_of_bytes, numbered_relates, numbered_shortest};
 
@@ -89,9 +90,13 @@ pub fn read_context_specific<'a, T: Decode<&'a [u8], M>, M: Memory, R: Reader<&'
     reader: &mut R,
     number: TagNumber,
 ) -> Result<Option<T>>
-    ensures { let tag = context_tag number.value in
+    ensures reads { let tag = context_tag number.value in
         let may = FieldAllocates number.value T.Decode.may_allocate in
         ReadsOptional tag T.value (λ v. Tlv tag (T.text v)) may result (R.left reader.old) (R.left reader.new) }
+    ensures exact { let may = FieldAllocates number.value T.Decode.may_allocate in
+        let fault = λ (tag : Tag). NextFault number.value (TextFault tag (AloneFault T.text T.Decode.fault)) in
+        IfErr result (λ e. (tag : Tag) → tag.octet ≡ context_tag number.value
+        → FaultyFront (fault tag) may e.kind (R.left reader.old)) }
 {
     if !is_field_next(reader, number)? {
         return Ok(None);

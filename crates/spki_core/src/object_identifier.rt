@@ -167,7 +167,7 @@ impl EqualByValue for ObjectIdentifier {
 impl<'a, M: Memory> DecodeValue<&'a [u8], M> for ObjectIdentifier {
     ghost use Rattle.der_core.specs.Reading.{ReadsOrFaults};
     ghost use Rattle.spki_core.specs.Faults.{IdentifierFault};
-    ghost use Rattle.spki_core.specs.FaultLaws.{identifier_fault_none};
+    ghost use Rattle.spki_core.specs.FaultLaws.{identifier_fault_none, identifier_fault_first};
     ghost use Rattle.spki_core.specs.ObjectIdentifierValue.{octets_of};
 
     ghost may_allocate = { λ _. ⊥ };
@@ -194,6 +194,8 @@ impl<'a, M: Memory> DecodeValue<&'a [u8], M> for ObjectIdentifier {
     }
 
     ghost fault_none = { identifier_fault_none };
+
+    ghost fault_first = { identifier_fault_first };
 }
 
 impl EncodeValue for ObjectIdentifier {

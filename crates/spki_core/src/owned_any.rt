@@ -72,7 +72,7 @@ impl Text for Any {
 
 impl<'a> Decode<&'a [u8], Global> for Any {
     ghost use Rattle.spki_core.specs.Faults.{AnyFault};
-    ghost use Rattle.spki_core.specs.FaultLaws.{any_fault_none};
+    ghost use Rattle.spki_core.specs.FaultLaws.{any_fault_none, any_fault_first};
 
     ghost may_allocate = { λ b. (v : TagAndContents) × grammar.Any v b };
 
@@ -92,6 +92,8 @@ impl<'a> Decode<&'a [u8], Global> for Any {
     }
 
     ghost fault_none = { any_fault_none };
+
+    ghost fault_first = { any_fault_first };
 }
 
 impl Encode for Any {

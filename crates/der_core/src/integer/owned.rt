@@ -4,7 +4,7 @@ ghost use Rattle.std.specs.Int.Digits.{number_from_digits};
 ghost use Rattle.der_core.specs.Length.{limit};
 ghost use Rattle.der_core.specs.Reading.{HoldsBytes, ReadsContents, ReadsOrFaults};
 ghost use Rattle.der_core.specs.Faults.{IntegerFault};
-ghost use Rattle.der_core.specs.FaultLaws.{integer_fault_none};
+ghost use Rattle.der_core.specs.FaultLaws.{integer_fault_none, integer_fault_first};
 ghost use Rattle.der_core.specs.Integer.{HoldsNumber, IsCanonical, AreCanonicalOf, IntegerContents, integer_contents};
 ghost use Rattle.der_core.specs.IntegerReading.{integer_of, AnswersOrWants, IsNoNumber, LacksNumber};
 ghost use Rattle.der_core.specs.IntegerLaws.{integer_means_one, integer_of_bytes, integer_relates, integer_shortest};
@@ -140,6 +140,8 @@ impl<'a> DecodeValue<&'a [u8], Global> for Uint {
     }
 
     ghost fault_none = { integer_fault_none };
+
+    ghost fault_first = { integer_fault_first };
 }
 
 impl EncodeValue for Uint {

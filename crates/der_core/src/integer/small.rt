@@ -3,7 +3,7 @@ ghost use Rattle.std.specs.Prelude.{◌≡◌, ◌≤◌, ◌<◌, ℕ, List, �
 ghost use Rattle.der_core.specs.Length.{limit};
 ghost use Rattle.der_core.specs.Reading.{ReadsContents, ReadsOrFaults, HoldsBytes};
 ghost use Rattle.der_core.specs.Faults.{SmallFault};
-ghost use Rattle.der_core.specs.FaultLaws.{small_fault_none};
+ghost use Rattle.der_core.specs.FaultLaws.{small_fault_none, small_fault_first};
 ghost use Rattle.der_core.specs.Integer.{SmallContents, integer_contents};
 ghost use Rattle.der_core.specs.IntegerReading.{Answers, small_of};
 ghost use Rattle.der_core.specs.IntegerLaws.{small_means_one, small_of_bytes};
@@ -82,6 +82,8 @@ impl<'a, M: Memory> DecodeValue<&'a [u8], M> for u8 {
     }
 
     ghost fault_none = { small_fault_none };
+
+    ghost fault_first = { small_fault_first };
 }
 
 impl EncodeValue for u8 {

@@ -101,7 +101,7 @@ impl<U: TryClone> TryClone for OtherPrimeInfo<U> {
 
 impl<'a, M: Memory, U: Decode<&'a [u8], M>> DecodeValue<&'a [u8], M> for OtherPrimeInfo<U> {
     ghost use Rattle.pkcs1.specs.KeyFaults.{OtherPrimeFault};
-    ghost use Rattle.pkcs1.specs.KeyFaultLaws.{other_fault_none};
+    ghost use Rattle.pkcs1.specs.KeyFaultLaws.{other_fault_none, other_fault_first};
 
     ghost may_allocate = { AllocatesWithin U.Decode.may_allocate };
 
@@ -124,6 +124,9 @@ impl<'a, M: Memory, U: Decode<&'a [u8], M>> DecodeValue<&'a [u8], M> for OtherPr
     }
 
     ghost fault_none = { other_fault_none U.text U.Decode.fault U.delimited U.Decode.fault_none };
+
+    ghost fault_first = { let none = U.Decode.fault_none in
+        other_fault_first U.text U.Decode.fault U.delimited none U.Decode.fault_first };
 }
 
 impl<U: Encode> EncodeValue for OtherPrimeInfo<U> {

@@ -9,7 +9,7 @@ ghost use Rattle.der_core.specs.Tags.{sequence};
 ghost use Rattle.der_core.specs.Tlv.{Tlv};
 ghost use Rattle.der_core.specs.Writing.{encode_refusal};
 ghost use Rattle.pkcs1.specs.Allocating.{AllocatesForKey};
-ghost use Rattle.pkcs1.specs.KeyFaults.{RsaPrivateKeyFault};
+ghost use Rattle.pkcs1.specs.KeyFaults.{PrivateKeyTextFault, RsaPrivateKeyFault};
 ghost use Rattle.pkcs1.specs.Keys as grammar;
 ghost use Rattle.pkcs1.specs.Keys.{PrivateKey, PrivateKeyText};
 ghost use Rattle.pkcs1.specs.KeyTexts.{IsOnlyText, IsUnread, IsUnwritten};
@@ -83,6 +83,14 @@ impl<U> RsaPrivateKey<U> {
         ensures err { let bytes = octets_of octets.entry in
             let asked = AllocatesIn (Tlv sequence_tag (AllocatesForKey U.text U.Decode.may_allocate)) bytes in
             IfErr result (IsUnread (PrivateKeyText U.text) bytes asked) }
+        ensures exact { let bytes = octets_of octets.entry in
+            let asked = AllocatesIn (Tlv sequence_tag (AllocatesForKey U.text U.Decode.may_allocate)) bytes in
+            let fault = PrivateKeyTextFault U.text U.Decode.fault in
+            IfErr result (IsAsn1 (λ e. Faulty e.kind asked (fault e.kind bytes))) }
+        ensures only { let bytes = octets_of octets.entry in
+            let asked = AllocatesIn (Tlv sequence_tag (AllocatesForKey U.text U.Decode.may_allocate)) bytes in
+            (kind : der.ErrorKind) → PrivateKeyTextFault U.text U.Decode.fault kind bytes
+            → IsErrAnd result (IsAsn1 (λ e. Faulty e.kind asked (e.kind ≡ kind))) }
         ensures two_primes { ((c : List ℕ) → AllocatesWithin U.Decode.may_allocate c → ⊥)
             → (key : PrivateKey U.Value) → key.other_prime_infos ≡ None
             → Means (PrivateKeyText U.text) (octets_of octets.entry) key → IsOk result }

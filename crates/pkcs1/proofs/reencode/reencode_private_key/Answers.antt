@@ -1,6 +1,9 @@
+use Rattle.std.proofs.lemmas.Result.{err_from_is_err_and}
+use Rattle.pkcs1.specs.KeyFaults.{RsaPrivateKeyFault}
 use Rattle.der_core.specs.DocumentValue.{secret_text_of}
+use Rattle.pkcs1.specs.KeyFaultLaws.{private_key_whole_none}
 use Rattle.pkcs1.specs.Keys.{RsaPrivateKey}
-use Rattle.pkcs1.proofs.Reencoded.{comes_out, is_sentence, wants_memory}
+use Rattle.pkcs1.proofs.Reencoded.{comes_out, is_sentence, wants_memory, memory_wanted, more_asked}
 use Rattle.pkcs1.proofs.reencode.reencode_private_key.Goals as goal
 
 pub returns-clause-same : goal.returns-clause-same
@@ -11,3 +14,19 @@ returns-clause-sentence c = is_sentence RsaPrivateKey _ _ c.in_ok-from_pkcs1_der
 
 pub returns-clause-err : goal.returns-clause-err
 returns-clause-err c = wants_memory RsaPrivateKey _ _ c.in_ok-from_pkcs1_der.ensures.ok _ _ c.to_pkcs1_der.ensures.err
+
+pub returns-clause-exact : goal.returns-clause-exact
+returns-clause-exact c = memory_wanted RsaPrivateKey _ _ c.in_ok-from_pkcs1_der.ensures.ok _ _ _ c.to_pkcs1_der.ensures.err
+
+pub returns-clause-only : goal.returns-clause-only
+returns-clause-only c kind fault = absurd (private_key_whole_none kind _ fault _ c.in_ok-from_pkcs1_der.ensures.ok)
+
+pub returns-in_err-from_pkcs1_der-clause-exact : goal.returns-in_err-from_pkcs1_der-clause-exact
+returns-in_err-from_pkcs1_der-clause-exact c =
+    let p = err_from_is_err_and c.from_residual.result c.from_residual.ensures.1 in
+    rw (p.1, p.2) (more_asked _ _ (λ kind. RsaPrivateKeyFault kind c.args.bytes.now) _ c.in_err-from_pkcs1_der.ensures.exact)
+
+pub returns-in_err-from_pkcs1_der-clause-only : goal.returns-in_err-from_pkcs1_der-clause-only
+returns-in_err-from_pkcs1_der-clause-only c kind fault =
+    let p = err_from_is_err_and c.from_residual.result c.from_residual.ensures.1 in
+    rw (p.1, p.2) (c.in_err-from_pkcs1_der.ensures.only kind fault)

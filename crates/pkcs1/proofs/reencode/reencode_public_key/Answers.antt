@@ -1,6 +1,9 @@
+use Rattle.std.proofs.lemmas.Result.{err_from_is_err_and}
+use Rattle.pkcs1.specs.KeyFaults.{RsaPublicKeyFault}
 use Rattle.der_core.specs.DocumentValue.{text_of}
+use Rattle.pkcs1.specs.KeyFaultLaws.{public_key_whole_none}
 use Rattle.pkcs1.specs.Keys.{RsaPublicKey}
-use Rattle.pkcs1.proofs.Reencoded.{comes_out, is_sentence, wants_memory}
+use Rattle.pkcs1.proofs.Reencoded.{comes_out, is_sentence, wants_memory, memory_wanted, more_asked}
 use Rattle.pkcs1.proofs.reencode.reencode_public_key.Goals as goal
 
 pub returns-clause-same : goal.returns-clause-same
@@ -11,3 +14,19 @@ returns-clause-sentence c = is_sentence RsaPublicKey _ _ c.in_ok-from_pkcs1_der.
 
 pub returns-clause-err : goal.returns-clause-err
 returns-clause-err c = wants_memory RsaPublicKey _ _ c.in_ok-from_pkcs1_der.ensures.ok _ _ c.to_pkcs1_der.ensures.err
+
+pub returns-clause-exact : goal.returns-clause-exact
+returns-clause-exact c = memory_wanted RsaPublicKey _ _ c.in_ok-from_pkcs1_der.ensures.ok _ _ _ c.to_pkcs1_der.ensures.err
+
+pub returns-clause-only : goal.returns-clause-only
+returns-clause-only c kind fault = absurd (public_key_whole_none kind _ fault _ c.in_ok-from_pkcs1_der.ensures.ok)
+
+pub returns-in_err-from_pkcs1_der-clause-exact : goal.returns-in_err-from_pkcs1_der-clause-exact
+returns-in_err-from_pkcs1_der-clause-exact c =
+    let p = err_from_is_err_and c.from_residual.result c.from_residual.ensures.1 in
+    rw (p.1, p.2) (more_asked _ _ (λ kind. RsaPublicKeyFault kind c.args.bytes.now) _ c.in_err-from_pkcs1_der.ensures.exact)
+
+pub returns-in_err-from_pkcs1_der-clause-only : goal.returns-in_err-from_pkcs1_der-clause-only
+returns-in_err-from_pkcs1_der-clause-only c kind fault =
+    let p = err_from_is_err_and c.from_residual.result c.from_residual.ensures.1 in
+    rw (p.1, p.2) (c.in_err-from_pkcs1_der.ensures.only kind fault)

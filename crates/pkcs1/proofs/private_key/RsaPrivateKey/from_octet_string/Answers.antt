@@ -19,3 +19,16 @@ returns-in_err-from_der-clause-err g c =
 pub returns-in_err-from_der-clause-two_primes : goal.returns-in_err-from_der-clause-two_primes
 returns-in_err-from_der-clause-two_primes g c none key two means =
     absurd (two_primes_refused g.U.Text.delimited key two _ none _ _ (rw (← c.as_bytes.ensures.octets) at means) c.in_err-from_der.ensures.text)
+
+pub returns-in_err-from_der-clause-exact : goal.returns-in_err-from_der-clause-exact
+returns-in_err-from_der-clause-exact g c =
+    let p = err_from_is_err_and c.from_residual.result c.from_residual.ensures.1 in
+    rw (p.1, p.2, ← c.as_bytes.ensures.octets) c.in_err-from_der.ensures.exact
+
+pub returns-in_err-from_der-clause-only : goal.returns-in_err-from_der-clause-only
+returns-in_err-from_der-clause-only g c =
+    let p = err_from_is_err_and c.from_residual.result c.from_residual.ensures.1 in
+    rw (p.1, p.2, ← c.as_bytes.ensures.octets) c.in_err-from_der.ensures.only
+
+pub returns-clause-only : goal.returns-clause-only
+returns-clause-only g c = rw (← c.as_bytes.ensures.octets) (λ kind fault. absurd (c.in_ok-from_der.ensures.only kind fault))

@@ -1,4 +1,4 @@
-use Rattle.std.proofs.Common.{inl, inr}
+use Rattle.std.proofs.Common.{inl, inr, ⊎_elim}
 use Rattle.std.proofs.lemmas.Result.{err_from_is_err_and}
 use Rattle.pkcs1_params.specs.OaepValue.{oaep_of}
 use Rattle.pkcs1_params.specs.ParameterFaultLaws.{oaep_whole_none}
@@ -37,7 +37,7 @@ returns-in_err-params-clause-exact c =
 pub returns-in_err-params-clause-only : goal.returns-in_err-params-clause-only
 returns-in_err-params-clause-only c kind fault =
     let p = err_from_is_err_and c.from_residual.result c.from_residual.ensures.1 in
-    rw (p.1, p.2) (c.in_err-params.ensures.only kind fault)
+    rw (p.1, p.2) (⊎_elim (λ f. c.in_err-params.ensures.only kind f) (λ f. absurd (c.in_err-params.ensures.err f.0 f.1)) fault)
 
 pub returns-in_err-refuse_defaults-clause-exact : goal.returns-in_err-refuse_defaults-clause-exact
 returns-in_err-refuse_defaults-clause-exact c =
@@ -45,7 +45,14 @@ returns-in_err-refuse_defaults-clause-exact c =
     rw (p.1, p.2) (inr (oaep_of c.in_ok-params.params, c.in_ok-params.ensures.ok, c.in_err-refuse_defaults.ensures.default))
 
 pub returns-in_err-refuse_defaults-clause-only : goal.returns-in_err-refuse_defaults-clause-only
-returns-in_err-refuse_defaults-clause-only c kind fault = absurd (oaep_whole_none kind _ fault _ c.in_ok-params.ensures.ok)
+returns-in_err-refuse_defaults-clause-only c kind (inl fault) = absurd (oaep_whole_none kind _ fault _ c.in_ok-params.ensures.ok)
+returns-in_err-refuse_defaults-clause-only c kind (inr (v, means, n, writes, tag, octet, is)) =
+    let p = err_from_is_err_and c.from_residual-in_err-refuse_defaults.result c.from_residual-in_err-refuse_defaults.ensures.1 in
+    let same = c.in_ok-params.ensures.one v means in
+    rw (p.1, p.2, is) (c.in_err-refuse_defaults.ensures.only n tag (rw same at writes) octet)
 
 pub returns-clause-only : goal.returns-clause-only
-returns-clause-only c kind fault = absurd (oaep_whole_none kind _ fault _ c.in_ok-params.ensures.ok)
+returns-clause-only c kind (inl fault) = absurd (oaep_whole_none kind _ fault _ c.in_ok-params.ensures.ok)
+returns-clause-only c kind (inr (v, means, n, writes, tag, octet, is)) =
+    let same = c.in_ok-params.ensures.one v means in
+    absurd (c.in_ok-refuse_defaults.ensures.only n tag (rw same at writes) octet)

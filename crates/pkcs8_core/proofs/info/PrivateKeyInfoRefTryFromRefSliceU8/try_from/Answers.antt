@@ -2,7 +2,10 @@ use Rattle.std.specs.Prelude.{Result, Ok, Err, IfOk}
 use Rattle.std.proofs.Common.{ℕ, List, ◌≡◌}
 use Rattle.der_core.specs.Document.{Means}
 use Rattle.der_core.specs.ShortestLaws.{means_one}
-use Rattle.der_core.specs.Reading.{ReadsAll}
+use Rattle.der_core.specs.Reading.{ReadsAll, AllocatesIn}
+use Rattle.der_core.specs.FaultLaws.{not_asked, only_not_asked}
+use Rattle.der_core.specs.Tlv.{Tlv}
+use Rattle.pkcs8_core.specs.ContainerFaults.{PrivateKeyInfoFault}
 use Rattle.der_core.specs.declared.error.Error.{Error}
 use Rattle.pkcs8_core.specs.Container.{Info, PrivateKeyInfo}
 use Rattle.pkcs8_core.specs.Laws.{info_delimited}
@@ -14,3 +17,13 @@ one value may_allocate b (Err e) h = tt
 
 pub returns-clause-one : goal.returns-clause-one
 returns-clause-one c = one _ _ _ _ c.from_der.ensures.text
+
+-- No memory is asked for.
+never : (b : List ℕ) → AllocatesIn (Tlv 48 (λ _. ⊥)) b → ⊥
+never b w = w.3.holds
+
+pub returns-clause-exact : goal.returns-clause-exact
+returns-clause-exact c = not_asked (λ kind. PrivateKeyInfoFault kind c.args.bytes.now) (never _) _ c.from_der.ensures.exact
+
+pub returns-clause-only : goal.returns-clause-only
+returns-clause-only c kind fault = only_not_asked kind (never c.args.bytes.now) _ (c.from_der.ensures.only kind fault)

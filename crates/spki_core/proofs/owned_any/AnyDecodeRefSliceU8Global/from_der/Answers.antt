@@ -1,3 +1,6 @@
+use Rattle.der_core.specs.FaultLaws.{whole_fault_none, whole_fault_first}
+use Rattle.spki_core.specs.AnyLaws.{any_delimited}
+use Rattle.spki_core.specs.FaultLaws.{any_fault_none, any_fault_first}
 use Rattle.std.proofs.Common.{inr, ⊎_elim}
 use Rattle.std.proofs.lemmas.Result.{err_from_is_err_and}
 use Rattle.spki_core.specs.Faults.{AnyFault}
@@ -17,3 +20,12 @@ pub returns-in_err-any-clause-exact : goal.returns-in_err-any-clause-exact
 returns-in_err-any-clause-exact c =
     let p = err_from_is_err_and c.from_residual.result c.from_residual.ensures.1 in
     rw (p.1, p.2) (⊎_elim (λ w. absurd w.1.3) inr c.in_err-any.ensures.exact)
+
+pub returns-in_err-any-clause-only : goal.returns-in_err-any-clause-only
+returns-in_err-any-clause-only c kind fault =
+    let p = err_from_is_err_and c.from_residual.result c.from_residual.ensures.1 in
+    rw (p.1, p.2)
+    (inr (whole_fault_first Any AnyFault any_delimited any_fault_none any_fault_first _ kind _ (⊎_elim (λ w. absurd w.1.3) (λ f. f) c.in_err-any.ensures.exact) fault))
+
+pub returns-clause-only : goal.returns-clause-only
+returns-clause-only c kind fault = absurd (whole_fault_none Any AnyFault any_delimited any_fault_none kind _ fault _ c.in_ok-any.ensures.text)

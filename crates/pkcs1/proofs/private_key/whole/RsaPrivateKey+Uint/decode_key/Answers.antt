@@ -1,7 +1,7 @@
 use Rattle.std.proofs.lemmas.Result.{err_from_is_err_and}
 use Rattle.pkcs1.specs.KeyFaults.{RsaPrivateKeyFault}
 use Rattle.pkcs1.specs.KeyFaultLaws.{private_key_whole_none, private_key_whole_first}
-use Rattle.pkcs1.proofs.KeyMemory.{faulty_first}
+use Rattle.der_core.specs.FaultLaws.{faulty_first}
 use Rattle.der_core.specs.ShortestLaws.{means_one}
 use Rattle.pkcs1.proofs.PrivateKeys.{private_delimited}
 use Rattle.pkcs1.proofs.private_key.whole.RsaPrivateKey+Uint.decode_key.Goals as goal

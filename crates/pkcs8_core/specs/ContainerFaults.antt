@@ -1,0 +1,45 @@
+-- The first fault of bytes that are no container (RFC 5208 5), and of a container that holds no RSA key.
+use Rattle.std.specs.Prelude.{ℕ, List, ◌≡◌, ◌⊎◌}
+use Rattle.der_core.specs.declared.error.ErrorKind.{ErrorKind}
+use Rattle.der_core.specs.declared.error.ErrorKind.TheVariants.{Value}
+use Rattle.der_core.specs.Faults.{TextFault, ThenFault, TaggedLastFault, WholeFault, SmallFault, NoFault, ExpectedFault}
+use Rattle.der_core.specs.Integer.{Small, SmallContents}
+use Rattle.der_core.specs.OctetString.{OctetString}
+use Rattle.der_core.specs.Tags.{integer, octet_string, sequence}
+use Rattle.spki_core.specs.AlgorithmIdentifier.{PlainAlgorithm}
+use Rattle.spki_core.specs.Any.{Any}
+use Rattle.spki_core.specs.Faults.{AnyFault, AlgorithmFault}
+use Rattle.pkcs1.specs.KeyFaults.{RsaPrivateKeyFault}
+use Rattle.pkcs8_core.specs.Container.{Info, AttributesText, PrivateKeyInfo}
+use Rattle.pkcs8_core.specs.Rsa.{NotRsa, rsa_encryption}
+use Rattle.pkcs8_core.specs.Tags.{attributes_tag}
+
+-- The version is the number 0.
+abbrev pub VersionText : Unit {0} → List ℕ → Type 0
+VersionText _ = Small 0
+
+abbrev pub VersionFault : ErrorKind → List ℕ → Type 0
+VersionFault = ExpectedFault SmallContents SmallFault 0 (Value integer)
+
+-- What is left behind the private key.
+abbrev pub AttributesFault : ErrorKind → List ℕ → Type 0
+AttributesFault = TaggedLastFault attributes_tag AttributesText (TextFault attributes_tag NoFault)
+
+abbrev pub BehindAlgorithm : ErrorKind → List ℕ → Type 0
+BehindAlgorithm = ThenFault OctetString (TextFault octet_string NoFault) (λ _. AttributesFault)
+
+abbrev pub BehindVersion : ErrorKind → List ℕ → Type 0
+BehindVersion = ThenFault PlainAlgorithm (TextFault sequence (AlgorithmFault Any AnyFault)) (λ _. BehindAlgorithm)
+
+-- The version, or behind it the algorithm, or behind that the private key, or what is left.
+abbrev pub InfoFault : ErrorKind → List ℕ → Type 0
+InfoFault = ThenFault VersionText (TextFault integer VersionFault) (λ _. BehindVersion)
+
+-- A slice that is to be a container.
+abbrev pub PrivateKeyInfoFault : ErrorKind → List ℕ → Type 0
+PrivateKeyInfoFault = WholeFault PrivateKeyInfo (TextFault sequence InfoFault)
+
+-- A container that is to hold an RSA key: the algorithm is another, or the key has a fault.
+abbrev pub RsaFault : Info → ErrorKind → Type 0
+RsaFault info kind =
+    NotRsa info.algorithm kind ⊎ ((info.algorithm ≡ rsa_encryption) × RsaPrivateKeyFault kind info.private_key)
