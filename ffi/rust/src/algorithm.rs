@@ -3,7 +3,7 @@ use crate::Error;
 use std::fmt;
 
 /// The contents octets of an OBJECT IDENTIFIER, at most 39.
-// The octets past `len` are zeros, so that equality is derived; `len` is at most 39, but in a value that is to be refused.
+// `len` is at most 39, and the octets past it are zeros, so that equality is derived.
 #[repr(C)]
 #[derive(Clone, Copy, PartialEq, Eq, Hash)]
 pub struct ObjectIdentifier {
