@@ -8,4 +8,3 @@ mod rsa;
 
 pub use faults::fault_of_private_key_info;
 pub use info::{PrivateKeyInfoRef, containers_have_one_text};
-pub use pkcs1;
