@@ -249,10 +249,13 @@ def main():
     tried = sorted((Crate(it, crates, paths[it]) for it in paths if paths[it]), key=lambda it: -len(it.paths))
     refused = failed = 0
     with concurrent.futures.ThreadPoolExecutor(lanes(given.jobs)) as pool:
-        for crate, verdicts in zip(tried, pool.map(Crate.try_all, tried)):
+        running = {pool.submit(it.try_all): it for it in tried}
+        for done in concurrent.futures.as_completed(running):
+            crate, verdicts = running[done], done.result()
             for path, (goal, why) in sorted(verdicts.items()):
                 is_right = bool(goal) == must_be_refused(path)
-                print(f"{path}: {'' if is_right else 'FAILED: '}{f'refused at {goal}' if goal else why}")
+                told = "FAILED: " if not is_right else "" if goal else "no credit, as it must be: "
+                print(f"{path}: {told}{f'refused at {goal}' if goal else why}")
                 refused, failed = refused + (is_right and bool(goal)), failed + (not is_right)
             print(f"({crate.name}: {len(verdicts)} edits, {crate.checks} checks, {crate.seconds:.0f} s of processor time)", flush=True)
     print(f"{refused} refused, {failed} failed")
