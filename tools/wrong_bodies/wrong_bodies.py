@@ -149,12 +149,13 @@ class Crate:
         """Tries a round in one check. Edits that it gives no credit are tried once more, each alone."""
         _, texts = self.round_of(edits)
         said = self.check(texts, sorted({name for it in edits for _, name in it.owned}))
-        unread = [(it[1], int(it[2])) for it in map(UNREADABLE.match, said) if it]
+        unread = [(it[1], int(it[2]), it.string) for it in map(UNREADABLE.match, said) if it]
         again = []
         for edit in edits:
             spans = [(file, it) for file, text in texts.items() for it in functions(file, text, self.homes) if (file, it.name) in edit.owned]
-            if any(file == at and it.first <= line <= it.last for file, it in spans for at, line in unread):
-                verdicts[edit.path] = None, f"BAD EDIT: {next(it for it in said if UNREADABLE.match(it))[:150]}"
+            errors = [told for at, line, told in unread if any(file == at and it.first <= line <= it.last for file, it in spans)]
+            if errors:
+                verdicts[edit.path] = None, f"BAD EDIT: {errors[0][:150]}"
                 continue
             goals = [] if unread else [goal for file, it in spans for goal in own_goals(said, self.name, file, it)]
             if goals:
