@@ -86,7 +86,7 @@ build_library() {
         return
     fi
     rm -f "$out/stamp"
-    say "proving and building the library: 5 to 20 minutes the first time, by how busy the machine is; ffi/out/rt.log tells how far it is"
+    say "proving and building the library, and the first time all below it, which takes 10 minutes and more; ffi/out/rt.log tells how far it is"
     if [ "$action" = over-ci ]; then prove build_over_ci; else prove rt lib; fi
     printf '%s\n' "$made $(sha256sum < "$library")" > "$out/stamp"
     say "proved and built, after $SECONDS seconds"
