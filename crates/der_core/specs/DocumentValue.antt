@@ -1,16 +1,12 @@
 -- The texts that documents hold.
 use Rattle.std.specs.Prelude.{ℕ, List, ◌≡◌, ◌⊎◌, Result, Ok, Err}
-use Rattle.der_core.specs.declared.document.Document.{Document}
-use Rattle.der_core.specs.declared.document.SecretDocument.{SecretDocument}
+use Rattle.der_core.specs.declared.document.DocumentOf.{DocumentOf}
 use Rattle.der_core.specs.declared.error.Error.{Error}
 use Rattle.der_core.specs.Document.{IsShortest, IsUncountable}
 use Rattle.der_core.specs.Writing.{IsUncounted, LacksMemory, encode_refusal}
 
-abbrev pub text_of : Document → List ℕ
+abbrev pub text_of : {S : Type 0} → DocumentOf S → List ℕ
 text_of document = document.bytes.items
-
-abbrev pub secret_text_of : SecretDocument → List ℕ
-secret_text_of secret = text_of secret.document
 
 -- The document holds the octets that are written of the value, its shortest text; or memory was wanted, for octets that
 -- can be counted; or they can't be, as the octets and as the grammar tell it.

@@ -27,6 +27,7 @@ use crate::wrap::{FromRead, ToWrite};
 use std::alloc::Global;
 use std::fmt;
 use std::fs::File;
+use std::marker::PhantomData;
 use std::path::Path;
 use std::rt::Files;
 
@@ -84,18 +85,36 @@ pub fn write_over<T: EncodeValue + FixedTag>(message: &T, out: &mut [u8])
     message.prepend(&mut writer);
 }
 
-/// One whole SEQUENCE, of at most `Length::MAX` bytes.
-#[derive(Debug, PartialEq, Eq, Drop)]
-pub struct Document {
+/// That a document may be shown and compared.
+#[derive(PartialEq, Eq, Drop)]
+pub struct Open;
+
+/// That a document is secret: it can't be compared, and its `Debug` shows no byte.
+#[derive(Drop)]
+pub struct Secret;
+
+/// One whole SEQUENCE, of at most `Length::MAX` bytes: open or secret, by S.
+#[derive(Drop)]
+#[derive_where(PartialEq, Eq; S)]
+pub struct DocumentOf<S> {
     bytes: Vec<u8>,
+    #[derive_where(skip)]
+    secrecy: PhantomData<S>,
     ghost whole: { IsDocument bytes.items } by { IsDocument-prop bytes.items },
 }
 
-impl Document {
+/// One whole SEQUENCE, of at most `Length::MAX` bytes.
+pub type Document = DocumentOf<Open>;
+
+/// One whole SEQUENCE, of at most `Length::MAX` bytes, that is secret: `Debug` shows none of its bytes, it can't be
+/// compared, and it is nowhere taken for a `Document`.
+pub type SecretDocument = DocumentOf<Secret>;
+
+impl<S: Drop> DocumentOf<S> {
     ghost use Rattle.der_core.specs.DocumentValue.{HoldsMessage, text_of};
 
     /// A copy of these bytes, where they are one SEQUENCE. `OutOfMemory` is answered only where they are.
-    pub fn from_der(alloc: Global, bytes: &[u8]) -> Result<Document>
+    pub fn from_der(alloc: Global, bytes: &[u8]) -> Result<DocumentOf<S>>
         ensures ok { IfOk result (λ document. IsDocument bytes.now × (text_of document ≡ bytes.now)) }
         ensures err { IfErr result (λ e. Refuses e.kind (IsDocument bytes.now) (IsDocument bytes.now → ⊥)) }
         ensures exact { let b = bytes.now in
@@ -104,8 +123,9 @@ impl Document {
             → DocumentFault kind bytes.now → IsErrAnd result (λ e. e.kind ≡ kind) }
     {
         AnySequence::from_der(NoMemory, bytes)?;
-        Ok(Document {
+        Ok(DocumentOf {
             bytes: copy_of(alloc, bytes)?,
+            secrecy: PhantomData,
         })
     }
 
@@ -114,7 +134,7 @@ impl Document {
     pub fn encode_msg<'a, T: EncodeValue + Sequence<'a>>(
         alloc: Global,
         message: &T,
-    ) -> Result<Document>
+    ) -> Result<DocumentOf<S>>
         ensures { HoldsMessage text_of result (T.has_contents (T.value message.now))
             (tlv T.TAG.octet (T.written_contents (T.value message.now)))
             (λ v. Tlv T.TAG.octet (T.contents v)) (T.value message.now) }
@@ -122,7 +142,10 @@ impl Document {
         let length = message.encoded_len()?.to_usize();
         let mut bytes = vec![in alloc; 0u8; length]?;
         write_over(message, bytes.as_mut_slice());
-        Ok(Document { bytes })
+        Ok(DocumentOf {
+            bytes,
+            secrecy: PhantomData,
+        })
     }
 
     /// The whole text.
@@ -143,7 +166,7 @@ impl Document {
     /// All that the source gives up to its end, where that is one SEQUENCE. It stops with `Overflow` as soon as more than
     /// `Length::MAX` bytes came, so it returns on a source that never ends. `File` is answered only where the source
     /// refused a call. After a refusal the source has moved on.
-    pub fn read_from<R: Source>(alloc: Global, source: &mut R) -> Result<Document>
+    pub fn read_from<R: Source>(alloc: Global, source: &mut R) -> Result<DocumentOf<S>>
         ensures reads { ReadsDocument text_of result (R.remaining source.old) (R.remaining source.new)
             (R.refusals source.old) (R.refusals source.new) }
         ensures only { (kind : der.ErrorKind) (bytes : List ℕ)
@@ -153,7 +176,10 @@ impl Document {
     {
         let bytes = read_all(alloc, source, Length::MAX)?;
         AnySequence::from_der(NoMemory, bytes.as_slice())?;
-        Ok(Document { bytes })
+        Ok(DocumentOf {
+            bytes,
+            secrecy: PhantomData,
+        })
     }
 
     /// Hands all bytes to the sink, in order, and flushes. The only refusal is `File`, where the sink refused a call: then
@@ -166,14 +192,14 @@ impl Document {
     }
 
     /// The document that the file holds: `read_from` on it. `File` is answered too where the file can't be opened.
-    pub fn read_der_file<Rt: Files>(rt: &Rt, alloc: Global, path: Path<'_>) -> Result<Document>
+    pub fn read_der_file<Rt: Files>(rt: &Rt, alloc: Global, path: Path<'_>) -> Result<DocumentOf<S>>
         ensures room { IfErr result (λ e. e.kind ≢ ErrorKind.NoRoom) }
         ensures exact { IfErr result (λ e. FileFault e.kind) }
     {
         let Ok(file) = File::open(rt, path) else {
             return Err(Error::new(ErrorKind::File));
         };
-        Document::read_from(alloc, &mut FromRead::new(file))
+        DocumentOf::read_from(alloc, &mut FromRead::new(file))
     }
 
     /// Creates the file, or cuts an old one to nothing, then `write_to` on it. `File` is answered too where it can't be
@@ -188,109 +214,16 @@ impl Document {
     }
 }
 
-/// One whole SEQUENCE, of at most `Length::MAX` bytes, that is secret: `Debug` shows none of its bytes, it can't be
-/// compared, and it is nowhere taken for a `Document`.
-#[derive(Drop)]
-pub struct SecretDocument {
-    document: Document,
-}
-
-impl SecretDocument {
-    ghost use Rattle.der_core.specs.DocumentValue.{HoldsMessage, secret_text_of};
-
-    /// A copy of these bytes, where they are one SEQUENCE. `OutOfMemory` is answered only where they are.
-    pub fn from_der(alloc: Global, bytes: &[u8]) -> Result<SecretDocument>
-        ensures ok { IfOk result (λ document. IsDocument bytes.now × (secret_text_of document ≡ bytes.now)) }
-        ensures err { IfErr result (λ e. Refuses e.kind (IsDocument bytes.now) (IsDocument bytes.now → ⊥)) }
-        ensures exact { let b = bytes.now in
-            IfErr result (λ e. Faulty e.kind (IsDocument b) (DocumentFault e.kind b)) }
-        ensures only { (kind : der.ErrorKind)
-            → DocumentFault kind bytes.now → IsErrAnd result (λ e. e.kind ≡ kind) }
-    {
-        Ok(SecretDocument {
-            document: Document::from_der(alloc, bytes)?,
-        })
-    }
-
-    /// The text of a message: `Value` where it has none, `Overflow` where it has some and none fits. `OutOfMemory` is
-    /// answered only where one fits.
-    pub fn encode_msg<'a, T: EncodeValue + Sequence<'a>>(
-        alloc: Global,
-        message: &T,
-    ) -> Result<SecretDocument>
-        ensures { HoldsMessage secret_text_of result (T.has_contents (T.value message.now))
-            (tlv T.TAG.octet (T.written_contents (T.value message.now)))
-            (λ v. Tlv T.TAG.octet (T.contents v)) (T.value message.now) }
-    {
-        Ok(SecretDocument {
-            document: Document::encode_msg(alloc, message)?,
-        })
-    }
-
-    /// The whole text.
-    pub fn as_bytes(&self) -> &[u8]
-        ensures text { result.now ≡ secret_text_of self.now }
-        ensures whole { IsDocument result.now }
-    {
-        self.document.as_bytes()
-    }
-
-    /// How many bytes the text has.
-    pub fn len(&self) -> Length
-        ensures { result ≡ length (secret_text_of self.now) }
-    {
-        self.document.len()
-    }
-
-    /// All that the source gives up to its end, where that is one SEQUENCE. It stops with `Overflow` as soon as more than
-    /// `Length::MAX` bytes came, so it returns on a source that never ends. `File` is answered only where the source
-    /// refused a call. After a refusal the source has moved on.
-    pub fn read_from<R: Source>(alloc: Global, source: &mut R) -> Result<SecretDocument>
-        ensures reads { ReadsDocument secret_text_of result (R.remaining source.old) (R.remaining source.new)
-            (R.refusals source.old) (R.refusals source.new) }
-        ensures only { (kind : der.ErrorKind) (bytes : List ℕ)
-            → R.remaining source.old ≡ Some bytes → DocumentFault kind bytes
-            → IsErrAnd result (λ e. StopsCarrying limit e.kind (R.remaining source.old) (R.remaining source.new)
-            (R.refusals source.old) (R.refusals source.new) ⊎ (e.kind ≡ kind)) }
-    {
-        Ok(SecretDocument {
-            document: Document::read_from(alloc, source)?,
-        })
-    }
-
-    /// Hands all bytes to the sink, in order, and flushes. The only refusal is `File`, where the sink refused a call: then
-    /// it took a beginning of the bytes. No memory is taken.
-    pub fn write_to<W: Sink>(&self, sink: &mut W) -> Result<()>
-        ensures { WritesAll (secret_text_of self.now) result (W.contents sink.old) (W.contents sink.new)
-            (W.refusals sink.old) (W.refusals sink.new) }
-    {
-        self.document.write_to(sink)
-    }
-
-    /// The document that the file holds: `read_from` on it. `File` is answered too where the file can't be opened.
-    pub fn read_der_file<Rt: Files>(
-        rt: &Rt,
-        alloc: Global,
-        path: Path<'_>,
-    ) -> Result<SecretDocument>
-        ensures room { IfErr result (λ e. e.kind ≢ ErrorKind.NoRoom) }
-        ensures exact { IfErr result (λ e. FileFault e.kind) }
-    {
-        Ok(SecretDocument {
-            document: Document::read_der_file(rt, alloc, path)?,
-        })
-    }
-
-    /// Creates the file, or cuts an old one to nothing, then `write_to` on it. `File` is answered too where it can't be
-    /// created. After a refusal the file may hold a beginning of the bytes.
-    pub fn write_der_file<Rt: Files>(&self, rt: &Rt, path: Path<'_>) -> Result<()>
-        ensures { IfErr result IsFile }
-    {
-        self.document.write_der_file(rt, path)
+impl fmt::Debug for DocumentOf<Open> {
+    /// Prints the bytes.
+    fn fmt<W: fmt::Write>(&self, f: &mut fmt::Formatter<W>) -> fmt::Result {
+        f.debug_struct("Document")
+            .field("bytes", &self.bytes)
+            .finish()
     }
 }
 
-impl fmt::Debug for SecretDocument {
+impl fmt::Debug for DocumentOf<Secret> {
     /// Prints the name of the type, and no byte.
     fn fmt<W: fmt::Write>(&self, f: &mut fmt::Formatter<W>) -> fmt::Result {
         f.debug_struct("SecretDocument").finish_non_exhaustive()

@@ -33,7 +33,7 @@ mod writer;
 pub use back_writer::BackWriter;
 pub use carry::{put_all, read_all};
 pub use decode::{Decode, DecodeValue, decode_optional, is_tag_next};
-pub use document::{Document, SecretDocument, write_over};
+pub use document::{Document, DocumentOf, Open, Secret, SecretDocument, write_over};
 pub use encode::{Encode, EncodeValue, joined_len};
 pub use error::{Error, ErrorKind, Result};
 pub use header::Header;

@@ -2,14 +2,15 @@
 use Rattle.std.proofs.Common.{ℕ, List, ◌≤◌, ◌<◌, ◌^◌, ◌⊎◌, length, arith, inl, inr, Result, Ok, Err}
 use Rattle.std.specs.Prelude.{IfOk, IfErr}
 use Rattle.der_core.specs.Document.{HasText, IsShortest, IsUncountable, EncodeRefusal, no_text, too_long, no_room, another}
-use Rattle.der_core.specs.DocumentValue.{secret_text_of}
+use Rattle.der_core.specs.DocumentValue.{text_of}
 use Rattle.der_core.specs.Integer.{Integer, IsCanonical, integer_contents, IntegerContents}
 use Rattle.der_core.specs.IntegerLaws.{integer_relates}
 use Rattle.der_core.specs.Length.{limit}
 use Rattle.der_core.specs.TextLaws.{tlv_relates}
 use Rattle.der_core.specs.Tlv.{tlv}
 use Rattle.der_core.specs.Writing.{IsUncounted, LacksMemory, encode_refusal}
-use Rattle.der_core.specs.declared.document.SecretDocument.{SecretDocument}
+use Rattle.der_core.specs.declared.document.DocumentOf.{DocumentOf}
+use Rattle.der_core.specs.declared.document.Secret.{Secret}
 use Rattle.der_core.specs.declared.error.ErrorKind.{ErrorKind}
 use Rattle.pkcs1_params.specs.declared.error.Error.{Error}
 use Rattle.pkcs1_params.specs.declared.error.Error.TheVariants as error
@@ -50,13 +51,13 @@ public_written key has fits =
     tlv_relates 48 (PublicKeyContents Integer) (written_public_key (λ n. tlv 2 (integer_contents n))) key (public_key_relates Integer IsCanonical (λ n. tlv 2 (integer_contents n)) number key has) (omega (arith, fits))
 
 -- A document of a private key holds its one text.
-pub document_only : (key : PrivateKey (List ℕ)) (result : Result SecretDocument Error)
-    → IfOk result (λ document. IsShortest RsaPrivateKey key (secret_text_of document)) → IfOk result (λ document. IsOnlyText RsaPrivateKey key (secret_text_of document))
-document_only key (Ok document) h = only_text RsaPrivateKey private_delimited key (private_at_most_one key) (secret_text_of document) h
+pub document_only : (key : PrivateKey (List ℕ)) (result : Result (DocumentOf Secret) Error)
+    → IfOk result (λ document. IsShortest RsaPrivateKey key (text_of document)) → IfOk result (λ document. IsOnlyText RsaPrivateKey key (text_of document))
+document_only key (Ok document) h = only_text RsaPrivateKey private_delimited key (private_at_most_one key) (text_of document) h
 document_only key (Err e) h = tt
 
 -- A private key that holds its numbers has a text, where it has what is written.
-pub unwritten_held : {U : Type 0} (number : U → List ℕ) (held : (u : U) → IsHeld (number u)) (key : declared.RsaPrivateKey U) (result : Result SecretDocument Error)
+pub unwritten_held : {U : Type 0} (number : U → List ℕ) (held : (u : U) → IsHeld (number u)) (key : declared.RsaPrivateKey U) (result : Result (DocumentOf Secret) Error)
     → IfErr result (IsAsn1 (λ e. IsUnwritten (HasPrivateKey IsCanonical (private_key_with number key)) RsaPrivateKey (private_key_with number key) e.kind))
     → IfErr result (IsAsn1 (λ e. IsUnwritten (HasText RsaPrivateKey (private_key_with number key)) RsaPrivateKey (private_key_with number key) e.kind))
 unwritten_held number held key (Ok document) h = tt

@@ -4,7 +4,7 @@ ghost use Rattle.der_core.specs.Faults.{Faulty};
 ghost use Rattle.der_core.specs.declared.error.ErrorKind as der;
 ghost use Rattle.pkcs1.specs.KeyFaults.{RsaPublicKeyFault, RsaPrivateKeyFault};
 ghost use Rattle.pkcs1_params.specs.Refusals.{IsAsn1};
-ghost use Rattle.der_core.specs.DocumentValue.{text_of, secret_text_of};
+ghost use Rattle.der_core.specs.DocumentValue.{text_of};
 ghost use Rattle.pkcs1.specs.Allocating.{OwnedKeyAllocates, OwnedPublicKeyAllocates};
 ghost use Rattle.pkcs1.specs.Keys as grammar;
 ghost use Rattle.pkcs1.specs.KeyTexts.{IsSentence, IsUnread};
@@ -37,7 +37,7 @@ pub fn reencode_public_key(alloc: Global, bytes: &[u8]) -> Result<Document>
 /// Reads a private key from all of the bytes and writes it again: the bytes that come out are those that came in. What is
 /// refused is refused by `from_pkcs1_der`, or for memory.
 pub fn reencode_private_key(alloc: Global, bytes: &[u8]) -> Result<SecretDocument>
-    ensures same { IfOk result (λ document. secret_text_of document ≡ bytes.now) }
+    ensures same { IfOk result (λ document. text_of document ≡ bytes.now) }
     ensures sentence { IfOk result (λ document. IsSentence grammar.RsaPrivateKey bytes.now) }
     ensures err { IfErr result (IsUnread grammar.RsaPrivateKey bytes.now
         (OwnedKeyAllocates bytes.now ⊎ IsSentence grammar.RsaPrivateKey bytes.now)) }

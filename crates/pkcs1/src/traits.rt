@@ -2,7 +2,7 @@
 ghost use Rattle.std.specs.Prelude.{◌≡◌, ◌⊎◌, List, ℕ, IfOk, IfErr, OnOk, IsErrAnd};
 ghost use Rattle.der_core.specs.Carrying.{FileFault};
 ghost use Rattle.der_core.specs.Document.{IsDocument, Means};
-ghost use Rattle.der_core.specs.DocumentValue.{text_of, secret_text_of};
+ghost use Rattle.der_core.specs.DocumentValue.{text_of};
 ghost use Rattle.der_core.specs.Faults.{Faulty};
 ghost use Rattle.der_core.specs.declared.error.ErrorKind as der;
 ghost use Rattle.der_core.specs.Tags.{sequence};
@@ -86,7 +86,7 @@ pub trait EncodeRsaPrivateKey {
 
     /// The text of the key.
     fn to_pkcs1_der(&self, alloc: Global) -> Result<SecretDocument>
-        ensures { IfOk result (λ document. written_as self.now (secret_text_of document)) };
+        ensures { IfOk result (λ document. written_as self.now (text_of document)) };
 
     /// Writes the text of the key to a file. The text is made before the file is created, or an old one cut to nothing:
     /// a key that is refused leaves the file as it was. `File` where the file can't be created or written.
@@ -163,7 +163,7 @@ impl<'a> EncodeRsaPrivateKey for RsaPrivateKey<UintRef<'a>> {
 
     fn to_pkcs1_der(&self, alloc: Global) -> Result<SecretDocument>
         ensures text { IfOk result (λ document.
-            IsOnlyText grammar.RsaPrivateKey (private_key_with bytes_of self.now) (secret_text_of document)) }
+            IsOnlyText grammar.RsaPrivateKey (private_key_with bytes_of self.now) (text_of document)) }
         ensures err { IfErr result (IsNotMade grammar.RsaPrivateKey (private_key_with bytes_of self.now)) }
         ensures no_primes { ListsNone self.now.other_prime_infos
             → IsErrAnd result (IsAsn1 (λ e. e.kind ≡ ErrorKind.Value sequence)) }
@@ -177,7 +177,7 @@ impl EncodeRsaPrivateKey for RsaPrivateKey<Uint> {
 
     fn to_pkcs1_der(&self, alloc: Global) -> Result<SecretDocument>
         ensures text { IfOk result (λ document.
-            IsOnlyText grammar.RsaPrivateKey (private_key_with own_bytes_of self.now) (secret_text_of document)) }
+            IsOnlyText grammar.RsaPrivateKey (private_key_with own_bytes_of self.now) (text_of document)) }
         ensures err { IfErr result (IsNotMade grammar.RsaPrivateKey (private_key_with own_bytes_of self.now)) }
         ensures no_primes { ListsNone self.now.other_prime_infos
             → IsErrAnd result (IsAsn1 (λ e. e.kind ≡ ErrorKind.Value sequence)) }

@@ -1,7 +1,7 @@
 //! A key type of a caller's own: the traits of keys can be implemented outside. And keys in files.
 ghost use Rattle.std.specs.Prelude.{◌≡◌, List, ℕ, IfOk, IfErr};
 ghost use Rattle.der_core.specs.Document.{IsDocument};
-ghost use Rattle.der_core.specs.DocumentValue.{secret_text_of};
+ghost use Rattle.der_core.specs.DocumentValue.{text_of};
 ghost use Rattle.der_core.specs.Reading.{Refuses};
 ghost use Rattle.der_core.specs.declared.error.ErrorKind.TheVariants.{OutOfMemory};
 ghost use Rattle.pkcs1_params.specs.Refusals.{IsAsn1};
@@ -53,7 +53,7 @@ impl EncodeRsaPrivateKey for CarriedKey {
     ghost written_as = { λ key bytes. key.bytes.items ≡ bytes };
 
     fn to_pkcs1_der(&self, alloc: Global) -> Result<SecretDocument>
-        ensures text { IfOk result (λ document. self.now.bytes.items ≡ secret_text_of document) }
+        ensures text { IfOk result (λ document. self.now.bytes.items ≡ text_of document) }
         ensures err { let is_document = IsDocument self.now.bytes.items in
             IfErr result (IsAsn1 (λ e. Refuses e.kind is_document (is_document → ⊥))) }
     {

@@ -25,7 +25,7 @@ use pkcs1_params::Error;
 use std::alloc::Global;
 
 impl<U: Encode> RsaPrivateKey<U> {
-    ghost use Rattle.der_core.specs.DocumentValue.{secret_text_of};
+    ghost use Rattle.der_core.specs.DocumentValue.{text_of};
 
     /// `encode_into`, which answers `Value` of SEQUENCE where the list of other primes is there and empty.
     fn encode_front(&self, out: &mut [u8]) -> crate::Result<usize>
@@ -51,7 +51,7 @@ impl<U: Encode> RsaPrivateKey<U> {
     /// and empty.
     pub(crate) fn to_document(&self, alloc: Global) -> crate::Result<SecretDocument>
         ensures shortest { let key = private_key_with U.value self.now in
-            IfOk result (λ document. IsShortest (PrivateKeyText U.text) key (secret_text_of document)) }
+            IfOk result (λ document. IsShortest (PrivateKeyText U.text) key (text_of document)) }
         ensures err { let key = private_key_with U.value self.now in
             IfErr result (IsAsn1 (λ e. IsUnwritten (HasPrivateKey U.has_text key) (PrivateKeyText U.text) key e.kind)) }
         ensures no_primes { ListsNone self.now.other_prime_infos

@@ -5,7 +5,7 @@ use Rattle.der_core.specs.Document.{IsDocument, IsShortest}
 use Rattle.der_core.specs.TextLaws.{tlv_relates, tlv_shortest}
 use Rattle.der_core.proofs.Refusals.{shortest_is}
 use Rattle.der_core.proofs.Documents.{written_document, written_over}
-use Rattle.der_core.proofs.document.Document.encode_msg.Goals as goal
+use Rattle.der_core.proofs.document.DocumentOf.encode_msg.Goals as goal
 
 pub invariant_of-result : goal.invariant_of-result
 invariant_of-result g c =

@@ -3,7 +3,7 @@ use Rattle.std.proofs.Common.{ℕ, List, Option}
 use Rattle.der_core.specs.Carrying.{ReadsDocument, FileFault}
 use Rattle.der_core.specs.declared.error.Error.{Error}
 use Rattle.der_core.proofs.Documents.{file_fault}
-use Rattle.der_core.proofs.document.Document.read_der_file.Goals as goal
+use Rattle.der_core.proofs.document.DocumentOf.read_der_file.Goals as goal
 
 of_file : {X : Type 0} (text : X → List ℕ) (r : Result X Error) (old new : Option (List ℕ)) (a b : ℕ) → ReadsDocument text r old new a b → IfErr r (λ e. FileFault e.kind)
 of_file text (Ok x) old new a b h = tt

@@ -4,7 +4,7 @@ use Rattle.der_core.specs.Document.{IsDocument}
 use Rattle.der_core.specs.Faults.{DocumentFault}
 use Rattle.der_core.specs.FaultLaws.{document_fault_first}
 use Rattle.der_core.proofs.Documents.{no_document, document_faulty, document_sound, all_given, none_given}
-use Rattle.der_core.proofs.document.Document.read_from.Goals as goal
+use Rattle.der_core.proofs.document.DocumentOf.read_from.Goals as goal
 
 pub returns-in_err-from_der-clause-reads : goal.returns-in_err-from_der-clause-reads
 returns-in_err-from_der-clause-reads g c =
