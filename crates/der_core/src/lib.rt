@@ -9,6 +9,7 @@
 #![tactic(auto)]
 
 mod back_writer;
+mod borrowed;
 mod carry;
 mod decode;
 mod document;
@@ -31,6 +32,7 @@ mod wrap;
 mod writer;
 
 pub use back_writer::BackWriter;
+pub use borrowed::Borrowed;
 pub use carry::{put_all, read_all};
 pub use decode::{Decode, DecodeValue, decode_optional, is_tag_next};
 pub use document::{Document, DocumentOf, Open, Secret, SecretDocument, write_over};
@@ -43,6 +45,7 @@ pub use length::Length;
 pub use memory::{Memory, NoMemory};
 pub use octet_string::{OctetStringRef, OctetStringTag};
 pub use reader::{BytesLeft, Octets, Reader};
+pub use sequence_of::{encode_texts, prepend_texts, texts_len};
 pub use slice_reader::SliceReader;
 pub use source_sink::{Sink, Source};
 pub use tag::{Tag, TagNumber};

@@ -67,7 +67,7 @@ impl<'a, T: Decode<&'a [u8], Global>> DecodeValue<&'a [u8], Global> for Vec<T> {
 }
 
 /// How many octets the texts of the items have.
-fn texts_len<T: Encode>(items: &[T]) -> Result<Length>
+pub fn texts_len<T: Encode>(items: &[T]) -> Result<Length>
     ensures { let have = AllHave (λ x. T.has_text (T.value x)) items.now in
         Counts have (all_texts (λ x. T.written_text (T.value x)) items.now) result }
 {
@@ -79,7 +79,7 @@ fn texts_len<T: Encode>(items: &[T]) -> Result<Length>
 }
 
 /// Appends the texts of the items.
-fn encode_texts<T: Encode, W: Writer>(items: &[T], writer: &mut W) -> Result<()>
+pub fn encode_texts<T: Encode, W: Writer>(items: &[T], writer: &mut W) -> Result<()>
     requires has { AllHave (λ x. T.has_text (T.value x)) items.now }
     requires fits { length (all_texts (λ x. T.written_text (T.value x)) items.now) ≤ limit }
     ensures appends { let have = AllHave (λ x. T.has_text (T.value x)) items.now in
@@ -94,7 +94,7 @@ fn encode_texts<T: Encode, W: Writer>(items: &[T], writer: &mut W) -> Result<()>
 }
 
 /// Puts the texts of the items before what is filled, the last one first.
-fn prepend_texts<T: Encode>(items: &[T], writer: &mut BackWriter<'_>)
+pub fn prepend_texts<T: Encode>(items: &[T], writer: &mut BackWriter<'_>)
     requires has { AllHave (λ x. T.has_text (T.value x)) items.now }
     requires fits { length (all_texts (λ x. T.written_text (T.value x)) items.now) ≤ limit }
     requires room { length (all_texts (λ x. T.written_text (T.value x)) items.now) ≤ free_of writer.old }

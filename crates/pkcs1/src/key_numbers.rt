@@ -1,12 +1,12 @@
-//! The eight numbers of private keys.
-ghost use Rattle.std.specs.Prelude.{◌≡◌, IfErr, ⊤};
+//! The eight numbers of private keys: reading and copying them.
+ghost use Rattle.std.specs.Prelude.{◌≡◌, IfOk, IfErr, IsOk, ⊤};
 ghost use Rattle.der_core.specs.Faults.{FaultyFront};
 ghost use Rattle.pkcs1.specs.KeyFaults.{CountedFault};
 ghost use Rattle.der_core.specs.Reading.{ReadsText, AllocatesWithin};
 ghost use Rattle.pkcs1.specs.KeyNumbers.{EightNumbers, numbers_of};
 
-use der_core::{Decode, Memory, Reader, Result};
-use std::alloc::AllocError;
+use der_core::{Decode, ErrorKind, Memory, Reader, Result, TryClone};
+use std::alloc::{AllocError, Global};
 
 /// The numbers of a private key, in the order of its text (RFC 8017 A.1.2).
 #[derive(Copy, Drop)]
@@ -59,4 +59,26 @@ pub(crate) fn read_key_numbers<'a, M: Memory, U: Decode<&'a [u8], M>, R: Reader<
         exponent2,
         coefficient,
     })
+}
+
+/// Copies four numbers, in order.
+pub(crate) fn clone_four<U: TryClone>(
+    a: &U,
+    b: &U,
+    c: &U,
+    d: &U,
+    alloc: Global,
+) -> Result<(U, U, U, U)>
+    ensures ok { IfOk result (λ copies. (U.value copies.0 ≡ U.value a.now) × (U.value copies.1 ≡ U.value b.now)
+        × (U.value copies.2 ≡ U.value c.now) × (U.value copies.3 ≡ U.value d.now)) }
+    ensures err { IfErr result (λ e. e.kind ≡ ErrorKind.OutOfMemory) }
+    ensures may_allocate { U.allocates_nothing a.now → U.allocates_nothing b.now
+        → U.allocates_nothing c.now → U.allocates_nothing d.now → IsOk result }
+{
+    Ok((
+        a.try_clone(alloc)?,
+        b.try_clone(alloc)?,
+        c.try_clone(alloc)?,
+        d.try_clone(alloc)?,
+    ))
 }

@@ -8,7 +8,6 @@ mod algorithm;
 mod faults;
 mod key_numbers;
 mod laws;
-mod numbers;
 mod other_primes;
 mod private_key;
 mod public_key;

@@ -12,14 +12,13 @@ ghost use Rattle.pkcs1.specs.PrivateKeyValue.{private_key_with, public_in, Lists
 pub(crate) mod other_prime_info;
 mod whole;
 
-use crate::key_numbers::read_key_numbers;
-use crate::numbers::{clone_four, encode_numbers, numbers_len, prepend_numbers};
+use crate::key_numbers::{clone_four, read_key_numbers};
 use crate::public_key::{RsaPublicKey, RsaPublicKeyRef};
 use crate::version::Version;
 use der_core::{
-    AsUintRef, BackWriter, Contents, Decode, DecodeValue, Encode, EncodeValue, ErrorKind, Header,
-    Length, Reader, Result, Sequence, SequenceTag, Tag, TaggedBy, Text, TryClone, Uint, UintRef,
-    Writer, joined_len,
+    AsUintRef, BackWriter, Borrowed, Contents, Decode, DecodeValue, Encode, EncodeValue, ErrorKind,
+    Header, Length, Reader, Result, Sequence, SequenceTag, Tag, TaggedBy, Text, TryClone, Uint,
+    UintRef, Writer, encode_texts, joined_len, prepend_texts, texts_len,
 };
 use other_prime_info::{
     OtherPrimeInfos, clone_other_primes, encode_other_primes, lists_none, other_primes_len,
@@ -100,18 +99,18 @@ impl<U: AsUintRef> RsaPrivateKey<U> {
 
 impl<U: Text> RsaPrivateKey<U> {
     /// The eight numbers, in the order of the text.
-    fn numbers(&self) -> [&U; 8]
-        ensures { map (λ n. U.value n.now) result ≡ key_numbers (private_key_with U.value self.now) }
+    fn numbers(&self) -> [Borrowed<'_, U>; 8]
+        ensures { map (λ n. U.value n.0.now) result ≡ key_numbers (private_key_with U.value self.now) }
     {
         [
-            &self.modulus,
-            &self.public_exponent,
-            &self.private_exponent,
-            &self.prime1,
-            &self.prime2,
-            &self.exponent1,
-            &self.exponent2,
-            &self.coefficient,
+            Borrowed(&self.modulus),
+            Borrowed(&self.public_exponent),
+            Borrowed(&self.private_exponent),
+            Borrowed(&self.prime1),
+            Borrowed(&self.prime2),
+            Borrowed(&self.exponent1),
+            Borrowed(&self.exponent2),
+            Borrowed(&self.coefficient),
         ]
     }
 }
@@ -197,7 +196,7 @@ impl<U: Encode> EncodeValue for RsaPrivateKey<U> {
         let others = other_primes_len(&self.other_prime_infos);
         joined_len(
             self.version().encoded_len(),
-            joined_len(numbers_len(&self.numbers()), others),
+            joined_len(texts_len(&self.numbers()), others),
         )
     }
 
@@ -211,13 +210,13 @@ impl<U: Encode> EncodeValue for RsaPrivateKey<U> {
     {
         self.value_len()?;
         self.version().encode(writer)?;
-        encode_numbers(&self.numbers(), writer)?;
+        encode_texts(&self.numbers(), writer)?;
         encode_other_primes(&self.other_prime_infos, writer)
     }
 
     fn prepend_value(&self, writer: &mut BackWriter<'_>) {
         prepend_other_primes(&self.other_prime_infos, writer);
-        prepend_numbers(&self.numbers(), writer);
+        prepend_texts(&self.numbers(), writer);
         self.version().prepend(writer);
     }
 

@@ -13,12 +13,11 @@ ghost use Rattle.pkcs1.specs.PrivateKeyLaws.{other_means_one, other_of_bytes, ot
 ghost use Rattle.pkcs1.specs.PrivateKeyValue.{other_of, others_of, ListsNone};
 ghost use Rattle.pkcs1.specs.Versions.{number_of};
 
-use crate::numbers::{encode_numbers, numbers_len, prepend_numbers};
 use crate::version::Version;
 use der_core::{
-    BackWriter, Contents, Decode, DecodeValue, Encode, EncodeValue, ErrorKind, Header, Length,
-    Memory, Reader, Result, Sequence, SequenceTag, Tag, TaggedBy, Text, TryClone, Writer,
-    decode_optional,
+    BackWriter, Borrowed, Contents, Decode, DecodeValue, Encode, EncodeValue, ErrorKind, Header,
+    Length, Memory, Reader, Result, Sequence, SequenceTag, Tag, TaggedBy, Text, TryClone, Writer,
+    decode_optional, encode_texts, prepend_texts, texts_len,
 };
 use std::alloc::{AllocError, Global};
 
@@ -131,16 +130,34 @@ impl<'a, M: Memory, U: Decode<&'a [u8], M>> DecodeValue<&'a [u8], M> for OtherPr
 
 impl<U: Encode> EncodeValue for OtherPrimeInfo<U> {
     fn value_len(&self) -> Result<Length> {
-        numbers_len(&[&self.prime, &self.exponent, &self.coefficient])
+        texts_len(&[
+            Borrowed(&self.prime),
+            Borrowed(&self.exponent),
+            Borrowed(&self.coefficient),
+        ])
     }
 
     fn encode_value<W: Writer>(&self, writer: &mut W) -> Result<()> {
         self.value_len()?;
-        encode_numbers(&[&self.prime, &self.exponent, &self.coefficient], writer)
+        encode_texts(
+            &[
+                Borrowed(&self.prime),
+                Borrowed(&self.exponent),
+                Borrowed(&self.coefficient),
+            ],
+            writer,
+        )
     }
 
     fn prepend_value(&self, writer: &mut BackWriter<'_>) {
-        prepend_numbers(&[&self.prime, &self.exponent, &self.coefficient], writer);
+        prepend_texts(
+            &[
+                Borrowed(&self.prime),
+                Borrowed(&self.exponent),
+                Borrowed(&self.coefficient),
+            ],
+            writer,
+        );
     }
 
     ghost contents_relate = { other_relates U.text U.has_text U.written_text U.text_relates };

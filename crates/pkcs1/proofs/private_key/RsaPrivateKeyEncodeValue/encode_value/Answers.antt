@@ -1,5 +1,6 @@
-use Rattle.std.proofs.Common.{Bor, arith, ◌≤◌, ◌++◌, length, length-append}
+use Rattle.std.proofs.Common.{arith, ◌≤◌, ◌++◌, length, length-append}
 use Rattle.std.proofs.lemmas.Result.{err_from_is_err_and}
+use Rattle.der_core.specs.declared.borrowed.Borrowed.{Borrowed}
 use Rattle.der_core.specs.Length.{limit}
 use Rattle.pkcs1.specs.PrivateKeyValue.{private_key_with}
 use Rattle.pkcs1.specs.Writing.{key_numbers, written_private_key}
@@ -15,14 +16,14 @@ returns-in_err-encode-clause-appends g c =
     let version = version_appends _ _ (version_number g.U.Text.value _ _ c.version.ensures) c.in_err-encode.ensures.appends in
     rw (p.1, p.2) (front_refused g.U.Text.has_text g.U.Text.written_text key all.0 few version)
 
-pub encode_numbers-requires-clause-has : goal.encode_numbers-requires-clause-has
-encode_numbers-requires-clause-has g c =
-    numbers_have (λ (n : Bor g.row.U.Denot). g.U.Text.value n.now) g.U.Text.has_text g.U.Text.written_text _ _ c.numbers.ensures c.in_ok-value_len.ensures.counts.0.1.0
+pub encode_texts-requires-clause-has : goal.encode_texts-requires-clause-has
+encode_texts-requires-clause-has g c =
+    numbers_have (λ (n : Borrowed g.row.U.Denot). g.U.Text.value n.0.now) g.U.Text.has_text g.U.Text.written_text _ _ c.numbers.ensures c.in_ok-value_len.ensures.counts.0.1.0
 
-pub encode_numbers-requires-clause-fits : goal.encode_numbers-requires-clause-fits
-encode_numbers-requires-clause-fits g c =
+pub encode_texts-requires-clause-fits : goal.encode_texts-requires-clause-fits
+encode_texts-requires-clause-fits g c =
     let key = private_key_with g.U.Text.value c.args.self.now in
-    let same = numbers_text (λ (n : Bor g.row.U.Denot). g.U.Text.value n.now) g.U.Text.has_text g.U.Text.written_text c.numbers.result (key_numbers key) c.numbers.ensures in
+    let same = numbers_text (λ (n : Borrowed g.row.U.Denot). g.U.Text.value n.0.now) g.U.Text.has_text g.U.Text.written_text c.numbers.result (key_numbers key) c.numbers.ensures in
     let n = front g.U.Text.has_text g.U.Text.written_text key in
     let t = middle g.U.Text.has_text g.U.Text.written_text key in
     let o = back g.U.Text.has_text g.U.Text.written_text key in
@@ -30,14 +31,14 @@ encode_numbers-requires-clause-fits g c =
     let less : length t ≤ limit = omega (arith, few, length-append n (t ++ o), length-append t o) in
     rw same less
 
-pub returns-in_err-encode_numbers-clause-appends : goal.returns-in_err-encode_numbers-clause-appends
-returns-in_err-encode_numbers-clause-appends g c =
-    let p = err_from_is_err_and c.from_residual-in_err-encode_numbers.result c.from_residual-in_err-encode_numbers.ensures.1 in
+pub returns-in_err-encode_texts-clause-appends : goal.returns-in_err-encode_texts-clause-appends
+returns-in_err-encode_texts-clause-appends g c =
+    let p = err_from_is_err_and c.from_residual-in_err-encode_texts.result c.from_residual-in_err-encode_texts.ensures.1 in
     let key = private_key_with g.U.Text.value c.args.self.now in
     let all = c.in_ok-value_len.ensures.counts in
     let few : length (written_private_key g.U.Text.written_text key) ≤ limit = omega (arith, all) in
     let version = version_appends _ _ (version_number g.U.Text.value _ _ c.version.ensures) c.in_ok-encode.ensures.appends in
-    let numbers = numbers_append (λ (n : Bor g.row.U.Denot). g.U.Text.value n.now) g.U.Text.has_text g.U.Text.written_text _ _ c.numbers.ensures c.in_err-encode_numbers.ensures.appends in
+    let numbers = numbers_append (λ (n : Borrowed g.row.U.Denot). g.U.Text.value n.0.now) g.U.Text.has_text g.U.Text.written_text _ _ c.numbers.ensures c.in_err-encode_texts.ensures.appends in
     rw (p.1, p.2) (middle_refused g.U.Text.has_text g.U.Text.written_text key all.0 few version numbers)
 
 pub encode_other_primes-requires-clause-fits : goal.encode_other_primes-requires-clause-fits
@@ -56,9 +57,9 @@ returns-clause-appends g c =
     let all = c.in_ok-value_len.ensures.counts in
     let few : length (written_private_key g.U.Text.written_text key) ≤ limit = omega (arith, all) in
     let version = version_appends _ _ (version_number g.U.Text.value _ _ c.version.ensures) c.in_ok-encode.ensures.appends in
-    let numbers = numbers_append (λ (n : Bor g.row.U.Denot). g.U.Text.value n.now) g.U.Text.has_text g.U.Text.written_text _ _ c.numbers.ensures c.in_ok-encode_numbers.ensures.appends in
+    let numbers = numbers_append (λ (n : Borrowed g.row.U.Denot). g.U.Text.value n.0.now) g.U.Text.has_text g.U.Text.written_text _ _ c.numbers.ensures c.in_ok-encode_texts.ensures.appends in
     private_appends g.U.Text.has_text g.U.Text.written_text key all.0 few version numbers c.encode_other_primes.ensures.appends
 
 pub returns-clause-kept : goal.returns-clause-kept
 returns-clause-kept g c =
-    g.met.W.Writer.keeps_through _ _ _ c.in_ok-encode.ensures.kept (g.met.W.Writer.keeps_through _ _ _ c.in_ok-encode_numbers.ensures.kept c.encode_other_primes.ensures.kept)
+    g.met.W.Writer.keeps_through _ _ _ c.in_ok-encode.ensures.kept (g.met.W.Writer.keeps_through _ _ _ c.in_ok-encode_texts.ensures.kept c.encode_other_primes.ensures.kept)

@@ -1,26 +1,27 @@
-use Rattle.std.proofs.Common.{Bor, arith, ap, sym, ◌≡◌, ◌∙◌, ◌+◌, ◌≤◌, ◌++◌, length, length-append}
+use Rattle.std.proofs.Common.{arith, ap, sym, ◌≡◌, ◌∙◌, ◌+◌, ◌≤◌, ◌++◌, length, length-append}
+use Rattle.der_core.specs.declared.borrowed.Borrowed.{Borrowed}
 use Rattle.der_core.specs.Length.{limit}
 use Rattle.pkcs1.specs.PrivateKeyValue.{private_key_with}
 use Rattle.pkcs1.specs.Writing.{key_numbers}
 use Rattle.pkcs1.proofs.KeyWrites.{version_number, version_text, numbers_text, numbers_have, front, middle, back, le_along, three_prepended}
 use Rattle.pkcs1.proofs.private_key.RsaPrivateKeyEncodeValue.prepend_value.Goals as goal
 
-pub prepend_numbers-requires-clause-has : goal.prepend_numbers-requires-clause-has
-prepend_numbers-requires-clause-has g c =
-    numbers_have (λ (n : Bor g.row.U.Denot). g.U.Text.value n.now) g.U.Text.has_text g.U.Text.written_text _ _ c.numbers.ensures c.requires.has.1.0
+pub prepend_texts-requires-clause-has : goal.prepend_texts-requires-clause-has
+prepend_texts-requires-clause-has g c =
+    numbers_have (λ (n : Borrowed g.row.U.Denot). g.U.Text.value n.0.now) g.U.Text.has_text g.U.Text.written_text _ _ c.numbers.ensures c.requires.has.1.0
 
-pub prepend_numbers-requires-clause-fits : goal.prepend_numbers-requires-clause-fits
-prepend_numbers-requires-clause-fits g c =
+pub prepend_texts-requires-clause-fits : goal.prepend_texts-requires-clause-fits
+prepend_texts-requires-clause-fits g c =
     let key = private_key_with g.U.Text.value c.args.self.now in
     let n = front g.U.Text.has_text g.U.Text.written_text key in
     let t = middle g.U.Text.has_text g.U.Text.written_text key in
     let o = back g.U.Text.has_text g.U.Text.written_text key in
     let few : length (n ++ (t ++ o)) ≤ limit = c.requires.fits in
     let less : length t ≤ limit = omega (arith, few, length-append n (t ++ o), length-append t o) in
-    rw (numbers_text (λ (n : Bor g.row.U.Denot). g.U.Text.value n.now) g.U.Text.has_text g.U.Text.written_text c.numbers.result (key_numbers key) c.numbers.ensures) less
+    rw (numbers_text (λ (n : Borrowed g.row.U.Denot). g.U.Text.value n.0.now) g.U.Text.has_text g.U.Text.written_text c.numbers.result (key_numbers key) c.numbers.ensures) less
 
-pub prepend_numbers-requires-clause-room : goal.prepend_numbers-requires-clause-room
-prepend_numbers-requires-clause-room g c =
+pub prepend_texts-requires-clause-room : goal.prepend_texts-requires-clause-room
+prepend_texts-requires-clause-room g c =
     let key = private_key_with g.U.Text.value c.args.self.now in
     let n = front g.U.Text.has_text g.U.Text.written_text key in
     let t = middle g.U.Text.has_text g.U.Text.written_text key in
@@ -28,7 +29,7 @@ prepend_numbers-requires-clause-room g c =
     let room : length (n ++ (t ++ o)) ≤ c.args.writer.now.free = c.requires.room in
     let behind : c.prepend_other_primes.new.writer.free + length o ≡ c.args.writer.now.free = c.prepend_other_primes.ensures.1 in
     let less : length t ≤ c.prepend_other_primes.new.writer.free = omega (arith, room, behind, length-append n (t ++ o), length-append t o) in
-    rw (numbers_text (λ (n : Bor g.row.U.Denot). g.U.Text.value n.now) g.U.Text.has_text g.U.Text.written_text c.numbers.result (key_numbers key) c.numbers.ensures) less
+    rw (numbers_text (λ (n : Borrowed g.row.U.Denot). g.U.Text.value n.0.now) g.U.Text.has_text g.U.Text.written_text c.numbers.result (key_numbers key) c.numbers.ensures) less
 
 pub prepend_other_primes-requires-clause-fits : goal.prepend_other_primes-requires-clause-fits
 prepend_other_primes-requires-clause-fits g c =
@@ -68,9 +69,9 @@ prepend-requires-clause-room g c =
     let o = back g.U.Text.has_text g.U.Text.written_text key in
     let room : length (n ++ (t ++ o)) ≤ c.args.writer.now.free = c.requires.room in
     let behind : c.prepend_other_primes.new.writer.free + length o ≡ c.args.writer.now.free = c.prepend_other_primes.ensures.1 in
-    let same = numbers_text (λ (n : Bor g.row.U.Denot). g.U.Text.value n.now) g.U.Text.has_text g.U.Text.written_text c.numbers.result (key_numbers key) c.numbers.ensures in
-    let more : c.prepend_numbers.new.writer.free + length t ≡ c.prepend_other_primes.new.writer.free = ap (λ l. c.prepend_numbers.new.writer.free + length l) (sym same) ∙ c.prepend_numbers.ensures.1 in
-    let less : length n ≤ c.prepend_numbers.new.writer.free = omega (arith, room, behind, more, length-append n (t ++ o), length-append t o) in
+    let same = numbers_text (λ (n : Borrowed g.row.U.Denot). g.U.Text.value n.0.now) g.U.Text.has_text g.U.Text.written_text c.numbers.result (key_numbers key) c.numbers.ensures in
+    let more : c.prepend_texts.new.writer.free + length t ≡ c.prepend_other_primes.new.writer.free = ap (λ l. c.prepend_texts.new.writer.free + length l) (sym same) ∙ c.prepend_texts.ensures.1 in
+    let less : length n ≤ c.prepend_texts.new.writer.free = omega (arith, room, behind, more, length-append n (t ++ o), length-append t o) in
     let form = ap length (version_text _ _ (version_number g.U.Text.value _ _ c.version.ensures)) in
     le_along form less
 
@@ -80,6 +81,6 @@ returns g c =
     let n = front g.U.Text.has_text g.U.Text.written_text key in
     let t = middle g.U.Text.has_text g.U.Text.written_text key in
     let o = back g.U.Text.has_text g.U.Text.written_text key in
-    let same = numbers_text (λ (n : Bor g.row.U.Denot). g.U.Text.value n.now) g.U.Text.has_text g.U.Text.written_text c.numbers.result (key_numbers key) c.numbers.ensures in
+    let same = numbers_text (λ (n : Borrowed g.row.U.Denot). g.U.Text.value n.0.now) g.U.Text.has_text g.U.Text.written_text c.numbers.result (key_numbers key) c.numbers.ensures in
     let form = version_text _ _ (version_number g.U.Text.value _ _ c.version.ensures) in
-    three_prepended n t o _ _ c.args.writer.now c.prepend_other_primes.new.writer c.prepend_numbers.new.writer c.prepend.new.writer form same c.prepend_other_primes.ensures c.prepend_numbers.ensures c.prepend.ensures
+    three_prepended n t o _ _ c.args.writer.now c.prepend_other_primes.new.writer c.prepend_texts.new.writer c.prepend.new.writer form same c.prepend_other_primes.ensures c.prepend_texts.ensures c.prepend.ensures

@@ -1,5 +1,6 @@
-use Rattle.std.proofs.Common.{Bor, true, ◌≡◌, ◌∙◌, ap, refl}
+use Rattle.std.proofs.Common.{true, ◌≡◌, ◌∙◌, ap, refl}
 use Rattle.der_core.specs.declared.error.ErrorKind.TheVariants as kind
+use Rattle.der_core.specs.declared.borrowed.Borrowed.{Borrowed}
 use Rattle.der_core.specs.TagLaws.{same_tag}
 use Rattle.pkcs1.specs.PrivateKeyValue.{private_key_with, ListsNone}
 use Rattle.pkcs1.specs.Writing.{key_numbers}
@@ -11,7 +12,7 @@ returns-clause-counts g c =
     let key = private_key_with g.U.Text.value c.args.self.now in
     rw (c.joined_len-2.ensures, c.joined_len.ensures) (private_counts g.U.Text.has_text g.U.Text.written_text key _ _ _
     (version_counts _ _ (version_number g.U.Text.value _ _ c.version.ensures) _ c.encoded_len.ensures.counted)
-    (numbers_counts (λ (n : Bor g.row.U.Denot). g.U.Text.value n.now) g.U.Text.has_text g.U.Text.written_text _ (key_numbers key) c.numbers.ensures _ c.numbers_len.ensures)
+    (numbers_counts (λ (n : Borrowed g.row.U.Denot). g.U.Text.value n.0.now) g.U.Text.has_text g.U.Text.written_text _ (key_numbers key) c.numbers.ensures _ c.texts_len.ensures)
     c.other_primes_len-others.ensures)
 
 pub returns-then-lists_none-clause-counts : goal.returns-then-lists_none-clause-counts
