@@ -34,15 +34,15 @@ all_given (Some xs) None bytes given is gives = absurd gives.0
 all_given (Some xs) (Some ys) bytes given is gives = let same : xs ≡ bytes = cc in sym same ∙ gives.0 ∙ ap (λ l. given ++ l) gives.1 ∙ append-nil given
 
 -- What came is no document.
-pub none_given : (e : ErrorKind) (old new : Option (List ℕ)) (given seen : List ℕ) → seen ≡ given → GivesAll old new given → TellsOfBytes e × (IsDocument seen → ⊥) → DocumentFault e seen → TellsOfBytes e × GivesNone e old new
-none_given e old new given seen same gives none fault = (none.0, (given, gives, (λ d. none.1 (rw same d)), rw same at fault))
+pub none_given : (e : ErrorKind) (old new : Option (List ℕ)) (given seen : List ℕ) → seen ≡ given → GivesAll old new given → (IsDocument seen → ⊥) → DocumentFault e seen → GivesNone e old new
+none_given e old new given seen same gives none fault = (given, gives, (λ d. none (rw same d)), rw same at fault)
 
 -- What stops reading a source is what a file can be refused for.
 pub file_fault : (e : ErrorKind) (old new : Option (List ℕ)) (a b : ℕ) → StopsReading e old new a b → FileFault e
 file_fault e old new a b (inl (inl w)) = inl w.0
 file_fault e old new a b (inl (inr (inl w))) = inr (inl w.0)
-file_fault e old new a b (inl (inr (inr (over, (bytes, gives, more, few))))) = inr (inr (bytes, inl (more, over)))
-file_fault e old new a b (inr (tells, (bytes, gives, none, fault))) = inr (inr (bytes, fault))
+file_fault e old new a b (inl (inr (inr (over, _, (bytes, gives, more, few))))) = inr (inr (bytes, inl (more, over)))
+file_fault e old new a b (inr (tells, _, (bytes, gives, none, fault))) = inr (inr (bytes, fault))
 
 -- The text of a message is a document.
 pub written_document : {V : Type 0} (Contents : V → List ℕ → Type 0) (written : V → List ℕ) (v : V) (tag : ℕ) → tag ≡ 48 → IsOfBytes Contents

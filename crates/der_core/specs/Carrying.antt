@@ -18,17 +18,17 @@ piece = 65536
 abbrev pub GivesNone : ErrorKind → Option (List ℕ) → Option (List ℕ) → Type 0
 GivesNone e old new = (bytes : List ℕ) × GivesAll old new bytes × (IsDocument bytes → ⊥) × DocumentFault e bytes
 
--- The source refused a call; or none was, and memory was wanted; or more bytes came than these.
+-- The source refused a call; or none was, and memory was wanted, or more bytes came than these.
 abbrev pub StopsCarrying : ℕ → ErrorKind → Option (List ℕ) → Option (List ℕ) → ℕ → ℕ → Type 0
 StopsCarrying most e old new refusals refusals2 =
     ((e ≡ File) × SomeRefused refusals refusals2)
     ⊎ ((e ≡ OutOfMemory) × (refusals2 ≡ refusals))
-    ⊎ ((e ≡ Overflow) × GivesMore most piece old new)
+    ⊎ ((e ≡ Overflow) × (refusals2 ≡ refusals) × GivesMore most piece old new)
 
--- So it stopped, with more bytes than a document has; or what came is no document.
+-- So it stopped, with more bytes than a document has; or no call was refused, and what came is no document.
 abbrev pub StopsReading : ErrorKind → Option (List ℕ) → Option (List ℕ) → ℕ → ℕ → Type 0
 StopsReading e old new refusals refusals2 =
-    StopsCarrying limit e old new refusals refusals2 ⊎ (TellsOfBytes e × GivesNone e old new)
+    StopsCarrying limit e old new refusals refusals2 ⊎ (TellsOfBytes e × (refusals2 ≡ refusals) × GivesNone e old new)
 
 -- Of a file, whose bytes no contract names: it refused a call, or memory was wanted, or some bytes have this fault.
 abbrev pub FileFault : ErrorKind → Type 0

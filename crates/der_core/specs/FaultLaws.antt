@@ -6,10 +6,10 @@ use Rattle.der_core.specs.declared.tag.Tag.{Tag}
 use Rattle.der_core.specs.Document.{Means}
 use Rattle.std.specs.Prelude.{slice_get, IfErr, IsErrAnd}
 use Rattle.der_core.specs.declared.error.Error.{Error}
-use Rattle.der_core.specs.Faults.{TextFault, in_header, other_tag, too_short, in_contents, ThenFault, EndFault, ItemsFault, AloneFault, LastFault, TaggedLastFault, WholeFault, IntegerFault, SmallFault, NoFault, DocumentFault, AreNone, AreFirst, Faulty, FaultyFront}
+use Rattle.der_core.specs.Faults.{TextFault, in_header, other_tag, too_short, in_contents, ThenFault, EndFault, ItemsFault, AloneFault, LastFault, TaggedLastFault, WholeFault, IntegerFault, SmallFault, NoFault, DocumentFault, AreNone, AreFirst, Faulty, FaultyFront, FaultyWhole, OnlyFront, OnlyWhole}
 use Rattle.der_core.specs.HeaderLaws.{tlv_header, header_complete, header_at-tells}
 use Rattle.der_core.specs.Headers.{HeaderText}
-use Rattle.der_core.specs.Input.{Input, header_at}
+use Rattle.der_core.specs.Input.{Input, left_in, header_at}
 use Rattle.der_core.specs.InputLaws.{ok_pair}
 use Rattle.der_core.specs.ItemReads.{joins_none}
 use Rattle.der_core.specs.Optional.{Optional}
@@ -17,7 +17,7 @@ use Rattle.der_core.specs.SequenceOf.{ItemsContents}
 use Rattle.der_core.specs.Integer.{IntegerContents, SmallContents}
 use Rattle.der_core.specs.Length.{limit}
 use Rattle.der_core.specs.ListLaws.{same_fronts}
-use Rattle.der_core.specs.Reading.{NoneHas, NoneIn, AllocatesIn, ReadsText, ReadsAll}
+use Rattle.der_core.specs.Reading.{NoneHas, NoneIn, AllocatesIn, ReadsText}
 use Rattle.der_core.specs.Smalls.{integer_none, integer_tells, small_none, small_tells}
 use Rattle.der_core.specs.TagLaws.{same_tag}
 use Rattle.der_core.specs.Tells.{is_incomplete, is_other_tag, is_trailing}
@@ -267,20 +267,20 @@ module _ (Fault : ErrorKind → List ℕ → Type 0) (first : (j k : ErrorKind) 
   faulty_first e kind b fault (inl w) = inl w
   faulty_first e kind b fault (inr f) = inr (first e kind b f fault)
 
--- What is read of a whole slice, or of the front of a reader, is refused where there is a fault, by that.
-module _ {X V : Type 0} (value : X → V) (text : V → List ℕ → Type 0) (Fault : ErrorKind → List ℕ → Type 0) (may_allocate : List ℕ → Type 0) (none : AreNone (NoneIn text) Fault) (first : AreFirst Fault) where
-  pub only_whole : IsDelimited text → (r : Result X Error) (b : List ℕ) → ReadsAll value text may_allocate r b → IfErr r (λ e. Faulty e.kind (AllocatesIn may_allocate b) (WholeFault text Fault e.kind b))
-      → (kind : ErrorKind) → WholeFault text Fault kind b → IsErrAnd r (λ e. Faulty e.kind (AllocatesIn may_allocate b) (e.kind ≡ kind))
-  only_whole d (Ok x) b reads exact kind fault = absurd (whole_fault_none text Fault d none kind b fault (value x) reads)
-  only_whole d (Err e) b reads exact kind fault = faulty_first (WholeFault text Fault) (whole_fault_first text Fault d none first) e.kind kind b fault exact
+-- The same of a reader.
+pub only_refused : (Fault : ErrorKind → List ℕ → Type 0) → AreFirst Fault → (asked : List ℕ → Type 0) (e : ErrorKind) (before : Input) → length (left_in before) ≤ limit → FaultyWhole Fault asked e before
+    → (kind : ErrorKind) (c : List ℕ) → before ≡ Some c → Fault kind c → Faulty e (asked c) (e ≡ kind)
+only_refused Fault first asked e before within faulty kind c is fault = ⊎_elim inl (λ f. inr (first e kind c (rw is at within) f fault)) (faulty c is)
 
-  pub only_front : (r : Result X Error) (before after : Input) (i : List ℕ) → before ≡ Some i → length i ≤ limit → ReadsText value text may_allocate r before after → IfErr r (λ e. FaultyFront Fault may_allocate e.kind before)
-      → (kind : ErrorKind) → Fault kind i → IsErrAnd r (λ e. Faulty e.kind (AllocatesIn may_allocate i) (e.kind ≡ kind))
-  only_front (Ok x) before after i is within reads exact kind fault =
+-- What is read of the front of a reader is refused where there is a fault, by that.
+module _ {X V : Type 0} (value : X → V) (text : V → List ℕ → Type 0) (Fault : ErrorKind → List ℕ → Type 0) (may_allocate : List ℕ → Type 0) (none : AreNone (NoneIn text) Fault) (first : AreFirst Fault) where
+  pub only_front : (r : Result X Error) (before after : Input) → length (left_in before) ≤ limit → ReadsText value text may_allocate r before after → IfErr r (λ e. FaultyFront Fault may_allocate e.kind before)
+      → OnlyFront Fault may_allocate r before
+  only_front (Ok x) before after within reads exact kind i is fault =
       let some : Some i ≡ Some (reads.0 ++ reads.1) = sym is ∙ reads.2 in
       let same : i ≡ reads.0 ++ reads.1 = cc in
-      absurd ((none kind i within fault).1 (value x) reads.0 reads.1 same reads.4)
-  only_front (Err e) before after i is within reads exact kind fault = ⊎_elim inl (λ f. inr (first e.kind kind i within f fault)) (exact i is)
+      absurd ((none kind i (rw is at within) fault).1 (value x) reads.0 reads.1 same reads.4)
+  only_front (Err e) before after within reads exact kind i is fault = only_refused Fault first (AllocatesIn may_allocate) e.kind before within exact kind i is fault
 
 -- Where memory isn't asked for, it isn't wanted.
 pub not_asked : {X : Type 0} {asked : Type 0} (Fault : ErrorKind → Type 0) → (asked → ⊥) → (r : Result X Error) → IfErr r (λ e. Faulty e.kind asked (Fault e.kind)) → IfErr r (λ e. Fault e.kind)

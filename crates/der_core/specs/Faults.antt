@@ -2,7 +2,8 @@
 --
 -- Faults are said by the grammar, as texts are: of a text with a tag by those of its contents, of parts that follow one
 -- another by those of the parts. Nothing here reads: what comes before the fault is said by the grammar.
-use Rattle.std.specs.Prelude.{◌≡◌, ◌≢◌, ◌<◌, ◌≤◌, ℕ, List, ◌++◌, Some, ◌⊎◌, Err, length, slice_get}
+use Rattle.std.specs.Prelude.{◌≡◌, ◌≢◌, ◌<◌, ◌≤◌, ℕ, List, ◌++◌, Some, ◌⊎◌, Result, Err, IsErrAnd, length, slice_get}
+use Rattle.der_core.specs.declared.error.Error.{Error}
 use Rattle.der_core.specs.declared.error.ErrorKind.{ErrorKind}
 use Rattle.der_core.specs.declared.error.ErrorKind.TheVariants.{Incomplete, OutOfMemory, Overflow, TagUnexpected, TrailingData}
 use Rattle.der_core.specs.declared.tag.Tag.{Tag}
@@ -69,6 +70,10 @@ TaggedLastFault tag Text Fault kind bytes =
     ((slice_get bytes 0 ≡ Some tag.octet) × AloneFault Text Fault kind bytes)
     ⊎ ((slice_get bytes 0 ≢ Some tag.octet) × EndFault kind bytes)
 
+-- A part that is known by its tag, and may be left out: the octet of that comes next, and its text has a fault.
+abbrev pub TaggedFault : Tag → (ErrorKind → List ℕ → Type 0) → ErrorKind → List ℕ → Type 0
+TaggedFault tag Fault kind bytes = (slice_get bytes 0 ≡ Some tag.octet) × TextFault tag Fault kind bytes
+
 -- Contents of a type of which one value is expected: they have a fault, or mean another value, which is refused so.
 abbrev pub ExpectedFault : {V : Type 0} → (V → List ℕ → Type 0) → (ErrorKind → List ℕ → Type 0) → V → ErrorKind → ErrorKind → List ℕ → Type 0
 ExpectedFault {V} Contents Fault v refusal kind contents =
@@ -97,3 +102,11 @@ FaultyFront Fault may_allocate e before = (i : List ℕ) → before ≡ Some i �
 -- The same of all that is left.
 abbrev pub FaultyWhole : (ErrorKind → List ℕ → Type 0) → (List ℕ → Type 0) → ErrorKind → Input → Type 0
 FaultyWhole Fault may_allocate e before = (c : List ℕ) → before ≡ Some c → Faulty e (may_allocate c) (Fault e c)
+
+-- Of a reader that hasn't failed, all of whose bytes have a fault, the result is the refusal of that fault, and no other but want of memory.
+abbrev pub OnlyWhole : {X : Type 0} → (ErrorKind → List ℕ → Type 0) → (List ℕ → Type 0) → Result X Error → Input → Type 0
+OnlyWhole Fault asked result before = (kind : ErrorKind) (c : List ℕ) → before ≡ Some c → Fault kind c → IsErrAnd result (λ e. Faulty e.kind (asked c) (e.kind ≡ kind))
+
+-- The same, of a fault at the front of what is left.
+abbrev pub OnlyFront : {X : Type 0} → (ErrorKind → List ℕ → Type 0) → (List ℕ → Type 0) → Result X Error → Input → Type 0
+OnlyFront Fault may_allocate = OnlyWhole Fault (AllocatesIn may_allocate)

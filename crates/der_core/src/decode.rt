@@ -2,7 +2,7 @@
 ghost use Rattle.std.specs.Prelude.{◌≡◌, ℕ, List, IfErr, IsErrAnd};
 ghost use Rattle.der_core.specs.Tlv.{Tlv};
 ghost use Rattle.der_core.specs.Reading.{ReadsOrFaults, ReadsText, ReadsAll, ReadsOptional, HoldsBytes, TellsNext, NoneHas, NoneIn, AllocatesIn};
-ghost use Rattle.der_core.specs.Faults.{TextFault, WholeFault, Faulty, FaultyFront, AreNone, AreFirst};
+ghost use Rattle.der_core.specs.Faults.{TextFault, TaggedFault, WholeFault, Faulty, FaultyFront, OnlyFront, AreNone, AreFirst};
 ghost use Rattle.der_core.specs.FaultLaws.{text_fault_none, text_fault_first};
 ghost use Rattle.der_core.specs.declared.error.ErrorKind.{ErrorKind};
 
@@ -45,7 +45,8 @@ pub trait Decode<B: Octets, M: Memory>: Text + Sized + Drop {
     /// Reads the text at the front of the reader.
     fn decode<R: Reader<B>>(memory: M, reader: &mut R) -> Result<Self>
         ensures text { ReadsText Self.value Self.text may_allocate result (R.left reader.old) (R.left reader.new) }
-        ensures exact { IfErr result (λ e. FaultyFront fault may_allocate e.kind (R.left reader.old)) };
+        ensures exact { IfErr result (λ e. FaultyFront fault may_allocate e.kind (R.left reader.old)) }
+        ensures only { OnlyFront fault may_allocate result (R.left reader.old) };
 
     /// Reads a whole slice: `Overflow` past `Length::MAX`, `TrailingData` where bytes follow the text.
     fn from_der(memory: M, bytes: B) -> Result<Self>
@@ -67,18 +68,7 @@ impl<'a, M: Memory, T: DecodeValue<&'a [u8], M> + FixedTag> Decode<&'a [u8], M> 
 
     #[inline(always)]
     fn decode<R: Reader<&'a [u8]>>(memory: M, reader: &mut R) -> Result<T> {
-        let header = Header::decode(reader)?;
-        if header.tag != T::TAG {
-            return Err(reader.error(ErrorKind::TagUnexpected {
-                expected: T::TAG,
-                actual: header.tag,
-            }));
-        }
-        let mut nested = reader.nested(header.length)?;
-        match T::decode_value(memory, &mut nested, header) {
-            Ok(value) => Ok(value),
-            Err(e) => Err(reader.error(e.kind())),
-        }
+        read_text(memory, reader)
     }
 
     #[inline(always)]
@@ -92,6 +82,32 @@ impl<'a, M: Memory, T: DecodeValue<&'a [u8], M> + FixedTag> Decode<&'a [u8], M> 
     ghost fault_none = { text_fault_none T.TAG T.DecodeValue.fault T.contents T.DecodeValue.fault_none };
 
     ghost fault_first = { text_fault_first T.TAG T.DecodeValue.fault T.DecodeValue.fault_first };
+}
+
+/// Reads the text at the front of the reader.
+#[inline(always)]
+fn read_text<'a, T: DecodeValue<&'a [u8], M> + FixedTag, M: Memory, R: Reader<&'a [u8]>>(
+    memory: M,
+    reader: &mut R,
+) -> Result<T>
+    ensures text { let tag = T.TAG.octet in
+        let may = Tlv tag T.DecodeValue.may_allocate in
+        ReadsText T.value (λ v. Tlv tag (T.contents v)) may result (R.left reader.old) (R.left reader.new) }
+    ensures exact { let may = Tlv T.TAG.octet T.DecodeValue.may_allocate in
+        IfErr result (λ e. FaultyFront (TextFault T.TAG T.DecodeValue.fault) may e.kind (R.left reader.old)) }
+{
+    let header = Header::decode(reader)?;
+    if header.tag != T::TAG {
+        return Err(reader.error(ErrorKind::TagUnexpected {
+            expected: T::TAG,
+            actual: header.tag,
+        }));
+    }
+    let mut nested = reader.nested(header.length)?;
+    match T::decode_value(memory, &mut nested, header) {
+        Ok(value) => Ok(value),
+        Err(e) => Err(reader.error(e.kind())),
+    }
 }
 
 /// Whether the octet of a tag comes next. On a reader that has failed the answer is `Failed`.
@@ -113,6 +129,8 @@ pub fn decode_optional<'a, T: DecodeValue<&'a [u8], M> + FixedTag, M: Memory, R:
         ReadsOptional tag T.value (λ v. Tlv tag (T.contents v)) may result (R.left reader.old) (R.left reader.new) }
     ensures exact { let may = Tlv T.TAG.octet T.DecodeValue.may_allocate in
         IfErr result (λ e. FaultyFront (TextFault T.TAG T.DecodeValue.fault) may e.kind (R.left reader.old)) }
+    ensures only { let may = Tlv T.TAG.octet T.DecodeValue.may_allocate in
+        OnlyFront (TaggedFault T.TAG T.DecodeValue.fault) may result (R.left reader.old) }
 {
     if !is_tag_next(reader, T::TAG)? {
         return Ok(None);

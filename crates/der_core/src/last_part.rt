@@ -1,6 +1,6 @@
 //! The last part of contents: one text, or an OPTIONAL one.
 ghost use Rattle.std.specs.Prelude.{◌≡◌, ◌≤◌, length, None, IsErrAnd, IfErr};
-ghost use Rattle.der_core.specs.Faults.{AloneFault, LastFault, FaultyWhole};
+ghost use Rattle.der_core.specs.Faults.{AloneFault, LastFault, FaultyWhole, OnlyWhole};
 ghost use Rattle.std.specs.Option.{option_map};
 ghost use Rattle.der_core.specs.Length.{limit};
 ghost use Rattle.der_core.specs.BackWriters.{free_of, Prepends};
@@ -28,6 +28,8 @@ pub fn decode_whole<'a, T: Decode<&'a [u8], M>, M: Memory, R: Reader<&'a [u8]>>(
         ReadsContents T.value T.text may result (R.left reader.old) (R.left reader.new) }
     ensures exact { let may = AllocatesIn T.Decode.may_allocate in
         IfErr result (λ e. FaultyWhole (AloneFault T.text T.Decode.fault) may e.kind (R.left reader.old)) }
+    ensures only { let may = AllocatesIn T.Decode.may_allocate in
+        OnlyWhole (AloneFault T.text T.Decode.fault) may result (R.left reader.old) }
     ensures failed { R.left reader.old ≡ None → IsErrAnd result (λ e. e.kind ≡ ErrorKind.Failed) }
 {
     let value = T::decode(memory, reader)?;
@@ -46,6 +48,8 @@ pub fn decode_last<'a, T: Decode<&'a [u8], M>, M: Memory, R: Reader<&'a [u8]>>(
         ReadsContents (option_map T.value) (Optional T.text) may result (R.left reader.old) (R.left reader.new) }
     ensures exact { let may = AllocatesLast T.Decode.may_allocate in
         IfErr result (λ e. FaultyWhole (LastFault T.text T.Decode.fault) may e.kind (R.left reader.old)) }
+    ensures only { let may = AllocatesLast T.Decode.may_allocate in
+        OnlyWhole (LastFault T.text T.Decode.fault) may result (R.left reader.old) }
     ensures failed { R.left reader.old ≡ None → IsErrAnd result (λ e. e.kind ≡ ErrorKind.Failed) }
 {
     if reader.peek_octet().is_none() {

@@ -18,6 +18,7 @@ mod error;
 mod header;
 mod integer;
 mod last_part;
+mod laws;
 mod length;
 mod memory;
 mod octet_string;
@@ -41,6 +42,10 @@ pub use error::{Error, ErrorKind, Result};
 pub use header::Header;
 pub use integer::{AsUintRef, Uint, UintRef};
 pub use last_part::{decode_last, decode_whole, encode_optional, optional_len, prepend_optional};
+pub use laws::{
+    clones_hold_the_same, kinds_are_told_apart, lengths_compare_by_number,
+    tag_numbers_compare_by_number,
+};
 pub use length::Length;
 pub use memory::{Memory, NoMemory};
 pub use octet_string::{OctetStringRef, OctetStringTag};

@@ -12,7 +12,7 @@ use Rattle.der_core.specs.Input.{Input}
 use Rattle.der_core.specs.declared.tag.Tag.{Tag}
 use Rattle.der_core.specs.TagLaws.{same_tag}
 use Rattle.der_core.specs.Tlv.{Tlv}
-use Rattle.der_core.specs.Faults.{TextFault, WholeFault, Faulty, FaultyFront, AreNone, AreFirst}
+use Rattle.der_core.specs.Faults.{TextFault, WholeFault, Faulty, FaultyFront, OnlyFront, AreNone, AreFirst}
 use Rattle.der_core.specs.Length.{limit}
 use Rattle.der_core.specs.Reading.{ReadsAll, ReadsOrFaults, Refuses, AllocatesIn, NoneHas}
 use Rattle.der_core.specs.Sequences.{TextFails, TextGives, some_same}
@@ -48,6 +48,13 @@ at_tag (Err e) Fault may_allocate n tag before is fault =
     let P : ℕ → Type 0 = λ o. FaultyFront (TextFault tag Fault) (Tlv o may_allocate) e.kind before in
     let Q : Tag → Type 0 = λ u. FaultyFront (TextFault u Fault) (Tlv (160 + n) may_allocate) e.kind before in
     subst Q (same_tag tag t (is ∙ sym at)) (subst P is fault)
+
+pub only_at_tag : {X : Type 0} (r : Result X Error) (Fault : ErrorKind → List ℕ → Type 0) (may_allocate : List ℕ → Type 0) (n : ℕ) (tag : Tag) (before : Input) → tag.octet ≡ 160 + n
+    → OnlyFront (TextFault tag Fault) (Tlv tag.octet may_allocate) r before → (t : Tag) → t.octet ≡ 160 + n → OnlyFront (TextFault t Fault) (Tlv (160 + n) may_allocate) r before
+only_at_tag r Fault may_allocate n tag before is only t at =
+    let P : ℕ → Type 0 = λ o. OnlyFront (TextFault tag Fault) (Tlv o may_allocate) r before in
+    let Q : Tag → Type 0 = λ u. OnlyFront (TextFault u Fault) (Tlv (160 + n) may_allocate) r before in
+    subst Q (same_tag tag t (is ∙ sym at)) (subst P is only)
 
 -- Contents with a fault are those of no value.
 pub refused_by_fault : {X V : Type 0} (tag t : ℕ) (contents : V → List ℕ → Type 0) (Fault : ErrorKind → List ℕ → Type 0) (value : X → V) (may_allocate : List ℕ → Type 0) (r : Result X Error) (before after : Input) (c : List ℕ)

@@ -49,6 +49,13 @@ field_told n Fault may_allocate e before mid (i, is, at, told) fault t octet j h
     let same : i ≡ j = some_same i j (sym is ∙ here) in
     ⊎_elim inl (λ f. inr (is_next j n (rw same at (told.0 refl)), f)) (fault t octet j (at ∙ ap (λ l. Some l) same))
 
+-- Where the answer is no, the octet of the field isn't next.
+pub not_next : (n : ℕ) (before mid : Input) (i : List ℕ) → TellsNext (160 + n) (Ok false) before mid → before ≡ Some i → IsNext n i → ⊥
+not_next n before mid i (j, is, at, told) here (rest, e) =
+    let same : j ≡ i = some_same j i (sym is ∙ here) in
+    let no : false ≡ true = told.1 (ap (λ l. slice_get l 0) (same ∙ e)) in
+    cc
+
 pub field_faulty : {X : Type 0} (r : Result X Error) (n : ℕ) (Fault : Tag → ErrorKind → List ℕ → Type 0) (may_allocate : List ℕ → Type 0) (before mid : Input) → TellsNext (160 + n) (Ok true) before mid
     → IfErr r (λ e. (t : Tag) → t.octet ≡ 160 + n → FaultyFront (Fault t) may_allocate e.kind mid) → IfErr r (λ e. (t : Tag) → t.octet ≡ 160 + n → FaultyFront (NextFault n (Fault t)) may_allocate e.kind before)
 field_faulty (Ok x) n Fault may_allocate before mid next fault = tt

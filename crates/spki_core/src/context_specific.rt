@@ -3,7 +3,7 @@ ghost use Rattle.std.specs.Prelude.{IfErr, ◌≡◌, ◌+◌};
 ghost use Rattle.der_core.specs.Tag.{context_tag};
 ghost use Rattle.der_core.specs.Tlv.{Tlv};
 ghost use Rattle.der_core.specs.declared.tag.Tag.{Tag};
-ghost use Rattle.der_core.specs.Faults.{TextFault, AloneFault, FaultyFront};
+ghost use Rattle.der_core.specs.Faults.{TextFault, AloneFault, FaultyFront, OnlyFront};
 ghost use Rattle.der_core.specs.Reading.{ReadsText, ReadsOptional, AllocatesIn, TellsNext};
 ghost use Rattle.spki_core.specs.Allocating.{FieldAllocates};
 ghost use Rattle.spki_core.specs.Faults.{NextFault};
@@ -97,6 +97,9 @@ pub fn read_context_specific<'a, T: Decode<&'a [u8], M>, M: Memory, R: Reader<&'
         let fault = λ (tag : Tag). NextFault number.value (TextFault tag (AloneFault T.text T.Decode.fault)) in
         IfErr result (λ e. (tag : Tag) → tag.octet ≡ context_tag number.value
         → FaultyFront (fault tag) may e.kind (R.left reader.old)) }
+    ensures only { let may = FieldAllocates number.value T.Decode.may_allocate in
+        let fault = λ (tag : Tag). NextFault number.value (TextFault tag (AloneFault T.text T.Decode.fault)) in
+        (tag : Tag) → tag.octet ≡ context_tag number.value → OnlyFront (fault tag) may result (R.left reader.old) }
 {
     if !is_field_next(reader, number)? {
         return Ok(None);
@@ -117,6 +120,9 @@ pub fn read_explicit<'a, T: Decode<&'a [u8], M>, M: Memory, R: Reader<&'a [u8]>>
     ensures exact { let may = FieldAllocates number.value T.Decode.may_allocate in
         IfErr result (λ e. (tag : Tag) → tag.octet ≡ context_tag number.value
         → FaultyFront (TextFault tag (AloneFault T.text T.Decode.fault)) may e.kind (R.left reader.old)) }
+    ensures only { let may = FieldAllocates number.value T.Decode.may_allocate in
+        let fault = λ (tag : Tag). TextFault tag (AloneFault T.text T.Decode.fault) in
+        (tag : Tag) → tag.octet ≡ context_tag number.value → OnlyFront (fault tag) may result (R.left reader.old) }
 {
     read_inside(memory, reader, Tag::context(number))
 }

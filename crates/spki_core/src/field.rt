@@ -5,7 +5,7 @@ ghost use Rattle.der_core.specs.BackWriters.{free_of, Prepends};
 ghost use Rattle.der_core.specs.Writing.{Counts, Appends};
 ghost use Rattle.der_core.specs.declared.tag.Tag.{Tag};
 ghost use Rattle.der_core.specs.Tag.{context_tag};
-ghost use Rattle.der_core.specs.Faults.{TextFault, AloneFault, FaultyFront};
+ghost use Rattle.der_core.specs.Faults.{TextFault, AloneFault, FaultyFront, OnlyFront};
 ghost use Rattle.spki_core.specs.Allocating.{FieldAllocates};
 ghost use Rattle.spki_core.specs.Faults.{NextFault};
 ghost use Rattle.spki_core.specs.FieldReading.{ReadsField};
@@ -30,6 +30,9 @@ pub fn read_field<'a, T: Decode<&'a [u8], M>, M: Memory, R: Reader<&'a [u8]>>(
         let fault = λ (tag : Tag). NextFault number.value (TextFault tag (AloneFault T.text T.Decode.fault)) in
         IfErr result (λ e. (tag : Tag) → tag.octet ≡ context_tag number.value
         → FaultyFront (fault tag) may e.kind (R.left reader.old)) }
+    ensures only { let may = FieldAllocates number.value T.Decode.may_allocate in
+        let fault = λ (tag : Tag). NextFault number.value (TextFault tag (AloneFault T.text T.Decode.fault)) in
+        (tag : Tag) → tag.octet ≡ context_tag number.value → OnlyFront (fault tag) may result (R.left reader.old) }
     ensures failed { R.left reader.old ≡ None → IsErrAnd result (λ e. e.kind ≡ ErrorKind.Failed) }
 {
     if is_field_next(reader, number)? {

@@ -1,4 +1,4 @@
-use Rattle.std.proofs.Common.{◌++◌, take, ap, arith, length-append, length-take, inr}
+use Rattle.std.proofs.Common.{◌++◌, ◌∙◌, take, ap, arith, length-append, length-take, inr}
 use Rattle.std.proofs.KnownBytes.{Consumes-trans}
 use Rattle.der_core.proofs.carry.read_all.Goals as goal
 
@@ -8,6 +8,7 @@ returns-then-count-to_usize-clause-err g c =
     let kind = c.new-then-count-to_usize.ensures in
     inr (inr (
       ap (λ e. e.kind) kind,
+      c.in-Ok.ensures.faults ∙ c.loop-count.invariant.faults,
       (
         c.loop-count.bytes.items ++ last,
         Consumes-trans _ _ _ _ _ c.loop-count.invariant.came c.in-Ok.ensures.bytes.0,

@@ -2,7 +2,7 @@ use Rattle.std.proofs.Common.{◌+◌}
 use Rattle.std.proofs.lemmas.Result.{err_from_is_err_and}
 use Rattle.der_core.specs.Faults.{TextFault, AloneFault}
 use Rattle.der_core.specs.Tlv.{Tlv}
-use Rattle.der_core.proofs.HeaderAndContents.{next_refused}
+use Rattle.der_core.proofs.HeaderAndContents.{next_refused, next_stays}
 use Rattle.spki_core.specs.Allocating.{FieldAllocates}
 use Rattle.spki_core.proofs.FieldReads.{field_told}
 use Rattle.spki_core.proofs.context_specific.read_context_specific.Goals as goal
@@ -18,3 +18,11 @@ returns-in_err-value-clause-exact g c =
     let p = err_from_is_err_and c.from_residual-in_err-value.result c.from_residual-in_err-value.ensures.1 in
     rw (p.1, p.2)
     (field_told c.args.number.value (λ t. TextFault t (AloneFault g.T.Text.text g.T.Decode.fault)) (FieldAllocates c.args.number.value g.T.Decode.may_allocate) _ _ _ (rw c.if-not-branch.false at c.in_ok-is_field_next.ensures) c.in_err-value.ensures.exact)
+
+pub returns-in_err-value-clause-only : goal.returns-in_err-value-clause-only
+returns-in_err-value-clause-only g c tag octet kind i is fault =
+    let p = err_from_is_err_and c.from_residual-in_err-value.result c.from_residual-in_err-value.ensures.1 in
+    rw (p.1, p.2) (c.in_err-value.ensures.only tag octet kind i (next_stays _ _ _ _ i c.in_ok-is_field_next.ensures is) fault.1)
+
+pub returns-clause-only : goal.returns-clause-only
+returns-clause-only g c tag octet kind i is fault = c.in_ok-value.ensures.only tag octet kind i (next_stays _ _ _ _ i c.in_ok-is_field_next.ensures is) fault.1

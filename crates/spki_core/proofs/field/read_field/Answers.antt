@@ -1,5 +1,6 @@
+use Rattle.der_core.proofs.HeaderAndContents.{next_stays}
 use Rattle.spki_core.proofs.Carried.{itself_carried}
-use Rattle.spki_core.proofs.FieldReads.{field_present, field_faulty}
+use Rattle.spki_core.proofs.FieldReads.{field_present, field_faulty, not_next}
 use Rattle.der_core.specs.Faults.{TextFault, AloneFault}
 use Rattle.spki_core.specs.Allocating.{FieldAllocates}
 use Rattle.spki_core.proofs.field.read_field.Goals as goal
@@ -11,3 +12,9 @@ returns-then-branch-clause-reads g c =
 pub returns-then-branch-clause-exact : goal.returns-then-branch-clause-exact
 returns-then-branch-clause-exact g c =
     field_faulty c.read_explicit.result c.args.number.value (λ t. TextFault t (AloneFault g.T.Text.text g.T.Decode.fault)) (FieldAllocates c.args.number.value g.T.Decode.may_allocate) _ (g.R.BytesLeft.left c.is_field_next.new.reader) (rw c.if-branch.true at c.in_ok-is_field_next.ensures) c.read_explicit.ensures.exact
+
+pub returns-then-branch-clause-only : goal.returns-then-branch-clause-only
+returns-then-branch-clause-only g c tag octet kind i is fault = c.read_explicit.ensures.only tag octet kind i (next_stays _ _ _ _ i c.in_ok-is_field_next.ensures is) fault.1
+
+pub returns-else-branch-clause-only : goal.returns-else-branch-clause-only
+returns-else-branch-clause-only g c tag octet kind i is fault = absurd (not_next c.args.number.value _ _ i (rw c.if-branch.false at c.in_ok-is_field_next.ensures) is fault.0)

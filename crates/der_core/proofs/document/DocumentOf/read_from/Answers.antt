@@ -9,7 +9,8 @@ use Rattle.der_core.proofs.document.DocumentOf.read_from.Goals as goal
 pub returns-in_err-from_der-clause-reads : goal.returns-in_err-from_der-clause-reads
 returns-in_err-from_der-clause-reads g c =
     let p = err_from_is_err_and c.from_residual-in_err-from_der.result c.from_residual-in_err-from_der.ensures.1 in
-    rw (p.1, p.2) (inr (none_given _ _ _ _ _ c.as_slice.ensures.value c.in_ok-bytes.ensures.all (no_document _ _ c.in_err-from_der.ensures.text) (document_faulty _ _ c.in_err-from_der.ensures.exact)))
+    let none = no_document _ _ c.in_err-from_der.ensures.text in
+    rw (p.1, p.2) (inr (none.0, c.in_ok-bytes.ensures.same, none_given _ _ _ _ _ c.as_slice.ensures.value c.in_ok-bytes.ensures.all none.1 (document_faulty _ _ c.in_err-from_der.ensures.exact)))
 
 pub returns-in_err-bytes-clause-only : goal.returns-in_err-bytes-clause-only
 returns-in_err-bytes-clause-only g c kind bytes is fault =

@@ -21,3 +21,14 @@ returns-in_err-any-clause-exact g c =
 
 pub returns-in-Err-clause-exact : goal.returns-in-Err-clause-exact
 returns-in-Err-clause-exact g c = copied_faults Any AnyFault _ _ _ _ c.in_ok-any.ensures.text (c.error.ensures.value ∙ c.kind.ensures ∙ c.in-Err.ensures.err)
+
+pub returns-in_err-any-clause-only : goal.returns-in_err-any-clause-only
+returns-in_err-any-clause-only g c kind i is fault =
+    let p = err_from_is_err_and c.from_residual.result c.from_residual.ensures.1 in
+    rw (p.1, p.2) (⊎_elim (λ w. absurd w.1.3) inr (c.in_err-any.ensures.only kind i is fault))
+
+pub returns-in-Err-clause-only : goal.returns-in-Err-clause-only
+returns-in-Err-clause-only g c kind i is fault = absurd (c.in_ok-any.ensures.only kind i is fault)
+
+pub returns-in-Ok-clause-only : goal.returns-in-Ok-clause-only
+returns-in-Ok-clause-only g c kind i is fault = absurd (c.in_ok-any.ensures.only kind i is fault)

@@ -1,0 +1,44 @@
+//! What comparing and copying promise: functions that do nothing, each with a law as its contract.
+ghost use Rattle.std.specs.Prelude.{◌≡◌, ℕ, true, false};
+ghost use Rattle.std.specs.Bool.{Decides};
+ghost use Rattle.std.specs.Ordering.{nat_cmp};
+ghost use Rattle.der_core.specs.OctetStringRefValue.{octets_of};
+ghost use Rattle.der_core.specs.Tags.{integer, sequence};
+ghost use Rattle.der_core.specs.UintRefValue.{bytes_of};
+ghost use Rattle.der_core.specs.declared.error.ErrorKind as kinds;
+ghost use Rattle.der_core.specs.declared.integer.uint.UintRef as numbers;
+ghost use Rattle.der_core.specs.declared.octet_string.OctetStringRef as strings;
+ghost use Rattle.der_core.specs.declared.tag.TagNumber as tags;
+
+use crate::error::{Error, ErrorKind};
+use crate::integer::UintRef;
+use crate::length::Length;
+use crate::octet_string::OctetStringRef;
+use crate::tag::TagNumber;
+
+/// Lengths are compared by their numbers.
+pub fn lengths_compare_by_number()
+    ensures order { (a b : ℕ) → ⟦<Length as Ord>⟧.cmp a b ≡ nat_cmp a b }
+    ensures equal { (a b : ℕ) → Decides (⟦<Length as PartialEq>⟧.eq a b) (a ≡ b) }
+{}
+
+/// Numbers of tags are equal exactly where they are the same number.
+pub fn tag_numbers_compare_by_number()
+    ensures { (a b : tags.TagNumber) → Decides (⟦<TagNumber as PartialEq>⟧.eq a b) (a.value ≡ b.value) }
+{}
+
+/// Each kind of refusal equals itself; two kinds, and two tags in one kind, are told apart.
+pub fn kinds_are_told_apart()
+    ensures same { (a : kinds.ErrorKind) → ⟦<ErrorKind as PartialEq>⟧.eq a a ≡ true }
+    ensures kind { ⟦<ErrorKind as PartialEq>⟧.eq ErrorKind.Failed ErrorKind.Incomplete ≡ false }
+    ensures tag { ⟦<ErrorKind as PartialEq>⟧.eq (ErrorKind.Value integer) (ErrorKind.Value sequence) ≡ false }
+    ensures whole { ⟦<Error as PartialEq>⟧.eq (record { kind = ErrorKind.NoRoom }) (record { kind = ErrorKind.File })
+        ≡ false }
+{}
+
+/// A clone of what borrows holds the same.
+pub fn clones_hold_the_same()
+    ensures number { (a b : numbers.UintRef) → ⟦<UintRef<'static> as Clone>⟧.is_clone a b → bytes_of b ≡ bytes_of a }
+    ensures octets { (a b : strings.OctetStringRef)
+        → ⟦<OctetStringRef<'static> as Clone>⟧.is_clone a b → octets_of b ≡ octets_of a }
+{}
