@@ -1,6 +1,6 @@
 -- Steps of the test for identifiers.
 use Rattle.std.specs.Prelude.{Bool, true, false, ◌==◌, nat_lt, ◌&&◌}
-use Rattle.std.proofs.Common.{ℕ, List, ◌∷◌, ◌≡◌, ◌≢◌, ◌<◌, ◌+◌, ◌⊎◌, inl, inr, length, drop, get_or, refl, ◌∙◌, arith}
+use Rattle.std.proofs.Common.{ℕ, zero, suc, List, [], ◌∷◌, ◌≡◌, ◌≢◌, ◌<◌, ◌+◌, ◌⊎◌, inl, inr, length, take, drop, get_or, slice_index, refl, ◌∙◌, arith}
 use Rattle.std.proofs.lemmas.List.{at_drop_more}
 use Rattle.std.proofs.lemmas.Bool.Decides.{nat_tests}
 use Rattle.spki_core.specs.IdentifierTest.{ends_well, is_identifier}
@@ -26,3 +26,10 @@ stops c i start l s e is =
     nothing true true = refl
     nothing true false = refl
     nothing false b = refl
+
+-- What is taken of octets are octets.
+pub taken_bytes : (n : ℕ) (xs : List ℕ) → ((i : ℕ) → slice_index xs i < 256) → (i : ℕ) → slice_index (take n xs) i < 256
+taken_bytes zero xs h i = omega arith
+taken_bytes (suc n) [] h i = h i
+taken_bytes (suc n) (x ∷ xs) h zero = h 0
+taken_bytes (suc n) (x ∷ xs) h (suc i) = taken_bytes n xs (λ k. h (suc k)) i

@@ -2,9 +2,10 @@
 use Rattle.std.specs.Option.{option_map}
 use Rattle.spki_core.specs.declared.any.AnyRef.{AnyRef}
 use Rattle.spki_core.specs.declared.algorithm_identifier.AlgorithmIdentifier.{AlgorithmIdentifier}
+use Rattle.spki_core.specs.declared.algorithm_view.AlgorithmView.{AlgorithmView}
 use Rattle.spki_core.specs.Any.{TagAndContents}
 use Rattle.spki_core.specs.AnyRefValue.{any_of}
-use Rattle.spki_core.specs.ObjectIdentifierValue.{octets_of}
+use Rattle.spki_core.specs.ObjectIdentifierValue.{octets_of, octets_in}
 use Rattle.spki_core.specs.AlgorithmIdentifier.{Algorithm}
 
 abbrev pub algorithm_with : {X V : Type 0} → (X → V) → AlgorithmIdentifier X → Algorithm V
@@ -17,3 +18,7 @@ algorithm_of = algorithm_with any_of
 -- with a borrowed identifier as parameters
 abbrev pub mask_of : AlgorithmIdentifier (AlgorithmIdentifier AnyRef) → Algorithm (Algorithm TagAndContents)
 mask_of = algorithm_with algorithm_of
+
+-- over the octets of its identifier
+abbrev pub viewed_with : {X V : Type 0} → (X → V) → AlgorithmView X → Algorithm V
+viewed_with value a = record { oid = octets_in a.oid; parameters = option_map value a.parameters }

@@ -77,6 +77,7 @@ impl<'b, T: Encode> Encode for ContextSpecificRef<'b, T> {
 }
 
 /// Whether the octet of a field's tag comes next: `Failed` on a reader that has failed.
+#[inline(always)]
 pub fn is_field_next<'a, R: Reader<&'a [u8]>>(reader: &mut R, number: TagNumber) -> Result<bool>
     ensures { TellsNext (context_tag number.value) result (R.left reader.old) (R.left reader.new) }
 {
@@ -109,6 +110,7 @@ pub fn read_context_specific<'a, T: Decode<&'a [u8], M>, M: Memory, R: Reader<&'
 }
 
 /// Reads one text inside the tag of a field.
+#[inline(always)]
 pub fn read_explicit<'a, T: Decode<&'a [u8], M>, M: Memory, R: Reader<&'a [u8]>>(
     memory: M,
     reader: &mut R,
@@ -128,6 +130,7 @@ pub fn read_explicit<'a, T: Decode<&'a [u8], M>, M: Memory, R: Reader<&'a [u8]>>
 }
 
 /// Reads one text inside a tag.
+#[inline(always)]
 fn read_inside<'a, T: Decode<&'a [u8], M>, M: Memory, R: Reader<&'a [u8]>>(
     memory: M,
     reader: &mut R,

@@ -10,6 +10,7 @@ ghost use Rattle.std.specs.Cmp.Rules.{comparing, hashing};
 ghost use Rattle.der_core.specs.Tags.{object_identifier};
 ghost use Rattle.der_core.specs.Reading.{ReadsContents, HoldsBytes};
 
+use crate::identifier_view::IdentifierView;
 use der_core::{
     BackWriter, Contents, DecodeValue, EncodeValue, EqualByValue, Error, ErrorKind, Header, Length,
     Memory, Reader, Result, Tag, TagMarker, TaggedBy, Writer,
@@ -27,7 +28,7 @@ pub struct ObjectIdentifier {
 }
 
 /// Whether the octets are one or more whole subidentifiers, of at most 39 octets together.
-fn is_identifier(octets: &[u8]) -> bool
+pub(crate) fn is_identifier(octets: &[u8]) -> bool
     ensures { result ≡ specs.is_identifier octets.now }
 {
     let mut start = true;
@@ -56,10 +57,10 @@ pub trait AssociatedOid {
 }
 
 impl ObjectIdentifier {
-    ghost use Rattle.spki_core.specs.ObjectIdentifierValue.{octets_of};
+    ghost use Rattle.spki_core.specs.ObjectIdentifierValue.{octets_of, octets_in};
 
     /// The identifier with these contents.
-    fn new(bytes: &[u8]) -> ObjectIdentifier
+    pub(crate) fn new(bytes: &[u8]) -> ObjectIdentifier
         requires { IsTrue (specs.is_identifier bytes.now) }
         ensures { octets_of result ≡ bytes.now }
     {
@@ -88,6 +89,25 @@ impl ObjectIdentifier {
         ensures valid { IsIdentifier (octets_of self.now) }
     {
         &self.octets[..self.length as usize]
+    }
+
+    /// The identifier whose contents octets are the first ones of these, the others zeros: it takes no copying of a length
+    /// that is known only when it runs.
+    #[inline(always)]
+    pub fn padded(octets: [u8; 39], length: u8) -> ObjectIdentifier
+        requires fits { length ≤ 39 }
+        requires valid { IsTrue (specs.is_identifier (take length octets)) }
+        ensures { octets_of result ≡ take length octets }
+    {
+        ObjectIdentifier { octets, length }
+    }
+
+    /// The same, borrowed.
+    #[inline(always)]
+    pub fn as_view(&self) -> IdentifierView<'_>
+        ensures { octets_in result ≡ octets_of self.now }
+    {
+        IdentifierView::over(self.as_bytes())
     }
 
     /// The identifier of an algorithm.

@@ -1,0 +1,70 @@
+//! Hash functions, mask generation functions and sources over the octets that were read.
+ghost use Rattle.std.specs.Prelude.{◌≡◌, []};
+ghost use Rattle.spki_core.specs.AlgorithmValue.{algorithm_of, mask_of, viewed_with};
+ghost use Rattle.spki_core.specs.AnyRefValue.{any_of};
+ghost use Rattle.pkcs1_params.specs.Parameters.{with_parameters, sha1, mgf1_sha1, empty_label};
+
+use crate::hash_fields::{MaskGenRef, Mgf1, Sha1};
+use crate::p_source::PSpecified;
+use der_core::{NoMemory, Tag};
+use spki_core::{
+    AlgorithmIdentifier, AlgorithmView, AnyParams, AnyRef, AssociatedOid, IdentifierView,
+};
+
+/// A hash function or a source.
+pub(crate) type PlainView<'a> = AlgorithmView<'a, AnyRef<'a>>;
+
+/// A mask generation function.
+pub(crate) type MaskGenView<'a> = AlgorithmView<'a, PlainView<'a>>;
+
+/// D with a tag that has no contents octet.
+#[inline(always)]
+fn view_with<'a, D: AssociatedOid>(tag: Tag) -> PlainView<'a>
+    ensures { viewed_with any_of result ≡ with_parameters D.contents (record { tag = tag.octet; contents = [] }) }
+{
+    AlgorithmView {
+        oid: IdentifierView::of::<D>(),
+        parameters: Some(AnyRef::empty(NoMemory, tag)),
+    }
+}
+
+/// SHA-1 with NULL.
+#[inline(always)]
+pub(crate) fn sha1_view<'a>() -> PlainView<'a>
+    ensures { viewed_with any_of result ≡ sha1 }
+{
+    view_with::<Sha1>(Tag::NULL)
+}
+
+/// MGF1 with (SHA-1 with NULL).
+#[inline(always)]
+pub(crate) fn mgf1_view<'a>() -> MaskGenView<'a>
+    ensures { viewed_with (viewed_with any_of) result ≡ mgf1_sha1 }
+{
+    AlgorithmView {
+        oid: IdentifierView::of::<Mgf1>(),
+        parameters: Some(sha1_view()),
+    }
+}
+
+/// The source of the empty label.
+#[inline(always)]
+pub(crate) fn empty_view<'a>() -> PlainView<'a>
+    ensures { viewed_with any_of result ≡ empty_label }
+{
+    view_with::<PSpecified>(Tag::OCTET_STRING)
+}
+
+/// The same, with identifiers of its own.
+#[inline(always)]
+pub(crate) fn keep_mask_gen<'a>(mask_gen: MaskGenView<'a>) -> MaskGenRef<'a>
+    ensures { mask_of result ≡ viewed_with (viewed_with any_of) mask_gen }
+{
+    AlgorithmIdentifier {
+        oid: mask_gen.oid.keep(),
+        parameters: match mask_gen.parameters {
+            Some(hash) => Some(hash.keep()),
+            None => None,
+        },
+    }
+}

@@ -1,0 +1,106 @@
+//! Algorithm identifiers over the octets that were read.
+ghost use Rattle.std.specs.Prelude.{◌≡◌};
+ghost use Rattle.spki_core.specs.Allocating.{AllocatesForParameters};
+ghost use Rattle.spki_core.specs.AlgorithmIdentifier.{Algorithm, AlgorithmContents, HasAlgorithm, written_algorithm};
+ghost use Rattle.spki_core.specs.AlgorithmLaws.{algorithm_means_one, algorithm_of_bytes, algorithm_relates, algorithm_shortest};
+
+use crate::algorithm_identifier::AlgorithmIdentifier;
+use crate::identifier_view::IdentifierView;
+use der_core::{
+    BackWriter, Contents, Decode, DecodeValue, Encode, EncodeValue, Header, Length, Memory, Reader,
+    Result, SequenceTag, TaggedBy, Text, Writer, decode_last, encode_optional, joined_len,
+    optional_len, prepend_optional,
+};
+
+/// An algorithm identifier over the contents octets of its identifier, which only `keep` copies.
+#[derive(Clone, Copy, Drop)]
+pub struct AlgorithmView<'a, P> {
+    /// Which algorithm it is.
+    pub oid: IdentifierView<'a>,
+    /// What the algorithm is given, as in `AlgorithmIdentifier`.
+    pub parameters: Option<P>,
+}
+
+impl<'a, P> AlgorithmView<'a, P> {
+    ghost use Rattle.spki_core.specs.ObjectIdentifierValue.{octets_of, octets_in};
+
+    /// The same, with an identifier of its own.
+    #[inline(always)]
+    pub fn keep(self) -> AlgorithmIdentifier<P>
+        ensures oid { octets_of result.oid ≡ octets_in self.entry.oid }
+        ensures parameters { result.parameters ≡ self.entry.parameters }
+    {
+        AlgorithmIdentifier {
+            oid: self.oid.keep(),
+            parameters: self.parameters,
+        }
+    }
+}
+
+impl<P: Text> Contents for AlgorithmView<'_, P> {
+    ghost use Rattle.spki_core.specs.AlgorithmValue.{viewed_with};
+
+    ghost Value = { Algorithm P.Value };
+
+    ghost value = { viewed_with P.value };
+
+    ghost contents = { AlgorithmContents P.text };
+
+    ghost has_contents = { HasAlgorithm P.has_text };
+
+    ghost written_contents = { written_algorithm P.written_text };
+
+    ghost means_one = { algorithm_means_one P.text P.delimited };
+
+    ghost contents_of_bytes = { algorithm_of_bytes P.text P.text_of_bytes };
+}
+
+impl<P> TaggedBy for AlgorithmView<'_, P> {
+    type Marker = SequenceTag;
+}
+
+impl<'a, M: Memory, P: Decode<&'a [u8], M>> DecodeValue<&'a [u8], M> for AlgorithmView<'a, P> {
+    ghost use Rattle.spki_core.specs.Faults.{AlgorithmFault};
+    ghost use Rattle.spki_core.specs.FaultLaws.{algorithm_fault_none, algorithm_fault_first};
+
+    ghost may_allocate = { AllocatesForParameters P.Decode.may_allocate };
+
+    ghost fault = { AlgorithmFault P.text P.Decode.fault };
+
+    #[inline(always)]
+    fn decode_value<R: Reader<&'a [u8]>>(
+        memory: M,
+        reader: &mut R,
+        _header: Header,
+    ) -> Result<AlgorithmView<'a, P>> {
+        let oid = IdentifierView::decode(memory, reader)?;
+        let parameters = decode_last(memory, reader)?;
+        Ok(AlgorithmView { oid, parameters })
+    }
+
+    ghost fault_none = { algorithm_fault_none P.text P.Decode.fault P.delimited P.Decode.fault_none };
+
+    ghost fault_first = { let none = P.Decode.fault_none in
+        algorithm_fault_first P.text P.Decode.fault P.delimited none P.Decode.fault_first };
+}
+
+impl<P: Encode> EncodeValue for AlgorithmView<'_, P> {
+    fn value_len(&self) -> Result<Length> {
+        joined_len(self.oid.encoded_len(), optional_len(&self.parameters))
+    }
+
+    fn encode_value<W: Writer>(&self, writer: &mut W) -> Result<()> {
+        self.value_len()?;
+        self.oid.encode(writer)?;
+        encode_optional(&self.parameters, writer)
+    }
+
+    fn prepend_value(&self, writer: &mut BackWriter<'_>) {
+        prepend_optional(&self.parameters, writer);
+        self.oid.prepend(writer);
+    }
+
+    ghost contents_relate = { algorithm_relates P.text P.has_text P.written_text P.text_relates };
+
+    ghost contents_shortest = { algorithm_shortest P.text P.has_text P.written_text P.text_shortest };
+}

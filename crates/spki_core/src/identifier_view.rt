@@ -1,0 +1,137 @@
+//! Object identifiers over the octets that were read.
+ghost use Rattle.std.specs.Prelude.{◌≡◌, ℕ, ◌<◌, List, slice_index, IsTrue, IfOk, IfErr};
+ghost use Rattle.spki_core.specs.IdentifierTest as specs;
+ghost use Rattle.spki_core.specs.ObjectIdentifier.{IsIdentifier, IdentifierContents};
+ghost use Rattle.spki_core.specs.IdentifierLaws.{identifier_means_one, identifier_contents_of_bytes, identifier_contents_relate, identifier_contents_shortest};
+
+use crate::object_identifier::{
+    AssociatedOid, ObjectIdentifier, ObjectIdentifierTag, is_identifier,
+};
+use der_core::{
+    BackWriter, Contents, DecodeValue, EncodeValue, Error, ErrorKind, Header, Length, Memory,
+    Reader, Result, TaggedBy, Writer,
+};
+
+/// An object identifier over its contents octets, which only `keep` copies.
+#[derive(Clone, Copy, Drop)]
+pub struct IdentifierView<'a> {
+    octets: &'a [u8],
+    ghost valid: { IsTrue (specs.is_identifier octets.now) },
+    ghost bytes: { (i : ℕ) → slice_index octets.now i < 256 },
+}
+
+impl<'a> IdentifierView<'a> {
+    ghost use Rattle.spki_core.specs.ObjectIdentifierValue.{octets_of, octets_in};
+
+    /// Over contents octets that are known to be an identifier's.
+    #[inline(always)]
+    pub(crate) fn over(octets: &'a [u8]) -> IdentifierView<'a>
+        requires { IsTrue (specs.is_identifier octets.now) }
+        ensures { octets_in result ≡ octets.now }
+    {
+        IdentifierView { octets }
+    }
+
+    /// Over these contents octets, or `OidMalformed`.
+    #[inline(always)]
+    fn from_bytes(bytes: &'a [u8]) -> Result<IdentifierView<'a>>
+        ensures ok { IfOk result (λ oid. IsIdentifier bytes.now × (octets_in oid ≡ bytes.now)) }
+        ensures err { IfErr result (λ e. (e.kind ≡ ErrorKind.OidMalformed) × (IsIdentifier bytes.now → ⊥)) }
+    {
+        if !is_identifier(bytes) {
+            return Err(Error::new(ErrorKind::OidMalformed));
+        }
+        Ok(IdentifierView::over(bytes))
+    }
+
+    /// The identifier of an algorithm.
+    #[inline(always)]
+    pub fn of<D: AssociatedOid>() -> IdentifierView<'a>
+        ensures { octets_in result ≡ D.contents }
+    {
+        IdentifierView::over(D::octets())
+    }
+
+    /// The contents octets, at least one.
+    #[inline(always)]
+    pub fn as_bytes(&self) -> &'a [u8]
+        ensures octets { result.now ≡ octets_in self.now }
+        ensures valid { IsIdentifier (octets_in self.now) }
+    {
+        self.octets
+    }
+
+    /// The identifier, with octets of its own.
+    #[inline(always)]
+    pub fn keep(self) -> ObjectIdentifier
+        ensures { octets_of result ≡ octets_in self.entry }
+    {
+        ObjectIdentifier::new(self.octets)
+    }
+}
+
+impl Contents for IdentifierView<'_> {
+    ghost use Rattle.spki_core.specs.ObjectIdentifierValue.{octets_in};
+
+    ghost Value = { List ℕ };
+
+    ghost value = { octets_in };
+
+    ghost contents = { IdentifierContents };
+
+    ghost has_contents = { IsIdentifier };
+
+    ghost written_contents = { λ oid. oid };
+
+    ghost means_one = { identifier_means_one };
+
+    ghost contents_of_bytes = { identifier_contents_of_bytes };
+}
+
+impl TaggedBy for IdentifierView<'_> {
+    type Marker = ObjectIdentifierTag;
+}
+
+impl<'a, M: Memory> DecodeValue<&'a [u8], M> for IdentifierView<'a> {
+    ghost use Rattle.spki_core.specs.Faults.{IdentifierFault};
+    ghost use Rattle.spki_core.specs.FaultLaws.{identifier_fault_none, identifier_fault_first};
+
+    ghost may_allocate = { λ _. ⊥ };
+
+    ghost fault = { IdentifierFault };
+
+    #[inline(always)]
+    fn decode_value<R: Reader<&'a [u8]>>(
+        _memory: M,
+        reader: &mut R,
+        header: Header,
+    ) -> Result<IdentifierView<'a>> {
+        let contents = reader.read_slice(header.length)?;
+        match IdentifierView::from_bytes(contents) {
+            Ok(oid) => Ok(oid),
+            Err(e) => Err(reader.error(e.kind())),
+        }
+    }
+
+    ghost fault_none = { identifier_fault_none };
+
+    ghost fault_first = { identifier_fault_first };
+}
+
+impl EncodeValue for IdentifierView<'_> {
+    fn value_len(&self) -> Result<Length> {
+        Length::try_from(self.as_bytes().len())
+    }
+
+    fn encode_value<W: Writer>(&self, writer: &mut W) -> Result<()> {
+        writer.write(self.as_bytes())
+    }
+
+    fn prepend_value(&self, writer: &mut BackWriter<'_>) {
+        writer.prepend(self.as_bytes());
+    }
+
+    ghost contents_relate = { λ oid has fits. identifier_contents_relate oid has };
+
+    ghost contents_shortest = { identifier_contents_shortest };
+}
