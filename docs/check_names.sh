@@ -1,0 +1,95 @@
+#!/usr/bin/env bash
+# Fails where a document names in backquotes a file, call, type, clause or definition that the repository hasn't, or
+# links to what isn't there. A word is there if it stands in code (no comment) outside proofs/. Tables: under `src/` and
+# `specs/` stand files of the crate in the heading, with the "definitions" in them; under "calls" and "clauses" clauses
+# of these calls. What names the Rust crate is skipped.
+set -eu
+cd "$(dirname "$0")/.."
+exec python3 - <<'END'
+import fnmatch, glob, os, re, sys
+
+ALLOWED = set('rt selftest umask'.split())
+PLACEHOLDER = r'[A-Z0-9]+|[0-9a-f]*\d[0-9a-f]*|\w'
+COMMENT = {'.rt': r'//.*', '.rs': r'//.*', '.c': r'/[/*].*', '.h': r'/\*.*', '.antt': r'--.*'}
+
+paths, code, clauses, wrong = set(), {}, {}, []
+for folder, inner, files in os.walk('.'):
+    inner[:] = set(inner) - {'.git', 'out', 'target'}
+    paths.update(os.path.relpath(os.path.join(folder, name)) for name in inner + files)
+for path in filter(os.path.isfile, paths):
+    kind = os.path.splitext(path)[1]
+    if kind in ('.md', '.edit', '.der') or '/proofs/' in path or path.startswith('docs/'):
+        continue
+    lines = [re.sub(COMMENT.get(kind, r'^\s*#.*'), '', line) for line in open(path, errors='replace')]
+    code[path] = set(re.findall(r'\w+', ''.join(lines)))
+    for line in lines if kind == '.rt' else []:
+        if call := re.match(r'\s*(?:[\w()"]+ )*fn (\w+)', line):
+            stated = clauses.setdefault(call[1], set())
+        elif clause := re.match(r'\s*ensures\*? (\w+)', line):
+            stated.add(clause[1])
+words = ALLOWED.union(*code.values())
+
+def names(text):
+    return re.findall(r'`([^`]+)`', text)
+
+def check_name(name):
+    for piece in name.split():
+        if re.search(r'\w/|/\w|\.(rt|antt|sh|py|md|rs|c|h)$', piece):
+            pattern = '*/' + re.sub(r'\b[A-Z][A-Z_]+\b|\.\.', '*', piece.strip('/'))
+            if not re.search(r'\bout\b|^lib/|PREFIX', piece) and not fnmatch.filter(['/' + path for path in paths], pattern):
+                say('file', piece)
+            continue
+        for word in re.findall(r'[A-Za-z_*][\w*]*', piece):
+            word in words or re.fullmatch(PLACEHOLDER, word) or fnmatch.filter(words, word) or say('word', word)
+        for pair in re.findall(r'(\w+)::(\w+)', piece):
+            if words.issuperset(pair) and not any(there.issuperset(pair) for there in code.values()):
+                say('member', '::'.join(pair))
+
+def check_files(head, cells):
+    declared = ''
+    for name in names(cells[0]):
+        file = f'crates/{crate}/{head[0][1:-1]}{name}' + ('.rt' if 'src' in head[0] else '.antt')
+        if file not in paths and not os.path.isdir(file[:-3]):
+            say('file', file)
+        elif head[1] == 'definitions':
+            declared += open(file).read()
+    for name in names(cells[1]) if head[1] == 'definitions' else []:
+        re.search(rf'(?m)^(?:(?:abbrev|pub|record|data|unfoldable) )*{name}\b', declared) or say('definition there', name)
+
+def check_clauses(named, cells):
+    calls = {name: fnmatch.filter(clauses, re.findall(r'[\w*]+', name)[-1]) for name in names(cells[1])}
+    found = {call for matches in calls.values() for call in matches}
+    for name in calls:
+        calls[name] or say('call', name)
+    for call in found:
+        named and clauses[call] and named.isdisjoint(clauses[call]) and say('clause of ' + call, ', '.join(named))
+    for clause in named.difference(*(clauses[call] for call in found)):
+        say('clause of these calls', clause)
+
+def headings(path):
+    return {re.sub(r'[^\w -]', '', line.strip('# \n').lower()).replace(' ', '-') for line in open(path) if line[0] == '#'}
+
+documents = ['README.md', *glob.glob('docs/*.md'), 'ffi/rust/README.md', *glob.glob('tools/*/README.md')]
+for document in documents:
+    crate, head, fenced = '', [], False
+    for number, line in enumerate(open(document), 1):
+        say = lambda what, name: wrong.append(f'{document}:{number}: there is no such {what}: {name}')
+        fenced ^= line.startswith('```')
+        if fenced or line.startswith(('    ', '- Rust crate only:')):
+            continue
+        crate = (names(line) or [''])[0] if line[0] == '#' else crate
+        cells = [cell.strip() for cell in line.strip().split('|')[1:-1]]
+        head = cells and (head or cells)
+        special = bool(cells) and head[0] in ('the Rust crate', '`src/`', '`specs/`')
+        if cells and cells != head and set(cells) != {'---'}:
+            special and head[0][0] == '`' and check_files(head, cells)
+            head[1:] == ['calls', 'clauses'] and check_clauses(set(names(cells[2])), cells)
+        for name in names(' '.join(cells[special:]) if cells else line):
+            check_name(name)
+        for path, heading in re.findall(r'\]\((?!https?:)([^)#]*)#?([^)]*)\)', line):
+            path = os.path.normpath(os.path.join(os.path.dirname(document), path)) if path else document
+            if not os.path.exists(path) or heading and heading not in headings(path):
+                say('place to link to', path + '#' + heading)
+print('\n'.join(wrong) or f'the names in {len(documents)} documents are there')
+sys.exit(bool(wrong))
+END
