@@ -99,8 +99,8 @@ pub trait EncodeRsaPrivateKey {
         ensures written { OnOk result ((bytes : List ℕ) × IsDocument bytes × written_as self.now bytes) }
         ensures refused { IfErr result (λ e. IsAsn1 IsFile e ⊎ unwritten_by self.now e) }
     {
-        let document = self.to_pkcs1_der(alloc)?;
-        Ok(document.write_der_file(rt, path)?)
+        let secret = self.to_pkcs1_der(alloc)?;
+        Ok(secret.write_der_file(rt, path)?)
     }
 }
 
