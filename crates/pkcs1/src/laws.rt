@@ -1,16 +1,33 @@
 //! What the grammars of keys and of parameters promise of themselves: functions that do nothing, each with a law as its contract.
-ghost use Rattle.std.specs.Prelude.{ℕ, List};
+ghost use Rattle.std.specs.Prelude.{◌≡◌, ℕ, List, true, false};
 ghost use Rattle.pkcs1.specs.Forms.{SameTexts};
 ghost use Rattle.der_core.specs.Texts.{AtMostOne, IsDelimited, MeansOne};
 ghost use Rattle.der_core.specs.Document.{Excludes, SameByShortest};
 ghost use Rattle.pkcs1.specs.Keys.{PublicKey, PrivateKey};
 ghost use Rattle.pkcs1.specs.Keys as keys;
 ghost use Rattle.pkcs1_params.specs.Parameters as parameters;
+ghost use Rattle.der_core.specs.declared.error.ErrorKind as kinds;
+ghost use Rattle.der_core.specs.declared.integer.uint.UintRef as numbers;
+ghost use Rattle.spki_core.specs.AnyRefValue.{any_of};
+ghost use Rattle.spki_core.specs.declared.any.AnyRef as anys;
+ghost use Rattle.pkcs1_params.specs.OaepValue.{oaep_of};
+ghost use Rattle.pkcs1_params.specs.PssValue.{pss_of};
+ghost use Rattle.pkcs1_params.specs.declared.error.Error as errors;
+ghost use Rattle.pkcs1_params.specs.declared.oaep.RsaOaepParams as oaep_params;
+ghost use Rattle.pkcs1_params.specs.declared.pss.RsaPssParams as pss_params;
+ghost use Rattle.pkcs1.specs.OtherPrimesLeft.{others_left};
+ghost use Rattle.pkcs1.specs.PublicKeyValue.{public_key_of};
+ghost use Rattle.pkcs1.specs.ViewParts.{view_of};
+ghost use Rattle.pkcs1.specs.declared.other_primes.OtherPrimes as primes;
+ghost use Rattle.pkcs1.specs.declared.public_key.RsaPublicKey as public_keys;
+ghost use Rattle.pkcs1.specs.declared.view.RsaPrivateKeyView as views;
 
+use crate::other_primes::OtherPrimes;
 use crate::private_key::RsaPrivateKey;
 use crate::public_key::RsaPublicKey;
-use der_core::{Text, Uint, UintRef};
-use pkcs1_params::{RsaOaepParams, RsaPssParams};
+use crate::view::RsaPrivateKeyView;
+use der_core::{ErrorKind, Text, Uint, UintRef};
+use pkcs1_params::{Error, RsaOaepParams, RsaPssParams};
 use spki_core::{Any, AnyRef};
 
 /// No proper beginning of a text is a text of the same type, none is empty, and each means one value.
@@ -59,4 +76,27 @@ pub fn forms_share_the_grammars()
         × SameTexts ⟦<RsaPssParams<Any> as Text>⟧.text parameters.RsaPssParams }
     ensures oaep { SameTexts ⟦<RsaOaepParams<AnyRef<'static>> as Text>⟧.text parameters.RsaOaepParams
         × SameTexts ⟦<RsaOaepParams<Any> as Text>⟧.text parameters.RsaOaepParams }
+{}
+
+/// Each error equals itself; two errors, and two kinds of refusal in one, are told apart.
+pub fn errors_are_told_apart()
+    ensures same { (e : errors.Error) → ⟦<Error as PartialEq>⟧.eq e e ≡ true }
+    ensures error { ⟦<Error as PartialEq>⟧.eq Error.Version Error.Crypto ≡ false }
+    ensures kind { let of_kind = λ (kind : kinds.ErrorKind). Error.Asn1 (record { kind = kind }) in
+        ⟦<Error as PartialEq>⟧.eq (of_kind ErrorKind.Incomplete) (of_kind ErrorKind.TrailingData) ≡ false }
+{}
+
+/// A clone of what borrows means the same.
+pub fn clones_mean_the_same()
+    ensures public { (a b : public_keys.RsaPublicKey numbers.UintRef)
+        → ⟦<RsaPublicKey<UintRef<'static>> as Clone>⟧.is_clone a b → public_key_of b ≡ public_key_of a }
+    ensures view { (a b : views.RsaPrivateKeyView)
+        → ⟦<RsaPrivateKeyView<'static> as Clone>⟧.is_clone a b → view_of b ≡ view_of a }
+    ensures others { (a b : primes.OtherPrimes)
+        → ⟦<OtherPrimes<'static> as Clone>⟧.is_clone a b → others_left b ≡ others_left a }
+    ensures any { (a b : anys.AnyRef) → ⟦<AnyRef<'static> as Clone>⟧.is_clone a b → any_of b ≡ any_of a }
+    ensures pss { (a b : pss_params.RsaPssParams anys.AnyRef)
+        → ⟦<RsaPssParams<AnyRef<'static>> as Clone>⟧.is_clone a b → pss_of b ≡ pss_of a }
+    ensures oaep { (a b : oaep_params.RsaOaepParams anys.AnyRef)
+        → ⟦<RsaOaepParams<AnyRef<'static>> as Clone>⟧.is_clone a b → oaep_of b ≡ oaep_of a }
 {}

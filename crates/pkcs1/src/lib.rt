@@ -21,8 +21,8 @@ pub use der_core as der;
 pub use der_core::{Uint, UintRef};
 pub use faults::{fault_of_private_key, fault_of_public_key};
 pub use laws::{
-    forms_share_the_grammars, keys_have_one_text, same_keys_have_the_same_text,
-    texts_are_delimited, texts_mean_one, types_exclude_each_other,
+    clones_mean_the_same, errors_are_told_apart, forms_share_the_grammars, keys_have_one_text,
+    same_keys_have_the_same_text, texts_are_delimited, texts_mean_one, types_exclude_each_other,
 };
 pub use other_primes::OtherPrimes;
 pub use pkcs1_params::{

@@ -4,6 +4,7 @@ ghost use Rattle.der_core.specs.Carrying.{FileFault};
 ghost use Rattle.der_core.specs.Document.{IsDocument, Means};
 ghost use Rattle.der_core.specs.DocumentValue.{text_of};
 ghost use Rattle.der_core.specs.Faults.{Faulty};
+ghost use Rattle.der_core.specs.Refusal.{IsFile};
 ghost use Rattle.der_core.specs.declared.error.ErrorKind as der;
 ghost use Rattle.der_core.specs.Tags.{sequence};
 ghost use Rattle.der_core.specs.UintRefValue.{bytes_of};
@@ -79,39 +80,49 @@ pub trait DecodeRsaPublicKey: Sized + Drop {
 }
 
 /// A private key that is written as a text of PKCS #1 (RFC 8017 A.1.2). A type of a caller's own says by `written_as`
-/// what its `to_pkcs1_der` writes.
+/// what its `to_pkcs1_der` writes, and by `unwritten_by` which keys it refuses.
 pub trait EncodeRsaPrivateKey {
     /// The key is written as these bytes.
     ghost written_as: { Self → List ℕ → Type 0 };
 
+    /// The key isn't written, but refused by this error.
+    ghost unwritten_by: { Self → Error → Type 0 };
+
     /// The text of the key.
     fn to_pkcs1_der(&self, alloc: Global) -> Result<SecretDocument>
-        ensures { IfOk result (λ document. written_as self.now (text_of document)) };
+        ensures written { IfOk result (λ document. written_as self.now (text_of document)) }
+        ensures refused { IfErr result (λ e. unwritten_by self.now e) };
 
     /// Writes the text of the key to a file. The text is made before the file is created, or an old one cut to nothing:
     /// a key that is refused leaves the file as it was. `File` where the file can't be created or written.
     fn write_pkcs1_der_file<Rt: Files>(&self, rt: &Rt, alloc: Global, path: Path<'_>) -> Result<()>
-        ensures { OnOk result ((bytes : List ℕ) × IsDocument bytes × written_as self.now bytes) }
+        ensures written { OnOk result ((bytes : List ℕ) × IsDocument bytes × written_as self.now bytes) }
+        ensures refused { IfErr result (λ e. IsAsn1 IsFile e ⊎ unwritten_by self.now e) }
     {
-        let document = self.to_pkcs1_der(alloc)?;
-        Ok(document.write_der_file(rt, path)?)
+        let secret = self.to_pkcs1_der(alloc)?;
+        Ok(secret.write_der_file(rt, path)?)
     }
 }
 
 /// A public key that is written as a text of PKCS #1 (RFC 8017 A.1.1). A type of a caller's own says by `written_as`
-/// what its `to_pkcs1_der` writes.
+/// what its `to_pkcs1_der` writes, and by `unwritten_by` which keys it refuses.
 pub trait EncodeRsaPublicKey {
     /// The key is written as these bytes.
     ghost written_as: { Self → List ℕ → Type 0 };
 
+    /// The key isn't written, but refused by this error.
+    ghost unwritten_by: { Self → Error → Type 0 };
+
     /// The text of the key.
     fn to_pkcs1_der(&self, alloc: Global) -> Result<Document>
-        ensures { IfOk result (λ document. written_as self.now (text_of document)) };
+        ensures written { IfOk result (λ document. written_as self.now (text_of document)) }
+        ensures refused { IfErr result (λ e. unwritten_by self.now e) };
 
     /// Writes the text of the key to a file. The text is made before the file is created, or an old one cut to nothing:
     /// a key that is refused leaves the file as it was. `File` where the file can't be created or written.
     fn write_pkcs1_der_file<Rt: Files>(&self, rt: &Rt, alloc: Global, path: Path<'_>) -> Result<()>
-        ensures { OnOk result ((bytes : List ℕ) × IsDocument bytes × written_as self.now bytes) }
+        ensures written { OnOk result ((bytes : List ℕ) × IsDocument bytes × written_as self.now bytes) }
+        ensures refused { IfErr result (λ e. IsAsn1 IsFile e ⊎ unwritten_by self.now e) }
     {
         let document = self.to_pkcs1_der(alloc)?;
         Ok(document.write_der_file(rt, path)?)
@@ -161,6 +172,8 @@ impl DecodeRsaPublicKey for RsaPublicKey<Uint> {
 impl<'a> EncodeRsaPrivateKey for RsaPrivateKey<UintRef<'a>> {
     ghost written_as = { λ key bytes. IsOnlyText grammar.RsaPrivateKey (private_key_with bytes_of key) bytes };
 
+    ghost unwritten_by = { λ key. IsNotMade grammar.RsaPrivateKey (private_key_with bytes_of key) };
+
     fn to_pkcs1_der(&self, alloc: Global) -> Result<SecretDocument>
         ensures text { IfOk result (λ document.
             IsOnlyText grammar.RsaPrivateKey (private_key_with bytes_of self.now) (text_of document)) }
@@ -175,6 +188,8 @@ impl<'a> EncodeRsaPrivateKey for RsaPrivateKey<UintRef<'a>> {
 impl EncodeRsaPrivateKey for RsaPrivateKey<Uint> {
     ghost written_as = { λ key bytes. IsOnlyText grammar.RsaPrivateKey (private_key_with own_bytes_of key) bytes };
 
+    ghost unwritten_by = { λ key. IsNotMade grammar.RsaPrivateKey (private_key_with own_bytes_of key) };
+
     fn to_pkcs1_der(&self, alloc: Global) -> Result<SecretDocument>
         ensures text { IfOk result (λ document.
             IsOnlyText grammar.RsaPrivateKey (private_key_with own_bytes_of self.now) (text_of document)) }
@@ -188,6 +203,8 @@ impl EncodeRsaPrivateKey for RsaPrivateKey<Uint> {
 
 impl<U: AsUintRef> EncodeRsaPublicKey for RsaPublicKey<U> {
     ghost written_as = { λ key bytes. IsOnlyText grammar.RsaPublicKey (public_key_with U.number key) bytes };
+
+    ghost unwritten_by = { λ key. IsNotMade grammar.RsaPublicKey (public_key_with U.number key) };
 
     fn to_pkcs1_der(&self, alloc: Global) -> Result<Document>
         ensures text { IfOk result (λ document.

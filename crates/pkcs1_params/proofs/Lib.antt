@@ -10,3 +10,4 @@ pub mod Labels
 pub mod ParameterWrites
 pub mod NothingAsked
 pub mod FaultsTold
+pub mod ParameterFaultRows

@@ -27,32 +27,32 @@ mask_field = field 1 (AlgorithmIdentifier PlainAlgorithm) mgf1_sha1
 abbrev salt_field : ℕ → Field
 salt_field = field 2 Small 20
 
-abbrev trailer_field : ℕ → Field
+abbrev pub trailer_field : ℕ → Field
 trailer_field = field 3 TrailerField 1
 
 abbrev source_field : Algorithm TagAndContents → Field
 source_field = field 2 PlainAlgorithm empty_label
 
-abbrev pss_defaults : PssParameters
+abbrev pub pss_defaults : PssParameters
 pss_defaults = record { hash = sha1; mask_gen = mgf1_sha1; salt_len = 20; trailer_field = 1 }
 
-abbrev oaep_defaults : OaepParameters
+abbrev pub oaep_defaults : OaepParameters
 oaep_defaults = record { hash = sha1; mask_gen = mgf1_sha1; p_source = empty_label }
 
 -- 3000
-pss_all_left_out : RsaPssParams pss_defaults (0x30 ∷ 0x00 ∷ [])
+pub pss_all_left_out : RsaPssParams pss_defaults (0x30 ∷ 0x00 ∷ [])
 pss_all_left_out = known_tlv 0x30 []
     (left_out_field (hash_field sha1) [] refl (left_out_field (mask_field mgf1_sha1) [] refl (left_out_field (salt_field 20) [] refl (left_out_field (trailer_field 1) [] refl refl)))) (omega arith)
 
 -- a203020114, and a303020101
-abbrev salt_bytes : List ℕ
+abbrev pub salt_bytes : List ℕ
 salt_bytes = 0xa2 ∷ 0x03 ∷ 0x02 ∷ 0x01 ∷ 0x14 ∷ []
 
-abbrev trailer_bytes : List ℕ
+abbrev pub trailer_bytes : List ℕ
 trailer_bytes = 0xa3 ∷ 0x03 ∷ 0x02 ∷ 0x01 ∷ 0x01 ∷ []
 
 -- 3005a203020114: the default salt length, written
-pss_salt_written : RsaPssParams pss_defaults (0x30 ∷ 0x05 ∷ 0xa2 ∷ 0x03 ∷ 0x02 ∷ 0x01 ∷ 0x14 ∷ [])
+pub pss_salt_written : RsaPssParams pss_defaults (0x30 ∷ 0x05 ∷ 0xa2 ∷ 0x03 ∷ 0x02 ∷ 0x01 ∷ 0x14 ∷ [])
 pss_salt_written = known_tlv 0x30 salt_bytes (
     left_out_field (hash_field sha1) salt_bytes refl (
     left_out_field (mask_field mgf1_sha1) salt_bytes refl (
@@ -167,7 +167,7 @@ pss_unknown_field_refused p t =
     ((λ e. omega arith), ((λ e. omega arith), ((λ e. omega arith), ((λ e. omega arith), tt)))) (known_whole (0xa4 ∷ 0x03 ∷ 0x02 ∷ 0x01 ∷ 0x01 ∷ []) t (omega arith))
 
 -- 3000
-oaep_all_left_out : RsaOaepParams oaep_defaults (0x30 ∷ 0x00 ∷ [])
+pub oaep_all_left_out : RsaOaepParams oaep_defaults (0x30 ∷ 0x00 ∷ [])
 oaep_all_left_out = known_tlv 0x30 []
     (left_out_field (hash_field sha1) [] refl (left_out_field (mask_field mgf1_sha1) [] refl (left_out_field (source_field empty_label) [] refl refl))) (omega arith)
 

@@ -1,7 +1,9 @@
 -- Bytes with a fault are no parameters.
 use Rattle.std.proofs.Common.{ℕ, List, [], ◌∷◌, ◌++◌, ◌≡◌, ◌+◌, ◌≤◌, length, map, refl, sym, ap, ◌∙◌, arith, length-append, inl, inr}
 use Rattle.der_core.specs.declared.error.ErrorKind.{ErrorKind}
+use Rattle.der_core.specs.declared.error.ErrorKind.TheVariants.{Value}
 use Rattle.der_core.specs.declared.tag.Tag.{Tag}
+use Rattle.der_core.specs.Expected.{expected_fault_none, expected_fault_first}
 use Rattle.der_core.proofs.Growing.{tlv_recast}
 use Rattle.der_core.specs.Document.{Means}
 use Rattle.der_core.specs.Faults.{TextFault, AloneFault, EndFault, SmallFault, AreNone, AreFirst}
@@ -82,14 +84,12 @@ plainly tag n octet G GFault d none k c within fault =
     (told.0, λ w rest (x, y, t, _, f). told.1 w x y f (rw octet t))
 
 pub trailer_fault_none : AreNone (NoneHas TrailerContents) TrailerFault
-trailer_fault_none k c within (inl f) = let told = small_fault_none k c within f in (told.0, λ n p. told.1 n p.1)
-trailer_fault_none k c within (inr (m, is, other, e)) = (is_value e, λ n p. other (small_means_one m n c is p.1 ∙ p.0))
+trailer_fault_none k c within fault =
+    let told = expected_fault_none SmallContents SmallFault 1 (Value integer) small_means_one small_fault_none (is_value refl) (Unit {0}) k c within fault in
+    (told.0, λ n p. told.1 tt (rw p.0 at p.1))
 
 pub trailer_fault_first : AreFirst TrailerFault
-trailer_fault_first j k c within (inl f) (inl g) = small_fault_first j k c within f g
-trailer_fault_first j k c within (inl f) (inr (m, is, other, e)) = absurd ((small_fault_none j c within f).1 m is)
-trailer_fault_first j k c within (inr (m, is, other, e)) (inl g) = absurd ((small_fault_none k c within g).1 m is)
-trailer_fault_first j k c within (inr (m, is, other, e)) (inr (n, are, another, f)) = e ∙ sym f
+trailer_fault_first = expected_fault_first SmallContents SmallFault 1 (Value integer) small_means_one small_fault_none small_fault_first
 
 small_none : AreNone (NoneIn Small) (TextFault integer SmallFault)
 small_none = text_fault_none integer SmallFault SmallContents small_fault_none

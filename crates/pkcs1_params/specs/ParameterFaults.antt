@@ -1,11 +1,11 @@
 -- The first fault of bytes that are no parameters (RFC 8017 A.2.3, A.2.1).
-use Rattle.std.specs.Prelude.{ℕ, List, ◌≡◌, ◌≢◌, ◌⊎◌, refl}
+use Rattle.std.specs.Prelude.{ℕ, List, ◌≡◌, ◌⊎◌, refl}
 use Rattle.der_core.specs.declared.error.ErrorKind.{ErrorKind}
 use Rattle.der_core.specs.declared.error.ErrorKind.TheVariants.{Noncanonical, Value}
 use Rattle.der_core.specs.Document.{Means}
 use Rattle.der_core.specs.Tag.{context_tag}
 use Rattle.der_core.specs.declared.tag.Tag.{Tag}
-use Rattle.der_core.specs.Faults.{TextFault, AloneFault, EndFault, WholeFault, SmallFault}
+use Rattle.der_core.specs.Faults.{TextFault, AloneFault, EndFault, WholeFault, SmallFault, ExpectedFault}
 use Rattle.der_core.specs.Integer.{Small, SmallContents}
 use Rattle.der_core.specs.Tags.{integer, sequence}
 use Rattle.spki_core.specs.AlgorithmIdentifier.{AlgorithmIdentifier, PlainAlgorithm, MaskAlgorithm}
@@ -30,7 +30,7 @@ tag_3 = record { octet = 163; allowed = refl }
 
 -- No number from 0 to 255, or another than 1.
 abbrev pub TrailerFault : ErrorKind → List ℕ → Type 0
-TrailerFault kind contents = SmallFault kind contents ⊎ ((n : ℕ) × SmallContents n contents × (n ≢ 1) × (kind ≡ Value integer))
+TrailerFault = ExpectedFault SmallContents SmallFault 1 (Value integer)
 
 -- The fields, by what their tags hold. P is what parameters of an identifier are.
 abbrev pub PlainFault : {P : Type 0} → (P → List ℕ → Type 0) → (ErrorKind → List ℕ → Type 0) → ErrorKind → List ℕ → Type 0

@@ -52,6 +52,9 @@ impl DecodeRsaPrivateKey for CarriedKey {
 impl EncodeRsaPrivateKey for CarriedKey {
     ghost written_as = { λ key bytes. key.bytes.items ≡ bytes };
 
+    ghost unwritten_by = { λ key. let is_document = IsDocument key.bytes.items in
+        IsAsn1 (λ e. Refuses e.kind is_document (is_document → ⊥)) };
+
     fn to_pkcs1_der(&self, alloc: Global) -> Result<SecretDocument>
         ensures text { IfOk result (λ document. self.now.bytes.items ≡ text_of document) }
         ensures err { let is_document = IsDocument self.now.bytes.items in

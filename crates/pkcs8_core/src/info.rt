@@ -12,6 +12,7 @@ ghost use Rattle.der_core.specs.Reading.{ReadsContents, ReadsText, TellsOfBytes}
 ghost use Rattle.der_core.specs.Writing.{encode_refusal};
 ghost use Rattle.pkcs8_core.specs.Container.{Info, AttributesText, InfoContents, PrivateKeyInfo, HasInfo, written_info, IsUnwritten};
 ghost use Rattle.pkcs8_core.specs.Held.{info_of, attributes_of, slice_now};
+ghost use Rattle.pkcs8_core.specs.declared.info.PrivateKeyInfoRef as containers;
 ghost use Rattle.pkcs8_core.specs.Laws.{info_means_one, info_of_bytes, info_relates, info_shortest};
 
 use crate::attributes::Attributes;
@@ -225,4 +226,10 @@ impl<'a> TryFrom<&'a [u8]> for PrivateKeyInfoRef<'a> {
 /// A container has at most one text.
 pub fn containers_have_one_text()
     ensures { (info : Info) → AtMostOne (PrivateKeyInfo info) }
+{}
+
+/// A clone of a container means the same.
+pub fn container_clones_mean_the_same()
+    ensures { (a b : containers.PrivateKeyInfoRef)
+        → ⟦<PrivateKeyInfoRef<'static> as Clone>⟧.is_clone a b → info_of b ≡ info_of a }
 {}

@@ -7,4 +7,4 @@ mod info;
 mod rsa;
 
 pub use faults::fault_of_private_key_info;
-pub use info::{PrivateKeyInfoRef, containers_have_one_text};
+pub use info::{PrivateKeyInfoRef, container_clones_mean_the_same, containers_have_one_text};

@@ -1,7 +1,12 @@
 -- Contents octets of identifiers at worked examples.
 use Rattle.std.proofs.Common.{ℕ, zero, suc, List, [], ◌∷◌, ◌≡◌, refl, sym, ◌∙◌, arith}
 use Rattle.std.specs.Prelude.{false}
+use Rattle.der_core.specs.declared.error.ErrorKind.TheVariants.{OidMalformed}
+use Rattle.der_core.specs.Faults.{TextFault, in_contents}
+use Rattle.der_core.specs.Length.{short}
+use Rattle.der_core.specs.Tags.{object_identifier}
 use Rattle.der_core.specs.Texts.{AreBytes}
+use Rattle.spki_core.specs.Faults.{IdentifierFault}
 use Rattle.spki_core.specs.ObjectIdentifier.{IsIdentifier}
 use Rattle.spki_core.specs.IdentifierTest.{is_identifier, is_identifier-sound, is_identifier-complete}
 
@@ -51,3 +56,23 @@ no_octet_refused = denied [] refl
 -- 40 octets 01
 forty_octets_refused : IsIdentifier (ones 40) → ⊥
 forty_octets_refused = denied (ones 40) refl
+
+-- Such contents have one fault, whatever is wrong with them: 2a80, 8001, no octet, 40 octets 01.
+malformed : (c : List ℕ) → is_identifier c ≡ false → IdentifierFault OidMalformed c
+malformed c fails = (refl, λ oid p. denied c fails p.0)
+
+unended : IdentifierFault OidMalformed (0x2a ∷ 0x80 ∷ [])
+unended = malformed (0x2a ∷ 0x80 ∷ []) refl
+
+padded : IdentifierFault OidMalformed (0x80 ∷ 0x01 ∷ [])
+padded = malformed (0x80 ∷ 0x01 ∷ []) refl
+
+pub no_octet : IdentifierFault OidMalformed []
+no_octet = malformed [] refl
+
+forty_octets : IdentifierFault OidMalformed (ones 40)
+forty_octets = malformed (ones 40) refl
+
+-- 06022a80
+unended_text : TextFault object_identifier IdentifierFault OidMalformed (0x06 ∷ 0x02 ∷ 0x2a ∷ 0x80 ∷ [])
+unended_text = in_contents (0x06 ∷ 0x02 ∷ []) (0x2a ∷ 0x80 ∷ []) [] (refl, 0x02 ∷ [], (omega arith, short (omega arith) refl), refl) refl unended
