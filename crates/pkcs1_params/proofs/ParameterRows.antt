@@ -40,7 +40,7 @@ abbrev oaep_defaults : OaepParameters
 oaep_defaults = record { hash = sha1; mask_gen = mgf1_sha1; p_source = empty_label }
 
 -- 3000
-pss_all_left_out : RsaPssParams pss_defaults (0x30 ∷ 0x00 ∷ [])
+pub pss_all_left_out : RsaPssParams pss_defaults (0x30 ∷ 0x00 ∷ [])
 pss_all_left_out = known_tlv 0x30 []
     (left_out_field (hash_field sha1) [] refl (left_out_field (mask_field mgf1_sha1) [] refl (left_out_field (salt_field 20) [] refl (left_out_field (trailer_field 1) [] refl refl)))) (omega arith)
 
@@ -167,7 +167,7 @@ pss_unknown_field_refused p t =
     ((λ e. omega arith), ((λ e. omega arith), ((λ e. omega arith), ((λ e. omega arith), tt)))) (known_whole (0xa4 ∷ 0x03 ∷ 0x02 ∷ 0x01 ∷ 0x01 ∷ []) t (omega arith))
 
 -- 3000
-oaep_all_left_out : RsaOaepParams oaep_defaults (0x30 ∷ 0x00 ∷ [])
+pub oaep_all_left_out : RsaOaepParams oaep_defaults (0x30 ∷ 0x00 ∷ [])
 oaep_all_left_out = known_tlv 0x30 []
     (left_out_field (hash_field sha1) [] refl (left_out_field (mask_field mgf1_sha1) [] refl (left_out_field (source_field empty_label) [] refl refl))) (omega arith)
 
