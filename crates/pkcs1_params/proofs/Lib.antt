@@ -1,3 +1,4 @@
+pub mod EmptySequences
 pub mod ParameterRows
 pub mod ParameterSpellings
 pub mod Masks

@@ -1,6 +1,7 @@
 -- Where reading of parameters may ask for memory.
 use Rattle.std.specs.Prelude.{ℕ, List}
 use Rattle.der_core.specs.Reading.{AllocatesIn}
+use Rattle.spki_core.specs.Any.{TagAndContents, Any}
 use Rattle.spki_core.specs.AlgorithmIdentifier.{PlainAlgorithm, MaskAlgorithm}
 use Rattle.spki_core.specs.Allocating.{AlgorithmAllocates, FieldAllocates, AllocatesFromField}
 use Rattle.pkcs1_params.specs.Parameters.{sha1, mgf1_sha1}
@@ -18,3 +19,7 @@ PssAllocates may_allocate contents = AllocatesFromHash may_allocate (λ _. ⊥) 
 -- The parameters of the source in [2] may ask too.
 abbrev pub OaepAllocates : (List ℕ → Type 0) → List ℕ → Type 0
 OaepAllocates may_allocate contents = AllocatesFromHash may_allocate (AllocatesIn (FieldAllocates 2 (AlgorithmAllocates may_allocate))) contents
+
+-- Owned parameters of an identifier ask wherever they are there.
+abbrev pub AllocatesForAny : List ℕ → Type 0
+AllocatesForAny text = (v : TagAndContents) × Any v text

@@ -5,9 +5,10 @@ use Rattle.der_core.specs.Document.{Means}
 use Rattle.spki_core.specs.Any.{TagAndContents, null_value}
 use Rattle.spki_core.specs.AnyRefValue.{any_of}
 use Rattle.spki_core.specs.declared.any.AnyRef.{AnyRef}
-use Rattle.spki_core.specs.AlgorithmValue.{algorithm_with}
+use Rattle.spki_core.specs.AlgorithmValue.{algorithm_with, viewed_with}
 use Rattle.pkcs1_params.specs.Parameters.{id_mgf1, id_p_specified, with_parameters, octets_value, OaepParameters}
 use Rattle.pkcs1_params.specs.Parameters as grammar
+use Rattle.pkcs1_params.specs.declared.oaep_view.OaepView.{OaepView}
 use Rattle.pkcs1_params.specs.declared.oaep.RsaOaepParams.{RsaOaepParams}
 
 abbrev pub oaep_with : {X : Type 0} → (X → TagAndContents) → RsaOaepParams X → OaepParameters
@@ -16,6 +17,10 @@ oaep_with any p = record { hash = algorithm_with any p.hash; mask_gen = algorith
 -- borrowed
 abbrev pub oaep_of : RsaOaepParams AnyRef → OaepParameters
 oaep_of = oaep_with any_of
+
+-- over the octets of its identifiers
+abbrev pub oaep_viewed : OaepView → OaepParameters
+oaep_viewed p = record { hash = viewed_with any_of p.hash; mask_gen = viewed_with (viewed_with any_of) p.mask_gen; p_source = viewed_with any_of p.p_source }
 
 -- a hash function with NULL, MGF1 with the same, and a label
 abbrev pub labelled : List ℕ → List ℕ → OaepParameters

@@ -32,7 +32,7 @@ impl AssociatedOid for Sha1 {
 }
 
 /// MGF1 (RFC 8017 B.2.1).
-struct Mgf1;
+pub(crate) struct Mgf1;
 
 impl AssociatedOid for Mgf1 {
     ghost contents = { id_mgf1 };

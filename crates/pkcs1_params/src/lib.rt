@@ -2,6 +2,7 @@
 #![tactic(auto)]
 
 mod default_salt;
+mod defaults;
 mod error;
 mod faults;
 mod fields;
@@ -10,12 +11,16 @@ mod label;
 mod laws;
 mod oaep;
 mod oaep_spelling;
+mod oaep_view;
+mod owned;
 mod p_source;
 mod pss;
 mod pss_spelling;
+mod pss_view;
 mod spelling;
 mod strict;
 mod trailer_field;
+mod views;
 
 pub use default_salt::DefaultSalt;
 pub use error::{Error, Result};

@@ -5,9 +5,11 @@ ghost use Rattle.pkcs1_params.specs.Parameters.{OaepParameters, OaepContents, oa
 ghost use Rattle.pkcs1_params.specs.Parts.{oaep_values, HasFields, written_fields};
 ghost use Rattle.pkcs1_params.specs.OaepLaws.{oaep_means_one, oaep_of_bytes, oaep_relates, oaep_shortest};
 
+use crate::defaults::{default_oaep, is_empty_sequence};
 use crate::error::{Error, Result};
-use crate::hash_fields::{Sha1, mask_gen_ref, mgf1_with, read_hash, read_mask_gen, with_null};
-use crate::p_source::{empty_source, read_source};
+use crate::hash_fields::{Sha1, mask_gen_ref, mgf1_with, with_null};
+use crate::oaep_view::OaepView;
+use crate::p_source::empty_source;
 use crate::spelling::{DefaultFields, encode_shortest};
 use crate::strict::refuse_defaults;
 use der_core::{
@@ -70,36 +72,32 @@ impl<'a, P> Sequence<'a> for RsaOaepParams<P> {
     ghost is_sequence = { refl };
 }
 
-impl<'a, M: Memory, P: Decode<&'a [u8], M> + AnyParams<M>> DecodeValue<&'a [u8], M>
-    for RsaOaepParams<P> {
+impl<'a, M: Memory> DecodeValue<&'a [u8], M> for RsaOaepParams<AnyRef<'a>> {
+    ghost use Rattle.spki_core.specs.Any.{Any};
+    ghost use Rattle.spki_core.specs.AnyLaws.{any_delimited};
+    ghost use Rattle.spki_core.specs.AnyRefValue.{any_of};
+    ghost use Rattle.spki_core.specs.AnyValues.{holds_itself};
+    ghost use Rattle.spki_core.specs.Faults.{AnyFault};
+    ghost use Rattle.spki_core.specs.FaultLaws.{any_fault_none, any_fault_first};
     ghost use Rattle.pkcs1_params.specs.ParameterFaults.{OaepFault};
     ghost use Rattle.pkcs1_params.specs.ParameterFaultLaws.{oaep_fault_none, oaep_fault_first};
 
-    ghost may_allocate = { OaepAllocates P.Decode.may_allocate };
+    ghost may_allocate = { OaepAllocates (λ _. ⊥) };
 
-    ghost fault = { OaepFault P.text P.Decode.fault };
+    ghost fault = { OaepFault Any AnyFault };
 
-    #[inline(never)]
     fn decode_value<R: Reader<&'a [u8]>>(
         memory: M,
         reader: &mut R,
-        _header: Header,
-    ) -> der_core::Result<RsaOaepParams<P>> {
-        let hash = read_hash(memory, reader)?;
-        let mask_gen = read_mask_gen(memory, reader)?;
-        let p_source = read_source(memory, reader)?;
-        reader.finish()?;
-        Ok(RsaOaepParams {
-            hash,
-            mask_gen,
-            p_source,
-        })
+        header: Header,
+    ) -> der_core::Result<RsaOaepParams<AnyRef<'a>>> {
+        let view = OaepView::decode_value(memory, reader, header)?;
+        Ok(view.keep())
     }
 
-    ghost fault_none = { oaep_fault_none P.text P.Decode.fault P.delimited P.Decode.fault_none P.holds };
+    ghost fault_none = { oaep_fault_none Any AnyFault any_delimited any_fault_none (holds_itself any_of) };
 
-    ghost fault_first = { let none = P.Decode.fault_none in
-        oaep_fault_first P.text P.Decode.fault P.delimited none P.holds P.Decode.fault_first };
+    ghost fault_first = { oaep_fault_first Any AnyFault any_delimited any_fault_none (holds_itself any_of) any_fault_first };
 }
 
 impl<P: AnyValue> RsaOaepParams<P> {
@@ -227,7 +225,7 @@ impl<'a> Default for RsaOaepParams<AnyRef<'a>> {
     fn default() -> RsaOaepParams<AnyRef<'a>>
         ensures { oaep_of result ≡ record { hash = sha1; mask_gen = mgf1_sha1; p_source = empty_label } }
     {
-        RsaOaepParams::new::<Sha1>()
+        default_oaep()
     }
 }
 
@@ -289,6 +287,10 @@ impl<'a> TryFrom<&'a [u8]> for RsaOaepParams<AnyRef<'a>> {
         ensures only { (kind : der.ErrorKind)
             → RsaOaepParamsFault kind bytes.now → IsErrAnd result (IsAsn1 (λ e. e.kind ≡ kind)) }
     {
-        Ok(RsaOaepParams::from_der(NoMemory, bytes)?)
+        if is_empty_sequence(bytes) {
+            return Ok(RsaOaepParams::default());
+        }
+        let view = OaepView::from_der(NoMemory, bytes)?;
+        Ok(view.keep())
     }
 }

@@ -13,18 +13,19 @@ ghost use Rattle.pkcs1_params.specs.PssLaws.{pss_means_one, pss_of_bytes, pss_re
 ghost use Rattle.pkcs1_params.specs.PssValue.{pss_with, pss_of};
 
 use crate::default_salt::DefaultSalt;
+use crate::defaults::{default_pss, is_empty_sequence};
 use crate::error::{Error, Result};
-use crate::hash_fields::{Sha1, mask_gen_ref, mgf1_with, read_hash, read_mask_gen, with_null};
+use crate::hash_fields::{Sha1, mask_gen_ref, mgf1_with, with_null};
+use crate::pss_view::PssView;
 use crate::spelling::{DefaultFields, encode_shortest};
 use crate::strict::refuse_defaults;
 use crate::trailer_field::TrailerField;
 use der_core::{
     BackWriter, Contents, Decode, DecodeValue, EncodeValue, EqualByValue, Header, Length, Memory,
-    NoMemory, Reader, Sequence, SequenceTag, TagNumber, TaggedBy, TryClone, Writer,
+    NoMemory, Reader, Sequence, SequenceTag, TaggedBy, TryClone, Writer,
 };
 use spki_core::{
     AlgorithmIdentifier, Any, AnyParams, AnyRef, AnyValue, AsAlgorithmIdentifierRef, AssociatedOid,
-    read_field,
 };
 use std::alloc::Global;
 
@@ -80,43 +81,32 @@ impl<'a, P> Sequence<'a> for RsaPssParams<P> {
     ghost is_sequence = { refl };
 }
 
-impl<'a, M: Memory, P: Decode<&'a [u8], M> + AnyParams<M>> DecodeValue<&'a [u8], M>
-    for RsaPssParams<P> {
+impl<'a, M: Memory> DecodeValue<&'a [u8], M> for RsaPssParams<AnyRef<'a>> {
+    ghost use Rattle.spki_core.specs.Any.{Any};
+    ghost use Rattle.spki_core.specs.AnyLaws.{any_delimited};
+    ghost use Rattle.spki_core.specs.AnyRefValue.{any_of};
+    ghost use Rattle.spki_core.specs.AnyValues.{holds_itself};
+    ghost use Rattle.spki_core.specs.Faults.{AnyFault};
+    ghost use Rattle.spki_core.specs.FaultLaws.{any_fault_none, any_fault_first};
     ghost use Rattle.pkcs1_params.specs.ParameterFaults.{PssFault};
     ghost use Rattle.pkcs1_params.specs.ParameterFaultLaws.{pss_fault_none, pss_fault_first};
 
-    ghost may_allocate = { PssAllocates P.Decode.may_allocate };
+    ghost may_allocate = { PssAllocates (λ _. ⊥) };
 
-    ghost fault = { PssFault P.text P.Decode.fault };
+    ghost fault = { PssFault Any AnyFault };
 
-    #[inline(never)]
     fn decode_value<R: Reader<&'a [u8]>>(
         memory: M,
         reader: &mut R,
-        _header: Header,
-    ) -> der_core::Result<RsaPssParams<P>> {
-        let hash = read_hash(memory, reader)?;
-        let mask_gen = read_mask_gen(memory, reader)?;
-        let salt_len = read_field(
-            memory,
-            reader,
-            TagNumber::new(2),
-            RsaPssParamsRef::SALT_LEN_DEFAULT,
-        )?;
-        let trailer_field = read_field(memory, reader, TagNumber::new(3), TrailerField::BC)?;
-        reader.finish()?;
-        Ok(RsaPssParams {
-            hash,
-            mask_gen,
-            salt_len,
-            trailer_field,
-        })
+        header: Header,
+    ) -> der_core::Result<RsaPssParams<AnyRef<'a>>> {
+        let view = PssView::decode_value(memory, reader, header)?;
+        Ok(view.keep())
     }
 
-    ghost fault_none = { pss_fault_none P.text P.Decode.fault P.delimited P.Decode.fault_none P.holds };
+    ghost fault_none = { pss_fault_none Any AnyFault any_delimited any_fault_none (holds_itself any_of) };
 
-    ghost fault_first = { let none = P.Decode.fault_none in
-        pss_fault_first P.text P.Decode.fault P.delimited none P.holds P.Decode.fault_first };
+    ghost fault_first = { pss_fault_first Any AnyFault any_delimited any_fault_none (holds_itself any_of) any_fault_first };
 }
 
 impl<P: AnyValue> RsaPssParams<P> {
@@ -270,7 +260,7 @@ impl<'a> Default for RsaPssParams<AnyRef<'a>> {
     fn default() -> RsaPssParams<AnyRef<'a>>
         ensures { pss_of result ≡ record { hash = sha1; mask_gen = mgf1_sha1; salt_len = 20; trailer_field = 1 } }
     {
-        RsaPssParams::new::<Sha1>(RsaPssParamsRef::SALT_LEN_DEFAULT)
+        default_pss()
     }
 }
 
@@ -291,6 +281,10 @@ impl<'a> TryFrom<&'a [u8]> for RsaPssParams<AnyRef<'a>> {
         ensures only { (kind : der.ErrorKind)
             → RsaPssParamsFault kind bytes.now → IsErrAnd result (IsAsn1 (λ e. e.kind ≡ kind)) }
     {
-        Ok(RsaPssParams::from_der(NoMemory, bytes)?)
+        if is_empty_sequence(bytes) {
+            return Ok(RsaPssParams::default());
+        }
+        let view = PssView::from_der(NoMemory, bytes)?;
+        Ok(view.keep())
     }
 }

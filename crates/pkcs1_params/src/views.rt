@@ -58,7 +58,7 @@ pub(crate) fn empty_view<'a>() -> PlainView<'a>
 /// The same, with identifiers of its own.
 #[inline(always)]
 pub(crate) fn keep_mask_gen<'a>(mask_gen: MaskGenView<'a>) -> MaskGenRef<'a>
-    ensures { mask_of result ≡ viewed_with (viewed_with any_of) mask_gen }
+    ensures { mask_of result ≡ viewed_with (viewed_with any_of) mask_gen.entry }
 {
     AlgorithmIdentifier {
         oid: mask_gen.oid.keep(),

@@ -6,40 +6,42 @@ use Rattle.der_core.specs.Tlv.{Tlv}
 use Rattle.spki_core.proofs.FieldReads.{field_faults, fields_faults}
 use Rattle.spki_core.specs.AlgorithmIdentifier.{PlainAlgorithm, MaskAlgorithm}
 use Rattle.spki_core.specs.Allocating.{AlgorithmAllocates}
-use Rattle.spki_core.specs.Faults.{FieldThenFault}
+use Rattle.spki_core.specs.Any.{Any}
+use Rattle.spki_core.specs.Faults.{AnyFault, FieldThenFault}
+use Rattle.pkcs1_params.specs.Allocating.{AllocatesForAny}
 use Rattle.pkcs1_params.specs.ParameterFaults.{HashFault, MaskFault, SaltFault, TrailerFieldFault}
 use Rattle.pkcs1_params.specs.Parameters.{sha1, mgf1_sha1, TrailerField}
 use Rattle.pkcs1_params.proofs.HashFieldsReads.{both_read}
 use Rattle.pkcs1_params.proofs.PssReads.{pss_gives, numbers_ask, at_salt, at_trailer, salt_read, trailer_read}
-use Rattle.pkcs1_params.proofs.pss.RsaPssParamsDecodeValueRefSliceU8.decode_value.Goals as goal
+use Rattle.pkcs1_params.proofs.owned.RsaPssParamsAnyDecodeValueRefSliceU8Global.decode_value.Goals as goal
 
 pub returns-in_err-hash : goal.returns-in_err-hash
 returns-in_err-hash g c =
     let p = err_from_is_err_and c.from_residual.result c.from_residual.ensures.1 in
     rw (p.1, p.2)
-    (field_faults 0 PlainAlgorithm sha1 (HashFault g.P.Text.text g.P.Decode.fault) (FieldThenFault 1 MaskAlgorithm mgf1_sha1 (MaskFault g.P.Text.text g.P.Decode.fault) (FieldThenFault 2 Small 20 SaltFault (FieldThenFault 3 TrailerField 1 TrailerFieldFault EndFault))) (AlgorithmAllocates g.P.Decode.may_allocate) _ _ _ _ c.in_err-hash.ensures.reads.0 c.in_err-hash.ensures.exact)
+    (field_faults 0 PlainAlgorithm sha1 (HashFault Any AnyFault) (FieldThenFault 1 MaskAlgorithm mgf1_sha1 (MaskFault Any AnyFault) (FieldThenFault 2 Small 20 SaltFault (FieldThenFault 3 TrailerField 1 TrailerFieldFault EndFault))) (AlgorithmAllocates AllocatesForAny) _ _ _ _ c.in_err-hash.ensures.reads.0 c.in_err-hash.ensures.exact)
 
 pub returns-in_err-mask_gen : goal.returns-in_err-mask_gen
 returns-in_err-mask_gen g c =
     let p = err_from_is_err_and c.from_residual-in_err-mask_gen.result c.from_residual-in_err-mask_gen.ensures.1 in
     rw (p.1, p.2)
-    (fields_faults 0 PlainAlgorithm sha1 (HashFault g.P.Text.text g.P.Decode.fault) (FieldThenFault 1 MaskAlgorithm mgf1_sha1 (MaskFault g.P.Text.text g.P.Decode.fault) (FieldThenFault 2 Small 20 SaltFault (FieldThenFault 3 TrailerField 1 TrailerFieldFault EndFault))) (AlgorithmAllocates g.P.Decode.may_allocate) _ (λ _ w. w) _ _ _ _ _ c.in_ok-hash.ensures.reads
-    (field_faults 1 MaskAlgorithm mgf1_sha1 (MaskFault g.P.Text.text g.P.Decode.fault) (FieldThenFault 2 Small 20 SaltFault (FieldThenFault 3 TrailerField 1 TrailerFieldFault EndFault)) (AlgorithmAllocates (AlgorithmAllocates g.P.Decode.may_allocate)) _ _ _ _ c.in_err-mask_gen.ensures.reads.0 c.in_err-mask_gen.ensures.exact))
+    (fields_faults 0 PlainAlgorithm sha1 (HashFault Any AnyFault) (FieldThenFault 1 MaskAlgorithm mgf1_sha1 (MaskFault Any AnyFault) (FieldThenFault 2 Small 20 SaltFault (FieldThenFault 3 TrailerField 1 TrailerFieldFault EndFault))) (AlgorithmAllocates AllocatesForAny) _ (λ _ w. w) _ _ _ _ _ c.in_ok-hash.ensures.reads
+    (field_faults 1 MaskAlgorithm mgf1_sha1 (MaskFault Any AnyFault) (FieldThenFault 2 Small 20 SaltFault (FieldThenFault 3 TrailerField 1 TrailerFieldFault EndFault)) (AlgorithmAllocates (AlgorithmAllocates AllocatesForAny)) _ _ _ _ c.in_err-mask_gen.ensures.reads.0 c.in_err-mask_gen.ensures.exact))
 
 pub returns-in_err-salt_len : goal.returns-in_err-salt_len
 returns-in_err-salt_len g c =
     let p = err_from_is_err_and c.from_residual-in_err-salt_len.result c.from_residual-in_err-salt_len.ensures.1 in
     rw (p.1, p.2)
-    (fields_faults 0 PlainAlgorithm sha1 (HashFault g.P.Text.text g.P.Decode.fault) (FieldThenFault 1 MaskAlgorithm mgf1_sha1 (MaskFault g.P.Text.text g.P.Decode.fault) (FieldThenFault 2 Small 20 SaltFault (FieldThenFault 3 TrailerField 1 TrailerFieldFault EndFault))) (AlgorithmAllocates g.P.Decode.may_allocate) _ (λ _ w. w) _ _ _ _ _ c.in_ok-hash.ensures.reads
-    (fields_faults 1 MaskAlgorithm mgf1_sha1 (MaskFault g.P.Text.text g.P.Decode.fault) (FieldThenFault 2 Small 20 SaltFault (FieldThenFault 3 TrailerField 1 TrailerFieldFault EndFault)) (AlgorithmAllocates (AlgorithmAllocates g.P.Decode.may_allocate)) _ (numbers_ask 2 20 Small) _ _ _ _ _ c.in_ok-mask_gen.ensures.reads
+    (fields_faults 0 PlainAlgorithm sha1 (HashFault Any AnyFault) (FieldThenFault 1 MaskAlgorithm mgf1_sha1 (MaskFault Any AnyFault) (FieldThenFault 2 Small 20 SaltFault (FieldThenFault 3 TrailerField 1 TrailerFieldFault EndFault))) (AlgorithmAllocates AllocatesForAny) _ (λ _ w. w) _ _ _ _ _ c.in_ok-hash.ensures.reads
+    (fields_faults 1 MaskAlgorithm mgf1_sha1 (MaskFault Any AnyFault) (FieldThenFault 2 Small 20 SaltFault (FieldThenFault 3 TrailerField 1 TrailerFieldFault EndFault)) (AlgorithmAllocates (AlgorithmAllocates AllocatesForAny)) _ (numbers_ask 2 20 Small) _ _ _ _ _ c.in_ok-mask_gen.ensures.reads
     (field_faults 2 Small 20 SaltFault (FieldThenFault 3 TrailerField 1 TrailerFieldFault EndFault) (Tlv 2 (λ _. ⊥)) (λ _. ⊥) _ _ _ c.in_err-salt_len.ensures.reads.0 (at_salt c.new.result.value c.new.ensures _ _ _ c.in_err-salt_len.ensures.exact))))
 
 pub returns-in_err-trailer_field : goal.returns-in_err-trailer_field
 returns-in_err-trailer_field g c =
     let p = err_from_is_err_and c.from_residual-in_err-trailer_field.result c.from_residual-in_err-trailer_field.ensures.1 in
     rw (p.1, p.2)
-    (fields_faults 0 PlainAlgorithm sha1 (HashFault g.P.Text.text g.P.Decode.fault) (FieldThenFault 1 MaskAlgorithm mgf1_sha1 (MaskFault g.P.Text.text g.P.Decode.fault) (FieldThenFault 2 Small 20 SaltFault (FieldThenFault 3 TrailerField 1 TrailerFieldFault EndFault))) (AlgorithmAllocates g.P.Decode.may_allocate) _ (λ _ w. w) _ _ _ _ _ c.in_ok-hash.ensures.reads
-    (fields_faults 1 MaskAlgorithm mgf1_sha1 (MaskFault g.P.Text.text g.P.Decode.fault) (FieldThenFault 2 Small 20 SaltFault (FieldThenFault 3 TrailerField 1 TrailerFieldFault EndFault)) (AlgorithmAllocates (AlgorithmAllocates g.P.Decode.may_allocate)) _ (numbers_ask 2 20 Small) _ _ _ _ _ c.in_ok-mask_gen.ensures.reads
+    (fields_faults 0 PlainAlgorithm sha1 (HashFault Any AnyFault) (FieldThenFault 1 MaskAlgorithm mgf1_sha1 (MaskFault Any AnyFault) (FieldThenFault 2 Small 20 SaltFault (FieldThenFault 3 TrailerField 1 TrailerFieldFault EndFault))) (AlgorithmAllocates AllocatesForAny) _ (λ _ w. w) _ _ _ _ _ c.in_ok-hash.ensures.reads
+    (fields_faults 1 MaskAlgorithm mgf1_sha1 (MaskFault Any AnyFault) (FieldThenFault 2 Small 20 SaltFault (FieldThenFault 3 TrailerField 1 TrailerFieldFault EndFault)) (AlgorithmAllocates (AlgorithmAllocates AllocatesForAny)) _ (numbers_ask 2 20 Small) _ _ _ _ _ c.in_ok-mask_gen.ensures.reads
     (fields_faults 2 Small 20 SaltFault (FieldThenFault 3 TrailerField 1 TrailerFieldFault EndFault) (Tlv 2 (λ _. ⊥)) (λ _. ⊥) (numbers_ask 3 1 TrailerField) _ _ _ _ _ (salt_read c.new.result.value c.new.ensures _ _ _ c.in_ok-salt_len.ensures.reads)
     (field_faults 3 TrailerField 1 TrailerFieldFault EndFault (Tlv 2 (λ _. ⊥)) (λ _. ⊥) _ _ _ c.in_err-trailer_field.ensures.reads.0 (at_trailer c.new-2.result.value c.new-2.ensures _ _ _ c.in_err-trailer_field.ensures.exact)))))
 
@@ -47,8 +49,8 @@ pub returns-in_err-finish : goal.returns-in_err-finish
 returns-in_err-finish g c =
     let p = err_from_is_err_and c.from_residual-in_err-finish.result c.from_residual-in_err-finish.ensures.1 in
     rw (p.1, p.2)
-    (fields_faults 0 PlainAlgorithm sha1 (HashFault g.P.Text.text g.P.Decode.fault) (FieldThenFault 1 MaskAlgorithm mgf1_sha1 (MaskFault g.P.Text.text g.P.Decode.fault) (FieldThenFault 2 Small 20 SaltFault (FieldThenFault 3 TrailerField 1 TrailerFieldFault EndFault))) (AlgorithmAllocates g.P.Decode.may_allocate) _ (λ _ w. w) _ _ _ _ _ c.in_ok-hash.ensures.reads
-    (fields_faults 1 MaskAlgorithm mgf1_sha1 (MaskFault g.P.Text.text g.P.Decode.fault) (FieldThenFault 2 Small 20 SaltFault (FieldThenFault 3 TrailerField 1 TrailerFieldFault EndFault)) (AlgorithmAllocates (AlgorithmAllocates g.P.Decode.may_allocate)) _ (numbers_ask 2 20 Small) _ _ _ _ _ c.in_ok-mask_gen.ensures.reads
+    (fields_faults 0 PlainAlgorithm sha1 (HashFault Any AnyFault) (FieldThenFault 1 MaskAlgorithm mgf1_sha1 (MaskFault Any AnyFault) (FieldThenFault 2 Small 20 SaltFault (FieldThenFault 3 TrailerField 1 TrailerFieldFault EndFault))) (AlgorithmAllocates AllocatesForAny) _ (λ _ w. w) _ _ _ _ _ c.in_ok-hash.ensures.reads
+    (fields_faults 1 MaskAlgorithm mgf1_sha1 (MaskFault Any AnyFault) (FieldThenFault 2 Small 20 SaltFault (FieldThenFault 3 TrailerField 1 TrailerFieldFault EndFault)) (AlgorithmAllocates (AlgorithmAllocates AllocatesForAny)) _ (numbers_ask 2 20 Small) _ _ _ _ _ c.in_ok-mask_gen.ensures.reads
     (fields_faults 2 Small 20 SaltFault (FieldThenFault 3 TrailerField 1 TrailerFieldFault EndFault) (Tlv 2 (λ _. ⊥)) (λ _. ⊥) (numbers_ask 3 1 TrailerField) _ _ _ _ _ (salt_read c.new.result.value c.new.ensures _ _ _ c.in_ok-salt_len.ensures.reads)
     (fields_faults 3 TrailerField 1 TrailerFieldFault EndFault (Tlv 2 (λ _. ⊥)) (λ _. ⊥) (λ _ w. w) _ _ _ _ _ (trailer_read c.new-2.result.value c.new-2.ensures _ _ _ c.in_ok-trailer_field.ensures.reads)
     (end_faults (λ _. ⊥) _ _ _ c.in_err-finish.ensures)))))
