@@ -1,12 +1,14 @@
 #!/usr/bin/env bash
 # Want of memory: runs the built program with each of its requests for memory refused in turn, one request a run, until a
 # run makes no more. It tells want of memory and ends with 1. Of the stored input, and of the rows, it has then written
-# whole answers of the first lines; copying a key, OUT is as it was. The run that makes no more does what was asked.
-# By hand, behind rt run or rt ci, some seconds; it needs gcc. It ends with 1 where anything else comes of a request.
+# whole answers of the first lines; copying a key, OUT is as it was; the words of the command line are told of too. The
+# run that makes no more does what was asked. Called by .ci/run behind run_built.sh; it needs gcc. It prints what comes
+# of a request otherwise, and ends with 1 then; the last line counts.
 set -u
 cd "$(dirname "$0")" || exit 1
 room=$(mktemp -d) || exit 1
 trap 'rm -rf "$room"' EXIT
+requests=0
 failed=0
 [ -x out/pkcs1_tool ] || {
     echo "refuse_memory: out/pkcs1_tool isn't there: rt run builds it" >&2
@@ -26,12 +28,14 @@ refusing() {
     shift
     : > "$room/refused"
     (cd "$room" && LD_PRELOAD=$room/refuse.so REFUSED=$number "$program" "$@" < "$room/input" > "$room/output" 2> "$room/error" 9> "$room/refused")
+    status=$?
+    [ -s "$room/refused" ]
 }
 
-# fails WHAT: says what came of a request.
+# fails WHAT: counts a failure and says what came of a request.
 fails() {
-    failed=1
-    echo "$program: request $number of $1: status $status, standard error: $(cat "$room/error")"
+    failed=$((failed + 1))
+    echo "refuse_memory: $program: request $number of $1: status $status, standard error: $(cat "$room/error")"
 }
 
 # tells: the run ended with 1 and told want of memory.
@@ -42,48 +46,64 @@ tells() {
     esac
 }
 
+# some WHAT: counts the requests that were refused, of which there are some.
+some() {
+    requests=$((requests + number - 1))
+    [ "$number" -gt 1 ] || fails "$1, which makes none"
+}
+
 # answers INPUT OUTPUT: lines, and their answers.
 answers() {
+    number=1
     cp "$1" "$room/input"
-    for number in $(seq 1 9999); do
-        refusing "$number"
-        status=$?
-        if [ ! -s "$room/refused" ]; then
-            [ "$status" = 0 ] && cmp -s "$2" "$room/output" || fails "lines"
-            break
-        fi
-        tells && head -n "$(wc -l < "$room/output")" "$2" | cmp -s - "$room/output" || fails "lines"
+    while refusing "$number"; do
+        tells && head -n "$(wc -l < "$room/output")" "$2" | cmp -s - "$room/output" || fails "$1"
+        number=$((number + 1))
     done
-    echo "$(wc -l < "$2") lines: $((number - 1)) requests"
+    [ "$status" = 0 ] && cmp -s "$2" "$room/output" || fails "$1"
+    some "$1"
 }
 
 # copies KIND TEXT: a key.
 copies() {
+    number=1
     : > "$room/input"
     hex "$2" > "$room/in.der"
-    for number in $(seq 1 9999); do
-        printf old > "$room/out.der"
-        refusing "$number" copy "$1" in.der out.der
-        status=$?
-        if [ ! -s "$room/refused" ]; then
-            [ "$status" = 0 ] && cmp -s "$room/in.der" "$room/out.der" || fails "copy $1 $2"
-            break
-        fi
+    printf old > "$room/out.der"
+    while refusing "$number" copy "$1" in.der out.der; do
         tells && [ "$(cat "$room/out.der")" = old ] || fails "copy $1 $2"
+        printf old > "$room/out.der"
+        number=$((number + 1))
     done
-    echo "copy $1 $2: $((number - 1)) requests"
+    [ "$status" = 0 ] && cmp -s "$room/in.der" "$room/out.der" || fails "copy $1 $2"
+    some "copy $1 $2"
+}
+
+# words ARGUMENT..: words that ask for nothing.
+words() {
+    number=1
+    : > "$room/input"
+    while refusing "$number" "$@"; do
+        tells && [ ! -s "$room/output" ] || fails "the words $*"
+        number=$((number + 1))
+    done
+    [ "$status" = 2 ] || fails "the words $*"
+    some "the words $*"
 }
 
 sed -e '/^#/d' -e '/^$/d' -e 's/ => .*//' rows > "$room/lines"
 sed -e '/^#/d' -e '/^$/d' -e 's/^.* => //' rows > "$room/answers"
+programs=0
 for program in "$PWD/out/pkcs1_tool" "$PWD/out/pkcs1_tool.by-rattle"; do
     if [ -x "$program" ]; then
-        echo "$(basename "$program"):"
+        programs=$((programs + 1))
         answers stdin stdout
         answers "$room/lines" "$room/answers"
         copies pub 3006020107020103
         copies priv 301b02010002010702010302010502010b02010d020102020104020106
         copies priv 302802010102010702010302010502010b02010d020102020104020106300b3009020111020102020103
+        words copy pem in.der out.der
     fi
 done
+echo "refuse_memory: $requests requests of $programs programs, $failed failed"
 [ "$failed" = 0 ]

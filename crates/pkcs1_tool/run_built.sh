@@ -116,6 +116,9 @@ copies_keys() {
     copies 1 "$file" new.der - copy pub . new.der
     copies 1 "$file" new.der - copy pub pub.der .
     copies 1 "$file" new.der - copy pub pub.der /dev/full
+    copies 1 "$file" no_such_folder - copy priv priv.der no_such_folder/out.der
+    copies 1 "$file" new.der - copy priv priv.der .
+    copies 1 "$file" new.der - copy priv priv.der /dev/full
     copies 2 "$usage" kept.der $old copy
     copies 2 "$usage" new.der - copy pub pub.der
     copies 2 "$usage" kept.der $old copy pub pub.der kept.der more
@@ -134,6 +137,6 @@ for program in "$PWD/out/pkcs1_tool" "$PWD/out/pkcs1_tool.by-rattle"; do
         fails "it isn't there: rt ci builds it"
     fi
 done
-echo "run_built: $(grep -vc -e '^#' -e '^$' rows) rows and 34 runs, by each of two compilers"
+echo "run_built: $(grep -vc -e '^#' -e '^$' rows) rows and 37 runs, by each of two compilers"
 echo "$passed passed, $failed failed"
 [ "$failed" = 0 ]

@@ -1,9 +1,3 @@
-pub mod Lines
-pub mod Request
-pub mod RequestValue
-pub mod Refused
-pub mod Told
-pub mod Answer
 pub mod Written
 pub mod Fault
 pub mod Plan

@@ -2,15 +2,7 @@
 use Rattle.std.specs.Prelude.{◌≡◌, ℕ, List, ◌++◌, Option}
 use Rattle.std.specs.Io.KnownBytes.{Appends}
 use Rattle.der_core.specs.SourcesSinks.{AppendsFront}
-use Rattle.pkcs1_tool.specs.Answer.{Answer, Answers}
-
--- Bytes that the fact holds of were put behind the others.
-abbrev pub Puts : (List ℕ → Type 0) → List ℕ → List ℕ → Type 0
-Puts IsAnswer old new = (answer : List ℕ) × IsAnswer answer × (new ≡ old ++ answer)
-
--- An answer of the line was put behind the bytes.
-abbrev pub PutsAnswer : List ℕ → List ℕ → List ℕ → Type 0
-PutsAnswer line old new = Puts (Answer line) old new
+use Rattle.pkcs1_lines.specs.Answer.{Answers}
 
 -- The answers of these lines were written, and nothing else.
 abbrev pub Writes : Option (List ℕ) → Option (List ℕ) → List (List ℕ) → Type 0

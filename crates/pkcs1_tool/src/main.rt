@@ -3,20 +3,10 @@
 //! `copy priv IN OUT`.
 #![tactic(auto)]
 
-mod answer;
 mod copy;
-mod digits;
 mod fault;
-mod keys;
-mod laws;
-mod lines;
-mod parameter_answers;
-mod parameters;
 mod plan;
-mod request;
 mod run;
-mod shortest;
-mod verdict;
 
 use copy::{copy_priv, copy_pub};
 use der_core::{FromRead, ToWrite};

@@ -4,15 +4,13 @@ ghost use Rattle.std.specs.Io.KnownBytes.{Appends, Keeps, IsAtEnd};
 ghost use Rattle.der_core.specs.Carrying.{piece};
 ghost use Rattle.der_core.specs.SourcesSinks.{AppendsFront, GivesAll, GivesMore, SomeRefused};
 ghost use Rattle.der_core.specs.Texts.{AtMostOne};
-ghost use Rattle.pkcs1_tool.specs.Answer.{Answer, Output};
-ghost use Rattle.pkcs1_tool.specs.Lines.{lines_of};
+ghost use Rattle.pkcs1_lines.specs.Answer.{Answer, Output};
+ghost use Rattle.pkcs1_lines.specs.Lines.{lines_of};
 ghost use Rattle.pkcs1_tool.specs.Written.{Writes, WritesFirst, WritesFront, WritesFrontOfAll};
 
-use crate::answer::answer_line;
 use crate::fault::Fault;
-use crate::laws::answers_are_one;
-use crate::lines::split_line;
 use der_core::{ErrorKind, Length, Sink, Source, put_all, read_all};
+use pkcs1_lines::{answer_line, answers_are_one, split_line};
 use std::alloc::Global;
 
 /// The longest input.

@@ -1,5 +1,5 @@
 use Rattle.std.proofs.Common.{◌++◌, ◌∷◌, [], sym, ap, ◌∙◌, append_assoc}
-use Rattle.pkcs1_tool.specs.Lines.{lines_of}
+use Rattle.pkcs1_lines.specs.Lines.{lines_of}
 use Rattle.pkcs1_tool.proofs.Runs.{Writes-push, WritesFront-push}
 use Rattle.pkcs1_tool.proofs.run.answer_lines.Goals as goal
 

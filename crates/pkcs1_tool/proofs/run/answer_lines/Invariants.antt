@@ -1,6 +1,6 @@
 use Rattle.std.proofs.Common.{◌≡◌, ℕ, ◌++◌, List, length}
 use Rattle.pkcs1_tool.specs.Written.{Writes}
-use Rattle.pkcs1_tool.specs.Lines.{lines_of}
+use Rattle.pkcs1_lines.specs.Lines.{lines_of}
 use Rattle.pkcs1_tool.proofs.run.answer_lines.Given as goal
 
 -- the lines that are answered, with what was written, and those that are left are all lines

@@ -1,5 +1,5 @@
 use Rattle.std.proofs.KnownBytes.{Consumes-whole}
-use Rattle.pkcs1_tool.specs.Lines.{lines_of}
+use Rattle.pkcs1_lines.specs.Lines.{lines_of}
 use Rattle.pkcs1_tool.specs.Written.{WritesFrontOfAll}
 use Rattle.pkcs1_tool.proofs.Runs.{WritesFront-all}
 use Rattle.pkcs1_tool.proofs.run.run.Goals as goal

@@ -1,0 +1,60 @@
+//! The answer of a line.
+ghost use Rattle.std.specs.Prelude.{OnOk};
+ghost use Rattle.pkcs1_lines.specs.Answer.{WordAnswer, PairAnswer};
+ghost use Rattle.pkcs1_lines.specs.Put.{Puts, PutsAnswer};
+
+use crate::keys::{answer_p8, answer_priv, answer_pub};
+use crate::parameter_answers::{answer_parameters, answer_same, answer_spell, answer_strict};
+use crate::request::{PairWord, Request, Word, request_of};
+use pkcs1::{RsaOaepParamsRef, RsaPssParamsRef};
+use std::alloc::{AllocError, Global};
+
+/// Puts the answer to a word with a text behind `out`.
+fn answer_word(alloc: Global, word: Word, text: &[u8], out: &mut Vec<u8>) -> Result<(), AllocError>
+    ensures { OnOk result (Puts (WordAnswer word text.now) out.old.items out.new.items) }
+{
+    match word {
+        Word::Pub => answer_pub(alloc, text, out),
+        Word::Priv => answer_priv(text, out),
+        Word::Pss => answer_parameters::<RsaPssParamsRef<'_>>(alloc, text, out),
+        Word::Oaep => answer_parameters::<RsaOaepParamsRef<'_>>(alloc, text, out),
+        Word::P8 => answer_p8(text, out),
+        Word::SpellPss => answer_spell::<RsaPssParamsRef<'_>>(alloc, b"spell-pss", text, out),
+        Word::SpellOaep => answer_spell::<RsaOaepParamsRef<'_>>(alloc, b"spell-oaep", text, out),
+        Word::StrictPss => answer_strict::<RsaPssParamsRef<'_>>(b"strict-pss", text, out),
+        Word::StrictOaep => answer_strict::<RsaOaepParamsRef<'_>>(b"strict-oaep", text, out),
+    }
+}
+
+/// Puts the answer to a word with two texts behind `out`.
+fn answer_pair(
+    alloc: Global,
+    word: PairWord,
+    first: &[u8],
+    second: &[u8],
+    out: &mut Vec<u8>,
+) -> Result<(), AllocError>
+    ensures { OnOk result (Puts (PairAnswer word first.now second.now) out.old.items out.new.items) }
+{
+    match word {
+        PairWord::SamePss => {
+            answer_same::<RsaPssParamsRef<'_>>(alloc, b"same-pss", first, second, out)
+        }
+        PairWord::SameOaep => {
+            answer_same::<RsaOaepParamsRef<'_>>(alloc, b"same-oaep", first, second, out)
+        }
+    }
+}
+
+/// Puts the answer of a line behind `out`.
+pub fn answer_line(alloc: Global, line: &[u8], out: &mut Vec<u8>) -> Result<(), AllocError>
+    ensures { OnOk result (PutsAnswer line.now out.old.items out.new.items) }
+{
+    match request_of(alloc, line)? {
+        Request::BadLine => out.extend_from_slice(b"bad line"),
+        Request::Word(word, text) => answer_word(alloc, word, text.as_slice(), out),
+        Request::Pair(word, first, second) => {
+            answer_pair(alloc, word, first.as_slice(), second.as_slice(), out)
+        }
+    }
+}

@@ -1,0 +1,185 @@
+//! The answers that tell keys.
+ghost use Rattle.std.specs.Prelude.{◌≡◌, ℕ, List, ◌++◌, OnOk, IfSome, IfNone};
+ghost use Rattle.std.specs.List.{flat_map};
+ghost use Rattle.der_core.specs.Document.{Means};
+ghost use Rattle.der_core.specs.UintRefValue.{bytes_of};
+ghost use Rattle.pkcs1.specs.Keys.{RsaPublicKey, RsaPrivateKey};
+ghost use Rattle.pkcs1.specs.PublicKeyValue.{public_key_of};
+ghost use Rattle.pkcs1.specs.PrivateKeyValue.{other_of};
+ghost use Rattle.pkcs1.specs.ViewParts.{view_of, viewed_text};
+ghost use Rattle.pkcs8_core.specs.Held.{info_of};
+ghost use Rattle.pkcs1_lines.specs.Answer.{HasNone, Tells, RsaPrivateKeyInfo, TellsContainer};
+ghost use Rattle.pkcs1_lines.specs.Put.{Puts};
+ghost use Rattle.pkcs1_lines.specs.Told.{field, pub_answer, version_told, numbers_told, other_told, others_told, key_told, priv_answer, attributes_told, p8_answer};
+
+use crate::digits::put_field;
+use crate::shortest::shortest;
+use crate::verdict::put_refused;
+use pkcs1::{OtherPrimeInfo, RsaPrivateKeyView, RsaPublicKeyRef, UintRef, Version};
+use pkcs8_core::PrivateKeyInfoRef;
+use std::alloc::{AllocError, Global};
+
+/// Puts each number behind `out`, after its label.
+fn put_numbers(numbers: &[(&[u8], UintRef<'_>)], out: &mut Vec<u8>) -> Result<(), AllocError>
+    ensures { OnOk result (out.new.items ≡ out.old.items ++ flat_map (λ n. field n.0.now (bytes_of n.1)) numbers.now) }
+{
+    for (label, number) in numbers {
+        put_field(label, number.as_bytes(), out)?;
+    }
+    Ok(())
+}
+
+/// Puts the answer of a public key with its text again behind `out`.
+fn put_pub(key: &RsaPublicKeyRef<'_>, again: &[u8], out: &mut Vec<u8>) -> Result<(), AllocError>
+    ensures { OnOk result (out.new.items ≡ out.old.items ++ pub_answer (public_key_of key.now) again.now) }
+{
+    out.extend_from_slice(b"pub")?;
+    put_numbers(&[(b" n=", key.modulus), (b" e=", key.public_exponent)], out)?;
+    put_field(b" again=", again, out)
+}
+
+/// Puts the answer of `pub` behind `out`.
+pub fn answer_pub(alloc: Global, text: &[u8], out: &mut Vec<u8>) -> Result<(), AllocError>
+    ensures { OnOk result (Puts (Tells RsaPublicKey pub_answer text.now) out.old.items out.new.items) }
+{
+    match RsaPublicKeyRef::try_from(text) {
+        Ok(key) => {
+            let mut buffer = vec![in alloc; 0u8; text.len()]?;
+            let again = shortest(text, &key, buffer.as_mut_slice());
+            put_pub(&key, again, out)
+        }
+        Err(_) => put_refused(out),
+    }
+}
+
+/// Puts the version of a private key behind `out`.
+fn put_version(key: &RsaPrivateKeyView<'_>, out: &mut Vec<u8>) -> Result<(), AllocError>
+    ensures { OnOk result (out.new.items ≡ out.old.items ++ version_told (view_of key.now).other_prime_infos) }
+{
+    match key.version() {
+        Version::TwoPrime => out.extend_from_slice(b" version=0"),
+        Version::Multi => out.extend_from_slice(b" version=1"),
+    }
+}
+
+/// Puts the eight numbers of a private key behind `out`.
+fn put_private_numbers(key: &RsaPrivateKeyView<'_>, out: &mut Vec<u8>) -> Result<(), AllocError>
+    ensures { OnOk result (out.new.items ≡ out.old.items ++ numbers_told (view_of key.now)) }
+{
+    put_numbers(
+        &[
+            (b" n=", key.modulus()),
+            (b" e=", key.public_exponent()),
+            (b" d=", key.private_exponent()),
+            (b" p=", key.prime1()),
+            (b" q=", key.prime2()),
+            (b" dp=", key.exponent1()),
+            (b" dq=", key.exponent2()),
+            (b" qi=", key.coefficient()),
+        ],
+        out,
+    )
+}
+
+/// Puts one of the other primes behind `out`.
+fn put_other(other: &OtherPrimeInfo<UintRef<'_>>, out: &mut Vec<u8>) -> Result<(), AllocError>
+    ensures { OnOk result (out.new.items ≡ out.old.items ++ other_told (other_of bytes_of other.now)) }
+{
+    put_numbers(
+        &[
+            (b" other=", other.prime),
+            (b",", other.exponent),
+            (b",", other.coefficient),
+        ],
+        out,
+    )
+}
+
+/// Puts the other primes of a private key behind `out`, in order.
+fn put_others(key: &RsaPrivateKeyView<'_>, out: &mut Vec<u8>) -> Result<(), AllocError>
+    ensures { OnOk result (out.new.items ≡ out.old.items ++ others_told (view_of key.now).other_prime_infos) }
+{
+    for other in key.other_primes() {
+        put_other(&other, out)?;
+    }
+    Ok(())
+}
+
+/// Puts what is told of a private key behind `out`.
+fn put_key(key: &RsaPrivateKeyView<'_>, out: &mut Vec<u8>) -> Result<(), AllocError>
+    ensures { OnOk result (out.new.items ≡ out.old.items ++ key_told (view_of key.now)) }
+{
+    put_version(key, out)?;
+    put_private_numbers(key, out)?;
+    put_others(key, out)
+}
+
+/// Puts the answer of a private key with its text behind `out`.
+fn put_priv(key: &RsaPrivateKeyView<'_>, out: &mut Vec<u8>) -> Result<(), AllocError>
+    ensures { OnOk result (out.new.items ≡ out.old.items ++ priv_answer (view_of key.now) (viewed_text key.now)) }
+{
+    out.extend_from_slice(b"priv")?;
+    put_key(key, out)?;
+    put_field(b" again=", key.as_bytes(), out)
+}
+
+/// Puts the answer of `priv` behind `out`. Memory is asked for by `out` alone.
+pub fn answer_priv(text: &[u8], out: &mut Vec<u8>) -> Result<(), AllocError>
+    ensures { OnOk result (Puts (Tells RsaPrivateKey priv_answer text.now) out.old.items out.new.items) }
+{
+    match RsaPrivateKeyView::try_from(text) {
+        Ok(key) => put_priv(&key, out),
+        Err(_) => put_refused(out),
+    }
+}
+
+/// The container that the text means, and the RSA key in it.
+fn read_container<'a>(text: &'a [u8]) -> Option<(PrivateKeyInfoRef<'a>, RsaPrivateKeyView<'a>)>
+    ensures some { IfSome result (λ p.
+        Means RsaPrivateKeyInfo text.now (record { info = info_of p.0; key = view_of p.1 })) }
+    ensures none { IfNone result (HasNone RsaPrivateKeyInfo text.now) }
+{
+    let Ok(info) = PrivateKeyInfoRef::try_from(text) else {
+        return None;
+    };
+    match info.rsa_view() {
+        Ok(key) => Some((info, key)),
+        Err(_) => None,
+    }
+}
+
+/// Puts the attributes of a container behind `out`.
+fn put_attributes(info: &PrivateKeyInfoRef<'_>, out: &mut Vec<u8>) -> Result<(), AllocError>
+    ensures { OnOk result (out.new.items ≡ out.old.items ++ attributes_told (info_of info.now).attributes) }
+{
+    match info.attributes() {
+        Some(contents) => put_field(b" attributes=", contents, out),
+        None => out.extend_from_slice(b" attributes=-"),
+    }
+}
+
+/// Puts the answer of a private key in a container behind `out`.
+fn put_p8(
+    info: &PrivateKeyInfoRef<'_>,
+    key: &RsaPrivateKeyView<'_>,
+    text: &[u8],
+    out: &mut Vec<u8>,
+) -> Result<(), AllocError>
+    ensures { let told = p8_answer (view_of key.now) (info_of info.now).attributes text.now in
+        OnOk result (out.new.items ≡ out.old.items ++ told) }
+{
+    out.extend_from_slice(b"p8")?;
+    put_key(key, out)?;
+    put_attributes(info, out)?;
+    put_field(b" again=", text, out)
+}
+
+/// Puts the answer of `p8` behind `out`. Memory is asked for by `out` alone.
+pub fn answer_p8(text: &[u8], out: &mut Vec<u8>) -> Result<(), AllocError>
+    ensures { OnOk result (Puts (TellsContainer text.now) out.old.items out.new.items) }
+{
+    match read_container(text) {
+        Some((info, key)) => put_p8(&info, &key, text, out),
+        None => put_refused(out),
+    }
+}

@@ -1,0 +1,107 @@
+//! The answers of lines with parameters.
+ghost use Rattle.std.specs.Prelude.{◌≡◌, ℕ, List, ◌++◌, OnOk, map, codes};
+ghost use Rattle.std.specs.List.{flat_map};
+ghost use Rattle.pkcs1_lines.specs.Put.{Puts};
+ghost use Rattle.pkcs1_lines.specs.Answer.{TellsParameters, TellsSame, TellsSpellings, TellsStrict};
+ghost use Rattle.pkcs1_lines.specs.Told.{field, spell_answer};
+
+use crate::digits::{put_field, put_number};
+use crate::parameters::Parameters;
+use crate::shortest::shortest;
+use crate::verdict::{put_refused, put_verdict};
+use std::alloc::{AllocError, Global};
+
+/// Puts the answer that tells parameters behind `out`.
+pub fn answer_parameters<'a, T: Parameters<'a>>(
+    alloc: Global,
+    text: &'a [u8],
+    out: &mut Vec<u8>,
+) -> Result<(), AllocError>
+    ensures { let answers = TellsParameters T.grammar T.fields T.told text.now in
+        OnOk result (Puts answers out.old.items out.new.items) }
+{
+    match T::read(text) {
+        Some(params) => {
+            let mut buffer = vec![in alloc; 0u8; text.len()]?;
+            let again = shortest(text, &params, buffer.as_mut_slice());
+            params.put(params.defaults(), again, out)
+        }
+        None => put_refused(out),
+    }
+}
+
+/// Puts each text behind `out`, in order.
+fn put_texts(texts: &[Vec<u8>], out: &mut Vec<u8>) -> Result<(), AllocError>
+    ensures { OnOk result (out.new.items ≡ out.old.items ++ flat_map (λ text. field (codes " ") text.items) texts.now) }
+{
+    for text in texts {
+        put_field(b" ", text.as_slice(), out)?;
+    }
+    Ok(())
+}
+
+/// Puts the word behind `out`, how many texts there are, and each text.
+fn put_spellings(word: &[u8], texts: &[Vec<u8>], out: &mut Vec<u8>) -> Result<(), AllocError>
+    ensures { let told = spell_answer word.now (map (λ text. text.items) texts.now) in
+        OnOk result (out.new.items ≡ out.old.items ++ told) }
+{
+    out.extend_from_slice(word)?;
+    put_number(b" ", texts.len(), out)?;
+    put_texts(texts, out)
+}
+
+/// Puts behind `out` all texts of the parameters that the text means, by mask.
+pub fn answer_spell<'a, T: Parameters<'a>>(
+    alloc: Global,
+    word: &[u8],
+    text: &'a [u8],
+    out: &mut Vec<u8>,
+) -> Result<(), AllocError>
+    ensures { let answers = TellsSpellings word.now T.grammar T.fields text.now in
+        OnOk result (Puts answers out.old.items out.new.items) }
+{
+    let Some(params) = T::read(text) else {
+        return put_refused(out);
+    };
+    match params.all_texts(alloc)? {
+        Some(texts) => put_spellings(word, texts.as_slice(), out),
+        None => put_refused(out),
+    }
+}
+
+/// Puts behind `out` whether the text is the shortest of the parameters that it means.
+pub fn answer_strict<'a, T: Parameters<'a>>(
+    word: &[u8],
+    text: &'a [u8],
+    out: &mut Vec<u8>,
+) -> Result<(), AllocError>
+    ensures { OnOk result (Puts (TellsStrict word.now T.grammar text.now) out.old.items out.new.items) }
+{
+    match T::read(text) {
+        Some(_params) => put_verdict(word, T::is_strict(text), out),
+        None => put_refused(out),
+    }
+}
+
+/// Puts behind `out` whether both texts mean the same parameters: whether these have one shortest text.
+pub fn answer_same<'a, T: Parameters<'a>>(
+    alloc: Global,
+    word: &[u8],
+    first: &'a [u8],
+    second: &'a [u8],
+    out: &mut Vec<u8>,
+) -> Result<(), AllocError>
+    ensures { let answers = TellsSame word.now T.grammar first.now second.now in
+        OnOk result (Puts answers out.old.items out.new.items) }
+{
+    match (T::read(first), T::read(second)) {
+        (Some(params), Some(others)) => {
+            let mut first_buffer = vec![in alloc; 0u8; first.len()]?;
+            let mut second_buffer = vec![in alloc; 0u8; second.len()]?;
+            let again = shortest(first, &params, first_buffer.as_mut_slice());
+            let other = shortest(second, &others, second_buffer.as_mut_slice());
+            put_verdict(word, again == other, out)
+        }
+        _ => put_refused(out),
+    }
+}

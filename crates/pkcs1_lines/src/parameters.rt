@@ -1,0 +1,293 @@
+//! Parameters, and what is told of them.
+ghost use Rattle.std.specs.Prelude.{◌≡◌, ℕ, List, ◌++◌, ◌↔◌, IsTrue, OnOk, IfOk, IfSome, IfNone, IsErrAnd};
+ghost use Rattle.der_core.specs.Document.{Means, IsShortest};
+ghost use Rattle.der_core.specs.Texts.{IsDelimited};
+ghost use Rattle.spki_core.specs.AnyRefValue.{any_of};
+ghost use Rattle.spki_core.specs.AlgorithmValue.{algorithm_of, mask_of};
+ghost use Rattle.spki_core.specs.Explicit.{Field, HaveDefaults};
+ghost use Rattle.spki_core.specs.ObjectIdentifierValue.{octets_of};
+ghost use Rattle.pkcs1_params.specs.Parameters.{PssParameters, RsaPssParams, pss_fields, OaepParameters, RsaOaepParams, oaep_fields};
+ghost use Rattle.pkcs1_params.specs.Defaults.{pss_defaults, oaep_defaults};
+ghost use Rattle.pkcs1_params.specs.ParameterLaws.{pss_delimited, oaep_delimited};
+ghost use Rattle.pkcs1_params.specs.PssValue.{pss_of};
+ghost use Rattle.pkcs1_params.specs.OaepValue.{oaep_of};
+ghost use Rattle.pkcs1_params.specs.Spellings.{AllFit, AreAllSpellings, texts_in};
+ghost use Rattle.pkcs1_lines.specs.Refused.{WantsMemory};
+ghost use Rattle.pkcs1_lines.specs.Answer.{HasNone};
+ghost use Rattle.pkcs1_lines.specs.Told.{any_told, identifier_told, plain_told, bracketed, mask_told, hash_fields_told, spelling_told, pss_answer, oaep_answer};
+
+use crate::digits::{put_field, put_hex, put_number};
+use der_core::{Encode, ErrorKind};
+use pkcs1::{Error, ObjectIdentifier, RsaOaepParamsRef, RsaPssParamsRef};
+use spki_core::{AlgorithmIdentifier, AlgorithmIdentifierRef, AnyRef};
+use std::alloc::{AllocError, Global};
+
+/// Parameters of one of the two types, as lines ask for them.
+pub trait Parameters<'a>: Encode + Drop + Sized {
+    /// What values of the type mean.
+    ghost Meaning: { Type 0 };
+
+    ghost meaning: { Self → Meaning };
+
+    /// The texts of what a value means.
+    ghost grammar: { Meaning → List ℕ → Type 0 };
+
+    ghost fields: { Meaning → List Field };
+
+    /// What is told of a value with so many defaults and with this text.
+    ghost told: { Meaning → ℕ → List ℕ → List ℕ };
+
+    /// The parameters that the text means.
+    fn read(text: &'a [u8]) -> Option<Self>
+        ensures some { IfSome result (λ params. Means grammar text.now (meaning params)) }
+        ensures none { IfNone result (HasNone grammar text.now) };
+
+    /// Whether the text is the shortest of what it means.
+    fn is_strict(text: &'a [u8]) -> bool
+        ensures { IsTrue result ↔ ((params : Meaning) × IsShortest grammar params text.now) };
+
+    /// All texts, by mask; none where not every text fits.
+    fn all_texts(&self, alloc: Global) -> Result<Option<Vec<Vec<u8>>>, AllocError>
+        ensures all { let params = meaning self.now in
+            IfOk result (λ found. IfSome found (λ texts.
+            AllFit (fields params) × AreAllSpellings fields params (texts_in texts))) }
+        ensures none { IfOk result (λ found. IfNone found (AllFit (fields (meaning self.now)) → ⊥)) };
+
+    /// How many fields equal their defaults.
+    fn defaults(&self) -> u8
+        ensures { HaveDefaults (fields (meaning self.now)) result };
+
+    /// Puts what is told behind `out`.
+    fn put(&self, defaults: u8, again: &[u8], out: &mut Vec<u8>) -> Result<(), AllocError>
+        ensures { OnOk result (out.new.items ≡ out.old.items ++ told (meaning self.now) defaults again.now) };
+
+    /// Each text means one value.
+    ghost delimited: { IsDelimited grammar };
+
+    /// Each value has a number of defaults.
+    ghost counted: { (params : Meaning) → (k : ℕ) × HaveDefaults (fields params) k };
+
+    /// What is written are the texts of the grammar.
+    ghost means_as: { (params : Self) (text : List ℕ)
+        → Means grammar text (meaning params) → Means Self.text text (Self.value params) };
+
+    ghost shortest_as: { (params : Self) (text : List ℕ)
+        → IsShortest Self.text (Self.value params) text → IsShortest grammar (meaning params) text };
+}
+
+/// Whether the refusal is want of memory.
+fn wants_memory(error: &Error) -> bool
+    ensures { IsTrue result ↔ WantsMemory error.now }
+{
+    match error {
+        Error::Asn1(error) => error.kind == ErrorKind::OutOfMemory,
+        _ => false,
+    }
+}
+
+/// The texts, or none where they are refused and memory isn't wanted.
+fn found(texts: pkcs1::Result<Vec<Vec<u8>>>) -> Result<Option<Vec<Vec<u8>>>, AllocError>
+    ensures some { IfOk result (λ found. IfSome found (λ list. texts ≡ Ok list)) }
+    ensures none { IfOk result (λ found. IfNone found (IsErrAnd texts (λ e. WantsMemory e → ⊥))) }
+{
+    match texts {
+        Ok(texts) => Ok(Some(texts)),
+        Err(error) => {
+            if wants_memory(&error) {
+                return Err(AllocError);
+            }
+            Ok(None)
+        }
+    }
+}
+
+/// What is told of absent parameters.
+const ABSENT: &[u8] = b"-";
+
+/// A mask generation function.
+type MaskGenRef<'a> = AlgorithmIdentifier<AlgorithmIdentifierRef<'a>>;
+
+/// Puts a tag and contents behind `out`.
+fn put_any(any: &AnyRef<'_>, out: &mut Vec<u8>) -> Result<(), AllocError>
+    ensures { OnOk result (out.new.items ≡ out.old.items ++ any_told (any_of any.now)) }
+{
+    put_hex(&[any.tag().octet()], out)?;
+    put_field(b":", any.value(), out)
+}
+
+/// Puts an identifier and `/` behind `out`.
+fn put_identifier(oid: &ObjectIdentifier, out: &mut Vec<u8>) -> Result<(), AllocError>
+    ensures { OnOk result (out.new.items ≡ out.old.items ++ identifier_told (octets_of oid.now)) }
+{
+    put_hex(oid.as_bytes(), out)?;
+    out.extend_from_slice(b"/")
+}
+
+/// Puts an algorithm whose parameters are any text behind `out`.
+fn put_plain(algorithm: &AlgorithmIdentifierRef<'_>, out: &mut Vec<u8>) -> Result<(), AllocError>
+    ensures { OnOk result (out.new.items ≡ out.old.items ++ plain_told (algorithm_of algorithm.now)) }
+{
+    put_identifier(&algorithm.oid, out)?;
+    match &algorithm.parameters {
+        Some(any) => put_any(any, out),
+        None => out.extend_from_slice(ABSENT),
+    }
+}
+
+/// Puts an algorithm in brackets behind `out`.
+fn put_bracketed(
+    algorithm: &AlgorithmIdentifierRef<'_>,
+    out: &mut Vec<u8>,
+) -> Result<(), AllocError>
+    ensures { OnOk result (out.new.items ≡ out.old.items ++ bracketed (algorithm_of algorithm.now)) }
+{
+    out.extend_from_slice(b"[")?;
+    put_plain(algorithm, out)?;
+    out.extend_from_slice(b"]")
+}
+
+/// Puts a mask generation function behind `out`.
+fn put_mask(mask_gen: &MaskGenRef<'_>, out: &mut Vec<u8>) -> Result<(), AllocError>
+    ensures { OnOk result (out.new.items ≡ out.old.items ++ mask_told (mask_of mask_gen.now)) }
+{
+    put_identifier(&mask_gen.oid, out)?;
+    match &mask_gen.parameters {
+        Some(hash) => put_bracketed(hash, out),
+        None => out.extend_from_slice(ABSENT),
+    }
+}
+
+/// Puts the hash function and the mask generation function behind `out`.
+fn put_hash_fields(
+    hash: &AlgorithmIdentifierRef<'_>,
+    mask_gen: &MaskGenRef<'_>,
+    out: &mut Vec<u8>,
+) -> Result<(), AllocError>
+    ensures { let told = hash_fields_told (algorithm_of hash.now) (mask_of mask_gen.now) in
+        OnOk result (out.new.items ≡ out.old.items ++ told) }
+{
+    out.extend_from_slice(b" hash=")?;
+    put_plain(hash, out)?;
+    out.extend_from_slice(b" mask=")?;
+    put_mask(mask_gen, out)
+}
+
+/// Puts how many fields have their defaults, and the text again, behind `out`.
+fn put_spelling(defaults: u8, again: &[u8], out: &mut Vec<u8>) -> Result<(), AllocError>
+    ensures { OnOk result (out.new.items ≡ out.old.items ++ spelling_told defaults again.now) }
+{
+    put_number(b" defaults=", usize::from(defaults), out)?;
+    put_field(b" again=", again, out)
+}
+
+/// Puts the answer of `pss` parameters with so many defaults, and with their text again, behind `out`.
+fn put_pss(
+    params: &RsaPssParamsRef<'_>,
+    defaults: u8,
+    again: &[u8],
+    out: &mut Vec<u8>,
+) -> Result<(), AllocError>
+    ensures { OnOk result (out.new.items ≡ out.old.items ++ pss_answer (pss_of params.now) defaults again.now) }
+{
+    out.extend_from_slice(b"pss")?;
+    put_hash_fields(&params.hash, &params.mask_gen, out)?;
+    put_number(b" salt=", usize::from(params.salt_len), out)?;
+    put_number(b" trailer=", params.trailer_field as usize, out)?;
+    put_spelling(defaults, again, out)
+}
+
+/// Puts the answer of `oaep` parameters with so many defaults, and with their text again, behind `out`.
+fn put_oaep(
+    params: &RsaOaepParamsRef<'_>,
+    defaults: u8,
+    again: &[u8],
+    out: &mut Vec<u8>,
+) -> Result<(), AllocError>
+    ensures { OnOk result (out.new.items ≡ out.old.items ++ oaep_answer (oaep_of params.now) defaults again.now) }
+{
+    out.extend_from_slice(b"oaep")?;
+    put_hash_fields(&params.hash, &params.mask_gen, out)?;
+    out.extend_from_slice(b" source=")?;
+    put_plain(&params.p_source, out)?;
+    put_spelling(defaults, again, out)
+}
+
+impl<'a> Parameters<'a> for RsaPssParamsRef<'a> {
+    ghost Meaning = { PssParameters };
+
+    ghost meaning = { pss_of };
+
+    ghost grammar = { RsaPssParams };
+
+    ghost fields = { pss_fields };
+
+    ghost told = { pss_answer };
+
+    fn read(text: &'a [u8]) -> Option<RsaPssParamsRef<'a>> {
+        RsaPssParamsRef::try_from(text).ok()
+    }
+
+    fn is_strict(text: &'a [u8]) -> bool {
+        RsaPssParamsRef::from_der_strict(text).is_ok()
+    }
+
+    fn all_texts(&self, alloc: Global) -> Result<Option<Vec<Vec<u8>>>, AllocError> {
+        found(self.spellings(alloc))
+    }
+
+    fn defaults(&self) -> u8 {
+        self.default_fields()
+    }
+
+    fn put(&self, defaults: u8, again: &[u8], out: &mut Vec<u8>) -> Result<(), AllocError> {
+        put_pss(self, defaults, again, out)
+    }
+
+    ghost delimited = { pss_delimited };
+
+    ghost counted = { pss_defaults };
+
+    ghost means_as = { λ params text means. means };
+
+    ghost shortest_as = { λ params text shortest. shortest };
+}
+
+impl<'a> Parameters<'a> for RsaOaepParamsRef<'a> {
+    ghost Meaning = { OaepParameters };
+
+    ghost meaning = { oaep_of };
+
+    ghost grammar = { RsaOaepParams };
+
+    ghost fields = { oaep_fields };
+
+    ghost told = { oaep_answer };
+
+    fn read(text: &'a [u8]) -> Option<RsaOaepParamsRef<'a>> {
+        RsaOaepParamsRef::try_from(text).ok()
+    }
+
+    fn is_strict(text: &'a [u8]) -> bool {
+        RsaOaepParamsRef::from_der_strict(text).is_ok()
+    }
+
+    fn all_texts(&self, alloc: Global) -> Result<Option<Vec<Vec<u8>>>, AllocError> {
+        found(self.spellings(alloc))
+    }
+
+    fn defaults(&self) -> u8 {
+        self.default_fields()
+    }
+
+    fn put(&self, defaults: u8, again: &[u8], out: &mut Vec<u8>) -> Result<(), AllocError> {
+        put_oaep(self, defaults, again, out)
+    }
+
+    ghost delimited = { oaep_delimited };
+
+    ghost counted = { oaep_defaults };
+
+    ghost means_as = { λ params text means. means };
+
+    ghost shortest_as = { λ params text shortest. shortest };
+}
