@@ -17,9 +17,8 @@ use Rattle.der_core.proofs.Refusals.{refused_by}
 use Rattle.pkcs1_params.specs.declared.error.Error.{Error}
 use Rattle.pkcs1_params.specs.declared.error.Error.TheVariants as error
 use Rattle.pkcs1.specs.declared.private_key.other_prime_info.OtherPrimeInfo.{OtherPrimeInfo}
-use Rattle.pkcs1.specs.declared.private_key.RsaPrivateKey as declared
 use Rattle.pkcs1.specs.Keys.{RsaPrivateKey}
-use Rattle.pkcs1.specs.PrivateKeyValue.{other_of, others_of, private_key_with}
+use Rattle.pkcs1.specs.PrivateKeyValue.{Listed, other_of, others_of, private_key_with}
 use Rattle.pkcs1_params.specs.Refusals.{IsAsn1}
 use Rattle.pkcs1.specs.Writing.{HasOthers, HasPrivateKey, other_numbers, key_numbers}
 use Rattle.pkcs1.proofs.PrivateKeys.{IsHeld, AreHeld, private_made}
@@ -42,7 +41,7 @@ module _ {U : Type 0} (number : U → List ℕ) (held : (u : U) → IsHeld (numb
   others_held None has = tt
   others_held (Some v) has = (has.0, omega (arith, length-map v.items (other_of number), v.ok, v.small), each_held v.items)
 
-  numbers_held : (key : declared.RsaPrivateKey U) → AllHave IsHeld (key_numbers (private_key_with number key))
+  numbers_held : (key : Listed U) → AllHave IsHeld (key_numbers (private_key_with number key))
   numbers_held key = (
     held key.modulus,
     (
@@ -55,10 +54,10 @@ module _ {U : Type 0} (number : U → List ℕ) (held : (u : U) → IsHeld (numb
   )
 
   -- So a key that can be written has a text.
-  pub held_has_text : (key : declared.RsaPrivateKey U) → HasPrivateKey IsCanonical (private_key_with number key) → HasText RsaPrivateKey (private_key_with number key)
+  pub held_has_text : (key : Listed U) → HasPrivateKey IsCanonical (private_key_with number key) → HasText RsaPrivateKey (private_key_with number key)
   held_has_text key has = private_made (private_key_with number key) (numbers_held key) (others_held key.other_prime_infos has.1.1)
 
-  pub refused_held : (key : declared.RsaPrivateKey U) (room : ℕ) (result : Result ℕ Error)
+  pub refused_held : (key : Listed U) (room : ℕ) (result : Result ℕ Error)
       → IfErr result (IsAsn1 (λ e. IsRefused (HasPrivateKey IsCanonical (private_key_with number key)) RsaPrivateKey (private_key_with number key) room (encode_refusal e.kind)))
       → IfErr result (IsAsn1 (λ e. IsRefused (HasText RsaPrivateKey (private_key_with number key)) RsaPrivateKey (private_key_with number key) room (encode_refusal e.kind)))
   refused_held key room (Ok n) h = tt

@@ -14,10 +14,9 @@ use Rattle.der_core.specs.declared.document.Secret.{Secret}
 use Rattle.der_core.specs.declared.error.ErrorKind.{ErrorKind}
 use Rattle.pkcs1_params.specs.declared.error.Error.{Error}
 use Rattle.pkcs1_params.specs.declared.error.Error.TheVariants as error
-use Rattle.pkcs1.specs.declared.private_key.RsaPrivateKey as declared
 use Rattle.pkcs1.specs.Keys.{PublicKey, PublicKeyContents, RsaPublicKey, PrivateKey, RsaPrivateKey}
 use Rattle.pkcs1.specs.KeyTexts.{IsOnlyText, IsUnwritten}
-use Rattle.pkcs1.specs.PrivateKeyValue.{private_key_with}
+use Rattle.pkcs1.specs.PrivateKeyValue.{Listed, private_key_with}
 use Rattle.pkcs1.specs.PublicKeyLaws.{public_key_relates}
 use Rattle.pkcs1_params.specs.Refusals.{IsAsn1}
 use Rattle.pkcs1.specs.Writing.{HasPublicKey, HasPrivateKey, written_public_key}
@@ -57,7 +56,7 @@ document_only key (Ok document) h = only_text RsaPrivateKey private_delimited ke
 document_only key (Err e) h = tt
 
 -- A private key that holds its numbers has a text, where it has what is written.
-pub unwritten_held : {U : Type 0} (number : U → List ℕ) (held : (u : U) → IsHeld (number u)) (key : declared.RsaPrivateKey U) (result : Result (DocumentOf Secret) Error)
+pub unwritten_held : {U : Type 0} (number : U → List ℕ) (held : (u : U) → IsHeld (number u)) (key : Listed U) (result : Result (DocumentOf Secret) Error)
     → IfErr result (IsAsn1 (λ e. IsUnwritten (HasPrivateKey IsCanonical (private_key_with number key)) RsaPrivateKey (private_key_with number key) e.kind))
     → IfErr result (IsAsn1 (λ e. IsUnwritten (HasText RsaPrivateKey (private_key_with number key)) RsaPrivateKey (private_key_with number key) e.kind))
 unwritten_held number held key (Ok document) h = tt

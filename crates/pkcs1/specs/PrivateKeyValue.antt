@@ -6,7 +6,7 @@ use Rattle.std.specs.Option.{option_map}
 use Rattle.std.specs.declared.alloc.Global.{Global}
 use Rattle.std.specs.declared.vec.Vec.{Vec}
 use Rattle.pkcs1.specs.declared.private_key.other_prime_info.OtherPrimeInfo.{OtherPrimeInfo}
-use Rattle.pkcs1.specs.declared.private_key.RsaPrivateKey.{RsaPrivateKey}
+use Rattle.pkcs1.specs.declared.private_key.PrivateKeyOf.{PrivateKeyOf}
 use Rattle.pkcs1.specs.Keys.{OtherPrime, PrivateKey, PublicKey}
 
 abbrev pub other_of : {U V : Type 0} → (U → V) → OtherPrimeInfo U → OtherPrime V
@@ -20,8 +20,9 @@ abbrev pub ListsNone : {U : Type 0} → Option (Vec (OtherPrimeInfo U) Global) �
 ListsNone None = ⊥
 ListsNone (Some v) = length v.items ≡ 0
 
-abbrev pub private_key_with : {U V : Type 0} → (U → V) → RsaPrivateKey U → PrivateKey V
-private_key_with value key = record {
+-- What a key means, by what its numbers and its other primes mean.
+abbrev pub key_with : {U O V : Type 0} → (U → V) → (O → List (OtherPrime V)) → PrivateKeyOf U O → PrivateKey V
+key_with value primes key = record {
   modulus = value key.modulus;
   public_exponent = value key.public_exponent;
   private_exponent = value key.private_exponent;
@@ -30,13 +31,20 @@ private_key_with value key = record {
   exponent1 = value key.exponent1;
   exponent2 = value key.exponent2;
   coefficient = value key.coefficient;
-  other_prime_infos = others_of value key.other_prime_infos;
+  other_prime_infos = option_map primes key.other_prime_infos;
 }
 
+-- A private key with a list of its other primes.
+abbrev pub Listed : Type 0 → Type 0
+Listed U = PrivateKeyOf U (Vec (OtherPrimeInfo U) Global)
+
+abbrev pub private_key_with : {U V : Type 0} → (U → V) → Listed U → PrivateKey V
+private_key_with value key = key_with value (λ v. map (other_of value) v.items) key
+
 -- The public key in a private key (RFC 8017 3.1, 3.2).
-abbrev pub public_in : {U V : Type 0} → (U → V) → RsaPrivateKey U → PublicKey V
+abbrev pub public_in : {U O V : Type 0} → (U → V) → PrivateKeyOf U O → PublicKey V
 public_in value key = record { modulus = value key.modulus; public_exponent = value key.public_exponent }
 
 -- What a borrowed private key means.
-abbrev pub private_key_of : RsaPrivateKey UintRef → PrivateKey (List ℕ)
+abbrev pub private_key_of : Listed UintRef → PrivateKey (List ℕ)
 private_key_of key = private_key_with bytes_of key

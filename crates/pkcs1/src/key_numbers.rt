@@ -1,41 +1,19 @@
 //! The eight numbers of private keys: reading and copying them.
-ghost use Rattle.std.specs.Prelude.{◌≡◌, IfOk, IfErr, IsOk, ⊤};
+ghost use Rattle.std.specs.Prelude.{◌≡◌, IfOk, IfErr, IsOk};
 ghost use Rattle.der_core.specs.Faults.{FaultyFront};
 ghost use Rattle.pkcs1.specs.KeyFaults.{CountedFault};
 ghost use Rattle.der_core.specs.Reading.{ReadsText, AllocatesWithin};
 ghost use Rattle.pkcs1.specs.KeyNumbers.{EightNumbers, numbers_of};
 
+use crate::private_key::PrivateKeyOf;
 use der_core::{Decode, ErrorKind, Memory, Reader, Result, TryClone};
-use std::alloc::{AllocError, Global};
+use std::alloc::Global;
 
-/// The numbers of a private key, in the order of its text (RFC 8017 A.1.2).
-#[derive(Copy, Drop)]
-pub(crate) struct KeyNumbers<U> {
-    pub(crate) modulus: U,
-    pub(crate) public_exponent: U,
-    pub(crate) private_exponent: U,
-    pub(crate) prime1: U,
-    pub(crate) prime2: U,
-    pub(crate) exponent1: U,
-    pub(crate) exponent2: U,
-    pub(crate) coefficient: U,
-}
-
-impl<U: Copy> Clone for KeyNumbers<U> {
-    ghost is_clone = { λ a b. b ≡ a };
-
-    ghost is_infallible = { λ _. ⊤ };
-
-    fn clone(&self) -> std::result::Result<KeyNumbers<U>, AllocError> {
-        Ok(*self)
-    }
-}
-
-/// Reads the eight numbers, one after another.
-pub(crate) fn read_key_numbers<'a, M: Memory, U: Decode<&'a [u8], M>, R: Reader<&'a [u8]>>(
+/// Reads the eight numbers, one after another, into a key that has no other primes yet.
+pub(crate) fn read_key_numbers<'a, M: Memory, U: Decode<&'a [u8], M>, O, R: Reader<&'a [u8]>>(
     memory: M,
     reader: &mut R,
-) -> Result<KeyNumbers<U>>
+) -> Result<PrivateKeyOf<U, O>>
     ensures text { ReadsText (numbers_of U.value) (EightNumbers U.text) (AllocatesWithin U.Decode.may_allocate)
         result (R.left reader.old) (R.left reader.new) }
     ensures exact { let fault = CountedFault 8 U.text U.Decode.fault in
@@ -49,7 +27,7 @@ pub(crate) fn read_key_numbers<'a, M: Memory, U: Decode<&'a [u8], M>, R: Reader<
     let exponent1 = U::decode(memory, reader)?;
     let exponent2 = U::decode(memory, reader)?;
     let coefficient = U::decode(memory, reader)?;
-    Ok(KeyNumbers {
+    Ok(PrivateKeyOf {
         modulus,
         public_exponent,
         private_exponent,
@@ -58,6 +36,7 @@ pub(crate) fn read_key_numbers<'a, M: Memory, U: Decode<&'a [u8], M>, R: Reader<
         exponent1,
         exponent2,
         coefficient,
+        other_prime_infos: None,
     })
 }
 

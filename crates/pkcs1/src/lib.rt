@@ -31,7 +31,7 @@ pub use pkcs1_params::{
     oaep_spellings, pss_spellings,
 };
 pub use private_key::other_prime_info::{OtherPrimeInfo, OtherPrimeInfos};
-pub use private_key::{RsaPrivateKey, RsaPrivateKeyOwned, RsaPrivateKeyRef};
+pub use private_key::{PrivateKeyOf, RsaPrivateKey, RsaPrivateKeyOwned, RsaPrivateKeyRef};
 pub use public_key::{RsaPublicKey, RsaPublicKeyOwned, RsaPublicKeyRef};
 pub use reencode::{reencode_private_key, reencode_public_key};
 pub use spki_core as spki;

@@ -1,5 +1,5 @@
 //! RSA private keys.
-ghost use Rattle.std.specs.Prelude.{◌≡◌, ◌↔◌, map, IsSome, IsErrAnd, refl};
+ghost use Rattle.std.specs.Prelude.{◌≡◌, ◌↔◌, ⊤, map, IsSome, IsErrAnd, refl};
 ghost use Rattle.der_core.specs.Tags.{sequence};
 ghost use Rattle.der_core.specs.Writing.{Counts, Appends};
 ghost use Rattle.pkcs1.specs.Allocating.{AllocatesForKey};
@@ -24,11 +24,11 @@ use other_prime_info::{
     OtherPrimeInfos, clone_other_primes, encode_other_primes, lists_none, other_primes_len,
     prepend_other_primes, read_other_primes,
 };
-use std::alloc::Global;
+use std::alloc::{AllocError, Global};
 use std::fmt;
 
-/// An RSA private key (RFC 8017 A.1.2). No relation of its numbers is checked. Its version isn't stored: it is `Multi`
-/// exactly where there are other primes. A list of no primes has no text: writing it is refused by `Value` of SEQUENCE.
+/// An RSA private key (RFC 8017 A.1.2), with its numbers as U and its other primes, if there are any, as O. No relation of
+/// its numbers is checked. Its version isn't stored: it is `Multi` exactly where there are other primes.
 ///
 /// ```text
 /// RSAPrivateKey ::= SEQUENCE {
@@ -44,8 +44,8 @@ use std::fmt;
 ///     otherPrimeInfos  OtherPrimeInfos OPTIONAL
 /// }
 /// ```
-#[derive(Drop)]
-pub struct RsaPrivateKey<U> {
+#[derive(Copy, Drop)]
+pub struct PrivateKeyOf<U, O> {
     /// The modulus n.
     pub modulus: U,
     /// The public exponent e.
@@ -63,8 +63,11 @@ pub struct RsaPrivateKey<U> {
     /// The coefficient: the inverse of q modulo p.
     pub coefficient: U,
     /// The primes past the first two.
-    pub other_prime_infos: Option<OtherPrimeInfos<U>>,
+    pub other_prime_infos: Option<O>,
 }
+
+/// A private key with a list of its other primes. An empty list has no text: writing it is refused by `Value` of SEQUENCE.
+pub type RsaPrivateKey<U> = PrivateKeyOf<U, OtherPrimeInfos<U>>;
 
 /// A private key that borrows its numbers.
 pub type RsaPrivateKeyRef<'a> = RsaPrivateKey<UintRef<'a>>;
@@ -72,7 +75,17 @@ pub type RsaPrivateKeyRef<'a> = RsaPrivateKey<UintRef<'a>>;
 /// A private key that owns its numbers.
 pub type RsaPrivateKeyOwned = RsaPrivateKey<Uint>;
 
-impl<U> RsaPrivateKey<U> {
+impl<U: Copy, O: Copy> Clone for PrivateKeyOf<U, O> {
+    ghost is_clone = { λ a b. b ≡ a };
+
+    ghost is_infallible = { λ _. ⊤ };
+
+    fn clone(&self) -> std::result::Result<PrivateKeyOf<U, O>, AllocError> {
+        Ok(*self)
+    }
+}
+
+impl<U, O> PrivateKeyOf<U, O> {
     /// The version: whether there are other primes.
     pub fn version(&self) -> Version
         ensures { (result ≡ Version.Multi) ↔ IsSome self.now.other_prime_infos }
@@ -140,11 +153,11 @@ impl<U: Text> Contents for RsaPrivateKey<U> {
     ghost contents_of_bytes = { private_of_bytes U.text U.text_of_bytes };
 }
 
-impl<U> TaggedBy for RsaPrivateKey<U> {
+impl<U, O> TaggedBy for PrivateKeyOf<U, O> {
     type Marker = SequenceTag;
 }
 
-impl<'a, U> Sequence<'a> for RsaPrivateKey<U> {
+impl<'a, U, O> Sequence<'a> for PrivateKeyOf<U, O> {
     ghost is_sequence = { refl };
 }
 
@@ -162,19 +175,9 @@ impl<'a, U: Decode<&'a [u8], Global>> DecodeValue<&'a [u8], Global> for RsaPriva
         _header: Header,
     ) -> Result<RsaPrivateKey<U>> {
         let version = Version::decode(memory, reader)?;
-        let numbers = read_key_numbers(memory, reader)?;
-        let other_prime_infos = read_other_primes(memory, reader, version)?;
-        Ok(RsaPrivateKey {
-            modulus: numbers.modulus,
-            public_exponent: numbers.public_exponent,
-            private_exponent: numbers.private_exponent,
-            prime1: numbers.prime1,
-            prime2: numbers.prime2,
-            exponent1: numbers.exponent1,
-            exponent2: numbers.exponent2,
-            coefficient: numbers.coefficient,
-            other_prime_infos,
-        })
+        let mut key = read_key_numbers(memory, reader)?;
+        key.other_prime_infos = read_other_primes(memory, reader, version)?;
+        Ok(key)
     }
 
     ghost fault_none = { private_key_fault_none U.text U.Decode.fault U.delimited U.Decode.fault_none };
@@ -263,25 +266,24 @@ impl<U: TryClone> TryClone for RsaPrivateKey<U> {
     }
 }
 
-impl<U: fmt::Debug> fmt::Debug for RsaPrivateKey<U> {
-    /// Prints the version, the modulus and the public exponent, and nothing that is secret.
-    fn fmt<W: fmt::Write>(&self, f: &mut fmt::Formatter<W>) -> fmt::Result {
-        let (modulus, public_exponent) = (&self.modulus, &self.public_exponent);
-        print_public("RsaPrivateKey", self.version(), modulus, public_exponent, f)
+impl<U: fmt::Debug, O> PrivateKeyOf<U, O> {
+    /// Prints, under a name, the version, the modulus and the public exponent, and nothing that is secret.
+    pub(crate) fn print<W: fmt::Write>(
+        &self,
+        name: &str,
+        f: &mut fmt::Formatter<W>,
+    ) -> fmt::Result {
+        f.debug_struct(name)
+            .field("version", &self.version())
+            .field("modulus", &self.modulus)
+            .field("public_exponent", &self.public_exponent)
+            .finish_non_exhaustive()
     }
 }
 
-/// Prints of a private key what isn't secret.
-pub(crate) fn print_public<U: fmt::Debug, W: fmt::Write>(
-    name: &str,
-    version: Version,
-    modulus: &U,
-    public_exponent: &U,
-    f: &mut fmt::Formatter<W>,
-) -> fmt::Result {
-    f.debug_struct(name)
-        .field("version", &version)
-        .field("modulus", modulus)
-        .field("public_exponent", public_exponent)
-        .finish_non_exhaustive()
+impl<U: fmt::Debug> fmt::Debug for RsaPrivateKey<U> {
+    /// Prints the version, the modulus and the public exponent, and nothing that is secret.
+    fn fmt<W: fmt::Write>(&self, f: &mut fmt::Formatter<W>) -> fmt::Result {
+        self.print("RsaPrivateKey", f)
+    }
 }

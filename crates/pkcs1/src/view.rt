@@ -14,32 +14,29 @@ ghost use Rattle.pkcs1.specs.Keys.{OthersOf, PrivateKey, PrivateKeyContents, pub
 ghost use Rattle.pkcs1.specs.OtherPrimesLeft.{others_left, HoldsNone};
 ghost use Rattle.pkcs1.specs.PrivateKeyLaws.{private_means_one};
 ghost use Rattle.pkcs1.specs.OtherPrimesHeld.{keys_are_bytes};
+ghost use Rattle.pkcs1.specs.PrivateKeyValue.{key_with};
 ghost use Rattle.pkcs1.specs.Versions.{number_of};
 ghost use Rattle.pkcs1.specs.PublicKeyValue.{public_key_of};
-ghost use Rattle.pkcs1.specs.ViewParts.{parts_of, view_of, viewed_text, listed_others};
+ghost use Rattle.pkcs1.specs.ViewParts.{view_of, viewed_text, listed_others};
 ghost use Rattle.pkcs1_params.specs.Refusals.{IsAsn1};
 ghost use Rattle.der_core.specs.Document.{Means};
 ghost use Rattle.der_core.specs.UintRefValue.{bytes_of};
 ghost use Rattle.pkcs1.specs.Writing.{HasPrivateKey, written_private_key};
 
-use crate::key_numbers::{KeyNumbers, read_key_numbers};
+use crate::key_numbers::read_key_numbers;
 use crate::other_primes::OtherPrimes;
-use crate::private_key::print_public;
+use crate::private_key::PrivateKeyOf;
 use crate::public_key::{RsaPublicKey, RsaPublicKeyRef};
 use crate::version::Version;
 use der_core::{
-    Contents, Decode, DecodeValue, ErrorKind, Header, NoMemory, Reader, Result, SequenceTag, Tag,
-    TaggedBy, UintRef, decode_optional,
+    Contents, Decode, DecodeValue, ErrorKind, Header, NoMemory, Reader, Result, Tag, UintRef,
+    decode_optional,
 };
 use pkcs1_params::Error;
 use std::fmt;
 
-/// The parts of a private key, over the bytes that were read.
-#[derive(Clone, Copy, Drop)]
-pub(crate) struct Parts<'a> {
-    pub(crate) numbers: KeyNumbers<UintRef<'a>>,
-    pub(crate) other_primes: Option<OtherPrimes<'a>>,
-}
+/// A private key over the bytes that were read, its other primes too.
+type ViewedKey<'a> = PrivateKeyOf<UintRef<'a>, OtherPrimes<'a>>;
 
 /// Whether there is a list of no primes.
 fn lists_none(others: &Option<OtherPrimes<'_>>) -> bool
@@ -72,10 +69,10 @@ fn read_listed<'a, R: Reader<&'a [u8]>>(
     Ok(others)
 }
 
-impl Contents for Parts<'_> {
+impl Contents for ViewedKey<'_> {
     ghost Value = { PrivateKey (List ℕ) };
 
-    ghost value = { parts_of };
+    ghost value = { key_with bytes_of others_left };
 
     ghost contents = { PrivateKeyContents Integer };
 
@@ -88,11 +85,7 @@ impl Contents for Parts<'_> {
     ghost contents_of_bytes = { keys_are_bytes };
 }
 
-impl TaggedBy for Parts<'_> {
-    type Marker = SequenceTag;
-}
-
-impl<'a> DecodeValue<&'a [u8], NoMemory> for Parts<'a> {
+impl<'a> DecodeValue<&'a [u8], NoMemory> for ViewedKey<'a> {
     ghost use Rattle.pkcs1.specs.KeyFaultLaws.{private_integers_none, private_integers_first};
 
     ghost may_allocate = { λ _. ⊥ };
@@ -103,14 +96,11 @@ impl<'a> DecodeValue<&'a [u8], NoMemory> for Parts<'a> {
         memory: NoMemory,
         reader: &mut R,
         _header: Header,
-    ) -> Result<Parts<'a>> {
+    ) -> Result<ViewedKey<'a>> {
         let version = Version::decode(memory, reader)?;
-        let numbers = read_key_numbers(memory, reader)?;
-        let other_primes = read_listed(reader, version)?;
-        Ok(Parts {
-            numbers,
-            other_primes,
-        })
+        let mut key = read_key_numbers(memory, reader)?;
+        key.other_prime_infos = read_listed(reader, version)?;
+        Ok(key)
     }
 
     ghost fault_none = { private_integers_none };
@@ -123,7 +113,7 @@ impl<'a> DecodeValue<&'a [u8], NoMemory> for Parts<'a> {
 #[derive(Clone, Copy, Drop)]
 pub struct RsaPrivateKeyView<'a> {
     bytes: &'a [u8],
-    parts: Parts<'a>,
+    key: ViewedKey<'a>,
 }
 
 impl<'a> RsaPrivateKeyView<'a> {
@@ -131,67 +121,63 @@ impl<'a> RsaPrivateKeyView<'a> {
     pub fn version(&self) -> Version
         ensures { (result ≡ Version.Multi) ↔ IsSome (view_of self.now).other_prime_infos }
     {
-        if self.parts.other_primes.is_some() {
-            Version::Multi
-        } else {
-            Version::TwoPrime
-        }
+        self.key.version()
     }
 
     /// The modulus n.
     pub fn modulus(&self) -> UintRef<'a>
         ensures { bytes_of result ≡ (view_of self.now).modulus }
     {
-        self.parts.numbers.modulus
+        self.key.modulus
     }
 
     /// The public exponent e.
     pub fn public_exponent(&self) -> UintRef<'a>
         ensures { bytes_of result ≡ (view_of self.now).public_exponent }
     {
-        self.parts.numbers.public_exponent
+        self.key.public_exponent
     }
 
     /// The private exponent d.
     pub fn private_exponent(&self) -> UintRef<'a>
         ensures { bytes_of result ≡ (view_of self.now).private_exponent }
     {
-        self.parts.numbers.private_exponent
+        self.key.private_exponent
     }
 
     /// The first prime p.
     pub fn prime1(&self) -> UintRef<'a>
         ensures { bytes_of result ≡ (view_of self.now).prime1 }
     {
-        self.parts.numbers.prime1
+        self.key.prime1
     }
 
     /// The second prime q.
     pub fn prime2(&self) -> UintRef<'a>
         ensures { bytes_of result ≡ (view_of self.now).prime2 }
     {
-        self.parts.numbers.prime2
+        self.key.prime2
     }
 
     /// The exponent of the first prime: d modulo p - 1.
     pub fn exponent1(&self) -> UintRef<'a>
         ensures { bytes_of result ≡ (view_of self.now).exponent1 }
     {
-        self.parts.numbers.exponent1
+        self.key.exponent1
     }
 
     /// The exponent of the second prime: d modulo q - 1.
     pub fn exponent2(&self) -> UintRef<'a>
         ensures { bytes_of result ≡ (view_of self.now).exponent2 }
     {
-        self.parts.numbers.exponent2
+        self.key.exponent2
     }
 
     /// The coefficient: the inverse of q modulo p.
     pub fn coefficient(&self) -> UintRef<'a>
         ensures { bytes_of result ≡ (view_of self.now).coefficient }
     {
-        self.parts.numbers.coefficient
+        self.key.coefficient
     }
 
     /// The public key.
@@ -208,7 +194,7 @@ impl<'a> RsaPrivateKeyView<'a> {
     pub fn other_primes(&self) -> OtherPrimes<'a>
         ensures { others_left result ≡ listed_others (view_of self.now).other_prime_infos }
     {
-        if let Some(primes) = self.parts.other_primes {
+        if let Some(primes) = self.key.other_prime_infos {
             return primes;
         }
         OtherPrimes::none()
@@ -238,22 +224,14 @@ impl<'a> TryFrom<&'a [u8]> for RsaPrivateKeyView<'a> {
         ensures only { (kind : der.ErrorKind)
             → RsaPrivateKeyFault kind bytes.now → IsErrAnd result (IsAsn1 (λ e. e.kind ≡ kind)) }
     {
-        let parts = Parts::from_der(NoMemory, bytes)?;
-        Ok(RsaPrivateKeyView { bytes, parts })
+        let key = ViewedKey::from_der(NoMemory, bytes)?;
+        Ok(RsaPrivateKeyView { bytes, key })
     }
 }
 
 impl fmt::Debug for RsaPrivateKeyView<'_> {
     /// Prints the version, the modulus and the public exponent, and nothing that is secret.
     fn fmt<W: fmt::Write>(&self, f: &mut fmt::Formatter<W>) -> fmt::Result {
-        let modulus = self.modulus();
-        let public_exponent = self.public_exponent();
-        print_public(
-            "RsaPrivateKeyView",
-            self.version(),
-            &modulus,
-            &public_exponent,
-            f,
-        )
+        self.key.print("RsaPrivateKeyView", f)
     }
 }

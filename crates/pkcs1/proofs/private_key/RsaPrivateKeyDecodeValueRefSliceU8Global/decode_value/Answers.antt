@@ -9,15 +9,15 @@ returns-in_err-version g c =
     let p = err_from_is_err_and c.from_residual.result c.from_residual.ensures.1 in
     rw (p.1, p.2) (version_faults g.U.Text.text g.U.Text.delimited g.U.Decode.may_allocate BeginsSequence g.U.Decode.fault c.in_err-version.ensures.text.0 c.in_err-version.ensures.exact)
 
-pub returns-in_err-numbers : goal.returns-in_err-numbers
-returns-in_err-numbers g c =
-    let p = err_from_is_err_and c.from_residual-in_err-numbers.result c.from_residual-in_err-numbers.ensures.1 in
-    rw (p.1, p.2) (key_numbers_faults g.U.Text.text g.U.Text.delimited g.U.Decode.may_allocate BeginsSequence g.U.Decode.fault c.in_ok-version.ensures.text c.in_err-numbers.ensures.text.0 c.in_err-numbers.ensures.exact)
+pub returns-in_err-key : goal.returns-in_err-key
+returns-in_err-key g c =
+    let p = err_from_is_err_and c.from_residual-in_err-key.result c.from_residual-in_err-key.ensures.1 in
+    rw (p.1, p.2) (key_numbers_faults g.U.Text.text g.U.Text.delimited g.U.Decode.may_allocate BeginsSequence g.U.Decode.fault c.in_ok-version.ensures.text c.in_err-key.ensures.text.0 c.in_err-key.ensures.exact)
 
-pub returns-in_err-other_prime_infos : goal.returns-in_err-other_prime_infos
-returns-in_err-other_prime_infos g c =
-    let p = err_from_is_err_and c.from_residual-in_err-other_prime_infos.result c.from_residual-in_err-other_prime_infos.ensures.1 in
-    rw (p.1, p.2) (key_others_faults g.U.Text.text g.U.Text.delimited g.U.Decode.may_allocate BeginsSequence g.U.Decode.fault (numbers_of g.U.Text.value c.in_ok-numbers.numbers) c.in_ok-version.ensures.text c.in_ok-numbers.ensures.text c.in_err-other_prime_infos.ensures.reads.0 c.in_err-other_prime_infos.ensures.exact)
+pub returns-in_err-key-2 : goal.returns-in_err-key-2
+returns-in_err-key-2 g c =
+    let p = err_from_is_err_and c.from_residual-in_err-key-2.result c.from_residual-in_err-key-2.ensures.1 in
+    rw (p.1, p.2) (key_others_faults g.U.Text.text g.U.Text.delimited g.U.Decode.may_allocate BeginsSequence g.U.Decode.fault (numbers_of g.U.Text.value c.in_ok-key.key) c.in_ok-version.ensures.text c.in_ok-key.ensures.text c.in_err-key-2.ensures.reads.0 c.in_err-key-2.ensures.exact)
 
 pub returns : goal.returns
-returns g c = key_given g.U.Text.text g.U.Text.delimited g.U.Decode.may_allocate BeginsSequence _ c.in_ok-version.ensures.text c.in_ok-numbers.ensures.text c.in_ok-other_prime_infos.ensures.reads
+returns g c = key_given g.U.Text.text g.U.Text.delimited g.U.Decode.may_allocate BeginsSequence _ c.in_ok-version.ensures.text c.in_ok-key.ensures.text c.in_ok-key-2.ensures.reads

@@ -6,7 +6,7 @@ use Rattle.der_core.specs.Tlv.{tlv}
 use Rattle.der_core.specs.Fronts.{front_is, rest_is}
 use Rattle.pkcs1.specs.Writing.{written_private_key}
 use Rattle.pkcs1.specs.PrivateKeyValue.{private_key_with}
-use Rattle.pkcs1.proofs.private_key.RsaPrivateKey.encode_front.Goals as goal
+use Rattle.pkcs1.proofs.private_key.whole.RsaPrivateKey+U.encode_front.Goals as goal
 
 pub returns-then-lists_none-clause-no_primes : goal.returns-then-lists_none-clause-no_primes
 returns-then-lists_none-clause-no_primes g c = λ _. ap (λ e. e.kind) c.new.ensures ∙ ap kind.Value (same_tag _ _ refl)

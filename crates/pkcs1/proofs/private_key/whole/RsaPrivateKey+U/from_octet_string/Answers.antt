@@ -4,7 +4,7 @@ use Rattle.der_core.specs.TextLaws.{tlv_delimited}
 use Rattle.pkcs1.specs.Keys.{PrivateKeyContents}
 use Rattle.pkcs1.specs.PrivateKeyLaws.{private_means_one}
 use Rattle.pkcs1.proofs.KeyMemory.{two_primes_refused}
-use Rattle.pkcs1.proofs.private_key.RsaPrivateKey.from_octet_string.Goals as goal
+use Rattle.pkcs1.proofs.private_key.whole.RsaPrivateKey+U.from_octet_string.Goals as goal
 
 pub returns-clause-one : goal.returns-clause-one
 returns-clause-one g c other p =

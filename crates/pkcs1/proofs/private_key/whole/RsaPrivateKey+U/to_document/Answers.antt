@@ -9,7 +9,7 @@ use Rattle.pkcs1.specs.PrivateKeyLaws.{private_relates}
 use Rattle.pkcs1.specs.PrivateKeyValue.{private_key_with}
 use Rattle.pkcs1.specs.Writing.{written_private_key}
 use Rattle.pkcs1.proofs.NotWritten.{unwritten_as}
-use Rattle.pkcs1.proofs.private_key.RsaPrivateKey.to_document.Goals as goal
+use Rattle.pkcs1.proofs.private_key.whole.RsaPrivateKey+U.to_document.Goals as goal
 
 pub returns-then-lists_none-clause-no_primes : goal.returns-then-lists_none-clause-no_primes
 returns-then-lists_none-clause-no_primes g c = λ _. ap (λ e. e.kind) c.new-refused.ensures ∙ ap kind.Value (same_tag _ _ refl)
