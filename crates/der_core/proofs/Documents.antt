@@ -1,5 +1,5 @@
 -- Documents, as they are read and made.
-use Rattle.std.proofs.Common.{ℕ, List, [], ◌≡◌, ◌≤◌, ◌<◌, ◌^◌, ◌∙◌, ap, sym, length, take, ◌++◌, append-nil, arith, subst, inl, inr, ⊎_elim, Option, Some, None}
+use Rattle.std.proofs.Common.{ℕ, List, ◌≡◌, ◌≤◌, ◌<◌, ◌^◌, ◌∙◌, ap, sym, length, take, ◌++◌, append-nil, arith, subst, inl, inr, ⊎_elim, Option, Some, None}
 use Rattle.std.proofs.Math.Seq.{take-append_seam}
 use Rattle.der_core.specs.Texts.{AreBytes, IsOfBytes}
 use Rattle.der_core.specs.Tlv.{Tlv, tlv}

@@ -1,5 +1,5 @@
 -- Why a value isn't written.
-use Rattle.std.proofs.Common.{ℕ, List, ◌≤◌, ◌<◌, ◌^◌, length, arith, ap, inl, inr}
+use Rattle.std.proofs.Common.{ℕ, List, ◌≤◌, ◌<◌, ◌^◌, length, arith, inl, inr}
 use Rattle.std.proofs.lemmas.Bool.{cases_lt}
 use Rattle.std.specs.Prelude.{Result, Ok, Err, IfErr}
 use Rattle.der_core.specs.Length.{limit}
@@ -21,16 +21,6 @@ module _ {V : Type 0} (Grammar : V → List ℕ → Type 0) (v : V) where
   refused_by has room some too_long h = (some h.0, h.1)
   refused_by has room some no_room h = h
   refused_by has room some another h = h
-
-  -- a value with a text is written where there is room for that text
-  pub never_refused : (some : Type 0) (text : List ℕ) (room : ℕ) (k : EncodeRefusal) → Means Grammar text v → length text ≤ room → IsRefused some Grammar v room k → ⊥
-  never_refused some text room no_text means fits refused = refused text means.1
-  never_refused some text room too_long means fits refused = refused.1 text means
-  never_refused some text room no_room means fits refused = elim (refused.1.least text means) [
-    | inl same ↦ absurd (omega (arith, refused.2, fits, ap length same))
-    | inr longer ↦ absurd (omega (arith, refused.2, fits, longer))
-  ]
-  never_refused some text room another means fits refused = refused
 
 -- What is said of the text that is written, said of the grammar.
 module _ {V : Type 0} (Grammar : V → List ℕ → Type 0) (v : V) {has : Type 0} (written : List ℕ) (least : (b : List ℕ) → Grammar v b → IsLeast has written b) where

@@ -1,9 +1,8 @@
 -- Reading the text of one value that is expected, of a type that has others.
-use Rattle.std.proofs.Common.{◌≡◌, ◌≢◌, ℕ, ◌≤◌, List, ◌∷◌, ◌++◌, length, refl, sym, ap, ◌∙◌, arith, append_assoc, length-append, inl, inr, ⊎_elim, Some, None}
+use Rattle.std.proofs.Common.{◌≡◌, ◌≢◌, ℕ, ◌≤◌, List, ◌∷◌, ◌++◌, length, refl, sym, ap, ◌∙◌, arith, append_assoc, length-append, inl, inr, ⊎_elim, None}
 use Rattle.der_core.specs.declared.error.ErrorKind.{ErrorKind}
 use Rattle.der_core.specs.declared.tag.Tag.{Tag}
 use Rattle.der_core.specs.Faults.{TextFault, in_header, other_tag, too_short, in_contents, ExpectedFault, FaultyFront, AreNone, AreFirst}
-use Rattle.der_core.specs.Headers.{HeaderText}
 use Rattle.der_core.specs.Input.{Input, left_in}
 use Rattle.der_core.specs.Length.{limit}
 use Rattle.der_core.specs.Tlv.{Tlv}
@@ -14,9 +13,6 @@ use Rattle.der_core.specs.Texts.{IsDelimited, MeansOne}
 module _ {V : Type 0} (text : V → List ℕ → Type 0) (d : IsDelimited text) (v : V) where
   abbrev pub Expected : Unit {0} → List ℕ → Type 0
   Expected u b = text v b
-
-  pub expected_delimited : IsDelimited Expected
-  expected_delimited = record { not_empty = λ u b p. d.not_empty v b p; one = λ u w x y x' y' p q e. ((d.one v v x y x' y' p q e).0, refl) }
 
   -- no value is there
   pub expected_fails : (may_allocate : List ℕ → Type 0) (before after : Input) (e : ErrorKind) → TextFails text may_allocate e before after → TextFails Expected may_allocate e before after

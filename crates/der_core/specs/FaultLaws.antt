@@ -17,7 +17,7 @@ use Rattle.der_core.specs.SequenceOf.{ItemsContents}
 use Rattle.der_core.specs.Integer.{IntegerContents, SmallContents}
 use Rattle.der_core.specs.Length.{limit}
 use Rattle.der_core.specs.ListLaws.{same_fronts}
-use Rattle.der_core.specs.Reading.{NoneHas, NoneIn, AllocatesIn, ReadsText}
+use Rattle.der_core.specs.Reading.{NoneHas, NoneIn, AllocatesIn, ReadsOrFaults, ReadsText}
 use Rattle.der_core.specs.Smalls.{integer_none, integer_tells, small_none, small_tells}
 use Rattle.der_core.specs.TagLaws.{same_tag}
 use Rattle.der_core.specs.Tells.{is_incomplete, is_other_tag, is_trailing}
@@ -281,6 +281,15 @@ module _ {X V : Type 0} (value : X → V) (text : V → List ℕ → Type 0) (Fa
       let same : i ≡ reads.0 ++ reads.1 = cc in
       absurd ((none kind i (rw is at within) fault).1 (value x) reads.0 reads.1 same reads.4)
   only_front (Err e) before after within reads exact kind i is fault = only_refused Fault first (AllocatesIn may_allocate) e.kind before within exact kind i is fault
+
+-- The same of all that is left, as contents.
+pub only_contents : {X V : Type 0} (value : X → V) (contents : V → List ℕ → Type 0) (Fault : ErrorKind → List ℕ → Type 0) (asked : List ℕ → Type 0) → AreNone (NoneHas contents) Fault → AreFirst Fault
+    → (r : Result X Error) (before after : Input) → length (left_in before) ≤ limit → ReadsOrFaults value contents Fault asked r before after → OnlyWhole Fault asked r before
+only_contents value contents Fault asked none first (Ok x) before after within reads kind c is fault =
+    let some : Some c ≡ Some reads.0 = sym is ∙ reads.1 in
+    let same : c ≡ reads.0 = cc in
+    absurd ((none kind c (rw is at within) fault).1 (value x) (rw same reads.3))
+only_contents value contents Fault asked none first (Err e) before after within reads kind c is fault = only_refused Fault first asked e.kind before within reads.1 kind c is fault
 
 -- Where memory isn't asked for, it isn't wanted.
 pub not_asked : {X : Type 0} {asked : Type 0} (Fault : ErrorKind → Type 0) → (asked → ⊥) → (r : Result X Error) → IfErr r (λ e. Faulty e.kind asked (Fault e.kind)) → IfErr r (λ e. Fault e.kind)

@@ -3,12 +3,11 @@ use Rattle.std.proofs.Common.{◌≡◌, ℕ, ◌<◌, List, [], ◌∷◌, ◌+
 use Rattle.std.specs.Prelude.{slice_get, is_some, not}
 use Rattle.der_core.specs.declared.error.ErrorKind.{ErrorKind}
 use Rattle.der_core.specs.Input.{Input, left_in, read_from, end_of}
-use Rattle.der_core.specs.Texts.{IsDelimited, Joins}
+use Rattle.der_core.specs.Texts.{IsDelimited}
 use Rattle.der_core.specs.Optional.{Optional}
 use Rattle.der_core.specs.Faults.{AloneFault, LastFault, FaultyWhole}
 use Rattle.der_core.specs.Tells.{is_trailing}
 use Rattle.der_core.specs.Reading.{AllocatesIn}
-use Rattle.der_core.specs.TextLaws.{joins_last}
 use Rattle.der_core.specs.Sequences.{TextFails, TextGives, ContentsFail, some_same}
 use Rattle.der_core.specs.Whole.{trailing_is, trailing_none}
 
@@ -47,12 +46,6 @@ pub allocates_more : {A : Type 0} (text : A → List ℕ → Type 0) (may_alloca
     → (before after : Input) (e : ErrorKind) → TextFails text may_allocate e before after → TextFails text more e before after
 allocates_more text may_allocate more f before after e fails =
     (fails.0, fails.1, λ i is. ⊎_elim (λ w. let p = w.1 in inl (w.0, (p.0, p.1, p.2, f p.0 p.3))) inr (fails.2 i is))
-
--- One part joins to itself, and it may be that of a greater value.
-pub as_last : {V W : Type 0} (contents : V → List ℕ → Type 0) (part : W → V) (may_allocate : List ℕ → Type 0)
-    → (before after : Input) (e : ErrorKind) → ContentsFail contents may_allocate e before after → ContentsFail (λ w. Joins (contents (part w) ∷ [])) may_allocate e before after
-as_last contents part may_allocate before after e fails =
-    (fails.0, λ c is. ⊎_elim inl (λ w. inr (w.0, λ v has. w.1 (part v) (joins_last c has))) (fails.1 c is))
 
 -- Something is left, and it has a fault.
 pub last_faults : {V : Type 0} (text : V → List ℕ → Type 0) (Fault : ErrorKind → List ℕ → Type 0) (may_allocate : List ℕ → Type 0) (before : Input) (e : ErrorKind) → 0 < length (left_in before) → FaultyWhole (AloneFault text Fault) may_allocate e before

@@ -1,10 +1,8 @@
 -- Laws of length octets as they are read.
-use Rattle.std.proofs.Common.{◌≡◌, ◌≢◌, ℕ, zero, suc, ◌+◌, ◌-◌, ◌*◌, ◌^◌, ◌<◌, ◌≤◌, List, [], ◌∷◌, ◌++◌, length, get_or, take, refl, sym, ap, arith, length-append, length-take, inl, inr, ◌⊎◌, ⊎_elim, Result, Ok, Err, true, false, cond, Bool}
-use Rattle.std.proofs.lemmas.Grind.{common_steps}
+use Rattle.std.proofs.Common.{◌≡◌, ◌≢◌, ℕ, zero, suc, ◌+◌, ◌-◌, ◌*◌, ◌^◌, ◌<◌, ◌≤◌, List, [], ◌∷◌, ◌++◌, length, take, refl, sym, ap, arith, length-append, length-take, inl, inr, ◌⊎◌, ⊎_elim, Result, Ok, Err, true, false, cond, Bool}
 use Rattle.std.proofs.lemmas.Bool.Decides.{nat_tests}
 use Rattle.std.specs.Prelude.{nat_lt, ◌==◌, slice_index}
 use Rattle.std.specs.Int.Digits.{number_from_digits}
-use Rattle.std.proofs.lemmas.Int.Digits.{number_lt}
 use Rattle.std.proofs.lemmas.List.{take-append-drop}
 use Rattle.std.proofs.Math.Seq.{take-append_seam, drop-append_seam}
 use Rattle.std.proofs.Math.Nat.{pow-suc, pow-le-pow_right}
@@ -13,10 +11,6 @@ use Rattle.der_core.specs.Length.{IsLength, short, long, limit}
 use Rattle.der_core.specs.NumberLaws.{base256_ge}
 use Rattle.der_core.specs.declared.error.ErrorKind.{ErrorKind}
 use Rattle.der_core.specs.Input.{is_overlong, long_length_at, length_at}
-use Rattle.der_core.specs.InputLaws.{are_bytes}
-
-front_bytes : (xs : List ℕ) (i : ℕ) → ((k : ℕ) → get_or xs k 0 < 256) → AreBytes (take i xs)
-front_bytes xs i octets = are_bytes (take i xs) (λ k. grind (arith, common_steps, octets k))
 
 pub bytes_front : (xs : List ℕ) (i : ℕ) → AreBytes xs → AreBytes (take i xs)
 bytes_front xs zero h = tt
@@ -36,15 +30,6 @@ short_within_limit xs h below =
     let full : 256 ^ length xs ≤ number_from_digits 256 xs * 256 = fills xs h in
     let more : 5 ≤ length xs → 256 ^ 5 ≤ 256 ^ length xs = λ m. (let positive : 0 < 256 = omega arith in pow-le-pow_right positive m) in
     grind arith
-
--- another octet fits
-pub number_fits : (xs : List ℕ) (i n : ℕ) → ((k : ℕ) → get_or xs k 0 < 256) → i < length xs → length xs ≤ 4 → n ≡ number_from_digits 256 (take i xs) → n < 256 ^ 3
-number_fits xs i n octets inside few is =
-    let below : number_from_digits 256 (take i xs) < 256 ^ length (take i xs) = number_lt 256 (take i xs) (front_bytes xs i octets) in
-    let len : length (take i xs) ≤ 3 = simp length-take (omega arith) in
-    let positive : 0 < 256 = omega arith in
-    let more : 256 ^ length (take i xs) ≤ 256 ^ 3 = pow-le-pow_right positive len in
-    omega arith
 
 pub chosen : {X : Type 0} (b : Bool) (x y z : X) → cond b x y ≡ z → ((b ≡ true) × (x ≡ z)) ⊎ ((b ≡ false) × (y ≡ z))
 chosen true x y z e = inl (refl, e)

@@ -1,18 +1,25 @@
 //! What comparing and copying promise: functions that do nothing, each with a law as its contract.
-ghost use Rattle.std.specs.Prelude.{◌≡◌, ℕ, true, false};
+ghost use Rattle.std.specs.Prelude.{◌≡◌, ◌≤◌, ℕ, Result, length, true, false};
 ghost use Rattle.std.specs.Bool.{Decides};
 ghost use Rattle.std.specs.Ordering.{nat_cmp};
+ghost use Rattle.der_core.specs.Faults.{OnlyWhole};
+ghost use Rattle.der_core.specs.Input.{Input, left_in};
+ghost use Rattle.der_core.specs.Length.{limit};
+ghost use Rattle.der_core.specs.Reading.{ReadsOrFaults};
 ghost use Rattle.der_core.specs.OctetStringRefValue.{octets_of};
 ghost use Rattle.der_core.specs.Tags.{integer, sequence};
 ghost use Rattle.der_core.specs.UintRefValue.{bytes_of};
+ghost use Rattle.der_core.specs.declared.error.Error as errors;
 ghost use Rattle.der_core.specs.declared.error.ErrorKind as kinds;
 ghost use Rattle.der_core.specs.declared.integer.uint.UintRef as numbers;
 ghost use Rattle.der_core.specs.declared.octet_string.OctetStringRef as strings;
 ghost use Rattle.der_core.specs.declared.tag.TagNumber as tags;
 
+use crate::decode::DecodeValue;
 use crate::error::{Error, ErrorKind};
 use crate::integer::UintRef;
 use crate::length::Length;
+use crate::memory::Memory;
 use crate::octet_string::OctetStringRef;
 use crate::tag::TagNumber;
 
@@ -41,4 +48,13 @@ pub fn clones_hold_the_same()
     ensures number { (a b : numbers.UintRef) → ⟦<UintRef<'static> as Clone>⟧.is_clone a b → bytes_of b ≡ bytes_of a }
     ensures octets { (a b : strings.OctetStringRef)
         → ⟦<OctetStringRef<'static> as Clone>⟧.is_clone a b → octets_of b ≡ octets_of a }
+{}
+
+/// Of contents with a fault `decode_value` answers the refusal of that fault, and no other but want of memory, whatever the
+/// type: this follows from what the trait says of the call.
+pub fn contents_are_refused_by_their_fault<'a, T: DecodeValue<&'a [u8], M>, M: Memory>()
+    ensures { let may = T.DecodeValue.may_allocate in
+        (result : Result T errors.Error) (before after : Input) → length (left_in before) ≤ limit
+        → ReadsOrFaults T.value T.contents T.DecodeValue.fault may result before after
+        → OnlyWhole T.DecodeValue.fault may result before }
 {}

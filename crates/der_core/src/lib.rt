@@ -43,8 +43,8 @@ pub use header::Header;
 pub use integer::{AsUintRef, Uint, UintRef};
 pub use last_part::{decode_last, decode_whole, encode_optional, optional_len, prepend_optional};
 pub use laws::{
-    clones_hold_the_same, kinds_are_told_apart, lengths_compare_by_number,
-    tag_numbers_compare_by_number,
+    clones_hold_the_same, contents_are_refused_by_their_fault, kinds_are_told_apart,
+    lengths_compare_by_number, tag_numbers_compare_by_number,
 };
 pub use length::Length;
 pub use memory::{Memory, NoMemory};

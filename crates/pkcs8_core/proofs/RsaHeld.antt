@@ -53,7 +53,7 @@ module _ {X : Type 0} (value : X → PrivateKey (List ℕ)) (info : Info) (q : L
 
 -- Where the algorithm agrees, the fault is that of the key.
 pub rsa_key_fault : (info : Info) (kind : ErrorKind) (q : List ℕ) → q ≡ info.private_key → info.algorithm ≡ rsa_encryption → RsaFault info kind → RsaPrivateKeyFault kind q
-rsa_key_fault info kind q same agrees (inl other) = absurd (rsa_is info.algorithm kind other agrees)
+rsa_key_fault info kind q same agrees (inl refusal) = absurd (rsa_is info.algorithm kind refusal agrees)
 rsa_key_fault info kind q same agrees (inr fault) = rw same fault.1
 
 pub faulty_only : {X : Type 0} (kind : ErrorKind) (q octets : List ℕ) → q ≡ octets → (r : Result X Error) → IsErrAnd r (IsAsn1 (λ e. Faulty e.kind (MayAllocate q) (e.kind ≡ kind))) → IsErrAnd r (IsAsn1 (λ e. Faulty e.kind (MayAllocate octets) (e.kind ≡ kind)))

@@ -85,9 +85,6 @@ info_none = text_fault_none sequence InfoFault InfoContents info_fault_none
 pub info_whole_none : (k : ErrorKind) (b : List ℕ) → PrivateKeyInfoFault k b → (info : Info) → Means PrivateKeyInfo b info → ⊥
 info_whole_none = whole_fault_none PrivateKeyInfo (TextFault sequence InfoFault) info_delimited info_none
 
-pub info_whole_first : (j k : ErrorKind) (b : List ℕ) → PrivateKeyInfoFault j b → PrivateKeyInfoFault k b → j ≡ k
-info_whole_first = whole_fault_first PrivateKeyInfo (TextFault sequence InfoFault) info_delimited info_none (text_fault_first sequence InfoFault info_fault_first)
-
 -- Another algorithm is refused in one way, and rsaEncryption is none.
 pub not_rsa_first : (a : Algorithm TagAndContents) (j k : ErrorKind) → NotRsa a j → NotRsa a k → j ≡ k
 not_rsa_first a j k (unknown p x) (unknown q y) = p ∙ sym q
