@@ -1,5 +1,5 @@
 -- Keys of given numbers.
-use Rattle.std.proofs.Common.{ℕ, zero, suc, List, [], ◌∷◌, ◌++◌, ◌≡◌, ◌≤◌, ◌<◌, length, length-append, map, get_or, refl, sym, ap, subst, ◌∙◌, arith, Option, Some, None, inl, inr}
+use Rattle.std.proofs.Common.{ℕ, List, [], ◌∷◌, ◌++◌, ◌≡◌, ◌≤◌, length, length-append, map, refl, sym, ap, subst, ◌∙◌, arith, Option, Some, None, inl, inr}
 use Rattle.std.specs.Prelude.{Result, Ok, Err, IfErr, OnErr, IsErrAnd}
 use Rattle.der_core.specs.Document.{Means}
 use Rattle.der_core.specs.Length.{limit}
@@ -9,7 +9,6 @@ use Rattle.der_core.specs.IntegerLaws.{canonical_same}
 use Rattle.der_core.proofs.Growing.{contents_shorter}
 use Rattle.pkcs1.specs.Writing.{key_numbers}
 use Rattle.pkcs1.specs.Keys.{PublicKey, PrivateKey, RsaPrivateKey, OtherPrime, OtherPrimeInfo, OtherPrimeInfos}
-use Rattle.pkcs1_c.specs.Given.{HasNoOther, HaveNoOthers}
 use Rattle.pkcs1_c.specs.Numbers.{IsNumberOf, ArePublicNumbers, IsOtherOf, AreOthersOf, AreOtherNumbers, ArePrivateNumbers}
 
 -- What holds whatever the error is.
@@ -39,7 +38,7 @@ AreWithin [] most = Unit {0}
 AreWithin (n ∷ ns) most = (length n ≤ most) × AreWithin ns most
 
 -- Numbers at the front of contents, and what stands behind them, are within the contents.
-joins_hold : (ns : List (List ℕ)) (Qs : List (List ℕ → Type 0)) (c : List ℕ) (most : ℕ) → Joins (map Integer ns ++ Qs) c → length c ≤ most
+pub joins_hold : (ns : List (List ℕ)) (Qs : List (List ℕ → Type 0)) (c : List ℕ) (most : ℕ) → Joins (map Integer ns ++ Qs) c → length c ≤ most
     → AreWithin ns most × (d : List ℕ) × Joins Qs d × (length d ≤ most)
 joins_hold [] Qs c most p few = (tt, c, p, few)
 joins_hold (n ∷ ns) Qs c most (x, d, p, i, e) few =
@@ -64,27 +63,8 @@ pub other_within : (other : OtherPrime (List ℕ)) (text : List ℕ) → OtherPr
     → AreWithin (other.prime ∷ other.exponent ∷ other.coefficient ∷ []) limit
 other_within other text p few = (joins_hold (other.prime ∷ other.exponent ∷ other.coefficient ∷ []) [] p.contents limit p.holds (omega (arith, contents_shorter text p, few))).0
 
--- One of the primes has no text: so the list has none.
-pub one_has_none : {X : Type 0} (f : X → OtherPrime (List ℕ)) (gs : List X) (i : ℕ) (d : X) → i < length gs → HasNoOther (f (get_or gs i d)) → HaveNoOthers (map f gs)
-one_has_none f [] i d l none others given c p few = omega (arith, l)
-one_has_none f (g ∷ gs) i d l none [] given c p few = absurd given
-one_has_none f (g ∷ gs) zero d l none (o ∷ os) given c (x, r, q, rest, e) few =
-    let k = ap length e in
-    let j = length-append x r in
-    none o given.0 x q (omega (arith, k, j, few))
-one_has_none f (g ∷ gs) (suc i) d l none (o ∷ os) given c (x, r, q, rest, e) few =
-    let k = ap length e in
-    let j = length-append x r in
-    one_has_none f gs i d (omega (arith, l)) none os given.1 r rest (omega (arith, k, j, few))
-
--- No other primes of the numbers have texts: so no key has.
-pub infos_have_none : (given : List (OtherPrime (List ℕ))) → 0 < length given → HaveNoOthers given → (infos : Option (List (OtherPrime (List ℕ))))
-    → AreOtherNumbers infos given → (d : List ℕ) → OtherPrimeInfos Integer infos d → length d ≤ limit → ⊥
-infos_have_none given some none None are d p few = omega (arith, some, ap length are)
-infos_have_none given some none (Some others) are d p few = none others are.1 p.1.contents p.1.holds (omega (arith, contents_shorter d p.1, few))
-
 -- Bytes have one number.
-number_same : (bytes m n : List ℕ) → IsNumberOf bytes m → IsNumberOf bytes n → m ≡ n
+pub number_same : (bytes m n : List ℕ) → IsNumberOf bytes m → IsNumberOf bytes n → m ≡ n
 number_same bytes m n p q = canonical_same m n p.1 q.1 (p.2 ∙ sym q.2)
 
 pub public_same : (given k l : PublicKey (List ℕ)) → ArePublicNumbers k given → ArePublicNumbers l given → k ≡ l

@@ -1,4 +1,8 @@
+pub mod Containers
 pub mod Fits
 pub mod Given
+pub mod HeldKeys
+pub mod HeldParameters
 pub mod Lists
 pub mod Refusals
+pub mod Unwritten

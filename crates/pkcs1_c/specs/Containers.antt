@@ -2,6 +2,7 @@
 use Rattle.std.specs.Prelude.{ℕ, List, Some, None, if◌then◌else◌, ◌⊎◌}
 use Rattle.der_core.specs.declared.error.ErrorKind.{ErrorKind}
 use Rattle.der_core.specs.Document.{Means}
+use Rattle.pkcs1.specs.KeyFaults.{RsaPrivateKeyFault}
 use Rattle.pkcs1.specs.Keys.{PrivateKey, RsaPrivateKey}
 use Rattle.pkcs8_core.specs.Container.{Info}
 use Rattle.pkcs8_core.specs.Container as container
@@ -20,6 +21,10 @@ info_seen info = record {
 -- The octets are the text of a private key.
 abbrev pub HoldsKey : PrivateKeyInfo → PrivateKey (List ℕ) → Type 0
 HoldsKey info key = Means RsaPrivateKey info.private_key.now key
+
+-- The first fault of octets that are none.
+abbrev pub KeyFault : PrivateKeyInfo → ErrorKind → Type 0
+KeyFault info kind = RsaPrivateKeyFault kind info.private_key.now
 
 -- The first fault of a text that is to be a container with an RSA key: that of the container, or of what it holds.
 abbrev pub RsaContainerFault : List ℕ → ErrorKind → Type 0

@@ -1,22 +1,11 @@
 -- Private keys of numbers that a caller gives.
-use Rattle.std.specs.Prelude.{ℕ, List, ◌≡◌, ◌≤◌, length, map, None}
-use Rattle.der_core.specs.Integer.{Integer}
-use Rattle.der_core.specs.Length.{limit}
-use Rattle.der_core.specs.SequenceOf.{ItemsContents}
+use Rattle.std.specs.Prelude.{ℕ, List, ◌≡◌, length, map, None}
 use Rattle.pkcs1.specs.Keys as keys
 use Rattle.pkcs1_c.specs.declared.private_key.PrivateKey.{PrivateKey}
 use Rattle.pkcs1_c.specs.declared.private_key.OtherPrime.{OtherPrime}
-use Rattle.pkcs1_c.specs.Numbers.{ArePrivateNumbers, IsOtherOf, AreOthersOf}
+use Rattle.pkcs1_c.specs.Numbers.{ArePrivateNumbers}
 use Rattle.pkcs1_c.specs.StructValues.{private_key_seen, other_prime_seen}
 
 -- The key has the numbers of the struct and of the other primes, of which there are as many as the struct says.
 abbrev pub IsGiven : PrivateKey → List OtherPrime → keys.PrivateKey (List ℕ) → Type 0
 IsGiven key others made = (key.other_primes ≡ length others) × ArePrivateNumbers made (private_key_seen key None) (map other_prime_seen others)
-
--- No other prime of these numbers has a text within the limit.
-abbrev pub HasNoOther : keys.OtherPrime (List ℕ) → Type 0
-HasNoOther given = (other : keys.OtherPrime (List ℕ)) → IsOtherOf given other → (text : List ℕ) → keys.OtherPrimeInfo Integer other text → length text ≤ limit → ⊥
-
--- No other primes of these numbers have texts within the limit.
-abbrev pub HaveNoOthers : List (keys.OtherPrime (List ℕ)) → Type 0
-HaveNoOthers given = (others : List (keys.OtherPrime (List ℕ))) → AreOthersOf given others → (c : List ℕ) → ItemsContents (keys.OtherPrimeInfo Integer) others c → length c ≤ limit → ⊥

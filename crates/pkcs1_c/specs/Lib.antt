@@ -5,3 +5,4 @@ pub mod Numbers
 pub mod Refusals
 pub mod StructValues
 pub mod Status
+pub mod Unwritten

@@ -1,11 +1,10 @@
 //! Algorithm identifiers.
-ghost use Rattle.std.specs.Prelude.{◌≡◌, ◌≢◌, ℕ, IfOk, IfErr};
-ghost use Rattle.spki_core.specs.ObjectIdentifier.{IsIdentifier};
+ghost use Rattle.std.specs.Prelude.{◌≡◌, IfOk, IfErr};
 ghost use Rattle.spki_core.specs.AlgorithmValue.{algorithm_of, mask_of};
 ghost use Rattle.spki_core.specs.ObjectIdentifierValue.{octets_of};
-ghost use Rattle.pkcs1_c.specs.Fits.{PlainFits, MaskFits};
 ghost use Rattle.pkcs1_c.specs.Status.{kind_number};
 ghost use Rattle.pkcs1_c.specs.StructValues.{oid_seen, algorithm_seen, mask_gen_seen};
+ghost use Rattle.pkcs1_c.specs.Unwritten.{OidRefusal, PlainRefusal, MaskRefusal};
 
 use der_core::{Error, ErrorKind, Result, Tag};
 use spki_core::{AlgorithmIdentifier, AlgorithmIdentifierRef, AnyRef, ObjectIdentifier};
@@ -109,7 +108,7 @@ pub(crate) fn mask_gen_view<'a>(
 /// The identifier that C gives, or `OidMalformed`.
 fn oid_from(oid: &Oid) -> Result<ObjectIdentifier>
     ensures ok { IfOk result (λ made. octets_of made ≡ oid_seen oid.now) }
-    ensures err { IfErr result (λ e. (kind_number e.kind ≡ 6) × (IsIdentifier (oid_seen oid.now) → ⊥)) }
+    ensures err { IfErr result (λ e. OidRefusal (oid_seen oid.now) (kind_number e.kind)) }
 {
     if oid.len > 39 {
         return Err(Error::new(ErrorKind::OidMalformed));
@@ -120,8 +119,7 @@ fn oid_from(oid: &Oid) -> Result<ObjectIdentifier>
 /// The algorithm that C gives.
 pub(crate) fn algorithm_from<'a>(algorithm: &Algorithm<'a>) -> Result<AlgorithmIdentifierRef<'a>>
     ensures ok { IfOk result (λ made. algorithm_of made ≡ algorithm_seen algorithm.now) }
-    ensures err { IfErr result (λ e. kind_number e.kind ≢ 15) }
-    ensures refused { IfErr result (λ e. PlainFits (algorithm_seen algorithm.now) → ⊥) }
+    ensures err { IfErr result (λ e. PlainRefusal (algorithm_seen algorithm.now) (kind_number e.kind)) }
 {
     let oid = oid_from(&algorithm.oid)?;
     let parameters = if algorithm.has_parameters {
@@ -138,8 +136,7 @@ pub(crate) fn mask_gen_from<'a>(
     mask_gen: &MaskGen<'a>,
 ) -> Result<AlgorithmIdentifier<AlgorithmIdentifierRef<'a>>>
     ensures ok { IfOk result (λ made. mask_of made ≡ mask_gen_seen mask_gen.now) }
-    ensures err { IfErr result (λ e. kind_number e.kind ≢ 15) }
-    ensures refused { IfErr result (λ e. MaskFits (mask_gen_seen mask_gen.now) → ⊥) }
+    ensures err { IfErr result (λ e. MaskRefusal (mask_gen_seen mask_gen.now) (kind_number e.kind)) }
 {
     let oid = oid_from(&mask_gen.oid)?;
     let parameters = if mask_gen.has_hash {

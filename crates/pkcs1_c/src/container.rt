@@ -1,6 +1,6 @@
 //! RSA keys in PKCS #8 containers.
-ghost use Rattle.std.specs.Prelude.{◌≡◌, ◌≢◌, ◌≤◌, ℕ, List, Option, length, take, drop, IfOk, IfErr, IsErrAnd, OnErr};
-ghost use Rattle.der_core.specs.Document.{Means, IsShortest};
+ghost use Rattle.std.specs.Prelude.{◌≡◌, ◌≢◌, ◌<◌, ◌≤◌, ℕ, List, Option, length, take, drop, IfOk, IfErr, IsErrAnd, OnErr};
+ghost use Rattle.der_core.specs.Document.{Means, IsShortest, HasText};
 ghost use Rattle.pkcs1.specs.Keys.{OtherPrime as Prime, PrivateKey as Key};
 ghost use Rattle.pkcs1.specs.ViewParts.{view_of, viewed_text};
 ghost use Rattle.pkcs8_core.specs.Container as container;
@@ -8,13 +8,14 @@ ghost use Rattle.pkcs8_core.specs.Held.{info_of};
 ghost use Rattle.pkcs8_core.specs.Rsa.{rsa_encryption, HoldsRsa};
 ghost use Rattle.der_core.specs.declared.error.ErrorKind as der;
 ghost use Rattle.pkcs1_params.specs.Refusals.{IsAsn1};
-ghost use Rattle.pkcs1_c.specs.Containers.{info_seen, HoldsKey, RsaContainerFault};
+ghost use Rattle.pkcs1_c.specs.Containers.{info_seen, HoldsKey, KeyFault, RsaContainerFault};
 ghost use Rattle.pkcs1_c.specs.Refusals.{HasNoText, LacksRoom};
 ghost use Rattle.pkcs1_c.specs.StructValues.{private_key_seen, AreListed};
 ghost use Rattle.pkcs1_c.specs.Status.{kind_number, status_of, IsNumberOfFault};
+ghost use Rattle.pkcs1_c.specs.Unwritten.{InfoRefusal};
 
 use crate::private_key::{OtherPrime, PrivateKey, seen_key};
-use crate::status::{OK, status};
+use crate::status::{NO_ROOM, OK, status};
 use crate::written::write_text;
 use der_core::OctetStringRef;
 use pkcs1::{RsaPrivateKeyView, algorithm_id};
@@ -81,18 +82,19 @@ pub extern "C" fn pkcs1_c_private_key_info_decode<'a>(
     key: &mut PrivateKey<'a>,
     others: &mut [OtherPrime<'a>],
 ) -> u32
-    ensures ok { result ≡ 0 → Means container.PrivateKeyInfo text.now (info_seen info.new) }
-    ensures one { result ≡ 0 → (other : container.Info) → Means container.PrivateKeyInfo text.now other
+    ensures ok { result ≡ OK → Means container.PrivateKeyInfo text.now (info_seen info.new) }
+    ensures one { result ≡ OK → (other : container.Info) → Means container.PrivateKeyInfo text.now other
         → other ≡ info_seen info.new }
-    ensures key { result ≡ 0 → (infos : Option (List (Prime (List ℕ))))
+    ensures key { result ≡ OK → (infos : Option (List (Prime (List ℕ))))
         × AreListed key.new.other_primes others.new infos × HoldsKey info.new (private_key_seen key.new infos) }
-    ensures one_key { result ≡ 0 → (other : Key (List ℕ)) → HoldsKey info.new other
+    ensures rest { result ≡ OK → drop key.new.other_primes others.new ≡ drop key.new.other_primes others.old }
+    ensures one_key { result ≡ OK → (other : Key (List ℕ)) → HoldsKey info.new other
         → other ≡ private_key_seen key.new other.other_prime_infos }
-    ensures refused { result ≢ 0 → (other : container.Info) (held : Key (List ℕ))
+    ensures refused { result ≢ OK → (other : container.Info) (held : Key (List ℕ))
         → Means container.PrivateKeyInfo text.now other → HoldsRsa other held → ⊥ }
-    ensures exact { result ≢ 0 → IsNumberOfFault (RsaContainerFault text.now) result }
+    ensures exact { result ≢ OK → IsNumberOfFault (RsaContainerFault text.now) result }
     ensures only { (kind : der.ErrorKind) → RsaContainerFault text.now kind → result ≡ kind_number kind }
-    ensures unchanged { result ≢ 0 → (info.new ≡ info.old) × (key.new ≡ key.old) × (others.new ≡ others.old) }
+    ensures unchanged { result ≢ OK → (info.new ≡ info.old) × (key.new ≡ key.old) × (others.new ≡ others.old) }
 {
     match read_container(text) {
         Ok((read, view)) => {
@@ -108,8 +110,9 @@ pub extern "C" fn pkcs1_c_private_key_info_decode<'a>(
 fn info_from<'a>(info: &PrivateKeyInfo<'a>) -> pkcs1::Result<PrivateKeyInfoRef<'a>>
     ensures ok { IfOk result (λ made. info_of made ≡ info_seen info.now) }
     ensures key { IfOk result (λ made. (key : Key (List ℕ)) × HoldsKey info.now key) }
-    ensures err { IfErr result (λ e. status_of e ≢ 15) }
-    ensures refused { OnErr result ((key : Key (List ℕ)) → HoldsKey info.now key → ⊥) }
+    ensures some { IfOk result (λ made. HasText container.PrivateKeyInfo (info_of made)) }
+    ensures err { IfErr result (λ e. IsNumberOfFault (KeyFault info.now) (status_of e)) }
+    ensures told { IfErr result (λ e. status_of e < NO_ROOM) }
 {
     let _view = RsaPrivateKeyView::try_from(info.private_key)?;
     let private_key = OctetStringRef::new(info.private_key)?;
@@ -118,11 +121,13 @@ fn info_from<'a>(info: &PrivateKeyInfo<'a>) -> pkcs1::Result<PrivateKeyInfoRef<'
     } else {
         None
     };
-    Ok(PrivateKeyInfoRef {
+    let made = PrivateKeyInfoRef {
         algorithm: algorithm_id(),
         private_key,
         attributes,
-    })
+    };
+    made.has_text();
+    Ok(made)
 }
 
 /// Writes a container: 0, and then the length of its text in `len`. Where the text has no room, `len` is the length that
@@ -133,15 +138,17 @@ pub extern "C" fn pkcs1_c_private_key_info_encode(
     out: &mut [u8],
     len: &mut usize,
 ) -> u32
-    ensures ok { result ≡ 0 → IsShortest container.PrivateKeyInfo (info_seen info.now) (take len.new out.new) }
-    ensures key { result ≡ 0 → (key : Key (List ℕ)) × HoldsKey info.now key }
-    ensures key_no_room { result ≡ 15 → (key : Key (List ℕ)) × HoldsKey info.now key }
-    ensures rest { result ≡ 0 → (len.new ≤ length out.new) × (drop len.new out.new ≡ drop len.new out.old) }
-    ensures no_room { result ≡ 15 → LacksRoom container.PrivateKeyInfo (info_seen info.now) (length out.old) len.new }
-    ensures refused { result ≢ 0 → result ≢ 15 → (key : Key (List ℕ)) → HoldsKey info.now key
+    ensures ok { result ≡ OK → IsShortest container.PrivateKeyInfo (info_seen info.now) (take len.new out.new) }
+    ensures key { result ≡ OK → (key : Key (List ℕ)) × HoldsKey info.now key }
+    ensures key_no_room { result ≡ NO_ROOM → (key : Key (List ℕ)) × HoldsKey info.now key }
+    ensures rest { result ≡ OK → (len.new ≤ length out.new) × (drop len.new out.new ≡ drop len.new out.old) }
+    ensures no_room { result ≡ NO_ROOM → LacksRoom container.PrivateKeyInfo (info_seen info.now) (length out.old) len.new }
+    ensures refused { result ≢ OK → result ≢ NO_ROOM → (key : Key (List ℕ)) → HoldsKey info.now key
         → HasNoText container.PrivateKeyInfo (info_seen info.now) }
-    ensures unchanged { result ≢ 0 → out.new ≡ out.old }
-    ensures kept { result ≢ 0 → result ≢ 15 → len.new ≡ len.old }
+    ensures exact { result ≢ OK → InfoRefusal info.now (length out.old) result }
+    ensures only { (status : ℕ) → InfoRefusal info.now (length out.old) status → result ≡ status }
+    ensures unchanged { result ≢ OK → out.new ≡ out.old }
+    ensures kept { result ≢ OK → result ≢ NO_ROOM → len.new ≡ len.old }
 {
     match info_from(info) {
         Ok(made) => write_text(&made, out, len),

@@ -1,18 +1,20 @@
 //! Writing of private keys.
-ghost use Rattle.std.specs.Prelude.{◌≡◌, ◌≢◌, ◌≤◌, ◌<◌, ℕ, List, Option, length, take, drop, map, ◌++◌, ◌∷◌, [], OnOk, IfOk, IfErr};
+ghost use Rattle.std.specs.Prelude.{◌≡◌, ◌≢◌, ◌≤◌, ◌<◌, ◌⊎◌, ℕ, List, Option, length, take, drop, map, ◌++◌, ◌∷◌, [], OnOk, IfOk, IfErr};
 ghost use Rattle.der_core.specs.UintRefValue.{bytes_of};
 ghost use Rattle.pkcs1.specs.Keys as grammar;
 ghost use Rattle.pkcs1.specs.KeyTexts.{IsOnlyText};
 ghost use Rattle.pkcs1.specs.PrivateKeyValue.{private_key_of, other_of, others_of};
-ghost use Rattle.pkcs1_c.specs.Given.{IsGiven, HasNoOther, HaveNoOthers};
+ghost use Rattle.pkcs1_c.specs.Given.{IsGiven};
 ghost use Rattle.pkcs1_c.specs.Numbers.{IsOtherOf, AreOtherNumbers};
 ghost use Rattle.pkcs1_c.specs.Refusals.{HasNoText, LacksRoom};
 ghost use Rattle.pkcs1_c.specs.StructValues.{other_prime_seen};
+ghost use Rattle.pkcs1.specs.Writing.{other_numbers};
 ghost use Rattle.pkcs1_c.specs.Status.{status_of};
+ghost use Rattle.pkcs1_c.specs.Unwritten.{Nothing, NumbersThen, PrivateKeyRefusal, MayWantMemory, eight_numbers, others_numbers};
 
 use crate::numbers::number;
 use crate::private_key::{OtherPrime, PrivateKey};
-use crate::status::{OTHER_PRIMES, status};
+use crate::status::{NO_ROOM, OK, OTHER_PRIMES, OUT_OF_MEMORY, status};
 use crate::written::write_text;
 use der_core::ErrorKind;
 use pkcs1::{Error, OtherPrimeInfo, OtherPrimeInfos, RsaPrivateKey, RsaPrivateKeyRef, UintRef};
@@ -21,8 +23,8 @@ use std::alloc::Global;
 /// The prime of these numbers.
 fn other_from<'a>(other: &OtherPrime<'a>) -> pkcs1::Result<OtherPrimeInfo<UintRef<'a>>>
     ensures ok { IfOk result (λ info. IsOtherOf (other_prime_seen other.now) (other_of bytes_of info)) }
-    ensures err { IfErr result (λ e. (status_of e ≢ 15) × (status_of e ≢ 17)) }
-    ensures refused { IfErr result (λ e. HasNoOther (other_prime_seen other.now)) }
+    ensures err { let numbers = other_numbers (other_prime_seen other.now) in
+        IfErr result (λ e. NumbersThen numbers Nothing (status_of e)) }
 {
     Ok(OtherPrimeInfo {
         prime: number(other.prime)?,
@@ -37,7 +39,7 @@ fn push_other<'a>(
     info: OtherPrimeInfo<UintRef<'a>>,
 ) -> pkcs1::Result<()>
     ensures ok { OnOk result (infos.new.items ≡ infos.old.items ++ info.entry ∷ []) }
-    ensures err { IfErr result (λ e. status_of e ≡ 17) }
+    ensures err { IfErr result (λ e. status_of e ≡ OUT_OF_MEMORY) }
 {
     match infos.push(info) {
         Ok(()) => Ok(()),
@@ -51,8 +53,9 @@ fn others_from<'a>(
     others: &[OtherPrime<'a>],
 ) -> pkcs1::Result<Option<OtherPrimeInfos<UintRef<'a>>>>
     ensures ok { IfOk result (λ infos. AreOtherNumbers (others_of bytes_of infos) (map other_prime_seen others.now)) }
-    ensures err { IfErr result (λ e. (status_of e ≢ 15) × (0 < length others.now)) }
-    ensures refused { IfErr result (λ e. status_of e ≢ 17 → HaveNoOthers (map other_prime_seen others.now)) }
+    ensures err { let numbers = others_numbers (map other_prime_seen others.now) in
+        IfErr result (λ e. status_of e ≢ OUT_OF_MEMORY → NumbersThen numbers Nothing (status_of e)) }
+    ensures some { IfErr result (λ e. 0 < length others.now) }
 {
     if others.is_empty() {
         return Ok(None);
@@ -73,10 +76,9 @@ fn key_from<'a>(
 ) -> pkcs1::Result<RsaPrivateKeyRef<'a>>
     requires { key.now.other_primes ≡ length others.now }
     ensures ok { IfOk result (λ made. IsGiven key.now others.now (private_key_of made)) }
-    ensures err { IfErr result (λ e. status_of e ≢ 15) }
-    ensures memory { IfErr result (λ e. status_of e ≡ 17 → 0 < length others.now) }
-    ensures refused { IfErr result (λ e. status_of e ≢ 17 → (made : grammar.PrivateKey (List ℕ))
-        → IsGiven key.now others.now made → HasNoText grammar.RsaPrivateKey made) }
+    ensures err { let of_others = NumbersThen (others_numbers (map other_prime_seen others.now)) Nothing in
+        IfErr result (λ e. status_of e ≢ OUT_OF_MEMORY → NumbersThen (eight_numbers key.now) of_others (status_of e)) }
+    ensures memory { IfErr result (λ e. status_of e ≡ OUT_OF_MEMORY → MayWantMemory key.now others.now) }
 {
     Ok(RsaPrivateKey {
         modulus: number(key.modulus)?,
@@ -101,17 +103,21 @@ pub extern "C" fn pkcs1_c_private_key_encode(
     out: &mut [u8],
     len: &mut usize,
 ) -> u32
-    ensures ok { result ≡ 0 → (made : grammar.PrivateKey (List ℕ)) × IsGiven key.now others.now made
+    ensures ok { result ≡ OK → (made : grammar.PrivateKey (List ℕ)) × IsGiven key.now others.now made
         × IsOnlyText grammar.RsaPrivateKey made (take len.new out.new) }
-    ensures rest { result ≡ 0 → (len.new ≤ length out.new) × (drop len.new out.new ≡ drop len.new out.old) }
-    ensures no_room { result ≡ 15 → (made : grammar.PrivateKey (List ℕ)) × IsGiven key.now others.now made
+    ensures rest { result ≡ OK → (len.new ≤ length out.new) × (drop len.new out.new ≡ drop len.new out.old) }
+    ensures no_room { result ≡ NO_ROOM → (made : grammar.PrivateKey (List ℕ)) × IsGiven key.now others.now made
         × LacksRoom grammar.RsaPrivateKey made (length out.old) len.new }
-    ensures refused { result ≢ 0 → result ≢ 15 → result ≢ 17 → (made : grammar.PrivateKey (List ℕ))
+    ensures refused { result ≢ OK → result ≢ NO_ROOM → result ≢ OUT_OF_MEMORY → (made : grammar.PrivateKey (List ℕ))
         → IsGiven key.now others.now made → HasNoText grammar.RsaPrivateKey made }
-    ensures counts { key.now.other_primes ≢ length others.now → result ≡ 21 }
-    ensures memory { result ≡ 17 → 0 < length others.now }
-    ensures unchanged { result ≢ 0 → out.new ≡ out.old }
-    ensures kept { result ≢ 0 → result ≢ 15 → len.new ≡ len.old }
+    ensures counts { key.now.other_primes ≢ length others.now → result ≡ OTHER_PRIMES }
+    ensures exact { result ≢ OK → result ≢ OUT_OF_MEMORY
+        → PrivateKeyRefusal key.now others.now (length out.old) result }
+    ensures only { (status : ℕ) → PrivateKeyRefusal key.now others.now (length out.old) status
+        → (result ≡ status) ⊎ (result ≡ OUT_OF_MEMORY) }
+    ensures memory { result ≡ OUT_OF_MEMORY → MayWantMemory key.now others.now }
+    ensures unchanged { result ≢ OK → out.new ≡ out.old }
+    ensures kept { result ≢ OK → result ≢ NO_ROOM → len.new ≡ len.old }
 {
     if key.other_primes != others.len() {
         return OTHER_PRIMES;

@@ -1,17 +1,16 @@
 //! Numbers that a caller gives.
-ghost use Rattle.std.specs.Prelude.{◌≡◌, ◌≢◌, ◌<◌, ℕ, List, length, IfOk, IfErr};
-ghost use Rattle.der_core.specs.Length.{limit};
+ghost use Rattle.std.specs.Prelude.{IfOk, IfErr};
 ghost use Rattle.der_core.specs.UintRefValue.{bytes_of};
 ghost use Rattle.pkcs1_c.specs.Numbers.{IsNumberOf};
 ghost use Rattle.pkcs1_c.specs.Status.{status_of};
+ghost use Rattle.pkcs1_c.specs.Unwritten.{NumberRefusal};
 
 use pkcs1::UintRef;
 
 /// The number of these bytes: `Length` where there is none, `Overflow` where the number passes the limit.
 pub(crate) fn number<'a>(bytes: &'a [u8]) -> pkcs1::Result<UintRef<'a>>
     ensures ok { IfOk result (λ n. IsNumberOf bytes.now (bytes_of n)) }
-    ensures err { IfErr result (λ e. (status_of e ≢ 15) × (status_of e ≢ 17)) }
-    ensures refused { IfErr result (λ e. (n : List ℕ) → IsNumberOf bytes.now n → limit < length n) }
+    ensures err { IfErr result (λ e. NumberRefusal bytes.now (status_of e)) }
 {
     Ok(UintRef::new(bytes)?)
 }

@@ -4,7 +4,6 @@ ghost use Rattle.der_core.specs.Document.{Means, IsShortest};
 ghost use Rattle.pkcs1_params.specs.Parameters as grammar;
 ghost use Rattle.pkcs1_params.specs.PssValue.{pss_of};
 ghost use Rattle.pkcs1_params.specs.OaepValue.{oaep_of};
-ghost use Rattle.pkcs1_c.specs.Fits.{PssFits, OaepFits};
 ghost use Rattle.pkcs1_c.specs.Refusals.{HasNoText, LacksRoom};
 ghost use Rattle.der_core.specs.declared.error.ErrorKind as der;
 ghost use Rattle.pkcs1_params.specs.ParameterFaults.{RsaPssParamsFault, RsaOaepParamsFault, StrictPssFault, StrictOaepFault};
@@ -12,11 +11,12 @@ ghost use Rattle.pkcs1_params.specs.Parameters.{pss_fields, oaep_fields};
 ghost use Rattle.spki_core.specs.StrictFields.{WritesDefault};
 ghost use Rattle.pkcs1_c.specs.Status.{kind_number, status_of, IsNumberOfFault};
 ghost use Rattle.pkcs1_c.specs.StructValues.{pss_seen, oaep_seen};
+ghost use Rattle.pkcs1_c.specs.Unwritten.{Nothing, PssThen, OaepThen, PssRefusal, OaepRefusal};
 
 use crate::algorithm::{
     Algorithm, MaskGen, algorithm_from, algorithm_view, mask_gen_from, mask_gen_view,
 };
-use crate::status::{OK, status};
+use crate::status::{NO_ROOM, NONCANONICAL, OK, status};
 use crate::written::write_text;
 use der_core::{ErrorKind, Tag};
 use pkcs1::{Error, RsaOaepParams, RsaOaepParamsRef, RsaPssParams, RsaPssParamsRef, TrailerField};
@@ -73,14 +73,14 @@ fn oaep_view<'a>(read: &RsaOaepParamsRef<'a>) -> OaepParams<'a>
 /// Reads parameters of RSASSA-PSS: 0 where the text is one of those.
 #[unsafe(no_mangle)]
 pub extern "C" fn pkcs1_c_pss_params_decode<'a>(text: &'a [u8], params: &mut PssParams<'a>) -> u32
-    ensures ok { result ≡ 0 → Means grammar.RsaPssParams text.now (pss_seen params.new) }
-    ensures one { result ≡ 0 → (other : grammar.PssParameters) → Means grammar.RsaPssParams text.now other
+    ensures ok { result ≡ OK → Means grammar.RsaPssParams text.now (pss_seen params.new) }
+    ensures one { result ≡ OK → (other : grammar.PssParameters) → Means grammar.RsaPssParams text.now other
         → other ≡ pss_seen params.new }
-    ensures told { result < 15 }
-    ensures refused { result ≢ 0 → (other : grammar.PssParameters) → Means grammar.RsaPssParams text.now other → ⊥ }
-    ensures exact { result ≢ 0 → IsNumberOfFault (λ kind. RsaPssParamsFault kind text.now) result }
+    ensures told { result < NO_ROOM }
+    ensures refused { result ≢ OK → (other : grammar.PssParameters) → Means grammar.RsaPssParams text.now other → ⊥ }
+    ensures exact { result ≢ OK → IsNumberOfFault (λ kind. RsaPssParamsFault kind text.now) result }
     ensures only { (kind : der.ErrorKind) → RsaPssParamsFault kind text.now → result ≡ kind_number kind }
-    ensures unchanged { result ≢ 0 → params.new ≡ params.old }
+    ensures unchanged { result ≢ OK → params.new ≡ params.old }
 {
     match RsaPssParamsRef::try_from(text) {
         Ok(read) => {
@@ -94,14 +94,14 @@ pub extern "C" fn pkcs1_c_pss_params_decode<'a>(text: &'a [u8], params: &mut Pss
 /// Reads parameters of RSAES-OAEP: 0 where the text is one of those.
 #[unsafe(no_mangle)]
 pub extern "C" fn pkcs1_c_oaep_params_decode<'a>(text: &'a [u8], params: &mut OaepParams<'a>) -> u32
-    ensures ok { result ≡ 0 → Means grammar.RsaOaepParams text.now (oaep_seen params.new) }
-    ensures one { result ≡ 0 → (other : grammar.OaepParameters) → Means grammar.RsaOaepParams text.now other
+    ensures ok { result ≡ OK → Means grammar.RsaOaepParams text.now (oaep_seen params.new) }
+    ensures one { result ≡ OK → (other : grammar.OaepParameters) → Means grammar.RsaOaepParams text.now other
         → other ≡ oaep_seen params.new }
-    ensures told { result < 15 }
-    ensures refused { result ≢ 0 → (other : grammar.OaepParameters) → Means grammar.RsaOaepParams text.now other → ⊥ }
-    ensures exact { result ≢ 0 → IsNumberOfFault (λ kind. RsaOaepParamsFault kind text.now) result }
+    ensures told { result < NO_ROOM }
+    ensures refused { result ≢ OK → (other : grammar.OaepParameters) → Means grammar.RsaOaepParams text.now other → ⊥ }
+    ensures exact { result ≢ OK → IsNumberOfFault (λ kind. RsaOaepParamsFault kind text.now) result }
     ensures only { (kind : der.ErrorKind) → RsaOaepParamsFault kind text.now → result ≡ kind_number kind }
-    ensures unchanged { result ≢ 0 → params.new ≡ params.old }
+    ensures unchanged { result ≢ OK → params.new ≡ params.old }
 {
     match RsaOaepParamsRef::try_from(text) {
         Ok(read) => {
@@ -119,19 +119,19 @@ pub extern "C" fn pkcs1_c_pss_params_decode_strict<'a>(
     text: &'a [u8],
     params: &mut PssParams<'a>,
 ) -> u32
-    ensures ok { result ≡ 0 → IsShortest grammar.RsaPssParams (pss_seen params.new) text.now }
-    ensures one { result ≡ 0 → (other : grammar.PssParameters) → Means grammar.RsaPssParams text.now other
+    ensures ok { result ≡ OK → IsShortest grammar.RsaPssParams (pss_seen params.new) text.now }
+    ensures one { result ≡ OK → (other : grammar.PssParameters) → Means grammar.RsaPssParams text.now other
         → other ≡ pss_seen params.new }
-    ensures told { result < 15 }
-    ensures refused { result ≢ 0
+    ensures told { result < NO_ROOM }
+    ensures refused { result ≢ OK
         → (other : grammar.PssParameters) → IsShortest grammar.RsaPssParams other text.now → ⊥ }
-    ensures default { result ≢ 0
-        → (other : grammar.PssParameters) → Means grammar.RsaPssParams text.now other → result ≡ 5 }
-    ensures exact { result ≢ 0 → IsNumberOfFault (λ kind. RsaPssParamsFault kind text.now) result
-        ⊎ ((result ≡ 5) × (other : grammar.PssParameters) × Means grammar.RsaPssParams text.now other
+    ensures default { result ≢ OK
+        → (other : grammar.PssParameters) → Means grammar.RsaPssParams text.now other → result ≡ NONCANONICAL }
+    ensures exact { result ≢ OK → IsNumberOfFault (λ kind. RsaPssParamsFault kind text.now) result
+        ⊎ ((result ≡ NONCANONICAL) × (other : grammar.PssParameters) × Means grammar.RsaPssParams text.now other
         × (n : ℕ) × WritesDefault (pss_fields other) n text.now) }
     ensures only { (kind : der.ErrorKind) → StrictPssFault kind text.now → result ≡ kind_number kind }
-    ensures unchanged { result ≢ 0 → params.new ≡ params.old }
+    ensures unchanged { result ≢ OK → params.new ≡ params.old }
 {
     match RsaPssParamsRef::from_der_strict(text) {
         Ok(read) => {
@@ -145,16 +145,18 @@ pub extern "C" fn pkcs1_c_pss_params_decode_strict<'a>(
 /// The parameters that C gives.
 fn pss_from<'a>(params: &PssParams<'a>) -> pkcs1::Result<RsaPssParamsRef<'a>>
     ensures ok { IfOk result (λ made. pss_of made ≡ pss_seen params.now) }
-    ensures err { IfErr result (λ e. status_of e ≢ 15) }
-    ensures refused { IfErr result (λ e. PssFits (pss_seen params.now) → ⊥) }
+    ensures small { IfOk result (λ made. made.salt_len < 256) }
+    ensures err { IfErr result (λ e. PssThen (pss_seen params.now) Nothing (status_of e)) }
 {
+    let hash = algorithm_from(&params.hash)?;
+    let mask_gen = mask_gen_from(&params.mask_gen)?;
     if params.trailer_field != 1 {
         let kind = ErrorKind::Value { tag: Tag::INTEGER };
         return Err(Error::Asn1(der_core::Error::new(kind)));
     }
     Ok(RsaPssParams {
-        hash: algorithm_from(&params.hash)?,
-        mask_gen: mask_gen_from(&params.mask_gen)?,
+        hash,
+        mask_gen,
         salt_len: params.salt_len,
         trailer_field: TrailerField::BC,
     })
@@ -167,19 +169,19 @@ pub extern "C" fn pkcs1_c_oaep_params_decode_strict<'a>(
     text: &'a [u8],
     params: &mut OaepParams<'a>,
 ) -> u32
-    ensures ok { result ≡ 0 → IsShortest grammar.RsaOaepParams (oaep_seen params.new) text.now }
-    ensures one { result ≡ 0 → (other : grammar.OaepParameters) → Means grammar.RsaOaepParams text.now other
+    ensures ok { result ≡ OK → IsShortest grammar.RsaOaepParams (oaep_seen params.new) text.now }
+    ensures one { result ≡ OK → (other : grammar.OaepParameters) → Means grammar.RsaOaepParams text.now other
         → other ≡ oaep_seen params.new }
-    ensures told { result < 15 }
-    ensures refused { result ≢ 0
+    ensures told { result < NO_ROOM }
+    ensures refused { result ≢ OK
         → (other : grammar.OaepParameters) → IsShortest grammar.RsaOaepParams other text.now → ⊥ }
-    ensures default { result ≢ 0
-        → (other : grammar.OaepParameters) → Means grammar.RsaOaepParams text.now other → result ≡ 5 }
-    ensures exact { result ≢ 0 → IsNumberOfFault (λ kind. RsaOaepParamsFault kind text.now) result
-        ⊎ ((result ≡ 5) × (other : grammar.OaepParameters) × Means grammar.RsaOaepParams text.now other
+    ensures default { result ≢ OK
+        → (other : grammar.OaepParameters) → Means grammar.RsaOaepParams text.now other → result ≡ NONCANONICAL }
+    ensures exact { result ≢ OK → IsNumberOfFault (λ kind. RsaOaepParamsFault kind text.now) result
+        ⊎ ((result ≡ NONCANONICAL) × (other : grammar.OaepParameters) × Means grammar.RsaOaepParams text.now other
         × (n : ℕ) × WritesDefault (oaep_fields other) n text.now) }
     ensures only { (kind : der.ErrorKind) → StrictOaepFault kind text.now → result ≡ kind_number kind }
-    ensures unchanged { result ≢ 0 → params.new ≡ params.old }
+    ensures unchanged { result ≢ OK → params.new ≡ params.old }
 {
     match RsaOaepParamsRef::from_der_strict(text) {
         Ok(read) => {
@@ -193,8 +195,7 @@ pub extern "C" fn pkcs1_c_oaep_params_decode_strict<'a>(
 /// The parameters that C gives.
 fn oaep_from<'a>(params: &OaepParams<'a>) -> pkcs1::Result<RsaOaepParamsRef<'a>>
     ensures ok { IfOk result (λ made. oaep_of made ≡ oaep_seen params.now) }
-    ensures err { IfErr result (λ e. status_of e ≢ 15) }
-    ensures refused { IfErr result (λ e. OaepFits (oaep_seen params.now) → ⊥) }
+    ensures err { IfErr result (λ e. OaepThen (oaep_seen params.now) Nothing (status_of e)) }
 {
     Ok(RsaOaepParams {
         hash: algorithm_from(&params.hash)?,
@@ -211,12 +212,14 @@ pub extern "C" fn pkcs1_c_pss_params_encode(
     out: &mut [u8],
     len: &mut usize,
 ) -> u32
-    ensures ok { result ≡ 0 → IsShortest grammar.RsaPssParams (pss_seen params.now) (take len.new out.new) }
-    ensures rest { result ≡ 0 → (len.new ≤ length out.new) × (drop len.new out.new ≡ drop len.new out.old) }
-    ensures no_room { result ≡ 15 → LacksRoom grammar.RsaPssParams (pss_seen params.now) (length out.old) len.new }
-    ensures refused { result ≢ 0 → result ≢ 15 → HasNoText grammar.RsaPssParams (pss_seen params.now) }
-    ensures unchanged { result ≢ 0 → out.new ≡ out.old }
-    ensures kept { result ≢ 0 → result ≢ 15 → len.new ≡ len.old }
+    ensures ok { result ≡ OK → IsShortest grammar.RsaPssParams (pss_seen params.now) (take len.new out.new) }
+    ensures rest { result ≡ OK → (len.new ≤ length out.new) × (drop len.new out.new ≡ drop len.new out.old) }
+    ensures no_room { result ≡ NO_ROOM → LacksRoom grammar.RsaPssParams (pss_seen params.now) (length out.old) len.new }
+    ensures refused { result ≢ OK → result ≢ NO_ROOM → HasNoText grammar.RsaPssParams (pss_seen params.now) }
+    ensures exact { result ≢ OK → PssRefusal (pss_seen params.now) (length out.old) result }
+    ensures only { (status : ℕ) → PssRefusal (pss_seen params.now) (length out.old) status → result ≡ status }
+    ensures unchanged { result ≢ OK → out.new ≡ out.old }
+    ensures kept { result ≢ OK → result ≢ NO_ROOM → len.new ≡ len.old }
 {
     match pss_from(params) {
         Ok(made) => write_text(&made, out, len),
@@ -232,12 +235,14 @@ pub extern "C" fn pkcs1_c_oaep_params_encode(
     out: &mut [u8],
     len: &mut usize,
 ) -> u32
-    ensures ok { result ≡ 0 → IsShortest grammar.RsaOaepParams (oaep_seen params.now) (take len.new out.new) }
-    ensures rest { result ≡ 0 → (len.new ≤ length out.new) × (drop len.new out.new ≡ drop len.new out.old) }
-    ensures no_room { result ≡ 15 → LacksRoom grammar.RsaOaepParams (oaep_seen params.now) (length out.old) len.new }
-    ensures refused { result ≢ 0 → result ≢ 15 → HasNoText grammar.RsaOaepParams (oaep_seen params.now) }
-    ensures unchanged { result ≢ 0 → out.new ≡ out.old }
-    ensures kept { result ≢ 0 → result ≢ 15 → len.new ≡ len.old }
+    ensures ok { result ≡ OK → IsShortest grammar.RsaOaepParams (oaep_seen params.now) (take len.new out.new) }
+    ensures rest { result ≡ OK → (len.new ≤ length out.new) × (drop len.new out.new ≡ drop len.new out.old) }
+    ensures no_room { result ≡ NO_ROOM → LacksRoom grammar.RsaOaepParams (oaep_seen params.now) (length out.old) len.new }
+    ensures refused { result ≢ OK → result ≢ NO_ROOM → HasNoText grammar.RsaOaepParams (oaep_seen params.now) }
+    ensures exact { result ≢ OK → OaepRefusal (oaep_seen params.now) (length out.old) result }
+    ensures only { (status : ℕ) → OaepRefusal (oaep_seen params.now) (length out.old) status → result ≡ status }
+    ensures unchanged { result ≢ OK → out.new ≡ out.old }
+    ensures kept { result ≢ OK → result ≢ NO_ROOM → len.new ≡ len.old }
 {
     match oaep_from(params) {
         Ok(made) => write_text(&made, out, len),

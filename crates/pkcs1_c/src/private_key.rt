@@ -11,7 +11,7 @@ ghost use Rattle.pkcs1.specs.KeyFaults.{RsaPrivateKeyFault};
 ghost use Rattle.pkcs1_c.specs.Status.{kind_number, IsNumberOfFault};
 ghost use Rattle.pkcs1_c.specs.StructValues.{private_key_seen, other_prime_seen, ArePlaced, AreListed};
 
-use crate::status::{OK, status};
+use crate::status::{NO_ROOM, OK, status};
 use pkcs1::{OtherPrimeInfo, OtherPrimes, RsaPrivateKeyView, UintRef};
 
 /// The numbers of a private key, most significant byte first.
@@ -108,18 +108,18 @@ pub extern "C" fn pkcs1_c_private_key_decode<'a>(
     key: &mut PrivateKey<'a>,
     others: &mut [OtherPrime<'a>],
 ) -> u32
-    ensures ok { result ≡ 0 → (infos : Option (List (grammar.OtherPrime (List ℕ))))
+    ensures ok { result ≡ OK → (infos : Option (List (grammar.OtherPrime (List ℕ))))
         × AreListed key.new.other_primes others.new infos
         × Means grammar.RsaPrivateKey text.now (private_key_seen key.new infos) }
-    ensures one { result ≡ 0 → (other : grammar.PrivateKey (List ℕ)) → Means grammar.RsaPrivateKey text.now other
+    ensures one { result ≡ OK → (other : grammar.PrivateKey (List ℕ)) → Means grammar.RsaPrivateKey text.now other
         → other ≡ private_key_seen key.new other.other_prime_infos }
-    ensures rest { result ≡ 0 → drop key.new.other_primes others.new ≡ drop key.new.other_primes others.old }
-    ensures told { result < 15 }
-    ensures refused { result ≢ 0 → (other : grammar.PrivateKey (List ℕ)) → Means grammar.RsaPrivateKey text.now other
+    ensures rest { result ≡ OK → drop key.new.other_primes others.new ≡ drop key.new.other_primes others.old }
+    ensures told { result < NO_ROOM }
+    ensures refused { result ≢ OK → (other : grammar.PrivateKey (List ℕ)) → Means grammar.RsaPrivateKey text.now other
         → ⊥ }
-    ensures exact { result ≢ 0 → IsNumberOfFault (λ kind. RsaPrivateKeyFault kind text.now) result }
+    ensures exact { result ≢ OK → IsNumberOfFault (λ kind. RsaPrivateKeyFault kind text.now) result }
     ensures only { (kind : der.ErrorKind) → RsaPrivateKeyFault kind text.now → result ≡ kind_number kind }
-    ensures unchanged { result ≢ 0 → (key.new ≡ key.old) × (others.new ≡ others.old) }
+    ensures unchanged { result ≢ OK → (key.new ≡ key.old) × (others.new ≡ others.old) }
 {
     match RsaPrivateKeyView::try_from(text) {
         Ok(view) => {

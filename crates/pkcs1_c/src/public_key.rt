@@ -7,12 +7,13 @@ ghost use Rattle.pkcs1.specs.PublicKeyValue.{public_key_of};
 ghost use Rattle.pkcs1_c.specs.Numbers.{ArePublicNumbers};
 ghost use Rattle.pkcs1_c.specs.Refusals.{HasNoText, LacksRoom};
 ghost use Rattle.pkcs1_c.specs.StructValues.{public_key_seen};
+ghost use Rattle.pkcs1_c.specs.Unwritten.{Nothing, NumbersThen, PublicKeyRefusal, two_numbers};
 ghost use Rattle.der_core.specs.declared.error.ErrorKind as der;
 ghost use Rattle.pkcs1.specs.KeyFaults.{RsaPublicKeyFault};
 ghost use Rattle.pkcs1_c.specs.Status.{kind_number, status_of, IsNumberOfFault};
 
 use crate::numbers::number;
-use crate::status::{OK, status};
+use crate::status::{NO_ROOM, OK, status};
 use crate::written::write_text;
 use pkcs1::{RsaPublicKey, RsaPublicKeyRef};
 
@@ -29,15 +30,15 @@ pub struct PublicKey<'a> {
 /// Reads a public key: 0 where the text is one, and then its numbers, which stay in the text.
 #[unsafe(no_mangle)]
 pub extern "C" fn pkcs1_c_public_key_decode<'a>(text: &'a [u8], key: &mut PublicKey<'a>) -> u32
-    ensures ok { result ≡ 0 → Means grammar.RsaPublicKey text.now (public_key_seen key.new) }
-    ensures one { result ≡ 0 → (other : grammar.PublicKey (List ℕ)) → Means grammar.RsaPublicKey text.now other
+    ensures ok { result ≡ OK → Means grammar.RsaPublicKey text.now (public_key_seen key.new) }
+    ensures one { result ≡ OK → (other : grammar.PublicKey (List ℕ)) → Means grammar.RsaPublicKey text.now other
         → other ≡ public_key_seen key.new }
-    ensures told { result < 15 }
-    ensures refused { result ≢ 0
+    ensures told { result < NO_ROOM }
+    ensures refused { result ≢ OK
         → (other : grammar.PublicKey (List ℕ)) → Means grammar.RsaPublicKey text.now other → ⊥ }
-    ensures exact { result ≢ 0 → IsNumberOfFault (λ kind. RsaPublicKeyFault kind text.now) result }
+    ensures exact { result ≢ OK → IsNumberOfFault (λ kind. RsaPublicKeyFault kind text.now) result }
     ensures only { (kind : der.ErrorKind) → RsaPublicKeyFault kind text.now → result ≡ kind_number kind }
-    ensures unchanged { result ≢ 0 → key.new ≡ key.old }
+    ensures unchanged { result ≢ OK → key.new ≡ key.old }
 {
     match RsaPublicKeyRef::try_from(text) {
         Ok(read) => {
@@ -52,9 +53,8 @@ pub extern "C" fn pkcs1_c_public_key_decode<'a>(text: &'a [u8], key: &mut Public
 /// The key of these numbers.
 fn key_from<'a>(key: &PublicKey<'a>) -> pkcs1::Result<RsaPublicKeyRef<'a>>
     ensures ok { IfOk result (λ made. ArePublicNumbers (public_key_of made) (public_key_seen key.now)) }
-    ensures err { IfErr result (λ e. status_of e ≢ 15) }
-    ensures refused { IfErr result (λ e. (made : grammar.PublicKey (List ℕ))
-        → ArePublicNumbers made (public_key_seen key.now) → HasNoText grammar.RsaPublicKey made) }
+    ensures err { let numbers = two_numbers (public_key_seen key.now) in
+        IfErr result (λ e. NumbersThen numbers Nothing (status_of e)) }
 {
     Ok(RsaPublicKey {
         modulus: number(key.modulus)?,
@@ -70,16 +70,18 @@ pub extern "C" fn pkcs1_c_public_key_encode(
     out: &mut [u8],
     len: &mut usize,
 ) -> u32
-    ensures ok { result ≡ 0 → (made : grammar.PublicKey (List ℕ)) × ArePublicNumbers made (public_key_seen key.now)
+    ensures ok { result ≡ OK → (made : grammar.PublicKey (List ℕ)) × ArePublicNumbers made (public_key_seen key.now)
         × IsOnlyText grammar.RsaPublicKey made (take len.new out.new) }
-    ensures rest { result ≡ 0 → (len.new ≤ length out.new) × (drop len.new out.new ≡ drop len.new out.old) }
-    ensures no_room { result ≡ 15 → (made : grammar.PublicKey (List ℕ))
+    ensures rest { result ≡ OK → (len.new ≤ length out.new) × (drop len.new out.new ≡ drop len.new out.old) }
+    ensures no_room { result ≡ NO_ROOM → (made : grammar.PublicKey (List ℕ))
         × ArePublicNumbers made (public_key_seen key.now)
         × LacksRoom grammar.RsaPublicKey made (length out.old) len.new }
-    ensures refused { result ≢ 0 → result ≢ 15 → (made : grammar.PublicKey (List ℕ))
+    ensures refused { result ≢ OK → result ≢ NO_ROOM → (made : grammar.PublicKey (List ℕ))
         → ArePublicNumbers made (public_key_seen key.now) → HasNoText grammar.RsaPublicKey made }
-    ensures unchanged { result ≢ 0 → out.new ≡ out.old }
-    ensures kept { result ≢ 0 → result ≢ 15 → len.new ≡ len.old }
+    ensures exact { result ≢ OK → PublicKeyRefusal (public_key_seen key.now) (length out.old) result }
+    ensures only { (status : ℕ) → PublicKeyRefusal (public_key_seen key.now) (length out.old) status → result ≡ status }
+    ensures unchanged { result ≢ OK → out.new ≡ out.old }
+    ensures kept { result ≢ OK → result ≢ NO_ROOM → len.new ≡ len.old }
 {
     match key_from(key) {
         Ok(key) => write_text(&key, out, len),

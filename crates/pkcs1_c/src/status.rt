@@ -7,8 +7,41 @@ use pkcs1::Error;
 
 /// The call did what it says.
 pub(crate) const OK: u32 = 0;
-
-/// The number of other primes isn't that of those that were given.
+/// The reader has refused before: not answered here.
+pub(crate) const FAILED: u32 = 1;
+/// The text ends too early.
+pub(crate) const INCOMPLETE: u32 = 2;
+/// A length is indefinite.
+pub(crate) const INDEFINITE_LENGTH: u32 = 3;
+/// A number has no octets.
+pub(crate) const LENGTH: u32 = 4;
+/// A number isn't in shortest form, or a default is written.
+pub(crate) const NONCANONICAL: u32 = 5;
+/// An identifier isn't one.
+pub(crate) const OID_MALFORMED: u32 = 6;
+/// The identifier is another than that of RSA.
+pub(crate) const OID_UNKNOWN: u32 = 7;
+/// A length passes the limit.
+pub(crate) const OVERFLOW: u32 = 8;
+/// A length isn't in shortest form.
+pub(crate) const OVERLENGTH: u32 = 9;
+/// The parameters of rsaEncryption are missing.
+pub(crate) const PARAMETERS_MISSING: u32 = 10;
+/// Another tag was expected.
+pub(crate) const TAG_UNEXPECTED: u32 = 11;
+/// A tag octet isn't allowed.
+pub(crate) const TAG_UNKNOWN: u32 = 12;
+/// Bytes follow the value.
+pub(crate) const TRAILING_DATA: u32 = 13;
+/// A value isn't allowed.
+pub(crate) const VALUE: u32 = 14;
+/// The text has no room.
+pub(crate) const NO_ROOM: u32 = 15;
+/// A read or a write failed: not answered here.
+pub(crate) const FILE: u32 = 16;
+/// No memory was found.
+pub(crate) const OUT_OF_MEMORY: u32 = 17;
+/// The other primes aren't as many as the key says.
 pub(crate) const OTHER_PRIMES: u32 = 21;
 
 /// The number of a kind.
@@ -16,23 +49,23 @@ pub(crate) fn kind_number(kind: &ErrorKind) -> u32
     ensures { result ≡ kind_number kind.now }
 {
     match kind {
-        ErrorKind::Failed => 1,
-        ErrorKind::Incomplete => 2,
-        ErrorKind::IndefiniteLength => 3,
-        ErrorKind::Length { .. } => 4,
-        ErrorKind::Noncanonical { .. } => 5,
-        ErrorKind::OidMalformed => 6,
-        ErrorKind::OidUnknown => 7,
-        ErrorKind::Overflow => 8,
-        ErrorKind::Overlength => 9,
-        ErrorKind::ParametersMissing => 10,
-        ErrorKind::TagUnexpected { .. } => 11,
-        ErrorKind::TagUnknown { .. } => 12,
-        ErrorKind::TrailingData => 13,
-        ErrorKind::Value { .. } => 14,
-        ErrorKind::NoRoom => 15,
-        ErrorKind::File => 16,
-        ErrorKind::OutOfMemory => 17,
+        ErrorKind::Failed => FAILED,
+        ErrorKind::Incomplete => INCOMPLETE,
+        ErrorKind::IndefiniteLength => INDEFINITE_LENGTH,
+        ErrorKind::Length { .. } => LENGTH,
+        ErrorKind::Noncanonical { .. } => NONCANONICAL,
+        ErrorKind::OidMalformed => OID_MALFORMED,
+        ErrorKind::OidUnknown => OID_UNKNOWN,
+        ErrorKind::Overflow => OVERFLOW,
+        ErrorKind::Overlength => OVERLENGTH,
+        ErrorKind::ParametersMissing => PARAMETERS_MISSING,
+        ErrorKind::TagUnexpected { .. } => TAG_UNEXPECTED,
+        ErrorKind::TagUnknown { .. } => TAG_UNKNOWN,
+        ErrorKind::TrailingData => TRAILING_DATA,
+        ErrorKind::Value { .. } => VALUE,
+        ErrorKind::NoRoom => NO_ROOM,
+        ErrorKind::File => FILE,
+        ErrorKind::OutOfMemory => OUT_OF_MEMORY,
     }
 }
 

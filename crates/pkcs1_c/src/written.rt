@@ -1,21 +1,21 @@
 //! Writing into a caller's slice.
 ghost use Rattle.std.specs.Prelude.{◌≡◌, ◌≢◌, ◌≤◌, length, take, drop};
 ghost use Rattle.der_core.specs.Document.{IsShortest};
-ghost use Rattle.pkcs1_c.specs.Refusals.{HasNoText, LacksRoom};
+ghost use Rattle.pkcs1_c.specs.Refusals.{LacksRoom};
+ghost use Rattle.pkcs1_c.specs.Unwritten.{AnyTextRefusal};
 
-use crate::status::{OK, kind_number};
+use crate::status::{NO_ROOM, OK, kind_number};
 use der_core::Encode;
 
 /// Writes the shortest text of the value: 0, and then its length in `len`. Where the text has no room, `len` is the length
 /// that it needs.
 pub(crate) fn write_text<T: Encode>(value: &T, out: &mut [u8], len: &mut usize) -> u32
-    ensures ok { result ≡ 0 → IsShortest T.text (T.value value.now) (take len.new out.new) }
-    ensures rest { result ≡ 0 → (len.new ≤ length out.new) × (drop len.new out.new ≡ drop len.new out.old) }
-    ensures no_room { result ≡ 15 → LacksRoom T.text (T.value value.now) (length out.old) len.new }
-    ensures refused { result ≢ 0 → result ≢ 15 → HasNoText T.text (T.value value.now) }
-    ensures memory { result ≢ 17 }
-    ensures unchanged { result ≢ 0 → out.new ≡ out.old }
-    ensures kept { result ≢ 0 → result ≢ 15 → len.new ≡ len.old }
+    ensures ok { result ≡ OK → IsShortest T.text (T.value value.now) (take len.new out.new) }
+    ensures rest { result ≡ OK → (len.new ≤ length out.new) × (drop len.new out.new ≡ drop len.new out.old) }
+    ensures no_room { result ≡ NO_ROOM → LacksRoom T.text (T.value value.now) (length out.old) len.new }
+    ensures exact { result ≢ OK → AnyTextRefusal T.text (T.value value.now) (length out.old) result }
+    ensures unchanged { result ≢ OK → out.new ≡ out.old }
+    ensures kept { result ≢ OK → result ≢ NO_ROOM → len.new ≡ len.old }
 {
     match value.encode_into(out) {
         Ok(written) => {

@@ -1,0 +1,134 @@
+-- Why what a program gives isn't written, by status: the first of its parts that can't be held, in the order of the struct;
+-- else the text of what it means.
+use Rattle.std.specs.Prelude.{ℕ, List, [], ◌∷◌, ◌++◌, ◌≡◌, ◌≢◌, ◌<◌, ◌≤◌, ◌⊎◌, IsTrue, length, map, false, Option, Some, None}
+use Rattle.der_core.specs.Document.{IsShortest}
+use Rattle.der_core.specs.Length.{limit}
+use Rattle.der_core.specs.SequenceOf.{AllHave}
+use Rattle.der_core.specs.Tag.{is_allowed}
+use Rattle.pkcs1.specs.Keys as keys
+use Rattle.pkcs1.specs.Writing.{key_numbers, other_numbers}
+use Rattle.pkcs1_params.specs.Parameters.{PssParameters, RsaPssParams, OaepParameters, RsaOaepParams}
+use Rattle.pkcs8_core.specs.Container as container
+use Rattle.spki_core.specs.Any.{TagAndContents}
+use Rattle.spki_core.specs.AlgorithmIdentifier.{Algorithm}
+use Rattle.spki_core.specs.ObjectIdentifier.{IsIdentifier}
+use Rattle.pkcs1_c.specs.declared.container.PrivateKeyInfo.{PrivateKeyInfo}
+use Rattle.pkcs1_c.specs.declared.private_key.PrivateKey.{PrivateKey}
+use Rattle.pkcs1_c.specs.declared.private_key.OtherPrime.{OtherPrime}
+use Rattle.pkcs1_c.specs.declared.status.TheConstants.{LENGTH, OID_MALFORMED, OVERFLOW, TAG_UNKNOWN, VALUE, NO_ROOM, OTHER_PRIMES}
+use Rattle.pkcs1_c.specs.Containers.{info_seen, HoldsKey, KeyFault}
+use Rattle.pkcs1_c.specs.Fits.{PlainFits, MaskFits}
+use Rattle.pkcs1_c.specs.Given.{IsGiven}
+use Rattle.pkcs1_c.specs.Numbers.{IsNumberOf, ArePublicNumbers}
+use Rattle.pkcs1_c.specs.Refusals.{HasNoText}
+use Rattle.pkcs1_c.specs.Status.{IsNumberOfFault}
+use Rattle.pkcs1_c.specs.StructValues.{private_key_seen, other_prime_seen}
+
+-- All parts can be held: no text of the value is within the limit, or the shortest has no room.
+abbrev pub TextRefusal : {V : Type 0} → (V → List ℕ → Type 0) → V → ℕ → ℕ → Type 0
+TextRefusal Grammar v room status = ((status ≡ OVERFLOW) × HasNoText Grammar v) ⊎ ((status ≡ NO_ROOM) × (text : List ℕ) × IsShortest Grammar v text × (room < length text))
+
+-- The same of a value that may have no text at all.
+abbrev pub AnyTextRefusal : {V : Type 0} → (V → List ℕ → Type 0) → V → ℕ → ℕ → Type 0
+AnyTextRefusal Grammar v room status =
+    ((status ≡ VALUE) × ((text : List ℕ) → Grammar v text → ⊥)) ⊎ TextRefusal Grammar v room status
+
+-- A part can't be held; or it can, and what is behind it is refused.
+abbrev pub PartThen : (ℕ → Type 0) → Type 0 → (ℕ → Type 0) → ℕ → Type 0
+PartThen Refusal Fits Rest status = Refusal status ⊎ (Fits × Rest status)
+
+-- Bytes that are to be a number: there is none, or the number passes the limit.
+abbrev pub NumberRefusal : List ℕ → ℕ → Type 0
+NumberRefusal bytes status =
+    ((status ≡ LENGTH) × (length bytes ≡ 0)) ⊎ ((status ≡ OVERFLOW) × (0 < length bytes) × ((n : List ℕ) → IsNumberOf bytes n → limit < length n))
+
+abbrev pub NumberFits : List ℕ → Type 0
+NumberFits bytes = (n : List ℕ) × IsNumberOf bytes n × (length n ≤ limit)
+
+-- Numbers in their order, and what is behind them.
+abbrev pub NumbersThen : List (List ℕ) → (ℕ → Type 0) → ℕ → Type 0
+NumbersThen [] Rest status = Rest status
+NumbersThen (bytes ∷ more) Rest status = PartThen (NumberRefusal bytes) (NumberFits bytes) (NumbersThen more Rest) status
+
+abbrev pub two_numbers : keys.PublicKey (List ℕ) → List (List ℕ)
+two_numbers key = key.modulus ∷ key.public_exponent ∷ []
+
+-- The text of the key of these numbers.
+abbrev pub PublicTextRefusal : keys.PublicKey (List ℕ) → ℕ → ℕ → Type 0
+PublicTextRefusal given room status =
+    (made : keys.PublicKey (List ℕ)) × ArePublicNumbers made given × TextRefusal keys.RsaPublicKey made room status
+
+abbrev pub PublicKeyRefusal : keys.PublicKey (List ℕ) → ℕ → ℕ → Type 0
+PublicKeyRefusal given room = NumbersThen (two_numbers given) (PublicTextRefusal given room)
+
+-- The eight numbers of a key, and those of its other primes.
+abbrev pub eight_numbers : PrivateKey → List (List ℕ)
+eight_numbers key = key_numbers (private_key_seen key None)
+
+abbrev pub others_numbers : List (keys.OtherPrime (List ℕ)) → List (List ℕ)
+others_numbers [] = []
+others_numbers (other ∷ others) = other_numbers other ++ others_numbers others
+
+abbrev pub PrivateTextRefusal : PrivateKey → List OtherPrime → ℕ → ℕ → Type 0
+PrivateTextRefusal key others room status =
+    (made : keys.PrivateKey (List ℕ)) × IsGiven key others made × TextRefusal keys.RsaPrivateKey made room status
+
+-- The other primes aren't as many as the key says; or one of the numbers, or the text. Want of memory aside.
+abbrev pub PrivateKeyRefusal : PrivateKey → List OtherPrime → ℕ → ℕ → Type 0
+PrivateKeyRefusal key others room =
+    PartThen (λ status. (status ≡ OTHER_PRIMES) × (key.other_primes ≢ length others)) (key.other_primes ≡ length others)
+    (NumbersThen (eight_numbers key) (NumbersThen (others_numbers (map other_prime_seen others)) (PrivateTextRefusal key others room)))
+
+-- Memory may be wanted for other primes, once the eight numbers can be held.
+abbrev pub MayWantMemory : PrivateKey → List OtherPrime → Type 0
+MayWantMemory key others = (0 < length others) × AllHave NumberFits (eight_numbers key)
+
+-- The octets are no private key, by the first fault; or the text of the container.
+abbrev pub InfoRefusal : PrivateKeyInfo → ℕ → ℕ → Type 0
+InfoRefusal info room =
+    PartThen (IsNumberOfFault (KeyFault info)) ((key : keys.PrivateKey (List ℕ)) × HoldsKey info key)
+    (TextRefusal container.PrivateKeyInfo (info_seen info) room)
+
+-- Octets that are to be an identifier.
+abbrev pub OidRefusal : List ℕ → ℕ → Type 0
+OidRefusal oid status = (status ≡ OID_MALFORMED) × (IsIdentifier oid → ⊥)
+
+-- Parameters of an algorithm: the tag octet, or the contents are past the limit.
+abbrev pub AnyRefusal : TagAndContents → ℕ → Type 0
+AnyRefusal v status =
+    ((status ≡ TAG_UNKNOWN) × (is_allowed v.tag ≡ false)) ⊎ ((status ≡ OVERFLOW) × IsTrue (is_allowed v.tag) × (limit < length v.contents))
+
+abbrev pub OptionRefusal : {P : Type 0} → (P → ℕ → Type 0) → Option P → ℕ → Type 0
+OptionRefusal Refusal None status = ⊥
+OptionRefusal Refusal (Some v) status = Refusal v status
+
+abbrev pub AlgorithmRefusal : {P : Type 0} → (P → ℕ → Type 0) → Algorithm P → ℕ → Type 0
+AlgorithmRefusal Refusal a = PartThen (OidRefusal a.oid) (IsIdentifier a.oid) (OptionRefusal Refusal a.parameters)
+
+abbrev pub PlainRefusal : Algorithm TagAndContents → ℕ → Type 0
+PlainRefusal = AlgorithmRefusal AnyRefusal
+
+abbrev pub MaskRefusal : Algorithm (Algorithm TagAndContents) → ℕ → Type 0
+MaskRefusal = AlgorithmRefusal PlainRefusal
+
+-- The fields that both sets of parameters begin with, and what is behind them.
+abbrev pub HashFieldsThen : Algorithm TagAndContents → Algorithm (Algorithm TagAndContents) → (ℕ → Type 0) → ℕ → Type 0
+HashFieldsThen hash mask_gen Rest =
+    PartThen (PlainRefusal hash) (PlainFits hash) (PartThen (MaskRefusal mask_gen) (MaskFits mask_gen) Rest)
+
+abbrev pub PssThen : PssParameters → (ℕ → Type 0) → ℕ → Type 0
+PssThen p Rest =
+    HashFieldsThen p.hash p.mask_gen (PartThen (λ status. (status ≡ VALUE) × (p.trailer_field ≢ 1)) (p.trailer_field ≡ 1) Rest)
+
+abbrev pub PssRefusal : PssParameters → ℕ → ℕ → Type 0
+PssRefusal p room = PssThen p (TextRefusal RsaPssParams p room)
+
+abbrev pub OaepThen : OaepParameters → (ℕ → Type 0) → ℕ → Type 0
+OaepThen p Rest = HashFieldsThen p.hash p.mask_gen (PartThen (PlainRefusal p.p_source) (PlainFits p.p_source) Rest)
+
+abbrev pub OaepRefusal : OaepParameters → ℕ → ℕ → Type 0
+OaepRefusal p room = OaepThen p (TextRefusal RsaOaepParams p room)
+
+-- Nothing is behind the parts.
+abbrev pub Nothing : ℕ → Type 0
+Nothing status = ⊥
