@@ -1,7 +1,7 @@
 //! Documents from sources and to sinks that move a few bytes a call, or refuse one; and in files.
 ghost use Rattle.std.specs.Prelude.{Some};
 
-use crate::checks::equal;
+use crate::checks::{equal, holds};
 use der_core::{
     Document, Error, ErrorKind, FromRead, Result, SecretDocument, Sink, Source, ToWrite,
 };
@@ -17,10 +17,11 @@ const REFUSED: Error = Error {
     kind: ErrorKind::File,
 };
 
-/// Gives one byte a call, and refuses the call of number `refused`, from 1 on.
+/// Gives up to `most` bytes a call, and refuses the call of number `refused`, from 1 on.
 #[derive(Drop)]
 struct Slow<'a> {
     left: &'a [u8],
+    most: usize,
     refused: u64,
     calls: u64,
     faults: u64,
@@ -37,7 +38,7 @@ impl<'a> Source for Slow<'a> {
             self.faults = self.faults.saturating_add(1);
             return Err(Error::new(ErrorKind::Failed));
         }
-        let count = 1.min(self.left.len()).min(buf.len());
+        let count = self.most.max(1).min(self.left.len()).min(buf.len());
         let (given, left) = self.left.split_at(count);
         buf[..count].copy_from_slice(given);
         self.left = left;
@@ -49,19 +50,22 @@ impl<'a> Source for Slow<'a> {
     }
 }
 
+/// Gives one byte a call.
 fn giving(left: &[u8], refused: u64) -> Slow<'_> {
     Slow {
         left,
+        most: 1,
         refused,
         calls: 0,
         faults: 0,
     }
 }
 
-/// Takes up to three bytes a call, and refuses the call of number `refused`, from 1 on.
+/// Takes up to `most` bytes a call, and refuses the call of number `refused`, from 1 on.
 #[derive(Drop)]
 struct Narrow {
     taken: Vec<u8>,
+    most: usize,
     refused: u64,
     calls: u64,
     flushes: u64,
@@ -75,7 +79,7 @@ impl Sink for Narrow {
 
     fn write(&mut self, bytes: &[u8]) -> Result<usize> {
         self.calls = self.calls.saturating_add(1);
-        let count = 3.min(bytes.len());
+        let count = self.most.max(1).min(bytes.len());
         if self.calls == self.refused || self.taken.extend_from_slice(&bytes[..count]).is_err() {
             self.faults = self.faults.saturating_add(1);
             return Err(Error::new(ErrorKind::Failed));
@@ -93,9 +97,11 @@ impl Sink for Narrow {
     }
 }
 
+/// Takes up to three bytes a call.
 fn taking(alloc: Global, refused: u64) -> Narrow {
     Narrow {
         taken: Vec::new(alloc),
+        most: 3,
         refused,
         calls: 0,
         flushes: 0,
@@ -212,6 +218,37 @@ fn documents_go_to_sinks(rt: HostRuntime) -> std::result::Result<(), Fail> {
     let mut sink = ToWrite::new(Full);
     equal(&rt, document.write_to(&mut sink), Err(REFUSED));
     equal(&rt, sink.faults(), 1);
+    Ok(())
+}
+
+/// A document of more octets than three pieces of 64 KiB.
+fn long_text(alloc: Global) -> std::result::Result<Vec<u8>, Fail> {
+    let mut text = Vec::new(alloc);
+    text.extend_from_slice(&[0x30, 0x83, 0x03, 0x0d, 0x40])?;
+    for place in 0..200_000_u32 {
+        text.push(u8::try_from(place % 251).unwrap_or(0))?;
+    }
+    Ok(text)
+}
+
+#[test]
+fn long_documents_come_and_go_in_pieces(rt: HostRuntime) -> std::result::Result<(), Fail> {
+    let alloc = rt.alloc();
+    let text = long_text(alloc)?;
+    let mut source = giving(text.as_slice(), 0);
+    source.most = 40_000;
+    let document = Document::read_from(alloc, &mut source)?;
+    holds(&rt, document.as_bytes() == text.as_slice());
+    let mut sink = taking(alloc, 0);
+    sink.most = 40_000;
+    document.write_to(&mut sink)?;
+    holds(&rt, sink.taken == text);
+    let mut source = FromRead::new(text.as_slice());
+    let secret = SecretDocument::read_from(alloc, &mut source)?;
+    holds(&rt, secret.as_bytes() == text.as_slice());
+    let mut sink = refusing_at(alloc, 0);
+    secret.write_to(&mut sink)?;
+    holds(&rt, sink.into_inner().taken == text);
     Ok(())
 }
 

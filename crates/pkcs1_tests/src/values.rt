@@ -1,6 +1,6 @@
 //! Values that are hashed, compared, copied and printed.
 use crate::checks::{equal, holds};
-use der_core::{AsUintRef, Document, SecretDocument, UintRef};
+use der_core::{AsUintRef, Document, Error, ErrorKind, SecretDocument, Tag, UintRef};
 use pkcs1::{
     ALGORITHM_OID, OtherPrimeInfo, RsaOaepParamsRef, RsaPrivateKeyOwned, RsaPssParamsRef, Version,
 };
@@ -8,6 +8,7 @@ use spki_core::{AnyRef, AssociatedOid, ObjectIdentifier};
 use std::alloc::Global;
 use std::fmt::Debug;
 use std::hash::{DefaultHasher, Hash, Hasher};
+use std::process::Abort;
 use std::test::Fail;
 use uses::{Sha1, Sha256};
 
@@ -64,28 +65,93 @@ fn values_are_compared_by_what_they_mean(rt: HostRuntime) -> Result<(), Fail> {
     Ok(())
 }
 
-/// Whether what is printed for the reader of a program begins so.
-fn prints<T: Debug>(alloc: Global, value: &T, front: &str) -> Result<bool, Fail> {
-    Ok(format!(in alloc; "{value:?}")?.as_str().starts_with(front))
+/// Each is equal to itself and to no other of them.
+fn all_differ<T: PartialEq>(rt: &impl Abort, all: &[T]) {
+    for (place, one) in all.iter().enumerate() {
+        for (other_place, other) in all.iter().enumerate() {
+            holds(rt, (one == other) == (place == other_place));
+            holds(rt, (one != other) == (place != other_place));
+        }
+    }
+}
+
+/// Each kind, and those that name something twice: of two tags or octets.
+fn kinds(tag: Tag, other: Tag) -> [ErrorKind; 24] {
+    [
+        ErrorKind::Failed,
+        ErrorKind::Incomplete,
+        ErrorKind::IndefiniteLength,
+        ErrorKind::Length { tag },
+        ErrorKind::Length { tag: other },
+        ErrorKind::Noncanonical { tag },
+        ErrorKind::Noncanonical { tag: other },
+        ErrorKind::OidMalformed,
+        ErrorKind::OidUnknown,
+        ErrorKind::Overflow,
+        ErrorKind::Overlength,
+        ErrorKind::ParametersMissing,
+        unexpected(tag, tag),
+        unexpected(tag, other),
+        unexpected(other, tag),
+        ErrorKind::TagUnknown { octet: 0x00 },
+        ErrorKind::TagUnknown { octet: 0x1f },
+        ErrorKind::TrailingData,
+        ErrorKind::Value { tag },
+        ErrorKind::Value { tag: other },
+        ErrorKind::NoRoom,
+        ErrorKind::File,
+        ErrorKind::OutOfMemory,
+        ErrorKind::Value { tag: Tag::NULL },
+    ]
+}
+
+/// One tag in place of another.
+fn unexpected(expected: Tag, actual: Tag) -> ErrorKind {
+    ErrorKind::TagUnexpected { expected, actual }
+}
+
+#[test]
+fn errors_are_equal_where_they_tell_the_same(rt: HostRuntime) {
+    let kinds = kinds(Tag::INTEGER, Tag::SEQUENCE);
+    all_differ(&rt, &kinds);
+    all_differ(&rt, &kinds.map(Error::new));
+    all_differ(&rt, &kinds.map(|kind| pkcs1::Error::Asn1(Error::new(kind))));
+    let [.., kind] = kinds;
+    all_differ(
+        &rt,
+        &[
+            pkcs1::Error::Asn1(Error::new(kind)),
+            pkcs1::Error::Crypto,
+            pkcs1::Error::KeyMalformed,
+            pkcs1::Error::Version,
+        ],
+    );
+}
+
+/// What is printed for the reader of a program.
+fn printed<T: Debug>(alloc: Global, value: &T) -> Result<String, Fail> {
+    Ok(format!(in alloc; "{value:?}")?)
 }
 
 #[test]
 fn a_secret_document_shows_no_byte(rt: HostRuntime) -> Result<(), Fail> {
     let alloc = rt.alloc();
-    let document = Document::from_der(alloc, &[0x30, 0x00])?;
-    holds(&rt, prints(alloc, &document, "Document {")?);
-    let secret = SecretDocument::from_der(alloc, &[0x30, 0x00])?;
-    holds(&rt, prints(alloc, &secret, "SecretDocument { .. }")?);
-    let pss = RsaPssParamsRef::new::<Sha256>(32);
-    holds(
-        &rt,
-        prints(alloc, &pss, "RsaPssParams { hash: AlgorithmIdentifier {")?,
-    );
-    let oaep = RsaOaepParamsRef::new::<Sha256>();
-    holds(
-        &rt,
-        prints(alloc, &oaep, "RsaOaepParams { hash: AlgorithmIdentifier {")?,
-    );
+    let document = printed(alloc, &Document::from_der(alloc, &[0x30, 0x00])?)?;
+    equal(&rt, document.as_str(), "Document { bytes: [48, 0] }");
+    let secret = printed(alloc, &SecretDocument::from_der(alloc, &[0x30, 0x00])?)?;
+    equal(&rt, secret.as_str(), "SecretDocument { .. }");
+    Ok(())
+}
+
+#[test]
+fn parameters_are_printed_by_their_fields(rt: HostRuntime) -> Result<(), Fail> {
+    let alloc = rt.alloc();
+    let pss = printed(alloc, &RsaPssParamsRef::new::<Sha256>(32))?;
+    let front = "RsaPssParams { hash: AlgorithmIdentifier {";
+    holds(&rt, pss.as_str().starts_with(front));
+    let oaep = printed(alloc, &RsaOaepParamsRef::new::<Sha256>())?;
+    let front = "RsaOaepParams { hash: AlgorithmIdentifier {";
+    holds(&rt, oaep.as_str().starts_with(front));
     Ok(())
 }
 
