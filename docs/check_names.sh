@@ -1,8 +1,7 @@
 #!/usr/bin/env bash
-# Fails where a document names in backquotes a file, call, type, clause or definition that the repository hasn't, or
-# links to what isn't there. A word is there if it stands in code (no comment) outside proofs/. Tables: under `src/` and
-# `specs/` stand files of the crate in the heading, with the "definitions" in them; under "calls" and "clauses" clauses
-# of these calls. What names the Rust crate is skipped.
+# Fails where a document names in backquotes a file, call, type, clause or definition that isn't there, or links to what
+# isn't. A word is there if it stands in code, not in a comment or in proofs/. In tables, `src/` and `specs/` head files
+# of the crate in the heading, with their "definitions"; "calls" have the "clauses" beside them.
 set -eu
 cd "$(dirname "$0")/.."
 exec python3 - <<'END'
