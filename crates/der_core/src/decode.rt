@@ -8,9 +8,8 @@ ghost use Rattle.der_core.specs.declared.error.ErrorKind.{ErrorKind};
 
 use crate::error::{ErrorKind, Result};
 use crate::header::Header;
-use crate::length::Length;
 use crate::memory::Memory;
-use crate::reader::{Octets, Reader};
+use crate::reader::{Octets, Reader, refuse_if_failed};
 use crate::slice_reader::SliceReader;
 use crate::tag::Tag;
 use crate::types::{Contents, FixedTag, Text};
@@ -115,7 +114,7 @@ fn read_text<'a, T: DecodeValue<&'a [u8], M> + FixedTag, M: Memory, R: Reader<&'
 pub fn is_tag_next<'a, R: Reader<&'a [u8]>>(reader: &mut R, tag: Tag) -> Result<bool>
     ensures { TellsNext tag.octet result (R.left reader.old) (R.left reader.new) }
 {
-    reader.read_slice(Length::ZERO)?;
+    refuse_if_failed(reader)?;
     Ok(reader.peek_octet() == Some(tag.octet()))
 }
 
