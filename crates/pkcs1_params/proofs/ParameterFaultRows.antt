@@ -1,5 +1,5 @@
 -- First faults of parameters, at worked examples.
-use Rattle.std.proofs.Common.{ℕ, List, [], ◌∷◌, ◌++◌, ◌≡◌, ◌≢◌, ◌<◌, ◌+◌, length, refl, sym, ap, arith, append-nil, inl, inr}
+use Rattle.std.proofs.Common.{ℕ, List, [], ◌∷◌, ◌++◌, ◌≢◌, ◌<◌, ◌+◌, length, refl, sym, ap, arith, append-nil, inl, inr}
 use Rattle.der_core.specs.declared.error.ErrorKind.{ErrorKind}
 use Rattle.der_core.specs.declared.error.ErrorKind.TheVariants.{Incomplete, IndefiniteLength, Length, Noncanonical, OidMalformed, Overflow, Overlength, TagUnexpected, TagUnknown, TrailingData, Value}
 use Rattle.der_core.specs.declared.tag.Tag.{Tag}

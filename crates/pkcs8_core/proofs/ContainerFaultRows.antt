@@ -1,5 +1,5 @@
 -- First faults of containers, at worked examples.
-use Rattle.std.proofs.Common.{ℕ, List, [], ◌∷◌, ◌≡◌, ◌<◌, refl, arith, inl, inr, None}
+use Rattle.std.proofs.Common.{[], ◌∷◌, refl, arith, inl, inr, None}
 use Rattle.der_core.specs.declared.error.ErrorKind.TheVariants.{OidUnknown, ParametersMissing, TagUnexpected, TrailingData, Value}
 use Rattle.der_core.specs.Faults.{other_tag, in_contents}
 use Rattle.der_core.specs.Length.{short}

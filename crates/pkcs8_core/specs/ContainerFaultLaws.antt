@@ -1,10 +1,10 @@
 -- Bytes with a fault are no container, and have one first fault.
-use Rattle.std.proofs.Common.{ℕ, List, [], ◌∷◌, ◌≡◌, sym, ap, ◌∙◌, refl, inl, inr, Some, None}
+use Rattle.std.proofs.Common.{ℕ, List, [], ◌∷◌, ◌≡◌, sym, ap, ◌∙◌, refl, inl, inr, Some}
 use Rattle.der_core.specs.declared.error.ErrorKind.{ErrorKind}
 use Rattle.der_core.specs.declared.error.ErrorKind.TheVariants.{Value}
 use Rattle.der_core.specs.Document.{Means}
 use Rattle.der_core.specs.Faults.{TextFault, SmallFault, NoFault, AreNone, AreFirst}
-use Rattle.der_core.specs.FaultLaws.{small_fault_none, small_fault_first, no_fault_none, no_fault_first, text_fault_none, text_fault_first, then_fault_none, then_fault_first, tagged_last_none, tagged_last_first, whole_fault_none, whole_fault_first}
+use Rattle.der_core.specs.FaultLaws.{small_fault_none, small_fault_first, no_fault_none, no_fault_first, text_fault_none, text_fault_first, then_fault_none, then_fault_first, tagged_last_none, tagged_last_first, whole_fault_none}
 use Rattle.der_core.specs.Expected.{expected_fault_none, expected_fault_first}
 use Rattle.der_core.specs.Integer.{SmallContents}
 use Rattle.der_core.specs.IntegerLaws.{small_means_one}

@@ -1,5 +1,5 @@
 -- Bytes with a fault are no identifier, and no algorithm, and have one first fault.
-use Rattle.std.proofs.Common.{ℕ, List, [], ◌∷◌, ◌++◌, ◌≡◌, length, refl, ap, sym, ◌∙◌, arith, length-append, append-nil, Result, Ok, Err}
+use Rattle.std.proofs.Common.{ℕ, List, [], ◌∷◌, ◌++◌, ◌≡◌, length, refl, ap, sym, ◌∙◌, arith, length-append, Result, Ok, Err}
 use Rattle.der_core.specs.declared.error.ErrorKind.{ErrorKind}
 use Rattle.der_core.specs.declared.error.ErrorKind.TheVariants.{Incomplete, OidMalformed}
 use Rattle.der_core.specs.Faults.{TextFault, LastFault, AreNone, AreFirst}
