@@ -24,3 +24,4 @@ pub mod FieldValueLaws
 pub mod LabelWriting
 pub mod ParameterFaults
 pub mod ParameterFaultLaws
+pub mod DefaultBits

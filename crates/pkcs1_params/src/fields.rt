@@ -1,5 +1,5 @@
 //! The fields of parameters, and what is written of them under a mask that says which of their defaults are.
-ghost use Rattle.std.specs.Prelude.{◌≡◌, ◌≤◌, ◌<◌, ◌+◌, ◌*◌, ◌++◌, ℕ, length};
+ghost use Rattle.std.specs.Prelude.{Bool, false, ◌≡◌, ◌≤◌, ◌<◌, ◌+◌, ◌*◌, ◌++◌, ℕ, length};
 ghost use Rattle.der_core.specs.BackWriters.{free_of, Prepends};
 ghost use Rattle.der_core.specs.Length.{limit};
 ghost use Rattle.der_core.specs.Writing.{Counts, Appends};
@@ -8,7 +8,8 @@ ghost use Rattle.spki_core.specs.FieldWriting.{HasField, written_field};
 ghost use Rattle.spki_core.specs.Masks.{out_under, rest_under};
 ghost use Rattle.spki_core.specs.StrictFields.{number_in};
 ghost use Rattle.pkcs1_params.specs.FieldRefs.{value_of, part_in, values_in};
-ghost use Rattle.pkcs1_params.specs.Parts.{fields_in, HasFields, written_fields};
+ghost use Rattle.pkcs1_params.specs.DefaultBits.{bit_of, bits_of};
+ghost use Rattle.pkcs1_params.specs.Parts.{defaults_in, fields_in, HasFields, written_fields};
 
 use crate::hash_fields::{MaskGenRef, is_default_hash, is_default_mask_gen};
 use crate::p_source::is_default_source;
@@ -74,17 +75,31 @@ impl FieldRef<'_> {
     }
 
     /// How many octets are written of it, where it may be left out.
+    #[inline(always)]
     fn len(&self, left_out: bool) -> Result<Length>
         ensures { let part = part_in self.now in
             Counts (HasField left_out part.has) (written_field left_out part.field.number part.text) result }
     {
+        if left_out {
+            Ok(Length::ZERO)
+        } else {
+            self.written_len()
+        }
+    }
+
+    /// How many octets are written of it.
+    #[inline(never)]
+    fn written_len(&self) -> Result<Length>
+        ensures { let part = part_in self.now in
+            Counts (HasField false part.has) (written_field false part.field.number part.text) result }
+    {
         let number = self.number();
         match *self {
-            FieldRef::Hash(hash) => field_len(left_out, number, hash),
-            FieldRef::MaskGen(mask_gen) => field_len(left_out, number, mask_gen),
-            FieldRef::SaltLen(salt_len) => field_len(left_out, number, &salt_len),
-            FieldRef::Trailer(trailer) => field_len(left_out, number, &trailer),
-            FieldRef::PSource(p_source) => field_len(left_out, number, p_source),
+            FieldRef::Hash(hash) => field_len(false, number, hash),
+            FieldRef::MaskGen(mask_gen) => field_len(false, number, mask_gen),
+            FieldRef::SaltLen(salt_len) => field_len(false, number, &salt_len),
+            FieldRef::Trailer(trailer) => field_len(false, number, &trailer),
+            FieldRef::PSource(p_source) => field_len(false, number, p_source),
         }
     }
 
@@ -106,6 +121,7 @@ impl FieldRef<'_> {
     }
 
     /// Puts it before what is filled, where it may be left out.
+    #[inline(always)]
     fn prepend(&self, left_out: bool, writer: &mut BackWriter<'_>)
         requires has { HasField left_out (part_in self.now).has }
         requires fits { let part = part_in self.now in
@@ -115,18 +131,35 @@ impl FieldRef<'_> {
         ensures { let part = part_in self.now in
             Prepends (written_field left_out part.field.number part.text) writer.old writer.new }
     {
+        if !left_out {
+            self.prepend_written(writer);
+        }
+    }
+
+    /// Puts it before what is filled.
+    #[inline(never)]
+    fn prepend_written(&self, writer: &mut BackWriter<'_>)
+        requires has { HasField false (part_in self.now).has }
+        requires fits { let part = part_in self.now in
+            length (written_field false part.field.number part.text) ≤ limit }
+        requires room { let part = part_in self.now in
+            length (written_field false part.field.number part.text) ≤ free_of writer.old }
+        ensures { let part = part_in self.now in
+            Prepends (written_field false part.field.number part.text) writer.old writer.new }
+    {
         let number = self.number();
         match *self {
-            FieldRef::Hash(hash) => prepend_field(left_out, number, hash, writer),
-            FieldRef::MaskGen(mask_gen) => prepend_field(left_out, number, mask_gen, writer),
-            FieldRef::SaltLen(salt_len) => prepend_field(left_out, number, &salt_len, writer),
-            FieldRef::Trailer(trailer) => prepend_field(left_out, number, &trailer, writer),
-            FieldRef::PSource(p_source) => prepend_field(left_out, number, p_source, writer),
+            FieldRef::Hash(hash) => prepend_field(false, number, hash, writer),
+            FieldRef::MaskGen(mask_gen) => prepend_field(false, number, mask_gen, writer),
+            FieldRef::SaltLen(salt_len) => prepend_field(false, number, &salt_len, writer),
+            FieldRef::Trailer(trailer) => prepend_field(false, number, &trailer, writer),
+            FieldRef::PSource(p_source) => prepend_field(false, number, p_source, writer),
         }
     }
 }
 
 /// Whether a field is left out, and the mask for the later ones.
+#[inline(always)]
 pub(crate) fn under(default: bool, mask: u8) -> (bool, u8)
     ensures { result ≡ (out_under default mask, rest_under default mask) }
 {
@@ -135,6 +168,15 @@ pub(crate) fn under(default: bool, mask: u8) -> (bool, u8)
     } else {
         (false, mask)
     }
+}
+
+/// Whether a field has its default, and the bits for the later ones.
+#[inline(always)]
+fn split_defaults(defaults: u8, _field: &FieldRef<'_>, _later: &[FieldRef<'_>]) -> (bool, u8)
+    requires { defaults ≡ bit_of (part_in _field.now).is_default + 2 * bits_of (defaults_in (values_in _later.now)) }
+    ensures { result ≡ ((part_in _field.now).is_default, bits_of (defaults_in (values_in _later.now))) }
+{
+    (defaults % 2 == 1, defaults / 2)
 }
 
 /// How many of the fields have their defaults.
@@ -149,6 +191,15 @@ pub(crate) fn count_defaults(fields: &[FieldRef<'_>]) -> u8
     }
 }
 
+/// A bit that tells a fact.
+#[inline(always)]
+pub(crate) fn bit(fact: bool) -> u8
+    ensures is { result ≡ bit_of fact }
+    ensures few { result ≤ 1 }
+{
+    u8::from(fact)
+}
+
 /// What is borrowed has contents under each mask, and no more of them than memory holds: a call that does nothing.
 pub(crate) fn are_held(fields: &[FieldRef<'_>])
     ensures { (mask : ℕ) → HasFields (values_in fields.now) mask
@@ -160,22 +211,31 @@ pub(crate) fn are_held(fields: &[FieldRef<'_>])
     }
 }
 
-/// How many octets the fields have under a mask.
-pub(crate) fn fields_len(fields: &[FieldRef<'_>], mask: u8) -> Result<Length>
+/// How many octets the fields have under a mask. The bits of `defaults` say which have their defaults, the lowest one of
+/// the first.
+pub(crate) fn fields_len(fields: &[FieldRef<'_>], defaults: u8, mask: u8) -> Result<Length>
+    requires { defaults ≡ bits_of (defaults_in (values_in fields.now)) }
     ensures { let values = values_in fields.now in
         Counts (HasFields values mask) (written_fields values mask) result }
 {
     match fields.split_first() {
         None => Ok(Length::ZERO),
         Some((field, later)) => {
-            let (left_out, mask) = under(field.is_default(), mask);
-            joined_len(field.len(left_out), fields_len(later, mask))
+            let (default, defaults) = split_defaults(defaults, field, later);
+            let (left_out, mask) = under(default, mask);
+            joined_len(field.len(left_out), fields_len(later, defaults, mask))
         }
     }
 }
 
 /// Appends fields that can be written.
-fn append_fields<W: Writer>(fields: &[FieldRef<'_>], mask: u8, writer: &mut W) -> Result<()>
+fn append_fields<W: Writer>(
+    fields: &[FieldRef<'_>],
+    defaults: u8,
+    mask: u8,
+    writer: &mut W,
+) -> Result<()>
+    requires defaults { defaults ≡ bits_of (defaults_in (values_in fields.now)) }
     requires has { HasFields (values_in fields.now) mask }
     requires fits { length (written_fields (values_in fields.now) mask) ≤ limit }
     ensures appends { let values = values_in fields.now in
@@ -186,9 +246,10 @@ fn append_fields<W: Writer>(fields: &[FieldRef<'_>], mask: u8, writer: &mut W) -
     match fields.split_first() {
         None => Ok(()),
         Some((field, later)) => {
-            let (left_out, mask) = under(field.is_default(), mask);
+            let (default, defaults) = split_defaults(defaults, field, later);
+            let (left_out, mask) = under(default, mask);
             field.encode(left_out, writer)?;
-            append_fields(later, mask, writer)
+            append_fields(later, defaults, mask, writer)
         }
     }
 }
@@ -196,28 +257,37 @@ fn append_fields<W: Writer>(fields: &[FieldRef<'_>], mask: u8, writer: &mut W) -
 /// Appends the fields under a mask.
 pub(crate) fn encode_fields<W: Writer>(
     fields: &[FieldRef<'_>],
+    defaults: u8,
     mask: u8,
     writer: &mut W,
 ) -> Result<()>
+    requires { defaults ≡ bits_of (defaults_in (values_in fields.now)) }
     ensures appends { let values = values_in fields.now in
         let octets = written_fields values mask in
         Appends (HasFields values mask) octets W.room W.written writer.old writer.new result }
     ensures kept { W.keeps writer.old writer.new }
 {
-    fields_len(fields, mask)?;
-    append_fields(fields, mask, writer)
+    fields_len(fields, defaults, mask)?;
+    append_fields(fields, defaults, mask, writer)
 }
 
 /// Puts the fields under a mask before what is filled, the last one first.
-pub(crate) fn prepend_fields(fields: &[FieldRef<'_>], mask: u8, writer: &mut BackWriter<'_>)
+pub(crate) fn prepend_fields(
+    fields: &[FieldRef<'_>],
+    defaults: u8,
+    mask: u8,
+    writer: &mut BackWriter<'_>,
+)
+    requires defaults { defaults ≡ bits_of (defaults_in (values_in fields.now)) }
     requires has { HasFields (values_in fields.now) mask }
     requires fits { length (written_fields (values_in fields.now) mask) ≤ limit }
     requires room { length (written_fields (values_in fields.now) mask) ≤ free_of writer.old }
     ensures { Prepends (written_fields (values_in fields.now) mask) writer.old writer.new }
 {
     if let Some((field, later)) = fields.split_first() {
-        let (left_out, mask) = under(field.is_default(), mask);
-        prepend_fields(later, mask, writer);
+        let (default, defaults) = split_defaults(defaults, field, later);
+        let (left_out, mask) = under(default, mask);
+        prepend_fields(later, defaults, mask, writer);
         field.prepend(left_out, writer);
     }
 }

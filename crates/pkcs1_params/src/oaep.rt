@@ -97,7 +97,8 @@ impl<'a, M: Memory> DecodeValue<&'a [u8], M> for RsaOaepParams<AnyRef<'a>> {
 
     ghost fault_none = { oaep_fault_none Any AnyFault any_delimited any_fault_none (holds_itself any_of) };
 
-    ghost fault_first = { oaep_fault_first Any AnyFault any_delimited any_fault_none (holds_itself any_of) any_fault_first };
+    ghost fault_first = { let none = any_fault_none in
+        oaep_fault_first Any AnyFault any_delimited none (holds_itself any_of) any_fault_first };
 }
 
 impl<P: AnyValue> RsaOaepParams<P> {
@@ -142,15 +143,18 @@ impl<P: AnyValue> RsaOaepParams<P> {
 
 impl<P: AnyValue> EncodeValue for RsaOaepParams<P> {
     fn value_len(&self) -> der_core::Result<Length> {
-        self.as_params_ref().len_under(0)
+        let params = self.as_params_ref();
+        params.len_under(params.defaults(), 0)
     }
 
     fn encode_value<W: Writer>(&self, writer: &mut W) -> der_core::Result<()> {
-        self.as_params_ref().encode_under(0, writer)
+        let params = self.as_params_ref();
+        params.encode_under(params.defaults(), 0, writer)
     }
 
     fn prepend_value(&self, writer: &mut BackWriter<'_>) {
-        self.as_params_ref().prepend_under(0, writer);
+        let params = self.as_params_ref();
+        params.prepend_under(params.defaults(), 0, writer);
     }
 
     ghost contents_relate = { oaep_relates };

@@ -88,5 +88,6 @@ impl<'a, M: Memory> DecodeValue<&'a [u8], M> for OaepView<'a> {
 
     ghost fault_none = { oaep_fault_none Any AnyFault any_delimited any_fault_none (holds_itself any_of) };
 
-    ghost fault_first = { oaep_fault_first Any AnyFault any_delimited any_fault_none (holds_itself any_of) any_fault_first };
+    ghost fault_first = { let none = any_fault_none in
+        oaep_fault_first Any AnyFault any_delimited none (holds_itself any_of) any_fault_first };
 }

@@ -49,7 +49,8 @@ impl<'a> DecodeValue<&'a [u8], Global> for RsaPssParams<Any> {
 
     ghost fault_none = { pss_fault_none grammar.Any AnyFault any_delimited any_fault_none (holds_itself any_in) };
 
-    ghost fault_first = { pss_fault_first grammar.Any AnyFault any_delimited any_fault_none (holds_itself any_in) any_fault_first };
+    ghost fault_first = { let none = any_fault_none in
+        pss_fault_first grammar.Any AnyFault any_delimited none (holds_itself any_in) any_fault_first };
 }
 
 impl<'a> DecodeValue<&'a [u8], Global> for RsaOaepParams<Any> {
@@ -78,5 +79,6 @@ impl<'a> DecodeValue<&'a [u8], Global> for RsaOaepParams<Any> {
 
     ghost fault_none = { oaep_fault_none grammar.Any AnyFault any_delimited any_fault_none (holds_itself any_in) };
 
-    ghost fault_first = { oaep_fault_first grammar.Any AnyFault any_delimited any_fault_none (holds_itself any_in) any_fault_first };
+    ghost fault_first = { let none = any_fault_none in
+        oaep_fault_first grammar.Any AnyFault any_delimited none (holds_itself any_in) any_fault_first };
 }

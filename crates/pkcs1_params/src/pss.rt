@@ -106,7 +106,8 @@ impl<'a, M: Memory> DecodeValue<&'a [u8], M> for RsaPssParams<AnyRef<'a>> {
 
     ghost fault_none = { pss_fault_none Any AnyFault any_delimited any_fault_none (holds_itself any_of) };
 
-    ghost fault_first = { pss_fault_first Any AnyFault any_delimited any_fault_none (holds_itself any_of) any_fault_first };
+    ghost fault_first = { let none = any_fault_none in
+        pss_fault_first Any AnyFault any_delimited none (holds_itself any_of) any_fault_first };
 }
 
 impl<P: AnyValue> RsaPssParams<P> {
@@ -148,15 +149,18 @@ impl<P: AnyValue> RsaPssParams<P> {
 
 impl<P: AnyValue> EncodeValue for RsaPssParams<P> {
     fn value_len(&self) -> der_core::Result<Length> {
-        self.as_params_ref().len_under(0)
+        let params = self.as_params_ref();
+        params.len_under(params.defaults(), 0)
     }
 
     fn encode_value<W: Writer>(&self, writer: &mut W) -> der_core::Result<()> {
-        self.as_params_ref().encode_under(0, writer)
+        let params = self.as_params_ref();
+        params.encode_under(params.defaults(), 0, writer)
     }
 
     fn prepend_value(&self, writer: &mut BackWriter<'_>) {
-        self.as_params_ref().prepend_under(0, writer);
+        let params = self.as_params_ref();
+        params.prepend_under(params.defaults(), 0, writer);
     }
 
     ghost contents_relate = { pss_relates };

@@ -11,7 +11,7 @@ ghost use Rattle.pkcs1_params.specs.Spellings.{IsMask, StandsUnder, IsUnspelled,
 
 use crate::error::Result;
 use crate::fields::{
-    FieldRef, are_held, count_defaults, encode_fields, fields_len, prepend_fields,
+    FieldRef, are_held, bit, count_defaults, encode_fields, fields_len, prepend_fields,
 };
 use crate::pss::RsaPssParams;
 use crate::spelling::{DefaultFields, all_spellings, spell_into};
@@ -48,6 +48,14 @@ impl DefaultFields for RsaPssParams<AnyRef<'_>> {
         are_held(&self.fields());
     }
 
+    fn defaults(&self) -> u8 {
+        let [hash, mask_gen, salt_len, trailer_field] = self.fields();
+        bit(hash.is_default())
+            + 2 * bit(mask_gen.is_default())
+            + 4 * bit(salt_len.is_default())
+            + 8 * bit(trailer_field.is_default())
+    }
+
     fn count_defaults(&self) -> u8 {
         count_defaults(&self.fields())
     }
@@ -63,16 +71,21 @@ impl DefaultFields for RsaPssParams<AnyRef<'_>> {
         written_default(bytes, &defaults)
     }
 
-    fn len_under(&self, mask: u8) -> der_core::Result<Length> {
-        fields_len(&self.fields(), mask)
+    fn len_under(&self, defaults: u8, mask: u8) -> der_core::Result<Length> {
+        fields_len(&self.fields(), defaults, mask)
     }
 
-    fn encode_under<W: Writer>(&self, mask: u8, writer: &mut W) -> der_core::Result<()> {
-        encode_fields(&self.fields(), mask, writer)
+    fn encode_under<W: Writer>(
+        &self,
+        defaults: u8,
+        mask: u8,
+        writer: &mut W,
+    ) -> der_core::Result<()> {
+        encode_fields(&self.fields(), defaults, mask, writer)
     }
 
-    fn prepend_under(&self, mask: u8, writer: &mut BackWriter<'_>) {
-        prepend_fields(&self.fields(), mask, writer);
+    fn prepend_under(&self, defaults: u8, mask: u8, writer: &mut BackWriter<'_>) {
+        prepend_fields(&self.fields(), defaults, mask, writer);
     }
 }
 

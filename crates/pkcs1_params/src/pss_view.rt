@@ -98,5 +98,6 @@ impl<'a, M: Memory> DecodeValue<&'a [u8], M> for PssView<'a> {
 
     ghost fault_none = { pss_fault_none Any AnyFault any_delimited any_fault_none (holds_itself any_of) };
 
-    ghost fault_first = { pss_fault_first Any AnyFault any_delimited any_fault_none (holds_itself any_of) any_fault_first };
+    ghost fault_first = { let none = any_fault_none in
+        pss_fault_first Any AnyFault any_delimited none (holds_itself any_of) any_fault_first };
 }

@@ -12,6 +12,7 @@ ghost use Rattle.spki_core.specs.StrictFields.{WalksOver, number_in};
 ghost use Rattle.der_core.specs.declared.error.ErrorKind.{ErrorKind};
 ghost use Rattle.pkcs1_params.specs.Spellings.{IsMask, IsSpelling, HasNoSpelling, StandsUnder, IsUnspelled, AllFit, AreUnder, AreMasks, AreAllSpellings, LacksSpellings, HasTwoToTheDefaults, texts_in};
 ghost use Rattle.pkcs1_params.specs.Meanings.{IsNotWritten};
+ghost use Rattle.pkcs1_params.specs.DefaultBits.{bits_of};
 ghost use Rattle.pkcs1_params.specs.Parts.{FieldValue, AreNumbered, defaults_in, fields_with, Fielded, HasFields, written_fields};
 ghost use Rattle.pkcs1_params.specs.MaskedValues.{MaskedValue, InRange, FieldContents, MaskedValueContents, HasMasked, written_masked, masked_means_one, masked_of_bytes, masked_relates, masked_least};
 
@@ -39,6 +40,10 @@ pub(crate) trait DefaultFields: Copy + Drop {
         ensures { let values = values (params self.now) in
             (mask : ℕ) → HasFields values mask × (length (written_fields values mask) < 2 ^ 64) };
 
+    /// Which fields equal their defaults, as bits: the lowest is the first field's.
+    fn defaults(&self) -> u8
+        ensures { result ≡ bits_of (defaults_in (values (params self.now))) };
+
     /// How many fields equal their defaults.
     fn count_defaults(&self) -> u8
         ensures count { HaveDefaults (fields_with values (params self.now)) result }
@@ -49,20 +54,28 @@ pub(crate) trait DefaultFields: Copy + Drop {
     fn written_default(&self, bytes: &[u8]) -> Option<TagNumber>
         ensures { WalksOver (defaults_in (values (params self.now))) bytes.now (option_map number_in result) };
 
-    /// How many octets the contents under a mask have.
-    fn len_under(&self, mask: u8) -> der_core::Result<Length>
+    /// How many octets the contents under a mask have, where `defaults` are those of the fields.
+    fn len_under(&self, defaults: u8, mask: u8) -> der_core::Result<Length>
+        requires { defaults ≡ bits_of (defaults_in (values (params self.now))) }
         ensures { let values = values (params self.now) in
             Counts (HasFields values mask) (written_fields values mask) result };
 
     /// Appends the contents under a mask.
-    fn encode_under<W: Writer>(&self, mask: u8, writer: &mut W) -> der_core::Result<()>
+    fn encode_under<W: Writer>(
+        &self,
+        defaults: u8,
+        mask: u8,
+        writer: &mut W,
+    ) -> der_core::Result<()>
+        requires { defaults ≡ bits_of (defaults_in (values (params self.now))) }
         ensures appends { let values = values (params self.now) in
             let octets = written_fields values mask in
             Appends (HasFields values mask) octets W.room W.written writer.old writer.new result }
         ensures kept { W.keeps writer.old writer.new };
 
     /// Puts the contents under a mask before what is filled.
-    fn prepend_under(&self, mask: u8, writer: &mut BackWriter<'_>)
+    fn prepend_under(&self, defaults: u8, mask: u8, writer: &mut BackWriter<'_>)
+        requires defaults { defaults ≡ bits_of (defaults_in (values (params self.now))) }
         requires has { HasFields (values (params self.now)) mask }
         requires fits { length (written_fields (values (params self.now)) mask) ≤ limit }
         requires room { length (written_fields (values (params self.now)) mask) ≤ free_of writer.old }
@@ -71,16 +84,18 @@ pub(crate) trait DefaultFields: Copy + Drop {
 
 /// Parameters, and a mask that says which of their defaults are written.
 #[derive(Drop)]
-pub(crate) struct Spelling<T: DefaultFields> {
-    pub(crate) params: T,
-    pub(crate) mask: u8,
-    ghost range: { InRange (fields_with T.values (T.params params)) mask },
+pub(crate) struct Spelling<'b, T: DefaultFields> {
+    params: &'b T,
+    defaults: u8,
+    mask: u8,
+    ghost range: { InRange (fields_with T.values (T.params params.now)) mask },
+    ghost known: { defaults ≡ bits_of (defaults_in (T.values (T.params params.now))) },
 }
 
-impl<T: DefaultFields> Contents for Spelling<T> {
+impl<T: DefaultFields> Contents for Spelling<'_, T> {
     ghost Value = { MaskedValue T.Params };
 
-    ghost value = { λ s. record { value = T.params s.params; mask = s.mask } };
+    ghost value = { λ s. record { value = T.params s.params.now; mask = s.mask } };
 
     ghost contents = { MaskedValueContents T.values };
 
@@ -93,21 +108,21 @@ impl<T: DefaultFields> Contents for Spelling<T> {
     ghost contents_of_bytes = { masked_of_bytes T.values };
 }
 
-impl<T: DefaultFields> TaggedBy for Spelling<T> {
+impl<T: DefaultFields> TaggedBy for Spelling<'_, T> {
     type Marker = SequenceTag;
 }
 
-impl<T: DefaultFields> EncodeValue for Spelling<T> {
+impl<T: DefaultFields> EncodeValue for Spelling<'_, T> {
     fn value_len(&self) -> der_core::Result<Length> {
-        self.params.len_under(self.mask)
+        self.params.len_under(self.defaults, self.mask)
     }
 
     fn encode_value<W: Writer>(&self, writer: &mut W) -> der_core::Result<()> {
-        self.params.encode_under(self.mask, writer)
+        self.params.encode_under(self.defaults, self.mask, writer)
     }
 
     fn prepend_value(&self, writer: &mut BackWriter<'_>) {
-        self.params.prepend_under(self.mask, writer);
+        self.params.prepend_under(self.defaults, self.mask, writer);
     }
 
     ghost contents_relate = { masked_relates T.values };
@@ -125,7 +140,8 @@ pub(crate) fn spell_into<T: DefaultFields>(params: &T, mask: u8, out: &mut [u8])
 {
     params.is_held();
     let spelling = Spelling {
-        params: *params,
+        params,
+        defaults: params.defaults(),
         mask,
     };
     Ok(spelling.encode_into(out)?)
@@ -146,19 +162,20 @@ pub(crate) fn encode_shortest<T: DefaultFields>(params: &T, out: &mut [u8]) -> R
     spell_into(params, 0, out)
 }
 
-impl<T: DefaultFields> Spelling<T> {
+impl<T: DefaultFields> Spelling<'_, T> {
     ghost use Rattle.std.specs.Prelude.{◌⊎◌};
     ghost use Rattle.der_core.specs.Tlv.{tlv};
 
     /// How many octets the text has: `Overflow` where there is no spelling under the mask.
     fn len(&self) -> der_core::Result<usize>
-        ensures ok { let text = tlv sequence_tag (written_fields (T.values (T.params self.now.params)) self.now.mask) in
+        ensures ok { let params = T.params self.now.params.now in
+            let text = tlv sequence_tag (written_fields (T.values params) self.now.mask) in
             IfOk result (λ n. n ≡ length text) }
-        ensures has { OnOk result (HasFields (T.values (T.params self.now.params)) self.now.mask) }
-        ensures spells { let params = T.params self.now.params in
+        ensures has { OnOk result (HasFields (T.values (T.params self.now.params.now)) self.now.mask) }
+        ensures spells { let params = T.params self.now.params.now in
             let text = tlv sequence_tag (written_fields (T.values params) self.now.mask) in
             OnOk result (IsSpelling (fields_with T.values params) self.now.mask text) }
-        ensures err { let none = HasNoSpelling (fields_with T.values (T.params self.now.params)) self.now.mask in
+        ensures err { let none = HasNoSpelling (fields_with T.values (T.params self.now.params.now)) self.now.mask in
             IfErr result (λ e. (e.kind ≡ ErrorKind.Overflow) × none) }
     {
         self.params.is_held();
@@ -167,9 +184,9 @@ impl<T: DefaultFields> Spelling<T> {
 
     /// The text, in memory of its own.
     fn to_vec(&self, alloc: Global) -> der_core::Result<Vec<u8>>
-        ensures ok { let fields = fields_with T.values (T.params self.now.params) in
+        ensures ok { let fields = fields_with T.values (T.params self.now.params.now) in
             IfOk result (λ text. IsSpelling fields self.now.mask text.items) }
-        ensures err { let none = HasNoSpelling (fields_with T.values (T.params self.now.params)) self.now.mask in
+        ensures err { let none = HasNoSpelling (fields_with T.values (T.params self.now.params.now)) self.now.mask in
             IfErr result (λ e. (e.kind ≡ ErrorKind.OutOfMemory) ⊎ ((e.kind ≡ ErrorKind.Overflow) × none)) }
     {
         let length = self.len()?;
@@ -182,17 +199,20 @@ impl<T: DefaultFields> Spelling<T> {
 /// The texts under the masks below a number, in their order.
 fn texts_under<T: DefaultFields>(
     params: &T,
+    defaults: u8,
     count: u8,
     alloc: Global,
 ) -> der_core::Result<Vec<Vec<u8>>>
-    requires { AreMasks (fields_with T.values (T.params params.now)) count }
+    requires defaults { defaults ≡ bits_of (defaults_in (T.values (T.params params.now))) }
+    requires masks { AreMasks (fields_with T.values (T.params params.now)) count }
     ensures ok { IfOk result (λ texts. AreUnder (fields_with T.values (T.params params.now)) count (texts_in texts)) }
     ensures err { IfErr result (λ e. e.kind ≡ ErrorKind.OutOfMemory) }
 {
     let mut texts = Vec::new(alloc);
     for mask in 0..count {
         let spelling = Spelling {
-            params: *params,
+            params,
+            defaults,
             mask,
         };
         texts.push(spelling.to_vec(alloc)?)?;
@@ -207,10 +227,12 @@ pub(crate) fn all_spellings<T: DefaultFields>(params: &T, alloc: Global) -> Resu
     ensures err { IfErr result (LacksSpellings (fields_with T.values (T.params params.now))) }
 {
     let count = 1u8 << params.count_defaults();
+    let defaults = params.defaults();
     let longest = Spelling {
-        params: *params,
+        params,
+        defaults,
         mask: count - 1,
     };
     longest.len()?;
-    Ok(texts_under(params, count, alloc)?)
+    Ok(texts_under(params, defaults, count, alloc)?)
 }

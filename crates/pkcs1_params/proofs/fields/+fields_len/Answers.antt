@@ -8,8 +8,8 @@ use Rattle.pkcs1_params.proofs.fields.+fields_len.Goals as goal
 pub returns-in-Some : goal.returns-in-Some
 returns-in-Some t c =
     let p = part_in c.in-Some.field.now in
-    let first = rw (c.under-left_out.ensures, c.is_default.ensures) at c.len.ensures in
-    let later = rw (c.under-left_out.ensures, c.is_default.ensures) at c.fields_len.ensures in
+    let first = rw (c.under-left_out.ensures, c.split_defaults-default.ensures) at c.len.ensures in
+    let later = rw (c.under-left_out.ensures, c.split_defaults-default.ensures) at c.fields_len.ensures in
     rw (c.in-Some.ensures.cases.0, c.joined_len.ensures)
     (counts_joined (written_field (out_under p.is_default c.args.mask) p.field.number p.text) (written_fields (values_in c.in-Some.later.now) (rest_under p.is_default c.args.mask))
     (λ x y. (x, y)) (λ r. r) _ _ first later)

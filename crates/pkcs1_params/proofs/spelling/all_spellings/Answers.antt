@@ -17,7 +17,7 @@ invariant_of-longest g c =
     let t = g.T.DefaultFields in
     let k = c.count_defaults-count.result in
     let known = c.count_defaults-count.ensures in
-    record { range = in_range (fields_with t.values (t.params c.args.params.now)) (1 * 2 ^ k % 256 - 1) (k, known.count, omega (arith, last k known.few)) }
+    record { range = in_range (fields_with t.values (t.params c.args.params.now)) (1 * 2 ^ k % 256 - 1) (k, known.count, omega (arith, last k known.few)); known = c.defaults-defaults.ensures }
 
 pub returns-in_err-len-clause-err : goal.returns-in_err-len-clause-err
 returns-in_err-len-clause-err g c =
@@ -33,7 +33,10 @@ texts_under-requires g c =
     let t = g.T.DefaultFields in
     let k = c.count_defaults-count.result in
     let known = c.count_defaults-count.ensures in
-    (k, known.count, shifted k known.few, all_fit (fields_with t.values (t.params c.args.params.now)) k _ known.count (last k known.few) _ c.in_ok-len.ensures.spells)
+    record {
+      defaults = c.defaults-defaults.ensures;
+      masks = (k, known.count, shifted k known.few, all_fit (fields_with t.values (t.params c.args.params.now)) k _ known.count (last k known.few) _ c.in_ok-len.ensures.spells);
+    }
 
 pub returns-in_err-texts_under-clause-err : goal.returns-in_err-texts_under-clause-err
 returns-in_err-texts_under-clause-err g c =

@@ -10,13 +10,13 @@ loop-mask-init g c = rw c.new-texts.ensures.items (refl, λ (mask : ℕ) (below 
 pub invariant_of-spelling : goal.invariant_of-spelling
 invariant_of-spelling g c =
     let t = g.T.DefaultFields in
-    record { range = mask_in_range (fields_with t.values (t.params c.args.params.now)) c.args.count c.loop-mask.mask c.requires c.loop-mask-test.true }
+    record { range = mask_in_range (fields_with t.values (t.params c.args.params.now)) c.args.count c.loop-mask.mask c.requires.masks c.loop-mask-test.true; known = c.requires.defaults }
 
 pub returns-in_err-to_vec-clause-err : goal.returns-in_err-to_vec-clause-err
 returns-in_err-to_vec-clause-err g c =
     let t = g.T.DefaultFields in
     let e = err_from_is_err_and c.from_residual.result c.from_residual.ensures.1 in
-    rw (e.1, e.2) (memory_alone (fields_with t.values (t.params c.args.params.now)) c.args.count c.loop-mask.mask c.requires c.loop-mask-test.true c.in_err-to_vec.ensures.err)
+    rw (e.1, e.2) (memory_alone (fields_with t.values (t.params c.args.params.now)) c.args.count c.loop-mask.mask c.requires.masks c.loop-mask-test.true c.in_err-to_vec.ensures.err)
 
 pub loop-mask-preserved : goal.loop-mask-preserved
 loop-mask-preserved g c =
