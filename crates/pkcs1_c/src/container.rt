@@ -155,6 +155,6 @@ pub extern "C" fn pkcs1_c_private_key_info_encode(
 {
     match from_c_info(info) {
         Ok(made) => write_text(&made, out, len),
-        Err(error) => status(&error),
+        Err(refusal) => status(&refusal),
     }
 }

@@ -129,6 +129,6 @@ pub extern "C" fn pkcs1_c_oaep_params_encode(
 {
     match from_c_oaep(params) {
         Ok(made) => write_text(&made, out, len),
-        Err(error) => status(&error),
+        Err(refusal) => status(&refusal),
     }
 }

@@ -89,6 +89,7 @@ fn place_others<'a>(primes: OtherPrimes<'a>, others: &mut [OtherPrime<'a>])
 }
 
 /// The key, as C sees it. Its other primes are placed.
+#[inline(always)]
 pub(crate) fn to_c_key<'a>(
     view: &RsaPrivateKeyView<'a>,
     others: &mut [OtherPrime<'a>],
@@ -247,6 +248,6 @@ pub extern "C" fn pkcs1_c_private_key_encode(
     }
     match from_c_key(alloc, key, others) {
         Ok(key) => write_text(&key, out, len),
-        Err(error) => status(&error),
+        Err(refusal) => status(&refusal),
     }
 }

@@ -141,6 +141,6 @@ pub extern "C" fn pkcs1_c_pss_params_encode(
 {
     match from_c_pss(params) {
         Ok(made) => write_text(&made, out, len),
-        Err(error) => status(&error),
+        Err(refusal) => status(&refusal),
     }
 }

@@ -85,6 +85,6 @@ pub extern "C" fn pkcs1_c_public_key_encode(
 {
     match from_c_key(key) {
         Ok(key) => write_text(&key, out, len),
-        Err(error) => status(&error),
+        Err(refusal) => status(&refusal),
     }
 }

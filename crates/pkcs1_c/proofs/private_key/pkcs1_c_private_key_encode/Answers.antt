@@ -50,26 +50,26 @@ returns-in-Ok-clause-refused c = λ no other memory. private_refused c.args.key.
 -- A number is refused, want of memory aside.
 pub returns-in-Err-clause-exact : goal.returns-in-Err-clause-exact
 returns-in-Err-clause-exact c = λ _ other.
-    let told = private_more c.args.key.now c.args.others.now (length c.args.out.now) (omega (arith, c.if-key-others.false)) (status_of c.in-Err.error) (c.in-Err.ensures.err (λ e. other (c.status.ensures ∙ e))) in
+    let told = private_more c.args.key.now c.args.others.now (length c.args.out.now) (omega (arith, c.if-key-others.false)) (status_of c.in-Err.refusal) (c.in-Err.ensures.err (λ e. other (c.status.ensures ∙ e))) in
     subst (PrivateKeyRefusal c.args.key.now c.args.others.now (length c.args.out.now)) (sym c.status.ensures) told
 
 pub returns-in-Err-clause-only : goal.returns-in-Err-clause-only
 returns-in-Err-clause-only c s p = elim (is_memory c.status.result) [
   | inl memory ↦ inr memory
-  | inr other ↦ inl (private_one c.args.key.now c.args.others.now (length c.args.out.now) c.status.result s (returns-in-Err-clause-exact c (λ zero. number_told (eight_numbers c.args.key.now) (others_numbers (map other_prime_seen c.args.others.now)) (status_of c.in-Err.error) (c.in-Err.ensures.err (λ e. other (c.status.ensures ∙ e))) (inl (sym c.status.ensures ∙ zero))) other) p)
+  | inr other ↦ inl (private_one c.args.key.now c.args.others.now (length c.args.out.now) c.status.result s (returns-in-Err-clause-exact c (λ zero. number_told (eight_numbers c.args.key.now) (others_numbers (map other_prime_seen c.args.others.now)) (status_of c.in-Err.refusal) (c.in-Err.ensures.err (λ e. other (c.status.ensures ∙ e))) (inl (sym c.status.ensures ∙ zero))) other) p)
 ]
 
 pub returns-in-Err-clause-refused : goal.returns-in-Err-clause-refused
 returns-in-Err-clause-refused c = λ no other memory. private_refused c.args.key.now c.args.others.now (length c.args.out.now) _ other (returns-in-Err-clause-exact c no memory)
 
 pub returns-in-Err-clause-ok : goal.returns-in-Err-clause-ok
-returns-in-Err-clause-ok c = λ zero. absurd (number_told (eight_numbers c.args.key.now) (others_numbers (map other_prime_seen c.args.others.now)) (status_of c.in-Err.error) (c.in-Err.ensures.err (λ e. omega (arith, e, zero, c.status.ensures))) (inl (sym c.status.ensures ∙ zero)))
+returns-in-Err-clause-ok c = λ zero. absurd (number_told (eight_numbers c.args.key.now) (others_numbers (map other_prime_seen c.args.others.now)) (status_of c.in-Err.refusal) (c.in-Err.ensures.err (λ e. omega (arith, e, zero, c.status.ensures))) (inl (sym c.status.ensures ∙ zero)))
 
 pub returns-in-Err-clause-rest : goal.returns-in-Err-clause-rest
-returns-in-Err-clause-rest c = λ zero. absurd (number_told (eight_numbers c.args.key.now) (others_numbers (map other_prime_seen c.args.others.now)) (status_of c.in-Err.error) (c.in-Err.ensures.err (λ e. omega (arith, e, zero, c.status.ensures))) (inl (sym c.status.ensures ∙ zero)))
+returns-in-Err-clause-rest c = λ zero. absurd (number_told (eight_numbers c.args.key.now) (others_numbers (map other_prime_seen c.args.others.now)) (status_of c.in-Err.refusal) (c.in-Err.ensures.err (λ e. omega (arith, e, zero, c.status.ensures))) (inl (sym c.status.ensures ∙ zero)))
 
 pub returns-in-Err-clause-no_room : goal.returns-in-Err-clause-no_room
-returns-in-Err-clause-no_room c = λ full. absurd (number_told (eight_numbers c.args.key.now) (others_numbers (map other_prime_seen c.args.others.now)) (status_of c.in-Err.error) (c.in-Err.ensures.err (λ e. omega (arith, e, full, c.status.ensures))) (inr (sym c.status.ensures ∙ full)))
+returns-in-Err-clause-no_room c = λ full. absurd (number_told (eight_numbers c.args.key.now) (others_numbers (map other_prime_seen c.args.others.now)) (status_of c.in-Err.refusal) (c.in-Err.ensures.err (λ e. omega (arith, e, full, c.status.ensures))) (inr (sym c.status.ensures ∙ full)))
 
 pub returns-in-Err-clause-memory : goal.returns-in-Err-clause-memory
 returns-in-Err-clause-memory c = λ memory. c.in-Err.ensures.memory (sym c.status.ensures ∙ memory)
