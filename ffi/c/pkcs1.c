@@ -155,12 +155,6 @@ static struct pkcs1_mask_gen mask_gen(const struct pkcs1_mask_gen *given) {
     return made;
 }
 
-/* The proved call leaves the mask's identifier there. */
-static void forget_absent(struct pkcs1_mask_gen *read) {
-    if (!read->has_hash)
-        read->hash = no_algorithm;
-}
-
 static struct pkcs1_algorithm with_null(const struct pkcs1_oid *oid) {
     struct pkcs1_algorithm made = no_algorithm;
     made.oid = *oid;
@@ -182,10 +176,8 @@ typedef uint32_t decode_oaep(const uint8_t *, size_t, struct pkcs1_oaep_params *
 static uint32_t read_pss(decode_pss *decode, const uint8_t *der, size_t der_len, struct pkcs1_pss_params *params) {
     struct pkcs1_pss_params read = {NO_ALGORITHM, NO_MASK_GEN, 0, 0};
     uint32_t status = decode(der, der_len, &read);
-    if (status == PKCS1_OK) {
+    if (status == PKCS1_OK)
         *params = read;
-        forget_absent(&params->mask_gen);
-    }
     return status;
 }
 
@@ -211,10 +203,8 @@ void pkcs1_pss_params_init(struct pkcs1_pss_params *params, const struct pkcs1_o
 static uint32_t read_oaep(decode_oaep *decode, const uint8_t *der, size_t der_len, struct pkcs1_oaep_params *params) {
     struct pkcs1_oaep_params read = {NO_ALGORITHM, NO_MASK_GEN, NO_ALGORITHM};
     uint32_t status = decode(der, der_len, &read);
-    if (status == PKCS1_OK) {
+    if (status == PKCS1_OK)
         *params = read;
-        forget_absent(&params->mask_gen);
-    }
     return status;
 }
 

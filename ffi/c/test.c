@@ -171,9 +171,10 @@ static void pss(void) {
     CHECK(same(params.hash.parameters, "", 0) && params.salt_len == 20 && params.trailer_field == 1);
     CHECK(pkcs1_oid_equal(&params.mask_gen.oid, &pkcs1_oid_mgf1) && params.mask_gen.has_hash);
     CHECK(pkcs1_oid_equal(&params.mask_gen.hash.oid, &pkcs1_oid_sha1));
-    CHECK(pkcs1_pss_params_encode(&zeros, out, sizeof out, &len) == PKCS1_VALUE && len == 77); /* trailer_field is 0 */
-    zeros.trailer_field = 1;
     CHECK(pkcs1_pss_params_encode(&zeros, out, sizeof out, &len) == PKCS1_OID_MALFORMED && len == 77);
+    params.trailer_field = 0;
+    CHECK(pkcs1_pss_params_encode(&params, out, sizeof out, &len) == PKCS1_VALUE && len == 77);
+    params.trailer_field = 1;
     params.hash.oid.len = 40;
     CHECK(pkcs1_pss_params_encode(&params, out, sizeof out, &len) == PKCS1_OID_MALFORMED && len == 77);
     CHECK(!pkcs1_oid_equal(&params.hash.oid, &params.hash.oid));

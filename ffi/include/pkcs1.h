@@ -6,8 +6,9 @@
  *   value of the type has this encoding, the status is that of its first fault from the left, and the struct is as it was.
  * Writing (.._encode): on PKCS1_OK the first `*len` octets of `out` are the value's DER, and the rest is as it was. On
  *   PKCS1_NO_ROOM `*len` is the length that is needed: call with a null `out` and room 0 to ask for it. On another error
- *   the value has no encoding of at most 4294967295 octets (or memory is short), and `*len` is as it was. On any error
- *   `out` is as it was.
+ *   the value has no encoding of at most 4294967295 octets (or memory is short), and `*len` is as it was: the status is
+ *   that of the first field, in their order, that can't be written, or PKCS1_OVERFLOW where they all can and are too long
+ *   together. On any error `out` is as it was.
  * Structs: one that a call fills may hold anything before, so `struct pkcs1_public_key key;` will do. One that a call
  *   reads has its fields set; `data` may be null where `len` is 0, and where `has_..` is false the fields behind it aren't
  *   read. `{0}` is such a struct (`{}` in C++).

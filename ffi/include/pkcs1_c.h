@@ -1,7 +1,7 @@
 /* The proved calls, which those of pkcs1.h are made of; most callers want pkcs1.h. They do the same, and ask for more:
  * every struct that they are given holds valid values, also one that a decoder only fills. There each `bool` is 0 or 1, and
- * each `pkcs1_bytes` isn't null: PKCS1_NO_BYTES is an empty one. Where `has_..` is false, the fields behind it are filled
- * with valid values that mean nothing. */
+ * each `pkcs1_bytes` isn't null: PKCS1_NO_BYTES is an empty one. Where `has_..` is false, the fields behind it hold valid
+ * values, which writing doesn't read; reading leaves them empty. */
 #ifndef PKCS1_C_H
 #define PKCS1_C_H
 

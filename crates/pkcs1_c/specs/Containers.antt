@@ -1,5 +1,5 @@
 -- What C sees of a container with an RSA key.
-use Rattle.std.specs.Prelude.{ℕ, List, Some, None, if◌then◌else◌, ◌⊎◌}
+use Rattle.std.specs.Prelude.{ℕ, List, [], ◌≡◌, false, Some, None, if◌then◌else◌, ◌⊎◌}
 use Rattle.der_core.specs.declared.error.ErrorKind.{ErrorKind}
 use Rattle.der_core.specs.Document.{Means}
 use Rattle.pkcs1.specs.KeyFaults.{RsaPrivateKeyFault}
@@ -17,6 +17,10 @@ info_seen info = record {
   private_key = info.private_key.now;
   attributes = if info.has_attributes then Some info.attributes.now else None;
 }
+
+-- What stands behind a false `has_attributes` is empty.
+abbrev pub InfoIsTidy : PrivateKeyInfo → Type 0
+InfoIsTidy info = info.has_attributes ≡ false → info.attributes.now ≡ []
 
 -- The octets are the text of a private key.
 abbrev pub HoldsKey : PrivateKeyInfo → PrivateKey (List ℕ) → Type 0

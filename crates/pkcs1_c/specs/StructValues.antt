@@ -1,5 +1,5 @@
 -- What C sees in the structs.
-use Rattle.std.specs.Prelude.{ℕ, List, [], ◌≡◌, length, take, map, nat_le, Option, Some, None, if◌then◌else◌}
+use Rattle.std.specs.Prelude.{ℕ, List, [], ◌≡◌, length, take, map, nat_le, false, Option, Some, None, if◌then◌else◌}
 use Rattle.spki_core.specs.Any.{TagAndContents}
 use Rattle.spki_core.specs.AlgorithmIdentifier as spki
 use Rattle.pkcs1.specs.Keys as keys
@@ -11,8 +11,8 @@ use Rattle.pkcs1_c.specs.declared.private_key.OtherPrime.{OtherPrime}
 use Rattle.pkcs1_c.specs.declared.algorithm.Oid.{Oid}
 use Rattle.pkcs1_c.specs.declared.algorithm.Algorithm.{Algorithm}
 use Rattle.pkcs1_c.specs.declared.algorithm.MaskGen.{MaskGen}
-use Rattle.pkcs1_c.specs.declared.parameters.PssParams.{PssParams}
-use Rattle.pkcs1_c.specs.declared.parameters.OaepParams.{OaepParams}
+use Rattle.pkcs1_c.specs.declared.pss.PssParams.{PssParams}
+use Rattle.pkcs1_c.specs.declared.oaep.OaepParams.{OaepParams}
 
 abbrev pub public_key_seen : PublicKey → keys.PublicKey (List ℕ)
 public_key_seen key = record { modulus = key.modulus.now; public_exponent = key.public_exponent.now }
@@ -50,6 +50,19 @@ algorithm_seen a = record { oid = oid_seen a.oid; parameters = if a.has_paramete
 
 abbrev pub mask_gen_seen : MaskGen → spki.Algorithm (spki.Algorithm TagAndContents)
 mask_gen_seen m = record { oid = oid_seen m.oid; parameters = if m.has_hash then Some (algorithm_seen m.hash) else None }
+
+-- What stands behind a false `has_..` is empty.
+abbrev pub AlgorithmIsTidy : Algorithm → Type 0
+AlgorithmIsTidy a = a.has_parameters ≡ false → (a.tag ≡ 0) × (a.parameters.now ≡ [])
+
+abbrev pub MaskGenIsTidy : MaskGen → Type 0
+MaskGenIsTidy m = (m.has_hash ≡ false → (m.hash.oid.len ≡ 0) × (m.hash.has_parameters ≡ false)) × AlgorithmIsTidy m.hash
+
+abbrev pub PssIsTidy : PssParams → Type 0
+PssIsTidy p = AlgorithmIsTidy p.hash × MaskGenIsTidy p.mask_gen
+
+abbrev pub OaepIsTidy : OaepParams → Type 0
+OaepIsTidy p = AlgorithmIsTidy p.hash × MaskGenIsTidy p.mask_gen × AlgorithmIsTidy p.p_source
 
 abbrev pub pss_seen : PssParams → PssParameters
 pss_seen p = record { hash = algorithm_seen p.hash; mask_gen = mask_gen_seen p.mask_gen; salt_len = p.salt_len; trailer_field = p.trailer_field }

@@ -3,7 +3,7 @@ ghost use Rattle.std.specs.Prelude.{◌≡◌, IfOk, IfErr};
 ghost use Rattle.spki_core.specs.AlgorithmValue.{algorithm_of, mask_of};
 ghost use Rattle.spki_core.specs.ObjectIdentifierValue.{octets_of};
 ghost use Rattle.pkcs1_c.specs.Status.{kind_number};
-ghost use Rattle.pkcs1_c.specs.StructValues.{oid_seen, algorithm_seen, mask_gen_seen};
+ghost use Rattle.pkcs1_c.specs.StructValues.{oid_seen, algorithm_seen, mask_gen_seen, AlgorithmIsTidy, MaskGenIsTidy};
 ghost use Rattle.pkcs1_c.specs.Unwritten.{OidRefusal, PlainRefusal, MaskRefusal};
 
 use der_core::{Error, ErrorKind, Result, Tag};
@@ -46,7 +46,7 @@ pub struct MaskGen<'a> {
 }
 
 /// The identifier, as C sees it.
-fn oid_view(oid: &ObjectIdentifier) -> Oid
+fn to_c_oid(oid: &ObjectIdentifier) -> Oid
     ensures { oid_seen result ≡ octets_of oid.now }
 {
     let bytes = oid.as_bytes();
@@ -59,10 +59,11 @@ fn oid_view(oid: &ObjectIdentifier) -> Oid
 }
 
 /// The algorithm, as C sees it.
-pub(crate) fn algorithm_view<'a>(algorithm: &AlgorithmIdentifierRef<'a>) -> Algorithm<'a>
-    ensures { algorithm_seen result ≡ algorithm_of algorithm.now }
+pub(crate) fn to_c_algorithm<'a>(algorithm: &AlgorithmIdentifierRef<'a>) -> Algorithm<'a>
+    ensures seen { algorithm_seen result ≡ algorithm_of algorithm.now }
+    ensures tidy { AlgorithmIsTidy result }
 {
-    let oid = oid_view(&algorithm.oid);
+    let oid = to_c_oid(&algorithm.oid);
     match &algorithm.parameters {
         None => Algorithm {
             oid,
@@ -80,18 +81,22 @@ pub(crate) fn algorithm_view<'a>(algorithm: &AlgorithmIdentifierRef<'a>) -> Algo
 }
 
 /// The mask generation function, as C sees it.
-pub(crate) fn mask_gen_view<'a>(
+pub(crate) fn to_c_mask_gen<'a>(
     mask_gen: &AlgorithmIdentifier<AlgorithmIdentifierRef<'a>>,
 ) -> MaskGen<'a>
-    ensures { mask_gen_seen result ≡ mask_of mask_gen.now }
+    ensures seen { mask_gen_seen result ≡ mask_of mask_gen.now }
+    ensures tidy { MaskGenIsTidy result }
 {
-    let oid = oid_view(&mask_gen.oid);
+    let oid = to_c_oid(&mask_gen.oid);
     match &mask_gen.parameters {
         None => MaskGen {
             oid,
             has_hash: false,
             hash: Algorithm {
-                oid,
+                oid: Oid {
+                    octets: [0; 39],
+                    len: 0,
+                },
                 has_parameters: false,
                 tag: 0,
                 parameters: &[],
@@ -100,13 +105,13 @@ pub(crate) fn mask_gen_view<'a>(
         Some(hash) => MaskGen {
             oid,
             has_hash: true,
-            hash: algorithm_view(hash),
+            hash: to_c_algorithm(hash),
         },
     }
 }
 
 /// The identifier that C gives, or `OidMalformed`.
-fn oid_from(oid: &Oid) -> Result<ObjectIdentifier>
+fn from_c_oid(oid: &Oid) -> Result<ObjectIdentifier>
     ensures ok { IfOk result (λ made. octets_of made ≡ oid_seen oid.now) }
     ensures err { IfErr result (λ e. OidRefusal (oid_seen oid.now) (kind_number e.kind)) }
 {
@@ -117,11 +122,11 @@ fn oid_from(oid: &Oid) -> Result<ObjectIdentifier>
 }
 
 /// The algorithm that C gives.
-pub(crate) fn algorithm_from<'a>(algorithm: &Algorithm<'a>) -> Result<AlgorithmIdentifierRef<'a>>
+pub(crate) fn from_c_algorithm<'a>(algorithm: &Algorithm<'a>) -> Result<AlgorithmIdentifierRef<'a>>
     ensures ok { IfOk result (λ made. algorithm_of made ≡ algorithm_seen algorithm.now) }
     ensures err { IfErr result (λ e. PlainRefusal (algorithm_seen algorithm.now) (kind_number e.kind)) }
 {
-    let oid = oid_from(&algorithm.oid)?;
+    let oid = from_c_oid(&algorithm.oid)?;
     let parameters = if algorithm.has_parameters {
         let tag = Tag::from_octet(algorithm.tag)?;
         Some(AnyRef::new(tag, algorithm.parameters)?)
@@ -132,15 +137,15 @@ pub(crate) fn algorithm_from<'a>(algorithm: &Algorithm<'a>) -> Result<AlgorithmI
 }
 
 /// The mask generation function that C gives.
-pub(crate) fn mask_gen_from<'a>(
+pub(crate) fn from_c_mask_gen<'a>(
     mask_gen: &MaskGen<'a>,
 ) -> Result<AlgorithmIdentifier<AlgorithmIdentifierRef<'a>>>
     ensures ok { IfOk result (λ made. mask_of made ≡ mask_gen_seen mask_gen.now) }
     ensures err { IfErr result (λ e. MaskRefusal (mask_gen_seen mask_gen.now) (kind_number e.kind)) }
 {
-    let oid = oid_from(&mask_gen.oid)?;
+    let oid = from_c_oid(&mask_gen.oid)?;
     let parameters = if mask_gen.has_hash {
-        Some(algorithm_from(&mask_gen.hash)?)
+        Some(from_c_algorithm(&mask_gen.hash)?)
     } else {
         None
     };

@@ -8,13 +8,13 @@ ghost use Rattle.pkcs8_core.specs.Held.{info_of};
 ghost use Rattle.pkcs8_core.specs.Rsa.{rsa_encryption, HoldsRsa};
 ghost use Rattle.der_core.specs.declared.error.ErrorKind as der;
 ghost use Rattle.pkcs1_params.specs.Refusals.{IsAsn1};
-ghost use Rattle.pkcs1_c.specs.Containers.{info_seen, HoldsKey, KeyFault, RsaContainerFault};
+ghost use Rattle.pkcs1_c.specs.Containers.{info_seen, InfoIsTidy, HoldsKey, KeyFault, RsaContainerFault};
 ghost use Rattle.pkcs1_c.specs.Refusals.{HasNoText, LacksRoom};
 ghost use Rattle.pkcs1_c.specs.StructValues.{private_key_seen, AreListed};
 ghost use Rattle.pkcs1_c.specs.Status.{kind_number, status_of, IsNumberOfFault};
 ghost use Rattle.pkcs1_c.specs.Unwritten.{InfoRefusal};
 
-use crate::private_key::{OtherPrime, PrivateKey, seen_key};
+use crate::private_key::{OtherPrime, PrivateKey, to_c_key};
 use crate::status::{NO_ROOM, OK, status};
 use crate::written::write_text;
 use der_core::OctetStringRef;
@@ -55,8 +55,9 @@ fn read_container<'a>(
 }
 
 /// The container of an RSA key, as C sees it.
-fn seen_info<'a>(info: &PrivateKeyInfoRef<'a>) -> PrivateKeyInfo<'a>
-    ensures { (info_of info.now).algorithm ≡ rsa_encryption → info_seen result ≡ info_of info.now }
+fn to_c_info<'a>(info: &PrivateKeyInfoRef<'a>) -> PrivateKeyInfo<'a>
+    ensures seen { (info_of info.now).algorithm ≡ rsa_encryption → info_seen result ≡ info_of info.now }
+    ensures tidy { InfoIsTidy result }
 {
     let private_key = info.private_key.as_bytes();
     match info.attributes {
@@ -94,12 +95,13 @@ pub extern "C" fn pkcs1_c_private_key_info_decode<'a>(
         → Means container.PrivateKeyInfo text.now other → HoldsRsa other held → ⊥ }
     ensures exact { result ≢ OK → IsNumberOfFault (RsaContainerFault text.now) result }
     ensures only { (kind : der.ErrorKind) → RsaContainerFault text.now kind → result ≡ kind_number kind }
+    ensures tidy { result ≡ OK → InfoIsTidy info.new }
     ensures unchanged { result ≢ OK → (info.new ≡ info.old) × (key.new ≡ key.old) × (others.new ≡ others.old) }
 {
     match read_container(text) {
         Ok((read, view)) => {
-            *info = seen_info(&read);
-            *key = seen_key(&view, others);
+            *info = to_c_info(&read);
+            *key = to_c_key(&view, others);
             OK
         }
         Err(error) => status(&error),
@@ -107,7 +109,7 @@ pub extern "C" fn pkcs1_c_private_key_info_decode<'a>(
 }
 
 /// The container that C gives. Its octets must be a private key's text.
-fn info_from<'a>(info: &PrivateKeyInfo<'a>) -> pkcs1::Result<PrivateKeyInfoRef<'a>>
+fn from_c_info<'a>(info: &PrivateKeyInfo<'a>) -> pkcs1::Result<PrivateKeyInfoRef<'a>>
     ensures ok { IfOk result (λ made. info_of made ≡ info_seen info.now) }
     ensures key { IfOk result (λ made. (key : Key (List ℕ)) × HoldsKey info.now key) }
     ensures some { IfOk result (λ made. HasText container.PrivateKeyInfo (info_of made)) }
@@ -142,7 +144,8 @@ pub extern "C" fn pkcs1_c_private_key_info_encode(
     ensures key { result ≡ OK → (key : Key (List ℕ)) × HoldsKey info.now key }
     ensures key_no_room { result ≡ NO_ROOM → (key : Key (List ℕ)) × HoldsKey info.now key }
     ensures rest { result ≡ OK → (len.new ≤ length out.new) × (drop len.new out.new ≡ drop len.new out.old) }
-    ensures no_room { result ≡ NO_ROOM → LacksRoom container.PrivateKeyInfo (info_seen info.now) (length out.old) len.new }
+    ensures no_room { result ≡ NO_ROOM
+        → LacksRoom container.PrivateKeyInfo (info_seen info.now) (length out.old) len.new }
     ensures refused { result ≢ OK → result ≢ NO_ROOM → (key : Key (List ℕ)) → HoldsKey info.now key
         → HasNoText container.PrivateKeyInfo (info_seen info.now) }
     ensures exact { result ≢ OK → InfoRefusal info.now (length out.old) result }
@@ -150,8 +153,8 @@ pub extern "C" fn pkcs1_c_private_key_info_encode(
     ensures unchanged { result ≢ OK → out.new ≡ out.old }
     ensures kept { result ≢ OK → result ≢ NO_ROOM → len.new ≡ len.old }
 {
-    match info_from(info) {
+    match from_c_info(info) {
         Ok(made) => write_text(&made, out, len),
-        Err(error) => status(&error),
+        Err(refusal) => status(&refusal),
     }
 }

@@ -3,10 +3,10 @@
 
 mod algorithm;
 mod container;
-mod given_key;
 mod numbers;
-mod parameters;
+mod oaep;
 mod private_key;
+mod pss;
 mod public_key;
 mod status;
 mod written;
@@ -15,12 +15,16 @@ pub use algorithm::{Algorithm, MaskGen, Oid};
 pub use container::{
     PrivateKeyInfo, pkcs1_c_private_key_info_decode, pkcs1_c_private_key_info_encode,
 };
-pub use given_key::pkcs1_c_private_key_encode;
-pub use parameters::{
-    OaepParams, PssParams, pkcs1_c_oaep_params_decode, pkcs1_c_oaep_params_decode_strict,
-    pkcs1_c_oaep_params_encode, pkcs1_c_pss_params_decode, pkcs1_c_pss_params_decode_strict,
+pub use oaep::{
+    OaepParams, pkcs1_c_oaep_params_decode, pkcs1_c_oaep_params_decode_strict,
+    pkcs1_c_oaep_params_encode,
+};
+pub use private_key::{
+    OtherPrime, PrivateKey, pkcs1_c_private_key_decode, pkcs1_c_private_key_encode,
+};
+pub use pss::{
+    PssParams, pkcs1_c_pss_params_decode, pkcs1_c_pss_params_decode_strict,
     pkcs1_c_pss_params_encode,
 };
-pub use private_key::{OtherPrime, PrivateKey, pkcs1_c_private_key_decode};
 pub use public_key::{PublicKey, pkcs1_c_public_key_decode, pkcs1_c_public_key_encode};
 pub use status::{Text, pkcs1_c_status_text, pkcs1_c_version};

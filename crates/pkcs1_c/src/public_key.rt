@@ -51,7 +51,7 @@ pub extern "C" fn pkcs1_c_public_key_decode<'a>(text: &'a [u8], key: &mut Public
 }
 
 /// The key of these numbers.
-fn key_from<'a>(key: &PublicKey<'a>) -> pkcs1::Result<RsaPublicKeyRef<'a>>
+fn from_c_key<'a>(key: &PublicKey<'a>) -> pkcs1::Result<RsaPublicKeyRef<'a>>
     ensures ok { IfOk result (λ made. ArePublicNumbers (public_key_of made) (public_key_seen key.now)) }
     ensures err { let numbers = two_numbers (public_key_seen key.now) in
         IfErr result (λ e. NumbersThen numbers Nothing (status_of e)) }
@@ -83,8 +83,8 @@ pub extern "C" fn pkcs1_c_public_key_encode(
     ensures unchanged { result ≢ OK → out.new ≡ out.old }
     ensures kept { result ≢ OK → result ≢ NO_ROOM → len.new ≡ len.old }
 {
-    match key_from(key) {
+    match from_c_key(key) {
         Ok(key) => write_text(&key, out, len),
-        Err(error) => status(&error),
+        Err(refusal) => status(&refusal),
     }
 }

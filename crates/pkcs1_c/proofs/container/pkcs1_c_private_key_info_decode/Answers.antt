@@ -8,14 +8,14 @@ use Rattle.pkcs1_c.specs.StructValues.{private_key_seen}
 use Rattle.pkcs1_c.proofs.container.pkcs1_c_private_key_info_decode.Goals as goal
 
 pub returns-in-Ok-clause-one : goal.returns-in-Ok-clause-one
-returns-in-Ok-clause-one c = λ _ other m. c.in-Ok.ensures.one other m ∙ sym (c.seen_info.ensures c.in-Ok.ensures.ok.1.0)
+returns-in-Ok-clause-one c = λ _ other m. c.in-Ok.ensures.one other m ∙ sym (c.to_c_info.ensures.seen c.in-Ok.ensures.ok.1.0)
 
 pub returns-in-Ok-clause-one_key : goal.returns-in-Ok-clause-one_key
 returns-in-Ok-clause-one_key c = λ _ other m.
     let rsa = c.in-Ok.ensures.ok.1.0 in
-    let octets = ap (λ (i : Info). i.private_key) (c.seen_info.ensures rsa) in
+    let octets = ap (λ (i : Info). i.private_key) (c.to_c_info.ensures.seen rsa) in
     let same = c.in-Ok.ensures.key other (rsa, subst (λ t. Means RsaPrivateKey t other) octets m) in
-    same ∙ sym c.seen_key.ensures.key ∙ (λ i. private_key_seen c.seen_key.result (sym same i).other_prime_infos)
+    same ∙ sym c.to_c_key.ensures.key ∙ (λ i. private_key_seen c.to_c_key.result (sym same i).other_prime_infos)
 
 pub returns-in-Err-clause-exact : goal.returns-in-Err-clause-exact
 returns-in-Err-clause-exact c = λ _. status_faulty (RsaContainerFault c.args.text.now) c.in-Err.error _ c.status.ensures c.in-Err.ensures.exact

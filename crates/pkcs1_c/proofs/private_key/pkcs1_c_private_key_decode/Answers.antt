@@ -7,7 +7,7 @@ use Rattle.pkcs1_c.proofs.private_key.pkcs1_c_private_key_decode.Goals as goal
 pub returns-in-Ok-clause-one : goal.returns-in-Ok-clause-one
 returns-in-Ok-clause-one c = λ _ other m.
     let same = c.in-Ok.ensures.one other m in
-    same ∙ sym c.seen_key.ensures.key ∙ (λ i. private_key_seen c.seen_key.result (sym same i).other_prime_infos)
+    same ∙ sym c.to_c_key.ensures.key ∙ (λ i. private_key_seen c.to_c_key.result (sym same i).other_prime_infos)
 
 pub returns-in-Err-clause-told : goal.returns-in-Err-clause-told
 returns-in-Err-clause-told c = omega (arith, c.status.ensures, status_below c.in-Err.error c.in-Err.ensures.asn1)

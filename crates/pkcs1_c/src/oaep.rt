@@ -1,0 +1,134 @@
+//! Parameters of RSAES-OAEP.
+ghost use Rattle.std.specs.Prelude.{◌≡◌, ◌≢◌, ◌<◌, ◌≤◌, ◌⊎◌, ℕ, length, take, drop, IfOk, IfErr};
+ghost use Rattle.der_core.specs.Document.{Means, IsShortest};
+ghost use Rattle.pkcs1_params.specs.Parameters as grammar;
+ghost use Rattle.pkcs1_params.specs.OaepValue.{oaep_of};
+ghost use Rattle.pkcs1_c.specs.Refusals.{HasNoText, LacksRoom};
+ghost use Rattle.der_core.specs.declared.error.ErrorKind as der;
+ghost use Rattle.pkcs1_params.specs.ParameterFaults.{RsaOaepParamsFault, StrictOaepFault};
+ghost use Rattle.pkcs1_params.specs.Parameters.{oaep_fields};
+ghost use Rattle.spki_core.specs.StrictFields.{WritesDefault};
+ghost use Rattle.pkcs1_c.specs.Status.{kind_number, status_of, IsNumberOfFault};
+ghost use Rattle.pkcs1_c.specs.StructValues.{oaep_seen, OaepIsTidy};
+ghost use Rattle.pkcs1_c.specs.Unwritten.{Nothing, OaepThen, OaepRefusal};
+
+use crate::algorithm::{
+    Algorithm, MaskGen, from_c_algorithm, from_c_mask_gen, to_c_algorithm, to_c_mask_gen,
+};
+use crate::status::{NO_ROOM, NONCANONICAL, OK, status};
+use crate::written::write_text;
+use pkcs1::{RsaOaepParams, RsaOaepParamsRef};
+
+/// Parameters of RSAES-OAEP.
+#[repr(C)]
+#[derive(Clone, Copy, Drop)]
+pub struct OaepParams<'a> {
+    /// The hash function.
+    pub hash: Algorithm<'a>,
+    /// The mask generation function.
+    pub mask_gen: MaskGen<'a>,
+    /// Where the label comes from.
+    pub p_source: Algorithm<'a>,
+}
+
+/// The parameters, as C sees them.
+fn to_c_oaep<'a>(read: &RsaOaepParamsRef<'a>) -> OaepParams<'a>
+    ensures seen { oaep_seen result ≡ oaep_of read.now }
+    ensures tidy { OaepIsTidy result }
+{
+    OaepParams {
+        hash: to_c_algorithm(&read.hash),
+        mask_gen: to_c_mask_gen(&read.mask_gen),
+        p_source: to_c_algorithm(&read.p_source),
+    }
+}
+
+/// The parameters that C gives.
+fn from_c_oaep<'a>(params: &OaepParams<'a>) -> pkcs1::Result<RsaOaepParamsRef<'a>>
+    ensures ok { IfOk result (λ made. oaep_of made ≡ oaep_seen params.now) }
+    ensures err { IfErr result (λ e. OaepThen (oaep_seen params.now) Nothing (status_of e)) }
+{
+    Ok(RsaOaepParams {
+        hash: from_c_algorithm(&params.hash)?,
+        mask_gen: from_c_mask_gen(&params.mask_gen)?,
+        p_source: from_c_algorithm(&params.p_source)?,
+    })
+}
+
+/// Reads parameters of RSAES-OAEP: 0 where the text is one of those.
+#[unsafe(no_mangle)]
+pub extern "C" fn pkcs1_c_oaep_params_decode<'a>(text: &'a [u8], params: &mut OaepParams<'a>) -> u32
+    ensures ok { result ≡ OK → Means grammar.RsaOaepParams text.now (oaep_seen params.new) }
+    ensures one { result ≡ OK → (other : grammar.OaepParameters) → Means grammar.RsaOaepParams text.now other
+        → other ≡ oaep_seen params.new }
+    ensures told { result < NO_ROOM }
+    ensures refused { result ≢ OK → (other : grammar.OaepParameters) → Means grammar.RsaOaepParams text.now other → ⊥ }
+    ensures exact { result ≢ OK → IsNumberOfFault (λ kind. RsaOaepParamsFault kind text.now) result }
+    ensures only { (kind : der.ErrorKind) → RsaOaepParamsFault kind text.now → result ≡ kind_number kind }
+    ensures tidy { result ≡ OK → OaepIsTidy params.new }
+    ensures unchanged { result ≢ OK → params.new ≡ params.old }
+{
+    match RsaOaepParamsRef::try_from(text) {
+        Ok(read) => {
+            *params = to_c_oaep(&read);
+            OK
+        }
+        Err(error) => status(&error),
+    }
+}
+
+/// Reads parameters of RSAES-OAEP, as `pkcs1_c_oaep_params_decode`: 0 only where the text is the shortest one. A default that
+/// is written is refused by 5.
+#[unsafe(no_mangle)]
+pub extern "C" fn pkcs1_c_oaep_params_decode_strict<'a>(
+    text: &'a [u8],
+    params: &mut OaepParams<'a>,
+) -> u32
+    ensures ok { result ≡ OK → IsShortest grammar.RsaOaepParams (oaep_seen params.new) text.now }
+    ensures one { result ≡ OK → (other : grammar.OaepParameters) → Means grammar.RsaOaepParams text.now other
+        → other ≡ oaep_seen params.new }
+    ensures told { result < NO_ROOM }
+    ensures refused { result ≢ OK
+        → (other : grammar.OaepParameters) → IsShortest grammar.RsaOaepParams other text.now → ⊥ }
+    ensures default { result ≢ OK
+        → (other : grammar.OaepParameters) → Means grammar.RsaOaepParams text.now other → result ≡ NONCANONICAL }
+    ensures exact { result ≢ OK → IsNumberOfFault (λ kind. RsaOaepParamsFault kind text.now) result
+        ⊎ ((result ≡ NONCANONICAL) × (other : grammar.OaepParameters) × Means grammar.RsaOaepParams text.now other
+        × (n : ℕ) × WritesDefault (oaep_fields other) n text.now) }
+    ensures only { (kind : der.ErrorKind) → StrictOaepFault kind text.now → result ≡ kind_number kind }
+    ensures tidy { result ≡ OK → OaepIsTidy params.new }
+    ensures unchanged { result ≢ OK → params.new ≡ params.old }
+{
+    match RsaOaepParamsRef::from_der_strict(text) {
+        Ok(read) => {
+            *params = to_c_oaep(&read);
+            OK
+        }
+        Err(error) => status(&error),
+    }
+}
+
+/// Writes the shortest text of parameters of RSAES-OAEP: 0, and then its length in `len`. Where it has no room, `len` is the length
+/// that it needs.
+#[unsafe(no_mangle)]
+pub extern "C" fn pkcs1_c_oaep_params_encode(
+    params: &OaepParams<'_>,
+    out: &mut [u8],
+    len: &mut usize,
+) -> u32
+    ensures ok { result ≡ OK → IsShortest grammar.RsaOaepParams (oaep_seen params.now) (take len.new out.new) }
+    ensures rest { result ≡ OK → (len.new ≤ length out.new) × (drop len.new out.new ≡ drop len.new out.old) }
+    ensures no_room { result ≡ NO_ROOM
+        → LacksRoom grammar.RsaOaepParams (oaep_seen params.now) (length out.old) len.new }
+    ensures refused { result ≢ OK → result ≢ NO_ROOM → HasNoText grammar.RsaOaepParams (oaep_seen params.now) }
+    ensures exact { result ≢ OK → OaepRefusal (oaep_seen params.now) (length out.old) result }
+    ensures only { (status : ℕ) → OaepRefusal (oaep_seen params.now) (length out.old) status
+        → result ≡ status }
+    ensures unchanged { result ≢ OK → out.new ≡ out.old }
+    ensures kept { result ≢ OK → result ≢ NO_ROOM → len.new ≡ len.old }
+{
+    match from_c_oaep(params) {
+        Ok(made) => write_text(&made, out, len),
+        Err(refusal) => status(&refusal),
+    }
+}

@@ -1,0 +1,146 @@
+//! Parameters of RSASSA-PSS.
+ghost use Rattle.std.specs.Prelude.{◌≡◌, ◌≢◌, ◌<◌, ◌≤◌, ◌⊎◌, ℕ, length, take, drop, IfOk, IfErr};
+ghost use Rattle.der_core.specs.Document.{Means, IsShortest};
+ghost use Rattle.pkcs1_params.specs.Parameters as grammar;
+ghost use Rattle.pkcs1_params.specs.PssValue.{pss_of};
+ghost use Rattle.pkcs1_c.specs.Refusals.{HasNoText, LacksRoom};
+ghost use Rattle.der_core.specs.declared.error.ErrorKind as der;
+ghost use Rattle.pkcs1_params.specs.ParameterFaults.{RsaPssParamsFault, StrictPssFault};
+ghost use Rattle.pkcs1_params.specs.Parameters.{pss_fields};
+ghost use Rattle.spki_core.specs.StrictFields.{WritesDefault};
+ghost use Rattle.pkcs1_c.specs.Status.{kind_number, status_of, IsNumberOfFault};
+ghost use Rattle.pkcs1_c.specs.StructValues.{pss_seen, PssIsTidy};
+ghost use Rattle.pkcs1_c.specs.Unwritten.{Nothing, PssThen, PssRefusal};
+
+use crate::algorithm::{
+    Algorithm, MaskGen, from_c_algorithm, from_c_mask_gen, to_c_algorithm, to_c_mask_gen,
+};
+use crate::status::{NO_ROOM, NONCANONICAL, OK, status};
+use crate::written::write_text;
+use der_core::{ErrorKind, Tag};
+use pkcs1::{Error, RsaPssParams, RsaPssParamsRef, TrailerField};
+
+/// Parameters of RSASSA-PSS.
+#[repr(C)]
+#[derive(Clone, Copy, Drop)]
+pub struct PssParams<'a> {
+    /// The hash function.
+    pub hash: Algorithm<'a>,
+    /// The mask generation function.
+    pub mask_gen: MaskGen<'a>,
+    /// The length of the salt in octets.
+    pub salt_len: u8,
+    /// The trailer field: 1.
+    pub trailer_field: u8,
+}
+
+/// The parameters, as C sees them.
+fn to_c_pss<'a>(read: &RsaPssParamsRef<'a>) -> PssParams<'a>
+    ensures seen { pss_seen result ≡ pss_of read.now }
+    ensures tidy { PssIsTidy result }
+{
+    PssParams {
+        hash: to_c_algorithm(&read.hash),
+        mask_gen: to_c_mask_gen(&read.mask_gen),
+        salt_len: read.salt_len,
+        trailer_field: 1,
+    }
+}
+
+/// The parameters that C gives.
+fn from_c_pss<'a>(params: &PssParams<'a>) -> pkcs1::Result<RsaPssParamsRef<'a>>
+    ensures ok { IfOk result (λ made. pss_of made ≡ pss_seen params.now) }
+    ensures small { IfOk result (λ made. made.salt_len < 256) }
+    ensures err { IfErr result (λ e. PssThen (pss_seen params.now) Nothing (status_of e)) }
+{
+    let hash = from_c_algorithm(&params.hash)?;
+    let mask_gen = from_c_mask_gen(&params.mask_gen)?;
+    if params.trailer_field != 1 {
+        let kind = ErrorKind::Value { tag: Tag::INTEGER };
+        return Err(Error::Asn1(der_core::Error::new(kind)));
+    }
+    Ok(RsaPssParams {
+        hash,
+        mask_gen,
+        salt_len: params.salt_len,
+        trailer_field: TrailerField::BC,
+    })
+}
+
+/// Reads parameters of RSASSA-PSS: 0 where the text is one of those.
+#[unsafe(no_mangle)]
+pub extern "C" fn pkcs1_c_pss_params_decode<'a>(text: &'a [u8], params: &mut PssParams<'a>) -> u32
+    ensures ok { result ≡ OK → Means grammar.RsaPssParams text.now (pss_seen params.new) }
+    ensures one { result ≡ OK → (other : grammar.PssParameters) → Means grammar.RsaPssParams text.now other
+        → other ≡ pss_seen params.new }
+    ensures told { result < NO_ROOM }
+    ensures refused { result ≢ OK → (other : grammar.PssParameters) → Means grammar.RsaPssParams text.now other → ⊥ }
+    ensures exact { result ≢ OK → IsNumberOfFault (λ kind. RsaPssParamsFault kind text.now) result }
+    ensures only { (kind : der.ErrorKind) → RsaPssParamsFault kind text.now → result ≡ kind_number kind }
+    ensures tidy { result ≡ OK → PssIsTidy params.new }
+    ensures unchanged { result ≢ OK → params.new ≡ params.old }
+{
+    match RsaPssParamsRef::try_from(text) {
+        Ok(read) => {
+            *params = to_c_pss(&read);
+            OK
+        }
+        Err(error) => status(&error),
+    }
+}
+
+/// Reads parameters of RSASSA-PSS, as `pkcs1_c_pss_params_decode`: 0 only where the text is the shortest one. A default that
+/// is written is refused by 5.
+#[unsafe(no_mangle)]
+pub extern "C" fn pkcs1_c_pss_params_decode_strict<'a>(
+    text: &'a [u8],
+    params: &mut PssParams<'a>,
+) -> u32
+    ensures ok { result ≡ OK → IsShortest grammar.RsaPssParams (pss_seen params.new) text.now }
+    ensures one { result ≡ OK → (other : grammar.PssParameters) → Means grammar.RsaPssParams text.now other
+        → other ≡ pss_seen params.new }
+    ensures told { result < NO_ROOM }
+    ensures refused { result ≢ OK
+        → (other : grammar.PssParameters) → IsShortest grammar.RsaPssParams other text.now → ⊥ }
+    ensures default { result ≢ OK
+        → (other : grammar.PssParameters) → Means grammar.RsaPssParams text.now other → result ≡ NONCANONICAL }
+    ensures exact { result ≢ OK → IsNumberOfFault (λ kind. RsaPssParamsFault kind text.now) result
+        ⊎ ((result ≡ NONCANONICAL) × (other : grammar.PssParameters) × Means grammar.RsaPssParams text.now other
+        × (n : ℕ) × WritesDefault (pss_fields other) n text.now) }
+    ensures only { (kind : der.ErrorKind) → StrictPssFault kind text.now → result ≡ kind_number kind }
+    ensures tidy { result ≡ OK → PssIsTidy params.new }
+    ensures unchanged { result ≢ OK → params.new ≡ params.old }
+{
+    match RsaPssParamsRef::from_der_strict(text) {
+        Ok(read) => {
+            *params = to_c_pss(&read);
+            OK
+        }
+        Err(error) => status(&error),
+    }
+}
+
+/// Writes the shortest text of parameters of RSASSA-PSS: 0, and then its length in `len`. Where it has no room, `len` is the length
+/// that it needs.
+#[unsafe(no_mangle)]
+pub extern "C" fn pkcs1_c_pss_params_encode(
+    params: &PssParams<'_>,
+    out: &mut [u8],
+    len: &mut usize,
+) -> u32
+    ensures ok { result ≡ OK → IsShortest grammar.RsaPssParams (pss_seen params.now) (take len.new out.new) }
+    ensures rest { result ≡ OK → (len.new ≤ length out.new) × (drop len.new out.new ≡ drop len.new out.old) }
+    ensures no_room { result ≡ NO_ROOM
+        → LacksRoom grammar.RsaPssParams (pss_seen params.now) (length out.old) len.new }
+    ensures refused { result ≢ OK → result ≢ NO_ROOM → HasNoText grammar.RsaPssParams (pss_seen params.now) }
+    ensures exact { result ≢ OK → PssRefusal (pss_seen params.now) (length out.old) result }
+    ensures only { (status : ℕ) → PssRefusal (pss_seen params.now) (length out.old) status
+        → result ≡ status }
+    ensures unchanged { result ≢ OK → out.new ≡ out.old }
+    ensures kept { result ≢ OK → result ≢ NO_ROOM → len.new ≡ len.old }
+{
+    match from_c_pss(params) {
+        Ok(made) => write_text(&made, out, len),
+        Err(refusal) => status(&refusal),
+    }
+}
