@@ -1,9 +1,10 @@
--- A request without where it lies in memory.
+-- A request with the texts that lie beside it.
+use Rattle.std.specs.Prelude.{ℕ, List}
 use Rattle.pkcs1_lines.specs.declared.request.Request.{Request}
 use Rattle.pkcs1_lines.specs.declared.request.Request.TheVariants.{BadLine, Word, Pair}
 use Rattle.pkcs1_lines.specs.Request.{Asked, bad_line, asks, asks_pair}
 
-abbrev pub seen : Request → Asked
-seen BadLine = bad_line
-seen (Word word text) = asks word text.items
-seen (Pair word first second) = asks_pair word first.items second.items
+abbrev pub seen : Request → List ℕ → List ℕ → Asked
+seen BadLine first second = bad_line
+seen (Word word) first second = asks word first
+seen (Pair word) first second = asks_pair word first second

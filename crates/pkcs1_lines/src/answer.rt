@@ -5,7 +5,7 @@ ghost use Rattle.pkcs1_lines.specs.Put.{Puts, PutsAnswer};
 
 use crate::keys::{answer_p8, answer_priv, answer_pub};
 use crate::parameter_answers::{answer_parameters, answer_same, answer_spell, answer_strict};
-use crate::request::{PairWord, Request, Word, request_of};
+use crate::request::{PairWord, Request, Texts, Word, request_of};
 use pkcs1::{RsaOaepParamsRef, RsaPssParamsRef};
 use std::alloc::{AllocError, Global};
 
@@ -14,7 +14,7 @@ fn answer_word(alloc: Global, word: Word, text: &[u8], out: &mut Vec<u8>) -> Res
     ensures { OnOk result (Puts (WordAnswer word text.now) out.old.items out.new.items) }
 {
     match word {
-        Word::Pub => answer_pub(alloc, text, out),
+        Word::Pub => answer_pub(text, out),
         Word::Priv => answer_priv(text, out),
         Word::Pss => answer_parameters::<RsaPssParamsRef<'_>>(alloc, text, out),
         Word::Oaep => answer_parameters::<RsaOaepParamsRef<'_>>(alloc, text, out),
@@ -46,15 +46,20 @@ fn answer_pair(
     }
 }
 
-/// Puts the answer of a line behind `out`.
-pub fn answer_line(alloc: Global, line: &[u8], out: &mut Vec<u8>) -> Result<(), AllocError>
+/// Puts the answer of a line behind `out`. What `texts` held before is of no account.
+pub fn answer_line(
+    alloc: Global,
+    line: &[u8],
+    texts: &mut Texts,
+    out: &mut Vec<u8>,
+) -> Result<(), AllocError>
     ensures { OnOk result (PutsAnswer line.now out.old.items out.new.items) }
 {
-    match request_of(alloc, line)? {
+    let request = request_of(line, texts)?;
+    let (first, second) = (texts.first.as_slice(), texts.second.as_slice());
+    match request {
         Request::BadLine => out.extend_from_slice(b"bad line"),
-        Request::Word(word, text) => answer_word(alloc, word, text.as_slice(), out),
-        Request::Pair(word, first, second) => {
-            answer_pair(alloc, word, first.as_slice(), second.as_slice(), out)
-        }
+        Request::Word(word) => answer_word(alloc, word, first, out),
+        Request::Pair(word) => answer_pair(alloc, word, first, second, out),
     }
 }

@@ -14,11 +14,10 @@ ghost use Rattle.pkcs1_lines.specs.Put.{Puts};
 ghost use Rattle.pkcs1_lines.specs.Told.{field, pub_answer, version_told, numbers_told, other_told, others_told, key_told, priv_answer, attributes_told, p8_answer};
 
 use crate::digits::put_field;
-use crate::shortest::shortest;
 use crate::verdict::put_refused;
 use pkcs1::{OtherPrimeInfo, RsaPrivateKeyView, RsaPublicKeyRef, UintRef, Version};
 use pkcs8_core::PrivateKeyInfoRef;
-use std::alloc::{AllocError, Global};
+use std::alloc::AllocError;
 
 /// Puts each number behind `out`, after its label.
 fn put_numbers(numbers: &[(&[u8], UintRef<'_>)], out: &mut Vec<u8>) -> Result<(), AllocError>
@@ -39,16 +38,13 @@ fn put_pub(key: &RsaPublicKeyRef<'_>, again: &[u8], out: &mut Vec<u8>) -> Result
     put_field(b" again=", again, out)
 }
 
-/// Puts the answer of `pub` behind `out`.
-pub fn answer_pub(alloc: Global, text: &[u8], out: &mut Vec<u8>) -> Result<(), AllocError>
+/// Puts the answer of `pub` behind `out`. The text is the key's only one, so it is told again. Memory is asked for by
+/// `out` alone.
+pub fn answer_pub(text: &[u8], out: &mut Vec<u8>) -> Result<(), AllocError>
     ensures { OnOk result (Puts (Tells RsaPublicKey pub_answer text.now) out.old.items out.new.items) }
 {
     match RsaPublicKeyRef::try_from(text) {
-        Ok(key) => {
-            let mut buffer = vec![in alloc; 0u8; text.len()]?;
-            let again = shortest(text, &key, buffer.as_mut_slice());
-            put_pub(&key, again, out)
-        }
+        Ok(key) => put_pub(&key, text, out),
         Err(_) => put_refused(out),
     }
 }

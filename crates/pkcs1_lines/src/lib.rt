@@ -19,3 +19,4 @@ mod verdict;
 pub use answer::answer_line;
 pub use laws::answers_are_one;
 pub use lines::split_line;
+pub use request::Texts;

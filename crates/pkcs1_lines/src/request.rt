@@ -1,11 +1,9 @@
 //! What a line asks for.
-ghost use Rattle.std.specs.Prelude.{◌≡◌, IfOk, map};
-ghost use Rattle.std.specs.Option.{option_map};
+ghost use Rattle.std.specs.Prelude.{◌≡◌, IfOk, Some, None, if◌then◌else◌, map};
 ghost use Rattle.pkcs1_lines.specs.Request.{asked_by, asked_with, named, pair_asked_with, pair_words, text_of, words};
 ghost use Rattle.pkcs1_lines.specs.RequestValue.{seen};
 
 use crate::lines::split_part;
-use hex::FromHexError;
 use std::alloc::{AllocError, Global};
 
 /// The first part of a line with one HEX part.
@@ -29,12 +27,29 @@ pub enum PairWord {
     SameOaep,
 }
 
-/// What a line asks for: a word with the texts that the HEX parts stand for.
-#[derive(Drop)]
+/// What a line asks for. The texts that its HEX parts stand for lie in a `Texts`.
+#[derive(Clone, Copy, Drop)]
 pub enum Request {
     BadLine,
-    Word(Word, Vec<u8>),
-    Pair(PairWord, Vec<u8>, Vec<u8>),
+    Word(Word),
+    Pair(PairWord),
+}
+
+/// Where the texts of a line's HEX parts are put. Kept from line to line, it asks for memory only where a text is longer
+/// than those before.
+#[derive(Drop)]
+pub struct Texts {
+    pub first: Vec<u8>,
+    pub second: Vec<u8>,
+}
+
+impl Texts {
+    pub fn new(alloc: Global) -> Texts {
+        Texts {
+            first: Vec::new(alloc),
+            second: Vec::new(alloc),
+        }
+    }
 }
 
 /// The words of lines with one HEX part.
@@ -82,64 +97,62 @@ fn pair_word_of(part: &[u8]) -> Option<PairWord>
     find_named(&PAIR_WORDS, part)
 }
 
-/// The bytes that an even number of digits stands for.
-fn bytes_of(alloc: Global, hex: &[u8]) -> Result<Option<Vec<u8>>, AllocError>
-    ensures { IfOk result (λ bytes. option_map (λ found. found.items) bytes ≡ text_of hex.now) }
+/// Makes `text` the bytes that an even number of digits stands for. Where there is no such number of digits, it says so.
+fn read_hex(hex: &[u8], text: &mut Vec<u8>) -> Result<bool, AllocError>
+    ensures { IfOk result (λ is_hex. text_of hex.now ≡ (if is_hex then Some text.new.items else None)) }
 {
-    match hex::decode(alloc, hex) {
-        Ok(bytes) => Ok(Some(bytes)),
-        Err(FromHexError::OutOfMemory) => Err(AllocError),
-        Err(_) => Ok(None),
-    }
+    text.resize(hex.len() / 2, 0)?;
+    Ok(hex::decode_to_slice(hex, text.as_mut_slice()).is_ok())
 }
 
 /// What a word asks for with one HEX part.
-fn request_with(alloc: Global, word: &[u8], hex: &[u8]) -> Result<Request, AllocError>
-    ensures { IfOk result (λ request. seen request ≡ asked_with (named words word.now) (text_of hex.now)) }
+fn request_with(word: Word, hex: &[u8], texts: &mut Texts) -> Result<Request, AllocError>
+    ensures { let asked = asked_with (Some word) (text_of hex.now) in
+        IfOk result (λ request. seen request texts.new.first.items texts.new.second.items ≡ asked) }
 {
-    let Some(word) = word_of(word) else {
-        return Ok(Request::BadLine);
-    };
-    match bytes_of(alloc, hex)? {
-        Some(text) => Ok(Request::Word(word, text)),
-        None => Ok(Request::BadLine),
+    if read_hex(hex, &mut texts.first)? {
+        Ok(Request::Word(word))
+    } else {
+        Ok(Request::BadLine)
     }
 }
 
 /// What a word asks for with two HEX parts.
 fn pair_request_with(
-    alloc: Global,
-    word: &[u8],
+    word: PairWord,
     first: &[u8],
     second: &[u8],
+    texts: &mut Texts,
 ) -> Result<Request, AllocError>
-    ensures { let asked = pair_asked_with (named pair_words word.now) (text_of first.now) (text_of second.now) in
-        IfOk result (λ request. seen request ≡ asked) }
+    ensures { let asked = pair_asked_with (Some word) (text_of first.now) (text_of second.now) in
+        IfOk result (λ request. seen request texts.new.first.items texts.new.second.items ≡ asked) }
 {
-    let Some(word) = pair_word_of(word) else {
-        return Ok(Request::BadLine);
-    };
-    match (bytes_of(alloc, first)?, bytes_of(alloc, second)?) {
-        (Some(first), Some(second)) => Ok(Request::Pair(word, first, second)),
-        _ => Ok(Request::BadLine),
+    if read_hex(first, &mut texts.first)? && read_hex(second, &mut texts.second)? {
+        Ok(Request::Pair(word))
+    } else {
+        Ok(Request::BadLine)
     }
 }
 
-/// What the line asks for.
-pub fn request_of(alloc: Global, line: &[u8]) -> Result<Request, AllocError>
-    ensures { IfOk result (λ request. seen request ≡ asked_by line.now) }
+/// What the line asks for. A space is no digit, so what follows the word needs no look for a further part.
+pub fn request_of(line: &[u8], texts: &mut Texts) -> Result<Request, AllocError>
+    ensures { IfOk result (λ request. seen request texts.new.first.items texts.new.second.items ≡ asked_by line.now) }
 {
-    let (word, rest) = split_part(line);
+    let (name, rest) = split_part(line);
     let Some(rest) = rest else {
         return Ok(Request::BadLine);
     };
-    let (first, rest) = split_part(rest);
-    let Some(rest) = rest else {
-        return request_with(alloc, word, first);
-    };
-    let (second, more) = split_part(rest);
-    if more.is_some() {
-        return Ok(Request::BadLine);
+    match word_of(name) {
+        Some(word) => request_with(word, rest, texts),
+        None => match pair_word_of(name) {
+            Some(word) => {
+                let (first, second) = split_part(rest);
+                match second {
+                    Some(second) => pair_request_with(word, first, second, texts),
+                    None => Ok(Request::BadLine),
+                }
+            }
+            None => Ok(Request::BadLine),
+        },
     }
-    pair_request_with(alloc, word, first, second)
 }

@@ -1,3 +1,4 @@
 pub mod Written
 pub mod Fault
 pub mod Plan
+pub mod Copied

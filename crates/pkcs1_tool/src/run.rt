@@ -10,7 +10,7 @@ ghost use Rattle.pkcs1_tool.specs.Written.{Writes, WritesFirst, WritesFront, Wri
 
 use crate::fault::Fault;
 use der_core::{ErrorKind, Length, Sink, Source, put_all, read_all};
-use pkcs1_lines::{answer_line, answers_are_one, split_line};
+use pkcs1_lines::{Texts, answer_line, answers_are_one, split_line};
 use std::alloc::Global;
 
 /// The longest input.
@@ -44,12 +44,13 @@ fn answer_lines<W: Sink>(alloc: Global, input: &[u8], sink: &mut W) -> Result<()
         → WritesFirst (W.contents sink.old) (W.contents sink.new) (lines_of input.now) }
     ensures memory_quiet { IsErrOf result Fault.Memory → W.refusals sink.new ≡ W.refusals sink.old }
 {
+    let mut texts = Texts::new(alloc);
     let mut answer = Vec::new(alloc);
     let mut rest = input;
     while !rest.is_empty() {
         let (line, more) = split_line(rest);
         answer.clear();
-        answer_line(alloc, line, &mut answer)?;
+        answer_line(alloc, line, &mut texts, &mut answer)?;
         answer.push(b'\n')?;
         match put_all(answer.as_slice(), sink) {
             Ok(()) => rest = more,
