@@ -1,15 +1,11 @@
 //! Documents from sources and to sinks that move a few bytes a call, or refuse one; and in files.
-ghost use Rattle.std.specs.Prelude.{Some};
-
 use crate::checks::{equal, holds};
-use der_core::{
-    Document, Error, ErrorKind, FromRead, Result, SecretDocument, Sink, Source, ToWrite,
-};
+use crate::doubles::{Full, RefusingOnce, giving, refusing_at, taking};
+use der_core::{Document, Error, ErrorKind, FromRead, SecretDocument, Sink, Source, ToWrite};
 use std::alloc::Global;
-use std::io::{Read, Write};
+use std::fs;
 use std::path::Path;
 use std::test::Fail;
-use std::{fs, io};
 
 const TEXT: &[u8] = &[0x30, 0x06, 0x02, 0x01, 0x07, 0x02, 0x01, 0x03];
 
@@ -17,169 +13,8 @@ const REFUSED: Error = Error {
     kind: ErrorKind::File,
 };
 
-/// Gives up to `most` bytes a call, and refuses the call of number `refused`, from 1 on.
-#[derive(Drop)]
-struct Slow<'a> {
-    left: &'a [u8],
-    most: usize,
-    refused: u64,
-    calls: u64,
-    faults: u64,
-}
-
-impl<'a> Source for Slow<'a> {
-    ghost remaining = { λ s. Some s.left.now };
-
-    ghost refusals = { λ s. s.faults };
-
-    fn read(&mut self, buf: &mut [u8]) -> Result<usize> {
-        self.calls = self.calls.saturating_add(1);
-        if self.calls == self.refused {
-            self.faults = self.faults.saturating_add(1);
-            return Err(Error::new(ErrorKind::Failed));
-        }
-        let count = self.most.max(1).min(self.left.len()).min(buf.len());
-        let (given, left) = self.left.split_at(count);
-        buf[..count].copy_from_slice(given);
-        self.left = left;
-        Ok(count)
-    }
-
-    fn faults(&self) -> u64 {
-        self.faults
-    }
-}
-
-/// Gives one byte a call.
-fn giving(left: &[u8], refused: u64) -> Slow<'_> {
-    Slow {
-        left,
-        most: 1,
-        refused,
-        calls: 0,
-        faults: 0,
-    }
-}
-
-/// Takes up to `most` bytes a call, and refuses the call of number `refused`, from 1 on.
-#[derive(Drop)]
-struct Narrow {
-    taken: Vec<u8>,
-    most: usize,
-    refused: u64,
-    calls: u64,
-    flushes: u64,
-    faults: u64,
-}
-
-impl Sink for Narrow {
-    ghost contents = { λ s. Some s.taken.items };
-
-    ghost refusals = { λ s. s.faults };
-
-    fn write(&mut self, bytes: &[u8]) -> Result<usize> {
-        self.calls = self.calls.saturating_add(1);
-        let count = self.most.max(1).min(bytes.len());
-        if self.calls == self.refused || self.taken.extend_from_slice(&bytes[..count]).is_err() {
-            self.faults = self.faults.saturating_add(1);
-            return Err(Error::new(ErrorKind::Failed));
-        }
-        Ok(count)
-    }
-
-    fn flush(&mut self) -> Result<()> {
-        self.flushes = self.flushes.saturating_add(1);
-        Ok(())
-    }
-
-    fn faults(&self) -> u64 {
-        self.faults
-    }
-}
-
-/// Takes up to three bytes a call.
-fn taking(alloc: Global, refused: u64) -> Narrow {
-    Narrow {
-        taken: Vec::new(alloc),
-        most: 3,
-        refused,
-        calls: 0,
-        flushes: 0,
-        faults: 0,
-    }
-}
-
-/// Takes no byte, and refuses none.
-#[derive(Drop)]
-struct Full;
-
-impl Write for Full {
-    fn write(&mut self, _buf: &[u8]) -> io::Result<usize> {
-        Ok(0)
-    }
-
-    fn flush(&mut self) -> io::Result<()> {
-        Ok(())
-    }
-}
-
-/// Refuses its first call, and gives its bytes from then on.
-#[derive(Drop)]
-struct RefusingOnce<'a> {
-    left: &'a [u8],
-    calls: u64,
-}
-
-impl Read for RefusingOnce<'_> {
-    fn read(&mut self, buf: &mut [u8]) -> io::Result<usize> {
-        self.calls = self.calls.saturating_add(1);
-        if self.calls == 1 {
-            return Err(io::Error::from(io::ErrorKind::Other));
-        }
-        self.left.read(buf)
-    }
-}
-
-/// Refuses the call of number `refused`, from 1 on, whether it is told to write or to flush; in each other call it takes
-/// every byte.
-#[derive(Drop)]
-struct Refusing {
-    taken: Vec<u8>,
-    refused: u64,
-    calls: u64,
-}
-
-impl Refusing {
-    fn call(&mut self, bytes: &[u8]) -> io::Result<()> {
-        self.calls = self.calls.saturating_add(1);
-        if self.calls == self.refused || self.taken.extend_from_slice(bytes).is_err() {
-            return Err(io::Error::from(io::ErrorKind::Other));
-        }
-        Ok(())
-    }
-}
-
-impl Write for Refusing {
-    fn write(&mut self, buf: &[u8]) -> io::Result<usize> {
-        self.call(buf)?;
-        Ok(buf.len())
-    }
-
-    fn flush(&mut self) -> io::Result<()> {
-        self.call(&[])
-    }
-}
-
-fn refusing_at(alloc: Global, refused: u64) -> ToWrite<Refusing> {
-    ToWrite::new(Refusing {
-        taken: Vec::new(alloc),
-        refused,
-        calls: 0,
-    })
-}
-
 #[test]
-fn documents_come_from_sources(rt: HostRuntime) -> std::result::Result<(), Fail> {
+fn documents_come_from_sources(rt: HostRuntime) -> Result<(), Fail> {
     let alloc = rt.alloc();
     let document = Document::read_from(alloc, &mut giving(TEXT, 0))?;
     equal(&rt, document.as_bytes(), TEXT);
@@ -202,7 +37,7 @@ fn documents_come_from_sources(rt: HostRuntime) -> std::result::Result<(), Fail>
 }
 
 #[test]
-fn documents_go_to_sinks(rt: HostRuntime) -> std::result::Result<(), Fail> {
+fn documents_go_to_sinks(rt: HostRuntime) -> Result<(), Fail> {
     let alloc = rt.alloc();
     let document = Document::from_der(alloc, TEXT)?;
     let secret = SecretDocument::from_der(alloc, TEXT)?;
@@ -222,7 +57,7 @@ fn documents_go_to_sinks(rt: HostRuntime) -> std::result::Result<(), Fail> {
 }
 
 /// A document of more octets than three pieces of 64 KiB.
-fn long_text(alloc: Global) -> std::result::Result<Vec<u8>, Fail> {
+fn long_text(alloc: Global) -> Result<Vec<u8>, Fail> {
     let mut text = Vec::new(alloc);
     text.extend_from_slice(&[0x30, 0x83, 0x03, 0x0d, 0x40])?;
     for place in 0..200_000_u32 {
@@ -232,7 +67,7 @@ fn long_text(alloc: Global) -> std::result::Result<Vec<u8>, Fail> {
 }
 
 #[test]
-fn long_documents_come_and_go_in_pieces(rt: HostRuntime) -> std::result::Result<(), Fail> {
+fn long_documents_come_and_go_in_pieces(rt: HostRuntime) -> Result<(), Fail> {
     let alloc = rt.alloc();
     let text = long_text(alloc)?;
     let mut source = giving(text.as_slice(), 0);
@@ -253,7 +88,7 @@ fn long_documents_come_and_go_in_pieces(rt: HostRuntime) -> std::result::Result<
 }
 
 #[test]
-fn a_refusal_of_std_is_told_once(rt: HostRuntime) -> std::result::Result<(), Fail> {
+fn a_refusal_of_std_is_told_once(rt: HostRuntime) -> Result<(), Fail> {
     let alloc = rt.alloc();
     let mut source = FromRead::new(RefusingOnce {
         left: TEXT,
@@ -279,7 +114,7 @@ fn a_refusal_of_std_is_told_once(rt: HostRuntime) -> std::result::Result<(), Fai
 }
 
 #[test]
-fn documents_go_through_files(rt: HostRuntime) -> std::result::Result<(), Fail> {
+fn documents_go_through_files(rt: HostRuntime) -> Result<(), Fail> {
     let alloc = rt.alloc();
     let document = Document::from_der(alloc, TEXT)?;
     let secret = SecretDocument::from_der(alloc, TEXT)?;

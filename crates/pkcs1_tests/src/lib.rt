@@ -1,6 +1,6 @@
 //! Tests of what no worked row can say: readers and writers behind a refusal, documents from sources, to sinks and in
-//! files, a key type of a caller's own, values that are hashed, compared and printed. They stand apart from the rows, so
-//! that the gate doesn't prove the program of the rows a second time.
+//! files, a key type of a caller's own, the public half of a key that OpenSSL made, values that are hashed, compared and
+//! printed. They stand apart from the rows, so that the gate doesn't prove the program of the rows a second time.
 #![tactic(auto)]
 
 #[cfg(test)]
@@ -9,6 +9,10 @@ mod carried_key;
 mod checks;
 #[cfg(test)]
 mod documents;
+#[cfg(test)]
+mod doubles;
+#[cfg(test)]
+mod published;
 #[cfg(test)]
 mod readers;
 #[cfg(test)]

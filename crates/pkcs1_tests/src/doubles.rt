@@ -1,0 +1,168 @@
+//! Sources and sinks that move a few bytes a call, or refuse one.
+ghost use Rattle.std.specs.Prelude.{Some};
+
+use der_core::{Error, ErrorKind, Result, Sink, Source, ToWrite};
+use std::alloc::Global;
+use std::io;
+use std::io::{Read, Write};
+
+/// Gives up to `most` bytes a call, and refuses the call of number `refused`, from 1 on.
+#[derive(Drop)]
+pub struct Slow<'a> {
+    pub left: &'a [u8],
+    pub most: usize,
+    pub refused: u64,
+    pub calls: u64,
+    pub faults: u64,
+}
+
+impl<'a> Source for Slow<'a> {
+    ghost remaining = { λ s. Some s.left.now };
+
+    ghost refusals = { λ s. s.faults };
+
+    fn read(&mut self, buf: &mut [u8]) -> Result<usize> {
+        self.calls = self.calls.saturating_add(1);
+        if self.calls == self.refused {
+            self.faults = self.faults.saturating_add(1);
+            return Err(Error::new(ErrorKind::Failed));
+        }
+        let count = self.most.max(1).min(self.left.len()).min(buf.len());
+        let (given, left) = self.left.split_at(count);
+        buf[..count].copy_from_slice(given);
+        self.left = left;
+        Ok(count)
+    }
+
+    fn faults(&self) -> u64 {
+        self.faults
+    }
+}
+
+/// Gives one byte a call.
+pub fn giving(left: &[u8], refused: u64) -> Slow<'_> {
+    Slow {
+        left,
+        most: 1,
+        refused,
+        calls: 0,
+        faults: 0,
+    }
+}
+
+/// Takes up to `most` bytes a call, and refuses the call of number `refused`, from 1 on.
+#[derive(Drop)]
+pub struct Narrow {
+    pub taken: Vec<u8>,
+    pub most: usize,
+    pub refused: u64,
+    pub calls: u64,
+    pub flushes: u64,
+    pub faults: u64,
+}
+
+impl Sink for Narrow {
+    ghost contents = { λ s. Some s.taken.items };
+
+    ghost refusals = { λ s. s.faults };
+
+    fn write(&mut self, bytes: &[u8]) -> Result<usize> {
+        self.calls = self.calls.saturating_add(1);
+        let count = self.most.max(1).min(bytes.len());
+        if self.calls == self.refused || self.taken.extend_from_slice(&bytes[..count]).is_err() {
+            self.faults = self.faults.saturating_add(1);
+            return Err(Error::new(ErrorKind::Failed));
+        }
+        Ok(count)
+    }
+
+    fn flush(&mut self) -> Result<()> {
+        self.flushes = self.flushes.saturating_add(1);
+        Ok(())
+    }
+
+    fn faults(&self) -> u64 {
+        self.faults
+    }
+}
+
+/// Takes up to three bytes a call.
+pub fn taking(alloc: Global, refused: u64) -> Narrow {
+    Narrow {
+        taken: Vec::new(alloc),
+        most: 3,
+        refused,
+        calls: 0,
+        flushes: 0,
+        faults: 0,
+    }
+}
+
+/// Takes no byte, and refuses none.
+#[derive(Drop)]
+pub struct Full;
+
+impl Write for Full {
+    fn write(&mut self, _buf: &[u8]) -> io::Result<usize> {
+        Ok(0)
+    }
+
+    fn flush(&mut self) -> io::Result<()> {
+        Ok(())
+    }
+}
+
+/// Refuses its first call, and gives its bytes from then on.
+#[derive(Drop)]
+pub struct RefusingOnce<'a> {
+    pub left: &'a [u8],
+    pub calls: u64,
+}
+
+impl Read for RefusingOnce<'_> {
+    fn read(&mut self, buf: &mut [u8]) -> io::Result<usize> {
+        self.calls = self.calls.saturating_add(1);
+        if self.calls == 1 {
+            return Err(io::Error::from(io::ErrorKind::Other));
+        }
+        self.left.read(buf)
+    }
+}
+
+/// Refuses the call of number `refused`, from 1 on, whether it is told to write or to flush; in each other call it takes
+/// every byte.
+#[derive(Drop)]
+pub struct Refusing {
+    pub taken: Vec<u8>,
+    pub refused: u64,
+    pub calls: u64,
+}
+
+impl Refusing {
+    fn call(&mut self, bytes: &[u8]) -> io::Result<()> {
+        self.calls = self.calls.saturating_add(1);
+        if self.calls == self.refused || self.taken.extend_from_slice(bytes).is_err() {
+            return Err(io::Error::from(io::ErrorKind::Other));
+        }
+        Ok(())
+    }
+}
+
+impl Write for Refusing {
+    fn write(&mut self, buf: &[u8]) -> io::Result<usize> {
+        self.call(buf)?;
+        Ok(buf.len())
+    }
+
+    fn flush(&mut self) -> io::Result<()> {
+        self.call(&[])
+    }
+}
+
+pub fn refusing_at(alloc: Global, refused: u64) -> ToWrite<Refusing> {
+    ToWrite::new(Refusing {
+        taken: Vec::new(alloc),
+        refused,
+        calls: 0,
+    })
+}
