@@ -1,16 +1,20 @@
-//! Keys from a source to a sink.
+//! Keys from a source to a sink, and from file to file.
 ghost use Rattle.std.specs.Prelude.{◌≡◌, ◌⊎◌, IfErr, OnOk};
 ghost use Rattle.pkcs1.specs.Keys.{RsaPrivateKey, RsaPublicKey};
 ghost use Rattle.pkcs1_params.specs.Refusals.{IsAsn1};
 ghost use Rattle.pkcs1_tool.specs.Copied.{CopiesKey, IsUntouched, PrivateRefused, PublicRefused, StopsReadingKey, StopsWritingKey};
 
-use der_core::{Document, SecretDocument, Sink, Source};
+use crate::new_file::NewFile;
+use der_core::{Document, Error, ErrorKind, FromRead, SecretDocument, Sink, Source};
 use pkcs1::{Result, reencode_private_key, reencode_public_key};
 use std::alloc::Global;
+use std::fs::File;
+use std::path::Path;
+use std::rt::Files;
 
 /// Copies a public key: what the source gives up to its end, where that is the text of one. The sink is called only once
 /// the key was read.
-pub fn copy_pub<R: Source, W: Sink>(alloc: Global, source: &mut R, sink: &mut W) -> Result<()>
+fn copy_public_key<R: Source, W: Sink>(alloc: Global, source: &mut R, sink: &mut W) -> Result<()>
     ensures copied { OnOk result (CopiesKey RsaPublicKey (R.remaining source.old) (R.remaining source.new)
         (W.contents sink.old) (W.contents sink.new)) }
     ensures quiet { OnOk result ((R.refusals source.new ≡ R.refusals source.old)
@@ -29,7 +33,7 @@ pub fn copy_pub<R: Source, W: Sink>(alloc: Global, source: &mut R, sink: &mut W)
 
 /// Copies a private key: what the source gives up to its end, where that is the text of one. The sink is called only once
 /// the key was read.
-pub fn copy_priv<R: Source, W: Sink>(alloc: Global, source: &mut R, sink: &mut W) -> Result<()>
+fn copy_private_key<R: Source, W: Sink>(alloc: Global, source: &mut R, sink: &mut W) -> Result<()>
     ensures copied { OnOk result (CopiesKey RsaPrivateKey (R.remaining source.old) (R.remaining source.new)
         (W.contents sink.old) (W.contents sink.new)) }
     ensures quiet { OnOk result ((R.refusals source.new ≡ R.refusals source.old)
@@ -44,4 +48,34 @@ pub fn copy_priv<R: Source, W: Sink>(alloc: Global, source: &mut R, sink: &mut W
     let read = SecretDocument::read_from(alloc, source)?;
     let again = reencode_private_key(alloc, read.as_bytes())?;
     Ok(again.write_to(sink)?)
+}
+
+/// A source over the file.
+fn open<Rt: Files>(rt: &Rt, path: Path<'_>) -> Result<FromRead<Rt::File>> {
+    match File::open(rt, path) {
+        Ok(file) => Ok(FromRead::new(file)),
+        Err(_) => Err(Error::new(ErrorKind::File).into()),
+    }
+}
+
+/// Copies a public key from file to file. The output is touched only after the key was read.
+pub fn copy_pub<Rt: Files>(
+    rt: &Rt,
+    alloc: Global,
+    input: Path<'_>,
+    output: Path<'_>,
+) -> Result<()> {
+    let mut source = open(rt, input)?;
+    copy_public_key(alloc, &mut source, &mut NewFile::new(rt, output))
+}
+
+/// Copies a private key from file to file. The output is touched only after the key was read.
+pub fn copy_priv<Rt: Files>(
+    rt: &Rt,
+    alloc: Global,
+    input: Path<'_>,
+    output: Path<'_>,
+) -> Result<()> {
+    let mut source = open(rt, input)?;
+    copy_private_key(alloc, &mut source, &mut NewFile::new(rt, output))
 }

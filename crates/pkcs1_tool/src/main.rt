@@ -10,16 +10,13 @@ mod plan;
 mod run;
 
 use copy::{copy_priv, copy_pub};
-use der_core::{ErrorKind, FromRead, ToWrite};
+use der_core::{FromRead, ToWrite};
 use fault::Fault;
-use new_file::NewFile;
 use plan::{Plan, plan_of, status};
 use std::fmt::Display;
-use std::fs::File;
 use std::io::BufWriter;
 use std::path::Path;
 use std::process::ExitCode;
-use std::rt::Files;
 use std::{env, io};
 
 const USAGE: &str = "usage: pkcs1_tool [copy pub|priv IN OUT]";
@@ -44,34 +41,6 @@ fn run_lines(rt: &HostRuntime) -> Result<(), Fault> {
     run::run(rt.alloc(), &mut source, &mut sink)
 }
 
-/// A source over the file.
-fn open<Rt: Files>(rt: &Rt, path: Path<'_>) -> pkcs1::Result<FromRead<Rt::File>> {
-    match File::open(rt, path) {
-        Ok(file) => Ok(FromRead::new(file)),
-        Err(_) => Err(der_core::Error::new(ErrorKind::File).into()),
-    }
-}
-
-/// Copies a public key from file to file.
-fn copy_pub_file(rt: &HostRuntime, input: &str, output: &str) -> pkcs1::Result<()> {
-    let mut source = open(rt, Path::new(input))?;
-    copy_pub(
-        rt.alloc(),
-        &mut source,
-        &mut NewFile::new(rt, Path::new(output)),
-    )
-}
-
-/// Copies a private key from file to file.
-fn copy_priv_file(rt: &HostRuntime, input: &str, output: &str) -> pkcs1::Result<()> {
-    let mut source = open(rt, Path::new(input))?;
-    copy_priv(
-        rt.alloc(),
-        &mut source,
-        &mut NewFile::new(rt, Path::new(output)),
-    )
-}
-
 /// Whether it went well. What went wrong is told on standard error.
 fn reported<E: Display + Drop>(rt: &impl Eprint, answer: Result<(), E>) -> bool {
     match answer {
@@ -88,8 +57,14 @@ fn carry_out(rt: &HostRuntime, plan: &Plan<'_>) -> u8 {
     let ok = match plan {
         Plan::Usage => reported(rt, Err(USAGE)),
         Plan::Lines => reported(rt, run_lines(rt)),
-        Plan::CopyPub { input, output } => reported(rt, copy_pub_file(rt, input, output)),
-        Plan::CopyPriv { input, output } => reported(rt, copy_priv_file(rt, input, output)),
+        Plan::CopyPub { input, output } => {
+            let (input, output) = (Path::new(input), Path::new(output));
+            reported(rt, copy_pub(rt, rt.alloc(), input, output))
+        }
+        Plan::CopyPriv { input, output } => {
+            let (input, output) = (Path::new(input), Path::new(output));
+            reported(rt, copy_priv(rt, rt.alloc(), input, output))
+        }
     };
     status(plan, ok)
 }

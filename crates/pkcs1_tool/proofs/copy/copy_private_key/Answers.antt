@@ -3,7 +3,7 @@ use Rattle.std.proofs.lemmas.Result.{err_from_is_err_and}
 use Rattle.pkcs1.specs.Keys.{RsaPrivateKey}
 use Rattle.pkcs1_tool.specs.Copied.{PrivateRefused}
 use Rattle.pkcs1_tool.proofs.Copies.{no_key, not_written}
-use Rattle.pkcs1_tool.proofs.copy.copy_priv.Goals as goal
+use Rattle.pkcs1_tool.proofs.copy.copy_private_key.Goals as goal
 
 pub returns-in_err-again-clause-err : goal.returns-in_err-again-clause-err
 returns-in_err-again-clause-err g c =
