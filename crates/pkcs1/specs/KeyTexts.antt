@@ -5,6 +5,7 @@ use Rattle.der_core.specs.Reading.{Refuses}
 use Rattle.der_core.specs.Writing.{encode_refusal}
 use Rattle.der_core.specs.declared.error.ErrorKind.{ErrorKind}
 use Rattle.der_core.specs.declared.error.ErrorKind.TheVariants.{OutOfMemory}
+use Rattle.pkcs1_params.specs.Meanings.{IsNoSentence}
 use Rattle.pkcs1_params.specs.declared.error.Error.{Error}
 use Rattle.pkcs1_params.specs.Refusals.{IsAsn1}
 
@@ -26,7 +27,7 @@ IsUnwritten Some Grammar v e =
 
 -- Why a text isn't read: memory was wanted, and asked for; or no value has the text.
 abbrev pub IsUnread : {V : Type 0} → (V → List ℕ → Type 0) → List ℕ → Type 0 → Error → Type 0
-IsUnread {V} Grammar text asked = IsAsn1 (λ e. Refuses e.kind asked ((v : V) → Means Grammar text v → ⊥))
+IsUnread Grammar text asked = IsAsn1 (λ e. Refuses e.kind asked (IsNoSentence Grammar text))
 
 -- Why no document of a key is made: as IsUnwritten.
 abbrev pub IsNotMade : {V : Type 0} → (V → List ℕ → Type 0) → V → Error → Type 0

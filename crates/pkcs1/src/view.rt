@@ -18,6 +18,7 @@ ghost use Rattle.pkcs1.specs.PrivateKeyValue.{key_with};
 ghost use Rattle.pkcs1.specs.Versions.{number_of};
 ghost use Rattle.pkcs1.specs.PublicKeyValue.{public_key_of};
 ghost use Rattle.pkcs1.specs.ViewParts.{view_of, viewed_text, listed_others};
+ghost use Rattle.pkcs1_params.specs.Meanings.{IsNoSentence, IsOnlyMeaning};
 ghost use Rattle.pkcs1_params.specs.Refusals.{IsAsn1};
 ghost use Rattle.der_core.specs.Document.{Means};
 ghost use Rattle.der_core.specs.UintRefValue.{bytes_of};
@@ -215,10 +216,9 @@ impl<'a> TryFrom<&'a [u8]> for RsaPrivateKeyView<'a> {
     /// of memory aside: with the kernel's error.
     fn try_from(bytes: &'a [u8]) -> crate::Result<RsaPrivateKeyView<'a>>
         ensures ok { IfOk result (λ view. Means grammar.RsaPrivateKey bytes.now (view_of view)) }
-        ensures one { IfOk result (λ view. (other : PrivateKey (List ℕ)) → Means grammar.RsaPrivateKey bytes.now other
-            → other ≡ view_of view) }
+        ensures one { IfOk result (λ view. IsOnlyMeaning grammar.RsaPrivateKey bytes.now (view_of view)) }
         ensures bytes { IfOk result (λ view. viewed_text view ≡ bytes.now) }
-        ensures err { OnErr result ((key : PrivateKey (List ℕ)) → Means grammar.RsaPrivateKey bytes.now key → ⊥) }
+        ensures err { OnErr result (IsNoSentence grammar.RsaPrivateKey bytes.now) }
         ensures asn1 { IfErr result (IsAsn1 (λ e. TellsOfBytes e.kind)) }
         ensures exact { IfErr result (IsAsn1 (λ e. RsaPrivateKeyFault e.kind bytes.now)) }
         ensures only { (kind : der.ErrorKind)

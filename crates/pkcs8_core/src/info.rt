@@ -10,6 +10,7 @@ ghost use Rattle.der_core.specs.Optional.{Optional};
 ghost use Rattle.der_core.specs.Texts.{AtMostOne};
 ghost use Rattle.der_core.specs.Reading.{ReadsContents, ReadsText, TellsOfBytes};
 ghost use Rattle.der_core.specs.Writing.{encode_refusal};
+ghost use Rattle.pkcs1_params.specs.Meanings.{IsNoSentence, IsOnlyMeaning};
 ghost use Rattle.pkcs8_core.specs.Container.{Info, AttributesText, InfoContents, PrivateKeyInfo, HasInfo, written_info, IsUnwritten};
 ghost use Rattle.pkcs8_core.specs.Held.{info_of, attributes_of, slice_now};
 ghost use Rattle.pkcs8_core.specs.Laws.{info_means_one, info_of_bytes, info_relates, info_shortest};
@@ -210,9 +211,8 @@ impl<'a> TryFrom<&'a [u8]> for PrivateKeyInfoRef<'a> {
     /// Reads a whole slice, without memory. Another version than 0 is `Value` of INTEGER.
     fn try_from(bytes: &'a [u8]) -> Result<PrivateKeyInfoRef<'a>>
         ensures ok { IfOk result (λ info. Means PrivateKeyInfo bytes.now (info_of info)) }
-        ensures one { IfOk result (λ info. (other : Info) → Means PrivateKeyInfo bytes.now other
-            → other ≡ info_of info) }
-        ensures err { OnErr result ((info : Info) → Means PrivateKeyInfo bytes.now info → ⊥) }
+        ensures one { IfOk result (λ info. IsOnlyMeaning PrivateKeyInfo bytes.now (info_of info)) }
+        ensures err { OnErr result (IsNoSentence PrivateKeyInfo bytes.now) }
         ensures memory { IfErr result (λ e. TellsOfBytes e.kind) }
         ensures exact { IfErr result (λ e. PrivateKeyInfoFault e.kind bytes.now) }
         ensures only { (kind : der.ErrorKind)
