@@ -99,6 +99,19 @@ module _ {V : Type 0} (has : V → Type 0) (text : V → List ℕ) (key : Privat
   behind_fits : length (written_private_key text key) ≤ limit → length (middle ++ back) ≤ limit
   behind_fits fits = omega (arith, fits, length-append front (middle ++ back))
 
+  -- Each part is no longer than all of them, also where room is taken from the end.
+  pub each_within : (n : ℕ) → length (written_private_key text key) ≤ n → (length front ≤ n) × (length middle ≤ n) × (length back ≤ n)
+  each_within n fits =
+      let all = length-append front (middle ++ back) in
+      let behind = length-append middle back in
+      (omega (arith, fits, all), omega (arith, fits, all, behind), omega (arith, fits, all, behind))
+
+  pub middle_room : (free left : ℕ) → length (written_private_key text key) ≤ free → left + length back ≡ free → length middle ≤ left
+  middle_room free left fits taken = omega (arith, fits, taken, length-append front (middle ++ back), length-append middle back)
+
+  pub front_room : (free left more : ℕ) → length (written_private_key text key) ≤ free → left + length back ≡ free → more + length middle ≡ left → length front ≤ more
+  front_room free left more fits taken again = omega (arith, fits, taken, again, length-append front (middle ++ back), length-append middle back)
+
   module _ {W A : Type 0} {Room : W → ℕ} {Written : W → List ℕ} (h : HasPrivateKey has key) (fits : length (written_private_key text key) ≤ limit) where
     pub front_refused : {old new : W} {e : Error} → Appends {A = A} (version_of key.other_prime_infos < 2) front Room Written old new (Err e)
         → Appends {A = A} (HasPrivateKey has key) (written_private_key text key) Room Written old new (Err e)

@@ -1,10 +1,10 @@
-use Rattle.std.proofs.Common.{arith, ◌≤◌, ◌++◌, length, length-append}
+use Rattle.std.proofs.Common.{arith, ◌≤◌, length}
 use Rattle.std.proofs.lemmas.Result.{err_from_is_err_and}
 use Rattle.der_core.specs.declared.borrowed.Borrowed.{Borrowed}
 use Rattle.der_core.specs.Length.{limit}
 use Rattle.pkcs1.specs.PrivateKeyValue.{private_key_with}
 use Rattle.pkcs1.specs.Writing.{key_numbers, written_private_key}
-use Rattle.pkcs1.proofs.KeyWrites.{version_number, version_appends, numbers_text, numbers_have, numbers_append, front, middle, back, front_refused, middle_refused, private_appends}
+use Rattle.pkcs1.proofs.KeyWrites.{version_number, version_appends, numbers_text, numbers_have, numbers_append, each_within, front_refused, middle_refused, private_appends}
 use Rattle.pkcs1.proofs.private_key.RsaPrivateKeyEncodeValue.encode_value.Goals as goal
 
 pub returns-in_err-encode-clause-appends : goal.returns-in_err-encode-clause-appends
@@ -23,13 +23,9 @@ encode_texts-requires-clause-has g c =
 pub encode_texts-requires-clause-fits : goal.encode_texts-requires-clause-fits
 encode_texts-requires-clause-fits g c =
     let key = private_key_with g.U.Text.value c.args.self.now in
-    let same = numbers_text (λ (n : Borrowed g.row.U.Denot). g.U.Text.value n.0.now) g.U.Text.has_text g.U.Text.written_text c.numbers.result (key_numbers key) c.numbers.ensures in
-    let n = front g.U.Text.has_text g.U.Text.written_text key in
-    let t = middle g.U.Text.has_text g.U.Text.written_text key in
-    let o = back g.U.Text.has_text g.U.Text.written_text key in
-    let few : length (n ++ (t ++ o)) ≤ limit = omega (arith, c.in_ok-value_len.ensures.counts) in
-    let less : length t ≤ limit = omega (arith, few, length-append n (t ++ o), length-append t o) in
-    rw same less
+    let few : length (written_private_key g.U.Text.written_text key) ≤ limit = omega (arith, c.in_ok-value_len.ensures.counts) in
+    rw (numbers_text (λ (n : Borrowed g.row.U.Denot). g.U.Text.value n.0.now) g.U.Text.has_text g.U.Text.written_text c.numbers.result (key_numbers key) c.numbers.ensures)
+    (each_within g.U.Text.has_text g.U.Text.written_text key limit few).1
 
 pub returns-in_err-encode_texts-clause-appends : goal.returns-in_err-encode_texts-clause-appends
 returns-in_err-encode_texts-clause-appends g c =
@@ -44,12 +40,8 @@ returns-in_err-encode_texts-clause-appends g c =
 pub encode_other_primes-requires-clause-fits : goal.encode_other_primes-requires-clause-fits
 encode_other_primes-requires-clause-fits g c =
     let key = private_key_with g.U.Text.value c.args.self.now in
-    let n = front g.U.Text.has_text g.U.Text.written_text key in
-    let t = middle g.U.Text.has_text g.U.Text.written_text key in
-    let o = back g.U.Text.has_text g.U.Text.written_text key in
-    let few : length (n ++ (t ++ o)) ≤ limit = omega (arith, c.in_ok-value_len.ensures.counts) in
-    let less : length o ≤ limit = omega (arith, few, length-append n (t ++ o), length-append t o) in
-    less
+    let few : length (written_private_key g.U.Text.written_text key) ≤ limit = omega (arith, c.in_ok-value_len.ensures.counts) in
+    (each_within g.U.Text.has_text g.U.Text.written_text key limit few).2
 
 pub returns-clause-appends : goal.returns-clause-appends
 returns-clause-appends g c =

@@ -1,9 +1,9 @@
-use Rattle.std.proofs.Common.{arith, ap, sym, ◌≡◌, ◌∙◌, ◌+◌, ◌≤◌, ◌++◌, length, length-append}
+use Rattle.std.proofs.Common.{ap, sym, ◌≡◌, ◌∙◌, ◌+◌, length}
 use Rattle.der_core.specs.declared.borrowed.Borrowed.{Borrowed}
 use Rattle.der_core.specs.Length.{limit}
 use Rattle.pkcs1.specs.PrivateKeyValue.{private_key_with}
 use Rattle.pkcs1.specs.Writing.{key_numbers}
-use Rattle.pkcs1.proofs.KeyWrites.{version_number, version_text, numbers_text, numbers_have, front, middle, back, le_along, three_prepended}
+use Rattle.pkcs1.proofs.KeyWrites.{version_number, version_text, numbers_text, numbers_have, front, middle, back, each_within, middle_room, front_room, le_along, three_prepended}
 use Rattle.pkcs1.proofs.private_key.RsaPrivateKeyEncodeValue.prepend_value.Goals as goal
 
 pub prepend_texts-requires-clause-has : goal.prepend_texts-requires-clause-has
@@ -13,67 +13,37 @@ prepend_texts-requires-clause-has g c =
 pub prepend_texts-requires-clause-fits : goal.prepend_texts-requires-clause-fits
 prepend_texts-requires-clause-fits g c =
     let key = private_key_with g.U.Text.value c.args.self.now in
-    let n = front g.U.Text.has_text g.U.Text.written_text key in
-    let t = middle g.U.Text.has_text g.U.Text.written_text key in
-    let o = back g.U.Text.has_text g.U.Text.written_text key in
-    let few : length (n ++ (t ++ o)) ≤ limit = c.requires.fits in
-    let less : length t ≤ limit = omega (arith, few, length-append n (t ++ o), length-append t o) in
-    rw (numbers_text (λ (n : Borrowed g.row.U.Denot). g.U.Text.value n.0.now) g.U.Text.has_text g.U.Text.written_text c.numbers.result (key_numbers key) c.numbers.ensures) less
+    rw (numbers_text (λ (n : Borrowed g.row.U.Denot). g.U.Text.value n.0.now) g.U.Text.has_text g.U.Text.written_text c.numbers.result (key_numbers key) c.numbers.ensures)
+    (each_within g.U.Text.has_text g.U.Text.written_text key limit c.requires.fits).1
 
 pub prepend_texts-requires-clause-room : goal.prepend_texts-requires-clause-room
 prepend_texts-requires-clause-room g c =
     let key = private_key_with g.U.Text.value c.args.self.now in
-    let n = front g.U.Text.has_text g.U.Text.written_text key in
-    let t = middle g.U.Text.has_text g.U.Text.written_text key in
-    let o = back g.U.Text.has_text g.U.Text.written_text key in
-    let room : length (n ++ (t ++ o)) ≤ c.args.writer.now.free = c.requires.room in
-    let behind : c.prepend_other_primes.new.writer.free + length o ≡ c.args.writer.now.free = c.prepend_other_primes.ensures.1 in
-    let less : length t ≤ c.prepend_other_primes.new.writer.free = omega (arith, room, behind, length-append n (t ++ o), length-append t o) in
-    rw (numbers_text (λ (n : Borrowed g.row.U.Denot). g.U.Text.value n.0.now) g.U.Text.has_text g.U.Text.written_text c.numbers.result (key_numbers key) c.numbers.ensures) less
+    rw (numbers_text (λ (n : Borrowed g.row.U.Denot). g.U.Text.value n.0.now) g.U.Text.has_text g.U.Text.written_text c.numbers.result (key_numbers key) c.numbers.ensures)
+    (middle_room g.U.Text.has_text g.U.Text.written_text key c.args.writer.now.free c.prepend_other_primes.new.writer.free c.requires.room c.prepend_other_primes.ensures.1)
 
 pub prepend_other_primes-requires-clause-fits : goal.prepend_other_primes-requires-clause-fits
 prepend_other_primes-requires-clause-fits g c =
-    let key = private_key_with g.U.Text.value c.args.self.now in
-    let n = front g.U.Text.has_text g.U.Text.written_text key in
-    let t = middle g.U.Text.has_text g.U.Text.written_text key in
-    let o = back g.U.Text.has_text g.U.Text.written_text key in
-    let few : length (n ++ (t ++ o)) ≤ limit = c.requires.fits in
-    let less : length o ≤ limit = omega (arith, few, length-append n (t ++ o), length-append t o) in
-    less
+    (each_within g.U.Text.has_text g.U.Text.written_text (private_key_with g.U.Text.value c.args.self.now) limit c.requires.fits).2
 
 pub prepend_other_primes-requires-clause-room : goal.prepend_other_primes-requires-clause-room
 prepend_other_primes-requires-clause-room g c =
-    let key = private_key_with g.U.Text.value c.args.self.now in
-    let n = front g.U.Text.has_text g.U.Text.written_text key in
-    let t = middle g.U.Text.has_text g.U.Text.written_text key in
-    let o = back g.U.Text.has_text g.U.Text.written_text key in
-    let room : length (n ++ (t ++ o)) ≤ c.args.writer.now.free = c.requires.room in
-    let less : length o ≤ c.args.writer.now.free = omega (arith, room, length-append n (t ++ o), length-append t o) in
-    less
+    (each_within g.U.Text.has_text g.U.Text.written_text (private_key_with g.U.Text.value c.args.self.now) c.args.writer.now.free c.requires.room).2
 
 pub prepend-requires-clause-fits : goal.prepend-requires-clause-fits
 prepend-requires-clause-fits g c =
     let key = private_key_with g.U.Text.value c.args.self.now in
-    let n = front g.U.Text.has_text g.U.Text.written_text key in
-    let t = middle g.U.Text.has_text g.U.Text.written_text key in
-    let o = back g.U.Text.has_text g.U.Text.written_text key in
-    let few : length (n ++ (t ++ o)) ≤ limit = c.requires.fits in
-    let less : length n ≤ limit = omega (arith, few, length-append n (t ++ o)) in
-    le_along (ap length (version_text _ _ (version_number g.U.Text.value _ _ c.version.ensures))) less
+    le_along (ap length (version_text _ _ (version_number g.U.Text.value _ _ c.version.ensures)))
+    (each_within g.U.Text.has_text g.U.Text.written_text key limit c.requires.fits).0
 
 pub prepend-requires-clause-room : goal.prepend-requires-clause-room
 prepend-requires-clause-room g c =
     let key = private_key_with g.U.Text.value c.args.self.now in
-    let n = front g.U.Text.has_text g.U.Text.written_text key in
     let t = middle g.U.Text.has_text g.U.Text.written_text key in
-    let o = back g.U.Text.has_text g.U.Text.written_text key in
-    let room : length (n ++ (t ++ o)) ≤ c.args.writer.now.free = c.requires.room in
-    let behind : c.prepend_other_primes.new.writer.free + length o ≡ c.args.writer.now.free = c.prepend_other_primes.ensures.1 in
     let same = numbers_text (λ (n : Borrowed g.row.U.Denot). g.U.Text.value n.0.now) g.U.Text.has_text g.U.Text.written_text c.numbers.result (key_numbers key) c.numbers.ensures in
     let more : c.prepend_texts.new.writer.free + length t ≡ c.prepend_other_primes.new.writer.free = ap (λ l. c.prepend_texts.new.writer.free + length l) (sym same) ∙ c.prepend_texts.ensures.1 in
-    let less : length n ≤ c.prepend_texts.new.writer.free = omega (arith, room, behind, more, length-append n (t ++ o), length-append t o) in
-    let form = ap length (version_text _ _ (version_number g.U.Text.value _ _ c.version.ensures)) in
-    le_along form less
+    le_along (ap length (version_text _ _ (version_number g.U.Text.value _ _ c.version.ensures)))
+    (front_room g.U.Text.has_text g.U.Text.written_text key c.args.writer.now.free c.prepend_other_primes.new.writer.free c.prepend_texts.new.writer.free c.requires.room c.prepend_other_primes.ensures.1 more)
 
 pub returns : goal.returns
 returns g c =
