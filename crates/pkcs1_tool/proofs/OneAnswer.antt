@@ -14,7 +14,9 @@ use Rattle.pkcs1_tool.specs.declared.request.Word.TheVariants as word
 use Rattle.pkcs1_tool.specs.declared.request.PairWord.{PairWord}
 use Rattle.pkcs1_tool.specs.declared.request.PairWord.TheVariants as pair
 use Rattle.pkcs1_tool.specs.Request.{Asked, bad_line, asks, asks_pair, asked_by}
-use Rattle.pkcs1_tool.specs.Answer.{HasNone, HasSome, Answered, Tells, TellsParameters, SaysWhether, TellsStrict, TellsSame, TellsSpellings, RsaPrivateKeyInfo, TellsContainer, WordAnswer, PairAnswer, AnswerTo, Answer, Answers}
+use Rattle.pkcs1.specs.KeyTexts.{IsSentence}
+use Rattle.pkcs1_params.specs.Meanings.{IsNoSentence}
+use Rattle.pkcs1_tool.specs.Answer.{Answered, Tells, TellsParameters, SaysWhether, TellsStrict, TellsSame, TellsSpellings, RsaPrivateKeyInfo, TellsContainer, WordAnswer, PairAnswer, AnswerTo, Answer, Answers}
 use Rattle.pkcs1_tool.specs.Told.{pub_answer, priv_answer, p8_answer, pss_answer, oaep_answer, spell_answer}
 use Rattle.pkcs1_tool.proofs.Spelled.{same_texts}
 
@@ -56,7 +58,7 @@ tells_strict_one : {V : Type 0} (word : List ℕ) (Grammar : V → List ℕ → 
 tells_strict_one word Grammar one text = answered_one Grammar _ one (λ value. says_one word (IsShortest Grammar value text)) text
 
 -- no value has one of two texts, and some value has each
-not_both : {V : Type 0} (Grammar : V → List ℕ → Type 0) (a b : List ℕ) → HasNone Grammar a ⊎ HasNone Grammar b → HasSome Grammar a → HasSome Grammar b → ⊥
+not_both : {V : Type 0} (Grammar : V → List ℕ → Type 0) (a b : List ℕ) → IsNoSentence Grammar a ⊎ IsNoSentence Grammar b → IsSentence Grammar a → IsSentence Grammar b → ⊥
 not_both Grammar a b (inl none) some other = none some.0 some.1
 not_both Grammar a b (inr none) some other = none other.0 other.1
 

@@ -11,13 +11,14 @@ use Rattle.der_core.specs.ShortestLaws.{means_one}
 use Rattle.der_core.specs.Texts.{IsDelimited}
 use Rattle.spki_core.specs.Explicit.{Field, HaveDefaults}
 use Rattle.pkcs1_params.specs.Spellings.{AllFit, AreAllSpellings, AreUnder, EachMaskHasOne}
-use Rattle.pkcs1_tool.specs.Answer.{HasNone, TellsSpellings}
+use Rattle.pkcs1_params.specs.Meanings.{IsNoSentence}
+use Rattle.pkcs1_tool.specs.Answer.{TellsSpellings}
 use Rattle.pkcs1_tool.specs.Told.{field, number_field, spell_answer}
 use Rattle.pkcs1_tool.proofs.PutBehind.{three}
 
 module _ {V : Type 0} (Grammar : V → List ℕ → Type 0) (fields : V → List Field) (word text : List ℕ) (v : V) (means : Means Grammar text v) where
   -- a value with a text past the limit
-  pub not_all_fit : IsDelimited Grammar → (AllFit (fields v) → ⊥) → HasNone (λ w t. Grammar w t × AllFit (fields w)) text
+  pub not_all_fit : IsDelimited Grammar → (AllFit (fields v) → ⊥) → IsNoSentence (λ w t. Grammar w t × AllFit (fields w)) text
   not_all_fit splits none w p = none (subst (λ x. AllFit (fields x)) (means_one splits w v text p.1.0 means.1) p.1.1)
 
   -- all texts of a value are an answer

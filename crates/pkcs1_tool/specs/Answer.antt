@@ -2,7 +2,9 @@
 use Rattle.std.specs.Prelude.{◌≡◌, ℕ, ◌^◌, ◌⊎◌, List, [], ◌∷◌, ◌++◌, codes}
 use Rattle.der_core.specs.Document.{Means, IsShortest, MeanTheSame}
 use Rattle.spki_core.specs.Explicit.{Field, HaveDefaults}
+use Rattle.pkcs1.specs.KeyTexts.{IsSentence}
 use Rattle.pkcs1.specs.Keys.{RsaPublicKey, PrivateKey, RsaPrivateKey}
+use Rattle.pkcs1_params.specs.Meanings.{IsNoSentence}
 use Rattle.pkcs1_params.specs.Parameters.{RsaPssParams, pss_fields, RsaOaepParams, oaep_fields}
 use Rattle.pkcs1_params.specs.Spellings.{AllFit, AreUnder}
 use Rattle.pkcs8_core.specs.Container.{Info, PrivateKeyInfo}
@@ -15,16 +17,9 @@ use Rattle.pkcs1_tool.specs.declared.request.PairWord.TheVariants as pair
 use Rattle.pkcs1_tool.specs.Request.{Asked, bad_line, asks, asks_pair, asked_by}
 use Rattle.pkcs1_tool.specs.Told.{pub_answer, priv_answer, p8_answer, pss_answer, oaep_answer, spell_answer}
 
--- some value has the text, or none has
-abbrev pub HasSome : {V : Type 0} → (V → List ℕ → Type 0) → List ℕ → Type 0
-HasSome {V} Grammar text = (value : V) × Means Grammar text value
-
-abbrev pub HasNone : {V : Type 0} → (V → List ℕ → Type 0) → List ℕ → Type 0
-HasNone {V} Grammar text = (value : V) → Means Grammar text value → ⊥
-
 -- Where no value has the text, the answer is `refused`. Otherwise it is what is told of the value.
 abbrev pub Answered : {V : Type 0} → (V → List ℕ → Type 0) → (V → List ℕ → Type 0) → List ℕ → List ℕ → Type 0
-Answered {V} Grammar Told text answer = (HasNone Grammar text × (answer ≡ codes "refused")) ⊎ ((value : V) × Means Grammar text value × Told value answer)
+Answered {V} Grammar Told text answer = (IsNoSentence Grammar text × (answer ≡ codes "refused")) ⊎ ((value : V) × Means Grammar text value × Told value answer)
 
 -- the value is told, and the value's shortest text
 abbrev pub Tells : {V : Type 0} → (V → List ℕ → Type 0) → (V → List ℕ → List ℕ) → List ℕ → List ℕ → Type 0
@@ -52,7 +47,7 @@ TellsSpellings word Grammar fields text answer =
 -- Where no value has one of the texts, the answer is `refused`. Otherwise it says whether some value has both.
 abbrev pub TellsSame : {V : Type 0} → List ℕ → (V → List ℕ → Type 0) → List ℕ → List ℕ → List ℕ → Type 0
 TellsSame word Grammar a b answer =
-    ((HasNone Grammar a ⊎ HasNone Grammar b) × (answer ≡ codes "refused")) ⊎ (HasSome Grammar a × HasSome Grammar b × SaysWhether word (MeanTheSame Grammar a b) answer)
+    ((IsNoSentence Grammar a ⊎ IsNoSentence Grammar b) × (answer ≡ codes "refused")) ⊎ (IsSentence Grammar a × IsSentence Grammar b × SaysWhether word (MeanTheSame Grammar a b) answer)
 
 -- a container of private keys, with the RSA key that it holds
 pub record RsaContainer : Type 0 where

@@ -8,7 +8,8 @@ ghost use Rattle.pkcs1.specs.PublicKeyValue.{public_key_of};
 ghost use Rattle.pkcs1.specs.PrivateKeyValue.{other_of};
 ghost use Rattle.pkcs1.specs.ViewParts.{view_of, viewed_text};
 ghost use Rattle.pkcs8_core.specs.Held.{info_of};
-ghost use Rattle.pkcs1_tool.specs.Answer.{HasNone, Tells, RsaPrivateKeyInfo, TellsContainer};
+ghost use Rattle.pkcs1_params.specs.Meanings.{IsNoSentence};
+ghost use Rattle.pkcs1_tool.specs.Answer.{Tells, RsaPrivateKeyInfo, TellsContainer};
 ghost use Rattle.pkcs1_tool.specs.Written.{Puts};
 ghost use Rattle.pkcs1_tool.specs.Told.{field, pub_answer, version_told, numbers_told, other_told, others_told, key_told, priv_answer, attributes_told, p8_answer};
 
@@ -137,7 +138,7 @@ pub fn answer_priv(text: &[u8], out: &mut Vec<u8>) -> Result<(), AllocError>
 fn read_container<'a>(text: &'a [u8]) -> Option<(PrivateKeyInfoRef<'a>, RsaPrivateKeyView<'a>)>
     ensures some { IfSome result (λ p.
         Means RsaPrivateKeyInfo text.now (record { info = info_of p.0; key = view_of p.1 })) }
-    ensures none { IfNone result (HasNone RsaPrivateKeyInfo text.now) }
+    ensures none { IfNone result (IsNoSentence RsaPrivateKeyInfo text.now) }
 {
     let Ok(info) = PrivateKeyInfoRef::try_from(text) else {
         return None;

@@ -13,7 +13,7 @@ ghost use Rattle.pkcs1_params.specs.PssValue.{pss_of};
 ghost use Rattle.pkcs1_params.specs.OaepValue.{oaep_of};
 ghost use Rattle.pkcs1_params.specs.Spellings.{AllFit, AreAllSpellings, texts_in};
 ghost use Rattle.pkcs1_tool.specs.Refused.{WantsMemory};
-ghost use Rattle.pkcs1_tool.specs.Answer.{HasNone};
+ghost use Rattle.pkcs1_params.specs.Meanings.{IsNoSentence};
 ghost use Rattle.pkcs1_tool.specs.Told.{any_told, identifier_told, plain_told, bracketed, mask_told, hash_fields_told, spelling_told, pss_answer, oaep_answer};
 
 use crate::digits::{put_field, put_hex, put_number};
@@ -40,7 +40,7 @@ pub trait Parameters<'a>: Encode + Drop + Sized {
     /// The parameters that the text means.
     fn read(text: &'a [u8]) -> Option<Self>
         ensures some { IfSome result (λ params. Means grammar text.now (meaning params)) }
-        ensures none { IfNone result (HasNone grammar text.now) };
+        ensures none { IfNone result (IsNoSentence grammar text.now) };
 
     /// Whether the text is the shortest of what it means.
     fn is_strict(text: &'a [u8]) -> bool
