@@ -39,11 +39,14 @@ pub enum Request {
 /// than those before.
 #[derive(Drop)]
 pub struct Texts {
+    /// The text of the first HEX part.
     pub first: Vec<u8>,
+    /// The text of the second HEX part.
     pub second: Vec<u8>,
 }
 
 impl Texts {
+    /// Empty texts, for which no memory is asked.
     pub fn new(alloc: Global) -> Texts {
         Texts {
             first: Vec::new(alloc),
