@@ -3,9 +3,8 @@
 # one request a run, until a run makes no more. A way of reading or writing then tells want of memory in place of its
 # answer, and every other way answers as the row says; or the row itself ends for want of memory, where its own texts
 # asked for it. Nothing else may come of a refused request. Left out are the rows that stand for many texts.
-# Printed: of each word, its rows, their requests, how many were told of, and how many ended the row.
-# By hand, behind rt run, some minutes; it needs gcc: refuse_memory.sh [WORD], the rows of that word alone. It ends with 1
-# where anything else comes of a request.
+# Called by .ci/run behind rt ci; it needs gcc. By hand: refuse_memory.sh [WORD], the rows of that word alone. It prints
+# what comes of a request otherwise, and ends with 1 then; the last line counts.
 set -u
 cd "$(dirname "$0")" || exit 1
 room=$(mktemp -d) || exit 1
@@ -17,19 +16,30 @@ trap 'rm -rf "$room"' EXIT
 "${CC:-gcc}" -shared -fPIC -O1 -Wall -Wextra -Werror -o "$room/refuse.so" ../pkcs1_tool/refuse_memory.c || exit 1
 
 grep "^${1:-[a-z0-9-]*} " stdin | grep -vE '^(changed|types|joined|priv-rooms|pub-filled)' > "$room/rows"
-while read -r row; do
-    echo "$row" > "$room/row"
-    echo "row $row"
-    for number in $(seq 1 9999); do
-        : > "$room/refused"
-        echo "request $number"
-        LD_PRELOAD=$room/refuse.so REFUSED=$number out/pkcs1_vectors < "$room/row" 2>&1 9> "$room/refused"
-        echo "status $?"
-        [ -s "$room/refused" ] || break
-    done
-done < "$room/rows" > "$room/output"
+lanes=$(nproc)
 
-awk '
+# lane NUMBER: each row of the lane, with what the program tells where its first request is refused, its second, and so on.
+lane() {
+    local row number
+    mkdir "$room/$1"
+    awk -v lanes="$lanes" -v lane="$1" 'NR % lanes == lane' "$room/rows" | while read -r row; do
+        echo "$row" > "$room/$1/row"
+        echo "row $row"
+        for ((number = 1; number < 10000; number++)); do
+            : > "$room/$1/refused"
+            echo "request $number"
+            LD_PRELOAD=$room/refuse.so REFUSED=$number out/pkcs1_vectors < "$room/$1/row" 2>&1 9> "$room/$1/refused"
+            echo "status $?"
+            [ -s "$room/$1/refused" ] || break
+        done
+    done > "$room/$1/output"
+}
+for ((number = 0; number < lanes; number++)); do
+    lane "$number" &
+done
+wait
+
+cat "$room"/*/output | awk '
 # Puts new in the place of each old in the text.
 function replaced(text, old, new,    at, done) {
     while (old != "" && (at = index(text, old)) > 0) {
@@ -54,36 +64,28 @@ function judge(is_last,    outcome) {
     if (number == 0) return
     outcome = judged()
     if (outcome == "wrong" || (outcome == "held") != is_last) {
-        print "request " number " of " asked ":" text
-        bad = 1
+        print "refuse_memory: request " number " of " asked ":" text
+        failed++
     }
-    count[word, outcome]++
-    count[word, "requests"] += !is_last
+    count[outcome]++
+    requests += !is_last
     number = 0
 }
 /^row / {
     judge(1)
+    rows++
     asked = substr($0, 5, index($0, " = ") - 5)
     want = substr($0, index($0, " = ") + 3)
     parts = split(asked, part, " ")
     given = tolower(part[parts])
     again = want ~ /again=/ ? substr(want, index(want, "again=") + 6) : ""
     front = want ~ /, / ? substr(want, 1, index(want, ", ") - 1) : ""
-    word = part[1]
-    if (!(word in rows)) words[++kinds] = word
-    rows[word]++
     next
 }
 /^request / { judge(0); number = $2; text = ""; next }
 { text = text "\n" $0 }
 END {
     judge(1)
-    for (k = 1; k <= kinds; k++) {
-        word = words[k]
-        print word ": " rows[word] " rows, " count[word, "requests"] " requests, told of " count[word, "told"] + 0 ", the row ended by " count[word, "ended"] + 0
-        all += rows[word]; requests += count[word, "requests"]; told += count[word, "told"]; ended += count[word, "ended"]
-    }
-    print all " rows, " requests " requests, told of " told ", the row ended by " ended
-    exit bad
-}
-' "$room/output"
+    print "refuse_memory: " rows " rows, " requests " requests, told of " count["told"] + 0 ", the row ended by " count["ended"] + 0 ", " failed + 0 " failed"
+    exit failed > 0 || requests == 0
+}'

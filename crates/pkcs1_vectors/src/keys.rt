@@ -6,8 +6,8 @@ use crate::told::{Refusal, Told};
 use crate::written::{contents, held, held_too, in_each_room, into_each, text_of, written};
 use der_core::{Decode, OctetStringRef, UintRef};
 use pkcs1::{
-    EncodeRsaPrivateKey, OtherPrimeInfos, RsaPrivateKeyOwned, RsaPrivateKeyRef, RsaPublicKey,
-    RsaPublicKeyOwned, RsaPublicKeyRef, Uint, Version,
+    EncodeRsaPrivateKey, OtherPrimeInfos, RsaPrivateKeyOwned, RsaPrivateKeyRef, RsaPrivateKeyView,
+    RsaPublicKey, RsaPublicKeyOwned, RsaPublicKeyRef, Uint, Version,
 };
 
 /// `version-new N`: the version of this number, its number, and whether it has other primes.
@@ -144,11 +144,26 @@ pub fn public_of_private(to: &mut Told, bytes: &[u8]) {
     }
 }
 
-/// `priv-debug HEX`: what `Debug` prints of the private key.
+/// `pub-error HEX`: what is printed of the error by which the text of a public key is refused.
+pub fn public_error(to: &mut Told, bytes: &[u8]) {
+    match RsaPublicKeyRef::try_from(bytes) {
+        Ok(_) => to.malformed(),
+        Err(error) => to.plain(error),
+    }
+}
+
+/// `priv-debug HEX`: what `Debug` prints of the private key and of its view.
 pub fn debug(to: &mut Told, bytes: &[u8]) {
-    match RsaPrivateKeyRef::decode_key(to.alloc(), bytes) {
-        Ok(key) => to.debug(&key),
-        Err(_) => to.malformed(),
+    match (
+        RsaPrivateKeyRef::decode_key(to.alloc(), bytes),
+        RsaPrivateKeyView::try_from(bytes),
+    ) {
+        (Ok(key), Ok(view)) => {
+            to.debug(&key);
+            to.text("; ");
+            to.debug(&view);
+        }
+        _ => to.malformed(),
     }
 }
 

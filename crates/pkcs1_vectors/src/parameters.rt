@@ -4,7 +4,7 @@ use crate::shown::Shown;
 use crate::told::{Refusal, Told};
 use crate::written::{held_too, text_of, written};
 use der_core::{Decode, Encode, EncodeValue, Sequence};
-use pkcs1::{RsaOaepParamsOwned, RsaOaepParamsRef, RsaPssParamsOwned, RsaPssParamsRef};
+use pkcs1::{Result, RsaOaepParamsOwned, RsaOaepParamsRef, RsaPssParamsOwned, RsaPssParamsRef};
 use spki_core::AssociatedOid;
 use std::alloc::Global;
 
@@ -66,26 +66,24 @@ pub fn oaep_default(to: &mut Told) {
     with_text(to, &RsaOaepParamsOwned::default_in(alloc));
 }
 
+/// Whether two texts have equal parameters, or why the first of them that is refused is so.
+fn same<T: PartialEq + Drop>(to: &mut Told, first: Result<T>, second: Result<T>) {
+    match (first, second) {
+        (Ok(one), Ok(other)) => to.yes_or_no(one == other),
+        (Err(error), _) | (Ok(_), Err(error)) => error.told(to),
+    }
+}
+
 /// `pss-same HEX HEX`: whether two texts have equal parameters.
 pub fn pss_same(to: &mut Told, first: &[u8], second: &[u8]) {
-    match (
-        RsaPssParamsRef::try_from(first),
-        RsaPssParamsRef::try_from(second),
-    ) {
-        (Ok(one), Ok(other)) => to.yes_or_no(one == other),
-        _ => to.malformed(),
-    }
+    let first = RsaPssParamsRef::try_from(first);
+    same(to, first, RsaPssParamsRef::try_from(second));
 }
 
 /// `oaep-same HEX HEX`: whether two texts have equal parameters.
 pub fn oaep_same(to: &mut Told, first: &[u8], second: &[u8]) {
-    match (
-        RsaOaepParamsRef::try_from(first),
-        RsaOaepParamsRef::try_from(second),
-    ) {
-        (Ok(one), Ok(other)) => to.yes_or_no(one == other),
-        _ => to.malformed(),
-    }
+    let first = RsaOaepParamsRef::try_from(first);
+    same(to, first, RsaOaepParamsRef::try_from(second));
 }
 
 /// How many bytes the text has, and the text.

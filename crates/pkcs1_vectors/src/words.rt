@@ -113,6 +113,7 @@ fn of_key_text(to: &mut Told, word: &str, bytes: &[u8]) -> bool {
     match word {
         "version" => borrowed::<Version>(to, bytes),
         "pub" => keys::public_key(to, bytes),
+        "pub-error" => keys::public_error(to, bytes),
         "priv" => keys::private_key(to, bytes),
         "priv-rooms" => keys::rooms(to, bytes),
         "priv-octets" => keys::from_octets(to, bytes),
