@@ -72,7 +72,7 @@ documents = ['README.md', *glob.glob('docs/*.md'), 'ffi/rust/README.md', *glob.g
 for document in documents:
     crate, head, fenced = '', [], False
     for number, line in enumerate(open(document), 1):
-        say = lambda what, name: wrong.append(f'{document}:{number}: there is no such {what}: {name}')
+        say = lambda what, name: wrong.append(f'{document}:{number}: no such {what}: {name}')
         fenced ^= line.startswith('```')
         if fenced or line.startswith(('    ', '- Rust crate only:')):
             continue
