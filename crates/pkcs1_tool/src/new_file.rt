@@ -16,6 +16,7 @@ pub struct NewFile<'a, Rt: Files> {
 }
 
 impl<'a, Rt: Files> NewFile<'a, Rt> {
+    /// The file at the path, which isn't touched yet.
     pub fn new(rt: &'a Rt, path: Path<'a>) -> Self {
         NewFile {
             rt,
