@@ -86,6 +86,6 @@ function judge(is_last,    outcome) {
 { text = text "\n" $0 }
 END {
     judge(1)
-    print "refuse_memory: " rows " rows, " requests " requests, told of " count["told"] + 0 ", the row ended by " count["ended"] + 0 ", " failed + 0 " failed"
+    print "refuse_memory: " rows + 0 " rows, " requests + 0 " requests, told of " count["told"] + 0 ", the row ended by " count["ended"] + 0 ", " failed + 0 " failed"
     exit failed > 0 || requests == 0
 }'
