@@ -2,7 +2,7 @@
 use Rattle.std.proofs.Common.{[], ◌∷◌, ap, length, refl, arith}
 use Rattle.der_core.specs.Texts.{AreBytes}
 use Rattle.der_core.specs.Document.{IsDocument}
-use Rattle.der_core.proofs.WrittenOut.{known_tlv, known_front, no_bytes_refused, other_tag_refused}
+use Rattle.der_core.specs.Laws.WrittenOut.{known_tlv, known_front, no_bytes_refused, other_tag_refused}
 
 empty_sequence : IsDocument (48 ∷ 0 ∷ [])
 empty_sequence = (omega arith, known_tlv 48 {P = AreBytes} [] tt (omega arith))

@@ -7,12 +7,12 @@ use Rattle.der_core.specs.Length.{limit}
 use Rattle.der_core.specs.Document.{Means, IsDocument}
 use Rattle.der_core.specs.Carrying.{GivesNone, StopsReading, FileFault}
 use Rattle.der_core.specs.Faults.{DocumentFault, Faulty}
-use Rattle.der_core.specs.FaultLaws.{document_fault_none}
+use Rattle.der_core.specs.Laws.Faults.{document_fault_none}
 use Rattle.der_core.specs.SourcesSinks.{GivesAll}
 use Rattle.der_core.specs.Reading.{Refuses, AllocatesIn, TellsOfBytes}
 use Rattle.der_core.specs.declared.error.ErrorKind.{ErrorKind}
-use Rattle.der_core.specs.TextLaws.{tlv_relates}
-use Rattle.der_core.proofs.Growing.{tlv_recast}
+use Rattle.der_core.specs.Laws.Texts.{tlv_relates}
+use Rattle.der_core.specs.Laws.Growing.{tlv_recast}
 
 -- A refusal of a SEQUENCE for which no memory is asked.
 pub no_document : (e : ErrorKind) (b : List ℕ) → Refuses e (AllocatesIn (Tlv 48 (λ _. ⊥)) b) ((v : Unit {0}) → Means (λ _. Tlv 48 AreBytes) b v → ⊥)

@@ -7,7 +7,7 @@ use Rattle.der_core.specs.declared.error.ErrorKind.{ErrorKind}
 use Rattle.der_core.specs.declared.error.ErrorKind.TheVariants as kind
 use Rattle.der_core.specs.IntegerReading.{integer_of}
 use Rattle.der_core.specs.Tags.{integer}
-use Rattle.der_core.specs.TagLaws.{same_tag}
+use Rattle.der_core.specs.Laws.Tags.{same_tag}
 
 pub is_empty : (xs : List ℕ) (k : ErrorKind) (t : Tag) → length xs < 1 → k ≡ kind.Length t → t.octet ≡ 2 → integer_of xs ≡ Err k
 is_empty [] k t n e o = ap (λ x. Err x) (sym (e ∙ ap kind.Length (same_tag t integer o)))

@@ -1,7 +1,7 @@
 -- Length octets at worked examples.
 use Rattle.std.proofs.Common.{ℕ, List, [], ◌∷◌, refl, arith}
 use Rattle.der_core.specs.Length.{IsLength, short}
-use Rattle.der_core.proofs.WrittenOut.{known_long, no_octets_refused, long_form, other_count_refused, needless_long_form_refused, needless_octet_refused}
+use Rattle.der_core.specs.Laws.WrittenOut.{known_long, no_octets_refused, long_form, other_count_refused, needless_long_form_refused, needless_octet_refused}
 
 -- 7f
 length_127 : IsLength 127 (0x7f ∷ [])

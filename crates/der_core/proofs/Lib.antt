@@ -1,16 +1,7 @@
-pub mod HeaderAndContents
-pub mod Members
-pub mod Growing
 pub mod IntegerFaults
-pub mod IntegerLengths
-pub mod Refusals
 pub mod EncodeToSlice
-pub mod WrittenOut
 pub mod LengthOctets
 pub mod LengthRows
 pub mod IntegerRows
-pub mod Items
-pub mod SourceMoves
 pub mod Documents
-pub mod ContentsReads
 pub mod DocumentRows

@@ -1,6 +1,6 @@
 -- The octets that a borrowed OCTET STRING holds.
 use Rattle.std.specs.Prelude.{ℕ, List, ◌≤◌, length}
-use Rattle.der_core.specs.InputLaws.{are_bytes}
+use Rattle.der_core.specs.Laws.Input.{are_bytes}
 use Rattle.der_core.specs.Length.{limit}
 use Rattle.der_core.specs.Texts.{AreBytes}
 use Rattle.der_core.specs.declared.octet_string.OctetStringRef.{OctetStringRef}

@@ -3,7 +3,7 @@ use Rattle.std.specs.Prelude.{Some, None, ◌≤◌, if◌then◌else◌, length
 use Rattle.der_core.specs.Length.{limit}
 use Rattle.der_core.specs.Texts.{AreBytes}
 use Rattle.der_core.specs.Input.{Input, left_in}
-use Rattle.der_core.specs.InputLaws.{left_bounded, left_bytes}
+use Rattle.der_core.specs.Laws.Input.{left_bounded, left_bytes}
 use Rattle.der_core.specs.declared.slice_reader.SliceReader.{SliceReader}
 
 abbrev pub left_of : SliceReader → Input

@@ -3,7 +3,7 @@ ghost use Rattle.std.specs.Prelude.{◌≡◌, ℕ, List, IfErr, IsErrAnd};
 ghost use Rattle.der_core.specs.Tlv.{Tlv};
 ghost use Rattle.der_core.specs.Reading.{ReadsOrFaults, ReadsText, ReadsAll, ReadsOptional, HoldsBytes, TellsNext, NoneHas, NoneIn, AllocatesIn};
 ghost use Rattle.der_core.specs.Faults.{TextFault, TaggedFault, WholeFault, Faulty, FaultyFront, OnlyFront, AreNone, AreFirst};
-ghost use Rattle.der_core.specs.FaultLaws.{text_fault_none, text_fault_first};
+ghost use Rattle.der_core.specs.Laws.Faults.{text_fault_none, text_fault_first};
 ghost use Rattle.der_core.specs.declared.error.ErrorKind.{ErrorKind};
 
 use crate::error::{ErrorKind, Result};

@@ -2,10 +2,10 @@
 ghost use Rattle.std.specs.Prelude.{◌≡◌, ◌≢◌, ◌≤◌, ◌⊎◌, ℕ, List, [], Some, length, refl, ⊤, IfOk, IfErr, IsErrAnd};
 ghost use Rattle.der_core.specs.Carrying.{ReadsDocument, StopsCarrying, FileFault, WritesAll};
 ghost use Rattle.der_core.specs.Document.{IsDocument};
-ghost use Rattle.der_core.specs.DocumentLaws.{IsDocument-prop};
+ghost use Rattle.der_core.specs.Laws.Document.{IsDocument-prop};
 ghost use Rattle.der_core.specs.Length.{limit};
 ghost use Rattle.der_core.specs.Faults.{NoFault, DocumentFault, Faulty};
-ghost use Rattle.der_core.specs.FaultLaws.{no_fault_none, no_fault_first};
+ghost use Rattle.der_core.specs.Laws.Faults.{no_fault_none, no_fault_first};
 ghost use Rattle.der_core.specs.Reading.{Refuses};
 ghost use Rattle.der_core.specs.Refusal.{IsFile};
 ghost use Rattle.der_core.specs.Texts.{AreBytes};

@@ -163,7 +163,7 @@ impl<T: EncodeValue + FixedTag> Encode for T {
         });
     }
 
-    ghost use Rattle.der_core.specs.TextLaws.{tlv_relates, tlv_shortest};
+    ghost use Rattle.der_core.specs.Laws.Texts.{tlv_relates, tlv_shortest};
 
     ghost text_relates = { λ v has. tlv_relates T.TAG.octet T.contents T.written_contents v (T.contents_relate v has) };
 

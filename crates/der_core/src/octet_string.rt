@@ -3,8 +3,8 @@ ghost use Rattle.std.specs.Prelude.{◌≡◌, ◌≤◌, ◌<◌, ◌↔◌, �
 ghost use Rattle.der_core.specs.Length.{limit};
 ghost use Rattle.der_core.specs.OctetString.{OctetContents};
 ghost use Rattle.der_core.specs.Faults.{NoFault};
-ghost use Rattle.der_core.specs.FaultLaws.{no_fault_none, no_fault_first};
-ghost use Rattle.der_core.specs.OctetStringLaws.{octets_mean_one, octets_of_bytes, octets_relate, octets_shortest};
+ghost use Rattle.der_core.specs.Laws.Faults.{no_fault_none, no_fault_first};
+ghost use Rattle.der_core.specs.Laws.OctetString.{octets_mean_one, octets_of_bytes, octets_relate, octets_shortest};
 ghost use Rattle.der_core.specs.Tags.{octet_string};
 ghost use Rattle.der_core.specs.Texts.{AreBytes};
 
@@ -97,7 +97,7 @@ impl TaggedBy for OctetStringRef<'_> {
 }
 
 impl EqualByValue for OctetStringRef<'_> {
-    ghost use Rattle.der_core.specs.EqualityLaws.{bytes_decide};
+    ghost use Rattle.der_core.specs.Laws.Equality.{bytes_decide};
 
     ghost decides = { λ a b. bytes_decide a.bytes.now b.bytes.now };
 }

@@ -3,11 +3,11 @@ ghost use Rattle.std.specs.Prelude.{◌≡◌, ◌≤◌, ◌<◌, List, length,
 ghost use Rattle.der_core.specs.Length.{limit};
 ghost use Rattle.der_core.specs.BackWriters.{free_of, Prepends};
 ghost use Rattle.der_core.specs.Faults.{ItemsFault};
-ghost use Rattle.der_core.specs.FaultLaws.{items_fault_none, items_fault_first};
+ghost use Rattle.der_core.specs.Laws.Faults.{items_fault_none, items_fault_first};
 ghost use Rattle.der_core.specs.Writing.{Counts, Appends};
-ghost use Rattle.der_core.specs.SequenceOfLaws.{items_of_bytes, items_relate, items_shortest};
+ghost use Rattle.der_core.specs.Laws.SequenceOf.{items_of_bytes, items_relate, items_shortest};
 ghost use Rattle.der_core.specs.SequenceOf.{ItemsContents, AllHave, all_texts};
-ghost use Rattle.der_core.specs.TextLaws.{joins_map};
+ghost use Rattle.der_core.specs.Laws.Texts.{joins_map};
 
 use crate::back_writer::BackWriter;
 use crate::decode::{Decode, DecodeValue};

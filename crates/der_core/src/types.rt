@@ -4,7 +4,7 @@
 ghost use Rattle.std.specs.Prelude.{◌≡◌, ℕ, List};
 ghost use Rattle.der_core.specs.Texts.{MeansOne, IsDelimited, IsOfBytes};
 ghost use Rattle.der_core.specs.Tlv.{Tlv, tlv};
-ghost use Rattle.der_core.specs.TextLaws.{tlv_delimited, tlv_of_bytes};
+ghost use Rattle.der_core.specs.Laws.Texts.{tlv_delimited, tlv_of_bytes};
 ghost use Rattle.der_core.specs.Tags.{integer, sequence};
 ghost use Rattle.der_core.specs.declared.tag.Tag.{Tag};
 ghost use Rattle.std.specs.Bool.{Decides};

@@ -7,8 +7,8 @@ use Rattle.der_core.specs.Headers.{HeaderText}
 use Rattle.der_core.specs.Input.{header_at, length_at}
 use Rattle.der_core.specs.Length.{short}
 use Rattle.der_core.specs.Tags.{integer, sequence}
-use Rattle.der_core.specs.TextLaws.{then_holds, last_holds}
-use Rattle.der_core.proofs.WrittenOut.{known_tlv, integer_byte}
+use Rattle.der_core.specs.Laws.Texts.{then_holds, last_holds}
+use Rattle.der_core.specs.Laws.WrittenOut.{known_tlv, integer_byte}
 use Rattle.pkcs1.specs.KeyFaults.{RsaPublicKeyFault, RsaPrivateKeyFault}
 
 -- headers of fewer than 128 bytes

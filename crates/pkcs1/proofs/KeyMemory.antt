@@ -3,19 +3,19 @@ use Rattle.std.proofs.Common.{ℕ, List, [], ◌∷◌, ◌++◌, ◌≡◌, len
 use Rattle.std.specs.Prelude.{refl}
 use Rattle.der_core.specs.Tlv.{Tlv}
 use Rattle.der_core.specs.Texts.{Joins, IsDelimited}
-use Rattle.der_core.specs.ListLaws.{same_fronts}
-use Rattle.der_core.specs.TextLaws.{tlv_split, tlv_not_empty}
+use Rattle.der_core.specs.Laws.Lists.{same_fronts}
+use Rattle.der_core.specs.Laws.Texts.{tlv_split, tlv_not_empty}
 use Rattle.der_core.specs.Document.{Means}
 use Rattle.der_core.specs.Faults.{Faulty}
 use Rattle.der_core.specs.Integer.{Integer}
-use Rattle.der_core.specs.IntegerLaws.{small_delimited}
+use Rattle.der_core.specs.Laws.Integer.{small_delimited}
 use Rattle.der_core.specs.Reading.{AllocatesIn, AllocatesWithin, Refuses}
 use Rattle.der_core.specs.declared.error.ErrorKind.{ErrorKind}
 use Rattle.pkcs1.specs.Allocating.{BeginsSequence, OthersFollow, AllocatesForKey, MayAllocate}
 use Rattle.pkcs1.specs.Keys.{OtherPrime, OtherPrimeInfos, version_of, PrivateKey, PrivateKeyContents}
 use Rattle.pkcs1.specs.Writing.{key_numbers}
 use Rattle.pkcs1.proofs.NumberReads.{as_many}
-use Rattle.der_core.specs.TextLaws.{joins_last}
+use Rattle.der_core.specs.Laws.Texts.{joins_last}
 
 module _ {V : Type 0} {text : V → List ℕ → Type 0} (d : IsDelimited text) (key : PrivateKey V) (two : key.other_prime_infos ≡ None) where
   none_follow : (others : Option (List (OtherPrime V))) (rest : List ℕ) → others ≡ None → OtherPrimeInfos text others rest → BeginsSequence rest → ⊥

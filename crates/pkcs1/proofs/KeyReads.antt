@@ -2,12 +2,12 @@
 use Rattle.std.proofs.Common.{◌≡◌, ℕ, ◌<◌, List, [], ◌∷◌, ◌++◌, map, refl, sym, ap, ◌∙◌, append_assoc, inl, inr, ⊎_elim, Some, None}
 use Rattle.der_core.specs.Tlv.{Tlv}
 use Rattle.der_core.specs.Texts.{Joins, IsDelimited}
-use Rattle.der_core.specs.TextLaws.{last_holds}
+use Rattle.der_core.specs.Laws.Texts.{last_holds}
 use Rattle.der_core.specs.Integer.{Small}
 use Rattle.der_core.specs.declared.error.ErrorKind.{ErrorKind}
 use Rattle.der_core.specs.Input.{Input}
 use Rattle.der_core.specs.Reading.{AllocatesIn, AllocatesWithin}
-use Rattle.der_core.specs.Sequences.{some_same, TextGives}
+use Rattle.der_core.specs.Laws.Sequences.{some_same, TextGives}
 use Rattle.der_core.specs.Faults.{TextFault, Faulty, FaultyFront, FaultyWhole}
 use Rattle.der_core.specs.Tags.{integer}
 use Rattle.pkcs1.specs.KeyFaults.{VersionFault, CountedFault, OthersFault, PrivateKeyFault}
@@ -15,7 +15,7 @@ use Rattle.pkcs1.specs.Allocating.{AllocatesInKey}
 use Rattle.pkcs1.specs.KeyNumbers.{EightNumbers}
 use Rattle.pkcs1.specs.Keys.{OtherPrimeInfos, version_of, PrivateKey, PrivateKeyContents}
 use Rattle.pkcs1.specs.Writing.{key_numbers}
-use Rattle.pkcs1.specs.PrivateKeyLaws.{joins_put}
+use Rattle.pkcs1.specs.Laws.PrivateKey.{joins_put}
 use Rattle.pkcs1.specs.Versions.{VersionContents}
 
 abbrev VersionText : ℕ → List ℕ → Type 0

@@ -12,9 +12,9 @@ use Rattle.der_core.specs.declared.back_writer.BackWriter.{BackWriter}
 use Rattle.der_core.specs.Writing.{Counts, IsUncounted, Appends, joined, encode_refusal}
 use Rattle.der_core.specs.Document.{EncodeRefusal, no_text, too_long, no_room, another}
 use Rattle.der_core.specs.declared.error.Error.{Error}
-use Rattle.der_core.proofs.Items.{texts_map, have_map}
-use Rattle.der_core.specs.Counting.{counts_joined}
-use Rattle.der_core.specs.StoppedWriting.{appends_as, appends_in_front, appends_behind}
+use Rattle.der_core.specs.Laws.Items.{texts_map, have_map}
+use Rattle.der_core.specs.Laws.Counting.{counts_joined}
+use Rattle.der_core.specs.Laws.StoppedWriting.{appends_as, appends_in_front, appends_behind}
 use Rattle.der_core.specs.Length.{limit}
 use Rattle.pkcs1.specs.declared.private_key.other_prime_info.OtherPrimeInfo as declared
 use Rattle.pkcs1.specs.declared.version.Version.{Version}

@@ -8,7 +8,7 @@ use Rattle.der_core.specs.Integer.{Integer}
 use Rattle.der_core.specs.Length.{short}
 use Rattle.der_core.specs.Tags.{integer, sequence}
 use Rattle.der_core.specs.Tlv.{Tlv}
-use Rattle.der_core.proofs.WrittenOut.{known_tlv, small_byte}
+use Rattle.der_core.specs.Laws.WrittenOut.{known_tlv, small_byte}
 use Rattle.pkcs1.specs.KeyFaults.{OthersFault, NumberFault, RsaPrivateKeyFault}
 use Rattle.pkcs1.specs.Versions.{VersionContents}
 use Rattle.pkcs1.proofs.PrivateKeyRows.{bytes_of, bytes_join, eight, eight_join, other_bytes, other, other_text}

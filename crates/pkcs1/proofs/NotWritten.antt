@@ -4,9 +4,9 @@ use Rattle.std.specs.Prelude.{IfOk, IfErr}
 use Rattle.der_core.specs.Document.{HasText, IsShortest, IsUncountable, EncodeRefusal, no_text, too_long, no_room, another}
 use Rattle.der_core.specs.DocumentValue.{text_of}
 use Rattle.der_core.specs.Integer.{Integer, IsCanonical, integer_contents, IntegerContents}
-use Rattle.der_core.specs.IntegerLaws.{integer_relates}
+use Rattle.der_core.specs.Laws.Integer.{integer_relates}
 use Rattle.der_core.specs.Length.{limit}
-use Rattle.der_core.specs.TextLaws.{tlv_relates}
+use Rattle.der_core.specs.Laws.Texts.{tlv_relates}
 use Rattle.der_core.specs.Tlv.{tlv}
 use Rattle.der_core.specs.Writing.{IsUncounted, LacksMemory, encode_refusal}
 use Rattle.der_core.specs.declared.document.DocumentOf.{DocumentOf}
@@ -17,12 +17,12 @@ use Rattle.pkcs1_params.specs.declared.error.Error.TheVariants as error
 use Rattle.pkcs1.specs.Keys.{PublicKey, PublicKeyContents, RsaPublicKey, PrivateKey, RsaPrivateKey}
 use Rattle.pkcs1.specs.KeyTexts.{IsOnlyText, IsUnwritten}
 use Rattle.pkcs1.specs.PrivateKeyValue.{Listed, private_key_with}
-use Rattle.pkcs1.specs.PublicKeyLaws.{public_key_relates}
+use Rattle.pkcs1.specs.Laws.PublicKey.{public_key_relates}
 use Rattle.pkcs1_params.specs.Refusals.{IsAsn1}
 use Rattle.pkcs1.specs.Writing.{HasPublicKey, HasPrivateKey, written_public_key}
-use Rattle.pkcs1.proofs.HeldKeys.{held_has_text}
-use Rattle.pkcs1.proofs.KeyTexts.{only_text}
-use Rattle.pkcs1.proofs.PrivateKeys.{IsHeld, private_delimited, private_at_most_one}
+use Rattle.pkcs1.specs.Laws.HeldKeys.{held_has_text}
+use Rattle.pkcs1.specs.Laws.KeyTexts.{only_text}
+use Rattle.pkcs1.specs.Laws.PrivateKeys.{IsHeld, private_delimited, private_at_most_one}
 
 module _ {V : Type 0} (Grammar : V → List ℕ → Type 0) (v : V) {has some : Type 0} (has_some : has → some) where
   uncounted_by : (k : EncodeRefusal) → IsUncountable has Grammar v k → IsUncountable some Grammar v k

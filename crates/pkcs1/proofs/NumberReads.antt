@@ -2,16 +2,16 @@
 use Rattle.std.proofs.Common.{◌≡◌, ℕ, ◌<◌, List, [], ◌∷◌, ◌++◌, length, map, refl, sym, ap, ◌∙◌, arith, append_assoc, append-nil, inl, inr, ⊎_elim, Some, None, Err}
 use Rattle.std.proofs.lemmas.List.{map-append}
 use Rattle.der_core.specs.Texts.{Joins, IsDelimited}
-use Rattle.der_core.specs.ListLaws.{same_fronts, cons_path}
+use Rattle.der_core.specs.Laws.Lists.{same_fronts, cons_path}
 use Rattle.der_core.specs.declared.error.ErrorKind.{ErrorKind}
 use Rattle.der_core.specs.Input.{Input, read_from, end_of}
 use Rattle.der_core.specs.Reading.{Refuses, NoneIn, AllocatesIn, AllocatesWithin}
-use Rattle.der_core.specs.TextLaws.{last_holds}
+use Rattle.der_core.specs.Laws.Texts.{last_holds}
 use Rattle.der_core.specs.Faults.{Faulty, FaultyFront}
 use Rattle.pkcs1.specs.KeyFaults.{CountedFault, OtherPrimeFault}
-use Rattle.der_core.specs.Sequences.{some_same, TextFails, TextGives, ContentsFaulty, more_than_end}
+use Rattle.der_core.specs.Laws.Sequences.{some_same, TextFails, TextGives, ContentsFaulty, more_than_end}
 use Rattle.pkcs1.specs.KeyNumbers.{EightNumbers}
-use Rattle.pkcs1.specs.PrivateKeyLaws.{joins_put}
+use Rattle.pkcs1.specs.Laws.PrivateKey.{joins_put}
 
 -- These values were read.
 pub record GivesAll {V : Type 0} (text : V → List ℕ → Type 0) (vs : List V) (before after : Input) : Type 0 where

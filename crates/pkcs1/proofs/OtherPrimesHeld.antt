@@ -4,28 +4,28 @@ use Rattle.std.proofs.lemmas.List.{length-map}
 use Rattle.der_core.specs.Faults.{ItemsFault}
 use Rattle.pkcs1.specs.KeyFaults.{OneOtherFault}
 use Rattle.der_core.specs.SequenceOf.{ItemsContents}
-use Rattle.der_core.specs.TextLaws.{tlv_not_empty}
+use Rattle.der_core.specs.Laws.Texts.{tlv_not_empty}
 use Rattle.der_core.specs.UintRefValue.{bytes_of}
 use Rattle.der_core.specs.declared.integer.uint.UintRef.{UintRef}
 use Rattle.der_core.specs.declared.error.ErrorKind.{ErrorKind}
-use Rattle.der_core.specs.Sequences.{some_same}
+use Rattle.der_core.specs.Laws.Sequences.{some_same}
 use Rattle.der_core.specs.Input.{front_of}
-use Rattle.der_core.proofs.ContentsReads.{empty_is}
+use Rattle.der_core.specs.Laws.ContentsReads.{empty_is}
 use Rattle.std.specs.Prelude.{nat_lt}
 use Rattle.std.proofs.lemmas.Bool.Decides.{nat_tests}
-use Rattle.der_core.specs.ItemReads.{items_refused, items_more}
+use Rattle.der_core.specs.Laws.ItemReads.{items_refused, items_more}
 use Rattle.pkcs1.specs.declared.private_key.other_prime_info.OtherPrimeInfo as declared
 use Rattle.pkcs1.specs.PrivateKeyValue.{other_of}
 use Rattle.std.proofs.Math.Logic.{∥∥₁_elim}
 use Prim.{IsSet, ∥◌∥₁, ∣◌∣₁, squash₁}
 use denote.Struct.Props.{props}
 use Rattle.der_core.specs.Texts.{Then, Joins}
-use Rattle.der_core.specs.ListLaws.{same_fronts}
+use Rattle.der_core.specs.Laws.Lists.{same_fronts}
 use Rattle.der_core.specs.Integer.{Integer}
-use Rattle.der_core.specs.IntegerLaws.{integer_delimited}
+use Rattle.der_core.specs.Laws.Integer.{integer_delimited}
 use Rattle.der_core.specs.Reading.{NoneIn, TellsOfBytes}
 use Rattle.pkcs1.specs.Keys.{OtherPrime, OtherPrimeInfo}
-use Rattle.pkcs1.specs.PrivateKeyLaws.{other_delimited}
+use Rattle.pkcs1.specs.Laws.PrivateKey.{other_delimited}
 use Rattle.pkcs1.specs.OtherPrimesHeld.{HoldsOthers, one_list}
 use Rattle.pkcs1.specs.OtherPrimesLeft.{others_left, others_left-is}
 use Rattle.pkcs1.specs.declared.other_primes.OtherPrimes.{OtherPrimes}

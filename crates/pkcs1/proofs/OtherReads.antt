@@ -4,7 +4,7 @@ use Rattle.std.specs.Prelude.{slice_get, not}
 use mathlib.Core.Bool.{beq}
 use Rattle.der_core.specs.Tlv.{Tlv}
 use Rattle.der_core.specs.Texts.{IsDelimited}
-use Rattle.der_core.specs.TextLaws.{tlv_split, tlv_not_empty, joins_map}
+use Rattle.der_core.specs.Laws.Texts.{tlv_split, tlv_not_empty, joins_map}
 use Rattle.der_core.specs.SequenceOf.{ItemsContents}
 use Rattle.der_core.specs.declared.error.Error.{Error}
 use Rattle.der_core.specs.declared.error.ErrorKind.{ErrorKind}
@@ -15,12 +15,12 @@ use Rattle.der_core.specs.declared.error.ErrorKind.TheVariants as kind
 use Rattle.der_core.specs.Faults.{TextFault, ItemsFault, FaultyFront, FaultyWhole}
 use Rattle.der_core.specs.Tags.{integer, sequence}
 use Rattle.pkcs1.specs.KeyFaults.{OtherPrimeFault, OthersFault}
-use Rattle.der_core.specs.Sequences.{some_same, end_gives, more_than_end}
-use Rattle.der_core.specs.Tells.{is_trailing}
+use Rattle.der_core.specs.Laws.Sequences.{some_same, end_gives, more_than_end}
+use Rattle.der_core.specs.Laws.Tells.{is_trailing}
 use Rattle.pkcs1.specs.declared.version.Version.{Version}
 use Rattle.pkcs1.specs.declared.version.Version.TheVariants.{TwoPrime, Multi}
 use Rattle.pkcs1.specs.Keys.{OtherPrime, OtherPrimeInfo, OtherPrimeInfos, version_of}
-use Rattle.pkcs1.specs.PrivateKeyLaws.{other_delimited}
+use Rattle.pkcs1.specs.Laws.PrivateKey.{other_delimited}
 use Rattle.std.specs.Option.{option_map}
 use Rattle.pkcs1.specs.Versions.{number_of}
 

@@ -1,17 +1,17 @@
 -- Private keys written out, with numbers of one byte: which texts are one, and which are none.
 use Rattle.std.proofs.Common.{ℕ, List, [], ◌∷◌, ◌++◌, ◌≡◌, ◌<◌, length, map, refl, sym, ap, arith, length-append, Option, Some, None}
 use Rattle.der_core.specs.Texts.{Joins}
-use Rattle.der_core.specs.ListLaws.{same_fronts}
-use Rattle.der_core.specs.TextLaws.{tlv_not_empty}
+use Rattle.der_core.specs.Laws.Lists.{same_fronts}
+use Rattle.der_core.specs.Laws.Texts.{tlv_not_empty}
 use Rattle.der_core.specs.Integer.{Integer}
-use Rattle.der_core.specs.IntegerLaws.{integer_delimited, small_delimited}
+use Rattle.der_core.specs.Laws.Integer.{integer_delimited, small_delimited}
 use Rattle.der_core.specs.SequenceOf.{ItemsContents, AllHave}
-use Rattle.der_core.proofs.WrittenOut.{known_tlv, known_whole, integer_byte, small_byte}
+use Rattle.der_core.specs.Laws.WrittenOut.{known_tlv, known_whole, integer_byte, small_byte}
 use Rattle.pkcs1.specs.Keys.{OtherPrime, OtherPrimeInfo, OtherPrimeInfos, version_of, PrivateKey, PrivateKeyContents, RsaPrivateKey}
 use Rattle.pkcs1.specs.Writing.{key_numbers}
-use Rattle.pkcs1.specs.PrivateKeyLaws.{joins_take, joins_put, version_small}
+use Rattle.pkcs1.specs.Laws.PrivateKey.{joins_take, joins_put, version_small}
 use Rattle.pkcs1.proofs.NumberReads.{as_many}
-use Rattle.der_core.specs.TextLaws.{joins_last}
+use Rattle.der_core.specs.Laws.Texts.{joins_last}
 
 -- INTEGERs of one byte, one after another.
 abbrev pub bytes_of : List ℕ → List ℕ

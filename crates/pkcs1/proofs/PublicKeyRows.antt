@@ -5,8 +5,8 @@ use Rattle.der_core.specs.Document.{Means}
 use Rattle.der_core.specs.Input.{header_at, length_at}
 use Rattle.der_core.specs.Integer.{Integer, IntegerContents}
 use Rattle.der_core.specs.Texts.{AreBytes, Joins}
-use Rattle.der_core.specs.TextLaws.{then_holds, last_holds}
-use Rattle.der_core.proofs.WrittenOut.{known_long, known_tlv, known_front, known_whole, integer_byte, refused_header, counted_header, no_bytes_refused, no_part_refused, other_tag_refused, no_contents_refused, negative_refused, needless_zero_refused}
+use Rattle.der_core.specs.Laws.Texts.{then_holds, last_holds}
+use Rattle.der_core.specs.Laws.WrittenOut.{known_long, known_tlv, known_front, known_whole, integer_byte, refused_header, counted_header, no_bytes_refused, no_part_refused, other_tag_refused, no_contents_refused, negative_refused, needless_zero_refused}
 use Rattle.pkcs1.specs.Keys.{PublicKey, RsaPublicKey}
 
 -- A text of these two numbers.

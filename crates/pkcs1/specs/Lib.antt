@@ -7,12 +7,9 @@ pub mod KeyNumbers
 pub mod KeyTexts
 pub mod PublicKeyValue
 pub mod PrivateKeyValue
-pub mod PublicKeyLaws
-pub mod PrivateKeyLaws
-pub mod VersionLaws
 pub mod OtherPrimesHeld
 pub mod OtherPrimesLeft
 pub mod ViewParts
 pub mod Exclusion
 pub mod KeyFaults
-pub mod KeyFaultLaws
+pub mod Laws

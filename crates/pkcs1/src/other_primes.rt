@@ -5,11 +5,11 @@ ghost use Rattle.std.specs.Iterator.SizeHint.{IsWithinCount};
 ghost use Rattle.der_core.specs.Tag.{integer_tag, sequence_tag};
 ghost use Rattle.der_core.specs.Length.{limit};
 ghost use Rattle.der_core.specs.Integer.{Integer, IsCanonical, integer_contents};
-ghost use Rattle.der_core.specs.IntegerLaws.{integer_delimited};
-ghost use Rattle.der_core.specs.TextLaws.{joins_map};
+ghost use Rattle.der_core.specs.Laws.Integer.{integer_delimited};
+ghost use Rattle.der_core.specs.Laws.Texts.{joins_map};
 ghost use Rattle.der_core.specs.Tlv.{tlv};
 ghost use Rattle.pkcs1.specs.Writing.{HasOther, written_other};
-ghost use Rattle.pkcs1.specs.PrivateKeyLaws.{other_delimited};
+ghost use Rattle.pkcs1.specs.Laws.PrivateKey.{other_delimited};
 ghost use Rattle.der_core.specs.Faults.{ItemsFault};
 ghost use Rattle.der_core.specs.Reading.{NoneIn, TellsOfBytes};
 ghost use Rattle.pkcs1.specs.KeyFaults.{OneOtherFault};
@@ -136,7 +136,7 @@ impl TaggedBy for OtherPrimes<'_> {
 }
 
 impl<'a, M: Memory> DecodeValue<&'a [u8], M> for OtherPrimes<'a> {
-    ghost use Rattle.pkcs1.specs.KeyFaultLaws.{listed_fault_none, listed_fault_first};
+    ghost use Rattle.pkcs1.specs.Laws.KeyFaults.{listed_fault_none, listed_fault_first};
 
     ghost may_allocate = { λ _. ⊥ };
 

@@ -5,7 +5,7 @@ ghost use Rattle.der_core.specs.Writing.{Counts, Appends};
 ghost use Rattle.pkcs1.specs.Allocating.{AllocatesForKey};
 ghost use Rattle.pkcs1.specs.Keys.{PrivateKey, PrivateKeyContents};
 ghost use Rattle.pkcs1.specs.Writing.{HasPrivateKey, written_private_key, key_numbers};
-ghost use Rattle.pkcs1.specs.PrivateKeyLaws.{private_means_one, private_of_bytes, private_relates, private_shortest};
+ghost use Rattle.pkcs1.specs.Laws.PrivateKey.{private_means_one, private_of_bytes, private_relates, private_shortest};
 ghost use Rattle.pkcs1.specs.PublicKeyValue.{public_key_of};
 ghost use Rattle.pkcs1.specs.PrivateKeyValue.{private_key_with, public_in, ListsNone};
 
@@ -163,7 +163,7 @@ impl<'a, U, O> Sequence<'a> for PrivateKeyOf<U, O> {
 
 impl<'a, U: Decode<&'a [u8], Global>> DecodeValue<&'a [u8], Global> for RsaPrivateKey<U> {
     ghost use Rattle.pkcs1.specs.KeyFaults.{PrivateKeyFault};
-    ghost use Rattle.pkcs1.specs.KeyFaultLaws.{private_key_fault_none, private_key_fault_first};
+    ghost use Rattle.pkcs1.specs.Laws.KeyFaults.{private_key_fault_none, private_key_fault_first};
 
     ghost may_allocate = { AllocatesForKey U.text U.Decode.may_allocate };
 

@@ -3,10 +3,10 @@ ghost use Rattle.std.specs.Prelude.{refl};
 ghost use Rattle.der_core.specs.Reading.{AllocatesWithin};
 ghost use Rattle.pkcs1.specs.Keys.{PublicKey, PublicKeyContents};
 ghost use Rattle.pkcs1.specs.KeyFaults.{PublicKeyFault};
-ghost use Rattle.pkcs1.specs.KeyFaultLaws.{public_key_fault_none, public_key_fault_first};
+ghost use Rattle.pkcs1.specs.Laws.KeyFaults.{public_key_fault_none, public_key_fault_first};
 ghost use Rattle.pkcs1.specs.Writing.{HasPublicKey, written_public_key};
 ghost use Rattle.pkcs1.specs.PublicKeyValue.{public_key_with, public_key_of};
-ghost use Rattle.pkcs1.specs.PublicKeyLaws.{public_key_means_one, public_key_of_bytes, public_key_relates, public_key_shortest};
+ghost use Rattle.pkcs1.specs.Laws.PublicKey.{public_key_means_one, public_key_of_bytes, public_key_relates, public_key_shortest};
 
 use der_core::{
     AsUintRef, BackWriter, Contents, Decode, DecodeValue, Encode, EncodeValue, EqualByValue,
@@ -112,7 +112,7 @@ impl<U: Encode> EncodeValue for RsaPublicKey<U> {
 }
 
 impl<U: EqualByValue> EqualByValue for RsaPublicKey<U> {
-    ghost use Rattle.pkcs1.specs.PublicKeyLaws.{public_key_decides};
+    ghost use Rattle.pkcs1.specs.Laws.PublicKey.{public_key_decides};
 
     ghost decides = { λ a b.
         public_key_decides U.value U.eq U.decides a.modulus b.modulus a.public_exponent b.public_exponent };

@@ -8,7 +8,7 @@ ghost use Rattle.der_core.specs.Integer.{integer_contents};
 ghost use Rattle.der_core.specs.IntegerReading.{Answers};
 ghost use Rattle.der_core.specs.Reading.{ReadsContents, HoldsBytes};
 ghost use Rattle.pkcs1.specs.Versions.{number_of, IsVersionOf, VersionContents, version_at};
-ghost use Rattle.pkcs1.specs.VersionLaws.{version_means_one, version_of_bytes, version_relates, version_shortest};
+ghost use Rattle.pkcs1.specs.Laws.Versions.{version_means_one, version_of_bytes, version_relates, version_shortest};
 
 use der_core::{
     BackWriter, Contents, DecodeValue, EncodeValue, ErrorKind, Header, IntegerTag, Length, Memory,
@@ -127,7 +127,7 @@ impl TaggedBy for Version {
 impl<'a, M: Memory> DecodeValue<&'a [u8], M> for Version {
     ghost use Rattle.der_core.specs.Reading.{ReadsOrFaults};
     ghost use Rattle.pkcs1.specs.KeyFaults.{VersionFault};
-    ghost use Rattle.pkcs1.specs.KeyFaultLaws.{version_fault_none, version_fault_first};
+    ghost use Rattle.pkcs1.specs.Laws.KeyFaults.{version_fault_none, version_fault_first};
 
     ghost may_allocate = { λ _. ⊥ };
 

@@ -3,7 +3,7 @@ ghost use Rattle.std.specs.Prelude.{◌≡◌, ℕ, List, IsTrue, IsSome, IfOk, 
 ghost use Rattle.std.specs.Option.{option_map};
 ghost use Rattle.der_core.specs.Tag.{integer_tag};
 ghost use Rattle.der_core.specs.Integer.{Integer, IntegerContents, IsCanonical, integer_contents};
-ghost use Rattle.der_core.specs.IntegerLaws.{integer_delimited};
+ghost use Rattle.der_core.specs.Laws.Integer.{integer_delimited};
 ghost use Rattle.der_core.specs.declared.error.ErrorKind as der;
 ghost use Rattle.der_core.specs.Faults.{FaultyWhole};
 ghost use Rattle.der_core.specs.Reading.{ReadsContents, TellsOfBytes};
@@ -12,7 +12,7 @@ ghost use Rattle.der_core.specs.Tlv.{tlv};
 ghost use Rattle.pkcs1.specs.Keys as grammar;
 ghost use Rattle.pkcs1.specs.Keys.{OthersOf, PrivateKey, PrivateKeyContents, public_part};
 ghost use Rattle.pkcs1.specs.OtherPrimesLeft.{others_left, HoldsNone};
-ghost use Rattle.pkcs1.specs.PrivateKeyLaws.{private_means_one};
+ghost use Rattle.pkcs1.specs.Laws.PrivateKey.{private_means_one};
 ghost use Rattle.pkcs1.specs.OtherPrimesHeld.{keys_are_bytes};
 ghost use Rattle.pkcs1.specs.PrivateKeyValue.{key_with};
 ghost use Rattle.pkcs1.specs.Versions.{number_of};
@@ -87,7 +87,7 @@ impl Contents for ViewedKey<'_> {
 }
 
 impl<'a> DecodeValue<&'a [u8], NoMemory> for ViewedKey<'a> {
-    ghost use Rattle.pkcs1.specs.KeyFaultLaws.{private_integers_none, private_integers_first};
+    ghost use Rattle.pkcs1.specs.Laws.KeyFaults.{private_integers_none, private_integers_first};
 
     ghost may_allocate = { λ _. ⊥ };
 

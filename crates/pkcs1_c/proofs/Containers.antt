@@ -1,6 +1,6 @@
 -- Why a container isn't written: one status at most.
 use Rattle.std.proofs.Common.{ℕ, List, ap, sym, ◌∙◌}
-use Rattle.pkcs1.specs.KeyFaultLaws.{private_key_whole_none, private_key_whole_first}
+use Rattle.pkcs1.specs.Laws.KeyFaults.{private_key_whole_none, private_key_whole_first}
 use Rattle.pkcs1.specs.Keys.{PrivateKey}
 use Rattle.pkcs8_core.specs.Container as container
 use Rattle.pkcs1_c.specs.declared.container.PrivateKeyInfo.{PrivateKeyInfo}

@@ -5,8 +5,8 @@ use Rattle.der_core.specs.Document.{Means}
 use Rattle.der_core.specs.Length.{limit}
 use Rattle.der_core.specs.Texts.{Joins}
 use Rattle.der_core.specs.Integer.{Integer, IntegerContents}
-use Rattle.der_core.specs.IntegerLaws.{canonical_same}
-use Rattle.der_core.proofs.Growing.{contents_shorter}
+use Rattle.der_core.specs.Laws.Integer.{canonical_same}
+use Rattle.der_core.specs.Laws.Growing.{contents_shorter}
 use Rattle.pkcs1.specs.Writing.{key_numbers}
 use Rattle.pkcs1.specs.Keys.{PublicKey, PrivateKey, RsaPrivateKey, OtherPrime, OtherPrimeInfo, OtherPrimeInfos}
 use Rattle.pkcs1_c.specs.Numbers.{IsNumberOf, ArePublicNumbers, IsOtherOf, AreOthersOf, AreOtherNumbers, ArePrivateNumbers}

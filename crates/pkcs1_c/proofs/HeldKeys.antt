@@ -8,7 +8,7 @@ use Rattle.der_core.specs.Length.{limit}
 use Rattle.der_core.specs.SequenceOf.{AllHave, ItemsContents}
 use Rattle.der_core.specs.UintRefValue.{bytes_of}
 use Rattle.der_core.specs.declared.integer.uint.UintRef.{UintRef}
-use Rattle.der_core.proofs.Growing.{contents_shorter}
+use Rattle.der_core.specs.Laws.Growing.{contents_shorter}
 use Rattle.pkcs1.specs.Keys.{PublicKey, RsaPublicKey, PrivateKey, RsaPrivateKey, OtherPrime, OtherPrimeInfo, OtherPrimeInfos, version_of}
 use Rattle.pkcs1.specs.PrivateKeyValue.{other_of, others_of, private_key_of}
 use Rattle.pkcs1.specs.PublicKeyValue.{public_key_of}
@@ -16,8 +16,8 @@ use Rattle.pkcs1.specs.Writing.{key_numbers, other_numbers, HasOthers}
 use Rattle.pkcs1.specs.declared.private_key.RsaPrivateKey as declared
 use Rattle.pkcs1.specs.declared.private_key.other_prime_info.OtherPrimeInfo as declared_other
 use Rattle.pkcs1.specs.declared.public_key.RsaPublicKey as declared_public
-use Rattle.pkcs1.proofs.HeldKeys.{borrowed_held, held_has_text}
-use Rattle.pkcs1.proofs.PublicKeys.{public_made}
+use Rattle.pkcs1.specs.Laws.HeldKeys.{borrowed_held, held_has_text}
+use Rattle.pkcs1.specs.Laws.PublicKeys.{public_made}
 use Rattle.pkcs1_c.specs.declared.private_key.PrivateKey as c
 use Rattle.pkcs1_c.specs.declared.private_key.OtherPrime as c_other
 use Rattle.pkcs1_c.specs.Given.{IsGiven}

@@ -4,18 +4,18 @@ use Rattle.std.specs.Option.{option_map}
 use Rattle.der_core.specs.Document.{HasText}
 use Rattle.der_core.specs.Length.{limit}
 use Rattle.der_core.specs.Integer.{integer_contents, Small, SmallContents}
-use Rattle.der_core.specs.SmallLaws.{small_relates}
+use Rattle.der_core.specs.Laws.SmallNumbers.{small_relates}
 use Rattle.der_core.specs.Tag.{context_tag, sequence_tag}
-use Rattle.der_core.specs.TextLaws.{tlv_made, tlv_relates, tlv_little_longer, then_holds, last_holds}
+use Rattle.der_core.specs.Laws.Texts.{tlv_made, tlv_relates, tlv_little_longer, then_holds, last_holds}
 use Rattle.der_core.specs.Tlv.{Tlv}
 use Rattle.spki_core.specs.AlgorithmIdentifier.{PlainAlgorithm, MaskAlgorithm, written_plain, written_mask}
 use Rattle.spki_core.specs.AlgorithmValue.{algorithm_of, mask_of}
 use Rattle.spki_core.specs.AnyRefValue.{any_of}
-use Rattle.spki_core.specs.Held.{identifier_held, plain_held, plain_short}
+use Rattle.spki_core.specs.Laws.Held.{identifier_held, plain_held, plain_short}
 use Rattle.spki_core.specs.declared.algorithm_identifier.AlgorithmIdentifier.{AlgorithmIdentifier}
 use Rattle.spki_core.specs.declared.any.AnyRef.{AnyRef}
-use Rattle.pkcs1_params.specs.HashFieldsLaws.{plain_relates, mask_relates}
-use Rattle.pkcs1_params.specs.HeldFields.{mask_held, mask_short, number_short}
+use Rattle.pkcs1_params.specs.Laws.HashFields.{plain_relates, mask_relates}
+use Rattle.pkcs1_params.specs.Laws.HeldFields.{mask_held, mask_short, number_short}
 use Rattle.pkcs1_params.specs.OaepValue.{oaep_of}
 use Rattle.pkcs1_params.specs.Parameters.{PssContents, OaepContents, RsaPssParams, RsaOaepParams, TrailerContents}
 use Rattle.pkcs1_params.specs.PssValue.{pss_of}

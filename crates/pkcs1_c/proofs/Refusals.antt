@@ -12,7 +12,7 @@ use Rattle.der_core.specs.Document.{Means}
 use Rattle.der_core.specs.declared.error.Error as der
 use Rattle.pkcs8_core.specs.Container.{Info, PrivateKeyInfo}
 use Rattle.pkcs8_core.specs.ContainerFaults.{RsaFault}
-use Rattle.pkcs8_core.specs.ContainerFaultLaws.{info_whole_none}
+use Rattle.pkcs8_core.specs.Laws.ContainerFaults.{info_whole_none}
 use Rattle.pkcs1_c.specs.Containers.{RsaContainerFault}
 use Rattle.pkcs1_c.specs.Status.{kind_number, status_of, IsNumberOfFault}
 

@@ -7,7 +7,7 @@ use Rattle.std.proofs.lemmas.List.{ext_get_or, length-map}
 use Rattle.std.proofs.lemmas.List.Folds.{flat_map-map}
 use Rattle.std.proofs.lemmas.Result.{on_ok_weaker}
 use Rattle.der_core.specs.Document.{Means}
-use Rattle.der_core.specs.ShortestLaws.{means_one}
+use Rattle.der_core.specs.Laws.Shortest.{means_one}
 use Rattle.der_core.specs.Texts.{IsDelimited}
 use Rattle.spki_core.specs.Explicit.{Field, HaveDefaults}
 use Rattle.pkcs1_params.specs.Spellings.{AllFit, AreAllSpellings, AreUnder, EachMaskHasOne}

@@ -3,7 +3,7 @@ use Rattle.std.proofs.Common.{◌≡◌, ℕ, inl, inr, List, ◌++◌, Bool, tr
 use Rattle.std.specs.Prelude.{Result, OnOk, ◌↔◌, codes, if◌then◌else◌, IsTrue}
 use Rattle.std.proofs.lemmas.Result.{on_ok_weaker}
 use Rattle.der_core.specs.Document.{Means, IsShortest, MeanTheSame}
-use Rattle.der_core.specs.ShortestLaws.{means_one, same_by_shortest}
+use Rattle.der_core.specs.Laws.Shortest.{means_one, same_by_shortest}
 use Rattle.der_core.specs.Texts.{IsDelimited}
 use Rattle.pkcs1_lines.specs.Answer.{SaysWhether, TellsStrict, TellsSame}
 

@@ -7,14 +7,14 @@ use Rattle.spki_core.specs.Allocating.{FieldAllocates}
 use Rattle.spki_core.specs.Faults.{NextFault}
 use Rattle.der_core.specs.Input.{Input}
 use Rattle.der_core.specs.Texts.{Joins}
-use Rattle.der_core.specs.Sequences.{ContentsGive}
+use Rattle.der_core.specs.Laws.Sequences.{ContentsGive}
 use Rattle.spki_core.specs.Any.{TagAndContents}
 use Rattle.spki_core.specs.AlgorithmIdentifier.{Algorithm, PlainAlgorithm, MaskAlgorithm}
 use Rattle.spki_core.specs.Explicit.{Field, field, Defaultable}
-use Rattle.spki_core.specs.FieldLaws.{AreLater}
-use Rattle.spki_core.proofs.FieldReads.{FieldGives, fields_give}
+use Rattle.spki_core.specs.Laws.FieldTexts.{AreLater}
+use Rattle.spki_core.specs.Laws.FieldReads.{FieldGives, fields_give}
 use Rattle.pkcs1_params.specs.Parameters.{sha1, mgf1_sha1, hash_fields_then}
-use Rattle.pkcs1_params.specs.HashFieldsLaws.{later_still}
+use Rattle.pkcs1_params.specs.Laws.HashFields.{later_still}
 
 -- The number of a field, and its default, as they are known.
 pub at_number : (Fault : Tag → ErrorKind → List ℕ → Type 0) (own : List ℕ → Type 0) (n k : ℕ) → n ≡ k → (t : Tag) → t.octet ≡ 160 + k → (before : Input) (e : ErrorKind)

@@ -5,18 +5,18 @@ use Rattle.std.specs.Result.{is_ok}
 use Rattle.der_core.specs.Document.{EncodeRefusal, no_text, too_long, no_room, another}
 use Rattle.der_core.specs.Length.{limit, length_octets}
 use Rattle.der_core.specs.Texts.{AreBytes}
-use Rattle.der_core.specs.TextLaws.{tlv_relates, tlv_shortest}
+use Rattle.der_core.specs.Laws.Texts.{tlv_relates, tlv_shortest}
 use Rattle.der_core.specs.Tlv.{tlv}
 use Rattle.der_core.specs.Writing.{Counts, IsUncounted, encode_refusal, joined}
 use Rattle.der_core.specs.declared.error.Error.{Error}
 use Rattle.der_core.specs.declared.error.ErrorKind.TheVariants as kind
-use Rattle.der_core.specs.Counting.{counts_joined}
+use Rattle.der_core.specs.Laws.Counting.{counts_joined}
 use Rattle.spki_core.specs.IdentifierTest.{is_identifier-sound}
 use Rattle.spki_core.specs.ObjectIdentifier.{IsIdentifier}
-use Rattle.pkcs1_params.specs.OaepLaws.{oaep_relates, oaep_shortest}
+use Rattle.pkcs1_params.specs.Laws.Oaep.{oaep_relates, oaep_shortest}
 use Rattle.pkcs1_params.specs.OaepValue.{labelled, LabelFits, NoLabelFits}
 use Rattle.pkcs1_params.specs.LabelWriting.{written_source, CountsLabelled}
-use Rattle.pkcs1_params.specs.PartLaws.{written_last, have_under}
+use Rattle.pkcs1_params.specs.Laws.Parts.{written_last, have_under}
 use Rattle.pkcs1_params.specs.Parts.{hash_field, mask_gen_field, p_source_field, part_of, parts_of, oaep_values, HasFields, written_fields}
 use Rattle.pkcs1_params.specs.Parameters.{id_mgf1, id_p_specified, OaepParameters, OaepContents}
 

@@ -10,5 +10,4 @@ pub mod OaepReads
 pub mod Labels
 pub mod ParameterWrites
 pub mod NothingAsked
-pub mod FaultsTold
 pub mod ParameterFaultRows

@@ -13,17 +13,17 @@ use Rattle.der_core.specs.Writing.{encode_refusal}
 use Rattle.der_core.specs.Tlv.{Tlv}
 use Rattle.der_core.specs.declared.error.ErrorKind.{ErrorKind}
 use Rattle.der_core.specs.declared.error.ErrorKind.TheVariants.{OutOfMemory, Overflow}
-use Rattle.der_core.specs.TextLaws.{tlv_made}
+use Rattle.der_core.specs.Laws.Texts.{tlv_made}
 use Rattle.spki_core.specs.Explicit.{Field, Defaultable, HaveDefaults, MaskedContents, Masked}
-use Rattle.spki_core.proofs.Fields.{AreInOrder, defaults_same}
-use Rattle.spki_core.proofs.Spellings.{one_mask, masked_fits, last_is_all, all_is_last, members_under, zero_fits, zero_shortest}
+use Rattle.spki_core.specs.Laws.Fields.{AreInOrder, defaults_same}
+use Rattle.spki_core.specs.Laws.Spellings.{one_mask, masked_fits, last_is_all, all_is_last, members_under, zero_fits, zero_shortest}
 use Rattle.pkcs1_params.specs.MaskedValues.{MaskedValue, InRange}
 use Rattle.pkcs1_params.specs.Spellings.{IsMask, AllFit, IsSpelling, HasNoSpelling, StandsUnder, WhyUnspelled, IsUnspelled, AreUnder, AreMasks, AreAllSpellings, texts_in}
 use Rattle.pkcs1_params.specs.declared.error.Error.{Error}
 use Rattle.pkcs1_params.specs.declared.error.Error.TheVariants as error
-use Rattle.pkcs1_params.specs.FieldValueLaws.{ordered}
+use Rattle.pkcs1_params.specs.Laws.FieldValues.{ordered}
 use Rattle.pkcs1_params.specs.Meanings.{IsNotWritten}
-use Rattle.pkcs1_params.specs.PartLaws.{parts_counted, parts_hold}
+use Rattle.pkcs1_params.specs.Laws.Parts.{parts_counted, parts_hold}
 use Rattle.pkcs1_params.specs.Parts.{FieldValue, AreNumbered, parts_of, fields_with, Fielded, HasFields, written_fields}
 use Rattle.pkcs1_params.proofs.ParameterSpellings.{each_has_one_mask}
 

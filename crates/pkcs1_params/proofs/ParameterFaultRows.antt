@@ -8,15 +8,15 @@ use Rattle.der_core.specs.Headers.{HeaderText}
 use Rattle.der_core.specs.Input.{header_at, length_at}
 use Rattle.der_core.specs.Integer.{Small}
 use Rattle.der_core.specs.Length.{short}
-use Rattle.der_core.specs.ListLaws.{same_cons}
+use Rattle.der_core.specs.Laws.Lists.{same_cons}
 use Rattle.der_core.specs.Tags.{integer, octet_string, null, object_identifier, sequence}
-use Rattle.der_core.proofs.WrittenOut.{known_tlv, known_whole, small_byte}
+use Rattle.der_core.specs.Laws.WrittenOut.{known_tlv, known_whole, small_byte}
 use Rattle.spki_core.specs.Any.{Any}
 use Rattle.spki_core.specs.AlgorithmIdentifier.{PlainAlgorithm}
 use Rattle.spki_core.specs.Explicit.{IsNext}
 use Rattle.spki_core.specs.Faults.{AnyFault, FieldThenFault, too_few}
-use Rattle.spki_core.proofs.IdentifierRows.{sha1_contents, sha1_identifier, no_octet}
-use Rattle.spki_core.proofs.KnownFields.{left_out_field}
+use Rattle.spki_core.specs.Laws.IdentifierRows.{sha1_contents, sha1_identifier, no_octet}
+use Rattle.spki_core.specs.Laws.KnownFields.{left_out_field}
 use Rattle.pkcs1_params.specs.ParameterFaults.{tag_0, tag_2, tag_3, PssFault, OaepFault, SaltFault, SourceFault, TrailerFieldFault, RsaPssParamsFault, RsaOaepParamsFault, StrictPssFault}
 use Rattle.pkcs1_params.specs.Parameters.{sha1, mgf1_sha1, empty_label, TrailerField}
 use Rattle.pkcs1_params.proofs.ParameterRows.{pss_defaults, oaep_defaults, salt_bytes, trailer_bytes, trailer_field, pss_all_left_out, pss_salt_written, oaep_all_left_out}

@@ -2,19 +2,19 @@
 use Rattle.std.proofs.Common.{ℕ, List, [], ◌∷◌, ◌++◌, ◌≡◌, ◌<◌, inl, inr, length, length-append, map, refl, sym, ap, arith, None}
 use Rattle.std.specs.Int.Digits.{number_from_digits}
 use Rattle.der_core.specs.Integer.{SmallContents, Small}
-use Rattle.der_core.specs.IntegerLaws.{small_delimited}
-use Rattle.der_core.specs.ListLaws.{same_cons}
-use Rattle.der_core.specs.ShortestLaws.{means_one}
+use Rattle.der_core.specs.Laws.Integer.{small_delimited}
+use Rattle.der_core.specs.Laws.Lists.{same_cons}
+use Rattle.der_core.specs.Laws.Shortest.{means_one}
 use Rattle.der_core.specs.Texts.{Joins}
-use Rattle.der_core.proofs.WrittenOut.{known_tlv, known_whole, small_byte, other_tag_refused}
+use Rattle.der_core.specs.Laws.WrittenOut.{known_tlv, known_whole, small_byte, other_tag_refused}
 use Rattle.spki_core.specs.ObjectIdentifier.{IsIdentifier}
 use Rattle.spki_core.specs.Any.{TagAndContents, Any}
 use Rattle.spki_core.specs.AlgorithmIdentifier.{Algorithm, AlgorithmIdentifier, PlainAlgorithm}
-use Rattle.spki_core.specs.AlgorithmLaws.{plain_delimited}
+use Rattle.spki_core.specs.Laws.Algorithms.{plain_delimited}
 use Rattle.spki_core.specs.Explicit.{Field, field, Defaultable}
 use Rattle.spki_core.specs.IdentifierTest.{is_identifier-sound}
-use Rattle.spki_core.proofs.AlgorithmRows.{identifier_alone, identifier_and_parameters, sha1_alone, sha1_with_null, mgf1_with_sha1}
-use Rattle.spki_core.proofs.KnownFields.{left_out_field, written_field, other_field_next, unknown_tag_refused, field_written}
+use Rattle.spki_core.specs.Laws.AlgorithmRows.{identifier_alone, identifier_and_parameters, sha1_alone, sha1_with_null, mgf1_with_sha1}
+use Rattle.spki_core.specs.Laws.KnownFields.{left_out_field, written_field, other_field_next, unknown_tag_refused, field_written}
 use Rattle.pkcs1_params.specs.Parameters.{id_sha1, id_p_specified, with_parameters, sha1, mgf1_sha1, empty_label, TrailerField, PssParameters, RsaPssParams, OaepParameters, RsaOaepParams}
 
 -- The fields of both, at values.

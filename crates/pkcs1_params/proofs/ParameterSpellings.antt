@@ -1,8 +1,8 @@
 -- Masks and spellings of any list of fields in rising order.
 use Rattle.std.proofs.Common.{List, arith}
 use Rattle.spki_core.specs.Explicit.{Field}
-use Rattle.spki_core.proofs.Fields.{AreInOrder}
-use Rattle.spki_core.proofs.Spellings.{masked_spells, spelled_is_masked, one_mask, one_text, zero_shortest, shortest_zero, zero_fits, masks_are_members}
+use Rattle.spki_core.specs.Laws.Fields.{AreInOrder}
+use Rattle.spki_core.specs.Laws.Spellings.{masked_spells, spelled_is_masked, one_mask, one_text, zero_shortest, shortest_zero, zero_fits, masks_are_members}
 use Rattle.pkcs1_params.specs.Spellings.{EachHasOneMask, EachMaskHasOne, ShortestHasNoDefaults, AcceptedFits, HasTwoToTheDefaults}
 
 module _ {V : Type 0} (fields : V → List Field) (ordered : (v : V) → AreInOrder (fields v)) where

@@ -9,11 +9,11 @@ use Rattle.pkcs1_params.specs.ParameterFaults.{tag_2, tag_3, SaltFault, TrailerF
 use Rattle.der_core.specs.Input.{Input, read_from, end_of}
 use Rattle.der_core.specs.Integer.{Small}
 use Rattle.der_core.specs.Tlv.{Tlv}
-use Rattle.der_core.specs.Sequences.{ContentsGive, end_gives}
+use Rattle.der_core.specs.Laws.Sequences.{ContentsGive, end_gives}
 use Rattle.spki_core.specs.Allocating.{AllocatesFromField, FieldAllocates}
 use Rattle.spki_core.specs.Explicit.{Field, field}
-use Rattle.spki_core.specs.FieldLaws.{AreLater}
-use Rattle.spki_core.proofs.FieldReads.{FieldGives, fields_give}
+use Rattle.spki_core.specs.Laws.FieldTexts.{AreLater}
+use Rattle.spki_core.specs.Laws.FieldReads.{FieldGives, fields_give}
 use Rattle.pkcs1_params.specs.Parameters.{TrailerField, PssParameters, PssContents}
 use Rattle.pkcs1_params.proofs.HashFieldsReads as hash_fields
 use Rattle.pkcs1_params.proofs.HashFieldsReads.{HashFieldsRead}

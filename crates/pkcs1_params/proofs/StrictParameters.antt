@@ -2,14 +2,14 @@
 use Rattle.std.proofs.Common.{ℕ, List, [], ◌∷◌, ◌≡◌, ◌≤◌, ◌+◌, ◌∙◌, ap, sym, length, get_or, refl, arith, Option}
 use Rattle.der_core.specs.declared.error.ErrorKind.TheVariants.{Noncanonical}
 use Rattle.der_core.specs.declared.tag.Tag.{Tag}
-use Rattle.der_core.specs.TagLaws.{same_tag}
+use Rattle.der_core.specs.Laws.Tags.{same_tag}
 use Rattle.der_core.specs.Length.{limit}
 use Rattle.spki_core.specs.Explicit.{Field, FieldSequence}
 use Rattle.spki_core.specs.StrictFields.{WalksOver, NamesNumber, NamesDefault, WritesDefault}
-use Rattle.spki_core.proofs.StrictWalk.{FoundIn, text_finds}
+use Rattle.spki_core.specs.Laws.StrictWalk.{FoundIn, text_finds}
 use Rattle.pkcs1_params.specs.FieldRefs.{part_in, values_in}
 use Rattle.pkcs1_params.specs.declared.fields.FieldRef.{FieldRef}
-use Rattle.pkcs1_params.specs.FieldValueLaws.{fields_of_bytes, in_order, marked}
+use Rattle.pkcs1_params.specs.Laws.FieldValues.{fields_of_bytes, in_order, marked}
 use Rattle.pkcs1_params.specs.Parts.{FieldValue, AreNumbered, defaults_in, fields_in}
 use Rattle.pkcs1_params.specs.Refusals.{IsAsn1}
 use Rattle.pkcs1_params.specs.declared.error.Error.{Error}

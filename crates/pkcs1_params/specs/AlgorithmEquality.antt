@@ -2,7 +2,7 @@
 use Rattle.std.proofs.Common.{Bool, ◌≡◌, ◌&&◌, Decides}
 use Rattle.std.specs.Option.{option_eq}
 use Rattle.std.specs.Str.{bytes_eq}
-use Rattle.spki_core.specs.AlgorithmLaws.{algorithm_decides}
+use Rattle.spki_core.specs.Laws.Algorithms.{algorithm_decides}
 use Rattle.spki_core.specs.AlgorithmValue.{algorithm_with}
 use Rattle.spki_core.specs.ObjectIdentifierValue.{octets_of}
 use Rattle.spki_core.specs.declared.algorithm_identifier.AlgorithmIdentifier.{AlgorithmIdentifier}

@@ -2,7 +2,7 @@
 use Rattle.std.specs.Prelude.{ℕ}
 use Rattle.spki_core.specs.Explicit.{HaveDefaults}
 use Rattle.pkcs1_params.specs.Parameters.{PssParameters, pss_fields, OaepParameters, oaep_fields}
-use Rattle.pkcs1_params.specs.PartLaws.{parts_counted}
+use Rattle.pkcs1_params.specs.Laws.Parts.{parts_counted}
 use Rattle.pkcs1_params.specs.Parts.{parts_of, pss_values, oaep_values}
 
 pub pss_defaults : (p : PssParameters) → (k : ℕ) × HaveDefaults (pss_fields p) k

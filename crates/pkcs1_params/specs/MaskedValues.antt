@@ -3,11 +3,11 @@ use Rattle.std.proofs.Common.{ℕ, List, ◌≡◌, ◌<◌, ◌^◌, map}
 use Rattle.der_core.specs.Texts.{IsOfBytes, MeansOne, Joins}
 use Rattle.der_core.specs.Writing.{WritesTexts, WritesLeast}
 use Rattle.spki_core.specs.Explicit.{Field, Defaultable, HaveDefaults, MaskedContents}
-use Rattle.spki_core.specs.FieldLaws.{fields_of_bytes as joins_of_bytes}
-use Rattle.spki_core.specs.MaskLaws.{parts_relate, parts_least}
-use Rattle.spki_core.proofs.Fields.{masked_joins, masked_below, mask_same}
-use Rattle.pkcs1_params.specs.FieldValueLaws.{fields_of_bytes, in_order}
-use Rattle.pkcs1_params.specs.PartLaws.{parts_counted}
+use Rattle.spki_core.specs.Laws.FieldTexts.{fields_of_bytes as joins_of_bytes}
+use Rattle.spki_core.specs.Laws.Masks.{parts_relate, parts_least}
+use Rattle.spki_core.specs.Laws.Fields.{masked_joins, masked_below, mask_same}
+use Rattle.pkcs1_params.specs.Laws.FieldValues.{fields_of_bytes, in_order}
+use Rattle.pkcs1_params.specs.Laws.Parts.{parts_counted}
 use Rattle.pkcs1_params.specs.Parts.{FieldValue, parts_of, fields_with, AreNumbered, HasFields, written_fields}
 
 pub record MaskedValue (V : Type 0) : Type 0 where

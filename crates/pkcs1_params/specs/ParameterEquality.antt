@@ -1,6 +1,6 @@
 -- Equality of parameters, by that of their fields.
 use Rattle.std.proofs.Common.{Bool, true, ◌≡◌, ◌&&◌, eqb, refl, ap, Decides}
-use Rattle.der_core.specs.EqualityLaws.{both_decide, number_decides}
+use Rattle.der_core.specs.Laws.Equality.{both_decide, number_decides}
 use Rattle.pkcs1_params.specs.Parameters.{PssParameters, OaepParameters}
 
 pair_decides : {A B : Type 0} {a b : Bool} → Decides a A → Decides b B → Decides (a && b) (A × B)

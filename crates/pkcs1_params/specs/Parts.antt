@@ -1,20 +1,20 @@
 -- The fields of parameters as they are written.
 use Rattle.std.specs.Prelude.{ℕ, Bool, List, [], ◌∷◌, ◌≡◌, ◌+◌, ◌<◌, ◌^◌, eqb, length, map}
-use Rattle.der_core.specs.EqualityLaws.{number_decides}
+use Rattle.der_core.specs.Laws.Equality.{number_decides}
 use Rattle.der_core.specs.Integer.{Small, SmallContents, integer_contents}
-use Rattle.der_core.specs.SmallLaws.{small_relates, small_shortest}
+use Rattle.der_core.specs.Laws.SmallNumbers.{small_relates, small_shortest}
 use Rattle.der_core.specs.Tag.{integer_tag}
-use Rattle.der_core.specs.TextLaws.{tlv_relates, tlv_shortest}
+use Rattle.der_core.specs.Laws.Texts.{tlv_relates, tlv_shortest}
 use Rattle.der_core.specs.Tlv.{tlv}
 use Rattle.der_core.specs.Writing.{IsLeast}
 use Rattle.spki_core.specs.Any.{TagAndContents}
 use Rattle.spki_core.specs.AlgorithmIdentifier.{Algorithm, PlainAlgorithm, MaskAlgorithm, HasPlain, HasMask, written_plain, written_mask, same_plain, same_mask}
-use Rattle.spki_core.specs.AlgorithmLaws.{same_plain_decides, same_mask_decides}
+use Rattle.spki_core.specs.Laws.Algorithms.{same_plain_decides, same_mask_decides}
 use Rattle.spki_core.specs.Explicit.{Field, field, FieldSequence}
 use Rattle.spki_core.specs.Masks.{Part, fields_of, has_under, written_under}
-use Rattle.pkcs1_params.specs.HashFieldsLaws.{plain_relates, plain_shortest, mask_relates, mask_shortest}
+use Rattle.pkcs1_params.specs.Laws.HashFields.{plain_relates, plain_shortest, mask_relates, mask_shortest}
 use Rattle.pkcs1_params.specs.Parameters.{sha1, mgf1_sha1, empty_label, TrailerContents, TrailerField, PssParameters, OaepParameters}
-use Rattle.pkcs1_params.specs.TrailerLaws.{trailer_relates, trailer_shortest}
+use Rattle.pkcs1_params.specs.Laws.Trailers.{trailer_relates, trailer_shortest}
 
 abbrev plain_part : ℕ → Algorithm TagAndContents → Algorithm TagAndContents → Part
 plain_part number default v = record {

@@ -3,7 +3,7 @@ ghost use Rattle.std.specs.Prelude.{◌≡◌, ◌≤◌, [], refl, length, OnOk
 ghost use Rattle.pkcs1_params.specs.Allocating.{OaepAllocates};
 ghost use Rattle.pkcs1_params.specs.Parameters.{OaepParameters, OaepContents, oaep_fields, sha1, mgf1_sha1, empty_label};
 ghost use Rattle.pkcs1_params.specs.Parts.{oaep_values, HasFields, written_fields};
-ghost use Rattle.pkcs1_params.specs.OaepLaws.{oaep_means_one, oaep_of_bytes, oaep_relates, oaep_shortest};
+ghost use Rattle.pkcs1_params.specs.Laws.Oaep.{oaep_means_one, oaep_of_bytes, oaep_relates, oaep_shortest};
 
 use crate::defaults::{default_oaep, is_empty_sequence};
 use crate::error::{Error, Result};
@@ -74,13 +74,13 @@ impl<'a, P> Sequence<'a> for RsaOaepParams<P> {
 
 impl<'a, M: Memory> DecodeValue<&'a [u8], M> for RsaOaepParams<AnyRef<'a>> {
     ghost use Rattle.spki_core.specs.Any.{Any};
-    ghost use Rattle.spki_core.specs.AnyLaws.{any_delimited};
+    ghost use Rattle.spki_core.specs.Laws.AnyTexts.{any_delimited};
     ghost use Rattle.spki_core.specs.AnyRefValue.{any_of};
     ghost use Rattle.spki_core.specs.AnyValues.{holds_itself};
     ghost use Rattle.spki_core.specs.Faults.{AnyFault};
-    ghost use Rattle.spki_core.specs.FaultLaws.{any_fault_none, any_fault_first};
+    ghost use Rattle.spki_core.specs.Laws.Faults.{any_fault_none, any_fault_first};
     ghost use Rattle.pkcs1_params.specs.ParameterFaults.{OaepFault};
-    ghost use Rattle.pkcs1_params.specs.ParameterFaultLaws.{oaep_fault_none, oaep_fault_first};
+    ghost use Rattle.pkcs1_params.specs.Laws.ParameterFaults.{oaep_fault_none, oaep_fault_first};
 
     ghost may_allocate = { OaepAllocates (λ _. ⊥) };
 

@@ -2,9 +2,9 @@
 ghost use Rattle.std.specs.Prelude.{◌≡◌, ◌≤◌, length, take, drop, OnOk, OnErr, IfOk, IfErr};
 ghost use Rattle.spki_core.specs.Explicit.{HaveDefaults};
 ghost use Rattle.pkcs1_params.specs.FieldRefs.{values_in};
-ghost use Rattle.pkcs1_params.specs.OaepLaws.{oaep_means_one};
+ghost use Rattle.pkcs1_params.specs.Laws.Oaep.{oaep_means_one};
 ghost use Rattle.pkcs1_params.specs.OaepValue.{oaep_of, oaep_with};
-ghost use Rattle.pkcs1_params.specs.ParameterLaws.{oaep_numbered};
+ghost use Rattle.pkcs1_params.specs.Laws.Parameters.{oaep_numbered};
 ghost use Rattle.pkcs1_params.specs.Parameters.{OaepParameters, oaep_fields};
 ghost use Rattle.pkcs1_params.specs.Parts.{oaep_values};
 ghost use Rattle.pkcs1_params.specs.Spellings.{IsMask, StandsUnder, IsUnspelled, AllFit, AreAllSpellings, LacksSpellings, texts_in};

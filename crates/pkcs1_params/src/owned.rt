@@ -1,10 +1,10 @@
 //! Reading of parameters that own the parameters of their identifiers.
 ghost use Rattle.pkcs1_params.specs.Allocating.{PssAllocates, OaepAllocates, AllocatesForAny};
 ghost use Rattle.spki_core.specs.Any as grammar;
-ghost use Rattle.spki_core.specs.AnyLaws.{any_delimited};
+ghost use Rattle.spki_core.specs.Laws.AnyTexts.{any_delimited};
 ghost use Rattle.spki_core.specs.AnyValues.{holds_itself};
 ghost use Rattle.spki_core.specs.Faults.{AnyFault};
-ghost use Rattle.spki_core.specs.FaultLaws.{any_fault_none, any_fault_first};
+ghost use Rattle.spki_core.specs.Laws.Faults.{any_fault_none, any_fault_first};
 ghost use Rattle.spki_core.specs.OwnedAnyValue.{any_in};
 
 use crate::hash_fields::{read_hash, read_mask_gen};
@@ -18,7 +18,7 @@ use std::alloc::Global;
 
 impl<'a> DecodeValue<&'a [u8], Global> for RsaPssParams<Any> {
     ghost use Rattle.pkcs1_params.specs.ParameterFaults.{PssFault};
-    ghost use Rattle.pkcs1_params.specs.ParameterFaultLaws.{pss_fault_none, pss_fault_first};
+    ghost use Rattle.pkcs1_params.specs.Laws.ParameterFaults.{pss_fault_none, pss_fault_first};
 
     ghost may_allocate = { PssAllocates AllocatesForAny };
 
@@ -55,7 +55,7 @@ impl<'a> DecodeValue<&'a [u8], Global> for RsaPssParams<Any> {
 
 impl<'a> DecodeValue<&'a [u8], Global> for RsaOaepParams<Any> {
     ghost use Rattle.pkcs1_params.specs.ParameterFaults.{OaepFault};
-    ghost use Rattle.pkcs1_params.specs.ParameterFaultLaws.{oaep_fault_none, oaep_fault_first};
+    ghost use Rattle.pkcs1_params.specs.Laws.ParameterFaults.{oaep_fault_none, oaep_fault_first};
 
     ghost may_allocate = { OaepAllocates AllocatesForAny };
 

@@ -9,7 +9,7 @@ ghost use Rattle.pkcs1_params.specs.Refusals.{IsAsn1};
 ghost use Rattle.spki_core.specs.Any.{null_value};
 ghost use Rattle.pkcs1_params.specs.Parameters.{PssParameters, PssContents, pss_fields, with_parameters, id_mgf1, sha1, mgf1_sha1};
 ghost use Rattle.pkcs1_params.specs.Parts.{pss_values, HasFields, written_fields};
-ghost use Rattle.pkcs1_params.specs.PssLaws.{pss_means_one, pss_of_bytes, pss_relates, pss_shortest};
+ghost use Rattle.pkcs1_params.specs.Laws.Pss.{pss_means_one, pss_of_bytes, pss_relates, pss_shortest};
 ghost use Rattle.pkcs1_params.specs.PssValue.{pss_with, pss_of};
 
 use crate::default_salt::DefaultSalt;
@@ -83,13 +83,13 @@ impl<'a, P> Sequence<'a> for RsaPssParams<P> {
 
 impl<'a, M: Memory> DecodeValue<&'a [u8], M> for RsaPssParams<AnyRef<'a>> {
     ghost use Rattle.spki_core.specs.Any.{Any};
-    ghost use Rattle.spki_core.specs.AnyLaws.{any_delimited};
+    ghost use Rattle.spki_core.specs.Laws.AnyTexts.{any_delimited};
     ghost use Rattle.spki_core.specs.AnyRefValue.{any_of};
     ghost use Rattle.spki_core.specs.AnyValues.{holds_itself};
     ghost use Rattle.spki_core.specs.Faults.{AnyFault};
-    ghost use Rattle.spki_core.specs.FaultLaws.{any_fault_none, any_fault_first};
+    ghost use Rattle.spki_core.specs.Laws.Faults.{any_fault_none, any_fault_first};
     ghost use Rattle.pkcs1_params.specs.ParameterFaults.{PssFault};
-    ghost use Rattle.pkcs1_params.specs.ParameterFaultLaws.{pss_fault_none, pss_fault_first};
+    ghost use Rattle.pkcs1_params.specs.Laws.ParameterFaults.{pss_fault_none, pss_fault_first};
 
     ghost may_allocate = { PssAllocates (λ _. ⊥) };
 

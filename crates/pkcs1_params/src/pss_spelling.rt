@@ -2,9 +2,9 @@
 ghost use Rattle.std.specs.Prelude.{◌≡◌, ◌≤◌, length, take, drop, OnOk, OnErr, IfOk, IfErr};
 ghost use Rattle.spki_core.specs.Explicit.{HaveDefaults};
 ghost use Rattle.pkcs1_params.specs.FieldRefs.{values_in};
-ghost use Rattle.pkcs1_params.specs.PssLaws.{pss_means_one};
+ghost use Rattle.pkcs1_params.specs.Laws.Pss.{pss_means_one};
 ghost use Rattle.pkcs1_params.specs.PssValue.{pss_of, pss_with};
-ghost use Rattle.pkcs1_params.specs.ParameterLaws.{pss_numbered};
+ghost use Rattle.pkcs1_params.specs.Laws.Parameters.{pss_numbered};
 ghost use Rattle.pkcs1_params.specs.Parameters.{PssParameters, pss_fields};
 ghost use Rattle.pkcs1_params.specs.Parts.{pss_values};
 ghost use Rattle.pkcs1_params.specs.Spellings.{IsMask, StandsUnder, IsUnspelled, AllFit, AreAllSpellings, LacksSpellings, texts_in};

@@ -3,7 +3,7 @@ ghost use Rattle.std.specs.Prelude.{◌≡◌};
 ghost use Rattle.pkcs1_params.specs.Allocating.{PssAllocates};
 ghost use Rattle.pkcs1_params.specs.Parameters.{PssParameters, PssContents};
 ghost use Rattle.pkcs1_params.specs.Parts.{pss_values, HasFields, written_fields};
-ghost use Rattle.pkcs1_params.specs.PssLaws.{pss_means_one, pss_of_bytes};
+ghost use Rattle.pkcs1_params.specs.Laws.Pss.{pss_means_one, pss_of_bytes};
 ghost use Rattle.pkcs1_params.specs.PssValue.{pss_of, pss_viewed};
 
 use crate::pss::{RsaPssParams, RsaPssParamsRef};
@@ -60,13 +60,13 @@ impl TaggedBy for PssView<'_> {
 
 impl<'a, M: Memory> DecodeValue<&'a [u8], M> for PssView<'a> {
     ghost use Rattle.spki_core.specs.Any.{Any};
-    ghost use Rattle.spki_core.specs.AnyLaws.{any_delimited};
+    ghost use Rattle.spki_core.specs.Laws.AnyTexts.{any_delimited};
     ghost use Rattle.spki_core.specs.AnyRefValue.{any_of};
     ghost use Rattle.spki_core.specs.AnyValues.{holds_itself};
     ghost use Rattle.spki_core.specs.Faults.{AnyFault};
-    ghost use Rattle.spki_core.specs.FaultLaws.{any_fault_none, any_fault_first};
+    ghost use Rattle.spki_core.specs.Laws.Faults.{any_fault_none, any_fault_first};
     ghost use Rattle.pkcs1_params.specs.ParameterFaults.{PssFault};
-    ghost use Rattle.pkcs1_params.specs.ParameterFaultLaws.{pss_fault_none, pss_fault_first};
+    ghost use Rattle.pkcs1_params.specs.Laws.ParameterFaults.{pss_fault_none, pss_fault_first};
 
     ghost may_allocate = { PssAllocates (λ _. ⊥) };
 

@@ -5,7 +5,7 @@ ghost use Rattle.der_core.specs.IntegerReading.{Answers};
 ghost use Rattle.der_core.specs.Reading.{ReadsContents, HoldsBytes};
 ghost use Rattle.pkcs1_params.specs.Parameters.{TrailerContents};
 ghost use Rattle.pkcs1_params.specs.Trailers.{trailer_at};
-ghost use Rattle.pkcs1_params.specs.TrailerLaws.{trailer_means_one, trailer_of_bytes, trailer_relates, trailer_shortest};
+ghost use Rattle.pkcs1_params.specs.Laws.Trailers.{trailer_means_one, trailer_of_bytes, trailer_relates, trailer_shortest};
 
 use der_core::{
     BackWriter, Contents, DecodeValue, EncodeValue, EqualByValue, ErrorKind, Header, IntegerTag,
@@ -56,7 +56,7 @@ impl EqualByValue for TrailerField {
 impl<'a, M: Memory> DecodeValue<&'a [u8], M> for TrailerField {
     ghost use Rattle.der_core.specs.Reading.{ReadsOrFaults};
     ghost use Rattle.pkcs1_params.specs.ParameterFaults.{TrailerFault};
-    ghost use Rattle.pkcs1_params.specs.ParameterFaultLaws.{trailer_fault_none, trailer_fault_first};
+    ghost use Rattle.pkcs1_params.specs.Laws.ParameterFaults.{trailer_fault_none, trailer_fault_first};
 
     ghost may_allocate = { λ _. ⊥ };
 

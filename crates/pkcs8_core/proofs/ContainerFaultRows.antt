@@ -4,7 +4,7 @@ use Rattle.der_core.specs.declared.error.ErrorKind.TheVariants.{OidUnknown, Para
 use Rattle.der_core.specs.Faults.{other_tag, in_contents}
 use Rattle.der_core.specs.Length.{short}
 use Rattle.der_core.specs.Tags.{integer, sequence, null}
-use Rattle.der_core.proofs.WrittenOut.{small_byte}
+use Rattle.der_core.specs.Laws.WrittenOut.{small_byte}
 use Rattle.pkcs1_params.specs.Parameters.{id_rsa_encryption, id_sha1}
 use Rattle.pkcs8_core.specs.Container.{Info}
 use Rattle.pkcs8_core.specs.ContainerFaults.{AttributesFault, PrivateKeyInfoFault, RsaFault}

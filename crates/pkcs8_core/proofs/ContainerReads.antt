@@ -4,11 +4,11 @@ use Rattle.der_core.specs.declared.error.ErrorKind.{ErrorKind}
 use Rattle.der_core.specs.Faults.{TextFault, NoFault, FaultyFront, FaultyWhole}
 use Rattle.der_core.specs.Input.{Input}
 use Rattle.der_core.specs.Integer.{Small}
-use Rattle.der_core.specs.IntegerLaws.{small_delimited}
-use Rattle.der_core.specs.Expected.{expected_fails}
-use Rattle.der_core.specs.LastParts.{allocates_more}
+use Rattle.der_core.specs.Laws.Integer.{small_delimited}
+use Rattle.der_core.specs.Laws.Expected.{expected_fails}
+use Rattle.der_core.specs.Laws.LastParts.{allocates_more}
 use Rattle.der_core.specs.OctetString.{OctetString}
-use Rattle.der_core.specs.Sequences.{TextFails, TextGives, ContentsFaulty, first_faults, rest_faults}
+use Rattle.der_core.specs.Laws.Sequences.{TextFails, TextGives, ContentsFaulty, first_faults, rest_faults}
 use Rattle.der_core.specs.Tags.{integer, octet_string, sequence}
 use Rattle.der_core.specs.Tlv.{Tlv}
 use Rattle.spki_core.specs.AlgorithmIdentifier.{Algorithm, PlainAlgorithm}

@@ -5,24 +5,24 @@ use Rattle.std.specs.Option.{option_map}
 use Rattle.der_core.specs.Document.{Means, HasText, IsAlone, IsShortest, IsRefused, EncodeRefusal, no_text, too_long, no_room, another}
 use Rattle.der_core.specs.Integer.{Small}
 use Rattle.der_core.specs.OctetString.{OctetContents, OctetString}
-use Rattle.der_core.specs.OctetStringLaws.{octets_at_most_one, octet_string_at_most_one}
+use Rattle.der_core.specs.Laws.OctetString.{octets_at_most_one, octet_string_at_most_one}
 use Rattle.der_core.specs.OctetStringRefValue.{octets_of, octets_held}
 use Rattle.spki_core.specs.AlgorithmValue.{algorithm_of}
-use Rattle.spki_core.specs.Held.{plain_held, plain_short}
+use Rattle.spki_core.specs.Laws.Held.{plain_held, plain_short}
 use Rattle.pkcs8_core.specs.declared.info.PrivateKeyInfoRef.{PrivateKeyInfoRef}
 use Rattle.der_core.specs.Optional.{Optional, HasOptional, written_optional}
 use Rattle.der_core.specs.Texts.{AtMostOne, AreBytes}
-use Rattle.der_core.specs.TextLaws.{tlv_at_most_one, tlv_made, joins_at_most_one}
-use Rattle.der_core.specs.IntegerLaws.{small_at_most_one}
+use Rattle.der_core.specs.Laws.Texts.{tlv_at_most_one, tlv_made, joins_at_most_one}
+use Rattle.der_core.specs.Laws.Integer.{small_at_most_one}
 use Rattle.spki_core.specs.AlgorithmIdentifier.{PlainAlgorithm, written_plain}
-use Rattle.spki_core.specs.AlgorithmTexts.{plain_at_most_one, optional_at_most_one}
+use Rattle.spki_core.specs.Laws.AlgorithmTexts.{plain_at_most_one, optional_at_most_one}
 use Rattle.pkcs8_core.specs.Container.{Info, AttributesText, InfoContents, PrivateKeyInfo, HasInfo, written_info, IsUnwritten}
-use Rattle.pkcs8_core.specs.Laws.{info_relates}
+use Rattle.pkcs8_core.specs.Laws.Container.{info_relates}
 use Rattle.pkcs8_core.specs.Held.{attributes_of, info_of}
 use Rattle.pkcs8_core.specs.declared.attributes.Attributes.{Attributes}
-use Rattle.der_core.specs.ShortTexts.{tlv_short}
-use Rattle.der_core.specs.Fronts.{front_is}
-use Rattle.der_core.specs.InputLaws.{are_bytes}
+use Rattle.der_core.specs.Laws.ShortTexts.{tlv_short}
+use Rattle.der_core.specs.Laws.Fronts.{front_is}
+use Rattle.der_core.specs.Laws.Input.{are_bytes}
 use Rattle.der_core.specs.Length.{limit}
 use Rattle.der_core.specs.Writing.{encode_refusal}
 use Rattle.der_core.specs.Tlv.{tlv}

@@ -13,7 +13,7 @@ use Rattle.pkcs1_params.specs.declared.error.Error.{Error}
 use Rattle.pkcs1_params.specs.declared.error.Error.TheVariants as error
 use Rattle.pkcs8_core.specs.Container.{Info}
 use Rattle.pkcs8_core.specs.ContainerFaults.{RsaFault}
-use Rattle.pkcs8_core.specs.ContainerFaultLaws.{rsa_is}
+use Rattle.pkcs8_core.specs.Laws.ContainerFaults.{rsa_is}
 use Rattle.pkcs8_core.specs.Rsa.{HoldsRsa, NotRsa, rsa_encryption}
 
 module _ {X : Type 0} (value : X → PrivateKey (List ℕ)) (info : Info) (q : List ℕ) (same : q ≡ info.private_key) where

@@ -1,7 +1,6 @@
 pub mod Tags
 pub mod Container
 pub mod Held
-pub mod Laws
 pub mod Rsa
 pub mod ContainerFaults
-pub mod ContainerFaultLaws
+pub mod Laws

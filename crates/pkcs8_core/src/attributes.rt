@@ -1,7 +1,7 @@
 //! Attributes of containers, as one opaque text.
 ghost use Rattle.std.specs.Prelude.{◌≡◌, ◌<◌, ◌^◌, ℕ, List, length, slice_index};
 ghost use Rattle.der_core.specs.OctetString.{OctetContents};
-ghost use Rattle.der_core.specs.OctetStringLaws.{octets_mean_one, octets_of_bytes, octets_relate, octets_shortest};
+ghost use Rattle.der_core.specs.Laws.OctetString.{octets_mean_one, octets_of_bytes, octets_relate, octets_shortest};
 ghost use Rattle.der_core.specs.Texts.{AreBytes};
 ghost use Rattle.pkcs8_core.specs.Tags.{attributes_tag};
 
@@ -62,7 +62,7 @@ impl TaggedBy for Attributes<'_> {
 
 impl<'a, M: Memory> DecodeValue<&'a [u8], M> for Attributes<'a> {
     ghost use Rattle.der_core.specs.Faults.{NoFault};
-    ghost use Rattle.der_core.specs.FaultLaws.{no_fault_none, no_fault_first};
+    ghost use Rattle.der_core.specs.Laws.Faults.{no_fault_none, no_fault_first};
 
     ghost may_allocate = { λ _. ⊥ };
 

@@ -14,7 +14,7 @@ ghost use Rattle.pkcs1_params.specs.Meanings.{IsNoSentence, IsOnlyMeaning};
 ghost use Rattle.pkcs8_core.specs.Container.{Info, AttributesText, InfoContents, PrivateKeyInfo, HasInfo, written_info, IsUnwritten};
 ghost use Rattle.pkcs8_core.specs.Held.{info_of, attributes_of, slice_now};
 ghost use Rattle.pkcs8_core.specs.declared.info.PrivateKeyInfoRef as containers;
-ghost use Rattle.pkcs8_core.specs.Laws.{info_means_one, info_of_bytes, info_relates, info_shortest};
+ghost use Rattle.pkcs8_core.specs.Laws.Container.{info_means_one, info_of_bytes, info_relates, info_shortest};
 
 use crate::attributes::Attributes;
 use pkcs1::der::{
@@ -103,7 +103,7 @@ impl<'a> Sequence<'a> for PrivateKeyInfoRef<'_> {
 
 impl<'a, M: Memory> DecodeValue<&'a [u8], M> for PrivateKeyInfoRef<'a> {
     ghost use Rattle.pkcs8_core.specs.ContainerFaults.{InfoFault};
-    ghost use Rattle.pkcs8_core.specs.ContainerFaultLaws.{info_fault_none, info_fault_first};
+    ghost use Rattle.pkcs8_core.specs.Laws.ContainerFaults.{info_fault_none, info_fault_first};
 
     ghost may_allocate = { λ _. ⊥ };
 

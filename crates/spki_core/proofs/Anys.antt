@@ -8,12 +8,12 @@ use Rattle.der_core.specs.Texts.{AreBytes}
 use Rattle.der_core.specs.declared.error.ErrorKind.{ErrorKind}
 use Rattle.der_core.specs.declared.error.ErrorKind.TheVariants.{Incomplete}
 use Rattle.der_core.specs.Input.{Input, left_in, read_from, front_of, header_at}
-use Rattle.der_core.specs.LengthReading.{chosen}
-use Rattle.der_core.specs.InputLaws.{ok_pair}
-use Rattle.der_core.specs.HeaderLaws.{tlv_header, header_at-sound, header_at-tells, header_sound}
-use Rattle.der_core.specs.Tells.{is_incomplete}
-use Rattle.der_core.proofs.HeaderAndContents.{Headed}
-use Rattle.der_core.specs.Sequences.{TextFails, TextGives}
+use Rattle.der_core.specs.Laws.LengthReading.{chosen}
+use Rattle.der_core.specs.Laws.Input.{ok_pair}
+use Rattle.der_core.specs.Laws.Headers.{tlv_header, header_at-sound, header_at-tells, header_sound}
+use Rattle.der_core.specs.Laws.Tells.{is_incomplete}
+use Rattle.der_core.specs.Laws.HeaderAndContents.{Headed}
+use Rattle.der_core.specs.Laws.Sequences.{TextFails, TextGives}
 use Rattle.der_core.specs.Faults.{FaultyFront}
 use Rattle.spki_core.specs.Faults.{AnyFault, headless, too_few}
 use Rattle.spki_core.specs.Any.{Any}

@@ -10,12 +10,12 @@ use Rattle.der_core.specs.Document.{Means, IsRefused}
 use Rattle.der_core.specs.Writing.{encode_refusal}
 use Rattle.der_core.specs.Input.{Input}
 use Rattle.der_core.specs.declared.tag.Tag.{Tag}
-use Rattle.der_core.specs.TagLaws.{same_tag}
+use Rattle.der_core.specs.Laws.Tags.{same_tag}
 use Rattle.der_core.specs.Tlv.{Tlv}
 use Rattle.der_core.specs.Faults.{TextFault, WholeFault, Faulty, FaultyFront, OnlyFront, AreNone, AreFirst}
 use Rattle.der_core.specs.Length.{limit}
 use Rattle.der_core.specs.Reading.{ReadsAll, ReadsOrFaults, Refuses, AllocatesIn, NoneHas}
-use Rattle.der_core.specs.Sequences.{TextFails, TextGives, some_same}
+use Rattle.der_core.specs.Laws.Sequences.{TextFails, TextGives, some_same}
 
 module _ {V : Type 0} (text : V → List ℕ → Type 0) where
   pub copy_fails : (before mid after : Input) (e : ErrorKind) (v : V) → TextGives text v before mid → e ≡ OutOfMemory → after ≡ None

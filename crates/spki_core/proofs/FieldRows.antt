@@ -1,13 +1,13 @@
 -- Explicit tags, and fields with defaults, at worked examples.
 use Rattle.std.proofs.Common.{ℕ, List, [], ◌∷◌, ◌++◌, ◌≡◌, ◌<◌, ◌+◌, inl, inr, length, map, refl, sym, ◌∙◌, arith, length-append}
 use Rattle.der_core.specs.Integer.{Small}
-use Rattle.der_core.specs.IntegerLaws.{small_delimited}
-use Rattle.der_core.specs.ListLaws.{same_cons}
+use Rattle.der_core.specs.Laws.Integer.{small_delimited}
+use Rattle.der_core.specs.Laws.Lists.{same_cons}
 use Rattle.der_core.specs.Texts.{Joins}
-use Rattle.der_core.proofs.WrittenOut.{known_tlv, known_front, known_whole, small_byte, no_bytes_refused, other_tag_refused, no_part_refused}
+use Rattle.der_core.specs.Laws.WrittenOut.{known_tlv, known_front, known_whole, small_byte, no_bytes_refused, other_tag_refused, no_part_refused}
 use Rattle.spki_core.specs.ContextSpecific.{Numbered, ContextSpecific}
 use Rattle.spki_core.specs.Explicit.{Field, field, Defaultable, FieldSequence, HaveDefaults, MaskedField, Masked, AllExplicit, FieldRead, FieldRefused, left_out, written, forced}
-use Rattle.spki_core.proofs.KnownFields.{left_out_field, written_field, field_written}
+use Rattle.spki_core.specs.Laws.KnownFields.{left_out_field, written_field, field_written}
 
 -- a203020114
 tag_2 : ContextSpecific Small (record { number = 2; value = 20 }) (0xa2 ∷ 0x03 ∷ 0x02 ∷ 0x01 ∷ 0x14 ∷ [])

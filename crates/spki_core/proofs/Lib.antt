@@ -1,12 +1,4 @@
 pub mod Octets
 pub mod Anys
-pub mod Carried
-pub mod FieldReads
-pub mod KnownFields
-pub mod IdentifierRows
-pub mod AlgorithmRows
 pub mod FieldRows
-pub mod Fields
-pub mod Spellings
 pub mod Copies
-pub mod StrictWalk

@@ -12,15 +12,7 @@ pub mod OwnedAnyValue
 pub mod AnyValues
 pub mod AlgorithmValue
 pub mod IdentifierTest
-pub mod IdentifierLaws
-pub mod AnyLaws
-pub mod AlgorithmLaws
-pub mod ContextSpecificLaws
-pub mod FieldLaws
-pub mod AlgorithmTexts
-pub mod Held
 pub mod StrictFields
 pub mod Masks
-pub mod MaskLaws
 pub mod Faults
-pub mod FaultLaws
+pub mod Laws

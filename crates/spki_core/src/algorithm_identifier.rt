@@ -4,7 +4,7 @@ ghost use Rattle.std.specs.Option.{option_map};
 ghost use Rattle.spki_core.specs.Allocating.{AllocatesForParameters, NothingAskedAlone};
 ghost use Rattle.spki_core.specs.Any.{TagAndContents};
 ghost use Rattle.spki_core.specs.AlgorithmIdentifier.{Algorithm, AlgorithmContents, HasAlgorithm, written_algorithm};
-ghost use Rattle.spki_core.specs.AlgorithmLaws.{algorithm_means_one, algorithm_of_bytes, algorithm_relates, algorithm_shortest, algorithm_decides};
+ghost use Rattle.spki_core.specs.Laws.Algorithms.{algorithm_means_one, algorithm_of_bytes, algorithm_relates, algorithm_shortest, algorithm_decides};
 
 use crate::any::{AnyRef, AnyValue};
 use crate::object_identifier::ObjectIdentifier;
@@ -69,7 +69,7 @@ impl<P: EqualByValue> EqualByValue for AlgorithmIdentifier<P> {
 
 impl<'a, M: Memory, P: Decode<&'a [u8], M>> DecodeValue<&'a [u8], M> for AlgorithmIdentifier<P> {
     ghost use Rattle.spki_core.specs.Faults.{AlgorithmFault};
-    ghost use Rattle.spki_core.specs.FaultLaws.{algorithm_fault_none, algorithm_fault_first};
+    ghost use Rattle.spki_core.specs.Laws.Faults.{algorithm_fault_none, algorithm_fault_first};
 
     ghost may_allocate = { AllocatesForParameters P.Decode.may_allocate };
 

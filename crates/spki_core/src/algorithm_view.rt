@@ -2,7 +2,7 @@
 ghost use Rattle.std.specs.Prelude.{◌≡◌};
 ghost use Rattle.spki_core.specs.Allocating.{AllocatesForParameters};
 ghost use Rattle.spki_core.specs.AlgorithmIdentifier.{Algorithm, AlgorithmContents, HasAlgorithm, written_algorithm};
-ghost use Rattle.spki_core.specs.AlgorithmLaws.{algorithm_means_one, algorithm_of_bytes, algorithm_relates, algorithm_shortest};
+ghost use Rattle.spki_core.specs.Laws.Algorithms.{algorithm_means_one, algorithm_of_bytes, algorithm_relates, algorithm_shortest};
 
 use crate::algorithm_identifier::AlgorithmIdentifier;
 use crate::identifier_view::IdentifierView;
@@ -61,7 +61,7 @@ impl<P> TaggedBy for AlgorithmView<'_, P> {
 
 impl<'a, M: Memory, P: Decode<&'a [u8], M>> DecodeValue<&'a [u8], M> for AlgorithmView<'a, P> {
     ghost use Rattle.spki_core.specs.Faults.{AlgorithmFault};
-    ghost use Rattle.spki_core.specs.FaultLaws.{algorithm_fault_none, algorithm_fault_first};
+    ghost use Rattle.spki_core.specs.Laws.Faults.{algorithm_fault_none, algorithm_fault_first};
 
     ghost may_allocate = { AllocatesForParameters P.Decode.may_allocate };
 

@@ -8,7 +8,7 @@ ghost use Rattle.spki_core.specs.Faults.{AnyFault, OtherAnyFault};
 ghost use Rattle.der_core.specs.declared.error.ErrorKind as der;
 ghost use Rattle.der_core.specs.Refusal.{IsUnexpected};
 ghost use Rattle.spki_core.specs.Any.{TagAndContents, IsAny, Any, null_value, written_any};
-ghost use Rattle.spki_core.specs.AnyLaws.{any_delimited, any_of_bytes, any_relates, any_shortest};
+ghost use Rattle.spki_core.specs.Laws.AnyTexts.{any_delimited, any_of_bytes, any_relates, any_shortest};
 
 use der_core::{
     BackWriter, Decode, DecodeValue, Encode, EqualByValue, Error, ErrorKind, FixedTag, Header,
@@ -164,7 +164,7 @@ impl Text for AnyRef<'_> {
 }
 
 impl<'a, M: Memory> Decode<&'a [u8], M> for AnyRef<'a> {
-    ghost use Rattle.spki_core.specs.FaultLaws.{any_fault_none, any_fault_first};
+    ghost use Rattle.spki_core.specs.Laws.Faults.{any_fault_none, any_fault_first};
 
     ghost may_allocate = { λ _. ⊥ };
 
@@ -254,7 +254,7 @@ pub trait AnyValue: EqualByValue {
 }
 
 impl EqualByValue for AnyRef<'_> {
-    ghost use Rattle.spki_core.specs.AnyLaws.{any_decides};
+    ghost use Rattle.spki_core.specs.Laws.AnyTexts.{any_decides};
 
     ghost decides = { λ a b. any_decides a.tag.octet b.tag.octet a.contents.now b.contents.now };
 }

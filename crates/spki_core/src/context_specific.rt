@@ -8,7 +8,7 @@ ghost use Rattle.der_core.specs.Reading.{ReadsText, ReadsOptional, AllocatesIn, 
 ghost use Rattle.spki_core.specs.Allocating.{FieldAllocates};
 ghost use Rattle.spki_core.specs.Faults.{NextFault};
 ghost use Rattle.spki_core.specs.ContextSpecific.{Numbered, ContextSpecific, HasNumbered, written_numbered};
-ghost use Rattle.spki_core.specs.ContextSpecificLaws.{numbered_delimited, numbered_of_bytes, numbered_relates, numbered_shortest};
+ghost use Rattle.spki_core.specs.Laws.ContextSpecific.{numbered_delimited, numbered_of_bytes, numbered_relates, numbered_shortest};
 
 use der_core::{
     BackWriter, Decode, Encode, ErrorKind, Header, Length, Memory, Reader, Result, Tag, TagNumber,

@@ -2,7 +2,7 @@
 ghost use Rattle.std.specs.Prelude.{◌≡◌, ℕ, ◌<◌, List, slice_index, IsTrue, IfOk, IfErr};
 ghost use Rattle.spki_core.specs.IdentifierTest as specs;
 ghost use Rattle.spki_core.specs.ObjectIdentifier.{IsIdentifier, IdentifierContents};
-ghost use Rattle.spki_core.specs.IdentifierLaws.{identifier_means_one, identifier_contents_of_bytes, identifier_contents_relate, identifier_contents_shortest};
+ghost use Rattle.spki_core.specs.Laws.Identifiers.{identifier_means_one, identifier_contents_of_bytes, identifier_contents_relate, identifier_contents_shortest};
 
 use crate::object_identifier::{
     AssociatedOid, ObjectIdentifier, ObjectIdentifierTag, is_identifier,
@@ -94,7 +94,7 @@ impl TaggedBy for IdentifierView<'_> {
 
 impl<'a, M: Memory> DecodeValue<&'a [u8], M> for IdentifierView<'a> {
     ghost use Rattle.spki_core.specs.Faults.{IdentifierFault};
-    ghost use Rattle.spki_core.specs.FaultLaws.{identifier_fault_none, identifier_fault_first};
+    ghost use Rattle.spki_core.specs.Laws.Faults.{identifier_fault_none, identifier_fault_first};
 
     ghost may_allocate = { λ _. ⊥ };
 

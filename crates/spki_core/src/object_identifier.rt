@@ -2,7 +2,7 @@
 ghost use Rattle.std.specs.Prelude.{◌≡◌, ℕ, ◌≤◌, ◌<◌, List, take, slice_index, IsTrue, IfOk, IfErr};
 ghost use Rattle.spki_core.specs.IdentifierTest as specs;
 ghost use Rattle.spki_core.specs.ObjectIdentifier.{IsIdentifier, IdentifierContents};
-ghost use Rattle.spki_core.specs.IdentifierLaws.{identifier_means_one, identifier_contents_of_bytes, identifier_contents_relate, identifier_contents_shortest};
+ghost use Rattle.spki_core.specs.Laws.Identifiers.{identifier_means_one, identifier_contents_of_bytes, identifier_contents_relate, identifier_contents_shortest};
 ghost use Rattle.std.proofs.Common.{rules};
 ghost use Rattle.std.specs.Hash as fed;
 ghost use Rattle.std.specs.Str.{bytes_eq};
@@ -179,7 +179,7 @@ impl TaggedBy for ObjectIdentifier {
 
 impl EqualByValue for ObjectIdentifier {
     ghost use Rattle.spki_core.specs.ObjectIdentifierValue.{octets_of};
-    ghost use Rattle.der_core.specs.EqualityLaws.{bytes_decide};
+    ghost use Rattle.der_core.specs.Laws.Equality.{bytes_decide};
 
     ghost decides = { λ a b. bytes_decide (octets_of a) (octets_of b) };
 }
@@ -187,7 +187,7 @@ impl EqualByValue for ObjectIdentifier {
 impl<'a, M: Memory> DecodeValue<&'a [u8], M> for ObjectIdentifier {
     ghost use Rattle.der_core.specs.Reading.{ReadsOrFaults};
     ghost use Rattle.spki_core.specs.Faults.{IdentifierFault};
-    ghost use Rattle.spki_core.specs.FaultLaws.{identifier_fault_none, identifier_fault_first};
+    ghost use Rattle.spki_core.specs.Laws.Faults.{identifier_fault_none, identifier_fault_first};
     ghost use Rattle.spki_core.specs.ObjectIdentifierValue.{octets_of};
 
     ghost may_allocate = { λ _. ⊥ };

@@ -3,7 +3,7 @@ ghost use Rattle.std.specs.Prelude.{◌≡◌, ◌≤◌, ◌<◌, ◌⊎◌, �
 ghost use Rattle.der_core.specs.Length.{limit};
 ghost use Rattle.spki_core.specs.Any.{TagAndContents, IsAny, written_any};
 ghost use Rattle.spki_core.specs.Any as grammar;
-ghost use Rattle.spki_core.specs.AnyLaws.{any_delimited, any_of_bytes, any_relates, any_shortest};
+ghost use Rattle.spki_core.specs.Laws.AnyTexts.{any_delimited, any_of_bytes, any_relates, any_shortest};
 
 use crate::any::{AnyParams, AnyRef, AnyValue};
 use der_core::{
@@ -72,7 +72,7 @@ impl Text for Any {
 
 impl<'a> Decode<&'a [u8], Global> for Any {
     ghost use Rattle.spki_core.specs.Faults.{AnyFault};
-    ghost use Rattle.spki_core.specs.FaultLaws.{any_fault_none, any_fault_first};
+    ghost use Rattle.spki_core.specs.Laws.Faults.{any_fault_none, any_fault_first};
 
     ghost may_allocate = { λ b. (v : TagAndContents) × grammar.Any v b };
 
@@ -115,7 +115,7 @@ impl Encode for Any {
 }
 
 impl EqualByValue for Any {
-    ghost use Rattle.spki_core.specs.AnyLaws.{any_decides};
+    ghost use Rattle.spki_core.specs.Laws.AnyTexts.{any_decides};
 
     ghost decides = { λ a b. any_decides a.tag.octet b.tag.octet a.contents.items b.contents.items };
 }

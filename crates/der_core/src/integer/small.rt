@@ -3,11 +3,11 @@ ghost use Rattle.std.specs.Prelude.{◌≡◌, ◌≤◌, ◌<◌, ℕ, List, �
 ghost use Rattle.der_core.specs.Length.{limit};
 ghost use Rattle.der_core.specs.Reading.{ReadsContents, ReadsOrFaults, HoldsBytes};
 ghost use Rattle.der_core.specs.Faults.{SmallFault};
-ghost use Rattle.der_core.specs.FaultLaws.{small_fault_none, small_fault_first};
+ghost use Rattle.der_core.specs.Laws.Faults.{small_fault_none, small_fault_first};
 ghost use Rattle.der_core.specs.Integer.{SmallContents, integer_contents};
 ghost use Rattle.der_core.specs.IntegerReading.{Answers, small_of};
-ghost use Rattle.der_core.specs.IntegerLaws.{small_means_one, small_of_bytes};
-ghost use Rattle.der_core.specs.SmallLaws.{small_relates, small_shortest};
+ghost use Rattle.der_core.specs.Laws.Integer.{small_means_one, small_of_bytes};
+ghost use Rattle.der_core.specs.Laws.SmallNumbers.{small_relates, small_shortest};
 
 use crate::back_writer::BackWriter;
 use crate::decode::DecodeValue;
@@ -56,7 +56,7 @@ impl TaggedBy for u8 {
 }
 
 impl EqualByValue for u8 {
-    ghost use Rattle.der_core.specs.EqualityLaws.{number_decides};
+    ghost use Rattle.der_core.specs.Laws.Equality.{number_decides};
 
     ghost decides = { λ a b. number_decides a b };
 }

@@ -4,10 +4,10 @@ ghost use Rattle.std.specs.Int.Digits.{number_from_digits};
 ghost use Rattle.der_core.specs.Length.{limit};
 ghost use Rattle.der_core.specs.Reading.{ReadsContents, ReadsOrFaults, HoldsBytes};
 ghost use Rattle.der_core.specs.Faults.{IntegerFault};
-ghost use Rattle.der_core.specs.FaultLaws.{integer_fault_none, integer_fault_first};
+ghost use Rattle.der_core.specs.Laws.Faults.{integer_fault_none, integer_fault_first};
 ghost use Rattle.der_core.specs.Integer.{HoldsNumber, IsCanonical, AreCanonicalOf, IntegerContents, integer_contents};
 ghost use Rattle.der_core.specs.IntegerReading.{integer_of, Answers, IsNoNumber};
-ghost use Rattle.der_core.specs.IntegerLaws.{integer_means_one, integer_of_bytes, integer_relates, integer_shortest};
+ghost use Rattle.der_core.specs.Laws.Integer.{integer_means_one, integer_of_bytes, integer_relates, integer_shortest};
 ghost use Rattle.der_core.specs.Tags.{integer};
 
 use crate::back_writer::BackWriter;
@@ -165,7 +165,7 @@ impl<'a> TaggedBy for UintRef<'a> {
 }
 
 impl EqualByValue for UintRef<'_> {
-    ghost use Rattle.der_core.specs.EqualityLaws.{bytes_decide};
+    ghost use Rattle.der_core.specs.Laws.Equality.{bytes_decide};
 
     ghost decides = { λ a b. bytes_decide a.bytes.now b.bytes.now };
 }

@@ -9,7 +9,7 @@ ghost use Rattle.der_core.specs.Writing.{Counts, Appends};
 ghost use Rattle.pkcs1.specs.Allocating.{BeginsSequence};
 ghost use Rattle.pkcs1.specs.Keys.{OtherPrime, OtherPrimeContents, OthersOf};
 ghost use Rattle.pkcs1.specs.Writing.{HasOther, HasOthers, written_other, written_others};
-ghost use Rattle.pkcs1.specs.PrivateKeyLaws.{other_means_one, other_of_bytes, other_relates, other_shortest};
+ghost use Rattle.pkcs1.specs.Laws.PrivateKey.{other_means_one, other_of_bytes, other_relates, other_shortest};
 ghost use Rattle.pkcs1.specs.PrivateKeyValue.{other_of, others_of, ListsNone};
 ghost use Rattle.pkcs1.specs.Versions.{number_of};
 
@@ -100,7 +100,7 @@ impl<U: TryClone> TryClone for OtherPrimeInfo<U> {
 
 impl<'a, M: Memory, U: Decode<&'a [u8], M>> DecodeValue<&'a [u8], M> for OtherPrimeInfo<U> {
     ghost use Rattle.pkcs1.specs.KeyFaults.{OtherPrimeFault};
-    ghost use Rattle.pkcs1.specs.KeyFaultLaws.{other_fault_none, other_fault_first};
+    ghost use Rattle.pkcs1.specs.Laws.KeyFaults.{other_fault_none, other_fault_first};
 
     ghost may_allocate = { AllocatesWithin U.Decode.may_allocate };
 

@@ -1,8 +1,8 @@
 use Rattle.std.proofs.Common.{◌≡◌, ap, ◌∙◌}
 use Rattle.std.proofs.lemmas.Result.{err_from_is_err_and}
 use Rattle.der_core.specs.declared.error.ErrorKind.TheVariants.{TagUnexpected}
-use Rattle.der_core.proofs.HeaderAndContents.{refused_header, refused_tag, room_refused, value_refused, value_accepted, ne_true, ne_false, faulty_none, header_faults, tag_faults, room_faults, value_faults}
-use Rattle.der_core.specs.Tells.{is_other_tag}
+use Rattle.der_core.specs.Laws.HeaderAndContents.{refused_header, refused_tag, room_refused, value_refused, value_accepted, ne_true, ne_false, faulty_none, header_faults, tag_faults, room_faults, value_faults}
+use Rattle.der_core.specs.Laws.Tells.{is_other_tag}
 use Rattle.der_core.proofs.decode.read_text.Goals as goal
 
 pub returns-in_err-header-clause-text : goal.returns-in_err-header-clause-text

@@ -1,6 +1,6 @@
 use Rattle.std.proofs.Common.{inl, inr, ⊎_elim}
 use Rattle.std.proofs.lemmas.Result.{err_from_is_err_and}
-use Rattle.der_core.specs.LastParts.{last_fails, last_faults, peek_more}
+use Rattle.der_core.specs.Laws.LastParts.{last_fails, last_faults, peek_more}
 use Rattle.der_core.proofs.last_part.decode_last.Goals as goal
 
 pub returns-in_err-value-clause-reads : goal.returns-in_err-value-clause-reads

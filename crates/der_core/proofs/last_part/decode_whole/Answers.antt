@@ -1,7 +1,7 @@
 use Rattle.std.proofs.lemmas.Result.{err_from_is_err_and}
 use Rattle.der_core.specs.Faults.{EndFault}
-use Rattle.der_core.specs.Sequences.{first_faults, rest_faults, end_faults}
-use Rattle.der_core.specs.LastParts.{whole_fails, whole_trailing}
+use Rattle.der_core.specs.Laws.Sequences.{first_faults, rest_faults, end_faults}
+use Rattle.der_core.specs.Laws.LastParts.{whole_fails, whole_trailing}
 use Rattle.der_core.proofs.last_part.decode_whole.Goals as goal
 
 pub returns-in_err-value-clause-reads : goal.returns-in_err-value-clause-reads

@@ -1,4 +1,4 @@
-use Rattle.der_core.specs.FaultLaws.{only_contents}
+use Rattle.der_core.specs.Laws.Faults.{only_contents}
 use Rattle.der_core.proofs.laws.contents_are_refused_by_their_fault.Goals as goal
 
 pub returns : goal.returns

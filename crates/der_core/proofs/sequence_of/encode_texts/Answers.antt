@@ -2,8 +2,8 @@ use Rattle.std.proofs.Common.{arith, rules, refl, ap, sym, ◌∙◌, subst, app
 use Rattle.std.proofs.lemmas.Result.{err_from_is_err_and}
 use Rattle.der_core.specs.SequenceOf.{AllHave, all_texts}
 use Rattle.der_core.specs.Length.{limit}
-use Rattle.der_core.proofs.Items.{texts_more, texts_around, have_at}
-use Rattle.der_core.specs.StoppedWriting.{appends_in_front, appends_behind}
+use Rattle.der_core.specs.Laws.Items.{texts_more, texts_around, have_at}
+use Rattle.der_core.specs.Laws.StoppedWriting.{appends_in_front, appends_behind}
 use Rattle.der_core.proofs.sequence_of.encode_texts.Goals as goal
 
 module _ {T : Type 0} (has : T → Type 0) (text : T → List ℕ) (xs : List T) (i : ℕ) (x : T) (h : i < length xs) (e : x ≡ get_or xs i x) where

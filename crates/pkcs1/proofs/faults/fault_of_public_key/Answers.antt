@@ -1,6 +1,6 @@
 use Rattle.pkcs1.specs.Keys.{RsaPublicKey}
 use Rattle.pkcs1.specs.KeyFaults.{RsaPublicKeyFault}
-use Rattle.pkcs1_params.proofs.FaultsTold.{fault_told}
+use Rattle.pkcs1_params.specs.Laws.FaultsTold.{fault_told}
 use Rattle.pkcs1.proofs.faults.fault_of_public_key.Goals as goal
 
 pub returns-in-Err-Asn1 : goal.returns-in-Err-Asn1

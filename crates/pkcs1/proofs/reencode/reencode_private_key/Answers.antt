@@ -1,7 +1,7 @@
 use Rattle.std.proofs.lemmas.Result.{err_from_is_err_and}
 use Rattle.pkcs1.specs.KeyFaults.{RsaPrivateKeyFault}
 use Rattle.der_core.specs.DocumentValue.{text_of}
-use Rattle.pkcs1.specs.KeyFaultLaws.{private_key_whole_none}
+use Rattle.pkcs1.specs.Laws.KeyFaults.{private_key_whole_none}
 use Rattle.pkcs1.specs.Keys.{RsaPrivateKey}
 use Rattle.pkcs1.proofs.Reencoded.{comes_out, is_sentence, wants_memory, memory_wanted, more_asked}
 use Rattle.pkcs1.proofs.reencode.reencode_private_key.Goals as goal

@@ -1,7 +1,7 @@
 use Rattle.std.proofs.lemmas.Result.{err_from_is_err_and}
 use Rattle.pkcs1.specs.KeyFaults.{RsaPublicKeyFault}
 use Rattle.der_core.specs.DocumentValue.{text_of}
-use Rattle.pkcs1.specs.KeyFaultLaws.{public_key_whole_none}
+use Rattle.pkcs1.specs.Laws.KeyFaults.{public_key_whole_none}
 use Rattle.pkcs1.specs.Keys.{RsaPublicKey}
 use Rattle.pkcs1.proofs.Reencoded.{comes_out, is_sentence, wants_memory, memory_wanted, more_asked}
 use Rattle.pkcs1.proofs.reencode.reencode_public_key.Goals as goal

@@ -1,13 +1,13 @@
 use Rattle.std.proofs.Common.{length, refl, ap, ◌∙◌, inr, ⊎_elim}
 use Rattle.der_core.specs.declared.error.ErrorKind.TheVariants as kind
-use Rattle.der_core.specs.TagLaws.{same_tag}
+use Rattle.der_core.specs.Laws.Tags.{same_tag}
 use Rattle.der_core.specs.Tags.{integer, sequence}
 use Rattle.pkcs1.specs.KeyFaults.{NumberFault}
 use Rattle.std.proofs.lemmas.Result.{err_from_is_err_and}
 use Rattle.der_core.specs.Integer.{Integer}
-use Rattle.der_core.specs.IntegerLaws.{integer_delimited}
+use Rattle.der_core.specs.Laws.Integer.{integer_delimited}
 use Rattle.pkcs1.specs.OtherPrimesLeft.{others_left}
-use Rattle.der_core.specs.Tells.{is_value}
+use Rattle.der_core.specs.Laws.Tells.{is_value}
 use Rattle.der_core.specs.Tlv.{Tlv}
 use Rattle.pkcs1.proofs.OtherReads.{agree, others_fail, empty_fails, more_fails, others_given, listed, unlisted, others_faults, disagree_faults, empty_faults, more_faults}
 use Rattle.pkcs1.proofs.view.read_listed.Goals as goal

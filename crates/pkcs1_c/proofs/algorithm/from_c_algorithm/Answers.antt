@@ -2,7 +2,7 @@ use Rattle.std.proofs.Common.{ap, subst, inl, inr}
 use Rattle.std.specs.Prelude.{IsTrue}
 use Rattle.der_core.specs.Tag.{is_allowed}
 use Rattle.der_core.specs.declared.error.Error.{Error}
-use Rattle.spki_core.specs.Held.{identifier_held}
+use Rattle.spki_core.specs.Laws.Held.{identifier_held}
 use Rattle.spki_core.specs.ObjectIdentifier.{IsIdentifier}
 use Rattle.pkcs1_c.specs.declared.algorithm.Algorithm.{Algorithm}
 use Rattle.pkcs1_c.specs.Status.{kind_number}

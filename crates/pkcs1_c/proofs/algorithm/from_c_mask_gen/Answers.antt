@@ -1,6 +1,6 @@
 use Rattle.std.proofs.Common.{subst}
 use Rattle.der_core.specs.declared.error.Error.{Error}
-use Rattle.spki_core.specs.Held.{identifier_held}
+use Rattle.spki_core.specs.Laws.Held.{identifier_held}
 use Rattle.spki_core.specs.ObjectIdentifier.{IsIdentifier}
 use Rattle.pkcs1_c.specs.declared.algorithm.MaskGen.{MaskGen}
 use Rattle.pkcs1_c.specs.Status.{kind_number}

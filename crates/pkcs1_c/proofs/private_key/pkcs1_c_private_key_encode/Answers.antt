@@ -1,8 +1,8 @@
 use Rattle.std.proofs.Common.{length, map, sym, subst, ◌∙◌, arith, inl, inr, ⊎_elim}
 use Rattle.pkcs1.specs.Keys.{RsaPrivateKey}
 use Rattle.pkcs1.specs.PrivateKeyValue.{private_key_of}
-use Rattle.pkcs1.proofs.KeyTexts.{only_text}
-use Rattle.pkcs1.proofs.PrivateKeys.{private_at_most_one, private_delimited}
+use Rattle.pkcs1.specs.Laws.KeyTexts.{only_text}
+use Rattle.pkcs1.specs.Laws.PrivateKeys.{private_at_most_one, private_delimited}
 use Rattle.pkcs1_c.specs.StructValues.{other_prime_seen}
 use Rattle.pkcs1_c.specs.Status.{status_of}
 use Rattle.pkcs1_c.specs.Unwritten.{PrivateKeyRefusal, eight_numbers, others_numbers}

@@ -1,7 +1,7 @@
 use Rattle.std.proofs.Common.{length, sym, subst}
 use Rattle.pkcs1.specs.Keys.{RsaPublicKey}
 use Rattle.pkcs1.specs.PublicKeyValue.{public_key_of}
-use Rattle.pkcs1.proofs.PublicKeys.{public_only}
+use Rattle.pkcs1.specs.Laws.PublicKeys.{public_only}
 use Rattle.pkcs1_c.specs.StructValues.{public_key_seen}
 use Rattle.pkcs1_c.specs.Unwritten.{PublicKeyRefusal}
 use Rattle.pkcs1_c.proofs.HeldKeys.{public_fits, public_some, public_held, public_more, public_rest, public_one, public_refused}

@@ -1,6 +1,6 @@
 use Rattle.pkcs1_params.specs.Parameters.{RsaOaepParams}
 use Rattle.pkcs1_params.specs.ParameterFaults.{RsaOaepParamsFault}
-use Rattle.pkcs1_params.proofs.FaultsTold.{fault_told}
+use Rattle.pkcs1_params.specs.Laws.FaultsTold.{fault_told}
 use Rattle.pkcs1_params.proofs.faults.fault_of_oaep_params.Goals as goal
 
 pub returns-in-Err-Asn1 : goal.returns-in-Err-Asn1

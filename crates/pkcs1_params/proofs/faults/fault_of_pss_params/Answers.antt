@@ -1,6 +1,6 @@
 use Rattle.pkcs1_params.specs.Parameters.{RsaPssParams}
 use Rattle.pkcs1_params.specs.ParameterFaults.{RsaPssParamsFault}
-use Rattle.pkcs1_params.proofs.FaultsTold.{fault_told}
+use Rattle.pkcs1_params.specs.Laws.FaultsTold.{fault_told}
 use Rattle.pkcs1_params.proofs.faults.fault_of_pss_params.Goals as goal
 
 pub returns-in-Err-Asn1 : goal.returns-in-Err-Asn1

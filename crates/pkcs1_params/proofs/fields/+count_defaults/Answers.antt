@@ -1,5 +1,5 @@
 use Rattle.pkcs1_params.specs.FieldRefs.{part_in, values_in}
-use Rattle.pkcs1_params.specs.PartLaws.{one_more}
+use Rattle.pkcs1_params.specs.Laws.Parts.{one_more}
 use Rattle.pkcs1_params.specs.Parts.{fields_in}
 use Rattle.pkcs1_params.proofs.fields.+count_defaults.Goals as goal
 

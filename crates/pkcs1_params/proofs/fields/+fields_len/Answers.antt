@@ -1,4 +1,4 @@
-use Rattle.der_core.specs.Counting.{counts_joined}
+use Rattle.der_core.specs.Laws.Counting.{counts_joined}
 use Rattle.spki_core.specs.FieldWriting.{written_field}
 use Rattle.spki_core.specs.Masks.{out_under, rest_under}
 use Rattle.pkcs1_params.specs.FieldRefs.{part_in, values_in}

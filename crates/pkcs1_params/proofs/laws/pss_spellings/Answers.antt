@@ -1,9 +1,9 @@
-use Rattle.der_core.specs.ShortestLaws.{same_by_shortest}
-use Rattle.spki_core.proofs.Fields.{defaults_same}
-use Rattle.spki_core.proofs.Spellings.{masks_are_members}
+use Rattle.der_core.specs.Laws.Shortest.{same_by_shortest}
+use Rattle.spki_core.specs.Laws.Fields.{defaults_same}
+use Rattle.spki_core.specs.Laws.Spellings.{masks_are_members}
 use Rattle.pkcs1_params.specs.Parameters.{pss_fields}
 use Rattle.pkcs1_params.proofs.ParameterSpellings.{each_has_one_mask, each_mask_has_one, shortest_has_no_defaults, accepted_fits}
-use Rattle.pkcs1_params.specs.ParameterLaws.{pss_delimited, pss_in_order}
+use Rattle.pkcs1_params.specs.Laws.Parameters.{pss_delimited, pss_in_order}
 use Rattle.pkcs1_params.specs.Defaults.{pss_defaults}
 use Rattle.pkcs1_params.proofs.laws.pss_spellings.Goals as goal
 

@@ -6,8 +6,8 @@ use Rattle.spki_core.specs.AlgorithmIdentifier.{AlgorithmIdentifier}
 use Rattle.spki_core.specs.Faults.{NextFault}
 use Rattle.pkcs1_params.specs.ParameterFaults.{tag_2, PlainFault}
 use Rattle.spki_core.specs.Allocating.{AlgorithmAllocates}
-use Rattle.spki_core.proofs.Carried.{any_carried, algorithm_carried}
-use Rattle.spki_core.proofs.FieldReads.{field_present, field_faulty, of_tag}
+use Rattle.spki_core.specs.Laws.Carried.{any_carried, algorithm_carried}
+use Rattle.spki_core.specs.Laws.FieldReads.{field_present, field_faulty, of_tag}
 use Rattle.pkcs1_params.proofs.p_source.read_source.Goals as goal
 
 pub returns-then-branch-clause-reads : goal.returns-then-branch-clause-reads

@@ -1,11 +1,11 @@
-use Rattle.der_core.specs.ShortestLaws.{means_one}
-use Rattle.der_core.specs.TextLaws.{tlv_delimited}
-use Rattle.pkcs1_params.specs.FieldValueLaws.{ordered}
+use Rattle.der_core.specs.Laws.Shortest.{means_one}
+use Rattle.der_core.specs.Laws.Texts.{tlv_delimited}
+use Rattle.pkcs1_params.specs.Laws.FieldValues.{ordered}
 use Rattle.pkcs1_params.specs.MaskedValues.{FieldContents}
 use Rattle.pkcs1_params.specs.Parts.{fields_with}
 use Rattle.pkcs1_params.proofs.Masks.{zero_in_range, zero_is_shortest, not_written, if_ok_as, if_err_as}
 use Rattle.pkcs1_params.proofs.ParameterSpellings.{two_to_the_defaults}
-use Rattle.spki_core.proofs.Spellings.{masked_spells}
+use Rattle.spki_core.specs.Laws.Spellings.{masked_spells}
 use Rattle.pkcs1_params.proofs.spelling.encode_shortest.Goals as goal
 
 pub spell_into-requires : goal.spell_into-requires

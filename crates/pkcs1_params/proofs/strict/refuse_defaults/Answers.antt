@@ -1,8 +1,8 @@
 use Rattle.std.proofs.Common.{Some, None}
 use Rattle.spki_core.specs.StrictFields.{number_in}
-use Rattle.spki_core.proofs.StrictWalk.{none_found, found_longer, writes_one}
-use Rattle.pkcs1_params.specs.FieldValueLaws.{ordered}
-use Rattle.pkcs1_params.specs.PartLaws.{parts_counted}
+use Rattle.spki_core.specs.Laws.StrictWalk.{none_found, found_longer, writes_one}
+use Rattle.pkcs1_params.specs.Laws.FieldValues.{ordered}
+use Rattle.pkcs1_params.specs.Laws.Parts.{parts_counted}
 use Rattle.pkcs1_params.specs.Parts.{parts_of, fields_with}
 use Rattle.pkcs1_params.proofs.StrictParameters.{named, named_only, found_among}
 use Rattle.pkcs1_params.proofs.strict.refuse_defaults.Goals as goal

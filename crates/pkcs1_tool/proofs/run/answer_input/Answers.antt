@@ -1,5 +1,5 @@
 use Rattle.std.proofs.Common.{[], sym, append-nil}
-use Rattle.der_core.proofs.SourceMoves.{SomeRefused-after}
+use Rattle.der_core.specs.Laws.SourceMoves.{SomeRefused-after}
 use Rattle.pkcs1_lines.specs.Lines.{lines_of}
 use Rattle.pkcs1_tool.proofs.Runs.{WritesFront-whole}
 use Rattle.pkcs1_tool.proofs.run.answer_input.Goals as goal

@@ -2,7 +2,7 @@ use Rattle.std.proofs.Common.{refl}
 use Rattle.std.proofs.lemmas.Result.{err_from_is_err_and}
 use Rattle.der_core.specs.Faults.{TextFault, NoFault}
 use Rattle.der_core.specs.OctetString.{OctetContents}
-use Rattle.der_core.specs.OptionalReads.{part_fails, more_fails, part_faults, rest_faults}
+use Rattle.der_core.specs.Laws.OptionalReads.{part_fails, more_fails, part_faults, rest_faults}
 use Rattle.pkcs8_core.specs.Held.{attributes_of}
 use Rattle.pkcs8_core.specs.Tags.{attributes_tag}
 use Rattle.pkcs8_core.proofs.info.read_attributes.Goals as goal

@@ -2,12 +2,12 @@ use Rattle.std.proofs.Common.{ap, ◌∙◌, refl}
 use Rattle.std.proofs.lemmas.Result.{err_from_is_err_and}
 use Rattle.der_core.specs.declared.error.ErrorKind.TheVariants.{Value}
 use Rattle.der_core.specs.Tags.{integer}
-use Rattle.der_core.specs.TagLaws.{same_tag}
-use Rattle.der_core.specs.Tells.{is_value}
+use Rattle.der_core.specs.Laws.Tags.{same_tag}
+use Rattle.der_core.specs.Laws.Tells.{is_value}
 use Rattle.der_core.specs.Faults.{SmallFault}
-use Rattle.der_core.specs.Expected.{other_fails, expected_faults, other_faults}
+use Rattle.der_core.specs.Laws.Expected.{other_fails, expected_faults, other_faults}
 use Rattle.der_core.specs.Integer.{Small, SmallContents}
-use Rattle.der_core.specs.IntegerLaws.{small_delimited}
+use Rattle.der_core.specs.Laws.Integer.{small_delimited}
 use Rattle.pkcs8_core.proofs.ContainerReads.{Never, version_fails}
 use Rattle.pkcs8_core.proofs.info.read_version.Goals as goal
 

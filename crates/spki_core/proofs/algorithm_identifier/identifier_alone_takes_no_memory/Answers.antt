@@ -1,7 +1,7 @@
 use Rattle.std.proofs.Common.{◌≡◌, ℕ, List, [], length, ap, ◌∙◌, arith, append-nil, length-append}
-use Rattle.der_core.specs.TextLaws.{tlv_split}
+use Rattle.der_core.specs.Laws.Texts.{tlv_split}
 use Rattle.spki_core.specs.Allocating.{AlgorithmAllocates, NothingAskedAlone}
-use Rattle.spki_core.specs.IdentifierLaws.{identifier_delimited}
+use Rattle.spki_core.specs.Laws.Identifiers.{identifier_delimited}
 use Rattle.spki_core.proofs.algorithm_identifier.identifier_alone_takes_no_memory.Goals as goal
 
 none_alone : (may_allocate : List ℕ → Type 0) → NothingAskedAlone (AlgorithmAllocates may_allocate)

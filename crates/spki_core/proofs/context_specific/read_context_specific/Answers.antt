@@ -2,9 +2,9 @@ use Rattle.std.proofs.Common.{◌+◌}
 use Rattle.std.proofs.lemmas.Result.{err_from_is_err_and}
 use Rattle.der_core.specs.Faults.{TextFault, AloneFault}
 use Rattle.der_core.specs.Tlv.{Tlv}
-use Rattle.der_core.proofs.HeaderAndContents.{next_refused, next_stays}
+use Rattle.der_core.specs.Laws.HeaderAndContents.{next_refused, next_stays}
 use Rattle.spki_core.specs.Allocating.{FieldAllocates}
-use Rattle.spki_core.proofs.FieldReads.{field_told}
+use Rattle.spki_core.specs.Laws.FieldReads.{field_told}
 use Rattle.spki_core.proofs.context_specific.read_context_specific.Goals as goal
 
 pub returns-in_err-value-clause-reads : goal.returns-in_err-value-clause-reads

@@ -1,5 +1,5 @@
 use Rattle.der_core.specs.Faults.{TextFault, AloneFault}
-use Rattle.der_core.specs.FaultLaws.{text_fault_none, text_fault_first, alone_fault_none, alone_fault_first, only_front}
+use Rattle.der_core.specs.Laws.Faults.{text_fault_none, text_fault_first, alone_fault_none, alone_fault_first, only_front}
 use Rattle.der_core.specs.Tlv.{Tlv}
 use Rattle.der_core.specs.Reading.{AllocatesIn}
 use Rattle.spki_core.proofs.Copies.{at_tag, only_at_tag}

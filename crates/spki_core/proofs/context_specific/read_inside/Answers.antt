@@ -1,8 +1,8 @@
 use Rattle.std.proofs.Common.{◌≡◌, refl, ◌∙◌}
 use Rattle.std.proofs.lemmas.Result.{err_from_is_err_and}
-use Rattle.der_core.proofs.HeaderAndContents.{refused_header, refused_tag, room_refused, value_refused, value_accepted, ne_true, ne_false, header_faults, tag_faults, room_faults, value_faults}
+use Rattle.der_core.specs.Laws.HeaderAndContents.{refused_header, refused_tag, room_refused, value_refused, value_accepted, ne_true, ne_false, header_faults, tag_faults, room_faults, value_faults}
 use Rattle.der_core.specs.Faults.{AloneFault}
-use Rattle.der_core.specs.Tells.{is_other_tag}
+use Rattle.der_core.specs.Laws.Tells.{is_other_tag}
 use Rattle.spki_core.proofs.context_specific.read_inside.Goals as goal
 
 pub returns-in_err-header-clause-text : goal.returns-in_err-header-clause-text

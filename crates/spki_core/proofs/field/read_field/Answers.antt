@@ -1,6 +1,6 @@
-use Rattle.der_core.proofs.HeaderAndContents.{next_stays}
-use Rattle.spki_core.proofs.Carried.{itself_carried}
-use Rattle.spki_core.proofs.FieldReads.{field_present, field_faulty, not_next}
+use Rattle.der_core.specs.Laws.HeaderAndContents.{next_stays}
+use Rattle.spki_core.specs.Laws.Carried.{itself_carried}
+use Rattle.spki_core.specs.Laws.FieldReads.{field_present, field_faulty, not_next}
 use Rattle.der_core.specs.Faults.{TextFault, AloneFault}
 use Rattle.spki_core.specs.Allocating.{FieldAllocates}
 use Rattle.spki_core.proofs.field.read_field.Goals as goal

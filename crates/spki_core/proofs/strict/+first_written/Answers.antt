@@ -1,4 +1,4 @@
-use Rattle.spki_core.proofs.StrictWalk.{walked_skip}
+use Rattle.spki_core.specs.Laws.StrictWalk.{walked_skip}
 use Rattle.spki_core.proofs.strict.+first_written.Goals as goal
 
 pub returns-in-Ok : goal.returns-in-Ok

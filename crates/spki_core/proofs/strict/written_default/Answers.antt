@@ -1,7 +1,7 @@
 use Rattle.std.proofs.Common.{◌≡◌, ◌∙◌, ap, ⊎_elim}
-use Rattle.der_core.specs.ShortestLaws.{means_one}
+use Rattle.der_core.specs.Laws.Shortest.{means_one}
 use Rattle.spki_core.specs.Any.{TagAndContents}
-use Rattle.spki_core.specs.AnyLaws.{any_delimited}
+use Rattle.spki_core.specs.Laws.AnyTexts.{any_delimited}
 use Rattle.spki_core.specs.AnyRefValue.{any_of}
 use Rattle.spki_core.proofs.strict.written_default.Goals as goal
 

@@ -1,12 +1,12 @@
 use Rattle.std.proofs.Common.{inl, inr}
 use Rattle.std.proofs.lemmas.Result.{err_from_is_err_and}
 use Rattle.der_core.specs.Faults.{TextFault, WholeFault}
-use Rattle.der_core.specs.FaultLaws.{tagged_whole_none, tagged_whole_first, faulty_first}
+use Rattle.der_core.specs.Laws.Faults.{tagged_whole_none, tagged_whole_first, faulty_first}
 use Rattle.der_core.specs.Tlv.{Tlv}
-use Rattle.der_core.specs.TextLaws.{tlv_delimited}
-use Rattle.der_core.specs.Sequences.{whole_faults, behind_faults, whole_means}
+use Rattle.der_core.specs.Laws.Texts.{tlv_delimited}
+use Rattle.der_core.specs.Laws.Sequences.{whole_faults, behind_faults, whole_means}
 use Rattle.der_core.specs.SliceReaders.{left_of-bounded}
-use Rattle.der_core.specs.Whole.{whole_refused, whole_trailing}
+use Rattle.der_core.specs.Laws.Whole.{whole_refused, whole_trailing}
 use Rattle.der_core.proofs.decode.AnyDecodeRefSliceU8.from_der.Goals as goal
 
 pub returns-in_err-value-clause-text : goal.returns-in_err-value-clause-text

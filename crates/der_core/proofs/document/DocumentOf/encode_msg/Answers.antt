@@ -2,8 +2,8 @@ use Rattle.std.proofs.Common.{◌∙◌, ◌≡◌, ◌≤◌, ◌++◌, length,
 use Rattle.der_core.specs.Length.{limit}
 use Rattle.der_core.specs.Tlv.{Tlv, tlv}
 use Rattle.der_core.specs.Document.{IsDocument, IsShortest}
-use Rattle.der_core.specs.TextLaws.{tlv_relates, tlv_shortest}
-use Rattle.der_core.proofs.Refusals.{shortest_is}
+use Rattle.der_core.specs.Laws.Texts.{tlv_relates, tlv_shortest}
+use Rattle.der_core.specs.Laws.Refusals.{shortest_is}
 use Rattle.der_core.proofs.Documents.{written_document, written_over}
 use Rattle.der_core.proofs.document.DocumentOf.encode_msg.Goals as goal
 

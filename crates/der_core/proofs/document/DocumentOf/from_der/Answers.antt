@@ -1,7 +1,7 @@
 use Rattle.std.proofs.Common.{refl, sym, subst, inr}
 use Rattle.std.proofs.lemmas.Result.{err_from_is_err_and}
 use Rattle.der_core.specs.Document.{IsDocument}
-use Rattle.der_core.specs.FaultLaws.{document_fault_first}
+use Rattle.der_core.specs.Laws.Faults.{document_fault_first}
 use Rattle.der_core.proofs.Documents.{no_document, document_faulty, document_sound}
 use Rattle.der_core.proofs.document.DocumentOf.from_der.Goals as goal
 

@@ -2,7 +2,7 @@ use Rattle.std.proofs.Common.{◌∙◌, sym, subst, inl, inr}
 use Rattle.std.proofs.lemmas.Result.{err_from_is_err_and}
 use Rattle.der_core.specs.Document.{IsDocument}
 use Rattle.der_core.specs.Faults.{DocumentFault}
-use Rattle.der_core.specs.FaultLaws.{document_fault_first}
+use Rattle.der_core.specs.Laws.Faults.{document_fault_first}
 use Rattle.der_core.proofs.Documents.{no_document, document_faulty, document_sound, all_given, none_given}
 use Rattle.der_core.proofs.document.DocumentOf.read_from.Goals as goal
 

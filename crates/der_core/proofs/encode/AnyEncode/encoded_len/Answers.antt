@@ -1,6 +1,6 @@
 use Rattle.der_core.specs.Tlv.{Tlv}
-use Rattle.der_core.specs.TextLaws.{tlv_shortest}
-use Rattle.der_core.proofs.Refusals.{uncounted}
+use Rattle.der_core.specs.Laws.Texts.{tlv_shortest}
+use Rattle.der_core.specs.Laws.Refusals.{uncounted}
 use Rattle.der_core.proofs.encode.AnyEncode.encoded_len.Goals as goal
 
 pub returns-clause-err : goal.returns-clause-err

@@ -1,7 +1,7 @@
 use Rattle.std.proofs.Common.{arith, ◌≤◌, length, map}
 use Rattle.der_core.specs.Length.{limit}
 use Rattle.der_core.specs.SequenceOf.{all_texts}
-use Rattle.der_core.proofs.Items.{have_map, texts_map}
+use Rattle.der_core.specs.Laws.Items.{have_map, texts_map}
 use Rattle.der_core.proofs.sequence_of.VecEncodeValue.encode_value.Goals as goal
 
 pub encode_texts-requires-clause-has : goal.encode_texts-requires-clause-has

@@ -1,7 +1,7 @@
 use Rattle.std.proofs.Common.{true, ◌≡◌, ◌∙◌, ap, refl}
 use Rattle.der_core.specs.declared.error.ErrorKind.TheVariants as kind
 use Rattle.der_core.specs.declared.borrowed.Borrowed.{Borrowed}
-use Rattle.der_core.specs.TagLaws.{same_tag}
+use Rattle.der_core.specs.Laws.Tags.{same_tag}
 use Rattle.pkcs1.specs.PrivateKeyValue.{private_key_with, ListsNone}
 use Rattle.pkcs1.specs.Writing.{key_numbers}
 use Rattle.pkcs1.proofs.KeyWrites.{none_has, version_number, version_counts, numbers_counts, private_counts}

@@ -1,5 +1,5 @@
 use Rattle.std.proofs.Common.{refl}
-use Rattle.der_core.specs.StoppedWriting.{appends_as}
+use Rattle.der_core.specs.Laws.StoppedWriting.{appends_as}
 use Rattle.pkcs1.proofs.private_key.other_prime_info.encode_other_primes.Goals as goal
 
 pub returns-in-Some-clause-appends : goal.returns-in-Some-clause-appends

@@ -1,12 +1,12 @@
 use Rattle.std.proofs.Common.{◌≡◌, ℕ, ◌<◌, List, length, map, arith, ap, ◌∙◌, refl, inr}
 use Rattle.der_core.specs.declared.error.ErrorKind.TheVariants as kind
-use Rattle.der_core.specs.TagLaws.{same_tag}
+use Rattle.der_core.specs.Laws.Tags.{same_tag}
 use Rattle.der_core.specs.Tags.{integer, sequence}
 use Rattle.std.proofs.lemmas.List.{length-map}
 use Rattle.std.proofs.lemmas.Result.{err_from_is_err_and}
 use Rattle.std.specs.declared.alloc.Global.{Global}
 use Rattle.std.specs.declared.vec.Vec.{Vec}
-use Rattle.der_core.specs.Tells.{is_value}
+use Rattle.der_core.specs.Laws.Tells.{is_value}
 use Rattle.der_core.specs.Tlv.{Tlv}
 use Rattle.pkcs1.specs.Allocating.{BeginsSequence}
 use Rattle.pkcs1.specs.declared.private_key.other_prime_info.OtherPrimeInfo.{OtherPrimeInfo}

@@ -1,13 +1,13 @@
 use Rattle.std.proofs.lemmas.Result.{err_from_is_err_and}
-use Rattle.der_core.specs.IntegerLaws.{holds_canonical}
+use Rattle.der_core.specs.Laws.Integer.{holds_canonical}
 use Rattle.der_core.specs.Tlv.{tlv}
 use Rattle.der_core.specs.Integer.{integer_contents}
-use Rattle.der_core.specs.Fronts.{front_is, rest_is}
-use Rattle.der_core.proofs.Refusals.{refused_as}
+use Rattle.der_core.specs.Laws.Fronts.{front_is, rest_is}
+use Rattle.der_core.specs.Laws.Refusals.{refused_as}
 use Rattle.pkcs1.specs.Writing.{written_public_key}
 use Rattle.pkcs1.specs.Keys.{RsaPublicKey}
 use Rattle.pkcs1.specs.PublicKeyValue.{public_key_of}
-use Rattle.pkcs1.proofs.PublicKeys.{public_only, public_made}
+use Rattle.pkcs1.specs.Laws.PublicKeys.{public_only, public_made}
 use Rattle.pkcs1.proofs.public_key.RsaPublicKey.encode_key.Goals as goal
 
 pub returns-clause-text : goal.returns-clause-text

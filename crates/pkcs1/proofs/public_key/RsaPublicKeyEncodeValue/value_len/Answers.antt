@@ -1,4 +1,4 @@
-use Rattle.der_core.specs.Counting.{counts_joined}
+use Rattle.der_core.specs.Laws.Counting.{counts_joined}
 use Rattle.pkcs1.proofs.public_key.RsaPublicKeyEncodeValue.value_len.Goals as goal
 
 pub returns : goal.returns

@@ -4,9 +4,9 @@ use Rattle.der_core.specs.declared.error.ErrorKind.{ErrorKind}
 use Rattle.der_core.specs.Faults.{Faulty}
 use Rattle.der_core.specs.Reading.{AllocatesIn, AllocatesWithin}
 use Rattle.der_core.specs.Tlv.{Tlv}
-use Rattle.der_core.specs.ShortestLaws.{means_one}
-use Rattle.pkcs1.specs.KeyFaultLaws.{public_key_whole_none, public_key_whole_first}
-use Rattle.pkcs1.proofs.PublicKeys.{public_delimited}
+use Rattle.der_core.specs.Laws.Shortest.{means_one}
+use Rattle.pkcs1.specs.Laws.KeyFaults.{public_key_whole_none, public_key_whole_first}
+use Rattle.pkcs1.specs.Laws.PublicKeys.{public_delimited}
 use Rattle.pkcs1.proofs.public_key.RsaPublicKeyUintRefTryFromRefSliceU8.try_from.Goals as goal
 
 pub returns-clause-one : goal.returns-clause-one

@@ -1,9 +1,9 @@
 use Rattle.std.proofs.lemmas.Result.{err_from_is_err_and}
 use Rattle.pkcs1.specs.KeyFaults.{RsaPublicKeyFault}
-use Rattle.pkcs1.specs.KeyFaultLaws.{public_key_whole_none, public_key_whole_first}
-use Rattle.der_core.specs.FaultLaws.{faulty_first}
-use Rattle.der_core.specs.ShortestLaws.{means_one}
-use Rattle.pkcs1.proofs.PublicKeys.{public_delimited}
+use Rattle.pkcs1.specs.Laws.KeyFaults.{public_key_whole_none, public_key_whole_first}
+use Rattle.der_core.specs.Laws.Faults.{faulty_first}
+use Rattle.der_core.specs.Laws.Shortest.{means_one}
+use Rattle.pkcs1.specs.Laws.PublicKeys.{public_delimited}
 use Rattle.pkcs1.proofs.traits.RsaPublicKeyUintDecodeRsaPublicKey.from_pkcs1_der.Goals as goal
 
 pub returns-clause-one : goal.returns-clause-one

@@ -1,6 +1,6 @@
 use Rattle.std.proofs.lemmas.Result.{err_from_is_err_and}
 use Rattle.der_core.specs.Integer.{Integer}
-use Rattle.der_core.specs.IntegerLaws.{integer_delimited}
+use Rattle.der_core.specs.Laws.Integer.{integer_delimited}
 use Rattle.der_core.specs.Tlv.{Tlv}
 use Rattle.der_core.specs.UintRefValue.{bytes_of}
 use Rattle.pkcs1.specs.KeyNumbers.{numbers_of}

@@ -1,6 +1,6 @@
 use Rattle.std.proofs.Common.{arith, refl}
-use Rattle.spki_core.specs.Held.{plain_held, plain_short}
-use Rattle.pkcs1_params.specs.HeldFields.{mask_held, mask_short, number_short}
+use Rattle.spki_core.specs.Laws.Held.{plain_held, plain_short}
+use Rattle.pkcs1_params.specs.Laws.HeldFields.{mask_held, mask_short, number_short}
 use Rattle.pkcs1_params.proofs.fields.FieldRef.is_held.Goals as goal
 
 pub returns-in-Hash : goal.returns-in-Hash

@@ -1,7 +1,7 @@
 use Rattle.std.proofs.Common.{inl, inr, ⊎_elim}
 use Rattle.std.proofs.lemmas.Result.{err_from_is_err_and}
 use Rattle.pkcs1_params.specs.OaepValue.{oaep_of}
-use Rattle.pkcs1_params.specs.ParameterFaultLaws.{oaep_whole_none}
+use Rattle.pkcs1_params.specs.Laws.ParameterFaults.{oaep_whole_none}
 use Rattle.pkcs1_params.proofs.oaep.RsaOaepParams+AnyRef.from_der_strict.Goals as goal
 
 pub returns-in_err-params-clause-default : goal.returns-in_err-params-clause-default

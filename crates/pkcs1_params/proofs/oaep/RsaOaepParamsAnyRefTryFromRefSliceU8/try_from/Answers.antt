@@ -1,13 +1,13 @@
 use Rattle.std.proofs.Common.{◌≡◌, [], ◌∷◌, ⊎_elim, arith}
 use Rattle.std.proofs.lemmas.Result.{err_from_is_err_and}
 use Rattle.pkcs1_params.proofs.NothingAsked.{oaep_asks}
-use Rattle.pkcs1_params.specs.ParameterFaultLaws.{oaep_whole_none, oaep_whole_first}
+use Rattle.pkcs1_params.specs.Laws.ParameterFaults.{oaep_whole_none, oaep_whole_first}
 use Rattle.der_core.specs.Document.{Means}
 use Rattle.pkcs1_params.specs.Parameters as grammar
 use Rattle.pkcs1_params.specs.OaepValue.{oaep_of}
 use Rattle.pkcs1_params.proofs.ParameterRows.{oaep_all_left_out}
-use Rattle.der_core.specs.ShortestLaws.{means_one}
-use Rattle.pkcs1_params.specs.ParameterLaws.{oaep_delimited}
+use Rattle.der_core.specs.Laws.Shortest.{means_one}
+use Rattle.pkcs1_params.specs.Laws.Parameters.{oaep_delimited}
 use Rattle.pkcs1_params.proofs.oaep.RsaOaepParamsAnyRefTryFromRefSliceU8.try_from.Goals as goal
 
 pub returns-clause-one : goal.returns-clause-one

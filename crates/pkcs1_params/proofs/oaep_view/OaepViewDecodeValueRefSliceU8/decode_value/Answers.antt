@@ -1,8 +1,8 @@
 use Rattle.std.proofs.Common.{refl, ⊎_elim}
 use Rattle.std.proofs.lemmas.Result.{err_from_is_err_and}
 use Rattle.der_core.specs.Faults.{TextFault, AloneFault, EndFault}
-use Rattle.der_core.specs.Sequences.{end_faults}
-use Rattle.spki_core.proofs.FieldReads.{field_faults, fields_faults}
+use Rattle.der_core.specs.Laws.Sequences.{end_faults}
+use Rattle.spki_core.specs.Laws.FieldReads.{field_faults, fields_faults}
 use Rattle.spki_core.specs.AlgorithmIdentifier.{PlainAlgorithm, MaskAlgorithm}
 use Rattle.spki_core.specs.Allocating.{AlgorithmAllocates}
 use Rattle.spki_core.specs.Any.{Any}

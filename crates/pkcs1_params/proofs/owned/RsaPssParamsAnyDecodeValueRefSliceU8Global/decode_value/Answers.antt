@@ -1,9 +1,9 @@
 use Rattle.std.proofs.lemmas.Result.{err_from_is_err_and}
 use Rattle.der_core.specs.Faults.{EndFault}
 use Rattle.der_core.specs.Integer.{Small}
-use Rattle.der_core.specs.Sequences.{end_faults}
+use Rattle.der_core.specs.Laws.Sequences.{end_faults}
 use Rattle.der_core.specs.Tlv.{Tlv}
-use Rattle.spki_core.proofs.FieldReads.{field_faults, fields_faults}
+use Rattle.spki_core.specs.Laws.FieldReads.{field_faults, fields_faults}
 use Rattle.spki_core.specs.AlgorithmIdentifier.{PlainAlgorithm, MaskAlgorithm}
 use Rattle.spki_core.specs.Allocating.{AlgorithmAllocates}
 use Rattle.spki_core.specs.Any.{Any}

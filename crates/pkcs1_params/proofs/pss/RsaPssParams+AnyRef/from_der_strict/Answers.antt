@@ -1,7 +1,7 @@
 use Rattle.std.proofs.Common.{inl, inr, ⊎_elim}
 use Rattle.std.proofs.lemmas.Result.{err_from_is_err_and}
 use Rattle.pkcs1_params.specs.PssValue.{pss_of}
-use Rattle.pkcs1_params.specs.ParameterFaultLaws.{pss_whole_none}
+use Rattle.pkcs1_params.specs.Laws.ParameterFaults.{pss_whole_none}
 use Rattle.pkcs1_params.proofs.pss.RsaPssParams+AnyRef.from_der_strict.Goals as goal
 
 pub returns-in_err-params-clause-default : goal.returns-in_err-params-clause-default

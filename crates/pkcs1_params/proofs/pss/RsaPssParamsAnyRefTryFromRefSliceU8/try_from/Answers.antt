@@ -1,13 +1,13 @@
 use Rattle.std.proofs.Common.{◌≡◌, [], ◌∷◌, ⊎_elim, arith}
 use Rattle.std.proofs.lemmas.Result.{err_from_is_err_and}
 use Rattle.pkcs1_params.proofs.NothingAsked.{pss_asks}
-use Rattle.pkcs1_params.specs.ParameterFaultLaws.{pss_whole_none, pss_whole_first}
+use Rattle.pkcs1_params.specs.Laws.ParameterFaults.{pss_whole_none, pss_whole_first}
 use Rattle.der_core.specs.Document.{Means}
 use Rattle.pkcs1_params.specs.Parameters as grammar
 use Rattle.pkcs1_params.specs.PssValue.{pss_of}
 use Rattle.pkcs1_params.proofs.ParameterRows.{pss_all_left_out}
-use Rattle.der_core.specs.ShortestLaws.{means_one}
-use Rattle.pkcs1_params.specs.ParameterLaws.{pss_delimited}
+use Rattle.der_core.specs.Laws.Shortest.{means_one}
+use Rattle.pkcs1_params.specs.Laws.Parameters.{pss_delimited}
 use Rattle.pkcs1_params.proofs.pss.RsaPssParamsAnyRefTryFromRefSliceU8.try_from.Goals as goal
 
 pub returns-clause-one : goal.returns-clause-one

@@ -1,7 +1,7 @@
 use Rattle.std.proofs.Common.{inl, inr}
 use Rattle.std.proofs.lemmas.Result.{err_from_is_err_and}
 use Rattle.pkcs1.specs.PrivateKeyValue.{private_key_of}
-use Rattle.pkcs8_core.specs.ContainerFaultLaws.{rsa_fault_first}
+use Rattle.pkcs8_core.specs.Laws.ContainerFaults.{rsa_fault_first}
 use Rattle.pkcs8_core.specs.Held.{info_of}
 use Rattle.pkcs8_core.proofs.RsaHeld.{one_held, refused_held, faulty_held, faulty_only, rsa_key_fault}
 use Rattle.pkcs8_core.proofs.info.PrivateKeyInfoRef.rsa_key.Goals as goal

@@ -1,7 +1,7 @@
 use Rattle.std.proofs.Common.{inl}
 use Rattle.std.proofs.lemmas.Result.{err_from_is_err_and}
 use Rattle.pkcs1.specs.ViewParts.{view_of}
-use Rattle.pkcs8_core.specs.ContainerFaultLaws.{rsa_fault_first}
+use Rattle.pkcs8_core.specs.Laws.ContainerFaults.{rsa_fault_first}
 use Rattle.pkcs8_core.specs.Held.{info_of}
 use Rattle.pkcs8_core.proofs.RsaHeld.{one_held, none_held, fault_held, rsa_key_fault}
 use Rattle.pkcs8_core.proofs.info.PrivateKeyInfoRef.rsa_view.Goals as goal

@@ -5,7 +5,7 @@ use Rattle.der_core.specs.Integer.{integer_contents}
 use Rattle.der_core.specs.Length.{limit}
 use Rattle.der_core.specs.OctetStringRefValue.{octets_of}
 use Rattle.der_core.specs.Optional.{written_optional}
-use Rattle.der_core.specs.StoppedWriting.{appends_in_front, appends_behind}
+use Rattle.der_core.specs.Laws.StoppedWriting.{appends_in_front, appends_behind}
 use Rattle.spki_core.specs.AlgorithmIdentifier.{written_plain}
 use Rattle.spki_core.specs.AlgorithmValue.{algorithm_of}
 use Rattle.pkcs8_core.specs.Held.{info_of}

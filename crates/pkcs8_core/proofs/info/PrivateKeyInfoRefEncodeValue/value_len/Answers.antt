@@ -3,7 +3,7 @@ use Rattle.der_core.specs.Tlv.{tlv}
 use Rattle.der_core.specs.Integer.{integer_contents}
 use Rattle.der_core.specs.OctetStringRefValue.{octets_of}
 use Rattle.der_core.specs.Optional.{written_optional}
-use Rattle.der_core.specs.Counting.{counts_joined}
+use Rattle.der_core.specs.Laws.Counting.{counts_joined}
 use Rattle.spki_core.specs.AlgorithmIdentifier.{written_plain}
 use Rattle.spki_core.specs.AlgorithmValue.{algorithm_of}
 use Rattle.pkcs8_core.specs.Held.{info_of}

@@ -1,14 +1,14 @@
 use Rattle.std.specs.Prelude.{Result, Ok, Err, IfOk}
 use Rattle.std.proofs.Common.{ℕ, List, ◌≡◌}
 use Rattle.der_core.specs.Document.{Means}
-use Rattle.der_core.specs.ShortestLaws.{means_one}
+use Rattle.der_core.specs.Laws.Shortest.{means_one}
 use Rattle.der_core.specs.Reading.{ReadsAll, AllocatesIn}
-use Rattle.der_core.specs.FaultLaws.{not_asked, only_not_asked}
+use Rattle.der_core.specs.Laws.Faults.{not_asked, only_not_asked}
 use Rattle.der_core.specs.Tlv.{Tlv}
 use Rattle.pkcs8_core.specs.ContainerFaults.{PrivateKeyInfoFault}
 use Rattle.der_core.specs.declared.error.Error.{Error}
 use Rattle.pkcs8_core.specs.Container.{Info, PrivateKeyInfo}
-use Rattle.pkcs8_core.specs.Laws.{info_delimited}
+use Rattle.pkcs8_core.specs.Laws.Container.{info_delimited}
 use Rattle.pkcs8_core.proofs.info.PrivateKeyInfoRefTryFromRefSliceU8.try_from.Goals as goal
 
 one : {X : Type 0} (value : X → Info) (may_allocate : List ℕ → Type 0) (b : List ℕ) (r : Result X Error) → ReadsAll value PrivateKeyInfo may_allocate r b → IfOk r (λ x. (other : Info) → Means PrivateKeyInfo b other → other ≡ value x)

@@ -1,6 +1,6 @@
 use Rattle.std.proofs.lemmas.Result.{err_from_is_err_and}
 use Rattle.der_core.specs.Faults.{TextFault, LastFault}
-use Rattle.der_core.specs.Sequences.{first_faults, rest_faults}
+use Rattle.der_core.specs.Laws.Sequences.{first_faults, rest_faults}
 use Rattle.der_core.specs.Tags.{object_identifier}
 use Rattle.spki_core.specs.Faults.{IdentifierFault}
 use Rattle.spki_core.specs.ObjectIdentifier.{ObjectIdentifier}

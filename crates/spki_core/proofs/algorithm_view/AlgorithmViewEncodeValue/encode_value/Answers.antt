@@ -4,7 +4,7 @@ use Rattle.der_core.specs.Tlv.{tlv}
 use Rattle.der_core.specs.Optional.{written_optional}
 use Rattle.spki_core.specs.ObjectIdentifierValue.{octets_in}
 use Rattle.std.proofs.lemmas.Result.{err_from_is_err_and}
-use Rattle.der_core.specs.StoppedWriting.{appends_in_front, appends_behind}
+use Rattle.der_core.specs.Laws.StoppedWriting.{appends_in_front, appends_behind}
 use Rattle.spki_core.proofs.algorithm_view.AlgorithmViewEncodeValue.encode_value.Goals as goal
 
 pub returns-in_err-encode-clause-appends : goal.returns-in_err-encode-clause-appends

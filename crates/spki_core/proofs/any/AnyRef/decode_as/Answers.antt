@@ -1,6 +1,6 @@
 use Rattle.std.proofs.Common.{ap, ◌∙◌, sym, inl, inr}
 use Rattle.der_core.specs.declared.error.ErrorKind.TheVariants.{TagUnexpected}
-use Rattle.der_core.proofs.HeaderAndContents.{ne_true, ne_false}
+use Rattle.der_core.specs.Laws.HeaderAndContents.{ne_true, ne_false}
 use Rattle.spki_core.proofs.Copies.{refused_by_fault, other_tag_told, told_by_fault, only_by_fault}
 use Rattle.spki_core.proofs.any.AnyRef.decode_as.Goals as goal
 

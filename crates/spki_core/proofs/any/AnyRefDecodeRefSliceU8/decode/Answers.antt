@@ -1,7 +1,7 @@
-use Rattle.der_core.specs.FaultLaws.{only_front}
+use Rattle.der_core.specs.Laws.Faults.{only_front}
 use Rattle.spki_core.specs.Any.{Any}
 use Rattle.spki_core.specs.AnyRefValue.{any_of}
-use Rattle.spki_core.specs.FaultLaws.{any_fault_none, any_fault_first}
+use Rattle.spki_core.specs.Laws.Faults.{any_fault_none, any_fault_first}
 use Rattle.spki_core.specs.Faults.{AnyFault}
 use Rattle.spki_core.proofs.any.AnyRefDecodeRefSliceU8.decode.Goals as goal
 

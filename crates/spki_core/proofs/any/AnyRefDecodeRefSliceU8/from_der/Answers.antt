@@ -1,15 +1,15 @@
 use Rattle.std.proofs.Common.{ℕ, List, ◌≡◌, inl, inr}
 use Rattle.der_core.specs.declared.error.ErrorKind.{ErrorKind}
 use Rattle.der_core.specs.Faults.{WholeFault}
-use Rattle.der_core.specs.FaultLaws.{whole_fault_none, whole_fault_first, faulty_first}
-use Rattle.spki_core.specs.FaultLaws.{any_fault_none, any_fault_first}
+use Rattle.der_core.specs.Laws.Faults.{whole_fault_none, whole_fault_first, faulty_first}
+use Rattle.spki_core.specs.Laws.Faults.{any_fault_none, any_fault_first}
 use Rattle.std.proofs.lemmas.Result.{err_from_is_err_and}
 use Rattle.spki_core.specs.Faults.{AnyFault}
-use Rattle.der_core.specs.Sequences.{whole_faults, behind_faults, whole_means}
+use Rattle.der_core.specs.Laws.Sequences.{whole_faults, behind_faults, whole_means}
 use Rattle.der_core.specs.SliceReaders.{left_of-bounded}
-use Rattle.der_core.specs.Whole.{whole_refused, whole_trailing}
+use Rattle.der_core.specs.Laws.Whole.{whole_refused, whole_trailing}
 use Rattle.spki_core.specs.Any.{TagAndContents, Any}
-use Rattle.spki_core.specs.AnyLaws.{any_delimited}
+use Rattle.spki_core.specs.Laws.AnyTexts.{any_delimited}
 use Rattle.spki_core.proofs.any.AnyRefDecodeRefSliceU8.from_der.Goals as goal
 
 pub returns-in_err-any-clause-text : goal.returns-in_err-any-clause-text

@@ -1,9 +1,9 @@
-use Rattle.der_core.specs.Counting.{counts_text}
-use Rattle.der_core.proofs.Refusals.{uncounted}
+use Rattle.der_core.specs.Laws.Counting.{counts_text}
+use Rattle.der_core.specs.Laws.Refusals.{uncounted}
 use Rattle.spki_core.specs.Any.{Any}
-use Rattle.spki_core.specs.AnyLaws.{any_shortest}
+use Rattle.spki_core.specs.Laws.AnyTexts.{any_shortest}
 use Rattle.spki_core.specs.AnyRefValue.{any_of}
-use Rattle.der_core.specs.InputLaws.{are_bytes}
+use Rattle.der_core.specs.Laws.Input.{are_bytes}
 use Rattle.spki_core.proofs.any.AnyRefEncode.encoded_len.Goals as goal
 
 pub returns-clause-counted : goal.returns-clause-counted

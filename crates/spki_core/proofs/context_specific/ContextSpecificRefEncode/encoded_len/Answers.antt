@@ -1,8 +1,8 @@
 use Rattle.std.proofs.Common.{◌+◌}
-use Rattle.der_core.specs.Counting.{counts_text}
-use Rattle.der_core.proofs.Refusals.{uncounted}
+use Rattle.der_core.specs.Laws.Counting.{counts_text}
+use Rattle.der_core.specs.Laws.Refusals.{uncounted}
 use Rattle.spki_core.specs.ContextSpecific.{Numbered, ContextSpecific}
-use Rattle.spki_core.specs.ContextSpecificLaws.{numbered_shortest}
+use Rattle.spki_core.specs.Laws.ContextSpecific.{numbered_shortest}
 use Rattle.spki_core.proofs.context_specific.ContextSpecificRefEncode.encoded_len.Goals as goal
 
 pub returns-clause-counted : goal.returns-clause-counted

@@ -1,4 +1,4 @@
-use Rattle.der_core.specs.InputLaws.{are_bytes}
+use Rattle.der_core.specs.Laws.Input.{are_bytes}
 use Rattle.spki_core.specs.IdentifierTest.{is_identifier-sound}
 use Rattle.spki_core.specs.ObjectIdentifierValue.{octets_of}
 use Rattle.spki_core.proofs.object_identifier.ObjectIdentifier.as_bytes.Goals as goal

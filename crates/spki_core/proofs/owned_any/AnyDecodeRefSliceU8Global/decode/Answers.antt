@@ -1,6 +1,6 @@
 use Rattle.std.proofs.Common.{◌∙◌, inr, ⊎_elim}
 use Rattle.std.proofs.lemmas.Result.{err_from_is_err_and}
-use Rattle.der_core.specs.LastParts.{allocates_more}
+use Rattle.der_core.specs.Laws.LastParts.{allocates_more}
 use Rattle.spki_core.specs.Any.{Any}
 use Rattle.spki_core.specs.Faults.{AnyFault}
 use Rattle.spki_core.proofs.Copies.{copy_fails, copied_faults}

@@ -1,6 +1,6 @@
-use Rattle.der_core.specs.FaultLaws.{whole_fault_none, whole_fault_first}
-use Rattle.spki_core.specs.AnyLaws.{any_delimited}
-use Rattle.spki_core.specs.FaultLaws.{any_fault_none, any_fault_first}
+use Rattle.der_core.specs.Laws.Faults.{whole_fault_none, whole_fault_first}
+use Rattle.spki_core.specs.Laws.AnyTexts.{any_delimited}
+use Rattle.spki_core.specs.Laws.Faults.{any_fault_none, any_fault_first}
 use Rattle.std.proofs.Common.{inr, ⊎_elim}
 use Rattle.std.proofs.lemmas.Result.{err_from_is_err_and}
 use Rattle.spki_core.specs.Faults.{AnyFault}

@@ -1,4 +1,4 @@
-use Rattle.der_core.specs.IntegerLaws.{holds_canonical}
+use Rattle.der_core.specs.Laws.Integer.{holds_canonical}
 use Rattle.der_core.proofs.integer.owned.Uint.as_bytes.Goals as goal
 
 pub returns-clause-canonical : goal.returns-clause-canonical

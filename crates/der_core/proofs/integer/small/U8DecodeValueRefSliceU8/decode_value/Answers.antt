@@ -1,7 +1,7 @@
 use Rattle.std.proofs.Common.{◌≡◌, ℕ, List, ap, sym, ◌∙◌, inr, Err, Some}
 use Rattle.der_core.specs.IntegerReading.{small_of}
-use Rattle.der_core.specs.Smalls.{all_read, small_none, small_tells}
-use Rattle.der_core.proofs.ContentsReads.{all_taken, small_gives}
+use Rattle.der_core.specs.Laws.SmallReading.{all_read, small_none, small_tells}
+use Rattle.der_core.specs.Laws.ContentsReads.{all_taken, small_gives}
 use Rattle.der_core.proofs.integer.small.U8DecodeValueRefSliceU8.decode_value.Goals as goal
 
 pub returns-in-Err-clause-reads : goal.returns-in-Err-clause-reads

@@ -1,6 +1,6 @@
 use Rattle.std.proofs.Common.{refl, arith}
 use Rattle.std.proofs.lemmas.Result.{err_from_is_err_and}
-use Rattle.der_core.specs.ItemReads.{holds_some}
+use Rattle.der_core.specs.Laws.ItemReads.{holds_some}
 use Rattle.pkcs1.proofs.NumberReads.{gives_none, gives_more, other_number_faults, other_end_faults}
 use Rattle.pkcs1.proofs.private_key.other_prime_info.OtherPrimeInfoDecodeValueRefSliceU8.decode_value.Goals as goal
 

@@ -1,9 +1,9 @@
 use Rattle.std.proofs.Common.{ap, ◌∙◌, refl}
 use Rattle.std.proofs.lemmas.Result.{err_from_is_err_and}
-use Rattle.der_core.specs.TagLaws.{same_tag}
+use Rattle.der_core.specs.Laws.Tags.{same_tag}
 use Rattle.der_core.specs.declared.error.ErrorKind.TheVariants as kind
 use Rattle.der_core.specs.Tlv.{tlv}
-use Rattle.der_core.specs.Fronts.{front_is, rest_is}
+use Rattle.der_core.specs.Laws.Fronts.{front_is, rest_is}
 use Rattle.pkcs1.specs.Writing.{written_private_key}
 use Rattle.pkcs1.specs.PrivateKeyValue.{private_key_with}
 use Rattle.pkcs1.proofs.private_key.whole.RsaPrivateKey+U.encode_front.Goals as goal

@@ -1,8 +1,8 @@
 use Rattle.std.proofs.lemmas.Result.{err_from_is_err_and}
-use Rattle.der_core.specs.ShortestLaws.{means_one}
-use Rattle.der_core.specs.TextLaws.{tlv_delimited}
+use Rattle.der_core.specs.Laws.Shortest.{means_one}
+use Rattle.der_core.specs.Laws.Texts.{tlv_delimited}
 use Rattle.pkcs1.specs.Keys.{PrivateKeyContents}
-use Rattle.pkcs1.specs.PrivateKeyLaws.{private_means_one}
+use Rattle.pkcs1.specs.Laws.PrivateKey.{private_means_one}
 use Rattle.pkcs1.proofs.KeyMemory.{two_primes_refused}
 use Rattle.pkcs1.proofs.private_key.whole.RsaPrivateKey+U.from_octet_string.Goals as goal
 

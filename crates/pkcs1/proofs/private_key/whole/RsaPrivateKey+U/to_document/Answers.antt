@@ -1,11 +1,11 @@
 use Rattle.std.proofs.Common.{ap, ◌∙◌, refl, arith}
 use Rattle.std.proofs.lemmas.Result.{err_from_is_err_and}
-use Rattle.der_core.specs.TagLaws.{same_tag}
-use Rattle.der_core.specs.TextLaws.{tlv_relates}
+use Rattle.der_core.specs.Laws.Tags.{same_tag}
+use Rattle.der_core.specs.Laws.Texts.{tlv_relates}
 use Rattle.der_core.specs.Tlv.{Tlv, tlv}
 use Rattle.der_core.specs.declared.error.ErrorKind.TheVariants as kind
 use Rattle.pkcs1.specs.Keys.{PrivateKeyContents}
-use Rattle.pkcs1.specs.PrivateKeyLaws.{private_relates}
+use Rattle.pkcs1.specs.Laws.PrivateKey.{private_relates}
 use Rattle.pkcs1.specs.PrivateKeyValue.{private_key_with}
 use Rattle.pkcs1.specs.Writing.{written_private_key}
 use Rattle.pkcs1.proofs.NotWritten.{unwritten_as}

@@ -1,7 +1,7 @@
 use Rattle.der_core.specs.UintValue.{own_bytes_of}
 use Rattle.pkcs1.specs.PrivateKeyValue.{private_key_with}
-use Rattle.pkcs1.proofs.HeldKeys.{own_held, refused_held}
-use Rattle.pkcs1.proofs.PrivateKeys.{private_only}
+use Rattle.pkcs1.specs.Laws.HeldKeys.{own_held, refused_held}
+use Rattle.pkcs1.specs.Laws.PrivateKeys.{private_only}
 use Rattle.pkcs1.proofs.private_key.whole.RsaPrivateKey+Uint.encode_key.Goals as goal
 
 pub returns-clause-text : goal.returns-clause-text

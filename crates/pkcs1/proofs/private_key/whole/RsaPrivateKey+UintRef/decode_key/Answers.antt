@@ -1,11 +1,11 @@
 use Rattle.pkcs1.specs.KeyFaults.{RsaPrivateKeyFault}
-use Rattle.pkcs1.specs.KeyFaultLaws.{private_key_whole_none, private_key_whole_first}
+use Rattle.pkcs1.specs.Laws.KeyFaults.{private_key_whole_none, private_key_whole_first}
 use Rattle.std.proofs.lemmas.Result.{err_from_is_err_and}
-use Rattle.der_core.specs.IntegerLaws.{integer_delimited}
-use Rattle.der_core.specs.ShortestLaws.{means_one}
+use Rattle.der_core.specs.Laws.Integer.{integer_delimited}
+use Rattle.der_core.specs.Laws.Shortest.{means_one}
 use Rattle.pkcs1.proofs.KeyMemory.{refuses_as, borrowed_ask, two_primes_refused, faulty_as}
-use Rattle.der_core.specs.FaultLaws.{faulty_first}
-use Rattle.pkcs1.proofs.PrivateKeys.{private_delimited}
+use Rattle.der_core.specs.Laws.Faults.{faulty_first}
+use Rattle.pkcs1.specs.Laws.PrivateKeys.{private_delimited}
 use Rattle.pkcs1.proofs.private_key.whole.RsaPrivateKey+UintRef.decode_key.Goals as goal
 
 pub returns-clause-one : goal.returns-clause-one

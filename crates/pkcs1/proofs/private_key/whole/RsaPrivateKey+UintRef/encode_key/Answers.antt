@@ -1,7 +1,7 @@
 use Rattle.der_core.specs.UintRefValue.{bytes_of}
 use Rattle.pkcs1.specs.PrivateKeyValue.{private_key_with}
-use Rattle.pkcs1.proofs.HeldKeys.{borrowed_held, refused_held}
-use Rattle.pkcs1.proofs.PrivateKeys.{private_only}
+use Rattle.pkcs1.specs.Laws.HeldKeys.{borrowed_held, refused_held}
+use Rattle.pkcs1.specs.Laws.PrivateKeys.{private_only}
 use Rattle.pkcs1.proofs.private_key.whole.RsaPrivateKey+UintRef.encode_key.Goals as goal
 
 pub returns-clause-text : goal.returns-clause-text

@@ -1,0 +1,301 @@
+-- Bytes with a fault are none of the grammar, and have one first fault.
+use Rattle.std.proofs.Common.{◌≡◌, ◌≢◌, ℕ, ◌<◌, ◌≤◌, ◌⊎◌, List, [], ◌∷◌, ◌++◌, length, refl, sym, ap, ◌∙◌, arith, length-append, append-nil, append_assoc, inl, inr, ⊎_elim, Result, Ok, Err, Option, Some, None}
+use Rattle.der_core.specs.declared.error.ErrorKind.{ErrorKind}
+use Rattle.der_core.specs.declared.error.ErrorKind.TheVariants.{Incomplete, TagUnexpected}
+use Rattle.der_core.specs.declared.tag.Tag.{Tag}
+use Rattle.der_core.specs.Document.{Means}
+use Rattle.std.specs.Prelude.{slice_get, IfErr, IsErrAnd}
+use Rattle.der_core.specs.declared.error.Error.{Error}
+use Rattle.der_core.specs.Faults.{TextFault, in_header, other_tag, too_short, in_contents, ThenFault, EndFault, ItemsFault, AloneFault, LastFault, TaggedLastFault, WholeFault, IntegerFault, SmallFault, NoFault, DocumentFault, AreNone, AreFirst, Faulty, FaultyFront, FaultyWhole, OnlyFront, OnlyWhole}
+use Rattle.der_core.specs.Laws.Headers.{tlv_header, header_complete, header_at-tells}
+use Rattle.der_core.specs.Headers.{HeaderText}
+use Rattle.der_core.specs.Input.{Input, left_in, header_at}
+use Rattle.der_core.specs.Laws.Input.{ok_pair}
+use Rattle.der_core.specs.Laws.ItemReads.{joins_none}
+use Rattle.der_core.specs.Optional.{Optional}
+use Rattle.der_core.specs.SequenceOf.{ItemsContents}
+use Rattle.der_core.specs.Integer.{IntegerContents, SmallContents}
+use Rattle.der_core.specs.Length.{limit}
+use Rattle.der_core.specs.Laws.Lists.{same_fronts}
+use Rattle.der_core.specs.Reading.{NoneHas, NoneIn, AllocatesIn, ReadsOrFaults, ReadsText}
+use Rattle.der_core.specs.Laws.SmallReading.{integer_none, integer_tells, small_none, small_tells}
+use Rattle.der_core.specs.Laws.Tags.{same_tag}
+use Rattle.der_core.specs.Laws.Tells.{is_incomplete, is_other_tag, is_trailing}
+use Rattle.der_core.specs.Tags.{sequence}
+use Rattle.der_core.specs.Laws.Texts.{tlv_delimited}
+use Rattle.der_core.specs.Texts.{AreBytes, Then, IsDelimited, MeansOne}
+use Rattle.der_core.specs.Tlv.{Tlv}
+
+-- INTEGER
+pub integer_fault_none : AreNone (NoneHas IntegerContents) IntegerFault
+integer_fault_none k c within e = (integer_tells c k e, λ v p. integer_none v c k e p)
+
+pub small_fault_none : AreNone (NoneHas SmallContents) SmallFault
+small_fault_none k c within e = (small_tells c k e, λ v p. small_none v c k e p)
+
+err_one : {A : Type 0} (r : Result A ErrorKind) (j k : ErrorKind) → r ≡ Err j → r ≡ Err k → j ≡ k
+err_one r j k p q = let e = sym p ∙ q in cc
+
+pub integer_fault_first : AreFirst IntegerFault
+integer_fault_first j k c within p q = err_one _ j k p q
+
+pub small_fault_first : AreFirst SmallFault
+small_fault_first j k c within p q = err_one _ j k p q
+
+-- what a header with these bytes behind it is read as
+read_as : {t n : ℕ} (i header rest : List ℕ) → HeaderText (t, n) header → i ≡ header ++ rest → header_at i ≡ Ok ((t, n), rest)
+read_as {t} {n} i header rest h is = ap header_at is ∙ header_complete (t, n) header rest h
+
+-- A text with a tag.
+module _ (tag : Tag) (Fault : ErrorKind → List ℕ → Type 0) where
+  pub text_fault_none : {V : Type 0} (contents : V → List ℕ → Type 0) → AreNone (NoneHas contents) Fault → AreNone (NoneIn (λ v. Tlv tag.octet (contents v))) (TextFault tag Fault)
+  text_fault_none contents none k i within (in_header e) = (
+    header_at-tells i k e,
+    λ v b rest split text.
+        let found = tlv_header tag.octet b i rest tag.allowed within text split in
+        cc,
+  )
+  text_fault_none contents none k i within (other_tag actual n header rest h is ne kind) = (
+    is_other_tag kind,
+    λ v b more split text.
+        let found = tlv_header tag.octet b i more tag.allowed within text split in
+        let parts = ok_pair (actual.octet, n) (tag.octet, length text.contents) rest (text.contents ++ more) (sym (read_as i header rest h is) ∙ found) in
+        ne (ap (λ p. p.0) parts.0),
+  )
+  text_fault_none contents none k i within (too_short n header rest h is few kind) = (
+    is_incomplete kind,
+    λ v b more split text.
+        let found = tlv_header tag.octet b i more tag.allowed within text split in
+        let parts = ok_pair (tag.octet, n) (tag.octet, length text.contents) rest (text.contents ++ more) (sym (read_as i header rest h is) ∙ found) in
+        let number : n ≡ length text.contents = ap (λ p. p.1) parts.0 in
+        omega (arith, few, number, ap length parts.1, length-append text.contents more),
+  )
+  text_fault_none contents none k i within (in_contents header c rest h is fault) =
+      let told = none k c h.2.0 fault in (
+        told.0,
+        λ v b more split text.
+            let found = tlv_header tag.octet b i more tag.allowed within text split in
+            let parts = ok_pair (tag.octet, length c) (tag.octet, length text.contents) (c ++ rest) (text.contents ++ more) (sym (read_as i header (c ++ rest) h is) ∙ found) in
+            let same = same_fronts c rest text.contents more (ap (λ p. p.1) parts.0) parts.1 in
+            told.1 v (rw same.0 text.holds),
+      )
+
+  -- the fault, by what is read of the header
+  FaultAt : ErrorKind → Result ((ℕ × ℕ) × List ℕ) ErrorKind → Type 0
+  FaultAt k (Err e) = e ≡ k
+  FaultAt k (Ok p) =
+      ((actual : Tag) × (actual.octet ≡ p.0.0) × (p.0.0 ≢ tag.octet) × (k ≡ TagUnexpected tag actual))
+      ⊎ ((p.0.0 ≡ tag.octet) × (length p.1 < p.0.1) × (k ≡ Incomplete))
+      ⊎ ((p.0.0 ≡ tag.octet) × (c : List ℕ) × (rest : List ℕ) × (p.1 ≡ c ++ rest) × (length c ≡ p.0.1) × (length c ≤ limit) × Fault k c)
+
+  fault_at : (k : ErrorKind) (i : List ℕ) → TextFault tag Fault k i → FaultAt k (header_at i)
+  unfolding FaultAt
+  fault_at k i (in_header e) = rw e refl
+  fault_at k i (other_tag actual n header rest h is ne kind) = rw (read_as i header rest h is) (inl (actual, refl, ne, kind))
+  fault_at k i (too_short n header rest h is few kind) = rw (read_as i header rest h is) (inr (inl (refl, few, kind)))
+  fault_at k i (in_contents header c rest h is fault) = rw (read_as i header (c ++ rest) h is) (inr (inr (refl, c, rest, refl, refl, h.2.0, fault)))
+
+  first_at : AreFirst Fault → (j k : ErrorKind) (r : Result ((ℕ × ℕ) × List ℕ) ErrorKind) → FaultAt j r → FaultAt k r → j ≡ k
+  unfolding FaultAt
+  first_at first j k (Err e) p q = sym p ∙ q
+  first_at first j k (Ok r) (inl p) (inl q) = p.3 ∙ ap (λ t. TagUnexpected tag t) (same_tag p.0 q.0 (p.1 ∙ sym q.1)) ∙ sym q.3
+  first_at first j k (Ok r) (inl p) (inr (inl q)) = absurd (p.2 q.0)
+  first_at first j k (Ok r) (inl p) (inr (inr q)) = absurd (p.2 q.0)
+  first_at first j k (Ok r) (inr (inl p)) (inl q) = absurd (q.2 p.0)
+  first_at first j k (Ok r) (inr (inr p)) (inl q) = absurd (q.2 p.0)
+  first_at first j k (Ok r) (inr (inl p)) (inr (inl q)) = p.2 ∙ sym q.2
+  first_at first j k (Ok r) (inr (inl (t, few, kind))) (inr (inr (u, c, rest, is, len, within, fault))) = absurd (omega (arith, few, len, ap length is, length-append c rest))
+  first_at first j k (Ok r) (inr (inr (u, c, rest, is, len, within, fault))) (inr (inl (t, few, kind))) = absurd (omega (arith, few, len, ap length is, length-append c rest))
+  first_at first j k (Ok r) (inr (inr (t, c, rest, is, len, within, fault))) (inr (inr (u, d, more, are, count, few, other))) =
+      let same = same_fronts c rest d more (len ∙ sym count) (sym is ∙ are) in
+      first j k c within fault (rw same.0 other)
+
+  pub text_fault_first : AreFirst Fault → AreFirst (TextFault tag Fault)
+  text_fault_first first j k i within p q = first_at first j k (header_at i) (fault_at j i p) (fault_at k i q)
+
+-- Parts that follow one another.
+module _ {A : Type 0} (text : A → List ℕ → Type 0) (Fault : ErrorKind → List ℕ → Type 0) (Behind : A → ErrorKind → List ℕ → Type 0)
+    (d : IsDelimited text) (none : AreNone (NoneIn text) Fault) where
+  pub then_fault_none : {V : Type 0} (part : V → A) (Rest : V → List ℕ → Type 0) → ((a : A) → AreNone (λ c. (v : V) → part v ≡ a → Rest v c → ⊥) (Behind a))
+      → AreNone (NoneHas (λ v. Then (text (part v)) (Rest v))) (ThenFault text Fault Behind)
+  then_fault_none part Rest behind k c within (inl fault) = let told = none k c within fault in (told.0, λ v p. told.1 (part v) p.0 p.1 p.4 p.2)
+  then_fault_none part Rest behind k c within (inr (a, (x, y, t, fault, is))) =
+      let few : length y ≤ limit = omega (arith, within, ap length is, length-append x y) in
+      let told = behind a k y few fault in (
+        told.0,
+        λ v p.
+            let e : x ++ y ≡ p.0 ++ p.1 = sym is ∙ p.4 in
+            let one = d.one a (part v) x y p.0 p.1 t p.2 e in
+            let tails = same_fronts x y p.0 p.1 (ap length one.0) e in
+            told.1 v (sym one.1) (rw tails.1 p.3),
+      )
+
+  pub then_fault_first : AreFirst Fault → ((a : A) → AreFirst (Behind a)) → AreFirst (ThenFault text Fault Behind)
+  then_fault_first first behind j k c within (inl p) (inl q) = first j k c within p q
+  then_fault_first first behind j k c within (inl p) (inr (a, (x, y, t, fault, is))) = absurd ((none j c within p).1 a x y is t)
+  then_fault_first first behind j k c within (inr (a, (x, y, t, fault, is))) (inl q) = absurd ((none k c within q).1 a x y is t)
+  then_fault_first first behind j k c within (inr (a, (x, y, t, p, is))) (inr (b, (z, w, u, q, are))) =
+      let few : length y ≤ limit = omega (arith, within, ap length is, length-append x y) in
+      let e : x ++ y ≡ z ++ w = sym is ∙ are in
+      let one = d.one a b x y z w t u e in
+      let tails = same_fronts x y z w (ap length one.0) e in
+      behind a j k y few p (rw (one.1, tails.1) q)
+
+pub end_fault_none : {V : Type 0} → AreNone (NoneHas (λ (v : V) c. c ≡ [])) EndFault
+end_fault_none k c within fault = (is_trailing fault.1, λ v none. omega (arith, fault.0, ap length none))
+
+pub end_fault_first : AreFirst EndFault
+end_fault_first j k c within p q = p.1 ∙ sym q.1
+
+-- Items.
+module _ {V : Type 0} (text : V → List ℕ → Type 0) (Fault : ErrorKind → List ℕ → Type 0) (d : IsDelimited text) (none : AreNone (NoneIn text) Fault) where
+  pub items_fault_none : AreNone (NoneHas (ItemsContents text)) (ItemsFault text Fault)
+  items_fault_none k c within (vs, (read, rest, joined, (more, fault), is)) =
+      let few : length rest ≤ limit = omega (arith, within, ap length is, length-append read rest) in
+      let told = none k rest few fault in
+      (told.0, joins_none V text d vs c read rest joined is more told.1)
+
+  items_one : AreFirst Fault → (vs ws : List V) (j k : ErrorKind) (c x y z w : List ℕ) → length c ≤ limit
+      → ItemsContents text vs x → c ≡ x ++ y → 0 < length y → Fault j y → ItemsContents text ws z → c ≡ z ++ w → 0 < length w → Fault k w → j ≡ k
+  items_one first [] [] j k c x y z w within p is m f q are n g =
+      let a : c ≡ y = is ∙ ap (λ l. l ++ y) p in
+      let b : c ≡ w = are ∙ ap (λ l. l ++ w) q in
+      first j k c within (rw a f) (rw b g)
+  items_one first [] (v ∷ vs) j k c x y z w within p is m f q are n g =
+      let a : c ≡ y = is ∙ ap (λ l. l ++ y) p in
+      absurd ((none j c within (rw a f)).1 v q.0 (q.1 ++ w) (are ∙ ap (λ l. l ++ w) q.4 ∙ append_assoc q.0 q.1 w) q.2)
+  items_one first (v ∷ vs) [] j k c x y z w within p is m f q are n g =
+      let b : c ≡ w = are ∙ ap (λ l. l ++ w) q in
+      absurd ((none k c within (rw b g)).1 v p.0 (p.1 ++ y) (is ∙ ap (λ l. l ++ y) p.4 ∙ append_assoc p.0 p.1 y) p.2)
+  items_one first (v ∷ vs) (u ∷ us) j k c x y z w within p is m f q are n g =
+      let a : c ≡ p.0 ++ (p.1 ++ y) = is ∙ ap (λ l. l ++ y) p.4 ∙ append_assoc p.0 p.1 y in
+      let b : c ≡ q.0 ++ (q.1 ++ w) = are ∙ ap (λ l. l ++ w) q.4 ∙ append_assoc q.0 q.1 w in
+      let one = d.one v u p.0 (p.1 ++ y) q.0 (q.1 ++ w) p.2 q.2 (sym a ∙ b) in
+      let tails = same_fronts p.0 (p.1 ++ y) q.0 (q.1 ++ w) (ap length one.0) (sym a ∙ b) in
+      let few : length (p.1 ++ y) ≤ limit = omega (arith, within, ap length a, length-append p.0 (p.1 ++ y)) in
+      items_one first vs us j k (p.1 ++ y) p.1 y q.1 w few p.3 refl m f q.3 tails.1 n g
+
+  pub items_fault_first : AreFirst Fault → AreFirst (ItemsFault text Fault)
+  items_fault_first first j k c within (vs, (x, y, p, (m, f), is)) (ws, (z, w, q, (n, g), are)) = items_one first vs ws j k c x y z w within p is m f q are n g
+
+-- One text, or a last part.
+module _ {V : Type 0} (text : V → List ℕ → Type 0) (Fault : ErrorKind → List ℕ → Type 0) (d : IsDelimited text) (none : AreNone (NoneIn text) Fault) where
+  pub alone_fault_none : AreNone (NoneHas text) (AloneFault text Fault)
+  alone_fault_none k c within fault =
+      let ends : (a : V) → AreNone (λ b. (w : V) → w ≡ a → b ≡ [] → ⊥) EndFault = λ a j b few p. (is_trailing p.1, λ w _ e. omega (arith, p.0, ap length e)) in
+      let told = then_fault_none text Fault (λ _. EndFault) d none (λ w. w) (λ _ b. b ≡ []) ends k c within fault in
+      (told.0, λ v has. told.1 v (c, [], has, refl, sym (append-nil c)))
+
+  pub alone_fault_first : AreFirst Fault → AreFirst (AloneFault text Fault)
+  alone_fault_first first = then_fault_first text Fault (λ _. EndFault) d none first (λ _. end_fault_first)
+
+  pub last_fault_none : AreNone (NoneHas (Optional text)) (LastFault text Fault)
+  last_fault_none k c within fault = let told = alone_fault_none k c within fault.1 in (told.0, go c fault.0 told.1)
+    where
+      go : (c : List ℕ) → 0 < length c → NoneHas text c → (o : Option V) → Optional text o c → ⊥
+      go c more nothing None has = omega (arith, more, ap length has)
+      go c more nothing (Some v) has = nothing v has
+
+  pub last_fault_first : AreFirst Fault → AreFirst (LastFault text Fault)
+  last_fault_first first j k c within p q = alone_fault_first first j k c within p.1 q.1
+
+-- A whole slice.
+module _ {V : Type 0} (text : V → List ℕ → Type 0) (Fault : ErrorKind → List ℕ → Type 0) (d : IsDelimited text) (none : AreNone (NoneIn text) Fault) where
+  pub whole_fault_none : (k : ErrorKind) (b : List ℕ) → WholeFault text Fault k b → (v : V) → Means text b v → ⊥
+  whole_fault_none k b (inl long) v means = omega (arith, long.0, means.0)
+  whole_fault_none k b (inr (within, fault)) v means = (alone_fault_none text Fault d none k b within fault).1 v means.1
+
+  pub whole_fault_first : AreFirst Fault → (j k : ErrorKind) (b : List ℕ) → WholeFault text Fault j b → WholeFault text Fault k b → j ≡ k
+  whole_fault_first first j k b (inl p) (inl q) = p.1 ∙ sym q.1
+  whole_fault_first first j k b (inl p) (inr q) = absurd (omega (arith, p.0, q.0))
+  whole_fault_first first j k b (inr p) (inl q) = absurd (omega (arith, p.0, q.0))
+  whole_fault_first first j k b (inr p) (inr q) = alone_fault_first text Fault d none first j k b p.0 p.1 q.1
+
+-- Contents without a fault.
+pub no_fault_none : (Lacks : List ℕ → Type 0) → AreNone Lacks NoFault
+no_fault_none Lacks k c within f = absurd f
+
+pub no_fault_first : AreFirst NoFault
+no_fault_first j k c within f g = absurd f
+
+-- A text with a tag, as a whole slice, and as a last part that is known by its tag.
+module _ {V : Type 0} (tag : Tag) (Contents : V → List ℕ → Type 0) (Fault : ErrorKind → List ℕ → Type 0) (means : MeansOne Contents) (none : AreNone (NoneHas Contents) Fault) where
+  abbrev Tagged : V → List ℕ → Type 0
+  Tagged v b = Tlv tag.octet (Contents v) b
+
+  tagged_is : IsDelimited Tagged
+  tagged_is = tlv_delimited tag.octet Contents means
+
+  tagged_none : AreNone (NoneIn Tagged) (TextFault tag Fault)
+  tagged_none = text_fault_none tag Fault Contents none
+
+  pub tagged_last_none : AreNone (NoneHas (Optional Tagged)) (TaggedLastFault tag Tagged (TextFault tag Fault))
+  tagged_last_none k c within (inl (next, fault)) = let told = alone_fault_none Tagged (TextFault tag Fault) tagged_is tagged_none k c within fault in (told.0, go c next told.1)
+    where
+      go : (c : List ℕ) → slice_get c 0 ≡ Some tag.octet → NoneHas Tagged c → (o : Option V) → Optional Tagged o c → ⊥
+      go c next nothing None has = let no : slice_get c 0 ≡ None = ap (λ l. slice_get l 0) has in cc
+      go c next nothing (Some v) has = nothing v has
+  tagged_last_none k c within (inr (other, fault)) = (is_trailing fault.1, go c other fault.0)
+    where
+      go : (c : List ℕ) → slice_get c 0 ≢ Some tag.octet → 0 < length c → (o : Option V) → Optional Tagged o c → ⊥
+      go c other more None has = omega (arith, more, ap length has)
+      go c other more (Some v) has = other (ap (λ l. slice_get l 0) has.written)
+
+  -- a whole slice
+  pub tagged_whole_none : (k : ErrorKind) (b : List ℕ) → WholeFault Tagged (TextFault tag Fault) k b → (v : V) → Means Tagged b v → ⊥
+  tagged_whole_none = whole_fault_none Tagged (TextFault tag Fault) tagged_is tagged_none
+
+  pub tagged_whole_first : AreFirst Fault → (j k : ErrorKind) (b : List ℕ) → WholeFault Tagged (TextFault tag Fault) j b → WholeFault Tagged (TextFault tag Fault) k b → j ≡ k
+  tagged_whole_first first = whole_fault_first Tagged (TextFault tag Fault) tagged_is tagged_none (text_fault_first tag Fault first)
+
+  pub tagged_last_first : AreFirst Fault → AreFirst (TaggedLastFault tag Tagged (TextFault tag Fault))
+  tagged_last_first first j k c within (inl (p, f)) (inl (q, g)) = alone_fault_first Tagged (TextFault tag Fault) tagged_is tagged_none (text_fault_first tag Fault first) j k c within f g
+  tagged_last_first first j k c within (inl (p, f)) (inr (q, g)) = absurd (q p)
+  tagged_last_first first j k c within (inr (p, f)) (inl (q, g)) = absurd (p q)
+  tagged_last_first first j k c within (inr (p, f)) (inr (q, g)) = f.1 ∙ sym g.1
+
+-- Documents.
+pub document_fault_none : (k : ErrorKind) (b : List ℕ) → DocumentFault k b → Means {V = Unit {0}} (λ _. Tlv sequence.octet AreBytes) b tt → ⊥
+document_fault_none k b fault means = tagged_whole_none {V = Unit {0}} sequence (λ _. AreBytes) NoFault (λ v w c p q. refl) (no_fault_none _) k b fault tt means
+
+pub document_fault_first : (j k : ErrorKind) (b : List ℕ) → DocumentFault j b → DocumentFault k b → j ≡ k
+document_fault_first = tagged_whole_first {V = Unit {0}} sequence (λ _. AreBytes) NoFault (λ v w c p q. refl) (no_fault_none _) no_fault_first
+
+-- Of bytes with a fault the refusal is that of the fault, or want of memory.
+module _ (Fault : ErrorKind → List ℕ → Type 0) (first : (j k : ErrorKind) (b : List ℕ) → Fault j b → Fault k b → j ≡ k) where
+  pub faulty_first : (e kind : ErrorKind) (b : List ℕ) {asked : Type 0} → Fault kind b → Faulty e asked (Fault e b) → Faulty e asked (e ≡ kind)
+  faulty_first e kind b fault (inl w) = inl w
+  faulty_first e kind b fault (inr f) = inr (first e kind b f fault)
+
+-- The same of a reader.
+pub only_refused : (Fault : ErrorKind → List ℕ → Type 0) → AreFirst Fault → (asked : List ℕ → Type 0) (e : ErrorKind) (before : Input) → length (left_in before) ≤ limit → FaultyWhole Fault asked e before
+    → (kind : ErrorKind) (c : List ℕ) → before ≡ Some c → Fault kind c → Faulty e (asked c) (e ≡ kind)
+only_refused Fault first asked e before within faulty kind c is fault = ⊎_elim inl (λ f. inr (first e kind c (rw is at within) f fault)) (faulty c is)
+
+-- What is read of the front of a reader is refused where there is a fault, by that.
+module _ {X V : Type 0} (value : X → V) (text : V → List ℕ → Type 0) (Fault : ErrorKind → List ℕ → Type 0) (may_allocate : List ℕ → Type 0) (none : AreNone (NoneIn text) Fault) (first : AreFirst Fault) where
+  pub only_front : (r : Result X Error) (before after : Input) → length (left_in before) ≤ limit → ReadsText value text may_allocate r before after → IfErr r (λ e. FaultyFront Fault may_allocate e.kind before)
+      → OnlyFront Fault may_allocate r before
+  only_front (Ok x) before after within reads exact kind i is fault =
+      let some : Some i ≡ Some (reads.0 ++ reads.1) = sym is ∙ reads.2 in
+      let same : i ≡ reads.0 ++ reads.1 = cc in
+      absurd ((none kind i (rw is at within) fault).1 (value x) reads.0 reads.1 same reads.4)
+  only_front (Err e) before after within reads exact kind i is fault = only_refused Fault first (AllocatesIn may_allocate) e.kind before within exact kind i is fault
+
+-- The same of all that is left, as contents.
+pub only_contents : {X V : Type 0} (value : X → V) (contents : V → List ℕ → Type 0) (Fault : ErrorKind → List ℕ → Type 0) (asked : List ℕ → Type 0) → AreNone (NoneHas contents) Fault → AreFirst Fault
+    → (r : Result X Error) (before after : Input) → length (left_in before) ≤ limit → ReadsOrFaults value contents Fault asked r before after → OnlyWhole Fault asked r before
+only_contents value contents Fault asked none first (Ok x) before after within reads kind c is fault =
+    let some : Some c ≡ Some reads.0 = sym is ∙ reads.1 in
+    let same : c ≡ reads.0 = cc in
+    absurd ((none kind c (rw is at within) fault).1 (value x) (rw same reads.3))
+only_contents value contents Fault asked none first (Err e) before after within reads kind c is fault = only_refused Fault first asked e.kind before within reads.1 kind c is fault
+
+-- Where memory isn't asked for, it isn't wanted.
+pub not_asked : {X : Type 0} {asked : Type 0} (Fault : ErrorKind → Type 0) → (asked → ⊥) → (r : Result X Error) → IfErr r (λ e. Faulty e.kind asked (Fault e.kind)) → IfErr r (λ e. Fault e.kind)
+not_asked Fault never (Ok x) h = tt
+not_asked Fault never (Err e) h = ⊎_elim (λ w. absurd (never w.1)) (λ f. f) h
+
+pub only_not_asked : {X : Type 0} {asked : Type 0} (kind : ErrorKind) → (asked → ⊥) → (r : Result X Error) → IsErrAnd r (λ e. Faulty e.kind asked (e.kind ≡ kind)) → IsErrAnd r (λ e. e.kind ≡ kind)
+only_not_asked kind never (Ok x) h = h
+only_not_asked kind never (Err e) h = ⊎_elim (λ w. absurd (never w.1)) (λ f. f) h

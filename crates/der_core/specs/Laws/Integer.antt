@@ -1,0 +1,129 @@
+-- INTEGER: each text means one number, and each number has one text.
+use Rattle.std.proofs.Common.{take_all, ℕ, suc, List, [], ◌∷◌, ◌≡◌, ◌<◌, ◌≤◌, ◌-◌, ◌+◌, ◌^◌, length, get_or, take, drop, refl, sym, ap, ◌∙◌, arith, inl, inr}
+use Rattle.std.specs.Prelude.{slice_index}
+use Rattle.std.specs.Int.Digits.{number_from_digits}
+use Rattle.der_core.specs.Tag.{integer_tag}
+use Rattle.der_core.specs.Texts.{AreBytes, IsDelimited, IsOfBytes, MeansOne, AtMostOne}
+use Rattle.der_core.specs.Integer.{IsCanonical, IntegerContents, Integer, SmallContents, Small, HoldsNumber, integer_contents}
+use Rattle.der_core.specs.Laws.Input.{are_bytes}
+use Rattle.der_core.specs.Writing.{IsLeast}
+use Rattle.std.proofs.lemmas.Bool.{cases_lt}
+use Rattle.std.proofs.lemmas.Bool.Decides.{nat_tests}
+use Rattle.std.specs.Prelude.{nat_lt, true, false}
+use Rattle.der_core.specs.Laws.Lists.{same_cons}
+use Rattle.der_core.specs.Laws.Numbers.{base256_same, base256_pos}
+use Rattle.der_core.specs.Laws.Texts.{tlv_delimited, tlv_at_most_one, tlv_made, tlv_little_longer}
+
+first_of_same : (x y : List ℕ) → x ≡ y → slice_index x 0 ≡ slice_index y 0
+first_of_same x y e = ap (λ z. slice_index z 0) e
+
+-- Canonical bytes don't begin with a zero octet and another of 128 or more.
+not_padded : (x y : List ℕ) → IsCanonical x → 128 ≤ slice_index y 0 → x ≡ 0 ∷ y → ⊥
+not_padded x [] c h e = omega arith
+not_padded x (b ∷ y) (inl z) h e = let l : length x ≡ 1 = ap length z in let k : length x ≡ suc (suc (length y)) = ap length e in omega arith
+not_padded x (b ∷ y) (inr z) h e = let l : slice_index x 0 ≡ 0 = first_of_same x (0 ∷ (b ∷ y)) e in omega arith
+
+pub integer_means_one : MeansOne IntegerContents
+integer_means_one v w c (p, inl a) (q, inl b) = sym a.1 ∙ b.1
+integer_means_one v w c (p, inl a) (q, inr b) = absurd (not_padded v w p b.0 (sym a.1 ∙ b.1))
+integer_means_one v w c (p, inr a) (q, inl b) = absurd (not_padded w v q a.0 (sym b.1 ∙ a.1))
+integer_means_one v w c (p, inr a) (q, inr b) = (same_cons (sym a.1 ∙ b.1)).1
+
+pub integer_delimited : IsDelimited Integer
+integer_delimited = tlv_delimited integer_tag IntegerContents integer_means_one
+
+pub contents_at_most_one : (bytes : List ℕ) → AtMostOne (IntegerContents bytes)
+contents_at_most_one n x y (p, inl a) (q, inl b) = a.1 ∙ sym b.1
+contents_at_most_one n x y (p, inl a) (q, inr b) = absurd (omega arith)
+contents_at_most_one n x y (p, inr a) (q, inl b) = absurd (omega arith)
+contents_at_most_one n x y (p, inr a) (q, inr b) = a.1 ∙ sym b.1
+
+pub integer_at_most_one : (bytes : List ℕ) → AtMostOne (Integer bytes)
+integer_at_most_one bytes = tlv_at_most_one integer_tag (IntegerContents bytes) (contents_at_most_one bytes)
+
+-- A number has one list of canonical bytes.
+pub canonical_same : (x y : List ℕ) → IsCanonical x → IsCanonical y → number_from_digits 256 x ≡ number_from_digits 256 y → x ≡ y
+canonical_same x y (inl p) (inl q) e = p ∙ sym q
+canonical_same x y (inl p) (inr q) e =
+    let z : number_from_digits 256 x ≡ 0 = ap (number_from_digits 256) p in
+    let k : 0 < number_from_digits 256 y = base256_pos (number_from_digits 256 y) y (record { bytes = q.0; value = refl; no_leading_zero = q.1 }) in
+    absurd (omega arith)
+canonical_same x y (inr p) (inl q) e =
+    let z : number_from_digits 256 y ≡ 0 = ap (number_from_digits 256) q in
+    let k : 0 < number_from_digits 256 x = base256_pos (number_from_digits 256 x) x (record { bytes = p.0; value = refl; no_leading_zero = p.1 }) in
+    absurd (omega arith)
+canonical_same x y (inr p) (inr q) e = base256_same (number_from_digits 256 y) x y (record { bytes = p.0; value = e; no_leading_zero = p.1 }) (record { bytes = q.0; value = refl; no_leading_zero = q.1 })
+
+pub small_means_one : MeansOne SmallContents
+small_means_one m n c (p, x, e, i) (q, y, f, j) =
+    let s : x ≡ y = integer_means_one x y c i j in
+    let k : number_from_digits 256 x ≡ number_from_digits 256 y = ap (number_from_digits 256) s in
+    sym e ∙ k ∙ f
+
+pub small_delimited : IsDelimited Small
+small_delimited = tlv_delimited integer_tag SmallContents small_means_one
+
+small_contents_at_most_one : (n : ℕ) → AtMostOne (SmallContents n)
+small_contents_at_most_one n c d (p, x, e, i) (q, y, f, j) =
+    let s : x ≡ y = canonical_same x y i.0 j.0 (e ∙ sym f) in
+    contents_at_most_one y c d (rw s at i) j
+
+pub small_at_most_one : (n : ℕ) → AtMostOne (Small n)
+small_at_most_one n = tlv_at_most_one integer_tag (SmallContents n) (small_contents_at_most_one n)
+
+-- What a type holds of a number's bytes.
+pub holds_canonical : (bytes : List ℕ) → HoldsNumber bytes → IsCanonical bytes
+holds_canonical [] h = absurd (omega (arith, h.0))
+holds_canonical (x ∷ []) h = elim (cases_lt 0 x) [
+  | inl p ↦ inr ((h.2 0, tt), p)
+  | inr p ↦ let z : x ≡ 0 = omega arith in inl (rw z refl)
+]
+holds_canonical (x ∷ y ∷ ys) h = inr (are_bytes (x ∷ y ∷ ys) h.2, h.1 (omega arith))
+
+-- What is written.
+written_small : (bytes : List ℕ) → slice_index bytes 0 < 128 → integer_contents bytes ≡ bytes
+written_small bytes h = let e : nat_lt (slice_index bytes 0) 128 ≡ true = grind (arith, nat_tests) in rw e refl
+
+written_large : (bytes : List ℕ) → 128 ≤ slice_index bytes 0 → integer_contents bytes ≡ 0 ∷ bytes
+written_large bytes h = let e : nat_lt (slice_index bytes 0) 128 ≡ false = grind (arith, nat_tests) in rw e refl
+
+pub integer_relates : (bytes : List ℕ) → IsCanonical bytes → IntegerContents bytes (integer_contents bytes)
+integer_relates bytes p = elim (cases_lt (slice_index bytes 0) 128) [
+  | inl h ↦ (p, inl (h, written_small bytes h))
+  | inr h ↦ (p, inr (h, written_large bytes h))
+]
+
+pub integer_shortest : (bytes c : List ℕ) → IntegerContents bytes c → IsLeast (IsCanonical bytes) (integer_contents bytes) c
+integer_shortest bytes c p =
+    let same : c ≡ integer_contents bytes = contents_at_most_one bytes c (integer_contents bytes) p (integer_relates bytes p.0) in
+    (p.0, omega (arith, ap length same), (λ (_ : length c ≤ length (integer_contents bytes)). same))
+
+-- What is left behind a padding zero.
+pub tail_holds : (xs : List ℕ) → 2 ≤ length xs → 128 ≤ get_or xs 1 0 → ((i : ℕ) → get_or xs i 0 < 256) → HoldsNumber (take (length xs - 1) (drop 1 xs))
+tail_holds [] n h b = absurd (omega (arith, n))
+tail_holds (x ∷ []) n h b = absurd (omega (arith, n))
+tail_holds (x ∷ y ∷ ys) n h b =
+    let e : take (length (x ∷ y ∷ ys) - 1) (y ∷ ys) ≡ y ∷ ys = take_all (length (x ∷ y ∷ ys) - 1) (y ∷ ys) (omega arith) in
+    rw e (omega arith, (λ _. omega (arith, h)), λ i. b (suc i))
+
+-- A number has a text, which is little longer than the number.
+pub integer_made : (bytes : List ℕ) → IsCanonical bytes → length bytes < 2 ^ 64 → (text : List ℕ) × Integer bytes text × (length text < 2 ^ 65)
+integer_made bytes p h =
+    let few : length (integer_contents bytes) ≤ length bytes + 1 = elim (cases_lt (slice_index bytes 0) 128) [
+      | inl l ↦ omega (arith, ap length (written_small bytes l))
+      | inr l ↦ omega (arith, ap length (written_large bytes l))
+    ] in
+    let made = tlv_made integer_tag (IntegerContents bytes) (integer_contents bytes) (integer_relates bytes p) (omega (arith, few, h)) in
+    (made.0, made.1, omega (arith, few, h, ap length made.2, tlv_little_longer made.0 made.1))
+
+-- Contents of numbers are bytes.
+canonical_of_bytes : (bytes : List ℕ) → IsCanonical bytes → AreBytes bytes
+canonical_of_bytes bytes (inl e) = rw e (omega arith, tt)
+canonical_of_bytes bytes (inr p) = p.0
+
+pub integer_of_bytes : IsOfBytes IntegerContents
+integer_of_bytes bytes c (p, inl a) = rw a.1 (canonical_of_bytes bytes p)
+integer_of_bytes bytes c (p, inr a) = rw a.1 (omega arith, canonical_of_bytes bytes p)
+
+pub small_of_bytes : IsOfBytes SmallContents
+small_of_bytes n c (l, bytes, e, i) = integer_of_bytes bytes c i

@@ -1,0 +1,62 @@
+-- A number has one list of digits without a leading zero, and a greater number has no fewer digits.
+use Rattle.std.proofs.Common.{ℕ, suc, List, [], ◌∷◌, ◌≡◌, ◌<◌, ◌≤◌, ◌+◌, ◌*◌, ◌^◌, length, refl, sym, ◌∙◌, arith, inl, inr, mul-le-mul_right, zero-le}
+use Rattle.std.proofs.Math.Nat.{pow-suc, pow-le-pow_right}
+use Rattle.std.proofs.lemmas.Bool.{cases_lt}
+use Rattle.std.specs.Int.Digits.{number_from_digits, number_from_digits_after, AllBelowBase}
+use Rattle.std.proofs.lemmas.Int.Digits.{number_lt}
+use Rattle.der_core.specs.Length.{IsBase256}
+use Rattle.der_core.specs.Laws.Lists.{cons_path}
+
+-- One digit more at the end.
+same_step : (m n x y : ℕ) → x < 256 → y < 256 → m * 256 + x ≡ n * 256 + y → (m ≡ n) × (x ≡ y)
+same_step m n x y p q e = (omega arith, omega arith)
+
+same_after : (m n : ℕ) (x y : List ℕ) → AllBelowBase 256 x → AllBelowBase 256 y → length x ≡ length y → number_from_digits_after 256 m x ≡ number_from_digits_after 256 n y → (m ≡ n) × (x ≡ y)
+same_after m n [] [] p q l e = (e, refl)
+same_after m n [] (b ∷ y) p q l e = absurd (omega arith)
+same_after m n (a ∷ x) [] p q l e = absurd (omega arith)
+same_after m n (a ∷ x) (b ∷ y) p q l e =
+    let r = same_after (m * 256 + a) (n * 256 + b) x y p.1 q.1 (omega arith) e in
+    let s = same_step m n a b p.0 q.0 r.0 in
+    (s.0, cons_path s.1 r.1)
+
+-- Digits put behind a number make it no less than that number times a power of the base.
+after_ge : (m : ℕ) (x : List ℕ) → m * 256 ^ length x ≤ number_from_digits_after 256 m x
+after_ge m [] = omega arith
+after_ge m (a ∷ x) =
+    let ih : (m * 256 + a) * 256 ^ length x ≤ number_from_digits_after 256 (m * 256 + a) x = after_ge (m * 256 + a) x in
+    let s : 256 ^ suc (length x) ≡ 256 ^ length x * 256 = pow-suc 256 (length x) in
+    rw s (omega arith)
+
+pub base256_ge : (n : ℕ) (x : List ℕ) (a : ℕ) → 0 < a → n ≡ number_from_digits 256 (a ∷ x) → 256 ^ length x ≤ n
+base256_ge n x a p e =
+    let g : (0 * 256 + a) * 256 ^ length x ≤ n = rw e (after_ge (0 * 256 + a) x) in
+    let k : 1 * 256 ^ length x ≤ a * 256 ^ length x = mul-le-mul_right (256 ^ length x) p in
+    omega arith
+
+-- A number that isn't less has no fewer digits.
+pub base256_grows : (m n : ℕ) (x y : List ℕ) → IsBase256 m x → IsBase256 n y → m ≤ n → length x ≤ length y
+base256_grows m n [] y p q l = zero-le
+base256_grows m n (a ∷ x) [] p q l = absurd (omega arith)
+base256_grows m n (a ∷ x) (b ∷ y) p q l = elim (cases_lt (length x) (suc (length y))) [
+  | inl h ↦ h
+  | inr h ↦
+      let low : 256 ^ length x ≤ m = base256_ge m x a p.no_leading_zero (sym p.value) in
+      let high : number_from_digits 256 (b ∷ y) < 256 ^ suc (length y) = number_lt 256 (b ∷ y) q.bytes in
+      let mono : 256 ^ suc (length y) ≤ 256 ^ length x = pow-le-pow_right (omega arith) h in
+      absurd (omega (arith, q.value))
+]
+
+pub base256_same : (n : ℕ) (x y : List ℕ) → IsBase256 n x → IsBase256 n y → x ≡ y
+base256_same n x y p q =
+    let a : length x ≤ length y = base256_grows n n x y p q (omega arith) in
+    let b : length y ≤ length x = base256_grows n n y x q p (omega arith) in
+    (same_after 0 0 x y p.bytes q.bytes (omega arith) (p.value ∙ sym q.value)).1
+
+-- A number without a leading zero isn't zero.
+pub base256_pos : (n : ℕ) (x : List ℕ) → IsBase256 n x → 0 < n
+base256_pos n [] p = absurd (omega (arith, p.no_leading_zero))
+base256_pos n (a ∷ x) p =
+    let g : 256 ^ length x ≤ n = base256_ge n x a p.no_leading_zero (sym p.value) in
+    let k : 256 ^ 0 ≤ 256 ^ length x = pow-le-pow_right (omega arith) zero-le in
+    omega arith

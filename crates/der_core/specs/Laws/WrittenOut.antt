@@ -1,0 +1,109 @@
+-- Texts that are written out: making one, taking one apart, and showing that there is none.
+use Rattle.std.proofs.Common.{ℕ, List, [], ◌∷◌, ◌++◌, ◌≡◌, ◌≢◌, ◌<◌, ◌≤◌, ◌+◌, inl, inr, length, refl, sym, ap, ◌∙◌, arith, append-nil, length-append, Ok, Err}
+use Rattle.std.proofs.lemmas.Bool.{cases_lt}
+use Rattle.std.specs.Prelude.{IsTrue, slice_index}
+use Rattle.std.specs.Int.Digits.{number_from_digits}
+use Rattle.der_core.specs.declared.error.ErrorKind.{ErrorKind}
+use Rattle.der_core.specs.Length.{IsLength, IsBase256, short, long, limit}
+use Rattle.der_core.specs.Tag.{is_allowed}
+use Rattle.der_core.specs.Texts.{AreBytes, Is, Then}
+use Rattle.der_core.specs.Tlv.{Tlv}
+use Rattle.der_core.specs.Integer.{Integer, IntegerContents, Small}
+use Rattle.der_core.specs.Input.{header_at}
+use Rattle.der_core.specs.Laws.Lists.{same_cons}
+use Rattle.der_core.specs.Laws.Texts.{tlv_split, tlv_not_empty}
+use Rattle.der_core.specs.Laws.Input.{ok_pair}
+use Rattle.der_core.specs.Laws.Headers.{tlv_header}
+
+-- Length octets in the long form.
+pub known_long : (digits : List ℕ) → AreBytes digits → 0 < slice_index digits 0 → 128 ≤ number_from_digits 256 digits → length digits ≤ 126 → IsLength (number_from_digits 256 digits) ((128 + length digits) ∷ digits)
+known_long digits bytes first big few = long digits big few (record { bytes = bytes; value = refl; no_leading_zero = first }) refl
+
+-- With fewer than 128 bytes of contents.
+pub known_tlv : (t : ℕ) {P : List ℕ → Type 0} (c : List ℕ) → P c → length c < 128 → Tlv t P (t ∷ length c ∷ c)
+known_tlv t c p l = record { octets = length c ∷ []; contents = c; counted = short l refl; holds = p; written = refl }
+
+-- Where a text stands at the front of known bytes, its contents are known, and so is what follows.
+pub known_front : {t u : ℕ} {P : List ℕ → Type 0} (c rest x y : List ℕ) → Tlv t P x → (u ∷ length c ∷ c) ++ rest ≡ x ++ y → length c < 128 → (t ≡ u) × P c × (y ≡ rest)
+known_front {t} {u} c rest x y p e l =
+    let k : Tlv u (Is c) (u ∷ length c ∷ c) = known_tlv u c refl l in
+    let s = tlv_split x y (u ∷ length c ∷ c) rest p k (sym e) in
+    (s.1, rw s.5 at s.4, s.2)
+
+pub known_whole : {t u : ℕ} {P : List ℕ → Type 0} (c : List ℕ) → Tlv t P (u ∷ length c ∷ c) → length c < 128 → P c
+known_whole {t} {u} c p l = (known_front c [] (u ∷ length c ∷ c) [] p refl l).1
+
+-- INTEGER texts of one byte.
+pub integer_byte : (n : ℕ) → n < 128 → Integer (n ∷ []) (2 ∷ 1 ∷ n ∷ [])
+integer_byte n l = elim (cases_lt 0 n) [
+  | inl h ↦ known_tlv 2 (n ∷ []) (inr ((omega arith, tt), h), inl (l, refl)) (omega arith)
+  | inr h ↦ let z : n ≡ 0 = omega arith in known_tlv 2 (n ∷ []) (inl (rw z refl), inl (l, refl)) (omega arith)
+]
+
+pub small_byte : (n : ℕ) → n < 128 → Small n (2 ∷ 1 ∷ n ∷ [])
+small_byte n l = elim (cases_lt 0 n) [
+  | inl h ↦ known_tlv 2 (n ∷ []) (omega arith, n ∷ [], omega arith, (inr ((omega arith, tt), h), inl (l, refl))) (omega arith)
+  | inr h ↦ let z : n ≡ 0 = omega arith in known_tlv 2 (n ∷ []) (omega arith, n ∷ [], omega arith, (inl (rw z refl), inl (l, refl))) (omega arith)
+]
+
+-- A header that isn't read is the start of no text within the limit.
+pub refused_header : (t : ℕ) {P : List ℕ → Type 0} (x : List ℕ) (k : ErrorKind) → IsTrue (is_allowed t) → length x ≤ limit → header_at x ≡ Err k → Tlv t P x → ⊥
+refused_header t x k allowed within is p =
+    let read = tlv_header t x x [] allowed within p (sym (append-nil x)) in
+    let no = sym is ∙ read in cc
+
+-- A header that is read has the tag, and it counts what follows, which is the contents.
+pub counted_header : (t u n : ℕ) {P : List ℕ → Type 0} (x c : List ℕ) → IsTrue (is_allowed t) → length x ≤ limit → header_at x ≡ Ok ((u, n), c) → Tlv t P x → (u ≡ t) × (length c ≡ n) × P c
+counted_header t u n x c allowed within is p =
+    let read = tlv_header t x x [] allowed within p (sym (append-nil x)) in
+    let parts = ok_pair (u, n) (t, length p.contents) c (p.contents ++ []) (sym is ∙ read) in
+    let same : c ≡ p.contents = parts.1 ∙ append-nil p.contents in
+    let number : n ≡ length p.contents = ap (λ q. q.1) parts.0 in
+    (ap (λ q. q.0) parts.0, ap length same ∙ sym number, rw same p.holds)
+
+-- A text has some byte, and its first one is the tag.
+pub no_bytes_refused : {t : ℕ} {P : List ℕ → Type 0} → Tlv t P [] → ⊥
+no_bytes_refused p = let e = p.written in cc
+
+pub other_tag_refused : {t : ℕ} {P : List ℕ → Type 0} (u : ℕ) (x : List ℕ) → u ≢ t → Tlv t P (u ∷ x) → ⊥
+other_tag_refused u x other p = other (same_cons p.written).0
+
+-- Where there are no bytes, no text stands at their front.
+pub no_part_refused : {t : ℕ} {P Rest : List ℕ → Type 0} → Then (Tlv t P) Rest [] → ⊥
+no_part_refused (x, y, p, q, e) = omega (arith, tlv_not_empty x p, ap length e, length-append x y)
+
+-- Length octets are some octets.
+pub no_octets_refused : (n : ℕ) → IsLength n [] → ⊥
+no_octets_refused n (short p e) = cc
+no_octets_refused n (long ds p k b e) = cc
+
+-- From 128 on the first one says how many follow, and those are the length in base 256, which the short form doesn't have.
+pub long_form : (n x : ℕ) (ds : List ℕ) → 128 ≤ x → IsLength n (x ∷ ds) → (x ≡ 128 + length ds) × (x < 255) × (128 ≤ n) × IsBase256 n ds
+long_form n x ds h (short p e) = let s = same_cons e in absurd (omega arith)
+long_form n x ds h (long ds' p k b e) =
+    let s = same_cons e in
+    (s.0 ∙ rw s.1 refl, omega (arith, s.0, k), p, rw s.1 b)
+
+pub other_count_refused : (n x : ℕ) (ds : List ℕ) → 128 ≤ x → x ≢ 128 + length ds → IsLength n (x ∷ ds) → ⊥
+other_count_refused n x ds h other p = other (long_form n x ds h p).0
+
+pub needless_long_form_refused : (n x : ℕ) (ds : List ℕ) → 128 ≤ x → number_from_digits 256 ds < 128 → IsLength n (x ∷ ds) → ⊥
+needless_long_form_refused n x ds h small p = let f = long_form n x ds h p in let v = f.3.value in omega arith
+
+pub needless_octet_refused : (n x : ℕ) (ds : List ℕ) → 128 ≤ x → slice_index ds 0 ≡ 0 → IsLength n (x ∷ ds) → ⊥
+needless_octet_refused n x ds h zero p = let f = long_form n x ds h p in let v = f.3.no_leading_zero in omega arith
+
+-- The contents of an unsigned number: some octets, the first below 128, and no needless zero in front.
+pub no_contents_refused : (x : List ℕ) → IntegerContents x [] → ⊥
+no_contents_refused x (inl p, inl q) = let e = q.1 ∙ p in cc
+no_contents_refused x (inr p, inl q) = let e : 0 ≡ slice_index x 0 = ap (λ z. slice_index z 0) q.1 in omega arith
+no_contents_refused x (p, inr q) = let e = q.1 in cc
+
+pub negative_refused : (x : List ℕ) (b : ℕ) (y : List ℕ) → 128 ≤ b → IntegerContents x (b ∷ y) → ⊥
+negative_refused x b y h (p, inl q) = let e : b ≡ slice_index x 0 = ap (λ z. slice_index z 0) q.1 in omega arith
+negative_refused x b y h (p, inr q) = let e : b ≡ 0 = (same_cons q.1).0 in omega arith
+
+pub needless_zero_refused : (x : List ℕ) (b : ℕ) (y : List ℕ) → b < 128 → IntegerContents x (0 ∷ b ∷ y) → ⊥
+needless_zero_refused x b y h (inl p, inl q) = let e = ap length (q.1 ∙ p) in omega arith
+needless_zero_refused x b y h (inr p, inl q) = let e : 0 ≡ slice_index x 0 = ap (λ z. slice_index z 0) q.1 in omega arith
+needless_zero_refused x b y h (p, inr q) = let e : b ≡ slice_index x 0 = ap (λ z. slice_index z 1) q.1 in omega arith

@@ -1,0 +1,38 @@
+-- Public keys: each text means one key, is bytes, and what is written of a key is the shortest of its texts.
+use Rattle.std.specs.Prelude.{ℕ, List, ◌<◌, ◌^◌, length}
+use Rattle.std.proofs.Common.{Bool, ◌≡◌, ◌&&◌, ap, arith, length-append, Decides}
+use Rattle.der_core.specs.Laws.Equality.{both_decide}
+use Rattle.der_core.specs.Texts.{MeansOne, IsDelimited, IsOfBytes}
+use Rattle.der_core.specs.Laws.Texts.{then_step, then_least, last_least, then_holds, last_holds, then_of_bytes, last_of_bytes}
+use Rattle.der_core.specs.Writing.{IsLeast}
+use Rattle.pkcs1.specs.Keys.{PublicKey, PublicKeyContents}
+use Rattle.pkcs1.specs.Writing.{HasPublicKey, written_public_key}
+
+module _ {Number : Type 0} (NumberText : Number → List ℕ → Type 0) where
+  pub public_key_means_one : IsDelimited NumberText → MeansOne (PublicKeyContents NumberText)
+  public_key_means_one d v w c p q =
+      let a = then_step d v.modulus w.modulus c p q in
+      let b = then_step d v.public_exponent w.public_exponent a.1 a.2 a.3 in
+      λ i. record { modulus = a.0 i; public_exponent = b.0 i }
+
+  pub public_key_of_bytes : IsOfBytes NumberText → IsOfBytes (PublicKeyContents NumberText)
+  public_key_of_bytes bytes key c p = then_of_bytes (bytes key.modulus) (last_of_bytes (bytes key.public_exponent)) c p
+
+  module _ (has : Number → Type 0) (text : Number → List ℕ) where
+    pub public_key_relates : ((n : Number) → has n → length (text n) < 2 ^ 128 → NumberText n (text n))
+        → (key : PublicKey Number) → HasPublicKey has key → length (written_public_key text key) < 2 ^ 128 → PublicKeyContents NumberText key (written_public_key text key)
+    public_key_relates relates key h fits =
+        let l = length-append (text key.modulus) (text key.public_exponent) in
+        then_holds (text key.modulus) (text key.public_exponent) (relates key.modulus h.0 (omega (arith, fits, l)))
+        (last_holds (text key.public_exponent) (relates key.public_exponent h.1 (omega (arith, fits, l))))
+
+    pub public_key_shortest : ((n : Number) (b : List ℕ) → NumberText n b → IsLeast (has n) (text n) b)
+        → (key : PublicKey Number) (c : List ℕ) → PublicKeyContents NumberText key c → IsLeast (HasPublicKey has key) (written_public_key text key) c
+    public_key_shortest least key c p =
+        then_least (text key.modulus) (text key.public_exponent) (least key.modulus) (last_least (text key.public_exponent) (least key.public_exponent)) c p
+
+-- Equality, by that of the numbers.
+pub public_key_decides : {U V : Type 0} (value : U → V) (E : U → U → Bool) → ((a b : U) → Decides (E a b) (value a ≡ value b)) → (m n e f : U)
+    → Decides (E m n && E e f) (◌≡◌ {A = PublicKey V} (record { modulus = value m; public_exponent = value e }) (record { modulus = value n; public_exponent = value f }))
+public_key_decides {U} {V} value E d m n e f =
+    both_decide (d m n) (d e f) (λ p q. λ i. record { modulus = p i; public_exponent = q i }) (λ s. ap (λ (k : PublicKey V). k.modulus) s) (λ s. ap (λ (k : PublicKey V). k.public_exponent) s)

@@ -1,0 +1,11 @@
+-- Lemmas on the definitions, which proofs here and in the crates above may cite.
+pub mod FaultsTold
+pub mod FieldValues
+pub mod HashFields
+pub mod HeldFields
+pub mod Oaep
+pub mod ParameterFaults
+pub mod Parameters
+pub mod Parts
+pub mod Pss
+pub mod Trailers

@@ -1,0 +1,34 @@
+-- RSASSA-PSS parameters: each text means one value and is bytes, and what is written of a value is the shortest of its texts.
+use Rattle.std.proofs.Common.{List, [], ◌∷◌, arith}
+use Rattle.der_core.specs.Integer.{Small}
+use Rattle.der_core.specs.Laws.Integer.{small_delimited}
+use Rattle.der_core.specs.Texts.{IsOfBytes, MeansOne}
+use Rattle.der_core.specs.Writing.{WritesTexts, WritesLeast}
+use Rattle.spki_core.specs.Explicit.{Field, field}
+use Rattle.spki_core.specs.Laws.FieldTexts.{value_step, fields_of_bytes as joins_of_bytes}
+use Rattle.pkcs1_params.specs.Laws.FieldValues.{fields_of_bytes}
+use Rattle.pkcs1_params.specs.Laws.HashFields.{hash_fields_step}
+use Rattle.pkcs1_params.specs.Parameters.{TrailerField, PssParameters, pss_fields, PssContents}
+use Rattle.pkcs1_params.specs.Laws.Parts.{parts_hold, parts_shortest}
+use Rattle.pkcs1_params.specs.Parts.{parts_of, pss_values, HasFields, written_fields}
+use Rattle.pkcs1_params.specs.Laws.Trailers.{trailer_delimited}
+
+-- saltLength and trailerField
+abbrev later : PssParameters → List Field
+later p = field 2 Small 20 p.salt_len ∷ field 3 TrailerField 1 p.trailer_field ∷ []
+
+pub pss_means_one : MeansOne PssContents
+pss_means_one v w c p q =
+    let a = hash_fields_step v.hash w.hash v.mask_gen w.mask_gen (later v) (later w) (omega arith, (omega arith, tt)) (omega arith, (omega arith, tt)) c p q in
+    let b = value_step 2 Small small_delimited 20 v.salt_len w.salt_len (field 3 TrailerField 1 v.trailer_field ∷ []) (field 3 TrailerField 1 w.trailer_field ∷ []) (omega arith, tt) (omega arith, tt) a.2 a.3 a.4 in
+    let e = value_step 3 TrailerField trailer_delimited 1 v.trailer_field w.trailer_field [] [] tt tt b.1 b.2 b.3 in
+    λ i. record { hash = a.0 i; mask_gen = a.1 i; salt_len = b.0 i; trailer_field = e.0 i }
+
+pub pss_of_bytes : IsOfBytes PssContents
+pss_of_bytes p = joins_of_bytes (pss_fields p) (fields_of_bytes (pss_values p))
+
+pub pss_relates : WritesTexts PssContents (λ p. HasFields (pss_values p) 0) (λ p. written_fields (pss_values p) 0)
+pss_relates p = parts_hold (parts_of (pss_values p))
+
+pub pss_shortest : WritesLeast PssContents (λ p. HasFields (pss_values p) 0) (λ p. written_fields (pss_values p) 0)
+pss_shortest p = parts_shortest (parts_of (pss_values p))

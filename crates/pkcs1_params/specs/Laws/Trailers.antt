@@ -1,0 +1,26 @@
+-- Trailer fields: each text means one and is bytes, and what is written is its shortest text.
+use Rattle.std.specs.Prelude.{ℕ, List, [], ◌∷◌, ◌≡◌}
+use Rattle.std.proofs.Common.{arith, sym, ◌∙◌}
+use Rattle.der_core.specs.Tag.{integer_tag}
+use Rattle.der_core.specs.Texts.{MeansOne, IsOfBytes, IsDelimited}
+use Rattle.der_core.specs.Laws.Texts.{tlv_delimited}
+use Rattle.der_core.specs.Integer.{integer_contents}
+use Rattle.der_core.specs.Laws.Integer.{small_of_bytes}
+use Rattle.der_core.specs.Laws.SmallNumbers.{small_relates, small_shortest}
+use Rattle.der_core.specs.Writing.{IsLeast}
+use Rattle.pkcs1_params.specs.Parameters.{TrailerContents, TrailerField}
+
+pub trailer_means_one : MeansOne TrailerContents
+trailer_means_one m n c p q = p.0 ∙ sym q.0
+
+pub trailer_delimited : IsDelimited TrailerField
+trailer_delimited = tlv_delimited integer_tag TrailerContents trailer_means_one
+
+pub trailer_relates : (n : ℕ) → n ≡ 1 → TrailerContents n (integer_contents (n ∷ []))
+trailer_relates n is = (is, small_relates n (omega (arith, is)))
+
+pub trailer_shortest : (n : ℕ) (c : List ℕ) → TrailerContents n c → IsLeast (n ≡ 1) (integer_contents (n ∷ [])) c
+trailer_shortest n c p = let s = small_shortest n c p.1 in (p.0, s.1, s.2)
+
+pub trailer_of_bytes : IsOfBytes TrailerContents
+trailer_of_bytes n c p = small_of_bytes n c p.1

@@ -1,0 +1,18 @@
+-- Lemmas on the definitions, which proofs here and in the crates above may cite.
+pub mod AlgorithmRows
+pub mod AlgorithmTexts
+pub mod Algorithms
+pub mod AnyTexts
+pub mod Carried
+pub mod ContextSpecific
+pub mod Faults
+pub mod FieldReads
+pub mod FieldTexts
+pub mod Fields
+pub mod Held
+pub mod IdentifierRows
+pub mod Identifiers
+pub mod KnownFields
+pub mod Masks
+pub mod Spellings
+pub mod StrictWalk

@@ -1,0 +1,132 @@
+-- Reading one field, and the fields behind it: each exit of the code is one lemma.
+use Rattle.std.proofs.Common.{◌≡◌, ℕ, ◌+◌, List, [], ◌∷◌, ◌++◌, map, sym, ap, ◌∙◌, inl, inr, refl, ⊎_elim, true, false, Some, None, Result, Ok, Err}
+use Rattle.std.specs.Prelude.{slice_get, IfErr}
+use Rattle.der_core.specs.declared.error.ErrorKind.{ErrorKind}
+use Rattle.der_core.specs.declared.error.Error.{Error}
+use Rattle.der_core.specs.Input.{Input}
+use Rattle.der_core.specs.Texts.{IsDelimited, Joins}
+use Rattle.der_core.specs.Tlv.{Tlv}
+use Rattle.der_core.specs.Reading.{AllocatesIn, ReadsText, Refuses, TellsNext}
+use Rattle.der_core.specs.Laws.Growing.{tlv_recast}
+use Rattle.der_core.specs.declared.tag.Tag.{Tag}
+use Rattle.der_core.specs.Faults.{FaultyFront}
+use Rattle.der_core.specs.Laws.Sequences.{ContentsFail, ContentsFaulty, ContentsGive, some_same}
+use Rattle.spki_core.specs.Faults.{NextFault, FieldThenFault}
+use Rattle.spki_core.specs.Allocating.{FieldAllocates, AllocatesFromField}
+use Rattle.spki_core.specs.Explicit.{Field, field, Defaultable, IsNext, FieldRead, FieldRefused}
+use Rattle.spki_core.specs.Laws.FieldTexts.{AreLater}
+use Rattle.spki_core.specs.FieldReading.{ReadsField}
+use Rattle.spki_core.specs.Laws.Carried.{Carried}
+use Rattle.spki_core.specs.Laws.Fields.{refused_step, read_step, read_then}
+
+is_next : (i : List ℕ) (n : ℕ) → slice_get i 0 ≡ Some (160 + n) → IsNext n i
+is_next [] n e = cc
+is_next (x ∷ xs) n e = (xs, let same : x ≡ 160 + n = cc in ap (λ k. k ∷ xs) same)
+
+-- Its octet isn't next: the default is given.
+pub field_absent : {X V : Type 0} (n : ℕ) (value : X → V) (text : V → List ℕ → Type 0) (may_allocate : List ℕ → Type 0) (default : V) (x : X) (before after : Input)
+    → TellsNext (160 + n) (Ok false) before after → value x ≡ default → ReadsField n value text default may_allocate (Ok x) before after
+field_absent n value text may_allocate default x before after (i, is, left, told) same =
+    (i, i, is, left, inl ((λ (rest, starts). let no : false ≡ true = told.1 (rw starts refl) in cc), same, refl))
+
+-- Its octet is next: a text was read, or none is there.
+pub field_present : {X V W : Type 0} {value : X → V} {G : V → List ℕ → Type 0} {other : X → W} {H : W → List ℕ → Type 0} → Carried value G other H
+    → (n : ℕ) (may_allocate : List ℕ → Type 0) (default : W) (result : Result X Error) (before mid after : Input)
+    → TellsNext (160 + n) (Ok true) before mid → ReadsText value (λ v. Tlv (160 + n) (G v)) (FieldAllocates n may_allocate) result mid after → ReadsField n other H default may_allocate result before after
+field_present k n may_allocate default (Ok x) before mid after (i, is, at, told) (b, rest, e, left, t) =
+    (i, rest, is, left, inr (b, rest, tlv_recast b t (rw (k.meant x) (k.text_there _ t.contents t.holds)), refl, some_same i (b ++ rest) (sym at ∙ e)))
+field_present k n may_allocate default (Err e) before mid after (i, is, at, told) (failed, _, why) = (
+  failed,
+  λ bytes here.
+      let same : i ≡ bytes = some_same i bytes (sym is ∙ here) in
+      ⊎_elim inl (λ q. inr (q.0, (is_next bytes n (rw same at (told.0 refl)), λ w rest (x, y, t, _, f). q.1 (k.back w) x y f (tlv_recast x t (k.text_back w t.contents t.holds))))) (why bytes (rw same at at)),
+)
+
+-- Its octet is next, and it has a fault.
+pub field_told : (n : ℕ) (Fault : Tag → ErrorKind → List ℕ → Type 0) (may_allocate : List ℕ → Type 0) (e : ErrorKind) (before mid : Input) → TellsNext (160 + n) (Ok true) before mid
+    → ((t : Tag) → t.octet ≡ 160 + n → FaultyFront (Fault t) may_allocate e mid) → (t : Tag) → t.octet ≡ 160 + n → FaultyFront (NextFault n (Fault t)) may_allocate e before
+field_told n Fault may_allocate e before mid (i, is, at, told) fault t octet j here =
+    let same : i ≡ j = some_same i j (sym is ∙ here) in
+    ⊎_elim inl (λ f. inr (is_next j n (rw same at (told.0 refl)), f)) (fault t octet j (at ∙ ap (λ l. Some l) same))
+
+-- Where the answer is no, the octet of the field isn't next.
+pub not_next : (n : ℕ) (before mid : Input) (i : List ℕ) → TellsNext (160 + n) (Ok false) before mid → before ≡ Some i → IsNext n i → ⊥
+not_next n before mid i (j, is, at, told) here (rest, e) =
+    let same : j ≡ i = some_same j i (sym is ∙ here) in
+    let no : false ≡ true = told.1 (ap (λ l. slice_get l 0) (same ∙ e)) in
+    cc
+
+pub field_faulty : {X : Type 0} (r : Result X Error) (n : ℕ) (Fault : Tag → ErrorKind → List ℕ → Type 0) (may_allocate : List ℕ → Type 0) (before mid : Input) → TellsNext (160 + n) (Ok true) before mid
+    → IfErr r (λ e. (t : Tag) → t.octet ≡ 160 + n → FaultyFront (Fault t) may_allocate e.kind mid) → IfErr r (λ e. (t : Tag) → t.octet ≡ 160 + n → FaultyFront (NextFault n (Fault t)) may_allocate e.kind before)
+field_faulty (Ok x) n Fault may_allocate before mid next fault = tt
+field_faulty (Err e) n Fault may_allocate before mid next fault = field_told n Fault may_allocate e.kind before mid next fault
+
+pub of_tag : {X : Type 0} (r : Result X Error) (n : ℕ) (Fault : Tag → ErrorKind → List ℕ → Type 0) (may_allocate : List ℕ → Type 0) (before : Input) (tag : Tag) → tag.octet ≡ 160 + n
+    → IfErr r (λ e. (t : Tag) → t.octet ≡ 160 + n → FaultyFront (Fault t) may_allocate e.kind before) → IfErr r (λ e. FaultyFront (Fault tag) may_allocate e.kind before)
+of_tag (Ok x) n Fault may_allocate before tag same fault = tt
+of_tag (Err e) n Fault may_allocate before tag same fault = fault tag same
+
+-- The fault of a field, and of what is behind it.
+module _ {V : Type 0} (n : ℕ) (text : V → List ℕ → Type 0) (default : V) (Fault Behind : ErrorKind → List ℕ → Type 0) (own behind : List ℕ → Type 0) where
+  pub field_faults : (before after : Input) (e : ErrorKind) → after ≡ None → FaultyFront (NextFault n Fault) (FieldAllocates n own) e before
+      → ContentsFaulty (FieldThenFault n text default Fault Behind) (AllocatesFromField n text default own behind) e before after
+  field_faults before after e failed fault = (failed, λ c is. ⊎_elim (λ q. inl (q.0, inl q.1)) (λ f. inr (inl f)) (fault c is))
+
+  pub fields_faults : {later : List ℕ → Type 0} → ((c : List ℕ) → later c → behind c) → (before mid after : Input) (e : ErrorKind) (x : V)
+      → ((bytes : List ℕ) × (rest : List ℕ) × (before ≡ Some bytes) × (mid ≡ Some rest) × FieldRead n text default bytes x rest) → ContentsFaulty Behind later e mid after
+      → ContentsFaulty (FieldThenFault n text default Fault Behind) (AllocatesFromField n text default own behind) e before after
+  fields_faults asked before mid after e x (bytes, rest, at, left, read) fails = (
+    fails.0,
+    λ c is.
+        let same : c ≡ bytes = some_same c bytes (sym is ∙ at) in
+        ⊎_elim
+        (λ q. inl (q.0, inr (x, rw same (read_then n text default x behind bytes rest read (asked rest q.1)))))
+        (λ f. inr (inr (x, rest, rw same read, f)))
+        (fails.1 rest left),
+  )
+
+-- The reader had failed.
+pub field_failed : {X V : Type 0} (n : ℕ) (value : X → V) (text : V → List ℕ → Type 0) (may_allocate : List ℕ → Type 0) (default : V) (e : Error) (before after : Input)
+    → TellsNext (160 + n) (Err e) before after → ReadsField n value text default may_allocate (Err e) before after
+field_failed n value text may_allocate default e before after (none, failed, _) = (failed, λ bytes is. let no : ◌≡◌ {A = Input} None (Some bytes) = sym none ∙ is in cc)
+
+-- What reading a field ensures of a refusal, and of a value.
+abbrev pub FieldFails : {V : Type 0} → ℕ → (V → List ℕ → Type 0) → (List ℕ → Type 0) → ErrorKind → Input → Input → Type 0
+FieldFails n text own e before after =
+    (after ≡ None) × ((bytes : List ℕ) → before ≡ Some bytes → Refuses e (AllocatesIn (FieldAllocates n own) bytes) (FieldRefused n text bytes))
+
+abbrev pub FieldGives : {V : Type 0} → ℕ → (V → List ℕ → Type 0) → V → V → Input → Input → Type 0
+FieldGives n text default x before after =
+    (bytes : List ℕ) × (rest : List ℕ) × (before ≡ Some bytes) × (after ≡ Some rest) × FieldRead n text default bytes x rest
+
+-- A field, and the fields behind it.
+module _ {W V : Type 0} (n : ℕ) (text : V → List ℕ → Type 0) (default : V) (head : W → V) (fields : W → List Field) (later : (w : W) → AreLater n (fields w)) where
+  abbrev AllFields : W → List ℕ → Type 0
+  AllFields w c = Joins (map Defaultable (field n text default (head w) ∷ fields w)) c
+
+  module _ (own behind : List ℕ → Type 0) where
+    pub field_fails : (before after : Input) (e : ErrorKind) → FieldFails n text own e before after → ContentsFail AllFields (AllocatesFromField n text default own behind) e before after
+    field_fails before after e fails = (
+      fails.0,
+      λ c is. ⊎_elim (λ q. inl (q.0, inl q.1)) (λ q. inr (q.0, λ w has. refused_step n text default (head w) (fields w) c (later w) q.1.0 q.1.1 has)) (fails.1 c is),
+    )
+
+    pub fields_fail : IsDelimited text → (before mid after : Input) (e : ErrorKind) (x : V)
+        → FieldGives n text default x before mid → ContentsFail (λ w. Joins (map Defaultable (fields w))) behind e mid after
+        → ContentsFail AllFields (AllocatesFromField n text default own behind) e before after
+    fields_fail d before mid after e x (bytes, rest, at, left, read) fails = (
+      fails.0,
+      λ c is.
+          let same : c ≡ bytes = some_same c bytes (sym is ∙ at) in
+          ⊎_elim
+          (λ q. inl (q.0, inr (x, rw same (read_then n text default x behind bytes rest read q.1))))
+          (λ q. inr (q.0, λ w has. q.1 w (read_step n text d default x (head w) (fields w) bytes rest (later w) read (rw same at has)).1))
+          (fails.1 rest left),
+    )
+
+  pub fields_give : (before mid after : Input) (w : W)
+      → FieldGives n text default (head w) before mid → ContentsGive (Joins (map Defaultable (fields w))) mid after
+      → ContentsGive (AllFields w) before after
+  fields_give before mid after w (bytes, rest, at, left, read) (c, is, done, joins) =
+      let same : c ≡ rest = some_same c rest (sym is ∙ left) in
+      (bytes, at, done, read_then n text default (head w) (Joins (map Defaultable (fields w))) bytes rest read (rw same at joins))

@@ -1,0 +1,48 @@
+-- What identifiers and borrowed texts of any tag hold: each has a text, little longer than the limit.
+use Rattle.std.proofs.Common.{◌++◌, ◌≤◌, ◌+◌, length, arith, length-append, Option, Some, None}
+use Rattle.std.specs.Option.{option_map}
+use Rattle.der_core.specs.Tag.{object_identifier_tag, sequence_tag}
+use Rattle.der_core.specs.Laws.Input.{are_bytes}
+use Rattle.der_core.specs.Length.{limit}
+use Rattle.der_core.specs.Optional.{HasOptional, written_optional}
+use Rattle.der_core.specs.Laws.ShortTexts.{tlv_short}
+use Rattle.der_core.specs.Tlv.{tlv}
+use Rattle.spki_core.specs.Any.{IsAny, written_any}
+use Rattle.spki_core.specs.AlgorithmIdentifier.{HasPlain, written_plain}
+use Rattle.spki_core.specs.AlgorithmValue.{algorithm_of}
+use Rattle.spki_core.specs.AnyRefValue.{any_of}
+use Rattle.spki_core.specs.IdentifierTest.{is_identifier-sound}
+use Rattle.spki_core.specs.ObjectIdentifier.{IsIdentifier}
+use Rattle.spki_core.specs.ObjectIdentifierValue.{octets_of}
+use Rattle.spki_core.specs.declared.algorithm_identifier.AlgorithmIdentifier.{AlgorithmIdentifier}
+use Rattle.spki_core.specs.declared.any.AnyRef.{AnyRef}
+use Rattle.spki_core.specs.declared.object_identifier.ObjectIdentifier.{ObjectIdentifier}
+
+pub identifier_held : (oid : ObjectIdentifier) → IsIdentifier (octets_of oid)
+identifier_held oid = is_identifier-sound (octets_of oid) (are_bytes (octets_of oid) oid.bytes) oid.valid
+
+pub identifier_short : (oid : ObjectIdentifier) → length (tlv object_identifier_tag (octets_of oid)) ≤ 167
+identifier_short oid = tlv_short object_identifier_tag 39 (octets_of oid) (let p = identifier_held oid in p.short) (omega arith)
+
+pub any_held : (any : AnyRef) → IsAny (any_of any)
+any_held any = (any.tag.allowed, are_bytes any.contents.now any.octets)
+
+pub any_short : (any : AnyRef) → length (written_any (any_of any)) ≤ limit + 128
+any_short any = tlv_short any.tag.octet limit any.contents.now any.bounded (omega arith)
+
+parameters_held : (parameters : Option AnyRef) → HasOptional IsAny (option_map any_of parameters)
+parameters_held None = tt
+parameters_held (Some any) = any_held any
+
+parameters_short : (parameters : Option AnyRef) → length (written_optional written_any (option_map any_of parameters)) ≤ limit + 128
+parameters_short None = omega arith
+parameters_short (Some any) = any_short any
+
+pub plain_held : (a : AlgorithmIdentifier AnyRef) → HasPlain (algorithm_of a)
+plain_held a = (identifier_held a.oid, parameters_held a.parameters)
+
+pub plain_short : (a : AlgorithmIdentifier AnyRef) → length (written_plain (algorithm_of a)) ≤ limit + 423
+plain_short a =
+    let oid = tlv object_identifier_tag (octets_of a.oid) in
+    let parameters = written_optional written_any (option_map any_of a.parameters) in
+    tlv_short sequence_tag (limit + 295) (oid ++ parameters) (omega (arith, length-append oid parameters, identifier_short a.oid, parameters_short a.parameters)) (omega arith)
