@@ -1,10 +1,9 @@
-//! Writing from the end.
+//! A writer that fills a slice from its end.
 ghost use Rattle.std.specs.Prelude.{◌≤◌, length};
 
 use crate::header::Header;
 
-/// Fills a slice from its end to its start, so that the length of what was written last is known when its header is
-/// written.
+/// Fills a slice from its end to its start, so that the length of the contents is known when their header is written.
 #[derive(Drop)]
 pub struct BackWriter<'b> {
     slice: &'b mut [u8],
@@ -17,7 +16,7 @@ impl<'b> BackWriter<'b> {
     ghost use Rattle.der_core.specs.Length.{length_octets};
     ghost use Rattle.der_core.specs.BackWriters.{slice_of, free_of, Prepends};
 
-    /// A writer over a slice of which nothing is filled.
+    /// A writer over a slice, with nothing filled yet.
     pub fn new(slice: &'b mut [u8]) -> BackWriter<'b>
         ensures same_reference { (slice_of result).ghost_name ≡ slice.entry.ghost_name }
         ensures same_slice { (slice_of result).now ≡ slice.old }
@@ -27,21 +26,21 @@ impl<'b> BackWriter<'b> {
         BackWriter { slice, free }
     }
 
-    /// How many octets may still be prepended.
+    /// How many octets there is still room for.
     pub fn free(&self) -> usize
         ensures { result ≡ free_of self.now }
     {
         self.free
     }
 
-    /// How many octets were prepended.
+    /// How many octets are filled.
     pub fn filled_len(&self) -> usize
         ensures { result + free_of self.now ≡ length (slice_of self.now).now }
     {
         self.slice.len() - self.free
     }
 
-    /// Puts the octets before what is filled.
+    /// Writes the octets in front of what is filled.
     pub fn prepend(&mut self, bytes: &[u8])
         requires { length bytes.now ≤ free_of self.old }
         ensures { Prepends bytes.now self.old self.new }
@@ -52,7 +51,7 @@ impl<'b> BackWriter<'b> {
         self.free = start;
     }
 
-    /// Puts a header before what is filled.
+    /// Writes a header in front of what is filled.
     #[tactic(auto, using(crate::proofs::LengthOctets::known_lengths))]
     pub fn prepend_header(&mut self, header: Header)
         requires { 1 + length (length_octets header.length) ≤ free_of self.old }
@@ -86,7 +85,7 @@ impl<'b> BackWriter<'b> {
         }
     }
 
-    /// What is filled: the end of the slice.
+    /// The filled part: the end of the slice.
     pub fn finish(self) -> &'b [u8]
         ensures { result.now ≡ drop (free_of self.entry) (slice_of self.entry).now }
     {

@@ -7,7 +7,7 @@ use crate::length::Length;
 use crate::types::Text;
 use crate::writer::Writer;
 
-/// A value that is borrowed, and written as the value itself is.
+/// A borrowed value, which is encoded as the value itself.
 #[derive(Drop)]
 pub struct Borrowed<'b, T>(pub &'b T);
 

@@ -1,4 +1,4 @@
-//! Bytes from a source to its end, and to a sink.
+//! Reading a source to its end, and writing all bytes to a sink.
 ghost use Rattle.std.specs.Prelude.{◌≡◌, ◌≤◌, ◌⊎◌, length, IfOk, IfErr, OnOk};
 ghost use Rattle.der_core.specs.Carrying.{StopsCarrying, WritesAll};
 ghost use Rattle.der_core.specs.SourcesSinks.{GivesAll};
@@ -8,12 +8,12 @@ use crate::length::Length;
 use crate::source_sink::{Sink, Source};
 use std::alloc::Global;
 
-/// How many bytes a source is asked for at once.
+/// How many bytes are read at once.
 const PIECE: usize = 65536;
 
-/// All that the source gives up to its end, of at most so many bytes: `Overflow` as soon as more came, so it returns on a
-/// source that never ends. `File` is answered only where the source refused a call. After a refusal the source has moved
-/// on.
+/// Reads a source to its end. Stops with `Overflow` as soon as it gave more than `most` bytes, so it returns even if
+/// the source never ends. `File` is returned only if a read of the source failed. What was read before an error is
+/// lost.
 pub fn read_all<R: Source>(alloc: Global, source: &mut R, most: Length) -> Result<Vec<u8>>
     ensures all { IfOk result (λ bytes. GivesAll (R.remaining source.old) (R.remaining source.new) bytes.items) }
     ensures within { IfOk result (λ bytes. length bytes.items ≤ most) }
@@ -38,8 +38,8 @@ pub fn read_all<R: Source>(alloc: Global, source: &mut R, most: Length) -> Resul
     }
 }
 
-/// Hands all the bytes to the sink, in order. The only refusal is `File`, where the sink refused a call: then a beginning
-/// of the bytes was taken.
+/// Writes all the bytes to the sink, in order. The only error is `File`, if a write of the sink failed; the sink has
+/// then taken a beginning of the bytes.
 pub fn put_all<W: Sink>(bytes: &[u8], sink: &mut W) -> Result<()>
     ensures { WritesAll bytes.now result (W.contents sink.old) (W.contents sink.new)
         (W.refusals sink.old) (W.refusals sink.new) }
@@ -54,7 +54,7 @@ pub fn put_all<W: Sink>(bytes: &[u8], sink: &mut W) -> Result<()>
     Ok(())
 }
 
-/// The same, and flushes.
+/// Like `put_all`, and flushes.
 pub(crate) fn write_all<W: Sink>(bytes: &[u8], sink: &mut W) -> Result<()>
     ensures { WritesAll bytes.now result (W.contents sink.old) (W.contents sink.new)
         (W.refusals sink.old) (W.refusals sink.new) }

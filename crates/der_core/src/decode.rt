@@ -16,13 +16,13 @@ use crate::types::{Contents, FixedTag, Text};
 
 /// A type whose values are read from their contents octets.
 pub trait DecodeValue<B: Octets, M: Memory>: Contents + Sized + Drop {
-    /// The contents for which memory may be asked for.
+    /// The contents whose reading may allocate.
     ghost may_allocate: { List ℕ → Type 0 };
 
-    /// Contents of no value, by the kind of their first fault.
+    /// Contents that mean no value, with the kind of error of their first fault.
     ghost fault: { ErrorKind → List ℕ → Type 0 };
 
-    /// Reads all that is left, which is as many bytes as the header says, as the contents of a value.
+    /// Reads all that is left as the contents octets of a value. Exactly `header.length` bytes are left.
     fn decode_value<R: Reader<B>>(memory: M, reader: &mut R, header: Header) -> Result<Self>
         requires { HoldsBytes (R.left reader.old) header.length }
         ensures { let before = R.left reader.old in
@@ -33,21 +33,21 @@ pub trait DecodeValue<B: Octets, M: Memory>: Contents + Sized + Drop {
     ghost fault_first: { AreFirst fault };
 }
 
-/// A type whose values are read from their texts.
+/// A type whose values are read from their encodings.
 pub trait Decode<B: Octets, M: Memory>: Text + Sized + Drop {
-    /// The texts for which memory may be asked for.
+    /// The encodings whose reading may allocate.
     ghost may_allocate: { List ℕ → Type 0 };
 
-    /// Bytes with no text at the front, by the kind of the first fault.
+    /// Bytes that begin with no encoding of a value, with the kind of error of their first fault.
     ghost fault: { ErrorKind → List ℕ → Type 0 };
 
-    /// Reads the text at the front of the reader.
+    /// Reads the encoding at the front of what is left.
     fn decode<R: Reader<B>>(memory: M, reader: &mut R) -> Result<Self>
         ensures text { ReadsText Self.value Self.text may_allocate result (R.left reader.old) (R.left reader.new) }
         ensures exact { IfErr result (λ e. FaultyFront fault may_allocate e.kind (R.left reader.old)) }
         ensures only { OnlyFront fault may_allocate result (R.left reader.old) };
 
-    /// Reads a whole slice: `Overflow` past `Length::MAX`, `TrailingData` where bytes follow the text.
+    /// Reads a whole slice: `Overflow` if it is longer than `Length::MAX`, `TrailingData` if bytes follow the encoding.
     fn from_der(memory: M, bytes: B) -> Result<Self>
         ensures text { ReadsAll Self.value Self.text may_allocate result (B.octets bytes) }
         ensures exact { let b = B.octets bytes in
@@ -83,7 +83,7 @@ impl<'a, M: Memory, T: DecodeValue<&'a [u8], M> + FixedTag> Decode<&'a [u8], M> 
     ghost fault_first = { text_fault_first T.TAG T.DecodeValue.fault T.DecodeValue.fault_first };
 }
 
-/// Reads the text at the front of the reader.
+/// Reads the encoding at the front of what is left.
 #[inline(always)]
 fn read_text<'a, T: DecodeValue<&'a [u8], M> + FixedTag, M: Memory, R: Reader<&'a [u8]>>(
     memory: M,
@@ -109,7 +109,7 @@ fn read_text<'a, T: DecodeValue<&'a [u8], M> + FixedTag, M: Memory, R: Reader<&'
     }
 }
 
-/// Whether the octet of a tag comes next. On a reader that has failed the answer is `Failed`.
+/// Whether the next octet is the one of the tag. Nothing is read. `Failed` on a reader that has failed.
 #[inline(always)]
 pub fn is_tag_next<'a, R: Reader<&'a [u8]>>(reader: &mut R, tag: Tag) -> Result<bool>
     ensures { TellsNext tag.octet result (R.left reader.old) (R.left reader.new) }
@@ -118,7 +118,8 @@ pub fn is_tag_next<'a, R: Reader<&'a [u8]>>(reader: &mut R, tag: Tag) -> Result<
     Ok(reader.peek_octet() == Some(tag.octet()))
 }
 
-/// Reads a text exactly where the next octet is the type's tag. On a reader that has failed the answer is `Failed`.
+/// Reads an encoding if the next octet is the type's tag, else returns `None` and reads nothing. `Failed` on a reader
+/// that has failed.
 pub fn decode_optional<'a, T: DecodeValue<&'a [u8], M> + FixedTag, M: Memory, R: Reader<&'a [u8]>>(
     memory: M,
     reader: &mut R,

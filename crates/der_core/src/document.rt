@@ -31,7 +31,7 @@ use std::marker::PhantomData;
 use std::path::Path;
 use std::rt::Files;
 
-/// A SEQUENCE that was there. Its contents aren't kept.
+/// Some SEQUENCE, whose contents aren't kept.
 #[derive(Drop)]
 struct AnySequence;
 
@@ -74,7 +74,7 @@ impl<'a> DecodeValue<&'a [u8], NoMemory> for AnySequence {
     ghost fault_first = { no_fault_first };
 }
 
-/// Writes the text of a message over a slice of its length.
+/// Writes the encoding of a message over a slice of exactly its length.
 pub fn write_over<T: EncodeValue + FixedTag>(message: &T, out: &mut [u8])
     requires has { T.has_contents (T.value message.now) }
     requires fits { length (tlv T.TAG.octet (T.written_contents (T.value message.now))) ≤ limit }
@@ -85,15 +85,15 @@ pub fn write_over<T: EncodeValue + FixedTag>(message: &T, out: &mut [u8])
     message.prepend(&mut writer);
 }
 
-/// That a document may be shown and compared.
+/// Marks documents that may be printed and compared.
 #[derive(PartialEq, Eq, Drop)]
 pub struct Open;
 
-/// That a document is secret: it can't be compared, and its `Debug` shows no byte.
+/// Marks secret documents: they can't be compared, and their `Debug` shows no byte.
 #[derive(Drop)]
 pub struct Secret;
 
-/// One whole SEQUENCE, of at most `Length::MAX` bytes: open or secret, by S.
+/// One whole SEQUENCE, of at most `Length::MAX` bytes. `S` says whether it is open or secret.
 #[derive(Drop)]
 #[derive_where(PartialEq, Eq; S)]
 pub struct DocumentOf<S> {
@@ -107,13 +107,13 @@ pub struct DocumentOf<S> {
 pub type Document = DocumentOf<Open>;
 
 /// One whole SEQUENCE, of at most `Length::MAX` bytes, that is secret: `Debug` shows none of its bytes, it can't be
-/// compared, and it is nowhere taken for a `Document`.
+/// compared, and it isn't accepted where a `Document` is expected.
 pub type SecretDocument = DocumentOf<Secret>;
 
 impl<S: Drop> DocumentOf<S> {
     ghost use Rattle.der_core.specs.DocumentValue.{HoldsMessage, text_of};
 
-    /// A copy of these bytes, where they are one SEQUENCE. `OutOfMemory` is answered only where they are.
+    /// Copies the bytes, if they are one SEQUENCE. `OutOfMemory` is returned only if they are.
     pub fn from_der(alloc: Global, bytes: &[u8]) -> Result<DocumentOf<S>>
         ensures ok { IfOk result (λ document. IsDocument bytes.now × (text_of document ≡ bytes.now)) }
         ensures err { IfErr result (λ e. Refuses e.kind (IsDocument bytes.now) (IsDocument bytes.now → ⊥)) }
@@ -129,8 +129,8 @@ impl<S: Drop> DocumentOf<S> {
         })
     }
 
-    /// The text of a message: `Value` where it has none, `Overflow` where it has some and none fits. `OutOfMemory` is
-    /// answered only where one fits.
+    /// Encodes a message: `Value` if it has no encoding, `Overflow` if all its encodings are longer than `Length::MAX`.
+    /// `OutOfMemory` is returned only if one is within that.
     pub fn encode_msg<'a, T: EncodeValue + Sequence<'a>>(
         alloc: Global,
         message: &T,
@@ -148,7 +148,7 @@ impl<S: Drop> DocumentOf<S> {
         })
     }
 
-    /// The whole text.
+    /// The whole encoding.
     pub fn as_bytes(&self) -> &[u8]
         ensures text { result.now ≡ text_of self.now }
         ensures whole { IsDocument result.now }
@@ -156,16 +156,16 @@ impl<S: Drop> DocumentOf<S> {
         self.bytes.as_slice()
     }
 
-    /// How many bytes the text has.
+    /// How many bytes the encoding has.
     pub fn len(&self) -> Length
         ensures { result ≡ length (text_of self.now) }
     {
         Length::of(self.bytes.len())
     }
 
-    /// All that the source gives up to its end, where that is one SEQUENCE. It stops with `Overflow` as soon as more than
-    /// `Length::MAX` bytes came, so it returns on a source that never ends. `File` is answered only where the source
-    /// refused a call. After a refusal the source has moved on.
+    /// Reads a source to its end. Its bytes must be one SEQUENCE. Stops with `Overflow` as soon as more than
+    /// `Length::MAX` bytes came, so it returns even if the source never ends. `File` is returned only if a read of the
+    /// source failed. What was read before an error is lost.
     pub fn read_from<R: Source>(alloc: Global, source: &mut R) -> Result<DocumentOf<S>>
         ensures reads { ReadsDocument text_of result (R.remaining source.old) (R.remaining source.new)
             (R.refusals source.old) (R.refusals source.new) }
@@ -182,8 +182,8 @@ impl<S: Drop> DocumentOf<S> {
         })
     }
 
-    /// Hands all bytes to the sink, in order, and flushes. The only refusal is `File`, where the sink refused a call: then
-    /// it took a beginning of the bytes. No memory is taken.
+    /// Writes all bytes to the sink, in order, and flushes. The only error is `File`, if a call of the sink failed; the
+    /// sink has then taken a beginning of the bytes. Nothing is allocated.
     pub fn write_to<W: Sink>(&self, sink: &mut W) -> Result<()>
         ensures { WritesAll (text_of self.now) result (W.contents sink.old) (W.contents sink.new)
             (W.refusals sink.old) (W.refusals sink.new) }
@@ -191,7 +191,7 @@ impl<S: Drop> DocumentOf<S> {
         write_all(self.bytes.as_slice(), sink)
     }
 
-    /// The document that the file holds: `read_from` on it. `File` is answered too where the file can't be opened.
+    /// Reads the document in a file, as `read_from` does. `File` also if the file can't be opened.
     pub fn read_der_file<Rt: Files>(rt: &Rt, alloc: Global, path: Path<'_>) -> Result<DocumentOf<S>>
         ensures room { IfErr result (λ e. e.kind ≢ ErrorKind.NoRoom) }
         ensures exact { IfErr result (λ e. FileFault e.kind) }
@@ -202,8 +202,8 @@ impl<S: Drop> DocumentOf<S> {
         DocumentOf::read_from(alloc, &mut FromRead::new(file))
     }
 
-    /// Creates the file, or cuts an old one to nothing, then `write_to` on it. `File` is answered too where it can't be
-    /// created. After a refusal the file may hold a beginning of the bytes.
+    /// Creates the file, or truncates an old one, and writes as `write_to` does. `File` also if it can't be created.
+    /// After an error the file may hold a beginning of the bytes.
     pub fn write_der_file<Rt: Files>(&self, rt: &Rt, path: Path<'_>) -> Result<()>
         ensures { IfErr result IsFile }
     {

@@ -15,9 +15,9 @@ use crate::length::Length;
 use crate::types::{Contents, FixedTag, Text};
 use crate::writer::Writer;
 
-/// A type whose values are written by their contents octets.
+/// A type whose values are written as contents octets.
 pub trait EncodeValue: Contents {
-    /// How many octets the contents have.
+    /// The length of the contents.
     fn value_len(&self) -> Result<Length>
         ensures { let v = Self.value self.now in Counts (Self.has_contents v) (Self.written_contents v) result };
 
@@ -27,7 +27,7 @@ pub trait EncodeValue: Contents {
             Appends (Self.has_contents v) (Self.written_contents v) W.room W.written writer.old writer.new result }
         ensures kept { W.keeps writer.old writer.new };
 
-    /// Puts the contents before what is filled.
+    /// Writes the contents in front of what is filled.
     fn prepend_value(&self, writer: &mut BackWriter<'_>)
         requires has { Self.has_contents (Self.value self.now) }
         requires fits { length (Self.written_contents (Self.value self.now)) ≤ limit }
@@ -41,15 +41,16 @@ pub trait EncodeValue: Contents {
     ghost contents_shortest: { WritesLeast Self.contents Self.has_contents Self.written_contents };
 }
 
-/// A type whose values are written as texts.
+/// A type whose values are written as encodings.
 pub trait Encode: Text {
-    /// How many octets the text has: `Value` where the value has no text, `Overflow` where it has some and none fits.
+    /// The length of the encoding: `Value` if the value has none, `Overflow` if all are longer than `Length::MAX`.
     fn encoded_len(&self) -> Result<Length>
         ensures counted { let v = Self.value self.now in Counts (Self.has_text v) (Self.written_text v) result }
         ensures err { let v = Self.value self.now in
             IfErr result (λ e. IsUncountable (Self.has_text v) Self.text v (encode_refusal e.kind)) };
 
-    /// Appends the text: `Value` and `Overflow` before any octet, `NoRoom` after a beginning of it.
+    /// Appends the encoding. `Value` and `Overflow` come before any octet is written, `NoRoom` after a beginning of
+    /// them.
     fn encode<W: Writer>(&self, writer: &mut W) -> Result<()>
         ensures appends { let v = Self.value self.now in
             Appends (Self.has_text v) (Self.written_text v) W.room W.written writer.old writer.new result }
@@ -57,21 +58,20 @@ pub trait Encode: Text {
             IfErr result (λ e. IsRefused (Self.has_text v) Self.text v (W.room writer.old) (encode_refusal e.kind)) }
         ensures kept { W.keeps writer.old writer.new };
 
-    /// Puts the text before what is filled.
+    /// Writes the encoding in front of what is filled.
     fn prepend(&self, writer: &mut BackWriter<'_>)
         requires has { Self.has_text (Self.value self.now) }
         requires fits { length (Self.written_text (Self.value self.now)) ≤ limit }
         requires room { length (Self.written_text (Self.value self.now)) ≤ free_of writer.old }
         ensures { Prepends (Self.written_text (Self.value self.now)) writer.old writer.new };
 
-    /// What is written is a text of the value, up to a length that no memory holds.
+    /// What is written is an encoding of the value, up to a length that no memory holds.
     ghost text_relates: { WritesTexts Self.text Self.has_text Self.written_text };
 
-    /// A value with a text has the written one, and its others are longer.
+    /// A value with an encoding has the written one, and its others are longer.
     ghost text_shortest: { WritesLeast Self.text Self.has_text Self.written_text };
 
-    /// Writes the text to the front of a slice, from its end to its start, and answers its length. What a refusal leaves
-    /// is the slice as it was.
+    /// Writes the encoding to the front of a slice and returns its length. On an error the slice is unchanged.
     final fn encode_into(&self, out: &mut [u8]) -> Result<usize>
     where
         Self: Sized,
@@ -92,8 +92,8 @@ pub trait Encode: Text {
         Ok(length)
     }
 
-    /// Writes the text to the front of a slice, and answers it. The rest of the slice stays, and all of it where there
-    /// is no answer. A caller whose proof needs that a slice is unchanged takes `encode_into`.
+    /// Writes the encoding to the front of a slice and returns that part. The rest of the slice is unchanged, on an
+    /// error all of it. A caller that needs this in a proof calls `encode_into`.
     final fn encode_to_slice<'b>(&self, out: &'b mut [u8]) -> Result<&'b [u8]>
     where
         Self: Sized,
@@ -108,7 +108,7 @@ pub trait Encode: Text {
     }
 }
 
-/// The front of a slice that was written, or why it was not.
+/// The written front of a slice, or why nothing was written.
 fn front<'b>(out: &'b [u8], written: Result<usize>) -> Result<&'b [u8]>
     requires { IfOk written (λ n. n ≤ length out.now) }
     ensures { IsFront out.now written result }
@@ -119,7 +119,7 @@ fn front<'b>(out: &'b [u8], written: Result<usize>) -> Result<&'b [u8]>
     }
 }
 
-/// How many octets the text of these contents has.
+/// The length of the encoding with these contents.
 fn text_len<T: EncodeValue + FixedTag>(value: &T) -> Result<Length>
     ensures { let v = T.value value.now in
         Counts (T.has_contents v) (tlv T.TAG.octet (T.written_contents v)) result }
@@ -170,7 +170,7 @@ impl<T: EncodeValue + FixedTag> Encode for T {
     ghost text_shortest = { tlv_shortest T.TAG.octet T.contents T.written_contents T.has_contents T.contents_shortest };
 }
 
-/// The sum of two lengths. A value without contents is told before a length past the limit.
+/// The sum of two lengths. `Value` is reported before `Overflow`.
 pub fn joined_len(a: Result<Length>, b: Result<Length>) -> Result<Length>
     ensures { result ≡ joined a b }
 {

@@ -1,4 +1,4 @@
-//! Refusals.
+//! Errors.
 ghost use Rattle.std.specs.Prelude.{◌≡◌, Some};
 ghost use Rattle.der_core.specs.Writing.{encode_refusal, is_no_text};
 
@@ -6,42 +6,43 @@ use crate::tag::{PrintedOctet, Tag};
 use std::alloc::{AllocError, AllocFailed};
 use std::fmt;
 
-/// Why a call was refused.
+/// What went wrong.
 #[derive(Clone, Copy, Debug, PartialEq, Eq, Drop)]
 pub enum ErrorKind {
-    /// The reader has refused before.
+    /// An earlier call on the reader returned an error.
     Failed,
-    /// Fewer bytes are left than are asked for.
+    /// Fewer bytes are left than are needed.
     Incomplete,
     /// The length octet is 80 (X.690 8.1.3.6), which DER forbids (10.1).
     IndefiniteLength,
-    /// An INTEGER without contents.
+    /// An INTEGER without contents octets.
     Length { tag: Tag },
-    /// Contents that aren't in shortest form, as an INTEGER with a needless leading zero.
+    /// Contents that aren't in shortest form, such as an INTEGER with a needless leading zero.
     Noncanonical { tag: Tag },
-    /// Identifier contents outside the grammar.
+    /// The contents of an OBJECT IDENTIFIER are malformed (X.690 8.19), or have more than 39 octets.
     OidMalformed,
-    /// Another identifier than the one asked for.
+    /// Another object identifier than the expected one.
     OidUnknown,
-    /// A length or a sum of lengths past `Length::MAX`.
+    /// A length or a sum of lengths exceeds `Length::MAX`.
     Overflow,
-    /// A length in more octets than it needs.
+    /// A length is encoded in more octets than it needs (X.690 10.1).
     Overlength,
-    /// Algorithm parameters are asked for and absent.
+    /// The parameters of an algorithm are needed and absent.
     ParametersMissing,
-    /// Another tag than the type's.
+    /// Another tag than the expected one.
     TagUnexpected { expected: Tag, actual: Tag },
-    /// A tag octet that isn't allowed.
+    /// A tag octet that isn't supported.
     TagUnknown { octet: u8 },
-    /// Bytes are left where the value has ended.
+    /// Bytes follow the value.
     TrailingData,
-    /// A negative number, one out of range, or another value that the type hasn't.
+    /// A negative number, a number out of range, or another value that the type doesn't have. In writing: a value
+    /// without an encoding.
     Value { tag: Tag },
-    /// A slice or a writer has too little room.
+    /// A slice or a writer is too small.
     NoRoom,
-    /// A read, a write, a flush, opening or creating failed.
+    /// Opening, creating, reading, writing or flushing failed.
     File,
-    /// A growth was refused.
+    /// Memory couldn't be allocated.
     OutOfMemory,
 }
 
@@ -84,32 +85,32 @@ impl fmt::Display for ErrorKind {
     }
 }
 
-/// A refusal.
+/// The error of the calls in this crate.
 #[derive(Clone, Copy, Debug, PartialEq, Eq, Drop)]
 pub struct Error {
-    /// Why the call was refused.
+    /// What went wrong.
     pub kind: ErrorKind,
 }
 
-/// What a call of this crate answers.
+/// The result of the calls in this crate.
 pub type Result<T> = std::result::Result<T, Error>;
 
 impl Error {
-    /// A refusal of this kind. No reader is marked as failed: that is what `Reader::error` does.
+    /// An error of this kind. To mark a reader as failed as well, call `Reader::error`.
     pub fn new(kind: ErrorKind) -> Error
         ensures { result ≡ record { kind = kind } }
     {
         Error { kind }
     }
 
-    /// Why the call was refused.
+    /// What went wrong.
     pub fn kind(&self) -> ErrorKind
         ensures { result ≡ self.now.kind }
     {
         self.kind
     }
 
-    /// Whether the value has no text.
+    /// Whether the error says that a value has no encoding.
     pub(crate) fn is_value(self) -> bool
         ensures { result ≡ is_no_text (encode_refusal self.kind) }
     {
@@ -122,7 +123,7 @@ impl From<AllocError> for Error {
 
     ghost from_gives = { λ _ error. error.kind ≡ OutOfMemory };
 
-    /// The refusal `OutOfMemory`.
+    /// `OutOfMemory`.
     fn from(_error: AllocError) -> Error
         ensures { result.kind ≡ ErrorKind.OutOfMemory }
     {
@@ -135,7 +136,7 @@ impl<T: Drop> From<AllocFailed<T>> for Error {
 
     ghost from_gives = { λ _ error. error.kind ≡ OutOfMemory };
 
-    /// The refusal `OutOfMemory`. What couldn't be stored is let go.
+    /// `OutOfMemory`. The value that couldn't be stored is dropped.
     fn from(_error: AllocFailed<T>) -> Error
         ensures { result.kind ≡ ErrorKind.OutOfMemory }
     {
@@ -148,7 +149,7 @@ impl fmt::Display for Error {
 
     ghost output = { λ error. Some (kind_text error.kind) };
 
-    /// Prints the text of the kind.
+    /// Prints the message of the kind.
     fn fmt<W: fmt::Write>(&self, f: &mut fmt::Formatter<W>) -> fmt::Result {
         write!(f, "{}", self.kind)
     }

@@ -1,4 +1,4 @@
-//! The last part of contents: one text, or an OPTIONAL one.
+//! The last part of some contents: one encoding, or an OPTIONAL one.
 ghost use Rattle.std.specs.Prelude.{◌≡◌, ◌≤◌, length, None, IsErrAnd, IfErr};
 ghost use Rattle.der_core.specs.Faults.{AloneFault, LastFault, FaultyWhole, OnlyWhole};
 ghost use Rattle.std.specs.Option.{option_map};
@@ -17,8 +17,7 @@ use crate::memory::Memory;
 use crate::reader::Reader;
 use crate::writer::Writer;
 
-/// Reads all that is left as one text: `TrailingData` where bytes follow it. On a reader that has failed the answer is
-/// `Failed`.
+/// Reads all that is left as one encoding: `TrailingData` if bytes follow it. `Failed` on a reader that has failed.
 #[inline(always)]
 pub fn decode_whole<'a, T: Decode<&'a [u8], M>, M: Memory, R: Reader<&'a [u8]>>(
     memory: M,
@@ -37,8 +36,8 @@ pub fn decode_whole<'a, T: Decode<&'a [u8], M>, M: Memory, R: Reader<&'a [u8]>>(
     Ok(value)
 }
 
-/// Reads all that is left: nothing, or one text. `TrailingData` where bytes follow that. On a reader that has failed the
-/// answer is `Failed`.
+/// Reads all that is left as one encoding, or as none if nothing is left: `TrailingData` if bytes follow the encoding.
+/// `Failed` on a reader that has failed.
 #[inline(always)]
 pub fn decode_last<'a, T: Decode<&'a [u8], M>, M: Memory, R: Reader<&'a [u8]>>(
     memory: M,
@@ -60,7 +59,7 @@ pub fn decode_last<'a, T: Decode<&'a [u8], M>, M: Memory, R: Reader<&'a [u8]>>(
     Ok(Some(value))
 }
 
-/// How many octets are written of the part.
+/// The length of what is written for the part.
 pub fn optional_len<T: Encode>(part: &Option<T>) -> Result<Length>
     ensures { let value = option_map T.value part.now in
         Counts (HasOptional T.has_text value) (written_optional T.written_text value) result }
@@ -71,7 +70,7 @@ pub fn optional_len<T: Encode>(part: &Option<T>) -> Result<Length>
     }
 }
 
-/// Appends the part.
+/// Appends the part, if there is one.
 pub fn encode_optional<T: Encode, W: Writer>(part: &Option<T>, writer: &mut W) -> Result<()>
     ensures appends { let value = option_map T.value part.now in
         let octets = written_optional T.written_text value in
@@ -84,7 +83,7 @@ pub fn encode_optional<T: Encode, W: Writer>(part: &Option<T>, writer: &mut W) -
     }
 }
 
-/// Puts the part before what is filled.
+/// Writes the part in front of what is filled, if there is one.
 pub fn prepend_optional<T: Encode>(part: &Option<T>, writer: &mut BackWriter<'_>)
     requires has { HasOptional T.has_text (option_map T.value part.now) }
     requires fits { length (written_optional T.written_text (option_map T.value part.now)) ≤ limit }

@@ -1,4 +1,4 @@
-//! What comparing and copying promise: functions that do nothing, each with a law as its contract.
+//! Laws of comparing, copying and reading: functions that do nothing, each with a law as its contract.
 ghost use Rattle.std.specs.Prelude.{◌≡◌, ◌≤◌, ℕ, Result, length, true, false};
 ghost use Rattle.std.specs.Bool.{Decides};
 ghost use Rattle.std.specs.Ordering.{nat_cmp};
@@ -23,18 +23,18 @@ use crate::memory::Memory;
 use crate::octet_string::OctetStringRef;
 use crate::tag::TagNumber;
 
-/// Lengths are compared by their numbers.
+/// Lengths compare as their numbers.
 pub fn lengths_compare_by_number()
     ensures order { (a b : ℕ) → ⟦<Length as Ord>⟧.cmp a b ≡ nat_cmp a b }
     ensures equal { (a b : ℕ) → Decides (⟦<Length as PartialEq>⟧.eq a b) (a ≡ b) }
 {}
 
-/// Numbers of tags are equal exactly where they are the same number.
+/// Tag numbers are equal exactly if they are the same number.
 pub fn tag_numbers_compare_by_number()
     ensures { (a b : tags.TagNumber) → Decides (⟦<TagNumber as PartialEq>⟧.eq a b) (a.value ≡ b.value) }
 {}
 
-/// Each kind of refusal equals itself; two kinds, and two tags in one kind, are told apart.
+/// Each kind of error equals itself. Shown by examples: two kinds differ, and so do two tags in one kind.
 pub fn kinds_are_told_apart()
     ensures same { (a : kinds.ErrorKind) → ⟦<ErrorKind as PartialEq>⟧.eq a a ≡ true }
     ensures kind { ⟦<ErrorKind as PartialEq>⟧.eq ErrorKind.Failed ErrorKind.Incomplete ≡ false }
@@ -43,15 +43,15 @@ pub fn kinds_are_told_apart()
         ≡ false }
 {}
 
-/// A clone of what borrows holds the same.
+/// A clone of a borrowed value is the same value.
 pub fn clones_hold_the_same()
     ensures number { (a b : numbers.UintRef) → ⟦<UintRef<'static> as Clone>⟧.is_clone a b → bytes_of b ≡ bytes_of a }
     ensures octets { (a b : strings.OctetStringRef)
         → ⟦<OctetStringRef<'static> as Clone>⟧.is_clone a b → octets_of b ≡ octets_of a }
 {}
 
-/// Of contents with a fault `decode_value` answers the refusal of that fault, and no other but want of memory, whatever the
-/// type: this follows from what the trait says of the call.
+/// For contents with a fault, `decode_value` of any type returns the error of that fault, or `OutOfMemory`. This
+/// follows from its contract in the trait.
 pub fn contents_are_refused_by_their_fault<'a, T: DecodeValue<&'a [u8], M>, M: Memory>()
     ensures { let may = T.DecodeValue.may_allocate in
         (result : Result T errors.Error) (before after : Input) → length (left_in before) ≤ limit

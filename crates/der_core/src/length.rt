@@ -35,7 +35,7 @@ impl Model for Length {
     ghost inverse = { λ n. record { value = n } };
 }
 
-/// The number that at most four octets spell.
+/// The big-endian number in at most four octets.
 #[inline(always)]
 fn number(octets: &[u8]) -> u32
     requires { length octets.now ≤ 4 }
@@ -53,7 +53,7 @@ fn number(octets: &[u8]) -> u32
     }
 }
 
-/// Whether the short form, or fewer octets, would do.
+/// Whether the short form, or fewer octets, would do (X.690 10.1).
 fn is_overlong(octets: &[u8]) -> bool
     ensures { result ≡ specs.is_overlong octets.now }
 {
@@ -99,7 +99,7 @@ impl TryFrom<usize> for Length {
     ghost try_from_gives = { λ value. λ result.
         MatchResult result (λ n. (n ≡ value) × (value ≤ limit)) (λ e. (e.kind ≡ Overflow) × (limit < value)) };
 
-    /// The number as a length, or `Overflow` past `MAX`.
+    /// `Overflow` if the number exceeds `MAX`.
     fn try_from(value: usize) -> Result<Length>
         ensures ok { IfOk result (λ n. (n ≡ value) × (value ≤ limit)) }
         ensures err { IfErr result (λ e. (e.kind ≡ ErrorKind.Overflow) × (limit < value)) }
@@ -115,16 +115,16 @@ impl TryFrom<usize> for Length {
 }
 
 impl Length {
-    /// No octet.
+    /// No octets.
     pub const ZERO: Length = Length { value: 0 };
 
     /// One octet.
     pub const ONE: Length = Length { value: 1 };
 
-    /// The most octets that contents, or a text that is read or written whole, may have: one less than 2^32.
+    /// The most octets that contents, or an encoding that is read or written whole, may have: 2^32 - 1.
     pub const MAX: Length = Length { value: 4294967295 };
 
-    /// The length `value`, which is at most `MAX`.
+    /// A length of at most `MAX`.
     pub fn of(value: usize) -> Length
         requires { value ≤ limit }
         ensures { result ≡ value }
@@ -142,7 +142,7 @@ impl Length {
         self.value as usize
     }
 
-    /// The sum, or `Overflow` past `MAX`.
+    /// The sum, or `Overflow` if it exceeds `MAX`.
     pub fn checked_add(self, other: Length) -> Result<Length>
         ensures ok { IfOk result (λ sum. (sum ≡ self + other) × (sum ≤ limit)) }
         ensures err { IfErr result (λ e. (e.kind ≡ ErrorKind.Overflow) × (limit < self + other)) }
@@ -153,7 +153,7 @@ impl Length {
         }
     }
 
-    /// The length of a text whose contents have this length, or `Overflow` past `MAX`.
+    /// The length of an encoding whose contents have this length, or `Overflow` if it exceeds `MAX`.
     pub fn for_tlv(self, _tag: Tag) -> Result<Length>
         ensures ok { IfOk result (λ total. (total ≡ tlv_len self) × (total ≤ limit)) }
         ensures err { IfErr result (λ e. (e.kind ≡ ErrorKind.Overflow) × (limit < tlv_len self)) }
@@ -163,7 +163,7 @@ impl Length {
         self.header_len().checked_add(self)
     }
 
-    /// How many octets the tag and the length octets are.
+    /// How many octets the tag and the length take.
     #[tactic(auto, using(crate::proofs::LengthOctets::known_lengths))]
     fn header_len(self) -> Length
         ensures { result ≡ 1 + length (length_octets self) }
@@ -182,7 +182,7 @@ impl Length {
         Length { value }
     }
 
-    /// The length octets.
+    /// The length octets (X.690 8.1.3), as few as possible.
     pub fn to_bytes(self) -> ArrayVec<u8, 5>
         ensures counted { IsLength self result.items }
         ensures written { result.items ≡ length_octets self }

@@ -1,11 +1,11 @@
-//! A small kernel for DER (X.690): tags, lengths, unsigned integers, readers, writers, and the traits by which a type
-//! says what its values and their bytes are.
+//! A small kernel for DER (X.690): tags, lengths, unsigned integers, readers, writers, and the traits that define what
+//! the values of a type and their encodings are.
 //!
-//! A type names its relation of values and contents once (`Contents`). Reading accepts exactly that relation, and
-//! writing gives the shortest text of it.
+//! A type states its relation of values and contents octets once (`Contents`). Reading accepts exactly that relation,
+//! and writing gives the shortest encoding.
 //!
-//! A text is one whole DER encoding: tag, length and contents octets. A sentence is a text within the limit on its
-//! length that means a value.
+//! In names and contracts a *text* is one whole DER encoding: tag, length and contents octets. A *sentence* is an
+//! encoding of at most `Length::MAX` bytes that means a value.
 #![tactic(auto)]
 
 mod back_writer;

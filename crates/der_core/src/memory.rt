@@ -1,14 +1,14 @@
-//! What may ask for memory.
+//! Where reading may allocate.
 ghost use Rattle.std.specs.Prelude.{◌≡◌, IfOk, IfErr};
 ghost use Rattle.der_core.specs.declared.error.ErrorKind.{ErrorKind};
 
 use crate::error::Result;
 use std::alloc::Global;
 
-/// What a reading call is handed to ask for memory: `NoMemory` or `Global`.
+/// Where a reading call may allocate: `NoMemory` or `Global`.
 pub trait Memory: Copy + Drop {}
 
-/// No memory. Types that borrow from what they read need none.
+/// Nothing is allocated. Types that borrow from the input need no more.
 #[derive(Clone, Copy, Drop)]
 pub struct NoMemory;
 
@@ -16,7 +16,7 @@ impl Memory for NoMemory {}
 
 impl Memory for Global {}
 
-/// A copy of the bytes.
+/// Copies the bytes.
 pub(crate) fn copy_of(alloc: Global, bytes: &[u8]) -> Result<Vec<u8>>
     ensures ok { IfOk result (λ copy. copy.items ≡ bytes.now) }
     ensures err { IfErr result (λ e. e.kind ≡ ErrorKind.OutOfMemory) }

@@ -20,7 +20,7 @@ use crate::tag::Tag;
 use crate::types::{Contents, EqualByValue, TagMarker, TaggedBy};
 use crate::writer::Writer;
 
-/// Octets, at most `Length::MAX`. It borrows them.
+/// An OCTET STRING of at most `Length::MAX` octets. It borrows them.
 #[derive(Clone, Copy, Debug, PartialEq, Eq, Drop)]
 pub struct OctetStringRef<'a> {
     bytes: &'a [u8],
@@ -31,7 +31,7 @@ pub struct OctetStringRef<'a> {
 impl<'a> OctetStringRef<'a> {
     ghost use Rattle.der_core.specs.OctetStringRefValue.{octets_of};
 
-    /// These octets, or `Overflow` where they pass `Length::MAX`.
+    /// `Overflow` if there are more than `Length::MAX` octets.
     pub fn new(bytes: &'a [u8]) -> Result<OctetStringRef<'a>>
         ensures ok { IfOk result (λ string. octets_of string ≡ bytes.now) }
         ensures err { IfErr result (λ e. (e.kind ≡ ErrorKind.Overflow) × (limit < length bytes.now)) }
@@ -42,7 +42,7 @@ impl<'a> OctetStringRef<'a> {
         Ok(OctetStringRef { bytes })
     }
 
-    /// The octets, over the bytes that were read or handed in.
+    /// The octets, borrowed from the input.
     pub fn as_bytes(&self) -> &'a [u8]
         ensures octets { result.now ≡ octets_of self.now }
         ensures bound { length result.now ≤ limit }

@@ -66,7 +66,7 @@ impl<'a, T: Decode<&'a [u8], Global>> DecodeValue<&'a [u8], Global> for Vec<T> {
         items_fault_first T.text T.Decode.fault T.delimited none T.Decode.fault_first };
 }
 
-/// How many octets the texts of the items have.
+/// The total length of the encodings of the items.
 pub fn texts_len<T: Encode>(items: &[T]) -> Result<Length>
     ensures { let have = AllHave (λ x. T.has_text (T.value x)) items.now in
         Counts have (all_texts (λ x. T.written_text (T.value x)) items.now) result }
@@ -78,7 +78,7 @@ pub fn texts_len<T: Encode>(items: &[T]) -> Result<Length>
     total
 }
 
-/// Appends the texts of the items.
+/// Appends the encodings of the items.
 pub fn encode_texts<T: Encode, W: Writer>(items: &[T], writer: &mut W) -> Result<()>
     requires has { AllHave (λ x. T.has_text (T.value x)) items.now }
     requires fits { length (all_texts (λ x. T.written_text (T.value x)) items.now) ≤ limit }
@@ -93,7 +93,7 @@ pub fn encode_texts<T: Encode, W: Writer>(items: &[T], writer: &mut W) -> Result
     Ok(())
 }
 
-/// Puts the texts of the items before what is filled, the last one first.
+/// Writes the encodings of the items in front of what is filled, the last item first.
 pub fn prepend_texts<T: Encode>(items: &[T], writer: &mut BackWriter<'_>)
     requires has { AllHave (λ x. T.has_text (T.value x)) items.now }
     requires fits { length (all_texts (λ x. T.written_text (T.value x)) items.now) ≤ limit }

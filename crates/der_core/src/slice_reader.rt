@@ -29,7 +29,7 @@ impl<'a> SliceReader<'a> {
     ghost use Rattle.std.specs.Prelude.{◌≡◌, Some, IfOk, IfErr};
     ghost use Rattle.der_core.specs.SliceReaders.{left_of};
 
-    /// A reader over all of the bytes, or `Overflow` past `Length::MAX`.
+    /// A reader over all of the bytes, or `Overflow` if there are more than `Length::MAX`.
     pub fn new(bytes: &'a [u8]) -> Result<SliceReader<'a>>
         ensures ok { IfOk result (λ reader. left_of reader ≡ Some bytes.now) }
         ensures err { IfErr result (λ e. (e.kind ≡ ErrorKind.Overflow) × (limit < length bytes.now)) }

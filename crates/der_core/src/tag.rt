@@ -1,4 +1,4 @@
-//! Tag octets.
+//! Tags of one octet.
 ghost use Rattle.std.specs.Prelude.{◌≡◌, ◌+◌, ◌≤◌, IsTrue, IfOk, IfErr, Some, false};
 ghost use Rattle.der_core.specs.Tag.{is_allowed, context_tag};
 
@@ -6,10 +6,10 @@ use crate::error::{Error, ErrorKind, Result};
 use std::fmt;
 
 /// A tag of one octet (X.690 8.1.2): class in bits 8 and 7, the constructed bit in bit 6, the number in bits 5 to 1.
-/// An octet is allowed where its number isn't 31 and it is neither `00` nor `20`.
+/// Supported are all octets but `00`, `20` and those with the number 31.
 #[derive(Clone, Copy, Debug, PartialEq, Eq, Drop)]
 pub struct Tag {
-    /// The identifier octet, as it stands in a text.
+    /// The identifier octet.
     pub octet: u8,
     pub ghost allowed: { IsTrue (is_allowed octet) },
 }
@@ -30,7 +30,7 @@ impl Tag {
     /// The tag of SEQUENCE (X.690 8.9) and SEQUENCE OF (8.10): universal, constructed, number 16.
     pub const SEQUENCE: Tag = Tag { octet: 0x30 };
 
-    /// The tag with this octet, or `TagUnknown` where the octet isn't allowed.
+    /// The tag with this octet, or `TagUnknown` if the octet isn't supported.
     pub fn from_octet(octet: u8) -> Result<Tag>
         ensures ok { IfOk result (λ tag. tag.octet ≡ octet) }
         ensures err { IfErr result (λ e. (e.kind ≡ ErrorKind.TagUnknown octet) × (is_allowed octet ≡ false)) }
@@ -42,7 +42,7 @@ impl Tag {
         }
     }
 
-    /// The tag `[number]`: of the class context-specific, constructed (X.690 8.1.2.2, 8.14.3).
+    /// The tag `[number]`: context-specific, constructed (X.690 8.1.2.2, 8.14.3).
     pub fn context(number: TagNumber) -> Tag
         ensures { result.octet ≡ context_tag number.value }
     {
@@ -51,7 +51,7 @@ impl Tag {
         }
     }
 
-    /// The identifier octet, as it stands in a text.
+    /// The identifier octet.
     pub fn octet(self) -> u8
         ensures { result ≡ self.octet }
     {
@@ -59,10 +59,10 @@ impl Tag {
     }
 }
 
-/// The number of a tag: at most 30, since a greater one needs more than one octet (X.690 8.1.2.4).
+/// A tag number of at most 30: greater ones need more than one octet (X.690 8.1.2.4).
 #[derive(Clone, Copy, Debug, PartialEq, Eq, Drop)]
 pub struct TagNumber {
-    /// The number alone, without the class and the constructed bit.
+    /// The number, without the class and the constructed bit.
     pub value: u8,
     pub ghost fits: { value ≤ 30 },
 }
@@ -76,7 +76,7 @@ impl TagNumber {
         TagNumber { value }
     }
 
-    /// The number alone, without the class and the constructed bit.
+    /// The number, without the class and the constructed bit.
     pub fn value(self) -> u8
         ensures { result ≡ self.value }
     {
@@ -89,13 +89,13 @@ impl fmt::Display for Tag {
 
     ghost output = { λ tag. Some (tag_text tag) };
 
-    /// Prints the octet.
+    /// Prints the octet in hexadecimal.
     fn fmt<W: fmt::Write>(&self, f: &mut fmt::Formatter<W>) -> fmt::Result {
         write!(f, "{}", PrintedOctet(self.octet))
     }
 }
 
-/// An octet that is printed as `0x` and two hexadecimal digits, in lower case.
+/// An octet that is printed as `0x` and two lower-case hexadecimal digits.
 #[derive(Clone, Copy, Drop)]
 pub(crate) struct PrintedOctet(pub(crate) u8);
 

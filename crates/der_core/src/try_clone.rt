@@ -1,4 +1,4 @@
-//! Copies of values that own memory.
+//! Copying of values that own memory.
 ghost use Rattle.std.specs.Prelude.{◌≡◌, length, IfOk, IsOk, IfErr};
 ghost use Rattle.der_core.specs.declared.error.ErrorKind.{ErrorKind};
 
@@ -6,19 +6,19 @@ use crate::error::Result;
 use crate::types::Text;
 use std::alloc::Global;
 
-/// A type whose values are copied into memory that is asked for.
+/// A type whose values are copied into allocated memory.
 pub trait TryClone: Text + Sized + Drop {
-    /// The values whose copies ask for no memory.
+    /// The values that are copied without allocating.
     ghost allocates_nothing: { Self → Type 0 };
 
-    /// A copy, which means the same. It is never refused where it asks for no memory.
+    /// Returns a copy that means the same value, or `OutOfMemory`, which only values that need an allocation return.
     fn try_clone(&self, alloc: Global) -> Result<Self>
         ensures ok { IfOk result (λ copy. Self.value copy ≡ Self.value self.now) }
         ensures err { IfErr result (λ e. e.kind ≡ ErrorKind.OutOfMemory) }
         ensures may_allocate { allocates_nothing self.now → IsOk result };
 }
 
-/// An item for each item, in order.
+/// Copies each item, in order.
 impl<T: TryClone> TryClone for Vec<T> {
     ghost allocates_nothing = { λ items. length items.items ≡ 0 };
 

@@ -1,6 +1,7 @@
-//! What a type says of its values and their bytes: the same for reading and for writing, for borrowed and owned types.
+//! The relation of a type's values and their encodings: one for reading and writing, for borrowed and owned types.
 //!
-//! A type author writes `Contents` (ghosts alone), `TaggedBy` (the tag), and then `DecodeValue` or `EncodeValue` or both.
+//! The author of a type writes `Contents` (ghosts alone), `TaggedBy` (the tag), and then `DecodeValue` or `EncodeValue`
+//! or both.
 ghost use Rattle.std.specs.Prelude.{◌≡◌, ℕ, List};
 ghost use Rattle.der_core.specs.Texts.{MeansOne, IsDelimited, IsOfBytes};
 ghost use Rattle.der_core.specs.Tlv.{Tlv, tlv};
@@ -18,7 +19,7 @@ pub trait Contents {
 
     ghost value: { Self → Value };
 
-    /// The value has these contents.
+    /// The value has these contents octets.
     ghost contents: { Value → List ℕ → Type 0 };
 
     /// Which values have contents.
@@ -32,20 +33,20 @@ pub trait Contents {
     ghost contents_of_bytes: { IsOfBytes contents };
 }
 
-/// A type whose values have texts.
+/// A type whose values have encodings.
 pub trait Text {
     /// What values of the type mean: the same for borrowed and owned types.
     ghost Value: { Type 0 };
 
     ghost value: { Self → Value };
 
-    /// The value has this text.
+    /// The value has this encoding.
     ghost text: { Value → List ℕ → Type 0 };
 
-    /// Which values have a text.
+    /// Which values have an encoding.
     ghost has_text: { Value → Type 0 };
 
-    /// The text that is written.
+    /// The encoding that is written.
     ghost written_text: { Value → List ℕ };
 
     ghost delimited: { IsDelimited text };
@@ -53,32 +54,32 @@ pub trait Text {
     ghost text_of_bytes: { IsOfBytes text };
 }
 
-/// A type whose values are equal exactly where they mean the same.
+/// A type with an `==` that is true exactly if both sides mean the same value.
 pub trait EqualByValue: Text + PartialEq {
     ghost decides: { (a b : Self) → Decides (Self.eq a b) (Self.value a ≡ Self.value b) };
 }
 
-/// A tag, as a type: so that a type of any lifetime and parameters can name its tag by `TaggedBy`.
+/// A tag as a type, which `TaggedBy` names for types of any lifetimes and parameters.
 pub trait TagMarker {
-    /// The tag, where a contract names it.
+    /// The tag, for contracts.
     ghost TAG: { Tag };
 
-    /// The tag of the kind: one octet that tells class, constructed bit and number.
+    /// The tag.
     const TAG: Tag;
 }
 
-/// A type whose texts have the tag of a kind.
+/// A type whose encodings have the tag of a marker.
 pub trait TaggedBy {
-    /// The kind whose tag the texts have. Types of the same kind can't be told apart by their tags.
+    /// The marker of the tag. Types with the same marker can't be told apart by their tags.
     type Marker: TagMarker;
 }
 
-/// A type whose texts have one tag.
+/// A type whose encodings all have one tag.
 pub trait FixedTag {
-    /// The tag, where a contract names it.
+    /// The tag, for contracts.
     ghost TAG: { Tag };
 
-    /// The tag that each text of the type begins with.
+    /// The tag that each encoding begins with.
     const TAG: Tag;
 }
 
@@ -88,7 +89,7 @@ impl<T: TaggedBy> FixedTag for T {
     const TAG: Tag = T::Marker::TAG;
 }
 
-/// The tag of INTEGER.
+/// The marker of INTEGER.
 pub struct IntegerTag;
 
 impl TagMarker for IntegerTag {
@@ -97,7 +98,7 @@ impl TagMarker for IntegerTag {
     const TAG: Tag = Tag::INTEGER;
 }
 
-/// The tag of SEQUENCE and SEQUENCE OF.
+/// The marker of SEQUENCE and SEQUENCE OF.
 pub struct SequenceTag;
 
 impl TagMarker for SequenceTag {
@@ -106,7 +107,7 @@ impl TagMarker for SequenceTag {
     const TAG: Tag = Tag::SEQUENCE;
 }
 
-/// A type whose texts are SEQUENCEs.
+/// A type whose encodings are SEQUENCEs.
 pub trait Sequence<'a>: FixedTag {
     ghost is_sequence: { Self.TAG ≡ sequence };
 }

@@ -9,7 +9,7 @@ use crate::error::{Error, ErrorKind, Result};
 use crate::source_sink::{Sink, Source};
 use std::io::{Read, Write};
 
-/// One more refusal.
+/// Counts one more failed call.
 fn refused(faults: &mut u64) -> Error
     ensures counted { faults.new ≡ min (faults.old + 1) (2 ^ 64 - 1) }
     ensures file { IsFile result }
@@ -18,7 +18,7 @@ fn refused(faults: &mut u64) -> Error
     Error::new(ErrorKind::File)
 }
 
-/// A source over a reader. Each error of the reader is a refusal.
+/// A source over a std reader. Each error of the reader is counted, and returned as `File`.
 #[derive(Debug, Drop)]
 pub struct FromRead<R> {
     inner: R,
@@ -28,7 +28,7 @@ pub struct FromRead<R> {
 impl<R: Read> FromRead<R> {
     ghost use Rattle.der_core.specs.Wrap.{reader_of, read_faults};
 
-    /// A source that has refused no call.
+    /// A source that counts no failed call yet.
     pub fn new(inner: R) -> Self
         ensures reader { reader_of result ≡ inner }
         ensures faults { read_faults result ≡ 0 }
@@ -36,7 +36,7 @@ impl<R: Read> FromRead<R> {
         FromRead { inner, faults: 0 }
     }
 
-    /// The reader.
+    /// Returns the reader.
     pub fn into_inner(self) -> R
         ensures { result ≡ reader_of self }
     {
@@ -70,8 +70,8 @@ impl<R: Read> Source for FromRead<R> {
     }
 }
 
-/// A sink over a writer. Each error of the writer is a refusal, and so is a write of no byte out
-/// of one or more.
+/// A sink over a std writer. Each error of the writer is counted, and returned as `File`; so is a write that takes none
+/// of one or more bytes.
 #[derive(Debug, Drop)]
 pub struct ToWrite<W> {
     inner: W,
@@ -81,7 +81,7 @@ pub struct ToWrite<W> {
 impl<W: Write> ToWrite<W> {
     ghost use Rattle.der_core.specs.Wrap.{writer_of, write_faults};
 
-    /// A sink that has refused no call.
+    /// A sink that counts no failed call yet.
     pub fn new(inner: W) -> Self
         ensures writer { writer_of result ≡ inner }
         ensures faults { write_faults result ≡ 0 }
@@ -89,7 +89,7 @@ impl<W: Write> ToWrite<W> {
         ToWrite { inner, faults: 0 }
     }
 
-    /// The writer.
+    /// Returns the writer.
     pub fn into_inner(self) -> W
         ensures { result ≡ writer_of self }
     {

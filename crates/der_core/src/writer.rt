@@ -3,18 +3,18 @@ ghost use Rattle.std.specs.Prelude.{◌≡◌, ℕ, ◌+◌, ◌≤◌, ◌<◌,
 
 use crate::error::{Error, ErrorKind, Result};
 
-/// Where octets go, one slice after another.
+/// Takes octets, one slice after another.
 pub trait Writer {
     /// How many octets may still be written.
     ghost room: { Self → ℕ };
 
-    /// What was written.
+    /// What was written so far.
     ghost written: { Self → List ℕ };
 
-    /// What no write changes, from the writer before it to the one after it.
+    /// What writing never changes: a relation of the writer before and after.
     ghost keeps: { Self → Self → Type 0 };
 
-    /// Appends all of the octets, or, where there is less room than that, nothing.
+    /// Appends all of the octets, or returns `NoRoom` and writes nothing.
     fn write(&mut self, bytes: &[u8]) -> Result<()>
         ensures written { OnOk result (written self.new ≡ written self.old ++ bytes.now) }
         ensures room { OnOk result (room self.new + length bytes.now ≡ room self.old) }
@@ -27,7 +27,7 @@ pub trait Writer {
     ghost keeps_through: { (u v w : Self) → keeps u v → keeps v w → keeps u w };
 }
 
-/// Writes to the front of a slice. Its room is the bytes that are left.
+/// Writes to a slice from its front.
 #[derive(Drop)]
 pub struct SliceWriter<'b> {
     slice: &'b mut [u8],
@@ -38,7 +38,7 @@ pub struct SliceWriter<'b> {
 impl<'b> SliceWriter<'b> {
     ghost use Rattle.der_core.specs.SliceWriters.{slice_of, len_of, written_of};
 
-    /// A writer over a slice of which nothing is written. Bytes that are never written stay as they are.
+    /// A writer over a slice. Bytes behind what is written stay as they are.
     pub fn new(slice: &'b mut [u8]) -> SliceWriter<'b>
         ensures same_reference { (slice_of result).ghost_name ≡ slice.entry.ghost_name }
         ensures same_slice { (slice_of result).now ≡ slice.old }
@@ -47,7 +47,7 @@ impl<'b> SliceWriter<'b> {
         SliceWriter { slice, len: 0 }
     }
 
-    /// What was written.
+    /// The part that was written.
     pub fn finish(self) -> &'b [u8]
         ensures { result.now ≡ written_of self.entry }
     {

@@ -24,7 +24,7 @@ use crate::types::{Contents, EqualByValue, IntegerTag, TaggedBy};
 use crate::writer::Writer;
 use std::alloc::Global;
 
-/// An unsigned number, by its bytes: most significant first, the first one 0 only in the number 0. It owns them.
+/// An unsigned number as big-endian bytes: no leading zeros, and one zero byte for 0. It owns them.
 #[derive(Debug, PartialEq, Eq, Drop)]
 pub struct Uint {
     bytes: Vec<u8>,
@@ -36,8 +36,9 @@ impl Uint {
     ghost use Rattle.der_core.specs.UintRefValue.{bytes_of};
     ghost use Rattle.der_core.specs.UintValue.{own_bytes_of};
 
-    /// The number of these bytes, without leading zeros: `Length` of INTEGER where there is no byte, `Overflow` where
-    /// more than `Length::MAX` bytes are left. `OutOfMemory` is answered only where there is a number.
+    /// The number with these big-endian bytes, which may have leading zeros. `Length` of INTEGER if there is no byte,
+    /// `Overflow` if more than `Length::MAX` bytes remain without leading zeros. `OutOfMemory` is returned only for
+    /// bytes that are a number.
     pub fn new(alloc: Global, bytes: &[u8]) -> Result<Uint>
         ensures ok { IfOk result (λ number. AreCanonicalOf bytes.now (own_bytes_of number)) }
         ensures some { OnOk result (0 < length bytes.now) }
@@ -55,7 +56,7 @@ impl Uint {
         self.bytes.as_slice()
     }
 
-    /// The same number, with bytes of its own.
+    /// Copies a number.
     fn copy(alloc: Global, number: UintRef<'_>) -> Result<Uint>
         ensures ok { IfOk result (λ copy. own_bytes_of copy ≡ bytes_of number.entry) }
         ensures err { IfErr result (λ e. e.kind ≡ ErrorKind.OutOfMemory) }

@@ -22,7 +22,7 @@ use crate::tag::Tag;
 use crate::types::{Contents, EqualByValue, IntegerTag, TaggedBy};
 use crate::writer::Writer;
 
-/// The number of some contents.
+/// The number with these contents octets.
 fn small(contents: &[u8]) -> Result<u8>
     requires { length contents.now ≤ limit }
     ensures { Answers (λ n. n) result (small_of contents.now) }

@@ -24,7 +24,7 @@ use crate::types::{Contents, EqualByValue, IntegerTag, TaggedBy};
 use crate::writer::Writer;
 use std::alloc::Global;
 
-/// An unsigned number, by its bytes: most significant first, the first one 0 only in the number 0. It borrows them.
+/// An unsigned number as big-endian bytes: no leading zeros, and one zero byte for 0. It borrows them.
 #[derive(Clone, Copy, Debug, PartialEq, Eq, Drop)]
 pub struct UintRef<'a> {
     bytes: &'a [u8],
@@ -36,7 +36,7 @@ pub struct UintRef<'a> {
 pub trait AsUintRef {
     ghost use Rattle.der_core.specs.UintRefValue.{bytes_of};
 
-    /// The number's bytes.
+    /// Its bytes, most significant first, without leading zeros.
     ghost number: { Self → List ℕ };
 
     /// The same number, borrowed.
@@ -54,7 +54,7 @@ impl AsUintRef for UintRef<'_> {
     }
 }
 
-/// The bytes without needless zeros.
+/// The bytes without needless leading zeros.
 fn strip(bytes: &[u8]) -> &[u8]
     ensures number { number_from_digits 256 result.now ≡ number_from_digits 256 bytes.now }
     ensures fewest { 1 < length result.now → 0 < slice_index result.now 0 }
@@ -71,8 +71,8 @@ fn strip(bytes: &[u8]) -> &[u8]
 impl<'a> UintRef<'a> {
     ghost use Rattle.der_core.specs.UintRefValue.{bytes_of};
 
-    /// The number of these bytes, without leading zeros: `Length` of INTEGER where there is no byte, `Overflow` where
-    /// more than `Length::MAX` bytes are left.
+    /// The number with these big-endian bytes, which may have leading zeros. `Length` of INTEGER if there is no byte,
+    /// `Overflow` if more than `Length::MAX` bytes remain without leading zeros.
     pub fn new(bytes: &'a [u8]) -> Result<UintRef<'a>>
         ensures ok { IfOk result (λ number. AreCanonicalOf bytes.now (bytes_of number)) }
         ensures some { OnOk result (0 < length bytes.now) }
@@ -88,7 +88,7 @@ impl<'a> UintRef<'a> {
         Ok(UintRef { bytes })
     }
 
-    /// The number that these are the bytes of.
+    /// The number with these bytes, which have no needless leading zero.
     pub(super) fn over(bytes: &'a [u8]) -> UintRef<'a>
         requires canonical { HoldsNumber bytes.now }
         requires bounded { length bytes.now ≤ limit }
@@ -107,7 +107,7 @@ impl<'a> UintRef<'a> {
     }
 }
 
-/// The number of some contents.
+/// The number with these contents octets.
 pub(crate) fn integer(contents: &[u8]) -> Result<UintRef<'_>>
     requires { length contents.now ≤ limit }
     ensures { Answers (λ u. u.bytes.now) result (integer_of contents.now) }
@@ -132,7 +132,7 @@ impl<'a> TryClone for UintRef<'a> {
 
     ghost allocates_nothing = { λ _. ⊤ };
 
-    /// The same number, over the same bytes. No memory is asked for.
+    /// The same number, over the same bytes. Nothing is allocated.
     fn try_clone(&self, _alloc: Global) -> Result<UintRef<'a>>
         ensures ok { IfOk result (λ copy. bytes_of copy ≡ bytes_of self.now) }
         ensures err { IfErr result (λ e. e.kind ≡ ErrorKind.OutOfMemory) }
