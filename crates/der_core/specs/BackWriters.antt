@@ -11,7 +11,7 @@ slice_of writer = writer.slice
 abbrev pub free_of : BackWriter → ℕ
 free_of writer = writer.free
 
--- The bytes went before what was filled: what stands before them is as it was.
+-- The bytes were written in front of what was filled. What stands before them is unchanged.
 abbrev pub Prepends : List ℕ → BackWriter → BackWriter → Type 0
 Prepends bytes old new =
     (new.slice.ghost_name ≡ old.slice.ghost_name)

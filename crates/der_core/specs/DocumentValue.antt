@@ -1,4 +1,4 @@
--- The texts that documents hold.
+-- The encodings that documents hold.
 use Rattle.std.specs.Prelude.{ℕ, List, ◌≡◌, ◌⊎◌, Result, Ok, Err}
 use Rattle.der_core.specs.declared.document.DocumentOf.{DocumentOf}
 use Rattle.der_core.specs.declared.error.Error.{Error}
@@ -8,8 +8,8 @@ use Rattle.der_core.specs.Writing.{IsUncounted, LacksMemory, encode_refusal}
 abbrev pub text_of : {S : Type 0} → DocumentOf S → List ℕ
 text_of document = document.bytes.items
 
--- The document holds the octets that are written of the value, its shortest text; or memory was wanted, for octets that
--- can be counted; or they can't be, as the octets and as the grammar tell it.
+-- The document holds the octets that are written of the value, its shortest encoding. Or memory ran out, for octets
+-- that can be counted; or they can't be counted, for a reason that holds of the octets and of the grammar.
 abbrev pub HoldsMessage : {X V : Type 0} → (X → List ℕ) → Result X Error
     → Type 0 → List ℕ → (V → List ℕ → Type 0) → V → Type 0
 HoldsMessage text (Ok document) has octets Grammar v =

@@ -1,4 +1,4 @@
--- What is printed of a refusal.
+-- What is printed of an error.
 use Rattle.std.specs.Prelude.{ℕ, ◌/◌, ◌%◌, List, [], ◌∷◌, ◌++◌, codes, false}
 use Rattle.std.specs.Fmt.{digit_glyph}
 use Rattle.der_core.specs.declared.tag.Tag.{Tag}

@@ -7,7 +7,7 @@ use Rattle.std.specs.Int.Digits.{number_from_digits}
 use Rattle.der_core.specs.Length.{limit}
 use Rattle.der_core.specs.Tag.{is_allowed}
 
--- the bytes that are left, or None once the reader has refused
+-- the bytes that are left, or None once the reader has failed
 abbrev pub Input : Type 0
 Input = Option (List ℕ)
 
@@ -15,12 +15,12 @@ abbrev pub left_in : Input → List ℕ
 left_in None = []
 left_in (Some b) = b
 
--- what a reading function answers of an input
+-- what a reading function returns for an input
 abbrev pub read_from : {Y : Type 0} → Input → (List ℕ → Result (Y × List ℕ) ErrorKind) → Result (Y × List ℕ) ErrorKind
 read_from None f = Err Failed
 read_from (Some b) f = f b
 
--- A call gave what f reads: it leaves the rest, or it refuses by the kind of f and has failed.
+-- A call returned what f reads, and the rest is left; or it returned the error of f, and the reader has failed.
 abbrev pub Reads : {X Y : Type 0} → (X → Y) → Result X Error → Input → Input → (List ℕ → Result (Y × List ℕ) ErrorKind) → Type 0
 Reads view (Ok x) before after f = (rest : List ℕ) × (read_from before f ≡ Ok (view x, rest)) × (after ≡ Some rest)
 Reads view (Err e) before after f = (read_from before f ≡ Err e.kind) × (after ≡ None)
@@ -43,13 +43,13 @@ abbrev pub octet_at : List ℕ → Result (ℕ × List ℕ) ErrorKind
 octet_at [] = Err Incomplete
 octet_at (x ∷ xs) = Ok (x, xs)
 
--- one octet that the short form has, or a first octet that is zero
+-- the short form would do, or the first octet is zero
 abbrev pub is_overlong : List ℕ → Bool
 is_overlong [] = true
 is_overlong (x ∷ []) = nat_lt x 128
 is_overlong (x ∷ y ∷ ys) = x == 0
 
--- the length that m octets spell
+-- the length that m octets encode
 abbrev pub long_length_at : ℕ → List ℕ → Result (ℕ × List ℕ) ErrorKind
 long_length_at m b =
     if nat_lt (length b) m then Err Incomplete

@@ -1,4 +1,4 @@
--- OCTET STRING (X.690 8.7), in the primitive form that DER asks for (10.2).
+-- OCTET STRING (X.690 8.7), in the primitive form that DER demands (10.2).
 use Rattle.std.specs.Prelude.{ℕ, List, ◌≡◌}
 use Rattle.der_core.specs.Tag.{octet_string_tag}
 use Rattle.der_core.specs.Texts.{AreBytes}

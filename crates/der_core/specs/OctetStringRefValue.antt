@@ -8,6 +8,6 @@ use Rattle.der_core.specs.declared.octet_string.OctetStringRef.{OctetStringRef}
 abbrev pub octets_of : OctetStringRef → List ℕ
 octets_of string = string.bytes.now
 
--- They are bytes, and as many as a text may have.
+-- They are bytes, and no more than an encoding may have.
 pub octets_held : (string : OctetStringRef) → AreBytes (octets_of string) × (length (octets_of string) ≤ limit)
 octets_held string = (are_bytes (octets_of string) string.octets, string.bounded)

@@ -1,4 +1,4 @@
--- An OPTIONAL part (X.680 25.10): nothing, or one text.
+-- An OPTIONAL part (X.680 25.10): nothing, or one encoding.
 use Rattle.std.specs.Prelude.{ℕ, List, [], ◌≡◌, Option, Some, None}
 
 abbrev pub Optional : {V : Type 0} → (V → List ℕ → Type 0) → Option V → List ℕ → Type 0

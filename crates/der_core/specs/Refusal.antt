@@ -1,11 +1,11 @@
--- Kinds of refusals.
+-- Kinds of errors.
 use Rattle.std.specs.Prelude.{ℕ, ◌≡◌}
 use Rattle.der_core.specs.declared.error.Error.{Error}
 use Rattle.der_core.specs.declared.error.ErrorKind.{ErrorKind}
 use Rattle.der_core.specs.declared.error.ErrorKind.TheVariants.{File, TagUnexpected}
 use Rattle.der_core.specs.declared.tag.Tag.{Tag}
 
--- a file, a source or a sink refused
+-- a call of a file, a source or a sink failed
 abbrev pub IsFile : Error → Type 0
 IsFile error = error.kind ≡ File
 

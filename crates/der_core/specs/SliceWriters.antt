@@ -19,7 +19,7 @@ written_of writer = take writer.len writer.slice.now
 abbrev pub room_of : SliceWriter → ℕ
 room_of writer = length writer.slice.now - writer.len
 
--- the same slice, of the same length, and as it was behind all that was written
+-- the same slice, of the same length, unchanged behind what was written
 abbrev pub Keeps : SliceWriter → SliceWriter → Type 0
 Keeps old new =
     (new.slice.ghost_name ≡ old.slice.ghost_name)

@@ -15,10 +15,10 @@ GivesMore limit piece old new = (bytes : List ℕ) × Consumes old new bytes × 
 abbrev pub AppendsFront : Option (List ℕ) → Option (List ℕ) → List ℕ → Type 0
 AppendsFront old new bytes = (n : ℕ) × Appends old new (take n bytes)
 
--- A count of refusals: it rises by one with each, and stays at its last value.
+-- A count of failed calls: it rises by one with each, and stays at its greatest value.
 abbrev pub CountsRefusal : {T E : Type 0} → ℕ → ℕ → Result T E → Type 0
 CountsRefusal old new r = MatchResult r (λ _. new ≡ old) (λ _. new ≡ min (old + 1) (2 ^ 64 - 1))
 
--- A call was refused: the count rose, or stands at its last value.
+-- A call failed: the count rose, or is at its greatest value.
 abbrev pub SomeRefused : ℕ → ℕ → Type 0
 SomeRefused old new = (old < new) ⊎ (new ≡ 2 ^ 64 - 1)

@@ -1,4 +1,4 @@
--- What sources and sinks over std's readers and writers stand on.
+-- What sources and sinks over std's readers and writers consist of.
 use Rattle.std.specs.Prelude.{ℕ}
 use Rattle.der_core.specs.declared.wrap.FromRead.{FromRead}
 use Rattle.der_core.specs.declared.wrap.ToWrite.{ToWrite}
@@ -7,7 +7,7 @@ use Rattle.der_core.specs.declared.wrap.ToWrite.{ToWrite}
 abbrev pub reader_of : {R : Type 0} → FromRead R → R
 reader_of source = source.inner
 
--- how many of its calls were refused
+-- how many of its calls failed
 abbrev pub read_faults : {R : Type 0} → FromRead R → ℕ
 read_faults source = source.faults
 
@@ -15,6 +15,6 @@ read_faults source = source.faults
 abbrev pub writer_of : {W : Type 0} → ToWrite W → W
 writer_of sink = sink.inner
 
--- how many of its calls were refused
+-- how many of its calls failed
 abbrev pub write_faults : {W : Type 0} → ToWrite W → ℕ
 write_faults sink = sink.faults

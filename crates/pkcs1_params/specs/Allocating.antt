@@ -6,7 +6,8 @@ use Rattle.spki_core.specs.AlgorithmIdentifier.{PlainAlgorithm, MaskAlgorithm}
 use Rattle.spki_core.specs.Allocating.{AlgorithmAllocates, FieldAllocates, AllocatesFromField}
 use Rattle.pkcs1_params.specs.Parameters.{sha1, mgf1_sha1}
 
--- The parameters of the hash in [0] may ask, or those of the hash under the mask generation function in [1], or what is behind both.
+-- The parameters of the hash in [0] may ask, or those of the hash under the mask generation function in [1], or what is
+-- behind both.
 abbrev pub AllocatesFromHash : (List ℕ → Type 0) → (List ℕ → Type 0) → List ℕ → Type 0
 AllocatesFromHash may_allocate later contents =
     AllocatesFromField 0 PlainAlgorithm sha1 (AlgorithmAllocates may_allocate)

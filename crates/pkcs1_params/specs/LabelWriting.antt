@@ -14,7 +14,7 @@ use Rattle.pkcs1_params.specs.Parts.{oaep_values, HasFields, written_fields}
 abbrev pub written_source : List ℕ → List ℕ
 written_source label = let source = with_parameters id_p_specified (octets_value label) in written_field (same_plain source empty_label) 2 (written_plain source)
 
--- The octets of the text that is written of parameters with a label are counted.
+-- The octets of the encoding that is written of parameters with a label are counted.
 abbrev pub CountsLabelled : List ℕ → List ℕ → Result ℕ Error → Type 0
 CountsLabelled oid label r =
     let values = oaep_values (labelled oid label) in

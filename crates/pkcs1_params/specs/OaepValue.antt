@@ -30,7 +30,7 @@ labelled oid label = record {
   p_source = with_parameters id_p_specified (octets_value label);
 }
 
--- with every label of n bytes there is a text, or with none
+-- with every label of n bytes there is an encoding, or with none
 abbrev pub LabelFits : List ℕ → ℕ → Type 0
 LabelFits oid n = (label : List ℕ) → AreBytes label → length label ≡ n → (text : List ℕ) × Means grammar.RsaOaepParams text (labelled oid label)
 

@@ -69,12 +69,12 @@ RsaPssParamsFault = WholeFault RsaPssParams (TextFault sequence (PssFault Any An
 abbrev pub RsaOaepParamsFault : ErrorKind → List ℕ → Type 0
 RsaOaepParamsFault = WholeFault RsaOaepParams (TextFault sequence (OaepFault Any AnyFault))
 
--- A text means a value, and a default is written in it (X.690 11.5): the fault names the tag of the first.
+-- An encoding means a value, and a default is written in it (X.690 11.5): the fault names the tag of the first.
 abbrev pub DefaultFault : {V : Type 0} → (V → List ℕ → Type 0) → (V → List Field) → ErrorKind → List ℕ → Type 0
 DefaultFault {V} Grammar fields kind text =
     (v : V) × Means Grammar text v × (n : ℕ) × WritesDefault (fields v) n text × (tag : Tag) × (tag.octet ≡ context_tag n) × (kind ≡ Noncanonical tag)
 
--- Slices that are to be the shortest text of parameters.
+-- Slices that are to be the shortest encoding of parameters.
 abbrev pub StrictPssFault : ErrorKind → List ℕ → Type 0
 StrictPssFault kind bytes = RsaPssParamsFault kind bytes ⊎ DefaultFault RsaPssParams pss_fields kind bytes
 

@@ -25,7 +25,7 @@ id_p_specified = 0x2a ∷ 0x86 ∷ 0x48 ∷ 0x86 ∷ 0xf7 ∷ 0x0d ∷ 0x01 ∷ 
 abbrev pub with_parameters : {P : Type 0} → List ℕ → P → Algorithm P
 with_parameters oid parameters = record { oid = oid; parameters = Some parameters }
 
--- An OCTET STRING (X.690 8.7), as a text of any tag.
+-- An OCTET STRING (X.690 8.7), as an encoding of any tag.
 abbrev pub octets_value : List ℕ → TagAndContents
 octets_value octets = record { tag = 0x04; contents = octets }
 

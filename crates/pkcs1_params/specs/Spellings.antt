@@ -1,4 +1,5 @@
--- The texts of a value whose type is a SEQUENCE of fields with defaults: one for each mask, the shortest under mask 0.
+-- The encodings of a value whose type is a SEQUENCE of fields with defaults: one for each mask, the shortest under mask
+-- 0.
 use Rattle.std.specs.Global.{Vec}
 use Rattle.std.specs.Prelude.{ℕ, List, [], ◌≡◌, ◌<◌, ◌≤◌, ◌^◌, ◌↔◌, ◌⊎◌, length, map, slice_index_or}
 use Rattle.der_core.specs.Length.{limit}
@@ -19,11 +20,11 @@ IsSpelling fields mask text = (length text ≤ limit) × Masked fields mask text
 abbrev pub IsMask : List Field → ℕ → Type 0
 IsMask fields mask = (k : ℕ) × HaveDefaults fields k × (mask < 2 ^ k)
 
--- The text with every field written is within the limit.
+-- The encoding with every field written is within the limit.
 abbrev pub AllFit : List Field → Type 0
 AllFit fields = (all : List ℕ) × AllExplicit fields all × (length all ≤ limit)
 
--- The text stands under exactly one mask, and that is below two to the k.
+-- The encoding stands under exactly one mask, and that is below two to the k.
 abbrev pub HasOneMask : List Field → ℕ → List ℕ → Type 0
 HasOneMask fields k text = (mask : ℕ) × (mask < 2 ^ k) × IsSpelling fields mask text × ((other : ℕ) → IsSpelling fields other text → other ≡ mask)
 
@@ -58,7 +59,7 @@ AcceptedFits {V} fields =
     Spellings (λ w. FieldSequence (fields w)) v text →
     (shortest : List ℕ) × IsSpelling (fields v) 0 shortest × (length shortest ≤ length text)
 
--- Where the text with every field written is within the limit, there are two to the k spellings.
+-- Where the encoding with every field written is within the limit, there are two to the k spellings.
 abbrev pub TwoToTheDefaults : {V : Type 0} → (V → List Field) → Type 0
 TwoToTheDefaults {V} fields =
     (v : V) (k : ℕ) (all : List ℕ) →
@@ -67,7 +68,8 @@ TwoToTheDefaults {V} fields =
     length all ≤ limit →
     (texts : List (List ℕ)) × AreTheMembers (Spellings (λ w. FieldSequence (fields w)) v) (2 ^ k) texts × ((m : ℕ) → m < 2 ^ k → Masked (fields v) m (slice_index_or texts m []))
 
--- The text is the spelling under this mask and under no other; each spelling of the value stands under exactly one mask.
+-- The encoding is the spelling under this mask and under no other; each spelling of the value stands under exactly one
+-- mask.
 pub record StandsUnder {V : Type 0} (fields : V → List Field) (v : V) (mask : ℕ) (text : List ℕ) : Type 0 where
   pub spelling : IsSpelling (fields v) mask text
   pub no_other : (other : ℕ) → IsSpelling (fields v) other text → other ≡ mask
@@ -101,13 +103,13 @@ AreUnder fields n texts = (length texts ≡ n) × ((mask : ℕ) → mask < n →
 abbrev pub AreMasks : List Field → ℕ → Type 0
 AreMasks fields n = (k : ℕ) × HaveDefaults fields k × (n ≡ 2 ^ k) × AllFit fields
 
--- The texts are all spellings of the value, none twice: each one at its mask, and the shortest first.
+-- The encodings are all spellings of the value, none twice: each one at its mask, and the shortest first.
 pub record AreAllSpellings {V : Type 0} (fields : V → List Field) (v : V) (texts : List (List ℕ)) : Type 0 where
   pub members : (k : ℕ) → HaveDefaults (fields v) k → AreTheMembers (Spellings (λ w. FieldSequence (fields w)) v) (2 ^ k) texts
   pub under : (mask : ℕ) → mask < length texts → IsSpelling (fields v) mask (slice_index_or texts mask [])
   pub shortest : IsShortest (λ w. FieldSequence (fields w)) v (slice_index_or texts 0 [])
 
--- Why there is no list: memory is wanted for one that fits, or the text with every field written is past the limit.
+-- Why there is no list: memory is wanted for one that fits, or the encoding with every field written is past the limit.
 abbrev pub WhyNoSpellings : List Field → ErrorKind → Type 0
 WhyNoSpellings fields e = ((e ≡ kind.OutOfMemory) × AllFit fields) ⊎ ((e ≡ kind.Overflow) × (AllFit fields → ⊥))
 

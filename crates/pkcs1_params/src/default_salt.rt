@@ -3,8 +3,8 @@ ghost use Rattle.std.specs.Prelude.{ℕ};
 
 use crate::pss::{RsaPssParams, RsaPssParamsRef};
 
-/// A type of parameters whose salt has a default length. A proof sees a trait's constant for every type parameter, and one
-/// of an `impl` for none.
+/// A type of parameters whose salt has a default length. A proof sees a trait's constant for every type parameter, and
+/// one of an `impl` for none.
 pub trait DefaultSalt {
     /// The constant, where a contract names it.
     ghost SALT_LEN_DEFAULT: { ℕ };

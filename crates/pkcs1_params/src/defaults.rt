@@ -34,7 +34,7 @@ static P_SPECIFIED: [u8; 39] = [
     0x00, 0x00, 0x00, 0x00, 0x00, 0x00, 0x00,
 ];
 
-/// Whether the text is that of a SEQUENCE without contents, in which every field has its default.
+/// Whether the encoding is that of a SEQUENCE without contents, in which every field has its default.
 #[tactic(auto, using(crate::proofs::EmptySequences::two_octets))]
 pub(crate) fn is_empty_sequence(bytes: &[u8]) -> bool
     ensures { IsTrue result → bytes.now ≡ sequence_tag ∷ 0 ∷ [] }

@@ -61,7 +61,7 @@ impl FieldRef<'_> {
         }
     }
 
-    /// What is borrowed has a text that memory holds: a call that does nothing.
+    /// What is borrowed has an encoding that memory holds: a call that does nothing.
     fn is_held(&self)
         ensures { (part_in self.now).has × (length (part_in self.now).text ≤ limit + 718) }
     {
@@ -211,8 +211,8 @@ pub(crate) fn are_held(fields: &[FieldRef<'_>])
     }
 }
 
-/// How many octets the fields have under a mask. The bits of `defaults` say which have their defaults, the lowest one of
-/// the first.
+/// How many octets the fields have under a mask. The bits of `defaults` say which have their defaults, the lowest one
+/// of the first.
 pub(crate) fn fields_len(fields: &[FieldRef<'_>], defaults: u8, mask: u8) -> Result<Length>
     requires { defaults ≡ bits_of (defaults_in (values_in fields.now)) }
     ensures { let values = values_in fields.now in

@@ -26,7 +26,7 @@ impl<'a> RsaOaepParams<AnyRef<'a>> {
         }
     }
 
-    /// Whether parameters with a label of this many bytes have a text of at most `Length::MAX` octets.
+    /// Whether parameters with a label of this many bytes have an encoding of at most `Length::MAX` octets.
     pub fn label_fits<D: AssociatedOid>(len: usize) -> bool
         ensures fits { result ≡ true → LabelFits D.contents len }
         ensures too_long { result ≡ false → NoLabelFits D.contents len }
@@ -35,7 +35,7 @@ impl<'a> RsaOaepParams<AnyRef<'a>> {
     }
 }
 
-/// How many octets a text has whose contents were counted.
+/// How many octets an encoding has whose contents were counted.
 fn tagged_len(contents: Result<Length>, tag: Tag) -> Result<Length>
     ensures { (octets : List ℕ) → Counts ⊤ octets contents → Counts ⊤ (tlv tag.octet octets) result }
 {
@@ -55,7 +55,7 @@ fn source_len(len: usize) -> Result<Length>
     tagged_len(source, Tag::context(TagNumber::new(2)))
 }
 
-/// How many octets the shortest text of parameters with a label of this many bytes has.
+/// How many octets the shortest encoding of parameters with a label of this many bytes has.
 fn labelled_len<D: AssociatedOid>(len: usize) -> Result<Length>
     ensures { (label : List ℕ) → AreBytes label → length label ≡ len → CountsLabelled D.contents label result }
 {

@@ -11,8 +11,9 @@ ghost use Rattle.pkcs1_params.specs.Spellings.{
   TwoToTheDefaults,
 };
 
-/// The texts of PSS parameters within the limit are those under the masks that say which defaults are written,
-/// the shortest under mask 0; two texts mean the same exactly where the shortest texts of what they mean are the same bytes.
+/// The encodings of PSS parameters within the limit are those under the masks that say which defaults are written, the
+/// shortest under mask 0; two encodings mean the same exactly where the shortest encodings of what they mean are the
+/// same bytes.
 pub fn pss_spellings()
     ensures defaults { DefaultsAreCounted pss_fields }
     ensures mask { EachHasOneMask pss_fields }
@@ -23,8 +24,9 @@ pub fn pss_spellings()
     ensures same { SameByShortest parameters.RsaPssParams }
 {}
 
-/// The texts of OAEP parameters within the limit are those under the masks that say which defaults are written,
-/// the shortest under mask 0; two texts mean the same exactly where the shortest texts of what they mean are the same bytes.
+/// The encodings of OAEP parameters within the limit are those under the masks that say which defaults are written, the
+/// shortest under mask 0; two encodings mean the same exactly where the shortest encodings of what they mean are the
+/// same bytes.
 pub fn oaep_spellings()
     ensures defaults { DefaultsAreCounted oaep_fields }
     ensures mask { EachHasOneMask oaep_fields }

@@ -122,9 +122,9 @@ impl<P: AnyValue> RsaOaepParams<P> {
         }
     }
 
-    /// Writes the shortest text, in which no default is written, to the front of a slice, and answers its length:
-    /// `encode_into`, with all that is known of it. `Overflow` where the text passes `Length::MAX`, `NoRoom` where the
-    /// slice is shorter.
+    /// Writes the shortest encoding, in which no default is written, to the front of a slice, and answers its length:
+    /// `encode_into`, with all that is known of it. `Overflow` where the encoding passes `Length::MAX`, `NoRoom` where
+    /// the slice is shorter.
     pub fn encode_params(&self, out: &mut [u8]) -> Result<usize>
         ensures shortest { let params = oaep_with P.any self.now in
             IfOk result (λ n. IsShortest grammar.RsaOaepParams params (take n out.new)) }
@@ -244,8 +244,8 @@ impl<'a> RsaOaepParams<AnyRef<'a>> {
     ghost use Rattle.pkcs1_params.specs.Refusals.{IsAsn1};
     ghost use Rattle.spki_core.specs.StrictFields.{NamesDefault};
 
-    /// Reads a whole slice as `try_from`, and refuses a text in which a default is written by `Noncanonical` of the tag
-    /// of the first such field: what is read is the shortest text of its value.
+    /// Reads a whole slice as `try_from`, and refuses an encoding in which a default is written by `Noncanonical` of
+    /// the tag of the first such field: what is read is the shortest encoding of its value.
     pub fn from_der_strict(bytes: &'a [u8]) -> Result<RsaOaepParams<AnyRef<'a>>>
         ensures ok { IfOk result (λ params. IsShortest grammar.RsaOaepParams (oaep_of params) bytes.now) }
         ensures one { IfOk result (λ params. (other : OaepParameters) → Means grammar.RsaOaepParams bytes.now other

@@ -92,9 +92,9 @@ impl<P: AnyValue> RsaOaepParams<P> {
         self.as_params_ref().count_defaults()
     }
 
-    /// Writes one spelling to the front of a slice, and answers its length: bit j of the mask (bit 0 is the lowest) says
-    /// whether the j-th of the fields that equal their defaults, in their order, is written. Mask 0 is the shortest.
-    /// `Overflow` where the text passes `Length::MAX`, `NoRoom` where the slice is shorter.
+    /// Writes one spelling to the front of a slice, and answers its length: bit j of the mask (bit 0 is the lowest)
+    /// says whether the j-th of the fields that equal their defaults, in their order, is written. Mask 0 is the
+    /// shortest. `Overflow` where the encoding passes `Length::MAX`, `NoRoom` where the slice is shorter.
     pub fn encode_spelling(&self, mask: u8, out: &mut [u8]) -> Result<usize>
         requires { IsMask (oaep_fields (oaep_with P.any self.now)) mask }
         ensures stands { IfOk result (λ n. StandsUnder oaep_fields (oaep_with P.any self.now) mask (take n out.new)) }

@@ -13,7 +13,7 @@ use der_core::{
 };
 use spki_core::read_field;
 
-/// Parameters over the octets that were read: identifiers are copied once, when all is known to be a text.
+/// Parameters over the octets that were read: identifiers are copied once, when all is known to be an encoding.
 #[derive(Clone, Copy, Drop)]
 pub(crate) struct OaepView<'a> {
     hash: PlainView<'a>,

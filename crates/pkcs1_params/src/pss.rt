@@ -129,7 +129,7 @@ impl<P: AnyValue> RsaPssParams<P> {
         }
     }
 
-    /// Writes the shortest text, in which no default is written, to the front of a slice, and answers its length:
+    /// Writes the shortest encoding, in which no default is written, to the front of a slice, and answers its length:
     /// `encode_into`, with all that is known of it. `NoRoom` where the slice is shorter.
     pub fn encode_params(&self, out: &mut [u8]) -> Result<usize>
         ensures shortest { let params = pss_with P.any self.now in
@@ -192,8 +192,8 @@ impl<'a> RsaPssParams<AnyRef<'a>> {
     ghost use Rattle.der_core.specs.Document.{Means, IsShortest};
     ghost use Rattle.spki_core.specs.StrictFields.{NamesDefault};
 
-    /// Reads a whole slice as `try_from`, and refuses a text in which a default is written by `Noncanonical` of the tag
-    /// of the first such field: what is read is the shortest text of its value.
+    /// Reads a whole slice as `try_from`, and refuses an encoding in which a default is written by `Noncanonical` of
+    /// the tag of the first such field: what is read is the shortest encoding of its value.
     pub fn from_der_strict(bytes: &'a [u8]) -> Result<RsaPssParams<AnyRef<'a>>>
         ensures ok { IfOk result (λ params. IsShortest grammar.RsaPssParams (pss_of params) bytes.now) }
         ensures one { IfOk result (λ params. (other : PssParameters) → Means grammar.RsaPssParams bytes.now other

@@ -49,8 +49,8 @@ pub(crate) trait DefaultFields: Copy + Drop {
         ensures count { HaveDefaults (fields_with values (params self.now)) result }
         ensures few { result < 8 };
 
-    /// The first field of a text that is written and equals its default. What is answered is of use where the text is
-    /// known to be one of these parameters.
+    /// The first field of an encoding that is written and equals its default. What is answered is of use where the
+    /// encoding is known to be one of these parameters.
     fn written_default(&self, bytes: &[u8]) -> Option<TagNumber>
         ensures { WalksOver (defaults_in (values (params self.now))) bytes.now (option_map number_in result) };
 
@@ -130,7 +130,7 @@ impl<T: DefaultFields> EncodeValue for Spelling<'_, T> {
     ghost contents_shortest = { masked_least T.values };
 }
 
-/// Writes the text under a mask to the front of a slice, and answers its length.
+/// Writes the encoding under a mask to the front of a slice, and answers its length.
 pub(crate) fn spell_into<T: DefaultFields>(params: &T, mask: u8, out: &mut [u8]) -> Result<usize>
     requires { IsMask (fields_with T.values (T.params params.now)) mask }
     ensures stands { IfOk result (λ n. StandsUnder (fields_with T.values) (T.params params.now) mask (take n out.new)) }
@@ -147,7 +147,7 @@ pub(crate) fn spell_into<T: DefaultFields>(params: &T, mask: u8, out: &mut [u8])
     Ok(spelling.encode_into(out)?)
 }
 
-/// Writes the shortest text to the front of a slice, and answers its length.
+/// Writes the shortest encoding to the front of a slice, and answers its length.
 pub(crate) fn encode_shortest<T: DefaultFields>(params: &T, out: &mut [u8]) -> Result<usize>
     ensures shortest { IfOk result (λ n. IsShortest (Fielded T.values) (T.params params.now) (take n out.new)) }
     ensures no_default { IfOk result (λ n. Masked (fields_with T.values (T.params params.now)) 0 (take n out.new)) }
@@ -166,7 +166,7 @@ impl<T: DefaultFields> Spelling<'_, T> {
     ghost use Rattle.std.specs.Prelude.{◌⊎◌};
     ghost use Rattle.der_core.specs.Tlv.{tlv};
 
-    /// How many octets the text has: `Overflow` where there is no spelling under the mask.
+    /// How many octets the encoding has: `Overflow` where there is no spelling under the mask.
     fn len(&self) -> der_core::Result<usize>
         ensures ok { let params = T.params self.now.params.now in
             let text = tlv sequence_tag (written_fields (T.values params) self.now.mask) in
@@ -182,7 +182,7 @@ impl<T: DefaultFields> Spelling<'_, T> {
         Ok(self.encoded_len()?.to_usize())
     }
 
-    /// The text, in memory of its own.
+    /// The encoding, in memory of its own.
     fn to_vec(&self, alloc: Global) -> der_core::Result<Vec<u8>>
         ensures ok { let fields = fields_with T.values (T.params self.now.params.now) in
             IfOk result (λ text. IsSpelling fields self.now.mask text.items) }
@@ -196,7 +196,7 @@ impl<T: DefaultFields> Spelling<'_, T> {
     }
 }
 
-/// The texts under the masks below a number, in their order.
+/// The encodings under the masks below a number, in their order.
 fn texts_under<T: DefaultFields>(
     params: &T,
     defaults: u8,

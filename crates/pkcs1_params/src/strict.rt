@@ -21,7 +21,7 @@ fn is_written(number: TagNumber) -> Error
     Error::Asn1(der_core::Error::new(ErrorKind::Noncanonical { tag }))
 }
 
-/// Refuses a text of the parameters in which a default is written, by the tag of the first.
+/// Refuses an encoding of the parameters in which a default is written, by the tag of the first.
 pub(crate) fn refuse_defaults<T: DefaultFields>(params: &T, bytes: &[u8]) -> Result<()>
     requires { Means (Fielded T.values) bytes.now (T.params params.now) }
     ensures ok { OnOk result (IsShortest (Fielded T.values) (T.params params.now) bytes.now) }

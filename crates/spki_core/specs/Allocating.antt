@@ -6,7 +6,7 @@ use Rattle.der_core.specs.Reading.{AllocatesIn, AllocatesBehind, AllocatesLast}
 use Rattle.spki_core.specs.ObjectIdentifier.{ObjectIdentifier}
 use Rattle.spki_core.specs.Explicit.{field, Defaultable}
 
--- In an identifier's contents: parameters follow it, and they may ask. Its own text never does.
+-- In an identifier's contents: parameters follow it, and they may ask. Its own encoding never does.
 abbrev pub AllocatesForParameters : (List ℕ → Type 0) → List ℕ → Type 0
 AllocatesForParameters may_allocate contents = AllocatesBehind ObjectIdentifier (AllocatesLast may_allocate) contents
 
@@ -14,7 +14,7 @@ AllocatesForParameters may_allocate contents = AllocatesBehind ObjectIdentifier 
 abbrev pub AlgorithmAllocates : (List ℕ → Type 0) → List ℕ → Type 0
 AlgorithmAllocates may_allocate text = Tlv sequence_tag (AllocatesForParameters may_allocate) text
 
--- A text of an identifier alone, with no parameters behind it, doesn't ask.
+-- An encoding of an identifier alone, with no parameters behind it, doesn't ask.
 abbrev pub NothingAskedAlone : (List ℕ → Type 0) → Type 0
 NothingAskedAlone may_allocate = (oid text : List ℕ) → Tlv sequence_tag (ObjectIdentifier oid) text → AllocatesIn may_allocate text → ⊥
 

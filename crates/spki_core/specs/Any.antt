@@ -1,4 +1,4 @@
--- A text of any tag (X.680 "open type"), whose contents are opaque.
+-- An encoding of any tag (X.680 "open type"), whose contents are opaque.
 use Rattle.std.specs.Prelude.{ℕ, List, [], IsTrue}
 use Rattle.der_core.specs.Tag.{is_allowed}
 use Rattle.der_core.specs.Texts.{AreBytes, Is}
@@ -19,6 +19,6 @@ Any v text = IsAny v × Tlv v.tag (Is v.contents) text
 abbrev pub null_value : TagAndContents
 null_value = record { tag = 0x05; contents = [] }
 
--- The text that is written.
+-- The encoding that is written.
 abbrev pub written_any : TagAndContents → List ℕ
 written_any v = tlv v.tag v.contents

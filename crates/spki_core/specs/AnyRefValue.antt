@@ -1,4 +1,4 @@
--- What a borrowed text of any tag means.
+-- What a borrowed encoding of any tag means.
 use Rattle.spki_core.specs.declared.any.AnyRef.{AnyRef}
 use Rattle.spki_core.specs.Any.{TagAndContents}
 

@@ -2,7 +2,7 @@
 use Rattle.std.proofs.Common.{List, ℕ, Bool, ◌≡◌, ◌∙◌, refl, sym, ap, Decides}
 use Rattle.spki_core.specs.Any.{TagAndContents, Any}
 
--- Its values are tags with contents, and have their texts.
+-- Its values are tags with contents, and have their encodings.
 pub record HoldsAny {X V : Type 0} (value : X → V) (text : V → List ℕ → Type 0) (any : X → TagAndContents) : Type 0 where
   pub to_any : V → TagAndContents
   pub of_any : TagAndContents → V

@@ -7,7 +7,7 @@ pub record Numbered (V : Type 0) : Type 0 where
   pub number : ℕ
   pub value : V
 
--- The tag [number] wraps one text of the value.
+-- The tag [number] wraps one encoding of the value.
 abbrev pub ContextSpecific : {V : Type 0} → (V → List ℕ → Type 0) → Numbered V → List ℕ → Type 0
 ContextSpecific Grammar v text = (v.number ≤ 30) × Tlv (context_tag v.number) (Grammar v.value) text
 

@@ -4,7 +4,7 @@ use Rattle.der_core.specs.Tag.{context_tag, sequence_tag}
 use Rattle.der_core.specs.Texts.{Is, Then, Joins}
 use Rattle.der_core.specs.Tlv.{Tlv}
 
--- A field with its value: its number, the texts of the value, and whether the value is the default.
+-- A field with its value: its number, the encodings of the value, and whether the value is the default.
 pub record Field : Type 1 where
   pub number : ℕ
   pub Inner : List ℕ → Type 0
@@ -14,7 +14,7 @@ pub record Field : Type 1 where
 abbrev pub field : {V : Type 0} → ℕ → (V → List ℕ → Type 0) → V → V → Field
 field number Grammar default value = record { number = number; Inner = Grammar value; IsDefault = value ≡ default }
 
--- Written: one text of the value inside the tag [number].
+-- Written: one encoding of the value inside the tag [number].
 abbrev pub Explicit : Field → List ℕ → Type 0
 Explicit f text = Tlv (context_tag f.number) f.Inner text
 
@@ -60,6 +60,6 @@ FieldRead number Grammar default bytes value rest =
     ((IsNext number bytes → ⊥) × (value ≡ default) × (rest ≡ bytes)) ⊎
     Then (Tlv (context_tag number) (Grammar value)) (Is rest) bytes
 
--- Its octet is next, and no text of the field.
+-- Its octet is next, and no encoding of the field.
 abbrev pub FieldRefused : {V : Type 0} → ℕ → (V → List ℕ → Type 0) → List ℕ → Type 0
 FieldRefused {V} number Grammar bytes = IsNext number bytes × ((value : V) (rest : List ℕ) → Then (Tlv (context_tag number) (Grammar value)) (Is rest) bytes → ⊥)

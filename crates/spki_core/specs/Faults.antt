@@ -13,7 +13,7 @@ use Rattle.der_core.specs.Tags.{object_identifier}
 use Rattle.spki_core.specs.Explicit.{IsNext, FieldRead}
 use Rattle.spki_core.specs.ObjectIdentifier.{IdentifierContents, ObjectIdentifier}
 
--- What is at the front is no text of any tag: there is no header, or fewer bytes follow than it says.
+-- What is at the front is no encoding of any tag: there is no header, or fewer bytes follow than it says.
 pub data AnyFault (kind : ErrorKind) (bytes : List ℕ) : Type 0 where
   headless : header_at bytes ≡ Err kind → AnyFault kind bytes
   too_few : (t n : ℕ) (header rest : List ℕ) → HeaderText (t, n) header → bytes ≡ header ++ rest → length rest < n → kind ≡ Incomplete → AnyFault kind bytes

@@ -15,7 +15,8 @@ abbrev pub rest_under : Bool → ℕ → ℕ
 rest_under true mask = mask / 2
 rest_under false mask = mask
 
--- A field as it is written: whether it equals its default, which values have a text, and the text, which is the shortest.
+-- A field as it is written: whether it equals its default, which values have an encoding, and the encoding, which is
+-- the shortest.
 pub record Part : Type 1 where
   pub field : Field
   pub is_default : Bool

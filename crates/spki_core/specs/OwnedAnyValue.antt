@@ -1,4 +1,4 @@
--- What an owned text of any tag means.
+-- What an owned encoding of any tag means.
 use Rattle.spki_core.specs.declared.owned_any.Any.{Any}
 use Rattle.spki_core.specs.Any.{TagAndContents}
 

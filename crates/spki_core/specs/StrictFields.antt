@@ -35,7 +35,7 @@ abbrev pub NamesDefault : List Field → List ℕ → Error → Type 0
 NamesDefault fields text e = (n : ℕ) × NamesNumber n e × WritesDefault fields n text
 
 -- A walk over the contents, from the field [n] on: of each field it is known whether it equals its default.
--- A default is looked for by its octet, and each other field is skipped as a text of any tag.
+-- A default is looked for by its octet, and each other field is skipped as an encoding of any tag.
 abbrev pub Walked : ℕ → List Bool → List ℕ → Option ℕ → Type 0
 Walked n [] c found = found ≡ None
 Walked n (true ∷ ds) c found = (IsNext n c × (found ≡ Some n)) ⊎ ((IsNext n c → ⊥) × Walked (n + 1) ds c found)
@@ -46,6 +46,6 @@ Walked n (false ∷ ds) c found =
 abbrev pub number_in : TagNumber → ℕ
 number_in number = number.value
 
--- What walks over the contents of a text.
+-- What walks over the contents of an encoding.
 abbrev pub WalksOver : List Bool → List ℕ → Option ℕ → Type 0
 WalksOver ds text found = (c : List ℕ) → Means Any text (record { tag = sequence_tag; contents = c }) → Walked 0 ds c found

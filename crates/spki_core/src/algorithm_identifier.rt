@@ -27,11 +27,12 @@ use std::alloc::Global;
 pub struct AlgorithmIdentifier<P> {
     /// Which algorithm it is.
     pub oid: ObjectIdentifier,
-    /// What the algorithm is given. `None` means that no octet follows the identifier, which is another value than NULL.
+    /// What the algorithm is given. `None` means that no octet follows the identifier, which is another value than
+    /// NULL.
     pub parameters: Option<P>,
 }
 
-/// An identifier whose parameters are any text, and borrowed.
+/// An identifier whose parameters are any encoding, and borrowed.
 pub type AlgorithmIdentifierRef<'a> = AlgorithmIdentifier<AnyRef<'a>>;
 
 impl<P: Text> Contents for AlgorithmIdentifier<P> {
@@ -91,8 +92,8 @@ impl<'a, M: Memory, P: Decode<&'a [u8], M>> DecodeValue<&'a [u8], M> for Algorit
         algorithm_fault_first P.text P.Decode.fault P.delimited none P.Decode.fault_first };
 }
 
-/// Reading an identifier without parameters is never refused for want of memory, whatever type they would have: a function
-/// that does nothing, with this law as its contract.
+/// Reading an identifier without parameters is never refused for want of memory, whatever type they would have: a
+/// function that does nothing, with this law as its contract.
 pub fn identifier_alone_takes_no_memory<'a, P: Decode<&'a [u8], M>, M: Memory>()
     ensures { NothingAskedAlone ⟦<AlgorithmIdentifier<P> as Decode<&'a [u8], M>>⟧.may_allocate }
 {}
@@ -167,7 +168,7 @@ impl<P: AnyValue> AlgorithmIdentifier<P> {
     }
 }
 
-/// A type that holds an identifier whose parameters are any text.
+/// A type that holds an identifier whose parameters are any encoding.
 pub trait AsAlgorithmIdentifierRef {
     ghost use Rattle.spki_core.specs.AlgorithmValue.{algorithm_of};
 

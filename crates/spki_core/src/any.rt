@@ -1,4 +1,4 @@
-//! Texts of any tag.
+//! Encodings of any tag.
 ghost use Rattle.std.specs.Prelude.{◌≡◌, ◌≢◌, ◌≤◌, ◌<◌, ℕ, [], length, slice_index, refl, ⊤, IfOk, IsOk, IfErr, IsErrAnd, IsTrue};
 ghost use Rattle.der_core.specs.Length.{limit};
 ghost use Rattle.der_core.specs.Tag.{is_allowed};
@@ -103,8 +103,8 @@ impl<'a> AnyRef<'a> {
         self.contents
     }
 
-    /// The value whose contents octets these are: the tag must be the type's (`TagUnexpected`), and the octets its whole
-    /// contents.
+    /// The value whose contents octets these are: the tag must be the type's (`TagUnexpected`), and the octets its
+    /// whole contents.
     pub fn decode_as<T: DecodeValue<&'a [u8], M> + FixedTag, M: Memory>(
         self,
         memory: M,
@@ -187,7 +187,7 @@ impl<'a, M: Memory> Decode<&'a [u8], M> for AnyRef<'a> {
     ghost fault_first = { any_fault_first };
 }
 
-/// Reads the text at the front of the reader.
+/// Reads the encoding at the front of the reader.
 #[inline(always)]
 fn read_any<'a, R: Reader<&'a [u8]>>(reader: &mut R) -> Result<AnyRef<'a>>
     ensures text { ReadsText (λ (any : AnyRef). record { tag = any.tag.octet; contents = any.contents.now })
@@ -238,7 +238,7 @@ impl<'a> TryClone for AnyRef<'a> {
     }
 }
 
-/// A type that holds a tag with contents octets: its texts are texts of any tag.
+/// A type that holds a tag with contents octets: its encodings are encodings of any tag.
 pub trait AnyValue: EqualByValue {
     ghost use Rattle.spki_core.specs.AnyRefValue.{any_of};
     ghost use Rattle.spki_core.specs.AnyValues.{HoldsAny};
@@ -272,7 +272,7 @@ impl AnyValue for AnyRef<'_> {
     ghost holds = { holds_itself any_of };
 }
 
-/// Parameters that are texts of any tag, and that can be made without memory.
+/// Parameters that are encodings of any tag, and that can be made without memory.
 pub trait AnyParams<M: Memory>: AnyValue + Sized {
     /// A tag with no contents octet.
     fn empty(memory: M, tag: Tag) -> Self

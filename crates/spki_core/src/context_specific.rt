@@ -20,7 +20,7 @@ use der_core::{
 pub struct ContextSpecificRef<'b, T> {
     /// The number in the tag.
     pub tag_number: TagNumber,
-    /// The value, whose one text is the contents of the tag.
+    /// The value, whose one encoding is the contents of the tag.
     pub value: &'b T,
 }
 
@@ -84,8 +84,8 @@ pub fn is_field_next<'a, R: Reader<&'a [u8]>>(reader: &mut R, number: TagNumber)
     is_tag_next(reader, Tag::context(number))
 }
 
-/// Reads the value of an explicit field exactly where the octet of its tag comes next. The tag wraps exactly one text:
-/// bytes behind that are `TrailingData`. On a reader that has failed the answer is `Failed`.
+/// Reads the value of an explicit field exactly where the octet of its tag comes next. The tag wraps exactly one
+/// encoding: bytes behind that are `TrailingData`. On a reader that has failed the answer is `Failed`.
 pub fn read_context_specific<'a, T: Decode<&'a [u8], M>, M: Memory, R: Reader<&'a [u8]>>(
     memory: M,
     reader: &mut R,
@@ -109,7 +109,7 @@ pub fn read_context_specific<'a, T: Decode<&'a [u8], M>, M: Memory, R: Reader<&'
     Ok(Some(value))
 }
 
-/// Reads one text inside the tag of a field.
+/// Reads one encoding inside the tag of a field.
 #[inline(always)]
 pub fn read_explicit<'a, T: Decode<&'a [u8], M>, M: Memory, R: Reader<&'a [u8]>>(
     memory: M,
@@ -129,7 +129,7 @@ pub fn read_explicit<'a, T: Decode<&'a [u8], M>, M: Memory, R: Reader<&'a [u8]>>
     read_inside(memory, reader, Tag::context(number))
 }
 
-/// Reads one text inside a tag.
+/// Reads one encoding inside a tag.
 #[inline(always)]
 fn read_inside<'a, T: Decode<&'a [u8], M>, M: Memory, R: Reader<&'a [u8]>>(
     memory: M,

@@ -16,8 +16,8 @@ use der_core::{
     BackWriter, Decode, Encode, ErrorKind, Length, Memory, Reader, Result, TagNumber, Text, Writer,
 };
 
-/// Reads an explicit field, or takes its default where the octet of its tag isn't next. Where a default is dear to make,
-/// ask `is_field_next` first. On a reader that has failed the answer is `Failed`.
+/// Reads an explicit field, or takes its default where the octet of its tag isn't next. Where a default is dear to
+/// make, ask `is_field_next` first. On a reader that has failed the answer is `Failed`.
 #[inline(always)]
 pub fn read_field<'a, T: Decode<&'a [u8], M>, M: Memory, R: Reader<&'a [u8]>>(
     memory: M,

@@ -1,4 +1,4 @@
-//! Algorithm identifiers, texts of any tag, and explicit fields, over the DER kernel.
+//! Algorithm identifiers, encodings of any tag, and explicit fields, over the DER kernel.
 #![tactic(auto)]
 
 mod algorithm_identifier;

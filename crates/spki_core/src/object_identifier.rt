@@ -91,8 +91,8 @@ impl ObjectIdentifier {
         &self.octets[..self.length as usize]
     }
 
-    /// The identifier whose contents octets are the first ones of these, the others zeros: it takes no copying of a length
-    /// that is known only when it runs.
+    /// The identifier whose contents octets are the first ones of these, the others zeros: it takes no copying of a
+    /// length that is known only when it runs.
     #[inline(always)]
     pub fn padded(octets: [u8; 39], length: u8) -> ObjectIdentifier
         requires fits { length ≤ 39 }

@@ -1,4 +1,4 @@
-//! Texts of any tag that own their contents.
+//! Encodings of any tag that own their contents.
 ghost use Rattle.std.specs.Prelude.{◌≡◌, ◌≤◌, ◌<◌, ◌⊎◌, ℕ, length, slice_index, IfOk, IfErr};
 ghost use Rattle.der_core.specs.Length.{limit};
 ghost use Rattle.spki_core.specs.Any.{TagAndContents, IsAny, written_any};

@@ -1,4 +1,4 @@
--- A text is a document in one way.
+-- An encoding is a document in one way.
 use mathlib.Core.HLevel.{is_prop→PathP, ×_prop, Unit-prop}
 use denote.Struct.Props.{props}
 use Rattle.std.specs.Coded.{le_prop}

@@ -18,7 +18,7 @@ both true true e = (refl, refl)
 both true false e = cc
 both false b e = cc
 
--- Two parts, which the whole is made of and gives back.
+-- Two parts that make up the whole.
 pub both_decide : {A B C : Type 0} {a b : Bool} → Decides a A → Decides b B → (A → B → C) → (C → A) → (C → B) → Decides (a && b) C
 both_decide {A} {B} {C} {a} {b} p q make first second = (
   λ e. let w = both a b e in make (p.0 w.0) (q.0 w.1),

@@ -1,4 +1,4 @@
--- Reading the text of one value that is expected, of a type that has others.
+-- Reading the encoding of one value that is expected, of a type that has others.
 use Rattle.std.proofs.Common.{◌≡◌, ◌≢◌, ℕ, ◌≤◌, List, ◌∷◌, ◌++◌, length, refl, sym, ap, ◌∙◌, arith, append_assoc, length-append, inl, inr, ⊎_elim, None}
 use Rattle.der_core.specs.declared.error.ErrorKind.{ErrorKind}
 use Rattle.der_core.specs.declared.tag.Tag.{Tag}
@@ -54,7 +54,7 @@ module _ {V : Type 0} (Contents : V → List ℕ → Type 0) (Fault : ErrorKind 
     as_wanted k b (too_short n header rest h is few kind) = too_short n header rest h is few kind
     as_wanted k b (in_contents header c rest h is fault) = in_contents header c rest h is (inl fault)
 
-    -- what is read has a fault, and no memory was asked for
+    -- the encoding has a fault, and no memory was asked for
     pub expected_faults : (before : Input) (e : ErrorKind) → FaultyFront (TextFault tag Fault) (Tlv tag.octet (λ _. ⊥)) e before → FaultyFront (TextFault tag Wanted) (λ _. ⊥) e before
     expected_faults before e fault i is = ⊎_elim (λ w. absurd w.1.3.holds) (λ f. inr (as_wanted e i f)) (fault i is)
 

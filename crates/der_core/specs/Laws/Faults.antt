@@ -46,7 +46,7 @@ small_fault_first j k c within p q = err_one _ j k p q
 read_as : {t n : ℕ} (i header rest : List ℕ) → HeaderText (t, n) header → i ≡ header ++ rest → header_at i ≡ Ok ((t, n), rest)
 read_as {t} {n} i header rest h is = ap header_at is ∙ header_complete (t, n) header rest h
 
--- A text with a tag.
+-- An encoding with a tag.
 module _ (tag : Tag) (Fault : ErrorKind → List ℕ → Type 0) where
   pub text_fault_none : {V : Type 0} (contents : V → List ℕ → Type 0) → AreNone (NoneHas contents) Fault → AreNone (NoneIn (λ v. Tlv tag.octet (contents v))) (TextFault tag Fault)
   text_fault_none contents none k i within (in_header e) = (
@@ -80,7 +80,7 @@ module _ (tag : Tag) (Fault : ErrorKind → List ℕ → Type 0) where
             told.1 v (rw same.0 text.holds),
       )
 
-  -- the fault, by what is read of the header
+  -- the fault, by the result of reading the header
   FaultAt : ErrorKind → Result ((ℕ × ℕ) × List ℕ) ErrorKind → Type 0
   FaultAt k (Err e) = e ≡ k
   FaultAt k (Ok p) =
@@ -178,7 +178,7 @@ module _ {V : Type 0} (text : V → List ℕ → Type 0) (Fault : ErrorKind → 
   pub items_fault_first : AreFirst Fault → AreFirst (ItemsFault text Fault)
   items_fault_first first j k c within (vs, (x, y, p, (m, f), is)) (ws, (z, w, q, (n, g), are)) = items_one first vs ws j k c x y z w within p is m f q are n g
 
--- One text, or a last part.
+-- One encoding, or a last part.
 module _ {V : Type 0} (text : V → List ℕ → Type 0) (Fault : ErrorKind → List ℕ → Type 0) (d : IsDelimited text) (none : AreNone (NoneIn text) Fault) where
   pub alone_fault_none : AreNone (NoneHas text) (AloneFault text Fault)
   alone_fault_none k c within fault =
@@ -218,7 +218,7 @@ no_fault_none Lacks k c within f = absurd f
 pub no_fault_first : AreFirst NoFault
 no_fault_first j k c within f g = absurd f
 
--- A text with a tag, as a whole slice, and as a last part that is known by its tag.
+-- An encoding with a tag, as a whole slice, and as a last part that is known by its tag.
 module _ {V : Type 0} (tag : Tag) (Contents : V → List ℕ → Type 0) (Fault : ErrorKind → List ℕ → Type 0) (means : MeansOne Contents) (none : AreNone (NoneHas Contents) Fault) where
   abbrev Tagged : V → List ℕ → Type 0
   Tagged v b = Tlv tag.octet (Contents v) b
@@ -261,18 +261,18 @@ document_fault_none k b fault means = tagged_whole_none {V = Unit {0}} sequence 
 pub document_fault_first : (j k : ErrorKind) (b : List ℕ) → DocumentFault j b → DocumentFault k b → j ≡ k
 document_fault_first = tagged_whole_first {V = Unit {0}} sequence (λ _. AreBytes) NoFault (λ v w c p q. refl) (no_fault_none _) no_fault_first
 
--- Of bytes with a fault the refusal is that of the fault, or want of memory.
+-- Bytes with a fault give the error of that fault, or out of memory.
 module _ (Fault : ErrorKind → List ℕ → Type 0) (first : (j k : ErrorKind) (b : List ℕ) → Fault j b → Fault k b → j ≡ k) where
   pub faulty_first : (e kind : ErrorKind) (b : List ℕ) {asked : Type 0} → Fault kind b → Faulty e asked (Fault e b) → Faulty e asked (e ≡ kind)
   faulty_first e kind b fault (inl w) = inl w
   faulty_first e kind b fault (inr f) = inr (first e kind b f fault)
 
--- The same of a reader.
+-- The same for a reader.
 pub only_refused : (Fault : ErrorKind → List ℕ → Type 0) → AreFirst Fault → (asked : List ℕ → Type 0) (e : ErrorKind) (before : Input) → length (left_in before) ≤ limit → FaultyWhole Fault asked e before
     → (kind : ErrorKind) (c : List ℕ) → before ≡ Some c → Fault kind c → Faulty e (asked c) (e ≡ kind)
 only_refused Fault first asked e before within faulty kind c is fault = ⊎_elim inl (λ f. inr (first e kind c (rw is at within) f fault)) (faulty c is)
 
--- What is read of the front of a reader is refused where there is a fault, by that.
+-- Reading at the front of what is left gives the error of the fault there.
 module _ {X V : Type 0} (value : X → V) (text : V → List ℕ → Type 0) (Fault : ErrorKind → List ℕ → Type 0) (may_allocate : List ℕ → Type 0) (none : AreNone (NoneIn text) Fault) (first : AreFirst Fault) where
   pub only_front : (r : Result X Error) (before after : Input) → length (left_in before) ≤ limit → ReadsText value text may_allocate r before after → IfErr r (λ e. FaultyFront Fault may_allocate e.kind before)
       → OnlyFront Fault may_allocate r before
@@ -282,7 +282,7 @@ module _ {X V : Type 0} (value : X → V) (text : V → List ℕ → Type 0) (Fa
       absurd ((none kind i (rw is at within) fault).1 (value x) reads.0 reads.1 same reads.4)
   only_front (Err e) before after within reads exact kind i is fault = only_refused Fault first (AllocatesIn may_allocate) e.kind before within exact kind i is fault
 
--- The same of all that is left, as contents.
+-- The same for all that is left, read as contents.
 pub only_contents : {X V : Type 0} (value : X → V) (contents : V → List ℕ → Type 0) (Fault : ErrorKind → List ℕ → Type 0) (asked : List ℕ → Type 0) → AreNone (NoneHas contents) Fault → AreFirst Fault
     → (r : Result X Error) (before after : Input) → length (left_in before) ≤ limit → ReadsOrFaults value contents Fault asked r before after → OnlyWhole Fault asked r before
 only_contents value contents Fault asked none first (Ok x) before after within reads kind c is fault =
@@ -291,7 +291,7 @@ only_contents value contents Fault asked none first (Ok x) before after within r
     absurd ((none kind c (rw is at within) fault).1 (value x) (rw same reads.3))
 only_contents value contents Fault asked none first (Err e) before after within reads kind c is fault = only_refused Fault first asked e.kind before within reads.1 kind c is fault
 
--- Where memory isn't asked for, it isn't wanted.
+-- Without asking for memory, it doesn't run out.
 pub not_asked : {X : Type 0} {asked : Type 0} (Fault : ErrorKind → Type 0) → (asked → ⊥) → (r : Result X Error) → IfErr r (λ e. Faulty e.kind asked (Fault e.kind)) → IfErr r (λ e. Fault e.kind)
 not_asked Fault never (Ok x) h = tt
 not_asked Fault never (Err e) h = ⊎_elim (λ w. absurd (never w.1)) (λ f. f) h

@@ -1,4 +1,4 @@
--- A text that stands at the front of a slice.
+-- An encoding that stands at the front of a slice.
 use Rattle.std.proofs.Common.{◌≡◌, ℕ, ◌≤◌, List, ◌++◌, length, take, drop, ap, ◌∙◌, arith, length-append}
 use Rattle.std.proofs.Math.Seq.{take-append_seam, drop-append_seam}
 

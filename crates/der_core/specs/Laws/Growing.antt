@@ -1,26 +1,27 @@
--- A text by its contents: it is the same where they are, it grows with them, it is no shorter, and it is a text of what else holds of them.
+-- An encoding by its contents: it is the same where they are, it grows with them, it is no shorter, and it is an
+-- encoding of what else holds of them.
 use Rattle.std.proofs.Common.{ℕ, List, ◌≡◌, ◌≤◌, ◌+◌, length, arith, length-append}
 use Rattle.der_core.specs.Length.{IsLength}
 use Rattle.der_core.specs.Laws.Length.{length_same, length_grows}
 use Rattle.der_core.specs.Tlv.{Tlv}
 
--- Texts of one tag with the same contents are the same.
+-- Encodings of one tag with the same contents are the same.
 pub tlv_same : {t : ℕ} {P Q : List ℕ → Type 0} (x y : List ℕ) (p : Tlv t P x) (q : Tlv t Q y) → p.contents ≡ q.contents → x ≡ y
 tlv_same x y p q c =
     let l : IsLength (length q.contents) p.octets = rw c at p.counted in
     let o : p.octets ≡ q.octets = length_same (length q.contents) p.octets q.octets l q.counted in
     rw (p.written, q.written, c, o)
 
--- Longer contents make a text longer by no less.
+-- Longer contents make an encoding longer by no less.
 pub tlv_grows : {t u : ℕ} {P Q : List ℕ → Type 0} (n : ℕ) (x y : List ℕ) (p : Tlv t P x) (q : Tlv u Q y) → length p.contents + n ≤ length q.contents → length x + n ≤ length y
 tlv_grows n x y p q l =
     let o : length p.octets ≤ length q.octets = length_grows (length p.contents) (length q.contents) p.octets q.octets p.counted q.counted (omega arith) in
     rw (p.written, q.written) (omega (arith, length-append p.octets p.contents, length-append q.octets q.contents))
 
--- Contents are no longer than the text.
+-- Contents are no longer than the encoding.
 pub contents_shorter : {t : ℕ} {P : List ℕ → Type 0} (x : List ℕ) (p : Tlv t P x) → length p.contents ≤ length x
 contents_shorter x p = rw p.written (omega (arith, length-append p.octets p.contents))
 
--- The same text, seen as one with other contents.
+-- The same encoding, seen as one with other contents.
 pub tlv_recast : {t : ℕ} {P Q : List ℕ → Type 0} (x : List ℕ) (p : Tlv t P x) → Q p.contents → Tlv t Q x
 tlv_recast x p q = record { octets = p.octets; contents = p.contents; counted = p.counted; holds = q; written = p.written }

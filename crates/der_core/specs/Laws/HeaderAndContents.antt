@@ -1,4 +1,4 @@
--- Reading a text by its header and its contents.
+-- Reading an encoding by its header and its contents.
 use Rattle.std.proofs.Common.{◌≡◌, ◌≢◌, ℕ, ◌<◌, ◌≤◌, List, [], ◌∷◌, ◌++◌, length, take, drop, refl, sym, ap, ◌∙◌, arith, length-append, append_assoc, inl, inr, ⊎_elim, Ok, Err, Some, None, true, false, Bool}
 use Rattle.std.proofs.Common.{length-take}
 use Rattle.std.proofs.lemmas.Bool.Decides.{nat_tests}
@@ -22,7 +22,7 @@ use Rattle.der_core.specs.Laws.Sequences.{some_same}
 use Rattle.der_core.specs.Laws.Headers.{tlv_header, header_at-sound, header_at-tells, header_sound}
 use Rattle.der_core.specs.Laws.Tells.{is_incomplete}
 
--- What is said of a refusal for which no text is at the front.
+-- What an error ensures: no encoding is at the front.
 abbrev pub RefusesText : {V : Type 0} → ℕ → (V → List ℕ → Type 0) → (List ℕ → Type 0) → ErrorKind → Input → Input → Type 0
 RefusesText tag contents may_allocate e before after =
     (after ≡ None) × (before ≡ None → e ≡ Failed)
@@ -70,7 +70,7 @@ abbrev pub Headed : Input → Input → ℕ → ℕ → Type 0
 Headed before mid t n = (left : List ℕ) × (read_from before header_at ≡ Ok ((t, n), left)) × (mid ≡ Some left)
 
 module _ (V : Type 0) (tag : ℕ) (contents : V → List ℕ → Type 0) (may_allocate : List ℕ → Type 0) (allowed : IsTrue (is_allowed tag)) where
-  -- no header, so no text
+  -- no header, so no encoding
   pub refused_header : (before after : Input) (e : ErrorKind) → length (left_in before) ≤ limit
       → read_from before header_at ≡ Err e → after ≡ None → RefusesText tag contents may_allocate e before after
   refused_header None after e within read failed = (failed, λ _. cc, λ i is. cc)
@@ -87,7 +87,7 @@ module _ (V : Type 0) (tag : ℕ) (contents : V → List ℕ → Type 0) (may_al
         ),
   )
 
-  -- another tag, so no text
+  -- another tag, so no encoding
   pub refused_tag : (before after : Input) (e : ErrorKind) (t n : ℕ) (left : List ℕ) → length (left_in before) ≤ limit
       → read_from before header_at ≡ Ok ((t, n), left) → t ≢ tag → TellsOfBytes e → after ≡ None → RefusesText tag contents may_allocate e before after
   refused_tag None after e t n left within read other tells failed = cc
@@ -105,7 +105,7 @@ module _ (V : Type 0) (tag : ℕ) (contents : V → List ℕ → Type 0) (may_al
         ),
   )
 
-  -- no room for the contents, so no text
+  -- no room for the contents, so no encoding
   pub refused_room : (before after : Input) (e : ErrorKind) (n : ℕ) (left : List ℕ) → length (left_in before) ≤ limit
       → read_from before header_at ≡ Ok ((tag, n), left) → inner_of n left ≡ Err e → after ≡ None → RefusesText tag contents may_allocate e before after
   refused_room None after e n left within read less failed = cc
@@ -125,7 +125,7 @@ module _ (V : Type 0) (tag : ℕ) (contents : V → List ℕ → Type 0) (may_al
             ),
       )
 
-  -- The contents that a text at the front has are those that were handed on.
+  -- The contents of an encoding at the front are those that the header counts.
   front : (i left : List ℕ) (n : ℕ) → length i ≤ limit → header_at i ≡ Ok ((tag, n), left)
       → {P : List ℕ → Type 0} (b rest : List ℕ) (p : Tlv tag P b) → i ≡ b ++ rest → (p.contents ≡ take n left) × (rest ≡ drop n left)
   front i left n within read b rest p split =
@@ -135,7 +135,7 @@ module _ (V : Type 0) (tag : ℕ) (contents : V → List ℕ → Type 0) (may_al
       let number : n ≡ length c = ap (λ p. p.1) parts.0 in
       (rw (parts.1, number) (sym (take-append_seam c rest)), rw (parts.1, number) (sym (drop-append_seam c rest)))
 
-  -- no value with these contents, so none with a text
+  -- no value with these contents, so none with an encoding
   pub refused_value : (before after : Input) (e : ErrorKind) (n : ℕ) (left c : List ℕ) → length (left_in before) ≤ limit → AreBytes (left_in before)
       → read_from before header_at ≡ Ok ((tag, n), left) → inner_of n left ≡ Ok (Some c, drop n left)
       → Refuses e (may_allocate c) ((v : V) → contents v c → ⊥) → after ≡ None → RefusesText tag contents may_allocate e before after
@@ -169,7 +169,7 @@ module _ (V : Type 0) (tag : ℕ) (contents : V → List ℕ → Type 0) (may_al
             why,
       )
 
-  -- a text
+  -- an encoding
   pub accepted : (before : Input) (n : ℕ) (left c : List ℕ) (v : V) → AreBytes (left_in before)
       → read_from before header_at ≡ Ok ((tag, n), left) → inner_of n left ≡ Ok (Some c, drop n left) → contents v c
       → (b : List ℕ) × (before ≡ Some (b ++ drop n left)) × Tlv tag (contents v) b
@@ -183,7 +183,7 @@ module _ (V : Type 0) (tag : ℕ) (contents : V → List ℕ → Type 0) (may_al
       whole.2 ∙ ap (λ l. tag ∷ l) (ap (λ l. s ++ l) (sym (take-append-drop n left)) ∙ (rw (← taken.0) (sym (append_assoc s c (drop n left))))) in
       (tag ∷ s ++ c, ap (λ l. Some l) all, record { octets = s; contents = c; counted = rw len whole.1; holds = has; written = refl })
 
-  -- the same three, as the steps of the code have them
+  -- the same three, as the steps of the code state them
   pub room_refused : (before mid after : Input) (e : ErrorKind) (t n : ℕ) → length (left_in before) ≤ limit
       → Headed before mid t n → t ≡ tag → read_from mid (inner_of n) ≡ Err e → after ≡ None → RefusesText tag contents may_allocate e before after
   room_refused before mid after e t n within head same less failed =
@@ -210,7 +210,7 @@ module _ (V : Type 0) (tag : ℕ) (contents : V → List ℕ → Type 0) (may_al
       let found = accepted before n head.0 (take n head.0) v octets read cases.2 (rw c_is got.3) in
       (found.0, drop n head.0, found.1, nested.2 ∙ ap (λ l. Some l) cases.1, found.2)
 
--- The octet of a tag is next, and no text is there.
+-- The tag's octet is next, and no encoding is there.
 pub next_refused : {V : Type 0} (t : ℕ) (text : V → List ℕ → Type 0) (may_allocate : List ℕ → Type 0) (e : ErrorKind) (before mid after : Input)
     → TellsNext t (Ok true) before mid → (after ≡ None) × (mid ≡ None → e ≡ Failed) × ((i : List ℕ) → mid ≡ Some i → Refuses e (AllocatesIn may_allocate i) (NoneIn text i))
     → (after ≡ None) × (before ≡ None → e ≡ Failed) × ((i : List ℕ) → before ≡ Some i → (slice_get i 0 ≡ Some t) × Refuses e (AllocatesIn may_allocate i) (NoneIn text i))
@@ -225,7 +225,7 @@ pub faulty_none : {Lacks : List ℕ → Type 0} {Fault : ErrorKind → List ℕ 
     → ((c : List ℕ) → inner ≡ Some c → Faulty e (may_allocate c) (Fault e c)) → (c : List ℕ) → inner ≡ Some c → Refuses e (may_allocate c) (Lacks c)
 faulty_none none may_allocate inner e within why c is = ⊎_elim inl (λ f. inr (none e c (rw is at within) f)) (why c is)
 
--- The first fault of a text, as the steps of the code have it.
+-- The first fault of an encoding, as the steps of the code state it.
 module _ (tag : Tag) (Fault : ErrorKind → List ℕ → Type 0) (may_allocate : List ℕ → Type 0) where
   pub header_faults : (before : Input) (e : ErrorKind) → read_from before header_at ≡ Err e → FaultyFront (TextFault tag Fault) (Tlv tag.octet may_allocate) e before
   header_faults before e read i is = inr (in_header (rw is at read))

@@ -1,4 +1,4 @@
--- Laws of headers and texts.
+-- Laws of headers and encodings.
 use Rattle.std.proofs.Common.{◌≡◌, ℕ, ◌-◌, ◌≤◌, List, [], ◌∷◌, ◌++◌, length, take, refl, sym, ap, ◌∙◌, arith, length-append, append_assoc, inr, ⊎_elim, Result, Ok, Err, true, Some, None}
 use Rattle.std.specs.Prelude.{nat_lt, ◌==◌, IsTrue}
 use Rattle.std.specs.Int.Digits.{number_from_digits}
@@ -47,7 +47,7 @@ header_at-complete t n s rest allowed is within =
     let ok : is_allowed t ≡ true = allowed in
     rw (ok, length_at-complete n s rest is within) refl
 
--- A text at the front of bytes within the limit is read by its header.
+-- An encoding at the front of bytes within the limit is read by its header.
 pub tlv_header : (t : ℕ) {P : List ℕ → Type 0} (b i rest : List ℕ) → IsTrue (is_allowed t) → length i ≤ limit → (p : Tlv t P b) → i ≡ b ++ rest → header_at i ≡ Ok ((t, length p.contents), p.contents ++ rest)
 tlv_header t b i rest allowed within p is =
     let s = p.octets in
@@ -56,7 +56,7 @@ tlv_header t b i rest allowed within p is =
     let small : length c ≤ limit = omega (arith, ap length whole, length-append s (c ++ rest), length-append c rest) in
     rw whole (header_at-complete t (length c) s (c ++ rest) allowed p.counted small)
 
--- A reading of lengths is refused by what the bytes are.
+-- The errors of reading lengths are about the bytes.
 long_length_at-tells : (m : ℕ) (b : List ℕ) (k : ErrorKind) → long_length_at m b ≡ Err k → TellsOfBytes k
 long_length_at-tells m b k e =
     guard_tells (nat_lt (length b) m) Incomplete k _ (is_incomplete refl)
@@ -83,7 +83,7 @@ header_at-tells (x ∷ b) k e =
     ⊎_elim (λ w. length_at-tells b k (with_tag-err x k (length_at b) w.1)) (λ w. let is = w.1 in let same : TagUnknown x ≡ k = cc in (λ no. cc, λ no. cc, λ no. cc))
     (chosen (is_allowed x) _ _ _ e)
 
--- An exact reading reads texts, where what it answers are texts and what texts there are it answers.
+-- If f reads exactly the encodings, then a call that returns what f reads is one that ReadsText describes.
 module _ {Y : Type 0} (f : List ℕ → Result (Y × List ℕ) ErrorKind) (text : Y → List ℕ → Type 0)
     (sound : (i rest : List ℕ) (y : Y) → AreBytes i → f i ≡ Ok (y, rest) → (b : List ℕ) × (i ≡ b ++ rest) × text y b)
     (complete : (y : Y) (b rest : List ℕ) → text y b → f (b ++ rest) ≡ Ok (y, rest))

@@ -7,7 +7,7 @@ use Rattle.der_core.specs.Length.{limit}
 use Rattle.der_core.specs.Texts.{AreBytes}
 use Rattle.der_core.specs.Input.{left_in}
 
--- Equal answers have equal values and rests.
+-- Equal results have equal values and rests.
 pub ok_pair : {A : Type 0} (a a2 : A) (r r2 : List ℕ) (e : ◌≡◌ {A = Result (A × List ℕ) ErrorKind} (Ok (a, r)) (Ok (a2, r2))) → (a ≡ a2) × (r ≡ r2)
 ok_pair {A} a a2 r r2 e =
     let same : ◌≡◌ {A = A × List ℕ} (a, r) (a2, r2) = cc in

@@ -1,4 +1,4 @@
--- INTEGER: each text means one number, and each number has one text.
+-- INTEGER: each encoding means one number, and each number has one encoding.
 use Rattle.std.proofs.Common.{take_all, ℕ, suc, List, [], ◌∷◌, ◌≡◌, ◌<◌, ◌≤◌, ◌-◌, ◌+◌, ◌^◌, length, get_or, take, drop, refl, sym, ap, ◌∙◌, arith, inl, inr}
 use Rattle.std.specs.Prelude.{slice_index}
 use Rattle.std.specs.Int.Digits.{number_from_digits}
@@ -106,7 +106,7 @@ tail_holds (x ∷ y ∷ ys) n h b =
     let e : take (length (x ∷ y ∷ ys) - 1) (y ∷ ys) ≡ y ∷ ys = take_all (length (x ∷ y ∷ ys) - 1) (y ∷ ys) (omega arith) in
     rw e (omega arith, (λ _. omega (arith, h)), λ i. b (suc i))
 
--- A number has a text, which is little longer than the number.
+-- A number has an encoding, which is little longer than the number.
 pub integer_made : (bytes : List ℕ) → IsCanonical bytes → length bytes < 2 ^ 64 → (text : List ℕ) × Integer bytes text × (length text < 2 ^ 65)
 integer_made bytes p h =
     let few : length (integer_contents bytes) ≤ length bytes + 1 = elim (cases_lt (slice_index bytes 0) 128) [

@@ -1,4 +1,4 @@
--- Reading texts one after another, up to the end.
+-- Reading encodings one after another, up to the end.
 use Rattle.std.proofs.Common.{◌≡◌, ℕ, ◌<◌, List, [], ◌∷◌, ◌++◌, length, refl, sym, ap, ◌∙◌, arith, append-nil, append_assoc, length-append, map, inl, inr, ⊎_elim, Option, Some, None, is_some, true, false, Bool}
 use Rattle.std.proofs.lemmas.List.{map-append}
 use Rattle.std.specs.Prelude.{slice_get}
@@ -30,7 +30,7 @@ some_left read rest c start from more whole =
     omega (arith, ap length c_is, length-append read rest, more)
 
 module _ (V : Type 0) (text : V → List ℕ → Type 0) (d : IsDelimited text) where
-  -- one more text at the end
+  -- one more encoding at the end
   joins_push : (vs : List V) (w : V) (c a : List ℕ) → Joins (map text vs) c → text w a → Joins (map text (vs ++ w ∷ [])) (c ++ a)
   joins_push [] w c a p q = (a, [], q, refl, ap (λ l. l ++ a) p ∙ sym (append-nil a))
   joins_push (v ∷ vs) w c a p q = (p.0, p.1 ++ a, p.2, joins_push vs w p.1 a p.3 q, ap (λ l. l ++ a) p.4 ∙ append_assoc p.0 p.1 a)

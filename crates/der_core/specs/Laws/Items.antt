@@ -1,4 +1,4 @@
--- The texts of a list of items, by those of its parts.
+-- The encodings of a list of items, by those of its parts.
 use Rattle.std.proofs.Common.{◌≡◌, ℕ, ◌+◌, ◌≤◌, ◌<◌, List, [], ◌∷◌, ◌++◌, length, take, drop, get_or, map, arith, ap, sym, ◌∙◌, append_assoc, length-append, refl}
 use Rattle.std.proofs.lemmas.List.{append-nil, take_more, drop_more, take-append-drop}
 use Rattle.std.specs.Prelude.{Result}

@@ -1,4 +1,4 @@
--- Reading all that is left as one text, or as nothing or one text.
+-- Reading all that is left as one encoding, or as nothing or one encoding.
 use Rattle.std.proofs.Common.{◌≡◌, ℕ, ◌<◌, List, [], ◌∷◌, ◌++◌, length, refl, sym, ap, ◌∙◌, arith, append-nil, inl, inr, ⊎_elim, Err, Option, Some, None, Bool, true, false}
 use Rattle.std.specs.Prelude.{slice_get, is_some, not}
 use Rattle.der_core.specs.declared.error.ErrorKind.{ErrorKind}
@@ -26,7 +26,7 @@ module _ {V : Type 0} (text : V → List ℕ → Type 0) (may_allocate : List �
             inr (is_trailing more.0, λ w has. trailing_none d c gives.0 more.1 more.2 x gives.4 whole w has),
       )
 
-  -- something is left, and it isn't one text
+  -- something is left, and it isn't one encoding
   pub last_fails : (before after : Input) (e : ErrorKind) → 0 < length (left_in before) → ContentsFail text may_allocate e before after
       → ContentsFail (Optional text) (λ c. (0 < length c) × may_allocate c) e before after
   last_fails before after e more fails =
@@ -41,7 +41,7 @@ peek_more None r o e f g = let no : false ≡ true = ap is_some (sym g) ∙ f �
 peek_more (Some []) r o e f g = let no : false ≡ true = ap is_some (sym g) ∙ f ∙ ap not e in cc
 peek_more (Some (x ∷ xs)) r o e f g = omega arith
 
--- The same refusal, of what asks for more.
+-- The same error, where more may ask for memory.
 pub allocates_more : {A : Type 0} (text : A → List ℕ → Type 0) (may_allocate more : List ℕ → Type 0) → ((b : List ℕ) → may_allocate b → more b)
     → (before after : Input) (e : ErrorKind) → TextFails text may_allocate e before after → TextFails text more e before after
 allocates_more text may_allocate more f before after e fails =

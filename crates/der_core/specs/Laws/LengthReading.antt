@@ -57,7 +57,7 @@ overlong_not [] h e = absurd (omega (arith, h))
 overlong_not (x ∷ []) h e = let big : 128 ≤ x = omega (arith, e) in grind (arith, nat_tests)
 overlong_not (x ∷ y ∷ ys) h e = grind (arith, nat_tests)
 
--- equal answers have equal values and rests
+-- equal results have equal values and rests
 pub ok_pair : {A : Type 0} (a a2 : A) (r r2 : List ℕ) (e : ◌≡◌ {A = Result (A × List ℕ) ErrorKind} (Ok (a, r)) (Ok (a2, r2))) → (a ≡ a2) × (r ≡ r2)
 ok_pair {A} a a2 r r2 e =
     let same : ◌≡◌ {A = A × List ℕ} (a, r) (a2, r2) = cc in

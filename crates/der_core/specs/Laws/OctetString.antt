@@ -1,4 +1,4 @@
--- OCTET STRING: each text means one list of octets and is bytes, and each list of octets has one text.
+-- OCTET STRING: each encoding means one list of octets and is bytes, and each list of octets has one encoding.
 use Rattle.std.proofs.Common.{ℕ, List, ◌≤◌, length, refl, sym, ap, ◌∙◌, arith}
 use Rattle.der_core.specs.Tag.{octet_string_tag}
 use Rattle.der_core.specs.Texts.{AreBytes, AtMostOne, IsDelimited, MeansOne, IsOfBytes}

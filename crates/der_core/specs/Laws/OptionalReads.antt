@@ -36,7 +36,7 @@ module _ {X V : Type 0} (value : X → V) (t : ℕ) (Contents : V → List ℕ �
       let s = tlv_split f.0 f.1 c [] f.4 has (same ∙ sym (append-nil c)) in
       f.3 ∙ ap (λ l. Some l) s.2
 
-  -- its text is refused
+  -- its encoding is rejected
   pub part_fails : (before after : Input) (e : Error) → Found (Err e) before after
       → (after ≡ None) × ((c : List ℕ) → before ≡ Some c → Refuses e.kind ⊥ ((o : Option V) → Optional Text o c → ⊥))
   part_fails before after e f = (f.0, λ c is. let g = f.2 c is in ⊎_elim (λ w. absurd w.1.3.holds) (λ w. inr (w.0, λ o has. none c g.0 w.1 o has)) g.1)

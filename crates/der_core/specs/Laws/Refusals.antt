@@ -8,21 +8,21 @@ use Rattle.der_core.specs.Writing.{IsLeast, IsUncounted, Counts, Stops, encode_r
 use Rattle.der_core.specs.declared.error.Error.{Error}
 
 module _ {V : Type 0} (Grammar : V → List ℕ → Type 0) (v : V) where
-  -- the same of a value that has a text
+  -- the same of a value that has an encoding
   pub refused_as : (has : Type 0) (room : ℕ) → HasText Grammar v → (k : EncodeRefusal) → IsRefused has Grammar v room k → IsRefused (HasText Grammar v) Grammar v room k
   refused_as has room some no_text h = h
   refused_as has room some too_long h = (some, h.1)
   refused_as has room some no_room h = h
   refused_as has room some another h = h
 
-  -- the same of a value that has a text where it has what is written
+  -- the same of a value that has an encoding where it has what is written
   pub refused_by : (has : Type 0) (room : ℕ) → (has → HasText Grammar v) → (k : EncodeRefusal) → IsRefused has Grammar v room k → IsRefused (HasText Grammar v) Grammar v room k
   refused_by has room some no_text h = h
   refused_by has room some too_long h = (some h.0, h.1)
   refused_by has room some no_room h = h
   refused_by has room some another h = h
 
--- What is said of the text that is written, said of the grammar.
+-- What holds of the encoding that is written, stated by the grammar.
 module _ {V : Type 0} (Grammar : V → List ℕ → Type 0) (v : V) {has : Type 0} (written : List ℕ) (least : (b : List ℕ) → Grammar v b → IsLeast has written b) where
   none_fits : limit < length written → (text : List ℕ) → Means Grammar text v → ⊥
   none_fits long text p = omega (arith, long, p.0, (least text p.1).1)
@@ -37,7 +37,7 @@ module _ {V : Type 0} (Grammar : V → List ℕ → Type 0) (v : V) {has : Type 
   uncounted (Ok n) h = tt
   uncounted (Err e) h = uncounted_as (encode_refusal e.kind) h
 
-  -- what is written is the shortest text
+  -- what is written is the shortest encoding
   pub shortest_is : Grammar v written → length written ≤ limit → IsShortest Grammar v written
   shortest_is relates fits = record {
     spells = (fits, relates);

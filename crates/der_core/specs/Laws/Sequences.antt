@@ -9,7 +9,7 @@ use Rattle.der_core.specs.Length.{limit}
 use Rattle.der_core.specs.Reading.{AllocatesIn, NoneIn, Refuses, AllocatesWithin, AllocatesBehind}
 use Rattle.der_core.specs.Laws.Input.{ok_pair}
 
--- what decode ensures of a refusal, and of a value
+-- what decode ensures of an error, and of a value
 abbrev pub TextFails : {A : Type 0} → (A → List ℕ → Type 0) → (List ℕ → Type 0) → ErrorKind → Input → Input → Type 0
 TextFails text may_allocate e before after =
     (after ≡ None) × (before ≡ None → e ≡ Failed) × ((i : List ℕ) → before ≡ Some i → Refuses e (AllocatesIn may_allocate i) (NoneIn text i))
@@ -17,7 +17,7 @@ TextFails text may_allocate e before after =
 abbrev pub TextGives : {A : Type 0} → (A → List ℕ → Type 0) → A → Input → Input → Type 0
 TextGives text x before after = (b : List ℕ) × (rest : List ℕ) × (before ≡ Some (b ++ rest)) × (after ≡ Some rest) × text x b
 
--- what decode_value is to ensure of a refusal, and of a value
+-- what decode_value has to ensure of an error, and of a value
 abbrev pub ContentsFail : {V : Type 0} → (V → List ℕ → Type 0) → (List ℕ → Type 0) → ErrorKind → Input → Input → Type 0
 ContentsFail {V} contents may_allocate e before after =
     (after ≡ None) × ((c : List ℕ) → before ≡ Some c → Refuses e (may_allocate c) ((v : V) → contents v c → ⊥))
@@ -25,7 +25,7 @@ ContentsFail {V} contents may_allocate e before after =
 abbrev pub ContentsGive : (List ℕ → Type 0) → Input → Input → Type 0
 ContentsGive Contents before after = (c : List ℕ) × (before ≡ Some c) × (after ≡ Some []) × Contents c
 
--- A front is a piece, and so is what is behind a text.
+-- A front is a piece, and so is what is behind an encoding.
 pub front_within : {may_allocate : List ℕ → Type 0} (c : List ℕ) → AllocatesIn may_allocate c → AllocatesWithin may_allocate c
 front_within c w = ([], w.0, w.1, w.2, w.3)
 
@@ -44,7 +44,7 @@ pub end_gives : (mid after : Input) → ((rest : List ℕ) × (read_from mid end
 end_gives None after h = let no = h.1 in cc
 end_gives (Some r) after h = let ends = end_is (Some r) r h.0 refl h.1 in ([], ap (λ l. Some l) ends.0, h.2 ∙ ap (λ l. Some l) ends.1, refl)
 
--- what decode_value is to ensure of the fault of a refusal
+-- what decode_value has to ensure of the fault of an error
 abbrev pub ContentsFaulty : (ErrorKind → List ℕ → Type 0) → (List ℕ → Type 0) → ErrorKind → Input → Input → Type 0
 ContentsFaulty Fault may_allocate e before after = (after ≡ None) × ((c : List ℕ) → before ≡ Some c → Faulty e (may_allocate c) (Fault e c))
 

@@ -1,4 +1,4 @@
--- A text is little longer than its contents.
+-- An encoding is little longer than its contents.
 use Rattle.std.proofs.Common.{ℕ, List, ◌≤◌, ◌<◌, ◌+◌, ◌^◌, length, arith, length-append}
 use Rattle.der_core.specs.Length.{length_octets}
 use Rattle.der_core.specs.Laws.Length.{length_few, length_octets-within}

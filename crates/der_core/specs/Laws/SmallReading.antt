@@ -67,7 +67,7 @@ small_none n c k e p = let r : small_of c ≡ Ok n = small_read n c p in let no 
 pub integer_none : (bytes c : List ℕ) (k : ErrorKind) → integer_of c ≡ Err k → IntegerContents bytes c → ⊥
 integer_none bytes c k e p = let r : integer_of c ≡ Ok bytes = contents_read bytes c p in let no = sym r ∙ e in cc
 
--- It is refused by what the bytes are.
+-- The errors are about the bytes.
 as_tells : (k : ErrorKind) (r : Result (List ℕ) ErrorKind) → ((d : ErrorKind) → r ≡ Err d → TellsOfBytes d) → as_small r ≡ Err k → TellsOfBytes k
 as_tells k (Err d) h e = let same : d ≡ k = cc in h k (ap (λ x. Err x) same)
 as_tells k (Ok bytes) h e = elim (chosen (nat_lt (number_from_digits 256 bytes) 256) _ _ _ e) [

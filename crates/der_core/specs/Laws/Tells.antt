@@ -1,4 +1,4 @@
--- Kinds of refusals that tell of what was read.
+-- Kinds of errors that are about the bytes.
 use Rattle.std.proofs.Common.{◌≡◌, Bool, true, false, cond, Result, Err}
 use Rattle.der_core.specs.declared.error.ErrorKind.{ErrorKind}
 use Rattle.der_core.specs.declared.error.ErrorKind.TheVariants as kind
@@ -17,7 +17,7 @@ is_other_tag e = (λ no. cc, λ no. cc, λ no. cc)
 pub is_value : {k : ErrorKind} {tag : Tag} → k ≡ kind.Value tag → TellsOfBytes k
 is_value e = (λ no. cc, λ no. cc, λ no. cc)
 
--- A refusal of a kind that tells of what was read, or what is behind it.
+-- An error about the bytes, or the result that it guards.
 pub guard_tells : {X : Type 0} (b : Bool) (d k : ErrorKind) (r : Result X ErrorKind) → TellsOfBytes d → (r ≡ Err k → TellsOfBytes k) → cond b (Err d) r ≡ Err k → TellsOfBytes k
 guard_tells {X} true d k r tells behind is = same_tells d k tells is
   where

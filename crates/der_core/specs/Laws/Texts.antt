@@ -1,4 +1,4 @@
--- What the parts of a text say of the whole.
+-- What the parts of an encoding say of the whole.
 use Rattle.std.proofs.Common.{ℕ, List, [], ◌∷◌, ◌++◌, ◌≡◌, ◌<◌, ◌≤◌, ◌+◌, ◌^◌, length, refl, sym, ap, ◌∙◌, arith, map, append_assoc, length-append, append-nil}
 use Rattle.std.proofs.lemmas.List.{append_cancel_left}
 use Rattle.der_core.specs.Length.{IsLength, length_octets}
@@ -11,7 +11,7 @@ use Rattle.der_core.specs.Writing.{IsLeast}
 use Rattle.der_core.specs.Laws.Lists.{same_cons, cons_path, same_fronts}
 use Rattle.der_core.specs.Laws.Length.{length_split, length_same, length_grows, length_made, length_octets-are, length_octets-only, length_octets-within, length_few, length_of_bytes}
 
--- Two texts at the front of the same bytes are one text, with one tag and contents that both hold of.
+-- Two encodings at the front of the same bytes are one encoding, with one tag and contents that both hold of.
 pub tlv_split : {t u : ℕ} {P Q : List ℕ → Type 0} (x y x' y' : List ℕ) → Tlv t P x → Tlv u Q x' → x ++ y ≡ x' ++ y' → (x ≡ x') × (t ≡ u) × (y ≡ y') × (c : List ℕ) × P c × Q c
 tlv_split {t} {u} {P} {Q} x y x' y' p q h =
     let c : t ∷ (p.octets ++ (p.contents ++ y)) ≡ u ∷ (q.octets ++ (q.contents ++ y')) = rw (p.written, q.written, append_assoc (t ∷ p.octets) p.contents y, append_assoc (u ∷ q.octets) q.contents y') at h in
@@ -37,7 +37,7 @@ tlv_at_most_one t P m x y p q =
     let o : p.octets ≡ q.octets = length_same (length q.contents) p.octets q.octets l q.counted in
     rw (p.written, q.written, c, o)
 
--- Parts with at most one text each.
+-- Parts with at most one encoding each.
 abbrev pub AllAtMostOne : List (List ℕ → Type 0) → Type 0
 AllAtMostOne [] = Unit {0}
 AllAtMostOne (Part ∷ parts) = AtMostOne Part × AllAtMostOne parts
@@ -62,7 +62,7 @@ then_step {V} {Grammar} d {Ps} {Qs} v w c (x, y, p, i, e) (x', y', q, j, f) =
     let k : y ≡ y' = append_cancel_left x y y' g in
     (s.1, y', rw k at i, j)
 
--- Two lists of values whose texts join to the same bytes.
+-- Two lists of values whose encodings join to the same bytes.
 pub joins_map : {V : Type 0} (Grammar : V → List ℕ → Type 0) → IsDelimited Grammar → (vs ws : List V) (c : List ℕ) → Joins (map Grammar vs) c → Joins (map Grammar ws) c → vs ≡ ws
 joins_map Grammar d [] [] c p q = refl
 joins_map Grammar d [] (w ∷ ws) c e (x, y, q, j, f) = absurd (omega (arith, d.not_empty w x q, ap length e, ap length f, length-append x y))
@@ -71,7 +71,7 @@ joins_map Grammar d (v ∷ vs) (w ∷ ws) c p q =
     let s = then_step d v w c p q in
     cons_path s.0 (joins_map Grammar d vs ws s.1 s.2 s.3)
 
--- Contents that aren't too long have a text.
+-- Contents that aren't too long have an encoding.
 pub tlv_made : (t : ℕ) (P : List ℕ → Type 0) (c : List ℕ) → P c → length c < 2 ^ 128 → (text : List ℕ) × (p : Tlv t P text) × (p.contents ≡ c)
 tlv_made t P c p l =
     let o = length_made (length c) l in
@@ -130,11 +130,11 @@ joins_last c (x, y, p, e, h) = let same : c ≡ x = h ∙ ap (λ l. x ++ l) e �
 pub last_holds : {P : List ℕ → Type 0} (x : List ℕ) → P x → Joins (P ∷ []) x
 last_holds x p = (x, [], p, refl, sym (append-nil x))
 
--- A text is little longer than its contents.
+-- An encoding is little longer than its contents.
 pub tlv_little_longer : {t : ℕ} {P : List ℕ → Type 0} (text : List ℕ) (p : Tlv t P text) → length text ≤ length p.contents + 128
 tlv_little_longer text p = rw p.written (omega (arith, length_few (length p.contents) p.octets p.counted, length-append p.octets p.contents))
 
--- The length of a text, by that of its contents.
+-- The length of an encoding, by that of its contents.
 pub tlv_length : (n t : ℕ) (c text : List ℕ) → length c ≡ n → Tlv t (Is c) text → length text ≡ 1 + length (length_octets n) + n
 tlv_length n t c text e p =
     let same : p.contents ≡ c = p.holds in

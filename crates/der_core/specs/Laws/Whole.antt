@@ -13,7 +13,7 @@ pub trailing_is : (mid : Input) (rest : List ℕ) (e : ErrorKind) → mid ≡ So
 trailing_is mid [] e is read = let no = rw is at read in cc
 trailing_is mid (z ∷ zs) e is read = let yes = rw is at read in (cc, z, zs, refl)
 
--- a text was found, and bytes follow, so the whole is no text
+-- an encoding was found, and bytes follow, so the whole is no encoding
 pub trailing_none : {V : Type 0} {text : V → List ℕ → Type 0} → IsDelimited text → (i a : List ℕ) (z : ℕ) (zs : List ℕ) (x : V) → text x a → i ≡ a ++ z ∷ zs → (w : V) → text w i → ⊥
 trailing_none d i a z zs x found is w has =
     let e : a ++ z ∷ zs ≡ i ++ [] = sym is ∙ sym (append-nil i) in
@@ -23,14 +23,14 @@ trailing_none d i a z zs x found is w has =
     omega arith
 
 module _ (V : Type 0) (text : V → List ℕ → Type 0) (may_allocate : List ℕ → Type 0) where
-  -- no text at the front, so the whole is none
+  -- no encoding at the front, so the whole is none
   pub whole_refused : (before : Input) (b : List ℕ) (e : ErrorKind) → before ≡ Some b
       → ((i : List ℕ) → before ≡ Some i → Refuses e (AllocatesIn may_allocate i) (NoneIn text i))
       → Refuses e (AllocatesIn may_allocate b) ((v : V) → Means text b v → ⊥)
   whole_refused before b e is why =
       ⊎_elim inl (λ w. inr (w.0, λ v means. w.1 v b [] (sym (append-nil b)) means.1)) (why b is)
 
-  -- a text with bytes behind it, so the whole is none
+  -- an encoding with bytes behind it, so the whole is none
   pub whole_trailing : IsDelimited text → (before mid : Input) (b : List ℕ) (e : ErrorKind) (v : V) → before ≡ Some b
       → ((a : List ℕ) × (rest : List ℕ) × (before ≡ Some (a ++ rest)) × (mid ≡ Some rest) × text v a)
       → read_from mid end_of ≡ Err e

@@ -1,4 +1,4 @@
--- Texts that are written out: making one, taking one apart, and showing that there is none.
+-- Encodings that are written out: making one, taking one apart, and showing that there is none.
 use Rattle.std.proofs.Common.{ℕ, List, [], ◌∷◌, ◌++◌, ◌≡◌, ◌≢◌, ◌<◌, ◌≤◌, ◌+◌, inl, inr, length, refl, sym, ap, ◌∙◌, arith, append-nil, length-append, Ok, Err}
 use Rattle.std.proofs.lemmas.Bool.{cases_lt}
 use Rattle.std.specs.Prelude.{IsTrue, slice_index}
@@ -23,7 +23,7 @@ known_long digits bytes first big few = long digits big few (record { bytes = by
 pub known_tlv : (t : ℕ) {P : List ℕ → Type 0} (c : List ℕ) → P c → length c < 128 → Tlv t P (t ∷ length c ∷ c)
 known_tlv t c p l = record { octets = length c ∷ []; contents = c; counted = short l refl; holds = p; written = refl }
 
--- Where a text stands at the front of known bytes, its contents are known, and so is what follows.
+-- Where an encoding stands at the front of known bytes, its contents are known, and so is what follows.
 pub known_front : {t u : ℕ} {P : List ℕ → Type 0} (c rest x y : List ℕ) → Tlv t P x → (u ∷ length c ∷ c) ++ rest ≡ x ++ y → length c < 128 → (t ≡ u) × P c × (y ≡ rest)
 known_front {t} {u} c rest x y p e l =
     let k : Tlv u (Is c) (u ∷ length c ∷ c) = known_tlv u c refl l in
@@ -33,7 +33,7 @@ known_front {t} {u} c rest x y p e l =
 pub known_whole : {t u : ℕ} {P : List ℕ → Type 0} (c : List ℕ) → Tlv t P (u ∷ length c ∷ c) → length c < 128 → P c
 known_whole {t} {u} c p l = (known_front c [] (u ∷ length c ∷ c) [] p refl l).1
 
--- INTEGER texts of one byte.
+-- INTEGER encodings of one byte.
 pub integer_byte : (n : ℕ) → n < 128 → Integer (n ∷ []) (2 ∷ 1 ∷ n ∷ [])
 integer_byte n l = elim (cases_lt 0 n) [
   | inl h ↦ known_tlv 2 (n ∷ []) (inr ((omega arith, tt), h), inl (l, refl)) (omega arith)
@@ -46,7 +46,7 @@ small_byte n l = elim (cases_lt 0 n) [
   | inr h ↦ let z : n ≡ 0 = omega arith in known_tlv 2 (n ∷ []) (omega arith, n ∷ [], omega arith, (inl (rw z refl), inl (l, refl))) (omega arith)
 ]
 
--- A header that isn't read is the start of no text within the limit.
+-- A header that isn't read is the start of no encoding within the limit.
 pub refused_header : (t : ℕ) {P : List ℕ → Type 0} (x : List ℕ) (k : ErrorKind) → IsTrue (is_allowed t) → length x ≤ limit → header_at x ≡ Err k → Tlv t P x → ⊥
 refused_header t x k allowed within is p =
     let read = tlv_header t x x [] allowed within p (sym (append-nil x)) in
@@ -61,14 +61,14 @@ counted_header t u n x c allowed within is p =
     let number : n ≡ length p.contents = ap (λ q. q.1) parts.0 in
     (ap (λ q. q.0) parts.0, ap length same ∙ sym number, rw same p.holds)
 
--- A text has some byte, and its first one is the tag.
+-- An encoding has some byte, and its first one is the tag.
 pub no_bytes_refused : {t : ℕ} {P : List ℕ → Type 0} → Tlv t P [] → ⊥
 no_bytes_refused p = let e = p.written in cc
 
 pub other_tag_refused : {t : ℕ} {P : List ℕ → Type 0} (u : ℕ) (x : List ℕ) → u ≢ t → Tlv t P (u ∷ x) → ⊥
 other_tag_refused u x other p = other (same_cons p.written).0
 
--- Where there are no bytes, no text stands at their front.
+-- Where there are no bytes, no encoding stands at their front.
 pub no_part_refused : {t : ℕ} {P Rest : List ℕ → Type 0} → Then (Tlv t P) Rest [] → ⊥
 no_part_refused (x, y, p, q, e) = omega (arith, tlv_not_empty x p, ap length e, length-append x y)
 
@@ -77,7 +77,8 @@ pub no_octets_refused : (n : ℕ) → IsLength n [] → ⊥
 no_octets_refused n (short p e) = cc
 no_octets_refused n (long ds p k b e) = cc
 
--- From 128 on the first one says how many follow, and those are the length in base 256, which the short form doesn't have.
+-- From 128 on the first one says how many follow, and those are the length in base 256, which the short form doesn't
+-- have.
 pub long_form : (n x : ℕ) (ds : List ℕ) → 128 ≤ x → IsLength n (x ∷ ds) → (x ≡ 128 + length ds) × (x < 255) × (128 ≤ n) × IsBase256 n ds
 long_form n x ds h (short p e) = let s = same_cons e in absurd (omega arith)
 long_form n x ds h (long ds' p k b e) =

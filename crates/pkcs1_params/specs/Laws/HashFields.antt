@@ -1,4 +1,5 @@
--- hashAlgorithm and maskGenAlgorithm: each text means one value and is bytes, and what is written is the shortest text.
+-- hashAlgorithm and maskGenAlgorithm: each encoding means one value and is bytes, and what is written is the shortest
+-- encoding.
 use Rattle.std.proofs.Common.{ℕ, List, [], ◌∷◌, ◌≡◌, ◌<◌, ◌≤◌, ◌^◌, map, length, refl, arith}
 use Rattle.der_core.specs.Tag.{sequence_tag}
 use Rattle.der_core.specs.Texts.{IsOfBytes, Joins}

@@ -1,4 +1,5 @@
--- RSAES-OAEP parameters: each text means one value and is bytes, and what is written of a value is the shortest of its texts.
+-- RSAES-OAEP parameters: each encoding means one value and is bytes, and what is written of a value is the shortest of
+-- its encodings.
 use Rattle.std.proofs.Common.{List, [], ◌∷◌, arith}
 use Rattle.der_core.specs.Texts.{IsOfBytes, MeansOne}
 use Rattle.der_core.specs.Writing.{WritesTexts, WritesLeast}

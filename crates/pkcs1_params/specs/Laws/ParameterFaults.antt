@@ -40,7 +40,7 @@ rest_fits : {V : Type 0} (n : ℕ) (text : V → List ℕ → Type 0) (default v
 rest_fits n text default v c rest (inl p) = omega (arith, ap length p.2)
 rest_fits n text default v c rest (inr (x, y, t, k, e)) = omega (arith, ap length k, ap length e, length-append x y)
 
--- No text of the field is there.
+-- No encoding of the field is there.
 abbrev NoField : {V : Type 0} → ℕ → (V → List ℕ → Type 0) → (ErrorKind → List ℕ → Type 0) → Type 0
 NoField {V} n text Fault = (k : ErrorKind) (c : List ℕ) → length c ≤ limit → Fault k c → TellsOfBytes k × ((v : V) (rest : List ℕ) → Then (Tlv (160 + n) (text v)) (Is rest) c → ⊥)
 
@@ -71,7 +71,7 @@ module _ {V : Type 0} (n : ℕ) (text : V → List ℕ → Type 0) (default : V)
       let few : length rest ≤ limit = omega (arith, within, rest_fits n text default v c rest r) in
       behind j k rest few p (rw (field_one n text default v w c rest more r s) q)
 
--- A tag around a text: of G, to which texts of H are carried back.
+-- A tag around an encoding: of G, to which encodings of H are carried back.
 inside : {X V W : Type 0} {value : X → V} {other : X → W} (tag : Tag) (n : ℕ) → tag.octet ≡ 160 + n → (G : V → List ℕ → Type 0) (GFault : ErrorKind → List ℕ → Type 0) → IsDelimited G → AreNone (NoneIn G) GFault
     → (H : W → List ℕ → Type 0) → Carried value G other H → NoField n H (TextFault tag (AloneFault G GFault))
 inside tag n octet G GFault d none H carried k c within fault =

@@ -1,4 +1,5 @@
--- Parameters: each text means one value, the fields stand in rising order, and no text of them begins with an INTEGER.
+-- Parameters: each encoding means one value, the fields stand in rising order, and no encoding of them begins with an
+-- INTEGER.
 use Rattle.std.proofs.Common.{ℕ, List, [], ◌++◌, map, refl, arith}
 use Rattle.der_core.specs.Tag.{integer_tag, sequence_tag}
 use Rattle.der_core.specs.Texts.{IsDelimited, Joins, Then}

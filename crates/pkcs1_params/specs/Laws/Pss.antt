@@ -1,4 +1,5 @@
--- RSASSA-PSS parameters: each text means one value and is bytes, and what is written of a value is the shortest of its texts.
+-- RSASSA-PSS parameters: each encoding means one value and is bytes, and what is written of a value is the shortest of
+-- its encodings.
 use Rattle.std.proofs.Common.{List, [], ◌∷◌, arith}
 use Rattle.der_core.specs.Integer.{Small}
 use Rattle.der_core.specs.Laws.Integer.{small_delimited}

@@ -1,4 +1,4 @@
--- Trailer fields: each text means one and is bytes, and what is written is its shortest text.
+-- Trailer fields: each encoding means one and is bytes, and what is written is its shortest encoding.
 use Rattle.std.specs.Prelude.{ℕ, List, [], ◌∷◌, ◌≡◌}
 use Rattle.std.proofs.Common.{arith, sym, ◌∙◌}
 use Rattle.der_core.specs.Tag.{integer_tag}

@@ -1,4 +1,4 @@
--- Each algorithm identifier has at most one text.
+-- Each algorithm identifier has at most one encoding.
 use Rattle.std.proofs.Common.{ℕ, List, [], ◌∷◌, sym, ◌∙◌, Option, Some, None}
 use Rattle.der_core.specs.Tag.{sequence_tag}
 use Rattle.der_core.specs.Texts.{AtMostOne}

@@ -1,4 +1,5 @@
--- Algorithm identifiers: each text means one value and is bytes, and what is written of a value is the shortest of its texts.
+-- Algorithm identifiers: each encoding means one value and is bytes, and what is written of a value is the shortest of
+-- its encodings.
 use Rattle.std.proofs.Common.{ℕ, List, ◌≡◌, ◌<◌, ◌^◌, length, refl, ap, arith, length-append, Option, Some, None}
 use Rattle.der_core.specs.Tag.{object_identifier_tag, sequence_tag}
 use Rattle.der_core.specs.Texts.{IsDelimited, IsOfBytes, MeansOne}

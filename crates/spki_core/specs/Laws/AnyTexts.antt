@@ -1,4 +1,4 @@
--- Texts of any tag: each means one tag with contents and is bytes, and each tag with contents has one text.
+-- Encodings of any tag: each means one tag with contents and is bytes, and each tag with contents has one encoding.
 use Rattle.std.proofs.Common.{ℕ, List, ◌≡◌, ◌≤◌, ◌<◌, ◌^◌, length, refl, sym, ap, ◌∙◌, arith, Decides, eqb, ◌&&◌}
 use Rattle.std.specs.Str.{bytes_eq}
 use Rattle.der_core.specs.Laws.Equality.{bytes_decide, number_decides, both_decide}

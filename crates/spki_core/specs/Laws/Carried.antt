@@ -1,4 +1,4 @@
--- Values that are carried to other ones and back, with their texts.
+-- Values that are carried to other ones and back, with their encodings.
 use Rattle.std.proofs.Common.{◌≡◌, ℕ, List, refl, sym, ap, ◌∙◌, Option, Some, None}
 use Rattle.std.specs.Option.{option_map}
 use Rattle.der_core.specs.Optional.{Optional}

@@ -1,4 +1,5 @@
--- Values inside explicit tags: each text means one number with one value, and what is written is the shortest text.
+-- Values inside explicit tags: each encoding means one number with one value, and what is written is the shortest
+-- encoding.
 use Rattle.std.proofs.Common.{ℕ, List, ◌≡◌, ◌≤◌, ◌<◌, ◌^◌, length, arith, true}
 use Rattle.std.specs.Prelude.{IsTrue}
 use Rattle.std.proofs.lemmas.Bool.Decides.{nat_tests}

@@ -43,7 +43,7 @@ module _ {P : Type 0} (text : P → List ℕ → Type 0) (Fault : ErrorKind → 
       then_fault_first ObjectIdentifier (TextFault object_identifier IdentifierFault) (λ _. LastFault text Fault) identifier_delimited oid_none
       (text_fault_first object_identifier IdentifierFault identifier_fault_first) (λ _. last_fault_first text Fault d none first)
 
--- Texts of any tag.
+-- Encodings of any tag.
 read_as : {t n : ℕ} (i header rest : List ℕ) → HeaderText (t, n) header → i ≡ header ++ rest → header_at i ≡ Ok ((t, n), rest)
 read_as {t} {n} i header rest h is = ap header_at is ∙ header_complete (t, n) header rest h
 

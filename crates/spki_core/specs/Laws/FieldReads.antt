@@ -29,7 +29,7 @@ pub field_absent : {X V : Type 0} (n : ℕ) (value : X → V) (text : V → List
 field_absent n value text may_allocate default x before after (i, is, left, told) same =
     (i, i, is, left, inl ((λ (rest, starts). let no : false ≡ true = told.1 (rw starts refl) in cc), same, refl))
 
--- Its octet is next: a text was read, or none is there.
+-- Its octet is next: an encoding was read, or none is there.
 pub field_present : {X V W : Type 0} {value : X → V} {G : V → List ℕ → Type 0} {other : X → W} {H : W → List ℕ → Type 0} → Carried value G other H
     → (n : ℕ) (may_allocate : List ℕ → Type 0) (default : W) (result : Result X Error) (before mid after : Input)
     → TellsNext (160 + n) (Ok true) before mid → ReadsText value (λ v. Tlv (160 + n) (G v)) (FieldAllocates n may_allocate) result mid after → ReadsField n other H default may_allocate result before after

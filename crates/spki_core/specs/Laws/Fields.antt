@@ -8,7 +8,7 @@ use Rattle.der_core.specs.Laws.Texts.{tlv_split, tlv_at_most_one, tlv_not_empty}
 use Rattle.spki_core.specs.Explicit.{Field, field, Explicit, Defaultable, IsNext, FieldRead, HaveDefaults, MaskedField, left_out, written, forced, MaskedContents}
 use Rattle.spki_core.specs.Laws.FieldTexts.{AreLater, explicit_starts, not_later}
 
--- Fields in rising order, with at most one text for each value.
+-- Fields in rising order, with at most one encoding for each value.
 abbrev pub AreInOrder : List Field → Type 0
 AreInOrder [] = Unit {0}
 AreInOrder (f ∷ fields) = AtMostOne f.Inner × AreLater f.number fields × AreInOrder fields
@@ -80,7 +80,7 @@ field_same f m n n' x x' o (written d e z) (forced d' e' p) = absurd (d' d)
 field_same f m n n' x x' o (forced d e z) (left_out d' e' p) = absurd (d d')
 field_same f m n n' x x' o (forced d e z) (written d' e' p) = absurd (d d')
 
--- One mask has one text.
+-- One mask has one encoding.
 pub masked_same : (fields : List Field) (m : ℕ) (c d : List ℕ) → AreInOrder fields → MaskedContents fields m c → MaskedContents fields m d → c ≡ d
 masked_same [] m c d o p q = p.0 ∙ sym q.0
 masked_same (f ∷ fields) m c d o (n, (x, y, a, i, g)) (n', (x', y', a', i', g')) =
@@ -100,7 +100,7 @@ field_mask f m m' n x (written d e z) (forced d' e' p) = absurd (d' d)
 field_mask f m m' n x (forced d e z) (left_out d' e' p) = absurd (d d')
 field_mask f m m' n x (forced d e z) (written d' e' p) = absurd (d d')
 
--- One text has one mask.
+-- One encoding has one mask.
 pub mask_same : (fields : List Field) (m m' : ℕ) (c : List ℕ) → AreInOrder fields → MaskedContents fields m c → MaskedContents fields m' c → m ≡ m'
 mask_same [] m m' c o p q = p.1 ∙ sym q.1
 mask_same (f ∷ fields) m m' c o (n, (x, y, a, i, g)) (n', (x', y', a', i', g')) =
@@ -125,7 +125,7 @@ joined_shorter x y x' y' (inl e) (inr f) = inr (omega (arith, length-append x y,
 joined_shorter x y x' y' (inr e) (inl f) = inr (omega (arith, length-append x y, length-append x' y', ap length f))
 joined_shorter x y x' y' (inr e) (inr f) = inr (omega (arith, length-append x y, length-append x' y'))
 
--- The text under mask 0 is shorter than every other.
+-- The encoding under mask 0 is shorter than every other.
 pub zero_shorter : (fields : List Field) (m : ℕ) (c d : List ℕ) → AreInOrder fields → MaskedContents fields 0 c → MaskedContents fields m d → (d ≡ c) ⊎ (length c < length d)
 zero_shorter [] m c d o p q = inl (q.0 ∙ sym p.0)
 zero_shorter (f ∷ fields) m c d o (n, (x, y, a, i, g)) (n', (x', y', a', i', g')) =
@@ -141,7 +141,7 @@ halves (suc m) = elim (halves m) [
   | inr k ↦ inl (suc k.0, omega arith)
 ]
 
--- Where every field can be written, each mask has a text, no longer than the one with all fields.
+-- Where every field can be written, each mask has an encoding, no longer than the one with all fields.
 pub masked_made : (fields : List Field) (k m : ℕ) (e : List ℕ) → HaveDefaults fields k → m < 2 ^ k → Joins (map Explicit fields) e → (c : List ℕ) × MaskedContents fields m c × (length c ≤ length e)
 masked_made [] k m e d l p =
     let s : m < 2 ^ 0 = rw d at l in
@@ -231,7 +231,7 @@ pub absent_step : {V : Type 0} (n : ℕ) (Grammar : V → List ℕ → Type 0) (
 absent_step n Grammar default w gs c h (x, y, inl p, j, e) = let a : c ≡ y = rw p.0 at e in (p.1, rw a j)
 absent_step n Grammar default w gs c h (x, y, inr p, j, e) = absurd (h (explicit_starts (field n Grammar default w) x y c p e))
 
--- Where a text of the field stands in front, every splitting has that text, its value and its rest.
+-- Where an encoding of the field stands in front, every splitting has that encoding, its value and its rest.
 pub present_step : {V : Type 0} (n : ℕ) (Grammar : V → List ℕ → Type 0) → IsDelimited Grammar → (default v w : V) (gs : List Field) (c rest : List ℕ) → AreLater n gs → Then (Explicit (field n Grammar default v)) (Is rest) c → Joins (map Defaultable (field n Grammar default w ∷ gs)) c → (w ≡ v) × Joins (map Defaultable gs) rest
 present_step n Grammar d default v w gs c rest l (x', y', q, k, f) (x, y, inl p, j, e) =
     let a : c ≡ y = rw p.0 at e in
@@ -241,7 +241,7 @@ present_step n Grammar d default v w gs c rest l (x', y', q, k, f) (x, y, inr p,
     let s = tlv_split x y x' y' p q (sym e ∙ f) in
     (means_one d w v s.3 s.4 s.5, rw (s.2 ∙ k) at j)
 
--- Where the octet is next and no text of the field stands in front, there is no splitting.
+-- Where the octet is next and no encoding of the field stands in front, there is no splitting.
 pub refused_step : {V : Type 0} (n : ℕ) (Grammar : V → List ℕ → Type 0) (default w : V) (gs : List Field) (c : List ℕ) → AreLater n gs → IsNext n c → ((v : V) (rest : List ℕ) → Then (Explicit (field n Grammar default v)) (Is rest) c → ⊥) → Joins (map Defaultable (field n Grammar default w ∷ gs)) c → ⊥
 refused_step n Grammar default w gs c l h refused (x, y, inl p, j, e) =
     let a : c ≡ y = rw p.0 at e in

@@ -1,4 +1,4 @@
--- Identifiers: each text means one identifier and is bytes, and each identifier has one text.
+-- Identifiers: each encoding means one identifier and is bytes, and each identifier has one encoding.
 use Rattle.std.proofs.Common.{ℕ, List, [], ◌∷◌, ◌≤◌, ◌<◌, length, refl, sym, ap, ◌∙◌, arith}
 use Rattle.std.specs.List.{AllByRecursion, concat}
 use Rattle.der_core.specs.Tag.{object_identifier_tag}

@@ -1,4 +1,4 @@
--- Fields that are written out: what a text says of them.
+-- Fields that are written out: what an encoding says of them.
 use Rattle.std.proofs.Common.{ℕ, List, [], ◌∷◌, ◌++◌, ◌≡◌, ◌≢◌, ◌<◌, ◌+◌, inl, inr, length, refl, ap, sym, ◌∙◌, map}
 use Rattle.std.specs.Prelude.{◌⊎◌}
 use Rattle.der_core.specs.Texts.{Then, Joins}
@@ -33,7 +33,7 @@ abbrev pub NoneHas : ℕ → List Field → Type 0
 NoneHas u [] = Unit {0}
 NoneHas u (f ∷ fields) = (160 + f.number ≢ u) × NoneHas u fields
 
--- Then no text of the fields stands there.
+-- Then no encoding of the fields stands there.
 pub unknown_tag_refused : (fields : List Field) (u : ℕ) (c rest : List ℕ) → length c < 128 → NoneHas u fields → Joins (map Defaultable fields) ((u ∷ length c ∷ c) ++ rest) → ⊥
 unknown_tag_refused [] u c rest few none p = cc
 unknown_tag_refused (f ∷ fields) u c rest few none p = unknown_tag_refused fields u c rest few none.1 (other_field_next f u c rest few none.0 p).1
