@@ -1,5 +1,5 @@
--- AlgorithmIdentifier ::= SEQUENCE { algorithm OBJECT IDENTIFIER, parameters ANY DEFINED BY algorithm OPTIONAL } (RFC
--- 5280 4.1.1.2)
+-- AlgorithmIdentifier (RFC 5280 4.1.1.2):
+-- SEQUENCE { algorithm OBJECT IDENTIFIER, parameters ANY DEFINED BY algorithm OPTIONAL }
 use Rattle.std.specs.Prelude.{ℕ, Bool, List, [], ◌∷◌, ◌++◌, ◌&&◌, eqb, Option}
 use Rattle.std.specs.Option.{option_eq}
 use Rattle.std.specs.Str.{bytes_eq}
@@ -21,7 +21,7 @@ AlgorithmContents Parameters a contents = Joins (ObjectIdentifier a.oid ∷ Opti
 abbrev pub AlgorithmIdentifier : {P : Type 0} → (P → List ℕ → Type 0) → Algorithm P → List ℕ → Type 0
 AlgorithmIdentifier Parameters a text = Tlv sequence_tag (AlgorithmContents Parameters a) text
 
--- An algorithm whose parameters are any encoding.
+-- An algorithm with parameters of any tag.
 abbrev pub PlainAlgorithm : Algorithm TagAndContents → List ℕ → Type 0
 PlainAlgorithm = AlgorithmIdentifier Any
 

@@ -19,6 +19,6 @@ algorithm_of = algorithm_with any_of
 abbrev pub mask_of : AlgorithmIdentifier (AlgorithmIdentifier AnyRef) → Algorithm (Algorithm TagAndContents)
 mask_of = algorithm_with algorithm_of
 
--- over the octets of its identifier
+-- with a borrowed object identifier
 abbrev pub viewed_with : {X V : Type 0} → (X → V) → AlgorithmView X → Algorithm V
 viewed_with value a = record { oid = octets_in a.oid; parameters = option_map value a.parameters }

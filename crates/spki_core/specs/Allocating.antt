@@ -1,4 +1,4 @@
--- Where reading of algorithm identifiers and of fields may ask for memory.
+-- Where reading algorithm identifiers and fields may ask for memory.
 use Rattle.std.specs.Prelude.{ℕ, List, ◌⊎◌}
 use Rattle.der_core.specs.Tag.{context_tag, sequence_tag}
 use Rattle.der_core.specs.Tlv.{Tlv}
@@ -6,23 +6,23 @@ use Rattle.der_core.specs.Reading.{AllocatesIn, AllocatesBehind, AllocatesLast}
 use Rattle.spki_core.specs.ObjectIdentifier.{ObjectIdentifier}
 use Rattle.spki_core.specs.Explicit.{field, Defaultable}
 
--- In an identifier's contents: parameters follow it, and they may ask. Its own encoding never does.
+-- In the contents of an algorithm identifier: its parameters may ask for memory, the object identifier never does.
 abbrev pub AllocatesForParameters : (List ℕ → Type 0) → List ℕ → Type 0
 AllocatesForParameters may_allocate contents = AllocatesBehind ObjectIdentifier (AllocatesLast may_allocate) contents
 
--- Such contents in their SEQUENCE.
+-- The same for the whole encoding.
 abbrev pub AlgorithmAllocates : (List ℕ → Type 0) → List ℕ → Type 0
 AlgorithmAllocates may_allocate text = Tlv sequence_tag (AllocatesForParameters may_allocate) text
 
--- An encoding of an identifier alone, with no parameters behind it, doesn't ask.
+-- The encoding of an identifier without parameters doesn't ask for memory.
 abbrev pub NothingAskedAlone : (List ℕ → Type 0) → Type 0
 NothingAskedAlone may_allocate = (oid text : List ℕ) → Tlv sequence_tag (ObjectIdentifier oid) text → AllocatesIn may_allocate text → ⊥
 
--- The value inside the tag [number] may ask.
+-- The value inside the tag [number] may ask for memory.
 abbrev pub FieldAllocates : ℕ → (List ℕ → Type 0) → List ℕ → Type 0
 FieldAllocates number may_allocate text = Tlv (context_tag number) (AllocatesIn may_allocate) text
 
--- In contents that begin with a field: its value may ask, or what is behind the field may.
+-- In contents that begin with a field: its value may ask for memory, or what follows it may.
 abbrev pub AllocatesFromField : {V : Type 0} → ℕ → (V → List ℕ → Type 0) → V → (List ℕ → Type 0) → (List ℕ → Type 0) → List ℕ → Type 0
 AllocatesFromField number Grammar default may_allocate later contents =
     AllocatesIn (FieldAllocates number may_allocate) contents ⊎ AllocatesBehind (λ v. Defaultable (field number Grammar default v)) later contents

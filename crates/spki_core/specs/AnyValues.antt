@@ -1,8 +1,8 @@
--- A type that holds a tag with contents octets, whatever it means by its values.
+-- A type that holds a tag with contents octets, whatever its values mean.
 use Rattle.std.proofs.Common.{List, ℕ, Bool, ◌≡◌, ◌∙◌, refl, sym, ap, Decides}
 use Rattle.spki_core.specs.Any.{TagAndContents, Any}
 
--- Its values are tags with contents, and have their encodings.
+-- Its values are tags with contents, and have the same encodings.
 pub record HoldsAny {X V : Type 0} (value : X → V) (text : V → List ℕ → Type 0) (any : X → TagAndContents) : Type 0 where
   pub to_any : V → TagAndContents
   pub of_any : TagAndContents → V
@@ -11,11 +11,11 @@ pub record HoldsAny {X V : Type 0} (value : X → V) (text : V → List ℕ → 
   pub text_to : (v : V) (b : List ℕ) → text v b → Any (to_any v) b
   pub text_of : (v : TagAndContents) (b : List ℕ) → Any v b → text (of_any v) b
 
--- Where it means just that.
+-- A type whose values mean their tag and contents.
 pub holds_itself : {X : Type 0} (any : X → TagAndContents) → HoldsAny any Any any
 holds_itself any = record { to_any = λ v. v; of_any = λ v. v; of_to = λ v. refl; held = λ x. refl; text_to = λ v b h. h; text_of = λ v b h. h }
 
--- What is equal exactly where it means the same is equal exactly where it holds the same.
+-- An equality of what the values mean is an equality of what they hold.
 pub holds_decides : {X V : Type 0} {value : X → V} {text : V → List ℕ → Type 0} {any : X → TagAndContents} (E : X → X → Bool) → HoldsAny value text any
     → ((x y : X) → Decides (E x y) (value x ≡ value y)) → (x y : X) → Decides (E x y) (any x ≡ any y)
 holds_decides E h d x y = (

@@ -1,4 +1,4 @@
--- A value inside an explicit tag of the class context-specific (X.690 8.14.2).
+-- A value inside an explicit context-specific tag (X.690 8.14.2).
 use Rattle.std.specs.Prelude.{ℕ, List, ◌≤◌}
 use Rattle.der_core.specs.Tag.{context_tag}
 use Rattle.der_core.specs.Tlv.{Tlv, tlv}

@@ -4,13 +4,13 @@ use Rattle.der_core.specs.Tag.{context_tag, sequence_tag}
 use Rattle.der_core.specs.Texts.{Is, Then, Joins}
 use Rattle.der_core.specs.Tlv.{Tlv}
 
--- A field with its value: its number, the encodings of the value, and whether the value is the default.
+-- A field with its value: the number, the encodings of the value, and whether the value is the default.
 pub record Field : Type 1 where
   pub number : ℕ
   pub Inner : List ℕ → Type 0
   pub IsDefault : Type 0
 
--- The field [number] of a grammar, at a value and with a default.
+-- The field [number] with this grammar, value and default.
 abbrev pub field : {V : Type 0} → ℕ → (V → List ℕ → Type 0) → V → V → Field
 field number Grammar default value = record { number = number; Inner = Grammar value; IsDefault = value ≡ default }
 
@@ -36,8 +36,8 @@ pub data MaskedField (f : Field) (mask rest : ℕ) (text : List ℕ) : Type 0 wh
   written : f.IsDefault → mask ≡ 2 * rest + 1 → Explicit f text → MaskedField f mask rest text
   forced : (f.IsDefault → ⊥) → mask ≡ rest → Explicit f text → MaskedField f mask rest text
 
--- The contents in which the j-th of the default fields is written exactly where bit j of the mask is one,
--- and every other field is written.
+-- The contents in which the j-th of the default fields is written exactly if bit j of the mask is one, and every other
+-- field is written.
 abbrev pub MaskedContents : List Field → ℕ → List ℕ → Type 0
 MaskedContents [] mask text = (text ≡ []) × (mask ≡ 0)
 MaskedContents (f ∷ fields) mask text = (rest : ℕ) × Then (MaskedField f mask rest) (MaskedContents fields rest) text
@@ -49,17 +49,17 @@ Masked fields mask text = Tlv sequence_tag (MaskedContents fields mask) text
 abbrev pub AllExplicit : List Field → List ℕ → Type 0
 AllExplicit fields text = Tlv sequence_tag (Joins (map Explicit fields)) text
 
--- The octet of the field [number] comes next.
+-- The octet of the field [number] is next.
 abbrev pub IsNext : ℕ → List ℕ → Type 0
 IsNext number bytes = (rest : List ℕ) × (bytes ≡ (context_tag number) ∷ rest)
 
--- What reading of a field with a default gives: its value, and the bytes after it.
--- The field is left out exactly where its octet isn't next.
+-- What reading a field with a default gives: its value, and the bytes after it. The field is left out exactly if its
+-- octet isn't next.
 abbrev pub FieldRead : {V : Type 0} → ℕ → (V → List ℕ → Type 0) → V → List ℕ → V → List ℕ → Type 0
 FieldRead number Grammar default bytes value rest =
     ((IsNext number bytes → ⊥) × (value ≡ default) × (rest ≡ bytes)) ⊎
     Then (Tlv (context_tag number) (Grammar value)) (Is rest) bytes
 
--- Its octet is next, and no encoding of the field.
+-- Its octet is next, but no encoding of the field.
 abbrev pub FieldRefused : {V : Type 0} → ℕ → (V → List ℕ → Type 0) → List ℕ → Type 0
 FieldRefused {V} number Grammar bytes = IsNext number bytes × ((value : V) (rest : List ℕ) → Then (Tlv (context_tag number) (Grammar value)) (Is rest) bytes → ⊥)

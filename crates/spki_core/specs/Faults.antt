@@ -1,4 +1,4 @@
--- The first fault of bytes that are no identifier, and no algorithm.
+-- The first fault of bytes that are no object identifier, or no algorithm identifier.
 use Rattle.std.specs.Prelude.{ℕ, List, ◌≡◌, ◌≢◌, ◌<◌, ◌++◌, ◌⊎◌, Err, length}
 use Rattle.der_core.specs.declared.error.ErrorKind.{ErrorKind}
 use Rattle.der_core.specs.declared.error.ErrorKind.TheVariants.{Incomplete, OidMalformed}
@@ -13,24 +13,24 @@ use Rattle.der_core.specs.Tags.{object_identifier}
 use Rattle.spki_core.specs.Explicit.{IsNext, FieldRead}
 use Rattle.spki_core.specs.ObjectIdentifier.{IdentifierContents, ObjectIdentifier}
 
--- What is at the front is no encoding of any tag: there is no header, or fewer bytes follow than it says.
+-- The bytes begin with no encoding of any tag: there is no header, or fewer bytes follow than it counts.
 pub data AnyFault (kind : ErrorKind) (bytes : List ℕ) : Type 0 where
   headless : header_at bytes ≡ Err kind → AnyFault kind bytes
   too_few : (t n : ℕ) (header rest : List ℕ) → HeaderText (t, n) header → bytes ≡ header ++ rest → length rest < n → kind ≡ Incomplete → AnyFault kind bytes
 
--- A tag and contents, where a type of another tag is wanted, or one whose contents have faults of their own.
+-- A tag and contents where a type with another tag is expected, or one whose contents have faults of their own.
 abbrev pub OtherAnyFault : Tag → (ErrorKind → List ℕ → Type 0) → ErrorKind → TagAndContents → Type 0
 OtherAnyFault tag ContentsFault kind any = ((any.tag ≢ tag.octet) × IsUnexpected tag any.tag kind) ⊎ ((any.tag ≡ tag.octet) × ContentsFault kind any.contents)
 
--- Contents of no identifier are malformed, whatever is wrong with them.
+-- Contents of no identifier are malformed, whatever the reason is.
 abbrev pub IdentifierFault : ErrorKind → List ℕ → Type 0
 IdentifierFault kind contents = (kind ≡ OidMalformed) × NoneHas IdentifierContents contents
 
--- The identifier, or behind it the parameters, if there are any.
+-- A fault of the identifier, or of the parameters behind it, if there are any.
 abbrev pub AlgorithmFault : {P : Type 0} → (P → List ℕ → Type 0) → (ErrorKind → List ℕ → Type 0) → ErrorKind → List ℕ → Type 0
 AlgorithmFault Parameters ParametersFault = ThenFault ObjectIdentifier (TextFault object_identifier IdentifierFault) (λ _. LastFault Parameters ParametersFault)
 
--- The octet of the field [n] comes next, and the field has a fault.
+-- The octet of the field [n] is next, and the field has a fault.
 abbrev pub NextFault : ℕ → (ErrorKind → List ℕ → Type 0) → ErrorKind → List ℕ → Type 0
 NextFault n Fault kind bytes = IsNext n bytes × Fault kind bytes
 

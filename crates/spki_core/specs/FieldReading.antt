@@ -6,7 +6,8 @@ use Rattle.der_core.specs.Reading.{AllocatesIn, Refuses}
 use Rattle.spki_core.specs.Allocating.{FieldAllocates}
 use Rattle.spki_core.specs.Explicit.{FieldRead, FieldRefused}
 
--- The field was read, or it has its default; or the reader has failed, and its octet is next, but no encoding of it.
+-- The field was read, or it has its default; or the reader has failed, and the field's octet is next, but no encoding
+-- of it.
 abbrev pub ReadsField : {X V : Type 0} → ℕ → (X → V) → (V → List ℕ → Type 0) → V → (List ℕ → Type 0) → Result X Error → Input → Input → Type 0
 ReadsField n value text default may_allocate (Ok x) before after =
     (bytes : List ℕ) × (rest : List ℕ) × (before ≡ Some bytes) × (after ≡ Some rest) × FieldRead n text default bytes (value x) rest

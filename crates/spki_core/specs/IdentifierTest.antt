@@ -1,4 +1,4 @@
--- A test for contents of an identifier.
+-- A test for the contents of an identifier.
 use Rattle.std.specs.Prelude.{Bool, true, false, not, ◌&&◌, ◌==◌, nat_lt}
 use Rattle.std.proofs.Common.{ℕ, List, [], ◌∷◌, ◌++◌, ◌≡◌, ◌≢◌, ◌<◌, ◌≤◌, ◌+◌, length, slice_index, refl, sym, ap, ◌∙◌, arith, append_assoc, length-append}
 use Rattle.std.proofs.lemmas.Bool.Decides.{nat_tests}
@@ -6,7 +6,7 @@ use Rattle.std.specs.List.{AllByRecursion, concat}
 use Rattle.der_core.specs.Texts.{AreBytes}
 use Rattle.spki_core.specs.ObjectIdentifier.{IsSubidentifier, IsIdentifier}
 
--- Octets that end subidentifiers, from the start of one or from within one.
+-- The octets end with a whole subidentifier, read from the start of one or from within one.
 abbrev pub ends_well : Bool → List ℕ → Bool
 ends_well start [] = start
 ends_well start (b ∷ bs) = not (start && b == 128) && ends_well (nat_lt b 128) bs
@@ -14,11 +14,11 @@ ends_well start (b ∷ bs) = not (start && b == 128) && ends_well (nat_lt b 128)
 abbrev pub is_identifier : List ℕ → Bool
 is_identifier c = nat_lt 0 (length c) && nat_lt (length c) 40 && ends_well true c
 
--- All of a split.
+-- The octets are whole subidentifiers.
 abbrev Parts : List ℕ → Type 0
 Parts c = (subs : List (List ℕ)) × AllByRecursion IsSubidentifier subs × (c ≡ concat subs)
 
--- The rest of a subidentifier, and those behind it.
+-- The octets are the rest of a subidentifier, and whole ones behind it.
 abbrev Rest : List ℕ → Type 0
 Rest c = (front : List ℕ) × (last : ℕ) × (c' : List ℕ) × Parts c' × AllByRecursion (λ b. (128 ≤ b) × (b < 256)) front × (last < 128) × (c ≡ front ++ last ∷ c')
 

@@ -1,11 +1,11 @@
--- What is written of fields with defaults under a mask, for every list of fields.
+-- What is written under a mask, for every list of fields with defaults.
 use Rattle.std.specs.Prelude.{ℕ, Bool, true, false, List, [], ◌∷◌, ◌++◌, ◌==◌, ◌/◌, ◌%◌, ◌<◌, ◌^◌, length, map}
 use Rattle.std.specs.Bool.{Decides}
 use Rattle.der_core.specs.Writing.{IsLeast}
 use Rattle.spki_core.specs.Explicit.{Field}
 use Rattle.spki_core.specs.FieldWriting.{HasField, written_field}
 
--- A default is left out where the lowest bit is zero.
+-- A default is left out if the lowest bit is zero.
 abbrev pub out_under : Bool → ℕ → Bool
 out_under true mask = mask % 2 == 0
 out_under false mask = false
@@ -15,8 +15,7 @@ abbrev pub rest_under : Bool → ℕ → ℕ
 rest_under true mask = mask / 2
 rest_under false mask = mask
 
--- A field as it is written: whether it equals its default, which values have an encoding, and the encoding, which is
--- the shortest.
+-- A field as it is written: whether it equals its default, which values have an encoding, and the shortest encoding.
 pub record Part : Type 1 where
   pub field : Field
   pub is_default : Bool

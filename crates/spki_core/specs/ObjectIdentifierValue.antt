@@ -6,6 +6,6 @@ use Rattle.spki_core.specs.declared.object_identifier.ObjectIdentifier.{ObjectId
 abbrev pub octets_of : ObjectIdentifier → List ℕ
 octets_of oid = take oid.length oid.octets
 
--- over its contents octets
+-- of a borrowed one
 abbrev pub octets_in : IdentifierView → List ℕ
 octets_in oid = oid.octets.now

@@ -1,4 +1,4 @@
--- Fields with defaults, of which none is to be written that equals its default (X.690 11.5).
+-- Fields with defaults, which are not to be written if they equal them (X.690 11.5).
 use Rattle.std.specs.Prelude.{ℕ, Bool, true, false, List, [], ◌∷◌, ◌++◌, ◌≡◌, ◌+◌, ◌⊎◌, map, Option, Some, None}
 use Rattle.der_core.specs.Tag.{context_tag, sequence_tag}
 use Rattle.der_core.specs.Document.{Means}
@@ -26,16 +26,16 @@ FirstWritten (f ∷ fields) n contents =
 abbrev pub WritesDefault : List Field → ℕ → List ℕ → Type 0
 WritesDefault fields n text = Tlv sequence_tag (FirstWritten fields n) text
 
--- The refusal names the tag [n].
+-- The error names the tag [n].
 abbrev pub NamesNumber : ℕ → Error → Type 0
 NamesNumber n e = (tag : Tag) × (e.kind ≡ Noncanonical tag) × (tag.octet ≡ context_tag n)
 
--- The refusal names the tag of the first default that is written.
+-- The error names the tag of the first default that is written.
 abbrev pub NamesDefault : List Field → List ℕ → Error → Type 0
 NamesDefault fields text e = (n : ℕ) × NamesNumber n e × WritesDefault fields n text
 
--- A walk over the contents, from the field [n] on: of each field it is known whether it equals its default.
--- A default is looked for by its octet, and each other field is skipped as an encoding of any tag.
+-- A walk over the contents, from the field [n] on, knowing for each field whether it equals its default. A default is
+-- looked for by its octet, and each other field is skipped as an encoding of any tag.
 abbrev pub Walked : ℕ → List Bool → List ℕ → Option ℕ → Type 0
 Walked n [] c found = found ≡ None
 Walked n (true ∷ ds) c found = (IsNext n c × (found ≡ Some n)) ⊎ ((IsNext n c → ⊥) × Walked (n + 1) ds c found)

@@ -25,14 +25,14 @@ use std::alloc::Global;
 /// ```
 #[derive(Clone, Copy, Debug, PartialEq, Eq, Drop)]
 pub struct AlgorithmIdentifier<P> {
-    /// Which algorithm it is.
+    /// The identifier of the algorithm.
     pub oid: ObjectIdentifier,
-    /// What the algorithm is given. `None` means that no octet follows the identifier, which is another value than
+    /// The parameters of the algorithm. `None` means that no octet follows the identifier, which is another value than
     /// NULL.
     pub parameters: Option<P>,
 }
 
-/// An identifier whose parameters are any encoding, and borrowed.
+/// An algorithm identifier with borrowed parameters of any tag.
 pub type AlgorithmIdentifierRef<'a> = AlgorithmIdentifier<AnyRef<'a>>;
 
 impl<P: Text> Contents for AlgorithmIdentifier<P> {
@@ -92,8 +92,8 @@ impl<'a, M: Memory, P: Decode<&'a [u8], M>> DecodeValue<&'a [u8], M> for Algorit
         algorithm_fault_first P.text P.Decode.fault P.delimited none P.Decode.fault_first };
 }
 
-/// Reading an identifier without parameters is never refused for want of memory, whatever type they would have: a
-/// function that does nothing, with this law as its contract.
+/// Reading an identifier without parameters never asks for memory, whatever type they would have. It does nothing: the
+/// law is its contract.
 pub fn identifier_alone_takes_no_memory<'a, P: Decode<&'a [u8], M>, M: Memory>()
     ensures { NothingAskedAlone ⟦<AlgorithmIdentifier<P> as Decode<&'a [u8], M>>⟧.may_allocate }
 {}
@@ -137,7 +137,7 @@ impl<P: TryClone> TryClone for AlgorithmIdentifier<P> {
 impl<P> AlgorithmIdentifier<P> {
     ghost use Rattle.spki_core.specs.ObjectIdentifierValue.{octets_of};
 
-    /// The identifier where it is the one that is asked for, else `OidUnknown`.
+    /// Returns the identifier if it is the expected one, else `OidUnknown`.
     pub fn assert_algorithm_oid(&self, expected: ObjectIdentifier) -> Result<ObjectIdentifier>
         ensures ok { IfOk result (λ oid. (oid ≡ self.now.oid) × (octets_of self.now.oid ≡ octets_of expected)) }
         ensures err { IfErr result (λ e. (e.kind ≡ ErrorKind.OidUnknown)
@@ -155,7 +155,7 @@ impl<P: AnyValue> AlgorithmIdentifier<P> {
     ghost use Rattle.std.specs.Prelude.{Some, None};
     ghost use Rattle.spki_core.specs.AnyRefValue.{any_of};
 
-    /// The parameters, borrowed, or `ParametersMissing` where they are absent.
+    /// The parameters, borrowed, or `ParametersMissing` if there are none.
     pub fn parameters_any(&self) -> Result<AnyRef<'_>>
         ensures ok { IfOk result (λ any. option_map P.any self.now.parameters ≡ Some (any_of any)) }
         ensures err { IfErr result (λ e. (e.kind ≡ ErrorKind.ParametersMissing)
@@ -168,14 +168,14 @@ impl<P: AnyValue> AlgorithmIdentifier<P> {
     }
 }
 
-/// A type that holds an identifier whose parameters are any encoding.
+/// A type that holds an algorithm identifier with parameters of any tag.
 pub trait AsAlgorithmIdentifierRef {
     ghost use Rattle.spki_core.specs.AlgorithmValue.{algorithm_of};
 
-    /// What it holds.
+    /// The value that is held.
     ghost algorithm: { Self → Algorithm TagAndContents };
 
-    /// The same, borrowed.
+    /// The algorithm identifier, with borrowed parameters.
     fn as_algo_ref(&self) -> AlgorithmIdentifier<AnyRef<'_>>
         ensures { algorithm_of result ≡ algorithm self.now };
 }

@@ -1,4 +1,4 @@
-//! Algorithm identifiers over the octets that were read.
+//! Algorithm identifiers that borrow their octets from the input.
 ghost use Rattle.std.specs.Prelude.{◌≡◌};
 ghost use Rattle.spki_core.specs.Allocating.{AllocatesForParameters};
 ghost use Rattle.spki_core.specs.AlgorithmIdentifier.{Algorithm, AlgorithmContents, HasAlgorithm, written_algorithm};
@@ -12,19 +12,19 @@ use der_core::{
     optional_len, prepend_optional,
 };
 
-/// An algorithm identifier over the contents octets of its identifier, which only `keep` copies.
+/// An algorithm identifier that borrows the octets of its object identifier. Only `keep` copies them.
 #[derive(Clone, Copy, Drop)]
 pub struct AlgorithmView<'a, P> {
-    /// Which algorithm it is.
+    /// The identifier of the algorithm.
     pub oid: IdentifierView<'a>,
-    /// What the algorithm is given, as in `AlgorithmIdentifier`.
+    /// The parameters, as in `AlgorithmIdentifier`.
     pub parameters: Option<P>,
 }
 
 impl<'a, P> AlgorithmView<'a, P> {
     ghost use Rattle.spki_core.specs.ObjectIdentifierValue.{octets_of, octets_in};
 
-    /// The same, with an identifier of its own.
+    /// Copies the octets of the identifier.
     #[inline(always)]
     pub fn keep(self) -> AlgorithmIdentifier<P>
         ensures oid { octets_of result.oid ≡ octets_in self.entry.oid }

@@ -17,7 +17,8 @@ use der_core::{
 use std::alloc::Global;
 use std::fmt;
 
-/// A tag in eight octets: a field of one would leave padding in `AnyRef`, which is copied in pieces wherever that is.
+/// A tag in eight octets. With a single octet there would be padding in `AnyRef`, and copying it would take several
+/// moves.
 #[derive(Clone, Copy, PartialEq, Eq, Drop)]
 struct WideTag {
     octet: u64,
@@ -52,7 +53,7 @@ impl fmt::Debug for WideTag {
     }
 }
 
-/// A tag and contents octets that are not looked at. It borrows them.
+/// A tag and contents octets, which are opaque. It borrows them.
 #[derive(Clone, Copy, Debug, PartialEq, Eq, Drop)]
 pub struct AnyRef<'a> {
     tag: WideTag,
@@ -64,7 +65,7 @@ pub struct AnyRef<'a> {
 impl<'a> AnyRef<'a> {
     ghost use Rattle.spki_core.specs.AnyRefValue.{any_of};
 
-    /// A tag and contents, or `Overflow` where the contents pass `Length::MAX`.
+    /// `Overflow` if the contents are longer than `Length::MAX`.
     pub fn new(tag: Tag, contents: &'a [u8]) -> Result<AnyRef<'a>>
         ensures ok { IfOk result (λ any. any_of any ≡ record { tag = tag.octet; contents = contents.now }) }
         ensures err { IfErr result (λ e. (e.kind ≡ ErrorKind.Overflow) × (limit < length contents.now)) }
@@ -78,7 +79,7 @@ impl<'a> AnyRef<'a> {
         })
     }
 
-    /// NULL (X.690 8.8), which has no contents octet.
+    /// NULL (X.690 8.8), which has no contents octets.
     pub fn null() -> AnyRef<'static>
         ensures { any_of result ≡ null_value }
     {
@@ -88,7 +89,7 @@ impl<'a> AnyRef<'a> {
         }
     }
 
-    /// The tag, of whatever class and number.
+    /// The tag, of any class and number.
     pub fn tag(&self) -> Tag
         ensures { result.octet ≡ (any_of self.now).tag }
     {
@@ -103,8 +104,8 @@ impl<'a> AnyRef<'a> {
         self.contents
     }
 
-    /// The value whose contents octets these are: the tag must be the type's (`TagUnexpected`), and the octets its
-    /// whole contents.
+    /// Decodes the contents octets as those of a `T`, which has to use them all. `TagUnexpected` if the tag isn't the
+    /// type's.
     pub fn decode_as<T: DecodeValue<&'a [u8], M> + FixedTag, M: Memory>(
         self,
         memory: M,
@@ -133,7 +134,7 @@ impl<'a> AnyRef<'a> {
         T::decode_value(memory, &mut reader, self.header())
     }
 
-    /// Its header.
+    /// The header of the encoding.
     fn header(&self) -> Header
         ensures tag { result.tag.octet ≡ self.now.tag.octet }
         ensures length { result.length ≡ length self.now.contents.now }
@@ -187,7 +188,7 @@ impl<'a, M: Memory> Decode<&'a [u8], M> for AnyRef<'a> {
     ghost fault_first = { any_fault_first };
 }
 
-/// Reads the encoding at the front of the reader.
+/// Reads the encoding at the front of what is left.
 #[inline(always)]
 fn read_any<'a, R: Reader<&'a [u8]>>(reader: &mut R) -> Result<AnyRef<'a>>
     ensures text { ReadsText (λ (any : AnyRef). record { tag = any.tag.octet; contents = any.contents.now })
@@ -228,7 +229,7 @@ impl<'a> TryClone for AnyRef<'a> {
 
     ghost allocates_nothing = { λ _. ⊤ };
 
-    /// The same tag, over the same contents. No memory is asked for.
+    /// The same tag, over the same contents. Nothing is allocated.
     fn try_clone(&self, _alloc: Global) -> Result<AnyRef<'a>>
         ensures ok { IfOk result (λ copy. any_of copy ≡ any_of self.now) }
         ensures err { IfErr result (λ e. e.kind ≡ ErrorKind.OutOfMemory) }
@@ -238,15 +239,15 @@ impl<'a> TryClone for AnyRef<'a> {
     }
 }
 
-/// A type that holds a tag with contents octets: its encodings are encodings of any tag.
+/// A type that holds a tag with contents octets, and is encoded as these.
 pub trait AnyValue: EqualByValue {
     ghost use Rattle.spki_core.specs.AnyRefValue.{any_of};
     ghost use Rattle.spki_core.specs.AnyValues.{HoldsAny};
 
-    /// What it holds.
+    /// The tag and contents that are held.
     ghost any: { Self → TagAndContents };
 
-    /// The same, borrowed.
+    /// The tag and contents, borrowed.
     fn as_any_ref(&self) -> AnyRef<'_>
         ensures { any_of result ≡ any self.now };
 
@@ -272,9 +273,9 @@ impl AnyValue for AnyRef<'_> {
     ghost holds = { holds_itself any_of };
 }
 
-/// Parameters that are encodings of any tag, and that can be made without memory.
+/// Parameters that are encodings of any tag, and can be made without allocating.
 pub trait AnyParams<M: Memory>: AnyValue + Sized {
-    /// A tag with no contents octet.
+    /// The tag without contents octets.
     fn empty(memory: M, tag: Tag) -> Self
         ensures { Self.any result ≡ record { tag = tag.octet; contents = [] } };
 }

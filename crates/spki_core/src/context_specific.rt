@@ -1,4 +1,4 @@
-//! Values inside explicit tags of the class context-specific (X.690 8.14.2).
+//! Values inside explicit context-specific tags (X.690 8.14.2).
 ghost use Rattle.std.specs.Prelude.{IfErr, ◌≡◌, ◌+◌};
 ghost use Rattle.der_core.specs.Tag.{context_tag};
 ghost use Rattle.der_core.specs.Tlv.{Tlv};
@@ -15,12 +15,12 @@ use der_core::{
     Text, Writer, decode_whole, is_tag_next,
 };
 
-/// A value that is written inside the tag `[tag_number]`. It borrows the value.
+/// A borrowed value that is written inside the tag `[tag_number]`.
 #[derive(Clone, Copy, Drop)]
 pub struct ContextSpecificRef<'b, T> {
-    /// The number in the tag.
+    /// The number of the tag.
     pub tag_number: TagNumber,
-    /// The value, whose one encoding is the contents of the tag.
+    /// The value. Its encoding is the contents of the tag.
     pub value: &'b T,
 }
 
@@ -76,7 +76,7 @@ impl<'b, T: Encode> Encode for ContextSpecificRef<'b, T> {
     ghost text_shortest = { numbered_shortest T.text T.has_text T.written_text T.text_shortest };
 }
 
-/// Whether the octet of a field's tag comes next: `Failed` on a reader that has failed.
+/// Whether the next octet is that of the field's tag. Nothing is read. `Failed` on a reader that has failed.
 #[inline(always)]
 pub fn is_field_next<'a, R: Reader<&'a [u8]>>(reader: &mut R, number: TagNumber) -> Result<bool>
     ensures { TellsNext (context_tag number.value) result (R.left reader.old) (R.left reader.new) }
@@ -84,8 +84,8 @@ pub fn is_field_next<'a, R: Reader<&'a [u8]>>(reader: &mut R, number: TagNumber)
     is_tag_next(reader, Tag::context(number))
 }
 
-/// Reads the value of an explicit field exactly where the octet of its tag comes next. The tag wraps exactly one
-/// encoding: bytes behind that are `TrailingData`. On a reader that has failed the answer is `Failed`.
+/// Reads an explicit field if the next octet is that of its tag, else returns `None` and reads nothing. `TrailingData`
+/// if the tag holds more than one encoding. `Failed` on a reader that has failed.
 pub fn read_context_specific<'a, T: Decode<&'a [u8], M>, M: Memory, R: Reader<&'a [u8]>>(
     memory: M,
     reader: &mut R,
@@ -109,7 +109,7 @@ pub fn read_context_specific<'a, T: Decode<&'a [u8], M>, M: Memory, R: Reader<&'
     Ok(Some(value))
 }
 
-/// Reads one encoding inside the tag of a field.
+/// Reads the tag of a field with one encoding inside.
 #[inline(always)]
 pub fn read_explicit<'a, T: Decode<&'a [u8], M>, M: Memory, R: Reader<&'a [u8]>>(
     memory: M,
@@ -129,7 +129,7 @@ pub fn read_explicit<'a, T: Decode<&'a [u8], M>, M: Memory, R: Reader<&'a [u8]>>
     read_inside(memory, reader, Tag::context(number))
 }
 
-/// Reads one encoding inside a tag.
+/// Reads a tag with one encoding inside.
 #[inline(always)]
 fn read_inside<'a, T: Decode<&'a [u8], M>, M: Memory, R: Reader<&'a [u8]>>(
     memory: M,

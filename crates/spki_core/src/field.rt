@@ -16,8 +16,8 @@ use der_core::{
     BackWriter, Decode, Encode, ErrorKind, Length, Memory, Reader, Result, TagNumber, Text, Writer,
 };
 
-/// Reads an explicit field, or takes its default where the octet of its tag isn't next. Where a default is dear to
-/// make, ask `is_field_next` first. On a reader that has failed the answer is `Failed`.
+/// Reads an explicit field, or returns its default if the next octet isn't that of its tag. If the default is costly to
+/// make, call `is_field_next` first. `Failed` on a reader that has failed.
 #[inline(always)]
 pub fn read_field<'a, T: Decode<&'a [u8], M>, M: Memory, R: Reader<&'a [u8]>>(
     memory: M,
@@ -43,7 +43,7 @@ pub fn read_field<'a, T: Decode<&'a [u8], M>, M: Memory, R: Reader<&'a [u8]>>(
     }
 }
 
-/// How many octets are written of a field, which may be left out.
+/// The length of what is written for a field, which may be left out.
 pub fn field_len<T: Encode>(left_out: bool, tag_number: TagNumber, value: &T) -> Result<Length>
     ensures { let v = T.value value.now in
         Counts (HasField left_out (T.has_text v)) (written_field left_out tag_number.value (T.written_text v)) result }
@@ -74,7 +74,7 @@ pub fn encode_field<T: Encode, W: Writer>(
     }
 }
 
-/// Puts a field before what is filled, or leaves it out.
+/// Writes a field in front of what is filled, or leaves it out.
 pub fn prepend_field<T: Encode>(
     left_out: bool,
     tag_number: TagNumber,

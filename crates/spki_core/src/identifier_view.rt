@@ -1,4 +1,4 @@
-//! Object identifiers over the octets that were read.
+//! Object identifiers that borrow their octets from the input.
 ghost use Rattle.std.specs.Prelude.{◌≡◌, ℕ, ◌<◌, List, slice_index, IsTrue, IfOk, IfErr};
 ghost use Rattle.spki_core.specs.IdentifierTest as specs;
 ghost use Rattle.spki_core.specs.ObjectIdentifier.{IsIdentifier, IdentifierContents};
@@ -12,7 +12,7 @@ use der_core::{
     Reader, Result, TaggedBy, Writer,
 };
 
-/// An object identifier over its contents octets, which only `keep` copies.
+/// An object identifier over its contents octets (X.690 8.19). Only `keep` copies them.
 #[derive(Clone, Copy, Drop)]
 pub struct IdentifierView<'a> {
     octets: &'a [u8],
@@ -23,7 +23,7 @@ pub struct IdentifierView<'a> {
 impl<'a> IdentifierView<'a> {
     ghost use Rattle.spki_core.specs.ObjectIdentifierValue.{octets_of, octets_in};
 
-    /// Over contents octets that are known to be an identifier's.
+    /// The octets are known to be valid.
     #[inline(always)]
     pub(crate) fn over(octets: &'a [u8]) -> IdentifierView<'a>
         requires { IsTrue (specs.is_identifier octets.now) }
@@ -32,7 +32,7 @@ impl<'a> IdentifierView<'a> {
         IdentifierView { octets }
     }
 
-    /// Over these contents octets, or `OidMalformed`.
+    /// The identifier with these contents octets, or `OidMalformed`.
     #[inline(always)]
     fn from_bytes(bytes: &'a [u8]) -> Result<IdentifierView<'a>>
         ensures ok { IfOk result (λ oid. IsIdentifier bytes.now × (octets_in oid ≡ bytes.now)) }
@@ -61,7 +61,7 @@ impl<'a> IdentifierView<'a> {
         self.octets
     }
 
-    /// The identifier, with octets of its own.
+    /// Copies the octets.
     #[inline(always)]
     pub fn keep(self) -> ObjectIdentifier
         ensures { octets_of result ≡ octets_in self.entry }

@@ -1,4 +1,4 @@
-//! Algorithm identifiers, encodings of any tag, and explicit fields, over the DER kernel.
+//! Algorithm identifiers, encodings of any tag, and explicit fields, over `der_core`.
 #![tactic(auto)]
 
 mod algorithm_identifier;

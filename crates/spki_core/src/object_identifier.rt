@@ -17,7 +17,7 @@ use der_core::{
 };
 use std::hash::{Hash, Hasher};
 
-/// An object identifier, by its contents octets (X.690 8.19). At most 39 octets are kept, without memory.
+/// An object identifier as its contents octets (X.690 8.19): at most 39, so nothing is allocated.
 #[derive(Clone, Copy, Debug, Drop)]
 pub struct ObjectIdentifier {
     octets: [u8; 39],
@@ -41,7 +41,7 @@ pub(crate) fn is_identifier(octets: &[u8]) -> bool
     start && !octets.is_empty() && octets.len() <= 39
 }
 
-/// A type that stands for an algorithm, by the identifier of that.
+/// A type that names an algorithm, by its object identifier.
 pub trait AssociatedOid {
     /// The contents octets of the identifier.
     ghost contents: { List ℕ };
@@ -51,7 +51,7 @@ pub trait AssociatedOid {
     /// The contents octets of the identifier (X.690 8.19), without tag and length.
     const OID: &'static [u8];
 
-    /// `OID`, where a contract can name it.
+    /// `OID`, for contracts.
     fn octets() -> &'static [u8]
         ensures { result.now ≡ contents };
 }
@@ -59,7 +59,7 @@ pub trait AssociatedOid {
 impl ObjectIdentifier {
     ghost use Rattle.spki_core.specs.ObjectIdentifierValue.{octets_of, octets_in};
 
-    /// The identifier with these contents.
+    /// The octets are known to be valid.
     pub(crate) fn new(bytes: &[u8]) -> ObjectIdentifier
         requires { IsTrue (specs.is_identifier bytes.now) }
         ensures { octets_of result ≡ bytes.now }
@@ -91,8 +91,8 @@ impl ObjectIdentifier {
         &self.octets[..self.length as usize]
     }
 
-    /// The identifier whose contents octets are the first ones of these, the others zeros: it takes no copying of a
-    /// length that is known only when it runs.
+    /// The identifier whose contents octets are the first `length` of these; the others are zeros. It avoids copying a
+    /// number of octets that is known only at run time.
     #[inline(always)]
     pub fn padded(octets: [u8; 39], length: u8) -> ObjectIdentifier
         requires fits { length ≤ 39 }
@@ -102,7 +102,7 @@ impl ObjectIdentifier {
         ObjectIdentifier { octets, length }
     }
 
-    /// The same, borrowed.
+    /// The identifier, borrowed.
     #[inline(always)]
     pub fn as_view(&self) -> IdentifierView<'_>
         ensures { octets_in result ≡ octets_of self.now }

@@ -12,7 +12,7 @@ use der_core::{
 };
 use std::alloc::Global;
 
-/// A tag and contents octets that are not looked at. It owns them.
+/// A tag and contents octets, which are opaque. It owns them.
 #[derive(Debug, PartialEq, Eq, Drop)]
 pub struct Any {
     tag: Tag,
@@ -25,8 +25,8 @@ impl Any {
     ghost use Rattle.spki_core.specs.OwnedAnyValue.{any_in};
     ghost use Rattle.spki_core.specs.AnyRefValue.{any_of};
 
-    /// A tag and a copy of contents: `Overflow` where the contents pass `Length::MAX`, `OutOfMemory` where they
-    /// don't and no memory is found for the copy.
+    /// Copies the contents. `Overflow` if they are longer than `Length::MAX`, else `OutOfMemory` if there is no memory
+    /// for them.
     pub fn new(alloc: Global, tag: Tag, contents: &[u8]) -> Result<Any>
         ensures ok { IfOk result (λ any. any_in any ≡ record { tag = tag.octet; contents = contents.now }) }
         ensures err { let many : Type 0 = limit < length contents.now in
@@ -39,7 +39,7 @@ impl Any {
         Any::copy_of(alloc, tag, contents)
     }
 
-    /// A tag and a copy of contents.
+    /// Copies the contents.
     fn copy_of(alloc: Global, tag: Tag, contents: &[u8]) -> Result<Any>
         requires { length contents.now ≤ limit }
         ensures ok { IfOk result (λ any. any_in any ≡ record { tag = tag.octet; contents = contents.now }) }

@@ -1,4 +1,4 @@
-//! Fields that are written and equal their defaults, which none does in a strict encoding (X.690 11.5).
+//! Fields that are written though they equal their defaults, which DER forbids (X.690 11.5).
 ghost use Rattle.std.specs.Prelude.{◌≡◌, ◌≤◌, ◌+◌, ◌++◌, List, ℕ, length, IfOk, OnErr};
 ghost use Rattle.std.specs.Option.{option_map};
 ghost use Rattle.der_core.specs.Length.{limit};
@@ -10,7 +10,7 @@ ghost use Rattle.spki_core.specs.StrictFields.{Walked, WalksOver, number_in};
 use crate::any::AnyRef;
 use der_core::{Decode, NoMemory, Reader, Result, SliceReader, TagNumber};
 
-/// The first encoding, of whatever tag, and the bytes behind it.
+/// The first encoding, of any tag, and the bytes behind it.
 fn first_any<'a>(bytes: &'a [u8]) -> Result<(AnyRef<'a>, &'a [u8])>
     requires { length bytes.now ≤ limit }
     ensures ok { IfOk result (λ p. (x : List ℕ) × (bytes.now ≡ x ++ p.1.now) × Any (any_of p.0) x) }
@@ -22,8 +22,8 @@ fn first_any<'a>(bytes: &'a [u8]) -> Result<(AnyRef<'a>, &'a [u8])>
     Ok((any, rest))
 }
 
-/// The first field from `[number]` on that is written and equals its default, where `defaults` says of each field
-/// whether it does.
+/// The first field from `[number]` on that is written though it equals its default. `defaults` says for each field
+/// whether it equals its default.
 fn first_written(contents: &[u8], number: u8, defaults: &[bool]) -> Option<TagNumber>
     requires fits { length contents.now ≤ limit }
     requires few { number + length defaults.now ≤ 31 }
@@ -47,9 +47,9 @@ fn first_written(contents: &[u8], number: u8, defaults: &[bool]) -> Option<TagNu
     }
 }
 
-/// The first field of an encoding that is written and equals its default, where `defaults` says of each field, numbered
-/// from 0 on, whether it does. What is answered is of use where the encoding is known to be one of a sequence of such
-/// fields.
+/// The first field in an encoding that is written though it equals its default. `defaults` says for each field,
+/// numbered from 0, whether it equals its default. The result is meaningful only if the encoding is known to be a
+/// SEQUENCE of such fields.
 pub fn written_default(bytes: &[u8], defaults: &[bool]) -> Option<TagNumber>
     requires { length defaults.now ≤ 31 }
     ensures { WalksOver defaults.now bytes.now (option_map number_in result) }

@@ -1,4 +1,4 @@
--- Encodings of any tag, and algorithm identifiers, at worked examples.
+-- Encodings of any tag, and algorithm identifiers: worked rows.
 use Rattle.std.proofs.Common.{ℕ, List, [], ◌∷◌, ◌++◌, ◌≡◌, ◌<◌, length, refl, sym, ap, ◌∙◌, arith, append-nil, length-append, Option, Some, None}
 use Rattle.der_core.specs.Laws.Lists.{same_cons}
 use Rattle.der_core.specs.Optional.{Optional}
@@ -81,7 +81,7 @@ sha1_alone = identifier_alone Any sha1_contents sha1_identifier (omega arith)
 pub sha1_with_null : PlainAlgorithm (record { oid = sha1_contents; parameters = Some null_value }) (0x30 ∷ 0x09 ∷ 0x06 ∷ 0x05 ∷ 0x2b ∷ 0x0e ∷ 0x03 ∷ 0x02 ∷ 0x1a ∷ 0x05 ∷ 0x00 ∷ [])
 sha1_with_null = identifier_and_parameters Any sha1_contents null_value (0x05 ∷ 0x00 ∷ []) sha1_identifier null_text (omega arith)
 
--- What an encoding says of the identifier, and of what follows it.
+-- What an encoding says about the identifier, and about what follows it.
 pub identifier_and_rest : {P : Type 0} (Parameters : P → List ℕ → Type 0) (a : Algorithm P) (c rest : List ℕ) → length ((0x06 ∷ length c ∷ c) ++ rest) < 128
     → AlgorithmIdentifier Parameters a (0x30 ∷ length ((0x06 ∷ length c ∷ c) ++ rest) ∷ (0x06 ∷ length c ∷ c) ++ rest) → IdentifierContents a.oid c × Optional Parameters a.parameters rest
 identifier_and_rest Parameters a c rest few p =

@@ -1,4 +1,4 @@
--- Values that are carried to other ones and back, with their encodings.
+-- Values that are mapped to other ones and back, with their encodings.
 use Rattle.std.proofs.Common.{◌≡◌, ℕ, List, refl, sym, ap, ◌∙◌, Option, Some, None}
 use Rattle.std.specs.Option.{option_map}
 use Rattle.der_core.specs.Optional.{Optional}
@@ -9,7 +9,7 @@ use Rattle.spki_core.specs.AnyValues.{HoldsAny}
 use Rattle.spki_core.specs.AlgorithmIdentifier.{Algorithm, AlgorithmContents}
 use Rattle.spki_core.specs.AlgorithmValue.{algorithm_with}
 
--- What X means by G is carried to what it means by H.
+-- What X means by G is mapped to what it means by H.
 pub record Carried {X V W : Type 0} (value : X → V) (G : V → List ℕ → Type 0) (other : X → W) (H : W → List ℕ → Type 0) : Type 0 where
   pub there : V → W
   pub back : W → V
@@ -50,7 +50,7 @@ algorithm_carried {X} {V} {W} {value} {G} {other} {H} k = record {
 pub itself_carried : {X V : Type 0} {value : X → V} {G : V → List ℕ → Type 0} → Carried value G value G
 itself_carried = record { there = λ v. v; back = λ v. v; meant = λ x. refl; text_there = λ v b p. p; text_back = λ v b p. p }
 
--- Two that mean the same by the one mean the same by the other.
+-- Two that mean the same by the one grammar mean the same by the other.
 pub same_carried : {X V W : Type 0} {value : X → V} {G : V → List ℕ → Type 0} {other : X → W} {H : W → List ℕ → Type 0} → Carried value G other H
     → (x y : X) → value x ≡ value y → other x ≡ other y
 same_carried k x y same = k.meant x ∙ ap k.there same ∙ sym (k.meant y)

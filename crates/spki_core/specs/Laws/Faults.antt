@@ -1,4 +1,4 @@
--- Bytes with a fault are no identifier, and no algorithm, and have one first fault.
+-- Bytes with a fault are no object identifier, and no algorithm identifier, and have one first fault.
 use Rattle.std.proofs.Common.{ℕ, List, [], ◌∷◌, ◌++◌, ◌≡◌, length, refl, ap, sym, ◌∙◌, arith, length-append, Result, Ok, Err}
 use Rattle.der_core.specs.declared.error.ErrorKind.{ErrorKind}
 use Rattle.der_core.specs.declared.error.ErrorKind.TheVariants.{Incomplete, OidMalformed}
@@ -64,7 +64,7 @@ any_fault_none k i within (too_few t n header rest h is few kind) = (
       omega (arith, few, number, ap length parts.1, length-append p.contents more),
 )
 
--- the fault, by what is read of the header
+-- the fault, by the result of reading the header
 AnyAt : ErrorKind → Result ((ℕ × ℕ) × List ℕ) ErrorKind → Type 0
 AnyAt k (Err e) = e ≡ k
 AnyAt k (Ok p) = k ≡ Incomplete

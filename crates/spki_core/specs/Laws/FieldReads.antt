@@ -23,7 +23,7 @@ is_next : (i : List ℕ) (n : ℕ) → slice_get i 0 ≡ Some (160 + n) → IsNe
 is_next [] n e = cc
 is_next (x ∷ xs) n e = (xs, let same : x ≡ 160 + n = cc in ap (λ k. k ∷ xs) same)
 
--- Its octet isn't next: the default is given.
+-- Its octet isn't next: the result is the default.
 pub field_absent : {X V : Type 0} (n : ℕ) (value : X → V) (text : V → List ℕ → Type 0) (may_allocate : List ℕ → Type 0) (default : V) (x : X) (before after : Input)
     → TellsNext (160 + n) (Ok false) before after → value x ≡ default → ReadsField n value text default may_allocate (Ok x) before after
 field_absent n value text may_allocate default x before after (i, is, left, told) same =
@@ -49,7 +49,7 @@ field_told n Fault may_allocate e before mid (i, is, at, told) fault t octet j h
     let same : i ≡ j = some_same i j (sym is ∙ here) in
     ⊎_elim inl (λ f. inr (is_next j n (rw same at (told.0 refl)), f)) (fault t octet j (at ∙ ap (λ l. Some l) same))
 
--- Where the answer is no, the octet of the field isn't next.
+-- If the result is false, the octet of the field isn't next.
 pub not_next : (n : ℕ) (before mid : Input) (i : List ℕ) → TellsNext (160 + n) (Ok false) before mid → before ≡ Some i → IsNext n i → ⊥
 not_next n before mid i (j, is, at, told) here (rest, e) =
     let same : j ≡ i = some_same j i (sym is ∙ here) in
@@ -66,7 +66,7 @@ pub of_tag : {X : Type 0} (r : Result X Error) (n : ℕ) (Fault : Tag → ErrorK
 of_tag (Ok x) n Fault may_allocate before tag same fault = tt
 of_tag (Err e) n Fault may_allocate before tag same fault = fault tag same
 
--- The fault of a field, and of what is behind it.
+-- The fault of a field, and of what follows it.
 module _ {V : Type 0} (n : ℕ) (text : V → List ℕ → Type 0) (default : V) (Fault Behind : ErrorKind → List ℕ → Type 0) (own behind : List ℕ → Type 0) where
   pub field_faults : (before after : Input) (e : ErrorKind) → after ≡ None → FaultyFront (NextFault n Fault) (FieldAllocates n own) e before
       → ContentsFaulty (FieldThenFault n text default Fault Behind) (AllocatesFromField n text default own behind) e before after
@@ -90,7 +90,7 @@ pub field_failed : {X V : Type 0} (n : ℕ) (value : X → V) (text : V → List
     → TellsNext (160 + n) (Err e) before after → ReadsField n value text default may_allocate (Err e) before after
 field_failed n value text may_allocate default e before after (none, failed, _) = (failed, λ bytes is. let no : ◌≡◌ {A = Input} None (Some bytes) = sym none ∙ is in cc)
 
--- What reading a field ensures of a refusal, and of a value.
+-- What reading a field ensures of an error, and of a value.
 abbrev pub FieldFails : {V : Type 0} → ℕ → (V → List ℕ → Type 0) → (List ℕ → Type 0) → ErrorKind → Input → Input → Type 0
 FieldFails n text own e before after =
     (after ≡ None) × ((bytes : List ℕ) → before ≡ Some bytes → Refuses e (AllocatesIn (FieldAllocates n own) bytes) (FieldRefused n text bytes))

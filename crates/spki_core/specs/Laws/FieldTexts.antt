@@ -32,7 +32,7 @@ not_later n (f ∷ fields) c r l (x, y, inr p, j, e) h =
     let k : 160 + f.number ≡ 160 + n = (same_cons (sym s.1 ∙ h)).0 in
     omega (arith, l.0)
 
--- One field of two joinings of the same bytes: its value is the same, and so is the rest.
+-- One field in two ways of joining the same bytes: its value is the same, and so is the rest.
 pub field_step : (f g : Field) (fs gs : List Field) (Same : Type 0) → f.number ≡ g.number → (f.IsDefault → g.IsDefault → Same) → ((c : List ℕ) → f.Inner c → g.Inner c → Same) → AreLater f.number fs → AreLater g.number gs → (c : List ℕ) → Joins (map Defaultable (f ∷ fs)) c → Joins (map Defaultable (g ∷ gs)) c → Same × (rest : List ℕ) × Joins (map Defaultable fs) rest × Joins (map Defaultable gs) rest
 field_step f g fs gs Same n d i lf lg c (x, y, inl p, j, e) (x', y', inl q, k, h) =
     let a : c ≡ y = rw p.0 at e in
@@ -50,7 +50,7 @@ field_step f g fs gs Same n d i lf lg c (x, y, inr p, j, e) (x', y', inr q, k, h
     let s = tlv_split x y x' y' p q (sym e ∙ h) in
     (i s.3 s.4 s.5, y', rw s.2 at j, k)
 
--- One field of two values in two joinings of the same bytes.
+-- One field with two values in two ways of joining the same bytes.
 pub value_step : {V : Type 0} (n : ℕ) (Grammar : V → List ℕ → Type 0) → IsDelimited Grammar → (default v w : V) (fs gs : List Field) → AreLater n fs → AreLater n gs → (c : List ℕ) → Joins (map Defaultable (field n Grammar default v ∷ fs)) c → Joins (map Defaultable (field n Grammar default w ∷ gs)) c → (v ≡ w) × (rest : List ℕ) × Joins (map Defaultable fs) rest × Joins (map Defaultable gs) rest
 value_step n Grammar d default v w fs gs lf lg c p q =
     field_step (field n Grammar default v) (field n Grammar default w) fs gs (v ≡ w) refl (λ a b. a ∙ sym b) (λ x a b. means_one d v w x a b) lf lg c p q
@@ -68,7 +68,7 @@ pub fields_of_bytes : (fields : List Field) → AreOfBytes fields → (c : List 
 fields_of_bytes [] all c p = rw p tt
 fields_of_bytes (f ∷ fields) all c p = then_of_bytes (field_of_bytes f all.0 all.1) (fields_of_bytes fields all.2) c p
 
--- What is written of a field.
+-- What is written for a field.
 pub field_relates : {V : Type 0} {has : Type 0} (number : ℕ) (Grammar : V → List ℕ → Type 0) (default v : V) (is_default : Bool) (text : List ℕ)
     → Decides is_default (v ≡ default) → (has → length text < 2 ^ 128 → Grammar v text) → HasField is_default has → length (written_field is_default number text) < 2 ^ 128
     → Defaultable (field number Grammar default v) (written_field is_default number text)

@@ -68,7 +68,7 @@ joins_masked (f ∷ fields) k c (inr (d, h)) (x, y, p, i, g) =
       | inr q ↦ (r.0, (r.0, (x, y, forced d refl q, r.1, g)))
     ]
 
--- A mask says what stands in a field and what is left of it.
+-- A mask determines what is written of a field, and what is left of the mask.
 field_same : (f : Field) (m n n' : ℕ) (x x' : List ℕ) → AtMostOne f.Inner → MaskedField f m n x → MaskedField f m n' x' → (n ≡ n') × (x ≡ x')
 field_same f m n n' x x' o (left_out d e z) (left_out d' e' z') = (omega arith, z ∙ sym z')
 field_same f m n n' x x' o (left_out d e z) (written d' e' p) = absurd (omega arith)
@@ -88,7 +88,7 @@ masked_same (f ∷ fields) m c d o (n, (x, y, a, i, g)) (n', (x', y', a', i', g'
     let t : y ≡ y' = masked_same fields n' y y' o.2 (rw s.0 at i) i' in
     rw (g, g', s.1, t)
 
--- What stands in a field and what is left of the mask say the mask.
+-- What is written of a field, and what is left of the mask, determine the mask.
 field_mask : (f : Field) (m m' n : ℕ) (x : List ℕ) → MaskedField f m n x → MaskedField f m' n x → m ≡ m'
 field_mask f m m' n x (left_out d e z) (left_out d' e' z') = omega arith
 field_mask f m m' n x (left_out d e z) (written d' e' p) = absurd (omega (arith, tlv_not_empty x p, ap length z))
@@ -203,7 +203,7 @@ zero_made (f ∷ fields) k c (inr (a, h)) (x, y, inr p, i, g) =
     let r = zero_made fields k y h i in
     (x ++ r.0, (0, (x, r.0, forced a refl p, r.1, refl)), omega (arith, r.2, length-append x r.0))
 
--- The bytes of fields begin with an octet of 160 or more.
+-- The encodings of fields begin with an octet of 160 or more.
 pub fields_start : (fields : List Field) (b : ℕ) (c r : List ℕ) → b < 160 → Joins (map Defaultable fields) c → c ≡ b ∷ r → ⊥
 fields_start [] b c r l p e = omega (arith, ap length p, ap length e)
 fields_start (f ∷ fields) b c r l (x, y, inl p, j, e) h =
@@ -213,7 +213,7 @@ fields_start (f ∷ fields) b c r l (x, y, inr p, j, e) h =
     let k : 160 + f.number ≡ b = (same_cons (sym s.1 ∙ h)).0 in
     omega arith
 
--- The number of defaults is one, and no greater than that of the fields.
+-- The number of defaults is unique, and no greater than that of the fields.
 pub defaults_same : (fields : List Field) (j k : ℕ) → HaveDefaults fields j → HaveDefaults fields k → j ≡ k
 defaults_same [] j k p q = p ∙ sym q
 defaults_same (f ∷ fields) j k (inl (d, i, e, p)) (inl (d', i', e', q)) = let s : i ≡ i' = defaults_same fields i i' p q in omega arith
@@ -226,12 +226,12 @@ defaults_le [] k p = rw p zero-le
 defaults_le (f ∷ fields) k (inl (d, i, e, p)) = let s : i ≤ length fields = defaults_le fields i p in omega arith
 defaults_le (f ∷ fields) k (inr (n, p)) = let s : k ≤ length fields = defaults_le fields k p in omega arith
 
--- Where a field's octet isn't next, every splitting leaves the field out.
+-- If a field's octet isn't next, every splitting leaves the field out.
 pub absent_step : {V : Type 0} (n : ℕ) (Grammar : V → List ℕ → Type 0) (default w : V) (gs : List Field) (c : List ℕ) → (IsNext n c → ⊥) → Joins (map Defaultable (field n Grammar default w ∷ gs)) c → (w ≡ default) × Joins (map Defaultable gs) c
 absent_step n Grammar default w gs c h (x, y, inl p, j, e) = let a : c ≡ y = rw p.0 at e in (p.1, rw a j)
 absent_step n Grammar default w gs c h (x, y, inr p, j, e) = absurd (h (explicit_starts (field n Grammar default w) x y c p e))
 
--- Where an encoding of the field stands in front, every splitting has that encoding, its value and its rest.
+-- If an encoding of the field is next, every splitting has that encoding, its value and its rest.
 pub present_step : {V : Type 0} (n : ℕ) (Grammar : V → List ℕ → Type 0) → IsDelimited Grammar → (default v w : V) (gs : List Field) (c rest : List ℕ) → AreLater n gs → Then (Explicit (field n Grammar default v)) (Is rest) c → Joins (map Defaultable (field n Grammar default w ∷ gs)) c → (w ≡ v) × Joins (map Defaultable gs) rest
 present_step n Grammar d default v w gs c rest l (x', y', q, k, f) (x, y, inl p, j, e) =
     let a : c ≡ y = rw p.0 at e in
@@ -241,7 +241,7 @@ present_step n Grammar d default v w gs c rest l (x', y', q, k, f) (x, y, inr p,
     let s = tlv_split x y x' y' p q (sym e ∙ f) in
     (means_one d w v s.3 s.4 s.5, rw (s.2 ∙ k) at j)
 
--- Where the octet is next and no encoding of the field stands in front, there is no splitting.
+-- If the octet is next, but no encoding of the field, there is no splitting.
 pub refused_step : {V : Type 0} (n : ℕ) (Grammar : V → List ℕ → Type 0) (default w : V) (gs : List Field) (c : List ℕ) → AreLater n gs → IsNext n c → ((v : V) (rest : List ℕ) → Then (Explicit (field n Grammar default v)) (Is rest) c → ⊥) → Joins (map Defaultable (field n Grammar default w ∷ gs)) c → ⊥
 refused_step n Grammar default w gs c l h refused (x, y, inl p, j, e) =
     let a : c ≡ y = rw p.0 at e in

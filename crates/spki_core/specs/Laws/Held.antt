@@ -1,4 +1,4 @@
--- What identifiers and borrowed encodings of any tag hold: each has an encoding, little longer than the limit.
+-- Object identifiers and borrowed values of any tag: each has an encoding, little longer than the limit.
 use Rattle.std.proofs.Common.{◌++◌, ◌≤◌, ◌+◌, length, arith, length-append, Option, Some, None}
 use Rattle.std.specs.Option.{option_map}
 use Rattle.der_core.specs.Tag.{object_identifier_tag, sequence_tag}

@@ -1,4 +1,4 @@
--- Contents octets of identifiers at worked examples.
+-- Contents octets of identifiers: worked rows.
 use Rattle.std.proofs.Common.{ℕ, zero, suc, List, [], ◌∷◌, ◌≡◌, refl, sym, ◌∙◌, arith}
 use Rattle.std.specs.Prelude.{false}
 use Rattle.der_core.specs.declared.error.ErrorKind.TheVariants.{OidMalformed}
@@ -28,7 +28,7 @@ mgf1_contents = 0x2a ∷ 0x86 ∷ 0x48 ∷ 0x86 ∷ 0xf7 ∷ 0x0d ∷ 0x01 ∷ 0
 pub mgf1_identifier : IsIdentifier mgf1_contents
 mgf1_identifier = is_identifier-sound mgf1_contents (omega arith, (omega arith, (omega arith, (omega arith, (omega arith, (omega arith, (omega arith, (omega arith, (omega arith, tt))))))))) refl
 
--- octets 01, so many
+-- n octets 01
 abbrev ones : ℕ → List ℕ
 ones zero = []
 ones (suc n) = 0x01 ∷ ones n

@@ -1,4 +1,4 @@
--- Fields that are written out: what an encoding says of them.
+-- Fields with known bytes: what an encoding says about them.
 use Rattle.std.proofs.Common.{ℕ, List, [], ◌∷◌, ◌++◌, ◌≡◌, ◌≢◌, ◌<◌, ◌+◌, inl, inr, length, refl, ap, sym, ◌∙◌, map}
 use Rattle.std.specs.Prelude.{◌⊎◌}
 use Rattle.der_core.specs.Texts.{Then, Joins}
@@ -33,12 +33,12 @@ abbrev pub NoneHas : ℕ → List Field → Type 0
 NoneHas u [] = Unit {0}
 NoneHas u (f ∷ fields) = (160 + f.number ≢ u) × NoneHas u fields
 
--- Then no encoding of the fields stands there.
+-- Then the bytes begin with no encoding of the fields.
 pub unknown_tag_refused : (fields : List Field) (u : ℕ) (c rest : List ℕ) → length c < 128 → NoneHas u fields → Joins (map Defaultable fields) ((u ∷ length c ∷ c) ++ rest) → ⊥
 unknown_tag_refused [] u c rest few none p = cc
 unknown_tag_refused (f ∷ fields) u c rest few none p = unknown_tag_refused fields u c rest few none.1 (other_field_next f u c rest few none.0 p).1
 
--- Where the later fields have other tags, the field is written.
+-- If the later fields have other tags, the field is written.
 pub field_written : (f : Field) (fields : List Field) (u : ℕ) (c rest : List ℕ) → length c < 128 → NoneHas u fields → Then (Defaultable f) (Joins (map Defaultable fields)) ((u ∷ length c ∷ c) ++ rest)
     → (160 + f.number ≡ u) × f.Inner c × Joins (map Defaultable fields) rest
 field_written f fields u c rest few none p = elim (field_at f u c rest few p) [

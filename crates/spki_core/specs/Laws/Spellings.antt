@@ -35,7 +35,7 @@ zero_least fields k text other o d p q =
       | inr l ↦ let g : length text + 1 ≤ length other = tlv_grows 1 text other p r.2 (omega arith) in inr (omega arith)
     ]
 
--- Each mask has an encoding within the limit, where the encoding with every field has.
+-- Each mask has an encoding within the limit, if the encoding with every field is within it.
 pub masked_fits : (fields : List Field) (k m : ℕ) (all : List ℕ) → HaveDefaults fields k → m < 2 ^ k → AllExplicit fields all → length all ≤ limit → (text : List ℕ) × (Masked fields m text × (length text ≤ limit))
 masked_fits fields k m all d l p fits =
     let r = masked_made fields k m p.contents d l p.holds in
@@ -79,7 +79,7 @@ module _ {V : Type 0} (fields : V → List Field) (ordered : (v : V) → AreInOr
         | inr l ↦ absurd (omega (arith, r.2))
       ]
 
-  -- Encodings under the masks below two to the number of defaults, one for each, are the spellings.
+  -- The encodings under the masks below two to the number of defaults, one for each, are the spellings.
   pub members_under : (v : V) (k : ℕ) (texts : List (List ℕ)) → HaveDefaults (fields v) k → length texts ≡ 2 ^ k → ((m : ℕ) → m < 2 ^ k → Masked (fields v) m (get_or texts m []) × (length (get_or texts m []) ≤ limit))
       → AreTheMembers (Spellings (λ w. FieldSequence (fields w)) v) (2 ^ k) texts
   members_under v k texts d count under = record {
@@ -89,7 +89,7 @@ module _ {V : Type 0} (fields : V → List Field) (ordered : (v : V) → AreInOr
     every = λ text s. let q = spelled_is_masked (fields v) k text d s.1 in (q.0, q.1, one_text (fields v) q.0 (get_or texts q.0 []) text (ordered v) (under q.0 q.1).0 q.2);
   }
 
-  -- So there are such encodings where the one with every field is within the limit.
+  -- So there are such encodings, if the one with every field is within the limit.
   pub masks_are_members : (v : V) (k : ℕ) (all : List ℕ) → HaveDefaults (fields v) k → AllExplicit (fields v) all → length all ≤ limit → (texts : List (List ℕ)) × AreTheMembers (Spellings (λ w. FieldSequence (fields w)) v) (2 ^ k) texts × ((m : ℕ) → m < 2 ^ k → Masked (fields v) m (get_or texts m []))
   masks_are_members v k all d p l =
       let r = list_of (2 ^ k) (λ m text. Masked (fields v) m text × (length text ≤ limit)) (λ m h. masked_fits (fields v) k m all d h p l) in

@@ -1,4 +1,4 @@
--- What a walk over fields says of defaults that are written.
+-- What a walk over fields finds of defaults that are written.
 use Rattle.std.proofs.Common.{ℕ, List, [], ◌∷◌, ◌++◌, ◌≡◌, ◌<◌, ◌≤◌, ◌+◌, ◌*◌, ◌-◌, inl, inr, map, length, refl, sym, ap, ◌∙◌, arith, Option, Some, None, Bool, true, false, get_or, take, drop}
 use Rattle.std.proofs.lemmas.List.{take_all}
 use Rattle.std.specs.Bool.{Decides}
@@ -116,7 +116,7 @@ first_one (f ∷ fields) o n m c (inr (x, y, s, w, e)) (inr (x', y', s', w', e')
 pub writes_one : (fields : List Field) → AreInOrder fields → (n m : ℕ) (text : List ℕ) → WritesDefault fields n text → WritesDefault fields m text → n ≡ m
 writes_one fields o n m text p q = let both = tlv_split text [] text [] p q refl in first_one fields o n m both.3 both.4 both.5
 
--- The same of whole encodings.
+-- The same for whole encodings.
 abbrev pub FoundIn : List Field → List ℕ → Option ℕ → Type 0
 FoundIn fields text None = Masked fields 0 text
 FoundIn fields text (Some n) = WritesDefault fields n text
@@ -132,7 +132,7 @@ text_finds fields ds text found o b m fits p walks =
     let any : Any (record { tag = 48; contents = p.contents }) text = ((refl, bytes), tlv_recast text p refl) in
     found_in fields text p found (walk_finds fields 0 ds p.contents found o b m p.holds (walks p.contents (fits, any)))
 
--- So an encoding is the shortest exactly where no default is found in it.
+-- So an encoding is the shortest exactly if no default is found in it.
 module _ {V : Type 0} (fields : V → List Field) (ordered : (v : V) → AreInOrder (fields v)) where
   pub none_found : (v : V) (k : ℕ) (text : List ℕ) → HaveDefaults (fields v) k → length text ≤ limit → Masked (fields v) 0 text → IsShortest (λ w. FieldSequence (fields w)) v text
   none_found v k text h fits p = zero_shortest fields ordered v k text h p fits
