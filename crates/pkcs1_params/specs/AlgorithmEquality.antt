@@ -1,4 +1,4 @@
--- Equality of identifiers as types have it, where their parameters hold tags with contents.
+-- The equality of algorithm identifiers in the code, where their parameters are tags with contents.
 use Rattle.std.proofs.Common.{Bool, ◌≡◌, ◌&&◌, Decides}
 use Rattle.std.specs.Option.{option_eq}
 use Rattle.std.specs.Str.{bytes_eq}
@@ -7,7 +7,7 @@ use Rattle.spki_core.specs.AlgorithmValue.{algorithm_with}
 use Rattle.spki_core.specs.ObjectIdentifierValue.{octets_of}
 use Rattle.spki_core.specs.declared.algorithm_identifier.AlgorithmIdentifier.{AlgorithmIdentifier}
 
--- What two identifiers are equal by.
+-- What decides whether two identifiers are equal.
 abbrev pub eq_with : {X : Type 0} → (X → X → Bool) → AlgorithmIdentifier X → AlgorithmIdentifier X → Bool
 eq_with E a b = bytes_eq (octets_of a.oid) (octets_of b.oid) && option_eq E a.parameters b.parameters
 

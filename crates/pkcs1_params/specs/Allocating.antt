@@ -1,4 +1,4 @@
--- Where reading of parameters may ask for memory.
+-- Where reading parameters may ask for memory.
 use Rattle.std.specs.Prelude.{ℕ, List}
 use Rattle.der_core.specs.Reading.{AllocatesIn}
 use Rattle.spki_core.specs.Any.{TagAndContents, Any}
@@ -6,21 +6,21 @@ use Rattle.spki_core.specs.AlgorithmIdentifier.{PlainAlgorithm, MaskAlgorithm}
 use Rattle.spki_core.specs.Allocating.{AlgorithmAllocates, FieldAllocates, AllocatesFromField}
 use Rattle.pkcs1_params.specs.Parameters.{sha1, mgf1_sha1}
 
--- The parameters of the hash in [0] may ask, or those of the hash under the mask generation function in [1], or what is
--- behind both.
+-- The parameters of the hash in [0] may ask for memory, or those of the hash under the mask generation function in [1],
+-- or what follows both.
 abbrev pub AllocatesFromHash : (List ℕ → Type 0) → (List ℕ → Type 0) → List ℕ → Type 0
 AllocatesFromHash may_allocate later contents =
     AllocatesFromField 0 PlainAlgorithm sha1 (AlgorithmAllocates may_allocate)
     (AllocatesFromField 1 MaskAlgorithm mgf1_sha1 (AlgorithmAllocates (AlgorithmAllocates may_allocate)) later) contents
 
--- Numbers never ask.
+-- Numbers never ask for memory.
 abbrev pub PssAllocates : (List ℕ → Type 0) → List ℕ → Type 0
 PssAllocates may_allocate contents = AllocatesFromHash may_allocate (λ _. ⊥) contents
 
--- The parameters of the source in [2] may ask too.
+-- The parameters of the source in [2] may ask for memory too.
 abbrev pub OaepAllocates : (List ℕ → Type 0) → List ℕ → Type 0
 OaepAllocates may_allocate contents = AllocatesFromHash may_allocate (AllocatesIn (FieldAllocates 2 (AlgorithmAllocates may_allocate))) contents
 
--- Owned parameters of an identifier ask wherever they are there.
+-- Owned parameters of an identifier ask for memory wherever there are any.
 abbrev pub AllocatesForAny : List ℕ → Type 0
 AllocatesForAny text = (v : TagAndContents) × Any v text

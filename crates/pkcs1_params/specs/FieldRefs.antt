@@ -1,4 +1,4 @@
--- What a borrowed field holds.
+-- The value of a borrowed field.
 use Rattle.std.specs.Prelude.{List, map}
 use Rattle.spki_core.specs.AlgorithmValue.{algorithm_of, mask_of}
 use Rattle.spki_core.specs.Masks.{Part}

@@ -14,7 +14,7 @@ pub record MaskedValue (V : Type 0) : Type 0 where
   pub value : V
   pub mask : ℕ
 
--- The mask has a bit for each default and no others.
+-- The mask has a bit for each default and no other bits.
 abbrev pub InRange : List Field → ℕ → Type 0
 InRange fields mask = (k : ℕ) → HaveDefaults fields k → mask < 2 ^ k
 

@@ -1,4 +1,4 @@
--- What RSAES-OAEP parameters mean, by what an algorithm's parameters hold.
+-- What RSAES-OAEP parameters mean, by what the parameters of algorithms hold.
 use Rattle.std.specs.Prelude.{ℕ, List, ◌≡◌, length}
 use Rattle.der_core.specs.Texts.{AreBytes}
 use Rattle.der_core.specs.Document.{Means}
@@ -18,7 +18,7 @@ oaep_with any p = record { hash = algorithm_with any p.hash; mask_gen = algorith
 abbrev pub oaep_of : RsaOaepParams AnyRef → OaepParameters
 oaep_of = oaep_with any_of
 
--- over the octets of its identifiers
+-- that borrow from the input
 abbrev pub oaep_viewed : OaepView → OaepParameters
 oaep_viewed p = record { hash = viewed_with any_of p.hash; mask_gen = viewed_with (viewed_with any_of) p.mask_gen; p_source = viewed_with any_of p.p_source }
 
@@ -30,7 +30,7 @@ labelled oid label = record {
   p_source = with_parameters id_p_specified (octets_value label);
 }
 
--- with every label of n bytes there is an encoding, or with none
+-- with a label of n bytes there is always an encoding, or never
 abbrev pub LabelFits : List ℕ → ℕ → Type 0
 LabelFits oid n = (label : List ℕ) → AreBytes label → length label ≡ n → (text : List ℕ) × Means grammar.RsaOaepParams text (labelled oid label)
 

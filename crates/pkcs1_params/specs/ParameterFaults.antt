@@ -28,11 +28,11 @@ tag_2 = record { octet = 162; allowed = refl }
 abbrev pub tag_3 : Tag
 tag_3 = record { octet = 163; allowed = refl }
 
--- No number from 0 to 255, or another than 1.
+-- No number from 0 to 255, or another one than 1.
 abbrev pub TrailerFault : ErrorKind → List ℕ → Type 0
 TrailerFault = ExpectedFault SmallContents SmallFault 1 (Value integer)
 
--- The fields, by what their tags hold. P is what parameters of an identifier are.
+-- The fields, by what their tags hold. P is the type of an algorithm's parameters.
 abbrev pub PlainFault : {P : Type 0} → (P → List ℕ → Type 0) → (ErrorKind → List ℕ → Type 0) → ErrorKind → List ℕ → Type 0
 PlainFault Text Fault = TextFault sequence (AlgorithmFault Text Fault)
 
@@ -62,7 +62,7 @@ OaepFault Text Fault =
     FieldThenFault 0 PlainAlgorithm sha1 (HashFault Text Fault)
     (FieldThenFault 1 MaskAlgorithm mgf1_sha1 (MaskFault Text Fault) (FieldThenFault 2 PlainAlgorithm empty_label (SourceFault Text Fault) EndFault))
 
--- Slices that are to be parameters.
+-- Whole slices that have to be parameters.
 abbrev pub RsaPssParamsFault : ErrorKind → List ℕ → Type 0
 RsaPssParamsFault = WholeFault RsaPssParams (TextFault sequence (PssFault Any AnyFault))
 
@@ -74,7 +74,7 @@ abbrev pub DefaultFault : {V : Type 0} → (V → List ℕ → Type 0) → (V �
 DefaultFault {V} Grammar fields kind text =
     (v : V) × Means Grammar text v × (n : ℕ) × WritesDefault (fields v) n text × (tag : Tag) × (tag.octet ≡ context_tag n) × (kind ≡ Noncanonical tag)
 
--- Slices that are to be the shortest encoding of parameters.
+-- Whole slices that have to be the shortest encoding of parameters.
 abbrev pub StrictPssFault : ErrorKind → List ℕ → Type 0
 StrictPssFault kind bytes = RsaPssParamsFault kind bytes ⊎ DefaultFault RsaPssParams pss_fields kind bytes
 

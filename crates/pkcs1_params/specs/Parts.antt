@@ -108,7 +108,7 @@ Fielded values v text = FieldSequence (fields_with values v) text
 abbrev pub defaults_in : List FieldValue → List Bool
 defaults_in values = map (λ v. (part_of v).is_default) values
 
--- Their numbers are n and those after it.
+-- Their numbers are n and the following ones.
 abbrev pub AreNumbered : ℕ → List FieldValue → Type 0
 AreNumbered n [] = Unit {0}
 AreNumbered n (v ∷ values) = ((part_of v).field.number ≡ n) × AreNumbered (n + 1) values
@@ -119,7 +119,7 @@ pss_values p = hash_field p.hash ∷ mask_gen_field p.mask_gen ∷ salt_len_fiel
 abbrev pub oaep_values : OaepParameters → List FieldValue
 oaep_values p = hash_field p.hash ∷ mask_gen_field p.mask_gen ∷ p_source_field p.p_source ∷ []
 
--- Which values have contents under a mask, and which are written.
+-- Which values have contents under a mask, and which contents are written.
 abbrev pub HasFields : List FieldValue → ℕ → Type 0
 HasFields values mask = has_under (parts_of values) mask
 

@@ -1,4 +1,4 @@
--- What RSASSA-PSS parameters mean, by what an algorithm's parameters hold.
+-- What RSASSA-PSS parameters mean, by what the parameters of algorithms hold.
 use Rattle.spki_core.specs.Any.{TagAndContents}
 use Rattle.spki_core.specs.AnyRefValue.{any_of}
 use Rattle.spki_core.specs.declared.any.AnyRef.{AnyRef}
@@ -19,7 +19,7 @@ pss_with any p = record {
 abbrev pub pss_of : RsaPssParams AnyRef → PssParameters
 pss_of = pss_with any_of
 
--- over the octets of its identifiers
+-- that borrow from the input
 abbrev pub pss_viewed : PssView → PssParameters
 pss_viewed p = record {
   hash = viewed_with any_of p.hash;

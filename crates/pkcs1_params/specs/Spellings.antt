@@ -1,5 +1,4 @@
--- The encodings of a value whose type is a SEQUENCE of fields with defaults: one for each mask, the shortest under mask
--- 0.
+-- The encodings of a SEQUENCE of fields with defaults: one under each mask, the shortest under mask 0.
 use Rattle.std.specs.Global.{Vec}
 use Rattle.std.specs.Prelude.{ℕ, List, [], ◌≡◌, ◌<◌, ◌≤◌, ◌^◌, ◌↔◌, ◌⊎◌, length, map, slice_index_or}
 use Rattle.der_core.specs.Length.{limit}
@@ -24,7 +23,7 @@ IsMask fields mask = (k : ℕ) × HaveDefaults fields k × (mask < 2 ^ k)
 abbrev pub AllFit : List Field → Type 0
 AllFit fields = (all : List ℕ) × AllExplicit fields all × (length all ≤ limit)
 
--- The encoding stands under exactly one mask, and that is below two to the k.
+-- The encoding is the spelling under exactly one mask, which is below two to the k.
 abbrev pub HasOneMask : List Field → ℕ → List ℕ → Type 0
 HasOneMask fields k text = (mask : ℕ) × (mask < 2 ^ k) × IsSpelling fields mask text × ((other : ℕ) → IsSpelling fields other text → other ≡ mask)
 
@@ -32,7 +31,7 @@ HasOneMask fields k text = (mask : ℕ) × (mask < 2 ^ k) × IsSpelling fields m
 abbrev pub DefaultsAreCounted : {V : Type 0} → (V → List Field) → Type 0
 DefaultsAreCounted {V} fields = (v : V) → (k : ℕ) × HaveDefaults (fields v) k × ((j : ℕ) → HaveDefaults (fields v) j → j ≡ k)
 
--- Each spelling stands under exactly one mask, and that is below two to the number of default fields.
+-- Each spelling has exactly one mask, which is below two to the number of default fields.
 abbrev pub EachHasOneMask : {V : Type 0} → (V → List Field) → Type 0
 EachHasOneMask {V} fields = (v : V) (k : ℕ) (text : List ℕ) → HaveDefaults (fields v) k → Spellings (λ w. FieldSequence (fields w)) v text → HasOneMask (fields v) k text
 
@@ -59,7 +58,7 @@ AcceptedFits {V} fields =
     Spellings (λ w. FieldSequence (fields w)) v text →
     (shortest : List ℕ) × IsSpelling (fields v) 0 shortest × (length shortest ≤ length text)
 
--- Where the encoding with every field written is within the limit, there are two to the k spellings.
+-- If the encoding with every field written is within the limit, there are two to the k spellings.
 abbrev pub TwoToTheDefaults : {V : Type 0} → (V → List Field) → Type 0
 TwoToTheDefaults {V} fields =
     (v : V) (k : ℕ) (all : List ℕ) →
@@ -68,8 +67,7 @@ TwoToTheDefaults {V} fields =
     length all ≤ limit →
     (texts : List (List ℕ)) × AreTheMembers (Spellings (λ w. FieldSequence (fields w)) v) (2 ^ k) texts × ((m : ℕ) → m < 2 ^ k → Masked (fields v) m (slice_index_or texts m []))
 
--- The encoding is the spelling under this mask and under no other; each spelling of the value stands under exactly one
--- mask.
+-- The encoding is the spelling under this mask and under no other; each spelling of the value has exactly one mask.
 pub record StandsUnder {V : Type 0} (fields : V → List Field) (v : V) (mask : ℕ) (text : List ℕ) : Type 0 where
   pub spelling : IsSpelling (fields v) mask text
   pub no_other : (other : ℕ) → IsSpelling (fields v) other text → other ≡ mask
@@ -78,7 +76,7 @@ pub record StandsUnder {V : Type 0} (fields : V → List Field) (v : V) (mask : 
 abbrev pub HasNoSpelling : List Field → ℕ → Type 0
 HasNoSpelling fields mask = (text : List ℕ) → IsSpelling fields mask text → ⊥
 
--- Why a spelling isn't written: there is none under the mask, or there is one and it has no room.
+-- Why a spelling isn't written: there is none under the mask, or there is no room for it.
 abbrev pub WhyUnspelled : List Field → ℕ → ℕ → EncodeRefusal → Type 0
 WhyUnspelled fields mask room no_text = ⊥
 WhyUnspelled fields mask room too_long = HasNoSpelling fields mask
@@ -91,25 +89,26 @@ IsUnspelled fields mask room = IsAsn1 (λ e. WhyUnspelled fields mask room (enco
 abbrev pub texts_in : Vec (Vec ℕ) → List (List ℕ)
 texts_in texts = map (λ text. text.items) texts.items
 
--- Where every spelling is within the limit, there are two to the number of default fields.
+-- If every spelling is within the limit, there are two to the number of default fields.
 abbrev pub HasTwoToTheDefaults : {V : Type 0} → (V → List Field) → V → Type 0
 HasTwoToTheDefaults fields v = (k : ℕ) → HaveDefaults (fields v) k → AllFit (fields v) → HasMembers (Spellings (λ w. FieldSequence (fields w)) v) (2 ^ k)
 
--- The first n spellings, each one at its mask.
+-- The first n spellings, each at the index that is its mask.
 abbrev pub AreUnder : List Field → ℕ → List (List ℕ) → Type 0
 AreUnder fields n texts = (length texts ≡ n) × ((mask : ℕ) → mask < n → IsSpelling fields mask (slice_index_or texts mask []))
 
--- The number of masks of a value of which every spelling is within the limit.
+-- The number of masks of a value all of whose spellings are within the limit.
 abbrev pub AreMasks : List Field → ℕ → Type 0
 AreMasks fields n = (k : ℕ) × HaveDefaults fields k × (n ≡ 2 ^ k) × AllFit fields
 
--- The encodings are all spellings of the value, none twice: each one at its mask, and the shortest first.
+-- The encodings are all spellings of the value, none twice: each at the index that is its mask, so the shortest is the
+-- first.
 pub record AreAllSpellings {V : Type 0} (fields : V → List Field) (v : V) (texts : List (List ℕ)) : Type 0 where
   pub members : (k : ℕ) → HaveDefaults (fields v) k → AreTheMembers (Spellings (λ w. FieldSequence (fields w)) v) (2 ^ k) texts
   pub under : (mask : ℕ) → mask < length texts → IsSpelling (fields v) mask (slice_index_or texts mask [])
   pub shortest : IsShortest (λ w. FieldSequence (fields w)) v (slice_index_or texts 0 [])
 
--- Why there is no list: memory is wanted for one that fits, or the encoding with every field written is past the limit.
+-- Why there is no list: memory ran out, though all spellings fit, or the encoding with every field passes the limit.
 abbrev pub WhyNoSpellings : List Field → ErrorKind → Type 0
 WhyNoSpellings fields e = ((e ≡ kind.OutOfMemory) × AllFit fields) ⊎ ((e ≡ kind.Overflow) × (AllFit fields → ⊥))
 

@@ -5,7 +5,7 @@ use Rattle.der_core.specs.declared.error.ErrorKind.TheVariants as kind
 use Rattle.der_core.specs.Tags.{integer}
 use Rattle.der_core.specs.IntegerReading.{small_of}
 
--- The number with these contents, where it is 1, or the first fault.
+-- The number with these contents, if it is 1, or the first fault.
 abbrev pub as_trailer : Result ℕ ErrorKind → Result ℕ ErrorKind
 as_trailer (Ok n) = if n == 1 then Ok n else Err (kind.Value integer)
 as_trailer (Err k) = Err k

@@ -1,15 +1,15 @@
-//! The default length of a salt, as a constant of parameters over every type.
+//! The default salt length, as a constant for parameters of every type.
 ghost use Rattle.std.specs.Prelude.{ℕ};
 
 use crate::pss::{RsaPssParams, RsaPssParamsRef};
 
-/// A type of parameters whose salt has a default length. A proof sees a trait's constant for every type parameter, and
-/// one of an `impl` for none.
+/// Parameters with a default salt length. This is a trait, since a proof can't use the constant of an `impl` that has a
+/// type parameter.
 pub trait DefaultSalt {
-    /// The constant, where a contract names it.
+    /// The constant, for contracts.
     ghost SALT_LEN_DEFAULT: { ℕ };
 
-    /// The default length of the salt, in octets.
+    /// The default salt length in octets.
     const SALT_LEN_DEFAULT: u8;
 }
 

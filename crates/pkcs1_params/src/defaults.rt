@@ -1,4 +1,4 @@
-//! The defaults of fields, from constants.
+//! Parameters with defaults, from constants.
 ghost use Rattle.std.specs.Prelude.{◌≡◌, ◌∷◌, [], IsTrue};
 ghost use Rattle.der_core.specs.Tag.{sequence_tag};
 ghost use Rattle.spki_core.specs.AlgorithmValue.{algorithm_of, mask_of};
@@ -13,28 +13,28 @@ use crate::trailer_field::TrailerField;
 use der_core::{NoMemory, Tag};
 use spki_core::{AlgorithmIdentifier, AlgorithmIdentifierRef, AnyParams, AnyRef, ObjectIdentifier};
 
-/// The octets of id-sha1, and zeros.
+/// The octets of id-sha1, padded with zeros.
 static SHA1: [u8; 39] = [
     0x2b, 0x0e, 0x03, 0x02, 0x1a, 0x00, 0x00, 0x00, 0x00, 0x00, 0x00, 0x00, 0x00, 0x00, 0x00, 0x00,
     0x00, 0x00, 0x00, 0x00, 0x00, 0x00, 0x00, 0x00, 0x00, 0x00, 0x00, 0x00, 0x00, 0x00, 0x00, 0x00,
     0x00, 0x00, 0x00, 0x00, 0x00, 0x00, 0x00,
 ];
 
-/// The octets of id-mgf1, and zeros.
+/// The octets of id-mgf1, padded with zeros.
 static MGF1: [u8; 39] = [
     0x2a, 0x86, 0x48, 0x86, 0xf7, 0x0d, 0x01, 0x01, 0x08, 0x00, 0x00, 0x00, 0x00, 0x00, 0x00, 0x00,
     0x00, 0x00, 0x00, 0x00, 0x00, 0x00, 0x00, 0x00, 0x00, 0x00, 0x00, 0x00, 0x00, 0x00, 0x00, 0x00,
     0x00, 0x00, 0x00, 0x00, 0x00, 0x00, 0x00,
 ];
 
-/// The octets of id-pSpecified, and zeros.
+/// The octets of id-pSpecified, padded with zeros.
 static P_SPECIFIED: [u8; 39] = [
     0x2a, 0x86, 0x48, 0x86, 0xf7, 0x0d, 0x01, 0x01, 0x09, 0x00, 0x00, 0x00, 0x00, 0x00, 0x00, 0x00,
     0x00, 0x00, 0x00, 0x00, 0x00, 0x00, 0x00, 0x00, 0x00, 0x00, 0x00, 0x00, 0x00, 0x00, 0x00, 0x00,
     0x00, 0x00, 0x00, 0x00, 0x00, 0x00, 0x00,
 ];
 
-/// Whether the encoding is that of a SEQUENCE without contents, in which every field has its default.
+/// Whether this is a SEQUENCE without contents, in which every field has its default.
 #[tactic(auto, using(crate::proofs::EmptySequences::two_octets))]
 pub(crate) fn is_empty_sequence(bytes: &[u8]) -> bool
     ensures { IsTrue result → bytes.now ≡ sequence_tag ∷ 0 ∷ [] }
@@ -52,7 +52,7 @@ fn default_hash<'a>() -> AlgorithmIdentifierRef<'a>
     }
 }
 
-/// MGF1 with (SHA-1 with NULL).
+/// MGF1 with SHA-1 with NULL.
 fn default_mask_gen<'a>() -> MaskGenRef<'a>
     ensures { mask_of result ≡ mgf1_sha1 }
 {
@@ -62,7 +62,7 @@ fn default_mask_gen<'a>() -> MaskGenRef<'a>
     }
 }
 
-/// The source of the empty label.
+/// pSpecified with the empty label.
 fn default_source<'a>() -> AlgorithmIdentifierRef<'a>
     ensures { algorithm_of result ≡ empty_label }
 {
@@ -72,7 +72,7 @@ fn default_source<'a>() -> AlgorithmIdentifierRef<'a>
     }
 }
 
-/// Parameters of RSASSA-PSS with every field at its default.
+/// RSASSA-PSS parameters with every field at its default.
 pub(crate) fn default_pss<'a>() -> RsaPssParamsRef<'a>
     ensures { pss_of result ≡ record { hash = sha1; mask_gen = mgf1_sha1; salt_len = 20; trailer_field = 1 } }
 {
@@ -84,7 +84,7 @@ pub(crate) fn default_pss<'a>() -> RsaPssParamsRef<'a>
     }
 }
 
-/// Parameters of RSAES-OAEP with every field at its default.
+/// RSAES-OAEP parameters with every field at its default.
 pub(crate) fn default_oaep<'a>() -> RsaOaepParamsRef<'a>
     ensures { oaep_of result ≡ record { hash = sha1; mask_gen = mgf1_sha1; p_source = empty_label } }
 {

@@ -1,22 +1,22 @@
-//! Errors of keys.
+//! The error of keys and parameters.
 ghost use Rattle.std.specs.Prelude.{Some};
 
 use std::fmt;
 
-/// Why a call was refused.
+/// What went wrong.
 #[derive(Clone, Copy, Debug, PartialEq, Eq, Drop)]
 pub enum Error {
-    /// A refusal of the kernel.
+    /// An error of `der_core`.
     Asn1(der_core::Error),
-    /// A cryptographic operation failed. For callers: this crate never answers it.
+    /// A cryptographic operation failed. Never returned by this library: it is there for callers.
     Crypto,
-    /// The numbers of a key aren't those of a key. For callers: this crate never answers it.
+    /// The numbers aren't those of a key. Never returned by this library: it is there for callers.
     KeyMalformed,
-    /// The number is no version: from `Version::try_from` alone.
+    /// The number is no version. Only `Version::try_from` returns it.
     Version,
 }
 
-/// What a call of this crate answers, but for the coding traits of `der_core`.
+/// The result of the calls in this crate, except those of traits in `der_core`.
 pub type Result<T> = std::result::Result<T, Error>;
 
 impl From<der_core::Error> for Error {

@@ -1,4 +1,4 @@
-//! Why an encoding is none of parameters: reading, as a function of the bytes alone.
+//! The first fault of bytes that aren't parameters.
 ghost use Rattle.pkcs1_params.specs.Meanings.{TellsFault};
 ghost use Rattle.pkcs1_params.specs.ParameterFaults.{RsaPssParamsFault, RsaOaepParamsFault};
 ghost use Rattle.pkcs1_params.specs.Parameters as grammar;
@@ -8,8 +8,8 @@ use crate::oaep::RsaOaepParamsRef;
 use crate::pss::RsaPssParamsRef;
 use der_core::ErrorKind;
 
-/// The first fault of bytes that are no parameters of RSASSA-PSS; `None` where they are. Every slice has one or the
-/// other, and no second fault.
+/// The first fault of bytes that aren't RSASSA-PSS parameters, or `None` if they are. Every slice has exactly one of
+/// the two, and at most one first fault.
 pub fn fault_of_pss_params(bytes: &[u8]) -> Option<ErrorKind>
     ensures { TellsFault grammar.RsaPssParams RsaPssParamsFault bytes.now result }
 {
@@ -20,8 +20,8 @@ pub fn fault_of_pss_params(bytes: &[u8]) -> Option<ErrorKind>
     }
 }
 
-/// The first fault of bytes that are no parameters of RSAES-OAEP; `None` where they are. Every slice has one or the
-/// other, and no second fault.
+/// The first fault of bytes that aren't RSAES-OAEP parameters, or `None` if they are. Every slice has exactly one of
+/// the two, and at most one first fault.
 pub fn fault_of_oaep_params(bytes: &[u8]) -> Option<ErrorKind>
     ensures { TellsFault grammar.RsaOaepParams RsaOaepParamsFault bytes.now result }
 {

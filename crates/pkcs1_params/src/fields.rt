@@ -1,4 +1,4 @@
-//! The fields of parameters, and what is written of them under a mask that says which of their defaults are.
+//! The fields of parameters, and writing them under a mask that says which defaults are written.
 ghost use Rattle.std.specs.Prelude.{Bool, false, ◌≡◌, ◌≤◌, ◌<◌, ◌+◌, ◌*◌, ◌++◌, ℕ, length};
 ghost use Rattle.der_core.specs.BackWriters.{free_of, Prepends};
 ghost use Rattle.der_core.specs.Length.{limit};
@@ -28,7 +28,7 @@ pub(crate) enum FieldRef<'b> {
     PSource(&'b AlgorithmIdentifierRef<'b>),
 }
 
-/// A call that does nothing.
+/// Does nothing: its contract is a fact that proofs use.
 fn is_octet(number: u8)
     ensures { number < 256 }
 {
@@ -61,7 +61,7 @@ impl FieldRef<'_> {
         }
     }
 
-    /// What is borrowed has an encoding that memory holds: a call that does nothing.
+    /// Does nothing: its contract says that the value has an encoding, little longer than the limit.
     fn is_held(&self)
         ensures { (part_in self.now).has × (length (part_in self.now).text ≤ limit + 718) }
     {
@@ -74,7 +74,7 @@ impl FieldRef<'_> {
         }
     }
 
-    /// How many octets are written of it, where it may be left out.
+    /// The length of what is written for the field, which may be left out.
     #[inline(always)]
     fn len(&self, left_out: bool) -> Result<Length>
         ensures { let part = part_in self.now in
@@ -87,7 +87,7 @@ impl FieldRef<'_> {
         }
     }
 
-    /// How many octets are written of it.
+    /// The length of the written field.
     #[inline(never)]
     fn written_len(&self) -> Result<Length>
         ensures { let part = part_in self.now in
@@ -103,7 +103,7 @@ impl FieldRef<'_> {
         }
     }
 
-    /// Appends it, where it may be left out.
+    /// Appends the field, unless it is left out.
     fn encode<W: Writer>(&self, left_out: bool, writer: &mut W) -> Result<()>
         ensures appends { let part = part_in self.now in
             let octets = written_field left_out part.field.number part.text in
@@ -120,7 +120,7 @@ impl FieldRef<'_> {
         }
     }
 
-    /// Puts it before what is filled, where it may be left out.
+    /// Writes the field in front of what is filled, unless it is left out.
     #[inline(always)]
     fn prepend(&self, left_out: bool, writer: &mut BackWriter<'_>)
         requires has { HasField left_out (part_in self.now).has }
@@ -136,7 +136,7 @@ impl FieldRef<'_> {
         }
     }
 
-    /// Puts it before what is filled.
+    /// Writes the field in front of what is filled.
     #[inline(never)]
     fn prepend_written(&self, writer: &mut BackWriter<'_>)
         requires has { HasField false (part_in self.now).has }
@@ -158,7 +158,7 @@ impl FieldRef<'_> {
     }
 }
 
-/// Whether a field is left out, and the mask for the later ones.
+/// Whether the field is left out, and the mask for the later ones.
 #[inline(always)]
 pub(crate) fn under(default: bool, mask: u8) -> (bool, u8)
     ensures { result ≡ (out_under default mask, rest_under default mask) }
@@ -170,7 +170,7 @@ pub(crate) fn under(default: bool, mask: u8) -> (bool, u8)
     }
 }
 
-/// Whether a field has its default, and the bits for the later ones.
+/// Whether the field has its default, and the bits for the later ones.
 #[inline(always)]
 fn split_defaults(defaults: u8, _field: &FieldRef<'_>, _later: &[FieldRef<'_>]) -> (bool, u8)
     requires { defaults ≡ bit_of (part_in _field.now).is_default + 2 * bits_of (defaults_in (values_in _later.now)) }
@@ -191,7 +191,7 @@ pub(crate) fn count_defaults(fields: &[FieldRef<'_>]) -> u8
     }
 }
 
-/// A bit that tells a fact.
+/// A bit: 1 if true.
 #[inline(always)]
 pub(crate) fn bit(fact: bool) -> u8
     ensures is { result ≡ bit_of fact }
@@ -200,7 +200,7 @@ pub(crate) fn bit(fact: bool) -> u8
     u8::from(fact)
 }
 
-/// What is borrowed has contents under each mask, and no more of them than memory holds: a call that does nothing.
+/// Does nothing: its contract says that there are contents under each mask, not much longer than the limit.
 pub(crate) fn are_held(fields: &[FieldRef<'_>])
     ensures { (mask : ℕ) → HasFields (values_in fields.now) mask
         × (length (written_fields (values_in fields.now) mask) ≤ length (values_in fields.now) * (limit + 846)) }
@@ -211,8 +211,7 @@ pub(crate) fn are_held(fields: &[FieldRef<'_>])
     }
 }
 
-/// How many octets the fields have under a mask. The bits of `defaults` say which have their defaults, the lowest one
-/// of the first.
+/// The length of the fields under a mask. Bit j of `defaults` says whether field j has its default.
 pub(crate) fn fields_len(fields: &[FieldRef<'_>], defaults: u8, mask: u8) -> Result<Length>
     requires { defaults ≡ bits_of (defaults_in (values_in fields.now)) }
     ensures { let values = values_in fields.now in
@@ -228,7 +227,7 @@ pub(crate) fn fields_len(fields: &[FieldRef<'_>], defaults: u8, mask: u8) -> Res
     }
 }
 
-/// Appends fields that can be written.
+/// Appends the fields, which have an encoding within the limit.
 fn append_fields<W: Writer>(
     fields: &[FieldRef<'_>],
     defaults: u8,
@@ -271,7 +270,7 @@ pub(crate) fn encode_fields<W: Writer>(
     append_fields(fields, defaults, mask, writer)
 }
 
-/// Puts the fields under a mask before what is filled, the last one first.
+/// Writes the fields under a mask in front of what is filled, the last one first.
 pub(crate) fn prepend_fields(
     fields: &[FieldRef<'_>],
     defaults: u8,

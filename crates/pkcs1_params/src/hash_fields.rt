@@ -1,4 +1,4 @@
-//! What both sets of parameters begin with: hashAlgorithm and maskGenAlgorithm.
+//! hashAlgorithm and maskGenAlgorithm, which both sets of parameters begin with.
 ghost use Rattle.std.specs.Prelude.{IfErr, ◌≡◌, ◌∷◌, [], refl};
 ghost use Rattle.der_core.specs.Faults.{FaultyFront};
 ghost use Rattle.spki_core.specs.Allocating.{AlgorithmAllocates, FieldAllocates};
@@ -46,13 +46,13 @@ impl AssociatedOid for Mgf1 {
     }
 }
 
-/// An identifier whose parameters are made of other ones.
+/// A mask generation function, whose parameters name a hash function.
 pub(crate) type MaskGen<P> = AlgorithmIdentifier<AlgorithmIdentifier<P>>;
 
-/// A borrowed mask generation function.
+/// A mask generation function that borrows the parameters of its hash function.
 pub(crate) type MaskGenRef<'a> = AlgorithmIdentifier<AlgorithmIdentifierRef<'a>>;
 
-/// D with NULL.
+/// The algorithm D with NULL.
 pub fn with_null<D: AssociatedOid, P: AnyParams<M>, M: Memory>(memory: M) -> AlgorithmIdentifier<P>
     ensures { algorithm_with P.any result ≡ with_parameters D.contents null_value }
 {
@@ -62,7 +62,7 @@ pub fn with_null<D: AssociatedOid, P: AnyParams<M>, M: Memory>(memory: M) -> Alg
     }
 }
 
-/// MGF1 with (D with NULL).
+/// MGF1 with D with NULL.
 pub(crate) fn mgf1_with<D: AssociatedOid, P: AnyParams<M>, M: Memory>(memory: M) -> MaskGen<P>
     ensures { let hash = with_parameters D.contents null_value in
         algorithm_with (algorithm_with P.any) result ≡ with_parameters id_mgf1 hash }
@@ -80,7 +80,7 @@ pub(crate) fn is_default_hash(hash: &AlgorithmIdentifierRef<'_>) -> bool
     hash.oid.as_bytes() == Sha1::octets() && hash.parameters == Some(AnyRef::null())
 }
 
-/// Whether the mask generation function is the default, MGF1 with (SHA-1 with NULL).
+/// Whether the mask generation function is the default, MGF1 with SHA-1 with NULL.
 pub(crate) fn is_default_mask_gen(mask_gen: &MaskGenRef<'_>) -> bool
     ensures { result ≡ same_mask (mask_of mask_gen.now) mgf1_sha1 }
 {
@@ -90,7 +90,7 @@ pub(crate) fn is_default_mask_gen(mask_gen: &MaskGenRef<'_>) -> bool
     }
 }
 
-/// The same, borrowed.
+/// The mask generation function, borrowed.
 pub(crate) fn mask_gen_ref<P: AnyValue>(mask_gen: &MaskGen<P>) -> MaskGenRef<'_>
     ensures { mask_of result ≡ algorithm_with (algorithm_with P.any) mask_gen.now }
 {
@@ -103,7 +103,7 @@ pub(crate) fn mask_gen_ref<P: AnyValue>(mask_gen: &MaskGen<P>) -> MaskGenRef<'_>
     }
 }
 
-/// Reads the hash function, SHA-1 with NULL where its field is absent.
+/// Reads the hash function. SHA-1 with NULL if its field is absent.
 pub(crate) fn read_hash<'a, P: Decode<&'a [u8], M> + AnyParams<M>, M: Memory, R: Reader<&'a [u8]>>(
     memory: M,
     reader: &mut R,
@@ -121,7 +121,7 @@ pub(crate) fn read_hash<'a, P: Decode<&'a [u8], M> + AnyParams<M>, M: Memory, R:
     }
 }
 
-/// Reads the mask generation function, MGF1 with (SHA-1 with NULL) where its field is absent.
+/// Reads the mask generation function. MGF1 with SHA-1 with NULL if its field is absent.
 pub(crate) fn read_mask_gen<
     'a,
     P: Decode<&'a [u8], M> + AnyParams<M>,

@@ -1,4 +1,4 @@
-//! Labels of RSAES-OAEP: parameters with one, and which are short enough.
+//! RSAES-OAEP parameters with a label, and how long a label may be.
 ghost use Rattle.std.specs.Prelude.{◌≡◌, ◌≤◌, ⊤, length, true, false, ℕ, List};
 ghost use Rattle.der_core.specs.Tlv.{tlv};
 ghost use Rattle.der_core.specs.Texts.{AreBytes};
@@ -13,8 +13,8 @@ use der_core::{Encode, EncodeValue, Length, NoMemory, Result, Tag, TagNumber, jo
 use spki_core::{AnyRef, AssociatedOid, ObjectIdentifier};
 
 impl<'a> RsaOaepParams<AnyRef<'a>> {
-    /// The hash function D with NULL, MGF1 with the same, and this label. `label_fits` says which labels are short
-    /// enough. An empty label is that of `new`.
+    /// The hash function D with NULL, MGF1 with the same hash function, and this label. `label_fits` says whether a
+    /// label is short enough. With an empty label the result is that of `new`.
     pub fn new_with_label<D: AssociatedOid>(label: &'a [u8]) -> RsaOaepParams<AnyRef<'a>>
         requires { LabelFits D.contents (length label.now) }
         ensures { oaep_of result ≡ labelled D.contents label.now }
@@ -35,14 +35,14 @@ impl<'a> RsaOaepParams<AnyRef<'a>> {
     }
 }
 
-/// How many octets an encoding has whose contents were counted.
+/// The length of an encoding with contents of this length.
 fn tagged_len(contents: Result<Length>, tag: Tag) -> Result<Length>
     ensures { (octets : List ℕ) → Counts ⊤ octets contents → Counts ⊤ (tlv tag.octet octets) result }
 {
     contents?.for_tlv(tag)
 }
 
-/// How many octets are written of the source of a label of this many bytes.
+/// The length of what is written for the source of a label of this length.
 fn source_len(len: usize) -> Result<Length>
     ensures { (label : List ℕ) → length label ≡ len → Counts ⊤ (written_source label) result }
 {
@@ -55,7 +55,7 @@ fn source_len(len: usize) -> Result<Length>
     tagged_len(source, Tag::context(TagNumber::new(2)))
 }
 
-/// How many octets the shortest encoding of parameters with a label of this many bytes has.
+/// The length of the shortest encoding of parameters with a label of this length.
 fn labelled_len<D: AssociatedOid>(len: usize) -> Result<Length>
     ensures { (label : List ℕ) → AreBytes label → length label ≡ len → CountsLabelled D.contents label result }
 {

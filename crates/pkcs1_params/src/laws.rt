@@ -1,4 +1,4 @@
-//! What the grammars of parameters promise of themselves: functions that do nothing, each with a law as its contract.
+//! Laws of the grammars of parameters: functions that do nothing, each with a law as its contract.
 ghost use Rattle.der_core.specs.Document.{SameByShortest};
 ghost use Rattle.pkcs1_params.specs.Parameters.{pss_fields, oaep_fields};
 ghost use Rattle.pkcs1_params.specs.Parameters as parameters;
@@ -11,9 +11,9 @@ ghost use Rattle.pkcs1_params.specs.Spellings.{
   TwoToTheDefaults,
 };
 
-/// The encodings of PSS parameters within the limit are those under the masks that say which defaults are written, the
-/// shortest under mask 0; two encodings mean the same exactly where the shortest encodings of what they mean are the
-/// same bytes.
+/// The encodings of PSS parameters within the limit are those under the masks, which say which defaults are written.
+/// The shortest is the one under mask 0. Two encodings mean the same parameters exactly if the shortest encodings of
+/// what they mean are equal.
 pub fn pss_spellings()
     ensures defaults { DefaultsAreCounted pss_fields }
     ensures mask { EachHasOneMask pss_fields }
@@ -24,9 +24,9 @@ pub fn pss_spellings()
     ensures same { SameByShortest parameters.RsaPssParams }
 {}
 
-/// The encodings of OAEP parameters within the limit are those under the masks that say which defaults are written, the
-/// shortest under mask 0; two encodings mean the same exactly where the shortest encodings of what they mean are the
-/// same bytes.
+/// The encodings of OAEP parameters within the limit are those under the masks, which say which defaults are written.
+/// The shortest is the one under mask 0. Two encodings mean the same parameters exactly if the shortest encodings of
+/// what they mean are equal.
 pub fn oaep_spellings()
     ensures defaults { DefaultsAreCounted oaep_fields }
     ensures mask { EachHasOneMask oaep_fields }

@@ -21,7 +21,7 @@ use spki_core::{
 };
 use std::alloc::Global;
 
-/// Parameters of RSAES-OAEP (RFC 8017 A.2.1). A field that has its default is read explicit too, and never written.
+/// Parameters of RSAES-OAEP (RFC 8017 A.2.1). Explicit defaults are read, but never written.
 ///
 /// ```text
 /// RSAES-OAEP-params ::= SEQUENCE {
@@ -34,16 +34,16 @@ use std::alloc::Global;
 pub struct RsaOaepParams<P> {
     /// The hash function; SHA-1 with NULL by default.
     pub hash: AlgorithmIdentifier<P>,
-    /// The mask generation function and the hash function under it; MGF1 with (SHA-1 with NULL) by default.
+    /// The mask generation function and its hash function; MGF1 with SHA-1 with NULL by default.
     pub mask_gen: AlgorithmIdentifier<AlgorithmIdentifier<P>>,
-    /// Where the label comes from; pSpecified with an empty OCTET STRING by default.
+    /// The source of the label; pSpecified with an empty OCTET STRING by default.
     pub p_source: AlgorithmIdentifier<P>,
 }
 
-/// Parameters of RSAES-OAEP that borrow the parameters of their identifiers.
+/// RSAES-OAEP parameters whose algorithms have borrowed parameters.
 pub type RsaOaepParamsRef<'a> = RsaOaepParams<AnyRef<'a>>;
 
-/// Parameters of RSAES-OAEP that own the parameters of their identifiers.
+/// RSAES-OAEP parameters whose algorithms have owned parameters.
 pub type RsaOaepParamsOwned = RsaOaepParams<Any>;
 
 impl<P: AnyValue> Contents for RsaOaepParams<P> {
@@ -111,7 +111,7 @@ impl<P: AnyValue> RsaOaepParams<P> {
     ghost use Rattle.pkcs1_params.specs.Refusals.{IsAsn1};
     ghost use Rattle.pkcs1_params.specs.Spellings.{HasTwoToTheDefaults};
 
-    /// The same, borrowed.
+    /// The parameters, borrowed.
     pub(crate) fn as_params_ref(&self) -> RsaOaepParams<AnyRef<'_>>
         ensures { oaep_of result ≡ oaep_with P.any self.now }
     {
@@ -122,9 +122,9 @@ impl<P: AnyValue> RsaOaepParams<P> {
         }
     }
 
-    /// Writes the shortest encoding, in which no default is written, to the front of a slice, and answers its length:
-    /// `encode_into`, with all that is known of it. `Overflow` where the encoding passes `Length::MAX`, `NoRoom` where
-    /// the slice is shorter.
+    /// Writes the shortest encoding, in which no default is written, to the front of a slice and returns its length, as
+    /// `encode_into` does: its contract says more. `Overflow` if the encoding is longer than `Length::MAX`, `NoRoom` if
+    /// the slice is shorter than it.
     pub fn encode_params(&self, out: &mut [u8]) -> Result<usize>
         ensures shortest { let params = oaep_with P.any self.now in
             IfOk result (λ n. IsShortest grammar.RsaOaepParams params (take n out.new)) }
@@ -165,7 +165,7 @@ impl<P: AnyValue> EncodeValue for RsaOaepParams<P> {
 impl<'a> RsaOaepParams<AnyRef<'a>> {
     ghost use Rattle.pkcs1_params.specs.OaepValue.{oaep_of, labelled};
 
-    /// The hash function D with NULL, MGF1 with the same, and the empty label.
+    /// The hash function D with NULL, MGF1 with the same hash function, and the empty label.
     pub fn new<D: AssociatedOid>() -> RsaOaepParams<AnyRef<'a>>
         ensures { oaep_of result ≡ labelled D.contents [] }
     {
@@ -210,7 +210,7 @@ impl RsaOaepParams<Any> {
     ghost use Rattle.pkcs1_params.specs.OaepValue.{oaep_with};
     ghost use Rattle.spki_core.specs.OwnedAnyValue.{any_in};
 
-    /// Every field at its default, without memory.
+    /// Every field at its default. Nothing is allocated.
     pub fn default_in(alloc: Global) -> RsaOaepParams<Any>
         ensures { oaep_with any_in result ≡ record { hash = sha1; mask_gen = mgf1_sha1; p_source = empty_label } }
     {
@@ -244,8 +244,8 @@ impl<'a> RsaOaepParams<AnyRef<'a>> {
     ghost use Rattle.pkcs1_params.specs.Refusals.{IsAsn1};
     ghost use Rattle.spki_core.specs.StrictFields.{NamesDefault};
 
-    /// Reads a whole slice as `try_from`, and refuses an encoding in which a default is written by `Noncanonical` of
-    /// the tag of the first such field: what is read is the shortest encoding of its value.
+    /// Like `try_from`, but rejects an encoding in which a default is written: `Noncanonical` with the tag of the first
+    /// such field. So what is read is the shortest encoding of its value.
     pub fn from_der_strict(bytes: &'a [u8]) -> Result<RsaOaepParams<AnyRef<'a>>>
         ensures ok { IfOk result (λ params. IsShortest grammar.RsaOaepParams (oaep_of params) bytes.now) }
         ensures one { IfOk result (λ params. (other : OaepParameters) → Means grammar.RsaOaepParams bytes.now other
@@ -281,7 +281,7 @@ impl<'a> TryFrom<&'a [u8]> for RsaOaepParams<AnyRef<'a>> {
 
     type Error = Error;
 
-    /// Reads a whole slice, without memory.
+    /// Reads a whole slice. Nothing is allocated.
     fn try_from(bytes: &'a [u8]) -> Result<RsaOaepParams<AnyRef<'a>>>
         ensures ok { IfOk result (λ params. Means grammar.RsaOaepParams bytes.now (oaep_of params)) }
         ensures one { IfOk result (λ params. IsOnlyMeaning grammar.RsaOaepParams bytes.now (oaep_of params)) }

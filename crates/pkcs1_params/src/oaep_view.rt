@@ -1,4 +1,4 @@
-//! Parameters of RSAES-OAEP over the octets that were read.
+//! RSAES-OAEP parameters that borrow from the input.
 ghost use Rattle.std.specs.Prelude.{◌≡◌};
 ghost use Rattle.pkcs1_params.specs.Allocating.{OaepAllocates};
 ghost use Rattle.pkcs1_params.specs.Parameters.{OaepParameters, OaepContents};
@@ -13,7 +13,7 @@ use der_core::{
 };
 use spki_core::read_field;
 
-/// Parameters over the octets that were read: identifiers are copied once, when all is known to be an encoding.
+/// Parameters that borrow from the input: identifiers are copied once, when all is known to be valid.
 #[derive(Clone, Copy, Drop)]
 pub(crate) struct OaepView<'a> {
     hash: PlainView<'a>,
@@ -22,7 +22,7 @@ pub(crate) struct OaepView<'a> {
 }
 
 impl<'a> OaepView<'a> {
-    /// The same, with identifiers of their own.
+    /// Copies the identifiers.
     #[inline(always)]
     pub(crate) fn keep(self) -> RsaOaepParamsRef<'a>
         ensures { oaep_of result ≡ oaep_viewed self.entry }

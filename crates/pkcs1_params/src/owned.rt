@@ -1,4 +1,4 @@
-//! Reading of parameters that own the parameters of their identifiers.
+//! Reading parameters whose algorithms have owned parameters.
 ghost use Rattle.pkcs1_params.specs.Allocating.{PssAllocates, OaepAllocates, AllocatesForAny};
 ghost use Rattle.spki_core.specs.Any as grammar;
 ghost use Rattle.spki_core.specs.Laws.AnyTexts.{any_delimited};

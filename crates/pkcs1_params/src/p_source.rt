@@ -1,4 +1,4 @@
-//! Where the label of RSAES-OAEP comes from (RFC 8017 A.2.1): pSourceAlgorithm.
+//! pSourceAlgorithm: the source of the label of RSAES-OAEP (RFC 8017 A.2.1).
 ghost use Rattle.std.specs.Prelude.{IfErr, ◌≡◌, ◌≤◌, refl, length};
 ghost use Rattle.der_core.specs.Length.{limit};
 ghost use Rattle.der_core.specs.Faults.{FaultyFront};
@@ -16,7 +16,7 @@ use spki_core::{
     ObjectIdentifier, is_field_next, read_explicit,
 };
 
-/// The source of a label that the parameters hold (RFC 8017 A.2.1).
+/// id-pSpecified: the label is in the parameters (RFC 8017 A.2.1).
 pub(crate) struct PSpecified;
 
 impl AssociatedOid for PSpecified {
@@ -31,7 +31,7 @@ impl AssociatedOid for PSpecified {
     }
 }
 
-/// The source of the empty label.
+/// pSpecified with the empty label.
 pub(crate) fn empty_source<P: AnyParams<M>, M: Memory>(memory: M) -> AlgorithmIdentifier<P>
     ensures { algorithm_with P.any result ≡ empty_label }
 {
@@ -41,7 +41,7 @@ pub(crate) fn empty_source<P: AnyParams<M>, M: Memory>(memory: M) -> AlgorithmId
     }
 }
 
-/// Reads the source of the label, that of the empty one where its field is absent.
+/// Reads the source of the label. pSpecified with the empty label if its field is absent.
 pub(crate) fn read_source<
     'a,
     P: Decode<&'a [u8], M> + AnyParams<M>,
@@ -62,7 +62,7 @@ pub(crate) fn read_source<
     }
 }
 
-/// Whether the source is the default, that of the empty label.
+/// Whether the source is the default, pSpecified with the empty label.
 pub(crate) fn is_default_source(p_source: &AlgorithmIdentifierRef<'_>) -> bool
     ensures { result ≡ same_plain (algorithm_of p_source.now) empty_label }
 {
@@ -70,7 +70,7 @@ pub(crate) fn is_default_source(p_source: &AlgorithmIdentifierRef<'_>) -> bool
     p_source.oid.as_bytes() == PSpecified::octets() && p_source.parameters == Some(empty)
 }
 
-/// The source of a label.
+/// pSpecified with this label.
 pub(crate) fn source_of<'a>(label: &'a [u8]) -> AlgorithmIdentifierRef<'a>
     requires { length label.now ≤ limit }
     ensures { algorithm_of result ≡ with_parameters id_p_specified (octets_value label.now) }

@@ -29,7 +29,7 @@ use spki_core::{
 };
 use std::alloc::Global;
 
-/// Parameters of RSASSA-PSS (RFC 8017 A.2.3). A field that has its default is read explicit too, and never written.
+/// Parameters of RSASSA-PSS (RFC 8017 A.2.3). Explicit defaults are read, but never written.
 ///
 /// ```text
 /// RSASSA-PSS-params ::= SEQUENCE {
@@ -43,18 +43,18 @@ use std::alloc::Global;
 pub struct RsaPssParams<P> {
     /// The hash function; SHA-1 with NULL by default.
     pub hash: AlgorithmIdentifier<P>,
-    /// The mask generation function and the hash function under it; MGF1 with (SHA-1 with NULL) by default.
+    /// The mask generation function and its hash function; MGF1 with SHA-1 with NULL by default.
     pub mask_gen: AlgorithmIdentifier<AlgorithmIdentifier<P>>,
-    /// The length of the salt in octets, from 0 to 255; 20 by default.
+    /// The salt length in octets, from 0 to 255; 20 by default.
     pub salt_len: u8,
-    /// What ends an encoded message; `BC` by default.
+    /// The trailer field of an encoded message; `BC` by default.
     pub trailer_field: TrailerField,
 }
 
-/// Parameters of RSASSA-PSS that borrow the parameters of their identifiers.
+/// RSASSA-PSS parameters whose algorithms have borrowed parameters.
 pub type RsaPssParamsRef<'a> = RsaPssParams<AnyRef<'a>>;
 
-/// Parameters of RSASSA-PSS that own the parameters of their identifiers.
+/// RSASSA-PSS parameters whose algorithms have owned parameters.
 pub type RsaPssParamsOwned = RsaPssParams<Any>;
 
 impl<P: AnyValue> Contents for RsaPssParams<P> {
@@ -117,7 +117,7 @@ impl<P: AnyValue> RsaPssParams<P> {
     ghost use Rattle.spki_core.specs.Explicit.{Masked};
     ghost use Rattle.pkcs1_params.specs.Spellings.{HasTwoToTheDefaults};
 
-    /// The same, borrowed.
+    /// The parameters, borrowed.
     pub(crate) fn as_params_ref(&self) -> RsaPssParams<AnyRef<'_>>
         ensures { pss_of result ≡ pss_with P.any self.now }
     {
@@ -129,8 +129,9 @@ impl<P: AnyValue> RsaPssParams<P> {
         }
     }
 
-    /// Writes the shortest encoding, in which no default is written, to the front of a slice, and answers its length:
-    /// `encode_into`, with all that is known of it. `NoRoom` where the slice is shorter.
+    /// Writes the shortest encoding, in which no default is written, to the front of a slice and returns its length, as
+    /// `encode_into` does: its contract says more. `Overflow` if the encoding is longer than `Length::MAX`, `NoRoom` if
+    /// the slice is shorter than it.
     pub fn encode_params(&self, out: &mut [u8]) -> Result<usize>
         ensures shortest { let params = pss_with P.any self.now in
             IfOk result (λ n. IsShortest grammar.RsaPssParams params (take n out.new)) }
@@ -169,10 +170,11 @@ impl<P: AnyValue> EncodeValue for RsaPssParams<P> {
 }
 
 impl<'a> RsaPssParams<AnyRef<'a>> {
-    /// The default length of the salt, in octets: that of a hash of SHA-1.
+    /// The default salt length in octets: that of a SHA-1 hash.
     pub const SALT_LEN_DEFAULT: u8 = 20;
 
-    /// The hash function D with NULL, MGF1 with the same, a salt of this many octets, and the trailer field.
+    /// The hash function D with NULL, MGF1 with the same hash function, a salt of this many octets, and the trailer
+    /// field.
     pub fn new<D: AssociatedOid>(salt_len: u8) -> RsaPssParams<AnyRef<'a>>
         ensures { let hash = with_parameters D.contents null_value in
             let mask_gen = with_parameters id_mgf1 hash in
@@ -192,8 +194,8 @@ impl<'a> RsaPssParams<AnyRef<'a>> {
     ghost use Rattle.der_core.specs.Document.{Means, IsShortest};
     ghost use Rattle.spki_core.specs.StrictFields.{NamesDefault};
 
-    /// Reads a whole slice as `try_from`, and refuses an encoding in which a default is written by `Noncanonical` of
-    /// the tag of the first such field: what is read is the shortest encoding of its value.
+    /// Like `try_from`, but rejects an encoding in which a default is written: `Noncanonical` with the tag of the first
+    /// such field. So what is read is the shortest encoding of its value.
     pub fn from_der_strict(bytes: &'a [u8]) -> Result<RsaPssParams<AnyRef<'a>>>
         ensures ok { IfOk result (λ params. IsShortest grammar.RsaPssParams (pss_of params) bytes.now) }
         ensures one { IfOk result (λ params. (other : PssParameters) → Means grammar.RsaPssParams bytes.now other
@@ -245,7 +247,7 @@ impl<P: AnyValue + TryClone> TryClone for RsaPssParams<P> {
 impl RsaPssParams<Any> {
     ghost use Rattle.spki_core.specs.OwnedAnyValue.{any_in};
 
-    /// Every field at its default, without memory.
+    /// Every field at its default. Nothing is allocated.
     pub fn default_in(alloc: Global) -> RsaPssParams<Any>
         ensures { pss_with any_in result
             ≡ record { hash = sha1; mask_gen = mgf1_sha1; salt_len = 20; trailer_field = 1 } }
@@ -275,7 +277,7 @@ impl<'a> TryFrom<&'a [u8]> for RsaPssParams<AnyRef<'a>> {
 
     type Error = Error;
 
-    /// Reads a whole slice, without memory.
+    /// Reads a whole slice. Nothing is allocated.
     fn try_from(bytes: &'a [u8]) -> Result<RsaPssParams<AnyRef<'a>>>
         ensures ok { IfOk result (λ params. Means grammar.RsaPssParams bytes.now (pss_of params)) }
         ensures one { IfOk result (λ params. IsOnlyMeaning grammar.RsaPssParams bytes.now (pss_of params)) }

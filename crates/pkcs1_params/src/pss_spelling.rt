@@ -1,4 +1,4 @@
-//! Parameters of RSASSA-PSS as they are written: their fields, and spellings under a mask.
+//! The fields and the spellings of RSASSA-PSS parameters.
 ghost use Rattle.std.specs.Prelude.{◌≡◌, ◌≤◌, length, take, drop, OnOk, OnErr, IfOk, IfErr};
 ghost use Rattle.spki_core.specs.Explicit.{HaveDefaults};
 ghost use Rattle.pkcs1_params.specs.FieldRefs.{values_in};
@@ -20,7 +20,7 @@ use spki_core::{AnyRef, AnyValue, written_default};
 use std::alloc::Global;
 
 impl RsaPssParams<AnyRef<'_>> {
-    /// The fields, in their order.
+    /// The fields, in order.
     pub(crate) fn fields(&self) -> [FieldRef<'_>; 4]
         ensures { values_in result ≡ pss_values (pss_of self.now) }
     {
@@ -97,9 +97,9 @@ impl<P: AnyValue> RsaPssParams<P> {
         self.as_params_ref().count_defaults()
     }
 
-    /// Writes one spelling to the front of a slice, and answers its length: bit j of the mask (bit 0 is the lowest)
-    /// says whether the j-th of the fields that equal their defaults, in their order, is written. Mask 0 is the
-    /// shortest. `Overflow` where the encoding passes `Length::MAX`, `NoRoom` where the slice is shorter.
+    /// Writes one spelling to the front of a slice and returns its length. Bit j of the mask (bit 0 is the lowest) says
+    /// whether the j-th of the fields that equal their defaults is written. Mask 0 gives the shortest. `Overflow` if
+    /// the encoding is longer than `Length::MAX`, `NoRoom` if the slice is shorter than it.
     pub fn encode_spelling(&self, mask: u8, out: &mut [u8]) -> Result<usize>
         requires { IsMask (pss_fields (pss_with P.any self.now)) mask }
         ensures stands { IfOk result (λ n. StandsUnder pss_fields (pss_with P.any self.now) mask (take n out.new)) }
@@ -110,8 +110,8 @@ impl<P: AnyValue> RsaPssParams<P> {
         spell_into(&self.as_params_ref(), mask, out)
     }
 
-    /// All spellings, each at its mask, so that the shortest is the first: two to the number of default fields.
-    /// `Overflow` where the one with every field passes `Length::MAX`, before memory is asked for.
+    /// All spellings, each at the index that is its mask, so the shortest is the first: two to the number of default
+    /// fields. `Overflow`, before anything is allocated, if the one with every field is longer than `Length::MAX`.
     pub fn spellings(&self, alloc: Global) -> Result<Vec<Vec<u8>>>
         ensures all { IfOk result (λ texts. AreAllSpellings pss_fields (pss_with P.any self.now) (texts_in texts)) }
         ensures fit { OnOk result (AllFit (pss_fields (pss_with P.any self.now))) }

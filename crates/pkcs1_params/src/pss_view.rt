@@ -1,4 +1,4 @@
-//! Parameters of RSASSA-PSS over the octets that were read.
+//! RSASSA-PSS parameters that borrow from the input.
 ghost use Rattle.std.specs.Prelude.{◌≡◌};
 ghost use Rattle.pkcs1_params.specs.Allocating.{PssAllocates};
 ghost use Rattle.pkcs1_params.specs.Parameters.{PssParameters, PssContents};
@@ -14,7 +14,7 @@ use der_core::{
 };
 use spki_core::read_field;
 
-/// Parameters over the octets that were read: identifiers are copied once, when all is known to be an encoding.
+/// Parameters that borrow from the input: identifiers are copied once, when all is known to be valid.
 #[derive(Clone, Copy, Drop)]
 pub(crate) struct PssView<'a> {
     hash: PlainView<'a>,
@@ -24,7 +24,7 @@ pub(crate) struct PssView<'a> {
 }
 
 impl<'a> PssView<'a> {
-    /// The same, with identifiers of their own.
+    /// Copies the identifiers.
     #[inline(always)]
     pub(crate) fn keep(self) -> RsaPssParamsRef<'a>
         ensures { pss_of result ≡ pss_viewed self.entry }

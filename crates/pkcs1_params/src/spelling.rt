@@ -1,4 +1,4 @@
-//! Parameters under a mask that says which of their defaults are written.
+//! Spellings of parameters: a mask says which of their defaults are written.
 ghost use Rattle.std.specs.Prelude.{◌≡◌, ◌≤◌, ◌<◌, ◌+◌, ◌++◌, ◌^◌, ℕ, List, length, take, drop, OnOk, OnErr, IfOk, IfErr};
 ghost use Rattle.der_core.specs.Tag.{sequence_tag};
 ghost use Rattle.der_core.specs.BackWriters.{free_of, Prepends};
@@ -35,12 +35,12 @@ pub(crate) trait DefaultFields: Copy + Drop {
 
     ghost fields_mean_one: { MeansOne (FieldContents values) };
 
-    /// What is borrowed has contents under each mask, and no more of them than memory holds: a call that does nothing.
+    /// Does nothing: its contract says that there are contents under each mask, not too long for memory.
     fn is_held(&self)
         ensures { let values = values (params self.now) in
             (mask : ℕ) → HasFields values mask × (length (written_fields values mask) < 2 ^ 64) };
 
-    /// Which fields equal their defaults, as bits: the lowest is the first field's.
+    /// Which fields equal their defaults, as bits: bit j is that of field j.
     fn defaults(&self) -> u8
         ensures { result ≡ bits_of (defaults_in (values (params self.now))) };
 
@@ -49,12 +49,12 @@ pub(crate) trait DefaultFields: Copy + Drop {
         ensures count { HaveDefaults (fields_with values (params self.now)) result }
         ensures few { result < 8 };
 
-    /// The first field of an encoding that is written and equals its default. What is answered is of use where the
-    /// encoding is known to be one of these parameters.
+    /// The first field in an encoding that is written though it equals its default. The result is meaningful only if
+    /// the encoding is known to be one of these parameters.
     fn written_default(&self, bytes: &[u8]) -> Option<TagNumber>
         ensures { WalksOver (defaults_in (values (params self.now))) bytes.now (option_map number_in result) };
 
-    /// How many octets the contents under a mask have, where `defaults` are those of the fields.
+    /// The length of the contents under a mask. `defaults` are those of the fields.
     fn len_under(&self, defaults: u8, mask: u8) -> der_core::Result<Length>
         requires { defaults ≡ bits_of (defaults_in (values (params self.now))) }
         ensures { let values = values (params self.now) in
@@ -73,7 +73,7 @@ pub(crate) trait DefaultFields: Copy + Drop {
             Appends (HasFields values mask) octets W.room W.written writer.old writer.new result }
         ensures kept { W.keeps writer.old writer.new };
 
-    /// Puts the contents under a mask before what is filled.
+    /// Writes the contents under a mask in front of what is filled.
     fn prepend_under(&self, defaults: u8, mask: u8, writer: &mut BackWriter<'_>)
         requires defaults { defaults ≡ bits_of (defaults_in (values (params self.now))) }
         requires has { HasFields (values (params self.now)) mask }
@@ -82,7 +82,7 @@ pub(crate) trait DefaultFields: Copy + Drop {
         ensures { Prepends (written_fields (values (params self.now)) mask) writer.old writer.new };
 }
 
-/// Parameters, and a mask that says which of their defaults are written.
+/// Parameters with a mask that says which of their defaults are written.
 #[derive(Drop)]
 pub(crate) struct Spelling<'b, T: DefaultFields> {
     params: &'b T,
@@ -130,7 +130,7 @@ impl<T: DefaultFields> EncodeValue for Spelling<'_, T> {
     ghost contents_shortest = { masked_least T.values };
 }
 
-/// Writes the encoding under a mask to the front of a slice, and answers its length.
+/// Writes the encoding under a mask to the front of a slice and returns its length.
 pub(crate) fn spell_into<T: DefaultFields>(params: &T, mask: u8, out: &mut [u8]) -> Result<usize>
     requires { IsMask (fields_with T.values (T.params params.now)) mask }
     ensures stands { IfOk result (λ n. StandsUnder (fields_with T.values) (T.params params.now) mask (take n out.new)) }
@@ -147,7 +147,7 @@ pub(crate) fn spell_into<T: DefaultFields>(params: &T, mask: u8, out: &mut [u8])
     Ok(spelling.encode_into(out)?)
 }
 
-/// Writes the shortest encoding to the front of a slice, and answers its length.
+/// Writes the shortest encoding to the front of a slice and returns its length.
 pub(crate) fn encode_shortest<T: DefaultFields>(params: &T, out: &mut [u8]) -> Result<usize>
     ensures shortest { IfOk result (λ n. IsShortest (Fielded T.values) (T.params params.now) (take n out.new)) }
     ensures no_default { IfOk result (λ n. Masked (fields_with T.values (T.params params.now)) 0 (take n out.new)) }
@@ -166,7 +166,7 @@ impl<T: DefaultFields> Spelling<'_, T> {
     ghost use Rattle.std.specs.Prelude.{◌⊎◌};
     ghost use Rattle.der_core.specs.Tlv.{tlv};
 
-    /// How many octets the encoding has: `Overflow` where there is no spelling under the mask.
+    /// The length of the encoding: `Overflow` if there is no spelling under the mask.
     fn len(&self) -> der_core::Result<usize>
         ensures ok { let params = T.params self.now.params.now in
             let text = tlv sequence_tag (written_fields (T.values params) self.now.mask) in
@@ -182,7 +182,7 @@ impl<T: DefaultFields> Spelling<'_, T> {
         Ok(self.encoded_len()?.to_usize())
     }
 
-    /// The encoding, in memory of its own.
+    /// The encoding, in allocated memory.
     fn to_vec(&self, alloc: Global) -> der_core::Result<Vec<u8>>
         ensures ok { let fields = fields_with T.values (T.params self.now.params.now) in
             IfOk result (λ text. IsSpelling fields self.now.mask text.items) }
@@ -196,7 +196,7 @@ impl<T: DefaultFields> Spelling<'_, T> {
     }
 }
 
-/// The encodings under the masks below a number, in their order.
+/// The encodings under the masks below `count`, in order.
 fn texts_under<T: DefaultFields>(
     params: &T,
     defaults: u8,
@@ -220,7 +220,7 @@ fn texts_under<T: DefaultFields>(
     Ok(texts)
 }
 
-/// All spellings, by mask: `Overflow` where the one with every field doesn't fit, before memory is asked for.
+/// All spellings, by mask: `Overflow`, before anything is allocated, if the one with every field is too long.
 pub(crate) fn all_spellings<T: DefaultFields>(params: &T, alloc: Global) -> Result<Vec<Vec<u8>>>
     ensures all { IfOk result (λ texts. AreAllSpellings (fields_with T.values) (T.params params.now) (texts_in texts)) }
     ensures fit { OnOk result (AllFit (fields_with T.values (T.params params.now))) }

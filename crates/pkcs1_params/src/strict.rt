@@ -1,4 +1,4 @@
-//! Strict reading: no default is written.
+//! Strict reading: encodings in which a default is written are rejected.
 ghost use Rattle.std.specs.Prelude.{◌≡◌, ℕ, OnOk, OnErr, IfErr, IsErrAnd};
 ghost use Rattle.der_core.specs.Tag.{context_tag};
 ghost use Rattle.der_core.specs.declared.tag.Tag.{Tag};
@@ -13,7 +13,7 @@ use crate::error::{Error, Result};
 use crate::spelling::DefaultFields;
 use der_core::{ErrorKind, Tag, TagNumber};
 
-/// The refusal of a field that is written and equals its default.
+/// The error for a field that is written though it equals its default.
 fn is_written(number: TagNumber) -> Error
     ensures { IsAsn1 (NamesNumber (number_in number)) result }
 {
@@ -21,7 +21,8 @@ fn is_written(number: TagNumber) -> Error
     Error::Asn1(der_core::Error::new(ErrorKind::Noncanonical { tag }))
 }
 
-/// Refuses an encoding of the parameters in which a default is written, by the tag of the first.
+/// Returns an error with the tag of the first default that is written in an encoding of the parameters, if there is
+/// one.
 pub(crate) fn refuse_defaults<T: DefaultFields>(params: &T, bytes: &[u8]) -> Result<()>
     requires { Means (Fielded T.values) bytes.now (T.params params.now) }
     ensures ok { OnOk result (IsShortest (Fielded T.values) (T.params params.now) bytes.now) }

@@ -12,7 +12,7 @@ use der_core::{
     Length, Memory, Reader, Result, Tag, TaggedBy, Writer,
 };
 
-/// The trailer field: the one that is known (RFC 8017 A.2.3).
+/// The trailer field, of which one is known (RFC 8017 A.2.3).
 ///
 /// ```text
 /// TrailerField ::= INTEGER { trailerFieldBC(1) }

@@ -1,4 +1,4 @@
-//! Hash functions, mask generation functions and sources over the octets that were read.
+//! Algorithms and label sources that borrow from the input.
 ghost use Rattle.std.specs.Prelude.{◌≡◌, []};
 ghost use Rattle.spki_core.specs.AlgorithmValue.{algorithm_of, mask_of, viewed_with};
 ghost use Rattle.spki_core.specs.AnyRefValue.{any_of};
@@ -11,13 +11,13 @@ use spki_core::{
     AlgorithmIdentifier, AlgorithmView, AnyParams, AnyRef, AssociatedOid, IdentifierView,
 };
 
-/// A hash function or a source.
+/// A hash function or a label source.
 pub(crate) type PlainView<'a> = AlgorithmView<'a, AnyRef<'a>>;
 
 /// A mask generation function.
 pub(crate) type MaskGenView<'a> = AlgorithmView<'a, PlainView<'a>>;
 
-/// D with a tag that has no contents octet.
+/// The algorithm D with parameters of this tag, without contents octets.
 #[inline(always)]
 fn view_with<'a, D: AssociatedOid>(tag: Tag) -> PlainView<'a>
     ensures { viewed_with any_of result ≡ with_parameters D.contents (record { tag = tag.octet; contents = [] }) }
@@ -36,7 +36,7 @@ pub(crate) fn sha1_view<'a>() -> PlainView<'a>
     view_with::<Sha1>(Tag::NULL)
 }
 
-/// MGF1 with (SHA-1 with NULL).
+/// MGF1 with SHA-1 with NULL.
 #[inline(always)]
 pub(crate) fn mgf1_view<'a>() -> MaskGenView<'a>
     ensures { viewed_with (viewed_with any_of) result ≡ mgf1_sha1 }
@@ -47,7 +47,7 @@ pub(crate) fn mgf1_view<'a>() -> MaskGenView<'a>
     }
 }
 
-/// The source of the empty label.
+/// pSpecified with the empty label.
 #[inline(always)]
 pub(crate) fn empty_view<'a>() -> PlainView<'a>
     ensures { viewed_with any_of result ≡ empty_label }
@@ -55,7 +55,7 @@ pub(crate) fn empty_view<'a>() -> PlainView<'a>
     view_with::<PSpecified>(Tag::OCTET_STRING)
 }
 
-/// The same, with identifiers of its own.
+/// Copies the identifiers.
 #[inline(always)]
 pub(crate) fn keep_mask_gen<'a>(mask_gen: MaskGenView<'a>) -> MaskGenRef<'a>
     ensures { mask_of result ≡ viewed_with (viewed_with any_of) mask_gen.entry }

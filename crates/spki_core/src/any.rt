@@ -17,8 +17,7 @@ use der_core::{
 use std::alloc::Global;
 use std::fmt;
 
-/// A tag in eight octets. With a single octet there would be padding in `AnyRef`, and copying it would take several
-/// moves.
+/// A tag in eight octets: with one, `AnyRef` would have padding, and would be copied piece by piece.
 #[derive(Clone, Copy, PartialEq, Eq, Drop)]
 struct WideTag {
     octet: u64,

@@ -1,4 +1,4 @@
--- The fault that a refusal of the kernel tells.
+-- The fault that an error of der_core names.
 use Rattle.std.proofs.Common.{ℕ, List, ◌≡◌, sym}
 use Rattle.der_core.specs.declared.error.Error as der
 use Rattle.der_core.specs.declared.error.ErrorKind.{ErrorKind}

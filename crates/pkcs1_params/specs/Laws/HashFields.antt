@@ -13,7 +13,7 @@ use Rattle.spki_core.specs.Explicit.{Field, field, Defaultable}
 use Rattle.spki_core.specs.Laws.FieldTexts.{AreLater, value_step}
 use Rattle.pkcs1_params.specs.Parameters.{sha1, mgf1_sha1, hash_fields_then}
 
--- Later than a field is later than an earlier one.
+-- Fields later than a field are later than an earlier one.
 pub later_still : (m n : ℕ) (fields : List Field) → m ≤ n → AreLater n fields → AreLater m fields
 later_still m n [] le later = tt
 later_still m n (f ∷ fields) le later = (omega (arith, later.0), later_still m n fields le later.1)
@@ -33,7 +33,7 @@ plain_of_bytes = tlv_of_bytes sequence_tag refl (AlgorithmContents Any) (algorit
 pub mask_of_bytes : IsOfBytes MaskAlgorithm
 mask_of_bytes = tlv_of_bytes sequence_tag refl (AlgorithmContents PlainAlgorithm) (algorithm_of_bytes PlainAlgorithm plain_of_bytes)
 
--- What is written of an identifier.
+-- What is written for an identifier.
 pub plain_relates : (v : Algorithm TagAndContents) → HasPlain v → length (written_plain v) < 2 ^ 128 → PlainAlgorithm v (written_plain v)
 plain_relates v h fits = tlv_relates sequence_tag (AlgorithmContents Any) (written_algorithm written_any) v (algorithm_relates Any IsAny written_any any_relates v h) fits
 

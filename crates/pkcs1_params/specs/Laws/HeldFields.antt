@@ -1,4 +1,4 @@
--- What borrowed parameters hold has an encoding, little longer than the limit.
+-- Borrowed parameters have an encoding, little longer than the limit.
 use Rattle.std.proofs.Common.{ℕ, List, [], ◌∷◌, ◌++◌, ◌≤◌, ◌<◌, ◌+◌, ◌^◌, length, arith, length-append, Option, Some, None, Bool, true, false}
 use Rattle.std.specs.Prelude.{nat_lt, if◌then◌else◌}
 use Rattle.std.specs.Option.{option_map}

@@ -35,7 +35,7 @@ use Rattle.pkcs1_params.specs.Laws.Pss.{pss_means_one}
 use Rattle.pkcs1_params.specs.Laws.Oaep.{oaep_means_one}
 use Rattle.pkcs1_params.specs.Laws.Trailers.{trailer_delimited}
 
--- What is left of bytes in which a field was read.
+-- What is left of the bytes behind a field.
 rest_fits : {V : Type 0} (n : ℕ) (text : V → List ℕ → Type 0) (default v : V) (c rest : List ℕ) → FieldRead n text default c v rest → length rest ≤ length c
 rest_fits n text default v c rest (inl p) = omega (arith, ap length p.2)
 rest_fits n text default v c rest (inr (x, y, t, k, e)) = omega (arith, ap length k, ap length e, length-append x y)
@@ -53,7 +53,7 @@ module _ {W V : Type 0} (n : ℕ) (text : V → List ℕ → Type 0) (d : IsDeli
       let told = behind k rest few fault in
       (told.0, λ w has. told.1 w (read_step n text d default v (head w) (fields w) c rest (later w) read has).1)
 
--- Where a field was read, or left out, its rest is one.
+-- Behind a field that was read, or left out, the rest is unique.
 field_one : {V : Type 0} (n : ℕ) (text : V → List ℕ → Type 0) (default v w : V) (c rest more : List ℕ) → FieldRead n text default c v rest → FieldRead n text default c w more → rest ≡ more
 field_one n text default v w c rest more (inl p) (inl q) = p.2 ∙ sym q.2
 field_one n text default v w c rest more (inl p) (inr (x, y, t, m, e)) = absurd (p.0 ((t.octets ++ t.contents) ++ y, e ∙ ap (λ l. l ++ y) t.written))
@@ -71,7 +71,7 @@ module _ {V : Type 0} (n : ℕ) (text : V → List ℕ → Type 0) (default : V)
       let few : length rest ≤ limit = omega (arith, within, rest_fits n text default v c rest r) in
       behind j k rest few p (rw (field_one n text default v w c rest more r s) q)
 
--- A tag around an encoding: of G, to which encodings of H are carried back.
+-- A tag around an encoding of G, to which encodings of H are mapped.
 inside : {X V W : Type 0} {value : X → V} {other : X → W} (tag : Tag) (n : ℕ) → tag.octet ≡ 160 + n → (G : V → List ℕ → Type 0) (GFault : ErrorKind → List ℕ → Type 0) → IsDelimited G → AreNone (NoneIn G) GFault
     → (H : W → List ℕ → Type 0) → Carried value G other H → NoField n H (TextFault tag (AloneFault G GFault))
 inside tag n octet G GFault d none H carried k c within fault =
@@ -181,7 +181,7 @@ module _ {P X : Type 0} {value : X → P} {any : X → TagAndContents} (text : P
         (field_then_first 3 TrailerField 1 TrailerFieldFault EndFault trailer_none
         (text_fault_first tag_3 _ (alone_fault_first TrailerField (TextFault integer TrailerFault) trailer_delimited trailer_text_none (text_fault_first integer TrailerFault trailer_fault_first))) end_fault_first))
 
--- Slices.
+-- Whole slices.
 module _ where
   itself : HoldsAny (λ (v : TagAndContents). v) Any (λ v. v)
   itself = holds_itself (λ v. v)

@@ -31,11 +31,11 @@ pss_in_order p = in_order (pss_values p) 0 (pss_numbered p)
 pub oaep_in_order : (p : OaepParameters) → AreInOrder (oaep_fields p)
 oaep_in_order p = in_order (oaep_values p) 0 (oaep_numbered p)
 
--- A joining that begins with an INTEGER is no joining of fields.
+-- Bytes that begin with an INTEGER are no fields.
 integer_not_fields : {P Rest : List ℕ → Type 0} (fields : List Field) (c : List ℕ) → Then (Tlv integer_tag P) Rest c → Joins (map Defaultable fields) c → ⊥
 integer_not_fields fields c (x, y, p, i, e) q = fields_start fields 2 c ((p.octets ++ p.contents) ++ y) (omega arith) q (rw (e, p.written) refl)
 
--- Nor is a SEQUENCE of the one a SEQUENCE of the other.
+-- So a SEQUENCE that begins with an INTEGER is none of fields.
 pub sequences_exclude : {P Rest : List ℕ → Type 0} (fields : List Field) (text : List ℕ) → Tlv sequence_tag (Then (Tlv integer_tag P) Rest) text → FieldSequence fields text → ⊥
 sequences_exclude fields text p q =
     let s = tlv_split text [] text [] p q refl in
