@@ -1,4 +1,4 @@
-//! A key type of a caller's own: the traits of keys can be implemented outside. And keys in files.
+//! A key type of a caller, which implements the traits of keys; and keys in files.
 ghost use Rattle.std.specs.Prelude.{◌≡◌, List, ℕ, IfOk, IfErr};
 ghost use Rattle.der_core.specs.Document.{IsDocument};
 ghost use Rattle.der_core.specs.DocumentValue.{text_of};
@@ -18,13 +18,13 @@ use std::fs;
 use std::path::Path;
 use std::test::Fail;
 
-/// A key that holds what was handed in, whatever that is.
+/// A key that holds the bytes that it was made from, whatever they are.
 #[derive(Debug, PartialEq, Eq, Drop)]
 pub struct CarriedKey {
     bytes: Vec<u8>,
 }
 
-/// A copy of the bytes.
+/// Copies the bytes.
 fn copied(alloc: Global, bytes: &[u8]) -> der_core::Result<Vec<u8>>
     ensures ok { IfOk result (λ copy. copy.items ≡ bytes.now) }
     ensures err { IfErr result (λ e. e.kind ≡ OutOfMemory) }

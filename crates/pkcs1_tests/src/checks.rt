@@ -1,13 +1,13 @@
-//! Assertions as calls, so that each is proved once. Where a later call needs what was asserted, `assert!` stands.
+//! Assertions as calls, so that each is proved once. `assert!` is used where later code relies on it.
 use std::fmt::Debug;
 use std::process::Abort;
 
-/// Both are the same.
+/// Asserts that both are equal.
 pub fn equal<T: PartialEq + Debug + Drop>(rt: &impl Abort, got: T, want: T) {
     assert_eq!(rt; got, want);
 }
 
-/// It holds.
+/// Asserts that it is true.
 pub fn holds(rt: &impl Abort, it: bool) {
     assert!(rt; it);
 }

@@ -1,4 +1,4 @@
-//! Documents from sources and to sinks that move a few bytes a call, or refuse one; and in files.
+//! Documents from sources and to sinks that take a few bytes per call, or fail at one; and documents in files.
 use crate::checks::{equal, holds};
 use crate::doubles::{Full, RefusingOnce, giving, refusing_at, taking};
 use der_core::{Document, Error, ErrorKind, FromRead, SecretDocument, Sink, Source, ToWrite};
@@ -56,7 +56,7 @@ fn documents_go_to_sinks(rt: HostRuntime) -> Result<(), Fail> {
     Ok(())
 }
 
-/// A document of more octets than three pieces of 64 KiB.
+/// A document of more than three pieces of 64 KiB.
 fn long_text(alloc: Global) -> Result<Vec<u8>, Fail> {
     let mut text = Vec::new(alloc);
     text.extend_from_slice(&[0x30, 0x83, 0x03, 0x0d, 0x40])?;

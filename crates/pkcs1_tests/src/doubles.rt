@@ -1,4 +1,4 @@
-//! Sources and sinks that move a few bytes a call, or refuse one.
+//! Sources and sinks that take a few bytes per call, or fail at one.
 ghost use Rattle.std.specs.Prelude.{Some};
 
 use der_core::{Error, ErrorKind, Result, Sink, Source, ToWrite};
@@ -6,7 +6,7 @@ use std::alloc::Global;
 use std::io;
 use std::io::{Read, Write};
 
-/// Gives up to `most` bytes a call, and refuses the call of number `refused`, from 1 on.
+/// A source that gives up to `most` bytes per call and fails at call number `refused`, counted from 1.
 #[derive(Drop)]
 pub struct Slow<'a> {
     pub left: &'a [u8],
@@ -39,7 +39,7 @@ impl<'a> Source for Slow<'a> {
     }
 }
 
-/// Gives one byte a call.
+/// A source that gives one byte per call.
 pub fn giving(left: &[u8], refused: u64) -> Slow<'_> {
     Slow {
         left,
@@ -50,7 +50,7 @@ pub fn giving(left: &[u8], refused: u64) -> Slow<'_> {
     }
 }
 
-/// Takes up to `most` bytes a call, and refuses the call of number `refused`, from 1 on.
+/// A sink that takes up to `most` bytes per call and fails at call number `refused`, counted from 1.
 #[derive(Drop)]
 pub struct Narrow {
     pub taken: Vec<u8>,
@@ -86,7 +86,7 @@ impl Sink for Narrow {
     }
 }
 
-/// Takes up to three bytes a call.
+/// A sink that takes up to three bytes per call.
 pub fn taking(alloc: Global, refused: u64) -> Narrow {
     Narrow {
         taken: Vec::new(alloc),
@@ -98,7 +98,7 @@ pub fn taking(alloc: Global, refused: u64) -> Narrow {
     }
 }
 
-/// Takes no byte, and refuses none.
+/// A writer that takes no byte and returns no error.
 #[derive(Drop)]
 pub struct Full;
 
@@ -112,7 +112,7 @@ impl Write for Full {
     }
 }
 
-/// Refuses its first call, and gives its bytes from then on.
+/// A reader whose first call fails.
 #[derive(Drop)]
 pub struct RefusingOnce<'a> {
     pub left: &'a [u8],
@@ -129,8 +129,8 @@ impl Read for RefusingOnce<'_> {
     }
 }
 
-/// Refuses the call of number `refused`, from 1 on, whether it is told to write or to flush; in each other call it takes
-/// every byte.
+/// A writer that takes all bytes of each call, but fails at call number `refused`, counted from 1 over writes and
+/// flushes.
 #[derive(Drop)]
 pub struct Refusing {
     pub taken: Vec<u8>,

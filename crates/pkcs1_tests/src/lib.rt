@@ -1,6 +1,6 @@
-//! Tests of what no worked row can say: readers and writers behind a refusal, documents from sources, to sinks and in
-//! files, a key type of a caller's own, the public half of a key that OpenSSL made, values that are hashed, compared and
-//! printed. They stand apart from the rows, so that the gate doesn't prove the program of the rows a second time.
+//! Tests of what no worked row can express: readers and writers after an error, documents from sources, to sinks and in
+//! files, a key type of a caller, the public half of a key from OpenSSL, values that are hashed, compared and printed.
+//! They are a crate apart from the rows, so that the gate doesn't prove the program of the rows a second time.
 #![tactic(auto)]
 
 #[cfg(test)]

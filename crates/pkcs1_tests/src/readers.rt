@@ -1,4 +1,4 @@
-//! Readers, and what one answers behind a refusal.
+//! Readers, and what they return after an error.
 use crate::checks::equal;
 use der_core::{
     Decode, Error, ErrorKind, Header, Length, NoMemory, Reader, SliceReader, TagNumber, UintRef,
@@ -23,7 +23,7 @@ fn fronts_are_read(rt: HostRuntime) -> Result<(), Fail> {
     Ok(())
 }
 
-/// Nothing is read of it any more, by any call over a reader.
+/// Asserts that every call over the reader fails.
 fn has_failed(rt: &impl Abort, mut reader: SliceReader<'_>) {
     let (failed, number) = (Error::new(ErrorKind::Failed), TagNumber::new(2));
     let reader = &mut reader;

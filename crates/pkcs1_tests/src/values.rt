@@ -12,7 +12,7 @@ use std::process::Abort;
 use std::test::Fail;
 use uses::{Sha1, Sha256};
 
-/// What the identifier is hashed to.
+/// The hash of an identifier.
 fn hash_of(oid: ObjectIdentifier) -> u64 {
     let mut state = DefaultHasher::new();
     oid.hash(&mut state);
@@ -65,7 +65,7 @@ fn values_are_compared_by_what_they_mean(rt: HostRuntime) -> Result<(), Fail> {
     Ok(())
 }
 
-/// Each is equal to itself and to no other of them.
+/// Asserts that each value is equal to itself and to no other.
 fn all_differ<T: PartialEq>(rt: &impl Abort, all: &[T]) {
     for (place, one) in all.iter().enumerate() {
         for (other_place, other) in all.iter().enumerate() {
@@ -75,7 +75,7 @@ fn all_differ<T: PartialEq>(rt: &impl Abort, all: &[T]) {
     }
 }
 
-/// Each kind, and those that name something twice: of two tags or octets.
+/// Each kind of error, with two different tags or octets where it has them.
 fn kinds(tag: Tag, other: Tag) -> [ErrorKind; 24] {
     [
         ErrorKind::Failed,
@@ -105,7 +105,7 @@ fn kinds(tag: Tag, other: Tag) -> [ErrorKind; 24] {
     ]
 }
 
-/// One tag in place of another.
+/// The error that one tag was found in place of another.
 fn unexpected(expected: Tag, actual: Tag) -> ErrorKind {
     ErrorKind::TagUnexpected { expected, actual }
 }
@@ -128,7 +128,7 @@ fn errors_are_equal_where_they_tell_the_same(rt: HostRuntime) {
     );
 }
 
-/// What is printed for the reader of a program.
+/// The output of `Debug`.
 fn printed<T: Debug>(alloc: Global, value: &T) -> Result<String, Fail> {
     Ok(format!(in alloc; "{value:?}")?)
 }

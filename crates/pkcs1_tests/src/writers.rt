@@ -1,4 +1,4 @@
-//! Writers: what they append, prepend, and leave.
+//! Writers: what they append, prepend and leave unchanged.
 use crate::checks::{equal, holds};
 use der_core::{
     BackWriter, Encode, Error, ErrorKind, Header, Length, SliceWriter, Tag, TagNumber, UintRef,

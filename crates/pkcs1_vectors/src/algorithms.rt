@@ -1,4 +1,4 @@
-//! Identifiers, texts of any tag, and algorithms.
+//! Object identifiers, encodings of any tag, and algorithm identifiers.
 use crate::read::both;
 use crate::shown::Shown;
 use crate::told::{Refusal, Told};
@@ -11,7 +11,7 @@ use spki_core::{
 };
 use uses::{Sha1, Sha256};
 
-/// What is written of the value, or why there is none.
+/// The encoding of the value, or the error.
 fn made<T: Encode + Drop>(to: &mut Told, answer: Result<T>) {
     match answer {
         Ok(value) => written(to, &value),
@@ -19,12 +19,12 @@ fn made<T: Encode + Drop>(to: &mut Told, answer: Result<T>) {
     }
 }
 
-/// `oid-new HEX`: the text of the identifier with these octets.
+/// `oid-new HEX`: the encoding of the identifier with these contents octets.
 pub fn oid_new(to: &mut Told, bytes: &[u8]) {
     made(to, ObjectIdentifier::from_bytes(bytes));
 }
 
-/// `oid-named NAME`: the octets of an identifier with a name.
+/// `oid-named NAME`: the contents octets of a named identifier.
 pub fn oid_named(to: &mut Told, name: &str) {
     match name {
         "SHA-1" => ObjectIdentifier::of::<Sha1>().shown(to),
@@ -34,7 +34,7 @@ pub fn oid_named(to: &mut Told, name: &str) {
     }
 }
 
-/// The tag of the only octet.
+/// The tag, if there is exactly one octet.
 fn tag_of(octets: &[u8]) -> Option<Tag> {
     match octets {
         [octet] => Tag::from_octet(*octet).ok(),
@@ -42,7 +42,7 @@ fn tag_of(octets: &[u8]) -> Option<Tag> {
     }
 }
 
-/// `any-new TAG HEX`: the text of the tag with these contents; without contents, of `empty` too.
+/// `any-new TAG HEX`: the encoding of this tag with these contents. Without contents, that of `empty` as well.
 pub fn any_new(to: &mut Told, tag: &[u8], bytes: &[u8]) {
     let Some(tag) = tag_of(tag) else {
         return to.malformed();
@@ -59,7 +59,7 @@ pub fn any_new(to: &mut Told, tag: &[u8], bytes: &[u8]) {
     }
 }
 
-/// What the value shows, or why there is none.
+/// The value, or the error.
 fn shown<T: Shown + Drop>(to: &mut Told, answer: Result<T>) {
     match answer {
         Ok(value) => value.shown(to),
@@ -67,7 +67,7 @@ fn shown<T: Shown + Drop>(to: &mut Told, answer: Result<T>) {
     }
 }
 
-/// `as-TYPE TAG HEX`: what the contents under this tag mean as those of another type.
+/// `as-TYPE TAG HEX`: the contents under this tag, decoded as those of another type.
 pub fn read_as<'a, T: DecodeValue<&'a [u8], NoMemory> + FixedTag + Shown>(
     to: &mut Told,
     tag: &[u8],
@@ -82,12 +82,12 @@ pub fn read_as<'a, T: DecodeValue<&'a [u8], NoMemory> + FixedTag + Shown>(
     }
 }
 
-/// The text of the parameters, or that there are none.
+/// The encoding of the parameters, or that there are none.
 fn parameters_of<P: AnyValue>(to: &mut Told, algorithm: &AlgorithmIdentifier<P>) {
     made(to, algorithm.parameters_any());
 }
 
-/// The same of the borrowed identifier, and of the one that owns its parts.
+/// The parameters of the borrowed identifier, and of the one that owns its parts.
 fn parameters(
     to: &mut Told,
     borrowed: &AlgorithmIdentifierRef<'_>,
@@ -100,7 +100,7 @@ fn parameters(
     to.answered(parameters.answer());
 }
 
-/// `algorithm HEX`: an identifier with parameters of any tag, and the text of the parameters.
+/// `algorithm HEX`: an identifier with parameters of any tag, and the encoding of the parameters.
 pub fn algorithm(to: &mut Told, bytes: &[u8]) {
     both::<AlgorithmIdentifierRef, AlgorithmIdentifier<Any>>(to, bytes);
     let Ok(borrowed) = AlgorithmIdentifierRef::from_der(NoMemory, bytes) else {
@@ -121,7 +121,8 @@ pub fn algorithm(to: &mut Told, bytes: &[u8]) {
     }
 }
 
-/// `assert-oid HEX HEX`: whether the algorithm of the first text has the identifier of the second octets.
+/// `assert-oid HEX HEX`: the identifier of the algorithm in the first bytes if its contents octets are the second ones,
+/// else the error.
 pub fn asserted(to: &mut Told, bytes: &[u8], octets: &[u8]) {
     match (
         AlgorithmIdentifierRef::from_der(NoMemory, bytes),

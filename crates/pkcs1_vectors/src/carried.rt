@@ -1,4 +1,4 @@
-//! Further ways to a key: the view, documents, and the traits that callers' own types implement.
+//! Other ways to a key: the view, documents, and the traits that callers' own types can implement.
 use crate::shown::Shown;
 use crate::told::{Refusal, Told};
 use pkcs1::{
@@ -6,7 +6,7 @@ use pkcs1::{
     RsaPrivateKeyOwned, RsaPrivateKeyView, RsaPublicKeyOwned,
 };
 
-/// What a document holds, where that is another text.
+/// The bytes of a document, if they differ from the row's.
 fn document(to: &mut Told, bytes: &[u8], held: &[u8]) {
     if held != bytes {
         to.text("; document: ");
@@ -14,7 +14,7 @@ fn document(to: &mut Told, bytes: &[u8], held: &[u8]) {
     }
 }
 
-/// What the view tells of the text, which it keeps.
+/// `priv` by the view, which has to keep the bytes.
 pub fn viewed(to: &mut Told, bytes: &[u8]) {
     match RsaPrivateKeyView::try_from(bytes) {
         Ok(view) if view.as_bytes() == bytes => view.shown(to),
@@ -23,7 +23,7 @@ pub fn viewed(to: &mut Told, bytes: &[u8]) {
     }
 }
 
-/// A private key by the traits, and its document where that isn't the text.
+/// A private key by the traits, and its document if that differs from the row's bytes.
 pub fn private_der(to: &mut Told, bytes: &[u8]) {
     match RsaPrivateKeyOwned::from_pkcs1_der(to.alloc(), bytes) {
         Ok(key) => match key.to_pkcs1_der(to.alloc()) {
@@ -37,7 +37,7 @@ pub fn private_der(to: &mut Told, bytes: &[u8]) {
     }
 }
 
-/// The same of a public key.
+/// A public key by the traits, and its document if that differs from the row's bytes.
 pub fn public_der(to: &mut Told, bytes: &[u8]) {
     match RsaPublicKeyOwned::from_pkcs1_der(to.alloc(), bytes) {
         Ok(key) => match key.to_pkcs1_der(to.alloc()) {

@@ -4,7 +4,7 @@ use crate::shown::Shown;
 use crate::told::{Refusal, Told};
 use pkcs8_core::PrivateKeyInfoRef;
 
-/// The key inside the container, by the view and by the key with a list.
+/// The key in the container, by the view and by the struct with a list.
 fn key_inside(to: &mut Told, info: &PrivateKeyInfoRef<'_>) {
     match info.rsa_view() {
         Ok(view) => view.shown(to),

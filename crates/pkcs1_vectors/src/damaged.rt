@@ -1,4 +1,4 @@
-//! Texts that were damaged, or put together of parts that don't belong together.
+//! Encodings that are damaged, or joined from parts that don't belong together.
 use crate::told::Told;
 use der_core::{
     Decode, Encode, Error, ErrorKind, Length, NoMemory, Reader, SliceReader, decode_optional,
@@ -8,12 +8,13 @@ use pkcs1::{
 };
 use std::alloc::Global;
 
-/// More room than a damaged text needs.
+/// More room than a damaged encoding needs.
 const ROOM: usize = 64;
 
-/// A type whose texts are damaged.
+/// A type whose encodings are damaged.
 pub trait Damaged {
-    /// Whether the text, where it is read, is answered as it should be; `None` where it is refused.
+    /// Whether the bytes, if any way of reading accepts them, are handled correctly by all; `None` if they are
+    /// rejected.
     fn is_well(alloc: Global, text: &[u8]) -> Option<bool>;
 }
 
@@ -29,7 +30,7 @@ pub struct Pss;
 /// Parameters of RSAES-OAEP.
 pub struct Oaep;
 
-/// Whether nothing is read of the reader any more.
+/// Whether every read returns `Failed`.
 fn has_failed(mut reader: SliceReader<'_>) -> bool {
     let failed = Error::new(ErrorKind::Failed);
     reader.read_slice(Length::ZERO) == Err(failed)
@@ -80,7 +81,7 @@ impl Damaged for Oaep {
     }
 }
 
-/// Which of the types accept the text.
+/// Which of the types accept the bytes.
 fn accepting(alloc: Global, text: &[u8]) -> [(&'static str, bool); 4] {
     [
         ("pub", Public::is_well(alloc, text).is_some()),
@@ -90,7 +91,7 @@ fn accepting(alloc: Global, text: &[u8]) -> [(&'static str, bool); 4] {
     ]
 }
 
-/// The types that accept the text, which is a proper beginning where its length is given.
+/// Shows the types that accept the bytes. With a length, the bytes are the proper beginning of that length.
 fn tell_accepting(to: &mut Told, text: &[u8], length: Option<usize>) {
     for (name, accepts) in accepting(to.alloc(), text) {
         if accepts {
@@ -104,7 +105,7 @@ fn tell_accepting(to: &mut Told, text: &[u8], length: Option<usize>) {
     }
 }
 
-/// `types HEX`: the types that accept the text, and the lengths of its proper beginnings that any type accepts.
+/// `types HEX`: the types that accept the bytes, and the lengths of the proper beginnings that any type accepts.
 pub fn types(to: &mut Told, text: &[u8]) {
     tell_accepting(to, text, None);
     for length in 0..text.len() {
@@ -112,7 +113,7 @@ pub fn types(to: &mut Told, text: &[u8]) {
     }
 }
 
-/// How many texts there were, were accepted, and weren't answered as they should be.
+/// How many encodings were tried, were accepted, and were handled wrongly.
 #[derive(Clone, Copy)]
 struct Counts {
     texts: u64,
@@ -150,8 +151,8 @@ impl Counts {
     }
 }
 
-/// `changed-TYPE HEX`: of the texts with one byte set to each of its 255 other values, how many are accepted, and of how
-/// many of those another text is written than it should be.
+/// `changed-TYPE HEX`: of all encodings with one byte changed to another value, how many are accepted, and how many of
+/// these are handled wrongly.
 pub fn changed<D: Damaged>(to: &mut Told, bytes: &[u8]) {
     let Ok(mut text) = Vec::from_slice(to.alloc(), bytes) else {
         return to.want_of_memory();
@@ -171,7 +172,7 @@ pub fn changed<D: Damaged>(to: &mut Told, bytes: &[u8]) {
     counts.told(to);
 }
 
-/// The SEQUENCE of parts whose places are the digits of the number, the last one first.
+/// The SEQUENCE of `count` parts. Their indices are the digits of `number`, the lowest digit first.
 fn sequence(alloc: Global, parts: &[Vec<u8>], count: u32, mut number: usize) -> Option<Vec<u8>> {
     let mut contents = Vec::new(alloc);
     for _ in 0..count {
@@ -185,7 +186,7 @@ fn sequence(alloc: Global, parts: &[Vec<u8>], count: u32, mut number: usize) -> 
     Some(text)
 }
 
-/// `joined-TYPE N HEX HEX..`: the same of the SEQUENCEs of up to N of the parts, in any order and as often as you like.
+/// `joined-TYPE N HEX HEX..`: the same for the SEQUENCEs of up to N parts, in any order and with repetitions.
 pub fn joined<D: Damaged>(to: &mut Told, most: u32, parts: &[Vec<u8>]) {
     let mut counts = Counts::none();
     for count in 0..=most {

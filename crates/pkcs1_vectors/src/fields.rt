@@ -1,11 +1,11 @@
-//! Parts that may be absent, last parts, and explicit fields, of small INTEGERs.
+//! Optional parts, last parts and explicit fields, with small INTEGERs.
 use crate::lengths::tag_number;
 use crate::told::{Refusal, Told};
 use crate::written::written;
 use der_core::{NoMemory, Reader, Result, SliceReader, decode_last, decode_optional, decode_whole};
 use spki_core::{ContextSpecificRef, read_context_specific, read_field};
 
-/// What was read, and how many bytes are left; a refusal, and whether the reader goes on reading behind it.
+/// What was read, and how many bytes are left. On an error also, if the reader hasn't failed.
 fn told(to: &mut Told, reader: &SliceReader<'_>, answer: Result<Option<u8>>) {
     let left = reader.remaining_len().to_usize();
     match answer {
@@ -26,15 +26,15 @@ fn told(to: &mut Told, reader: &SliceReader<'_>, answer: Result<Option<u8>>) {
 /// How a small INTEGER is read.
 #[derive(Clone, Copy)]
 pub enum Part {
-    /// Where its octet is next.
+    /// If its tag is next.
     Optional,
     /// As all that is left.
     Whole,
-    /// As all that is left, or nothing.
+    /// As all that is left, if anything is.
     Last,
 }
 
-/// `optional HEX`, `whole HEX`, `last HEX`: a small INTEGER that is read so.
+/// `optional HEX`, `whole HEX`, `last HEX`: reads a small INTEGER in this way.
 pub fn read_part(to: &mut Told, bytes: &[u8], part: Part) {
     let Ok(mut reader) = SliceReader::new(bytes) else {
         return to.malformed();
@@ -47,7 +47,7 @@ pub fn read_part(to: &mut Told, bytes: &[u8], part: Part) {
     told(to, &reader, answer);
 }
 
-/// `field N HEX`: a small INTEGER inside `[N]` where that octet is next; behind it, what it is with the default 200.
+/// `field N HEX`: a small INTEGER inside `[N]` if that tag is next; then, what it is with the default 200.
 pub fn field(to: &mut Told, number: usize, bytes: &[u8]) {
     let (Some(number), Ok(mut reader)) = (tag_number(number), SliceReader::new(bytes)) else {
         return to.malformed();
@@ -69,7 +69,7 @@ pub fn field(to: &mut Told, number: usize, bytes: &[u8]) {
     }
 }
 
-/// `field-new N M`: the text of the small INTEGER M inside `[N]`.
+/// `field-new N M`: the encoding of the small INTEGER M inside `[N]`.
 pub fn field_new(to: &mut Told, number: usize, value: usize) {
     match (tag_number(number), u8::try_from(value)) {
         (Some(tag_number), Ok(value)) => {

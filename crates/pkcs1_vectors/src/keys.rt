@@ -10,7 +10,7 @@ use pkcs1::{
     RsaPublicKey, RsaPublicKeyOwned, RsaPublicKeyRef, Uint, Version,
 };
 
-/// `version-new N`: the version of this number, its number, and whether it has other primes.
+/// `version-new N`: the version with this number, its number, and whether it has other primes.
 pub fn version_new(to: &mut Told, number: usize) {
     let Ok(number) = u8::try_from(number) else {
         return to.malformed();
@@ -27,7 +27,7 @@ pub fn version_new(to: &mut Told, number: usize) {
     }
 }
 
-/// `pub HEX`: a public key, borrowed and owned, written again by the coding traits and by documents.
+/// `pub HEX`: a public key, borrowed and owned, written again by the traits and by documents.
 pub fn public_key(to: &mut Told, bytes: &[u8]) {
     both::<RsaPublicKeyRef, RsaPublicKeyOwned>(to, bytes);
     to.way("try_from");
@@ -44,8 +44,8 @@ pub fn public_key(to: &mut Told, bytes: &[u8]) {
     }
 }
 
-/// `pub-filled N`: how long the text of a key with a modulus of N octets `11` and the exponent 3 is, and its first six
-/// octets, or why it is another key's.
+/// `pub-filled N`: the length and the first six octets of the encoding of the key with a modulus of N octets `11` and
+/// the exponent 3, or that another key is read from it.
 pub fn filled(to: &mut Told, length: usize) {
     let Ok(octets) = vec![in to.alloc(); 0x11; length] else {
         return to.want_of_memory();
@@ -66,7 +66,7 @@ pub fn filled(to: &mut Told, length: usize) {
     }
 }
 
-/// How long the text is, and its first six octets, or why it is another key's.
+/// The length and the first six octets of the encoding, or that another key is read from it.
 fn filled_text(to: &mut Told, key: &RsaPublicKeyRef<'_>, digits: &str) {
     let Ok(text) = hex::decode(to.alloc(), digits) else {
         return to.malformed();
@@ -82,7 +82,7 @@ fn filled_text(to: &mut Told, key: &RsaPublicKeyRef<'_>, digits: &str) {
     }
 }
 
-/// `priv HEX`: a private key, borrowed and owned, written again by the coding traits and by documents.
+/// `priv HEX`: a private key, borrowed and owned, written again by the traits and by documents.
 pub fn private_key(to: &mut Told, bytes: &[u8]) {
     let alloc = to.alloc();
     owned::<RsaPrivateKeyRef>(to, bytes);
@@ -104,7 +104,7 @@ pub fn private_key(to: &mut Told, bytes: &[u8]) {
     }
 }
 
-/// `priv-octets HEX`: the private key inside an octet string of these octets.
+/// `priv-octets HEX`: the private key inside an OCTET STRING with these octets.
 pub fn from_octets(to: &mut Told, bytes: &[u8]) {
     let alloc = to.alloc();
     let Ok(octets) = OctetStringRef::new(bytes) else {
@@ -123,8 +123,8 @@ pub fn from_octets(to: &mut Told, bytes: &[u8]) {
     );
 }
 
-/// `priv-rooms HEX`: how many slices are too short for the private key and left as they were, and what comes of one as
-/// long as its text.
+/// `priv-rooms HEX`: how many shorter slices are too short for the private key and left unchanged, and whether it is
+/// written to a slice as long as its encoding.
 pub fn rooms(to: &mut Told, bytes: &[u8]) {
     match RsaPrivateKeyRef::decode_key(to.alloc(), bytes) {
         Ok(key) => in_each_room(to, &key, bytes),
@@ -132,7 +132,7 @@ pub fn rooms(to: &mut Told, bytes: &[u8]) {
     }
 }
 
-/// `priv-pub HEX`: the text of the private key's public key.
+/// `priv-pub HEX`: the encoding of the private key's public key.
 pub fn public_of_private(to: &mut Told, bytes: &[u8]) {
     match RsaPrivateKeyRef::decode_key(to.alloc(), bytes) {
         Ok(key) => {
@@ -144,7 +144,7 @@ pub fn public_of_private(to: &mut Told, bytes: &[u8]) {
     }
 }
 
-/// `pub-error HEX`: what is printed of the error by which the text of a public key is refused.
+/// `pub-error HEX`: the printed error of reading a public key.
 pub fn public_error(to: &mut Told, bytes: &[u8]) {
     match RsaPublicKeyRef::try_from(bytes) {
         Ok(_) => to.malformed(),
@@ -152,7 +152,7 @@ pub fn public_error(to: &mut Told, bytes: &[u8]) {
     }
 }
 
-/// `priv-debug HEX`: what `Debug` prints of the private key and of its view.
+/// `priv-debug HEX`: what `Debug` prints for the private key and for its view.
 pub fn debug(to: &mut Told, bytes: &[u8]) {
     match (
         RsaPrivateKeyRef::decode_key(to.alloc(), bytes),
@@ -167,8 +167,8 @@ pub fn debug(to: &mut Told, bytes: &[u8]) {
     }
 }
 
-/// `priv-empty-list N HEX`: what a slice holds after the private key was to be written into it with a list of no other
-/// primes in place of its own, and why its text, its contents and a document aren't written.
+/// `priv-empty-list N HEX`: what a slice of N bytes holds after writing the private key with an empty list of other
+/// primes, and the errors of writing its encoding, its contents and a document.
 pub fn empty_list(to: &mut Told, room: usize, bytes: &[u8]) {
     let Ok(mut key) = RsaPrivateKeyRef::decode_key(to.alloc(), bytes) else {
         return to.malformed();
@@ -185,7 +185,7 @@ pub fn empty_list(to: &mut Told, room: usize, bytes: &[u8]) {
     unwritten(to, &key);
 }
 
-/// What a slice holds after the private key that owns its parts was to be written into it so.
+/// What a slice holds after writing the private key that owns its parts, with an empty list.
 fn owned_empty_list(to: &mut Told, room: usize, bytes: &[u8]) {
     match RsaPrivateKeyOwned::from_der(to.alloc(), bytes) {
         Ok(mut key) => {
@@ -196,7 +196,7 @@ fn owned_empty_list(to: &mut Told, room: usize, bytes: &[u8]) {
     }
 }
 
-/// Why the text of the private key, its contents and a document aren't written.
+/// The errors of writing the private key, its contents and a document.
 fn unwritten(to: &mut Told, key: &RsaPrivateKeyRef<'_>) {
     written(to, key);
     to.text("; ");
@@ -205,7 +205,7 @@ fn unwritten(to: &mut Told, key: &RsaPrivateKeyRef<'_>) {
     documents(to, key);
 }
 
-/// Why no document of the private key is written.
+/// The error of each way of making a document of the private key.
 fn documents(to: &mut Told, key: &RsaPrivateKeyRef<'_>) {
     let mut document = Told::new(to.alloc());
     held(&mut document, key);

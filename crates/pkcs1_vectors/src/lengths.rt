@@ -61,7 +61,7 @@ pub fn sum(to: &mut Told, first: usize, second: usize) {
     }
 }
 
-/// `length-tlv N`: the length of a text with so many octets of contents.
+/// `length-tlv N`: the length of an encoding with N octets of contents.
 pub fn for_tlv(to: &mut Told, number: usize) {
     match Length::try_from(number) {
         Ok(length) => told(to, length.for_tlv(Tag::SEQUENCE)),
@@ -69,7 +69,7 @@ pub fn for_tlv(to: &mut Told, number: usize) {
     }
 }
 
-/// `tag HEX`: the tag of an octet.
+/// `tag HEX`: the tag with this octet.
 pub fn tag(to: &mut Told, bytes: &[u8]) {
     match bytes {
         [octet] => match Tag::from_octet(*octet) {
@@ -80,7 +80,7 @@ pub fn tag(to: &mut Told, bytes: &[u8]) {
     }
 }
 
-/// `tag-named NAME`: the octet of a tag with a name.
+/// `tag-named NAME`: the octet of a named tag.
 pub fn named(to: &mut Told, name: &str) {
     let tag = match name {
         "INTEGER" => Tag::INTEGER,
@@ -93,7 +93,7 @@ pub fn named(to: &mut Told, name: &str) {
     to.digits(&[tag.octet()]);
 }
 
-/// The number of a tag.
+/// The number as that of a tag, if it is at most 30.
 pub fn tag_number(number: usize) -> Option<TagNumber> {
     match u8::try_from(number) {
         Ok(number) if number <= 30 => Some(TagNumber::new(number)),
@@ -116,7 +116,7 @@ fn read_header(bytes: &[u8]) -> Result<(Header, usize)> {
     Ok((header, reader.remaining_len().to_usize()))
 }
 
-/// `header HEX`: the tag and the length at the front of the bytes, the header's bytes, and how many bytes are left.
+/// `header HEX`: the tag and the length at the front of the bytes, the octets of both, and how many bytes are left.
 pub fn header(to: &mut Told, bytes: &[u8]) {
     match read_header(bytes) {
         Ok((header, rest)) => {

@@ -1,6 +1,6 @@
-//! Worked rows as data: each line of the input names a call, what it is given, and what it answers. The rows that are
-//! answered otherwise are printed, and then how many held, with a hash of all rows: a row that was changed by mistake
-//! into another one that holds is noticed by it.
+//! Worked rows as data: each line of the input has a word, its parameters and the expected output. Prints the rows with
+//! another output, then how many rows held, and a hash of all rows. The hash shows when a row was changed by mistake
+//! into another one that holds.
 #![tactic(auto)]
 
 mod algorithms;

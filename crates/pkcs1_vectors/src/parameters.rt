@@ -8,7 +8,7 @@ use pkcs1::{Result, RsaOaepParamsOwned, RsaOaepParamsRef, RsaPssParamsOwned, Rsa
 use spki_core::AssociatedOid;
 use std::alloc::Global;
 
-/// Parameters that own their parts, of the text, and what documents of them hold where that isn't what is written.
+/// Owned parameters, and documents of them if these differ from what is written.
 fn documents<'a, T: Decode<&'a [u8], Global> + Shown + Encode + EncodeValue + Sequence<'a>>(
     to: &mut Told,
     bytes: &'a [u8],
@@ -23,7 +23,7 @@ fn documents<'a, T: Decode<&'a [u8], Global> + Shown + Encode + EncodeValue + Se
     }
 }
 
-/// `pss HEX`: PSS parameters, borrowed and owned, written again by the coding traits and by documents.
+/// `pss HEX`: PSS parameters, borrowed and owned, written again by the traits and by documents.
 pub fn pss(to: &mut Told, bytes: &[u8]) {
     both::<RsaPssParamsRef, RsaPssParamsOwned>(to, bytes);
     to.way("try_from");
@@ -31,7 +31,7 @@ pub fn pss(to: &mut Told, bytes: &[u8]) {
     documents::<RsaPssParamsOwned>(to, bytes);
 }
 
-/// `oaep HEX`: OAEP parameters, borrowed and owned, written again by the coding traits and by documents.
+/// `oaep HEX`: OAEP parameters, borrowed and owned, written again by the traits and by documents.
 pub fn oaep(to: &mut Told, bytes: &[u8]) {
     both::<RsaOaepParamsRef, RsaOaepParamsOwned>(to, bytes);
     to.way("try_from");
@@ -39,14 +39,14 @@ pub fn oaep(to: &mut Told, bytes: &[u8]) {
     documents::<RsaOaepParamsOwned>(to, bytes);
 }
 
-/// The parameters, and their text.
+/// The parameters and their encoding.
 fn with_text<T: Shown + Encode>(to: &mut Told, params: &T) {
     params.shown(to);
     to.text(" ");
     written(to, params);
 }
 
-/// `pss-default`: the parameters with every field at its default, their text, and the length of the salt.
+/// `pss-default`: the PSS parameters with every field at its default, their encoding, and the salt length.
 pub fn pss_default(to: &mut Told) {
     let alloc = to.alloc();
     with_text(to, &RsaPssParamsRef::default());
@@ -58,7 +58,7 @@ pub fn pss_default(to: &mut Told) {
     to.plain(RsaPssParamsRef::SALT_LEN_DEFAULT);
 }
 
-/// `oaep-default`: the same of OAEP parameters, which have no salt.
+/// `oaep-default`: the OAEP parameters with every field at its default, and their encoding.
 pub fn oaep_default(to: &mut Told) {
     let alloc = to.alloc();
     with_text(to, &RsaOaepParamsRef::default());
@@ -66,7 +66,7 @@ pub fn oaep_default(to: &mut Told) {
     with_text(to, &RsaOaepParamsOwned::default_in(alloc));
 }
 
-/// Whether two texts have equal parameters, or why the first of them that is refused is so.
+/// Whether two parameters are equal, or the first error of reading them.
 fn same<T: PartialEq + Drop>(to: &mut Told, first: Result<T>, second: Result<T>) {
     match (first, second) {
         (Ok(one), Ok(other)) => to.yes_or_no(one == other),
@@ -74,19 +74,19 @@ fn same<T: PartialEq + Drop>(to: &mut Told, first: Result<T>, second: Result<T>)
     }
 }
 
-/// `pss-same HEX HEX`: whether two texts have equal parameters.
+/// `pss-same HEX HEX`: whether two encodings mean equal parameters.
 pub fn pss_same(to: &mut Told, first: &[u8], second: &[u8]) {
     let first = RsaPssParamsRef::try_from(first);
     same(to, first, RsaPssParamsRef::try_from(second));
 }
 
-/// `oaep-same HEX HEX`: whether two texts have equal parameters.
+/// `oaep-same HEX HEX`: whether two encodings mean equal parameters.
 pub fn oaep_same(to: &mut Told, first: &[u8], second: &[u8]) {
     let first = RsaOaepParamsRef::try_from(first);
     same(to, first, RsaOaepParamsRef::try_from(second));
 }
 
-/// How many bytes the text has, and the text.
+/// The encoding and its length.
 fn made<T: Encode>(to: &mut Told, params: &T) {
     let text = text_of(to.alloc(), params);
     if let Ok(digits) = &text {
@@ -96,7 +96,7 @@ fn made<T: Encode>(to: &mut Told, params: &T) {
     to.answered(text);
 }
 
-/// `new-pss-HASH N`: PSS parameters of the hash function with a salt of so many octets.
+/// `new-pss-HASH N`: PSS parameters with this hash function and a salt of N octets.
 pub fn new_pss<D: AssociatedOid>(to: &mut Told, salt: usize) {
     match u8::try_from(salt) {
         Ok(salt) => made(to, &RsaPssParamsRef::new::<D>(salt)),
@@ -104,12 +104,12 @@ pub fn new_pss<D: AssociatedOid>(to: &mut Told, salt: usize) {
     }
 }
 
-/// `new-oaep-HASH`: OAEP parameters of the hash function with the empty label.
+/// `new-oaep-HASH`: OAEP parameters with this hash function and the empty label.
 pub fn new_oaep<D: AssociatedOid>(to: &mut Told) {
     made(to, &RsaOaepParamsRef::new::<D>());
 }
 
-/// `label-HASH HEX`: OAEP parameters of the hash function with this label.
+/// `label-HASH HEX`: OAEP parameters with this hash function and label.
 pub fn with_label<D: AssociatedOid>(to: &mut Told, label: &[u8]) {
     if RsaOaepParamsRef::label_fits::<D>(label.len()) {
         made(to, &RsaOaepParamsRef::new_with_label::<D>(label));

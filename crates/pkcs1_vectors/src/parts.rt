@@ -1,10 +1,10 @@
-//! A row's word, and the parts behind it.
+//! A row's word and its parameters.
 use crate::told::{Answer, Told, Trouble};
 use crate::words;
 use hex::FromHexError;
 use std::alloc::Global;
 
-/// The answer of the word to the parts behind it, each behind a single space.
+/// The output of the word for its parameters, each behind a single space.
 pub fn answer(alloc: Global, asked: &str) -> Answer {
     let mut parts = Vec::new(alloc);
     for part in asked.split(' ') {
@@ -18,7 +18,7 @@ pub fn answer(alloc: Global, asked: &str) -> Answer {
     }
 }
 
-/// Whether the first part is a word that is given what the others are.
+/// Whether the first part is a word with parameters like the others.
 fn is_answered(to: &mut Told, parts: &[&str]) -> bool {
     match parts {
         [word] => words::alone(to, word),
@@ -34,7 +34,7 @@ fn is_answered(to: &mut Told, parts: &[&str]) -> bool {
     }
 }
 
-/// Words that are given a number.
+/// Words with a number.
 fn of_number(to: &mut Told, word: &str, number: &str) -> bool {
     match number.parse::<usize>() {
         Ok(number) => words::of_number(to, word, number),
@@ -42,7 +42,7 @@ fn of_number(to: &mut Told, word: &str, number: &str) -> bool {
     }
 }
 
-/// Words that are given bytes.
+/// Words with bytes.
 fn of_bytes(to: &mut Told, word: &str, digits: &str) -> bool {
     match bytes_of(to, digits) {
         Some(bytes) => words::of_bytes(to, word, bytes.as_slice()),
@@ -50,7 +50,7 @@ fn of_bytes(to: &mut Told, word: &str, digits: &str) -> bool {
     }
 }
 
-/// Words that are given a number, and another or bytes.
+/// Words with a number, and with another number or bytes.
 fn of_number_and(to: &mut Told, word: &str, number: &str, part: &str) -> bool {
     let Ok(number) = number.parse::<usize>() else {
         return false;
@@ -66,7 +66,7 @@ fn of_number_and(to: &mut Told, word: &str, number: &str, part: &str) -> bool {
     }
 }
 
-/// Words that are given two texts.
+/// Words with two byte strings.
 fn of_texts(to: &mut Told, word: &str, first: &str, second: &str) -> bool {
     let Some(first) = bytes_of(to, first) else {
         return false;
@@ -77,7 +77,7 @@ fn of_texts(to: &mut Told, word: &str, first: &str, second: &str) -> bool {
     }
 }
 
-/// Words that are given a mask, the length of a slice, and a text.
+/// Words with a mask, the length of a slice, and bytes.
 fn of_mask(to: &mut Told, word: &str, mask: &str, room: &str, digits: &str) -> bool {
     let (Ok(mask), Ok(room)) = (mask.parse::<u8>(), room.parse::<usize>()) else {
         return false;
@@ -88,7 +88,7 @@ fn of_mask(to: &mut Told, word: &str, mask: &str, room: &str, digits: &str) -> b
     }
 }
 
-/// Words that are given a number and a list of texts.
+/// Words with a number and a list of byte strings.
 fn of_list(to: &mut Told, word: &str, number: &str, parts: &[&str]) -> bool {
     let Ok(number) = number.parse::<u32>() else {
         return false;
@@ -99,8 +99,8 @@ fn of_list(to: &mut Told, word: &str, number: &str, parts: &[&str]) -> bool {
     }
 }
 
-/// The bytes that the digits spell; `-` stands for none. `None` where they spell no bytes, or no memory was found, which is
-/// told.
+/// The bytes in hexadecimal digits, or none for `-`. `None` if they aren't such digits or memory ran out, which is
+/// noted in `to`.
 fn bytes_of(to: &mut Told, digits: &str) -> Option<Vec<u8>> {
     if digits == "-" {
         return Some(Vec::new(to.alloc()));
@@ -115,7 +115,7 @@ fn bytes_of(to: &mut Told, digits: &str) -> Option<Vec<u8>> {
     }
 }
 
-/// The bytes that each of the parts spells.
+/// The bytes of each part.
 fn all_bytes_of(to: &mut Told, parts: &[&str]) -> Option<Vec<Vec<u8>>> {
     let mut all = Vec::new(to.alloc());
     for part in parts {

@@ -1,11 +1,11 @@
-//! Ways of reading a text.
+//! Ways of reading an encoding.
 use crate::shown::Shown;
 use crate::told::{Refusal, Told};
 use crate::written::text_of;
 use der_core::{Decode, Encode, NoMemory, Reader, Result, SliceReader, TryClone};
 use std::alloc::Global;
 
-/// The value that was read of the text, and what is written of it where that is another text.
+/// The value that was read, and its encoding if that differs from the one that was read.
 pub fn told<T: Shown + Encode>(to: &mut Told, bytes: &[u8], value: &T) {
     value.shown(to);
     let mut given = Told::new(to.alloc());
@@ -13,7 +13,7 @@ pub fn told<T: Shown + Encode>(to: &mut Told, bytes: &[u8], value: &T) {
     to.unless(given.answer(), " again=", text_of(to.alloc(), value));
 }
 
-/// What is told of the value, or why there is none.
+/// The value that was read, or the error.
 pub fn read<T: Shown + Encode + Drop, E: Refusal>(
     to: &mut Told,
     bytes: &[u8],
@@ -25,7 +25,7 @@ pub fn read<T: Shown + Encode + Drop, E: Refusal>(
     }
 }
 
-/// The value at the front of a reader that has nothing else.
+/// The value at the front of a reader with nothing behind it.
 fn front<'a, T: Decode<&'a [u8], NoMemory>>(bytes: &'a [u8]) -> Result<T> {
     let mut reader = SliceReader::new(bytes)?;
     let value = T::decode(NoMemory, &mut reader)?;
@@ -33,7 +33,7 @@ fn front<'a, T: Decode<&'a [u8], NoMemory>>(bytes: &'a [u8]) -> Result<T> {
     Ok(value)
 }
 
-/// What is read without memory.
+/// What is read by a borrowed type.
 pub fn borrowed<'a, T: Decode<&'a [u8], NoMemory> + Shown + Encode>(
     to: &mut Told,
     bytes: &'a [u8],
@@ -43,7 +43,7 @@ pub fn borrowed<'a, T: Decode<&'a [u8], NoMemory> + Shown + Encode>(
     read(to, bytes, front::<T>(bytes));
 }
 
-/// What is read into memory, and what is told of a copy.
+/// What is read by an owned type, and its copy.
 pub fn owned<'a, T: Decode<&'a [u8], Global> + Shown + Encode + TryClone>(
     to: &mut Told,
     bytes: &'a [u8],
@@ -59,7 +59,7 @@ pub fn owned<'a, T: Decode<&'a [u8], Global> + Shown + Encode + TryClone>(
     }
 }
 
-/// What is read by a borrowed type, and by the one that owns its parts.
+/// What is read by a borrowed type and by the one that owns its parts.
 pub fn both<
     'a,
     B: Decode<&'a [u8], NoMemory> + Shown + Encode,

@@ -1,8 +1,8 @@
-//! Refusals as they are printed.
+//! Errors as they are printed.
 use crate::told::Told;
 use der_core::{Error, ErrorKind, Tag};
 
-/// The kinds that name no tag.
+/// The kinds without a tag.
 fn plain_kind(name: &str) -> Option<ErrorKind> {
     let kind = match name {
         "Failed" => ErrorKind::Failed,
@@ -22,7 +22,7 @@ fn plain_kind(name: &str) -> Option<ErrorKind> {
     Some(kind)
 }
 
-/// The kind of that name; those of a tag are told of SEQUENCE, and NULL where INTEGER was expected.
+/// The kind with this name. Tags are SEQUENCE, or NULL where INTEGER was expected.
 fn named_kind(name: &str) -> Option<ErrorKind> {
     let tag = Tag::SEQUENCE;
     let (expected, actual) = (Tag::INTEGER, Tag::NULL);
@@ -36,7 +36,7 @@ fn named_kind(name: &str) -> Option<ErrorKind> {
     }
 }
 
-/// `kind NAME`: the kind, as it is printed of the kernel's error.
+/// `kind NAME`: an error of `der_core` of this kind, as it is printed.
 pub fn kind(to: &mut Told, name: &str) {
     match named_kind(name) {
         Some(kind) => to.plain(Error::new(kind)),
@@ -44,7 +44,7 @@ pub fn kind(to: &mut Told, name: &str) {
     }
 }
 
-/// `error NAME`: an error of keys and parameters, as it is printed; a kind stands for the kernel's error of it.
+/// `error NAME`: an error of `pkcs1`, as it is printed. The name of a kind stands for the error of `der_core`.
 pub fn error(to: &mut Told, name: &str) {
     let error = match name {
         "Version" => pkcs1::Error::Version,

@@ -3,21 +3,21 @@ use crate::parts;
 use crate::told::Trouble;
 use std::alloc::{AllocError, Global};
 
-/// What comes of a line.
+/// The outcome of a line.
 #[derive(Drop)]
 pub enum Outcome {
     /// A heading or an empty line.
     NoRow,
-    /// The call is answered as the row says.
+    /// The output is the expected one.
     Holds,
-    /// It is answered otherwise, or the line is no row.
+    /// The output is another one, or the line is no row.
     Differs {
-        /// What is answered.
+        /// The output.
         answer: String,
     },
 }
 
-/// Compares the answer of the line's word with the one that the line names behind ` = `.
+/// Compares the output of the line's word with the one behind ` = `.
 pub fn compared(alloc: Global, line: &str) -> Result<Outcome, AllocError> {
     if line.is_empty() || line.starts_with('#') {
         return Ok(Outcome::NoRow);

@@ -1,4 +1,4 @@
-//! Values as rows show them: numbers and contents in hexadecimal digits, `-` for what is absent.
+//! Values as rows show them: numbers and contents in hexadecimal digits, `-` if absent.
 use crate::told::Told;
 use der_core::{AsUintRef, OctetStringRef, Uint, UintRef};
 use pkcs1::{
@@ -8,9 +8,9 @@ use pkcs1::{
 use pkcs8_core::PrivateKeyInfoRef;
 use spki_core::{AlgorithmIdentifier, Any, AnyRef, AnyValue, ObjectIdentifier};
 
-/// A value that a row shows.
+/// A value that rows can show.
 pub trait Shown {
-    /// All that the value holds.
+    /// Shows all parts of the value.
     fn shown(&self, to: &mut Told);
 }
 
@@ -113,7 +113,7 @@ impl<U: AsUintRef> Shown for OtherPrimeInfo<U> {
     }
 }
 
-/// The version, and eight numbers in their order, each with its name.
+/// The version and the eight numbers in order, each with its name.
 fn numbers_shown(to: &mut Told, version: Version, numbers: [UintRef<'_>; 8]) {
     version.shown(to);
     for (name, number) in [" n=", " e=", " d=", " p=", " q=", " dp=", " dq=", " qi="]

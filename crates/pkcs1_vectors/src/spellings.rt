@@ -6,17 +6,17 @@ use pkcs1::{Error, Result, RsaOaepParams, RsaPssParams};
 use spki_core::AnyValue;
 use std::alloc::Global;
 
-/// Parameters that are spelled.
+/// Parameters with spellings.
 pub trait Spelled {
-    /// Why the spelling under the mask isn't written into the slice, if it isn't. `Err` where the mask isn't one of the
-    /// parameters.
+    /// Writes the spelling under the mask into the slice, and returns the error, if any. `Err` if the mask is none of
+    /// the parameters.
     fn spell_into(&self, mask: u8, slice: &mut [u8]) -> std::result::Result<Option<Error>, NoMask>;
 
-    /// Every spelling, by its mask.
+    /// All spellings, by mask.
     fn all_spellings(&self, alloc: Global) -> Result<Vec<Vec<u8>>>;
 }
 
-/// A mask is as great as the number of spellings, or greater.
+/// The mask isn't below the number of spellings.
 #[derive(Drop)]
 pub struct NoMask;
 
@@ -46,7 +46,7 @@ impl<P: AnyValue> Spelled for RsaOaepParams<P> {
     }
 }
 
-/// How many spellings the parameters of the text have, and these by their masks.
+/// How many spellings the parameters have, and these by mask.
 fn listed<'a, T: Decode<&'a [u8], Global> + Spelled>(to: &mut Told, bytes: &'a [u8]) {
     let Ok(params) = T::from_der(to.alloc(), bytes) else {
         return to.malformed();
@@ -63,7 +63,8 @@ fn listed<'a, T: Decode<&'a [u8], Global> + Spelled>(to: &mut Told, bytes: &'a [
     }
 }
 
-/// `pss-spellings HEX`, `oaep-spellings HEX`: these of the borrowed parameters, and of those that own their parts.
+/// `pss-spellings HEX`, `oaep-spellings HEX`: all spellings, of the borrowed parameters and of those that own their
+/// parts.
 pub fn spellings<'a, B: Decode<&'a [u8], Global> + Spelled, O: Decode<&'a [u8], Global> + Spelled>(
     to: &mut Told,
     bytes: &'a [u8],
@@ -73,8 +74,8 @@ pub fn spellings<'a, B: Decode<&'a [u8], Global> + Spelled, O: Decode<&'a [u8], 
     listed::<O>(to, bytes);
 }
 
-/// `pss-spell M N HEX`, `oaep-spell M N HEX`: what a slice of N bytes holds after the spelling under the mask M was to be
-/// written into it.
+/// `pss-spell M N HEX`, `oaep-spell M N HEX`: what a slice of N bytes holds after writing the spelling under the mask
+/// M.
 pub fn spell<'a, T: Decode<&'a [u8], Global> + Spelled>(
     to: &mut Told,
     mask: u8,

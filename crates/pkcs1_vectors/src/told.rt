@@ -1,36 +1,36 @@
-//! What is told of a row's call.
+//! The output of a row's call.
 use std::alloc::{AllocError, AllocFailed, Global};
 use std::fmt::{Debug, Display};
 
-/// Why a row has no answer.
+/// Why a row has no output.
 #[derive(Clone, Copy, Drop)]
 pub enum Trouble {
-    /// No memory was found.
+    /// Memory ran out.
     Memory,
-    /// The word isn't known, or what is behind it isn't what the word is given.
+    /// The word isn't known, or the parameters aren't those of the word.
     Malformed,
 }
 
-/// What a row's call answers.
+/// The output of a row's call, or why there is none.
 pub type Answer = Result<String, Trouble>;
 
-/// An answer, told part by part, by one way after another. Behind a trouble nothing that is told counts.
+/// The output, written part by part, for one way of calling after another. After a `Trouble` the rest is ignored.
 #[derive(Drop)]
 pub struct Told {
     alloc: Global,
-    /// What the first way answered, as soon as there is another.
+    /// The output of the first way, once there is another.
     first: String,
-    /// The ways that answered otherwise, with their answers.
+    /// The ways with another output, each with its output.
     others: String,
-    /// The name of the present way; empty for the first.
+    /// The name of the current way; empty for the first.
     way: String,
-    /// What was told of the present way.
+    /// The output of the current way so far.
     now: String,
     trouble: Option<Trouble>,
 }
 
 impl Told {
-    /// Of which nothing was told.
+    /// Without any output yet.
     pub fn new(alloc: Global) -> Told {
         Told {
             alloc,
@@ -42,12 +42,12 @@ impl Told {
         }
     }
 
-    /// What values that are told of are held in.
+    /// The allocator for values that are shown.
     pub fn alloc(&self) -> Global {
         self.alloc
     }
 
-    /// What is told from here on is the answer by another way, and told only where it differs from the first.
+    /// Begins another way. Its output is shown only if it differs from the first.
     pub fn way(&mut self, name: &str) {
         self.end_way();
         self.way.clear();
@@ -56,7 +56,7 @@ impl Told {
         }
     }
 
-    /// Compares what the present way answered with what the first did.
+    /// Compares the output of the current way with the first.
     fn end_way(&mut self) {
         if self.way.is_empty() {
             std::mem::swap(&mut self.first, &mut self.now);
@@ -69,14 +69,14 @@ impl Told {
         self.now.clear();
     }
 
-    /// What is told from here on stands behind the first answer, and no other way follows.
+    /// Ends the ways: what follows is appended to the first output.
     pub fn rest(&mut self) {
         self.end_way();
         self.way.clear();
         std::mem::swap(&mut self.first, &mut self.now);
     }
 
-    /// The whole answer.
+    /// The whole output.
     pub fn answer(mut self) -> Answer {
         self.end_way();
         match self.trouble {
@@ -85,21 +85,21 @@ impl Told {
         }
     }
 
-    /// These words.
+    /// Writes the words.
     pub fn text(&mut self, words: &str) {
         if self.now.push_str(words).is_err() {
             self.trouble = Some(Trouble::Memory);
         }
     }
 
-    /// A space, but for the first of what is told.
+    /// Writes a space, unless nothing was written yet.
     pub fn gap(&mut self) {
         if !self.now.is_empty() {
             self.text(" ");
         }
     }
 
-    /// What was answered elsewhere, as a part of this answer.
+    /// Writes the output of another call.
     pub fn answered(&mut self, answer: Answer) {
         match answer {
             Ok(words) => self.text(words.as_str()),
@@ -107,7 +107,7 @@ impl Told {
         }
     }
 
-    /// These words, and the answer behind them, unless it is the expected one.
+    /// Writes the words and the output, unless it is the expected one.
     pub fn unless(&mut self, expected: Answer, words: &str, answer: Answer) {
         match (expected, answer) {
             (Ok(expected), Ok(answer)) => {
@@ -120,7 +120,7 @@ impl Told {
         }
     }
 
-    /// As it is printed.
+    /// Writes the value as it is printed.
     pub fn plain<T: Display + Drop>(&mut self, value: T) {
         self.answered(match format!(in self.alloc; "{value}") {
             Ok(words) => Ok(words),
@@ -128,7 +128,7 @@ impl Told {
         });
     }
 
-    /// As it is printed for debugging.
+    /// Writes the value as it is printed for debugging.
     pub fn debug<T: Debug>(&mut self, value: &T) {
         self.answered(match format!(in self.alloc; "{value:?}") {
             Ok(words) => Ok(words),
@@ -136,12 +136,12 @@ impl Told {
         });
     }
 
-    /// A number in decimal digits.
+    /// Writes a number in decimal digits.
     pub fn number(&mut self, number: usize) {
         self.plain(number);
     }
 
-    /// The bytes in hexadecimal digits.
+    /// Writes the bytes in hexadecimal digits.
     pub fn octets(&mut self, bytes: &[u8]) {
         self.answered(match hex::encode(self.alloc, bytes) {
             Ok(words) => Ok(words),
@@ -149,7 +149,7 @@ impl Told {
         });
     }
 
-    /// The same, and `-` for none.
+    /// Writes the bytes in hexadecimal digits, or `-` if there are none.
     pub fn digits(&mut self, bytes: &[u8]) {
         if bytes.is_empty() {
             self.text("-");
@@ -158,17 +158,17 @@ impl Told {
         }
     }
 
-    /// `yes` or `no`.
+    /// Writes `yes` or `no`.
     pub fn yes_or_no(&mut self, holds: bool) {
         self.text(if holds { "yes" } else { "no" });
     }
 
-    /// What stands behind the word isn't what it is given.
+    /// Notes that the parameters aren't those of the word.
     pub fn malformed(&mut self) {
         self.trouble = Some(Trouble::Malformed);
     }
 
-    /// No memory was found.
+    /// Notes that memory ran out.
     pub fn want_of_memory(&mut self) {
         self.trouble = Some(Trouble::Memory);
     }
@@ -186,9 +186,9 @@ impl From<AllocError> for Trouble {
     }
 }
 
-/// A refusal that is told.
+/// An error that rows can show.
 pub trait Refusal: Drop {
-    /// The refusal, as it is printed.
+    /// Writes the error as it is printed.
     fn told(self, to: &mut Told);
 }
 
@@ -200,7 +200,7 @@ impl Refusal for der_core::Error {
 }
 
 impl Refusal for pkcs1::Error {
-    /// That of the kernel by its own text, without the words before it.
+    /// An error of `der_core` is shown as its own, without the words in front.
     fn told(self, to: &mut Told) {
         match self {
             pkcs1::Error::Asn1(error) => error.told(to),

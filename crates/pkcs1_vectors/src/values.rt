@@ -1,4 +1,4 @@
-//! Integers, octet strings and documents.
+//! INTEGERs, OCTET STRINGs and documents.
 use crate::shown::Shown;
 use crate::told::{Refusal, Told};
 use crate::written::{contents, written};
@@ -6,7 +6,7 @@ use der_core::{
     Document, Encode, EncodeValue, FromRead, OctetStringRef, Result, SecretDocument, Uint, UintRef,
 };
 
-/// The value, its text, and its contents.
+/// The value, its encoding, and its contents.
 fn made<T: Shown + Encode + EncodeValue + Drop>(to: &mut Told, answer: Result<T>) {
     match answer {
         Ok(value) => {
@@ -20,7 +20,7 @@ fn made<T: Shown + Encode + EncodeValue + Drop>(to: &mut Told, answer: Result<T>
     }
 }
 
-/// `uint-new HEX`: the number of these bytes, its text, how many octets of contents that has, and these.
+/// `uint-new HEX`: the number with these bytes, its encoding, and its contents with their length.
 pub fn uint_new(to: &mut Told, bytes: &[u8]) {
     made(to, UintRef::new(bytes));
     to.way("owned");
@@ -28,7 +28,7 @@ pub fn uint_new(to: &mut Told, bytes: &[u8]) {
     made(to, own);
 }
 
-/// `small-new N`: the same of a small number.
+/// `small-new N`: the same for a small number.
 pub fn small_new(to: &mut Told, number: usize) {
     match u8::try_from(number) {
         Ok(number) => made(to, Ok(number)),
@@ -36,7 +36,7 @@ pub fn small_new(to: &mut Told, number: usize) {
     }
 }
 
-/// `octets-new HEX`: the same of an octet string, and behind it how many octets it has, and whether it has none.
+/// `octets-new HEX`: the same for an OCTET STRING; then how many octets it has, and whether it is empty.
 pub fn octets_new(to: &mut Told, bytes: &[u8]) {
     made(to, OctetStringRef::new(bytes));
     if let Ok(string) = OctetStringRef::new(bytes) {
@@ -47,7 +47,7 @@ pub fn octets_new(to: &mut Told, bytes: &[u8]) {
     }
 }
 
-/// How many bytes a document that was made holds, and these.
+/// The bytes of a document and their number, or the error.
 fn held(to: &mut Told, answer: Result<Document>) {
     match answer {
         Ok(document) => {
@@ -59,7 +59,7 @@ fn held(to: &mut Told, answer: Result<Document>) {
     }
 }
 
-/// The same of a document that shows none of its bytes.
+/// The same for a secret document.
 fn held_secret(to: &mut Told, answer: Result<SecretDocument>) {
     match answer {
         Ok(document) => {
@@ -71,7 +71,7 @@ fn held_secret(to: &mut Told, answer: Result<SecretDocument>) {
     }
 }
 
-/// `document HEX`: what documents of these bytes hold, given as a slice or by a source.
+/// `document HEX`: documents of these bytes, from a slice and from a source.
 pub fn document(to: &mut Told, bytes: &[u8]) {
     let alloc = to.alloc();
     held(to, Document::from_der(alloc, bytes));

@@ -1,4 +1,4 @@
-//! The words of rows, by what they are given. Each function answers whether the word is one of its own.
+//! The words of rows, by their parameters. Each function returns whether the word is one of its own.
 use crate::damaged::{self, Oaep, Private, Pss, Public};
 use crate::fields::{self, Part};
 use crate::read::{borrowed, both, owned, read};
@@ -15,7 +15,7 @@ use pkcs8_core::PrivateKeyInfoRef;
 use spki_core::{AlgorithmIdentifier, AlgorithmIdentifierRef, Any, AnyRef, ObjectIdentifier};
 use uses::{Sha1, Sha256};
 
-/// Words that are given nothing.
+/// Words without parameters.
 pub fn alone(to: &mut Told, word: &str) -> bool {
     match word {
         "length-max" => lengths::max(to),
@@ -30,7 +30,7 @@ pub fn alone(to: &mut Told, word: &str) -> bool {
     true
 }
 
-/// Words that are given a name.
+/// Words with a name.
 pub fn of_name(to: &mut Told, word: &str, name: &str) -> bool {
     match word {
         "tag-named" => lengths::named(to, name),
@@ -42,7 +42,7 @@ pub fn of_name(to: &mut Told, word: &str, name: &str) -> bool {
     true
 }
 
-/// Words that are given a number.
+/// Words with a number.
 pub fn of_number(to: &mut Told, word: &str, number: usize) -> bool {
     match word {
         "length-of" => lengths::length_of(to, number),
@@ -60,7 +60,7 @@ pub fn of_number(to: &mut Told, word: &str, number: usize) -> bool {
     true
 }
 
-/// Words that are given bytes.
+/// Words with bytes.
 pub fn of_bytes(to: &mut Told, word: &str, bytes: &[u8]) -> bool {
     of_kernel_text(to, word, bytes)
         || of_algorithm_text(to, word, bytes)
@@ -69,7 +69,7 @@ pub fn of_bytes(to: &mut Told, word: &str, bytes: &[u8]) -> bool {
         || of_damaged_text(to, word, bytes)
 }
 
-/// Lengths, tags, headers, integers, octet strings, lists, documents, last parts.
+/// Lengths, tags, headers, INTEGERs, OCTET STRINGs, lists, documents, last parts.
 fn of_kernel_text(to: &mut Told, word: &str, bytes: &[u8]) -> bool {
     match word {
         "length" => lengths::length(to, bytes),
@@ -90,7 +90,7 @@ fn of_kernel_text(to: &mut Told, word: &str, bytes: &[u8]) -> bool {
     true
 }
 
-/// Identifiers, texts of any tag, algorithms; a mask is an identifier whose parameters are one.
+/// Object identifiers, encodings of any tag, algorithms. A mask is an algorithm whose parameters are another one.
 fn of_algorithm_text(to: &mut Told, word: &str, bytes: &[u8]) -> bool {
     match word {
         "oid" => borrowed::<ObjectIdentifier>(to, bytes),
@@ -108,7 +108,7 @@ fn of_algorithm_text(to: &mut Told, word: &str, bytes: &[u8]) -> bool {
     true
 }
 
-/// Keys, and containers of them.
+/// Keys and containers.
 fn of_key_text(to: &mut Told, word: &str, bytes: &[u8]) -> bool {
     match word {
         "version" => borrowed::<Version>(to, bytes),
@@ -127,7 +127,7 @@ fn of_key_text(to: &mut Told, word: &str, bytes: &[u8]) -> bool {
     true
 }
 
-/// Parameters, those that the shortest text alone has among them, and a label.
+/// Parameters, also read strictly, and labels.
 fn of_parameter_text(to: &mut Told, word: &str, bytes: &[u8]) -> bool {
     match word {
         "trailer" => borrowed::<TrailerField>(to, bytes),
@@ -144,7 +144,7 @@ fn of_parameter_text(to: &mut Told, word: &str, bytes: &[u8]) -> bool {
     true
 }
 
-/// Texts that are damaged.
+/// Damaged encodings.
 fn of_damaged_text(to: &mut Told, word: &str, bytes: &[u8]) -> bool {
     match word {
         "changed-pub" => damaged::changed::<Public>(to, bytes),
@@ -157,7 +157,7 @@ fn of_damaged_text(to: &mut Told, word: &str, bytes: &[u8]) -> bool {
     true
 }
 
-/// Words that are given two numbers.
+/// Words with two numbers.
 pub fn of_numbers(to: &mut Told, word: &str, first: usize, second: usize) -> bool {
     match word {
         "length-sum" => lengths::sum(to, first, second),
@@ -167,8 +167,8 @@ pub fn of_numbers(to: &mut Told, word: &str, first: usize, second: usize) -> boo
     true
 }
 
-/// Words that are given a number, mostly that of the bytes of a slice, and a text; `TYPE-into N HEX` asks what the slice
-/// holds after what the text means was to be written into it.
+/// Words with a number, mostly the length of a slice, and bytes. `TYPE-into N HEX`: what a slice of N bytes holds after
+/// writing the value that the bytes mean.
 pub fn of_room(to: &mut Told, word: &str, room: usize, bytes: &[u8]) -> bool {
     match word {
         "field" => fields::field(to, room, bytes),
@@ -183,7 +183,7 @@ pub fn of_room(to: &mut Told, word: &str, room: usize, bytes: &[u8]) -> bool {
     true
 }
 
-/// Words that are given two texts; the first of those that read contents under another tag is the tag's octet.
+/// Words with two byte strings. In words that read contents under another tag, the first is the tag's octet.
 pub fn of_texts(to: &mut Told, word: &str, first: &[u8], second: &[u8]) -> bool {
     match word {
         "any-new" => algorithms::any_new(to, first, second),
@@ -199,7 +199,7 @@ pub fn of_texts(to: &mut Told, word: &str, first: &[u8], second: &[u8]) -> bool 
     true
 }
 
-/// Words that are given a mask, the length of a slice, and a text.
+/// Words with a mask, the length of a slice, and bytes.
 pub fn of_mask(to: &mut Told, word: &str, mask: u8, room: usize, bytes: &[u8]) -> bool {
     match word {
         "pss-spell" => spell::<RsaPssParamsRef>(to, mask, room, bytes),
@@ -209,7 +209,7 @@ pub fn of_mask(to: &mut Told, word: &str, mask: u8, room: usize, bytes: &[u8]) -
     true
 }
 
-/// Words that are given a number and a list of texts.
+/// Words with a number and a list of byte strings.
 pub fn of_list(to: &mut Told, word: &str, number: u32, texts: &[Vec<u8>]) -> bool {
     match word {
         "joined-pss" => damaged::joined::<Pss>(to, number, texts),

@@ -1,4 +1,4 @@
-//! Ways of writing a value, as hexadecimal digits.
+//! Ways of writing a value, shown in hexadecimal digits.
 use crate::told::{Answer, Refusal, Told};
 use der_core::{
     AsUintRef, Decode, Document, Encode, EncodeValue, Error, ErrorKind, SecretDocument, Sequence,
@@ -9,13 +9,13 @@ use pkcs8_core::PrivateKeyInfoRef;
 use spki_core::AnyValue;
 use std::alloc::Global;
 
-/// As much room as the longest text of a row needs, and more.
+/// More room than the longest encoding of a row needs.
 const ROOM: usize = 1200;
 
-/// What each byte of a slice is before anything is written into it.
+/// What the bytes of a slice are before writing.
 const UNTOUCHED: u8 = 0xaa;
 
-/// The text at the front of the slice.
+/// The encoding at the front of a slice.
 fn filled<T: Encode>(to: &mut Told, value: &T) {
     match value.encode_to_slice(&mut [UNTOUCHED; ROOM]) {
         Ok(text) => to.digits(text),
@@ -23,7 +23,7 @@ fn filled<T: Encode>(to: &mut Told, value: &T) {
     }
 }
 
-/// The same, where it is as long as is counted.
+/// The same, or the counted length if it isn't that of the encoding.
 fn counted<T: Encode>(to: &mut Told, value: &T) {
     match (
         value.encoded_len(),
@@ -38,7 +38,7 @@ fn counted<T: Encode>(to: &mut Told, value: &T) {
     }
 }
 
-/// What is appended by a writer.
+/// The encoding, appended by a writer.
 fn streamed<T: Encode>(to: &mut Told, value: &T) {
     let mut slice = [UNTOUCHED; ROOM];
     let mut writer = SliceWriter::new(&mut slice);
@@ -48,7 +48,7 @@ fn streamed<T: Encode>(to: &mut Told, value: &T) {
     }
 }
 
-/// The value's text by each call of `Encode`.
+/// The encoding, by each call of `Encode`.
 pub fn text_of<T: Encode>(alloc: Global, value: &T) -> Answer {
     let mut text = Told::new(alloc);
     filled(&mut text, value);
@@ -59,12 +59,12 @@ pub fn text_of<T: Encode>(alloc: Global, value: &T) -> Answer {
     text.answer()
 }
 
-/// Tells the value's text.
+/// Shows the encoding.
 pub fn written<T: Encode>(to: &mut Told, value: &T) {
     to.answered(text_of(to.alloc(), value));
 }
 
-/// What is appended of the contents.
+/// The contents, appended by a writer.
 fn appended<T: EncodeValue>(to: &mut Told, value: &T) {
     let mut slice = [UNTOUCHED; ROOM];
     let mut writer = SliceWriter::new(&mut slice);
@@ -74,7 +74,7 @@ fn appended<T: EncodeValue>(to: &mut Told, value: &T) {
     }
 }
 
-/// How many octets the value's contents are, and these.
+/// The contents octets and their number.
 pub fn contents<T: EncodeValue>(to: &mut Told, value: &T) {
     let mut octets = Told::new(to.alloc());
     appended(&mut octets, value);
@@ -91,7 +91,7 @@ pub fn contents<T: EncodeValue>(to: &mut Told, value: &T) {
     to.answered(octets.answer());
 }
 
-/// What documents of the value hold.
+/// Documents of the value.
 pub fn held<'a, T: EncodeValue + Sequence<'a>>(to: &mut Told, value: &T) {
     match Document::encode_msg(to.alloc(), value) {
         Ok(document) => to.digits(document.as_bytes()),
@@ -104,7 +104,7 @@ pub fn held<'a, T: EncodeValue + Sequence<'a>>(to: &mut Told, value: &T) {
     }
 }
 
-/// What documents of the value hold, where that isn't what is written.
+/// Documents of the value, if they differ from its encoding.
 pub fn held_too<'a, T: Encode + EncodeValue + Sequence<'a>>(to: &mut Told, value: &T) {
     let mut document = Told::new(to.alloc());
     held(&mut document, value);
@@ -112,7 +112,7 @@ pub fn held_too<'a, T: Encode + EncodeValue + Sequence<'a>>(to: &mut Told, value
     to.unless(written, "; document: ", document.answer());
 }
 
-/// The whole slice, the untouched bytes at its end as their number.
+/// The whole slice. The untouched bytes at its end are shown as their number.
 fn slice_shown(to: &mut Told, slice: &[u8]) {
     let untouched = slice
         .iter()
@@ -128,7 +128,7 @@ fn slice_shown(to: &mut Told, slice: &[u8]) {
     to.number(untouched);
 }
 
-/// Why a way of writing into the slice was refused, and what the slice is behind it.
+/// The error of a call that wrote into the slice, if any, and the slice after it.
 pub fn after<E: Refusal>(to: &mut Told, refusal: Option<E>, slice: &[u8]) {
     if let Some(error) = refusal {
         error.told(to);
@@ -137,7 +137,7 @@ pub fn after<E: Refusal>(to: &mut Told, refusal: Option<E>, slice: &[u8]) {
     slice_shown(to, slice);
 }
 
-/// A slice of so many bytes before anything is written into it.
+/// A slice of this length before writing.
 pub fn untouched(to: &mut Told, room: usize) -> Vec<u8> {
     match vec![in to.alloc(); UNTOUCHED; room] {
         Ok(slice) => slice,
@@ -148,9 +148,9 @@ pub fn untouched(to: &mut Told, room: usize) -> Vec<u8> {
     }
 }
 
-/// A type that has a way of its own of writing into a slice.
+/// A type with a call of its own for writing into a slice.
 pub trait WriteInto: Encode {
-    /// Why the value isn't written into the slice.
+    /// The error of writing into the slice, if any.
     fn write_into(&self, slice: &mut [u8]) -> Option<pkcs1::Error>;
 }
 
@@ -193,7 +193,7 @@ impl WriteInto for PrivateKeyInfoRef<'_> {
     }
 }
 
-/// What a slice of so many bytes is after each way of writing into it, and why that was refused.
+/// A slice of this length after each way of writing into it, and the errors.
 pub fn into_each<T: WriteInto>(to: &mut Told, room: usize, value: &T) {
     let mut slice = untouched(to, room);
     let refusal = value.write_into(slice.as_mut_slice());
@@ -208,7 +208,7 @@ pub fn into_each<T: WriteInto>(to: &mut Told, room: usize, value: &T) {
     after(to, refusal, slice.as_slice());
 }
 
-/// The same of what the text means.
+/// The same for the value that the bytes mean.
 pub fn read_into<'a, T: Decode<&'a [u8], Global> + WriteInto>(
     to: &mut Told,
     room: usize,
@@ -220,7 +220,7 @@ pub fn read_into<'a, T: Decode<&'a [u8], Global> + WriteInto>(
     }
 }
 
-/// The same of the borrowed type, and of the one that owns its parts.
+/// The same for the borrowed type and for the one that owns its parts.
 pub fn into_both<
     'a,
     B: Decode<&'a [u8], Global> + WriteInto,
@@ -231,7 +231,7 @@ pub fn into_both<
     read_into::<O>(to, room, bytes);
 }
 
-/// Whether a slice of so many bytes is too short for the value, and left as it was.
+/// Whether a slice of this length is too short for the value, and left unchanged.
 fn is_too_short<T: Encode>(to: &mut Told, value: &T, room: usize) -> bool {
     let mut slice = untouched(to, room);
     let no_room = Error::new(ErrorKind::NoRoom);
@@ -239,8 +239,8 @@ fn is_too_short<T: Encode>(to: &mut Told, value: &T, room: usize) -> bool {
         && slice.as_slice().iter().all(|byte| *byte == UNTOUCHED)
 }
 
-/// How many of the slices that are shorter than the text are too short for the value, and left as they were; and what
-/// comes of a slice as long as the text.
+/// How many of the shorter slices are too short for the value and left unchanged, and whether it is written to a slice
+/// as long as its encoding.
 pub fn in_each_room<T: Encode>(to: &mut Told, value: &T, text: &[u8]) {
     let mut refused = 0_usize;
     for room in 0..text.len() {

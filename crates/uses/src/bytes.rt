@@ -19,7 +19,7 @@ pub fn modulus_of(text: &[u8]) -> Result<&[u8]>
     Ok(key.modulus.as_bytes())
 }
 
-/// The text of the public half of a private key.
+/// The encoding of the public half of a private key.
 pub fn public_half(alloc: Global, text: &[u8]) -> Result<Document>
     ensures { IfOk result (λ document. (key : PrivateKey (List ℕ)) × Means RsaPrivateKey text.now key
         × IsOnlyText RsaPublicKey (record { modulus = key.modulus; public_exponent = key.public_exponent })

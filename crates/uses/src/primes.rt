@@ -1,4 +1,4 @@
-//! The other primes of a key, one after another.
+//! The other primes of a key.
 ghost use Rattle.std.specs.Prelude.{◌≡◌, map, IfOk};
 ghost use Rattle.der_core.specs.UintRefValue.{bytes_of};
 ghost use Rattle.pkcs1.specs.ViewParts.{view_of, listed_others};

@@ -1,4 +1,4 @@
-//! What refusals say.
+//! What errors mean for the caller.
 ghost use Rattle.std.specs.Prelude.{◌≡◌};
 ghost use Rattle.der_core.specs.Reading.{TellsOfBytes};
 ghost use Rattle.der_core.specs.Refusal.{IsFile};
@@ -7,19 +7,19 @@ ghost use Rattle.pkcs1_params.specs.Refusals.{IsAsn1};
 use pkcs1::Error;
 use pkcs1::der::ErrorKind;
 
-/// What to do after a refusal.
+/// What to do after an error.
 #[derive(Clone, Copy, Debug, PartialEq, Eq)]
 pub enum Advice {
-    /// Memory was wanted. Another time the call may be answered.
+    /// Memory ran out. A later call may succeed.
     TryAgain,
     /// The file couldn't be opened, read, created or written.
     LookAtTheFile,
-    /// The bytes are no key, or the key has no text.
+    /// The bytes are no key, or the key has no encoding.
     LookAtTheKey,
 }
 
 impl Advice {
-    /// What to do after a key was refused.
+    /// What to do after this error.
     pub fn after(error: &Error) -> Advice
         ensures memory { IsAsn1 (λ e. e.kind ≡ ErrorKind.OutOfMemory) error.now → result ≡ Advice.TryAgain }
         ensures file { IsAsn1 IsFile error.now → result ≡ Advice.LookAtTheFile }
