@@ -1,11 +1,11 @@
-//! Where reading may allocate.
+//! Memory for reading.
 ghost use Rattle.std.specs.Prelude.{◌≡◌, IfOk, IfErr};
 ghost use Rattle.der_core.specs.declared.error.ErrorKind.{ErrorKind};
 
 use crate::error::Result;
 use std::alloc::Global;
 
-/// Where a reading call may allocate: `NoMemory` or `Global`.
+/// What a reading call takes to allocate: `NoMemory` or `Global`.
 pub trait Memory: Copy + Drop {}
 
 /// Nothing is allocated. Types that borrow from the input need no more.

@@ -8,8 +8,8 @@ use crate::oaep::RsaOaepParamsRef;
 use crate::pss::RsaPssParamsRef;
 use der_core::ErrorKind;
 
-/// The first fault of bytes that aren't RSASSA-PSS parameters, or `None` if they are. Every slice has exactly one of
-/// the two, and at most one first fault.
+/// The first fault of bytes that aren't RSASSA-PSS parameters, of which they have exactly one; `None` if they are such
+/// parameters.
 pub fn fault_of_pss_params(bytes: &[u8]) -> Option<ErrorKind>
     ensures { TellsFault grammar.RsaPssParams RsaPssParamsFault bytes.now result }
 {
@@ -20,8 +20,8 @@ pub fn fault_of_pss_params(bytes: &[u8]) -> Option<ErrorKind>
     }
 }
 
-/// The first fault of bytes that aren't RSAES-OAEP parameters, or `None` if they are. Every slice has exactly one of
-/// the two, and at most one first fault.
+/// The first fault of bytes that aren't RSAES-OAEP parameters, of which they have exactly one; `None` if they are such
+/// parameters.
 pub fn fault_of_oaep_params(bytes: &[u8]) -> Option<ErrorKind>
     ensures { TellsFault grammar.RsaOaepParams RsaOaepParamsFault bytes.now result }
 {

@@ -5,7 +5,7 @@ use crate::written::written;
 use der_core::{NoMemory, Reader, Result, SliceReader, decode_last, decode_optional, decode_whole};
 use spki_core::{ContextSpecificRef, read_context_specific, read_field};
 
-/// What was read, and how many bytes are left. On an error also, if the reader hasn't failed.
+/// What was read, and how many bytes are left. After an error the latter only if the reader hasn't failed.
 fn told(to: &mut Told, reader: &SliceReader<'_>, answer: Result<Option<u8>>) {
     let left = reader.remaining_len().to_usize();
     match answer {

@@ -85,7 +85,7 @@ pub fn is_field_next<'a, R: Reader<&'a [u8]>>(reader: &mut R, number: TagNumber)
 }
 
 /// Reads an explicit field if the next octet is that of its tag, else returns `None` and reads nothing. `TrailingData`
-/// if the tag holds more than one encoding. `Failed` on a reader that has failed.
+/// if bytes follow the encoding inside the tag. `Failed` on a reader that has failed.
 pub fn read_context_specific<'a, T: Decode<&'a [u8], M>, M: Memory, R: Reader<&'a [u8]>>(
     memory: M,
     reader: &mut R,

@@ -4,7 +4,7 @@ use std::alloc::Global;
 use std::path::Path;
 use std::rt::Files;
 
-/// Reads a private key from a file, and writes its public half to another, which is touched only after the key was read.
+/// Reads a private key from a file and writes its public half to another, which is touched only after the key was read.
 pub fn publish<Rt: Files>(
     rt: &Rt,
     alloc: Global,

@@ -1,5 +1,5 @@
--- An encoding by its contents: it is the same where they are, it grows with them, it is no shorter, and it is an
--- encoding of what else holds of them.
+-- An encoding and its contents: equal contents have equal encodings, an encoding grows with its contents, is no shorter,
+-- and is one of all contents that hold.
 use Rattle.std.proofs.Common.{ℕ, List, ◌≡◌, ◌≤◌, ◌+◌, length, arith, length-append}
 use Rattle.der_core.specs.Length.{IsLength}
 use Rattle.der_core.specs.Laws.Length.{length_same, length_grows}

@@ -22,7 +22,7 @@ pub peek_none : (left : Input) (rest : List ℕ) (r : Bool) (o : Option ℕ) →
 peek_none left [] r o is hidden some get = refl
 peek_none left (x ∷ xs) r o is hidden some get = let e : o ≡ slice_get (x ∷ xs) 0 = rw is at get in let f : o ≡ Some x = e in let g : r ≡ is_some (Some x) = some ∙ ap is_some f in cc
 
--- Where something is left, what there was isn't empty.
+-- If something is left, what there was isn't empty.
 some_left : (read rest c : List ℕ) (start : Input) → start ≡ Some (read ++ rest) → 0 < length rest → start ≡ Some c → 0 < length c
 some_left read rest c start from more whole =
     let same : Some c ≡ Some (read ++ rest) = sym whole ∙ from in

@@ -7,7 +7,7 @@ use Rattle.der_core.specs.SequenceOf.{AllHave, all_texts}
 use Rattle.der_core.specs.declared.error.Error.{Error}
 use Rattle.der_core.specs.Laws.Counting.{counts_joined}
 
--- of values, and of what has them
+-- of the values, and of the items that have them
 pub texts_map : {X V : Type 0} (value : X → V) (text : V → List ℕ) (xs : List X) → all_texts text (map value xs) ≡ all_texts (λ x. text (value x)) xs
 texts_map value text [] = refl
 texts_map value text (x ∷ xs) = ap (λ l. text (value x) ++ l) (texts_map value text xs)

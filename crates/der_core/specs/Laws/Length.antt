@@ -73,7 +73,7 @@ length_octets-long n h = let e : nat_lt n 128 ≡ false = grind (arith, nat_test
 digits_are : (n : ℕ) → 0 < n → IsBase256 n (digits_of 256 n)
 digits_are n h = record { bytes = all_below_base_digits_of 256 n (omega arith); value = number_digits_of 256 n (omega arith); no_leading_zero = first_digits_of 256 n (omega arith) h }
 
--- They are those of the number, where a number that isn't less has any.
+-- They are length octets of the number, if a number that isn't less has any.
 pub length_octets-are : (m n : ℕ) (s : List ℕ) → m ≤ n → IsLength n s → IsLength m (length_octets m)
 length_octets-are m n s le p = elim (cases_lt m 128) [
   | inl h ↦ short h (length_octets-short m h)

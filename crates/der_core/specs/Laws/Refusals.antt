@@ -8,14 +8,14 @@ use Rattle.der_core.specs.Writing.{IsLeast, IsUncounted, Counts, Stops, encode_r
 use Rattle.der_core.specs.declared.error.Error.{Error}
 
 module _ {V : Type 0} (Grammar : V → List ℕ → Type 0) (v : V) where
-  -- the same of a value that has an encoding
+  -- the same for a value that has an encoding
   pub refused_as : (has : Type 0) (room : ℕ) → HasText Grammar v → (k : EncodeRefusal) → IsRefused has Grammar v room k → IsRefused (HasText Grammar v) Grammar v room k
   refused_as has room some no_text h = h
   refused_as has room some too_long h = (some, h.1)
   refused_as has room some no_room h = h
   refused_as has room some another h = h
 
-  -- the same of a value that has an encoding where it has what is written
+  -- the same for a value that has an encoding if it has what is written
   pub refused_by : (has : Type 0) (room : ℕ) → (has → HasText Grammar v) → (k : EncodeRefusal) → IsRefused has Grammar v room k → IsRefused (HasText Grammar v) Grammar v room k
   refused_by has room some no_text h = h
   refused_by has room some too_long h = (some h.0, h.1)

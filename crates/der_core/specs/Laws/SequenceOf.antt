@@ -18,7 +18,7 @@ module _ {V : Type 0} (Grammar : V → List ℕ → Type 0) (has : V → Type 0)
   items_shortest least [] c p = (tt, omega arith, (λ (_ : length c ≤ 0). p))
   items_shortest least (v ∷ vs) c p = then_least (text v) (all_texts text vs) (least v) (items_shortest least vs) c p
 
--- The contents are bytes where the items' encodings are.
+-- The contents are bytes if the items' encodings are.
 pub items_of_bytes : {V : Type 0} (Grammar : V → List ℕ → Type 0) → IsOfBytes Grammar → IsOfBytes (ItemsContents Grammar)
 items_of_bytes Grammar bytes [] c p = rw p tt
 items_of_bytes Grammar bytes (v ∷ vs) c p = then_of_bytes (bytes v) (items_of_bytes Grammar bytes vs) c p

@@ -48,7 +48,7 @@ end_gives (Some r) after h = let ends = end_is (Some r) r h.0 refl h.1 in ([], a
 abbrev pub ContentsFaulty : (ErrorKind → List ℕ → Type 0) → (List ℕ → Type 0) → ErrorKind → Input → Input → Type 0
 ContentsFaulty Fault may_allocate e before after = (after ≡ None) × ((c : List ℕ) → before ≡ Some c → Faulty e (may_allocate c) (Fault e c))
 
--- the end of a reader, where bytes follow
+-- bytes follow at the end of a reader
 pub more_than_end : (mid : Input) (c : List ℕ) (e : ErrorKind) → mid ≡ Some c → read_from mid end_of ≡ Err e → EndFault e c
 more_than_end mid [] e is read = let no = rw is at read in cc
 more_than_end mid (z ∷ zs) e is read = let yes = rw is at read in (omega arith, cc)

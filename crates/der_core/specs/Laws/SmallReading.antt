@@ -60,7 +60,7 @@ small_read n c (l, bytes, e, i) =
     let test : nat_lt (number_from_digits 256 bytes) 256 ≡ true = rw e (grind (arith, nat_tests)) in
     rw (contents_read bytes c i, test, e) refl
 
--- Where nothing is read, there is no number.
+-- If nothing is read, there is no number.
 pub small_none : (n : ℕ) (c : List ℕ) (k : ErrorKind) → small_of c ≡ Err k → SmallContents n c → ⊥
 small_none n c k e p = let r : small_of c ≡ Ok n = small_read n c p in let no = sym r ∙ e in cc
 

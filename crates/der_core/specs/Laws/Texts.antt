@@ -53,7 +53,7 @@ pub map_at_most_one : {V : Type 0} (Grammar : V → List ℕ → Type 0) → ((v
 map_at_most_one Grammar m [] = tt
 map_at_most_one Grammar m (v ∷ vs) = (m v, map_at_most_one Grammar m vs)
 
--- A part in front of two splits of the same bytes, where it is delimited.
+-- A delimited part in front of two splits of the same bytes.
 pub then_step : {V : Type 0} {Grammar : V → List ℕ → Type 0} → IsDelimited Grammar → {Ps Qs : List ℕ → Type 0} (v w : V) (c : List ℕ) → Then (Grammar v) Ps c → Then (Grammar w) Qs c → (v ≡ w) × (rest : List ℕ) × Ps rest × Qs rest
 then_step {V} {Grammar} d {Ps} {Qs} v w c (x, y, p, i, e) (x', y', q, j, f) =
     let h : x ++ y ≡ x' ++ y' = sym e ∙ f in

@@ -23,7 +23,7 @@ known_long digits bytes first big few = long digits big few (record { bytes = by
 pub known_tlv : (t : ℕ) {P : List ℕ → Type 0} (c : List ℕ) → P c → length c < 128 → Tlv t P (t ∷ length c ∷ c)
 known_tlv t c p l = record { octets = length c ∷ []; contents = c; counted = short l refl; holds = p; written = refl }
 
--- Where an encoding stands at the front of known bytes, its contents are known, and so is what follows.
+-- If an encoding stands at the front of known bytes, its contents are known, and so is what follows.
 pub known_front : {t u : ℕ} {P : List ℕ → Type 0} (c rest x y : List ℕ) → Tlv t P x → (u ∷ length c ∷ c) ++ rest ≡ x ++ y → length c < 128 → (t ≡ u) × P c × (y ≡ rest)
 known_front {t} {u} c rest x y p e l =
     let k : Tlv u (Is c) (u ∷ length c ∷ c) = known_tlv u c refl l in
@@ -68,7 +68,7 @@ no_bytes_refused p = let e = p.written in cc
 pub other_tag_refused : {t : ℕ} {P : List ℕ → Type 0} (u : ℕ) (x : List ℕ) → u ≢ t → Tlv t P (u ∷ x) → ⊥
 other_tag_refused u x other p = other (same_cons p.written).0
 
--- Where there are no bytes, no encoding stands at their front.
+-- Without bytes there is no encoding at their front.
 pub no_part_refused : {t : ℕ} {P Rest : List ℕ → Type 0} → Then (Tlv t P) Rest [] → ⊥
 no_part_refused (x, y, p, q, e) = omega (arith, tlv_not_empty x p, ap length e, length-append x y)
 

@@ -55,7 +55,7 @@ pub value_step : {V : Type 0} (n : ℕ) (Grammar : V → List ℕ → Type 0) �
 value_step n Grammar d default v w fs gs lf lg c p q =
     field_step (field n Grammar default v) (field n Grammar default w) fs gs (v ≡ w) refl (λ a b. a ∙ sym b) (λ x a b. means_one d v w x a b) lf lg c p q
 
--- Fields are bytes where their numbers are at most 30 and the encodings in them are bytes.
+-- Fields are bytes if their numbers are at most 30 and the encodings in them are bytes.
 abbrev pub AreOfBytes : List Field → Type 0
 AreOfBytes [] = Unit {0}
 AreOfBytes (f ∷ fields) = (f.number ≤ 30) × ((text : List ℕ) → f.Inner text → AreBytes text) × AreOfBytes fields

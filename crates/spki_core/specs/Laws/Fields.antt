@@ -108,7 +108,7 @@ mask_same (f ∷ fields) m m' c o (n, (x, y, a, i, g)) (n', (x', y', a', i', g')
     let r : n ≡ n' = mask_same fields n n' y' o.2 (rw s.1 at i) i' in
     field_mask f m m' n' x' (rw (s.0, r) at a) a'
 
--- Mask 0 leaves mask 0, and leaves a field out where it can.
+-- Mask 0 leaves mask 0, and leaves a field out if possible.
 field_zero : (f : Field) (m n n' : ℕ) (x x' : List ℕ) → AtMostOne f.Inner → MaskedField f 0 n x → MaskedField f m n' x' → (n ≡ 0) × ((x' ≡ x) ⊎ (length x < length x'))
 field_zero f m n n' x x' o (left_out d e z) (left_out d' e' z') = (omega arith, inl (z' ∙ sym z))
 field_zero f m n n' x x' o (left_out d e z) (written d' e' p) = (omega arith, inr (omega (arith, tlv_not_empty x' p, ap length z)))
@@ -141,7 +141,7 @@ halves (suc m) = elim (halves m) [
   | inr k ↦ inl (suc k.0, omega arith)
 ]
 
--- Where every field can be written, each mask has an encoding, no longer than the one with all fields.
+-- If every field can be written, each mask has an encoding, no longer than the one with all fields.
 pub masked_made : (fields : List Field) (k m : ℕ) (e : List ℕ) → HaveDefaults fields k → m < 2 ^ k → Joins (map Explicit fields) e → (c : List ℕ) × MaskedContents fields m c × (length c ≤ length e)
 masked_made [] k m e d l p =
     let s : m < 2 ^ 0 = rw d at l in
