@@ -109,7 +109,7 @@ fn read_text<'a, T: DecodeValue<&'a [u8], M> + FixedTag, M: Memory, R: Reader<&'
     }
 }
 
-/// Whether the next octet is the one of the tag. Nothing is read. `Failed` on a reader that has failed.
+/// Whether the next octet is that of the tag. Nothing is read. `Failed` on a reader that has failed.
 #[inline(always)]
 pub fn is_tag_next<'a, R: Reader<&'a [u8]>>(reader: &mut R, tag: Tag) -> Result<bool>
     ensures { TellsNext tag.octet result (R.left reader.old) (R.left reader.new) }

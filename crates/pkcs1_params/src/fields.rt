@@ -28,7 +28,7 @@ pub(crate) enum FieldRef<'b> {
     PSource(&'b AlgorithmIdentifierRef<'b>),
 }
 
-/// Does nothing: its contract is a fact that proofs use.
+/// Does nothing: its contract bounds the number, which proofs don't know of a field.
 fn is_octet(number: u8)
     ensures { number < 256 }
 {
@@ -200,7 +200,7 @@ pub(crate) fn bit(fact: bool) -> u8
     u8::from(fact)
 }
 
-/// Does nothing: its contract says that there are contents under each mask, not much longer than the limit.
+/// Does nothing: its contract says that there are contents under each mask, and bounds their length.
 pub(crate) fn are_held(fields: &[FieldRef<'_>])
     ensures { (mask : ℕ) → HasFields (values_in fields.now) mask
         × (length (written_fields (values_in fields.now) mask) ≤ length (values_in fields.now) * (limit + 846)) }

@@ -35,7 +35,7 @@ pub(crate) trait DefaultFields: Copy + Drop {
 
     ghost fields_mean_one: { MeansOne (FieldContents values) };
 
-    /// Does nothing: its contract says that there are contents under each mask, not too long for memory.
+    /// Does nothing: its contract says that there are contents under each mask, of fewer than 2^64 octets.
     fn is_held(&self)
         ensures { let values = values (params self.now) in
             (mask : ℕ) → HasFields values mask × (length (written_fields values mask) < 2 ^ 64) };

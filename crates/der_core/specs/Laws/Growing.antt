@@ -1,5 +1,5 @@
--- An encoding and its contents: equal contents have equal encodings, an encoding grows with its contents, is no shorter,
--- and is one of all contents that hold.
+-- An encoding and its contents: equal contents have equal encodings, longer contents have longer ones, and contents are
+-- no longer than their encoding.
 use Rattle.std.proofs.Common.{ℕ, List, ◌≡◌, ◌≤◌, ◌+◌, length, arith, length-append}
 use Rattle.der_core.specs.Length.{IsLength}
 use Rattle.der_core.specs.Laws.Length.{length_same, length_grows}
