@@ -18,7 +18,7 @@ piece = 65536
 abbrev pub GivesNone : ErrorKind → Option (List ℕ) → Option (List ℕ) → Type 0
 GivesNone e old new = (bytes : List ℕ) × GivesAll old new bytes × (IsDocument bytes → ⊥) × DocumentFault e bytes
 
--- Why reading stopped: a call of the source failed; or none did, and memory ran out, or more bytes than these came.
+-- Why reading stopped: a call of the source failed; or none did, and memory ran out, or too many bytes came.
 abbrev pub StopsCarrying : ℕ → ErrorKind → Option (List ℕ) → Option (List ℕ) → ℕ → ℕ → Type 0
 StopsCarrying most e old new refusals refusals2 =
     ((e ≡ File) × SomeRefused refusals refusals2)

@@ -93,8 +93,8 @@ impl<P: AnyValue> RsaOaepParams<P> {
     }
 
     /// Writes one spelling to the front of a slice and returns its length. Bit j of the mask (bit 0 is the lowest) says
-    /// whether the j-th of the fields that equal their defaults is written. Mask 0 gives the shortest. `Overflow` if
-    /// the encoding is longer than `Length::MAX`, `NoRoom` if the slice is shorter than it.
+    /// whether the j-th of the fields that equal their defaults, in their order, is written. Mask 0 gives the shortest.
+    /// `Overflow` if the encoding is longer than `Length::MAX`, `NoRoom` if the slice is shorter than it.
     pub fn encode_spelling(&self, mask: u8, out: &mut [u8]) -> Result<usize>
         requires { IsMask (oaep_fields (oaep_with P.any self.now)) mask }
         ensures stands { IfOk result (λ n. StandsUnder oaep_fields (oaep_with P.any self.now) mask (take n out.new)) }

@@ -129,9 +129,9 @@ impl<P: AnyValue> RsaPssParams<P> {
         }
     }
 
-    /// Writes the shortest encoding, in which no default is written, to the front of a slice and returns its length, as
-    /// `encode_into` does: its contract says more. `Overflow` if the encoding is longer than `Length::MAX`, `NoRoom` if
-    /// the slice is shorter than it.
+    /// Writes the shortest encoding, in which no default is written, to the front of a slice and returns its length:
+    /// `encode_into` with a stronger contract. `Overflow` if the encoding is longer than `Length::MAX`, `NoRoom` if the
+    /// slice is shorter than it.
     pub fn encode_params(&self, out: &mut [u8]) -> Result<usize>
         ensures shortest { let params = pss_with P.any self.now in
             IfOk result (λ n. IsShortest grammar.RsaPssParams params (take n out.new)) }

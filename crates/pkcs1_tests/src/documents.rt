@@ -1,4 +1,4 @@
-//! Documents from sources and to sinks that take a few bytes per call, or fail at one; and documents in files.
+//! Documents from sources and to sinks that move a few bytes per call, or fail at one; and documents in files.
 use crate::checks::{equal, holds};
 use crate::doubles::{Full, RefusingOnce, giving, refusing_at, taking};
 use der_core::{Document, Error, ErrorKind, FromRead, SecretDocument, Sink, Source, ToWrite};

@@ -1,4 +1,4 @@
-//! Sources and sinks that take a few bytes per call, or fail at one.
+//! Sources and sinks that move a few bytes per call, or fail at one.
 ghost use Rattle.std.specs.Prelude.{Some};
 
 use der_core::{Error, ErrorKind, Result, Sink, Source, ToWrite};

@@ -46,6 +46,6 @@ Walked n (false ∷ ds) c found =
 abbrev pub number_in : TagNumber → ℕ
 number_in number = number.value
 
--- What walks over the contents of an encoding.
+-- A walk over the contents of an encoding.
 abbrev pub WalksOver : List Bool → List ℕ → Option ℕ → Type 0
 WalksOver ds text found = (c : List ℕ) → Means Any text (record { tag = sequence_tag; contents = c }) → Walked 0 ds c found

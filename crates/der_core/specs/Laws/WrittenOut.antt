@@ -61,7 +61,7 @@ counted_header t u n x c allowed within is p =
     let number : n ≡ length p.contents = ap (λ q. q.1) parts.0 in
     (ap (λ q. q.0) parts.0, ap length same ∙ sym number, rw same p.holds)
 
--- An encoding has some byte, and its first one is the tag.
+-- An encoding isn't empty, and its first byte is the tag.
 pub no_bytes_refused : {t : ℕ} {P : List ℕ → Type 0} → Tlv t P [] → ⊥
 no_bytes_refused p = let e = p.written in cc
 
