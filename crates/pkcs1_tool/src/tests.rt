@@ -1,4 +1,4 @@
-//! Runs over sources and sinks that move a few bytes a call, and refuse one.
+//! Runs over sources and sinks that move a few bytes per call and fail at one call.
 mod doubles;
 
 use crate::fault::Fault;
