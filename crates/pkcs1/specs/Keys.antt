@@ -54,7 +54,8 @@ pub record PrivateKey (Number : Type 0) : Type 0 where
   pub coefficient : Number
   pub other_prime_infos : Option (List (OtherPrime Number))
 
--- RSAPrivateKey ::= SEQUENCE { version Version, modulus INTEGER, .., coefficient INTEGER, otherPrimeInfos OtherPrimeInfos OPTIONAL } (A.1.2)
+-- RSAPrivateKey ::= SEQUENCE { version Version, modulus INTEGER, .., coefficient INTEGER, otherPrimeInfos
+-- OtherPrimeInfos OPTIONAL } (A.1.2)
 abbrev pub PrivateKeyContents : {Number : Type 0} → (Number → List ℕ → Type 0) → PrivateKey Number → List ℕ → Type 0
 PrivateKeyContents NumberText key contents =
     Joins

@@ -23,7 +23,8 @@ abbrev pub InfoContents : Info → List ℕ → Type 0
 InfoContents info contents =
     Joins (Small 0 ∷ PlainAlgorithm info.algorithm ∷ OctetString info.private_key ∷ Optional AttributesText info.attributes ∷ []) contents
 
--- PrivateKeyInfo ::= SEQUENCE { version INTEGER (0), privateKeyAlgorithm AlgorithmIdentifier, privateKey OCTET STRING, attributes [0] IMPLICIT Attributes OPTIONAL }
+-- PrivateKeyInfo ::= SEQUENCE { version INTEGER (0), privateKeyAlgorithm AlgorithmIdentifier, privateKey OCTET STRING,
+-- attributes [0] IMPLICIT Attributes OPTIONAL }
 abbrev pub PrivateKeyInfo : Info → List ℕ → Type 0
 PrivateKeyInfo info text = Tlv sequence_tag (InfoContents info) text
 
