@@ -213,7 +213,7 @@ impl<'a> TryFrom<&'a [u8]> for RsaPrivateKeyView<'a> {
     type Error = Error;
 
     /// Decodes a whole slice, and allocates nothing, however many primes there are. The errors are those of
-    /// `RsaPrivateKeyRef::from_der` in `Error::Asn1`, except `OutOfMemory`.
+    /// `RsaPrivateKeyRef::from_der`, except `OutOfMemory`, in `Error::Asn1`.
     fn try_from(bytes: &'a [u8]) -> crate::Result<RsaPrivateKeyView<'a>>
         ensures ok { IfOk result (λ view. Means grammar.RsaPrivateKey bytes.now (view_of view)) }
         ensures one { IfOk result (λ view. IsOnlyMeaning grammar.RsaPrivateKey bytes.now (view_of view)) }

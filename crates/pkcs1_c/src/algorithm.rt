@@ -39,7 +39,7 @@ pub struct Algorithm<'a> {
 pub struct MaskGen<'a> {
     /// The object identifier of the function.
     pub oid: Oid,
-    /// Whether there is a hash function as its parameters.
+    /// Whether its parameters are there: a hash function.
     pub has_hash: bool,
     /// The hash function that it uses.
     pub hash: Algorithm<'a>,

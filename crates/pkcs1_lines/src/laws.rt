@@ -5,7 +5,7 @@ ghost use Rattle.pkcs1_lines.specs.Answer.{Answer, Answers};
 
 use pkcs1::{oaep_spellings, pss_spellings, texts_are_delimited};
 
-/// There is at most one output for a line, and for lines.
+/// A line has at most one output, and so has a list of lines.
 pub fn answers_are_one()
     ensures { ((line : List ℕ) → AtMostOne (Answer line)) × ((lines : List (List ℕ)) → AtMostOne (Answers lines)) }
 {

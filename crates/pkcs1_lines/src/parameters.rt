@@ -67,7 +67,7 @@ pub trait Parameters<'a>: Encode + Drop + Sized {
     /// The fields of each value that equal their defaults can be counted.
     ghost counted: { (params : Meaning) → (k : ℕ) × HaveDefaults (fields params) k };
 
-    /// `encode` and the other calls write encodings of this grammar.
+    /// What `Encode` writes is an encoding of `grammar`, and the shortest one.
     ghost means_as: { (params : Self) (text : List ℕ)
         → Means grammar text (meaning params) → Means Self.text text (Self.value params) };
 

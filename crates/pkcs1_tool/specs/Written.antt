@@ -8,11 +8,11 @@ use Rattle.pkcs1_lines.specs.Answer.{Answers}
 abbrev pub Writes : Option (List ℕ) → Option (List ℕ) → List (List ℕ) → Type 0
 Writes old new lines = (output : List ℕ) × Answers lines output × Appends old new output
 
--- Exactly the output for the first lines, of some number, was written.
+-- Exactly the output for the first lines, however many, was written.
 abbrev pub WritesFirst : Option (List ℕ) → Option (List ℕ) → List (List ℕ) → Type 0
 WritesFirst old new lines = (first : List (List ℕ)) × (later : List (List ℕ)) × (lines ≡ first ++ later) × Writes old new first
 
--- Exactly a beginning of the output for some first lines was written.
+-- Exactly a beginning of the output for the first lines, however many, was written.
 abbrev pub WritesFront : Option (List ℕ) → Option (List ℕ) → List (List ℕ) → Type 0
 WritesFront old new lines = (first : List (List ℕ)) × (later : List (List ℕ)) × (lines ≡ first ++ later)
     × (output : List ℕ) × Answers first output × AppendsFront old new output
