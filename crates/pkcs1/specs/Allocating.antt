@@ -10,7 +10,7 @@ use Rattle.der_core.specs.Reading.{AllocatesIn, AllocatesWithin}
 abbrev pub BeginsSequence : List ℕ → Type 0
 BeginsSequence c = AllocatesIn (Tlv sequence_tag (λ octets. 0 < length octets)) c
 
--- The bytes are a version, eight numbers, and then what `Rest` holds of.
+-- The bytes are a version and eight numbers, and then bytes of which `Rest` holds.
 abbrev pub BehindNumbers : {Number : Type 0} → (Number → List ℕ → Type 0) → (List ℕ → Type 0) → List ℕ → Type 0
 BehindNumbers {Number} NumberText Rest c =
     (n : ℕ) × (numbers : List Number) × (front : List ℕ) × (rest : List ℕ)
@@ -27,7 +27,7 @@ AllocatesInKey NumberText may_allocate Rest c = AllocatesWithin may_allocate c �
 abbrev pub AllocatesForKey : {Number : Type 0} → (Number → List ℕ → Type 0) → (List ℕ → Type 0) → List ℕ → Type 0
 AllocatesForKey NumberText may_allocate c = AllocatesInKey NumberText may_allocate BeginsSequence c
 
--- The bytes begin with a private key in which a SEQUENCE that isn't empty follows the eighth number.
+-- The bytes begin with a SEQUENCE of a version, eight numbers, and a SEQUENCE that isn't empty, whatever follows.
 abbrev pub MayAllocate : List ℕ → Type 0
 MayAllocate text = AllocatesIn (Tlv sequence_tag (OthersFollow Integer)) text
 

@@ -51,7 +51,7 @@ algorithm_seen a = record { oid = oid_seen a.oid; parameters = if a.has_paramete
 abbrev pub mask_gen_seen : MaskGen → spki.Algorithm (spki.Algorithm TagAndContents)
 mask_gen_seen m = record { oid = oid_seen m.oid; parameters = if m.has_hash then Some (algorithm_seen m.hash) else None }
 
--- If a `has_..` is false, the fields after it that it is about are empty.
+-- If a `has_..` is false, the fields that belong to it are empty.
 abbrev pub AlgorithmIsTidy : Algorithm → Type 0
 AlgorithmIsTidy a = a.has_parameters ≡ false → (a.tag ≡ 0) × (a.parameters.now ≡ [])
 
