@@ -93,7 +93,7 @@ build_library() {
     say "proved and built, after $SECONDS seconds"
 }
 
-# Links the crate, the kit's liblibc_c.a, which stands for the C library's calls, and c/pkcs1.c into one object, in which
+# Links the crate, the kit's liblibc_c.a, which stands for the C library's calls, and c/pkcs1.c into one object, where
 # only what the headers declare is global.
 link_library() {
     local headers=("$here/include/pkcs1.h" "$here/include/pkcs1_c.h") exports

@@ -69,7 +69,7 @@ hex() {
     printf "$(printf '%s' "$1" | sed 's/../\\x&/g')"
 }
 
-# copies STATUS ERROR FILE BYTES ARGUMENT..: with these arguments, the program exits with this status and standard error,
+# copies STATUS ERROR FILE BYTES ARGUMENT..: with these arguments the program exits with this status and standard error,
 # and then the file has these bytes; `-` means that the file isn't there.
 copies() {
     local status=$1 error=$2 file=$3 bytes=$4 got

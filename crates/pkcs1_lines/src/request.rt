@@ -1,4 +1,4 @@
-//! Requests: parsing a line.
+//! Parsing a line into a request.
 ghost use Rattle.std.specs.Prelude.{◌≡◌, IfOk, Some, None, if◌then◌else◌, map};
 ghost use Rattle.pkcs1_lines.specs.Request.{asked_by, asked_with, named, pair_asked_with, pair_words, text_of, words};
 ghost use Rattle.pkcs1_lines.specs.RequestValue.{seen};
