@@ -1,6 +1,7 @@
 #!/usr/bin/env bash
-# Builds libpkcs1 for callers in C and in Rust; usage says how. It needs rt, gcc and binutils, for the tests g++ and cargo
-# too; what else test.sh can use is told where it is missing. No network. .ci/run calls it behind rt ci, with --over-ci.
+# Builds libpkcs1 for callers in C and in Rust; usage says how. It needs rt, gcc and binutils, for the tests g++ and
+# cargo too; test.sh reports what else it could use and doesn't find. No network. .ci/run calls it after rt ci, with
+# --over-ci.
 set -eu
 usage="usage: ffi/build.sh                  builds libpkcs1 into ffi/out, and runs its tests
        ffi/build.sh --over-ci        the same behind rt ci, over the libraries that it proved
@@ -46,7 +47,7 @@ done
 mkdir -p "$out"
 kit=$(dirname "$(rt doc)")
 
-# What the proved library is made of.
+# The hash of all that the proved library is made of.
 inputs() {
     {
         rt version
@@ -58,8 +59,8 @@ inputs() {
     } | sha256sum
 }
 
-# Behind rt ci, which proved the libraries below and left them, this crate alone is proved again, since rt ci builds no
-# static library, and rt lib would prove them all.
+# After rt ci, which proved and kept the libraries below, only this crate is proved again: rt ci builds no static
+# library, and rt lib would prove them all.
 build_over_ci() {
     local words=(--extern "std=$kit/rlibs/std.rlib" -L "dependency=$kit/rlibs") name
     for name in der_core spki_core pkcs1_params pkcs1 pkcs8_core; do
@@ -76,7 +77,7 @@ prove() {
         stop "the library isn't proved"
     }
 }
-# The stamp says what the library was proved of, and which file that gave.
+# The stamp has the hash of what the library was proved from, and that of the library.
 build_library() {
     local made
     made=$(inputs)
@@ -92,8 +93,8 @@ build_library() {
     say "proved and built, after $SECONDS seconds"
 }
 
-# One object of the crate, of what stands for the C library's calls, and of c/pkcs1.c above them. In it only what the
-# headers declare is global.
+# Links the crate, the kit's liblibc_c.a, which stands for the C library's calls, and c/pkcs1.c into one object, where
+# only what the headers declare is global.
 link_library() {
     local headers=("$here/include/pkcs1.h" "$here/include/pkcs1_c.h") exports
     version=$(sed -n 's/^#define PKCS1_VERSION_[A-Z]* //p' "$here/include/pkcs1.h" | paste -s -d .)

@@ -1,6 +1,6 @@
 #!/usr/bin/env bash
-# openssl.sh PROGRAM..: what OpenSSL makes is read by each program (read_key KIND FILE OUT) and written again, the same
-# bytes; both programs print the same numbers. Called by build.sh.
+# openssl.sh PROGRAM..: each program (read_key KIND FILE OUT) decodes what OpenSSL makes, and encodes it again as the
+# same bytes; all programs print the same numbers. Called by test.sh.
 set -eu
 command -v openssl > /dev/null || {
     echo "ffi/openssl.sh: openssl isn't installed: nothing was compared with it" >&2
@@ -10,7 +10,7 @@ room=$(mktemp -d)
 trap 'rm -rf "$room"' EXIT
 count=0
 
-# again KIND FILE PROGRAM..
+# again KIND FILE PROGRAM..: runs each program on the file, and compares.
 again() {
     local kind=$1 file=$2 program
     shift 2
@@ -24,7 +24,7 @@ again() {
     rm "$room/first"
 }
 
-# of_params NAME: the parameters that stand behind id-RSASSA-PSS in the file NAME.
+# of_params NAME: writes the parameters after id-RSASSA-PSS in the file NAME to params.der.
 of_params() {
     local at
     at=$(openssl asn1parse -inform DER -in "$1" | sed -n '/:rsassaPss/{n;s/^ *\([0-9]*\):.*/\1/p;q}')

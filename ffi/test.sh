@@ -1,7 +1,7 @@
 #!/usr/bin/env bash
-# The tests of what build.sh made in out/, which calls this: in C by gcc, and by clang where it is installed, C99 and C++;
-# under the sanitizers and valgrind; installed, and found by pkg-config; in Rust; on what OpenSSL makes. What isn't
-# installed is told, and left out.
+# Tests what build.sh, which calls this, made in out/: in C99 and C++, by gcc, and by clang if it is installed; under
+# the sanitizers and valgrind; installed, and found by pkg-config; in Rust; on what OpenSSL makes. A tool that isn't
+# installed is reported, and its tests are left out.
 set -eu
 here=$(cd "$(dirname "$0")" && pwd)
 out=$here/out
@@ -14,7 +14,7 @@ stop() {
     printf 'ffi/test.sh: %s\n' "$*" >&2
     exit 1
 }
-# have TOOL WHAT: whether the tool is there; else says what isn't tested.
+# have TOOL WHAT: whether the tool is there; if not, reports what isn't tested.
 have() {
     command -v "$1" > /dev/null && return
     printf 'ffi/test.sh: %s is not installed: %s\n' "$1" "$2" >&2
@@ -72,7 +72,7 @@ fi
 # Rust.
 cd "$here/rust"
 export PKCS1_LIB=$out CARGO_TARGET_DIR=$out/target
-# cargo_quietly WORD..: shows what cargo prints where it fails.
+# cargo_quietly WORD..: runs cargo, and shows what it prints only if it fails.
 cargo_quietly() {
     cargo "$@" > "$out/cargo.log" 2>&1 || {
         cat "$out/cargo.log" >&2
@@ -89,7 +89,7 @@ cargo_quietly package --offline --quiet --allow-dirty --no-verify --list
 for file in Cargo.toml LICENSE-APACHE LICENSE-MIT README.md build.rs src/lib.rs; do
     grep -qx "$file" "$out/cargo.log" || stop "the crate's package lacks $file"
 done
-# The library is found without PKCS1_LIB; one that is built again is linked again; and a wrong PKCS1_LIB is told.
+# The library is found without PKCS1_LIB, and a library that was built again is linked again.
 (
     unset PKCS1_LIB
     cargo_quietly test --offline --quiet --test statuses
@@ -101,7 +101,8 @@ cargo_quietly test --offline --quiet --test values
 sed 's/0\.8\.0/9.9.9/g' "$out/libpkcs1.a" > "$room/lib/libpkcs1.a"
 cargo test --offline --quiet --test values > "$room/log" 2>&1 && stop "a library that was built again isn't linked again"
 grep -q '"9.9.9"' "$room/log" || stop "the test of another library fails for another reason"
-# Elsewhere, the crate is checked and documented without the library, and linked with an installed one.
+# A copy of the crate elsewhere can be checked and documented without the library, and linked with an installed one. A
+# wrong PKCS1_LIB is an error.
 cp -rL "$here/rust" "$room/crate"
 (
     cd "$room/crate"
@@ -117,7 +118,7 @@ cp -rL "$here/rust" "$room/crate"
 PKCS1_LIB=$room cargo check --offline --quiet 2> "$room/log" && stop "a folder without the library is taken"
 grep -q '^ *error: PKCS1_LIB' "$room/log" || stop "the build doesn't say that PKCS1_LIB is wrong"
 
-# The example of each language: a key in a file, and files that it refuses.
+# The example in each language: it prints the key in a file, and rejects other files.
 : > "$room/empty"
 head -c 65537 /dev/zero > "$room/long"
 programs=("$room/modulus" "$room/shared" "$room/static" "$out/target/debug/examples/modulus")

@@ -1,4 +1,4 @@
-// Refuses the request for memory of the number REFUSED, and tells so on descriptor 9: preloaded by refuse_memory.sh.
+// Makes the allocation of the number REFUSED fail, and reports it on descriptor 9. Preloaded by refuse_memory.sh.
 #include <errno.h>
 #include <stdlib.h>
 #include <unistd.h>

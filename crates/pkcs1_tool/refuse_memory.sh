@@ -1,9 +1,9 @@
 #!/usr/bin/env bash
-# Want of memory: runs the built program with each of its requests for memory refused in turn, one request a run, until a
-# run makes no more. It tells want of memory and ends with 1. Of the stored input, and of the rows, it has then written
-# whole answers of the first lines; copying a key, OUT is as it was; the words of the command line are told of too. The
-# run that makes no more does what was asked. Called by .ci/run behind run_built.sh; it needs gcc. It prints what comes
-# of a request otherwise, and ends with 1 then; the last line counts.
+# Out of memory: runs the built program with each of its allocations failing in turn, one in each run, until a run makes
+# no more. A run with a failed allocation must report that it is out of memory and exit with 1. Of the stored input, and
+# of the rows, it has then written the whole output for the first lines, however many; when it copies a key, OUT is
+# unchanged; allocations for the arguments fail too. A run without a failed allocation must do what was asked. Called by
+# .ci/run after run_built.sh; it needs gcc. It prints any other result, and then exits with 1; the last line counts.
 set -u
 cd "$(dirname "$0")" || exit 1
 room=$(mktemp -d) || exit 1
@@ -17,12 +17,12 @@ failed=0
 
 "${CC:-gcc}" -shared -fPIC -O1 -Wall -Wextra -Werror -o "$room/refuse.so" refuse_memory.c || exit 1
 
-# hex BYTES: the bytes that the digits spell.
+# hex BYTES: prints the bytes with these hexadecimal digits.
 hex() {
     printf "$(printf '%s' "$1" | sed 's/../\\x&/g')"
 }
 
-# refusing NUMBER ARGUMENT..: the program's run, with the request of this number refused.
+# refusing NUMBER ARGUMENT..: runs the program with the allocation of this number failing; whether it made so many.
 refusing() {
     local number=$1
     shift
@@ -32,13 +32,13 @@ refusing() {
     [ -s "$room/refused" ]
 }
 
-# fails WHAT: counts a failure and says what came of a request.
+# fails WHAT: counts a failure and prints the result of the run.
 fails() {
     failed=$((failed + 1))
     echo "refuse_memory: $program: request $number of $1: status $status, standard error: $(cat "$room/error")"
 }
 
-# tells: the run ended with 1 and told want of memory.
+# tells: whether the run exited with 1 and reported that it is out of memory.
 tells() {
     case "$status:$(cat "$room/error")" in
     "1:fault: memory" | "1:PKCS#1 ASN.1 error: no memory was found") return 0 ;;
@@ -46,13 +46,13 @@ tells() {
     esac
 }
 
-# some WHAT: counts the requests that were refused, of which there are some.
+# some WHAT: counts the allocations that failed; there must be some.
 some() {
     requests=$((requests + number - 1))
     [ "$number" -gt 1 ] || fails "$1, which makes none"
 }
 
-# answers INPUT OUTPUT: lines, and their answers.
+# answers INPUT OUTPUT: lines, and the output for them.
 answers() {
     number=1
     cp "$1" "$room/input"
@@ -64,7 +64,7 @@ answers() {
     some "$1"
 }
 
-# copies KIND TEXT: a key.
+# copies KIND TEXT: copies the key with this encoding.
 copies() {
     number=1
     : > "$room/input"
@@ -79,7 +79,7 @@ copies() {
     some "copy $1 $2"
 }
 
-# words ARGUMENT..: words that ask for nothing.
+# words ARGUMENT..: arguments for which the usage is printed.
 words() {
     number=1
     : > "$room/input"

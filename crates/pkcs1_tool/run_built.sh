@@ -1,6 +1,6 @@
 #!/usr/bin/env bash
-# Runs the program as the gate built it, by each compiler: the rows, and every exit status that can be had with its
-# standard error. Called by .ci/run behind rt ci. It ends with 1 where anything is answered otherwise.
+# Runs the program as the gate built it, by each compiler: the rows, and every exit status that can be had, with its
+# standard error. Called by .ci/run after rt ci. It exits with 1 if any result is another than expected.
 set -u
 cd "$(dirname "$0")" || exit 1
 room=$(mktemp -d) || exit 1
@@ -8,13 +8,13 @@ trap 'rm -rf "$room"' EXIT
 passed=0
 failed=0
 
-# fails WHAT: counts a failure and says what differs.
+# fails WHAT: counts a failure and prints what differs.
 fails() {
     failed=$((failed + 1))
     echo "run_built: $program: $1"
 }
 
-# runs_on_rows: each row's line is answered by the row's answer.
+# runs_on_rows: the output for the line of each row is that of the row.
 runs_on_rows() {
     sed -e '/^#/d' -e '/^$/d' rows > "$room/rows"
     sed -e 's/ => .*//' "$room/rows" > "$room/lines"
@@ -28,7 +28,7 @@ runs_on_rows() {
     fi
 }
 
-# ends WHAT STATUS ERROR OUTPUT GOT: the last run, which ended with GOT, has this status, standard error and output.
+# ends WHAT STATUS ERROR OUTPUT GOT: the last run, which exited with GOT, has this status, standard error and output.
 ends() {
     if [ "$5" = "$2" ] && [ "$(cat "$room/error")" = "$3" ] && [ "$(head -c 200 "$room/output")" = "$4" ]; then
         passed=$((passed + 1))
@@ -64,13 +64,13 @@ runs_to_each_status() {
     ends "the stored run" 0 "" "$(cat stdout)" $?
 }
 
-# hex BYTES: the bytes that the digits spell.
+# hex BYTES: prints the bytes with these hexadecimal digits.
 hex() {
     printf "$(printf '%s' "$1" | sed 's/../\\x&/g')"
 }
 
-# copies STATUS ERROR FILE BYTES ARGUMENT..: called with the arguments, the program ends with this status and standard
-# error, and then the file has these bytes; `-` stands for a file that isn't there.
+# copies STATUS ERROR FILE BYTES ARGUMENT..: with these arguments the program exits with this status and standard error,
+# and then the file has these bytes; `-` means that the file isn't there.
 copies() {
     local status=$1 error=$2 file=$3 bytes=$4 got
     shift 4

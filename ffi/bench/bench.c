@@ -1,5 +1,5 @@
-/* bench KIND:FILE..: nanoseconds of processor time to read a text, and to read it and write it again, by this library, by
- * plain Rust (peer.rs) and by OpenSSL; the best of several rounds. KIND is pub, priv, pss or oaep. */
+/* bench KIND:FILE..: nanoseconds of processor time to decode an encoding, and to decode it and encode it again, by this
+ * library, by plain Rust (peer.rs) and by OpenSSL; the best of several rounds. KIND is pub, priv, pss or oaep. */
 #include "pkcs1.h"
 #include <openssl/rsa.h>
 #include <stdio.h>
@@ -13,7 +13,7 @@ enum { OTHERS = 8, ROUNDS = 7 };
 typedef uint64_t reads(const uint8_t *text, size_t len, size_t at);
 typedef uint64_t writes(const uint8_t *text, size_t len, size_t at, uint8_t *out, size_t room);
 
-/* This library: reading into a struct, and writing from it. */
+/* This library: it decodes into a struct, and encodes from it. */
 #define OURS(name, type, decode, encode)                                                                              \
     static uint64_t our_##name(const uint8_t *text, size_t len, size_t at) {                                          \
         type value;                                                                                                   \
@@ -34,7 +34,7 @@ OURS(pss, struct pkcs1_pss_params, pkcs1_pss_params_decode(text, len, &value),
 OURS(oaep, struct pkcs1_oaep_params, pkcs1_oaep_params_decode(text, len, &value),
      pkcs1_oaep_params_encode(&value, out, room, &written))
 
-/* OpenSSL: it makes numbers of its own and frees them. */
+/* OpenSSL: it allocates its own numbers, and frees them. */
 #define THEIRS(name, type, decode, encode, release)                                                                   \
     static uint64_t ssl_##name(const uint8_t *text, size_t len, size_t at) {                                          \
         const uint8_t *next = text;                                                                                   \
@@ -80,7 +80,7 @@ static double now(void) {
 
 static volatile uint64_t sink;
 
-/* Nanoseconds a call, of so many calls. */
+/* Nanoseconds per call, over `calls` calls. */
 static double timed(reads *read, writes *write, const uint8_t *text, size_t len, uint8_t *out, size_t room, long calls) {
     double start = now();
     uint64_t sum = 0;

@@ -1,11 +1,11 @@
-//! A plain hand-made reader and writer in Rust, as strict as the library: what it is compared with. C calls it as it calls
-//! the library.
+//! A plain reader and writer in Rust, written by hand and as strict as the library, for comparison. It has the same
+//! interface for C.
 #![allow(improper_ctypes_definitions)]
 use std::hint::black_box;
 const BAD: u64 = u64::MAX;
 const MAX: usize = u32::MAX as usize;
 
-/// Tag, contents, rest.
+/// Reads any encoding: its tag, its contents, and the rest.
 #[inline]
 fn any(b: &[u8]) -> Option<(u8, &[u8], &[u8])> {
     let tag = *b.first()?;
@@ -208,7 +208,7 @@ fn mask_in(c: &[u8]) -> Option<Mask<'_>> {
         p: Some(plain_in(whole(0x30, c)?)?),
     })
 }
-/// The contents of `[number]`, where it is next.
+/// The contents of `[number]`, if it is next.
 fn explicit<'a>(number: u8, c: &mut &'a [u8]) -> Option<Option<&'a [u8]>> {
     if c.first() != Some(&(0xa0 + number)) {
         return Some(None);

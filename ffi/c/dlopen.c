@@ -1,4 +1,4 @@
-/* dlopen LIBRARY: the calls are symbols, which a program can look up. */
+/* dlopen LIBRARY: looks up calls in the shared library by their names. */
 #include "pkcs1.h"
 #include <dlfcn.h>
 #include <stdio.h>

@@ -1,4 +1,4 @@
-// The headers are C++ too.
+// The headers compile as C++ too.
 #include "pkcs1_c.h"
 #include <cstddef>
 

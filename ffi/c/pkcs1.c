@@ -1,6 +1,6 @@
-/* The calls of pkcs1.h over the proved ones of pkcs1_c.h. This file is tested, not proved. A proved call is given structs of
- * valid values alone: what it fills is a local, copied on success, and what it reads is copied to a local in which nothing is
- * null. */
+/* The calls of pkcs1.h, over the proved ones of pkcs1_c.h. This file is tested, not proved. A proved call must be
+ * passed only structs of valid values: it fills a local, which is copied on success, and reads a local copy in which
+ * nothing is null. */
 #include "pkcs1_c.h"
 #include <stdlib.h>
 #include <string.h>
@@ -9,7 +9,7 @@
 #define NO_ALGORITHM { { {0}, 0 }, false, 0, NO }
 #define NO_MASK_GEN { { {0}, 0 }, false, NO_ALGORITHM }
 
-/* So many other primes are read and written without memory; OpenSSL makes no more. */
+/* Up to this many other primes are held in a local array, not in one from calloc; OpenSSL makes no more. */
 enum { FEW = 3 };
 
 static const struct pkcs1_bytes no_bytes = NO;
@@ -49,7 +49,8 @@ uint32_t pkcs1_public_key_encode(const struct pkcs1_public_key *key, uint8_t *ou
 
 /* Private keys. */
 
-/* Puts as many of the other primes as there is room for into `others`: the few that were read, or by reading again. */
+/* Puts the first other primes into `others`, as many as fit: those in `few`, or if more fit, by decoding `der`
+ * again. */
 static void put_others(struct pkcs1_bytes der, const struct pkcs1_private_key *key, const struct pkcs1_other_prime *few,
                        struct pkcs1_other_prime *others, size_t others_room) {
     size_t count = key->other_primes < others_room ? key->other_primes : others_room;
@@ -136,7 +137,7 @@ bool pkcs1_oid_equal(const struct pkcs1_oid *left, const struct pkcs1_oid *right
            memcmp(left->octets, right->octets, left->len) == 0;
 }
 
-/* The algorithm without what stands behind a `has_parameters` that is false. */
+/* A copy of the algorithm in which the fields after a false `has_parameters` are empty, and nothing is null. */
 static struct pkcs1_algorithm algorithm(const struct pkcs1_algorithm *given) {
     struct pkcs1_algorithm made = no_algorithm;
     made.oid = given->oid;

@@ -37,7 +37,7 @@ static void put_algorithm(const char *name, const struct pkcs1_algorithm *algori
         put(" parameters", algorithm->parameters);
 }
 
-/* Asks an encoder how much room the DER needs, and calls it again with that. */
+/* Calls an encoder with room 0, which gives the length needed, and again with that much room. */
 #define ENCODE(call, ...)                                                                                             \
     do {                                                                                                              \
         if (call(__VA_ARGS__, NULL, 0, &again_len) != PKCS1_NO_ROOM)                                                  \

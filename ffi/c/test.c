@@ -1,5 +1,5 @@
-/* test STATUSES, or test --version: the calls of pkcs1.h. Structs start uninitialised, so that valgrind sees what is read of them. STATUSES is
- * a table of inputs (rust/tests/statuses). */
+/* test STATUSES, or test --version: tests the calls of pkcs1.h. STATUSES is a table of inputs (rust/tests/statuses).
+ * Structs to be filled are uninitialised, so that valgrind reports it if they are read. */
 #include "pkcs1_c.h"
 #include <stdio.h>
 #include <stdlib.h>
@@ -105,7 +105,7 @@ static size_t with_others(uint8_t *der, size_t count) {
     return len + 4 + 11 * count;
 }
 
-/* Any number of other primes, any room for them, in PKCS #8 too. */
+/* 1 to 8 other primes with room for 0 to 9 of them, in PKCS #8 too. */
 static void other_primes(void) {
     for (size_t count = 1; count <= 8; count++) {
         uint8_t der[160], out[160], wrapped[200];
@@ -191,7 +191,7 @@ static void pss(void) {
     CHECK(pkcs1_pss_params_encode(&params, out, sizeof out, &len) == PKCS1_OK && len == 2 && memcmp(out, none, 2) == 0);
 }
 
-/* What stands behind a `has_..` that is false isn't read. */
+/* The fields after a false `has_..` aren't read. */
 static void absent_fields(void) {
     struct pkcs1_oaep_params oaep;
     uint8_t out[64];
@@ -212,7 +212,7 @@ static void absent_fields(void) {
     CHECK(pkcs1_oid_equal(&oaep.hash.oid, &pkcs1_oid_sha256) && !pkcs1_oid_equal(&oaep.hash.oid, &pkcs1_oid_sha384));
 }
 
-/* One hash function: the octets that the constants stand for. */
+/* Parameters for each hash function: the constants are the right octets. */
 static void made_for_a_hash(void) {
     static const struct { const struct pkcs1_oid *oid; uint8_t last; } hashes[] = {
         {&pkcs1_oid_sha224, 4}, {&pkcs1_oid_sha256, 1}, {&pkcs1_oid_sha384, 2}, {&pkcs1_oid_sha512, 3}};
@@ -249,7 +249,8 @@ static void texts(void) {
     CHECK(strcmp(pkcs1_strerror(PKCS1_OTHER_PRIMES), "the other primes are not as many as the key says") == 0);
 }
 
-/* The table. A refused struct stays; an accepted one is written again, the same octets where there is one encoding. */
+/* The table. An error leaves the struct unchanged; an accepted value is encoded again, as the same octets if it has
+ * only one encoding. */
 static const struct { const char *name; uint32_t status; } names[] = {
     {"OK", PKCS1_OK}, {"INCOMPLETE", PKCS1_INCOMPLETE}, {"INDEFINITE_LENGTH", PKCS1_INDEFINITE_LENGTH},
     {"LENGTH", PKCS1_LENGTH}, {"NONCANONICAL", PKCS1_NONCANONICAL}, {"OID_MALFORMED", PKCS1_OID_MALFORMED},
@@ -330,7 +331,7 @@ static void statuses(const char *path) {
     CHECK(rows > 150);
 }
 
-/* The proved calls are there too, with initialised structs. */
+/* The proved calls can be called too, with initialised structs. */
 static void proved_calls(void) {
     struct pkcs1_private_key key = {PKCS1_NO_BYTES, PKCS1_NO_BYTES, PKCS1_NO_BYTES, PKCS1_NO_BYTES, PKCS1_NO_BYTES,
                                     PKCS1_NO_BYTES, PKCS1_NO_BYTES, PKCS1_NO_BYTES, 0};

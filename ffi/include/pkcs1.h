@@ -1,27 +1,28 @@
-/* RSA keys and RSA algorithm parameters (PKCS #1, RFC 8017), and RSA keys in PKCS #8 (RFC 5208): reading and writing DER.
- * Binary DER alone: no PEM, no SubjectPublicKeyInfo ("BEGIN PUBLIC KEY"), nothing encrypted.
+/* Decodes and encodes DER: RSA keys and RSA algorithm parameters (PKCS #1, RFC 8017), RSA keys in PKCS #8 (RFC 5208).
+ * Only binary DER: no PEM, no SubjectPublicKeyInfo ("BEGIN PUBLIC KEY"), nothing encrypted.
  *
- * Status: each call returns PKCS1_OK or an error of the enum below; pkcs1_strerror gives its text.
- * Reading (.._decode): `der` is the whole encoding. On PKCS1_OK the struct holds the value that it encodes. On an error no
- *   value of the type has this encoding, the status is that of its first fault from the left, and the struct is as it was.
- * Writing (.._encode): on PKCS1_OK the first `*len` octets of `out` are the value's DER, and the rest is as it was. On
- *   PKCS1_NO_ROOM `*len` is the length that is needed: call with a null `out` and room 0 to ask for it. On another error
- *   the value has no encoding of at most 4294967295 octets (or memory is short), and `*len` is as it was: the status is
- *   that of the first field, in their order, that can't be written, or PKCS1_OVERFLOW where they all can and are too long
- *   together. On any error `out` is as it was.
- * Structs: one that a call fills may hold anything before, so `struct pkcs1_public_key key;` will do. One that a call
- *   reads has its fields set; `data` may be null where `len` is 0, and where `has_..` is false the fields behind it aren't
- *   read. `{0}` is such a struct (`{}` in C++).
- * Numbers are unsigned, most significant octet first. Writing takes them with or without zeros in front, and a number has
- *   at least one octet; reading gives them without zeros in front (the number 0 is one octet).
- * Lifetimes: reading copies no number. A `pkcs1_bytes` that a decoder fills points into `der` (or into the library, for a
- *   default that the encoding leaves out), is never null, and is never to be freed. No call keeps a pointer.
- * Overlap: `out`, `*len` and what a decoder fills must overlap nothing else that the call is given.
- * Null: `der`, `others` and `out` may be null beside a length 0. Other pointers are never null.
- * Threads: no call has state or locks, so all may be called at once.
- * Memory: only pkcs1_private_key_encode takes some, for a key of more than two primes, and gives it back.
+ * Status: a decoder or encoder returns PKCS1_OK or an error of the enum below, which pkcs1_strerror describes.
+ * Decoders (.._decode): `der` is one whole encoding. On PKCS1_OK the struct holds the value that it encodes. An error
+ *   means that no value of the type has this encoding: the status is that of the first fault from the left, and what
+ *   the call would have filled is unchanged.
+ * Encoders (.._encode): on PKCS1_OK the first `*len` octets of `out` are the DER of the value, and the rest is
+ *   unchanged. On PKCS1_NO_ROOM `*len` is the length that is needed: call with a null `out` and room 0 to get it. On
+ *   another error the value has no encoding of at most 4294967295 octets (or memory has run out), and `*len` is
+ *   unchanged: the status is that of the first field, in their order, that can't be encoded, or PKCS1_OVERFLOW if each
+ *   can, but they are too long together. On any error `out` is unchanged.
+ * Structs: one that a call fills may be uninitialised, as in `struct pkcs1_public_key key;`. One that a call reads must
+ *   have its fields set, but `data` may be null if `len` is 0, and the fields after a false `has_..` in its struct
+ *   aren't read. `{0}` is such a struct (`{}` in C++).
+ * Numbers are unsigned, most significant octet first. Encoders accept leading zeros, and need at least one octet;
+ *   decoders give no leading zeros (the number 0 is one octet).
+ * Lifetimes: decoders copy no number. A `pkcs1_bytes` that a decoder fills points into `der` (or into the library, for
+ *   a default that the encoding leaves out), is never null, and must not be freed. No call keeps a pointer.
+ * Overlap: `out`, `*len` and what a decoder fills must not overlap each other or any other argument.
+ * Null: `der`, `others` and `out` may be null if their length is 0. No other argument may be null.
+ * Threads: the calls share no state and take no locks, so any of them may run at the same time.
+ * Memory: only pkcs1_private_key_encode allocates, for a key of more than two primes, and frees it before it returns.
  *
- * These calls check nothing but the encoding: not that the primes make the modulus, nor that a key is strong enough. */
+ * Only the encoding is checked: not that the modulus is the product of the primes, nor that a key is strong enough. */
 #ifndef PKCS1_H
 #define PKCS1_H
 
@@ -59,10 +60,10 @@ enum pkcs1_status {
     PKCS1_OTHER_PRIMES = 21        /* writing: key->other_primes isn't others_len */
 };
 
-/* A static text, in English, for any number. */
+/* A description in English, as a static string. Any number may be given. */
 const char *pkcs1_strerror(uint32_t status);
 
-/* "0.8.0": the version of the library, as the macros above tell that of the header. */
+/* The version of the library as a static string, "0.8.0"; the macros above are the version of the header. */
 const char *pkcs1_version(void);
 
 struct pkcs1_bytes {
@@ -86,17 +87,17 @@ struct pkcs1_other_prime {
     struct pkcs1_bytes prime, exponent, coefficient;
 };
 
-/* Reading puts the first `others_room` of the other primes into `others`, whose further elements are as they were;
- * key->other_primes is how many there are, which may be more. Writing needs all of them: where `others_len` isn't
- * key->other_primes, it returns PKCS1_OTHER_PRIMES. */
+/* The decoder puts the first `others_room` of the other primes into `others`, and leaves any further elements
+ * unchanged; key->other_primes is how many there are, which may be more. The encoder needs all of them: if `others_len`
+ * isn't key->other_primes, it returns PKCS1_OTHER_PRIMES. */
 uint32_t pkcs1_private_key_decode(const uint8_t *der, size_t der_len, struct pkcs1_private_key *key,
                                   struct pkcs1_other_prime *others, size_t others_room);
 uint32_t pkcs1_private_key_encode(const struct pkcs1_private_key *key, const struct pkcs1_other_prime *others,
                                   size_t others_len, uint8_t *out, size_t room, size_t *len);
 
-/* An RSA private key in PKCS #8, not encrypted. Reading fills `info`, and the key in it and its other primes as
- * pkcs1_private_key_decode does. Writing takes the key's DER, which pkcs1_private_key_encode makes, and refuses octets that
- * are no private key. */
+/* An RSA private key in an unencrypted PKCS #8 container. The decoder fills `info`, and `key` and `others` from the key
+ * in it, as pkcs1_private_key_decode does. The encoder takes the DER of the key, as pkcs1_private_key_encode writes it,
+ * and rejects octets that don't encode a private key. */
 struct pkcs1_private_key_info {
     struct pkcs1_bytes private_key; /* the DER of the key */
     bool has_attributes;
@@ -121,8 +122,8 @@ extern const struct pkcs1_oid pkcs1_oid_mgf1, pkcs1_oid_p_specified, pkcs1_oid_r
 /* Whether both are the same identifier. */
 bool pkcs1_oid_equal(const struct pkcs1_oid *left, const struct pkcs1_oid *right);
 
-/* An AlgorithmIdentifier. The contents of its parameters aren't looked at. Where reading finds no parameters, `tag` is 0
- * and `parameters` is empty. */
+/* An AlgorithmIdentifier. The contents of its parameters aren't checked. If there are none, a decoder sets `tag` to 0
+ * and `parameters` to empty. */
 struct pkcs1_algorithm {
     struct pkcs1_oid oid;
     bool has_parameters; /* false: no octet follows the identifier, which isn't the same as NULL */
@@ -130,7 +131,7 @@ struct pkcs1_algorithm {
     struct pkcs1_bytes parameters; /* their contents; of NULL: none */
 };
 
-/* Where reading finds no hash function, `hash` is empty: `hash.oid.len` is 0. */
+/* If there is no hash function, a decoder sets `hash` to empty: `hash.oid.len` is 0. */
 struct pkcs1_mask_gen {
     struct pkcs1_oid oid;
     bool has_hash;
@@ -152,13 +153,14 @@ struct pkcs1_oaep_params {
     struct pkcs1_algorithm p_source; /* pSpecified: the parameters are the label, with tag 0x04 */
 };
 
-/* Sets all fields for one hash function: MGF1 with the same one, and NULL parameters. The label isn't copied. */
+/* Sets all fields for one hash function: MGF1 with the same one, and both with NULL parameters. The label isn't copied,
+ * so it must live as long as `params` is used. */
 void pkcs1_pss_params_init(struct pkcs1_pss_params *params, const struct pkcs1_oid *hash, uint8_t salt_len);
 void pkcs1_oaep_params_init(struct pkcs1_oaep_params *params, const struct pkcs1_oid *hash, const uint8_t *label,
                             size_t label_len);
 
-/* Writing leaves out each field that has its default, as DER wants. Reading takes encodings that spell a default out too;
- * .._decode_strict doesn't: it returns PKCS1_NONCANONICAL for them. */
+/* Encoders leave out each field that has its default, as DER requires (X.690 11.5). Decoders also accept a default that
+ * is written out; .._decode_strict returns PKCS1_NONCANONICAL for it. */
 uint32_t pkcs1_pss_params_decode(const uint8_t *der, size_t der_len, struct pkcs1_pss_params *params);
 uint32_t pkcs1_pss_params_decode_strict(const uint8_t *der, size_t der_len, struct pkcs1_pss_params *params);
 uint32_t pkcs1_pss_params_encode(const struct pkcs1_pss_params *params, uint8_t *out, size_t room, size_t *len);

@@ -1,7 +1,7 @@
-/* The proved calls, which those of pkcs1.h are made of; most callers want pkcs1.h. They do the same, and ask for more:
- * every struct that they are given holds valid values, also one that a decoder only fills. There each `bool` is 0 or 1, and
- * each `pkcs1_bytes` isn't null: PKCS1_NO_BYTES is an empty one. Where `has_..` is false, the fields behind it hold valid
- * values, which writing doesn't read; reading leaves them empty. */
+/* The proved calls, on which those of pkcs1.h are built; most callers want pkcs1.h. They do the same, but require more:
+ * each struct passed to them must hold valid values, even one that a decoder only fills. In it each `bool` must be 0 or
+ * 1, and no `pkcs1_bytes` may be null: PKCS1_NO_BYTES is an empty one. The fields after a false `has_..` must be
+ * valid too; an encoder doesn't read them, and a decoder sets them to empty. */
 #ifndef PKCS1_C_H
 #define PKCS1_C_H
 
@@ -32,7 +32,7 @@ uint32_t pkcs1_c_oaep_params_decode(const uint8_t *der, size_t der_len, struct p
 uint32_t pkcs1_c_oaep_params_decode_strict(const uint8_t *der, size_t der_len, struct pkcs1_oaep_params *params);
 uint32_t pkcs1_c_oaep_params_encode(const struct pkcs1_oaep_params *params, uint8_t *out, size_t room, size_t *len);
 
-/* Static texts with a zero at the end, which `len` counts. */
+/* These set `text` to a static string with a zero at the end, which `len` counts. */
 void pkcs1_c_status_text(uint32_t status, struct pkcs1_bytes *text);
 void pkcs1_c_version(struct pkcs1_bytes *text);
 

@@ -1,12 +1,12 @@
 //! Finds `libpkcs1.a`: in the folder that PKCS1_LIB names, else in `../out`, which `ffi/build.sh` fills, else where
-//! pkg-config finds it. Without it the crate can be checked and documented, and not linked.
+//! pkg-config finds it. Without it the crate can be checked and documented, but not linked.
 use std::env;
 use std::path::{Path, PathBuf};
 use std::process::{exit, Command};
 
 const NAME: &str = "libpkcs1.a";
 
-/// The folder that PKCS1_LIB names, which has to hold the library.
+/// The folder that PKCS1_LIB names, if it is set. It must hold the library.
 fn named() -> Option<PathBuf> {
     let folder = PathBuf::from(env::var_os("PKCS1_LIB")?);
     if folder.join(NAME).is_file() {
@@ -17,7 +17,7 @@ fn named() -> Option<PathBuf> {
     exit(1)
 }
 
-/// The folder of the library that is installed, if pkg-config is there and knows it.
+/// The folder of the installed library, if pkg-config is there and knows it.
 fn installed() -> Option<PathBuf> {
     let answer = Command::new("pkg-config").args(["--variable=libdir", "libpkcs1"]).output().ok()?;
     let folder = String::from_utf8(answer.stdout).ok()?.trim().replace("\\ ", " ");

@@ -1,4 +1,4 @@
--- No text is one of a key and of parameters.
+-- No bytes encode both a key and parameters.
 use Rattle.der_core.specs.Document.{Excludes}
 use Rattle.pkcs1.specs.Keys.{RsaPublicKey, RsaPrivateKey}
 use Rattle.pkcs1_params.specs.Parameters.{RsaPssParams, pss_fields, RsaOaepParams, oaep_fields}

@@ -1,4 +1,4 @@
--- The first fault of bytes that are no text of a key (RFC 8017 A.1.1, A.1.2).
+-- The first fault of bytes that don't encode a key (RFC 8017 A.1.1, A.1.2).
 use Rattle.std.specs.Prelude.{ℕ, List, ◌≡◌, ◌≢◌, ◌<◌, ◌≤◌, ◌⊎◌, length, map, slice_get, Some}
 use Rattle.der_core.specs.declared.error.ErrorKind.{ErrorKind}
 use Rattle.der_core.specs.declared.error.ErrorKind.TheVariants.{Value}
@@ -13,57 +13,57 @@ use Rattle.pkcs1.specs.KeyNumbers.{EightNumbers}
 use Rattle.pkcs1.specs.Keys.{RsaPublicKey, PrivateKeyText, OtherPrime, OtherPrimeInfo}
 use Rattle.pkcs1.specs.Versions.{VersionContents}
 
--- The modulus, or behind it the public exponent, or bytes behind that.
+-- A fault of the modulus, or else of the public exponent, or bytes after it.
 abbrev pub PublicKeyFault : {Number : Type 0} → (Number → List ℕ → Type 0) → (ErrorKind → List ℕ → Type 0) → ErrorKind → List ℕ → Type 0
 PublicKeyFault NumberText NumberFault = ThenFault NumberText NumberFault (λ _. ThenFault NumberText NumberFault (λ _. EndFault))
 
--- A slice that is to be a public key.
+-- The first fault of a whole slice, as a public key.
 abbrev pub RsaPublicKeyFault : ErrorKind → List ℕ → Type 0
 RsaPublicKeyFault = WholeFault RsaPublicKey (TextFault sequence (PublicKeyFault Integer (TextFault integer IntegerFault)))
 
--- So many numbers, one after another: fewer stand at the front, and behind them is a fault of the next.
+-- n numbers in a row. The fault: fewer of them, and then a fault of the next.
 abbrev pub Counted : {Number : Type 0} → ℕ → (Number → List ℕ → Type 0) → List Number → List ℕ → Type 0
 Counted n NumberText numbers texts = (length numbers ≡ n) × Joins (map NumberText numbers) texts
 
 abbrev pub CountedFault : {Number : Type 0} → ℕ → (Number → List ℕ → Type 0) → (ErrorKind → List ℕ → Type 0) → ErrorKind → List ℕ → Type 0
 CountedFault {Number} n NumberText NumberFault kind bytes = (numbers : List Number) × (length numbers < n) × Then (Joins (map NumberText numbers)) (NumberFault kind) bytes
 
--- One of the three numbers, or bytes behind them.
+-- A fault of one of the three numbers, or bytes after them.
 abbrev pub OtherPrimeFault : {Number : Type 0} → (Number → List ℕ → Type 0) → (ErrorKind → List ℕ → Type 0) → ErrorKind → List ℕ → Type 0
 OtherPrimeFault NumberText NumberFault = ThenFault (Counted 3 NumberText) (CountedFault 3 NumberText NumberFault) (λ _. EndFault)
 
--- No number from 0 to 255, or one that is no version.
+-- Not a number from 0 to 255, or one that is no version.
 abbrev pub VersionFault : ErrorKind → List ℕ → Type 0
 VersionFault kind contents = SmallFault kind contents ⊎ ((n : ℕ) × SmallContents n contents × (2 ≤ n) × (kind ≡ Value integer))
 
--- Behind other primes: they don't agree with the version; or they are none; or bytes follow them.
+-- After the other primes: they don't agree with the version, or the list is empty, or bytes follow it.
 abbrev pub ListedFault : {Number : Type 0} → ℕ → List (OtherPrime Number) → ErrorKind → List ℕ → Type 0
 ListedFault version others kind rest =
     ((version ≢ 1) × (kind ≡ Value integer))
     ⊎ ((version ≡ 1) × (length others ≡ 0) × (kind ≡ Value sequence))
     ⊎ ((version ≡ 1) × (0 < length others) × EndFault kind rest)
 
--- What is left behind the numbers: where the octet of SEQUENCE is next, a fault of the other primes or of what is behind them;
--- elsewhere the version asks for other primes, or bytes follow.
+-- After the eight numbers: if the tag of a SEQUENCE is next, a fault of the other primes or of what follows them; if
+-- not, the version requires other primes, or bytes follow.
 abbrev pub OthersFault : {Number : Type 0} → (Number → List ℕ → Type 0) → (ErrorKind → List ℕ → Type 0) → ℕ → ErrorKind → List ℕ → Type 0
 OthersFault NumberText NumberFault version kind rest =
     ((slice_get rest 0 ≡ Some sequence_tag)
     × ThenFault (λ others. Tlv sequence_tag (ItemsContents (OtherPrimeInfo NumberText) others)) (TextFault sequence (ItemsFault (OtherPrimeInfo NumberText) (TextFault sequence (OtherPrimeFault NumberText NumberFault)))) (ListedFault version) kind rest)
     ⊎ ((slice_get rest 0 ≢ Some sequence_tag) × (((version ≡ 1) × (kind ≡ Value integer)) ⊎ ((version ≢ 1) × EndFault kind rest)))
 
--- The version, or behind it one of the eight numbers, or what is left behind them.
+-- A fault of the version, or else of one of the eight numbers, or of what follows them.
 abbrev pub PrivateKeyFault : {Number : Type 0} → (Number → List ℕ → Type 0) → (ErrorKind → List ℕ → Type 0) → ErrorKind → List ℕ → Type 0
 PrivateKeyFault NumberText NumberFault =
     ThenFault (λ n. Tlv integer_tag (VersionContents n)) (TextFault integer VersionFault) (λ version. ThenFault (EightNumbers NumberText) (CountedFault 8 NumberText NumberFault) (λ _. OthersFault NumberText NumberFault version))
 
--- The texts of an integer, of another prime.
+-- The faults of an INTEGER, of an OtherPrimeInfo.
 abbrev pub NumberFault : ErrorKind → List ℕ → Type 0
 NumberFault = TextFault integer IntegerFault
 
 abbrev pub OneOtherFault : ErrorKind → List ℕ → Type 0
 OneOtherFault = TextFault sequence (OtherPrimeFault Integer NumberFault)
 
--- A slice that is to be a private key, of numbers of any kind, and of integers.
+-- The first fault of a whole slice, as a private key of numbers of any type, and of INTEGERs.
 abbrev pub PrivateKeyTextFault : {Number : Type 0} → (Number → List ℕ → Type 0) → (ErrorKind → List ℕ → Type 0) → ErrorKind → List ℕ → Type 0
 PrivateKeyTextFault NumberText NumberFault = WholeFault (PrivateKeyText NumberText) (TextFault sequence (PrivateKeyFault NumberText NumberFault))
 

@@ -5,10 +5,10 @@ use Rattle.pkcs1.specs.declared.private_key.PrivateKeyOf.{PrivateKeyOf}
 use Rattle.pkcs1.specs.PrivateKeyValue.{key_with}
 use Rattle.pkcs1.specs.Writing.{key_numbers}
 
--- What they mean, in the order of the text.
+-- What they mean, in the order of the encoding.
 abbrev pub numbers_of : {U O V : Type 0} → (U → V) → PrivateKeyOf U O → List V
 numbers_of value key = key_numbers (key_with value (λ _. []) key)
 
--- The texts of eight numbers, one after another.
+-- The encodings of eight numbers, in a row.
 abbrev pub EightNumbers : {V : Type 0} → (V → List ℕ → Type 0) → List V → List ℕ → Type 0
 EightNumbers NumberText numbers texts = (length numbers ≡ 8) × Joins (map NumberText numbers) texts

@@ -1,4 +1,4 @@
--- RSA keys (RFC 8017 A.1.1, A.1.2). A number is its canonical bytes; a grammar of numbers says their texts.
+-- RSA keys (RFC 8017 A.1.1, A.1.2). A number is its canonical bytes; `NumberText` is the grammar of its encodings.
 use Rattle.std.specs.Prelude.{ℕ, List, [], ◌∷◌, ◌≡◌, ◌<◌, length, Option, Some, None}
 use Rattle.der_core.specs.Tag.{sequence_tag}
 use Rattle.der_core.specs.Tlv.{Tlv}
@@ -34,7 +34,7 @@ abbrev pub OtherPrimeInfos : {Number : Type 0} → (Number → List ℕ → Type
 OtherPrimeInfos NumberText None text = text ≡ []
 OtherPrimeInfos NumberText (Some others) text = (0 < length others) × Tlv sequence_tag (ItemsContents (OtherPrimeInfo NumberText) others) text
 
--- Version ::= INTEGER { two-prime(0), multi(1) }: multi where there are other primes (A.1.2)
+-- Version ::= INTEGER { two-prime(0), multi(1) }: multi if there are other primes (A.1.2)
 abbrev pub version_of : {Number : Type 0} → Option (List (OtherPrime Number)) → ℕ
 version_of None = 0
 version_of (Some others) = 1
@@ -54,7 +54,8 @@ pub record PrivateKey (Number : Type 0) : Type 0 where
   pub coefficient : Number
   pub other_prime_infos : Option (List (OtherPrime Number))
 
--- RSAPrivateKey ::= SEQUENCE { version Version, modulus INTEGER, .., coefficient INTEGER, otherPrimeInfos OtherPrimeInfos OPTIONAL } (A.1.2)
+-- RSAPrivateKey ::= SEQUENCE { version Version, modulus INTEGER, .., coefficient INTEGER, otherPrimeInfos
+-- OtherPrimeInfos OPTIONAL } (A.1.2)
 abbrev pub PrivateKeyContents : {Number : Type 0} → (Number → List ℕ → Type 0) → PrivateKey Number → List ℕ → Type 0
 PrivateKeyContents NumberText key contents =
     Joins
@@ -71,7 +72,7 @@ PrivateKeyContents NumberText key contents =
     ∷ [])
     contents
 
--- The same SEQUENCE, over the texts of its numbers.
+-- The whole SEQUENCE, over the encodings of its numbers.
 abbrev pub PrivateKeyText : {Number : Type 0} → (Number → List ℕ → Type 0) → PrivateKey Number → List ℕ → Type 0
 PrivateKeyText NumberText key text = Tlv sequence_tag (PrivateKeyContents NumberText key) text
 

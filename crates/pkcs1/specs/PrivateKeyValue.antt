@@ -1,4 +1,4 @@
--- What a private key means, by what its numbers mean.
+-- What a private key means, given what its numbers mean.
 use Rattle.der_core.specs.declared.integer.uint.UintRef.{UintRef}
 use Rattle.der_core.specs.UintRefValue.{bytes_of}
 use Rattle.std.specs.Prelude.{ℕ, List, ◌≡◌, length, Option, Some, None, map}
@@ -15,12 +15,12 @@ other_of value other = record { prime = value other.prime; exponent = value othe
 abbrev pub others_of : {U V : Type 0} → (U → V) → Option (Vec (OtherPrimeInfo U) Global) → Option (List (OtherPrime V))
 others_of value = option_map (λ (v : Vec (OtherPrimeInfo _) Global). map (other_of value) v.items)
 
--- There is a list of no primes.
+-- The list is there but empty.
 abbrev pub ListsNone : {U : Type 0} → Option (Vec (OtherPrimeInfo U) Global) → Type 0
 ListsNone None = ⊥
 ListsNone (Some v) = length v.items ≡ 0
 
--- What a key means, by what its numbers and its other primes mean.
+-- What a key means, given what its numbers and its other primes mean.
 abbrev pub key_with : {U O V : Type 0} → (U → V) → (O → List (OtherPrime V)) → PrivateKeyOf U O → PrivateKey V
 key_with value primes key = record {
   modulus = value key.modulus;

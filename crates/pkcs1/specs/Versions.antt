@@ -18,11 +18,11 @@ number_of Multi = 1
 abbrev pub VersionContents : ℕ → List ℕ → Type 0
 VersionContents n contents = (n < 2) × SmallContents n contents
 
--- The version of this number; or the number is no version, and that is the error.
+-- The version with this number; or the number is no version, and the error says so.
 abbrev pub IsVersionOf : ℕ → Result Version Error → Type 0
 IsVersionOf n r = MatchResult r (λ v. number_of v ≡ n) (λ e. (e ≡ error.Version) × (1 < n))
 
--- The number with these contents, where it is a version, or the first fault.
+-- The number with these contents, if it is a version, or the kind of their first fault.
 abbrev pub as_version : Result ℕ ErrorKind → Result ℕ ErrorKind
 as_version (Ok n) = if nat_lt n 2 then Ok n else Err (kind.Value integer)
 as_version (Err k) = Err k

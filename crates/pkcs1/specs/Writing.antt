@@ -28,7 +28,7 @@ key_numbers key =
     ∷ key.coefficient
     ∷ []
 
--- Which values have a text, and what is written of them.
+-- Which values can be written, and the bytes that are written of them.
 module _ {Number : Type 0} (has : Number → Type 0) where
   abbrev pub HasOther : OtherPrime Number → Type 0
   HasOther other = AllHave has (other_numbers other)

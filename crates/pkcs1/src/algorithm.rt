@@ -1,4 +1,4 @@
-//! The identifier of RSA keys (RFC 8017 A.1).
+//! The algorithm identifier of RSA keys (RFC 8017 A.1).
 ghost use Rattle.std.specs.Prelude.{◌≡◌, refl};
 ghost use Rattle.spki_core.specs.Any.{null_value};
 ghost use Rattle.spki_core.specs.AlgorithmValue.{algorithm_of};
@@ -9,10 +9,10 @@ use der_core::NoMemory;
 use pkcs1_params::with_null;
 use spki_core::{AlgorithmIdentifierRef, AnyRef, AssociatedOid, ObjectIdentifier};
 
-/// The contents octets of the identifier rsaEncryption, 1.2.840.113549.1.1.1.
+/// The contents octets of the object identifier rsaEncryption, 1.2.840.113549.1.1.1.
 pub const ALGORITHM_OID: &'static [u8] = &[0x2a, 0x86, 0x48, 0x86, 0xf7, 0x0d, 0x01, 0x01, 0x01];
 
-/// RSA keys.
+/// rsaEncryption, as a type.
 struct RsaEncryption;
 
 impl AssociatedOid for RsaEncryption {
@@ -27,14 +27,14 @@ impl AssociatedOid for RsaEncryption {
     }
 }
 
-/// The identifier rsaEncryption.
+/// The object identifier rsaEncryption.
 pub fn rsa_encryption_oid() -> ObjectIdentifier
     ensures { octets_of result ≡ id_rsa_encryption }
 {
     ObjectIdentifier::of::<RsaEncryption>()
 }
 
-/// rsaEncryption with NULL, which identifies RSA keys in containers.
+/// The algorithm identifier of RSA keys in PKCS #8 containers: rsaEncryption with NULL parameters.
 pub fn algorithm_id() -> AlgorithmIdentifierRef<'static>
     ensures { algorithm_of result ≡ with_parameters id_rsa_encryption null_value }
 {

@@ -1,4 +1,4 @@
-//! Why a text is none of a key: reading, as a function of the bytes alone.
+//! Why bytes encode no key: the error of reading, as a function of the bytes alone.
 ghost use Rattle.pkcs1.specs.KeyFaults.{RsaPublicKeyFault, RsaPrivateKeyFault};
 ghost use Rattle.pkcs1.specs.Keys as grammar;
 ghost use Rattle.pkcs1_params.specs.Meanings.{TellsFault};
@@ -8,8 +8,8 @@ use crate::view::RsaPrivateKeyView;
 use der_core::ErrorKind;
 use pkcs1_params::Error;
 
-/// The first fault of bytes that are no public key; `None` where they are. Every slice has one or the other, and no second
-/// fault.
+/// The kind of the first fault of bytes that don't encode a public key, or `None` if they do. There is exactly one
+/// result for each slice, as reading allocates nothing.
 pub fn fault_of_public_key(bytes: &[u8]) -> Option<ErrorKind>
     ensures { TellsFault grammar.RsaPublicKey RsaPublicKeyFault bytes.now result }
 {
@@ -20,8 +20,8 @@ pub fn fault_of_public_key(bytes: &[u8]) -> Option<ErrorKind>
     }
 }
 
-/// The first fault of bytes that are no private key; `None` where they are. Every slice has one or the other, and no second
-/// fault.
+/// The kind of the first fault of bytes that don't encode a private key, or `None` if they do. There is exactly one
+/// result for each slice, as reading allocates nothing.
 pub fn fault_of_private_key(bytes: &[u8]) -> Option<ErrorKind>
     ensures { TellsFault grammar.RsaPrivateKey RsaPrivateKeyFault bytes.now result }
 {

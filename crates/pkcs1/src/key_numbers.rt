@@ -1,4 +1,4 @@
-//! The eight numbers of private keys: reading and copying them.
+//! The eight numbers of private keys: decoding and copying them.
 ghost use Rattle.std.specs.Prelude.{◌≡◌, IfOk, IfErr, IsOk};
 ghost use Rattle.der_core.specs.Faults.{FaultyFront};
 ghost use Rattle.pkcs1.specs.KeyFaults.{CountedFault};
@@ -9,7 +9,7 @@ use crate::private_key::PrivateKeyOf;
 use der_core::{Decode, ErrorKind, Memory, Reader, Result, TryClone};
 use std::alloc::Global;
 
-/// Reads the eight numbers, one after another, into a key that has no other primes yet.
+/// Decodes the eight numbers, in order, into a key that has no other primes yet.
 pub(crate) fn read_key_numbers<'a, M: Memory, U: Decode<&'a [u8], M>, O, R: Reader<&'a [u8]>>(
     memory: M,
     reader: &mut R,
@@ -40,7 +40,7 @@ pub(crate) fn read_key_numbers<'a, M: Memory, U: Decode<&'a [u8], M>, O, R: Read
     })
 }
 
-/// Copies four numbers, in order.
+/// Copies four numbers.
 pub(crate) fn clone_four<U: TryClone>(
     a: &U,
     b: &U,

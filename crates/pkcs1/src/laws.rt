@@ -1,4 +1,4 @@
-//! What the grammars of keys and of parameters promise of themselves: functions that do nothing, each with a law as its contract.
+//! Laws of the grammars of keys and parameters: functions that do nothing, each with a law as its contract.
 ghost use Rattle.std.specs.Prelude.{◌≡◌, ℕ, List, true, false};
 ghost use Rattle.pkcs1.specs.Forms.{SameTexts};
 ghost use Rattle.der_core.specs.Texts.{AtMostOne, IsDelimited, MeansOne};
@@ -30,7 +30,7 @@ use der_core::{ErrorKind, Text, Uint, UintRef};
 use pkcs1_params::{Error, RsaOaepParams, RsaPssParams};
 use spki_core::{Any, AnyRef};
 
-/// No proper beginning of a text is a text of the same type, none is empty, and each means one value.
+/// No encoding is empty or a proper prefix of another one of the same type, and each means one value.
 pub fn texts_are_delimited()
     ensures public { IsDelimited keys.RsaPublicKey }
     ensures private { IsDelimited keys.RsaPrivateKey }
@@ -38,19 +38,19 @@ pub fn texts_are_delimited()
     ensures oaep { IsDelimited parameters.RsaOaepParams }
 {}
 
-/// Each text means one value, whatever the type, borrowed or owned: so where `from_der` answers a value of a slice, it is
-/// the one that the slice means.
+/// Each encoding of any type, borrowed or owned, means one value: so the value that `from_der` returns is the only one
+/// that the slice means.
 pub fn texts_mean_one<T: Text>()
     ensures one { MeansOne T.text }
 {}
 
-/// A key has at most one text.
+/// A key has at most one encoding.
 pub fn keys_have_one_text()
     ensures public { (key : PublicKey (List ℕ)) → AtMostOne (keys.RsaPublicKey key) }
     ensures private { (key : PrivateKey (List ℕ)) → AtMostOne (keys.RsaPrivateKey key) }
 {}
 
-/// No text is both a public key's and a private key's, and none is both a key's and one of parameters.
+/// No bytes encode both a public and a private key, or both a key and parameters.
 pub fn types_exclude_each_other()
     ensures keys { Excludes keys.RsaPublicKey keys.RsaPrivateKey }
     ensures public_pss { Excludes keys.RsaPublicKey parameters.RsaPssParams }
@@ -59,14 +59,14 @@ pub fn types_exclude_each_other()
     ensures private_oaep { Excludes keys.RsaPrivateKey parameters.RsaOaepParams }
 {}
 
-/// Two texts of keys mean the same key exactly where the shortest texts of what they mean are the same bytes.
+/// Two encodings of keys mean the same key exactly if the shortest encodings of what they mean are the same bytes.
 pub fn same_keys_have_the_same_text()
     ensures public { SameByShortest keys.RsaPublicKey }
     ensures private { SameByShortest keys.RsaPrivateKey }
 {}
 
-/// What a type reads and writes is its grammar, in the borrowed form and in the owned one: a clause of `Decode` or
-/// `Encode` at one of these types speaks of the grammar that the laws here speak of.
+/// The borrowed and the owned form of a type share its grammar: so a clause of `Decode` or `Encode` at one of these
+/// types is about the grammar that the other laws here are about.
 pub fn forms_share_the_grammars()
     ensures public { SameTexts ⟦<RsaPublicKey<UintRef<'static>> as Text>⟧.text keys.RsaPublicKey
         × SameTexts ⟦<RsaPublicKey<Uint> as Text>⟧.text keys.RsaPublicKey }
@@ -78,7 +78,7 @@ pub fn forms_share_the_grammars()
         × SameTexts ⟦<RsaOaepParams<Any> as Text>⟧.text parameters.RsaOaepParams }
 {}
 
-/// Each error equals itself; two errors, and two kinds of refusal in one, are told apart.
+/// Each error equals itself. By example, two variants differ, and so do two kinds in `Asn1`.
 pub fn errors_are_told_apart()
     ensures same { (e : errors.Error) → ⟦<Error as PartialEq>⟧.eq e e ≡ true }
     ensures error { ⟦<Error as PartialEq>⟧.eq Error.Version Error.Crypto ≡ false }
@@ -86,7 +86,7 @@ pub fn errors_are_told_apart()
         ⟦<Error as PartialEq>⟧.eq (of_kind ErrorKind.Incomplete) (of_kind ErrorKind.TrailingData) ≡ false }
 {}
 
-/// A clone of what borrows means the same.
+/// A clone of a borrowing type means the same as the original.
 pub fn clones_mean_the_same()
     ensures public { (a b : public_keys.RsaPublicKey numbers.UintRef)
         → ⟦<RsaPublicKey<UintRef<'static>> as Clone>⟧.is_clone a b → public_key_of b ≡ public_key_of a }

@@ -1,7 +1,7 @@
 //! RSA keys and parameters of PKCS #1 (RFC 8017) in DER.
 //!
-//! A text is one whole DER encoding: tag, length and contents octets. A sentence is a text within the limit on its
-//! length that means a value.
+//! An encoding is one whole DER encoding: tag, length and contents octets. Names in the code say `text`. A sentence is
+//! an encoding of at most `der::Length::MAX` bytes that means a value.
 #![tactic(auto)]
 
 mod algorithm;

@@ -1,4 +1,4 @@
-//! Other primes of private keys, read one after another.
+//! The other primes of a private key, as an iterator over the input.
 ghost use Rattle.std.specs.Prelude.{◌≡◌, [], ◌++◌, ◌<◌, ◌≤◌, List, ℕ, length, IfOk, IfErr, IfSome, OnOk, Some};
 ghost use Rattle.std.specs.Iterator.{UpTo, YieldsFirstBy, item_count};
 ghost use Rattle.std.specs.Iterator.SizeHint.{IsWithinCount};
@@ -26,7 +26,8 @@ use der_core::{
     SliceReader, TaggedBy, UintRef,
 };
 
-/// The other primes of a private key, in order, over the bytes that were read: an iterator that knows how many are left.
+/// An iterator over the other primes of a private key, in order. It borrows the input, allocates nothing, and knows how
+/// many are left.
 #[derive(Clone, Copy, Drop)]
 pub struct OtherPrimes<'a> {
     bytes: &'a [u8],
@@ -35,13 +36,13 @@ pub struct OtherPrimes<'a> {
     ghost held: { HoldsOthers bytes.now left } by { HoldsOthers-prop bytes.now left },
 }
 
-/// No memory, under a name of its own: so the reading that counts is compiled for its one place, as a list's is.
+/// `NoMemory` under another name: the decoder that `count_others` calls is then compiled for it alone, and inlined.
 #[derive(Clone, Copy, Drop)]
 struct Counting;
 
 impl Memory for Counting {}
 
-/// Reads the other prime that is next.
+/// Decodes the next other prime.
 #[inline(always)]
 fn read_other<'a, M: Memory>(
     memory: M,
@@ -58,7 +59,7 @@ fn read_other<'a, M: Memory>(
     Ok(other)
 }
 
-/// Reads the first of other primes, and answers it with the bytes behind it.
+/// Decodes the first other prime, and returns it with the bytes after it.
 fn first_other<'a>(bytes: &'a [u8]) -> Result<(OtherPrimeInfo<UintRef<'a>>, &'a [u8])>
     requires { length bytes.now ≤ limit }
     ensures ok { IfOk result (λ p. (text : List ℕ) × (bytes.now ≡ text ++ p.1.now)
@@ -71,7 +72,7 @@ fn first_other<'a>(bytes: &'a [u8]) -> Result<(OtherPrimeInfo<UintRef<'a>>, &'a 
     Ok((other, rest))
 }
 
-/// Counts other primes, of which the bytes are the texts, one after another.
+/// Counts the other primes whose encodings, in a row, are the bytes.
 fn count_others(bytes: &[u8]) -> Result<usize>
     requires { length bytes.now ≤ limit }
     ensures ok { IfOk result (λ count. (others : List (grammar.OtherPrime (List ℕ)))
@@ -92,7 +93,7 @@ fn count_others(bytes: &[u8]) -> Result<usize>
 impl<'a> OtherPrimes<'a> {
     ghost use Rattle.pkcs1.specs.OtherPrimesLeft.{others_left};
 
-    /// None at all.
+    /// An iterator over no primes.
     #[tactic(auto, unfolding(crate::specs::OtherPrimesLeft::others_left))]
     pub(crate) fn none() -> OtherPrimes<'a>
         ensures { others_left result ≡ [] }
@@ -185,7 +186,7 @@ impl<'a> Iterator for OtherPrimes<'a> {
         }
     }
 
-    /// How many are left, as both bounds.
+    /// The number of primes left, as both bounds.
     fn size_hint(&self) -> (usize, Option<usize>)
         ensures least { result.0 ≡ length (others_left self.now) }
         ensures most { result.1 ≡ Some (length (others_left self.now)) }

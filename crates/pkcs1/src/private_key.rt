@@ -27,8 +27,8 @@ use other_prime_info::{
 use std::alloc::{AllocError, Global};
 use std::fmt;
 
-/// An RSA private key (RFC 8017 A.1.2), with its numbers as U and its other primes, if there are any, as O. No relation of
-/// its numbers is checked. Its version isn't stored: it is `Multi` exactly where there are other primes.
+/// An RSA private key (RFC 8017 A.1.2). A U holds a number, an O the other primes, if there are any. No relation
+/// between the numbers is checked. The version isn't stored: it is `Multi` exactly if `other_prime_infos` is `Some`.
 ///
 /// ```text
 /// RSAPrivateKey ::= SEQUENCE {
@@ -62,11 +62,12 @@ pub struct PrivateKeyOf<U, O> {
     pub exponent2: U,
     /// The coefficient: the inverse of q modulo p.
     pub coefficient: U,
-    /// The primes past the first two.
+    /// The primes after the first two.
     pub other_prime_infos: Option<O>,
 }
 
-/// A private key with a list of its other primes. An empty list has no text: writing it is refused by `Value` of SEQUENCE.
+/// A private key with a list of its other primes. A key whose list is there but empty has no encoding: writing it
+/// returns `Value` of SEQUENCE.
 pub type RsaPrivateKey<U> = PrivateKeyOf<U, OtherPrimeInfos<U>>;
 
 /// A private key that borrows its numbers.
@@ -86,7 +87,7 @@ impl<U: Copy, O: Copy> Clone for PrivateKeyOf<U, O> {
 }
 
 impl<U, O> PrivateKeyOf<U, O> {
-    /// The version: whether there are other primes.
+    /// The version: `Multi` if there are other primes.
     pub fn version(&self) -> Version
         ensures { (result ≡ Version.Multi) ↔ IsSome self.now.other_prime_infos }
     {
@@ -111,7 +112,7 @@ impl<U: AsUintRef> RsaPrivateKey<U> {
 }
 
 impl<U: Text> RsaPrivateKey<U> {
-    /// The eight numbers, in the order of the text.
+    /// The eight numbers, in the order of the encoding.
     fn numbers(&self) -> [Borrowed<'_, U>; 8]
         ensures { map (λ n. U.value n.0.now) result ≡ key_numbers (private_key_with U.value self.now) }
     {
@@ -267,7 +268,7 @@ impl<U: TryClone> TryClone for RsaPrivateKey<U> {
 }
 
 impl<U: fmt::Debug, O> PrivateKeyOf<U, O> {
-    /// Prints, under a name, the version, the modulus and the public exponent, and nothing that is secret.
+    /// Prints the name, the version, the modulus and the public exponent, but nothing secret.
     pub(crate) fn print<W: fmt::Write>(
         &self,
         name: &str,
@@ -282,7 +283,7 @@ impl<U: fmt::Debug, O> PrivateKeyOf<U, O> {
 }
 
 impl<U: fmt::Debug> fmt::Debug for RsaPrivateKey<U> {
-    /// Prints the version, the modulus and the public exponent, and nothing that is secret.
+    /// Prints the version, the modulus and the public exponent, but nothing secret.
     fn fmt<W: fmt::Write>(&self, f: &mut fmt::Formatter<W>) -> fmt::Result {
         self.print("RsaPrivateKey", f)
     }

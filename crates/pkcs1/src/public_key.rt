@@ -16,7 +16,7 @@ use der_core::{
 use pkcs1_params::{Error, Result};
 use std::alloc::Global;
 
-/// An RSA public key (RFC 8017 A.1.1). No relation of its numbers is checked.
+/// An RSA public key (RFC 8017 A.1.1). No relation between its numbers is checked.
 ///
 /// ```text
 /// RSAPublicKey ::= SEQUENCE {
@@ -141,7 +141,7 @@ impl<'a> TryFrom<&'a [u8]> for RsaPublicKey<UintRef<'a>> {
 
     type Error = Error;
 
-    /// Reads a whole slice, without memory.
+    /// Decodes a whole slice, and allocates nothing.
     fn try_from(bytes: &'a [u8]) -> Result<RsaPublicKey<UintRef<'a>>>
         ensures ok { IfOk result (λ key. Means grammar.RsaPublicKey bytes.now (public_key_of key)) }
         ensures one { IfOk result (λ key. IsOnlyMeaning grammar.RsaPublicKey bytes.now (public_key_of key)) }
@@ -161,7 +161,7 @@ impl<U: AsUintRef> RsaPublicKey<U> {
     ghost use Rattle.pkcs1_params.specs.Meanings.{IsNotWritten};
     ghost use Rattle.pkcs1.specs.Keys as grammar;
 
-    /// The same, borrowed.
+    /// The same key, borrowed.
     pub(crate) fn as_key_ref(&self) -> RsaPublicKey<UintRef<'_>>
         ensures { public_key_of result ≡ public_key_with U.number self.now }
     {
@@ -171,8 +171,9 @@ impl<U: AsUintRef> RsaPublicKey<U> {
         }
     }
 
-    /// Writes the key's one text to the front of a slice, and answers its length: `encode_into`, with all that is known
-    /// of a key's text. `Overflow` where the text passes `Length::MAX`, `NoRoom` where the slice is shorter.
+    /// Writes the key's only encoding to the front of a slice and returns its length, as `encode_into` does; the
+    /// contract is stated over the grammar of public keys. Returns `Overflow` if the encoding is longer than
+    /// `Length::MAX`, `NoRoom` if it is longer than the slice.
     pub fn encode_key(&self, out: &mut [u8]) -> Result<usize>
         ensures text { let key = public_key_with U.number self.now in
             IfOk result (λ n. IsOnlyText grammar.RsaPublicKey key (take n out.new)) }

@@ -1,4 +1,4 @@
-//! Keys that are read from a text and written again.
+//! Keys that are decoded and encoded again.
 ghost use Rattle.std.specs.Prelude.{◌≡◌, ◌⊎◌, IfOk, IfErr, IsErrAnd};
 ghost use Rattle.der_core.specs.Faults.{Faulty};
 ghost use Rattle.der_core.specs.declared.error.ErrorKind as der;
@@ -18,8 +18,8 @@ use der_core::{Document, SecretDocument};
 use pkcs1_params::Result;
 use std::alloc::Global;
 
-/// Reads a public key from all of the bytes and writes it again: the bytes that come out are those that came in. What is
-/// refused is refused by `from_pkcs1_der`, or for memory.
+/// Decodes a public key from the whole slice and encodes it again, which gives the same bytes. The errors are those of
+/// `from_pkcs1_der`, and `OutOfMemory` for the document.
 pub fn reencode_public_key(alloc: Global, bytes: &[u8]) -> Result<Document>
     ensures same { IfOk result (λ document. text_of document ≡ bytes.now) }
     ensures sentence { IfOk result (λ document. IsSentence grammar.RsaPublicKey bytes.now) }
@@ -34,8 +34,8 @@ pub fn reencode_public_key(alloc: Global, bytes: &[u8]) -> Result<Document>
     RsaPublicKeyOwned::from_pkcs1_der(alloc, bytes)?.to_pkcs1_der(alloc)
 }
 
-/// Reads a private key from all of the bytes and writes it again: the bytes that come out are those that came in. What is
-/// refused is refused by `from_pkcs1_der`, or for memory.
+/// Decodes a private key from the whole slice and encodes it again, which gives the same bytes. The errors are those of
+/// `from_pkcs1_der`, and `OutOfMemory` for the document.
 pub fn reencode_private_key(alloc: Global, bytes: &[u8]) -> Result<SecretDocument>
     ensures same { IfOk result (λ document. text_of document ≡ bytes.now) }
     ensures sentence { IfOk result (λ document. IsSentence grammar.RsaPrivateKey bytes.now) }

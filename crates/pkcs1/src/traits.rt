@@ -1,4 +1,4 @@
-//! Keys of any type, read from PKCS #1 texts and written as such, in memory and in files.
+//! Traits for keys of any type: PKCS #1 encodings decoded and written, in memory and in files.
 ghost use Rattle.std.specs.Prelude.{◌≡◌, ◌⊎◌, List, ℕ, IfOk, IfErr, OnOk, IsErrAnd};
 ghost use Rattle.der_core.specs.Carrying.{FileFault};
 ghost use Rattle.der_core.specs.Document.{IsDocument, Means};
@@ -27,22 +27,22 @@ use std::alloc::Global;
 use std::path::Path;
 use std::rt::Files;
 
-/// A private key that is read from a text of PKCS #1 (RFC 8017 A.1.2). A type of a caller's own says by `stands_for` what
-/// its `from_pkcs1_der` keeps, and by `refused_by` which bytes it refuses.
+/// A private key that can be decoded from its PKCS #1 encoding (RFC 8017 A.1.2). A caller's own type says by
+/// `stands_for` how a key relates to the bytes that it was read from, and by `refused_by` which bytes an error rejects.
 pub trait DecodeRsaPrivateKey: Sized + Drop {
     /// The key was read from these bytes.
     ghost stands_for: { Self → List ℕ → Type 0 };
 
-    /// These bytes are refused by this error.
+    /// These bytes are rejected with this error.
     ghost refused_by: { List ℕ → Error → Type 0 };
 
-    /// Reads a key from all of the bytes.
+    /// Decodes a key from the whole slice.
     fn from_pkcs1_der(alloc: Global, bytes: &[u8]) -> Result<Self>
         ensures read { IfOk result (λ key. stands_for key bytes.now) }
         ensures refused { IfErr result (λ e. refused_by bytes.now e) };
 
-    /// Reads a key from a file: the document that the file holds, then `from_pkcs1_der` on its bytes. `File` where the
-    /// file can't be opened or read, `Overflow` where it has more bytes than `Length::MAX`.
+    /// Reads the document that a file holds, and calls `from_pkcs1_der` on its bytes. Returns `File` if the file can't
+    /// be opened or read, `Overflow` if it has more bytes than `Length::MAX`.
     fn read_pkcs1_der_file<Rt: Files>(rt: &Rt, alloc: Global, path: Path<'_>) -> Result<Self>
         ensures read { IfOk result (λ key. (bytes : List ℕ) × IsDocument bytes × stands_for key bytes) }
         ensures refused { IfErr result (λ e. IsAsn1 (λ file. FileFault file.kind) e
@@ -53,22 +53,22 @@ pub trait DecodeRsaPrivateKey: Sized + Drop {
     }
 }
 
-/// A public key that is read from a text of PKCS #1 (RFC 8017 A.1.1). A type of a caller's own says by `stands_for` what
-/// its `from_pkcs1_der` keeps, and by `refused_by` which bytes it refuses.
+/// A public key that can be decoded from its PKCS #1 encoding (RFC 8017 A.1.1). A caller's own type says by
+/// `stands_for` how a key relates to the bytes that it was read from, and by `refused_by` which bytes an error rejects.
 pub trait DecodeRsaPublicKey: Sized + Drop {
     /// The key was read from these bytes.
     ghost stands_for: { Self → List ℕ → Type 0 };
 
-    /// These bytes are refused by this error.
+    /// These bytes are rejected with this error.
     ghost refused_by: { List ℕ → Error → Type 0 };
 
-    /// Reads a key from all of the bytes.
+    /// Decodes a key from the whole slice.
     fn from_pkcs1_der(alloc: Global, bytes: &[u8]) -> Result<Self>
         ensures read { IfOk result (λ key. stands_for key bytes.now) }
         ensures refused { IfErr result (λ e. refused_by bytes.now e) };
 
-    /// Reads a key from a file: the document that the file holds, then `from_pkcs1_der` on its bytes. `File` where the
-    /// file can't be opened or read, `Overflow` where it has more bytes than `Length::MAX`.
+    /// Reads the document that a file holds, and calls `from_pkcs1_der` on its bytes. Returns `File` if the file can't
+    /// be opened or read, `Overflow` if it has more bytes than `Length::MAX`.
     fn read_pkcs1_der_file<Rt: Files>(rt: &Rt, alloc: Global, path: Path<'_>) -> Result<Self>
         ensures read { IfOk result (λ key. (bytes : List ℕ) × IsDocument bytes × stands_for key bytes) }
         ensures refused { IfErr result (λ e. IsAsn1 (λ file. FileFault file.kind) e
@@ -79,22 +79,23 @@ pub trait DecodeRsaPublicKey: Sized + Drop {
     }
 }
 
-/// A private key that is written as a text of PKCS #1 (RFC 8017 A.1.2). A type of a caller's own says by `written_as`
-/// what its `to_pkcs1_der` writes, and by `unwritten_by` which keys it refuses.
+/// A private key that can be written as its PKCS #1 encoding (RFC 8017 A.1.2). A caller's own type says by `written_as`
+/// how a key relates to its bytes, and by `unwritten_by` which keys an error rejects.
 pub trait EncodeRsaPrivateKey {
     /// The key is written as these bytes.
     ghost written_as: { Self → List ℕ → Type 0 };
 
-    /// The key isn't written, but refused by this error.
+    /// The key isn't written, but rejected with this error.
     ghost unwritten_by: { Self → Error → Type 0 };
 
-    /// The text of the key.
+    /// Returns the encoding of the key.
     fn to_pkcs1_der(&self, alloc: Global) -> Result<SecretDocument>
         ensures written { IfOk result (λ document. written_as self.now (text_of document)) }
         ensures refused { IfErr result (λ e. unwritten_by self.now e) };
 
-    /// Writes the text of the key to a file. The text is made before the file is created, or an old one cut to nothing:
-    /// a key that is refused leaves the file as it was. `File` where the file can't be created or written.
+    /// Writes the encoding of the key to a file. The key is encoded before the file is created or truncated, so a key
+    /// that can't be encoded leaves an old file as it was; a failed write may leave a beginning. Returns `File` if the
+    /// file can't be created or written.
     fn write_pkcs1_der_file<Rt: Files>(&self, rt: &Rt, alloc: Global, path: Path<'_>) -> Result<()>
         ensures written { OnOk result ((bytes : List ℕ) × IsDocument bytes × written_as self.now bytes) }
         ensures refused { IfErr result (λ e. IsAsn1 IsFile e ⊎ unwritten_by self.now e) }
@@ -104,22 +105,23 @@ pub trait EncodeRsaPrivateKey {
     }
 }
 
-/// A public key that is written as a text of PKCS #1 (RFC 8017 A.1.1). A type of a caller's own says by `written_as`
-/// what its `to_pkcs1_der` writes, and by `unwritten_by` which keys it refuses.
+/// A public key that can be written as its PKCS #1 encoding (RFC 8017 A.1.1). A caller's own type says by `written_as`
+/// how a key relates to its bytes, and by `unwritten_by` which keys an error rejects.
 pub trait EncodeRsaPublicKey {
     /// The key is written as these bytes.
     ghost written_as: { Self → List ℕ → Type 0 };
 
-    /// The key isn't written, but refused by this error.
+    /// The key isn't written, but rejected with this error.
     ghost unwritten_by: { Self → Error → Type 0 };
 
-    /// The text of the key.
+    /// Returns the encoding of the key.
     fn to_pkcs1_der(&self, alloc: Global) -> Result<Document>
         ensures written { IfOk result (λ document. written_as self.now (text_of document)) }
         ensures refused { IfErr result (λ e. unwritten_by self.now e) };
 
-    /// Writes the text of the key to a file. The text is made before the file is created, or an old one cut to nothing:
-    /// a key that is refused leaves the file as it was. `File` where the file can't be created or written.
+    /// Writes the encoding of the key to a file. The key is encoded before the file is created or truncated, so a key
+    /// that can't be encoded leaves an old file as it was; a failed write may leave a beginning. Returns `File` if the
+    /// file can't be created or written.
     fn write_pkcs1_der_file<Rt: Files>(&self, rt: &Rt, alloc: Global, path: Path<'_>) -> Result<()>
         ensures written { OnOk result ((bytes : List ℕ) × IsDocument bytes × written_as self.now bytes) }
         ensures refused { IfErr result (λ e. IsAsn1 IsFile e ⊎ unwritten_by self.now e) }

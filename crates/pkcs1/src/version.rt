@@ -72,7 +72,7 @@ impl Ord for Version {
 
     ghost matches_eq = { Prim.search (comparing, rules) };
 
-    /// The order of the numbers.
+    /// The order of the version numbers.
     fn cmp(&self, other: &Version) -> Ordering {
         u8::from(*self).cmp(&u8::from(*other))
     }

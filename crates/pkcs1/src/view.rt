@@ -1,4 +1,4 @@
-//! RSA private keys, seen without a list.
+//! RSA private keys over the input, without a list of their other primes.
 ghost use Rattle.std.specs.Prelude.{◌≡◌, ℕ, List, IsTrue, IsSome, IfOk, IfErr, IsErrAnd, OnErr, ◌↔◌, refl};
 ghost use Rattle.std.specs.Option.{option_map};
 ghost use Rattle.der_core.specs.Tag.{integer_tag};
@@ -36,10 +36,10 @@ use der_core::{
 use pkcs1_params::Error;
 use std::fmt;
 
-/// A private key over the bytes that were read, its other primes too.
+/// A private key that borrows the input, for its other primes too.
 type ViewedKey<'a> = PrivateKeyOf<UintRef<'a>, OtherPrimes<'a>>;
 
-/// Whether there is a list of no primes.
+/// Whether the list is there but empty.
 fn lists_none(others: &Option<OtherPrimes<'_>>) -> bool
     ensures { IsTrue result ↔ HoldsNone others.now }
 {
@@ -49,7 +49,7 @@ fn lists_none(others: &Option<OtherPrimes<'_>>) -> bool
     }
 }
 
-/// Reads the other primes, which are all that is left and agree with the version.
+/// Decodes the rest of a key: its other primes, which must agree with the version.
 fn read_listed<'a, R: Reader<&'a [u8]>>(
     reader: &mut R,
     version: Version,
@@ -109,8 +109,8 @@ impl<'a> DecodeValue<&'a [u8], NoMemory> for ViewedKey<'a> {
     ghost fault_first = { private_integers_first };
 }
 
-/// An RSA private key (RFC 8017 A.1.2), over its text. No memory is taken, however many primes it has, and no relation of
-/// its numbers is checked.
+/// An RSA private key (RFC 8017 A.1.2) over its encoding. It allocates nothing, however many primes there are. No
+/// relation between the numbers is checked.
 #[derive(Clone, Copy, Drop)]
 pub struct RsaPrivateKeyView<'a> {
     bytes: &'a [u8],
@@ -118,7 +118,7 @@ pub struct RsaPrivateKeyView<'a> {
 }
 
 impl<'a> RsaPrivateKeyView<'a> {
-    /// The version: whether there are other primes.
+    /// The version: `Multi` if there are other primes.
     pub fn version(&self) -> Version
         ensures { (result ≡ Version.Multi) ↔ IsSome (view_of self.now).other_prime_infos }
     {
@@ -191,7 +191,7 @@ impl<'a> RsaPrivateKeyView<'a> {
         }
     }
 
-    /// The primes past the first two, in order; none where the version is `TwoPrime`.
+    /// The primes after the first two, in order; none if the version is `TwoPrime`.
     pub fn other_primes(&self) -> OtherPrimes<'a>
         ensures { others_left result ≡ listed_others (view_of self.now).other_prime_infos }
     {
@@ -201,7 +201,7 @@ impl<'a> RsaPrivateKeyView<'a> {
         OtherPrimes::none()
     }
 
-    /// The whole text: the slice that was read.
+    /// The whole encoding: the slice that was read.
     pub fn as_bytes(&self) -> &'a [u8]
         ensures { result.now ≡ viewed_text self.now }
     {
@@ -212,8 +212,8 @@ impl<'a> RsaPrivateKeyView<'a> {
 impl<'a> TryFrom<&'a [u8]> for RsaPrivateKeyView<'a> {
     type Error = Error;
 
-    /// Reads a whole slice, without memory however many primes there are. Refused as `RsaPrivateKeyRef::from_der`, want
-    /// of memory aside: with the kernel's error.
+    /// Decodes a whole slice, and allocates nothing, however many primes there are. The errors are those of
+    /// `RsaPrivateKeyRef::from_der`, except `OutOfMemory`, in `Error::Asn1`.
     fn try_from(bytes: &'a [u8]) -> crate::Result<RsaPrivateKeyView<'a>>
         ensures ok { IfOk result (λ view. Means grammar.RsaPrivateKey bytes.now (view_of view)) }
         ensures one { IfOk result (λ view. IsOnlyMeaning grammar.RsaPrivateKey bytes.now (view_of view)) }
@@ -230,7 +230,7 @@ impl<'a> TryFrom<&'a [u8]> for RsaPrivateKeyView<'a> {
 }
 
 impl fmt::Debug for RsaPrivateKeyView<'_> {
-    /// Prints the version, the modulus and the public exponent, and nothing that is secret.
+    /// Prints the version, the modulus and the public exponent, but nothing secret.
     fn fmt<W: fmt::Write>(&self, f: &mut fmt::Formatter<W>) -> fmt::Result {
         self.key.print("RsaPrivateKeyView", f)
     }

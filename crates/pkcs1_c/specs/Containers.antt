@@ -1,4 +1,4 @@
--- What C sees of a container with an RSA key.
+-- What the C struct of a container with an RSA key means.
 use Rattle.std.specs.Prelude.{ℕ, List, [], ◌≡◌, false, Some, None, if◌then◌else◌, ◌⊎◌}
 use Rattle.der_core.specs.declared.error.ErrorKind.{ErrorKind}
 use Rattle.der_core.specs.Document.{Means}
@@ -10,7 +10,7 @@ use Rattle.pkcs8_core.specs.ContainerFaults.{PrivateKeyInfoFault, RsaFault}
 use Rattle.pkcs8_core.specs.Rsa.{rsa_encryption}
 use Rattle.pkcs1_c.specs.declared.container.PrivateKeyInfo.{PrivateKeyInfo}
 
--- The algorithm is rsaEncryption with NULL.
+-- The struct has no algorithm: it is always rsaEncryption with NULL.
 abbrev pub info_seen : PrivateKeyInfo → Info
 info_seen info = record {
   algorithm = rsa_encryption;
@@ -18,19 +18,19 @@ info_seen info = record {
   attributes = if info.has_attributes then Some info.attributes.now else None;
 }
 
--- What stands behind a false `has_attributes` is empty.
+-- If `has_attributes` is false, `attributes` is empty.
 abbrev pub InfoIsTidy : PrivateKeyInfo → Type 0
 InfoIsTidy info = info.has_attributes ≡ false → info.attributes.now ≡ []
 
--- The octets are the text of a private key.
+-- The octets of the struct are an encoding of this private key.
 abbrev pub HoldsKey : PrivateKeyInfo → PrivateKey (List ℕ) → Type 0
 HoldsKey info key = Means RsaPrivateKey info.private_key.now key
 
--- The first fault of octets that are none.
+-- The first fault of octets that don't encode a private key.
 abbrev pub KeyFault : PrivateKeyInfo → ErrorKind → Type 0
 KeyFault info kind = RsaPrivateKeyFault kind info.private_key.now
 
--- The first fault of a text that is to be a container with an RSA key: that of the container, or of what it holds.
+-- The first fault of bytes, as a container with an RSA key: that of the container, or of what it holds.
 abbrev pub RsaContainerFault : List ℕ → ErrorKind → Type 0
 RsaContainerFault text kind =
     PrivateKeyInfoFault kind text ⊎ ((info : Info) × Means container.PrivateKeyInfo text info × RsaFault info kind)

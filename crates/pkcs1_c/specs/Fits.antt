@@ -1,4 +1,4 @@
--- Which parameters a program can give: those that have texts within the limit can be held.
+-- Which parameters of a C struct can be held as Rust values: all that have an encoding within the limit can.
 use Rattle.std.specs.Prelude.{◌≡◌, ◌≤◌, IsTrue, length, Option, Some, None}
 use Rattle.der_core.specs.Length.{limit}
 use Rattle.der_core.specs.Tag.{is_allowed}

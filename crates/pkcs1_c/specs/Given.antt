@@ -1,4 +1,4 @@
--- Private keys of numbers that a caller gives.
+-- Private keys with numbers that the caller passes.
 use Rattle.std.specs.Prelude.{ℕ, List, ◌≡◌, length, map, None}
 use Rattle.pkcs1.specs.Keys as keys
 use Rattle.pkcs1_c.specs.declared.private_key.PrivateKey.{PrivateKey}

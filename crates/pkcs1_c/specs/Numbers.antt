@@ -1,10 +1,11 @@
--- Numbers that a caller gives.
+-- Numbers that the caller passes.
 use Rattle.std.specs.Prelude.{ℕ, List, [], ◌∷◌, ◌≡◌, ◌<◌, length, Option, Some, None, ⊤}
 use Rattle.std.specs.Int.Digits.{number_from_digits}
 use Rattle.der_core.specs.Integer.{IsCanonical}
 use Rattle.pkcs1.specs.Keys.{PublicKey, PrivateKey, OtherPrime}
 
--- The canonical bytes of the number that some bytes have, at least one, most significant first, after any zeros.
+-- The canonical bytes of a number that is passed as one byte or more, most significant first, with leading zeros or
+-- not.
 abbrev pub IsNumberOf : List ℕ → List ℕ → Type 0
 IsNumberOf bytes number = (0 < length bytes) × IsCanonical number × (number_from_digits 256 number ≡ number_from_digits 256 bytes)
 

@@ -1,4 +1,4 @@
--- Numbers of refusals, and their texts.
+-- The number of each error, and the string that describes it.
 use Rattle.std.specs.Prelude.{ℕ, List, [], ◌∷◌, ◌≡◌, codes, get_or}
 use Rattle.der_core.specs.declared.error.ErrorKind.{ErrorKind}
 use Rattle.der_core.specs.declared.error.ErrorKind.TheVariants as kind
@@ -30,11 +30,11 @@ status_of error.Crypto = 18
 status_of error.KeyMalformed = 19
 status_of error.Version = 20
 
--- The number is that of the kind of a fault.
+-- The number is that of a kind of which `Fault` holds.
 abbrev pub IsNumberOfFault : (ErrorKind → Type 0) → ℕ → Type 0
 IsNumberOfFault Fault number = (kind : ErrorKind) × Fault kind × (number ≡ kind_number kind)
 
--- By number.
+-- The strings, by number.
 abbrev pub status_texts : List (List ℕ)
 status_texts =
     codes "no error"

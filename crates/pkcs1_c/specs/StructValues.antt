@@ -1,4 +1,4 @@
--- What C sees in the structs.
+-- What the C structs mean.
 use Rattle.std.specs.Prelude.{ℕ, List, [], ◌≡◌, length, take, map, nat_le, false, Option, Some, None, if◌then◌else◌}
 use Rattle.spki_core.specs.Any.{TagAndContents}
 use Rattle.spki_core.specs.AlgorithmIdentifier as spki
@@ -20,11 +20,11 @@ public_key_seen key = record { modulus = key.modulus.now; public_exponent = key.
 abbrev pub other_prime_seen : OtherPrime → keys.OtherPrime (List ℕ)
 other_prime_seen other = record { prime = other.prime.now; exponent = other.exponent.now; coefficient = other.coefficient.now }
 
--- The first of the other primes, as many as there are places, stand in the array.
+-- The array holds the first of the other primes, as many as fit.
 abbrev pub ArePlaced : List (keys.OtherPrime (List ℕ)) → List OtherPrime → Type 0
 ArePlaced others array = take (length array) others ≡ take (length others) (map other_prime_seen array)
 
--- There are these many other primes, and they are placed.
+-- The count is that of the other primes, and the array holds the first of them, as many as fit.
 abbrev pub AreListed : ℕ → List OtherPrime → Option (List (keys.OtherPrime (List ℕ))) → Type 0
 AreListed count array others = (count ≡ length (listed_others others)) × ArePlaced (listed_others others) array
 
@@ -41,7 +41,7 @@ private_key_seen key others = record {
   other_prime_infos = others;
 }
 
--- The octets of an identifier, the first of those in the array: none where there should be more than it has.
+-- The contents octets of an object identifier: the first `len` of the array, or none if `len` is more than 39.
 abbrev pub oid_seen : Oid → List ℕ
 oid_seen oid = if nat_le oid.len 39 then take oid.len oid.octets else []
 
@@ -51,7 +51,7 @@ algorithm_seen a = record { oid = oid_seen a.oid; parameters = if a.has_paramete
 abbrev pub mask_gen_seen : MaskGen → spki.Algorithm (spki.Algorithm TagAndContents)
 mask_gen_seen m = record { oid = oid_seen m.oid; parameters = if m.has_hash then Some (algorithm_seen m.hash) else None }
 
--- What stands behind a false `has_..` is empty.
+-- If a `has_..` is false, the fields that belong to it are empty.
 abbrev pub AlgorithmIsTidy : Algorithm → Type 0
 AlgorithmIsTidy a = a.has_parameters ≡ false → (a.tag ≡ 0) × (a.parameters.now ≡ [])
 

@@ -1,5 +1,5 @@
--- Why what a program gives isn't written, by status: the first of its parts that can't be held, in the order of the struct;
--- else the text of what it means.
+-- Why a C struct isn't written, by status: the first of its parts that can't be held, in the order of the struct; else
+-- why the value that it means isn't written.
 use Rattle.std.specs.Prelude.{ℕ, List, [], ◌∷◌, ◌++◌, ◌≡◌, ◌≢◌, ◌<◌, ◌≤◌, ◌⊎◌, IsTrue, length, map, false, Option, Some, None}
 use Rattle.der_core.specs.Document.{IsShortest}
 use Rattle.der_core.specs.Length.{limit}
@@ -24,20 +24,20 @@ use Rattle.pkcs1_c.specs.Refusals.{HasNoText}
 use Rattle.pkcs1_c.specs.Status.{IsNumberOfFault}
 use Rattle.pkcs1_c.specs.StructValues.{private_key_seen, other_prime_seen}
 
--- All parts can be held: no text of the value is within the limit, or the shortest has no room.
+-- All parts can be held: the value has no encoding within the limit, or its shortest one is longer than the room.
 abbrev pub TextRefusal : {V : Type 0} → (V → List ℕ → Type 0) → V → ℕ → ℕ → Type 0
 TextRefusal Grammar v room status = ((status ≡ OVERFLOW) × HasNoText Grammar v) ⊎ ((status ≡ NO_ROOM) × (text : List ℕ) × IsShortest Grammar v text × (room < length text))
 
--- The same of a value that may have no text at all.
+-- The same for a value that may have no encoding at all.
 abbrev pub AnyTextRefusal : {V : Type 0} → (V → List ℕ → Type 0) → V → ℕ → ℕ → Type 0
 AnyTextRefusal Grammar v room status =
     ((status ≡ VALUE) × ((text : List ℕ) → Grammar v text → ⊥)) ⊎ TextRefusal Grammar v room status
 
--- A part can't be held; or it can, and what is behind it is refused.
+-- A part can't be held; or it can, and what follows it isn't written.
 abbrev pub PartThen : (ℕ → Type 0) → Type 0 → (ℕ → Type 0) → ℕ → Type 0
 PartThen Refusal Fits Rest status = Refusal status ⊎ (Fits × Rest status)
 
--- Bytes that are to be a number: there is none, or the number passes the limit.
+-- Bytes that aren't accepted as a number: there are none, or the number is longer than the limit.
 abbrev pub NumberRefusal : List ℕ → ℕ → Type 0
 NumberRefusal bytes status =
     ((status ≡ LENGTH) × (length bytes ≡ 0)) ⊎ ((status ≡ OVERFLOW) × (0 < length bytes) × ((n : List ℕ) → IsNumberOf bytes n → limit < length n))
@@ -45,7 +45,7 @@ NumberRefusal bytes status =
 abbrev pub NumberFits : List ℕ → Type 0
 NumberFits bytes = (n : List ℕ) × IsNumberOf bytes n × (length n ≤ limit)
 
--- Numbers in their order, and what is behind them.
+-- One of the numbers, in order, can't be held; or what follows them isn't written.
 abbrev pub NumbersThen : List (List ℕ) → (ℕ → Type 0) → ℕ → Type 0
 NumbersThen [] Rest status = Rest status
 NumbersThen (bytes ∷ more) Rest status = PartThen (NumberRefusal bytes) (NumberFits bytes) (NumbersThen more Rest) status
@@ -53,7 +53,7 @@ NumbersThen (bytes ∷ more) Rest status = PartThen (NumberRefusal bytes) (Numbe
 abbrev pub two_numbers : keys.PublicKey (List ℕ) → List (List ℕ)
 two_numbers key = key.modulus ∷ key.public_exponent ∷ []
 
--- The text of the key of these numbers.
+-- The key with these numbers isn't written.
 abbrev pub PublicTextRefusal : keys.PublicKey (List ℕ) → ℕ → ℕ → Type 0
 PublicTextRefusal given room status =
     (made : keys.PublicKey (List ℕ)) × ArePublicNumbers made given × TextRefusal keys.RsaPublicKey made room status
@@ -73,27 +73,28 @@ abbrev pub PrivateTextRefusal : PrivateKey → List OtherPrime → ℕ → ℕ �
 PrivateTextRefusal key others room status =
     (made : keys.PrivateKey (List ℕ)) × IsGiven key others made × TextRefusal keys.RsaPrivateKey made room status
 
--- The other primes aren't as many as the key says; or one of the numbers, or the text. Want of memory aside.
+-- There aren't as many other primes as the key says; or one of the numbers can't be held; or the key isn't written. Out
+-- of memory is left out here.
 abbrev pub PrivateKeyRefusal : PrivateKey → List OtherPrime → ℕ → ℕ → Type 0
 PrivateKeyRefusal key others room =
     PartThen (λ status. (status ≡ OTHER_PRIMES) × (key.other_primes ≢ length others)) (key.other_primes ≡ length others)
     (NumbersThen (eight_numbers key) (NumbersThen (others_numbers (map other_prime_seen others)) (PrivateTextRefusal key others room)))
 
--- Memory may be wanted for other primes, once the eight numbers can be held.
+-- Memory may be needed for other primes, once the eight numbers can be held.
 abbrev pub MayWantMemory : PrivateKey → List OtherPrime → Type 0
 MayWantMemory key others = (0 < length others) × AllHave NumberFits (eight_numbers key)
 
--- The octets are no private key, by the first fault; or the text of the container.
+-- The octets don't encode a private key (the status is that of their first fault); or the container isn't written.
 abbrev pub InfoRefusal : PrivateKeyInfo → ℕ → ℕ → Type 0
 InfoRefusal info room =
     PartThen (IsNumberOfFault (KeyFault info)) ((key : keys.PrivateKey (List ℕ)) × HoldsKey info key)
     (TextRefusal container.PrivateKeyInfo (info_seen info) room)
 
--- Octets that are to be an identifier.
+-- Octets that are no object identifier.
 abbrev pub OidRefusal : List ℕ → ℕ → Type 0
 OidRefusal oid status = (status ≡ OID_MALFORMED) × (IsIdentifier oid → ⊥)
 
--- Parameters of an algorithm: the tag octet, or the contents are past the limit.
+-- Parameters that can't be held: the tag octet isn't allowed, or the contents are longer than the limit.
 abbrev pub AnyRefusal : TagAndContents → ℕ → Type 0
 AnyRefusal v status =
     ((status ≡ TAG_UNKNOWN) × (is_allowed v.tag ≡ false)) ⊎ ((status ≡ OVERFLOW) × IsTrue (is_allowed v.tag) × (limit < length v.contents))
@@ -111,7 +112,7 @@ PlainRefusal = AlgorithmRefusal AnyRefusal
 abbrev pub MaskRefusal : Algorithm (Algorithm TagAndContents) → ℕ → Type 0
 MaskRefusal = AlgorithmRefusal PlainRefusal
 
--- The fields that both sets of parameters begin with, and what is behind them.
+-- One of the fields that both types of parameters begin with can't be held; or what follows them isn't written.
 abbrev pub HashFieldsThen : Algorithm TagAndContents → Algorithm (Algorithm TagAndContents) → (ℕ → Type 0) → ℕ → Type 0
 HashFieldsThen hash mask_gen Rest =
     PartThen (PlainRefusal hash) (PlainFits hash) (PartThen (MaskRefusal mask_gen) (MaskFits mask_gen) Rest)
@@ -129,6 +130,6 @@ OaepThen p Rest = HashFieldsThen p.hash p.mask_gen (PartThen (PlainRefusal p.p_s
 abbrev pub OaepRefusal : OaepParameters → ℕ → ℕ → Type 0
 OaepRefusal p room = OaepThen p (TextRefusal RsaOaepParams p room)
 
--- Nothing is behind the parts.
+-- Nothing follows the parts.
 abbrev pub Nothing : ℕ → Type 0
 Nothing status = ⊥

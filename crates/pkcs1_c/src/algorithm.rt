@@ -9,7 +9,7 @@ ghost use Rattle.pkcs1_c.specs.Unwritten.{OidRefusal, PlainRefusal, MaskRefusal}
 use der_core::{Error, ErrorKind, Result, Tag};
 use spki_core::{AlgorithmIdentifier, AlgorithmIdentifierRef, AnyRef, ObjectIdentifier};
 
-/// An object identifier, by its contents octets: the first `len`.
+/// The contents octets of an object identifier: the first `len` of `octets`.
 #[repr(C)]
 #[derive(Clone, Copy, Drop)]
 pub struct Oid {
@@ -19,13 +19,13 @@ pub struct Oid {
     pub len: u8,
 }
 
-/// An algorithm, and parameters that are there or not.
+/// An AlgorithmIdentifier (RFC 5280 4.1.1.2).
 #[repr(C)]
 #[derive(Clone, Copy, Drop)]
 pub struct Algorithm<'a> {
-    /// Which algorithm it is.
+    /// The object identifier of the algorithm.
     pub oid: Oid,
-    /// Whether parameters are there.
+    /// Whether there are parameters.
     pub has_parameters: bool,
     /// The tag octet of the parameters.
     pub tag: u8,
@@ -37,15 +37,15 @@ pub struct Algorithm<'a> {
 #[repr(C)]
 #[derive(Clone, Copy, Drop)]
 pub struct MaskGen<'a> {
-    /// Which function it is.
+    /// The object identifier of the function.
     pub oid: Oid,
-    /// Whether the hash function under it is there.
+    /// Whether its parameters are there: a hash function.
     pub has_hash: bool,
-    /// The hash function under it.
+    /// The hash function that it uses.
     pub hash: Algorithm<'a>,
 }
 
-/// The identifier, as C sees it.
+/// The C struct of an object identifier.
 fn to_c_oid(oid: &ObjectIdentifier) -> Oid
     ensures { oid_seen result ≡ octets_of oid.now }
 {
@@ -58,7 +58,7 @@ fn to_c_oid(oid: &ObjectIdentifier) -> Oid
     }
 }
 
-/// The algorithm, as C sees it.
+/// The C struct of an algorithm.
 pub(crate) fn to_c_algorithm<'a>(algorithm: &AlgorithmIdentifierRef<'a>) -> Algorithm<'a>
     ensures seen { algorithm_seen result ≡ algorithm_of algorithm.now }
     ensures tidy { AlgorithmIsTidy result }
@@ -80,7 +80,7 @@ pub(crate) fn to_c_algorithm<'a>(algorithm: &AlgorithmIdentifierRef<'a>) -> Algo
     }
 }
 
-/// The mask generation function, as C sees it.
+/// The C struct of a mask generation function.
 pub(crate) fn to_c_mask_gen<'a>(
     mask_gen: &AlgorithmIdentifier<AlgorithmIdentifierRef<'a>>,
 ) -> MaskGen<'a>
@@ -110,7 +110,7 @@ pub(crate) fn to_c_mask_gen<'a>(
     }
 }
 
-/// The identifier that C gives, or `OidMalformed`.
+/// The object identifier of a C struct, or `OidMalformed`.
 fn from_c_oid(oid: &Oid) -> Result<ObjectIdentifier>
     ensures ok { IfOk result (λ made. octets_of made ≡ oid_seen oid.now) }
     ensures err { IfErr result (λ e. OidRefusal (oid_seen oid.now) (kind_number e.kind)) }
@@ -121,7 +121,7 @@ fn from_c_oid(oid: &Oid) -> Result<ObjectIdentifier>
     ObjectIdentifier::from_bytes(&oid.octets[..oid.len as usize])
 }
 
-/// The algorithm that C gives.
+/// The algorithm of a C struct.
 pub(crate) fn from_c_algorithm<'a>(algorithm: &Algorithm<'a>) -> Result<AlgorithmIdentifierRef<'a>>
     ensures ok { IfOk result (λ made. algorithm_of made ≡ algorithm_seen algorithm.now) }
     ensures err { IfErr result (λ e. PlainRefusal (algorithm_seen algorithm.now) (kind_number e.kind)) }
@@ -136,7 +136,7 @@ pub(crate) fn from_c_algorithm<'a>(algorithm: &Algorithm<'a>) -> Result<Algorith
     Ok(AlgorithmIdentifier { oid, parameters })
 }
 
-/// The mask generation function that C gives.
+/// The mask generation function of a C struct.
 pub(crate) fn from_c_mask_gen<'a>(
     mask_gen: &MaskGen<'a>,
 ) -> Result<AlgorithmIdentifier<AlgorithmIdentifierRef<'a>>>

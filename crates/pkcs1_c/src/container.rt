@@ -25,15 +25,15 @@ use pkcs8_core::PrivateKeyInfoRef;
 #[repr(C)]
 #[derive(Clone, Copy, Drop)]
 pub struct PrivateKeyInfo<'a> {
-    /// The private key's text.
+    /// The DER encoding of the private key.
     pub private_key: &'a [u8],
-    /// Whether attributes are there.
+    /// Whether there are attributes.
     pub has_attributes: bool,
-    /// Their contents octets, which aren't looked at.
+    /// Their contents octets, which aren't checked.
     pub attributes: &'a [u8],
 }
 
-/// Reads a container and the RSA key in it.
+/// Decodes a container and the RSA key in it.
 fn read_container<'a>(
     text: &'a [u8],
 ) -> pkcs1::Result<(PrivateKeyInfoRef<'a>, RsaPrivateKeyView<'a>)>
@@ -54,7 +54,7 @@ fn read_container<'a>(
     Ok((info, view))
 }
 
-/// The container of an RSA key, as C sees it.
+/// The C struct of a container of an RSA key.
 fn to_c_info<'a>(info: &PrivateKeyInfoRef<'a>) -> PrivateKeyInfo<'a>
     ensures seen { (info_of info.now).algorithm ≡ rsa_encryption → info_seen result ≡ info_of info.now }
     ensures tidy { InfoIsTidy result }
@@ -74,8 +74,9 @@ fn to_c_info<'a>(info: &PrivateKeyInfoRef<'a>) -> PrivateKeyInfo<'a>
     }
 }
 
-/// Reads a container, without memory: 0 where the text is one, its algorithm is rsaEncryption with NULL, and its octets
-/// are a private key's text; and then that key's numbers, as `pkcs1_c_private_key_decode`.
+/// Decodes a container whose algorithm is rsaEncryption with NULL, and the private key in it; allocates nothing.
+/// Returns 0, fills `info` with parts of `text`, and `key` and `others` as `pkcs1_c_private_key_decode` does; or
+/// returns the status of the first fault.
 #[unsafe(no_mangle)]
 pub extern "C" fn pkcs1_c_private_key_info_decode<'a>(
     text: &'a [u8],
@@ -108,7 +109,7 @@ pub extern "C" fn pkcs1_c_private_key_info_decode<'a>(
     }
 }
 
-/// The container that C gives. Its octets must be a private key's text.
+/// The container of a C struct. Its `private_key` must be the encoding of a private key.
 fn from_c_info<'a>(info: &PrivateKeyInfo<'a>) -> pkcs1::Result<PrivateKeyInfoRef<'a>>
     ensures ok { IfOk result (λ made. info_of made ≡ info_seen info.now) }
     ensures key { IfOk result (λ made. (key : Key (List ℕ)) × HoldsKey info.now key) }
@@ -132,8 +133,8 @@ fn from_c_info<'a>(info: &PrivateKeyInfo<'a>) -> pkcs1::Result<PrivateKeyInfoRef
     Ok(made)
 }
 
-/// Writes a container: 0, and then the length of its text in `len`. Where the text has no room, `len` is the length that
-/// it needs.
+/// Writes the encoding of a container, whose `private_key` must be the encoding of a private key, to the front of
+/// `out`. Returns 0, with its length in `len`, or `NO_ROOM`, with the needed length in `len`, or another status.
 #[unsafe(no_mangle)]
 pub extern "C" fn pkcs1_c_private_key_info_encode(
     info: &PrivateKeyInfo<'_>,

@@ -1,4 +1,5 @@
-//! Keys and parameters of PKCS #1 for programs in C: `ffi/include/pkcs1.h` declares what is exported here.
+//! Keys and parameters of PKCS #1 for C: the calls that `ffi/include/pkcs1_c.h` declares, with the structs and statuses
+//! of `ffi/include/pkcs1.h`.
 #![tactic(auto)]
 
 mod algorithm;

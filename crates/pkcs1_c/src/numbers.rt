@@ -1,4 +1,4 @@
-//! Numbers that a caller gives.
+//! Numbers that the caller passes.
 ghost use Rattle.std.specs.Prelude.{IfOk, IfErr};
 ghost use Rattle.der_core.specs.UintRefValue.{bytes_of};
 ghost use Rattle.pkcs1_c.specs.Numbers.{IsNumberOf};
@@ -7,7 +7,8 @@ ghost use Rattle.pkcs1_c.specs.Unwritten.{NumberRefusal};
 
 use pkcs1::UintRef;
 
-/// The number of these bytes: `Length` where there is none, `Overflow` where the number passes the limit.
+/// The number with these bytes. Returns `Length` if there are no bytes, `Overflow` if the number is longer than the
+/// limit.
 pub(crate) fn number<'a>(bytes: &'a [u8]) -> pkcs1::Result<UintRef<'a>>
     ensures ok { IfOk result (λ n. IsNumberOf bytes.now (bytes_of n)) }
     ensures err { IfErr result (λ e. NumberRefusal bytes.now (status_of e)) }

@@ -31,7 +31,7 @@ pub struct OaepParams<'a> {
     pub p_source: Algorithm<'a>,
 }
 
-/// The parameters, as C sees them.
+/// The C struct of parameters.
 fn to_c_oaep<'a>(read: &RsaOaepParamsRef<'a>) -> OaepParams<'a>
     ensures seen { oaep_seen result ≡ oaep_of read.now }
     ensures tidy { OaepIsTidy result }
@@ -43,7 +43,7 @@ fn to_c_oaep<'a>(read: &RsaOaepParamsRef<'a>) -> OaepParams<'a>
     }
 }
 
-/// The parameters that C gives.
+/// The parameters of a C struct.
 fn from_c_oaep<'a>(params: &OaepParams<'a>) -> pkcs1::Result<RsaOaepParamsRef<'a>>
     ensures ok { IfOk result (λ made. oaep_of made ≡ oaep_seen params.now) }
     ensures err { IfErr result (λ e. OaepThen (oaep_seen params.now) Nothing (status_of e)) }
@@ -55,7 +55,8 @@ fn from_c_oaep<'a>(params: &OaepParams<'a>) -> pkcs1::Result<RsaOaepParamsRef<'a
     })
 }
 
-/// Reads parameters of RSAES-OAEP: 0 where the text is one of those.
+/// Decodes parameters of RSAES-OAEP. Returns 0 and fills `params` with parts of `text` and of static defaults, or
+/// returns the status of the first fault.
 #[unsafe(no_mangle)]
 pub extern "C" fn pkcs1_c_oaep_params_decode<'a>(text: &'a [u8], params: &mut OaepParams<'a>) -> u32
     ensures ok { result ≡ OK → Means grammar.RsaOaepParams text.now (oaep_seen params.new) }
@@ -77,8 +78,8 @@ pub extern "C" fn pkcs1_c_oaep_params_decode<'a>(text: &'a [u8], params: &mut Oa
     }
 }
 
-/// Reads parameters of RSAES-OAEP, as `pkcs1_c_oaep_params_decode`: 0 only where the text is the shortest one. A default that
-/// is written is refused by 5.
+/// Decodes parameters of RSAES-OAEP as `pkcs1_c_oaep_params_decode` does, but only from their shortest encoding: one
+/// with a default that is written out is rejected with status 5.
 #[unsafe(no_mangle)]
 pub extern "C" fn pkcs1_c_oaep_params_decode_strict<'a>(
     text: &'a [u8],
@@ -108,8 +109,8 @@ pub extern "C" fn pkcs1_c_oaep_params_decode_strict<'a>(
     }
 }
 
-/// Writes the shortest text of parameters of RSAES-OAEP: 0, and then its length in `len`. Where it has no room, `len` is the length
-/// that it needs.
+/// Writes the shortest encoding of parameters of RSAES-OAEP to the front of `out`. Returns 0, with its length in `len`,
+/// or `NO_ROOM`, with the needed length in `len`, or another status.
 #[unsafe(no_mangle)]
 pub extern "C" fn pkcs1_c_oaep_params_encode(
     params: &OaepParams<'_>,

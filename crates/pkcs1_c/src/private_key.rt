@@ -47,11 +47,11 @@ pub struct PrivateKey<'a> {
     pub exponent2: &'a [u8],
     /// The coefficient.
     pub coefficient: &'a [u8],
-    /// How many primes there are past the first two.
+    /// How many primes there are after the first two.
     pub other_primes: usize,
 }
 
-/// A prime past the first two.
+/// A prime after the first two.
 #[repr(C)]
 #[derive(Clone, Copy, Drop)]
 pub struct OtherPrime<'a> {
@@ -63,7 +63,7 @@ pub struct OtherPrime<'a> {
     pub coefficient: &'a [u8],
 }
 
-/// The prime, as C sees it.
+/// The C struct of a prime.
 fn to_c_other_prime<'a>(info: &OtherPrimeInfo<UintRef<'a>>) -> OtherPrime<'a>
     ensures { other_prime_seen result ≡ other_of bytes_of info.now }
 {
@@ -74,7 +74,7 @@ fn to_c_other_prime<'a>(info: &OtherPrimeInfo<UintRef<'a>>) -> OtherPrime<'a>
     }
 }
 
-/// Places as many of the other primes as there is room for.
+/// Puts the first other primes into `others`, as many as fit.
 fn place_others<'a>(primes: OtherPrimes<'a>, others: &mut [OtherPrime<'a>])
     ensures placed { ArePlaced (others_left primes.entry) others.new }
     ensures rest { let count = length (others_left primes.entry) in drop count others.new ≡ drop count others.old }
@@ -88,7 +88,7 @@ fn place_others<'a>(primes: OtherPrimes<'a>, others: &mut [OtherPrime<'a>])
     }
 }
 
-/// The key, as C sees it. Its other primes are placed.
+/// The C struct of a key. Puts its first other primes into `others`, as many as fit.
 #[inline(always)]
 pub(crate) fn to_c_key<'a>(
     view: &RsaPrivateKeyView<'a>,
@@ -114,8 +114,8 @@ pub(crate) fn to_c_key<'a>(
     }
 }
 
-/// Reads a private key, without memory: 0 where the text is one, and then its numbers, which stay in the text. As many of
-/// its other primes as `others` has room for are placed there.
+/// Decodes a private key, and allocates nothing. Returns 0, fills `key` with parts of `text`, and puts its first other
+/// primes into `others`, as many as fit; or returns the status of the first fault.
 #[unsafe(no_mangle)]
 pub extern "C" fn pkcs1_c_private_key_decode<'a>(
     text: &'a [u8],
@@ -144,7 +144,7 @@ pub extern "C" fn pkcs1_c_private_key_decode<'a>(
     }
 }
 
-/// The prime of these numbers.
+/// The prime with these numbers.
 fn from_c_other_prime<'a>(other: &OtherPrime<'a>) -> pkcs1::Result<OtherPrimeInfo<UintRef<'a>>>
     ensures ok { IfOk result (λ info. IsOtherOf (other_prime_seen other.now) (other_of bytes_of info)) }
     ensures err { let numbers = other_numbers (other_prime_seen other.now) in
@@ -171,7 +171,7 @@ fn push_other<'a>(
     }
 }
 
-/// The other primes of these numbers.
+/// The list of other primes with these numbers, or `None` if there are none.
 fn from_c_other_primes<'a>(
     alloc: Global,
     others: &[OtherPrime<'a>],
@@ -192,7 +192,7 @@ fn from_c_other_primes<'a>(
     Ok(Some(infos))
 }
 
-/// The key of these numbers.
+/// The key with these numbers.
 fn from_c_key<'a>(
     alloc: Global,
     key: &PrivateKey<'a>,
@@ -217,8 +217,9 @@ fn from_c_key<'a>(
     })
 }
 
-/// Writes a private key: 0, and then the length of its text in `len`. Where the text has no room, `len` is the length that
-/// it needs. Memory is taken, and given back, only where there are other primes.
+/// Writes the encoding of a private key to the front of `out`. Returns 0, with its length in `len`, or `NO_ROOM`, with
+/// the needed length in `len`, or another status. Memory is allocated only for other primes, and freed before the call
+/// returns.
 #[unsafe(no_mangle)]
 pub extern "C" fn pkcs1_c_private_key_encode(
     alloc: Global,

@@ -34,7 +34,7 @@ pub struct PssParams<'a> {
     pub trailer_field: u8,
 }
 
-/// The parameters, as C sees them.
+/// The C struct of parameters.
 fn to_c_pss<'a>(read: &RsaPssParamsRef<'a>) -> PssParams<'a>
     ensures seen { pss_seen result ≡ pss_of read.now }
     ensures tidy { PssIsTidy result }
@@ -47,7 +47,7 @@ fn to_c_pss<'a>(read: &RsaPssParamsRef<'a>) -> PssParams<'a>
     }
 }
 
-/// The parameters that C gives.
+/// The parameters of a C struct.
 fn from_c_pss<'a>(params: &PssParams<'a>) -> pkcs1::Result<RsaPssParamsRef<'a>>
     ensures ok { IfOk result (λ made. pss_of made ≡ pss_seen params.now) }
     ensures small { IfOk result (λ made. made.salt_len < 256) }
@@ -67,7 +67,8 @@ fn from_c_pss<'a>(params: &PssParams<'a>) -> pkcs1::Result<RsaPssParamsRef<'a>>
     })
 }
 
-/// Reads parameters of RSASSA-PSS: 0 where the text is one of those.
+/// Decodes parameters of RSASSA-PSS. Returns 0 and fills `params` with parts of `text` and of static defaults, or
+/// returns the status of the first fault.
 #[unsafe(no_mangle)]
 pub extern "C" fn pkcs1_c_pss_params_decode<'a>(text: &'a [u8], params: &mut PssParams<'a>) -> u32
     ensures ok { result ≡ OK → Means grammar.RsaPssParams text.now (pss_seen params.new) }
@@ -89,8 +90,8 @@ pub extern "C" fn pkcs1_c_pss_params_decode<'a>(text: &'a [u8], params: &mut Pss
     }
 }
 
-/// Reads parameters of RSASSA-PSS, as `pkcs1_c_pss_params_decode`: 0 only where the text is the shortest one. A default that
-/// is written is refused by 5.
+/// Decodes parameters of RSASSA-PSS as `pkcs1_c_pss_params_decode` does, but only from their shortest encoding: one
+/// with a default that is written out is rejected with status 5.
 #[unsafe(no_mangle)]
 pub extern "C" fn pkcs1_c_pss_params_decode_strict<'a>(
     text: &'a [u8],
@@ -120,8 +121,8 @@ pub extern "C" fn pkcs1_c_pss_params_decode_strict<'a>(
     }
 }
 
-/// Writes the shortest text of parameters of RSASSA-PSS: 0, and then its length in `len`. Where it has no room, `len` is the length
-/// that it needs.
+/// Writes the shortest encoding of parameters of RSASSA-PSS to the front of `out`. Returns 0, with its length in `len`,
+/// or `NO_ROOM`, with the needed length in `len`, or another status.
 #[unsafe(no_mangle)]
 pub extern "C" fn pkcs1_c_pss_params_encode(
     params: &PssParams<'_>,

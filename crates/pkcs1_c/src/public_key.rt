@@ -27,7 +27,7 @@ pub struct PublicKey<'a> {
     pub public_exponent: &'a [u8],
 }
 
-/// Reads a public key: 0 where the text is one, and then its numbers, which stay in the text.
+/// Decodes a public key. Returns 0 and fills `key` with parts of `text`, or returns the status of the first fault.
 #[unsafe(no_mangle)]
 pub extern "C" fn pkcs1_c_public_key_decode<'a>(text: &'a [u8], key: &mut PublicKey<'a>) -> u32
     ensures ok { result ≡ OK → Means grammar.RsaPublicKey text.now (public_key_seen key.new) }
@@ -50,7 +50,7 @@ pub extern "C" fn pkcs1_c_public_key_decode<'a>(text: &'a [u8], key: &mut Public
     }
 }
 
-/// The key of these numbers.
+/// The key with these numbers.
 fn from_c_key<'a>(key: &PublicKey<'a>) -> pkcs1::Result<RsaPublicKeyRef<'a>>
     ensures ok { IfOk result (λ made. ArePublicNumbers (public_key_of made) (public_key_seen key.now)) }
     ensures err { let numbers = two_numbers (public_key_seen key.now) in
@@ -62,8 +62,8 @@ fn from_c_key<'a>(key: &PublicKey<'a>) -> pkcs1::Result<RsaPublicKeyRef<'a>>
     })
 }
 
-/// Writes a public key: 0, and then the length of its text in `len`. Where the text has no room, `len` is the length that
-/// it needs.
+/// Writes the encoding of a public key to the front of `out`. Returns 0, with its length in `len`, or `NO_ROOM`, with
+/// the needed length in `len`, or another status.
 #[unsafe(no_mangle)]
 pub extern "C" fn pkcs1_c_public_key_encode(
     key: &PublicKey<'_>,

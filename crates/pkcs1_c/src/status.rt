@@ -1,15 +1,15 @@
-//! What a call answers: 0, or the number of a refusal.
+//! The statuses that calls return: 0, or the number of an error.
 ghost use Rattle.std.specs.Prelude.{◌≡◌, ◌++◌, ◌∷◌, [], codes};
 ghost use Rattle.pkcs1_c.specs.Status.{kind_number, status_of, status_text};
 
 use der_core::ErrorKind;
 use pkcs1::Error;
 
-/// The call did what it says.
+/// The call succeeded.
 pub(crate) const OK: u32 = 0;
-/// The reader has refused before: not answered here.
+/// An earlier read failed: not returned by these calls.
 pub(crate) const FAILED: u32 = 1;
-/// The text ends too early.
+/// The input ends too early.
 pub(crate) const INCOMPLETE: u32 = 2;
 /// A length is indefinite.
 pub(crate) const INDEFINITE_LENGTH: u32 = 3;
@@ -17,11 +17,11 @@ pub(crate) const INDEFINITE_LENGTH: u32 = 3;
 pub(crate) const LENGTH: u32 = 4;
 /// A number isn't in shortest form, or a default is written.
 pub(crate) const NONCANONICAL: u32 = 5;
-/// An identifier isn't one.
+/// An object identifier is malformed.
 pub(crate) const OID_MALFORMED: u32 = 6;
-/// The identifier is another than that of RSA.
+/// The algorithm isn't rsaEncryption.
 pub(crate) const OID_UNKNOWN: u32 = 7;
-/// A length passes the limit.
+/// A length is above the limit.
 pub(crate) const OVERFLOW: u32 = 8;
 /// A length isn't in shortest form.
 pub(crate) const OVERLENGTH: u32 = 9;
@@ -35,16 +35,16 @@ pub(crate) const TAG_UNKNOWN: u32 = 12;
 pub(crate) const TRAILING_DATA: u32 = 13;
 /// A value isn't allowed.
 pub(crate) const VALUE: u32 = 14;
-/// The text has no room.
+/// The encoding is longer than the output.
 pub(crate) const NO_ROOM: u32 = 15;
-/// A read or a write failed: not answered here.
+/// A read or a write failed: not returned by these calls.
 pub(crate) const FILE: u32 = 16;
-/// No memory was found.
+/// Out of memory.
 pub(crate) const OUT_OF_MEMORY: u32 = 17;
-/// The other primes aren't as many as the key says.
+/// There aren't as many other primes as the key says.
 pub(crate) const OTHER_PRIMES: u32 = 21;
 
-/// The number of a kind.
+/// The status of an error kind.
 pub(crate) fn kind_number(kind: &ErrorKind) -> u32
     ensures { result ≡ kind_number kind.now }
 {
@@ -69,7 +69,7 @@ pub(crate) fn kind_number(kind: &ErrorKind) -> u32
     }
 }
 
-/// The number of a refusal.
+/// The status of an error.
 pub(crate) fn status(error: &Error) -> u32
     ensures { result ≡ status_of error.now }
 {
@@ -81,15 +81,15 @@ pub(crate) fn status(error: &Error) -> u32
     }
 }
 
-/// A text that ends with a zero octet.
+/// A C string: octets that end with a zero.
 #[repr(C)]
 #[derive(Clone, Copy, Drop)]
 pub struct Text<'a> {
-    /// Its octets, the zero among them.
+    /// The octets, including the zero.
     pub octets: &'a [u8],
 }
 
-/// The text of a status.
+/// The C string that describes a status.
 fn status_octets(status: u32) -> &'static [u8]
     ensures { result.now ≡ status_text status ++ 0 ∷ [] }
 {
@@ -117,7 +117,7 @@ fn status_octets(status: u32) -> &'static [u8]
     }
 }
 
-/// The text of a status.
+/// The C string that describes a status.
 #[unsafe(no_mangle)]
 pub extern "C" fn pkcs1_c_status_text(status: u32, text: &mut Text<'static>)
     ensures { text.new.octets.now ≡ status_text status ++ 0 ∷ [] }
@@ -125,7 +125,7 @@ pub extern "C" fn pkcs1_c_status_text(status: u32, text: &mut Text<'static>)
     text.octets = status_octets(status);
 }
 
-/// The version of the library.
+/// The version of the library, as a C string.
 #[unsafe(no_mangle)]
 pub extern "C" fn pkcs1_c_version(text: &mut Text<'static>)
     ensures { text.new.octets.now ≡ codes "0.8.0" ++ 0 ∷ [] }

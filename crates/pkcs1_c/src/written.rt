@@ -1,4 +1,4 @@
-//! Writing into a caller's slice.
+//! Encoding into a caller's slice.
 ghost use Rattle.std.specs.Prelude.{◌≡◌, ◌≢◌, ◌≤◌, length, take, drop};
 ghost use Rattle.der_core.specs.Document.{IsShortest};
 ghost use Rattle.pkcs1_c.specs.Refusals.{LacksRoom};
@@ -7,8 +7,8 @@ ghost use Rattle.pkcs1_c.specs.Unwritten.{AnyTextRefusal};
 use crate::status::{NO_ROOM, OK, kind_number};
 use der_core::Encode;
 
-/// Writes the shortest text of the value: 0, and then its length in `len`. Where the text has no room, `len` is the length
-/// that it needs.
+/// Writes the shortest encoding of the value to the front of `out`. Returns 0, with its length in `len`, or `NO_ROOM`,
+/// with the needed length in `len`, or another status, with `len` unchanged.
 pub(crate) fn write_text<T: Encode>(value: &T, out: &mut [u8], len: &mut usize) -> u32
     ensures ok { result ≡ OK → IsShortest T.text (T.value value.now) (take len.new out.new) }
     ensures rest { result ≡ OK → (len.new ≤ length out.new) × (drop len.new out.new ≡ drop len.new out.old) }

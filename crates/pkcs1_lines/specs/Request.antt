@@ -31,7 +31,7 @@ words =
 abbrev pub pair_words : List (List ℕ × PairWord)
 pair_words = (codes "same-pss", pair.SamePss) ∷ (codes "same-oaep", pair.SameOaep) ∷ []
 
--- a word with the texts that its HEX parts stand for, or a line of no known form
+-- a word with the bytes of its HEX parts, or a line of another form
 pub data Asked : Type 0 where
   bad_line : Asked
   asks : Word → List ℕ → Asked
@@ -41,11 +41,11 @@ abbrev pub decoded : Result (List ℕ) FromHexError → Option (List ℕ)
 decoded (Ok text) = Some text
 decoded (Err e) = None
 
--- the text that an even number of digits, of either case, stands for
+-- the bytes of an even number of hexadecimal digits, of either case
 abbrev pub text_of : List ℕ → Option (List ℕ)
 text_of hex = decoded (decode_of hex)
 
--- what stands beside the name in a list
+-- the value beside the name in a list
 abbrev pub named : {W : Type 0} → List (List ℕ × W) → List ℕ → Option W
 named rows name = option_map (λ row. row.1) (find (λ row. bytes_eq row.0 name) rows)
 

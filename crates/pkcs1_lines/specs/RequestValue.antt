@@ -1,4 +1,4 @@
--- A request with the texts that lie beside it.
+-- A request, with the buffers that hold the bytes of its HEX parts.
 use Rattle.std.specs.Prelude.{ℕ, List}
 use Rattle.pkcs1_lines.specs.declared.request.Request.{Request}
 use Rattle.pkcs1_lines.specs.declared.request.Request.TheVariants.{BadLine, Word, Pair}

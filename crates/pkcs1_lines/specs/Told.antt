@@ -1,4 +1,4 @@
--- What is told of keys and parameters.
+-- The output for keys and parameters.
 use Rattle.std.specs.Prelude.{ℕ, List, [], ◌∷◌, ◌++◌, Option, Some, None, length, codes}
 use Rattle.std.specs.List.{flat_map}
 use Rattle.std.specs.Fmt.{decimal}
@@ -20,7 +20,7 @@ abbrev pub pub_answer : PublicKey (List ℕ) → List ℕ → List ℕ
 pub_answer key again =
     codes "pub" ++ (fields ((codes " n=", key.modulus) ∷ (codes " e=", key.public_exponent) ∷ []) ++ field (codes " again=") again)
 
--- the version is 1 where there are other primes
+-- the version is 1 if there are other primes
 abbrev pub version_told : Option (List (OtherPrime (List ℕ))) → List ℕ
 version_told None = codes " version=0"
 version_told (Some others) = codes " version=1"
@@ -73,7 +73,7 @@ number_field label number = label ++ decimal number
 abbrev pub any_told : TagAndContents → List ℕ
 any_told any = encode_lower (any.tag ∷ []) ++ field (codes ":") any.contents
 
--- `-` where parameters are absent, else what is told of them
+-- `-` if parameters are absent, else what `told` says of them
 abbrev pub parameters_told : {P : Type 0} → (P → List ℕ) → Option P → List ℕ
 parameters_told told None = codes "-"
 parameters_told told (Some parameters) = told parameters
@@ -85,7 +85,7 @@ identifier_told oid = encode_lower oid ++ codes "/"
 abbrev pub algorithm_told : {P : Type 0} → (P → List ℕ) → Algorithm P → List ℕ
 algorithm_told told algorithm = identifier_told algorithm.oid ++ parameters_told told algorithm.parameters
 
--- ALG: an algorithm whose parameters are any text
+-- ALG: an algorithm with parameters of any type
 abbrev pub plain_told : Algorithm TagAndContents → List ℕ
 plain_told algorithm = algorithm_told any_told algorithm
 
@@ -105,14 +105,14 @@ hash_fields_told hash mask_gen = codes " hash=" ++ (plain_told hash ++ (codes " 
 abbrev pub spelling_told : ℕ → List ℕ → List ℕ
 spelling_told k again = number_field (codes " defaults=") k ++ field (codes " again=") again
 
--- `pss hash=ALG mask=MASK salt=S trailer=T defaults=K again=HEX`; T is 1 wherever there is a text
+-- `pss hash=ALG mask=MASK salt=S trailer=T defaults=K again=HEX`; T is 1 for all parameters that have an encoding
 abbrev pub pss_answer : PssParameters → ℕ → List ℕ → List ℕ
 pss_answer p k again =
     codes "pss"
     ++ (hash_fields_told p.hash p.mask_gen
     ++ (number_field (codes " salt=") p.salt_len ++ (number_field (codes " trailer=") p.trailer_field ++ spelling_told k again)))
 
--- the word, how many texts there are, and each text
+-- the word, the number of encodings, and each of them
 abbrev pub spell_answer : List ℕ → List (List ℕ) → List ℕ
 spell_answer word texts = word ++ (number_field (codes " ") (length texts) ++ flat_map (λ text. field (codes " ") text) texts)
 

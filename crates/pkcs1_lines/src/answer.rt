@@ -1,4 +1,4 @@
-//! The answer of a line.
+//! The output for a line.
 ghost use Rattle.std.specs.Prelude.{OnOk};
 ghost use Rattle.pkcs1_lines.specs.Answer.{WordAnswer, PairAnswer};
 ghost use Rattle.pkcs1_lines.specs.Put.{Puts, PutsAnswer};
@@ -9,7 +9,7 @@ use crate::request::{PairWord, Request, Texts, Word, request_of};
 use pkcs1::{RsaOaepParamsRef, RsaPssParamsRef};
 use std::alloc::{AllocError, Global};
 
-/// Puts the answer to a word with a text behind `out`.
+/// Appends the output for a word with one encoding to `out`.
 fn answer_word(alloc: Global, word: Word, text: &[u8], out: &mut Vec<u8>) -> Result<(), AllocError>
     ensures { OnOk result (Puts (WordAnswer word text.now) out.old.items out.new.items) }
 {
@@ -26,7 +26,7 @@ fn answer_word(alloc: Global, word: Word, text: &[u8], out: &mut Vec<u8>) -> Res
     }
 }
 
-/// Puts the answer to a word with two texts behind `out`.
+/// Appends the output for a word with two encodings to `out`.
 fn answer_pair(
     alloc: Global,
     word: PairWord,
@@ -46,7 +46,7 @@ fn answer_pair(
     }
 }
 
-/// Puts the answer of a line behind `out`. What `texts` held before is of no account.
+/// Appends the output for a line, without a line feed, to `out`. `texts` may hold anything; it is only a buffer.
 pub fn answer_line(
     alloc: Global,
     line: &[u8],

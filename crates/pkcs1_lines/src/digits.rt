@@ -1,4 +1,4 @@
-//! Bytes and numbers in digits.
+//! Bytes in hexadecimal digits, numbers in decimal ones.
 ghost use Rattle.std.specs.Prelude.{◌≡◌, ◌++◌, OnOk};
 ghost use Rattle.hex.specs.Hex.{encode_lower};
 ghost use Rattle.pkcs1_lines.specs.Told.{field, number_field};
@@ -6,7 +6,7 @@ ghost use Rattle.pkcs1_lines.specs.Told.{field, number_field};
 use std::alloc::AllocError;
 use std::io::Write;
 
-/// Puts the bytes behind `out`, in hexadecimal digits.
+/// Appends the bytes to `out`, in lowercase hexadecimal digits.
 pub fn put_hex(bytes: &[u8], out: &mut Vec<u8>) -> Result<(), AllocError>
     ensures { OnOk result (out.new.items ≡ out.old.items ++ encode_lower bytes.now) }
 {
@@ -24,7 +24,7 @@ pub fn put_hex(bytes: &[u8], out: &mut Vec<u8>) -> Result<(), AllocError>
     }
 }
 
-/// Puts the label behind `out`, and then the bytes.
+/// Appends the label to `out`, and then the bytes in hexadecimal digits.
 pub fn put_field(label: &[u8], bytes: &[u8], out: &mut Vec<u8>) -> Result<(), AllocError>
     ensures { OnOk result (out.new.items ≡ out.old.items ++ field label.now bytes.now) }
 {
@@ -32,7 +32,7 @@ pub fn put_field(label: &[u8], bytes: &[u8], out: &mut Vec<u8>) -> Result<(), Al
     put_hex(bytes, out)
 }
 
-/// Puts the label behind `out`, and then the number, in decimal digits.
+/// Appends the label to `out`, and then the number in decimal digits.
 pub fn put_number(label: &[u8], number: usize, out: &mut Vec<u8>) -> Result<(), AllocError>
     ensures { OnOk result (out.new.items ≡ out.old.items ++ number_field label.now number) }
 {

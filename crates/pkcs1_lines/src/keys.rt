@@ -1,4 +1,4 @@
-//! The answers that tell keys.
+//! The output for keys.
 ghost use Rattle.std.specs.Prelude.{◌≡◌, ℕ, List, ◌++◌, OnOk, IfSome, IfNone};
 ghost use Rattle.std.specs.List.{flat_map};
 ghost use Rattle.der_core.specs.Document.{Means};
@@ -19,7 +19,7 @@ use pkcs1::{OtherPrimeInfo, RsaPrivateKeyView, RsaPublicKeyRef, UintRef, Version
 use pkcs8_core::PrivateKeyInfoRef;
 use std::alloc::AllocError;
 
-/// Puts each number behind `out`, after its label.
+/// Appends each label and its number to `out`.
 fn put_numbers(numbers: &[(&[u8], UintRef<'_>)], out: &mut Vec<u8>) -> Result<(), AllocError>
     ensures { OnOk result (out.new.items ≡ out.old.items ++ flat_map (λ n. field n.0.now (bytes_of n.1)) numbers.now) }
 {
@@ -29,7 +29,7 @@ fn put_numbers(numbers: &[(&[u8], UintRef<'_>)], out: &mut Vec<u8>) -> Result<()
     Ok(())
 }
 
-/// Puts the answer of a public key with its text again behind `out`.
+/// Appends the output for a public key to `out`; `again` is its encoding.
 fn put_pub(key: &RsaPublicKeyRef<'_>, again: &[u8], out: &mut Vec<u8>) -> Result<(), AllocError>
     ensures { OnOk result (out.new.items ≡ out.old.items ++ pub_answer (public_key_of key.now) again.now) }
 {
@@ -38,8 +38,8 @@ fn put_pub(key: &RsaPublicKeyRef<'_>, again: &[u8], out: &mut Vec<u8>) -> Result
     put_field(b" again=", again, out)
 }
 
-/// Puts the answer of `pub` behind `out`. The text is the key's only one, so it is told again. Memory is asked for by
-/// `out` alone.
+/// Appends the output for `pub` to `out`. `again=` gets the input, since a key has only one encoding. Only `out`
+/// allocates.
 pub fn answer_pub(text: &[u8], out: &mut Vec<u8>) -> Result<(), AllocError>
     ensures { OnOk result (Puts (Tells RsaPublicKey pub_answer text.now) out.old.items out.new.items) }
 {
@@ -49,7 +49,7 @@ pub fn answer_pub(text: &[u8], out: &mut Vec<u8>) -> Result<(), AllocError>
     }
 }
 
-/// Puts the version of a private key behind `out`.
+/// Appends the version of a private key to `out`.
 fn put_version(key: &RsaPrivateKeyView<'_>, out: &mut Vec<u8>) -> Result<(), AllocError>
     ensures { OnOk result (out.new.items ≡ out.old.items ++ version_told (view_of key.now).other_prime_infos) }
 {
@@ -59,7 +59,7 @@ fn put_version(key: &RsaPrivateKeyView<'_>, out: &mut Vec<u8>) -> Result<(), All
     }
 }
 
-/// Puts the eight numbers of a private key behind `out`.
+/// Appends the eight numbers of a private key to `out`.
 fn put_private_numbers(key: &RsaPrivateKeyView<'_>, out: &mut Vec<u8>) -> Result<(), AllocError>
     ensures { OnOk result (out.new.items ≡ out.old.items ++ numbers_told (view_of key.now)) }
 {
@@ -78,7 +78,7 @@ fn put_private_numbers(key: &RsaPrivateKeyView<'_>, out: &mut Vec<u8>) -> Result
     )
 }
 
-/// Puts one of the other primes behind `out`.
+/// Appends one of the other primes to `out`.
 fn put_other(other: &OtherPrimeInfo<UintRef<'_>>, out: &mut Vec<u8>) -> Result<(), AllocError>
     ensures { OnOk result (out.new.items ≡ out.old.items ++ other_told (other_of bytes_of other.now)) }
 {
@@ -92,7 +92,7 @@ fn put_other(other: &OtherPrimeInfo<UintRef<'_>>, out: &mut Vec<u8>) -> Result<(
     )
 }
 
-/// Puts the other primes of a private key behind `out`, in order.
+/// Appends the other primes of a private key to `out`, in order.
 fn put_others(key: &RsaPrivateKeyView<'_>, out: &mut Vec<u8>) -> Result<(), AllocError>
     ensures { OnOk result (out.new.items ≡ out.old.items ++ others_told (view_of key.now).other_prime_infos) }
 {
@@ -102,7 +102,7 @@ fn put_others(key: &RsaPrivateKeyView<'_>, out: &mut Vec<u8>) -> Result<(), Allo
     Ok(())
 }
 
-/// Puts what is told of a private key behind `out`.
+/// Appends the version, the numbers and the other primes of a private key to `out`.
 fn put_key(key: &RsaPrivateKeyView<'_>, out: &mut Vec<u8>) -> Result<(), AllocError>
     ensures { OnOk result (out.new.items ≡ out.old.items ++ key_told (view_of key.now)) }
 {
@@ -111,7 +111,7 @@ fn put_key(key: &RsaPrivateKeyView<'_>, out: &mut Vec<u8>) -> Result<(), AllocEr
     put_others(key, out)
 }
 
-/// Puts the answer of a private key with its text behind `out`.
+/// Appends the output for a private key to `out`.
 fn put_priv(key: &RsaPrivateKeyView<'_>, out: &mut Vec<u8>) -> Result<(), AllocError>
     ensures { OnOk result (out.new.items ≡ out.old.items ++ priv_answer (view_of key.now) (viewed_text key.now)) }
 {
@@ -120,7 +120,7 @@ fn put_priv(key: &RsaPrivateKeyView<'_>, out: &mut Vec<u8>) -> Result<(), AllocE
     put_field(b" again=", key.as_bytes(), out)
 }
 
-/// Puts the answer of `priv` behind `out`. Memory is asked for by `out` alone.
+/// Appends the output for `priv` to `out`. Only `out` allocates.
 pub fn answer_priv(text: &[u8], out: &mut Vec<u8>) -> Result<(), AllocError>
     ensures { OnOk result (Puts (Tells RsaPrivateKey priv_answer text.now) out.old.items out.new.items) }
 {
@@ -130,7 +130,7 @@ pub fn answer_priv(text: &[u8], out: &mut Vec<u8>) -> Result<(), AllocError>
     }
 }
 
-/// The container that the text means, and the RSA key in it.
+/// Decodes a container and the RSA key in it, or returns `None`.
 fn read_container<'a>(text: &'a [u8]) -> Option<(PrivateKeyInfoRef<'a>, RsaPrivateKeyView<'a>)>
     ensures some { IfSome result (λ p.
         Means RsaPrivateKeyInfo text.now (record { info = info_of p.0; key = view_of p.1 })) }
@@ -145,7 +145,7 @@ fn read_container<'a>(text: &'a [u8]) -> Option<(PrivateKeyInfoRef<'a>, RsaPriva
     }
 }
 
-/// Puts the attributes of a container behind `out`.
+/// Appends the attributes of a container to `out`.
 fn put_attributes(info: &PrivateKeyInfoRef<'_>, out: &mut Vec<u8>) -> Result<(), AllocError>
     ensures { OnOk result (out.new.items ≡ out.old.items ++ attributes_told (info_of info.now).attributes) }
 {
@@ -155,7 +155,7 @@ fn put_attributes(info: &PrivateKeyInfoRef<'_>, out: &mut Vec<u8>) -> Result<(),
     }
 }
 
-/// Puts the answer of a private key in a container behind `out`.
+/// Appends the output for a private key in a container to `out`; `text` is the encoding of the container.
 fn put_p8(
     info: &PrivateKeyInfoRef<'_>,
     key: &RsaPrivateKeyView<'_>,
@@ -171,7 +171,7 @@ fn put_p8(
     put_field(b" again=", text, out)
 }
 
-/// Puts the answer of `p8` behind `out`. Memory is asked for by `out` alone.
+/// Appends the output for `p8` to `out`. Only `out` allocates.
 pub fn answer_p8(text: &[u8], out: &mut Vec<u8>) -> Result<(), AllocError>
     ensures { OnOk result (Puts (TellsContainer text.now) out.old.items out.new.items) }
 {

@@ -1,8 +1,8 @@
-//! Lines that ask for keys and parameters, and their answers.
+//! The lines that `pkcs1_tool` reads, and the output for each.
 //!
-//! A line is a word (`pub`, `priv`, `p8`, `pss`, `oaep` and others), a space and a text in hexadecimal digits; some words
-//! take two texts. Its answer is a line too: what is told of the value that the text means, `refused` where it means
-//! none, `bad line` where a line has no such form.
+//! A line is a word (`pub`, `priv`, `p8`, `pss`, `oaep` and others), a space and an encoding in hexadecimal digits;
+//! some words take two encodings. The output for it is a line too: the value that the encoding means; `refused` if it
+//! means none; `bad line` if a line has another form.
 #![tactic(auto)]
 
 mod answer;

@@ -1,17 +1,17 @@
-//! Lines, and the parts of a line.
+//! Splitting the input into lines, and a line into parts.
 ghost use Rattle.std.specs.Prelude.{◌≡◌, ◌<◌, ◌≤◌, ◌∷◌, ◌==◌, [], length};
 ghost use Rattle.std.specs.List.{position};
 ghost use Rattle.std.specs.Option.{option_map_or};
 ghost use Rattle.pkcs1_lines.specs.Lines.{lines_of, parts_of};
 
-/// The first place of the byte.
+/// The index of the first such byte.
 fn place_of(byte: u8, bytes: &[u8]) -> Option<usize>
     ensures { result ≡ position (λ other. other == byte) bytes.now }
 {
     bytes.iter().position(|other| *other == byte)
 }
 
-/// The first line, and what follows its line feed.
+/// Returns the first line, without its line feed, and what follows the line feed.
 pub fn split_line(bytes: &[u8]) -> (&[u8], &[u8])
     requires { 0 < length bytes.now }
     ensures lines { lines_of bytes.now ≡ result.0.now ∷ lines_of result.1.now }
@@ -23,7 +23,7 @@ pub fn split_line(bytes: &[u8]) -> (&[u8], &[u8])
     }
 }
 
-/// The part before the first space, and what follows the space, if there is one.
+/// Returns the part before the first space, and what follows the space, if there is one.
 pub fn split_part(line: &[u8]) -> (&[u8], Option<&[u8]>)
     ensures { parts_of line.now ≡ result.0.now ∷ option_map_or (λ rest. parts_of rest.now) result.1 [] }
 {

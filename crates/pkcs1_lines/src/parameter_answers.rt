@@ -1,4 +1,4 @@
-//! The answers of lines with parameters.
+//! The output for lines with parameters.
 ghost use Rattle.std.specs.Prelude.{◌≡◌, ℕ, List, ◌++◌, OnOk, map, codes};
 ghost use Rattle.std.specs.List.{flat_map};
 ghost use Rattle.pkcs1_lines.specs.Put.{Puts};
@@ -11,7 +11,7 @@ use crate::shortest::shortest;
 use crate::verdict::{put_refused, put_verdict};
 use std::alloc::{AllocError, Global};
 
-/// Puts the answer that tells parameters behind `out`.
+/// Appends the output for `pss` or `oaep` to `out`.
 pub fn answer_parameters<'a, T: Parameters<'a>>(
     alloc: Global,
     text: &'a [u8],
@@ -30,7 +30,7 @@ pub fn answer_parameters<'a, T: Parameters<'a>>(
     }
 }
 
-/// Puts each text behind `out`, in order.
+/// Appends a space and each encoding to `out`, in order.
 fn put_texts(texts: &[Vec<u8>], out: &mut Vec<u8>) -> Result<(), AllocError>
     ensures { OnOk result (out.new.items ≡ out.old.items ++ flat_map (λ text. field (codes " ") text.items) texts.now) }
 {
@@ -40,7 +40,7 @@ fn put_texts(texts: &[Vec<u8>], out: &mut Vec<u8>) -> Result<(), AllocError>
     Ok(())
 }
 
-/// Puts the word behind `out`, how many texts there are, and each text.
+/// Appends to `out` the word, the number of encodings, and each of them.
 fn put_spellings(word: &[u8], texts: &[Vec<u8>], out: &mut Vec<u8>) -> Result<(), AllocError>
     ensures { let told = spell_answer word.now (map (λ text. text.items) texts.now) in
         OnOk result (out.new.items ≡ out.old.items ++ told) }
@@ -50,7 +50,7 @@ fn put_spellings(word: &[u8], texts: &[Vec<u8>], out: &mut Vec<u8>) -> Result<()
     put_texts(texts, out)
 }
 
-/// Puts behind `out` all texts of the parameters that the text means, by mask.
+/// Appends to `out` all encodings of the parameters that `text` means, ordered by mask.
 pub fn answer_spell<'a, T: Parameters<'a>>(
     alloc: Global,
     word: &[u8],
@@ -69,7 +69,7 @@ pub fn answer_spell<'a, T: Parameters<'a>>(
     }
 }
 
-/// Puts behind `out` whether the text is the shortest of the parameters that it means.
+/// Appends to `out` whether `text` is the shortest encoding of the parameters that it means.
 pub fn answer_strict<'a, T: Parameters<'a>>(
     word: &[u8],
     text: &'a [u8],
@@ -83,7 +83,7 @@ pub fn answer_strict<'a, T: Parameters<'a>>(
     }
 }
 
-/// Puts behind `out` whether both texts mean the same parameters: whether these have one shortest text.
+/// Appends to `out` whether both encodings mean the same parameters: whether these have the same shortest encoding.
 pub fn answer_same<'a, T: Parameters<'a>>(
     alloc: Global,
     word: &[u8],

@@ -1,4 +1,4 @@
-//! Parameters, and what is told of them.
+//! Parameters, and the output for them.
 ghost use Rattle.std.specs.Prelude.{◌≡◌, ℕ, List, ◌++◌, ◌↔◌, IsTrue, OnOk, IfOk, IfSome, IfNone, IsErrAnd};
 ghost use Rattle.der_core.specs.Document.{Means, IsShortest};
 ghost use Rattle.der_core.specs.Texts.{IsDelimited};
@@ -22,31 +22,31 @@ use pkcs1::{Error, ObjectIdentifier, RsaOaepParamsRef, RsaPssParamsRef};
 use spki_core::{AlgorithmIdentifier, AlgorithmIdentifierRef, AnyRef};
 use std::alloc::{AllocError, Global};
 
-/// Parameters of one of the two types, as lines ask for them.
+/// What the output for a line needs of RSASSA-PSS and RSAES-OAEP parameters.
 pub trait Parameters<'a>: Encode + Drop + Sized {
-    /// What values of the type mean.
+    /// The type of what values mean.
     ghost Meaning: { Type 0 };
 
     ghost meaning: { Self → Meaning };
 
-    /// The texts of what a value means.
+    /// The grammar of what a value means.
     ghost grammar: { Meaning → List ℕ → Type 0 };
 
     ghost fields: { Meaning → List Field };
 
-    /// What is told of a value with so many defaults and with this text.
+    /// The output for a value, given how many of its fields equal their defaults, and its encoding.
     ghost told: { Meaning → ℕ → List ℕ → List ℕ };
 
-    /// The parameters that the text means.
+    /// Decodes the parameters, or returns `None`.
     fn read(text: &'a [u8]) -> Option<Self>
         ensures some { IfSome result (λ params. Means grammar text.now (meaning params)) }
         ensures none { IfNone result (IsNoSentence grammar text.now) };
 
-    /// Whether the text is the shortest of what it means.
+    /// Whether the bytes are the shortest encoding of some parameters.
     fn is_strict(text: &'a [u8]) -> bool
         ensures { IsTrue result ↔ ((params : Meaning) × IsShortest grammar params text.now) };
 
-    /// All texts, by mask; none where not every text fits.
+    /// All encodings, ordered by mask, or `None` if one of them is longer than `Length::MAX`.
     fn all_texts(&self, alloc: Global) -> Result<Option<Vec<Vec<u8>>>, AllocError>
         ensures all { let params = meaning self.now in
             IfOk result (λ found. IfSome found (λ texts.
@@ -57,17 +57,17 @@ pub trait Parameters<'a>: Encode + Drop + Sized {
     fn defaults(&self) -> u8
         ensures { HaveDefaults (fields (meaning self.now)) result };
 
-    /// Puts what is told behind `out`.
+    /// Appends the output for the parameters to `out`; `again` is their encoding.
     fn put(&self, defaults: u8, again: &[u8], out: &mut Vec<u8>) -> Result<(), AllocError>
         ensures { OnOk result (out.new.items ≡ out.old.items ++ told (meaning self.now) defaults again.now) };
 
-    /// Each text means one value.
+    /// Each encoding means one value.
     ghost delimited: { IsDelimited grammar };
 
-    /// Each value has a number of defaults.
+    /// The fields of each value that equal their defaults can be counted.
     ghost counted: { (params : Meaning) → (k : ℕ) × HaveDefaults (fields params) k };
 
-    /// What is written are the texts of the grammar.
+    /// What `Encode` writes is an encoding of `grammar`, and the shortest one.
     ghost means_as: { (params : Self) (text : List ℕ)
         → Means grammar text (meaning params) → Means Self.text text (Self.value params) };
 
@@ -75,7 +75,7 @@ pub trait Parameters<'a>: Encode + Drop + Sized {
         → IsShortest Self.text (Self.value params) text → IsShortest grammar (meaning params) text };
 }
 
-/// Whether the refusal is want of memory.
+/// Whether the error is out of memory.
 fn wants_memory(error: &Error) -> bool
     ensures { IsTrue result ↔ WantsMemory error.now }
 {
@@ -85,7 +85,7 @@ fn wants_memory(error: &Error) -> bool
     }
 }
 
-/// The texts, or none where they are refused and memory isn't wanted.
+/// Maps an error to `None`, but out of memory to an `AllocError`.
 fn found(texts: pkcs1::Result<Vec<Vec<u8>>>) -> Result<Option<Vec<Vec<u8>>>, AllocError>
     ensures some { IfOk result (λ found. IfSome found (λ list. texts ≡ Ok list)) }
     ensures none { IfOk result (λ found. IfNone found (IsErrAnd texts (λ e. WantsMemory e → ⊥))) }
@@ -101,13 +101,13 @@ fn found(texts: pkcs1::Result<Vec<Vec<u8>>>) -> Result<Option<Vec<Vec<u8>>>, All
     }
 }
 
-/// What is told of absent parameters.
+/// The output for absent parameters.
 const ABSENT: &[u8] = b"-";
 
 /// A mask generation function.
 type MaskGenRef<'a> = AlgorithmIdentifier<AlgorithmIdentifierRef<'a>>;
 
-/// Puts a tag and contents behind `out`.
+/// Appends the tag and the contents to `out`.
 fn put_any(any: &AnyRef<'_>, out: &mut Vec<u8>) -> Result<(), AllocError>
     ensures { OnOk result (out.new.items ≡ out.old.items ++ any_told (any_of any.now)) }
 {
@@ -115,7 +115,7 @@ fn put_any(any: &AnyRef<'_>, out: &mut Vec<u8>) -> Result<(), AllocError>
     put_field(b":", any.value(), out)
 }
 
-/// Puts an identifier and `/` behind `out`.
+/// Appends the object identifier and `/` to `out`.
 fn put_identifier(oid: &ObjectIdentifier, out: &mut Vec<u8>) -> Result<(), AllocError>
     ensures { OnOk result (out.new.items ≡ out.old.items ++ identifier_told (octets_of oid.now)) }
 {
@@ -123,7 +123,7 @@ fn put_identifier(oid: &ObjectIdentifier, out: &mut Vec<u8>) -> Result<(), Alloc
     out.extend_from_slice(b"/")
 }
 
-/// Puts an algorithm whose parameters are any text behind `out`.
+/// Appends an algorithm with parameters of any type to `out`.
 fn put_plain(algorithm: &AlgorithmIdentifierRef<'_>, out: &mut Vec<u8>) -> Result<(), AllocError>
     ensures { OnOk result (out.new.items ≡ out.old.items ++ plain_told (algorithm_of algorithm.now)) }
 {
@@ -134,7 +134,7 @@ fn put_plain(algorithm: &AlgorithmIdentifierRef<'_>, out: &mut Vec<u8>) -> Resul
     }
 }
 
-/// Puts an algorithm in brackets behind `out`.
+/// Appends an algorithm in brackets to `out`.
 fn put_bracketed(
     algorithm: &AlgorithmIdentifierRef<'_>,
     out: &mut Vec<u8>,
@@ -146,7 +146,7 @@ fn put_bracketed(
     out.extend_from_slice(b"]")
 }
 
-/// Puts a mask generation function behind `out`.
+/// Appends a mask generation function to `out`.
 fn put_mask(mask_gen: &MaskGenRef<'_>, out: &mut Vec<u8>) -> Result<(), AllocError>
     ensures { OnOk result (out.new.items ≡ out.old.items ++ mask_told (mask_of mask_gen.now)) }
 {
@@ -157,7 +157,7 @@ fn put_mask(mask_gen: &MaskGenRef<'_>, out: &mut Vec<u8>) -> Result<(), AllocErr
     }
 }
 
-/// Puts the hash function and the mask generation function behind `out`.
+/// Appends the hash function and the mask generation function to `out`.
 fn put_hash_fields(
     hash: &AlgorithmIdentifierRef<'_>,
     mask_gen: &MaskGenRef<'_>,
@@ -172,7 +172,7 @@ fn put_hash_fields(
     put_mask(mask_gen, out)
 }
 
-/// Puts how many fields have their defaults, and the text again, behind `out`.
+/// Appends to `out` how many fields equal their defaults, and the encoding.
 fn put_spelling(defaults: u8, again: &[u8], out: &mut Vec<u8>) -> Result<(), AllocError>
     ensures { OnOk result (out.new.items ≡ out.old.items ++ spelling_told defaults again.now) }
 {
@@ -180,7 +180,7 @@ fn put_spelling(defaults: u8, again: &[u8], out: &mut Vec<u8>) -> Result<(), All
     put_field(b" again=", again, out)
 }
 
-/// Puts the answer of `pss` parameters with so many defaults, and with their text again, behind `out`.
+/// Appends the output for `pss` to `out`.
 fn put_pss(
     params: &RsaPssParamsRef<'_>,
     defaults: u8,
@@ -196,7 +196,7 @@ fn put_pss(
     put_spelling(defaults, again, out)
 }
 
-/// Puts the answer of `oaep` parameters with so many defaults, and with their text again, behind `out`.
+/// Appends the output for `oaep` to `out`.
 fn put_oaep(
     params: &RsaOaepParamsRef<'_>,
     defaults: u8,

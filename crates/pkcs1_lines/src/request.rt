@@ -1,4 +1,4 @@
-//! What a line asks for.
+//! Parsing a line into a request.
 ghost use Rattle.std.specs.Prelude.{◌≡◌, IfOk, Some, None, if◌then◌else◌, map};
 ghost use Rattle.pkcs1_lines.specs.Request.{asked_by, asked_with, named, pair_asked_with, pair_words, text_of, words};
 ghost use Rattle.pkcs1_lines.specs.RequestValue.{seen};
@@ -27,7 +27,7 @@ pub enum PairWord {
     SameOaep,
 }
 
-/// What a line asks for. The texts that its HEX parts stand for lie in a `Texts`.
+/// What a line asks for. The bytes of its HEX parts are in a `Texts`.
 #[derive(Clone, Copy, Drop)]
 pub enum Request {
     BadLine,
@@ -35,18 +35,18 @@ pub enum Request {
     Pair(PairWord),
 }
 
-/// Where the texts of a line's HEX parts are put. Kept from line to line, it asks for memory only where a text is longer
-/// than those before.
+/// Buffers for the bytes of a line's HEX parts. Kept from line to line, they allocate only for a part longer than those
+/// before.
 #[derive(Drop)]
 pub struct Texts {
-    /// The text of the first HEX part.
+    /// The bytes of the first HEX part.
     pub first: Vec<u8>,
-    /// The text of the second HEX part.
+    /// The bytes of the second HEX part.
     pub second: Vec<u8>,
 }
 
 impl Texts {
-    /// Empty texts, for which no memory is asked.
+    /// Empty buffers; allocates nothing.
     pub fn new(alloc: Global) -> Texts {
         Texts {
             first: Vec::new(alloc),
@@ -74,7 +74,7 @@ const PAIR_WORDS: [(&[u8], PairWord); 2] = [
     (b"same-oaep", PairWord::SameOaep),
 ];
 
-/// What stands beside the name in a list.
+/// The value beside the name in a list.
 fn find_named<W: Copy>(rows: &[(&[u8], W)], name: &[u8]) -> Option<W>
     ensures { result ≡ named (map (λ row. (row.0.now, row.1)) rows.now) name.now }
 {
@@ -100,7 +100,8 @@ fn pair_word_of(part: &[u8]) -> Option<PairWord>
     find_named(&PAIR_WORDS, part)
 }
 
-/// Makes `text` the bytes that an even number of digits stands for. Where there is no such number of digits, it says so.
+/// Decodes hexadecimal digits into `text`. Returns false if they aren't an even number of digits; `text` may then hold
+/// anything.
 fn read_hex(hex: &[u8], text: &mut Vec<u8>) -> Result<bool, AllocError>
     ensures { IfOk result (λ is_hex. text_of hex.now ≡ (if is_hex then Some text.new.items else None)) }
 {
@@ -108,7 +109,7 @@ fn read_hex(hex: &[u8], text: &mut Vec<u8>) -> Result<bool, AllocError>
     Ok(hex::decode_to_slice(hex, text.as_mut_slice()).is_ok())
 }
 
-/// What a word asks for with one HEX part.
+/// The request of a word with one HEX part.
 fn request_with(word: Word, hex: &[u8], texts: &mut Texts) -> Result<Request, AllocError>
     ensures { let asked = asked_with (Some word) (text_of hex.now) in
         IfOk result (λ request. seen request texts.new.first.items texts.new.second.items ≡ asked) }
@@ -120,7 +121,7 @@ fn request_with(word: Word, hex: &[u8], texts: &mut Texts) -> Result<Request, Al
     }
 }
 
-/// What a word asks for with two HEX parts.
+/// The request of a word with two HEX parts.
 fn pair_request_with(
     word: PairWord,
     first: &[u8],
@@ -137,7 +138,8 @@ fn pair_request_with(
     }
 }
 
-/// What the line asks for. A space is no digit, so what follows the word needs no look for a further part.
+/// Parses a line, and puts the bytes of its HEX parts into `texts`. What follows the word isn't searched for a further
+/// part, since a space is no digit.
 pub fn request_of(line: &[u8], texts: &mut Texts) -> Result<Request, AllocError>
     ensures { IfOk result (λ request. seen request texts.new.first.items texts.new.second.items ≡ asked_by line.now) }
 {

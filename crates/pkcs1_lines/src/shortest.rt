@@ -1,10 +1,11 @@
-//! The shortest text of a value.
+//! The shortest encoding of a value.
 ghost use Rattle.std.specs.Prelude.{◌≤◌, length};
 ghost use Rattle.der_core.specs.Document.{Means, IsShortest};
 
 use der_core::Encode;
 
-/// The shortest text of a value that has the text, in the buffer.
+/// Writes the shortest encoding of a value into the buffer, and returns it. `text` is any encoding of the value, so the
+/// buffer needs no more than its length.
 pub fn shortest<'b, T: Encode>(text: &[u8], value: &T, buffer: &'b mut [u8]) -> &'b [u8]
     requires means { Means T.text text.now (T.value value.now) }
     requires room { length text.now ≤ length buffer.old }

@@ -1,16 +1,16 @@
-//! Answers that tell no value.
+//! Outputs without a value.
 ghost use Rattle.std.specs.Prelude.{◌≡◌, ◌++◌, OnOk, codes, if◌then◌else◌};
 
 use std::alloc::AllocError;
 
-/// Puts `refused` behind `out`.
+/// Appends `refused` to `out`.
 pub fn put_refused(out: &mut Vec<u8>) -> Result<(), AllocError>
     ensures { OnOk result (out.new.items ≡ out.old.items ++ codes "refused") }
 {
     out.extend_from_slice(b"refused")
 }
 
-/// Puts the word behind `out`, and then ` yes` or ` no`.
+/// Appends the word to `out`, and then ` yes` or ` no`.
 pub fn put_verdict(word: &[u8], holds: bool, out: &mut Vec<u8>) -> Result<(), AllocError>
     ensures { let told = word.now ++ (if holds then codes " yes" else codes " no") in
         OnOk result (out.new.items ≡ out.old.items ++ told) }

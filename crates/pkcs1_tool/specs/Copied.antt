@@ -11,27 +11,27 @@ use Rattle.pkcs1.specs.KeyFaults.{RsaPrivateKeyFault, RsaPublicKeyFault}
 use Rattle.pkcs1.specs.Keys.{RsaPrivateKey, RsaPublicKey}
 use Rattle.pkcs1.specs.KeyTexts.{IsSentence}
 
--- All that came up to the end is the text of a key, and it was written, and nothing else.
+-- All that the source gave until its end is the encoding of a key, and exactly that was written.
 abbrev pub CopiesKey : {V : Type 0} → (V → List ℕ → Type 0) → Option (List ℕ) → Option (List ℕ) → Option (List ℕ) → Option (List ℕ) → Type 0
 CopiesKey Grammar before after old new = (text : List ℕ) × GivesAll before after text × IsSentence Grammar text × Appends old new text
 
--- Why a text is refused as a key: its first fault, or want of memory, where it is asked for.
+-- Why bytes are rejected as a key: their first fault, or out of memory, where it may be allocated.
 abbrev pub PublicRefused : ErrorKind → List ℕ → Type 0
 PublicRefused e text = Faulty e (OwnedPublicKeyAllocates text ⊎ IsSentence RsaPublicKey text) (RsaPublicKeyFault e text)
 
 abbrev pub PrivateRefused : ErrorKind → List ℕ → Type 0
 PrivateRefused e text = Faulty e (OwnedKeyAllocates text ⊎ IsSentence RsaPrivateKey text) (RsaPrivateKeyFault e text)
 
--- No key came: reading stopped, or what came up to the end is no document, or is refused as a key.
+-- No key was read: reading stopped, or all that the source gave is no document, or is rejected as a key.
 abbrev pub StopsReadingKey : (ErrorKind → List ℕ → Type 0) → ErrorKind → Option (List ℕ) → Option (List ℕ) → ℕ → ℕ → Type 0
 StopsReadingKey Refused e before after refusals refusals2 =
     StopsReading e before after refusals refusals2 ⊎ ((text : List ℕ) × GivesAll before after text × Refused e text)
 
--- Nothing was written, and no call to write was refused.
+-- Nothing was written, and no call to write failed.
 abbrev pub IsUntouched : Option (List ℕ) → Option (List ℕ) → ℕ → ℕ → Type 0
 IsUntouched old new refusals refusals2 = Keeps old new × (refusals2 ≡ refusals)
 
--- The text of a key came, a beginning of it was written, and a call to write was refused.
+-- The encoding of a key was read, a beginning of it was written, and a call to write failed.
 abbrev pub StopsWritingKey : {V : Type 0} → (V → List ℕ → Type 0) → ErrorKind → Option (List ℕ) → Option (List ℕ) → Option (List ℕ) → Option (List ℕ) → ℕ → ℕ → Type 0
 StopsWritingKey Grammar e before after old new refusals refusals2 =
     (e ≡ File) × (text : List ℕ) × GivesAll before after text × IsSentence Grammar text × AppendsFront old new text × SomeRefused refusals refusals2

@@ -1,4 +1,4 @@
--- What is printed of a fault.
+-- What is printed for a fault.
 use Rattle.std.specs.Prelude.{ℕ, List, codes}
 use Rattle.pkcs1_tool.specs.declared.fault.Fault.{Fault}
 use Rattle.pkcs1_tool.specs.declared.fault.Fault.TheVariants.{Read, Write, Memory}

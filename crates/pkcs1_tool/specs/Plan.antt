@@ -1,4 +1,4 @@
--- What the words after the program's name ask for, and the status to end with.
+-- What the arguments ask for, and the exit status.
 use Rattle.std.specs.Prelude.{ℕ, List, [], ◌∷◌, Bool, if◌then◌else◌, bytes_eq, codes}
 use Rattle.pkcs1_tool.specs.declared.plan.Plan.{Plan}
 use Rattle.pkcs1_tool.specs.declared.plan.Plan.TheVariants.{Lines, Usage, CopyPub, CopyPriv}

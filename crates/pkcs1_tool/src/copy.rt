@@ -1,4 +1,4 @@
-//! Keys from a source to a sink, and from file to file.
+//! Copying keys from a source to a sink, and from file to file.
 ghost use Rattle.std.specs.Prelude.{◌≡◌, ◌⊎◌, IfErr, OnOk};
 ghost use Rattle.pkcs1.specs.Keys.{RsaPrivateKey, RsaPublicKey};
 ghost use Rattle.pkcs1_params.specs.Refusals.{IsAsn1};
@@ -12,7 +12,7 @@ use std::fs::File;
 use std::path::Path;
 use std::rt::Files;
 
-/// Copies a public key: what the source gives up to its end, where that is the text of one. The sink is called only once
+/// Copies a public key, whose encoding must be all that the source gives until its end. The sink is called only after
 /// the key was read.
 fn copy_public_key<R: Source, W: Sink>(alloc: Global, source: &mut R, sink: &mut W) -> Result<()>
     ensures copied { OnOk result (CopiesKey RsaPublicKey (R.remaining source.old) (R.remaining source.new)
@@ -31,7 +31,7 @@ fn copy_public_key<R: Source, W: Sink>(alloc: Global, source: &mut R, sink: &mut
     Ok(again.write_to(sink)?)
 }
 
-/// Copies a private key: what the source gives up to its end, where that is the text of one. The sink is called only once
+/// Copies a private key, whose encoding must be all that the source gives until its end. The sink is called only after
 /// the key was read.
 fn copy_private_key<R: Source, W: Sink>(alloc: Global, source: &mut R, sink: &mut W) -> Result<()>
     ensures copied { OnOk result (CopiesKey RsaPrivateKey (R.remaining source.old) (R.remaining source.new)
@@ -50,7 +50,7 @@ fn copy_private_key<R: Source, W: Sink>(alloc: Global, source: &mut R, sink: &mu
     Ok(again.write_to(sink)?)
 }
 
-/// A source over the file.
+/// Opens a file as a source.
 fn open<Rt: Files>(rt: &Rt, path: Path<'_>) -> Result<FromRead<Rt::File>> {
     match File::open(rt, path) {
         Ok(file) => Ok(FromRead::new(file)),

@@ -1,6 +1,6 @@
-//! Lines in, lines out: `pub HEX` asks for the RSA public key that the bytes stand for, `priv HEX` for the private key,
-//! `pss HEX` for parameters of RSASSA-PSS, `oaep HEX` for those of RSAES-OAEP. Or keys from file to file: `copy pub IN OUT`,
-//! `copy priv IN OUT`.
+//! Without arguments the program reads lines and writes one for each: `pub HEX` asks for the RSA public key with this
+//! encoding, `priv HEX` for the private key, `pss HEX` and `oaep HEX` for parameters of RSASSA-PSS and RSAES-OAEP;
+//! `pkcs1_lines` has the other words. `copy pub IN OUT` and `copy priv IN OUT` copy a key from file to file.
 #![tactic(auto)]
 
 mod copy;
@@ -23,7 +23,7 @@ const USAGE: &str = "usage: pkcs1_tool [copy pub|priv IN OUT]";
 
 const BUFFER: usize = 65536;
 
-/// The words after the program's name.
+/// The arguments, without the program's name.
 fn words_of(rt: &HostRuntime) -> io::Result<Vec<String>> {
     let mut words = Vec::new(rt.alloc());
     for word in env::args(rt)?.skip(1) {
@@ -41,7 +41,7 @@ fn run_lines(rt: &HostRuntime) -> Result<(), Fault> {
     run::run(rt.alloc(), &mut source, &mut sink)
 }
 
-/// Whether it went well. What went wrong is told on standard error.
+/// Whether it succeeded. Prints an error to standard error.
 fn reported<E: Display + Drop>(rt: &impl Eprint, answer: Result<(), E>) -> bool {
     match answer {
         Ok(()) => true,
@@ -52,7 +52,7 @@ fn reported<E: Display + Drop>(rt: &impl Eprint, answer: Result<(), E>) -> bool 
     }
 }
 
-/// Does what was planned, and answers the status to end with.
+/// Carries out the plan, and returns the exit status.
 fn carry_out(rt: &HostRuntime, plan: &Plan<'_>) -> u8 {
     let ok = match plan {
         Plan::Usage => reported(rt, Err(USAGE)),

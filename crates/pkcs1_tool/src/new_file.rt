@@ -6,7 +6,7 @@ use std::fs::File;
 use std::path::Path;
 use std::rt::Files;
 
-/// A file that is created, or cut to nothing, at the first call to write: what was there before stays until then.
+/// A file that is created or truncated at the first call to write: its old contents stay until then.
 #[derive(Drop)]
 pub struct NewFile<'a, Rt: Files> {
     rt: &'a Rt,
@@ -16,7 +16,7 @@ pub struct NewFile<'a, Rt: Files> {
 }
 
 impl<'a, Rt: Files> NewFile<'a, Rt> {
-    /// The file at the path, which isn't touched yet.
+    /// A file at this path; nothing is opened or created yet.
     pub fn new(rt: &'a Rt, path: Path<'a>) -> Self {
         NewFile {
             rt,

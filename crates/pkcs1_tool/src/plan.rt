@@ -6,17 +6,17 @@ ghost use Rattle.pkcs1_tool.specs.Plan.{asked_by, status_of, task_of};
 /// What the program is to do.
 #[derive(Clone, Copy, Debug, PartialEq, Eq)]
 pub enum Plan<'a> {
-    /// To answer lines.
+    /// Read lines from standard input, and write the output for each.
     Lines,
-    /// To tell how it is used.
+    /// Print the usage.
     Usage,
-    /// To read a public key from the file `input` and write it to the file `output`.
+    /// Read a public key from the file `input` and write it to the file `output`.
     CopyPub { input: &'a str, output: &'a str },
-    /// To read a private key from the file `input` and write it to the file `output`.
+    /// Read a private key from the file `input` and write it to the file `output`.
     CopyPriv { input: &'a str, output: &'a str },
 }
 
-/// The plan for these words, which leave out the program's name: `Lines` for none, a copy for exactly `copy pub IN OUT` and
+/// The plan for these arguments (without the program's name): `Lines` for none, a copy for exactly `copy pub IN OUT` or
 /// `copy priv IN OUT`, else `Usage`.
 pub fn plan_of(words: &[String]) -> Plan<'_>
     ensures { task_of result ≡ asked_by (map string_bytes words.now) }
@@ -37,7 +37,7 @@ pub fn plan_of(words: &[String]) -> Plan<'_>
     }
 }
 
-/// The status to end with: 2 for `Usage`, else 0 where all went well, and 1 where not.
+/// The exit status: 2 for `Usage`, else 0 on success and 1 after an error.
 pub fn status(plan: &Plan<'_>, ok: bool) -> u8
     ensures { result ≡ status_of plan.now ok }
 {

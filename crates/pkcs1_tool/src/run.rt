@@ -1,4 +1,4 @@
-//! Lines in, answers out.
+//! Reading lines and writing the output for each.
 ghost use Rattle.std.specs.Prelude.{◌≡◌, ◌≤◌, ◌⊎◌, ℕ, List, length, IfSome, IfOk, OnOk, OnErr, IsErrOf, vec_len};
 ghost use Rattle.std.specs.Io.KnownBytes.{Appends, Keeps, IsAtEnd};
 ghost use Rattle.der_core.specs.Carrying.{piece};
@@ -13,10 +13,10 @@ use der_core::{ErrorKind, Length, Sink, Source, put_all, read_all};
 use pkcs1_lines::{Texts, answer_line, answers_are_one, split_line};
 use std::alloc::Global;
 
-/// The longest input.
+/// The longest input, in bytes.
 pub const LIMIT: usize = 16777216;
 
-/// All that the source gives up to its end.
+/// Reads all that the source gives until its end.
 fn read_input<R: Source>(alloc: Global, source: &mut R) -> Result<Vec<u8>, Fault>
     ensures all { IfOk result (λ input. GivesAll (R.remaining source.old) (R.remaining source.new) input.items) }
     ensures within { IfOk result (λ input. vec_len input ≤ LIMIT) }
@@ -33,7 +33,7 @@ fn read_input<R: Source>(alloc: Global, source: &mut R) -> Result<Vec<u8>, Fault
     }
 }
 
-/// Answers each line in order.
+/// Writes the output for each line, in order.
 fn answer_lines<W: Sink>(alloc: Global, input: &[u8], sink: &mut W) -> Result<(), Fault>
     ensures ok { OnOk result (Writes (W.contents sink.old) (W.contents sink.new) (lines_of input.now)) }
     ensures same { OnOk result (W.refusals sink.new ≡ W.refusals sink.old) }
@@ -60,7 +60,7 @@ fn answer_lines<W: Sink>(alloc: Global, input: &[u8], sink: &mut W) -> Result<()
     Ok(())
 }
 
-/// Answers each line in order, and flushes.
+/// Writes the output for each line, in order, and flushes the sink.
 fn answer_input<W: Sink>(alloc: Global, input: &[u8], sink: &mut W) -> Result<(), Fault>
     ensures ok { OnOk result (Writes (W.contents sink.old) (W.contents sink.new) (lines_of input.now)) }
     ensures same { OnOk result (W.refusals sink.new ≡ W.refusals sink.old) }
@@ -78,7 +78,7 @@ fn answer_input<W: Sink>(alloc: Global, input: &[u8], sink: &mut W) -> Result<()
     }
 }
 
-/// Reads the whole input, and answers line by line.
+/// Reads the whole input, then writes the output line by line.
 pub fn run<R: Source, W: Sink>(alloc: Global, source: &mut R, sink: &mut W) -> Result<(), Fault>
     ensures ok { let writes = Writes (W.contents sink.old) (W.contents sink.new) in
         OnOk result (IfSome (R.remaining source.old) (λ input. writes (lines_of input))) }

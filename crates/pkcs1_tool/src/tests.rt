@@ -1,4 +1,4 @@
-//! Runs over sources and sinks that move a few bytes a call, and refuse one.
+//! Runs over sources and sinks that move a few bytes per call and fail at one call.
 mod doubles;
 
 use crate::fault::Fault;
@@ -95,7 +95,7 @@ fn stops_past_the_longest_input(rt: HostRuntime) {
     }
 }
 
-/// What comes of a run into the sink: the answer, its refusals, and what it gives up.
+/// Runs into a writer that fails at the call of number `refused`: the result, the sink's failed calls, and the writer.
 fn into_sink(rt: &HostRuntime, refused: u64) -> (Result<(), Fault>, u64, Refusing) {
     let mut sink = ToWrite::new(Refusing {
         taken: Vec::new(rt.alloc()),

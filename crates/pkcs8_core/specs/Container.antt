@@ -15,7 +15,7 @@ pub record Info : Type 0 where
   pub private_key : List ℕ
   pub attributes : Option (List ℕ)
 
--- attributes [0] IMPLICIT SET OF Attribute: the contents aren't looked at.
+-- attributes [0] IMPLICIT SET OF Attribute: the contents aren't checked.
 abbrev pub AttributesText : List ℕ → List ℕ → Type 0
 AttributesText octets text = Tlv (context_tag 0) (OctetContents octets) text
 
@@ -23,7 +23,8 @@ abbrev pub InfoContents : Info → List ℕ → Type 0
 InfoContents info contents =
     Joins (Small 0 ∷ PlainAlgorithm info.algorithm ∷ OctetString info.private_key ∷ Optional AttributesText info.attributes ∷ []) contents
 
--- PrivateKeyInfo ::= SEQUENCE { version INTEGER (0), privateKeyAlgorithm AlgorithmIdentifier, privateKey OCTET STRING, attributes [0] IMPLICIT Attributes OPTIONAL }
+-- PrivateKeyInfo ::= SEQUENCE { version INTEGER (0), privateKeyAlgorithm AlgorithmIdentifier, privateKey OCTET STRING,
+-- attributes [0] IMPLICIT Attributes OPTIONAL }
 abbrev pub PrivateKeyInfo : Info → List ℕ → Type 0
 PrivateKeyInfo info text = Tlv sequence_tag (InfoContents info) text
 
@@ -35,7 +36,7 @@ abbrev pub written_info : Info → List ℕ
 written_info info =
     tlv integer_tag (integer_contents (0 ∷ [])) ++ (written_plain info.algorithm ++ (tlv octet_string_tag info.private_key ++ written_optional (λ octets. tlv (context_tag 0) octets) info.attributes))
 
--- Why a container isn't written: it has no text within the limit, or its text has no room.
+-- Why a container isn't written: it has no encoding within the limit, or its encoding is longer than the room.
 abbrev pub IsUnwritten : Info → ℕ → EncodeRefusal → Type 0
 IsUnwritten info room no_text = ⊥
 IsUnwritten info room too_long = (text : List ℕ) → Means PrivateKeyInfo text info → ⊥

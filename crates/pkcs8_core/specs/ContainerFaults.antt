@@ -1,4 +1,4 @@
--- The first fault of bytes that are no container (RFC 5208 5), and of a container that holds no RSA key.
+-- The first fault of bytes that don't encode a container (RFC 5208 5), and of a container that holds no RSA key.
 use Rattle.std.specs.Prelude.{ℕ, List, ◌≡◌, ◌⊎◌}
 use Rattle.der_core.specs.declared.error.ErrorKind.{ErrorKind}
 use Rattle.der_core.specs.declared.error.ErrorKind.TheVariants.{Value}
@@ -21,7 +21,7 @@ VersionText _ = Small 0
 abbrev pub VersionFault : ErrorKind → List ℕ → Type 0
 VersionFault = ExpectedFault SmallContents SmallFault 0 (Value integer)
 
--- What is left behind the private key.
+-- A fault of what follows the private key.
 abbrev pub AttributesFault : ErrorKind → List ℕ → Type 0
 AttributesFault = TaggedLastFault attributes_tag AttributesText (TextFault attributes_tag NoFault)
 
@@ -31,15 +31,15 @@ BehindAlgorithm = ThenFault OctetString (TextFault octet_string NoFault) (λ _. 
 abbrev pub BehindVersion : ErrorKind → List ℕ → Type 0
 BehindVersion = ThenFault PlainAlgorithm (TextFault sequence (AlgorithmFault Any AnyFault)) (λ _. BehindAlgorithm)
 
--- The version, or behind it the algorithm, or behind that the private key, or what is left.
+-- A fault of the version, or else of the algorithm, the private key, or what follows it.
 abbrev pub InfoFault : ErrorKind → List ℕ → Type 0
 InfoFault = ThenFault VersionText (TextFault integer VersionFault) (λ _. BehindVersion)
 
--- A slice that is to be a container.
+-- The first fault of a whole slice, as a container.
 abbrev pub PrivateKeyInfoFault : ErrorKind → List ℕ → Type 0
 PrivateKeyInfoFault = WholeFault PrivateKeyInfo (TextFault sequence InfoFault)
 
--- A container that is to hold an RSA key: the algorithm is another, or the key has a fault.
+-- Why a container holds no RSA key: its algorithm is another, or its key has a fault.
 abbrev pub RsaFault : Info → ErrorKind → Type 0
 RsaFault info kind =
     NotRsa info.algorithm kind ⊎ ((info.algorithm ≡ rsa_encryption) × RsaPrivateKeyFault kind info.private_key)

@@ -18,7 +18,7 @@ rsa_encryption = with_parameters id_rsa_encryption null_value
 abbrev pub HoldsRsa : Info → PrivateKey (List ℕ) → Type 0
 HoldsRsa info key = (info.algorithm ≡ rsa_encryption) × Means RsaPrivateKey info.private_key key
 
--- Another identifier, no parameters, or others than NULL.
+-- The algorithm is rejected with this kind: another identifier, no parameters, or parameters other than NULL.
 pub data NotRsa (a : Algorithm TagAndContents) (e : ErrorKind) : Type 0 where
   unknown : e ≡ kind.OidUnknown → a.oid ≢ id_rsa_encryption → NotRsa a e
   missing : e ≡ kind.ParametersMissing → a.oid ≡ id_rsa_encryption → a.parameters ≡ None → NotRsa a e

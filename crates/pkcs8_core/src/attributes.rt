@@ -1,4 +1,4 @@
-//! Attributes of containers, as one opaque text.
+//! The attributes of containers, as opaque bytes.
 ghost use Rattle.std.specs.Prelude.{◌≡◌, ◌<◌, ◌^◌, ℕ, List, length, slice_index};
 ghost use Rattle.der_core.specs.OctetString.{OctetContents};
 ghost use Rattle.der_core.specs.Laws.OctetString.{octets_mean_one, octets_of_bytes, octets_relate, octets_shortest};
@@ -19,7 +19,7 @@ impl TagMarker for AttributesTag {
     const TAG: Tag = Tag { octet: 0xa0 };
 }
 
-/// Attributes, whose contents aren't looked at and may pass `Length::MAX`.
+/// Attributes, whose contents aren't checked and may be longer than `Length::MAX`.
 #[derive(Clone, Copy, Drop)]
 pub(crate) struct Attributes<'a> {
     pub(crate) bytes: &'a [u8],

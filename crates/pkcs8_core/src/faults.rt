@@ -1,4 +1,4 @@
-//! Why a text is none of a container: reading, as a function of the bytes alone.
+//! Why bytes encode no container: the error of reading, as a function of the bytes alone.
 ghost use Rattle.pkcs1_params.specs.Meanings.{TellsFault};
 ghost use Rattle.pkcs8_core.specs.Container as container;
 ghost use Rattle.pkcs8_core.specs.ContainerFaults.{PrivateKeyInfoFault};
@@ -6,8 +6,8 @@ ghost use Rattle.pkcs8_core.specs.ContainerFaults.{PrivateKeyInfoFault};
 use crate::info::PrivateKeyInfoRef;
 use pkcs1::der::ErrorKind;
 
-/// The first fault of bytes that are no container; `None` where they are. Every slice has one or the other, and no second
-/// fault.
+/// The kind of the first fault of bytes that don't encode a container, or `None` if they do. There is exactly one
+/// result for each slice, as reading allocates nothing.
 pub fn fault_of_private_key_info(bytes: &[u8]) -> Option<ErrorKind>
     ensures { TellsFault container.PrivateKeyInfo PrivateKeyInfoFault bytes.now result }
 {

@@ -1,4 +1,4 @@
-//! Containers of private keys.
+//! PKCS #8 containers of private keys.
 ghost use Rattle.std.specs.Prelude.{◌≡◌, ◌≤◌, ◌+◌, ℕ, List, length, take, drop, IfOk, IfErr, IsErrAnd, OnErr, refl};
 ghost use Rattle.std.specs.Option.{option_map};
 ghost use Rattle.der_core.specs.Document.{Means, IsAlone, HasText};
@@ -24,7 +24,7 @@ use pkcs1::der::{
 };
 use pkcs1::spki::AlgorithmIdentifierRef;
 
-/// A private key, the algorithm that it is for, and attributes (RFC 5208 5). Its version is 0.
+/// A private key with its algorithm and attributes (RFC 5208 5). The version is always 0.
 ///
 /// ```text
 /// PrivateKeyInfo ::= SEQUENCE {
@@ -36,15 +36,15 @@ use pkcs1::spki::AlgorithmIdentifierRef;
 /// ```
 #[derive(Clone, Copy, Drop)]
 pub struct PrivateKeyInfoRef<'a> {
-    /// What the private key is for.
+    /// The algorithm that the private key is for.
     pub algorithm: AlgorithmIdentifierRef<'a>,
-    /// The private key, in the form of its algorithm.
+    /// The octets of the private key, in the format of its algorithm.
     pub private_key: OctetStringRef<'a>,
-    /// The contents of the attributes, which aren't looked at.
+    /// The contents octets of the attributes, which aren't checked.
     pub attributes: Option<&'a [u8]>,
 }
 
-/// The contents of attributes, if there are any.
+/// The contents octets of the attributes, if there are any.
 fn contents_of<'a>(attributes: Option<Attributes<'a>>) -> Option<&'a [u8]>
     ensures { option_map slice_now result ≡ option_map attributes_of attributes.entry }
 {
@@ -54,7 +54,7 @@ fn contents_of<'a>(attributes: Option<Attributes<'a>>) -> Option<&'a [u8]>
     }
 }
 
-/// Reads the attributes, which are all that is left, or that there are none.
+/// Decodes the rest of a container: the attributes, if there are any.
 fn read_attributes<'a, R: Reader<&'a [u8]>>(reader: &mut R) -> Result<Option<&'a [u8]>>
     ensures reads { ReadsContents (option_map slice_now) (Optional AttributesText) (λ _. ⊥)
         result (R.left reader.old) (R.left reader.new) }
@@ -65,7 +65,7 @@ fn read_attributes<'a, R: Reader<&'a [u8]>>(reader: &mut R) -> Result<Option<&'a
     Ok(contents_of(attributes))
 }
 
-/// Reads the version, which is 0.
+/// Decodes the version, which must be 0.
 fn read_version<'a, M: Memory, R: Reader<&'a [u8]>>(memory: M, reader: &mut R) -> Result<()>
     ensures text { ReadsText (λ _. tt) VersionText (λ _. ⊥) result (R.left reader.old) (R.left reader.new) }
     ensures exact { let fault = TextFault integer VersionFault in
@@ -168,14 +168,14 @@ impl EncodeValue for PrivateKeyInfoRef<'_> {
 }
 
 impl<'a> PrivateKeyInfoRef<'a> {
-    /// The contents of the attributes, if there are any.
+    /// The contents octets of the attributes, if there are any.
     pub fn attributes(&self) -> Option<&'a [u8]>
         ensures { option_map slice_now result ≡ (info_of self.now).attributes }
     {
         self.attributes
     }
 
-    /// The attributes, as a text is made of them.
+    /// The attributes, as a type that can be encoded.
     fn attributes_text(&self) -> Option<Attributes<'a>>
         ensures { option_map attributes_of result ≡ (info_of self.now).attributes }
     {
@@ -185,15 +185,17 @@ impl<'a> PrivateKeyInfoRef<'a> {
         }
     }
 
-    /// Every container has a text, within the limit or not: so no call that encodes it answers `Value`.
+    /// Does nothing. Its contract: each container has an encoding, within the limit or not, so no call that encodes one
+    /// returns `Value`.
     pub fn has_text(&self)
         ensures { HasText PrivateKeyInfo (info_of self.now) }
     {
         let _attributes = self.attributes_text();
     }
 
-    /// Writes the container's one text to the front of a slice, and answers its length: `encode_into`, with all that is
-    /// known of a container's text. `Overflow` where the text passes `Length::MAX`, `NoRoom` where the slice is shorter.
+    /// Writes the container's only encoding to the front of a slice and returns its length, as `encode_into` does; the
+    /// contract is stated over the grammar of containers. Returns `Overflow` if the encoding is longer than
+    /// `Length::MAX`, `NoRoom` if it is longer than the slice.
     pub fn encode_info(&self, out: &mut [u8]) -> Result<usize>
         ensures text { IfOk result (λ n. Means PrivateKeyInfo (take n out.new) (info_of self.now)
             × IsAlone PrivateKeyInfo (info_of self.now) (take n out.new)) }
@@ -209,7 +211,7 @@ impl<'a> PrivateKeyInfoRef<'a> {
 impl<'a> TryFrom<&'a [u8]> for PrivateKeyInfoRef<'a> {
     type Error = Error;
 
-    /// Reads a whole slice, without memory. Another version than 0 is `Value` of INTEGER.
+    /// Decodes a whole slice, and allocates nothing. Returns `Value` of INTEGER for a version other than 0.
     fn try_from(bytes: &'a [u8]) -> Result<PrivateKeyInfoRef<'a>>
         ensures ok { IfOk result (λ info. Means PrivateKeyInfo bytes.now (info_of info)) }
         ensures one { IfOk result (λ info. IsOnlyMeaning PrivateKeyInfo bytes.now (info_of info)) }
@@ -223,12 +225,12 @@ impl<'a> TryFrom<&'a [u8]> for PrivateKeyInfoRef<'a> {
     }
 }
 
-/// A container has at most one text.
+/// A container has at most one encoding.
 pub fn containers_have_one_text()
     ensures { (info : Info) → AtMostOne (PrivateKeyInfo info) }
 {}
 
-/// A clone of a container means the same.
+/// A clone of a container means the same as the original.
 pub fn container_clones_mean_the_same()
     ensures { (a b : containers.PrivateKeyInfoRef)
         → ⟦<PrivateKeyInfoRef<'static> as Clone>⟧.is_clone a b → info_of b ≡ info_of a }

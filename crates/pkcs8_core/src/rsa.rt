@@ -20,7 +20,7 @@ use pkcs1::spki::AlgorithmIdentifierRef;
 use pkcs1::{RsaPrivateKeyRef, RsaPrivateKeyView, rsa_encryption_oid};
 use std::alloc::Global;
 
-/// Refuses an algorithm that isn't rsaEncryption with NULL.
+/// Rejects each algorithm but rsaEncryption with NULL.
 fn require_rsa(algorithm: &AlgorithmIdentifierRef<'_>) -> Result<()>
     ensures ok { IfOk result (λ _. algorithm_of algorithm.now ≡ rsa_encryption) }
     ensures err { IfErr result (λ e. NotRsa (algorithm_of algorithm.now) e.kind) }
@@ -36,8 +36,8 @@ fn require_rsa(algorithm: &AlgorithmIdentifierRef<'_>) -> Result<()>
 }
 
 impl<'a> PrivateKeyInfoRef<'a> {
-    /// The RSA key, without memory. The algorithm must be rsaEncryption (`OidUnknown`) with parameters
-    /// (`ParametersMissing`) that are NULL (`Value` of their tag).
+    /// Decodes the RSA key, and allocates nothing. The algorithm must be rsaEncryption (else `OidUnknown`) with
+    /// parameters (else `ParametersMissing`) that are NULL (else `Value` of their tag).
     pub fn rsa_view(&self) -> pkcs1::Result<RsaPrivateKeyView<'a>>
         ensures ok { IfOk result (λ view. HoldsRsa (info_of self.now) (view_of view)) }
         ensures one { IfOk result (λ view. (other : PrivateKey (List ℕ)) → HoldsRsa (info_of self.now) other
@@ -55,7 +55,8 @@ impl<'a> PrivateKeyInfoRef<'a> {
         RsaPrivateKeyView::try_from(self.private_key.as_bytes())
     }
 
-    /// The RSA key. Refused as `rsa_view`, or by `OutOfMemory` where memory is asked for.
+    /// Decodes the RSA key as a struct. The errors are those of `rsa_view`, and `OutOfMemory` as
+    /// `RsaPrivateKeyRef::decode_key` returns it.
     pub fn rsa_key(&self, alloc: Global) -> pkcs1::Result<RsaPrivateKeyRef<'a>>
         ensures ok { IfOk result (λ key. HoldsRsa (info_of self.now) (private_key_of key)) }
         ensures one { IfOk result (λ key. (other : PrivateKey (List ℕ)) → HoldsRsa (info_of self.now) other

@@ -1,4 +1,4 @@
-//! `read_key KIND FILE [OUT]`: reads the key or the parameters in a file, prints their numbers, and writes them again to
+//! `read_key KIND FILE [OUT]`: decodes the key or the parameters in a file, prints them, and encodes them again into
 //! OUT. KIND is pub, priv, p8, pss or oaep.
 use pkcs1_proved::{Algorithm, OaepParams, PrivateKey, PrivateKeyInfo, PssParams, PublicKey};
 

@@ -3,7 +3,7 @@ use crate::Error;
 use std::fmt;
 
 /// The contents octets of an OBJECT IDENTIFIER, at most 39.
-// `len` is at most 39, and the octets past it are zeros, so that equality is derived.
+// `len` is at most 39, and the octets after the first `len` are zeros, so that derived equality is right.
 #[repr(C)]
 #[derive(Clone, Copy, PartialEq, Eq, Hash)]
 pub struct ObjectIdentifier {
@@ -31,13 +31,13 @@ impl ObjectIdentifier {
     pub const SHA_512: ObjectIdentifier = known(&[0x60, 0x86, 0x48, 0x01, 0x65, 0x03, 0x04, 0x02, 0x03]);
     /// The mask generation function MGF1.
     pub const MGF1: ObjectIdentifier = known(&[0x2a, 0x86, 0x48, 0x86, 0xf7, 0x0d, 0x01, 0x01, 0x08]);
-    /// pSpecified: a label that stands in the parameters.
+    /// pSpecified: the parameters are the label.
     pub const P_SPECIFIED: ObjectIdentifier = known(&[0x2a, 0x86, 0x48, 0x86, 0xf7, 0x0d, 0x01, 0x01, 0x09]);
     /// rsaEncryption.
     pub const RSA_ENCRYPTION: ObjectIdentifier = known(&[0x2a, 0x86, 0x48, 0x86, 0xf7, 0x0d, 0x01, 0x01, 0x01]);
 
-    /// The identifier of these contents octets; more than 39 are `OID_MALFORMED`. Writing refuses octets that make no
-    /// identifier.
+    /// The identifier with these contents octets; more than 39 are `OID_MALFORMED`. Octets that are no identifier are
+    /// rejected only by the encoders.
     pub const fn new(contents: &[u8]) -> Result<ObjectIdentifier, Error> {
         let mut octets = [0; 39];
         if contents.len() > octets.len() {
@@ -57,7 +57,7 @@ impl ObjectIdentifier {
     }
 }
 
-/// No octets, which make no identifier: for the library to fill.
+/// No octets, which is no identifier: a value for the library to fill.
 impl Default for ObjectIdentifier {
     fn default() -> ObjectIdentifier {
         known(&[])
@@ -72,7 +72,7 @@ impl fmt::Debug for ObjectIdentifier {
     }
 }
 
-/// A value of any type: its tag octet, and its contents, which aren't looked at.
+/// A value of any type: its tag octet, and its contents, which aren't checked.
 #[derive(Clone, Copy, Debug, PartialEq, Eq, Hash)]
 pub struct Any<'a> {
     /// The tag octet.
@@ -94,14 +94,14 @@ impl<'a> Any<'a> {
 /// An AlgorithmIdentifier (RFC 5280 4.1.1.2).
 #[derive(Clone, Copy, Debug, PartialEq, Eq, Hash)]
 pub struct Algorithm<'a> {
-    /// Which algorithm.
+    /// The object identifier of the algorithm.
     pub oid: ObjectIdentifier,
-    /// Its parameters; none aren't the same as NULL.
+    /// Its parameters; `None` isn't the same as NULL.
     pub parameters: Option<Any<'a>>,
 }
 
 impl<'a> Algorithm<'a> {
-    /// The algorithm with NULL as its parameters, as hash functions are written.
+    /// The algorithm with NULL parameters, as is usual for hash functions.
     pub const fn with_null(oid: ObjectIdentifier) -> Algorithm<'static> {
         Algorithm { oid, parameters: Some(Any::NULL) }
     }
@@ -116,10 +116,10 @@ impl<'a> Algorithm<'a> {
     }
 }
 
-/// A mask generation function, and the hash function under it.
+/// A mask generation function, and the hash function that it uses.
 #[derive(Clone, Copy, Debug, PartialEq, Eq, Hash)]
 pub struct MaskGen<'a> {
-    /// Which function: MGF1 is the one that RFC 8017 has.
+    /// The object identifier of the function; RFC 8017 defines only MGF1.
     pub oid: ObjectIdentifier,
     /// The hash function.
     pub hash: Option<Algorithm<'a>>,

@@ -1,13 +1,13 @@
 use crate::raw::Encode;
 use crate::Error;
 
-/// A type that the library writes.
+/// A type that the library encodes.
 pub(crate) trait Writes {
-    /// Hands the value to the library's call.
+    /// Calls `call` with the value as the library's struct.
     fn with_raw<T>(&self, call: impl FnOnce(&dyn Encode) -> Result<T, Error>) -> Result<T, Error>;
 }
 
-/// Writes the DER to the front of `out`, and answers its length.
+/// Writes the DER to the front of `out`, and returns its length.
 pub(crate) fn into_slice(value: &dyn Encode, out: &mut [u8]) -> Result<usize, Error> {
     let mut len = 0;
     value.encode(out, &mut len)?;
@@ -31,7 +31,7 @@ pub(crate) fn into_vec(value: &dyn Encode) -> Result<Vec<u8>, Error> {
     Ok(out)
 }
 
-/// A list of so many items, or `OUT_OF_MEMORY`.
+/// A list of `len` items, or `OUT_OF_MEMORY`.
 pub(crate) fn collected<T>(len: usize, items: impl Iterator<Item = T>) -> Result<Vec<T>, Error> {
     let mut list = Vec::new();
     list.try_reserve_exact(len).map_err(|_| Error::OUT_OF_MEMORY)?;
@@ -47,8 +47,8 @@ macro_rules! encodings {
                 $crate::encode::Writes::with_raw(self, |raw| $crate::encode::len_of(raw))
             }
 
-            /// Writes the DER to the front of `out`, whose rest stays, and answers its length. After an error `out` is as
-            /// it was.
+            /// Writes the DER to the front of `out`, and returns its length. The rest of `out` is unchanged, and all of
+            /// it after an error.
             pub fn encode(&self, out: &mut [u8]) -> Result<usize, $crate::Error> {
                 $crate::encode::Writes::with_raw(self, |raw| $crate::encode::into_slice(raw, out))
             }

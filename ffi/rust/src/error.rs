@@ -1,7 +1,7 @@
 use crate::raw;
 use std::fmt;
 
-/// Why a call failed: one of the constants. `Display` and `Debug` print its text.
+/// Why a call failed: one of the constants. `Display` and `Debug` print its description.
 #[derive(Clone, Copy, PartialEq, Eq, Hash)]
 pub struct Error(u32);
 
@@ -13,7 +13,7 @@ macro_rules! errors {
     };
 }
 errors! {
-    /// Not answered by this crate.
+    /// Not returned by this crate.
     FAILED = 1;
     /// The input is empty or cut off: a length says more octets than there are, or a field is missing.
     INCOMPLETE = 2;
@@ -21,33 +21,33 @@ errors! {
     INDEFINITE_LENGTH = 3;
     /// A number without octets.
     LENGTH = 4;
-    /// Not DER: needless zeros in front of a number; in strict reading, a default that is written out.
+    /// Not DER: needless leading zeros of a number; in strict decoding, a default that is written out.
     NONCANONICAL = 5;
     /// An identifier that is empty, cut off, not in shortest form, or of more than 39 octets.
     OID_MALFORMED = 6;
     /// PKCS #8 with another key than RSA.
     OID_UNKNOWN = 7;
-    /// A length past 4294967295.
+    /// A length above 4294967295.
     OVERFLOW = 8;
     /// Not DER: a length in more octets than it needs.
     OVERLENGTH = 9;
-    /// PKCS #8 whose rsaEncryption comes without NULL.
+    /// PKCS #8 whose rsaEncryption has no parameters.
     PARAMETERS_MISSING = 10;
     /// Another type: PEM, PKCS #8, SubjectPublicKeyInfo or an encrypted key, perhaps.
     TAG_UNEXPECTED = 11;
     /// Not DER of these types: a tag octet that none of them has.
     TAG_UNKNOWN = 12;
-    /// Octets follow the value, or a field follows that the type doesn't have there.
+    /// Octets follow the value, or a field that the type doesn't have there.
     TRAILING_DATA = 13;
     /// A negative number; a version, salt length, trailer field or NULL that isn't allowed.
     VALUE = 14;
-    /// The output has no room for the DER.
+    /// The DER is longer than the output.
     NO_ROOM = 15;
-    /// Not answered by this crate.
+    /// Not returned by this crate.
     FILE = 16;
-    /// No memory was found.
+    /// Out of memory.
     OUT_OF_MEMORY = 17;
-    /// Not answered by this crate, which hands on as many other primes as there are.
+    /// Not returned by this crate, which always passes all other primes.
     OTHER_PRIMES = 21;
 }
 
@@ -56,7 +56,7 @@ impl Error {
         Error(status)
     }
 
-    /// The number that it has in `pkcs1.h`.
+    /// Its number in `pkcs1.h`.
     pub const fn status(self) -> u32 {
         self.0
     }

@@ -3,8 +3,8 @@ use crate::raw::{self, Bytes, Encode};
 use crate::Error;
 use std::fmt;
 
-/// A public key (RFC 8017 A.1.1), by its numbers: unsigned, most significant octet first. Read ones have no zeros in front;
-/// writing takes some. Equality is that of the octets.
+/// A public key (RFC 8017 A.1.1). The numbers are unsigned, most significant octet first. Decoding gives no leading
+/// zeros; encoding accepts them. Equality compares the octets.
 #[derive(Clone, Copy, Debug, PartialEq, Eq, Hash)]
 pub struct PublicKey<'a> {
     /// n.
@@ -14,7 +14,7 @@ pub struct PublicKey<'a> {
 }
 
 impl<'a> PublicKey<'a> {
-    /// The key that this is the DER of, the whole slice.
+    /// Decodes a key from the whole slice.
     pub fn decode(der: &'a [u8]) -> Result<PublicKey<'a>, Error> {
         let key = raw::public_key(der)?;
         Ok(PublicKey { modulus: key.modulus.get(), public_exponent: key.public_exponent.get() })
@@ -27,7 +27,7 @@ impl Writes for PublicKey<'_> {
     }
 }
 
-/// A prime of a private key past the first two. It is a secret: `Debug` prints none of it, and it can't be compared.
+/// A prime of a private key after the first two. It is a secret: `Debug` prints none of it, and it can't be compared.
 #[derive(Clone, Copy)]
 pub struct OtherPrime<'a> {
     /// r.
@@ -54,7 +54,8 @@ impl fmt::Debug for OtherPrime<'_> {
     }
 }
 
-/// A private key (RFC 8017 A.1.2), of two primes or more. `Debug` prints its public half alone, and it can't be compared.
+/// A private key (RFC 8017 A.1.2) with two primes or more. `Debug` prints only its public half, and it can't be
+/// compared.
 #[derive(Clone)]
 pub struct PrivateKey<'a> {
     /// n.
@@ -73,18 +74,18 @@ pub struct PrivateKey<'a> {
     pub exponent2: &'a [u8],
     /// The inverse of q modulo p.
     pub coefficient: &'a [u8],
-    /// The primes past the first two: none for most keys.
+    /// The primes after the first two: none for most keys.
     pub other_primes: Vec<OtherPrime<'a>>,
 }
 
 impl<'a> PrivateKey<'a> {
-    /// The key that this is the DER of, the whole slice. Memory is taken for other primes alone.
+    /// Decodes a key from the whole slice. Allocates only for other primes.
     pub fn decode(der: &'a [u8]) -> Result<PrivateKey<'a>, Error> {
         let key = raw::private_key(der, &mut [])?;
         PrivateKey::seen(der, &key)
     }
 
-    /// The key that was read from this DER.
+    /// The key that the library decoded from `der`, with its other primes.
     pub(crate) fn seen(der: &'a [u8], key: &raw::PrivateKey<'a>) -> Result<PrivateKey<'a>, Error> {
         let count = key.other_primes;
         let mut others = collected(count, std::iter::repeat_n(raw::OtherPrime::default(), count))?;

@@ -2,17 +2,17 @@ use crate::encode::Writes;
 use crate::raw::{self, Encode};
 use crate::{Algorithm, Any, Error, MaskGen, ObjectIdentifier};
 
-/// The trailer field of RSASSA-PSS (RFC 8017 A.2.3): there is one.
+/// The trailer field of RSASSA-PSS (RFC 8017 A.2.3), which has only one value.
 #[derive(Clone, Copy, Debug, Default, PartialEq, Eq, Hash)]
 #[repr(u8)]
 pub enum TrailerField {
-    /// The octet `bc`.
+    /// The trailer octet 0xbc.
     #[default]
     BC = 1,
 }
 
-/// The parameters of RSASSA-PSS (RFC 8017 A.2.3). A field that the DER leaves out has its default here, and one that has
-/// its default is left out of the DER.
+/// The parameters of RSASSA-PSS (RFC 8017 A.2.3). Decoding sets a field that isn't in the DER to its default, and
+/// encoding leaves out a field that has its default.
 #[derive(Clone, Copy, Debug, PartialEq, Eq, Hash)]
 pub struct PssParams<'a> {
     /// The hash function; SHA-1 is the default.
@@ -29,18 +29,18 @@ impl<'a> PssParams<'a> {
     /// The default of `salt_len`.
     pub const SALT_LEN_DEFAULT: u8 = 20;
 
-    /// Those of one hash function: MGF1 with the same one, and NULL as parameters.
+    /// Parameters for one hash function: MGF1 with the same one, and both with NULL parameters.
     pub const fn new(hash: ObjectIdentifier, salt_len: u8) -> PssParams<'static> {
         let hash = Algorithm::with_null(hash);
         PssParams { hash, mask_gen: MaskGen::mgf1(hash), salt_len, trailer_field: TrailerField::BC }
     }
 
-    /// The parameters that this is the DER of, the whole slice. A default that is written out is read too.
+    /// Decodes parameters from the whole slice. Accepts a default that is written out.
     pub fn decode(der: &'a [u8]) -> Result<PssParams<'a>, Error> {
         raw::pss_params(der).map(PssParams::seen)
     }
 
-    /// The same, where no default is written out; else `Error::NONCANONICAL`.
+    /// As `decode`, but returns `Error::NONCANONICAL` if a default is written out.
     pub fn decode_strict(der: &'a [u8]) -> Result<PssParams<'a>, Error> {
         raw::pss_params_strict(der).map(PssParams::seen)
     }
@@ -68,37 +68,38 @@ impl Writes for PssParams<'_> {
     }
 }
 
-/// The parameters of RSAES-OAEP (RFC 8017 A.2.1). A field that the DER leaves out has its default here, and one that has
-/// its default is left out of the DER.
+/// The parameters of RSAES-OAEP (RFC 8017 A.2.1). Decoding sets a field that isn't in the DER to its default, and
+/// encoding leaves out a field that has its default.
 #[derive(Clone, Copy, Debug, PartialEq, Eq, Hash)]
 pub struct OaepParams<'a> {
     /// The hash function; SHA-1 is the default.
     pub hash: Algorithm<'a>,
     /// The mask generation function; MGF1 with SHA-1 is the default.
     pub mask_gen: MaskGen<'a>,
-    /// Where the label comes from; the default is pSpecified with an empty label.
+    /// The source of the label; the default is pSpecified with an empty label.
     pub p_source: Algorithm<'a>,
 }
 
 impl<'a> OaepParams<'a> {
-    /// Those of one hash function and an empty label: MGF1 with the same one, and NULL as parameters.
+    /// Parameters for one hash function and an empty label: MGF1 with the same hash function, and both with NULL
+    /// parameters.
     pub const fn new(hash: ObjectIdentifier) -> OaepParams<'static> {
         OaepParams::new_with_label(hash, &[])
     }
 
-    /// The same with a label.
+    /// As `new`, with a label.
     pub const fn new_with_label(hash: ObjectIdentifier, label: &'a [u8]) -> OaepParams<'a> {
         let hash = Algorithm::with_null(hash);
         let p_source = Algorithm { oid: ObjectIdentifier::P_SPECIFIED, parameters: Some(Any::octet_string(label)) };
         OaepParams { hash, mask_gen: MaskGen::mgf1(hash), p_source }
     }
 
-    /// The parameters that this is the DER of, the whole slice. A default that is written out is read too.
+    /// Decodes parameters from the whole slice. Accepts a default that is written out.
     pub fn decode(der: &'a [u8]) -> Result<OaepParams<'a>, Error> {
         raw::oaep_params(der).map(OaepParams::seen)
     }
 
-    /// The same, where no default is written out; else `Error::NONCANONICAL`.
+    /// As `decode`, but returns `Error::NONCANONICAL` if a default is written out.
     pub fn decode_strict(der: &'a [u8]) -> Result<OaepParams<'a>, Error> {
         raw::oaep_params_strict(der).map(OaepParams::seen)
     }

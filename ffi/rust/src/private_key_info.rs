@@ -3,8 +3,8 @@ use crate::raw::{self, Bytes, Encode};
 use crate::{Error, PrivateKey};
 use std::fmt;
 
-/// An RSA private key in PKCS #8 (PrivateKeyInfo of RFC 5208), not encrypted. `Debug` prints the public half of the key
-/// alone, and it can't be compared.
+/// An RSA private key in an unencrypted PKCS #8 container (PrivateKeyInfo of RFC 5208). `Debug` prints only the public
+/// half of the key, and it can't be compared.
 #[derive(Clone)]
 pub struct PrivateKeyInfo<'a> {
     private_key_der: &'a [u8],
@@ -13,7 +13,7 @@ pub struct PrivateKeyInfo<'a> {
 }
 
 impl<'a> PrivateKeyInfo<'a> {
-    /// The container that this is the DER of, the whole slice, and the key in it.
+    /// Decodes a container, and the key in it, from the whole slice.
     pub fn decode(der: &'a [u8]) -> Result<PrivateKeyInfo<'a>, Error> {
         let (info, key) = raw::private_key_info(der)?;
         let private_key_der = info.private_key.get();
@@ -21,12 +21,12 @@ impl<'a> PrivateKeyInfo<'a> {
         Ok(PrivateKeyInfo { private_key_der, private_key: PrivateKey::seen(private_key_der, &key)?, attributes })
     }
 
-    /// A container of the key that this is the DER of (`PrivateKey::to_vec` makes it), without attributes.
+    /// A container without attributes, of the key with this DER (`PrivateKey::to_vec` returns it).
     pub fn new(private_key_der: &'a [u8]) -> Result<PrivateKeyInfo<'a>, Error> {
         Ok(PrivateKeyInfo { private_key_der, private_key: PrivateKey::decode(private_key_der)?, attributes: None })
     }
 
-    /// The same with attributes, by their contents, which aren't looked at.
+    /// The container with attributes, given by their contents octets, which aren't checked.
     pub fn with_attributes(self, attributes: &'a [u8]) -> PrivateKeyInfo<'a> {
         PrivateKeyInfo { attributes: Some(attributes), ..self }
     }
@@ -41,7 +41,7 @@ impl<'a> PrivateKeyInfo<'a> {
         self.private_key_der
     }
 
-    /// The contents of the attributes.
+    /// The contents octets of the attributes.
     pub fn attributes(&self) -> Option<&'a [u8]> {
         self.attributes
     }

@@ -1,4 +1,4 @@
-//! The proved calls that `pkcs1_c.h` declares, each with the lifetime of the slice that it reads.
+//! The proved calls of `pkcs1_c.h`. What a decoder returns has the lifetime of the slice that it reads.
 use crate::{Error, ObjectIdentifier};
 use core::marker::PhantomData;
 
@@ -17,7 +17,7 @@ impl<'a> Bytes<'a> {
     }
 
     pub fn get(self) -> &'a [u8] {
-        // SAFETY: made from a slice of this lifetime, here or by the library, whose contracts say what it holds.
+        // SAFETY: made from a slice of this lifetime, here or by the library, whose contracts say so.
         unsafe { core::slice::from_raw_parts(self.data, self.len) }
     }
 }
@@ -106,7 +106,7 @@ macro_rules! decoders {
         }
         $(pub fn $name<'a>(der: &'a [u8]) -> Result<$type<'a>, Error> {
             let mut value = $type::<'a>::default();
-            // SAFETY: pointer and length of one slice, which lives as long as what is answered.
+            // SAFETY: pointer and length of one slice, which lives as long as the result.
             let status = unsafe { $call(der.as_ptr(), der.len(), &mut value) };
             answer(status, value)
         })*
@@ -120,7 +120,8 @@ decoders! {
     oaep_params_strict calls pkcs1_c_oaep_params_decode_strict -> OaepParams;
 }
 
-/// What the library writes: `out` gets the DER, and `len` its length, or the one that is needed.
+/// A struct that the library encodes: `out` gets the DER, and `len` its length or, if there is no room, the length
+/// needed.
 pub trait Encode {
     fn encode(&self, out: &mut [u8], len: &mut usize) -> Result<(), Error>;
 }
@@ -153,15 +154,15 @@ unsafe extern "C" {
     safe fn pkcs1_c_version(text: &mut Bytes<'static>);
 }
 
-/// The key, whose first other primes are put into `others`.
+/// Decodes a key, and puts its first other primes into `others`, as many as fit.
 pub fn private_key<'a>(der: &'a [u8], others: &mut [OtherPrime<'a>]) -> Result<PrivateKey<'a>, Error> {
     let mut key = PrivateKey::default();
-    // SAFETY: pointers and lengths of slices, the first of which lives as long as what is answered.
+    // SAFETY: pointers and lengths of slices, the first of which lives as long as the result.
     let status = unsafe { pkcs1_c_private_key_decode(der.as_ptr(), der.len(), &mut key, others.as_mut_ptr(), others.len()) };
     answer(status, key)
 }
 
-/// The container and the key in it.
+/// Decodes a container and the key in it, without its other primes.
 pub fn private_key_info<'a>(der: &'a [u8]) -> Result<(PrivateKeyInfo<'a>, PrivateKey<'a>), Error> {
     let (mut info, mut key) = (PrivateKeyInfo::default(), PrivateKey::default());
     let others: &mut [OtherPrime<'a>] = &mut [];
@@ -179,7 +180,7 @@ impl Encode for (PrivateKey<'_>, &[OtherPrime<'_>]) {
     }
 }
 
-/// The text of a status.
+/// The description of a status.
 pub fn status_text(status: u32) -> &'static str {
     let mut text = Bytes::default();
     pkcs1_c_status_text(status, &mut text);

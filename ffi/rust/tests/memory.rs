@@ -1,4 +1,4 @@
-//! Where memory is asked for, and that want of it is `Error::OUT_OF_MEMORY`: each request is refused in turn.
+//! Which calls allocate, and that each failed allocation gives `Error::OUT_OF_MEMORY`.
 use pkcs1_proved::*;
 use std::alloc::{GlobalAlloc, Layout, System};
 use std::cell::Cell;
@@ -6,11 +6,11 @@ use std::cell::Cell;
 struct Counting;
 
 thread_local! {
-    /// How many requests of this thread are answered before one is refused; below zero none is counted.
+    /// How many allocations of this thread succeed before one fails; below zero none is counted.
     static LEFT: Cell<isize> = const { Cell::new(isize::MIN) };
 }
 
-// SAFETY: the system's allocator, or null.
+// SAFETY: calls the system's allocator, or returns null.
 unsafe impl GlobalAlloc for Counting {
     unsafe fn alloc(&self, layout: Layout) -> *mut u8 {
         let left = LEFT.get();
@@ -33,7 +33,7 @@ unsafe impl GlobalAlloc for Counting {
 #[global_allocator]
 static ALLOCATOR: Counting = Counting;
 
-/// How many requests the call makes; with each of them refused it answers `OUT_OF_MEMORY`.
+/// How many allocations the call makes. With each of them failing in turn it must return `OUT_OF_MEMORY`.
 fn requests<T>(call: impl Fn() -> Result<T, Error>) -> isize {
     for count in 0.. {
         LEFT.set(count);

@@ -1,5 +1,5 @@
-//! Keys, containers and parameters that OpenSSL made (tests/keys/make): read, compared with the numbers that OpenSSL prints,
-//! and written again as the same octets; and what isn't read.
+//! Keys, containers and parameters that OpenSSL made (tests/keys/make): decoded, compared with the numbers that OpenSSL
+//! prints, and encoded again as the same octets; and files that are rejected.
 use pkcs1_proved::*;
 
 macro_rules! file {
@@ -8,7 +8,7 @@ macro_rules! file {
     };
 }
 
-/// The numbers as OpenSSL prints them, each line one.
+/// The numbers that OpenSSL printed, one in each line.
 fn printed(lines: &str) -> Vec<Vec<u8>> {
     let octets = |line: &str| (0..line.len()).step_by(2).map(|at| u8::from_str_radix(&line[at..at + 2], 16).unwrap()).collect();
     lines.lines().map(octets).collect()
@@ -61,7 +61,7 @@ fn parameters() {
     let pss = file!("pss_sha256.der");
     assert_eq!(PssParams::decode(pss), Ok(PssParams::new(ObjectIdentifier::SHA_256, 32)));
     assert_eq!(PssParams::decode_strict(pss).unwrap().to_vec().unwrap(), pss);
-    // OpenSSL writes the hash function of OAEP without NULL.
+    // OpenSSL writes the hash function of OAEP without parameters.
     let oaep = file!("oaep_sha512.der");
     let hash = Algorithm { oid: ObjectIdentifier::SHA_512, parameters: None };
     let want = OaepParams { hash, mask_gen: MaskGen::mgf1(hash), ..OaepParams::new_with_label(ObjectIdentifier::SHA_512, b"label") };

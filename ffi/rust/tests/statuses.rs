@@ -1,4 +1,4 @@
-//! The table of inputs: each is read with its status, and an accepted one is written again.
+//! The table of inputs: each gives its status, and one that is accepted is encoded again.
 use pkcs1_proved::{Error, OaepParams, PrivateKey, PrivateKeyInfo, PssParams, PublicKey};
 
 fn octets(digits: &str) -> Vec<u8> {
@@ -26,7 +26,7 @@ fn status(name: &str) -> Option<Error> {
     })
 }
 
-/// The DER that is written again.
+/// Decodes the DER, and encodes the value again.
 fn again(kind: &str, der: &[u8]) -> Result<Vec<u8>, Error> {
     match kind {
         "pub" => PublicKey::decode(der)?.to_vec(),

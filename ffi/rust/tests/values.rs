@@ -1,11 +1,11 @@
-//! What each type reads, writes and prints.
+//! What each type decodes, encodes and prints.
 use pkcs1_proved::*;
 use std::collections::HashSet;
 
 const PUBLIC: [u8; 10] = [0x30, 0x08, 0x02, 0x03, 0x00, 0xc1, 0x7f, 0x02, 0x01, 0x03];
 const TWO: [u8; 29] = [0x30, 27, 2, 1, 0, 2, 1, 1, 2, 1, 2, 2, 1, 3, 2, 1, 4, 2, 1, 5, 2, 1, 6, 2, 1, 7, 2, 1, 8];
 
-/// The key above with so many primes past the first two, at most eight.
+/// The key above with `count` primes after the first two, at most eight.
 fn with_others(count: u8) -> Vec<u8> {
     let mut der = vec![0x30, 29 + 11 * count, 2, 1, 1];
     der.extend(&TWO[5..]);

@@ -1,4 +1,4 @@
--- What private keys hold: canonical numbers, none longer than a text may be, and fewer primes than memory has bytes.
+-- What a private key in memory holds: canonical numbers within the limit, and fewer primes than memory has bytes.
 use Rattle.std.proofs.Common.{ℕ, List, [], ◌∷◌, map, arith, Option, Some, None}
 use Rattle.std.proofs.lemmas.List.{length-map}
 use Rattle.std.specs.Prelude.{Result, Ok, Err, IfErr}
@@ -53,7 +53,7 @@ module _ {U : Type 0} (number : U → List ℕ) (held : (u : U) → IsHeld (numb
     ),
   )
 
-  -- So a key that can be written has a text.
+  -- So a key that can be written has an encoding.
   pub held_has_text : (key : Listed U) → HasPrivateKey IsCanonical (private_key_with number key) → HasText RsaPrivateKey (private_key_with number key)
   held_has_text key has = private_made (private_key_with number key) (numbers_held key) (others_held key.other_prime_infos has.1.1)
 

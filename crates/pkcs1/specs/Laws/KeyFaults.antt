@@ -1,4 +1,4 @@
--- Bytes with a fault are no text of a key, and have one first fault.
+-- Bytes with a fault encode no key, and have only one first fault.
 use Rattle.std.proofs.Common.{◌≡◌, ◌≢◌, ℕ, ◌<◌, ◌≤◌, List, [], ◌∷◌, ◌++◌, length, map, refl, sym, ap, ◌∙◌, arith, length-append, append_assoc, append-nil, inl, inr, Option, Some, None}
 use Rattle.std.specs.Prelude.{slice_get}
 use Rattle.der_core.specs.declared.error.ErrorKind.{ErrorKind}
@@ -54,9 +54,9 @@ public_key_whole_first =
     whole_fault_first RsaPublicKey _ public_delimited text_none
     (text_fault_first sequence _ (public_key_fault_first Integer (TextFault integer IntegerFault) integer_delimited number_none (text_fault_first integer IntegerFault integer_fault_first)))
 
--- So many numbers.
+-- n numbers in a row.
 module _ {V : Type 0} (text : V → List ℕ → Type 0) (Fault : ErrorKind → List ℕ → Type 0) (d : IsDelimited text) (none : AreNone (NoneIn text) Fault) where
-  -- fewer stand at the front, and nothing fits behind them
+  -- fewer are at the front, and what follows begins with none
   few_none : (vs ws : List V) (x y z w : List ℕ) → Joins (map text vs) x → length vs < length ws → NoneIn text y → x ++ y ≡ z ++ w → Joins (map text ws) z → ⊥
   few_none vs [] x y z w p l nothing e q = omega (arith, l)
   few_none [] (u ∷ us) x y z w p l nothing e q =
@@ -112,7 +112,7 @@ module _ {V : Type 0} (text : V → List ℕ → Type 0) (Fault : ErrorKind → 
     one = λ vs ws x y z w p q e. counted_same vs ws x y z w (p.0 ∙ sym q.0) p.1 q.1 e;
   }
 
-  -- another prime
+  -- one of the other primes
   pub other_fault_none : AreNone (NoneHas (OtherPrimeContents text)) (OtherPrimeFault text Fault)
   other_fault_none k c within fault =
       let told =
@@ -123,7 +123,7 @@ module _ {V : Type 0} (text : V → List ℕ → Type 0) (Fault : ErrorKind → 
   pub other_fault_first : AreFirst Fault → AreFirst (OtherPrimeFault text Fault)
   other_fault_first first = then_fault_first (Counted 3 text) (CountedFault 3 text Fault) (λ _. EndFault) (counted_delimited 3 (omega arith)) (counted_fault_none 3) (counted_fault_first 3 first) (λ _. end_fault_first)
 
-  -- the list of them
+  -- their list
   abbrev Listed : List (OtherPrime V) → List ℕ → Type 0
   Listed os b = Tlv 48 (ItemsContents (OtherPrimeInfo text) os) b
 
@@ -136,7 +136,7 @@ module _ {V : Type 0} (text : V → List ℕ → Type 0) (Fault : ErrorKind → 
   listed_none : AreNone (NoneIn Listed) (TextFault sequence (ItemsFault (OtherPrimeInfo text) (TextFault sequence (OtherPrimeFault text Fault))))
   listed_none = text_fault_none sequence (ItemsFault (OtherPrimeInfo text) (TextFault sequence (OtherPrimeFault text Fault))) (ItemsContents (OtherPrimeInfo text)) (items_fault_none (OtherPrimeInfo text) _ (other_delimited d) one_none)
 
-  -- of a text of the list the whole is the list, and the octet of its tag is first
+  -- if the tag of a SEQUENCE is first, there are other primes, and the bytes are their list
   others_is : (o : Option (List (OtherPrime V))) (c : List ℕ) → OtherPrimeInfos text o c → slice_get c 0 ≡ Some 48 → (os : List (OtherPrime V)) × (o ≡ Some os) × (0 < length os) × Listed os c
   others_is None c has first = let no : slice_get c 0 ≡ None = ap (λ l. slice_get l 0) has in cc
   others_is (Some os) c has first = (os, refl, has.0, has.1)
@@ -247,7 +247,7 @@ module _ {V : Type 0} (text : V → List ℕ → Type 0) (Fault : ErrorKind → 
       (λ n. then_fault_first (EightNumbers text) (CountedFault 8 text Fault) (λ _. OthersFault text Fault n) (counted_delimited text Fault d none 8 (omega arith)) (counted_fault_none text Fault d none 8)
       (counted_fault_first text Fault d none 8 first) (λ _. others_fault_first text Fault d none first n))
 
--- Of integers.
+-- Keys whose numbers are INTEGERs.
 number_first : AreFirst NumberFault
 number_first = text_fault_first integer IntegerFault integer_fault_first
 

@@ -1,4 +1,4 @@
--- A shortest text that is one of at most one is the only one.
+-- If a value has at most one encoding, its shortest one is its only one.
 use Rattle.std.proofs.Common.{ℕ, List}
 use Rattle.der_core.specs.Document.{IsShortest}
 use Rattle.der_core.specs.Laws.Shortest.{means_one}

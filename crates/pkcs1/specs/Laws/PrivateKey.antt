@@ -1,4 +1,4 @@
--- RSA private keys: each text means one key and is bytes, and what is written of a key is its shortest text.
+-- RSA private keys: each encoding means one key and is bytes, and what is written of a key is its shortest encoding.
 use Rattle.std.proofs.Common.{ℕ, List, [], ◌∷◌, ◌++◌, ◌≡◌, ◌<◌, ◌≤◌, ◌^◌, length, map, refl, sym, ap, ◌∙◌, arith, append_assoc, length-append, Option, Some, None}
 use Rattle.der_core.specs.Tag.{integer_tag, sequence_tag}
 use Rattle.der_core.specs.Tlv.{tlv}
@@ -17,7 +17,7 @@ pub version_small : {Number : Type 0} (others : Option (List (OtherPrime Number)
 version_small None = omega arith
 version_small (Some others) = omega arith
 
--- Parts in front of other parts.
+-- Parts before other parts.
 pub joins_put : (ps qs : List (List ℕ → Type 0)) (x y : List ℕ) → Joins ps x → Joins qs y → Joins (ps ++ qs) (x ++ y)
 joins_put [] qs x y p q = rw p q
 joins_put (P ∷ ps) qs x y (a, b, p, i, e) q = (a, b ++ y, p, joins_put ps qs b y i q, ap (λ l. l ++ y) e ∙ append_assoc a b y)
@@ -39,7 +39,7 @@ module _ {Number : Type 0} {NumberText : Number → List ℕ → Type 0} (d : Is
   pub other_delimited : IsDelimited (OtherPrimeInfo NumberText)
   other_delimited = tlv_delimited sequence_tag (OtherPrimeContents NumberText) other_means_one
 
-  -- The other primes at the end, where the versions agree.
+  -- The other primes at the end, if the versions agree.
   pub others_same : (v w : Option (List (OtherPrime Number))) (c : List ℕ) → version_of v ≡ version_of w → Joins (OtherPrimeInfos NumberText v ∷ []) c → Joins (OtherPrimeInfos NumberText w ∷ []) c → v ≡ w
   others_same None None c n p q = refl
   others_same None (Some w) c n p q = absurd (omega arith)
@@ -125,7 +125,7 @@ module _ {Number : Type 0} (NumberText : Number → List ℕ → Type 0) (has : 
         c
         (a, b, p, joins_take (map NumberText (key_numbers key)) (OtherPrimeInfos NumberText key.other_prime_infos ∷ []) b i, e)
 
--- Contents are bytes where the texts of numbers are.
+-- Contents are bytes if the encodings of numbers are.
 module _ {Number : Type 0} (NumberText : Number → List ℕ → Type 0) (bytes : IsOfBytes NumberText) where
   numbers_of_bytes : (ns : List Number) (c : List ℕ) → Joins (map NumberText ns) c → AreBytes c
   numbers_of_bytes ns c p = items_of_bytes NumberText bytes ns c p

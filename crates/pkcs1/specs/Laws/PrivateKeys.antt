@@ -1,5 +1,5 @@
--- Private keys: each text means one key, each key has one text, keys that aren't too long have a text,
--- and no text is one of a public and of a private key.
+-- Private keys: each encoding means one key, each key has at most one encoding, keys that aren't too long have one, and
+-- no bytes encode both a public and a private key.
 use Rattle.std.proofs.Common.{ℕ, List, [], ◌∷◌, ◌++◌, ◌≡◌, ◌<◌, ◌≤◌, ◌+◌, ◌*◌, ◌^◌, length, map, refl, sym, ap, ◌∙◌, arith, length-append, Option, Some, None, inl, inr}
 use Rattle.der_core.specs.Length.{limit}
 use Rattle.der_core.specs.Tlv.{Tlv}
@@ -50,7 +50,7 @@ pub private_only : (key : PrivateKey (List ℕ)) (result : Result ℕ Error) (ou
 private_only key (Ok n) out h = only_text RsaPrivateKey private_delimited key (private_at_most_one key) (take n out) h
 private_only key (Err e) out h = tt
 
--- Two texts of one tag in front of the same bytes leave the same rest.
+-- Two encodings with one tag, at the front of the same bytes, leave the same rest.
 rest_same : {t : ℕ} {P Q Ps Qs : List ℕ → Type 0} (c : List ℕ) → Then (Tlv t P) Ps c → Then (Tlv t Q) Qs c → (rest : List ℕ) × Ps rest × Qs rest
 rest_same c (x, y, p, i, e) (x', y', q, j, f) =
     let s = tlv_split x y x' y' p q (sym e ∙ f) in
@@ -66,11 +66,11 @@ keys_exclude v w text p q =
     let b = rest_same a.0 a.1 a.2 in
     ends b.0 b.1 b.2
 
--- A number as a type holds it: canonical, and no longer than a text may be.
+-- A number as a type holds it: canonical, and within the limit.
 abbrev pub IsHeld : List ℕ → Type 0
 IsHeld bytes = IsCanonical bytes × (length bytes ≤ limit)
 
--- Texts one after another, none of them long.
+-- Encodings in a row, none longer than `most`.
 all_made : {V : Type 0} (Grammar : V → List ℕ → Type 0) (holds : V → Type 0) (most : ℕ) → ((v : V) → holds v → (text : List ℕ) × Grammar v text × (length text ≤ most))
     → (vs : List V) → AllHave holds vs → (text : List ℕ) × Joins (map Grammar vs) text × (length text ≤ length vs * most)
 all_made Grammar holds most one [] h = ([], refl, omega arith)
@@ -94,7 +94,7 @@ other_made other h =
     let made = tlv_made 48 (OtherPrimeContents Integer other) c.0 c.1 (omega (arith, c.2)) in
     (made.0, made.1, omega (arith, c.2, ap length made.2, tlv_little_longer made.0 made.1))
 
--- A list that is there isn't empty, and has fewer than 2 ^ 64 primes; their numbers are held.
+-- If there is a list, it isn't empty and has fewer than 2 ^ 64 primes; their numbers are held.
 abbrev pub AreHeld : Option (List (OtherPrime (List ℕ))) → Type 0
 AreHeld None = Unit {0}
 AreHeld (Some others) = (0 < length others) × (length others < 2 ^ 64) × AllHave (λ other. AllHave IsHeld (other_numbers other)) others

@@ -1,4 +1,4 @@
--- Public keys: each text means one key, is bytes, and what is written of a key is the shortest of its texts.
+-- Public keys: each encoding means one key and is bytes, and what is written of a key is its shortest encoding.
 use Rattle.std.specs.Prelude.{ℕ, List, ◌<◌, ◌^◌, length}
 use Rattle.std.proofs.Common.{Bool, ◌≡◌, ◌&&◌, ap, arith, length-append, Decides}
 use Rattle.der_core.specs.Laws.Equality.{both_decide}
@@ -31,7 +31,7 @@ module _ {Number : Type 0} (NumberText : Number → List ℕ → Type 0) where
     public_key_shortest least key c p =
         then_least (text key.modulus) (text key.public_exponent) (least key.modulus) (last_least (text key.public_exponent) (least key.public_exponent)) c p
 
--- Equality, by that of the numbers.
+-- Equality of keys, given that of numbers.
 pub public_key_decides : {U V : Type 0} (value : U → V) (E : U → U → Bool) → ((a b : U) → Decides (E a b) (value a ≡ value b)) → (m n e f : U)
     → Decides (E m n && E e f) (◌≡◌ {A = PublicKey V} (record { modulus = value m; public_exponent = value e }) (record { modulus = value n; public_exponent = value f }))
 public_key_decides {U} {V} value E d m n e f =

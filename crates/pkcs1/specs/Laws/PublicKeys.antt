@@ -1,4 +1,4 @@
--- Public keys: each text means one key, each key has one text, and keys that aren't too long have a text.
+-- Public keys: each encoding means one key, each key has at most one encoding, and keys that aren't too long have one.
 use Rattle.std.proofs.Common.{ℕ, List, [], ◌∷◌, ◌++◌, ◌≤◌, length, arith, length-append}
 use Rattle.der_core.specs.Texts.{IsDelimited, AtMostOne}
 use Rattle.der_core.specs.Length.{limit}

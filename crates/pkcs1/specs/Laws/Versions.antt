@@ -1,4 +1,4 @@
--- Versions: each text means one version and is bytes, and what is written is its shortest text.
+-- Versions: each encoding means one version and is bytes, and what is written is its shortest encoding.
 use Rattle.std.specs.Prelude.{ℕ, List, [], ◌∷◌, ◌<◌}
 use Rattle.std.proofs.Common.{arith}
 use Rattle.der_core.specs.Texts.{MeansOne, IsOfBytes}

@@ -21,7 +21,7 @@ use der_core::{
 };
 use std::alloc::{AllocError, Global};
 
-/// A prime of a private key past the first two (RFC 8017 A.1.2).
+/// A prime of a private key after the first two (RFC 8017 A.1.2).
 ///
 /// ```text
 /// OtherPrimeInfos ::= SEQUENCE SIZE(1..MAX) OF OtherPrimeInfo
@@ -35,13 +35,13 @@ use std::alloc::{AllocError, Global};
 pub struct OtherPrimeInfo<U> {
     /// The prime.
     pub prime: U,
-    /// Its exponent: the private exponent modulo the prime less 1.
+    /// Its exponent: the private exponent modulo (prime - 1).
     pub exponent: U,
     /// Its coefficient: the inverse of the product of the primes before it, modulo the prime.
     pub coefficient: U,
 }
 
-/// The primes of a private key past the first two.
+/// The primes of a private key after the first two.
 pub type OtherPrimeInfos<U> = Vec<OtherPrimeInfo<U>>;
 
 impl<U: Clone> Clone for OtherPrimeInfo<U> {
@@ -165,7 +165,7 @@ impl<U: Encode> EncodeValue for OtherPrimeInfo<U> {
     ghost contents_shortest = { other_shortest U.text U.has_text U.written_text U.text_shortest };
 }
 
-/// Whether there is a list of no primes.
+/// Whether the list is there but empty.
 pub(crate) fn lists_none<U>(others: &Option<OtherPrimeInfos<U>>) -> bool
     ensures { IsTrue result ↔ ListsNone others.now }
 {
@@ -175,7 +175,7 @@ pub(crate) fn lists_none<U>(others: &Option<OtherPrimeInfos<U>>) -> bool
     }
 }
 
-/// Reads the other primes, which are all that is left and agree with the version.
+/// Decodes the rest of a key: its other primes, which must agree with the version.
 pub(crate) fn read_other_primes<'a, U: Decode<&'a [u8], Global>, R: Reader<&'a [u8]>>(
     memory: Global,
     reader: &mut R,
@@ -197,7 +197,7 @@ pub(crate) fn read_other_primes<'a, U: Decode<&'a [u8], Global>, R: Reader<&'a [
     Ok(others)
 }
 
-/// How many octets the text of the other primes has.
+/// The length of the encoding of the other primes, 0 if there are none.
 pub(crate) fn other_primes_len<U: Encode>(others: &Option<OtherPrimeInfos<U>>) -> Result<Length>
     requires { ¬ (ListsNone others.now) }
     ensures { let primes = others_of U.value others.now in
@@ -209,7 +209,7 @@ pub(crate) fn other_primes_len<U: Encode>(others: &Option<OtherPrimeInfos<U>>) -
     }
 }
 
-/// Appends the text of the other primes.
+/// Writes the encoding of the other primes, if there are any.
 pub(crate) fn encode_other_primes<U: Encode, W: Writer>(
     others: &Option<OtherPrimeInfos<U>>,
     writer: &mut W,
@@ -227,7 +227,7 @@ pub(crate) fn encode_other_primes<U: Encode, W: Writer>(
     }
 }
 
-/// Puts the text of the other primes before what is filled.
+/// Prepends the encoding of the other primes, if there are any.
 pub(crate) fn prepend_other_primes<U: Encode>(
     others: &Option<OtherPrimeInfos<U>>,
     writer: &mut BackWriter<'_>,

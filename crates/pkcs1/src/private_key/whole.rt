@@ -1,4 +1,4 @@
-//! Private keys from whole slices, and to them.
+//! Decoding private keys from whole slices; encoding them into slices and documents.
 ghost use Rattle.std.specs.Prelude.{◌≡◌, ◌≤◌, length, List, ℕ, take, drop, IfOk, IfErr, IsOk, IsErrAnd, OnErr, None};
 ghost use Rattle.der_core.specs.Document.{Means, IsShortest, IsRefused};
 ghost use Rattle.der_core.specs.Faults.{Faulty};
@@ -27,7 +27,7 @@ use std::alloc::Global;
 impl<U: Encode> RsaPrivateKey<U> {
     ghost use Rattle.der_core.specs.DocumentValue.{text_of};
 
-    /// `encode_into`, which answers `Value` of SEQUENCE where the list of other primes is there and empty.
+    /// `encode_into`, but `Value` of SEQUENCE if the list of other primes is there but empty.
     fn encode_front(&self, out: &mut [u8]) -> crate::Result<usize>
         ensures shortest { let key = private_key_with U.value self.now in
             IfOk result (λ n. IsShortest (PrivateKeyText U.text) key (take n out.new)) }
@@ -47,8 +47,7 @@ impl<U: Encode> RsaPrivateKey<U> {
         Ok(self.encode_into(out)?)
     }
 
-    /// The text, as a document: `encode_msg`, which answers `Value` of SEQUENCE where the list of other primes is there
-    /// and empty.
+    /// `encode_msg`, but `Value` of SEQUENCE if the list of other primes is there but empty.
     pub(crate) fn to_document(&self, alloc: Global) -> crate::Result<SecretDocument>
         ensures shortest { let key = private_key_with U.value self.now in
             IfOk result (λ document. IsShortest (PrivateKeyText U.text) key (text_of document)) }
@@ -68,8 +67,8 @@ impl<U: Encode> RsaPrivateKey<U> {
 impl<U> RsaPrivateKey<U> {
     ghost use Rattle.der_core.specs.OctetStringRefValue.{octets_of};
 
-    /// Reads all octets of an OCTET STRING: `from_der` on its bytes. A key of two primes is never refused where its
-    /// numbers ask for no memory.
+    /// Decodes the contents of an OCTET STRING, as `from_der` does. If the numbers need no memory, a key of two primes
+    /// is always read.
     pub fn from_octet_string<'a>(
         alloc: Global,
         octets: OctetStringRef<'a>,
@@ -103,8 +102,8 @@ impl<'a> RsaPrivateKey<UintRef<'a>> {
     ghost use Rattle.pkcs1.specs.Allocating.{MayAllocate};
     ghost use Rattle.pkcs1.specs.PrivateKeyValue.{private_key_of};
 
-    /// Reads a whole slice: `from_der`, with all that is known of a private key's text. `OutOfMemory` is answered only
-    /// where a SEQUENCE that isn't empty stands behind the eighth number.
+    /// Decodes a whole slice, as `from_der` does; the contract is stated over the grammar of private keys. Returns
+    /// `OutOfMemory` only if a SEQUENCE that isn't empty follows the eighth number.
     pub fn decode_key(memory: Global, bytes: &'a [u8]) -> crate::Result<RsaPrivateKey<UintRef<'a>>>
         ensures ok { IfOk result (λ key. Means grammar.RsaPrivateKey bytes.now (private_key_of key)) }
         ensures one { IfOk result (λ key. IsOnlyMeaning grammar.RsaPrivateKey bytes.now (private_key_of key)) }
@@ -119,9 +118,10 @@ impl<'a> RsaPrivateKey<UintRef<'a>> {
         Ok(RsaPrivateKey::from_der(memory, bytes)?)
     }
 
-    /// Writes the key's one text to the front of a slice, and answers its length: `encode_into`, with all that is known
-    /// of a key's text. `Value` of SEQUENCE where the list of other primes is there and empty, `Overflow` where the text
-    /// passes `Length::MAX`, `NoRoom` where the slice is shorter.
+    /// Writes the key's only encoding to the front of a slice and returns its length, as `encode_into` does; the
+    /// contract is stated over the grammar of private keys. Returns `Value` of SEQUENCE if the list of other primes is
+    /// there but empty, `Overflow` if the encoding is longer than `Length::MAX`, `NoRoom` if it is longer than the
+    /// slice.
     pub fn encode_key(&self, out: &mut [u8]) -> crate::Result<usize>
         ensures text { IfOk result (λ n. IsOnlyText grammar.RsaPrivateKey (private_key_of self.now) (take n out.new)) }
         ensures rest { IfOk result (λ n. (n ≤ length out.new) × (drop n out.new ≡ drop n out.old)) }
@@ -138,8 +138,8 @@ impl RsaPrivateKey<Uint> {
     ghost use Rattle.der_core.specs.UintValue.{own_bytes_of};
     ghost use Rattle.pkcs1.specs.Allocating.{OwnedKeyAllocates};
 
-    /// Reads a whole slice, as `decode_key` of a key that borrows its numbers does. `OutOfMemory` is answered only where
-    /// a number, or a SEQUENCE that isn't empty behind the eighth, is there.
+    /// Decodes a whole slice, as `decode_key` of `RsaPrivateKeyRef` does. Returns `OutOfMemory` only if there is a
+    /// number in the SEQUENCE, or a SEQUENCE that isn't empty after the eighth.
     pub fn decode_key(alloc: Global, bytes: &[u8]) -> crate::Result<RsaPrivateKey<Uint>>
         ensures ok { IfOk result (λ key. Means grammar.RsaPrivateKey bytes.now (private_key_with own_bytes_of key)) }
         ensures one { let is_only = IsOnlyMeaning grammar.RsaPrivateKey bytes.now in
@@ -153,7 +153,7 @@ impl RsaPrivateKey<Uint> {
         Ok(RsaPrivateKey::from_der(alloc, bytes)?)
     }
 
-    /// Writes the key's one text to the front of a slice, as `encode_key` of a key that borrows its numbers does.
+    /// Writes the key's only encoding to the front of a slice, as `encode_key` of `RsaPrivateKeyRef` does.
     pub fn encode_key(&self, out: &mut [u8]) -> crate::Result<usize>
         ensures text { let key = private_key_with own_bytes_of self.now in
             IfOk result (λ n. IsOnlyText grammar.RsaPrivateKey key (take n out.new)) }

@@ -1,10 +1,10 @@
-//! Sources and sinks that move a few bytes a call, and refuse one; readers and writers of std that refuse.
+//! Sources and sinks that move a few bytes per call and fail at one call; readers and writers of std that fail.
 ghost use Rattle.std.specs.Prelude.{◌≡◌, ◌<◌, Some, None};
 
 use der_core::{Error, ErrorKind, Result, Sink, Source};
 use std::io::{self, Read, Write};
 
-/// Gives one byte a call, and refuses the call of number `refused`, from 1 on.
+/// Gives one byte per call, and fails at the call of number `refused`, counted from 1.
 #[derive(Drop)]
 pub struct Slow<'a> {
     pub left: &'a [u8],
@@ -36,7 +36,7 @@ impl<'a> Source for Slow<'a> {
     }
 }
 
-/// Gives so many bytes of one kind.
+/// Gives `left` bytes, each of them `byte`.
 #[derive(Drop)]
 pub struct Many {
     pub byte: u8,
@@ -60,7 +60,7 @@ impl Source for Many {
     }
 }
 
-/// Takes at most `step` bytes a call, and refuses the call of number `refused`, from 1 on.
+/// Takes at most `step` bytes per call, and fails at the call of number `refused`, counted from 1.
 #[derive(Drop)]
 pub struct Narrow {
     pub taken: Vec<u8>,
@@ -97,7 +97,7 @@ impl Sink for Narrow {
     }
 }
 
-/// A reader that refuses its first call, and gives its bytes from then on.
+/// A reader that fails at its first call, and gives its bytes from then on.
 #[derive(Drop)]
 pub struct RefusingOnce<'a> {
     pub left: &'a [u8],
@@ -116,8 +116,8 @@ impl Read for RefusingOnce<'_> {
     }
 }
 
-/// A writer that refuses the call of number `refused`, from 1 on, whether it is told to write or to flush; in each other
-/// call it takes every byte.
+/// A writer that fails at the call of number `refused`, counted from 1, be it to write or to flush; in each other call
+/// it takes all bytes.
 #[derive(Drop)]
 pub struct Refusing {
     pub taken: Vec<u8>,
@@ -148,7 +148,7 @@ impl Write for Refusing {
     }
 }
 
-/// Takes no byte.
+/// A writer that takes no bytes.
 #[derive(Drop)]
 pub struct Full;
 

@@ -1,4 +1,4 @@
--- Containers: each text means one value and is bytes, each value has at most one text, and that is what is written.
+-- Containers: each encoding means one value and is bytes, each value has at most one encoding, and that is written.
 use Rattle.std.proofs.Common.{ℕ, List, [], ◌∷◌, ◌++◌, ◌<◌, ◌^◌, length, length-append, refl, arith}
 use Rattle.der_core.specs.Tag.{context_tag, integer_tag, octet_string_tag, sequence_tag}
 use Rattle.der_core.specs.Integer.{SmallContents, integer_contents}

@@ -1,4 +1,4 @@
--- Bytes with a fault are no container, and have one first fault.
+-- Bytes with a fault encode no container, and have only one first fault.
 use Rattle.std.proofs.Common.{ℕ, List, [], ◌∷◌, ◌≡◌, sym, ap, ◌∙◌, refl, inl, inr, Some}
 use Rattle.der_core.specs.declared.error.ErrorKind.{ErrorKind}
 use Rattle.der_core.specs.declared.error.ErrorKind.TheVariants.{Value}
@@ -85,7 +85,7 @@ info_none = text_fault_none sequence InfoFault InfoContents info_fault_none
 pub info_whole_none : (k : ErrorKind) (b : List ℕ) → PrivateKeyInfoFault k b → (info : Info) → Means PrivateKeyInfo b info → ⊥
 info_whole_none = whole_fault_none PrivateKeyInfo (TextFault sequence InfoFault) info_delimited info_none
 
--- Another algorithm is refused in one way, and rsaEncryption is none.
+-- Another algorithm is rejected with one kind of error, and rsaEncryption with none.
 pub not_rsa_first : (a : Algorithm TagAndContents) (j k : ErrorKind) → NotRsa a j → NotRsa a k → j ≡ k
 not_rsa_first a j k (unknown p x) (unknown q y) = p ∙ sym q
 not_rsa_first a j k (unknown p x) (missing q y z) = absurd (x y)
