@@ -38,7 +38,7 @@ static void public_keys(void) {
     memset(out, 0, len);
     CHECK(pkcs1_public_key_encode(&padded, out, len, &len) == PKCS1_OK && memcmp(out, der, sizeof der) == 0);
     CHECK(pkcs1_public_key_encode(&empty, out, len, &len) == PKCS1_LENGTH && len == sizeof der && out[0] == 0x30);
-    for (size_t n = 0; n < sizeof der; n++) { /* each beginning is refused, and the struct stays */
+    for (size_t n = 0; n < sizeof der; n++) { /* each beginning is rejected, and the struct is unchanged */
         uint8_t *cut = filled(n + 1);
         struct pkcs1_public_key old = key;
         memcpy(cut + 1, der, n);

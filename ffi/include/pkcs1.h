@@ -49,12 +49,12 @@ enum pkcs1_status {
     PKCS1_OID_UNKNOWN = 7,         /* PKCS #8 with another key than RSA */
     PKCS1_OVERFLOW = 8,            /* a length past 4294967295 */
     PKCS1_OVERLENGTH = 9,          /* not DER: a length in more octets than it needs */
-    PKCS1_PARAMETERS_MISSING = 10, /* PKCS #8 whose rsaEncryption comes without NULL */
+    PKCS1_PARAMETERS_MISSING = 10, /* PKCS #8 whose rsaEncryption has no parameters */
     PKCS1_TAG_UNEXPECTED = 11,     /* another type: PEM, PKCS #8, SubjectPublicKeyInfo or an encrypted key, perhaps */
     PKCS1_TAG_UNKNOWN = 12,        /* not DER of these types: a tag octet that none of them has */
     PKCS1_TRAILING_DATA = 13,      /* octets follow the value, or a field follows that the type doesn't have there */
     PKCS1_VALUE = 14,              /* a negative number; a version, salt length, trailer field or NULL that isn't allowed */
-    PKCS1_NO_ROOM = 15,            /* `out` is too short: `*len` tells the length that is needed */
+    PKCS1_NO_ROOM = 15,            /* `out` is too short: `*len` is the length that is needed */
     PKCS1_FILE = 16,               /* not returned by these calls */
     PKCS1_OUT_OF_MEMORY = 17,      /* only from pkcs1_private_key_encode, with other primes */
     PKCS1_OTHER_PRIMES = 21        /* writing: key->other_primes isn't others_len */
@@ -101,7 +101,7 @@ uint32_t pkcs1_private_key_encode(const struct pkcs1_private_key *key, const str
 struct pkcs1_private_key_info {
     struct pkcs1_bytes private_key; /* the DER of the key */
     bool has_attributes;
-    struct pkcs1_bytes attributes; /* their contents, which aren't looked at */
+    struct pkcs1_bytes attributes; /* their contents, which are not checked */
 };
 uint32_t pkcs1_private_key_info_decode(const uint8_t *der, size_t der_len, struct pkcs1_private_key_info *info,
                                        struct pkcs1_private_key *key, struct pkcs1_other_prime *others,
