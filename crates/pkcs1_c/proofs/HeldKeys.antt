@@ -10,10 +10,9 @@ use Rattle.der_core.specs.UintRefValue.{bytes_of}
 use Rattle.der_core.specs.declared.integer.uint.UintRef.{UintRef}
 use Rattle.der_core.specs.Laws.Growing.{contents_shorter}
 use Rattle.pkcs1.specs.Keys.{PublicKey, RsaPublicKey, PrivateKey, RsaPrivateKey, OtherPrime, OtherPrimeInfo, OtherPrimeInfos, version_of}
-use Rattle.pkcs1.specs.PrivateKeyValue.{other_of, others_of, private_key_of}
+use Rattle.pkcs1.specs.PrivateKeyValue.{Listed, other_of, others_of, private_key_of}
 use Rattle.pkcs1.specs.PublicKeyValue.{public_key_of}
 use Rattle.pkcs1.specs.Writing.{key_numbers, other_numbers, HasOthers}
-use Rattle.pkcs1.specs.declared.private_key.RsaPrivateKey as declared
 use Rattle.pkcs1.specs.declared.private_key.other_prime_info.OtherPrimeInfo as declared_other
 use Rattle.pkcs1.specs.declared.public_key.RsaPublicKey as declared_public
 use Rattle.pkcs1.specs.Laws.HeldKeys.{borrowed_held, held_has_text}
@@ -132,7 +131,7 @@ eight_fit key made others are w = (
 abbrev pub AllFit : c.PrivateKey → List c_other.OtherPrime → Type 0
 AllFit key others = AllHave NumberFits (eight_numbers key) × AllHave NumberFits (others_numbers (map other_prime_seen others))
 
-pub private_fits : (key : c.PrivateKey) (others : List c_other.OtherPrime) (made : declared.RsaPrivateKey UintRef) → IsGiven key others (private_key_of made) → AllFit key others
+pub private_fits : (key : c.PrivateKey) (others : List c_other.OtherPrime) (made : Listed UintRef) → IsGiven key others (private_key_of made) → AllFit key others
 private_fits key others made given = (
   eight_fit key (private_key_of made) (map other_prime_seen others) given.1 (
     made.modulus.bounded,
@@ -166,7 +165,7 @@ infos_have : (infos : Option (Vec (declared_other.OtherPrimeInfo UintRef) Global
 infos_have None given are = (omega arith, tt)
 infos_have (Some v) given are = (omega arith, (not_empty given (map (other_of bytes_of) v.items) are.0 are.1, others_canonical v.items))
 
-pub private_some : (key : declared.RsaPrivateKey UintRef) (given : List (OtherPrime (List ℕ))) → AreOtherNumbers (others_of bytes_of key.other_prime_infos) given → HasText RsaPrivateKey (private_key_of key)
+pub private_some : (key : Listed UintRef) (given : List (OtherPrime (List ℕ))) → AreOtherNumbers (others_of bytes_of key.other_prime_infos) given → HasText RsaPrivateKey (private_key_of key)
 private_some key given are =
     let h = infos_have key.other_prime_infos given are in
     held_has_text bytes_of borrowed_held key (
@@ -225,7 +224,7 @@ module _ (key : c.PrivateKey) (others : List c_other.OtherPrime) (room : ℕ) wh
       text_refused RsaPrivateKey made room s other (private_rest made given (text_fits key others made text given m) s p) text m
 
   -- The text is refused.
-  pub private_held : (made : declared.RsaPrivateKey UintRef) → IsGiven key others (private_key_of made) → (s : ℕ) → TextRefusal RsaPrivateKey (private_key_of made) room s → PrivateKeyRefusal key others room s
+  pub private_held : (made : Listed UintRef) → IsGiven key others (private_key_of made) → (s : ℕ) → TextRefusal RsaPrivateKey (private_key_of made) room s → PrivateKeyRefusal key others room s
   private_held made given s text =
       let fits = private_fits key others made given in
       let behind : Behind s = (private_key_of made, given, text) in
