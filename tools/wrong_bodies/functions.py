@@ -5,6 +5,7 @@ from typing import NamedTuple
 FUNCTION = re.compile(r'( *)(?:pub(?:\([^)]*\))? )?(?:final )?(?:const )?(?:unsafe )?(?:extern "C" )?fn (\w+)')
 CLAUSE = re.compile(r" *(?:requires|ensures|ghost|invariant|decreases|also_\w+)\b")
 TYPE = re.compile(r"^(?:pub(?:\([^)]*\))? )?(?:struct|enum) (\w+)", re.M)
+ALIAS = re.compile(r"^(?:pub(?:\([^)]*\))? )?type (\w+)", re.M)
 BLOCK = re.compile(r"(?:pub(?:\([^)]*\))? )?(?:unsafe )?(impl|trait)\b")
 
 
@@ -17,28 +18,36 @@ class Function(NamedTuple):
     last: int  # the brace that closes it
 
 
-def homes_of(texts):
-    """The module of each type that the files of src/, by their paths, declare."""
-    return {it[1]: module_of(path) for path, text in texts.items() for it in TYPE.finditer(text)}
+class Types(NamedTuple):
+    """What the files of src/ declare."""
+
+    homes: dict  # the module of each type
+    aliases: set  # names that stand for types with arguments
+
+
+def types_of(texts):
+    """The types that files declare, by their paths."""
+    homes = {it[1]: module_of(path) for path, text in texts.items() for it in TYPE.finditer(text)}
+    return Types(homes, {it[1] for text in texts.values() for it in ALIAS.finditer(text)})
 
 
 def module_of(path):
     return [it for it in path[len("src/") : -len(".rt")].split("/") if it not in ("lib", "main", "mod")]
 
 
-def functions(path, text, homes):
+def functions(path, text, types):
     """The functions with a body of the file src/.., in order. One inside another is a part of that one."""
     lines, found, owner, at = text.split("\n"), [], None, 0
     while at < len(lines):
         if BLOCK.match(lines[at]):
-            owner = owner_of(head_at(lines, at))
+            owner = owner_of(head_at(lines, at), types.aliases)
         elif lines[at] == "}":
             owner = None
         head = FUNCTION.match(lines[at])
         span = head and span_of(lines, at, head[1])
         if span:
             # a method of a type stands where the type does, and one of a trait where its impl does
-            name = [*homes.get(owner, module_of(path)), owner, head[2]] if head[1] else [*module_of(path), head[2]]
+            name = [*types.homes.get(owner, module_of(path)), owner, head[2]] if head[1] else [*module_of(path), head[2]]
             found.append(Function("::".join(name), *span))
         at = span[2] if span else at + 1
     return found
@@ -74,7 +83,7 @@ def head_at(lines, at):
     return " ".join(lines[at : end + 1]).split("{")[0]
 
 
-def owner_of(head):
+def owner_of(head, aliases):
     """The prover's name of an impl or a trait: `Type`, `Type+Arguments`, `TypeArgumentsTraitArguments` or `Trait`."""
     head = re.sub(r"\bwhere\b.*", "", re.sub(r".*?\b(?=impl\b|trait\b)", "", head, count=1))
     if head.startswith("trait"):
@@ -86,7 +95,9 @@ def owner_of(head):
         rest = rest[end + 1 :]
     parts = [it.strip() for it in re.split(r" for (?!<)", rest)]
     if len(parts) == 1:
-        name, arguments = words(base(parts[0]), parameters), arguments_of(parts[0], parameters)
+        name = words(base(parts[0]), parameters)
+        # behind an alias its parameters are arguments of the type that it stands for
+        arguments = arguments_of(parts[0], set() if name in aliases else parameters)
         return f"{name}+{arguments}" if arguments else name
     trait, of = parts
     return (words(of, parameters) or "Any") + words(trait, parameters)

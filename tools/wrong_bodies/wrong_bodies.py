@@ -16,7 +16,7 @@ import tempfile
 from typing import NamedTuple
 
 sys.dont_write_bytecode = True
-from functions import functions, homes_of
+from functions import functions, types_of
 
 KIT = os.path.dirname(subprocess.run(["rt", "doc"], capture_output=True, text=True, check=True).stdout.strip())
 # Edits of one crate by which this tool itself is tested: it must give credit to those called wrong, and to no other.
@@ -47,7 +47,7 @@ class Edit(NamedTuple):
         return made
 
 
-def read_edit(path, texts, homes):
+def read_edit(path, texts, types):
     """Reads an edit: lines 'file: src/..', and then pairs of lines 'old: TEXT' and 'new: TEXT'."""
     pairs, file, old = [], None, None
     with open(path, encoding="utf-8") as it:
@@ -62,24 +62,24 @@ def read_edit(path, texts, homes):
                 pairs.append((file, old, rest))
     edit = Edit(path, pairs, frozenset())
     made = edit.applied(texts)
-    edit = edit._replace(owned=frozenset(it for file, new in made.items() for it in changed_bodies(file, texts[file], new, homes)))
+    edit = edit._replace(owned=frozenset(it for file, new in made.items() for it in changed_bodies(file, texts[file], new, types)))
     if not edit.owned:
         raise BadEdit("it changes no body of a function")
     return edit
 
 
-def changed_bodies(path, old, new, homes):
+def changed_bodies(path, old, new, types):
     """The functions whose bodies differ between two texts that are the same outside bodies."""
-    (outside, before), (outside_now, now) = cut(path, old, homes), cut(path, new, homes)
+    (outside, before), (outside_now, now) = cut(path, old, types), cut(path, new, types)
     if outside != outside_now or before.keys() != now.keys():
         raise BadEdit("it changes more than bodies of functions: must-fail/ is the place for it")
     return [(path, name) for name in now if now[name] != before[name]]
 
 
-def cut(path, text, homes):
+def cut(path, text, types):
     """A text without the bodies of its functions, and these bodies."""
     lines, bodies = text.split("\n"), {}
-    for it in reversed(functions(path, text, homes)):
+    for it in reversed(functions(path, text, types)):
         bodies[it.name] = lines[it.body : it.last]
         del lines[it.body : it.last]
     return lines, bodies
@@ -96,7 +96,7 @@ class Crate:
             for file in files:
                 with open(f"{at}/{file}", encoding="utf-8") as it:
                     self.texts[f"{at}/{file}".removeprefix(f"crates/{name}/")] = it.read()
-        self.homes = homes_of(self.texts)
+        self.types = types_of(self.texts)
 
     def check(self, texts, names):
         """What the prover says of these functions of a copy of the crate with these texts in place of its own."""
@@ -122,7 +122,7 @@ class Crate:
         verdicts, left = {}, []
         for path in self.paths:
             try:
-                left.append(read_edit(path, self.texts, self.homes))
+                left.append(read_edit(path, self.texts, self.types))
             except BadEdit as why:
                 verdicts[path] = None, f"BAD EDIT: {why}"
         while left:
@@ -152,7 +152,7 @@ class Crate:
         unread = [(it[1], int(it[2]), it.string) for it in map(UNREADABLE.match, said) if it]
         again = []
         for edit in edits:
-            spans = [(file, it) for file, text in texts.items() for it in functions(file, text, self.homes) if (file, it.name) in edit.owned]
+            spans = [(file, it) for file, text in texts.items() for it in functions(file, text, self.types) if (file, it.name) in edit.owned]
             errors = [told for at, line, told in unread if any(file == at and it.first <= line <= it.last for file, it in spans)]
             if errors:
                 verdicts[edit.path] = None, f"BAD EDIT: {errors[0][:150]}"
