@@ -1,5 +1,5 @@
 -- Reading a private key: the version, the eight numbers and the other primes, whatever holds these and whatever memory they ask for.
-use Rattle.std.proofs.Common.{◌≡◌, ℕ, ◌<◌, List, [], ◌∷◌, ◌++◌, map, refl, sym, ap, ◌∙◌, append_assoc, inl, inr, ⊎_elim, Some, None}
+use Rattle.std.proofs.Common.{◌≡◌, ℕ, List, [], ◌∷◌, ◌++◌, map, refl, sym, ap, ◌∙◌, append_assoc, inl, inr, ⊎_elim, Some, None}
 use Rattle.der_core.specs.Tlv.{Tlv}
 use Rattle.der_core.specs.Texts.{Joins, IsDelimited}
 use Rattle.der_core.specs.Laws.Texts.{last_holds}
@@ -23,9 +23,6 @@ VersionText n text = Tlv 2 (VersionContents n) text
 
 as_small : (n : ℕ) (text : List ℕ) → VersionText n text → Small n text
 as_small n text p = record { octets = p.octets; contents = p.contents; counted = p.counted; holds = p.holds.1; written = p.written }
-
-as_version : (n : ℕ) (text : List ℕ) → n < 2 → Small n text → VersionText n text
-as_version n text l p = record { octets = p.octets; contents = p.contents; counted = p.counted; holds = (l, p.holds); written = p.written }
 
 module _ {V : Type 0} (text : V → List ℕ → Type 0) (d : IsDelimited text) (may_allocate others_ask : List ℕ → Type 0) where
   abbrev parts : PrivateKey V → List (List ℕ → Type 0)

@@ -4,30 +4,24 @@ use Rattle.std.specs.Prelude.{slice_get, IfErr}
 use Rattle.der_core.specs.declared.error.ErrorKind.{ErrorKind}
 use Rattle.der_core.specs.declared.error.Error.{Error}
 use Rattle.der_core.specs.Input.{Input}
-use Rattle.der_core.specs.Texts.{IsDelimited, Joins}
+use Rattle.der_core.specs.Texts.{Joins}
 use Rattle.der_core.specs.Tlv.{Tlv}
-use Rattle.der_core.specs.Reading.{AllocatesIn, ReadsText, Refuses, TellsNext}
+use Rattle.der_core.specs.Reading.{ReadsText, TellsNext}
 use Rattle.der_core.specs.Laws.Growing.{tlv_recast}
 use Rattle.der_core.specs.declared.tag.Tag.{Tag}
 use Rattle.der_core.specs.Faults.{FaultyFront}
-use Rattle.der_core.specs.Laws.Sequences.{ContentsFail, ContentsFaulty, ContentsGive, some_same}
+use Rattle.der_core.specs.Laws.Sequences.{ContentsFaulty, ContentsGive, some_same}
 use Rattle.spki_core.specs.Faults.{NextFault, FieldThenFault}
 use Rattle.spki_core.specs.Allocating.{FieldAllocates, AllocatesFromField}
-use Rattle.spki_core.specs.Explicit.{Field, field, Defaultable, IsNext, FieldRead, FieldRefused}
+use Rattle.spki_core.specs.Explicit.{Field, field, Defaultable, IsNext, FieldRead}
 use Rattle.spki_core.specs.Laws.FieldTexts.{AreLater}
 use Rattle.spki_core.specs.FieldReading.{ReadsField}
 use Rattle.spki_core.specs.Laws.Carried.{Carried}
-use Rattle.spki_core.specs.Laws.Fields.{refused_step, read_step, read_then}
+use Rattle.spki_core.specs.Laws.Fields.{read_then}
 
 is_next : (i : List ℕ) (n : ℕ) → slice_get i 0 ≡ Some (160 + n) → IsNext n i
 is_next [] n e = cc
 is_next (x ∷ xs) n e = (xs, let same : x ≡ 160 + n = cc in ap (λ k. k ∷ xs) same)
-
--- Its octet isn't next: the result is the default.
-pub field_absent : {X V : Type 0} (n : ℕ) (value : X → V) (text : V → List ℕ → Type 0) (may_allocate : List ℕ → Type 0) (default : V) (x : X) (before after : Input)
-    → TellsNext (160 + n) (Ok false) before after → value x ≡ default → ReadsField n value text default may_allocate (Ok x) before after
-field_absent n value text may_allocate default x before after (i, is, left, told) same =
-    (i, i, is, left, inl ((λ (rest, starts). let no : false ≡ true = told.1 (rw starts refl) in cc), same, refl))
 
 -- Its octet is next: an encoding was read, or none is there.
 pub field_present : {X V W : Type 0} {value : X → V} {G : V → List ℕ → Type 0} {other : X → W} {H : W → List ℕ → Type 0} → Carried value G other H
@@ -85,16 +79,7 @@ module _ {V : Type 0} (n : ℕ) (text : V → List ℕ → Type 0) (default : V)
         (fails.1 rest left),
   )
 
--- The reader had failed.
-pub field_failed : {X V : Type 0} (n : ℕ) (value : X → V) (text : V → List ℕ → Type 0) (may_allocate : List ℕ → Type 0) (default : V) (e : Error) (before after : Input)
-    → TellsNext (160 + n) (Err e) before after → ReadsField n value text default may_allocate (Err e) before after
-field_failed n value text may_allocate default e before after (none, failed, _) = (failed, λ bytes is. let no : ◌≡◌ {A = Input} None (Some bytes) = sym none ∙ is in cc)
-
--- What reading a field ensures of an error, and of a value.
-abbrev pub FieldFails : {V : Type 0} → ℕ → (V → List ℕ → Type 0) → (List ℕ → Type 0) → ErrorKind → Input → Input → Type 0
-FieldFails n text own e before after =
-    (after ≡ None) × ((bytes : List ℕ) → before ≡ Some bytes → Refuses e (AllocatesIn (FieldAllocates n own) bytes) (FieldRefused n text bytes))
-
+-- What reading a field ensures of a value.
 abbrev pub FieldGives : {V : Type 0} → ℕ → (V → List ℕ → Type 0) → V → V → Input → Input → Type 0
 FieldGives n text default x before after =
     (bytes : List ℕ) × (rest : List ℕ) × (before ≡ Some bytes) × (after ≡ Some rest) × FieldRead n text default bytes x rest
@@ -103,26 +88,6 @@ FieldGives n text default x before after =
 module _ {W V : Type 0} (n : ℕ) (text : V → List ℕ → Type 0) (default : V) (head : W → V) (fields : W → List Field) (later : (w : W) → AreLater n (fields w)) where
   abbrev AllFields : W → List ℕ → Type 0
   AllFields w c = Joins (map Defaultable (field n text default (head w) ∷ fields w)) c
-
-  module _ (own behind : List ℕ → Type 0) where
-    pub field_fails : (before after : Input) (e : ErrorKind) → FieldFails n text own e before after → ContentsFail AllFields (AllocatesFromField n text default own behind) e before after
-    field_fails before after e fails = (
-      fails.0,
-      λ c is. ⊎_elim (λ q. inl (q.0, inl q.1)) (λ q. inr (q.0, λ w has. refused_step n text default (head w) (fields w) c (later w) q.1.0 q.1.1 has)) (fails.1 c is),
-    )
-
-    pub fields_fail : IsDelimited text → (before mid after : Input) (e : ErrorKind) (x : V)
-        → FieldGives n text default x before mid → ContentsFail (λ w. Joins (map Defaultable (fields w))) behind e mid after
-        → ContentsFail AllFields (AllocatesFromField n text default own behind) e before after
-    fields_fail d before mid after e x (bytes, rest, at, left, read) fails = (
-      fails.0,
-      λ c is.
-          let same : c ≡ bytes = some_same c bytes (sym is ∙ at) in
-          ⊎_elim
-          (λ q. inl (q.0, inr (x, rw same (read_then n text default x behind bytes rest read q.1))))
-          (λ q. inr (q.0, λ w has. q.1 w (read_step n text d default x (head w) (fields w) bytes rest (later w) read (rw same at has)).1))
-          (fails.1 rest left),
-    )
 
   pub fields_give : (before mid after : Input) (w : W)
       → FieldGives n text default (head w) before mid → ContentsGive (Joins (map Defaultable (fields w))) mid after

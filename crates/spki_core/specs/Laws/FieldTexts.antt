@@ -1,17 +1,12 @@
--- Fields with defaults: they are told apart by their octets and are bytes, and what is written of one is the shortest
--- of its encodings.
-use Rattle.std.proofs.Common.{ℕ, List, [], ◌∷◌, ◌++◌, ◌≡◌, ◌≤◌, ◌<◌, ◌+◌, ◌^◌, inl, inr, map, length, refl, sym, ap, ◌∙◌, arith, true, false}
-use Rattle.std.specs.Prelude.{Bool}
-use Rattle.std.specs.Bool.{Decides}
+-- Fields with defaults: they are told apart by their octets and are bytes.
+use Rattle.std.proofs.Common.{ℕ, List, [], ◌∷◌, ◌++◌, ◌≡◌, ◌≤◌, ◌<◌, ◌+◌, ◌^◌, inl, inr, map, length, refl, sym, ap, ◌∙◌, arith}
 use Rattle.der_core.specs.Tag.{context_tag}
 use Rattle.der_core.specs.Texts.{AreBytes, IsDelimited, Joins}
 use Rattle.der_core.specs.Laws.Lists.{same_cons}
 use Rattle.der_core.specs.Laws.Shortest.{means_one}
-use Rattle.der_core.specs.Laws.Texts.{tlv_split, tlv_not_empty, tlv_of_bytes, tlv_relates, tlv_shortest, then_of_bytes}
-use Rattle.der_core.specs.Writing.{IsLeast}
+use Rattle.der_core.specs.Laws.Texts.{tlv_split, tlv_of_bytes, then_of_bytes}
 use Rattle.spki_core.specs.Laws.ContextSpecific.{number_allowed}
 use Rattle.spki_core.specs.Explicit.{Field, field, Explicit, Defaultable}
-use Rattle.spki_core.specs.FieldWriting.{HasField, written_field}
 
 -- The numbers of the fields are greater.
 abbrev pub AreLater : ℕ → List Field → Type 0
@@ -67,19 +62,3 @@ field_of_bytes f small bytes c (inr p) = tlv_of_bytes (context_tag f.number) (nu
 pub fields_of_bytes : (fields : List Field) → AreOfBytes fields → (c : List ℕ) → Joins (map Defaultable fields) c → AreBytes c
 fields_of_bytes [] all c p = rw p tt
 fields_of_bytes (f ∷ fields) all c p = then_of_bytes (field_of_bytes f all.0 all.1) (fields_of_bytes fields all.2) c p
-
--- What is written for a field.
-pub field_relates : {V : Type 0} {has : Type 0} (number : ℕ) (Grammar : V → List ℕ → Type 0) (default v : V) (is_default : Bool) (text : List ℕ)
-    → Decides is_default (v ≡ default) → (has → length text < 2 ^ 128 → Grammar v text) → HasField is_default has → length (written_field is_default number text) < 2 ^ 128
-    → Defaultable (field number Grammar default v) (written_field is_default number text)
-field_relates number Grammar default v true text decides related h fits = inl (refl, decides.0 refl)
-field_relates number Grammar default v false text decides related h fits = inr (tlv_relates (context_tag number) (λ (_ : Unit {0}). Grammar v) (λ _. text) tt (related h) fits)
-
-pub field_shortest : {V : Type 0} (number : ℕ) (Grammar : V → List ℕ → Type 0) (has : V → Type 0) (text : V → List ℕ) (default v : V) (is_default : Bool)
-    → Decides is_default (v ≡ default) → ((w : V) (b : List ℕ) → Grammar w b → IsLeast (has w) (text w) b)
-    → (c : List ℕ) → Defaultable (field number Grammar default v) c → IsLeast (HasField is_default (has v)) (written_field is_default number (text v)) c
-field_shortest number Grammar has text default v true decides least c (inl p) = (tt, omega arith, (λ (_ : length c ≤ 0). p.0))
-field_shortest number Grammar has text default v true decides least c (inr p) =
-    (tt, omega arith, (λ (l : length c ≤ 0). absurd (omega (arith, l, tlv_not_empty c p))))
-field_shortest number Grammar has text default v false decides least c (inl p) = let no : false ≡ true = decides.1 p.1 in cc
-field_shortest number Grammar has text default v false decides least c (inr p) = tlv_shortest (context_tag number) Grammar text has least v c p

@@ -213,18 +213,13 @@ fields_start (f ∷ fields) b c r l (x, y, inr p, j, e) h =
     let k : 160 + f.number ≡ b = (same_cons (sym s.1 ∙ h)).0 in
     omega arith
 
--- The number of defaults is unique, and no greater than that of the fields.
+-- The number of defaults is unique.
 pub defaults_same : (fields : List Field) (j k : ℕ) → HaveDefaults fields j → HaveDefaults fields k → j ≡ k
 defaults_same [] j k p q = p ∙ sym q
 defaults_same (f ∷ fields) j k (inl (d, i, e, p)) (inl (d', i', e', q)) = let s : i ≡ i' = defaults_same fields i i' p q in omega arith
 defaults_same (f ∷ fields) j k (inl (d, i, e, p)) (inr (n, q)) = absurd (n d)
 defaults_same (f ∷ fields) j k (inr (n, p)) (inl (d, i, e, q)) = absurd (n d)
 defaults_same (f ∷ fields) j k (inr (n, p)) (inr (n', q)) = defaults_same fields j k p q
-
-pub defaults_le : (fields : List Field) (k : ℕ) → HaveDefaults fields k → k ≤ length fields
-defaults_le [] k p = rw p zero-le
-defaults_le (f ∷ fields) k (inl (d, i, e, p)) = let s : i ≤ length fields = defaults_le fields i p in omega arith
-defaults_le (f ∷ fields) k (inr (n, p)) = let s : k ≤ length fields = defaults_le fields k p in omega arith
 
 -- If a field's octet isn't next, every splitting leaves the field out.
 pub absent_step : {V : Type 0} (n : ℕ) (Grammar : V → List ℕ → Type 0) (default w : V) (gs : List Field) (c : List ℕ) → (IsNext n c → ⊥) → Joins (map Defaultable (field n Grammar default w ∷ gs)) c → (w ≡ default) × Joins (map Defaultable gs) c

@@ -1,13 +1,12 @@
 -- The spellings of a value whose type is a SEQUENCE of explicit fields with defaults.
-use Rattle.std.proofs.Common.{ℕ, suc, List, [], ◌≡◌, ◌<◌, ◌≤◌, ◌+◌, ◌^◌, ◌⊎◌, inl, inr, map, length, refl, arith, get_or}
-use Rattle.der_core.specs.Texts.{IsDelimited, MeansOne, Joins}
+use Rattle.std.proofs.Common.{ℕ, suc, List, [], ◌≡◌, ◌<◌, ◌≤◌, ◌+◌, ◌^◌, ◌⊎◌, inl, inr, length, refl, arith, get_or}
 use Rattle.der_core.specs.Length.{limit}
 use Rattle.der_core.specs.Document.{Spellings, IsShortest}
 use Rattle.der_core.specs.Members.{AreTheMembers}
-use Rattle.der_core.specs.Laws.Texts.{tlv_split, tlv_delimited, tlv_at_most_one, tlv_made}
+use Rattle.der_core.specs.Laws.Texts.{tlv_split, tlv_at_most_one, tlv_made}
 use Rattle.der_core.specs.Laws.Growing.{tlv_same, tlv_grows, contents_shorter, tlv_recast}
 use Rattle.der_core.specs.Laws.Members.{list_of}
-use Rattle.spki_core.specs.Explicit.{Field, Defaultable, FieldSequence, HaveDefaults, MaskedContents, Masked, AllExplicit}
+use Rattle.spki_core.specs.Explicit.{Field, FieldSequence, HaveDefaults, MaskedContents, Masked, AllExplicit}
 use Rattle.spki_core.specs.Laws.Fields.{AreInOrder, masked_joins, masked_below, joins_masked, masked_same, mask_same, zero_shorter, masked_made, zero_made, last_explicit, explicit_last}
 
 pub masked_spells : (fields : List Field) (m : ℕ) (text : List ℕ) → Masked fields m text → FieldSequence fields text
@@ -94,7 +93,3 @@ module _ {V : Type 0} (fields : V → List Field) (ordered : (v : V) → AreInOr
   masks_are_members v k all d p l =
       let r = list_of (2 ^ k) (λ m text. Masked (fields v) m text × (length text ≤ limit)) (λ m h. masked_fits (fields v) k m all d h p l) in
       (r.0, members_under v k r.0 d r.1 r.2, λ m h. (r.2 m h).0)
-
-module _ {V : Type 0} (fields : V → List Field) (one : MeansOne (λ v. Joins (map Defaultable (fields v)))) where
-  pub fields_delimited : IsDelimited (λ v. FieldSequence (fields v))
-  fields_delimited = tlv_delimited 48 (λ v. Joins (map Defaultable (fields v))) one
