@@ -1,9 +1,10 @@
 //! Keys in memory.
-ghost use Rattle.std.specs.Prelude.{◌≡◌, ℕ, List, IfOk, OnErr};
+ghost use Rattle.std.specs.Prelude.{◌≡◌, ◌⊎◌, ℕ, List, IfOk, IfErr, OnErr};
 ghost use Rattle.der_core.specs.Document.{Means};
 ghost use Rattle.der_core.specs.DocumentValue.{text_of};
-ghost use Rattle.pkcs1.specs.Keys.{PrivateKey, PublicKey, RsaPrivateKey, RsaPublicKey};
-ghost use Rattle.pkcs1.specs.KeyTexts.{IsOnlyText};
+ghost use Rattle.pkcs1.specs.Allocating.{MayAllocate};
+ghost use Rattle.pkcs1.specs.Keys.{PrivateKey, PublicKey, RsaPrivateKey, RsaPublicKey, public_part};
+ghost use Rattle.pkcs1.specs.KeyTexts.{IsNotMade, IsOnlyText, IsUnread};
 
 use pkcs1::der::Document;
 use pkcs1::{EncodeRsaPublicKey, Result, RsaPrivateKeyRef, RsaPublicKeyRef};
@@ -21,9 +22,11 @@ pub fn modulus_of(text: &[u8]) -> Result<&[u8]>
 
 /// The encoding of the public half of a private key.
 pub fn public_half(alloc: Global, text: &[u8]) -> Result<Document>
-    ensures { IfOk result (λ document. (key : PrivateKey (List ℕ)) × Means RsaPrivateKey text.now key
-        × IsOnlyText RsaPublicKey (record { modulus = key.modulus; public_exponent = key.public_exponent })
-        (text_of document)) }
+    ensures ok { IfOk result (λ document. (key : PrivateKey (List ℕ)) × Means RsaPrivateKey text.now key
+        × IsOnlyText RsaPublicKey (public_part key) (text_of document)) }
+    ensures err { IfErr result (λ e. IsUnread RsaPrivateKey text.now (MayAllocate text.now) e
+        ⊎ ((key : PrivateKey (List ℕ)) × Means RsaPrivateKey text.now key
+        × IsNotMade RsaPublicKey (public_part key) e)) }
 {
     let key = RsaPrivateKeyRef::decode_key(alloc, text)?;
     key.public_key().to_pkcs1_der(alloc)
