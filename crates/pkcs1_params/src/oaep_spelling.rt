@@ -95,7 +95,7 @@ impl<P: AnyValue> RsaOaepParams<P> {
     /// Writes one spelling to the front of a slice and returns its length. Bit j of the mask (bit 0 is the lowest) says
     /// whether the j-th of the fields that equal their defaults, in their order, is written. Mask 0 gives the shortest.
     /// `Overflow` if the encoding is longer than `Length::MAX`, `NoRoom` if the slice is shorter than it.
-    pub fn encode_spelling(&self, mask: u8, out: &mut [u8]) -> Result<usize>
+    pub fn encode_spelling_into(&self, mask: u8, out: &mut [u8]) -> Result<usize>
         requires { IsMask (oaep_fields (oaep_with P.any self.now)) mask }
         ensures stands { IfOk result (λ n. StandsUnder oaep_fields (oaep_with P.any self.now) mask (take n out.new)) }
         ensures rest { IfOk result (λ n. (n ≤ length out.new) × (drop n out.new ≡ drop n out.old)) }
@@ -103,6 +103,17 @@ impl<P: AnyValue> RsaOaepParams<P> {
         ensures err { IfErr result (IsUnspelled (oaep_fields (oaep_with P.any self.now)) mask (length out.old)) }
     {
         spell_into(&self.as_params_ref(), mask, out)
+    }
+
+    /// Like `encode_spelling_into`, but returns the part of the slice that was written. A caller that needs in a proof
+    /// what the rest of the slice holds calls `encode_spelling_into`.
+    pub fn encode_spelling<'b>(&self, mask: u8, out: &'b mut [u8]) -> Result<&'b [u8]>
+        requires { IsMask (oaep_fields (oaep_with P.any self.now)) mask }
+        ensures stands { IfOk result (λ text. StandsUnder oaep_fields (oaep_with P.any self.now) mask text.now) }
+        ensures err { IfErr result (IsUnspelled (oaep_fields (oaep_with P.any self.now)) mask (length out.old)) }
+    {
+        let length = self.encode_spelling_into(mask, out)?;
+        Ok(&out[..length])
     }
 
     /// All spellings, each at the index that is its mask, so the shortest is the first: two to the number of default

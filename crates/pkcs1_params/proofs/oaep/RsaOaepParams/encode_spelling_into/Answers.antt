@@ -1,7 +1,7 @@
 use Rattle.std.proofs.Common.{IfOk, IfErr, length, take, sym, subst}
 use Rattle.pkcs1_params.specs.Parameters.{oaep_fields}
 use Rattle.pkcs1_params.specs.Spellings.{IsMask, IsUnspelled, StandsUnder}
-use Rattle.pkcs1_params.proofs.oaep.RsaOaepParams.encode_spelling.Goals as goal
+use Rattle.pkcs1_params.proofs.oaep.RsaOaepParams.encode_spelling_into.Goals as goal
 
 pub spell_into-requires : goal.spell_into-requires
 spell_into-requires g c = subst (λ p. IsMask (oaep_fields p) c.args.mask) (sym c.as_params_ref.ensures) c.requires
