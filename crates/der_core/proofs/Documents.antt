@@ -1,21 +1,21 @@
 -- Documents, as they are read and made.
 use Rattle.std.proofs.Common.{ℕ, List, ◌≡◌, ◌≤◌, ◌<◌, ◌^◌, ◌∙◌, ap, sym, length, take, ◌++◌, append-nil, arith, subst, inl, inr, ⊎_elim, Option, Some, None}
 use Rattle.std.proofs.Math.Seq.{take-append_seam}
-use Rattle.der_core.specs.Texts.{AreBytes, IsOfBytes}
+use Rattle.der_core.specs.Encodings.{AreBytes, IsOfBytes}
 use Rattle.der_core.specs.Tlv.{Tlv, tlv}
 use Rattle.der_core.specs.Length.{limit}
 use Rattle.der_core.specs.Document.{Means, IsDocument}
-use Rattle.der_core.specs.Carrying.{GivesNone, StopsReading, FileFault}
+use Rattle.der_core.specs.Carrying.{GivesNone, WhyDocumentNotRead, FileFault}
 use Rattle.der_core.specs.Faults.{DocumentFault, Faulty}
 use Rattle.der_core.specs.Laws.Faults.{document_fault_none}
 use Rattle.der_core.specs.SourcesSinks.{GivesAll}
-use Rattle.der_core.specs.Reading.{Refuses, AllocatesIn, TellsOfBytes}
+use Rattle.der_core.specs.Reading.{Rejects, AllocatesIn, TellsOfBytes}
 use Rattle.der_core.specs.declared.error.ErrorKind.{ErrorKind}
-use Rattle.der_core.specs.Laws.Texts.{tlv_relates}
+use Rattle.der_core.specs.Laws.Encodings.{tlv_relates}
 use Rattle.der_core.specs.Laws.Growing.{tlv_recast}
 
--- A refusal of a SEQUENCE for which no memory is asked.
-pub no_document : (e : ErrorKind) (b : List ℕ) → Refuses e (AllocatesIn (Tlv 48 (λ _. ⊥)) b) ((v : Unit {0}) → Means (λ _. Tlv 48 AreBytes) b v → ⊥)
+-- An error of a SEQUENCE for which no memory is asked.
+pub no_document : (e : ErrorKind) (b : List ℕ) → Rejects e (AllocatesIn (Tlv 48 (λ _. ⊥)) b) ((v : Unit {0}) → Means (λ _. Tlv 48 AreBytes) b v → ⊥)
     → TellsOfBytes e × (IsDocument b → ⊥)
 no_document e b r = ⊎_elim (λ w. absurd w.1.3.holds) (λ w. (w.0, λ p. w.1 tt p)) r
 
@@ -37,21 +37,21 @@ all_given (Some xs) (Some ys) bytes given is gives = let same : xs ≡ bytes = c
 pub none_given : (e : ErrorKind) (old new : Option (List ℕ)) (given seen : List ℕ) → seen ≡ given → GivesAll old new given → (IsDocument seen → ⊥) → DocumentFault e seen → GivesNone e old new
 none_given e old new given seen same gives none fault = (given, gives, (λ d. none (rw same d)), rw same at fault)
 
--- What stops reading a source is what a file can be refused for.
-pub file_fault : (e : ErrorKind) (old new : Option (List ℕ)) (a b : ℕ) → StopsReading e old new a b → FileFault e
+-- What stops reading a source is what a file can be rejected for.
+pub file_fault : (e : ErrorKind) (old new : Option (List ℕ)) (a b : ℕ) → WhyDocumentNotRead e old new a b → FileFault e
 file_fault e old new a b (inl (inl w)) = inl w.0
 file_fault e old new a b (inl (inr (inl w))) = inr (inl w.0)
 file_fault e old new a b (inl (inr (inr (over, _, (bytes, gives, more, few))))) = inr (inr (bytes, inl (more, over)))
 file_fault e old new a b (inr (tells, _, (bytes, gives, none, fault))) = inr (inr (bytes, fault))
 
--- The text of a message is a document.
+-- The encoding of a message is a document.
 pub written_document : {V : Type 0} (Contents : V → List ℕ → Type 0) (written : V → List ℕ) (v : V) (tag : ℕ) → tag ≡ 48 → IsOfBytes Contents
     → (length (written v) < 2 ^ 128 → Contents v (written v)) → length (tlv tag (written v)) ≤ limit → IsDocument (tlv tag (written v))
 written_document Contents written v tag is of_bytes relates fits =
-    let text : Tlv tag (Contents v) (tlv tag (written v)) = tlv_relates tag Contents written v relates (omega (arith, fits)) in
-    let bytes : Tlv tag AreBytes (tlv tag (written v)) = tlv_recast (tlv tag (written v)) text (of_bytes v text.contents text.holds) in
+    let encoding : Tlv tag (Contents v) (tlv tag (written v)) = tlv_relates tag Contents written v relates (omega (arith, fits)) in
+    let bytes : Tlv tag AreBytes (tlv tag (written v)) = tlv_recast (tlv tag (written v)) encoding (of_bytes v encoding.contents encoding.holds) in
     (fits, subst (λ t. Tlv t AreBytes (tlv tag (written v))) is bytes)
 
 -- What is left of a region that was written over.
-pub written_over : (n : ℕ) (new rest text : List ℕ) → new ≡ text → n ≡ length text → take n (new ++ rest) ≡ text
-written_over n new rest text e l = rw (e, l) (take-append_seam text rest)
+pub written_over : (n : ℕ) (new rest encoding : List ℕ) → new ≡ encoding → n ≡ length encoding → take n (new ++ rest) ≡ encoding
+written_over n new rest encoding e l = rw (e, l) (take-append_seam encoding rest)

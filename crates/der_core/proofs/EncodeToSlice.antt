@@ -23,24 +23,24 @@ module _ {M : Type 1} {𝓤 : Ura M} (𝓛 : Logic 𝓤) where
       use1 𝓛 (‵ (fres s.ghost_name ((coded_list u8.coded).code ys))) (finally-res 𝓛 u8 s.ghost_name ys) $
       fpack ! ((t : (List ℕ → List ℕ) × List ℕ) × ((w : List ℕ) → ⊤) × P t.1) (λ t. follows_by (List ℕ) (List ℕ) (Array u8 0).coded.code (Array u8 0).coded.code s.ghost_name none t.0.0 t.0.1) (((λ w. w), ys), (λ w. tt), p) $ done !
 
--- A text was written over xs, which gave ys, and r is its length, or why it wasn't.
+-- An encoding was written over xs, which gave ys, and r is its length, or why it wasn't.
 abbrev pub Wrote : {E : Type 0} → List ℕ → List ℕ → List ℕ → Result ℕ E → Type 0
-Wrote text xs ys r = IfOk r (λ n. (n ≡ length text) × (ys ≡ text ++ drop n xs))
+Wrote encoding xs ys r = IfOk r (λ n. (n ≡ length encoding) × (ys ≡ encoding ++ drop n xs))
 
-module _ {E : Type 0} (text xs ys : List ℕ) where
-  pub fits : (r : Result ℕ E) → Wrote text xs ys r → IfOk r (λ n. n ≤ length ys)
-  fits (Ok n) w = let l : length ys ≡ length (text ++ drop n xs) = ap length w.1 in let k = length-append text (drop n xs) in let e = w.0 in omega arith
+module _ {E : Type 0} (encoding xs ys : List ℕ) where
+  pub fits : (r : Result ℕ E) → Wrote encoding xs ys r → IfOk r (λ n. n ≤ length ys)
+  fits (Ok n) w = let l : length ys ≡ length (encoding ++ drop n xs) = ap length w.1 in let k = length-append encoding (drop n xs) in let e = w.0 in omega arith
   fits (Err e) w = tt
 
-  pub leaves_rest : (r : Result ℕ E) (t : Result (Bor (List ℕ)) E) → Wrote text xs ys r → OnErr r (ys ≡ xs) → IsFront ys r t
-      → MatchResult t (λ _. ys ≡ text ++ drop (length text) xs) (λ _. ys ≡ xs)
+  pub leaves_rest : (r : Result ℕ E) (t : Result (Bor (List ℕ)) E) → Wrote encoding xs ys r → OnErr r (ys ≡ xs) → IsFront ys r t
+      → MatchResult t (λ _. ys ≡ encoding ++ drop (length encoding) xs) (λ _. ys ≡ xs)
   leaves_rest (Ok n) (Ok front) w k a = rw w.0 at w.1
   leaves_rest (Ok n) (Err e) w k a = absurd a
   leaves_rest (Err e) (Ok front) w k a = absurd a
   leaves_rest (Err e) (Err e') w k a = k
 
-  pub on_front : (H : Type 0) (P : List ℕ → Type 0) → (H → P text) → (r : Result ℕ E) (t : Result (Bor (List ℕ)) E) → Wrote text xs ys r → OnOk r H → IsFront ys r t → IfOk t (λ front. P front.now)
-  on_front H P f (Ok n) (Ok front) w h a = let seam = take-append_seam text (drop n xs) in subst P (sym (a ∙ ap (λ l. take n l) w.1 ∙ (rw (sym w.0) at seam))) (f h)
+  pub on_front : (H : Type 0) (P : List ℕ → Type 0) → (H → P encoding) → (r : Result ℕ E) (t : Result (Bor (List ℕ)) E) → Wrote encoding xs ys r → OnOk r H → IsFront ys r t → IfOk t (λ front. P front.now)
+  on_front H P f (Ok n) (Ok front) w h a = let seam = take-append_seam encoding (drop n xs) in subst P (sym (a ∙ ap (λ l. take n l) w.1 ∙ (rw (sym w.0) at seam))) (f h)
   on_front H P f (Ok n) (Err e) w h a = absurd a
   on_front H P f (Err e) (Ok front) w h a = absurd a
   on_front H P f (Err e) (Err e') w h a = tt

@@ -1,7 +1,7 @@
 -- Contents octets of numbers at worked examples.
 use Rattle.std.proofs.Common.{ℕ, List, [], ◌∷◌, inl, inr, refl, arith}
 use Rattle.der_core.specs.Integer.{IntegerContents}
-use Rattle.der_core.specs.Laws.WrittenOut.{no_contents_refused, negative_refused, needless_zero_refused}
+use Rattle.der_core.specs.Laws.WrittenOut.{no_contents_rejected, negative_rejected, needless_zero_rejected}
 
 -- 07
 seven : IntegerContents (0x07 ∷ []) (0x07 ∷ [])
@@ -24,17 +24,17 @@ zero_alone : IntegerContents (0x00 ∷ []) (0x00 ∷ [])
 zero_alone = (inl refl, inl (omega arith, refl))
 
 -- no contents
-missing_contents_refused : (bytes : List ℕ) → IntegerContents bytes [] → ⊥
-missing_contents_refused = no_contents_refused
+missing_contents_rejected : (bytes : List ℕ) → IntegerContents bytes [] → ⊥
+missing_contents_rejected = no_contents_rejected
 
 -- 80
-below_zero_refused : (bytes : List ℕ) → IntegerContents bytes (0x80 ∷ []) → ⊥
-below_zero_refused bytes = negative_refused bytes 0x80 [] (omega arith)
+below_zero_rejected : (bytes : List ℕ) → IntegerContents bytes (0x80 ∷ []) → ⊥
+below_zero_rejected bytes = negative_rejected bytes 0x80 [] (omega arith)
 
 -- 0007
-padded_seven_refused : (bytes : List ℕ) → IntegerContents bytes (0x00 ∷ 0x07 ∷ []) → ⊥
-padded_seven_refused bytes = needless_zero_refused bytes 0x07 [] (omega arith)
+padded_seven_rejected : (bytes : List ℕ) → IntegerContents bytes (0x00 ∷ 0x07 ∷ []) → ⊥
+padded_seven_rejected bytes = needless_zero_rejected bytes 0x07 [] (omega arith)
 
 -- 0000
-padded_zero_refused : (bytes : List ℕ) → IntegerContents bytes (0x00 ∷ 0x00 ∷ []) → ⊥
-padded_zero_refused bytes = needless_zero_refused bytes 0x00 [] (omega arith)
+padded_zero_rejected : (bytes : List ℕ) → IntegerContents bytes (0x00 ∷ 0x00 ∷ []) → ⊥
+padded_zero_rejected bytes = needless_zero_rejected bytes 0x00 [] (omega arith)

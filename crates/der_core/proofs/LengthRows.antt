@@ -1,7 +1,7 @@
 -- Length octets at worked examples.
 use Rattle.std.proofs.Common.{ℕ, List, [], ◌∷◌, refl, arith}
 use Rattle.der_core.specs.Length.{IsLength, short}
-use Rattle.der_core.specs.Laws.WrittenOut.{known_long, no_octets_refused, long_form, other_count_refused, needless_long_form_refused, needless_octet_refused}
+use Rattle.der_core.specs.Laws.WrittenOut.{known_long, no_octets_rejected, long_form, other_count_rejected, needless_long_form_rejected, needless_octet_rejected}
 
 -- 7f
 length_127 : IsLength 127 (0x7f ∷ [])
@@ -40,29 +40,29 @@ length_4294967295 : IsLength 4294967295 (0x84 ∷ 0xff ∷ 0xff ∷ 0xff ∷ 0xf
 length_4294967295 = known_long (0xff ∷ 0xff ∷ 0xff ∷ 0xff ∷ []) (omega arith, (omega arith, (omega arith, (omega arith, tt)))) (omega arith) (omega arith) (omega arith)
 
 -- 817f
-needless_long_refused : (n : ℕ) → IsLength n (0x81 ∷ 0x7f ∷ []) → ⊥
-needless_long_refused n = needless_long_form_refused n 0x81 (0x7f ∷ []) (omega arith) (omega arith)
+needless_long_rejected : (n : ℕ) → IsLength n (0x81 ∷ 0x7f ∷ []) → ⊥
+needless_long_rejected n = needless_long_form_rejected n 0x81 (0x7f ∷ []) (omega arith) (omega arith)
 
 -- 8100
-long_zero_refused : (n : ℕ) → IsLength n (0x81 ∷ 0x00 ∷ []) → ⊥
-long_zero_refused n = needless_octet_refused n 0x81 (0x00 ∷ []) (omega arith) refl
+long_zero_rejected : (n : ℕ) → IsLength n (0x81 ∷ 0x00 ∷ []) → ⊥
+long_zero_rejected n = needless_octet_rejected n 0x81 (0x00 ∷ []) (omega arith) refl
 
 -- 820080
-leading_zero_refused : (n : ℕ) → IsLength n (0x82 ∷ 0x00 ∷ 0x80 ∷ []) → ⊥
-leading_zero_refused n = needless_octet_refused n 0x82 (0x00 ∷ 0x80 ∷ []) (omega arith) refl
+leading_zero_rejected : (n : ℕ) → IsLength n (0x82 ∷ 0x00 ∷ 0x80 ∷ []) → ⊥
+leading_zero_rejected n = needless_octet_rejected n 0x82 (0x00 ∷ 0x80 ∷ []) (omega arith) refl
 
 -- 80
-indefinite_refused : (n : ℕ) → IsLength n (0x80 ∷ []) → ⊥
-indefinite_refused n = needless_octet_refused n 0x80 [] (omega arith) refl
+indefinite_rejected : (n : ℕ) → IsLength n (0x80 ∷ []) → ⊥
+indefinite_rejected n = needless_octet_rejected n 0x80 [] (omega arith) refl
 
 -- 8201
-missing_octet_refused : (n : ℕ) → IsLength n (0x82 ∷ 0x01 ∷ []) → ⊥
-missing_octet_refused n = other_count_refused n 0x82 (0x01 ∷ []) (omega arith) (λ e. omega arith)
+missing_octet_rejected : (n : ℕ) → IsLength n (0x82 ∷ 0x01 ∷ []) → ⊥
+missing_octet_rejected n = other_count_rejected n 0x82 (0x01 ∷ []) (omega arith) (λ e. omega arith)
 
 -- ff, and what may follow it
-reserved_octet_refused : (n : ℕ) (digits : List ℕ) → IsLength n (0xff ∷ digits) → ⊥
-reserved_octet_refused n digits p = let f = long_form n 0xff digits (omega arith) p in let below = f.1 in omega arith
+reserved_octet_rejected : (n : ℕ) (digits : List ℕ) → IsLength n (0xff ∷ digits) → ⊥
+reserved_octet_rejected n digits p = let f = long_form n 0xff digits (omega arith) p in let below = f.1 in omega arith
 
 -- no octets
-missing_length_refused : (n : ℕ) → IsLength n [] → ⊥
-missing_length_refused = no_octets_refused
+missing_length_rejected : (n : ℕ) → IsLength n [] → ⊥
+missing_length_rejected = no_octets_rejected

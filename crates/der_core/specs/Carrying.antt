@@ -7,7 +7,7 @@ use Rattle.der_core.specs.declared.error.ErrorKind.TheVariants.{File, OutOfMemor
 use Rattle.der_core.specs.Length.{limit}
 use Rattle.der_core.specs.Document.{IsDocument}
 use Rattle.der_core.specs.Faults.{DocumentFault}
-use Rattle.der_core.specs.SourcesSinks.{AppendsFront, GivesAll, GivesMore, SomeRefused}
+use Rattle.der_core.specs.SourcesSinks.{AppendsFront, GivesAll, GivesMore, SomeFailed}
 use Rattle.der_core.specs.Reading.{TellsOfBytes}
 
 -- how many bytes are read at once
@@ -19,17 +19,17 @@ abbrev pub GivesNone : ErrorKind → Option (List ℕ) → Option (List ℕ) →
 GivesNone e old new = (bytes : List ℕ) × GivesAll old new bytes × (IsDocument bytes → ⊥) × DocumentFault e bytes
 
 -- Why reading stopped: a call of the source failed; or none did, and memory ran out, or too many bytes came.
-abbrev pub StopsCarrying : ℕ → ErrorKind → Option (List ℕ) → Option (List ℕ) → ℕ → ℕ → Type 0
-StopsCarrying most e old new refusals refusals2 =
-    ((e ≡ File) × SomeRefused refusals refusals2)
-    ⊎ ((e ≡ OutOfMemory) × (refusals2 ≡ refusals))
-    ⊎ ((e ≡ Overflow) × (refusals2 ≡ refusals) × GivesMore most piece old new)
+abbrev pub WhyReadingStopped : ℕ → ErrorKind → Option (List ℕ) → Option (List ℕ) → ℕ → ℕ → Type 0
+WhyReadingStopped most e old new failures failures2 =
+    ((e ≡ File) × SomeFailed failures failures2)
+    ⊎ ((e ≡ OutOfMemory) × (failures2 ≡ failures))
+    ⊎ ((e ≡ Overflow) × (failures2 ≡ failures) × GivesMore most piece old new)
 
 -- Why no document was read: reading stopped, at more bytes than a document has; or no call failed, and what came is no
 -- document.
-abbrev pub StopsReading : ErrorKind → Option (List ℕ) → Option (List ℕ) → ℕ → ℕ → Type 0
-StopsReading e old new refusals refusals2 =
-    StopsCarrying limit e old new refusals refusals2 ⊎ (TellsOfBytes e × (refusals2 ≡ refusals) × GivesNone e old new)
+abbrev pub WhyDocumentNotRead : ErrorKind → Option (List ℕ) → Option (List ℕ) → ℕ → ℕ → Type 0
+WhyDocumentNotRead e old new failures failures2 =
+    WhyReadingStopped limit e old new failures failures2 ⊎ (TellsOfBytes e × (failures2 ≡ failures) × GivesNone e old new)
 
 -- Why a file isn't read, whose bytes no contract can name: a call failed, memory ran out, or some bytes have this
 -- fault.
@@ -39,13 +39,13 @@ FileFault e = (e ≡ File) ⊎ (e ≡ OutOfMemory) ⊎ ((bytes : List ℕ) × Do
 -- The document is all that came up to the end, and no call failed; or none was read.
 abbrev pub ReadsDocument : {X : Type 0} → (X → List ℕ) → Result X Error
     → Option (List ℕ) → Option (List ℕ) → ℕ → ℕ → Type 0
-ReadsDocument text (Ok document) old new refusals refusals2 =
-    GivesAll old new (text document) × (refusals2 ≡ refusals)
-ReadsDocument text (Err e) old new refusals refusals2 = StopsReading e.kind old new refusals refusals2
+ReadsDocument encoding (Ok document) old new failures failures2 =
+    GivesAll old new (encoding document) × (failures2 ≡ failures)
+ReadsDocument encoding (Err e) old new failures failures2 = WhyDocumentNotRead e.kind old new failures failures2
 
 -- All bytes were taken, in order, and no call failed; or a beginning of them was taken, and a call failed.
 abbrev pub WritesAll : {X : Type 0} → List ℕ → Result X Error
     → Option (List ℕ) → Option (List ℕ) → ℕ → ℕ → Type 0
-WritesAll bytes (Ok x) old new refusals refusals2 = Appends old new bytes × (refusals2 ≡ refusals)
-WritesAll bytes (Err e) old new refusals refusals2 =
-    AppendsFront old new bytes × (e.kind ≡ File) × SomeRefused refusals refusals2
+WritesAll bytes (Ok x) old new failures failures2 = Appends old new bytes × (failures2 ≡ failures)
+WritesAll bytes (Err e) old new failures failures2 =
+    AppendsFront old new bytes × (e.kind ≡ File) × SomeFailed failures failures2

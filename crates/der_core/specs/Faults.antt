@@ -8,29 +8,29 @@ use Rattle.der_core.specs.declared.error.ErrorKind.{ErrorKind}
 use Rattle.der_core.specs.declared.error.ErrorKind.TheVariants.{Incomplete, OutOfMemory, Overflow, TagUnexpected, TrailingData}
 use Rattle.der_core.specs.declared.tag.Tag.{Tag}
 use Rattle.der_core.specs.Length.{limit}
-use Rattle.der_core.specs.Headers.{HeaderText}
+use Rattle.der_core.specs.Headers.{HeaderEncoding}
 use Rattle.der_core.specs.Input.{Input, header_at}
 use Rattle.der_core.specs.IntegerReading.{integer_of, small_of}
 use Rattle.der_core.specs.Reading.{AllocatesIn, TellsOfBytes}
 use Rattle.der_core.specs.SequenceOf.{ItemsContents}
 use Rattle.der_core.specs.Tags.{sequence}
-use Rattle.der_core.specs.Texts.{AreBytes, Then}
+use Rattle.der_core.specs.Encodings.{AreBytes, Then}
 use Rattle.der_core.specs.Tlv.{Tlv}
 
 -- The bytes begin with no encoding of this tag, whose contents have faults of their own. The first fault is ..
-pub data TextFault (tag : Tag) (ContentsFault : ErrorKind → List ℕ → Type 0) (kind : ErrorKind) (bytes : List ℕ) : Type 0 where
+pub data EncodingFault (tag : Tag) (ContentsFault : ErrorKind → List ℕ → Type 0) (kind : ErrorKind) (bytes : List ℕ) : Type 0 where
   -- .. in the header
-  in_header : header_at bytes ≡ Err kind → TextFault tag ContentsFault kind bytes
+  in_header : header_at bytes ≡ Err kind → EncodingFault tag ContentsFault kind bytes
   -- .. another tag
-  other_tag : (actual : Tag) (n : ℕ) (header rest : List ℕ) → HeaderText (actual.octet, n) header → bytes ≡ header ++ rest → actual.octet ≢ tag.octet → kind ≡ TagUnexpected tag actual → TextFault tag ContentsFault kind bytes
+  other_tag : (actual : Tag) (n : ℕ) (header rest : List ℕ) → HeaderEncoding (actual.octet, n) header → bytes ≡ header ++ rest → actual.octet ≢ tag.octet → kind ≡ TagUnexpected tag actual → EncodingFault tag ContentsFault kind bytes
   -- .. that fewer bytes follow than the header counts
-  too_short : (n : ℕ) (header rest : List ℕ) → HeaderText (tag.octet, n) header → bytes ≡ header ++ rest → length rest < n → kind ≡ Incomplete → TextFault tag ContentsFault kind bytes
+  too_short : (n : ℕ) (header rest : List ℕ) → HeaderEncoding (tag.octet, n) header → bytes ≡ header ++ rest → length rest < n → kind ≡ Incomplete → EncodingFault tag ContentsFault kind bytes
   -- .. in the contents
-  in_contents : (header contents rest : List ℕ) → HeaderText (tag.octet, length contents) header → bytes ≡ header ++ (contents ++ rest) → ContentsFault kind contents → TextFault tag ContentsFault kind bytes
+  in_contents : (header contents rest : List ℕ) → HeaderEncoding (tag.octet, length contents) header → bytes ≡ header ++ (contents ++ rest) → ContentsFault kind contents → EncodingFault tag ContentsFault kind bytes
 
 -- Contents that are one part after another: the first part has a fault; or it is there, and what follows has one.
 abbrev pub ThenFault : {V : Type 0} → (V → List ℕ → Type 0) → (ErrorKind → List ℕ → Type 0) → (V → ErrorKind → List ℕ → Type 0) → ErrorKind → List ℕ → Type 0
-ThenFault {V} Text Fault RestFault kind bytes = Fault kind bytes ⊎ ((v : V) × Then (Text v) (RestFault v kind) bytes)
+ThenFault {V} Encoding Fault RestFault kind bytes = Fault kind bytes ⊎ ((v : V) × Then (Encoding v) (RestFault v kind) bytes)
 
 -- Bytes follow where nothing may.
 abbrev pub EndFault : ErrorKind → List ℕ → Type 0
@@ -38,19 +38,19 @@ EndFault kind bytes = (0 < length bytes) × (kind ≡ TrailingData)
 
 -- Contents that are encodings of items: behind some of them bytes follow that have a fault.
 abbrev pub ItemsFault : {V : Type 0} → (V → List ℕ → Type 0) → (ErrorKind → List ℕ → Type 0) → ErrorKind → List ℕ → Type 0
-ItemsFault {V} Text Fault kind bytes = (vs : List V) × Then (ItemsContents Text vs) (λ rest. (0 < length rest) × Fault kind rest) bytes
+ItemsFault {V} Encoding Fault kind bytes = (vs : List V) × Then (ItemsContents Encoding vs) (λ rest. (0 < length rest) × Fault kind rest) bytes
 
 -- Contents that have to be one encoding.
 abbrev pub AloneFault : {V : Type 0} → (V → List ℕ → Type 0) → (ErrorKind → List ℕ → Type 0) → ErrorKind → List ℕ → Type 0
-AloneFault Text Fault = ThenFault Text Fault (λ _. EndFault)
+AloneFault Encoding Fault = ThenFault Encoding Fault (λ _. EndFault)
 
 -- A last part, one encoding or nothing.
 abbrev pub LastFault : {V : Type 0} → (V → List ℕ → Type 0) → (ErrorKind → List ℕ → Type 0) → ErrorKind → List ℕ → Type 0
-LastFault Text Fault kind bytes = (0 < length bytes) × AloneFault Text Fault kind bytes
+LastFault Encoding Fault kind bytes = (0 < length bytes) × AloneFault Encoding Fault kind bytes
 
 -- A whole slice that has to be one encoding: it is too long; or the encoding has a fault, or bytes follow it.
 abbrev pub WholeFault : {V : Type 0} → (V → List ℕ → Type 0) → (ErrorKind → List ℕ → Type 0) → ErrorKind → List ℕ → Type 0
-WholeFault Text Fault kind bytes = ((limit < length bytes) × (kind ≡ Overflow)) ⊎ ((length bytes ≤ limit) × AloneFault Text Fault kind bytes)
+WholeFault Encoding Fault kind bytes = ((limit < length bytes) × (kind ≡ Overflow)) ⊎ ((length bytes ≤ limit) × AloneFault Encoding Fault kind bytes)
 
 -- The contents octets of an INTEGER, and of one from 0 to 255.
 abbrev pub IntegerFault : ErrorKind → List ℕ → Type 0
@@ -66,23 +66,23 @@ NoFault kind contents = ⊥
 -- An optional last part with a tag: if the tag's octet is next, its encoding has a fault, or bytes follow it; else any
 -- bytes that are left are the fault.
 abbrev pub TaggedLastFault : {V : Type 0} → Tag → (V → List ℕ → Type 0) → (ErrorKind → List ℕ → Type 0) → ErrorKind → List ℕ → Type 0
-TaggedLastFault tag Text Fault kind bytes =
-    ((slice_get bytes 0 ≡ Some tag.octet) × AloneFault Text Fault kind bytes)
+TaggedLastFault tag Encoding Fault kind bytes =
+    ((slice_get bytes 0 ≡ Some tag.octet) × AloneFault Encoding Fault kind bytes)
     ⊎ ((slice_get bytes 0 ≢ Some tag.octet) × EndFault kind bytes)
 
 -- An optional part with a tag: the tag's octet is next, and the encoding has a fault.
 abbrev pub TaggedFault : Tag → (ErrorKind → List ℕ → Type 0) → ErrorKind → List ℕ → Type 0
-TaggedFault tag Fault kind bytes = (slice_get bytes 0 ≡ Some tag.octet) × TextFault tag Fault kind bytes
+TaggedFault tag Fault kind bytes = (slice_get bytes 0 ≡ Some tag.octet) × EncodingFault tag Fault kind bytes
 
 -- Contents that have to mean one expected value: they have a fault, or mean another value, which has an error of its
 -- own.
 abbrev pub ExpectedFault : {V : Type 0} → (V → List ℕ → Type 0) → (ErrorKind → List ℕ → Type 0) → V → ErrorKind → ErrorKind → List ℕ → Type 0
-ExpectedFault {V} Contents Fault v refusal kind contents =
-    Fault kind contents ⊎ ((w : V) × Contents w contents × (w ≢ v) × (kind ≡ refusal))
+ExpectedFault {V} Contents Fault v failure kind contents =
+    Fault kind contents ⊎ ((w : V) × Contents w contents × (w ≢ v) × (kind ≡ failure))
 
 -- A whole slice that has to be one SEQUENCE, whatever its contents are.
 abbrev pub DocumentFault : ErrorKind → List ℕ → Type 0
-DocumentFault = WholeFault {V = Unit {0}} (λ _. Tlv sequence.octet AreBytes) (TextFault sequence NoFault)
+DocumentFault = WholeFault {V = Unit {0}} (λ _. Tlv sequence.octet AreBytes) (EncodingFault sequence NoFault)
 
 -- Bytes with a fault are not of the grammar, and the kind of their error is about the bytes.
 abbrev pub AreNone : (List ℕ → Type 0) → (ErrorKind → List ℕ → Type 0) → Type 0

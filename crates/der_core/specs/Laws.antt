@@ -23,10 +23,10 @@ pub mod Numbers
 pub mod OctetString
 pub mod Optional
 pub mod OptionalReads
-pub mod Refusals
+pub mod NotWritten
 pub mod SequenceOf
 pub mod Sequences
-pub mod ShortTexts
+pub mod ShortEncodings
 pub mod Shortest
 pub mod Slices
 pub mod SmallNumbers
@@ -35,6 +35,6 @@ pub mod SourceMoves
 pub mod StoppedWriting
 pub mod Tags
 pub mod Tells
-pub mod Texts
+pub mod Encodings
 pub mod Whole
 pub mod WrittenOut

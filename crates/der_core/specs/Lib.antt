@@ -1,4 +1,4 @@
-pub mod Texts
+pub mod Encodings
 pub mod Length
 pub mod Tlv
 pub mod Integer
@@ -22,7 +22,7 @@ pub mod EncodeToSlice
 pub mod SourcesSinks
 pub mod Carrying
 pub mod Wrap
-pub mod Refusal
+pub mod ErrorKinds
 pub mod Optional
 pub mod OctetString
 pub mod OctetStringRefValue

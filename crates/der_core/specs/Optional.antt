@@ -2,8 +2,8 @@
 use Rattle.std.specs.Prelude.{ℕ, List, [], ◌≡◌, Option, Some, None}
 
 abbrev pub Optional : {V : Type 0} → (V → List ℕ → Type 0) → Option V → List ℕ → Type 0
-Optional Grammar None text = text ≡ []
-Optional Grammar (Some v) text = Grammar v text
+Optional Grammar None encoding = encoding ≡ []
+Optional Grammar (Some v) encoding = Grammar v encoding
 
 -- Which parts can be written, and what is written.
 abbrev pub HasOptional : {V : Type 0} → (V → Type 0) → Option V → Type 0
@@ -11,5 +11,5 @@ HasOptional has None = Unit {0}
 HasOptional has (Some v) = has v
 
 abbrev pub written_optional : {V : Type 0} → (V → List ℕ) → Option V → List ℕ
-written_optional text None = []
-written_optional text (Some v) = text v
+written_optional encoding None = []
+written_optional encoding (Some v) = encoding v

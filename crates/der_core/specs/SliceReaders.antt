@@ -1,7 +1,7 @@
 -- What a reader over a slice has left.
 use Rattle.std.specs.Prelude.{Some, None, ◌≤◌, if◌then◌else◌, length}
 use Rattle.der_core.specs.Length.{limit}
-use Rattle.der_core.specs.Texts.{AreBytes}
+use Rattle.der_core.specs.Encodings.{AreBytes}
 use Rattle.der_core.specs.Input.{Input, left_in}
 use Rattle.der_core.specs.Laws.Input.{left_bounded, left_bytes}
 use Rattle.der_core.specs.declared.slice_reader.SliceReader.{SliceReader}

@@ -16,9 +16,9 @@ abbrev pub AppendsFront : Option (List ℕ) → Option (List ℕ) → List ℕ �
 AppendsFront old new bytes = (n : ℕ) × Appends old new (take n bytes)
 
 -- A count of failed calls: it rises by one with each, and stays at its greatest value.
-abbrev pub CountsRefusal : {T E : Type 0} → ℕ → ℕ → Result T E → Type 0
-CountsRefusal old new r = MatchResult r (λ _. new ≡ old) (λ _. new ≡ min (old + 1) (2 ^ 64 - 1))
+abbrev pub CountsFailure : {T E : Type 0} → ℕ → ℕ → Result T E → Type 0
+CountsFailure old new r = MatchResult r (λ _. new ≡ old) (λ _. new ≡ min (old + 1) (2 ^ 64 - 1))
 
 -- A call failed: the count rose, or is at its greatest value.
-abbrev pub SomeRefused : ℕ → ℕ → Type 0
-SomeRefused old new = (old < new) ⊎ (new ≡ 2 ^ 64 - 1)
+abbrev pub SomeFailed : ℕ → ℕ → Type 0
+SomeFailed old new = (old < new) ⊎ (new ≡ 2 ^ 64 - 1)

@@ -4,27 +4,27 @@ use crate::back_writer::BackWriter;
 use crate::encode::Encode;
 use crate::error::Result;
 use crate::length::Length;
-use crate::types::Text;
+use crate::types::Encoding;
 use crate::writer::Writer;
 
 /// A borrowed value, which is encoded as the value itself.
 #[derive(Drop)]
 pub struct Borrowed<'b, T>(pub &'b T);
 
-impl<'b, T: Text> Text for Borrowed<'b, T> {
+impl<'b, T: Encoding> Encoding for Borrowed<'b, T> {
     ghost Value = { T.Value };
 
     ghost value = { λ b. T.value b.0.now };
 
-    ghost text = { T.text };
+    ghost encoding = { T.encoding };
 
-    ghost has_text = { T.has_text };
+    ghost has_encoding = { T.has_encoding };
 
-    ghost written_text = { T.written_text };
+    ghost written_encoding = { T.written_encoding };
 
     ghost delimited = { T.delimited };
 
-    ghost text_of_bytes = { T.text_of_bytes };
+    ghost encoding_of_bytes = { T.encoding_of_bytes };
 }
 
 impl<'b, T: Encode> Encode for Borrowed<'b, T> {
@@ -40,7 +40,7 @@ impl<'b, T: Encode> Encode for Borrowed<'b, T> {
         self.0.prepend(writer);
     }
 
-    ghost text_relates = { T.text_relates };
+    ghost encoding_relates = { T.encoding_relates };
 
-    ghost text_shortest = { T.text_shortest };
+    ghost encoding_shortest = { T.encoding_shortest };
 }

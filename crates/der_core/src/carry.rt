@@ -1,6 +1,6 @@
 //! Reading a source to its end, and writing all bytes to a sink.
 ghost use Rattle.std.specs.Prelude.{◌≡◌, ◌≤◌, ◌⊎◌, length, IfOk, IfErr, OnOk};
-ghost use Rattle.der_core.specs.Carrying.{StopsCarrying, WritesAll};
+ghost use Rattle.der_core.specs.Carrying.{WhyReadingStopped, WritesAll};
 ghost use Rattle.der_core.specs.SourcesSinks.{GivesAll};
 
 use crate::error::{Error, ErrorKind, Result};
@@ -17,9 +17,9 @@ const PIECE: usize = 65536;
 pub fn read_all<R: Source>(alloc: Global, source: &mut R, most: Length) -> Result<Vec<u8>>
     ensures all { IfOk result (λ bytes. GivesAll (R.remaining source.old) (R.remaining source.new) bytes.items) }
     ensures within { IfOk result (λ bytes. length bytes.items ≤ most) }
-    ensures same { OnOk result (R.refusals source.new ≡ R.refusals source.old) }
-    ensures err { IfErr result (λ e. StopsCarrying most e.kind (R.remaining source.old) (R.remaining source.new)
-        (R.refusals source.old) (R.refusals source.new)) }
+    ensures same { OnOk result (R.failures source.new ≡ R.failures source.old) }
+    ensures err { IfErr result (λ e. WhyReadingStopped most e.kind (R.remaining source.old) (R.remaining source.new)
+        (R.failures source.old) (R.failures source.new)) }
 {
     let mut bytes = Vec::new(alloc);
     let mut piece = [0u8; PIECE];
@@ -42,7 +42,7 @@ pub fn read_all<R: Source>(alloc: Global, source: &mut R, most: Length) -> Resul
 /// then taken a beginning of the bytes.
 pub fn put_all<W: Sink>(bytes: &[u8], sink: &mut W) -> Result<()>
     ensures { WritesAll bytes.now result (W.contents sink.old) (W.contents sink.new)
-        (W.refusals sink.old) (W.refusals sink.new) }
+        (W.failures sink.old) (W.failures sink.new) }
 {
     let mut done = 0;
     while done < bytes.len() {
@@ -57,7 +57,7 @@ pub fn put_all<W: Sink>(bytes: &[u8], sink: &mut W) -> Result<()>
 /// Like `put_all`, and flushes.
 pub(crate) fn write_all<W: Sink>(bytes: &[u8], sink: &mut W) -> Result<()>
     ensures { WritesAll bytes.now result (W.contents sink.old) (W.contents sink.new)
-        (W.refusals sink.old) (W.refusals sink.new) }
+        (W.failures sink.old) (W.failures sink.new) }
 {
     put_all(bytes, sink)?;
     match sink.flush() {

@@ -1,18 +1,20 @@
 //! Reading of values.
 ghost use Rattle.std.specs.Prelude.{◌≡◌, ℕ, List, IfErr, IsErrAnd};
 ghost use Rattle.der_core.specs.Tlv.{Tlv};
-ghost use Rattle.der_core.specs.Reading.{ReadsOrFaults, ReadsText, ReadsAll, ReadsOptional, HoldsBytes, TellsNext, NoneHas, NoneIn, AllocatesIn};
-ghost use Rattle.der_core.specs.Faults.{TextFault, TaggedFault, WholeFault, Faulty, FaultyFront, OnlyFront, AreNone, AreFirst};
-ghost use Rattle.der_core.specs.Laws.Faults.{text_fault_none, text_fault_first};
+ghost use Rattle.der_core.specs.Reading.{ReadsOrFaults, ReadsEncoding, ReadsAll, ReadsOptional, HoldsBytes, TellsNext};
+ghost use Rattle.der_core.specs.Reading.{NoneHas, NoneIn, AllocatesIn};
+ghost use Rattle.der_core.specs.Faults.{EncodingFault, TaggedFault, WholeFault, Faulty, FaultyFront, OnlyFront};
+ghost use Rattle.der_core.specs.Faults.{AreNone, AreFirst};
+ghost use Rattle.der_core.specs.Laws.Faults.{encoding_fault_none, encoding_fault_first};
 ghost use Rattle.der_core.specs.declared.error.ErrorKind.{ErrorKind};
 
 use crate::error::{ErrorKind, Result};
 use crate::header::Header;
 use crate::memory::Memory;
-use crate::reader::{Octets, Reader, refuse_if_failed};
+use crate::reader::{Octets, Reader, reject_if_failed};
 use crate::slice_reader::SliceReader;
 use crate::tag::Tag;
-use crate::types::{Contents, FixedTag, Text};
+use crate::types::{Contents, Encoding, FixedTag};
 
 /// A type whose values are read from their contents octets.
 pub trait DecodeValue<B: Octets, M: Memory>: Contents + Sized + Drop {
@@ -34,7 +36,7 @@ pub trait DecodeValue<B: Octets, M: Memory>: Contents + Sized + Drop {
 }
 
 /// A type whose values are read from their encodings.
-pub trait Decode<B: Octets, M: Memory>: Text + Sized + Drop {
+pub trait Decode<B: Octets, M: Memory>: Encoding + Sized + Drop {
     /// The encodings whose reading may allocate.
     ghost may_allocate: { List ℕ → Type 0 };
 
@@ -43,19 +45,20 @@ pub trait Decode<B: Octets, M: Memory>: Text + Sized + Drop {
 
     /// Reads the encoding at the front of what is left.
     fn decode<R: Reader<B>>(memory: M, reader: &mut R) -> Result<Self>
-        ensures text { ReadsText Self.value Self.text may_allocate result (R.left reader.old) (R.left reader.new) }
+        ensures encoding { ReadsEncoding Self.value Self.encoding may_allocate result (R.left reader.old)
+            (R.left reader.new) }
         ensures exact { IfErr result (λ e. FaultyFront fault may_allocate e.kind (R.left reader.old)) }
         ensures only { OnlyFront fault may_allocate result (R.left reader.old) };
 
     /// Reads a whole slice: `Overflow` if it is longer than `Length::MAX`, `TrailingData` if bytes follow the encoding.
     fn from_der(memory: M, bytes: B) -> Result<Self>
-        ensures text { ReadsAll Self.value Self.text may_allocate result (B.octets bytes) }
+        ensures encoding { ReadsAll Self.value Self.encoding may_allocate result (B.octets bytes) }
         ensures exact { let b = B.octets bytes in
-            IfErr result (λ e. Faulty e.kind (AllocatesIn may_allocate b) (WholeFault Self.text fault e.kind b)) }
-        ensures only { let b = B.octets bytes in (kind : ErrorKind) → WholeFault Self.text fault kind b
+            IfErr result (λ e. Faulty e.kind (AllocatesIn may_allocate b) (WholeFault Self.encoding fault e.kind b)) }
+        ensures only { let b = B.octets bytes in (kind : ErrorKind) → WholeFault Self.encoding fault kind b
             → IsErrAnd result (λ e. Faulty e.kind (AllocatesIn may_allocate b) (e.kind ≡ kind)) };
 
-    ghost fault_none: { AreNone (NoneIn Self.text) fault };
+    ghost fault_none: { AreNone (NoneIn Self.encoding) fault };
 
     ghost fault_first: { AreFirst fault };
 }
@@ -63,11 +66,11 @@ pub trait Decode<B: Octets, M: Memory>: Text + Sized + Drop {
 impl<'a, M: Memory, T: DecodeValue<&'a [u8], M> + FixedTag> Decode<&'a [u8], M> for T {
     ghost may_allocate = { Tlv T.TAG.octet T.DecodeValue.may_allocate };
 
-    ghost fault = { TextFault T.TAG T.DecodeValue.fault };
+    ghost fault = { EncodingFault T.TAG T.DecodeValue.fault };
 
     #[inline(always)]
     fn decode<R: Reader<&'a [u8]>>(memory: M, reader: &mut R) -> Result<T> {
-        read_text(memory, reader)
+        read_encoding(memory, reader)
     }
 
     #[inline(always)]
@@ -78,22 +81,22 @@ impl<'a, M: Memory, T: DecodeValue<&'a [u8], M> + FixedTag> Decode<&'a [u8], M> 
         Ok(value)
     }
 
-    ghost fault_none = { text_fault_none T.TAG T.DecodeValue.fault T.contents T.DecodeValue.fault_none };
+    ghost fault_none = { encoding_fault_none T.TAG T.DecodeValue.fault T.contents T.DecodeValue.fault_none };
 
-    ghost fault_first = { text_fault_first T.TAG T.DecodeValue.fault T.DecodeValue.fault_first };
+    ghost fault_first = { encoding_fault_first T.TAG T.DecodeValue.fault T.DecodeValue.fault_first };
 }
 
 /// Reads the encoding at the front of what is left.
 #[inline(always)]
-fn read_text<'a, T: DecodeValue<&'a [u8], M> + FixedTag, M: Memory, R: Reader<&'a [u8]>>(
+fn read_encoding<'a, T: DecodeValue<&'a [u8], M> + FixedTag, M: Memory, R: Reader<&'a [u8]>>(
     memory: M,
     reader: &mut R,
 ) -> Result<T>
-    ensures text { let tag = T.TAG.octet in
+    ensures encoding { let tag = T.TAG.octet in
         let may = Tlv tag T.DecodeValue.may_allocate in
-        ReadsText T.value (λ v. Tlv tag (T.contents v)) may result (R.left reader.old) (R.left reader.new) }
+        ReadsEncoding T.value (λ v. Tlv tag (T.contents v)) may result (R.left reader.old) (R.left reader.new) }
     ensures exact { let may = Tlv T.TAG.octet T.DecodeValue.may_allocate in
-        IfErr result (λ e. FaultyFront (TextFault T.TAG T.DecodeValue.fault) may e.kind (R.left reader.old)) }
+        IfErr result (λ e. FaultyFront (EncodingFault T.TAG T.DecodeValue.fault) may e.kind (R.left reader.old)) }
 {
     let header = Header::decode(reader)?;
     if header.tag != T::TAG {
@@ -114,7 +117,7 @@ fn read_text<'a, T: DecodeValue<&'a [u8], M> + FixedTag, M: Memory, R: Reader<&'
 pub fn is_tag_next<'a, R: Reader<&'a [u8]>>(reader: &mut R, tag: Tag) -> Result<bool>
     ensures { TellsNext tag.octet result (R.left reader.old) (R.left reader.new) }
 {
-    refuse_if_failed(reader)?;
+    reject_if_failed(reader)?;
     Ok(reader.peek_octet() == Some(tag.octet()))
 }
 
@@ -128,7 +131,7 @@ pub fn decode_optional<'a, T: DecodeValue<&'a [u8], M> + FixedTag, M: Memory, R:
         let may = Tlv tag T.DecodeValue.may_allocate in
         ReadsOptional tag T.value (λ v. Tlv tag (T.contents v)) may result (R.left reader.old) (R.left reader.new) }
     ensures exact { let may = Tlv T.TAG.octet T.DecodeValue.may_allocate in
-        IfErr result (λ e. FaultyFront (TextFault T.TAG T.DecodeValue.fault) may e.kind (R.left reader.old)) }
+        IfErr result (λ e. FaultyFront (EncodingFault T.TAG T.DecodeValue.fault) may e.kind (R.left reader.old)) }
     ensures only { let may = Tlv T.TAG.octet T.DecodeValue.may_allocate in
         OnlyFront (TaggedFault T.TAG T.DecodeValue.fault) may result (R.left reader.old) }
 {

@@ -1,14 +1,14 @@
 //! Documents: whole SEQUENCEs, whose contents aren't looked at.
 ghost use Rattle.std.specs.Prelude.{◌≡◌, ◌≢◌, ◌≤◌, ◌⊎◌, ℕ, List, [], Some, length, refl, ⊤, IfOk, IfErr, IsErrAnd};
-ghost use Rattle.der_core.specs.Carrying.{ReadsDocument, StopsCarrying, FileFault, WritesAll};
+ghost use Rattle.der_core.specs.Carrying.{ReadsDocument, WhyReadingStopped, FileFault, WritesAll};
 ghost use Rattle.der_core.specs.Document.{IsDocument};
 ghost use Rattle.der_core.specs.Laws.Document.{IsDocument-prop};
 ghost use Rattle.der_core.specs.Length.{limit};
 ghost use Rattle.der_core.specs.Faults.{NoFault, DocumentFault, Faulty};
 ghost use Rattle.der_core.specs.Laws.Faults.{no_fault_none, no_fault_first};
-ghost use Rattle.der_core.specs.Reading.{Refuses};
-ghost use Rattle.der_core.specs.Refusal.{IsFile};
-ghost use Rattle.der_core.specs.Texts.{AreBytes};
+ghost use Rattle.der_core.specs.Reading.{Rejects};
+ghost use Rattle.der_core.specs.ErrorKinds.{IsFile};
+ghost use Rattle.der_core.specs.Encodings.{AreBytes};
 ghost use Rattle.der_core.specs.declared.error.ErrorKind as der;
 ghost use Rattle.der_core.specs.Tlv.{Tlv, tlv};
 
@@ -111,12 +111,12 @@ pub type Document = DocumentOf<Open>;
 pub type SecretDocument = DocumentOf<Secret>;
 
 impl<S: Drop> DocumentOf<S> {
-    ghost use Rattle.der_core.specs.DocumentValue.{HoldsMessage, text_of};
+    ghost use Rattle.der_core.specs.DocumentValue.{HoldsMessage, encoding_of};
 
     /// Copies the bytes, if they are one SEQUENCE. `OutOfMemory` is returned only if they are.
     pub fn from_der(alloc: Global, bytes: &[u8]) -> Result<DocumentOf<S>>
-        ensures ok { IfOk result (λ document. IsDocument bytes.now × (text_of document ≡ bytes.now)) }
-        ensures err { IfErr result (λ e. Refuses e.kind (IsDocument bytes.now) (IsDocument bytes.now → ⊥)) }
+        ensures ok { IfOk result (λ document. IsDocument bytes.now × (encoding_of document ≡ bytes.now)) }
+        ensures err { IfErr result (λ e. Rejects e.kind (IsDocument bytes.now) (IsDocument bytes.now → ⊥)) }
         ensures exact { let b = bytes.now in
             IfErr result (λ e. Faulty e.kind (IsDocument b) (DocumentFault e.kind b)) }
         ensures only { (kind : der.ErrorKind)
@@ -135,7 +135,7 @@ impl<S: Drop> DocumentOf<S> {
         alloc: Global,
         message: &T,
     ) -> Result<DocumentOf<S>>
-        ensures { HoldsMessage text_of result (T.has_contents (T.value message.now))
+        ensures { HoldsMessage encoding_of result (T.has_contents (T.value message.now))
             (tlv T.TAG.octet (T.written_contents (T.value message.now)))
             (λ v. Tlv T.TAG.octet (T.contents v)) (T.value message.now) }
     {
@@ -150,7 +150,7 @@ impl<S: Drop> DocumentOf<S> {
 
     /// The whole encoding.
     pub fn as_bytes(&self) -> &[u8]
-        ensures text { result.now ≡ text_of self.now }
+        ensures encoding { result.now ≡ encoding_of self.now }
         ensures whole { IsDocument result.now }
     {
         self.bytes.as_slice()
@@ -158,7 +158,7 @@ impl<S: Drop> DocumentOf<S> {
 
     /// How many bytes the encoding has.
     pub fn len(&self) -> Length
-        ensures { result ≡ length (text_of self.now) }
+        ensures { result ≡ length (encoding_of self.now) }
     {
         Length::of(self.bytes.len())
     }
@@ -167,12 +167,12 @@ impl<S: Drop> DocumentOf<S> {
     /// `Length::MAX` bytes came, so it returns even if the source never ends. `File` is returned only if a read of the
     /// source failed. What was read before an error is lost.
     pub fn read_from<R: Source>(alloc: Global, source: &mut R) -> Result<DocumentOf<S>>
-        ensures reads { ReadsDocument text_of result (R.remaining source.old) (R.remaining source.new)
-            (R.refusals source.old) (R.refusals source.new) }
+        ensures reads { ReadsDocument encoding_of result (R.remaining source.old) (R.remaining source.new)
+            (R.failures source.old) (R.failures source.new) }
         ensures only { (kind : der.ErrorKind) (bytes : List ℕ)
             → R.remaining source.old ≡ Some bytes → DocumentFault kind bytes
-            → IsErrAnd result (λ e. StopsCarrying limit e.kind (R.remaining source.old) (R.remaining source.new)
-            (R.refusals source.old) (R.refusals source.new) ⊎ (e.kind ≡ kind)) }
+            → IsErrAnd result (λ e. WhyReadingStopped limit e.kind (R.remaining source.old) (R.remaining source.new)
+            (R.failures source.old) (R.failures source.new) ⊎ (e.kind ≡ kind)) }
     {
         let bytes = read_all(alloc, source, Length::MAX)?;
         AnySequence::from_der(NoMemory, bytes.as_slice())?;
@@ -185,8 +185,8 @@ impl<S: Drop> DocumentOf<S> {
     /// Writes all bytes to the sink, in order, and flushes. The only error is `File`, if a call of the sink failed; the
     /// sink has then taken a beginning of the bytes. Nothing is allocated.
     pub fn write_to<W: Sink>(&self, sink: &mut W) -> Result<()>
-        ensures { WritesAll (text_of self.now) result (W.contents sink.old) (W.contents sink.new)
-            (W.refusals sink.old) (W.refusals sink.new) }
+        ensures { WritesAll (encoding_of self.now) result (W.contents sink.old) (W.contents sink.new)
+            (W.failures sink.old) (W.failures sink.new) }
     {
         write_all(self.bytes.as_slice(), sink)
     }

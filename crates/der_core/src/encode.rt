@@ -2,17 +2,17 @@
 ghost use Rattle.std.specs.Prelude.{◌≡◌, ◌≤◌, ◌++◌, length, drop, OnOk, OnErr, IfOk, IfErr};
 ghost use Rattle.der_core.specs.Length.{limit, length_octets};
 ghost use Rattle.der_core.specs.Tlv.{Tlv, tlv};
-ghost use Rattle.der_core.specs.Document.{IsShortest, IsUncountable, IsRefused};
+ghost use Rattle.der_core.specs.Document.{IsShortest, WhyNotCounted, WhyNotWritten};
 ghost use Rattle.der_core.specs.BackWriters.{free_of, Prepends};
 ghost use Rattle.der_core.specs.EncodeToSlice.{IsFront, LeavesRest};
 ghost use Rattle.std.specs.Borrow.{sem};
-ghost use Rattle.der_core.specs.Writing.{WritesTexts, WritesLeast, Counts, Appends, encode_refusal, joined};
+ghost use Rattle.der_core.specs.Writing.{WritesEncodings, WritesLeast, Counts, Appends, encode_error, joined};
 
 use crate::back_writer::BackWriter;
 use crate::error::{Error, ErrorKind, Result};
 use crate::header::Header;
 use crate::length::Length;
-use crate::types::{Contents, FixedTag, Text};
+use crate::types::{Contents, Encoding, FixedTag};
 use crate::writer::Writer;
 
 /// A type whose values are written as contents octets.
@@ -35,51 +35,54 @@ pub trait EncodeValue: Contents {
         ensures { Prepends (Self.written_contents (Self.value self.now)) writer.old writer.new };
 
     /// What is written are contents of the value, up to a length that no memory holds.
-    ghost contents_relate: { WritesTexts Self.contents Self.has_contents Self.written_contents };
+    ghost contents_relate: { WritesEncodings Self.contents Self.has_contents Self.written_contents };
 
     /// A value with contents has the written ones, and its others are longer.
     ghost contents_shortest: { WritesLeast Self.contents Self.has_contents Self.written_contents };
 }
 
 /// A type whose values are written as encodings.
-pub trait Encode: Text {
+pub trait Encode: Encoding {
     /// The length of the encoding: `Value` if the value has none, `Overflow` if all are longer than `Length::MAX`.
     fn encoded_len(&self) -> Result<Length>
-        ensures counted { let v = Self.value self.now in Counts (Self.has_text v) (Self.written_text v) result }
+        ensures counted { let v = Self.value self.now in Counts (Self.has_encoding v) (Self.written_encoding v) result }
         ensures err { let v = Self.value self.now in
-            IfErr result (λ e. IsUncountable (Self.has_text v) Self.text v (encode_refusal e.kind)) };
+            IfErr result (λ e. WhyNotCounted (Self.has_encoding v) Self.encoding v (encode_error e.kind)) };
 
     /// Appends the encoding. `Value` and `Overflow` come before any octet is written, `NoRoom` after a beginning of
     /// them.
     fn encode<W: Writer>(&self, writer: &mut W) -> Result<()>
         ensures appends { let v = Self.value self.now in
-            Appends (Self.has_text v) (Self.written_text v) W.room W.written writer.old writer.new result }
+            Appends (Self.has_encoding v) (Self.written_encoding v) W.room W.written writer.old writer.new result }
         ensures err { let v = Self.value self.now in
-            IfErr result (λ e. IsRefused (Self.has_text v) Self.text v (W.room writer.old) (encode_refusal e.kind)) }
+            IfErr result (λ e. WhyNotWritten (Self.has_encoding v) Self.encoding v (W.room writer.old)
+            (encode_error e.kind)) }
         ensures kept { W.keeps writer.old writer.new };
 
     /// Writes the encoding in front of what is filled.
     fn prepend(&self, writer: &mut BackWriter<'_>)
-        requires has { Self.has_text (Self.value self.now) }
-        requires fits { length (Self.written_text (Self.value self.now)) ≤ limit }
-        requires room { length (Self.written_text (Self.value self.now)) ≤ free_of writer.old }
-        ensures { Prepends (Self.written_text (Self.value self.now)) writer.old writer.new };
+        requires has { Self.has_encoding (Self.value self.now) }
+        requires fits { length (Self.written_encoding (Self.value self.now)) ≤ limit }
+        requires room { length (Self.written_encoding (Self.value self.now)) ≤ free_of writer.old }
+        ensures { Prepends (Self.written_encoding (Self.value self.now)) writer.old writer.new };
 
     /// What is written is an encoding of the value, up to a length that no memory holds.
-    ghost text_relates: { WritesTexts Self.text Self.has_text Self.written_text };
+    ghost encoding_relates: { WritesEncodings Self.encoding Self.has_encoding Self.written_encoding };
 
     /// A value with an encoding has the written one, and its others are longer.
-    ghost text_shortest: { WritesLeast Self.text Self.has_text Self.written_text };
+    ghost encoding_shortest: { WritesLeast Self.encoding Self.has_encoding Self.written_encoding };
 
     /// Writes the encoding to the front of a slice and returns its length. On an error the slice is unchanged.
     final fn encode_into(&self, out: &mut [u8]) -> Result<usize>
     where
         Self: Sized,
-        ensures ok { let text = Self.written_text (Self.value self.now) in
-            IfOk result (λ n. (n ≡ length text) × (out.new ≡ text ++ drop n out.old)) }
-        ensures shortest { let v = Self.value self.now in OnOk result (IsShortest Self.text v (Self.written_text v)) }
+        ensures ok { let encoding = Self.written_encoding (Self.value self.now) in
+            IfOk result (λ n. (n ≡ length encoding) × (out.new ≡ encoding ++ drop n out.old)) }
+        ensures shortest { let v = Self.value self.now in
+            OnOk result (IsShortest Self.encoding v (Self.written_encoding v)) }
         ensures err { let v = Self.value self.now in
-            IfErr result (λ e. IsRefused (Self.has_text v) Self.text v (length out.old) (encode_refusal e.kind)) }
+            IfErr result (λ e. WhyNotWritten (Self.has_encoding v) Self.encoding v (length out.old)
+            (encode_error e.kind)) }
         ensures unchanged { OnErr result (out.new ≡ out.old) }
     {
         let length = self.encoded_len()?.to_usize();
@@ -97,11 +100,12 @@ pub trait Encode: Text {
     final fn encode_to_slice<'b>(&self, out: &'b mut [u8]) -> Result<&'b [u8]>
     where
         Self: Sized,
-        ensures* leaves { sem 𝓛 (LeavesRest out.entry (Self.written_text (Self.value self.now)) result) }
-        ensures ok { IfOk result (λ s. s.now ≡ Self.written_text (Self.value self.now)) }
-        ensures shortest { IfOk result (λ s. IsShortest Self.text (Self.value self.now) s.now) }
+        ensures* leaves { sem 𝓛 (LeavesRest out.entry (Self.written_encoding (Self.value self.now)) result) }
+        ensures ok { IfOk result (λ s. s.now ≡ Self.written_encoding (Self.value self.now)) }
+        ensures shortest { IfOk result (λ s. IsShortest Self.encoding (Self.value self.now) s.now) }
         ensures err { let v = Self.value self.now in
-            IfErr result (λ e. IsRefused (Self.has_text v) Self.text v (length out.old) (encode_refusal e.kind)) }
+            IfErr result (λ e. WhyNotWritten (Self.has_encoding v) Self.encoding v (length out.old)
+            (encode_error e.kind)) }
     {
         let written = self.encode_into(out);
         front(out, written)
@@ -120,7 +124,7 @@ fn front<'b>(out: &'b [u8], written: Result<usize>) -> Result<&'b [u8]>
 }
 
 /// The length of the encoding with these contents.
-fn text_len<T: EncodeValue + FixedTag>(value: &T) -> Result<Length>
+fn encoding_len<T: EncodeValue + FixedTag>(value: &T) -> Result<Length>
     ensures { let v = T.value value.now in
         Counts (T.has_contents v) (tlv T.TAG.octet (T.written_contents v)) result }
 {
@@ -128,7 +132,7 @@ fn text_len<T: EncodeValue + FixedTag>(value: &T) -> Result<Length>
 }
 
 /// Appends a header and the contents.
-fn encode_text<T: EncodeValue + FixedTag, W: Writer>(value: &T, writer: &mut W) -> Result<()>
+fn encode_tlv<T: EncodeValue + FixedTag, W: Writer>(value: &T, writer: &mut W) -> Result<()>
     ensures appends { let v = T.value value.now in
         let octets = tlv T.TAG.octet (T.written_contents v) in
         Appends (T.has_contents v) octets W.room W.written writer.old writer.new result }
@@ -146,11 +150,11 @@ fn encode_text<T: EncodeValue + FixedTag, W: Writer>(value: &T, writer: &mut W) 
 
 impl<T: EncodeValue + FixedTag> Encode for T {
     fn encoded_len(&self) -> Result<Length> {
-        text_len(self)
+        encoding_len(self)
     }
 
     fn encode<W: Writer>(&self, writer: &mut W) -> Result<()> {
-        encode_text(self, writer)
+        encode_tlv(self, writer)
     }
 
     fn prepend(&self, writer: &mut BackWriter<'_>) {
@@ -163,11 +167,13 @@ impl<T: EncodeValue + FixedTag> Encode for T {
         });
     }
 
-    ghost use Rattle.der_core.specs.Laws.Texts.{tlv_relates, tlv_shortest};
+    ghost use Rattle.der_core.specs.Laws.Encodings.{tlv_relates, tlv_shortest};
 
-    ghost text_relates = { λ v has. tlv_relates T.TAG.octet T.contents T.written_contents v (T.contents_relate v has) };
+    ghost encoding_relates = { λ v has. tlv_relates T.TAG.octet T.contents T.written_contents v
+        (T.contents_relate v has) };
 
-    ghost text_shortest = { tlv_shortest T.TAG.octet T.contents T.written_contents T.has_contents T.contents_shortest };
+    ghost encoding_shortest = { tlv_shortest T.TAG.octet T.contents T.written_contents T.has_contents
+        T.contents_shortest };
 }
 
 /// The sum of two lengths. `Value` is reported before `Overflow`.

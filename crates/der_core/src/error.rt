@@ -1,6 +1,6 @@
 //! Errors.
 ghost use Rattle.std.specs.Prelude.{◌≡◌, Some};
-ghost use Rattle.der_core.specs.Writing.{encode_refusal, is_no_text};
+ghost use Rattle.der_core.specs.Writing.{encode_error, is_no_encoding};
 
 use crate::tag::{PrintedOctet, Tag};
 use std::alloc::{AllocError, AllocFailed};
@@ -52,7 +52,7 @@ impl fmt::Display for ErrorKind {
     ghost output = { λ kind. Some (kind_text kind) };
 
     fn fmt<W: fmt::Write>(&self, f: &mut fmt::Formatter<W>) -> fmt::Result {
-        let text = match *self {
+        let encoding = match *self {
             ErrorKind::Length { tag } => {
                 return write!(f, "the contents of tag {tag} have a wrong length");
             }
@@ -81,7 +81,7 @@ impl fmt::Display for ErrorKind {
             ErrorKind::File => "a read or a write failed",
             ErrorKind::OutOfMemory => "no memory was found",
         };
-        f.write_str(text)
+        f.write_str(encoding)
     }
 }
 
@@ -112,7 +112,7 @@ impl Error {
 
     /// Whether the error says that a value has no encoding.
     pub(crate) fn is_value(self) -> bool
-        ensures { result ≡ is_no_text (encode_refusal self.kind) }
+        ensures { result ≡ is_no_encoding (encode_error self.kind) }
     {
         matches!(self.kind, ErrorKind::Value { .. })
     }

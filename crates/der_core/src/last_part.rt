@@ -24,11 +24,11 @@ pub fn decode_whole<'a, T: Decode<&'a [u8], M>, M: Memory, R: Reader<&'a [u8]>>(
     reader: &mut R,
 ) -> Result<T>
     ensures reads { let may = AllocatesIn T.Decode.may_allocate in
-        ReadsContents T.value T.text may result (R.left reader.old) (R.left reader.new) }
+        ReadsContents T.value T.encoding may result (R.left reader.old) (R.left reader.new) }
     ensures exact { let may = AllocatesIn T.Decode.may_allocate in
-        IfErr result (λ e. FaultyWhole (AloneFault T.text T.Decode.fault) may e.kind (R.left reader.old)) }
+        IfErr result (λ e. FaultyWhole (AloneFault T.encoding T.Decode.fault) may e.kind (R.left reader.old)) }
     ensures only { let may = AllocatesIn T.Decode.may_allocate in
-        OnlyWhole (AloneFault T.text T.Decode.fault) may result (R.left reader.old) }
+        OnlyWhole (AloneFault T.encoding T.Decode.fault) may result (R.left reader.old) }
     ensures failed { R.left reader.old ≡ None → IsErrAnd result (λ e. e.kind ≡ ErrorKind.Failed) }
 {
     let value = T::decode(memory, reader)?;
@@ -44,11 +44,11 @@ pub fn decode_last<'a, T: Decode<&'a [u8], M>, M: Memory, R: Reader<&'a [u8]>>(
     reader: &mut R,
 ) -> Result<Option<T>>
     ensures reads { let may = AllocatesLast T.Decode.may_allocate in
-        ReadsContents (option_map T.value) (Optional T.text) may result (R.left reader.old) (R.left reader.new) }
+        ReadsContents (option_map T.value) (Optional T.encoding) may result (R.left reader.old) (R.left reader.new) }
     ensures exact { let may = AllocatesLast T.Decode.may_allocate in
-        IfErr result (λ e. FaultyWhole (LastFault T.text T.Decode.fault) may e.kind (R.left reader.old)) }
+        IfErr result (λ e. FaultyWhole (LastFault T.encoding T.Decode.fault) may e.kind (R.left reader.old)) }
     ensures only { let may = AllocatesLast T.Decode.may_allocate in
-        OnlyWhole (LastFault T.text T.Decode.fault) may result (R.left reader.old) }
+        OnlyWhole (LastFault T.encoding T.Decode.fault) may result (R.left reader.old) }
     ensures failed { R.left reader.old ≡ None → IsErrAnd result (λ e. e.kind ≡ ErrorKind.Failed) }
 {
     if reader.peek_octet().is_none() {
@@ -62,7 +62,7 @@ pub fn decode_last<'a, T: Decode<&'a [u8], M>, M: Memory, R: Reader<&'a [u8]>>(
 /// The length of what is written for the part.
 pub fn optional_len<T: Encode>(part: &Option<T>) -> Result<Length>
     ensures { let value = option_map T.value part.now in
-        Counts (HasOptional T.has_text value) (written_optional T.written_text value) result }
+        Counts (HasOptional T.has_encoding value) (written_optional T.written_encoding value) result }
 {
     match part {
         Some(value) => value.encoded_len(),
@@ -73,8 +73,8 @@ pub fn optional_len<T: Encode>(part: &Option<T>) -> Result<Length>
 /// Appends the part, if there is one.
 pub fn encode_optional<T: Encode, W: Writer>(part: &Option<T>, writer: &mut W) -> Result<()>
     ensures appends { let value = option_map T.value part.now in
-        let octets = written_optional T.written_text value in
-        Appends (HasOptional T.has_text value) octets W.room W.written writer.old writer.new result }
+        let octets = written_optional T.written_encoding value in
+        Appends (HasOptional T.has_encoding value) octets W.room W.written writer.old writer.new result }
     ensures kept { W.keeps writer.old writer.new }
 {
     match part {
@@ -85,10 +85,10 @@ pub fn encode_optional<T: Encode, W: Writer>(part: &Option<T>, writer: &mut W) -
 
 /// Writes the part in front of what is filled, if there is one.
 pub fn prepend_optional<T: Encode>(part: &Option<T>, writer: &mut BackWriter<'_>)
-    requires has { HasOptional T.has_text (option_map T.value part.now) }
-    requires fits { length (written_optional T.written_text (option_map T.value part.now)) ≤ limit }
-    requires room { length (written_optional T.written_text (option_map T.value part.now)) ≤ free_of writer.old }
-    ensures { Prepends (written_optional T.written_text (option_map T.value part.now)) writer.old writer.new }
+    requires has { HasOptional T.has_encoding (option_map T.value part.now) }
+    requires fits { length (written_optional T.written_encoding (option_map T.value part.now)) ≤ limit }
+    requires room { length (written_optional T.written_encoding (option_map T.value part.now)) ≤ free_of writer.old }
+    ensures { Prepends (written_optional T.written_encoding (option_map T.value part.now)) writer.old writer.new }
 {
     if let Some(value) = part {
         value.prepend(writer);

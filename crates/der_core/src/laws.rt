@@ -24,18 +24,18 @@ use crate::octet_string::OctetStringRef;
 use crate::tag::TagNumber;
 
 /// Lengths compare as their numbers.
-pub fn lengths_compare_by_number()
+pub fn lemma_lengths_compare_by_number()
     ensures order { (a b : ℕ) → ⟦<Length as Ord>⟧.cmp a b ≡ nat_cmp a b }
     ensures equal { (a b : ℕ) → Decides (⟦<Length as PartialEq>⟧.eq a b) (a ≡ b) }
 {}
 
 /// Tag numbers are equal exactly if they are the same number.
-pub fn tag_numbers_compare_by_number()
+pub fn lemma_tag_numbers_compare_by_number()
     ensures { (a b : tags.TagNumber) → Decides (⟦<TagNumber as PartialEq>⟧.eq a b) (a.value ≡ b.value) }
 {}
 
 /// Each kind of error equals itself. Shown by examples: two kinds differ, and so do two tags in one kind.
-pub fn kinds_are_told_apart()
+pub fn lemma_kinds_are_told_apart()
     ensures same { (a : kinds.ErrorKind) → ⟦<ErrorKind as PartialEq>⟧.eq a a ≡ true }
     ensures kind { ⟦<ErrorKind as PartialEq>⟧.eq ErrorKind.Failed ErrorKind.Incomplete ≡ false }
     ensures tag { ⟦<ErrorKind as PartialEq>⟧.eq (ErrorKind.Value integer) (ErrorKind.Value sequence) ≡ false }
@@ -44,7 +44,7 @@ pub fn kinds_are_told_apart()
 {}
 
 /// A clone of a borrowed value is the same value.
-pub fn clones_hold_the_same()
+pub fn lemma_clones_hold_the_same()
     ensures number { (a b : numbers.UintRef) → ⟦<UintRef<'static> as Clone>⟧.is_clone a b → bytes_of b ≡ bytes_of a }
     ensures octets { (a b : strings.OctetStringRef)
         → ⟦<OctetStringRef<'static> as Clone>⟧.is_clone a b → octets_of b ≡ octets_of a }
@@ -52,7 +52,7 @@ pub fn clones_hold_the_same()
 
 /// For contents with a fault, `decode_value` of any type returns the error of that fault, or `OutOfMemory`. This
 /// follows from its contract in the trait.
-pub fn contents_are_refused_by_their_fault<'a, T: DecodeValue<&'a [u8], M>, M: Memory>()
+pub fn lemma_contents_are_rejected_by_their_fault<'a, T: DecodeValue<&'a [u8], M>, M: Memory>()
     ensures { let may = T.DecodeValue.may_allocate in
         (result : Result T errors.Error) (before after : Input) → length (left_in before) ≤ limit
         → ReadsOrFaults T.value T.contents T.DecodeValue.fault may result before after

@@ -5,9 +5,9 @@ ghost use Rattle.std.specs.Int.Digits.{number_from_digits};
 ghost use Rattle.der_core.specs.Length.{limit, IsLength, length_octets, tlv_len};
 ghost use Rattle.der_core.specs.Input.{Reads, length_at};
 ghost use Rattle.der_core.specs.Input as specs;
-ghost use Rattle.der_core.specs.Reading.{ReadsText};
-ghost use Rattle.der_core.specs.Headers.{LengthText};
-ghost use Rattle.der_core.specs.Texts.{Is};
+ghost use Rattle.der_core.specs.Reading.{ReadsEncoding};
+ghost use Rattle.der_core.specs.Headers.{LengthEncoding};
+ghost use Rattle.der_core.specs.Encodings.{Is};
 ghost use Rattle.der_core.specs.Tlv.{Tlv};
 
 use crate::error::{Error, ErrorKind, Result};
@@ -157,8 +157,8 @@ impl Length {
     pub fn for_tlv(self, _tag: Tag) -> Result<Length>
         ensures ok { IfOk result (λ total. (total ≡ tlv_len self) × (total ≤ limit)) }
         ensures err { IfErr result (λ e. (e.kind ≡ ErrorKind.Overflow) × (limit < tlv_len self)) }
-        ensures text { (octet : ℕ) (contents text : List ℕ)
-            → length contents ≡ self → Tlv octet (Is contents) text → length text ≡ tlv_len self }
+        ensures encoding { (octet : ℕ) (contents encoding : List ℕ)
+            → length contents ≡ self → Tlv octet (Is contents) encoding → length encoding ≡ tlv_len self }
     {
         self.header_len().checked_add(self)
     }
@@ -228,7 +228,8 @@ impl Length {
     #[inline(always)]
     pub fn decode<'a, R: Reader<&'a [u8]>>(reader: &mut R) -> Result<Length>
         ensures exact { Reads (λ n. n) result (R.left reader.old) (R.left reader.new) length_at }
-        ensures text { ReadsText (λ n. n) LengthText (λ _. ⊥) result (R.left reader.old) (R.left reader.new) }
+        ensures encoding { ReadsEncoding (λ n. n) LengthEncoding (λ _. ⊥) result (R.left reader.old)
+            (R.left reader.new) }
     {
         read_length(reader)
     }

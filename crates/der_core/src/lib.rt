@@ -4,7 +4,7 @@
 //! A type states its relation of values and contents octets once (`Contents`). Reading accepts exactly that relation,
 //! and writing gives the shortest encoding.
 //!
-//! In names and contracts a *text* is one whole DER encoding: tag, length and contents octets. A *sentence* is an
+//! An *encoding* is one whole DER encoding: tag, length and contents octets. A *sentence* is an
 //! encoding of at most `Length::MAX` bytes that means a value.
 #![tactic(auto)]
 
@@ -43,20 +43,22 @@ pub use header::Header;
 pub use integer::{AsUintRef, Uint, UintRef};
 pub use last_part::{decode_last, decode_whole, encode_optional, optional_len, prepend_optional};
 pub use laws::{
-    clones_hold_the_same, contents_are_refused_by_their_fault, kinds_are_told_apart,
-    lengths_compare_by_number, tag_numbers_compare_by_number,
+    lemma_clones_hold_the_same, lemma_contents_are_rejected_by_their_fault,
+    lemma_kinds_are_told_apart, lemma_lengths_compare_by_number,
+    lemma_tag_numbers_compare_by_number,
 };
 pub use length::Length;
 pub use memory::{Memory, NoMemory};
 pub use octet_string::{OctetStringRef, OctetStringTag};
 pub use reader::{BytesLeft, Octets, Reader};
-pub use sequence_of::{encode_texts, prepend_texts, texts_len};
+pub use sequence_of::{encode_items, items_len, prepend_items};
 pub use slice_reader::SliceReader;
 pub use source_sink::{Sink, Source};
 pub use tag::{Tag, TagNumber};
 pub use try_clone::TryClone;
 pub use types::{
-    Contents, EqualByValue, FixedTag, IntegerTag, Sequence, SequenceTag, TagMarker, TaggedBy, Text,
+    Contents, Encoding, EqualByValue, FixedTag, IntegerTag, Sequence, SequenceTag, TagMarker,
+    TaggedBy,
 };
 pub use wrap::{FromRead, ToWrite};
 pub use writer::{SliceWriter, Writer};

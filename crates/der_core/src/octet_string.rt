@@ -6,7 +6,7 @@ ghost use Rattle.der_core.specs.Faults.{NoFault};
 ghost use Rattle.der_core.specs.Laws.Faults.{no_fault_none, no_fault_first};
 ghost use Rattle.der_core.specs.Laws.OctetString.{octets_mean_one, octets_of_bytes, octets_relate, octets_shortest};
 ghost use Rattle.der_core.specs.Tags.{octet_string};
-ghost use Rattle.der_core.specs.Texts.{AreBytes};
+ghost use Rattle.der_core.specs.Encodings.{AreBytes};
 
 use crate::back_writer::BackWriter;
 use crate::decode::DecodeValue;

@@ -6,8 +6,8 @@ ghost use Rattle.der_core.specs.Faults.{ItemsFault};
 ghost use Rattle.der_core.specs.Laws.Faults.{items_fault_none, items_fault_first};
 ghost use Rattle.der_core.specs.Writing.{Counts, Appends};
 ghost use Rattle.der_core.specs.Laws.SequenceOf.{items_of_bytes, items_relate, items_shortest};
-ghost use Rattle.der_core.specs.SequenceOf.{ItemsContents, AllHave, all_texts};
-ghost use Rattle.der_core.specs.Laws.Texts.{joins_map};
+ghost use Rattle.der_core.specs.SequenceOf.{ItemsContents, AllHave, all_encodings};
+ghost use Rattle.der_core.specs.Laws.Encodings.{joins_map};
 
 use crate::back_writer::BackWriter;
 use crate::decode::{Decode, DecodeValue};
@@ -16,24 +16,24 @@ use crate::error::{ErrorKind, Result};
 use crate::header::Header;
 use crate::length::Length;
 use crate::reader::Reader;
-use crate::types::{Contents, SequenceTag, TaggedBy, Text};
+use crate::types::{Contents, Encoding, SequenceTag, TaggedBy};
 use crate::writer::Writer;
 use std::alloc::Global;
 
-impl<T: Text> Contents for Vec<T> {
+impl<T: Encoding> Contents for Vec<T> {
     ghost Value = { List T.Value };
 
     ghost value = { λ v. map T.value v.items };
 
-    ghost contents = { ItemsContents T.text };
+    ghost contents = { ItemsContents T.encoding };
 
-    ghost has_contents = { AllHave T.has_text };
+    ghost has_contents = { AllHave T.has_encoding };
 
-    ghost written_contents = { all_texts T.written_text };
+    ghost written_contents = { all_encodings T.written_encoding };
 
-    ghost means_one = { joins_map T.text T.delimited };
+    ghost means_one = { joins_map T.encoding T.delimited };
 
-    ghost contents_of_bytes = { items_of_bytes T.text T.text_of_bytes };
+    ghost contents_of_bytes = { items_of_bytes T.encoding T.encoding_of_bytes };
 }
 
 impl<T> TaggedBy for Vec<T> {
@@ -43,7 +43,7 @@ impl<T> TaggedBy for Vec<T> {
 impl<'a, T: Decode<&'a [u8], Global>> DecodeValue<&'a [u8], Global> for Vec<T> {
     ghost may_allocate = { λ c. 0 < length c };
 
-    ghost fault = { ItemsFault T.text T.Decode.fault };
+    ghost fault = { ItemsFault T.encoding T.Decode.fault };
 
     fn decode_value<R: Reader<&'a [u8]>>(
         memory: Global,
@@ -60,16 +60,16 @@ impl<'a, T: Decode<&'a [u8], Global>> DecodeValue<&'a [u8], Global> for Vec<T> {
         Ok(items)
     }
 
-    ghost fault_none = { items_fault_none T.text T.Decode.fault T.delimited T.Decode.fault_none };
+    ghost fault_none = { items_fault_none T.encoding T.Decode.fault T.delimited T.Decode.fault_none };
 
     ghost fault_first = { let none = T.Decode.fault_none in
-        items_fault_first T.text T.Decode.fault T.delimited none T.Decode.fault_first };
+        items_fault_first T.encoding T.Decode.fault T.delimited none T.Decode.fault_first };
 }
 
 /// The total length of the encodings of the items.
-pub fn texts_len<T: Encode>(items: &[T]) -> Result<Length>
-    ensures { let have = AllHave (λ x. T.has_text (T.value x)) items.now in
-        Counts have (all_texts (λ x. T.written_text (T.value x)) items.now) result }
+pub fn items_len<T: Encode>(items: &[T]) -> Result<Length>
+    ensures { let have = AllHave (λ x. T.has_encoding (T.value x)) items.now in
+        Counts have (all_encodings (λ x. T.written_encoding (T.value x)) items.now) result }
 {
     let mut total = Ok(Length::ZERO);
     for item in items {
@@ -79,11 +79,11 @@ pub fn texts_len<T: Encode>(items: &[T]) -> Result<Length>
 }
 
 /// Appends the encodings of the items.
-pub fn encode_texts<T: Encode, W: Writer>(items: &[T], writer: &mut W) -> Result<()>
-    requires has { AllHave (λ x. T.has_text (T.value x)) items.now }
-    requires fits { length (all_texts (λ x. T.written_text (T.value x)) items.now) ≤ limit }
-    ensures appends { let have = AllHave (λ x. T.has_text (T.value x)) items.now in
-        let octets = all_texts (λ x. T.written_text (T.value x)) items.now in
+pub fn encode_items<T: Encode, W: Writer>(items: &[T], writer: &mut W) -> Result<()>
+    requires has { AllHave (λ x. T.has_encoding (T.value x)) items.now }
+    requires fits { length (all_encodings (λ x. T.written_encoding (T.value x)) items.now) ≤ limit }
+    ensures appends { let have = AllHave (λ x. T.has_encoding (T.value x)) items.now in
+        let octets = all_encodings (λ x. T.written_encoding (T.value x)) items.now in
         Appends have octets W.room W.written writer.old writer.new result }
     ensures kept { W.keeps writer.old writer.new }
 {
@@ -94,11 +94,11 @@ pub fn encode_texts<T: Encode, W: Writer>(items: &[T], writer: &mut W) -> Result
 }
 
 /// Writes the encodings of the items in front of what is filled, the last item first.
-pub fn prepend_texts<T: Encode>(items: &[T], writer: &mut BackWriter<'_>)
-    requires has { AllHave (λ x. T.has_text (T.value x)) items.now }
-    requires fits { length (all_texts (λ x. T.written_text (T.value x)) items.now) ≤ limit }
-    requires room { length (all_texts (λ x. T.written_text (T.value x)) items.now) ≤ free_of writer.old }
-    ensures { Prepends (all_texts (λ x. T.written_text (T.value x)) items.now) writer.old writer.new }
+pub fn prepend_items<T: Encode>(items: &[T], writer: &mut BackWriter<'_>)
+    requires has { AllHave (λ x. T.has_encoding (T.value x)) items.now }
+    requires fits { length (all_encodings (λ x. T.written_encoding (T.value x)) items.now) ≤ limit }
+    requires room { length (all_encodings (λ x. T.written_encoding (T.value x)) items.now) ≤ free_of writer.old }
+    ensures { Prepends (all_encodings (λ x. T.written_encoding (T.value x)) items.now) writer.old writer.new }
 {
     let mut left = items.len();
     while left > 0 {
@@ -109,19 +109,19 @@ pub fn prepend_texts<T: Encode>(items: &[T], writer: &mut BackWriter<'_>)
 
 impl<T: Encode> EncodeValue for Vec<T> {
     fn value_len(&self) -> Result<Length> {
-        texts_len(self.as_slice())
+        items_len(self.as_slice())
     }
 
     fn encode_value<W: Writer>(&self, writer: &mut W) -> Result<()> {
         self.value_len()?;
-        encode_texts(self.as_slice(), writer)
+        encode_items(self.as_slice(), writer)
     }
 
     fn prepend_value(&self, writer: &mut BackWriter<'_>) {
-        prepend_texts(self.as_slice(), writer);
+        prepend_items(self.as_slice(), writer);
     }
 
-    ghost contents_relate = { items_relate T.text T.has_text T.written_text T.text_relates };
+    ghost contents_relate = { items_relate T.encoding T.has_encoding T.written_encoding T.encoding_relates };
 
-    ghost contents_shortest = { items_shortest T.text T.has_text T.written_text T.text_shortest };
+    ghost contents_shortest = { items_shortest T.encoding T.has_encoding T.written_encoding T.encoding_shortest };
 }

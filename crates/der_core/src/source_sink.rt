@@ -2,7 +2,7 @@
 ghost use Rattle.std.specs.Prelude.{◌≡◌, ◌<◌, ℕ, List, Option, length, IfOk};
 ghost use Rattle.std.specs.Io.{ReadsAtMost, WritesAtMost};
 ghost use Rattle.std.specs.Io.KnownBytes.{Keeps, ReadConsumes, WriteAppends};
-ghost use Rattle.der_core.specs.SourcesSinks.{CountsRefusal};
+ghost use Rattle.der_core.specs.SourcesSinks.{CountsFailure};
 
 use crate::error::Result;
 
@@ -12,17 +12,17 @@ pub trait Source {
     ghost remaining: { Self → Option (List ℕ) };
 
     /// How many calls have failed.
-    ghost refusals: { Self → ℕ };
+    ghost failures: { Self → ℕ };
 
     /// Reads into the front of the buffer. 0 for a buffer that isn't empty means the end.
     fn read(&mut self, buf: &mut [u8]) -> Result<usize>
         ensures bound { ReadsAtMost result buf.new }
         ensures bytes { ReadConsumes (remaining self.old) (remaining self.new) result buf.new }
-        ensures faults { CountsRefusal (refusals self.old) (refusals self.new) result };
+        ensures faults { CountsFailure (failures self.old) (failures self.new) result };
 
     /// How many calls have failed. At its greatest value the count stays.
     fn faults(&self) -> u64
-        ensures { result ≡ refusals self.now };
+        ensures { result ≡ failures self.now };
 }
 
 /// A sink of bytes.
@@ -31,21 +31,21 @@ pub trait Sink {
     ghost contents: { Self → Option (List ℕ) };
 
     /// How many calls have failed.
-    ghost refusals: { Self → ℕ };
+    ghost failures: { Self → ℕ };
 
     /// Takes a beginning of the bytes and returns its length: at least 1, unless there are no bytes.
     fn write(&mut self, bytes: &[u8]) -> Result<usize>
         ensures bound { WritesAtMost result bytes.now }
         ensures progress { 0 < length bytes.now → IfOk result (λ n. 0 < n) }
         ensures bytes { WriteAppends (contents self.old) (contents self.new) result bytes.now }
-        ensures faults { CountsRefusal (refusals self.old) (refusals self.new) result };
+        ensures faults { CountsFailure (failures self.old) (failures self.new) result };
 
     /// Flushes what was taken.
     fn flush(&mut self) -> Result<()>
         ensures bytes { Keeps (contents self.old) (contents self.new) }
-        ensures faults { CountsRefusal (refusals self.old) (refusals self.new) result };
+        ensures faults { CountsFailure (failures self.old) (failures self.new) result };
 
     /// How many calls have failed. At its greatest value the count stays.
     fn faults(&self) -> u64
-        ensures { result ≡ refusals self.now };
+        ensures { result ≡ failures self.now };
 }

@@ -3,11 +3,11 @@ ghost use Rattle.std.specs.Prelude.{◌≡◌, length, IfOk, IsOk, IfErr};
 ghost use Rattle.der_core.specs.declared.error.ErrorKind.{ErrorKind};
 
 use crate::error::Result;
-use crate::types::Text;
+use crate::types::Encoding;
 use std::alloc::Global;
 
 /// A type whose values are copied into allocated memory.
-pub trait TryClone: Text + Sized + Drop {
+pub trait TryClone: Encoding + Sized + Drop {
     /// The values that are copied without allocating.
     ghost allocates_nothing: { Self → Type 0 };
 

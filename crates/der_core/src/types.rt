@@ -3,9 +3,9 @@
 //! The author of a type writes `Contents` (ghosts alone), `TaggedBy` (the tag), and then `DecodeValue` or `EncodeValue`
 //! or both.
 ghost use Rattle.std.specs.Prelude.{◌≡◌, ℕ, List};
-ghost use Rattle.der_core.specs.Texts.{MeansOne, IsDelimited, IsOfBytes};
+ghost use Rattle.der_core.specs.Encodings.{MeansOne, IsDelimited, IsOfBytes};
 ghost use Rattle.der_core.specs.Tlv.{Tlv, tlv};
-ghost use Rattle.der_core.specs.Laws.Texts.{tlv_delimited, tlv_of_bytes};
+ghost use Rattle.der_core.specs.Laws.Encodings.{tlv_delimited, tlv_of_bytes};
 ghost use Rattle.der_core.specs.Tags.{integer, sequence};
 ghost use Rattle.der_core.specs.declared.tag.Tag.{Tag};
 ghost use Rattle.std.specs.Bool.{Decides};
@@ -34,28 +34,28 @@ pub trait Contents {
 }
 
 /// A type whose values have encodings.
-pub trait Text {
+pub trait Encoding {
     /// What values of the type mean: the same for borrowed and owned types.
     ghost Value: { Type 0 };
 
     ghost value: { Self → Value };
 
     /// The value has this encoding.
-    ghost text: { Value → List ℕ → Type 0 };
+    ghost encoding: { Value → List ℕ → Type 0 };
 
     /// Which values have an encoding.
-    ghost has_text: { Value → Type 0 };
+    ghost has_encoding: { Value → Type 0 };
 
     /// The encoding that is written.
-    ghost written_text: { Value → List ℕ };
+    ghost written_encoding: { Value → List ℕ };
 
-    ghost delimited: { IsDelimited text };
+    ghost delimited: { IsDelimited encoding };
 
-    ghost text_of_bytes: { IsOfBytes text };
+    ghost encoding_of_bytes: { IsOfBytes encoding };
 }
 
 /// A type with an `==` that is true exactly if both sides mean the same value.
-pub trait EqualByValue: Text + PartialEq {
+pub trait EqualByValue: Encoding + PartialEq {
     ghost decides: { (a b : Self) → Decides (Self.eq a b) (Self.value a ≡ Self.value b) };
 }
 
@@ -112,18 +112,18 @@ pub trait Sequence<'a>: FixedTag {
     ghost is_sequence: { Self.TAG ≡ sequence };
 }
 
-impl<T: Contents + FixedTag> Text for T {
+impl<T: Contents + FixedTag> Encoding for T {
     ghost Value = { T.Value };
 
     ghost value = { T.value };
 
-    ghost text = { λ v. Tlv T.TAG.octet (T.contents v) };
+    ghost encoding = { λ v. Tlv T.TAG.octet (T.contents v) };
 
-    ghost has_text = { T.has_contents };
+    ghost has_encoding = { T.has_contents };
 
-    ghost written_text = { λ v. tlv T.TAG.octet (T.written_contents v) };
+    ghost written_encoding = { λ v. tlv T.TAG.octet (T.written_contents v) };
 
     ghost delimited = { tlv_delimited T.TAG.octet T.contents T.means_one };
 
-    ghost text_of_bytes = { tlv_of_bytes T.TAG.octet T.TAG.allowed T.contents T.contents_of_bytes };
+    ghost encoding_of_bytes = { tlv_of_bytes T.TAG.octet T.TAG.allowed T.contents T.contents_of_bytes };
 }

@@ -2,15 +2,15 @@
 ghost use Rattle.std.specs.Prelude.{◌≡◌, ◌<◌, ◌+◌, ◌-◌, ◌^◌, min, length, IfOk, IfErr};
 ghost use Rattle.std.specs.Io.{ReadsAtMost, WritesAtMost};
 ghost use Rattle.std.specs.Io.KnownBytes.{Keeps, ReadConsumes, WriteAppends};
-ghost use Rattle.der_core.specs.SourcesSinks.{CountsRefusal};
-ghost use Rattle.der_core.specs.Refusal.{IsFile};
+ghost use Rattle.der_core.specs.SourcesSinks.{CountsFailure};
+ghost use Rattle.der_core.specs.ErrorKinds.{IsFile};
 
 use crate::error::{Error, ErrorKind, Result};
 use crate::source_sink::{Sink, Source};
 use std::io::{Read, Write};
 
 /// Counts one more failed call.
-fn refused(faults: &mut u64) -> Error
+fn failed(faults: &mut u64) -> Error
     ensures counted { faults.new ≡ min (faults.old + 1) (2 ^ 64 - 1) }
     ensures file { IsFile result }
 {
@@ -50,18 +50,18 @@ impl<R: Read> Source for FromRead<R> {
 
     ghost remaining = { λ source. R.remaining (reader_of source) };
 
-    ghost refusals = { read_faults };
+    ghost failures = { read_faults };
 
     fn read(&mut self, buf: &mut [u8]) -> Result<usize>
         ensures bound { ReadsAtMost result buf.new }
         ensures bytes { let before = R.remaining (reader_of self.old) in
             ReadConsumes before (R.remaining (reader_of self.new)) result buf.new }
-        ensures faults { CountsRefusal (read_faults self.old) (read_faults self.new) result }
+        ensures faults { CountsFailure (read_faults self.old) (read_faults self.new) result }
         ensures file { IfErr result IsFile }
     {
         match self.inner.read(buf) {
             Ok(count) => Ok(count),
-            Err(_) => Err(refused(&mut self.faults)),
+            Err(_) => Err(failed(&mut self.faults)),
         }
     }
 
@@ -103,30 +103,30 @@ impl<W: Write> Sink for ToWrite<W> {
 
     ghost contents = { λ sink. W.contents (writer_of sink) };
 
-    ghost refusals = { write_faults };
+    ghost failures = { write_faults };
 
     fn write(&mut self, bytes: &[u8]) -> Result<usize>
         ensures bound { WritesAtMost result bytes.now }
         ensures progress { 0 < length bytes.now → IfOk result (λ n. 0 < n) }
         ensures bytes { let before = W.contents (writer_of self.old) in
             WriteAppends before (W.contents (writer_of self.new)) result bytes.now }
-        ensures faults { CountsRefusal (write_faults self.old) (write_faults self.new) result }
+        ensures faults { CountsFailure (write_faults self.old) (write_faults self.new) result }
         ensures file { IfErr result IsFile }
     {
         match self.inner.write(bytes) {
             Ok(count) if count > 0 || bytes.is_empty() => Ok(count),
-            _ => Err(refused(&mut self.faults)),
+            _ => Err(failed(&mut self.faults)),
         }
     }
 
     fn flush(&mut self) -> Result<()>
         ensures bytes { Keeps (W.contents (writer_of self.old)) (W.contents (writer_of self.new)) }
-        ensures faults { CountsRefusal (write_faults self.old) (write_faults self.new) result }
+        ensures faults { CountsFailure (write_faults self.old) (write_faults self.new) result }
         ensures file { IfErr result IsFile }
     {
         match self.inner.flush() {
             Ok(()) => Ok(()),
-            Err(_) => Err(refused(&mut self.faults)),
+            Err(_) => Err(failed(&mut self.faults)),
         }
     }
 

@@ -3,19 +3,19 @@ use Rattle.std.proofs.Common.{ℕ, [], ◌∷◌, ◌<◌, refl, arith, inl, inr
 use Rattle.der_core.specs.declared.error.ErrorKind.TheVariants.{Incomplete, IndefiniteLength, Length, Noncanonical, Overflow, Overlength, TagUnexpected, TagUnknown, TrailingData, Value}
 use Rattle.der_core.specs.declared.tag.Tag.{Tag}
 use Rattle.der_core.specs.Faults.{in_header, other_tag, too_short, in_contents}
-use Rattle.der_core.specs.Headers.{HeaderText}
+use Rattle.der_core.specs.Headers.{HeaderEncoding}
 use Rattle.der_core.specs.Input.{header_at, length_at}
 use Rattle.der_core.specs.Length.{short}
 use Rattle.der_core.specs.Tags.{integer, sequence}
-use Rattle.der_core.specs.Laws.Texts.{then_holds, last_holds}
+use Rattle.der_core.specs.Laws.Encodings.{then_holds, last_holds}
 use Rattle.der_core.specs.Laws.WrittenOut.{known_tlv, integer_byte}
 use Rattle.pkcs1.specs.KeyFaults.{RsaPublicKeyFault, RsaPrivateKeyFault}
 
 -- headers of fewer than 128 bytes
-sequence_header : (n : ℕ) → n < 128 → HeaderText (48, n) (48 ∷ n ∷ [])
+sequence_header : (n : ℕ) → n < 128 → HeaderEncoding (48, n) (48 ∷ n ∷ [])
 sequence_header n l = (refl, n ∷ [], (omega (arith, l), short l refl), refl)
 
-integer_header : (n : ℕ) → n < 128 → HeaderText (2, n) (2 ∷ n ∷ [])
+integer_header : (n : ℕ) → n < 128 → HeaderEncoding (2, n) (2 ∷ n ∷ [])
 integer_header n l = (refl, n ∷ [], (omega (arith, l), short l refl), refl)
 
 -- no byte

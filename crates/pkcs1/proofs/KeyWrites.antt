@@ -6,13 +6,13 @@ use Rattle.std.specs.declared.alloc.Global.{Global}
 use Rattle.std.specs.declared.vec.Vec.{Vec}
 use Rattle.der_core.specs.Tlv.{tlv}
 use Rattle.der_core.specs.Integer.{integer_contents}
-use Rattle.der_core.specs.SequenceOf.{AllHave, all_texts}
+use Rattle.der_core.specs.SequenceOf.{AllHave, all_encodings}
 use Rattle.der_core.specs.BackWriters.{Prepends}
 use Rattle.der_core.specs.declared.back_writer.BackWriter.{BackWriter}
-use Rattle.der_core.specs.Writing.{Counts, IsUncounted, Appends, joined, encode_refusal}
-use Rattle.der_core.specs.Document.{EncodeRefusal, no_text, too_long, no_room, another}
+use Rattle.der_core.specs.Writing.{Counts, WhyOctetsNotCounted, Appends, joined, encode_error}
+use Rattle.der_core.specs.Document.{EncodeError, no_encoding, too_long, no_room, another}
 use Rattle.der_core.specs.declared.error.Error.{Error}
-use Rattle.der_core.specs.Laws.Items.{texts_map, have_map}
+use Rattle.der_core.specs.Laws.Items.{encodings_map, have_map}
 use Rattle.der_core.specs.Laws.Counting.{counts_joined}
 use Rattle.der_core.specs.Laws.StoppedWriting.{appends_as, appends_in_front, appends_behind}
 use Rattle.der_core.specs.Length.{limit}
@@ -30,7 +30,7 @@ version_number value Multi (Some x) h = refl
 version_number value Multi None h = let no = h.0 refl in cc
 version_number value TwoPrime (Some x) h = let no : TwoPrime ≡ Multi = h.1 refl in cc
 
--- A list of no primes has no text.
+-- A list of no primes has no encoding.
 pub none_has : {U V : Type 0} (value : U → V) (has : V → Type 0) (r : Option (Vec (declared.OtherPrimeInfo U) Global)) → ListsNone r → HasOthers has (others_of value r) → ⊥
 none_has value has None none h = none
 none_has value has (Some v) none h =
@@ -40,30 +40,30 @@ none_has value has (Some v) none h =
 -- The same octets of the same values, said in two ways.
 change_counts : {P Q : Type 0} (x y : List ℕ) (r : Result ℕ Error) → (P → Q) → (Q → P) → x ≡ y → Counts P x r → Counts Q y r
 change_counts x y (Ok n) f g e h = (f h.0, h.1 ∙ ap length e, h.2)
-change_counts {P} {Q} x y (Err k) f g e h = go (encode_refusal k.kind) h
+change_counts {P} {Q} x y (Err k) f g e h = go (encode_error k.kind) h
   where
-    go : (k : EncodeRefusal) → IsUncounted P x k → IsUncounted Q y k
-    go no_text u = λ q. u (g q)
+    go : (k : EncodeError) → WhyOctetsNotCounted P x k → WhyOctetsNotCounted Q y k
+    go no_encoding u = λ q. u (g q)
     go too_long u = (f u.0, omega (arith, u.1, ap length e))
     go no_room u = absurd u
     go another u = absurd u
 
 -- the version
 module _ (m n : ℕ) (e : m ≡ n) where
-  pub version_text : tlv 2 (integer_contents (m ∷ [])) ≡ tlv 2 (integer_contents (n ∷ []))
-  version_text = ap (λ k. tlv 2 (integer_contents (k ∷ []))) e
+  pub version_encoding : tlv 2 (integer_contents (m ∷ [])) ≡ tlv 2 (integer_contents (n ∷ []))
+  version_encoding = ap (λ k. tlv 2 (integer_contents (k ∷ []))) e
 
   pub version_counts : (r : Result ℕ Error) → Counts (m < 2) (tlv 2 (integer_contents (m ∷ []))) r → Counts (n < 2) (tlv 2 (integer_contents (n ∷ []))) r
-  version_counts r h = change_counts (tlv 2 (integer_contents (m ∷ []))) (tlv 2 (integer_contents (n ∷ []))) r (λ p. omega arith) (λ p. omega arith) version_text h
+  version_counts r h = change_counts (tlv 2 (integer_contents (m ∷ []))) (tlv 2 (integer_contents (n ∷ []))) r (λ p. omega arith) (λ p. omega arith) version_encoding h
 
   pub version_appends : {W A : Type 0} {Room : W → ℕ} {Written : W → List ℕ} {old new : W} {r : Result A Error}
       → Appends (m < 2) (tlv 2 (integer_contents (m ∷ []))) Room Written old new r → Appends (n < 2) (tlv 2 (integer_contents (n ∷ []))) Room Written old new r
-  version_appends a = appends_as _ _ (λ p. omega arith) (λ p. omega arith) version_text a
+  version_appends a = appends_as _ _ (λ p. omega arith) (λ p. omega arith) version_encoding a
 
 -- the numbers, by references to them
-module _ {B V : Type 0} (value : B → V) (has : V → Type 0) (text : V → List ℕ) (references : List B) (vs : List V) (e : map value references ≡ vs) where
-  pub numbers_text : all_texts (λ n. text (value n)) references ≡ all_texts text vs
-  numbers_text = sym (texts_map value text references) ∙ ap (all_texts text) e
+module _ {B V : Type 0} (value : B → V) (has : V → Type 0) (encoding : V → List ℕ) (references : List B) (vs : List V) (e : map value references ≡ vs) where
+  pub numbers_encoding : all_encodings (λ n. encoding (value n)) references ≡ all_encodings encoding vs
+  numbers_encoding = sym (encodings_map value encoding references) ∙ ap (all_encodings encoding) e
 
   have_same : AllHave (λ n. has (value n)) references ≡ AllHave has vs
   have_same = sym (have_map value has references) ∙ ap (AllHave has) e
@@ -74,57 +74,57 @@ module _ {B V : Type 0} (value : B → V) (has : V → Type 0) (text : V → Lis
   pub numbers_have : AllHave has vs → AllHave (λ n. has (value n)) references
   numbers_have h = rw have_same h
 
-  pub numbers_counts : (r : Result ℕ Error) → Counts (AllHave (λ n. has (value n)) references) (all_texts (λ n. text (value n)) references) r → Counts (AllHave has vs) (all_texts text vs) r
-  numbers_counts r h = change_counts (all_texts (λ n. text (value n)) references) (all_texts text vs) r have_numbers numbers_have numbers_text h
+  pub numbers_counts : (r : Result ℕ Error) → Counts (AllHave (λ n. has (value n)) references) (all_encodings (λ n. encoding (value n)) references) r → Counts (AllHave has vs) (all_encodings encoding vs) r
+  numbers_counts r h = change_counts (all_encodings (λ n. encoding (value n)) references) (all_encodings encoding vs) r have_numbers numbers_have numbers_encoding h
 
   pub numbers_append : {W A : Type 0} {Room : W → ℕ} {Written : W → List ℕ} {old new : W} {r : Result A Error}
-      → Appends (AllHave (λ n. has (value n)) references) (all_texts (λ n. text (value n)) references) Room Written old new r → Appends (AllHave has vs) (all_texts text vs) Room Written old new r
-  numbers_append a = appends_as _ _ have_numbers numbers_have numbers_text a
+      → Appends (AllHave (λ n. has (value n)) references) (all_encodings (λ n. encoding (value n)) references) Room Written old new r → Appends (AllHave has vs) (all_encodings encoding vs) Room Written old new r
+  numbers_append a = appends_as _ _ have_numbers numbers_have numbers_encoding a
 
 -- the three parts
-module _ {V : Type 0} (has : V → Type 0) (text : V → List ℕ) (key : PrivateKey V) where
+module _ {V : Type 0} (has : V → Type 0) (encoding : V → List ℕ) (key : PrivateKey V) where
   abbrev pub front : List ℕ
   front = tlv 2 (integer_contents (version_of key.other_prime_infos ∷ []))
 
   abbrev pub middle : List ℕ
-  middle = all_texts text (key_numbers key)
+  middle = all_encodings encoding (key_numbers key)
 
   abbrev pub back : List ℕ
-  back = written_others text key.other_prime_infos
+  back = written_others encoding key.other_prime_infos
 
   pub private_counts : (a b c : Result ℕ Error) → Counts (version_of key.other_prime_infos < 2) front a → Counts (AllHave has (key_numbers key)) middle b → Counts (HasOthers has key.other_prime_infos) back c
-      → Counts (HasPrivateKey has key) (written_private_key text key) (joined a (joined b c))
+      → Counts (HasPrivateKey has key) (written_private_key encoding key) (joined a (joined b c))
   private_counts a b c p q r = counts_joined front (middle ++ back) (λ s t. (s, t)) (λ s. s) a (joined b c) p (counts_joined middle back (λ s t. (s, t)) (λ s. s) b c q r)
 
-  behind_fits : length (written_private_key text key) ≤ limit → length (middle ++ back) ≤ limit
+  behind_fits : length (written_private_key encoding key) ≤ limit → length (middle ++ back) ≤ limit
   behind_fits fits = omega (arith, fits, length-append front (middle ++ back))
 
   -- Each part is no longer than all of them, also where room is taken from the end.
-  pub each_within : (n : ℕ) → length (written_private_key text key) ≤ n → (length front ≤ n) × (length middle ≤ n) × (length back ≤ n)
+  pub each_within : (n : ℕ) → length (written_private_key encoding key) ≤ n → (length front ≤ n) × (length middle ≤ n) × (length back ≤ n)
   each_within n fits =
       let all = length-append front (middle ++ back) in
       let behind = length-append middle back in
       (omega (arith, fits, all), omega (arith, fits, all, behind), omega (arith, fits, all, behind))
 
-  pub middle_room : (free left : ℕ) → length (written_private_key text key) ≤ free → left + length back ≡ free → length middle ≤ left
+  pub middle_room : (free left : ℕ) → length (written_private_key encoding key) ≤ free → left + length back ≡ free → length middle ≤ left
   middle_room free left fits taken = omega (arith, fits, taken, length-append front (middle ++ back), length-append middle back)
 
-  pub front_room : (free left more : ℕ) → length (written_private_key text key) ≤ free → left + length back ≡ free → more + length middle ≡ left → length front ≤ more
+  pub front_room : (free left more : ℕ) → length (written_private_key encoding key) ≤ free → left + length back ≡ free → more + length middle ≡ left → length front ≤ more
   front_room free left more fits taken again = omega (arith, fits, taken, again, length-append front (middle ++ back), length-append middle back)
 
-  module _ {W A : Type 0} {Room : W → ℕ} {Written : W → List ℕ} (h : HasPrivateKey has key) (fits : length (written_private_key text key) ≤ limit) where
-    pub front_refused : {old new : W} {e : Error} → Appends {A = A} (version_of key.other_prime_infos < 2) front Room Written old new (Err e)
-        → Appends {A = A} (HasPrivateKey has key) (written_private_key text key) Room Written old new (Err e)
-    front_refused a = appends_in_front (front ++ (middle ++ back)) front (middle ++ back) h.0 h refl fits a
+  module _ {W A : Type 0} {Room : W → ℕ} {Written : W → List ℕ} (h : HasPrivateKey has key) (fits : length (written_private_key encoding key) ≤ limit) where
+    pub front_rejected : {old new : W} {e : Error} → Appends {A = A} (version_of key.other_prime_infos < 2) front Room Written old new (Err e)
+        → Appends {A = A} (HasPrivateKey has key) (written_private_key encoding key) Room Written old new (Err e)
+    front_rejected a = appends_in_front (front ++ (middle ++ back)) front (middle ++ back) h.0 h refl fits a
 
-    pub middle_refused : {B : Type 0} {x : B} {old one new : W} {e : Error} → Appends (version_of key.other_prime_infos < 2) front Room Written old one (Ok x)
-        → Appends {A = A} (AllHave has (key_numbers key)) middle Room Written one new (Err e) → Appends {A = A} (HasPrivateKey has key) (written_private_key text key) Room Written old new (Err e)
-    middle_refused a b = appends_behind (front ++ (middle ++ back)) front (middle ++ back) h.1 h refl fits a.written a.room
+    pub middle_rejected : {B : Type 0} {x : B} {old one new : W} {e : Error} → Appends (version_of key.other_prime_infos < 2) front Room Written old one (Ok x)
+        → Appends {A = A} (AllHave has (key_numbers key)) middle Room Written one new (Err e) → Appends {A = A} (HasPrivateKey has key) (written_private_key encoding key) Room Written old new (Err e)
+    middle_rejected a b = appends_behind (front ++ (middle ++ back)) front (middle ++ back) h.1 h refl fits a.written a.room
         (appends_in_front (middle ++ back) middle back h.1.0 h.1 refl (behind_fits fits) b)
 
     pub private_appends : {B C : Type 0} {x : B} {y : C} {old one two new : W} {r : Result A Error} → Appends (version_of key.other_prime_infos < 2) front Room Written old one (Ok x)
         → Appends (AllHave has (key_numbers key)) middle Room Written one two (Ok y) → Appends (HasOthers has key.other_prime_infos) back Room Written two new r
-        → Appends (HasPrivateKey has key) (written_private_key text key) Room Written old new r
+        → Appends (HasPrivateKey has key) (written_private_key encoding key) Room Written old new r
     private_appends a b d = appends_behind (front ++ (middle ++ back)) front (middle ++ back) h.1 h refl fits a.written a.room
         (appends_behind (middle ++ back) middle back h.1.1 h.1 refl (behind_fits fits) b.written b.room d)
 

@@ -1,9 +1,10 @@
--- The last faults of private keys, one before another: behind the eight numbers stand the other primes, then the version's agreement with them, then that they aren't none, then the end.
+-- The last faults of private keys, one before another: behind the eight numbers stand the other primes, then the
+-- version's agreement with them, then that they aren't none, then the end.
 use Rattle.std.proofs.Common.{ℕ, List, [], ◌∷◌, ◌++◌, ◌≡◌, ◌<◌, length, map, refl, sym, ap, arith, append-nil, inl, inr}
 use Rattle.der_core.specs.declared.error.ErrorKind.{ErrorKind}
 use Rattle.der_core.specs.declared.error.ErrorKind.TheVariants.{Incomplete, Value}
 use Rattle.der_core.specs.Faults.{too_short, in_contents}
-use Rattle.der_core.specs.Headers.{HeaderText}
+use Rattle.der_core.specs.Headers.{HeaderEncoding}
 use Rattle.der_core.specs.Integer.{Integer}
 use Rattle.der_core.specs.Length.{short}
 use Rattle.der_core.specs.Tags.{integer, sequence}
@@ -11,9 +12,9 @@ use Rattle.der_core.specs.Tlv.{Tlv}
 use Rattle.der_core.specs.Laws.WrittenOut.{known_tlv, small_byte}
 use Rattle.pkcs1.specs.KeyFaults.{OthersFault, NumberFault, RsaPrivateKeyFault}
 use Rattle.pkcs1.specs.Versions.{VersionContents}
-use Rattle.pkcs1.proofs.PrivateKeyRows.{bytes_of, bytes_join, eight, eight_join, other_bytes, other, other_text}
+use Rattle.pkcs1.proofs.PrivateKeyRows.{bytes_of, bytes_join, eight, eight_join, other_bytes, other, other_encoding}
 
-header : (t n : ℕ) → n < 128 → (t ≡ 48) → HeaderText (48, n) (t ∷ n ∷ [])
+header : (t n : ℕ) → n < 128 → (t ≡ 48) → HeaderEncoding (48, n) (t ∷ n ∷ [])
 header t n l same = rw same (refl, n ∷ [], (omega (arith, l), short l refl), refl)
 
 version : (v : ℕ) → v < 2 → Tlv 2 (VersionContents v) (0x02 ∷ 0x01 ∷ v ∷ [])
@@ -45,7 +46,7 @@ two_with_primes =
     behind 0 (omega arith) (0x30 ∷ 0x0b ∷ other_bytes ++ 0x05 ∷ 0x00 ∷ []) (Value integer) (omega arith)
     (inl (
       refl,
-      inr (other ∷ [], (0x30 ∷ 0x0b ∷ other_bytes, 0x05 ∷ 0x00 ∷ [], known_tlv 48 other_bytes (other_bytes, [], other_text, refl, refl) (omega arith), inl ((λ e. omega (arith, e)), refl), refl)),
+      inr (other ∷ [], (0x30 ∷ 0x0b ∷ other_bytes, 0x05 ∷ 0x00 ∷ [], known_tlv 48 other_bytes (other_bytes, [], other_encoding, refl, refl) (omega arith), inl ((λ e. omega (arith, e)), refl), refl)),
     ))
 
 -- 301f 020101 020107 .. 020106 3000 0500: a list of no primes
@@ -54,7 +55,8 @@ empty_list =
     behind 1 (omega arith) (0x30 ∷ 0x00 ∷ 0x05 ∷ 0x00 ∷ []) (Value sequence) (omega arith)
     (inl (refl, inr ([], (0x30 ∷ 0x00 ∷ [], 0x05 ∷ 0x00 ∷ [], known_tlv 48 [] refl (omega arith), inr (inl (refl, refl, refl)), refl))))
 
--- 3027 020100 020107 .. 020106 300a 3008 020111 020102 0201: the coefficient ends too early, before the version is compared
+-- 3027 020100 020107 .. 020106 300a 3008 020111 020102 0201: the coefficient ends too early, before the version is
+-- compared
 short_prime : RsaPrivateKeyFault Incomplete (0x30 ∷ 0x27 ∷ 0x02 ∷ 0x01 ∷ 0x00 ∷ bytes_of eight ++ (0x30 ∷ 0x0a ∷ 0x30 ∷ 0x08 ∷ bytes_of (0x11 ∷ 0x02 ∷ []) ++ 0x02 ∷ 0x01 ∷ []))
 short_prime =
     let prime = bytes_of (0x11 ∷ 0x02 ∷ []) in

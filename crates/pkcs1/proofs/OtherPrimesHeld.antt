@@ -4,7 +4,7 @@ use Rattle.std.proofs.lemmas.List.{length-map}
 use Rattle.der_core.specs.Faults.{ItemsFault}
 use Rattle.pkcs1.specs.KeyFaults.{OneOtherFault}
 use Rattle.der_core.specs.SequenceOf.{ItemsContents}
-use Rattle.der_core.specs.Laws.Texts.{tlv_not_empty}
+use Rattle.der_core.specs.Laws.Encodings.{tlv_not_empty}
 use Rattle.der_core.specs.UintRefValue.{bytes_of}
 use Rattle.der_core.specs.declared.integer.uint.UintRef.{UintRef}
 use Rattle.der_core.specs.declared.error.ErrorKind.{ErrorKind}
@@ -13,13 +13,13 @@ use Rattle.der_core.specs.Input.{front_of}
 use Rattle.der_core.specs.Laws.ContentsReads.{empty_is}
 use Rattle.std.specs.Prelude.{nat_lt}
 use Rattle.std.proofs.lemmas.Bool.Decides.{nat_tests}
-use Rattle.der_core.specs.Laws.ItemReads.{items_refused, items_more}
+use Rattle.der_core.specs.Laws.ItemReads.{items_rejected, items_more}
 use Rattle.pkcs1.specs.declared.private_key.other_prime_info.OtherPrimeInfo as declared
 use Rattle.pkcs1.specs.PrivateKeyValue.{other_of}
 use Rattle.std.proofs.Math.Logic.{∥∥₁_elim}
 use Prim.{IsSet, ∥◌∥₁, ∣◌∣₁, squash₁}
 use denote.Struct.Props.{props}
-use Rattle.der_core.specs.Texts.{Then, Joins}
+use Rattle.der_core.specs.Encodings.{Then, Joins}
 use Rattle.der_core.specs.Laws.Lists.{same_fronts}
 use Rattle.der_core.specs.Integer.{Integer}
 use Rattle.der_core.specs.Laws.Integer.{integer_delimited}
@@ -34,21 +34,21 @@ other_set : IsSet (OtherPrime (List ℕ))
 other_set = hlevel props
 
 -- the first one is the one that stands at the front
-first_is : (v w : OtherPrime (List ℕ)) (ws : List (OtherPrime (List ℕ))) (bytes text rest : List ℕ) → Then (OtherPrimeInfo Integer w) (Joins (map (OtherPrimeInfo Integer) ws)) bytes
-    → bytes ≡ text ++ rest → OtherPrimeInfo Integer v text → (w ≡ v) × Joins (map (OtherPrimeInfo Integer) ws) rest
-first_is v w ws bytes text rest (x, y, p, q, e) is has =
-    let f : x ++ y ≡ text ++ rest = sym e ∙ is in
-    let one = (other_delimited integer_delimited).one w v x y text rest p has f in
-    let tails = same_fronts x y text rest (ap length one.0) f in
+first_is : (v w : OtherPrime (List ℕ)) (ws : List (OtherPrime (List ℕ))) (bytes encoding rest : List ℕ) → Then (OtherPrimeInfo Integer w) (Joins (map (OtherPrimeInfo Integer) ws)) bytes
+    → bytes ≡ encoding ++ rest → OtherPrimeInfo Integer v encoding → (w ≡ v) × Joins (map (OtherPrimeInfo Integer) ws) rest
+first_is v w ws bytes encoding rest (x, y, p, q, e) is has =
+    let f : x ++ y ≡ encoding ++ rest = sym e ∙ is in
+    let one = (other_delimited integer_delimited).one w v x y encoding rest p has f in
+    let tails = same_fronts x y encoding rest (ap length one.0) f in
     (one.1, rw tails.1 at q)
 
 -- the others hold what is behind it
-pub behind_first : (bytes text rest : List ℕ) (left : ℕ) (v : OtherPrime (List ℕ)) (h : HoldsOthers bytes left) → (left ≡ 0 → ⊥) → bytes ≡ text ++ rest → OtherPrimeInfo Integer v text
+pub behind_first : (bytes encoding rest : List ℕ) (left : ℕ) (v : OtherPrime (List ℕ)) (h : HoldsOthers bytes left) → (left ≡ 0 → ⊥) → bytes ≡ encoding ++ rest → OtherPrimeInfo Integer v encoding
     → (t : HoldsOthers rest (left - 1)) × (h.0 ≡ v ∷ t.0)
-behind_first bytes text rest left v ([], p, l) some is has = absurd (some (sym l))
-behind_first bytes text rest left v (w ∷ ws, p, l) some is has =
-    let same : w ≡ v = ∥∥₁_elim p (other_set w v) (λ a. (first_is v w ws bytes text rest a is has).0) in
-    let joined : ∥ Joins (map (OtherPrimeInfo Integer) ws) rest ∥₁ = ∥∥₁_elim p squash₁ (λ a. ∣ (first_is v w ws bytes text rest a is has).1 ∣₁) in
+behind_first bytes encoding rest left v ([], p, l) some is has = absurd (some (sym l))
+behind_first bytes encoding rest left v (w ∷ ws, p, l) some is has =
+    let same : w ≡ v = ∥∥₁_elim p (other_set w v) (λ a. (first_is v w ws bytes encoding rest a is has).0) in
+    let joined : ∥ Joins (map (OtherPrimeInfo Integer) ws) rest ∥₁ = ∥∥₁_elim p squash₁ (λ a. ∣ (first_is v w ws bytes encoding rest a is has).1 ∣₁) in
     let less : length ws ≡ left - 1 = omega (arith, l) in
     ((ws, joined, less), ap (λ x. x ∷ ws) same)
 
@@ -57,10 +57,10 @@ pub left_counted : (primes : OtherPrimes) → primes.left ≡ length (others_lef
 left_counted primes = sym (ap length (others_left-is primes) ∙ primes.held.2)
 
 -- what an iterator has left, and what it has left behind the first one
-pub steps_behind : (old new : OtherPrimes) (text : List ℕ) (v : OtherPrime (List ℕ)) → (old.left ≡ 0 → ⊥) → new.left ≡ old.left - 1 → old.bytes.now ≡ text ++ new.bytes.now
-    → OtherPrimeInfo Integer v text → others_left old ≡ v ∷ others_left new
-steps_behind old new text v some less is has =
-    let s = behind_first old.bytes.now text new.bytes.now old.left v old.held some is has in
+pub steps_behind : (old new : OtherPrimes) (encoding : List ℕ) (v : OtherPrime (List ℕ)) → (old.left ≡ 0 → ⊥) → new.left ≡ old.left - 1 → old.bytes.now ≡ encoding ++ new.bytes.now
+    → OtherPrimeInfo Integer v encoding → others_left old ≡ v ∷ others_left new
+steps_behind old new encoding v some less is has =
+    let s = behind_first old.bytes.now encoding new.bytes.now old.left v old.held some is has in
     others_left-is old ∙ (s.1 ∙ ap (λ (o : List (OtherPrime (List ℕ))). v ∷ o) (one_list s.0.0 new.held.0 new.bytes.now s.0.1 new.held.1 ∙ sym (others_left-is new)))
 
 -- there is a first one
@@ -74,11 +74,11 @@ AreCounted bytes rest count =
     (read : List ℕ) × (others : List (declared.OtherPrimeInfo UintRef))
     × (bytes ≡ read ++ rest) × ItemsContents (OtherPrimeInfo Integer) (map (other_of bytes_of) others) read × (length others ≡ count)
 
-pub read_first : (bytes rest behind : List ℕ) (count : ℕ) (other : declared.OtherPrimeInfo UintRef) (text : List ℕ) → AreCounted bytes rest count → rest ≡ text ++ behind
-    → OtherPrimeInfo Integer (other_of bytes_of other) text → AreCounted bytes behind (count + 1)
-read_first bytes rest behind count other text i is has =
+pub read_first : (bytes rest behind : List ℕ) (count : ℕ) (other : declared.OtherPrimeInfo UintRef) (encoding : List ℕ) → AreCounted bytes rest count → rest ≡ encoding ++ behind
+    → OtherPrimeInfo Integer (other_of bytes_of other) encoding → AreCounted bytes behind (count + 1)
+read_first bytes rest behind count other encoding i is has =
     let m = items_more (OtherPrime (List ℕ)) (OtherPrimeInfo Integer) (other_delimited integer_delimited) (declared.OtherPrimeInfo UintRef) (other_of bytes_of) i.1 other i.0 rest
-    (Some bytes) (Some rest) (Some behind) (ap (λ l. Some l) i.2) refl i.3 (text, behind, ap (λ l. Some l) is, refl, has) in
+    (Some bytes) (Some rest) (Some behind) (ap (λ l. Some l) i.2) refl i.3 (encoding, behind, ap (λ l. Some l) is, refl, has) in
     let same : behind ≡ m.1 = some_same behind m.1 m.3 in
     (m.0, i.1 ++ other ∷ [], some_same bytes (m.0 ++ m.1) m.2 ∙ ap (λ l. m.0 ++ l) (sym same), m.4, omega (arith, i.4, length-append i.1 (other ∷ [])))
 
@@ -90,8 +90,8 @@ pub few_counted : (bytes rest : List ℕ) (count : ℕ) → AreCounted bytes res
 few_counted bytes rest count i =
     omega (arith, items_few (map (other_of bytes_of) i.1) i.0 i.3, length-map i.1 (other_of bytes_of), i.4, ap length i.2, length-append i.0 rest)
 
-pub shorter_behind : (rest text behind : List ℕ) (other : OtherPrime (List ℕ)) → rest ≡ text ++ behind → OtherPrimeInfo Integer other text → length behind < length rest
-shorter_behind rest text behind other is has = omega (arith, tlv_not_empty text has, ap length is, length-append text behind)
+pub shorter_behind : (rest encoding behind : List ℕ) (other : OtherPrime (List ℕ)) → rest ≡ encoding ++ behind → OtherPrimeInfo Integer other encoding → length behind < length rest
+shorter_behind rest encoding behind other is has = omega (arith, tlv_not_empty encoding has, ap length is, length-append encoding behind)
 
 pub counted : (bytes rest : List ℕ) (count : ℕ) → AreCounted bytes rest count → length rest ≡ 0 → (others : List (OtherPrime (List ℕ))) × ItemsContents (OtherPrimeInfo Integer) others bytes × (length others ≡ count)
 counted bytes rest count i ends =
@@ -105,15 +105,15 @@ fault_there bytes rest count k i more fault = (map (other_of bytes_of) i.1, (i.0
 pub none_there : (bytes rest : List ℕ) (count : ℕ) (k : ErrorKind) → AreCounted bytes rest count → 0 < length rest → TellsOfBytes k → NoneIn (OtherPrimeInfo Integer) rest
     → (others : List (OtherPrime (List ℕ))) → ItemsContents (OtherPrimeInfo Integer) others bytes → ⊥
 none_there bytes rest count k i more tells none =
-    let r = items_refused (OtherPrime (List ℕ)) (OtherPrimeInfo Integer) (other_delimited integer_delimited) (map (other_of bytes_of) i.1) i.0 rest bytes (λ _. ⊥) k
+    let r = items_rejected (OtherPrime (List ℕ)) (OtherPrimeInfo Integer) (other_delimited integer_delimited) (map (other_of bytes_of) i.1) i.0 rest bytes (λ _. ⊥) k
     (Some bytes) (Some rest) None (ap (λ l. Some l) i.2) refl i.3 more (refl, λ e. cc, λ j is. inr (tells, rw (some_same rest j is) at none)) refl in
     ⊎_elim (λ w. absurd (tells.0 w.0)) (λ w. w.1) r
 
 -- All that is left can be read.
 pub all_there : (left : List ℕ) (n : ℕ) (e : ErrorKind) → n ≡ length left → front_of n left ≡ Err e → ⊥
-all_there left n e same refused =
+all_there left n e same rejected =
     let room : nat_lt (length left) n ≡ false = grind (arith, nat_tests, same) in
-    let no = rw room at refused in
+    let no = rw room at rejected in
     cc
 
 pub list_given : (bytes : List ℕ) (primes : OtherPrimes) (others : List (OtherPrime (List ℕ))) → ItemsContents (OtherPrimeInfo Integer) others bytes → primes.bytes.now ≡ bytes

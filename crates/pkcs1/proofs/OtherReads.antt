@@ -3,16 +3,16 @@ use Rattle.std.proofs.Common.{◌≡◌, ◌≢◌, ◌↔◌, ℕ, ◌<◌, Lis
 use Rattle.std.specs.Prelude.{slice_get, not}
 use mathlib.Core.Bool.{beq}
 use Rattle.der_core.specs.Tlv.{Tlv}
-use Rattle.der_core.specs.Texts.{IsDelimited}
-use Rattle.der_core.specs.Laws.Texts.{tlv_split, tlv_not_empty, joins_map}
+use Rattle.der_core.specs.Encodings.{IsDelimited}
+use Rattle.der_core.specs.Laws.Encodings.{tlv_split, tlv_not_empty, joins_map}
 use Rattle.der_core.specs.SequenceOf.{ItemsContents}
 use Rattle.der_core.specs.declared.error.Error.{Error}
 use Rattle.der_core.specs.declared.error.ErrorKind.{ErrorKind}
 use Rattle.der_core.specs.declared.error.ErrorKind.TheVariants.{TrailingData}
 use Rattle.der_core.specs.Input.{Input, read_from, end_of}
-use Rattle.der_core.specs.Reading.{ReadsOptional, Refuses, TellsOfBytes, AllocatesIn}
+use Rattle.der_core.specs.Reading.{ReadsOptional, Rejects, TellsOfBytes, AllocatesIn}
 use Rattle.der_core.specs.declared.error.ErrorKind.TheVariants as kind
-use Rattle.der_core.specs.Faults.{TextFault, ItemsFault, FaultyFront, FaultyWhole}
+use Rattle.der_core.specs.Faults.{EncodingFault, ItemsFault, FaultyFront, FaultyWhole}
 use Rattle.der_core.specs.Tags.{integer, sequence}
 use Rattle.pkcs1.specs.KeyFaults.{OtherPrimeFault, OthersFault}
 use Rattle.der_core.specs.Laws.Sequences.{some_same, end_gives, more_than_end}
@@ -56,13 +56,13 @@ module _ {X : Type 0} (count : X → ℕ) where
   unlisted None none h e = absurd (h.0 e)
   unlisted (Some w) none h e = (w, refl, h.0 e)
 
-module _ {X V : Type 0} (items : X → List (OtherPrime V)) (text : V → List ℕ → Type 0) (d : IsDelimited text) (may_allocate : List ℕ → Type 0) where
+module _ {X V : Type 0} (items : X → List (OtherPrime V)) (encoding : V → List ℕ → Type 0) (d : IsDelimited encoding) (may_allocate : List ℕ → Type 0) where
   abbrev pub Found : Result (Option X) Error → Input → Input → Type 0
-  Found r before after = ReadsOptional 48 items (λ vs. Tlv 48 (ItemsContents (OtherPrimeInfo text) vs)) may_allocate r before after
+  Found r before after = ReadsOptional 48 items (λ vs. Tlv 48 (ItemsContents (OtherPrimeInfo encoding) vs)) may_allocate r before after
 
-  -- Where all that is left is a text of other primes, they were read, or there are none.
+  -- Where all that is left is an encoding of other primes, they were read, or there are none.
   others_only : (r : Option X) (before mid : Input) → Found (Ok r) before mid
-      → (c : List ℕ) → before ≡ Some c → (o : Option (List (OtherPrime V))) → OtherPrimeInfos text o c → (option_map items r ≡ o) × (mid ≡ Some [])
+      → (c : List ℕ) → before ≡ Some c → (o : Option (List (OtherPrime V))) → OtherPrimeInfos encoding o c → (option_map items r ≡ o) × (mid ≡ Some [])
   others_only None before mid f c is None has =
       let same : f.0 ≡ c = some_same f.0 c (sym f.1 ∙ is) in
       (refl, f.2 ∙ ap (λ l. Some l) (same ∙ has))
@@ -75,12 +75,12 @@ module _ {X V : Type 0} (items : X → List (OtherPrime V)) (text : V → List �
   others_only (Some v) before mid f c is (Some os) has =
       let same : f.0 ++ f.1 ≡ c = some_same (f.0 ++ f.1) c (sym f.2 ∙ is) in
       let s = tlv_split f.0 f.1 c [] f.4 has.1 (same ∙ sym (append-nil c)) in
-      let one : items v ≡ os = joins_map (OtherPrimeInfo text) (other_delimited d) (items v) os s.3 s.4 s.5 in
+      let one : items v ≡ os = joins_map (OtherPrimeInfo encoding) (other_delimited d) (items v) os s.3 s.4 s.5 in
       (ap (λ l. Some l) one, f.3 ∙ ap (λ l. Some l) s.2)
 
   -- a fault inside the other primes
   pub others_fail : (n : ℕ) (before after : Input) (e : Error) → Found (Err e) before after
-      → (after ≡ None) × ((c : List ℕ) → before ≡ Some c → Refuses e.kind (AllocatesIn may_allocate c) ((o : Option (List (OtherPrime V))) → (version_of o ≡ n) × OtherPrimeInfos text o c → ⊥))
+      → (after ≡ None) × ((c : List ℕ) → before ≡ Some c → Rejects e.kind (AllocatesIn may_allocate c) ((o : Option (List (OtherPrime V))) → (version_of o ≡ n) × OtherPrimeInfos encoding o c → ⊥))
   others_fail n before after e f = (
     f.0,
     λ c is.
@@ -91,19 +91,19 @@ module _ {X V : Type 0} (items : X → List (OtherPrime V)) (text : V → List �
         g.1,
   )
     where
-      none : (c : List ℕ) → slice_get c 0 ≡ Some 48 → ((vs : List (OtherPrime V)) (b rest : List ℕ) → c ≡ b ++ rest → Tlv 48 (ItemsContents (OtherPrimeInfo text) vs) b → ⊥)
-          → (o : Option (List (OtherPrime V))) → OtherPrimeInfos text o c → ⊥
+      none : (c : List ℕ) → slice_get c 0 ≡ Some 48 → ((vs : List (OtherPrime V)) (b rest : List ℕ) → c ≡ b ++ rest → Tlv 48 (ItemsContents (OtherPrimeInfo encoding) vs) b → ⊥)
+          → (o : Option (List (OtherPrime V))) → OtherPrimeInfos encoding o c → ⊥
       none c first nothing None has = let e : slice_get c 0 ≡ None = ap (λ l. slice_get l 0) has in cc
       none c first nothing (Some os) has = nothing os c [] (sym (append-nil c)) has.1
 
   -- a list of no primes
   pub empty_fails : (asked : List ℕ → Type 0) (n : ℕ) (r : Option X) (v : X) (before mid : Input) (k : ErrorKind)
       → Found (Ok r) before mid → r ≡ Some v → length (items v) ≡ 0 → TellsOfBytes k
-      → (c : List ℕ) → before ≡ Some c → Refuses k (asked c) ((o : Option (List (OtherPrime V))) → (version_of o ≡ n) × OtherPrimeInfos text o c → ⊥)
+      → (c : List ℕ) → before ≡ Some c → Rejects k (asked c) ((o : Option (List (OtherPrime V))) → (version_of o ≡ n) × OtherPrimeInfos encoding o c → ⊥)
   empty_fails asked n r v before mid k f e l tells c is =
       inr (tells, λ o has. none o c (sym (others_only r before mid f c is o has.1).0 ∙ ap (option_map items) e) has.1)
     where
-      none : (o : Option (List (OtherPrime V))) (c : List ℕ) → o ≡ Some (items v) → OtherPrimeInfos text o c → ⊥
+      none : (o : Option (List (OtherPrime V))) (c : List ℕ) → o ≡ Some (items v) → OtherPrimeInfos encoding o c → ⊥
       none None c same has = cc
       none (Some os) c same has =
           let items : os ≡ items v = cc in
@@ -112,7 +112,7 @@ module _ {X V : Type 0} (items : X → List (OtherPrime V)) (text : V → List �
   -- bytes behind them
   pub more_fails : (asked : List ℕ → Type 0) (n : ℕ) (r : Option X) (before mid after : Input) (e : ErrorKind)
       → Found (Ok r) before mid → (read_from mid end_of ≡ Err e) × (after ≡ None)
-      → (after ≡ None) × ((c : List ℕ) → before ≡ Some c → Refuses e (asked c) ((o : Option (List (OtherPrime V))) → (version_of o ≡ n) × OtherPrimeInfos text o c → ⊥))
+      → (after ≡ None) × ((c : List ℕ) → before ≡ Some c → Rejects e (asked c) ((o : Option (List (OtherPrime V))) → (version_of o ≡ n) × OtherPrimeInfos encoding o c → ⊥))
   more_fails asked n r before mid after e f fails = (
     fails.1,
     λ c is.
@@ -132,7 +132,7 @@ module _ {X V : Type 0} (items : X → List (OtherPrime V)) (text : V → List �
 
   pub others_given : (r : Option X) (n : ℕ) (before mid after : Input) → Found (Ok r) before mid → version_of (option_map items r) ≡ n
       → ((v : X) → r ≡ Some v → 0 < length (items v)) → ((rest : List ℕ) × (read_from mid end_of ≡ Ok (tt, rest)) × (after ≡ Some rest))
-      → (c : List ℕ) × (before ≡ Some c) × (after ≡ Some []) × ((version_of (option_map items r) ≡ n) × OtherPrimeInfos text (option_map items r) c)
+      → (c : List ℕ) × (before ≡ Some c) × (after ≡ Some []) × ((version_of (option_map items r) ≡ n) × OtherPrimeInfos encoding (option_map items r) c)
   others_given None n before mid after f agrees some ended =
       let g = end_gives mid after ended in
       let same : f.0 ≡ g.0 = some_same f.0 g.0 (sym f.2 ∙ g.1) in
@@ -149,18 +149,18 @@ not_equal true false e = refl
 not_equal false true e = refl
 not_equal false false e = cc
 
-module _ {X V : Type 0} (items : X → List (OtherPrime V)) (text : V → List ℕ → Type 0) (Fault : ErrorKind → List ℕ → Type 0) (may_allocate : List ℕ → Type 0) where
+module _ {X V : Type 0} (items : X → List (OtherPrime V)) (encoding : V → List ℕ → Type 0) (Fault : ErrorKind → List ℕ → Type 0) (may_allocate : List ℕ → Type 0) where
   abbrev There : Result (Option X) Error → Input → Input → Type 0
-  There r before after = ReadsOptional 48 items (λ vs. Tlv 48 (ItemsContents (OtherPrimeInfo text) vs)) may_allocate r before after
+  There r before after = ReadsOptional 48 items (λ vs. Tlv 48 (ItemsContents (OtherPrimeInfo encoding) vs)) may_allocate r before after
 
   pub others_faults : (n : ℕ) (before after : Input) (e : Error) → There (Err e) before after
-      → FaultyFront (TextFault sequence (ItemsFault (OtherPrimeInfo text) (TextFault sequence (OtherPrimeFault text Fault)))) may_allocate e.kind before
-      → FaultyWhole (OthersFault text Fault n) (AllocatesIn may_allocate) e.kind before
+      → FaultyFront (EncodingFault sequence (ItemsFault (OtherPrimeInfo encoding) (EncodingFault sequence (OtherPrimeFault encoding Fault)))) may_allocate e.kind before
+      → FaultyWhole (OthersFault encoding Fault n) (AllocatesIn may_allocate) e.kind before
   others_faults n before after e f fault c is = let g = f.2 c is in ⊎_elim inl (λ x. inr (inl (g.0, inl x))) (fault c is)
 
   -- they were found
   stands : (v : X) (before mid : Input) → There (Ok (Some v)) before mid → (c : List ℕ) → before ≡ Some c
-      → (slice_get c 0 ≡ Some 48) × (b : List ℕ) × (rest : List ℕ) × (mid ≡ Some rest) × Tlv 48 (ItemsContents (OtherPrimeInfo text) (items v)) b × (c ≡ b ++ rest)
+      → (slice_get c 0 ≡ Some 48) × (b : List ℕ) × (rest : List ℕ) × (mid ≡ Some rest) × Tlv 48 (ItemsContents (OtherPrimeInfo encoding) (items v)) b × (c ≡ b ++ rest)
   stands v before mid f c is =
       let same : c ≡ f.0 ++ f.1 = some_same c (f.0 ++ f.1) (sym is ∙ f.2) in
       (ap (λ l. slice_get l 0) (same ∙ ap (λ l. l ++ f.1) f.4.written), f.0, f.1, f.3, f.4, same)
@@ -169,7 +169,7 @@ module _ {X V : Type 0} (items : X → List (OtherPrime V)) (text : V → List �
   missing before mid f c is = let same : f.0 ≡ c = some_same f.0 c (sym f.1 ∙ is) in (rw (← same) f.3, f.2 ∙ ap (λ l. Some l) same)
 
   pub disagree_faults : (v : Version) (multi some : Bool) (r : Option X) (before mid : Input) (k : ErrorKind) → IsTrue multi ↔ (v ≡ Multi) → some ≡ is_some r → not (beq multi some) ≡ true → There (Ok r) before mid → k ≡ kind.Value integer
-      → (c : List ℕ) → before ≡ Some c → OthersFault text Fault (number_of v) k c
+      → (c : List ℕ) → before ≡ Some c → OthersFault encoding Fault (number_of v) k c
   disagree_faults TwoPrime multi some None before mid k h e s f is c at = let t : multi ≡ true = not_equal multi some s ∙ ap not e in let no : TwoPrime ≡ Multi = h.0 t in cc
   disagree_faults Multi multi some None before mid k h e s f is c at = let m = missing before mid f c at in inr (m.0, inl (refl, is))
   disagree_faults TwoPrime multi some (Some x) before mid k h e s f is c at =
@@ -178,7 +178,7 @@ module _ {X V : Type 0} (items : X → List (OtherPrime V)) (text : V → List �
   disagree_faults Multi multi some (Some x) before mid k h e s f is c at = let t : multi ≡ false = not_equal multi some s ∙ ap not e in let u : multi ≡ true = h.1 refl in cc
 
   pub empty_faults : (n : ℕ) (r : Option X) (v : X) (before mid : Input) (k : ErrorKind) → There (Ok r) before mid → r ≡ Some v → length (items v) ≡ 0 → version_of (option_map items r) ≡ n → k ≡ kind.Value sequence
-      → (c : List ℕ) → before ≡ Some c → OthersFault text Fault n k c
+      → (c : List ℕ) → before ≡ Some c → OthersFault encoding Fault n k c
   empty_faults n None v before mid k f e l agrees is c at = cc
   empty_faults n (Some w) v before mid k f e l agrees is c at =
       let same : w ≡ v = cc in
@@ -187,7 +187,7 @@ module _ {X V : Type 0} (items : X → List (OtherPrime V)) (text : V → List �
       inl (t.0, inr (items w, (t.1, t.2, t.4, inr (inl (sym agrees, none, is)), t.5)))
 
   pub more_faults : (n : ℕ) (r : Option X) (before mid : Input) (k : ErrorKind) → There (Ok r) before mid → version_of (option_map items r) ≡ n → ((v : X) → r ≡ Some v → 0 < length (items v)) → read_from mid end_of ≡ Err k
-      → (c : List ℕ) → before ≡ Some c → OthersFault text Fault n k c
+      → (c : List ℕ) → before ≡ Some c → OthersFault encoding Fault n k c
   more_faults n None before mid k f agrees some ends c at =
       let m = missing before mid f c at in
       let other : (n ≡ 1) → ⊥ = λ no. omega (arith, no, agrees) in

@@ -1,8 +1,8 @@
--- Private keys written out, with numbers of one byte: which texts are one, and which are none.
+-- Private keys written out, with numbers of one byte: which encodings are one, and which are none.
 use Rattle.std.proofs.Common.{ℕ, List, [], ◌∷◌, ◌++◌, ◌≡◌, ◌<◌, length, map, refl, sym, ap, arith, length-append, Option, Some, None}
-use Rattle.der_core.specs.Texts.{Joins}
+use Rattle.der_core.specs.Encodings.{Joins}
 use Rattle.der_core.specs.Laws.Lists.{same_fronts}
-use Rattle.der_core.specs.Laws.Texts.{tlv_not_empty}
+use Rattle.der_core.specs.Laws.Encodings.{tlv_not_empty}
 use Rattle.der_core.specs.Integer.{Integer}
 use Rattle.der_core.specs.Laws.Integer.{integer_delimited, small_delimited}
 use Rattle.der_core.specs.SequenceOf.{ItemsContents, AllHave}
@@ -11,7 +11,7 @@ use Rattle.pkcs1.specs.Keys.{OtherPrime, OtherPrimeInfo, OtherPrimeInfos, versio
 use Rattle.pkcs1.specs.Writing.{key_numbers}
 use Rattle.pkcs1.specs.Laws.PrivateKey.{joins_take, joins_put, version_small}
 use Rattle.pkcs1.proofs.NumberReads.{as_many}
-use Rattle.der_core.specs.Laws.Texts.{joins_last}
+use Rattle.der_core.specs.Laws.Encodings.{joins_last}
 
 -- INTEGERs of one byte, one after another.
 abbrev pub bytes_of : List ℕ → List ℕ
@@ -50,8 +50,8 @@ other_bytes = 0x30 ∷ 0x09 ∷ 0x02 ∷ 0x01 ∷ 0x11 ∷ 0x02 ∷ 0x01 ∷ 0x0
 abbrev pub other : OtherPrime (List ℕ)
 other = record { prime = 0x11 ∷ []; exponent = 0x02 ∷ []; coefficient = 0x03 ∷ [] }
 
-pub other_text : OtherPrimeInfo Integer other other_bytes
-other_text = known_tlv 48 (bytes_of (0x11 ∷ 0x02 ∷ 0x03 ∷ [])) (bytes_join (0x11 ∷ 0x02 ∷ 0x03 ∷ []) (omega arith, (omega arith, (omega arith, tt)))) (omega arith)
+pub other_encoding : OtherPrimeInfo Integer other other_bytes
+other_encoding = known_tlv 48 (bytes_of (0x11 ∷ 0x02 ∷ 0x03 ∷ [])) (bytes_join (0x11 ∷ 0x02 ∷ 0x03 ∷ []) (omega arith, (omega arith, (omega arith, tt)))) (omega arith)
 
 key_contents : (others : Option (List (OtherPrime (List ℕ)))) (rest : List ℕ) → OtherPrimeInfos Integer others rest
     → PrivateKeyContents Integer (key_with others) (0x02 ∷ 0x01 ∷ version_of others ∷ bytes_of eight ++ rest)
@@ -74,7 +74,7 @@ two_primes = known_tlv 48 (0x02 ∷ 0x01 ∷ 0x00 ∷ bytes_of eight) (key_conte
 -- 3028 020101 020107 .. 020106 300b 3009 020111 020102 020103: three primes
 pub three_primes : RsaPrivateKey (key_with (Some (other ∷ []))) (0x30 ∷ 0x28 ∷ 0x02 ∷ 0x01 ∷ 0x01 ∷ bytes_of eight ++ (0x30 ∷ 0x0b ∷ other_bytes))
 three_primes = known_tlv 48 (0x02 ∷ 0x01 ∷ 0x01 ∷ bytes_of eight ++ (0x30 ∷ 0x0b ∷ other_bytes))
-    (key_contents (Some (other ∷ [])) (0x30 ∷ 0x0b ∷ other_bytes) (omega arith, known_tlv 48 other_bytes (other_bytes, [], other_text, refl, refl) (omega arith)))
+    (key_contents (Some (other ∷ [])) (0x30 ∷ 0x0b ∷ other_bytes) (omega arith, known_tlv 48 other_bytes (other_bytes, [], other_encoding, refl, refl) (omega arith)))
     (omega arith)
 
 -- 30 09 020113 020104 020105
@@ -84,13 +84,13 @@ another_bytes = 0x30 ∷ 0x09 ∷ 0x02 ∷ 0x01 ∷ 0x13 ∷ 0x02 ∷ 0x01 ∷ 0
 abbrev another : OtherPrime (List ℕ)
 another = record { prime = 0x13 ∷ []; exponent = 0x04 ∷ []; coefficient = 0x05 ∷ [] }
 
-another_text : OtherPrimeInfo Integer another another_bytes
-another_text = known_tlv 48 (bytes_of (0x13 ∷ 0x04 ∷ 0x05 ∷ [])) (bytes_join (0x13 ∷ 0x04 ∷ 0x05 ∷ []) (omega arith, (omega arith, (omega arith, tt)))) (omega arith)
+another_encoding : OtherPrimeInfo Integer another another_bytes
+another_encoding = known_tlv 48 (bytes_of (0x13 ∷ 0x04 ∷ 0x05 ∷ [])) (bytes_join (0x13 ∷ 0x04 ∷ 0x05 ∷ []) (omega arith, (omega arith, (omega arith, tt)))) (omega arith)
 
 -- 3033 020101 020107 .. 020106 3016 3009 020111 020102 020103 3009 020113 020104 020105: four primes, in order
 pub four_primes : RsaPrivateKey (key_with (Some (other ∷ another ∷ []))) (0x30 ∷ 0x33 ∷ 0x02 ∷ 0x01 ∷ 0x01 ∷ bytes_of eight ++ (0x30 ∷ 0x16 ∷ other_bytes ++ another_bytes))
 four_primes = known_tlv 48 (0x02 ∷ 0x01 ∷ 0x01 ∷ bytes_of eight ++ (0x30 ∷ 0x16 ∷ other_bytes ++ another_bytes))
-    (key_contents (Some (other ∷ another ∷ [])) (0x30 ∷ 0x16 ∷ other_bytes ++ another_bytes) (omega arith, known_tlv 48 (other_bytes ++ another_bytes) (other_bytes, another_bytes, other_text, (another_bytes, [], another_text, refl, refl), refl) (omega arith)))
+    (key_contents (Some (other ∷ another ∷ [])) (0x30 ∷ 0x16 ∷ other_bytes ++ another_bytes) (omega arith, known_tlv 48 (other_bytes ++ another_bytes) (other_bytes, another_bytes, other_encoding, (another_bytes, [], another_encoding, refl, refl), refl) (omega arith)))
     (omega arith)
 
 -- What stands behind the numbers, and the version.
@@ -103,7 +103,7 @@ behind key v rest l p =
     let s = as_many Integer integer_delimited (map (λ n. n ∷ []) eight) (key_numbers key) (OtherPrimeInfos Integer key.other_prime_infos ∷ []) (bytes_of eight) rest p.1 eight_join refl (sym tails.1) numbers in
     (sym one.1, joins_last rest s.1)
 
--- No text: a version that isn't 0 or 1.
+-- No encoding: a version that isn't 0 or 1.
 pub no_version : (key : PrivateKey (List ℕ)) → RsaPrivateKey key (0x30 ∷ 0x1b ∷ 0x02 ∷ 0x01 ∷ 0x02 ∷ bytes_of eight) → ⊥
 no_version key p =
     let b = behind key 2 [] (omega arith) (known_whole (0x02 ∷ 0x01 ∷ 0x02 ∷ bytes_of eight) p (omega arith)) in
@@ -147,8 +147,8 @@ list_empty key p =
     let b = behind key 1 (0x30 ∷ 0x00 ∷ []) (omega arith) (known_whole (0x02 ∷ 0x01 ∷ 0x01 ∷ bytes_of eight ++ (0x30 ∷ 0x00 ∷ [])) p (omega arith)) in
     empty key.other_prime_infos b.0 b.1
 
--- a key with a list of no primes has no text at all
-pub no_primes_no_text : (text : List ℕ) → RsaPrivateKey (key_with (Some [])) text → ⊥
-no_primes_no_text text p =
+-- a key with a list of no primes has no encoding at all
+pub no_primes_no_encoding : (encoding : List ℕ) → RsaPrivateKey (key_with (Some [])) encoding → ⊥
+no_primes_no_encoding encoding p =
     let rest = joins_take (map Integer (key_numbers (key_with (Some [])))) (OtherPrimeInfos Integer (Some []) ∷ []) p.holds.1 p.holds.3 in
     omega (arith, rest.3.2.0)

@@ -4,12 +4,12 @@ use Rattle.der_core.specs.declared.error.ErrorKind.TheVariants.{Incomplete, Inde
 use Rattle.der_core.specs.Document.{Means}
 use Rattle.der_core.specs.Input.{header_at, length_at}
 use Rattle.der_core.specs.Integer.{Integer, IntegerContents}
-use Rattle.der_core.specs.Texts.{AreBytes, Joins}
-use Rattle.der_core.specs.Laws.Texts.{then_holds, last_holds}
-use Rattle.der_core.specs.Laws.WrittenOut.{known_long, known_tlv, known_front, known_whole, integer_byte, refused_header, counted_header, no_bytes_refused, no_part_refused, other_tag_refused, no_contents_refused, negative_refused, needless_zero_refused}
+use Rattle.der_core.specs.Encodings.{AreBytes, Joins}
+use Rattle.der_core.specs.Laws.Encodings.{then_holds, last_holds}
+use Rattle.der_core.specs.Laws.WrittenOut.{known_long, known_tlv, known_front, known_whole, integer_byte, rejected_header, counted_header, no_bytes_rejected, no_part_rejected, other_tag_rejected, no_contents_rejected, negative_rejected, needless_zero_rejected}
 use Rattle.pkcs1.specs.Keys.{PublicKey, RsaPublicKey}
 
--- A text of these two numbers.
+-- An encoding of these two numbers.
 two_integers : (n e x y : List ℕ) → Integer n x → Integer e y → length (x ++ y) < 128 → Means RsaPublicKey (0x30 ∷ length (x ++ y) ∷ x ++ y) (record { modulus = n; public_exponent = e })
 two_integers n e x y p q few = (omega arith, known_tlv 48 (x ++ y) (then_holds x y p (last_holds y q)) few)
 
@@ -55,7 +55,7 @@ long_modulus bytes are count =
       },
     )
 
--- What a text says of the contents of its two numbers, and of what follows them.
+-- What an encoding says of the contents of its two numbers, and of what follows them.
 modulus_and_rest : (key : PublicKey (List ℕ)) (c rest : List ℕ) → length ((0x02 ∷ length c ∷ c) ++ rest) < 128
     → RsaPublicKey key (0x30 ∷ length ((0x02 ∷ length c ∷ c) ++ rest) ∷ (0x02 ∷ length c ∷ c) ++ rest) → IntegerContents key.modulus c × Joins (Integer key.public_exponent ∷ []) rest
 modulus_and_rest key c rest few p =
@@ -72,90 +72,90 @@ exponent_and_rest key c d rest few p =
     (f.1, rw f.2 at w.3)
 
 -- 3006020180020103
-negative_modulus_refused : (key : PublicKey (List ℕ)) → RsaPublicKey key (0x30 ∷ 0x06 ∷ 0x02 ∷ 0x01 ∷ 0x80 ∷ 0x02 ∷ 0x01 ∷ 0x03 ∷ []) → ⊥
-negative_modulus_refused key p = negative_refused key.modulus 0x80 [] (omega arith) (modulus_and_rest key (0x80 ∷ []) (0x02 ∷ 0x01 ∷ 0x03 ∷ []) (omega arith) p).0
+negative_modulus_rejected : (key : PublicKey (List ℕ)) → RsaPublicKey key (0x30 ∷ 0x06 ∷ 0x02 ∷ 0x01 ∷ 0x80 ∷ 0x02 ∷ 0x01 ∷ 0x03 ∷ []) → ⊥
+negative_modulus_rejected key p = negative_rejected key.modulus 0x80 [] (omega arith) (modulus_and_rest key (0x80 ∷ []) (0x02 ∷ 0x01 ∷ 0x03 ∷ []) (omega arith) p).0
 
 -- 300702020007020103
-needless_zero_in_modulus_refused : (key : PublicKey (List ℕ)) → RsaPublicKey key (0x30 ∷ 0x07 ∷ 0x02 ∷ 0x02 ∷ 0x00 ∷ 0x07 ∷ 0x02 ∷ 0x01 ∷ 0x03 ∷ []) → ⊥
-needless_zero_in_modulus_refused key p = needless_zero_refused key.modulus 0x07 [] (omega arith) (modulus_and_rest key (0x00 ∷ 0x07 ∷ []) (0x02 ∷ 0x01 ∷ 0x03 ∷ []) (omega arith) p).0
+needless_zero_in_modulus_rejected : (key : PublicKey (List ℕ)) → RsaPublicKey key (0x30 ∷ 0x07 ∷ 0x02 ∷ 0x02 ∷ 0x00 ∷ 0x07 ∷ 0x02 ∷ 0x01 ∷ 0x03 ∷ []) → ⊥
+needless_zero_in_modulus_rejected key p = needless_zero_rejected key.modulus 0x07 [] (omega arith) (modulus_and_rest key (0x00 ∷ 0x07 ∷ []) (0x02 ∷ 0x01 ∷ 0x03 ∷ []) (omega arith) p).0
 
 -- 30050200020103
-no_contents_of_modulus_refused : (key : PublicKey (List ℕ)) → RsaPublicKey key (0x30 ∷ 0x05 ∷ 0x02 ∷ 0x00 ∷ 0x02 ∷ 0x01 ∷ 0x03 ∷ []) → ⊥
-no_contents_of_modulus_refused key p = no_contents_refused key.modulus (modulus_and_rest key [] (0x02 ∷ 0x01 ∷ 0x03 ∷ []) (omega arith) p).0
+no_contents_of_modulus_rejected : (key : PublicKey (List ℕ)) → RsaPublicKey key (0x30 ∷ 0x05 ∷ 0x02 ∷ 0x00 ∷ 0x02 ∷ 0x01 ∷ 0x03 ∷ []) → ⊥
+no_contents_of_modulus_rejected key p = no_contents_rejected key.modulus (modulus_and_rest key [] (0x02 ∷ 0x01 ∷ 0x03 ∷ []) (omega arith) p).0
 
 -- 3006020107020180
-negative_exponent_refused : (key : PublicKey (List ℕ)) → RsaPublicKey key (0x30 ∷ 0x06 ∷ 0x02 ∷ 0x01 ∷ 0x07 ∷ 0x02 ∷ 0x01 ∷ 0x80 ∷ []) → ⊥
-negative_exponent_refused key p = negative_refused key.public_exponent 0x80 [] (omega arith) (exponent_and_rest key (0x07 ∷ []) (0x80 ∷ []) [] (omega arith) p).0
+negative_exponent_rejected : (key : PublicKey (List ℕ)) → RsaPublicKey key (0x30 ∷ 0x06 ∷ 0x02 ∷ 0x01 ∷ 0x07 ∷ 0x02 ∷ 0x01 ∷ 0x80 ∷ []) → ⊥
+negative_exponent_rejected key p = negative_rejected key.public_exponent 0x80 [] (omega arith) (exponent_and_rest key (0x07 ∷ []) (0x80 ∷ []) [] (omega arith) p).0
 
 -- 300702010702020003
-needless_zero_in_exponent_refused : (key : PublicKey (List ℕ)) → RsaPublicKey key (0x30 ∷ 0x07 ∷ 0x02 ∷ 0x01 ∷ 0x07 ∷ 0x02 ∷ 0x02 ∷ 0x00 ∷ 0x03 ∷ []) → ⊥
-needless_zero_in_exponent_refused key p = needless_zero_refused key.public_exponent 0x03 [] (omega arith) (exponent_and_rest key (0x07 ∷ []) (0x00 ∷ 0x03 ∷ []) [] (omega arith) p).0
+needless_zero_in_exponent_rejected : (key : PublicKey (List ℕ)) → RsaPublicKey key (0x30 ∷ 0x07 ∷ 0x02 ∷ 0x01 ∷ 0x07 ∷ 0x02 ∷ 0x02 ∷ 0x00 ∷ 0x03 ∷ []) → ⊥
+needless_zero_in_exponent_rejected key p = needless_zero_rejected key.public_exponent 0x03 [] (omega arith) (exponent_and_rest key (0x07 ∷ []) (0x00 ∷ 0x03 ∷ []) [] (omega arith) p).0
 
 -- 3003020107
-no_exponent_refused : (key : PublicKey (List ℕ)) → RsaPublicKey key (0x30 ∷ 0x03 ∷ 0x02 ∷ 0x01 ∷ 0x07 ∷ []) → ⊥
-no_exponent_refused key p = no_part_refused (modulus_and_rest key (0x07 ∷ []) [] (omega arith) p).1
+no_exponent_rejected : (key : PublicKey (List ℕ)) → RsaPublicKey key (0x30 ∷ 0x03 ∷ 0x02 ∷ 0x01 ∷ 0x07 ∷ []) → ⊥
+no_exponent_rejected key p = no_part_rejected (modulus_and_rest key (0x07 ∷ []) [] (omega arith) p).1
 
 -- 3009020107020103020101
-third_number_refused : (key : PublicKey (List ℕ)) → RsaPublicKey key (0x30 ∷ 0x09 ∷ 0x02 ∷ 0x01 ∷ 0x07 ∷ 0x02 ∷ 0x01 ∷ 0x03 ∷ 0x02 ∷ 0x01 ∷ 0x01 ∷ []) → ⊥
-third_number_refused key p = let e = (exponent_and_rest key (0x07 ∷ []) (0x03 ∷ []) (0x02 ∷ 0x01 ∷ 0x01 ∷ []) (omega arith) p).1 in cc
+third_number_rejected : (key : PublicKey (List ℕ)) → RsaPublicKey key (0x30 ∷ 0x09 ∷ 0x02 ∷ 0x01 ∷ 0x07 ∷ 0x02 ∷ 0x01 ∷ 0x03 ∷ 0x02 ∷ 0x01 ∷ 0x01 ∷ []) → ⊥
+third_number_rejected key p = let e = (exponent_and_rest key (0x07 ∷ []) (0x03 ∷ []) (0x02 ∷ 0x01 ∷ 0x01 ∷ []) (omega arith) p).1 in cc
 
 -- 3000
-empty_sequence_refused : (key : PublicKey (List ℕ)) → RsaPublicKey key (0x30 ∷ 0x00 ∷ []) → ⊥
-empty_sequence_refused key p = no_part_refused (known_whole [] p (omega arith))
+empty_sequence_rejected : (key : PublicKey (List ℕ)) → RsaPublicKey key (0x30 ∷ 0x00 ∷ []) → ⊥
+empty_sequence_rejected key p = no_part_rejected (known_whole [] p (omega arith))
 
 -- 300602010702010300
-bytes_behind_refused : (key : PublicKey (List ℕ)) → RsaPublicKey key (0x30 ∷ 0x06 ∷ 0x02 ∷ 0x01 ∷ 0x07 ∷ 0x02 ∷ 0x01 ∷ 0x03 ∷ 0x00 ∷ []) → ⊥
+bytes_behind_rejected : (key : PublicKey (List ℕ)) → RsaPublicKey key (0x30 ∷ 0x06 ∷ 0x02 ∷ 0x01 ∷ 0x07 ∷ 0x02 ∷ 0x01 ∷ 0x03 ∷ 0x00 ∷ []) → ⊥
 unfolding header_at length_at
-bytes_behind_refused key p = let n = (counted_header 48 48 6 _ (0x02 ∷ 0x01 ∷ 0x07 ∷ 0x02 ∷ 0x01 ∷ 0x03 ∷ 0x00 ∷ []) refl (omega arith) refl p).1 in omega arith
+bytes_behind_rejected key p = let n = (counted_header 48 48 6 _ (0x02 ∷ 0x01 ∷ 0x07 ∷ 0x02 ∷ 0x01 ∷ 0x03 ∷ 0x00 ∷ []) refl (omega arith) refl p).1 in omega arith
 
 -- 3006020107
-missing_bytes_refused : (key : PublicKey (List ℕ)) → RsaPublicKey key (0x30 ∷ 0x06 ∷ 0x02 ∷ 0x01 ∷ 0x07 ∷ []) → ⊥
+missing_bytes_rejected : (key : PublicKey (List ℕ)) → RsaPublicKey key (0x30 ∷ 0x06 ∷ 0x02 ∷ 0x01 ∷ 0x07 ∷ []) → ⊥
 unfolding header_at length_at
-missing_bytes_refused key p = let n = (counted_header 48 48 6 _ (0x02 ∷ 0x01 ∷ 0x07 ∷ []) refl (omega arith) refl p).1 in omega arith
+missing_bytes_rejected key p = let n = (counted_header 48 48 6 _ (0x02 ∷ 0x01 ∷ 0x07 ∷ []) refl (omega arith) refl p).1 in omega arith
 
 -- 30840fffffff
-missing_contents_refused : (key : PublicKey (List ℕ)) → RsaPublicKey key (0x30 ∷ 0x84 ∷ 0x0f ∷ 0xff ∷ 0xff ∷ 0xff ∷ []) → ⊥
+missing_contents_rejected : (key : PublicKey (List ℕ)) → RsaPublicKey key (0x30 ∷ 0x84 ∷ 0x0f ∷ 0xff ∷ 0xff ∷ 0xff ∷ []) → ⊥
 unfolding header_at length_at
-missing_contents_refused key p = let n = (counted_header 48 48 268435455 _ [] refl (omega arith) refl p).1 in omega arith
+missing_contents_rejected key p = let n = (counted_header 48 48 268435455 _ [] refl (omega arith) refl p).1 in omega arith
 
 -- 308106020107020103
-needless_long_length_refused : (key : PublicKey (List ℕ)) → RsaPublicKey key (0x30 ∷ 0x81 ∷ 0x06 ∷ 0x02 ∷ 0x01 ∷ 0x07 ∷ 0x02 ∷ 0x01 ∷ 0x03 ∷ []) → ⊥
+needless_long_length_rejected : (key : PublicKey (List ℕ)) → RsaPublicKey key (0x30 ∷ 0x81 ∷ 0x06 ∷ 0x02 ∷ 0x01 ∷ 0x07 ∷ 0x02 ∷ 0x01 ∷ 0x03 ∷ []) → ⊥
 unfolding header_at length_at
-needless_long_length_refused key = refused_header 48 _ Overlength refl (omega arith) refl
+needless_long_length_rejected key = rejected_header 48 _ Overlength refl (omega arith) refl
 
 -- 3080020107020103
-indefinite_length_refused : (key : PublicKey (List ℕ)) → RsaPublicKey key (0x30 ∷ 0x80 ∷ 0x02 ∷ 0x01 ∷ 0x07 ∷ 0x02 ∷ 0x01 ∷ 0x03 ∷ []) → ⊥
+indefinite_length_rejected : (key : PublicKey (List ℕ)) → RsaPublicKey key (0x30 ∷ 0x80 ∷ 0x02 ∷ 0x01 ∷ 0x07 ∷ 0x02 ∷ 0x01 ∷ 0x03 ∷ []) → ⊥
 unfolding header_at length_at
-indefinite_length_refused key = refused_header 48 _ IndefiniteLength refl (omega arith) refl
+indefinite_length_rejected key = rejected_header 48 _ IndefiniteLength refl (omega arith) refl
 
 -- 308501
-five_length_octets_refused : (key : PublicKey (List ℕ)) → RsaPublicKey key (0x30 ∷ 0x85 ∷ 0x01 ∷ []) → ⊥
+five_length_octets_rejected : (key : PublicKey (List ℕ)) → RsaPublicKey key (0x30 ∷ 0x85 ∷ 0x01 ∷ []) → ⊥
 unfolding header_at length_at
-five_length_octets_refused key = refused_header 48 _ Overflow refl (omega arith) refl
+five_length_octets_rejected key = rejected_header 48 _ Overflow refl (omega arith) refl
 
 -- 3085, and what may follow it
 five_length_octets_mean_nothing : (rest : List ℕ) (key : PublicKey (List ℕ)) → Means RsaPublicKey (0x30 ∷ 0x85 ∷ rest) key → ⊥
 unfolding header_at length_at
-five_length_octets_mean_nothing rest key p = refused_header 48 _ Overflow refl p.0 refl p.1
+five_length_octets_mean_nothing rest key p = rejected_header 48 _ Overflow refl p.0 refl p.1
 
 -- 308410000000
-contents_of_a_long_text_missing_refused : (key : PublicKey (List ℕ)) → RsaPublicKey key (0x30 ∷ 0x84 ∷ 0x10 ∷ 0x00 ∷ 0x00 ∷ 0x00 ∷ []) → ⊥
+contents_of_a_long_encoding_missing_rejected : (key : PublicKey (List ℕ)) → RsaPublicKey key (0x30 ∷ 0x84 ∷ 0x10 ∷ 0x00 ∷ 0x00 ∷ 0x00 ∷ []) → ⊥
 unfolding header_at length_at
-contents_of_a_long_text_missing_refused key p = let n = (counted_header 48 48 268435456 _ [] refl (omega arith) refl p).1 in omega arith
+contents_of_a_long_encoding_missing_rejected key p = let n = (counted_header 48 48 268435456 _ [] refl (omega arith) refl p).1 in omega arith
 
 -- no bytes
-no_bytes_at_all_refused : (key : PublicKey (List ℕ)) → RsaPublicKey key [] → ⊥
-no_bytes_at_all_refused key = no_bytes_refused
+no_bytes_at_all_rejected : (key : PublicKey (List ℕ)) → RsaPublicKey key [] → ⊥
+no_bytes_at_all_rejected key = no_bytes_rejected
 
 -- 30
-tag_alone_refused : (key : PublicKey (List ℕ)) → RsaPublicKey key (0x30 ∷ []) → ⊥
+tag_alone_rejected : (key : PublicKey (List ℕ)) → RsaPublicKey key (0x30 ∷ []) → ⊥
 unfolding header_at length_at
-tag_alone_refused key = refused_header 48 _ Incomplete refl (omega arith) refl
+tag_alone_rejected key = rejected_header 48 _ Incomplete refl (omega arith) refl
 
 -- 0206020107020103
-integer_tag_refused : (key : PublicKey (List ℕ)) → RsaPublicKey key (0x02 ∷ 0x06 ∷ 0x02 ∷ 0x01 ∷ 0x07 ∷ 0x02 ∷ 0x01 ∷ 0x03 ∷ []) → ⊥
-integer_tag_refused key = other_tag_refused 0x02 _ (λ e. omega arith)
+integer_tag_rejected : (key : PublicKey (List ℕ)) → RsaPublicKey key (0x02 ∷ 0x06 ∷ 0x02 ∷ 0x01 ∷ 0x07 ∷ 0x02 ∷ 0x01 ∷ 0x03 ∷ []) → ⊥
+integer_tag_rejected key = other_tag_rejected 0x02 _ (λ e. omega arith)
 
 -- 1f00
-long_tag_refused : (key : PublicKey (List ℕ)) → RsaPublicKey key (0x1f ∷ 0x00 ∷ []) → ⊥
-long_tag_refused key = other_tag_refused 0x1f _ (λ e. omega arith)
+long_tag_rejected : (key : PublicKey (List ℕ)) → RsaPublicKey key (0x1f ∷ 0x00 ∷ []) → ⊥
+long_tag_rejected key = other_tag_rejected 0x1f _ (λ e. omega arith)

@@ -5,13 +5,13 @@ use Rattle.pkcs1_params.specs.Parameters.{RsaPssParams, pss_fields, RsaOaepParam
 use Rattle.pkcs1_params.specs.Laws.Parameters.{sequences_exclude}
 
 pub public_pss : Excludes RsaPublicKey RsaPssParams
-public_pss v w text p q = sequences_exclude (pss_fields w) text p q
+public_pss v w encoding p q = sequences_exclude (pss_fields w) encoding p q
 
 pub public_oaep : Excludes RsaPublicKey RsaOaepParams
-public_oaep v w text p q = sequences_exclude (oaep_fields w) text p q
+public_oaep v w encoding p q = sequences_exclude (oaep_fields w) encoding p q
 
 pub private_pss : Excludes RsaPrivateKey RsaPssParams
-private_pss v w text p q = sequences_exclude (pss_fields w) text p q
+private_pss v w encoding p q = sequences_exclude (pss_fields w) encoding p q
 
 pub private_oaep : Excludes RsaPrivateKey RsaOaepParams
-private_oaep v w text p q = sequences_exclude (oaep_fields w) text p q
+private_oaep v w encoding p q = sequences_exclude (oaep_fields w) encoding p q

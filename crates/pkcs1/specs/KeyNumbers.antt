@@ -1,6 +1,6 @@
 -- The eight numbers of a private key, as they are read.
 use Rattle.std.specs.Prelude.{ℕ, List, [], ◌≡◌, length, map}
-use Rattle.der_core.specs.Texts.{Joins}
+use Rattle.der_core.specs.Encodings.{Joins}
 use Rattle.pkcs1.specs.declared.private_key.PrivateKeyOf.{PrivateKeyOf}
 use Rattle.pkcs1.specs.PrivateKeyValue.{key_with}
 use Rattle.pkcs1.specs.Writing.{key_numbers}
@@ -11,4 +11,4 @@ numbers_of value key = key_numbers (key_with value (λ _. []) key)
 
 -- The encodings of eight numbers, in a row.
 abbrev pub EightNumbers : {V : Type 0} → (V → List ℕ → Type 0) → List V → List ℕ → Type 0
-EightNumbers NumberText numbers texts = (length numbers ≡ 8) × Joins (map NumberText numbers) texts
+EightNumbers NumberEncoding numbers encodings = (length numbers ≡ 8) × Joins (map NumberEncoding numbers) encodings

@@ -1,7 +1,7 @@
 -- Lemmas on the definitions, which proofs here and in the crates above may cite.
 pub mod HeldKeys
 pub mod KeyFaults
-pub mod KeyTexts
+pub mod KeyEncodings
 pub mod PrivateKey
 pub mod PrivateKeys
 pub mod PublicKey

@@ -4,7 +4,7 @@ pub mod Versions
 pub mod Allocating
 pub mod Writing
 pub mod KeyNumbers
-pub mod KeyTexts
+pub mod KeyEncodings
 pub mod PublicKeyValue
 pub mod PrivateKeyValue
 pub mod OtherPrimesHeld

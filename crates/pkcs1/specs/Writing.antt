@@ -3,14 +3,14 @@ use Rattle.std.specs.Prelude.{ℕ, List, [], ◌∷◌, ◌++◌, ◌<◌, lengt
 use Rattle.der_core.specs.Tag.{integer_tag, sequence_tag}
 use Rattle.der_core.specs.Tlv.{tlv}
 use Rattle.der_core.specs.Integer.{integer_contents}
-use Rattle.der_core.specs.SequenceOf.{AllHave, all_texts}
+use Rattle.der_core.specs.SequenceOf.{AllHave, all_encodings}
 use Rattle.pkcs1.specs.Keys.{PublicKey, OtherPrime, PrivateKey, version_of}
 
 abbrev pub HasPublicKey : {Number : Type 0} → (Number → Type 0) → PublicKey Number → Type 0
 HasPublicKey has key = has key.modulus × has key.public_exponent
 
 abbrev pub written_public_key : {Number : Type 0} → (Number → List ℕ) → PublicKey Number → List ℕ
-written_public_key text key = text key.modulus ++ text key.public_exponent
+written_public_key encoding key = encoding key.modulus ++ encoding key.public_exponent
 
 -- The numbers of a value, in order.
 abbrev pub other_numbers : {Number : Type 0} → OtherPrime Number → List Number
@@ -40,13 +40,13 @@ module _ {Number : Type 0} (has : Number → Type 0) where
   abbrev pub HasPrivateKey : PrivateKey Number → Type 0
   HasPrivateKey key = (version_of key.other_prime_infos < 2) × (AllHave has (key_numbers key) × HasOthers key.other_prime_infos)
 
-module _ {Number : Type 0} (text : Number → List ℕ) where
+module _ {Number : Type 0} (encoding : Number → List ℕ) where
   abbrev pub written_other : OtherPrime Number → List ℕ
-  written_other other = all_texts text (other_numbers other)
+  written_other other = all_encodings encoding (other_numbers other)
 
   abbrev pub written_others : Option (List (OtherPrime Number)) → List ℕ
   written_others None = []
-  written_others (Some others) = tlv sequence_tag (all_texts (λ other. tlv sequence_tag (written_other other)) others)
+  written_others (Some others) = tlv sequence_tag (all_encodings (λ other. tlv sequence_tag (written_other other)) others)
 
   abbrev pub written_private_key : PrivateKey Number → List ℕ
-  written_private_key key = tlv integer_tag (integer_contents (version_of key.other_prime_infos ∷ [])) ++ (all_texts text (key_numbers key) ++ written_others key.other_prime_infos)
+  written_private_key key = tlv integer_tag (integer_contents (version_of key.other_prime_infos ∷ [])) ++ (all_encodings encoding (key_numbers key) ++ written_others key.other_prime_infos)

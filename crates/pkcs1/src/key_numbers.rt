@@ -2,7 +2,7 @@
 ghost use Rattle.std.specs.Prelude.{◌≡◌, IfOk, IfErr, IsOk};
 ghost use Rattle.der_core.specs.Faults.{FaultyFront};
 ghost use Rattle.pkcs1.specs.KeyFaults.{CountedFault};
-ghost use Rattle.der_core.specs.Reading.{ReadsText, AllocatesWithin};
+ghost use Rattle.der_core.specs.Reading.{ReadsEncoding, AllocatesWithin};
 ghost use Rattle.pkcs1.specs.KeyNumbers.{EightNumbers, numbers_of};
 
 use crate::private_key::PrivateKeyOf;
@@ -14,9 +14,10 @@ pub(crate) fn read_key_numbers<'a, M: Memory, U: Decode<&'a [u8], M>, O, R: Read
     memory: M,
     reader: &mut R,
 ) -> Result<PrivateKeyOf<U, O>>
-    ensures text { ReadsText (numbers_of U.value) (EightNumbers U.text) (AllocatesWithin U.Decode.may_allocate)
+    ensures encoding { ReadsEncoding (numbers_of U.value) (EightNumbers U.encoding)
+        (AllocatesWithin U.Decode.may_allocate)
         result (R.left reader.old) (R.left reader.new) }
-    ensures exact { let fault = CountedFault 8 U.text U.Decode.fault in
+    ensures exact { let fault = CountedFault 8 U.encoding U.Decode.fault in
         IfErr result (λ e. FaultyFront fault (AllocatesWithin U.Decode.may_allocate) e.kind (R.left reader.old)) }
 {
     let modulus = U::decode(memory, reader)?;

@@ -1,7 +1,7 @@
 //! Laws of the grammars of keys and parameters: functions that do nothing, each with a law as its contract.
 ghost use Rattle.std.specs.Prelude.{◌≡◌, ℕ, List, true, false};
-ghost use Rattle.pkcs1.specs.Forms.{SameTexts};
-ghost use Rattle.der_core.specs.Texts.{AtMostOne, IsDelimited, MeansOne};
+ghost use Rattle.pkcs1.specs.Forms.{SameEncodings};
+ghost use Rattle.der_core.specs.Encodings.{AtMostOne, IsDelimited, MeansOne};
 ghost use Rattle.der_core.specs.Document.{Excludes, SameByShortest};
 ghost use Rattle.pkcs1.specs.Keys.{PublicKey, PrivateKey};
 ghost use Rattle.pkcs1.specs.Keys as keys;
@@ -26,12 +26,12 @@ use crate::other_primes::OtherPrimes;
 use crate::private_key::RsaPrivateKey;
 use crate::public_key::RsaPublicKey;
 use crate::view::RsaPrivateKeyView;
-use der_core::{ErrorKind, Text, Uint, UintRef};
+use der_core::{Encoding, ErrorKind, Uint, UintRef};
 use pkcs1_params::{Error, RsaOaepParams, RsaPssParams};
 use spki_core::{Any, AnyRef};
 
 /// No encoding is empty or a proper prefix of another one of the same type, and each means one value.
-pub fn texts_are_delimited()
+pub fn lemma_encodings_are_delimited()
     ensures public { IsDelimited keys.RsaPublicKey }
     ensures private { IsDelimited keys.RsaPrivateKey }
     ensures pss { IsDelimited parameters.RsaPssParams }
@@ -40,18 +40,18 @@ pub fn texts_are_delimited()
 
 /// Each encoding of any type, borrowed or owned, means one value: so the value that `from_der` returns is the only one
 /// that the slice means.
-pub fn texts_mean_one<T: Text>()
-    ensures one { MeansOne T.text }
+pub fn lemma_encodings_mean_one<T: Encoding>()
+    ensures one { MeansOne T.encoding }
 {}
 
 /// A key has at most one encoding.
-pub fn keys_have_one_text()
+pub fn lemma_keys_have_one_encoding()
     ensures public { (key : PublicKey (List ℕ)) → AtMostOne (keys.RsaPublicKey key) }
     ensures private { (key : PrivateKey (List ℕ)) → AtMostOne (keys.RsaPrivateKey key) }
 {}
 
 /// No bytes encode both a public and a private key, or both a key and parameters.
-pub fn types_exclude_each_other()
+pub fn lemma_types_exclude_each_other()
     ensures keys { Excludes keys.RsaPublicKey keys.RsaPrivateKey }
     ensures public_pss { Excludes keys.RsaPublicKey parameters.RsaPssParams }
     ensures public_oaep { Excludes keys.RsaPublicKey parameters.RsaOaepParams }
@@ -60,26 +60,26 @@ pub fn types_exclude_each_other()
 {}
 
 /// Two encodings of keys mean the same key exactly if the shortest encodings of what they mean are the same bytes.
-pub fn same_keys_have_the_same_text()
+pub fn lemma_same_keys_have_the_same_encoding()
     ensures public { SameByShortest keys.RsaPublicKey }
     ensures private { SameByShortest keys.RsaPrivateKey }
 {}
 
 /// The borrowed and the owned form of a type share its grammar: so a clause of `Decode` or `Encode` at one of these
 /// types is about the grammar that the other laws here are about.
-pub fn forms_share_the_grammars()
-    ensures public { SameTexts ⟦<RsaPublicKey<UintRef<'static>> as Text>⟧.text keys.RsaPublicKey
-        × SameTexts ⟦<RsaPublicKey<Uint> as Text>⟧.text keys.RsaPublicKey }
-    ensures private { SameTexts ⟦<RsaPrivateKey<UintRef<'static>> as Text>⟧.text keys.RsaPrivateKey
-        × SameTexts ⟦<RsaPrivateKey<Uint> as Text>⟧.text keys.RsaPrivateKey }
-    ensures pss { SameTexts ⟦<RsaPssParams<AnyRef<'static>> as Text>⟧.text parameters.RsaPssParams
-        × SameTexts ⟦<RsaPssParams<Any> as Text>⟧.text parameters.RsaPssParams }
-    ensures oaep { SameTexts ⟦<RsaOaepParams<AnyRef<'static>> as Text>⟧.text parameters.RsaOaepParams
-        × SameTexts ⟦<RsaOaepParams<Any> as Text>⟧.text parameters.RsaOaepParams }
+pub fn lemma_forms_share_the_grammars()
+    ensures public { SameEncodings ⟦<RsaPublicKey<UintRef<'static>> as Encoding>⟧.encoding keys.RsaPublicKey
+        × SameEncodings ⟦<RsaPublicKey<Uint> as Encoding>⟧.encoding keys.RsaPublicKey }
+    ensures private { SameEncodings ⟦<RsaPrivateKey<UintRef<'static>> as Encoding>⟧.encoding keys.RsaPrivateKey
+        × SameEncodings ⟦<RsaPrivateKey<Uint> as Encoding>⟧.encoding keys.RsaPrivateKey }
+    ensures pss { SameEncodings ⟦<RsaPssParams<AnyRef<'static>> as Encoding>⟧.encoding parameters.RsaPssParams
+        × SameEncodings ⟦<RsaPssParams<Any> as Encoding>⟧.encoding parameters.RsaPssParams }
+    ensures oaep { SameEncodings ⟦<RsaOaepParams<AnyRef<'static>> as Encoding>⟧.encoding parameters.RsaOaepParams
+        × SameEncodings ⟦<RsaOaepParams<Any> as Encoding>⟧.encoding parameters.RsaOaepParams }
 {}
 
 /// Each error equals itself. By example, two variants differ, and so do two kinds in `Asn1`.
-pub fn errors_are_told_apart()
+pub fn lemma_errors_are_told_apart()
     ensures same { (e : errors.Error) → ⟦<Error as PartialEq>⟧.eq e e ≡ true }
     ensures error { ⟦<Error as PartialEq>⟧.eq Error.Version Error.Crypto ≡ false }
     ensures kind { let of_kind = λ (kind : kinds.ErrorKind). Error.Asn1 (record { kind = kind }) in
@@ -87,7 +87,7 @@ pub fn errors_are_told_apart()
 {}
 
 /// A clone of a borrowing type means the same as the original.
-pub fn clones_mean_the_same()
+pub fn lemma_clones_mean_the_same()
     ensures public { (a b : public_keys.RsaPublicKey numbers.UintRef)
         → ⟦<RsaPublicKey<UintRef<'static>> as Clone>⟧.is_clone a b → public_key_of b ≡ public_key_of a }
     ensures view { (a b : views.RsaPrivateKeyView)

@@ -1,6 +1,6 @@
 //! RSA keys and parameters of PKCS #1 (RFC 8017) in DER.
 //!
-//! An encoding is one whole DER encoding: tag, length and contents octets. Names in the code say `text`. A sentence is
+//! An encoding is one whole DER encoding: tag, length and contents octets. A sentence is
 //! an encoding of at most `der::Length::MAX` bytes that means a value.
 #![tactic(auto)]
 
@@ -21,14 +21,15 @@ pub use der_core as der;
 pub use der_core::{Uint, UintRef};
 pub use faults::{fault_of_private_key, fault_of_public_key};
 pub use laws::{
-    clones_mean_the_same, errors_are_told_apart, forms_share_the_grammars, keys_have_one_text,
-    same_keys_have_the_same_text, texts_are_delimited, texts_mean_one, types_exclude_each_other,
+    lemma_clones_mean_the_same, lemma_encodings_are_delimited, lemma_encodings_mean_one,
+    lemma_errors_are_told_apart, lemma_forms_share_the_grammars, lemma_keys_have_one_encoding,
+    lemma_same_keys_have_the_same_encoding, lemma_types_exclude_each_other,
 };
 pub use other_primes::OtherPrimes;
 pub use pkcs1_params::{
     DefaultSalt, Error, Result, RsaOaepParams, RsaOaepParamsOwned, RsaOaepParamsRef, RsaPssParams,
     RsaPssParamsOwned, RsaPssParamsRef, TrailerField, fault_of_oaep_params, fault_of_pss_params,
-    oaep_spellings, pss_spellings,
+    lemma_oaep_spellings, lemma_pss_spellings,
 };
 pub use private_key::other_prime_info::{OtherPrimeInfo, OtherPrimeInfos};
 pub use private_key::{PrivateKeyOf, RsaPrivateKey, RsaPrivateKeyOwned, RsaPrivateKeyRef};

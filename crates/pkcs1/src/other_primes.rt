@@ -6,14 +6,14 @@ ghost use Rattle.der_core.specs.Tag.{integer_tag, sequence_tag};
 ghost use Rattle.der_core.specs.Length.{limit};
 ghost use Rattle.der_core.specs.Integer.{Integer, IsCanonical, integer_contents};
 ghost use Rattle.der_core.specs.Laws.Integer.{integer_delimited};
-ghost use Rattle.der_core.specs.Laws.Texts.{joins_map};
+ghost use Rattle.der_core.specs.Laws.Encodings.{joins_map};
 ghost use Rattle.der_core.specs.Tlv.{tlv};
 ghost use Rattle.pkcs1.specs.Writing.{HasOther, written_other};
 ghost use Rattle.pkcs1.specs.Laws.PrivateKey.{other_delimited};
 ghost use Rattle.der_core.specs.Faults.{ItemsFault};
 ghost use Rattle.der_core.specs.Reading.{NoneIn, TellsOfBytes};
 ghost use Rattle.pkcs1.specs.KeyFaults.{OneOtherFault};
-ghost use Rattle.der_core.specs.SequenceOf.{ItemsContents, AllHave, all_texts};
+ghost use Rattle.der_core.specs.SequenceOf.{ItemsContents, AllHave, all_encodings};
 ghost use Rattle.der_core.specs.SliceReaders.{left_of};
 ghost use Rattle.der_core.specs.UintRefValue.{bytes_of};
 ghost use Rattle.pkcs1.specs.Keys as grammar;
@@ -48,9 +48,9 @@ fn read_other<'a, M: Memory>(
     memory: M,
     reader: &mut SliceReader<'a>,
 ) -> Result<OtherPrimeInfo<UintRef<'a>>>
-    ensures ok { IfOk result (λ other. (text : List ℕ) × (rest : List ℕ)
-        × (left_of reader.old ≡ Some (text ++ rest)) × (left_of reader.new ≡ Some rest)
-        × grammar.OtherPrimeInfo Integer (other_of bytes_of other) text) }
+    ensures ok { IfOk result (λ other. (encoding : List ℕ) × (rest : List ℕ)
+        × (left_of reader.old ≡ Some (encoding ++ rest)) × (left_of reader.new ≡ Some rest)
+        × grammar.OtherPrimeInfo Integer (other_of bytes_of other) encoding) }
     ensures err { IfErr result (λ e. (left : List ℕ) → left_of reader.old ≡ Some left
         → TellsOfBytes e.kind × NoneIn (grammar.OtherPrimeInfo Integer) left) }
     ensures exact { IfErr result (λ e. (left : List ℕ) → left_of reader.old ≡ Some left → OneOtherFault e.kind left) }
@@ -62,8 +62,8 @@ fn read_other<'a, M: Memory>(
 /// Decodes the first other prime, and returns it with the bytes after it.
 fn first_other<'a>(bytes: &'a [u8]) -> Result<(OtherPrimeInfo<UintRef<'a>>, &'a [u8])>
     requires { length bytes.now ≤ limit }
-    ensures ok { IfOk result (λ p. (text : List ℕ) × (bytes.now ≡ text ++ p.1.now)
-        × grammar.OtherPrimeInfo Integer (other_of bytes_of p.0) text) }
+    ensures ok { IfOk result (λ p. (encoding : List ℕ) × (bytes.now ≡ encoding ++ p.1.now)
+        × grammar.OtherPrimeInfo Integer (other_of bytes_of p.0) encoding) }
     ensures err { IfErr result (λ e. TellsOfBytes e.kind × NoneIn (grammar.OtherPrimeInfo Integer) bytes.now) }
 {
     let mut reader = SliceReader::new(bytes)?;
@@ -124,7 +124,7 @@ impl Contents for OtherPrimes<'_> {
 
     ghost has_contents = { AllHave (HasOther IsCanonical) };
 
-    ghost written_contents = { all_texts (λ other.
+    ghost written_contents = { all_encodings (λ other.
         tlv sequence_tag (written_other (λ number. tlv integer_tag (integer_contents number)) other)) };
 
     ghost means_one = { joins_map (grammar.OtherPrimeInfo Integer) (other_delimited integer_delimited) };

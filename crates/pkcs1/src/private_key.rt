@@ -9,16 +9,16 @@ ghost use Rattle.pkcs1.specs.Laws.PrivateKey.{private_means_one, private_of_byte
 ghost use Rattle.pkcs1.specs.PublicKeyValue.{public_key_of};
 ghost use Rattle.pkcs1.specs.PrivateKeyValue.{private_key_with, public_in, ListsNone};
 
+mod der;
 pub(crate) mod other_prime_info;
-mod whole;
 
 use crate::key_numbers::{clone_four, read_key_numbers};
 use crate::public_key::{RsaPublicKey, RsaPublicKeyRef};
 use crate::version::Version;
 use der_core::{
-    AsUintRef, BackWriter, Borrowed, Contents, Decode, DecodeValue, Encode, EncodeValue, ErrorKind,
-    Header, Length, Reader, Result, Sequence, SequenceTag, Tag, TaggedBy, Text, TryClone, Uint,
-    UintRef, Writer, encode_texts, joined_len, prepend_texts, texts_len,
+    AsUintRef, BackWriter, Borrowed, Contents, Decode, DecodeValue, Encode, EncodeValue, Encoding,
+    ErrorKind, Header, Length, Reader, Result, Sequence, SequenceTag, Tag, TaggedBy, TryClone,
+    Uint, UintRef, Writer, encode_items, items_len, joined_len, prepend_items,
 };
 use other_prime_info::{
     OtherPrimeInfos, clone_other_primes, encode_other_primes, lists_none, other_primes_len,
@@ -111,7 +111,7 @@ impl<U: AsUintRef> RsaPrivateKey<U> {
     }
 }
 
-impl<U: Text> RsaPrivateKey<U> {
+impl<U: Encoding> RsaPrivateKey<U> {
     /// The eight numbers, in the order of the encoding.
     fn numbers(&self) -> [Borrowed<'_, U>; 8]
         ensures { map (λ n. U.value n.0.now) result ≡ key_numbers (private_key_with U.value self.now) }
@@ -138,20 +138,20 @@ impl<'a, U: AsUintRef> From<&'a RsaPrivateKey<U>> for RsaPublicKey<UintRef<'a>> 
     }
 }
 
-impl<U: Text> Contents for RsaPrivateKey<U> {
+impl<U: Encoding> Contents for RsaPrivateKey<U> {
     ghost Value = { PrivateKey U.Value };
 
     ghost value = { private_key_with U.value };
 
-    ghost contents = { PrivateKeyContents U.text };
+    ghost contents = { PrivateKeyContents U.encoding };
 
-    ghost has_contents = { HasPrivateKey U.has_text };
+    ghost has_contents = { HasPrivateKey U.has_encoding };
 
-    ghost written_contents = { written_private_key U.written_text };
+    ghost written_contents = { written_private_key U.written_encoding };
 
     ghost means_one = { private_means_one U.delimited };
 
-    ghost contents_of_bytes = { private_of_bytes U.text U.text_of_bytes };
+    ghost contents_of_bytes = { private_of_bytes U.encoding U.encoding_of_bytes };
 }
 
 impl<U, O> TaggedBy for PrivateKeyOf<U, O> {
@@ -166,9 +166,9 @@ impl<'a, U: Decode<&'a [u8], Global>> DecodeValue<&'a [u8], Global> for RsaPriva
     ghost use Rattle.pkcs1.specs.KeyFaults.{PrivateKeyFault};
     ghost use Rattle.pkcs1.specs.Laws.KeyFaults.{private_key_fault_none, private_key_fault_first};
 
-    ghost may_allocate = { AllocatesForKey U.text U.Decode.may_allocate };
+    ghost may_allocate = { AllocatesForKey U.encoding U.Decode.may_allocate };
 
-    ghost fault = { PrivateKeyFault U.text U.Decode.fault };
+    ghost fault = { PrivateKeyFault U.encoding U.Decode.fault };
 
     fn decode_value<R: Reader<&'a [u8]>>(
         memory: Global,
@@ -181,16 +181,16 @@ impl<'a, U: Decode<&'a [u8], Global>> DecodeValue<&'a [u8], Global> for RsaPriva
         Ok(key)
     }
 
-    ghost fault_none = { private_key_fault_none U.text U.Decode.fault U.delimited U.Decode.fault_none };
+    ghost fault_none = { private_key_fault_none U.encoding U.Decode.fault U.delimited U.Decode.fault_none };
 
     ghost fault_first = { let none = U.Decode.fault_none in
-        private_key_fault_first U.text U.Decode.fault U.delimited none U.Decode.fault_first };
+        private_key_fault_first U.encoding U.Decode.fault U.delimited none U.Decode.fault_first };
 }
 
 impl<U: Encode> EncodeValue for RsaPrivateKey<U> {
     fn value_len(&self) -> Result<Length>
         ensures counts { let key = private_key_with U.value self.now in
-            Counts (HasPrivateKey U.has_text key) (written_private_key U.written_text key) result }
+            Counts (HasPrivateKey U.has_encoding key) (written_private_key U.written_encoding key) result }
         ensures no_primes { ListsNone self.now.other_prime_infos
             → IsErrAnd result (λ e. e.kind ≡ ErrorKind.Value sequence) }
     {
@@ -200,33 +200,33 @@ impl<U: Encode> EncodeValue for RsaPrivateKey<U> {
         let others = other_primes_len(&self.other_prime_infos);
         joined_len(
             self.version().encoded_len(),
-            joined_len(texts_len(&self.numbers()), others),
+            joined_len(items_len(&self.numbers()), others),
         )
     }
 
     fn encode_value<W: Writer>(&self, writer: &mut W) -> Result<()>
         ensures appends { let key = private_key_with U.value self.now in
-            let octets = written_private_key U.written_text key in
-            Appends (HasPrivateKey U.has_text key) octets W.room W.written writer.old writer.new result }
+            let octets = written_private_key U.written_encoding key in
+            Appends (HasPrivateKey U.has_encoding key) octets W.room W.written writer.old writer.new result }
         ensures kept { W.keeps writer.old writer.new }
         ensures no_primes { ListsNone self.now.other_prime_infos
             → IsErrAnd result (λ e. e.kind ≡ ErrorKind.Value sequence) }
     {
         self.value_len()?;
         self.version().encode(writer)?;
-        encode_texts(&self.numbers(), writer)?;
+        encode_items(&self.numbers(), writer)?;
         encode_other_primes(&self.other_prime_infos, writer)
     }
 
     fn prepend_value(&self, writer: &mut BackWriter<'_>) {
         prepend_other_primes(&self.other_prime_infos, writer);
-        prepend_texts(&self.numbers(), writer);
+        prepend_items(&self.numbers(), writer);
         self.version().prepend(writer);
     }
 
-    ghost contents_relate = { private_relates U.text U.has_text U.written_text U.text_relates };
+    ghost contents_relate = { private_relates U.encoding U.has_encoding U.written_encoding U.encoding_relates };
 
-    ghost contents_shortest = { private_shortest U.text U.has_text U.written_text U.text_shortest };
+    ghost contents_shortest = { private_shortest U.encoding U.has_encoding U.written_encoding U.encoding_shortest };
 }
 
 impl<U: TryClone> TryClone for RsaPrivateKey<U> {

@@ -6,12 +6,13 @@ ghost use Rattle.pkcs1.specs.KeyFaults.{PublicKeyFault};
 ghost use Rattle.pkcs1.specs.Laws.KeyFaults.{public_key_fault_none, public_key_fault_first};
 ghost use Rattle.pkcs1.specs.Writing.{HasPublicKey, written_public_key};
 ghost use Rattle.pkcs1.specs.PublicKeyValue.{public_key_with, public_key_of};
-ghost use Rattle.pkcs1.specs.Laws.PublicKey.{public_key_means_one, public_key_of_bytes, public_key_relates, public_key_shortest};
+ghost use Rattle.pkcs1.specs.Laws.PublicKey.{public_key_means_one, public_key_of_bytes, public_key_relates};
+ghost use Rattle.pkcs1.specs.Laws.PublicKey.{public_key_shortest};
 
 use der_core::{
-    AsUintRef, BackWriter, Contents, Decode, DecodeValue, Encode, EncodeValue, EqualByValue,
-    Header, Length, Memory, NoMemory, Reader, Sequence, SequenceTag, TaggedBy, Text, TryClone,
-    Uint, UintRef, Writer, joined_len,
+    AsUintRef, BackWriter, Contents, Decode, DecodeValue, Encode, EncodeValue, Encoding,
+    EqualByValue, Header, Length, Memory, NoMemory, Reader, Sequence, SequenceTag, TaggedBy,
+    TryClone, Uint, UintRef, Writer, joined_len,
 };
 use pkcs1_params::{Error, Result};
 use std::alloc::Global;
@@ -38,20 +39,20 @@ pub type RsaPublicKeyRef<'a> = RsaPublicKey<UintRef<'a>>;
 /// A public key that owns its numbers.
 pub type RsaPublicKeyOwned = RsaPublicKey<Uint>;
 
-impl<U: Text> Contents for RsaPublicKey<U> {
+impl<U: Encoding> Contents for RsaPublicKey<U> {
     ghost Value = { PublicKey U.Value };
 
     ghost value = { public_key_with U.value };
 
-    ghost contents = { PublicKeyContents U.text };
+    ghost contents = { PublicKeyContents U.encoding };
 
-    ghost has_contents = { HasPublicKey U.has_text };
+    ghost has_contents = { HasPublicKey U.has_encoding };
 
-    ghost written_contents = { written_public_key U.written_text };
+    ghost written_contents = { written_public_key U.written_encoding };
 
-    ghost means_one = { public_key_means_one U.text U.delimited };
+    ghost means_one = { public_key_means_one U.encoding U.delimited };
 
-    ghost contents_of_bytes = { public_key_of_bytes U.text U.text_of_bytes };
+    ghost contents_of_bytes = { public_key_of_bytes U.encoding U.encoding_of_bytes };
 }
 
 impl<U> TaggedBy for RsaPublicKey<U> {
@@ -65,7 +66,7 @@ impl<'a, U> Sequence<'a> for RsaPublicKey<U> {
 impl<'a, M: Memory, U: Decode<&'a [u8], M>> DecodeValue<&'a [u8], M> for RsaPublicKey<U> {
     ghost may_allocate = { AllocatesWithin U.Decode.may_allocate };
 
-    ghost fault = { PublicKeyFault U.text U.Decode.fault };
+    ghost fault = { PublicKeyFault U.encoding U.Decode.fault };
 
     fn decode_value<R: Reader<&'a [u8]>>(
         memory: M,
@@ -81,10 +82,10 @@ impl<'a, M: Memory, U: Decode<&'a [u8], M>> DecodeValue<&'a [u8], M> for RsaPubl
         })
     }
 
-    ghost fault_none = { public_key_fault_none U.text U.Decode.fault U.delimited U.Decode.fault_none };
+    ghost fault_none = { public_key_fault_none U.encoding U.Decode.fault U.delimited U.Decode.fault_none };
 
     ghost fault_first = { let none = U.Decode.fault_none in
-        public_key_fault_first U.text U.Decode.fault U.delimited none U.Decode.fault_first };
+        public_key_fault_first U.encoding U.Decode.fault U.delimited none U.Decode.fault_first };
 }
 
 impl<U: Encode> EncodeValue for RsaPublicKey<U> {
@@ -106,9 +107,9 @@ impl<U: Encode> EncodeValue for RsaPublicKey<U> {
         self.modulus.prepend(writer);
     }
 
-    ghost contents_relate = { public_key_relates U.text U.has_text U.written_text U.text_relates };
+    ghost contents_relate = { public_key_relates U.encoding U.has_encoding U.written_encoding U.encoding_relates };
 
-    ghost contents_shortest = { public_key_shortest U.text U.has_text U.written_text U.text_shortest };
+    ghost contents_shortest = { public_key_shortest U.encoding U.has_encoding U.written_encoding U.encoding_shortest };
 }
 
 impl<U: EqualByValue> EqualByValue for RsaPublicKey<U> {
@@ -137,7 +138,7 @@ impl<'a> TryFrom<&'a [u8]> for RsaPublicKey<UintRef<'a>> {
     ghost use Rattle.der_core.specs.Document.{Means};
     ghost use Rattle.pkcs1_params.specs.Meanings.{IsNoSentence, IsOnlyMeaning};
     ghost use Rattle.pkcs1.specs.Keys as grammar;
-    ghost use Rattle.pkcs1_params.specs.Refusals.{IsAsn1};
+    ghost use Rattle.pkcs1_params.specs.Errors.{IsAsn1};
 
     type Error = Error;
 
@@ -157,8 +158,8 @@ impl<'a> TryFrom<&'a [u8]> for RsaPublicKey<UintRef<'a>> {
 
 impl<U: AsUintRef> RsaPublicKey<U> {
     ghost use Rattle.std.specs.Prelude.{◌≡◌, ◌≤◌, length, take, drop, IfOk, IfErr, OnErr};
-    ghost use Rattle.pkcs1.specs.KeyTexts.{IsOnlyText};
-    ghost use Rattle.pkcs1_params.specs.Meanings.{IsNotWritten};
+    ghost use Rattle.pkcs1.specs.KeyEncodings.{IsOnlyEncoding};
+    ghost use Rattle.pkcs1_params.specs.Meanings.{IsWritingError};
     ghost use Rattle.pkcs1.specs.Keys as grammar;
 
     /// The same key, borrowed.
@@ -175,12 +176,12 @@ impl<U: AsUintRef> RsaPublicKey<U> {
     /// contract is stated over the grammar of public keys. Returns `Overflow` if the encoding is longer than
     /// `Length::MAX`, `NoRoom` if it is longer than the slice.
     pub fn encode_key(&self, out: &mut [u8]) -> Result<usize>
-        ensures text { let key = public_key_with U.number self.now in
-            IfOk result (λ n. IsOnlyText grammar.RsaPublicKey key (take n out.new)) }
+        ensures encoding { let key = public_key_with U.number self.now in
+            IfOk result (λ n. IsOnlyEncoding grammar.RsaPublicKey key (take n out.new)) }
         ensures rest { IfOk result (λ n. (n ≤ length out.new) × (drop n out.new ≡ drop n out.old)) }
         ensures unchanged { OnErr result (out.new ≡ out.old) }
         ensures err { let key = public_key_with U.number self.now in
-            IfErr result (IsNotWritten grammar.RsaPublicKey key (length out.old)) }
+            IfErr result (IsWritingError grammar.RsaPublicKey key (length out.old)) }
     {
         Ok(self.as_key_ref().encode_into(out)?)
     }

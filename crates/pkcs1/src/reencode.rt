@@ -3,11 +3,11 @@ ghost use Rattle.std.specs.Prelude.{◌≡◌, ◌⊎◌, IfOk, IfErr, IsErrAnd}
 ghost use Rattle.der_core.specs.Faults.{Faulty};
 ghost use Rattle.der_core.specs.declared.error.ErrorKind as der;
 ghost use Rattle.pkcs1.specs.KeyFaults.{RsaPublicKeyFault, RsaPrivateKeyFault};
-ghost use Rattle.pkcs1_params.specs.Refusals.{IsAsn1};
-ghost use Rattle.der_core.specs.DocumentValue.{text_of};
+ghost use Rattle.pkcs1_params.specs.Errors.{IsAsn1};
+ghost use Rattle.der_core.specs.DocumentValue.{encoding_of};
 ghost use Rattle.pkcs1.specs.Allocating.{OwnedKeyAllocates, OwnedPublicKeyAllocates};
 ghost use Rattle.pkcs1.specs.Keys as grammar;
-ghost use Rattle.pkcs1.specs.KeyTexts.{IsSentence, IsUnread};
+ghost use Rattle.pkcs1.specs.KeyEncodings.{IsSentence, IsReadingError};
 
 use crate::private_key::RsaPrivateKeyOwned;
 use crate::public_key::RsaPublicKeyOwned;
@@ -21,9 +21,9 @@ use std::alloc::Global;
 /// Decodes a public key from the whole slice and encodes it again, which gives the same bytes. The errors are those of
 /// `from_pkcs1_der`, and `OutOfMemory` for the document.
 pub fn reencode_public_key(alloc: Global, bytes: &[u8]) -> Result<Document>
-    ensures same { IfOk result (λ document. text_of document ≡ bytes.now) }
+    ensures same { IfOk result (λ document. encoding_of document ≡ bytes.now) }
     ensures sentence { IfOk result (λ document. IsSentence grammar.RsaPublicKey bytes.now) }
-    ensures err { IfErr result (IsUnread grammar.RsaPublicKey bytes.now
+    ensures err { IfErr result (IsReadingError grammar.RsaPublicKey bytes.now
         (OwnedPublicKeyAllocates bytes.now ⊎ IsSentence grammar.RsaPublicKey bytes.now)) }
     ensures exact { let b = bytes.now in
         let asked = OwnedPublicKeyAllocates b ⊎ IsSentence grammar.RsaPublicKey b in
@@ -37,9 +37,9 @@ pub fn reencode_public_key(alloc: Global, bytes: &[u8]) -> Result<Document>
 /// Decodes a private key from the whole slice and encodes it again, which gives the same bytes. The errors are those of
 /// `from_pkcs1_der`, and `OutOfMemory` for the document.
 pub fn reencode_private_key(alloc: Global, bytes: &[u8]) -> Result<SecretDocument>
-    ensures same { IfOk result (λ document. text_of document ≡ bytes.now) }
+    ensures same { IfOk result (λ document. encoding_of document ≡ bytes.now) }
     ensures sentence { IfOk result (λ document. IsSentence grammar.RsaPrivateKey bytes.now) }
-    ensures err { IfErr result (IsUnread grammar.RsaPrivateKey bytes.now
+    ensures err { IfErr result (IsReadingError grammar.RsaPrivateKey bytes.now
         (OwnedKeyAllocates bytes.now ⊎ IsSentence grammar.RsaPrivateKey bytes.now)) }
     ensures exact { let b = bytes.now in
         let asked = OwnedKeyAllocates b ⊎ IsSentence grammar.RsaPrivateKey b in

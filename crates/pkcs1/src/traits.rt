@@ -2,9 +2,9 @@
 ghost use Rattle.std.specs.Prelude.{◌≡◌, ◌⊎◌, List, ℕ, IfOk, IfErr, OnOk, IsErrAnd};
 ghost use Rattle.der_core.specs.Carrying.{FileFault};
 ghost use Rattle.der_core.specs.Document.{IsDocument, Means};
-ghost use Rattle.der_core.specs.DocumentValue.{text_of};
+ghost use Rattle.der_core.specs.DocumentValue.{encoding_of};
 ghost use Rattle.der_core.specs.Faults.{Faulty};
-ghost use Rattle.der_core.specs.Refusal.{IsFile};
+ghost use Rattle.der_core.specs.ErrorKinds.{IsFile};
 ghost use Rattle.der_core.specs.declared.error.ErrorKind as der;
 ghost use Rattle.der_core.specs.Tags.{sequence};
 ghost use Rattle.der_core.specs.UintRefValue.{bytes_of};
@@ -12,11 +12,11 @@ ghost use Rattle.der_core.specs.UintValue.{own_bytes_of};
 ghost use Rattle.pkcs1.specs.Allocating.{OwnedKeyAllocates, OwnedPublicKeyAllocates};
 ghost use Rattle.pkcs1.specs.KeyFaults.{RsaPrivateKeyFault, RsaPublicKeyFault};
 ghost use Rattle.pkcs1.specs.Keys as grammar;
-ghost use Rattle.pkcs1.specs.KeyTexts.{IsNotMade, IsOnlyText, IsUnread};
+ghost use Rattle.pkcs1.specs.KeyEncodings.{IsDocumentError, IsOnlyEncoding, IsReadingError};
 ghost use Rattle.pkcs1_params.specs.Meanings.{IsOnlyMeaning};
 ghost use Rattle.pkcs1.specs.PrivateKeyValue.{private_key_with, ListsNone};
 ghost use Rattle.pkcs1.specs.PublicKeyValue.{public_key_with};
-ghost use Rattle.pkcs1_params.specs.Refusals.{IsAsn1};
+ghost use Rattle.pkcs1_params.specs.Errors.{IsAsn1};
 ghost use Rattle.pkcs1_params.specs.declared.error.Error.{Error};
 
 use crate::private_key::RsaPrivateKey;
@@ -28,25 +28,26 @@ use std::path::Path;
 use std::rt::Files;
 
 /// A private key that can be decoded from its PKCS #1 encoding (RFC 8017 A.1.2). A caller's own type says by
-/// `stands_for` how a key relates to the bytes that it was read from, and by `refused_by` which bytes an error rejects.
+/// `stands_for` how a key relates to the bytes that it was read from, and by `rejected_by` which bytes an error
+/// rejects.
 pub trait DecodeRsaPrivateKey: Sized + Drop {
     /// The key was read from these bytes.
     ghost stands_for: { Self → List ℕ → Type 0 };
 
     /// These bytes are rejected with this error.
-    ghost refused_by: { List ℕ → Error → Type 0 };
+    ghost rejected_by: { List ℕ → Error → Type 0 };
 
     /// Decodes a key from the whole slice.
     fn from_pkcs1_der(alloc: Global, bytes: &[u8]) -> Result<Self>
         ensures read { IfOk result (λ key. stands_for key bytes.now) }
-        ensures refused { IfErr result (λ e. refused_by bytes.now e) };
+        ensures rejected { IfErr result (λ e. rejected_by bytes.now e) };
 
     /// Reads the document that a file holds, and calls `from_pkcs1_der` on its bytes. Returns `File` if the file can't
     /// be opened or read, `Overflow` if it has more bytes than `Length::MAX`.
     fn read_pkcs1_der_file<Rt: Files>(rt: &Rt, alloc: Global, path: Path<'_>) -> Result<Self>
         ensures read { IfOk result (λ key. (bytes : List ℕ) × IsDocument bytes × stands_for key bytes) }
-        ensures refused { IfErr result (λ e. IsAsn1 (λ file. FileFault file.kind) e
-            ⊎ ((bytes : List ℕ) × IsDocument bytes × refused_by bytes e)) }
+        ensures rejected { IfErr result (λ e. IsAsn1 (λ file. FileFault file.kind) e
+            ⊎ ((bytes : List ℕ) × IsDocument bytes × rejected_by bytes e)) }
     {
         let document = SecretDocument::read_der_file(rt, alloc, path)?;
         Self::from_pkcs1_der(alloc, document.as_bytes())
@@ -54,25 +55,26 @@ pub trait DecodeRsaPrivateKey: Sized + Drop {
 }
 
 /// A public key that can be decoded from its PKCS #1 encoding (RFC 8017 A.1.1). A caller's own type says by
-/// `stands_for` how a key relates to the bytes that it was read from, and by `refused_by` which bytes an error rejects.
+/// `stands_for` how a key relates to the bytes that it was read from, and by `rejected_by` which bytes an error
+/// rejects.
 pub trait DecodeRsaPublicKey: Sized + Drop {
     /// The key was read from these bytes.
     ghost stands_for: { Self → List ℕ → Type 0 };
 
     /// These bytes are rejected with this error.
-    ghost refused_by: { List ℕ → Error → Type 0 };
+    ghost rejected_by: { List ℕ → Error → Type 0 };
 
     /// Decodes a key from the whole slice.
     fn from_pkcs1_der(alloc: Global, bytes: &[u8]) -> Result<Self>
         ensures read { IfOk result (λ key. stands_for key bytes.now) }
-        ensures refused { IfErr result (λ e. refused_by bytes.now e) };
+        ensures rejected { IfErr result (λ e. rejected_by bytes.now e) };
 
     /// Reads the document that a file holds, and calls `from_pkcs1_der` on its bytes. Returns `File` if the file can't
     /// be opened or read, `Overflow` if it has more bytes than `Length::MAX`.
     fn read_pkcs1_der_file<Rt: Files>(rt: &Rt, alloc: Global, path: Path<'_>) -> Result<Self>
         ensures read { IfOk result (λ key. (bytes : List ℕ) × IsDocument bytes × stands_for key bytes) }
-        ensures refused { IfErr result (λ e. IsAsn1 (λ file. FileFault file.kind) e
-            ⊎ ((bytes : List ℕ) × IsDocument bytes × refused_by bytes e)) }
+        ensures rejected { IfErr result (λ e. IsAsn1 (λ file. FileFault file.kind) e
+            ⊎ ((bytes : List ℕ) × IsDocument bytes × rejected_by bytes e)) }
     {
         let document = Document::read_der_file(rt, alloc, path)?;
         Self::from_pkcs1_der(alloc, document.as_bytes())
@@ -90,15 +92,15 @@ pub trait EncodeRsaPrivateKey {
 
     /// Returns the encoding of the key.
     fn to_pkcs1_der(&self, alloc: Global) -> Result<SecretDocument>
-        ensures written { IfOk result (λ document. written_as self.now (text_of document)) }
-        ensures refused { IfErr result (λ e. unwritten_by self.now e) };
+        ensures written { IfOk result (λ document. written_as self.now (encoding_of document)) }
+        ensures rejected { IfErr result (λ e. unwritten_by self.now e) };
 
     /// Writes the encoding of the key to a file. The key is encoded before the file is created or truncated, so a key
     /// that can't be encoded leaves an old file as it was; a failed write may leave a beginning. Returns `File` if the
     /// file can't be created or written.
     fn write_pkcs1_der_file<Rt: Files>(&self, rt: &Rt, alloc: Global, path: Path<'_>) -> Result<()>
         ensures written { OnOk result ((bytes : List ℕ) × IsDocument bytes × written_as self.now bytes) }
-        ensures refused { IfErr result (λ e. IsAsn1 IsFile e ⊎ unwritten_by self.now e) }
+        ensures rejected { IfErr result (λ e. IsAsn1 IsFile e ⊎ unwritten_by self.now e) }
     {
         let secret = self.to_pkcs1_der(alloc)?;
         Ok(secret.write_der_file(rt, path)?)
@@ -116,15 +118,15 @@ pub trait EncodeRsaPublicKey {
 
     /// Returns the encoding of the key.
     fn to_pkcs1_der(&self, alloc: Global) -> Result<Document>
-        ensures written { IfOk result (λ document. written_as self.now (text_of document)) }
-        ensures refused { IfErr result (λ e. unwritten_by self.now e) };
+        ensures written { IfOk result (λ document. written_as self.now (encoding_of document)) }
+        ensures rejected { IfErr result (λ e. unwritten_by self.now e) };
 
     /// Writes the encoding of the key to a file. The key is encoded before the file is created or truncated, so a key
     /// that can't be encoded leaves an old file as it was; a failed write may leave a beginning. Returns `File` if the
     /// file can't be created or written.
     fn write_pkcs1_der_file<Rt: Files>(&self, rt: &Rt, alloc: Global, path: Path<'_>) -> Result<()>
         ensures written { OnOk result ((bytes : List ℕ) × IsDocument bytes × written_as self.now bytes) }
-        ensures refused { IfErr result (λ e. IsAsn1 IsFile e ⊎ unwritten_by self.now e) }
+        ensures rejected { IfErr result (λ e. IsAsn1 IsFile e ⊎ unwritten_by self.now e) }
     {
         let document = self.to_pkcs1_der(alloc)?;
         Ok(document.write_der_file(rt, path)?)
@@ -134,34 +136,34 @@ pub trait EncodeRsaPublicKey {
 impl DecodeRsaPrivateKey for RsaPrivateKey<Uint> {
     ghost stands_for = { λ key bytes. Means grammar.RsaPrivateKey bytes (private_key_with own_bytes_of key) };
 
-    ghost refused_by = { λ bytes e.
+    ghost rejected_by = { λ bytes e.
         IsAsn1 (λ asn1. Faulty asn1.kind (OwnedKeyAllocates bytes) (RsaPrivateKeyFault asn1.kind bytes)) e };
 
     fn from_pkcs1_der(alloc: Global, bytes: &[u8]) -> Result<RsaPrivateKey<Uint>>
         ensures ok { IfOk result (λ key. Means grammar.RsaPrivateKey bytes.now (private_key_with own_bytes_of key)) }
         ensures one { let is_only = IsOnlyMeaning grammar.RsaPrivateKey bytes.now in
             IfOk result (λ key. is_only (private_key_with own_bytes_of key)) }
-        ensures err { IfErr result (IsUnread grammar.RsaPrivateKey bytes.now (OwnedKeyAllocates bytes.now)) }
+        ensures err { IfErr result (IsReadingError grammar.RsaPrivateKey bytes.now (OwnedKeyAllocates bytes.now)) }
         ensures exact { let b = bytes.now in
             IfErr result (IsAsn1 (λ e. Faulty e.kind (OwnedKeyAllocates b) (RsaPrivateKeyFault e.kind b))) }
         ensures only { let b = bytes.now in (kind : der.ErrorKind) → RsaPrivateKeyFault kind b
             → IsErrAnd result (IsAsn1 (λ e. Faulty e.kind (OwnedKeyAllocates b) (e.kind ≡ kind))) }
     {
-        RsaPrivateKey::<Uint>::decode_key(alloc, bytes)
+        RsaPrivateKey::<Uint>::decode_owned_key(alloc, bytes)
     }
 }
 
 impl DecodeRsaPublicKey for RsaPublicKey<Uint> {
     ghost stands_for = { λ key bytes. Means grammar.RsaPublicKey bytes (public_key_with own_bytes_of key) };
 
-    ghost refused_by = { λ bytes e.
+    ghost rejected_by = { λ bytes e.
         IsAsn1 (λ asn1. Faulty asn1.kind (OwnedPublicKeyAllocates bytes) (RsaPublicKeyFault asn1.kind bytes)) e };
 
     fn from_pkcs1_der(alloc: Global, bytes: &[u8]) -> Result<RsaPublicKey<Uint>>
         ensures ok { IfOk result (λ key. Means grammar.RsaPublicKey bytes.now (public_key_with own_bytes_of key)) }
         ensures one { let is_only = IsOnlyMeaning grammar.RsaPublicKey bytes.now in
             IfOk result (λ key. is_only (public_key_with own_bytes_of key)) }
-        ensures err { IfErr result (IsUnread grammar.RsaPublicKey bytes.now (OwnedPublicKeyAllocates bytes.now)) }
+        ensures err { IfErr result (IsReadingError grammar.RsaPublicKey bytes.now (OwnedPublicKeyAllocates bytes.now)) }
         ensures exact { let b = bytes.now in
             IfErr result (IsAsn1 (λ e. Faulty e.kind (OwnedPublicKeyAllocates b) (RsaPublicKeyFault e.kind b))) }
         ensures only { let b = bytes.now in (kind : der.ErrorKind) → RsaPublicKeyFault kind b
@@ -172,14 +174,14 @@ impl DecodeRsaPublicKey for RsaPublicKey<Uint> {
 }
 
 impl<'a> EncodeRsaPrivateKey for RsaPrivateKey<UintRef<'a>> {
-    ghost written_as = { λ key bytes. IsOnlyText grammar.RsaPrivateKey (private_key_with bytes_of key) bytes };
+    ghost written_as = { λ key bytes. IsOnlyEncoding grammar.RsaPrivateKey (private_key_with bytes_of key) bytes };
 
-    ghost unwritten_by = { λ key. IsNotMade grammar.RsaPrivateKey (private_key_with bytes_of key) };
+    ghost unwritten_by = { λ key. IsDocumentError grammar.RsaPrivateKey (private_key_with bytes_of key) };
 
     fn to_pkcs1_der(&self, alloc: Global) -> Result<SecretDocument>
-        ensures text { IfOk result (λ document.
-            IsOnlyText grammar.RsaPrivateKey (private_key_with bytes_of self.now) (text_of document)) }
-        ensures err { IfErr result (IsNotMade grammar.RsaPrivateKey (private_key_with bytes_of self.now)) }
+        ensures encoding { IfOk result (λ document.
+            IsOnlyEncoding grammar.RsaPrivateKey (private_key_with bytes_of self.now) (encoding_of document)) }
+        ensures err { IfErr result (IsDocumentError grammar.RsaPrivateKey (private_key_with bytes_of self.now)) }
         ensures no_primes { ListsNone self.now.other_prime_infos
             → IsErrAnd result (IsAsn1 (λ e. e.kind ≡ ErrorKind.Value sequence)) }
     {
@@ -188,14 +190,14 @@ impl<'a> EncodeRsaPrivateKey for RsaPrivateKey<UintRef<'a>> {
 }
 
 impl EncodeRsaPrivateKey for RsaPrivateKey<Uint> {
-    ghost written_as = { λ key bytes. IsOnlyText grammar.RsaPrivateKey (private_key_with own_bytes_of key) bytes };
+    ghost written_as = { λ key bytes. IsOnlyEncoding grammar.RsaPrivateKey (private_key_with own_bytes_of key) bytes };
 
-    ghost unwritten_by = { λ key. IsNotMade grammar.RsaPrivateKey (private_key_with own_bytes_of key) };
+    ghost unwritten_by = { λ key. IsDocumentError grammar.RsaPrivateKey (private_key_with own_bytes_of key) };
 
     fn to_pkcs1_der(&self, alloc: Global) -> Result<SecretDocument>
-        ensures text { IfOk result (λ document.
-            IsOnlyText grammar.RsaPrivateKey (private_key_with own_bytes_of self.now) (text_of document)) }
-        ensures err { IfErr result (IsNotMade grammar.RsaPrivateKey (private_key_with own_bytes_of self.now)) }
+        ensures encoding { IfOk result (λ document.
+            IsOnlyEncoding grammar.RsaPrivateKey (private_key_with own_bytes_of self.now) (encoding_of document)) }
+        ensures err { IfErr result (IsDocumentError grammar.RsaPrivateKey (private_key_with own_bytes_of self.now)) }
         ensures no_primes { ListsNone self.now.other_prime_infos
             → IsErrAnd result (IsAsn1 (λ e. e.kind ≡ ErrorKind.Value sequence)) }
     {
@@ -204,14 +206,14 @@ impl EncodeRsaPrivateKey for RsaPrivateKey<Uint> {
 }
 
 impl<U: AsUintRef> EncodeRsaPublicKey for RsaPublicKey<U> {
-    ghost written_as = { λ key bytes. IsOnlyText grammar.RsaPublicKey (public_key_with U.number key) bytes };
+    ghost written_as = { λ key bytes. IsOnlyEncoding grammar.RsaPublicKey (public_key_with U.number key) bytes };
 
-    ghost unwritten_by = { λ key. IsNotMade grammar.RsaPublicKey (public_key_with U.number key) };
+    ghost unwritten_by = { λ key. IsDocumentError grammar.RsaPublicKey (public_key_with U.number key) };
 
     fn to_pkcs1_der(&self, alloc: Global) -> Result<Document>
-        ensures text { IfOk result (λ document.
-            IsOnlyText grammar.RsaPublicKey (public_key_with U.number self.now) (text_of document)) }
-        ensures err { IfErr result (IsNotMade grammar.RsaPublicKey (public_key_with U.number self.now)) }
+        ensures encoding { IfOk result (λ document.
+            IsOnlyEncoding grammar.RsaPublicKey (public_key_with U.number self.now) (encoding_of document)) }
+        ensures err { IfErr result (IsDocumentError grammar.RsaPublicKey (public_key_with U.number self.now)) }
     {
         Ok(Document::encode_msg(alloc, &self.as_key_ref())?)
     }

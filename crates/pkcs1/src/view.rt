@@ -17,9 +17,9 @@ ghost use Rattle.pkcs1.specs.OtherPrimesHeld.{keys_are_bytes};
 ghost use Rattle.pkcs1.specs.PrivateKeyValue.{key_with};
 ghost use Rattle.pkcs1.specs.Versions.{number_of};
 ghost use Rattle.pkcs1.specs.PublicKeyValue.{public_key_of};
-ghost use Rattle.pkcs1.specs.ViewParts.{view_of, viewed_text, listed_others};
+ghost use Rattle.pkcs1.specs.ViewParts.{view_of, viewed_encoding, listed_others};
 ghost use Rattle.pkcs1_params.specs.Meanings.{IsNoSentence, IsOnlyMeaning};
-ghost use Rattle.pkcs1_params.specs.Refusals.{IsAsn1};
+ghost use Rattle.pkcs1_params.specs.Errors.{IsAsn1};
 ghost use Rattle.der_core.specs.Document.{Means};
 ghost use Rattle.der_core.specs.UintRefValue.{bytes_of};
 ghost use Rattle.pkcs1.specs.Writing.{HasPrivateKey, written_private_key};
@@ -203,7 +203,7 @@ impl<'a> RsaPrivateKeyView<'a> {
 
     /// The whole encoding: the slice that was read.
     pub fn as_bytes(&self) -> &'a [u8]
-        ensures { result.now ≡ viewed_text self.now }
+        ensures { result.now ≡ viewed_encoding self.now }
     {
         self.bytes
     }
@@ -217,7 +217,7 @@ impl<'a> TryFrom<&'a [u8]> for RsaPrivateKeyView<'a> {
     fn try_from(bytes: &'a [u8]) -> crate::Result<RsaPrivateKeyView<'a>>
         ensures ok { IfOk result (λ view. Means grammar.RsaPrivateKey bytes.now (view_of view)) }
         ensures one { IfOk result (λ view. IsOnlyMeaning grammar.RsaPrivateKey bytes.now (view_of view)) }
-        ensures bytes { IfOk result (λ view. viewed_text view ≡ bytes.now) }
+        ensures bytes { IfOk result (λ view. viewed_encoding view ≡ bytes.now) }
         ensures err { OnErr result (IsNoSentence grammar.RsaPrivateKey bytes.now) }
         ensures asn1 { IfErr result (IsAsn1 (λ e. TellsOfBytes e.kind)) }
         ensures exact { IfErr result (IsAsn1 (λ e. RsaPrivateKeyFault e.kind bytes.now)) }

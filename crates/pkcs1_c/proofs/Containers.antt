@@ -6,8 +6,8 @@ use Rattle.pkcs8_core.specs.Container as container
 use Rattle.pkcs1_c.specs.declared.container.PrivateKeyInfo.{PrivateKeyInfo}
 use Rattle.pkcs1_c.specs.Containers.{info_seen, HoldsKey, KeyFault}
 use Rattle.pkcs1_c.specs.Status.{kind_number, IsNumberOfFault}
-use Rattle.pkcs1_c.specs.Unwritten.{TextRefusal, InfoRefusal}
-use Rattle.pkcs1_c.proofs.Unwritten.{IsOne, Excludes, text_one, part_one, part_rest}
+use Rattle.pkcs1_c.specs.StructErrors.{EncodingError, InfoError}
+use Rattle.pkcs1_c.proofs.StructErrors.{IsOne, Excludes, encoding_one, part_one, part_rest}
 
 module _ (info : PrivateKeyInfo) where
   abbrev HoldsSome : Type 0
@@ -21,10 +21,10 @@ module _ (info : PrivateKeyInfo) where
 
   module _ (room : ℕ) where
     abbrev Behind : ℕ → Type 0
-    Behind = TextRefusal container.PrivateKeyInfo (info_seen info) room
+    Behind = EncodingError container.PrivateKeyInfo (info_seen info) room
 
-    pub info_one : IsOne (InfoRefusal info room)
-    info_one = part_one (IsNumberOfFault (KeyFault info)) HoldsSome Behind fault_one fault_none (text_one container.PrivateKeyInfo (info_seen info) room)
+    pub info_one : IsOne (InfoError info room)
+    info_one = part_one (IsNumberOfFault (KeyFault info)) HoldsSome Behind fault_one fault_none (encoding_one container.PrivateKeyInfo (info_seen info) room)
 
-    pub info_rest : HoldsSome → (s : ℕ) → InfoRefusal info room s → Behind s
+    pub info_rest : HoldsSome → (s : ℕ) → InfoError info room s → Behind s
     info_rest holds s p = part_rest (IsNumberOfFault (KeyFault info)) HoldsSome Behind fault_none holds s p

@@ -3,7 +3,7 @@ use Rattle.std.proofs.Common.{ℕ, List, [], ◌∷◌, ◌++◌, ◌≡◌, ◌
 use Rattle.std.specs.Prelude.{Result, Ok, Err, IfErr, OnErr, IsErrAnd}
 use Rattle.der_core.specs.Document.{Means}
 use Rattle.der_core.specs.Length.{limit}
-use Rattle.der_core.specs.Texts.{Joins}
+use Rattle.der_core.specs.Encodings.{Joins}
 use Rattle.der_core.specs.Integer.{Integer, IntegerContents}
 use Rattle.der_core.specs.Laws.Integer.{canonical_same}
 use Rattle.der_core.specs.Laws.Growing.{contents_shorter}
@@ -25,7 +25,7 @@ pub err_handed : {T E : Type 0} (P : E → Type 0) (first : E) (r : Result T E) 
 err_handed P first (Ok x) same p = absurd same
 err_handed P first (Err e) same p = subst P (sym same) p
 
--- A number is no longer than its contents, nor than a text that its text stands in.
+-- A number is no longer than its contents, nor than an encoding that its encoding stands in.
 contents_hold : (n c : List ℕ) → IntegerContents n c → length n ≤ length c
 contents_hold n c (p, inl a) = omega (arith, ap length a.1)
 contents_hold n c (p, inr a) = omega (arith, ap length a.1)
@@ -47,21 +47,21 @@ joins_hold (n ∷ ns) Qs c most (x, d, p, i, e) few =
     let r = joins_hold ns Qs d most i (omega (arith, l, k, few)) in
     ((number_within n x p (omega (arith, l, k, few)), r.0), r.1, r.2, r.3)
 
-pub private_within : (key : PrivateKey (List ℕ)) (text : List ℕ) → Means RsaPrivateKey text key
+pub private_within : (key : PrivateKey (List ℕ)) (encoding : List ℕ) → Means RsaPrivateKey encoding key
     → AreWithin (key_numbers key) limit × (d : List ℕ) × OtherPrimeInfos Integer key.other_prime_infos d × (length d ≤ limit)
-private_within key text m =
+private_within key encoding m =
     let (x, c, version, numbers, e) = m.1.holds in
     let l = ap length e in
     let k = length-append x c in
-    let r = joins_hold (key_numbers key) (OtherPrimeInfos Integer key.other_prime_infos ∷ []) c limit numbers (omega (arith, l, k, contents_shorter text m.1, m.0)) in
+    let r = joins_hold (key_numbers key) (OtherPrimeInfos Integer key.other_prime_infos ∷ []) c limit numbers (omega (arith, l, k, contents_shorter encoding m.1, m.0)) in
     let (y, z, others, nil, f) = r.2 in
     let j = ap length f in
     let h = length-append y z in
     (r.0, y, others, omega (arith, r.3, j, h))
 
-pub other_within : (other : OtherPrime (List ℕ)) (text : List ℕ) → OtherPrimeInfo Integer other text → length text ≤ limit
+pub other_within : (other : OtherPrime (List ℕ)) (encoding : List ℕ) → OtherPrimeInfo Integer other encoding → length encoding ≤ limit
     → AreWithin (other.prime ∷ other.exponent ∷ other.coefficient ∷ []) limit
-other_within other text p few = (joins_hold (other.prime ∷ other.exponent ∷ other.coefficient ∷ []) [] p.contents limit p.holds (omega (arith, contents_shorter text p, few))).0
+other_within other encoding p few = (joins_hold (other.prime ∷ other.exponent ∷ other.coefficient ∷ []) [] p.contents limit p.holds (omega (arith, contents_shorter encoding p, few))).0
 
 -- Bytes have one number.
 pub number_same : (bytes m n : List ℕ) → IsNumberOf bytes m → IsNumberOf bytes n → m ≡ n

@@ -1,8 +1,8 @@
--- Keys whose numbers can be held: they have texts, and only the text is refused.
+-- Keys whose numbers can be held: they have encodings, and only the encoding is rejected.
 use Rattle.std.proofs.Common.{ℕ, List, [], ◌∷◌, ◌≡◌, ◌≢◌, ◌≤◌, ◌<◌, length, length-append, map, ap, subst, arith, Option, Some, None, inr}
 use Rattle.std.specs.declared.alloc.Global.{Global}
 use Rattle.std.specs.declared.vec.Vec.{Vec}
-use Rattle.der_core.specs.Document.{Means, HasText}
+use Rattle.der_core.specs.Document.{Means, HasEncoding}
 use Rattle.der_core.specs.Integer.{Integer, IsCanonical}
 use Rattle.der_core.specs.Length.{limit}
 use Rattle.der_core.specs.SequenceOf.{AllHave, ItemsContents}
@@ -15,17 +15,17 @@ use Rattle.pkcs1.specs.PublicKeyValue.{public_key_of}
 use Rattle.pkcs1.specs.Writing.{key_numbers, other_numbers, HasOthers}
 use Rattle.pkcs1.specs.declared.private_key.other_prime_info.OtherPrimeInfo as declared_other
 use Rattle.pkcs1.specs.declared.public_key.RsaPublicKey as declared_public
-use Rattle.pkcs1.specs.Laws.HeldKeys.{borrowed_held, held_has_text}
+use Rattle.pkcs1.specs.Laws.HeldKeys.{borrowed_held, held_has_encoding}
 use Rattle.pkcs1.specs.Laws.PublicKeys.{public_made}
 use Rattle.pkcs1_c.specs.declared.private_key.PrivateKey as c
 use Rattle.pkcs1_c.specs.declared.private_key.OtherPrime as c_other
 use Rattle.pkcs1_c.specs.Given.{IsGiven}
 use Rattle.pkcs1_c.specs.Numbers.{IsNumberOf, ArePublicNumbers, AreOthersOf, AreOtherNumbers, ArePrivateNumbers}
-use Rattle.pkcs1_c.specs.Refusals.{HasNoText}
+use Rattle.pkcs1_c.specs.NotWritten.{IsTooLong}
 use Rattle.pkcs1_c.specs.StructValues.{private_key_seen, other_prime_seen}
-use Rattle.pkcs1_c.specs.Unwritten.{TextRefusal, NumberFits, NumbersThen, Nothing, two_numbers, eight_numbers, others_numbers, PublicTextRefusal, PublicKeyRefusal, PrivateTextRefusal, PrivateKeyRefusal}
+use Rattle.pkcs1_c.specs.StructErrors.{EncodingError, NumberFits, NumbersThen, Nothing, two_numbers, eight_numbers, others_numbers, PublicEncodingError, PublicKeyError, PrivateEncodingError, PrivateKeyError}
 use Rattle.pkcs1_c.proofs.Given.{AreWithin, joins_hold, private_within, other_within, public_same, private_same}
-use Rattle.pkcs1_c.proofs.Unwritten.{IsOne, Unless, unless_one, unless_none, text_one, text_refused, part_one, part_rest, numbers_one, numbers_rest, numbers_held, numbers_as}
+use Rattle.pkcs1_c.proofs.StructErrors.{IsOne, Unless, unless_one, unless_none, encoding_one, encoding_rejected, part_one, part_rest, numbers_one, numbers_rest, numbers_held, numbers_as}
 
 -- Public keys.
 two_fit : (given made : PublicKey (List ℕ)) → ArePublicNumbers made given → length made.modulus ≤ limit → length made.public_exponent ≤ limit → AllHave NumberFits (two_numbers given)
@@ -34,37 +34,37 @@ two_fit given made are m e = ((made.modulus, are.0, m), ((made.public_exponent, 
 pub public_fits : (key : declared_public.RsaPublicKey UintRef) (given : PublicKey (List ℕ)) → ArePublicNumbers (public_key_of key) given → AllHave NumberFits (two_numbers given)
 public_fits key given are = two_fit given (public_key_of key) are key.modulus.bounded key.public_exponent.bounded
 
-pub public_some : (key : declared_public.RsaPublicKey UintRef) → HasText RsaPublicKey (public_key_of key)
+pub public_some : (key : declared_public.RsaPublicKey UintRef) → HasEncoding RsaPublicKey (public_key_of key)
 public_some key =
     let m = borrowed_held key.modulus in
     let e = borrowed_held key.public_exponent in
     public_made (public_key_of key) m.0 e.0 m.1 e.1
 
-pub public_rest : (given made : PublicKey (List ℕ)) (room : ℕ) → AllHave NumberFits (two_numbers given) → ArePublicNumbers made given → (s : ℕ) → PublicKeyRefusal given room s → TextRefusal RsaPublicKey made room s
+pub public_rest : (given made : PublicKey (List ℕ)) (room : ℕ) → AllHave NumberFits (two_numbers given) → ArePublicNumbers made given → (s : ℕ) → PublicKeyError given room s → EncodingError RsaPublicKey made room s
 public_rest given made room fits are s p =
-    let (other, q, refusal) = numbers_rest (two_numbers given) (PublicTextRefusal given room) fits s p in
-    subst (λ k. TextRefusal RsaPublicKey k room s) (public_same given other made q are) refusal
+    let (other, q, failure) = numbers_rest (two_numbers given) (PublicEncodingError given room) fits s p in
+    subst (λ k. EncodingError RsaPublicKey k room s) (public_same given other made q are) failure
 
--- The text is refused, or a number.
-pub public_held : (given : PublicKey (List ℕ)) (room : ℕ) (made : declared_public.RsaPublicKey UintRef) → ArePublicNumbers (public_key_of made) given → (s : ℕ) → TextRefusal RsaPublicKey (public_key_of made) room s → PublicKeyRefusal given room s
-public_held given room made are s text =
-    let behind : PublicTextRefusal given room s = (public_key_of made, are, text) in
-    numbers_held (two_numbers given) (PublicTextRefusal given room) (public_fits made given are) s behind
+-- The encoding is rejected, or a number.
+pub public_held : (given : PublicKey (List ℕ)) (room : ℕ) (made : declared_public.RsaPublicKey UintRef) → ArePublicNumbers (public_key_of made) given → (s : ℕ) → EncodingError RsaPublicKey (public_key_of made) room s → PublicKeyError given room s
+public_held given room made are s encoding =
+    let behind : PublicEncodingError given room s = (public_key_of made, are, encoding) in
+    numbers_held (two_numbers given) (PublicEncodingError given room) (public_fits made given are) s behind
 
-pub public_more : (given : PublicKey (List ℕ)) (room s : ℕ) → NumbersThen (two_numbers given) Nothing s → PublicKeyRefusal given room s
-public_more given room s p = numbers_as (two_numbers given) Nothing (PublicTextRefusal given room) s (λ none. absurd none) p
+pub public_more : (given : PublicKey (List ℕ)) (room s : ℕ) → NumbersThen (two_numbers given) Nothing s → PublicKeyError given room s
+public_more given room s p = numbers_as (two_numbers given) Nothing (PublicEncodingError given room) s (λ none. absurd none) p
 
-pub public_one : (given : PublicKey (List ℕ)) (room : ℕ) → IsOne (PublicKeyRefusal given room)
+pub public_one : (given : PublicKey (List ℕ)) (room : ℕ) → IsOne (PublicKeyError given room)
 public_one given room =
-    numbers_one (two_numbers given) (PublicTextRefusal given room) one
+    numbers_one (two_numbers given) (PublicEncodingError given room) one
   where
-    one : IsOne (PublicTextRefusal given room)
-    one s t (k, a, p) (l, b, q) = text_one RsaPublicKey l room s t (subst (λ k. TextRefusal RsaPublicKey k room s) (public_same given k l a b) p) q
+    one : IsOne (PublicEncodingError given room)
+    one s t (k, a, p) (l, b, q) = encoding_one RsaPublicKey l room s t (subst (λ k. EncodingError RsaPublicKey k room s) (public_same given k l a b) p) q
 
-pub public_refused : (given : PublicKey (List ℕ)) (room s : ℕ) → s ≢ 15 → PublicKeyRefusal given room s → (made : PublicKey (List ℕ)) → ArePublicNumbers made given → HasNoText RsaPublicKey made
-public_refused given room s other p made are text m =
-    let w = joins_hold (made.modulus ∷ made.public_exponent ∷ []) [] m.1.contents limit m.1.holds (omega (arith, contents_shorter text m.1, m.0)) in
-    text_refused RsaPublicKey made room s other (public_rest given made room (two_fit given made are w.0.0 w.0.1.0) are s p) text m
+pub public_rejected : (given : PublicKey (List ℕ)) (room s : ℕ) → s ≢ 15 → PublicKeyError given room s → (made : PublicKey (List ℕ)) → ArePublicNumbers made given → IsTooLong RsaPublicKey made
+public_rejected given room s other p made are encoding m =
+    let w = joins_hold (made.modulus ∷ made.public_exponent ∷ []) [] m.1.contents limit m.1.holds (omega (arith, contents_shorter encoding m.1, m.0)) in
+    encoding_rejected RsaPublicKey made room s other (public_rest given made room (two_fit given made are w.0.0 w.0.1.0) are s p) encoding m
 
 -- Other primes.
 abbrev OthersWithin : List (OtherPrime (List ℕ)) → Type 0
@@ -95,16 +95,16 @@ held_within : (infos : Option (Vec (declared_other.OtherPrimeInfo UintRef) Globa
 held_within None = tt
 held_within (Some v) = items_within v.items
 
-texts_within : (others : List (OtherPrime (List ℕ))) (c : List ℕ) → ItemsContents (OtherPrimeInfo Integer) others c → length c ≤ limit → OthersWithin others
-texts_within [] c p few = tt
-texts_within (o ∷ os) c (x, r, q, rest, e) few =
+encodings_within : (others : List (OtherPrime (List ℕ))) (c : List ℕ) → ItemsContents (OtherPrimeInfo Integer) others c → length c ≤ limit → OthersWithin others
+encodings_within [] c p few = tt
+encodings_within (o ∷ os) c (x, r, q, rest, e) few =
     let k = ap length e in
     let j = length-append x r in
-    (other_within o x q (omega (arith, k, j, few)), texts_within os r rest (omega (arith, k, j, few)))
+    (other_within o x q (omega (arith, k, j, few)), encodings_within os r rest (omega (arith, k, j, few)))
 
 infos_within : (infos : Option (List (OtherPrime (List ℕ)))) (d : List ℕ) → OtherPrimeInfos Integer infos d → length d ≤ limit → InfosWithin infos
 infos_within None d p few = tt
-infos_within (Some others) d p few = texts_within others p.1.contents p.1.holds (omega (arith, contents_shorter d p.1, few))
+infos_within (Some others) d p few = encodings_within others p.1.contents p.1.holds (omega (arith, contents_shorter d p.1, few))
 
 -- Private keys.
 eight_fit : (key : c.PrivateKey) (made : PrivateKey (List ℕ)) (others : List (OtherPrime (List ℕ))) → ArePrivateNumbers made (private_key_seen key None) others → AreWithin (key_numbers made) limit → AllHave NumberFits (eight_numbers key)
@@ -146,9 +146,9 @@ private_fits key others made given = (
   infos_fit (others_of bytes_of made.other_prime_infos) (map other_prime_seen others) given.1.8 (held_within made.other_prime_infos),
 )
 
-text_fits : (key : c.PrivateKey) (others : List c_other.OtherPrime) (made : PrivateKey (List ℕ)) (text : List ℕ) → IsGiven key others made → Means RsaPrivateKey text made → AllFit key others
-text_fits key others made text given m =
-    let w = private_within made text m in
+encoding_fits : (key : c.PrivateKey) (others : List c_other.OtherPrime) (made : PrivateKey (List ℕ)) (encoding : List ℕ) → IsGiven key others made → Means RsaPrivateKey encoding made → AllFit key others
+encoding_fits key others made encoding given m =
+    let w = private_within made encoding m in
     (eight_fit key made (map other_prime_seen others) given.1 w.0, infos_fit made.other_prime_infos (map other_prime_seen others) given.1.8 (infos_within made.other_prime_infos w.1 w.2 w.3))
 
 others_canonical : (items : List (declared_other.OtherPrimeInfo UintRef)) → AllHave (λ other. AllHave IsCanonical (other_numbers other)) (map (other_of bytes_of) items)
@@ -165,10 +165,10 @@ infos_have : (infos : Option (Vec (declared_other.OtherPrimeInfo UintRef) Global
 infos_have None given are = (omega arith, tt)
 infos_have (Some v) given are = (omega arith, (not_empty given (map (other_of bytes_of) v.items) are.0 are.1, others_canonical v.items))
 
-pub private_some : (key : Listed UintRef) (given : List (OtherPrime (List ℕ))) → AreOtherNumbers (others_of bytes_of key.other_prime_infos) given → HasText RsaPrivateKey (private_key_of key)
+pub private_some : (key : Listed UintRef) (given : List (OtherPrime (List ℕ))) → AreOtherNumbers (others_of bytes_of key.other_prime_infos) given → HasEncoding RsaPrivateKey (private_key_of key)
 private_some key given are =
     let h = infos_have key.other_prime_infos given are in
-    held_has_text bytes_of borrowed_held key (
+    held_has_encoding bytes_of borrowed_held key (
       h.0,
       (
         (
@@ -194,7 +194,7 @@ private_some key given are =
 -- Of a key that is given.
 module _ (key : c.PrivateKey) (others : List c_other.OtherPrime) (room : ℕ) where
   abbrev Behind : ℕ → Type 0
-  Behind = PrivateTextRefusal key others room
+  Behind = PrivateEncodingError key others room
 
   abbrev OthersThen : ℕ → Type 0
   OthersThen = NumbersThen (others_numbers (map other_prime_seen others)) Behind
@@ -206,32 +206,32 @@ module _ (key : c.PrivateKey) (others : List c_other.OtherPrime) (room : ℕ) wh
   same k l a b = private_same (private_key_seen key None) k l (map other_prime_seen others) a.1 b.1
 
   behind_one : IsOne Behind
-  behind_one s t (k, a, p) (l, b, q) = text_one RsaPrivateKey l room s t (subst (λ k. TextRefusal RsaPrivateKey k room s) (same k l a b) p) q
+  behind_one s t (k, a, p) (l, b, q) = encoding_one RsaPrivateKey l room s t (subst (λ k. EncodingError RsaPrivateKey k room s) (same k l a b) p) q
 
-  pub private_one : IsOne (PrivateKeyRefusal key others room)
+  pub private_one : IsOne (PrivateKeyError key others room)
   private_one =
       part_one (Unless 21 AsMany) AsMany (NumbersThen (eight_numbers key) OthersThen) (unless_one 21 AsMany) (unless_none 21 AsMany)
       (numbers_one (eight_numbers key) OthersThen (numbers_one (others_numbers (map other_prime_seen others)) Behind behind_one))
 
-  pub private_rest : (made : PrivateKey (List ℕ)) → IsGiven key others made → AllFit key others → (s : ℕ) → PrivateKeyRefusal key others room s → TextRefusal RsaPrivateKey made room s
+  pub private_rest : (made : PrivateKey (List ℕ)) → IsGiven key others made → AllFit key others → (s : ℕ) → PrivateKeyError key others room s → EncodingError RsaPrivateKey made room s
   private_rest made given fits s p =
       let numbers = part_rest (Unless 21 AsMany) AsMany (NumbersThen (eight_numbers key) OthersThen) (unless_none 21 AsMany) given.0 s p in
-      let (other, q, refusal) = numbers_rest (others_numbers (map other_prime_seen others)) Behind fits.1 s (numbers_rest (eight_numbers key) OthersThen fits.0 s numbers) in
-      subst (λ k. TextRefusal RsaPrivateKey k room s) (same other made q given) refusal
+      let (other, q, failure) = numbers_rest (others_numbers (map other_prime_seen others)) Behind fits.1 s (numbers_rest (eight_numbers key) OthersThen fits.0 s numbers) in
+      subst (λ k. EncodingError RsaPrivateKey k room s) (same other made q given) failure
 
-  pub private_refused : (s : ℕ) → s ≢ 15 → PrivateKeyRefusal key others room s → (made : PrivateKey (List ℕ)) → IsGiven key others made → HasNoText RsaPrivateKey made
-  private_refused s other p made given text m =
-      text_refused RsaPrivateKey made room s other (private_rest made given (text_fits key others made text given m) s p) text m
+  pub private_rejected : (s : ℕ) → s ≢ 15 → PrivateKeyError key others room s → (made : PrivateKey (List ℕ)) → IsGiven key others made → IsTooLong RsaPrivateKey made
+  private_rejected s other p made given encoding m =
+      encoding_rejected RsaPrivateKey made room s other (private_rest made given (encoding_fits key others made encoding given m) s p) encoding m
 
-  -- The text is refused.
-  pub private_held : (made : Listed UintRef) → IsGiven key others (private_key_of made) → (s : ℕ) → TextRefusal RsaPrivateKey (private_key_of made) room s → PrivateKeyRefusal key others room s
-  private_held made given s text =
+  -- The encoding is rejected.
+  pub private_held : (made : Listed UintRef) → IsGiven key others (private_key_of made) → (s : ℕ) → EncodingError RsaPrivateKey (private_key_of made) room s → PrivateKeyError key others room s
+  private_held made given s encoding =
       let fits = private_fits key others made given in
-      let behind : Behind s = (private_key_of made, given, text) in
+      let behind : Behind s = (private_key_of made, given, encoding) in
       inr (given.0, numbers_held (eight_numbers key) OthersThen fits.0 s (numbers_held (others_numbers (map other_prime_seen others)) Behind fits.1 s behind))
 
-  -- A number is refused.
-  pub private_more : AsMany → (s : ℕ) → NumbersThen (eight_numbers key) (NumbersThen (others_numbers (map other_prime_seen others)) Nothing) s → PrivateKeyRefusal key others room s
+  -- A number is rejected.
+  pub private_more : AsMany → (s : ℕ) → NumbersThen (eight_numbers key) (NumbersThen (others_numbers (map other_prime_seen others)) Nothing) s → PrivateKeyError key others room s
   private_more many s p =
       let behind = λ (q : NumbersThen (others_numbers (map other_prime_seen others)) Nothing s). numbers_as (others_numbers (map other_prime_seen others)) Nothing Behind s (λ none. absurd none) q in
       inr (many, numbers_as (eight_numbers key) (NumbersThen (others_numbers (map other_prime_seen others)) Nothing) OthersThen s behind p)

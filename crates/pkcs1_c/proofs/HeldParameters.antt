@@ -1,12 +1,12 @@
--- Parameters that are held: their parts can be, and they have texts.
+-- Parameters that are held: their parts can be, and they have encodings.
 use Rattle.std.proofs.Common.{ℕ, List, [], ◌∷◌, ◌++◌, ◌≡◌, ◌≤◌, ◌<◌, ◌+◌, length, length-append, ap, arith, refl, true, Option, Some, None, inr}
 use Rattle.std.specs.Option.{option_map}
-use Rattle.der_core.specs.Document.{HasText}
+use Rattle.der_core.specs.Document.{HasEncoding}
 use Rattle.der_core.specs.Length.{limit}
 use Rattle.der_core.specs.Integer.{integer_contents, Small, SmallContents}
 use Rattle.der_core.specs.Laws.SmallNumbers.{small_relates}
 use Rattle.der_core.specs.Tag.{context_tag, sequence_tag}
-use Rattle.der_core.specs.Laws.Texts.{tlv_made, tlv_relates, tlv_little_longer, then_holds, last_holds}
+use Rattle.der_core.specs.Laws.Encodings.{tlv_made, tlv_relates, tlv_little_longer, then_holds, last_holds}
 use Rattle.der_core.specs.Tlv.{Tlv}
 use Rattle.spki_core.specs.AlgorithmIdentifier.{PlainAlgorithm, MaskAlgorithm, written_plain, written_mask}
 use Rattle.spki_core.specs.AlgorithmValue.{algorithm_of, mask_of}
@@ -25,7 +25,7 @@ use Rattle.spki_core.specs.ObjectIdentifier.{IsIdentifier}
 use Rattle.pkcs1_c.specs.declared.algorithm.Algorithm as c
 use Rattle.pkcs1_c.specs.declared.algorithm.MaskGen as c_mask
 use Rattle.pkcs1_c.specs.StructValues.{oid_seen, algorithm_seen, mask_gen_seen}
-use Rattle.pkcs1_c.specs.Unwritten.{AnyRefusal, OptionRefusal, PlainRefusal, MaskRefusal}
+use Rattle.pkcs1_c.specs.StructErrors.{AnyError, OptionError, PlainError, MaskError}
 use Rattle.pkcs1_c.specs.Fits.{AnyFits, OptionFits, PlainFits, MaskFits, PssFits, OaepFits}
 
 any_fits : (any : Option AnyRef) → OptionFits AnyFits (option_map any_of any)
@@ -50,11 +50,11 @@ held_oaep_fits p = (plain_fits p.hash, mask_fits p.mask_gen, plain_fits p.p_sour
 
 -- A field that is written.
 abbrev Written : ℕ → (List ℕ → Type 0) → Type 0
-Written number Inner = (text : List ℕ) × Tlv (context_tag number) Inner text × (length text ≤ limit + 1000)
+Written number Inner = (encoding : List ℕ) × Tlv (context_tag number) Inner encoding × (length encoding ≤ limit + 1000)
 
-explicit_made : (number : ℕ) (Inner : List ℕ → Type 0) (text : List ℕ) → Inner text → length text ≤ limit + 718 → Written number Inner
-explicit_made number Inner text p few =
-    let made = tlv_made (context_tag number) Inner text p (omega (arith, few)) in
+explicit_made : (number : ℕ) (Inner : List ℕ → Type 0) (encoding : List ℕ) → Inner encoding → length encoding ≤ limit + 718 → Written number Inner
+explicit_made number Inner encoding p few =
+    let made = tlv_made (context_tag number) Inner encoding p (omega (arith, few)) in
     (made.0, made.1, omega (arith, few, ap length made.2, tlv_little_longer made.0 made.1))
 
 plain_written : (number : ℕ) (a : AlgorithmIdentifier AnyRef) → Written number (PlainAlgorithm (algorithm_of a))
@@ -77,7 +77,7 @@ trailer_written =
     let few = number_short 1 in
     explicit_made 3 _ _ (tlv_relates 2 TrailerContents (λ n. integer_contents (n ∷ [])) 1 (λ _. (refl, small_relates 1 (omega arith))) (omega (arith, few))) (omega (arith, few))
 
-pub pss_some : (p : pss.RsaPssParams AnyRef) → p.salt_len < 256 → HasText RsaPssParams (pss_of p)
+pub pss_some : (p : pss.RsaPssParams AnyRef) → p.salt_len < 256 → HasEncoding RsaPssParams (pss_of p)
 pss_some p small =
     let h = plain_written 0 p.hash in
     let m = mask_written 1 p.mask_gen in
@@ -88,7 +88,7 @@ pss_some p small =
     (omega (arith, h.2, m.2, s.2, t.2, length-append h.0 (m.0 ++ (s.0 ++ t.0)), length-append m.0 (s.0 ++ t.0), length-append s.0 t.0)) in
     (made.0, made.1)
 
-pub oaep_some : (p : oaep.RsaOaepParams AnyRef) → HasText RsaOaepParams (oaep_of p)
+pub oaep_some : (p : oaep.RsaOaepParams AnyRef) → HasEncoding RsaOaepParams (oaep_of p)
 oaep_some p =
     let h = plain_written 0 p.hash in
     let m = mask_written 1 p.mask_gen in
@@ -98,13 +98,13 @@ oaep_some p =
     (omega (arith, h.2, m.2, s.2, length-append h.0 (m.0 ++ s.0), length-append m.0 s.0)) in
     (made.0, made.1)
 
--- What is refused of the parameters of an algorithm is refused of the algorithm.
-pub algorithm_refused : (a : c.Algorithm) (s : ℕ) → a.has_parameters ≡ true → IsIdentifier (oid_seen a.oid) → AnyRefusal (record { tag = a.tag; contents = a.parameters.now }) s → PlainRefusal (algorithm_seen a) s
-algorithm_refused a s has is p =
-    let q : OptionRefusal AnyRefusal (algorithm_seen a).parameters s = rw has p in
+-- What is rejected of the parameters of an algorithm is rejected of the algorithm.
+pub algorithm_rejected : (a : c.Algorithm) (s : ℕ) → a.has_parameters ≡ true → IsIdentifier (oid_seen a.oid) → AnyError (record { tag = a.tag; contents = a.parameters.now }) s → PlainError (algorithm_seen a) s
+algorithm_rejected a s has is p =
+    let q : OptionError AnyError (algorithm_seen a).parameters s = rw has p in
     inr (is, q)
 
-pub mask_refused : (m : c_mask.MaskGen) (s : ℕ) → m.has_hash ≡ true → IsIdentifier (oid_seen m.oid) → PlainRefusal (algorithm_seen m.hash) s → MaskRefusal (mask_gen_seen m) s
-mask_refused m s has is p =
-    let q : OptionRefusal PlainRefusal (mask_gen_seen m).parameters s = rw has p in
+pub mask_rejected : (m : c_mask.MaskGen) (s : ℕ) → m.has_hash ≡ true → IsIdentifier (oid_seen m.oid) → PlainError (algorithm_seen m.hash) s → MaskError (mask_gen_seen m) s
+mask_rejected m s has is p =
+    let q : OptionError PlainError (mask_gen_seen m).parameters s = rw has p in
     inr (is, q)

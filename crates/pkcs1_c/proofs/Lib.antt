@@ -4,5 +4,5 @@ pub mod Given
 pub mod HeldKeys
 pub mod HeldParameters
 pub mod Lists
-pub mod Refusals
-pub mod Unwritten
+pub mod NotWritten
+pub mod StructErrors

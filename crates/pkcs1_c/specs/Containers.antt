@@ -32,5 +32,5 @@ KeyFault info kind = RsaPrivateKeyFault kind info.private_key.now
 
 -- The first fault of bytes, as a container with an RSA key: that of the container, or of what it holds.
 abbrev pub RsaContainerFault : List ℕ → ErrorKind → Type 0
-RsaContainerFault text kind =
-    PrivateKeyInfoFault kind text ⊎ ((info : Info) × Means container.PrivateKeyInfo text info × RsaFault info kind)
+RsaContainerFault encoding kind =
+    PrivateKeyInfoFault kind encoding ⊎ ((info : Info) × Means container.PrivateKeyInfo encoding info × RsaFault info kind)

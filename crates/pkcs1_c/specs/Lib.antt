@@ -1,8 +1,8 @@
 pub mod Containers
 pub mod Given
 pub mod Numbers
-pub mod Refusals
+pub mod NotWritten
 pub mod StructValues
 pub mod Status
-pub mod Unwritten
+pub mod StructErrors
 pub mod Fits

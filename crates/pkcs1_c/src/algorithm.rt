@@ -4,7 +4,7 @@ ghost use Rattle.spki_core.specs.AlgorithmValue.{algorithm_of, mask_of};
 ghost use Rattle.spki_core.specs.ObjectIdentifierValue.{octets_of};
 ghost use Rattle.pkcs1_c.specs.Status.{kind_number};
 ghost use Rattle.pkcs1_c.specs.StructValues.{oid_seen, algorithm_seen, mask_gen_seen, AlgorithmIsTidy, MaskGenIsTidy};
-ghost use Rattle.pkcs1_c.specs.Unwritten.{OidRefusal, PlainRefusal, MaskRefusal};
+ghost use Rattle.pkcs1_c.specs.StructErrors.{OidError, PlainError, MaskError};
 
 use der_core::{Error, ErrorKind, Result, Tag};
 use spki_core::{AlgorithmIdentifier, AlgorithmIdentifierRef, AnyRef, ObjectIdentifier};
@@ -113,7 +113,7 @@ pub(crate) fn to_c_mask_gen<'a>(
 /// The object identifier of a C struct, or `OidMalformed`.
 fn from_c_oid(oid: &Oid) -> Result<ObjectIdentifier>
     ensures ok { IfOk result (λ made. octets_of made ≡ oid_seen oid.now) }
-    ensures err { IfErr result (λ e. OidRefusal (oid_seen oid.now) (kind_number e.kind)) }
+    ensures err { IfErr result (λ e. OidError (oid_seen oid.now) (kind_number e.kind)) }
 {
     if oid.len > 39 {
         return Err(Error::new(ErrorKind::OidMalformed));
@@ -124,7 +124,7 @@ fn from_c_oid(oid: &Oid) -> Result<ObjectIdentifier>
 /// The algorithm of a C struct.
 pub(crate) fn from_c_algorithm<'a>(algorithm: &Algorithm<'a>) -> Result<AlgorithmIdentifierRef<'a>>
     ensures ok { IfOk result (λ made. algorithm_of made ≡ algorithm_seen algorithm.now) }
-    ensures err { IfErr result (λ e. PlainRefusal (algorithm_seen algorithm.now) (kind_number e.kind)) }
+    ensures err { IfErr result (λ e. PlainError (algorithm_seen algorithm.now) (kind_number e.kind)) }
 {
     let oid = from_c_oid(&algorithm.oid)?;
     let parameters = if algorithm.has_parameters {
@@ -141,7 +141,7 @@ pub(crate) fn from_c_mask_gen<'a>(
     mask_gen: &MaskGen<'a>,
 ) -> Result<AlgorithmIdentifier<AlgorithmIdentifierRef<'a>>>
     ensures ok { IfOk result (λ made. mask_of made ≡ mask_gen_seen mask_gen.now) }
-    ensures err { IfErr result (λ e. MaskRefusal (mask_gen_seen mask_gen.now) (kind_number e.kind)) }
+    ensures err { IfErr result (λ e. MaskError (mask_gen_seen mask_gen.now) (kind_number e.kind)) }
 {
     let oid = from_c_oid(&mask_gen.oid)?;
     let parameters = if mask_gen.has_hash {

@@ -1,22 +1,23 @@
 //! RSA keys in PKCS #8 containers.
-ghost use Rattle.std.specs.Prelude.{◌≡◌, ◌≢◌, ◌<◌, ◌≤◌, ℕ, List, Option, length, take, drop, IfOk, IfErr, IsErrAnd, OnErr};
-ghost use Rattle.der_core.specs.Document.{Means, IsShortest, HasText};
+ghost use Rattle.std.specs.Prelude.{◌≡◌, ◌≢◌, ◌<◌, ◌≤◌, ℕ, List, Option, length, take, drop, IfOk, IfErr, IsErrAnd};
+ghost use Rattle.std.specs.Prelude.{OnErr};
+ghost use Rattle.der_core.specs.Document.{Means, IsShortest, HasEncoding};
 ghost use Rattle.pkcs1.specs.Keys.{OtherPrime as Prime, PrivateKey as Key};
-ghost use Rattle.pkcs1.specs.ViewParts.{view_of, viewed_text};
+ghost use Rattle.pkcs1.specs.ViewParts.{view_of, viewed_encoding};
 ghost use Rattle.pkcs8_core.specs.Container as container;
 ghost use Rattle.pkcs8_core.specs.Held.{info_of};
 ghost use Rattle.pkcs8_core.specs.Rsa.{rsa_encryption, HoldsRsa};
 ghost use Rattle.der_core.specs.declared.error.ErrorKind as der;
-ghost use Rattle.pkcs1_params.specs.Refusals.{IsAsn1};
+ghost use Rattle.pkcs1_params.specs.Errors.{IsAsn1};
 ghost use Rattle.pkcs1_c.specs.Containers.{info_seen, InfoIsTidy, HoldsKey, KeyFault, RsaContainerFault};
-ghost use Rattle.pkcs1_c.specs.Refusals.{HasNoText, LacksRoom};
+ghost use Rattle.pkcs1_c.specs.NotWritten.{IsTooLong, HasNoRoom};
 ghost use Rattle.pkcs1_c.specs.StructValues.{private_key_seen, AreListed};
 ghost use Rattle.pkcs1_c.specs.Status.{kind_number, status_of, IsNumberOfFault};
-ghost use Rattle.pkcs1_c.specs.Unwritten.{InfoRefusal};
+ghost use Rattle.pkcs1_c.specs.StructErrors.{InfoError};
 
 use crate::private_key::{OtherPrime, PrivateKey, to_c_key};
 use crate::status::{NO_ROOM, OK, status};
-use crate::written::write_text;
+use crate::written::write_encoding;
 use der_core::OctetStringRef;
 use pkcs1::{RsaPrivateKeyView, algorithm_id};
 use pkcs8_core::PrivateKeyInfoRef;
@@ -35,21 +36,21 @@ pub struct PrivateKeyInfo<'a> {
 
 /// Decodes a container and the RSA key in it.
 fn read_container<'a>(
-    text: &'a [u8],
+    encoding: &'a [u8],
 ) -> pkcs1::Result<(PrivateKeyInfoRef<'a>, RsaPrivateKeyView<'a>)>
-    ensures ok { IfOk result (λ read. Means container.PrivateKeyInfo text.now (info_of read.0)
+    ensures ok { IfOk result (λ read. Means container.PrivateKeyInfo encoding.now (info_of read.0)
         × HoldsRsa (info_of read.0) (view_of read.1)) }
-    ensures one { IfOk result (λ read. (other : container.Info) → Means container.PrivateKeyInfo text.now other
+    ensures one { IfOk result (λ read. (other : container.Info) → Means container.PrivateKeyInfo encoding.now other
         → other ≡ info_of read.0) }
     ensures key { IfOk result (λ read. (other : Key (List ℕ)) → HoldsRsa (info_of read.0) other
         → other ≡ view_of read.1) }
     ensures err { OnErr result ((info : container.Info) (key : Key (List ℕ))
-        → Means container.PrivateKeyInfo text.now info → HoldsRsa info key → ⊥) }
-    ensures exact { IfErr result (IsAsn1 (λ e. RsaContainerFault text.now e.kind)) }
+        → Means container.PrivateKeyInfo encoding.now info → HoldsRsa info key → ⊥) }
+    ensures exact { IfErr result (IsAsn1 (λ e. RsaContainerFault encoding.now e.kind)) }
     ensures only { (kind : der.ErrorKind)
-        → RsaContainerFault text.now kind → IsErrAnd result (IsAsn1 (λ e. e.kind ≡ kind)) }
+        → RsaContainerFault encoding.now kind → IsErrAnd result (IsAsn1 (λ e. e.kind ≡ kind)) }
 {
-    let info = PrivateKeyInfoRef::try_from(text)?;
+    let info = PrivateKeyInfoRef::try_from(encoding)?;
     let view = info.rsa_view()?;
     Ok((info, view))
 }
@@ -75,31 +76,31 @@ fn to_c_info<'a>(info: &PrivateKeyInfoRef<'a>) -> PrivateKeyInfo<'a>
 }
 
 /// Decodes a container whose algorithm is rsaEncryption with NULL, and the private key in it; allocates nothing.
-/// Returns 0, fills `info` with parts of `text`, and `key` and `others` as `pkcs1_c_private_key_decode` does; or
+/// Returns 0, fills `info` with parts of `encoding`, and `key` and `others` as `pkcs1_c_private_key_decode` does; or
 /// returns the status of the first fault.
 #[unsafe(no_mangle)]
 pub extern "C" fn pkcs1_c_private_key_info_decode<'a>(
-    text: &'a [u8],
+    encoding: &'a [u8],
     info: &mut PrivateKeyInfo<'a>,
     key: &mut PrivateKey<'a>,
     others: &mut [OtherPrime<'a>],
 ) -> u32
-    ensures ok { result ≡ OK → Means container.PrivateKeyInfo text.now (info_seen info.new) }
-    ensures one { result ≡ OK → (other : container.Info) → Means container.PrivateKeyInfo text.now other
+    ensures ok { result ≡ OK → Means container.PrivateKeyInfo encoding.now (info_seen info.new) }
+    ensures one { result ≡ OK → (other : container.Info) → Means container.PrivateKeyInfo encoding.now other
         → other ≡ info_seen info.new }
     ensures key { result ≡ OK → (infos : Option (List (Prime (List ℕ))))
         × AreListed key.new.other_primes others.new infos × HoldsKey info.new (private_key_seen key.new infos) }
     ensures rest { result ≡ OK → drop key.new.other_primes others.new ≡ drop key.new.other_primes others.old }
     ensures one_key { result ≡ OK → (other : Key (List ℕ)) → HoldsKey info.new other
         → other ≡ private_key_seen key.new other.other_prime_infos }
-    ensures refused { result ≢ OK → (other : container.Info) (held : Key (List ℕ))
-        → Means container.PrivateKeyInfo text.now other → HoldsRsa other held → ⊥ }
-    ensures exact { result ≢ OK → IsNumberOfFault (RsaContainerFault text.now) result }
-    ensures only { (kind : der.ErrorKind) → RsaContainerFault text.now kind → result ≡ kind_number kind }
+    ensures rejected { result ≢ OK → (other : container.Info) (held : Key (List ℕ))
+        → Means container.PrivateKeyInfo encoding.now other → HoldsRsa other held → ⊥ }
+    ensures exact { result ≢ OK → IsNumberOfFault (RsaContainerFault encoding.now) result }
+    ensures only { (kind : der.ErrorKind) → RsaContainerFault encoding.now kind → result ≡ kind_number kind }
     ensures tidy { result ≡ OK → InfoIsTidy info.new }
     ensures unchanged { result ≢ OK → (info.new ≡ info.old) × (key.new ≡ key.old) × (others.new ≡ others.old) }
 {
-    match read_container(text) {
+    match read_container(encoding) {
         Ok((read, view)) => {
             *info = to_c_info(&read);
             *key = to_c_key(&view, others);
@@ -113,7 +114,7 @@ pub extern "C" fn pkcs1_c_private_key_info_decode<'a>(
 fn from_c_info<'a>(info: &PrivateKeyInfo<'a>) -> pkcs1::Result<PrivateKeyInfoRef<'a>>
     ensures ok { IfOk result (λ made. info_of made ≡ info_seen info.now) }
     ensures key { IfOk result (λ made. (key : Key (List ℕ)) × HoldsKey info.now key) }
-    ensures some { IfOk result (λ made. HasText container.PrivateKeyInfo (info_of made)) }
+    ensures some { IfOk result (λ made. HasEncoding container.PrivateKeyInfo (info_of made)) }
     ensures err { IfErr result (λ e. IsNumberOfFault (KeyFault info.now) (status_of e)) }
     ensures told { IfErr result (λ e. status_of e < NO_ROOM) }
 {
@@ -129,7 +130,7 @@ fn from_c_info<'a>(info: &PrivateKeyInfo<'a>) -> pkcs1::Result<PrivateKeyInfoRef
         private_key,
         attributes,
     };
-    made.has_text();
+    made.lemma_has_encoding();
     Ok(made)
 }
 
@@ -146,16 +147,16 @@ pub extern "C" fn pkcs1_c_private_key_info_encode(
     ensures key_no_room { result ≡ NO_ROOM → (key : Key (List ℕ)) × HoldsKey info.now key }
     ensures rest { result ≡ OK → (len.new ≤ length out.new) × (drop len.new out.new ≡ drop len.new out.old) }
     ensures no_room { result ≡ NO_ROOM
-        → LacksRoom container.PrivateKeyInfo (info_seen info.now) (length out.old) len.new }
-    ensures refused { result ≢ OK → result ≢ NO_ROOM → (key : Key (List ℕ)) → HoldsKey info.now key
-        → HasNoText container.PrivateKeyInfo (info_seen info.now) }
-    ensures exact { result ≢ OK → InfoRefusal info.now (length out.old) result }
-    ensures only { (status : ℕ) → InfoRefusal info.now (length out.old) status → result ≡ status }
+        → HasNoRoom container.PrivateKeyInfo (info_seen info.now) (length out.old) len.new }
+    ensures rejected { result ≢ OK → result ≢ NO_ROOM → (key : Key (List ℕ)) → HoldsKey info.now key
+        → IsTooLong container.PrivateKeyInfo (info_seen info.now) }
+    ensures exact { result ≢ OK → InfoError info.now (length out.old) result }
+    ensures only { (status : ℕ) → InfoError info.now (length out.old) status → result ≡ status }
     ensures unchanged { result ≢ OK → out.new ≡ out.old }
     ensures kept { result ≢ OK → result ≢ NO_ROOM → len.new ≡ len.old }
 {
     match from_c_info(info) {
-        Ok(made) => write_text(&made, out, len),
-        Err(refusal) => status(&refusal),
+        Ok(made) => write_encoding(&made, out, len),
+        Err(failure) => status(&failure),
     }
 }

@@ -3,7 +3,7 @@ ghost use Rattle.std.specs.Prelude.{IfOk, IfErr};
 ghost use Rattle.der_core.specs.UintRefValue.{bytes_of};
 ghost use Rattle.pkcs1_c.specs.Numbers.{IsNumberOf};
 ghost use Rattle.pkcs1_c.specs.Status.{status_of};
-ghost use Rattle.pkcs1_c.specs.Unwritten.{NumberRefusal};
+ghost use Rattle.pkcs1_c.specs.StructErrors.{NumberError};
 
 use pkcs1::UintRef;
 
@@ -11,7 +11,7 @@ use pkcs1::UintRef;
 /// limit.
 pub(crate) fn number<'a>(bytes: &'a [u8]) -> pkcs1::Result<UintRef<'a>>
     ensures ok { IfOk result (λ n. IsNumberOf bytes.now (bytes_of n)) }
-    ensures err { IfErr result (λ e. NumberRefusal bytes.now (status_of e)) }
+    ensures err { IfErr result (λ e. NumberError bytes.now (status_of e)) }
 {
     Ok(UintRef::new(bytes)?)
 }

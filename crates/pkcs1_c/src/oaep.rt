@@ -3,20 +3,20 @@ ghost use Rattle.std.specs.Prelude.{◌≡◌, ◌≢◌, ◌<◌, ◌≤◌, �
 ghost use Rattle.der_core.specs.Document.{Means, IsShortest};
 ghost use Rattle.pkcs1_params.specs.Parameters as grammar;
 ghost use Rattle.pkcs1_params.specs.OaepValue.{oaep_of};
-ghost use Rattle.pkcs1_c.specs.Refusals.{HasNoText, LacksRoom};
+ghost use Rattle.pkcs1_c.specs.NotWritten.{IsTooLong, HasNoRoom};
 ghost use Rattle.der_core.specs.declared.error.ErrorKind as der;
 ghost use Rattle.pkcs1_params.specs.ParameterFaults.{RsaOaepParamsFault, StrictOaepFault};
 ghost use Rattle.pkcs1_params.specs.Parameters.{oaep_fields};
 ghost use Rattle.spki_core.specs.StrictFields.{WritesDefault};
 ghost use Rattle.pkcs1_c.specs.Status.{kind_number, status_of, IsNumberOfFault};
 ghost use Rattle.pkcs1_c.specs.StructValues.{oaep_seen, OaepIsTidy};
-ghost use Rattle.pkcs1_c.specs.Unwritten.{Nothing, OaepThen, OaepRefusal};
+ghost use Rattle.pkcs1_c.specs.StructErrors.{Nothing, OaepThen, OaepError};
 
 use crate::algorithm::{
     Algorithm, MaskGen, from_c_algorithm, from_c_mask_gen, to_c_algorithm, to_c_mask_gen,
 };
 use crate::status::{NO_ROOM, NONCANONICAL, OK, status};
-use crate::written::write_text;
+use crate::written::write_encoding;
 use pkcs1::{RsaOaepParams, RsaOaepParamsRef};
 
 /// Parameters of RSAES-OAEP.
@@ -55,21 +55,25 @@ fn from_c_oaep<'a>(params: &OaepParams<'a>) -> pkcs1::Result<RsaOaepParamsRef<'a
     })
 }
 
-/// Decodes parameters of RSAES-OAEP. Returns 0 and fills `params` with parts of `text` and of static defaults, or
+/// Decodes parameters of RSAES-OAEP. Returns 0 and fills `params` with parts of `encoding` and of static defaults, or
 /// returns the status of the first fault.
 #[unsafe(no_mangle)]
-pub extern "C" fn pkcs1_c_oaep_params_decode<'a>(text: &'a [u8], params: &mut OaepParams<'a>) -> u32
-    ensures ok { result ≡ OK → Means grammar.RsaOaepParams text.now (oaep_seen params.new) }
-    ensures one { result ≡ OK → (other : grammar.OaepParameters) → Means grammar.RsaOaepParams text.now other
+pub extern "C" fn pkcs1_c_oaep_params_decode<'a>(
+    encoding: &'a [u8],
+    params: &mut OaepParams<'a>,
+) -> u32
+    ensures ok { result ≡ OK → Means grammar.RsaOaepParams encoding.now (oaep_seen params.new) }
+    ensures one { result ≡ OK → (other : grammar.OaepParameters) → Means grammar.RsaOaepParams encoding.now other
         → other ≡ oaep_seen params.new }
     ensures told { result < NO_ROOM }
-    ensures refused { result ≢ OK → (other : grammar.OaepParameters) → Means grammar.RsaOaepParams text.now other → ⊥ }
-    ensures exact { result ≢ OK → IsNumberOfFault (λ kind. RsaOaepParamsFault kind text.now) result }
-    ensures only { (kind : der.ErrorKind) → RsaOaepParamsFault kind text.now → result ≡ kind_number kind }
+    ensures rejected { result ≢ OK → (other : grammar.OaepParameters) → Means grammar.RsaOaepParams encoding.now other
+        → ⊥ }
+    ensures exact { result ≢ OK → IsNumberOfFault (λ kind. RsaOaepParamsFault kind encoding.now) result }
+    ensures only { (kind : der.ErrorKind) → RsaOaepParamsFault kind encoding.now → result ≡ kind_number kind }
     ensures tidy { result ≡ OK → OaepIsTidy params.new }
     ensures unchanged { result ≢ OK → params.new ≡ params.old }
 {
-    match RsaOaepParamsRef::try_from(text) {
+    match RsaOaepParamsRef::try_from(encoding) {
         Ok(read) => {
             *params = to_c_oaep(&read);
             OK
@@ -82,25 +86,25 @@ pub extern "C" fn pkcs1_c_oaep_params_decode<'a>(text: &'a [u8], params: &mut Oa
 /// with a default that is written out is rejected with status 5.
 #[unsafe(no_mangle)]
 pub extern "C" fn pkcs1_c_oaep_params_decode_strict<'a>(
-    text: &'a [u8],
+    encoding: &'a [u8],
     params: &mut OaepParams<'a>,
 ) -> u32
-    ensures ok { result ≡ OK → IsShortest grammar.RsaOaepParams (oaep_seen params.new) text.now }
-    ensures one { result ≡ OK → (other : grammar.OaepParameters) → Means grammar.RsaOaepParams text.now other
+    ensures ok { result ≡ OK → IsShortest grammar.RsaOaepParams (oaep_seen params.new) encoding.now }
+    ensures one { result ≡ OK → (other : grammar.OaepParameters) → Means grammar.RsaOaepParams encoding.now other
         → other ≡ oaep_seen params.new }
     ensures told { result < NO_ROOM }
-    ensures refused { result ≢ OK
-        → (other : grammar.OaepParameters) → IsShortest grammar.RsaOaepParams other text.now → ⊥ }
+    ensures rejected { result ≢ OK
+        → (other : grammar.OaepParameters) → IsShortest grammar.RsaOaepParams other encoding.now → ⊥ }
     ensures default { result ≢ OK
-        → (other : grammar.OaepParameters) → Means grammar.RsaOaepParams text.now other → result ≡ NONCANONICAL }
-    ensures exact { result ≢ OK → IsNumberOfFault (λ kind. RsaOaepParamsFault kind text.now) result
-        ⊎ ((result ≡ NONCANONICAL) × (other : grammar.OaepParameters) × Means grammar.RsaOaepParams text.now other
-        × (n : ℕ) × WritesDefault (oaep_fields other) n text.now) }
-    ensures only { (kind : der.ErrorKind) → StrictOaepFault kind text.now → result ≡ kind_number kind }
+        → (other : grammar.OaepParameters) → Means grammar.RsaOaepParams encoding.now other → result ≡ NONCANONICAL }
+    ensures exact { result ≢ OK → IsNumberOfFault (λ kind. RsaOaepParamsFault kind encoding.now) result
+        ⊎ ((result ≡ NONCANONICAL) × (other : grammar.OaepParameters) × Means grammar.RsaOaepParams encoding.now other
+        × (n : ℕ) × WritesDefault (oaep_fields other) n encoding.now) }
+    ensures only { (kind : der.ErrorKind) → StrictOaepFault kind encoding.now → result ≡ kind_number kind }
     ensures tidy { result ≡ OK → OaepIsTidy params.new }
     ensures unchanged { result ≢ OK → params.new ≡ params.old }
 {
-    match RsaOaepParamsRef::from_der_strict(text) {
+    match RsaOaepParamsRef::from_der_strict(encoding) {
         Ok(read) => {
             *params = to_c_oaep(&read);
             OK
@@ -120,16 +124,16 @@ pub extern "C" fn pkcs1_c_oaep_params_encode(
     ensures ok { result ≡ OK → IsShortest grammar.RsaOaepParams (oaep_seen params.now) (take len.new out.new) }
     ensures rest { result ≡ OK → (len.new ≤ length out.new) × (drop len.new out.new ≡ drop len.new out.old) }
     ensures no_room { result ≡ NO_ROOM
-        → LacksRoom grammar.RsaOaepParams (oaep_seen params.now) (length out.old) len.new }
-    ensures refused { result ≢ OK → result ≢ NO_ROOM → HasNoText grammar.RsaOaepParams (oaep_seen params.now) }
-    ensures exact { result ≢ OK → OaepRefusal (oaep_seen params.now) (length out.old) result }
-    ensures only { (status : ℕ) → OaepRefusal (oaep_seen params.now) (length out.old) status
+        → HasNoRoom grammar.RsaOaepParams (oaep_seen params.now) (length out.old) len.new }
+    ensures rejected { result ≢ OK → result ≢ NO_ROOM → IsTooLong grammar.RsaOaepParams (oaep_seen params.now) }
+    ensures exact { result ≢ OK → OaepError (oaep_seen params.now) (length out.old) result }
+    ensures only { (status : ℕ) → OaepError (oaep_seen params.now) (length out.old) status
         → result ≡ status }
     ensures unchanged { result ≢ OK → out.new ≡ out.old }
     ensures kept { result ≢ OK → result ≢ NO_ROOM → len.new ≡ len.old }
 {
     match from_c_oaep(params) {
-        Ok(made) => write_text(&made, out, len),
-        Err(refusal) => status(&refusal),
+        Ok(made) => write_encoding(&made, out, len),
+        Err(failure) => status(&failure),
     }
 }

@@ -1,5 +1,6 @@
 //! Private keys.
-ghost use Rattle.std.specs.Prelude.{length, drop, ◌≡◌, ◌≢◌, ◌<◌, ℕ, List, Option, ◌≤◌, ◌⊎◌, take, map, ◌++◌, ◌∷◌, [], OnOk, IfOk, IfErr};
+ghost use Rattle.std.specs.Prelude.{length, drop, ◌≡◌, ◌≢◌, ◌<◌, ℕ, List, Option, ◌≤◌, ◌⊎◌, take, map, ◌++◌, ◌∷◌, []};
+ghost use Rattle.std.specs.Prelude.{OnOk, IfOk, IfErr};
 ghost use Rattle.der_core.specs.Document.{Means};
 ghost use Rattle.der_core.specs.UintRefValue.{bytes_of};
 ghost use Rattle.pkcs1.specs.Keys as grammar;
@@ -10,16 +11,17 @@ ghost use Rattle.der_core.specs.declared.error.ErrorKind as der;
 ghost use Rattle.pkcs1.specs.KeyFaults.{RsaPrivateKeyFault};
 ghost use Rattle.pkcs1_c.specs.Status.{kind_number, IsNumberOfFault, status_of};
 ghost use Rattle.pkcs1_c.specs.StructValues.{private_key_seen, other_prime_seen, ArePlaced, AreListed};
-ghost use Rattle.pkcs1.specs.KeyTexts.{IsOnlyText};
+ghost use Rattle.pkcs1.specs.KeyEncodings.{IsOnlyEncoding};
 ghost use Rattle.pkcs1_c.specs.Given.{IsGiven};
 ghost use Rattle.pkcs1_c.specs.Numbers.{IsOtherOf, AreOtherNumbers};
-ghost use Rattle.pkcs1_c.specs.Refusals.{HasNoText, LacksRoom};
+ghost use Rattle.pkcs1_c.specs.NotWritten.{IsTooLong, HasNoRoom};
 ghost use Rattle.pkcs1.specs.Writing.{other_numbers};
-ghost use Rattle.pkcs1_c.specs.Unwritten.{Nothing, NumbersThen, PrivateKeyRefusal, MayWantMemory, eight_numbers, others_numbers};
+ghost use Rattle.pkcs1_c.specs.StructErrors.{Nothing, NumbersThen, PrivateKeyError, MayRunOutOfMemory, eight_numbers};
+ghost use Rattle.pkcs1_c.specs.StructErrors.{others_numbers};
 
 use crate::numbers::number;
 use crate::status::{NO_ROOM, OK, OTHER_PRIMES, OUT_OF_MEMORY, status};
-use crate::written::write_text;
+use crate::written::write_encoding;
 use der_core::ErrorKind;
 use pkcs1::{
     Error, OtherPrimeInfo, OtherPrimeInfos, OtherPrimes, RsaPrivateKey, RsaPrivateKeyRef,
@@ -114,28 +116,29 @@ pub(crate) fn to_c_key<'a>(
     }
 }
 
-/// Decodes a private key, and allocates nothing. Returns 0, fills `key` with parts of `text`, and puts its first other
-/// primes into `others`, as many as fit; or returns the status of the first fault.
+/// Decodes a private key, and allocates nothing. Returns 0, fills `key` with parts of `encoding`, and puts its first
+/// other primes into `others`, as many as fit; or returns the status of the first fault.
 #[unsafe(no_mangle)]
 pub extern "C" fn pkcs1_c_private_key_decode<'a>(
-    text: &'a [u8],
+    encoding: &'a [u8],
     key: &mut PrivateKey<'a>,
     others: &mut [OtherPrime<'a>],
 ) -> u32
     ensures ok { result ≡ OK → (infos : Option (List (grammar.OtherPrime (List ℕ))))
         × AreListed key.new.other_primes others.new infos
-        × Means grammar.RsaPrivateKey text.now (private_key_seen key.new infos) }
-    ensures one { result ≡ OK → (other : grammar.PrivateKey (List ℕ)) → Means grammar.RsaPrivateKey text.now other
+        × Means grammar.RsaPrivateKey encoding.now (private_key_seen key.new infos) }
+    ensures one { result ≡ OK → (other : grammar.PrivateKey (List ℕ)) → Means grammar.RsaPrivateKey encoding.now other
         → other ≡ private_key_seen key.new other.other_prime_infos }
     ensures rest { result ≡ OK → drop key.new.other_primes others.new ≡ drop key.new.other_primes others.old }
     ensures told { result < NO_ROOM }
-    ensures refused { result ≢ OK → (other : grammar.PrivateKey (List ℕ)) → Means grammar.RsaPrivateKey text.now other
+    ensures rejected { result ≢ OK → (other : grammar.PrivateKey (List ℕ))
+        → Means grammar.RsaPrivateKey encoding.now other
         → ⊥ }
-    ensures exact { result ≢ OK → IsNumberOfFault (λ kind. RsaPrivateKeyFault kind text.now) result }
-    ensures only { (kind : der.ErrorKind) → RsaPrivateKeyFault kind text.now → result ≡ kind_number kind }
+    ensures exact { result ≢ OK → IsNumberOfFault (λ kind. RsaPrivateKeyFault kind encoding.now) result }
+    ensures only { (kind : der.ErrorKind) → RsaPrivateKeyFault kind encoding.now → result ≡ kind_number kind }
     ensures unchanged { result ≢ OK → (key.new ≡ key.old) × (others.new ≡ others.old) }
 {
-    match RsaPrivateKeyView::try_from(text) {
+    match RsaPrivateKeyView::try_from(encoding) {
         Ok(view) => {
             *key = to_c_key(&view, others);
             OK
@@ -202,7 +205,7 @@ fn from_c_key<'a>(
     ensures ok { IfOk result (λ made. IsGiven key.now others.now (private_key_of made)) }
     ensures err { let of_others = NumbersThen (others_numbers (map other_prime_seen others.now)) Nothing in
         IfErr result (λ e. status_of e ≢ OUT_OF_MEMORY → NumbersThen (eight_numbers key.now) of_others (status_of e)) }
-    ensures memory { IfErr result (λ e. status_of e ≡ OUT_OF_MEMORY → MayWantMemory key.now others.now) }
+    ensures memory { IfErr result (λ e. status_of e ≡ OUT_OF_MEMORY → MayRunOutOfMemory key.now others.now) }
 {
     Ok(RsaPrivateKey {
         modulus: number(key.modulus)?,
@@ -229,18 +232,18 @@ pub extern "C" fn pkcs1_c_private_key_encode(
     len: &mut usize,
 ) -> u32
     ensures ok { result ≡ OK → (made : grammar.PrivateKey (List ℕ)) × IsGiven key.now others.now made
-        × IsOnlyText grammar.RsaPrivateKey made (take len.new out.new) }
+        × IsOnlyEncoding grammar.RsaPrivateKey made (take len.new out.new) }
     ensures rest { result ≡ OK → (len.new ≤ length out.new) × (drop len.new out.new ≡ drop len.new out.old) }
     ensures no_room { result ≡ NO_ROOM → (made : grammar.PrivateKey (List ℕ)) × IsGiven key.now others.now made
-        × LacksRoom grammar.RsaPrivateKey made (length out.old) len.new }
-    ensures refused { result ≢ OK → result ≢ NO_ROOM → result ≢ OUT_OF_MEMORY → (made : grammar.PrivateKey (List ℕ))
-        → IsGiven key.now others.now made → HasNoText grammar.RsaPrivateKey made }
+        × HasNoRoom grammar.RsaPrivateKey made (length out.old) len.new }
+    ensures rejected { result ≢ OK → result ≢ NO_ROOM → result ≢ OUT_OF_MEMORY → (made : grammar.PrivateKey (List ℕ))
+        → IsGiven key.now others.now made → IsTooLong grammar.RsaPrivateKey made }
     ensures counts { key.now.other_primes ≢ length others.now → result ≡ OTHER_PRIMES }
     ensures exact { result ≢ OK → result ≢ OUT_OF_MEMORY
-        → PrivateKeyRefusal key.now others.now (length out.old) result }
-    ensures only { (status : ℕ) → PrivateKeyRefusal key.now others.now (length out.old) status
+        → PrivateKeyError key.now others.now (length out.old) result }
+    ensures only { (status : ℕ) → PrivateKeyError key.now others.now (length out.old) status
         → (result ≡ status) ⊎ (result ≡ OUT_OF_MEMORY) }
-    ensures memory { result ≡ OUT_OF_MEMORY → MayWantMemory key.now others.now }
+    ensures memory { result ≡ OUT_OF_MEMORY → MayRunOutOfMemory key.now others.now }
     ensures unchanged { result ≢ OK → out.new ≡ out.old }
     ensures kept { result ≢ OK → result ≢ NO_ROOM → len.new ≡ len.old }
 {
@@ -248,7 +251,7 @@ pub extern "C" fn pkcs1_c_private_key_encode(
         return OTHER_PRIMES;
     }
     match from_c_key(alloc, key, others) {
-        Ok(key) => write_text(&key, out, len),
-        Err(refusal) => status(&refusal),
+        Ok(key) => write_encoding(&key, out, len),
+        Err(failure) => status(&failure),
     }
 }

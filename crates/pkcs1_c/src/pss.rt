@@ -3,20 +3,20 @@ ghost use Rattle.std.specs.Prelude.{◌≡◌, ◌≢◌, ◌<◌, ◌≤◌, �
 ghost use Rattle.der_core.specs.Document.{Means, IsShortest};
 ghost use Rattle.pkcs1_params.specs.Parameters as grammar;
 ghost use Rattle.pkcs1_params.specs.PssValue.{pss_of};
-ghost use Rattle.pkcs1_c.specs.Refusals.{HasNoText, LacksRoom};
+ghost use Rattle.pkcs1_c.specs.NotWritten.{IsTooLong, HasNoRoom};
 ghost use Rattle.der_core.specs.declared.error.ErrorKind as der;
 ghost use Rattle.pkcs1_params.specs.ParameterFaults.{RsaPssParamsFault, StrictPssFault};
 ghost use Rattle.pkcs1_params.specs.Parameters.{pss_fields};
 ghost use Rattle.spki_core.specs.StrictFields.{WritesDefault};
 ghost use Rattle.pkcs1_c.specs.Status.{kind_number, status_of, IsNumberOfFault};
 ghost use Rattle.pkcs1_c.specs.StructValues.{pss_seen, PssIsTidy};
-ghost use Rattle.pkcs1_c.specs.Unwritten.{Nothing, PssThen, PssRefusal};
+ghost use Rattle.pkcs1_c.specs.StructErrors.{Nothing, PssThen, PssError};
 
 use crate::algorithm::{
     Algorithm, MaskGen, from_c_algorithm, from_c_mask_gen, to_c_algorithm, to_c_mask_gen,
 };
 use crate::status::{NO_ROOM, NONCANONICAL, OK, status};
-use crate::written::write_text;
+use crate::written::write_encoding;
 use der_core::{ErrorKind, Tag};
 use pkcs1::{Error, RsaPssParams, RsaPssParamsRef, TrailerField};
 
@@ -67,21 +67,25 @@ fn from_c_pss<'a>(params: &PssParams<'a>) -> pkcs1::Result<RsaPssParamsRef<'a>>
     })
 }
 
-/// Decodes parameters of RSASSA-PSS. Returns 0 and fills `params` with parts of `text` and of static defaults, or
+/// Decodes parameters of RSASSA-PSS. Returns 0 and fills `params` with parts of `encoding` and of static defaults, or
 /// returns the status of the first fault.
 #[unsafe(no_mangle)]
-pub extern "C" fn pkcs1_c_pss_params_decode<'a>(text: &'a [u8], params: &mut PssParams<'a>) -> u32
-    ensures ok { result ≡ OK → Means grammar.RsaPssParams text.now (pss_seen params.new) }
-    ensures one { result ≡ OK → (other : grammar.PssParameters) → Means grammar.RsaPssParams text.now other
+pub extern "C" fn pkcs1_c_pss_params_decode<'a>(
+    encoding: &'a [u8],
+    params: &mut PssParams<'a>,
+) -> u32
+    ensures ok { result ≡ OK → Means grammar.RsaPssParams encoding.now (pss_seen params.new) }
+    ensures one { result ≡ OK → (other : grammar.PssParameters) → Means grammar.RsaPssParams encoding.now other
         → other ≡ pss_seen params.new }
     ensures told { result < NO_ROOM }
-    ensures refused { result ≢ OK → (other : grammar.PssParameters) → Means grammar.RsaPssParams text.now other → ⊥ }
-    ensures exact { result ≢ OK → IsNumberOfFault (λ kind. RsaPssParamsFault kind text.now) result }
-    ensures only { (kind : der.ErrorKind) → RsaPssParamsFault kind text.now → result ≡ kind_number kind }
+    ensures rejected { result ≢ OK → (other : grammar.PssParameters) → Means grammar.RsaPssParams encoding.now other
+        → ⊥ }
+    ensures exact { result ≢ OK → IsNumberOfFault (λ kind. RsaPssParamsFault kind encoding.now) result }
+    ensures only { (kind : der.ErrorKind) → RsaPssParamsFault kind encoding.now → result ≡ kind_number kind }
     ensures tidy { result ≡ OK → PssIsTidy params.new }
     ensures unchanged { result ≢ OK → params.new ≡ params.old }
 {
-    match RsaPssParamsRef::try_from(text) {
+    match RsaPssParamsRef::try_from(encoding) {
         Ok(read) => {
             *params = to_c_pss(&read);
             OK
@@ -94,25 +98,25 @@ pub extern "C" fn pkcs1_c_pss_params_decode<'a>(text: &'a [u8], params: &mut Pss
 /// with a default that is written out is rejected with status 5.
 #[unsafe(no_mangle)]
 pub extern "C" fn pkcs1_c_pss_params_decode_strict<'a>(
-    text: &'a [u8],
+    encoding: &'a [u8],
     params: &mut PssParams<'a>,
 ) -> u32
-    ensures ok { result ≡ OK → IsShortest grammar.RsaPssParams (pss_seen params.new) text.now }
-    ensures one { result ≡ OK → (other : grammar.PssParameters) → Means grammar.RsaPssParams text.now other
+    ensures ok { result ≡ OK → IsShortest grammar.RsaPssParams (pss_seen params.new) encoding.now }
+    ensures one { result ≡ OK → (other : grammar.PssParameters) → Means grammar.RsaPssParams encoding.now other
         → other ≡ pss_seen params.new }
     ensures told { result < NO_ROOM }
-    ensures refused { result ≢ OK
-        → (other : grammar.PssParameters) → IsShortest grammar.RsaPssParams other text.now → ⊥ }
+    ensures rejected { result ≢ OK
+        → (other : grammar.PssParameters) → IsShortest grammar.RsaPssParams other encoding.now → ⊥ }
     ensures default { result ≢ OK
-        → (other : grammar.PssParameters) → Means grammar.RsaPssParams text.now other → result ≡ NONCANONICAL }
-    ensures exact { result ≢ OK → IsNumberOfFault (λ kind. RsaPssParamsFault kind text.now) result
-        ⊎ ((result ≡ NONCANONICAL) × (other : grammar.PssParameters) × Means grammar.RsaPssParams text.now other
-        × (n : ℕ) × WritesDefault (pss_fields other) n text.now) }
-    ensures only { (kind : der.ErrorKind) → StrictPssFault kind text.now → result ≡ kind_number kind }
+        → (other : grammar.PssParameters) → Means grammar.RsaPssParams encoding.now other → result ≡ NONCANONICAL }
+    ensures exact { result ≢ OK → IsNumberOfFault (λ kind. RsaPssParamsFault kind encoding.now) result
+        ⊎ ((result ≡ NONCANONICAL) × (other : grammar.PssParameters) × Means grammar.RsaPssParams encoding.now other
+        × (n : ℕ) × WritesDefault (pss_fields other) n encoding.now) }
+    ensures only { (kind : der.ErrorKind) → StrictPssFault kind encoding.now → result ≡ kind_number kind }
     ensures tidy { result ≡ OK → PssIsTidy params.new }
     ensures unchanged { result ≢ OK → params.new ≡ params.old }
 {
-    match RsaPssParamsRef::from_der_strict(text) {
+    match RsaPssParamsRef::from_der_strict(encoding) {
         Ok(read) => {
             *params = to_c_pss(&read);
             OK
@@ -132,16 +136,16 @@ pub extern "C" fn pkcs1_c_pss_params_encode(
     ensures ok { result ≡ OK → IsShortest grammar.RsaPssParams (pss_seen params.now) (take len.new out.new) }
     ensures rest { result ≡ OK → (len.new ≤ length out.new) × (drop len.new out.new ≡ drop len.new out.old) }
     ensures no_room { result ≡ NO_ROOM
-        → LacksRoom grammar.RsaPssParams (pss_seen params.now) (length out.old) len.new }
-    ensures refused { result ≢ OK → result ≢ NO_ROOM → HasNoText grammar.RsaPssParams (pss_seen params.now) }
-    ensures exact { result ≢ OK → PssRefusal (pss_seen params.now) (length out.old) result }
-    ensures only { (status : ℕ) → PssRefusal (pss_seen params.now) (length out.old) status
+        → HasNoRoom grammar.RsaPssParams (pss_seen params.now) (length out.old) len.new }
+    ensures rejected { result ≢ OK → result ≢ NO_ROOM → IsTooLong grammar.RsaPssParams (pss_seen params.now) }
+    ensures exact { result ≢ OK → PssError (pss_seen params.now) (length out.old) result }
+    ensures only { (status : ℕ) → PssError (pss_seen params.now) (length out.old) status
         → result ≡ status }
     ensures unchanged { result ≢ OK → out.new ≡ out.old }
     ensures kept { result ≢ OK → result ≢ NO_ROOM → len.new ≡ len.old }
 {
     match from_c_pss(params) {
-        Ok(made) => write_text(&made, out, len),
-        Err(refusal) => status(&refusal),
+        Ok(made) => write_encoding(&made, out, len),
+        Err(failure) => status(&failure),
     }
 }

@@ -2,19 +2,19 @@
 ghost use Rattle.std.specs.Prelude.{◌≡◌, ◌≢◌, ◌<◌, ◌≤◌, ℕ, List, length, take, drop, IfOk, IfErr};
 ghost use Rattle.der_core.specs.Document.{Means};
 ghost use Rattle.pkcs1.specs.Keys as grammar;
-ghost use Rattle.pkcs1.specs.KeyTexts.{IsOnlyText};
+ghost use Rattle.pkcs1.specs.KeyEncodings.{IsOnlyEncoding};
 ghost use Rattle.pkcs1.specs.PublicKeyValue.{public_key_of};
 ghost use Rattle.pkcs1_c.specs.Numbers.{ArePublicNumbers};
-ghost use Rattle.pkcs1_c.specs.Refusals.{HasNoText, LacksRoom};
+ghost use Rattle.pkcs1_c.specs.NotWritten.{IsTooLong, HasNoRoom};
 ghost use Rattle.pkcs1_c.specs.StructValues.{public_key_seen};
-ghost use Rattle.pkcs1_c.specs.Unwritten.{Nothing, NumbersThen, PublicKeyRefusal, two_numbers};
+ghost use Rattle.pkcs1_c.specs.StructErrors.{Nothing, NumbersThen, PublicKeyError, two_numbers};
 ghost use Rattle.der_core.specs.declared.error.ErrorKind as der;
 ghost use Rattle.pkcs1.specs.KeyFaults.{RsaPublicKeyFault};
 ghost use Rattle.pkcs1_c.specs.Status.{kind_number, status_of, IsNumberOfFault};
 
 use crate::numbers::number;
 use crate::status::{NO_ROOM, OK, status};
-use crate::written::write_text;
+use crate::written::write_encoding;
 use pkcs1::{RsaPublicKey, RsaPublicKeyRef};
 
 /// The numbers of a public key, most significant byte first.
@@ -27,20 +27,20 @@ pub struct PublicKey<'a> {
     pub public_exponent: &'a [u8],
 }
 
-/// Decodes a public key. Returns 0 and fills `key` with parts of `text`, or returns the status of the first fault.
+/// Decodes a public key. Returns 0 and fills `key` with parts of `encoding`, or returns the status of the first fault.
 #[unsafe(no_mangle)]
-pub extern "C" fn pkcs1_c_public_key_decode<'a>(text: &'a [u8], key: &mut PublicKey<'a>) -> u32
-    ensures ok { result ≡ OK → Means grammar.RsaPublicKey text.now (public_key_seen key.new) }
-    ensures one { result ≡ OK → (other : grammar.PublicKey (List ℕ)) → Means grammar.RsaPublicKey text.now other
+pub extern "C" fn pkcs1_c_public_key_decode<'a>(encoding: &'a [u8], key: &mut PublicKey<'a>) -> u32
+    ensures ok { result ≡ OK → Means grammar.RsaPublicKey encoding.now (public_key_seen key.new) }
+    ensures one { result ≡ OK → (other : grammar.PublicKey (List ℕ)) → Means grammar.RsaPublicKey encoding.now other
         → other ≡ public_key_seen key.new }
     ensures told { result < NO_ROOM }
-    ensures refused { result ≢ OK
-        → (other : grammar.PublicKey (List ℕ)) → Means grammar.RsaPublicKey text.now other → ⊥ }
-    ensures exact { result ≢ OK → IsNumberOfFault (λ kind. RsaPublicKeyFault kind text.now) result }
-    ensures only { (kind : der.ErrorKind) → RsaPublicKeyFault kind text.now → result ≡ kind_number kind }
+    ensures rejected { result ≢ OK
+        → (other : grammar.PublicKey (List ℕ)) → Means grammar.RsaPublicKey encoding.now other → ⊥ }
+    ensures exact { result ≢ OK → IsNumberOfFault (λ kind. RsaPublicKeyFault kind encoding.now) result }
+    ensures only { (kind : der.ErrorKind) → RsaPublicKeyFault kind encoding.now → result ≡ kind_number kind }
     ensures unchanged { result ≢ OK → key.new ≡ key.old }
 {
-    match RsaPublicKeyRef::try_from(text) {
+    match RsaPublicKeyRef::try_from(encoding) {
         Ok(read) => {
             key.modulus = read.modulus.as_bytes();
             key.public_exponent = read.public_exponent.as_bytes();
@@ -71,20 +71,20 @@ pub extern "C" fn pkcs1_c_public_key_encode(
     len: &mut usize,
 ) -> u32
     ensures ok { result ≡ OK → (made : grammar.PublicKey (List ℕ)) × ArePublicNumbers made (public_key_seen key.now)
-        × IsOnlyText grammar.RsaPublicKey made (take len.new out.new) }
+        × IsOnlyEncoding grammar.RsaPublicKey made (take len.new out.new) }
     ensures rest { result ≡ OK → (len.new ≤ length out.new) × (drop len.new out.new ≡ drop len.new out.old) }
     ensures no_room { result ≡ NO_ROOM → (made : grammar.PublicKey (List ℕ))
         × ArePublicNumbers made (public_key_seen key.now)
-        × LacksRoom grammar.RsaPublicKey made (length out.old) len.new }
-    ensures refused { result ≢ OK → result ≢ NO_ROOM → (made : grammar.PublicKey (List ℕ))
-        → ArePublicNumbers made (public_key_seen key.now) → HasNoText grammar.RsaPublicKey made }
-    ensures exact { result ≢ OK → PublicKeyRefusal (public_key_seen key.now) (length out.old) result }
-    ensures only { (status : ℕ) → PublicKeyRefusal (public_key_seen key.now) (length out.old) status → result ≡ status }
+        × HasNoRoom grammar.RsaPublicKey made (length out.old) len.new }
+    ensures rejected { result ≢ OK → result ≢ NO_ROOM → (made : grammar.PublicKey (List ℕ))
+        → ArePublicNumbers made (public_key_seen key.now) → IsTooLong grammar.RsaPublicKey made }
+    ensures exact { result ≢ OK → PublicKeyError (public_key_seen key.now) (length out.old) result }
+    ensures only { (status : ℕ) → PublicKeyError (public_key_seen key.now) (length out.old) status → result ≡ status }
     ensures unchanged { result ≢ OK → out.new ≡ out.old }
     ensures kept { result ≢ OK → result ≢ NO_ROOM → len.new ≡ len.old }
 {
     match from_c_key(key) {
-        Ok(key) => write_text(&key, out, len),
-        Err(refusal) => status(&refusal),
+        Ok(key) => write_encoding(&key, out, len),
+        Err(failure) => status(&failure),
     }
 }

@@ -1,7 +1,7 @@
 -- A line has at most one answer, and an input at most one output.
 use Rattle.std.proofs.Common.{◌≡◌, ℕ, ◌^◌, ◌⊎◌, inl, inr, List, [], ◌∷◌, ◌++◌, sym, ap, ◌∙◌, subst}
 use Rattle.std.specs.Prelude.{codes}
-use Rattle.der_core.specs.Texts.{AtMostOne, MeansOne, IsDelimited}
+use Rattle.der_core.specs.Encodings.{AtMostOne, MeansOne, IsDelimited}
 use Rattle.der_core.specs.Document.{IsShortest, MeanTheSame}
 use Rattle.der_core.specs.Laws.Shortest.{means_one, shortest_same}
 use Rattle.spki_core.specs.Explicit.{Field, HaveDefaults}
@@ -14,39 +14,39 @@ use Rattle.pkcs1_lines.specs.declared.request.Word.TheVariants as word
 use Rattle.pkcs1_lines.specs.declared.request.PairWord.{PairWord}
 use Rattle.pkcs1_lines.specs.declared.request.PairWord.TheVariants as pair
 use Rattle.pkcs1_lines.specs.Request.{Asked, bad_line, asks, asks_pair, asked_by}
-use Rattle.pkcs1.specs.KeyTexts.{IsSentence}
+use Rattle.pkcs1.specs.KeyEncodings.{IsSentence}
 use Rattle.pkcs1_params.specs.Meanings.{IsNoSentence}
 use Rattle.pkcs1_lines.specs.Answer.{Answered, Tells, TellsParameters, SaysWhether, TellsStrict, TellsSame, TellsSpellings, RsaPrivateKeyInfo, TellsContainer, WordAnswer, PairAnswer, AnswerTo, Answer, Answers}
 use Rattle.pkcs1_lines.specs.Told.{pub_answer, priv_answer, p8_answer, pss_answer, oaep_answer, spell_answer}
-use Rattle.pkcs1_lines.proofs.Spelled.{same_texts}
+use Rattle.pkcs1_lines.proofs.Spelled.{same_encodings}
 
 -- what is told of the one value is one
-answered_one : {V : Type 0} (Grammar : V → List ℕ → Type 0) (Told : V → List ℕ → Type 0) → MeansOne Grammar → ((value : V) → AtMostOne (Told value)) → (text : List ℕ)
-    → AtMostOne (Answered Grammar Told text)
-answered_one Grammar Told one told text a b (inl p) (inl q) = p.1 ∙ sym q.1
-answered_one Grammar Told one told text a b (inl p) (inr q) = absurd (p.0 q.0 q.1)
-answered_one Grammar Told one told text a b (inr p) (inl q) = absurd (q.0 p.0 p.1)
-answered_one Grammar Told one told text a b (inr p) (inr q) =
-    let value : p.0 ≡ q.0 = one p.0 q.0 text p.1.1 q.1.1 in
+answered_one : {V : Type 0} (Grammar : V → List ℕ → Type 0) (Told : V → List ℕ → Type 0) → MeansOne Grammar → ((value : V) → AtMostOne (Told value)) → (encoding : List ℕ)
+    → AtMostOne (Answered Grammar Told encoding)
+answered_one Grammar Told one told encoding a b (inl p) (inl q) = p.1 ∙ sym q.1
+answered_one Grammar Told one told encoding a b (inl p) (inr q) = absurd (p.0 q.0 q.1)
+answered_one Grammar Told one told encoding a b (inr p) (inl q) = absurd (q.0 p.0 p.1)
+answered_one Grammar Told one told encoding a b (inr p) (inr q) =
+    let value : p.0 ≡ q.0 = one p.0 q.0 encoding p.1.1 q.1.1 in
     told q.0 a b (subst (λ v. Told v a) value p.2) q.2
 
-tells_one : {V : Type 0} (Grammar : V → List ℕ → Type 0) (told : V → List ℕ → List ℕ) → MeansOne Grammar → (text : List ℕ) → AtMostOne (Tells Grammar told text)
-tells_one Grammar told one text =
-    answered_one Grammar _ one (λ value a b p q. p.2 ∙ ap (told value) (shortest_same value p.0 q.0 p.1 q.1) ∙ sym q.2) text
+tells_one : {V : Type 0} (Grammar : V → List ℕ → Type 0) (told : V → List ℕ → List ℕ) → MeansOne Grammar → (encoding : List ℕ) → AtMostOne (Tells Grammar told encoding)
+tells_one Grammar told one encoding =
+    answered_one Grammar _ one (λ value a b p q. p.2 ∙ ap (told value) (shortest_same value p.0 q.0 p.1 q.1) ∙ sym q.2) encoding
 
 -- a value has one number of defaults
 defaults_same : {V : Type 0} (fields : V → List Field) → DefaultsAreCounted fields → (value : V) (j k : ℕ) → HaveDefaults (fields value) j → HaveDefaults (fields value) k → j ≡ k
 defaults_same fields counted value j k p q = let count = counted value in count.2 j p ∙ sym (count.2 k q)
 
-tells_parameters_one : {V : Type 0} (Grammar : V → List ℕ → Type 0) (fields : V → List Field) (told : V → ℕ → List ℕ → List ℕ) → MeansOne Grammar → DefaultsAreCounted fields → (text : List ℕ)
-    → AtMostOne (TellsParameters Grammar fields told text)
-tells_parameters_one Grammar fields told one counted text =
+tells_parameters_one : {V : Type 0} (Grammar : V → List ℕ → Type 0) (fields : V → List Field) (told : V → ℕ → List ℕ → List ℕ) → MeansOne Grammar → DefaultsAreCounted fields → (encoding : List ℕ)
+    → AtMostOne (TellsParameters Grammar fields told encoding)
+tells_parameters_one Grammar fields told one counted encoding =
     answered_one Grammar _ one
     (λ value a b p q.
     let defaults : p.0 ≡ q.0 = defaults_same fields counted value p.0 q.0 p.1 q.1 in
     let again : p.2 ≡ q.2 = shortest_same value p.2 q.2 p.3 q.3 in
     p.4 ∙ (λ i. told value (defaults i) (again i)) ∙ sym q.4)
-    text
+    encoding
 
 says_one : (word : List ℕ) (fact : Type 0) → AtMostOne (SaysWhether word fact)
 says_one word fact a b (inl p) (inl q) = p.1 ∙ sym q.1
@@ -54,24 +54,24 @@ says_one word fact a b (inl p) (inr q) = absurd (q.0 p.0)
 says_one word fact a b (inr p) (inl q) = absurd (p.0 q.0)
 says_one word fact a b (inr p) (inr q) = p.1 ∙ sym q.1
 
-tells_strict_one : {V : Type 0} (word : List ℕ) (Grammar : V → List ℕ → Type 0) → MeansOne Grammar → (text : List ℕ) → AtMostOne (TellsStrict word Grammar text)
-tells_strict_one word Grammar one text = answered_one Grammar _ one (λ value. says_one word (IsShortest Grammar value text)) text
+tells_strict_one : {V : Type 0} (word : List ℕ) (Grammar : V → List ℕ → Type 0) → MeansOne Grammar → (encoding : List ℕ) → AtMostOne (TellsStrict word Grammar encoding)
+tells_strict_one word Grammar one encoding = answered_one Grammar _ one (λ value. says_one word (IsShortest Grammar value encoding)) encoding
 
--- no value has one of two texts, and some value has each
+-- no value has one of two encodings, and some value has each
 not_both : {V : Type 0} (Grammar : V → List ℕ → Type 0) (a b : List ℕ) → IsNoSentence Grammar a ⊎ IsNoSentence Grammar b → IsSentence Grammar a → IsSentence Grammar b → ⊥
 not_both Grammar a b (inl none) some other = none some.0 some.1
 not_both Grammar a b (inr none) some other = none other.0 other.1
 
-tells_spellings_one : {V : Type 0} (word : List ℕ) (Grammar : V → List ℕ → Type 0) (fields : V → List Field) → MeansOne Grammar → DefaultsAreCounted fields → EachMaskHasOne fields → (text : List ℕ)
-    → AtMostOne (TellsSpellings word Grammar fields text)
-tells_spellings_one word Grammar fields one counted each text =
+tells_spellings_one : {V : Type 0} (word : List ℕ) (Grammar : V → List ℕ → Type 0) (fields : V → List Field) → MeansOne Grammar → DefaultsAreCounted fields → EachMaskHasOne fields → (encoding : List ℕ)
+    → AtMostOne (TellsSpellings word Grammar fields encoding)
+tells_spellings_one word Grammar fields one counted each encoding =
     answered_one (λ value t. Grammar value t × AllFit (fields value))
-    (λ value a. (k : ℕ) × HaveDefaults (fields value) k × (texts : List (List ℕ)) × AreUnder (fields value) (2 ^ k) texts × (a ≡ spell_answer word texts))
+    (λ value a. (k : ℕ) × HaveDefaults (fields value) k × (encodings : List (List ℕ)) × AreUnder (fields value) (2 ^ k) encodings × (a ≡ spell_answer word encodings))
     (λ v w t p q. one v w t p.0 q.0)
     (λ value a b p q.
     let k : p.0 ≡ q.0 = defaults_same fields counted value p.0 q.0 p.1 q.1 in
-    p.4 ∙ ap (spell_answer word) (same_texts fields value _ _ p.2 q.2 each (ap (λ n. 2 ^ n) k) p.3 q.3) ∙ sym q.4)
-    text
+    p.4 ∙ ap (spell_answer word) (same_encodings fields value _ _ p.2 q.2 each (ap (λ n. 2 ^ n) k) p.3 q.3) ∙ sym q.4)
+    encoding
 
 tells_same_one : {V : Type 0} (word : List ℕ) (Grammar : V → List ℕ → Type 0) (first second : List ℕ) → AtMostOne (TellsSame word Grammar first second)
 tells_same_one word Grammar first second a b (inl p) (inl q) = p.1 ∙ sym q.1
@@ -92,38 +92,38 @@ pub record Laws : Type 0 where
 
 module _ (laws : Laws) where
   public_means_one : MeansOne RsaPublicKey
-  public_means_one v w text p q = means_one laws.public v w text p q
+  public_means_one v w encoding p q = means_one laws.public v w encoding p q
 
   private_means_one : MeansOne RsaPrivateKey
-  private_means_one v w text p q = means_one laws.private v w text p q
+  private_means_one v w encoding p q = means_one laws.private v w encoding p q
 
   pss_means_one : MeansOne RsaPssParams
-  pss_means_one v w text p q = means_one laws.pss v w text p q
+  pss_means_one v w encoding p q = means_one laws.pss v w encoding p q
 
   oaep_means_one : MeansOne RsaOaepParams
-  oaep_means_one v w text p q = means_one laws.oaep v w text p q
+  oaep_means_one v w encoding p q = means_one laws.oaep v w encoding p q
 
   container_means_one : MeansOne RsaPrivateKeyInfo
-  container_means_one v w text p q =
-      let info : v.info ≡ w.info = means_one info_delimited v.info w.info text p.0 q.0 in
+  container_means_one v w encoding p q =
+      let info : v.info ≡ w.info = means_one info_delimited v.info w.info encoding p.0 q.0 in
       let same : RsaPrivateKey v.key w.info.private_key = subst (λ i. RsaPrivateKey v.key i.private_key) info p.1.1.1 in
       let key : v.key ≡ w.key = private_means_one v.key w.key w.info.private_key same q.1.1.1 in
       λ i. record { info = info i; key = key i }
 
-  tells_container_one : (text : List ℕ) → AtMostOne (TellsContainer text)
-  tells_container_one text =
-      answered_one RsaPrivateKeyInfo (λ held a. a ≡ p8_answer held.key held.info.attributes text) container_means_one (λ held a b p q. p ∙ sym q) text
+  tells_container_one : (encoding : List ℕ) → AtMostOne (TellsContainer encoding)
+  tells_container_one encoding =
+      answered_one RsaPrivateKeyInfo (λ held a. a ≡ p8_answer held.key held.info.attributes encoding) container_means_one (λ held a b p q. p ∙ sym q) encoding
 
-  word_answer_one : (asked : Word) (text : List ℕ) → AtMostOne (WordAnswer asked text)
-  word_answer_one word.Pub text a b p q = tells_one RsaPublicKey pub_answer public_means_one text a b p q
-  word_answer_one word.Priv text a b p q = tells_one RsaPrivateKey priv_answer private_means_one text a b p q
-  word_answer_one word.Pss text a b p q = tells_parameters_one RsaPssParams pss_fields pss_answer pss_means_one laws.pss_counted text a b p q
-  word_answer_one word.Oaep text a b p q = tells_parameters_one RsaOaepParams oaep_fields oaep_answer oaep_means_one laws.oaep_counted text a b p q
-  word_answer_one word.P8 text a b p q = tells_container_one text a b p q
-  word_answer_one word.SpellPss text a b p q = tells_spellings_one (codes "spell-pss") RsaPssParams pss_fields pss_means_one laws.pss_counted laws.pss_masks text a b p q
-  word_answer_one word.SpellOaep text a b p q = tells_spellings_one (codes "spell-oaep") RsaOaepParams oaep_fields oaep_means_one laws.oaep_counted laws.oaep_masks text a b p q
-  word_answer_one word.StrictPss text a b p q = tells_strict_one (codes "strict-pss") RsaPssParams pss_means_one text a b p q
-  word_answer_one word.StrictOaep text a b p q = tells_strict_one (codes "strict-oaep") RsaOaepParams oaep_means_one text a b p q
+  word_answer_one : (asked : Word) (encoding : List ℕ) → AtMostOne (WordAnswer asked encoding)
+  word_answer_one word.Pub encoding a b p q = tells_one RsaPublicKey pub_answer public_means_one encoding a b p q
+  word_answer_one word.Priv encoding a b p q = tells_one RsaPrivateKey priv_answer private_means_one encoding a b p q
+  word_answer_one word.Pss encoding a b p q = tells_parameters_one RsaPssParams pss_fields pss_answer pss_means_one laws.pss_counted encoding a b p q
+  word_answer_one word.Oaep encoding a b p q = tells_parameters_one RsaOaepParams oaep_fields oaep_answer oaep_means_one laws.oaep_counted encoding a b p q
+  word_answer_one word.P8 encoding a b p q = tells_container_one encoding a b p q
+  word_answer_one word.SpellPss encoding a b p q = tells_spellings_one (codes "spell-pss") RsaPssParams pss_fields pss_means_one laws.pss_counted laws.pss_masks encoding a b p q
+  word_answer_one word.SpellOaep encoding a b p q = tells_spellings_one (codes "spell-oaep") RsaOaepParams oaep_fields oaep_means_one laws.oaep_counted laws.oaep_masks encoding a b p q
+  word_answer_one word.StrictPss encoding a b p q = tells_strict_one (codes "strict-pss") RsaPssParams pss_means_one encoding a b p q
+  word_answer_one word.StrictOaep encoding a b p q = tells_strict_one (codes "strict-oaep") RsaOaepParams oaep_means_one encoding a b p q
 
   pair_answer_one : (asked : PairWord) (first second : List ℕ) → AtMostOne (PairAnswer asked first second)
   pair_answer_one pair.SamePss first second a b p q = tells_same_one (codes "same-pss") RsaPssParams first second a b p q
@@ -131,7 +131,7 @@ module _ (laws : Laws) where
 
   answer_to_one : (asked : Asked) → AtMostOne (AnswerTo asked)
   answer_to_one bad_line a b p q = p ∙ sym q
-  answer_to_one (asks word text) a b p q = word_answer_one word text a b p q
+  answer_to_one (asks word encoding) a b p q = word_answer_one word encoding a b p q
   answer_to_one (asks_pair word first second) a b p q = pair_answer_one word first second a b p q
 
   pub answers_at_most_one : (line : List ℕ) → AtMostOne (Answer line)

@@ -4,7 +4,7 @@ use Rattle.std.specs.Prelude.{Result, OnOk, ◌↔◌, codes, if◌then◌else�
 use Rattle.std.proofs.lemmas.Result.{on_ok_weaker}
 use Rattle.der_core.specs.Document.{Means, IsShortest, MeanTheSame}
 use Rattle.der_core.specs.Laws.Shortest.{means_one, same_by_shortest}
-use Rattle.der_core.specs.Texts.{IsDelimited}
+use Rattle.der_core.specs.Encodings.{IsDelimited}
 use Rattle.pkcs1_lines.specs.Answer.{SaysWhether, TellsStrict, TellsSame}
 
 abbrev said : List ℕ → Bool → List ℕ
@@ -15,18 +15,18 @@ says word true fact is = inl (is.0 refl, refl)
 says word false fact is = inr ((λ so. let no : false ≡ true = is.1 so in cc), refl)
 
 module _ {V T E : Type 0} (Grammar : V → List ℕ → Type 0) (splits : IsDelimited Grammar) (word old new : List ℕ) (holds : Bool) (r : Result T E) where
-  -- whether a text with a value is the shortest one
-  pub strict_told : (v : V) (text : List ℕ) → Means Grammar text v → IsTrue holds ↔ ((w : V) × IsShortest Grammar w text) → OnOk r (new ≡ old ++ said word holds)
-      → OnOk r ((answer : List ℕ) × TellsStrict word Grammar text answer × (new ≡ old ++ answer))
-  strict_told v text means is put =
-      let own : IsTrue holds ↔ IsShortest Grammar v text = (
-        λ so. let some = is.0 so in subst (λ w. IsShortest Grammar w text) (means_one splits some.0 v text some.1.spells.1 means.1) some.1,
+  -- whether an encoding with a value is the shortest one
+  pub strict_told : (v : V) (encoding : List ℕ) → Means Grammar encoding v → IsTrue holds ↔ ((w : V) × IsShortest Grammar w encoding) → OnOk r (new ≡ old ++ said word holds)
+      → OnOk r ((answer : List ℕ) × TellsStrict word Grammar encoding answer × (new ≡ old ++ answer))
+  strict_told v encoding means is put =
+      let own : IsTrue holds ↔ IsShortest Grammar v encoding = (
+        λ so. let some = is.0 so in subst (λ w. IsShortest Grammar w encoding) (means_one splits some.0 v encoding some.1.spells.1 means.1) some.1,
         λ shortest. is.1 (v, shortest),
       )
       in
-      on_ok_weaker r (λ p. (said word holds, inr (v, means, says word holds (IsShortest Grammar v text) own), p)) put
+      on_ok_weaker r (λ p. (said word holds, inr (v, means, says word holds (IsShortest Grammar v encoding) own), p)) put
 
-  -- whether two texts with values mean the same, by the shortest texts of these
+  -- whether two encodings with values mean the same, by the shortest encodings of these
   pub same_told : (v w : V) (a b s t : List ℕ) → Means Grammar a v → Means Grammar b w → IsShortest Grammar v s → IsShortest Grammar w t → IsTrue holds ↔ (s ≡ t)
       → OnOk r (new ≡ old ++ said word holds) → OnOk r ((answer : List ℕ) × TellsSame word Grammar a b answer × (new ≡ old ++ answer))
   same_told v w a b s t p q x y is put =

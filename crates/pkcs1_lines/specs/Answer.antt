@@ -2,7 +2,7 @@
 use Rattle.std.specs.Prelude.{◌≡◌, ℕ, ◌^◌, ◌⊎◌, List, [], ◌∷◌, ◌++◌, codes}
 use Rattle.der_core.specs.Document.{Means, IsShortest, MeanTheSame}
 use Rattle.spki_core.specs.Explicit.{Field, HaveDefaults}
-use Rattle.pkcs1.specs.KeyTexts.{IsSentence}
+use Rattle.pkcs1.specs.KeyEncodings.{IsSentence}
 use Rattle.pkcs1.specs.Keys.{RsaPublicKey, PrivateKey, RsaPrivateKey}
 use Rattle.pkcs1_params.specs.Meanings.{IsNoSentence}
 use Rattle.pkcs1_params.specs.Parameters.{RsaPssParams, pss_fields, RsaOaepParams, oaep_fields}
@@ -19,16 +19,16 @@ use Rattle.pkcs1_lines.specs.Told.{pub_answer, priv_answer, p8_answer, pss_answe
 
 -- If no value has the encoding, the output is `refused`; else it is what `Told` says of the value.
 abbrev pub Answered : {V : Type 0} → (V → List ℕ → Type 0) → (V → List ℕ → Type 0) → List ℕ → List ℕ → Type 0
-Answered {V} Grammar Told text answer = (IsNoSentence Grammar text × (answer ≡ codes "refused")) ⊎ ((value : V) × Means Grammar text value × Told value answer)
+Answered {V} Grammar Told encoding answer = (IsNoSentence Grammar encoding × (answer ≡ codes "refused")) ⊎ ((value : V) × Means Grammar encoding value × Told value answer)
 
 -- the value and its shortest encoding
 abbrev pub Tells : {V : Type 0} → (V → List ℕ → Type 0) → (V → List ℕ → List ℕ) → List ℕ → List ℕ → Type 0
-Tells Grammar told text answer = Answered Grammar (λ value a. (again : List ℕ) × IsShortest Grammar value again × (a ≡ told value again)) text answer
+Tells Grammar told encoding answer = Answered Grammar (λ value a. (again : List ℕ) × IsShortest Grammar value again × (a ≡ told value again)) encoding answer
 
 -- the value, how many of its fields equal their defaults, and its shortest encoding
 abbrev pub TellsParameters : {V : Type 0} → (V → List ℕ → Type 0) → (V → List Field) → (V → ℕ → List ℕ → List ℕ) → List ℕ → List ℕ → Type 0
-TellsParameters Grammar fields told text answer =
-    Answered Grammar (λ value a. (k : ℕ) × HaveDefaults (fields value) k × (again : List ℕ) × IsShortest Grammar value again × (a ≡ told value k again)) text answer
+TellsParameters Grammar fields told encoding answer =
+    Answered Grammar (λ value a. (k : ℕ) × HaveDefaults (fields value) k × (again : List ℕ) × IsShortest Grammar value again × (a ≡ told value k again)) encoding answer
 
 -- the word and ` yes` if the fact holds, else the word and ` no`
 abbrev pub SaysWhether : List ℕ → Type 0 → List ℕ → Type 0
@@ -36,14 +36,14 @@ SaysWhether word fact answer = (fact × (answer ≡ word ++ codes " yes")) ⊎ (
 
 -- whether the encoding is the shortest of its value
 abbrev pub TellsStrict : {V : Type 0} → List ℕ → (V → List ℕ → Type 0) → List ℕ → List ℕ → Type 0
-TellsStrict word Grammar text answer = Answered Grammar (λ value a. SaysWhether word (IsShortest Grammar value text) a) text answer
+TellsStrict word Grammar encoding answer = Answered Grammar (λ value a. SaysWhether word (IsShortest Grammar value encoding) a) encoding answer
 
 -- If no value has the encoding, or its value has an encoding longer than the limit, the output is `refused`; else it
 -- lists the encodings of the value, ordered by mask.
 abbrev pub TellsSpellings : {V : Type 0} → List ℕ → (V → List ℕ → Type 0) → (V → List Field) → List ℕ → List ℕ → Type 0
-TellsSpellings word Grammar fields text answer =
+TellsSpellings word Grammar fields encoding answer =
     Answered (λ value t. Grammar value t × AllFit (fields value))
-    (λ value a. (k : ℕ) × HaveDefaults (fields value) k × (texts : List (List ℕ)) × AreUnder (fields value) (2 ^ k) texts × (a ≡ spell_answer word texts)) text answer
+    (λ value a. (k : ℕ) × HaveDefaults (fields value) k × (encodings : List (List ℕ)) × AreUnder (fields value) (2 ^ k) encodings × (a ≡ spell_answer word encodings)) encoding answer
 
 -- If one of the two is no encoding of any value, the output is `refused`; else it says whether one value has both.
 abbrev pub TellsSame : {V : Type 0} → List ℕ → (V → List ℕ → Type 0) → List ℕ → List ℕ → List ℕ → Type 0
@@ -56,23 +56,23 @@ pub record RsaContainer : Type 0 where
   pub key : PrivateKey (List ℕ)
 
 abbrev pub RsaPrivateKeyInfo : RsaContainer → List ℕ → Type 0
-RsaPrivateKeyInfo held text = PrivateKeyInfo held.info text × HoldsRsa held.info held.key
+RsaPrivateKeyInfo held encoding = PrivateKeyInfo held.info encoding × HoldsRsa held.info held.key
 
 -- the RSA key in the container, the container's attributes, and its encoding
 abbrev pub TellsContainer : List ℕ → List ℕ → Type 0
-TellsContainer text answer = Answered RsaPrivateKeyInfo (λ held a. a ≡ p8_answer held.key held.info.attributes text) text answer
+TellsContainer encoding answer = Answered RsaPrivateKeyInfo (λ held a. a ≡ p8_answer held.key held.info.attributes encoding) encoding answer
 
 -- the output for a word with one encoding
 abbrev pub WordAnswer : Word → List ℕ → List ℕ → Type 0
-WordAnswer word.Pub text answer = Tells RsaPublicKey pub_answer text answer
-WordAnswer word.Priv text answer = Tells RsaPrivateKey priv_answer text answer
-WordAnswer word.Pss text answer = TellsParameters RsaPssParams pss_fields pss_answer text answer
-WordAnswer word.Oaep text answer = TellsParameters RsaOaepParams oaep_fields oaep_answer text answer
-WordAnswer word.P8 text answer = TellsContainer text answer
-WordAnswer word.SpellPss text answer = TellsSpellings (codes "spell-pss") RsaPssParams pss_fields text answer
-WordAnswer word.SpellOaep text answer = TellsSpellings (codes "spell-oaep") RsaOaepParams oaep_fields text answer
-WordAnswer word.StrictPss text answer = TellsStrict (codes "strict-pss") RsaPssParams text answer
-WordAnswer word.StrictOaep text answer = TellsStrict (codes "strict-oaep") RsaOaepParams text answer
+WordAnswer word.Pub encoding answer = Tells RsaPublicKey pub_answer encoding answer
+WordAnswer word.Priv encoding answer = Tells RsaPrivateKey priv_answer encoding answer
+WordAnswer word.Pss encoding answer = TellsParameters RsaPssParams pss_fields pss_answer encoding answer
+WordAnswer word.Oaep encoding answer = TellsParameters RsaOaepParams oaep_fields oaep_answer encoding answer
+WordAnswer word.P8 encoding answer = TellsContainer encoding answer
+WordAnswer word.SpellPss encoding answer = TellsSpellings (codes "spell-pss") RsaPssParams pss_fields encoding answer
+WordAnswer word.SpellOaep encoding answer = TellsSpellings (codes "spell-oaep") RsaOaepParams oaep_fields encoding answer
+WordAnswer word.StrictPss encoding answer = TellsStrict (codes "strict-pss") RsaPssParams encoding answer
+WordAnswer word.StrictOaep encoding answer = TellsStrict (codes "strict-oaep") RsaOaepParams encoding answer
 
 -- the output for a word with two encodings
 abbrev pub PairAnswer : PairWord → List ℕ → List ℕ → List ℕ → Type 0
@@ -81,7 +81,7 @@ PairAnswer pair.SameOaep a b answer = TellsSame (codes "same-oaep") RsaOaepParam
 
 abbrev pub AnswerTo : Asked → List ℕ → Type 0
 AnswerTo bad_line answer = answer ≡ codes "bad line"
-AnswerTo (asks word text) answer = WordAnswer word text answer
+AnswerTo (asks word encoding) answer = WordAnswer word encoding answer
 AnswerTo (asks_pair word a b) answer = PairAnswer word a b answer
 
 -- the output for a line

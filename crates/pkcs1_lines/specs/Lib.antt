@@ -1,7 +1,7 @@
 pub mod Lines
 pub mod Request
 pub mod RequestValue
-pub mod Refused
+pub mod MemoryErrors
 pub mod Told
 pub mod Answer
 pub mod Put

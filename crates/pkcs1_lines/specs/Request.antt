@@ -38,21 +38,21 @@ pub data Asked : Type 0 where
   asks_pair : PairWord → List ℕ → List ℕ → Asked
 
 abbrev pub decoded : Result (List ℕ) FromHexError → Option (List ℕ)
-decoded (Ok text) = Some text
+decoded (Ok encoding) = Some encoding
 decoded (Err e) = None
 
 -- the bytes of an even number of hexadecimal digits, of either case
-abbrev pub text_of : List ℕ → Option (List ℕ)
-text_of hex = decoded (decode_of hex)
+abbrev pub encoding_of : List ℕ → Option (List ℕ)
+encoding_of hex = decoded (decode_of hex)
 
 -- the value beside the name in a list
 abbrev pub named : {W : Type 0} → List (List ℕ × W) → List ℕ → Option W
 named rows name = option_map (λ row. row.1) (find (λ row. bytes_eq row.0 name) rows)
 
 abbrev pub asked_with : Option Word → Option (List ℕ) → Asked
-asked_with (Some word) (Some text) = asks word text
+asked_with (Some word) (Some encoding) = asks word encoding
 asked_with (Some word) None = bad_line
-asked_with None text = bad_line
+asked_with None encoding = bad_line
 
 abbrev pub pair_asked_with : Option PairWord → Option (List ℕ) → Option (List ℕ) → Asked
 pair_asked_with (Some word) (Some first) (Some second) = asks_pair word first second
@@ -63,8 +63,8 @@ pair_asked_with None first second = bad_line
 abbrev pub asked_by_parts : List (List ℕ) → Asked
 asked_by_parts [] = bad_line
 asked_by_parts (word ∷ []) = bad_line
-asked_by_parts (word ∷ hex ∷ []) = asked_with (named words word) (text_of hex)
-asked_by_parts (word ∷ hex ∷ second ∷ []) = pair_asked_with (named pair_words word) (text_of hex) (text_of second)
+asked_by_parts (word ∷ hex ∷ []) = asked_with (named words word) (encoding_of hex)
+asked_by_parts (word ∷ hex ∷ second ∷ []) = pair_asked_with (named pair_words word) (encoding_of hex) (encoding_of second)
 asked_by_parts (word ∷ hex ∷ second ∷ more ∷ rest) = bad_line
 
 -- what the line asks for

@@ -114,7 +114,7 @@ pss_answer p k again =
 
 -- the word, the number of encodings, and each of them
 abbrev pub spell_answer : List ℕ → List (List ℕ) → List ℕ
-spell_answer word texts = word ++ (number_field (codes " ") (length texts) ++ flat_map (λ text. field (codes " ") text) texts)
+spell_answer word encodings = word ++ (number_field (codes " ") (length encodings) ++ flat_map (λ encoding. field (codes " ") encoding) encodings)
 
 -- `oaep hash=ALG mask=MASK source=ALG defaults=K again=HEX`
 abbrev pub oaep_answer : OaepParameters → ℕ → List ℕ → List ℕ

@@ -6,12 +6,13 @@ ghost use Rattle.der_core.specs.UintRefValue.{bytes_of};
 ghost use Rattle.pkcs1.specs.Keys.{RsaPublicKey, RsaPrivateKey};
 ghost use Rattle.pkcs1.specs.PublicKeyValue.{public_key_of};
 ghost use Rattle.pkcs1.specs.PrivateKeyValue.{other_of};
-ghost use Rattle.pkcs1.specs.ViewParts.{view_of, viewed_text};
+ghost use Rattle.pkcs1.specs.ViewParts.{view_of, viewed_encoding};
 ghost use Rattle.pkcs8_core.specs.Held.{info_of};
 ghost use Rattle.pkcs1_params.specs.Meanings.{IsNoSentence};
 ghost use Rattle.pkcs1_lines.specs.Answer.{Tells, RsaPrivateKeyInfo, TellsContainer};
 ghost use Rattle.pkcs1_lines.specs.Put.{Puts};
-ghost use Rattle.pkcs1_lines.specs.Told.{field, pub_answer, version_told, numbers_told, other_told, others_told, key_told, priv_answer, attributes_told, p8_answer};
+ghost use Rattle.pkcs1_lines.specs.Told.{field, pub_answer, version_told, numbers_told, other_told, others_told};
+ghost use Rattle.pkcs1_lines.specs.Told.{key_told, priv_answer, attributes_told, p8_answer};
 
 use crate::digits::put_field;
 use crate::verdict::put_refused;
@@ -40,11 +41,11 @@ fn put_pub(key: &RsaPublicKeyRef<'_>, again: &[u8], out: &mut Vec<u8>) -> Result
 
 /// Appends the output for `pub` to `out`. `again=` gets the input, since a key has only one encoding. Only `out`
 /// allocates.
-pub fn answer_pub(text: &[u8], out: &mut Vec<u8>) -> Result<(), AllocError>
-    ensures { OnOk result (Puts (Tells RsaPublicKey pub_answer text.now) out.old.items out.new.items) }
+pub fn answer_pub(encoding: &[u8], out: &mut Vec<u8>) -> Result<(), AllocError>
+    ensures { OnOk result (Puts (Tells RsaPublicKey pub_answer encoding.now) out.old.items out.new.items) }
 {
-    match RsaPublicKeyRef::try_from(text) {
-        Ok(key) => put_pub(&key, text, out),
+    match RsaPublicKeyRef::try_from(encoding) {
+        Ok(key) => put_pub(&key, encoding, out),
         Err(_) => put_refused(out),
     }
 }
@@ -113,7 +114,7 @@ fn put_key(key: &RsaPrivateKeyView<'_>, out: &mut Vec<u8>) -> Result<(), AllocEr
 
 /// Appends the output for a private key to `out`.
 fn put_priv(key: &RsaPrivateKeyView<'_>, out: &mut Vec<u8>) -> Result<(), AllocError>
-    ensures { OnOk result (out.new.items ≡ out.old.items ++ priv_answer (view_of key.now) (viewed_text key.now)) }
+    ensures { OnOk result (out.new.items ≡ out.old.items ++ priv_answer (view_of key.now) (viewed_encoding key.now)) }
 {
     out.extend_from_slice(b"priv")?;
     put_key(key, out)?;
@@ -121,22 +122,22 @@ fn put_priv(key: &RsaPrivateKeyView<'_>, out: &mut Vec<u8>) -> Result<(), AllocE
 }
 
 /// Appends the output for `priv` to `out`. Only `out` allocates.
-pub fn answer_priv(text: &[u8], out: &mut Vec<u8>) -> Result<(), AllocError>
-    ensures { OnOk result (Puts (Tells RsaPrivateKey priv_answer text.now) out.old.items out.new.items) }
+pub fn answer_priv(encoding: &[u8], out: &mut Vec<u8>) -> Result<(), AllocError>
+    ensures { OnOk result (Puts (Tells RsaPrivateKey priv_answer encoding.now) out.old.items out.new.items) }
 {
-    match RsaPrivateKeyView::try_from(text) {
+    match RsaPrivateKeyView::try_from(encoding) {
         Ok(key) => put_priv(&key, out),
         Err(_) => put_refused(out),
     }
 }
 
 /// Decodes a container and the RSA key in it, or returns `None`.
-fn read_container<'a>(text: &'a [u8]) -> Option<(PrivateKeyInfoRef<'a>, RsaPrivateKeyView<'a>)>
+fn read_container<'a>(encoding: &'a [u8]) -> Option<(PrivateKeyInfoRef<'a>, RsaPrivateKeyView<'a>)>
     ensures some { IfSome result (λ p.
-        Means RsaPrivateKeyInfo text.now (record { info = info_of p.0; key = view_of p.1 })) }
-    ensures none { IfNone result (IsNoSentence RsaPrivateKeyInfo text.now) }
+        Means RsaPrivateKeyInfo encoding.now (record { info = info_of p.0; key = view_of p.1 })) }
+    ensures none { IfNone result (IsNoSentence RsaPrivateKeyInfo encoding.now) }
 {
-    let Ok(info) = PrivateKeyInfoRef::try_from(text) else {
+    let Ok(info) = PrivateKeyInfoRef::try_from(encoding) else {
         return None;
     };
     match info.rsa_view() {
@@ -155,28 +156,28 @@ fn put_attributes(info: &PrivateKeyInfoRef<'_>, out: &mut Vec<u8>) -> Result<(),
     }
 }
 
-/// Appends the output for a private key in a container to `out`; `text` is the encoding of the container.
+/// Appends the output for a private key in a container to `out`; `encoding` is the encoding of the container.
 fn put_p8(
     info: &PrivateKeyInfoRef<'_>,
     key: &RsaPrivateKeyView<'_>,
-    text: &[u8],
+    encoding: &[u8],
     out: &mut Vec<u8>,
 ) -> Result<(), AllocError>
-    ensures { let told = p8_answer (view_of key.now) (info_of info.now).attributes text.now in
+    ensures { let told = p8_answer (view_of key.now) (info_of info.now).attributes encoding.now in
         OnOk result (out.new.items ≡ out.old.items ++ told) }
 {
     out.extend_from_slice(b"p8")?;
     put_key(key, out)?;
     put_attributes(info, out)?;
-    put_field(b" again=", text, out)
+    put_field(b" again=", encoding, out)
 }
 
 /// Appends the output for `p8` to `out`. Only `out` allocates.
-pub fn answer_p8(text: &[u8], out: &mut Vec<u8>) -> Result<(), AllocError>
-    ensures { OnOk result (Puts (TellsContainer text.now) out.old.items out.new.items) }
+pub fn answer_p8(encoding: &[u8], out: &mut Vec<u8>) -> Result<(), AllocError>
+    ensures { OnOk result (Puts (TellsContainer encoding.now) out.old.items out.new.items) }
 {
-    match read_container(text) {
-        Some((info, key)) => put_p8(&info, &key, text, out),
+    match read_container(encoding) {
+        Some((info, key)) => put_p8(&info, &key, encoding, out),
         None => put_refused(out),
     }
 }

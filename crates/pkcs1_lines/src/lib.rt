@@ -17,6 +17,6 @@ mod shortest;
 mod verdict;
 
 pub use answer::answer_line;
-pub use laws::answers_are_one;
+pub use laws::lemma_answers_are_one;
 pub use lines::split_line;
-pub use request::Texts;
+pub use request::Encodings;

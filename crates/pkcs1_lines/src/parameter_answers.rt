@@ -14,16 +14,16 @@ use std::alloc::{AllocError, Global};
 /// Appends the output for `pss` or `oaep` to `out`.
 pub fn answer_parameters<'a, T: Parameters<'a>>(
     alloc: Global,
-    text: &'a [u8],
+    encoding: &'a [u8],
     out: &mut Vec<u8>,
 ) -> Result<(), AllocError>
-    ensures { let answers = TellsParameters T.grammar T.fields T.told text.now in
+    ensures { let answers = TellsParameters T.grammar T.fields T.told encoding.now in
         OnOk result (Puts answers out.old.items out.new.items) }
 {
-    match T::read(text) {
+    match T::read(encoding) {
         Some(params) => {
-            let mut buffer = vec![in alloc; 0u8; text.len()]?;
-            let again = shortest(text, &params, buffer.as_mut_slice());
+            let mut buffer = vec![in alloc; 0u8; encoding.len()]?;
+            let again = shortest(encoding, &params, buffer.as_mut_slice());
             params.put(params.defaults(), again, out)
         }
         None => put_refused(out),
@@ -31,54 +31,55 @@ pub fn answer_parameters<'a, T: Parameters<'a>>(
 }
 
 /// Appends a space and each encoding to `out`, in order.
-fn put_texts(texts: &[Vec<u8>], out: &mut Vec<u8>) -> Result<(), AllocError>
-    ensures { OnOk result (out.new.items ≡ out.old.items ++ flat_map (λ text. field (codes " ") text.items) texts.now) }
+fn put_encodings(encodings: &[Vec<u8>], out: &mut Vec<u8>) -> Result<(), AllocError>
+    ensures { OnOk result (out.new.items ≡ out.old.items
+        ++ flat_map (λ encoding. field (codes " ") encoding.items) encodings.now) }
 {
-    for text in texts {
-        put_field(b" ", text.as_slice(), out)?;
+    for encoding in encodings {
+        put_field(b" ", encoding.as_slice(), out)?;
     }
     Ok(())
 }
 
 /// Appends to `out` the word, the number of encodings, and each of them.
-fn put_spellings(word: &[u8], texts: &[Vec<u8>], out: &mut Vec<u8>) -> Result<(), AllocError>
-    ensures { let told = spell_answer word.now (map (λ text. text.items) texts.now) in
+fn put_spellings(word: &[u8], encodings: &[Vec<u8>], out: &mut Vec<u8>) -> Result<(), AllocError>
+    ensures { let told = spell_answer word.now (map (λ encoding. encoding.items) encodings.now) in
         OnOk result (out.new.items ≡ out.old.items ++ told) }
 {
     out.extend_from_slice(word)?;
-    put_number(b" ", texts.len(), out)?;
-    put_texts(texts, out)
+    put_number(b" ", encodings.len(), out)?;
+    put_encodings(encodings, out)
 }
 
-/// Appends to `out` all encodings of the parameters that `text` means, ordered by mask.
+/// Appends to `out` all encodings of the parameters that `encoding` means, ordered by mask.
 pub fn answer_spell<'a, T: Parameters<'a>>(
     alloc: Global,
     word: &[u8],
-    text: &'a [u8],
+    encoding: &'a [u8],
     out: &mut Vec<u8>,
 ) -> Result<(), AllocError>
-    ensures { let answers = TellsSpellings word.now T.grammar T.fields text.now in
+    ensures { let answers = TellsSpellings word.now T.grammar T.fields encoding.now in
         OnOk result (Puts answers out.old.items out.new.items) }
 {
-    let Some(params) = T::read(text) else {
+    let Some(params) = T::read(encoding) else {
         return put_refused(out);
     };
-    match params.all_texts(alloc)? {
-        Some(texts) => put_spellings(word, texts.as_slice(), out),
+    match params.all_encodings(alloc)? {
+        Some(encodings) => put_spellings(word, encodings.as_slice(), out),
         None => put_refused(out),
     }
 }
 
-/// Appends to `out` whether `text` is the shortest encoding of the parameters that it means.
+/// Appends to `out` whether `encoding` is the shortest encoding of the parameters that it means.
 pub fn answer_strict<'a, T: Parameters<'a>>(
     word: &[u8],
-    text: &'a [u8],
+    encoding: &'a [u8],
     out: &mut Vec<u8>,
 ) -> Result<(), AllocError>
-    ensures { OnOk result (Puts (TellsStrict word.now T.grammar text.now) out.old.items out.new.items) }
+    ensures { OnOk result (Puts (TellsStrict word.now T.grammar encoding.now) out.old.items out.new.items) }
 {
-    match T::read(text) {
-        Some(_params) => put_verdict(word, T::is_strict(text), out),
+    match T::read(encoding) {
+        Some(_params) => put_verdict(word, T::is_strict(encoding), out),
         None => put_refused(out),
     }
 }

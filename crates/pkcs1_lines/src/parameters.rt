@@ -1,20 +1,22 @@
 //! Parameters, and the output for them.
 ghost use Rattle.std.specs.Prelude.{◌≡◌, ℕ, List, ◌++◌, ◌↔◌, IsTrue, OnOk, IfOk, IfSome, IfNone, IsErrAnd};
 ghost use Rattle.der_core.specs.Document.{Means, IsShortest};
-ghost use Rattle.der_core.specs.Texts.{IsDelimited};
+ghost use Rattle.der_core.specs.Encodings.{IsDelimited};
 ghost use Rattle.spki_core.specs.AnyRefValue.{any_of};
 ghost use Rattle.spki_core.specs.AlgorithmValue.{algorithm_of, mask_of};
 ghost use Rattle.spki_core.specs.Explicit.{Field, HaveDefaults};
 ghost use Rattle.spki_core.specs.ObjectIdentifierValue.{octets_of};
-ghost use Rattle.pkcs1_params.specs.Parameters.{PssParameters, RsaPssParams, pss_fields, OaepParameters, RsaOaepParams, oaep_fields};
+ghost use Rattle.pkcs1_params.specs.Parameters.{PssParameters, RsaPssParams, pss_fields, OaepParameters, RsaOaepParams};
+ghost use Rattle.pkcs1_params.specs.Parameters.{oaep_fields};
 ghost use Rattle.pkcs1_params.specs.Defaults.{pss_defaults, oaep_defaults};
 ghost use Rattle.pkcs1_params.specs.Laws.Parameters.{pss_delimited, oaep_delimited};
 ghost use Rattle.pkcs1_params.specs.PssValue.{pss_of};
 ghost use Rattle.pkcs1_params.specs.OaepValue.{oaep_of};
-ghost use Rattle.pkcs1_params.specs.Spellings.{AllFit, AreAllSpellings, texts_in};
-ghost use Rattle.pkcs1_lines.specs.Refused.{WantsMemory};
+ghost use Rattle.pkcs1_params.specs.Spellings.{AllFit, AreAllSpellings, encodings_in};
+ghost use Rattle.pkcs1_lines.specs.MemoryErrors.{IsMemoryError};
 ghost use Rattle.pkcs1_params.specs.Meanings.{IsNoSentence};
-ghost use Rattle.pkcs1_lines.specs.Told.{any_told, identifier_told, plain_told, bracketed, mask_told, hash_fields_told, spelling_told, pss_answer, oaep_answer};
+ghost use Rattle.pkcs1_lines.specs.Told.{any_told, identifier_told, plain_told, bracketed, mask_told, hash_fields_told};
+ghost use Rattle.pkcs1_lines.specs.Told.{spelling_told, pss_answer, oaep_answer};
 
 use crate::digits::{put_field, put_hex, put_number};
 use der_core::{Encode, ErrorKind};
@@ -38,19 +40,19 @@ pub trait Parameters<'a>: Encode + Drop + Sized {
     ghost told: { Meaning → ℕ → List ℕ → List ℕ };
 
     /// Decodes the parameters, or returns `None`.
-    fn read(text: &'a [u8]) -> Option<Self>
-        ensures some { IfSome result (λ params. Means grammar text.now (meaning params)) }
-        ensures none { IfNone result (IsNoSentence grammar text.now) };
+    fn read(encoding: &'a [u8]) -> Option<Self>
+        ensures some { IfSome result (λ params. Means grammar encoding.now (meaning params)) }
+        ensures none { IfNone result (IsNoSentence grammar encoding.now) };
 
     /// Whether the bytes are the shortest encoding of some parameters.
-    fn is_strict(text: &'a [u8]) -> bool
-        ensures { IsTrue result ↔ ((params : Meaning) × IsShortest grammar params text.now) };
+    fn is_strict(encoding: &'a [u8]) -> bool
+        ensures { IsTrue result ↔ ((params : Meaning) × IsShortest grammar params encoding.now) };
 
     /// All encodings, ordered by mask, or `None` if one of them is longer than `Length::MAX`.
-    fn all_texts(&self, alloc: Global) -> Result<Option<Vec<Vec<u8>>>, AllocError>
+    fn all_encodings(&self, alloc: Global) -> Result<Option<Vec<Vec<u8>>>, AllocError>
         ensures all { let params = meaning self.now in
-            IfOk result (λ found. IfSome found (λ texts.
-            AllFit (fields params) × AreAllSpellings fields params (texts_in texts))) }
+            IfOk result (λ found. IfSome found (λ encodings.
+            AllFit (fields params) × AreAllSpellings fields params (encodings_in encodings))) }
         ensures none { IfOk result (λ found. IfNone found (AllFit (fields (meaning self.now)) → ⊥)) };
 
     /// How many fields equal their defaults.
@@ -68,16 +70,16 @@ pub trait Parameters<'a>: Encode + Drop + Sized {
     ghost counted: { (params : Meaning) → (k : ℕ) × HaveDefaults (fields params) k };
 
     /// What `Encode` writes is an encoding of `grammar`, and the shortest one.
-    ghost means_as: { (params : Self) (text : List ℕ)
-        → Means grammar text (meaning params) → Means Self.text text (Self.value params) };
+    ghost means_as: { (params : Self) (encoding : List ℕ)
+        → Means grammar encoding (meaning params) → Means Self.encoding encoding (Self.value params) };
 
-    ghost shortest_as: { (params : Self) (text : List ℕ)
-        → IsShortest Self.text (Self.value params) text → IsShortest grammar (meaning params) text };
+    ghost shortest_as: { (params : Self) (encoding : List ℕ)
+        → IsShortest Self.encoding (Self.value params) encoding → IsShortest grammar (meaning params) encoding };
 }
 
 /// Whether the error is out of memory.
-fn wants_memory(error: &Error) -> bool
-    ensures { IsTrue result ↔ WantsMemory error.now }
+fn is_memory_error(error: &Error) -> bool
+    ensures { IsTrue result ↔ IsMemoryError error.now }
 {
     match error {
         Error::Asn1(error) => error.kind == ErrorKind::OutOfMemory,
@@ -86,14 +88,14 @@ fn wants_memory(error: &Error) -> bool
 }
 
 /// Maps an error to `None`, but out of memory to an `AllocError`.
-fn found(texts: pkcs1::Result<Vec<Vec<u8>>>) -> Result<Option<Vec<Vec<u8>>>, AllocError>
-    ensures some { IfOk result (λ found. IfSome found (λ list. texts ≡ Ok list)) }
-    ensures none { IfOk result (λ found. IfNone found (IsErrAnd texts (λ e. WantsMemory e → ⊥))) }
+fn found(encodings: pkcs1::Result<Vec<Vec<u8>>>) -> Result<Option<Vec<Vec<u8>>>, AllocError>
+    ensures some { IfOk result (λ found. IfSome found (λ list. encodings ≡ Ok list)) }
+    ensures none { IfOk result (λ found. IfNone found (IsErrAnd encodings (λ e. IsMemoryError e → ⊥))) }
 {
-    match texts {
-        Ok(texts) => Ok(Some(texts)),
+    match encodings {
+        Ok(encodings) => Ok(Some(encodings)),
         Err(error) => {
-            if wants_memory(&error) {
+            if is_memory_error(&error) {
                 return Err(AllocError);
             }
             Ok(None)
@@ -223,15 +225,15 @@ impl<'a> Parameters<'a> for RsaPssParamsRef<'a> {
 
     ghost told = { pss_answer };
 
-    fn read(text: &'a [u8]) -> Option<RsaPssParamsRef<'a>> {
-        RsaPssParamsRef::try_from(text).ok()
+    fn read(encoding: &'a [u8]) -> Option<RsaPssParamsRef<'a>> {
+        RsaPssParamsRef::try_from(encoding).ok()
     }
 
-    fn is_strict(text: &'a [u8]) -> bool {
-        RsaPssParamsRef::from_der_strict(text).is_ok()
+    fn is_strict(encoding: &'a [u8]) -> bool {
+        RsaPssParamsRef::from_der_strict(encoding).is_ok()
     }
 
-    fn all_texts(&self, alloc: Global) -> Result<Option<Vec<Vec<u8>>>, AllocError> {
+    fn all_encodings(&self, alloc: Global) -> Result<Option<Vec<Vec<u8>>>, AllocError> {
         found(self.spellings(alloc))
     }
 
@@ -247,9 +249,9 @@ impl<'a> Parameters<'a> for RsaPssParamsRef<'a> {
 
     ghost counted = { pss_defaults };
 
-    ghost means_as = { λ params text means. means };
+    ghost means_as = { λ params encoding means. means };
 
-    ghost shortest_as = { λ params text shortest. shortest };
+    ghost shortest_as = { λ params encoding shortest. shortest };
 }
 
 impl<'a> Parameters<'a> for RsaOaepParamsRef<'a> {
@@ -263,15 +265,15 @@ impl<'a> Parameters<'a> for RsaOaepParamsRef<'a> {
 
     ghost told = { oaep_answer };
 
-    fn read(text: &'a [u8]) -> Option<RsaOaepParamsRef<'a>> {
-        RsaOaepParamsRef::try_from(text).ok()
+    fn read(encoding: &'a [u8]) -> Option<RsaOaepParamsRef<'a>> {
+        RsaOaepParamsRef::try_from(encoding).ok()
     }
 
-    fn is_strict(text: &'a [u8]) -> bool {
-        RsaOaepParamsRef::from_der_strict(text).is_ok()
+    fn is_strict(encoding: &'a [u8]) -> bool {
+        RsaOaepParamsRef::from_der_strict(encoding).is_ok()
     }
 
-    fn all_texts(&self, alloc: Global) -> Result<Option<Vec<Vec<u8>>>, AllocError> {
+    fn all_encodings(&self, alloc: Global) -> Result<Option<Vec<Vec<u8>>>, AllocError> {
         found(self.spellings(alloc))
     }
 
@@ -287,7 +289,7 @@ impl<'a> Parameters<'a> for RsaOaepParamsRef<'a> {
 
     ghost counted = { oaep_defaults };
 
-    ghost means_as = { λ params text means. means };
+    ghost means_as = { λ params encoding means. means };
 
-    ghost shortest_as = { λ params text shortest. shortest };
+    ghost shortest_as = { λ params encoding shortest. shortest };
 }

@@ -1,6 +1,7 @@
 //! Parsing a line into a request.
 ghost use Rattle.std.specs.Prelude.{◌≡◌, IfOk, Some, None, if◌then◌else◌, map};
-ghost use Rattle.pkcs1_lines.specs.Request.{asked_by, asked_with, named, pair_asked_with, pair_words, text_of, words};
+ghost use Rattle.pkcs1_lines.specs.Request.{asked_by, asked_with, named, pair_asked_with, pair_words, encoding_of};
+ghost use Rattle.pkcs1_lines.specs.Request.{words};
 ghost use Rattle.pkcs1_lines.specs.RequestValue.{seen};
 
 use crate::lines::split_part;
@@ -27,7 +28,7 @@ pub enum PairWord {
     SameOaep,
 }
 
-/// What a line asks for. The bytes of its HEX parts are in a `Texts`.
+/// What a line asks for. The bytes of its HEX parts are in an `Encodings`.
 #[derive(Clone, Copy, Drop)]
 pub enum Request {
     BadLine,
@@ -38,17 +39,17 @@ pub enum Request {
 /// Buffers for the bytes of a line's HEX parts. Kept from line to line, they allocate only for a part longer than those
 /// before.
 #[derive(Drop)]
-pub struct Texts {
+pub struct Encodings {
     /// The bytes of the first HEX part.
     pub first: Vec<u8>,
     /// The bytes of the second HEX part.
     pub second: Vec<u8>,
 }
 
-impl Texts {
+impl Encodings {
     /// Empty buffers; allocates nothing.
-    pub fn new(alloc: Global) -> Texts {
-        Texts {
+    pub fn new(alloc: Global) -> Encodings {
+        Encodings {
             first: Vec::new(alloc),
             second: Vec::new(alloc),
         }
@@ -100,21 +101,21 @@ fn pair_word_of(part: &[u8]) -> Option<PairWord>
     find_named(&PAIR_WORDS, part)
 }
 
-/// Decodes hexadecimal digits into `text`. Returns false if they aren't an even number of digits; `text` may then hold
-/// anything.
-fn read_hex(hex: &[u8], text: &mut Vec<u8>) -> Result<bool, AllocError>
-    ensures { IfOk result (λ is_hex. text_of hex.now ≡ (if is_hex then Some text.new.items else None)) }
+/// Decodes hexadecimal digits into `encoding`. Returns false if they aren't an even number of digits; `encoding` may
+/// then hold anything.
+fn read_hex(hex: &[u8], encoding: &mut Vec<u8>) -> Result<bool, AllocError>
+    ensures { IfOk result (λ is_hex. encoding_of hex.now ≡ (if is_hex then Some encoding.new.items else None)) }
 {
-    text.resize(hex.len() / 2, 0)?;
-    Ok(hex::decode_to_slice(hex, text.as_mut_slice()).is_ok())
+    encoding.resize(hex.len() / 2, 0)?;
+    Ok(hex::decode_to_slice(hex, encoding.as_mut_slice()).is_ok())
 }
 
 /// The request of a word with one HEX part.
-fn request_with(word: Word, hex: &[u8], texts: &mut Texts) -> Result<Request, AllocError>
-    ensures { let asked = asked_with (Some word) (text_of hex.now) in
-        IfOk result (λ request. seen request texts.new.first.items texts.new.second.items ≡ asked) }
+fn request_with(word: Word, hex: &[u8], encodings: &mut Encodings) -> Result<Request, AllocError>
+    ensures { let asked = asked_with (Some word) (encoding_of hex.now) in
+        IfOk result (λ request. seen request encodings.new.first.items encodings.new.second.items ≡ asked) }
 {
-    if read_hex(hex, &mut texts.first)? {
+    if read_hex(hex, &mut encodings.first)? {
         Ok(Request::Word(word))
     } else {
         Ok(Request::BadLine)
@@ -126,34 +127,35 @@ fn pair_request_with(
     word: PairWord,
     first: &[u8],
     second: &[u8],
-    texts: &mut Texts,
+    encodings: &mut Encodings,
 ) -> Result<Request, AllocError>
-    ensures { let asked = pair_asked_with (Some word) (text_of first.now) (text_of second.now) in
-        IfOk result (λ request. seen request texts.new.first.items texts.new.second.items ≡ asked) }
+    ensures { let asked = pair_asked_with (Some word) (encoding_of first.now) (encoding_of second.now) in
+        IfOk result (λ request. seen request encodings.new.first.items encodings.new.second.items ≡ asked) }
 {
-    if read_hex(first, &mut texts.first)? && read_hex(second, &mut texts.second)? {
+    if read_hex(first, &mut encodings.first)? && read_hex(second, &mut encodings.second)? {
         Ok(Request::Pair(word))
     } else {
         Ok(Request::BadLine)
     }
 }
 
-/// Parses a line, and puts the bytes of its HEX parts into `texts`. What follows the word isn't searched for a further
-/// part, since a space is no digit.
-pub fn request_of(line: &[u8], texts: &mut Texts) -> Result<Request, AllocError>
-    ensures { IfOk result (λ request. seen request texts.new.first.items texts.new.second.items ≡ asked_by line.now) }
+/// Parses a line, and puts the bytes of its HEX parts into `encodings`. What follows the word isn't searched for a
+/// further part, since a space is no digit.
+pub fn request_of(line: &[u8], encodings: &mut Encodings) -> Result<Request, AllocError>
+    ensures { IfOk result (λ request. seen request encodings.new.first.items encodings.new.second.items
+        ≡ asked_by line.now) }
 {
     let (name, rest) = split_part(line);
     let Some(rest) = rest else {
         return Ok(Request::BadLine);
     };
     match word_of(name) {
-        Some(word) => request_with(word, rest, texts),
+        Some(word) => request_with(word, rest, encodings),
         None => match pair_word_of(name) {
             Some(word) => {
                 let (first, second) = split_part(rest);
                 match second {
-                    Some(second) => pair_request_with(word, first, second, texts),
+                    Some(second) => pair_request_with(word, first, second, encodings),
                     None => Ok(Request::BadLine),
                 }
             }

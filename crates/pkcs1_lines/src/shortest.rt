@@ -4,12 +4,12 @@ ghost use Rattle.der_core.specs.Document.{Means, IsShortest};
 
 use der_core::Encode;
 
-/// Writes the shortest encoding of a value into the buffer, and returns it. `text` is any encoding of the value, so the
-/// buffer needs no more than its length.
-pub fn shortest<'b, T: Encode>(text: &[u8], value: &T, buffer: &'b mut [u8]) -> &'b [u8]
-    requires means { Means T.text text.now (T.value value.now) }
-    requires room { length text.now ≤ length buffer.old }
-    ensures { IsShortest T.text (T.value value.now) result.now }
+/// Writes the shortest encoding of a value into the buffer, and returns it. `encoding` is any encoding of the value, so
+/// the buffer needs no more than its length.
+pub fn shortest<'b, T: Encode>(encoding: &[u8], value: &T, buffer: &'b mut [u8]) -> &'b [u8]
+    requires means { Means T.encoding encoding.now (T.value value.now) }
+    requires room { length encoding.now ≤ length buffer.old }
+    ensures { IsShortest T.encoding (T.value value.now) result.now }
 {
     match value.encode_to_slice(buffer) {
         Ok(shortest) => shortest,

@@ -1,4 +1,4 @@
--- The text of a SEQUENCE without contents.
+-- The encoding of a SEQUENCE without contents.
 use Rattle.std.proofs.Common.{ℕ, List, [], ◌∷◌, ◌≡◌, length, slice_index, refl, arith}
 
 pub two_octets : (b : List ℕ) → length b ≡ 2 → slice_index b 0 ≡ 48 → slice_index b 1 ≡ 0 → b ≡ 48 ∷ 0 ∷ []

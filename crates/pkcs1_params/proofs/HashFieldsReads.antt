@@ -6,12 +6,12 @@ use Rattle.der_core.specs.Faults.{FaultyFront}
 use Rattle.spki_core.specs.Allocating.{FieldAllocates}
 use Rattle.spki_core.specs.Faults.{NextFault}
 use Rattle.der_core.specs.Input.{Input}
-use Rattle.der_core.specs.Texts.{Joins}
+use Rattle.der_core.specs.Encodings.{Joins}
 use Rattle.der_core.specs.Laws.Sequences.{ContentsGive}
 use Rattle.spki_core.specs.Any.{TagAndContents}
 use Rattle.spki_core.specs.AlgorithmIdentifier.{Algorithm, PlainAlgorithm, MaskAlgorithm}
 use Rattle.spki_core.specs.Explicit.{Field, field, Defaultable}
-use Rattle.spki_core.specs.Laws.FieldTexts.{AreLater}
+use Rattle.spki_core.specs.Laws.FieldEncodings.{AreLater}
 use Rattle.spki_core.specs.Laws.FieldReads.{FieldGives, fields_give}
 use Rattle.pkcs1_params.specs.Parameters.{sha1, mgf1_sha1, hash_fields_then}
 use Rattle.pkcs1_params.specs.Laws.HashFields.{later_still}
@@ -23,8 +23,8 @@ at_number Fault own n k is t octet before e fault =
     let P : ℕ → Type 0 = λ m. (tag : Tag) → tag.octet ≡ 160 + m → FaultyFront (NextFault m (Fault tag)) (FieldAllocates m own) e before in
     subst P is fault t octet
 
-pub gives_at : {V : Type 0} (text : V → List ℕ → Type 0) (default given : V) → given ≡ default → (n k : ℕ) → n ≡ k → (v : V) (before after : Input) → FieldGives n text given v before after → FieldGives k text default v before after
-gives_at text default given same n k is v before after gives = rw (is, same) at gives
+pub gives_at : {V : Type 0} (encoding : V → List ℕ → Type 0) (default given : V) → given ≡ default → (n k : ℕ) → n ≡ k → (v : V) (before after : Input) → FieldGives n encoding given v before after → FieldGives k encoding default v before after
+gives_at encoding default given same n k is v before after gives = rw (is, same) at gives
 
 -- Both were read.
 pub record HashFieldsRead (hash : Algorithm TagAndContents) (mask_gen : Algorithm (Algorithm TagAndContents)) (before after : Input) : Type 0 where

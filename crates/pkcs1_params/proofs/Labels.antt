@@ -1,13 +1,13 @@
--- Parameters with a label: their texts, by the length of the label.
+-- Parameters with a label: their encodings, by the length of the label.
 use Rattle.std.proofs.Common.{◌≡◌, ℕ, ◌≤◌, ◌<◌, List, [], ◌∷◌, ◌++◌, length, refl, ap, ◌∙◌, append-nil, rules, arith, length-append, true, false, Result, Ok, Err}
 use Rattle.std.specs.Prelude.{⊤, IfOk, IfErr}
 use Rattle.std.specs.Result.{is_ok}
-use Rattle.der_core.specs.Document.{EncodeRefusal, no_text, too_long, no_room, another}
+use Rattle.der_core.specs.Document.{EncodeError, no_encoding, too_long, no_room, another}
 use Rattle.der_core.specs.Length.{limit, length_octets}
-use Rattle.der_core.specs.Texts.{AreBytes}
-use Rattle.der_core.specs.Laws.Texts.{tlv_relates, tlv_shortest}
+use Rattle.der_core.specs.Encodings.{AreBytes}
+use Rattle.der_core.specs.Laws.Encodings.{tlv_relates, tlv_shortest}
 use Rattle.der_core.specs.Tlv.{tlv}
-use Rattle.der_core.specs.Writing.{Counts, IsUncounted, encode_refusal, joined}
+use Rattle.der_core.specs.Writing.{Counts, WhyOctetsNotCounted, encode_error, joined}
 use Rattle.der_core.specs.declared.error.Error.{Error}
 use Rattle.der_core.specs.declared.error.ErrorKind.TheVariants as kind
 use Rattle.der_core.specs.Laws.Counting.{counts_joined}
@@ -23,10 +23,10 @@ use Rattle.pkcs1_params.specs.Parameters.{id_mgf1, id_p_specified, OaepParameter
 -- Counted under one premise is counted under another.
 pub counts_as : {P Q : Type 0} (octets : List ℕ) (r : Result ℕ Error) → (P → Q) → (Q → P) → Counts P octets r → Counts Q octets r
 counts_as octets (Ok n) there back c = (there c.0, c.1, c.2)
-counts_as {P} {Q} octets (Err e) there back c = go (encode_refusal e.kind) c
+counts_as {P} {Q} octets (Err e) there back c = go (encode_error e.kind) c
   where
-    go : (k : EncodeRefusal) → IsUncounted P octets k → IsUncounted Q octets k
-    go no_text u = λ q. u (back q)
+    go : (k : EncodeError) → WhyOctetsNotCounted P octets k → WhyOctetsNotCounted Q octets k
+    go no_encoding u = λ q. u (back q)
     go too_long u = (there u.0, u.1)
     go no_room u = absurd u
     go another u = absurd u
@@ -36,7 +36,7 @@ pub source_written : (label : List ℕ) → 0 < length label → written_source 
 source_written [] e = absurd (omega arith)
 source_written (x ∷ xs) e = refl
 
--- Parameters with a label have a text.
+-- Parameters with a label have an encoding.
 source_held : IsIdentifier id_p_specified
 source_held = is_identifier-sound id_p_specified (search rules) refl
 
@@ -76,7 +76,7 @@ labelled_counted oid label v contents source held same c d =
     rw (labelled_written oid label)
     (counts_joined (written_before oid) (written_source label) (λ (_ : HasFields without 0) (_ : ⊤). tt) (λ (_ : ⊤). (labelled_held oid [] held tt, tt)) contents source counted d)
 
--- Where the text is counted, one fits, and else none does.
+-- Where the encoding is counted, one fits, and else none does.
 pub fits_where_counted : (oid : List ℕ) (n : ℕ) (r : Result ℕ Error) → is_ok r ≡ true
     → ((label : List ℕ) → AreBytes label → length label ≡ n → CountsLabelled oid label r) → LabelFits oid n
 fits_where_counted oid n (Ok m) ok all label bytes e =
@@ -88,19 +88,19 @@ fits_where_counted oid n (Err x) ok all label bytes e = cc
 
 pub none_where_uncounted : (oid : List ℕ) (n : ℕ) (r : Result ℕ Error) → is_ok r ≡ false
     → ((label : List ℕ) → AreBytes label → length label ≡ n → CountsLabelled oid label r) → NoLabelFits oid n
-none_where_uncounted oid n (Ok m) ok all label bytes e text means = cc
-none_where_uncounted oid n (Err x) ok all label bytes e text means =
+none_where_uncounted oid n (Ok m) ok all label bytes e encoding means = cc
+none_where_uncounted oid n (Err x) ok all label bytes e encoding means =
     let p = labelled oid label in
-    let least = tlv_shortest 48 OaepContents (λ v. written_fields (oaep_values v) 0) (λ v. HasFields (oaep_values v) 0) oaep_shortest p text means.1 in
-    go (encode_refusal x.kind) (tlv 48 (written_fields (oaep_values p) 0)) least.0 (omega (arith, least.1, means.0)) (all label bytes e)
+    let least = tlv_shortest 48 OaepContents (λ v. written_fields (oaep_values v) 0) (λ v. HasFields (oaep_values v) 0) oaep_shortest p encoding means.1 in
+    go (encode_error x.kind) (tlv 48 (written_fields (oaep_values p) 0)) least.0 (omega (arith, least.1, means.0)) (all label bytes e)
   where
-    go : {has : Type 0} (k : EncodeRefusal) (octets : List ℕ) → has → length octets ≤ limit → IsUncounted has octets k → ⊥
-    go no_text octets h few u = u h
+    go : {has : Type 0} (k : EncodeError) (octets : List ℕ) → has → length octets ≤ limit → WhyOctetsNotCounted has octets k → ⊥
+    go no_encoding octets h few u = u h
     go too_long octets h few u = omega (arith, few, u.1)
     go no_room octets h few u = u
     go another octets h few u = u
 
--- A label is no longer than the text that holds it.
+-- A label is no longer than the encoding that holds it.
 tlv_longer : (tag : ℕ) (contents : List ℕ) → length contents ≤ length (tlv tag contents)
 tlv_longer tag contents = omega (arith, length-append (length_octets (length contents)) contents)
 

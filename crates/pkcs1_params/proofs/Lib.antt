@@ -10,4 +10,5 @@ pub mod OaepReads
 pub mod Labels
 pub mod ParameterWrites
 pub mod NothingAsked
+pub mod MemoryAsked
 pub mod ParameterFaultRows

@@ -16,8 +16,14 @@ hash_asks later nothing c (inl w) = let h = w.3.holds in none_asked never h.0 h.
 hash_asks later nothing c (inr (v, (x, y, t, inl w, is))) = let h = w.3.holds in none_asked (none_asked never) h.0 h.3
 hash_asks later nothing c (inr (v, (x, y, t, inr (u, (p, q, s, l, e)), is))) = nothing q l
 
+pub pss_contents_ask : (c : List ℕ) → PssAllocates (λ _. ⊥) c → ⊥
+pss_contents_ask = hash_asks (λ _. ⊥) never
+
+pub oaep_contents_ask : (c : List ℕ) → OaepAllocates (λ _. ⊥) c → ⊥
+oaep_contents_ask = hash_asks (AllocatesIn (FieldAllocates 2 (AlgorithmAllocates (λ _. ⊥)))) (λ c v. let h = v.3.holds in none_asked never h.0 h.3)
+
 pub pss_asks : (b : List ℕ) → AllocatesIn (Tlv 48 (PssAllocates (λ _. ⊥))) b → ⊥
-pss_asks b w = hash_asks (λ _. ⊥) never w.3.contents w.3.holds
+pss_asks b w = pss_contents_ask w.3.contents w.3.holds
 
 pub oaep_asks : (b : List ℕ) → AllocatesIn (Tlv 48 (OaepAllocates (λ _. ⊥))) b → ⊥
-oaep_asks b w = hash_asks (AllocatesIn (FieldAllocates 2 (AlgorithmAllocates (λ _. ⊥)))) (λ c v. let h = v.3.holds in none_asked never h.0 h.3) w.3.contents w.3.holds
+oaep_asks b w = oaep_contents_ask w.3.contents w.3.holds

@@ -4,7 +4,7 @@ use Rattle.der_core.specs.Input.{Input, read_from, end_of}
 use Rattle.der_core.specs.Laws.Sequences.{ContentsGive, end_gives}
 use Rattle.spki_core.specs.AlgorithmIdentifier.{PlainAlgorithm}
 use Rattle.spki_core.specs.Explicit.{Field, field}
-use Rattle.spki_core.specs.Laws.FieldTexts.{AreLater}
+use Rattle.spki_core.specs.Laws.FieldEncodings.{AreLater}
 use Rattle.spki_core.specs.Laws.FieldReads.{FieldGives, fields_give}
 use Rattle.pkcs1_params.specs.Parameters.{empty_label, OaepParameters, OaepContents}
 use Rattle.pkcs1_params.proofs.HashFieldsReads as hash_fields

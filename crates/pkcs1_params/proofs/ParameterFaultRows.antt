@@ -3,8 +3,8 @@ use Rattle.std.proofs.Common.{ℕ, List, [], ◌∷◌, ◌++◌, ◌≢◌, ◌
 use Rattle.der_core.specs.declared.error.ErrorKind.{ErrorKind}
 use Rattle.der_core.specs.declared.error.ErrorKind.TheVariants.{Incomplete, IndefiniteLength, Length, Noncanonical, OidMalformed, Overflow, Overlength, TagUnexpected, TagUnknown, TrailingData, Value}
 use Rattle.der_core.specs.declared.tag.Tag.{Tag}
-use Rattle.der_core.specs.Faults.{TextFault, EndFault, in_header, other_tag, too_short, in_contents}
-use Rattle.der_core.specs.Headers.{HeaderText}
+use Rattle.der_core.specs.Faults.{EncodingFault, EndFault, in_header, other_tag, too_short, in_contents}
+use Rattle.der_core.specs.Headers.{HeaderEncoding}
 use Rattle.der_core.specs.Input.{header_at, length_at}
 use Rattle.der_core.specs.Integer.{Small}
 use Rattle.der_core.specs.Length.{short}
@@ -22,10 +22,10 @@ use Rattle.pkcs1_params.specs.Parameters.{sha1, mgf1_sha1, empty_label, TrailerF
 use Rattle.pkcs1_params.proofs.ParameterRows.{pss_defaults, oaep_defaults, salt_bytes, trailer_bytes, trailer_field, pss_all_left_out, pss_salt_written, oaep_all_left_out}
 
 -- A header of fewer than 128 bytes, and a fault of what it counts.
-header : (tag : Tag) (n : ℕ) → n < 128 → HeaderText (tag.octet, n) (tag.octet ∷ n ∷ [])
+header : (tag : Tag) (n : ℕ) → n < 128 → HeaderEncoding (tag.octet, n) (tag.octet ∷ n ∷ [])
 header tag n few = (tag.allowed, n ∷ [], (omega (arith, few), short few refl), refl)
 
-inside : {Fault : ErrorKind → List ℕ → Type 0} {kind : ErrorKind} (tag : Tag) (c rest : List ℕ) → length c < 128 → Fault kind c → TextFault tag Fault kind ((tag.octet ∷ length c ∷ c) ++ rest)
+inside : {Fault : ErrorKind → List ℕ → Type 0} {kind : ErrorKind} (tag : Tag) (c rest : List ℕ) → length c < 128 → Fault kind c → EncodingFault tag Fault kind ((tag.octet ∷ length c ∷ c) ++ rest)
 inside tag c rest few fault = in_contents (tag.octet ∷ length c ∷ []) c rest (header tag (length c) few) refl fault
 
 pss : (kind : ErrorKind) (c : List ℕ) → length c < 128 → PssFault Any AnyFault kind c → RsaPssParamsFault kind (0x30 ∷ length c ∷ c)
@@ -220,7 +220,7 @@ salt_for_source =
       inside tag_2 (0x02 ∷ 0x01 ∷ 0x14 ∷ []) [] (omega arith) (inl (other_tag integer 1 (0x02 ∷ 0x01 ∷ []) (0x14 ∷ []) (header integer 1 (omega arith)) refl (λ e. omega (arith, e)) refl)),
     )))
 
--- 3005a203020114: the default salt length is written, so this is no shortest text
+-- 3005a203020114: the default salt length is written, so this is no shortest encoding
 default_salt : StrictPssFault (Noncanonical tag_2) (0x30 ∷ 0x05 ∷ 0xa2 ∷ 0x03 ∷ 0x02 ∷ 0x01 ∷ 0x14 ∷ [])
 default_salt =
     inr (

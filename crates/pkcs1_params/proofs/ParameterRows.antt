@@ -5,8 +5,8 @@ use Rattle.der_core.specs.Integer.{SmallContents, Small}
 use Rattle.der_core.specs.Laws.Integer.{small_delimited}
 use Rattle.der_core.specs.Laws.Lists.{same_cons}
 use Rattle.der_core.specs.Laws.Shortest.{means_one}
-use Rattle.der_core.specs.Texts.{Joins}
-use Rattle.der_core.specs.Laws.WrittenOut.{known_tlv, known_whole, small_byte, other_tag_refused}
+use Rattle.der_core.specs.Encodings.{Joins}
+use Rattle.der_core.specs.Laws.WrittenOut.{known_tlv, known_whole, small_byte, other_tag_rejected}
 use Rattle.spki_core.specs.ObjectIdentifier.{IsIdentifier}
 use Rattle.spki_core.specs.Any.{TagAndContents, Any}
 use Rattle.spki_core.specs.AlgorithmIdentifier.{Algorithm, AlgorithmIdentifier, PlainAlgorithm}
@@ -14,7 +14,7 @@ use Rattle.spki_core.specs.Laws.Algorithms.{plain_delimited}
 use Rattle.spki_core.specs.Explicit.{Field, field, Defaultable}
 use Rattle.spki_core.specs.IdentifierTest.{is_identifier-sound}
 use Rattle.spki_core.specs.Laws.AlgorithmRows.{identifier_alone, identifier_and_parameters, sha1_alone, sha1_with_null, mgf1_with_sha1}
-use Rattle.spki_core.specs.Laws.KnownFields.{left_out_field, written_field, other_field_next, unknown_tag_refused, field_written}
+use Rattle.spki_core.specs.Laws.KnownFields.{left_out_field, written_field, other_field_next, unknown_tag_rejected, field_written}
 use Rattle.pkcs1_params.specs.Parameters.{id_sha1, id_p_specified, with_parameters, sha1, mgf1_sha1, empty_label, TrailerField, PssParameters, RsaPssParams, OaepParameters, RsaOaepParams}
 
 -- The fields of both, at values.
@@ -68,7 +68,8 @@ hash_bytes = 0x30 ∷ 0x09 ∷ 0x06 ∷ 0x05 ∷ 0x2b ∷ 0x0e ∷ 0x03 ∷ 0x02
 abbrev mask_bytes : List ℕ
 mask_bytes = 0x30 ∷ 0x16 ∷ 0x06 ∷ 0x09 ∷ 0x2a ∷ 0x86 ∷ 0x48 ∷ 0x86 ∷ 0xf7 ∷ 0x0d ∷ 0x01 ∷ 0x01 ∷ 0x08 ∷ hash_bytes
 
--- 3031a00b300906052b0e03021a0500a118301606092a864886f70d010108300906052b0e03021a0500a203020114a303020101: every default written
+-- 3031a00b300906052b0e03021a0500a118301606092a864886f70d010108300906052b0e03021a0500a203020114a303020101: every default
+-- written
 pss_all_written : RsaPssParams pss_defaults (
     0x30 ∷ 0x31 ∷ 0xa0 ∷ 0x0b ∷ 0x30 ∷ 0x09 ∷ 0x06 ∷ 0x05 ∷ 0x2b ∷ 0x0e ∷ 0x03 ∷ 0x02 ∷ 0x1a ∷ 0x05 ∷ 0x00 ∷ 0xa1 ∷ 0x18 ∷ 0x30 ∷ 0x16 ∷ 0x06 ∷ 0x09 ∷ 0x2a ∷ 0x86 ∷ 0x48 ∷ 0x86 ∷ 0xf7 ∷ 0x0d ∷ 0x01 ∷ 0x01 ∷ 0x08 ∷ 0x30 ∷ 0x09 ∷ 0x06 ∷ 0x05 ∷ 0x2b ∷ 0x0e ∷ 0x03 ∷ 0x02 ∷ 0x1a ∷ 0x05 ∷ 0x00 ∷ 0xa2 ∷ 0x03 ∷ 0x02 ∷ 0x01 ∷ 0x14 ∷ 0xa3 ∷ 0x03 ∷ 0x02 ∷ 0x01 ∷ 0x01 ∷ []
     )
@@ -102,7 +103,7 @@ pss_sha1_without_parameters = known_tlv 0x30 (0xa0 ∷ 0x09 ∷ sha1_alone_bytes
     )
     ) (omega arith)
 
--- 300ba009300706052b0e03021a: no value with the default hash has this text
+-- 300ba009300706052b0e03021a: no value with the default hash has this encoding
 pss_sha1_without_parameters_is_no_default : (p : PssParameters)
     → RsaPssParams p (0x30 ∷ 0x0b ∷ 0xa0 ∷ 0x09 ∷ 0x30 ∷ 0x07 ∷ 0x06 ∷ 0x05 ∷ 0x2b ∷ 0x0e ∷ 0x03 ∷ 0x02 ∷ 0x1a ∷ []) → p.hash ≡ sha1 → ⊥
 pss_sha1_without_parameters_is_no_default p t default =
@@ -133,37 +134,37 @@ pss_at_trailer p c rest few w =
     (s.1, s.2)
 
 -- 3005a303020102
-pss_trailer_2_refused : (p : PssParameters) → RsaPssParams p (0x30 ∷ 0x05 ∷ 0xa3 ∷ 0x03 ∷ 0x02 ∷ 0x01 ∷ 0x02 ∷ []) → ⊥
-pss_trailer_2_refused p t =
+pss_trailer_2_rejected : (p : PssParameters) → RsaPssParams p (0x30 ∷ 0x05 ∷ 0xa3 ∷ 0x03 ∷ 0x02 ∷ 0x01 ∷ 0x02 ∷ []) → ⊥
+pss_trailer_2_rejected p t =
     let s = (pss_at_trailer p (0x02 ∷ 0x01 ∷ 0x02 ∷ []) [] (omega arith) (known_whole (0xa3 ∷ 0x03 ∷ 0x02 ∷ 0x01 ∷ 0x02 ∷ []) t (omega arith))).0 in
     let n = known_whole (0x02 ∷ []) s (omega arith) in
     let e = means_one small_delimited p.trailer_field 2 (0x02 ∷ 0x01 ∷ 0x02 ∷ []) (known_tlv 0x02 (0x02 ∷ []) n.1 (omega arith)) (small_byte 2 (omega arith)) in
     omega (arith, e, n.0)
 
 -- 0100
-salt_256_refused : (n : ℕ) → SmallContents n (0x01 ∷ 0x00 ∷ []) → ⊥
-salt_256_refused n (below, x, value, (are, inl same)) =
+salt_256_rejected : (n : ℕ) → SmallContents n (0x01 ∷ 0x00 ∷ []) → ⊥
+salt_256_rejected n (below, x, value, (are, inl same)) =
     let e : x ≡ 0x01 ∷ 0x00 ∷ [] = sym same.1 in
     let v : number_from_digits 256 (0x01 ∷ 0x00 ∷ []) ≡ n = rw e at value in
     omega arith
-salt_256_refused n (below, x, value, (are, inr same)) = let e = (same_cons same.1).0 in omega arith
+salt_256_rejected n (below, x, value, (are, inr same)) = let e = (same_cons same.1).0 in omega arith
 
 -- 3006a20402020100
-pss_salt_256_refused : (p : PssParameters) → RsaPssParams p (0x30 ∷ 0x06 ∷ 0xa2 ∷ 0x04 ∷ 0x02 ∷ 0x02 ∷ 0x01 ∷ 0x00 ∷ []) → ⊥
-pss_salt_256_refused p t =
+pss_salt_256_rejected : (p : PssParameters) → RsaPssParams p (0x30 ∷ 0x06 ∷ 0xa2 ∷ 0x04 ∷ 0x02 ∷ 0x02 ∷ 0x01 ∷ 0x00 ∷ []) → ⊥
+pss_salt_256_rejected p t =
     let s = (pss_at_salt p (0x02 ∷ 0x02 ∷ 0x01 ∷ 0x00 ∷ []) [] (omega arith) (known_whole (0xa2 ∷ 0x04 ∷ 0x02 ∷ 0x02 ∷ 0x01 ∷ 0x00 ∷ []) t (omega arith))).0 in
-    salt_256_refused p.salt_len (known_whole (0x01 ∷ 0x00 ∷ []) s (omega arith))
+    salt_256_rejected p.salt_len (known_whole (0x01 ∷ 0x00 ∷ []) s (omega arith))
 
 -- 300aa303020101a203020114
-pss_order_refused : (p : PssParameters) → RsaPssParams p (0x30 ∷ 0x0a ∷ 0xa3 ∷ 0x03 ∷ 0x02 ∷ 0x01 ∷ 0x01 ∷ 0xa2 ∷ 0x03 ∷ 0x02 ∷ 0x01 ∷ 0x14 ∷ []) → ⊥
-pss_order_refused p t =
+pss_order_rejected : (p : PssParameters) → RsaPssParams p (0x30 ∷ 0x0a ∷ 0xa3 ∷ 0x03 ∷ 0x02 ∷ 0x01 ∷ 0x01 ∷ 0xa2 ∷ 0x03 ∷ 0x02 ∷ 0x01 ∷ 0x14 ∷ []) → ⊥
+pss_order_rejected p t =
     let e = (pss_at_trailer p (0x02 ∷ 0x01 ∷ 0x01 ∷ []) salt_bytes (omega arith) (known_whole (trailer_bytes ++ salt_bytes) t (omega arith))).1 in
     cc
 
 -- 3005a403020101
-pss_unknown_field_refused : (p : PssParameters) → RsaPssParams p (0x30 ∷ 0x05 ∷ 0xa4 ∷ 0x03 ∷ 0x02 ∷ 0x01 ∷ 0x01 ∷ []) → ⊥
-pss_unknown_field_refused p t =
-    unknown_tag_refused (hash_field p.hash ∷ mask_field p.mask_gen ∷ salt_field p.salt_len ∷ trailer_field p.trailer_field ∷ []) 0xa4 (0x02 ∷ 0x01 ∷ 0x01 ∷ []) [] (omega arith)
+pss_unknown_field_rejected : (p : PssParameters) → RsaPssParams p (0x30 ∷ 0x05 ∷ 0xa4 ∷ 0x03 ∷ 0x02 ∷ 0x01 ∷ 0x01 ∷ []) → ⊥
+pss_unknown_field_rejected p t =
+    unknown_tag_rejected (hash_field p.hash ∷ mask_field p.mask_gen ∷ salt_field p.salt_len ∷ trailer_field p.trailer_field ∷ []) 0xa4 (0x02 ∷ 0x01 ∷ 0x01 ∷ []) [] (omega arith)
     ((λ e. omega arith), ((λ e. omega arith), ((λ e. omega arith), ((λ e. omega arith), tt)))) (known_whole (0xa4 ∷ 0x03 ∷ 0x02 ∷ 0x01 ∷ 0x01 ∷ []) t (omega arith))
 
 -- 3000
@@ -186,14 +187,14 @@ p_specified_identifier = is_identifier-sound id_p_specified (omega arith, (omega
 abbrev label_61 : TagAndContents
 label_61 = record { tag = 0x04; contents = 0x61 ∷ [] }
 
-label_61_text : Any label_61 (0x04 ∷ 0x01 ∷ 0x61 ∷ [])
-label_61_text = ((refl, (omega arith, tt)), known_tlv 0x04 (0x61 ∷ []) refl (omega arith))
+label_61_encoding : Any label_61 (0x04 ∷ 0x01 ∷ 0x61 ∷ [])
+label_61_encoding = ((refl, (omega arith, tt)), known_tlv 0x04 (0x61 ∷ []) refl (omega arith))
 
 -- 3012a210300e06092a864886f70d010109040161
 oaep_label_61 : RsaOaepParams (record { hash = sha1; mask_gen = mgf1_sha1; p_source = with_parameters id_p_specified label_61 })
     (0x30 ∷ 0x12 ∷ 0xa2 ∷ 0x10 ∷ 0x30 ∷ 0x0e ∷ 0x06 ∷ 0x09 ∷ 0x2a ∷ 0x86 ∷ 0x48 ∷ 0x86 ∷ 0xf7 ∷ 0x0d ∷ 0x01 ∷ 0x01 ∷ 0x09 ∷ 0x04 ∷ 0x01 ∷ 0x61 ∷ [])
 oaep_label_61 = source_alone (with_parameters id_p_specified label_61) (0x30 ∷ 0x0e ∷ 0x06 ∷ 0x09 ∷ id_p_specified ++ (0x04 ∷ 0x01 ∷ 0x61 ∷ []))
-    (identifier_and_parameters Any id_p_specified label_61 (0x04 ∷ 0x01 ∷ 0x61 ∷ []) p_specified_identifier label_61_text (omega arith)) (omega arith)
+    (identifier_and_parameters Any id_p_specified label_61 (0x04 ∷ 0x01 ∷ 0x61 ∷ []) p_specified_identifier label_61_encoding (omega arith)) (omega arith)
 
 -- 300fa20d300b06092a864886f70d010109: a source with no parameters
 oaep_source_without_parameters : RsaOaepParams (record { hash = sha1; mask_gen = mgf1_sha1; p_source = record { oid = id_p_specified; parameters = None } })
@@ -202,16 +203,16 @@ oaep_source_without_parameters = source_alone (record { oid = id_p_specified; pa
     (identifier_alone Any id_p_specified p_specified_identifier (omega arith)) (omega arith)
 
 -- 3005a303020101: the field [3] is of the other parameters
-oaep_trailer_refused : (p : OaepParameters) → RsaOaepParams p (0x30 ∷ 0x05 ∷ 0xa3 ∷ 0x03 ∷ 0x02 ∷ 0x01 ∷ 0x01 ∷ []) → ⊥
-oaep_trailer_refused p t =
-    unknown_tag_refused (hash_field p.hash ∷ mask_field p.mask_gen ∷ source_field p.p_source ∷ []) 0xa3 (0x02 ∷ 0x01 ∷ 0x01 ∷ []) [] (omega arith)
+oaep_trailer_rejected : (p : OaepParameters) → RsaOaepParams p (0x30 ∷ 0x05 ∷ 0xa3 ∷ 0x03 ∷ 0x02 ∷ 0x01 ∷ 0x01 ∷ []) → ⊥
+oaep_trailer_rejected p t =
+    unknown_tag_rejected (hash_field p.hash ∷ mask_field p.mask_gen ∷ source_field p.p_source ∷ []) 0xa3 (0x02 ∷ 0x01 ∷ 0x01 ∷ []) [] (omega arith)
     ((λ e. omega arith), ((λ e. omega arith), ((λ e. omega arith), tt))) (known_whole trailer_bytes t (omega arith))
 
 -- 3005a203020114: no salt length is in these
-oaep_salt_refused : (p : OaepParameters) → RsaOaepParams p (0x30 ∷ 0x05 ∷ 0xa2 ∷ 0x03 ∷ 0x02 ∷ 0x01 ∷ 0x14 ∷ []) → ⊥
-oaep_salt_refused p t =
+oaep_salt_rejected : (p : OaepParameters) → RsaOaepParams p (0x30 ∷ 0x05 ∷ 0xa2 ∷ 0x03 ∷ 0x02 ∷ 0x01 ∷ 0x14 ∷ []) → ⊥
+oaep_salt_rejected p t =
     let w : Joins (map Defaultable (hash_field p.hash ∷ mask_field p.mask_gen ∷ source_field p.p_source ∷ [])) ((0xa2 ∷ 0x03 ∷ 0x02 ∷ 0x01 ∷ 0x14 ∷ []) ++ []) = known_whole salt_bytes t (omega arith) in
     let a = other_field_next (hash_field p.hash) 0xa2 (0x02 ∷ 0x01 ∷ 0x14 ∷ []) [] (omega arith) (λ e. omega arith) w in
     let b = other_field_next (mask_field p.mask_gen) 0xa2 (0x02 ∷ 0x01 ∷ 0x14 ∷ []) [] (omega arith) (λ e. omega arith) a.1 in
     let s = field_written (source_field p.p_source) [] 0xa2 (0x02 ∷ 0x01 ∷ 0x14 ∷ []) [] (omega arith) tt b.1 in
-    other_tag_refused 0x02 (0x01 ∷ 0x14 ∷ []) (λ e. omega arith) s.1
+    other_tag_rejected 0x02 (0x01 ∷ 0x14 ∷ []) (λ e. omega arith) s.1

@@ -2,7 +2,7 @@
 use Rattle.std.proofs.Common.{◌≡◌, ◌+◌, refl, subst, ℕ, List, [], ◌∷◌, arith, inl, inr, Ok, Some}
 use Rattle.der_core.specs.declared.error.ErrorKind.{ErrorKind}
 use Rattle.der_core.specs.declared.tag.Tag.{Tag}
-use Rattle.der_core.specs.Faults.{TextFault, AloneFault, SmallFault, FaultyFront}
+use Rattle.der_core.specs.Faults.{EncodingFault, AloneFault, SmallFault, FaultyFront}
 use Rattle.der_core.specs.Tags.{integer}
 use Rattle.spki_core.specs.Faults.{NextFault}
 use Rattle.pkcs1_params.specs.ParameterFaults.{tag_2, tag_3, SaltFault, TrailerFault, TrailerFieldFault}
@@ -12,7 +12,7 @@ use Rattle.der_core.specs.Tlv.{Tlv}
 use Rattle.der_core.specs.Laws.Sequences.{ContentsGive, end_gives}
 use Rattle.spki_core.specs.Allocating.{AllocatesFromField, FieldAllocates}
 use Rattle.spki_core.specs.Explicit.{Field, field}
-use Rattle.spki_core.specs.Laws.FieldTexts.{AreLater}
+use Rattle.spki_core.specs.Laws.FieldEncodings.{AreLater}
 use Rattle.spki_core.specs.Laws.FieldReads.{FieldGives, fields_give}
 use Rattle.pkcs1_params.specs.Parameters.{TrailerField, PssParameters, PssContents}
 use Rattle.pkcs1_params.proofs.HashFieldsReads as hash_fields
@@ -32,9 +32,9 @@ later_than_mask : (p : PssParameters) → AreLater 1 (salt_and_trailer p)
 later_than_mask p = (omega arith, (omega arith, tt))
 
 -- A number and what is behind it, which ask for nothing.
-pub numbers_ask : (n d : ℕ) (text : ℕ → List ℕ → Type 0) (c : List ℕ) → AllocatesFromField n text d (Tlv 2 (λ _. ⊥)) (λ _. ⊥) c → ⊥
-numbers_ask n d text c (inl w) = w.3.holds.3.holds
-numbers_ask n d text c (inr w) = w.1.3
+pub numbers_ask : (n d : ℕ) (encoding : ℕ → List ℕ → Type 0) (c : List ℕ) → AllocatesFromField n encoding d (Tlv 2 (λ _. ⊥)) (λ _. ⊥) c → ⊥
+numbers_ask n d encoding c (inl w) = w.3.holds.3.holds
+numbers_ask n d encoding c (inr w) = w.1.3
 
 pub pss_gives : (n m : ℕ) → n ≡ 2 → m ≡ 3 → (before mid at last after : Input) (p : PssParameters)
     → HashFieldsRead p.hash p.mask_gen before mid → FieldGives n Small 20 p.salt_len mid at → FieldGives m TrailerField 1 p.trailer_field at last
@@ -46,17 +46,17 @@ pss_gives n m is third before mid at last after p read salt trailing finish =
 
 -- The numbers of the fields, as they are known.
 pub at_salt : (n : ℕ) → n ≡ 2 → (before : Input) (e : ErrorKind) (may_allocate : List ℕ → Type 0)
-    → ((tag : Tag) → tag.octet ≡ 160 + n → FaultyFront (NextFault n (TextFault tag (AloneFault Small (TextFault integer SmallFault)))) (FieldAllocates n may_allocate) e before)
+    → ((tag : Tag) → tag.octet ≡ 160 + n → FaultyFront (NextFault n (EncodingFault tag (AloneFault Small (EncodingFault integer SmallFault)))) (FieldAllocates n may_allocate) e before)
     → FaultyFront (NextFault 2 SaltFault) (FieldAllocates 2 may_allocate) e before
 at_salt n is before e may_allocate fault =
-    let P : ℕ → Type 0 = λ m. (tag : Tag) → tag.octet ≡ 160 + m → FaultyFront (NextFault m (TextFault tag (AloneFault Small (TextFault integer SmallFault)))) (FieldAllocates m may_allocate) e before in
+    let P : ℕ → Type 0 = λ m. (tag : Tag) → tag.octet ≡ 160 + m → FaultyFront (NextFault m (EncodingFault tag (AloneFault Small (EncodingFault integer SmallFault)))) (FieldAllocates m may_allocate) e before in
     subst P is fault tag_2 refl
 
 pub at_trailer : (n : ℕ) → n ≡ 3 → (before : Input) (e : ErrorKind) (may_allocate : List ℕ → Type 0)
-    → ((tag : Tag) → tag.octet ≡ 160 + n → FaultyFront (NextFault n (TextFault tag (AloneFault TrailerField (TextFault integer TrailerFault)))) (FieldAllocates n may_allocate) e before)
+    → ((tag : Tag) → tag.octet ≡ 160 + n → FaultyFront (NextFault n (EncodingFault tag (AloneFault TrailerField (EncodingFault integer TrailerFault)))) (FieldAllocates n may_allocate) e before)
     → FaultyFront (NextFault 3 TrailerFieldFault) (FieldAllocates 3 may_allocate) e before
 at_trailer n is before e may_allocate fault =
-    let P : ℕ → Type 0 = λ m. (tag : Tag) → tag.octet ≡ 160 + m → FaultyFront (NextFault m (TextFault tag (AloneFault TrailerField (TextFault integer TrailerFault)))) (FieldAllocates m may_allocate) e before in
+    let P : ℕ → Type 0 = λ m. (tag : Tag) → tag.octet ≡ 160 + m → FaultyFront (NextFault m (EncodingFault tag (AloneFault TrailerField (EncodingFault integer TrailerFault)))) (FieldAllocates m may_allocate) e before in
     subst P is fault tag_3 refl
 
 pub salt_read : (n : ℕ) → n ≡ 2 → (s : ℕ) (before after : Input) → FieldGives n Small 20 s before after → FieldGives 2 Small 20 s before after

@@ -1,8 +1,8 @@
 -- Where reading parameters may ask for memory.
-use Rattle.std.specs.Prelude.{ℕ, List}
+use Rattle.std.specs.Prelude.{ℕ, List, Some, ◌≡◌, ◌<◌, ◌⊎◌, length}
 use Rattle.der_core.specs.Reading.{AllocatesIn}
 use Rattle.spki_core.specs.Any.{TagAndContents, Any}
-use Rattle.spki_core.specs.AlgorithmIdentifier.{PlainAlgorithm, MaskAlgorithm}
+use Rattle.spki_core.specs.AlgorithmIdentifier.{Algorithm, PlainAlgorithm, MaskAlgorithm}
 use Rattle.spki_core.specs.Allocating.{AlgorithmAllocates, FieldAllocates, AllocatesFromField}
 use Rattle.pkcs1_params.specs.Parameters.{sha1, mgf1_sha1}
 
@@ -23,4 +23,15 @@ OaepAllocates may_allocate contents = AllocatesFromHash may_allocate (AllocatesI
 
 -- Owned parameters of an identifier ask for memory wherever there are any.
 abbrev pub AllocatesForAny : List ℕ → Type 0
-AllocatesForAny text = (v : TagAndContents) × Any v text
+AllocatesForAny encoding = (v : TagAndContents) × Any v encoding
+
+-- Values whose owned form asks for memory: contents octets, parameters with these, and a hash function or one under a
+-- mask generation function with such parameters.
+abbrev pub HasOctets : TagAndContents → Type 0
+HasOctets v = 0 < length v.contents
+
+abbrev pub HasParameters : {P : Type 0} → (P → Type 0) → Algorithm P → Type 0
+HasParameters {P} has a = (parameters : P) × (a.parameters ≡ Some parameters) × has parameters
+
+abbrev pub HashesHaveOctets : Algorithm TagAndContents → Algorithm (Algorithm TagAndContents) → Type 0
+HashesHaveOctets hash mask_gen = HasParameters HasOctets hash ⊎ HasParameters (HasParameters HasOctets) mask_gen

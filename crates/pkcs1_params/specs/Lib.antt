@@ -7,7 +7,7 @@ pub mod Spellings
 pub mod ParameterEquality
 pub mod AlgorithmEquality
 pub mod ErrorText
-pub mod Refusals
+pub mod Errors
 pub mod Defaults
 pub mod MaskedValues
 pub mod Meanings

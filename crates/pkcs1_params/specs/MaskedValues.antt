@@ -1,9 +1,9 @@
 -- Values with a mask that says which defaults are written.
 use Rattle.std.proofs.Common.{ℕ, List, ◌≡◌, ◌<◌, ◌^◌, map}
-use Rattle.der_core.specs.Texts.{IsOfBytes, MeansOne, Joins}
-use Rattle.der_core.specs.Writing.{WritesTexts, WritesLeast}
+use Rattle.der_core.specs.Encodings.{IsOfBytes, MeansOne, Joins}
+use Rattle.der_core.specs.Writing.{WritesEncodings, WritesLeast}
 use Rattle.spki_core.specs.Explicit.{Field, Defaultable, HaveDefaults, MaskedContents}
-use Rattle.spki_core.specs.Laws.FieldTexts.{fields_of_bytes as joins_of_bytes}
+use Rattle.spki_core.specs.Laws.FieldEncodings.{fields_of_bytes as joins_of_bytes}
 use Rattle.spki_core.specs.Laws.Masks.{parts_relate, parts_least}
 use Rattle.spki_core.specs.Laws.Fields.{masked_joins, masked_below, mask_same}
 use Rattle.pkcs1_params.specs.Laws.FieldValues.{fields_of_bytes, in_order}
@@ -43,7 +43,7 @@ module _ {V : Type 0} (values : V → List FieldValue) where
   pub masked_of_bytes : IsOfBytes MaskedValueContents
   masked_of_bytes v c p = joins_of_bytes (fields_with values v.value) (fields_of_bytes (values v.value)) c (masked_joins (fields_with values v.value) v.mask c p)
 
-  pub masked_relates : WritesTexts MaskedValueContents HasMasked written_masked
+  pub masked_relates : WritesEncodings MaskedValueContents HasMasked written_masked
   masked_relates v h fits =
       let parts = parts_of (values v.value) in
       let k = parts_counted parts in

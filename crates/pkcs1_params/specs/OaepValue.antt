@@ -1,6 +1,6 @@
 -- What RSAES-OAEP parameters mean, by what the parameters of algorithms hold.
 use Rattle.std.specs.Prelude.{ℕ, List, ◌≡◌, length}
-use Rattle.der_core.specs.Texts.{AreBytes}
+use Rattle.der_core.specs.Encodings.{AreBytes}
 use Rattle.der_core.specs.Document.{Means}
 use Rattle.spki_core.specs.Any.{TagAndContents, null_value}
 use Rattle.spki_core.specs.AnyRefValue.{any_of}
@@ -32,7 +32,7 @@ labelled oid label = record {
 
 -- with a label of n bytes there is always an encoding, or never
 abbrev pub LabelFits : List ℕ → ℕ → Type 0
-LabelFits oid n = (label : List ℕ) → AreBytes label → length label ≡ n → (text : List ℕ) × Means grammar.RsaOaepParams text (labelled oid label)
+LabelFits oid n = (label : List ℕ) → AreBytes label → length label ≡ n → (encoding : List ℕ) × Means grammar.RsaOaepParams encoding (labelled oid label)
 
 abbrev pub NoLabelFits : List ℕ → ℕ → Type 0
-NoLabelFits oid n = (label : List ℕ) → AreBytes label → length label ≡ n → (text : List ℕ) → Means grammar.RsaOaepParams text (labelled oid label) → ⊥
+NoLabelFits oid n = (label : List ℕ) → AreBytes label → length label ≡ n → (encoding : List ℕ) → Means grammar.RsaOaepParams encoding (labelled oid label) → ⊥

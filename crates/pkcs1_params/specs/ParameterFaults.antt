@@ -5,7 +5,7 @@ use Rattle.der_core.specs.declared.error.ErrorKind.TheVariants.{Noncanonical, Va
 use Rattle.der_core.specs.Document.{Means}
 use Rattle.der_core.specs.Tag.{context_tag}
 use Rattle.der_core.specs.declared.tag.Tag.{Tag}
-use Rattle.der_core.specs.Faults.{TextFault, AloneFault, EndFault, WholeFault, SmallFault, ExpectedFault}
+use Rattle.der_core.specs.Faults.{EncodingFault, AloneFault, EndFault, WholeFault, SmallFault, ExpectedFault}
 use Rattle.der_core.specs.Integer.{Small, SmallContents}
 use Rattle.der_core.specs.Tags.{integer, sequence}
 use Rattle.spki_core.specs.AlgorithmIdentifier.{AlgorithmIdentifier, PlainAlgorithm, MaskAlgorithm}
@@ -34,45 +34,45 @@ TrailerFault = ExpectedFault SmallContents SmallFault 1 (Value integer)
 
 -- The fields, by what their tags hold. P is the type of an algorithm's parameters.
 abbrev pub PlainFault : {P : Type 0} → (P → List ℕ → Type 0) → (ErrorKind → List ℕ → Type 0) → ErrorKind → List ℕ → Type 0
-PlainFault Text Fault = TextFault sequence (AlgorithmFault Text Fault)
+PlainFault Encoding Fault = EncodingFault sequence (AlgorithmFault Encoding Fault)
 
 abbrev pub HashFault : {P : Type 0} → (P → List ℕ → Type 0) → (ErrorKind → List ℕ → Type 0) → ErrorKind → List ℕ → Type 0
-HashFault Text Fault = TextFault tag_0 (AloneFault (AlgorithmIdentifier Text) (PlainFault Text Fault))
+HashFault Encoding Fault = EncodingFault tag_0 (AloneFault (AlgorithmIdentifier Encoding) (PlainFault Encoding Fault))
 
 abbrev pub MaskFault : {P : Type 0} → (P → List ℕ → Type 0) → (ErrorKind → List ℕ → Type 0) → ErrorKind → List ℕ → Type 0
-MaskFault Text Fault = TextFault tag_1 (AloneFault (AlgorithmIdentifier (AlgorithmIdentifier Text)) (PlainFault (AlgorithmIdentifier Text) (PlainFault Text Fault)))
+MaskFault Encoding Fault = EncodingFault tag_1 (AloneFault (AlgorithmIdentifier (AlgorithmIdentifier Encoding)) (PlainFault (AlgorithmIdentifier Encoding) (PlainFault Encoding Fault)))
 
 abbrev pub SaltFault : ErrorKind → List ℕ → Type 0
-SaltFault = TextFault tag_2 (AloneFault Small (TextFault integer SmallFault))
+SaltFault = EncodingFault tag_2 (AloneFault Small (EncodingFault integer SmallFault))
 
 abbrev pub SourceFault : {P : Type 0} → (P → List ℕ → Type 0) → (ErrorKind → List ℕ → Type 0) → ErrorKind → List ℕ → Type 0
-SourceFault Text Fault = TextFault tag_2 (AloneFault (AlgorithmIdentifier Text) (PlainFault Text Fault))
+SourceFault Encoding Fault = EncodingFault tag_2 (AloneFault (AlgorithmIdentifier Encoding) (PlainFault Encoding Fault))
 
 abbrev pub TrailerFieldFault : ErrorKind → List ℕ → Type 0
-TrailerFieldFault = TextFault tag_3 (AloneFault TrailerField (TextFault integer TrailerFault))
+TrailerFieldFault = EncodingFault tag_3 (AloneFault TrailerField (EncodingFault integer TrailerFault))
 
 -- One field after another, each left out or there, and nothing behind them.
 abbrev pub PssFault : {P : Type 0} → (P → List ℕ → Type 0) → (ErrorKind → List ℕ → Type 0) → ErrorKind → List ℕ → Type 0
-PssFault Text Fault =
-    FieldThenFault 0 PlainAlgorithm sha1 (HashFault Text Fault)
-    (FieldThenFault 1 MaskAlgorithm mgf1_sha1 (MaskFault Text Fault) (FieldThenFault 2 Small 20 SaltFault (FieldThenFault 3 TrailerField 1 TrailerFieldFault EndFault)))
+PssFault Encoding Fault =
+    FieldThenFault 0 PlainAlgorithm sha1 (HashFault Encoding Fault)
+    (FieldThenFault 1 MaskAlgorithm mgf1_sha1 (MaskFault Encoding Fault) (FieldThenFault 2 Small 20 SaltFault (FieldThenFault 3 TrailerField 1 TrailerFieldFault EndFault)))
 
 abbrev pub OaepFault : {P : Type 0} → (P → List ℕ → Type 0) → (ErrorKind → List ℕ → Type 0) → ErrorKind → List ℕ → Type 0
-OaepFault Text Fault =
-    FieldThenFault 0 PlainAlgorithm sha1 (HashFault Text Fault)
-    (FieldThenFault 1 MaskAlgorithm mgf1_sha1 (MaskFault Text Fault) (FieldThenFault 2 PlainAlgorithm empty_label (SourceFault Text Fault) EndFault))
+OaepFault Encoding Fault =
+    FieldThenFault 0 PlainAlgorithm sha1 (HashFault Encoding Fault)
+    (FieldThenFault 1 MaskAlgorithm mgf1_sha1 (MaskFault Encoding Fault) (FieldThenFault 2 PlainAlgorithm empty_label (SourceFault Encoding Fault) EndFault))
 
 -- Whole slices that have to be parameters.
 abbrev pub RsaPssParamsFault : ErrorKind → List ℕ → Type 0
-RsaPssParamsFault = WholeFault RsaPssParams (TextFault sequence (PssFault Any AnyFault))
+RsaPssParamsFault = WholeFault RsaPssParams (EncodingFault sequence (PssFault Any AnyFault))
 
 abbrev pub RsaOaepParamsFault : ErrorKind → List ℕ → Type 0
-RsaOaepParamsFault = WholeFault RsaOaepParams (TextFault sequence (OaepFault Any AnyFault))
+RsaOaepParamsFault = WholeFault RsaOaepParams (EncodingFault sequence (OaepFault Any AnyFault))
 
 -- An encoding means a value, and a default is written in it (X.690 11.5): the fault names the tag of the first.
 abbrev pub DefaultFault : {V : Type 0} → (V → List ℕ → Type 0) → (V → List Field) → ErrorKind → List ℕ → Type 0
-DefaultFault {V} Grammar fields kind text =
-    (v : V) × Means Grammar text v × (n : ℕ) × WritesDefault (fields v) n text × (tag : Tag) × (tag.octet ≡ context_tag n) × (kind ≡ Noncanonical tag)
+DefaultFault {V} Grammar fields kind encoding =
+    (v : V) × Means Grammar encoding v × (n : ℕ) × WritesDefault (fields v) n encoding × (tag : Tag) × (tag.octet ≡ context_tag n) × (kind ≡ Noncanonical tag)
 
 -- Whole slices that have to be the shortest encoding of parameters.
 abbrev pub StrictPssFault : ErrorKind → List ℕ → Type 0

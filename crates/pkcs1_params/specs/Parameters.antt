@@ -2,7 +2,7 @@
 use Rattle.std.specs.Prelude.{ℕ, List, [], ◌∷◌, ◌≡◌, Some, map}
 use Rattle.der_core.specs.Tag.{integer_tag, sequence_tag}
 use Rattle.der_core.specs.Integer.{SmallContents, Small}
-use Rattle.der_core.specs.Texts.{Joins}
+use Rattle.der_core.specs.Encodings.{Joins}
 use Rattle.der_core.specs.Tlv.{Tlv}
 use Rattle.spki_core.specs.Any.{TagAndContents, null_value}
 use Rattle.spki_core.specs.AlgorithmIdentifier.{Algorithm, PlainAlgorithm, MaskAlgorithm}
@@ -44,7 +44,7 @@ abbrev pub TrailerContents : ℕ → List ℕ → Type 0
 TrailerContents n contents = (n ≡ 1) × SmallContents n contents
 
 abbrev pub TrailerField : ℕ → List ℕ → Type 0
-TrailerField n text = Tlv integer_tag (TrailerContents n) text
+TrailerField n encoding = Tlv integer_tag (TrailerContents n) encoding
 
 -- hashAlgorithm [0] and maskGenAlgorithm [1], which both sets of parameters begin with
 abbrev pub hash_fields_then : Algorithm TagAndContents → Algorithm (Algorithm TagAndContents) → List Field → List Field
@@ -64,7 +64,7 @@ PssContents p contents = Joins (map Defaultable (pss_fields p)) contents
 
 -- RSASSA-PSS-params (A.2.3)
 abbrev pub RsaPssParams : PssParameters → List ℕ → Type 0
-RsaPssParams p text = Tlv sequence_tag (PssContents p) text
+RsaPssParams p encoding = Tlv sequence_tag (PssContents p) encoding
 
 pub record OaepParameters : Type 0 where
   pub hash : Algorithm TagAndContents
@@ -79,4 +79,4 @@ OaepContents p contents = Joins (map Defaultable (oaep_fields p)) contents
 
 -- RSAES-OAEP-params (A.2.1)
 abbrev pub RsaOaepParams : OaepParameters → List ℕ → Type 0
-RsaOaepParams p text = Tlv sequence_tag (OaepContents p) text
+RsaOaepParams p encoding = Tlv sequence_tag (OaepContents p) encoding

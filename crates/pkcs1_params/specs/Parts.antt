@@ -4,7 +4,7 @@ use Rattle.der_core.specs.Laws.Equality.{number_decides}
 use Rattle.der_core.specs.Integer.{Small, SmallContents, integer_contents}
 use Rattle.der_core.specs.Laws.SmallNumbers.{small_relates, small_shortest}
 use Rattle.der_core.specs.Tag.{integer_tag}
-use Rattle.der_core.specs.Laws.Texts.{tlv_relates, tlv_shortest}
+use Rattle.der_core.specs.Laws.Encodings.{tlv_relates, tlv_shortest}
 use Rattle.der_core.specs.Tlv.{tlv}
 use Rattle.der_core.specs.Writing.{IsLeast}
 use Rattle.spki_core.specs.Any.{TagAndContents}
@@ -21,7 +21,7 @@ plain_part number default v = record {
   field = field number PlainAlgorithm default v;
   is_default = same_plain v default;
   has = HasPlain v;
-  text = written_plain v;
+  encoding = written_plain v;
   decides = same_plain_decides v default;
   relates = plain_relates v;
   least = plain_shortest v;
@@ -32,7 +32,7 @@ mask_gen_part v = record {
   field = field 1 MaskAlgorithm mgf1_sha1 v;
   is_default = same_mask v mgf1_sha1;
   has = HasMask v;
-  text = written_mask v;
+  encoding = written_mask v;
   decides = same_mask_decides v mgf1_sha1;
   relates = mask_relates v;
   least = mask_shortest v;
@@ -47,18 +47,18 @@ salt_relates n h fits = tlv_relates integer_tag SmallContents (λ m. integer_con
 pub salt_shortest : (n : ℕ) (b : List ℕ) → Small n b → IsLeast (n < 256) (written_number n) b
 salt_shortest = tlv_shortest integer_tag SmallContents (λ m. integer_contents (m ∷ [])) (λ m. m < 256) small_shortest
 
-pub trailer_text_relates : (n : ℕ) → n ≡ 1 → length (written_number n) < 2 ^ 128 → TrailerField n (written_number n)
-trailer_text_relates n h fits = tlv_relates integer_tag TrailerContents (λ m. integer_contents (m ∷ [])) n (λ _. trailer_relates n h) fits
+pub trailer_encoding_relates : (n : ℕ) → n ≡ 1 → length (written_number n) < 2 ^ 128 → TrailerField n (written_number n)
+trailer_encoding_relates n h fits = tlv_relates integer_tag TrailerContents (λ m. integer_contents (m ∷ [])) n (λ _. trailer_relates n h) fits
 
-pub trailer_text_shortest : (n : ℕ) (b : List ℕ) → TrailerField n b → IsLeast (n ≡ 1) (written_number n) b
-trailer_text_shortest = tlv_shortest integer_tag TrailerContents (λ m. integer_contents (m ∷ [])) (λ m. m ≡ 1) trailer_shortest
+pub trailer_encoding_shortest : (n : ℕ) (b : List ℕ) → TrailerField n b → IsLeast (n ≡ 1) (written_number n) b
+trailer_encoding_shortest = tlv_shortest integer_tag TrailerContents (λ m. integer_contents (m ∷ [])) (λ m. m ≡ 1) trailer_shortest
 
 abbrev salt_part : ℕ → Part
 salt_part n = record {
   field = field 2 Small 20 n;
   is_default = eqb n 20;
   has = n < 256;
-  text = written_number n;
+  encoding = written_number n;
   decides = number_decides n 20;
   relates = salt_relates n;
   least = salt_shortest n;
@@ -69,10 +69,10 @@ trailer_part n = record {
   field = field 3 TrailerField 1 n;
   is_default = eqb n 1;
   has = n ≡ 1;
-  text = written_number n;
+  encoding = written_number n;
   decides = number_decides n 1;
-  relates = trailer_text_relates n;
-  least = trailer_text_shortest n;
+  relates = trailer_encoding_relates n;
+  least = trailer_encoding_shortest n;
 }
 
 -- A field with its value.
@@ -102,7 +102,7 @@ fields_with values v = fields_in (values v)
 
 -- A SEQUENCE of them.
 abbrev pub Fielded : {V : Type 0} → (V → List FieldValue) → V → List ℕ → Type 0
-Fielded values v text = FieldSequence (fields_with values v) text
+Fielded values v encoding = FieldSequence (fields_with values v) encoding
 
 -- Which of the fields have their defaults.
 abbrev pub defaults_in : List FieldValue → List Bool

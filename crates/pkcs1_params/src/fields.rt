@@ -29,7 +29,7 @@ pub(crate) enum FieldRef<'b> {
 }
 
 /// Does nothing: its contract bounds the number, which proofs don't know of a field.
-fn is_octet(number: u8)
+fn lemma_is_octet(number: u8)
     ensures { number < 256 }
 {
     let _ = number;
@@ -62,13 +62,13 @@ impl FieldRef<'_> {
     }
 
     /// Does nothing: its contract says that the value has an encoding, little longer than the limit.
-    fn is_held(&self)
-        ensures { (part_in self.now).has × (length (part_in self.now).text ≤ limit + 718) }
+    fn lemma_is_held(&self)
+        ensures { (part_in self.now).has × (length (part_in self.now).encoding ≤ limit + 718) }
     {
         match *self {
             FieldRef::Hash(_) => {}
             FieldRef::MaskGen(_) => {}
-            FieldRef::SaltLen(salt_len) => is_octet(salt_len),
+            FieldRef::SaltLen(salt_len) => lemma_is_octet(salt_len),
             FieldRef::Trailer(_) => {}
             FieldRef::PSource(_) => {}
         }
@@ -78,7 +78,7 @@ impl FieldRef<'_> {
     #[inline(always)]
     fn len(&self, left_out: bool) -> Result<Length>
         ensures { let part = part_in self.now in
-            Counts (HasField left_out part.has) (written_field left_out part.field.number part.text) result }
+            Counts (HasField left_out part.has) (written_field left_out part.field.number part.encoding) result }
     {
         if left_out {
             Ok(Length::ZERO)
@@ -91,7 +91,7 @@ impl FieldRef<'_> {
     #[inline(never)]
     fn written_len(&self) -> Result<Length>
         ensures { let part = part_in self.now in
-            Counts (HasField false part.has) (written_field false part.field.number part.text) result }
+            Counts (HasField false part.has) (written_field false part.field.number part.encoding) result }
     {
         let number = self.number();
         match *self {
@@ -106,7 +106,7 @@ impl FieldRef<'_> {
     /// Appends the field, unless it is left out.
     fn encode<W: Writer>(&self, left_out: bool, writer: &mut W) -> Result<()>
         ensures appends { let part = part_in self.now in
-            let octets = written_field left_out part.field.number part.text in
+            let octets = written_field left_out part.field.number part.encoding in
             Appends (HasField left_out part.has) octets W.room W.written writer.old writer.new result }
         ensures kept { W.keeps writer.old writer.new }
     {
@@ -125,11 +125,11 @@ impl FieldRef<'_> {
     fn prepend(&self, left_out: bool, writer: &mut BackWriter<'_>)
         requires has { HasField left_out (part_in self.now).has }
         requires fits { let part = part_in self.now in
-            length (written_field left_out part.field.number part.text) ≤ limit }
+            length (written_field left_out part.field.number part.encoding) ≤ limit }
         requires room { let part = part_in self.now in
-            length (written_field left_out part.field.number part.text) ≤ free_of writer.old }
+            length (written_field left_out part.field.number part.encoding) ≤ free_of writer.old }
         ensures { let part = part_in self.now in
-            Prepends (written_field left_out part.field.number part.text) writer.old writer.new }
+            Prepends (written_field left_out part.field.number part.encoding) writer.old writer.new }
     {
         if !left_out {
             self.prepend_written(writer);
@@ -141,11 +141,11 @@ impl FieldRef<'_> {
     fn prepend_written(&self, writer: &mut BackWriter<'_>)
         requires has { HasField false (part_in self.now).has }
         requires fits { let part = part_in self.now in
-            length (written_field false part.field.number part.text) ≤ limit }
+            length (written_field false part.field.number part.encoding) ≤ limit }
         requires room { let part = part_in self.now in
-            length (written_field false part.field.number part.text) ≤ free_of writer.old }
+            length (written_field false part.field.number part.encoding) ≤ free_of writer.old }
         ensures { let part = part_in self.now in
-            Prepends (written_field false part.field.number part.text) writer.old writer.new }
+            Prepends (written_field false part.field.number part.encoding) writer.old writer.new }
     {
         let number = self.number();
         match *self {
@@ -201,13 +201,13 @@ pub(crate) fn bit(fact: bool) -> u8
 }
 
 /// Does nothing: its contract says that there are contents under each mask, and bounds their length.
-pub(crate) fn are_held(fields: &[FieldRef<'_>])
+pub(crate) fn lemma_are_held(fields: &[FieldRef<'_>])
     ensures { (mask : ℕ) → HasFields (values_in fields.now) mask
         × (length (written_fields (values_in fields.now) mask) ≤ length (values_in fields.now) * (limit + 846)) }
 {
     if let Some((field, later)) = fields.split_first() {
-        field.is_held();
-        are_held(later);
+        field.lemma_is_held();
+        lemma_are_held(later);
     }
 }
 

@@ -1,19 +1,14 @@
 //! hashAlgorithm and maskGenAlgorithm, which both sets of parameters begin with.
-ghost use Rattle.std.specs.Prelude.{IfErr, ◌≡◌, ◌∷◌, [], refl};
-ghost use Rattle.der_core.specs.Faults.{FaultyFront};
-ghost use Rattle.spki_core.specs.Allocating.{AlgorithmAllocates, FieldAllocates};
-ghost use Rattle.spki_core.specs.Faults.{NextFault};
-ghost use Rattle.pkcs1_params.specs.ParameterFaults.{HashFault, MaskFault};
+ghost use Rattle.std.specs.Prelude.{◌≡◌, ◌∷◌, [], refl};
 ghost use Rattle.spki_core.specs.Any.{null_value};
-ghost use Rattle.spki_core.specs.AlgorithmIdentifier.{PlainAlgorithm, MaskAlgorithm, same_plain, same_mask};
+ghost use Rattle.spki_core.specs.AlgorithmIdentifier.{same_plain, same_mask};
 ghost use Rattle.spki_core.specs.AlgorithmValue.{algorithm_with, algorithm_of, mask_of};
-ghost use Rattle.spki_core.specs.FieldReading.{ReadsField};
 ghost use Rattle.pkcs1_params.specs.Parameters.{id_sha1, id_mgf1, with_parameters, sha1, mgf1_sha1};
 
-use der_core::{Decode, Memory, Reader, Result, Tag, TagNumber};
+use der_core::{Memory, Tag};
 use spki_core::{
     AlgorithmIdentifier, AlgorithmIdentifierRef, AnyParams, AnyRef, AnyValue,
-    AsAlgorithmIdentifierRef, AssociatedOid, ObjectIdentifier, is_field_next, read_explicit,
+    AsAlgorithmIdentifierRef, AssociatedOid, ObjectIdentifier,
 };
 
 /// SHA-1.
@@ -100,43 +95,5 @@ pub(crate) fn mask_gen_ref<P: AnyValue>(mask_gen: &MaskGen<P>) -> MaskGenRef<'_>
             Some(hash) => Some(hash.as_algo_ref()),
             None => None,
         },
-    }
-}
-
-/// Reads the hash function. SHA-1 with NULL if its field is absent.
-pub(crate) fn read_hash<'a, P: Decode<&'a [u8], M> + AnyParams<M>, M: Memory, R: Reader<&'a [u8]>>(
-    memory: M,
-    reader: &mut R,
-) -> Result<AlgorithmIdentifier<P>>
-    ensures reads { let may = AlgorithmAllocates P.Decode.may_allocate in
-        let value = algorithm_with P.any in
-        ReadsField 0 value PlainAlgorithm sha1 may result (R.left reader.old) (R.left reader.new) }
-    ensures exact { let may = FieldAllocates 0 (AlgorithmAllocates P.Decode.may_allocate) in
-        IfErr result (λ e. FaultyFront (NextFault 0 (HashFault P.text P.Decode.fault)) may e.kind (R.left reader.old)) }
-{
-    if is_field_next(reader, TagNumber::new(0))? {
-        read_explicit(memory, reader, TagNumber::new(0))
-    } else {
-        Ok(with_null::<Sha1, P, M>(memory))
-    }
-}
-
-/// Reads the mask generation function. MGF1 with SHA-1 with NULL if its field is absent.
-pub(crate) fn read_mask_gen<
-    'a,
-    P: Decode<&'a [u8], M> + AnyParams<M>,
-    M: Memory,
-    R: Reader<&'a [u8]>,
->(memory: M, reader: &mut R) -> Result<MaskGen<P>>
-    ensures reads { let may = AlgorithmAllocates (AlgorithmAllocates P.Decode.may_allocate) in
-        let value = algorithm_with (algorithm_with P.any) in
-        ReadsField 1 value MaskAlgorithm mgf1_sha1 may result (R.left reader.old) (R.left reader.new) }
-    ensures exact { let may = FieldAllocates 1 (AlgorithmAllocates (AlgorithmAllocates P.Decode.may_allocate)) in
-        IfErr result (λ e. FaultyFront (NextFault 1 (MaskFault P.text P.Decode.fault)) may e.kind (R.left reader.old)) }
-{
-    if is_field_next(reader, TagNumber::new(1))? {
-        read_explicit(memory, reader, TagNumber::new(1))
-    } else {
-        Ok(mgf1_with::<Sha1, P, M>(memory))
     }
 }

@@ -14,10 +14,10 @@ ghost use Rattle.pkcs1_params.specs.Spellings.{
 /// The encodings of PSS parameters within the limit are those under the masks, which say which defaults are written.
 /// The shortest is the one under mask 0. Two encodings mean the same parameters exactly if the shortest encodings of
 /// what they mean are equal.
-pub fn pss_spellings()
+pub fn lemma_pss_spellings()
     ensures defaults { DefaultsAreCounted pss_fields }
     ensures mask { EachHasOneMask pss_fields }
-    ensures text { EachMaskHasOne pss_fields }
+    ensures encoding { EachMaskHasOne pss_fields }
     ensures shortest { ShortestHasNoDefaults pss_fields }
     ensures fits { AcceptedFits pss_fields }
     ensures count { TwoToTheDefaults pss_fields }
@@ -27,10 +27,10 @@ pub fn pss_spellings()
 /// The encodings of OAEP parameters within the limit are those under the masks, which say which defaults are written.
 /// The shortest is the one under mask 0. Two encodings mean the same parameters exactly if the shortest encodings of
 /// what they mean are equal.
-pub fn oaep_spellings()
+pub fn lemma_oaep_spellings()
     ensures defaults { DefaultsAreCounted oaep_fields }
     ensures mask { EachHasOneMask oaep_fields }
-    ensures text { EachMaskHasOne oaep_fields }
+    ensures encoding { EachMaskHasOne oaep_fields }
     ensures shortest { ShortestHasNoDefaults oaep_fields }
     ensures fits { AcceptedFits oaep_fields }
     ensures count { TwoToTheDefaults oaep_fields }

@@ -26,7 +26,7 @@ pub use default_salt::DefaultSalt;
 pub use error::{Error, Result};
 pub use faults::{fault_of_oaep_params, fault_of_pss_params};
 pub use hash_fields::with_null;
-pub use laws::{oaep_spellings, pss_spellings};
+pub use laws::{lemma_oaep_spellings, lemma_pss_spellings};
 pub use oaep::{RsaOaepParams, RsaOaepParamsOwned, RsaOaepParamsRef};
 pub use pss::{RsaPssParams, RsaPssParamsOwned, RsaPssParamsRef};
 pub use trailer_field::TrailerField;

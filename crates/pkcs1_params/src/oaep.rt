@@ -1,9 +1,12 @@
 //! Parameters of RSAES-OAEP (RFC 8017 A.2.1).
 ghost use Rattle.std.specs.Prelude.{◌≡◌, ◌≤◌, [], refl, length, OnOk, IfErr};
 ghost use Rattle.pkcs1_params.specs.Allocating.{OaepAllocates};
-ghost use Rattle.pkcs1_params.specs.Parameters.{OaepParameters, OaepContents, oaep_fields, sha1, mgf1_sha1, empty_label};
+ghost use Rattle.pkcs1_params.specs.Parameters.{OaepParameters, OaepContents, oaep_fields, sha1, mgf1_sha1};
+ghost use Rattle.pkcs1_params.specs.Parameters.{empty_label};
 ghost use Rattle.pkcs1_params.specs.Parts.{oaep_values, HasFields, written_fields};
 ghost use Rattle.pkcs1_params.specs.Laws.Oaep.{oaep_means_one, oaep_of_bytes, oaep_relates, oaep_shortest};
+ghost use Rattle.pkcs1_params.specs.Parameters as grammar;
+ghost use Rattle.der_core.specs.declared.error.ErrorKind as der;
 
 use crate::defaults::{default_oaep, is_empty_sequence};
 use crate::error::{Error, Result};
@@ -11,7 +14,7 @@ use crate::hash_fields::{Sha1, mask_gen_ref, mgf1_with, with_null};
 use crate::oaep_view::OaepView;
 use crate::p_source::empty_source;
 use crate::spelling::{DefaultFields, encode_shortest};
-use crate::strict::refuse_defaults;
+use crate::strict::reject_defaults;
 use der_core::{
     BackWriter, Contents, Decode, DecodeValue, EncodeValue, EqualByValue, Header, Length, Memory,
     NoMemory, Reader, Sequence, SequenceTag, TaggedBy, TryClone, Writer,
@@ -74,7 +77,7 @@ impl<'a, P> Sequence<'a> for RsaOaepParams<P> {
 
 impl<'a, M: Memory> DecodeValue<&'a [u8], M> for RsaOaepParams<AnyRef<'a>> {
     ghost use Rattle.spki_core.specs.Any.{Any};
-    ghost use Rattle.spki_core.specs.Laws.AnyTexts.{any_delimited};
+    ghost use Rattle.spki_core.specs.Laws.AnyEncodings.{any_delimited};
     ghost use Rattle.spki_core.specs.AnyRefValue.{any_of};
     ghost use Rattle.spki_core.specs.AnyValues.{holds_itself};
     ghost use Rattle.spki_core.specs.Faults.{AnyFault};
@@ -104,11 +107,10 @@ impl<'a, M: Memory> DecodeValue<&'a [u8], M> for RsaOaepParams<AnyRef<'a>> {
 impl<P: AnyValue> RsaOaepParams<P> {
     ghost use Rattle.std.specs.Prelude.{drop, take, IfOk, OnErr};
     ghost use Rattle.der_core.specs.Document.{IsShortest};
-    ghost use Rattle.pkcs1_params.specs.Meanings.{IsNotWritten};
+    ghost use Rattle.pkcs1_params.specs.Meanings.{IsWritingError};
     ghost use Rattle.spki_core.specs.Explicit.{Masked};
-    ghost use Rattle.pkcs1_params.specs.Parameters as grammar;
     ghost use Rattle.pkcs1_params.specs.OaepValue.{oaep_with, oaep_of};
-    ghost use Rattle.pkcs1_params.specs.Refusals.{IsAsn1};
+    ghost use Rattle.pkcs1_params.specs.Errors.{IsAsn1};
     ghost use Rattle.pkcs1_params.specs.Spellings.{HasTwoToTheDefaults};
 
     /// The parameters, borrowed.
@@ -135,7 +137,7 @@ impl<P: AnyValue> RsaOaepParams<P> {
             (other : OaepParameters) → grammar.RsaOaepParams other (take n out.new) → other ≡ params) }
         ensures count { OnOk result (HasTwoToTheDefaults oaep_fields (oaep_with P.any self.now)) }
         ensures unchanged { OnErr result (out.new ≡ out.old) }
-        ensures err { IfErr result (IsNotWritten grammar.RsaOaepParams (oaep_with P.any self.now) (length out.old)) }
+        ensures err { IfErr result (IsWritingError grammar.RsaOaepParams (oaep_with P.any self.now) (length out.old)) }
     {
         encode_shortest(&self.as_params_ref(), out)
     }
@@ -235,13 +237,11 @@ impl<'a> Default for RsaOaepParams<AnyRef<'a>> {
 
 impl<'a> RsaOaepParams<AnyRef<'a>> {
     ghost use Rattle.std.specs.Prelude.{IfOk, IsErrAnd, ◌⊎◌};
-    ghost use Rattle.der_core.specs.declared.error.ErrorKind as der;
     ghost use Rattle.der_core.specs.Reading.{TellsOfBytes};
     ghost use Rattle.der_core.specs.Document.{Means, IsShortest};
-    ghost use Rattle.pkcs1_params.specs.Parameters as grammar;
     ghost use Rattle.pkcs1_params.specs.ParameterFaults.{RsaOaepParamsFault, StrictOaepFault};
     ghost use Rattle.pkcs1_params.specs.OaepValue.{oaep_of};
-    ghost use Rattle.pkcs1_params.specs.Refusals.{IsAsn1};
+    ghost use Rattle.pkcs1_params.specs.Errors.{IsAsn1};
     ghost use Rattle.spki_core.specs.StrictFields.{NamesDefault};
 
     /// Like `try_from`, but rejects an encoding in which a default is written: `Noncanonical` with the tag of the first
@@ -262,7 +262,7 @@ impl<'a> RsaOaepParams<AnyRef<'a>> {
             → StrictOaepFault kind bytes.now → IsErrAnd result (IsAsn1 (λ e. e.kind ≡ kind)) }
     {
         let params = RsaOaepParams::try_from(bytes)?;
-        refuse_defaults(&params, bytes)?;
+        reject_defaults(&params, bytes)?;
         Ok(params)
     }
 }
@@ -272,11 +272,9 @@ impl<'a> TryFrom<&'a [u8]> for RsaOaepParams<AnyRef<'a>> {
     ghost use Rattle.der_core.specs.Reading.{TellsOfBytes};
     ghost use Rattle.der_core.specs.Document.{Means};
     ghost use Rattle.pkcs1_params.specs.Meanings.{IsNoSentence, IsOnlyMeaning};
-    ghost use Rattle.pkcs1_params.specs.Parameters as grammar;
     ghost use Rattle.pkcs1_params.specs.OaepValue.{oaep_of};
-    ghost use Rattle.pkcs1_params.specs.Refusals.{IsAsn1};
+    ghost use Rattle.pkcs1_params.specs.Errors.{IsAsn1};
     ghost use Rattle.std.specs.Prelude.{IsErrAnd};
-    ghost use Rattle.der_core.specs.declared.error.ErrorKind as der;
     ghost use Rattle.pkcs1_params.specs.ParameterFaults.{RsaOaepParamsFault};
 
     type Error = Error;

@@ -7,11 +7,12 @@ ghost use Rattle.pkcs1_params.specs.OaepValue.{oaep_of, oaep_with};
 ghost use Rattle.pkcs1_params.specs.Laws.Parameters.{oaep_numbered};
 ghost use Rattle.pkcs1_params.specs.Parameters.{OaepParameters, oaep_fields};
 ghost use Rattle.pkcs1_params.specs.Parts.{oaep_values};
-ghost use Rattle.pkcs1_params.specs.Spellings.{IsMask, StandsUnder, IsUnspelled, AllFit, AreAllSpellings, LacksSpellings, texts_in};
+ghost use Rattle.pkcs1_params.specs.Spellings.{IsMask, StandsUnder, IsSpellingError, AllFit, AreAllSpellings};
+ghost use Rattle.pkcs1_params.specs.Spellings.{IsListingError, encodings_in};
 
 use crate::error::Result;
 use crate::fields::{
-    FieldRef, are_held, bit, count_defaults, encode_fields, fields_len, prepend_fields,
+    FieldRef, bit, count_defaults, encode_fields, fields_len, lemma_are_held, prepend_fields,
 };
 use crate::oaep::RsaOaepParams;
 use crate::spelling::{DefaultFields, all_spellings, spell_into};
@@ -43,8 +44,8 @@ impl DefaultFields for RsaOaepParams<AnyRef<'_>> {
 
     ghost fields_mean_one = { oaep_means_one };
 
-    fn is_held(&self) {
-        are_held(&self.fields());
+    fn lemma_is_held(&self) {
+        lemma_are_held(&self.fields());
     }
 
     fn defaults(&self) -> u8 {
@@ -100,7 +101,7 @@ impl<P: AnyValue> RsaOaepParams<P> {
         ensures stands { IfOk result (λ n. StandsUnder oaep_fields (oaep_with P.any self.now) mask (take n out.new)) }
         ensures rest { IfOk result (λ n. (n ≤ length out.new) × (drop n out.new ≡ drop n out.old)) }
         ensures unchanged { OnErr result (out.new ≡ out.old) }
-        ensures err { IfErr result (IsUnspelled (oaep_fields (oaep_with P.any self.now)) mask (length out.old)) }
+        ensures err { IfErr result (IsSpellingError (oaep_fields (oaep_with P.any self.now)) mask (length out.old)) }
     {
         spell_into(&self.as_params_ref(), mask, out)
     }
@@ -109,8 +110,9 @@ impl<P: AnyValue> RsaOaepParams<P> {
     /// what the rest of the slice holds calls `encode_spelling_into`.
     pub fn encode_spelling<'b>(&self, mask: u8, out: &'b mut [u8]) -> Result<&'b [u8]>
         requires { IsMask (oaep_fields (oaep_with P.any self.now)) mask }
-        ensures stands { IfOk result (λ text. StandsUnder oaep_fields (oaep_with P.any self.now) mask text.now) }
-        ensures err { IfErr result (IsUnspelled (oaep_fields (oaep_with P.any self.now)) mask (length out.old)) }
+        ensures stands { IfOk result (λ encoding. StandsUnder oaep_fields (oaep_with P.any self.now) mask
+            encoding.now) }
+        ensures err { IfErr result (IsSpellingError (oaep_fields (oaep_with P.any self.now)) mask (length out.old)) }
     {
         let length = self.encode_spelling_into(mask, out)?;
         Ok(&out[..length])
@@ -119,9 +121,10 @@ impl<P: AnyValue> RsaOaepParams<P> {
     /// All spellings, each at the index that is its mask, so the shortest is the first: two to the number of default
     /// fields. `Overflow`, before anything is allocated, if the one with every field is longer than `Length::MAX`.
     pub fn spellings(&self, alloc: Global) -> Result<Vec<Vec<u8>>>
-        ensures all { IfOk result (λ texts. AreAllSpellings oaep_fields (oaep_with P.any self.now) (texts_in texts)) }
+        ensures all { IfOk result (λ encodings. AreAllSpellings oaep_fields (oaep_with P.any self.now)
+            (encodings_in encodings)) }
         ensures fit { OnOk result (AllFit (oaep_fields (oaep_with P.any self.now))) }
-        ensures err { IfErr result (LacksSpellings (oaep_fields (oaep_with P.any self.now))) }
+        ensures err { IfErr result (IsListingError (oaep_fields (oaep_with P.any self.now))) }
     {
         all_spellings(&self.as_params_ref(), alloc)
     }

@@ -1,20 +1,100 @@
-//! Reading parameters whose algorithms have owned parameters.
-ghost use Rattle.pkcs1_params.specs.Allocating.{PssAllocates, OaepAllocates, AllocatesForAny};
+//! Reading parameters whose algorithms have owned parameters: those that borrow from the input, copied.
+ghost use Rattle.std.specs.Prelude.{◌≡◌, ◌⊎◌, IfOk, IfErr};
+ghost use Rattle.der_core.specs.declared.error.ErrorKind.TheVariants.{OutOfMemory};
+ghost use Rattle.pkcs1_params.specs.Allocating.{PssAllocates, OaepAllocates, AllocatesForAny, HasOctets, HasParameters};
+ghost use Rattle.pkcs1_params.specs.Allocating.{HashesHaveOctets};
+ghost use Rattle.pkcs1_params.specs.PssValue.{pss_with, pss_of};
+ghost use Rattle.pkcs1_params.specs.OaepValue.{oaep_with, oaep_of};
+ghost use Rattle.spki_core.specs.AlgorithmValue.{algorithm_with, algorithm_of, mask_of};
 ghost use Rattle.spki_core.specs.Any as grammar;
-ghost use Rattle.spki_core.specs.Laws.AnyTexts.{any_delimited};
+ghost use Rattle.spki_core.specs.Laws.AnyEncodings.{any_delimited};
+ghost use Rattle.spki_core.specs.AnyRefValue.{any_of};
 ghost use Rattle.spki_core.specs.AnyValues.{holds_itself};
 ghost use Rattle.spki_core.specs.Faults.{AnyFault};
 ghost use Rattle.spki_core.specs.Laws.Faults.{any_fault_none, any_fault_first};
 ghost use Rattle.spki_core.specs.OwnedAnyValue.{any_in};
 
-use crate::hash_fields::{read_hash, read_mask_gen};
-use crate::oaep::{RsaOaepParams, RsaOaepParamsOwned};
-use crate::p_source::read_source;
+use crate::hash_fields::{MaskGen, MaskGenRef};
+use crate::oaep::{RsaOaepParams, RsaOaepParamsOwned, RsaOaepParamsRef};
 use crate::pss::{RsaPssParams, RsaPssParamsOwned, RsaPssParamsRef};
-use crate::trailer_field::TrailerField;
-use der_core::{DecodeValue, Header, Reader, TagNumber};
-use spki_core::{Any, read_field};
+use der_core::{DecodeValue, Header, NoMemory, Reader, Result};
+use spki_core::{AlgorithmIdentifier, AlgorithmIdentifierRef, Any, AnyParams, AnyRef};
 use std::alloc::Global;
+
+/// Copies the contents octets. Nothing is allocated if there are none.
+fn copy_any(alloc: Global, any: AnyRef<'_>) -> Result<Any>
+    ensures ok { IfOk result (λ copy. any_in copy ≡ any_of any.entry) }
+    ensures err { IfErr result (λ e. (e.kind ≡ OutOfMemory) × HasOctets (any_of any.entry)) }
+{
+    if any.value().is_empty() {
+        return Ok(Any::empty(alloc, any.tag()));
+    }
+    Any::new(alloc, any.tag(), any.value())
+}
+
+/// Copies a hash function or a label source.
+fn copy_plain(
+    alloc: Global,
+    algorithm: AlgorithmIdentifierRef<'_>,
+) -> Result<AlgorithmIdentifier<Any>>
+    ensures ok { IfOk result (λ copy. algorithm_with any_in copy ≡ algorithm_of algorithm.entry) }
+    ensures err { let has = HasParameters HasOctets (algorithm_of algorithm.entry) in
+        IfErr result (λ e. (e.kind ≡ OutOfMemory) × has) }
+{
+    let parameters = match algorithm.parameters {
+        Some(any) => Some(copy_any(alloc, any)?),
+        None => None,
+    };
+    Ok(AlgorithmIdentifier {
+        oid: algorithm.oid,
+        parameters,
+    })
+}
+
+/// Copies a mask generation function.
+fn copy_mask_gen(alloc: Global, mask_gen: MaskGenRef<'_>) -> Result<MaskGen<Any>>
+    ensures ok { IfOk result (λ copy. algorithm_with (algorithm_with any_in) copy ≡ mask_of mask_gen.entry) }
+    ensures err { let has = HasParameters (HasParameters HasOctets) (mask_of mask_gen.entry) in
+        IfErr result (λ e. (e.kind ≡ OutOfMemory) × has) }
+{
+    let parameters = match mask_gen.parameters {
+        Some(hash) => Some(copy_plain(alloc, hash)?),
+        None => None,
+    };
+    Ok(AlgorithmIdentifier {
+        oid: mask_gen.oid,
+        parameters,
+    })
+}
+
+/// Copies RSASSA-PSS parameters.
+fn copy_pss(alloc: Global, params: RsaPssParamsRef<'_>) -> Result<RsaPssParamsOwned>
+    ensures ok { IfOk result (λ copy. pss_with any_in copy ≡ pss_of params.entry) }
+    ensures err { let p = pss_of params.entry in
+        let asks = HashesHaveOctets p.hash p.mask_gen in
+        IfErr result (λ e. (e.kind ≡ OutOfMemory) × asks) }
+{
+    Ok(RsaPssParams {
+        hash: copy_plain(alloc, params.hash)?,
+        mask_gen: copy_mask_gen(alloc, params.mask_gen)?,
+        salt_len: params.salt_len,
+        trailer_field: params.trailer_field,
+    })
+}
+
+/// Copies RSAES-OAEP parameters.
+fn copy_oaep(alloc: Global, params: RsaOaepParamsRef<'_>) -> Result<RsaOaepParamsOwned>
+    ensures ok { IfOk result (λ copy. oaep_with any_in copy ≡ oaep_of params.entry) }
+    ensures err { let p = oaep_of params.entry in
+        let asks = HashesHaveOctets p.hash p.mask_gen ⊎ HasParameters HasOctets p.p_source in
+        IfErr result (λ e. (e.kind ≡ OutOfMemory) × asks) }
+{
+    Ok(RsaOaepParams {
+        hash: copy_plain(alloc, params.hash)?,
+        mask_gen: copy_mask_gen(alloc, params.mask_gen)?,
+        p_source: copy_plain(alloc, params.p_source)?,
+    })
+}
 
 impl<'a> DecodeValue<&'a [u8], Global> for RsaPssParams<Any> {
     ghost use Rattle.pkcs1_params.specs.ParameterFaults.{PssFault};
@@ -27,24 +107,13 @@ impl<'a> DecodeValue<&'a [u8], Global> for RsaPssParams<Any> {
     fn decode_value<R: Reader<&'a [u8]>>(
         memory: Global,
         reader: &mut R,
-        _header: Header,
-    ) -> der_core::Result<RsaPssParamsOwned> {
-        let hash = read_hash(memory, reader)?;
-        let mask_gen = read_mask_gen(memory, reader)?;
-        let salt_len = read_field(
-            memory,
-            reader,
-            TagNumber::new(2),
-            RsaPssParamsRef::SALT_LEN_DEFAULT,
-        )?;
-        let trailer_field = read_field(memory, reader, TagNumber::new(3), TrailerField::BC)?;
-        reader.finish()?;
-        Ok(RsaPssParams {
-            hash,
-            mask_gen,
-            salt_len,
-            trailer_field,
-        })
+        header: Header,
+    ) -> Result<RsaPssParamsOwned> {
+        let params = RsaPssParamsRef::decode_value(NoMemory, reader, header)?;
+        match copy_pss(memory, params) {
+            Ok(copy) => Ok(copy),
+            Err(e) => Err(reader.error(e.kind())),
+        }
     }
 
     ghost fault_none = { pss_fault_none grammar.Any AnyFault any_delimited any_fault_none (holds_itself any_in) };
@@ -64,17 +133,13 @@ impl<'a> DecodeValue<&'a [u8], Global> for RsaOaepParams<Any> {
     fn decode_value<R: Reader<&'a [u8]>>(
         memory: Global,
         reader: &mut R,
-        _header: Header,
-    ) -> der_core::Result<RsaOaepParamsOwned> {
-        let hash = read_hash(memory, reader)?;
-        let mask_gen = read_mask_gen(memory, reader)?;
-        let p_source = read_source(memory, reader)?;
-        reader.finish()?;
-        Ok(RsaOaepParams {
-            hash,
-            mask_gen,
-            p_source,
-        })
+        header: Header,
+    ) -> Result<RsaOaepParamsOwned> {
+        let params = RsaOaepParamsRef::decode_value(NoMemory, reader, header)?;
+        match copy_oaep(memory, params) {
+            Ok(copy) => Ok(copy),
+            Err(e) => Err(reader.error(e.kind())),
+        }
     }
 
     ghost fault_none = { oaep_fault_none grammar.Any AnyFault any_delimited any_fault_none (holds_itself any_in) };

@@ -1,19 +1,13 @@
 //! pSourceAlgorithm: the source of the label of RSAES-OAEP (RFC 8017 A.2.1).
-ghost use Rattle.std.specs.Prelude.{IfErr, ◌≡◌, ◌≤◌, refl, length};
+ghost use Rattle.std.specs.Prelude.{◌≡◌, ◌≤◌, refl, length};
 ghost use Rattle.der_core.specs.Length.{limit};
-ghost use Rattle.der_core.specs.Faults.{FaultyFront};
-ghost use Rattle.spki_core.specs.Allocating.{AlgorithmAllocates, FieldAllocates};
-ghost use Rattle.spki_core.specs.Faults.{NextFault};
-ghost use Rattle.pkcs1_params.specs.ParameterFaults.{SourceFault};
-ghost use Rattle.spki_core.specs.AlgorithmIdentifier.{PlainAlgorithm, same_plain};
+ghost use Rattle.spki_core.specs.AlgorithmIdentifier.{same_plain};
 ghost use Rattle.spki_core.specs.AlgorithmValue.{algorithm_with, algorithm_of};
-ghost use Rattle.spki_core.specs.FieldReading.{ReadsField};
 ghost use Rattle.pkcs1_params.specs.Parameters.{with_parameters, id_p_specified, octets_value, empty_label};
 
-use der_core::{Decode, Memory, NoMemory, Reader, Result, Tag, TagNumber};
+use der_core::{Memory, NoMemory, Tag};
 use spki_core::{
-    AlgorithmIdentifier, AlgorithmIdentifierRef, AnyParams, AnyRef, AssociatedOid,
-    ObjectIdentifier, is_field_next, read_explicit,
+    AlgorithmIdentifier, AlgorithmIdentifierRef, AnyParams, AnyRef, AssociatedOid, ObjectIdentifier,
 };
 
 /// id-pSpecified: the label is in the parameters (RFC 8017 A.2.1).
@@ -38,27 +32,6 @@ pub(crate) fn empty_source<P: AnyParams<M>, M: Memory>(memory: M) -> AlgorithmId
     AlgorithmIdentifier {
         oid: ObjectIdentifier::of::<PSpecified>(),
         parameters: Some(P::empty(memory, Tag::OCTET_STRING)),
-    }
-}
-
-/// Reads the source of the label. pSpecified with the empty label if its field is absent.
-pub(crate) fn read_source<
-    'a,
-    P: Decode<&'a [u8], M> + AnyParams<M>,
-    M: Memory,
-    R: Reader<&'a [u8]>,
->(memory: M, reader: &mut R) -> Result<AlgorithmIdentifier<P>>
-    ensures reads { let may = AlgorithmAllocates P.Decode.may_allocate in
-        let value = algorithm_with P.any in
-        ReadsField 2 value PlainAlgorithm empty_label may result (R.left reader.old) (R.left reader.new) }
-    ensures exact { let may = FieldAllocates 2 (AlgorithmAllocates P.Decode.may_allocate) in
-        let fault = NextFault 2 (SourceFault P.text P.Decode.fault) in
-        IfErr result (λ e. FaultyFront fault may e.kind (R.left reader.old)) }
-{
-    if is_field_next(reader, TagNumber::new(2))? {
-        read_explicit(memory, reader, TagNumber::new(2))
-    } else {
-        Ok(empty_source::<P, M>(memory))
     }
 }
 

@@ -5,9 +5,10 @@ ghost use Rattle.der_core.specs.declared.error.ErrorKind as der;
 ghost use Rattle.pkcs1_params.specs.Allocating.{PssAllocates};
 ghost use Rattle.pkcs1_params.specs.ParameterFaults.{RsaPssParamsFault, StrictPssFault};
 ghost use Rattle.pkcs1_params.specs.Parameters as grammar;
-ghost use Rattle.pkcs1_params.specs.Refusals.{IsAsn1};
+ghost use Rattle.pkcs1_params.specs.Errors.{IsAsn1};
 ghost use Rattle.spki_core.specs.Any.{null_value};
-ghost use Rattle.pkcs1_params.specs.Parameters.{PssParameters, PssContents, pss_fields, with_parameters, id_mgf1, sha1, mgf1_sha1};
+ghost use Rattle.pkcs1_params.specs.Parameters.{PssParameters, PssContents, pss_fields, with_parameters, id_mgf1, sha1};
+ghost use Rattle.pkcs1_params.specs.Parameters.{mgf1_sha1};
 ghost use Rattle.pkcs1_params.specs.Parts.{pss_values, HasFields, written_fields};
 ghost use Rattle.pkcs1_params.specs.Laws.Pss.{pss_means_one, pss_of_bytes, pss_relates, pss_shortest};
 ghost use Rattle.pkcs1_params.specs.PssValue.{pss_with, pss_of};
@@ -18,7 +19,7 @@ use crate::error::{Error, Result};
 use crate::hash_fields::{Sha1, mask_gen_ref, mgf1_with, with_null};
 use crate::pss_view::PssView;
 use crate::spelling::{DefaultFields, encode_shortest};
-use crate::strict::refuse_defaults;
+use crate::strict::reject_defaults;
 use crate::trailer_field::TrailerField;
 use der_core::{
     BackWriter, Contents, Decode, DecodeValue, EncodeValue, EqualByValue, Header, Length, Memory,
@@ -83,7 +84,7 @@ impl<'a, P> Sequence<'a> for RsaPssParams<P> {
 
 impl<'a, M: Memory> DecodeValue<&'a [u8], M> for RsaPssParams<AnyRef<'a>> {
     ghost use Rattle.spki_core.specs.Any.{Any};
-    ghost use Rattle.spki_core.specs.Laws.AnyTexts.{any_delimited};
+    ghost use Rattle.spki_core.specs.Laws.AnyEncodings.{any_delimited};
     ghost use Rattle.spki_core.specs.AnyRefValue.{any_of};
     ghost use Rattle.spki_core.specs.AnyValues.{holds_itself};
     ghost use Rattle.spki_core.specs.Faults.{AnyFault};
@@ -113,7 +114,7 @@ impl<'a, M: Memory> DecodeValue<&'a [u8], M> for RsaPssParams<AnyRef<'a>> {
 impl<P: AnyValue> RsaPssParams<P> {
     ghost use Rattle.std.specs.Prelude.{ℕ, List, drop, take, IfOk, OnErr};
     ghost use Rattle.der_core.specs.Document.{IsShortest};
-    ghost use Rattle.pkcs1_params.specs.Meanings.{IsNotWritten};
+    ghost use Rattle.pkcs1_params.specs.Meanings.{IsWritingError};
     ghost use Rattle.spki_core.specs.Explicit.{Masked};
     ghost use Rattle.pkcs1_params.specs.Spellings.{HasTwoToTheDefaults};
 
@@ -142,7 +143,7 @@ impl<P: AnyValue> RsaPssParams<P> {
             (other : PssParameters) → grammar.RsaPssParams other (take n out.new) → other ≡ params) }
         ensures count { OnOk result (HasTwoToTheDefaults pss_fields (pss_with P.any self.now)) }
         ensures unchanged { OnErr result (out.new ≡ out.old) }
-        ensures err { IfErr result (IsNotWritten grammar.RsaPssParams (pss_with P.any self.now) (length out.old)) }
+        ensures err { IfErr result (IsWritingError grammar.RsaPssParams (pss_with P.any self.now) (length out.old)) }
     {
         encode_shortest(&self.as_params_ref(), out)
     }
@@ -212,7 +213,7 @@ impl<'a> RsaPssParams<AnyRef<'a>> {
             → StrictPssFault kind bytes.now → IsErrAnd result (IsAsn1 (λ e. e.kind ≡ kind)) }
     {
         let params = RsaPssParams::try_from(bytes)?;
-        refuse_defaults(&params, bytes)?;
+        reject_defaults(&params, bytes)?;
         Ok(params)
     }
 }

@@ -7,11 +7,12 @@ ghost use Rattle.pkcs1_params.specs.PssValue.{pss_of, pss_with};
 ghost use Rattle.pkcs1_params.specs.Laws.Parameters.{pss_numbered};
 ghost use Rattle.pkcs1_params.specs.Parameters.{PssParameters, pss_fields};
 ghost use Rattle.pkcs1_params.specs.Parts.{pss_values};
-ghost use Rattle.pkcs1_params.specs.Spellings.{IsMask, StandsUnder, IsUnspelled, AllFit, AreAllSpellings, LacksSpellings, texts_in};
+ghost use Rattle.pkcs1_params.specs.Spellings.{IsMask, StandsUnder, IsSpellingError, AllFit, AreAllSpellings};
+ghost use Rattle.pkcs1_params.specs.Spellings.{IsListingError, encodings_in};
 
 use crate::error::Result;
 use crate::fields::{
-    FieldRef, are_held, bit, count_defaults, encode_fields, fields_len, prepend_fields,
+    FieldRef, bit, count_defaults, encode_fields, fields_len, lemma_are_held, prepend_fields,
 };
 use crate::pss::RsaPssParams;
 use crate::spelling::{DefaultFields, all_spellings, spell_into};
@@ -44,8 +45,8 @@ impl DefaultFields for RsaPssParams<AnyRef<'_>> {
 
     ghost fields_mean_one = { pss_means_one };
 
-    fn is_held(&self) {
-        are_held(&self.fields());
+    fn lemma_is_held(&self) {
+        lemma_are_held(&self.fields());
     }
 
     fn defaults(&self) -> u8 {
@@ -105,7 +106,7 @@ impl<P: AnyValue> RsaPssParams<P> {
         ensures stands { IfOk result (λ n. StandsUnder pss_fields (pss_with P.any self.now) mask (take n out.new)) }
         ensures rest { IfOk result (λ n. (n ≤ length out.new) × (drop n out.new ≡ drop n out.old)) }
         ensures unchanged { OnErr result (out.new ≡ out.old) }
-        ensures err { IfErr result (IsUnspelled (pss_fields (pss_with P.any self.now)) mask (length out.old)) }
+        ensures err { IfErr result (IsSpellingError (pss_fields (pss_with P.any self.now)) mask (length out.old)) }
     {
         spell_into(&self.as_params_ref(), mask, out)
     }
@@ -114,8 +115,8 @@ impl<P: AnyValue> RsaPssParams<P> {
     /// what the rest of the slice holds calls `encode_spelling_into`.
     pub fn encode_spelling<'b>(&self, mask: u8, out: &'b mut [u8]) -> Result<&'b [u8]>
         requires { IsMask (pss_fields (pss_with P.any self.now)) mask }
-        ensures stands { IfOk result (λ text. StandsUnder pss_fields (pss_with P.any self.now) mask text.now) }
-        ensures err { IfErr result (IsUnspelled (pss_fields (pss_with P.any self.now)) mask (length out.old)) }
+        ensures stands { IfOk result (λ encoding. StandsUnder pss_fields (pss_with P.any self.now) mask encoding.now) }
+        ensures err { IfErr result (IsSpellingError (pss_fields (pss_with P.any self.now)) mask (length out.old)) }
     {
         let length = self.encode_spelling_into(mask, out)?;
         Ok(&out[..length])
@@ -124,9 +125,10 @@ impl<P: AnyValue> RsaPssParams<P> {
     /// All spellings, each at the index that is its mask, so the shortest is the first: two to the number of default
     /// fields. `Overflow`, before anything is allocated, if the one with every field is longer than `Length::MAX`.
     pub fn spellings(&self, alloc: Global) -> Result<Vec<Vec<u8>>>
-        ensures all { IfOk result (λ texts. AreAllSpellings pss_fields (pss_with P.any self.now) (texts_in texts)) }
+        ensures all { IfOk result (λ encodings. AreAllSpellings pss_fields (pss_with P.any self.now)
+            (encodings_in encodings)) }
         ensures fit { OnOk result (AllFit (pss_fields (pss_with P.any self.now))) }
-        ensures err { IfErr result (LacksSpellings (pss_fields (pss_with P.any self.now))) }
+        ensures err { IfErr result (IsListingError (pss_fields (pss_with P.any self.now))) }
     {
         all_spellings(&self.as_params_ref(), alloc)
     }

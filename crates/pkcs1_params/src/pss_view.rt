@@ -60,7 +60,7 @@ impl TaggedBy for PssView<'_> {
 
 impl<'a, M: Memory> DecodeValue<&'a [u8], M> for PssView<'a> {
     ghost use Rattle.spki_core.specs.Any.{Any};
-    ghost use Rattle.spki_core.specs.Laws.AnyTexts.{any_delimited};
+    ghost use Rattle.spki_core.specs.Laws.AnyEncodings.{any_delimited};
     ghost use Rattle.spki_core.specs.AnyRefValue.{any_of};
     ghost use Rattle.spki_core.specs.AnyValues.{holds_itself};
     ghost use Rattle.spki_core.specs.Faults.{AnyFault};

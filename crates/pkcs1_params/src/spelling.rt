@@ -1,20 +1,26 @@
 //! Spellings of parameters: a mask says which of their defaults are written.
-ghost use Rattle.std.specs.Prelude.{◌≡◌, ◌≤◌, ◌<◌, ◌+◌, ◌++◌, ◌^◌, ℕ, List, length, take, drop, OnOk, OnErr, IfOk, IfErr};
+ghost use Rattle.std.specs.Prelude.{◌≡◌, ◌≤◌, ◌<◌, ◌+◌, ◌++◌, ◌^◌, ℕ, List, length, take, drop, OnOk, OnErr, IfOk};
+ghost use Rattle.std.specs.Prelude.{IfErr};
 ghost use Rattle.der_core.specs.Tag.{sequence_tag};
 ghost use Rattle.der_core.specs.BackWriters.{free_of, Prepends};
 ghost use Rattle.der_core.specs.Length.{limit};
 ghost use Rattle.der_core.specs.Document.{IsShortest};
-ghost use Rattle.der_core.specs.Texts.{MeansOne};
+ghost use Rattle.der_core.specs.Encodings.{MeansOne};
 ghost use Rattle.std.specs.Option.{option_map};
 ghost use Rattle.der_core.specs.Writing.{Counts, Appends};
 ghost use Rattle.spki_core.specs.Explicit.{HaveDefaults, Masked};
 ghost use Rattle.spki_core.specs.StrictFields.{WalksOver, number_in};
 ghost use Rattle.der_core.specs.declared.error.ErrorKind.{ErrorKind};
-ghost use Rattle.pkcs1_params.specs.Spellings.{IsMask, IsSpelling, HasNoSpelling, StandsUnder, IsUnspelled, AllFit, AreUnder, AreMasks, AreAllSpellings, LacksSpellings, HasTwoToTheDefaults, texts_in};
-ghost use Rattle.pkcs1_params.specs.Meanings.{IsNotWritten};
+ghost use Rattle.pkcs1_params.specs.Spellings.{IsMask, IsSpelling, HasNoSpelling, StandsUnder, IsSpellingError, AllFit};
+ghost use Rattle.pkcs1_params.specs.Spellings.{AreUnder, AreMasks, AreAllSpellings, IsListingError};
+ghost use Rattle.pkcs1_params.specs.Spellings.{HasTwoToTheDefaults, encodings_in};
+ghost use Rattle.pkcs1_params.specs.Meanings.{IsWritingError};
 ghost use Rattle.pkcs1_params.specs.DefaultBits.{bits_of};
-ghost use Rattle.pkcs1_params.specs.Parts.{FieldValue, AreNumbered, defaults_in, fields_with, Fielded, HasFields, written_fields};
-ghost use Rattle.pkcs1_params.specs.MaskedValues.{MaskedValue, InRange, FieldContents, MaskedValueContents, HasMasked, written_masked, masked_means_one, masked_of_bytes, masked_relates, masked_least};
+ghost use Rattle.pkcs1_params.specs.Parts.{FieldValue, AreNumbered, defaults_in, fields_with, Fielded, HasFields};
+ghost use Rattle.pkcs1_params.specs.Parts.{written_fields};
+ghost use Rattle.pkcs1_params.specs.MaskedValues.{MaskedValue, InRange, FieldContents, MaskedValueContents, HasMasked};
+ghost use Rattle.pkcs1_params.specs.MaskedValues.{written_masked, masked_means_one, masked_of_bytes, masked_relates};
+ghost use Rattle.pkcs1_params.specs.MaskedValues.{masked_least};
 
 use crate::error::Result;
 use der_core::{
@@ -36,7 +42,7 @@ pub(crate) trait DefaultFields: Copy + Drop {
     ghost fields_mean_one: { MeansOne (FieldContents values) };
 
     /// Does nothing: its contract says that there are contents under each mask, of fewer than 2^64 octets.
-    fn is_held(&self)
+    fn lemma_is_held(&self)
         ensures { let values = values (params self.now) in
             (mask : ℕ) → HasFields values mask × (length (written_fields values mask) < 2 ^ 64) };
 
@@ -136,9 +142,9 @@ pub(crate) fn spell_into<T: DefaultFields>(params: &T, mask: u8, out: &mut [u8])
     ensures stands { IfOk result (λ n. StandsUnder (fields_with T.values) (T.params params.now) mask (take n out.new)) }
     ensures rest { IfOk result (λ n. (n ≤ length out.new) × (drop n out.new ≡ drop n out.old)) }
     ensures unchanged { OnErr result (out.new ≡ out.old) }
-    ensures err { IfErr result (IsUnspelled (fields_with T.values (T.params params.now)) mask (length out.old)) }
+    ensures err { IfErr result (IsSpellingError (fields_with T.values (T.params params.now)) mask (length out.old)) }
 {
-    params.is_held();
+    params.lemma_is_held();
     let spelling = Spelling {
         params,
         defaults: params.defaults(),
@@ -156,9 +162,9 @@ pub(crate) fn encode_shortest<T: DefaultFields>(params: &T, out: &mut [u8]) -> R
         → other ≡ T.params params.now) }
     ensures count { OnOk result (HasTwoToTheDefaults (fields_with T.values) (T.params params.now)) }
     ensures unchanged { OnErr result (out.new ≡ out.old) }
-    ensures err { IfErr result (IsNotWritten (Fielded T.values) (T.params params.now) (length out.old)) }
+    ensures err { IfErr result (IsWritingError (Fielded T.values) (T.params params.now) (length out.old)) }
 {
-    params.is_held();
+    params.lemma_is_held();
     spell_into(params, 0, out)
 }
 
@@ -169,35 +175,35 @@ impl<T: DefaultFields> Spelling<'_, T> {
     /// The length of the encoding: `Overflow` if there is no spelling under the mask.
     fn len(&self) -> der_core::Result<usize>
         ensures ok { let params = T.params self.now.params.now in
-            let text = tlv sequence_tag (written_fields (T.values params) self.now.mask) in
-            IfOk result (λ n. n ≡ length text) }
+            let encoding = tlv sequence_tag (written_fields (T.values params) self.now.mask) in
+            IfOk result (λ n. n ≡ length encoding) }
         ensures has { OnOk result (HasFields (T.values (T.params self.now.params.now)) self.now.mask) }
         ensures spells { let params = T.params self.now.params.now in
-            let text = tlv sequence_tag (written_fields (T.values params) self.now.mask) in
-            OnOk result (IsSpelling (fields_with T.values params) self.now.mask text) }
+            let encoding = tlv sequence_tag (written_fields (T.values params) self.now.mask) in
+            OnOk result (IsSpelling (fields_with T.values params) self.now.mask encoding) }
         ensures err { let none = HasNoSpelling (fields_with T.values (T.params self.now.params.now)) self.now.mask in
             IfErr result (λ e. (e.kind ≡ ErrorKind.Overflow) × none) }
     {
-        self.params.is_held();
+        self.params.lemma_is_held();
         Ok(self.encoded_len()?.to_usize())
     }
 
     /// The encoding, in allocated memory.
     fn to_vec(&self, alloc: Global) -> der_core::Result<Vec<u8>>
         ensures ok { let fields = fields_with T.values (T.params self.now.params.now) in
-            IfOk result (λ text. IsSpelling fields self.now.mask text.items) }
+            IfOk result (λ encoding. IsSpelling fields self.now.mask encoding.items) }
         ensures err { let none = HasNoSpelling (fields_with T.values (T.params self.now.params.now)) self.now.mask in
             IfErr result (λ e. (e.kind ≡ ErrorKind.OutOfMemory) ⊎ ((e.kind ≡ ErrorKind.Overflow) × none)) }
     {
         let length = self.len()?;
-        let mut text = vec![in alloc; 0u8; length]?;
-        write_over(self, text.as_mut_slice());
-        Ok(text)
+        let mut encoding = vec![in alloc; 0u8; length]?;
+        write_over(self, encoding.as_mut_slice());
+        Ok(encoding)
     }
 }
 
 /// The encodings under the masks below `count`, in order.
-fn texts_under<T: DefaultFields>(
+fn encodings_under<T: DefaultFields>(
     params: &T,
     defaults: u8,
     count: u8,
@@ -205,26 +211,28 @@ fn texts_under<T: DefaultFields>(
 ) -> der_core::Result<Vec<Vec<u8>>>
     requires defaults { defaults ≡ bits_of (defaults_in (T.values (T.params params.now))) }
     requires masks { AreMasks (fields_with T.values (T.params params.now)) count }
-    ensures ok { IfOk result (λ texts. AreUnder (fields_with T.values (T.params params.now)) count (texts_in texts)) }
+    ensures ok { IfOk result (λ encodings. AreUnder (fields_with T.values (T.params params.now)) count
+        (encodings_in encodings)) }
     ensures err { IfErr result (λ e. e.kind ≡ ErrorKind.OutOfMemory) }
 {
-    let mut texts = Vec::new(alloc);
+    let mut encodings = Vec::new(alloc);
     for mask in 0..count {
         let spelling = Spelling {
             params,
             defaults,
             mask,
         };
-        texts.push(spelling.to_vec(alloc)?)?;
+        encodings.push(spelling.to_vec(alloc)?)?;
     }
-    Ok(texts)
+    Ok(encodings)
 }
 
 /// All spellings, by mask: `Overflow`, before anything is allocated, if the one with every field is too long.
 pub(crate) fn all_spellings<T: DefaultFields>(params: &T, alloc: Global) -> Result<Vec<Vec<u8>>>
-    ensures all { IfOk result (λ texts. AreAllSpellings (fields_with T.values) (T.params params.now) (texts_in texts)) }
+    ensures all { IfOk result (λ encodings. AreAllSpellings (fields_with T.values) (T.params params.now)
+        (encodings_in encodings)) }
     ensures fit { OnOk result (AllFit (fields_with T.values (T.params params.now))) }
-    ensures err { IfErr result (LacksSpellings (fields_with T.values (T.params params.now))) }
+    ensures err { IfErr result (IsListingError (fields_with T.values (T.params params.now))) }
 {
     let count = 1u8 << params.count_defaults();
     let defaults = params.defaults();
@@ -234,5 +242,5 @@ pub(crate) fn all_spellings<T: DefaultFields>(params: &T, alloc: Global) -> Resu
         mask: count - 1,
     };
     longest.len()?;
-    Ok(texts_under(params, defaults, count, alloc)?)
+    Ok(encodings_under(params, defaults, count, alloc)?)
 }

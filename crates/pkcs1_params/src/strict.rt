@@ -7,7 +7,7 @@ ghost use Rattle.der_core.specs.Document.{Means, IsShortest};
 ghost use Rattle.der_core.specs.Reading.{TellsOfBytes};
 ghost use Rattle.spki_core.specs.StrictFields.{NamesNumber, NamesDefault, WritesDefault, number_in};
 ghost use Rattle.pkcs1_params.specs.Parts.{fields_with, Fielded};
-ghost use Rattle.pkcs1_params.specs.Refusals.{IsAsn1};
+ghost use Rattle.pkcs1_params.specs.Errors.{IsAsn1};
 
 use crate::error::{Error, Result};
 use crate::spelling::DefaultFields;
@@ -23,7 +23,7 @@ fn is_written(number: TagNumber) -> Error
 
 /// Returns an error with the tag of the first default that is written in an encoding of the parameters, if there is
 /// one.
-pub(crate) fn refuse_defaults<T: DefaultFields>(params: &T, bytes: &[u8]) -> Result<()>
+pub(crate) fn reject_defaults<T: DefaultFields>(params: &T, bytes: &[u8]) -> Result<()>
     requires { Means (Fielded T.values) bytes.now (T.params params.now) }
     ensures ok { OnOk result (IsShortest (Fielded T.values) (T.params params.now) bytes.now) }
     ensures default { IfErr result (IsAsn1 (NamesDefault (fields_with T.values (T.params params.now)) bytes.now)) }

@@ -1,10 +1,10 @@
 //! A key type of a caller, which implements the traits of keys; and keys in files.
 ghost use Rattle.std.specs.Prelude.{◌≡◌, List, ℕ, IfOk, IfErr};
 ghost use Rattle.der_core.specs.Document.{IsDocument};
-ghost use Rattle.der_core.specs.DocumentValue.{text_of};
-ghost use Rattle.der_core.specs.Reading.{Refuses};
+ghost use Rattle.der_core.specs.DocumentValue.{encoding_of};
+ghost use Rattle.der_core.specs.Reading.{Rejects};
 ghost use Rattle.der_core.specs.declared.error.ErrorKind.TheVariants.{OutOfMemory};
-ghost use Rattle.pkcs1_params.specs.Refusals.{IsAsn1};
+ghost use Rattle.pkcs1_params.specs.Errors.{IsAsn1};
 
 use crate::checks::equal;
 use der_core::{Error, ErrorKind, SecretDocument, Tag};
@@ -37,7 +37,7 @@ fn copied(alloc: Global, bytes: &[u8]) -> der_core::Result<Vec<u8>>
 impl DecodeRsaPrivateKey for CarriedKey {
     ghost stands_for = { λ key bytes. key.bytes.items ≡ bytes };
 
-    ghost refused_by = { λ bytes e. IsAsn1 (λ asn1. asn1.kind ≡ OutOfMemory) e };
+    ghost rejected_by = { λ bytes e. IsAsn1 (λ asn1. asn1.kind ≡ OutOfMemory) e };
 
     fn from_pkcs1_der(alloc: Global, bytes: &[u8]) -> Result<CarriedKey>
         ensures held { IfOk result (λ key. key.bytes.items ≡ bytes.now) }
@@ -53,12 +53,12 @@ impl EncodeRsaPrivateKey for CarriedKey {
     ghost written_as = { λ key bytes. key.bytes.items ≡ bytes };
 
     ghost unwritten_by = { λ key. let is_document = IsDocument key.bytes.items in
-        IsAsn1 (λ e. Refuses e.kind is_document (is_document → ⊥)) };
+        IsAsn1 (λ e. Rejects e.kind is_document (is_document → ⊥)) };
 
     fn to_pkcs1_der(&self, alloc: Global) -> Result<SecretDocument>
-        ensures text { IfOk result (λ document. self.now.bytes.items ≡ text_of document) }
+        ensures encoding { IfOk result (λ document. self.now.bytes.items ≡ encoding_of document) }
         ensures err { let is_document = IsDocument self.now.bytes.items in
-            IfErr result (IsAsn1 (λ e. Refuses e.kind is_document (is_document → ⊥))) }
+            IfErr result (IsAsn1 (λ e. Rejects e.kind is_document (is_document → ⊥))) }
     {
         Ok(SecretDocument::from_der(alloc, self.bytes.as_slice())?)
     }
@@ -85,20 +85,20 @@ fn a_carried_key_goes_through_a_file(rt: HostRuntime) -> std::result::Result<(),
 }
 
 #[test]
-fn a_carried_key_that_is_no_document_is_refused(rt: HostRuntime) -> std::result::Result<(), Fail> {
+fn a_carried_key_that_is_no_document_is_rejected(rt: HostRuntime) -> std::result::Result<(), Fail> {
     let key = CarriedKey::from_pkcs1_der(rt.alloc(), &[0x05, 0x00])?;
     let kind = ErrorKind::TagUnexpected {
         expected: Tag::SEQUENCE,
         actual: Tag::from_octet(0x05)?,
     };
-    let refused = pkcs1::Error::Asn1(Error::new(kind));
-    equal(&rt, key.to_pkcs1_der(rt.alloc()).map(|_| ()), Err(refused));
+    let rejected = pkcs1::Error::Asn1(Error::new(kind));
+    equal(&rt, key.to_pkcs1_der(rt.alloc()).map(|_| ()), Err(rejected));
     let path = Path::new("untouched.der");
     fs::write(&rt, path, "old")?;
     let answer = key.write_pkcs1_der_file(&rt, rt.alloc(), path);
     let kept = fs::read(&rt, path)?;
     fs::remove_file(&rt, path)?;
-    equal(&rt, answer, Err(refused));
+    equal(&rt, answer, Err(rejected));
     equal(&rt, kept.as_slice(), b"old".as_slice());
     Ok(())
 }

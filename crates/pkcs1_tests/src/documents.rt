@@ -57,33 +57,33 @@ fn documents_go_to_sinks(rt: HostRuntime) -> Result<(), Fail> {
 }
 
 /// A document of more than three pieces of 64 KiB.
-fn long_text(alloc: Global) -> Result<Vec<u8>, Fail> {
-    let mut text = Vec::new(alloc);
-    text.extend_from_slice(&[0x30, 0x83, 0x03, 0x0d, 0x40])?;
+fn long_encoding(alloc: Global) -> Result<Vec<u8>, Fail> {
+    let mut encoding = Vec::new(alloc);
+    encoding.extend_from_slice(&[0x30, 0x83, 0x03, 0x0d, 0x40])?;
     for place in 0..200_000_u32 {
-        text.push(u8::try_from(place % 251).unwrap_or(0))?;
+        encoding.push(u8::try_from(place % 251).unwrap_or(0))?;
     }
-    Ok(text)
+    Ok(encoding)
 }
 
 #[test]
 fn long_documents_come_and_go_in_pieces(rt: HostRuntime) -> Result<(), Fail> {
     let alloc = rt.alloc();
-    let text = long_text(alloc)?;
-    let mut source = giving(text.as_slice(), 0);
+    let encoding = long_encoding(alloc)?;
+    let mut source = giving(encoding.as_slice(), 0);
     source.most = 40_000;
     let document = Document::read_from(alloc, &mut source)?;
-    holds(&rt, document.as_bytes() == text.as_slice());
+    holds(&rt, document.as_bytes() == encoding.as_slice());
     let mut sink = taking(alloc, 0);
     sink.most = 40_000;
     document.write_to(&mut sink)?;
-    holds(&rt, sink.taken == text);
-    let mut source = FromRead::new(text.as_slice());
+    holds(&rt, sink.taken == encoding);
+    let mut source = FromRead::new(encoding.as_slice());
     let secret = SecretDocument::read_from(alloc, &mut source)?;
-    holds(&rt, secret.as_bytes() == text.as_slice());
+    holds(&rt, secret.as_bytes() == encoding.as_slice());
     let mut sink = refusing_at(alloc, 0);
     secret.write_to(&mut sink)?;
-    holds(&rt, sink.into_inner().taken == text);
+    holds(&rt, sink.into_inner().taken == encoding);
     Ok(())
 }
 

@@ -11,7 +11,7 @@ use std::io::{Read, Write};
 pub struct Slow<'a> {
     pub left: &'a [u8],
     pub most: usize,
-    pub refused: u64,
+    pub rejected: u64,
     pub calls: u64,
     pub faults: u64,
 }
@@ -19,11 +19,11 @@ pub struct Slow<'a> {
 impl<'a> Source for Slow<'a> {
     ghost remaining = { λ s. Some s.left.now };
 
-    ghost refusals = { λ s. s.faults };
+    ghost failures = { λ s. s.faults };
 
     fn read(&mut self, buf: &mut [u8]) -> Result<usize> {
         self.calls = self.calls.saturating_add(1);
-        if self.calls == self.refused {
+        if self.calls == self.rejected {
             self.faults = self.faults.saturating_add(1);
             return Err(Error::new(ErrorKind::Failed));
         }
@@ -40,11 +40,11 @@ impl<'a> Source for Slow<'a> {
 }
 
 /// A source that gives one byte per call.
-pub fn giving(left: &[u8], refused: u64) -> Slow<'_> {
+pub fn giving(left: &[u8], rejected: u64) -> Slow<'_> {
     Slow {
         left,
         most: 1,
-        refused,
+        rejected,
         calls: 0,
         faults: 0,
     }
@@ -55,7 +55,7 @@ pub fn giving(left: &[u8], refused: u64) -> Slow<'_> {
 pub struct Narrow {
     pub taken: Vec<u8>,
     pub most: usize,
-    pub refused: u64,
+    pub rejected: u64,
     pub calls: u64,
     pub flushes: u64,
     pub faults: u64,
@@ -64,12 +64,12 @@ pub struct Narrow {
 impl Sink for Narrow {
     ghost contents = { λ s. Some s.taken.items };
 
-    ghost refusals = { λ s. s.faults };
+    ghost failures = { λ s. s.faults };
 
     fn write(&mut self, bytes: &[u8]) -> Result<usize> {
         self.calls = self.calls.saturating_add(1);
         let count = self.most.max(1).min(bytes.len());
-        if self.calls == self.refused || self.taken.extend_from_slice(&bytes[..count]).is_err() {
+        if self.calls == self.rejected || self.taken.extend_from_slice(&bytes[..count]).is_err() {
             self.faults = self.faults.saturating_add(1);
             return Err(Error::new(ErrorKind::Failed));
         }
@@ -87,11 +87,11 @@ impl Sink for Narrow {
 }
 
 /// A sink that takes up to three bytes per call.
-pub fn taking(alloc: Global, refused: u64) -> Narrow {
+pub fn taking(alloc: Global, rejected: u64) -> Narrow {
     Narrow {
         taken: Vec::new(alloc),
         most: 3,
-        refused,
+        rejected,
         calls: 0,
         flushes: 0,
         faults: 0,
@@ -134,14 +134,14 @@ impl Read for RefusingOnce<'_> {
 #[derive(Drop)]
 pub struct Refusing {
     pub taken: Vec<u8>,
-    pub refused: u64,
+    pub rejected: u64,
     pub calls: u64,
 }
 
 impl Refusing {
     fn call(&mut self, bytes: &[u8]) -> io::Result<()> {
         self.calls = self.calls.saturating_add(1);
-        if self.calls == self.refused || self.taken.extend_from_slice(bytes).is_err() {
+        if self.calls == self.rejected || self.taken.extend_from_slice(bytes).is_err() {
             return Err(io::Error::from(io::ErrorKind::Other));
         }
         Ok(())
@@ -159,10 +159,10 @@ impl Write for Refusing {
     }
 }
 
-pub fn refusing_at(alloc: Global, refused: u64) -> ToWrite<Refusing> {
+pub fn refusing_at(alloc: Global, rejected: u64) -> ToWrite<Refusing> {
     ToWrite::new(Refusing {
         taken: Vec::new(alloc),
-        refused,
+        rejected,
         calls: 0,
     })
 }

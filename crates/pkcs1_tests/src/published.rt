@@ -46,14 +46,14 @@ fn the_public_half_is_published(rt: HostRuntime) -> Result<(), Fail> {
     publish(&rt, rt.alloc(), private, public)?;
     let published = fs::read(&rt, public)?;
     fs::write(&rt, private, PUBLIC)?;
-    let refused = publish(&rt, rt.alloc(), private, public);
+    let rejected = publish(&rt, rt.alloc(), private, public);
     let kept = fs::read(&rt, public)?;
     fs::remove_file(&rt, private)?;
     fs::remove_file(&rt, public)?;
     equal(&rt, published.as_slice(), PUBLIC);
     let no_version = ErrorKind::Value { tag: Tag::INTEGER };
     let error = pkcs1::Error::Asn1(Error::new(no_version));
-    equal(&rt, refused, Err(error));
+    equal(&rt, rejected, Err(error));
     equal(&rt, kept.as_slice(), PUBLIC);
     Ok(())
 }

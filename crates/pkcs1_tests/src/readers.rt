@@ -49,7 +49,7 @@ fn has_failed(rt: &impl Abort, mut reader: SliceReader<'_>) {
 }
 
 #[test]
-fn a_refused_reader_has_failed(rt: HostRuntime) -> Result<(), Fail> {
+fn a_rejected_reader_has_failed(rt: HostRuntime) -> Result<(), Fail> {
     let mut reader = SliceReader::new(&[0x81, 0x7f, 0x02, 0x01, 0x07])?;
     let overlength = Err(Error::new(ErrorKind::Overlength));
     equal(&rt, Length::decode(&mut reader), overlength);

@@ -157,12 +157,12 @@ fn parameters_are_printed_by_their_fields(rt: HostRuntime) -> Result<(), Fail> {
 
 #[test]
 fn laws_are_called() {
-    pkcs1::texts_are_delimited();
-    pkcs1::texts_mean_one::<RsaPrivateKeyOwned>();
-    pkcs1::keys_have_one_text();
-    pkcs1::types_exclude_each_other();
-    pkcs1::same_keys_have_the_same_text();
-    pkcs1::pss_spellings();
-    pkcs1::forms_share_the_grammars();
-    pkcs1::oaep_spellings();
+    pkcs1::lemma_encodings_are_delimited();
+    pkcs1::lemma_encodings_mean_one::<RsaPrivateKeyOwned>();
+    pkcs1::lemma_keys_have_one_encoding();
+    pkcs1::lemma_types_exclude_each_other();
+    pkcs1::lemma_same_keys_have_the_same_encoding();
+    pkcs1::lemma_pss_spellings();
+    pkcs1::lemma_forms_share_the_grammars();
+    pkcs1::lemma_oaep_spellings();
 }

@@ -27,12 +27,12 @@ fn a_writer_without_room_got_a_beginning(rt: HostRuntime) -> Result<(), Fail> {
         modulus: number,
         public_exponent: number,
     };
-    let text = [0x30, 0x06, 0x02, 0x01, 0x07, 0x02, 0x01, 0x07];
+    let encoding = [0x30, 0x06, 0x02, 0x01, 0x07, 0x02, 0x01, 0x07];
     let mut slice = [0xaa; 7];
     let mut writer = SliceWriter::new(&mut slice);
     let no_room = Err(Error::new(ErrorKind::NoRoom));
     equal(&rt, key.encode(&mut writer), no_room);
-    holds(&rt, text.starts_with(writer.finish()));
+    holds(&rt, encoding.starts_with(writer.finish()));
     Ok(())
 }
 
@@ -55,37 +55,37 @@ fn regions_are_filled_from_their_end(rt: HostRuntime) {
 
 #[test]
 fn an_optional_part_is_written_where_it_is_there(rt: HostRuntime) -> Result<(), Fail> {
-    let text = [0x02, 0x01, 0x14];
+    let encoding = [0x02, 0x01, 0x14];
     equal(&rt, optional_len(&Some(20_u8))?.to_usize(), 3);
     equal(&rt, optional_len::<u8>(&None)?, Length::ZERO);
     let mut slice = [0; 8];
     let mut writer = SliceWriter::new(&mut slice);
     encode_optional::<u8, _>(&None, &mut writer)?;
     encode_optional(&Some(20_u8), &mut writer)?;
-    equal(&rt, writer.finish(), text.as_slice());
+    equal(&rt, writer.finish(), encoding.as_slice());
     let mut slice = [0; 8];
     let mut writer = BackWriter::new(&mut slice);
     prepend_optional::<u8>(&None, &mut writer);
     prepend_optional(&Some(20_u8), &mut writer);
-    equal(&rt, writer.finish(), text.as_slice());
+    equal(&rt, writer.finish(), encoding.as_slice());
     Ok(())
 }
 
 #[test]
 fn a_field_is_written_unless_it_is_left_out(rt: HostRuntime) -> Result<(), Fail> {
     let number = TagNumber::new(2);
-    let text = [0xa2, 0x03, 0x02, 0x01, 0x14];
+    let encoding = [0xa2, 0x03, 0x02, 0x01, 0x14];
     equal(&rt, field_len(true, number, &20_u8)?, Length::ZERO);
     equal(&rt, field_len(false, number, &20_u8)?.to_usize(), 5);
     let mut slice = [0; 8];
     let mut writer = SliceWriter::new(&mut slice);
     encode_field(true, number, &20_u8, &mut writer)?;
     encode_field(false, number, &20_u8, &mut writer)?;
-    equal(&rt, writer.finish(), text.as_slice());
+    equal(&rt, writer.finish(), encoding.as_slice());
     let mut slice = [0; 8];
     let mut writer = BackWriter::new(&mut slice);
     prepend_field(true, number, &20_u8, &mut writer);
     prepend_field(false, number, &20_u8, &mut writer);
-    equal(&rt, writer.finish(), text.as_slice());
+    equal(&rt, writer.finish(), encoding.as_slice());
     Ok(())
 }

@@ -6,7 +6,7 @@ use Rattle.std.proofs.KnownBytes.{Appends-trans, Appends-kept}
 use Rattle.std.proofs.Math.Seq.{take-append-add, take-length}
 use Rattle.std.proofs.lemmas.List.{take-append-le, take_min}
 use Rattle.der_core.specs.SourcesSinks.{AppendsFront}
-use Rattle.der_core.specs.Texts.{AtMostOne}
+use Rattle.der_core.specs.Encodings.{AtMostOne}
 use Rattle.pkcs1_lines.specs.Answer.{Answer, Answers}
 use Rattle.pkcs1_tool.specs.Written.{Writes, WritesFront, WritesFrontOfAll}
 

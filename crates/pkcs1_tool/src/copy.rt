@@ -1,8 +1,9 @@
 //! Copying keys from a source to a sink, and from file to file.
 ghost use Rattle.std.specs.Prelude.{◌≡◌, ◌⊎◌, IfErr, OnOk};
 ghost use Rattle.pkcs1.specs.Keys.{RsaPrivateKey, RsaPublicKey};
-ghost use Rattle.pkcs1_params.specs.Refusals.{IsAsn1};
-ghost use Rattle.pkcs1_tool.specs.Copied.{CopiesKey, IsUntouched, PrivateRefused, PublicRefused, StopsReadingKey, StopsWritingKey};
+ghost use Rattle.pkcs1_params.specs.Errors.{IsAsn1};
+ghost use Rattle.pkcs1_tool.specs.Copied.{CopiesKey, IsUntouched, PrivateKeyRejected, PublicKeyRejected, WhyKeyNotRead};
+ghost use Rattle.pkcs1_tool.specs.Copied.{WhyKeyNotWritten};
 
 use crate::new_file::NewFile;
 use der_core::{Document, Error, ErrorKind, FromRead, SecretDocument, Sink, Source};
@@ -17,14 +18,14 @@ use std::rt::Files;
 fn copy_public_key<R: Source, W: Sink>(alloc: Global, source: &mut R, sink: &mut W) -> Result<()>
     ensures copied { OnOk result (CopiesKey RsaPublicKey (R.remaining source.old) (R.remaining source.new)
         (W.contents sink.old) (W.contents sink.new)) }
-    ensures quiet { OnOk result ((R.refusals source.new ≡ R.refusals source.old)
-        × (W.refusals sink.new ≡ W.refusals sink.old)) }
+    ensures quiet { OnOk result ((R.failures source.new ≡ R.failures source.old)
+        × (W.failures sink.new ≡ W.failures sink.old)) }
     ensures err { IfErr result (IsAsn1 (λ e.
-        (StopsReadingKey PublicRefused e.kind (R.remaining source.old) (R.remaining source.new)
-        (R.refusals source.old) (R.refusals source.new)
-        × IsUntouched (W.contents sink.old) (W.contents sink.new) (W.refusals sink.old) (W.refusals sink.new))
-        ⊎ StopsWritingKey RsaPublicKey e.kind (R.remaining source.old) (R.remaining source.new)
-        (W.contents sink.old) (W.contents sink.new) (W.refusals sink.old) (W.refusals sink.new))) }
+        (WhyKeyNotRead PublicKeyRejected e.kind (R.remaining source.old) (R.remaining source.new)
+        (R.failures source.old) (R.failures source.new)
+        × IsUntouched (W.contents sink.old) (W.contents sink.new) (W.failures sink.old) (W.failures sink.new))
+        ⊎ WhyKeyNotWritten RsaPublicKey e.kind (R.remaining source.old) (R.remaining source.new)
+        (W.contents sink.old) (W.contents sink.new) (W.failures sink.old) (W.failures sink.new))) }
 {
     let read = Document::read_from(alloc, source)?;
     let again = reencode_public_key(alloc, read.as_bytes())?;
@@ -36,14 +37,14 @@ fn copy_public_key<R: Source, W: Sink>(alloc: Global, source: &mut R, sink: &mut
 fn copy_private_key<R: Source, W: Sink>(alloc: Global, source: &mut R, sink: &mut W) -> Result<()>
     ensures copied { OnOk result (CopiesKey RsaPrivateKey (R.remaining source.old) (R.remaining source.new)
         (W.contents sink.old) (W.contents sink.new)) }
-    ensures quiet { OnOk result ((R.refusals source.new ≡ R.refusals source.old)
-        × (W.refusals sink.new ≡ W.refusals sink.old)) }
+    ensures quiet { OnOk result ((R.failures source.new ≡ R.failures source.old)
+        × (W.failures sink.new ≡ W.failures sink.old)) }
     ensures err { IfErr result (IsAsn1 (λ e.
-        (StopsReadingKey PrivateRefused e.kind (R.remaining source.old) (R.remaining source.new)
-        (R.refusals source.old) (R.refusals source.new)
-        × IsUntouched (W.contents sink.old) (W.contents sink.new) (W.refusals sink.old) (W.refusals sink.new))
-        ⊎ StopsWritingKey RsaPrivateKey e.kind (R.remaining source.old) (R.remaining source.new)
-        (W.contents sink.old) (W.contents sink.new) (W.refusals sink.old) (W.refusals sink.new))) }
+        (WhyKeyNotRead PrivateKeyRejected e.kind (R.remaining source.old) (R.remaining source.new)
+        (R.failures source.old) (R.failures source.new)
+        × IsUntouched (W.contents sink.old) (W.contents sink.new) (W.failures sink.old) (W.failures sink.new))
+        ⊎ WhyKeyNotWritten RsaPrivateKey e.kind (R.remaining source.old) (R.remaining source.new)
+        (W.contents sink.old) (W.contents sink.new) (W.failures sink.old) (W.failures sink.new))) }
 {
     let read = SecretDocument::read_from(alloc, source)?;
     let again = reencode_private_key(alloc, read.as_bytes())?;

@@ -30,7 +30,7 @@ impl<'a, Rt: Files> NewFile<'a, Rt> {
 impl<Rt: Files> Sink for NewFile<'_, Rt> {
     ghost contents = { λ _. None };
 
-    ghost refusals = { λ file. file.faults };
+    ghost failures = { λ file. file.faults };
 
     fn write(&mut self, bytes: &[u8]) -> Result<usize> {
         if self.file.is_none() {

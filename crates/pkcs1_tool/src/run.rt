@@ -2,15 +2,15 @@
 ghost use Rattle.std.specs.Prelude.{◌≡◌, ◌≤◌, ◌⊎◌, ℕ, List, length, IfSome, IfOk, OnOk, OnErr, IsErrOf, vec_len};
 ghost use Rattle.std.specs.Io.KnownBytes.{Appends, Keeps, IsAtEnd};
 ghost use Rattle.der_core.specs.Carrying.{piece};
-ghost use Rattle.der_core.specs.SourcesSinks.{AppendsFront, GivesAll, GivesMore, SomeRefused};
-ghost use Rattle.der_core.specs.Texts.{AtMostOne};
+ghost use Rattle.der_core.specs.SourcesSinks.{AppendsFront, GivesAll, GivesMore, SomeFailed};
+ghost use Rattle.der_core.specs.Encodings.{AtMostOne};
 ghost use Rattle.pkcs1_lines.specs.Answer.{Answer, Output};
 ghost use Rattle.pkcs1_lines.specs.Lines.{lines_of};
 ghost use Rattle.pkcs1_tool.specs.Written.{Writes, WritesFirst, WritesFront, WritesFrontOfAll};
 
 use crate::fault::Fault;
 use der_core::{ErrorKind, Length, Sink, Source, put_all, read_all};
-use pkcs1_lines::{Texts, answer_line, answers_are_one, split_line};
+use pkcs1_lines::{Encodings, answer_line, lemma_answers_are_one, split_line};
 use std::alloc::Global;
 
 /// The longest input, in bytes.
@@ -20,11 +20,11 @@ pub const LIMIT: usize = 16777216;
 fn read_input<R: Source>(alloc: Global, source: &mut R) -> Result<Vec<u8>, Fault>
     ensures all { IfOk result (λ input. GivesAll (R.remaining source.old) (R.remaining source.new) input.items) }
     ensures within { IfOk result (λ input. vec_len input ≤ LIMIT) }
-    ensures same { OnOk result (R.refusals source.new ≡ R.refusals source.old) }
-    ensures read { IsErrOf result Fault.Read → SomeRefused (R.refusals source.old) (R.refusals source.new)
+    ensures same { OnOk result (R.failures source.new ≡ R.failures source.old) }
+    ensures read { IsErrOf result Fault.Read → SomeFailed (R.failures source.old) (R.failures source.new)
         ⊎ GivesMore LIMIT piece (R.remaining source.old) (R.remaining source.new) }
     ensures write { ¬ IsErrOf result Fault.Write }
-    ensures memory_quiet { IsErrOf result Fault.Memory → R.refusals source.new ≡ R.refusals source.old }
+    ensures memory_quiet { IsErrOf result Fault.Memory → R.failures source.new ≡ R.failures source.old }
 {
     match read_all(alloc, source, Length::of(LIMIT)) {
         Ok(input) => Ok(input),
@@ -36,21 +36,21 @@ fn read_input<R: Source>(alloc: Global, source: &mut R) -> Result<Vec<u8>, Fault
 /// Writes the output for each line, in order.
 fn answer_lines<W: Sink>(alloc: Global, input: &[u8], sink: &mut W) -> Result<(), Fault>
     ensures ok { OnOk result (Writes (W.contents sink.old) (W.contents sink.new) (lines_of input.now)) }
-    ensures same { OnOk result (W.refusals sink.new ≡ W.refusals sink.old) }
+    ensures same { OnOk result (W.failures sink.new ≡ W.failures sink.old) }
     ensures read { ¬ IsErrOf result Fault.Read }
-    ensures write { IsErrOf result Fault.Write → SomeRefused (W.refusals sink.old) (W.refusals sink.new)
+    ensures write { IsErrOf result Fault.Write → SomeFailed (W.failures sink.old) (W.failures sink.new)
         × WritesFront (W.contents sink.old) (W.contents sink.new) (lines_of input.now) }
     ensures memory { IsErrOf result Fault.Memory
         → WritesFirst (W.contents sink.old) (W.contents sink.new) (lines_of input.now) }
-    ensures memory_quiet { IsErrOf result Fault.Memory → W.refusals sink.new ≡ W.refusals sink.old }
+    ensures memory_quiet { IsErrOf result Fault.Memory → W.failures sink.new ≡ W.failures sink.old }
 {
-    let mut texts = Texts::new(alloc);
+    let mut encodings = Encodings::new(alloc);
     let mut answer = Vec::new(alloc);
     let mut rest = input;
     while !rest.is_empty() {
         let (line, more) = split_line(rest);
         answer.clear();
-        answer_line(alloc, line, &mut texts, &mut answer)?;
+        answer_line(alloc, line, &mut encodings, &mut answer)?;
         answer.push(b'\n')?;
         match put_all(answer.as_slice(), sink) {
             Ok(()) => rest = more,
@@ -63,13 +63,13 @@ fn answer_lines<W: Sink>(alloc: Global, input: &[u8], sink: &mut W) -> Result<()
 /// Writes the output for each line, in order, and flushes the sink.
 fn answer_input<W: Sink>(alloc: Global, input: &[u8], sink: &mut W) -> Result<(), Fault>
     ensures ok { OnOk result (Writes (W.contents sink.old) (W.contents sink.new) (lines_of input.now)) }
-    ensures same { OnOk result (W.refusals sink.new ≡ W.refusals sink.old) }
+    ensures same { OnOk result (W.failures sink.new ≡ W.failures sink.old) }
     ensures read { ¬ IsErrOf result Fault.Read }
-    ensures write { IsErrOf result Fault.Write → SomeRefused (W.refusals sink.old) (W.refusals sink.new)
+    ensures write { IsErrOf result Fault.Write → SomeFailed (W.failures sink.old) (W.failures sink.new)
         × WritesFront (W.contents sink.old) (W.contents sink.new) (lines_of input.now) }
     ensures memory { IsErrOf result Fault.Memory
         → WritesFirst (W.contents sink.old) (W.contents sink.new) (lines_of input.now) }
-    ensures memory_quiet { IsErrOf result Fault.Memory → W.refusals sink.new ≡ W.refusals sink.old }
+    ensures memory_quiet { IsErrOf result Fault.Memory → W.failures sink.new ≡ W.failures sink.old }
 {
     answer_lines(alloc, input, sink)?;
     match sink.flush() {
@@ -88,25 +88,25 @@ pub fn run<R: Source, W: Sink>(alloc: Global, source: &mut R, sink: &mut W) -> R
         × GivesAll (R.remaining source.old) (R.remaining source.new) input
         × Writes (W.contents sink.old) (W.contents sink.new) (lines_of input)) }
     ensures within { OnOk result (IfSome (R.remaining source.old) (λ input. length input ≤ LIMIT)) }
-    ensures quiet { OnOk result ((R.refusals source.new ≡ R.refusals source.old)
-        × (W.refusals sink.new ≡ W.refusals sink.old)) }
-    ensures read { IsErrOf result Fault.Read → SomeRefused (R.refusals source.old) (R.refusals source.new)
+    ensures quiet { OnOk result ((R.failures source.new ≡ R.failures source.old)
+        × (W.failures sink.new ≡ W.failures sink.old)) }
+    ensures read { IsErrOf result Fault.Read → SomeFailed (R.failures source.old) (R.failures source.new)
         ⊎ GivesMore LIMIT piece (R.remaining source.old) (R.remaining source.new) }
     ensures untouched { IsErrOf result Fault.Read
-        → Keeps (W.contents sink.old) (W.contents sink.new) × (W.refusals sink.new ≡ W.refusals sink.old) }
-    ensures write { IsErrOf result Fault.Write → SomeRefused (W.refusals sink.old) (W.refusals sink.new) }
+        → Keeps (W.contents sink.old) (W.contents sink.new) × (W.failures sink.new ≡ W.failures sink.old) }
+    ensures write { IsErrOf result Fault.Write → SomeFailed (W.failures sink.old) (W.failures sink.new) }
     ensures front { let writes = WritesFront (W.contents sink.old) (W.contents sink.new) in
         IsErrOf result Fault.Write → IfSome (R.remaining source.old) (λ input. writes (lines_of input)) }
     ensures front_of_all { let writes = WritesFrontOfAll (W.contents sink.old) (W.contents sink.new) in
         IsErrOf result Fault.Write → IfSome (R.remaining source.old) (λ input. writes (lines_of input)) }
     ensures memory { let writes = WritesFirst (W.contents sink.old) (W.contents sink.new) in
         IsErrOf result Fault.Memory → IfSome (R.remaining source.old) (λ input. writes (lines_of input)) }
-    ensures memory_quiet { IsErrOf result Fault.Memory → (R.refusals source.new ≡ R.refusals source.old)
-        × (W.refusals sink.new ≡ W.refusals sink.old) }
+    ensures memory_quiet { IsErrOf result Fault.Memory → (R.failures source.new ≡ R.failures source.old)
+        × (W.failures sink.new ≡ W.failures sink.old) }
     ensures one_answer { (line : List ℕ) → AtMostOne (Answer line) }
     ensures one_output { (input : List ℕ) → AtMostOne (Output input) }
 {
-    answers_are_one();
+    lemma_answers_are_one();
     let input = read_input(alloc, source)?;
     answer_input(alloc, input.as_slice(), sink)
 }

@@ -32,17 +32,17 @@ fn answers_lines(rt: HostRuntime) -> Result<(), Fail> {
 }
 
 #[test]
-fn stops_on_a_refused_read(rt: HostRuntime) {
-    for refused in 0..48 {
+fn stops_on_a_rejected_read(rt: HostRuntime) {
+    for rejected in 0..48 {
         let mut source = Slow {
             left: INPUT,
-            refused,
+            rejected,
             calls: 0,
             faults: 0,
         };
         let mut sink = ToWrite::new(Vec::new(rt.alloc()));
         let done = run(rt.alloc(), &mut source, &mut sink);
-        let stops = refused >= 1 && refused <= 46;
+        let stops = rejected >= 1 && rejected <= 46;
         let (want, output) = if stops {
             (Err(Fault::Read), b"".as_slice())
         } else {
@@ -55,25 +55,25 @@ fn stops_on_a_refused_read(rt: HostRuntime) {
 }
 
 #[test]
-fn stops_on_a_refused_write(rt: HostRuntime) {
+fn stops_on_a_rejected_write(rt: HostRuntime) {
     for (step, calls) in [(1, 54), (3, 19)] {
-        for refused in 0..calls + 2 {
+        for rejected in 0..calls + 2 {
             let mut sink = Narrow {
                 taken: Vec::new(rt.alloc()),
                 step,
-                refused,
+                rejected,
                 calls: 0,
                 flushes: 0,
                 faults: 0,
             };
             let done = run(rt.alloc(), &mut FromRead::new(INPUT.as_slice()), &mut sink);
-            let stops = refused >= 1 && refused <= calls;
+            let stops = rejected >= 1 && rejected <= calls;
             assert_eq!(rt; done == Err(Fault::Write), stops, "at {refused}");
             assert_eq!(rt; done == Ok(()), !stops, "at {refused}");
             assert_eq!(rt; sink.faults() == 1, stops);
             assert_eq!(rt; sink.flushes == 1, !stops);
             assert!(rt; OUTPUT.starts_with(sink.taken.as_slice()));
-            assert!(rt; step == 3 || !stops || sink.taken.len() as u64 + 1 == refused);
+            assert!(rt; step == 3 || !stops || sink.taken.len() as u64 + 1 == rejected);
             assert!(rt; stops || sink.taken.len() == 54);
         }
     }
@@ -96,10 +96,10 @@ fn stops_past_the_longest_input(rt: HostRuntime) {
 }
 
 /// Runs into a writer that fails at the call of number `refused`: the result, the sink's failed calls, and the writer.
-fn into_sink(rt: &HostRuntime, refused: u64) -> (Result<(), Fault>, u64, Refusing) {
+fn into_sink(rt: &HostRuntime, rejected: u64) -> (Result<(), Fault>, u64, Refusing) {
     let mut sink = ToWrite::new(Refusing {
         taken: Vec::new(rt.alloc()),
-        refused,
+        rejected,
         calls: 0,
     });
     let done = run(rt.alloc(), &mut FromRead::new(INPUT.as_slice()), &mut sink);
@@ -120,10 +120,10 @@ fn stops_on_the_first_refusal_of_std(rt: HostRuntime) {
     let done = run(rt.alloc(), &mut FromRead::new(b"\n".as_slice()), &mut sink);
     assert_eq!(rt; done, Err(Fault::Write));
     assert_eq!(rt; sink.faults(), 1);
-    for (refused, output) in [(1, 0), (2, 37), (3, 46), (4, 54)] {
-        let (done, faults, writer) = into_sink(&rt, refused);
+    for (rejected, output) in [(1, 0), (2, 37), (3, 46), (4, 54)] {
+        let (done, faults, writer) = into_sink(&rt, rejected);
         assert_eq!(rt; done, Err(Fault::Write), "at {refused}");
-        assert_eq!(rt; (faults, writer.calls), (1, refused));
+        assert_eq!(rt; (faults, writer.calls), (1, rejected));
         assert_eq!(rt; writer.taken.as_slice(), &OUTPUT[..output]);
     }
     let (done, faults, writer) = into_sink(&rt, 5);

@@ -3,7 +3,7 @@ use crate::carried::{private_der, public_der, viewed};
 use crate::read::{both, owned, read};
 use crate::shown::Shown;
 use crate::told::{Refusal, Told};
-use crate::written::{contents, held, held_too, in_each_room, into_each, text_of, written};
+use crate::written::{contents, encoding_of, held, held_too, in_each_room, into_each, written};
 use der_core::{Decode, OctetStringRef, UintRef};
 use pkcs1::{
     EncodeRsaPrivateKey, OtherPrimeInfos, RsaPrivateKeyOwned, RsaPrivateKeyRef, RsaPrivateKeyView,
@@ -60,7 +60,7 @@ pub fn filled(to: &mut Told, length: usize) {
         modulus,
         public_exponent,
     };
-    match text_of(to.alloc(), &key) {
+    match encoding_of(to.alloc(), &key) {
         Ok(digits) => filled_text(to, &key, digits.as_str()),
         Err(trouble) => to.answered(Err(trouble)),
     }

@@ -2,7 +2,7 @@
 use crate::read::{both, read};
 use crate::shown::Shown;
 use crate::told::{Refusal, Told};
-use crate::written::{held_too, text_of, written};
+use crate::written::{encoding_of, held_too, written};
 use der_core::{Decode, Encode, EncodeValue, Sequence};
 use pkcs1::{Result, RsaOaepParamsOwned, RsaOaepParamsRef, RsaPssParamsOwned, RsaPssParamsRef};
 use spki_core::AssociatedOid;
@@ -88,7 +88,7 @@ pub fn oaep_same(to: &mut Told, first: &[u8], second: &[u8]) {
 
 /// The encoding and its length.
 fn made<T: Encode>(to: &mut Told, params: &T) {
-    let text = text_of(to.alloc(), params);
+    let text = encoding_of(to.alloc(), params);
     if let Ok(digits) = &text {
         to.number(digits.len() / 2);
         to.text(" ");

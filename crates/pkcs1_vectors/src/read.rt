@@ -1,7 +1,7 @@
 //! Ways of reading an encoding.
 use crate::shown::Shown;
 use crate::told::{Refusal, Told};
-use crate::written::text_of;
+use crate::written::encoding_of;
 use der_core::{Decode, Encode, NoMemory, Reader, Result, SliceReader, TryClone};
 use std::alloc::Global;
 
@@ -10,7 +10,7 @@ pub fn told<T: Shown + Encode>(to: &mut Told, bytes: &[u8], value: &T) {
     value.shown(to);
     let mut given = Told::new(to.alloc());
     given.digits(bytes);
-    to.unless(given.answer(), " again=", text_of(to.alloc(), value));
+    to.unless(given.answer(), " again=", encoding_of(to.alloc(), value));
 }
 
 /// The value that was read, or the error.

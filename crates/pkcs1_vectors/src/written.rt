@@ -49,7 +49,7 @@ fn streamed<T: Encode>(to: &mut Told, value: &T) {
 }
 
 /// The encoding, by each call of `Encode`.
-pub fn text_of<T: Encode>(alloc: Global, value: &T) -> Answer {
+pub fn encoding_of<T: Encode>(alloc: Global, value: &T) -> Answer {
     let mut text = Told::new(alloc);
     filled(&mut text, value);
     text.way("encoded_len");
@@ -61,7 +61,7 @@ pub fn text_of<T: Encode>(alloc: Global, value: &T) -> Answer {
 
 /// Shows the encoding.
 pub fn written<T: Encode>(to: &mut Told, value: &T) {
-    to.answered(text_of(to.alloc(), value));
+    to.answered(encoding_of(to.alloc(), value));
 }
 
 /// The contents, appended by a writer.
@@ -108,7 +108,7 @@ pub fn held<'a, T: EncodeValue + Sequence<'a>>(to: &mut Told, value: &T) {
 pub fn held_too<'a, T: Encode + EncodeValue + Sequence<'a>>(to: &mut Told, value: &T) {
     let mut document = Told::new(to.alloc());
     held(&mut document, value);
-    let written = text_of(to.alloc(), value);
+    let written = encoding_of(to.alloc(), value);
     to.unless(written, "; document: ", document.answer());
 }
 

@@ -1,55 +1,55 @@
 -- Reading of containers, part after part.
 use Rattle.std.proofs.Common.{ℕ, List, ◌≡◌, None}
 use Rattle.der_core.specs.declared.error.ErrorKind.{ErrorKind}
-use Rattle.der_core.specs.Faults.{TextFault, NoFault, FaultyFront, FaultyWhole}
+use Rattle.der_core.specs.Faults.{EncodingFault, NoFault, FaultyFront, FaultyWhole}
 use Rattle.der_core.specs.Input.{Input}
 use Rattle.der_core.specs.Integer.{Small}
 use Rattle.der_core.specs.Laws.Integer.{small_delimited}
 use Rattle.der_core.specs.Laws.Expected.{expected_fails}
 use Rattle.der_core.specs.Laws.LastParts.{allocates_more}
 use Rattle.der_core.specs.OctetString.{OctetString}
-use Rattle.der_core.specs.Laws.Sequences.{TextFails, TextGives, ContentsFaulty, first_faults, rest_faults}
+use Rattle.der_core.specs.Laws.Sequences.{EncodingFails, EncodingGives, ContentsFaulty, first_faults, rest_faults}
 use Rattle.der_core.specs.Tags.{integer, octet_string, sequence}
 use Rattle.der_core.specs.Tlv.{Tlv}
 use Rattle.spki_core.specs.AlgorithmIdentifier.{Algorithm, PlainAlgorithm}
 use Rattle.spki_core.specs.Allocating.{AlgorithmAllocates}
 use Rattle.spki_core.specs.Any.{TagAndContents, Any}
 use Rattle.spki_core.specs.Faults.{AnyFault, AlgorithmFault}
-use Rattle.pkcs8_core.specs.ContainerFaults.{VersionText, VersionFault, AttributesFault, BehindAlgorithm, BehindVersion, InfoFault}
+use Rattle.pkcs8_core.specs.ContainerFaults.{VersionEncoding, VersionFault, AttributesFault, BehindAlgorithm, BehindVersion, InfoFault}
 
 abbrev pub Never : List ℕ → Type 0
 Never b = ⊥
 
-pub version_fails : (before after : Input) (e : ErrorKind) → TextFails Small (Tlv 2 (λ _. ⊥)) e before after → TextFails VersionText Never e before after
-version_fails before after e f = allocates_more VersionText (Tlv 2 (λ _. ⊥)) Never (λ b w. w.holds) before after e (expected_fails Small small_delimited 0 (Tlv 2 (λ _. ⊥)) before after e f)
+pub version_fails : (before after : Input) (e : ErrorKind) → EncodingFails Small (Tlv 2 (λ _. ⊥)) e before after → EncodingFails VersionEncoding Never e before after
+version_fails before after e f = allocates_more VersionEncoding (Tlv 2 (λ _. ⊥)) Never (λ b w. w.holds) before after e (expected_fails Small small_delimited 0 (Tlv 2 (λ _. ⊥)) before after e f)
 
--- what decode_value is to ensure of a refusal
+-- what decode_value is to ensure of an error
 abbrev pub InfoFaulty : ErrorKind → Input → Input → Type 0
 InfoFaulty e before after = ContentsFaulty InfoFault Never e before after
 
-pub at_version : (before after : Input) (e : ErrorKind) → after ≡ None → FaultyFront (TextFault integer VersionFault) Never e before → InfoFaulty e before after
-at_version before after e failed fault = first_faults VersionText (TextFault integer VersionFault) (λ _. BehindVersion) Never (λ c w. w.3) before after e failed fault
+pub at_version : (before after : Input) (e : ErrorKind) → after ≡ None → FaultyFront (EncodingFault integer VersionFault) Never e before → InfoFaulty e before after
+at_version before after e failed fault = first_faults VersionEncoding (EncodingFault integer VersionFault) (λ _. BehindVersion) Never (λ c w. w.3) before after e failed fault
 
-behind : (before mid after : Input) (e : ErrorKind) → TextGives VersionText tt before mid → ContentsFaulty BehindVersion Never e mid after → InfoFaulty e before after
-behind before mid after e version f = rest_faults VersionText (TextFault integer VersionFault) (λ _. BehindVersion) Never (λ c w. w.1.3) before mid after e tt version f
+behind : (before mid after : Input) (e : ErrorKind) → EncodingGives VersionEncoding tt before mid → ContentsFaulty BehindVersion Never e mid after → InfoFaulty e before after
+behind before mid after e version f = rest_faults VersionEncoding (EncodingFault integer VersionFault) (λ _. BehindVersion) Never (λ c w. w.1.3) before mid after e tt version f
 
-pub at_algorithm : (before mid after : Input) (e : ErrorKind) → TextGives VersionText tt before mid → after ≡ None → FaultyFront (TextFault sequence (AlgorithmFault Any AnyFault)) (AlgorithmAllocates (λ _. ⊥)) e mid → InfoFaulty e before after
+pub at_algorithm : (before mid after : Input) (e : ErrorKind) → EncodingGives VersionEncoding tt before mid → after ≡ None → FaultyFront (EncodingFault sequence (AlgorithmFault Any AnyFault)) (AlgorithmAllocates (λ _. ⊥)) e mid → InfoFaulty e before after
 at_algorithm before mid after e version failed fault =
     behind before mid after e version
-    (first_faults PlainAlgorithm (TextFault sequence (AlgorithmFault Any AnyFault)) (λ _. BehindAlgorithm) Never (λ c w. w.3.holds.1.3.1.3) mid after e failed fault)
+    (first_faults PlainAlgorithm (EncodingFault sequence (AlgorithmFault Any AnyFault)) (λ _. BehindAlgorithm) Never (λ c w. w.3.holds.1.3.1.3) mid after e failed fault)
 
-behind_two : (before one mid after : Input) (e : ErrorKind) (a : Algorithm TagAndContents) → TextGives VersionText tt before one → TextGives PlainAlgorithm a one mid
+behind_two : (before one mid after : Input) (e : ErrorKind) (a : Algorithm TagAndContents) → EncodingGives VersionEncoding tt before one → EncodingGives PlainAlgorithm a one mid
     → ContentsFaulty BehindAlgorithm Never e mid after → InfoFaulty e before after
 behind_two before one mid after e a version algorithm f =
-    behind before one after e version (rest_faults PlainAlgorithm (TextFault sequence (AlgorithmFault Any AnyFault)) (λ _. BehindAlgorithm) Never (λ c w. w.1.3) one mid after e a algorithm f)
+    behind before one after e version (rest_faults PlainAlgorithm (EncodingFault sequence (AlgorithmFault Any AnyFault)) (λ _. BehindAlgorithm) Never (λ c w. w.1.3) one mid after e a algorithm f)
 
-pub at_key : (before one mid after : Input) (e : ErrorKind) (a : Algorithm TagAndContents) → TextGives VersionText tt before one → TextGives PlainAlgorithm a one mid
-    → after ≡ None → FaultyFront (TextFault octet_string NoFault) (Tlv 4 (λ _. ⊥)) e mid → InfoFaulty e before after
+pub at_key : (before one mid after : Input) (e : ErrorKind) (a : Algorithm TagAndContents) → EncodingGives VersionEncoding tt before one → EncodingGives PlainAlgorithm a one mid
+    → after ≡ None → FaultyFront (EncodingFault octet_string NoFault) (Tlv 4 (λ _. ⊥)) e mid → InfoFaulty e before after
 at_key before one mid after e a version algorithm failed fault =
     behind_two before one mid after e a version algorithm
-    (first_faults OctetString (TextFault octet_string NoFault) (λ _. AttributesFault) Never (λ c w. w.3.holds) mid after e failed fault)
+    (first_faults OctetString (EncodingFault octet_string NoFault) (λ _. AttributesFault) Never (λ c w. w.3.holds) mid after e failed fault)
 
-pub at_attributes : (before one two mid after : Input) (e : ErrorKind) (a : Algorithm TagAndContents) (k : List ℕ) → TextGives VersionText tt before one → TextGives PlainAlgorithm a one two → TextGives OctetString k two mid
+pub at_attributes : (before one two mid after : Input) (e : ErrorKind) (a : Algorithm TagAndContents) (k : List ℕ) → EncodingGives VersionEncoding tt before one → EncodingGives PlainAlgorithm a one two → EncodingGives OctetString k two mid
     → after ≡ None → FaultyWhole AttributesFault Never e mid → InfoFaulty e before after
 at_attributes before one two mid after e a k version algorithm key failed fault =
-    behind_two before one two after e a version algorithm (rest_faults OctetString (TextFault octet_string NoFault) (λ _. AttributesFault) Never (λ c w. w.1.3) two mid after e k key (failed, fault))
+    behind_two before one two after e a version algorithm (rest_faults OctetString (EncodingFault octet_string NoFault) (λ _. AttributesFault) Never (λ c w. w.1.3) two mid after e k key (failed, fault))

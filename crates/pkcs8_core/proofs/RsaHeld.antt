@@ -4,11 +4,11 @@ use Rattle.std.specs.Prelude.{Result, Ok, Err, IfOk, IfErr, IsErrAnd, OnErr}
 use Rattle.der_core.specs.declared.error.ErrorKind.{ErrorKind}
 use Rattle.der_core.specs.Document.{Means}
 use Rattle.der_core.specs.Faults.{Faulty}
-use Rattle.der_core.specs.Reading.{Refuses}
+use Rattle.der_core.specs.Reading.{Rejects}
 use Rattle.pkcs1.specs.Allocating.{MayAllocate}
 use Rattle.pkcs1.specs.KeyFaults.{RsaPrivateKeyFault}
 use Rattle.pkcs1.specs.Keys.{PrivateKey, RsaPrivateKey}
-use Rattle.pkcs1_params.specs.Refusals.{IsAsn1}
+use Rattle.pkcs1_params.specs.Errors.{IsAsn1}
 use Rattle.pkcs1_params.specs.declared.error.Error.{Error}
 use Rattle.pkcs1_params.specs.declared.error.Error.TheVariants as error
 use Rattle.pkcs8_core.specs.Container.{Info}
@@ -26,13 +26,13 @@ module _ {X : Type 0} (value : X → PrivateKey (List ℕ)) (info : Info) (q : L
   none_held (Ok x) f = tt
   none_held (Err e) f = λ key h. f key (rw same h.1)
 
-  pub refused_held : (r : Result X Error) → IfErr r (IsAsn1 (λ e. Refuses e.kind (MayAllocate q) ((key : PrivateKey (List ℕ)) → Means RsaPrivateKey q key → ⊥)))
-      → IfErr r (IsAsn1 (λ e. Refuses e.kind (MayAllocate info.private_key) ((key : PrivateKey (List ℕ)) → HoldsRsa info key → ⊥)))
-  refused_held (Ok x) f = tt
-  refused_held (Err (error.Asn1 e)) f = ⊎_elim (λ w. inl (w.0, rw (← same) w.1)) (λ w. inr (w.0, λ key h. w.1 key (rw same h.1))) f
-  refused_held (Err error.Crypto) f = f
-  refused_held (Err error.KeyMalformed) f = f
-  refused_held (Err error.Version) f = f
+  pub rejected_held : (r : Result X Error) → IfErr r (IsAsn1 (λ e. Rejects e.kind (MayAllocate q) ((key : PrivateKey (List ℕ)) → Means RsaPrivateKey q key → ⊥)))
+      → IfErr r (IsAsn1 (λ e. Rejects e.kind (MayAllocate info.private_key) ((key : PrivateKey (List ℕ)) → HoldsRsa info key → ⊥)))
+  rejected_held (Ok x) f = tt
+  rejected_held (Err (error.Asn1 e)) f = ⊎_elim (λ w. inl (w.0, rw (← same) w.1)) (λ w. inr (w.0, λ key h. w.1 key (rw same h.1))) f
+  rejected_held (Err error.Crypto) f = f
+  rejected_held (Err error.KeyMalformed) f = f
+  rejected_held (Err error.Version) f = f
 
   -- The algorithm agrees, so the fault is that of the key.
   pub fault_held : info.algorithm ≡ rsa_encryption → (r : Result X Error) → IfErr r (IsAsn1 (λ e. RsaPrivateKeyFault e.kind q))
@@ -53,7 +53,7 @@ module _ {X : Type 0} (value : X → PrivateKey (List ℕ)) (info : Info) (q : L
 
 -- Where the algorithm agrees, the fault is that of the key.
 pub rsa_key_fault : (info : Info) (kind : ErrorKind) (q : List ℕ) → q ≡ info.private_key → info.algorithm ≡ rsa_encryption → RsaFault info kind → RsaPrivateKeyFault kind q
-rsa_key_fault info kind q same agrees (inl refusal) = absurd (rsa_is info.algorithm kind refusal agrees)
+rsa_key_fault info kind q same agrees (inl failure) = absurd (rsa_is info.algorithm kind failure agrees)
 rsa_key_fault info kind q same agrees (inr fault) = rw same fault.1
 
 pub faulty_only : {X : Type 0} (kind : ErrorKind) (q octets : List ℕ) → q ≡ octets → (r : Result X Error) → IsErrAnd r (IsAsn1 (λ e. Faulty e.kind (MayAllocate q) (e.kind ≡ kind))) → IsErrAnd r (IsAsn1 (λ e. Faulty e.kind (MayAllocate octets) (e.kind ≡ kind)))

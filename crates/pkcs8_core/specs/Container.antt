@@ -1,11 +1,11 @@
 -- PrivateKeyInfo (RFC 5208 5).
 use Rattle.std.specs.Prelude.{ℕ, List, [], ◌∷◌, ◌++◌, ◌<◌, length, Option}
 use Rattle.der_core.specs.Tag.{context_tag, integer_tag, octet_string_tag, sequence_tag}
-use Rattle.der_core.specs.Document.{Means, EncodeRefusal, no_text, too_long, no_room, another}
+use Rattle.der_core.specs.Document.{Means, EncodeError, no_encoding, too_long, no_room, another}
 use Rattle.der_core.specs.Integer.{Small, integer_contents}
 use Rattle.der_core.specs.OctetString.{OctetContents, OctetString}
 use Rattle.der_core.specs.Optional.{Optional, HasOptional, written_optional}
-use Rattle.der_core.specs.Texts.{AreBytes, Joins}
+use Rattle.der_core.specs.Encodings.{AreBytes, Joins}
 use Rattle.der_core.specs.Tlv.{Tlv, tlv}
 use Rattle.spki_core.specs.Any.{TagAndContents}
 use Rattle.spki_core.specs.AlgorithmIdentifier.{Algorithm, PlainAlgorithm, HasPlain, written_plain}
@@ -16,17 +16,17 @@ pub record Info : Type 0 where
   pub attributes : Option (List ℕ)
 
 -- attributes [0] IMPLICIT SET OF Attribute: the contents aren't checked.
-abbrev pub AttributesText : List ℕ → List ℕ → Type 0
-AttributesText octets text = Tlv (context_tag 0) (OctetContents octets) text
+abbrev pub AttributesEncoding : List ℕ → List ℕ → Type 0
+AttributesEncoding octets encoding = Tlv (context_tag 0) (OctetContents octets) encoding
 
 abbrev pub InfoContents : Info → List ℕ → Type 0
 InfoContents info contents =
-    Joins (Small 0 ∷ PlainAlgorithm info.algorithm ∷ OctetString info.private_key ∷ Optional AttributesText info.attributes ∷ []) contents
+    Joins (Small 0 ∷ PlainAlgorithm info.algorithm ∷ OctetString info.private_key ∷ Optional AttributesEncoding info.attributes ∷ []) contents
 
 -- PrivateKeyInfo ::= SEQUENCE { version INTEGER (0), privateKeyAlgorithm AlgorithmIdentifier, privateKey OCTET STRING,
 -- attributes [0] IMPLICIT Attributes OPTIONAL }
 abbrev pub PrivateKeyInfo : Info → List ℕ → Type 0
-PrivateKeyInfo info text = Tlv sequence_tag (InfoContents info) text
+PrivateKeyInfo info encoding = Tlv sequence_tag (InfoContents info) encoding
 
 -- Which values have contents, and the contents that are written.
 abbrev pub HasInfo : Info → Type 0
@@ -37,8 +37,8 @@ written_info info =
     tlv integer_tag (integer_contents (0 ∷ [])) ++ (written_plain info.algorithm ++ (tlv octet_string_tag info.private_key ++ written_optional (λ octets. tlv (context_tag 0) octets) info.attributes))
 
 -- Why a container isn't written: it has no encoding within the limit, or its encoding is longer than the room.
-abbrev pub IsUnwritten : Info → ℕ → EncodeRefusal → Type 0
-IsUnwritten info room no_text = ⊥
-IsUnwritten info room too_long = (text : List ℕ) → Means PrivateKeyInfo text info → ⊥
-IsUnwritten info room no_room = (text : List ℕ) × Means PrivateKeyInfo text info × (room < length text)
-IsUnwritten info room another = ⊥
+abbrev pub WhyContainerNotWritten : Info → ℕ → EncodeError → Type 0
+WhyContainerNotWritten info room no_encoding = ⊥
+WhyContainerNotWritten info room too_long = (encoding : List ℕ) → Means PrivateKeyInfo encoding info → ⊥
+WhyContainerNotWritten info room no_room = (encoding : List ℕ) × Means PrivateKeyInfo encoding info × (room < length encoding)
+WhyContainerNotWritten info room another = ⊥

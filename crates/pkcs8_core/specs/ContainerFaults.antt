@@ -2,7 +2,7 @@
 use Rattle.std.specs.Prelude.{ℕ, List, ◌≡◌, ◌⊎◌}
 use Rattle.der_core.specs.declared.error.ErrorKind.{ErrorKind}
 use Rattle.der_core.specs.declared.error.ErrorKind.TheVariants.{Value}
-use Rattle.der_core.specs.Faults.{TextFault, ThenFault, TaggedLastFault, WholeFault, SmallFault, NoFault, ExpectedFault}
+use Rattle.der_core.specs.Faults.{EncodingFault, ThenFault, TaggedLastFault, WholeFault, SmallFault, NoFault, ExpectedFault}
 use Rattle.der_core.specs.Integer.{Small, SmallContents}
 use Rattle.der_core.specs.OctetString.{OctetString}
 use Rattle.der_core.specs.Tags.{integer, octet_string, sequence}
@@ -10,34 +10,34 @@ use Rattle.spki_core.specs.AlgorithmIdentifier.{PlainAlgorithm}
 use Rattle.spki_core.specs.Any.{Any}
 use Rattle.spki_core.specs.Faults.{AnyFault, AlgorithmFault}
 use Rattle.pkcs1.specs.KeyFaults.{RsaPrivateKeyFault}
-use Rattle.pkcs8_core.specs.Container.{Info, AttributesText, PrivateKeyInfo}
+use Rattle.pkcs8_core.specs.Container.{Info, AttributesEncoding, PrivateKeyInfo}
 use Rattle.pkcs8_core.specs.Rsa.{NotRsa, rsa_encryption}
 use Rattle.pkcs8_core.specs.Tags.{attributes_tag}
 
 -- The version is the number 0.
-abbrev pub VersionText : Unit {0} → List ℕ → Type 0
-VersionText _ = Small 0
+abbrev pub VersionEncoding : Unit {0} → List ℕ → Type 0
+VersionEncoding _ = Small 0
 
 abbrev pub VersionFault : ErrorKind → List ℕ → Type 0
 VersionFault = ExpectedFault SmallContents SmallFault 0 (Value integer)
 
 -- A fault of what follows the private key.
 abbrev pub AttributesFault : ErrorKind → List ℕ → Type 0
-AttributesFault = TaggedLastFault attributes_tag AttributesText (TextFault attributes_tag NoFault)
+AttributesFault = TaggedLastFault attributes_tag AttributesEncoding (EncodingFault attributes_tag NoFault)
 
 abbrev pub BehindAlgorithm : ErrorKind → List ℕ → Type 0
-BehindAlgorithm = ThenFault OctetString (TextFault octet_string NoFault) (λ _. AttributesFault)
+BehindAlgorithm = ThenFault OctetString (EncodingFault octet_string NoFault) (λ _. AttributesFault)
 
 abbrev pub BehindVersion : ErrorKind → List ℕ → Type 0
-BehindVersion = ThenFault PlainAlgorithm (TextFault sequence (AlgorithmFault Any AnyFault)) (λ _. BehindAlgorithm)
+BehindVersion = ThenFault PlainAlgorithm (EncodingFault sequence (AlgorithmFault Any AnyFault)) (λ _. BehindAlgorithm)
 
 -- A fault of the version, or else of the algorithm, the private key, or what follows it.
 abbrev pub InfoFault : ErrorKind → List ℕ → Type 0
-InfoFault = ThenFault VersionText (TextFault integer VersionFault) (λ _. BehindVersion)
+InfoFault = ThenFault VersionEncoding (EncodingFault integer VersionFault) (λ _. BehindVersion)
 
 -- The first fault of a whole slice, as a container.
 abbrev pub PrivateKeyInfoFault : ErrorKind → List ℕ → Type 0
-PrivateKeyInfoFault = WholeFault PrivateKeyInfo (TextFault sequence InfoFault)
+PrivateKeyInfoFault = WholeFault PrivateKeyInfo (EncodingFault sequence InfoFault)
 
 -- Why a container holds no RSA key: its algorithm is another, or its key has a fault.
 abbrev pub RsaFault : Info → ErrorKind → Type 0

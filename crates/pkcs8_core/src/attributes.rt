@@ -2,7 +2,7 @@
 ghost use Rattle.std.specs.Prelude.{◌≡◌, ◌<◌, ◌^◌, ℕ, List, length, slice_index};
 ghost use Rattle.der_core.specs.OctetString.{OctetContents};
 ghost use Rattle.der_core.specs.Laws.OctetString.{octets_mean_one, octets_of_bytes, octets_relate, octets_shortest};
-ghost use Rattle.der_core.specs.Texts.{AreBytes};
+ghost use Rattle.der_core.specs.Encodings.{AreBytes};
 ghost use Rattle.pkcs8_core.specs.Tags.{attributes_tag};
 
 use pkcs1::der::{

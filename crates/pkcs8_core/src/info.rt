@@ -1,17 +1,18 @@
 //! PKCS #8 containers of private keys.
 ghost use Rattle.std.specs.Prelude.{◌≡◌, ◌≤◌, ◌+◌, ℕ, List, length, take, drop, IfOk, IfErr, IsErrAnd, OnErr, refl};
 ghost use Rattle.std.specs.Option.{option_map};
-ghost use Rattle.der_core.specs.Document.{Means, IsAlone, HasText};
-ghost use Rattle.der_core.specs.Faults.{TextFault, FaultyFront, FaultyWhole};
+ghost use Rattle.der_core.specs.Document.{Means, IsAlone, HasEncoding};
+ghost use Rattle.der_core.specs.Faults.{EncodingFault, FaultyFront, FaultyWhole};
 ghost use Rattle.der_core.specs.Tags.{integer};
-ghost use Rattle.pkcs8_core.specs.ContainerFaults.{VersionText, VersionFault, AttributesFault, PrivateKeyInfoFault};
+ghost use Rattle.pkcs8_core.specs.ContainerFaults.{VersionEncoding, VersionFault, AttributesFault, PrivateKeyInfoFault};
 ghost use Rattle.der_core.specs.declared.error.ErrorKind as der;
 ghost use Rattle.der_core.specs.Optional.{Optional};
-ghost use Rattle.der_core.specs.Texts.{AtMostOne};
-ghost use Rattle.der_core.specs.Reading.{ReadsContents, ReadsText, TellsOfBytes};
-ghost use Rattle.der_core.specs.Writing.{encode_refusal};
+ghost use Rattle.der_core.specs.Encodings.{AtMostOne};
+ghost use Rattle.der_core.specs.Reading.{ReadsContents, ReadsEncoding, TellsOfBytes};
+ghost use Rattle.der_core.specs.Writing.{encode_error};
 ghost use Rattle.pkcs1_params.specs.Meanings.{IsNoSentence, IsOnlyMeaning};
-ghost use Rattle.pkcs8_core.specs.Container.{Info, AttributesText, InfoContents, PrivateKeyInfo, HasInfo, written_info, IsUnwritten};
+ghost use Rattle.pkcs8_core.specs.Container.{Info, AttributesEncoding, InfoContents, PrivateKeyInfo, HasInfo};
+ghost use Rattle.pkcs8_core.specs.Container.{written_info, WhyContainerNotWritten};
 ghost use Rattle.pkcs8_core.specs.Held.{info_of, attributes_of, slice_now};
 ghost use Rattle.pkcs8_core.specs.declared.info.PrivateKeyInfoRef as containers;
 ghost use Rattle.pkcs8_core.specs.Laws.Container.{info_means_one, info_of_bytes, info_relates, info_shortest};
@@ -56,7 +57,7 @@ fn contents_of<'a>(attributes: Option<Attributes<'a>>) -> Option<&'a [u8]>
 
 /// Decodes the rest of a container: the attributes, if there are any.
 fn read_attributes<'a, R: Reader<&'a [u8]>>(reader: &mut R) -> Result<Option<&'a [u8]>>
-    ensures reads { ReadsContents (option_map slice_now) (Optional AttributesText) (λ _. ⊥)
+    ensures reads { ReadsContents (option_map slice_now) (Optional AttributesEncoding) (λ _. ⊥)
         result (R.left reader.old) (R.left reader.new) }
     ensures exact { IfErr result (λ e. FaultyWhole AttributesFault (λ _. ⊥) e.kind (R.left reader.old)) }
 {
@@ -67,8 +68,8 @@ fn read_attributes<'a, R: Reader<&'a [u8]>>(reader: &mut R) -> Result<Option<&'a
 
 /// Decodes the version, which must be 0.
 fn read_version<'a, M: Memory, R: Reader<&'a [u8]>>(memory: M, reader: &mut R) -> Result<()>
-    ensures text { ReadsText (λ _. tt) VersionText (λ _. ⊥) result (R.left reader.old) (R.left reader.new) }
-    ensures exact { let fault = TextFault integer VersionFault in
+    ensures encoding { ReadsEncoding (λ _. tt) VersionEncoding (λ _. ⊥) result (R.left reader.old) (R.left reader.new) }
+    ensures exact { let fault = EncodingFault integer VersionFault in
         IfErr result (λ e. FaultyFront fault (λ _. ⊥) e.kind (R.left reader.old)) }
 {
     if u8::decode(memory, reader)? != 0 {
@@ -141,7 +142,7 @@ impl EncodeValue for PrivateKeyInfoRef<'_> {
                 self.algorithm.encoded_len(),
                 joined_len(
                     self.private_key.encoded_len(),
-                    optional_len(&self.attributes_text()),
+                    optional_len(&self.attributes_encoding()),
                 ),
             ),
         )
@@ -152,11 +153,11 @@ impl EncodeValue for PrivateKeyInfoRef<'_> {
         VERSION.encode(writer)?;
         self.algorithm.encode(writer)?;
         self.private_key.encode(writer)?;
-        encode_optional(&self.attributes_text(), writer)
+        encode_optional(&self.attributes_encoding(), writer)
     }
 
     fn prepend_value(&self, writer: &mut BackWriter<'_>) {
-        prepend_optional(&self.attributes_text(), writer);
+        prepend_optional(&self.attributes_encoding(), writer);
         self.private_key.prepend(writer);
         self.algorithm.prepend(writer);
         VERSION.prepend(writer);
@@ -176,7 +177,7 @@ impl<'a> PrivateKeyInfoRef<'a> {
     }
 
     /// The attributes, as a type that can be encoded.
-    fn attributes_text(&self) -> Option<Attributes<'a>>
+    fn attributes_encoding(&self) -> Option<Attributes<'a>>
         ensures { option_map attributes_of result ≡ (info_of self.now).attributes }
     {
         match self.attributes {
@@ -187,23 +188,24 @@ impl<'a> PrivateKeyInfoRef<'a> {
 
     /// Does nothing. Its contract: each container has an encoding, within the limit or not, so no call that encodes one
     /// returns `Value`.
-    pub fn has_text(&self)
-        ensures { HasText PrivateKeyInfo (info_of self.now) }
+    pub fn lemma_has_encoding(&self)
+        ensures { HasEncoding PrivateKeyInfo (info_of self.now) }
     {
-        let _attributes = self.attributes_text();
+        let _attributes = self.attributes_encoding();
     }
 
     /// Writes the container's only encoding to the front of a slice and returns its length, as `encode_into` does; the
     /// contract is stated over the grammar of containers. Returns `Overflow` if the encoding is longer than
     /// `Length::MAX`, `NoRoom` if it is longer than the slice.
     pub fn encode_info(&self, out: &mut [u8]) -> Result<usize>
-        ensures text { IfOk result (λ n. Means PrivateKeyInfo (take n out.new) (info_of self.now)
+        ensures encoding { IfOk result (λ n. Means PrivateKeyInfo (take n out.new) (info_of self.now)
             × IsAlone PrivateKeyInfo (info_of self.now) (take n out.new)) }
         ensures rest { IfOk result (λ n. (n ≤ length out.new) × (drop n out.new ≡ drop n out.old)) }
         ensures unchanged { OnErr result (out.new ≡ out.old) }
-        ensures err { IfErr result (λ e. IsUnwritten (info_of self.now) (length out.old) (encode_refusal e.kind)) }
+        ensures err { IfErr result (λ e. WhyContainerNotWritten (info_of self.now) (length out.old)
+            (encode_error e.kind)) }
     {
-        self.has_text();
+        self.lemma_has_encoding();
         self.encode_into(out)
     }
 }
@@ -226,12 +228,12 @@ impl<'a> TryFrom<&'a [u8]> for PrivateKeyInfoRef<'a> {
 }
 
 /// A container has at most one encoding.
-pub fn containers_have_one_text()
+pub fn lemma_containers_have_one_encoding()
     ensures { (info : Info) → AtMostOne (PrivateKeyInfo info) }
 {}
 
 /// A clone of a container means the same as the original.
-pub fn container_clones_mean_the_same()
+pub fn lemma_container_clones_mean_the_same()
     ensures { (a b : containers.PrivateKeyInfoRef)
         → ⟦<PrivateKeyInfoRef<'static> as Clone>⟧.is_clone a b → info_of b ≡ info_of a }
 {}

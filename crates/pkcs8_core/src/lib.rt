@@ -7,4 +7,6 @@ mod info;
 mod rsa;
 
 pub use faults::fault_of_private_key_info;
-pub use info::{PrivateKeyInfoRef, container_clones_mean_the_same, containers_have_one_text};
+pub use info::{
+    PrivateKeyInfoRef, lemma_container_clones_mean_the_same, lemma_containers_have_one_encoding,
+};

@@ -1,14 +1,14 @@
 //! RSA keys in containers.
 ghost use Rattle.std.specs.Prelude.{◌≡◌, ◌⊎◌, ℕ, List, IfOk, IfErr, IsErrAnd, OnErr};
 ghost use Rattle.der_core.specs.Faults.{Faulty};
-ghost use Rattle.der_core.specs.Reading.{Refuses, TellsOfBytes};
+ghost use Rattle.der_core.specs.Reading.{Rejects, TellsOfBytes};
 ghost use Rattle.spki_core.specs.AlgorithmValue.{algorithm_of};
 ghost use Rattle.pkcs1.specs.Allocating.{MayAllocate};
 ghost use Rattle.pkcs1.specs.KeyFaults.{RsaPrivateKeyFault};
 ghost use Rattle.pkcs1.specs.Keys.{PrivateKey};
 ghost use Rattle.pkcs1.specs.PrivateKeyValue.{private_key_of};
-ghost use Rattle.pkcs1_params.specs.Refusals.{IsAsn1};
-ghost use Rattle.pkcs1.specs.ViewParts.{view_of, viewed_text};
+ghost use Rattle.pkcs1_params.specs.Errors.{IsAsn1};
+ghost use Rattle.pkcs1.specs.ViewParts.{view_of, viewed_encoding};
 ghost use Rattle.pkcs8_core.specs.ContainerFaults.{RsaFault};
 ghost use Rattle.der_core.specs.declared.error.ErrorKind as der;
 ghost use Rattle.pkcs8_core.specs.Held.{info_of};
@@ -42,7 +42,7 @@ impl<'a> PrivateKeyInfoRef<'a> {
         ensures ok { IfOk result (λ view. HoldsRsa (info_of self.now) (view_of view)) }
         ensures one { IfOk result (λ view. (other : PrivateKey (List ℕ)) → HoldsRsa (info_of self.now) other
             → other ≡ view_of view) }
-        ensures bytes { IfOk result (λ view. viewed_text view ≡ (info_of self.now).private_key) }
+        ensures bytes { IfOk result (λ view. viewed_encoding view ≡ (info_of self.now).private_key) }
         ensures err { OnErr result ((key : PrivateKey (List ℕ)) → HoldsRsa (info_of self.now) key → ⊥) }
         ensures asn1 { IfErr result (IsAsn1 (λ e. TellsOfBytes e.kind)) }
         ensures exact { let info = info_of self.now in
@@ -61,7 +61,7 @@ impl<'a> PrivateKeyInfoRef<'a> {
         ensures ok { IfOk result (λ key. HoldsRsa (info_of self.now) (private_key_of key)) }
         ensures one { IfOk result (λ key. (other : PrivateKey (List ℕ)) → HoldsRsa (info_of self.now) other
             → other ≡ private_key_of key) }
-        ensures err { IfErr result (IsAsn1 (λ e. Refuses e.kind (MayAllocate (info_of self.now).private_key)
+        ensures err { IfErr result (IsAsn1 (λ e. Rejects e.kind (MayAllocate (info_of self.now).private_key)
             ((key : PrivateKey (List ℕ)) → HoldsRsa (info_of self.now) key → ⊥))) }
         ensures exact { let info = info_of self.now in
             let asked = MayAllocate info.private_key in

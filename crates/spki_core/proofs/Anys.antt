@@ -1,10 +1,10 @@
--- Reading a text of any tag.
+-- Reading an encoding of any tag.
 use Rattle.std.proofs.Common.{◌≡◌, ℕ, ◌<◌, ◌≤◌, List, [], ◌∷◌, ◌++◌, length, take, drop, refl, sym, ap, ◌∙◌, arith, length-append, length-take, append_assoc, inr, ⊎_elim, Ok, Err, Some, None}
 use Rattle.std.proofs.lemmas.Bool.Decides.{nat_tests}
 use Rattle.std.proofs.lemmas.List.{take-append-drop}
 use Rattle.std.specs.Prelude.{nat_lt}
 use Rattle.der_core.specs.Length.{limit}
-use Rattle.der_core.specs.Texts.{AreBytes}
+use Rattle.der_core.specs.Encodings.{AreBytes}
 use Rattle.der_core.specs.declared.error.ErrorKind.{ErrorKind}
 use Rattle.der_core.specs.declared.error.ErrorKind.TheVariants.{Incomplete}
 use Rattle.der_core.specs.Input.{Input, left_in, read_from, front_of, header_at}
@@ -13,7 +13,7 @@ use Rattle.der_core.specs.Laws.Input.{ok_pair}
 use Rattle.der_core.specs.Laws.Headers.{tlv_header, header_at-sound, header_at-tells, header_sound}
 use Rattle.der_core.specs.Laws.Tells.{is_incomplete}
 use Rattle.der_core.specs.Laws.HeaderAndContents.{Headed}
-use Rattle.der_core.specs.Laws.Sequences.{TextFails, TextGives}
+use Rattle.der_core.specs.Laws.Sequences.{EncodingFails, EncodingGives}
 use Rattle.der_core.specs.Faults.{FaultyFront}
 use Rattle.spki_core.specs.Faults.{AnyFault, headless, too_few}
 use Rattle.spki_core.specs.Any.{Any}
@@ -41,9 +41,9 @@ bytes_front : (a b : List ℕ) → AreBytes (a ++ b) → AreBytes a
 bytes_front [] b o = tt
 bytes_front (x ∷ a) b o = (o.0, bytes_front a b o.1)
 
--- no header, so no text
+-- no header, so no encoding
 pub no_header : (before after : Input) (e : ErrorKind) → length (left_in before) ≤ limit
-    → read_from before header_at ≡ Err e → after ≡ None → TextFails Any (λ _. ⊥) e before after
+    → read_from before header_at ≡ Err e → after ≡ None → EncodingFails Any (λ _. ⊥) e before after
 no_header None after e within read failed = (failed, λ _. cc, λ i is. cc)
 no_header (Some i) after e within read failed = (
   failed,
@@ -52,15 +52,15 @@ no_header (Some i) after e within read failed = (
       let same : i ≡ j = cc in
       inr (
         header_at-tells i e read,
-        λ v b rest split text.
-            let found = tlv_header v.tag b i rest text.0.0 within text.1 (same ∙ split) in
+        λ v b rest split encoding.
+            let found = tlv_header v.tag b i rest encoding.0.0 within encoding.1 (same ∙ split) in
             cc,
       ),
 )
 
--- no room for the contents, so no text
+-- no room for the contents, so no encoding
 pub no_room : (before mid after : Input) (e : ErrorKind) (t n : ℕ) → length (left_in before) ≤ limit
-    → Headed before mid t n → read_from mid (front_of n) ≡ Err e → after ≡ None → TextFails Any (λ _. ⊥) e before after
+    → Headed before mid t n → read_from mid (front_of n) ≡ Err e → after ≡ None → EncodingFails Any (λ _. ⊥) e before after
 no_room None mid after e t n within head short failed = let no = head.1 in cc
 no_room (Some i) mid after e t n within head short failed =
     let few = front_fails n head.0 e (rw head.2 at short) in (
@@ -70,9 +70,9 @@ no_room (Some i) mid after e t n within head short failed =
           let same : i ≡ j = cc in
           inr (
             is_incomplete few.1,
-            λ v b rest split text.
-                let p = text.1 in
-                let found = tlv_header v.tag b i rest text.0.0 within p (same ∙ split) in
+            λ v b rest split encoding.
+                let p = encoding.1 in
+                let found = tlv_header v.tag b i rest encoding.0.0 within p (same ∙ split) in
                 let parts = ok_pair (t, n) (v.tag, length p.contents) head.0 (p.contents ++ rest) (sym head.1 ∙ found) in
                 let number : n ≡ length p.contents = ap (λ q. q.1) parts.0 in
                 omega (arith, few.0, ap length parts.1, length-append p.contents rest),
@@ -92,7 +92,7 @@ room_fault before mid e t n bytes head short i is =
 -- a header and its contents
 pub any_read : (before mid after : Input) (t n : ℕ) (c : List ℕ) → AreBytes (left_in before)
     → Headed before mid t n → ((rest : List ℕ) × (read_from mid (front_of n) ≡ Ok (c, rest)) × (after ≡ Some rest))
-    → TextGives Any (record { tag = t; contents = c }) before after
+    → EncodingGives Any (record { tag = t; contents = c }) before after
 any_read None mid after t n c octets head got = let no = head.1 in cc
 any_read (Some i) mid after t n c octets head got =
     let whole = header_at-sound i head.0 t n octets head.1 in

@@ -3,10 +3,10 @@ use Rattle.std.proofs.Common.{ℕ, List, [], ◌∷◌, ◌++◌, ◌≡◌, ◌
 use Rattle.der_core.specs.Integer.{Small}
 use Rattle.der_core.specs.Laws.Integer.{small_delimited}
 use Rattle.der_core.specs.Laws.Lists.{same_cons}
-use Rattle.der_core.specs.Texts.{Joins}
-use Rattle.der_core.specs.Laws.WrittenOut.{known_tlv, known_front, known_whole, small_byte, no_bytes_refused, other_tag_refused, no_part_refused}
+use Rattle.der_core.specs.Encodings.{Joins}
+use Rattle.der_core.specs.Laws.WrittenOut.{known_tlv, known_front, known_whole, small_byte, no_bytes_rejected, other_tag_rejected, no_part_rejected}
 use Rattle.spki_core.specs.ContextSpecific.{Numbered, ContextSpecific}
-use Rattle.spki_core.specs.Explicit.{Field, field, Defaultable, FieldSequence, HaveDefaults, MaskedField, Masked, AllExplicit, FieldRead, FieldRefused, left_out, written, forced}
+use Rattle.spki_core.specs.Explicit.{Field, field, Defaultable, FieldSequence, HaveDefaults, MaskedField, Masked, AllExplicit, FieldRead, FieldRejected, left_out, written, forced}
 use Rattle.spki_core.specs.Laws.KnownFields.{left_out_field, written_field, field_written}
 
 -- a203020114
@@ -18,16 +18,16 @@ tag_30 : ContextSpecific Small (record { number = 30; value = 20 }) (0xbe ∷ 0x
 tag_30 = (omega arith, known_tlv 0xbe (0x02 ∷ 0x01 ∷ 0x14 ∷ []) (small_byte 20 (omega arith)) (omega arith))
 
 -- bf03020114: the octet of longer tags
-tag_31_refused : (v : Numbered ℕ) → ContextSpecific Small v (0xbf ∷ 0x03 ∷ 0x02 ∷ 0x01 ∷ 0x14 ∷ []) → ⊥
-tag_31_refused v p = let e = (same_cons p.1.written).0 in omega (arith, p.0)
+tag_31_rejected : (v : Numbered ℕ) → ContextSpecific Small v (0xbf ∷ 0x03 ∷ 0x02 ∷ 0x01 ∷ 0x14 ∷ []) → ⊥
+tag_31_rejected v p = let e = (same_cons p.1.written).0 in omega (arith, p.0)
 
 -- 8203020114: not constructed
-implicit_tag_refused : (v : Numbered ℕ) → ContextSpecific Small v (0x82 ∷ 0x03 ∷ 0x02 ∷ 0x01 ∷ 0x14 ∷ []) → ⊥
-implicit_tag_refused v p = let e = (same_cons p.1.written).0 in omega arith
+implicit_tag_rejected : (v : Numbered ℕ) → ContextSpecific Small v (0x82 ∷ 0x03 ∷ 0x02 ∷ 0x01 ∷ 0x14 ∷ []) → ⊥
+implicit_tag_rejected v p = let e = (same_cons p.1.written).0 in omega arith
 
--- a200: no text in the tag
-empty_tag_refused : (v : Numbered ℕ) → ContextSpecific Small v (0xa2 ∷ 0x00 ∷ []) → ⊥
-empty_tag_refused v p = no_bytes_refused (known_whole [] p.1 (omega arith))
+-- a200: no encoding in the tag
+empty_tag_rejected : (v : Numbered ℕ) → ContextSpecific Small v (0xa2 ∷ 0x00 ∷ []) → ⊥
+empty_tag_rejected v p = no_bytes_rejected (known_whole [] p.1 (omega arith))
 
 -- The single field [2] of a number, with the default 20.
 abbrev salt : ℕ → Field
@@ -45,7 +45,7 @@ default_written = known_tlv 0x30 (0xa2 ∷ 0x03 ∷ 0x02 ∷ 0x01 ∷ 0x14 ∷ [
 another_value_written : FieldSequence (salt 21 ∷ []) (0x30 ∷ 0x05 ∷ 0xa2 ∷ 0x03 ∷ 0x02 ∷ 0x01 ∷ 0x15 ∷ [])
 another_value_written = known_tlv 0x30 (0xa2 ∷ 0x03 ∷ 0x02 ∷ 0x01 ∷ 0x15 ∷ []) (written_field (salt 21) (0x02 ∷ 0x01 ∷ 0x15 ∷ []) [] (small_byte 21 (omega arith)) (omega arith) refl) (omega arith)
 
--- What a text says of the tag of the field, of what stands in it, and of what follows it.
+-- What an encoding says of the tag of the field, of what stands in it, and of what follows it.
 field_and_rest : (f : Field) (u : ℕ) (c rest : List ℕ) → length ((u ∷ length c ∷ c) ++ rest) < 128
     → FieldSequence (f ∷ []) (0x30 ∷ length ((u ∷ length c ∷ c) ++ rest) ∷ (u ∷ length c ∷ c) ++ rest) → (160 + f.number ≡ u) × f.Inner c × (rest ≡ [])
 field_and_rest f u c rest few p =
@@ -53,30 +53,30 @@ field_and_rest f u c rest few p =
     field_written f [] u c rest (omega (arith, few, length-append c rest)) tt w
 
 -- 300aa203020114a203020114
-field_twice_refused : (v : ℕ) → FieldSequence (salt v ∷ []) (0x30 ∷ 0x0a ∷ 0xa2 ∷ 0x03 ∷ 0x02 ∷ 0x01 ∷ 0x14 ∷ 0xa2 ∷ 0x03 ∷ 0x02 ∷ 0x01 ∷ 0x14 ∷ []) → ⊥
-field_twice_refused v p = let e = (field_and_rest (salt v) 0xa2 (0x02 ∷ 0x01 ∷ 0x14 ∷ []) (0xa2 ∷ 0x03 ∷ 0x02 ∷ 0x01 ∷ 0x14 ∷ []) (omega arith) p).2 in cc
+field_twice_rejected : (v : ℕ) → FieldSequence (salt v ∷ []) (0x30 ∷ 0x0a ∷ 0xa2 ∷ 0x03 ∷ 0x02 ∷ 0x01 ∷ 0x14 ∷ 0xa2 ∷ 0x03 ∷ 0x02 ∷ 0x01 ∷ 0x14 ∷ []) → ⊥
+field_twice_rejected v p = let e = (field_and_rest (salt v) 0xa2 (0x02 ∷ 0x01 ∷ 0x14 ∷ []) (0xa2 ∷ 0x03 ∷ 0x02 ∷ 0x01 ∷ 0x14 ∷ []) (omega arith) p).2 in cc
 
 -- 3005a303020114
-another_number_refused : (v : ℕ) → FieldSequence (salt v ∷ []) (0x30 ∷ 0x05 ∷ 0xa3 ∷ 0x03 ∷ 0x02 ∷ 0x01 ∷ 0x14 ∷ []) → ⊥
-another_number_refused v p = let e = (field_and_rest (salt v) 0xa3 (0x02 ∷ 0x01 ∷ 0x14 ∷ []) [] (omega arith) p).0 in omega arith
+another_number_rejected : (v : ℕ) → FieldSequence (salt v ∷ []) (0x30 ∷ 0x05 ∷ 0xa3 ∷ 0x03 ∷ 0x02 ∷ 0x01 ∷ 0x14 ∷ []) → ⊥
+another_number_rejected v p = let e = (field_and_rest (salt v) 0xa3 (0x02 ∷ 0x01 ∷ 0x14 ∷ []) [] (omega arith) p).0 in omega arith
 
 -- 3008a206020114020114
-two_texts_in_one_tag_refused : (v : ℕ) → FieldSequence (salt v ∷ []) (0x30 ∷ 0x08 ∷ 0xa2 ∷ 0x06 ∷ 0x02 ∷ 0x01 ∷ 0x14 ∷ 0x02 ∷ 0x01 ∷ 0x14 ∷ []) → ⊥
-two_texts_in_one_tag_refused v p =
+two_encodings_in_one_tag_rejected : (v : ℕ) → FieldSequence (salt v ∷ []) (0x30 ∷ 0x08 ∷ 0xa2 ∷ 0x06 ∷ 0x02 ∷ 0x01 ∷ 0x14 ∷ 0x02 ∷ 0x01 ∷ 0x14 ∷ []) → ⊥
+two_encodings_in_one_tag_rejected v p =
     let inner = (field_and_rest (salt v) 0xa2 (0x02 ∷ 0x01 ∷ 0x14 ∷ 0x02 ∷ 0x01 ∷ 0x14 ∷ []) [] (omega arith) p).1 in
     let e = (known_front (0x14 ∷ []) (0x02 ∷ 0x01 ∷ 0x14 ∷ []) (0x02 ∷ 0x01 ∷ 0x14 ∷ 0x02 ∷ 0x01 ∷ 0x14 ∷ []) [] inner refl (omega arith)).2 in
     cc
 
 -- 30058203020114
-primitive_tag_refused : (v : ℕ) → FieldSequence (salt v ∷ []) (0x30 ∷ 0x05 ∷ 0x82 ∷ 0x03 ∷ 0x02 ∷ 0x01 ∷ 0x14 ∷ []) → ⊥
-primitive_tag_refused v p = let e = (field_and_rest (salt v) 0x82 (0x02 ∷ 0x01 ∷ 0x14 ∷ []) [] (omega arith) p).0 in omega arith
+primitive_tag_rejected : (v : ℕ) → FieldSequence (salt v ∷ []) (0x30 ∷ 0x05 ∷ 0x82 ∷ 0x03 ∷ 0x02 ∷ 0x01 ∷ 0x14 ∷ []) → ⊥
+primitive_tag_rejected v p = let e = (field_and_rest (salt v) 0x82 (0x02 ∷ 0x01 ∷ 0x14 ∷ []) [] (omega arith) p).0 in omega arith
 
 -- 3005a203020114
-another_value_refused : FieldSequence (salt 21 ∷ []) (0x30 ∷ 0x05 ∷ 0xa2 ∷ 0x03 ∷ 0x02 ∷ 0x01 ∷ 0x14 ∷ []) → ⊥
-another_value_refused p =
-    let text : List ℕ = 0x02 ∷ 0x01 ∷ 0x14 ∷ [] in
-    let inner = (field_and_rest (salt 21) 0xa2 text [] (omega arith) p).1 in
-    let e = (small_delimited.one 21 20 text [] text [] inner (small_byte 20 (omega arith)) refl).1 in
+another_value_rejected : FieldSequence (salt 21 ∷ []) (0x30 ∷ 0x05 ∷ 0xa2 ∷ 0x03 ∷ 0x02 ∷ 0x01 ∷ 0x14 ∷ []) → ⊥
+another_value_rejected p =
+    let encoding : List ℕ = 0x02 ∷ 0x01 ∷ 0x14 ∷ [] in
+    let inner = (field_and_rest (salt 21) 0xa2 encoding [] (omega arith) p).1 in
+    let e = (small_delimited.one 21 20 encoding [] encoding [] inner (small_byte 20 (omega arith)) refl).1 in
     omega arith
 
 -- 3000, under a mask with no bit
@@ -97,8 +97,8 @@ mask_of_written = known_tlv 0x30 (0xa2 ∷ 0x03 ∷ 0x02 ∷ 0x01 ∷ 0x14 ∷ [
 ) (omega arith)
 
 -- 3005a203020114, under a mask with no bit
-another_mask_refused : Masked (salt 20 ∷ []) 0 (0x30 ∷ 0x05 ∷ 0xa2 ∷ 0x03 ∷ 0x02 ∷ 0x01 ∷ 0x14 ∷ []) → ⊥
-another_mask_refused p =
+another_mask_rejected : Masked (salt 20 ∷ []) 0 (0x30 ∷ 0x05 ∷ 0xa2 ∷ 0x03 ∷ 0x02 ∷ 0x01 ∷ 0x14 ∷ []) → ⊥
+another_mask_rejected p =
     let w = known_whole (0xa2 ∷ 0x03 ∷ 0x02 ∷ 0x01 ∷ 0x14 ∷ []) p (omega arith) in
     go w.0 w.1.0 w.1.1 w.1.2 w.1.3.0 w.1.4
   where
@@ -181,7 +181,7 @@ all_explicit = known_tlv 0x30 (0xa2 ∷ 0x03 ∷ 0x02 ∷ 0x01 ∷ 0x14 ∷ [])
 
 -- 3000: a field is left out
 left_out_is_not_explicit : (v : ℕ) → AllExplicit (salt v ∷ []) (0x30 ∷ 0x00 ∷ []) → ⊥
-left_out_is_not_explicit v p = no_part_refused (known_whole [] p (omega arith))
+left_out_is_not_explicit v p = no_part_rejected (known_whole [] p (omega arith))
 
 -- a203020115a303020101: the field is read with 21, and a303020101 is left
 field_is_read : FieldRead 2 Small 20 (0xa2 ∷ 0x03 ∷ 0x02 ∷ 0x01 ∷ 0x15 ∷ 0xa3 ∷ 0x03 ∷ 0x02 ∷ 0x01 ∷ 0x01 ∷ []) 21 (0xa3 ∷ 0x03 ∷ 0x02 ∷ 0x01 ∷ 0x01 ∷ [])
@@ -204,11 +204,11 @@ written_is_read v (inr (x, y, p, q, e)) =
     let f = known_front (0x02 ∷ 0x01 ∷ 0x14 ∷ []) [] x y p e (omega arith) in
     let no = sym f.2 ∙ q in cc
 
--- a2020500: refused
-null_in_field_refused : FieldRefused 2 Small (0xa2 ∷ 0x02 ∷ 0x05 ∷ 0x00 ∷ [])
-null_in_field_refused = (
+-- a2020500: rejected
+null_in_field_rejected : FieldRejected 2 Small (0xa2 ∷ 0x02 ∷ 0x05 ∷ 0x00 ∷ [])
+null_in_field_rejected = (
   (0x02 ∷ 0x05 ∷ 0x00 ∷ [], refl),
   (λ v rest t.
       let f = known_front (0x05 ∷ 0x00 ∷ []) [] t.0 t.1 t.2 t.4 (omega arith) in
-      other_tag_refused 0x05 (0x00 ∷ []) (λ e. omega arith) f.1),
+      other_tag_rejected 0x05 (0x00 ∷ []) (λ e. omega arith) f.1),
 )

@@ -4,7 +4,7 @@ use Rattle.std.specs.Prelude.{ℕ, Bool, List, [], ◌∷◌, ◌++◌, ◌&&◌
 use Rattle.std.specs.Option.{option_eq}
 use Rattle.std.specs.Str.{bytes_eq}
 use Rattle.der_core.specs.Tag.{object_identifier_tag, sequence_tag}
-use Rattle.der_core.specs.Texts.{Joins}
+use Rattle.der_core.specs.Encodings.{Joins}
 use Rattle.der_core.specs.Tlv.{Tlv, tlv}
 use Rattle.der_core.specs.Optional.{Optional, HasOptional, written_optional}
 use Rattle.spki_core.specs.ObjectIdentifier.{IsIdentifier, ObjectIdentifier}
@@ -19,7 +19,7 @@ abbrev pub AlgorithmContents : {P : Type 0} → (P → List ℕ → Type 0) → 
 AlgorithmContents Parameters a contents = Joins (ObjectIdentifier a.oid ∷ Optional Parameters a.parameters ∷ []) contents
 
 abbrev pub AlgorithmIdentifier : {P : Type 0} → (P → List ℕ → Type 0) → Algorithm P → List ℕ → Type 0
-AlgorithmIdentifier Parameters a text = Tlv sequence_tag (AlgorithmContents Parameters a) text
+AlgorithmIdentifier Parameters a encoding = Tlv sequence_tag (AlgorithmContents Parameters a) encoding
 
 -- An algorithm with parameters of any tag.
 abbrev pub PlainAlgorithm : Algorithm TagAndContents → List ℕ → Type 0
@@ -34,7 +34,7 @@ abbrev pub HasAlgorithm : {P : Type 0} → (P → Type 0) → Algorithm P → Ty
 HasAlgorithm has a = IsIdentifier a.oid × HasOptional has a.parameters
 
 abbrev pub written_algorithm : {P : Type 0} → (P → List ℕ) → Algorithm P → List ℕ
-written_algorithm text a = tlv object_identifier_tag a.oid ++ written_optional text a.parameters
+written_algorithm encoding a = tlv object_identifier_tag a.oid ++ written_optional encoding a.parameters
 
 abbrev pub HasPlain : Algorithm TagAndContents → Type 0
 HasPlain = HasAlgorithm IsAny

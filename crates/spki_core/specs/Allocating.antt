@@ -12,15 +12,15 @@ AllocatesForParameters may_allocate contents = AllocatesBehind ObjectIdentifier 
 
 -- The same for the whole encoding.
 abbrev pub AlgorithmAllocates : (List ℕ → Type 0) → List ℕ → Type 0
-AlgorithmAllocates may_allocate text = Tlv sequence_tag (AllocatesForParameters may_allocate) text
+AlgorithmAllocates may_allocate encoding = Tlv sequence_tag (AllocatesForParameters may_allocate) encoding
 
 -- The encoding of an identifier without parameters doesn't ask for memory.
 abbrev pub NothingAskedAlone : (List ℕ → Type 0) → Type 0
-NothingAskedAlone may_allocate = (oid text : List ℕ) → Tlv sequence_tag (ObjectIdentifier oid) text → AllocatesIn may_allocate text → ⊥
+NothingAskedAlone may_allocate = (oid encoding : List ℕ) → Tlv sequence_tag (ObjectIdentifier oid) encoding → AllocatesIn may_allocate encoding → ⊥
 
 -- The value inside the tag [number] may ask for memory.
 abbrev pub FieldAllocates : ℕ → (List ℕ → Type 0) → List ℕ → Type 0
-FieldAllocates number may_allocate text = Tlv (context_tag number) (AllocatesIn may_allocate) text
+FieldAllocates number may_allocate encoding = Tlv (context_tag number) (AllocatesIn may_allocate) encoding
 
 -- In contents that begin with a field: its value may ask for memory, or what follows it may.
 abbrev pub AllocatesFromField : {V : Type 0} → ℕ → (V → List ℕ → Type 0) → V → (List ℕ → Type 0) → (List ℕ → Type 0) → List ℕ → Type 0

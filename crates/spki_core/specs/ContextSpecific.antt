@@ -9,10 +9,10 @@ pub record Numbered (V : Type 0) : Type 0 where
 
 -- The tag [number] wraps one encoding of the value.
 abbrev pub ContextSpecific : {V : Type 0} → (V → List ℕ → Type 0) → Numbered V → List ℕ → Type 0
-ContextSpecific Grammar v text = (v.number ≤ 30) × Tlv (context_tag v.number) (Grammar v.value) text
+ContextSpecific Grammar v encoding = (v.number ≤ 30) × Tlv (context_tag v.number) (Grammar v.value) encoding
 
 abbrev pub HasNumbered : {V : Type 0} → (V → Type 0) → Numbered V → Type 0
 HasNumbered has v = (v.number ≤ 30) × has v.value
 
 abbrev pub written_numbered : {V : Type 0} → (V → List ℕ) → Numbered V → List ℕ
-written_numbered text v = tlv (context_tag v.number) (text v.value)
+written_numbered encoding v = tlv (context_tag v.number) (encoding v.value)

@@ -1,7 +1,7 @@
 -- Fields [n] EXPLICIT .. DEFAULT .. of a SEQUENCE, in rising order (X.690 8.14.2, 11.5).
 use Rattle.std.specs.Prelude.{ℕ, suc, List, [], ◌∷◌, ◌≡◌, ◌+◌, ◌*◌, ◌⊎◌, map}
 use Rattle.der_core.specs.Tag.{context_tag, sequence_tag}
-use Rattle.der_core.specs.Texts.{Is, Then, Joins}
+use Rattle.der_core.specs.Encodings.{Is, Then, Joins}
 use Rattle.der_core.specs.Tlv.{Tlv}
 
 -- A field with its value: the number, the encodings of the value, and whether the value is the default.
@@ -16,14 +16,14 @@ field number Grammar default value = record { number = number; Inner = Grammar v
 
 -- Written: one encoding of the value inside the tag [number].
 abbrev pub Explicit : Field → List ℕ → Type 0
-Explicit f text = Tlv (context_tag f.number) f.Inner text
+Explicit f encoding = Tlv (context_tag f.number) f.Inner encoding
 
 -- A default may be left out.
 abbrev pub Defaultable : Field → List ℕ → Type 0
-Defaultable f text = ((text ≡ []) × f.IsDefault) ⊎ Explicit f text
+Defaultable f encoding = ((encoding ≡ []) × f.IsDefault) ⊎ Explicit f encoding
 
 abbrev pub FieldSequence : List Field → List ℕ → Type 0
-FieldSequence fields text = Tlv sequence_tag (Joins (map Defaultable fields)) text
+FieldSequence fields encoding = Tlv sequence_tag (Joins (map Defaultable fields)) encoding
 
 -- How many of the fields have their defaults.
 abbrev pub HaveDefaults : List Field → ℕ → Type 0
@@ -31,23 +31,23 @@ HaveDefaults [] k = k ≡ 0
 HaveDefaults (f ∷ fields) k = (f.IsDefault × (j : ℕ) × (k ≡ suc j) × HaveDefaults fields j) ⊎ ((f.IsDefault → ⊥) × HaveDefaults fields k)
 
 -- One field under a mask: the lowest bit says whether a default is written, and the rest is for the later ones.
-pub data MaskedField (f : Field) (mask rest : ℕ) (text : List ℕ) : Type 0 where
-  left_out : f.IsDefault → mask ≡ 2 * rest → text ≡ [] → MaskedField f mask rest text
-  written : f.IsDefault → mask ≡ 2 * rest + 1 → Explicit f text → MaskedField f mask rest text
-  forced : (f.IsDefault → ⊥) → mask ≡ rest → Explicit f text → MaskedField f mask rest text
+pub data MaskedField (f : Field) (mask rest : ℕ) (encoding : List ℕ) : Type 0 where
+  left_out : f.IsDefault → mask ≡ 2 * rest → encoding ≡ [] → MaskedField f mask rest encoding
+  written : f.IsDefault → mask ≡ 2 * rest + 1 → Explicit f encoding → MaskedField f mask rest encoding
+  forced : (f.IsDefault → ⊥) → mask ≡ rest → Explicit f encoding → MaskedField f mask rest encoding
 
 -- The contents in which the j-th of the default fields is written exactly if bit j of the mask is one, and every other
 -- field is written.
 abbrev pub MaskedContents : List Field → ℕ → List ℕ → Type 0
-MaskedContents [] mask text = (text ≡ []) × (mask ≡ 0)
-MaskedContents (f ∷ fields) mask text = (rest : ℕ) × Then (MaskedField f mask rest) (MaskedContents fields rest) text
+MaskedContents [] mask encoding = (encoding ≡ []) × (mask ≡ 0)
+MaskedContents (f ∷ fields) mask encoding = (rest : ℕ) × Then (MaskedField f mask rest) (MaskedContents fields rest) encoding
 
 abbrev pub Masked : List Field → ℕ → List ℕ → Type 0
-Masked fields mask text = Tlv sequence_tag (MaskedContents fields mask) text
+Masked fields mask encoding = Tlv sequence_tag (MaskedContents fields mask) encoding
 
 -- Every field is written.
 abbrev pub AllExplicit : List Field → List ℕ → Type 0
-AllExplicit fields text = Tlv sequence_tag (Joins (map Explicit fields)) text
+AllExplicit fields encoding = Tlv sequence_tag (Joins (map Explicit fields)) encoding
 
 -- The octet of the field [number] is next.
 abbrev pub IsNext : ℕ → List ℕ → Type 0
@@ -61,5 +61,5 @@ FieldRead number Grammar default bytes value rest =
     Then (Tlv (context_tag number) (Grammar value)) (Is rest) bytes
 
 -- Its octet is next, but no encoding of the field.
-abbrev pub FieldRefused : {V : Type 0} → ℕ → (V → List ℕ → Type 0) → List ℕ → Type 0
-FieldRefused {V} number Grammar bytes = IsNext number bytes × ((value : V) (rest : List ℕ) → Then (Tlv (context_tag number) (Grammar value)) (Is rest) bytes → ⊥)
+abbrev pub FieldRejected : {V : Type 0} → ℕ → (V → List ℕ → Type 0) → List ℕ → Type 0
+FieldRejected {V} number Grammar bytes = IsNext number bytes × ((value : V) (rest : List ℕ) → Then (Tlv (context_tag number) (Grammar value)) (Is rest) bytes → ⊥)

@@ -3,10 +3,10 @@ use Rattle.std.specs.Prelude.{ℕ, List, ◌≡◌, ◌≢◌, ◌<◌, ◌++◌
 use Rattle.der_core.specs.declared.error.ErrorKind.{ErrorKind}
 use Rattle.der_core.specs.declared.error.ErrorKind.TheVariants.{Incomplete, OidMalformed}
 use Rattle.der_core.specs.declared.tag.Tag.{Tag}
-use Rattle.der_core.specs.Faults.{TextFault, ThenFault, LastFault}
-use Rattle.der_core.specs.Refusal.{IsUnexpected}
+use Rattle.der_core.specs.Faults.{EncodingFault, ThenFault, LastFault}
+use Rattle.der_core.specs.ErrorKinds.{IsUnexpected}
 use Rattle.spki_core.specs.Any.{TagAndContents}
-use Rattle.der_core.specs.Headers.{HeaderText}
+use Rattle.der_core.specs.Headers.{HeaderEncoding}
 use Rattle.der_core.specs.Input.{header_at}
 use Rattle.der_core.specs.Reading.{NoneHas}
 use Rattle.der_core.specs.Tags.{object_identifier}
@@ -16,7 +16,7 @@ use Rattle.spki_core.specs.ObjectIdentifier.{IdentifierContents, ObjectIdentifie
 -- The bytes begin with no encoding of any tag: there is no header, or fewer bytes follow than it counts.
 pub data AnyFault (kind : ErrorKind) (bytes : List ℕ) : Type 0 where
   headless : header_at bytes ≡ Err kind → AnyFault kind bytes
-  too_few : (t n : ℕ) (header rest : List ℕ) → HeaderText (t, n) header → bytes ≡ header ++ rest → length rest < n → kind ≡ Incomplete → AnyFault kind bytes
+  too_few : (t n : ℕ) (header rest : List ℕ) → HeaderEncoding (t, n) header → bytes ≡ header ++ rest → length rest < n → kind ≡ Incomplete → AnyFault kind bytes
 
 -- A tag and contents where a type with another tag is expected, or one whose contents have faults of their own.
 abbrev pub OtherAnyFault : Tag → (ErrorKind → List ℕ → Type 0) → ErrorKind → TagAndContents → Type 0
@@ -28,7 +28,7 @@ IdentifierFault kind contents = (kind ≡ OidMalformed) × NoneHas IdentifierCon
 
 -- A fault of the identifier, or of the parameters behind it, if there are any.
 abbrev pub AlgorithmFault : {P : Type 0} → (P → List ℕ → Type 0) → (ErrorKind → List ℕ → Type 0) → ErrorKind → List ℕ → Type 0
-AlgorithmFault Parameters ParametersFault = ThenFault ObjectIdentifier (TextFault object_identifier IdentifierFault) (λ _. LastFault Parameters ParametersFault)
+AlgorithmFault Parameters ParametersFault = ThenFault ObjectIdentifier (EncodingFault object_identifier IdentifierFault) (λ _. LastFault Parameters ParametersFault)
 
 -- The octet of the field [n] is next, and the field has a fault.
 abbrev pub NextFault : ℕ → (ErrorKind → List ℕ → Type 0) → ErrorKind → List ℕ → Type 0
@@ -36,4 +36,4 @@ NextFault n Fault kind bytes = IsNext n bytes × Fault kind bytes
 
 -- A field with a default, and what follows it: the field is there and has a fault; or what follows it has one.
 abbrev pub FieldThenFault : {V : Type 0} → ℕ → (V → List ℕ → Type 0) → V → (ErrorKind → List ℕ → Type 0) → (ErrorKind → List ℕ → Type 0) → ErrorKind → List ℕ → Type 0
-FieldThenFault {V} n Text default Fault Behind kind bytes = NextFault n Fault kind bytes ⊎ ((v : V) × (rest : List ℕ) × FieldRead n Text default bytes v rest × Behind kind rest)
+FieldThenFault {V} n Encoding default Fault Behind kind bytes = NextFault n Fault kind bytes ⊎ ((v : V) × (rest : List ℕ) × FieldRead n Encoding default bytes v rest × Behind kind rest)

@@ -9,5 +9,5 @@ HasField true has = Unit {0}
 HasField false has = has
 
 abbrev pub written_field : Bool → ℕ → List ℕ → List ℕ
-written_field true number text = []
-written_field false number text = tlv (context_tag number) text
+written_field true number encoding = []
+written_field false number encoding = tlv (context_tag number) encoding

@@ -1,13 +1,13 @@
 -- Lemmas on the definitions, which proofs here and in the crates above may cite.
 pub mod AlgorithmRows
-pub mod AlgorithmTexts
+pub mod AlgorithmEncodings
 pub mod Algorithms
-pub mod AnyTexts
+pub mod AnyEncodings
 pub mod Carried
 pub mod ContextSpecific
 pub mod Faults
 pub mod FieldReads
-pub mod FieldTexts
+pub mod FieldEncodings
 pub mod Fields
 pub mod Held
 pub mod IdentifierRows

@@ -20,10 +20,10 @@ pub record Part : Type 1 where
   pub field : Field
   pub is_default : Bool
   pub has : Type 0
-  pub text : List ℕ
+  pub encoding : List ℕ
   pub decides : Decides is_default field.IsDefault
-  pub relates : has → length text < 2 ^ 128 → field.Inner text
-  pub least : (other : List ℕ) → field.Inner other → IsLeast has text other
+  pub relates : has → length encoding < 2 ^ 128 → field.Inner encoding
+  pub least : (other : List ℕ) → field.Inner other → IsLeast has encoding other
 
 abbrev pub fields_of : List Part → List Field
 fields_of parts = map (λ p. p.field) parts
@@ -34,4 +34,4 @@ has_under (p ∷ parts) mask = HasField (out_under p.is_default mask) p.has × h
 
 abbrev pub written_under : List Part → ℕ → List ℕ
 written_under [] mask = []
-written_under (p ∷ parts) mask = written_field (out_under p.is_default mask) p.field.number p.text ++ written_under parts (rest_under p.is_default mask)
+written_under (p ∷ parts) mask = written_field (out_under p.is_default mask) p.field.number p.encoding ++ written_under parts (rest_under p.is_default mask)

@@ -3,7 +3,7 @@ use Rattle.std.specs.Prelude.{ℕ, Bool, true, false, List, [], ◌∷◌, ◌++
 use Rattle.der_core.specs.Tag.{context_tag, sequence_tag}
 use Rattle.der_core.specs.Document.{Means}
 use Rattle.der_core.specs.Reading.{NoneIn}
-use Rattle.der_core.specs.Texts.{Then, Joins}
+use Rattle.der_core.specs.Encodings.{Then, Joins}
 use Rattle.der_core.specs.Tlv.{Tlv}
 use Rattle.der_core.specs.declared.tag.Tag.{Tag}
 use Rattle.der_core.specs.declared.tag.TagNumber.{TagNumber}
@@ -14,7 +14,7 @@ use Rattle.spki_core.specs.Explicit.{Field, Explicit, Defaultable, IsNext}
 
 -- A field in its shortest form: a default is left out.
 abbrev pub Short : Field → List ℕ → Type 0
-Short f text = ((text ≡ []) × f.IsDefault) ⊎ ((f.IsDefault → ⊥) × Explicit f text)
+Short f encoding = ((encoding ≡ []) × f.IsDefault) ⊎ ((f.IsDefault → ⊥) × Explicit f encoding)
 
 -- The field [n] is the first that is written and equals its default.
 abbrev pub FirstWritten : List Field → ℕ → List ℕ → Type 0
@@ -24,7 +24,7 @@ FirstWritten (f ∷ fields) n contents =
     ⊎ Then (Short f) (FirstWritten fields n) contents
 
 abbrev pub WritesDefault : List Field → ℕ → List ℕ → Type 0
-WritesDefault fields n text = Tlv sequence_tag (FirstWritten fields n) text
+WritesDefault fields n encoding = Tlv sequence_tag (FirstWritten fields n) encoding
 
 -- The error names the tag [n].
 abbrev pub NamesNumber : ℕ → Error → Type 0
@@ -32,7 +32,7 @@ NamesNumber n e = (tag : Tag) × (e.kind ≡ Noncanonical tag) × (tag.octet ≡
 
 -- The error names the tag of the first default that is written.
 abbrev pub NamesDefault : List Field → List ℕ → Error → Type 0
-NamesDefault fields text e = (n : ℕ) × NamesNumber n e × WritesDefault fields n text
+NamesDefault fields encoding e = (n : ℕ) × NamesNumber n e × WritesDefault fields n encoding
 
 -- A walk over the contents, from the field [n] on, knowing for each field whether it equals its default. A default is
 -- looked for by its octet, and each other field is skipped as an encoding of any tag.
@@ -48,4 +48,4 @@ number_in number = number.value
 
 -- A walk over the contents of an encoding.
 abbrev pub WalksOver : List Bool → List ℕ → Option ℕ → Type 0
-WalksOver ds text found = (c : List ℕ) → Means Any text (record { tag = sequence_tag; contents = c }) → Walked 0 ds c found
+WalksOver ds encoding found = (c : List ℕ) → Means Any encoding (record { tag = sequence_tag; contents = c }) → Walked 0 ds c found

@@ -4,13 +4,14 @@ ghost use Rattle.std.specs.Option.{option_map};
 ghost use Rattle.spki_core.specs.Allocating.{AllocatesForParameters, NothingAskedAlone};
 ghost use Rattle.spki_core.specs.Any.{TagAndContents};
 ghost use Rattle.spki_core.specs.AlgorithmIdentifier.{Algorithm, AlgorithmContents, HasAlgorithm, written_algorithm};
-ghost use Rattle.spki_core.specs.Laws.Algorithms.{algorithm_means_one, algorithm_of_bytes, algorithm_relates, algorithm_shortest, algorithm_decides};
+ghost use Rattle.spki_core.specs.Laws.Algorithms.{algorithm_means_one, algorithm_of_bytes, algorithm_relates};
+ghost use Rattle.spki_core.specs.Laws.Algorithms.{algorithm_shortest, algorithm_decides};
 
 use crate::any::{AnyRef, AnyValue};
 use crate::object_identifier::ObjectIdentifier;
 use der_core::{
-    BackWriter, Contents, Decode, DecodeValue, Encode, EncodeValue, EqualByValue, Error, ErrorKind,
-    Header, Length, Memory, Reader, Result, Sequence, SequenceTag, TaggedBy, Text, TryClone,
+    BackWriter, Contents, Decode, DecodeValue, Encode, EncodeValue, Encoding, EqualByValue, Error,
+    ErrorKind, Header, Length, Memory, Reader, Result, Sequence, SequenceTag, TaggedBy, TryClone,
     Writer, decode_last, encode_optional, joined_len, optional_len, prepend_optional,
 };
 use std::alloc::Global;
@@ -35,22 +36,22 @@ pub struct AlgorithmIdentifier<P> {
 /// An algorithm identifier with borrowed parameters of any tag.
 pub type AlgorithmIdentifierRef<'a> = AlgorithmIdentifier<AnyRef<'a>>;
 
-impl<P: Text> Contents for AlgorithmIdentifier<P> {
+impl<P: Encoding> Contents for AlgorithmIdentifier<P> {
     ghost use Rattle.spki_core.specs.AlgorithmValue.{algorithm_with};
 
     ghost Value = { Algorithm P.Value };
 
     ghost value = { algorithm_with P.value };
 
-    ghost contents = { AlgorithmContents P.text };
+    ghost contents = { AlgorithmContents P.encoding };
 
-    ghost has_contents = { HasAlgorithm P.has_text };
+    ghost has_contents = { HasAlgorithm P.has_encoding };
 
-    ghost written_contents = { written_algorithm P.written_text };
+    ghost written_contents = { written_algorithm P.written_encoding };
 
-    ghost means_one = { algorithm_means_one P.text P.delimited };
+    ghost means_one = { algorithm_means_one P.encoding P.delimited };
 
-    ghost contents_of_bytes = { algorithm_of_bytes P.text P.text_of_bytes };
+    ghost contents_of_bytes = { algorithm_of_bytes P.encoding P.encoding_of_bytes };
 }
 
 impl<P> TaggedBy for AlgorithmIdentifier<P> {
@@ -74,7 +75,7 @@ impl<'a, M: Memory, P: Decode<&'a [u8], M>> DecodeValue<&'a [u8], M> for Algorit
 
     ghost may_allocate = { AllocatesForParameters P.Decode.may_allocate };
 
-    ghost fault = { AlgorithmFault P.text P.Decode.fault };
+    ghost fault = { AlgorithmFault P.encoding P.Decode.fault };
 
     fn decode_value<R: Reader<&'a [u8]>>(
         memory: M,
@@ -86,15 +87,15 @@ impl<'a, M: Memory, P: Decode<&'a [u8], M>> DecodeValue<&'a [u8], M> for Algorit
         Ok(AlgorithmIdentifier { oid, parameters })
     }
 
-    ghost fault_none = { algorithm_fault_none P.text P.Decode.fault P.delimited P.Decode.fault_none };
+    ghost fault_none = { algorithm_fault_none P.encoding P.Decode.fault P.delimited P.Decode.fault_none };
 
     ghost fault_first = { let none = P.Decode.fault_none in
-        algorithm_fault_first P.text P.Decode.fault P.delimited none P.Decode.fault_first };
+        algorithm_fault_first P.encoding P.Decode.fault P.delimited none P.Decode.fault_first };
 }
 
 /// Reading an identifier without parameters never asks for memory, whatever type they would have. It does nothing: the
 /// law is its contract.
-pub fn identifier_alone_takes_no_memory<'a, P: Decode<&'a [u8], M>, M: Memory>()
+pub fn lemma_identifier_alone_takes_no_memory<'a, P: Decode<&'a [u8], M>, M: Memory>()
     ensures { NothingAskedAlone ⟦<AlgorithmIdentifier<P> as Decode<&'a [u8], M>>⟧.may_allocate }
 {}
 
@@ -114,9 +115,9 @@ impl<P: Encode> EncodeValue for AlgorithmIdentifier<P> {
         self.oid.prepend(writer);
     }
 
-    ghost contents_relate = { algorithm_relates P.text P.has_text P.written_text P.text_relates };
+    ghost contents_relate = { algorithm_relates P.encoding P.has_encoding P.written_encoding P.encoding_relates };
 
-    ghost contents_shortest = { algorithm_shortest P.text P.has_text P.written_text P.text_shortest };
+    ghost contents_shortest = { algorithm_shortest P.encoding P.has_encoding P.written_encoding P.encoding_shortest };
 }
 
 impl<P: TryClone> TryClone for AlgorithmIdentifier<P> {

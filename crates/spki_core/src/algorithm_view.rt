@@ -2,14 +2,15 @@
 ghost use Rattle.std.specs.Prelude.{◌≡◌};
 ghost use Rattle.spki_core.specs.Allocating.{AllocatesForParameters};
 ghost use Rattle.spki_core.specs.AlgorithmIdentifier.{Algorithm, AlgorithmContents, HasAlgorithm, written_algorithm};
-ghost use Rattle.spki_core.specs.Laws.Algorithms.{algorithm_means_one, algorithm_of_bytes, algorithm_relates, algorithm_shortest};
+ghost use Rattle.spki_core.specs.Laws.Algorithms.{algorithm_means_one, algorithm_of_bytes, algorithm_relates};
+ghost use Rattle.spki_core.specs.Laws.Algorithms.{algorithm_shortest};
 
 use crate::algorithm_identifier::AlgorithmIdentifier;
 use crate::identifier_view::IdentifierView;
 use der_core::{
-    BackWriter, Contents, Decode, DecodeValue, Encode, EncodeValue, Header, Length, Memory, Reader,
-    Result, SequenceTag, TaggedBy, Text, Writer, decode_last, encode_optional, joined_len,
-    optional_len, prepend_optional,
+    BackWriter, Contents, Decode, DecodeValue, Encode, EncodeValue, Encoding, Header, Length,
+    Memory, Reader, Result, SequenceTag, TaggedBy, Writer, decode_last, encode_optional,
+    joined_len, optional_len, prepend_optional,
 };
 
 /// An algorithm identifier that borrows the octets of its object identifier. Only `keep` copies them.
@@ -37,22 +38,22 @@ impl<'a, P> AlgorithmView<'a, P> {
     }
 }
 
-impl<P: Text> Contents for AlgorithmView<'_, P> {
+impl<P: Encoding> Contents for AlgorithmView<'_, P> {
     ghost use Rattle.spki_core.specs.AlgorithmValue.{viewed_with};
 
     ghost Value = { Algorithm P.Value };
 
     ghost value = { viewed_with P.value };
 
-    ghost contents = { AlgorithmContents P.text };
+    ghost contents = { AlgorithmContents P.encoding };
 
-    ghost has_contents = { HasAlgorithm P.has_text };
+    ghost has_contents = { HasAlgorithm P.has_encoding };
 
-    ghost written_contents = { written_algorithm P.written_text };
+    ghost written_contents = { written_algorithm P.written_encoding };
 
-    ghost means_one = { algorithm_means_one P.text P.delimited };
+    ghost means_one = { algorithm_means_one P.encoding P.delimited };
 
-    ghost contents_of_bytes = { algorithm_of_bytes P.text P.text_of_bytes };
+    ghost contents_of_bytes = { algorithm_of_bytes P.encoding P.encoding_of_bytes };
 }
 
 impl<P> TaggedBy for AlgorithmView<'_, P> {
@@ -65,7 +66,7 @@ impl<'a, M: Memory, P: Decode<&'a [u8], M>> DecodeValue<&'a [u8], M> for Algorit
 
     ghost may_allocate = { AllocatesForParameters P.Decode.may_allocate };
 
-    ghost fault = { AlgorithmFault P.text P.Decode.fault };
+    ghost fault = { AlgorithmFault P.encoding P.Decode.fault };
 
     #[inline(always)]
     fn decode_value<R: Reader<&'a [u8]>>(
@@ -78,10 +79,10 @@ impl<'a, M: Memory, P: Decode<&'a [u8], M>> DecodeValue<&'a [u8], M> for Algorit
         Ok(AlgorithmView { oid, parameters })
     }
 
-    ghost fault_none = { algorithm_fault_none P.text P.Decode.fault P.delimited P.Decode.fault_none };
+    ghost fault_none = { algorithm_fault_none P.encoding P.Decode.fault P.delimited P.Decode.fault_none };
 
     ghost fault_first = { let none = P.Decode.fault_none in
-        algorithm_fault_first P.text P.Decode.fault P.delimited none P.Decode.fault_first };
+        algorithm_fault_first P.encoding P.Decode.fault P.delimited none P.Decode.fault_first };
 }
 
 impl<P: Encode> EncodeValue for AlgorithmView<'_, P> {
@@ -100,7 +101,7 @@ impl<P: Encode> EncodeValue for AlgorithmView<'_, P> {
         self.oid.prepend(writer);
     }
 
-    ghost contents_relate = { algorithm_relates P.text P.has_text P.written_text P.text_relates };
+    ghost contents_relate = { algorithm_relates P.encoding P.has_encoding P.written_encoding P.encoding_relates };
 
-    ghost contents_shortest = { algorithm_shortest P.text P.has_text P.written_text P.text_shortest };
+    ghost contents_shortest = { algorithm_shortest P.encoding P.has_encoding P.written_encoding P.encoding_shortest };
 }

@@ -1,18 +1,19 @@
 //! Encodings of any tag.
-ghost use Rattle.std.specs.Prelude.{◌≡◌, ◌≢◌, ◌≤◌, ◌<◌, ℕ, [], length, slice_index, refl, ⊤, IfOk, IsOk, IfErr, IsErrAnd, IsTrue};
+ghost use Rattle.std.specs.Prelude.{◌≡◌, ◌≢◌, ◌≤◌, ◌<◌, ℕ, [], length, slice_index, refl, ⊤, IfOk, IsOk, IfErr};
+ghost use Rattle.std.specs.Prelude.{IsErrAnd, IsTrue};
 ghost use Rattle.der_core.specs.Length.{limit};
 ghost use Rattle.der_core.specs.Tag.{is_allowed};
 ghost use Rattle.der_core.specs.Faults.{Faulty, FaultyFront};
-ghost use Rattle.der_core.specs.Reading.{ReadsText, Refuses};
+ghost use Rattle.der_core.specs.Reading.{ReadsEncoding, Rejects};
 ghost use Rattle.spki_core.specs.Faults.{AnyFault, OtherAnyFault};
 ghost use Rattle.der_core.specs.declared.error.ErrorKind as der;
-ghost use Rattle.der_core.specs.Refusal.{IsUnexpected};
+ghost use Rattle.der_core.specs.ErrorKinds.{IsUnexpected};
 ghost use Rattle.spki_core.specs.Any.{TagAndContents, IsAny, Any, null_value, written_any};
-ghost use Rattle.spki_core.specs.Laws.AnyTexts.{any_delimited, any_of_bytes, any_relates, any_shortest};
+ghost use Rattle.spki_core.specs.Laws.AnyEncodings.{any_delimited, any_of_bytes, any_relates, any_shortest};
 
 use der_core::{
-    BackWriter, Decode, DecodeValue, Encode, EqualByValue, Error, ErrorKind, FixedTag, Header,
-    Length, Memory, Reader, Result, SliceReader, Tag, Text, TryClone, Writer,
+    BackWriter, Decode, DecodeValue, Encode, Encoding, EqualByValue, Error, ErrorKind, FixedTag,
+    Header, Length, Memory, Reader, Result, SliceReader, Tag, TryClone, Writer,
 };
 use std::alloc::Global;
 use std::fmt;
@@ -113,7 +114,7 @@ impl<'a> AnyRef<'a> {
             IfOk result (λ value. (any.tag ≡ T.TAG.octet) × T.contents (T.value value) any.contents) }
         ensures err { let any = any_of self.entry in
             let no_value : Type 0 = (value : T.Value) → any.tag ≡ T.TAG.octet → T.contents value any.contents → ⊥ in
-            IfErr result (λ e. Refuses e.kind (T.may_allocate any.contents) no_value) }
+            IfErr result (λ e. Rejects e.kind (T.may_allocate any.contents) no_value) }
         ensures tag { let tag = (any_of self.entry).tag in
             IfErr result (λ e. tag ≢ T.TAG.octet → IsUnexpected T.TAG tag e.kind) }
         ensures exact { let any = any_of self.entry in
@@ -145,22 +146,22 @@ impl<'a> AnyRef<'a> {
     }
 }
 
-impl Text for AnyRef<'_> {
+impl Encoding for AnyRef<'_> {
     ghost use Rattle.spki_core.specs.AnyRefValue.{any_of};
 
     ghost Value = { TagAndContents };
 
     ghost value = { any_of };
 
-    ghost text = { Any };
+    ghost encoding = { Any };
 
-    ghost has_text = { IsAny };
+    ghost has_encoding = { IsAny };
 
-    ghost written_text = { written_any };
+    ghost written_encoding = { written_any };
 
     ghost delimited = { any_delimited };
 
-    ghost text_of_bytes = { any_of_bytes };
+    ghost encoding_of_bytes = { any_of_bytes };
 }
 
 impl<'a, M: Memory> Decode<&'a [u8], M> for AnyRef<'a> {
@@ -190,7 +191,7 @@ impl<'a, M: Memory> Decode<&'a [u8], M> for AnyRef<'a> {
 /// Reads the encoding at the front of what is left.
 #[inline(always)]
 fn read_any<'a, R: Reader<&'a [u8]>>(reader: &mut R) -> Result<AnyRef<'a>>
-    ensures text { ReadsText (λ (any : AnyRef). record { tag = any.tag.octet; contents = any.contents.now })
+    ensures encoding { ReadsEncoding (λ (any : AnyRef). record { tag = any.tag.octet; contents = any.contents.now })
         Any (λ _. ⊥) result (R.left reader.old) (R.left reader.new) }
     ensures exact { IfErr result (λ e. FaultyFront AnyFault (λ _. ⊥) e.kind (R.left reader.old)) }
 {
@@ -218,9 +219,9 @@ impl Encode for AnyRef<'_> {
         writer.prepend_header(self.header());
     }
 
-    ghost text_relates = { any_relates };
+    ghost encoding_relates = { any_relates };
 
-    ghost text_shortest = { any_shortest };
+    ghost encoding_shortest = { any_shortest };
 }
 
 impl<'a> TryClone for AnyRef<'a> {
@@ -250,11 +251,11 @@ pub trait AnyValue: EqualByValue {
     fn as_any_ref(&self) -> AnyRef<'_>
         ensures { any_of result ≡ any self.now };
 
-    ghost holds: { HoldsAny Self.value Self.text Self.any };
+    ghost holds: { HoldsAny Self.value Self.encoding Self.any };
 }
 
 impl EqualByValue for AnyRef<'_> {
-    ghost use Rattle.spki_core.specs.Laws.AnyTexts.{any_decides};
+    ghost use Rattle.spki_core.specs.Laws.AnyEncodings.{any_decides};
 
     ghost decides = { λ a b. any_decides a.tag.octet b.tag.octet a.contents.now b.contents.now };
 }

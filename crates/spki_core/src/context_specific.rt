@@ -3,16 +3,17 @@ ghost use Rattle.std.specs.Prelude.{IfErr, ◌≡◌, ◌+◌};
 ghost use Rattle.der_core.specs.Tag.{context_tag};
 ghost use Rattle.der_core.specs.Tlv.{Tlv};
 ghost use Rattle.der_core.specs.declared.tag.Tag.{Tag};
-ghost use Rattle.der_core.specs.Faults.{TextFault, AloneFault, FaultyFront, OnlyFront};
-ghost use Rattle.der_core.specs.Reading.{ReadsText, ReadsOptional, AllocatesIn, TellsNext};
+ghost use Rattle.der_core.specs.Faults.{EncodingFault, AloneFault, FaultyFront, OnlyFront};
+ghost use Rattle.der_core.specs.Reading.{ReadsEncoding, ReadsOptional, AllocatesIn, TellsNext};
 ghost use Rattle.spki_core.specs.Allocating.{FieldAllocates};
 ghost use Rattle.spki_core.specs.Faults.{NextFault};
 ghost use Rattle.spki_core.specs.ContextSpecific.{Numbered, ContextSpecific, HasNumbered, written_numbered};
-ghost use Rattle.spki_core.specs.Laws.ContextSpecific.{numbered_delimited, numbered_of_bytes, numbered_relates, numbered_shortest};
+ghost use Rattle.spki_core.specs.Laws.ContextSpecific.{numbered_delimited, numbered_of_bytes, numbered_relates};
+ghost use Rattle.spki_core.specs.Laws.ContextSpecific.{numbered_shortest};
 
 use der_core::{
-    BackWriter, Decode, Encode, ErrorKind, Header, Length, Memory, Reader, Result, Tag, TagNumber,
-    Text, Writer, decode_whole, is_tag_next,
+    BackWriter, Decode, Encode, Encoding, ErrorKind, Header, Length, Memory, Reader, Result, Tag,
+    TagNumber, Writer, decode_whole, is_tag_next,
 };
 
 /// A borrowed value that is written inside the tag `[tag_number]`.
@@ -32,20 +33,20 @@ impl<'b, T> ContextSpecificRef<'b, T> {
     }
 }
 
-impl<'b, T: Text> Text for ContextSpecificRef<'b, T> {
+impl<'b, T: Encoding> Encoding for ContextSpecificRef<'b, T> {
     ghost Value = { Numbered T.Value };
 
     ghost value = { λ v. record { number = v.tag_number.value; value = T.value v.value.now } };
 
-    ghost text = { ContextSpecific T.text };
+    ghost encoding = { ContextSpecific T.encoding };
 
-    ghost has_text = { HasNumbered T.has_text };
+    ghost has_encoding = { HasNumbered T.has_encoding };
 
-    ghost written_text = { written_numbered T.written_text };
+    ghost written_encoding = { written_numbered T.written_encoding };
 
-    ghost delimited = { numbered_delimited T.text T.delimited };
+    ghost delimited = { numbered_delimited T.encoding T.delimited };
 
-    ghost text_of_bytes = { numbered_of_bytes T.text T.text_of_bytes };
+    ghost encoding_of_bytes = { numbered_of_bytes T.encoding T.encoding_of_bytes };
 }
 
 impl<'b, T: Encode> Encode for ContextSpecificRef<'b, T> {
@@ -71,9 +72,9 @@ impl<'b, T: Encode> Encode for ContextSpecificRef<'b, T> {
         });
     }
 
-    ghost text_relates = { numbered_relates T.text T.has_text T.written_text T.text_relates };
+    ghost encoding_relates = { numbered_relates T.encoding T.has_encoding T.written_encoding T.encoding_relates };
 
-    ghost text_shortest = { numbered_shortest T.text T.has_text T.written_text T.text_shortest };
+    ghost encoding_shortest = { numbered_shortest T.encoding T.has_encoding T.written_encoding T.encoding_shortest };
 }
 
 /// Whether the next octet is that of the field's tag. Nothing is read. `Failed` on a reader that has failed.
@@ -93,13 +94,13 @@ pub fn read_context_specific<'a, T: Decode<&'a [u8], M>, M: Memory, R: Reader<&'
 ) -> Result<Option<T>>
     ensures reads { let tag = context_tag number.value in
         let may = FieldAllocates number.value T.Decode.may_allocate in
-        ReadsOptional tag T.value (λ v. Tlv tag (T.text v)) may result (R.left reader.old) (R.left reader.new) }
+        ReadsOptional tag T.value (λ v. Tlv tag (T.encoding v)) may result (R.left reader.old) (R.left reader.new) }
     ensures exact { let may = FieldAllocates number.value T.Decode.may_allocate in
-        let fault = λ (tag : Tag). NextFault number.value (TextFault tag (AloneFault T.text T.Decode.fault)) in
+        let fault = λ (tag : Tag). NextFault number.value (EncodingFault tag (AloneFault T.encoding T.Decode.fault)) in
         IfErr result (λ e. (tag : Tag) → tag.octet ≡ context_tag number.value
         → FaultyFront (fault tag) may e.kind (R.left reader.old)) }
     ensures only { let may = FieldAllocates number.value T.Decode.may_allocate in
-        let fault = λ (tag : Tag). NextFault number.value (TextFault tag (AloneFault T.text T.Decode.fault)) in
+        let fault = λ (tag : Tag). NextFault number.value (EncodingFault tag (AloneFault T.encoding T.Decode.fault)) in
         (tag : Tag) → tag.octet ≡ context_tag number.value → OnlyFront (fault tag) may result (R.left reader.old) }
 {
     if !is_field_next(reader, number)? {
@@ -116,14 +117,14 @@ pub fn read_explicit<'a, T: Decode<&'a [u8], M>, M: Memory, R: Reader<&'a [u8]>>
     reader: &mut R,
     number: TagNumber,
 ) -> Result<T>
-    ensures text { let tag = context_tag number.value in
+    ensures encoding { let tag = context_tag number.value in
         let may = FieldAllocates number.value T.Decode.may_allocate in
-        ReadsText T.value (λ v. Tlv tag (T.text v)) may result (R.left reader.old) (R.left reader.new) }
+        ReadsEncoding T.value (λ v. Tlv tag (T.encoding v)) may result (R.left reader.old) (R.left reader.new) }
     ensures exact { let may = FieldAllocates number.value T.Decode.may_allocate in
         IfErr result (λ e. (tag : Tag) → tag.octet ≡ context_tag number.value
-        → FaultyFront (TextFault tag (AloneFault T.text T.Decode.fault)) may e.kind (R.left reader.old)) }
+        → FaultyFront (EncodingFault tag (AloneFault T.encoding T.Decode.fault)) may e.kind (R.left reader.old)) }
     ensures only { let may = FieldAllocates number.value T.Decode.may_allocate in
-        let fault = λ (tag : Tag). TextFault tag (AloneFault T.text T.Decode.fault) in
+        let fault = λ (tag : Tag). EncodingFault tag (AloneFault T.encoding T.Decode.fault) in
         (tag : Tag) → tag.octet ≡ context_tag number.value → OnlyFront (fault tag) may result (R.left reader.old) }
 {
     read_inside(memory, reader, Tag::context(number))
@@ -136,10 +137,10 @@ fn read_inside<'a, T: Decode<&'a [u8], M>, M: Memory, R: Reader<&'a [u8]>>(
     reader: &mut R,
     tag: Tag,
 ) -> Result<T>
-    ensures text { let may = Tlv tag.octet (AllocatesIn T.Decode.may_allocate) in
-        ReadsText T.value (λ v. Tlv tag.octet (T.text v)) may result (R.left reader.old) (R.left reader.new) }
+    ensures encoding { let may = Tlv tag.octet (AllocatesIn T.Decode.may_allocate) in
+        ReadsEncoding T.value (λ v. Tlv tag.octet (T.encoding v)) may result (R.left reader.old) (R.left reader.new) }
     ensures exact { let may = Tlv tag.octet (AllocatesIn T.Decode.may_allocate) in
-        let fault = TextFault tag (AloneFault T.text T.Decode.fault) in
+        let fault = EncodingFault tag (AloneFault T.encoding T.Decode.fault) in
         IfErr result (λ e. FaultyFront fault may e.kind (R.left reader.old)) }
 {
     let header = Header::decode(reader)?;

@@ -5,7 +5,7 @@ ghost use Rattle.der_core.specs.BackWriters.{free_of, Prepends};
 ghost use Rattle.der_core.specs.Writing.{Counts, Appends};
 ghost use Rattle.der_core.specs.declared.tag.Tag.{Tag};
 ghost use Rattle.der_core.specs.Tag.{context_tag};
-ghost use Rattle.der_core.specs.Faults.{TextFault, AloneFault, FaultyFront, OnlyFront};
+ghost use Rattle.der_core.specs.Faults.{EncodingFault, AloneFault, FaultyFront, OnlyFront};
 ghost use Rattle.spki_core.specs.Allocating.{FieldAllocates};
 ghost use Rattle.spki_core.specs.Faults.{NextFault};
 ghost use Rattle.spki_core.specs.FieldReading.{ReadsField};
@@ -13,7 +13,8 @@ ghost use Rattle.spki_core.specs.FieldWriting.{HasField, written_field};
 
 use crate::context_specific::{ContextSpecificRef, is_field_next, read_explicit};
 use der_core::{
-    BackWriter, Decode, Encode, ErrorKind, Length, Memory, Reader, Result, TagNumber, Text, Writer,
+    BackWriter, Decode, Encode, Encoding, ErrorKind, Length, Memory, Reader, Result, TagNumber,
+    Writer,
 };
 
 /// Reads an explicit field, or returns its default if the next octet isn't that of its tag. If the default is costly to
@@ -26,13 +27,14 @@ pub fn read_field<'a, T: Decode<&'a [u8], M>, M: Memory, R: Reader<&'a [u8]>>(
     default: T,
 ) -> Result<T>
     ensures reads { let may = T.Decode.may_allocate in
-        ReadsField number.value T.value T.text (T.value default) may result (R.left reader.old) (R.left reader.new) }
+        ReadsField number.value T.value T.encoding (T.value default) may result (R.left reader.old)
+        (R.left reader.new) }
     ensures exact { let may = FieldAllocates number.value T.Decode.may_allocate in
-        let fault = λ (tag : Tag). NextFault number.value (TextFault tag (AloneFault T.text T.Decode.fault)) in
+        let fault = λ (tag : Tag). NextFault number.value (EncodingFault tag (AloneFault T.encoding T.Decode.fault)) in
         IfErr result (λ e. (tag : Tag) → tag.octet ≡ context_tag number.value
         → FaultyFront (fault tag) may e.kind (R.left reader.old)) }
     ensures only { let may = FieldAllocates number.value T.Decode.may_allocate in
-        let fault = λ (tag : Tag). NextFault number.value (TextFault tag (AloneFault T.text T.Decode.fault)) in
+        let fault = λ (tag : Tag). NextFault number.value (EncodingFault tag (AloneFault T.encoding T.Decode.fault)) in
         (tag : Tag) → tag.octet ≡ context_tag number.value → OnlyFront (fault tag) may result (R.left reader.old) }
     ensures failed { R.left reader.old ≡ None → IsErrAnd result (λ e. e.kind ≡ ErrorKind.Failed) }
 {
@@ -46,7 +48,8 @@ pub fn read_field<'a, T: Decode<&'a [u8], M>, M: Memory, R: Reader<&'a [u8]>>(
 /// The length of what is written for a field, which may be left out.
 pub fn field_len<T: Encode>(left_out: bool, tag_number: TagNumber, value: &T) -> Result<Length>
     ensures { let v = T.value value.now in
-        Counts (HasField left_out (T.has_text v)) (written_field left_out tag_number.value (T.written_text v)) result }
+        Counts (HasField left_out (T.has_encoding v)) (written_field left_out tag_number.value (T.written_encoding v))
+        result }
 {
     if left_out {
         Ok(Length::ZERO)
@@ -62,8 +65,8 @@ pub fn encode_field<T: Encode, W: Writer>(
     value: &T,
     writer: &mut W,
 ) -> Result<()>
-    ensures appends { let has = HasField left_out (T.has_text (T.value value.now)) in
-        let octets = written_field left_out tag_number.value (T.written_text (T.value value.now)) in
+    ensures appends { let has = HasField left_out (T.has_encoding (T.value value.now)) in
+        let octets = written_field left_out tag_number.value (T.written_encoding (T.value value.now)) in
         Appends has octets W.room W.written writer.old writer.new result }
     ensures kept { W.keeps writer.old writer.new }
 {
@@ -81,11 +84,11 @@ pub fn prepend_field<T: Encode>(
     value: &T,
     writer: &mut BackWriter<'_>,
 )
-    requires has { HasField left_out (T.has_text (T.value value.now)) }
-    requires fits { length (written_field left_out tag_number.value (T.written_text (T.value value.now))) ≤ limit }
-    requires room { length (written_field left_out tag_number.value (T.written_text (T.value value.now)))
+    requires has { HasField left_out (T.has_encoding (T.value value.now)) }
+    requires fits { length (written_field left_out tag_number.value (T.written_encoding (T.value value.now))) ≤ limit }
+    requires room { length (written_field left_out tag_number.value (T.written_encoding (T.value value.now)))
         ≤ free_of writer.old }
-    ensures { Prepends (written_field left_out tag_number.value (T.written_text (T.value value.now)))
+    ensures { Prepends (written_field left_out tag_number.value (T.written_encoding (T.value value.now)))
         writer.old writer.new }
 {
     if !left_out {

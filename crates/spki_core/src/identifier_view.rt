@@ -2,7 +2,8 @@
 ghost use Rattle.std.specs.Prelude.{◌≡◌, ℕ, ◌<◌, List, slice_index, IsTrue, IfOk, IfErr};
 ghost use Rattle.spki_core.specs.IdentifierTest as specs;
 ghost use Rattle.spki_core.specs.ObjectIdentifier.{IsIdentifier, IdentifierContents};
-ghost use Rattle.spki_core.specs.Laws.Identifiers.{identifier_means_one, identifier_contents_of_bytes, identifier_contents_relate, identifier_contents_shortest};
+ghost use Rattle.spki_core.specs.Laws.Identifiers.{identifier_means_one, identifier_contents_of_bytes};
+ghost use Rattle.spki_core.specs.Laws.Identifiers.{identifier_contents_relate, identifier_contents_shortest};
 
 use crate::object_identifier::{
     AssociatedOid, ObjectIdentifier, ObjectIdentifierTag, is_identifier,

@@ -13,7 +13,7 @@ mod strict;
 
 pub use algorithm_identifier::{
     AlgorithmIdentifier, AlgorithmIdentifierRef, AsAlgorithmIdentifierRef,
-    identifier_alone_takes_no_memory,
+    lemma_identifier_alone_takes_no_memory,
 };
 pub use algorithm_view::AlgorithmView;
 pub use any::{AnyParams, AnyRef, AnyValue};

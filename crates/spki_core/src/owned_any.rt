@@ -3,12 +3,12 @@ ghost use Rattle.std.specs.Prelude.{◌≡◌, ◌≤◌, ◌<◌, ◌⊎◌, �
 ghost use Rattle.der_core.specs.Length.{limit};
 ghost use Rattle.spki_core.specs.Any.{TagAndContents, IsAny, written_any};
 ghost use Rattle.spki_core.specs.Any as grammar;
-ghost use Rattle.spki_core.specs.Laws.AnyTexts.{any_delimited, any_of_bytes, any_relates, any_shortest};
+ghost use Rattle.spki_core.specs.Laws.AnyEncodings.{any_delimited, any_of_bytes, any_relates, any_shortest};
 
 use crate::any::{AnyParams, AnyRef, AnyValue};
 use der_core::{
-    BackWriter, Decode, Encode, EqualByValue, Error, ErrorKind, Length, NoMemory, Reader, Result,
-    Tag, Text, TryClone, Writer,
+    BackWriter, Decode, Encode, Encoding, EqualByValue, Error, ErrorKind, Length, NoMemory, Reader,
+    Result, Tag, TryClone, Writer,
 };
 use std::alloc::Global;
 
@@ -52,22 +52,22 @@ impl Any {
     }
 }
 
-impl Text for Any {
+impl Encoding for Any {
     ghost use Rattle.spki_core.specs.OwnedAnyValue.{any_in};
 
     ghost Value = { TagAndContents };
 
     ghost value = { any_in };
 
-    ghost text = { grammar.Any };
+    ghost encoding = { grammar.Any };
 
-    ghost has_text = { IsAny };
+    ghost has_encoding = { IsAny };
 
-    ghost written_text = { written_any };
+    ghost written_encoding = { written_any };
 
     ghost delimited = { any_delimited };
 
-    ghost text_of_bytes = { any_of_bytes };
+    ghost encoding_of_bytes = { any_of_bytes };
 }
 
 impl<'a> Decode<&'a [u8], Global> for Any {
@@ -109,13 +109,13 @@ impl Encode for Any {
         self.as_any_ref().prepend(writer);
     }
 
-    ghost text_relates = { any_relates };
+    ghost encoding_relates = { any_relates };
 
-    ghost text_shortest = { any_shortest };
+    ghost encoding_shortest = { any_shortest };
 }
 
 impl EqualByValue for Any {
-    ghost use Rattle.spki_core.specs.Laws.AnyTexts.{any_decides};
+    ghost use Rattle.spki_core.specs.Laws.AnyEncodings.{any_decides};
 
     ghost decides = { λ a b. any_decides a.tag.octet b.tag.octet a.contents.items b.contents.items };
 }

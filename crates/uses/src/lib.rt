@@ -2,13 +2,13 @@
 #![tactic(auto)]
 
 mod bytes;
+mod errors;
 mod files;
 mod marks;
 mod primes;
-mod refusals;
 
 pub use bytes::{modulus_of, public_half};
+pub use errors::Advice;
 pub use files::publish;
 pub use marks::{Sha1, Sha256};
 pub use primes::primes_of;
-pub use refusals::Advice;

@@ -9,7 +9,7 @@ use Rattle.der_core.specs.Laws.Input.{ok_pair}
 use Rattle.der_core.specs.Integer.{IsCanonical, IntegerContents, SmallContents}
 use Rattle.der_core.specs.IntegerReading.{integer_of, as_small, small_of}
 use Rattle.der_core.specs.Laws.LengthReading.{chosen}
-use Rattle.der_core.specs.Texts.{AreBytes}
+use Rattle.der_core.specs.Encodings.{AreBytes}
 use Rattle.der_core.specs.declared.error.ErrorKind.{ErrorKind}
 use Rattle.der_core.specs.Reading.{HoldsBytes}
 

@@ -6,9 +6,9 @@ use Rattle.der_core.specs.declared.tag.Tag.{Tag}
 use Rattle.der_core.specs.Document.{Means}
 use Rattle.std.specs.Prelude.{slice_get, IfErr, IsErrAnd}
 use Rattle.der_core.specs.declared.error.Error.{Error}
-use Rattle.der_core.specs.Faults.{TextFault, in_header, other_tag, too_short, in_contents, ThenFault, EndFault, ItemsFault, AloneFault, LastFault, TaggedLastFault, WholeFault, IntegerFault, SmallFault, NoFault, DocumentFault, AreNone, AreFirst, Faulty, FaultyFront, FaultyWhole, OnlyFront, OnlyWhole}
+use Rattle.der_core.specs.Faults.{EncodingFault, in_header, other_tag, too_short, in_contents, ThenFault, EndFault, ItemsFault, AloneFault, LastFault, TaggedLastFault, WholeFault, IntegerFault, SmallFault, NoFault, DocumentFault, AreNone, AreFirst, Faulty, FaultyFront, FaultyWhole, OnlyFront, OnlyWhole}
 use Rattle.der_core.specs.Laws.Headers.{tlv_header, header_complete, header_at-tells}
-use Rattle.der_core.specs.Headers.{HeaderText}
+use Rattle.der_core.specs.Headers.{HeaderEncoding}
 use Rattle.der_core.specs.Input.{Input, left_in, header_at}
 use Rattle.der_core.specs.Laws.Input.{ok_pair}
 use Rattle.der_core.specs.Laws.ItemReads.{joins_none}
@@ -17,13 +17,13 @@ use Rattle.der_core.specs.SequenceOf.{ItemsContents}
 use Rattle.der_core.specs.Integer.{IntegerContents, SmallContents}
 use Rattle.der_core.specs.Length.{limit}
 use Rattle.der_core.specs.Laws.Lists.{same_fronts}
-use Rattle.der_core.specs.Reading.{NoneHas, NoneIn, AllocatesIn, ReadsOrFaults, ReadsText}
+use Rattle.der_core.specs.Reading.{NoneHas, NoneIn, AllocatesIn, ReadsOrFaults, ReadsEncoding}
 use Rattle.der_core.specs.Laws.SmallReading.{integer_none, integer_tells, small_none, small_tells}
 use Rattle.der_core.specs.Laws.Tags.{same_tag}
 use Rattle.der_core.specs.Laws.Tells.{is_incomplete, is_other_tag, is_trailing}
 use Rattle.der_core.specs.Tags.{sequence}
-use Rattle.der_core.specs.Laws.Texts.{tlv_delimited}
-use Rattle.der_core.specs.Texts.{AreBytes, Then, IsDelimited, MeansOne}
+use Rattle.der_core.specs.Laws.Encodings.{tlv_delimited}
+use Rattle.der_core.specs.Encodings.{AreBytes, Then, IsDelimited, MeansOne}
 use Rattle.der_core.specs.Tlv.{Tlv}
 
 -- INTEGER
@@ -43,41 +43,41 @@ pub small_fault_first : AreFirst SmallFault
 small_fault_first j k c within p q = err_one _ j k p q
 
 -- what a header with these bytes behind it is read as
-read_as : {t n : ℕ} (i header rest : List ℕ) → HeaderText (t, n) header → i ≡ header ++ rest → header_at i ≡ Ok ((t, n), rest)
+read_as : {t n : ℕ} (i header rest : List ℕ) → HeaderEncoding (t, n) header → i ≡ header ++ rest → header_at i ≡ Ok ((t, n), rest)
 read_as {t} {n} i header rest h is = ap header_at is ∙ header_complete (t, n) header rest h
 
 -- An encoding with a tag.
 module _ (tag : Tag) (Fault : ErrorKind → List ℕ → Type 0) where
-  pub text_fault_none : {V : Type 0} (contents : V → List ℕ → Type 0) → AreNone (NoneHas contents) Fault → AreNone (NoneIn (λ v. Tlv tag.octet (contents v))) (TextFault tag Fault)
-  text_fault_none contents none k i within (in_header e) = (
+  pub encoding_fault_none : {V : Type 0} (contents : V → List ℕ → Type 0) → AreNone (NoneHas contents) Fault → AreNone (NoneIn (λ v. Tlv tag.octet (contents v))) (EncodingFault tag Fault)
+  encoding_fault_none contents none k i within (in_header e) = (
     header_at-tells i k e,
-    λ v b rest split text.
-        let found = tlv_header tag.octet b i rest tag.allowed within text split in
+    λ v b rest split encoding.
+        let found = tlv_header tag.octet b i rest tag.allowed within encoding split in
         cc,
   )
-  text_fault_none contents none k i within (other_tag actual n header rest h is ne kind) = (
+  encoding_fault_none contents none k i within (other_tag actual n header rest h is ne kind) = (
     is_other_tag kind,
-    λ v b more split text.
-        let found = tlv_header tag.octet b i more tag.allowed within text split in
-        let parts = ok_pair (actual.octet, n) (tag.octet, length text.contents) rest (text.contents ++ more) (sym (read_as i header rest h is) ∙ found) in
+    λ v b more split encoding.
+        let found = tlv_header tag.octet b i more tag.allowed within encoding split in
+        let parts = ok_pair (actual.octet, n) (tag.octet, length encoding.contents) rest (encoding.contents ++ more) (sym (read_as i header rest h is) ∙ found) in
         ne (ap (λ p. p.0) parts.0),
   )
-  text_fault_none contents none k i within (too_short n header rest h is few kind) = (
+  encoding_fault_none contents none k i within (too_short n header rest h is few kind) = (
     is_incomplete kind,
-    λ v b more split text.
-        let found = tlv_header tag.octet b i more tag.allowed within text split in
-        let parts = ok_pair (tag.octet, n) (tag.octet, length text.contents) rest (text.contents ++ more) (sym (read_as i header rest h is) ∙ found) in
-        let number : n ≡ length text.contents = ap (λ p. p.1) parts.0 in
-        omega (arith, few, number, ap length parts.1, length-append text.contents more),
+    λ v b more split encoding.
+        let found = tlv_header tag.octet b i more tag.allowed within encoding split in
+        let parts = ok_pair (tag.octet, n) (tag.octet, length encoding.contents) rest (encoding.contents ++ more) (sym (read_as i header rest h is) ∙ found) in
+        let number : n ≡ length encoding.contents = ap (λ p. p.1) parts.0 in
+        omega (arith, few, number, ap length parts.1, length-append encoding.contents more),
   )
-  text_fault_none contents none k i within (in_contents header c rest h is fault) =
+  encoding_fault_none contents none k i within (in_contents header c rest h is fault) =
       let told = none k c h.2.0 fault in (
         told.0,
-        λ v b more split text.
-            let found = tlv_header tag.octet b i more tag.allowed within text split in
-            let parts = ok_pair (tag.octet, length c) (tag.octet, length text.contents) (c ++ rest) (text.contents ++ more) (sym (read_as i header (c ++ rest) h is) ∙ found) in
-            let same = same_fronts c rest text.contents more (ap (λ p. p.1) parts.0) parts.1 in
-            told.1 v (rw same.0 text.holds),
+        λ v b more split encoding.
+            let found = tlv_header tag.octet b i more tag.allowed within encoding split in
+            let parts = ok_pair (tag.octet, length c) (tag.octet, length encoding.contents) (c ++ rest) (encoding.contents ++ more) (sym (read_as i header (c ++ rest) h is) ∙ found) in
+            let same = same_fronts c rest encoding.contents more (ap (λ p. p.1) parts.0) parts.1 in
+            told.1 v (rw same.0 encoding.holds),
       )
 
   -- the fault, by the result of reading the header
@@ -88,7 +88,7 @@ module _ (tag : Tag) (Fault : ErrorKind → List ℕ → Type 0) where
       ⊎ ((p.0.0 ≡ tag.octet) × (length p.1 < p.0.1) × (k ≡ Incomplete))
       ⊎ ((p.0.0 ≡ tag.octet) × (c : List ℕ) × (rest : List ℕ) × (p.1 ≡ c ++ rest) × (length c ≡ p.0.1) × (length c ≤ limit) × Fault k c)
 
-  fault_at : (k : ErrorKind) (i : List ℕ) → TextFault tag Fault k i → FaultAt k (header_at i)
+  fault_at : (k : ErrorKind) (i : List ℕ) → EncodingFault tag Fault k i → FaultAt k (header_at i)
   unfolding FaultAt
   fault_at k i (in_header e) = rw e refl
   fault_at k i (other_tag actual n header rest h is ne kind) = rw (read_as i header rest h is) (inl (actual, refl, ne, kind))
@@ -110,14 +110,14 @@ module _ (tag : Tag) (Fault : ErrorKind → List ℕ → Type 0) where
       let same = same_fronts c rest d more (len ∙ sym count) (sym is ∙ are) in
       first j k c within fault (rw same.0 other)
 
-  pub text_fault_first : AreFirst Fault → AreFirst (TextFault tag Fault)
-  text_fault_first first j k i within p q = first_at first j k (header_at i) (fault_at j i p) (fault_at k i q)
+  pub encoding_fault_first : AreFirst Fault → AreFirst (EncodingFault tag Fault)
+  encoding_fault_first first j k i within p q = first_at first j k (header_at i) (fault_at j i p) (fault_at k i q)
 
 -- Parts that follow one another.
-module _ {A : Type 0} (text : A → List ℕ → Type 0) (Fault : ErrorKind → List ℕ → Type 0) (Behind : A → ErrorKind → List ℕ → Type 0)
-    (d : IsDelimited text) (none : AreNone (NoneIn text) Fault) where
+module _ {A : Type 0} (encoding : A → List ℕ → Type 0) (Fault : ErrorKind → List ℕ → Type 0) (Behind : A → ErrorKind → List ℕ → Type 0)
+    (d : IsDelimited encoding) (none : AreNone (NoneIn encoding) Fault) where
   pub then_fault_none : {V : Type 0} (part : V → A) (Rest : V → List ℕ → Type 0) → ((a : A) → AreNone (λ c. (v : V) → part v ≡ a → Rest v c → ⊥) (Behind a))
-      → AreNone (NoneHas (λ v. Then (text (part v)) (Rest v))) (ThenFault text Fault Behind)
+      → AreNone (NoneHas (λ v. Then (encoding (part v)) (Rest v))) (ThenFault encoding Fault Behind)
   then_fault_none part Rest behind k c within (inl fault) = let told = none k c within fault in (told.0, λ v p. told.1 (part v) p.0 p.1 p.4 p.2)
   then_fault_none part Rest behind k c within (inr (a, (x, y, t, fault, is))) =
       let few : length y ≤ limit = omega (arith, within, ap length is, length-append x y) in
@@ -130,7 +130,7 @@ module _ {A : Type 0} (text : A → List ℕ → Type 0) (Fault : ErrorKind → 
             told.1 v (sym one.1) (rw tails.1 p.3),
       )
 
-  pub then_fault_first : AreFirst Fault → ((a : A) → AreFirst (Behind a)) → AreFirst (ThenFault text Fault Behind)
+  pub then_fault_first : AreFirst Fault → ((a : A) → AreFirst (Behind a)) → AreFirst (ThenFault encoding Fault Behind)
   then_fault_first first behind j k c within (inl p) (inl q) = first j k c within p q
   then_fault_first first behind j k c within (inl p) (inr (a, (x, y, t, fault, is))) = absurd ((none j c within p).1 a x y is t)
   then_fault_first first behind j k c within (inr (a, (x, y, t, fault, is))) (inl q) = absurd ((none k c within q).1 a x y is t)
@@ -148,15 +148,15 @@ pub end_fault_first : AreFirst EndFault
 end_fault_first j k c within p q = p.1 ∙ sym q.1
 
 -- Items.
-module _ {V : Type 0} (text : V → List ℕ → Type 0) (Fault : ErrorKind → List ℕ → Type 0) (d : IsDelimited text) (none : AreNone (NoneIn text) Fault) where
-  pub items_fault_none : AreNone (NoneHas (ItemsContents text)) (ItemsFault text Fault)
+module _ {V : Type 0} (encoding : V → List ℕ → Type 0) (Fault : ErrorKind → List ℕ → Type 0) (d : IsDelimited encoding) (none : AreNone (NoneIn encoding) Fault) where
+  pub items_fault_none : AreNone (NoneHas (ItemsContents encoding)) (ItemsFault encoding Fault)
   items_fault_none k c within (vs, (read, rest, joined, (more, fault), is)) =
       let few : length rest ≤ limit = omega (arith, within, ap length is, length-append read rest) in
       let told = none k rest few fault in
-      (told.0, joins_none V text d vs c read rest joined is more told.1)
+      (told.0, joins_none V encoding d vs c read rest joined is more told.1)
 
   items_one : AreFirst Fault → (vs ws : List V) (j k : ErrorKind) (c x y z w : List ℕ) → length c ≤ limit
-      → ItemsContents text vs x → c ≡ x ++ y → 0 < length y → Fault j y → ItemsContents text ws z → c ≡ z ++ w → 0 < length w → Fault k w → j ≡ k
+      → ItemsContents encoding vs x → c ≡ x ++ y → 0 < length y → Fault j y → ItemsContents encoding ws z → c ≡ z ++ w → 0 < length w → Fault k w → j ≡ k
   items_one first [] [] j k c x y z w within p is m f q are n g =
       let a : c ≡ y = is ∙ ap (λ l. l ++ y) p in
       let b : c ≡ w = are ∙ ap (λ l. l ++ w) q in
@@ -175,41 +175,41 @@ module _ {V : Type 0} (text : V → List ℕ → Type 0) (Fault : ErrorKind → 
       let few : length (p.1 ++ y) ≤ limit = omega (arith, within, ap length a, length-append p.0 (p.1 ++ y)) in
       items_one first vs us j k (p.1 ++ y) p.1 y q.1 w few p.3 refl m f q.3 tails.1 n g
 
-  pub items_fault_first : AreFirst Fault → AreFirst (ItemsFault text Fault)
+  pub items_fault_first : AreFirst Fault → AreFirst (ItemsFault encoding Fault)
   items_fault_first first j k c within (vs, (x, y, p, (m, f), is)) (ws, (z, w, q, (n, g), are)) = items_one first vs ws j k c x y z w within p is m f q are n g
 
 -- One encoding, or a last part.
-module _ {V : Type 0} (text : V → List ℕ → Type 0) (Fault : ErrorKind → List ℕ → Type 0) (d : IsDelimited text) (none : AreNone (NoneIn text) Fault) where
-  pub alone_fault_none : AreNone (NoneHas text) (AloneFault text Fault)
+module _ {V : Type 0} (encoding : V → List ℕ → Type 0) (Fault : ErrorKind → List ℕ → Type 0) (d : IsDelimited encoding) (none : AreNone (NoneIn encoding) Fault) where
+  pub alone_fault_none : AreNone (NoneHas encoding) (AloneFault encoding Fault)
   alone_fault_none k c within fault =
       let ends : (a : V) → AreNone (λ b. (w : V) → w ≡ a → b ≡ [] → ⊥) EndFault = λ a j b few p. (is_trailing p.1, λ w _ e. omega (arith, p.0, ap length e)) in
-      let told = then_fault_none text Fault (λ _. EndFault) d none (λ w. w) (λ _ b. b ≡ []) ends k c within fault in
+      let told = then_fault_none encoding Fault (λ _. EndFault) d none (λ w. w) (λ _ b. b ≡ []) ends k c within fault in
       (told.0, λ v has. told.1 v (c, [], has, refl, sym (append-nil c)))
 
-  pub alone_fault_first : AreFirst Fault → AreFirst (AloneFault text Fault)
-  alone_fault_first first = then_fault_first text Fault (λ _. EndFault) d none first (λ _. end_fault_first)
+  pub alone_fault_first : AreFirst Fault → AreFirst (AloneFault encoding Fault)
+  alone_fault_first first = then_fault_first encoding Fault (λ _. EndFault) d none first (λ _. end_fault_first)
 
-  pub last_fault_none : AreNone (NoneHas (Optional text)) (LastFault text Fault)
+  pub last_fault_none : AreNone (NoneHas (Optional encoding)) (LastFault encoding Fault)
   last_fault_none k c within fault = let told = alone_fault_none k c within fault.1 in (told.0, go c fault.0 told.1)
     where
-      go : (c : List ℕ) → 0 < length c → NoneHas text c → (o : Option V) → Optional text o c → ⊥
+      go : (c : List ℕ) → 0 < length c → NoneHas encoding c → (o : Option V) → Optional encoding o c → ⊥
       go c more nothing None has = omega (arith, more, ap length has)
       go c more nothing (Some v) has = nothing v has
 
-  pub last_fault_first : AreFirst Fault → AreFirst (LastFault text Fault)
+  pub last_fault_first : AreFirst Fault → AreFirst (LastFault encoding Fault)
   last_fault_first first j k c within p q = alone_fault_first first j k c within p.1 q.1
 
 -- A whole slice.
-module _ {V : Type 0} (text : V → List ℕ → Type 0) (Fault : ErrorKind → List ℕ → Type 0) (d : IsDelimited text) (none : AreNone (NoneIn text) Fault) where
-  pub whole_fault_none : (k : ErrorKind) (b : List ℕ) → WholeFault text Fault k b → (v : V) → Means text b v → ⊥
+module _ {V : Type 0} (encoding : V → List ℕ → Type 0) (Fault : ErrorKind → List ℕ → Type 0) (d : IsDelimited encoding) (none : AreNone (NoneIn encoding) Fault) where
+  pub whole_fault_none : (k : ErrorKind) (b : List ℕ) → WholeFault encoding Fault k b → (v : V) → Means encoding b v → ⊥
   whole_fault_none k b (inl long) v means = omega (arith, long.0, means.0)
-  whole_fault_none k b (inr (within, fault)) v means = (alone_fault_none text Fault d none k b within fault).1 v means.1
+  whole_fault_none k b (inr (within, fault)) v means = (alone_fault_none encoding Fault d none k b within fault).1 v means.1
 
-  pub whole_fault_first : AreFirst Fault → (j k : ErrorKind) (b : List ℕ) → WholeFault text Fault j b → WholeFault text Fault k b → j ≡ k
+  pub whole_fault_first : AreFirst Fault → (j k : ErrorKind) (b : List ℕ) → WholeFault encoding Fault j b → WholeFault encoding Fault k b → j ≡ k
   whole_fault_first first j k b (inl p) (inl q) = p.1 ∙ sym q.1
   whole_fault_first first j k b (inl p) (inr q) = absurd (omega (arith, p.0, q.0))
   whole_fault_first first j k b (inr p) (inl q) = absurd (omega (arith, p.0, q.0))
-  whole_fault_first first j k b (inr p) (inr q) = alone_fault_first text Fault d none first j k b p.0 p.1 q.1
+  whole_fault_first first j k b (inr p) (inr q) = alone_fault_first encoding Fault d none first j k b p.0 p.1 q.1
 
 -- Contents without a fault.
 pub no_fault_none : (Lacks : List ℕ → Type 0) → AreNone Lacks NoFault
@@ -226,11 +226,11 @@ module _ {V : Type 0} (tag : Tag) (Contents : V → List ℕ → Type 0) (Fault 
   tagged_is : IsDelimited Tagged
   tagged_is = tlv_delimited tag.octet Contents means
 
-  tagged_none : AreNone (NoneIn Tagged) (TextFault tag Fault)
-  tagged_none = text_fault_none tag Fault Contents none
+  tagged_none : AreNone (NoneIn Tagged) (EncodingFault tag Fault)
+  tagged_none = encoding_fault_none tag Fault Contents none
 
-  pub tagged_last_none : AreNone (NoneHas (Optional Tagged)) (TaggedLastFault tag Tagged (TextFault tag Fault))
-  tagged_last_none k c within (inl (next, fault)) = let told = alone_fault_none Tagged (TextFault tag Fault) tagged_is tagged_none k c within fault in (told.0, go c next told.1)
+  pub tagged_last_none : AreNone (NoneHas (Optional Tagged)) (TaggedLastFault tag Tagged (EncodingFault tag Fault))
+  tagged_last_none k c within (inl (next, fault)) = let told = alone_fault_none Tagged (EncodingFault tag Fault) tagged_is tagged_none k c within fault in (told.0, go c next told.1)
     where
       go : (c : List ℕ) → slice_get c 0 ≡ Some tag.octet → NoneHas Tagged c → (o : Option V) → Optional Tagged o c → ⊥
       go c next nothing None has = let no : slice_get c 0 ≡ None = ap (λ l. slice_get l 0) has in cc
@@ -242,14 +242,14 @@ module _ {V : Type 0} (tag : Tag) (Contents : V → List ℕ → Type 0) (Fault 
       go c other more (Some v) has = other (ap (λ l. slice_get l 0) has.written)
 
   -- a whole slice
-  pub tagged_whole_none : (k : ErrorKind) (b : List ℕ) → WholeFault Tagged (TextFault tag Fault) k b → (v : V) → Means Tagged b v → ⊥
-  tagged_whole_none = whole_fault_none Tagged (TextFault tag Fault) tagged_is tagged_none
+  pub tagged_whole_none : (k : ErrorKind) (b : List ℕ) → WholeFault Tagged (EncodingFault tag Fault) k b → (v : V) → Means Tagged b v → ⊥
+  tagged_whole_none = whole_fault_none Tagged (EncodingFault tag Fault) tagged_is tagged_none
 
-  pub tagged_whole_first : AreFirst Fault → (j k : ErrorKind) (b : List ℕ) → WholeFault Tagged (TextFault tag Fault) j b → WholeFault Tagged (TextFault tag Fault) k b → j ≡ k
-  tagged_whole_first first = whole_fault_first Tagged (TextFault tag Fault) tagged_is tagged_none (text_fault_first tag Fault first)
+  pub tagged_whole_first : AreFirst Fault → (j k : ErrorKind) (b : List ℕ) → WholeFault Tagged (EncodingFault tag Fault) j b → WholeFault Tagged (EncodingFault tag Fault) k b → j ≡ k
+  tagged_whole_first first = whole_fault_first Tagged (EncodingFault tag Fault) tagged_is tagged_none (encoding_fault_first tag Fault first)
 
-  pub tagged_last_first : AreFirst Fault → AreFirst (TaggedLastFault tag Tagged (TextFault tag Fault))
-  tagged_last_first first j k c within (inl (p, f)) (inl (q, g)) = alone_fault_first Tagged (TextFault tag Fault) tagged_is tagged_none (text_fault_first tag Fault first) j k c within f g
+  pub tagged_last_first : AreFirst Fault → AreFirst (TaggedLastFault tag Tagged (EncodingFault tag Fault))
+  tagged_last_first first j k c within (inl (p, f)) (inl (q, g)) = alone_fault_first Tagged (EncodingFault tag Fault) tagged_is tagged_none (encoding_fault_first tag Fault first) j k c within f g
   tagged_last_first first j k c within (inl (p, f)) (inr (q, g)) = absurd (q p)
   tagged_last_first first j k c within (inr (p, f)) (inl (q, g)) = absurd (p q)
   tagged_last_first first j k c within (inr (p, f)) (inr (q, g)) = f.1 ∙ sym g.1
@@ -268,19 +268,19 @@ module _ (Fault : ErrorKind → List ℕ → Type 0) (first : (j k : ErrorKind) 
   faulty_first e kind b fault (inr f) = inr (first e kind b f fault)
 
 -- The same for a reader.
-pub only_refused : (Fault : ErrorKind → List ℕ → Type 0) → AreFirst Fault → (asked : List ℕ → Type 0) (e : ErrorKind) (before : Input) → length (left_in before) ≤ limit → FaultyWhole Fault asked e before
+pub only_rejected : (Fault : ErrorKind → List ℕ → Type 0) → AreFirst Fault → (asked : List ℕ → Type 0) (e : ErrorKind) (before : Input) → length (left_in before) ≤ limit → FaultyWhole Fault asked e before
     → (kind : ErrorKind) (c : List ℕ) → before ≡ Some c → Fault kind c → Faulty e (asked c) (e ≡ kind)
-only_refused Fault first asked e before within faulty kind c is fault = ⊎_elim inl (λ f. inr (first e kind c (rw is at within) f fault)) (faulty c is)
+only_rejected Fault first asked e before within faulty kind c is fault = ⊎_elim inl (λ f. inr (first e kind c (rw is at within) f fault)) (faulty c is)
 
 -- Reading at the front of what is left gives the error of the fault there.
-module _ {X V : Type 0} (value : X → V) (text : V → List ℕ → Type 0) (Fault : ErrorKind → List ℕ → Type 0) (may_allocate : List ℕ → Type 0) (none : AreNone (NoneIn text) Fault) (first : AreFirst Fault) where
-  pub only_front : (r : Result X Error) (before after : Input) → length (left_in before) ≤ limit → ReadsText value text may_allocate r before after → IfErr r (λ e. FaultyFront Fault may_allocate e.kind before)
+module _ {X V : Type 0} (value : X → V) (encoding : V → List ℕ → Type 0) (Fault : ErrorKind → List ℕ → Type 0) (may_allocate : List ℕ → Type 0) (none : AreNone (NoneIn encoding) Fault) (first : AreFirst Fault) where
+  pub only_front : (r : Result X Error) (before after : Input) → length (left_in before) ≤ limit → ReadsEncoding value encoding may_allocate r before after → IfErr r (λ e. FaultyFront Fault may_allocate e.kind before)
       → OnlyFront Fault may_allocate r before
   only_front (Ok x) before after within reads exact kind i is fault =
       let some : Some i ≡ Some (reads.0 ++ reads.1) = sym is ∙ reads.2 in
       let same : i ≡ reads.0 ++ reads.1 = cc in
       absurd ((none kind i (rw is at within) fault).1 (value x) reads.0 reads.1 same reads.4)
-  only_front (Err e) before after within reads exact kind i is fault = only_refused Fault first (AllocatesIn may_allocate) e.kind before within exact kind i is fault
+  only_front (Err e) before after within reads exact kind i is fault = only_rejected Fault first (AllocatesIn may_allocate) e.kind before within exact kind i is fault
 
 -- The same for all that is left, read as contents.
 pub only_contents : {X V : Type 0} (value : X → V) (contents : V → List ℕ → Type 0) (Fault : ErrorKind → List ℕ → Type 0) (asked : List ℕ → Type 0) → AreNone (NoneHas contents) Fault → AreFirst Fault
@@ -289,7 +289,7 @@ only_contents value contents Fault asked none first (Ok x) before after within r
     let some : Some c ≡ Some reads.0 = sym is ∙ reads.1 in
     let same : c ≡ reads.0 = cc in
     absurd ((none kind c (rw is at within) fault).1 (value x) (rw same reads.3))
-only_contents value contents Fault asked none first (Err e) before after within reads kind c is fault = only_refused Fault first asked e.kind before within reads.1 kind c is fault
+only_contents value contents Fault asked none first (Err e) before after within reads kind c is fault = only_rejected Fault first asked e.kind before within reads.1 kind c is fault
 
 -- Without asking for memory, it doesn't run out.
 pub not_asked : {X : Type 0} {asked : Type 0} (Fault : ErrorKind → Type 0) → (asked → ⊥) → (r : Result X Error) → IfErr r (λ e. Faulty e.kind asked (Fault e.kind)) → IfErr r (λ e. Fault e.kind)

@@ -4,7 +4,7 @@ use Rattle.std.proofs.Common.{suc, arith, ◌≡◌, ap}
 use Rattle.std.specs.Prelude.{Result, Ok}
 use Rattle.der_core.specs.declared.error.ErrorKind.{ErrorKind}
 use Rattle.der_core.specs.Length.{limit}
-use Rattle.der_core.specs.Texts.{AreBytes}
+use Rattle.der_core.specs.Encodings.{AreBytes}
 use Rattle.der_core.specs.Input.{left_in}
 
 -- Equal results have equal values and rests.

@@ -3,7 +3,7 @@ use Rattle.std.proofs.Common.{take_all, ℕ, suc, List, [], ◌∷◌, ◌≡◌
 use Rattle.std.specs.Prelude.{slice_index}
 use Rattle.std.specs.Int.Digits.{number_from_digits}
 use Rattle.der_core.specs.Tag.{integer_tag}
-use Rattle.der_core.specs.Texts.{AreBytes, IsDelimited, IsOfBytes, MeansOne, AtMostOne}
+use Rattle.der_core.specs.Encodings.{AreBytes, IsDelimited, IsOfBytes, MeansOne, AtMostOne}
 use Rattle.der_core.specs.Integer.{IsCanonical, IntegerContents, Integer, SmallContents, Small, HoldsNumber, integer_contents}
 use Rattle.der_core.specs.Laws.Input.{are_bytes}
 use Rattle.der_core.specs.Writing.{IsLeast}
@@ -12,7 +12,7 @@ use Rattle.std.proofs.lemmas.Bool.Decides.{nat_tests}
 use Rattle.std.specs.Prelude.{nat_lt, true, false}
 use Rattle.der_core.specs.Laws.Lists.{same_cons}
 use Rattle.der_core.specs.Laws.Numbers.{base256_same, base256_pos}
-use Rattle.der_core.specs.Laws.Texts.{tlv_delimited, tlv_at_most_one, tlv_made, tlv_little_longer}
+use Rattle.der_core.specs.Laws.Encodings.{tlv_delimited, tlv_at_most_one, tlv_made, tlv_little_longer}
 
 first_of_same : (x y : List ℕ) → x ≡ y → slice_index x 0 ≡ slice_index y 0
 first_of_same x y e = ap (λ z. slice_index z 0) e
@@ -107,7 +107,7 @@ tail_holds (x ∷ y ∷ ys) n h b =
     rw e (omega arith, (λ _. omega (arith, h)), λ i. b (suc i))
 
 -- A number has an encoding, which is little longer than the number.
-pub integer_made : (bytes : List ℕ) → IsCanonical bytes → length bytes < 2 ^ 64 → (text : List ℕ) × Integer bytes text × (length text < 2 ^ 65)
+pub integer_made : (bytes : List ℕ) → IsCanonical bytes → length bytes < 2 ^ 64 → (encoding : List ℕ) × Integer bytes encoding × (length encoding < 2 ^ 65)
 integer_made bytes p h =
     let few : length (integer_contents bytes) ≤ length bytes + 1 = elim (cases_lt (slice_index bytes 0) 128) [
       | inl l ↦ omega (arith, ap length (written_small bytes l))

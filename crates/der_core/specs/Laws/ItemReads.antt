@@ -2,12 +2,12 @@
 use Rattle.std.proofs.Common.{◌≡◌, ℕ, ◌<◌, List, [], ◌∷◌, ◌++◌, length, refl, sym, ap, ◌∙◌, arith, append-nil, append_assoc, length-append, map, inl, inr, ⊎_elim, Option, Some, None, is_some, true, false, Bool}
 use Rattle.std.proofs.lemmas.List.{map-append}
 use Rattle.std.specs.Prelude.{slice_get}
-use Rattle.der_core.specs.Texts.{Joins, IsDelimited}
+use Rattle.der_core.specs.Encodings.{Joins, IsDelimited}
 use Rattle.der_core.specs.Laws.Lists.{same_fronts}
 use Rattle.der_core.specs.declared.error.ErrorKind.{ErrorKind}
 use Rattle.der_core.specs.Input.{Input, left_in}
-use Rattle.der_core.specs.Reading.{HoldsBytes, Refuses, NoneIn}
-use Rattle.der_core.specs.Laws.Sequences.{TextFails, TextGives}
+use Rattle.der_core.specs.Reading.{HoldsBytes, Rejects, NoneIn}
+use Rattle.der_core.specs.Laws.Sequences.{EncodingFails, EncodingGives}
 use Rattle.der_core.specs.Faults.{ItemsFault, Faulty, FaultyFront}
 
 pub holds_some : (left : Input) (n : ℕ) → HoldsBytes left n → (c : List ℕ) × (left ≡ Some c)
@@ -29,15 +29,15 @@ some_left read rest c start from more whole =
     let c_is : c ≡ read ++ rest = cc in
     omega (arith, ap length c_is, length-append read rest, more)
 
-module _ (V : Type 0) (text : V → List ℕ → Type 0) (d : IsDelimited text) where
+module _ (V : Type 0) (encoding : V → List ℕ → Type 0) (d : IsDelimited encoding) where
   -- one more encoding at the end
-  joins_push : (vs : List V) (w : V) (c a : List ℕ) → Joins (map text vs) c → text w a → Joins (map text (vs ++ w ∷ [])) (c ++ a)
+  joins_push : (vs : List V) (w : V) (c a : List ℕ) → Joins (map encoding vs) c → encoding w a → Joins (map encoding (vs ++ w ∷ [])) (c ++ a)
   joins_push [] w c a p q = (a, [], q, refl, ap (λ l. l ++ a) p ∙ sym (append-nil a))
   joins_push (v ∷ vs) w c a p q = (p.0, p.1 ++ a, p.2, joins_push vs w p.1 a p.3 q, ap (λ l. l ++ a) p.4 ∙ append_assoc p.0 p.1 a)
 
   -- values were found, and nothing fits behind them
-  pub joins_none : (vs : List V) (c read rest : List ℕ) → Joins (map text vs) read → c ≡ read ++ rest → 0 < length rest → NoneIn text rest
-      → (ws : List V) → Joins (map text ws) c → ⊥
+  pub joins_none : (vs : List V) (c read rest : List ℕ) → Joins (map encoding vs) read → c ≡ read ++ rest → 0 < length rest → NoneIn encoding rest
+      → (ws : List V) → Joins (map encoding ws) c → ⊥
   joins_none [] c read rest p is more none [] has =
       omega (arith, ap length is, ap length has, length-append read rest)
   joins_none [] c read rest p is more none (w ∷ ws) has =
@@ -51,24 +51,24 @@ module _ (V : Type 0) (text : V → List ℕ → Type 0) (d : IsDelimited text) 
       let tails = same_fronts p.0 (p.1 ++ rest) has.0 has.1 (ap length same.0) e in
       joins_none vs has.1 p.1 rest p.3 (sym tails.1) more none ws has.3
 
-  pub items_refused : (vs : List V) (read rest c : List ℕ) (may_allocate : List ℕ → Type 0) (e : ErrorKind) (start left after : Input) → start ≡ Some (read ++ rest) → left ≡ Some rest
-      → Joins (map text vs) read → 0 < length rest → TextFails text may_allocate e left after → start ≡ Some c
-      → Refuses e (0 < length c) ((ws : List V) → Joins (map text ws) c → ⊥)
-  items_refused vs read rest c may_allocate e start left after from is joined more fails whole =
+  pub items_rejected : (vs : List V) (read rest c : List ℕ) (may_allocate : List ℕ → Type 0) (e : ErrorKind) (start left after : Input) → start ≡ Some (read ++ rest) → left ≡ Some rest
+      → Joins (map encoding vs) read → 0 < length rest → EncodingFails encoding may_allocate e left after → start ≡ Some c
+      → Rejects e (0 < length c) ((ws : List V) → Joins (map encoding ws) c → ⊥)
+  items_rejected vs read rest c may_allocate e start left after from is joined more fails whole =
       let same : Some c ≡ Some (read ++ rest) = sym whole ∙ from in
       let c_is : c ≡ read ++ rest = cc in
       ⊎_elim (λ w. inl (w.0, some_left read rest c start from more whole)) (λ w. inr (w.0, joins_none vs c read rest joined c_is more w.1)) (fails.2 rest is)
 
   pub items_faults : (Fault : ErrorKind → List ℕ → Type 0) (vs : List V) (read rest c : List ℕ) (may_allocate : List ℕ → Type 0) (e : ErrorKind) (start left : Input) → start ≡ Some (read ++ rest) → left ≡ Some rest
-      → Joins (map text vs) read → 0 < length rest → FaultyFront Fault may_allocate e left → start ≡ Some c → Faulty e (0 < length c) (ItemsFault text Fault e c)
+      → Joins (map encoding vs) read → 0 < length rest → FaultyFront Fault may_allocate e left → start ≡ Some c → Faulty e (0 < length c) (ItemsFault encoding Fault e c)
   items_faults Fault vs read rest c may_allocate e start left from is joined more fault whole =
       let same : Some c ≡ Some (read ++ rest) = sym whole ∙ from in
       let c_is : c ≡ read ++ rest = cc in
       ⊎_elim (λ w. inl (w.0, some_left read rest c start from more whole)) (λ f. inr (vs, (read, rest, joined, (more, f), c_is))) (fault rest is)
 
   pub items_more : (X : Type 0) (value : X → V) (xs : List X) (x : X) (read rest : List ℕ) (start left after : Input) → start ≡ Some (read ++ rest) → left ≡ Some rest
-      → Joins (map text (map value xs)) read → TextGives text (value x) left after
-      → (read2 : List ℕ) × (rest2 : List ℕ) × (start ≡ Some (read2 ++ rest2)) × (after ≡ Some rest2) × Joins (map text (map value (xs ++ x ∷ []))) read2
+      → Joins (map encoding (map value xs)) read → EncodingGives encoding (value x) left after
+      → (read2 : List ℕ) × (rest2 : List ℕ) × (start ≡ Some (read2 ++ rest2)) × (after ≡ Some rest2) × Joins (map encoding (map value (xs ++ x ∷ []))) read2
   items_more X value xs x read rest start left after from is joined gives =
       let a = gives.0 in
       let same : Some rest ≡ Some (a ++ gives.1) = sym is ∙ gives.2 in

@@ -7,7 +7,7 @@ use Rattle.std.specs.Int.Digits.{number_from_digits}
 use Rattle.der_core.specs.Length.{IsLength, IsBase256, short, long, length_octets}
 use Rattle.std.specs.Prelude.{nat_lt, true, false}
 use Rattle.std.proofs.lemmas.Bool.Decides.{nat_tests}
-use Rattle.der_core.specs.Texts.{AreBytes}
+use Rattle.der_core.specs.Encodings.{AreBytes}
 use Rattle.der_core.specs.Laws.Lists.{same_cons, same_fronts}
 use Rattle.der_core.specs.Laws.Numbers.{base256_grows, base256_same}
 

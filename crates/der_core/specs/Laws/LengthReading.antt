@@ -6,7 +6,7 @@ use Rattle.std.specs.Int.Digits.{number_from_digits}
 use Rattle.std.proofs.lemmas.List.{take-append-drop}
 use Rattle.std.proofs.Math.Seq.{take-append_seam, drop-append_seam}
 use Rattle.std.proofs.Math.Nat.{pow-suc, pow-le-pow_right}
-use Rattle.der_core.specs.Texts.{AreBytes}
+use Rattle.der_core.specs.Encodings.{AreBytes}
 use Rattle.der_core.specs.Length.{IsLength, short, long, limit}
 use Rattle.der_core.specs.Laws.Numbers.{base256_ge}
 use Rattle.der_core.specs.declared.error.ErrorKind.{ErrorKind}

@@ -1,8 +1,8 @@
 -- OCTET STRING: each encoding means one list of octets and is bytes, and each list of octets has one encoding.
 use Rattle.std.proofs.Common.{ℕ, List, ◌≤◌, length, refl, sym, ap, ◌∙◌, arith}
 use Rattle.der_core.specs.Tag.{octet_string_tag}
-use Rattle.der_core.specs.Texts.{AreBytes, AtMostOne, IsDelimited, MeansOne, IsOfBytes}
-use Rattle.der_core.specs.Laws.Texts.{tlv_at_most_one, tlv_delimited}
+use Rattle.der_core.specs.Encodings.{AreBytes, AtMostOne, IsDelimited, MeansOne, IsOfBytes}
+use Rattle.der_core.specs.Laws.Encodings.{tlv_at_most_one, tlv_delimited}
 use Rattle.der_core.specs.OctetString.{OctetContents, OctetString}
 use Rattle.der_core.specs.Writing.{IsLeast}
 

@@ -1,7 +1,7 @@
 -- An OPTIONAL part at the end of contents: what it means, and what is written of it.
 use Rattle.std.proofs.Common.{ℕ, ◌≤◌, ◌<◌, ◌+◌, ◌^◌, ◌≡◌, ◌∙◌, List, [], ◌∷◌, length, refl, sym, ap, arith, length-append, Option, Some, None}
-use Rattle.der_core.specs.Texts.{Joins, IsDelimited, IsOfBytes}
-use Rattle.der_core.specs.Laws.Texts.{then_step}
+use Rattle.der_core.specs.Encodings.{Joins, IsDelimited, IsOfBytes}
+use Rattle.der_core.specs.Laws.Encodings.{then_step}
 use Rattle.der_core.specs.Writing.{IsLeast}
 use Rattle.der_core.specs.Optional.{Optional, HasOptional, written_optional}
 
@@ -23,13 +23,13 @@ module _ {V : Type 0} (Grammar : V → List ℕ → Type 0) where
   optional_of_bytes of_bytes None c p = rw p tt
   optional_of_bytes of_bytes (Some v) c p = of_bytes v c p
 
-  module _ (has : V → Type 0) (text : V → List ℕ) where
-    pub optional_relates : ((v : V) → has v → length (text v) < 2 ^ 128 → Grammar v (text v))
-        → (v : Option V) → HasOptional has v → length (written_optional text v) < 2 ^ 128 → Optional Grammar v (written_optional text v)
+  module _ (has : V → Type 0) (encoding : V → List ℕ) where
+    pub optional_relates : ((v : V) → has v → length (encoding v) < 2 ^ 128 → Grammar v (encoding v))
+        → (v : Option V) → HasOptional has v → length (written_optional encoding v) < 2 ^ 128 → Optional Grammar v (written_optional encoding v)
     optional_relates relates None h fits = refl
     optional_relates relates (Some v) h fits = relates v h fits
 
-    pub optional_shortest : ((v : V) (b : List ℕ) → Grammar v b → IsLeast (has v) (text v) b)
-        → (v : Option V) (c : List ℕ) → Optional Grammar v c → IsLeast (HasOptional has v) (written_optional text v) c
+    pub optional_shortest : ((v : V) (b : List ℕ) → Grammar v b → IsLeast (has v) (encoding v) b)
+        → (v : Option V) (c : List ℕ) → Optional Grammar v c → IsLeast (HasOptional has v) (written_optional encoding v) c
     optional_shortest least None c p = (tt, omega arith, (λ (_ : length c ≤ 0). p))
     optional_shortest least (Some v) c p = least v c p

@@ -6,21 +6,21 @@ use Rattle.der_core.specs.Input.{Input, left_in, read_from, end_of}
 use Rattle.der_core.specs.Faults.{ThenFault, EndFault, WholeFault, Faulty, FaultyFront}
 use Rattle.der_core.specs.Document.{Means}
 use Rattle.der_core.specs.Length.{limit}
-use Rattle.der_core.specs.Reading.{AllocatesIn, NoneIn, Refuses, AllocatesWithin, AllocatesBehind}
+use Rattle.der_core.specs.Reading.{AllocatesIn, NoneIn, Rejects, AllocatesWithin, AllocatesBehind}
 use Rattle.der_core.specs.Laws.Input.{ok_pair}
 
 -- what decode ensures of an error, and of a value
-abbrev pub TextFails : {A : Type 0} → (A → List ℕ → Type 0) → (List ℕ → Type 0) → ErrorKind → Input → Input → Type 0
-TextFails text may_allocate e before after =
-    (after ≡ None) × (before ≡ None → e ≡ Failed) × ((i : List ℕ) → before ≡ Some i → Refuses e (AllocatesIn may_allocate i) (NoneIn text i))
+abbrev pub EncodingFails : {A : Type 0} → (A → List ℕ → Type 0) → (List ℕ → Type 0) → ErrorKind → Input → Input → Type 0
+EncodingFails encoding may_allocate e before after =
+    (after ≡ None) × (before ≡ None → e ≡ Failed) × ((i : List ℕ) → before ≡ Some i → Rejects e (AllocatesIn may_allocate i) (NoneIn encoding i))
 
-abbrev pub TextGives : {A : Type 0} → (A → List ℕ → Type 0) → A → Input → Input → Type 0
-TextGives text x before after = (b : List ℕ) × (rest : List ℕ) × (before ≡ Some (b ++ rest)) × (after ≡ Some rest) × text x b
+abbrev pub EncodingGives : {A : Type 0} → (A → List ℕ → Type 0) → A → Input → Input → Type 0
+EncodingGives encoding x before after = (b : List ℕ) × (rest : List ℕ) × (before ≡ Some (b ++ rest)) × (after ≡ Some rest) × encoding x b
 
 -- what decode_value has to ensure of an error, and of a value
 abbrev pub ContentsFail : {V : Type 0} → (V → List ℕ → Type 0) → (List ℕ → Type 0) → ErrorKind → Input → Input → Type 0
 ContentsFail {V} contents may_allocate e before after =
-    (after ≡ None) × ((c : List ℕ) → before ≡ Some c → Refuses e (may_allocate c) ((v : V) → contents v c → ⊥))
+    (after ≡ None) × ((c : List ℕ) → before ≡ Some c → Rejects e (may_allocate c) ((v : V) → contents v c → ⊥))
 
 abbrev pub ContentsGive : (List ℕ → Type 0) → Input → Input → Type 0
 ContentsGive Contents before after = (c : List ℕ) × (before ≡ Some c) × (after ≡ Some []) × Contents c
@@ -29,7 +29,7 @@ ContentsGive Contents before after = (c : List ℕ) × (before ≡ Some c) × (a
 pub front_within : {may_allocate : List ℕ → Type 0} (c : List ℕ) → AllocatesIn may_allocate c → AllocatesWithin may_allocate c
 front_within c w = ([], w.0, w.1, w.2, w.3)
 
-pub behind_within : {V : Type 0} {text : V → List ℕ → Type 0} {may_allocate : List ℕ → Type 0} (c : List ℕ) → AllocatesBehind text (AllocatesWithin may_allocate) c → AllocatesWithin may_allocate c
+pub behind_within : {V : Type 0} {encoding : V → List ℕ → Type 0} {may_allocate : List ℕ → Type 0} (c : List ℕ) → AllocatesBehind encoding (AllocatesWithin may_allocate) c → AllocatesWithin may_allocate c
 behind_within c (v, (x, rest, t, (before, b, more, e, asked), is)) = (x ++ before, b, more, is ∙ ap (λ l. x ++ l) e ∙ sym (append_assoc x before (b ++ more)), asked)
 
 pub some_same : (a b : List ℕ) (e : ◌≡◌ {A = Input} (Some a) (Some b)) → a ≡ b
@@ -57,13 +57,13 @@ pub end_faults : (may_allocate : List ℕ → Type 0) (mid after : Input) (e : E
 end_faults may_allocate mid after e h = (h.1, λ c is. inr (more_than_end mid c e is h.0))
 
 -- The fault of a part, and of what follows it.
-module _ {A : Type 0} (text : A → List ℕ → Type 0) (Fault : ErrorKind → List ℕ → Type 0) (Behind : A → ErrorKind → List ℕ → Type 0) (may_allocate : List ℕ → Type 0) where
+module _ {A : Type 0} (encoding : A → List ℕ → Type 0) (Fault : ErrorKind → List ℕ → Type 0) (Behind : A → ErrorKind → List ℕ → Type 0) (may_allocate : List ℕ → Type 0) where
   pub first_faults : {own : List ℕ → Type 0} → ((c : List ℕ) → AllocatesIn own c → may_allocate c) → (before after : Input) (e : ErrorKind)
-      → after ≡ None → FaultyFront Fault own e before → ContentsFaulty (ThenFault text Fault Behind) may_allocate e before after
+      → after ≡ None → FaultyFront Fault own e before → ContentsFaulty (ThenFault encoding Fault Behind) may_allocate e before after
   first_faults asked before after e failed fault = (failed, λ c is. ⊎_elim (λ w. inl (w.0, asked c w.1)) (λ f. inr (inl f)) (fault c is))
 
-  pub rest_faults : {later : List ℕ → Type 0} → ((c : List ℕ) → AllocatesBehind text later c → may_allocate c) → (before mid after : Input) (e : ErrorKind) (x : A)
-      → TextGives text x before mid → ContentsFaulty (Behind x) later e mid after → ContentsFaulty (ThenFault text Fault Behind) may_allocate e before after
+  pub rest_faults : {later : List ℕ → Type 0} → ((c : List ℕ) → AllocatesBehind encoding later c → may_allocate c) → (before mid after : Input) (e : ErrorKind) (x : A)
+      → EncodingGives encoding x before mid → ContentsFaulty (Behind x) later e mid after → ContentsFaulty (ThenFault encoding Fault Behind) may_allocate e before after
   rest_faults asked before mid after e x gives fails = (
     fails.0,
     λ c is.
@@ -75,18 +75,18 @@ module _ {A : Type 0} (text : A → List ℕ → Type 0) (Fault : ErrorKind → 
   )
 
 -- A whole slice: what it means, or its fault.
-module _ {V : Type 0} (text : V → List ℕ → Type 0) (Fault : ErrorKind → List ℕ → Type 0) (may_allocate : List ℕ → Type 0) (before : Input) (b : List ℕ) (e : ErrorKind) (is : before ≡ Some b) (within : length (left_in before) ≤ limit) where
-  pub whole_faults : FaultyFront Fault may_allocate e before → Faulty e (AllocatesIn may_allocate b) (WholeFault text Fault e b)
+module _ {V : Type 0} (encoding : V → List ℕ → Type 0) (Fault : ErrorKind → List ℕ → Type 0) (may_allocate : List ℕ → Type 0) (before : Input) (b : List ℕ) (e : ErrorKind) (is : before ≡ Some b) (within : length (left_in before) ≤ limit) where
+  pub whole_faults : FaultyFront Fault may_allocate e before → Faulty e (AllocatesIn may_allocate b) (WholeFault encoding Fault e b)
   whole_faults fault = ⊎_elim inl (λ f. inr (inr (rw is at within, inl f))) (fault b is)
 
-  pub whole_means : (mid after : Input) (v : V) → TextGives text v before mid → ((rest : List ℕ) × (read_from mid end_of ≡ Ok (tt, rest)) × (after ≡ Some rest)) → Means text b v
+  pub whole_means : (mid after : Input) (v : V) → EncodingGives encoding v before mid → ((rest : List ℕ) × (read_from mid end_of ≡ Ok (tt, rest)) × (after ≡ Some rest)) → Means encoding b v
   whole_means mid after v gives finish =
       let ends = end_is mid gives.1 finish.0 gives.3 finish.1 in
       let same : b ≡ gives.0 ++ gives.1 = some_same b (gives.0 ++ gives.1) (sym is ∙ gives.2) in
       let whole : b ≡ gives.0 = same ∙ ap (λ l. gives.0 ++ l) ends.0 ∙ append-nil gives.0 in
       (rw is at within, rw whole gives.4)
 
-  pub behind_faults : (mid : Input) (v : V) → TextGives text v before mid → read_from mid end_of ≡ Err e → Faulty e (AllocatesIn may_allocate b) (WholeFault text Fault e b)
+  pub behind_faults : (mid : Input) (v : V) → EncodingGives encoding v before mid → read_from mid end_of ≡ Err e → Faulty e (AllocatesIn may_allocate b) (WholeFault encoding Fault e b)
   behind_faults mid v gives read =
       let same : b ≡ gives.0 ++ gives.1 = some_same b (gives.0 ++ gives.1) (sym is ∙ gives.2) in
       inr (inr (rw is at within, inr (v, (gives.0, gives.1, gives.4, more_than_end mid gives.1 e gives.3 read, same))))

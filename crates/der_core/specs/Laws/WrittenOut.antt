@@ -6,12 +6,12 @@ use Rattle.std.specs.Int.Digits.{number_from_digits}
 use Rattle.der_core.specs.declared.error.ErrorKind.{ErrorKind}
 use Rattle.der_core.specs.Length.{IsLength, IsBase256, short, long, limit}
 use Rattle.der_core.specs.Tag.{is_allowed}
-use Rattle.der_core.specs.Texts.{AreBytes, Is, Then}
+use Rattle.der_core.specs.Encodings.{AreBytes, Is, Then}
 use Rattle.der_core.specs.Tlv.{Tlv}
 use Rattle.der_core.specs.Integer.{Integer, IntegerContents, Small}
 use Rattle.der_core.specs.Input.{header_at}
 use Rattle.der_core.specs.Laws.Lists.{same_cons}
-use Rattle.der_core.specs.Laws.Texts.{tlv_split, tlv_not_empty}
+use Rattle.der_core.specs.Laws.Encodings.{tlv_split, tlv_not_empty}
 use Rattle.der_core.specs.Laws.Input.{ok_pair}
 use Rattle.der_core.specs.Laws.Headers.{tlv_header}
 
@@ -47,8 +47,8 @@ small_byte n l = elim (cases_lt 0 n) [
 ]
 
 -- A header that isn't read is the start of no encoding within the limit.
-pub refused_header : (t : ℕ) {P : List ℕ → Type 0} (x : List ℕ) (k : ErrorKind) → IsTrue (is_allowed t) → length x ≤ limit → header_at x ≡ Err k → Tlv t P x → ⊥
-refused_header t x k allowed within is p =
+pub rejected_header : (t : ℕ) {P : List ℕ → Type 0} (x : List ℕ) (k : ErrorKind) → IsTrue (is_allowed t) → length x ≤ limit → header_at x ≡ Err k → Tlv t P x → ⊥
+rejected_header t x k allowed within is p =
     let read = tlv_header t x x [] allowed within p (sym (append-nil x)) in
     let no = sym is ∙ read in cc
 
@@ -62,20 +62,20 @@ counted_header t u n x c allowed within is p =
     (ap (λ q. q.0) parts.0, ap length same ∙ sym number, rw same p.holds)
 
 -- An encoding isn't empty, and its first byte is the tag.
-pub no_bytes_refused : {t : ℕ} {P : List ℕ → Type 0} → Tlv t P [] → ⊥
-no_bytes_refused p = let e = p.written in cc
+pub no_bytes_rejected : {t : ℕ} {P : List ℕ → Type 0} → Tlv t P [] → ⊥
+no_bytes_rejected p = let e = p.written in cc
 
-pub other_tag_refused : {t : ℕ} {P : List ℕ → Type 0} (u : ℕ) (x : List ℕ) → u ≢ t → Tlv t P (u ∷ x) → ⊥
-other_tag_refused u x other p = other (same_cons p.written).0
+pub other_tag_rejected : {t : ℕ} {P : List ℕ → Type 0} (u : ℕ) (x : List ℕ) → u ≢ t → Tlv t P (u ∷ x) → ⊥
+other_tag_rejected u x other p = other (same_cons p.written).0
 
 -- Without bytes there is no encoding at their front.
-pub no_part_refused : {t : ℕ} {P Rest : List ℕ → Type 0} → Then (Tlv t P) Rest [] → ⊥
-no_part_refused (x, y, p, q, e) = omega (arith, tlv_not_empty x p, ap length e, length-append x y)
+pub no_part_rejected : {t : ℕ} {P Rest : List ℕ → Type 0} → Then (Tlv t P) Rest [] → ⊥
+no_part_rejected (x, y, p, q, e) = omega (arith, tlv_not_empty x p, ap length e, length-append x y)
 
 -- Length octets are some octets.
-pub no_octets_refused : (n : ℕ) → IsLength n [] → ⊥
-no_octets_refused n (short p e) = cc
-no_octets_refused n (long ds p k b e) = cc
+pub no_octets_rejected : (n : ℕ) → IsLength n [] → ⊥
+no_octets_rejected n (short p e) = cc
+no_octets_rejected n (long ds p k b e) = cc
 
 -- From 128 on the first one says how many follow, and those are the length in base 256, which the short form doesn't
 -- have.
@@ -85,26 +85,26 @@ long_form n x ds h (long ds' p k b e) =
     let s = same_cons e in
     (s.0 ∙ rw s.1 refl, omega (arith, s.0, k), p, rw s.1 b)
 
-pub other_count_refused : (n x : ℕ) (ds : List ℕ) → 128 ≤ x → x ≢ 128 + length ds → IsLength n (x ∷ ds) → ⊥
-other_count_refused n x ds h other p = other (long_form n x ds h p).0
+pub other_count_rejected : (n x : ℕ) (ds : List ℕ) → 128 ≤ x → x ≢ 128 + length ds → IsLength n (x ∷ ds) → ⊥
+other_count_rejected n x ds h other p = other (long_form n x ds h p).0
 
-pub needless_long_form_refused : (n x : ℕ) (ds : List ℕ) → 128 ≤ x → number_from_digits 256 ds < 128 → IsLength n (x ∷ ds) → ⊥
-needless_long_form_refused n x ds h small p = let f = long_form n x ds h p in let v = f.3.value in omega arith
+pub needless_long_form_rejected : (n x : ℕ) (ds : List ℕ) → 128 ≤ x → number_from_digits 256 ds < 128 → IsLength n (x ∷ ds) → ⊥
+needless_long_form_rejected n x ds h small p = let f = long_form n x ds h p in let v = f.3.value in omega arith
 
-pub needless_octet_refused : (n x : ℕ) (ds : List ℕ) → 128 ≤ x → slice_index ds 0 ≡ 0 → IsLength n (x ∷ ds) → ⊥
-needless_octet_refused n x ds h zero p = let f = long_form n x ds h p in let v = f.3.no_leading_zero in omega arith
+pub needless_octet_rejected : (n x : ℕ) (ds : List ℕ) → 128 ≤ x → slice_index ds 0 ≡ 0 → IsLength n (x ∷ ds) → ⊥
+needless_octet_rejected n x ds h zero p = let f = long_form n x ds h p in let v = f.3.no_leading_zero in omega arith
 
 -- The contents of an unsigned number: some octets, the first below 128, and no needless zero in front.
-pub no_contents_refused : (x : List ℕ) → IntegerContents x [] → ⊥
-no_contents_refused x (inl p, inl q) = let e = q.1 ∙ p in cc
-no_contents_refused x (inr p, inl q) = let e : 0 ≡ slice_index x 0 = ap (λ z. slice_index z 0) q.1 in omega arith
-no_contents_refused x (p, inr q) = let e = q.1 in cc
+pub no_contents_rejected : (x : List ℕ) → IntegerContents x [] → ⊥
+no_contents_rejected x (inl p, inl q) = let e = q.1 ∙ p in cc
+no_contents_rejected x (inr p, inl q) = let e : 0 ≡ slice_index x 0 = ap (λ z. slice_index z 0) q.1 in omega arith
+no_contents_rejected x (p, inr q) = let e = q.1 in cc
 
-pub negative_refused : (x : List ℕ) (b : ℕ) (y : List ℕ) → 128 ≤ b → IntegerContents x (b ∷ y) → ⊥
-negative_refused x b y h (p, inl q) = let e : b ≡ slice_index x 0 = ap (λ z. slice_index z 0) q.1 in omega arith
-negative_refused x b y h (p, inr q) = let e : b ≡ 0 = (same_cons q.1).0 in omega arith
+pub negative_rejected : (x : List ℕ) (b : ℕ) (y : List ℕ) → 128 ≤ b → IntegerContents x (b ∷ y) → ⊥
+negative_rejected x b y h (p, inl q) = let e : b ≡ slice_index x 0 = ap (λ z. slice_index z 0) q.1 in omega arith
+negative_rejected x b y h (p, inr q) = let e : b ≡ 0 = (same_cons q.1).0 in omega arith
 
-pub needless_zero_refused : (x : List ℕ) (b : ℕ) (y : List ℕ) → b < 128 → IntegerContents x (0 ∷ b ∷ y) → ⊥
-needless_zero_refused x b y h (inl p, inl q) = let e = ap length (q.1 ∙ p) in omega arith
-needless_zero_refused x b y h (inr p, inl q) = let e : 0 ≡ slice_index x 0 = ap (λ z. slice_index z 0) q.1 in omega arith
-needless_zero_refused x b y h (p, inr q) = let e : b ≡ slice_index x 0 = ap (λ z. slice_index z 1) q.1 in omega arith
+pub needless_zero_rejected : (x : List ℕ) (b : ℕ) (y : List ℕ) → b < 128 → IntegerContents x (0 ∷ b ∷ y) → ⊥
+needless_zero_rejected x b y h (inl p, inl q) = let e = ap length (q.1 ∙ p) in omega arith
+needless_zero_rejected x b y h (inr p, inl q) = let e : 0 ≡ slice_index x 0 = ap (λ z. slice_index z 0) q.1 in omega arith
+needless_zero_rejected x b y h (p, inr q) = let e : b ≡ slice_index x 0 = ap (λ z. slice_index z 1) q.1 in omega arith

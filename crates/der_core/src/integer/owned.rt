@@ -6,7 +6,7 @@ ghost use Rattle.der_core.specs.Reading.{HoldsBytes, ReadsContents, ReadsOrFault
 ghost use Rattle.der_core.specs.Faults.{IntegerFault};
 ghost use Rattle.der_core.specs.Laws.Faults.{integer_fault_none, integer_fault_first};
 ghost use Rattle.der_core.specs.Integer.{HoldsNumber, IsCanonical, AreCanonicalOf, IntegerContents, integer_contents};
-ghost use Rattle.der_core.specs.IntegerReading.{integer_of, AnswersOrWants, IsNoNumber, LacksNumber};
+ghost use Rattle.der_core.specs.IntegerReading.{integer_of, AnswersOrRunsOut, WhyNoNumber, IsOutOfMemoryForNumber};
 ghost use Rattle.der_core.specs.Laws.Integer.{integer_means_one, integer_of_bytes, integer_relates, integer_shortest};
 ghost use Rattle.der_core.specs.Tags.{integer};
 
@@ -42,7 +42,7 @@ impl Uint {
     pub fn new(alloc: Global, bytes: &[u8]) -> Result<Uint>
         ensures ok { IfOk result (λ number. AreCanonicalOf bytes.now (own_bytes_of number)) }
         ensures some { OnOk result (0 < length bytes.now) }
-        ensures err { IfErr result (λ e. IsNoNumber bytes.now e.kind ⊎ LacksNumber bytes.now e.kind) }
+        ensures err { IfErr result (λ e. WhyNoNumber bytes.now e.kind ⊎ IsOutOfMemoryForNumber bytes.now e.kind) }
     {
         Uint::copy(alloc, UintRef::new(bytes)?)
     }
@@ -128,7 +128,8 @@ impl<'a> DecodeValue<&'a [u8], Global> for Uint {
         requires { HoldsBytes (R.left reader.old) header.length }
         ensures reads { let may_allocate = λ (c : List ℕ). (bytes : List ℕ) × IntegerContents bytes c in
             ReadsContents own_bytes_of IntegerContents may_allocate result (R.left reader.old) (R.left reader.new) }
-        ensures exact { (c : List ℕ) → R.left reader.old ≡ Some c → AnswersOrWants own_bytes_of result (integer_of c) }
+        ensures exact { (c : List ℕ) → R.left reader.old ≡ Some c
+            → AnswersOrRunsOut own_bytes_of result (integer_of c) }
         ensures fault { let may_allocate = λ (c : List ℕ). (bytes : List ℕ) × IntegerContents bytes c in
             let before = R.left reader.old in
             ReadsOrFaults own_bytes_of IntegerContents IntegerFault may_allocate result before (R.left reader.new) }

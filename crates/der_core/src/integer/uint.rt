@@ -6,7 +6,7 @@ ghost use Rattle.der_core.specs.Reading.{ReadsContents, ReadsOrFaults, HoldsByte
 ghost use Rattle.der_core.specs.Faults.{IntegerFault};
 ghost use Rattle.der_core.specs.Laws.Faults.{integer_fault_none, integer_fault_first};
 ghost use Rattle.der_core.specs.Integer.{HoldsNumber, IsCanonical, AreCanonicalOf, IntegerContents, integer_contents};
-ghost use Rattle.der_core.specs.IntegerReading.{integer_of, Answers, IsNoNumber};
+ghost use Rattle.der_core.specs.IntegerReading.{integer_of, Answers, WhyNoNumber};
 ghost use Rattle.der_core.specs.Laws.Integer.{integer_means_one, integer_of_bytes, integer_relates, integer_shortest};
 ghost use Rattle.der_core.specs.Tags.{integer};
 
@@ -76,7 +76,7 @@ impl<'a> UintRef<'a> {
     pub fn new(bytes: &'a [u8]) -> Result<UintRef<'a>>
         ensures ok { IfOk result (λ number. AreCanonicalOf bytes.now (bytes_of number)) }
         ensures some { OnOk result (0 < length bytes.now) }
-        ensures err { IfErr result (λ e. IsNoNumber bytes.now e.kind) }
+        ensures err { IfErr result (λ e. WhyNoNumber bytes.now e.kind) }
     {
         let bytes = strip(bytes);
         if bytes.is_empty() {

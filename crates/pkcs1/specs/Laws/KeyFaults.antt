@@ -3,8 +3,8 @@ use Rattle.std.proofs.Common.{◌≡◌, ◌≢◌, ℕ, ◌<◌, ◌≤◌, Lis
 use Rattle.std.specs.Prelude.{slice_get}
 use Rattle.der_core.specs.declared.error.ErrorKind.{ErrorKind}
 use Rattle.der_core.specs.Document.{Means}
-use Rattle.der_core.specs.Faults.{TextFault, ThenFault, EndFault, ItemsFault, IntegerFault, AreNone, AreFirst}
-use Rattle.der_core.specs.Laws.Faults.{small_fault_none, small_fault_first, items_fault_none, items_fault_first, integer_fault_none, integer_fault_first, text_fault_none, text_fault_first, then_fault_none, then_fault_first, end_fault_none, end_fault_first, whole_fault_none, whole_fault_first}
+use Rattle.der_core.specs.Faults.{EncodingFault, ThenFault, EndFault, ItemsFault, IntegerFault, AreNone, AreFirst}
+use Rattle.der_core.specs.Laws.Faults.{small_fault_none, small_fault_first, items_fault_none, items_fault_first, integer_fault_none, integer_fault_first, encoding_fault_none, encoding_fault_first, then_fault_none, then_fault_first, end_fault_none, end_fault_first, whole_fault_none, whole_fault_first}
 use Rattle.der_core.specs.Integer.{Integer, IntegerContents, Small}
 use Rattle.der_core.specs.Laws.Integer.{integer_delimited, small_means_one}
 use Rattle.der_core.specs.Length.{limit}
@@ -14,8 +14,8 @@ use Rattle.der_core.specs.Laws.Tells.{is_value, is_trailing}
 use Rattle.der_core.specs.Tlv.{Tlv}
 use Rattle.der_core.specs.Reading.{NoneHas, NoneIn, TellsOfBytes}
 use Rattle.der_core.specs.Tags.{integer, sequence}
-use Rattle.der_core.specs.Laws.Texts.{tlv_delimited, joins_map, joins_last}
-use Rattle.der_core.specs.Texts.{IsDelimited, Joins}
+use Rattle.der_core.specs.Laws.Encodings.{tlv_delimited, joins_map, joins_last}
+use Rattle.der_core.specs.Encodings.{IsDelimited, Joins}
 use Rattle.pkcs1.specs.KeyFaults.{PublicKeyFault, RsaPublicKeyFault, Counted, CountedFault, OtherPrimeFault, VersionFault, ListedFault, OthersFault, PrivateKeyFault, NumberFault, OneOtherFault, RsaPrivateKeyFault}
 use Rattle.pkcs1.specs.Keys.{PublicKey, PublicKeyContents, RsaPublicKey, RsaPrivateKey, OtherPrime, OtherPrimeContents, OtherPrimeInfo, OtherPrimeInfos, PrivateKey, PrivateKeyContents, version_of}
 use Rattle.pkcs1.specs.KeyNumbers.{EightNumbers}
@@ -25,39 +25,39 @@ use Rattle.pkcs1.specs.Laws.Versions.{version_means_one}
 use Rattle.pkcs1.specs.Versions.{VersionContents}
 use Rattle.pkcs1.specs.Writing.{key_numbers, other_numbers}
 
-module _ {Number : Type 0} (NumberText : Number → List ℕ → Type 0) (NumberFault : ErrorKind → List ℕ → Type 0) (d : IsDelimited NumberText) (none : AreNone (NoneIn NumberText) NumberFault) where
-  pub public_key_fault_none : AreNone (NoneHas (PublicKeyContents NumberText)) (PublicKeyFault NumberText NumberFault)
+module _ {Number : Type 0} (NumberEncoding : Number → List ℕ → Type 0) (NumberFault : ErrorKind → List ℕ → Type 0) (d : IsDelimited NumberEncoding) (none : AreNone (NoneIn NumberEncoding) NumberFault) where
+  pub public_key_fault_none : AreNone (NoneHas (PublicKeyContents NumberEncoding)) (PublicKeyFault NumberEncoding NumberFault)
   public_key_fault_none =
-      then_fault_none NumberText NumberFault (λ _. ThenFault NumberText NumberFault (λ _. EndFault)) d none (λ (k : PublicKey Number). k.modulus) (λ k. Joins (NumberText k.public_exponent ∷ []))
+      then_fault_none NumberEncoding NumberFault (λ _. ThenFault NumberEncoding NumberFault (λ _. EndFault)) d none (λ (k : PublicKey Number). k.modulus) (λ k. Joins (NumberEncoding k.public_exponent ∷ []))
       (λ a kind c within fault.
-      let told = then_fault_none NumberText NumberFault (λ _. EndFault) d none (λ (k : PublicKey Number). k.public_exponent) (λ k. Joins [])
+      let told = then_fault_none NumberEncoding NumberFault (λ _. EndFault) d none (λ (k : PublicKey Number). k.public_exponent) (λ k. Joins [])
       (λ b j more few f. let ends = end_fault_none {V = PublicKey Number} j more few f in (ends.0, λ v _ p. ends.1 v p)) kind c within fault in
       (told.0, λ v _ p. told.1 v p))
 
-  pub public_key_fault_first : AreFirst NumberFault → AreFirst (PublicKeyFault NumberText NumberFault)
-  public_key_fault_first first = then_fault_first NumberText NumberFault _ d none first (λ _. then_fault_first NumberText NumberFault _ d none first (λ _. end_fault_first))
+  pub public_key_fault_first : AreFirst NumberFault → AreFirst (PublicKeyFault NumberEncoding NumberFault)
+  public_key_fault_first first = then_fault_first NumberEncoding NumberFault _ d none first (λ _. then_fault_first NumberEncoding NumberFault _ d none first (λ _. end_fault_first))
 
-number_none : AreNone (NoneIn Integer) (TextFault integer IntegerFault)
-number_none = text_fault_none integer IntegerFault IntegerContents integer_fault_none
+number_none : AreNone (NoneIn Integer) (EncodingFault integer IntegerFault)
+number_none = encoding_fault_none integer IntegerFault IntegerContents integer_fault_none
 
-text_none : AreNone (NoneIn RsaPublicKey) (TextFault sequence (PublicKeyFault Integer (TextFault integer IntegerFault)))
-text_none = text_fault_none sequence _ (PublicKeyContents Integer) (public_key_fault_none Integer (TextFault integer IntegerFault) integer_delimited number_none)
+encoding_none : AreNone (NoneIn RsaPublicKey) (EncodingFault sequence (PublicKeyFault Integer (EncodingFault integer IntegerFault)))
+encoding_none = encoding_fault_none sequence _ (PublicKeyContents Integer) (public_key_fault_none Integer (EncodingFault integer IntegerFault) integer_delimited number_none)
 
 public_delimited : IsDelimited RsaPublicKey
 public_delimited = tlv_delimited 48 (PublicKeyContents Integer) (public_key_means_one Integer integer_delimited)
 
 pub public_key_whole_none : (k : ErrorKind) (b : List ℕ) → RsaPublicKeyFault k b → (v : PublicKey (List ℕ)) → Means RsaPublicKey b v → ⊥
-public_key_whole_none = whole_fault_none RsaPublicKey _ public_delimited text_none
+public_key_whole_none = whole_fault_none RsaPublicKey _ public_delimited encoding_none
 
 pub public_key_whole_first : (j k : ErrorKind) (b : List ℕ) → RsaPublicKeyFault j b → RsaPublicKeyFault k b → j ≡ k
 public_key_whole_first =
-    whole_fault_first RsaPublicKey _ public_delimited text_none
-    (text_fault_first sequence _ (public_key_fault_first Integer (TextFault integer IntegerFault) integer_delimited number_none (text_fault_first integer IntegerFault integer_fault_first)))
+    whole_fault_first RsaPublicKey _ public_delimited encoding_none
+    (encoding_fault_first sequence _ (public_key_fault_first Integer (EncodingFault integer IntegerFault) integer_delimited number_none (encoding_fault_first integer IntegerFault integer_fault_first)))
 
 -- n numbers in a row.
-module _ {V : Type 0} (text : V → List ℕ → Type 0) (Fault : ErrorKind → List ℕ → Type 0) (d : IsDelimited text) (none : AreNone (NoneIn text) Fault) where
+module _ {V : Type 0} (encoding : V → List ℕ → Type 0) (Fault : ErrorKind → List ℕ → Type 0) (d : IsDelimited encoding) (none : AreNone (NoneIn encoding) Fault) where
   -- fewer are at the front, and what follows begins with none
-  few_none : (vs ws : List V) (x y z w : List ℕ) → Joins (map text vs) x → length vs < length ws → NoneIn text y → x ++ y ≡ z ++ w → Joins (map text ws) z → ⊥
+  few_none : (vs ws : List V) (x y z w : List ℕ) → Joins (map encoding vs) x → length vs < length ws → NoneIn encoding y → x ++ y ≡ z ++ w → Joins (map encoding ws) z → ⊥
   few_none vs [] x y z w p l nothing e q = omega (arith, l)
   few_none [] (u ∷ us) x y z w p l nothing e q =
       nothing u q.0 (q.1 ++ w) (ap (λ r. r ++ y) (sym p) ∙ e ∙ ap (λ r. r ++ w) q.4 ∙ append_assoc q.0 q.1 w) q.2
@@ -67,13 +67,13 @@ module _ {V : Type 0} (text : V → List ℕ → Type 0) (Fault : ErrorKind → 
       let tails = same_fronts p.0 (p.1 ++ y) q.0 (q.1 ++ w) (ap length one.0) f in
       few_none vs us p.1 y q.1 w p.3 (omega arith) nothing tails.1 q.3
 
-  pub counted_fault_none : (n : ℕ) → AreNone (NoneIn (Counted n text)) (CountedFault n text Fault)
+  pub counted_fault_none : (n : ℕ) → AreNone (NoneIn (Counted n encoding)) (CountedFault n encoding Fault)
   counted_fault_none n k c within (vs, l, (x, y, p, fault, is)) =
       let few : length y ≤ limit = omega (arith, within, ap length is, length-append x y) in
       let told = none k y few fault in
       (told.0, λ ws b rest split has. few_none vs ws x y b rest p (omega (arith, l, has.0)) told.1 (sym is ∙ split) has.1)
 
-  counted_one : AreFirst Fault → (vs ws : List V) (j k : ErrorKind) (c x y z w : List ℕ) → length c ≤ limit → Joins (map text vs) x → c ≡ x ++ y → Fault j y → Joins (map text ws) z → c ≡ z ++ w → Fault k w → j ≡ k
+  counted_one : AreFirst Fault → (vs ws : List V) (j k : ErrorKind) (c x y z w : List ℕ) → length c ≤ limit → Joins (map encoding vs) x → c ≡ x ++ y → Fault j y → Joins (map encoding ws) z → c ≡ z ++ w → Fault k w → j ≡ k
   counted_one first [] [] j k c x y z w within p is f q are g =
       first j k c within (rw (is ∙ ap (λ r. r ++ y) p) f) (rw (are ∙ ap (λ r. r ++ w) q) g)
   counted_one first [] (u ∷ us) j k c x y z w within p is f q are g =
@@ -88,10 +88,10 @@ module _ {V : Type 0} (text : V → List ℕ → Type 0) (Fault : ErrorKind → 
       let few : length (p.1 ++ y) ≤ limit = omega (arith, within, ap length a, length-append p.0 (p.1 ++ y)) in
       counted_one first vs us j k (p.1 ++ y) p.1 y q.1 w few p.3 refl f q.3 tails.1 g
 
-  pub counted_fault_first : (n : ℕ) → AreFirst Fault → AreFirst (CountedFault n text Fault)
+  pub counted_fault_first : (n : ℕ) → AreFirst Fault → AreFirst (CountedFault n encoding Fault)
   counted_fault_first n first j k c within (vs, l, (x, y, p, f, is)) (ws, m, (z, w, q, g, are)) = counted_one first vs ws j k c x y z w within p is f q are g
 
-  counted_same : (vs ws : List V) (x y z w : List ℕ) → length vs ≡ length ws → Joins (map text vs) x → Joins (map text ws) z → x ++ y ≡ z ++ w → (x ≡ z) × (vs ≡ ws)
+  counted_same : (vs ws : List V) (x y z w : List ℕ) → length vs ≡ length ws → Joins (map encoding vs) x → Joins (map encoding ws) z → x ++ y ≡ z ++ w → (x ≡ z) × (vs ≡ ws)
   counted_same [] [] x y z w l p q e = (p ∙ sym q, refl)
   counted_same [] (u ∷ us) x y z w l p q e = absurd (omega (arith, l))
   counted_same (v ∷ vs) [] x y z w l p q e = absurd (omega (arith, l))
@@ -102,46 +102,46 @@ module _ {V : Type 0} (text : V → List ℕ → Type 0) (Fault : ErrorKind → 
       let more = counted_same vs us p.1 y q.1 w (omega (arith, l)) p.3 q.3 tails.1 in
       (p.4 ∙ ap (λ r. r ++ p.1) one.0 ∙ ap (λ r. q.0 ++ r) more.0 ∙ sym q.4, cons_path one.1 more.1)
 
-  some_text : (vs : List V) (x : List ℕ) → 0 < length vs → Joins (map text vs) x → 0 < length x
-  some_text [] x l p = absurd (omega (arith, l))
-  some_text (v ∷ vs) x l p = omega (arith, d.not_empty v p.0 p.2, ap length p.4, length-append p.0 p.1)
+  some_encoding : (vs : List V) (x : List ℕ) → 0 < length vs → Joins (map encoding vs) x → 0 < length x
+  some_encoding [] x l p = absurd (omega (arith, l))
+  some_encoding (v ∷ vs) x l p = omega (arith, d.not_empty v p.0 p.2, ap length p.4, length-append p.0 p.1)
 
-  pub counted_delimited : (n : ℕ) → 0 < n → IsDelimited (Counted n text)
+  pub counted_delimited : (n : ℕ) → 0 < n → IsDelimited (Counted n encoding)
   counted_delimited n some = record {
-    not_empty = λ vs x p. some_text vs x (omega (arith, some, p.0)) p.1;
+    not_empty = λ vs x p. some_encoding vs x (omega (arith, some, p.0)) p.1;
     one = λ vs ws x y z w p q e. counted_same vs ws x y z w (p.0 ∙ sym q.0) p.1 q.1 e;
   }
 
   -- one of the other primes
-  pub other_fault_none : AreNone (NoneHas (OtherPrimeContents text)) (OtherPrimeFault text Fault)
+  pub other_fault_none : AreNone (NoneHas (OtherPrimeContents encoding)) (OtherPrimeFault encoding Fault)
   other_fault_none k c within fault =
       let told =
-      then_fault_none (Counted 3 text) (CountedFault 3 text Fault) (λ _. EndFault) (counted_delimited 3 (omega arith)) (counted_fault_none 3) (λ (o : OtherPrime V). other_numbers o) (λ _ b. b ≡ [])
+      then_fault_none (Counted 3 encoding) (CountedFault 3 encoding Fault) (λ _. EndFault) (counted_delimited 3 (omega arith)) (counted_fault_none 3) (λ (o : OtherPrime V). other_numbers o) (λ _ b. b ≡ [])
       (λ a j b few f. (is_trailing f.1, λ v _ p. omega (arith, f.0, ap length p))) k c within fault in
       (told.0, λ o has. told.1 o (c, [], (refl, has), refl, sym (append-nil c)))
 
-  pub other_fault_first : AreFirst Fault → AreFirst (OtherPrimeFault text Fault)
-  other_fault_first first = then_fault_first (Counted 3 text) (CountedFault 3 text Fault) (λ _. EndFault) (counted_delimited 3 (omega arith)) (counted_fault_none 3) (counted_fault_first 3 first) (λ _. end_fault_first)
+  pub other_fault_first : AreFirst Fault → AreFirst (OtherPrimeFault encoding Fault)
+  other_fault_first first = then_fault_first (Counted 3 encoding) (CountedFault 3 encoding Fault) (λ _. EndFault) (counted_delimited 3 (omega arith)) (counted_fault_none 3) (counted_fault_first 3 first) (λ _. end_fault_first)
 
   -- their list
   abbrev Listed : List (OtherPrime V) → List ℕ → Type 0
-  Listed os b = Tlv 48 (ItemsContents (OtherPrimeInfo text) os) b
+  Listed os b = Tlv 48 (ItemsContents (OtherPrimeInfo encoding) os) b
 
   listed_delimited : IsDelimited Listed
-  listed_delimited = tlv_delimited 48 (ItemsContents (OtherPrimeInfo text)) (joins_map (OtherPrimeInfo text) (other_delimited d))
+  listed_delimited = tlv_delimited 48 (ItemsContents (OtherPrimeInfo encoding)) (joins_map (OtherPrimeInfo encoding) (other_delimited d))
 
-  one_none : AreNone (NoneIn (OtherPrimeInfo text)) (TextFault sequence (OtherPrimeFault text Fault))
-  one_none = text_fault_none sequence (OtherPrimeFault text Fault) (OtherPrimeContents text) other_fault_none
+  one_none : AreNone (NoneIn (OtherPrimeInfo encoding)) (EncodingFault sequence (OtherPrimeFault encoding Fault))
+  one_none = encoding_fault_none sequence (OtherPrimeFault encoding Fault) (OtherPrimeContents encoding) other_fault_none
 
-  listed_none : AreNone (NoneIn Listed) (TextFault sequence (ItemsFault (OtherPrimeInfo text) (TextFault sequence (OtherPrimeFault text Fault))))
-  listed_none = text_fault_none sequence (ItemsFault (OtherPrimeInfo text) (TextFault sequence (OtherPrimeFault text Fault))) (ItemsContents (OtherPrimeInfo text)) (items_fault_none (OtherPrimeInfo text) _ (other_delimited d) one_none)
+  listed_none : AreNone (NoneIn Listed) (EncodingFault sequence (ItemsFault (OtherPrimeInfo encoding) (EncodingFault sequence (OtherPrimeFault encoding Fault))))
+  listed_none = encoding_fault_none sequence (ItemsFault (OtherPrimeInfo encoding) (EncodingFault sequence (OtherPrimeFault encoding Fault))) (ItemsContents (OtherPrimeInfo encoding)) (items_fault_none (OtherPrimeInfo encoding) _ (other_delimited d) one_none)
 
   -- if the tag of a SEQUENCE is first, there are other primes, and the bytes are their list
-  others_is : (o : Option (List (OtherPrime V))) (c : List ℕ) → OtherPrimeInfos text o c → slice_get c 0 ≡ Some 48 → (os : List (OtherPrime V)) × (o ≡ Some os) × (0 < length os) × Listed os c
+  others_is : (o : Option (List (OtherPrime V))) (c : List ℕ) → OtherPrimeInfos encoding o c → slice_get c 0 ≡ Some 48 → (os : List (OtherPrime V)) × (o ≡ Some os) × (0 < length os) × Listed os c
   others_is None c has first = let no : slice_get c 0 ≡ None = ap (λ l. slice_get l 0) has in cc
   others_is (Some os) c has first = (os, refl, has.0, has.1)
 
-  others_isnt : (o : Option (List (OtherPrime V))) (c : List ℕ) → OtherPrimeInfos text o c → slice_get c 0 ≢ Some 48 → (o ≡ None) × (c ≡ [])
+  others_isnt : (o : Option (List (OtherPrime V))) (c : List ℕ) → OtherPrimeInfos encoding o c → slice_get c 0 ≢ Some 48 → (o ≡ None) × (c ≡ [])
   others_isnt None c has other = (refl, has)
   others_isnt (Some os) c has other = absurd (other (ap (λ l. slice_get l 0) has.1.written))
 
@@ -155,7 +155,7 @@ module _ {V : Type 0} (text : V → List ℕ → Type 0) (Fault : ErrorKind → 
   listed_differs n vs ws k y (inr (inl f)) same some ends multi = omega (arith, f.1, some, ap length same)
   listed_differs n vs ws k y (inr (inr f)) same some ends multi = omega (arith, f.2.0, ap length ends)
 
-  pub others_fault_none : (n : ℕ) → AreNone (λ c. (o : Option (List (OtherPrime V))) → version_of o ≡ n → OtherPrimeInfos text o c → ⊥) (OthersFault text Fault n)
+  pub others_fault_none : (n : ℕ) → AreNone (λ c. (o : Option (List (OtherPrime V))) → version_of o ≡ n → OtherPrimeInfos encoding o c → ⊥) (OthersFault encoding Fault n)
   others_fault_none n k c within (inl (first, inl fault)) =
       let told = listed_none k c within fault in
       (told.0, λ o agree has. let l = others_is o c has first in told.1 l.0 c [] (sym (append-nil c)) l.3)
@@ -183,10 +183,10 @@ module _ {V : Type 0} (text : V → List ℕ → Type 0) (Fault : ErrorKind → 
   listed_first n vs j k c within (inr (inr p)) (inr (inl q)) = absurd (omega (arith, p.1, q.1))
   listed_first n vs j k c within (inr (inr p)) (inr (inr q)) = p.2.1 ∙ sym q.2.1
 
-  pub others_fault_first : AreFirst Fault → (n : ℕ) → AreFirst (OthersFault text Fault n)
+  pub others_fault_first : AreFirst Fault → (n : ℕ) → AreFirst (OthersFault encoding Fault n)
   others_fault_first first n j k c within (inl (f, p)) (inl (g, q)) =
-      then_fault_first Listed (TextFault sequence (ItemsFault (OtherPrimeInfo text) (TextFault sequence (OtherPrimeFault text Fault)))) (ListedFault n) listed_delimited listed_none
-      (text_fault_first sequence _ (items_fault_first (OtherPrimeInfo text) _ (other_delimited d) one_none (text_fault_first sequence _ (other_fault_first first)))) (listed_first n) j k c within p q
+      then_fault_first Listed (EncodingFault sequence (ItemsFault (OtherPrimeInfo encoding) (EncodingFault sequence (OtherPrimeFault encoding Fault)))) (ListedFault n) listed_delimited listed_none
+      (encoding_fault_first sequence _ (items_fault_first (OtherPrimeInfo encoding) _ (other_delimited d) one_none (encoding_fault_first sequence _ (other_fault_first first)))) (listed_first n) j k c within p q
   others_fault_first first n j k c within (inl (f, p)) (inr (g, q)) = absurd (g f)
   others_fault_first first n j k c within (inr (f, p)) (inl (g, q)) = absurd (f g)
   others_fault_first first n j k c within (inr (f, inl p)) (inr (g, inl q)) = p.1 ∙ sym q.1
@@ -205,62 +205,62 @@ version_fault_first j k c within (inl f) (inr (m, is, big, e)) = absurd ((small_
 version_fault_first j k c within (inr (m, is, big, e)) (inl g) = absurd ((small_fault_none k c within g).1 m is)
 version_fault_first j k c within (inr (m, is, big, e)) (inr (n, are, more, f)) = e ∙ sym f
 
-abbrev VersionText : ℕ → List ℕ → Type 0
-VersionText n text = Tlv 2 (VersionContents n) text
+abbrev VersionEncoding : ℕ → List ℕ → Type 0
+VersionEncoding n encoding = Tlv 2 (VersionContents n) encoding
 
-version_none : AreNone (NoneIn VersionText) (TextFault integer VersionFault)
-version_none = text_fault_none integer VersionFault VersionContents version_fault_none
+version_none : AreNone (NoneIn VersionEncoding) (EncodingFault integer VersionFault)
+version_none = encoding_fault_none integer VersionFault VersionContents version_fault_none
 
-version_delimited : IsDelimited VersionText
+version_delimited : IsDelimited VersionEncoding
 version_delimited = tlv_delimited 2 VersionContents version_means_one
 
-as_version : (n : ℕ) (text : List ℕ) → n < 2 → Small n text → VersionText n text
-as_version n text l p = record { octets = p.octets; contents = p.contents; counted = p.counted; holds = (l, p.holds); written = p.written }
+as_version : (n : ℕ) (encoding : List ℕ) → n < 2 → Small n encoding → VersionEncoding n encoding
+as_version n encoding l p = record { octets = p.octets; contents = p.contents; counted = p.counted; holds = (l, p.holds); written = p.written }
 
 -- Private keys.
-module _ {V : Type 0} (text : V → List ℕ → Type 0) (Fault : ErrorKind → List ℕ → Type 0) (d : IsDelimited text) (none : AreNone (NoneIn text) Fault) where
+module _ {V : Type 0} (encoding : V → List ℕ → Type 0) (Fault : ErrorKind → List ℕ → Type 0) (d : IsDelimited encoding) (none : AreNone (NoneIn encoding) Fault) where
   abbrev OfVersion : ℕ → Type 0
   OfVersion n = (key : PrivateKey V) × (version_of key.other_prime_infos ≡ n)
 
   abbrev others_of : PrivateKey V → List ℕ → Type 0
-  others_of key c = Joins (OtherPrimeInfos text key.other_prime_infos ∷ []) c
+  others_of key c = Joins (OtherPrimeInfos encoding key.other_prime_infos ∷ []) c
 
-  behind_version : (n : ℕ) → AreNone (λ c. (key : PrivateKey V) → version_of key.other_prime_infos ≡ n → Joins (map text (key_numbers key) ++ OtherPrimeInfos text key.other_prime_infos ∷ []) c → ⊥) (ThenFault (EightNumbers text) (CountedFault 8 text Fault) (λ _. OthersFault text Fault n))
+  behind_version : (n : ℕ) → AreNone (λ c. (key : PrivateKey V) → version_of key.other_prime_infos ≡ n → Joins (map encoding (key_numbers key) ++ OtherPrimeInfos encoding key.other_prime_infos ∷ []) c → ⊥) (ThenFault (EightNumbers encoding) (CountedFault 8 encoding Fault) (λ _. OthersFault encoding Fault n))
   behind_version n k c within fault =
       let told =
-      then_fault_none (EightNumbers text) (CountedFault 8 text Fault) (λ _. OthersFault text Fault n) (counted_delimited text Fault d none 8 (omega arith)) (counted_fault_none text Fault d none 8) (λ (v : OfVersion n). key_numbers v.0) (λ v. others_of v.0)
-      (λ numbers j b few f. let t = others_fault_none text Fault d none n j b few f in (t.0, λ v _ p. t.1 v.0.other_prime_infos v.1 (joins_last b p))) k c within fault in
-      (told.0, λ key agree p. let s = joins_take (map text (key_numbers key)) (OtherPrimeInfos text key.other_prime_infos ∷ []) c p in told.1 (key, agree) (s.0, s.1, (refl, s.2), s.3, s.4))
+      then_fault_none (EightNumbers encoding) (CountedFault 8 encoding Fault) (λ _. OthersFault encoding Fault n) (counted_delimited encoding Fault d none 8 (omega arith)) (counted_fault_none encoding Fault d none 8) (λ (v : OfVersion n). key_numbers v.0) (λ v. others_of v.0)
+      (λ numbers j b few f. let t = others_fault_none encoding Fault d none n j b few f in (t.0, λ v _ p. t.1 v.0.other_prime_infos v.1 (joins_last b p))) k c within fault in
+      (told.0, λ key agree p. let s = joins_take (map encoding (key_numbers key)) (OtherPrimeInfos encoding key.other_prime_infos ∷ []) c p in told.1 (key, agree) (s.0, s.1, (refl, s.2), s.3, s.4))
 
-  pub private_key_fault_none : AreNone (NoneHas (PrivateKeyContents text)) (PrivateKeyFault text Fault)
+  pub private_key_fault_none : AreNone (NoneHas (PrivateKeyContents encoding)) (PrivateKeyFault encoding Fault)
   private_key_fault_none k c within fault =
       let told =
-      then_fault_none VersionText (TextFault integer VersionFault) (λ n. ThenFault (EightNumbers text) (CountedFault 8 text Fault) (λ _. OthersFault text Fault n)) version_delimited version_none
-      (λ (key : PrivateKey V). version_of key.other_prime_infos) (λ key b. Joins (map text (key_numbers key) ++ OtherPrimeInfos text key.other_prime_infos ∷ []) b)
+      then_fault_none VersionEncoding (EncodingFault integer VersionFault) (λ n. ThenFault (EightNumbers encoding) (CountedFault 8 encoding Fault) (λ _. OthersFault encoding Fault n)) version_delimited version_none
+      (λ (key : PrivateKey V). version_of key.other_prime_infos) (λ key b. Joins (map encoding (key_numbers key) ++ OtherPrimeInfos encoding key.other_prime_infos ∷ []) b)
       (λ n j b few f. let t = behind_version n j b few f in (t.0, λ key agree p. t.1 key agree p)) k c within fault in
       (told.0, λ key p. told.1 key (p.0, p.1, as_version (version_of key.other_prime_infos) p.0 (version_small key.other_prime_infos) p.2, p.3, p.4))
 
-  pub private_key_fault_first : AreFirst Fault → AreFirst (PrivateKeyFault text Fault)
+  pub private_key_fault_first : AreFirst Fault → AreFirst (PrivateKeyFault encoding Fault)
   private_key_fault_first first =
-      then_fault_first VersionText (TextFault integer VersionFault) (λ n. ThenFault (EightNumbers text) (CountedFault 8 text Fault) (λ _. OthersFault text Fault n)) version_delimited version_none
-      (text_fault_first integer VersionFault version_fault_first)
-      (λ n. then_fault_first (EightNumbers text) (CountedFault 8 text Fault) (λ _. OthersFault text Fault n) (counted_delimited text Fault d none 8 (omega arith)) (counted_fault_none text Fault d none 8)
-      (counted_fault_first text Fault d none 8 first) (λ _. others_fault_first text Fault d none first n))
+      then_fault_first VersionEncoding (EncodingFault integer VersionFault) (λ n. ThenFault (EightNumbers encoding) (CountedFault 8 encoding Fault) (λ _. OthersFault encoding Fault n)) version_delimited version_none
+      (encoding_fault_first integer VersionFault version_fault_first)
+      (λ n. then_fault_first (EightNumbers encoding) (CountedFault 8 encoding Fault) (λ _. OthersFault encoding Fault n) (counted_delimited encoding Fault d none 8 (omega arith)) (counted_fault_none encoding Fault d none 8)
+      (counted_fault_first encoding Fault d none 8 first) (λ _. others_fault_first encoding Fault d none first n))
 
 -- Keys whose numbers are INTEGERs.
 number_first : AreFirst NumberFault
-number_first = text_fault_first integer IntegerFault integer_fault_first
+number_first = encoding_fault_first integer IntegerFault integer_fault_first
 
 pub listed_fault_first : AreFirst (ItemsFault (OtherPrimeInfo Integer) OneOtherFault)
 listed_fault_first =
     items_fault_first (OtherPrimeInfo Integer) OneOtherFault (other_delimited integer_delimited)
-    (text_fault_none sequence (OtherPrimeFault Integer NumberFault) (OtherPrimeContents Integer) (other_fault_none Integer NumberFault integer_delimited number_none))
-    (text_fault_first sequence (OtherPrimeFault Integer NumberFault) (other_fault_first Integer NumberFault integer_delimited number_none number_first))
+    (encoding_fault_none sequence (OtherPrimeFault Integer NumberFault) (OtherPrimeContents Integer) (other_fault_none Integer NumberFault integer_delimited number_none))
+    (encoding_fault_first sequence (OtherPrimeFault Integer NumberFault) (other_fault_first Integer NumberFault integer_delimited number_none number_first))
 
 pub listed_fault_none : AreNone (NoneHas (ItemsContents (OtherPrimeInfo Integer))) (ItemsFault (OtherPrimeInfo Integer) OneOtherFault)
 listed_fault_none =
     items_fault_none (OtherPrimeInfo Integer) OneOtherFault (other_delimited integer_delimited)
-    (text_fault_none sequence (OtherPrimeFault Integer NumberFault) (OtherPrimeContents Integer) (other_fault_none Integer NumberFault integer_delimited number_none))
+    (encoding_fault_none sequence (OtherPrimeFault Integer NumberFault) (OtherPrimeContents Integer) (other_fault_none Integer NumberFault integer_delimited number_none))
 
 pub private_integers_none : AreNone (NoneHas (PrivateKeyContents Integer)) (PrivateKeyFault Integer NumberFault)
 private_integers_none = private_key_fault_none Integer NumberFault integer_delimited number_none
@@ -268,16 +268,16 @@ private_integers_none = private_key_fault_none Integer NumberFault integer_delim
 pub private_integers_first : AreFirst (PrivateKeyFault Integer NumberFault)
 private_integers_first = private_key_fault_first Integer NumberFault integer_delimited number_none number_first
 
-private_text_none : AreNone (NoneIn RsaPrivateKey) (TextFault sequence (PrivateKeyFault Integer NumberFault))
-private_text_none = text_fault_none sequence _ (PrivateKeyContents Integer) private_integers_none
+private_encoding_none : AreNone (NoneIn RsaPrivateKey) (EncodingFault sequence (PrivateKeyFault Integer NumberFault))
+private_encoding_none = encoding_fault_none sequence _ (PrivateKeyContents Integer) private_integers_none
 
 private_delimited : IsDelimited RsaPrivateKey
 private_delimited = tlv_delimited 48 (PrivateKeyContents Integer) (private_means_one integer_delimited)
 
 pub private_key_whole_none : (k : ErrorKind) (b : List ℕ) → RsaPrivateKeyFault k b → (v : PrivateKey (List ℕ)) → Means RsaPrivateKey b v → ⊥
-private_key_whole_none = whole_fault_none RsaPrivateKey _ private_delimited private_text_none
+private_key_whole_none = whole_fault_none RsaPrivateKey _ private_delimited private_encoding_none
 
 pub private_key_whole_first : (j k : ErrorKind) (b : List ℕ) → RsaPrivateKeyFault j b → RsaPrivateKeyFault k b → j ≡ k
 private_key_whole_first =
-    whole_fault_first RsaPrivateKey _ private_delimited private_text_none
-    (text_fault_first sequence _ private_integers_first)
+    whole_fault_first RsaPrivateKey _ private_delimited private_encoding_none
+    (encoding_fault_first sequence _ private_integers_first)

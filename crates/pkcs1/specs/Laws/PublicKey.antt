@@ -2,34 +2,34 @@
 use Rattle.std.specs.Prelude.{ℕ, List, ◌<◌, ◌^◌, length}
 use Rattle.std.proofs.Common.{Bool, ◌≡◌, ◌&&◌, ap, arith, length-append, Decides}
 use Rattle.der_core.specs.Laws.Equality.{both_decide}
-use Rattle.der_core.specs.Texts.{MeansOne, IsDelimited, IsOfBytes}
-use Rattle.der_core.specs.Laws.Texts.{then_step, then_least, last_least, then_holds, last_holds, then_of_bytes, last_of_bytes}
+use Rattle.der_core.specs.Encodings.{MeansOne, IsDelimited, IsOfBytes}
+use Rattle.der_core.specs.Laws.Encodings.{then_step, then_least, last_least, then_holds, last_holds, then_of_bytes, last_of_bytes}
 use Rattle.der_core.specs.Writing.{IsLeast}
 use Rattle.pkcs1.specs.Keys.{PublicKey, PublicKeyContents}
 use Rattle.pkcs1.specs.Writing.{HasPublicKey, written_public_key}
 
-module _ {Number : Type 0} (NumberText : Number → List ℕ → Type 0) where
-  pub public_key_means_one : IsDelimited NumberText → MeansOne (PublicKeyContents NumberText)
+module _ {Number : Type 0} (NumberEncoding : Number → List ℕ → Type 0) where
+  pub public_key_means_one : IsDelimited NumberEncoding → MeansOne (PublicKeyContents NumberEncoding)
   public_key_means_one d v w c p q =
       let a = then_step d v.modulus w.modulus c p q in
       let b = then_step d v.public_exponent w.public_exponent a.1 a.2 a.3 in
       λ i. record { modulus = a.0 i; public_exponent = b.0 i }
 
-  pub public_key_of_bytes : IsOfBytes NumberText → IsOfBytes (PublicKeyContents NumberText)
+  pub public_key_of_bytes : IsOfBytes NumberEncoding → IsOfBytes (PublicKeyContents NumberEncoding)
   public_key_of_bytes bytes key c p = then_of_bytes (bytes key.modulus) (last_of_bytes (bytes key.public_exponent)) c p
 
-  module _ (has : Number → Type 0) (text : Number → List ℕ) where
-    pub public_key_relates : ((n : Number) → has n → length (text n) < 2 ^ 128 → NumberText n (text n))
-        → (key : PublicKey Number) → HasPublicKey has key → length (written_public_key text key) < 2 ^ 128 → PublicKeyContents NumberText key (written_public_key text key)
+  module _ (has : Number → Type 0) (encoding : Number → List ℕ) where
+    pub public_key_relates : ((n : Number) → has n → length (encoding n) < 2 ^ 128 → NumberEncoding n (encoding n))
+        → (key : PublicKey Number) → HasPublicKey has key → length (written_public_key encoding key) < 2 ^ 128 → PublicKeyContents NumberEncoding key (written_public_key encoding key)
     public_key_relates relates key h fits =
-        let l = length-append (text key.modulus) (text key.public_exponent) in
-        then_holds (text key.modulus) (text key.public_exponent) (relates key.modulus h.0 (omega (arith, fits, l)))
-        (last_holds (text key.public_exponent) (relates key.public_exponent h.1 (omega (arith, fits, l))))
+        let l = length-append (encoding key.modulus) (encoding key.public_exponent) in
+        then_holds (encoding key.modulus) (encoding key.public_exponent) (relates key.modulus h.0 (omega (arith, fits, l)))
+        (last_holds (encoding key.public_exponent) (relates key.public_exponent h.1 (omega (arith, fits, l))))
 
-    pub public_key_shortest : ((n : Number) (b : List ℕ) → NumberText n b → IsLeast (has n) (text n) b)
-        → (key : PublicKey Number) (c : List ℕ) → PublicKeyContents NumberText key c → IsLeast (HasPublicKey has key) (written_public_key text key) c
+    pub public_key_shortest : ((n : Number) (b : List ℕ) → NumberEncoding n b → IsLeast (has n) (encoding n) b)
+        → (key : PublicKey Number) (c : List ℕ) → PublicKeyContents NumberEncoding key c → IsLeast (HasPublicKey has key) (written_public_key encoding key) c
     public_key_shortest least key c p =
-        then_least (text key.modulus) (text key.public_exponent) (least key.modulus) (last_least (text key.public_exponent) (least key.public_exponent)) c p
+        then_least (encoding key.modulus) (encoding key.public_exponent) (least key.modulus) (last_least (encoding key.public_exponent) (least key.public_exponent)) c p
 
 -- Equality of keys, given that of numbers.
 pub public_key_decides : {U V : Type 0} (value : U → V) (E : U → U → Bool) → ((a b : U) → Decides (E a b) (value a ≡ value b)) → (m n e f : U)

@@ -15,9 +15,9 @@ ghost use Rattle.pkcs1.specs.Versions.{number_of};
 
 use crate::version::Version;
 use der_core::{
-    BackWriter, Borrowed, Contents, Decode, DecodeValue, Encode, EncodeValue, ErrorKind, Header,
-    Length, Memory, Reader, Result, Sequence, SequenceTag, Tag, TaggedBy, Text, TryClone, Writer,
-    decode_optional, encode_texts, prepend_texts, texts_len,
+    BackWriter, Borrowed, Contents, Decode, DecodeValue, Encode, EncodeValue, Encoding, ErrorKind,
+    Header, Length, Memory, Reader, Result, Sequence, SequenceTag, Tag, TaggedBy, TryClone, Writer,
+    decode_optional, encode_items, items_len, prepend_items,
 };
 use std::alloc::{AllocError, Global};
 
@@ -61,20 +61,20 @@ impl<U: Clone> Clone for OtherPrimeInfo<U> {
     }
 }
 
-impl<U: Text> Contents for OtherPrimeInfo<U> {
+impl<U: Encoding> Contents for OtherPrimeInfo<U> {
     ghost Value = { OtherPrime U.Value };
 
     ghost value = { other_of U.value };
 
-    ghost contents = { OtherPrimeContents U.text };
+    ghost contents = { OtherPrimeContents U.encoding };
 
-    ghost has_contents = { HasOther U.has_text };
+    ghost has_contents = { HasOther U.has_encoding };
 
-    ghost written_contents = { written_other U.written_text };
+    ghost written_contents = { written_other U.written_encoding };
 
     ghost means_one = { other_means_one U.delimited };
 
-    ghost contents_of_bytes = { other_of_bytes U.text U.text_of_bytes };
+    ghost contents_of_bytes = { other_of_bytes U.encoding U.encoding_of_bytes };
 }
 
 impl<U> TaggedBy for OtherPrimeInfo<U> {
@@ -104,7 +104,7 @@ impl<'a, M: Memory, U: Decode<&'a [u8], M>> DecodeValue<&'a [u8], M> for OtherPr
 
     ghost may_allocate = { AllocatesWithin U.Decode.may_allocate };
 
-    ghost fault = { OtherPrimeFault U.text U.Decode.fault };
+    ghost fault = { OtherPrimeFault U.encoding U.Decode.fault };
 
     fn decode_value<R: Reader<&'a [u8]>>(
         memory: M,
@@ -122,15 +122,15 @@ impl<'a, M: Memory, U: Decode<&'a [u8], M>> DecodeValue<&'a [u8], M> for OtherPr
         })
     }
 
-    ghost fault_none = { other_fault_none U.text U.Decode.fault U.delimited U.Decode.fault_none };
+    ghost fault_none = { other_fault_none U.encoding U.Decode.fault U.delimited U.Decode.fault_none };
 
     ghost fault_first = { let none = U.Decode.fault_none in
-        other_fault_first U.text U.Decode.fault U.delimited none U.Decode.fault_first };
+        other_fault_first U.encoding U.Decode.fault U.delimited none U.Decode.fault_first };
 }
 
 impl<U: Encode> EncodeValue for OtherPrimeInfo<U> {
     fn value_len(&self) -> Result<Length> {
-        texts_len(&[
+        items_len(&[
             Borrowed(&self.prime),
             Borrowed(&self.exponent),
             Borrowed(&self.coefficient),
@@ -139,7 +139,7 @@ impl<U: Encode> EncodeValue for OtherPrimeInfo<U> {
 
     fn encode_value<W: Writer>(&self, writer: &mut W) -> Result<()> {
         self.value_len()?;
-        encode_texts(
+        encode_items(
             &[
                 Borrowed(&self.prime),
                 Borrowed(&self.exponent),
@@ -150,7 +150,7 @@ impl<U: Encode> EncodeValue for OtherPrimeInfo<U> {
     }
 
     fn prepend_value(&self, writer: &mut BackWriter<'_>) {
-        prepend_texts(
+        prepend_items(
             &[
                 Borrowed(&self.prime),
                 Borrowed(&self.exponent),
@@ -160,9 +160,9 @@ impl<U: Encode> EncodeValue for OtherPrimeInfo<U> {
         );
     }
 
-    ghost contents_relate = { other_relates U.text U.has_text U.written_text U.text_relates };
+    ghost contents_relate = { other_relates U.encoding U.has_encoding U.written_encoding U.encoding_relates };
 
-    ghost contents_shortest = { other_shortest U.text U.has_text U.written_text U.text_shortest };
+    ghost contents_shortest = { other_shortest U.encoding U.has_encoding U.written_encoding U.encoding_shortest };
 }
 
 /// Whether the list is there but empty.
@@ -181,9 +181,9 @@ pub(crate) fn read_other_primes<'a, U: Decode<&'a [u8], Global>, R: Reader<&'a [
     reader: &mut R,
     version: Version,
 ) -> Result<Option<OtherPrimeInfos<U>>>
-    ensures reads { ReadsContents (others_of U.value) (OthersOf U.text (number_of version)) BeginsSequence
+    ensures reads { ReadsContents (others_of U.value) (OthersOf U.encoding (number_of version)) BeginsSequence
         result (R.left reader.old) (R.left reader.new) }
-    ensures exact { let fault = OthersFault U.text U.Decode.fault (number_of version) in
+    ensures exact { let fault = OthersFault U.encoding U.Decode.fault (number_of version) in
         IfErr result (λ e. FaultyWhole fault BeginsSequence e.kind (R.left reader.old)) }
 {
     let others: Option<OtherPrimeInfos<U>> = decode_optional(memory, reader)?;
@@ -201,7 +201,7 @@ pub(crate) fn read_other_primes<'a, U: Decode<&'a [u8], Global>, R: Reader<&'a [
 pub(crate) fn other_primes_len<U: Encode>(others: &Option<OtherPrimeInfos<U>>) -> Result<Length>
     requires { ¬ (ListsNone others.now) }
     ensures { let primes = others_of U.value others.now in
-        Counts (HasOthers U.has_text primes) (written_others U.written_text primes) result }
+        Counts (HasOthers U.has_encoding primes) (written_others U.written_encoding primes) result }
 {
     match others {
         None => Ok(Length::ZERO),
@@ -214,11 +214,11 @@ pub(crate) fn encode_other_primes<U: Encode, W: Writer>(
     others: &Option<OtherPrimeInfos<U>>,
     writer: &mut W,
 ) -> Result<()>
-    requires has { HasOthers U.has_text (others_of U.value others.now) }
-    requires fits { length (written_others U.written_text (others_of U.value others.now)) ≤ limit }
+    requires has { HasOthers U.has_encoding (others_of U.value others.now) }
+    requires fits { length (written_others U.written_encoding (others_of U.value others.now)) ≤ limit }
     ensures appends { let primes = others_of U.value others.now in
-        let octets = written_others U.written_text primes in
-        Appends (HasOthers U.has_text primes) octets W.room W.written writer.old writer.new result }
+        let octets = written_others U.written_encoding primes in
+        Appends (HasOthers U.has_encoding primes) octets W.room W.written writer.old writer.new result }
     ensures kept { W.keeps writer.old writer.new }
 {
     match others {
@@ -232,10 +232,10 @@ pub(crate) fn prepend_other_primes<U: Encode>(
     others: &Option<OtherPrimeInfos<U>>,
     writer: &mut BackWriter<'_>,
 )
-    requires has { HasOthers U.has_text (others_of U.value others.now) }
-    requires fits { length (written_others U.written_text (others_of U.value others.now)) ≤ limit }
-    requires room { length (written_others U.written_text (others_of U.value others.now)) ≤ free_of writer.old }
-    ensures { Prepends (written_others U.written_text (others_of U.value others.now)) writer.old writer.new }
+    requires has { HasOthers U.has_encoding (others_of U.value others.now) }
+    requires fits { length (written_others U.written_encoding (others_of U.value others.now)) ≤ limit }
+    requires room { length (written_others U.written_encoding (others_of U.value others.now)) ≤ free_of writer.old }
+    ensures { Prepends (written_others U.written_encoding (others_of U.value others.now)) writer.old writer.new }
 {
     if let Some(infos) = others {
         infos.prepend(writer);

@@ -3,11 +3,11 @@ use Rattle.std.proofs.Common.{ℕ, List, [], ◌∷◌, ◌≤◌, ◌<◌, ◌+
 use Rattle.der_core.specs.Tag.{integer_tag}
 use Rattle.der_core.specs.Integer.{SmallContents}
 use Rattle.der_core.specs.Laws.Integer.{small_of_bytes, small_at_most_one}
-use Rattle.der_core.specs.Texts.{AreBytes, AtMostOne}
-use Rattle.der_core.specs.Laws.Texts.{tlv_of_bytes}
+use Rattle.der_core.specs.Encodings.{AreBytes, AtMostOne}
+use Rattle.der_core.specs.Laws.Encodings.{tlv_of_bytes}
 use Rattle.der_core.specs.Laws.Growing.{tlv_recast}
-use Rattle.spki_core.specs.Laws.AlgorithmTexts.{plain_at_most_one, mask_at_most_one}
-use Rattle.spki_core.specs.Laws.FieldTexts.{AreLater, AreOfBytes}
+use Rattle.spki_core.specs.Laws.AlgorithmEncodings.{plain_at_most_one, mask_at_most_one}
+use Rattle.spki_core.specs.Laws.FieldEncodings.{AreLater, AreOfBytes}
 use Rattle.spki_core.specs.Laws.Fields.{AreInOrder}
 use Rattle.spki_core.specs.Laws.StrictWalk.{Marked}
 use Rattle.pkcs1_params.specs.Laws.HashFields.{plain_of_bytes, mask_of_bytes}
@@ -22,7 +22,7 @@ number_small (salt_len_field n) = omega arith
 number_small (trailer_field n) = omega arith
 number_small (p_source_field v) = omega arith
 
-value_of_bytes : (v : FieldValue) (text : List ℕ) → (part_of v).field.Inner text → AreBytes text
+value_of_bytes : (v : FieldValue) (encoding : List ℕ) → (part_of v).field.Inner encoding → AreBytes encoding
 value_of_bytes (hash_field v) = plain_of_bytes v
 value_of_bytes (mask_gen_field v) = mask_of_bytes v
 value_of_bytes (salt_len_field n) = tlv_of_bytes integer_tag refl SmallContents small_of_bytes n

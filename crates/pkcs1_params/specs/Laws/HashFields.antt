@@ -2,15 +2,15 @@
 -- encoding.
 use Rattle.std.proofs.Common.{ℕ, List, [], ◌∷◌, ◌≡◌, ◌<◌, ◌≤◌, ◌^◌, map, length, refl, arith}
 use Rattle.der_core.specs.Tag.{sequence_tag}
-use Rattle.der_core.specs.Texts.{IsOfBytes, Joins}
-use Rattle.der_core.specs.Laws.Texts.{tlv_of_bytes, tlv_relates, tlv_shortest}
+use Rattle.der_core.specs.Encodings.{IsOfBytes, Joins}
+use Rattle.der_core.specs.Laws.Encodings.{tlv_of_bytes, tlv_relates, tlv_shortest}
 use Rattle.der_core.specs.Writing.{IsLeast}
 use Rattle.spki_core.specs.Any.{TagAndContents, IsAny, Any, written_any}
-use Rattle.spki_core.specs.Laws.AnyTexts.{any_of_bytes, any_relates, any_shortest}
+use Rattle.spki_core.specs.Laws.AnyEncodings.{any_of_bytes, any_relates, any_shortest}
 use Rattle.spki_core.specs.AlgorithmIdentifier.{Algorithm, AlgorithmContents, PlainAlgorithm, MaskAlgorithm, HasPlain, HasMask, written_algorithm, written_plain, written_mask}
 use Rattle.spki_core.specs.Laws.Algorithms.{plain_delimited, mask_delimited, algorithm_of_bytes, algorithm_relates, algorithm_shortest}
 use Rattle.spki_core.specs.Explicit.{Field, field, Defaultable}
-use Rattle.spki_core.specs.Laws.FieldTexts.{AreLater, value_step}
+use Rattle.spki_core.specs.Laws.FieldEncodings.{AreLater, value_step}
 use Rattle.pkcs1_params.specs.Parameters.{sha1, mgf1_sha1, hash_fields_then}
 
 -- Fields later than a field are later than an earlier one.

@@ -6,7 +6,7 @@ use Rattle.der_core.specs.Tag.{context_tag, integer_tag, object_identifier_tag, 
 use Rattle.der_core.specs.Integer.{integer_contents}
 use Rattle.der_core.specs.Length.{limit}
 use Rattle.der_core.specs.Optional.{written_optional, HasOptional}
-use Rattle.der_core.specs.Laws.ShortTexts.{tlv_short}
+use Rattle.der_core.specs.Laws.ShortEncodings.{tlv_short}
 use Rattle.der_core.specs.Tlv.{tlv}
 use Rattle.spki_core.specs.AlgorithmIdentifier.{written_plain, written_mask, HasPlain, HasMask}
 use Rattle.spki_core.specs.AlgorithmValue.{algorithm_of, mask_of}
@@ -45,6 +45,6 @@ pub field_held : {has : Type 0} (out : Bool) → has → HasField out has
 field_held true h = tt
 field_held false h = h
 
-pub field_short : (out : Bool) (number m : ℕ) (text : List ℕ) → length text ≤ m → m < 2 ^ 64 → length (written_field out number text) ≤ m + 128
-field_short true number m text h small = omega arith
-field_short false number m text h small = tlv_short (context_tag number) m text h small
+pub field_short : (out : Bool) (number m : ℕ) (encoding : List ℕ) → length encoding ≤ m → m < 2 ^ 64 → length (written_field out number encoding) ≤ m + 128
+field_short true number m encoding h small = omega arith
+field_short false number m encoding h small = tlv_short (context_tag number) m encoding h small

@@ -1,12 +1,12 @@
 -- RSAES-OAEP parameters: each encoding means one value and is bytes, and what is written of a value is the shortest of
 -- its encodings.
 use Rattle.std.proofs.Common.{List, [], ◌∷◌, arith}
-use Rattle.der_core.specs.Texts.{IsOfBytes, MeansOne}
-use Rattle.der_core.specs.Writing.{WritesTexts, WritesLeast}
+use Rattle.der_core.specs.Encodings.{IsOfBytes, MeansOne}
+use Rattle.der_core.specs.Writing.{WritesEncodings, WritesLeast}
 use Rattle.spki_core.specs.AlgorithmIdentifier.{PlainAlgorithm}
 use Rattle.spki_core.specs.Laws.Algorithms.{plain_delimited}
 use Rattle.spki_core.specs.Explicit.{Field, field}
-use Rattle.spki_core.specs.Laws.FieldTexts.{value_step, fields_of_bytes as joins_of_bytes}
+use Rattle.spki_core.specs.Laws.FieldEncodings.{value_step, fields_of_bytes as joins_of_bytes}
 use Rattle.pkcs1_params.specs.Laws.FieldValues.{fields_of_bytes}
 use Rattle.pkcs1_params.specs.Laws.HashFields.{hash_fields_step}
 use Rattle.pkcs1_params.specs.Parameters.{empty_label, OaepParameters, oaep_fields, OaepContents}
@@ -26,7 +26,7 @@ oaep_means_one v w c p q =
 pub oaep_of_bytes : IsOfBytes OaepContents
 oaep_of_bytes p = joins_of_bytes (oaep_fields p) (fields_of_bytes (oaep_values p))
 
-pub oaep_relates : WritesTexts OaepContents (λ p. HasFields (oaep_values p) 0) (λ p. written_fields (oaep_values p) 0)
+pub oaep_relates : WritesEncodings OaepContents (λ p. HasFields (oaep_values p) 0) (λ p. written_fields (oaep_values p) 0)
 oaep_relates p = parts_hold (parts_of (oaep_values p))
 
 pub oaep_shortest : WritesLeast OaepContents (λ p. HasFields (oaep_values p) 0) (λ p. written_fields (oaep_values p) 0)

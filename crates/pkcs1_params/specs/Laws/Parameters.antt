@@ -2,9 +2,9 @@
 -- INTEGER.
 use Rattle.std.proofs.Common.{ℕ, List, [], ◌++◌, map, refl, arith}
 use Rattle.der_core.specs.Tag.{integer_tag, sequence_tag}
-use Rattle.der_core.specs.Texts.{IsDelimited, Joins, Then}
+use Rattle.der_core.specs.Encodings.{IsDelimited, Joins, Then}
 use Rattle.der_core.specs.Tlv.{Tlv}
-use Rattle.der_core.specs.Laws.Texts.{tlv_split, tlv_delimited}
+use Rattle.der_core.specs.Laws.Encodings.{tlv_split, tlv_delimited}
 use Rattle.spki_core.specs.Explicit.{Field, Defaultable, FieldSequence}
 use Rattle.spki_core.specs.Laws.Fields.{AreInOrder, fields_start}
 use Rattle.pkcs1_params.specs.Parameters.{PssParameters, PssContents, RsaPssParams, pss_fields, OaepParameters, OaepContents, RsaOaepParams, oaep_fields}
@@ -36,7 +36,7 @@ integer_not_fields : {P Rest : List ℕ → Type 0} (fields : List Field) (c : L
 integer_not_fields fields c (x, y, p, i, e) q = fields_start fields 2 c ((p.octets ++ p.contents) ++ y) (omega arith) q (rw (e, p.written) refl)
 
 -- So a SEQUENCE that begins with an INTEGER is none of fields.
-pub sequences_exclude : {P Rest : List ℕ → Type 0} (fields : List Field) (text : List ℕ) → Tlv sequence_tag (Then (Tlv integer_tag P) Rest) text → FieldSequence fields text → ⊥
-sequences_exclude fields text p q =
-    let s = tlv_split text [] text [] p q refl in
+pub sequences_exclude : {P Rest : List ℕ → Type 0} (fields : List Field) (encoding : List ℕ) → Tlv sequence_tag (Then (Tlv integer_tag P) Rest) encoding → FieldSequence fields encoding → ⊥
+sequences_exclude fields encoding p q =
+    let s = tlv_split encoding [] encoding [] p q refl in
     integer_not_fields fields s.3 s.4 s.5

@@ -5,8 +5,8 @@ use Rattle.std.specs.Prelude.{Bool}
 use Rattle.std.specs.Bool.{Decides}
 use Rattle.std.specs.Int.{from_bool}
 use Rattle.der_core.specs.Tag.{context_tag}
-use Rattle.der_core.specs.Texts.{Joins}
-use Rattle.der_core.specs.Laws.Texts.{tlv_shortest, tlv_not_empty, then_least}
+use Rattle.der_core.specs.Encodings.{Joins}
+use Rattle.der_core.specs.Laws.Encodings.{tlv_shortest, tlv_not_empty, then_least}
 use Rattle.der_core.specs.Writing.{IsLeast}
 use Rattle.spki_core.specs.Laws.Fields.{masked_joins}
 use Rattle.spki_core.specs.Explicit.{Field, Defaultable, HaveDefaults}
@@ -29,12 +29,12 @@ parts_hold parts h fits =
     let k = parts_counted parts in
     masked_joins (fields_of parts) 0 (written_under parts 0) (parts_relate parts k.0 0 k.1 (omega (arith, pow_pos k.0)) h fits)
 
-field_least : (f : Field) {has : Type 0} (text : List ℕ) (b : Bool) → Decides b f.IsDefault → ((other : List ℕ) → f.Inner other → IsLeast has text other)
-    → (c : List ℕ) → Defaultable f c → IsLeast (HasField (out_under b 0) has) (written_field (out_under b 0) f.number text) c
-field_least f text true d least c (inl p) = (tt, omega arith, (λ (_ : length c ≤ 0). p.0))
-field_least f text true d least c (inr p) = (tt, omega arith, (λ (l : length c ≤ 0). absurd (omega (arith, l, tlv_not_empty c p))))
-field_least f text false d least c (inl p) = let no : false ≡ true = d.1 p.1 in cc
-field_least f {has} text false d least c (inr p) = tlv_shortest (context_tag f.number) (λ (_ : Unit {0}). f.Inner) (λ _. text) (λ _. has) (λ _. least) tt c p
+field_least : (f : Field) {has : Type 0} (encoding : List ℕ) (b : Bool) → Decides b f.IsDefault → ((other : List ℕ) → f.Inner other → IsLeast has encoding other)
+    → (c : List ℕ) → Defaultable f c → IsLeast (HasField (out_under b 0) has) (written_field (out_under b 0) f.number encoding) c
+field_least f encoding true d least c (inl p) = (tt, omega arith, (λ (_ : length c ≤ 0). p.0))
+field_least f encoding true d least c (inr p) = (tt, omega arith, (λ (l : length c ≤ 0). absurd (omega (arith, l, tlv_not_empty c p))))
+field_least f encoding false d least c (inl p) = let no : false ≡ true = d.1 p.1 in cc
+field_least f {has} encoding false d least c (inr p) = tlv_shortest (context_tag f.number) (λ (_ : Unit {0}). f.Inner) (λ _. encoding) (λ _. has) (λ _. least) tt c p
 
 rest_zero : (b : Bool) → rest_under b 0 ≡ 0
 rest_zero true = refl
@@ -48,14 +48,14 @@ pub parts_shortest : (parts : List Part) (c : List ℕ) → Joins (map Defaultab
 parts_shortest [] c e = (tt, omega arith, (λ (_ : length c ≤ 0). e))
 parts_shortest (p ∷ parts) c j =
     rw (rest_zero p.is_default)
-    (then_least (written_field (out_under p.is_default 0) p.field.number p.text) (written_under parts 0)
-    (field_least p.field p.text p.is_default p.decides p.least) (parts_shortest parts) c j)
+    (then_least (written_field (out_under p.is_default 0) p.field.number p.encoding) (written_under parts 0)
+    (field_least p.field p.encoding p.is_default p.decides p.least) (parts_shortest parts) c j)
 
-pub written_last : (parts : List Part) (p : Part) → written_under (parts ++ p ∷ []) 0 ≡ written_under parts 0 ++ written_field p.is_default p.field.number p.text
-written_last [] p = append-nil (written_field (out_under p.is_default 0) p.field.number p.text) ∙ ap (λ b. written_field b p.field.number p.text) (out_zero p.is_default)
+pub written_last : (parts : List Part) (p : Part) → written_under (parts ++ p ∷ []) 0 ≡ written_under parts 0 ++ written_field p.is_default p.field.number p.encoding
+written_last [] p = append-nil (written_field (out_under p.is_default 0) p.field.number p.encoding) ∙ ap (λ b. written_field b p.field.number p.encoding) (out_zero p.is_default)
 written_last (q ∷ parts) p =
-    let a = written_field (out_under q.is_default 0) q.field.number q.text in
-    let w = written_field p.is_default p.field.number p.text in
+    let a = written_field (out_under q.is_default 0) q.field.number q.encoding in
+    let w = written_field p.is_default p.field.number p.encoding in
     rw (rest_zero q.is_default) (ap (λ r. a ++ r) (written_last parts p) ∙ sym (append_assoc a (written_under parts 0) w))
 
 abbrev pub AllHave : List Part → Type 0

@@ -3,10 +3,10 @@
 use Rattle.std.proofs.Common.{List, [], ◌∷◌, arith}
 use Rattle.der_core.specs.Integer.{Small}
 use Rattle.der_core.specs.Laws.Integer.{small_delimited}
-use Rattle.der_core.specs.Texts.{IsOfBytes, MeansOne}
-use Rattle.der_core.specs.Writing.{WritesTexts, WritesLeast}
+use Rattle.der_core.specs.Encodings.{IsOfBytes, MeansOne}
+use Rattle.der_core.specs.Writing.{WritesEncodings, WritesLeast}
 use Rattle.spki_core.specs.Explicit.{Field, field}
-use Rattle.spki_core.specs.Laws.FieldTexts.{value_step, fields_of_bytes as joins_of_bytes}
+use Rattle.spki_core.specs.Laws.FieldEncodings.{value_step, fields_of_bytes as joins_of_bytes}
 use Rattle.pkcs1_params.specs.Laws.FieldValues.{fields_of_bytes}
 use Rattle.pkcs1_params.specs.Laws.HashFields.{hash_fields_step}
 use Rattle.pkcs1_params.specs.Parameters.{TrailerField, PssParameters, pss_fields, PssContents}
@@ -28,7 +28,7 @@ pss_means_one v w c p q =
 pub pss_of_bytes : IsOfBytes PssContents
 pss_of_bytes p = joins_of_bytes (pss_fields p) (fields_of_bytes (pss_values p))
 
-pub pss_relates : WritesTexts PssContents (λ p. HasFields (pss_values p) 0) (λ p. written_fields (pss_values p) 0)
+pub pss_relates : WritesEncodings PssContents (λ p. HasFields (pss_values p) 0) (λ p. written_fields (pss_values p) 0)
 pss_relates p = parts_hold (parts_of (pss_values p))
 
 pub pss_shortest : WritesLeast PssContents (λ p. HasFields (pss_values p) 0) (λ p. written_fields (pss_values p) 0)

@@ -2,8 +2,8 @@
 use Rattle.std.specs.Prelude.{ℕ, List, [], ◌∷◌, ◌≡◌}
 use Rattle.std.proofs.Common.{arith, sym, ◌∙◌}
 use Rattle.der_core.specs.Tag.{integer_tag}
-use Rattle.der_core.specs.Texts.{MeansOne, IsOfBytes, IsDelimited}
-use Rattle.der_core.specs.Laws.Texts.{tlv_delimited}
+use Rattle.der_core.specs.Encodings.{MeansOne, IsOfBytes, IsDelimited}
+use Rattle.der_core.specs.Laws.Encodings.{tlv_delimited}
 use Rattle.der_core.specs.Integer.{integer_contents}
 use Rattle.der_core.specs.Laws.Integer.{small_of_bytes}
 use Rattle.der_core.specs.Laws.SmallNumbers.{small_relates, small_shortest}

@@ -8,7 +8,7 @@ use std::io::{self, Read, Write};
 #[derive(Drop)]
 pub struct Slow<'a> {
     pub left: &'a [u8],
-    pub refused: u64,
+    pub rejected: u64,
     pub calls: u64,
     pub faults: u64,
 }
@@ -16,11 +16,11 @@ pub struct Slow<'a> {
 impl<'a> Source for Slow<'a> {
     ghost remaining = { λ s. Some s.left.now };
 
-    ghost refusals = { λ s. s.faults };
+    ghost failures = { λ s. s.faults };
 
     fn read(&mut self, buf: &mut [u8]) -> Result<usize> {
         self.calls = self.calls.saturating_add(1);
-        if self.calls == self.refused {
+        if self.calls == self.rejected {
             self.faults = self.faults.saturating_add(1);
             return Err(Error::new(ErrorKind::File));
         }
@@ -46,7 +46,7 @@ pub struct Many {
 impl Source for Many {
     ghost remaining = { λ _. None };
 
-    ghost refusals = { λ _. 0 };
+    ghost failures = { λ _. 0 };
 
     fn read(&mut self, buf: &mut [u8]) -> Result<usize> {
         let count = self.left.min(buf.len() as u64) as usize;
@@ -65,7 +65,7 @@ impl Source for Many {
 pub struct Narrow {
     pub taken: Vec<u8>,
     pub step: usize,
-    pub refused: u64,
+    pub rejected: u64,
     pub calls: u64,
     pub flushes: u64,
     pub faults: u64,
@@ -75,12 +75,12 @@ pub struct Narrow {
 impl Sink for Narrow {
     ghost contents = { λ s. Some s.taken.items };
 
-    ghost refusals = { λ s. s.faults };
+    ghost failures = { λ s. s.faults };
 
     fn write(&mut self, bytes: &[u8]) -> Result<usize> {
         self.calls = self.calls.saturating_add(1);
         let count = self.step.min(bytes.len());
-        if self.calls == self.refused || self.taken.extend_from_slice(&bytes[..count]).is_err() {
+        if self.calls == self.rejected || self.taken.extend_from_slice(&bytes[..count]).is_err() {
             self.faults = self.faults.saturating_add(1);
             return Err(Error::new(ErrorKind::File));
         }
@@ -121,14 +121,14 @@ impl Read for RefusingOnce<'_> {
 #[derive(Drop)]
 pub struct Refusing {
     pub taken: Vec<u8>,
-    pub refused: u64,
+    pub rejected: u64,
     pub calls: u64,
 }
 
 impl Refusing {
     fn call(&mut self, bytes: &[u8]) -> io::Result<()> {
         self.calls = self.calls.saturating_add(1);
-        if self.calls == self.refused || self.taken.extend_from_slice(bytes).is_err() {
+        if self.calls == self.rejected || self.taken.extend_from_slice(bytes).is_err() {
             return Err(io::Error::from(io::ErrorKind::Other));
         }
         Ok(())

@@ -3,8 +3,8 @@ use Rattle.std.proofs.Common.{ℕ, List, [], ◌∷◌, ◌≡◌, sym, ap, ◌�
 use Rattle.der_core.specs.declared.error.ErrorKind.{ErrorKind}
 use Rattle.der_core.specs.declared.error.ErrorKind.TheVariants.{Value}
 use Rattle.der_core.specs.Document.{Means}
-use Rattle.der_core.specs.Faults.{TextFault, SmallFault, NoFault, AreNone, AreFirst}
-use Rattle.der_core.specs.Laws.Faults.{small_fault_none, small_fault_first, no_fault_none, no_fault_first, text_fault_none, text_fault_first, then_fault_none, then_fault_first, tagged_last_none, tagged_last_first, whole_fault_none}
+use Rattle.der_core.specs.Faults.{EncodingFault, SmallFault, NoFault, AreNone, AreFirst}
+use Rattle.der_core.specs.Laws.Faults.{small_fault_none, small_fault_first, no_fault_none, no_fault_first, encoding_fault_none, encoding_fault_first, then_fault_none, then_fault_first, tagged_last_none, tagged_last_first, whole_fault_none}
 use Rattle.der_core.specs.Laws.Expected.{expected_fault_none, expected_fault_first}
 use Rattle.der_core.specs.Integer.{SmallContents}
 use Rattle.der_core.specs.Laws.Integer.{small_means_one}
@@ -15,75 +15,75 @@ use Rattle.der_core.specs.Reading.{NoneHas, NoneIn}
 use Rattle.der_core.specs.Laws.Tags.{same_tag}
 use Rattle.der_core.specs.Tags.{integer, octet_string, sequence}
 use Rattle.der_core.specs.Laws.Tells.{is_value}
-use Rattle.der_core.specs.Texts.{IsDelimited, Joins}
-use Rattle.der_core.specs.Laws.Texts.{tlv_delimited, joins_last}
+use Rattle.der_core.specs.Encodings.{IsDelimited, Joins}
+use Rattle.der_core.specs.Laws.Encodings.{tlv_delimited, joins_last}
 use Rattle.spki_core.specs.AlgorithmIdentifier.{Algorithm, AlgorithmContents, PlainAlgorithm}
 use Rattle.spki_core.specs.Laws.Algorithms.{plain_delimited}
 use Rattle.spki_core.specs.Any.{TagAndContents, Any, null_value}
-use Rattle.spki_core.specs.Laws.AnyTexts.{any_delimited}
+use Rattle.spki_core.specs.Laws.AnyEncodings.{any_delimited}
 use Rattle.spki_core.specs.Faults.{AnyFault, AlgorithmFault}
 use Rattle.spki_core.specs.Laws.Faults.{algorithm_fault_none, algorithm_fault_first, any_fault_none, any_fault_first}
 use Rattle.pkcs1.specs.Laws.KeyFaults.{private_key_whole_first}
-use Rattle.pkcs8_core.specs.Container.{Info, AttributesText, InfoContents, PrivateKeyInfo}
-use Rattle.pkcs8_core.specs.ContainerFaults.{VersionText, VersionFault, AttributesFault, BehindAlgorithm, BehindVersion, InfoFault, PrivateKeyInfoFault, RsaFault}
+use Rattle.pkcs8_core.specs.Container.{Info, AttributesEncoding, InfoContents, PrivateKeyInfo}
+use Rattle.pkcs8_core.specs.ContainerFaults.{VersionEncoding, VersionFault, AttributesFault, BehindAlgorithm, BehindVersion, InfoFault, PrivateKeyInfoFault, RsaFault}
 use Rattle.pkcs8_core.specs.Laws.Container.{info_delimited}
 use Rattle.pkcs8_core.specs.Rsa.{NotRsa, unknown, missing, other, rsa_encryption}
 use Rattle.pkcs8_core.specs.Tags.{attributes_tag}
 
-version_none : AreNone (NoneIn VersionText) (TextFault integer VersionFault)
-version_none = text_fault_none integer VersionFault (λ (u : Unit {0}). SmallContents 0) (expected_fault_none SmallContents SmallFault 0 (Value integer) small_means_one small_fault_none (is_value refl) (Unit {0}))
+version_none : AreNone (NoneIn VersionEncoding) (EncodingFault integer VersionFault)
+version_none = encoding_fault_none integer VersionFault (λ (u : Unit {0}). SmallContents 0) (expected_fault_none SmallContents SmallFault 0 (Value integer) small_means_one small_fault_none (is_value refl) (Unit {0}))
 
-version_first : AreFirst (TextFault integer VersionFault)
-version_first = text_fault_first integer VersionFault (expected_fault_first SmallContents SmallFault 0 (Value integer) small_means_one small_fault_none small_fault_first)
+version_first : AreFirst (EncodingFault integer VersionFault)
+version_first = encoding_fault_first integer VersionFault (expected_fault_first SmallContents SmallFault 0 (Value integer) small_means_one small_fault_none small_fault_first)
 
-pub version_delimited : IsDelimited VersionText
+pub version_delimited : IsDelimited VersionEncoding
 version_delimited = tlv_delimited 2 (λ (u : Unit {0}). SmallContents 0) (λ u w c p q. refl)
 
-plain_none : AreNone (NoneIn PlainAlgorithm) (TextFault sequence (AlgorithmFault Any AnyFault))
-plain_none = text_fault_none sequence (AlgorithmFault Any AnyFault) (AlgorithmContents Any) (algorithm_fault_none Any AnyFault any_delimited any_fault_none)
+plain_none : AreNone (NoneIn PlainAlgorithm) (EncodingFault sequence (AlgorithmFault Any AnyFault))
+plain_none = encoding_fault_none sequence (AlgorithmFault Any AnyFault) (AlgorithmContents Any) (algorithm_fault_none Any AnyFault any_delimited any_fault_none)
 
-plain_first : AreFirst (TextFault sequence (AlgorithmFault Any AnyFault))
-plain_first = text_fault_first sequence (AlgorithmFault Any AnyFault) (algorithm_fault_first Any AnyFault any_delimited any_fault_none any_fault_first)
+plain_first : AreFirst (EncodingFault sequence (AlgorithmFault Any AnyFault))
+plain_first = encoding_fault_first sequence (AlgorithmFault Any AnyFault) (algorithm_fault_first Any AnyFault any_delimited any_fault_none any_fault_first)
 
-key_none : AreNone (NoneIn OctetString) (TextFault octet_string NoFault)
-key_none = text_fault_none octet_string NoFault OctetContents (no_fault_none _)
+key_none : AreNone (NoneIn OctetString) (EncodingFault octet_string NoFault)
+key_none = encoding_fault_none octet_string NoFault OctetContents (no_fault_none _)
 
-attributes_none : AreNone (NoneHas (Optional AttributesText)) AttributesFault
+attributes_none : AreNone (NoneHas (Optional AttributesEncoding)) AttributesFault
 attributes_none = tagged_last_none attributes_tag OctetContents NoFault octets_mean_one (no_fault_none _)
 
 attributes_first : AreFirst AttributesFault
 attributes_first = tagged_last_first attributes_tag OctetContents NoFault octets_mean_one (no_fault_none _) no_fault_first
 
-behind_algorithm : AreNone (NoneHas (λ (i : Info). Joins (OctetString i.private_key ∷ Optional AttributesText i.attributes ∷ []))) BehindAlgorithm
+behind_algorithm : AreNone (NoneHas (λ (i : Info). Joins (OctetString i.private_key ∷ Optional AttributesEncoding i.attributes ∷ []))) BehindAlgorithm
 behind_algorithm =
-    then_fault_none OctetString (TextFault octet_string NoFault) (λ _. AttributesFault) octet_string_delimited key_none (λ (i : Info). i.private_key) (λ i. Joins (Optional AttributesText i.attributes ∷ []))
+    then_fault_none OctetString (EncodingFault octet_string NoFault) (λ _. AttributesFault) octet_string_delimited key_none (λ (i : Info). i.private_key) (λ i. Joins (Optional AttributesEncoding i.attributes ∷ []))
     (λ a k c within fault. let told = attributes_none k c within fault in (told.0, λ i _ p. told.1 i.attributes (joins_last c p)))
 
-behind_version : AreNone (NoneHas (λ (i : Info). Joins (PlainAlgorithm i.algorithm ∷ OctetString i.private_key ∷ Optional AttributesText i.attributes ∷ []))) BehindVersion
+behind_version : AreNone (NoneHas (λ (i : Info). Joins (PlainAlgorithm i.algorithm ∷ OctetString i.private_key ∷ Optional AttributesEncoding i.attributes ∷ []))) BehindVersion
 behind_version =
-    then_fault_none PlainAlgorithm (TextFault sequence (AlgorithmFault Any AnyFault)) (λ _. BehindAlgorithm) plain_delimited plain_none (λ (i : Info). i.algorithm)
-    (λ i. Joins (OctetString i.private_key ∷ Optional AttributesText i.attributes ∷ []))
+    then_fault_none PlainAlgorithm (EncodingFault sequence (AlgorithmFault Any AnyFault)) (λ _. BehindAlgorithm) plain_delimited plain_none (λ (i : Info). i.algorithm)
+    (λ i. Joins (OctetString i.private_key ∷ Optional AttributesEncoding i.attributes ∷ []))
     (λ a k c within fault. let told = behind_algorithm k c within fault in (told.0, λ i _ p. told.1 i p))
 
 pub info_fault_none : AreNone (NoneHas InfoContents) InfoFault
 info_fault_none =
-    then_fault_none VersionText (TextFault integer VersionFault) (λ _. BehindVersion) version_delimited version_none (λ (i : Info). tt)
-    (λ i. Joins (PlainAlgorithm i.algorithm ∷ OctetString i.private_key ∷ Optional AttributesText i.attributes ∷ []))
+    then_fault_none VersionEncoding (EncodingFault integer VersionFault) (λ _. BehindVersion) version_delimited version_none (λ (i : Info). tt)
+    (λ i. Joins (PlainAlgorithm i.algorithm ∷ OctetString i.private_key ∷ Optional AttributesEncoding i.attributes ∷ []))
     (λ u k c within fault. let told = behind_version k c within fault in (told.0, λ i _ p. told.1 i p))
 
 pub info_fault_first : AreFirst InfoFault
 info_fault_first =
-    then_fault_first VersionText (TextFault integer VersionFault) (λ _. BehindVersion) version_delimited version_none version_first
-    (λ _. then_fault_first PlainAlgorithm (TextFault sequence (AlgorithmFault Any AnyFault)) (λ _. BehindAlgorithm) plain_delimited plain_none plain_first
-    (λ _. then_fault_first OctetString (TextFault octet_string NoFault) (λ _. AttributesFault) octet_string_delimited key_none (text_fault_first octet_string NoFault no_fault_first)
+    then_fault_first VersionEncoding (EncodingFault integer VersionFault) (λ _. BehindVersion) version_delimited version_none version_first
+    (λ _. then_fault_first PlainAlgorithm (EncodingFault sequence (AlgorithmFault Any AnyFault)) (λ _. BehindAlgorithm) plain_delimited plain_none plain_first
+    (λ _. then_fault_first OctetString (EncodingFault octet_string NoFault) (λ _. AttributesFault) octet_string_delimited key_none (encoding_fault_first octet_string NoFault no_fault_first)
     (λ _. attributes_first)))
 
 -- Whole slices.
-info_none : AreNone (NoneIn PrivateKeyInfo) (TextFault sequence InfoFault)
-info_none = text_fault_none sequence InfoFault InfoContents info_fault_none
+info_none : AreNone (NoneIn PrivateKeyInfo) (EncodingFault sequence InfoFault)
+info_none = encoding_fault_none sequence InfoFault InfoContents info_fault_none
 
 pub info_whole_none : (k : ErrorKind) (b : List ℕ) → PrivateKeyInfoFault k b → (info : Info) → Means PrivateKeyInfo b info → ⊥
-info_whole_none = whole_fault_none PrivateKeyInfo (TextFault sequence InfoFault) info_delimited info_none
+info_whole_none = whole_fault_none PrivateKeyInfo (EncodingFault sequence InfoFault) info_delimited info_none
 
 -- Another algorithm is rejected with one kind of error, and rsaEncryption with none.
 pub not_rsa_first : (a : Algorithm TagAndContents) (j k : ErrorKind) → NotRsa a j → NotRsa a k → j ≡ k

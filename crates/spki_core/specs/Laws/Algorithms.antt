@@ -2,9 +2,9 @@
 -- its encodings.
 use Rattle.std.proofs.Common.{ℕ, List, ◌≡◌, ◌<◌, ◌^◌, length, refl, ap, arith, length-append, Option, Some, None}
 use Rattle.der_core.specs.Tag.{object_identifier_tag, sequence_tag}
-use Rattle.der_core.specs.Texts.{IsDelimited, IsOfBytes, MeansOne}
+use Rattle.der_core.specs.Encodings.{IsDelimited, IsOfBytes, MeansOne}
 use Rattle.der_core.specs.Tlv.{tlv}
-use Rattle.der_core.specs.Laws.Texts.{tlv_delimited, then_step, then_least, last_least, then_holds, last_holds, then_of_bytes, last_of_bytes}
+use Rattle.der_core.specs.Laws.Encodings.{tlv_delimited, then_step, then_least, last_least, then_holds, last_holds, then_of_bytes, last_of_bytes}
 use Rattle.der_core.specs.Optional.{written_optional}
 use Rattle.der_core.specs.Laws.Optional.{optional_last, optional_of_bytes, optional_relates, optional_shortest}
 use Rattle.der_core.specs.Writing.{IsLeast}
@@ -15,7 +15,7 @@ use Rattle.std.specs.Option.{option_eq, option_map}
 use Rattle.der_core.specs.Laws.Equality.{bytes_decide, option_decides, both_decide}
 use Rattle.spki_core.specs.Laws.Identifiers.{identifier_delimited, identifier_of_bytes, identifier_relates, identifier_shortest}
 use Rattle.spki_core.specs.Any.{TagAndContents, Any}
-use Rattle.spki_core.specs.Laws.AnyTexts.{any_delimited, any_decides}
+use Rattle.spki_core.specs.Laws.AnyEncodings.{any_delimited, any_decides}
 use Rattle.spki_core.specs.AlgorithmIdentifier.{Algorithm, AlgorithmContents, AlgorithmIdentifier, PlainAlgorithm, MaskAlgorithm, HasAlgorithm, written_algorithm, same_any, same_algorithm, same_plain, same_mask}
 
 algorithm_path : {P : Type 0} {v w : Algorithm P} → v.oid ≡ w.oid → v.parameters ≡ w.parameters → v ≡ w
@@ -33,19 +33,19 @@ module _ {P : Type 0} (Parameters : P → List ℕ → Type 0) where
   pub algorithm_of_bytes : IsOfBytes Parameters → IsOfBytes (AlgorithmContents Parameters)
   algorithm_of_bytes of_bytes v c p = then_of_bytes (identifier_of_bytes v.oid) (last_of_bytes (optional_of_bytes Parameters of_bytes v.parameters)) c p
 
-  module _ (has : P → Type 0) (text : P → List ℕ) where
-    pub algorithm_relates : ((v : P) → has v → length (text v) < 2 ^ 128 → Parameters v (text v))
-        → (v : Algorithm P) → HasAlgorithm has v → length (written_algorithm text v) < 2 ^ 128 → AlgorithmContents Parameters v (written_algorithm text v)
+  module _ (has : P → Type 0) (encoding : P → List ℕ) where
+    pub algorithm_relates : ((v : P) → has v → length (encoding v) < 2 ^ 128 → Parameters v (encoding v))
+        → (v : Algorithm P) → HasAlgorithm has v → length (written_algorithm encoding v) < 2 ^ 128 → AlgorithmContents Parameters v (written_algorithm encoding v)
     algorithm_relates relates v h fits =
-        let l = length-append (tlv object_identifier_tag v.oid) (written_optional text v.parameters) in
-        then_holds (tlv object_identifier_tag v.oid) (written_optional text v.parameters) (identifier_relates v.oid h.0)
-        (last_holds (written_optional text v.parameters) (optional_relates Parameters has text relates v.parameters h.1 (omega (arith, fits, l))))
+        let l = length-append (tlv object_identifier_tag v.oid) (written_optional encoding v.parameters) in
+        then_holds (tlv object_identifier_tag v.oid) (written_optional encoding v.parameters) (identifier_relates v.oid h.0)
+        (last_holds (written_optional encoding v.parameters) (optional_relates Parameters has encoding relates v.parameters h.1 (omega (arith, fits, l))))
 
-    pub algorithm_shortest : ((v : P) (b : List ℕ) → Parameters v b → IsLeast (has v) (text v) b)
-        → (v : Algorithm P) (c : List ℕ) → AlgorithmContents Parameters v c → IsLeast (HasAlgorithm has v) (written_algorithm text v) c
+    pub algorithm_shortest : ((v : P) (b : List ℕ) → Parameters v b → IsLeast (has v) (encoding v) b)
+        → (v : Algorithm P) (c : List ℕ) → AlgorithmContents Parameters v c → IsLeast (HasAlgorithm has v) (written_algorithm encoding v) c
     algorithm_shortest least v c p =
-        then_least (tlv object_identifier_tag v.oid) (written_optional text v.parameters) (identifier_shortest v.oid)
-        (last_least (written_optional text v.parameters) (optional_shortest Parameters has text least v.parameters)) c p
+        then_least (tlv object_identifier_tag v.oid) (written_optional encoding v.parameters) (identifier_shortest v.oid)
+        (last_least (written_optional encoding v.parameters) (optional_shortest Parameters has encoding least v.parameters)) c p
 
 pub plain_delimited : IsDelimited PlainAlgorithm
 plain_delimited = algorithm_delimited Any any_delimited

@@ -14,11 +14,11 @@ pub record Carried {X V W : Type 0} (value : X → V) (G : V → List ℕ → Ty
   pub there : V → W
   pub back : W → V
   pub meant : (x : X) → other x ≡ there (value x)
-  pub text_there : (v : V) (b : List ℕ) → G v b → H (there v) b
-  pub text_back : (w : W) (b : List ℕ) → H w b → G (back w) b
+  pub encoding_there : (v : V) (b : List ℕ) → G v b → H (there v) b
+  pub encoding_back : (w : W) (b : List ℕ) → H w b → G (back w) b
 
-pub any_carried : {X V : Type 0} {value : X → V} {text : V → List ℕ → Type 0} {any : X → TagAndContents} → HoldsAny value text any → Carried value text any Any
-any_carried h = record { there = h.to_any; back = h.of_any; meant = h.held; text_there = h.text_to; text_back = h.text_of }
+pub any_carried : {X V : Type 0} {value : X → V} {encoding : V → List ℕ → Type 0} {any : X → TagAndContents} → HoldsAny value encoding any → Carried value encoding any Any
+any_carried h = record { there = h.to_any; back = h.of_any; meant = h.held; encoding_there = h.encoding_to; encoding_back = h.encoding_of }
 
 -- Algorithm identifiers, by their parameters.
 abbrev map_parameters : {V W : Type 0} → (V → W) → Algorithm V → Algorithm W
@@ -43,12 +43,12 @@ algorithm_carried {X} {V} {W} {value} {G} {other} {H} k = record {
   there = map_parameters k.there;
   back = map_parameters k.back;
   meant = λ a. let p = option_meant value other k.there k.meant a.parameters in λ i. record { oid = (algorithm_with other a).oid; parameters = p i };
-  text_there = λ a b t. tlv_recast b t (contents_carried G H k.there k.text_there a t.contents t.holds);
-  text_back = λ a b t. tlv_recast b t (contents_carried H G k.back k.text_back a t.contents t.holds);
+  encoding_there = λ a b t. tlv_recast b t (contents_carried G H k.there k.encoding_there a t.contents t.holds);
+  encoding_back = λ a b t. tlv_recast b t (contents_carried H G k.back k.encoding_back a t.contents t.holds);
 }
 
 pub itself_carried : {X V : Type 0} {value : X → V} {G : V → List ℕ → Type 0} → Carried value G value G
-itself_carried = record { there = λ v. v; back = λ v. v; meant = λ x. refl; text_there = λ v b p. p; text_back = λ v b p. p }
+itself_carried = record { there = λ v. v; back = λ v. v; meant = λ x. refl; encoding_there = λ v b p. p; encoding_back = λ v b p. p }
 
 -- Two that mean the same by the one grammar mean the same by the other.
 pub same_carried : {X V W : Type 0} {value : X → V} {G : V → List ℕ → Type 0} {other : X → W} {H : W → List ℕ → Type 0} → Carried value G other H

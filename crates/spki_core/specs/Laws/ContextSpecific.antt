@@ -4,8 +4,8 @@ use Rattle.std.proofs.Common.{ℕ, List, ◌≡◌, ◌≤◌, ◌<◌, ◌^◌,
 use Rattle.std.specs.Prelude.{IsTrue}
 use Rattle.std.proofs.lemmas.Bool.Decides.{nat_tests}
 use Rattle.der_core.specs.Tag.{is_allowed, context_tag}
-use Rattle.der_core.specs.Texts.{IsDelimited, IsOfBytes}
-use Rattle.der_core.specs.Laws.Texts.{tlv_split, tlv_not_empty, tlv_relates, tlv_shortest, tlv_of_bytes}
+use Rattle.der_core.specs.Encodings.{IsDelimited, IsOfBytes}
+use Rattle.der_core.specs.Laws.Encodings.{tlv_split, tlv_not_empty, tlv_relates, tlv_shortest, tlv_of_bytes}
 use Rattle.der_core.specs.Laws.Shortest.{means_one}
 use Rattle.der_core.specs.Writing.{IsLeast}
 use Rattle.spki_core.specs.ContextSpecific.{Numbered, ContextSpecific, HasNumbered, written_numbered}
@@ -23,7 +23,7 @@ numbered_path p q = λ i. record { number = p i; value = q i }
 module _ {V : Type 0} (Grammar : V → List ℕ → Type 0) where
   pub numbered_delimited : IsDelimited Grammar → IsDelimited (ContextSpecific Grammar)
   numbered_delimited d = record {
-    not_empty = λ v text p. tlv_not_empty text p.1;
+    not_empty = λ v encoding p. tlv_not_empty encoding p.1;
     one = λ v w x y x' y' p q e.
         let s = tlv_split x y x' y' p.1 q.1 e in
         let n : v.number ≡ w.number = let same = s.1 in omega arith in
@@ -31,15 +31,15 @@ module _ {V : Type 0} (Grammar : V → List ℕ → Type 0) where
   }
 
   pub numbered_of_bytes : IsOfBytes Grammar → IsOfBytes (ContextSpecific Grammar)
-  numbered_of_bytes of_bytes v text p = tlv_of_bytes (context_tag v.number) (number_allowed v.number p.0) Grammar of_bytes v.value text p.1
+  numbered_of_bytes of_bytes v encoding p = tlv_of_bytes (context_tag v.number) (number_allowed v.number p.0) Grammar of_bytes v.value encoding p.1
 
-  module _ (has : V → Type 0) (text : V → List ℕ) where
-    pub numbered_relates : ((v : V) → has v → length (text v) < 2 ^ 128 → Grammar v (text v))
-        → (v : Numbered V) → HasNumbered has v → length (written_numbered text v) < 2 ^ 128 → ContextSpecific Grammar v (written_numbered text v)
-    numbered_relates relates v h fits = (h.0, tlv_relates (context_tag v.number) Grammar text v.value (relates v.value h.1) fits)
+  module _ (has : V → Type 0) (encoding : V → List ℕ) where
+    pub numbered_relates : ((v : V) → has v → length (encoding v) < 2 ^ 128 → Grammar v (encoding v))
+        → (v : Numbered V) → HasNumbered has v → length (written_numbered encoding v) < 2 ^ 128 → ContextSpecific Grammar v (written_numbered encoding v)
+    numbered_relates relates v h fits = (h.0, tlv_relates (context_tag v.number) Grammar encoding v.value (relates v.value h.1) fits)
 
-    pub numbered_shortest : ((v : V) (b : List ℕ) → Grammar v b → IsLeast (has v) (text v) b)
-        → (v : Numbered V) (b : List ℕ) → ContextSpecific Grammar v b → IsLeast (HasNumbered has v) (written_numbered text v) b
+    pub numbered_shortest : ((v : V) (b : List ℕ) → Grammar v b → IsLeast (has v) (encoding v) b)
+        → (v : Numbered V) (b : List ℕ) → ContextSpecific Grammar v b → IsLeast (HasNumbered has v) (written_numbered encoding v) b
     numbered_shortest least v b p =
-        let s = tlv_shortest (context_tag v.number) Grammar text has least v.value b p.1 in
+        let s = tlv_shortest (context_tag v.number) Grammar encoding has least v.value b p.1 in
         ((p.0, s.0), s.1, s.2)

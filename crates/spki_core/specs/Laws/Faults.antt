@@ -2,18 +2,18 @@
 use Rattle.std.proofs.Common.{ℕ, List, [], ◌∷◌, ◌++◌, ◌≡◌, length, refl, ap, sym, ◌∙◌, arith, length-append, Result, Ok, Err}
 use Rattle.der_core.specs.declared.error.ErrorKind.{ErrorKind}
 use Rattle.der_core.specs.declared.error.ErrorKind.TheVariants.{Incomplete, OidMalformed}
-use Rattle.der_core.specs.Faults.{TextFault, LastFault, AreNone, AreFirst}
-use Rattle.der_core.specs.Laws.Faults.{text_fault_none, text_fault_first, then_fault_none, then_fault_first, last_fault_none, last_fault_first}
+use Rattle.der_core.specs.Faults.{EncodingFault, LastFault, AreNone, AreFirst}
+use Rattle.der_core.specs.Laws.Faults.{encoding_fault_none, encoding_fault_first, then_fault_none, then_fault_first, last_fault_none, last_fault_first}
 use Rattle.der_core.specs.Laws.Headers.{tlv_header, header_complete, header_at-tells}
-use Rattle.der_core.specs.Headers.{HeaderText}
+use Rattle.der_core.specs.Headers.{HeaderEncoding}
 use Rattle.der_core.specs.Input.{header_at}
 use Rattle.der_core.specs.Laws.Input.{ok_pair}
 use Rattle.der_core.specs.Laws.Tells.{is_incomplete}
 use Rattle.der_core.specs.Optional.{Optional}
 use Rattle.der_core.specs.Reading.{NoneHas, NoneIn, TellsOfBytes}
 use Rattle.der_core.specs.Tags.{object_identifier}
-use Rattle.der_core.specs.Laws.Texts.{joins_last}
-use Rattle.der_core.specs.Texts.{IsDelimited, Joins}
+use Rattle.der_core.specs.Laws.Encodings.{joins_last}
+use Rattle.der_core.specs.Encodings.{IsDelimited, Joins}
 use Rattle.spki_core.specs.Any.{Any}
 use Rattle.spki_core.specs.AlgorithmIdentifier.{Algorithm, AlgorithmContents}
 use Rattle.spki_core.specs.Faults.{IdentifierFault, AlgorithmFault, AnyFault, headless, too_few}
@@ -29,36 +29,36 @@ identifier_fault_none k c within f = (malformed f.0, f.1)
 pub identifier_fault_first : AreFirst IdentifierFault
 identifier_fault_first j k c within f g = f.0 ∙ sym g.0
 
-oid_none : AreNone (NoneIn ObjectIdentifier) (TextFault object_identifier IdentifierFault)
-oid_none = text_fault_none object_identifier IdentifierFault IdentifierContents identifier_fault_none
+oid_none : AreNone (NoneIn ObjectIdentifier) (EncodingFault object_identifier IdentifierFault)
+oid_none = encoding_fault_none object_identifier IdentifierFault IdentifierContents identifier_fault_none
 
-module _ {P : Type 0} (text : P → List ℕ → Type 0) (Fault : ErrorKind → List ℕ → Type 0) (d : IsDelimited text) (none : AreNone (NoneIn text) Fault) where
-  pub algorithm_fault_none : AreNone (NoneHas (AlgorithmContents text)) (AlgorithmFault text Fault)
+module _ {P : Type 0} (encoding : P → List ℕ → Type 0) (Fault : ErrorKind → List ℕ → Type 0) (d : IsDelimited encoding) (none : AreNone (NoneIn encoding) Fault) where
+  pub algorithm_fault_none : AreNone (NoneHas (AlgorithmContents encoding)) (AlgorithmFault encoding Fault)
   algorithm_fault_none =
-      then_fault_none ObjectIdentifier (TextFault object_identifier IdentifierFault) (λ _. LastFault text Fault) identifier_delimited oid_none (λ (a : Algorithm P). a.oid) (λ a. Joins (Optional text a.parameters ∷ []))
-      (λ oid k c within fault. let told = last_fault_none text Fault d none k c within fault in (told.0, λ a _ p. told.1 a.parameters (joins_last c p)))
+      then_fault_none ObjectIdentifier (EncodingFault object_identifier IdentifierFault) (λ _. LastFault encoding Fault) identifier_delimited oid_none (λ (a : Algorithm P). a.oid) (λ a. Joins (Optional encoding a.parameters ∷ []))
+      (λ oid k c within fault. let told = last_fault_none encoding Fault d none k c within fault in (told.0, λ a _ p. told.1 a.parameters (joins_last c p)))
 
-  pub algorithm_fault_first : AreFirst Fault → AreFirst (AlgorithmFault text Fault)
+  pub algorithm_fault_first : AreFirst Fault → AreFirst (AlgorithmFault encoding Fault)
   algorithm_fault_first first =
-      then_fault_first ObjectIdentifier (TextFault object_identifier IdentifierFault) (λ _. LastFault text Fault) identifier_delimited oid_none
-      (text_fault_first object_identifier IdentifierFault identifier_fault_first) (λ _. last_fault_first text Fault d none first)
+      then_fault_first ObjectIdentifier (EncodingFault object_identifier IdentifierFault) (λ _. LastFault encoding Fault) identifier_delimited oid_none
+      (encoding_fault_first object_identifier IdentifierFault identifier_fault_first) (λ _. last_fault_first encoding Fault d none first)
 
 -- Encodings of any tag.
-read_as : {t n : ℕ} (i header rest : List ℕ) → HeaderText (t, n) header → i ≡ header ++ rest → header_at i ≡ Ok ((t, n), rest)
+read_as : {t n : ℕ} (i header rest : List ℕ) → HeaderEncoding (t, n) header → i ≡ header ++ rest → header_at i ≡ Ok ((t, n), rest)
 read_as {t} {n} i header rest h is = ap header_at is ∙ header_complete (t, n) header rest h
 
 pub any_fault_none : AreNone (NoneIn Any) AnyFault
 any_fault_none k i within (headless e) = (
   header_at-tells i k e,
-  λ v b rest split text.
-      let found = tlv_header v.tag b i rest text.0.0 within text.1 split in
+  λ v b rest split encoding.
+      let found = tlv_header v.tag b i rest encoding.0.0 within encoding.1 split in
       cc,
 )
 any_fault_none k i within (too_few t n header rest h is few kind) = (
   is_incomplete kind,
-  λ v b more split text.
-      let p = text.1 in
-      let found = tlv_header v.tag b i more text.0.0 within p split in
+  λ v b more split encoding.
+      let p = encoding.1 in
+      let found = tlv_header v.tag b i more encoding.0.0 within p split in
       let parts = ok_pair (t, n) (v.tag, length p.contents) rest (p.contents ++ more) (sym (read_as i header rest h is) ∙ found) in
       let number : n ≡ length p.contents = ap (λ q. q.1) parts.0 in
       omega (arith, few, number, ap length parts.1, length-append p.contents more),

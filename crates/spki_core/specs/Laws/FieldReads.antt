@@ -4,9 +4,9 @@ use Rattle.std.specs.Prelude.{slice_get, IfErr}
 use Rattle.der_core.specs.declared.error.ErrorKind.{ErrorKind}
 use Rattle.der_core.specs.declared.error.Error.{Error}
 use Rattle.der_core.specs.Input.{Input}
-use Rattle.der_core.specs.Texts.{Joins}
+use Rattle.der_core.specs.Encodings.{Joins}
 use Rattle.der_core.specs.Tlv.{Tlv}
-use Rattle.der_core.specs.Reading.{ReadsText, TellsNext}
+use Rattle.der_core.specs.Reading.{ReadsEncoding, TellsNext}
 use Rattle.der_core.specs.Laws.Growing.{tlv_recast}
 use Rattle.der_core.specs.declared.tag.Tag.{Tag}
 use Rattle.der_core.specs.Faults.{FaultyFront}
@@ -14,7 +14,7 @@ use Rattle.der_core.specs.Laws.Sequences.{ContentsFaulty, ContentsGive, some_sam
 use Rattle.spki_core.specs.Faults.{NextFault, FieldThenFault}
 use Rattle.spki_core.specs.Allocating.{FieldAllocates, AllocatesFromField}
 use Rattle.spki_core.specs.Explicit.{Field, field, Defaultable, IsNext, FieldRead}
-use Rattle.spki_core.specs.Laws.FieldTexts.{AreLater}
+use Rattle.spki_core.specs.Laws.FieldEncodings.{AreLater}
 use Rattle.spki_core.specs.FieldReading.{ReadsField}
 use Rattle.spki_core.specs.Laws.Carried.{Carried}
 use Rattle.spki_core.specs.Laws.Fields.{read_then}
@@ -26,14 +26,14 @@ is_next (x ∷ xs) n e = (xs, let same : x ≡ 160 + n = cc in ap (λ k. k ∷ x
 -- Its octet is next: an encoding was read, or none is there.
 pub field_present : {X V W : Type 0} {value : X → V} {G : V → List ℕ → Type 0} {other : X → W} {H : W → List ℕ → Type 0} → Carried value G other H
     → (n : ℕ) (may_allocate : List ℕ → Type 0) (default : W) (result : Result X Error) (before mid after : Input)
-    → TellsNext (160 + n) (Ok true) before mid → ReadsText value (λ v. Tlv (160 + n) (G v)) (FieldAllocates n may_allocate) result mid after → ReadsField n other H default may_allocate result before after
+    → TellsNext (160 + n) (Ok true) before mid → ReadsEncoding value (λ v. Tlv (160 + n) (G v)) (FieldAllocates n may_allocate) result mid after → ReadsField n other H default may_allocate result before after
 field_present k n may_allocate default (Ok x) before mid after (i, is, at, told) (b, rest, e, left, t) =
-    (i, rest, is, left, inr (b, rest, tlv_recast b t (rw (k.meant x) (k.text_there _ t.contents t.holds)), refl, some_same i (b ++ rest) (sym at ∙ e)))
+    (i, rest, is, left, inr (b, rest, tlv_recast b t (rw (k.meant x) (k.encoding_there _ t.contents t.holds)), refl, some_same i (b ++ rest) (sym at ∙ e)))
 field_present k n may_allocate default (Err e) before mid after (i, is, at, told) (failed, _, why) = (
   failed,
   λ bytes here.
       let same : i ≡ bytes = some_same i bytes (sym is ∙ here) in
-      ⊎_elim inl (λ q. inr (q.0, (is_next bytes n (rw same at (told.0 refl)), λ w rest (x, y, t, _, f). q.1 (k.back w) x y f (tlv_recast x t (k.text_back w t.contents t.holds))))) (why bytes (rw same at at)),
+      ⊎_elim inl (λ q. inr (q.0, (is_next bytes n (rw same at (told.0 refl)), λ w rest (x, y, t, _, f). q.1 (k.back w) x y f (tlv_recast x t (k.encoding_back w t.contents t.holds))))) (why bytes (rw same at at)),
 )
 
 -- Its octet is next, and it has a fault.
@@ -55,43 +55,38 @@ pub field_faulty : {X : Type 0} (r : Result X Error) (n : ℕ) (Fault : Tag → 
 field_faulty (Ok x) n Fault may_allocate before mid next fault = tt
 field_faulty (Err e) n Fault may_allocate before mid next fault = field_told n Fault may_allocate e.kind before mid next fault
 
-pub of_tag : {X : Type 0} (r : Result X Error) (n : ℕ) (Fault : Tag → ErrorKind → List ℕ → Type 0) (may_allocate : List ℕ → Type 0) (before : Input) (tag : Tag) → tag.octet ≡ 160 + n
-    → IfErr r (λ e. (t : Tag) → t.octet ≡ 160 + n → FaultyFront (Fault t) may_allocate e.kind before) → IfErr r (λ e. FaultyFront (Fault tag) may_allocate e.kind before)
-of_tag (Ok x) n Fault may_allocate before tag same fault = tt
-of_tag (Err e) n Fault may_allocate before tag same fault = fault tag same
-
 -- The fault of a field, and of what follows it.
-module _ {V : Type 0} (n : ℕ) (text : V → List ℕ → Type 0) (default : V) (Fault Behind : ErrorKind → List ℕ → Type 0) (own behind : List ℕ → Type 0) where
+module _ {V : Type 0} (n : ℕ) (encoding : V → List ℕ → Type 0) (default : V) (Fault Behind : ErrorKind → List ℕ → Type 0) (own behind : List ℕ → Type 0) where
   pub field_faults : (before after : Input) (e : ErrorKind) → after ≡ None → FaultyFront (NextFault n Fault) (FieldAllocates n own) e before
-      → ContentsFaulty (FieldThenFault n text default Fault Behind) (AllocatesFromField n text default own behind) e before after
+      → ContentsFaulty (FieldThenFault n encoding default Fault Behind) (AllocatesFromField n encoding default own behind) e before after
   field_faults before after e failed fault = (failed, λ c is. ⊎_elim (λ q. inl (q.0, inl q.1)) (λ f. inr (inl f)) (fault c is))
 
   pub fields_faults : {later : List ℕ → Type 0} → ((c : List ℕ) → later c → behind c) → (before mid after : Input) (e : ErrorKind) (x : V)
-      → ((bytes : List ℕ) × (rest : List ℕ) × (before ≡ Some bytes) × (mid ≡ Some rest) × FieldRead n text default bytes x rest) → ContentsFaulty Behind later e mid after
-      → ContentsFaulty (FieldThenFault n text default Fault Behind) (AllocatesFromField n text default own behind) e before after
+      → ((bytes : List ℕ) × (rest : List ℕ) × (before ≡ Some bytes) × (mid ≡ Some rest) × FieldRead n encoding default bytes x rest) → ContentsFaulty Behind later e mid after
+      → ContentsFaulty (FieldThenFault n encoding default Fault Behind) (AllocatesFromField n encoding default own behind) e before after
   fields_faults asked before mid after e x (bytes, rest, at, left, read) fails = (
     fails.0,
     λ c is.
         let same : c ≡ bytes = some_same c bytes (sym is ∙ at) in
         ⊎_elim
-        (λ q. inl (q.0, inr (x, rw same (read_then n text default x behind bytes rest read (asked rest q.1)))))
+        (λ q. inl (q.0, inr (x, rw same (read_then n encoding default x behind bytes rest read (asked rest q.1)))))
         (λ f. inr (inr (x, rest, rw same read, f)))
         (fails.1 rest left),
   )
 
 -- What reading a field ensures of a value.
 abbrev pub FieldGives : {V : Type 0} → ℕ → (V → List ℕ → Type 0) → V → V → Input → Input → Type 0
-FieldGives n text default x before after =
-    (bytes : List ℕ) × (rest : List ℕ) × (before ≡ Some bytes) × (after ≡ Some rest) × FieldRead n text default bytes x rest
+FieldGives n encoding default x before after =
+    (bytes : List ℕ) × (rest : List ℕ) × (before ≡ Some bytes) × (after ≡ Some rest) × FieldRead n encoding default bytes x rest
 
 -- A field, and the fields behind it.
-module _ {W V : Type 0} (n : ℕ) (text : V → List ℕ → Type 0) (default : V) (head : W → V) (fields : W → List Field) (later : (w : W) → AreLater n (fields w)) where
+module _ {W V : Type 0} (n : ℕ) (encoding : V → List ℕ → Type 0) (default : V) (head : W → V) (fields : W → List Field) (later : (w : W) → AreLater n (fields w)) where
   abbrev AllFields : W → List ℕ → Type 0
-  AllFields w c = Joins (map Defaultable (field n text default (head w) ∷ fields w)) c
+  AllFields w c = Joins (map Defaultable (field n encoding default (head w) ∷ fields w)) c
 
   pub fields_give : (before mid after : Input) (w : W)
-      → FieldGives n text default (head w) before mid → ContentsGive (Joins (map Defaultable (fields w))) mid after
+      → FieldGives n encoding default (head w) before mid → ContentsGive (Joins (map Defaultable (fields w))) mid after
       → ContentsGive (AllFields w) before after
   fields_give before mid after w (bytes, rest, at, left, read) (c, is, done, joins) =
       let same : c ≡ rest = some_same c rest (sym is ∙ left) in
-      (bytes, at, done, read_then n text default (head w) (Joins (map Defaultable (fields w))) bytes rest read (rw same at joins))
+      (bytes, at, done, read_then n encoding default (head w) (Joins (map Defaultable (fields w))) bytes rest read (rw same at joins))

@@ -1,12 +1,12 @@
 -- Explicit fields with defaults: masks and defaults of a list of fields, and reading of one field after another.
 use Rattle.std.proofs.Common.{ℕ, zero, suc, List, [], ◌∷◌, ◌++◌, ◌≡◌, ◌<◌, ◌≤◌, ◌+◌, ◌*◌, ◌^◌, ◌⊎◌, inl, inr, map, length, refl, sym, ap, ◌∙◌, arith, length-append, zero-le, le_refl}
 use Rattle.std.proofs.Math.Nat.{pow-suc}
-use Rattle.der_core.specs.Texts.{Is, IsDelimited, AtMostOne, Joins, Then}
+use Rattle.der_core.specs.Encodings.{Is, IsDelimited, AtMostOne, Joins, Then}
 use Rattle.der_core.specs.Laws.Lists.{same_cons}
 use Rattle.der_core.specs.Laws.Shortest.{means_one}
-use Rattle.der_core.specs.Laws.Texts.{tlv_split, tlv_at_most_one, tlv_not_empty}
+use Rattle.der_core.specs.Laws.Encodings.{tlv_split, tlv_at_most_one, tlv_not_empty}
 use Rattle.spki_core.specs.Explicit.{Field, field, Explicit, Defaultable, IsNext, FieldRead, HaveDefaults, MaskedField, left_out, written, forced, MaskedContents}
-use Rattle.spki_core.specs.Laws.FieldTexts.{AreLater, explicit_starts, not_later}
+use Rattle.spki_core.specs.Laws.FieldEncodings.{AreLater, explicit_starts, not_later}
 
 -- Fields in rising order, with at most one encoding for each value.
 abbrev pub AreInOrder : List Field → Type 0
@@ -237,11 +237,11 @@ present_step n Grammar d default v w gs c rest l (x', y', q, k, f) (x, y, inr p,
     (means_one d w v s.3 s.4 s.5, rw (s.2 ∙ k) at j)
 
 -- If the octet is next, but no encoding of the field, there is no splitting.
-pub refused_step : {V : Type 0} (n : ℕ) (Grammar : V → List ℕ → Type 0) (default w : V) (gs : List Field) (c : List ℕ) → AreLater n gs → IsNext n c → ((v : V) (rest : List ℕ) → Then (Explicit (field n Grammar default v)) (Is rest) c → ⊥) → Joins (map Defaultable (field n Grammar default w ∷ gs)) c → ⊥
-refused_step n Grammar default w gs c l h refused (x, y, inl p, j, e) =
+pub rejected_step : {V : Type 0} (n : ℕ) (Grammar : V → List ℕ → Type 0) (default w : V) (gs : List Field) (c : List ℕ) → AreLater n gs → IsNext n c → ((v : V) (rest : List ℕ) → Then (Explicit (field n Grammar default v)) (Is rest) c → ⊥) → Joins (map Defaultable (field n Grammar default w ∷ gs)) c → ⊥
+rejected_step n Grammar default w gs c l h rejected (x, y, inl p, j, e) =
     let a : c ≡ y = rw p.0 at e in
     not_later n gs y h.0 l j (sym a ∙ h.1)
-refused_step n Grammar default w gs c l h refused (x, y, inr p, j, e) = refused w y (x, y, p, refl, e)
+rejected_step n Grammar default w gs c l h rejected (x, y, inr p, j, e) = rejected w y (x, y, p, refl, e)
 
 -- What was read joins with the later fields.
 pub read_then : {V : Type 0} (n : ℕ) (Grammar : V → List ℕ → Type 0) (default v : V) (Rest : List ℕ → Type 0) (c rest : List ℕ) → FieldRead n Grammar default c v rest → Rest rest → Then (Defaultable (field n Grammar default v)) Rest c

@@ -5,7 +5,7 @@ use Rattle.der_core.specs.Tag.{object_identifier_tag, sequence_tag}
 use Rattle.der_core.specs.Laws.Input.{are_bytes}
 use Rattle.der_core.specs.Length.{limit}
 use Rattle.der_core.specs.Optional.{HasOptional, written_optional}
-use Rattle.der_core.specs.Laws.ShortTexts.{tlv_short}
+use Rattle.der_core.specs.Laws.ShortEncodings.{tlv_short}
 use Rattle.der_core.specs.Tlv.{tlv}
 use Rattle.spki_core.specs.Any.{IsAny, written_any}
 use Rattle.spki_core.specs.AlgorithmIdentifier.{HasPlain, written_plain}

@@ -2,10 +2,10 @@
 use Rattle.std.proofs.Common.{ℕ, zero, suc, List, [], ◌∷◌, ◌≡◌, refl, sym, ◌∙◌, arith}
 use Rattle.std.specs.Prelude.{false}
 use Rattle.der_core.specs.declared.error.ErrorKind.TheVariants.{OidMalformed}
-use Rattle.der_core.specs.Faults.{TextFault, in_contents}
+use Rattle.der_core.specs.Faults.{EncodingFault, in_contents}
 use Rattle.der_core.specs.Length.{short}
 use Rattle.der_core.specs.Tags.{object_identifier}
-use Rattle.der_core.specs.Texts.{AreBytes}
+use Rattle.der_core.specs.Encodings.{AreBytes}
 use Rattle.spki_core.specs.Faults.{IdentifierFault}
 use Rattle.spki_core.specs.ObjectIdentifier.{IsIdentifier}
 use Rattle.spki_core.specs.IdentifierTest.{is_identifier, is_identifier-sound, is_identifier-complete}
@@ -42,20 +42,20 @@ thirty_nine_octets : IsIdentifier (ones 39)
 thirty_nine_octets = is_identifier-sound (ones 39) (ones_are_bytes 39) refl
 
 -- 2a80: it ends within a subidentifier
-unended_refused : IsIdentifier (0x2a ∷ 0x80 ∷ []) → ⊥
-unended_refused = denied (0x2a ∷ 0x80 ∷ []) refl
+unended_rejected : IsIdentifier (0x2a ∷ 0x80 ∷ []) → ⊥
+unended_rejected = denied (0x2a ∷ 0x80 ∷ []) refl
 
 -- 8001: a subidentifier begins with 80
-padded_subidentifier_refused : IsIdentifier (0x80 ∷ 0x01 ∷ []) → ⊥
-padded_subidentifier_refused = denied (0x80 ∷ 0x01 ∷ []) refl
+padded_subidentifier_rejected : IsIdentifier (0x80 ∷ 0x01 ∷ []) → ⊥
+padded_subidentifier_rejected = denied (0x80 ∷ 0x01 ∷ []) refl
 
 -- no octet
-pub no_octet_refused : IsIdentifier [] → ⊥
-no_octet_refused = denied [] refl
+pub no_octet_rejected : IsIdentifier [] → ⊥
+no_octet_rejected = denied [] refl
 
 -- 40 octets 01
-forty_octets_refused : IsIdentifier (ones 40) → ⊥
-forty_octets_refused = denied (ones 40) refl
+forty_octets_rejected : IsIdentifier (ones 40) → ⊥
+forty_octets_rejected = denied (ones 40) refl
 
 -- Such contents have one fault, whatever is wrong with them: 2a80, 8001, no octet, 40 octets 01.
 malformed : (c : List ℕ) → is_identifier c ≡ false → IdentifierFault OidMalformed c
@@ -74,5 +74,5 @@ forty_octets : IdentifierFault OidMalformed (ones 40)
 forty_octets = malformed (ones 40) refl
 
 -- 06022a80
-unended_text : TextFault object_identifier IdentifierFault OidMalformed (0x06 ∷ 0x02 ∷ 0x2a ∷ 0x80 ∷ [])
-unended_text = in_contents (0x06 ∷ 0x02 ∷ []) (0x2a ∷ 0x80 ∷ []) [] (refl, 0x02 ∷ [], (omega arith, short (omega arith) refl), refl) refl unended
+unended_encoding : EncodingFault object_identifier IdentifierFault OidMalformed (0x06 ∷ 0x02 ∷ 0x2a ∷ 0x80 ∷ [])
+unended_encoding = in_contents (0x06 ∷ 0x02 ∷ []) (0x2a ∷ 0x80 ∷ []) [] (refl, 0x02 ∷ [], (omega arith, short (omega arith) refl), refl) refl unended

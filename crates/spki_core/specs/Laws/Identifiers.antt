@@ -2,9 +2,9 @@
 use Rattle.std.proofs.Common.{ℕ, List, [], ◌∷◌, ◌≤◌, ◌<◌, length, refl, sym, ap, ◌∙◌, arith}
 use Rattle.std.specs.List.{AllByRecursion, concat}
 use Rattle.der_core.specs.Tag.{object_identifier_tag}
-use Rattle.der_core.specs.Texts.{AreBytes, IsDelimited, IsOfBytes, MeansOne, AtMostOne}
+use Rattle.der_core.specs.Encodings.{AreBytes, IsDelimited, IsOfBytes, MeansOne, AtMostOne}
 use Rattle.der_core.specs.Tlv.{tlv}
-use Rattle.der_core.specs.Laws.Texts.{tlv_delimited, tlv_at_most_one, tlv_shortest, tlv_of_bytes, bytes_append}
+use Rattle.der_core.specs.Laws.Encodings.{tlv_delimited, tlv_at_most_one, tlv_shortest, tlv_of_bytes, bytes_append}
 use Rattle.der_core.specs.Laws.Length.{length_octets-within}
 use Rattle.der_core.specs.Writing.{IsLeast}
 use Rattle.spki_core.specs.ObjectIdentifier.{IsSubidentifier, IsIdentifier, IdentifierContents, ObjectIdentifier}
@@ -52,5 +52,5 @@ identifier_relates oid h =
     let few = h.short in
     record { octets = _; contents = oid; counted = length_octets-within (length oid) (omega arith); holds = (h, refl); written = refl }
 
-pub identifier_shortest : (oid text : List ℕ) → ObjectIdentifier oid text → IsLeast (IsIdentifier oid) (tlv object_identifier_tag oid) text
-identifier_shortest oid text p = tlv_shortest object_identifier_tag IdentifierContents (λ o. o) IsIdentifier identifier_contents_shortest oid text p
+pub identifier_shortest : (oid encoding : List ℕ) → ObjectIdentifier oid encoding → IsLeast (IsIdentifier oid) (tlv object_identifier_tag oid) encoding
+identifier_shortest oid encoding p = tlv_shortest object_identifier_tag IdentifierContents (λ o. o) IsIdentifier identifier_contents_shortest oid encoding p

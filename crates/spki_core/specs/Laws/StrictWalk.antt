@@ -4,13 +4,13 @@ use Rattle.std.proofs.lemmas.List.{take_all}
 use Rattle.std.specs.Bool.{Decides}
 use Rattle.der_core.specs.Length.{limit}
 use Rattle.der_core.specs.Document.{IsShortest}
-use Rattle.der_core.specs.Texts.{AreBytes, Joins}
-use Rattle.der_core.specs.Laws.Texts.{tlv_split}
+use Rattle.der_core.specs.Encodings.{AreBytes, Joins}
+use Rattle.der_core.specs.Laws.Encodings.{tlv_split}
 use Rattle.der_core.specs.Laws.Growing.{tlv_recast}
 use Rattle.spki_core.specs.Any.{TagAndContents, Any}
 use Rattle.spki_core.specs.Laws.ContextSpecific.{number_allowed}
 use Rattle.spki_core.specs.Explicit.{Field, Explicit, Defaultable, FieldSequence, HaveDefaults, MaskedField, left_out, written, forced, MaskedContents, Masked}
-use Rattle.spki_core.specs.Laws.FieldTexts.{AreOfBytes, explicit_starts, not_later, fields_of_bytes}
+use Rattle.spki_core.specs.Laws.FieldEncodings.{AreOfBytes, explicit_starts, not_later, fields_of_bytes}
 use Rattle.spki_core.specs.Laws.Fields.{AreInOrder, defaultable_split, joins_masked, mask_same}
 use Rattle.spki_core.specs.Laws.Spellings.{zero_shortest, shortest_zero}
 use Rattle.spki_core.specs.StrictFields.{Short, FirstWritten, WritesDefault, Walked, WalksOver}
@@ -44,7 +44,7 @@ found_step : (f : Field) (fields : List Field) (c x y : List ℕ) (found : Optio
 found_step f fields c x y None s e p = (0, (x, y, short_masked f x s, p, e))
 found_step f fields c x y (Some n) s e p = inr (x, y, s, p, e)
 
-explicit_any : (f : Field) (x : List ℕ) → f.number ≤ 30 → ((text : List ℕ) → f.Inner text → AreBytes text) → (p : Explicit f x) → Any (record { tag = 160 + f.number; contents = p.contents }) x
+explicit_any : (f : Field) (x : List ℕ) → f.number ≤ 30 → ((encoding : List ℕ) → f.Inner encoding → AreBytes encoding) → (p : Explicit f x) → Any (record { tag = 160 + f.number; contents = p.contents }) x
 explicit_any f x small bytes p = ((number_allowed f.number small, bytes p.contents p.holds), tlv_recast x p refl)
 
 pub walk_finds : (fields : List Field) (n : ℕ) (ds : List Bool) (c : List ℕ) (found : Option ℕ) → AreInOrder fields → AreOfBytes fields → Marked n fields ds
@@ -113,34 +113,34 @@ first_one (f ∷ fields) o n m c (inr (x, y, s, w, e)) (inr (x', y', s', w', e')
     let t = defaultable_split f fields x y x' y' o.1 (short_is f x s) (first_joins fields n y w) (short_is f x' s') (first_joins fields m y' w') (sym e ∙ e') in
     first_one fields o.2 n m y w (rw t.1 w')
 
-pub writes_one : (fields : List Field) → AreInOrder fields → (n m : ℕ) (text : List ℕ) → WritesDefault fields n text → WritesDefault fields m text → n ≡ m
-writes_one fields o n m text p q = let both = tlv_split text [] text [] p q refl in first_one fields o n m both.3 both.4 both.5
+pub writes_one : (fields : List Field) → AreInOrder fields → (n m : ℕ) (encoding : List ℕ) → WritesDefault fields n encoding → WritesDefault fields m encoding → n ≡ m
+writes_one fields o n m encoding p q = let both = tlv_split encoding [] encoding [] p q refl in first_one fields o n m both.3 both.4 both.5
 
 -- The same for whole encodings.
 abbrev pub FoundIn : List Field → List ℕ → Option ℕ → Type 0
-FoundIn fields text None = Masked fields 0 text
-FoundIn fields text (Some n) = WritesDefault fields n text
+FoundIn fields encoding None = Masked fields 0 encoding
+FoundIn fields encoding (Some n) = WritesDefault fields n encoding
 
-found_in : (fields : List Field) (text : List ℕ) (p : FieldSequence fields text) (found : Option ℕ) → Found fields p.contents found → FoundIn fields text found
-found_in fields text p None h = tlv_recast text p h
-found_in fields text p (Some n) h = tlv_recast text p h
+found_in : (fields : List Field) (encoding : List ℕ) (p : FieldSequence fields encoding) (found : Option ℕ) → Found fields p.contents found → FoundIn fields encoding found
+found_in fields encoding p None h = tlv_recast encoding p h
+found_in fields encoding p (Some n) h = tlv_recast encoding p h
 
-pub text_finds : (fields : List Field) (ds : List Bool) (text : List ℕ) (found : Option ℕ) → AreInOrder fields → AreOfBytes fields → Marked 0 fields ds
-    → length text ≤ limit → FieldSequence fields text → WalksOver ds text found → FoundIn fields text found
-text_finds fields ds text found o b m fits p walks =
+pub encoding_finds : (fields : List Field) (ds : List Bool) (encoding : List ℕ) (found : Option ℕ) → AreInOrder fields → AreOfBytes fields → Marked 0 fields ds
+    → length encoding ≤ limit → FieldSequence fields encoding → WalksOver ds encoding found → FoundIn fields encoding found
+encoding_finds fields ds encoding found o b m fits p walks =
     let bytes = fields_of_bytes fields b p.contents p.holds in
-    let any : Any (record { tag = 48; contents = p.contents }) text = ((refl, bytes), tlv_recast text p refl) in
-    found_in fields text p found (walk_finds fields 0 ds p.contents found o b m p.holds (walks p.contents (fits, any)))
+    let any : Any (record { tag = 48; contents = p.contents }) encoding = ((refl, bytes), tlv_recast encoding p refl) in
+    found_in fields encoding p found (walk_finds fields 0 ds p.contents found o b m p.holds (walks p.contents (fits, any)))
 
 -- So an encoding is the shortest exactly if no default is found in it.
 module _ {V : Type 0} (fields : V → List Field) (ordered : (v : V) → AreInOrder (fields v)) where
-  pub none_found : (v : V) (k : ℕ) (text : List ℕ) → HaveDefaults (fields v) k → length text ≤ limit → Masked (fields v) 0 text → IsShortest (λ w. FieldSequence (fields w)) v text
-  none_found v k text h fits p = zero_shortest fields ordered v k text h p fits
+  pub none_found : (v : V) (k : ℕ) (encoding : List ℕ) → HaveDefaults (fields v) k → length encoding ≤ limit → Masked (fields v) 0 encoding → IsShortest (λ w. FieldSequence (fields w)) v encoding
+  none_found v k encoding h fits p = zero_shortest fields ordered v k encoding h p fits
 
-  pub found_longer : (v : V) (k n : ℕ) (text : List ℕ) → HaveDefaults (fields v) k → WritesDefault (fields v) n text → IsShortest (λ w. FieldSequence (fields w)) v text → ⊥
-  found_longer v k n text h p s =
-      let zero = shortest_zero fields ordered v k text h s in
-      let both = tlv_split text [] text [] zero p refl in
+  pub found_longer : (v : V) (k n : ℕ) (encoding : List ℕ) → HaveDefaults (fields v) k → WritesDefault (fields v) n encoding → IsShortest (λ w. FieldSequence (fields w)) v encoding → ⊥
+  found_longer v k n encoding h p s =
+      let zero = shortest_zero fields ordered v k encoding h s in
+      let both = tlv_split encoding [] encoding [] zero p refl in
       let m = first_masked (fields v) k n both.3 h both.5 in
       let same : 0 ≡ m.0 = mask_same (fields v) 0 m.0 both.3 (ordered v) both.4 m.1 in
       omega (arith, m.2)

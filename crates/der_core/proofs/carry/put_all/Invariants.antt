@@ -7,7 +7,7 @@ abbrev pub invariant-loop-done : goal.invariant-loop-done
 invariant-loop-done g l = record {
   within : l.done ≤ length l.bytes;
   taken : Appends (g.W.Sink.contents l.fn.sink) (g.W.Sink.contents l.sink) (take l.done l.bytes);
-  faults : g.W.Sink.refusals l.sink ≡ g.W.Sink.refusals l.fn.sink;
+  faults : g.W.Sink.failures l.sink ≡ g.W.Sink.failures l.fn.sink;
 }
 
 abbrev pub decreases-loop-done : goal.decreases-loop-done

@@ -7,7 +7,7 @@ abbrev pub invariant-loop-count : goal.invariant-loop-count
 invariant-loop-count g l = record {
   came : Consumes (g.R.Source.remaining l.fn.source) (g.R.Source.remaining l.source) l.bytes.items;
   within : vec_len l.bytes ≤ l.fn.most;
-  faults : g.R.Source.refusals l.source ≡ g.R.Source.refusals l.fn.source;
+  faults : g.R.Source.failures l.source ≡ g.R.Source.failures l.fn.source;
 }
 
 abbrev pub decreases-loop-count : goal.decreases-loop-count

@@ -1,7 +1,7 @@
 use Rattle.pkcs1.proofs.OtherPrimesHeld.{all_there}
 use Rattle.pkcs1.proofs.other_primes.first_other.Goals as goal
 
--- All that is left is read, which no reader refuses.
+-- All that is left is read, which no reader rejects.
 pub returns-in_err-rest-clause-err : goal.returns-in_err-rest-clause-err
 returns-in_err-rest-clause-err c =
     let is = c.in_ok-other.ensures.ok.3 in

@@ -6,7 +6,7 @@ use Rattle.pkcs1.proofs.other_primes.read_other.Goals as goal
 pub returns-in_err-other-clause-err : goal.returns-in_err-other-clause-err
 returns-in_err-other-clause-err _ c =
     let p = err_from_is_err_and c.from_residual.result c.from_residual.ensures.1 in
-    let e = c.in_err-other.ensures.text in
+    let e = c.in_err-other.ensures.encoding in
     rw (p.1, p.2) (λ left is. ⊎_elim (λ w. let t = w.1.3 in let a = t.holds in let u = a.4 in absurd u.holds) (λ w. w) (e.2 left is))
 
 pub returns-in_err-other-clause-exact : goal.returns-in_err-other-clause-exact

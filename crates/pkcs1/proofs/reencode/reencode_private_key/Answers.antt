@@ -1,19 +1,19 @@
 use Rattle.std.proofs.lemmas.Result.{err_from_is_err_and}
 use Rattle.pkcs1.specs.KeyFaults.{RsaPrivateKeyFault}
-use Rattle.der_core.specs.DocumentValue.{text_of}
+use Rattle.der_core.specs.DocumentValue.{encoding_of}
 use Rattle.pkcs1.specs.Laws.KeyFaults.{private_key_whole_none}
 use Rattle.pkcs1.specs.Keys.{RsaPrivateKey}
-use Rattle.pkcs1.proofs.Reencoded.{comes_out, is_sentence, wants_memory, memory_wanted, more_asked}
+use Rattle.pkcs1.proofs.Reencoded.{comes_out, is_sentence, is_memory_error, memory_wanted, more_asked}
 use Rattle.pkcs1.proofs.reencode.reencode_private_key.Goals as goal
 
 pub returns-clause-same : goal.returns-clause-same
-returns-clause-same c = comes_out RsaPrivateKey _ _ c.in_ok-from_pkcs1_der.ensures.ok text_of _ c.to_pkcs1_der.ensures.text
+returns-clause-same c = comes_out RsaPrivateKey _ _ c.in_ok-from_pkcs1_der.ensures.ok encoding_of _ c.to_pkcs1_der.ensures.encoding
 
 pub returns-clause-sentence : goal.returns-clause-sentence
 returns-clause-sentence c = is_sentence RsaPrivateKey _ _ c.in_ok-from_pkcs1_der.ensures.ok c.to_pkcs1_der.result
 
 pub returns-clause-err : goal.returns-clause-err
-returns-clause-err c = wants_memory RsaPrivateKey _ _ c.in_ok-from_pkcs1_der.ensures.ok _ _ c.to_pkcs1_der.ensures.err
+returns-clause-err c = is_memory_error RsaPrivateKey _ _ c.in_ok-from_pkcs1_der.ensures.ok _ _ c.to_pkcs1_der.ensures.err
 
 pub returns-clause-exact : goal.returns-clause-exact
 returns-clause-exact c = memory_wanted RsaPrivateKey _ _ c.in_ok-from_pkcs1_der.ensures.ok _ _ _ c.to_pkcs1_der.ensures.err

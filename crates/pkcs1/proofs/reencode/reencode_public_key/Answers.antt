@@ -1,19 +1,19 @@
 use Rattle.std.proofs.lemmas.Result.{err_from_is_err_and}
 use Rattle.pkcs1.specs.KeyFaults.{RsaPublicKeyFault}
-use Rattle.der_core.specs.DocumentValue.{text_of}
+use Rattle.der_core.specs.DocumentValue.{encoding_of}
 use Rattle.pkcs1.specs.Laws.KeyFaults.{public_key_whole_none}
 use Rattle.pkcs1.specs.Keys.{RsaPublicKey}
-use Rattle.pkcs1.proofs.Reencoded.{comes_out, is_sentence, wants_memory, memory_wanted, more_asked}
+use Rattle.pkcs1.proofs.Reencoded.{comes_out, is_sentence, is_memory_error, memory_wanted, more_asked}
 use Rattle.pkcs1.proofs.reencode.reencode_public_key.Goals as goal
 
 pub returns-clause-same : goal.returns-clause-same
-returns-clause-same c = comes_out RsaPublicKey _ _ c.in_ok-from_pkcs1_der.ensures.ok text_of _ c.to_pkcs1_der.ensures.text
+returns-clause-same c = comes_out RsaPublicKey _ _ c.in_ok-from_pkcs1_der.ensures.ok encoding_of _ c.to_pkcs1_der.ensures.encoding
 
 pub returns-clause-sentence : goal.returns-clause-sentence
 returns-clause-sentence c = is_sentence RsaPublicKey _ _ c.in_ok-from_pkcs1_der.ensures.ok c.to_pkcs1_der.result
 
 pub returns-clause-err : goal.returns-clause-err
-returns-clause-err c = wants_memory RsaPublicKey _ _ c.in_ok-from_pkcs1_der.ensures.ok _ _ c.to_pkcs1_der.ensures.err
+returns-clause-err c = is_memory_error RsaPublicKey _ _ c.in_ok-from_pkcs1_der.ensures.ok _ _ c.to_pkcs1_der.ensures.err
 
 pub returns-clause-exact : goal.returns-clause-exact
 returns-clause-exact c = memory_wanted RsaPublicKey _ _ c.in_ok-from_pkcs1_der.ensures.ok _ _ _ c.to_pkcs1_der.ensures.err

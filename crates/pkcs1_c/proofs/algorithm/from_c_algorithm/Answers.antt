@@ -7,20 +7,20 @@ use Rattle.spki_core.specs.ObjectIdentifier.{IsIdentifier}
 use Rattle.pkcs1_c.specs.declared.algorithm.Algorithm.{Algorithm}
 use Rattle.pkcs1_c.specs.Status.{kind_number}
 use Rattle.pkcs1_c.specs.StructValues.{algorithm_seen}
-use Rattle.pkcs1_c.specs.Unwritten.{PlainRefusal}
+use Rattle.pkcs1_c.specs.StructErrors.{PlainError}
 use Rattle.pkcs1_c.proofs.Given.{err_handed}
-use Rattle.pkcs1_c.proofs.HeldParameters.{algorithm_refused}
+use Rattle.pkcs1_c.proofs.HeldParameters.{algorithm_rejected}
 use Rattle.pkcs1_c.proofs.algorithm.from_c_algorithm.Goals as goal
 
 abbrev pub Told : Algorithm → Error → Type 0
-Told a e = PlainRefusal (algorithm_seen a) (kind_number e.kind)
+Told a e = PlainError (algorithm_seen a) (kind_number e.kind)
 
 pub returns-in_err-tag-clause-err : goal.returns-in_err-tag-clause-err
 returns-in_err-tag-clause-err c =
     let is = subst IsIdentifier c.in_ok-oid.ensures.ok (identifier_held c.in_ok-oid.oid) in
     let err = c.in_err-tag.ensures.err in
     err_handed (Told c.args.algorithm.now) c.in_err-tag.field-0.0 _ c.from_residual-in_err-tag.ensures.1
-    (algorithm_refused c.args.algorithm.now (kind_number c.in_err-tag.field-0.0.kind) c.if-algorithm.true is (inl (ap kind_number err.0, err.1)))
+    (algorithm_rejected c.args.algorithm.now (kind_number c.in_err-tag.field-0.0.kind) c.if-algorithm.true is (inl (ap kind_number err.0, err.1)))
 
 pub returns-in_err-new-clause-err : goal.returns-in_err-new-clause-err
 returns-in_err-new-clause-err c =
@@ -28,4 +28,4 @@ returns-in_err-new-clause-err c =
     let allowed = subst (λ t. IsTrue (is_allowed t)) c.in_ok-tag.ensures.ok c.in_ok-tag.tag.allowed in
     let err = c.in_err-new.ensures.err in
     err_handed (Told c.args.algorithm.now) c.in_err-new.field-0.0 _ c.from_residual-in_err-new.ensures.1
-    (algorithm_refused c.args.algorithm.now (kind_number c.in_err-new.field-0.0.kind) c.if-algorithm.true is (inr (ap kind_number err.0, allowed, err.1)))
+    (algorithm_rejected c.args.algorithm.now (kind_number c.in_err-new.field-0.0.kind) c.if-algorithm.true is (inr (ap kind_number err.0, allowed, err.1)))

@@ -5,16 +5,16 @@ use Rattle.spki_core.specs.ObjectIdentifier.{IsIdentifier}
 use Rattle.pkcs1_c.specs.declared.algorithm.MaskGen.{MaskGen}
 use Rattle.pkcs1_c.specs.Status.{kind_number}
 use Rattle.pkcs1_c.specs.StructValues.{mask_gen_seen}
-use Rattle.pkcs1_c.specs.Unwritten.{MaskRefusal}
+use Rattle.pkcs1_c.specs.StructErrors.{MaskError}
 use Rattle.pkcs1_c.proofs.Given.{err_handed}
-use Rattle.pkcs1_c.proofs.HeldParameters.{mask_refused}
+use Rattle.pkcs1_c.proofs.HeldParameters.{mask_rejected}
 use Rattle.pkcs1_c.proofs.algorithm.from_c_mask_gen.Goals as goal
 
 abbrev pub Told : MaskGen → Error → Type 0
-Told m e = MaskRefusal (mask_gen_seen m) (kind_number e.kind)
+Told m e = MaskError (mask_gen_seen m) (kind_number e.kind)
 
 pub returns-in_err-from_c_algorithm-clause-err : goal.returns-in_err-from_c_algorithm-clause-err
 returns-in_err-from_c_algorithm-clause-err c =
     let is = subst IsIdentifier c.in_ok-oid.ensures.ok (identifier_held c.in_ok-oid.oid) in
     err_handed (Told c.args.mask_gen.now) c.in_err-from_c_algorithm.field-0.0 _ c.from_residual-in_err-from_c_algorithm.ensures.1
-    (mask_refused c.args.mask_gen.now (kind_number c.in_err-from_c_algorithm.field-0.0.kind) c.if-mask_gen.true is c.in_err-from_c_algorithm.ensures.err)
+    (mask_rejected c.args.mask_gen.now (kind_number c.in_err-from_c_algorithm.field-0.0.kind) c.if-mask_gen.true is c.in_err-from_c_algorithm.ensures.err)

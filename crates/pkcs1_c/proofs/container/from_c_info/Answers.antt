@@ -2,7 +2,7 @@ use Rattle.std.proofs.Common.{◌<◌, refl}
 use Rattle.pkcs1_c.specs.Containers.{KeyFault}
 use Rattle.pkcs1_c.specs.Status.{status_of, IsNumberOfFault}
 use Rattle.pkcs1_c.proofs.Given.{err_handed}
-use Rattle.pkcs1_c.proofs.Refusals.{status_below, status_faulty}
+use Rattle.pkcs1_c.proofs.NotWritten.{status_below, status_faulty}
 use Rattle.pkcs1_c.proofs.container.from_c_info.Goals as goal
 
 pub returns-in_err-_view-clause-err : goal.returns-in_err-_view-clause-err

@@ -3,7 +3,7 @@ use Rattle.der_core.specs.Document.{Means}
 use Rattle.pkcs1.specs.Keys.{RsaPrivateKey}
 use Rattle.pkcs8_core.specs.Container.{Info}
 use Rattle.pkcs1_c.specs.Containers.{RsaContainerFault}
-use Rattle.pkcs1_c.proofs.Refusals.{status_faulty, status_only}
+use Rattle.pkcs1_c.proofs.NotWritten.{status_faulty, status_only}
 use Rattle.pkcs1_c.specs.StructValues.{private_key_seen}
 use Rattle.pkcs1_c.proofs.container.pkcs1_c_private_key_info_decode.Goals as goal
 
@@ -18,7 +18,7 @@ returns-in-Ok-clause-one_key c = λ _ other m.
     same ∙ sym c.to_c_key.ensures.key ∙ (λ i. private_key_seen c.to_c_key.result (sym same i).other_prime_infos)
 
 pub returns-in-Err-clause-exact : goal.returns-in-Err-clause-exact
-returns-in-Err-clause-exact c = λ _. status_faulty (RsaContainerFault c.args.text.now) c.in-Err.error _ c.status.ensures c.in-Err.ensures.exact
+returns-in-Err-clause-exact c = λ _. status_faulty (RsaContainerFault c.args.encoding.now) c.in-Err.error _ c.status.ensures c.in-Err.ensures.exact
 
 pub returns-in-Err-clause-only : goal.returns-in-Err-clause-only
 returns-in-Err-clause-only c kind fault = status_only kind c.in-Err.error _ c.status.ensures (c.in-Err.ensures.only kind fault)

@@ -2,22 +2,22 @@ use Rattle.pkcs1_params.specs.ParameterFaults.{RsaOaepParamsFault}
 use Rattle.pkcs1_params.specs.Parameters.{RsaOaepParams}
 use Rattle.std.proofs.Common.{◌∙◌, sym}
 use Rattle.pkcs1_params.specs.Parameters.{oaep_fields}
-use Rattle.pkcs1_c.proofs.Refusals.{names_default}
+use Rattle.pkcs1_c.proofs.NotWritten.{names_default}
 use Rattle.std.proofs.Common.{arith}
-use Rattle.pkcs1_c.proofs.Refusals.{status_below, status_strict, status_only}
+use Rattle.pkcs1_c.proofs.NotWritten.{status_below, status_strict, status_only}
 use Rattle.pkcs1_c.proofs.oaep.pkcs1_c_oaep_params_decode_strict.Goals as goal
 
 pub returns-in-Ok-clause-one : goal.returns-in-Ok-clause-one
 returns-in-Ok-clause-one c = λ _ other p. c.in-Ok.ensures.one other p ∙ sym c.to_c_oaep.ensures.seen
 
 pub returns-in-Err-clause-default : goal.returns-in-Err-clause-default
-returns-in-Err-clause-default c = λ _ other p. c.status.ensures ∙ names_default (oaep_fields other) c.args.text.now c.in-Err.error (c.in-Err.ensures.default other p)
+returns-in-Err-clause-default c = λ _ other p. c.status.ensures ∙ names_default (oaep_fields other) c.args.encoding.now c.in-Err.error (c.in-Err.ensures.default other p)
 
 pub returns-in-Err-clause-told : goal.returns-in-Err-clause-told
 returns-in-Err-clause-told c = omega (arith, c.status.ensures, status_below c.in-Err.error c.in-Err.ensures.asn1)
 
 pub returns-in-Err-clause-exact : goal.returns-in-Err-clause-exact
-returns-in-Err-clause-exact c = λ _. status_strict RsaOaepParams oaep_fields (λ kind. RsaOaepParamsFault kind c.args.text.now) c.args.text.now c.in-Err.error _ c.status.ensures c.in-Err.ensures.exact
+returns-in-Err-clause-exact c = λ _. status_strict RsaOaepParams oaep_fields (λ kind. RsaOaepParamsFault kind c.args.encoding.now) c.args.encoding.now c.in-Err.error _ c.status.ensures c.in-Err.ensures.exact
 
 pub returns-in-Err-clause-only : goal.returns-in-Err-clause-only
 returns-in-Err-clause-only c kind fault = status_only kind c.in-Err.error _ c.status.ensures (c.in-Err.ensures.only kind fault)

@@ -3,41 +3,41 @@ use Rattle.pkcs1_params.specs.Parameters.{RsaOaepParams}
 use Rattle.pkcs1_params.specs.OaepValue.{oaep_of}
 use Rattle.pkcs1_c.specs.Fits.{OaepFits}
 use Rattle.pkcs1_c.specs.StructValues.{oaep_seen}
-use Rattle.pkcs1_c.specs.Unwritten.{OaepRefusal}
+use Rattle.pkcs1_c.specs.StructErrors.{OaepError}
 use Rattle.pkcs1_c.proofs.Fits.{oaep_fits}
 use Rattle.pkcs1_c.proofs.HeldParameters.{held_oaep_fits, oaep_some}
-use Rattle.pkcs1_c.proofs.Unwritten.{only_by, written_none, has_some, text_refused, oaep_one, oaep_rest, oaep_held, oaep_more, oaep_told}
+use Rattle.pkcs1_c.proofs.StructErrors.{only_by, written_none, has_some, encoding_rejected, oaep_one, oaep_rest, oaep_held, oaep_more, oaep_told}
 use Rattle.pkcs1_c.proofs.oaep.pkcs1_c_oaep_params_encode.Goals as goal
 
 pub returns-in-Ok-clause-ok : goal.returns-in-Ok-clause-ok
-returns-in-Ok-clause-ok c = λ zero. rw (c.in-Ok.ensures.ok) at c.write_text.ensures.ok zero
+returns-in-Ok-clause-ok c = λ zero. rw (c.in-Ok.ensures.ok) at c.write_encoding.ensures.ok zero
 
 pub returns-in-Ok-clause-no_room : goal.returns-in-Ok-clause-no_room
-returns-in-Ok-clause-no_room c = λ full. rw (c.in-Ok.ensures.ok) at c.write_text.ensures.no_room full
+returns-in-Ok-clause-no_room c = λ full. rw (c.in-Ok.ensures.ok) at c.write_encoding.ensures.no_room full
 
 pub returns-in-Ok-clause-exact : goal.returns-in-Ok-clause-exact
 returns-in-Ok-clause-exact c = λ no.
     let room = length c.args.out.now in
-    let r = c.write_text.result in
+    let r = c.write_encoding.result in
     let made = c.in-Ok.made in
-    let text = has_some RsaOaepParams (oaep_of made) room (oaep_some made) r (c.write_text.ensures.exact no) in
-    subst (λ p. OaepRefusal p room r) c.in-Ok.ensures.ok (oaep_held (oaep_of made) room (held_oaep_fits made) r text)
+    let encoding = has_some RsaOaepParams (oaep_of made) room (oaep_some made) r (c.write_encoding.ensures.exact no) in
+    subst (λ p. OaepError p room r) c.in-Ok.ensures.ok (oaep_held (oaep_of made) room (held_oaep_fits made) r encoding)
 
 pub returns-in-Ok-clause-only : goal.returns-in-Ok-clause-only
 returns-in-Ok-clause-only c =
     let seen = oaep_seen c.args.params.now in
     let room = length c.args.out.now in
     let fits = subst OaepFits c.in-Ok.ensures.ok (held_oaep_fits c.in-Ok.made) in
-    only_by (OaepRefusal seen room) (oaep_one seen room) c.write_text.result
-    (λ zero s p. written_none RsaOaepParams seen c.args.out.now c.write_text.new.out c.write_text.new.len c.write_text.auto.out (rw (c.in-Ok.ensures.ok) at c.write_text.ensures.ok zero) (c.write_text.ensures.rest zero).0 s (oaep_rest seen room fits s p))
+    only_by (OaepError seen room) (oaep_one seen room) c.write_encoding.result
+    (λ zero s p. written_none RsaOaepParams seen c.args.out.now c.write_encoding.new.out c.write_encoding.new.len c.write_encoding.auto.out (rw (c.in-Ok.ensures.ok) at c.write_encoding.ensures.ok zero) (c.write_encoding.ensures.rest zero).0 s (oaep_rest seen room fits s p))
     (returns-in-Ok-clause-exact c)
 
-pub returns-in-Ok-clause-refused : goal.returns-in-Ok-clause-refused
-returns-in-Ok-clause-refused c = λ no other.
+pub returns-in-Ok-clause-rejected : goal.returns-in-Ok-clause-rejected
+returns-in-Ok-clause-rejected c = λ no other.
     let seen = oaep_seen c.args.params.now in
     let room = length c.args.out.now in
     let fits = subst OaepFits c.in-Ok.ensures.ok (held_oaep_fits c.in-Ok.made) in
-    text_refused RsaOaepParams seen room c.write_text.result other (oaep_rest seen room fits c.write_text.result (returns-in-Ok-clause-exact c no))
+    encoding_rejected RsaOaepParams seen room c.write_encoding.result other (oaep_rest seen room fits c.write_encoding.result (returns-in-Ok-clause-exact c no))
 
 pub returns-in-Err-clause-ok : goal.returns-in-Err-clause-ok
 returns-in-Err-clause-ok c = λ zero. absurd (oaep_told (oaep_seen c.args.params.now) _ c.in-Err.ensures.err (inl (sym c.status.ensures ∙ zero)))
@@ -51,16 +51,16 @@ returns-in-Err-clause-no_room c = λ full. absurd (oaep_told (oaep_seen c.args.p
 pub returns-in-Err-clause-exact : goal.returns-in-Err-clause-exact
 returns-in-Err-clause-exact c = λ _.
     let room = length c.args.out.now in
-    subst (OaepRefusal (oaep_seen c.args.params.now) room) (sym c.status.ensures) (oaep_more (oaep_seen c.args.params.now) room _ c.in-Err.ensures.err)
+    subst (OaepError (oaep_seen c.args.params.now) room) (sym c.status.ensures) (oaep_more (oaep_seen c.args.params.now) room _ c.in-Err.ensures.err)
 
 pub returns-in-Err-clause-only : goal.returns-in-Err-clause-only
 returns-in-Err-clause-only c s p =
     let seen = oaep_seen c.args.params.now in
     let room = length c.args.out.now in
-    oaep_one seen room c.status.result s (subst (OaepRefusal seen room) (sym c.status.ensures) (oaep_more seen room _ c.in-Err.ensures.err)) p
+    oaep_one seen room c.status.result s (subst (OaepError seen room) (sym c.status.ensures) (oaep_more seen room _ c.in-Err.ensures.err)) p
 
-pub returns-in-Err-clause-refused : goal.returns-in-Err-clause-refused
-returns-in-Err-clause-refused c = λ no other text m.
+pub returns-in-Err-clause-rejected : goal.returns-in-Err-clause-rejected
+returns-in-Err-clause-rejected c = λ no other encoding m.
     let seen = oaep_seen c.args.params.now in
     let room = length c.args.out.now in
-    text_refused RsaOaepParams seen room c.status.result other (oaep_rest seen room (oaep_fits seen text m) c.status.result (returns-in-Err-clause-exact c no)) text m
+    encoding_rejected RsaOaepParams seen room c.status.result other (oaep_rest seen room (oaep_fits seen encoding m) c.status.result (returns-in-Err-clause-exact c no)) encoding m

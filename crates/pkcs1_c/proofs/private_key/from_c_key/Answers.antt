@@ -5,10 +5,10 @@ use Rattle.pkcs1_c.specs.declared.private_key.PrivateKey as view
 use Rattle.pkcs1_c.specs.declared.private_key.OtherPrime.{OtherPrime}
 use Rattle.pkcs1_c.specs.Status.{status_of}
 use Rattle.pkcs1_c.specs.StructValues.{other_prime_seen}
-use Rattle.pkcs1_c.specs.Unwritten.{Nothing, NumberFits, NumbersThen, MayWantMemory, eight_numbers, others_numbers}
+use Rattle.pkcs1_c.specs.StructErrors.{Nothing, NumberFits, NumbersThen, MayRunOutOfMemory, eight_numbers, others_numbers}
 use Rattle.pkcs1_c.proofs.Given.{err_all, err_handed}
 use Rattle.pkcs1_c.proofs.HeldKeys.{number_fits}
-use Rattle.pkcs1_c.proofs.Unwritten.{numbers_held}
+use Rattle.pkcs1_c.proofs.StructErrors.{numbers_held}
 use Rattle.pkcs1_c.proofs.private_key.from_c_key.Goals as goal
 
 -- The eight numbers, then those of the other primes.
@@ -50,4 +50,4 @@ returns-in_err-from_c_other_primes-clause-err c =
 pub returns-in_err-from_c_other_primes-clause-memory : goal.returns-in_err-from_c_other_primes-clause-memory
 returns-in_err-from_c_other_primes-clause-memory c =
     let fits : AllHave NumberFits (eight_numbers c.args.key.now) = (number_fits c.args.key.now.modulus.now c.in_ok-number.field-0 c.in_ok-number.ensures.ok, (number_fits c.args.key.now.public_exponent.now c.in_ok-number-2.field-0 c.in_ok-number-2.ensures.ok, (number_fits c.args.key.now.private_exponent.now c.in_ok-number-3.field-0 c.in_ok-number-3.ensures.ok, (number_fits c.args.key.now.prime1.now c.in_ok-number-4.field-0 c.in_ok-number-4.ensures.ok, (number_fits c.args.key.now.prime2.now c.in_ok-number-5.field-0 c.in_ok-number-5.ensures.ok, (number_fits c.args.key.now.exponent1.now c.in_ok-number-6.field-0 c.in_ok-number-6.ensures.ok, (number_fits c.args.key.now.exponent2.now c.in_ok-number-7.field-0 c.in_ok-number-7.ensures.ok, (number_fits c.args.key.now.coefficient.now c.in_ok-number-8.field-0 c.in_ok-number-8.ensures.ok, tt)))))))) in
-    err_all (λ e. status_of e ≡ 17 → MayWantMemory c.args.key.now c.args.others.now) _ (λ _ _. (c.in_err-from_c_other_primes.ensures.some, fits))
+    err_all (λ e. status_of e ≡ 17 → MayRunOutOfMemory c.args.key.now c.args.others.now) _ (λ _ _. (c.in_err-from_c_other_primes.ensures.some, fits))

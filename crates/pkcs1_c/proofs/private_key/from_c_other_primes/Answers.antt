@@ -5,11 +5,11 @@ use Rattle.pkcs1_params.specs.declared.error.Error.{Error}
 use Rattle.pkcs1_c.specs.declared.private_key.OtherPrime.{OtherPrime}
 use Rattle.pkcs1_c.specs.Status.{status_of}
 use Rattle.pkcs1_c.specs.StructValues.{other_prime_seen}
-use Rattle.pkcs1_c.specs.Unwritten.{Nothing, NumbersThen, others_numbers}
+use Rattle.pkcs1_c.specs.StructErrors.{Nothing, NumbersThen, others_numbers}
 use Rattle.pkcs1_c.proofs.Given.{err_handed}
 use Rattle.pkcs1_c.proofs.HeldKeys.{items_fit}
 use Rattle.pkcs1_c.proofs.Lists.{others_step}
-use Rattle.pkcs1_c.proofs.Unwritten.{others_at}
+use Rattle.pkcs1_c.proofs.StructErrors.{others_at}
 use Rattle.pkcs1_c.proofs.private_key.from_c_other_primes.Goals as goal
 
 pub loop-other-preserved : goal.loop-other-preserved

@@ -1,7 +1,7 @@
 use Rattle.pkcs1_params.specs.ParameterFaults.{RsaPssParamsFault}
 use Rattle.std.proofs.Common.{◌∙◌, sym}
 use Rattle.std.proofs.Common.{arith}
-use Rattle.pkcs1_c.proofs.Refusals.{status_below, status_faulty, status_only}
+use Rattle.pkcs1_c.proofs.NotWritten.{status_below, status_faulty, status_only}
 use Rattle.pkcs1_c.proofs.pss.pkcs1_c_pss_params_decode.Goals as goal
 
 pub returns-in-Ok-clause-one : goal.returns-in-Ok-clause-one
@@ -11,7 +11,7 @@ pub returns-in-Err-clause-told : goal.returns-in-Err-clause-told
 returns-in-Err-clause-told c = omega (arith, c.status.ensures, status_below c.in-Err.error c.in-Err.ensures.asn1)
 
 pub returns-in-Err-clause-exact : goal.returns-in-Err-clause-exact
-returns-in-Err-clause-exact c = λ _. status_faulty (λ kind. RsaPssParamsFault kind c.args.text.now) c.in-Err.error _ c.status.ensures c.in-Err.ensures.exact
+returns-in-Err-clause-exact c = λ _. status_faulty (λ kind. RsaPssParamsFault kind c.args.encoding.now) c.in-Err.error _ c.status.ensures c.in-Err.ensures.exact
 
 pub returns-in-Err-clause-only : goal.returns-in-Err-clause-only
 returns-in-Err-clause-only c kind fault = status_only kind c.in-Err.error _ c.status.ensures (c.in-Err.ensures.only kind fault)

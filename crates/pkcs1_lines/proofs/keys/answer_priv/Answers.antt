@@ -1,7 +1,7 @@
 use Rattle.std.proofs.Common.{sym, subst}
 use Rattle.der_core.specs.Document.{IsShortest}
 use Rattle.pkcs1.specs.Keys.{RsaPrivateKey}
-use Rattle.pkcs1.specs.ViewParts.{view_of, viewed_text}
+use Rattle.pkcs1.specs.ViewParts.{view_of, viewed_encoding}
 use Rattle.pkcs1.specs.Laws.PrivateKeys.{private_at_most_one}
 use Rattle.pkcs1_lines.specs.Told.{priv_answer}
 use Rattle.pkcs1_lines.proofs.PutBehind.{told, only_shortest}
@@ -10,7 +10,7 @@ use Rattle.pkcs1_lines.proofs.keys.answer_priv.Goals as goal
 pub returns-in-Ok : goal.returns-in-Ok
 returns-in-Ok c =
     let key = view_of c.in-Ok.key in
-    let text = c.args.text.now in
+    let encoding = c.args.encoding.now in
     let means = c.in-Ok.ensures.ok in
-    let shortest = only_shortest RsaPrivateKey key text (private_at_most_one key) means in
-    told RsaPrivateKey priv_answer key text (viewed_text c.in-Ok.key) _ _ c.put_priv.result means (subst (λ t. IsShortest RsaPrivateKey key t) (sym c.in-Ok.ensures.bytes) shortest) c.put_priv.ensures
+    let shortest = only_shortest RsaPrivateKey key encoding (private_at_most_one key) means in
+    told RsaPrivateKey priv_answer key encoding (viewed_encoding c.in-Ok.key) _ _ c.put_priv.result means (subst (λ t. IsShortest RsaPrivateKey key t) (sym c.in-Ok.ensures.bytes) shortest) c.put_priv.ensures

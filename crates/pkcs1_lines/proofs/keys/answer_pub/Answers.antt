@@ -8,6 +8,6 @@ use Rattle.pkcs1_lines.proofs.keys.answer_pub.Goals as goal
 pub returns-in-Ok : goal.returns-in-Ok
 returns-in-Ok c =
     let key = public_key_of c.in-Ok.key in
-    let text = c.args.text.now in
+    let encoding = c.args.encoding.now in
     let means = c.in-Ok.ensures.ok in
-    told RsaPublicKey pub_answer key text text _ _ c.put_pub.result means (only_shortest RsaPublicKey key text (public_at_most_one key) means) c.put_pub.ensures
+    told RsaPublicKey pub_answer key encoding encoding _ _ c.put_pub.result means (only_shortest RsaPublicKey key encoding (public_at_most_one key) means) c.put_pub.ensures

@@ -11,5 +11,5 @@ returns-in-Some t c =
     let first = rw (c.under-left_out.ensures, c.split_defaults-default.ensures) at c.len.ensures in
     let later = rw (c.under-left_out.ensures, c.split_defaults-default.ensures) at c.fields_len.ensures in
     rw (c.in-Some.ensures.cases.0, c.joined_len.ensures)
-    (counts_joined (written_field (out_under p.is_default c.args.mask) p.field.number p.text) (written_fields (values_in c.in-Some.later.now) (rest_under p.is_default c.args.mask))
+    (counts_joined (written_field (out_under p.is_default c.args.mask) p.field.number p.encoding) (written_fields (values_in c.in-Some.later.now) (rest_under p.is_default c.args.mask))
     (λ x y. (x, y)) (λ r. r) _ _ first later)

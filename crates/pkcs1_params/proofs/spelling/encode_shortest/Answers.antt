@@ -1,5 +1,5 @@
 use Rattle.der_core.specs.Laws.Shortest.{means_one}
-use Rattle.der_core.specs.Laws.Texts.{tlv_delimited}
+use Rattle.der_core.specs.Laws.Encodings.{tlv_delimited}
 use Rattle.pkcs1_params.specs.Laws.FieldValues.{ordered}
 use Rattle.pkcs1_params.specs.MaskedValues.{FieldContents}
 use Rattle.pkcs1_params.specs.Parts.{fields_with}
@@ -35,4 +35,4 @@ returns-clause-count g c =
 pub returns-clause-err : goal.returns-clause-err
 returns-clause-err g c =
     let t = g.T.DefaultFields in
-    if_err_as c.spell_into.result (not_written t.values t.numbered (t.params c.args.params.now) _ (c.is_held.ensures 0)) c.spell_into.ensures.err
+    if_err_as c.spell_into.result (not_written t.values t.numbered (t.params c.args.params.now) _ (c.lemma_is_held.ensures 0)) c.spell_into.ensures.err

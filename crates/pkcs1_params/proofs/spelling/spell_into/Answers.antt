@@ -5,7 +5,7 @@ use Rattle.der_core.specs.Tlv.{tlv}
 use Rattle.spki_core.specs.Laws.Masks.{parts_relate}
 use Rattle.pkcs1_params.specs.Laws.FieldValues.{ordered}
 use Rattle.pkcs1_params.specs.Parts.{parts_of, fields_with, written_fields}
-use Rattle.pkcs1_params.proofs.Masks.{stands_under, unspelled_as, in_range, text_under}
+use Rattle.pkcs1_params.proofs.Masks.{stands_under, unspelled_as, in_range, encoding_under}
 use Rattle.pkcs1_params.proofs.spelling.spell_into.Goals as goal
 
 pub invariant_of-spelling : goal.invariant_of-spelling
@@ -18,8 +18,8 @@ returns-in_err-encode_into-clause-err g c =
     let p = c.args.params.now in
     let mask = c.args.mask in
     let v = t.params p in
-    let held = c.is_held.ensures mask in
-    let made = text_under (fields_with t.values v) mask (written_fields (t.values v) mask) (parts_relate (parts_of (t.values v)) c.requires.0 mask c.requires.1 c.requires.2 held.0 (omega (arith, held.1))) held.1 in
+    let held = c.lemma_is_held.ensures mask in
+    let made = encoding_under (fields_with t.values v) mask (written_fields (t.values v) mask) (parts_relate (parts_of (t.values v)) c.requires.0 mask c.requires.1 c.requires.2 held.0 (omega (arith, held.1))) held.1 in
     rw (e.1, e.2) (unspelled_as (fields_with t.values) v mask _ _ made _ c.in_err-encode_into.ensures.err)
 
 pub returns-clause-stands : goal.returns-clause-stands
@@ -27,8 +27,8 @@ returns-clause-stands g c =
     let t = g.T.DefaultFields in
     let made = c.in_ok-encode_into.ensures in
     let v = t.params c.args.params.now in
-    let text = tlv 48 (written_fields (t.values v) c.args.mask) in
-    rw (front_is text c.args.out.now _ _ made.ok.0 made.ok.1) (stands_under (fields_with t.values) v c.args.mask (ordered t.values t.numbered) text made.shortest.spells)
+    let encoding = tlv 48 (written_fields (t.values v) c.args.mask) in
+    rw (front_is encoding c.args.out.now _ _ made.ok.0 made.ok.1) (stands_under (fields_with t.values) v c.args.mask (ordered t.values t.numbered) encoding made.shortest.spells)
 
 pub returns-clause-rest : goal.returns-clause-rest
 returns-clause-rest g c =

@@ -7,7 +7,7 @@ use Rattle.pkcs1_tool.proofs.run.answer_lines.Given as goal
 abbrev pub invariant-loop-rest : goal.invariant-loop-rest
 invariant-loop-rest g l = record {
   answered : (lines : List (List ℕ)) × (lines_of l.input ≡ lines ++ lines_of l.rest) × Writes (g.W.Sink.contents l.fn.sink) (g.W.Sink.contents l.sink) lines;
-  faults : g.W.Sink.refusals l.sink ≡ g.W.Sink.refusals l.fn.sink;
+  faults : g.W.Sink.failures l.sink ≡ g.W.Sink.failures l.fn.sink;
 }
 
 abbrev pub decreases-loop-rest : goal.decreases-loop-rest

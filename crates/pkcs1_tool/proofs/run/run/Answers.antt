@@ -5,20 +5,20 @@ use Rattle.pkcs1_tool.proofs.Runs.{WritesFront-all}
 use Rattle.pkcs1_tool.proofs.run.run.Goals as goal
 
 pub returns-in_err-input-clause-one_answer : goal.returns-in_err-input-clause-one_answer
-returns-in_err-input-clause-one_answer g c = c.answers_are_one.ensures.0
+returns-in_err-input-clause-one_answer g c = c.lemma_answers_are_one.ensures.0
 
 pub returns-in_err-input-clause-one_output : goal.returns-in_err-input-clause-one_output
-returns-in_err-input-clause-one_output g c = λ input. c.answers_are_one.ensures.1 (lines_of input)
+returns-in_err-input-clause-one_output g c = λ input. c.lemma_answers_are_one.ensures.1 (lines_of input)
 
 pub returns-clause-front_of_all : goal.returns-clause-front_of_all
-returns-clause-front_of_all g c = λ refused.
+returns-clause-front_of_all g c = λ rejected.
     let all = c.in_ok-input.ensures.all in
-    let front = (c.answer_input.ensures.write refused).1 in
+    let front = (c.answer_input.ensures.write rejected).1 in
     Consumes-whole _ _ c.in_ok-input.input.items (λ input. WritesFrontOfAll (g.W.Sink.contents c.args.sink.now) (g.W.Sink.contents c.answer_input.new.sink) (lines_of input))
-    all.0 all.1 (WritesFront-all c.answers_are_one.ensures.1 _ _ _ (rw c.as_slice.ensures.value at front))
+    all.0 all.1 (WritesFront-all c.lemma_answers_are_one.ensures.1 _ _ _ (rw c.as_slice.ensures.value at front))
 
 pub returns-clause-one_answer : goal.returns-clause-one_answer
-returns-clause-one_answer g c = c.answers_are_one.ensures.0
+returns-clause-one_answer g c = c.lemma_answers_are_one.ensures.0
 
 pub returns-clause-one_output : goal.returns-clause-one_output
-returns-clause-one_output g c = λ input. c.answers_are_one.ensures.1 (lines_of input)
+returns-clause-one_output g c = λ input. c.lemma_answers_are_one.ensures.1 (lines_of input)

@@ -1,8 +1,8 @@
 use Rattle.std.proofs.Common.{◌+◌}
 use Rattle.std.proofs.lemmas.Result.{err_from_is_err_and}
-use Rattle.der_core.specs.Faults.{TextFault, AloneFault}
+use Rattle.der_core.specs.Faults.{EncodingFault, AloneFault}
 use Rattle.der_core.specs.Tlv.{Tlv}
-use Rattle.der_core.specs.Laws.HeaderAndContents.{next_refused, next_stays}
+use Rattle.der_core.specs.Laws.HeaderAndContents.{next_rejected, next_stays}
 use Rattle.spki_core.specs.Allocating.{FieldAllocates}
 use Rattle.spki_core.specs.Laws.FieldReads.{field_told}
 use Rattle.spki_core.proofs.context_specific.read_context_specific.Goals as goal
@@ -11,13 +11,13 @@ pub returns-in_err-value-clause-reads : goal.returns-in_err-value-clause-reads
 returns-in_err-value-clause-reads g c =
     let p = err_from_is_err_and c.from_residual-in_err-value.result c.from_residual-in_err-value.ensures.1 in
     rw (p.1, p.2)
-    (next_refused (160 + c.args.number.value) (λ v. Tlv (160 + c.args.number.value) (g.T.Text.text v)) _ _ _ _ _ (rw c.if-not-branch.false at c.in_ok-is_field_next.ensures) c.in_err-value.ensures.text)
+    (next_rejected (160 + c.args.number.value) (λ v. Tlv (160 + c.args.number.value) (g.T.Encoding.encoding v)) _ _ _ _ _ (rw c.if-not-branch.false at c.in_ok-is_field_next.ensures) c.in_err-value.ensures.encoding)
 
 pub returns-in_err-value-clause-exact : goal.returns-in_err-value-clause-exact
 returns-in_err-value-clause-exact g c =
     let p = err_from_is_err_and c.from_residual-in_err-value.result c.from_residual-in_err-value.ensures.1 in
     rw (p.1, p.2)
-    (field_told c.args.number.value (λ t. TextFault t (AloneFault g.T.Text.text g.T.Decode.fault)) (FieldAllocates c.args.number.value g.T.Decode.may_allocate) _ _ _ (rw c.if-not-branch.false at c.in_ok-is_field_next.ensures) c.in_err-value.ensures.exact)
+    (field_told c.args.number.value (λ t. EncodingFault t (AloneFault g.T.Encoding.encoding g.T.Decode.fault)) (FieldAllocates c.args.number.value g.T.Decode.may_allocate) _ _ _ (rw c.if-not-branch.false at c.in_ok-is_field_next.ensures) c.in_err-value.ensures.exact)
 
 pub returns-in_err-value-clause-only : goal.returns-in_err-value-clause-only
 returns-in_err-value-clause-only g c tag octet kind i is fault =

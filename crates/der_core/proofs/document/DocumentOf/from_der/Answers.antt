@@ -8,7 +8,7 @@ use Rattle.der_core.proofs.document.DocumentOf.from_der.Goals as goal
 pub returns-in_err-from_der-clause-err : goal.returns-in_err-from_der-clause-err
 returns-in_err-from_der-clause-err g c =
     let p = err_from_is_err_and c.from_residual.result c.from_residual.ensures.1 in
-    rw (p.1, p.2) (inr (no_document _ _ c.in_err-from_der.ensures.text))
+    rw (p.1, p.2) (inr (no_document _ _ c.in_err-from_der.ensures.encoding))
 
 pub returns-in_err-from_der-clause-exact : goal.returns-in_err-from_der-clause-exact
 returns-in_err-from_der-clause-exact g c =
@@ -21,10 +21,10 @@ returns-in_err-from_der-clause-only g c kind fault =
     rw (p.1, p.2) (document_fault_first _ kind _ (document_faulty _ _ c.in_err-from_der.ensures.exact) fault)
 
 pub returns-in_err-copy_of-clause-only : goal.returns-in_err-copy_of-clause-only
-returns-in_err-copy_of-clause-only g c kind fault = absurd (document_sound kind _ _ refl fault c.in_ok-from_der.ensures.text)
+returns-in_err-copy_of-clause-only g c kind fault = absurd (document_sound kind _ _ refl fault c.in_ok-from_der.ensures.encoding)
 
 pub returns-clause-only : goal.returns-clause-only
-returns-clause-only g c kind fault = absurd (document_sound kind _ _ refl fault c.in_ok-from_der.ensures.text)
+returns-clause-only g c kind fault = absurd (document_sound kind _ _ refl fault c.in_ok-from_der.ensures.encoding)
 
 pub invariant_of-result : goal.invariant_of-result
-invariant_of-result g c = record { whole = subst IsDocument (sym c.in_ok-copy_of.ensures.ok) c.in_ok-from_der.ensures.text }
+invariant_of-result g c = record { whole = subst IsDocument (sym c.in_ok-copy_of.ensures.ok) c.in_ok-from_der.ensures.encoding }

@@ -50,8 +50,8 @@ use Rattle.der_core.proofs.encode.front.Met.{met as answers}
 use Rattle.der_core.specs.contracts.error.Error.{the_row as ErrorRow}
 use Rattle.der_core.proofs.error.Error.TheLaws.{the_row_laws as error_laws}
 use Rattle.der_core.specs.declared.error.Error.{Error}
-use Rattle.der_core.specs.Document.{IsShortest, IsRefused}
-use Rattle.der_core.specs.Writing.{encode_refusal}
+use Rattle.der_core.specs.Document.{IsShortest, WhyNotWritten}
+use Rattle.der_core.specs.Writing.{encode_error}
 use Rattle.der_core.proofs.encode.Encode.encode_to_slice.Statement.{statement}
 use Rattle.der_core.proofs.encode.Encode.encode_to_slice.Code as code
 
@@ -73,7 +73,7 @@ front_laws : (κ : Lft) → Laws (Front κ)
 front_laws κ = let F = shr_slice_field (record { mir = named 0; lft = κ }) u8 tt in result_laws F.row ErrorRow (of_field F (shr_slice_laws (record { mir = named 0; lft = κ }) u8 tt) refl (copy_shared F (shr_slice_copy (record { mir = named 0; lft = κ }) u8 tt byte_laws.shr_laws))) error_laws
 
 pub encode_to_slice_spec : {M : Type 1} → statement M
-encode_to_slice_spec 𝓤 𝓛 𝓜 𝓡 wired W L gh d gt dt met of_text =
+encode_to_slice_spec 𝓤 𝓛 𝓜 𝓡 wired W L gh d gt dt met of_encoding =
     let H = 𝓛.H in let 𝓣 = tables 𝓤 H 𝓜 𝓡 𝓡.env in let R : RattleType = param 0 W in
     let En = f.ended W gh d gt dt in let c = f.clauses W gh d gt dt 𝓛 𝓜.mem 𝓡.returns in
     let inst = bounded (a_type ∷ []) (W, tt) (dcons d (dcons dt dnil)) in let fn = inst_fn inst code.function in
@@ -104,13 +104,13 @@ encode_to_slice_spec 𝓤 𝓛 𝓜 𝓡 wired W L gh d gt dt met of_text =
     nothing ! $ move ! (2 ∷ 0 ∷ []) $ join ! $ move ! (4 ∷ 0 ∷ []) $ join ! $
     nothing ! $ move ! (6 ∷ 0 ∷ []) $ join ! $ move ! (4 ∷ 0 ∷ []) $ join ! $ move ! (4 ∷ 0 ∷ []) $ join ! $ join ! $ join ! $
     use1 𝓛 (raw (G.pre z)) (id⊢ 𝓤 _) $
-    calls_at ! (framed 𝓤 H 𝓜 𝓣) G (writes 𝓤 𝓛 𝓜 𝓡 (code.calls-der_core::encode::Encode::encode_into 𝓡.env wired) W L gh d gt dt met of_text) z (and_then ! (get ! refl) (and_then ! (get ! refl) (no_more !))) (λ v.
-    let value : gt.Value = gt.value a.0.now in let text : List ℕ = gt.written_text value in let Refused : Error → Type 0 = λ e. IsRefused (gt.has_text value) gt.text value (length xs) (encode_refusal e.kind) in
+    calls_at ! (framed 𝓤 H 𝓜 𝓣) G (writes 𝓤 𝓛 𝓜 𝓡 (code.calls-der_core::encode::Encode::encode_into 𝓡.env wired) W L gh d gt dt met of_encoding) z (and_then ! (get ! refl) (and_then ! (get ! refl) (no_more !))) (λ v.
+    let value : gt.Value = gt.value a.0.now in let encoding : List ℕ = gt.written_encoding value in let Rejected : Error → Type 0 = λ e. WhyNotWritten (gt.has_encoding value) gt.encoding value (length xs) (encode_error e.kind) in
     use1 𝓛 (later (some (λ (r : Result ℕ Error). ((‵ (flft κ₀ qs.0) ⊛ ‵ (flft (α ∷ []) full_share) ⊛ ‵ (flft κ₂ qs.1.1.0) ⊛ ‵ ftrue) ⊛ ‵ (Count.own_val r (v ∷ []))) ⊛ some (λ (ws : Unit {0} × (List ℕ × Unit {0})). ‵ (lasts (g.ended W gh d gt dt) z.0.0 z.0.3 ws)
-    ⊛ given (Wrote text xs ws.1.0 r) (‵ ftrue) ⊛ given (OnOk r (IsShortest gt.text value text)) (‵ ftrue) ⊛ given (IfErr r Refused) (‵ ftrue) ⊛ given (OnErr r (ws.1.0 ≡ xs)) (‵ ftrue))))) (id⊢ 𝓤 _) $
+    ⊛ given (Wrote encoding xs ws.1.0 r) (‵ ftrue) ⊛ given (OnOk r (IsShortest gt.encoding value encoding)) (‵ ftrue) ⊛ given (IfErr r Rejected) (‵ ftrue) ⊛ given (OnErr r (ws.1.0 ≡ xs)) (‵ ftrue))))) (id⊢ 𝓤 _) $
     await ! tt $ pick ! (λ r. split ! $ split ! $ move ! (1 ∷ []) $ peeks ! Count (Is Count) (shows 𝓛 Count) r (v ∷ []) (λ told.
     lands_as ! refl refl ((count_laws.lawful 𝓛).typed r (v ∷ []) told).0 $ move ! (2 ∷ []) $ pick ! (λ ws. let ys : List ℕ = ws.1.0 in
-    split ! $ move ! (1 ∷ []) $ split3 ! $ learn ! (λ wrote. drop ! $ learn ! (λ least. drop ! $ split ! $ learn ! (λ refused. drop ! $ learn ! (λ kept. drop ! $ fsplit ! $ drop ! $ fsplit ! $ fsplit ! $ fsplit ! $
+    split ! $ move ! (1 ∷ []) $ split3 ! $ learn ! (λ wrote. drop ! $ learn ! (λ least. drop ! $ split ! $ learn ! (λ rejected. drop ! $ learn ! (λ kept. drop ! $ fsplit ! $ drop ! $ fsplit ! $ fsplit ! $ fsplit ! $
     -- [how the loan ends; two facts; nothing; the count; the tokens; what is kept]
     move ! (5 ∷ []) $ split3 ! $ move ! (1 ∷ []) $ lft_end ! tt $ move ! (0 ∷ 8 ∷ 3 ∷ []) $
     use3 𝓛 (later (given (length ys ≡ length xs) (‵ ((own.MutSlice erased κ u8).own_val (record out { now = ys })) ⊛ ‵ (flft κ q)))) (sl_relent_backˡ 𝓛 u8 κ q (α ∷ []) b o γ δ xs ys) $ await ! tt $ learn ! (λ long. split ! $
@@ -125,7 +125,7 @@ encode_to_slice_spec 𝓤 𝓛 𝓜 𝓡 wired W L gh d gt dt met of_text =
     let x : B.Ghost = (((κ, tt), (q, tt), tt, (all, (r, tt)), (shr_slice_vals all, (v ∷ [], tt))), tt) in
     fsplit ! $ feq_i ! (List Val) (shr_slice_vals all) (shr_slice_vals all) refl $ fjoin ! $ fjoin ! $
     nothing ! $ move ! (9 ∷ 0 ∷ []) $ join ! $ move ! (1 ∷ 0 ∷ []) $ join ! $ nothing ! $ move ! (3 ∷ 0 ∷ []) $ join ! $ join ! $
-    use0 𝓛 (raw (fact 𝓤 (IfOk r (λ n. n ≤ length ys)))) (fact_i 𝓤 (IfOk r (λ n. n ≤ length ys)) (emp 𝓤) (fits text xs ys r wrote)) $ move ! (1 ∷ 0 ∷ []) $ join ! $
+    use0 𝓛 (raw (fact 𝓤 (IfOk r (λ n. n ≤ length ys)))) (fact_i 𝓤 (IfOk r (λ n. n ≤ length ys)) (emp 𝓤) (fits encoding xs ys r wrote)) $ move ! (1 ∷ 0 ∷ []) $ join ! $
     use1 𝓛 (raw (B.pre x)) (id⊢ 𝓤 _) $
     calls_at ! (framed 𝓤 H 𝓜 𝓣) B (answers 𝓤 𝓛 𝓜 𝓡 (code.calls-der_core::encode::front 𝓡.env wired)) x (and_then ! (get ! refl) (and_then ! (get ! refl) (no_more !))) (λ u.
     use1 𝓛 (later (some (λ (t : Result (Bor (List ℕ)) Error). ((‵ (flft κ q) ⊛ ‵ ftrue) ⊛ ‵ ((Front κ).own_val t (u ∷ []))) ⊛ some (λ (us : Unit {0} × (Unit {0} × Unit {0})). ‵ (lasts h.ended x.0.0 x.0.3 us) ⊛ given (IsFront ys r t) (‵ ftrue))))) (id⊢ 𝓤 _) $
@@ -134,10 +134,10 @@ encode_to_slice_spec 𝓤 𝓛 𝓜 𝓡 wired W L gh d gt dt met of_text =
     -- [the answer; the token of κ; how the slice ends; the tokens of κ₀ and κ₂; ..]
     returns ! (look_at ! 0 refl) $ free_all ! refl $
     move ! (1 ∷ []) $ split ! $ keep ! (0 ∷ 2 ∷ 3 ∷ 4 ∷ 5 ∷ []) $ move ! (0 ∷ 4 ∷ []) $ join ! $ move ! (3 ∷ 0 ∷ []) $ join ! $ move ! (2 ∷ []) $
-    let F₁ : Type 0 = IfOk t (λ front. front.now ≡ text) in let F₂ : Type 0 = IfOk t (λ front. IsShortest gt.text value front.now) in let F₃ : Type 0 = IfErr t Refused in
-    use1 𝓛 (‵ (LeavesRest out text t)) (rests 𝓛 out ys (λ end. MatchResult t (λ _. end ≡ text ++ list-drop (length text) xs) (λ _. end ≡ xs)) (leaves_rest text xs ys r t wrote kept answered)) $
-    use0 𝓛 (raw (fact 𝓤 F₃)) (fact_i 𝓤 F₃ (emp 𝓤) (on_error ys Refused r t refused answered)) $
-    use0 𝓛 (raw (fact 𝓤 F₂)) (fact_i 𝓤 F₂ (emp 𝓤) (on_front text xs ys (IsShortest gt.text value text) (λ x. IsShortest gt.text value x) (λ k. k) r t wrote least answered)) $ join ! $
-    use0 𝓛 (raw (fact 𝓤 F₁)) (fact_i 𝓤 F₁ (emp 𝓤) (on_front text xs ys (IsShortest gt.text value text) (λ x. x ≡ text) (λ _. refl) r t wrote least answered)) $ join ! $ move ! (1 ∷ 0 ∷ []) $ join ! $
+    let F₁ : Type 0 = IfOk t (λ front. front.now ≡ encoding) in let F₂ : Type 0 = IfOk t (λ front. IsShortest gt.encoding value front.now) in let F₃ : Type 0 = IfErr t Rejected in
+    use1 𝓛 (‵ (LeavesRest out encoding t)) (rests 𝓛 out ys (λ end. MatchResult t (λ _. end ≡ encoding ++ list-drop (length encoding) xs) (λ _. end ≡ xs)) (leaves_rest encoding xs ys r t wrote kept answered)) $
+    use0 𝓛 (raw (fact 𝓤 F₃)) (fact_i 𝓤 F₃ (emp 𝓤) (on_error ys Rejected r t rejected answered)) $
+    use0 𝓛 (raw (fact 𝓤 F₂)) (fact_i 𝓤 F₂ (emp 𝓤) (on_front encoding xs ys (IsShortest gt.encoding value encoding) (λ x. IsShortest gt.encoding value x) (λ k. k) r t wrote least answered)) $ join ! $
+    use0 𝓛 (raw (fact 𝓤 F₁)) (fact_i 𝓤 F₁ (emp 𝓤) (on_front encoding xs ys (IsShortest gt.encoding value encoding) (λ x. x ≡ encoding) (λ _. refl) r t wrote least answered)) $ join ! $ move ! (1 ∷ 0 ∷ []) $ join ! $
     nothing ! $ nothing ! $ fjoin ! $ nothing ! $ fjoin ! $ move ! (2 ∷ 0 ∷ 3 ∷ 1 ∷ []) $
     by ! (leaves 𝓛 En hs c y u t (tt, (tt, tt)) (tt, (tt, tt)))))))))))))))))))))))

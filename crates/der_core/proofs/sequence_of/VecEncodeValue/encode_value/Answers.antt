@@ -1,16 +1,16 @@
 use Rattle.std.proofs.Common.{arith, ◌≤◌, length, map}
 use Rattle.der_core.specs.Length.{limit}
-use Rattle.der_core.specs.SequenceOf.{all_texts}
-use Rattle.der_core.specs.Laws.Items.{have_map, texts_map}
+use Rattle.der_core.specs.SequenceOf.{all_encodings}
+use Rattle.der_core.specs.Laws.Items.{have_map, encodings_map}
 use Rattle.der_core.proofs.sequence_of.VecEncodeValue.encode_value.Goals as goal
 
-pub encode_texts-requires-clause-has : goal.encode_texts-requires-clause-has
-encode_texts-requires-clause-has g c = rw (c.as_slice.ensures.value, ← have_map g.T.Text.value g.T.Text.has_text c.args.self.now.items) c.in_ok-value_len.ensures.0
+pub encode_items-requires-clause-has : goal.encode_items-requires-clause-has
+encode_items-requires-clause-has g c = rw (c.as_slice.ensures.value, ← have_map g.T.Encoding.value g.T.Encoding.has_encoding c.args.self.now.items) c.in_ok-value_len.ensures.0
 
-pub encode_texts-requires-clause-fits : goal.encode_texts-requires-clause-fits
-encode_texts-requires-clause-fits g c =
-    let fits : length (all_texts g.T.Text.written_text (map g.T.Text.value c.args.self.now.items)) ≤ limit = omega (arith, c.in_ok-value_len.ensures) in
-    rw (c.as_slice.ensures.value, ← texts_map g.T.Text.value g.T.Text.written_text c.args.self.now.items) fits
+pub encode_items-requires-clause-fits : goal.encode_items-requires-clause-fits
+encode_items-requires-clause-fits g c =
+    let fits : length (all_encodings g.T.Encoding.written_encoding (map g.T.Encoding.value c.args.self.now.items)) ≤ limit = omega (arith, c.in_ok-value_len.ensures) in
+    rw (c.as_slice.ensures.value, ← encodings_map g.T.Encoding.value g.T.Encoding.written_encoding c.args.self.now.items) fits
 
 pub returns-clause-appends : goal.returns-clause-appends
-returns-clause-appends g c = rw (have_map g.T.Text.value g.T.Text.has_text c.args.self.now.items, texts_map g.T.Text.value g.T.Text.written_text c.args.self.now.items, ← c.as_slice.ensures.value) c.encode_texts.ensures.appends
+returns-clause-appends g c = rw (have_map g.T.Encoding.value g.T.Encoding.has_encoding c.args.self.now.items, encodings_map g.T.Encoding.value g.T.Encoding.written_encoding c.args.self.now.items, ← c.as_slice.ensures.value) c.encode_items.ensures.appends

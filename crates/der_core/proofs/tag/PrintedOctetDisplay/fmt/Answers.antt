@@ -9,5 +9,5 @@ returns-clause-writes g c = λ plain ok.
     let digits : styled_digits_output c.in_radix.result c.laid_out.result ≡ Some (digit_glyph false (octet / 16) ∷ digit_glyph false (octet % 16) ∷ []) =
     rw (c.laid_out.ensures, c.in_radix.ensures) (ap Some (hex_byte false octet (omega arith)))
     in
-    let text = rw digits at c.write.ensures.writes in
-    text plain ok
+    let encoding = rw digits at c.write.ensures.writes in
+    encoding plain ok

@@ -7,17 +7,17 @@ use Rattle.pkcs1.proofs.private_key.RsaPrivateKeyDecodeValueRefSliceU8Global.dec
 pub returns-in_err-version : goal.returns-in_err-version
 returns-in_err-version g c =
     let p = err_from_is_err_and c.from_residual.result c.from_residual.ensures.1 in
-    rw (p.1, p.2) (version_faults g.U.Text.text g.U.Text.delimited g.U.Decode.may_allocate BeginsSequence g.U.Decode.fault c.in_err-version.ensures.text.0 c.in_err-version.ensures.exact)
+    rw (p.1, p.2) (version_faults g.U.Encoding.encoding g.U.Encoding.delimited g.U.Decode.may_allocate BeginsSequence g.U.Decode.fault c.in_err-version.ensures.encoding.0 c.in_err-version.ensures.exact)
 
 pub returns-in_err-key : goal.returns-in_err-key
 returns-in_err-key g c =
     let p = err_from_is_err_and c.from_residual-in_err-key.result c.from_residual-in_err-key.ensures.1 in
-    rw (p.1, p.2) (key_numbers_faults g.U.Text.text g.U.Text.delimited g.U.Decode.may_allocate BeginsSequence g.U.Decode.fault c.in_ok-version.ensures.text c.in_err-key.ensures.text.0 c.in_err-key.ensures.exact)
+    rw (p.1, p.2) (key_numbers_faults g.U.Encoding.encoding g.U.Encoding.delimited g.U.Decode.may_allocate BeginsSequence g.U.Decode.fault c.in_ok-version.ensures.encoding c.in_err-key.ensures.encoding.0 c.in_err-key.ensures.exact)
 
 pub returns-in_err-key-2 : goal.returns-in_err-key-2
 returns-in_err-key-2 g c =
     let p = err_from_is_err_and c.from_residual-in_err-key-2.result c.from_residual-in_err-key-2.ensures.1 in
-    rw (p.1, p.2) (key_others_faults g.U.Text.text g.U.Text.delimited g.U.Decode.may_allocate BeginsSequence g.U.Decode.fault (numbers_of g.U.Text.value c.in_ok-key.key) c.in_ok-version.ensures.text c.in_ok-key.ensures.text c.in_err-key-2.ensures.reads.0 c.in_err-key-2.ensures.exact)
+    rw (p.1, p.2) (key_others_faults g.U.Encoding.encoding g.U.Encoding.delimited g.U.Decode.may_allocate BeginsSequence g.U.Decode.fault (numbers_of g.U.Encoding.value c.in_ok-key.key) c.in_ok-version.ensures.encoding c.in_ok-key.ensures.encoding c.in_err-key-2.ensures.reads.0 c.in_err-key-2.ensures.exact)
 
 pub returns : goal.returns
-returns g c = key_given g.U.Text.text g.U.Text.delimited g.U.Decode.may_allocate BeginsSequence _ c.in_ok-version.ensures.text c.in_ok-key.ensures.text c.in_ok-key-2.ensures.reads
+returns g c = key_given g.U.Encoding.encoding g.U.Encoding.delimited g.U.Decode.may_allocate BeginsSequence _ c.in_ok-version.ensures.encoding c.in_ok-key.ensures.encoding c.in_ok-key-2.ensures.reads

@@ -24,47 +24,47 @@ count v = length v.items
 pub returns-in_err-others-clause-reads : goal.returns-in_err-others-clause-reads
 returns-in_err-others-clause-reads g c =
     let p = err_from_is_err_and c.from_residual.result c.from_residual.ensures.1 in
-    rw (p.1, p.2) (others_fail (items g.U.Text.value) g.U.Text.text g.U.Text.delimited (Tlv 48 (λ octets. 0 < length octets)) _ _ _ _ c.in_err-others.ensures.reads)
+    rw (p.1, p.2) (others_fail (items g.U.Encoding.value) g.U.Encoding.encoding g.U.Encoding.delimited (Tlv 48 (λ octets. 0 < length octets)) _ _ _ _ c.in_err-others.ensures.reads)
 
 pub returns-then-lists_none-clause-reads : goal.returns-then-lists_none-clause-reads
 returns-then-lists_none-clause-reads g c =
     let none = unlisted count _ _ c.lists_none.ensures c.if-lists_none.true in
-    let empty : length (items g.U.Text.value none.0) ≡ 0 = omega (arith, length-map none.0.items (other_of g.U.Text.value), none.2) in (
+    let empty : length (items g.U.Encoding.value none.0) ≡ 0 = omega (arith, length-map none.0.items (other_of g.U.Encoding.value), none.2) in (
       c.error-then-lists_none.ensures.failed,
-      empty_fails (items g.U.Text.value) g.U.Text.text g.U.Text.delimited (λ _. ⊥) BeginsSequence _ _ none.0 _ _ _ c.in_ok-others.ensures.reads none.1 empty (is_value c.error-then-lists_none.ensures.value),
+      empty_fails (items g.U.Encoding.value) g.U.Encoding.encoding g.U.Encoding.delimited (λ _. ⊥) BeginsSequence _ _ none.0 _ _ _ c.in_ok-others.ensures.reads none.1 empty (is_value c.error-then-lists_none.ensures.value),
     )
 
 pub returns-in_err-finish-clause-reads : goal.returns-in_err-finish-clause-reads
 returns-in_err-finish-clause-reads g c =
     let p = err_from_is_err_and c.from_residual-in_err-finish.result c.from_residual-in_err-finish.ensures.1 in
-    rw (p.1, p.2) (more_fails (items g.U.Text.value) g.U.Text.text g.U.Text.delimited (λ _. ⊥) BeginsSequence _ _ _ _ _ _ c.in_ok-others.ensures.reads c.in_err-finish.ensures)
+    rw (p.1, p.2) (more_fails (items g.U.Encoding.value) g.U.Encoding.encoding g.U.Encoding.delimited (λ _. ⊥) BeginsSequence _ _ _ _ _ _ c.in_ok-others.ensures.reads c.in_err-finish.ensures)
 
 pub returns-clause-reads : goal.returns-clause-reads
 returns-clause-reads g c =
-    others_given (items g.U.Text.value) g.U.Text.text g.U.Text.delimited (λ _. ⊥) _ _ _ _ _ c.in_ok-others.ensures.reads
-    (agree (items g.U.Text.value) _ _ _ _ c.is_multi.ensures c.is_some.ensures c.if-is_multi-is_some.false)
-    (λ v is. omega (arith, listed count _ _ c.lists_none.ensures c.if-lists_none.false v is, length-map v.items (other_of g.U.Text.value))) c.in_ok-finish.ensures
+    others_given (items g.U.Encoding.value) g.U.Encoding.encoding g.U.Encoding.delimited (λ _. ⊥) _ _ _ _ _ c.in_ok-others.ensures.reads
+    (agree (items g.U.Encoding.value) _ _ _ _ c.is_multi.ensures c.is_some.ensures c.if-is_multi-is_some.false)
+    (λ v is. omega (arith, listed count _ _ c.lists_none.ensures c.if-lists_none.false v is, length-map v.items (other_of g.U.Encoding.value))) c.in_ok-finish.ensures
 
 pub returns-in_err-others-clause-exact : goal.returns-in_err-others-clause-exact
 returns-in_err-others-clause-exact g c =
     let p = err_from_is_err_and c.from_residual.result c.from_residual.ensures.1 in
-    rw (p.1, p.2) (others_faults (items g.U.Text.value) g.U.Text.text g.U.Decode.fault _ _ _ _ _ c.in_err-others.ensures.reads c.in_err-others.ensures.exact)
+    rw (p.1, p.2) (others_faults (items g.U.Encoding.value) g.U.Encoding.encoding g.U.Decode.fault _ _ _ _ _ c.in_err-others.ensures.reads c.in_err-others.ensures.exact)
 
 pub returns-then-is_multi-is_some-clause-exact : goal.returns-then-is_multi-is_some-clause-exact
 returns-then-is_multi-is_some-clause-exact g c =
-    λ all is. inr (disagree_faults (items g.U.Text.value) g.U.Text.text g.U.Decode.fault (λ _. ⊥) _ _ _ _ _ _ _ c.is_multi.ensures c.is_some.ensures c.if-is_multi-is_some.true c.in_ok-others.ensures.reads (c.error.ensures.value ∙ ap kind.Value (same_tag _ integer refl)) all is)
+    λ all is. inr (disagree_faults (items g.U.Encoding.value) g.U.Encoding.encoding g.U.Decode.fault (λ _. ⊥) _ _ _ _ _ _ _ c.is_multi.ensures c.is_some.ensures c.if-is_multi-is_some.true c.in_ok-others.ensures.reads (c.error.ensures.value ∙ ap kind.Value (same_tag _ integer refl)) all is)
 
 pub returns-then-lists_none-clause-exact : goal.returns-then-lists_none-clause-exact
 returns-then-lists_none-clause-exact g c =
     let none = unlisted count _ _ c.lists_none.ensures c.if-lists_none.true in
-    let empty : length (items g.U.Text.value none.0) ≡ 0 = omega (arith, length-map none.0.items (other_of g.U.Text.value), none.2) in
-    λ all is. inr (empty_faults (items g.U.Text.value) g.U.Text.text g.U.Decode.fault (λ _. ⊥) _ _ none.0 _ _ _ c.in_ok-others.ensures.reads none.1 empty
-    (agree (items g.U.Text.value) _ _ _ _ c.is_multi.ensures c.is_some.ensures c.if-is_multi-is_some.false) (c.error-then-lists_none.ensures.value ∙ ap kind.Value (same_tag _ sequence refl)) all is)
+    let empty : length (items g.U.Encoding.value none.0) ≡ 0 = omega (arith, length-map none.0.items (other_of g.U.Encoding.value), none.2) in
+    λ all is. inr (empty_faults (items g.U.Encoding.value) g.U.Encoding.encoding g.U.Decode.fault (λ _. ⊥) _ _ none.0 _ _ _ c.in_ok-others.ensures.reads none.1 empty
+    (agree (items g.U.Encoding.value) _ _ _ _ c.is_multi.ensures c.is_some.ensures c.if-is_multi-is_some.false) (c.error-then-lists_none.ensures.value ∙ ap kind.Value (same_tag _ sequence refl)) all is)
 
 pub returns-in_err-finish-clause-exact : goal.returns-in_err-finish-clause-exact
 returns-in_err-finish-clause-exact g c =
     let p = err_from_is_err_and c.from_residual-in_err-finish.result c.from_residual-in_err-finish.ensures.1 in
     rw (p.1, p.2)
-    (λ all is. inr (more_faults (items g.U.Text.value) g.U.Text.text g.U.Decode.fault (λ _. ⊥) _ _ _ _ _ c.in_ok-others.ensures.reads
-    (agree (items g.U.Text.value) _ _ _ _ c.is_multi.ensures c.is_some.ensures c.if-is_multi-is_some.false)
-    (λ v is. omega (arith, listed count _ _ c.lists_none.ensures c.if-lists_none.false v is, length-map v.items (other_of g.U.Text.value))) c.in_err-finish.ensures.0 all is))
+    (λ all is. inr (more_faults (items g.U.Encoding.value) g.U.Encoding.encoding g.U.Decode.fault (λ _. ⊥) _ _ _ _ _ c.in_ok-others.ensures.reads
+    (agree (items g.U.Encoding.value) _ _ _ _ c.is_multi.ensures c.is_some.ensures c.if-is_multi-is_some.false)
+    (λ v is. omega (arith, listed count _ _ c.lists_none.ensures c.if-lists_none.false v is, length-map v.items (other_of g.U.Encoding.value))) c.in_err-finish.ensures.0 all is))

@@ -10,7 +10,7 @@ use Rattle.pkcs1.specs.Laws.PublicKeys.{public_delimited}
 use Rattle.pkcs1.proofs.public_key.RsaPublicKeyUintRefTryFromRefSliceU8.try_from.Goals as goal
 
 pub returns-clause-one : goal.returns-clause-one
-returns-clause-one c other p = means_one public_delimited other _ _ p.1 c.in_ok-from_der.ensures.text.1
+returns-clause-one c other p = means_one public_delimited other _ _ p.1 c.in_ok-from_der.ensures.encoding.1
 
 -- Borrowed numbers ask for no memory.
 told : {e : ErrorKind} (b : List ℕ) (fault : Type 0) → Faulty e (AllocatesIn (Tlv 48 (AllocatesWithin (Tlv 2 (λ _. ⊥)))) b) fault → fault
@@ -27,4 +27,4 @@ returns-in_err-from_der-clause-only c kind fault =
     rw (p.1, p.2) (public_key_whole_first _ kind _ (told _ _ c.in_err-from_der.ensures.exact) fault)
 
 pub returns-clause-only : goal.returns-clause-only
-returns-clause-only c kind fault = absurd (public_key_whole_none kind _ fault _ c.in_ok-from_der.ensures.text)
+returns-clause-only c kind fault = absurd (public_key_whole_none kind _ fault _ c.in_ok-from_der.ensures.encoding)

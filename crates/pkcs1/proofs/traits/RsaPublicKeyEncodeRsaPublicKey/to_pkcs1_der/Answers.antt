@@ -6,8 +6,8 @@ use Rattle.pkcs1.proofs.NotWritten.{unwritten_as, public_written}
 use Rattle.pkcs1.specs.Laws.PublicKeys.{public_only, public_made}
 use Rattle.pkcs1.proofs.traits.RsaPublicKeyEncodeRsaPublicKey.to_pkcs1_der.Goals as goal
 
-pub returns-clause-text : goal.returns-clause-text
-returns-clause-text g c =
+pub returns-clause-encoding : goal.returns-clause-encoding
+returns-clause-encoding g c =
     let key = public_key_of c.as_key_ref.result in
     rw (← c.as_key_ref.ensures) (public_only key _ c.in_ok-encode_msg.ensures.2)
 

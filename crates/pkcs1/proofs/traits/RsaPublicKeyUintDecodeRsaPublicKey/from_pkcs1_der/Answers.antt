@@ -7,7 +7,7 @@ use Rattle.pkcs1.specs.Laws.PublicKeys.{public_delimited}
 use Rattle.pkcs1.proofs.traits.RsaPublicKeyUintDecodeRsaPublicKey.from_pkcs1_der.Goals as goal
 
 pub returns-clause-one : goal.returns-clause-one
-returns-clause-one c other p = means_one public_delimited other _ _ p.1 c.in_ok-from_der.ensures.text.1
+returns-clause-one c other p = means_one public_delimited other _ _ p.1 c.in_ok-from_der.ensures.encoding.1
 
 pub returns-in_err-from_der-clause-exact : goal.returns-in_err-from_der-clause-exact
 returns-in_err-from_der-clause-exact c =
@@ -20,4 +20,4 @@ returns-in_err-from_der-clause-only c kind fault =
     rw (p.1, p.2) (faulty_first RsaPublicKeyFault public_key_whole_first _ kind _ fault c.in_err-from_der.ensures.exact)
 
 pub returns-clause-only : goal.returns-clause-only
-returns-clause-only c kind fault = absurd (public_key_whole_none kind _ fault _ c.in_ok-from_der.ensures.text)
+returns-clause-only c kind fault = absurd (public_key_whole_none kind _ fault _ c.in_ok-from_der.ensures.encoding)

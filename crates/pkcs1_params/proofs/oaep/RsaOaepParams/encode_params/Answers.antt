@@ -1,6 +1,6 @@
 use Rattle.std.proofs.Common.{◌≡◌, length, take, IfOk, IfErr, OnOk, subst}
 use Rattle.der_core.specs.Document.{IsShortest}
-use Rattle.pkcs1_params.specs.Meanings.{IsNotWritten}
+use Rattle.pkcs1_params.specs.Meanings.{IsWritingError}
 use Rattle.pkcs1_params.specs.Parameters.{OaepParameters, RsaOaepParams, oaep_fields}
 use Rattle.pkcs1_params.specs.Spellings.{HasTwoToTheDefaults}
 use Rattle.pkcs1_params.proofs.oaep.RsaOaepParams.encode_params.Goals as goal
@@ -17,4 +17,4 @@ pub returns-clause-count : goal.returns-clause-count
 returns-clause-count g c = subst (λ p. OnOk c.encode_shortest.result (HasTwoToTheDefaults oaep_fields p)) c.as_params_ref.ensures c.encode_shortest.ensures.count
 
 pub returns-clause-err : goal.returns-clause-err
-returns-clause-err g c = subst (λ p. IfErr c.encode_shortest.result (IsNotWritten RsaOaepParams p (length c.args.out.now))) c.as_params_ref.ensures c.encode_shortest.ensures.err
+returns-clause-err g c = subst (λ p. IfErr c.encode_shortest.result (IsWritingError RsaOaepParams p (length c.args.out.now))) c.as_params_ref.ensures c.encode_shortest.ensures.err

@@ -11,7 +11,7 @@ use Rattle.pkcs1_params.specs.Laws.Parameters.{oaep_delimited}
 use Rattle.pkcs1_params.proofs.oaep.RsaOaepParamsAnyRefTryFromRefSliceU8.try_from.Goals as goal
 
 pub returns-clause-one : goal.returns-clause-one
-returns-clause-one c other p = rw c.keep.ensures (means_one oaep_delimited other _ _ p.1 c.in_ok-view.ensures.text.1)
+returns-clause-one c other p = rw c.keep.ensures (means_one oaep_delimited other _ _ p.1 c.in_ok-view.ensures.encoding.1)
 
 pub returns-in_err-view-clause-exact : goal.returns-in_err-view-clause-exact
 returns-in_err-view-clause-exact c =
@@ -24,7 +24,7 @@ returns-in_err-view-clause-only c kind fault =
     rw (p.1, p.2) (oaep_whole_first _ kind _ (⊎_elim (λ w. absurd (oaep_asks _ w.1)) (λ f. f) c.in_err-view.ensures.exact) fault)
 
 pub returns-clause-only : goal.returns-clause-only
-returns-clause-only c kind fault = absurd (oaep_whole_none kind _ fault _ c.in_ok-view.ensures.text)
+returns-clause-only c kind fault = absurd (oaep_whole_none kind _ fault _ c.in_ok-view.ensures.encoding)
 
 pub returns-then-is_empty_sequence-clause-ok : goal.returns-then-is_empty_sequence-clause-ok
 returns-then-is_empty_sequence-clause-ok c =

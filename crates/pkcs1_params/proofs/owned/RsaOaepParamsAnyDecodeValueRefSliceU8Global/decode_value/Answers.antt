@@ -1,48 +1,25 @@
-use Rattle.std.proofs.Common.{⊎_elim}
+use Rattle.std.proofs.Common.{◌∙◌, subst, sym}
 use Rattle.std.proofs.lemmas.Result.{err_from_is_err_and}
-use Rattle.der_core.specs.Faults.{EndFault}
-use Rattle.der_core.specs.Laws.Sequences.{end_faults}
-use Rattle.spki_core.specs.Laws.FieldReads.{field_faults, fields_faults}
-use Rattle.spki_core.specs.AlgorithmIdentifier.{PlainAlgorithm, MaskAlgorithm}
-use Rattle.spki_core.specs.Allocating.{AlgorithmAllocates}
 use Rattle.spki_core.specs.Any.{Any}
-use Rattle.spki_core.specs.Faults.{AnyFault, FieldThenFault}
-use Rattle.pkcs1_params.specs.Allocating.{AllocatesForAny}
-use Rattle.pkcs1_params.specs.ParameterFaults.{HashFault, MaskFault, SourceFault}
-use Rattle.pkcs1_params.specs.Parameters.{sha1, mgf1_sha1, empty_label}
-use Rattle.pkcs1_params.proofs.HashFieldsReads.{both_read}
-use Rattle.pkcs1_params.proofs.OaepReads.{oaep_gives}
+use Rattle.spki_core.specs.Faults.{AnyFault}
+use Rattle.pkcs1_params.specs.Allocating.{OaepAllocates, AllocatesForAny}
+use Rattle.pkcs1_params.specs.ParameterFaults.{OaepFault}
+use Rattle.pkcs1_params.specs.Parameters.{OaepContents}
+use Rattle.pkcs1_params.specs.OaepValue.{oaep_of}
+use Rattle.pkcs1_params.proofs.MemoryAsked.{oaep_asks, read_fails, copy_fails}
+use Rattle.pkcs1_params.proofs.NothingAsked.{oaep_contents_ask}
 use Rattle.pkcs1_params.proofs.owned.RsaOaepParamsAnyDecodeValueRefSliceU8Global.decode_value.Goals as goal
 
-pub returns-in_err-hash : goal.returns-in_err-hash
-returns-in_err-hash g c =
+pub returns-in_err-params : goal.returns-in_err-params
+returns-in_err-params g c =
     let p = err_from_is_err_and c.from_residual.result c.from_residual.ensures.1 in
-    rw (p.1, p.2)
-    (field_faults 0 PlainAlgorithm sha1 (HashFault Any AnyFault) (FieldThenFault 1 MaskAlgorithm mgf1_sha1 (MaskFault Any AnyFault) (FieldThenFault 2 PlainAlgorithm empty_label (SourceFault Any AnyFault) EndFault)) (AlgorithmAllocates AllocatesForAny) _ _ _ _ c.in_err-hash.ensures.reads.0 c.in_err-hash.ensures.exact)
+    rw (p.1, p.2) (read_fails (OaepFault Any AnyFault) (OaepAllocates AllocatesForAny) _ _ _ _ oaep_contents_ask c.in_err-params.ensures)
 
-pub returns-in_err-mask_gen : goal.returns-in_err-mask_gen
-returns-in_err-mask_gen g c =
-    let p = err_from_is_err_and c.from_residual-in_err-mask_gen.result c.from_residual-in_err-mask_gen.ensures.1 in
-    rw (p.1, p.2)
-    (fields_faults 0 PlainAlgorithm sha1 (HashFault Any AnyFault) (FieldThenFault 1 MaskAlgorithm mgf1_sha1 (MaskFault Any AnyFault) (FieldThenFault 2 PlainAlgorithm empty_label (SourceFault Any AnyFault) EndFault)) (AlgorithmAllocates AllocatesForAny) _ (λ _ w. w) _ _ _ _ _ c.in_ok-hash.ensures.reads
-    (field_faults 1 MaskAlgorithm mgf1_sha1 (MaskFault Any AnyFault) (FieldThenFault 2 PlainAlgorithm empty_label (SourceFault Any AnyFault) EndFault) (AlgorithmAllocates (AlgorithmAllocates AllocatesForAny)) _ _ _ _ c.in_err-mask_gen.ensures.reads.0 c.in_err-mask_gen.ensures.exact))
+pub returns-in-Err : goal.returns-in-Err
+returns-in-Err g c =
+    let read = oaep_of c.in_ok-params.params in
+    let w = c.in-Err.ensures.err in
+    copy_fails (OaepFault Any AnyFault) (OaepAllocates AllocatesForAny) _ _ _ (OaepContents read) _ c.in_ok-params.ensures (λ b contents. oaep_asks read b contents w.1) c.error.ensures.failed (c.error.ensures.value ∙ c.kind.ensures ∙ w.0)
 
-pub returns-in_err-p_source : goal.returns-in_err-p_source
-returns-in_err-p_source g c =
-    let p = err_from_is_err_and c.from_residual-in_err-p_source.result c.from_residual-in_err-p_source.ensures.1 in
-    rw (p.1, p.2)
-    (fields_faults 0 PlainAlgorithm sha1 (HashFault Any AnyFault) (FieldThenFault 1 MaskAlgorithm mgf1_sha1 (MaskFault Any AnyFault) (FieldThenFault 2 PlainAlgorithm empty_label (SourceFault Any AnyFault) EndFault)) (AlgorithmAllocates AllocatesForAny) _ (λ _ w. w) _ _ _ _ _ c.in_ok-hash.ensures.reads
-    (fields_faults 1 MaskAlgorithm mgf1_sha1 (MaskFault Any AnyFault) (FieldThenFault 2 PlainAlgorithm empty_label (SourceFault Any AnyFault) EndFault) (AlgorithmAllocates (AlgorithmAllocates AllocatesForAny)) _ (λ c. ⊎_elim (λ w. w) (λ w. absurd w.1.3)) _ _ _ _ _ c.in_ok-mask_gen.ensures.reads
-    (field_faults 2 PlainAlgorithm empty_label (SourceFault Any AnyFault) EndFault (AlgorithmAllocates AllocatesForAny) (λ _. ⊥) _ _ _ c.in_err-p_source.ensures.reads.0 c.in_err-p_source.ensures.exact)))
-
-pub returns-in_err-finish : goal.returns-in_err-finish
-returns-in_err-finish g c =
-    let p = err_from_is_err_and c.from_residual-in_err-finish.result c.from_residual-in_err-finish.ensures.1 in
-    rw (p.1, p.2)
-    (fields_faults 0 PlainAlgorithm sha1 (HashFault Any AnyFault) (FieldThenFault 1 MaskAlgorithm mgf1_sha1 (MaskFault Any AnyFault) (FieldThenFault 2 PlainAlgorithm empty_label (SourceFault Any AnyFault) EndFault)) (AlgorithmAllocates AllocatesForAny) _ (λ _ w. w) _ _ _ _ _ c.in_ok-hash.ensures.reads
-    (fields_faults 1 MaskAlgorithm mgf1_sha1 (MaskFault Any AnyFault) (FieldThenFault 2 PlainAlgorithm empty_label (SourceFault Any AnyFault) EndFault) (AlgorithmAllocates (AlgorithmAllocates AllocatesForAny)) _ (λ c. ⊎_elim (λ w. w) (λ w. absurd w.1.3)) _ _ _ _ _ c.in_ok-mask_gen.ensures.reads
-    (fields_faults 2 PlainAlgorithm empty_label (SourceFault Any AnyFault) EndFault (AlgorithmAllocates AllocatesForAny) (λ _. ⊥) (λ _ w. w) _ _ _ _ _ c.in_ok-p_source.ensures.reads
-    (end_faults (λ _. ⊥) _ _ _ c.in_err-finish.ensures))))
-
-pub returns : goal.returns
-returns g c = oaep_gives _ _ _ _ _ (both_read c.in_ok-hash.ensures.reads c.in_ok-mask_gen.ensures.reads) c.in_ok-p_source.ensures.reads c.in_ok-finish.ensures
+pub returns-in-Ok : goal.returns-in-Ok
+returns-in-Ok g c = let h = c.in_ok-params.ensures in (h.0, h.1, h.2, subst (λ v. OaepContents v h.0) (sym c.in-Ok.ensures.ok) h.3)

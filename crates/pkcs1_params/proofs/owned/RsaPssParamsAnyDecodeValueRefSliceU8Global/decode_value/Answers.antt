@@ -1,61 +1,25 @@
+use Rattle.std.proofs.Common.{◌∙◌, subst, sym}
 use Rattle.std.proofs.lemmas.Result.{err_from_is_err_and}
-use Rattle.der_core.specs.Faults.{EndFault}
-use Rattle.der_core.specs.Integer.{Small}
-use Rattle.der_core.specs.Laws.Sequences.{end_faults}
-use Rattle.der_core.specs.Tlv.{Tlv}
-use Rattle.spki_core.specs.Laws.FieldReads.{field_faults, fields_faults}
-use Rattle.spki_core.specs.AlgorithmIdentifier.{PlainAlgorithm, MaskAlgorithm}
-use Rattle.spki_core.specs.Allocating.{AlgorithmAllocates}
 use Rattle.spki_core.specs.Any.{Any}
-use Rattle.spki_core.specs.Faults.{AnyFault, FieldThenFault}
-use Rattle.pkcs1_params.specs.Allocating.{AllocatesForAny}
-use Rattle.pkcs1_params.specs.ParameterFaults.{HashFault, MaskFault, SaltFault, TrailerFieldFault}
-use Rattle.pkcs1_params.specs.Parameters.{sha1, mgf1_sha1, TrailerField}
-use Rattle.pkcs1_params.proofs.HashFieldsReads.{both_read}
-use Rattle.pkcs1_params.proofs.PssReads.{pss_gives, numbers_ask, at_salt, at_trailer, salt_read, trailer_read}
+use Rattle.spki_core.specs.Faults.{AnyFault}
+use Rattle.pkcs1_params.specs.Allocating.{PssAllocates, AllocatesForAny}
+use Rattle.pkcs1_params.specs.ParameterFaults.{PssFault}
+use Rattle.pkcs1_params.specs.Parameters.{PssContents}
+use Rattle.pkcs1_params.specs.PssValue.{pss_of}
+use Rattle.pkcs1_params.proofs.MemoryAsked.{pss_asks, read_fails, copy_fails}
+use Rattle.pkcs1_params.proofs.NothingAsked.{pss_contents_ask}
 use Rattle.pkcs1_params.proofs.owned.RsaPssParamsAnyDecodeValueRefSliceU8Global.decode_value.Goals as goal
 
-pub returns-in_err-hash : goal.returns-in_err-hash
-returns-in_err-hash g c =
+pub returns-in_err-params : goal.returns-in_err-params
+returns-in_err-params g c =
     let p = err_from_is_err_and c.from_residual.result c.from_residual.ensures.1 in
-    rw (p.1, p.2)
-    (field_faults 0 PlainAlgorithm sha1 (HashFault Any AnyFault) (FieldThenFault 1 MaskAlgorithm mgf1_sha1 (MaskFault Any AnyFault) (FieldThenFault 2 Small 20 SaltFault (FieldThenFault 3 TrailerField 1 TrailerFieldFault EndFault))) (AlgorithmAllocates AllocatesForAny) _ _ _ _ c.in_err-hash.ensures.reads.0 c.in_err-hash.ensures.exact)
+    rw (p.1, p.2) (read_fails (PssFault Any AnyFault) (PssAllocates AllocatesForAny) _ _ _ _ pss_contents_ask c.in_err-params.ensures)
 
-pub returns-in_err-mask_gen : goal.returns-in_err-mask_gen
-returns-in_err-mask_gen g c =
-    let p = err_from_is_err_and c.from_residual-in_err-mask_gen.result c.from_residual-in_err-mask_gen.ensures.1 in
-    rw (p.1, p.2)
-    (fields_faults 0 PlainAlgorithm sha1 (HashFault Any AnyFault) (FieldThenFault 1 MaskAlgorithm mgf1_sha1 (MaskFault Any AnyFault) (FieldThenFault 2 Small 20 SaltFault (FieldThenFault 3 TrailerField 1 TrailerFieldFault EndFault))) (AlgorithmAllocates AllocatesForAny) _ (λ _ w. w) _ _ _ _ _ c.in_ok-hash.ensures.reads
-    (field_faults 1 MaskAlgorithm mgf1_sha1 (MaskFault Any AnyFault) (FieldThenFault 2 Small 20 SaltFault (FieldThenFault 3 TrailerField 1 TrailerFieldFault EndFault)) (AlgorithmAllocates (AlgorithmAllocates AllocatesForAny)) _ _ _ _ c.in_err-mask_gen.ensures.reads.0 c.in_err-mask_gen.ensures.exact))
+pub returns-in-Err : goal.returns-in-Err
+returns-in-Err g c =
+    let read = pss_of c.in_ok-params.params in
+    let w = c.in-Err.ensures.err in
+    copy_fails (PssFault Any AnyFault) (PssAllocates AllocatesForAny) _ _ _ (PssContents read) _ c.in_ok-params.ensures (λ b contents. pss_asks read b contents w.1) c.error.ensures.failed (c.error.ensures.value ∙ c.kind.ensures ∙ w.0)
 
-pub returns-in_err-salt_len : goal.returns-in_err-salt_len
-returns-in_err-salt_len g c =
-    let p = err_from_is_err_and c.from_residual-in_err-salt_len.result c.from_residual-in_err-salt_len.ensures.1 in
-    rw (p.1, p.2)
-    (fields_faults 0 PlainAlgorithm sha1 (HashFault Any AnyFault) (FieldThenFault 1 MaskAlgorithm mgf1_sha1 (MaskFault Any AnyFault) (FieldThenFault 2 Small 20 SaltFault (FieldThenFault 3 TrailerField 1 TrailerFieldFault EndFault))) (AlgorithmAllocates AllocatesForAny) _ (λ _ w. w) _ _ _ _ _ c.in_ok-hash.ensures.reads
-    (fields_faults 1 MaskAlgorithm mgf1_sha1 (MaskFault Any AnyFault) (FieldThenFault 2 Small 20 SaltFault (FieldThenFault 3 TrailerField 1 TrailerFieldFault EndFault)) (AlgorithmAllocates (AlgorithmAllocates AllocatesForAny)) _ (numbers_ask 2 20 Small) _ _ _ _ _ c.in_ok-mask_gen.ensures.reads
-    (field_faults 2 Small 20 SaltFault (FieldThenFault 3 TrailerField 1 TrailerFieldFault EndFault) (Tlv 2 (λ _. ⊥)) (λ _. ⊥) _ _ _ c.in_err-salt_len.ensures.reads.0 (at_salt c.new.result.value c.new.ensures _ _ _ c.in_err-salt_len.ensures.exact))))
-
-pub returns-in_err-trailer_field : goal.returns-in_err-trailer_field
-returns-in_err-trailer_field g c =
-    let p = err_from_is_err_and c.from_residual-in_err-trailer_field.result c.from_residual-in_err-trailer_field.ensures.1 in
-    rw (p.1, p.2)
-    (fields_faults 0 PlainAlgorithm sha1 (HashFault Any AnyFault) (FieldThenFault 1 MaskAlgorithm mgf1_sha1 (MaskFault Any AnyFault) (FieldThenFault 2 Small 20 SaltFault (FieldThenFault 3 TrailerField 1 TrailerFieldFault EndFault))) (AlgorithmAllocates AllocatesForAny) _ (λ _ w. w) _ _ _ _ _ c.in_ok-hash.ensures.reads
-    (fields_faults 1 MaskAlgorithm mgf1_sha1 (MaskFault Any AnyFault) (FieldThenFault 2 Small 20 SaltFault (FieldThenFault 3 TrailerField 1 TrailerFieldFault EndFault)) (AlgorithmAllocates (AlgorithmAllocates AllocatesForAny)) _ (numbers_ask 2 20 Small) _ _ _ _ _ c.in_ok-mask_gen.ensures.reads
-    (fields_faults 2 Small 20 SaltFault (FieldThenFault 3 TrailerField 1 TrailerFieldFault EndFault) (Tlv 2 (λ _. ⊥)) (λ _. ⊥) (numbers_ask 3 1 TrailerField) _ _ _ _ _ (salt_read c.new.result.value c.new.ensures _ _ _ c.in_ok-salt_len.ensures.reads)
-    (field_faults 3 TrailerField 1 TrailerFieldFault EndFault (Tlv 2 (λ _. ⊥)) (λ _. ⊥) _ _ _ c.in_err-trailer_field.ensures.reads.0 (at_trailer c.new-2.result.value c.new-2.ensures _ _ _ c.in_err-trailer_field.ensures.exact)))))
-
-pub returns-in_err-finish : goal.returns-in_err-finish
-returns-in_err-finish g c =
-    let p = err_from_is_err_and c.from_residual-in_err-finish.result c.from_residual-in_err-finish.ensures.1 in
-    rw (p.1, p.2)
-    (fields_faults 0 PlainAlgorithm sha1 (HashFault Any AnyFault) (FieldThenFault 1 MaskAlgorithm mgf1_sha1 (MaskFault Any AnyFault) (FieldThenFault 2 Small 20 SaltFault (FieldThenFault 3 TrailerField 1 TrailerFieldFault EndFault))) (AlgorithmAllocates AllocatesForAny) _ (λ _ w. w) _ _ _ _ _ c.in_ok-hash.ensures.reads
-    (fields_faults 1 MaskAlgorithm mgf1_sha1 (MaskFault Any AnyFault) (FieldThenFault 2 Small 20 SaltFault (FieldThenFault 3 TrailerField 1 TrailerFieldFault EndFault)) (AlgorithmAllocates (AlgorithmAllocates AllocatesForAny)) _ (numbers_ask 2 20 Small) _ _ _ _ _ c.in_ok-mask_gen.ensures.reads
-    (fields_faults 2 Small 20 SaltFault (FieldThenFault 3 TrailerField 1 TrailerFieldFault EndFault) (Tlv 2 (λ _. ⊥)) (λ _. ⊥) (numbers_ask 3 1 TrailerField) _ _ _ _ _ (salt_read c.new.result.value c.new.ensures _ _ _ c.in_ok-salt_len.ensures.reads)
-    (fields_faults 3 TrailerField 1 TrailerFieldFault EndFault (Tlv 2 (λ _. ⊥)) (λ _. ⊥) (λ _ w. w) _ _ _ _ _ (trailer_read c.new-2.result.value c.new-2.ensures _ _ _ c.in_ok-trailer_field.ensures.reads)
-    (end_faults (λ _. ⊥) _ _ _ c.in_err-finish.ensures)))))
-
-pub returns : goal.returns
-returns g c =
-    let d = both_read c.in_ok-hash.ensures.reads c.in_ok-mask_gen.ensures.reads in
-    pss_gives c.new.result.value c.new-2.result.value c.new.ensures c.new-2.ensures _ _ _ _ _ _ d c.in_ok-salt_len.ensures.reads c.in_ok-trailer_field.ensures.reads c.in_ok-finish.ensures
+pub returns-in-Ok : goal.returns-in-Ok
+returns-in-Ok g c = let h = c.in_ok-params.ensures in (h.0, h.1, h.2, subst (λ v. PssContents v h.0) (sym c.in-Ok.ensures.ok) h.3)

@@ -1,6 +1,6 @@
 use Rattle.std.proofs.Common.{IfOk, IfErr, length, take, sym, subst}
 use Rattle.pkcs1_params.specs.Parameters.{pss_fields}
-use Rattle.pkcs1_params.specs.Spellings.{IsMask, IsUnspelled, StandsUnder}
+use Rattle.pkcs1_params.specs.Spellings.{IsMask, IsSpellingError, StandsUnder}
 use Rattle.pkcs1_params.proofs.pss.RsaPssParams.encode_spelling_into.Goals as goal
 
 pub spell_into-requires : goal.spell_into-requires
@@ -8,7 +8,7 @@ spell_into-requires g c = subst (λ p. IsMask (pss_fields p) c.args.mask) (sym c
 
 pub returns-clause-err : goal.returns-clause-err
 returns-clause-err g c =
-    subst (λ p. IfErr c.spell_into.result (IsUnspelled (pss_fields p) c.args.mask (length c.args.out.now))) c.as_params_ref.ensures c.spell_into.ensures.err
+    subst (λ p. IfErr c.spell_into.result (IsSpellingError (pss_fields p) c.args.mask (length c.args.out.now))) c.as_params_ref.ensures c.spell_into.ensures.err
 
 pub returns-clause-stands : goal.returns-clause-stands
 returns-clause-stands g c =

@@ -1,6 +1,6 @@
 use Rattle.std.proofs.Common.{refl}
 use Rattle.std.proofs.lemmas.Result.{err_from_is_err_and}
-use Rattle.der_core.specs.Faults.{TextFault, AloneFault, EndFault}
+use Rattle.der_core.specs.Faults.{EncodingFault, AloneFault, EndFault}
 use Rattle.der_core.specs.Integer.{Small}
 use Rattle.der_core.specs.Laws.Sequences.{end_faults}
 use Rattle.der_core.specs.Tlv.{Tlv}
@@ -19,14 +19,14 @@ pub returns-in_err-hash : goal.returns-in_err-hash
 returns-in_err-hash g c =
     let p = err_from_is_err_and c.from_residual.result c.from_residual.ensures.1 in
     rw (p.1, p.2)
-    (field_faults 0 PlainAlgorithm sha1 (HashFault Any AnyFault) (FieldThenFault 1 MaskAlgorithm mgf1_sha1 (MaskFault Any AnyFault) (FieldThenFault 2 Small 20 SaltFault (FieldThenFault 3 TrailerField 1 TrailerFieldFault EndFault))) (AlgorithmAllocates (λ _. ⊥)) _ _ _ _ c.in_err-hash.ensures.reads.0 (at_number (λ t. TextFault t (AloneFault PlainAlgorithm (PlainFault Any AnyFault))) (AlgorithmAllocates (λ _. ⊥)) c.new.result.value 0 c.new.ensures tag_0 refl _ _ c.in_err-hash.ensures.exact))
+    (field_faults 0 PlainAlgorithm sha1 (HashFault Any AnyFault) (FieldThenFault 1 MaskAlgorithm mgf1_sha1 (MaskFault Any AnyFault) (FieldThenFault 2 Small 20 SaltFault (FieldThenFault 3 TrailerField 1 TrailerFieldFault EndFault))) (AlgorithmAllocates (λ _. ⊥)) _ _ _ _ c.in_err-hash.ensures.reads.0 (at_number (λ t. EncodingFault t (AloneFault PlainAlgorithm (PlainFault Any AnyFault))) (AlgorithmAllocates (λ _. ⊥)) c.new.result.value 0 c.new.ensures tag_0 refl _ _ c.in_err-hash.ensures.exact))
 
 pub returns-in_err-mask_gen : goal.returns-in_err-mask_gen
 returns-in_err-mask_gen g c =
     let p = err_from_is_err_and c.from_residual-in_err-mask_gen.result c.from_residual-in_err-mask_gen.ensures.1 in
     rw (p.1, p.2)
     (fields_faults 0 PlainAlgorithm sha1 (HashFault Any AnyFault) (FieldThenFault 1 MaskAlgorithm mgf1_sha1 (MaskFault Any AnyFault) (FieldThenFault 2 Small 20 SaltFault (FieldThenFault 3 TrailerField 1 TrailerFieldFault EndFault))) (AlgorithmAllocates (λ _. ⊥)) _ (λ _ w. w) _ _ _ _ _ (gives_at PlainAlgorithm sha1 _ c.sha1_view.ensures c.new.result.value 0 c.new.ensures _ _ _ c.in_ok-hash.ensures.reads)
-    (field_faults 1 MaskAlgorithm mgf1_sha1 (MaskFault Any AnyFault) (FieldThenFault 2 Small 20 SaltFault (FieldThenFault 3 TrailerField 1 TrailerFieldFault EndFault)) (AlgorithmAllocates (AlgorithmAllocates (λ _. ⊥))) _ _ _ _ c.in_err-mask_gen.ensures.reads.0 (at_number (λ t. TextFault t (AloneFault MaskAlgorithm (PlainFault PlainAlgorithm (PlainFault Any AnyFault)))) (AlgorithmAllocates (AlgorithmAllocates (λ _. ⊥))) c.new-2.result.value 1 c.new-2.ensures tag_1 refl _ _ c.in_err-mask_gen.ensures.exact)))
+    (field_faults 1 MaskAlgorithm mgf1_sha1 (MaskFault Any AnyFault) (FieldThenFault 2 Small 20 SaltFault (FieldThenFault 3 TrailerField 1 TrailerFieldFault EndFault)) (AlgorithmAllocates (AlgorithmAllocates (λ _. ⊥))) _ _ _ _ c.in_err-mask_gen.ensures.reads.0 (at_number (λ t. EncodingFault t (AloneFault MaskAlgorithm (PlainFault PlainAlgorithm (PlainFault Any AnyFault)))) (AlgorithmAllocates (AlgorithmAllocates (λ _. ⊥))) c.new-2.result.value 1 c.new-2.ensures tag_1 refl _ _ c.in_err-mask_gen.ensures.exact)))
 
 pub returns-in_err-salt_len : goal.returns-in_err-salt_len
 returns-in_err-salt_len g c =

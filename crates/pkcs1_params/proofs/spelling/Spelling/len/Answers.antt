@@ -1,5 +1,5 @@
 use Rattle.std.proofs.Common.{arith}
-use Rattle.der_core.specs.Laws.Texts.{tlv_relates}
+use Rattle.der_core.specs.Laws.Encodings.{tlv_relates}
 use Rattle.pkcs1_params.specs.MaskedValues.{MaskedValue, MaskedValueContents, written_masked, masked_relates}
 use Rattle.pkcs1_params.proofs.spelling.Spelling.len.Goals as goal
 

@@ -3,14 +3,14 @@ use Rattle.std.proofs.lemmas.Result.{err_from_is_err_and}
 use Rattle.pkcs1.specs.PrivateKeyValue.{private_key_of}
 use Rattle.pkcs8_core.specs.Laws.ContainerFaults.{rsa_fault_first}
 use Rattle.pkcs8_core.specs.Held.{info_of}
-use Rattle.pkcs8_core.proofs.RsaHeld.{one_held, refused_held, faulty_held, faulty_only, rsa_key_fault}
+use Rattle.pkcs8_core.proofs.RsaHeld.{one_held, rejected_held, faulty_held, faulty_only, rsa_key_fault}
 use Rattle.pkcs8_core.proofs.info.PrivateKeyInfoRef.rsa_key.Goals as goal
 
 pub returns-clause-one : goal.returns-clause-one
 returns-clause-one c = one_held private_key_of (info_of c.args.self.now) _ c.as_bytes.ensures.octets _ c.decode_key.ensures.one
 
 pub returns-clause-err : goal.returns-clause-err
-returns-clause-err c = refused_held private_key_of (info_of c.args.self.now) _ c.as_bytes.ensures.octets _ c.decode_key.ensures.err
+returns-clause-err c = rejected_held private_key_of (info_of c.args.self.now) _ c.as_bytes.ensures.octets _ c.decode_key.ensures.err
 
 pub returns-in_err-require_rsa-clause-exact : goal.returns-in_err-require_rsa-clause-exact
 returns-in_err-require_rsa-clause-exact c =

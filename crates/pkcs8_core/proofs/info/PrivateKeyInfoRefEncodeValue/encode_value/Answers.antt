@@ -62,7 +62,7 @@ returns-clause-appends g c =
     let fits : length (version ++ (algorithm ++ (key ++ behind))) ≤ limit = omega (arith, all.1, all.2) in
     let less : length (algorithm ++ (key ++ behind)) ≤ limit = omega (arith, fits, length-append version (algorithm ++ (key ++ behind))) in
     let least : length (key ++ behind) ≤ limit = omega (arith, less, length-append algorithm (key ++ behind)) in
-    let left = rw c.attributes_text.ensures at c.encode_optional.ensures.appends in
+    let left = rw c.attributes_encoding.ensures at c.encode_optional.ensures.appends in
     appends_behind (version ++ (algorithm ++ (key ++ behind))) version (algorithm ++ (key ++ behind)) all.0.1 all.0 refl fits c.in_ok-encode.ensures.appends.written c.in_ok-encode.ensures.appends.room
     (appends_behind (algorithm ++ (key ++ behind)) algorithm (key ++ behind) all.0.1.1 all.0.1 refl less c.in_ok-encode-2.ensures.appends.written c.in_ok-encode-2.ensures.appends.room
     (appends_behind (key ++ behind) key behind all.0.1.1.1 all.0.1.1 refl least c.in_ok-encode-3.ensures.appends.written c.in_ok-encode-3.ensures.appends.room left))

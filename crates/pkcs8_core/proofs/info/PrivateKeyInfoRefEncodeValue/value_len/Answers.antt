@@ -16,7 +16,7 @@ returns c =
     let algorithm = written_plain (algorithm_of i.algorithm) in
     let key = tlv 4 (octets_of i.private_key) in
     let attributes = written_optional (λ o. tlv 160 o) (info_of i).attributes in
-    let last = rw c.attributes_text.ensures at c.optional_len.ensures in
+    let last = rw c.attributes_encoding.ensures at c.optional_len.ensures in
     rw (c.joined_len-3.ensures, c.joined_len-2.ensures, c.joined_len.ensures)
     (counts_joined version (algorithm ++ (key ++ attributes)) (λ x y. (x, y)) (λ r. r) _ _ c.encoded_len.ensures.counted
     (counts_joined algorithm (key ++ attributes) (λ x y. (x, y)) (λ r. r) _ _ c.encoded_len-2.ensures.counted

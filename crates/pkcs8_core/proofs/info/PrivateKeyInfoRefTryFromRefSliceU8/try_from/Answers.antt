@@ -16,7 +16,7 @@ one value may_allocate b (Ok x) h = λ other p. means_one info_delimited other (
 one value may_allocate b (Err e) h = tt
 
 pub returns-clause-one : goal.returns-clause-one
-returns-clause-one c = one _ _ _ _ c.from_der.ensures.text
+returns-clause-one c = one _ _ _ _ c.from_der.ensures.encoding
 
 -- No memory is asked for.
 never : (b : List ℕ) → AllocatesIn (Tlv 48 (λ _. ⊥)) b → ⊥

@@ -1,5 +1,5 @@
 use Rattle.std.proofs.lemmas.Result.{err_from_is_err_and}
-use Rattle.der_core.specs.Faults.{TextFault, LastFault}
+use Rattle.der_core.specs.Faults.{EncodingFault, LastFault}
 use Rattle.der_core.specs.Laws.Sequences.{first_faults, rest_faults}
 use Rattle.der_core.specs.Tags.{object_identifier}
 use Rattle.spki_core.specs.Faults.{IdentifierFault}
@@ -10,10 +10,10 @@ pub returns-in_err-oid : goal.returns-in_err-oid
 returns-in_err-oid g c =
     let p = err_from_is_err_and c.from_residual.result c.from_residual.ensures.1 in
     let e = c.in_err-oid.ensures in
-    rw (p.1, p.2) (first_faults ObjectIdentifier (TextFault object_identifier IdentifierFault) (λ _. LastFault g.P.Text.text g.P.Decode.fault) _ (λ b w. absurd w.3.holds) _ _ _ e.text.0 e.exact)
+    rw (p.1, p.2) (first_faults ObjectIdentifier (EncodingFault object_identifier IdentifierFault) (λ _. LastFault g.P.Encoding.encoding g.P.Decode.fault) _ (λ b w. absurd w.3.holds) _ _ _ e.encoding.0 e.exact)
 
 pub returns-in_err-parameters : goal.returns-in_err-parameters
 returns-in_err-parameters g c =
     let p = err_from_is_err_and c.from_residual-in_err-parameters.result c.from_residual-in_err-parameters.ensures.1 in
     let e = c.in_err-parameters.ensures in
-    rw (p.1, p.2) (rest_faults ObjectIdentifier (TextFault object_identifier IdentifierFault) (λ _. LastFault g.P.Text.text g.P.Decode.fault) _ (λ b w. w) _ _ _ _ _ c.in_ok-oid.ensures.text (e.reads.0, e.exact))
+    rw (p.1, p.2) (rest_faults ObjectIdentifier (EncodingFault object_identifier IdentifierFault) (λ _. LastFault g.P.Encoding.encoding g.P.Decode.fault) _ (λ b w. w) _ _ _ _ _ c.in_ok-oid.ensures.encoding (e.reads.0, e.exact))

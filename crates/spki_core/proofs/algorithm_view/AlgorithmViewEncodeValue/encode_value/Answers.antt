@@ -12,12 +12,12 @@ returns-in_err-encode-clause-appends g c =
     let p = err_from_is_err_and c.from_residual-in_err-encode.result c.from_residual-in_err-encode.ensures.1 in
     let all = c.in_ok-value_len.ensures in
     let oid = tlv 6 (octets_in c.args.self.now.oid) in
-    let parameters = written_optional g.P.Text.written_text (option_map g.P.Text.value c.args.self.now.parameters) in
+    let parameters = written_optional g.P.Encoding.written_encoding (option_map g.P.Encoding.value c.args.self.now.parameters) in
     rw (p.1, p.2) (appends_in_front (oid ++ parameters) oid parameters all.0.0 all.0 refl (omega (arith, all)) c.in_err-encode.ensures.appends)
 
 pub returns-clause-appends : goal.returns-clause-appends
 returns-clause-appends g c =
     let all = c.in_ok-value_len.ensures in
     let oid = tlv 6 (octets_in c.args.self.now.oid) in
-    let parameters = written_optional g.P.Text.written_text (option_map g.P.Text.value c.args.self.now.parameters) in
+    let parameters = written_optional g.P.Encoding.written_encoding (option_map g.P.Encoding.value c.args.self.now.parameters) in
     appends_behind (oid ++ parameters) oid parameters all.0.1 all.0 refl (omega (arith, all)) c.in_ok-encode.ensures.appends.written c.in_ok-encode.ensures.appends.room c.encode_optional.ensures.appends

@@ -1,7 +1,7 @@
 use Rattle.std.proofs.Common.{ap, ◌∙◌, sym, inl, inr}
 use Rattle.der_core.specs.declared.error.ErrorKind.TheVariants.{TagUnexpected}
 use Rattle.der_core.specs.Laws.HeaderAndContents.{ne_true, ne_false}
-use Rattle.spki_core.proofs.Copies.{refused_by_fault, other_tag_told, told_by_fault, only_by_fault}
+use Rattle.spki_core.proofs.Copies.{rejected_by_fault, other_tag_told, told_by_fault, only_by_fault}
 use Rattle.spki_core.proofs.any.AnyRef.decode_as.Goals as goal
 
 pub returns-then-ne-clause-tag : goal.returns-then-ne-clause-tag
@@ -10,7 +10,7 @@ returns-then-ne-clause-tag g c = λ _. (c.tag-then-ne.result, c.tag-then-ne.ensu
 pub returns-clause-err : goal.returns-clause-err
 returns-clause-err g c =
     let claim : g.claim c.lifetimes = assumption in
-    refused_by_fault g.T.FixedTag.TAG.octet c.args.self.tag.octet g.T.Contents.contents g.T.DecodeValue.fault g.T.Contents.value _ _ _ _ c.args.self.contents.now c.in_ok-reader.ensures.ok c.args.self.bounded (g.met.T.DecodeValue c.lifetimes claim).fault_none c.decode_value.ensures
+    rejected_by_fault g.T.FixedTag.TAG.octet c.args.self.tag.octet g.T.Contents.contents g.T.DecodeValue.fault g.T.Contents.value _ _ _ _ c.args.self.contents.now c.in_ok-reader.ensures.ok c.args.self.bounded (g.met.T.DecodeValue c.lifetimes claim).fault_none c.decode_value.ensures
 
 pub returns-then-ne-clause-exact : goal.returns-then-ne-clause-exact
 returns-then-ne-clause-exact g c =

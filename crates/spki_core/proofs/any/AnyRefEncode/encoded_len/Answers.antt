@@ -1,7 +1,7 @@
-use Rattle.der_core.specs.Laws.Counting.{counts_text}
-use Rattle.der_core.specs.Laws.Refusals.{uncounted}
+use Rattle.der_core.specs.Laws.Counting.{counts_encoding}
+use Rattle.der_core.specs.Laws.NotWritten.{uncounted}
 use Rattle.spki_core.specs.Any.{Any}
-use Rattle.spki_core.specs.Laws.AnyTexts.{any_shortest}
+use Rattle.spki_core.specs.Laws.AnyEncodings.{any_shortest}
 use Rattle.spki_core.specs.AnyRefValue.{any_of}
 use Rattle.der_core.specs.Laws.Input.{are_bytes}
 use Rattle.spki_core.proofs.any.AnyRefEncode.encoded_len.Goals as goal
@@ -9,7 +9,7 @@ use Rattle.spki_core.proofs.any.AnyRefEncode.encoded_len.Goals as goal
 pub returns-clause-counted : goal.returns-clause-counted
 returns-clause-counted c =
     let any = c.args.self.now in
-    counts_text any.tag.octet any.contents.now _ _ (any.tag.allowed, are_bytes any.contents.now any.octets) c.header.ensures.length c.for_tlv.ensures.ok c.for_tlv.ensures.err
+    counts_encoding any.tag.octet any.contents.now _ _ (any.tag.allowed, are_bytes any.contents.now any.octets) c.header.ensures.length c.for_tlv.ensures.ok c.for_tlv.ensures.err
 
 pub returns-clause-err : goal.returns-clause-err
 returns-clause-err c =

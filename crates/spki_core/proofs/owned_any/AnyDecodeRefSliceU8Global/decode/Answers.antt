@@ -6,13 +6,13 @@ use Rattle.spki_core.specs.Faults.{AnyFault}
 use Rattle.spki_core.proofs.Copies.{copy_fails, copied_faults}
 use Rattle.spki_core.proofs.owned_any.AnyDecodeRefSliceU8Global.decode.Goals as goal
 
-pub returns-in_err-any-clause-text : goal.returns-in_err-any-clause-text
-returns-in_err-any-clause-text g c =
+pub returns-in_err-any-clause-encoding : goal.returns-in_err-any-clause-encoding
+returns-in_err-any-clause-encoding g c =
     let p = err_from_is_err_and c.from_residual.result c.from_residual.ensures.1 in
-    rw (p.1, p.2) (allocates_more Any _ _ (λ b w. absurd w) _ _ _ c.in_err-any.ensures.text)
+    rw (p.1, p.2) (allocates_more Any _ _ (λ b w. absurd w) _ _ _ c.in_err-any.ensures.encoding)
 
-pub returns-in-Err-clause-text : goal.returns-in-Err-clause-text
-returns-in-Err-clause-text g c = copy_fails Any _ _ _ _ _ c.in_ok-any.ensures.text (c.error.ensures.value ∙ c.kind.ensures ∙ c.in-Err.ensures.err) c.error.ensures.failed
+pub returns-in-Err-clause-encoding : goal.returns-in-Err-clause-encoding
+returns-in-Err-clause-encoding g c = copy_fails Any _ _ _ _ _ c.in_ok-any.ensures.encoding (c.error.ensures.value ∙ c.kind.ensures ∙ c.in-Err.ensures.err) c.error.ensures.failed
 
 pub returns-in_err-any-clause-exact : goal.returns-in_err-any-clause-exact
 returns-in_err-any-clause-exact g c =
@@ -20,7 +20,7 @@ returns-in_err-any-clause-exact g c =
     rw (p.1, p.2) (λ i is. ⊎_elim (λ w. absurd w.1.3) inr (c.in_err-any.ensures.exact i is))
 
 pub returns-in-Err-clause-exact : goal.returns-in-Err-clause-exact
-returns-in-Err-clause-exact g c = copied_faults Any AnyFault _ _ _ _ c.in_ok-any.ensures.text (c.error.ensures.value ∙ c.kind.ensures ∙ c.in-Err.ensures.err)
+returns-in-Err-clause-exact g c = copied_faults Any AnyFault _ _ _ _ c.in_ok-any.ensures.encoding (c.error.ensures.value ∙ c.kind.ensures ∙ c.in-Err.ensures.err)
 
 pub returns-in_err-any-clause-only : goal.returns-in_err-any-clause-only
 returns-in_err-any-clause-only g c kind i is fault =

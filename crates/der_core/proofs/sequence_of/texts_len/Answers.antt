@@ -1,9 +1,0 @@
-use Rattle.std.proofs.Common.{subst}
-use Rattle.der_core.specs.Writing.{Counts}
-use Rattle.der_core.specs.Laws.Items.{counts_more}
-use Rattle.der_core.proofs.sequence_of.texts_len.Goals as goal
-
-pub loop-item-preserved : goal.loop-item-preserved
-loop-item-preserved g c =
-    let item = subst (λ x. Counts ((λ (x : g.row.T.Denot). g.T.Text.has_text (g.T.Text.value x)) x) ((λ (x : g.row.T.Denot). g.T.Text.written_text (g.T.Text.value x)) x) c.encoded_len.result) c.item-item.is c.encoded_len.ensures.counted in
-    rw c.joined_len-total.ensures (counts_more (λ (x : g.row.T.Denot). g.T.Text.has_text (g.T.Text.value x)) (λ (x : g.row.T.Denot). g.T.Text.written_text (g.T.Text.value x)) c.args.items.now c.loop-item.item-index c.item-item.result c.loop-item-test.true _ _ c.loop-item.invariant item)

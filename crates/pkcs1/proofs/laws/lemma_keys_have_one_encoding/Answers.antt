@@ -1,0 +1,9 @@
+use Rattle.pkcs1.specs.Laws.PublicKeys.{public_at_most_one}
+use Rattle.pkcs1.specs.Laws.PrivateKeys.{private_at_most_one}
+use Rattle.pkcs1.proofs.laws.lemma_keys_have_one_encoding.Goals as goal
+
+pub returns-clause-public : goal.returns-clause-public
+returns-clause-public c = public_at_most_one
+
+pub returns-clause-private : goal.returns-clause-private
+returns-clause-private c = private_at_most_one

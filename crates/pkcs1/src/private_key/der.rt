@@ -1,0 +1,171 @@
+//! Decoding private keys from whole slices; encoding them into slices and documents.
+ghost use Rattle.std.specs.Prelude.{◌≡◌, ◌≤◌, length, List, ℕ, take, drop, IfOk, IfErr, IsOk, IsErrAnd, OnErr, None};
+ghost use Rattle.der_core.specs.Document.{Means, IsShortest, WhyNotWritten};
+ghost use Rattle.der_core.specs.Faults.{Faulty};
+ghost use Rattle.der_core.specs.declared.error.ErrorKind as der;
+ghost use Rattle.der_core.specs.Reading.{AllocatesIn, AllocatesWithin};
+ghost use Rattle.der_core.specs.Tag.{sequence_tag};
+ghost use Rattle.der_core.specs.Tags.{sequence};
+ghost use Rattle.der_core.specs.Tlv.{Tlv};
+ghost use Rattle.der_core.specs.Writing.{encode_error};
+ghost use Rattle.pkcs1.specs.Allocating.{AllocatesForKey};
+ghost use Rattle.pkcs1.specs.KeyFaults.{PrivateKeyEncodingFault, RsaPrivateKeyFault};
+ghost use Rattle.pkcs1.specs.Keys as grammar;
+ghost use Rattle.pkcs1.specs.Keys.{PrivateKey, PrivateKeyEncoding};
+ghost use Rattle.pkcs1.specs.KeyEncodings.{IsOnlyEncoding, IsReadingError, WhyNoDocument};
+ghost use Rattle.pkcs1.specs.PrivateKeyValue.{private_key_with, ListsNone};
+ghost use Rattle.pkcs1.specs.Writing.{HasPrivateKey};
+ghost use Rattle.pkcs1_params.specs.Meanings.{IsWritingError, IsOnlyMeaning};
+ghost use Rattle.pkcs1_params.specs.Errors.{IsAsn1};
+
+use super::RsaPrivateKey;
+use super::other_prime_info::lists_none;
+use der_core::{Decode, Encode, ErrorKind, OctetStringRef, SecretDocument, Tag, Uint, UintRef};
+use pkcs1_params::Error;
+use std::alloc::Global;
+
+impl<U: Encode> RsaPrivateKey<U> {
+    ghost use Rattle.der_core.specs.DocumentValue.{encoding_of};
+
+    /// `encode_into`, but `Value` of SEQUENCE if the list of other primes is there but empty.
+    fn encode_front(&self, out: &mut [u8]) -> crate::Result<usize>
+        ensures shortest { let key = private_key_with U.value self.now in
+            IfOk result (λ n. IsShortest (PrivateKeyEncoding U.encoding) key (take n out.new)) }
+        ensures rest { IfOk result (λ n. (n ≤ length out.new) × (drop n out.new ≡ drop n out.old)) }
+        ensures unchanged { OnErr result (out.new ≡ out.old) }
+        ensures err { let key = private_key_with U.value self.now in
+            let some = HasPrivateKey U.has_encoding key in
+            let rejected = WhyNotWritten some (PrivateKeyEncoding U.encoding) key (length out.old) in
+            IfErr result (IsAsn1 (λ e. rejected (encode_error e.kind))) }
+        ensures no_primes { ListsNone self.now.other_prime_infos
+            → IsErrAnd result (IsAsn1 (λ e. e.kind ≡ ErrorKind.Value sequence)) }
+    {
+        if lists_none(&self.other_prime_infos) {
+            let kind = ErrorKind::Value { tag: Tag::SEQUENCE };
+            return Err(Error::Asn1(der_core::Error::new(kind)));
+        }
+        Ok(self.encode_into(out)?)
+    }
+
+    /// `encode_msg`, but `Value` of SEQUENCE if the list of other primes is there but empty.
+    pub(crate) fn to_document(&self, alloc: Global) -> crate::Result<SecretDocument>
+        ensures shortest { let key = private_key_with U.value self.now in
+            IfOk result (λ document. IsShortest (PrivateKeyEncoding U.encoding) key (encoding_of document)) }
+        ensures err { let key = private_key_with U.value self.now in
+            IfErr result (IsAsn1 (λ e. WhyNoDocument (HasPrivateKey U.has_encoding key) (PrivateKeyEncoding U.encoding)
+            key e.kind)) }
+        ensures no_primes { ListsNone self.now.other_prime_infos
+            → IsErrAnd result (IsAsn1 (λ e. e.kind ≡ ErrorKind.Value sequence)) }
+    {
+        if lists_none(&self.other_prime_infos) {
+            let rejected = der_core::Error::new(ErrorKind::Value { tag: Tag::SEQUENCE });
+            return Err(Error::Asn1(rejected));
+        }
+        Ok(SecretDocument::encode_msg(alloc, self)?)
+    }
+}
+
+impl<U> RsaPrivateKey<U> {
+    ghost use Rattle.der_core.specs.OctetStringRefValue.{octets_of};
+
+    /// Decodes the contents of an OCTET STRING, as `from_der` does. If the numbers need no memory, a key of two primes
+    /// is always read.
+    pub fn from_octet_string<'a>(
+        alloc: Global,
+        octets: OctetStringRef<'a>,
+    ) -> crate::Result<RsaPrivateKey<U>>
+    where
+        U: Decode<&'a [u8], Global>,
+        ensures ok { let bytes = octets_of octets.entry in
+            IfOk result (λ key. Means (PrivateKeyEncoding U.encoding) bytes (private_key_with U.value key)) }
+        ensures one { let bytes = octets_of octets.entry in
+            IfOk result (λ key. IsOnlyMeaning (PrivateKeyEncoding U.encoding) bytes (private_key_with U.value key)) }
+        ensures err { let bytes = octets_of octets.entry in
+            let asked = AllocatesIn (Tlv sequence_tag (AllocatesForKey U.encoding U.Decode.may_allocate)) bytes in
+            IfErr result (IsReadingError (PrivateKeyEncoding U.encoding) bytes asked) }
+        ensures exact { let bytes = octets_of octets.entry in
+            let asked = AllocatesIn (Tlv sequence_tag (AllocatesForKey U.encoding U.Decode.may_allocate)) bytes in
+            let fault = PrivateKeyEncodingFault U.encoding U.Decode.fault in
+            IfErr result (IsAsn1 (λ e. Faulty e.kind asked (fault e.kind bytes))) }
+        ensures only { let bytes = octets_of octets.entry in
+            let asked = AllocatesIn (Tlv sequence_tag (AllocatesForKey U.encoding U.Decode.may_allocate)) bytes in
+            (kind : der.ErrorKind) → PrivateKeyEncodingFault U.encoding U.Decode.fault kind bytes
+            → IsErrAnd result (IsAsn1 (λ e. Faulty e.kind asked (e.kind ≡ kind))) }
+        ensures two_primes { ((c : List ℕ) → AllocatesWithin U.Decode.may_allocate c → ⊥)
+            → (key : PrivateKey U.Value) → key.other_prime_infos ≡ None
+            → Means (PrivateKeyEncoding U.encoding) (octets_of octets.entry) key → IsOk result }
+    {
+        Ok(RsaPrivateKey::from_der(alloc, octets.as_bytes())?)
+    }
+}
+
+impl<'a> RsaPrivateKey<UintRef<'a>> {
+    ghost use Rattle.pkcs1.specs.Allocating.{MayAllocate};
+    ghost use Rattle.pkcs1.specs.PrivateKeyValue.{private_key_of};
+
+    /// Decodes a whole slice, as `from_der` does; the contract is stated over the grammar of private keys. Returns
+    /// `OutOfMemory` only if a SEQUENCE that isn't empty follows the eighth number.
+    pub fn decode_key(memory: Global, bytes: &'a [u8]) -> crate::Result<RsaPrivateKey<UintRef<'a>>>
+        ensures ok { IfOk result (λ key. Means grammar.RsaPrivateKey bytes.now (private_key_of key)) }
+        ensures one { IfOk result (λ key. IsOnlyMeaning grammar.RsaPrivateKey bytes.now (private_key_of key)) }
+        ensures err { IfErr result (IsReadingError grammar.RsaPrivateKey bytes.now (MayAllocate bytes.now)) }
+        ensures exact { let b = bytes.now in
+            IfErr result (IsAsn1 (λ e. Faulty e.kind (MayAllocate b) (RsaPrivateKeyFault e.kind b))) }
+        ensures only { let b = bytes.now in (kind : der.ErrorKind) → RsaPrivateKeyFault kind b
+            → IsErrAnd result (IsAsn1 (λ e. Faulty e.kind (MayAllocate b) (e.kind ≡ kind))) }
+        ensures two_primes { (key : PrivateKey (List ℕ))
+            → key.other_prime_infos ≡ None → Means grammar.RsaPrivateKey bytes.now key → IsOk result }
+    {
+        Ok(RsaPrivateKey::from_der(memory, bytes)?)
+    }
+
+    /// Writes the key's only encoding to the front of a slice and returns its length, as `encode_into` does; the
+    /// contract is stated over the grammar of private keys. Returns `Value` of SEQUENCE if the list of other primes is
+    /// there but empty, `Overflow` if the encoding is longer than `Length::MAX`, `NoRoom` if it is longer than the
+    /// slice.
+    pub fn encode_key(&self, out: &mut [u8]) -> crate::Result<usize>
+        ensures encoding { IfOk result (λ n. IsOnlyEncoding grammar.RsaPrivateKey (private_key_of self.now)
+            (take n out.new)) }
+        ensures rest { IfOk result (λ n. (n ≤ length out.new) × (drop n out.new ≡ drop n out.old)) }
+        ensures unchanged { OnErr result (out.new ≡ out.old) }
+        ensures err { IfErr result (IsWritingError grammar.RsaPrivateKey (private_key_of self.now) (length out.old)) }
+        ensures no_primes { ListsNone self.now.other_prime_infos
+            → IsErrAnd result (IsAsn1 (λ e. e.kind ≡ ErrorKind.Value sequence)) }
+    {
+        self.encode_front(out)
+    }
+}
+
+impl RsaPrivateKey<Uint> {
+    ghost use Rattle.der_core.specs.UintValue.{own_bytes_of};
+    ghost use Rattle.pkcs1.specs.Allocating.{OwnedKeyAllocates};
+
+    /// Decodes a whole slice, as `decode_key` of `RsaPrivateKeyRef` does. Returns `OutOfMemory` only if there is a
+    /// number in the SEQUENCE, or a SEQUENCE that isn't empty after the eighth.
+    pub fn decode_owned_key(alloc: Global, bytes: &[u8]) -> crate::Result<RsaPrivateKey<Uint>>
+        ensures ok { IfOk result (λ key. Means grammar.RsaPrivateKey bytes.now (private_key_with own_bytes_of key)) }
+        ensures one { let is_only = IsOnlyMeaning grammar.RsaPrivateKey bytes.now in
+            IfOk result (λ key. is_only (private_key_with own_bytes_of key)) }
+        ensures err { IfErr result (IsReadingError grammar.RsaPrivateKey bytes.now (OwnedKeyAllocates bytes.now)) }
+        ensures exact { let b = bytes.now in
+            IfErr result (IsAsn1 (λ e. Faulty e.kind (OwnedKeyAllocates b) (RsaPrivateKeyFault e.kind b))) }
+        ensures only { let b = bytes.now in (kind : der.ErrorKind) → RsaPrivateKeyFault kind b
+            → IsErrAnd result (IsAsn1 (λ e. Faulty e.kind (OwnedKeyAllocates b) (e.kind ≡ kind))) }
+    {
+        Ok(RsaPrivateKey::from_der(alloc, bytes)?)
+    }
+
+    /// Writes the key's only encoding to the front of a slice, as `encode_key` of `RsaPrivateKeyRef` does.
+    pub fn encode_key(&self, out: &mut [u8]) -> crate::Result<usize>
+        ensures encoding { let key = private_key_with own_bytes_of self.now in
+            IfOk result (λ n. IsOnlyEncoding grammar.RsaPrivateKey key (take n out.new)) }
+        ensures rest { IfOk result (λ n. (n ≤ length out.new) × (drop n out.new ≡ drop n out.old)) }
+        ensures unchanged { OnErr result (out.new ≡ out.old) }
+        ensures err { let key = private_key_with own_bytes_of self.now in
+            IfErr result (IsWritingError grammar.RsaPrivateKey key (length out.old)) }
+        ensures no_primes { ListsNone self.now.other_prime_infos
+            → IsErrAnd result (IsAsn1 (λ e. e.kind ≡ ErrorKind.Value sequence)) }
+    {
+        self.encode_front(out)
+    }
+}

@@ -1,0 +1,84 @@
+-- What the code of an error says.
+use Rattle.std.proofs.Common.{ℕ, List, ◌≡◌, ◌<◌, ◌⊎◌, ◌∙◌, ap, arith, refl, inl, inr}
+use Rattle.der_core.specs.Reading.{TellsOfBytes}
+use Rattle.der_core.specs.declared.error.ErrorKind.{ErrorKind}
+use Rattle.der_core.specs.declared.error.ErrorKind.TheVariants as kind
+use Rattle.spki_core.specs.Explicit.{Field}
+use Rattle.spki_core.specs.StrictFields.{NamesDefault, WritesDefault}
+use Rattle.pkcs1_params.specs.Errors.{IsAsn1}
+use Rattle.pkcs1_params.specs.declared.error.Error.{Error}
+use Rattle.pkcs1_params.specs.declared.error.Error.TheVariants as error
+use Rattle.der_core.specs.Document.{Means}
+use Rattle.der_core.specs.declared.error.Error as der
+use Rattle.pkcs8_core.specs.Container.{Info, PrivateKeyInfo}
+use Rattle.pkcs8_core.specs.ContainerFaults.{RsaFault}
+use Rattle.pkcs8_core.specs.Laws.ContainerFaults.{info_whole_none}
+use Rattle.pkcs1_c.specs.Containers.{RsaContainerFault}
+use Rattle.pkcs1_c.specs.Status.{kind_number, status_of, IsNumberOfFault}
+
+-- An error that names a default has the number 5.
+pub names_default : (fields : List Field) (encoding : List ℕ) (e : Error) → IsAsn1 (NamesDefault fields encoding) e → status_of e ≡ 5
+names_default fields encoding (error.Asn1 e) p = ap kind_number p.1.1
+names_default fields encoding error.Crypto p = absurd p
+names_default fields encoding error.KeyMalformed p = absurd p
+names_default fields encoding error.Version p = absurd p
+
+-- An error that tells of bytes has a number below that of lack of room.
+pub tells_below : (e : ErrorKind) → TellsOfBytes e → kind_number e < 15
+tells_below kind.Failed t = omega arith
+tells_below kind.Incomplete t = omega arith
+tells_below kind.IndefiniteLength t = omega arith
+tells_below (kind.Length tag) t = omega arith
+tells_below (kind.Noncanonical tag) t = omega arith
+tells_below kind.OidMalformed t = omega arith
+tells_below kind.OidUnknown t = omega arith
+tells_below kind.Overflow t = omega arith
+tells_below kind.Overlength t = omega arith
+tells_below kind.ParametersMissing t = omega arith
+tells_below (kind.TagUnexpected expected actual) t = omega arith
+tells_below (kind.TagUnknown octet) t = omega arith
+tells_below kind.TrailingData t = omega arith
+tells_below (kind.Value tag) t = omega arith
+tells_below kind.NoRoom t = absurd (t.2 refl)
+tells_below kind.File t = absurd (t.1 refl)
+tells_below kind.OutOfMemory t = absurd (t.0 refl)
+
+pub status_below : (e : Error) → IsAsn1 (λ e. TellsOfBytes e.kind) e → status_of e < 15
+status_below (error.Asn1 e) p = tells_below e.kind p
+status_below error.Crypto p = absurd p
+status_below error.KeyMalformed p = absurd p
+status_below error.Version p = absurd p
+
+-- What is known of an error, of its number.
+pub status_faulty : (Fault : ErrorKind → Type 0) (e : Error) (number : ℕ) → number ≡ status_of e → IsAsn1 (λ a. Fault a.kind) e → IsNumberOfFault Fault number
+status_faulty Fault (error.Asn1 a) number is p = (a.kind, p, is)
+status_faulty Fault error.Crypto number is p = absurd p
+status_faulty Fault error.KeyMalformed number is p = absurd p
+status_faulty Fault error.Version number is p = absurd p
+
+pub status_only : (kind : ErrorKind) (e : Error) (number : ℕ) → number ≡ status_of e → IsAsn1 (λ a. a.kind ≡ kind) e → number ≡ kind_number kind
+status_only kind (error.Asn1 a) number is p = is ∙ ap kind_number p
+status_only kind error.Crypto number is p = absurd p
+status_only kind error.KeyMalformed number is p = absurd p
+status_only kind error.Version number is p = absurd p
+
+pub asn1_as : {P Q : der.Error → Type 0} → ((a : der.Error) → P a → Q a) → (e : Error) → IsAsn1 P e → IsAsn1 Q e
+asn1_as f (error.Asn1 a) p = f a p
+asn1_as f error.Crypto p = absurd p
+asn1_as f error.KeyMalformed p = absurd p
+asn1_as f error.Version p = absurd p
+
+-- Where an encoding is a container, the fault is of what it holds.
+pub held_fault : (encoding : List ℕ) (info : Info) → Means PrivateKeyInfo encoding info → ((other : Info) → Means PrivateKeyInfo encoding other → other ≡ info) → (kind : ErrorKind) → RsaContainerFault encoding kind → RsaFault info kind
+held_fault encoding info means one kind (inl fault) = absurd (info_whole_none kind encoding fault info means)
+held_fault encoding info means one kind (inr (other, m, fault)) = rw (one other m) at fault
+
+-- What strict reading rejects: a fault, or a default that is written.
+pub status_strict : {V : Type 0} (Grammar : V → List ℕ → Type 0) (fields : V → List Field) (Fault : ErrorKind → Type 0) (encoding : List ℕ) (e : Error) (number : ℕ) → number ≡ status_of e
+    → IsAsn1 (λ a. Fault a.kind) e ⊎ ((v : V) × Means Grammar encoding v × IsAsn1 (NamesDefault (fields v) encoding) e)
+    → IsNumberOfFault Fault number ⊎ ((number ≡ 5) × (v : V) × Means Grammar encoding v × (n : ℕ) × WritesDefault (fields v) n encoding)
+status_strict Grammar fields Fault encoding e number is (inl p) = inl (status_faulty Fault e number is p)
+status_strict Grammar fields Fault encoding (error.Asn1 a) number is (inr (v, means, p)) = inr (is ∙ ap kind_number p.1.1, v, means, p.0, p.2)
+status_strict Grammar fields Fault encoding error.Crypto number is (inr p) = absurd p.2
+status_strict Grammar fields Fault encoding error.KeyMalformed number is (inr p) = absurd p.2
+status_strict Grammar fields Fault encoding error.Version number is (inr p) = absurd p.2

@@ -1,0 +1,135 @@
+-- Why a C struct isn't written, by status: the first of its parts that can't be held, in the order of the struct; else
+-- why the value that it means isn't written.
+use Rattle.std.specs.Prelude.{ℕ, List, [], ◌∷◌, ◌++◌, ◌≡◌, ◌≢◌, ◌<◌, ◌≤◌, ◌⊎◌, IsTrue, length, map, false, Option, Some, None}
+use Rattle.der_core.specs.Document.{IsShortest}
+use Rattle.der_core.specs.Length.{limit}
+use Rattle.der_core.specs.SequenceOf.{AllHave}
+use Rattle.der_core.specs.Tag.{is_allowed}
+use Rattle.pkcs1.specs.Keys as keys
+use Rattle.pkcs1.specs.Writing.{key_numbers, other_numbers}
+use Rattle.pkcs1_params.specs.Parameters.{PssParameters, RsaPssParams, OaepParameters, RsaOaepParams}
+use Rattle.pkcs8_core.specs.Container as container
+use Rattle.spki_core.specs.Any.{TagAndContents}
+use Rattle.spki_core.specs.AlgorithmIdentifier.{Algorithm}
+use Rattle.spki_core.specs.ObjectIdentifier.{IsIdentifier}
+use Rattle.pkcs1_c.specs.declared.container.PrivateKeyInfo.{PrivateKeyInfo}
+use Rattle.pkcs1_c.specs.declared.private_key.PrivateKey.{PrivateKey}
+use Rattle.pkcs1_c.specs.declared.private_key.OtherPrime.{OtherPrime}
+use Rattle.pkcs1_c.specs.declared.status.TheConstants.{LENGTH, OID_MALFORMED, OVERFLOW, TAG_UNKNOWN, VALUE, NO_ROOM, OTHER_PRIMES}
+use Rattle.pkcs1_c.specs.Containers.{info_seen, HoldsKey, KeyFault}
+use Rattle.pkcs1_c.specs.Fits.{PlainFits, MaskFits}
+use Rattle.pkcs1_c.specs.Given.{IsGiven}
+use Rattle.pkcs1_c.specs.Numbers.{IsNumberOf, ArePublicNumbers}
+use Rattle.pkcs1_c.specs.NotWritten.{IsTooLong}
+use Rattle.pkcs1_c.specs.Status.{IsNumberOfFault}
+use Rattle.pkcs1_c.specs.StructValues.{private_key_seen, other_prime_seen}
+
+-- All parts can be held: the value has no encoding within the limit, or its shortest one is longer than the room.
+abbrev pub EncodingError : {V : Type 0} → (V → List ℕ → Type 0) → V → ℕ → ℕ → Type 0
+EncodingError Grammar v room status = ((status ≡ OVERFLOW) × IsTooLong Grammar v) ⊎ ((status ≡ NO_ROOM) × (encoding : List ℕ) × IsShortest Grammar v encoding × (room < length encoding))
+
+-- The same for a value that may have no encoding at all.
+abbrev pub AnyEncodingError : {V : Type 0} → (V → List ℕ → Type 0) → V → ℕ → ℕ → Type 0
+AnyEncodingError Grammar v room status =
+    ((status ≡ VALUE) × ((encoding : List ℕ) → Grammar v encoding → ⊥)) ⊎ EncodingError Grammar v room status
+
+-- A part can't be held; or it can, and what follows it isn't written.
+abbrev pub PartThen : (ℕ → Type 0) → Type 0 → (ℕ → Type 0) → ℕ → Type 0
+PartThen WhyNot Fits Rest status = WhyNot status ⊎ (Fits × Rest status)
+
+-- Bytes that aren't accepted as a number: there are none, or the number is longer than the limit.
+abbrev pub NumberError : List ℕ → ℕ → Type 0
+NumberError bytes status =
+    ((status ≡ LENGTH) × (length bytes ≡ 0)) ⊎ ((status ≡ OVERFLOW) × (0 < length bytes) × ((n : List ℕ) → IsNumberOf bytes n → limit < length n))
+
+abbrev pub NumberFits : List ℕ → Type 0
+NumberFits bytes = (n : List ℕ) × IsNumberOf bytes n × (length n ≤ limit)
+
+-- One of the numbers, in order, can't be held; or what follows them isn't written.
+abbrev pub NumbersThen : List (List ℕ) → (ℕ → Type 0) → ℕ → Type 0
+NumbersThen [] Rest status = Rest status
+NumbersThen (bytes ∷ more) Rest status = PartThen (NumberError bytes) (NumberFits bytes) (NumbersThen more Rest) status
+
+abbrev pub two_numbers : keys.PublicKey (List ℕ) → List (List ℕ)
+two_numbers key = key.modulus ∷ key.public_exponent ∷ []
+
+-- The key with these numbers isn't written.
+abbrev pub PublicEncodingError : keys.PublicKey (List ℕ) → ℕ → ℕ → Type 0
+PublicEncodingError given room status =
+    (made : keys.PublicKey (List ℕ)) × ArePublicNumbers made given × EncodingError keys.RsaPublicKey made room status
+
+abbrev pub PublicKeyError : keys.PublicKey (List ℕ) → ℕ → ℕ → Type 0
+PublicKeyError given room = NumbersThen (two_numbers given) (PublicEncodingError given room)
+
+-- The eight numbers of a key, and those of its other primes.
+abbrev pub eight_numbers : PrivateKey → List (List ℕ)
+eight_numbers key = key_numbers (private_key_seen key None)
+
+abbrev pub others_numbers : List (keys.OtherPrime (List ℕ)) → List (List ℕ)
+others_numbers [] = []
+others_numbers (other ∷ others) = other_numbers other ++ others_numbers others
+
+abbrev pub PrivateEncodingError : PrivateKey → List OtherPrime → ℕ → ℕ → Type 0
+PrivateEncodingError key others room status =
+    (made : keys.PrivateKey (List ℕ)) × IsGiven key others made × EncodingError keys.RsaPrivateKey made room status
+
+-- There aren't as many other primes as the key says; or one of the numbers can't be held; or the key isn't written. Out
+-- of memory is left out here.
+abbrev pub PrivateKeyError : PrivateKey → List OtherPrime → ℕ → ℕ → Type 0
+PrivateKeyError key others room =
+    PartThen (λ status. (status ≡ OTHER_PRIMES) × (key.other_primes ≢ length others)) (key.other_primes ≡ length others)
+    (NumbersThen (eight_numbers key) (NumbersThen (others_numbers (map other_prime_seen others)) (PrivateEncodingError key others room)))
+
+-- Memory may be needed for other primes, once the eight numbers can be held.
+abbrev pub MayRunOutOfMemory : PrivateKey → List OtherPrime → Type 0
+MayRunOutOfMemory key others = (0 < length others) × AllHave NumberFits (eight_numbers key)
+
+-- The octets don't encode a private key (the status is that of their first fault); or the container isn't written.
+abbrev pub InfoError : PrivateKeyInfo → ℕ → ℕ → Type 0
+InfoError info room =
+    PartThen (IsNumberOfFault (KeyFault info)) ((key : keys.PrivateKey (List ℕ)) × HoldsKey info key)
+    (EncodingError container.PrivateKeyInfo (info_seen info) room)
+
+-- Octets that are no object identifier.
+abbrev pub OidError : List ℕ → ℕ → Type 0
+OidError oid status = (status ≡ OID_MALFORMED) × (IsIdentifier oid → ⊥)
+
+-- Parameters that can't be held: the tag octet isn't allowed, or the contents are longer than the limit.
+abbrev pub AnyError : TagAndContents → ℕ → Type 0
+AnyError v status =
+    ((status ≡ TAG_UNKNOWN) × (is_allowed v.tag ≡ false)) ⊎ ((status ≡ OVERFLOW) × IsTrue (is_allowed v.tag) × (limit < length v.contents))
+
+abbrev pub OptionError : {P : Type 0} → (P → ℕ → Type 0) → Option P → ℕ → Type 0
+OptionError WhyNot None status = ⊥
+OptionError WhyNot (Some v) status = WhyNot v status
+
+abbrev pub AlgorithmError : {P : Type 0} → (P → ℕ → Type 0) → Algorithm P → ℕ → Type 0
+AlgorithmError WhyNot a = PartThen (OidError a.oid) (IsIdentifier a.oid) (OptionError WhyNot a.parameters)
+
+abbrev pub PlainError : Algorithm TagAndContents → ℕ → Type 0
+PlainError = AlgorithmError AnyError
+
+abbrev pub MaskError : Algorithm (Algorithm TagAndContents) → ℕ → Type 0
+MaskError = AlgorithmError PlainError
+
+-- One of the fields that both types of parameters begin with can't be held; or what follows them isn't written.
+abbrev pub HashFieldsThen : Algorithm TagAndContents → Algorithm (Algorithm TagAndContents) → (ℕ → Type 0) → ℕ → Type 0
+HashFieldsThen hash mask_gen Rest =
+    PartThen (PlainError hash) (PlainFits hash) (PartThen (MaskError mask_gen) (MaskFits mask_gen) Rest)
+
+abbrev pub PssThen : PssParameters → (ℕ → Type 0) → ℕ → Type 0
+PssThen p Rest =
+    HashFieldsThen p.hash p.mask_gen (PartThen (λ status. (status ≡ VALUE) × (p.trailer_field ≢ 1)) (p.trailer_field ≡ 1) Rest)
+
+abbrev pub PssError : PssParameters → ℕ → ℕ → Type 0
+PssError p room = PssThen p (EncodingError RsaPssParams p room)
+
+abbrev pub OaepThen : OaepParameters → (ℕ → Type 0) → ℕ → Type 0
+OaepThen p Rest = HashFieldsThen p.hash p.mask_gen (PartThen (PlainError p.p_source) (PlainFits p.p_source) Rest)
+
+abbrev pub OaepError : OaepParameters → ℕ → ℕ → Type 0
+OaepError p room = OaepThen p (EncodingError RsaOaepParams p room)
+
+-- Nothing follows the parts.
+abbrev pub Nothing : ℕ → Type 0
+Nothing status = ⊥

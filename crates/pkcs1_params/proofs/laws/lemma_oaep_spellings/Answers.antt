@@ -1,0 +1,29 @@
+use Rattle.der_core.specs.Laws.Shortest.{same_by_shortest}
+use Rattle.spki_core.specs.Laws.Fields.{defaults_same}
+use Rattle.spki_core.specs.Laws.Spellings.{masks_are_members}
+use Rattle.pkcs1_params.specs.Parameters.{oaep_fields}
+use Rattle.pkcs1_params.proofs.ParameterSpellings.{each_has_one_mask, each_mask_has_one, shortest_has_no_defaults, accepted_fits}
+use Rattle.pkcs1_params.specs.Laws.Parameters.{oaep_delimited, oaep_in_order}
+use Rattle.pkcs1_params.specs.Defaults.{oaep_defaults}
+use Rattle.pkcs1_params.proofs.laws.lemma_oaep_spellings.Goals as goal
+
+pub returns-clause-defaults : goal.returns-clause-defaults
+returns-clause-defaults c = λ v. let k = oaep_defaults v in (k.0, k.1, λ j h. defaults_same (oaep_fields v) j k.0 h k.1)
+
+pub returns-clause-mask : goal.returns-clause-mask
+returns-clause-mask c = each_has_one_mask oaep_fields oaep_in_order
+
+pub returns-clause-encoding : goal.returns-clause-encoding
+returns-clause-encoding c = each_mask_has_one oaep_fields oaep_in_order
+
+pub returns-clause-shortest : goal.returns-clause-shortest
+returns-clause-shortest c = shortest_has_no_defaults oaep_fields oaep_in_order
+
+pub returns-clause-fits : goal.returns-clause-fits
+returns-clause-fits c = accepted_fits oaep_fields
+
+pub returns-clause-count : goal.returns-clause-count
+returns-clause-count c = masks_are_members oaep_fields oaep_in_order
+
+pub returns-clause-same : goal.returns-clause-same
+returns-clause-same c = same_by_shortest oaep_delimited
