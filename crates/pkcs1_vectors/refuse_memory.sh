@@ -1,10 +1,10 @@
 #!/usr/bin/env bash
-# Want of memory: runs the built program on one row at a time, with each of the row's requests for memory refused in turn,
-# one request a run, until a run makes no more. A way of reading or writing then tells want of memory in place of its
-# answer, and every other way answers as the row says; or the row itself ends for want of memory, where its own texts
-# asked for it. Nothing else may come of a refused request. Left out are the rows that stand for many texts.
+# Runs the built program on one row at a time, with each of the row's allocations failing in turn, one a run, until a run
+# makes no more. One way of reading or writing then reports out of memory, and every other answers as the row says; or
+# the row itself ends by it, where its own output was to be allocated. Nothing else may come of a failed allocation. Left
+# out are the rows that stand for many encodings.
 # Called by .ci/run behind rt ci; it needs gcc. By hand: refuse_memory.sh [WORD], the rows of that word alone. It prints
-# what comes of a request otherwise, and ends with 1 then; the last line counts.
+# what differs, and ends with 1 then; the last line counts.
 set -u
 cd "$(dirname "$0")" || exit 1
 room=$(mktemp -d) || exit 1
@@ -18,7 +18,7 @@ trap 'rm -rf "$room"' EXIT
 grep "^${1:-[a-z0-9-]*} " stdin | grep -vE '^(changed|types|joined|priv-rooms|pub-filled)' > "$room/rows"
 lanes=$(nproc)
 
-# lane NUMBER: each row of the lane, with what the program tells where its first request is refused, its second, and so on.
+# lane NUMBER: each row of the lane, with the program's output where its first allocation fails, its second, and so on.
 lane() {
     local row number
     mkdir "$room/$1"

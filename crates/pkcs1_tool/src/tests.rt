@@ -48,7 +48,7 @@ fn stops_on_a_rejected_read(rt: HostRuntime) {
         } else {
             (Ok(()), OUTPUT.as_slice())
         };
-        assert_eq!(rt; done, want, "at {refused}");
+        assert_eq!(rt; done, want, "at {rejected}");
         assert_eq!(rt; source.faults() == 1, stops);
         assert_eq!(rt; sink.into_inner().as_slice(), output);
     }
@@ -68,8 +68,8 @@ fn stops_on_a_rejected_write(rt: HostRuntime) {
             };
             let done = run(rt.alloc(), &mut FromRead::new(INPUT.as_slice()), &mut sink);
             let stops = rejected >= 1 && rejected <= calls;
-            assert_eq!(rt; done == Err(Fault::Write), stops, "at {refused}");
-            assert_eq!(rt; done == Ok(()), !stops, "at {refused}");
+            assert_eq!(rt; done == Err(Fault::Write), stops, "at {rejected}");
+            assert_eq!(rt; done == Ok(()), !stops, "at {rejected}");
             assert_eq!(rt; sink.faults() == 1, stops);
             assert_eq!(rt; sink.flushes == 1, !stops);
             assert!(rt; OUTPUT.starts_with(sink.taken.as_slice()));
@@ -122,7 +122,7 @@ fn stops_on_the_first_refusal_of_std(rt: HostRuntime) {
     assert_eq!(rt; sink.faults(), 1);
     for (rejected, output) in [(1, 0), (2, 37), (3, 46), (4, 54)] {
         let (done, faults, writer) = into_sink(&rt, rejected);
-        assert_eq!(rt; done, Err(Fault::Write), "at {refused}");
+        assert_eq!(rt; done, Err(Fault::Write), "at {rejected}");
         assert_eq!(rt; (faults, writer.calls), (1, rejected));
         assert_eq!(rt; writer.taken.as_slice(), &OUTPUT[..output]);
     }

@@ -1,7 +1,7 @@
 //! Object identifiers, encodings of any tag, and algorithm identifiers.
 use crate::read::both;
 use crate::shown::Shown;
-use crate::told::{Refusal, Told};
+use crate::told::{PrintedError, Told};
 use crate::written::written;
 use der_core::{Decode, DecodeValue, Encode, FixedTag, NoMemory, Result, Tag};
 use pkcs1::rsa_encryption_oid;

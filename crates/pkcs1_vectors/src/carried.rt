@@ -1,6 +1,6 @@
 //! Other ways to a key: the view, documents, and the traits that callers' own types can implement.
 use crate::shown::Shown;
-use crate::told::{Refusal, Told};
+use crate::told::{PrintedError, Told};
 use pkcs1::{
     DecodeRsaPrivateKey, DecodeRsaPublicKey, EncodeRsaPrivateKey, EncodeRsaPublicKey,
     RsaPrivateKeyOwned, RsaPrivateKeyView, RsaPublicKeyOwned,

@@ -1,7 +1,7 @@
 //! Containers of private keys (PKCS #8).
 use crate::read::{borrowed, read};
 use crate::shown::Shown;
-use crate::told::{Refusal, Told};
+use crate::told::{PrintedError, Told};
 use pkcs8_core::PrivateKeyInfoRef;
 
 /// The key in the container, by the view and by the struct with a list.

@@ -155,7 +155,7 @@ impl Counts {
 /// these are handled wrongly.
 pub fn changed<D: Damaged>(to: &mut Told, bytes: &[u8]) {
     let Ok(mut text) = Vec::from_slice(to.alloc(), bytes) else {
-        return to.want_of_memory();
+        return to.out_of_memory();
     };
     let text = text.as_mut_slice();
     let mut counts = Counts::none();

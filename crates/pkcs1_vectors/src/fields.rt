@@ -1,6 +1,6 @@
 //! Optional parts, last parts and explicit fields, with small INTEGERs.
 use crate::lengths::tag_number;
-use crate::told::{Refusal, Told};
+use crate::told::{PrintedError, Told};
 use crate::written::written;
 use der_core::{NoMemory, Reader, Result, SliceReader, decode_last, decode_optional, decode_whole};
 use spki_core::{ContextSpecificRef, read_context_specific, read_field};

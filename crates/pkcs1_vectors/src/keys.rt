@@ -2,7 +2,7 @@
 use crate::carried::{private_der, public_der, viewed};
 use crate::read::{both, owned, read};
 use crate::shown::Shown;
-use crate::told::{Refusal, Told};
+use crate::told::{PrintedError, Told};
 use crate::written::{contents, encoding_of, held, held_too, in_each_room, into_each, written};
 use der_core::{Decode, OctetStringRef, UintRef};
 use pkcs1::{
@@ -48,7 +48,7 @@ pub fn public_key(to: &mut Told, bytes: &[u8]) {
 /// the exponent 3, or that another key is read from it.
 pub fn filled(to: &mut Told, length: usize) {
     let Ok(octets) = vec![in to.alloc(); 0x11; length] else {
-        return to.want_of_memory();
+        return to.out_of_memory();
     };
     let (Ok(modulus), Ok(public_exponent)) = (
         UintRef::new(octets.as_slice()),

@@ -1,5 +1,5 @@
 //! Lengths, tags and headers.
-use crate::told::{Refusal, Told};
+use crate::told::{PrintedError, Told};
 use der_core::{Header, Length, Reader, Result, SliceReader, Tag, TagNumber};
 
 /// The length that was read, and how many bytes are left.

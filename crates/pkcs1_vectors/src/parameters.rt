@@ -1,7 +1,7 @@
 //! Parameters of RSASSA-PSS and RSAES-OAEP.
 use crate::read::{both, read};
 use crate::shown::Shown;
-use crate::told::{Refusal, Told};
+use crate::told::{PrintedError, Told};
 use crate::written::{encoding_of, held_too, written};
 use der_core::{Decode, Encode, EncodeValue, Sequence};
 use pkcs1::{Result, RsaOaepParamsOwned, RsaOaepParamsRef, RsaPssParamsOwned, RsaPssParamsRef};

@@ -108,7 +108,7 @@ fn bytes_of(to: &mut Told, digits: &str) -> Option<Vec<u8>> {
     match hex::decode(to.alloc(), digits) {
         Ok(bytes) => Some(bytes),
         Err(FromHexError::OutOfMemory) => {
-            to.want_of_memory();
+            to.out_of_memory();
             None
         }
         Err(_) => None,

@@ -1,6 +1,6 @@
 //! Ways of reading an encoding.
 use crate::shown::Shown;
-use crate::told::{Refusal, Told};
+use crate::told::{PrintedError, Told};
 use crate::written::encoding_of;
 use der_core::{Decode, Encode, NoMemory, Reader, Result, SliceReader, TryClone};
 use std::alloc::Global;
@@ -14,7 +14,7 @@ pub fn told<T: Shown + Encode>(to: &mut Told, bytes: &[u8], value: &T) {
 }
 
 /// The value that was read, or the error.
-pub fn read<T: Shown + Encode + Drop, E: Refusal>(
+pub fn read<T: Shown + Encode + Drop, E: PrintedError>(
     to: &mut Told,
     bytes: &[u8],
     answer: std::result::Result<T, E>,

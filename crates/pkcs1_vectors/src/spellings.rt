@@ -1,5 +1,5 @@
 //! Spellings of parameters.
-use crate::told::{Refusal, Told};
+use crate::told::{PrintedError, Told};
 use crate::written::{after, untouched};
 use der_core::Decode;
 use pkcs1::{Error, Result, RsaOaepParams, RsaPssParams};
@@ -87,7 +87,7 @@ pub fn spell<'a, T: Decode<&'a [u8], Global> + Spelled>(
     };
     let mut slice = untouched(to, room);
     match params.spell_into(mask, slice.as_mut_slice()) {
-        Ok(refusal) => after(to, refusal, slice.as_slice()),
+        Ok(error) => after(to, error, slice.as_slice()),
         Err(NoMask) => to.malformed(),
     }
 }

@@ -169,7 +169,7 @@ impl Told {
     }
 
     /// Notes that memory ran out.
-    pub fn want_of_memory(&mut self) {
+    pub fn out_of_memory(&mut self) {
         self.trouble = Some(Trouble::Memory);
     }
 }
@@ -187,19 +187,19 @@ impl From<AllocError> for Trouble {
 }
 
 /// An error that rows can show.
-pub trait Refusal: Drop {
+pub trait PrintedError: Drop {
     /// Writes the error as it is printed.
     fn told(self, to: &mut Told);
 }
 
-impl Refusal for der_core::Error {
+impl PrintedError for der_core::Error {
     fn told(self, to: &mut Told) {
         to.text("refused: ");
         to.plain(self);
     }
 }
 
-impl Refusal for pkcs1::Error {
+impl PrintedError for pkcs1::Error {
     /// An error of `der_core` is shown as its own, without the words in front.
     fn told(self, to: &mut Told) {
         match self {

@@ -1,6 +1,6 @@
 //! INTEGERs, OCTET STRINGs and documents.
 use crate::shown::Shown;
-use crate::told::{Refusal, Told};
+use crate::told::{PrintedError, Told};
 use crate::written::{contents, written};
 use der_core::{
     Document, Encode, EncodeValue, FromRead, OctetStringRef, Result, SecretDocument, Uint, UintRef,

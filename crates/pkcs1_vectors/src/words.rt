@@ -5,7 +5,7 @@ use crate::read::{borrowed, both, owned, read};
 use crate::spellings::{spell, spellings};
 use crate::told::Told;
 use crate::written::{into_both, read_into, written};
-use crate::{algorithms, containers, keys, lengths, parameters, refusals, values};
+use crate::{algorithms, containers, errors, keys, lengths, parameters, values};
 use der_core::{OctetStringRef, Uint, UintRef};
 use pkcs1::{
     OtherPrimeInfo, RsaOaepParamsOwned, RsaOaepParamsRef, RsaPrivateKeyOwned, RsaPrivateKeyRef,
@@ -35,8 +35,8 @@ pub fn of_name(to: &mut Told, word: &str, name: &str) -> bool {
     match word {
         "tag-named" => lengths::named(to, name),
         "oid-named" => algorithms::oid_named(to, name),
-        "kind" => refusals::kind(to, name),
-        "error" => refusals::error(to, name),
+        "kind" => errors::kind(to, name),
+        "error" => errors::error(to, name),
         _ => return false,
     }
     true

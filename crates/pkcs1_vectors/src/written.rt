@@ -1,5 +1,5 @@
 //! Ways of writing a value, shown in hexadecimal digits.
-use crate::told::{Answer, Refusal, Told};
+use crate::told::{Answer, PrintedError, Told};
 use der_core::{
     AsUintRef, Decode, Document, Encode, EncodeValue, Error, ErrorKind, SecretDocument, Sequence,
     SliceWriter, Uint, UintRef,
@@ -129,8 +129,8 @@ fn slice_shown(to: &mut Told, slice: &[u8]) {
 }
 
 /// The error of a call that wrote into the slice, if any, and the slice after it.
-pub fn after<E: Refusal>(to: &mut Told, refusal: Option<E>, slice: &[u8]) {
-    if let Some(error) = refusal {
+pub fn after<E: PrintedError>(to: &mut Told, error: Option<E>, slice: &[u8]) {
+    if let Some(error) = error {
         error.told(to);
         to.text(", ");
     }
@@ -142,7 +142,7 @@ pub fn untouched(to: &mut Told, room: usize) -> Vec<u8> {
     match vec![in to.alloc(); UNTOUCHED; room] {
         Ok(slice) => slice,
         Err(_) => {
-            to.want_of_memory();
+            to.out_of_memory();
             Vec::new(to.alloc())
         }
     }
@@ -196,16 +196,16 @@ impl WriteInto for PrivateKeyInfoRef<'_> {
 /// A slice of this length after each way of writing into it, and the errors.
 pub fn into_each<T: WriteInto>(to: &mut Told, room: usize, value: &T) {
     let mut slice = untouched(to, room);
-    let refusal = value.write_into(slice.as_mut_slice());
-    after(to, refusal, slice.as_slice());
+    let error = value.write_into(slice.as_mut_slice());
+    after(to, error, slice.as_slice());
     to.way("encode_into");
     let mut slice = untouched(to, room);
-    let refusal = value.encode_into(slice.as_mut_slice()).err();
-    after(to, refusal, slice.as_slice());
+    let error = value.encode_into(slice.as_mut_slice()).err();
+    after(to, error, slice.as_slice());
     to.way("encode_to_slice");
     let mut slice = untouched(to, room);
-    let refusal = value.encode_to_slice(slice.as_mut_slice()).err();
-    after(to, refusal, slice.as_slice());
+    let error = value.encode_to_slice(slice.as_mut_slice()).err();
+    after(to, error, slice.as_slice());
 }
 
 /// The same for the value that the bytes mean.
@@ -242,13 +242,13 @@ fn is_too_short<T: Encode>(to: &mut Told, value: &T, room: usize) -> bool {
 /// How many of the shorter slices are too short for the value and left unchanged, and whether it is written to a slice
 /// as long as its encoding.
 pub fn in_each_room<T: Encode>(to: &mut Told, value: &T, text: &[u8]) {
-    let mut refused = 0_usize;
+    let mut too_short = 0_usize;
     for room in 0..text.len() {
         if is_too_short(to, value, room) {
-            refused = refused.saturating_add(1);
+            too_short = too_short.saturating_add(1);
         }
     }
-    to.number(refused);
+    to.number(too_short);
     to.text(" too short, ");
     to.number(text.len());
     let mut slice = untouched(to, text.len());

@@ -38,17 +38,17 @@ fn requests<T>(call: impl Fn() -> Result<T, Error>) -> isize {
     for count in 0.. {
         LEFT.set(count);
         let answer = call();
-        let refused = LEFT.replace(isize::MIN) < 0;
+        let failed = LEFT.replace(isize::MIN) < 0;
         match answer {
-            Ok(_) if !refused => return count,
-            answer => assert_eq!((answer.err(), refused), (Some(Error::OUT_OF_MEMORY), true)),
+            Ok(_) if !failed => return count,
+            answer => assert_eq!((answer.err(), failed), (Some(Error::OUT_OF_MEMORY), true)),
         }
     }
     unreachable!()
 }
 
 #[test]
-fn want_of_memory_is_told() {
+fn out_of_memory_is_reported() {
     let (two, three) = (include_bytes!("keys/priv2.der"), include_bytes!("keys/priv3.der"));
     let (p8, public) = (include_bytes!("keys/p8_3.der"), include_bytes!("keys/pub3.der"));
     let (key, long_key) = (PrivateKey::decode(two).unwrap(), PrivateKey::decode(three).unwrap());
