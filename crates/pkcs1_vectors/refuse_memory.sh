@@ -1,8 +1,8 @@
 #!/usr/bin/env bash
-# Runs the built program on one row at a time, with each of the row's allocations failing in turn, one a run, until a run
-# makes no more. One way of reading or writing then reports out of memory, and every other answers as the row says; or
-# the row itself ends by it, where its own output was to be allocated. Nothing else may come of a failed allocation. Left
-# out are the rows that stand for many encodings.
+# Runs the built program on one row at a time, with each of the row's allocations failing in turn, one in each run, until
+# a run makes no more. One way of reading or writing then reports out of memory, and every other answers as the row says;
+# or the row itself ends by it, where its own output was to be allocated. Nothing else may come of a failed allocation.
+# Left out are the rows that stand for many encodings.
 # Called by .ci/run behind rt ci; it needs gcc. By hand: refuse_memory.sh [WORD], the rows of that word alone. It prints
 # what differs, and ends with 1 then; the last line counts.
 set -u
