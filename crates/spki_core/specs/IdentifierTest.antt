@@ -1,6 +1,6 @@
 -- A test for the contents of an identifier.
 use Rattle.std.specs.Prelude.{Bool, true, false, not, ◌&&◌, ◌==◌, nat_lt}
-use Rattle.std.proofs.Common.{ℕ, List, [], ◌∷◌, ◌++◌, ◌≡◌, ◌≢◌, ◌<◌, ◌≤◌, ◌+◌, length, slice_index, refl, sym, ap, ◌∙◌, arith, append_assoc, length-append}
+use Rattle.std.proofs.Common.{ℕ, zero, suc, get_or, List, [], ◌∷◌, ◌++◌, ◌≡◌, ◌≢◌, ◌<◌, ◌≤◌, ◌+◌, length, slice_index, refl, sym, ap, ◌∙◌, arith, append_assoc, length-append}
 use Rattle.std.proofs.lemmas.Bool.Decides.{nat_tests}
 use Rattle.std.specs.List.{AllByRecursion, concat}
 use Rattle.der_core.specs.Encodings.{AreBytes}
@@ -10,6 +10,11 @@ use Rattle.spki_core.specs.ObjectIdentifier.{IsSubidentifier, IsIdentifier}
 abbrev pub ends_well : Bool → List ℕ → Bool
 ends_well start [] = start
 ends_well start (b ∷ bs) = not (start && b == 128) && ends_well (nat_lt b 128) bs
+
+-- A subidentifier starts at the index: no octets precede it, or the last of a subidentifier does.
+abbrev pub starts_at : List ℕ → ℕ → Bool
+starts_at c zero = true
+starts_at c (suc i) = nat_lt (get_or c i 0) 128
 
 abbrev pub is_identifier : List ℕ → Bool
 is_identifier c = nat_lt 0 (length c) && nat_lt (length c) 40 && ends_well true c

@@ -1,5 +1,5 @@
 //! Object identifiers.
-ghost use Rattle.std.specs.Prelude.{◌≡◌, ℕ, ◌≤◌, ◌<◌, List, take, slice_index, IsTrue, IfOk, IfErr};
+ghost use Rattle.std.specs.Prelude.{◌≡◌, ℕ, ◌≤◌, ◌<◌, List, length, take, slice_index, IsTrue, IfOk, IfErr};
 ghost use Rattle.spki_core.specs.IdentifierTest as specs;
 ghost use Rattle.spki_core.specs.ObjectIdentifier.{IsIdentifier, IdentifierContents};
 ghost use Rattle.spki_core.specs.Laws.Identifiers.{identifier_means_one, identifier_contents_of_bytes};
@@ -28,18 +28,24 @@ pub struct ObjectIdentifier {
     ghost bytes: { (i : ℕ) → slice_index (take length octets) i < 256 },
 }
 
+/// Whether a subidentifier starts at the index: no octets precede it, or the last of a subidentifier does.
+fn is_start(octets: &[u8], index: usize) -> bool
+    requires { index ≤ length octets.now }
+    ensures { result ≡ specs.starts_at octets.now index }
+{
+    index == 0 || octets[index - 1] < 0x80
+}
+
 /// Whether the octets are one or more whole subidentifiers, of at most 39 octets together.
 pub(crate) fn is_identifier(octets: &[u8]) -> bool
     ensures { result ≡ specs.is_identifier octets.now }
 {
-    let mut start = true;
-    for octet in octets {
-        if start && *octet == 0x80 {
+    for index in 0..octets.len() {
+        if octets[index] == 0x80 && is_start(octets, index) {
             return false;
         }
-        start = *octet < 0x80;
     }
-    start && !octets.is_empty() && octets.len() <= 39
+    is_start(octets, octets.len()) && !octets.is_empty() && octets.len() <= 39
 }
 
 /// A type that names an algorithm, by its object identifier.
