@@ -12,3 +12,4 @@ pub mod ParameterWrites
 pub mod NothingAsked
 pub mod MemoryAsked
 pub mod ParameterFaultRows
+pub mod Unchanged

@@ -125,3 +125,7 @@ HasFields values mask = has_under (parts_of values) mask
 
 abbrev pub written_fields : List FieldValue → ℕ → List ℕ
 written_fields values mask = written_under (parts_of values) mask
+
+-- None of the fields is written.
+abbrev pub NoneWritten : List FieldValue → ℕ → Type 0
+NoneWritten values mask = HasFields values mask × (written_fields values mask ≡ [])

@@ -1,5 +1,5 @@
 //! The fields of parameters, and writing them under a mask that says which defaults are written.
-ghost use Rattle.std.specs.Prelude.{Bool, false, ◌≡◌, ◌≤◌, ◌<◌, ◌+◌, ◌*◌, ◌++◌, ℕ, length};
+ghost use Rattle.std.specs.Prelude.{Bool, true, false, ◌≡◌, ◌≤◌, ◌<◌, ◌+◌, ◌*◌, ◌++◌, ℕ, length};
 ghost use Rattle.der_core.specs.BackWriters.{free_of, Prepends};
 ghost use Rattle.der_core.specs.Length.{limit};
 ghost use Rattle.der_core.specs.Writing.{Counts, Appends};
@@ -9,7 +9,7 @@ ghost use Rattle.spki_core.specs.Masks.{out_under, rest_under};
 ghost use Rattle.spki_core.specs.StrictFields.{number_in};
 ghost use Rattle.pkcs1_params.specs.FieldRefs.{value_of, part_in, values_in};
 ghost use Rattle.pkcs1_params.specs.DefaultBits.{bit_of, bits_of};
-ghost use Rattle.pkcs1_params.specs.Parts.{defaults_in, fields_in, HasFields, written_fields};
+ghost use Rattle.pkcs1_params.specs.Parts.{defaults_in, fields_in, HasFields, NoneWritten, written_fields};
 
 use crate::hash_fields::{MaskGenRef, is_default_hash, is_default_mask_gen};
 use crate::p_source::is_default_source;
@@ -49,6 +49,7 @@ impl FieldRef<'_> {
     }
 
     /// Whether the value is the default.
+    #[inline(always)]
     pub(crate) fn is_default(&self) -> bool
         ensures { result ≡ (part_in self.now).is_default }
     {
@@ -74,22 +75,8 @@ impl FieldRef<'_> {
         }
     }
 
-    /// The length of what is written for the field, which may be left out.
-    #[inline(always)]
-    fn len(&self, left_out: bool) -> Result<Length>
-        ensures { let part = part_in self.now in
-            Counts (HasField left_out part.has) (written_field left_out part.field.number part.encoding) result }
-    {
-        if left_out {
-            Ok(Length::ZERO)
-        } else {
-            self.written_len()
-        }
-    }
-
     /// The length of the written field.
-    #[inline(never)]
-    fn written_len(&self) -> Result<Length>
+    fn len(&self) -> Result<Length>
         ensures { let part = part_in self.now in
             Counts (HasField false part.has) (written_field false part.field.number part.encoding) result }
     {
@@ -120,25 +107,8 @@ impl FieldRef<'_> {
         }
     }
 
-    /// Writes the field in front of what is filled, unless it is left out.
-    #[inline(always)]
-    fn prepend(&self, left_out: bool, writer: &mut BackWriter<'_>)
-        requires has { HasField left_out (part_in self.now).has }
-        requires fits { let part = part_in self.now in
-            length (written_field left_out part.field.number part.encoding) ≤ limit }
-        requires room { let part = part_in self.now in
-            length (written_field left_out part.field.number part.encoding) ≤ free_of writer.old }
-        ensures { let part = part_in self.now in
-            Prepends (written_field left_out part.field.number part.encoding) writer.old writer.new }
-    {
-        if !left_out {
-            self.prepend_written(writer);
-        }
-    }
-
     /// Writes the field in front of what is filled.
-    #[inline(never)]
-    fn prepend_written(&self, writer: &mut BackWriter<'_>)
+    fn prepend(&self, writer: &mut BackWriter<'_>)
         requires has { HasField false (part_in self.now).has }
         requires fits { let part = part_in self.now in
             length (written_field false part.field.number part.encoding) ≤ limit }
@@ -172,11 +142,20 @@ pub(crate) fn under(default: bool, mask: u8) -> (bool, u8)
 
 /// Whether the field has its default, and the bits for the later ones.
 #[inline(always)]
-fn split_defaults(defaults: u8, _field: &FieldRef<'_>, _later: &[FieldRef<'_>]) -> (bool, u8)
-    requires { defaults ≡ bit_of (part_in _field.now).is_default + 2 * bits_of (defaults_in (values_in _later.now)) }
+fn split_changed(changed: u8, _field: &FieldRef<'_>, _later: &[FieldRef<'_>]) -> (bool, u8)
+    requires { changed ≡ bit_of (part_in _field.now).is_default + 2 * bits_of (defaults_in (values_in _later.now)) }
     ensures { result ≡ ((part_in _field.now).is_default, bits_of (defaults_in (values_in _later.now))) }
 {
-    (defaults % 2 == 1, defaults / 2)
+    (changed % 2 == 0, changed / 2)
+}
+
+/// Whether no field is written: each has its default, and the mask names none of them.
+#[inline(always)]
+fn none_written(_fields: &[FieldRef<'_>], changed: u8, mask: u8) -> bool
+    requires { changed ≡ bits_of (defaults_in (values_in _fields.now)) }
+    ensures { result ≡ true → NoneWritten (values_in _fields.now) mask }
+{
+    changed == 0 && mask == 0
 }
 
 /// How many of the fields have their defaults.
@@ -191,13 +170,13 @@ pub(crate) fn count_defaults(fields: &[FieldRef<'_>]) -> u8
     }
 }
 
-/// A bit: 1 if true.
+/// The bit of a field: 0 if it has its default.
 #[inline(always)]
-pub(crate) fn bit(fact: bool) -> u8
-    ensures is { result ≡ bit_of fact }
+pub(crate) fn bit(default: bool) -> u8
+    ensures is { result ≡ bit_of default }
     ensures few { result ≤ 1 }
 {
-    u8::from(fact)
+    u8::from(!default)
 }
 
 /// Does nothing: its contract says that there are contents under each mask, and bounds their length.
@@ -211,18 +190,26 @@ pub(crate) fn lemma_are_held(fields: &[FieldRef<'_>])
     }
 }
 
-/// The length of the fields under a mask. Bit j of `defaults` says whether field j has its default.
-pub(crate) fn fields_len(fields: &[FieldRef<'_>], defaults: u8, mask: u8) -> Result<Length>
-    requires { defaults ≡ bits_of (defaults_in (values_in fields.now)) }
+/// The length of the fields under a mask. Bit j of `changed` says whether field j differs from its default.
+pub(crate) fn fields_len(fields: &[FieldRef<'_>], changed: u8, mask: u8) -> Result<Length>
+    requires { changed ≡ bits_of (defaults_in (values_in fields.now)) }
     ensures { let values = values_in fields.now in
         Counts (HasFields values mask) (written_fields values mask) result }
 {
+    if none_written(fields, changed, mask) {
+        return Ok(Length::ZERO);
+    }
     match fields.split_first() {
         None => Ok(Length::ZERO),
         Some((field, later)) => {
-            let (default, defaults) = split_defaults(defaults, field, later);
+            let (default, changed) = split_changed(changed, field, later);
             let (left_out, mask) = under(default, mask);
-            joined_len(field.len(left_out), fields_len(later, defaults, mask))
+            let later = fields_len(later, changed, mask);
+            if left_out {
+                later
+            } else {
+                joined_len(field.len(), later)
+            }
         }
     }
 }
@@ -230,11 +217,11 @@ pub(crate) fn fields_len(fields: &[FieldRef<'_>], defaults: u8, mask: u8) -> Res
 /// Appends the fields, which have an encoding within the limit.
 fn append_fields<W: Writer>(
     fields: &[FieldRef<'_>],
-    defaults: u8,
+    changed: u8,
     mask: u8,
     writer: &mut W,
 ) -> Result<()>
-    requires defaults { defaults ≡ bits_of (defaults_in (values_in fields.now)) }
+    requires changed { changed ≡ bits_of (defaults_in (values_in fields.now)) }
     requires has { HasFields (values_in fields.now) mask }
     requires fits { length (written_fields (values_in fields.now) mask) ≤ limit }
     ensures appends { let values = values_in fields.now in
@@ -245,10 +232,10 @@ fn append_fields<W: Writer>(
     match fields.split_first() {
         None => Ok(()),
         Some((field, later)) => {
-            let (default, defaults) = split_defaults(defaults, field, later);
+            let (default, changed) = split_changed(changed, field, later);
             let (left_out, mask) = under(default, mask);
             field.encode(left_out, writer)?;
-            append_fields(later, defaults, mask, writer)
+            append_fields(later, changed, mask, writer)
         }
     }
 }
@@ -256,37 +243,42 @@ fn append_fields<W: Writer>(
 /// Appends the fields under a mask.
 pub(crate) fn encode_fields<W: Writer>(
     fields: &[FieldRef<'_>],
-    defaults: u8,
+    changed: u8,
     mask: u8,
     writer: &mut W,
 ) -> Result<()>
-    requires { defaults ≡ bits_of (defaults_in (values_in fields.now)) }
+    requires { changed ≡ bits_of (defaults_in (values_in fields.now)) }
     ensures appends { let values = values_in fields.now in
         let octets = written_fields values mask in
         Appends (HasFields values mask) octets W.room W.written writer.old writer.new result }
     ensures kept { W.keeps writer.old writer.new }
 {
-    fields_len(fields, defaults, mask)?;
-    append_fields(fields, defaults, mask, writer)
+    fields_len(fields, changed, mask)?;
+    append_fields(fields, changed, mask, writer)
 }
 
 /// Writes the fields under a mask in front of what is filled, the last one first.
 pub(crate) fn prepend_fields(
     fields: &[FieldRef<'_>],
-    defaults: u8,
+    changed: u8,
     mask: u8,
     writer: &mut BackWriter<'_>,
 )
-    requires defaults { defaults ≡ bits_of (defaults_in (values_in fields.now)) }
+    requires changed { changed ≡ bits_of (defaults_in (values_in fields.now)) }
     requires has { HasFields (values_in fields.now) mask }
     requires fits { length (written_fields (values_in fields.now) mask) ≤ limit }
     requires room { length (written_fields (values_in fields.now) mask) ≤ free_of writer.old }
     ensures { Prepends (written_fields (values_in fields.now) mask) writer.old writer.new }
 {
+    if none_written(fields, changed, mask) {
+        return;
+    }
     if let Some((field, later)) = fields.split_first() {
-        let (default, defaults) = split_defaults(defaults, field, later);
+        let (default, changed) = split_changed(changed, field, later);
         let (left_out, mask) = under(default, mask);
-        prepend_fields(later, defaults, mask, writer);
-        field.prepend(left_out, writer);
+        prepend_fields(later, changed, mask, writer);
+        if !left_out {
+            field.prepend(writer);
+        }
     }
 }

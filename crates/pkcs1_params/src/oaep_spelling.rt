@@ -48,7 +48,7 @@ impl DefaultFields for RsaOaepParams<AnyRef<'_>> {
         lemma_are_held(&self.fields());
     }
 
-    fn defaults(&self) -> u8 {
+    fn changed(&self) -> u8 {
         let [hash, mask_gen, p_source] = self.fields();
         bit(hash.is_default()) + 2 * bit(mask_gen.is_default()) + 4 * bit(p_source.is_default())
     }
@@ -67,21 +67,21 @@ impl DefaultFields for RsaOaepParams<AnyRef<'_>> {
         written_default(bytes, &defaults)
     }
 
-    fn len_under(&self, defaults: u8, mask: u8) -> der_core::Result<Length> {
-        fields_len(&self.fields(), defaults, mask)
+    fn len_under(&self, changed: u8, mask: u8) -> der_core::Result<Length> {
+        fields_len(&self.fields(), changed, mask)
     }
 
     fn encode_under<W: Writer>(
         &self,
-        defaults: u8,
+        changed: u8,
         mask: u8,
         writer: &mut W,
     ) -> der_core::Result<()> {
-        encode_fields(&self.fields(), defaults, mask, writer)
+        encode_fields(&self.fields(), changed, mask, writer)
     }
 
-    fn prepend_under(&self, defaults: u8, mask: u8, writer: &mut BackWriter<'_>) {
-        prepend_fields(&self.fields(), defaults, mask, writer);
+    fn prepend_under(&self, changed: u8, mask: u8, writer: &mut BackWriter<'_>) {
+        prepend_fields(&self.fields(), changed, mask, writer);
     }
 }
 

@@ -152,17 +152,17 @@ impl<P: AnyValue> RsaPssParams<P> {
 impl<P: AnyValue> EncodeValue for RsaPssParams<P> {
     fn value_len(&self) -> der_core::Result<Length> {
         let params = self.as_params_ref();
-        params.len_under(params.defaults(), 0)
+        params.len_under(params.changed(), 0)
     }
 
     fn encode_value<W: Writer>(&self, writer: &mut W) -> der_core::Result<()> {
         let params = self.as_params_ref();
-        params.encode_under(params.defaults(), 0, writer)
+        params.encode_under(params.changed(), 0, writer)
     }
 
     fn prepend_value(&self, writer: &mut BackWriter<'_>) {
         let params = self.as_params_ref();
-        params.prepend_under(params.defaults(), 0, writer);
+        params.prepend_under(params.changed(), 0, writer);
     }
 
     ghost contents_relate = { pss_relates };

@@ -49,7 +49,7 @@ impl DefaultFields for RsaPssParams<AnyRef<'_>> {
         lemma_are_held(&self.fields());
     }
 
-    fn defaults(&self) -> u8 {
+    fn changed(&self) -> u8 {
         let [hash, mask_gen, salt_len, trailer_field] = self.fields();
         bit(hash.is_default())
             + 2 * bit(mask_gen.is_default())
@@ -72,21 +72,21 @@ impl DefaultFields for RsaPssParams<AnyRef<'_>> {
         written_default(bytes, &defaults)
     }
 
-    fn len_under(&self, defaults: u8, mask: u8) -> der_core::Result<Length> {
-        fields_len(&self.fields(), defaults, mask)
+    fn len_under(&self, changed: u8, mask: u8) -> der_core::Result<Length> {
+        fields_len(&self.fields(), changed, mask)
     }
 
     fn encode_under<W: Writer>(
         &self,
-        defaults: u8,
+        changed: u8,
         mask: u8,
         writer: &mut W,
     ) -> der_core::Result<()> {
-        encode_fields(&self.fields(), defaults, mask, writer)
+        encode_fields(&self.fields(), changed, mask, writer)
     }
 
-    fn prepend_under(&self, defaults: u8, mask: u8, writer: &mut BackWriter<'_>) {
-        prepend_fields(&self.fields(), defaults, mask, writer);
+    fn prepend_under(&self, changed: u8, mask: u8, writer: &mut BackWriter<'_>) {
+        prepend_fields(&self.fields(), changed, mask, writer);
     }
 }
 

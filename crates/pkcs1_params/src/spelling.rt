@@ -46,8 +46,8 @@ pub(crate) trait DefaultFields: Copy + Drop {
         ensures { let values = values (params self.now) in
             (mask : ℕ) → HasFields values mask × (length (written_fields values mask) < 2 ^ 64) };
 
-    /// Which fields equal their defaults, as bits: bit j is that of field j.
-    fn defaults(&self) -> u8
+    /// Which fields differ from their defaults, as bits: bit j is that of field j.
+    fn changed(&self) -> u8
         ensures { result ≡ bits_of (defaults_in (values (params self.now))) };
 
     /// How many fields equal their defaults.
@@ -60,28 +60,23 @@ pub(crate) trait DefaultFields: Copy + Drop {
     fn written_default(&self, bytes: &[u8]) -> Option<TagNumber>
         ensures { WalksOver (defaults_in (values (params self.now))) bytes.now (option_map number_in result) };
 
-    /// The length of the contents under a mask. `defaults` are those of the fields.
-    fn len_under(&self, defaults: u8, mask: u8) -> der_core::Result<Length>
-        requires { defaults ≡ bits_of (defaults_in (values (params self.now))) }
+    /// The length of the contents under a mask. `changed` are those of the fields.
+    fn len_under(&self, changed: u8, mask: u8) -> der_core::Result<Length>
+        requires { changed ≡ bits_of (defaults_in (values (params self.now))) }
         ensures { let values = values (params self.now) in
             Counts (HasFields values mask) (written_fields values mask) result };
 
     /// Appends the contents under a mask.
-    fn encode_under<W: Writer>(
-        &self,
-        defaults: u8,
-        mask: u8,
-        writer: &mut W,
-    ) -> der_core::Result<()>
-        requires { defaults ≡ bits_of (defaults_in (values (params self.now))) }
+    fn encode_under<W: Writer>(&self, changed: u8, mask: u8, writer: &mut W) -> der_core::Result<()>
+        requires { changed ≡ bits_of (defaults_in (values (params self.now))) }
         ensures appends { let values = values (params self.now) in
             let octets = written_fields values mask in
             Appends (HasFields values mask) octets W.room W.written writer.old writer.new result }
         ensures kept { W.keeps writer.old writer.new };
 
     /// Writes the contents under a mask in front of what is filled.
-    fn prepend_under(&self, defaults: u8, mask: u8, writer: &mut BackWriter<'_>)
-        requires defaults { defaults ≡ bits_of (defaults_in (values (params self.now))) }
+    fn prepend_under(&self, changed: u8, mask: u8, writer: &mut BackWriter<'_>)
+        requires changed { changed ≡ bits_of (defaults_in (values (params self.now))) }
         requires has { HasFields (values (params self.now)) mask }
         requires fits { length (written_fields (values (params self.now)) mask) ≤ limit }
         requires room { length (written_fields (values (params self.now)) mask) ≤ free_of writer.old }
@@ -92,10 +87,10 @@ pub(crate) trait DefaultFields: Copy + Drop {
 #[derive(Drop)]
 pub(crate) struct Spelling<'b, T: DefaultFields> {
     params: &'b T,
-    defaults: u8,
+    changed: u8,
     mask: u8,
     ghost range: { InRange (fields_with T.values (T.params params.now)) mask },
-    ghost known: { defaults ≡ bits_of (defaults_in (T.values (T.params params.now))) },
+    ghost known: { changed ≡ bits_of (defaults_in (T.values (T.params params.now))) },
 }
 
 impl<T: DefaultFields> Contents for Spelling<'_, T> {
@@ -120,15 +115,15 @@ impl<T: DefaultFields> TaggedBy for Spelling<'_, T> {
 
 impl<T: DefaultFields> EncodeValue for Spelling<'_, T> {
     fn value_len(&self) -> der_core::Result<Length> {
-        self.params.len_under(self.defaults, self.mask)
+        self.params.len_under(self.changed, self.mask)
     }
 
     fn encode_value<W: Writer>(&self, writer: &mut W) -> der_core::Result<()> {
-        self.params.encode_under(self.defaults, self.mask, writer)
+        self.params.encode_under(self.changed, self.mask, writer)
     }
 
     fn prepend_value(&self, writer: &mut BackWriter<'_>) {
-        self.params.prepend_under(self.defaults, self.mask, writer);
+        self.params.prepend_under(self.changed, self.mask, writer);
     }
 
     ghost contents_relate = { masked_relates T.values };
@@ -147,7 +142,7 @@ pub(crate) fn spell_into<T: DefaultFields>(params: &T, mask: u8, out: &mut [u8])
     params.lemma_is_held();
     let spelling = Spelling {
         params,
-        defaults: params.defaults(),
+        changed: params.changed(),
         mask,
     };
     Ok(spelling.encode_into(out)?)
@@ -205,11 +200,11 @@ impl<T: DefaultFields> Spelling<'_, T> {
 /// The encodings under the masks below `count`, in order.
 fn encodings_under<T: DefaultFields>(
     params: &T,
-    defaults: u8,
+    changed: u8,
     count: u8,
     alloc: Global,
 ) -> der_core::Result<Vec<Vec<u8>>>
-    requires defaults { defaults ≡ bits_of (defaults_in (T.values (T.params params.now))) }
+    requires changed { changed ≡ bits_of (defaults_in (T.values (T.params params.now))) }
     requires masks { AreMasks (fields_with T.values (T.params params.now)) count }
     ensures ok { IfOk result (λ encodings. AreUnder (fields_with T.values (T.params params.now)) count
         (encodings_in encodings)) }
@@ -219,7 +214,7 @@ fn encodings_under<T: DefaultFields>(
     for mask in 0..count {
         let spelling = Spelling {
             params,
-            defaults,
+            changed,
             mask,
         };
         encodings.push(spelling.to_vec(alloc)?)?;
@@ -235,12 +230,12 @@ pub(crate) fn all_spellings<T: DefaultFields>(params: &T, alloc: Global) -> Resu
     ensures err { IfErr result (IsListingError (fields_with T.values (T.params params.now))) }
 {
     let count = 1u8 << params.count_defaults();
-    let defaults = params.defaults();
+    let changed = params.changed();
     let longest = Spelling {
         params,
-        defaults,
+        changed,
         mask: count - 1,
     };
     longest.len()?;
-    Ok(encodings_under(params, defaults, count, alloc)?)
+    Ok(encodings_under(params, changed, count, alloc)?)
 }

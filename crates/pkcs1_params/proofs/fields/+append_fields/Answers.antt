@@ -9,7 +9,7 @@ returns-in_err-encode-in-Some-clause-appends g t c =
     let cons = c.in-Some.ensures.cases.0 in
     let has = rw cons at c.requires.has in
     let fits = rw cons at c.requires.fits in
-    let first = rw (c.under-left_out.ensures, c.split_defaults-default.ensures) at c.in_err-encode-in-Some.ensures.appends in
+    let first = rw (c.under-left_out.ensures, c.split_changed-default.ensures) at c.in_err-encode-in-Some.ensures.appends in
     rw (e.1, e.2, cons) (appends_in_front _ _ _ has.0 has refl fits first)
 
 pub returns-in_ok-encode-in-Some-clause-appends : goal.returns-in_ok-encode-in-Some-clause-appends
@@ -17,6 +17,6 @@ returns-in_ok-encode-in-Some-clause-appends g t c =
     let cons = c.in-Some.ensures.cases.0 in
     let has = rw cons at c.requires.has in
     let fits = rw cons at c.requires.fits in
-    let first = rw (c.under-left_out.ensures, c.split_defaults-default.ensures) at c.in_ok-encode-in-Some.ensures.appends in
-    let later = rw (c.under-left_out.ensures, c.split_defaults-default.ensures) at c.append_fields.ensures.appends in
+    let first = rw (c.under-left_out.ensures, c.split_changed-default.ensures) at c.in_ok-encode-in-Some.ensures.appends in
+    let later = rw (c.under-left_out.ensures, c.split_changed-default.ensures) at c.append_fields.ensures.appends in
     rw cons (appends_behind _ _ _ has.1 has refl fits first.written first.room later)

@@ -17,7 +17,7 @@ invariant_of-longest g c =
     let t = g.T.DefaultFields in
     let k = c.count_defaults-count.result in
     let known = c.count_defaults-count.ensures in
-    record { range = in_range (fields_with t.values (t.params c.args.params.now)) (1 * 2 ^ k % 256 - 1) (k, known.count, omega (arith, last k known.few)); known = c.defaults-defaults.ensures }
+    record { range = in_range (fields_with t.values (t.params c.args.params.now)) (1 * 2 ^ k % 256 - 1) (k, known.count, omega (arith, last k known.few)); known = c.changed-changed.ensures }
 
 pub returns-in_err-len-clause-err : goal.returns-in_err-len-clause-err
 returns-in_err-len-clause-err g c =
@@ -34,7 +34,7 @@ encodings_under-requires g c =
     let k = c.count_defaults-count.result in
     let known = c.count_defaults-count.ensures in
     record {
-      defaults = c.defaults-defaults.ensures;
+      changed = c.changed-changed.ensures;
       masks = (k, known.count, shifted k known.few, all_fit (fields_with t.values (t.params c.args.params.now)) k _ known.count (last k known.few) _ c.in_ok-len.ensures.spells);
     }
 

@@ -10,7 +10,7 @@ loop-mask-init g c = rw c.new-encodings.ensures.items (refl, λ (mask : ℕ) (be
 pub invariant_of-spelling : goal.invariant_of-spelling
 invariant_of-spelling g c =
     let t = g.T.DefaultFields in
-    record { range = mask_in_range (fields_with t.values (t.params c.args.params.now)) c.args.count c.loop-mask.mask c.requires.masks c.loop-mask-test.true; known = c.requires.defaults }
+    record { range = mask_in_range (fields_with t.values (t.params c.args.params.now)) c.args.count c.loop-mask.mask c.requires.masks c.loop-mask-test.true; known = c.requires.changed }
 
 pub returns-in_err-to_vec-clause-err : goal.returns-in_err-to_vec-clause-err
 returns-in_err-to_vec-clause-err g c =

@@ -9,7 +9,7 @@ use Rattle.pkcs1_params.proofs.Masks.{stands_under, unspelled_as, in_range, enco
 use Rattle.pkcs1_params.proofs.spelling.spell_into.Goals as goal
 
 pub invariant_of-spelling : goal.invariant_of-spelling
-invariant_of-spelling g c = let t = g.T.DefaultFields in record { range = in_range (fields_with t.values (t.params c.args.params.now)) c.args.mask c.requires; known = c.defaults.ensures }
+invariant_of-spelling g c = let t = g.T.DefaultFields in record { range = in_range (fields_with t.values (t.params c.args.params.now)) c.args.mask c.requires; known = c.changed.ensures }
 
 pub returns-in_err-encode_into-clause-err : goal.returns-in_err-encode_into-clause-err
 returns-in_err-encode_into-clause-err g c =
