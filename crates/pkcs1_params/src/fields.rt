@@ -214,8 +214,8 @@ pub(crate) fn fields_len(fields: &[FieldRef<'_>], changed: u8, mask: u8) -> Resu
     }
 }
 
-/// Appends the fields, which have an encoding within the limit.
-fn append_fields<W: Writer>(
+/// Appends the fields under a mask.
+pub(crate) fn append_fields<W: Writer>(
     fields: &[FieldRef<'_>],
     changed: u8,
     mask: u8,
@@ -238,23 +238,6 @@ fn append_fields<W: Writer>(
             append_fields(later, changed, mask, writer)
         }
     }
-}
-
-/// Appends the fields under a mask.
-pub(crate) fn encode_fields<W: Writer>(
-    fields: &[FieldRef<'_>],
-    changed: u8,
-    mask: u8,
-    writer: &mut W,
-) -> Result<()>
-    requires { changed ≡ bits_of (defaults_in (values_in fields.now)) }
-    ensures appends { let values = values_in fields.now in
-        let octets = written_fields values mask in
-        Appends (HasFields values mask) octets W.room W.written writer.old writer.new result }
-    ensures kept { W.keeps writer.old writer.new }
-{
-    fields_len(fields, changed, mask)?;
-    append_fields(fields, changed, mask, writer)
 }
 
 /// Writes the fields under a mask in front of what is filled, the last one first.

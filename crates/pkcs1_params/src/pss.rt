@@ -155,9 +155,9 @@ impl<P: AnyValue> EncodeValue for RsaPssParams<P> {
         params.len_under(params.changed(), 0)
     }
 
-    fn encode_value<W: Writer>(&self, writer: &mut W) -> der_core::Result<()> {
+    fn append_value<W: Writer>(&self, writer: &mut W) -> der_core::Result<()> {
         let params = self.as_params_ref();
-        params.encode_under(params.changed(), 0, writer)
+        params.append_under(params.changed(), 0, writer)
     }
 
     fn prepend_value(&self, writer: &mut BackWriter<'_>) {

@@ -12,7 +12,7 @@ ghost use Rattle.pkcs1_params.specs.Spellings.{IsListingError, encodings_in};
 
 use crate::error::Result;
 use crate::fields::{
-    FieldRef, bit, count_defaults, encode_fields, fields_len, lemma_are_held, prepend_fields,
+    FieldRef, append_fields, bit, count_defaults, fields_len, lemma_are_held, prepend_fields,
 };
 use crate::pss::RsaPssParams;
 use crate::spelling::{DefaultFields, all_spellings, spell_into};
@@ -76,13 +76,13 @@ impl DefaultFields for RsaPssParams<AnyRef<'_>> {
         fields_len(&self.fields(), changed, mask)
     }
 
-    fn encode_under<W: Writer>(
+    fn append_under<W: Writer>(
         &self,
         changed: u8,
         mask: u8,
         writer: &mut W,
     ) -> der_core::Result<()> {
-        encode_fields(&self.fields(), changed, mask, writer)
+        append_fields(&self.fields(), changed, mask, writer)
     }
 
     fn prepend_under(&self, changed: u8, mask: u8, writer: &mut BackWriter<'_>) {

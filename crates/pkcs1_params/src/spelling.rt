@@ -67,8 +67,10 @@ pub(crate) trait DefaultFields: Copy + Drop {
             Counts (HasFields values mask) (written_fields values mask) result };
 
     /// Appends the contents under a mask.
-    fn encode_under<W: Writer>(&self, changed: u8, mask: u8, writer: &mut W) -> der_core::Result<()>
-        requires { changed ≡ bits_of (defaults_in (values (params self.now))) }
+    fn append_under<W: Writer>(&self, changed: u8, mask: u8, writer: &mut W) -> der_core::Result<()>
+        requires changed { changed ≡ bits_of (defaults_in (values (params self.now))) }
+        requires has { HasFields (values (params self.now)) mask }
+        requires fits { length (written_fields (values (params self.now)) mask) ≤ limit }
         ensures appends { let values = values (params self.now) in
             let octets = written_fields values mask in
             Appends (HasFields values mask) octets W.room W.written writer.old writer.new result }
@@ -118,8 +120,8 @@ impl<T: DefaultFields> EncodeValue for Spelling<'_, T> {
         self.params.len_under(self.changed, self.mask)
     }
 
-    fn encode_value<W: Writer>(&self, writer: &mut W) -> der_core::Result<()> {
-        self.params.encode_under(self.changed, self.mask, writer)
+    fn append_value<W: Writer>(&self, writer: &mut W) -> der_core::Result<()> {
+        self.params.append_under(self.changed, self.mask, writer)
     }
 
     fn prepend_value(&self, writer: &mut BackWriter<'_>) {
