@@ -22,10 +22,22 @@ pub trait EncodeValue: Contents {
         ensures { let v = Self.value self.now in Counts (Self.has_contents v) (Self.written_contents v) result };
 
     /// Appends the contents.
-    fn encode_value<W: Writer>(&self, writer: &mut W) -> Result<()>
+    fn append_value<W: Writer>(&self, writer: &mut W) -> Result<()>
+        requires has { Self.has_contents (Self.value self.now) }
+        requires fits { length (Self.written_contents (Self.value self.now)) ≤ limit }
         ensures appends { let v = Self.value self.now in
             Appends (Self.has_contents v) (Self.written_contents v) W.room W.written writer.old writer.new result }
         ensures kept { W.keeps writer.old writer.new };
+
+    /// Appends the contents: `Value` and `Overflow` before any octet, `NoRoom` after a beginning of them.
+    fn encode_value<W: Writer>(&self, writer: &mut W) -> Result<()>
+        ensures appends { let v = Self.value self.now in
+            Appends (Self.has_contents v) (Self.written_contents v) W.room W.written writer.old writer.new result }
+        ensures kept { W.keeps writer.old writer.new }
+    {
+        self.value_len()?;
+        self.append_value(writer)
+    }
 
     /// Writes the contents in front of what is filled.
     fn prepend_value(&self, writer: &mut BackWriter<'_>)
@@ -145,7 +157,7 @@ fn encode_tlv<T: EncodeValue + FixedTag, W: Writer>(value: &T, writer: &mut W) -
         length,
     };
     writer.write(&header.to_bytes())?;
-    value.encode_value(writer)
+    value.append_value(writer)
 }
 
 impl<T: EncodeValue + FixedTag> Encode for T {

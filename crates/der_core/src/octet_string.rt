@@ -126,7 +126,7 @@ impl EncodeValue for OctetStringRef<'_> {
         Ok(self.len())
     }
 
-    fn encode_value<W: Writer>(&self, writer: &mut W) -> Result<()> {
+    fn append_value<W: Writer>(&self, writer: &mut W) -> Result<()> {
         writer.write(self.bytes)
     }
 

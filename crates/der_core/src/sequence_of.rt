@@ -112,8 +112,7 @@ impl<T: Encode> EncodeValue for Vec<T> {
         items_len(self.as_slice())
     }
 
-    fn encode_value<W: Writer>(&self, writer: &mut W) -> Result<()> {
-        self.value_len()?;
+    fn append_value<W: Writer>(&self, writer: &mut W) -> Result<()> {
         encode_items(self.as_slice(), writer)
     }
 

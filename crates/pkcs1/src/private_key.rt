@@ -204,6 +204,12 @@ impl<U: Encode> EncodeValue for RsaPrivateKey<U> {
         )
     }
 
+    fn append_value<W: Writer>(&self, writer: &mut W) -> Result<()> {
+        self.version().encode(writer)?;
+        encode_items(&self.numbers(), writer)?;
+        encode_other_primes(&self.other_prime_infos, writer)
+    }
+
     fn encode_value<W: Writer>(&self, writer: &mut W) -> Result<()>
         ensures appends { let key = private_key_with U.value self.now in
             let octets = written_private_key U.written_encoding key in
@@ -213,9 +219,7 @@ impl<U: Encode> EncodeValue for RsaPrivateKey<U> {
             → IsErrAnd result (λ e. e.kind ≡ ErrorKind.Value sequence) }
     {
         self.value_len()?;
-        self.version().encode(writer)?;
-        encode_items(&self.numbers(), writer)?;
-        encode_other_primes(&self.other_prime_infos, writer)
+        self.append_value(writer)
     }
 
     fn prepend_value(&self, writer: &mut BackWriter<'_>) {

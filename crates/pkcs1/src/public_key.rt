@@ -96,8 +96,7 @@ impl<U: Encode> EncodeValue for RsaPublicKey<U> {
         )
     }
 
-    fn encode_value<W: Writer>(&self, writer: &mut W) -> der_core::Result<()> {
-        self.value_len()?;
+    fn append_value<W: Writer>(&self, writer: &mut W) -> der_core::Result<()> {
         self.modulus.encode(writer)?;
         self.public_exponent.encode(writer)
     }

@@ -162,8 +162,8 @@ impl EncodeValue for Version {
         u8::from(*self).value_len()
     }
 
-    fn encode_value<W: Writer>(&self, writer: &mut W) -> Result<()> {
-        u8::from(*self).encode_value(writer)
+    fn append_value<W: Writer>(&self, writer: &mut W) -> Result<()> {
+        u8::from(*self).append_value(writer)
     }
 
     fn prepend_value(&self, writer: &mut BackWriter<'_>) {

@@ -155,7 +155,7 @@ impl<P: AnyValue> EncodeValue for RsaPssParams<P> {
         params.len_under(params.defaults(), 0)
     }
 
-    fn encode_value<W: Writer>(&self, writer: &mut W) -> der_core::Result<()> {
+    fn append_value<W: Writer>(&self, writer: &mut W) -> der_core::Result<()> {
         let params = self.as_params_ref();
         params.encode_under(params.defaults(), 0, writer)
     }

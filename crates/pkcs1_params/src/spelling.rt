@@ -123,7 +123,7 @@ impl<T: DefaultFields> EncodeValue for Spelling<'_, T> {
         self.params.len_under(self.defaults, self.mask)
     }
 
-    fn encode_value<W: Writer>(&self, writer: &mut W) -> der_core::Result<()> {
+    fn append_value<W: Writer>(&self, writer: &mut W) -> der_core::Result<()> {
         self.params.encode_under(self.defaults, self.mask, writer)
     }
 

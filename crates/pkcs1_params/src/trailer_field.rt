@@ -93,8 +93,8 @@ impl EncodeValue for TrailerField {
         (*self as u8).value_len()
     }
 
-    fn encode_value<W: Writer>(&self, writer: &mut W) -> Result<()> {
-        (*self as u8).encode_value(writer)
+    fn append_value<W: Writer>(&self, writer: &mut W) -> Result<()> {
+        (*self as u8).append_value(writer)
     }
 
     fn prepend_value(&self, writer: &mut BackWriter<'_>) {

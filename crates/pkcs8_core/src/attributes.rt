@@ -87,8 +87,7 @@ impl EncodeValue for Attributes<'_> {
         Length::try_from(self.bytes.len())
     }
 
-    fn encode_value<W: Writer>(&self, writer: &mut W) -> Result<()> {
-        self.value_len()?;
+    fn append_value<W: Writer>(&self, writer: &mut W) -> Result<()> {
         writer.write(self.bytes)
     }
 

@@ -148,8 +148,7 @@ impl EncodeValue for PrivateKeyInfoRef<'_> {
         )
     }
 
-    fn encode_value<W: Writer>(&self, writer: &mut W) -> Result<()> {
-        self.value_len()?;
+    fn append_value<W: Writer>(&self, writer: &mut W) -> Result<()> {
         VERSION.encode(writer)?;
         self.algorithm.encode(writer)?;
         self.private_key.encode(writer)?;

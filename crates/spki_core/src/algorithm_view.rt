@@ -90,8 +90,7 @@ impl<P: Encode> EncodeValue for AlgorithmView<'_, P> {
         joined_len(self.oid.encoded_len(), optional_len(&self.parameters))
     }
 
-    fn encode_value<W: Writer>(&self, writer: &mut W) -> Result<()> {
-        self.value_len()?;
+    fn append_value<W: Writer>(&self, writer: &mut W) -> Result<()> {
         self.oid.encode(writer)?;
         encode_optional(&self.parameters, writer)
     }

@@ -224,7 +224,7 @@ impl EncodeValue for ObjectIdentifier {
         Length::try_from(self.as_bytes().len())
     }
 
-    fn encode_value<W: Writer>(&self, writer: &mut W) -> Result<()> {
+    fn append_value<W: Writer>(&self, writer: &mut W) -> Result<()> {
         writer.write(self.as_bytes())
     }
 

@@ -151,8 +151,8 @@ impl EncodeValue for Uint {
         self.as_uint_ref().value_len()
     }
 
-    fn encode_value<W: Writer>(&self, writer: &mut W) -> Result<()> {
-        self.as_uint_ref().encode_value(writer)
+    fn append_value<W: Writer>(&self, writer: &mut W) -> Result<()> {
+        self.as_uint_ref().append_value(writer)
     }
 
     fn prepend_value(&self, writer: &mut BackWriter<'_>) {

@@ -91,7 +91,7 @@ impl EncodeValue for u8 {
         Length::try_from(if *self < 0x80 { 1 } else { 2 })
     }
 
-    fn encode_value<W: Writer>(&self, writer: &mut W) -> Result<()> {
+    fn append_value<W: Writer>(&self, writer: &mut W) -> Result<()> {
         if *self < 0x80 {
             writer.write(&[*self])
         } else {

@@ -206,8 +206,7 @@ impl EncodeValue for UintRef<'_> {
         Length::try_from(self.bytes.len() + zeros)
     }
 
-    fn encode_value<W: Writer>(&self, writer: &mut W) -> Result<()> {
-        self.value_len()?;
+    fn append_value<W: Writer>(&self, writer: &mut W) -> Result<()> {
         if self.bytes[0] >= 0x80 {
             writer.write(&[0])?;
         }

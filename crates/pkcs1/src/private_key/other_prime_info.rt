@@ -137,8 +137,7 @@ impl<U: Encode> EncodeValue for OtherPrimeInfo<U> {
         ])
     }
 
-    fn encode_value<W: Writer>(&self, writer: &mut W) -> Result<()> {
-        self.value_len()?;
+    fn append_value<W: Writer>(&self, writer: &mut W) -> Result<()> {
         encode_items(
             &[
                 Borrowed(&self.prime),

@@ -27,7 +27,7 @@ returns-clause-appends g c =
     let few : length (tlv g.T.FixedTag.TAG.octet (t.written_contents v)) ≤ limit = omega (arith, size, c.in_ok-for_tlv.ensures.ok, c.in_ok-length.ensures, length-append (length_octets (length (t.written_contents v))) (t.written_contents v)) in
     let mid : g.W.Writer.written c.write.new.self ≡ g.W.Writer.written c.args.writer.now ++ head = search rules in
     let room : g.W.Writer.room c.write.new.self + length head ≡ g.W.Writer.room c.args.writer.now = search rules in
-    appends_behind _ _ _ has has encoding few mid room c.encode_value.ensures.appends
+    appends_behind _ _ _ has has encoding few mid room c.append_value.ensures.appends
 
 pub returns-in_err-for_tlv-clause-appends : goal.returns-in_err-for_tlv-clause-appends
 returns-in_err-for_tlv-clause-appends g c =
@@ -39,4 +39,4 @@ returns-in_err-for_tlv-clause-appends g c =
     rw (p.1, p.2) (appends_too_long c.in_ok-length.ensures.0 c.in_err-for_tlv.ensures.err.0 many)
 
 pub returns-clause-kept : goal.returns-clause-kept
-returns-clause-kept g c = g.met.W.Writer.keeps_through _ _ _ c.in_ok-write.ensures.kept c.encode_value.ensures.kept
+returns-clause-kept g c = g.met.W.Writer.keeps_through _ _ _ c.in_ok-write.ensures.kept c.append_value.ensures.kept

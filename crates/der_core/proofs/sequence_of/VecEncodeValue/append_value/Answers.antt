@@ -1,15 +1,15 @@
-use Rattle.std.proofs.Common.{arith, ◌≤◌, length, map}
+use Rattle.std.proofs.Common.{◌≤◌, length, map}
 use Rattle.der_core.specs.Length.{limit}
 use Rattle.der_core.specs.SequenceOf.{all_encodings}
 use Rattle.der_core.specs.Laws.Items.{have_map, encodings_map}
-use Rattle.der_core.proofs.sequence_of.VecEncodeValue.encode_value.Goals as goal
+use Rattle.der_core.proofs.sequence_of.VecEncodeValue.append_value.Goals as goal
 
 pub encode_items-requires-clause-has : goal.encode_items-requires-clause-has
-encode_items-requires-clause-has g c = rw (c.as_slice.ensures.value, ← have_map g.T.Encoding.value g.T.Encoding.has_encoding c.args.self.now.items) c.in_ok-value_len.ensures.0
+encode_items-requires-clause-has g c = rw (c.as_slice.ensures.value, ← have_map g.T.Encoding.value g.T.Encoding.has_encoding c.args.self.now.items) c.requires.has
 
 pub encode_items-requires-clause-fits : goal.encode_items-requires-clause-fits
 encode_items-requires-clause-fits g c =
-    let fits : length (all_encodings g.T.Encoding.written_encoding (map g.T.Encoding.value c.args.self.now.items)) ≤ limit = omega (arith, c.in_ok-value_len.ensures) in
+    let fits : length (all_encodings g.T.Encoding.written_encoding (map g.T.Encoding.value c.args.self.now.items)) ≤ limit = c.requires.fits in
     rw (c.as_slice.ensures.value, ← encodings_map g.T.Encoding.value g.T.Encoding.written_encoding c.args.self.now.items) fits
 
 pub returns-clause-appends : goal.returns-clause-appends
