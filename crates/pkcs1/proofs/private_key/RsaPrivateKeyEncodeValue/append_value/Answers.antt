@@ -1,19 +1,16 @@
-use Rattle.std.proofs.Common.{arith, ◌≤◌, length}
 use Rattle.std.proofs.lemmas.Result.{err_from_is_err_and}
 use Rattle.der_core.specs.declared.borrowed.Borrowed.{Borrowed}
-use Rattle.der_core.specs.Length.{limit}
 use Rattle.pkcs1.specs.PrivateKeyValue.{private_key_with}
-use Rattle.pkcs1.specs.Writing.{key_numbers, written_private_key}
+use Rattle.pkcs1.specs.Writing.{key_numbers}
 use Rattle.pkcs1.proofs.KeyWrites.{version_number, version_appends, numbers_encoding, numbers_have, numbers_append, each_within, front_rejected, middle_rejected, private_appends}
 use Rattle.pkcs1.proofs.private_key.RsaPrivateKeyEncodeValue.append_value.Goals as goal
 
 pub returns-in_err-encode-clause-appends : goal.returns-in_err-encode-clause-appends
 returns-in_err-encode-clause-appends g c =
-    let p = err_from_is_err_and c.from_residual-in_err-encode.result c.from_residual-in_err-encode.ensures.1 in
+    let p = err_from_is_err_and c.from_residual.result c.from_residual.ensures.1 in
     let key = private_key_with g.U.Encoding.value c.args.self.now in
-    let few : length (written_private_key g.U.Encoding.written_encoding key) ≤ limit = c.requires.fits in
     let version = version_appends _ _ (version_number g.U.Encoding.value _ _ c.version.ensures) c.in_err-encode.ensures.appends in
-    rw (p.1, p.2) (front_rejected g.U.Encoding.has_encoding g.U.Encoding.written_encoding key c.requires.has few version)
+    rw (p.1, p.2) (front_rejected g.U.Encoding.has_encoding g.U.Encoding.written_encoding key c.requires.has c.requires.fits version)
 
 pub encode_items-requires-clause-has : goal.encode_items-requires-clause-has
 encode_items-requires-clause-has g c =
@@ -22,32 +19,28 @@ encode_items-requires-clause-has g c =
 pub encode_items-requires-clause-fits : goal.encode_items-requires-clause-fits
 encode_items-requires-clause-fits g c =
     let key = private_key_with g.U.Encoding.value c.args.self.now in
-    let few : length (written_private_key g.U.Encoding.written_encoding key) ≤ limit = c.requires.fits in
     rw (numbers_encoding (λ (n : Borrowed g.row.U.Denot). g.U.Encoding.value n.0.now) g.U.Encoding.has_encoding g.U.Encoding.written_encoding c.numbers.result (key_numbers key) c.numbers.ensures)
-    (each_within g.U.Encoding.has_encoding g.U.Encoding.written_encoding key limit few).1
+    (each_within g.U.Encoding.has_encoding g.U.Encoding.written_encoding key _ c.requires.fits).1
 
 pub returns-in_err-encode_items-clause-appends : goal.returns-in_err-encode_items-clause-appends
 returns-in_err-encode_items-clause-appends g c =
     let p = err_from_is_err_and c.from_residual-in_err-encode_items.result c.from_residual-in_err-encode_items.ensures.1 in
     let key = private_key_with g.U.Encoding.value c.args.self.now in
-    let few : length (written_private_key g.U.Encoding.written_encoding key) ≤ limit = c.requires.fits in
     let version = version_appends _ _ (version_number g.U.Encoding.value _ _ c.version.ensures) c.in_ok-encode.ensures.appends in
     let numbers = numbers_append (λ (n : Borrowed g.row.U.Denot). g.U.Encoding.value n.0.now) g.U.Encoding.has_encoding g.U.Encoding.written_encoding _ _ c.numbers.ensures c.in_err-encode_items.ensures.appends in
-    rw (p.1, p.2) (middle_rejected g.U.Encoding.has_encoding g.U.Encoding.written_encoding key c.requires.has few version numbers)
+    rw (p.1, p.2) (middle_rejected g.U.Encoding.has_encoding g.U.Encoding.written_encoding key c.requires.has c.requires.fits version numbers)
 
 pub encode_other_primes-requires-clause-fits : goal.encode_other_primes-requires-clause-fits
 encode_other_primes-requires-clause-fits g c =
     let key = private_key_with g.U.Encoding.value c.args.self.now in
-    let few : length (written_private_key g.U.Encoding.written_encoding key) ≤ limit = c.requires.fits in
-    (each_within g.U.Encoding.has_encoding g.U.Encoding.written_encoding key limit few).2
+    (each_within g.U.Encoding.has_encoding g.U.Encoding.written_encoding key _ c.requires.fits).2
 
 pub returns-clause-appends : goal.returns-clause-appends
 returns-clause-appends g c =
     let key = private_key_with g.U.Encoding.value c.args.self.now in
-    let few : length (written_private_key g.U.Encoding.written_encoding key) ≤ limit = c.requires.fits in
     let version = version_appends _ _ (version_number g.U.Encoding.value _ _ c.version.ensures) c.in_ok-encode.ensures.appends in
     let numbers = numbers_append (λ (n : Borrowed g.row.U.Denot). g.U.Encoding.value n.0.now) g.U.Encoding.has_encoding g.U.Encoding.written_encoding _ _ c.numbers.ensures c.in_ok-encode_items.ensures.appends in
-    private_appends g.U.Encoding.has_encoding g.U.Encoding.written_encoding key c.requires.has few version numbers c.encode_other_primes.ensures.appends
+    private_appends g.U.Encoding.has_encoding g.U.Encoding.written_encoding key c.requires.has c.requires.fits version numbers c.encode_other_primes.ensures.appends
 
 pub returns-clause-kept : goal.returns-clause-kept
 returns-clause-kept g c =

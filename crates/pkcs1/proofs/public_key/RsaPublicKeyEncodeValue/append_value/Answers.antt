@@ -1,4 +1,4 @@
-use Rattle.std.proofs.Common.{arith, refl}
+use Rattle.std.proofs.Common.{refl}
 use Rattle.std.proofs.lemmas.Result.{err_from_is_err_and}
 use Rattle.der_core.specs.Laws.StoppedWriting.{appends_in_front, appends_behind}
 use Rattle.pkcs1.proofs.public_key.RsaPublicKeyEncodeValue.append_value.Goals as goal

@@ -13,7 +13,7 @@ use Rattle.pkcs8_core.proofs.info.PrivateKeyInfoRefEncodeValue.append_value.Goal
 
 pub returns-in_err-encode-clause-appends : goal.returns-in_err-encode-clause-appends
 returns-in_err-encode-clause-appends g c =
-    let e = err_from_is_err_and c.from_residual-in_err-encode.result c.from_residual-in_err-encode.ensures.1 in
+    let e = err_from_is_err_and c.from_residual.result c.from_residual.ensures.1 in
     let i = c.args.self.now in
     let version = tlv 2 (integer_contents (0 ∷ [])) in
     let behind = written_plain (algorithm_of i.algorithm) ++ (tlv 4 (octets_of i.private_key) ++ written_optional (λ o. tlv 160 o) (info_of i).attributes) in

@@ -1,4 +1,4 @@
-use Rattle.std.proofs.Common.{arith, refl, ◌++◌}
+use Rattle.std.proofs.Common.{refl, ◌++◌}
 use Rattle.std.specs.Option.{option_map}
 use Rattle.der_core.specs.Tlv.{tlv}
 use Rattle.der_core.specs.Optional.{written_optional}
