@@ -9,7 +9,6 @@ use Rattle.der_core.specs.Tag.{integer_tag, sequence_tag}
 use Rattle.der_core.specs.Tags.{integer, sequence}
 use Rattle.der_core.specs.Encodings.{Then, Joins}
 use Rattle.der_core.specs.Tlv.{Tlv}
-use Rattle.pkcs1.specs.KeyNumbers.{EightNumbers}
 use Rattle.pkcs1.specs.Keys.{RsaPublicKey, PrivateKeyEncoding, OtherPrime, OtherPrimeInfo}
 use Rattle.pkcs1.specs.Versions.{VersionContents}
 
@@ -54,7 +53,7 @@ OthersFault NumberEncoding NumberFault version kind rest =
 -- A fault of the version, or else of one of the eight numbers, or of what follows them.
 abbrev pub PrivateKeyFault : {Number : Type 0} → (Number → List ℕ → Type 0) → (ErrorKind → List ℕ → Type 0) → ErrorKind → List ℕ → Type 0
 PrivateKeyFault NumberEncoding NumberFault =
-    ThenFault (λ n. Tlv integer_tag (VersionContents n)) (EncodingFault integer VersionFault) (λ version. ThenFault (EightNumbers NumberEncoding) (CountedFault 8 NumberEncoding NumberFault) (λ _. OthersFault NumberEncoding NumberFault version))
+    ThenFault (λ n. Tlv integer_tag (VersionContents n)) (EncodingFault integer VersionFault) (λ version. ThenFault (Counted 8 NumberEncoding) (CountedFault 8 NumberEncoding NumberFault) (λ _. OthersFault NumberEncoding NumberFault version))
 
 -- The faults of an INTEGER, of an OtherPrimeInfo.
 abbrev pub NumberFault : ErrorKind → List ℕ → Type 0

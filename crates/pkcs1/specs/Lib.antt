@@ -3,7 +3,6 @@ pub mod Forms
 pub mod Versions
 pub mod Allocating
 pub mod Writing
-pub mod KeyNumbers
 pub mod KeyEncodings
 pub mod PublicKeyValue
 pub mod PrivateKeyValue

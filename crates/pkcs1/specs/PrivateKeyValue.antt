@@ -1,13 +1,14 @@
 -- What a private key means, given what its numbers mean.
 use Rattle.der_core.specs.declared.integer.uint.UintRef.{UintRef}
 use Rattle.der_core.specs.UintRefValue.{bytes_of}
-use Rattle.std.specs.Prelude.{ℕ, List, ◌≡◌, length, Option, Some, None, map}
+use Rattle.std.specs.Prelude.{ℕ, List, ◌≡◌, length, Option, Some, None, map, []}
 use Rattle.std.specs.Option.{option_map}
 use Rattle.std.specs.declared.alloc.Global.{Global}
 use Rattle.std.specs.declared.vec.Vec.{Vec}
 use Rattle.pkcs1.specs.declared.private_key.other_prime_info.OtherPrimeInfo.{OtherPrimeInfo}
 use Rattle.pkcs1.specs.declared.private_key.PrivateKeyOf.{PrivateKeyOf}
 use Rattle.pkcs1.specs.Keys.{OtherPrime, PrivateKey, PublicKey}
+use Rattle.pkcs1.specs.Writing.{key_numbers}
 
 abbrev pub other_of : {U V : Type 0} → (U → V) → OtherPrimeInfo U → OtherPrime V
 other_of value other = record { prime = value other.prime; exponent = value other.exponent; coefficient = value other.coefficient }
@@ -33,6 +34,10 @@ key_with value primes key = record {
   coefficient = value key.coefficient;
   other_prime_infos = option_map primes key.other_prime_infos;
 }
+
+-- What its eight numbers mean, in the order of the encoding.
+abbrev pub numbers_of : {U O V : Type 0} → (U → V) → PrivateKeyOf U O → List V
+numbers_of value key = key_numbers (key_with value (λ _. []) key)
 
 -- A private key with a list of its other primes.
 abbrev pub Listed : Type 0 → Type 0

@@ -1,9 +1,9 @@
 //! The eight numbers of private keys: decoding and copying them.
 ghost use Rattle.std.specs.Prelude.{◌≡◌, IfOk, IfErr, IsOk};
-ghost use Rattle.der_core.specs.Faults.{FaultyFront};
-ghost use Rattle.pkcs1.specs.KeyFaults.{CountedFault};
-ghost use Rattle.der_core.specs.Reading.{ReadsEncoding, AllocatesWithin};
-ghost use Rattle.pkcs1.specs.KeyNumbers.{EightNumbers, numbers_of};
+ghost use Rattle.pkcs1.specs.KeyFaults.{Counted, CountedFault};
+ghost use Rattle.der_core.specs.Laws.Sequences.{EncodingGives, ContentsFaulty};
+ghost use Rattle.der_core.specs.Reading.{AllocatesWithin};
+ghost use Rattle.pkcs1.specs.PrivateKeyValue.{numbers_of};
 
 use crate::private_key::PrivateKeyOf;
 use der_core::{Decode, ErrorKind, Memory, Reader, Result, TryClone};
@@ -14,11 +14,10 @@ pub(crate) fn read_key_numbers<'a, M: Memory, U: Decode<&'a [u8], M>, O, R: Read
     memory: M,
     reader: &mut R,
 ) -> Result<PrivateKeyOf<U, O>>
-    ensures encoding { ReadsEncoding (numbers_of U.value) (EightNumbers U.encoding)
-        (AllocatesWithin U.Decode.may_allocate)
-        result (R.left reader.old) (R.left reader.new) }
-    ensures exact { let fault = CountedFault 8 U.encoding U.Decode.fault in
-        IfErr result (λ e. FaultyFront fault (AllocatesWithin U.Decode.may_allocate) e.kind (R.left reader.old)) }
+    ensures ok { IfOk result (λ key.
+        EncodingGives (Counted 8 U.encoding) (numbers_of U.value key) (R.left reader.old) (R.left reader.new)) }
+    ensures err { IfErr result (λ e. ContentsFaulty (CountedFault 8 U.encoding U.Decode.fault)
+        (AllocatesWithin U.Decode.may_allocate) e.kind (R.left reader.old) (R.left reader.new)) }
 {
     let modulus = U::decode(memory, reader)?;
     let public_exponent = U::decode(memory, reader)?;

@@ -5,8 +5,7 @@ ghost use Rattle.der_core.specs.Tag.{integer_tag};
 ghost use Rattle.der_core.specs.Integer.{Integer, IntegerContents, IsCanonical, integer_contents};
 ghost use Rattle.der_core.specs.Laws.Integer.{integer_delimited};
 ghost use Rattle.der_core.specs.declared.error.ErrorKind as der;
-ghost use Rattle.der_core.specs.Faults.{FaultyWhole};
-ghost use Rattle.der_core.specs.Reading.{ReadsContents, TellsOfBytes};
+ghost use Rattle.der_core.specs.Reading.{ReadsOrFaults, TellsOfBytes};
 ghost use Rattle.pkcs1.specs.KeyFaults.{OthersFault, NumberFault, PrivateKeyFault, RsaPrivateKeyFault};
 ghost use Rattle.der_core.specs.Tlv.{tlv};
 ghost use Rattle.pkcs1.specs.Keys as grammar;
@@ -54,10 +53,9 @@ fn read_listed<'a, R: Reader<&'a [u8]>>(
     reader: &mut R,
     version: Version,
 ) -> Result<Option<OtherPrimes<'a>>>
-    ensures reads { ReadsContents (option_map others_left) (OthersOf Integer (number_of version)) (λ _. ⊥)
-        result (R.left reader.old) (R.left reader.new) }
-    ensures exact { let fault = OthersFault Integer NumberFault (number_of version) in
-        IfErr result (λ e. FaultyWhole fault (λ _. ⊥) e.kind (R.left reader.old)) }
+    ensures { let grammar = OthersOf Integer (number_of version) in
+        let fault = OthersFault Integer NumberFault (number_of version) in
+        ReadsOrFaults (option_map others_left) grammar fault (λ _. ⊥) result (R.left reader.old) (R.left reader.new) }
 {
     let others: Option<OtherPrimes<'a>> = decode_optional(NoMemory, reader)?;
     if version.is_multi() != others.is_some() {

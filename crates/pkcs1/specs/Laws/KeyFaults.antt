@@ -18,7 +18,6 @@ use Rattle.der_core.specs.Laws.Encodings.{tlv_delimited, joins_map, joins_last}
 use Rattle.der_core.specs.Encodings.{IsDelimited, Joins}
 use Rattle.pkcs1.specs.KeyFaults.{PublicKeyFault, RsaPublicKeyFault, Counted, CountedFault, OtherPrimeFault, VersionFault, ListedFault, OthersFault, PrivateKeyFault, NumberFault, OneOtherFault, RsaPrivateKeyFault}
 use Rattle.pkcs1.specs.Keys.{PublicKey, PublicKeyContents, RsaPublicKey, RsaPrivateKey, OtherPrime, OtherPrimeContents, OtherPrimeInfo, OtherPrimeInfos, PrivateKey, PrivateKeyContents, version_of}
-use Rattle.pkcs1.specs.KeyNumbers.{EightNumbers}
 use Rattle.pkcs1.specs.Laws.PrivateKey.{other_delimited, joins_take, version_small, private_means_one}
 use Rattle.pkcs1.specs.Laws.PublicKey.{public_key_means_one}
 use Rattle.pkcs1.specs.Laws.Versions.{version_means_one}
@@ -225,26 +224,26 @@ module _ {V : Type 0} (encoding : V → List ℕ → Type 0) (Fault : ErrorKind 
   abbrev others_of : PrivateKey V → List ℕ → Type 0
   others_of key c = Joins (OtherPrimeInfos encoding key.other_prime_infos ∷ []) c
 
-  behind_version : (n : ℕ) → AreNone (λ c. (key : PrivateKey V) → version_of key.other_prime_infos ≡ n → Joins (map encoding (key_numbers key) ++ OtherPrimeInfos encoding key.other_prime_infos ∷ []) c → ⊥) (ThenFault (EightNumbers encoding) (CountedFault 8 encoding Fault) (λ _. OthersFault encoding Fault n))
+  behind_version : (n : ℕ) → AreNone (λ c. (key : PrivateKey V) → version_of key.other_prime_infos ≡ n → Joins (map encoding (key_numbers key) ++ OtherPrimeInfos encoding key.other_prime_infos ∷ []) c → ⊥) (ThenFault (Counted 8 encoding) (CountedFault 8 encoding Fault) (λ _. OthersFault encoding Fault n))
   behind_version n k c within fault =
       let told =
-      then_fault_none (EightNumbers encoding) (CountedFault 8 encoding Fault) (λ _. OthersFault encoding Fault n) (counted_delimited encoding Fault d none 8 (omega arith)) (counted_fault_none encoding Fault d none 8) (λ (v : OfVersion n). key_numbers v.0) (λ v. others_of v.0)
+      then_fault_none (Counted 8 encoding) (CountedFault 8 encoding Fault) (λ _. OthersFault encoding Fault n) (counted_delimited encoding Fault d none 8 (omega arith)) (counted_fault_none encoding Fault d none 8) (λ (v : OfVersion n). key_numbers v.0) (λ v. others_of v.0)
       (λ numbers j b few f. let t = others_fault_none encoding Fault d none n j b few f in (t.0, λ v _ p. t.1 v.0.other_prime_infos v.1 (joins_last b p))) k c within fault in
       (told.0, λ key agree p. let s = joins_take (map encoding (key_numbers key)) (OtherPrimeInfos encoding key.other_prime_infos ∷ []) c p in told.1 (key, agree) (s.0, s.1, (refl, s.2), s.3, s.4))
 
   pub private_key_fault_none : AreNone (NoneHas (PrivateKeyContents encoding)) (PrivateKeyFault encoding Fault)
   private_key_fault_none k c within fault =
       let told =
-      then_fault_none VersionEncoding (EncodingFault integer VersionFault) (λ n. ThenFault (EightNumbers encoding) (CountedFault 8 encoding Fault) (λ _. OthersFault encoding Fault n)) version_delimited version_none
+      then_fault_none VersionEncoding (EncodingFault integer VersionFault) (λ n. ThenFault (Counted 8 encoding) (CountedFault 8 encoding Fault) (λ _. OthersFault encoding Fault n)) version_delimited version_none
       (λ (key : PrivateKey V). version_of key.other_prime_infos) (λ key b. Joins (map encoding (key_numbers key) ++ OtherPrimeInfos encoding key.other_prime_infos ∷ []) b)
       (λ n j b few f. let t = behind_version n j b few f in (t.0, λ key agree p. t.1 key agree p)) k c within fault in
       (told.0, λ key p. told.1 key (p.0, p.1, as_version (version_of key.other_prime_infos) p.0 (version_small key.other_prime_infos) p.2, p.3, p.4))
 
   pub private_key_fault_first : AreFirst Fault → AreFirst (PrivateKeyFault encoding Fault)
   private_key_fault_first first =
-      then_fault_first VersionEncoding (EncodingFault integer VersionFault) (λ n. ThenFault (EightNumbers encoding) (CountedFault 8 encoding Fault) (λ _. OthersFault encoding Fault n)) version_delimited version_none
+      then_fault_first VersionEncoding (EncodingFault integer VersionFault) (λ n. ThenFault (Counted 8 encoding) (CountedFault 8 encoding Fault) (λ _. OthersFault encoding Fault n)) version_delimited version_none
       (encoding_fault_first integer VersionFault version_fault_first)
-      (λ n. then_fault_first (EightNumbers encoding) (CountedFault 8 encoding Fault) (λ _. OthersFault encoding Fault n) (counted_delimited encoding Fault d none 8 (omega arith)) (counted_fault_none encoding Fault d none 8)
+      (λ n. then_fault_first (Counted 8 encoding) (CountedFault 8 encoding Fault) (λ _. OthersFault encoding Fault n) (counted_delimited encoding Fault d none 8 (omega arith)) (counted_fault_none encoding Fault d none 8)
       (counted_fault_first encoding Fault d none 8 first) (λ _. others_fault_first encoding Fault d none first n))
 
 -- Keys whose numbers are INTEGERs.

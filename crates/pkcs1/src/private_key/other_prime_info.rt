@@ -1,8 +1,7 @@
 //! Other primes of private keys.
 ghost use Rattle.std.specs.Prelude.{◌≡◌, ◌≤◌, length, List, ℕ, ◌↔◌, IsTrue, None, IfOk, IsOk, IfErr, refl};
 ghost use Rattle.der_core.specs.Length.{limit};
-ghost use Rattle.der_core.specs.Faults.{FaultyWhole};
-ghost use Rattle.der_core.specs.Reading.{ReadsContents, AllocatesWithin};
+ghost use Rattle.der_core.specs.Reading.{ReadsOrFaults, AllocatesWithin};
 ghost use Rattle.pkcs1.specs.KeyFaults.{OthersFault};
 ghost use Rattle.der_core.specs.BackWriters.{free_of, Prepends};
 ghost use Rattle.der_core.specs.Writing.{Counts, Appends};
@@ -180,10 +179,9 @@ pub(crate) fn read_other_primes<'a, U: Decode<&'a [u8], Global>, R: Reader<&'a [
     reader: &mut R,
     version: Version,
 ) -> Result<Option<OtherPrimeInfos<U>>>
-    ensures reads { ReadsContents (others_of U.value) (OthersOf U.encoding (number_of version)) BeginsSequence
-        result (R.left reader.old) (R.left reader.new) }
-    ensures exact { let fault = OthersFault U.encoding U.Decode.fault (number_of version) in
-        IfErr result (λ e. FaultyWhole fault BeginsSequence e.kind (R.left reader.old)) }
+    ensures { let grammar = OthersOf U.encoding (number_of version) in
+        let fault = OthersFault U.encoding U.Decode.fault (number_of version) in
+        ReadsOrFaults (others_of U.value) grammar fault BeginsSequence result (R.left reader.old) (R.left reader.new) }
 {
     let others: Option<OtherPrimeInfos<U>> = decode_optional(memory, reader)?;
     if version.is_multi() != others.is_some() {
