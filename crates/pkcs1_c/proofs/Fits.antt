@@ -83,13 +83,13 @@ pss_fits p encoding m =
     let (hash, mask, d, (c, rc, salt, (t, rt, trailer, nil, et), ec), within) = hash_fields_fit p.hash p.mask_gen (field 2 Small 20 p.salt_len ∷ field 3 TrailerField 1 p.trailer_field ∷ []) m.1.contents m.1.holds few in
     let wc = front_within c rc d ec within in
     let wt = front_within t rt rc et wc.1 in
-    (hash, mask, field_fits TrailerField (λ n. n ≡ 1) trailer_fits 3 1 p.trailer_field t refl trailer wt.0)
+    (hash, (mask, field_fits TrailerField (λ n. n ≡ 1) trailer_fits 3 1 p.trailer_field t refl trailer wt.0))
 
 pub oaep_fits : (p : OaepParameters) (encoding : List ℕ) → Means RsaOaepParams encoding p → OaepFits p
 oaep_fits p encoding m =
     let few : length m.1.contents ≤ limit = omega (arith, contents_shorter encoding m.1, m.0) in
     let (hash, mask, d, (c, rc, source, nil, ec), within) = hash_fields_fit p.hash p.mask_gen (field 2 PlainAlgorithm empty_label p.p_source ∷ []) m.1.contents m.1.holds few in
-    (hash, mask, field_fits PlainAlgorithm PlainFits plain_fits 2 empty_label p.p_source c label_fits source (front_within c rc d ec within).0)
+    (hash, (mask, field_fits PlainAlgorithm PlainFits plain_fits 2 empty_label p.p_source c label_fits source (front_within c rc d ec within).0))
 
 -- More octets than the array has are no identifier.
 pub none_beyond : (len : ℕ) (octets : List ℕ) → 39 < len → IsIdentifier (if nat_le len 39 then take len octets else []) → ⊥

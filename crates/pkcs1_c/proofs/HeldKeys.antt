@@ -1,5 +1,5 @@
 -- Keys whose numbers can be held: they have encodings, and only the encoding is rejected.
-use Rattle.std.proofs.Common.{ℕ, List, [], ◌∷◌, ◌≡◌, ◌≢◌, ◌≤◌, ◌<◌, length, length-append, map, ap, subst, arith, Option, Some, None, inr}
+use Rattle.std.proofs.Common.{ℕ, List, [], ◌∷◌, ◌≡◌, ◌≢◌, ◌≤◌, ◌<◌, length, length-append, map, ap, arith, Option, Some, None}
 use Rattle.std.specs.declared.alloc.Global.{Global}
 use Rattle.std.specs.declared.vec.Vec.{Vec}
 use Rattle.der_core.specs.Document.{Means, HasEncoding}
@@ -23,9 +23,20 @@ use Rattle.pkcs1_c.specs.Given.{IsGiven}
 use Rattle.pkcs1_c.specs.Numbers.{IsNumberOf, ArePublicNumbers, AreOthersOf, AreOtherNumbers, ArePrivateNumbers}
 use Rattle.pkcs1_c.specs.NotWritten.{IsTooLong}
 use Rattle.pkcs1_c.specs.StructValues.{private_key_seen, other_prime_seen}
-use Rattle.pkcs1_c.specs.StructErrors.{EncodingError, NumberFits, NumbersThen, Nothing, two_numbers, eight_numbers, others_numbers, PublicEncodingError, PublicKeyError, PrivateEncodingError, PrivateKeyError}
+use Rattle.pkcs1_c.specs.StructErrors.{EncodingError, GivenError, NumberFits, NumbersError, NumbersThen, two_numbers, eight_numbers, others_numbers, given_numbers, PublicKeyError, PrivateKeyError}
 use Rattle.pkcs1_c.proofs.Given.{AreWithin, joins_hold, private_within, other_within, public_same, private_same}
-use Rattle.pkcs1_c.proofs.StructErrors.{IsOne, Unless, unless_one, unless_none, encoding_one, encoding_rejected, part_one, part_rest, numbers_one, numbers_rest, numbers_held, numbers_as}
+use Rattle.pkcs1_c.proofs.StructErrors.{IsOne, Unless, unless_one, unless_none, encoding_rejected, given_error, given_one, part_one, part_rest, numbers_part, fit_both}
+
+-- Why a key of given numbers isn't written: one status at most.
+module _ {V : Type 0} (numbers : List (List ℕ)) (IsTheGiven : V → Type 0) (Grammar : V → List ℕ → Type 0) (same : (v w : V) → IsTheGiven v → IsTheGiven w → v ≡ w) (room : ℕ) where
+  abbrev Behind : ℕ → Type 0
+  Behind = GivenError IsTheGiven Grammar room
+
+  key_one : IsOne (NumbersThen numbers Behind)
+  key_one = let part = numbers_part numbers in part_one (NumbersError numbers) (AllHave NumberFits numbers) Behind part.0 part.1 (given_one IsTheGiven Grammar same room)
+
+  key_error : AllHave NumberFits numbers → (v : V) → IsTheGiven v → (s : ℕ) → NumbersThen numbers Behind s → EncodingError Grammar v room s
+  key_error fits v given s p = given_error IsTheGiven Grammar same room v given s (part_rest (NumbersError numbers) (AllHave NumberFits numbers) Behind (numbers_part numbers).1 fits s p)
 
 -- Public keys.
 two_fit : (given made : PublicKey (List ℕ)) → ArePublicNumbers made given → length made.modulus ≤ limit → length made.public_exponent ≤ limit → AllHave NumberFits (two_numbers given)
@@ -40,31 +51,16 @@ public_some key =
     let e = borrowed_held key.public_exponent in
     public_made (public_key_of key) m.0 e.0 m.1 e.1
 
-pub public_rest : (given made : PublicKey (List ℕ)) (room : ℕ) → AllHave NumberFits (two_numbers given) → ArePublicNumbers made given → (s : ℕ) → PublicKeyError given room s → EncodingError RsaPublicKey made room s
-public_rest given made room fits are s p =
-    let (other, q, failure) = numbers_rest (two_numbers given) (PublicEncodingError given room) fits s p in
-    subst (λ k. EncodingError RsaPublicKey k room s) (public_same given other made q are) failure
-
--- The encoding is rejected, or a number.
-pub public_held : (given : PublicKey (List ℕ)) (room : ℕ) (made : declared_public.RsaPublicKey UintRef) → ArePublicNumbers (public_key_of made) given → (s : ℕ) → EncodingError RsaPublicKey (public_key_of made) room s → PublicKeyError given room s
-public_held given room made are s encoding =
-    let behind : PublicEncodingError given room s = (public_key_of made, are, encoding) in
-    numbers_held (two_numbers given) (PublicEncodingError given room) (public_fits made given are) s behind
-
-pub public_more : (given : PublicKey (List ℕ)) (room s : ℕ) → NumbersThen (two_numbers given) Nothing s → PublicKeyError given room s
-public_more given room s p = numbers_as (two_numbers given) Nothing (PublicEncodingError given room) s (λ none. absurd none) p
+pub public_error : (given made : PublicKey (List ℕ)) (room : ℕ) → AllHave NumberFits (two_numbers given) → ArePublicNumbers made given → (s : ℕ) → PublicKeyError given room s → EncodingError RsaPublicKey made room s
+public_error given made room fits = key_error (two_numbers given) (λ made. ArePublicNumbers made given) RsaPublicKey (public_same given) room fits made
 
 pub public_one : (given : PublicKey (List ℕ)) (room : ℕ) → IsOne (PublicKeyError given room)
-public_one given room =
-    numbers_one (two_numbers given) (PublicEncodingError given room) one
-  where
-    one : IsOne (PublicEncodingError given room)
-    one s t (k, a, p) (l, b, q) = encoding_one RsaPublicKey l room s t (subst (λ k. EncodingError RsaPublicKey k room s) (public_same given k l a b) p) q
+public_one given = key_one (two_numbers given) (λ made. ArePublicNumbers made given) RsaPublicKey (public_same given)
 
 pub public_rejected : (given : PublicKey (List ℕ)) (room s : ℕ) → s ≢ 15 → PublicKeyError given room s → (made : PublicKey (List ℕ)) → ArePublicNumbers made given → IsTooLong RsaPublicKey made
 public_rejected given room s other p made are encoding m =
     let w = joins_hold (made.modulus ∷ made.public_exponent ∷ []) [] m.1.contents limit m.1.holds (omega (arith, contents_shorter encoding m.1, m.0)) in
-    encoding_rejected RsaPublicKey made room s other (public_rest given made room (two_fit given made are w.0.0 w.0.1.0) are s p) encoding m
+    encoding_rejected RsaPublicKey made room s other (public_error given made room (two_fit given made are w.0.0 w.0.1.0) are s p) encoding m
 
 -- Other primes.
 abbrev OthersWithin : List (OtherPrime (List ℕ)) → Type 0
@@ -129,27 +125,21 @@ eight_fit key made others are w = (
 )
 
 abbrev pub AllFit : c.PrivateKey → List c_other.OtherPrime → Type 0
-AllFit key others = AllHave NumberFits (eight_numbers key) × AllHave NumberFits (others_numbers (map other_prime_seen others))
+AllFit key others = AllHave NumberFits (given_numbers key others)
 
 pub private_fits : (key : c.PrivateKey) (others : List c_other.OtherPrime) (made : Listed UintRef) → IsGiven key others (private_key_of made) → AllFit key others
-private_fits key others made given = (
-  eight_fit key (private_key_of made) (map other_prime_seen others) given.1 (
-    made.modulus.bounded,
-    (
-      made.public_exponent.bounded,
-      (
-        made.private_exponent.bounded,
-        (made.prime1.bounded, (made.prime2.bounded, (made.exponent1.bounded, (made.exponent2.bounded, (made.coefficient.bounded, tt))))),
-      ),
-    ),
-  ),
-  infos_fit (others_of bytes_of made.other_prime_infos) (map other_prime_seen others) given.1.8 (held_within made.other_prime_infos),
-)
+private_fits key others made given =
+    fit_both (eight_numbers key) (others_numbers (map other_prime_seen others))
+    (eight_fit key (private_key_of made) (map other_prime_seen others) given.1 (key_within made))
+    (infos_fit (others_of bytes_of made.other_prime_infos) (map other_prime_seen others) given.1.8 (held_within made.other_prime_infos))
+  where
+    key_within : (made : Listed UintRef) → AreWithin (key_numbers (private_key_of made)) limit
+    key_within made = (made.modulus.bounded, (made.public_exponent.bounded, (made.private_exponent.bounded, (made.prime1.bounded, (made.prime2.bounded, (made.exponent1.bounded, (made.exponent2.bounded, (made.coefficient.bounded, tt))))))))
 
 encoding_fits : (key : c.PrivateKey) (others : List c_other.OtherPrime) (made : PrivateKey (List ℕ)) (encoding : List ℕ) → IsGiven key others made → Means RsaPrivateKey encoding made → AllFit key others
 encoding_fits key others made encoding given m =
     let w = private_within made encoding m in
-    (eight_fit key made (map other_prime_seen others) given.1 w.0, infos_fit made.other_prime_infos (map other_prime_seen others) given.1.8 (infos_within made.other_prime_infos w.1 w.2 w.3))
+    fit_both (eight_numbers key) (others_numbers (map other_prime_seen others)) (eight_fit key made (map other_prime_seen others) given.1 w.0) (infos_fit made.other_prime_infos (map other_prime_seen others) given.1.8 (infos_within made.other_prime_infos w.1 w.2 w.3))
 
 others_canonical : (items : List (declared_other.OtherPrimeInfo UintRef)) → AllHave (λ other. AllHave IsCanonical (other_numbers other)) (map (other_of bytes_of) items)
 others_canonical [] = tt
@@ -193,11 +183,8 @@ private_some key given are =
 
 -- Of a key that is given.
 module _ (key : c.PrivateKey) (others : List c_other.OtherPrime) (room : ℕ) where
-  abbrev Behind : ℕ → Type 0
-  Behind = PrivateEncodingError key others room
-
-  abbrev OthersThen : ℕ → Type 0
-  OthersThen = NumbersThen (others_numbers (map other_prime_seen others)) Behind
+  abbrev Numbers : ℕ → Type 0
+  Numbers = NumbersThen (given_numbers key others) (GivenError (IsGiven key others) RsaPrivateKey room)
 
   abbrev AsMany : Type 0
   AsMany = key.other_primes ≡ length others
@@ -205,36 +192,17 @@ module _ (key : c.PrivateKey) (others : List c_other.OtherPrime) (room : ℕ) wh
   same : (k l : PrivateKey (List ℕ)) → IsGiven key others k → IsGiven key others l → k ≡ l
   same k l a b = private_same (private_key_seen key None) k l (map other_prime_seen others) a.1 b.1
 
-  behind_one : IsOne Behind
-  behind_one s t (k, a, p) (l, b, q) = encoding_one RsaPrivateKey l room s t (subst (λ k. EncodingError RsaPrivateKey k room s) (same k l a b) p) q
-
   pub private_one : IsOne (PrivateKeyError key others room)
   private_one =
-      part_one (Unless 21 AsMany) AsMany (NumbersThen (eight_numbers key) OthersThen) (unless_one 21 AsMany) (unless_none 21 AsMany)
-      (numbers_one (eight_numbers key) OthersThen (numbers_one (others_numbers (map other_prime_seen others)) Behind behind_one))
+      part_one (Unless 21 AsMany) AsMany Numbers (unless_one 21 AsMany) (unless_none 21 AsMany) (key_one (given_numbers key others) (IsGiven key others) RsaPrivateKey same room)
 
-  pub private_rest : (made : PrivateKey (List ℕ)) → IsGiven key others made → AllFit key others → (s : ℕ) → PrivateKeyError key others room s → EncodingError RsaPrivateKey made room s
-  private_rest made given fits s p =
-      let numbers = part_rest (Unless 21 AsMany) AsMany (NumbersThen (eight_numbers key) OthersThen) (unless_none 21 AsMany) given.0 s p in
-      let (other, q, failure) = numbers_rest (others_numbers (map other_prime_seen others)) Behind fits.1 s (numbers_rest (eight_numbers key) OthersThen fits.0 s numbers) in
-      subst (λ k. EncodingError RsaPrivateKey k room s) (same other made q given) failure
+  pub private_error : (made : PrivateKey (List ℕ)) → IsGiven key others made → AllFit key others → (s : ℕ) → PrivateKeyError key others room s → EncodingError RsaPrivateKey made room s
+  private_error made given fits s p =
+      key_error (given_numbers key others) (IsGiven key others) RsaPrivateKey same room fits made given s (part_rest (Unless 21 AsMany) AsMany Numbers (unless_none 21 AsMany) given.0 s p)
 
   pub private_rejected : (s : ℕ) → s ≢ 15 → PrivateKeyError key others room s → (made : PrivateKey (List ℕ)) → IsGiven key others made → IsTooLong RsaPrivateKey made
   private_rejected s other p made given encoding m =
-      encoding_rejected RsaPrivateKey made room s other (private_rest made given (encoding_fits key others made encoding given m) s p) encoding m
-
-  -- The encoding is rejected.
-  pub private_held : (made : Listed UintRef) → IsGiven key others (private_key_of made) → (s : ℕ) → EncodingError RsaPrivateKey (private_key_of made) room s → PrivateKeyError key others room s
-  private_held made given s encoding =
-      let fits = private_fits key others made given in
-      let behind : Behind s = (private_key_of made, given, encoding) in
-      inr (given.0, numbers_held (eight_numbers key) OthersThen fits.0 s (numbers_held (others_numbers (map other_prime_seen others)) Behind fits.1 s behind))
-
-  -- A number is rejected.
-  pub private_more : AsMany → (s : ℕ) → NumbersThen (eight_numbers key) (NumbersThen (others_numbers (map other_prime_seen others)) Nothing) s → PrivateKeyError key others room s
-  private_more many s p =
-      let behind = λ (q : NumbersThen (others_numbers (map other_prime_seen others)) Nothing s). numbers_as (others_numbers (map other_prime_seen others)) Nothing Behind s (λ none. absurd none) q in
-      inr (many, numbers_as (eight_numbers key) (NumbersThen (others_numbers (map other_prime_seen others)) Nothing) OthersThen s behind p)
+      encoding_rejected RsaPrivateKey made room s other (private_error made given (encoding_fits key others made encoding given m) s p) encoding m
 
 pub number_fits : (bytes : List ℕ) (number : UintRef) → IsNumberOf bytes (bytes_of number) → NumberFits bytes
 number_fits bytes number is = (bytes_of number, is, number.bounded)

@@ -43,10 +43,10 @@ pub mask_fits : (a : AlgorithmIdentifier (AlgorithmIdentifier AnyRef)) → MaskF
 mask_fits a = (identifier_held a.oid, under_fits a.parameters)
 
 pub held_pss_fits : (p : pss.RsaPssParams AnyRef) → PssFits (pss_of p)
-held_pss_fits p = (plain_fits p.hash, mask_fits p.mask_gen, refl)
+held_pss_fits p = (plain_fits p.hash, (mask_fits p.mask_gen, refl))
 
 pub held_oaep_fits : (p : oaep.RsaOaepParams AnyRef) → OaepFits (oaep_of p)
-held_oaep_fits p = (plain_fits p.hash, mask_fits p.mask_gen, plain_fits p.p_source)
+held_oaep_fits p = (plain_fits p.hash, (mask_fits p.mask_gen, plain_fits p.p_source))
 
 -- A field that is written.
 abbrev Written : ℕ → (List ℕ → Type 0) → Type 0

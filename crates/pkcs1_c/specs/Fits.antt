@@ -25,7 +25,7 @@ abbrev pub MaskFits : Algorithm (Algorithm TagAndContents) → Type 0
 MaskFits = AlgorithmFits PlainFits
 
 abbrev pub PssFits : PssParameters → Type 0
-PssFits p = PlainFits p.hash × MaskFits p.mask_gen × (p.trailer_field ≡ 1)
+PssFits p = PlainFits p.hash × (MaskFits p.mask_gen × (p.trailer_field ≡ 1))
 
 abbrev pub OaepFits : OaepParameters → Type 0
-OaepFits p = PlainFits p.hash × MaskFits p.mask_gen × PlainFits p.p_source
+OaepFits p = PlainFits p.hash × (MaskFits p.mask_gen × PlainFits p.p_source)

@@ -17,7 +17,7 @@ use Rattle.pkcs1_c.specs.declared.private_key.PrivateKey.{PrivateKey}
 use Rattle.pkcs1_c.specs.declared.private_key.OtherPrime.{OtherPrime}
 use Rattle.pkcs1_c.specs.declared.status.TheConstants.{LENGTH, OID_MALFORMED, OVERFLOW, TAG_UNKNOWN, VALUE, NO_ROOM, OTHER_PRIMES}
 use Rattle.pkcs1_c.specs.Containers.{info_seen, HoldsKey, KeyFault}
-use Rattle.pkcs1_c.specs.Fits.{PlainFits, MaskFits}
+use Rattle.pkcs1_c.specs.Fits.{PlainFits, MaskFits, PssFits, OaepFits}
 use Rattle.pkcs1_c.specs.Given.{IsGiven}
 use Rattle.pkcs1_c.specs.Numbers.{IsNumberOf, ArePublicNumbers}
 use Rattle.pkcs1_c.specs.NotWritten.{IsTooLong}
@@ -28,12 +28,11 @@ use Rattle.pkcs1_c.specs.StructValues.{private_key_seen, other_prime_seen}
 abbrev pub EncodingError : {V : Type 0} → (V → List ℕ → Type 0) → V → ℕ → ℕ → Type 0
 EncodingError Grammar v room status = ((status ≡ OVERFLOW) × IsTooLong Grammar v) ⊎ ((status ≡ NO_ROOM) × (encoding : List ℕ) × IsShortest Grammar v encoding × (room < length encoding))
 
--- The same for a value that may have no encoding at all.
-abbrev pub AnyEncodingError : {V : Type 0} → (V → List ℕ → Type 0) → V → ℕ → ℕ → Type 0
-AnyEncodingError Grammar v room status =
-    ((status ≡ VALUE) × ((encoding : List ℕ) → Grammar v encoding → ⊥)) ⊎ EncodingError Grammar v room status
+-- The same for the one value that is given.
+abbrev pub GivenError : {V : Type 0} → (V → Type 0) → (V → List ℕ → Type 0) → ℕ → ℕ → Type 0
+GivenError {V} IsTheGiven Grammar room status = (made : V) × IsTheGiven made × EncodingError Grammar made room status
 
--- A part can't be held; or it can, and what follows it isn't written.
+-- A part can't be held; or it can, and what follows it can't be, or isn't written.
 abbrev pub PartThen : (ℕ → Type 0) → Type 0 → (ℕ → Type 0) → ℕ → Type 0
 PartThen WhyNot Fits Rest status = WhyNot status ⊎ (Fits × Rest status)
 
@@ -45,21 +44,21 @@ NumberError bytes status =
 abbrev pub NumberFits : List ℕ → Type 0
 NumberFits bytes = (n : List ℕ) × IsNumberOf bytes n × (length n ≤ limit)
 
--- One of the numbers, in order, can't be held; or what follows them isn't written.
+-- One of the numbers, in order, can't be held.
+abbrev pub NumbersError : List (List ℕ) → ℕ → Type 0
+NumbersError [] status = ⊥
+NumbersError (bytes ∷ more) status = PartThen (NumberError bytes) (NumberFits bytes) (NumbersError more) status
+
+-- The numbers can't be held; or they can, and what follows them isn't written.
 abbrev pub NumbersThen : List (List ℕ) → (ℕ → Type 0) → ℕ → Type 0
-NumbersThen [] Rest status = Rest status
-NumbersThen (bytes ∷ more) Rest status = PartThen (NumberError bytes) (NumberFits bytes) (NumbersThen more Rest) status
+NumbersThen numbers = PartThen (NumbersError numbers) (AllHave NumberFits numbers)
 
 abbrev pub two_numbers : keys.PublicKey (List ℕ) → List (List ℕ)
 two_numbers key = key.modulus ∷ key.public_exponent ∷ []
 
--- The key with these numbers isn't written.
-abbrev pub PublicEncodingError : keys.PublicKey (List ℕ) → ℕ → ℕ → Type 0
-PublicEncodingError given room status =
-    (made : keys.PublicKey (List ℕ)) × ArePublicNumbers made given × EncodingError keys.RsaPublicKey made room status
-
 abbrev pub PublicKeyError : keys.PublicKey (List ℕ) → ℕ → ℕ → Type 0
-PublicKeyError given room = NumbersThen (two_numbers given) (PublicEncodingError given room)
+PublicKeyError given room =
+    NumbersThen (two_numbers given) (GivenError (λ made. ArePublicNumbers made given) keys.RsaPublicKey room)
 
 -- The eight numbers of a key, and those of its other primes.
 abbrev pub eight_numbers : PrivateKey → List (List ℕ)
@@ -69,16 +68,15 @@ abbrev pub others_numbers : List (keys.OtherPrime (List ℕ)) → List (List ℕ
 others_numbers [] = []
 others_numbers (other ∷ others) = other_numbers other ++ others_numbers others
 
-abbrev pub PrivateEncodingError : PrivateKey → List OtherPrime → ℕ → ℕ → Type 0
-PrivateEncodingError key others room status =
-    (made : keys.PrivateKey (List ℕ)) × IsGiven key others made × EncodingError keys.RsaPrivateKey made room status
+abbrev pub given_numbers : PrivateKey → List OtherPrime → List (List ℕ)
+given_numbers key others = eight_numbers key ++ others_numbers (map other_prime_seen others)
 
 -- There aren't as many other primes as the key says; or one of the numbers can't be held; or the key isn't written. Out
 -- of memory is left out here.
 abbrev pub PrivateKeyError : PrivateKey → List OtherPrime → ℕ → ℕ → Type 0
 PrivateKeyError key others room =
     PartThen (λ status. (status ≡ OTHER_PRIMES) × (key.other_primes ≢ length others)) (key.other_primes ≡ length others)
-    (NumbersThen (eight_numbers key) (NumbersThen (others_numbers (map other_prime_seen others)) (PrivateEncodingError key others room)))
+    (NumbersThen (given_numbers key others) (GivenError (IsGiven key others) keys.RsaPrivateKey room))
 
 -- Memory may be needed for other primes, once the eight numbers can be held.
 abbrev pub MayRunOutOfMemory : PrivateKey → List OtherPrime → Type 0
@@ -112,24 +110,19 @@ PlainError = AlgorithmError AnyError
 abbrev pub MaskError : Algorithm (Algorithm TagAndContents) → ℕ → Type 0
 MaskError = AlgorithmError PlainError
 
--- One of the fields that both types of parameters begin with can't be held; or what follows them isn't written.
+-- One of the fields that both types of parameters begin with can't be held, or what follows them.
 abbrev pub HashFieldsThen : Algorithm TagAndContents → Algorithm (Algorithm TagAndContents) → (ℕ → Type 0) → ℕ → Type 0
 HashFieldsThen hash mask_gen Rest =
     PartThen (PlainError hash) (PlainFits hash) (PartThen (MaskError mask_gen) (MaskFits mask_gen) Rest)
 
-abbrev pub PssThen : PssParameters → (ℕ → Type 0) → ℕ → Type 0
-PssThen p Rest =
-    HashFieldsThen p.hash p.mask_gen (PartThen (λ status. (status ≡ VALUE) × (p.trailer_field ≢ 1)) (p.trailer_field ≡ 1) Rest)
+abbrev pub PssFieldError : PssParameters → ℕ → Type 0
+PssFieldError p = HashFieldsThen p.hash p.mask_gen (λ status. (status ≡ VALUE) × (p.trailer_field ≢ 1))
 
 abbrev pub PssError : PssParameters → ℕ → ℕ → Type 0
-PssError p room = PssThen p (EncodingError RsaPssParams p room)
+PssError p room = PartThen (PssFieldError p) (PssFits p) (EncodingError RsaPssParams p room)
 
-abbrev pub OaepThen : OaepParameters → (ℕ → Type 0) → ℕ → Type 0
-OaepThen p Rest = HashFieldsThen p.hash p.mask_gen (PartThen (PlainError p.p_source) (PlainFits p.p_source) Rest)
+abbrev pub OaepFieldError : OaepParameters → ℕ → Type 0
+OaepFieldError p = HashFieldsThen p.hash p.mask_gen (PlainError p.p_source)
 
 abbrev pub OaepError : OaepParameters → ℕ → ℕ → Type 0
-OaepError p room = OaepThen p (EncodingError RsaOaepParams p room)
-
--- Nothing follows the parts.
-abbrev pub Nothing : ℕ → Type 0
-Nothing status = ⊥
+OaepError p room = PartThen (OaepFieldError p) (OaepFits p) (EncodingError RsaOaepParams p room)

@@ -10,7 +10,7 @@ ghost use Rattle.pkcs1_params.specs.Parameters.{oaep_fields};
 ghost use Rattle.spki_core.specs.StrictFields.{WritesDefault};
 ghost use Rattle.pkcs1_c.specs.Status.{kind_number, status_of, IsNumberOfFault};
 ghost use Rattle.pkcs1_c.specs.StructValues.{oaep_seen, OaepIsTidy};
-ghost use Rattle.pkcs1_c.specs.StructErrors.{Nothing, OaepThen, OaepError};
+ghost use Rattle.pkcs1_c.specs.StructErrors.{OaepError, OaepFieldError};
 
 use crate::algorithm::{
     Algorithm, MaskGen, from_c_algorithm, from_c_mask_gen, to_c_algorithm, to_c_mask_gen,
@@ -46,7 +46,7 @@ fn to_c_oaep<'a>(read: &RsaOaepParamsRef<'a>) -> OaepParams<'a>
 /// The parameters of a C struct.
 fn from_c_oaep<'a>(params: &OaepParams<'a>) -> pkcs1::Result<RsaOaepParamsRef<'a>>
     ensures ok { IfOk result (λ made. oaep_of made ≡ oaep_seen params.now) }
-    ensures err { IfErr result (λ e. OaepThen (oaep_seen params.now) Nothing (status_of e)) }
+    ensures err { IfErr result (λ e. OaepFieldError (oaep_seen params.now) (status_of e)) }
 {
     Ok(RsaOaepParams {
         hash: from_c_algorithm(&params.hash)?,

@@ -16,8 +16,8 @@ ghost use Rattle.pkcs1_c.specs.Given.{IsGiven};
 ghost use Rattle.pkcs1_c.specs.Numbers.{IsOtherOf, AreOtherNumbers};
 ghost use Rattle.pkcs1_c.specs.NotWritten.{IsTooLong, HasNoRoom};
 ghost use Rattle.pkcs1.specs.Writing.{other_numbers};
-ghost use Rattle.pkcs1_c.specs.StructErrors.{Nothing, NumbersThen, PrivateKeyError, MayRunOutOfMemory, eight_numbers};
-ghost use Rattle.pkcs1_c.specs.StructErrors.{others_numbers};
+ghost use Rattle.pkcs1_c.specs.StructErrors.{NumbersError, PrivateKeyError, MayRunOutOfMemory};
+ghost use Rattle.pkcs1_c.specs.StructErrors.{given_numbers, others_numbers};
 
 use crate::numbers::number;
 use crate::status::{NO_ROOM, OK, OTHER_PRIMES, OUT_OF_MEMORY, status};
@@ -150,8 +150,7 @@ pub extern "C" fn pkcs1_c_private_key_decode<'a>(
 /// The prime with these numbers.
 fn from_c_other_prime<'a>(other: &OtherPrime<'a>) -> pkcs1::Result<OtherPrimeInfo<UintRef<'a>>>
     ensures ok { IfOk result (λ info. IsOtherOf (other_prime_seen other.now) (other_of bytes_of info)) }
-    ensures err { let numbers = other_numbers (other_prime_seen other.now) in
-        IfErr result (λ e. NumbersThen numbers Nothing (status_of e)) }
+    ensures err { IfErr result (λ e. NumbersError (other_numbers (other_prime_seen other.now)) (status_of e)) }
 {
     Ok(OtherPrimeInfo {
         prime: number(other.prime)?,
@@ -181,7 +180,7 @@ fn from_c_other_primes<'a>(
 ) -> pkcs1::Result<Option<OtherPrimeInfos<UintRef<'a>>>>
     ensures ok { IfOk result (λ infos. AreOtherNumbers (others_of bytes_of infos) (map other_prime_seen others.now)) }
     ensures err { let numbers = others_numbers (map other_prime_seen others.now) in
-        IfErr result (λ e. status_of e ≢ OUT_OF_MEMORY → NumbersThen numbers Nothing (status_of e)) }
+        IfErr result (λ e. status_of e ≢ OUT_OF_MEMORY → NumbersError numbers (status_of e)) }
     ensures some { IfErr result (λ e. 0 < length others.now) }
 {
     if others.is_empty() {
@@ -203,8 +202,8 @@ fn from_c_key<'a>(
 ) -> pkcs1::Result<RsaPrivateKeyRef<'a>>
     requires { key.now.other_primes ≡ length others.now }
     ensures ok { IfOk result (λ made. IsGiven key.now others.now (private_key_of made)) }
-    ensures err { let of_others = NumbersThen (others_numbers (map other_prime_seen others.now)) Nothing in
-        IfErr result (λ e. status_of e ≢ OUT_OF_MEMORY → NumbersThen (eight_numbers key.now) of_others (status_of e)) }
+    ensures err { let numbers = given_numbers key.now others.now in
+        IfErr result (λ e. status_of e ≢ OUT_OF_MEMORY → NumbersError numbers (status_of e)) }
     ensures memory { IfErr result (λ e. status_of e ≡ OUT_OF_MEMORY → MayRunOutOfMemory key.now others.now) }
 {
     Ok(RsaPrivateKey {

@@ -10,7 +10,7 @@ ghost use Rattle.pkcs1_params.specs.Parameters.{pss_fields};
 ghost use Rattle.spki_core.specs.StrictFields.{WritesDefault};
 ghost use Rattle.pkcs1_c.specs.Status.{kind_number, status_of, IsNumberOfFault};
 ghost use Rattle.pkcs1_c.specs.StructValues.{pss_seen, PssIsTidy};
-ghost use Rattle.pkcs1_c.specs.StructErrors.{Nothing, PssThen, PssError};
+ghost use Rattle.pkcs1_c.specs.StructErrors.{PssError, PssFieldError};
 
 use crate::algorithm::{
     Algorithm, MaskGen, from_c_algorithm, from_c_mask_gen, to_c_algorithm, to_c_mask_gen,
@@ -51,7 +51,7 @@ fn to_c_pss<'a>(read: &RsaPssParamsRef<'a>) -> PssParams<'a>
 fn from_c_pss<'a>(params: &PssParams<'a>) -> pkcs1::Result<RsaPssParamsRef<'a>>
     ensures ok { IfOk result (λ made. pss_of made ≡ pss_seen params.now) }
     ensures small { IfOk result (λ made. made.salt_len < 256) }
-    ensures err { IfErr result (λ e. PssThen (pss_seen params.now) Nothing (status_of e)) }
+    ensures err { IfErr result (λ e. PssFieldError (pss_seen params.now) (status_of e)) }
 {
     let hash = from_c_algorithm(&params.hash)?;
     let mask_gen = from_c_mask_gen(&params.mask_gen)?;

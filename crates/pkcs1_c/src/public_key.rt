@@ -7,7 +7,7 @@ ghost use Rattle.pkcs1.specs.PublicKeyValue.{public_key_of};
 ghost use Rattle.pkcs1_c.specs.Numbers.{ArePublicNumbers};
 ghost use Rattle.pkcs1_c.specs.NotWritten.{IsTooLong, HasNoRoom};
 ghost use Rattle.pkcs1_c.specs.StructValues.{public_key_seen};
-ghost use Rattle.pkcs1_c.specs.StructErrors.{Nothing, NumbersThen, PublicKeyError, two_numbers};
+ghost use Rattle.pkcs1_c.specs.StructErrors.{NumbersError, PublicKeyError, two_numbers};
 ghost use Rattle.der_core.specs.declared.error.ErrorKind as der;
 ghost use Rattle.pkcs1.specs.KeyFaults.{RsaPublicKeyFault};
 ghost use Rattle.pkcs1_c.specs.Status.{kind_number, status_of, IsNumberOfFault};
@@ -53,8 +53,7 @@ pub extern "C" fn pkcs1_c_public_key_decode<'a>(encoding: &'a [u8], key: &mut Pu
 /// The key with these numbers.
 fn from_c_key<'a>(key: &PublicKey<'a>) -> pkcs1::Result<RsaPublicKeyRef<'a>>
     ensures ok { IfOk result (λ made. ArePublicNumbers (public_key_of made) (public_key_seen key.now)) }
-    ensures err { let numbers = two_numbers (public_key_seen key.now) in
-        IfErr result (λ e. NumbersThen numbers Nothing (status_of e)) }
+    ensures err { IfErr result (λ e. NumbersError (two_numbers (public_key_seen key.now)) (status_of e)) }
 {
     Ok(RsaPublicKey {
         modulus: number(key.modulus)?,

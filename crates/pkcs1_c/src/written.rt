@@ -1,8 +1,8 @@
 //! Encoding into a caller's slice.
-ghost use Rattle.std.specs.Prelude.{◌≡◌, ◌≢◌, ◌≤◌, length, take, drop};
-ghost use Rattle.der_core.specs.Document.{IsShortest};
+ghost use Rattle.std.specs.Prelude.{◌≡◌, ◌≢◌, ◌≤◌, ℕ, length, take, drop};
+ghost use Rattle.der_core.specs.Document.{HasEncoding, IsShortest};
 ghost use Rattle.pkcs1_c.specs.NotWritten.{HasNoRoom};
-ghost use Rattle.pkcs1_c.specs.StructErrors.{AnyEncodingError};
+ghost use Rattle.pkcs1_c.specs.StructErrors.{EncodingError};
 
 use crate::status::{NO_ROOM, OK, kind_number};
 use der_core::Encode;
@@ -10,10 +10,13 @@ use der_core::Encode;
 /// Writes the shortest encoding of the value to the front of `out`. Returns 0, with its length in `len`, or `NO_ROOM`,
 /// with the needed length in `len`, or another status, with `len` unchanged.
 pub(crate) fn write_encoding<T: Encode>(value: &T, out: &mut [u8], len: &mut usize) -> u32
+    requires { HasEncoding T.encoding (T.value value.now) }
     ensures ok { result ≡ OK → IsShortest T.encoding (T.value value.now) (take len.new out.new) }
     ensures rest { result ≡ OK → (len.new ≤ length out.new) × (drop len.new out.new ≡ drop len.new out.old) }
     ensures no_room { result ≡ NO_ROOM → HasNoRoom T.encoding (T.value value.now) (length out.old) len.new }
-    ensures exact { result ≢ OK → AnyEncodingError T.encoding (T.value value.now) (length out.old) result }
+    ensures exact { result ≢ OK → EncodingError T.encoding (T.value value.now) (length out.old) result }
+    ensures only { (status : ℕ) → EncodingError T.encoding (T.value value.now) (length out.old) status
+        → result ≡ status }
     ensures unchanged { result ≢ OK → out.new ≡ out.old }
     ensures kept { result ≢ OK → result ≢ NO_ROOM → len.new ≡ len.old }
 {

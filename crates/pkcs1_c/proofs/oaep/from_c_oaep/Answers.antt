@@ -15,4 +15,4 @@ returns-in_err-from_c_algorithm-2-clause-err c =
     let hash = subst PlainFits c.in_ok-from_c_algorithm.ensures.ok (plain_fits c.in_ok-from_c_algorithm.field-0) in
     let mask = subst MaskFits c.in_ok-from_c_mask_gen.ensures.ok (mask_fits c.in_ok-from_c_mask_gen.field-0) in
     let p = err_from_is_err_and c.from_residual-in_err-from_c_algorithm-2.result c.from_residual-in_err-from_c_algorithm-2.ensures.1 in
-    rw (p.1, p.2) (inr (hash, inr (mask, inl c.in_err-from_c_algorithm-2.ensures.err)))
+    rw (p.1, p.2) (inr (hash, inr (mask, c.in_err-from_c_algorithm-2.ensures.err)))

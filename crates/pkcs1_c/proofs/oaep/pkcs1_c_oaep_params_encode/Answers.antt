@@ -1,13 +1,15 @@
-use Rattle.std.proofs.Common.{length, sym, subst, ◌∙◌, inl, inr}
+use Rattle.std.proofs.Common.{length, sym, subst, arith, inl, inr}
 use Rattle.pkcs1_params.specs.Parameters.{RsaOaepParams}
-use Rattle.pkcs1_params.specs.OaepValue.{oaep_of}
 use Rattle.pkcs1_c.specs.Fits.{OaepFits}
 use Rattle.pkcs1_c.specs.StructValues.{oaep_seen}
-use Rattle.pkcs1_c.specs.StructErrors.{OaepError}
+use Rattle.pkcs1_c.specs.StructErrors.{EncodingError, OaepFieldError}
 use Rattle.pkcs1_c.proofs.Fits.{oaep_fits}
 use Rattle.pkcs1_c.proofs.HeldParameters.{held_oaep_fits, oaep_some}
-use Rattle.pkcs1_c.proofs.StructErrors.{only_by, written_none, has_some, encoding_rejected, oaep_one, oaep_rest, oaep_held, oaep_more, oaep_told}
+use Rattle.pkcs1_c.proofs.StructErrors.{encoding_one, encoding_rejected, part_one, part_rest, oaep_part}
 use Rattle.pkcs1_c.proofs.oaep.pkcs1_c_oaep_params_encode.Goals as goal
+
+pub write_encoding-requires : goal.write_encoding-requires
+write_encoding-requires c = oaep_some c.in-Ok.made
 
 pub returns-in-Ok-clause-ok : goal.returns-in-Ok-clause-ok
 returns-in-Ok-clause-ok c = λ zero. rw (c.in-Ok.ensures.ok) at c.write_encoding.ensures.ok zero
@@ -16,51 +18,37 @@ pub returns-in-Ok-clause-no_room : goal.returns-in-Ok-clause-no_room
 returns-in-Ok-clause-no_room c = λ full. rw (c.in-Ok.ensures.ok) at c.write_encoding.ensures.no_room full
 
 pub returns-in-Ok-clause-exact : goal.returns-in-Ok-clause-exact
-returns-in-Ok-clause-exact c = λ no.
-    let room = length c.args.out.now in
-    let r = c.write_encoding.result in
-    let made = c.in-Ok.made in
-    let encoding = has_some RsaOaepParams (oaep_of made) room (oaep_some made) r (c.write_encoding.ensures.exact no) in
-    subst (λ p. OaepError p room r) c.in-Ok.ensures.ok (oaep_held (oaep_of made) room (held_oaep_fits made) r encoding)
+returns-in-Ok-clause-exact c = λ no. inr (subst OaepFits c.in-Ok.ensures.ok (held_oaep_fits c.in-Ok.made), rw (c.in-Ok.ensures.ok) at c.write_encoding.ensures.exact no)
 
 pub returns-in-Ok-clause-only : goal.returns-in-Ok-clause-only
-returns-in-Ok-clause-only c =
+returns-in-Ok-clause-only c s p =
     let seen = oaep_seen c.args.params.now in
-    let room = length c.args.out.now in
     let fits = subst OaepFits c.in-Ok.ensures.ok (held_oaep_fits c.in-Ok.made) in
-    only_by (OaepError seen room) (oaep_one seen room) c.write_encoding.result
-    (λ zero s p. written_none RsaOaepParams seen c.args.out.now c.write_encoding.new.out c.write_encoding.new.len c.write_encoding.auto.out (rw (c.in-Ok.ensures.ok) at c.write_encoding.ensures.ok zero) (c.write_encoding.ensures.rest zero).0 s (oaep_rest seen room fits s p))
-    (returns-in-Ok-clause-exact c)
+    let encoding = part_rest (OaepFieldError seen) (OaepFits seen) (EncodingError RsaOaepParams seen (length c.args.out.now)) (oaep_part seen).1 fits s p in
+    c.write_encoding.ensures.only s (rw (sym c.in-Ok.ensures.ok) at encoding)
 
 pub returns-in-Ok-clause-rejected : goal.returns-in-Ok-clause-rejected
-returns-in-Ok-clause-rejected c = λ no other.
-    let seen = oaep_seen c.args.params.now in
-    let room = length c.args.out.now in
-    let fits = subst OaepFits c.in-Ok.ensures.ok (held_oaep_fits c.in-Ok.made) in
-    encoding_rejected RsaOaepParams seen room c.write_encoding.result other (oaep_rest seen room fits c.write_encoding.result (returns-in-Ok-clause-exact c no))
+returns-in-Ok-clause-rejected c = λ no other. encoding_rejected RsaOaepParams _ _ _ other (rw (c.in-Ok.ensures.ok) at c.write_encoding.ensures.exact no)
 
 pub returns-in-Err-clause-ok : goal.returns-in-Err-clause-ok
-returns-in-Err-clause-ok c = λ zero. absurd (oaep_told (oaep_seen c.args.params.now) _ c.in-Err.ensures.err (inl (sym c.status.ensures ∙ zero)))
+returns-in-Err-clause-ok c = λ zero. absurd (omega (arith, zero, c.status.ensures, ((oaep_part _).2 _ c.in-Err.ensures.err).0))
 
 pub returns-in-Err-clause-rest : goal.returns-in-Err-clause-rest
-returns-in-Err-clause-rest c = λ zero. absurd (oaep_told (oaep_seen c.args.params.now) _ c.in-Err.ensures.err (inl (sym c.status.ensures ∙ zero)))
+returns-in-Err-clause-rest c = λ zero. absurd (omega (arith, zero, c.status.ensures, ((oaep_part _).2 _ c.in-Err.ensures.err).0))
 
 pub returns-in-Err-clause-no_room : goal.returns-in-Err-clause-no_room
-returns-in-Err-clause-no_room c = λ full. absurd (oaep_told (oaep_seen c.args.params.now) _ c.in-Err.ensures.err (inr (sym c.status.ensures ∙ full)))
+returns-in-Err-clause-no_room c = λ full. absurd (omega (arith, full, c.status.ensures, ((oaep_part _).2 _ c.in-Err.ensures.err).1))
 
 pub returns-in-Err-clause-exact : goal.returns-in-Err-clause-exact
-returns-in-Err-clause-exact c = λ _.
-    let room = length c.args.out.now in
-    subst (OaepError (oaep_seen c.args.params.now) room) (sym c.status.ensures) (oaep_more (oaep_seen c.args.params.now) room _ c.in-Err.ensures.err)
+returns-in-Err-clause-exact c = λ _. inl (subst (OaepFieldError (oaep_seen c.args.params.now)) (sym c.status.ensures) c.in-Err.ensures.err)
 
 pub returns-in-Err-clause-only : goal.returns-in-Err-clause-only
 returns-in-Err-clause-only c s p =
     let seen = oaep_seen c.args.params.now in
     let room = length c.args.out.now in
-    oaep_one seen room c.status.result s (subst (OaepError seen room) (sym c.status.ensures) (oaep_more seen room _ c.in-Err.ensures.err)) p
+    let part = oaep_part seen in
+    let err = subst (OaepFieldError seen) (sym c.status.ensures) c.in-Err.ensures.err in
+    part_one (OaepFieldError seen) (OaepFits seen) (EncodingError RsaOaepParams seen room) part.0 part.1 (encoding_one RsaOaepParams seen room) c.status.result s (inl err) p
 
 pub returns-in-Err-clause-rejected : goal.returns-in-Err-clause-rejected
-returns-in-Err-clause-rejected c = λ no other encoding m.
-    let seen = oaep_seen c.args.params.now in
-    let room = length c.args.out.now in
-    encoding_rejected RsaOaepParams seen room c.status.result other (oaep_rest seen room (oaep_fits seen encoding m) c.status.result (returns-in-Err-clause-exact c no)) encoding m
+returns-in-Err-clause-rejected c = λ _ _ encoding m. absurd ((oaep_part _).1 _ c.in-Err.ensures.err (oaep_fits _ encoding m))

@@ -5,15 +5,14 @@ use Rattle.pkcs1_c.specs.declared.private_key.PrivateKey as view
 use Rattle.pkcs1_c.specs.declared.private_key.OtherPrime.{OtherPrime}
 use Rattle.pkcs1_c.specs.Status.{status_of}
 use Rattle.pkcs1_c.specs.StructValues.{other_prime_seen}
-use Rattle.pkcs1_c.specs.StructErrors.{Nothing, NumberFits, NumbersThen, MayRunOutOfMemory, eight_numbers, others_numbers}
+use Rattle.pkcs1_c.specs.StructErrors.{NumberFits, NumbersError, MayRunOutOfMemory, eight_numbers, given_numbers, others_numbers}
 use Rattle.pkcs1_c.proofs.Given.{err_all, err_handed}
 use Rattle.pkcs1_c.proofs.HeldKeys.{number_fits}
-use Rattle.pkcs1_c.proofs.StructErrors.{numbers_held}
+use Rattle.pkcs1_c.proofs.StructErrors.{numbers_behind}
 use Rattle.pkcs1_c.proofs.private_key.from_c_key.Goals as goal
 
--- The eight numbers, then those of the other primes.
 abbrev pub Told : view.PrivateKey → List OtherPrime → Error → Type 0
-Told key others e = status_of e ≢ 17 → NumbersThen (eight_numbers key) (NumbersThen (others_numbers (map other_prime_seen others)) Nothing) (status_of e)
+Told key others e = status_of e ≢ 17 → NumbersError (given_numbers key others) (status_of e)
 
 pub returns-in_err-number-4-clause-err : goal.returns-in_err-number-4-clause-err
 returns-in_err-number-4-clause-err c =
@@ -43,9 +42,8 @@ returns-in_err-number-8-clause-err c =
 pub returns-in_err-from_c_other_primes-clause-err : goal.returns-in_err-from_c_other_primes-clause-err
 returns-in_err-from_c_other_primes-clause-err c =
     let fits : AllHave NumberFits (eight_numbers c.args.key.now) = (number_fits c.args.key.now.modulus.now c.in_ok-number.field-0 c.in_ok-number.ensures.ok, (number_fits c.args.key.now.public_exponent.now c.in_ok-number-2.field-0 c.in_ok-number-2.ensures.ok, (number_fits c.args.key.now.private_exponent.now c.in_ok-number-3.field-0 c.in_ok-number-3.ensures.ok, (number_fits c.args.key.now.prime1.now c.in_ok-number-4.field-0 c.in_ok-number-4.ensures.ok, (number_fits c.args.key.now.prime2.now c.in_ok-number-5.field-0 c.in_ok-number-5.ensures.ok, (number_fits c.args.key.now.exponent1.now c.in_ok-number-6.field-0 c.in_ok-number-6.ensures.ok, (number_fits c.args.key.now.exponent2.now c.in_ok-number-7.field-0 c.in_ok-number-7.ensures.ok, (number_fits c.args.key.now.coefficient.now c.in_ok-number-8.field-0 c.in_ok-number-8.ensures.ok, tt)))))))) in
-    let others = NumbersThen (others_numbers (map other_prime_seen c.args.others.now)) Nothing in
     err_handed (Told c.args.key.now c.args.others.now) c.in_err-from_c_other_primes.field-0.0 _ c.from_residual-in_err-from_c_other_primes.ensures.1
-    (λ other. numbers_held (eight_numbers c.args.key.now) others fits (status_of c.in_err-from_c_other_primes.field-0.0) (c.in_err-from_c_other_primes.ensures.err other))
+    (λ other. numbers_behind (eight_numbers c.args.key.now) (others_numbers (map other_prime_seen c.args.others.now)) fits (status_of c.in_err-from_c_other_primes.field-0.0) (c.in_err-from_c_other_primes.ensures.err other))
 
 pub returns-in_err-from_c_other_primes-clause-memory : goal.returns-in_err-from_c_other_primes-clause-memory
 returns-in_err-from_c_other_primes-clause-memory c =

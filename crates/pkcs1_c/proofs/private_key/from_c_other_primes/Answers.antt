@@ -5,7 +5,7 @@ use Rattle.pkcs1_params.specs.declared.error.Error.{Error}
 use Rattle.pkcs1_c.specs.declared.private_key.OtherPrime.{OtherPrime}
 use Rattle.pkcs1_c.specs.Status.{status_of}
 use Rattle.pkcs1_c.specs.StructValues.{other_prime_seen}
-use Rattle.pkcs1_c.specs.StructErrors.{Nothing, NumbersThen, others_numbers}
+use Rattle.pkcs1_c.specs.StructErrors.{NumbersError, others_numbers}
 use Rattle.pkcs1_c.proofs.Given.{err_handed}
 use Rattle.pkcs1_c.proofs.HeldKeys.{items_fit}
 use Rattle.pkcs1_c.proofs.Lists.{others_step}
@@ -18,7 +18,7 @@ loop-other-preserved c =
     c.loop-other-test.true c.loop-other.invariant c.in_ok-info.ensures.ok c.in_ok-push_other.ensures.ok
 
 abbrev pub Told : List OtherPrime → Error → Type 0
-Told others e = status_of e ≢ 17 → NumbersThen (others_numbers (map other_prime_seen others)) Nothing (status_of e)
+Told others e = status_of e ≢ 17 → NumbersError (others_numbers (map other_prime_seen others)) (status_of e)
 
 pub returns-in_err-info-clause-err : goal.returns-in_err-info-clause-err
 returns-in_err-info-clause-err c =

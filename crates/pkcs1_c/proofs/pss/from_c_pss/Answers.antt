@@ -15,4 +15,4 @@ pub returns-then-params-ne1-clause-err : goal.returns-then-params-ne1-clause-err
 returns-then-params-ne1-clause-err c =
     let hash = subst PlainFits c.in_ok-hash.ensures.ok (plain_fits c.in_ok-hash.hash) in
     let mask = subst MaskFits c.in_ok-mask_gen.ensures.ok (mask_fits c.in_ok-mask_gen.mask_gen) in
-    inr (hash, inr (mask, inl (ap (λ e. kind_number e.kind) c.new.ensures, c.if-params-ne1.true)))
+    inr (hash, inr (mask, (ap (λ e. kind_number e.kind) c.new.ensures, c.if-params-ne1.true)))
