@@ -1,6 +1,6 @@
 //! Documents from sources and to sinks that move a few bytes per call, or fail at one; and documents in files.
 use crate::checks::{equal, holds};
-use crate::doubles::{Full, RefusingOnce, giving, refusing_at, taking};
+use crate::doubles::{FailingReader, Full, failing_at, giving, taking};
 use der_core::{Document, Error, ErrorKind, FromRead, SecretDocument, Sink, Source, ToWrite};
 use std::alloc::Global;
 use std::fs;
@@ -9,7 +9,7 @@ use std::test::Fail;
 
 const TEXT: &[u8] = &[0x30, 0x06, 0x02, 0x01, 0x07, 0x02, 0x01, 0x03];
 
-const REFUSED: Error = Error {
+const FILE_ERROR: Error = Error {
     kind: ErrorKind::File,
 };
 
@@ -23,14 +23,14 @@ fn documents_come_from_sources(rt: HostRuntime) -> Result<(), Fail> {
     for call in 1..10 {
         let mut source = giving(TEXT, call);
         let answer = Document::read_from(alloc, &mut source);
-        equal(&rt, (answer, source.faults()), (Err(REFUSED), 1));
+        equal(&rt, (answer, source.faults()), (Err(FILE_ERROR), 1));
     }
     let mut source = giving(TEXT, 1);
     source.faults = u64::MAX;
     let answer = Document::read_from(alloc, &mut source);
-    equal(&rt, (answer, source.faults()), (Err(REFUSED), u64::MAX));
+    equal(&rt, (answer, source.faults()), (Err(FILE_ERROR), u64::MAX));
     let answer = SecretDocument::read_from(alloc, &mut giving(TEXT, 3));
-    equal(&rt, answer.map(|_| ()), Err(REFUSED));
+    equal(&rt, answer.map(|_| ()), Err(FILE_ERROR));
     let answer = Document::read_from(alloc, &mut giving(&[0x30, 0x06, 0x02], 0));
     equal(&rt, answer, Err(Error::new(ErrorKind::Incomplete)));
     Ok(())
@@ -48,10 +48,10 @@ fn documents_go_to_sinks(rt: HostRuntime) -> Result<(), Fail> {
     secret.write_to(&mut sink)?;
     equal(&rt, (sink.taken.as_slice(), sink.flushes), (TEXT, 1));
     let mut sink = taking(alloc, 2);
-    equal(&rt, document.write_to(&mut sink), Err(REFUSED));
+    equal(&rt, document.write_to(&mut sink), Err(FILE_ERROR));
     equal(&rt, sink.taken.as_slice(), [0x30, 0x06, 0x02].as_slice());
     let mut sink = ToWrite::new(Full);
-    equal(&rt, document.write_to(&mut sink), Err(REFUSED));
+    equal(&rt, document.write_to(&mut sink), Err(FILE_ERROR));
     equal(&rt, sink.faults(), 1);
     Ok(())
 }
@@ -81,32 +81,32 @@ fn long_documents_come_and_go_in_pieces(rt: HostRuntime) -> Result<(), Fail> {
     let mut source = FromRead::new(encoding.as_slice());
     let secret = SecretDocument::read_from(alloc, &mut source)?;
     holds(&rt, secret.as_bytes() == encoding.as_slice());
-    let mut sink = refusing_at(alloc, 0);
+    let mut sink = failing_at(alloc, 0);
     secret.write_to(&mut sink)?;
     holds(&rt, sink.into_inner().taken == encoding);
     Ok(())
 }
 
 #[test]
-fn a_refusal_of_std_is_told_once(rt: HostRuntime) -> Result<(), Fail> {
+fn an_error_of_std_is_told_once(rt: HostRuntime) -> Result<(), Fail> {
     let alloc = rt.alloc();
-    let mut source = FromRead::new(RefusingOnce {
+    let mut source = FromRead::new(FailingReader {
         left: TEXT,
         calls: 0,
     });
     let answer = Document::read_from(alloc, &mut source);
-    equal(&rt, (answer, source.faults()), (Err(REFUSED), 1));
+    equal(&rt, (answer, source.faults()), (Err(FILE_ERROR), 1));
     let document = Document::read_from(alloc, &mut source)?;
     equal(&rt, (document.as_bytes(), source.faults()), (TEXT, 1));
-    let mut sink = refusing_at(alloc, 1);
-    equal(&rt, document.write_to(&mut sink), Err(REFUSED));
+    let mut sink = failing_at(alloc, 1);
+    equal(&rt, document.write_to(&mut sink), Err(FILE_ERROR));
     equal(&rt, sink.faults(), 1);
     document.write_to(&mut sink)?;
     equal(&rt, sink.faults(), 1);
     let writer = sink.into_inner();
     equal(&rt, (writer.taken.as_slice(), writer.calls), (TEXT, 3));
-    let mut sink = refusing_at(alloc, 2);
-    equal(&rt, document.write_to(&mut sink), Err(REFUSED));
+    let mut sink = failing_at(alloc, 2);
+    equal(&rt, document.write_to(&mut sink), Err(FILE_ERROR));
     equal(&rt, sink.faults(), 1);
     let writer = sink.into_inner();
     equal(&rt, (writer.taken.as_slice(), writer.calls), (TEXT, 2));
@@ -120,7 +120,7 @@ fn documents_go_through_files(rt: HostRuntime) -> Result<(), Fail> {
     let secret = SecretDocument::from_der(alloc, TEXT)?;
     let path = Path::new("document.der");
     let absent = Document::read_der_file(&rt, alloc, path);
-    equal(&rt, absent, Err(REFUSED));
+    equal(&rt, absent, Err(FILE_ERROR));
     fs::write(&rt, path, "an old text that is longer")?;
     let old = Document::read_der_file(&rt, alloc, path);
     equal(&rt, old.is_err(), true);
@@ -137,7 +137,7 @@ fn documents_go_through_files(rt: HostRuntime) -> Result<(), Fail> {
     equal(&rt, held_secret.as_slice(), TEXT);
     equal(&rt, read_secret.as_bytes(), TEXT);
     let nowhere = Path::new("no_such_folder/document.der");
-    equal(&rt, document.write_der_file(&rt, nowhere), Err(REFUSED));
-    equal(&rt, secret.write_der_file(&rt, nowhere), Err(REFUSED));
+    equal(&rt, document.write_der_file(&rt, nowhere), Err(FILE_ERROR));
+    equal(&rt, secret.write_der_file(&rt, nowhere), Err(FILE_ERROR));
     Ok(())
 }

@@ -6,12 +6,12 @@ use std::alloc::Global;
 use std::io;
 use std::io::{Read, Write};
 
-/// A source that gives up to `most` bytes per call and fails at call number `refused`, counted from 1.
+/// A source that gives up to `most` bytes per call and fails at call number `failing`, counted from 1.
 #[derive(Drop)]
 pub struct Slow<'a> {
     pub left: &'a [u8],
     pub most: usize,
-    pub rejected: u64,
+    pub failing: u64,
     pub calls: u64,
     pub faults: u64,
 }
@@ -23,7 +23,7 @@ impl<'a> Source for Slow<'a> {
 
     fn read(&mut self, buf: &mut [u8]) -> Result<usize> {
         self.calls = self.calls.saturating_add(1);
-        if self.calls == self.rejected {
+        if self.calls == self.failing {
             self.faults = self.faults.saturating_add(1);
             return Err(Error::new(ErrorKind::Failed));
         }
@@ -40,22 +40,22 @@ impl<'a> Source for Slow<'a> {
 }
 
 /// A source that gives one byte per call.
-pub fn giving(left: &[u8], rejected: u64) -> Slow<'_> {
+pub fn giving(left: &[u8], failing: u64) -> Slow<'_> {
     Slow {
         left,
         most: 1,
-        rejected,
+        failing,
         calls: 0,
         faults: 0,
     }
 }
 
-/// A sink that takes up to `most` bytes per call and fails at call number `refused`, counted from 1.
+/// A sink that takes up to `most` bytes per call and fails at call number `failing`, counted from 1.
 #[derive(Drop)]
 pub struct Narrow {
     pub taken: Vec<u8>,
     pub most: usize,
-    pub rejected: u64,
+    pub failing: u64,
     pub calls: u64,
     pub flushes: u64,
     pub faults: u64,
@@ -69,7 +69,7 @@ impl Sink for Narrow {
     fn write(&mut self, bytes: &[u8]) -> Result<usize> {
         self.calls = self.calls.saturating_add(1);
         let count = self.most.max(1).min(bytes.len());
-        if self.calls == self.rejected || self.taken.extend_from_slice(&bytes[..count]).is_err() {
+        if self.calls == self.failing || self.taken.extend_from_slice(&bytes[..count]).is_err() {
             self.faults = self.faults.saturating_add(1);
             return Err(Error::new(ErrorKind::Failed));
         }
@@ -87,11 +87,11 @@ impl Sink for Narrow {
 }
 
 /// A sink that takes up to three bytes per call.
-pub fn taking(alloc: Global, rejected: u64) -> Narrow {
+pub fn taking(alloc: Global, failing: u64) -> Narrow {
     Narrow {
         taken: Vec::new(alloc),
         most: 3,
-        rejected,
+        failing,
         calls: 0,
         flushes: 0,
         faults: 0,
@@ -114,12 +114,12 @@ impl Write for Full {
 
 /// A reader whose first call fails.
 #[derive(Drop)]
-pub struct RefusingOnce<'a> {
+pub struct FailingReader<'a> {
     pub left: &'a [u8],
     pub calls: u64,
 }
 
-impl Read for RefusingOnce<'_> {
+impl Read for FailingReader<'_> {
     fn read(&mut self, buf: &mut [u8]) -> io::Result<usize> {
         self.calls = self.calls.saturating_add(1);
         if self.calls == 1 {
@@ -129,26 +129,26 @@ impl Read for RefusingOnce<'_> {
     }
 }
 
-/// A writer that takes all bytes of each call, but fails at call number `refused`, counted from 1 over writes and
+/// A writer that takes all bytes of each call, but fails at call number `failing`, counted from 1 over writes and
 /// flushes.
 #[derive(Drop)]
-pub struct Refusing {
+pub struct FailingWriter {
     pub taken: Vec<u8>,
-    pub rejected: u64,
+    pub failing: u64,
     pub calls: u64,
 }
 
-impl Refusing {
+impl FailingWriter {
     fn call(&mut self, bytes: &[u8]) -> io::Result<()> {
         self.calls = self.calls.saturating_add(1);
-        if self.calls == self.rejected || self.taken.extend_from_slice(bytes).is_err() {
+        if self.calls == self.failing || self.taken.extend_from_slice(bytes).is_err() {
             return Err(io::Error::from(io::ErrorKind::Other));
         }
         Ok(())
     }
 }
 
-impl Write for Refusing {
+impl Write for FailingWriter {
     fn write(&mut self, buf: &[u8]) -> io::Result<usize> {
         self.call(buf)?;
         Ok(buf.len())
@@ -159,10 +159,10 @@ impl Write for Refusing {
     }
 }
 
-pub fn refusing_at(alloc: Global, rejected: u64) -> ToWrite<Refusing> {
-    ToWrite::new(Refusing {
+pub fn failing_at(alloc: Global, failing: u64) -> ToWrite<FailingWriter> {
+    ToWrite::new(FailingWriter {
         taken: Vec::new(alloc),
-        rejected,
+        failing,
         calls: 0,
     })
 }

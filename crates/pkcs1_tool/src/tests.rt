@@ -5,7 +5,7 @@ use crate::fault::Fault;
 use crate::plan::{Plan, plan_of, status};
 use crate::run::run;
 use der_core::{FromRead, Sink, Source, ToWrite};
-use doubles::{Full, Many, Narrow, Refusing, RefusingOnce, Slow};
+use doubles::{FailingReader, FailingWriter, Full, Many, Narrow, Slow};
 use std::test::Fail;
 
 const INPUT: &[u8; 45] = b"pub 3006020107020103\n\npub 300602010702010300\n";
@@ -32,48 +32,48 @@ fn answers_lines(rt: HostRuntime) -> Result<(), Fail> {
 }
 
 #[test]
-fn stops_on_a_rejected_read(rt: HostRuntime) {
-    for rejected in 0..48 {
+fn stops_on_a_failed_read(rt: HostRuntime) {
+    for failing in 0..48 {
         let mut source = Slow {
             left: INPUT,
-            rejected,
+            failing,
             calls: 0,
             faults: 0,
         };
         let mut sink = ToWrite::new(Vec::new(rt.alloc()));
         let done = run(rt.alloc(), &mut source, &mut sink);
-        let stops = rejected >= 1 && rejected <= 46;
+        let stops = failing >= 1 && failing <= 46;
         let (want, output) = if stops {
             (Err(Fault::Read), b"".as_slice())
         } else {
             (Ok(()), OUTPUT.as_slice())
         };
-        assert_eq!(rt; done, want, "at {rejected}");
+        assert_eq!(rt; done, want, "at {failing}");
         assert_eq!(rt; source.faults() == 1, stops);
         assert_eq!(rt; sink.into_inner().as_slice(), output);
     }
 }
 
 #[test]
-fn stops_on_a_rejected_write(rt: HostRuntime) {
+fn stops_on_a_failed_write(rt: HostRuntime) {
     for (step, calls) in [(1, 54), (3, 19)] {
-        for rejected in 0..calls + 2 {
+        for failing in 0..calls + 2 {
             let mut sink = Narrow {
                 taken: Vec::new(rt.alloc()),
                 step,
-                rejected,
+                failing,
                 calls: 0,
                 flushes: 0,
                 faults: 0,
             };
             let done = run(rt.alloc(), &mut FromRead::new(INPUT.as_slice()), &mut sink);
-            let stops = rejected >= 1 && rejected <= calls;
-            assert_eq!(rt; done == Err(Fault::Write), stops, "at {rejected}");
-            assert_eq!(rt; done == Ok(()), !stops, "at {rejected}");
+            let stops = failing >= 1 && failing <= calls;
+            assert_eq!(rt; done == Err(Fault::Write), stops, "at {failing}");
+            assert_eq!(rt; done == Ok(()), !stops, "at {failing}");
             assert_eq!(rt; sink.faults() == 1, stops);
             assert_eq!(rt; sink.flushes == 1, !stops);
             assert!(rt; OUTPUT.starts_with(sink.taken.as_slice()));
-            assert!(rt; step == 3 || !stops || sink.taken.len() as u64 + 1 == rejected);
+            assert!(rt; step == 3 || !stops || sink.taken.len() as u64 + 1 == failing);
             assert!(rt; stops || sink.taken.len() == 54);
         }
     }
@@ -95,11 +95,11 @@ fn stops_past_the_longest_input(rt: HostRuntime) {
     }
 }
 
-/// Runs into a writer that fails at the call of number `refused`: the result, the sink's failed calls, and the writer.
-fn into_sink(rt: &HostRuntime, rejected: u64) -> (Result<(), Fault>, u64, Refusing) {
-    let mut sink = ToWrite::new(Refusing {
+/// Runs into a writer that fails at the call of number `failing`: the result, the sink's failed calls, and the writer.
+fn into_sink(rt: &HostRuntime, failing: u64) -> (Result<(), Fault>, u64, FailingWriter) {
+    let mut sink = ToWrite::new(FailingWriter {
         taken: Vec::new(rt.alloc()),
-        rejected,
+        failing,
         calls: 0,
     });
     let done = run(rt.alloc(), &mut FromRead::new(INPUT.as_slice()), &mut sink);
@@ -107,8 +107,8 @@ fn into_sink(rt: &HostRuntime, rejected: u64) -> (Result<(), Fault>, u64, Refusi
 }
 
 #[test]
-fn stops_on_the_first_refusal_of_std(rt: HostRuntime) {
-    let mut source = FromRead::new(RefusingOnce {
+fn stops_on_the_first_error_of_std(rt: HostRuntime) {
+    let mut source = FromRead::new(FailingReader {
         left: INPUT,
         calls: 0,
     });
@@ -120,10 +120,10 @@ fn stops_on_the_first_refusal_of_std(rt: HostRuntime) {
     let done = run(rt.alloc(), &mut FromRead::new(b"\n".as_slice()), &mut sink);
     assert_eq!(rt; done, Err(Fault::Write));
     assert_eq!(rt; sink.faults(), 1);
-    for (rejected, output) in [(1, 0), (2, 37), (3, 46), (4, 54)] {
-        let (done, faults, writer) = into_sink(&rt, rejected);
-        assert_eq!(rt; done, Err(Fault::Write), "at {rejected}");
-        assert_eq!(rt; (faults, writer.calls), (1, rejected));
+    for (failing, output) in [(1, 0), (2, 37), (3, 46), (4, 54)] {
+        let (done, faults, writer) = into_sink(&rt, failing);
+        assert_eq!(rt; done, Err(Fault::Write), "at {failing}");
+        assert_eq!(rt; (faults, writer.calls), (1, failing));
         assert_eq!(rt; writer.taken.as_slice(), &OUTPUT[..output]);
     }
     let (done, faults, writer) = into_sink(&rt, 5);

@@ -4,11 +4,11 @@ ghost use Rattle.std.specs.Prelude.{◌≡◌, ◌<◌, Some, None};
 use der_core::{Error, ErrorKind, Result, Sink, Source};
 use std::io::{self, Read, Write};
 
-/// Gives one byte per call, and fails at the call of number `refused`, counted from 1.
+/// Gives one byte per call, and fails at the call of number `failing`, counted from 1.
 #[derive(Drop)]
 pub struct Slow<'a> {
     pub left: &'a [u8],
-    pub rejected: u64,
+    pub failing: u64,
     pub calls: u64,
     pub faults: u64,
 }
@@ -20,7 +20,7 @@ impl<'a> Source for Slow<'a> {
 
     fn read(&mut self, buf: &mut [u8]) -> Result<usize> {
         self.calls = self.calls.saturating_add(1);
-        if self.calls == self.rejected {
+        if self.calls == self.failing {
             self.faults = self.faults.saturating_add(1);
             return Err(Error::new(ErrorKind::File));
         }
@@ -60,12 +60,12 @@ impl Source for Many {
     }
 }
 
-/// Takes at most `step` bytes per call, and fails at the call of number `refused`, counted from 1.
+/// Takes at most `step` bytes per call, and fails at the call of number `failing`, counted from 1.
 #[derive(Drop)]
 pub struct Narrow {
     pub taken: Vec<u8>,
     pub step: usize,
-    pub rejected: u64,
+    pub failing: u64,
     pub calls: u64,
     pub flushes: u64,
     pub faults: u64,
@@ -80,7 +80,7 @@ impl Sink for Narrow {
     fn write(&mut self, bytes: &[u8]) -> Result<usize> {
         self.calls = self.calls.saturating_add(1);
         let count = self.step.min(bytes.len());
-        if self.calls == self.rejected || self.taken.extend_from_slice(&bytes[..count]).is_err() {
+        if self.calls == self.failing || self.taken.extend_from_slice(&bytes[..count]).is_err() {
             self.faults = self.faults.saturating_add(1);
             return Err(Error::new(ErrorKind::File));
         }
@@ -99,12 +99,12 @@ impl Sink for Narrow {
 
 /// A reader that fails at its first call, and gives its bytes from then on.
 #[derive(Drop)]
-pub struct RefusingOnce<'a> {
+pub struct FailingReader<'a> {
     pub left: &'a [u8],
     pub calls: u64,
 }
 
-impl Read for RefusingOnce<'_> {
+impl Read for FailingReader<'_> {
     ghost remaining = { λ _. None };
 
     fn read(&mut self, buf: &mut [u8]) -> io::Result<usize> {
@@ -116,26 +116,26 @@ impl Read for RefusingOnce<'_> {
     }
 }
 
-/// A writer that fails at the call of number `refused`, counted from 1, be it to write or to flush; in each other call
+/// A writer that fails at the call of number `failing`, counted from 1, be it to write or to flush; in each other call
 /// it takes all bytes.
 #[derive(Drop)]
-pub struct Refusing {
+pub struct FailingWriter {
     pub taken: Vec<u8>,
-    pub rejected: u64,
+    pub failing: u64,
     pub calls: u64,
 }
 
-impl Refusing {
+impl FailingWriter {
     fn call(&mut self, bytes: &[u8]) -> io::Result<()> {
         self.calls = self.calls.saturating_add(1);
-        if self.calls == self.rejected || self.taken.extend_from_slice(bytes).is_err() {
+        if self.calls == self.failing || self.taken.extend_from_slice(bytes).is_err() {
             return Err(io::Error::from(io::ErrorKind::Other));
         }
         Ok(())
     }
 }
 
-impl Write for Refusing {
+impl Write for FailingWriter {
     ghost contents = { λ _. None };
 
     fn write(&mut self, bytes: &[u8]) -> io::Result<usize> {
