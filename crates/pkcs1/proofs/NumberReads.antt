@@ -21,7 +21,6 @@ nothing encoding = record { split = λ c is. ([], c, refl, is, refl) }
 
 module _ {V : Type 0} {encoding : V → List ℕ → Type 0} where
   infixl 10 ◌▸◌
-
   -- and one more
   pub ◌▸◌ : {vs : List V} {v : V} {before mid after : Input} → GivesAll encoding vs before mid → EncodingGives encoding v mid after → GivesAll encoding (vs ++ v ∷ []) before after
   ◌▸◌ {vs} {v} all one = record {
