@@ -98,7 +98,8 @@ fn read_encoding<'a, T: DecodeValue<&'a [u8], M> + FixedTag, M: Memory, R: Reade
     ensures exact { let may = Tlv T.TAG.octet T.DecodeValue.may_allocate in
         IfErr result (λ e. FaultyFront (EncodingFault T.TAG T.DecodeValue.fault) may e.kind (R.left reader.old)) }
 {
-    let header = Header::decode(reader)?;
+    let tag = T::TAG;
+    let header = Header::decode_likely(reader, tag)?;
     if header.tag != T::TAG {
         return Err(reader.error(ErrorKind::TagUnexpected {
             expected: T::TAG,

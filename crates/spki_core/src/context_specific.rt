@@ -143,7 +143,7 @@ fn read_inside<'a, T: Decode<&'a [u8], M>, M: Memory, R: Reader<&'a [u8]>>(
         let fault = EncodingFault tag (AloneFault T.encoding T.Decode.fault) in
         IfErr result (λ e. FaultyFront fault may e.kind (R.left reader.old)) }
 {
-    let header = Header::decode(reader)?;
+    let header = Header::decode_likely(reader, tag)?;
     if header.tag != tag {
         return Err(reader.error(ErrorKind::TagUnexpected {
             expected: tag,
