@@ -82,11 +82,11 @@ impl FieldRef<'_> {
     {
         let number = self.number();
         match *self {
-            FieldRef::Hash(hash) => field_len(false, number, hash),
-            FieldRef::MaskGen(mask_gen) => field_len(false, number, mask_gen),
-            FieldRef::SaltLen(salt_len) => field_len(false, number, &salt_len),
-            FieldRef::Trailer(trailer) => field_len(false, number, &trailer),
-            FieldRef::PSource(p_source) => field_len(false, number, p_source),
+            FieldRef::Hash(hash) => field_len(number, hash),
+            FieldRef::MaskGen(mask_gen) => field_len(number, mask_gen),
+            FieldRef::SaltLen(salt_len) => field_len(number, &salt_len),
+            FieldRef::Trailer(trailer) => field_len(number, &trailer),
+            FieldRef::PSource(p_source) => field_len(number, p_source),
         }
     }
 
@@ -119,11 +119,11 @@ impl FieldRef<'_> {
     {
         let number = self.number();
         match *self {
-            FieldRef::Hash(hash) => prepend_field(false, number, hash, writer),
-            FieldRef::MaskGen(mask_gen) => prepend_field(false, number, mask_gen, writer),
-            FieldRef::SaltLen(salt_len) => prepend_field(false, number, &salt_len, writer),
-            FieldRef::Trailer(trailer) => prepend_field(false, number, &trailer, writer),
-            FieldRef::PSource(p_source) => prepend_field(false, number, p_source, writer),
+            FieldRef::Hash(hash) => prepend_field(number, hash, writer),
+            FieldRef::MaskGen(mask_gen) => prepend_field(number, mask_gen, writer),
+            FieldRef::SaltLen(salt_len) => prepend_field(number, &salt_len, writer),
+            FieldRef::Trailer(trailer) => prepend_field(number, &trailer, writer),
+            FieldRef::PSource(p_source) => prepend_field(number, p_source, writer),
         }
     }
 }

@@ -5,6 +5,7 @@ ghost use Rattle.der_core.specs.BackWriters.{free_of, Prepends};
 ghost use Rattle.der_core.specs.Writing.{Counts, Appends};
 ghost use Rattle.der_core.specs.declared.tag.Tag.{Tag};
 ghost use Rattle.der_core.specs.Tag.{context_tag};
+ghost use Rattle.der_core.specs.Tlv.{tlv};
 ghost use Rattle.der_core.specs.Faults.{EncodingFault, AloneFault, FaultyFront, OnlyFront};
 ghost use Rattle.spki_core.specs.Allocating.{FieldAllocates};
 ghost use Rattle.spki_core.specs.Faults.{NextFault};
@@ -45,17 +46,12 @@ pub fn read_field<'a, T: Decode<&'a [u8], M>, M: Memory, R: Reader<&'a [u8]>>(
     }
 }
 
-/// The length of what is written for a field, which may be left out.
-pub fn field_len<T: Encode>(left_out: bool, tag_number: TagNumber, value: &T) -> Result<Length>
+/// The length of a field that is written.
+pub fn field_len<T: Encode>(tag_number: TagNumber, value: &T) -> Result<Length>
     ensures { let v = T.value value.now in
-        Counts (HasField left_out (T.has_encoding v)) (written_field left_out tag_number.value (T.written_encoding v))
-        result }
+        Counts (T.has_encoding v) (tlv (context_tag tag_number.value) (T.written_encoding v)) result }
 {
-    if left_out {
-        Ok(Length::ZERO)
-    } else {
-        ContextSpecificRef { tag_number, value }.encoded_len()
-    }
+    ContextSpecificRef { tag_number, value }.encoded_len()
 }
 
 /// Appends a field, which may be left out.
@@ -77,21 +73,14 @@ pub fn encode_field<T: Encode, W: Writer>(
     }
 }
 
-/// Writes a field in front of what is filled, or leaves it out.
-pub fn prepend_field<T: Encode>(
-    left_out: bool,
-    tag_number: TagNumber,
-    value: &T,
-    writer: &mut BackWriter<'_>,
-)
-    requires has { HasField left_out (T.has_encoding (T.value value.now)) }
-    requires fits { length (written_field left_out tag_number.value (T.written_encoding (T.value value.now))) ≤ limit }
-    requires room { length (written_field left_out tag_number.value (T.written_encoding (T.value value.now)))
+/// Writes a field in front of what is filled.
+pub fn prepend_field<T: Encode>(tag_number: TagNumber, value: &T, writer: &mut BackWriter<'_>)
+    requires has { T.has_encoding (T.value value.now) }
+    requires fits { length (tlv (context_tag tag_number.value) (T.written_encoding (T.value value.now))) ≤ limit }
+    requires room { length (tlv (context_tag tag_number.value) (T.written_encoding (T.value value.now)))
         ≤ free_of writer.old }
-    ensures { Prepends (written_field left_out tag_number.value (T.written_encoding (T.value value.now)))
+    ensures { Prepends (tlv (context_tag tag_number.value) (T.written_encoding (T.value value.now)))
         writer.old writer.new }
 {
-    if !left_out {
-        ContextSpecificRef { tag_number, value }.prepend(writer);
-    }
+    ContextSpecificRef { tag_number, value }.prepend(writer);
 }
