@@ -1,6 +1,6 @@
 //! Spellings of parameters: a mask says which of their defaults are written.
 ghost use Rattle.std.specs.Prelude.{◌≡◌, ◌≤◌, ◌<◌, ◌+◌, ◌++◌, ◌^◌, ℕ, List, length, take, drop, OnOk, OnErr, IfOk};
-ghost use Rattle.std.specs.Prelude.{IfErr};
+ghost use Rattle.std.specs.Prelude.{IfErr, true};
 ghost use Rattle.der_core.specs.Tag.{sequence_tag};
 ghost use Rattle.der_core.specs.BackWriters.{free_of, Prepends};
 ghost use Rattle.der_core.specs.Length.{limit};
@@ -17,7 +17,7 @@ ghost use Rattle.pkcs1_params.specs.Spellings.{HasTwoToTheDefaults, encodings_in
 ghost use Rattle.pkcs1_params.specs.Meanings.{IsWritingError};
 ghost use Rattle.pkcs1_params.specs.DefaultBits.{bits_of};
 ghost use Rattle.pkcs1_params.specs.Parts.{FieldValue, AreNumbered, defaults_in, fields_with, Fielded, HasFields};
-ghost use Rattle.pkcs1_params.specs.Parts.{written_fields};
+ghost use Rattle.pkcs1_params.specs.Parts.{NoneWritten, written_fields};
 ghost use Rattle.pkcs1_params.specs.MaskedValues.{MaskedValue, InRange, FieldContents, MaskedValueContents, HasMasked};
 ghost use Rattle.pkcs1_params.specs.MaskedValues.{written_masked, masked_means_one, masked_of_bytes, masked_relates};
 ghost use Rattle.pkcs1_params.specs.MaskedValues.{masked_least};
@@ -117,6 +117,9 @@ impl<T: DefaultFields> TaggedBy for Spelling<'_, T> {
 
 impl<T: DefaultFields> EncodeValue for Spelling<'_, T> {
     fn value_len(&self) -> der_core::Result<Length> {
+        if self.is_empty() {
+            return Ok(Length::ZERO);
+        }
         self.params.len_under(self.changed, self.mask)
     }
 
@@ -125,6 +128,9 @@ impl<T: DefaultFields> EncodeValue for Spelling<'_, T> {
     }
 
     fn prepend_value(&self, writer: &mut BackWriter<'_>) {
+        if self.is_empty() {
+            return;
+        }
         self.params.prepend_under(self.changed, self.mask, writer);
     }
 
@@ -166,6 +172,14 @@ pub(crate) fn encode_shortest<T: DefaultFields>(params: &T, out: &mut [u8]) -> R
 }
 
 impl<T: DefaultFields> Spelling<'_, T> {
+    /// Whether no field is written: each has its default, and the mask names none of them.
+    #[inline(always)]
+    fn is_empty(&self) -> bool
+        ensures { result ≡ true → NoneWritten (T.values (T.params self.now.params.now)) self.now.mask }
+    {
+        self.changed == 0 && self.mask == 0
+    }
+
     ghost use Rattle.std.specs.Prelude.{◌⊎◌};
     ghost use Rattle.der_core.specs.Tlv.{tlv};
 
