@@ -3,20 +3,18 @@ ghost use Rattle.pkcs1_params.specs.Meanings.{TellsFault};
 ghost use Rattle.pkcs1_params.specs.ParameterFaults.{RsaPssParamsFault, RsaOaepParamsFault};
 ghost use Rattle.pkcs1_params.specs.Parameters as grammar;
 
-use crate::error::Error;
-use crate::oaep::RsaOaepParamsRef;
-use crate::pss::RsaPssParamsRef;
-use der_core::ErrorKind;
+use crate::oaep_view::OaepView;
+use crate::pss_view::PssView;
+use der_core::{Decode, ErrorKind, NoMemory};
 
 /// The first fault of bytes that aren't RSASSA-PSS parameters, of which they have exactly one; `None` if they are such
 /// parameters.
 pub fn fault_of_pss_params(bytes: &[u8]) -> Option<ErrorKind>
     ensures { TellsFault grammar.RsaPssParams RsaPssParamsFault bytes.now result }
 {
-    match RsaPssParamsRef::try_from(bytes) {
+    match PssView::from_der(NoMemory, bytes) {
         Ok(_) => None,
-        Err(Error::Asn1(error)) => Some(error.kind()),
-        Err(_) => unreachable!(),
+        Err(error) => Some(error.kind()),
     }
 }
 
@@ -25,9 +23,8 @@ pub fn fault_of_pss_params(bytes: &[u8]) -> Option<ErrorKind>
 pub fn fault_of_oaep_params(bytes: &[u8]) -> Option<ErrorKind>
     ensures { TellsFault grammar.RsaOaepParams RsaOaepParamsFault bytes.now result }
 {
-    match RsaOaepParamsRef::try_from(bytes) {
+    match OaepView::from_der(NoMemory, bytes) {
         Ok(_) => None,
-        Err(Error::Asn1(error)) => Some(error.kind()),
-        Err(_) => unreachable!(),
+        Err(error) => Some(error.kind()),
     }
 }

@@ -1,9 +1,12 @@
-use Rattle.pkcs1_params.specs.Parameters.{RsaOaepParams}
-use Rattle.pkcs1_params.specs.ParameterFaults.{RsaOaepParamsFault}
-use Rattle.pkcs1_params.specs.Laws.FaultsTold.{fault_told}
+use Rattle.std.proofs.Common.{⊎_elim, sym}
+use Rattle.pkcs1_params.specs.Laws.ParameterFaults.{oaep_whole_none, oaep_whole_first}
+use Rattle.pkcs1_params.proofs.NothingAsked.{oaep_asks}
 use Rattle.pkcs1_params.proofs.faults.fault_of_oaep_params.Goals as goal
 
-pub returns-in-Err-Asn1 : goal.returns-in-Err-Asn1
-returns-in-Err-Asn1 c =
-    let e = c.in-Err-Asn1.ensures in
-    fault_told RsaOaepParams RsaOaepParamsFault c.args.bytes.now c.in-Err-Asn1.field-0 c.in-Err-Asn1.error _ c.in-Err-Asn1.field-0-is c.kind.ensures e.err e.exact e.only
+pub returns-in-Ok : goal.returns-in-Ok
+returns-in-Ok c = ((_, c.in-Ok.ensures.encoding), λ kind fault. oaep_whole_none kind _ fault _ c.in-Ok.ensures.encoding)
+
+pub returns-in-Err : goal.returns-in-Err
+returns-in-Err c =
+    let fault = ⊎_elim (λ w. absurd (oaep_asks _ w.1)) (λ f. f) c.in-Err.ensures.exact in
+    rw c.kind.ensures ((λ v means. oaep_whole_none _ _ fault v means), fault, λ other f. sym (oaep_whole_first _ other _ fault f))
