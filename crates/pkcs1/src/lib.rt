@@ -27,9 +27,10 @@ pub use laws::{
 };
 pub use other_primes::OtherPrimes;
 pub use pkcs1_params::{
-    DefaultSalt, Error, Result, RsaOaepParams, RsaOaepParamsOwned, RsaOaepParamsRef, RsaPssParams,
-    RsaPssParamsOwned, RsaPssParamsRef, TrailerField, fault_of_oaep_params, fault_of_pss_params,
-    lemma_oaep_spellings, lemma_pss_spellings,
+    DefaultSalt, Error, Result, RsaOaepParams, RsaOaepParamsOwned, RsaOaepParamsRef,
+    RsaOaepParamsView, RsaPssParams, RsaPssParamsOwned, RsaPssParamsRef, RsaPssParamsView,
+    TrailerField, fault_of_oaep_params, fault_of_pss_params, lemma_oaep_spellings,
+    lemma_pss_spellings,
 };
 pub use private_key::other_prime_info::{OtherPrimeInfo, OtherPrimeInfos};
 pub use private_key::{PrivateKeyOf, RsaPrivateKey, RsaPrivateKeyOwned, RsaPrivateKeyRef};

@@ -8,7 +8,7 @@ use Rattle.spki_core.specs.declared.any.AnyRef.{AnyRef}
 use Rattle.spki_core.specs.AlgorithmValue.{algorithm_with, viewed_with}
 use Rattle.pkcs1_params.specs.Parameters.{id_mgf1, id_p_specified, with_parameters, octets_value, OaepParameters}
 use Rattle.pkcs1_params.specs.Parameters as grammar
-use Rattle.pkcs1_params.specs.declared.oaep_view.OaepView.{OaepView}
+use Rattle.pkcs1_params.specs.declared.oaep_view.RsaOaepParamsView.{RsaOaepParamsView}
 use Rattle.pkcs1_params.specs.declared.oaep.RsaOaepParams.{RsaOaepParams}
 
 abbrev pub oaep_with : {X : Type 0} → (X → TagAndContents) → RsaOaepParams X → OaepParameters
@@ -19,7 +19,7 @@ abbrev pub oaep_of : RsaOaepParams AnyRef → OaepParameters
 oaep_of = oaep_with any_of
 
 -- that borrow from the input
-abbrev pub oaep_viewed : OaepView → OaepParameters
+abbrev pub oaep_viewed : RsaOaepParamsView → OaepParameters
 oaep_viewed p = record { hash = viewed_with any_of p.hash; mask_gen = viewed_with (viewed_with any_of) p.mask_gen; p_source = viewed_with any_of p.p_source }
 
 -- a hash function with NULL, MGF1 with the same, and a label

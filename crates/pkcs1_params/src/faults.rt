@@ -3,8 +3,8 @@ ghost use Rattle.pkcs1_params.specs.Meanings.{TellsFault};
 ghost use Rattle.pkcs1_params.specs.ParameterFaults.{RsaPssParamsFault, RsaOaepParamsFault};
 ghost use Rattle.pkcs1_params.specs.Parameters as grammar;
 
-use crate::oaep_view::OaepView;
-use crate::pss_view::PssView;
+use crate::oaep_view::RsaOaepParamsView;
+use crate::pss_view::RsaPssParamsView;
 use der_core::{Decode, ErrorKind, NoMemory};
 
 /// The first fault of bytes that aren't RSASSA-PSS parameters, of which they have exactly one; `None` if they are such
@@ -12,7 +12,7 @@ use der_core::{Decode, ErrorKind, NoMemory};
 pub fn fault_of_pss_params(bytes: &[u8]) -> Option<ErrorKind>
     ensures { TellsFault grammar.RsaPssParams RsaPssParamsFault bytes.now result }
 {
-    match PssView::from_der(NoMemory, bytes) {
+    match RsaPssParamsView::from_der(NoMemory, bytes) {
         Ok(_) => None,
         Err(error) => Some(error.kind()),
     }
@@ -23,7 +23,7 @@ pub fn fault_of_pss_params(bytes: &[u8]) -> Option<ErrorKind>
 pub fn fault_of_oaep_params(bytes: &[u8]) -> Option<ErrorKind>
     ensures { TellsFault grammar.RsaOaepParams RsaOaepParamsFault bytes.now result }
 {
-    match OaepView::from_der(NoMemory, bytes) {
+    match RsaOaepParamsView::from_der(NoMemory, bytes) {
         Ok(_) => None,
         Err(error) => Some(error.kind()),
     }

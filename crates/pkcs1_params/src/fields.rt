@@ -11,21 +11,22 @@ ghost use Rattle.pkcs1_params.specs.FieldRefs.{value_of, part_in, values_in};
 ghost use Rattle.pkcs1_params.specs.DefaultBits.{bit_of, bits_of};
 ghost use Rattle.pkcs1_params.specs.Parts.{defaults_in, fields_in, HasFields, NoneWritten, written_fields};
 
-use crate::hash_fields::{MaskGenRef, is_default_hash, is_default_mask_gen};
+use crate::hash_fields::{is_default_hash, is_default_mask_gen};
 use crate::p_source::is_default_source;
 use crate::pss::RsaPssParamsRef;
 use crate::trailer_field::TrailerField;
+use crate::views::{MaskGenView, PlainView};
 use der_core::{BackWriter, Length, Result, TagNumber, Writer, joined_len};
-use spki_core::{AlgorithmIdentifierRef, encode_field, field_len, prepend_field};
+use spki_core::{encode_field, field_len, prepend_field};
 
 /// A field with its value.
 #[derive(Clone, Copy, Drop)]
 pub(crate) enum FieldRef<'b> {
-    Hash(&'b AlgorithmIdentifierRef<'b>),
-    MaskGen(&'b MaskGenRef<'b>),
+    Hash(&'b PlainView<'b>),
+    MaskGen(&'b MaskGenView<'b>),
     SaltLen(u8),
     Trailer(TrailerField),
-    PSource(&'b AlgorithmIdentifierRef<'b>),
+    PSource(&'b PlainView<'b>),
 }
 
 /// Does nothing: its contract bounds the number, which proofs don't know of a field.

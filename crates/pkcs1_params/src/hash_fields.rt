@@ -1,14 +1,16 @@
 //! hashAlgorithm and maskGenAlgorithm, which both sets of parameters begin with.
 ghost use Rattle.std.specs.Prelude.{◌≡◌, ◌∷◌, [], refl};
 ghost use Rattle.spki_core.specs.Any.{null_value};
+ghost use Rattle.std.specs.Str.{bytes_eq};
 ghost use Rattle.spki_core.specs.AlgorithmIdentifier.{same_plain, same_mask};
-ghost use Rattle.spki_core.specs.AlgorithmValue.{algorithm_with, algorithm_of, mask_of};
+ghost use Rattle.spki_core.specs.AlgorithmValue.{algorithm_with, viewed_with};
+ghost use Rattle.spki_core.specs.AnyRefValue.{any_of};
 ghost use Rattle.pkcs1_params.specs.Parameters.{id_sha1, id_mgf1, with_parameters, sha1, mgf1_sha1};
 
+use crate::views::{MaskGenView, PlainView};
 use der_core::{Memory, Tag};
 use spki_core::{
-    AlgorithmIdentifier, AlgorithmIdentifierRef, AnyParams, AnyRef, AnyValue,
-    AsAlgorithmIdentifierRef, AssociatedOid, ObjectIdentifier,
+    AlgorithmIdentifier, AlgorithmIdentifierRef, AnyParams, AnyRef, AssociatedOid, ObjectIdentifier,
 };
 
 /// SHA-1.
@@ -68,32 +70,38 @@ pub(crate) fn mgf1_with<D: AssociatedOid, P: AnyParams<M>, M: Memory>(memory: M)
     }
 }
 
-/// Whether the hash is the default, SHA-1 with NULL.
-pub(crate) fn is_default_hash(hash: &AlgorithmIdentifierRef<'_>) -> bool
-    ensures { result ≡ same_plain (algorithm_of hash.now) sha1 }
+/// Whether these are the octets of id-sha1.
+#[inline(always)]
+fn is_sha1(octets: &[u8]) -> bool
+    ensures { result ≡ bytes_eq octets.now id_sha1 }
 {
-    hash.oid.as_bytes() == Sha1::octets() && hash.parameters == Some(AnyRef::null())
+    matches!(octets, [0x2b, 0x0e, 0x03, 0x02, 0x1a])
 }
 
-/// Whether the mask generation function is the default, MGF1 with SHA-1 with NULL.
-pub(crate) fn is_default_mask_gen(mask_gen: &MaskGenRef<'_>) -> bool
-    ensures { result ≡ same_mask (mask_of mask_gen.now) mgf1_sha1 }
+/// Whether these are the octets of id-mgf1.
+#[inline(always)]
+fn is_mgf1(octets: &[u8]) -> bool
+    ensures { result ≡ bytes_eq octets.now id_mgf1 }
 {
-    match &mask_gen.parameters {
-        Some(hash) => mask_gen.oid.as_bytes() == Mgf1::octets() && is_default_hash(hash),
-        None => false,
+    match octets {
+        [0x2a, 0x86, 0x48, 0x86, later @ ..] => matches!(later, [0xf7, 0x0d, 0x01, 0x01, 0x08]),
+        _ => false,
     }
 }
 
-/// The mask generation function, borrowed.
-pub(crate) fn mask_gen_ref<P: AnyValue>(mask_gen: &MaskGen<P>) -> MaskGenRef<'_>
-    ensures { mask_of result ≡ algorithm_with (algorithm_with P.any) mask_gen.now }
+/// Whether the hash is the default, SHA-1 with NULL.
+pub(crate) fn is_default_hash(hash: &PlainView<'_>) -> bool
+    ensures { result ≡ same_plain (viewed_with any_of hash.now) sha1 }
 {
-    AlgorithmIdentifier {
-        oid: mask_gen.oid,
-        parameters: match &mask_gen.parameters {
-            Some(hash) => Some(hash.as_algo_ref()),
-            None => None,
-        },
+    is_sha1(hash.oid.as_bytes()) && hash.parameters == Some(AnyRef::null())
+}
+
+/// Whether the mask generation function is the default, MGF1 with SHA-1 with NULL.
+pub(crate) fn is_default_mask_gen(mask_gen: &MaskGenView<'_>) -> bool
+    ensures { result ≡ same_mask (viewed_with (viewed_with any_of) mask_gen.now) mgf1_sha1 }
+{
+    match &mask_gen.parameters {
+        Some(hash) => is_mgf1(mask_gen.oid.as_bytes()) && is_default_hash(hash),
+        None => false,
     }
 }

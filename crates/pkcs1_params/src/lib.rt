@@ -28,5 +28,7 @@ pub use faults::{fault_of_oaep_params, fault_of_pss_params};
 pub use hash_fields::with_null;
 pub use laws::{lemma_oaep_spellings, lemma_pss_spellings};
 pub use oaep::{RsaOaepParams, RsaOaepParamsOwned, RsaOaepParamsRef};
+pub use oaep_view::RsaOaepParamsView;
 pub use pss::{RsaPssParams, RsaPssParamsOwned, RsaPssParamsRef};
+pub use pss_view::RsaPssParamsView;
 pub use trailer_field::TrailerField;

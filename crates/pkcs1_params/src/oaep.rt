@@ -10,18 +10,16 @@ ghost use Rattle.der_core.specs.declared.error.ErrorKind as der;
 
 use crate::defaults::{default_oaep, is_empty_sequence};
 use crate::error::{Error, Result};
-use crate::hash_fields::{Sha1, mask_gen_ref, mgf1_with, with_null};
-use crate::oaep_view::OaepView;
+use crate::hash_fields::{Sha1, mgf1_with, with_null};
+use crate::oaep_view::RsaOaepParamsView;
 use crate::p_source::empty_source;
 use crate::spelling::{DefaultFields, encode_shortest};
-use crate::strict::reject_defaults;
+use crate::views::{mask_gen_view, plain_view};
 use der_core::{
     BackWriter, Contents, Decode, DecodeValue, EncodeValue, EqualByValue, Header, Length, Memory,
     NoMemory, Reader, Sequence, SequenceTag, TaggedBy, TryClone, Writer,
 };
-use spki_core::{
-    AlgorithmIdentifier, Any, AnyParams, AnyRef, AnyValue, AsAlgorithmIdentifierRef, AssociatedOid,
-};
+use spki_core::{AlgorithmIdentifier, Any, AnyParams, AnyRef, AnyValue, AssociatedOid};
 use std::alloc::Global;
 
 /// Parameters of RSAES-OAEP (RFC 8017 A.2.1). Explicit defaults are read, but never written.
@@ -94,7 +92,7 @@ impl<'a, M: Memory> DecodeValue<&'a [u8], M> for RsaOaepParams<AnyRef<'a>> {
         reader: &mut R,
         header: Header,
     ) -> der_core::Result<RsaOaepParams<AnyRef<'a>>> {
-        let view = OaepView::decode_value(memory, reader, header)?;
+        let view = RsaOaepParamsView::decode_value(memory, reader, header)?;
         Ok(view.keep())
     }
 
@@ -109,18 +107,19 @@ impl<P: AnyValue> RsaOaepParams<P> {
     ghost use Rattle.der_core.specs.Document.{IsShortest};
     ghost use Rattle.pkcs1_params.specs.Meanings.{IsWritingError};
     ghost use Rattle.spki_core.specs.Explicit.{Masked};
-    ghost use Rattle.pkcs1_params.specs.OaepValue.{oaep_with, oaep_of};
+    ghost use Rattle.pkcs1_params.specs.OaepValue.{oaep_of, oaep_viewed, oaep_with};
     ghost use Rattle.pkcs1_params.specs.Errors.{IsAsn1};
     ghost use Rattle.pkcs1_params.specs.Spellings.{HasTwoToTheDefaults};
 
     /// The parameters, borrowed.
-    pub(crate) fn as_params_ref(&self) -> RsaOaepParams<AnyRef<'_>>
-        ensures { oaep_of result ≡ oaep_with P.any self.now }
+    #[inline(always)]
+    pub(crate) fn as_view(&self) -> RsaOaepParamsView<'_>
+        ensures { oaep_viewed result ≡ oaep_with P.any self.now }
     {
-        RsaOaepParams {
-            hash: self.hash.as_algo_ref(),
-            mask_gen: mask_gen_ref(&self.mask_gen),
-            p_source: self.p_source.as_algo_ref(),
+        RsaOaepParamsView {
+            hash: plain_view(&self.hash),
+            mask_gen: mask_gen_view(&self.mask_gen),
+            p_source: plain_view(&self.p_source),
         }
     }
 
@@ -139,23 +138,23 @@ impl<P: AnyValue> RsaOaepParams<P> {
         ensures unchanged { OnErr result (out.new ≡ out.old) }
         ensures err { IfErr result (IsWritingError grammar.RsaOaepParams (oaep_with P.any self.now) (length out.old)) }
     {
-        encode_shortest(&self.as_params_ref(), out)
+        encode_shortest(&self.as_view(), out)
     }
 }
 
 impl<P: AnyValue> EncodeValue for RsaOaepParams<P> {
     fn value_len(&self) -> der_core::Result<Length> {
-        let params = self.as_params_ref();
+        let params = self.as_view();
         params.len_under(params.changed(), 0)
     }
 
     fn append_value<W: Writer>(&self, writer: &mut W) -> der_core::Result<()> {
-        let params = self.as_params_ref();
+        let params = self.as_view();
         params.append_under(params.changed(), 0, writer)
     }
 
     fn prepend_value(&self, writer: &mut BackWriter<'_>) {
-        let params = self.as_params_ref();
+        let params = self.as_view();
         params.prepend_under(params.changed(), 0, writer);
     }
 
@@ -261,9 +260,8 @@ impl<'a> RsaOaepParams<AnyRef<'a>> {
         ensures only { (kind : der.ErrorKind)
             → StrictOaepFault kind bytes.now → IsErrAnd result (IsAsn1 (λ e. e.kind ≡ kind)) }
     {
-        let params = RsaOaepParams::try_from(bytes)?;
-        reject_defaults(&params, bytes)?;
-        Ok(params)
+        let view = RsaOaepParamsView::from_der_strict(bytes)?;
+        Ok(view.keep())
     }
 }
 
@@ -292,7 +290,7 @@ impl<'a> TryFrom<&'a [u8]> for RsaOaepParams<AnyRef<'a>> {
         if is_empty_sequence(bytes) {
             return Ok(RsaOaepParams::default());
         }
-        let view = OaepView::from_der(NoMemory, bytes)?;
+        let view = RsaOaepParamsView::from_der(NoMemory, bytes)?;
         Ok(view.keep())
     }
 }

@@ -3,7 +3,7 @@ ghost use Rattle.std.specs.Prelude.{◌≡◌, ◌≤◌, length, take, drop, On
 ghost use Rattle.spki_core.specs.Explicit.{HaveDefaults};
 ghost use Rattle.pkcs1_params.specs.FieldRefs.{values_in};
 ghost use Rattle.pkcs1_params.specs.Laws.Oaep.{oaep_means_one};
-ghost use Rattle.pkcs1_params.specs.OaepValue.{oaep_of, oaep_with};
+ghost use Rattle.pkcs1_params.specs.OaepValue.{oaep_viewed, oaep_with};
 ghost use Rattle.pkcs1_params.specs.Laws.Parameters.{oaep_numbered};
 ghost use Rattle.pkcs1_params.specs.Parameters.{OaepParameters, oaep_fields};
 ghost use Rattle.pkcs1_params.specs.Parts.{oaep_values};
@@ -15,15 +15,16 @@ use crate::fields::{
     FieldRef, append_fields, bit, count_defaults, fields_len, lemma_are_held, prepend_fields,
 };
 use crate::oaep::RsaOaepParams;
+use crate::oaep_view::RsaOaepParamsView;
 use crate::spelling::{DefaultFields, all_spellings, spell_into};
 use der_core::{BackWriter, Length, TagNumber, Writer};
-use spki_core::{AnyRef, AnyValue, written_default};
+use spki_core::{AnyValue, written_default};
 use std::alloc::Global;
 
-impl RsaOaepParams<AnyRef<'_>> {
+impl RsaOaepParamsView<'_> {
     /// The fields, in order.
     pub(crate) fn fields(&self) -> [FieldRef<'_>; 3]
-        ensures { values_in result ≡ oaep_values (oaep_of self.now) }
+        ensures { values_in result ≡ oaep_values (oaep_viewed self.now) }
     {
         [
             FieldRef::Hash(&self.hash),
@@ -33,10 +34,10 @@ impl RsaOaepParams<AnyRef<'_>> {
     }
 }
 
-impl DefaultFields for RsaOaepParams<AnyRef<'_>> {
+impl DefaultFields for RsaOaepParamsView<'_> {
     ghost Params = { OaepParameters };
 
-    ghost params = { oaep_of };
+    ghost params = { oaep_viewed };
 
     ghost values = { oaep_values };
 
@@ -85,12 +86,42 @@ impl DefaultFields for RsaOaepParams<AnyRef<'_>> {
     }
 }
 
+impl RsaOaepParamsView<'_> {
+    /// How many fields equal their defaults.
+    pub fn default_fields(&self) -> u8
+        ensures { HaveDefaults (oaep_fields (oaep_viewed self.now)) result }
+    {
+        DefaultFields::count_defaults(self)
+    }
+
+    /// Like `RsaOaepParams::encode_spelling_into`.
+    pub fn encode_spelling_into(&self, mask: u8, out: &mut [u8]) -> Result<usize>
+        requires { IsMask (oaep_fields (oaep_viewed self.now)) mask }
+        ensures stands { IfOk result (λ n. StandsUnder oaep_fields (oaep_viewed self.now) mask (take n out.new)) }
+        ensures rest { IfOk result (λ n. (n ≤ length out.new) × (drop n out.new ≡ drop n out.old)) }
+        ensures unchanged { OnErr result (out.new ≡ out.old) }
+        ensures err { IfErr result (IsSpellingError (oaep_fields (oaep_viewed self.now)) mask (length out.old)) }
+    {
+        spell_into(self, mask, out)
+    }
+
+    /// Like `RsaOaepParams::spellings`.
+    pub fn spellings(&self, alloc: Global) -> Result<Vec<Vec<u8>>>
+        ensures all { IfOk result (λ encodings. AreAllSpellings oaep_fields (oaep_viewed self.now)
+            (encodings_in encodings)) }
+        ensures fit { OnOk result (AllFit (oaep_fields (oaep_viewed self.now))) }
+        ensures err { IfErr result (IsListingError (oaep_fields (oaep_viewed self.now))) }
+    {
+        all_spellings(self, alloc)
+    }
+}
+
 impl<P: AnyValue> RsaOaepParams<P> {
     /// How many fields equal their defaults.
     pub fn default_fields(&self) -> u8
         ensures { HaveDefaults (oaep_fields (oaep_with P.any self.now)) result }
     {
-        self.as_params_ref().count_defaults()
+        self.as_view().count_defaults()
     }
 
     /// Writes one spelling to the front of a slice and returns its length. Bit j of the mask (bit 0 is the lowest) says
@@ -103,7 +134,7 @@ impl<P: AnyValue> RsaOaepParams<P> {
         ensures unchanged { OnErr result (out.new ≡ out.old) }
         ensures err { IfErr result (IsSpellingError (oaep_fields (oaep_with P.any self.now)) mask (length out.old)) }
     {
-        spell_into(&self.as_params_ref(), mask, out)
+        spell_into(&self.as_view(), mask, out)
     }
 
     /// Like `encode_spelling_into`, but returns the part of the slice that was written. A caller that needs in a proof
@@ -126,6 +157,6 @@ impl<P: AnyValue> RsaOaepParams<P> {
         ensures fit { OnOk result (AllFit (oaep_fields (oaep_with P.any self.now))) }
         ensures err { IfErr result (IsListingError (oaep_fields (oaep_with P.any self.now))) }
     {
-        all_spellings(&self.as_params_ref(), alloc)
+        all_spellings(&self.as_view(), alloc)
     }
 }

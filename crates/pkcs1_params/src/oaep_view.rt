@@ -1,30 +1,51 @@
-//! RSAES-OAEP parameters that borrow from the input.
-ghost use Rattle.std.specs.Prelude.{◌≡◌};
+//! RSAES-OAEP parameters over their encoding.
+ghost use Rattle.std.specs.Prelude.{◌≡◌, ◌≤◌, length, OnOk, IfErr};
+ghost use Rattle.der_core.specs.Reading.{TellsOfBytes};
+ghost use Rattle.der_core.specs.declared.error.ErrorKind as der;
 ghost use Rattle.pkcs1_params.specs.Allocating.{OaepAllocates};
-ghost use Rattle.pkcs1_params.specs.Parameters.{OaepParameters, OaepContents};
+ghost use Rattle.pkcs1_params.specs.Errors.{IsAsn1};
+ghost use Rattle.pkcs1_params.specs.ParameterFaults.{RsaOaepParamsFault, StrictOaepFault};
+ghost use Rattle.pkcs1_params.specs.Parameters as grammar;
+ghost use Rattle.pkcs1_params.specs.Parameters.{OaepParameters, OaepContents, oaep_fields, sha1, mgf1_sha1, empty_label};
 ghost use Rattle.pkcs1_params.specs.Parts.{oaep_values, HasFields, written_fields};
 ghost use Rattle.pkcs1_params.specs.Laws.Oaep.{oaep_means_one, oaep_of_bytes};
 ghost use Rattle.pkcs1_params.specs.OaepValue.{oaep_of, oaep_viewed};
 
+use crate::defaults::is_empty_sequence;
+use crate::error::{Error, Result};
 use crate::oaep::{RsaOaepParams, RsaOaepParamsRef};
-use crate::views::{MaskGenView, PlainView, empty_view, keep_mask_gen, mgf1_view, sha1_view};
+use crate::spelling::encode_shortest;
+use crate::strict::reject_defaults;
+use crate::views::{empty_view, keep_mask_gen, mgf1_view, sha1_view};
 use der_core::{
-    Contents, DecodeValue, Header, Memory, Reader, Result, SequenceTag, TagNumber, TaggedBy,
+    Contents, Decode, DecodeValue, Header, Memory, NoMemory, Reader, SequenceTag, TagNumber,
+    TaggedBy,
 };
-use spki_core::read_field;
+use spki_core::{AlgorithmView, AnyRef, read_field};
 
-/// Parameters that borrow from the input: identifiers are copied once, when all is known to be valid.
+/// RSAES-OAEP parameters (RFC 8017 A.2.1) over their encoding, whose octets are their
+/// identifiers. Only `keep` copies them.
 #[derive(Clone, Copy, Drop)]
-pub(crate) struct OaepView<'a> {
-    hash: PlainView<'a>,
-    mask_gen: MaskGenView<'a>,
-    p_source: PlainView<'a>,
+pub struct RsaOaepParamsView<'a> {
+    /// The hash function; SHA-1 with NULL by default.
+    pub hash: AlgorithmView<'a, AnyRef<'a>>,
+    /// The mask generation function and its hash function; MGF1 with SHA-1 with NULL by default.
+    pub mask_gen: AlgorithmView<'a, AlgorithmView<'a, AnyRef<'a>>>,
+    /// The source of the label; pSpecified with the empty label by default.
+    pub p_source: AlgorithmView<'a, AnyRef<'a>>,
 }
 
-impl<'a> OaepView<'a> {
-    /// Copies the identifiers.
+impl<'a> RsaOaepParamsView<'a> {
+    ghost use Rattle.std.specs.Prelude.{ℕ, List, drop, take, IfOk, IsErrAnd, OnErr, ◌⊎◌};
+    ghost use Rattle.der_core.specs.Document.{Means, IsShortest};
+    ghost use Rattle.spki_core.specs.Explicit.{Masked};
+    ghost use Rattle.spki_core.specs.StrictFields.{NamesDefault};
+    ghost use Rattle.pkcs1_params.specs.Meanings.{IsWritingError};
+    ghost use Rattle.pkcs1_params.specs.Spellings.{HasTwoToTheDefaults};
+
+    /// The parameters as a struct that holds its identifiers.
     #[inline(always)]
-    pub(crate) fn keep(self) -> RsaOaepParamsRef<'a>
+    pub fn keep(self) -> RsaOaepParamsRef<'a>
         ensures { oaep_of result ≡ oaep_viewed self.entry }
     {
         RsaOaepParams {
@@ -33,9 +54,83 @@ impl<'a> OaepView<'a> {
             p_source: self.p_source.keep(),
         }
     }
+
+    /// Like `RsaOaepParams::from_der_strict`.
+    pub fn from_der_strict(bytes: &'a [u8]) -> Result<RsaOaepParamsView<'a>>
+        ensures ok { IfOk result (λ params. IsShortest grammar.RsaOaepParams (oaep_viewed params) bytes.now) }
+        ensures one { IfOk result (λ params. (other : OaepParameters) → Means grammar.RsaOaepParams bytes.now other
+            → other ≡ oaep_viewed params) }
+        ensures default { IfErr result (λ e. (params : OaepParameters) → Means grammar.RsaOaepParams bytes.now params
+            → IsAsn1 (NamesDefault (oaep_fields params) bytes.now) e) }
+        ensures err { IfErr result (λ e. (params : OaepParameters)
+            → IsShortest grammar.RsaOaepParams params bytes.now → ⊥) }
+        ensures asn1 { IfErr result (IsAsn1 (λ e. TellsOfBytes e.kind)) }
+        ensures exact { IfErr result (λ e. IsAsn1 (λ e. RsaOaepParamsFault e.kind bytes.now) e
+            ⊎ ((params : OaepParameters) × Means grammar.RsaOaepParams bytes.now params
+            × IsAsn1 (NamesDefault (oaep_fields params) bytes.now) e)) }
+        ensures only { (kind : der.ErrorKind)
+            → StrictOaepFault kind bytes.now → IsErrAnd result (IsAsn1 (λ e. e.kind ≡ kind)) }
+    {
+        let params = RsaOaepParamsView::try_from(bytes)?;
+        reject_defaults(&params, bytes)?;
+        Ok(params)
+    }
+
+    /// Like `RsaOaepParams::encode_params`.
+    pub fn encode_params(&self, out: &mut [u8]) -> Result<usize>
+        ensures shortest { IfOk result (λ n. IsShortest grammar.RsaOaepParams (oaep_viewed self.now) (take n out.new)) }
+        ensures no_default { IfOk result (λ n. Masked (oaep_fields (oaep_viewed self.now)) 0 (take n out.new)) }
+        ensures rest { IfOk result (λ n. (n ≤ length out.new) × (drop n out.new ≡ drop n out.old)) }
+        ensures one { IfOk result (λ n. (other : OaepParameters) → grammar.RsaOaepParams other (take n out.new)
+            → other ≡ oaep_viewed self.now) }
+        ensures count { OnOk result (HasTwoToTheDefaults oaep_fields (oaep_viewed self.now)) }
+        ensures unchanged { OnErr result (out.new ≡ out.old) }
+        ensures err { IfErr result (IsWritingError grammar.RsaOaepParams (oaep_viewed self.now) (length out.old)) }
+    {
+        encode_shortest(self, out)
+    }
 }
 
-impl Contents for OaepView<'_> {
+impl<'a> Default for RsaOaepParamsView<'a> {
+    /// Every field at its default.
+    #[inline(always)]
+    fn default() -> RsaOaepParamsView<'a>
+        ensures { oaep_viewed result ≡ record { hash = sha1; mask_gen = mgf1_sha1; p_source = empty_label } }
+    {
+        RsaOaepParamsView {
+            hash: sha1_view(),
+            mask_gen: mgf1_view(),
+            p_source: empty_view(),
+        }
+    }
+}
+
+impl<'a> TryFrom<&'a [u8]> for RsaOaepParamsView<'a> {
+    ghost use Rattle.std.specs.Prelude.{IfOk, IsErrAnd, OnErr};
+    ghost use Rattle.der_core.specs.Document.{Means};
+    ghost use Rattle.pkcs1_params.specs.Meanings.{IsNoSentence, IsOnlyMeaning};
+
+    type Error = Error;
+
+    /// Reads a whole slice. Nothing is allocated.
+    fn try_from(bytes: &'a [u8]) -> Result<RsaOaepParamsView<'a>>
+        ensures ok { IfOk result (λ params. Means grammar.RsaOaepParams bytes.now (oaep_viewed params)) }
+        ensures one { IfOk result (λ params. IsOnlyMeaning grammar.RsaOaepParams bytes.now (oaep_viewed params)) }
+        ensures err { OnErr result (IsNoSentence grammar.RsaOaepParams bytes.now) }
+        ensures asn1 { IfErr result (IsAsn1 (λ e. TellsOfBytes e.kind)) }
+        ensures exact { IfErr result (IsAsn1 (λ e. RsaOaepParamsFault e.kind bytes.now)) }
+        ensures only { (kind : der.ErrorKind)
+            → RsaOaepParamsFault kind bytes.now → IsErrAnd result (IsAsn1 (λ e. e.kind ≡ kind)) }
+    {
+        if is_empty_sequence(bytes) {
+            return Ok(RsaOaepParamsView::default());
+        }
+        let params = RsaOaepParamsView::from_der(NoMemory, bytes)?;
+        Ok(params)
+    }
+}
+
+impl Contents for RsaOaepParamsView<'_> {
     ghost Value = { OaepParameters };
 
     ghost value = { oaep_viewed };
@@ -51,11 +146,11 @@ impl Contents for OaepView<'_> {
     ghost contents_of_bytes = { oaep_of_bytes };
 }
 
-impl TaggedBy for OaepView<'_> {
+impl TaggedBy for RsaOaepParamsView<'_> {
     type Marker = SequenceTag;
 }
 
-impl<'a, M: Memory> DecodeValue<&'a [u8], M> for OaepView<'a> {
+impl<'a, M: Memory> DecodeValue<&'a [u8], M> for RsaOaepParamsView<'a> {
     ghost use Rattle.spki_core.specs.Any.{Any};
     ghost use Rattle.spki_core.specs.Laws.AnyEncodings.{any_delimited};
     ghost use Rattle.spki_core.specs.AnyRefValue.{any_of};
@@ -74,12 +169,12 @@ impl<'a, M: Memory> DecodeValue<&'a [u8], M> for OaepView<'a> {
         memory: M,
         reader: &mut R,
         _header: Header,
-    ) -> Result<OaepView<'a>> {
+    ) -> der_core::Result<RsaOaepParamsView<'a>> {
         let hash = read_field(memory, reader, TagNumber::new(0), sha1_view())?;
         let mask_gen = read_field(memory, reader, TagNumber::new(1), mgf1_view())?;
         let p_source = read_field(memory, reader, TagNumber::new(2), empty_view())?;
         reader.finish()?;
-        Ok(OaepView {
+        Ok(RsaOaepParamsView {
             hash,
             mask_gen,
             p_source,

@@ -1,10 +1,13 @@
 //! pSourceAlgorithm: the source of the label of RSAES-OAEP (RFC 8017 A.2.1).
 ghost use Rattle.std.specs.Prelude.{◌≡◌, ◌≤◌, refl, length};
 ghost use Rattle.der_core.specs.Length.{limit};
+ghost use Rattle.std.specs.Str.{bytes_eq};
 ghost use Rattle.spki_core.specs.AlgorithmIdentifier.{same_plain};
-ghost use Rattle.spki_core.specs.AlgorithmValue.{algorithm_with, algorithm_of};
+ghost use Rattle.spki_core.specs.AlgorithmValue.{algorithm_with, algorithm_of, viewed_with};
+ghost use Rattle.spki_core.specs.AnyRefValue.{any_of};
 ghost use Rattle.pkcs1_params.specs.Parameters.{with_parameters, id_p_specified, octets_value, empty_label};
 
+use crate::views::PlainView;
 use der_core::{Memory, NoMemory, Tag};
 use spki_core::{
     AlgorithmIdentifier, AlgorithmIdentifierRef, AnyParams, AnyRef, AssociatedOid, ObjectIdentifier,
@@ -35,12 +38,23 @@ pub(crate) fn empty_source<P: AnyParams<M>, M: Memory>(memory: M) -> AlgorithmId
     }
 }
 
+/// Whether these are the octets of id-pSpecified.
+#[inline(always)]
+fn is_p_specified(octets: &[u8]) -> bool
+    ensures { result ≡ bytes_eq octets.now id_p_specified }
+{
+    match octets {
+        [0x2a, 0x86, 0x48, 0x86, later @ ..] => matches!(later, [0xf7, 0x0d, 0x01, 0x01, 0x09]),
+        _ => false,
+    }
+}
+
 /// Whether the source is the default, pSpecified with the empty label.
-pub(crate) fn is_default_source(p_source: &AlgorithmIdentifierRef<'_>) -> bool
-    ensures { result ≡ same_plain (algorithm_of p_source.now) empty_label }
+pub(crate) fn is_default_source(p_source: &PlainView<'_>) -> bool
+    ensures { result ≡ same_plain (viewed_with any_of p_source.now) empty_label }
 {
     let empty = AnyRef::empty(NoMemory, Tag::OCTET_STRING);
-    p_source.oid.as_bytes() == PSpecified::octets() && p_source.parameters == Some(empty)
+    is_p_specified(p_source.oid.as_bytes()) && p_source.parameters == Some(empty)
 }
 
 /// pSpecified with this label.

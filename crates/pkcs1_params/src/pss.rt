@@ -11,23 +11,21 @@ ghost use Rattle.pkcs1_params.specs.Parameters.{PssParameters, PssContents, pss_
 ghost use Rattle.pkcs1_params.specs.Parameters.{mgf1_sha1};
 ghost use Rattle.pkcs1_params.specs.Parts.{pss_values, HasFields, written_fields};
 ghost use Rattle.pkcs1_params.specs.Laws.Pss.{pss_means_one, pss_of_bytes, pss_relates, pss_shortest};
-ghost use Rattle.pkcs1_params.specs.PssValue.{pss_with, pss_of};
+ghost use Rattle.pkcs1_params.specs.PssValue.{pss_of, pss_viewed, pss_with};
 
 use crate::default_salt::DefaultSalt;
 use crate::defaults::{default_pss, is_empty_sequence};
 use crate::error::{Error, Result};
-use crate::hash_fields::{Sha1, mask_gen_ref, mgf1_with, with_null};
-use crate::pss_view::PssView;
+use crate::hash_fields::{Sha1, mgf1_with, with_null};
+use crate::pss_view::RsaPssParamsView;
 use crate::spelling::{DefaultFields, encode_shortest};
-use crate::strict::reject_defaults;
 use crate::trailer_field::TrailerField;
+use crate::views::{mask_gen_view, plain_view};
 use der_core::{
     BackWriter, Contents, Decode, DecodeValue, EncodeValue, EqualByValue, Header, Length, Memory,
     NoMemory, Reader, Sequence, SequenceTag, TaggedBy, TryClone, Writer,
 };
-use spki_core::{
-    AlgorithmIdentifier, Any, AnyParams, AnyRef, AnyValue, AsAlgorithmIdentifierRef, AssociatedOid,
-};
+use spki_core::{AlgorithmIdentifier, Any, AnyParams, AnyRef, AnyValue, AssociatedOid};
 use std::alloc::Global;
 
 /// Parameters of RSASSA-PSS (RFC 8017 A.2.3). Explicit defaults are read, but never written.
@@ -101,7 +99,7 @@ impl<'a, M: Memory> DecodeValue<&'a [u8], M> for RsaPssParams<AnyRef<'a>> {
         reader: &mut R,
         header: Header,
     ) -> der_core::Result<RsaPssParams<AnyRef<'a>>> {
-        let view = PssView::decode_value(memory, reader, header)?;
+        let view = RsaPssParamsView::decode_value(memory, reader, header)?;
         Ok(view.keep())
     }
 
@@ -119,12 +117,13 @@ impl<P: AnyValue> RsaPssParams<P> {
     ghost use Rattle.pkcs1_params.specs.Spellings.{HasTwoToTheDefaults};
 
     /// The parameters, borrowed.
-    pub(crate) fn as_params_ref(&self) -> RsaPssParams<AnyRef<'_>>
-        ensures { pss_of result ≡ pss_with P.any self.now }
+    #[inline(always)]
+    pub(crate) fn as_view(&self) -> RsaPssParamsView<'_>
+        ensures { pss_viewed result ≡ pss_with P.any self.now }
     {
-        RsaPssParams {
-            hash: self.hash.as_algo_ref(),
-            mask_gen: mask_gen_ref(&self.mask_gen),
+        RsaPssParamsView {
+            hash: plain_view(&self.hash),
+            mask_gen: mask_gen_view(&self.mask_gen),
             salt_len: self.salt_len,
             trailer_field: self.trailer_field,
         }
@@ -145,23 +144,23 @@ impl<P: AnyValue> RsaPssParams<P> {
         ensures unchanged { OnErr result (out.new ≡ out.old) }
         ensures err { IfErr result (IsWritingError grammar.RsaPssParams (pss_with P.any self.now) (length out.old)) }
     {
-        encode_shortest(&self.as_params_ref(), out)
+        encode_shortest(&self.as_view(), out)
     }
 }
 
 impl<P: AnyValue> EncodeValue for RsaPssParams<P> {
     fn value_len(&self) -> der_core::Result<Length> {
-        let params = self.as_params_ref();
+        let params = self.as_view();
         params.len_under(params.changed(), 0)
     }
 
     fn append_value<W: Writer>(&self, writer: &mut W) -> der_core::Result<()> {
-        let params = self.as_params_ref();
+        let params = self.as_view();
         params.append_under(params.changed(), 0, writer)
     }
 
     fn prepend_value(&self, writer: &mut BackWriter<'_>) {
-        let params = self.as_params_ref();
+        let params = self.as_view();
         params.prepend_under(params.changed(), 0, writer);
     }
 
@@ -212,9 +211,8 @@ impl<'a> RsaPssParams<AnyRef<'a>> {
         ensures only { (kind : der.ErrorKind)
             → StrictPssFault kind bytes.now → IsErrAnd result (IsAsn1 (λ e. e.kind ≡ kind)) }
     {
-        let params = RsaPssParams::try_from(bytes)?;
-        reject_defaults(&params, bytes)?;
-        Ok(params)
+        let view = RsaPssParamsView::from_der_strict(bytes)?;
+        Ok(view.keep())
     }
 }
 
@@ -291,7 +289,7 @@ impl<'a> TryFrom<&'a [u8]> for RsaPssParams<AnyRef<'a>> {
         if is_empty_sequence(bytes) {
             return Ok(RsaPssParams::default());
         }
-        let view = PssView::from_der(NoMemory, bytes)?;
+        let view = RsaPssParamsView::from_der(NoMemory, bytes)?;
         Ok(view.keep())
     }
 }

@@ -3,7 +3,7 @@ ghost use Rattle.std.specs.Prelude.{◌≡◌, ◌≤◌, length, take, drop, On
 ghost use Rattle.spki_core.specs.Explicit.{HaveDefaults};
 ghost use Rattle.pkcs1_params.specs.FieldRefs.{values_in};
 ghost use Rattle.pkcs1_params.specs.Laws.Pss.{pss_means_one};
-ghost use Rattle.pkcs1_params.specs.PssValue.{pss_of, pss_with};
+ghost use Rattle.pkcs1_params.specs.PssValue.{pss_viewed, pss_with};
 ghost use Rattle.pkcs1_params.specs.Laws.Parameters.{pss_numbered};
 ghost use Rattle.pkcs1_params.specs.Parameters.{PssParameters, pss_fields};
 ghost use Rattle.pkcs1_params.specs.Parts.{pss_values};
@@ -15,15 +15,16 @@ use crate::fields::{
     FieldRef, append_fields, bit, count_defaults, fields_len, lemma_are_held, prepend_fields,
 };
 use crate::pss::RsaPssParams;
+use crate::pss_view::RsaPssParamsView;
 use crate::spelling::{DefaultFields, all_spellings, spell_into};
 use der_core::{BackWriter, Length, TagNumber, Writer};
-use spki_core::{AnyRef, AnyValue, written_default};
+use spki_core::{AnyValue, written_default};
 use std::alloc::Global;
 
-impl RsaPssParams<AnyRef<'_>> {
+impl RsaPssParamsView<'_> {
     /// The fields, in order.
     pub(crate) fn fields(&self) -> [FieldRef<'_>; 4]
-        ensures { values_in result ≡ pss_values (pss_of self.now) }
+        ensures { values_in result ≡ pss_values (pss_viewed self.now) }
     {
         [
             FieldRef::Hash(&self.hash),
@@ -34,10 +35,10 @@ impl RsaPssParams<AnyRef<'_>> {
     }
 }
 
-impl DefaultFields for RsaPssParams<AnyRef<'_>> {
+impl DefaultFields for RsaPssParamsView<'_> {
     ghost Params = { PssParameters };
 
-    ghost params = { pss_of };
+    ghost params = { pss_viewed };
 
     ghost values = { pss_values };
 
@@ -90,12 +91,42 @@ impl DefaultFields for RsaPssParams<AnyRef<'_>> {
     }
 }
 
+impl RsaPssParamsView<'_> {
+    /// How many fields equal their defaults.
+    pub fn default_fields(&self) -> u8
+        ensures { HaveDefaults (pss_fields (pss_viewed self.now)) result }
+    {
+        DefaultFields::count_defaults(self)
+    }
+
+    /// Like `RsaPssParams::encode_spelling_into`.
+    pub fn encode_spelling_into(&self, mask: u8, out: &mut [u8]) -> Result<usize>
+        requires { IsMask (pss_fields (pss_viewed self.now)) mask }
+        ensures stands { IfOk result (λ n. StandsUnder pss_fields (pss_viewed self.now) mask (take n out.new)) }
+        ensures rest { IfOk result (λ n. (n ≤ length out.new) × (drop n out.new ≡ drop n out.old)) }
+        ensures unchanged { OnErr result (out.new ≡ out.old) }
+        ensures err { IfErr result (IsSpellingError (pss_fields (pss_viewed self.now)) mask (length out.old)) }
+    {
+        spell_into(self, mask, out)
+    }
+
+    /// Like `RsaPssParams::spellings`.
+    pub fn spellings(&self, alloc: Global) -> Result<Vec<Vec<u8>>>
+        ensures all { IfOk result (λ encodings. AreAllSpellings pss_fields (pss_viewed self.now)
+            (encodings_in encodings)) }
+        ensures fit { OnOk result (AllFit (pss_fields (pss_viewed self.now))) }
+        ensures err { IfErr result (IsListingError (pss_fields (pss_viewed self.now))) }
+    {
+        all_spellings(self, alloc)
+    }
+}
+
 impl<P: AnyValue> RsaPssParams<P> {
     /// How many fields equal their defaults.
     pub fn default_fields(&self) -> u8
         ensures { HaveDefaults (pss_fields (pss_with P.any self.now)) result }
     {
-        self.as_params_ref().count_defaults()
+        self.as_view().count_defaults()
     }
 
     /// Writes one spelling to the front of a slice and returns its length. Bit j of the mask (bit 0 is the lowest) says
@@ -108,7 +139,7 @@ impl<P: AnyValue> RsaPssParams<P> {
         ensures unchanged { OnErr result (out.new ≡ out.old) }
         ensures err { IfErr result (IsSpellingError (pss_fields (pss_with P.any self.now)) mask (length out.old)) }
     {
-        spell_into(&self.as_params_ref(), mask, out)
+        spell_into(&self.as_view(), mask, out)
     }
 
     /// Like `encode_spelling_into`, but returns the part of the slice that was written. A caller that needs in a proof
@@ -130,6 +161,6 @@ impl<P: AnyValue> RsaPssParams<P> {
         ensures fit { OnOk result (AllFit (pss_fields (pss_with P.any self.now))) }
         ensures err { IfErr result (IsListingError (pss_fields (pss_with P.any self.now))) }
     {
-        all_spellings(&self.as_params_ref(), alloc)
+        all_spellings(&self.as_view(), alloc)
     }
 }

@@ -1,32 +1,54 @@
-//! RSASSA-PSS parameters that borrow from the input.
-ghost use Rattle.std.specs.Prelude.{◌≡◌};
+//! RSASSA-PSS parameters over their encoding.
+ghost use Rattle.std.specs.Prelude.{◌≡◌, ◌≤◌, length, OnOk, IfErr};
+ghost use Rattle.der_core.specs.Reading.{TellsOfBytes};
+ghost use Rattle.der_core.specs.declared.error.ErrorKind as der;
 ghost use Rattle.pkcs1_params.specs.Allocating.{PssAllocates};
-ghost use Rattle.pkcs1_params.specs.Parameters.{PssParameters, PssContents};
+ghost use Rattle.pkcs1_params.specs.Errors.{IsAsn1};
+ghost use Rattle.pkcs1_params.specs.ParameterFaults.{RsaPssParamsFault, StrictPssFault};
+ghost use Rattle.pkcs1_params.specs.Parameters as grammar;
+ghost use Rattle.pkcs1_params.specs.Parameters.{PssParameters, PssContents, pss_fields, sha1, mgf1_sha1};
 ghost use Rattle.pkcs1_params.specs.Parts.{pss_values, HasFields, written_fields};
 ghost use Rattle.pkcs1_params.specs.Laws.Pss.{pss_means_one, pss_of_bytes};
 ghost use Rattle.pkcs1_params.specs.PssValue.{pss_of, pss_viewed};
 
+use crate::defaults::is_empty_sequence;
+use crate::error::{Error, Result};
 use crate::pss::{RsaPssParams, RsaPssParamsRef};
+use crate::spelling::encode_shortest;
+use crate::strict::reject_defaults;
 use crate::trailer_field::TrailerField;
-use crate::views::{MaskGenView, PlainView, keep_mask_gen, mgf1_view, sha1_view};
+use crate::views::{keep_mask_gen, mgf1_view, sha1_view};
 use der_core::{
-    Contents, DecodeValue, Header, Memory, Reader, Result, SequenceTag, TagNumber, TaggedBy,
+    Contents, Decode, DecodeValue, Header, Memory, NoMemory, Reader, SequenceTag, TagNumber,
+    TaggedBy,
 };
-use spki_core::read_field;
+use spki_core::{AlgorithmView, AnyRef, read_field};
 
-/// Parameters that borrow from the input: identifiers are copied once, when all is known to be valid.
+/// RSASSA-PSS parameters (RFC 8017 A.2.3) over their encoding, whose octets are their
+/// identifiers. Only `keep` copies them.
 #[derive(Clone, Copy, Drop)]
-pub(crate) struct PssView<'a> {
-    hash: PlainView<'a>,
-    mask_gen: MaskGenView<'a>,
-    salt_len: u8,
-    trailer_field: TrailerField,
+pub struct RsaPssParamsView<'a> {
+    /// The hash function; SHA-1 with NULL by default.
+    pub hash: AlgorithmView<'a, AnyRef<'a>>,
+    /// The mask generation function and its hash function; MGF1 with SHA-1 with NULL by default.
+    pub mask_gen: AlgorithmView<'a, AlgorithmView<'a, AnyRef<'a>>>,
+    /// The salt length in octets, from 0 to 255; 20 by default.
+    pub salt_len: u8,
+    /// The trailer field of an encoded message; `BC` by default.
+    pub trailer_field: TrailerField,
 }
 
-impl<'a> PssView<'a> {
-    /// Copies the identifiers.
+impl<'a> RsaPssParamsView<'a> {
+    ghost use Rattle.std.specs.Prelude.{ℕ, List, drop, take, IfOk, IsErrAnd, OnErr, ◌⊎◌};
+    ghost use Rattle.der_core.specs.Document.{Means, IsShortest};
+    ghost use Rattle.spki_core.specs.Explicit.{Masked};
+    ghost use Rattle.spki_core.specs.StrictFields.{NamesDefault};
+    ghost use Rattle.pkcs1_params.specs.Meanings.{IsWritingError};
+    ghost use Rattle.pkcs1_params.specs.Spellings.{HasTwoToTheDefaults};
+
+    /// The parameters as a struct that holds its identifiers.
     #[inline(always)]
-    pub(crate) fn keep(self) -> RsaPssParamsRef<'a>
+    pub fn keep(self) -> RsaPssParamsRef<'a>
         ensures { pss_of result ≡ pss_viewed self.entry }
     {
         RsaPssParams {
@@ -36,9 +58,84 @@ impl<'a> PssView<'a> {
             trailer_field: self.trailer_field,
         }
     }
+
+    /// Like `RsaPssParams::from_der_strict`.
+    pub fn from_der_strict(bytes: &'a [u8]) -> Result<RsaPssParamsView<'a>>
+        ensures ok { IfOk result (λ params. IsShortest grammar.RsaPssParams (pss_viewed params) bytes.now) }
+        ensures one { IfOk result (λ params. (other : PssParameters) → Means grammar.RsaPssParams bytes.now other
+            → other ≡ pss_viewed params) }
+        ensures default { IfErr result (λ e. (params : PssParameters) → Means grammar.RsaPssParams bytes.now params
+            → IsAsn1 (NamesDefault (pss_fields params) bytes.now) e) }
+        ensures err { IfErr result (λ e. (params : PssParameters)
+            → IsShortest grammar.RsaPssParams params bytes.now → ⊥) }
+        ensures asn1 { IfErr result (IsAsn1 (λ e. TellsOfBytes e.kind)) }
+        ensures exact { IfErr result (λ e. IsAsn1 (λ e. RsaPssParamsFault e.kind bytes.now) e
+            ⊎ ((params : PssParameters) × Means grammar.RsaPssParams bytes.now params
+            × IsAsn1 (NamesDefault (pss_fields params) bytes.now) e)) }
+        ensures only { (kind : der.ErrorKind)
+            → StrictPssFault kind bytes.now → IsErrAnd result (IsAsn1 (λ e. e.kind ≡ kind)) }
+    {
+        let params = RsaPssParamsView::try_from(bytes)?;
+        reject_defaults(&params, bytes)?;
+        Ok(params)
+    }
+
+    /// Like `RsaPssParams::encode_params`.
+    pub fn encode_params(&self, out: &mut [u8]) -> Result<usize>
+        ensures shortest { IfOk result (λ n. IsShortest grammar.RsaPssParams (pss_viewed self.now) (take n out.new)) }
+        ensures no_default { IfOk result (λ n. Masked (pss_fields (pss_viewed self.now)) 0 (take n out.new)) }
+        ensures rest { IfOk result (λ n. (n ≤ length out.new) × (drop n out.new ≡ drop n out.old)) }
+        ensures one { IfOk result (λ n. (other : PssParameters) → grammar.RsaPssParams other (take n out.new)
+            → other ≡ pss_viewed self.now) }
+        ensures count { OnOk result (HasTwoToTheDefaults pss_fields (pss_viewed self.now)) }
+        ensures unchanged { OnErr result (out.new ≡ out.old) }
+        ensures err { IfErr result (IsWritingError grammar.RsaPssParams (pss_viewed self.now) (length out.old)) }
+    {
+        encode_shortest(self, out)
+    }
 }
 
-impl Contents for PssView<'_> {
+impl<'a> Default for RsaPssParamsView<'a> {
+    /// Every field at its default.
+    #[inline(always)]
+    fn default() -> RsaPssParamsView<'a>
+        ensures { pss_viewed result ≡ record { hash = sha1; mask_gen = mgf1_sha1; salt_len = 20; trailer_field = 1 } }
+    {
+        RsaPssParamsView {
+            hash: sha1_view(),
+            mask_gen: mgf1_view(),
+            salt_len: RsaPssParamsRef::SALT_LEN_DEFAULT,
+            trailer_field: TrailerField::BC,
+        }
+    }
+}
+
+impl<'a> TryFrom<&'a [u8]> for RsaPssParamsView<'a> {
+    ghost use Rattle.std.specs.Prelude.{IfOk, IsErrAnd, OnErr};
+    ghost use Rattle.der_core.specs.Document.{Means};
+    ghost use Rattle.pkcs1_params.specs.Meanings.{IsNoSentence, IsOnlyMeaning};
+
+    type Error = Error;
+
+    /// Reads a whole slice. Nothing is allocated.
+    fn try_from(bytes: &'a [u8]) -> Result<RsaPssParamsView<'a>>
+        ensures ok { IfOk result (λ params. Means grammar.RsaPssParams bytes.now (pss_viewed params)) }
+        ensures one { IfOk result (λ params. IsOnlyMeaning grammar.RsaPssParams bytes.now (pss_viewed params)) }
+        ensures err { OnErr result (IsNoSentence grammar.RsaPssParams bytes.now) }
+        ensures asn1 { IfErr result (IsAsn1 (λ e. TellsOfBytes e.kind)) }
+        ensures exact { IfErr result (IsAsn1 (λ e. RsaPssParamsFault e.kind bytes.now)) }
+        ensures only { (kind : der.ErrorKind)
+            → RsaPssParamsFault kind bytes.now → IsErrAnd result (IsAsn1 (λ e. e.kind ≡ kind)) }
+    {
+        if is_empty_sequence(bytes) {
+            return Ok(RsaPssParamsView::default());
+        }
+        let params = RsaPssParamsView::from_der(NoMemory, bytes)?;
+        Ok(params)
+    }
+}
+
+impl Contents for RsaPssParamsView<'_> {
     ghost Value = { PssParameters };
 
     ghost value = { pss_viewed };
@@ -54,11 +151,11 @@ impl Contents for PssView<'_> {
     ghost contents_of_bytes = { pss_of_bytes };
 }
 
-impl TaggedBy for PssView<'_> {
+impl TaggedBy for RsaPssParamsView<'_> {
     type Marker = SequenceTag;
 }
 
-impl<'a, M: Memory> DecodeValue<&'a [u8], M> for PssView<'a> {
+impl<'a, M: Memory> DecodeValue<&'a [u8], M> for RsaPssParamsView<'a> {
     ghost use Rattle.spki_core.specs.Any.{Any};
     ghost use Rattle.spki_core.specs.Laws.AnyEncodings.{any_delimited};
     ghost use Rattle.spki_core.specs.AnyRefValue.{any_of};
@@ -77,7 +174,7 @@ impl<'a, M: Memory> DecodeValue<&'a [u8], M> for PssView<'a> {
         memory: M,
         reader: &mut R,
         _header: Header,
-    ) -> Result<PssView<'a>> {
+    ) -> der_core::Result<RsaPssParamsView<'a>> {
         let hash = read_field(memory, reader, TagNumber::new(0), sha1_view())?;
         let mask_gen = read_field(memory, reader, TagNumber::new(1), mgf1_view())?;
         let salt_len = read_field(
@@ -88,7 +185,7 @@ impl<'a, M: Memory> DecodeValue<&'a [u8], M> for PssView<'a> {
         )?;
         let trailer_field = read_field(memory, reader, TagNumber::new(3), TrailerField::BC)?;
         reader.finish()?;
-        Ok(PssView {
+        Ok(RsaPssParamsView {
             hash,
             mask_gen,
             salt_len,

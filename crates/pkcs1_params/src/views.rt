@@ -1,14 +1,14 @@
 //! Algorithms and label sources that borrow from the input.
 ghost use Rattle.std.specs.Prelude.{◌≡◌, []};
-ghost use Rattle.spki_core.specs.AlgorithmValue.{algorithm_of, mask_of, viewed_with};
+ghost use Rattle.spki_core.specs.AlgorithmValue.{algorithm_with, mask_of, viewed_with};
 ghost use Rattle.spki_core.specs.AnyRefValue.{any_of};
 ghost use Rattle.pkcs1_params.specs.Parameters.{with_parameters, sha1, mgf1_sha1, empty_label};
 
-use crate::hash_fields::{MaskGenRef, Mgf1, Sha1};
+use crate::hash_fields::{MaskGen, MaskGenRef, Mgf1, Sha1};
 use crate::p_source::PSpecified;
 use der_core::{NoMemory, Tag};
 use spki_core::{
-    AlgorithmIdentifier, AlgorithmView, AnyParams, AnyRef, AssociatedOid, IdentifierView,
+    AlgorithmIdentifier, AlgorithmView, AnyParams, AnyRef, AnyValue, AssociatedOid, IdentifierView,
 };
 
 /// A hash function or a label source.
@@ -64,6 +64,34 @@ pub(crate) fn keep_mask_gen<'a>(mask_gen: MaskGenView<'a>) -> MaskGenRef<'a>
         oid: mask_gen.oid.keep(),
         parameters: match mask_gen.parameters {
             Some(hash) => Some(hash.keep()),
+            None => None,
+        },
+    }
+}
+
+/// A hash function or a label source, borrowed.
+#[inline(always)]
+pub(crate) fn plain_view<P: AnyValue>(algorithm: &AlgorithmIdentifier<P>) -> PlainView<'_>
+    ensures { viewed_with any_of result ≡ algorithm_with P.any algorithm.now }
+{
+    AlgorithmView {
+        oid: algorithm.oid.as_view(),
+        parameters: match &algorithm.parameters {
+            Some(parameters) => Some(parameters.as_any_ref()),
+            None => None,
+        },
+    }
+}
+
+/// A mask generation function, borrowed.
+#[inline(always)]
+pub(crate) fn mask_gen_view<P: AnyValue>(mask_gen: &MaskGen<P>) -> MaskGenView<'_>
+    ensures { viewed_with (viewed_with any_of) result ≡ algorithm_with (algorithm_with P.any) mask_gen.now }
+{
+    AlgorithmView {
+        oid: mask_gen.oid.as_view(),
+        parameters: match &mask_gen.parameters {
+            Some(hash) => Some(plain_view(hash)),
             None => None,
         },
     }

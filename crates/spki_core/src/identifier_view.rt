@@ -1,5 +1,5 @@
 //! Object identifiers that borrow their octets from the input.
-ghost use Rattle.std.specs.Prelude.{◌≡◌, ℕ, ◌<◌, List, slice_index, IsTrue, IfOk, IfErr};
+ghost use Rattle.std.specs.Prelude.{◌≡◌, ℕ, ◌<◌, List, length, slice_index, IsTrue, IfOk, IfErr};
 ghost use Rattle.spki_core.specs.IdentifierTest as specs;
 ghost use Rattle.spki_core.specs.ObjectIdentifier.{IsIdentifier, IdentifierContents};
 ghost use Rattle.spki_core.specs.Laws.Identifiers.{identifier_means_one, identifier_contents_of_bytes};
@@ -62,6 +62,14 @@ impl<'a> IdentifierView<'a> {
         self.octets
     }
 
+    /// How many octets there are.
+    #[inline(always)]
+    fn octet_count(&self) -> u8
+        ensures { result ≡ length (octets_in self.now) }
+    {
+        self.octets.len() as u8
+    }
+
     /// Copies the octets.
     #[inline(always)]
     pub fn keep(self) -> ObjectIdentifier
@@ -121,7 +129,7 @@ impl<'a, M: Memory> DecodeValue<&'a [u8], M> for IdentifierView<'a> {
 
 impl EncodeValue for IdentifierView<'_> {
     fn value_len(&self) -> Result<Length> {
-        Length::try_from(self.as_bytes().len())
+        Ok(Length::of(self.octet_count() as usize))
     }
 
     fn append_value<W: Writer>(&self, writer: &mut W) -> Result<()> {

@@ -9,11 +9,13 @@ use Rattle.der_core.specs.Optional.{written_optional, HasOptional}
 use Rattle.der_core.specs.Laws.ShortEncodings.{tlv_short}
 use Rattle.der_core.specs.Tlv.{tlv}
 use Rattle.spki_core.specs.AlgorithmIdentifier.{written_plain, written_mask, HasPlain, HasMask}
-use Rattle.spki_core.specs.AlgorithmValue.{algorithm_of, mask_of}
+use Rattle.spki_core.specs.AlgorithmValue.{algorithm_of, mask_of, viewed_with}
+use Rattle.spki_core.specs.AnyRefValue.{any_of}
 use Rattle.spki_core.specs.FieldWriting.{written_field, HasField}
-use Rattle.spki_core.specs.Laws.Held.{identifier_held, identifier_short, plain_held, plain_short}
-use Rattle.spki_core.specs.ObjectIdentifierValue.{octets_of}
+use Rattle.spki_core.specs.Laws.Held.{identifier_held, identifier_short, octets_short, plain_held, plain_short, viewed_held, viewed_plain_held, viewed_plain_short}
+use Rattle.spki_core.specs.ObjectIdentifierValue.{octets_of, octets_in}
 use Rattle.spki_core.specs.declared.algorithm_identifier.AlgorithmIdentifier.{AlgorithmIdentifier}
+use Rattle.spki_core.specs.declared.algorithm_view.AlgorithmView.{AlgorithmView}
 use Rattle.spki_core.specs.declared.any.AnyRef.{AnyRef}
 
 pub mask_short : (a : AlgorithmIdentifier (AlgorithmIdentifier AnyRef)) → length (written_mask (mask_of a)) ≤ limit + 718
@@ -48,3 +50,21 @@ field_held false h = h
 pub field_short : (out : Bool) (number m : ℕ) (encoding : List ℕ) → length encoding ≤ m → m < 2 ^ 64 → length (written_field out number encoding) ≤ m + 128
 field_short true number m encoding h small = omega arith
 field_short false number m encoding h small = tlv_short (context_tag number) m encoding h small
+
+pub viewed_mask_held : (a : AlgorithmView (AlgorithmView AnyRef)) → HasMask (viewed_with (viewed_with any_of) a)
+viewed_mask_held a = (viewed_held a.oid, go a.parameters)
+  where
+    go : (p : Option (AlgorithmView AnyRef)) → HasOptional HasPlain (option_map (viewed_with any_of) p)
+    go None = tt
+    go (Some plain) = viewed_plain_held plain
+
+pub viewed_mask_short : (a : AlgorithmView (AlgorithmView AnyRef)) → length (written_mask (viewed_with (viewed_with any_of) a)) ≤ limit + 718
+viewed_mask_short a =
+    let oid = tlv object_identifier_tag (octets_in a.oid) in
+    let parameters = written_optional written_plain (option_map (viewed_with any_of) a.parameters) in
+    let l = length-append oid parameters in
+    tlv_short sequence_tag (limit + 590) (oid ++ parameters) (omega (arith, l, octets_short _ (viewed_held a.oid), go a.parameters)) (omega arith)
+  where
+    go : (p : Option (AlgorithmView AnyRef)) → length (written_optional written_plain (option_map (viewed_with any_of) p)) ≤ limit + 423
+    go None = omega arith
+    go (Some plain) = viewed_plain_short plain

@@ -1,9 +1,0 @@
-use Rattle.std.proofs.Common.{◌≤◌, ◌*◌, ◌+◌, length, subst, arith}
-use Rattle.der_core.specs.Length.{limit}
-use Rattle.pkcs1_params.specs.Parts.{HasFields, written_fields}
-use Rattle.pkcs1_params.proofs.oaep_spelling.RsaOaepParamsAnyRefDefaultFields.lemma_is_held.Goals as goal
-
-pub returns : goal.returns
-returns c = λ mask.
-    let held = subst (λ vs. HasFields vs mask × (length (written_fields vs mask) ≤ length vs * (limit + 846))) c.fields.ensures (c.lemma_are_held.ensures mask) in
-    (held.0, omega (arith, held.1))
