@@ -119,6 +119,16 @@ copies_keys() {
     copies 1 "$file" no_such_folder - copy priv priv.der no_such_folder/out.der
     copies 1 "$file" new.der - copy priv priv.der .
     copies 1 "$file" new.der - copy priv priv.der /dev/full
+    # A file of at most 1024 bytes takes the first part of a longer key; the write of the second fails.
+    cp ../../ffi/rust/tests/keys/priv2.der "$room/files/long_key.der"
+    (trap '' XFSZ && ulimit -f 1 && cd "$room/files" && "$program" copy priv long_key.der part.der < /dev/null > "$room/output" 2> "$room/error")
+    ends "copy priv long_key.der part.der" 1 "$file" "" $?
+    head -c 1024 "$room/files/long_key.der" | cmp -s - "$room/files/part.der" || fails "copy priv long_key.der part.der: another beginning"
+    # A key of 20 MB in 45 MB of addresses: its buffer grew to 34 MB, and there is no room for a second copy.
+    (hex 308401312d09028401312d00 && head -c 20000000 /dev/zero | tr '\0' '\021' && hex 020103) > "$room/files/large.der"
+    (ulimit -v 45000 && cd "$room/files" && "$program" copy pub large.der again.der < /dev/null > "$room/output" 2> "$room/error")
+    ends "copy pub large.der again.der" 0 "" "" $?
+    cmp -s "$room/files/large.der" "$room/files/again.der" || fails "copy pub large.der again.der: other bytes"
     copies 2 "$usage" kept.der $old copy
     copies 2 "$usage" new.der - copy pub pub.der
     copies 2 "$usage" kept.der $old copy pub pub.der kept.der more
@@ -137,6 +147,6 @@ for program in "$PWD/out/pkcs1_tool" "$PWD/out/pkcs1_tool.by-rattle"; do
         fails "it isn't there: rt ci builds it"
     fi
 done
-echo "run_built: $(grep -vc -e '^#' -e '^$' rows) rows and 37 runs, by each of two compilers"
+echo "run_built: $(grep -vc -e '^#' -e '^$' rows) rows and 39 runs, by each of two compilers"
 echo "$passed passed, $failed failed"
 [ "$failed" = 0 ]

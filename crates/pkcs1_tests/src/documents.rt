@@ -1,7 +1,7 @@
 //! Documents from sources and to sinks that move a few bytes per call, or fail at one; and documents in files.
 use crate::checks::{equal, holds};
 use crate::doubles::{FailingReader, Full, failing_at, giving, taking};
-use der_core::{Document, Error, ErrorKind, FromRead, SecretDocument, Sink, Source, ToWrite};
+use der_core::{Document, Error, ErrorKind, FromRead, SecretDocument, Sink, Source, Tag, ToWrite};
 use std::alloc::Global;
 use std::fs;
 use std::path::Path;
@@ -113,31 +113,68 @@ fn an_error_of_std_is_told_once(rt: HostRuntime) -> Result<(), Fail> {
     Ok(())
 }
 
+/// What a file held before.
+const OLD: &str = "an old text that is longer";
+
 #[test]
-fn documents_go_through_files(rt: HostRuntime) -> Result<(), Fail> {
+fn open_documents_go_through_files(rt: HostRuntime) -> Result<(), Fail> {
     let alloc = rt.alloc();
     let document = Document::from_der(alloc, TEXT)?;
-    let secret = SecretDocument::from_der(alloc, TEXT)?;
     let path = Path::new("document.der");
-    let absent = Document::read_der_file(&rt, alloc, path);
-    equal(&rt, absent, Err(FILE_ERROR));
-    fs::write(&rt, path, "an old text that is longer")?;
-    let old = Document::read_der_file(&rt, alloc, path);
-    equal(&rt, old.is_err(), true);
+    fs::write(&rt, path, OLD)?;
     document.write_der_file(&rt, path)?;
     let held = fs::read(&rt, path)?;
     let read = Document::read_der_file(&rt, alloc, path)?;
-    fs::write(&rt, path, "an old text that is longer")?;
-    secret.write_der_file(&rt, path)?;
-    let held_secret = fs::read(&rt, path)?;
-    let read_secret = SecretDocument::read_der_file(&rt, alloc, path)?;
     fs::remove_file(&rt, path)?;
     equal(&rt, held.as_slice(), TEXT);
     equal(&rt, read.as_bytes(), TEXT);
-    equal(&rt, held_secret.as_slice(), TEXT);
-    equal(&rt, read_secret.as_bytes(), TEXT);
-    let nowhere = Path::new("no_such_folder/document.der");
-    equal(&rt, document.write_der_file(&rt, nowhere), Err(FILE_ERROR));
-    equal(&rt, secret.write_der_file(&rt, nowhere), Err(FILE_ERROR));
+    Ok(())
+}
+
+#[test]
+fn secret_documents_go_through_files(rt: HostRuntime) -> Result<(), Fail> {
+    let alloc = rt.alloc();
+    let document = SecretDocument::from_der(alloc, TEXT)?;
+    let path = Path::new("secret.der");
+    fs::write(&rt, path, OLD)?;
+    document.write_der_file(&rt, path)?;
+    let held = fs::read(&rt, path)?;
+    let read = SecretDocument::read_der_file(&rt, alloc, path)?;
+    fs::remove_file(&rt, path)?;
+    equal(&rt, held.as_slice(), TEXT);
+    equal(&rt, read.as_bytes(), TEXT);
+    Ok(())
+}
+
+#[test]
+fn files_that_are_not_read_are_told(rt: HostRuntime) -> Result<(), Fail> {
+    let alloc = rt.alloc();
+    let path = Path::new("no_document.der");
+    let absent = Document::read_der_file(&rt, alloc, path);
+    equal(&rt, absent, Err(FILE_ERROR));
+    let folder = Document::read_der_file(&rt, alloc, Path::new("."));
+    equal(&rt, folder, Err(FILE_ERROR));
+    fs::write(&rt, path, OLD)?;
+    let read = Document::read_der_file(&rt, alloc, path);
+    fs::remove_file(&rt, path)?;
+    let found = ErrorKind::TagUnexpected {
+        expected: Tag::SEQUENCE,
+        actual: Tag::from_octet(b'a')?,
+    };
+    equal(&rt, read, Err(Error::new(found)));
+    Ok(())
+}
+
+#[test]
+fn files_that_are_not_written_are_told(rt: HostRuntime) -> Result<(), Fail> {
+    let alloc = rt.alloc();
+    let document = Document::from_der(alloc, TEXT)?;
+    let secret = SecretDocument::from_der(alloc, TEXT)?;
+    for path in ["no_such_folder/document.der", "/dev/full"] {
+        let written = document.write_der_file(&rt, Path::new(path));
+        equal(&rt, written, Err(FILE_ERROR));
+        let written = secret.write_der_file(&rt, Path::new(path));
+        equal(&rt, written, Err(FILE_ERROR));
+    }
     Ok(())
 }

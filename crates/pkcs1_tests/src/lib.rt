@@ -12,6 +12,8 @@ mod documents;
 #[cfg(test)]
 mod doubles;
 #[cfg(test)]
+mod key_files;
+#[cfg(test)]
 mod published;
 #[cfg(test)]
 mod readers;

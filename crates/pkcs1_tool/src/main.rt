@@ -3,48 +3,34 @@
 //! `pkcs1_lines` has the other words. `copy pub IN OUT` and `copy priv IN OUT` copy a key from file to file.
 #![tactic(auto)]
 
-mod copy;
-mod fault;
-mod new_file;
-mod plan;
-mod run;
+ghost use Rattle.std.specs.Prelude.{◌≡◌, Bool, is_ok};
+ghost use Rattle.tool_core.specs.Plan.{status_of};
 
-use copy::{copy_priv, copy_pub};
-use der_core::{FromRead, ToWrite};
-use fault::Fault;
-use plan::{Plan, plan_of, status};
 use std::fmt::Display;
-use std::io::BufWriter;
 use std::path::Path;
 use std::process::ExitCode;
 use std::{env, io};
+pub use tool_core::{
+    Fault, Plan, behind_name, copy_priv, copy_pub, plan_of, run, run_buffered, status,
+};
 
 const USAGE: &str = "usage: pkcs1_tool [copy pub|priv IN OUT]";
 
-const BUFFER: usize = 65536;
-
-/// The arguments, without the program's name.
-fn words_of(rt: &HostRuntime) -> io::Result<Vec<String>> {
-    let mut words = Vec::new(rt.alloc());
-    for word in env::args(rt)?.skip(1) {
-        words.push(word)?;
+/// The arguments, the program's name first.
+fn arguments(rt: &HostRuntime) -> io::Result<Vec<String>> {
+    let mut arguments = Vec::new(rt.alloc());
+    for argument in env::args(rt)? {
+        arguments.push(argument)?;
     }
-    Ok(words)
-}
-
-fn run_lines(rt: &HostRuntime) -> Result<(), Fault> {
-    let mut source = FromRead::new(rt.stdin());
-    let Ok(writer) = BufWriter::with_capacity(rt.alloc(), BUFFER, rt.stdout()) else {
-        return Err(Fault::Memory);
-    };
-    let mut sink = ToWrite::new(writer);
-    run::run(rt.alloc(), &mut source, &mut sink)
+    Ok(arguments)
 }
 
 /// Whether it succeeded. Prints an error to standard error.
-fn reported<E: Display + Drop>(rt: &impl Eprint, answer: Result<(), E>) -> bool {
-    match answer {
-        Ok(()) => true,
+fn reported<T: Drop, E: Display + Drop>(rt: &impl Eprint, outcome: Result<T, E>) -> bool
+    ensures { result ≡ is_ok outcome }
+{
+    match outcome {
+        Ok(_) => true,
         Err(error) => {
             let _ = eprintln!(rt; "{error}");
             false
@@ -53,10 +39,12 @@ fn reported<E: Display + Drop>(rt: &impl Eprint, answer: Result<(), E>) -> bool 
 }
 
 /// Carries out the plan, and returns the exit status.
-fn carry_out(rt: &HostRuntime, plan: &Plan<'_>) -> u8 {
+fn carry_out(rt: &HostRuntime, plan: &Plan<'_>) -> u8
+    ensures { (ok : Bool) × (result ≡ status_of plan.now ok) }
+{
     let ok = match plan {
-        Plan::Usage => reported(rt, Err(USAGE)),
-        Plan::Lines => reported(rt, run_lines(rt)),
+        Plan::Usage => reported::<(), _>(rt, Err(USAGE)),
+        Plan::Lines => reported(rt, run_buffered(rt.alloc(), rt.stdin(), rt.stdout())),
         Plan::CopyPub { input, output } => {
             let (input, output) = (Path::new(input), Path::new(output));
             reported(rt, copy_pub(rt, rt.alloc(), input, output))
@@ -70,10 +58,10 @@ fn carry_out(rt: &HostRuntime, plan: &Plan<'_>) -> u8 {
 }
 
 fn main(rt: HostRuntime) -> ExitCode {
-    let status = match words_of(&rt) {
-        Ok(words) => carry_out(&rt, &plan_of(words.as_slice())),
+    let status = match arguments(&rt) {
+        Ok(arguments) => carry_out(&rt, &plan_of(behind_name(arguments.as_slice()))),
         Err(error) if error.kind() == io::ErrorKind::OutOfMemory => {
-            status(&Plan::Lines, reported(&rt, Err(Fault::Memory)))
+            status(&Plan::Lines, reported::<(), _>(&rt, Err(Fault::Memory)))
         }
         Err(_) => carry_out(&rt, &Plan::Usage),
     };

@@ -1,16 +1,24 @@
-//! Runs over sources and sinks that move a few bytes per call and fail at one call.
+//! Runs over sources and sinks that move a few bytes per call and fail at one call; files; plans.
 mod doubles;
 
-use crate::fault::Fault;
-use crate::plan::{Plan, plan_of, status};
-use crate::run::run;
-use der_core::{FromRead, Sink, Source, ToWrite};
+use crate::{Fault, Plan, behind_name, plan_of, run, run_buffered, status};
+use der_core::{FromRead, Sink, Source, ToWrite, put_all};
 use doubles::{FailingReader, FailingWriter, Full, Many, Narrow, Slow};
+use std::fmt::Debug;
+use std::fs;
+use std::path::Path;
+use std::process::Abort;
 use std::test::Fail;
+use tool_core::{FileAt, NewFile};
 
 const INPUT: &[u8; 45] = b"pub 3006020107020103\n\npub 300602010702010300\n";
 
 const OUTPUT: &[u8; 54] = b"pub n=07 e=03 again=3006020107020103\nbad line\nrefused\n";
+
+/// Asserts that both are equal: one call, which is proved once.
+fn equal<T: PartialEq + Debug + Drop>(rt: &impl Abort, got: T, want: T) {
+    assert_eq!(rt; got, want);
+}
 
 #[test]
 fn answers_lines(rt: HostRuntime) -> Result<(), Fail> {
@@ -24,11 +32,23 @@ fn answers_lines(rt: HostRuntime) -> Result<(), Fail> {
         let mut source = FromRead::new(input);
         let mut sink = ToWrite::new(Vec::new(rt.alloc()));
         run(rt.alloc(), &mut source, &mut sink)?;
-        assert_eq!(rt; source.faults(), 0);
-        assert_eq!(rt; sink.faults(), 0);
-        assert_eq!(rt; sink.into_inner().as_slice(), want);
+        equal(&rt, (source.faults(), sink.faults()), (0, 0));
+        equal(&rt, sink.into_inner().as_slice(), want);
     }
     Ok(())
+}
+
+#[test]
+fn nothing_is_left_in_the_buffer(rt: HostRuntime) -> Result<(), Fail> {
+    let written = run_buffered(rt.alloc(), INPUT.as_slice(), Vec::new(rt.alloc()))?;
+    equal(&rt, written.as_slice(), OUTPUT.as_slice());
+    Ok(())
+}
+
+#[test]
+fn a_full_writer_is_told(rt: HostRuntime) {
+    let done = run_buffered(rt.alloc(), INPUT.as_slice(), Full);
+    equal(&rt, done.map(|_| ()), Err(Fault::Write));
 }
 
 #[test]
@@ -107,28 +127,59 @@ fn into_sink(rt: &HostRuntime, failing: u64) -> (Result<(), Fault>, u64, Failing
 }
 
 #[test]
-fn stops_on_the_first_error_of_std(rt: HostRuntime) {
+fn stops_on_the_first_error_of_a_reader(rt: HostRuntime) {
     let mut source = FromRead::new(FailingReader {
         left: INPUT,
         calls: 0,
     });
     let mut sink = ToWrite::new(Full);
-    assert_eq!(rt; run(rt.alloc(), &mut source, &mut sink), Err(Fault::Read));
-    assert_eq!(rt; source.faults(), 1);
-    assert_eq!(rt; source.into_inner().calls, 1);
-    assert_eq!(rt; sink.faults(), 0);
+    let done = run(rt.alloc(), &mut source, &mut sink);
+    equal(&rt, done, Err(Fault::Read));
+    equal(&rt, (source.faults(), sink.faults()), (1, 0));
+    equal(&rt, source.into_inner().calls, 1);
+}
+
+#[test]
+fn stops_on_a_writer_that_takes_nothing(rt: HostRuntime) {
+    let mut sink = ToWrite::new(Full);
     let done = run(rt.alloc(), &mut FromRead::new(b"\n".as_slice()), &mut sink);
-    assert_eq!(rt; done, Err(Fault::Write));
-    assert_eq!(rt; sink.faults(), 1);
+    equal(&rt, (done, sink.faults()), (Err(Fault::Write), 1));
+}
+
+#[test]
+fn stops_on_the_first_error_of_a_writer(rt: HostRuntime) {
     for (failing, output) in [(1, 0), (2, 37), (3, 46), (4, 54)] {
         let (done, faults, writer) = into_sink(&rt, failing);
-        assert_eq!(rt; done, Err(Fault::Write), "at {failing}");
-        assert_eq!(rt; (faults, writer.calls), (1, failing));
-        assert_eq!(rt; writer.taken.as_slice(), &OUTPUT[..output]);
+        equal(
+            &rt,
+            (done, faults, writer.calls),
+            (Err(Fault::Write), 1, failing),
+        );
+        equal(&rt, writer.taken.as_slice(), &OUTPUT[..output]);
     }
     let (done, faults, writer) = into_sink(&rt, 5);
-    assert_eq!(rt; (done, faults, writer.calls), (Ok(()), 0, 4));
-    assert_eq!(rt; writer.taken.as_slice(), OUTPUT.as_slice());
+    equal(&rt, (done, faults, writer.calls), (Ok(()), 0, 4));
+    equal(&rt, writer.taken.as_slice(), OUTPUT.as_slice());
+}
+
+#[test]
+fn a_new_file_is_created_at_the_first_write(rt: HostRuntime) -> Result<(), Fail> {
+    let path = Path::new("new_file");
+    fs::write(&rt, path, "an old text that is longer")?;
+    let mut file = NewFile::new(FileAt::new(&rt, path));
+    file.flush()?;
+    let before = fs::read(&rt, path)?;
+    put_all(b"one, ", &mut file)?;
+    put_all(b"two", &mut file)?;
+    let after = fs::read(&rt, path)?;
+    fs::remove_file(&rt, path)?;
+    equal(
+        &rt,
+        before.as_slice(),
+        b"an old text that is longer".as_slice(),
+    );
+    equal(&rt, after.as_slice(), b"one, two".as_slice());
+    Ok(())
 }
 
 #[test]
@@ -138,49 +189,62 @@ fn prints_faults(rt: HostRuntime) -> Result<(), Fail> {
         (Fault::Write, "fault: write"),
         (Fault::Memory, "fault: memory"),
     ] {
-        assert_eq!(rt; fault.to_string(rt.alloc())?.as_str(), want);
+        equal(&rt, fault.to_string(rt.alloc())?.as_str(), want);
+    }
+    Ok(())
+}
+
+/// The words of a line.
+fn words_in(rt: &HostRuntime, line: &str) -> Result<Vec<String>, Fail> {
+    let mut words = Vec::new(rt.alloc());
+    for word in line.split(' ') {
+        words.push(String::from_str(rt.alloc(), word)?)?;
+    }
+    Ok(words)
+}
+
+const PUBLIC: Plan<'static> = Plan::CopyPub {
+    input: "in",
+    output: "out",
+};
+
+const PRIVATE: Plan<'static> = Plan::CopyPriv {
+    input: "in",
+    output: "out",
+};
+
+#[test]
+fn plans(rt: HostRuntime) -> Result<(), Fail> {
+    equal(&rt, plan_of(behind_name(&[])), Plan::Lines);
+    for (line, want) in [
+        ("program", Plan::Lines),
+        ("program ", Plan::Usage),
+        ("program copy", Plan::Usage),
+        ("program copy pub in", Plan::Usage),
+        ("program copy pub in out", PUBLIC),
+        ("program copy priv in out", PRIVATE),
+        ("program copy pss in out", Plan::Usage),
+        ("program move pub in out", Plan::Usage),
+        ("program copy pub in out more", Plan::Usage),
+    ] {
+        let words = words_in(&rt, line)?;
+        equal(&rt, plan_of(behind_name(words.as_slice())), want);
     }
     Ok(())
 }
 
 #[test]
-fn plans(rt: HostRuntime) -> Result<(), Fail> {
-    assert_eq!(rt; plan_of(&[]), Plan::Lines);
-    let pair = Plan::CopyPub {
-        input: "in",
-        output: "out",
-    };
-    let secret = Plan::CopyPriv {
-        input: "in",
-        output: "out",
-    };
-    for (line, want) in [
-        ("", Plan::Usage),
-        ("copy", Plan::Usage),
-        ("copy pub in", Plan::Usage),
-        ("copy pub in out", pair),
-        ("copy priv in out", secret),
-        ("copy pss in out", Plan::Usage),
-        ("move pub in out", Plan::Usage),
-        ("copy pub in out more", Plan::Usage),
-    ] {
-        let mut words = Vec::new(rt.alloc());
-        for word in line.split(' ') {
-            words.push(String::from_str(rt.alloc(), word)?)?;
-        }
-        assert_eq!(rt; plan_of(words.as_slice()), want, "at {line}");
-    }
+fn exits(rt: HostRuntime) {
     for (plan, ok, want) in [
         (Plan::Lines, true, 0),
         (Plan::Lines, false, 1),
-        (pair, true, 0),
-        (pair, false, 1),
-        (secret, true, 0),
-        (secret, false, 1),
+        (PUBLIC, true, 0),
+        (PUBLIC, false, 1),
+        (PRIVATE, true, 0),
+        (PRIVATE, false, 1),
         (Plan::Usage, true, 2),
         (Plan::Usage, false, 2),
     ] {
-        assert_eq!(rt; status(&plan, ok), want);
+        equal(&rt, status(&plan, ok), want);
     }
-    Ok(())
 }

@@ -1,4 +1,0 @@
-pub mod Written
-pub mod Fault
-pub mod Plan
-pub mod Copied

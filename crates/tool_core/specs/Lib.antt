@@ -1,0 +1,5 @@
+pub mod Written
+pub mod Fault
+pub mod Plan
+pub mod Copied
+pub mod NewFile
