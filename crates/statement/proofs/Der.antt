@@ -1,0 +1,91 @@
+-- The statement's functions are what the library's relations relate, and back.
+use Rattle.std.proofs.Common.{ℕ, List, [], ◌∷◌, ◌++◌, ◌≡◌, ◌<◌, ◌≤◌, ◌==◌, length, refl, sym, subst, ap, ◌∙◌, arith, inl, inr, length-append, true, false}
+use Rattle.std.specs.Prelude.{nat_lt, slice_index}
+use Rattle.std.specs.Int.Digits.{number_from_digits, digits_of}
+use Rattle.std.proofs.lemmas.Bool.{cases_lt}
+use Rattle.std.proofs.lemmas.Bool.Decides.{nat_tests}
+use Rattle.std.proofs.lemmas.Int.Digits.{all_below_base_digits_of, number_digits_of, first_digits_of}
+use Rattle.der_core.specs.Length.{length_octets as der_octets}
+use Rattle.der_core.specs.Tlv as tlvs
+use Rattle.der_core.specs.Integer.{IsCanonical, Integer, integer_contents}
+use Rattle.der_core.specs.Laws.Encodings.{tlv_relates}
+use Rattle.der_core.specs.Document.{Means, HasEncoding, WhyNotWritten, EncodeError, no_encoding, too_long, no_room, another}
+use Rattle.der_core.specs.Writing.{encode_error}
+use Rattle.der_core.specs.Laws.Integer.{canonical_same, contents_at_most_one, integer_relates}
+use Rattle.der_core.specs.Laws.Length.{length_octets-only}
+use Rattle.pkcs1_params.specs.Meanings.{IsWritingError}
+use Rattle.pkcs1_params.specs.declared.error.Error.{Error}
+use Rattle.pkcs1_params.specs.declared.error.Error.TheVariants as error
+use Rattle.statement.specs.Statement.{octets, length_octets, tlv, integer, limit}
+
+pub length_octets_same : (n : ℕ) → der_octets n ≡ length_octets n
+unfolding der_octets length_octets
+length_octets_same n = refl
+
+pub tlv_same : (t : ℕ) (c : List ℕ) → tlvs.tlv t c ≡ tlv t c
+tlv_same t c = ap (λ x. t ∷ x ++ c) (length_octets_same (length c))
+
+-- What has a tag, and contents that are the same bytes.
+pub tlv_is : {P : List ℕ → Type 0} (t : ℕ) (w encoding : List ℕ) → ((c : List ℕ) → P c → c ≡ w) → tlvs.Tlv t P encoding → encoding ≡ tlv t w
+tlv_is t w encoding is p =
+    let o : p.octets ≡ length_octets (length p.contents) = length_octets-only (length p.contents) p.octets p.counted ∙ length_octets_same (length p.contents) in
+    p.written ∙ ap (λ x. t ∷ x ++ p.contents) o ∙ ap (tlv t) (is p.contents p.holds)
+
+-- Numbers and their bytes.
+octets_zero : (n : ℕ) → n ≡ 0 → octets n ≡ 0 ∷ []
+octets_zero n e = let t : (n == 0) ≡ true = grind (arith, nat_tests) in rw t refl
+
+octets_some : (n : ℕ) → 0 < n → octets n ≡ digits_of 256 n
+octets_some n h = let t : (n == 0) ≡ false = grind (arith, nat_tests) in rw t refl
+
+pub octets_canonical : (n : ℕ) → IsCanonical (octets n)
+octets_canonical n = elim (cases_lt 0 n) [
+  | inl h ↦ rw (octets_some n h) (inr (all_below_base_digits_of 256 n (omega arith), first_digits_of 256 n (omega arith) h))
+  | inr h ↦ rw (octets_zero n (omega arith)) (inl refl)
+]
+
+pub octets_number : (n : ℕ) → number_from_digits 256 (octets n) ≡ n
+octets_number n = elim (cases_lt 0 n) [
+  | inl h ↦ rw (octets_some n h) (number_digits_of 256 n (omega arith))
+  | inr h ↦ rw (octets_zero n (omega arith)) (omega arith)
+]
+
+pub number_octets : (x : List ℕ) → IsCanonical x → octets (number_from_digits 256 x) ≡ x
+number_octets x p = canonical_same (octets (number_from_digits 256 x)) x (octets_canonical (number_from_digits 256 x)) p (octets_number (number_from_digits 256 x))
+
+pub integer_is : (x encoding : List ℕ) → Integer x encoding → encoding ≡ integer (number_from_digits 256 x)
+integer_is x encoding p =
+    let same : octets (number_from_digits 256 x) ≡ x = number_octets x p.holds.0 in
+    tlv_is 2 (integer_contents x) encoding (λ c h. contents_at_most_one x c (integer_contents x) h (integer_relates x h.0)) p ∙ ap (λ y. tlv 2 (integer_contents y)) (sym same)
+
+-- A number's octets are no longer than its encoding.
+pub contents_fit : (x : List ℕ) → length x ≤ length (integer_contents x)
+contents_fit x = elim (cases_lt (slice_index x 0) 128) [
+  | inl h ↦ let e : nat_lt (slice_index x 0) 128 ≡ true = grind (arith, nat_tests) in rw e (omega arith)
+  | inr h ↦ let e : nat_lt (slice_index x 0) 128 ≡ false = grind (arith, nat_tests) in rw e (omega arith)
+]
+
+pub tlv_fit : (t : ℕ) (c : List ℕ) → length c ≤ length (tlv t c)
+tlv_fit t c = omega (arith, length-append (length_octets (length c)) c)
+
+pub octets_fit : (n : ℕ) → length (octets n) ≤ length (integer n)
+octets_fit n = omega (arith, contents_fit (octets n), tlv_fit 2 (integer_contents (octets n)))
+
+-- Why a value isn't written: no encoding of it fits.
+pub none_fits : {V : Type 0} (Grammar : V → List ℕ → Type 0) (v : V) (room : ℕ) (e : Error) (bytes : List ℕ) → IsWritingError Grammar v room e → Means Grammar bytes v → room < length bytes
+none_fits Grammar v room (error.Asn1 e) bytes h p = go (encode_error e.kind) h
+  where
+    go : (k : EncodeError) → WhyNotWritten (HasEncoding Grammar v) Grammar v room k → room < length bytes
+    go no_encoding h = absurd (h bytes p.1)
+    go too_long h = absurd (h.1 bytes p)
+    go no_room h = elim (h.1.least bytes p) [ inl same ↦ omega (arith, h.2, ap length same) | inr longer ↦ omega (arith, h.2, longer) ]
+    go another h = absurd h
+none_fits Grammar v room error.Crypto bytes h p = absurd h
+none_fits Grammar v room error.KeyMalformed bytes h p = absurd h
+none_fits Grammar v room error.Version bytes h p = absurd h
+
+pub tlv_made : {P : List ℕ → Type 0} (t : ℕ) (w encoding : List ℕ) → P w → encoding ≡ tlv t w → length encoding ≤ limit → tlvs.Tlv t P encoding
+tlv_made {P} t w encoding h e fits =
+    let same : tlvs.tlv t w ≡ encoding = tlv_same t w ∙ sym e in
+    let made : tlvs.Tlv t P (tlvs.tlv t w) = tlv_relates t (λ (_ : Unit {0}). P) (λ _. w) tt (λ _. h) (omega (arith, ap length same, fits)) in
+    subst (tlvs.Tlv t P) same made

@@ -1,0 +1,3 @@
+pub mod Statement
+pub mod Held
+pub mod Reading
