@@ -1,6 +1,6 @@
 -- Keys of given numbers.
 use Rattle.std.proofs.Common.{ℕ, List, [], ◌∷◌, ◌++◌, ◌≡◌, ◌≤◌, length, length-append, map, refl, sym, ap, subst, ◌∙◌, arith, Option, Some, None, inl, inr}
-use Rattle.std.specs.Prelude.{Result, Ok, Err, IfErr, OnErr, IsErrAnd}
+use Rattle.std.specs.Prelude.{Result, Ok, Err, IfErr, IsErrAnd}
 use Rattle.der_core.specs.Document.{Means}
 use Rattle.der_core.specs.Length.{limit}
 use Rattle.der_core.specs.Encodings.{Joins}
@@ -15,10 +15,6 @@ use Rattle.pkcs1_c.specs.Numbers.{IsNumberOf, ArePublicNumbers, IsOtherOf, AreOt
 pub err_all : {T E : Type 0} (P : E → Type 0) (r : Result T E) → ((e : E) → P e) → IfErr r P
 err_all P (Ok x) p = tt
 err_all P (Err e) p = p e
-
-pub on_err : {T E : Type 0} (P : Type 0) (r : Result T E) → P → OnErr r P
-on_err P (Ok x) p = tt
-on_err P (Err e) p = p
 
 -- What holds of an error that was handed on.
 pub err_handed : {T E : Type 0} (P : E → Type 0) (first : E) (r : Result T E) → IsErrAnd r (λ e. e ≡ first) → P first → IfErr r P

@@ -9,11 +9,6 @@ use Rattle.pkcs1_params.specs.Errors.{IsAsn1}
 use Rattle.pkcs1_params.specs.declared.error.Error.{Error}
 use Rattle.pkcs1_params.specs.declared.error.Error.TheVariants as error
 use Rattle.der_core.specs.Document.{Means}
-use Rattle.der_core.specs.declared.error.Error as der
-use Rattle.pkcs8_core.specs.Container.{Info, PrivateKeyInfo}
-use Rattle.pkcs8_core.specs.ContainerFaults.{RsaFault}
-use Rattle.pkcs8_core.specs.Laws.ContainerFaults.{info_whole_none}
-use Rattle.pkcs1_c.specs.Containers.{RsaContainerFault}
 use Rattle.pkcs1_c.specs.Status.{kind_number, status_of, IsNumberOfFault}
 
 -- An error that names a default has the number 5.
@@ -61,17 +56,6 @@ status_only kind (error.Asn1 a) number is p = is ∙ ap kind_number p
 status_only kind error.Crypto number is p = absurd p
 status_only kind error.KeyMalformed number is p = absurd p
 status_only kind error.Version number is p = absurd p
-
-pub asn1_as : {P Q : der.Error → Type 0} → ((a : der.Error) → P a → Q a) → (e : Error) → IsAsn1 P e → IsAsn1 Q e
-asn1_as f (error.Asn1 a) p = f a p
-asn1_as f error.Crypto p = absurd p
-asn1_as f error.KeyMalformed p = absurd p
-asn1_as f error.Version p = absurd p
-
--- Where an encoding is a container, the fault is of what it holds.
-pub held_fault : (encoding : List ℕ) (info : Info) → Means PrivateKeyInfo encoding info → ((other : Info) → Means PrivateKeyInfo encoding other → other ≡ info) → (kind : ErrorKind) → RsaContainerFault encoding kind → RsaFault info kind
-held_fault encoding info means one kind (inl fault) = absurd (info_whole_none kind encoding fault info means)
-held_fault encoding info means one kind (inr (other, m, fault)) = rw (one other m) at fault
 
 -- What strict reading rejects: a fault, or a default that is written.
 pub status_strict : {V : Type 0} (Grammar : V → List ℕ → Type 0) (fields : V → List Field) (Fault : ErrorKind → Type 0) (encoding : List ℕ) (e : Error) (number : ℕ) → number ≡ status_of e

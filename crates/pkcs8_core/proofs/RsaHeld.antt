@@ -1,5 +1,5 @@
 -- RSA keys in containers.
-use Rattle.std.proofs.Common.{◌≡◌, ◌⊎◌, ℕ, List, ⊎_elim, inl, inr}
+use Rattle.std.proofs.Common.{◌≡◌, ◌⊎◌, ℕ, List, ⊎_elim, inl, inr, subst}
 use Rattle.std.specs.Prelude.{Result, Ok, Err, IfOk, IfErr, IsErrAnd, OnErr}
 use Rattle.der_core.specs.declared.error.ErrorKind.{ErrorKind}
 use Rattle.der_core.specs.Document.{Means}
@@ -11,10 +11,11 @@ use Rattle.pkcs1.specs.Keys.{PrivateKey, RsaPrivateKey}
 use Rattle.pkcs1_params.specs.Errors.{IsAsn1}
 use Rattle.pkcs1_params.specs.declared.error.Error.{Error}
 use Rattle.pkcs1_params.specs.declared.error.Error.TheVariants as error
-use Rattle.pkcs8_core.specs.Container.{Info}
+use Rattle.pkcs1_params.specs.Meanings.{IsNoSentence, IsOnlyMeaning}
+use Rattle.pkcs8_core.specs.Container.{Info, PrivateKeyInfo}
 use Rattle.pkcs8_core.specs.ContainerFaults.{RsaFault}
 use Rattle.pkcs8_core.specs.Laws.ContainerFaults.{rsa_is}
-use Rattle.pkcs8_core.specs.Rsa.{HoldsRsa, NotRsa, rsa_encryption}
+use Rattle.pkcs8_core.specs.Rsa.{HoldsRsa, NotRsa, RsaPrivateKeyInfo, rsa_encryption}
 
 module _ {X : Type 0} (value : X → PrivateKey (List ℕ)) (info : Info) (q : List ℕ) (same : q ≡ info.private_key) where
   pub one_held : (r : Result X Error) → IfOk r (λ x. (other : PrivateKey (List ℕ)) → Means RsaPrivateKey q other → other ≡ value x)
@@ -58,3 +59,16 @@ rsa_key_fault info kind q same agrees (inr fault) = rw same fault.1
 
 pub faulty_only : {X : Type 0} (kind : ErrorKind) (q octets : List ℕ) → q ≡ octets → (r : Result X Error) → IsErrAnd r (IsAsn1 (λ e. Faulty e.kind (MayAllocate q) (e.kind ≡ kind))) → IsErrAnd r (IsAsn1 (λ e. Faulty e.kind (MayAllocate octets) (e.kind ≡ kind)))
 faulty_only kind q octets same r h = rw same at h
+
+-- What is said of the container that an encoding means, is said of the encoding.
+module _ {X : Type 0} (value : X → PrivateKey (List ℕ)) (encoding : List ℕ) (info : Info) (one : IsOnlyMeaning PrivateKeyInfo encoding info) where
+  held : (key : PrivateKey (List ℕ)) → Means RsaPrivateKeyInfo encoding key → HoldsRsa info key
+  held key m = subst (λ i. HoldsRsa i key) (one m.1.0 (m.0, m.1.1)) m.1.2
+
+  pub one_in : (r : Result X Error) → IfOk r (λ x. (other : PrivateKey (List ℕ)) → HoldsRsa info other → other ≡ value x) → IfOk r (λ x. IsOnlyMeaning RsaPrivateKeyInfo encoding (value x))
+  one_in (Ok x) f = λ key m. f key (held key m)
+  one_in (Err e) f = tt
+
+  pub none_in : (r : Result X Error) → OnErr r ((key : PrivateKey (List ℕ)) → HoldsRsa info key → ⊥) → OnErr r (IsNoSentence RsaPrivateKeyInfo encoding)
+  none_in (Ok x) f = tt
+  none_in (Err e) f = λ key m. f key (held key m)

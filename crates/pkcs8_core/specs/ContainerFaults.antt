@@ -2,6 +2,7 @@
 use Rattle.std.specs.Prelude.{ℕ, List, ◌≡◌, ◌⊎◌}
 use Rattle.der_core.specs.declared.error.ErrorKind.{ErrorKind}
 use Rattle.der_core.specs.declared.error.ErrorKind.TheVariants.{Value}
+use Rattle.der_core.specs.Document.{Means}
 use Rattle.der_core.specs.Faults.{EncodingFault, ThenFault, TaggedLastFault, WholeFault, SmallFault, NoFault, ExpectedFault}
 use Rattle.der_core.specs.Integer.{Small, SmallContents}
 use Rattle.der_core.specs.OctetString.{OctetString}
@@ -43,3 +44,7 @@ PrivateKeyInfoFault = WholeFault PrivateKeyInfo (EncodingFault sequence InfoFaul
 abbrev pub RsaFault : Info → ErrorKind → Type 0
 RsaFault info kind =
     NotRsa info.algorithm kind ⊎ ((info.algorithm ≡ rsa_encryption) × RsaPrivateKeyFault kind info.private_key)
+
+-- The first fault of a whole slice, as a container of an RSA key: that of the container, or else why it holds no such key.
+abbrev pub RsaPrivateKeyInfoFault : ErrorKind → List ℕ → Type 0
+RsaPrivateKeyInfoFault kind encoding = PrivateKeyInfoFault kind encoding ⊎ ((info : Info) × Means PrivateKeyInfo encoding info × RsaFault info kind)

@@ -8,7 +8,7 @@ use Rattle.spki_core.specs.Any.{TagAndContents, null_value}
 use Rattle.spki_core.specs.AlgorithmIdentifier.{Algorithm}
 use Rattle.pkcs1_params.specs.Parameters.{id_rsa_encryption, with_parameters}
 use Rattle.pkcs1.specs.Keys.{PrivateKey, RsaPrivateKey}
-use Rattle.pkcs8_core.specs.Container.{Info}
+use Rattle.pkcs8_core.specs.Container.{Info, PrivateKeyInfo}
 
 -- rsaEncryption with NULL (RFC 8017 A.1).
 abbrev pub rsa_encryption : Algorithm TagAndContents
@@ -17,6 +17,10 @@ rsa_encryption = with_parameters id_rsa_encryption null_value
 -- The container holds this RSA key.
 abbrev pub HoldsRsa : Info → PrivateKey (List ℕ) → Type 0
 HoldsRsa info key = (info.algorithm ≡ rsa_encryption) × Means RsaPrivateKey info.private_key key
+
+-- The encoding of a container that holds this RSA key.
+abbrev pub RsaPrivateKeyInfo : PrivateKey (List ℕ) → List ℕ → Type 0
+RsaPrivateKeyInfo key encoding = (info : Info) × PrivateKeyInfo info encoding × HoldsRsa info key
 
 -- The algorithm is rejected with this kind: another identifier, no parameters, or parameters other than NULL.
 pub data NotRsa (a : Algorithm TagAndContents) (e : ErrorKind) : Type 0 where

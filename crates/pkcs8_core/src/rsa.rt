@@ -8,11 +8,13 @@ ghost use Rattle.pkcs1.specs.KeyFaults.{RsaPrivateKeyFault};
 ghost use Rattle.pkcs1.specs.Keys.{PrivateKey};
 ghost use Rattle.pkcs1.specs.PrivateKeyValue.{private_key_of};
 ghost use Rattle.pkcs1_params.specs.Errors.{IsAsn1};
+ghost use Rattle.pkcs1_params.specs.Meanings.{IsNoSentence, IsOnlyMeaning};
+ghost use Rattle.der_core.specs.Document.{Means};
 ghost use Rattle.pkcs1.specs.ViewParts.{view_of, viewed_encoding};
-ghost use Rattle.pkcs8_core.specs.ContainerFaults.{RsaFault};
+ghost use Rattle.pkcs8_core.specs.ContainerFaults.{RsaFault, RsaPrivateKeyInfoFault};
 ghost use Rattle.der_core.specs.declared.error.ErrorKind as der;
 ghost use Rattle.pkcs8_core.specs.Held.{info_of};
-ghost use Rattle.pkcs8_core.specs.Rsa.{rsa_encryption, HoldsRsa, NotRsa};
+ghost use Rattle.pkcs8_core.specs.Rsa.{rsa_encryption, HoldsRsa, NotRsa, RsaPrivateKeyInfo};
 
 use crate::info::PrivateKeyInfoRef;
 use pkcs1::der::{Error, ErrorKind, Result, Tag};
@@ -74,4 +76,18 @@ impl<'a> PrivateKeyInfoRef<'a> {
         require_rsa(&self.algorithm)?;
         RsaPrivateKeyRef::decode_key(alloc, self.private_key.as_bytes())
     }
+}
+
+/// Decodes the RSA private key in the encoding of a container, and allocates nothing. The errors are those of
+/// `PrivateKeyInfoRef::try_from`, then those of `rsa_view`.
+pub fn rsa_from_pkcs8_der<'a>(bytes: &'a [u8]) -> pkcs1::Result<RsaPrivateKeyView<'a>>
+    ensures ok { IfOk result (λ view. Means RsaPrivateKeyInfo bytes.now (view_of view)) }
+    ensures one { IfOk result (λ view. IsOnlyMeaning RsaPrivateKeyInfo bytes.now (view_of view)) }
+    ensures err { OnErr result (IsNoSentence RsaPrivateKeyInfo bytes.now) }
+    ensures exact { IfErr result (IsAsn1 (λ e. RsaPrivateKeyInfoFault e.kind bytes.now)) }
+    ensures only { (kind : der.ErrorKind)
+        → RsaPrivateKeyInfoFault kind bytes.now → IsErrAnd result (IsAsn1 (λ e. e.kind ≡ kind)) }
+{
+    let info = PrivateKeyInfoRef::try_from(bytes)?;
+    info.rsa_view()
 }

@@ -25,7 +25,7 @@ use Rattle.spki_core.specs.Faults.{AnyFault, AlgorithmFault}
 use Rattle.spki_core.specs.Laws.Faults.{algorithm_fault_none, algorithm_fault_first, any_fault_none, any_fault_first}
 use Rattle.pkcs1.specs.Laws.KeyFaults.{private_key_whole_first}
 use Rattle.pkcs8_core.specs.Container.{Info, AttributesEncoding, InfoContents, PrivateKeyInfo}
-use Rattle.pkcs8_core.specs.ContainerFaults.{VersionEncoding, VersionFault, AttributesFault, BehindAlgorithm, BehindVersion, InfoFault, PrivateKeyInfoFault, RsaFault}
+use Rattle.pkcs8_core.specs.ContainerFaults.{VersionEncoding, VersionFault, AttributesFault, BehindAlgorithm, BehindVersion, InfoFault, PrivateKeyInfoFault, RsaFault, RsaPrivateKeyInfoFault}
 use Rattle.pkcs8_core.specs.Laws.Container.{info_delimited}
 use Rattle.pkcs8_core.specs.Rsa.{NotRsa, unknown, missing, other, rsa_encryption}
 use Rattle.pkcs8_core.specs.Tags.{attributes_tag}
@@ -113,3 +113,9 @@ rsa_fault_first info j k (inl p) (inl q) = not_rsa_first info.algorithm j k p q
 rsa_fault_first info j k (inl p) (inr q) = absurd (rsa_is info.algorithm j p q.0)
 rsa_fault_first info j k (inr p) (inl q) = absurd (rsa_is info.algorithm k q p.0)
 rsa_fault_first info j k (inr p) (inr q) = private_key_whole_first j k info.private_key p.1 q.1
+
+-- Where an encoding is a container, the fault is of what it holds.
+pub held_fault : (encoding : List ℕ) (info : Info) → Means PrivateKeyInfo encoding info → ((other : Info) → Means PrivateKeyInfo encoding other → other ≡ info)
+    → (kind : ErrorKind) → RsaPrivateKeyInfoFault kind encoding → RsaFault info kind
+held_fault encoding info means one kind (inl fault) = absurd (info_whole_none kind encoding fault info means)
+held_fault encoding info means one kind (inr (held, m, fault)) = rw (one held m) at fault

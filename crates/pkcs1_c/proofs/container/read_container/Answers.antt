@@ -5,8 +5,8 @@ use Rattle.pkcs1.specs.Keys.{PrivateKey}
 use Rattle.pkcs8_core.specs.Container.{Info, PrivateKeyInfo}
 use Rattle.pkcs8_core.specs.Rsa.{HoldsRsa}
 use Rattle.pkcs8_core.specs.Held.{info_of}
-use Rattle.pkcs1_c.proofs.Given.{on_err}
-use Rattle.pkcs1_c.proofs.NotWritten.{asn1_as, held_fault}
+use Rattle.pkcs8_core.specs.Laws.ContainerFaults.{held_fault}
+use Rattle.pkcs1_params.specs.Laws.Errors.{asn1_as, on_err}
 use Rattle.pkcs1_c.proofs.container.read_container.Goals as goal
 
 -- The encoding is no container with an RSA key.
