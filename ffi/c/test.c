@@ -61,6 +61,9 @@ static void private_keys(void) {
     CHECK(pkcs1_private_key_encode(&key, NULL, 0, out, sizeof out, &len) == PKCS1_OK && len == sizeof two);
     CHECK(memcmp(out, two, len) == 0);
     CHECK(pkcs1_private_key_encode(&empty, NULL, 0, out, sizeof out, &len) == PKCS1_LENGTH && len == sizeof two);
+    key.prime2.data = key.coefficient.data = NULL;
+    key.prime2.len = key.coefficient.len = 0;
+    CHECK(pkcs1_private_key_encode(&key, NULL, 0, out, sizeof out, &len) == PKCS1_LENGTH);
 }
 
 /* One other prime: the array's first element is filled, and no other. */
@@ -80,6 +83,12 @@ static void one_other_prime(void) {
     CHECK(pkcs1_private_key_encode(&key, others, 1, out, 3, &len) == PKCS1_NO_ROOM && len == sizeof three);
     CHECK(pkcs1_private_key_encode(&key, others, 1, out, sizeof out, &len) == PKCS1_OK && len == sizeof three);
     CHECK(memcmp(out, three, len) == 0);
+#ifndef __SANITIZE_ADDRESS__ /* calloc can't give that much: others isn't read */
+    len = 77;
+    old = key;
+    old.other_primes = (size_t)1 << 60;
+    CHECK(pkcs1_private_key_encode(&old, others, (size_t)1 << 60, out, sizeof out, &len) == PKCS1_OUT_OF_MEMORY && len == 77);
+#endif
     others[0].exponent.data = NULL;
     others[0].exponent.len = 0;
     CHECK(pkcs1_private_key_encode(&key, others, 1, out, sizeof out, &len) == PKCS1_LENGTH);
@@ -194,8 +203,24 @@ static void pss(void) {
 /* The fields after a false `has_..` aren't read. */
 static void absent_fields(void) {
     struct pkcs1_oaep_params oaep;
+    struct pkcs1_pss_params params;
+    struct pkcs1_private_key_info info;
     uint8_t out[64];
     size_t len;
+    memset(&info, 0xa5, sizeof info);
+    info.private_key.data = two;
+    info.private_key.len = sizeof two;
+    info.has_attributes = false;
+    CHECK(pkcs1_private_key_info_encode(&info, out, sizeof out, &len) == PKCS1_OK && len == 51);
+    memset(&params, 0xa5, sizeof params);
+    params.hash.oid = pkcs1_oid_sha1;
+    params.mask_gen.oid = pkcs1_oid_mgf1;
+    params.hash.has_parameters = params.mask_gen.has_hash = false;
+    params.trailer_field = 1;
+    params.salt_len = 200;
+    CHECK(pkcs1_pss_params_encode(&params, out, sizeof out, &len) == PKCS1_OK);
+    CHECK(pkcs1_pss_params_decode_strict(out, len, &params) == PKCS1_OK && params.salt_len == 200);
+    memset(&oaep, 0xa5, sizeof oaep);
     oaep.hash.oid = pkcs1_oid_sha256;
     oaep.hash.has_parameters = false;
     oaep.mask_gen.oid = pkcs1_oid_mgf1;
@@ -210,6 +235,9 @@ static void absent_fields(void) {
     CHECK(!oaep.mask_gen.has_hash && oaep.mask_gen.hash.oid.len == 0);
     CHECK(!oaep.hash.has_parameters && oaep.hash.tag == 0 && same(oaep.hash.parameters, "", 0));
     CHECK(pkcs1_oid_equal(&oaep.hash.oid, &pkcs1_oid_sha256) && !pkcs1_oid_equal(&oaep.hash.oid, &pkcs1_oid_sha384));
+    oaep.p_source.oid.len = 0;
+    len = 77;
+    CHECK(pkcs1_oaep_params_encode(&oaep, out, sizeof out, &len) == PKCS1_OID_MALFORMED && len == 77);
 }
 
 /* Parameters for each hash function: the constants are the right octets. */

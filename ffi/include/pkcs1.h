@@ -18,7 +18,7 @@
  * Lifetimes: decoders copy no number. A `pkcs1_bytes` that a decoder fills points into `der` (or into the library, for
  *   a default that the encoding leaves out), is never null, and must not be freed. No call keeps a pointer.
  * Overlap: `out`, `*len` and what a decoder fills must not overlap each other or any other argument.
- * Null: `der`, `others` and `out` may be null if their length is 0. No other argument may be null.
+ * Null: `der`, `others`, `out` and `label` may be null if their length is 0. No other argument may be null.
  * Threads: the calls share no state and take no locks, so any of them may run at the same time.
  * Memory: only pkcs1_private_key_encode allocates, for a key of more than two primes, and frees it before it returns.
  *
@@ -46,7 +46,7 @@ enum pkcs1_status {
     PKCS1_LENGTH = 4,              /* a number without octets */
     PKCS1_NONCANONICAL = 5,        /* not DER: needless zeros in front of a number; .._strict: a default is written out */
     PKCS1_OID_MALFORMED = 6,       /* an identifier that is empty, cut off, not in shortest form, or over 39 octets */
-    PKCS1_OID_UNKNOWN = 7,         /* PKCS #8 with another key than RSA */
+    PKCS1_OID_UNKNOWN = 7,         /* PKCS #8 with a key that isn't RSA, or an RSA key under id-RSASSA-PSS (RSA-PSS) */
     PKCS1_OVERFLOW = 8,            /* a length past 4294967295 */
     PKCS1_OVERLENGTH = 9,          /* not DER: a length in more octets than it needs */
     PKCS1_PARAMETERS_MISSING = 10, /* PKCS #8 whose rsaEncryption has no parameters */

@@ -51,6 +51,11 @@ impl ObjectIdentifier {
         Ok(ObjectIdentifier { octets, len: contents.len() as u8 })
     }
 
+    /// The same identifier with zeros after its octets: no clause says what the library leaves there.
+    fn tidy(&self) -> ObjectIdentifier {
+        known(self.as_bytes())
+    }
+
     /// The contents octets.
     pub fn as_bytes(&self) -> &[u8] {
         &self.octets[..usize::from(self.len)]
@@ -107,7 +112,7 @@ impl<'a> Algorithm<'a> {
     }
 
     pub(crate) fn seen(raw: &raw::Algorithm<'a>) -> Algorithm<'a> {
-        Algorithm { oid: raw.oid, parameters: raw.has_parameters.then(|| Any { tag: raw.tag, value: raw.parameters.get() }) }
+        Algorithm { oid: raw.oid.tidy(), parameters: raw.has_parameters.then(|| Any { tag: raw.tag, value: raw.parameters.get() }) }
     }
 
     pub(crate) fn raw(&self) -> raw::Algorithm<'a> {
@@ -132,7 +137,7 @@ impl<'a> MaskGen<'a> {
     }
 
     pub(crate) fn seen(raw: &raw::MaskGen<'a>) -> MaskGen<'a> {
-        MaskGen { oid: raw.oid, hash: raw.has_hash.then(|| Algorithm::seen(&raw.hash)) }
+        MaskGen { oid: raw.oid.tidy(), hash: raw.has_hash.then(|| Algorithm::seen(&raw.hash)) }
     }
 
     pub(crate) fn raw(&self) -> raw::MaskGen<'a> {

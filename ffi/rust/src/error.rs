@@ -25,7 +25,7 @@ errors! {
     NONCANONICAL = 5;
     /// An identifier that is empty, cut off, not in shortest form, or of more than 39 octets.
     OID_MALFORMED = 6;
-    /// PKCS #8 with another key than RSA.
+    /// PKCS #8 with a key that isn't RSA, or an RSA key under id-RSASSA-PSS (RSA-PSS).
     OID_UNKNOWN = 7;
     /// A length above 4294967295.
     OVERFLOW = 8;

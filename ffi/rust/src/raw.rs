@@ -17,7 +17,9 @@ impl<'a> Bytes<'a> {
     }
 
     pub fn get(self) -> &'a [u8] {
-        // SAFETY: made from a slice of this lifetime, here or by the library, whose contracts say so.
+        // SAFETY: pointer and length of a slice of this lifetime: of one that `new` was given, or, where the library
+        // filled them, of a part of the slice that it read or of a static one. Its contracts say which octets these
+        // are; that the pointers lead there is how its calls are compiled, and is tested, not proved.
         unsafe { core::slice::from_raw_parts(self.data, self.len) }
     }
 }

@@ -79,6 +79,8 @@ fn containers() {
     assert_eq!((made.to_vec().unwrap(), made.encoded_len()), (der.clone(), Ok(51)));
     let with = made.with_attributes(&[2, 1, 0]).to_vec().unwrap();
     assert_eq!(PrivateKeyInfo::try_from(&with[..]).unwrap().attributes(), Some(&[2, 1, 0][..]));
+    let with = PrivateKeyInfo::new(&TWO).unwrap().with_attributes(&[]).to_vec().unwrap();
+    assert_eq!((with.len(), PrivateKeyInfo::decode(&with).unwrap().attributes()), (53, Some(&[][..])));
     assert_eq!(PrivateKeyInfo::new(&TWO[..28]).unwrap_err(), Error::INCOMPLETE);
     assert_eq!(PrivateKeyInfo::decode(&TWO).unwrap_err(), Error::TAG_UNEXPECTED);
 }
@@ -93,6 +95,13 @@ fn identifiers() {
         assert_eq!(PssParams::new(oid, 20).to_vec(), Err(Error::OID_MALFORMED));
     }
     assert_eq!(format!("{:?}", ObjectIdentifier::SHA_256), "ObjectIdentifier(608648016503040201)");
+    assert_ne!(Any { tag: 4, value: &[] }, Any::NULL);
+    // what is read is equal to what is made, whatever the length of the identifier
+    for len in 1..=39 {
+        let oid = ObjectIdentifier::new(&[1; 39][..len]).unwrap();
+        let der = PssParams::new(oid, 20).to_vec().unwrap();
+        assert_eq!(PssParams::decode(&der), Ok(PssParams::new(oid, 20)));
+    }
 }
 
 #[test]
@@ -142,6 +151,7 @@ fn what_is_printed() {
     let error = PublicKey::decode(&[]).unwrap_err();
     assert_eq!((error.to_string(), format!("{error:?}")), ("the input ends too early".into(), "the input ends too early".into()));
     assert_eq!((error.status(), Error::OTHER_PRIMES.status()), (2, 21));
+    assert_eq!([Error::FAILED, Error::NO_ROOM, Error::FILE, Error::OUT_OF_MEMORY].map(Error::status), [1, 15, 16, 17]);
     assert_eq!(Error::OUT_OF_MEMORY.to_string(), "no memory was found");
     assert_eq!(version(), env!("CARGO_PKG_VERSION"));
 }

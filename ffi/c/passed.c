@@ -1,0 +1,153 @@
+/* Linked with --wrap between test.c, pkcs1.c and the proved calls. Stops where pkcs1.c passes a proved call a struct that isn't
+ * valid: a null, octets that can't be read, a `bool` that is neither 0 nor 1, or something after a false `has_..`; and
+ * where the library allocates, except to encode a key of more than two primes. */
+#include "pkcs1_c.h"
+#include <stdio.h>
+#include <stdlib.h>
+#include <string.h>
+
+#define VALID(c) do { if (!(c)) { fprintf(stderr, "%s:%d: %s\n", __func__, __LINE__, #c); abort(); } } while (0)
+
+/* Defines what is called in place of `call`: it does `before`, and calls it. */
+#define EACH(call, parameters, arguments, before)                                                                     \
+    uint32_t __real_##call parameters;                                                                                \
+    uint32_t __wrap_##call parameters;                                                                                \
+    uint32_t __wrap_##call parameters {                                                                               \
+        before;                                                                                                       \
+        return __real_##call arguments;                                                                               \
+    }
+
+static volatile uint8_t sum;
+
+/* How many other primes the key has that is being encoded. */
+static size_t others_given;
+
+/* The library calls these in place of those of the C library. */
+void *counted_malloc(size_t size);
+void *counted_realloc(void *old, size_t size);
+void *counted_calloc(size_t count, size_t size);
+
+void *counted_malloc(size_t size) {
+    VALID(others_given > 0);
+    return malloc(size);
+}
+
+void *counted_realloc(void *old, size_t size) {
+    VALID(others_given > 0);
+    return realloc(old, size);
+}
+
+void *counted_calloc(size_t count, size_t size) {
+    VALID(others_given > 0);
+    return calloc(count, size);
+}
+
+static void bytes(struct pkcs1_bytes b) {
+    VALID(b.data != NULL && b.len < (size_t)1 << 40);
+    for (size_t i = 0; i < b.len; i++)
+        sum ^= b.data[i];
+}
+
+static void flag(const bool *given) {
+    uint8_t octet;
+    memcpy(&octet, given, 1);
+    VALID(octet < 2);
+}
+
+static void algorithm(const struct pkcs1_algorithm *a) {
+    flag(&a->has_parameters);
+    bytes(a->parameters);
+    VALID(a->has_parameters || (a->tag == 0 && a->parameters.len == 0));
+}
+
+static void mask_gen(const struct pkcs1_mask_gen *m) {
+    flag(&m->has_hash);
+    algorithm(&m->hash);
+    VALID(m->has_hash || (m->hash.oid.len == 0 && !m->hash.has_parameters));
+}
+
+static void public_key(const struct pkcs1_public_key *key) {
+    bytes(key->modulus);
+    bytes(key->public_exponent);
+}
+
+static void private_key(const struct pkcs1_private_key *key) {
+    bytes(key->modulus), bytes(key->public_exponent), bytes(key->private_exponent), bytes(key->prime1);
+    bytes(key->prime2), bytes(key->exponent1), bytes(key->exponent2), bytes(key->coefficient);
+}
+
+static void primes(const struct pkcs1_other_prime *others, size_t count) {
+    for (size_t i = 0; i < count; i++)
+        bytes(others[i].prime), bytes(others[i].exponent), bytes(others[i].coefficient);
+}
+
+static void info(const struct pkcs1_private_key_info *given) {
+    flag(&given->has_attributes);
+    bytes(given->private_key);
+    bytes(given->attributes);
+    VALID(given->has_attributes || given->attributes.len == 0);
+}
+
+static void pss(const struct pkcs1_pss_params *params) {
+    algorithm(&params->hash);
+    mask_gen(&params->mask_gen);
+}
+
+static void oaep(const struct pkcs1_oaep_params *params) {
+    algorithm(&params->hash);
+    mask_gen(&params->mask_gen);
+    algorithm(&params->p_source);
+}
+
+EACH(pkcs1_c_public_key_decode,
+     (const uint8_t *der, size_t der_len, struct pkcs1_public_key *key),
+     (der, der_len, key), public_key(key))
+EACH(pkcs1_c_public_key_encode,
+     (const struct pkcs1_public_key *key, uint8_t *out, size_t room, size_t *len),
+     (key, out, room, len), public_key(key))
+EACH(pkcs1_c_private_key_decode,
+     (const uint8_t *der, size_t der_len, struct pkcs1_private_key *key,
+      struct pkcs1_other_prime *others, size_t others_room),
+     (der, der_len, key, others, others_room), private_key(key); primes(others, others_room))
+EACH(pkcs1_c_private_key_encode,
+     (const struct pkcs1_private_key *key, const struct pkcs1_other_prime *others, size_t others_len,
+      uint8_t *out, size_t room, size_t *len),
+     (key, others, others_len, out, room, len), private_key(key); primes(others, others_len))
+EACH(pkcs1_c_private_key_info_decode,
+     (const uint8_t *der, size_t der_len, struct pkcs1_private_key_info *given, struct pkcs1_private_key *key,
+      struct pkcs1_other_prime *others, size_t others_room),
+     (der, der_len, given, key, others, others_room), info(given); private_key(key); primes(others, others_room))
+EACH(pkcs1_c_private_key_info_encode,
+     (const struct pkcs1_private_key_info *given, uint8_t *out, size_t room, size_t *len),
+     (given, out, room, len), info(given))
+EACH(pkcs1_c_pss_params_decode,
+     (const uint8_t *der, size_t der_len, struct pkcs1_pss_params *params),
+     (der, der_len, params), pss(params))
+EACH(pkcs1_c_pss_params_decode_strict,
+     (const uint8_t *der, size_t der_len, struct pkcs1_pss_params *params),
+     (der, der_len, params), pss(params))
+EACH(pkcs1_c_pss_params_encode,
+     (const struct pkcs1_pss_params *params, uint8_t *out, size_t room, size_t *len),
+     (params, out, room, len), pss(params))
+EACH(pkcs1_c_oaep_params_decode,
+     (const uint8_t *der, size_t der_len, struct pkcs1_oaep_params *params),
+     (der, der_len, params), oaep(params))
+EACH(pkcs1_c_oaep_params_decode_strict,
+     (const uint8_t *der, size_t der_len, struct pkcs1_oaep_params *params),
+     (der, der_len, params), oaep(params))
+EACH(pkcs1_c_oaep_params_encode,
+     (const struct pkcs1_oaep_params *params, uint8_t *out, size_t room, size_t *len),
+     (params, out, room, len), oaep(params))
+
+/* The one call that may allocate. */
+uint32_t __real_pkcs1_private_key_encode(const struct pkcs1_private_key *key, const struct pkcs1_other_prime *others,
+                                         size_t others_len, uint8_t *out, size_t room, size_t *len);
+uint32_t __wrap_pkcs1_private_key_encode(const struct pkcs1_private_key *key, const struct pkcs1_other_prime *others,
+                                         size_t others_len, uint8_t *out, size_t room, size_t *len);
+uint32_t __wrap_pkcs1_private_key_encode(const struct pkcs1_private_key *key, const struct pkcs1_other_prime *others,
+                                         size_t others_len, uint8_t *out, size_t room, size_t *len) {
+    others_given = others_len;
+    uint32_t status = __real_pkcs1_private_key_encode(key, others, others_len, out, room, len);
+    others_given = 0;
+    return status;
+}
