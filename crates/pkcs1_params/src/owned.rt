@@ -1,7 +1,7 @@
 //! Reading parameters whose algorithms have owned parameters: those that borrow from the input, copied.
 ghost use Rattle.std.specs.Prelude.{◌≡◌, ◌⊎◌, IfOk, IfErr};
 ghost use Rattle.der_core.specs.declared.error.ErrorKind.TheVariants.{OutOfMemory};
-ghost use Rattle.pkcs1_params.specs.Allocating.{PssAllocates, OaepAllocates, AllocatesForAny, HasOctets, HasParameters};
+ghost use Rattle.pkcs1_params.specs.Allocating.{OwnedPssAllocates, OwnedOaepAllocates, HasOctets, HasParameters};
 ghost use Rattle.pkcs1_params.specs.Allocating.{HashesHaveOctets};
 ghost use Rattle.pkcs1_params.specs.PssValue.{pss_with, pss_of};
 ghost use Rattle.pkcs1_params.specs.OaepValue.{oaep_with, oaep_of};
@@ -100,7 +100,7 @@ impl<'a> DecodeValue<&'a [u8], Global> for RsaPssParams<Any> {
     ghost use Rattle.pkcs1_params.specs.ParameterFaults.{PssFault};
     ghost use Rattle.pkcs1_params.specs.Laws.ParameterFaults.{pss_fault_none, pss_fault_first};
 
-    ghost may_allocate = { PssAllocates AllocatesForAny };
+    ghost may_allocate = { OwnedPssAllocates };
 
     ghost fault = { PssFault grammar.Any AnyFault };
 
@@ -126,7 +126,7 @@ impl<'a> DecodeValue<&'a [u8], Global> for RsaOaepParams<Any> {
     ghost use Rattle.pkcs1_params.specs.ParameterFaults.{OaepFault};
     ghost use Rattle.pkcs1_params.specs.Laws.ParameterFaults.{oaep_fault_none, oaep_fault_first};
 
-    ghost may_allocate = { OaepAllocates AllocatesForAny };
+    ghost may_allocate = { OwnedOaepAllocates };
 
     ghost fault = { OaepFault grammar.Any AnyFault };
 
