@@ -7,7 +7,7 @@ cd "$(dirname "$0")/.."
 exec python3 - <<'END'
 import fnmatch, glob, os, re, sys
 
-ALLOWED = set('rt selftest umask'.split())
+ALLOWED = set('rt selftest umask start_lib bazel holes lemma'.split())
 PLACEHOLDER = r'[A-Z0-9]+|[0-9a-f]*\d[0-9a-f]*|\w'
 COMMENT = {'.rt': r'//.*', '.rs': r'//.*', '.c': r'/[/*].*', '.h': r'/\*.*', '.antt': r'--.*'}
 
