@@ -2,7 +2,8 @@
 use crate::checks::{equal, holds};
 use der_core::{AsUintRef, Document, Error, ErrorKind, SecretDocument, Tag, UintRef};
 use pkcs1::{
-    ALGORITHM_OID, OtherPrimeInfo, RsaOaepParamsRef, RsaPrivateKeyOwned, RsaPssParamsRef, Version,
+    ALGORITHM_OID, OtherPrimeInfo, RsaOaepParamsRef, RsaOaepParamsView, RsaPrivateKeyOwned,
+    RsaPssParamsRef, RsaPssParamsView, Version,
 };
 use spki_core::{AnyRef, AssociatedOid, ObjectIdentifier};
 use std::alloc::Global;
@@ -62,6 +63,24 @@ fn values_are_compared_by_what_they_mean(rt: HostRuntime) -> Result<(), Fail> {
         &rt,
         copy.prime == number && copy.exponent == other && copy.coefficient == number,
     );
+    Ok(())
+}
+
+#[test]
+fn views_of_parameters_are_kept_and_written(rt: HostRuntime) -> Result<(), Fail> {
+    let salted = [0x30, 0x05, 0xa2, 0x03, 0x02, 0x01, 0x20];
+    let pss = RsaPssParamsView::from_der_strict(&salted)?;
+    equal(
+        &rt,
+        pss.keep(),
+        RsaPssParamsRef::try_from(salted.as_slice())?,
+    );
+    equal(&rt, (pss.salt_len, pss.default_fields()), (32, 3));
+    let mut slice = [0; 8];
+    let length = pss.encode_params(&mut slice)?;
+    equal(&rt, &slice[..length], salted.as_slice());
+    let oaep = RsaOaepParamsView::try_from([0x30, 0x00].as_slice())?;
+    equal(&rt, oaep.keep(), RsaOaepParamsRef::default());
     Ok(())
 }
 
