@@ -133,7 +133,5 @@ pub fn run_buffered<R: Read + Drop, W: Write + Drop>(
     };
     let mut sink = ToWrite::new(buffer);
     run(alloc, &mut FromRead::new(reader), &mut sink)?;
-    sink.into_inner()
-        .into_inner()
-        .map_err(|_| Fault::Write)
+    sink.into_inner().into_inner().map_err(|_| Fault::Write)
 }
