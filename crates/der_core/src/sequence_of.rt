@@ -1,8 +1,9 @@
 //! SEQUENCE OF (X.690 8.10), as a `Vec` of its items.
-ghost use Rattle.std.specs.Prelude.{◌≡◌, ◌≤◌, ◌<◌, List, length, map};
+ghost use Rattle.std.specs.Prelude.{◌≡◌, ◌≤◌, List, length, map};
 ghost use Rattle.der_core.specs.Length.{limit};
 ghost use Rattle.der_core.specs.BackWriters.{free_of, Prepends};
 ghost use Rattle.der_core.specs.Faults.{ItemsFault};
+ghost use Rattle.der_core.specs.Reading.{AllocatesForItems};
 ghost use Rattle.der_core.specs.Laws.Faults.{items_fault_none, items_fault_first};
 ghost use Rattle.der_core.specs.Writing.{Counts, Appends};
 ghost use Rattle.der_core.specs.Laws.SequenceOf.{items_of_bytes, items_relate, items_shortest};
@@ -41,7 +42,7 @@ impl<T> TaggedBy for Vec<T> {
 }
 
 impl<'a, T: Decode<&'a [u8], Global>> DecodeValue<&'a [u8], Global> for Vec<T> {
-    ghost may_allocate = { λ c. 0 < length c };
+    ghost may_allocate = { AllocatesForItems T.encoding T.Decode.may_allocate };
 
     ghost fault = { ItemsFault T.encoding T.Decode.fault };
 

@@ -8,22 +8,18 @@ use Rattle.der_core.specs.Integer.{Small}
 use Rattle.der_core.specs.declared.error.ErrorKind.{ErrorKind}
 use Rattle.der_core.specs.Input.{Input}
 use Rattle.der_core.specs.Reading.{AllocatesBehind}
-use Rattle.der_core.specs.Laws.Sequences.{some_same, behind_within, first_faults, rest_faults, EncodingGives, ContentsGive, ContentsFaulty}
+use Rattle.der_core.specs.Laws.Sequences.{some_same, first_faults, rest_faults, EncodingGives, ContentsGive, ContentsFaulty}
 use Rattle.der_core.specs.Faults.{EncodingFault, ThenFault, FaultyFront}
-use Rattle.der_core.specs.Reading.{AllocatesWithin}
 use Rattle.der_core.specs.Tags.{integer}
 use Rattle.pkcs1.specs.KeyFaults.{Counted, VersionFault, CountedFault, OthersFault, PrivateKeyFault}
-use Rattle.pkcs1.specs.Allocating.{AllocatesInKey}
+use Rattle.pkcs1.specs.Allocating.{AllocatesCounted, AllocatesInKey, VersionEncoding}
 use Rattle.pkcs1.specs.Keys.{OtherPrimeInfos, OthersOf, version_of, PrivateKey, PrivateKeyContents}
 use Rattle.pkcs1.specs.Writing.{key_numbers}
 use Rattle.pkcs1.specs.Laws.PrivateKey.{joins_put}
 use Rattle.pkcs1.specs.Versions.{VersionContents}
 use Rattle.pkcs1.proofs.NumberReads.{first_part}
 
-abbrev VersionEncoding : ℕ → List ℕ → Type 0
-VersionEncoding n encoding = Tlv 2 (VersionContents n) encoding
-
-as_small : (n : ℕ) (encoding : List ℕ) → VersionEncoding n encoding → Small n encoding
+pub as_small : (n : ℕ) (encoding : List ℕ) → VersionEncoding n encoding → Small n encoding
 as_small n encoding p = record { octets = p.octets; contents = p.contents; counted = p.counted; holds = p.holds.1; written = p.written }
 
 module _ {V : Type 0} (encoding : V → List ℕ → Type 0) where
@@ -43,12 +39,12 @@ module _ {V : Type 0} (encoding : V → List ℕ → Type 0) where
     behind_faults asked = rest_faults VersionEncoding (EncodingFault integer VersionFault) Behind (AllocatesInKey encoding may_allocate others_ask) asked _ _ _ _ _
 
     pub key_numbers_faults : {n : ℕ} {before one after : Input} {e : ErrorKind} → EncodingGives VersionEncoding n before one
-        → ContentsFaulty (CountedFault 8 encoding Fault) (AllocatesWithin may_allocate) e one after → KeyFaulty e before after
-    key_numbers_faults gives fails = behind_faults (λ c w. inl (behind_within c w)) gives (first_part (Counted 8 encoding) (CountedFault 8 encoding Fault) (λ _. OthersFault encoding Fault _) _ fails)
+        → ContentsFaulty (CountedFault 8 encoding Fault) (AllocatesCounted 8 encoding may_allocate) e one after → KeyFaulty e before after
+    key_numbers_faults gives fails = behind_faults (λ c w. inl w) gives (first_part (Counted 8 encoding) (CountedFault 8 encoding Fault) (λ _. OthersFault encoding Fault _) _ fails)
 
     others_asked : (c : List ℕ) → AllocatesBehind VersionEncoding (AllocatesBehind (Counted 8 encoding) others_ask) c → AllocatesInKey encoding may_allocate others_ask c
     others_asked c (n, (x, y, version, (vs, (read, rest, counted, asks, same)), is)) =
-        inr (n, vs, x ++ read, rest, counted.0, (x, read, as_small n x version, counted.1, refl), asks, is ∙ ap (λ r. x ++ r) same ∙ sym (append_assoc x read rest))
+        inr (n, vs, x ++ read, rest, counted.0, (x, read, version, counted.1, refl), asks, is ∙ ap (λ r. x ++ r) same ∙ sym (append_assoc x read rest))
 
     pub key_others_faults : {n : ℕ} (vs : List V) {before one mid after : Input} {e : ErrorKind} → EncodingGives VersionEncoding n before one → EncodingGives (Counted 8 encoding) vs one mid
         → ContentsFaulty (OthersFault encoding Fault n) others_ask e mid after → KeyFaulty e before after
@@ -73,4 +69,4 @@ module _ {V : Type 0} (encoding : V → List ℕ → Type 0) where
 -- Where neither the numbers nor the other primes ask for memory, the key doesn't.
 pub no_asking : {V : Type 0} (encoding : V → List ℕ → Type 0) (Fault : ErrorKind → List ℕ → Type 0) {e : ErrorKind} {before after : Input} → KeyFaulty encoding Fault (Tlv 2 (λ _. ⊥)) (λ _. ⊥) e before after
     → ContentsFaulty (PrivateKeyFault encoding Fault) (λ _. ⊥) e before after
-no_asking encoding Fault fails = (fails.0, λ c is. ⊎_elim (λ w. ⊎_elim (λ a. absurd a.4.holds) (λ b. absurd b.6) w.1) (λ w. inr w) (fails.1 c is))
+no_asking encoding Fault fails = (fails.0, λ c is. ⊎_elim (λ w. ⊎_elim (λ a. let w = a.1.3.2.3 in absurd w.3.holds) (λ b. absurd b.6) w.1) (λ w. inr w) (fails.1 c is))

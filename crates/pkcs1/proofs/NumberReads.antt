@@ -5,9 +5,10 @@ use Rattle.der_core.specs.Encodings.{Then, Joins, IsDelimited}
 use Rattle.der_core.specs.Laws.Lists.{same_fronts, cons_path}
 use Rattle.der_core.specs.declared.error.ErrorKind.{ErrorKind}
 use Rattle.der_core.specs.Input.{Input, read_from, end_of}
-use Rattle.der_core.specs.Reading.{AllocatesWithin}
+use Rattle.der_core.specs.Reading.{AllocatesBehind, AllocatesIn}
 use Rattle.der_core.specs.Laws.Encodings.{last_holds}
 use Rattle.der_core.specs.Faults.{ThenFault, EndFault, FaultyFront}
+use Rattle.pkcs1.specs.Allocating.{AllocatesCounted}
 use Rattle.pkcs1.specs.KeyFaults.{Counted, CountedFault, OtherPrimeFault}
 use Rattle.der_core.specs.Laws.Sequences.{some_same, EncodingGives, ContentsFaulty, more_than_end}
 use Rattle.pkcs1.specs.Laws.PrivateKey.{joins_put}
@@ -51,6 +52,15 @@ module _ {V : Type 0} (encoding : V → List ℕ → Type 0) (d : IsDelimited en
       let more = as_many vs ws parts p.1 rest has.1 p.3 (omega arith) (sym tails.1) has.3 in
       (cons_path same.1 more.0, more.1)
 
+-- The first of some numbers may need memory, or a number behind it.
+module _ {V : Type 0} {encoding : V → List ℕ → Type 0} {may_allocate : List ℕ → Type 0} where
+  pub counted_first : (n : ℕ) → 0 < n → (c : List ℕ) → AllocatesIn may_allocate c → AllocatesCounted n encoding may_allocate c
+  counted_first n some c w = ([], some, ([], c, refl, w, refl))
+
+  pub counted_behind : (n m : ℕ) → n < m → (c : List ℕ) → AllocatesBehind encoding (AllocatesCounted n encoding may_allocate) c → AllocatesCounted m encoding may_allocate c
+  counted_behind n m more c (v, (x, rest, t, (vs, l, (a, b, p, w, f)), is)) =
+      (v ∷ vs, omega (arith, l, more), (x ++ a, b, (x, a, t, p, refl), w, is ∙ ap (λ r. x ++ r) f ∙ sym (append_assoc x a b)))
+
 -- A fault of the first part is one of the whole.
 pub first_part : {A : Type 0} (Encoding : A → List ℕ → Type 0) (Fault : ErrorKind → List ℕ → Type 0) (Behind : A → ErrorKind → List ℕ → Type 0) (asks : List ℕ → Type 0) {e : ErrorKind} {before after : Input}
     → ContentsFaulty Fault asks e before after → ContentsFaulty (ThenFault Encoding Fault Behind) asks e before after
@@ -59,22 +69,22 @@ first_part Encoding Fault Behind asks fails = (fails.0, λ c is. ⊎_elim inl (�
 -- The faults of numbers, one after another.
 module _ {V : Type 0} {encoding : V → List ℕ → Type 0} (Fault : ErrorKind → List ℕ → Type 0) (may_allocate : List ℕ → Type 0) where
   pub number_faults : (n : ℕ) {vs : List V} {before mid after : Input} {e : ErrorKind} → length vs < n → GivesAll encoding vs before mid → after ≡ None → FaultyFront Fault may_allocate e mid
-      → ContentsFaulty (CountedFault n encoding Fault) (AllocatesWithin may_allocate) e before after
+      → ContentsFaulty (CountedFault n encoding Fault) (AllocatesCounted n encoding may_allocate) e before after
   number_faults n {vs} l all failed fault = (
     failed,
     λ c is.
         let a = all.split c is in
         ⊎_elim
-        (λ w. let p = w.1 in inl (w.0, (a.0, p.0, p.1, a.4 ∙ ap (λ r. a.0 ++ r) p.2, p.3)))
+        (λ w. inl (w.0, (vs, l, (a.0, a.1, a.2, w.1, a.4))))
         (λ f. inr (vs, l, (a.0, a.1, a.2, f, a.4)))
         (fault a.1 a.3),
   )
 
   -- three numbers, and nothing behind them
   pub other_number_faults : {vs : List V} {before mid after : Input} {e : ErrorKind} → length vs < 3 → GivesAll encoding vs before mid → after ≡ None → FaultyFront Fault may_allocate e mid
-      → ContentsFaulty (OtherPrimeFault encoding Fault) (AllocatesWithin may_allocate) e before after
+      → ContentsFaulty (OtherPrimeFault encoding Fault) (AllocatesCounted 3 encoding may_allocate) e before after
   other_number_faults l all failed fault = first_part (Counted 3 encoding) (CountedFault 3 encoding Fault) (λ _. EndFault) _ (number_faults 3 l all failed fault)
 
   pub other_end_faults : {vs : List V} {before mid after : Input} {e : ErrorKind} → length vs ≡ 3 → GivesAll encoding vs before mid → (read_from mid end_of ≡ Err e) × (after ≡ None)
-      → ContentsFaulty (OtherPrimeFault encoding Fault) (AllocatesWithin may_allocate) e before after
+      → ContentsFaulty (OtherPrimeFault encoding Fault) (AllocatesCounted 3 encoding may_allocate) e before after
   other_end_faults {vs} {mid = mid} {e = e} l all ends = (ends.1, λ c is. let a = all.split c is in inr (inr (vs, (a.0, a.1, (l, a.2), more_than_end mid a.1 e a.3 ends.0, a.4))))

@@ -2,7 +2,7 @@
 ghost use Rattle.std.specs.Prelude.{◌≡◌, IfOk, IfErr, IsOk};
 ghost use Rattle.pkcs1.specs.KeyFaults.{Counted, CountedFault};
 ghost use Rattle.der_core.specs.Laws.Sequences.{EncodingGives, ContentsFaulty};
-ghost use Rattle.der_core.specs.Reading.{AllocatesWithin};
+ghost use Rattle.pkcs1.specs.Allocating.{AllocatesCounted};
 ghost use Rattle.pkcs1.specs.PrivateKeyValue.{numbers_of};
 
 use crate::private_key::PrivateKeyOf;
@@ -17,7 +17,7 @@ pub(crate) fn read_key_numbers<'a, M: Memory, U: Decode<&'a [u8], M>, O, R: Read
     ensures ok { IfOk result (λ key.
         EncodingGives (Counted 8 U.encoding) (numbers_of U.value key) (R.left reader.old) (R.left reader.new)) }
     ensures err { IfErr result (λ e. ContentsFaulty (CountedFault 8 U.encoding U.Decode.fault)
-        (AllocatesWithin U.Decode.may_allocate) e.kind (R.left reader.old) (R.left reader.new)) }
+        (AllocatesCounted 8 U.encoding U.Decode.may_allocate) e.kind (R.left reader.old) (R.left reader.new)) }
 {
     let modulus = U::decode(memory, reader)?;
     let public_exponent = U::decode(memory, reader)?;

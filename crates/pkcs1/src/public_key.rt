@@ -1,6 +1,6 @@
 //! RSA public keys.
 ghost use Rattle.std.specs.Prelude.{refl};
-ghost use Rattle.der_core.specs.Reading.{AllocatesWithin};
+ghost use Rattle.pkcs1.specs.Allocating.{AllocatesCounted};
 ghost use Rattle.pkcs1.specs.Keys.{PublicKey, PublicKeyContents};
 ghost use Rattle.pkcs1.specs.KeyFaults.{PublicKeyFault};
 ghost use Rattle.pkcs1.specs.Laws.KeyFaults.{public_key_fault_none, public_key_fault_first};
@@ -64,7 +64,7 @@ impl<'a, U> Sequence<'a> for RsaPublicKey<U> {
 }
 
 impl<'a, M: Memory, U: Decode<&'a [u8], M>> DecodeValue<&'a [u8], M> for RsaPublicKey<U> {
-    ghost may_allocate = { AllocatesWithin U.Decode.may_allocate };
+    ghost may_allocate = { AllocatesCounted 2 U.encoding U.Decode.may_allocate };
 
     ghost fault = { PublicKeyFault U.encoding U.Decode.fault };
 

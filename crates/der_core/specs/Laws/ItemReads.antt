@@ -6,8 +6,8 @@ use Rattle.der_core.specs.Encodings.{Joins, IsDelimited}
 use Rattle.der_core.specs.Laws.Lists.{same_fronts}
 use Rattle.der_core.specs.declared.error.ErrorKind.{ErrorKind}
 use Rattle.der_core.specs.Input.{Input, left_in}
-use Rattle.der_core.specs.Reading.{HoldsBytes, Rejects, NoneIn}
-use Rattle.der_core.specs.Laws.Sequences.{EncodingFails, EncodingGives}
+use Rattle.der_core.specs.Reading.{HoldsBytes, NoneIn, AllocatesIn, AllocatesForItems, Begins}
+use Rattle.der_core.specs.Laws.Sequences.{EncodingGives, some_same}
 use Rattle.der_core.specs.Faults.{ItemsFault, Faulty, FaultyFront}
 
 pub holds_some : (left : Input) (n : ℕ) → HoldsBytes left n → (c : List ℕ) × (left ≡ Some c)
@@ -21,13 +21,6 @@ peek_some left (x ∷ xs) r o is shown some get = omega arith
 pub peek_none : (left : Input) (rest : List ℕ) (r : Bool) (o : Option ℕ) → left ≡ Some rest → r ≡ false → r ≡ is_some o → o ≡ slice_get (left_in left) 0 → rest ≡ []
 peek_none left [] r o is hidden some get = refl
 peek_none left (x ∷ xs) r o is hidden some get = let e : o ≡ slice_get (x ∷ xs) 0 = rw is at get in let f : o ≡ Some x = e in let g : r ≡ is_some (Some x) = some ∙ ap is_some f in cc
-
--- If something is left, what there was isn't empty.
-some_left : (read rest c : List ℕ) (start : Input) → start ≡ Some (read ++ rest) → 0 < length rest → start ≡ Some c → 0 < length c
-some_left read rest c start from more whole =
-    let same : Some c ≡ Some (read ++ rest) = sym whole ∙ from in
-    let c_is : c ≡ read ++ rest = cc in
-    omega (arith, ap length c_is, length-append read rest, more)
 
 module _ (V : Type 0) (encoding : V → List ℕ → Type 0) (d : IsDelimited encoding) where
   -- one more encoding at the end
@@ -51,20 +44,28 @@ module _ (V : Type 0) (encoding : V → List ℕ → Type 0) (d : IsDelimited en
       let tails = same_fronts p.0 (p.1 ++ rest) has.0 has.1 (ap length same.0) e in
       joins_none vs has.1 p.1 rest p.3 (sym tails.1) more none ws has.3
 
-  pub items_rejected : (vs : List V) (read rest c : List ℕ) (may_allocate : List ℕ → Type 0) (e : ErrorKind) (start left after : Input) → start ≡ Some (read ++ rest) → left ≡ Some rest
-      → Joins (map encoding vs) read → 0 < length rest → EncodingFails encoding may_allocate e left after → start ≡ Some c
-      → Rejects e (0 < length c) ((ws : List V) → Joins (map encoding ws) c → ⊥)
-  items_rejected vs read rest c may_allocate e start left after from is joined more fails whole =
-      let same : Some c ≡ Some (read ++ rest) = sym whole ∙ from in
-      let c_is : c ≡ read ++ rest = cc in
-      ⊎_elim (λ w. inl (w.0, some_left read rest c start from more whole)) (λ w. inr (w.0, joins_none vs c read rest joined c_is more w.1)) (fails.2 rest is)
+  -- if there is an item behind the first ones, or none of these, the first one of all is there
+  first_item : (vs : List V) (read rest c : List ℕ) → Joins (map encoding vs) read → c ≡ read ++ rest → Begins encoding rest → Begins encoding c
+  first_item [] read rest c p is next = (next.0, next.1, is ∙ ap (λ l. l ++ rest) p ∙ next.2, next.3)
+  first_item (v ∷ vs) read rest c p is next = (p.0, p.1 ++ rest, is ∙ ap (λ l. l ++ rest) p.4 ∙ append_assoc p.0 p.1 rest, (v, p.2))
+
+  items_asked : (may_allocate : List ℕ → Type 0) (vs : List V) (read rest c : List ℕ) → Joins (map encoding vs) read → c ≡ read ++ rest → AllocatesIn may_allocate rest → AllocatesForItems encoding may_allocate c
+  items_asked may_allocate [] read rest c p is w = inr (w.0, w.1, is ∙ ap (λ l. l ++ rest) p ∙ w.2, w.3)
+  items_asked may_allocate (v ∷ vs) read rest c p is w = inl (p.0, p.1 ++ rest, is ∙ ap (λ l. l ++ rest) p.4 ∙ append_assoc p.0 p.1 rest, (v, p.2))
 
   pub items_faults : (Fault : ErrorKind → List ℕ → Type 0) (vs : List V) (read rest c : List ℕ) (may_allocate : List ℕ → Type 0) (e : ErrorKind) (start left : Input) → start ≡ Some (read ++ rest) → left ≡ Some rest
-      → Joins (map encoding vs) read → 0 < length rest → FaultyFront Fault may_allocate e left → start ≡ Some c → Faulty e (0 < length c) (ItemsFault encoding Fault e c)
+      → Joins (map encoding vs) read → 0 < length rest → FaultyFront Fault may_allocate e left → start ≡ Some c → Faulty e (AllocatesForItems encoding may_allocate c) (ItemsFault encoding Fault e c)
   items_faults Fault vs read rest c may_allocate e start left from is joined more fault whole =
-      let same : Some c ≡ Some (read ++ rest) = sym whole ∙ from in
-      let c_is : c ≡ read ++ rest = cc in
-      ⊎_elim (λ w. inl (w.0, some_left read rest c start from more whole)) (λ f. inr (vs, (read, rest, joined, (more, f), c_is))) (fault rest is)
+      let c_is : c ≡ read ++ rest = some_same c (read ++ rest) (sym whole ∙ from) in
+      ⊎_elim (λ w. inl (w.0, items_asked may_allocate vs read rest c joined c_is w.1)) (λ f. inr (vs, (read, rest, joined, (more, f), c_is))) (fault rest is)
+
+  -- an item was read, so the first one is there
+  pub items_begin : (vs : List V) (v : V) (read rest c : List ℕ) (start left after : Input) → start ≡ Some (read ++ rest) → left ≡ Some rest
+      → Joins (map encoding vs) read → EncodingGives encoding v left after → start ≡ Some c → Begins encoding c
+  items_begin vs v read rest c start left after from is joined gives whole =
+      let c_is : c ≡ read ++ rest = some_same c (read ++ rest) (sym whole ∙ from) in
+      let rest_is : rest ≡ gives.0 ++ gives.1 = some_same rest (gives.0 ++ gives.1) (sym is ∙ gives.2) in
+      first_item vs read rest c joined c_is (gives.0, gives.1, rest_is, (v, gives.4))
 
   pub items_more : (X : Type 0) (value : X → V) (xs : List X) (x : X) (read rest : List ℕ) (start left after : Input) → start ≡ Some (read ++ rest) → left ≡ Some rest
       → Joins (map encoding (map value xs)) read → EncodingGives encoding (value x) left after

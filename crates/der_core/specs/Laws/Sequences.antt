@@ -6,7 +6,7 @@ use Rattle.der_core.specs.Input.{Input, left_in, read_from, end_of}
 use Rattle.der_core.specs.Faults.{ThenFault, EndFault, WholeFault, Faulty, FaultyFront}
 use Rattle.der_core.specs.Document.{Means}
 use Rattle.der_core.specs.Length.{limit}
-use Rattle.der_core.specs.Reading.{AllocatesIn, NoneIn, Rejects, AllocatesWithin, AllocatesBehind}
+use Rattle.der_core.specs.Reading.{AllocatesIn, NoneIn, Rejects, AllocatesBehind}
 use Rattle.der_core.specs.Laws.Input.{ok_pair}
 
 -- what decode ensures of an error, and of a value
@@ -24,13 +24,6 @@ ContentsFail {V} contents may_allocate e before after =
 
 abbrev pub ContentsGive : (List ℕ → Type 0) → Input → Input → Type 0
 ContentsGive Contents before after = (c : List ℕ) × (before ≡ Some c) × (after ≡ Some []) × Contents c
-
--- A front is a piece, and so is what is behind an encoding.
-pub front_within : {may_allocate : List ℕ → Type 0} (c : List ℕ) → AllocatesIn may_allocate c → AllocatesWithin may_allocate c
-front_within c w = ([], w.0, w.1, w.2, w.3)
-
-pub behind_within : {V : Type 0} {encoding : V → List ℕ → Type 0} {may_allocate : List ℕ → Type 0} (c : List ℕ) → AllocatesBehind encoding (AllocatesWithin may_allocate) c → AllocatesWithin may_allocate c
-behind_within c (v, (x, rest, t, (before, b, more, e, asked), is)) = (x ++ before, b, more, is ∙ ap (λ l. x ++ l) e ∙ sym (append_assoc x before (b ++ more)), asked)
 
 pub some_same : (a b : List ℕ) (e : ◌≡◌ {A = Input} (Some a) (Some b)) → a ≡ b
 some_same a b e = cc

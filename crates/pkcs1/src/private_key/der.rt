@@ -3,7 +3,7 @@ ghost use Rattle.std.specs.Prelude.{◌≡◌, ◌≤◌, length, List, ℕ, tak
 ghost use Rattle.der_core.specs.Document.{Means, IsShortest, WhyNotWritten};
 ghost use Rattle.der_core.specs.Faults.{Faulty};
 ghost use Rattle.der_core.specs.declared.error.ErrorKind as der;
-ghost use Rattle.der_core.specs.Reading.{AllocatesIn, AllocatesWithin};
+ghost use Rattle.der_core.specs.Reading.{AllocatesIn};
 ghost use Rattle.der_core.specs.Tag.{sequence_tag};
 ghost use Rattle.der_core.specs.Tags.{sequence};
 ghost use Rattle.der_core.specs.Tlv.{Tlv};
@@ -91,7 +91,7 @@ impl<U> RsaPrivateKey<U> {
             let asked = AllocatesIn (Tlv sequence_tag (AllocatesForKey U.encoding U.Decode.may_allocate)) bytes in
             (kind : der.ErrorKind) → PrivateKeyEncodingFault U.encoding U.Decode.fault kind bytes
             → IsErrAnd result (IsAsn1 (λ e. Faulty e.kind asked (e.kind ≡ kind))) }
-        ensures two_primes { ((c : List ℕ) → AllocatesWithin U.Decode.may_allocate c → ⊥)
+        ensures two_primes { ((encoding : List ℕ) → U.Decode.may_allocate encoding → ⊥)
             → (key : PrivateKey U.Value) → key.other_prime_infos ≡ None
             → Means (PrivateKeyEncoding U.encoding) (octets_of octets.entry) key → IsOk result }
     {
@@ -104,7 +104,7 @@ impl<'a> RsaPrivateKey<UintRef<'a>> {
     ghost use Rattle.pkcs1.specs.PrivateKeyValue.{private_key_of};
 
     /// Decodes a whole slice, as `from_der` does; the contract is stated over the grammar of private keys. Returns
-    /// `OutOfMemory` only if a SEQUENCE that isn't empty follows the eighth number.
+    /// `OutOfMemory` only if a SEQUENCE that begins with an OtherPrimeInfo follows the eighth number.
     pub fn decode_key(memory: Global, bytes: &'a [u8]) -> crate::Result<RsaPrivateKey<UintRef<'a>>>
         ensures ok { IfOk result (λ key. Means grammar.RsaPrivateKey bytes.now (private_key_of key)) }
         ensures one { IfOk result (λ key. IsOnlyMeaning grammar.RsaPrivateKey bytes.now (private_key_of key)) }
@@ -140,8 +140,8 @@ impl RsaPrivateKey<Uint> {
     ghost use Rattle.der_core.specs.UintValue.{own_bytes_of};
     ghost use Rattle.pkcs1.specs.Allocating.{OwnedKeyAllocates};
 
-    /// Decodes a whole slice, as `decode_key` of `RsaPrivateKeyRef` does. Returns `OutOfMemory` only if there is a
-    /// number in the SEQUENCE, or a SEQUENCE that isn't empty after the eighth.
+    /// Decodes a whole slice, as `decode_key` of `RsaPrivateKeyRef` does. Returns `OutOfMemory` only if the SEQUENCE
+    /// begins with a version and a number.
     pub fn decode_owned_key(alloc: Global, bytes: &[u8]) -> crate::Result<RsaPrivateKey<Uint>>
         ensures ok { IfOk result (λ key. Means grammar.RsaPrivateKey bytes.now (private_key_with own_bytes_of key)) }
         ensures one { let is_only = IsOnlyMeaning grammar.RsaPrivateKey bytes.now in

@@ -1,11 +1,11 @@
 //! Other primes of private keys.
 ghost use Rattle.std.specs.Prelude.{◌≡◌, ◌≤◌, length, List, ℕ, ◌↔◌, IsTrue, None, IfOk, IsOk, IfErr, refl};
 ghost use Rattle.der_core.specs.Length.{limit};
-ghost use Rattle.der_core.specs.Reading.{ReadsOrFaults, AllocatesWithin};
+ghost use Rattle.der_core.specs.Reading.{ReadsOrFaults};
 ghost use Rattle.pkcs1.specs.KeyFaults.{OthersFault};
 ghost use Rattle.der_core.specs.BackWriters.{free_of, Prepends};
 ghost use Rattle.der_core.specs.Writing.{Counts, Appends};
-ghost use Rattle.pkcs1.specs.Allocating.{BeginsSequence};
+ghost use Rattle.pkcs1.specs.Allocating.{AllocatesCounted, AllocatesInOthers};
 ghost use Rattle.pkcs1.specs.Keys.{OtherPrime, OtherPrimeContents, OthersOf};
 ghost use Rattle.pkcs1.specs.Writing.{HasOther, HasOthers, written_other, written_others};
 ghost use Rattle.pkcs1.specs.Laws.PrivateKey.{other_means_one, other_of_bytes, other_relates, other_shortest};
@@ -101,7 +101,7 @@ impl<'a, M: Memory, U: Decode<&'a [u8], M>> DecodeValue<&'a [u8], M> for OtherPr
     ghost use Rattle.pkcs1.specs.KeyFaults.{OtherPrimeFault};
     ghost use Rattle.pkcs1.specs.Laws.KeyFaults.{other_fault_none, other_fault_first};
 
-    ghost may_allocate = { AllocatesWithin U.Decode.may_allocate };
+    ghost may_allocate = { AllocatesCounted 3 U.encoding U.Decode.may_allocate };
 
     ghost fault = { OtherPrimeFault U.encoding U.Decode.fault };
 
@@ -181,7 +181,8 @@ pub(crate) fn read_other_primes<'a, U: Decode<&'a [u8], Global>, R: Reader<&'a [
 ) -> Result<Option<OtherPrimeInfos<U>>>
     ensures { let grammar = OthersOf U.encoding (number_of version) in
         let fault = OthersFault U.encoding U.Decode.fault (number_of version) in
-        ReadsOrFaults (others_of U.value) grammar fault BeginsSequence result (R.left reader.old) (R.left reader.new) }
+        let may = AllocatesInOthers U.encoding U.Decode.may_allocate in
+        ReadsOrFaults (others_of U.value) grammar fault may result (R.left reader.old) (R.left reader.new) }
 {
     let others: Option<OtherPrimeInfos<U>> = decode_optional(memory, reader)?;
     if version.is_multi() != others.is_some() {

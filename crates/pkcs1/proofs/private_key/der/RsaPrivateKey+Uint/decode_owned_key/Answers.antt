@@ -4,20 +4,26 @@ use Rattle.pkcs1.specs.Laws.KeyFaults.{private_key_whole_none, private_key_whole
 use Rattle.der_core.specs.Laws.Faults.{faulty_first}
 use Rattle.der_core.specs.Laws.Shortest.{means_one}
 use Rattle.pkcs1.specs.Laws.PrivateKeys.{private_delimited}
+use Rattle.pkcs1.proofs.KeyMemory.{faulty_as, owned_key_asks, rejects_as}
 use Rattle.pkcs1.proofs.private_key.der.RsaPrivateKey+Uint.decode_owned_key.Goals as goal
 
 pub returns-clause-one : goal.returns-clause-one
 returns-clause-one c other p = means_one private_delimited other _ _ p.1 c.in_ok-from_der.ensures.encoding.1
 
+pub returns-in_err-from_der-clause-err : goal.returns-in_err-from_der-clause-err
+returns-in_err-from_der-clause-err c =
+    let p = err_from_is_err_and c.from_residual.result c.from_residual.ensures.1 in
+    rw (p.1, p.2) (rejects_as owned_key_asks _ _ c.in_err-from_der.ensures.encoding)
+
 pub returns-in_err-from_der-clause-exact : goal.returns-in_err-from_der-clause-exact
 returns-in_err-from_der-clause-exact c =
     let p = err_from_is_err_and c.from_residual.result c.from_residual.ensures.1 in
-    rw (p.1, p.2) c.in_err-from_der.ensures.exact
+    rw (p.1, p.2) (faulty_as owned_key_asks _ _ c.in_err-from_der.ensures.exact)
 
 pub returns-in_err-from_der-clause-only : goal.returns-in_err-from_der-clause-only
 returns-in_err-from_der-clause-only c kind fault =
     let p = err_from_is_err_and c.from_residual.result c.from_residual.ensures.1 in
-    rw (p.1, p.2) (faulty_first RsaPrivateKeyFault private_key_whole_first _ kind _ fault c.in_err-from_der.ensures.exact)
+    rw (p.1, p.2) (faulty_first RsaPrivateKeyFault private_key_whole_first _ kind _ fault (faulty_as owned_key_asks _ _ c.in_err-from_der.ensures.exact))
 
 pub returns-clause-only : goal.returns-clause-only
 returns-clause-only c kind fault = absurd (private_key_whole_none kind _ fault _ c.in_ok-from_der.ensures.encoding)

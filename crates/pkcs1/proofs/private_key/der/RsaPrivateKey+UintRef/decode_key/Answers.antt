@@ -3,7 +3,7 @@ use Rattle.pkcs1.specs.Laws.KeyFaults.{private_key_whole_none, private_key_whole
 use Rattle.std.proofs.lemmas.Result.{err_from_is_err_and}
 use Rattle.der_core.specs.Laws.Integer.{integer_delimited}
 use Rattle.der_core.specs.Laws.Shortest.{means_one}
-use Rattle.pkcs1.proofs.KeyMemory.{rejects_as, borrowed_ask, two_primes_rejected, faulty_as}
+use Rattle.pkcs1.proofs.KeyMemory.{rejects_as, borrowed_ask, borrowed_key_asks, two_primes_rejected, faulty_as}
 use Rattle.der_core.specs.Laws.Faults.{faulty_first}
 use Rattle.pkcs1.specs.Laws.PrivateKeys.{private_delimited}
 use Rattle.pkcs1.proofs.private_key.der.RsaPrivateKey+UintRef.decode_key.Goals as goal
@@ -14,7 +14,7 @@ returns-clause-one c other p = means_one private_delimited other _ _ p.1 c.in_ok
 pub returns-in_err-from_der-clause-err : goal.returns-in_err-from_der-clause-err
 returns-in_err-from_der-clause-err c =
     let p = err_from_is_err_and c.from_residual.result c.from_residual.ensures.1 in
-    rw (p.1, p.2) (rejects_as _ _ c.in_err-from_der.ensures.encoding)
+    rw (p.1, p.2) (rejects_as borrowed_key_asks _ _ c.in_err-from_der.ensures.encoding)
 
 pub returns-in_err-from_der-clause-two_primes : goal.returns-in_err-from_der-clause-two_primes
 returns-in_err-from_der-clause-two_primes c key two means = absurd (two_primes_rejected integer_delimited key two _ borrowed_ask _ _ means c.in_err-from_der.ensures.encoding)
@@ -22,12 +22,12 @@ returns-in_err-from_der-clause-two_primes c key two means = absurd (two_primes_r
 pub returns-in_err-from_der-clause-exact : goal.returns-in_err-from_der-clause-exact
 returns-in_err-from_der-clause-exact c =
     let p = err_from_is_err_and c.from_residual.result c.from_residual.ensures.1 in
-    rw (p.1, p.2) (faulty_as _ _ c.in_err-from_der.ensures.exact)
+    rw (p.1, p.2) (faulty_as borrowed_key_asks _ _ c.in_err-from_der.ensures.exact)
 
 pub returns-in_err-from_der-clause-only : goal.returns-in_err-from_der-clause-only
 returns-in_err-from_der-clause-only c kind fault =
     let p = err_from_is_err_and c.from_residual.result c.from_residual.ensures.1 in
-    rw (p.1, p.2) (faulty_first RsaPrivateKeyFault private_key_whole_first _ kind _ fault (faulty_as _ _ c.in_err-from_der.ensures.exact))
+    rw (p.1, p.2) (faulty_first RsaPrivateKeyFault private_key_whole_first _ kind _ fault (faulty_as borrowed_key_asks _ _ c.in_err-from_der.ensures.exact))
 
 pub returns-clause-only : goal.returns-clause-only
 returns-clause-only c kind fault = absurd (private_key_whole_none kind _ fault _ c.in_ok-from_der.ensures.encoding)
