@@ -1,5 +1,5 @@
 -- Fields with defaults: they are told apart by their octets and are bytes.
-use Rattle.std.proofs.Common.{ℕ, List, [], ◌∷◌, ◌++◌, ◌≡◌, ◌≤◌, ◌<◌, ◌+◌, ◌^◌, inl, inr, map, length, refl, sym, ap, ◌∙◌, arith}
+use Rattle.std.proofs.Common.{ℕ, List, [], ◌∷◌, ◌++◌, ◌≡◌, ◌≤◌, ◌<◌, ◌+◌, inl, inr, map, length, refl, sym, ap, ◌∙◌, arith}
 use Rattle.der_core.specs.Tag.{context_tag}
 use Rattle.der_core.specs.Encodings.{AreBytes, IsDelimited, Joins}
 use Rattle.der_core.specs.Laws.Lists.{same_cons}

@@ -1,5 +1,4 @@
-use Rattle.std.proofs.Common.{sym, refl, arith}
-use Rattle.std.proofs.lemmas.List.{take-append-drop}
+use Rattle.std.proofs.Common.{refl, arith}
 use Rattle.pkcs1_params.proofs.spelling.SpellingEncodeValue.value_len.Goals as goal
 
 pub returns-then-is_empty : goal.returns-then-is_empty
