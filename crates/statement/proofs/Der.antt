@@ -1,18 +1,21 @@
--- The statement's functions are what the library's relations relate, and back.
+-- Lengths, INTEGER and encodings in a row: the statement's functions are what the library's relations relate, and back.
 use Rattle.std.proofs.Common.{ℕ, List, [], ◌∷◌, ◌++◌, ◌≡◌, ◌<◌, ◌≤◌, ◌==◌, length, refl, sym, subst, ap, ◌∙◌, arith, inl, inr, length-append, true, false}
-use Rattle.std.specs.Prelude.{nat_lt, slice_index}
+use Rattle.std.specs.Prelude.{nat_lt, slice_index, map}
+use Rattle.std.specs.List.{concat}
 use Rattle.std.specs.Int.Digits.{number_from_digits, digits_of}
 use Rattle.std.proofs.lemmas.Bool.{cases_lt}
 use Rattle.std.proofs.lemmas.Bool.Decides.{nat_tests}
 use Rattle.std.proofs.lemmas.Int.Digits.{all_below_base_digits_of, number_digits_of, first_digits_of}
 use Rattle.der_core.specs.Length.{length_octets as der_octets}
 use Rattle.der_core.specs.Tlv as tlvs
-use Rattle.der_core.specs.Integer.{IsCanonical, Integer, integer_contents}
+use Rattle.der_core.specs.Encodings.{Joins}
+use Rattle.der_core.specs.Integer.{IsCanonical, Integer, Small, integer_contents}
 use Rattle.der_core.specs.Laws.Encodings.{tlv_relates}
 use Rattle.der_core.specs.Document.{Means, HasEncoding, WhyNotWritten, EncodeError, no_encoding, too_long, no_room, another}
 use Rattle.der_core.specs.Writing.{encode_error}
 use Rattle.der_core.specs.Laws.Integer.{canonical_same, contents_at_most_one, integer_relates}
 use Rattle.der_core.specs.Laws.Length.{length_octets-only}
+use Rattle.der_core.specs.Laws.SmallNumbers.{small_relates, small_is, byte_canonical, byte_number}
 use Rattle.pkcs1_params.specs.Meanings.{IsWritingError}
 use Rattle.pkcs1_params.specs.declared.error.Error.{Error}
 use Rattle.pkcs1_params.specs.declared.error.Error.TheVariants as error
@@ -58,18 +61,31 @@ integer_is x encoding p =
     let same : octets (number_from_digits 256 x) ≡ x = number_octets x p.holds.0 in
     tlv_is 2 (integer_contents x) encoding (λ c h. contents_at_most_one x c (integer_contents x) h (integer_relates x h.0)) p ∙ ap (λ y. tlv 2 (integer_contents y)) (sym same)
 
--- A number's octets are no longer than its encoding.
-pub contents_fit : (x : List ℕ) → length x ≤ length (integer_contents x)
-contents_fit x = elim (cases_lt (slice_index x 0) 128) [
-  | inl h ↦ let e : nat_lt (slice_index x 0) 128 ≡ true = grind (arith, nat_tests) in rw e (omega arith)
-  | inr h ↦ let e : nat_lt (slice_index x 0) 128 ≡ false = grind (arith, nat_tests) in rw e (omega arith)
-]
-
 pub tlv_fit : (t : ℕ) (c : List ℕ) → length c ≤ length (tlv t c)
 tlv_fit t c = omega (arith, length-append (length_octets (length c)) c)
 
-pub octets_fit : (n : ℕ) → length (octets n) ≤ length (integer n)
-octets_fit n = omega (arith, contents_fit (octets n), tlv_fit 2 (integer_contents (octets n)))
+-- Numbers of one octet.
+pub small_octets : (n : ℕ) → n < 256 → octets n ≡ n ∷ []
+small_octets n l = ap octets (sym (byte_number n)) ∙ number_octets (n ∷ []) (byte_canonical n l)
+
+pub small_integer : (n : ℕ) (c : List ℕ) → Small n c → c ≡ integer n
+small_integer n c p =
+    let i : Integer (n ∷ []) c = record { octets = p.octets; contents = p.contents; counted = p.counted; holds = small_is n p.contents p.holds; written = p.written } in
+    integer_is (n ∷ []) c i ∙ ap integer (byte_number n)
+
+-- Encodings in a row, of values with one encoding each.
+pub joins_are : {V : Type 0} (Grammar : V → List ℕ → Type 0) (encoding : V → List ℕ) → ((v : V) (c : List ℕ) → Grammar v c → c ≡ encoding v)
+    → (vs : List V) (c : List ℕ) → Joins (map Grammar vs) c → c ≡ concat (map encoding vs)
+joins_are Grammar encoding only [] c p = p
+joins_are Grammar encoding only (v ∷ vs) c (a, b, p, q, e) =
+    e ∙ ap (λ x. x ++ b) (only v a p) ∙ ap (λ x. encoding v ++ x) (joins_are Grammar encoding only vs b q)
+
+pub joins_made : {V : Type 0} (Grammar : V → List ℕ → Type 0) (encoding : V → List ℕ) → ((v : V) → length (encoding v) ≤ limit → Grammar v (encoding v))
+    → (vs : List V) → length (concat (map encoding vs)) ≤ limit → Joins (map Grammar vs) (concat (map encoding vs))
+joins_made Grammar encoding made [] l = refl
+joins_made Grammar encoding made (v ∷ vs) l =
+    let both = length-append (encoding v) (concat (map encoding vs)) in
+    (encoding v, concat (map encoding vs), made v (omega (arith, l, both)), joins_made Grammar encoding made vs (omega (arith, l, both)), refl)
 
 -- Why a value isn't written: no encoding of it fits.
 pub none_fits : {V : Type 0} (Grammar : V → List ℕ → Type 0) (v : V) (room : ℕ) (e : Error) (bytes : List ℕ) → IsWritingError Grammar v room e → Means Grammar bytes v → room < length bytes
@@ -89,3 +105,13 @@ tlv_made {P} t w encoding h e fits =
     let same : tlvs.tlv t w ≡ encoding = tlv_same t w ∙ sym e in
     let made : tlvs.Tlv t P (tlvs.tlv t w) = tlv_relates t (λ (_ : Unit {0}). P) (λ _. w) tt (λ _. h) (omega (arith, ap length same, fits)) in
     subst (tlvs.Tlv t P) same made
+
+pub integer_made : (n : ℕ) → length (integer n) ≤ limit → Integer (octets n) (integer n)
+integer_made n l = tlv_made 2 (integer_contents (octets n)) (integer n) (integer_relates (octets n) (octets_canonical n)) refl l
+
+pub small_made : (n : ℕ) → n < 256 → length (integer n) ≤ limit → Small n (integer n)
+small_made n h l = tlv_made 2 (integer_contents (n ∷ [])) (integer n) (small_relates n h) (ap (λ x. tlv 2 (integer_contents x)) (small_octets n h)) l
+
+-- A fact of a value and bytes, at an equal value.
+pub moved : {V : Type 0} (P : V → List ℕ → Type 0) {v w : V} {bytes : List ℕ} → v ≡ w → P v bytes → P w bytes
+moved P {bytes = bytes} same p = subst (λ v. P v bytes) same p

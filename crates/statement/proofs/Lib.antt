@@ -1,7 +1,10 @@
 mod Der
+mod Algorithms
+mod Fields
 mod PublicKeys
 mod PrivateKeys
 mod Pss
 mod Oaep
+mod Held
 mod Same
 mod Readings

@@ -1,4 +1,4 @@
--- Private keys: the statement's sentences are the library's.
+-- Private keys: the statement's encodings are the library's.
 use Rattle.std.proofs.Common.{ℕ, List, [], ◌∷◌, ◌++◌, ◌≡◌, ◌≤◌, length, refl, sym, ap, ◌∙◌, arith, inl, length-append, append-nil, append_assoc, map, Option, Some, None}
 use Rattle.std.proofs.lemmas.List.{length-map}
 use Rattle.std.specs.Int.Digits.{number_from_digits}
@@ -10,23 +10,23 @@ use Rattle.der_core.specs.Encodings.{Joins}
 use Rattle.der_core.specs.Integer.{Integer, IsCanonical, Small, integer_contents}
 use Rattle.der_core.specs.Laws.Integer.{integer_relates}
 use Rattle.der_core.specs.Laws.SmallNumbers.{small_relates}
-use Rattle.pkcs1.specs.Keys.{PrivateKey, PrivateKeyContents, RsaPrivateKey, OtherPrime, OtherPrimeInfo, OtherPrimeInfos, version_of}
+use Rattle.pkcs1.specs.Keys as keys
+use Rattle.pkcs1.specs.Keys.{PrivateKeyContents, RsaPrivateKey, OtherPrimeInfo, OtherPrimeInfos, version_of}
 use Rattle.pkcs1.specs.Laws.PrivateKey.{joins_put, joins_take}
-use Rattle.statement.specs.Statement.{octets, tlv, integer, limit, Other, PrivateNumbers, PrivateKeySentence, integers, other_infos, IsNotEmpty, version, IsShortest}
-use Rattle.statement.proofs.Der.{tlv_is, tlv_made, tlv_fit, integer_is, octets_canonical, octets_number, number_octets}
-use Rattle.statement.proofs.Pss.{small_integer, small_octets}
+use Rattle.statement.specs.Statement.{octets, tlv, integer, integers, limit, optional, IfPresent, OtherPrime, other_prime, other_primes, PrivateKey, PrivateKeyEncoding, IsNotEmpty, version, IsShortest}
+use Rattle.statement.proofs.Der.{tlv_is, tlv_made, tlv_fit, integer_is, integer_made, small_integer, small_octets, joins_are, joins_made, octets_canonical, octets_number, number_octets}
 
 abbrev number : List ℕ → ℕ
 number x = number_from_digits 256 x
 
 -- the numbers of a key, and the key of numbers
-abbrev other_numbers : OtherPrime (List ℕ) → Other
-other_numbers o = (number o.prime, number o.exponent, number o.coefficient)
+abbrev pub other_numbers : keys.OtherPrime (List ℕ) → OtherPrime
+other_numbers o = record { prime = number o.prime; exponent = number o.exponent; coefficient = number o.coefficient }
 
-abbrev other_of : Other → OtherPrime (List ℕ)
-other_of o = record { prime = octets o.0; exponent = octets o.1; coefficient = octets o.2 }
+abbrev other_of : OtherPrime → keys.OtherPrime (List ℕ)
+other_of o = record { prime = octets o.prime; exponent = octets o.exponent; coefficient = octets o.coefficient }
 
-abbrev pub numbers : PrivateKey (List ℕ) → PrivateNumbers
+abbrev pub numbers : keys.PrivateKey (List ℕ) → PrivateKey
 numbers k = record {
   modulus = number k.modulus;
   public_exponent = number k.public_exponent;
@@ -36,10 +36,10 @@ numbers k = record {
   exponent1 = number k.exponent1;
   exponent2 = number k.exponent2;
   coefficient = number k.coefficient;
-  others = option_map (map other_numbers) k.other_prime_infos;
+  other_primes = option_map (map other_numbers) k.other_prime_infos;
 }
 
-abbrev pub key_of : PrivateNumbers → PrivateKey (List ℕ)
+abbrev pub key_of : PrivateKey → keys.PrivateKey (List ℕ)
 key_of k = record {
   modulus = octets k.modulus;
   public_exponent = octets k.public_exponent;
@@ -49,20 +49,20 @@ key_of k = record {
   exponent1 = octets k.exponent1;
   exponent2 = octets k.exponent2;
   coefficient = octets k.coefficient;
-  other_prime_infos = option_map (map other_of) k.others;
+  other_prime_infos = option_map (map other_of) k.other_primes;
 }
 
-list_back : (os : List Other) → map other_numbers (map other_of os) ≡ os
+list_back : (os : List OtherPrime) → map other_numbers (map other_of os) ≡ os
 list_back [] = refl
-list_back (o ∷ os) = let r = list_back os in λ i. (octets_number o.0 i, octets_number o.1 i, octets_number o.2 i) ∷ r i
+list_back (o ∷ os) = let r = list_back os in λ i. record { prime = octets_number o.prime i; exponent = octets_number o.exponent i; coefficient = octets_number o.coefficient i } ∷ r i
 
-others_back : (os : Option (List Other)) → option_map (map other_numbers) (option_map (map other_of) os) ≡ os
+others_back : (os : Option (List OtherPrime)) → option_map (map other_numbers) (option_map (map other_of) os) ≡ os
 others_back None = refl
 others_back (Some os) = ap Some (list_back os)
 
-pub back : (k : PrivateNumbers) → numbers (key_of k) ≡ k
+pub back : (k : PrivateKey) → numbers (key_of k) ≡ k
 back k =
-    let o = others_back k.others in
+    let o = others_back k.other_primes in
     λ i. record {
       modulus = octets_number k.modulus i;
       public_exponent = octets_number k.public_exponent i;
@@ -72,66 +72,52 @@ back k =
       exponent1 = octets_number k.exponent1 i;
       exponent2 = octets_number k.exponent2 i;
       coefficient = octets_number k.coefficient i;
-      others = o i;
+      other_primes = o i;
     }
 
--- Encodings in a row, of values with one encoding each.
-joins_are : {V : Type 0} (Grammar : V → List ℕ → Type 0) (encoding : V → List ℕ) → ((v : V) (c : List ℕ) → Grammar v c → c ≡ encoding v)
-    → (vs : List V) (c : List ℕ) → Joins (map Grammar vs) c → c ≡ concat (map encoding vs)
-joins_are Grammar encoding only [] c p = p
-joins_are Grammar encoding only (v ∷ vs) c (a, b, p, q, e) =
-    e ∙ ap (λ x. x ++ b) (only v a p) ∙ ap (λ x. encoding v ++ x) (joins_are Grammar encoding only vs b q)
-
-joins_made : {V : Type 0} (Grammar : V → List ℕ → Type 0) (encoding : V → List ℕ) → ((v : V) → length (encoding v) ≤ limit → Grammar v (encoding v))
-    → (vs : List V) → length (concat (map encoding vs)) ≤ limit → Joins (map Grammar vs) (concat (map encoding vs))
-joins_made Grammar encoding made [] l = refl
-joins_made Grammar encoding made (v ∷ vs) l =
-    let both = length-append (encoding v) (concat (map encoding vs)) in
-    (encoding v, concat (map encoding vs), made v (omega (arith, l, both)), joins_made Grammar encoding made vs (omega (arith, l, both)), refl)
-
-abbrev pub eight : PrivateKey (List ℕ) → List (List ℕ)
+abbrev pub eight : keys.PrivateKey (List ℕ) → List (List ℕ)
 eight k = k.modulus ∷ k.public_exponent ∷ k.private_exponent ∷ k.prime1 ∷ k.prime2 ∷ k.exponent1 ∷ k.exponent2 ∷ k.coefficient ∷ []
 
 abbrev encoded : List ℕ → List ℕ
 encoded x = integer (number x)
 
 -- one other prime
-abbrev one : OtherPrime (List ℕ) → List ℕ
+abbrev one : keys.OtherPrime (List ℕ) → List ℕ
 one o = tlv 48 (concat (map encoded (o.prime ∷ o.exponent ∷ o.coefficient ∷ [])))
 
-one_is : (o : OtherPrime (List ℕ)) (c : List ℕ) → OtherPrimeInfo Integer o c → c ≡ one o
+one_is : (o : keys.OtherPrime (List ℕ)) (c : List ℕ) → OtherPrimeInfo Integer o c → c ≡ one o
 one_is o c p = tlv_is 48 _ c (joins_are Integer encoded integer_is (o.prime ∷ o.exponent ∷ o.coefficient ∷ [])) p
 
 -- all of them
-abbrev all : Option (List (OtherPrime (List ℕ))) → List ℕ
+abbrev all : Option (List (keys.OtherPrime (List ℕ))) → List ℕ
 all None = []
 all (Some os) = tlv 48 (concat (map one os))
 
-all_is : (os : Option (List (OtherPrime (List ℕ)))) (c : List ℕ) → OtherPrimeInfos Integer os c → c ≡ all os
+all_is : (os : Option (List (keys.OtherPrime (List ℕ)))) (c : List ℕ) → OtherPrimeInfos Integer os c → c ≡ all os
 all_is None c p = p
 all_is (Some os) c p = tlv_is 48 _ c (joins_are (OtherPrimeInfo Integer) one one_is os) p.1
 
-not_empty : (os : Option (List (OtherPrime (List ℕ)))) (c : List ℕ) → OtherPrimeInfos Integer os c → IsNotEmpty (option_map (map other_numbers) os)
+not_empty : (os : Option (List (keys.OtherPrime (List ℕ)))) (c : List ℕ) → OtherPrimeInfos Integer os c → IfPresent IsNotEmpty (option_map (map other_numbers) os)
 not_empty None c p = tt
 not_empty (Some os) c p = omega (arith, p.0, length-map os other_numbers)
 
-same_ones : (os : List (OtherPrime (List ℕ))) → concat (map one os) ≡ concat (map (λ o. tlv 48 (integers (o.0 ∷ o.1 ∷ o.2 ∷ []))) (map other_numbers os))
+same_ones : (os : List (keys.OtherPrime (List ℕ))) → concat (map one os) ≡ concat (map other_prime (map other_numbers os))
 same_ones [] = refl
 same_ones (o ∷ os) = ap (λ x. one o ++ x) (same_ones os)
 
-same_all : (os : Option (List (OtherPrime (List ℕ)))) → all os ≡ other_infos (option_map (map other_numbers) os)
+same_all : (os : Option (List (keys.OtherPrime (List ℕ)))) → all os ≡ optional other_primes (option_map (map other_numbers) os)
 same_all None = refl
 same_all (Some os) = ap (tlv 48) (same_ones os)
 
-same_version : (os : Option (List (OtherPrime (List ℕ)))) → version_of os ≡ version (option_map (map other_numbers) os)
+same_version : (os : Option (List (keys.OtherPrime (List ℕ)))) → version_of os ≡ version (option_map (map other_numbers) os)
 same_version None = refl
 same_version (Some os) = refl
 
 -- the contents, by the key
-abbrev inside : PrivateKey (List ℕ) → List ℕ
+abbrev inside : keys.PrivateKey (List ℕ) → List ℕ
 inside k = (integer (version_of k.other_prime_infos) ++ concat (map encoded (eight k))) ++ all k.other_prime_infos
 
-inside_is : (k : PrivateKey (List ℕ)) (c : List ℕ) → PrivateKeyContents Integer k c → c ≡ inside k
+inside_is : (k : keys.PrivateKey (List ℕ)) (c : List ℕ) → PrivateKeyContents Integer k c → c ≡ inside k
 inside_is k c (a, r, v, p, e) =
     let s = joins_take (map Integer (eight k)) (OtherPrimeInfos Integer k.other_prime_infos ∷ []) r p in
     let w : a ≡ integer (version_of k.other_prime_infos) = small_integer (version_of k.other_prime_infos) a v in
@@ -141,24 +127,24 @@ inside_is k c (a, r, v, p, e) =
     e ∙ ap (λ x. x ++ r) w ∙ ap (λ x. integer (version_of k.other_prime_infos) ++ x) (s.4 ∙ ap (λ x. x ++ s.1) n ∙ ap (λ x. concat (map encoded (eight k)) ++ x) l)
     ∙ sym (append_assoc (integer (version_of k.other_prime_infos)) (concat (map encoded (eight k))) (all k.other_prime_infos))
 
-others_there : (k : PrivateKey (List ℕ)) (c : List ℕ) → PrivateKeyContents Integer k c → IsNotEmpty (numbers k).others
+others_there : (k : keys.PrivateKey (List ℕ)) (c : List ℕ) → PrivateKeyContents Integer k c → IfPresent IsNotEmpty (numbers k).other_primes
 others_there k c (a, r, v, p, e) =
     let s = joins_take (map Integer (eight k)) (OtherPrimeInfos Integer k.other_prime_infos ∷ []) r p in
     not_empty k.other_prime_infos s.3.0 s.3.2
 
 -- the same, by the numbers
-abbrev outside : PrivateNumbers → List ℕ
-outside n = tlv 48 (integers (version n.others ∷ n.modulus ∷ n.public_exponent ∷ n.private_exponent ∷ n.prime1 ∷ n.prime2 ∷ n.exponent1 ∷ n.exponent2 ∷ n.coefficient ∷ []) ++ other_infos n.others)
+abbrev outside : PrivateKey → List ℕ
+outside n = tlv 48 (integers (version n.other_primes ∷ n.modulus ∷ n.public_exponent ∷ n.private_exponent ∷ n.prime1 ∷ n.prime2 ∷ n.exponent1 ∷ n.exponent2 ∷ n.coefficient ∷ []) ++ optional other_primes n.other_primes)
 
-same_inside : (k : PrivateKey (List ℕ)) → tlv 48 (inside k) ≡ outside (numbers k)
+same_inside : (k : keys.PrivateKey (List ℕ)) → tlv 48 (inside k) ≡ outside (numbers k)
 same_inside k =
     ap (λ v. tlv 48 ((integer v ++ concat (map encoded (eight k))) ++ all k.other_prime_infos)) (same_version k.other_prime_infos)
-    ∙ ap (λ o. tlv 48 ((integer (version (numbers k).others) ++ concat (map encoded (eight k))) ++ o)) (same_all k.other_prime_infos)
+    ∙ ap (λ o. tlv 48 ((integer (version (numbers k).other_primes) ++ concat (map encoded (eight k))) ++ o)) (same_all k.other_prime_infos)
 
-encoding_is : (k : PrivateKey (List ℕ)) (encoding : List ℕ) → RsaPrivateKey k encoding → encoding ≡ outside (numbers k)
+encoding_is : (k : keys.PrivateKey (List ℕ)) (encoding : List ℕ) → RsaPrivateKey k encoding → encoding ≡ outside (numbers k)
 encoding_is k encoding p = tlv_is 48 (inside k) encoding (inside_is k) p ∙ same_inside k
 
-pub sentence : (k : PrivateKey (List ℕ)) (bytes : List ℕ) → Means RsaPrivateKey bytes k → PrivateKeySentence (numbers k) bytes
+pub sentence : (k : keys.PrivateKey (List ℕ)) (bytes : List ℕ) → Means RsaPrivateKey bytes k → PrivateKeyEncoding (numbers k) bytes
 sentence k bytes p = (p.0, others_there k p.1.contents p.1.holds, encoding_is k bytes p.1)
 
 -- Back: keys with canonical numbers.
@@ -166,62 +152,59 @@ abbrev pub AreCanonical : List (List ℕ) → Type 0
 AreCanonical [] = Unit {0}
 AreCanonical (x ∷ xs) = IsCanonical x × AreCanonical xs
 
-integer_made : (n : ℕ) → length (integer n) ≤ limit → Integer (octets n) (integer n)
-integer_made n l = tlv_made 2 (integer_contents (octets n)) (integer n) (integer_relates (octets n) (octets_canonical n)) refl l
-
-made_ones : (os : List Other) → length (concat (map (λ o. tlv 48 (integers (o.0 ∷ o.1 ∷ o.2 ∷ []))) os)) ≤ limit
-    → Joins (map (OtherPrimeInfo Integer) (map other_of os)) (concat (map (λ o. tlv 48 (integers (o.0 ∷ o.1 ∷ o.2 ∷ []))) os))
+made_ones : (os : List OtherPrime) → length (concat (map other_prime os)) ≤ limit
+    → Joins (map (OtherPrimeInfo Integer) (map other_of os)) (concat (map other_prime os))
 made_ones [] l = refl
 made_ones (o ∷ os) l =
-    let x = tlv 48 (integers (o.0 ∷ o.1 ∷ o.2 ∷ [])) in
-    let y = concat (map (λ o. tlv 48 (integers (o.0 ∷ o.1 ∷ o.2 ∷ []))) os) in
+    let x = other_prime o in
+    let y = concat (map other_prime os) in
     let both = length-append x y in
-    let fit = tlv_fit 48 (integers (o.0 ∷ o.1 ∷ o.2 ∷ [])) in
-    let few : length (integers (o.0 ∷ o.1 ∷ o.2 ∷ [])) ≤ limit = omega (arith, l, both, fit) in
-    let numbers = joins_made (λ n. Integer (octets n)) integer integer_made (o.0 ∷ o.1 ∷ o.2 ∷ []) few in
-    (x, y, tlv_made 48 (integers (o.0 ∷ o.1 ∷ o.2 ∷ [])) x numbers refl (omega (arith, l, both)), made_ones os (omega (arith, l, both)), refl)
+    let fit = tlv_fit 48 (integers (o.prime ∷ o.exponent ∷ o.coefficient ∷ [])) in
+    let few : length (integers (o.prime ∷ o.exponent ∷ o.coefficient ∷ [])) ≤ limit = omega (arith, l, both, fit) in
+    let numbers = joins_made (λ n. Integer (octets n)) integer integer_made (o.prime ∷ o.exponent ∷ o.coefficient ∷ []) few in
+    (x, y, tlv_made 48 (integers (o.prime ∷ o.exponent ∷ o.coefficient ∷ [])) x numbers refl (omega (arith, l, both)), made_ones os (omega (arith, l, both)), refl)
 
-made_all : (os : Option (List Other)) → IsNotEmpty os → length (other_infos os) ≤ limit → OtherPrimeInfos Integer (option_map (map other_of) os) (other_infos os)
+made_all : (os : Option (List OtherPrime)) → IfPresent IsNotEmpty os → length (optional other_primes os) ≤ limit → OtherPrimeInfos Integer (option_map (map other_of) os) (optional other_primes os)
 made_all None h l = refl
 made_all (Some os) h l =
-    let c = concat (map (λ o. tlv 48 (integers (o.0 ∷ o.1 ∷ o.2 ∷ []))) os) in
+    let c = concat (map other_prime os) in
     (omega (arith, h, length-map os other_of), tlv_made 48 c (tlv 48 c) (made_ones os (omega (arith, l, tlv_fit 48 c))) refl l)
 
-version_made : (os : Option (List Other)) → length (integer (version os)) ≤ limit → Small (version_of (option_map (map other_of) os)) (integer (version os))
+version_made : (os : Option (List OtherPrime)) → length (integer (version os)) ≤ limit → Small (version_of (option_map (map other_of) os)) (integer (version os))
 version_made None l = tlv_made 2 (integer_contents (0 ∷ [])) (integer 0) (small_relates 0 (omega arith)) (ap (λ x. tlv 2 (integer_contents x)) (small_octets 0 (omega arith))) l
 version_made (Some os) l = tlv_made 2 (integer_contents (1 ∷ [])) (integer 1) (small_relates 1 (omega arith)) (ap (λ x. tlv 2 (integer_contents x)) (small_octets 1 (omega arith))) l
 
-pub means : (k : PrivateNumbers) (bytes : List ℕ) → PrivateKeySentence k bytes → Means RsaPrivateKey bytes (key_of k)
+pub means : (k : PrivateKey) (bytes : List ℕ) → PrivateKeyEncoding k bytes → Means RsaPrivateKey bytes (key_of k)
 means k bytes (fits, some, is) =
     let ns = k.modulus ∷ k.public_exponent ∷ k.private_exponent ∷ k.prime1 ∷ k.prime2 ∷ k.exponent1 ∷ k.exponent2 ∷ k.coefficient ∷ [] in
-    let v = integer (version k.others) in
+    let v = integer (version k.other_primes) in
     let n = integers ns in
-    let o = other_infos k.others in
+    let o = optional other_primes k.other_primes in
     let l0 = length-append (v ++ n) o in
     let l1 = length-append v n in
     let le : length ((v ++ n) ++ o) ≤ limit = omega (arith, fits, ap length is, tlv_fit 48 ((v ++ n) ++ o)) in
-    let hv = version_made k.others (omega (arith, le, l0, l1)) in
+    let hv = version_made k.other_primes (omega (arith, le, l0, l1)) in
     let hn = joins_made (λ m. Integer (octets m)) integer integer_made ns (omega (arith, le, l0, l1)) in
-    let ho = made_all k.others some (omega (arith, le, l0)) in
+    let ho = made_all k.other_primes some (omega (arith, le, l0)) in
     let later = joins_put (map Integer (eight (key_of k))) (OtherPrimeInfos Integer (key_of k).other_prime_infos ∷ []) n o hn (o, [], ho, refl, sym (append-nil o)) in
     (fits, tlv_made 48 ((v ++ n) ++ o) bytes (v, n ++ o, hv, later, append_assoc v n o) is fits)
 
-pub shortest : (k : PrivateKey (List ℕ)) (bytes : List ℕ) → documents.IsShortest RsaPrivateKey k bytes → IsShortest PrivateKeySentence (numbers k) bytes
+pub shortest : (k : keys.PrivateKey (List ℕ)) (bytes : List ℕ) → documents.IsShortest RsaPrivateKey k bytes → IsShortest PrivateKeyEncoding (numbers k) bytes
 shortest k bytes p = (sentence k bytes p.spells, λ other q. inl (q.2 ∙ sym (encoding_is k bytes p.spells.1)))
 
 -- The key of the numbers of a key whose numbers are canonical.
-abbrev pub OtherCanonical : OtherPrime (List ℕ) → Type 0
+abbrev pub OtherCanonical : keys.OtherPrime (List ℕ) → Type 0
 OtherCanonical o = IsCanonical o.prime × IsCanonical o.exponent × IsCanonical o.coefficient
 
-abbrev pub EachCanonical : List (OtherPrime (List ℕ)) → Type 0
+abbrev pub EachCanonical : List (keys.OtherPrime (List ℕ)) → Type 0
 EachCanonical [] = Unit {0}
 EachCanonical (o ∷ os) = OtherCanonical o × EachCanonical os
 
-abbrev pub OthersCanonical : Option (List (OtherPrime (List ℕ))) → Type 0
+abbrev pub OthersCanonical : Option (List (keys.OtherPrime (List ℕ))) → Type 0
 OthersCanonical None = Unit {0}
 OthersCanonical (Some os) = EachCanonical os
 
-list_forth : (os : List (OtherPrime (List ℕ))) → EachCanonical os → map other_of (map other_numbers os) ≡ os
+list_forth : (os : List (keys.OtherPrime (List ℕ))) → EachCanonical os → map other_of (map other_numbers os) ≡ os
 list_forth [] h = refl
 list_forth (o ∷ os) h =
     let r = list_forth os h.1 in
@@ -230,11 +213,11 @@ list_forth (o ∷ os) h =
     let c = number_octets o.coefficient h.0.2 in
     λ i. record { prime = a i; exponent = b i; coefficient = c i } ∷ r i
 
-pub others_forth : (os : Option (List (OtherPrime (List ℕ)))) → OthersCanonical os → option_map (map other_of) (option_map (map other_numbers) os) ≡ os
+pub others_forth : (os : Option (List (keys.OtherPrime (List ℕ)))) → OthersCanonical os → option_map (map other_of) (option_map (map other_numbers) os) ≡ os
 others_forth None h = refl
 others_forth (Some os) h = ap Some (list_forth os h)
 
-pub forth : (k : PrivateKey (List ℕ)) → AreCanonical (eight k) → OthersCanonical k.other_prime_infos → key_of (numbers k) ≡ k
+pub forth : (k : keys.PrivateKey (List ℕ)) → AreCanonical (eight k) → OthersCanonical k.other_prime_infos → key_of (numbers k) ≡ k
 forth k h o =
     let r = others_forth k.other_prime_infos o in
     let a = number_octets k.modulus h.0 in

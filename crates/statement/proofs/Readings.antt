@@ -98,9 +98,9 @@ ended_err x (b ∷ bs) l = refl
 
 -- The contents of a public key.
 second_fault : (n : ℕ) (k : ErrorKind) (c : List ℕ) → length c ≤ limit → ThenFault Integer (EncodingFault integer IntegerFault) (λ _. EndFault) k c → second_of (n, c) ≡ Err k
-second_fault n k c l (inl f) = ap (λ r. r >>= λ e. ended (n, e.0) e.1) (integer_fault k c f)
+second_fault n k c l (inl f) = ap (λ r. r >>= λ e. ended (record { modulus = n; public_exponent = e.0 }) e.1) (integer_fault k c f)
 second_fault n k c l (inr (x, (a, rest, p, end, is))) =
-    ap (λ r. r >>= λ e. ended (n, e.0) e.1) (integer_read x a c rest l p is) ∙ ended_err (n, number_from_digits 256 x) rest end.0 ∙ ap (λ e. Err e) (sym end.1)
+    ap (λ r. r >>= λ e. ended (record { modulus = n; public_exponent = e.0 }) e.1) (integer_read x a c rest l p is) ∙ ended_err (record { modulus = n; public_exponent = number_from_digits 256 x }) rest end.0 ∙ ap (λ e. Err e) (sym end.1)
 
 in_fault : (k : ErrorKind) (c : List ℕ) → length c ≤ limit → PublicKeyFault Integer (EncodingFault integer IntegerFault) k c → public_key_in c ≡ Err k
 in_fault k c l (inl f) = ap (λ r. r >>= second_of) (integer_fault k c f)
@@ -111,7 +111,7 @@ in_read : (key : PublicKey (List ℕ)) (c : List ℕ) → length c ≤ limit →
 in_read key c l (a, r, p, (b, end, q, nothing, f), is) =
     let few : length r ≤ limit = omega (arith, l, ap length is, length-append a r) in
     ap (λ r. r >>= second_of) (integer_read key.modulus a c r l p is)
-    ∙ ap (λ r. r >>= λ e. ended ((numbers key).0, e.0) e.1) (integer_read key.public_exponent b r end few q f)
+    ∙ ap (λ r. r >>= λ e. ended (record { modulus = (numbers key).modulus; public_exponent = e.0 }) e.1) (integer_read key.public_exponent b r end few q f)
     ∙ ap (λ x. ended (numbers key) x) nothing
 
 -- The whole slice.

@@ -10,7 +10,7 @@ use Rattle.der_core.specs.declared.error.ErrorKind.TheVariants.{Incomplete, Over
 use Rattle.der_core.specs.declared.tag.Tag.{Tag}
 use Rattle.pkcs1_params.specs.declared.error.Error.{Error}
 use Rattle.pkcs1_params.specs.declared.error.Error.TheVariants as error
-use Rattle.statement.specs.Statement.{limit}
+use Rattle.statement.specs.Statement.{limit, PublicKey}
 
 infixl 10 ◌>>=◌
 abbrev pub ◌>>=◌ : {A B : Type 0} → Result A ErrorKind → (A → Result B ErrorKind) → Result B ErrorKind
@@ -46,13 +46,13 @@ ended x [] = Ok x
 ended x (b ∷ bs) = Err TrailingData
 
 -- RSAPublicKey
-abbrev pub second_of : ℕ × List ℕ → Result (ℕ × ℕ) ErrorKind
-second_of n = integer_at n.1 >>= λ e. ended (n.0, e.0) e.1
+abbrev pub second_of : ℕ × List ℕ → Result PublicKey ErrorKind
+second_of n = integer_at n.1 >>= λ e. ended (record { modulus = n.0; public_exponent = e.0 }) e.1
 
-abbrev pub public_key_in : List ℕ → Result (ℕ × ℕ) ErrorKind
+abbrev pub public_key_in : List ℕ → Result PublicKey ErrorKind
 public_key_in contents = integer_at contents >>= second_of
 
-abbrev pub public_key_of : List ℕ → Result (ℕ × ℕ) ErrorKind
+abbrev pub public_key_of : List ℕ → Result PublicKey ErrorKind
 public_key_of bytes =
     if nat_lt limit (length bytes) then Err Overflow
     else (contents_at sequence bytes >>= λ p. public_key_in p.0 >>= λ key. ended key p.1)

@@ -1,77 +1,116 @@
--- What is proved of RSA keys, and of RSASSA-PSS and RSAES-OAEP parameters. Read this file, Held.antt and src/lib.rt: the
--- prover checks that the calls keep to them.
-use Rattle.std.specs.Prelude.{ℕ, Bool, true, false, List, [], ◌∷◌, ◌++◌, ◌≡◌, ◌≢◌, ◌<◌, ◌≤◌, ◌+◌, ◌^◌, ◌%◌, ◌⊎◌, ◌↔◌, ◌&&◌, ◌==◌, not, IsTrue, length, take, drop, slice_index, slice_index_or, nat_lt, map, if◌then◌else◌, Option, Some, None}
-use Rattle.std.specs.Bool.{Decides}
-use Rattle.std.specs.Int.Digits.{digits_of, AllBelowBase}
+-- What is proved, from the first octet on: which bytes encode which RSA keys, PKCS #8 containers, and RSASSA-PSS and
+-- RSAES-OAEP parameters, and what reading and writing promise. `src/lib.rt` promises it of the library's calls, and
+-- `Held.antt` says what their values hold. It stands alone on purpose: the grammars of the crates below were written
+-- apart from it, as relations, and proofs/ shows that they say the same.
+--
+-- A definition has a type, `name : arguments → result`, and equations; `f x y` is f of x and y, `λ x. e` the function that
+-- takes x to e, and an argument in braces isn't written.
+-- ℕ are the numbers 0, 1, 2, ..; an octet is one below 256, a byte string a `List ℕ`. [] is the empty list, x ∷ xs has the
+-- first element x, xs ++ ys joins two; `take n xs`, `drop n xs` are its first n elements, the others; `slice_index_or xs i y`
+-- is the element at i, from 0 on, or y; `concat` joins all of a list. An Option V is None, or Some of a V.
+-- A `Type 0` is a statement, or a kind of values. A × B: both. A ⊎ B: one of them. ⊥ is false: A → ⊥ means that A isn't so.
+-- a ≡ b: equal. (x : A) → B: for every x of A, B. (x : A) × B: there is an x of A with B. A ↔ B: each if the other.
+-- A record has named parts, r.part; as a statement, all of them hold. v.0 and v.1 are the parts of a pair.
+-- `abbrev`, `unfoldable` and `pub` say how the prover uses a definition, and nothing about it.
+use Rattle.std.specs.Prelude.{ℕ, List, [], ◌∷◌, ◌++◌, ◌≡◌, ◌≢◌, ◌<◌, ◌≤◌, ◌+◌, ◌*◌, ◌^◌, ◌%◌, ◌⊎◌, ◌↔◌, ◌==◌, ◌&&◌, not, IsTrue, length, take, drop, slice_index, slice_index_or, nat_lt, map, if◌then◌else◌, Option, Some, None}
+use Rattle.std.specs.Int.Digits.{digits_of}
 use Rattle.std.specs.List.{AllByRecursion, concat}
-use Rattle.spki_core.specs.Any.{TagAndContents}
-use Rattle.spki_core.specs.AlgorithmIdentifier.{Algorithm}
-use Rattle.pkcs1_params.specs.Parameters.{PssParameters, OaepParameters}
 
--- == Promises, of any relation of values and sentences ==
+-- == What is promised, of any relation of values and their encodings ==
 
--- Reading: the bytes are a sentence of this value and of no other; or they are a sentence of no value.
+-- Reading gave a value: the bytes encode it, and no other. It gave none: they encode no value.
 abbrev pub Decodes : {V : Type 0} → (V → List ℕ → Type 0) → List ℕ → Option V → Type 0
-Decodes {V} Sentence bytes (Some v) = Sentence v bytes × ((w : V) → Sentence w bytes → w ≡ v)
-Decodes {V} Sentence bytes None = (v : V) → Sentence v bytes → ⊥
+Decodes {V} Encoding bytes (Some v) = Encoding v bytes × ((other : V) → Encoding other bytes → other ≡ v)
+Decodes {V} Encoding bytes None = (v : V) → Encoding v bytes → ⊥
 
--- A sentence of the value; every other one is longer.
+-- An encoding of the value; every other one is longer.
 abbrev pub IsShortest : {V : Type 0} → (V → List ℕ → Type 0) → V → List ℕ → Type 0
-IsShortest Sentence v bytes = Sentence v bytes × ((other : List ℕ) → Sentence v other → (other ≡ bytes) ⊎ (length bytes < length other))
+IsShortest Encoding v bytes =
+    Encoding v bytes × ((other : List ℕ) → Encoding v other → (other ≡ bytes) ⊎ (length bytes < length other))
 
--- Writing over a slice: its first n octets are now the value's shortest sentence, and the others are as before; or it
--- is as before, and shorter than every sentence of the value.
+-- Writing over a slice gave a length n: the first n octets are now the value's shortest encoding, and the others are as
+-- before. It gave none: the slice is as before, and shorter than every encoding of the value.
 abbrev pub Encodes : {V : Type 0} → (V → List ℕ → Type 0) → V → List ℕ → List ℕ → Option ℕ → Type 0
-Encodes Sentence v old new (Some n) = (n ≤ length new) × IsShortest Sentence v (take n new) × (drop n new ≡ drop n old)
-Encodes Sentence v old new None = (new ≡ old) × ((bytes : List ℕ) → Sentence v bytes → length old < length bytes)
+Encodes Encoding v old new (Some n) = (n ≤ length new) × IsShortest Encoding v (take n new) × (drop n new ≡ drop n old)
+Encodes Encoding v old new None = (new ≡ old) × ((bytes : List ℕ) → Encoding v bytes → length old < length bytes)
 
--- Exactly n: a list of n different ones, and there is no other.
-pub record Exactly (n : ℕ) (Sentence : List ℕ → Type 0) : Type 0 where
-  pub all : List (List ℕ)
-  pub count : length all ≡ n
-  pub each : (i : ℕ) → i < n → Sentence (slice_index_or all i [])
-  pub different : (i j : ℕ) → i < n → j < n → slice_index_or all i [] ≡ slice_index_or all j [] → i ≡ j
-  pub no_other : (bytes : List ℕ) → Sentence bytes → (i : ℕ) × (i < n) × (slice_index_or all i [] ≡ bytes)
+-- No value has two encodings.
+abbrev pub AtMostOne : {V : Type 0} → (V → List ℕ → Type 0) → Type 0
+AtMostOne {V} Encoding = (v : V) (a b : List ℕ) → Encoding v a → Encoding v b → a ≡ b
 
--- Two sentences mean the same value exactly if the shortest sentences of their values are equal.
+-- Two encodings mean the same value exactly if the shortest encodings of their values are equal.
 abbrev pub SameByShortest : {V : Type 0} → (V → List ℕ → Type 0) → Type 0
-SameByShortest {V} Sentence =
-    (v w : V) (a b s t : List ℕ) → Sentence v a → Sentence w b → IsShortest Sentence v s → IsShortest Sentence w t → (v ≡ w) ↔ (s ≡ t)
+SameByShortest {V} Encoding =
+    (v w : V) (a b s t : List ℕ) → Encoding v a → Encoding w b → IsShortest Encoding v s → IsShortest Encoding w t
+    → (v ≡ w) ↔ (s ≡ t)
+
+-- These n are encodings, they are different, and there is no other.
+pub record AreAll (n : ℕ) (Encoding : List ℕ → Type 0) (all : List (List ℕ)) : Type 0 where
+  pub count : length all ≡ n
+  pub each : (i : ℕ) → i < n → Encoding (slice_index_or all i [])
+  pub different : (i j : ℕ) → i < n → j < n → slice_index_or all i [] ≡ slice_index_or all j [] → i ≡ j
+  pub no_other : (bytes : List ℕ) → Encoding bytes → (i : ℕ) × (i < n) × (slice_index_or all i [] ≡ bytes)
 
 -- == DER (X.690) ==
 
--- A number in base 256, the highest octet first; 0 is one octet.
+-- A number in base 256, the highest octet first and not 0; 0 is one octet.
 abbrev pub octets : ℕ → List ℕ
 octets n = if n == 0 then 0 ∷ [] else digits_of 256 n
 
--- The length itself below 128; else 128 + m and the m octets of the length (8.1.3, 10.1).
+-- The length below 128; else 128 + m and the m octets of the length (8.1.3.4, 8.1.3.5; the fewest: 10.1).
 unfoldable pub length_octets : ℕ → List ℕ
 length_octets n = if nat_lt n 128 then n ∷ [] else ((128 + length (digits_of 256 n)) ∷ digits_of 256 n)
 
--- tag, length, contents (8.1.1)
+-- The tag, the length of the contents, the contents (8.1.1.1).
 abbrev pub tlv : ℕ → List ℕ → List ℕ
 tlv tag contents = tag ∷ length_octets (length contents) ++ contents
 
--- INTEGER: a zero octet stands in front of a first octet of 128 or more (8.3).
+-- INTEGER (8.3), of numbers only, in two's complement: a zero stands in front of a first octet of 128 or more.
 abbrev pub integer : ℕ → List ℕ
 integer n = tlv 2 (if nat_lt (slice_index (octets n) 0) 128 then octets n else (0 ∷ octets n))
 
+-- SEQUENCE (8.9)
+abbrev pub sequence : List ℕ → List ℕ
+sequence contents = tlv 48 contents
+
+abbrev pub integers : List ℕ → List ℕ
+integers numbers = concat (map integer numbers)
+
+-- OPTIONAL: absent, or present.
+abbrev pub optional : {V : Type 0} → (V → List ℕ) → Option V → List ℕ
+optional encoding None = []
+optional encoding (Some v) = encoding v
+
+abbrev pub IfPresent : {V : Type 0} → (V → Type 0) → Option V → Type 0
+IfPresent Is None = Unit {0}
+IfPresent Is (Some v) = Is v
+
+abbrev pub AreOctets : List ℕ → Type 0
+AreOctets octets = AllByRecursion (λ b. b < 256) octets
+
+-- No encoding is longer: this is the library's limit, not the standard's.
 abbrev pub limit : ℕ
 limit = 4294967295
 
--- == Public keys (RFC 8017 A.1.1) ==
+-- == RSAPublicKey (RFC 8017 A.1.1) ==
 
--- SEQUENCE { modulus INTEGER, publicExponent INTEGER }. The right side is a function, so a key has one encoding.
-abbrev pub PublicKeySentence : ℕ × ℕ → List ℕ → Type 0
-PublicKeySentence key bytes = (length bytes ≤ limit) × (bytes ≡ tlv 48 (integer key.0 ++ integer key.1))
+pub record PublicKey : Type 0 where
+  pub modulus : ℕ
+  pub public_exponent : ℕ
 
--- == Private keys (RFC 8017 A.1.2) ==
+-- SEQUENCE { modulus INTEGER, publicExponent INTEGER }. No relation of the numbers is asked for.
+abbrev pub PublicKeyEncoding : PublicKey → List ℕ → Type 0
+PublicKeyEncoding key bytes =
+    (length bytes ≤ limit) × (bytes ≡ sequence (integers (key.modulus ∷ key.public_exponent ∷ [])))
 
--- prime, exponent, coefficient
-abbrev pub Other : Type 0
-Other = ℕ × ℕ × ℕ
+-- == RSAPrivateKey (RFC 8017 A.1.2) ==
 
-pub record PrivateNumbers : Type 0 where
+pub record OtherPrime : Type 0 where
+  pub prime : ℕ
+  pub exponent : ℕ
+  pub coefficient : ℕ
+
+pub record PrivateKey : Type 0 where
   pub modulus : ℕ
   pub public_exponent : ℕ
   pub private_exponent : ℕ
@@ -80,125 +119,215 @@ pub record PrivateNumbers : Type 0 where
   pub exponent1 : ℕ
   pub exponent2 : ℕ
   pub coefficient : ℕ
-  pub others : Option (List Other)
+  pub other_primes : Option (List OtherPrime)
 
-abbrev pub integers : List ℕ → List ℕ
-integers numbers = concat (map integer numbers)
+-- OtherPrimeInfo: SEQUENCE { prime INTEGER, exponent INTEGER, coefficient INTEGER }
+abbrev pub other_prime : OtherPrime → List ℕ
+other_prime o = sequence (integers (o.prime ∷ o.exponent ∷ o.coefficient ∷ []))
 
--- OtherPrimeInfos: nothing, or a SEQUENCE of at least one.
-abbrev pub other_infos : Option (List Other) → List ℕ
-other_infos None = []
-other_infos (Some others) = tlv 48 (concat (map (λ o. tlv 48 (integers (o.0 ∷ o.1 ∷ o.2 ∷ []))) others))
+-- OtherPrimeInfos: SEQUENCE SIZE(1..MAX) OF OtherPrimeInfo
+abbrev pub other_primes : List OtherPrime → List ℕ
+other_primes others = sequence (concat (map other_prime others))
 
-abbrev pub IsNotEmpty : Option (List Other) → Type 0
-IsNotEmpty None = Unit {0}
-IsNotEmpty (Some others) = 0 < length others
+abbrev pub IsNotEmpty : List OtherPrime → Type 0
+IsNotEmpty others = 0 < length others
 
--- 1 with other primes
-abbrev pub version : Option (List Other) → ℕ
+-- version: 1 with other primes, else 0
+abbrev pub version : Option (List OtherPrime) → ℕ
 version None = 0
 version (Some others) = 1
 
-abbrev pub PrivateKeySentence : PrivateNumbers → List ℕ → Type 0
-PrivateKeySentence k bytes =
-    (length bytes ≤ limit) × IsNotEmpty k.others
-    × (bytes ≡ tlv 48 (integers (version k.others ∷ k.modulus ∷ k.public_exponent ∷ k.private_exponent ∷ k.prime1 ∷ k.prime2 ∷ k.exponent1 ∷ k.exponent2 ∷ k.coefficient ∷ []) ++ other_infos k.others))
+-- SEQUENCE { version, the eight numbers, otherPrimeInfos OtherPrimeInfos OPTIONAL }
+abbrev pub PrivateKeyEncoding : PrivateKey → List ℕ → Type 0
+PrivateKeyEncoding k bytes =
+    (length bytes ≤ limit) × IfPresent IsNotEmpty k.other_primes
+    × (bytes ≡ sequence (integers (version k.other_primes ∷ k.modulus ∷ k.public_exponent ∷ k.private_exponent
+        ∷ k.prime1 ∷ k.prime2 ∷ k.exponent1 ∷ k.exponent2 ∷ k.coefficient ∷ []) ++ optional other_primes k.other_primes))
 
--- == Algorithms (RFC 5280 4.1.1.2) ==
+-- == AlgorithmIdentifier (RFC 5280 4.1.1.2) ==
 
--- The contents of OBJECT IDENTIFIER (8.19): subidentifiers, each some octets of 128 or more and a last one below it, not
--- beginning with 128; at least one, of at most 39 octets together.
+-- OBJECT IDENTIFIER (X.690 8.19.2): a subidentifier is octets of 128 or more and a last one below, and begins not with 128.
 abbrev pub IsSubidentifier : List ℕ → Type 0
 IsSubidentifier octets =
-    (front : List ℕ) × (last : ℕ) × (octets ≡ front ++ last ∷ []) × AllByRecursion (λ b. (128 ≤ b) × (b < 256)) front × (last < 128) × (slice_index octets 0 ≢ 128)
+    (front : List ℕ) × (last : ℕ) × (octets ≡ front ++ last ∷ [])
+    × AllByRecursion (λ b. (128 ≤ b) × (b < 256)) front × (last < 128) × (slice_index octets 0 ≢ 128)
 
+-- The contents are one subidentifier or more, of at most 39 octets together (the library's limit).
 abbrev pub IsIdentifier : List ℕ → Type 0
-IsIdentifier oid = (ids : List (List ℕ)) × (0 < length ids) × AllByRecursion IsSubidentifier ids × (oid ≡ concat ids) × (length oid ≤ 39)
+IsIdentifier oid =
+    (ids : List (List ℕ)) × (0 < length ids) × AllByRecursion IsSubidentifier ids × (oid ≡ concat ids) × (length oid ≤ 39)
 
--- Parameters of any tag that is one octet (but 0 and 32), with any contents.
+-- Parameters of an algorithm in general: a tag, and contents that aren't looked at.
+pub record TagAndContents : Type 0 where
+  pub tag : ℕ
+  pub contents : List ℕ
+
+-- The tag is one octet (8.1.2.4.3: the low five bits of 31 begin a longer one), and neither 00 nor 20.
 abbrev pub IsAny : TagAndContents → Type 0
-IsAny v = IsTrue (nat_lt v.tag 256 && not (v.tag % 32 == 31) && not (v.tag == 0) && not (v.tag == 32)) × AllBelowBase 256 v.contents
+IsAny v = IsTrue (nat_lt v.tag 256 && not (v.tag % 32 == 31) && not (v.tag == 0) && not (v.tag == 32)) × AreOctets v.contents
 
 abbrev pub any : TagAndContents → List ℕ
 any v = tlv v.tag v.contents
 
-abbrev pub optional : {P : Type 0} → (P → List ℕ) → Option P → List ℕ
-optional encoding None = []
-optional encoding (Some v) = encoding v
+pub record Algorithm (P : Type 0) : Type 0 where
+  pub oid : List ℕ
+  pub parameters : Option P
 
-abbrev pub IsOptional : {P : Type 0} → (P → Type 0) → Option P → Type 0
-IsOptional Is None = Unit {0}
-IsOptional Is (Some v) = Is v
-
--- SEQUENCE { algorithm OBJECT IDENTIFIER, parameters OPTIONAL }
+-- SEQUENCE { algorithm OBJECT IDENTIFIER, parameters ANY DEFINED BY algorithm OPTIONAL }
 abbrev pub algorithm : {P : Type 0} → (P → List ℕ) → Algorithm P → List ℕ
-algorithm parameters a = tlv 48 (tlv 6 a.oid ++ optional parameters a.parameters)
+algorithm parameters a = sequence (tlv 6 a.oid ++ optional parameters a.parameters)
 
 abbrev pub IsAlgorithm : {P : Type 0} → (P → Type 0) → Algorithm P → Type 0
-IsAlgorithm Is a = IsIdentifier a.oid × IsOptional Is a.parameters
+IsAlgorithm Is a = IsIdentifier a.oid × IfPresent Is a.parameters
 
--- == PSS parameters (RFC 8017 A.2.3) ==
+-- One with such parameters: a hash function, a label source. One with one of these: a mask generation function.
+abbrev pub plain : Algorithm TagAndContents → List ℕ
+plain = algorithm any
 
--- SHA-1 with NULL, and MGF1 with that.
+abbrev pub IsPlain : Algorithm TagAndContents → Type 0
+IsPlain = IsAlgorithm IsAny
+
+abbrev pub mask_generation : Algorithm (Algorithm TagAndContents) → List ℕ
+mask_generation = algorithm plain
+
+abbrev pub IsMaskGeneration : Algorithm (Algorithm TagAndContents) → Type 0
+IsMaskGeneration = IsAlgorithm IsPlain
+
+-- NULL (X.690 8.8)
+abbrev pub null : TagAndContents
+null = record { tag = 5; contents = [] }
+
+-- rsaEncryption with NULL (RFC 8017 A.1), id-sha1 with NULL, id-mgf1 with that (A.2.1), id-pSpecified with an empty label
+abbrev pub rsa_encryption : Algorithm TagAndContents
+rsa_encryption = record { oid = 0x2a ∷ 0x86 ∷ 0x48 ∷ 0x86 ∷ 0xf7 ∷ 0x0d ∷ 0x01 ∷ 0x01 ∷ 0x01 ∷ []; parameters = Some null }
+
 abbrev pub sha1 : Algorithm TagAndContents
-sha1 = record { oid = 0x2b ∷ 0x0e ∷ 0x03 ∷ 0x02 ∷ 0x1a ∷ []; parameters = Some (record { tag = 5; contents = [] }) }
+sha1 = record { oid = 0x2b ∷ 0x0e ∷ 0x03 ∷ 0x02 ∷ 0x1a ∷ []; parameters = Some null }
 
 abbrev pub mgf1_sha1 : Algorithm (Algorithm TagAndContents)
 mgf1_sha1 = record { oid = 0x2a ∷ 0x86 ∷ 0x48 ∷ 0x86 ∷ 0xf7 ∷ 0x0d ∷ 0x01 ∷ 0x01 ∷ 0x08 ∷ []; parameters = Some sha1 }
 
--- [number] EXPLICIT .. DEFAULT ..: left out, only if the value is the default, or written.
-abbrev pub Field : {V : Type 0} → ℕ → (V → Type 0) → (V → List ℕ) → V → V → List ℕ → Type 0
-Field number Is encoding default v bytes = ((bytes ≡ []) × (v ≡ default)) ⊎ (Is v × (bytes ≡ tlv (160 + number) (encoding v)))
-
--- SEQUENCE { [0] hashAlgorithm DEFAULT sha1, [1] maskGenAlgorithm DEFAULT mgf1SHA1, [2] saltLength INTEGER DEFAULT 20,
--- [3] trailerField INTEGER DEFAULT 1 }, with a salt length of 0 to 255 and the trailer field 1
-pub record PssSentence (p : PssParameters) (bytes : List ℕ) : Type 0 where
-  pub fits : length bytes ≤ limit
-  pub a : List ℕ
-  pub b : List ℕ
-  pub c : List ℕ
-  pub d : List ℕ
-  pub hash : Field 0 (IsAlgorithm IsAny) (algorithm any) sha1 p.hash a
-  pub mask_gen : Field 1 (IsAlgorithm (IsAlgorithm IsAny)) (algorithm (algorithm any)) mgf1_sha1 p.mask_gen b
-  pub salt_len : Field 2 (λ n. n < 256) integer 20 p.salt_len c
-  pub trailer_field : Field 3 (λ n. n ≡ 1) integer 1 p.trailer_field d
-  pub whole : bytes ≡ tlv 48 (a ++ (b ++ (c ++ d)))
-
--- == OAEP parameters (RFC 8017 A.2.1) ==
-
--- pSpecified with an empty OCTET STRING
 abbrev pub empty_label : Algorithm TagAndContents
-empty_label = record { oid = 0x2a ∷ 0x86 ∷ 0x48 ∷ 0x86 ∷ 0xf7 ∷ 0x0d ∷ 0x01 ∷ 0x01 ∷ 0x09 ∷ []; parameters = Some (record { tag = 4; contents = [] }) }
+empty_label = record {
+  oid = 0x2a ∷ 0x86 ∷ 0x48 ∷ 0x86 ∷ 0xf7 ∷ 0x0d ∷ 0x01 ∷ 0x01 ∷ 0x09 ∷ [];
+  parameters = Some (record { tag = 4; contents = [] });
+}
 
--- SEQUENCE { [0] hashAlgorithm DEFAULT sha1, [1] maskGenAlgorithm DEFAULT mgf1SHA1, [2] pSourceAlgorithm DEFAULT
--- pSpecifiedEmpty }
-pub record OaepSentence (p : OaepParameters) (bytes : List ℕ) : Type 0 where
-  pub fits : length bytes ≤ limit
-  pub a : List ℕ
-  pub b : List ℕ
-  pub c : List ℕ
-  pub hash : Field 0 (IsAlgorithm IsAny) (algorithm any) sha1 p.hash a
-  pub mask_gen : Field 1 (IsAlgorithm (IsAlgorithm IsAny)) (algorithm (algorithm any)) mgf1_sha1 p.mask_gen b
-  pub p_source : Field 2 (IsAlgorithm IsAny) (algorithm any) empty_label p.p_source c
-  pub whole : bytes ≡ tlv 48 (a ++ (b ++ c))
+-- == PrivateKeyInfo (RFC 5208 5) ==
 
--- == How many sentences parameters have ==
+pub record Container : Type 0 where
+  pub algorithm : Algorithm TagAndContents
+  pub private_key : List ℕ
+  pub attributes : Option (List ℕ)
 
--- Two to the number of fields that equal their defaults, if the encoding with every field is within the limit.
-abbrev pub bit : Bool → ℕ
-bit true = 1
-bit false = 0
+-- SEQUENCE { version INTEGER (0), privateKeyAlgorithm AlgorithmIdentifier, privateKey OCTET STRING,
+-- attributes [0] IMPLICIT Attributes OPTIONAL }; the contents of the attributes aren't looked at.
+abbrev pub ContainerEncoding : Container → List ℕ → Type 0
+ContainerEncoding c bytes =
+    (length bytes ≤ limit) × IsPlain c.algorithm × AreOctets c.private_key × IfPresent AreOctets c.attributes
+    × (bytes ≡ sequence (integer 0 ++ (plain c.algorithm ++ (tlv 4 c.private_key ++ optional (tlv 160) c.attributes))))
 
-abbrev pub PssCount : Type 0
-PssCount =
-    (p : PssParameters) (a b c d : Bool) → Decides a (p.hash ≡ sha1) → Decides b (p.mask_gen ≡ mgf1_sha1) → Decides c (p.salt_len ≡ 20) → Decides d (p.trailer_field ≡ 1)
-    → IsAlgorithm IsAny p.hash → IsAlgorithm (IsAlgorithm IsAny) p.mask_gen → p.salt_len < 256 → p.trailer_field ≡ 1
-    → length (tlv 48 (tlv 160 (algorithm any p.hash) ++ (tlv 161 (algorithm (algorithm any) p.mask_gen) ++ (tlv 162 (integer p.salt_len) ++ tlv 163 (integer p.trailer_field))))) ≤ limit
-    → Exactly (2 ^ (bit a + (bit b + (bit c + bit d)))) (PssSentence p)
+-- The bytes encode a container with rsaEncryption, whose octets encode this key.
+abbrev pub ContainedKeyEncoding : PrivateKey → List ℕ → Type 0
+ContainedKeyEncoding key bytes =
+    (c : Container) × ContainerEncoding c bytes × (c.algorithm ≡ rsa_encryption) × PrivateKeyEncoding key c.private_key
 
-abbrev pub OaepCount : Type 0
-OaepCount =
-    (p : OaepParameters) (a b c : Bool) → Decides a (p.hash ≡ sha1) → Decides b (p.mask_gen ≡ mgf1_sha1) → Decides c (p.p_source ≡ empty_label)
-    → IsAlgorithm IsAny p.hash → IsAlgorithm (IsAlgorithm IsAny) p.mask_gen → IsAlgorithm IsAny p.p_source
-    → length (tlv 48 (tlv 160 (algorithm any p.hash) ++ (tlv 161 (algorithm (algorithm any) p.mask_gen) ++ tlv 162 (algorithm any p.p_source)))) ≤ limit
-    → Exactly (2 ^ (bit a + (bit b + bit c))) (OaepSentence p)
+-- == Fields with defaults (X.690 8.14.2, 11.5) ==
+
+-- Whether the value of a field is its default, and the encoding if it is written.
+pub record Field : Type 1 where
+  pub IsDefault : Type 0
+  pub written : List ℕ
+
+-- [number] EXPLICIT .. DEFAULT default
+abbrev pub field : {V : Type 0} → ℕ → (V → List ℕ) → V → V → Field
+field number encoding default v = record { IsDefault = v ≡ default; written = tlv (160 + number) (encoding v) }
+
+-- The fields in order, each written, or left out if it has its default. DER (11.5) asks that it be left out; reading
+-- allows both.
+abbrev pub Fields : List Field → List ℕ → Type 0
+Fields [] bytes = bytes ≡ []
+Fields (f ∷ fields) bytes =
+    (f.IsDefault × Fields fields bytes) ⊎ ((later : List ℕ) × (bytes ≡ f.written ++ later) × Fields fields later)
+
+-- Of the fields that have their defaults, the j-th (from 0 on) is written exactly if bit j of the mask (the lowest is 0)
+-- is one; every other field is written.
+abbrev pub FieldsUnder : ℕ → List Field → List ℕ → Type 0
+FieldsUnder mask [] bytes = (bytes ≡ []) × (mask ≡ 0)
+FieldsUnder mask (f ∷ fields) bytes =
+    (f.IsDefault × (half : ℕ) × (mask ≡ 2 * half) × FieldsUnder half fields bytes)
+    ⊎ (f.IsDefault × (half : ℕ) × (mask ≡ 2 * half + 1)
+        × (later : List ℕ) × (bytes ≡ f.written ++ later) × FieldsUnder half fields later)
+    ⊎ ((f.IsDefault → ⊥) × (later : List ℕ) × (bytes ≡ f.written ++ later) × FieldsUnder mask fields later)
+
+-- How many have their defaults.
+abbrev pub Defaults : List Field → ℕ → Type 0
+Defaults [] k = k ≡ 0
+Defaults (f ∷ fields) k =
+    (f.IsDefault × (j : ℕ) × (k ≡ j + 1) × Defaults fields j) ⊎ ((f.IsDefault → ⊥) × Defaults fields k)
+
+-- A SEQUENCE with such contents.
+abbrev pub SequenceOf : (List ℕ → Type 0) → List ℕ → Type 0
+SequenceOf Contents bytes =
+    (length bytes ≤ limit) × (contents : List ℕ) × Contents contents × (bytes ≡ sequence contents)
+
+-- The longest encoding: every field is written.
+abbrev pub longest : List Field → List ℕ
+longest fields = sequence (concat (map (λ f. f.written) fields))
+
+-- All encodings of a value k of whose fields have their defaults: two to the k, at each index the one under that mask.
+abbrev pub AreByMask : {V : Type 0} → (V → List ℕ → Type 0) → (ℕ → V → List ℕ → Type 0) → V → ℕ → List (List ℕ) → Type 0
+AreByMask Encoding Under v k all =
+    AreAll (2 ^ k) (Encoding v) all × ((mask : ℕ) → mask < 2 ^ k → Under mask v (slice_index_or all mask []))
+
+-- Values k of whose fields have their defaults have exactly two to the k encodings, if the longest is within the limit.
+abbrev pub TwoToTheDefaults : {V : Type 0} → (V → Type 0) → (V → List Field) → (V → List ℕ → Type 0) → (ℕ → V → List ℕ → Type 0) → Type 0
+TwoToTheDefaults {V} Is fields Encoding Under =
+    (v : V) (k : ℕ) → Is v → Defaults (fields v) k → length (longest (fields v)) ≤ limit
+    → (all : List (List ℕ)) × AreByMask Encoding Under v k all
+
+-- == RSASSA-PSS-params (RFC 8017 A.2.3) ==
+
+pub record PssParameters : Type 0 where
+  pub hash : Algorithm TagAndContents
+  pub mask_gen : Algorithm (Algorithm TagAndContents)
+  pub salt_len : ℕ
+  pub trailer_field : ℕ
+
+-- Salt lengths above 255 aren't read (the library's limit); trailerFieldBC is the only trailer field.
+abbrev pub IsPss : PssParameters → Type 0
+IsPss p = IsPlain p.hash × IsMaskGeneration p.mask_gen × (p.salt_len < 256) × (p.trailer_field ≡ 1)
+
+-- hashAlgorithm [0] DEFAULT sha1, maskGenAlgorithm [1] DEFAULT mgf1SHA1, saltLength [2] INTEGER DEFAULT 20,
+-- trailerField [3] INTEGER DEFAULT 1
+abbrev pub pss_fields : PssParameters → List Field
+pss_fields p =
+    field 0 plain sha1 p.hash ∷ field 1 mask_generation mgf1_sha1 p.mask_gen
+    ∷ field 2 integer 20 p.salt_len ∷ field 3 integer 1 p.trailer_field ∷ []
+
+abbrev pub PssEncoding : PssParameters → List ℕ → Type 0
+PssEncoding p bytes = IsPss p × SequenceOf (Fields (pss_fields p)) bytes
+
+abbrev pub PssUnder : ℕ → PssParameters → List ℕ → Type 0
+PssUnder mask p bytes = IsPss p × SequenceOf (FieldsUnder mask (pss_fields p)) bytes
+
+-- == RSAES-OAEP-params (RFC 8017 A.2.1) ==
+
+pub record OaepParameters : Type 0 where
+  pub hash : Algorithm TagAndContents
+  pub mask_gen : Algorithm (Algorithm TagAndContents)
+  pub p_source : Algorithm TagAndContents
+
+abbrev pub IsOaep : OaepParameters → Type 0
+IsOaep p = IsPlain p.hash × IsMaskGeneration p.mask_gen × IsPlain p.p_source
+
+-- hashAlgorithm [0] DEFAULT sha1, maskGenAlgorithm [1] DEFAULT mgf1SHA1, pSourceAlgorithm [2] DEFAULT pSpecifiedEmpty
+abbrev pub oaep_fields : OaepParameters → List Field
+oaep_fields p =
+    field 0 plain sha1 p.hash ∷ field 1 mask_generation mgf1_sha1 p.mask_gen ∷ field 2 plain empty_label p.p_source ∷ []
+
+abbrev pub OaepEncoding : OaepParameters → List ℕ → Type 0
+OaepEncoding p bytes = IsOaep p × SequenceOf (Fields (oaep_fields p)) bytes
+
+abbrev pub OaepUnder : ℕ → OaepParameters → List ℕ → Type 0
+OaepUnder mask p bytes = IsOaep p × SequenceOf (FieldsUnder mask (oaep_fields p)) bytes

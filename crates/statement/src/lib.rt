@@ -3,30 +3,30 @@
 
 ghost use Rattle.std.specs.Option.{option_map};
 ghost use Rattle.statement.specs.Reading.{Returns, public_key_of};
-ghost use Rattle.statement.specs.Held.{numbers_of, numbers_in, numbers_viewed};
-ghost use Rattle.statement.specs.Statement.{Decodes, Encodes, SameByShortest, PublicKeySentence, PssSentence};
-ghost use Rattle.statement.specs.Statement.{PrivateKeySentence, OaepSentence, PssCount, OaepCount};
-ghost use Rattle.pkcs1_params.specs.OaepValue.{oaep_of};
-ghost use Rattle.pkcs1_params.specs.PssValue.{pss_of};
+ghost use Rattle.statement.specs.Held.{uint_ref, any_ref, rsa_public_key, rsa_private_key, rsa_private_key_view};
+ghost use Rattle.statement.specs.Held.{rsa_pss_params, rsa_oaep_params};
+ghost use Rattle.statement.specs.Statement.{Decodes, Encodes, IsShortest, SameByShortest, TwoToTheDefaults};
+ghost use Rattle.statement.specs.Statement.{PublicKeyEncoding, PrivateKeyEncoding, PssEncoding, OaepEncoding};
+ghost use Rattle.statement.specs.Statement.{IsPss, pss_fields, PssUnder, IsOaep, oaep_fields, OaepUnder};
 
 use pkcs1::{
     Result, RsaOaepParamsRef, RsaPrivateKeyRef, RsaPrivateKeyView, RsaPssParamsRef,
     RsaPublicKeyRef, lemma_oaep_spellings, lemma_pss_spellings,
 };
 
-/// Every slice is read exactly where it is a sentence of public keys, as the one key that it means.
+/// Reads a slice exactly if it encodes a public key, as the one that it encodes.
 pub fn read_public_key<'a>(bytes: &'a [u8]) -> Option<RsaPublicKeyRef<'a>>
-    ensures { Decodes PublicKeySentence bytes.now (option_map numbers_of result) }
+    ensures { Decodes PublicKeyEncoding bytes.now (option_map (rsa_public_key uint_ref) result) }
 {
     match RsaPublicKeyRef::try_from(bytes) {
-        Ok(key) => Some(key),
+        Ok(value) => Some(value),
         Err(_) => None,
     }
 }
 
-/// Every key that has a sentence of the slice's length or less is written as its shortest sentence.
+/// Writes a public key as the shortest encoding, if there is one that is no longer than the slice.
 pub fn write_public_key(key: &RsaPublicKeyRef<'_>, out: &mut [u8]) -> Option<usize>
-    ensures { Encodes PublicKeySentence (numbers_of key.now) out.old out.new result }
+    ensures { Encodes PublicKeyEncoding (rsa_public_key uint_ref key.now) out.old out.new result }
 {
     match key.encode_key(out) {
         Ok(length) => Some(length),
@@ -34,19 +34,19 @@ pub fn write_public_key(key: &RsaPublicKeyRef<'_>, out: &mut [u8]) -> Option<usi
     }
 }
 
-/// Every slice is read exactly where it is a sentence of private keys, as the one key that it means.
+/// Reads a slice exactly if it encodes a private key, as the one that it encodes.
 pub fn read_private_key<'a>(bytes: &'a [u8]) -> Option<RsaPrivateKeyView<'a>>
-    ensures { Decodes PrivateKeySentence bytes.now (option_map numbers_viewed result) }
+    ensures { Decodes PrivateKeyEncoding bytes.now (option_map rsa_private_key_view result) }
 {
     match RsaPrivateKeyView::try_from(bytes) {
-        Ok(key) => Some(key),
+        Ok(value) => Some(value),
         Err(_) => None,
     }
 }
 
-/// Every key that has a sentence of the slice's length or less is written as its shortest sentence.
+/// Writes a private key as the shortest encoding, if there is one that is no longer than the slice.
 pub fn write_private_key(key: &RsaPrivateKeyRef<'_>, out: &mut [u8]) -> Option<usize>
-    ensures { Encodes PrivateKeySentence (numbers_in key.now) out.old out.new result }
+    ensures { Encodes PrivateKeyEncoding (rsa_private_key uint_ref key.now) out.old out.new result }
 {
     match key.encode_key(out) {
         Ok(length) => Some(length),
@@ -54,19 +54,29 @@ pub fn write_private_key(key: &RsaPrivateKeyRef<'_>, out: &mut [u8]) -> Option<u
     }
 }
 
-/// Every slice is read exactly where it is a sentence of PSS parameters, as the one value that it means.
+/// Reads a slice exactly if it encodes PSS parameters, as the one that it encodes.
 pub fn read_pss_params<'a>(bytes: &'a [u8]) -> Option<RsaPssParamsRef<'a>>
-    ensures { Decodes PssSentence bytes.now (option_map pss_of result) }
+    ensures { Decodes PssEncoding bytes.now (option_map (rsa_pss_params any_ref) result) }
 {
     match RsaPssParamsRef::try_from(bytes) {
-        Ok(params) => Some(params),
+        Ok(value) => Some(value),
         Err(_) => None,
     }
 }
 
-/// Parameters that have a sentence of the slice's length or less are written as their shortest sentence.
+/// Reads a slice exactly if it is the shortest encoding of PSS parameters.
+pub fn read_pss_params_strictly<'a>(bytes: &'a [u8]) -> Option<RsaPssParamsRef<'a>>
+    ensures { Decodes (IsShortest PssEncoding) bytes.now (option_map (rsa_pss_params any_ref) result) }
+{
+    match RsaPssParamsRef::from_der_strict(bytes) {
+        Ok(value) => Some(value),
+        Err(_) => None,
+    }
+}
+
+/// Writes PSS parameters as the shortest encoding, if there is one that is no longer than the slice.
 pub fn write_pss_params(params: &RsaPssParamsRef<'_>, out: &mut [u8]) -> Option<usize>
-    ensures { Encodes PssSentence (pss_of params.now) out.old out.new result }
+    ensures { Encodes PssEncoding (rsa_pss_params any_ref params.now) out.old out.new result }
 {
     match params.encode_params(out) {
         Ok(length) => Some(length),
@@ -74,26 +84,37 @@ pub fn write_pss_params(params: &RsaPssParamsRef<'_>, out: &mut [u8]) -> Option<
     }
 }
 
-/// Parameters k of whose fields equal their defaults have exactly two to the k sentences, if all fit.
+/// PSS parameters k of whose fields equal their defaults have exactly two to the k encodings, one for each choice of
+/// the defaults that are written, if the longest is within the limit.
 pub fn lemma_pss_count()
-    ensures { PssCount }
+    ensures { TwoToTheDefaults IsPss pss_fields PssEncoding PssUnder }
 {
     lemma_pss_spellings();
 }
 
-/// Every slice is read exactly where it is a sentence of OAEP parameters, as the one value that it means.
+/// Reads a slice exactly if it encodes OAEP parameters, as the one that it encodes.
 pub fn read_oaep_params<'a>(bytes: &'a [u8]) -> Option<RsaOaepParamsRef<'a>>
-    ensures { Decodes OaepSentence bytes.now (option_map oaep_of result) }
+    ensures { Decodes OaepEncoding bytes.now (option_map (rsa_oaep_params any_ref) result) }
 {
     match RsaOaepParamsRef::try_from(bytes) {
-        Ok(params) => Some(params),
+        Ok(value) => Some(value),
         Err(_) => None,
     }
 }
 
-/// Parameters that have a sentence of the slice's length or less are written as their shortest sentence.
+/// Reads a slice exactly if it is the shortest encoding of OAEP parameters.
+pub fn read_oaep_params_strictly<'a>(bytes: &'a [u8]) -> Option<RsaOaepParamsRef<'a>>
+    ensures { Decodes (IsShortest OaepEncoding) bytes.now (option_map (rsa_oaep_params any_ref) result) }
+{
+    match RsaOaepParamsRef::from_der_strict(bytes) {
+        Ok(value) => Some(value),
+        Err(_) => None,
+    }
+}
+
+/// Writes OAEP parameters as the shortest encoding, if there is one that is no longer than the slice.
 pub fn write_oaep_params(params: &RsaOaepParamsRef<'_>, out: &mut [u8]) -> Option<usize>
-    ensures { Encodes OaepSentence (oaep_of params.now) out.old out.new result }
+    ensures { Encodes OaepEncoding (rsa_oaep_params any_ref params.now) out.old out.new result }
 {
     match params.encode_params(out) {
         Ok(length) => Some(length),
@@ -101,24 +122,25 @@ pub fn write_oaep_params(params: &RsaOaepParamsRef<'_>, out: &mut [u8]) -> Optio
     }
 }
 
-/// Parameters k of whose fields equal their defaults have exactly two to the k sentences, if all fit.
+/// OAEP parameters k of whose fields equal their defaults have exactly two to the k encodings, one for each choice of
+/// the defaults that are written, if the longest is within the limit.
 pub fn lemma_oaep_count()
-    ensures { OaepCount }
+    ensures { TwoToTheDefaults IsOaep oaep_fields OaepEncoding OaepUnder }
 {
     lemma_oaep_spellings();
 }
 
-/// Two sentences mean the same exactly if the shortest sentences of their values are equal.
+/// Two encodings mean the same value exactly if the shortest encodings of their values are equal.
 pub fn lemma_same_by_shortest()
-    ensures public { SameByShortest PublicKeySentence }
-    ensures private { SameByShortest PrivateKeySentence }
-    ensures pss { SameByShortest PssSentence }
-    ensures oaep { SameByShortest OaepSentence }
+    ensures public { SameByShortest PublicKeyEncoding }
+    ensures private { SameByShortest PrivateKeyEncoding }
+    ensures pss { SameByShortest PssEncoding }
+    ensures oaep { SameByShortest OaepEncoding }
 {}
 
-/// The same call, with the kind of each error: one function of the bytes gives the key, or the first fault.
+/// Reads a public key, with the kind of each error: one function of the bytes gives the key, or the first fault.
 pub fn read_public_key_or_fault<'a>(bytes: &'a [u8]) -> Result<RsaPublicKeyRef<'a>>
-    ensures { Returns numbers_of (public_key_of bytes.now) result }
+    ensures { Returns (rsa_public_key uint_ref) (public_key_of bytes.now) result }
 {
     RsaPublicKeyRef::try_from(bytes)
 }

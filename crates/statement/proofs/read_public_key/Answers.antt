@@ -5,7 +5,7 @@ use Rattle.statement.proofs.read_public_key.Goals as goal
 
 pub returns-in-Ok : goal.returns-in-Ok
 returns-in-Ok c =
-    let key = public_key_of c.in-Ok.key in
+    let key = public_key_of c.in-Ok.value in
     (sentence key _ c.in-Ok.ensures.ok, λ w p. sym (back w) ∙ ap numbers (c.in-Ok.ensures.one (key_of w) (means w _ p)))
 
 pub returns-in-Err : goal.returns-in-Err

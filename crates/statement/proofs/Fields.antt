@@ -1,0 +1,208 @@
+-- Fields with defaults: the statement's encodings are the library's, field by field.
+use Rattle.std.proofs.Common.{ℕ, suc, List, [], ◌∷◌, ◌++◌, ◌≡◌, ◌<◌, ◌≤◌, ◌+◌, ◌*◌, ◌^◌, ◌⊎◌, length, map, refl, sym, subst, ap, ◌∙◌, arith, inl, inr, length-append}
+use Rattle.std.specs.List.{concat}
+use Rattle.std.specs.Prelude.{slice_index_or}
+use Rattle.der_core.specs.Document.{Means, Spellings}
+use Rattle.der_core.specs.Document as documents
+use Rattle.der_core.specs.Encodings.{Joins}
+use Rattle.der_core.specs.Integer.{Small}
+use Rattle.der_core.specs.Members.{AreTheMembers}
+use Rattle.der_core.specs.Tlv as tlvs
+use Rattle.spki_core.specs.Explicit as fields
+use Rattle.spki_core.specs.Explicit.{Explicit, Defaultable, FieldSequence, MaskedField, left_out, written, forced, MaskedContents, Masked, AllExplicit, HaveDefaults}
+use Rattle.pkcs1_params.specs.Spellings as spellings
+use Rattle.statement.specs.Statement.{tlv, sequence, integer, limit, Field, field, Fields, FieldsUnder, Defaults, SequenceOf, longest, AreAll, AreByMask, TwoToTheDefaults, IsShortest}
+use Rattle.statement.proofs.Der.{tlv_is, tlv_made, tlv_fit}
+use Rattle.statement.proofs.Algorithms.{Written}
+
+-- A field of the library and one of the statement.
+pub record Matches (f : fields.Field) (g : Field) : Type 0 where
+  pub to_default : f.IsDefault → g.IsDefault
+  pub from_default : g.IsDefault → f.IsDefault
+  pub only : (x : List ℕ) → length x ≤ limit → Explicit f x → x ≡ g.written
+
+abbrev pub AllMatch : List fields.Field → List Field → Type 0
+AllMatch [] [] = Unit {0}
+AllMatch [] (g ∷ gs) = ⊥
+AllMatch (f ∷ fs) [] = ⊥
+AllMatch (f ∷ fs) (g ∷ gs) = Matches f g × AllMatch fs gs
+
+-- What is written is an encoding of the field.
+abbrev pub AllMade : List fields.Field → List Field → Type 0
+AllMade [] gs = Unit {0}
+AllMade (f ∷ fs) [] = Unit {0}
+AllMade (f ∷ fs) (g ∷ gs) = (length g.written ≤ limit → Explicit f g.written) × AllMade fs gs
+
+module _ {W V : Type 0} (from : W → V) (to : V → W) (forth : (w : W) → to (from w) ≡ w) {Grammar : W → List ℕ → Type 0} {Is : V → Type 0} {encoding : V → List ℕ} (w : Written from Grammar Is encoding) (n : ℕ) (default v : W) where
+  pub matches : Matches (fields.field n Grammar default v) (field n encoding (from default) (from v))
+  matches = record {
+    to_default = λ e. ap from e;
+    from_default = λ e. sym (forth v) ∙ ap to e ∙ forth default;
+    only = λ x l p.
+        let few : length p.contents ≤ limit = omega (arith, l, ap length p.written, length-append p.octets p.contents) in
+        let same : p.contents ≡ encoding (from v) = w.only v p.contents few p.holds in
+        tlv_is {P = λ c. c ≡ p.contents} (160 + n) (encoding (from v)) x (λ c e. e ∙ same) (record { octets = p.octets; contents = p.contents; counted = p.counted; holds = refl; written = p.written });
+  }
+
+  pub made : Is (from v) → length (tlv (160 + n) (encoding (from v))) ≤ limit → Explicit (fields.field n Grammar default v) (tlv (160 + n) (encoding (from v)))
+  made h l = tlv_made (160 + n) (encoding (from v)) _ (w.made v h (omega (arith, l, tlv_fit (160 + n) (encoding (from v))))) refl l
+
+  pub value_is : Is (from default) → (x : List ℕ) → Defaultable (fields.field n Grammar default v) x → Is (from v)
+  value_is h x (inl (nothing, e)) = subst (λ (u : W). Is (from u)) (sym e) h
+  value_is h x (inr p) = w.is v p.contents p.holds
+
+-- Contents.
+pub fields_to : (fs : List fields.Field) (gs : List Field) → AllMatch fs gs → (c : List ℕ) → length c ≤ limit → Joins (map Defaultable fs) c → Fields gs c
+fields_to [] [] m c l p = p
+fields_to [] (g ∷ gs) m c l p = absurd m
+fields_to (f ∷ fs) [] m c l p = absurd m
+fields_to (f ∷ fs) (g ∷ gs) m c l (a, r, inl (e, d), later, is) =
+    let same : c ≡ r = is ∙ ap (λ x. x ++ r) e in
+    inl (m.0.to_default d, fields_to fs gs m.1 c l (subst (Joins (map Defaultable fs)) (sym same) later))
+fields_to (f ∷ fs) (g ∷ gs) m c l (a, r, inr p, later, is) =
+    let both = length-append a r in
+    let same = ap length is in
+    inr (r, is ∙ ap (λ x. x ++ r) (m.0.only a (omega (arith, l, same, both)) p), fields_to fs gs m.1 r (omega (arith, l, same, both)) later)
+
+pub fields_from : (fs : List fields.Field) (gs : List Field) → AllMatch fs gs → AllMade fs gs → (c : List ℕ) → length c ≤ limit → Fields gs c → Joins (map Defaultable fs) c
+fields_from [] [] m h c l p = p
+fields_from [] (g ∷ gs) m h c l p = absurd m
+fields_from (f ∷ fs) [] m h c l p = absurd m
+fields_from (f ∷ fs) (g ∷ gs) m h c l (inl (d, later)) = ([], c, inl (refl, m.0.from_default d), fields_from fs gs m.1 h.1 c l later, refl)
+fields_from (f ∷ fs) (g ∷ gs) m h c l (inr (r, is, later)) =
+    let both = length-append g.written r in
+    let same = ap length is in
+    (g.written, r, inr (h.0 (omega (arith, l, same, both))), fields_from fs gs m.1 h.1 r (omega (arith, l, same, both)) later, is)
+
+-- Under a mask.
+under_to : (fs : List fields.Field) (gs : List Field) → AllMatch fs gs → (mask : ℕ) (c : List ℕ) → length c ≤ limit → MaskedContents fs mask c → FieldsUnder mask gs c
+under_to [] [] m mask c l p = p
+under_to [] (g ∷ gs) m mask c l p = absurd m
+under_to (f ∷ fs) [] m mask c l p = absurd m
+under_to (f ∷ fs) (g ∷ gs) m mask c l (half, (a, r, left_out d e nothing, later, is)) =
+    let same : c ≡ r = is ∙ ap (λ x. x ++ r) nothing in
+    inl (m.0.to_default d, half, e, under_to fs gs m.1 half c l (subst (MaskedContents fs half) (sym same) later))
+under_to (f ∷ fs) (g ∷ gs) m mask c l (half, (a, r, written d e p, later, is)) =
+    let both = length-append a r in
+    let same = ap length is in
+    inr (inl (m.0.to_default d, half, e, r, is ∙ ap (λ x. x ++ r) (m.0.only a (omega (arith, l, same, both)) p), under_to fs gs m.1 half r (omega (arith, l, same, both)) later))
+under_to (f ∷ fs) (g ∷ gs) m mask c l (half, (a, r, forced d e p, later, is)) =
+    let both = length-append a r in
+    let same = ap length is in
+    inr (inr (λ x. d (m.0.from_default x), r, is ∙ ap (λ x. x ++ r) (m.0.only a (omega (arith, l, same, both)) p), under_to fs gs m.1 mask r (omega (arith, l, same, both)) (subst (λ n. MaskedContents fs n r) (sym e) later)))
+
+under_from : (fs : List fields.Field) (gs : List Field) → AllMatch fs gs → AllMade fs gs → (mask : ℕ) (c : List ℕ) → length c ≤ limit → FieldsUnder mask gs c → MaskedContents fs mask c
+under_from [] [] m h mask c l p = p
+under_from [] (g ∷ gs) m h mask c l p = absurd m
+under_from (f ∷ fs) [] m h mask c l p = absurd m
+under_from (f ∷ fs) (g ∷ gs) m h mask c l (inl (d, half, e, later)) =
+    (half, ([], c, left_out (m.0.from_default d) e refl, under_from fs gs m.1 h.1 half c l later, refl))
+under_from (f ∷ fs) (g ∷ gs) m h mask c l (inr (inl (d, half, e, r, is, later))) =
+    let both = length-append g.written r in
+    let same = ap length is in
+    (half, (g.written, r, written (m.0.from_default d) e (h.0 (omega (arith, l, same, both))), under_from fs gs m.1 h.1 half r (omega (arith, l, same, both)) later, is))
+under_from (f ∷ fs) (g ∷ gs) m h mask c l (inr (inr (d, r, is, later))) =
+    let both = length-append g.written r in
+    let same = ap length is in
+    (mask, (g.written, r, forced (λ x. d (m.0.to_default x)) refl (h.0 (omega (arith, l, same, both))), under_from fs gs m.1 h.1 mask r (omega (arith, l, same, both)) later, is))
+
+-- What is written under a mask is an encoding.
+unmasked : (fs : List fields.Field) (mask : ℕ) (c : List ℕ) → MaskedContents fs mask c → Joins (map Defaultable fs) c
+unmasked [] mask c p = p.0
+unmasked (f ∷ fs) mask c (half, (a, r, left_out d e nothing, later, is)) = (a, r, inl (nothing, d), unmasked fs half r later, is)
+unmasked (f ∷ fs) mask c (half, (a, r, written d e p, later, is)) = (a, r, inr p, unmasked fs half r later, is)
+unmasked (f ∷ fs) mask c (half, (a, r, forced d e p, later, is)) = (a, r, inr p, unmasked fs half r later, is)
+
+pub defaults_from : (fs : List fields.Field) (gs : List Field) → AllMatch fs gs → (k : ℕ) → Defaults gs k → HaveDefaults fs k
+defaults_from [] [] m k p = p
+defaults_from [] (g ∷ gs) m k p = absurd m
+defaults_from (f ∷ fs) [] m k p = absurd m
+defaults_from (f ∷ fs) (g ∷ gs) m k (inl (d, j, e, later)) = inl (m.0.from_default d, j, omega (arith, e), defaults_from fs gs m.1 j later)
+defaults_from (f ∷ fs) (g ∷ gs) m k (inr (d, later)) = inr (λ x. d (m.0.to_default x), defaults_from fs gs m.1 k later)
+
+abbrev pub all_written : List Field → List ℕ
+all_written gs = concat (map (λ (g : Field). g.written) gs)
+
+pub all_from : (fs : List fields.Field) (gs : List Field) → AllMatch fs gs → AllMade fs gs → length (all_written gs) ≤ limit → Joins (map Explicit fs) (all_written gs)
+all_from [] [] m h l = refl
+all_from [] (g ∷ gs) m h l = absurd m
+all_from (f ∷ fs) [] m h l = absurd m
+all_from (f ∷ fs) (g ∷ gs) m h l =
+    let both = length-append g.written (all_written gs) in
+    (g.written, all_written gs, h.0 (omega (arith, l, both)), all_from fs gs m.1 h.1 (omega (arith, l, both)), refl)
+
+-- Whole parameters.
+sequence_to : {P Q : List ℕ → Type 0} → ((c : List ℕ) → length c ≤ limit → P c → Q c) → (bytes : List ℕ) → length bytes ≤ limit → tlvs.Tlv 48 P bytes → SequenceOf Q bytes
+sequence_to f bytes l p =
+    let few : length p.contents ≤ limit = omega (arith, l, ap length p.written, length-append p.octets p.contents) in
+    let is : bytes ≡ sequence p.contents = tlv_is {P = λ x. x ≡ p.contents} 48 p.contents bytes (λ c e. e) (record { octets = p.octets; contents = p.contents; counted = p.counted; holds = refl; written = p.written }) in
+    (l, p.contents, f p.contents few p.holds, is)
+
+sequence_from : {P Q : List ℕ → Type 0} → ((c : List ℕ) → length c ≤ limit → Q c → P c) → (bytes : List ℕ) → SequenceOf Q bytes → tlvs.Tlv 48 P bytes
+sequence_from f bytes (l, c, q, is) = tlv_made 48 c bytes (f c (omega (arith, l, ap length is, tlv_fit 48 c)) q) is l
+
+-- A type of parameters, in the library and in the statement.
+pub record Sides {W V : Type 0} (from : W → V) (to : V → W) (fs : W → List fields.Field) (gs : V → List Field) (Is : V → Type 0) : Type 0 where
+  pub back : (v : V) → from (to v) ≡ v
+  pub match : (w : W) → AllMatch (fs w) (gs (from w))
+  pub make : (w : W) → Is (from w) → AllMade (fs w) (gs (from w))
+  pub is : (w : W) (c : List ℕ) → Joins (map Defaultable (fs w)) c → Is (from w)
+
+module _ {W V : Type 0} {from : W → V} {to : V → W} {fs : W → List fields.Field} {gs : V → List Field} {Is : V → Type 0} (s : Sides from to fs gs Is) where
+  abbrev pub Encoding : V → List ℕ → Type 0
+  Encoding v bytes = Is v × SequenceOf (Fields (gs v)) bytes
+
+  abbrev pub Under : ℕ → V → List ℕ → Type 0
+  Under mask v bytes = Is v × SequenceOf (FieldsUnder mask (gs v)) bytes
+
+  abbrev pub Grammar : W → List ℕ → Type 0
+  Grammar w = FieldSequence (fs w)
+
+  pub sentence : (w : W) (bytes : List ℕ) → Means Grammar bytes w → Encoding (from w) bytes
+  sentence w bytes m = (s.is w m.1.contents m.1.holds, sequence_to (fields_to (fs w) (gs (from w)) (s.match w)) bytes m.0 m.1)
+
+  pub meant : (w : W) (bytes : List ℕ) → Encoding (from w) bytes → Means Grammar bytes w
+  meant w bytes (is, e) = (e.0, sequence_from (fields_from (fs w) (gs (from w)) (s.match w) (s.make w is)) bytes e)
+
+  pub means : (v : V) (bytes : List ℕ) → Encoding v bytes → Means Grammar bytes (to v)
+  means v bytes e = meant (to v) bytes (subst (λ u. Encoding u bytes) (sym (s.back v)) e)
+
+  pub shortest : (w : W) (bytes : List ℕ) → documents.IsShortest Grammar w bytes → IsShortest Encoding (from w) bytes
+  shortest w bytes p = (sentence w bytes p.spells, λ other q. p.least other (meant w other q))
+
+  pub is_shortest : (w : W) (bytes : List ℕ) → IsShortest Encoding (from w) bytes → documents.IsShortest Grammar w bytes
+  is_shortest w bytes p = record { spells = meant w bytes p.0; least = λ other q. p.1 other (sentence w other q) }
+
+  pub under : (w : W) (mask : ℕ) (bytes : List ℕ) → spellings.IsSpelling (fs w) mask bytes → Under mask (from w) bytes
+  under w mask bytes (l, p) =
+      (s.is w p.contents (unmasked (fs w) mask p.contents p.holds), sequence_to (under_to (fs w) (gs (from w)) (s.match w) mask) bytes l p)
+
+  pub spelling : (w : W) (mask : ℕ) (bytes : List ℕ) → Under mask (from w) bytes → spellings.IsSpelling (fs w) mask bytes
+  spelling w mask bytes (is, e) = (e.0, sequence_from (under_from (fs w) (gs (from w)) (s.match w) (s.make w is) mask) bytes e)
+
+  all_explicit : (w : W) → Is (from w) → length (longest (gs (from w))) ≤ limit → AllExplicit (fs w) (longest (gs (from w)))
+  all_explicit w is l =
+      let c = all_written (gs (from w)) in
+      let all = all_from (fs w) (gs (from w)) (s.match w) (s.make w is) (omega (arith, l, tlv_fit 48 c)) in
+      tlv_made 48 c (sequence c) all refl l
+
+  pub all_fit : (w : W) → Is (from w) → length (longest (gs (from w))) ≤ limit → spellings.AllFit (fs w)
+  all_fit w is l = (longest (gs (from w)), all_explicit w is l, l)
+
+  pub are_all : (w : W) (n : ℕ) (all : List (List ℕ)) → AreTheMembers (Spellings Grammar w) n all → AreAll n (Encoding (from w)) all
+  are_all w n all m = record {
+    count = m.count;
+    each = λ i l. sentence w _ (m.only i l);
+    different = m.none_twice;
+    no_other = λ bytes e. m.every bytes (meant w bytes e);
+  }
+
+  two_of : spellings.TwoToTheDefaults fs → (w : W) (k : ℕ) → Is (from w) → Defaults (gs (from w)) k → length (longest (gs (from w))) ≤ limit → (all : List (List ℕ)) × AreByMask Encoding Under (from w) k all
+  two_of two w k is d l =
+      let r = two w k (longest (gs (from w))) (defaults_from (fs w) (gs (from w)) (s.match w) k d) (all_explicit w is l) l in
+      let m = are_all w (2 ^ k) r.0 r.1 in
+      (r.0, (m, λ mask less. under w mask (slice_index_or r.0 mask []) ((m.each mask less).1.0, r.2 mask less)))
+
+  pub two_to_the_defaults : spellings.TwoToTheDefaults fs → TwoToTheDefaults Is gs Encoding Under
+  two_to_the_defaults two v =
+      subst (λ (u : V). (k : ℕ) → Is u → Defaults (gs u) k → length (longest (gs u)) ≤ limit → (all : List (List ℕ)) × AreByMask Encoding Under u k all) (s.back v) (two_of two (to v))
