@@ -1,10 +1,7 @@
 -- Algorithms: the statement's encodings are the library's.
-use Rattle.std.proofs.Common.{ℕ, true, false, List, [], ◌∷◌, ◌++◌, ◌≡◌, ◌≢◌, ◌<◌, ◌≤◌, ◌==◌, length, refl, sym, subst, ap, ◌∙◌, arith, inl, inr, length-append, Option, Some, None}
-use Rattle.std.specs.Prelude.{◌&&◌, ◌%◌, not, nat_lt, IsTrue}
+use Rattle.std.proofs.Common.{ℕ, List, [], ◌∷◌, ◌++◌, ◌≡◌, ◌≤◌, length, refl, subst, ap, ◌∙◌, arith, Option, Some, None}
 use Rattle.std.specs.List.{AllByRecursion}
 use Rattle.std.specs.Option.{option_map}
-use Rattle.std.proofs.lemmas.Bool.Decides.{nat_tests}
-use Rattle.der_core.specs.Tag.{is_allowed}
 use Rattle.der_core.specs.Tlv as tlvs
 use Rattle.der_core.specs.Optional.{HasOptional, written_optional}
 use Rattle.spki_core.specs.IdentifierTest.{is_identifier-sound}

@@ -1,6 +1,6 @@
 -- Lengths, INTEGER and encodings in a row: the statement's functions are what the library's relations relate, and back.
 use Rattle.std.proofs.Common.{ℕ, List, [], ◌∷◌, ◌++◌, ◌≡◌, ◌<◌, ◌≤◌, ◌==◌, length, refl, sym, subst, ap, ◌∙◌, arith, inl, inr, length-append, true, false}
-use Rattle.std.specs.Prelude.{nat_lt, slice_index, map}
+use Rattle.std.specs.Prelude.{map}
 use Rattle.std.specs.List.{concat}
 use Rattle.std.specs.Int.Digits.{number_from_digits, digits_of}
 use Rattle.std.proofs.lemmas.Bool.{cases_lt}

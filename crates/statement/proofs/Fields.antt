@@ -1,17 +1,16 @@
 -- Fields with defaults: the statement's encodings are the library's, field by field.
-use Rattle.std.proofs.Common.{ℕ, suc, List, [], ◌∷◌, ◌++◌, ◌≡◌, ◌<◌, ◌≤◌, ◌+◌, ◌*◌, ◌^◌, ◌⊎◌, length, map, refl, sym, subst, ap, ◌∙◌, arith, inl, inr, length-append}
+use Rattle.std.proofs.Common.{ℕ, List, [], ◌∷◌, ◌++◌, ◌≡◌, ◌≤◌, ◌+◌, ◌^◌, length, map, refl, sym, subst, ap, ◌∙◌, arith, inl, inr, length-append}
 use Rattle.std.specs.List.{concat}
 use Rattle.std.specs.Prelude.{slice_index_or}
 use Rattle.der_core.specs.Document.{Means, Spellings}
 use Rattle.der_core.specs.Document as documents
 use Rattle.der_core.specs.Encodings.{Joins}
-use Rattle.der_core.specs.Integer.{Small}
 use Rattle.der_core.specs.Members.{AreTheMembers}
 use Rattle.der_core.specs.Tlv as tlvs
 use Rattle.spki_core.specs.Explicit as fields
 use Rattle.spki_core.specs.Explicit.{Explicit, Defaultable, FieldSequence, MaskedField, left_out, written, forced, MaskedContents, Masked, AllExplicit, HaveDefaults}
 use Rattle.pkcs1_params.specs.Spellings as spellings
-use Rattle.statement.specs.Statement.{tlv, sequence, integer, limit, Field, field, Fields, FieldsUnder, Defaults, SequenceOf, longest, AreAll, AreByMask, TwoToTheDefaults, IsShortest}
+use Rattle.statement.specs.Statement.{tlv, sequence, limit, Field, field, Fields, FieldsUnder, Defaults, SequenceOf, longest, AreAll, AreByMask, TwoToTheDefaults, IsShortest}
 use Rattle.statement.proofs.Der.{tlv_is, tlv_made, tlv_fit}
 use Rattle.statement.proofs.Algorithms.{Written}
 

@@ -8,7 +8,6 @@ use Rattle.spki_core.specs.Any as anys
 use Rattle.spki_core.specs.AlgorithmValue.{algorithm_with}
 use Rattle.spki_core.specs.declared.algorithm_identifier.AlgorithmIdentifier.{AlgorithmIdentifier}
 use Rattle.pkcs1.specs.PrivateKeyValue.{key_with, other_of}
-use Rattle.pkcs1.specs.Keys as keys
 use Rattle.pkcs1.specs.declared.private_key.PrivateKeyOf.{PrivateKeyOf}
 use Rattle.pkcs1.specs.declared.private_key.other_prime_info.OtherPrimeInfo.{OtherPrimeInfo}
 use Rattle.pkcs1.specs.declared.view.RsaPrivateKeyView.{RsaPrivateKeyView}
@@ -17,7 +16,7 @@ use Rattle.pkcs1_params.specs.PssValue.{pss_with}
 use Rattle.pkcs1_params.specs.OaepValue.{oaep_with}
 use Rattle.pkcs1_params.specs.declared.pss.RsaPssParams.{RsaPssParams}
 use Rattle.pkcs1_params.specs.declared.oaep.RsaOaepParams.{RsaOaepParams}
-use Rattle.statement.specs.Statement.{Algorithm, OtherPrime}
+use Rattle.statement.specs.Statement.{OtherPrime}
 use Rattle.statement.specs.Held.{algorithm_identifier, rsa_pss_params, rsa_oaep_params, rsa_private_key, rsa_private_key_view, other_prime_info}
 use Rattle.statement.proofs.Algorithms.{any_from, algorithm_from, plain_from}
 use Rattle.statement.proofs.PrivateKeys as private

@@ -1,5 +1,5 @@
 -- OAEP parameters: the statement's encodings are the library's.
-use Rattle.std.proofs.Common.{ℕ, List, ◌≡◌}
+use Rattle.std.proofs.Common.{ℕ, List}
 use Rattle.pkcs1_params.specs.Parameters as library
 use Rattle.statement.specs.Statement.{OaepParameters, IsOaep, oaep_fields}
 use Rattle.statement.proofs.Algorithms.{plain_from, plain_to, plain_back, plain_forth, mask_from, mask_to, mask_back, mask_forth, plain_written, mask_written, sha1_is, mgf1_is, label_is}
@@ -18,14 +18,20 @@ sides = record {
       let g = mask_back p.mask_gen in
       let s = plain_back p.p_source in
       λ i. record { hash = h i; mask_gen = g i; p_source = s i };
-  match = λ p.
-    (matches plain_from plain_to plain_forth plain_written 0 library.sha1 p.hash,
-    (matches mask_from mask_to mask_forth mask_written 1 library.mgf1_sha1 p.mask_gen,
-    (matches plain_from plain_to plain_forth plain_written 2 library.empty_label p.p_source, tt)));
-  make = λ p is.
-    (made plain_from plain_to plain_forth plain_written 0 library.sha1 p.hash is.0,
-    (made mask_from mask_to mask_forth mask_written 1 library.mgf1_sha1 p.mask_gen is.1,
-    (made plain_from plain_to plain_forth plain_written 2 library.empty_label p.p_source is.2, tt)));
+  match = λ p. (
+    matches plain_from plain_to plain_forth plain_written 0 library.sha1 p.hash,
+    (
+      matches mask_from mask_to mask_forth mask_written 1 library.mgf1_sha1 p.mask_gen,
+      (matches plain_from plain_to plain_forth plain_written 2 library.empty_label p.p_source, tt),
+    ),
+  );
+  make = λ p is. (
+    made plain_from plain_to plain_forth plain_written 0 library.sha1 p.hash is.0,
+    (
+      made mask_from mask_to mask_forth mask_written 1 library.mgf1_sha1 p.mask_gen is.1,
+      (made plain_from plain_to plain_forth plain_written 2 library.empty_label p.p_source is.2, tt),
+    ),
+  );
   is = is;
 }
   where

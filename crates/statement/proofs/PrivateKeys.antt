@@ -1,5 +1,5 @@
 -- Private keys: the statement's encodings are the library's.
-use Rattle.std.proofs.Common.{ℕ, List, [], ◌∷◌, ◌++◌, ◌≡◌, ◌≤◌, length, refl, sym, ap, ◌∙◌, arith, inl, length-append, append-nil, append_assoc, map, Option, Some, None}
+use Rattle.std.proofs.Common.{ℕ, List, [], ◌∷◌, ◌++◌, ◌≡◌, ◌<◌, ◌≤◌, length, refl, sym, ap, ◌∙◌, arith, inl, length-append, append-nil, append_assoc, map, Option, Some, None}
 use Rattle.std.proofs.lemmas.List.{length-map}
 use Rattle.std.specs.Int.Digits.{number_from_digits}
 use Rattle.std.specs.List.{concat}
@@ -8,13 +8,12 @@ use Rattle.der_core.specs.Document.{Means}
 use Rattle.der_core.specs.Document as documents
 use Rattle.der_core.specs.Encodings.{Joins}
 use Rattle.der_core.specs.Integer.{Integer, IsCanonical, Small, integer_contents}
-use Rattle.der_core.specs.Laws.Integer.{integer_relates}
 use Rattle.der_core.specs.Laws.SmallNumbers.{small_relates}
 use Rattle.pkcs1.specs.Keys as keys
 use Rattle.pkcs1.specs.Keys.{PrivateKeyContents, RsaPrivateKey, OtherPrimeInfo, OtherPrimeInfos, version_of}
 use Rattle.pkcs1.specs.Laws.PrivateKey.{joins_put, joins_take}
-use Rattle.statement.specs.Statement.{octets, tlv, integer, integers, limit, optional, IfPresent, OtherPrime, other_prime, other_primes, PrivateKey, PrivateKeyEncoding, IsNotEmpty, version, IsShortest}
-use Rattle.statement.proofs.Der.{tlv_is, tlv_made, tlv_fit, integer_is, integer_made, small_integer, small_octets, joins_are, joins_made, octets_canonical, octets_number, number_octets}
+use Rattle.statement.specs.Statement.{octets, tlv, integer, integers, limit, optional, IfPresent, OtherPrime, other_prime, other_primes, PrivateKey, PrivateKeyEncoding, version, IsShortest}
+use Rattle.statement.proofs.Der.{tlv_is, tlv_made, tlv_fit, integer_is, integer_made, small_integer, small_octets, joins_are, joins_made, octets_number, number_octets}
 
 abbrev number : List ℕ → ℕ
 number x = number_from_digits 256 x
@@ -97,7 +96,7 @@ all_is : (os : Option (List (keys.OtherPrime (List ℕ)))) (c : List ℕ) → Ot
 all_is None c p = p
 all_is (Some os) c p = tlv_is 48 _ c (joins_are (OtherPrimeInfo Integer) one one_is os) p.1
 
-not_empty : (os : Option (List (keys.OtherPrime (List ℕ)))) (c : List ℕ) → OtherPrimeInfos Integer os c → IfPresent IsNotEmpty (option_map (map other_numbers) os)
+not_empty : (os : Option (List (keys.OtherPrime (List ℕ)))) (c : List ℕ) → OtherPrimeInfos Integer os c → IfPresent (λ others. 0 < length others) (option_map (map other_numbers) os)
 not_empty None c p = tt
 not_empty (Some os) c p = omega (arith, p.0, length-map os other_numbers)
 
@@ -127,7 +126,7 @@ inside_is k c (a, r, v, p, e) =
     e ∙ ap (λ x. x ++ r) w ∙ ap (λ x. integer (version_of k.other_prime_infos) ++ x) (s.4 ∙ ap (λ x. x ++ s.1) n ∙ ap (λ x. concat (map encoded (eight k)) ++ x) l)
     ∙ sym (append_assoc (integer (version_of k.other_prime_infos)) (concat (map encoded (eight k))) (all k.other_prime_infos))
 
-others_there : (k : keys.PrivateKey (List ℕ)) (c : List ℕ) → PrivateKeyContents Integer k c → IfPresent IsNotEmpty (numbers k).other_primes
+others_there : (k : keys.PrivateKey (List ℕ)) (c : List ℕ) → PrivateKeyContents Integer k c → IfPresent (λ others. 0 < length others) (numbers k).other_primes
 others_there k c (a, r, v, p, e) =
     let s = joins_take (map Integer (eight k)) (OtherPrimeInfos Integer k.other_prime_infos ∷ []) r p in
     not_empty k.other_prime_infos s.3.0 s.3.2
@@ -164,7 +163,7 @@ made_ones (o ∷ os) l =
     let numbers = joins_made (λ n. Integer (octets n)) integer integer_made (o.prime ∷ o.exponent ∷ o.coefficient ∷ []) few in
     (x, y, tlv_made 48 (integers (o.prime ∷ o.exponent ∷ o.coefficient ∷ [])) x numbers refl (omega (arith, l, both)), made_ones os (omega (arith, l, both)), refl)
 
-made_all : (os : Option (List OtherPrime)) → IfPresent IsNotEmpty os → length (optional other_primes os) ≤ limit → OtherPrimeInfos Integer (option_map (map other_of) os) (optional other_primes os)
+made_all : (os : Option (List OtherPrime)) → IfPresent (λ others. 0 < length others) os → length (optional other_primes os) ≤ limit → OtherPrimeInfos Integer (option_map (map other_of) os) (optional other_primes os)
 made_all None h l = refl
 made_all (Some os) h l =
     let c = concat (map other_prime os) in

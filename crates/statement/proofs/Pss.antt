@@ -1,6 +1,5 @@
 -- PSS parameters: the statement's encodings are the library's.
 use Rattle.std.proofs.Common.{ℕ, List, ◌≡◌, ◌<◌, refl, arith}
-use Rattle.der_core.specs.Encodings.{Joins}
 use Rattle.der_core.specs.Integer.{Small}
 use Rattle.pkcs1_params.specs.Parameters as library
 use Rattle.statement.specs.Statement.{integer, PssParameters, IsPss, pss_fields}
@@ -35,16 +34,26 @@ sides = record {
       let h = plain_back p.hash in
       let g = mask_back p.mask_gen in
       λ i. record { hash = h i; mask_gen = g i; salt_len = p.salt_len; trailer_field = p.trailer_field };
-  match = λ p.
-    (matches plain_from plain_to plain_forth plain_written 0 library.sha1 p.hash,
-    (matches mask_from mask_to mask_forth mask_written 1 library.mgf1_sha1 p.mask_gen,
-    (matches itself itself (λ _. refl) salt 2 20 p.salt_len,
-    (matches itself itself (λ _. refl) trailer 3 1 p.trailer_field, tt))));
-  make = λ p is.
-    (made plain_from plain_to plain_forth plain_written 0 library.sha1 p.hash is.0,
-    (made mask_from mask_to mask_forth mask_written 1 library.mgf1_sha1 p.mask_gen is.1,
-    (made itself itself (λ _. refl) salt 2 20 p.salt_len is.2,
-    (made itself itself (λ _. refl) trailer 3 1 p.trailer_field is.3, tt))));
+  match = λ p. (
+    matches plain_from plain_to plain_forth plain_written 0 library.sha1 p.hash,
+    (
+      matches mask_from mask_to mask_forth mask_written 1 library.mgf1_sha1 p.mask_gen,
+      (
+        matches itself itself (λ _. refl) salt 2 20 p.salt_len,
+        (matches itself itself (λ _. refl) trailer 3 1 p.trailer_field, tt),
+      ),
+    ),
+  );
+  make = λ p is. (
+    made plain_from plain_to plain_forth plain_written 0 library.sha1 p.hash is.0,
+    (
+      made mask_from mask_to mask_forth mask_written 1 library.mgf1_sha1 p.mask_gen is.1,
+      (
+        made itself itself (λ _. refl) salt 2 20 p.salt_len is.2,
+        (made itself itself (λ _. refl) trailer 3 1 p.trailer_field is.3, tt),
+      ),
+    ),
+  );
   is = is;
 }
   where

@@ -1,5 +1,5 @@
 -- Public keys: the statement's encodings are the library's.
-use Rattle.std.proofs.Common.{ℕ, List, [], ◌∷◌, ◌++◌, ◌≡◌, ◌≤◌, length, sym, ap, ◌∙◌, arith, inl}
+use Rattle.std.proofs.Common.{ℕ, List, [], ◌∷◌, ◌≡◌, ◌≤◌, length, sym, ap, ◌∙◌, arith, inl}
 use Rattle.std.specs.Int.Digits.{number_from_digits}
 use Rattle.der_core.specs.Document.{Means}
 use Rattle.der_core.specs.Document as documents

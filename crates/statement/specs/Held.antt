@@ -1,16 +1,12 @@
 -- What a Rust value holds. One rule: the function that is named as a Rust type, in lower case with underscores, gives what
 -- a value of it holds, and where the type has a parameter, it takes the function of the parameter first.
 use Rattle.std.specs.Prelude.{ℕ, List, map, take}
-use Rattle.std.specs.Borrow.{Bor}
-use Rattle.std.specs.Global.{Vec}
 use Rattle.std.specs.Option.{option_map}
 use Rattle.std.specs.Int.Digits.{number_from_digits}
 use Rattle.std.specs.declared.alloc.Global.{Global}
 use Rattle.std.specs.declared.vec.Vec as std_vec
 use Rattle.der_core.specs.declared.integer.uint.UintRef.{UintRef}
-use Rattle.der_core.specs.declared.integer.owned.Uint.{Uint}
 use Rattle.spki_core.specs.declared.any.AnyRef.{AnyRef}
-use Rattle.spki_core.specs.declared.owned_any.Any.{Any}
 use Rattle.spki_core.specs.declared.object_identifier.ObjectIdentifier.{ObjectIdentifier}
 use Rattle.spki_core.specs.declared.algorithm_identifier.AlgorithmIdentifier.{AlgorithmIdentifier}
 use Rattle.pkcs1_params.specs.declared.pss.RsaPssParams.{RsaPssParams}
@@ -21,15 +17,11 @@ use Rattle.pkcs1.specs.declared.private_key.other_prime_info.OtherPrimeInfo.{Oth
 use Rattle.pkcs1.specs.declared.view.RsaPrivateKeyView.{RsaPrivateKeyView}
 use Rattle.pkcs1.specs.declared.other_primes.OtherPrimes.{OtherPrimes}
 use Rattle.pkcs1.specs.OtherPrimesLeft.{others_left}
-use Rattle.pkcs8_core.specs.declared.info.PrivateKeyInfoRef.{PrivateKeyInfoRef}
-use Rattle.statement.specs.Statement.{PublicKey, PrivateKey, OtherPrime, TagAndContents, Algorithm, Container, PssParameters, OaepParameters}
+use Rattle.statement.specs.Statement.{PublicKey, PrivateKey, OtherPrime, TagAndContents, Algorithm, PssParameters, OaepParameters}
 
 -- Numbers: their bytes, the highest first.
 abbrev pub uint_ref : UintRef → ℕ
 uint_ref n = number_from_digits 256 n.bytes.now
-
-abbrev pub uint : Uint → ℕ
-uint n = number_from_digits 256 n.bytes.items
 
 abbrev pub rsa_public_key : {U : Type 0} → (U → ℕ) → RsaPublicKey U → PublicKey
 rsa_public_key number key = record { modulus = number key.modulus; public_exponent = number key.public_exponent }
@@ -64,9 +56,6 @@ rsa_private_key_view view = private_key_of uint_ref other_primes view.key
 abbrev pub any_ref : AnyRef → TagAndContents
 any_ref v = record { tag = v.tag.octet; contents = v.contents.now }
 
-abbrev pub any : Any → TagAndContents
-any v = record { tag = v.tag.octet; contents = v.contents.items }
-
 abbrev pub object_identifier : ObjectIdentifier → List ℕ
 object_identifier oid = take oid.length oid.octets
 
@@ -88,16 +77,3 @@ rsa_oaep_params parameters p = record {
   mask_gen = algorithm_identifier (algorithm_identifier parameters) p.mask_gen;
   p_source = algorithm_identifier parameters p.p_source;
 }
-
-abbrev pub slice : Bor (List ℕ) → List ℕ
-slice s = s.now
-
-abbrev pub private_key_info_ref : PrivateKeyInfoRef → Container
-private_key_info_ref info = record {
-  algorithm = algorithm_identifier any_ref info.algorithm;
-  private_key = slice info.private_key.bytes;
-  attributes = option_map slice info.attributes;
-}
-
-abbrev pub vec_of_vec : Vec (Vec ℕ) → List (List ℕ)
-vec_of_vec lists = map (λ list. list.items) lists.items

@@ -1,14 +1,14 @@
--- What is proved, from the first octet on: which bytes encode which RSA keys, PKCS #8 containers, and RSASSA-PSS and
--- RSAES-OAEP parameters, and what reading and writing promise. `src/lib.rt` promises it of the library's calls, and
--- `Held.antt` says what their values hold. It stands alone on purpose: the grammars of the crates below were written
--- apart from it, as relations, and proofs/ shows that they say the same.
+-- What is proved, from the first octet on: which bytes encode which RSA keys and which RSASSA-PSS and RSAES-OAEP
+-- parameters, and what reading and writing promise. `src/lib.rt` promises it of the library's calls, and `Held.antt`
+-- says what their values hold. It stands alone on purpose: the grammars of the crates below were written apart from it,
+-- as relations, and proofs/ shows that they say the same.
 --
--- A definition has a type, `name : arguments → result`, and equations; `f x y` is f of x and y, `λ x. e` the function that
--- takes x to e, and an argument in braces isn't written.
--- ℕ are the numbers 0, 1, 2, ..; an octet is one below 256, a byte string a `List ℕ`. [] is the empty list, x ∷ xs has the
--- first element x, xs ++ ys joins two; `take n xs`, `drop n xs` are its first n elements, the others; `slice_index_or xs i y`
--- is the element at i, from 0 on, or y; `concat` joins all of a list. An Option V is None, or Some of a V.
--- A `Type 0` is a statement, or a kind of values. A × B: both. A ⊎ B: one of them. ⊥ is false: A → ⊥ means that A isn't so.
+-- A definition has a type, `name : arguments → result`, and equations; `f x y` is f of x and y, `λ x. e` the function
+-- that takes x to e, and an argument in braces isn't written.
+-- ℕ are the numbers 0, 1, 2, ..; an octet is one below 256, a byte string a List ℕ. [] is the empty list, x ∷ xs has
+-- the first element x, xs ++ ys joins two; take n xs and drop n xs are its first n elements and the others;
+-- slice_index_or xs i y is the element at i, from 0 on, or y; concat joins all. An Option V is None, or Some of a V.
+-- A Type 0 is a statement, or a kind of values. A × B: both. A ⊎ B: one of them. ⊥ is false, so A → ⊥: A isn't so.
 -- a ≡ b: equal. (x : A) → B: for every x of A, B. (x : A) × B: there is an x of A with B. A ↔ B: each if the other.
 -- A record has named parts, r.part; as a statement, all of them hold. v.0 and v.1 are the parts of a pair.
 -- `abbrev`, `unfoldable` and `pub` say how the prover uses a definition, and nothing about it.
@@ -17,7 +17,6 @@ use Rattle.std.specs.Int.Digits.{digits_of}
 use Rattle.std.specs.List.{AllByRecursion, concat}
 
 -- == What is promised, of any relation of values and their encodings ==
-
 -- Reading gave a value: the bytes encode it, and no other. It gave none: they encode no value.
 abbrev pub Decodes : {V : Type 0} → (V → List ℕ → Type 0) → List ℕ → Option V → Type 0
 Decodes {V} Encoding bytes (Some v) = Encoding v bytes × ((other : V) → Encoding other bytes → other ≡ v)
@@ -52,7 +51,6 @@ pub record AreAll (n : ℕ) (Encoding : List ℕ → Type 0) (all : List (List �
   pub no_other : (bytes : List ℕ) → Encoding bytes → (i : ℕ) × (i < n) × (slice_index_or all i [] ≡ bytes)
 
 -- == DER (X.690) ==
-
 -- A number in base 256, the highest octet first and not 0; 0 is one octet.
 abbrev pub octets : ℕ → List ℕ
 octets n = if n == 0 then 0 ∷ [] else digits_of 256 n
@@ -85,15 +83,11 @@ abbrev pub IfPresent : {V : Type 0} → (V → Type 0) → Option V → Type 0
 IfPresent Is None = Unit {0}
 IfPresent Is (Some v) = Is v
 
-abbrev pub AreOctets : List ℕ → Type 0
-AreOctets octets = AllByRecursion (λ b. b < 256) octets
-
 -- No encoding is longer: this is the library's limit, not the standard's.
 abbrev pub limit : ℕ
 limit = 4294967295
 
 -- == RSAPublicKey (RFC 8017 A.1.1) ==
-
 pub record PublicKey : Type 0 where
   pub modulus : ℕ
   pub public_exponent : ℕ
@@ -104,7 +98,6 @@ PublicKeyEncoding key bytes =
     (length bytes ≤ limit) × (bytes ≡ sequence (integers (key.modulus ∷ key.public_exponent ∷ [])))
 
 -- == RSAPrivateKey (RFC 8017 A.1.2) ==
-
 pub record OtherPrime : Type 0 where
   pub prime : ℕ
   pub exponent : ℕ
@@ -129,9 +122,6 @@ other_prime o = sequence (integers (o.prime ∷ o.exponent ∷ o.coefficient ∷
 abbrev pub other_primes : List OtherPrime → List ℕ
 other_primes others = sequence (concat (map other_prime others))
 
-abbrev pub IsNotEmpty : List OtherPrime → Type 0
-IsNotEmpty others = 0 < length others
-
 -- version: 1 with other primes, else 0
 abbrev pub version : Option (List OtherPrime) → ℕ
 version None = 0
@@ -140,13 +130,12 @@ version (Some others) = 1
 -- SEQUENCE { version, the eight numbers, otherPrimeInfos OtherPrimeInfos OPTIONAL }
 abbrev pub PrivateKeyEncoding : PrivateKey → List ℕ → Type 0
 PrivateKeyEncoding k bytes =
-    (length bytes ≤ limit) × IfPresent IsNotEmpty k.other_primes
+    (length bytes ≤ limit) × IfPresent (λ others. 0 < length others) k.other_primes
     × (bytes ≡ sequence (integers (version k.other_primes ∷ k.modulus ∷ k.public_exponent ∷ k.private_exponent
-        ∷ k.prime1 ∷ k.prime2 ∷ k.exponent1 ∷ k.exponent2 ∷ k.coefficient ∷ []) ++ optional other_primes k.other_primes))
+    ∷ k.prime1 ∷ k.prime2 ∷ k.exponent1 ∷ k.exponent2 ∷ k.coefficient ∷ []) ++ optional other_primes k.other_primes))
 
 -- == AlgorithmIdentifier (RFC 5280 4.1.1.2) ==
-
--- OBJECT IDENTIFIER (X.690 8.19.2): a subidentifier is octets of 128 or more and a last one below, and begins not with 128.
+-- OBJECT IDENTIFIER (X.690 8.19.2): a subidentifier is octets of 128 or more and a last one below, the first not 128.
 abbrev pub IsSubidentifier : List ℕ → Type 0
 IsSubidentifier octets =
     (front : List ℕ) × (last : ℕ) × (octets ≡ front ++ last ∷ [])
@@ -155,7 +144,8 @@ IsSubidentifier octets =
 -- The contents are one subidentifier or more, of at most 39 octets together (the library's limit).
 abbrev pub IsIdentifier : List ℕ → Type 0
 IsIdentifier oid =
-    (ids : List (List ℕ)) × (0 < length ids) × AllByRecursion IsSubidentifier ids × (oid ≡ concat ids) × (length oid ≤ 39)
+    (ids : List (List ℕ)) × (0 < length ids) × AllByRecursion IsSubidentifier ids × (oid ≡ concat ids)
+    × (length oid ≤ 39)
 
 -- Parameters of an algorithm in general: a tag, and contents that aren't looked at.
 pub record TagAndContents : Type 0 where
@@ -164,7 +154,9 @@ pub record TagAndContents : Type 0 where
 
 -- The tag is one octet (8.1.2.4.3: the low five bits of 31 begin a longer one), and neither 00 nor 20.
 abbrev pub IsAny : TagAndContents → Type 0
-IsAny v = IsTrue (nat_lt v.tag 256 && not (v.tag % 32 == 31) && not (v.tag == 0) && not (v.tag == 32)) × AreOctets v.contents
+IsAny v =
+    IsTrue (nat_lt v.tag 256 && not (v.tag % 32 == 31) && not (v.tag == 0) && not (v.tag == 32))
+    × AllByRecursion (λ b. b < 256) v.contents
 
 abbrev pub any : TagAndContents → List ℕ
 any v = tlv v.tag v.contents
@@ -193,16 +185,9 @@ mask_generation = algorithm plain
 abbrev pub IsMaskGeneration : Algorithm (Algorithm TagAndContents) → Type 0
 IsMaskGeneration = IsAlgorithm IsPlain
 
--- NULL (X.690 8.8)
-abbrev pub null : TagAndContents
-null = record { tag = 5; contents = [] }
-
--- rsaEncryption with NULL (RFC 8017 A.1), id-sha1 with NULL, id-mgf1 with that (A.2.1), id-pSpecified with an empty label
-abbrev pub rsa_encryption : Algorithm TagAndContents
-rsa_encryption = record { oid = 0x2a ∷ 0x86 ∷ 0x48 ∷ 0x86 ∷ 0xf7 ∷ 0x0d ∷ 0x01 ∷ 0x01 ∷ 0x01 ∷ []; parameters = Some null }
-
+-- id-sha1 with NULL; id-mgf1 with that; id-pSpecified with an empty OCTET STRING (RFC 8017 A.2.1)
 abbrev pub sha1 : Algorithm TagAndContents
-sha1 = record { oid = 0x2b ∷ 0x0e ∷ 0x03 ∷ 0x02 ∷ 0x1a ∷ []; parameters = Some null }
+sha1 = record { oid = 0x2b ∷ 0x0e ∷ 0x03 ∷ 0x02 ∷ 0x1a ∷ []; parameters = Some (record { tag = 5; contents = [] }) }
 
 abbrev pub mgf1_sha1 : Algorithm (Algorithm TagAndContents)
 mgf1_sha1 = record { oid = 0x2a ∷ 0x86 ∷ 0x48 ∷ 0x86 ∷ 0xf7 ∷ 0x0d ∷ 0x01 ∷ 0x01 ∷ 0x08 ∷ []; parameters = Some sha1 }
@@ -213,27 +198,7 @@ empty_label = record {
   parameters = Some (record { tag = 4; contents = [] });
 }
 
--- == PrivateKeyInfo (RFC 5208 5) ==
-
-pub record Container : Type 0 where
-  pub algorithm : Algorithm TagAndContents
-  pub private_key : List ℕ
-  pub attributes : Option (List ℕ)
-
--- SEQUENCE { version INTEGER (0), privateKeyAlgorithm AlgorithmIdentifier, privateKey OCTET STRING,
--- attributes [0] IMPLICIT Attributes OPTIONAL }; the contents of the attributes aren't looked at.
-abbrev pub ContainerEncoding : Container → List ℕ → Type 0
-ContainerEncoding c bytes =
-    (length bytes ≤ limit) × IsPlain c.algorithm × AreOctets c.private_key × IfPresent AreOctets c.attributes
-    × (bytes ≡ sequence (integer 0 ++ (plain c.algorithm ++ (tlv 4 c.private_key ++ optional (tlv 160) c.attributes))))
-
--- The bytes encode a container with rsaEncryption, whose octets encode this key.
-abbrev pub ContainedKeyEncoding : PrivateKey → List ℕ → Type 0
-ContainedKeyEncoding key bytes =
-    (c : Container) × ContainerEncoding c bytes × (c.algorithm ≡ rsa_encryption) × PrivateKeyEncoding key c.private_key
-
 -- == Fields with defaults (X.690 8.14.2, 11.5) ==
-
 -- Whether the value of a field is its default, and the encoding if it is written.
 pub record Field : Type 1 where
   pub IsDefault : Type 0
@@ -243,21 +208,20 @@ pub record Field : Type 1 where
 abbrev pub field : {V : Type 0} → ℕ → (V → List ℕ) → V → V → Field
 field number encoding default v = record { IsDefault = v ≡ default; written = tlv (160 + number) (encoding v) }
 
--- The fields in order, each written, or left out if it has its default. DER (11.5) asks that it be left out; reading
--- allows both.
+-- The fields in order, each written, or left out if it has its default (DER asks for that, 11.5; reading allows both).
 abbrev pub Fields : List Field → List ℕ → Type 0
 Fields [] bytes = bytes ≡ []
 Fields (f ∷ fields) bytes =
     (f.IsDefault × Fields fields bytes) ⊎ ((later : List ℕ) × (bytes ≡ f.written ++ later) × Fields fields later)
 
--- Of the fields that have their defaults, the j-th (from 0 on) is written exactly if bit j of the mask (the lowest is 0)
--- is one; every other field is written.
+-- Of the fields that have their defaults, the j-th (from 0 on) is written exactly if bit j of the mask (0 is the lowest
+-- one) is set; every other field is written.
 abbrev pub FieldsUnder : ℕ → List Field → List ℕ → Type 0
 FieldsUnder mask [] bytes = (bytes ≡ []) × (mask ≡ 0)
 FieldsUnder mask (f ∷ fields) bytes =
     (f.IsDefault × (half : ℕ) × (mask ≡ 2 * half) × FieldsUnder half fields bytes)
     ⊎ (f.IsDefault × (half : ℕ) × (mask ≡ 2 * half + 1)
-        × (later : List ℕ) × (bytes ≡ f.written ++ later) × FieldsUnder half fields later)
+    × (later : List ℕ) × (bytes ≡ f.written ++ later) × FieldsUnder half fields later)
     ⊎ ((f.IsDefault → ⊥) × (later : List ℕ) × (bytes ≡ f.written ++ later) × FieldsUnder mask fields later)
 
 -- How many have their defaults.
@@ -275,19 +239,20 @@ SequenceOf Contents bytes =
 abbrev pub longest : List Field → List ℕ
 longest fields = sequence (concat (map (λ f. f.written) fields))
 
--- All encodings of a value k of whose fields have their defaults: two to the k, at each index the one under that mask.
-abbrev pub AreByMask : {V : Type 0} → (V → List ℕ → Type 0) → (ℕ → V → List ℕ → Type 0) → V → ℕ → List (List ℕ) → Type 0
+-- All encodings of a value k of whose fields have their defaults: two to the k, at each index the one under it.
+abbrev pub AreByMask : {V : Type 0} → (V → List ℕ → Type 0) → (ℕ → V → List ℕ → Type 0) → V → ℕ → List (List ℕ)
+    → Type 0
 AreByMask Encoding Under v k all =
     AreAll (2 ^ k) (Encoding v) all × ((mask : ℕ) → mask < 2 ^ k → Under mask v (slice_index_or all mask []))
 
 -- Values k of whose fields have their defaults have exactly two to the k encodings, if the longest is within the limit.
-abbrev pub TwoToTheDefaults : {V : Type 0} → (V → Type 0) → (V → List Field) → (V → List ℕ → Type 0) → (ℕ → V → List ℕ → Type 0) → Type 0
+abbrev pub TwoToTheDefaults : {V : Type 0} → (V → Type 0) → (V → List Field) → (V → List ℕ → Type 0)
+    → (ℕ → V → List ℕ → Type 0) → Type 0
 TwoToTheDefaults {V} Is fields Encoding Under =
     (v : V) (k : ℕ) → Is v → Defaults (fields v) k → length (longest (fields v)) ≤ limit
     → (all : List (List ℕ)) × AreByMask Encoding Under v k all
 
 -- == RSASSA-PSS-params (RFC 8017 A.2.3) ==
-
 pub record PssParameters : Type 0 where
   pub hash : Algorithm TagAndContents
   pub mask_gen : Algorithm (Algorithm TagAndContents)
@@ -312,7 +277,6 @@ abbrev pub PssUnder : ℕ → PssParameters → List ℕ → Type 0
 PssUnder mask p bytes = IsPss p × SequenceOf (FieldsUnder mask (pss_fields p)) bytes
 
 -- == RSAES-OAEP-params (RFC 8017 A.2.1) ==
-
 pub record OaepParameters : Type 0 where
   pub hash : Algorithm TagAndContents
   pub mask_gen : Algorithm (Algorithm TagAndContents)

@@ -5,7 +5,7 @@ ghost use Rattle.std.specs.Option.{option_map};
 ghost use Rattle.statement.specs.Reading.{Returns, public_key_of};
 ghost use Rattle.statement.specs.Held.{uint_ref, any_ref, rsa_public_key, rsa_private_key, rsa_private_key_view};
 ghost use Rattle.statement.specs.Held.{rsa_pss_params, rsa_oaep_params};
-ghost use Rattle.statement.specs.Statement.{Decodes, Encodes, IsShortest, SameByShortest, TwoToTheDefaults};
+ghost use Rattle.statement.specs.Statement.{Decodes, Encodes, IsShortest, AtMostOne, SameByShortest, TwoToTheDefaults};
 ghost use Rattle.statement.specs.Statement.{PublicKeyEncoding, PrivateKeyEncoding, PssEncoding, OaepEncoding};
 ghost use Rattle.statement.specs.Statement.{IsPss, pss_fields, PssUnder, IsOaep, oaep_fields, OaepUnder};
 
@@ -129,6 +129,12 @@ pub fn lemma_oaep_count()
 {
     lemma_oaep_spellings();
 }
+
+/// A key has no encoding but one.
+pub fn lemma_keys_have_one_encoding()
+    ensures public { AtMostOne PublicKeyEncoding }
+    ensures private { AtMostOne PrivateKeyEncoding }
+{}
 
 /// Two encodings mean the same value exactly if the shortest encodings of their values are equal.
 pub fn lemma_same_by_shortest()

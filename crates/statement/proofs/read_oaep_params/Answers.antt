@@ -1,4 +1,4 @@
-use Rattle.std.proofs.Common.{sym, subst, ap, ◌∙◌}
+use Rattle.std.proofs.Common.{sym, ap, ◌∙◌}
 use Rattle.spki_core.specs.AnyRefValue.{any_of}
 use Rattle.pkcs1_params.specs.OaepValue.{oaep_of}
 use Rattle.statement.specs.Statement.{OaepEncoding}
@@ -10,8 +10,7 @@ use Rattle.statement.proofs.read_oaep_params.Goals as goal
 
 pub returns-in-Ok : goal.returns-in-Ok
 returns-in-Ok c =
-    let same = oaep_holds any_of c.in-Ok.value in
-    (
+    let same = oaep_holds any_of c.in-Ok.value in (
       moved OaepEncoding same (sentence sides (oaep_of c.in-Ok.value) _ c.in-Ok.ensures.ok),
       λ w p. sym (sides.back w) ∙ ap from (c.in-Ok.ensures.one (to w) (means sides w _ p)) ∙ same,
     )

@@ -1,4 +1,4 @@
-use Rattle.std.proofs.Common.{sym, subst, ap, ◌∙◌}
+use Rattle.std.proofs.Common.{sym, ap, ◌∙◌}
 use Rattle.pkcs1.specs.ViewParts.{view_of}
 use Rattle.statement.specs.Statement.{PrivateKeyEncoding}
 use Rattle.statement.proofs.Der.{moved}
@@ -9,8 +9,7 @@ use Rattle.statement.proofs.read_private_key.Goals as goal
 pub returns-in-Ok : goal.returns-in-Ok
 returns-in-Ok c =
     let view = c.in-Ok.value in
-    let same = view_holds view in
-    (
+    let same = view_holds view in (
       moved PrivateKeyEncoding same (sentence (view_of view) _ c.in-Ok.ensures.ok),
       λ w p. sym (back w) ∙ ap numbers (c.in-Ok.ensures.one (key_of w) (means w _ p)) ∙ same,
     )

@@ -1,4 +1,4 @@
-use Rattle.std.proofs.Common.{sym, subst, ap, ◌∙◌}
+use Rattle.std.proofs.Common.{sym, ap, ◌∙◌}
 use Rattle.spki_core.specs.AnyRefValue.{any_of}
 use Rattle.pkcs1_params.specs.PssValue.{pss_of}
 use Rattle.statement.specs.Statement.{PssEncoding, IsShortest}
@@ -10,8 +10,7 @@ use Rattle.statement.proofs.read_pss_params_strictly.Goals as goal
 
 pub returns-in-Ok : goal.returns-in-Ok
 returns-in-Ok c =
-    let same = pss_holds any_of c.in-Ok.value in
-    (
+    let same = pss_holds any_of c.in-Ok.value in (
       moved (IsShortest PssEncoding) same (shortest sides (pss_of c.in-Ok.value) _ c.in-Ok.ensures.ok),
       λ w p. sym (sides.back w) ∙ ap from (c.in-Ok.ensures.one (to w) (means sides w _ p.0)) ∙ same,
     )

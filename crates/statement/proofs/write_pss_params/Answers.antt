@@ -1,4 +1,4 @@
-use Rattle.std.proofs.Common.{sym, subst}
+use Rattle.std.proofs.Common.{sym}
 use Rattle.spki_core.specs.AnyRefValue.{any_of}
 use Rattle.pkcs1_params.specs.Parameters.{RsaPssParams}
 use Rattle.pkcs1_params.specs.PssValue.{pss_of}
