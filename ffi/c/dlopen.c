@@ -16,5 +16,5 @@ int main(int argc, char **argv) {
     struct pkcs1_public_key key;
     if (decode == NULL || text == NULL || sha256 == NULL || sha256->len != 9)
         return fputs("a symbol is missing\n", stderr), 1;
-    return strcmp(text(decode((const uint8_t *)"\x30", 1, &key)), "the input ends too early") != 0;
+    return strstr(text(decode((const uint8_t *)"\x30", 1, &key)), "the input ends too early") == NULL;
 }

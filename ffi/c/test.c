@@ -272,7 +272,9 @@ static void texts(void) {
     char version[32];
     sprintf(version, "%d.%d.%d", PKCS1_VERSION_MAJOR, PKCS1_VERSION_MINOR, PKCS1_VERSION_PATCH);
     CHECK(strcmp(pkcs1_version(), version) == 0);
-    CHECK(strcmp(pkcs1_strerror(PKCS1_TRAILING_DATA), "bytes follow the value") == 0);
+    CHECK(strcmp(pkcs1_strerror(PKCS1_TRAILING_DATA),
+                 "bytes follow the value, or a field that the type does not have there") == 0);
+    CHECK(strstr(pkcs1_strerror(PKCS1_TAG_UNEXPECTED), "PEM") != NULL);
     CHECK(strcmp(pkcs1_strerror(0), "no error") == 0 && strcmp(pkcs1_strerror(1000), "another error") == 0);
     CHECK(strcmp(pkcs1_strerror(PKCS1_OTHER_PRIMES), "the other primes are not as many as the key says") == 0);
 }

@@ -1,5 +1,8 @@
 /* Decodes and encodes DER: RSA keys and RSA algorithm parameters (PKCS #1, RFC 8017), RSA keys in PKCS #8 (RFC 5208).
- * Only binary DER: no PEM, no SubjectPublicKeyInfo ("BEGIN PUBLIC KEY"), nothing encrypted.
+ * Only binary DER: no PEM, no SubjectPublicKeyInfo ("BEGIN PUBLIC KEY"), nothing encrypted, no RSA-PSS key
+ *   (id-RSASSA-PSS) in PKCS #8; OpenSSL makes each key readable: openssl rsa -in IN -traditional -outform DER -out OUT
+ * No salt length over 255: with SHA-256, not what OpenSSL 3.0 writes by default for keys over 2313 bits
+ *   (-sigopt rsa_pss_saltlen:digest is read).
  *
  * Status: a decoder or encoder returns PKCS1_OK or an error of the enum below, which pkcs1_strerror describes.
  * Decoders (.._decode): `der` is one whole encoding. On PKCS1_OK the struct holds the value that it encodes. An error
@@ -60,7 +63,7 @@ enum pkcs1_status {
     PKCS1_OTHER_PRIMES = 21        /* writing: key->other_primes isn't others_len */
 };
 
-/* A description in English, as a static string. Any number may be given. */
+/* A description in English, with what the input may be instead, as a static string. Any number may be given. */
 const char *pkcs1_strerror(uint32_t status);
 
 /* The version of the library as a static string, "0.8.0"; the macros above are the version of the header. */

@@ -17,13 +17,13 @@ fn put_algorithm(name: &str, algorithm: &Algorithm<'_>) {
 fn read(kind: &str, der: &[u8]) -> Result<Vec<u8>, Box<dyn std::error::Error>> {
     match kind {
         "pub" => {
-            let key = PublicKey::decode(der)?;
+            let key = PublicKey::from_der(der)?;
             put("n", key.modulus);
             put("e", key.public_exponent);
-            Ok(key.to_vec()?)
+            Ok(key.to_der()?)
         }
         "priv" => {
-            let key = PrivateKey::decode(der)?;
+            let key = PrivateKey::from_der(der)?;
             put("n", key.modulus);
             put("e", key.public_exponent);
             put("d", key.private_exponent);
@@ -37,30 +37,30 @@ fn read(kind: &str, der: &[u8]) -> Result<Vec<u8>, Box<dyn std::error::Error>> {
                 put("d", other.exponent);
                 put("t", other.coefficient);
             }
-            Ok(key.to_vec()?)
+            Ok(key.to_der()?)
         }
         "p8" => {
-            let info = PrivateKeyInfo::decode(der)?;
+            let info = PrivateKeyInfo::from_der(der)?;
             put("n", info.private_key().modulus);
-            Ok(info.to_vec()?)
+            Ok(info.to_der()?)
         }
         "pss" => {
-            let params = PssParams::decode(der)?;
+            let params = PssParams::from_der(der)?;
             put_algorithm("hash", &params.hash);
             if let Some(hash) = &params.mask_gen.hash {
                 put_algorithm("mask", hash);
             }
             println!("salt={}", params.salt_len);
-            Ok(params.to_vec()?)
+            Ok(params.to_der()?)
         }
         "oaep" => {
-            let params = OaepParams::decode(der)?;
+            let params = OaepParams::from_der(der)?;
             put_algorithm("hash", &params.hash);
             if let Some(hash) = &params.mask_gen.hash {
                 put_algorithm("mask", hash);
             }
             put_algorithm("source", &params.p_source);
-            Ok(params.to_vec()?)
+            Ok(params.to_der()?)
         }
         _ => Err("an unknown kind".into()),
     }

@@ -38,6 +38,15 @@ impl ObjectIdentifier {
 
     /// The identifier with these contents octets; more than 39 are `OID_MALFORMED`. Octets that are no identifier are
     /// rejected only by the encoders.
+    ///
+    /// ```
+    /// use pkcs1_proved::ObjectIdentifier;
+    ///
+    /// let sha_1 = ObjectIdentifier::new(&[0x2b, 0x0e, 0x03, 0x02, 0x1a])?; // 1.3.14.3.2.26
+    /// assert_eq!(sha_1, ObjectIdentifier::SHA_1);
+    /// assert_eq!(sha_1.as_bytes().len(), 5);
+    /// # Ok::<(), pkcs1_proved::Error>(())
+    /// ```
     pub const fn new(contents: &[u8]) -> Result<ObjectIdentifier, Error> {
         let mut octets = [0; 39];
         if contents.len() > octets.len() {
@@ -59,6 +68,12 @@ impl ObjectIdentifier {
     /// The contents octets.
     pub fn as_bytes(&self) -> &[u8] {
         &self.octets[..usize::from(self.len)]
+    }
+}
+
+impl AsRef<[u8]> for ObjectIdentifier {
+    fn as_ref(&self) -> &[u8] {
+        self.as_bytes()
     }
 }
 
@@ -91,6 +106,10 @@ impl<'a> Any<'a> {
     pub const NULL: Any<'static> = Any { tag: 0x05, value: &[] };
 
     /// An OCTET STRING.
+    ///
+    /// ```
+    /// assert_eq!(pkcs1_proved::Any::octet_string(b"label").tag, 0x04);
+    /// ```
     pub const fn octet_string(value: &'a [u8]) -> Any<'a> {
         Any { tag: 0x04, value }
     }
@@ -107,6 +126,13 @@ pub struct Algorithm<'a> {
 
 impl<'a> Algorithm<'a> {
     /// The algorithm with NULL parameters, as is usual for hash functions.
+    ///
+    /// ```
+    /// use pkcs1_proved::{Algorithm, Any, ObjectIdentifier};
+    ///
+    /// let sha_256 = Algorithm::with_null(ObjectIdentifier::SHA_256);
+    /// assert_eq!(sha_256.parameters, Some(Any::NULL));
+    /// ```
     pub const fn with_null(oid: ObjectIdentifier) -> Algorithm<'static> {
         Algorithm { oid, parameters: Some(Any::NULL) }
     }
@@ -132,6 +158,13 @@ pub struct MaskGen<'a> {
 
 impl<'a> MaskGen<'a> {
     /// MGF1 with this hash function.
+    ///
+    /// ```
+    /// use pkcs1_proved::{Algorithm, MaskGen, ObjectIdentifier, PssParams};
+    ///
+    /// let mask_gen = MaskGen::mgf1(Algorithm::with_null(ObjectIdentifier::SHA_256));
+    /// assert_eq!(PssParams::new(ObjectIdentifier::SHA_256, 32).mask_gen, mask_gen);
+    /// ```
     pub const fn mgf1(hash: Algorithm<'a>) -> MaskGen<'a> {
         MaskGen { oid: ObjectIdentifier::MGF1, hash: Some(hash) }
     }

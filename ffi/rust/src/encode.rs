@@ -7,11 +7,11 @@ pub(crate) trait Writes {
     fn with_raw<T>(&self, call: impl FnOnce(&dyn Encode) -> Result<T, Error>) -> Result<T, Error>;
 }
 
-/// Writes the DER to the front of `out`, and returns its length.
-pub(crate) fn into_slice(value: &dyn Encode, out: &mut [u8]) -> Result<usize, Error> {
+/// Writes the DER to the front of `out`, and returns it.
+pub(crate) fn into_slice<'o>(value: &dyn Encode, out: &'o mut [u8]) -> Result<&'o [u8], Error> {
     let mut len = 0;
     value.encode(out, &mut len)?;
-    Ok(len)
+    Ok(&out[..len])
 }
 
 /// The length of the DER.
@@ -39,22 +39,39 @@ pub(crate) fn collected<T>(len: usize, items: impl Iterator<Item = T>) -> Result
     Ok(list)
 }
 
+/// The example of a method: `$binding` makes `value`.
+macro_rules! example {
+    ($binding:literal, $($line:literal)*) => {
+        concat!("```\nuse pkcs1_proved::*;\n\n", $binding, "\n", $($line, "\n",)*
+            "# Ok::<(), Box<dyn std::error::Error>>(())\n```")
+    };
+}
+
 macro_rules! encodings {
-    ($($type:ident)*) => {
+    ($($type:ident as $value:literal;)*) => {
         $(impl $crate::$type<'_> {
             /// The length of the DER.
+            ///
+            #[doc = example!($value, "assert_eq!(value.encoded_len()?, value.to_der()?.len());")]
             pub fn encoded_len(&self) -> Result<usize, $crate::Error> {
                 $crate::encode::Writes::with_raw(self, |raw| $crate::encode::len_of(raw))
             }
 
-            /// Writes the DER to the front of `out`, and returns its length. The rest of `out` is unchanged, and all of
-            /// it after an error.
-            pub fn encode(&self, out: &mut [u8]) -> Result<usize, $crate::Error> {
+            /// Writes the DER to the front of `out`, and returns it. The rest of `out` is unchanged, and all of it after
+            /// an error.
+            ///
+            #[doc = example!($value,
+                "let mut out = [0; 2048];"
+                "assert_eq!(value.encode_to_slice(&mut out)?, value.to_der()?);"
+                "assert_eq!(value.encode_to_slice(&mut []), Err(Error::NO_ROOM));")]
+            pub fn encode_to_slice<'o>(&self, out: &'o mut [u8]) -> Result<&'o [u8], $crate::Error> {
                 $crate::encode::Writes::with_raw(self, |raw| $crate::encode::into_slice(raw, out))
             }
 
             /// The DER.
-            pub fn to_vec(&self) -> Result<Vec<u8>, $crate::Error> {
+            ///
+            #[doc = example!($value, "assert_eq!(value.to_der()?[0], 0x30);")]
+            pub fn to_der(&self) -> Result<Vec<u8>, $crate::Error> {
                 $crate::encode::Writes::with_raw(self, |raw| $crate::encode::into_vec(raw))
             }
         }
@@ -63,9 +80,15 @@ macro_rules! encodings {
             type Error = $crate::Error;
 
             fn try_from(der: &'a [u8]) -> Result<Self, $crate::Error> {
-                Self::decode(der)
+                Self::from_der(der)
             }
         })*
     };
 }
-encodings! { PublicKey PrivateKey PrivateKeyInfo PssParams OaepParams }
+encodings! {
+    PublicKey as "let value = PublicKey { modulus: &[0xc1, 0x7f], public_exponent: &[3] };";
+    PrivateKey as "let der = std::fs::read(\"tests/keys/priv2.der\")?;\nlet value = PrivateKey::from_der(&der)?;";
+    PrivateKeyInfo as "let der = std::fs::read(\"tests/keys/priv2.der\")?;\nlet value = PrivateKeyInfo::new(&der)?;";
+    PssParams as "let value = PssParams::new(ObjectIdentifier::SHA_256, 32);";
+    OaepParams as "let value = OaepParams::new(ObjectIdentifier::SHA_256);";
+}

@@ -2,6 +2,16 @@ use crate::raw;
 use std::fmt;
 
 /// Why a call failed: one of the constants. `Display` and `Debug` print its description.
+///
+/// ```
+/// use pkcs1_proved::{Error, PublicKey};
+///
+/// let pem = std::fs::read("tests/keys/pub.pem")?;
+/// let error = PublicKey::from_der(&pem).unwrap_err();
+/// assert_eq!(error, Error::TAG_UNEXPECTED);
+/// assert!(error.to_string().contains("PEM"));
+/// # Ok::<(), std::io::Error>(())
+/// ```
 #[derive(Clone, Copy, PartialEq, Eq, Hash)]
 pub struct Error(u32);
 
@@ -57,6 +67,10 @@ impl Error {
     }
 
     /// Its number in `pkcs1.h`.
+    ///
+    /// ```
+    /// assert_eq!(pkcs1_proved::Error::TRAILING_DATA.status(), 13);
+    /// ```
     pub const fn status(self) -> u32 {
         self.0
     }

@@ -15,7 +15,16 @@ pub struct PublicKey<'a> {
 
 impl<'a> PublicKey<'a> {
     /// Decodes a key from the whole slice.
-    pub fn decode(der: &'a [u8]) -> Result<PublicKey<'a>, Error> {
+    ///
+    /// ```
+    /// use pkcs1_proved::PublicKey;
+    ///
+    /// let der = std::fs::read("tests/keys/pub2.der")?;
+    /// let key = PublicKey::from_der(&der)?;
+    /// assert_eq!((key.modulus.len(), key.public_exponent), (256, &[1, 0, 1][..]));
+    /// # Ok::<(), Box<dyn std::error::Error>>(())
+    /// ```
+    pub fn from_der(der: &'a [u8]) -> Result<PublicKey<'a>, Error> {
         let key = raw::public_key(der)?;
         Ok(PublicKey { modulus: key.modulus.get(), public_exponent: key.public_exponent.get() })
     }
@@ -80,9 +89,24 @@ pub struct PrivateKey<'a> {
 
 impl<'a> PrivateKey<'a> {
     /// Decodes a key from the whole slice. Allocates only for other primes.
-    pub fn decode(der: &'a [u8]) -> Result<PrivateKey<'a>, Error> {
+    ///
+    /// ```
+    /// use pkcs1_proved::PrivateKey;
+    ///
+    /// let der = std::fs::read("tests/keys/priv3.der")?;
+    /// let key = PrivateKey::from_der(&der)?;
+    /// assert_eq!((key.modulus.len(), key.other_primes.len()), (256, 1));
+    /// # Ok::<(), Box<dyn std::error::Error>>(())
+    /// ```
+    pub fn from_der(der: &'a [u8]) -> Result<PrivateKey<'a>, Error> {
         let key = raw::private_key(der, &mut [])?;
         PrivateKey::seen(der, &key)
+    }
+
+    /// The public half of the private key in `der`; its other primes are counted, not listed.
+    pub(crate) fn public_half(der: &'a [u8]) -> Result<PublicKey<'a>, Error> {
+        let key = raw::private_key(der, &mut [])?;
+        Ok(PublicKey { modulus: key.modulus.get(), public_exponent: key.public_exponent.get() })
     }
 
     /// The key that the library decoded from `der`, with its other primes.
@@ -106,6 +130,15 @@ impl<'a> PrivateKey<'a> {
     }
 
     /// The public half.
+    ///
+    /// ```
+    /// use pkcs1_proved::PrivateKey;
+    ///
+    /// let der = std::fs::read("tests/keys/priv2.der")?;
+    /// let public = PrivateKey::from_der(&der)?.public_key().to_der()?;
+    /// assert_eq!(public, std::fs::read("tests/keys/pub2.der")?);
+    /// # Ok::<(), Box<dyn std::error::Error>>(())
+    /// ```
     pub fn public_key(&self) -> PublicKey<'a> {
         PublicKey { modulus: self.modulus, public_exponent: self.public_exponent }
     }

@@ -30,18 +30,43 @@ impl<'a> PssParams<'a> {
     pub const SALT_LEN_DEFAULT: u8 = 20;
 
     /// Parameters for one hash function: MGF1 with the same one, and both with NULL parameters.
+    ///
+    /// ```
+    /// use pkcs1_proved::{ObjectIdentifier, PssParams};
+    ///
+    /// let params = PssParams::new(ObjectIdentifier::SHA_256, 32);
+    /// assert_eq!(params.to_der()?, std::fs::read("tests/keys/pss_sha256.der")?);
+    /// # Ok::<(), Box<dyn std::error::Error>>(())
+    /// ```
     pub const fn new(hash: ObjectIdentifier, salt_len: u8) -> PssParams<'static> {
         let hash = Algorithm::with_null(hash);
         PssParams { hash, mask_gen: MaskGen::mgf1(hash), salt_len, trailer_field: TrailerField::BC }
     }
 
     /// Decodes parameters from the whole slice. Accepts a default that is written out.
-    pub fn decode(der: &'a [u8]) -> Result<PssParams<'a>, Error> {
+    ///
+    /// ```
+    /// use pkcs1_proved::PssParams;
+    ///
+    /// let der = std::fs::read("tests/keys/pss_sha256.der")?;
+    /// assert_eq!(PssParams::from_der(&der)?.salt_len, 32);
+    /// assert_eq!(PssParams::from_der(&[0x30, 0])?, PssParams::default());
+    /// # Ok::<(), Box<dyn std::error::Error>>(())
+    /// ```
+    pub fn from_der(der: &'a [u8]) -> Result<PssParams<'a>, Error> {
         raw::pss_params(der).map(PssParams::seen)
     }
 
-    /// As `decode`, but returns `Error::NONCANONICAL` if a default is written out.
-    pub fn decode_strict(der: &'a [u8]) -> Result<PssParams<'a>, Error> {
+    /// As `from_der`, but returns `Error::NONCANONICAL` if a default is written out.
+    ///
+    /// ```
+    /// use pkcs1_proved::{Error, PssParams};
+    ///
+    /// let salt_20 = [0x30, 5, 0xa2, 3, 2, 1, 20]; // 20 is the default
+    /// assert_eq!(PssParams::from_der(&salt_20), Ok(PssParams::default()));
+    /// assert_eq!(PssParams::from_der_strict(&salt_20), Err(Error::NONCANONICAL));
+    /// ```
+    pub fn from_der_strict(der: &'a [u8]) -> Result<PssParams<'a>, Error> {
         raw::pss_params_strict(der).map(PssParams::seen)
     }
 
@@ -83,11 +108,25 @@ pub struct OaepParams<'a> {
 impl<'a> OaepParams<'a> {
     /// Parameters for one hash function and an empty label: MGF1 with the same hash function, and both with NULL
     /// parameters.
+    ///
+    /// ```
+    /// use pkcs1_proved::{OaepParams, ObjectIdentifier};
+    ///
+    /// assert_eq!(OaepParams::new(ObjectIdentifier::SHA_1).to_der()?, [0x30, 0]); // all three are defaults
+    /// # Ok::<(), pkcs1_proved::Error>(())
+    /// ```
     pub const fn new(hash: ObjectIdentifier) -> OaepParams<'static> {
         OaepParams::new_with_label(hash, &[])
     }
 
     /// As `new`, with a label.
+    ///
+    /// ```
+    /// use pkcs1_proved::{Any, OaepParams, ObjectIdentifier};
+    ///
+    /// let params = OaepParams::new_with_label(ObjectIdentifier::SHA_256, b"label");
+    /// assert_eq!(params.p_source.parameters, Some(Any::octet_string(b"label")));
+    /// ```
     pub const fn new_with_label(hash: ObjectIdentifier, label: &'a [u8]) -> OaepParams<'a> {
         let hash = Algorithm::with_null(hash);
         let p_source = Algorithm { oid: ObjectIdentifier::P_SPECIFIED, parameters: Some(Any::octet_string(label)) };
@@ -95,12 +134,28 @@ impl<'a> OaepParams<'a> {
     }
 
     /// Decodes parameters from the whole slice. Accepts a default that is written out.
-    pub fn decode(der: &'a [u8]) -> Result<OaepParams<'a>, Error> {
+    ///
+    /// ```
+    /// use pkcs1_proved::{OaepParams, ObjectIdentifier};
+    ///
+    /// let der = std::fs::read("tests/keys/oaep_sha512.der")?;
+    /// assert_eq!(OaepParams::from_der(&der)?.hash.oid, ObjectIdentifier::SHA_512);
+    /// # Ok::<(), Box<dyn std::error::Error>>(())
+    /// ```
+    pub fn from_der(der: &'a [u8]) -> Result<OaepParams<'a>, Error> {
         raw::oaep_params(der).map(OaepParams::seen)
     }
 
-    /// As `decode`, but returns `Error::NONCANONICAL` if a default is written out.
-    pub fn decode_strict(der: &'a [u8]) -> Result<OaepParams<'a>, Error> {
+    /// As `from_der`, but returns `Error::NONCANONICAL` if a default is written out.
+    ///
+    /// ```
+    /// use pkcs1_proved::OaepParams;
+    ///
+    /// let der = std::fs::read("tests/keys/oaep_sha512.der")?;
+    /// assert_eq!(OaepParams::from_der_strict(&der), OaepParams::from_der(&der));
+    /// # Ok::<(), Box<dyn std::error::Error>>(())
+    /// ```
+    pub fn from_der_strict(der: &'a [u8]) -> Result<OaepParams<'a>, Error> {
         raw::oaep_params_strict(der).map(OaepParams::seen)
     }
 

@@ -14,19 +14,47 @@ pub struct PrivateKeyInfo<'a> {
 
 impl<'a> PrivateKeyInfo<'a> {
     /// Decodes a container, and the key in it, from the whole slice.
-    pub fn decode(der: &'a [u8]) -> Result<PrivateKeyInfo<'a>, Error> {
+    ///
+    /// ```
+    /// use pkcs1_proved::PrivateKeyInfo;
+    ///
+    /// let der = std::fs::read("tests/keys/p8_2.der")?;
+    /// let info = PrivateKeyInfo::from_der(&der)?;
+    /// assert_eq!(info.private_key().modulus.len(), 256);
+    /// assert_eq!(info.private_key_der(), std::fs::read("tests/keys/priv2.der")?);
+    /// assert_eq!(info.attributes(), None);
+    /// # Ok::<(), Box<dyn std::error::Error>>(())
+    /// ```
+    pub fn from_der(der: &'a [u8]) -> Result<PrivateKeyInfo<'a>, Error> {
         let (info, key) = raw::private_key_info(der)?;
         let private_key_der = info.private_key.get();
         let attributes = info.has_attributes.then(|| info.attributes.get());
         Ok(PrivateKeyInfo { private_key_der, private_key: PrivateKey::seen(private_key_der, &key)?, attributes })
     }
 
-    /// A container without attributes, of the key with this DER (`PrivateKey::to_vec` returns it).
+    /// A container without attributes, of the key with this DER (`PrivateKey::to_der` returns it).
+    ///
+    /// ```
+    /// use pkcs1_proved::PrivateKeyInfo;
+    ///
+    /// let key = std::fs::read("tests/keys/priv2.der")?;
+    /// assert_eq!(PrivateKeyInfo::new(&key)?.to_der()?, std::fs::read("tests/keys/p8_2.der")?);
+    /// # Ok::<(), Box<dyn std::error::Error>>(())
+    /// ```
     pub fn new(private_key_der: &'a [u8]) -> Result<PrivateKeyInfo<'a>, Error> {
-        Ok(PrivateKeyInfo { private_key_der, private_key: PrivateKey::decode(private_key_der)?, attributes: None })
+        Ok(PrivateKeyInfo { private_key_der, private_key: PrivateKey::from_der(private_key_der)?, attributes: None })
     }
 
     /// The container with attributes, given by their contents octets, which aren't checked.
+    ///
+    /// ```
+    /// use pkcs1_proved::PrivateKeyInfo;
+    ///
+    /// let key = std::fs::read("tests/keys/priv2.der")?;
+    /// let der = PrivateKeyInfo::new(&key)?.with_attributes(&[0x30, 0]).to_der()?;
+    /// assert_eq!(PrivateKeyInfo::from_der(&der)?.attributes(), Some(&[0x30, 0][..]));
+    /// # Ok::<(), Box<dyn std::error::Error>>(())
+    /// ```
     pub fn with_attributes(self, attributes: &'a [u8]) -> PrivateKeyInfo<'a> {
         PrivateKeyInfo { attributes: Some(attributes), ..self }
     }

@@ -51,17 +51,21 @@ fn requests<T>(call: impl Fn() -> Result<T, Error>) -> isize {
 fn out_of_memory_is_reported() {
     let (two, three) = (include_bytes!("keys/priv2.der"), include_bytes!("keys/priv3.der"));
     let (p8, public) = (include_bytes!("keys/p8_3.der"), include_bytes!("keys/pub3.der"));
-    let (key, long_key) = (PrivateKey::decode(two).unwrap(), PrivateKey::decode(three).unwrap());
-    assert_eq!(requests(|| PublicKey::decode(public)), 0);
-    assert_eq!(requests(|| PublicKey::decode(public)?.encode(&mut [0; 400])), 0);
-    assert_eq!(requests(|| PublicKey::decode(public)?.to_vec()), 1);
-    assert_eq!(requests(|| PrivateKey::decode(two)), 0);
-    assert_eq!(requests(|| key.encode(&mut [0; 2000])), 0);
-    assert_eq!(requests(|| key.to_vec()), 1);
-    assert_eq!(requests(|| PssParams::new(ObjectIdentifier::SHA_256, 32).encode(&mut [0; 99])), 0);
+    let (key, long_key) = (PrivateKey::from_der(two).unwrap(), PrivateKey::from_der(three).unwrap());
+    assert_eq!(requests(|| PublicKey::from_der(public)), 0);
+    assert_eq!(requests(|| PublicKey::from_der(public)?.encode_to_slice(&mut [0; 400]).map(<[u8]>::len)), 0);
+    assert_eq!(requests(|| PublicKey::from_der(public)?.to_der()), 1);
+    assert_eq!(requests(|| PrivateKey::from_der(two)), 0);
+    assert_eq!(requests(|| key.encode_to_slice(&mut [0; 2000]).map(<[u8]>::len)), 0);
+    assert_eq!(requests(|| key.to_der()), 1);
+    assert_eq!(requests(|| PssParams::new(ObjectIdentifier::SHA_256, 32).encode_to_slice(&mut [0; 99]).map(<[u8]>::len)), 0);
     assert_eq!(requests(|| OaepParams::default().encoded_len()), 0);
-    assert_eq!(requests(|| PrivateKey::decode(three)), 2);
-    assert_eq!(requests(|| PrivateKeyInfo::decode(p8)), 2);
-    assert_eq!(requests(|| long_key.encode(&mut [0; 2000])), 1);
-    assert_eq!(requests(|| long_key.to_vec()), 2);
+    assert_eq!(requests(|| PrivateKey::from_der(three)), 2);
+    assert_eq!(requests(|| PrivateKeyInfo::from_der(p8)), 2);
+    let (owned, long_owned) = (PrivateKeyBuf::from_der(two.to_vec()).unwrap(), PrivateKeyBuf::from_der(three.to_vec()).unwrap());
+    assert_eq!(requests(|| owned.key()), 0);
+    assert_eq!(requests(|| long_owned.key()), 2);
+    assert_eq!(requests(|| Ok(long_owned.public_key())), 0);
+    assert_eq!(requests(|| long_key.encode_to_slice(&mut [0; 2000]).map(<[u8]>::len)), 1);
+    assert_eq!(requests(|| long_key.to_der()), 2);
 }

@@ -29,13 +29,13 @@ fn status(name: &str) -> Option<Error> {
 /// Decodes the DER, and encodes the value again.
 fn again(kind: &str, der: &[u8]) -> Result<Vec<u8>, Error> {
     match kind {
-        "pub" => PublicKey::decode(der)?.to_vec(),
-        "priv" => PrivateKey::decode(der)?.to_vec(),
-        "p8" => PrivateKeyInfo::decode(der)?.to_vec(),
-        "pss" => PssParams::decode(der)?.to_vec(),
-        "pss-strict" => PssParams::decode_strict(der)?.to_vec(),
-        "oaep" => OaepParams::decode(der)?.to_vec(),
-        "oaep-strict" => OaepParams::decode_strict(der)?.to_vec(),
+        "pub" => PublicKey::from_der(der)?.to_der(),
+        "priv" => PrivateKey::from_der(der)?.to_der(),
+        "p8" => PrivateKeyInfo::from_der(der)?.to_der(),
+        "pss" => PssParams::from_der(der)?.to_der(),
+        "pss-strict" => PssParams::from_der_strict(der)?.to_der(),
+        "oaep" => OaepParams::from_der(der)?.to_der(),
+        "oaep-strict" => OaepParams::from_der_strict(der)?.to_der(),
         _ => panic!("{kind} is no kind"),
     }
 }

@@ -16,53 +16,96 @@ fn with_others(count: u8) -> Vec<u8> {
 
 #[test]
 fn public_keys() {
-    let key = PublicKey::decode(&PUBLIC).unwrap();
+    let key = PublicKey::from_der(&PUBLIC).unwrap();
     assert_eq!((key.modulus, key.public_exponent), (&[0xc1, 0x7f][..], &[3][..]));
     assert!(std::ptr::eq(key.modulus, &PUBLIC[5..7]));
     assert_eq!(PublicKey::try_from(&PUBLIC[..]), Ok(key));
-    assert_eq!((key.to_vec().unwrap(), key.encoded_len()), (PUBLIC.to_vec(), Ok(10)));
-    assert_eq!(PublicKey { modulus: &[0, 0, 0xc1, 0x7f], public_exponent: &[3] }.to_vec().unwrap(), PUBLIC);
+    assert_eq!((key.to_der().unwrap(), key.encoded_len()), (PUBLIC.to_vec(), Ok(10)));
+    assert_eq!(PublicKey { modulus: &[0, 0, 0xc1, 0x7f], public_exponent: &[3] }.to_der().unwrap(), PUBLIC);
     let empty = PublicKey { modulus: &[], public_exponent: &[3] };
-    assert_eq!((empty.to_vec(), empty.encoded_len()), (Err(Error::LENGTH), Err(Error::LENGTH)));
+    assert_eq!((empty.to_der(), empty.encoded_len()), (Err(Error::LENGTH), Err(Error::LENGTH)));
     for n in 0..PUBLIC.len() {
-        assert_eq!(PublicKey::decode(&PUBLIC[..n]), Err(Error::INCOMPLETE));
+        assert_eq!(PublicKey::from_der(&PUBLIC[..n]), Err(Error::INCOMPLETE));
     }
     let mut out = [7; 12];
-    assert_eq!((key.encode(&mut out[..9]), out), (Err(Error::NO_ROOM), [7; 12]));
-    assert_eq!((key.encode(&mut out), &out[..10], &out[10..]), (Ok(10), &PUBLIC[..], &[7, 7][..]));
-    assert!(HashSet::from([key]).contains(&PublicKey::decode(&PUBLIC).unwrap()));
+    assert_eq!(key.encode_to_slice(&mut out[..9]), Err(Error::NO_ROOM));
+    assert_eq!(out, [7; 12]);
+    assert_eq!(key.encode_to_slice(&mut out), Ok(&PUBLIC[..]));
+    assert_eq!((&out[..10], &out[10..]), (&PUBLIC[..], &[7, 7][..]));
+    assert!(HashSet::from([key]).contains(&PublicKey::from_der(&PUBLIC).unwrap()));
 }
 
 #[test]
 fn private_keys() {
-    let key = PrivateKey::decode(&TWO).unwrap();
+    let key = PrivateKey::from_der(&TWO).unwrap();
     let numbers = [
         key.modulus, key.public_exponent, key.private_exponent, key.prime1, key.prime2, key.exponent1, key.exponent2, key.coefficient,
     ];
     assert_eq!(numbers, [[1], [2], [3], [4], [5], [6], [7], [8]]);
     assert!(key.other_primes.is_empty());
-    assert_eq!(PrivateKey::try_from(&TWO[..]).unwrap().to_vec().unwrap(), TWO);
+    assert_eq!(PrivateKey::try_from(&TWO[..]).unwrap().to_der().unwrap(), TWO);
     assert_eq!(key.public_key(), PublicKey { modulus: &[1], public_exponent: &[2] });
     assert_eq!(PublicKey::from(&key), key.public_key());
     let mut out = [7; 30];
-    assert_eq!((key.encode(&mut out), &out[..29], out[29]), (Ok(29), &TWO[..], 7));
+    assert_eq!(key.encode_to_slice(&mut out), Ok(&TWO[..]));
+    assert_eq!((&out[..29], out[29]), (&TWO[..], 7));
     let no_prime = PrivateKey { prime2: &[], ..key };
-    assert_eq!(no_prime.to_vec(), Err(Error::LENGTH));
+    assert_eq!(no_prime.to_der(), Err(Error::LENGTH));
+}
+
+#[test]
+fn owned_keys() {
+    fn moves<T: Send + Sync + 'static>(value: T) -> T {
+        std::thread::spawn(move || value).join().unwrap()
+    }
+    let public = moves(PublicKeyBuf::from_der(PUBLIC.to_vec()).unwrap());
+    assert_eq!((public.key(), public.as_der(), public.as_ref()), (PublicKey::from_der(&PUBLIC).unwrap(), &PUBLIC[..], &PUBLIC[..]));
+    assert_eq!((PublicKeyBuf::try_from(PUBLIC.to_vec()), public.clone().into_der()), (Ok(public), PUBLIC.to_vec()));
+    assert_eq!(PublicKeyBuf::from_der(TWO.to_vec()), Err(Error::TRAILING_DATA));
+    for der in [TWO.to_vec(), with_others(1), with_others(8)] {
+        let private = moves(PrivateKeyBuf::from_der(der.clone()).unwrap());
+        assert_eq!((private.key().unwrap().to_der().unwrap(), private.as_der()), (der.clone(), &der[..]));
+        assert_eq!((private.public_key(), private.as_ref()), (private.key().unwrap().public_key(), &der[..]));
+        assert_eq!(PrivateKeyBuf::try_from(der.clone()).unwrap().into_der(), der);
+        assert_eq!(PrivateKeyBuf::from_der(der[1..].to_vec()).unwrap_err(), PrivateKey::from_der(&der[1..]).unwrap_err());
+    }
+}
+
+#[test]
+fn long_values() {
+    let number = vec![1; 70_000];
+    let key = PublicKey { modulus: &number, public_exponent: &number };
+    let der = key.to_der().unwrap();
+    assert_eq!((PublicKey::from_der(&der), PublicKey::try_from(&der[..])), (Ok(key), Ok(key)));
+    for len in [0, 1, 63, 64, 65, 127, 128, 255, 256, 70_000] {
+        let params = OaepParams::new_with_label(ObjectIdentifier::SHA_1, &number[..len]);
+        let der = params.to_der().unwrap();
+        assert_eq!((OaepParams::from_der(&der), OaepParams::try_from(&der[..])), (Ok(params), Ok(params)));
+    }
+    let key = PrivateKey { prime1: &number, ..PrivateKey::from_der(&TWO).unwrap() };
+    let der = key.to_der().unwrap();
+    assert_eq!(PrivateKey::try_from(&der[..]).unwrap().prime1, number);
+    let info = PrivateKeyInfo::new(&der).unwrap().with_attributes(&number).to_der().unwrap();
+    let read = PrivateKeyInfo::try_from(&info[..]).unwrap();
+    assert_eq!((read.private_key_der(), read.attributes()), (&der[..], Some(&number[..])));
+    let params = Algorithm { oid: ObjectIdentifier::SHA_1, parameters: Some(Any::octet_string(&number)) };
+    let der = PssParams { hash: params, ..PssParams::default() }.to_der().unwrap();
+    assert_eq!(PssParams::try_from(&der[..]).unwrap().hash, params);
 }
 
 #[test]
 fn other_primes() {
     for count in 1..=8 {
         let der = with_others(count);
-        let key = PrivateKey::decode(&der).unwrap();
+        let key = PrivateKey::from_der(&der).unwrap();
         assert_eq!(key.other_primes.len(), usize::from(count));
         for (i, other) in (0..).zip(&key.other_primes) {
             assert_eq!([other.prime, other.exponent, other.coefficient], [[3 * i + 9], [3 * i + 10], [3 * i + 11]]);
         }
-        assert_eq!((key.to_vec().unwrap(), key.encoded_len()), (der.clone(), Ok(der.len())));
-        assert_eq!(PrivateKey { other_primes: vec![], ..key }.to_vec().unwrap(), TWO);
-        let info = PrivateKeyInfo::new(&der).unwrap().to_vec().unwrap();
-        assert_eq!(PrivateKeyInfo::decode(&info).unwrap().private_key().other_primes.len(), usize::from(count));
+        assert_eq!((key.to_der().unwrap(), key.encoded_len()), (der.clone(), Ok(der.len())));
+        assert_eq!(PrivateKey { other_primes: vec![], ..key }.to_der().unwrap(), TWO);
+        let info = PrivateKeyInfo::new(&der).unwrap().to_der().unwrap();
+        assert_eq!(PrivateKeyInfo::from_der(&info).unwrap().private_key().other_primes.len(), usize::from(count));
     }
 }
 
@@ -72,17 +115,17 @@ fn containers() {
     der.extend(ObjectIdentifier::RSA_ENCRYPTION.as_bytes());
     der.extend([5, 0, 4, 29]);
     der.extend(TWO);
-    let info = PrivateKeyInfo::decode(&der).unwrap();
+    let info = PrivateKeyInfo::from_der(&der).unwrap();
     assert_eq!((info.private_key().prime2, info.private_key_der(), info.attributes()), (&[5][..], &TWO[..], None));
-    assert_eq!(info.to_vec().unwrap(), der);
+    assert_eq!(info.to_der().unwrap(), der);
     let made = PrivateKeyInfo::new(&TWO).unwrap();
-    assert_eq!((made.to_vec().unwrap(), made.encoded_len()), (der.clone(), Ok(51)));
-    let with = made.with_attributes(&[2, 1, 0]).to_vec().unwrap();
+    assert_eq!((made.to_der().unwrap(), made.encoded_len()), (der.clone(), Ok(51)));
+    let with = made.with_attributes(&[2, 1, 0]).to_der().unwrap();
     assert_eq!(PrivateKeyInfo::try_from(&with[..]).unwrap().attributes(), Some(&[2, 1, 0][..]));
-    let with = PrivateKeyInfo::new(&TWO).unwrap().with_attributes(&[]).to_vec().unwrap();
-    assert_eq!((with.len(), PrivateKeyInfo::decode(&with).unwrap().attributes()), (53, Some(&[][..])));
+    let with = PrivateKeyInfo::new(&TWO).unwrap().with_attributes(&[]).to_der().unwrap();
+    assert_eq!((with.len(), PrivateKeyInfo::from_der(&with).unwrap().attributes()), (53, Some(&[][..])));
     assert_eq!(PrivateKeyInfo::new(&TWO[..28]).unwrap_err(), Error::INCOMPLETE);
-    assert_eq!(PrivateKeyInfo::decode(&TWO).unwrap_err(), Error::TAG_UNEXPECTED);
+    assert_eq!(PrivateKeyInfo::from_der(&TWO).unwrap_err(), Error::TAG_UNEXPECTED);
 }
 
 #[test]
@@ -92,64 +135,70 @@ fn identifiers() {
     assert_eq!(ObjectIdentifier::new(&[1; 40]), Err(Error::OID_MALFORMED));
     for octets in [&[][..], &[0x80], &[0x2a, 0x80, 0x01]] {
         let oid = ObjectIdentifier::new(octets).unwrap();
-        assert_eq!(PssParams::new(oid, 20).to_vec(), Err(Error::OID_MALFORMED));
+        assert_eq!(PssParams::new(oid, 20).to_der(), Err(Error::OID_MALFORMED));
     }
     assert_eq!(format!("{:?}", ObjectIdentifier::SHA_256), "ObjectIdentifier(608648016503040201)");
     assert_ne!(Any { tag: 4, value: &[] }, Any::NULL);
-    // what is read is equal to what is made, whatever the length of the identifier
+    assert_eq!(ObjectIdentifier::SHA_1.as_ref(), ObjectIdentifier::SHA_1.as_bytes());
+    // What is read is equal to what is made, whatever the length of the identifier.
     for len in 1..=39 {
         let oid = ObjectIdentifier::new(&[1; 39][..len]).unwrap();
-        let der = PssParams::new(oid, 20).to_vec().unwrap();
-        assert_eq!(PssParams::decode(&der), Ok(PssParams::new(oid, 20)));
+        let der = PssParams::new(oid, 20).to_der().unwrap();
+        assert_eq!(PssParams::from_der(&der), Ok(PssParams::new(oid, 20)));
     }
 }
 
 #[test]
 fn pss_parameters() {
-    let params = PssParams::decode(&[0x30, 0]).unwrap();
+    let params = PssParams::from_der(&[0x30, 0]).unwrap();
     assert_eq!(params, PssParams::default());
     assert_eq!(params.hash, Algorithm { oid: ObjectIdentifier::SHA_1, parameters: Some(Any::NULL) });
     assert_eq!(params.mask_gen, MaskGen { oid: ObjectIdentifier::MGF1, hash: Some(params.hash) });
     assert_eq!((params.salt_len, params.trailer_field), (20, TrailerField::BC));
-    assert_eq!((params.to_vec().unwrap(), params.encoded_len()), (vec![0x30, 0], Ok(2)));
-    assert_eq!(PssParams { salt_len: 32, ..params }.to_vec().unwrap(), [0x30, 5, 0xa2, 3, 2, 1, 32]);
-    assert_eq!(PssParams { salt_len: 255, ..params }.to_vec().unwrap(), [0x30, 6, 0xa2, 4, 2, 2, 0, 255]);
+    assert_eq!((params.to_der().unwrap(), params.encoded_len()), (vec![0x30, 0], Ok(2)));
+    assert_eq!(PssParams { salt_len: 32, ..params }.to_der().unwrap(), [0x30, 5, 0xa2, 3, 2, 1, 32]);
+    assert_eq!(PssParams { salt_len: 255, ..params }.to_der().unwrap(), [0x30, 6, 0xa2, 4, 2, 2, 0, 255]);
     for hash in [ObjectIdentifier::SHA_224, ObjectIdentifier::SHA_256, ObjectIdentifier::SHA_384, ObjectIdentifier::SHA_512] {
-        let der = PssParams::new(hash, 64).to_vec().unwrap();
-        assert_eq!((der.len(), PssParams::decode_strict(&der)), (54, Ok(PssParams::new(hash, 64))));
+        let der = PssParams::new(hash, 64).to_der().unwrap();
+        assert_eq!((der.len(), PssParams::from_der_strict(&der)), (54, Ok(PssParams::new(hash, 64))));
     }
     let without = Algorithm { oid: ObjectIdentifier::SHA_1, parameters: None };
-    let der = PssParams { hash: without, mask_gen: MaskGen { oid: ObjectIdentifier::MGF1, hash: None }, ..params }.to_vec().unwrap();
+    let der = PssParams { hash: without, mask_gen: MaskGen { oid: ObjectIdentifier::MGF1, hash: None }, ..params }.to_der().unwrap();
     let read = PssParams::try_from(&der[..]).unwrap();
     assert_eq!((read.hash, read.mask_gen.hash), (without, None));
     let written = [0x30, 5, 0xa2, 3, 2, 1, 20];
-    assert_eq!((PssParams::decode(&written), PssParams::decode_strict(&written)), (Ok(params), Err(Error::NONCANONICAL)));
+    assert_eq!((PssParams::from_der(&written), PssParams::from_der_strict(&written)), (Ok(params), Err(Error::NONCANONICAL)));
 }
 
 #[test]
 fn oaep_parameters() {
-    let params = OaepParams::decode(&[0x30, 0]).unwrap();
+    let params = OaepParams::from_der(&[0x30, 0]).unwrap();
     assert_eq!(params, OaepParams::default());
     assert_eq!(params.p_source.parameters, Some(Any::octet_string(b"")));
-    assert_eq!((params.to_vec().unwrap(), params.encoded_len()), (vec![0x30, 0], Ok(2)));
+    assert_eq!((params.to_der().unwrap(), params.encoded_len()), (vec![0x30, 0], Ok(2)));
     let labelled = OaepParams::new_with_label(ObjectIdentifier::SHA_256, b"label");
-    let der = labelled.to_vec().unwrap();
-    assert_eq!((OaepParams::decode_strict(&der), OaepParams::try_from(&der[..])), (Ok(labelled), Ok(labelled)));
+    let der = labelled.to_der().unwrap();
+    assert_eq!((OaepParams::from_der_strict(&der), OaepParams::try_from(&der[..])), (Ok(labelled), Ok(labelled)));
     assert_eq!(OaepParams::new(ObjectIdentifier::SHA_256).encoded_len(), Ok(49));
     let written = [0x30, 0x11, 0xa2, 0x0f, 0x30, 0x0d, 6, 9, 0x2a, 0x86, 0x48, 0x86, 0xf7, 0x0d, 1, 1, 9, 4, 0];
-    assert_eq!((OaepParams::decode(&written), OaepParams::decode_strict(&written)), (Ok(params), Err(Error::NONCANONICAL)));
+    assert_eq!((OaepParams::from_der(&written), OaepParams::from_der_strict(&written)), (Ok(params), Err(Error::NONCANONICAL)));
 }
 
 #[test]
 fn what_is_printed() {
     let der = with_others(1);
-    let key = PrivateKey::decode(&der).unwrap();
+    let key = PrivateKey::from_der(&der).unwrap();
     assert_eq!(format!("{key:?}"), "PrivateKey { modulus: [1], public_exponent: [2], .. }");
     assert_eq!(format!("{:?}", key.other_primes), "[OtherPrime { .. }]");
     let info = PrivateKeyInfo::new(&der).unwrap();
     assert_eq!(format!("{info:?}"), "PrivateKeyInfo { private_key: PrivateKey { modulus: [1], public_exponent: [2], .. }, .. }");
-    let error = PublicKey::decode(&[]).unwrap_err();
-    assert_eq!((error.to_string(), format!("{error:?}")), ("the input ends too early".into(), "the input ends too early".into()));
+    let private = PrivateKeyBuf::from_der(der.clone()).unwrap();
+    assert_eq!(format!("{private:?}"), "PrivateKeyBuf { public_key: PublicKey { modulus: [1], public_exponent: [2] }, .. }");
+    let public = PublicKeyBuf::from_der(PUBLIC.to_vec()).unwrap();
+    assert_eq!(format!("{public:?}"), "PublicKeyBuf(PublicKey { modulus: [193, 127], public_exponent: [3] })");
+    let error = PublicKey::from_der(&[]).unwrap_err();
+    let text = "the input ends too early: it is empty or cut off, or a field is missing";
+    assert_eq!((error.to_string(), format!("{error:?}")), (text.into(), text.into()));
     assert_eq!((error.status(), Error::OTHER_PRIMES.status()), (2, 21));
     assert_eq!([Error::FAILED, Error::NO_ROOM, Error::FILE, Error::OUT_OF_MEMORY].map(Error::status), [1, 15, 16, 17]);
     assert_eq!(Error::OUT_OF_MEMORY.to_string(), "no memory was found");
