@@ -7,9 +7,9 @@ usage="usage: ffi/build.sh                  builds libpkcs1 into ffi/out, and ru
        ffi/build.sh --over-ci        the same behind rt ci, over the libraries that it proved
        ffi/build.sh install PREFIX   builds it, and installs it below PREFIX (below DESTDIR too, where that is set)"
 here=$(cd "$(dirname "$0")" && pwd)
-out=$here/out
 crate=$here/../crates/pkcs1_c
-library=$crate/out/libpkcs1_c.a
+out=${UNPROVED:-$here/out} # UNPROVED: a folder with a libpkcs1_c.a that is only to be tested
+library=${UNPROVED:-$crate/out}/libpkcs1_c.a
 export CC=${CC:-gcc} CXX=${CXX:-g++}
 
 action=test
@@ -80,6 +80,7 @@ prove() {
 # The stamp has the hash of what the library was proved from, and that of the library.
 build_library() {
     local made
+    [ -z "${UNPROVED-}" ] || return 0
     made=$(inputs)
     if [ "$action" != over-ci ] && [ -e "$library" ] &&
         [ "$(cat "$out/stamp" 2> /dev/null)" = "$made $(sha256sum < "$library")" ]; then

@@ -4,7 +4,7 @@
 # installed is reported, and its tests are left out.
 set -eu
 here=$(cd "$(dirname "$0")" && pwd)
-out=$here/out
+out=${UNPROVED:-$here/out}
 statuses=$here/rust/tests/statuses
 CC=${CC:-gcc} CXX=${CXX:-g++}
 room=$(mktemp -d)

@@ -10,8 +10,11 @@ room=$(mktemp -d) || exit 1
 trap 'rm -rf "$room"' EXIT
 requests=0
 failed=0
-[ -x out/pkcs1_tool ] || {
-    echo "refuse_memory: out/pkcs1_tool isn't there: rt run builds it" >&2
+built=("$PWD/out/pkcs1_tool" "$PWD/out/pkcs1_tool.by-rattle")
+# shellcheck disable=SC2206
+built=(${PROGRAMS:-"${built[@]}"})
+[ -x "${built[0]}" ] || {
+    echo "refuse_memory: ${built[0]} isn't there: rt run builds it" >&2
     exit 1
 }
 
@@ -94,7 +97,7 @@ words() {
 sed -e '/^#/d' -e '/^$/d' -e 's/ => .*//' rows > "$room/lines"
 sed -e '/^#/d' -e '/^$/d' -e 's/^.* => //' rows > "$room/answers"
 programs=0
-for program in "$PWD/out/pkcs1_tool" "$PWD/out/pkcs1_tool.by-rattle"; do
+for program in "${built[@]}"; do
     if [ -x "$program" ]; then
         programs=$((programs + 1))
         answers stdin stdout

@@ -1,6 +1,7 @@
 #!/usr/bin/env bash
 # Runs the program as the gate built it, by each compiler: the rows, and every exit status that can be had, with its
-# standard error. Called by .ci/run after rt ci. It exits with 1 if any result is another than expected.
+# standard error. Called by .ci/run after rt ci. It exits with 1 if any result is another than expected. PROGRAMS names
+# other programs to run.
 set -u
 cd "$(dirname "$0")" || exit 1
 room=$(mktemp -d) || exit 1
@@ -138,7 +139,8 @@ copies_keys() {
 }
 
 usage="usage: pkcs1_tool [copy pub|priv IN OUT]"
-for program in "$PWD/out/pkcs1_tool" "$PWD/out/pkcs1_tool.by-rattle"; do
+programs=("$PWD/out/pkcs1_tool" "$PWD/out/pkcs1_tool.by-rattle")
+for program in ${PROGRAMS:-"${programs[@]}"}; do
     if [ -x "$program" ]; then
         runs_on_rows
         runs_to_each_status
@@ -147,6 +149,6 @@ for program in "$PWD/out/pkcs1_tool" "$PWD/out/pkcs1_tool.by-rattle"; do
         fails "it isn't there: rt ci builds it"
     fi
 done
-echo "run_built: $(grep -vc -e '^#' -e '^$' rows) rows and 39 runs, by each of two compilers"
+echo "run_built: $(grep -vc -e '^#' -e '^$' rows) rows and 39 runs, of each program"
 echo "$passed passed, $failed failed"
 [ "$failed" = 0 ]
