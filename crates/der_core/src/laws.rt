@@ -2,6 +2,7 @@
 ghost use Rattle.std.specs.Prelude.{◌≡◌, ◌≤◌, ℕ, Result, length, true, false};
 ghost use Rattle.std.specs.Bool.{Decides};
 ghost use Rattle.std.specs.Ordering.{nat_cmp};
+ghost use Rattle.der_core.specs.DocumentValue.{encoding_of};
 ghost use Rattle.der_core.specs.Faults.{OnlyWhole};
 ghost use Rattle.der_core.specs.Input.{Input, left_in};
 ghost use Rattle.der_core.specs.Length.{limit};
@@ -9,6 +10,8 @@ ghost use Rattle.der_core.specs.Reading.{ReadsOrFaults};
 ghost use Rattle.der_core.specs.OctetStringRefValue.{octets_of};
 ghost use Rattle.der_core.specs.Tags.{integer, sequence};
 ghost use Rattle.der_core.specs.UintRefValue.{bytes_of};
+ghost use Rattle.der_core.specs.declared.document.DocumentOf as documents;
+ghost use Rattle.der_core.specs.declared.document.Open as marks;
 ghost use Rattle.der_core.specs.declared.error.Error as errors;
 ghost use Rattle.der_core.specs.declared.error.ErrorKind as kinds;
 ghost use Rattle.der_core.specs.declared.integer.uint.UintRef as numbers;
@@ -16,6 +19,7 @@ ghost use Rattle.der_core.specs.declared.octet_string.OctetStringRef as strings;
 ghost use Rattle.der_core.specs.declared.tag.TagNumber as tags;
 
 use crate::decode::DecodeValue;
+use crate::document::{DocumentOf, Open};
 use crate::error::{Error, ErrorKind};
 use crate::integer::UintRef;
 use crate::length::Length;
@@ -32,6 +36,12 @@ pub fn lemma_lengths_compare_by_number()
 /// Tag numbers are equal exactly if they are the same number.
 pub fn lemma_tag_numbers_compare_by_number()
     ensures { (a b : tags.TagNumber) → Decides (⟦<TagNumber as PartialEq>⟧.eq a b) (a.value ≡ b.value) }
+{}
+
+/// Documents are equal exactly if they hold the same bytes. Secret ones can't be compared.
+pub fn lemma_documents_compare_by_bytes()
+    ensures { (a b : documents.DocumentOf marks.Open)
+        → Decides (⟦<DocumentOf<Open> as PartialEq>⟧.eq a b) (encoding_of a ≡ encoding_of b) }
 {}
 
 /// Each kind of error equals itself. Shown by examples: two kinds differ, and so do two tags in one kind.

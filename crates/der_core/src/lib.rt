@@ -44,7 +44,7 @@ pub use integer::{AsUintRef, Uint, UintRef};
 pub use last_part::{decode_last, decode_whole, encode_optional, optional_len, prepend_optional};
 pub use laws::{
     lemma_clones_hold_the_same, lemma_contents_are_rejected_by_their_fault,
-    lemma_kinds_are_told_apart, lemma_lengths_compare_by_number,
+    lemma_documents_compare_by_bytes, lemma_kinds_are_told_apart, lemma_lengths_compare_by_number,
     lemma_tag_numbers_compare_by_number,
 };
 pub use length::Length;
