@@ -23,6 +23,8 @@ KIT = os.path.dirname(subprocess.run(["rt", "doc"], capture_output=True, text=Tr
 DEMO, DEMO_CRATE = "tools/wrong_bodies/demo", "pkcs8_core"
 # An answer that names what the edit took away: the goal itself was never tried.
 NAMES_WHAT_IS_GONE = re.compile(r"has no |is not in scope|was not admitted|is no name|not checked:|operand is missing|expected the end|cannot continue")
+# How a goal is told whose answer no longer proves it, which weighs less than a goal without an answer.
+BROKEN = ", whose answer no longer proves it"
 UNREADABLE = re.compile(r"(?:\./)?(src/\S+?):(\d+):\d+: error")
 NOTE = re.compile(r"note: (src/\S+?):(\d+):\d+: .*\(`([^`]+)`\)")
 
@@ -186,7 +188,7 @@ def own_goals(said, crate, file, function):
             if NAMES_WHAT_IS_GONE.search(re.sub(r"`[^`]*`", "", at[2])):
                 is_lost = True
             elif at[1]:
-                broken.append(f"{name}: `{at[1]}`, whose answer no longer proves it")
+                broken.append(f"{name}: `{at[1]}`{BROKEN}")
     return broken or ([] if is_lost else opened)
 
 
@@ -248,7 +250,7 @@ def main():
     crates = read_crates()
     paths = {it: edits_in(f"crates/{it}/wrong") + (edits_in(DEMO) if it == DEMO_CRATE else []) for it in given.names or crates}
     tried = sorted((Crate(it, crates, paths[it]) for it in paths if paths[it]), key=lambda it: -len(it.paths))
-    refused = failed = 0
+    refused = broken = failed = 0
     with concurrent.futures.ThreadPoolExecutor(lanes(given.jobs)) as pool:
         running = {pool.submit(it.try_all): it for it in tried}
         for done in concurrent.futures.as_completed(running):
@@ -258,14 +260,16 @@ def main():
                 told = "FAILED: " if not is_right else "" if goal else "no credit, as it must be: "
                 print(f"{path}: {told}{f'refused at {goal}' if goal else why}")
                 refused, failed = refused + (is_right and bool(goal)), failed + (not is_right)
+                broken += is_right and bool(goal) and goal.endswith(BROKEN)
             print(f"({crate.name}: {len(verdicts)} edits, {crate.checks} checks, {crate.seconds:.0f} s of processor time)", flush=True)
+    print(f"{broken} of the refused edits were judged by an answer that no longer proves its goal")
     print(f"{refused} refused, {failed} failed")
     return 1 if failed else 0
 
 
 def must_be_refused(path):
-    """Of the demo only the edits that are called wrong."""
-    return not path.startswith(DEMO) or os.path.basename(path).startswith("wrong_")
+    """Of the demo only the edits that are called wrong, and harmless ones that are known to get credit."""
+    return not path.startswith(DEMO) or os.path.basename(path).startswith(("wrong_", "credited_"))
 
 
 if __name__ == "__main__":
