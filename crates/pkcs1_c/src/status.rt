@@ -99,16 +99,21 @@ fn status_octets(status: u32) -> &'static [u8]
         2 => b"the input ends too early: it is empty or cut off, or a field is missing\0",
         3 => b"the length is indefinite: this is BER, not DER\0",
         4 => b"the contents have a wrong length: a number has no octets\0",
-        5 => b"the contents are not in shortest form: needless zeros in front, or (strict) a default written out\0",
-        6 => b"the object identifier is malformed: empty, cut off, not in shortest form, or over 39 octets\0",
-        7 => b"the object identifier is another one: PKCS #8 with a key that is not RSA, or is an RSA-PSS key\0",
+        5 =>
+            b"the contents are not in shortest form: needless zeros in front, or (strict) a default written out\0",
+        6 =>
+            b"the object identifier is malformed: empty, cut off, not in shortest form, or over 39 octets\0",
+        7 =>
+            b"the object identifier is another one: PKCS #8 with a key that is not RSA, or is an RSA-PSS key\0",
         8 => b"a length passes the limit of 4294967295 octets\0",
         9 => b"the length is not in shortest form: this is not DER\0",
         10 => b"the algorithm parameters are missing: rsaEncryption needs NULL\0",
-        11 => b"another tag was expected: PEM, PKCS #8, SubjectPublicKeyInfo or an encrypted key, perhaps\0",
+        11 =>
+            b"another tag was expected: PEM, PKCS #8, SubjectPublicKeyInfo or an encrypted key, perhaps\0",
         12 => b"the tag octet is not known: this is not DER of a key or of parameters\0",
         13 => b"bytes follow the value, or a field that the type does not have there\0",
-        14 => b"the value is not allowed: negative, a salt length over 255, another version, trailer field or NULL\0",
+        14 =>
+            b"the value is not allowed: negative, a salt length over 255, another version, trailer field or NULL\0",
         15 => b"there is too little room for the encoding\0",
         16 => b"a read or a write failed\0",
         17 => b"no memory was found\0",

@@ -7,7 +7,7 @@ mod info;
 mod rsa;
 
 pub use faults::fault_of_private_key_info;
-pub use rsa::rsa_from_pkcs8_der;
 pub use info::{
     PrivateKeyInfoRef, lemma_container_clones_mean_the_same, lemma_containers_have_one_encoding,
 };
+pub use rsa::rsa_from_pkcs8_der;
