@@ -1,7 +1,8 @@
 #!/usr/bin/env bash
-# openssl.sh PROGRAM..: each program (read_key KIND FILE OUT) decodes what OpenSSL makes, and encodes it again as the
-# same bytes; all programs print the same numbers. Called by test.sh.
-set -eu
+# openssl.sh FOLDER..: the examples in each folder read what OpenSSL makes. read_key KIND FILE OUT decodes it, and encodes
+# it again as the same bytes; those of all folders print the same numbers. The others do one thing each, which OpenSSL
+# does too. Called by test.sh.
+set -eu -o pipefail
 command -v openssl > /dev/null || {
     echo "ffi/openssl.sh: openssl isn't installed: nothing was compared with it" >&2
     exit 0
@@ -10,18 +11,32 @@ room=$(mktemp -d)
 trap 'rm -rf "$room"' EXIT
 count=0
 
-# again KIND FILE PROGRAM..: runs each program on the file, and compares.
+# again KIND FILE: runs each read_key on the file, and compares.
+folders=("$@")
 again() {
-    local kind=$1 file=$2 program
-    shift 2
-    for program in "$@"; do
-        "$program" "$kind" "$file" "$room/again" > "$room/numbers"
+    local kind=$1 file=$2 folder
+    for folder in "${folders[@]}"; do
+        "$folder/read_key" "$kind" "$file" "$room/again" > "$room/numbers"
         cmp "$file" "$room/again"
         [ ! -e "$room/first" ] || cmp "$room/first" "$room/numbers"
         mv "$room/numbers" "$room/first"
         count=$((count + 1))
     done
     rm "$room/first"
+}
+# does NAME IN WANT [TEXT]: each example of this name makes the file WANT of the file IN, and prints TEXT; it says that it
+# can't read WANT.
+does() {
+    local folder
+    for folder in "${folders[@]}"; do
+        "$folder/$1" "$2" "$room/made" | cmp - <(printf '%s' "${4+$4
+}")
+        cmp "$room/made" "$3"
+        if "$folder/$1" "$3" "$room/made" > "$room/text" 2>&1 || ! grep -q "$3: " "$room/text"; then
+            echo "ffi/openssl.sh: $folder/$1 reads $3" >&2
+            exit 1
+        fi
+    done
 }
 
 # of_params NAME: writes the parameters after id-RSASSA-PSS in the file NAME to params.der.
@@ -35,21 +50,38 @@ for key in 2:2048 3:2048 4:4096; do
     openssl genrsa -traditional -primes "${key%:*}" "${key#*:}" 2> /dev/null > "$room/key.pem"
     openssl rsa -in "$room/key.pem" -traditional -outform DER -out "$room/key.der" 2> /dev/null
     openssl rsa -in "$room/key.pem" -RSAPublicKey_out -outform DER -out "$room/pub.der" 2> /dev/null
-    again priv "$room/key.der" "$@"
-    again pub "$room/pub.der" "$@"
+    again priv "$room/key.der"
+    again pub "$room/pub.der"
     openssl pkcs8 -topk8 -nocrypt -in "$room/key.pem" -outform DER -out "$room/p8.der"
-    again p8 "$room/p8.der" "$@"
+    again p8 "$room/p8.der"
+    does public_half "$room/key.der" "$room/pub.der"
+    does open_container "$room/p8.der" "$room/key.der" \
+        "modulus of $((${key#*:} / 8)) octets, ${key%:*} primes, without attributes"
     openssl rsa -in "$room/key.pem" -noout -modulus | sed 's/Modulus=//' | tr A-F a-f > "$room/modulus"
-    "$1" pub "$room/pub.der" | sed -n 's/^n=//p' | cmp - "$room/modulus"
+    "$1/read_key" pub "$room/pub.der" | sed -n 's/^n=//p' | cmp - "$room/modulus"
 done
+# says FILE TEXT: each signature_algorithm prints the text of the certificate's signatureAlgorithm.
+says() {
+    local at folder
+    at=$(openssl asn1parse -inform DER -in "$1" | sed -n 's/^ *\([0-9]*\):d=1 .*: SEQUENCE.*/\1/p' | tail -1)
+    openssl asn1parse -inform DER -in "$1" -strparse "$at" -noout -out "$room/algorithm.der"
+    for folder in "${folders[@]}"; do
+        "$folder/signature_algorithm" "$room/algorithm.der" | cmp - <(echo "$2")
+        if "$folder/signature_algorithm" "$1" > "$room/text" 2>&1 || ! grep -q "$1: " "$room/text"; then
+            echo "ffi/openssl.sh: $folder/signature_algorithm reads a whole certificate" >&2
+            exit 1
+        fi
+    done
+}
 for salt in 20 32 -1; do
     openssl req -new -x509 -key "$room/key.pem" -subj /CN=a -sha256 -sigopt rsa_padding_mode:pss \
         -sigopt rsa_pss_saltlen:$salt -outform DER -out "$room/certificate.der"
     of_params "$room/certificate.der"
-    again pss "$room/params.der" "$@"
+    again pss "$room/params.der"
+    says "$room/certificate.der" "SHA-256, a salt of ${salt/-1/32} octets"
 done
 openssl req -new -key "$room/key.pem" -subj /CN=a -sha1 -sigopt rsa_padding_mode:pss -sigopt rsa_pss_saltlen:20 \
     -outform DER -out "$room/request.der"
 of_params "$room/request.der"
-again pss "$room/params.der" "$@"
+again pss "$room/params.der"
 echo "ffi: $count encodings that OpenSSL made are read, and written again"

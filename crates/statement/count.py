@@ -1,12 +1,12 @@
 #!/usr/bin/env python3
-"""What a reader of the statement needs: the definitions that the clauses of src/lib.rt cite, and those that these cite
-in turn, down to the kit. Prints how many definitions, lines of code and modules there are; definitions in another crate
-of the repository are named."""
+"""What a reader of the statement needs: the definitions that the clauses of src/ cite, and those that these cite in turn,
+down to the kit. Prints how many definitions, lines of code and modules there are, without and with the kinds of errors
+(functions named .._or_fault); definitions in another crate of the repository are named."""
 import pathlib
 import re
 
 CRATES = pathlib.Path(__file__).resolve().parent.parent
-LIB = CRATES / "statement/src/lib.rt"
+SOURCES = CRATES / "statement/src"
 HEAD = re.compile(r"^(?:abbrev |unfoldable |pub )*(?:record |data )?(?:pub )?([^\s:({]+) ?[^=]*:")
 
 
@@ -42,24 +42,39 @@ def cited(text, names):
     return [(names[word], word) for word in re.findall(r"[\w'-]+", text) if word in names]
 
 
-lib = LIB.read_text()
-clauses = " ".join(re.findall(r"ensures[^{]*\{(.*)\}", lib))
-todo, seen, lines = cited(clauses, imports(lib, "ghost use")), set(), 0
-while todo:
-    module, name = todo.pop()
-    if (module, name) in seen or module.startswith("Rattle.std") or ".declared." in module:
-        continue
-    text = module_file(module).read_text()
-    body = definitions(text)
-    if name not in body:
-        continue
-    seen.add((module, name))
-    lines += len(body[name])
-    names = imports(text, "use")
-    names.update((other, module) for other in body)
-    todo += cited("\n".join(body[name]), names)
-modules = {module for module, _ in seen}
-for module, name in sorted(seen):
-    if not module.startswith("Rattle.statement."):
-        print(f"elsewhere: {name} of {module}")
-print(f"{len(seen)} definitions, {lines} lines, {len(modules)} modules")
+def needed(wanted):
+    """What the contracts of the wanted functions need: their definitions and their number of lines."""
+    todo, seen, lines = [], set(), 0
+    for source in SOURCES.glob("*.rt"):
+        text = source.read_text()
+        names = imports(text, "ghost use")
+        for name, clauses in re.findall(r"^pub fn (\w+)(.*?)^\{", text, re.S | re.M):
+            if wanted(name):
+                todo += cited(clauses, names)
+    while todo:
+        module, name = todo.pop()
+        if (module, name) in seen or module.startswith("Rattle.std") or ".declared." in module:
+            continue
+        text = module_file(module).read_text()
+        body = definitions(text)
+        if name not in body:
+            continue
+        seen.add((module, name))
+        lines += len(body[name])
+        names = imports(text, "use")
+        names.update((other, module) for other in body)
+        todo += cited("\n".join(body[name]), names)
+    return seen, lines
+
+
+def report(what, wanted):
+    seen, lines = needed(wanted)
+    modules = {module for module, _ in seen}
+    print(f"{what}: {len(seen)} definitions, {lines} lines, {len(modules)} modules")
+    for module, name in sorted(seen):
+        if not module.startswith("Rattle.statement."):
+            print(f"  elsewhere: {name} of {module}")
+
+
+report("reading and writing", lambda name: not name.endswith("_or_fault"))
+report("with the kinds of errors", lambda name: True)

@@ -12,7 +12,7 @@ int main(int argc, char **argv) {
         return fprintf(stderr, "%s\n", dlerror()), 1;
     *(void **)&decode = dlsym(library, "pkcs1_public_key_decode");
     *(void **)&text = dlsym(library, "pkcs1_strerror");
-    struct pkcs1_oid *sha256 = dlsym(library, "pkcs1_oid_sha256");
+    struct pkcs1_bytes *sha256 = dlsym(library, "pkcs1_oid_sha256");
     struct pkcs1_public_key key;
     if (decode == NULL || text == NULL || sha256 == NULL || sha256->len != 9)
         return fputs("a symbol is missing\n", stderr), 1;

@@ -56,12 +56,14 @@ static void flag(const bool *given) {
 
 static void algorithm(const struct pkcs1_algorithm *a) {
     flag(&a->has_parameters);
+    bytes(a->oid);
     bytes(a->parameters);
     VALID(a->has_parameters || (a->tag == 0 && a->parameters.len == 0));
 }
 
 static void mask_gen(const struct pkcs1_mask_gen *m) {
     flag(&m->has_hash);
+    bytes(m->oid);
     algorithm(&m->hash);
     VALID(m->has_hash || (m->hash.oid.len == 0 && !m->hash.has_parameters));
 }
@@ -138,6 +140,34 @@ EACH(pkcs1_c_oaep_params_decode_strict,
 EACH(pkcs1_c_oaep_params_encode,
      (const struct pkcs1_oaep_params *params, uint8_t *out, size_t room, size_t *len),
      (params, out, room, len), oaep(params))
+EACH(pkcs1_c_pss_algorithm_decode,
+     (const uint8_t *der, size_t der_len, struct pkcs1_pss_params *params),
+     (der, der_len, params), pss(params))
+EACH(pkcs1_c_pss_algorithm_decode_strict,
+     (const uint8_t *der, size_t der_len, struct pkcs1_pss_params *params),
+     (der, der_len, params), pss(params))
+EACH(pkcs1_c_pss_algorithm_encode,
+     (const struct pkcs1_pss_params *params, uint8_t *out, size_t room, size_t *len),
+     (params, out, room, len), pss(params))
+EACH(pkcs1_c_oaep_algorithm_decode,
+     (const uint8_t *der, size_t der_len, struct pkcs1_oaep_params *params),
+     (der, der_len, params), oaep(params))
+EACH(pkcs1_c_oaep_algorithm_decode_strict,
+     (const uint8_t *der, size_t der_len, struct pkcs1_oaep_params *params),
+     (der, der_len, params), oaep(params))
+EACH(pkcs1_c_oaep_algorithm_encode,
+     (const struct pkcs1_oaep_params *params, uint8_t *out, size_t room, size_t *len),
+     (params, out, room, len), oaep(params))
+
+/* This one returns no status. */
+bool __real_pkcs1_c_algorithm_is(const struct pkcs1_algorithm *given, const uint8_t *oid, size_t oid_len);
+bool __wrap_pkcs1_c_algorithm_is(const struct pkcs1_algorithm *given, const uint8_t *oid, size_t oid_len);
+bool __wrap_pkcs1_c_algorithm_is(const struct pkcs1_algorithm *given, const uint8_t *oid, size_t oid_len) {
+    struct pkcs1_bytes octets = {oid, oid_len};
+    algorithm(given);
+    bytes(octets);
+    return __real_pkcs1_c_algorithm_is(given, oid, oid_len);
+}
 
 /* The one call that may allocate. */
 uint32_t __real_pkcs1_private_key_encode(const struct pkcs1_private_key *key, const struct pkcs1_other_prime *others,

@@ -6,8 +6,8 @@
 #include <string.h>
 
 #define NO PKCS1_NO_BYTES
-#define NO_ALGORITHM { { {0}, 0 }, false, 0, NO }
-#define NO_MASK_GEN { { {0}, 0 }, false, NO_ALGORITHM }
+#define NO_ALGORITHM { NO, false, 0, NO }
+#define NO_MASK_GEN { NO, false, NO_ALGORITHM }
 
 /* Up to this many other primes are held in a local array, not in one from calloc; OpenSSL makes no more. */
 enum { FEW = 3 };
@@ -123,24 +123,26 @@ uint32_t pkcs1_private_key_info_encode(const struct pkcs1_private_key_info *info
 
 /* Algorithms. */
 
-const struct pkcs1_oid pkcs1_oid_sha1 = {{0x2b, 0x0e, 0x03, 0x02, 0x1a}, 5};
-const struct pkcs1_oid pkcs1_oid_sha224 = {{0x60, 0x86, 0x48, 0x01, 0x65, 0x03, 0x04, 0x02, 0x04}, 9};
-const struct pkcs1_oid pkcs1_oid_sha256 = {{0x60, 0x86, 0x48, 0x01, 0x65, 0x03, 0x04, 0x02, 0x01}, 9};
-const struct pkcs1_oid pkcs1_oid_sha384 = {{0x60, 0x86, 0x48, 0x01, 0x65, 0x03, 0x04, 0x02, 0x02}, 9};
-const struct pkcs1_oid pkcs1_oid_sha512 = {{0x60, 0x86, 0x48, 0x01, 0x65, 0x03, 0x04, 0x02, 0x03}, 9};
-const struct pkcs1_oid pkcs1_oid_mgf1 = {{0x2a, 0x86, 0x48, 0x86, 0xf7, 0x0d, 0x01, 0x01, 0x08}, 9};
-const struct pkcs1_oid pkcs1_oid_p_specified = {{0x2a, 0x86, 0x48, 0x86, 0xf7, 0x0d, 0x01, 0x01, 0x09}, 9};
-const struct pkcs1_oid pkcs1_oid_rsa_encryption = {{0x2a, 0x86, 0x48, 0x86, 0xf7, 0x0d, 0x01, 0x01, 0x01}, 9};
+#define OID(octets) { (const uint8_t *)octets, sizeof octets - 1 }
+const struct pkcs1_bytes pkcs1_oid_sha1 = OID("\x2b\x0e\x03\x02\x1a");
+const struct pkcs1_bytes pkcs1_oid_sha224 = OID("\x60\x86\x48\x01\x65\x03\x04\x02\x04");
+const struct pkcs1_bytes pkcs1_oid_sha256 = OID("\x60\x86\x48\x01\x65\x03\x04\x02\x01");
+const struct pkcs1_bytes pkcs1_oid_sha384 = OID("\x60\x86\x48\x01\x65\x03\x04\x02\x02");
+const struct pkcs1_bytes pkcs1_oid_sha512 = OID("\x60\x86\x48\x01\x65\x03\x04\x02\x03");
+const struct pkcs1_bytes pkcs1_oid_mgf1 = OID("\x2a\x86\x48\x86\xf7\x0d\x01\x01\x08");
+const struct pkcs1_bytes pkcs1_oid_p_specified = OID("\x2a\x86\x48\x86\xf7\x0d\x01\x01\x09");
+const struct pkcs1_bytes pkcs1_oid_rsa_encryption = OID("\x2a\x86\x48\x86\xf7\x0d\x01\x01\x01");
+const struct pkcs1_bytes pkcs1_oid_rsassa_pss = OID("\x2a\x86\x48\x86\xf7\x0d\x01\x01\x0a");
+const struct pkcs1_bytes pkcs1_oid_rsaes_oaep = OID("\x2a\x86\x48\x86\xf7\x0d\x01\x01\x07");
 
-bool pkcs1_oid_equal(const struct pkcs1_oid *left, const struct pkcs1_oid *right) {
-    return left->len == right->len && left->len <= sizeof left->octets &&
-           memcmp(left->octets, right->octets, left->len) == 0;
+bool pkcs1_oid_equal(const struct pkcs1_bytes *left, const struct pkcs1_bytes *right) {
+    return left->len == right->len && (left->len == 0 || memcmp(left->data, right->data, left->len) == 0);
 }
 
 /* A copy of the algorithm in which the fields after a false `has_parameters` are empty, and nothing is null. */
 static struct pkcs1_algorithm algorithm(const struct pkcs1_algorithm *given) {
     struct pkcs1_algorithm made = no_algorithm;
-    made.oid = given->oid;
+    made.oid = never_null(given->oid);
     if (given->has_parameters) {
         made.has_parameters = true;
         made.tag = given->tag;
@@ -149,14 +151,20 @@ static struct pkcs1_algorithm algorithm(const struct pkcs1_algorithm *given) {
     return made;
 }
 
+bool pkcs1_algorithm_is(const struct pkcs1_algorithm *given, const struct pkcs1_bytes *oid) {
+    struct pkcs1_algorithm made = algorithm(given);
+    struct pkcs1_bytes octets = never_null(*oid);
+    return pkcs1_c_algorithm_is(&made, octets.data, octets.len);
+}
+
 static struct pkcs1_mask_gen mask_gen(const struct pkcs1_mask_gen *given) {
-    struct pkcs1_mask_gen made = {given->oid, given->has_hash, no_algorithm};
+    struct pkcs1_mask_gen made = {never_null(given->oid), given->has_hash, no_algorithm};
     if (given->has_hash)
         made.hash = algorithm(&given->hash);
     return made;
 }
 
-static struct pkcs1_algorithm with_null(const struct pkcs1_oid *oid) {
+static struct pkcs1_algorithm with_null(const struct pkcs1_bytes *oid) {
     struct pkcs1_algorithm made = no_algorithm;
     made.oid = *oid;
     made.has_parameters = true;
@@ -164,7 +172,7 @@ static struct pkcs1_algorithm with_null(const struct pkcs1_oid *oid) {
     return made;
 }
 
-static struct pkcs1_mask_gen mgf1(const struct pkcs1_oid *hash) {
+static struct pkcs1_mask_gen mgf1(const struct pkcs1_bytes *hash) {
     struct pkcs1_mask_gen made = {pkcs1_oid_mgf1, true, with_null(hash)};
     return made;
 }
@@ -172,7 +180,7 @@ static struct pkcs1_mask_gen mgf1(const struct pkcs1_oid *hash) {
 /* Parameters. */
 
 typedef uint32_t decode_pss(const uint8_t *, size_t, struct pkcs1_pss_params *);
-typedef uint32_t decode_oaep(const uint8_t *, size_t, struct pkcs1_oaep_params *);
+typedef uint32_t encode_pss(const struct pkcs1_pss_params *, uint8_t *, size_t, size_t *);
 
 static uint32_t read_pss(decode_pss *decode, const uint8_t *der, size_t der_len, struct pkcs1_pss_params *params) {
     struct pkcs1_pss_params read = {NO_ALGORITHM, NO_MASK_GEN, 0, 0};
@@ -180,6 +188,13 @@ static uint32_t read_pss(decode_pss *decode, const uint8_t *der, size_t der_len,
     if (status == PKCS1_OK)
         *params = read;
     return status;
+}
+
+static uint32_t write_pss(encode_pss *encode, const struct pkcs1_pss_params *params, uint8_t *out, size_t room,
+                          size_t *len) {
+    struct pkcs1_pss_params given = {algorithm(&params->hash), mask_gen(&params->mask_gen), params->salt_len,
+                                     params->trailer_field};
+    return encode(&given, out, room, len);
 }
 
 uint32_t pkcs1_pss_params_decode(const uint8_t *der, size_t der_len, struct pkcs1_pss_params *params) {
@@ -190,16 +205,29 @@ uint32_t pkcs1_pss_params_decode_strict(const uint8_t *der, size_t der_len, stru
     return read_pss(pkcs1_c_pss_params_decode_strict, der, der_len, params);
 }
 
-uint32_t pkcs1_pss_params_encode(const struct pkcs1_pss_params *params, uint8_t *out, size_t room, size_t *len) {
-    struct pkcs1_pss_params given = {algorithm(&params->hash), mask_gen(&params->mask_gen), params->salt_len,
-                                     params->trailer_field};
-    return pkcs1_c_pss_params_encode(&given, out, room, len);
+uint32_t pkcs1_pss_algorithm_decode(const uint8_t *der, size_t der_len, struct pkcs1_pss_params *params) {
+    return read_pss(pkcs1_c_pss_algorithm_decode, der, der_len, params);
 }
 
-void pkcs1_pss_params_init(struct pkcs1_pss_params *params, const struct pkcs1_oid *hash, uint8_t salt_len) {
+uint32_t pkcs1_pss_algorithm_decode_strict(const uint8_t *der, size_t der_len, struct pkcs1_pss_params *params) {
+    return read_pss(pkcs1_c_pss_algorithm_decode_strict, der, der_len, params);
+}
+
+uint32_t pkcs1_pss_params_encode(const struct pkcs1_pss_params *params, uint8_t *out, size_t room, size_t *len) {
+    return write_pss(pkcs1_c_pss_params_encode, params, out, room, len);
+}
+
+uint32_t pkcs1_pss_algorithm_encode(const struct pkcs1_pss_params *params, uint8_t *out, size_t room, size_t *len) {
+    return write_pss(pkcs1_c_pss_algorithm_encode, params, out, room, len);
+}
+
+void pkcs1_pss_params_init(struct pkcs1_pss_params *params, const struct pkcs1_bytes *hash, uint8_t salt_len) {
     struct pkcs1_pss_params made = {with_null(hash), mgf1(hash), salt_len, 1};
     *params = made;
 }
+
+typedef uint32_t decode_oaep(const uint8_t *, size_t, struct pkcs1_oaep_params *);
+typedef uint32_t encode_oaep(const struct pkcs1_oaep_params *, uint8_t *, size_t, size_t *);
 
 static uint32_t read_oaep(decode_oaep *decode, const uint8_t *der, size_t der_len, struct pkcs1_oaep_params *params) {
     struct pkcs1_oaep_params read = {NO_ALGORITHM, NO_MASK_GEN, NO_ALGORITHM};
@@ -207,6 +235,13 @@ static uint32_t read_oaep(decode_oaep *decode, const uint8_t *der, size_t der_le
     if (status == PKCS1_OK)
         *params = read;
     return status;
+}
+
+static uint32_t write_oaep(encode_oaep *encode, const struct pkcs1_oaep_params *params, uint8_t *out, size_t room,
+                           size_t *len) {
+    struct pkcs1_oaep_params given = {algorithm(&params->hash), mask_gen(&params->mask_gen),
+                                      algorithm(&params->p_source)};
+    return encode(&given, out, room, len);
 }
 
 uint32_t pkcs1_oaep_params_decode(const uint8_t *der, size_t der_len, struct pkcs1_oaep_params *params) {
@@ -217,13 +252,23 @@ uint32_t pkcs1_oaep_params_decode_strict(const uint8_t *der, size_t der_len, str
     return read_oaep(pkcs1_c_oaep_params_decode_strict, der, der_len, params);
 }
 
-uint32_t pkcs1_oaep_params_encode(const struct pkcs1_oaep_params *params, uint8_t *out, size_t room, size_t *len) {
-    struct pkcs1_oaep_params given = {algorithm(&params->hash), mask_gen(&params->mask_gen),
-                                      algorithm(&params->p_source)};
-    return pkcs1_c_oaep_params_encode(&given, out, room, len);
+uint32_t pkcs1_oaep_algorithm_decode(const uint8_t *der, size_t der_len, struct pkcs1_oaep_params *params) {
+    return read_oaep(pkcs1_c_oaep_algorithm_decode, der, der_len, params);
 }
 
-void pkcs1_oaep_params_init(struct pkcs1_oaep_params *params, const struct pkcs1_oid *hash, const uint8_t *label,
+uint32_t pkcs1_oaep_algorithm_decode_strict(const uint8_t *der, size_t der_len, struct pkcs1_oaep_params *params) {
+    return read_oaep(pkcs1_c_oaep_algorithm_decode_strict, der, der_len, params);
+}
+
+uint32_t pkcs1_oaep_params_encode(const struct pkcs1_oaep_params *params, uint8_t *out, size_t room, size_t *len) {
+    return write_oaep(pkcs1_c_oaep_params_encode, params, out, room, len);
+}
+
+uint32_t pkcs1_oaep_algorithm_encode(const struct pkcs1_oaep_params *params, uint8_t *out, size_t room, size_t *len) {
+    return write_oaep(pkcs1_c_oaep_algorithm_encode, params, out, room, len);
+}
+
+void pkcs1_oaep_params_init(struct pkcs1_oaep_params *params, const struct pkcs1_bytes *hash, const uint8_t *label,
                             size_t label_len) {
     struct pkcs1_bytes given = {label, label_len};
     struct pkcs1_oaep_params made = {with_null(hash), mgf1(hash), {pkcs1_oid_p_specified, true, 0x04, no_bytes}};

@@ -31,8 +31,7 @@ static void put(const char *name, struct pkcs1_bytes number) {
 }
 
 static void put_algorithm(const char *name, const struct pkcs1_algorithm *algorithm) {
-    struct pkcs1_bytes oid = {algorithm->oid.octets, algorithm->oid.len};
-    put(name, oid);
+    put(name, algorithm->oid);
     if (algorithm->has_parameters)
         put(" parameters", algorithm->parameters);
 }

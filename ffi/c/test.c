@@ -145,11 +145,33 @@ static void other_primes(void) {
     }
 }
 
+/* Each number of other primes up to 130, written and read again. */
+static void many_other_primes(void) {
+    uint8_t octets[130], out[2500];
+    struct pkcs1_other_prime others[130], read[130];
+    for (size_t count = 1; count <= 130; count++) {
+        struct pkcs1_private_key key, again;
+        size_t len = 0;
+        octets[count - 1] = (uint8_t)count;
+        others[count - 1].prime = (struct pkcs1_bytes){&octets[count - 1], 1};
+        others[count - 1].exponent = (struct pkcs1_bytes){octets, 1};
+        others[count - 1].coefficient = others[count - 1].prime;
+        CHECK(pkcs1_private_key_decode(two, sizeof two, &key, NULL, 0) == PKCS1_OK);
+        key.other_primes = count;
+        CHECK(pkcs1_private_key_encode(&key, others, count, out, sizeof out, &len) == PKCS1_OK);
+        CHECK(pkcs1_private_key_decode(out, len, &again, read, count) == PKCS1_OK && again.other_primes == count);
+        for (size_t i = 0; i < count; i++) {
+            CHECK(read[i].prime.len == 1 && read[i].prime.data[0] == i + 1 && same(read[i].exponent, "\1", 1));
+            CHECK(read[i].coefficient.len == 1 && read[i].coefficient.data[0] == i + 1);
+        }
+    }
+}
+
 static void containers(void) {
     static const uint8_t der[] = {0x30, 0x31, 2, 1, 0, 0x30, 13, 6, 9, 0x2a, 0x86, 0x48, 0x86, 0xf7, 0x0d, 1, 1, 1, 5, 0, 4, 29,
                                   0x30, 27, 2, 1, 0, 2, 1, 1, 2, 1, 2, 2, 1, 3, 2, 1, 4, 2, 1, 5, 2, 1, 6, 2, 1, 7, 2, 1, 8};
     uint8_t out[64];
-    struct pkcs1_private_key_info info, old;
+    struct pkcs1_private_key_info info, old, again;
     struct pkcs1_private_key key;
     size_t len = 0;
     CHECK(pkcs1_private_key_info_decode(der, sizeof der, &info, &key, NULL, 0) == PKCS1_OK);
@@ -163,17 +185,20 @@ static void containers(void) {
     CHECK(pkcs1_private_key_info_encode(&info, out, sizeof out, &len) == PKCS1_OK && len == sizeof der + 2);
     CHECK(pkcs1_private_key_info_decode(out, len, &info, &key, NULL, 0) == PKCS1_OK);
     CHECK(info.has_attributes && same(info.attributes, "", 0));
-    old = info;
-    CHECK(pkcs1_private_key_info_decode(out, len - 1, &info, &key, NULL, 0) == PKCS1_INCOMPLETE && memcmp(&info, &old, sizeof info) == 0);
+    memset(&old, 0xa5, sizeof old);
+    memset(&again, 0xa5, sizeof again);
+    CHECK(pkcs1_private_key_info_decode(out, len - 1, &again, &key, NULL, 0) == PKCS1_INCOMPLETE && memcmp(&again, &old, sizeof old) == 0);
     info.private_key.len--;
     CHECK(pkcs1_private_key_info_encode(&info, out, sizeof out, &len) == PKCS1_INCOMPLETE && len == sizeof der + 2);
 }
 
 static void pss(void) {
     static const uint8_t none[] = {0x30, 0};
+    static const uint8_t ones[40] = {1, 1, 1, 1, 1, 1, 1, 1, 1, 1, 1, 1, 1, 1, 1, 1, 1, 1, 1, 1, 1, 1, 1, 1, 1, 1, 1, 1, 1, 1,
+                                     1, 1, 1, 1, 1, 1, 1, 1, 1, 1};
     static const uint8_t no_hash[] = {0x30, 0x0f, 0xa1, 0x0d, 0x30, 0x0b, 6, 9, 0x2a, 0x86, 0x48, 0x86, 0xf7, 0x0d, 1, 1, 8};
     struct pkcs1_pss_params params, zeros = {0};
-    uint8_t out[64];
+    uint8_t out[96];
     size_t len = 77;
     CHECK(pkcs1_pss_params_decode(none, sizeof none, &params) == PKCS1_OK);
     CHECK(pkcs1_oid_equal(&params.hash.oid, &pkcs1_oid_sha1) && params.hash.has_parameters && params.hash.tag == 5);
@@ -184,12 +209,16 @@ static void pss(void) {
     params.trailer_field = 0;
     CHECK(pkcs1_pss_params_encode(&params, out, sizeof out, &len) == PKCS1_VALUE && len == 77);
     params.trailer_field = 1;
+    params.hash.oid.data = ones;
     params.hash.oid.len = 40;
     CHECK(pkcs1_pss_params_encode(&params, out, sizeof out, &len) == PKCS1_OID_MALFORMED && len == 77);
-    CHECK(!pkcs1_oid_equal(&params.hash.oid, &params.hash.oid));
-    params.hash.oid = pkcs1_oid_sha1;
-    params.hash.oid.len = 4;
-    CHECK(!pkcs1_oid_equal(&params.hash.oid, &pkcs1_oid_sha1) && !pkcs1_oid_equal(&pkcs1_oid_sha1, &params.hash.oid));
+    params.hash.oid.len = 39;
+    CHECK(pkcs1_pss_params_encode(&params, out, 52, &len) == PKCS1_OK && len == 49 && memcmp(out + 8, ones, 39) == 0);
+    CHECK(pkcs1_pss_params_decode_strict(out, len, &params) == PKCS1_OK && params.hash.oid.data == out + 8);
+    params.hash.oid.data = no_hash + 5; /* 0b 06 .. 86: cut off */
+    params.hash.oid.len = 5;
+    CHECK(pkcs1_pss_params_encode(&params, out, sizeof out, &len) == PKCS1_OID_MALFORMED && len == 49);
+    len = 77;
     params.hash.oid = pkcs1_oid_sha1;
     params.trailer_field = 2;
     CHECK(pkcs1_pss_params_encode(&params, out, sizeof out, &len) == PKCS1_VALUE && len == 77);
@@ -242,7 +271,7 @@ static void absent_fields(void) {
 
 /* Parameters for each hash function: the constants are the right octets. */
 static void made_for_a_hash(void) {
-    static const struct { const struct pkcs1_oid *oid; uint8_t last; } hashes[] = {
+    static const struct { const struct pkcs1_bytes *oid; uint8_t last; } hashes[] = {
         {&pkcs1_oid_sha224, 4}, {&pkcs1_oid_sha256, 1}, {&pkcs1_oid_sha384, 2}, {&pkcs1_oid_sha512, 3}};
     uint8_t want[] = {0x30, 0x34, 0xa0, 0x0f, 0x30, 0x0d, 6, 9, 0x60, 0x86, 0x48, 1, 0x65, 3, 4, 2, 0, 5, 0,
                       0xa1, 0x1c, 0x30, 0x1a, 6, 9, 0x2a, 0x86, 0x48, 0x86, 0xf7, 0x0d, 1, 1, 8,
@@ -265,7 +294,46 @@ static void made_for_a_hash(void) {
         CHECK(same(oaep.p_source.parameters, "label", 5) && pkcs1_oid_equal(&oaep.p_source.oid, &pkcs1_oid_p_specified));
         CHECK(pkcs1_oaep_params_encode(&oaep, out, 1, &len) == PKCS1_NO_ROOM);
     }
-    CHECK(memcmp(pkcs1_oid_rsa_encryption.octets, "\x2a\x86\x48\x86\xf7\x0d\1\1\1", 9) == 0 && pkcs1_oid_rsa_encryption.len == 9);
+    CHECK(same(pkcs1_oid_rsa_encryption, "\x2a\x86\x48\x86\xf7\x0d\1\1\1", 9));
+}
+
+/* One hash function, which OpenSSL writes with NULL in RSASSA-PSS, and without parameters in RSAES-OAEP. */
+static void a_hash_function(void) {
+    struct pkcs1_pss_params params;
+    struct pkcs1_algorithm *hash = &params.hash;
+    struct pkcs1_bytes none = {NULL, 0};
+    uint8_t out[96];
+    size_t len = 77;
+    pkcs1_pss_params_init(&params, &pkcs1_oid_sha256, 32);
+    CHECK(pkcs1_algorithm_is(hash, &pkcs1_oid_sha256) && !pkcs1_algorithm_is(hash, &pkcs1_oid_sha384));
+    hash->has_parameters = false;
+    memset(&hash->parameters, 0xa5, sizeof hash->parameters);
+    CHECK(pkcs1_algorithm_is(hash, &pkcs1_oid_sha256) && !pkcs1_algorithm_is(hash, &pkcs1_oid_sha1));
+    hash->has_parameters = true;
+    hash->parameters = pkcs1_oid_sha1;
+    CHECK(!pkcs1_algorithm_is(hash, &pkcs1_oid_sha256));
+    hash->parameters = none;
+    hash->tag = 4;
+    CHECK(!pkcs1_algorithm_is(hash, &pkcs1_oid_sha256));
+    hash->tag = 5;
+    hash->oid = none;
+    CHECK(pkcs1_algorithm_is(hash, &none) && !pkcs1_algorithm_is(hash, &pkcs1_oid_sha256));
+    CHECK(pkcs1_pss_algorithm_encode(&params, out, sizeof out, &len) == PKCS1_OID_MALFORMED && len == 77);
+    hash->oid = pkcs1_oid_sha256;
+    CHECK(pkcs1_pss_algorithm_encode(&params, NULL, 0, &len) == PKCS1_NO_ROOM && len == 67);
+    CHECK(pkcs1_pss_algorithm_encode(&params, out, 67, &len) == PKCS1_OK && len == 67);
+    CHECK(out[2] == 6 && memcmp(out + 4, pkcs1_oid_rsassa_pss.data, pkcs1_oid_rsassa_pss.len) == 0);
+    CHECK(memcmp(pkcs1_oid_rsaes_oaep.data, "\x2a\x86\x48\x86\xf7\x0d\1\1\7", 9) == 0 && pkcs1_oid_rsaes_oaep.len == 9);
+}
+
+static void compared(void) {
+    uint8_t copy[9];
+    struct pkcs1_bytes left = {copy, 9}, none = {NULL, 0}, empty = {copy, 0};
+    memcpy(copy, pkcs1_oid_sha256.data, 9);
+    CHECK(pkcs1_oid_equal(&left, &pkcs1_oid_sha256) && !pkcs1_oid_equal(&left, &pkcs1_oid_sha384));
+    left.len = 8;
+    CHECK(!pkcs1_oid_equal(&left, &pkcs1_oid_sha256) && !pkcs1_oid_equal(&pkcs1_oid_sha256, &left));
+    CHECK(pkcs1_oid_equal(&none, &empty) && pkcs1_oid_equal(&none, &none) && !pkcs1_oid_equal(&none, &left));
 }
 
 static void texts(void) {
@@ -303,6 +371,10 @@ static uint32_t read_row(const char *kind, const uint8_t *der, size_t len, union
     if (strcmp(kind, "pss") == 0) return pkcs1_pss_params_decode(der, len, &v->pss);
     if (strcmp(kind, "pss-strict") == 0) return pkcs1_pss_params_decode_strict(der, len, &v->pss);
     if (strcmp(kind, "oaep") == 0) return pkcs1_oaep_params_decode(der, len, &v->oaep);
+    if (strcmp(kind, "pss-alg") == 0) return pkcs1_pss_algorithm_decode(der, len, &v->pss);
+    if (strcmp(kind, "pss-alg-strict") == 0) return pkcs1_pss_algorithm_decode_strict(der, len, &v->pss);
+    if (strcmp(kind, "oaep-alg") == 0) return pkcs1_oaep_algorithm_decode(der, len, &v->oaep);
+    if (strcmp(kind, "oaep-alg-strict") == 0) return pkcs1_oaep_algorithm_decode_strict(der, len, &v->oaep);
     CHECK(strcmp(kind, "oaep-strict") == 0);
     return pkcs1_oaep_params_decode_strict(der, len, &v->oaep);
 }
@@ -312,6 +384,8 @@ static uint32_t write_row(const char *kind, union value *v, uint8_t *out, size_t
     if (strcmp(kind, "priv") == 0)
         return pkcs1_private_key_encode(&v->priv.key, v->priv.others, v->priv.key.other_primes, out, room, len);
     if (strcmp(kind, "p8") == 0) return pkcs1_private_key_info_encode(&v->priv.info, out, room, len);
+    if (strncmp(kind, "pss-alg", 7) == 0) return pkcs1_pss_algorithm_encode(&v->pss, out, room, len);
+    if (strncmp(kind, "oaep-alg", 8) == 0) return pkcs1_oaep_algorithm_encode(&v->oaep, out, room, len);
     if (strncmp(kind, "pss", 3) == 0) return pkcs1_pss_params_encode(&v->pss, out, room, len);
     return pkcs1_oaep_params_encode(&v->oaep, out, room, len);
 }
@@ -337,7 +411,8 @@ static void row(const char *kind, const char *digits, const char *name) {
         CHECK(memcmp(value, old, sizeof *value) == 0);
     } else {
         CHECK(write_row(kind, value, again, sizeof again, &again_len) == PKCS1_OK);
-        if (strcmp(kind, "pss") != 0 && strcmp(kind, "oaep") != 0)
+        bool has_one = strncmp(kind, "pss", 3) != 0 && strncmp(kind, "oaep", 4) != 0;
+        if (has_one || strstr(kind, "-strict") != NULL)
             CHECK(again_len == len && memcmp(again, der, len) == 0);
     }
     free(der);
@@ -379,10 +454,13 @@ int main(int argc, char **argv) {
     private_keys();
     one_other_prime();
     other_primes();
+    many_other_primes();
     containers();
     pss();
     absent_fields();
     made_for_a_hash();
+    compared();
+    a_hash_function();
     texts();
     statuses(argv[1]);
     proved_calls();

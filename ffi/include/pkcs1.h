@@ -18,8 +18,9 @@
  *   aren't read. `{0}` is such a struct (`{}` in C++).
  * Numbers are unsigned, most significant octet first. Encoders accept leading zeros, and need at least one octet;
  *   decoders give no leading zeros (the number 0 is one octet).
- * Lifetimes: decoders copy no number. A `pkcs1_bytes` that a decoder fills points into `der` (or into the library, for
- *   a default that the encoding leaves out), is never null, and must not be freed. No call keeps a pointer.
+ * Lifetimes: decoders copy nothing. A `pkcs1_bytes` that a decoder fills, of a number or an identifier too, points into
+ *   `der` (or into the library, for a default that the encoding leaves out), is never null, and must not be freed. No
+ *   call keeps a pointer.
  * Overlap: `out`, `*len` and what a decoder fills must not overlap each other or any other argument.
  * Null: `der`, `others`, `out` and `label` may be null if their length is 0. No other argument may be null.
  * Threads: the calls share no state and take no locks, so any of them may run at the same time.
@@ -49,10 +50,11 @@ enum pkcs1_status {
     PKCS1_LENGTH = 4,              /* a number without octets */
     PKCS1_NONCANONICAL = 5,        /* not DER: needless zeros in front of a number; .._strict: a default is written out */
     PKCS1_OID_MALFORMED = 6,       /* an identifier that is empty, cut off, not in shortest form, or over 39 octets */
-    PKCS1_OID_UNKNOWN = 7,         /* PKCS #8 with a key that isn't RSA, or an RSA key under id-RSASSA-PSS (RSA-PSS) */
+    PKCS1_OID_UNKNOWN = 7,         /* PKCS #8 with a key that isn't RSA, or an RSA key under id-RSASSA-PSS (RSA-PSS);
+                                      .._algorithm_..: another algorithm */
     PKCS1_OVERFLOW = 8,            /* a length past 4294967295 */
     PKCS1_OVERLENGTH = 9,          /* not DER: a length in more octets than it needs */
-    PKCS1_PARAMETERS_MISSING = 10, /* PKCS #8 whose rsaEncryption has no parameters */
+    PKCS1_PARAMETERS_MISSING = 10, /* an algorithm without parameters: rsaEncryption has NULL, the others their own */
     PKCS1_TAG_UNEXPECTED = 11,     /* another type: PEM, PKCS #8, SubjectPublicKeyInfo or an encrypted key, perhaps */
     PKCS1_TAG_UNKNOWN = 12,        /* not DER of these types: a tag octet that none of them has */
     PKCS1_TRAILING_DATA = 13,      /* octets follow the value, or a field follows that the type doesn't have there */
@@ -114,29 +116,30 @@ uint32_t pkcs1_private_key_info_encode(const struct pkcs1_private_key_info *info
 
 /* ---- Algorithms ---- */
 
-/* The contents octets of an OBJECT IDENTIFIER: the first `len` of `octets`. */
-struct pkcs1_oid {
-    uint8_t octets[39];
-    uint8_t len; /* more than 39: PKCS1_OID_MALFORMED */
-};
-extern const struct pkcs1_oid pkcs1_oid_sha1, pkcs1_oid_sha224, pkcs1_oid_sha256, pkcs1_oid_sha384, pkcs1_oid_sha512;
-extern const struct pkcs1_oid pkcs1_oid_mgf1, pkcs1_oid_p_specified, pkcs1_oid_rsa_encryption;
+/* Identifiers are the contents octets of an OBJECT IDENTIFIER (X.690 8.19). */
+extern const struct pkcs1_bytes pkcs1_oid_sha1, pkcs1_oid_sha224, pkcs1_oid_sha256, pkcs1_oid_sha384, pkcs1_oid_sha512;
+extern const struct pkcs1_bytes pkcs1_oid_mgf1, pkcs1_oid_p_specified, pkcs1_oid_rsa_encryption;
+extern const struct pkcs1_bytes pkcs1_oid_rsassa_pss, pkcs1_oid_rsaes_oaep;
 
 /* Whether both are the same identifier. */
-bool pkcs1_oid_equal(const struct pkcs1_oid *left, const struct pkcs1_oid *right);
+bool pkcs1_oid_equal(const struct pkcs1_bytes *left, const struct pkcs1_bytes *right);
 
 /* An AlgorithmIdentifier. The contents of its parameters aren't checked. If there are none, a decoder sets `tag` to 0
  * and `parameters` to empty. */
 struct pkcs1_algorithm {
-    struct pkcs1_oid oid;
+    struct pkcs1_bytes oid;
     bool has_parameters; /* false: no octet follows the identifier, which isn't the same as NULL */
     uint8_t tag;         /* the tag octet of the parameters; 0x05: NULL */
     struct pkcs1_bytes parameters; /* their contents; of NULL: none */
 };
 
+/* Whether the algorithm is the hash function with this identifier, with NULL or without parameters: both mean the same
+ * (RFC 4055 2.1), and both are met. */
+bool pkcs1_algorithm_is(const struct pkcs1_algorithm *algorithm, const struct pkcs1_bytes *oid);
+
 /* If there is no hash function, a decoder sets `hash` to empty: `hash.oid.len` is 0. */
 struct pkcs1_mask_gen {
-    struct pkcs1_oid oid;
+    struct pkcs1_bytes oid;
     bool has_hash;
     struct pkcs1_algorithm hash;
 };
@@ -156,10 +159,10 @@ struct pkcs1_oaep_params {
     struct pkcs1_algorithm p_source; /* pSpecified: the parameters are the label, with tag 0x04 */
 };
 
-/* Sets all fields for one hash function: MGF1 with the same one, and both with NULL parameters. The label isn't copied,
- * so it must live as long as `params` is used. */
-void pkcs1_pss_params_init(struct pkcs1_pss_params *params, const struct pkcs1_oid *hash, uint8_t salt_len);
-void pkcs1_oaep_params_init(struct pkcs1_oaep_params *params, const struct pkcs1_oid *hash, const uint8_t *label,
+/* Sets all fields for one hash function: MGF1 with the same one, and both with NULL parameters. The octets of the
+ * identifier and of the label aren't copied, so they must live as long as `params` is used. */
+void pkcs1_pss_params_init(struct pkcs1_pss_params *params, const struct pkcs1_bytes *hash, uint8_t salt_len);
+void pkcs1_oaep_params_init(struct pkcs1_oaep_params *params, const struct pkcs1_bytes *hash, const uint8_t *label,
                             size_t label_len);
 
 /* Encoders leave out each field that has its default, as DER requires (X.690 11.5). Decoders also accept a default that
@@ -170,6 +173,16 @@ uint32_t pkcs1_pss_params_encode(const struct pkcs1_pss_params *params, uint8_t 
 uint32_t pkcs1_oaep_params_decode(const uint8_t *der, size_t der_len, struct pkcs1_oaep_params *params);
 uint32_t pkcs1_oaep_params_decode_strict(const uint8_t *der, size_t der_len, struct pkcs1_oaep_params *params);
 uint32_t pkcs1_oaep_params_encode(const struct pkcs1_oaep_params *params, uint8_t *out, size_t room, size_t *len);
+
+/* The same of the whole AlgorithmIdentifier: id-RSASSA-PSS with its parameters, as a certificate's signatureAlgorithm,
+ * or id-RSAES-OAEP with its parameters, as in CMS (RFC 4055 3.1, 4.1). Another identifier is PKCS1_OID_UNKNOWN, one
+ * without parameters PKCS1_PARAMETERS_MISSING. */
+uint32_t pkcs1_pss_algorithm_decode(const uint8_t *der, size_t der_len, struct pkcs1_pss_params *params);
+uint32_t pkcs1_pss_algorithm_decode_strict(const uint8_t *der, size_t der_len, struct pkcs1_pss_params *params);
+uint32_t pkcs1_pss_algorithm_encode(const struct pkcs1_pss_params *params, uint8_t *out, size_t room, size_t *len);
+uint32_t pkcs1_oaep_algorithm_decode(const uint8_t *der, size_t der_len, struct pkcs1_oaep_params *params);
+uint32_t pkcs1_oaep_algorithm_decode_strict(const uint8_t *der, size_t der_len, struct pkcs1_oaep_params *params);
+uint32_t pkcs1_oaep_algorithm_encode(const struct pkcs1_oaep_params *params, uint8_t *out, size_t room, size_t *len);
 
 #ifdef __cplusplus
 }

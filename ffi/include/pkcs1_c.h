@@ -28,9 +28,18 @@ uint32_t pkcs1_c_private_key_info_encode(const struct pkcs1_private_key_info *in
 uint32_t pkcs1_c_pss_params_decode(const uint8_t *der, size_t der_len, struct pkcs1_pss_params *params);
 uint32_t pkcs1_c_pss_params_decode_strict(const uint8_t *der, size_t der_len, struct pkcs1_pss_params *params);
 uint32_t pkcs1_c_pss_params_encode(const struct pkcs1_pss_params *params, uint8_t *out, size_t room, size_t *len);
+uint32_t pkcs1_c_pss_algorithm_decode(const uint8_t *der, size_t der_len, struct pkcs1_pss_params *params);
+uint32_t pkcs1_c_pss_algorithm_decode_strict(const uint8_t *der, size_t der_len, struct pkcs1_pss_params *params);
+uint32_t pkcs1_c_pss_algorithm_encode(const struct pkcs1_pss_params *params, uint8_t *out, size_t room, size_t *len);
 uint32_t pkcs1_c_oaep_params_decode(const uint8_t *der, size_t der_len, struct pkcs1_oaep_params *params);
 uint32_t pkcs1_c_oaep_params_decode_strict(const uint8_t *der, size_t der_len, struct pkcs1_oaep_params *params);
 uint32_t pkcs1_c_oaep_params_encode(const struct pkcs1_oaep_params *params, uint8_t *out, size_t room, size_t *len);
+uint32_t pkcs1_c_oaep_algorithm_decode(const uint8_t *der, size_t der_len, struct pkcs1_oaep_params *params);
+uint32_t pkcs1_c_oaep_algorithm_decode_strict(const uint8_t *der, size_t der_len, struct pkcs1_oaep_params *params);
+uint32_t pkcs1_c_oaep_algorithm_encode(const struct pkcs1_oaep_params *params, uint8_t *out, size_t room, size_t *len);
+
+/* Whether it is the hash function with this identifier, with NULL or without parameters. */
+bool pkcs1_c_algorithm_is(const struct pkcs1_algorithm *algorithm, const uint8_t *oid, size_t oid_len);
 
 /* These set `text` to a static string with a zero at the end, which `len` counts. */
 void pkcs1_c_status_text(uint32_t status, struct pkcs1_bytes *text);

@@ -36,9 +36,12 @@ try_and_keep() {
     mkdir "$to"
     ln -s "$kit"/* "$to"
     rm "$to/bin" "$to/toolchain"
-    cp -rs "$kit/bin" "$kit/toolchain" "$to"
+    cp -rsL "$kit/bin" "$kit/toolchain" "$to"
     cp --remove-destination "$kit/bin/rt" "$kit"/bin/*.py "$to/bin"
-    rm "$to/toolchain/bin/clang"
+    case $(realpath "$to/toolchain/bin") in # nothing outside the copy is written
+        "$(realpath "$room")"/*) rm "$to/toolchain/bin/clang" ;;
+        *) stop "$to/toolchain is no copy of the kit's" ;;
+    esac
     cat > "$to/toolchain/bin/clang" << END
 #!/bin/sh
 set -e
@@ -125,8 +128,9 @@ steps_of() {
 for part; do
     steps_of "$part" >> "$room/steps"
 done
-needs rt tar > "$room/log" || stop "$(cat "$room/log")"
-kit=$(dirname "$(rt doc)")
+needs rt python3 tar > "$room/log" || stop "$(cat "$room/log")"
+page=$(rt doc) || stop "rt doesn't run"
+kit=$(dirname "$page")
 mkdir "$tree"
 tar c --exclude=./.git --exclude=out --exclude=target --exclude=Cargo.lock . | tar x -C "$tree"
 lanes=$(nproc)

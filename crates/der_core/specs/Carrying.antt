@@ -43,6 +43,11 @@ ReadsDocument encoding (Ok document) old new failures failures2 =
     GivesAll old new (encoding document) × (failures2 ≡ failures)
 ReadsDocument encoding (Err e) old new failures failures2 = WhyDocumentNotRead e.kind old new failures failures2
 
+-- The same of a source that no call of failed yet, and whose state afterwards nobody sees.
+abbrev pub ReadsOpened : {X : Type 0} → (X → List ℕ) → Result X Error → Option (List ℕ) → Type 0
+ReadsOpened encoding result old =
+    (new : Option (List ℕ)) × (failures : ℕ) × ReadsDocument encoding result old new 0 failures
+
 -- All bytes were taken, in order, and no call failed; or a beginning of them was taken, and a call failed.
 abbrev pub WritesAll : {X : Type 0} → List ℕ → Result X Error
     → Option (List ℕ) → Option (List ℕ) → ℕ → ℕ → Type 0

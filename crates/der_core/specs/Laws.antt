@@ -28,6 +28,7 @@ pub mod SequenceOf
 pub mod Sequences
 pub mod ShortEncodings
 pub mod Shortest
+pub mod SliceReaders
 pub mod Slices
 pub mod SmallNumbers
 pub mod SmallReading

@@ -1,16 +1,7 @@
 -- What a reader over a slice has left.
-use Rattle.std.specs.Prelude.{Some, None, ◌≤◌, if◌then◌else◌, length}
-use Rattle.der_core.specs.Length.{limit}
-use Rattle.der_core.specs.Encodings.{AreBytes}
-use Rattle.der_core.specs.Input.{Input, left_in}
-use Rattle.der_core.specs.Laws.Input.{left_bounded, left_bytes}
+use Rattle.std.specs.Prelude.{Some, None, if◌then◌else◌}
+use Rattle.der_core.specs.Input.{Input}
 use Rattle.der_core.specs.declared.slice_reader.SliceReader.{SliceReader}
 
 abbrev pub left_of : SliceReader → Input
 left_of reader = if reader.failed then None else Some reader.bytes.now
-
-pub left_of-bounded : (reader : SliceReader) → length (left_in (left_of reader)) ≤ limit
-left_of-bounded reader = left_bounded reader.failed reader.bytes.now reader.bounded
-
-pub left_of-bytes : (reader : SliceReader) → AreBytes (left_in (left_of reader))
-left_of-bytes reader = left_bytes reader.failed reader.bytes.now reader.octets

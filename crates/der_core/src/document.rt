@@ -1,6 +1,6 @@
 //! Documents: whole SEQUENCEs, whose contents aren't looked at.
 ghost use Rattle.std.specs.Prelude.{◌≡◌, ◌≢◌, ◌≤◌, ◌⊎◌, ℕ, List, [], Some, length, refl, ⊤, IfOk, IfErr, IsErrAnd};
-ghost use Rattle.der_core.specs.Carrying.{ReadsDocument, WhyReadingStopped, FileFault, WritesAll};
+ghost use Rattle.der_core.specs.Carrying.{ReadsDocument, ReadsOpened, WhyReadingStopped, FileFault, WritesAll};
 ghost use Rattle.der_core.specs.Document.{IsDocument};
 ghost use Rattle.der_core.specs.Laws.Document.{IsDocument-prop};
 ghost use Rattle.der_core.specs.Length.{limit};
@@ -27,6 +27,7 @@ use crate::wrap::{FromRead, ToWrite};
 use std::alloc::Global;
 use std::fmt;
 use std::fs::File;
+use std::io::Read;
 use std::marker::PhantomData;
 use std::path::Path;
 use std::rt::Files;
@@ -196,10 +197,21 @@ impl<S: Drop> DocumentOf<S> {
         ensures room { IfErr result (λ e. e.kind ≢ ErrorKind.NoRoom) }
         ensures exact { IfErr result (λ e. FileFault e.kind) }
     {
-        let Ok(file) = File::open(rt, path) else {
+        DocumentOf::read_opened(alloc, File::open(rt, path))
+    }
+
+    /// Reads what was opened, as `read_from` does. `File` also if it wasn't.
+    fn read_opened<R: Read + Drop, E: Drop>(
+        alloc: Global,
+        opened: std::result::Result<R, E>,
+    ) -> Result<DocumentOf<S>>
+        ensures read { IfOk opened (λ reader. ReadsOpened encoding_of result (R.remaining reader)) }
+        ensures closed { IfErr opened (λ _. IsErrAnd result (λ e. e.kind ≡ ErrorKind.File)) }
+    {
+        let Ok(reader) = opened else {
             return Err(Error::new(ErrorKind::File));
         };
-        DocumentOf::read_from(alloc, &mut FromRead::new(file))
+        DocumentOf::read_from(alloc, &mut FromRead::new(reader))
     }
 
     /// Creates the file, or truncates an old one, and writes as `write_to` does. `File` also if it can't be created.

@@ -14,18 +14,21 @@ ghost use Rattle.der_core.specs.declared.document.DocumentOf as documents;
 ghost use Rattle.der_core.specs.declared.document.Open as marks;
 ghost use Rattle.der_core.specs.declared.error.Error as errors;
 ghost use Rattle.der_core.specs.declared.error.ErrorKind as kinds;
+ghost use Rattle.der_core.specs.declared.header.Header as headers;
 ghost use Rattle.der_core.specs.declared.integer.uint.UintRef as numbers;
 ghost use Rattle.der_core.specs.declared.octet_string.OctetStringRef as strings;
+ghost use Rattle.der_core.specs.declared.tag.Tag as octets;
 ghost use Rattle.der_core.specs.declared.tag.TagNumber as tags;
 
 use crate::decode::DecodeValue;
 use crate::document::{DocumentOf, Open};
 use crate::error::{Error, ErrorKind};
+use crate::header::Header;
 use crate::integer::UintRef;
 use crate::length::Length;
 use crate::memory::Memory;
 use crate::octet_string::OctetStringRef;
-use crate::tag::TagNumber;
+use crate::tag::{Tag, TagNumber};
 
 /// Lengths compare as their numbers.
 pub fn lemma_lengths_compare_by_number()
@@ -36,6 +39,13 @@ pub fn lemma_lengths_compare_by_number()
 /// Tag numbers are equal exactly if they are the same number.
 pub fn lemma_tag_numbers_compare_by_number()
     ensures { (a b : tags.TagNumber) → Decides (⟦<TagNumber as PartialEq>⟧.eq a b) (a.value ≡ b.value) }
+{}
+
+/// Tags are equal exactly if their octets are, headers exactly if their tags and lengths are.
+pub fn lemma_headers_compare_by_value()
+    ensures tag { (a b : octets.Tag) → Decides (⟦<Tag as PartialEq>⟧.eq a b) (a.octet ≡ b.octet) }
+    ensures header { (a b : headers.Header)
+        → Decides (⟦<Header as PartialEq>⟧.eq a b) ((a.tag.octet ≡ b.tag.octet) × (a.length ≡ b.length)) }
 {}
 
 /// Documents are equal exactly if they hold the same bytes. Secret ones can't be compared.

@@ -22,6 +22,7 @@ mod laws;
 mod length;
 mod memory;
 mod octet_string;
+mod parts;
 mod reader;
 mod sequence_of;
 mod slice_reader;
@@ -41,17 +42,17 @@ pub use encode::{Encode, EncodeValue, joined_len};
 pub use error::{Error, ErrorKind, Result};
 pub use header::Header;
 pub use integer::{AsUintRef, Uint, UintRef};
-pub use last_part::{decode_last, decode_whole, encode_optional, optional_len, prepend_optional};
+pub use last_part::{decode_last, decode_whole};
 pub use laws::{
     lemma_clones_hold_the_same, lemma_contents_are_rejected_by_their_fault,
-    lemma_documents_compare_by_bytes, lemma_kinds_are_told_apart, lemma_lengths_compare_by_number,
-    lemma_tag_numbers_compare_by_number,
+    lemma_documents_compare_by_bytes, lemma_headers_compare_by_value, lemma_kinds_are_told_apart,
+    lemma_lengths_compare_by_number, lemma_tag_numbers_compare_by_number,
 };
 pub use length::Length;
 pub use memory::{Memory, NoMemory};
 pub use octet_string::{OctetStringRef, OctetStringTag};
+pub use parts::Part;
 pub use reader::{BytesLeft, Octets, Reader};
-pub use sequence_of::{encode_items, items_len, prepend_items};
 pub use slice_reader::SliceReader;
 pub use source_sink::{Sink, Source};
 pub use tag::{Tag, TagNumber};

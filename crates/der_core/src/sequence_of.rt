@@ -68,7 +68,7 @@ impl<'a, T: Decode<&'a [u8], Global>> DecodeValue<&'a [u8], Global> for Vec<T> {
 }
 
 /// The total length of the encodings of the items.
-pub fn items_len<T: Encode>(items: &[T]) -> Result<Length>
+pub(crate) fn items_len<T: Encode>(items: &[T]) -> Result<Length>
     ensures { let have = AllHave (λ x. T.has_encoding (T.value x)) items.now in
         Counts have (all_encodings (λ x. T.written_encoding (T.value x)) items.now) result }
 {
@@ -80,7 +80,7 @@ pub fn items_len<T: Encode>(items: &[T]) -> Result<Length>
 }
 
 /// Appends the encodings of the items.
-pub fn encode_items<T: Encode, W: Writer>(items: &[T], writer: &mut W) -> Result<()>
+pub(crate) fn encode_items<T: Encode, W: Writer>(items: &[T], writer: &mut W) -> Result<()>
     requires has { AllHave (λ x. T.has_encoding (T.value x)) items.now }
     requires fits { length (all_encodings (λ x. T.written_encoding (T.value x)) items.now) ≤ limit }
     ensures appends { let have = AllHave (λ x. T.has_encoding (T.value x)) items.now in
@@ -95,7 +95,7 @@ pub fn encode_items<T: Encode, W: Writer>(items: &[T], writer: &mut W) -> Result
 }
 
 /// Writes the encodings of the items in front of what is filled, the last item first.
-pub fn prepend_items<T: Encode>(items: &[T], writer: &mut BackWriter<'_>)
+pub(crate) fn prepend_items<T: Encode>(items: &[T], writer: &mut BackWriter<'_>)
     requires has { AllHave (λ x. T.has_encoding (T.value x)) items.now }
     requires fits { length (all_encodings (λ x. T.written_encoding (T.value x)) items.now) ≤ limit }
     requires room { length (all_encodings (λ x. T.written_encoding (T.value x)) items.now) ≤ free_of writer.old }

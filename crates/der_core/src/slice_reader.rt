@@ -16,7 +16,8 @@ pub struct SliceReader<'a> {
 }
 
 impl<'a> BytesLeft for SliceReader<'a> {
-    ghost use Rattle.der_core.specs.SliceReaders.{left_of, left_of-bounded, left_of-bytes};
+    ghost use Rattle.der_core.specs.SliceReaders.{left_of};
+    ghost use Rattle.der_core.specs.Laws.SliceReaders.{left_of-bounded, left_of-bytes};
 
     ghost left = { left_of };
 

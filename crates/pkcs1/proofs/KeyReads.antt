@@ -16,7 +16,6 @@ use Rattle.pkcs1.specs.Allocating.{AllocatesCounted, AllocatesInKey, VersionEnco
 use Rattle.pkcs1.specs.Keys.{OtherPrimeInfos, OthersOf, version_of, PrivateKey, PrivateKeyContents}
 use Rattle.pkcs1.specs.Writing.{key_numbers}
 use Rattle.pkcs1.specs.Laws.PrivateKey.{joins_put}
-use Rattle.pkcs1.specs.Versions.{VersionContents}
 use Rattle.pkcs1.proofs.NumberReads.{first_part}
 
 pub as_small : (n : ℕ) (encoding : List ℕ) → VersionEncoding n encoding → Small n encoding

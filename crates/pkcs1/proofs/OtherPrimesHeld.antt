@@ -1,5 +1,5 @@
 -- The first of the other primes that bytes hold, and those behind it.
-use Rattle.std.proofs.Common.{◌≡◌, ℕ, ◌+◌, ◌-◌, ◌<◌, ◌≤◌, List, [], ◌∷◌, ◌++◌, length, map, refl, sym, ap, ◌∙◌, arith, append-nil, length-append, inr, ⊎_elim, Some, None, Err, false}
+use Rattle.std.proofs.Common.{◌≡◌, ℕ, ◌+◌, ◌-◌, ◌<◌, ◌≤◌, List, [], ◌∷◌, ◌++◌, length, map, refl, sym, ap, ◌∙◌, arith, append-nil, length-append, Some, Err, false}
 use Rattle.std.proofs.lemmas.List.{length-map}
 use Rattle.der_core.specs.Faults.{ItemsFault}
 use Rattle.pkcs1.specs.KeyFaults.{OneOtherFault}
@@ -23,10 +23,11 @@ use Rattle.der_core.specs.Encodings.{Then, Joins}
 use Rattle.der_core.specs.Laws.Lists.{same_fronts}
 use Rattle.der_core.specs.Integer.{Integer}
 use Rattle.der_core.specs.Laws.Integer.{integer_delimited}
-use Rattle.der_core.specs.Reading.{NoneIn, TellsOfBytes}
+use Rattle.der_core.specs.Reading.{NoneIn}
 use Rattle.pkcs1.specs.Keys.{OtherPrime, OtherPrimeInfo}
 use Rattle.pkcs1.specs.Laws.PrivateKey.{other_delimited}
-use Rattle.pkcs1.specs.OtherPrimesHeld.{HoldsOthers, one_list}
+use Rattle.pkcs1.specs.OtherPrimesHeld.{HoldsOthers}
+use Rattle.pkcs1.specs.Laws.OtherPrimesHeld.{one_list}
 use Rattle.pkcs1.specs.OtherPrimesLeft.{others_left, others_left-is}
 use Rattle.pkcs1.specs.declared.other_primes.OtherPrimes.{OtherPrimes}
 

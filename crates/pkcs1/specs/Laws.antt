@@ -2,6 +2,7 @@
 pub mod HeldKeys
 pub mod KeyFaults
 pub mod KeyEncodings
+pub mod OtherPrimesHeld
 pub mod PrivateKey
 pub mod PrivateKeys
 pub mod PublicKey

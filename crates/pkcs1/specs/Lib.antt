@@ -9,6 +9,5 @@ pub mod PrivateKeyValue
 pub mod OtherPrimesHeld
 pub mod OtherPrimesLeft
 pub mod ViewParts
-pub mod Exclusion
 pub mod KeyFaults
 pub mod Laws

@@ -2,7 +2,7 @@
 ghost use Rattle.std.specs.Prelude.{◌≡◌, refl};
 ghost use Rattle.spki_core.specs.Any.{null_value};
 ghost use Rattle.spki_core.specs.AlgorithmValue.{algorithm_of};
-ghost use Rattle.spki_core.specs.ObjectIdentifierValue.{octets_of};
+ghost use Rattle.spki_core.specs.ObjectIdentifierValue.{own_octets_of};
 ghost use Rattle.pkcs1_params.specs.Parameters.{id_rsa_encryption, with_parameters};
 
 use der_core::NoMemory;
@@ -29,7 +29,7 @@ impl AssociatedOid for RsaEncryption {
 
 /// The object identifier rsaEncryption.
 pub fn rsa_encryption_oid() -> ObjectIdentifier
-    ensures { octets_of result ≡ id_rsa_encryption }
+    ensures { own_octets_of result ≡ id_rsa_encryption }
 {
     ObjectIdentifier::of::<RsaEncryption>()
 }

@@ -27,10 +27,12 @@ pub use laws::{
 };
 pub use other_primes::OtherPrimes;
 pub use pkcs1_params::{
-    DefaultSalt, Error, Result, RsaOaepParams, RsaOaepParamsOwned, RsaOaepParamsRef,
+    DefaultSalt, Error, FromAlgorithm, Result, RsaOaepParams, RsaOaepParamsOwned, RsaOaepParamsRef,
     RsaOaepParamsView, RsaPssParams, RsaPssParamsOwned, RsaPssParamsRef, RsaPssParamsView,
-    TrailerField, fault_of_oaep_params, fault_of_pss_params, lemma_oaep_spellings,
-    lemma_pss_spellings,
+    RsaesOaep, RsassaPss, TrailerField, fault_of_oaep_algorithm, fault_of_oaep_params,
+    fault_of_pss_algorithm, fault_of_pss_params, lemma_algorithms,
+    lemma_algorithms_exclude_each_other, lemma_oaep_spellings, lemma_pss_spellings, rsaes_oaep_oid,
+    rsassa_pss_oid,
 };
 pub use private_key::other_prime_info::{OtherPrimeInfo, OtherPrimeInfos};
 pub use private_key::{PrivateKeyOf, RsaPrivateKey, RsaPrivateKeyOwned, RsaPrivateKeyRef};

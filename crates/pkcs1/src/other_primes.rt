@@ -18,7 +18,8 @@ ghost use Rattle.der_core.specs.SliceReaders.{left_of};
 ghost use Rattle.der_core.specs.UintRefValue.{bytes_of};
 ghost use Rattle.pkcs1.specs.Keys as grammar;
 ghost use Rattle.pkcs1.specs.PrivateKeyValue.{other_of};
-ghost use Rattle.pkcs1.specs.OtherPrimesHeld.{HoldsOthers, HoldsOthers-prop, others_are_bytes};
+ghost use Rattle.pkcs1.specs.OtherPrimesHeld.{HoldsOthers};
+ghost use Rattle.pkcs1.specs.Laws.OtherPrimesHeld.{HoldsOthers-prop, others_are_bytes};
 
 use crate::private_key::other_prime_info::OtherPrimeInfo;
 use der_core::{

@@ -17,13 +17,10 @@ use crate::public_key::{RsaPublicKey, RsaPublicKeyRef};
 use crate::version::Version;
 use der_core::{
     AsUintRef, BackWriter, Borrowed, Contents, Decode, DecodeValue, Encode, EncodeValue, Encoding,
-    ErrorKind, Header, Length, Reader, Result, Sequence, SequenceTag, Tag, TaggedBy, TryClone,
-    Uint, UintRef, Writer, encode_items, items_len, joined_len, prepend_items,
+    ErrorKind, Header, Length, Part, Reader, Result, Sequence, SequenceTag, Tag, TaggedBy,
+    TryClone, Uint, UintRef, Writer,
 };
-use other_prime_info::{
-    OtherPrimeInfos, clone_other_primes, encode_other_primes, lists_none, other_primes_len,
-    prepend_other_primes, read_other_primes,
-};
+use other_prime_info::{OtherPrimeInfos, clone_other_primes, lists_none, read_other_primes};
 use std::alloc::{AllocError, Global};
 use std::fmt;
 
@@ -197,17 +194,11 @@ impl<U: Encode> EncodeValue for RsaPrivateKey<U> {
         if lists_none(&self.other_prime_infos) {
             return Err(der_core::Error::new(ErrorKind::Value { tag: Tag::SEQUENCE }));
         }
-        let others = other_primes_len(&self.other_prime_infos);
-        joined_len(
-            self.version().encoded_len(),
-            joined_len(items_len(&self.numbers()), others),
-        )
+        (&self.version(), &(&self.numbers(), &self.other_prime_infos)).part_len()
     }
 
     fn append_value<W: Writer>(&self, writer: &mut W) -> Result<()> {
-        self.version().encode(writer)?;
-        encode_items(&self.numbers(), writer)?;
-        encode_other_primes(&self.other_prime_infos, writer)
+        (&self.version(), &(&self.numbers(), &self.other_prime_infos)).append_part(writer)
     }
 
     fn encode_value<W: Writer>(&self, writer: &mut W) -> Result<()>
@@ -223,9 +214,7 @@ impl<U: Encode> EncodeValue for RsaPrivateKey<U> {
     }
 
     fn prepend_value(&self, writer: &mut BackWriter<'_>) {
-        prepend_other_primes(&self.other_prime_infos, writer);
-        prepend_items(&self.numbers(), writer);
-        self.version().prepend(writer);
+        (&self.version(), &(&self.numbers(), &self.other_prime_infos)).prepend_part(writer);
     }
 
     ghost contents_relate = { private_relates U.encoding U.has_encoding U.written_encoding U.encoding_relates };

@@ -11,8 +11,8 @@ ghost use Rattle.pkcs1.specs.Laws.PublicKey.{public_key_shortest};
 
 use der_core::{
     AsUintRef, BackWriter, Contents, Decode, DecodeValue, Encode, EncodeValue, Encoding,
-    EqualByValue, Header, Length, Memory, NoMemory, Reader, Sequence, SequenceTag, TaggedBy,
-    TryClone, Uint, UintRef, Writer, joined_len,
+    EqualByValue, Header, Length, Memory, NoMemory, Part, Reader, Sequence, SequenceTag, TaggedBy,
+    TryClone, Uint, UintRef, Writer,
 };
 use pkcs1_params::{Error, Result};
 use std::alloc::Global;
@@ -90,20 +90,15 @@ impl<'a, M: Memory, U: Decode<&'a [u8], M>> DecodeValue<&'a [u8], M> for RsaPubl
 
 impl<U: Encode> EncodeValue for RsaPublicKey<U> {
     fn value_len(&self) -> der_core::Result<Length> {
-        joined_len(
-            self.modulus.encoded_len(),
-            self.public_exponent.encoded_len(),
-        )
+        (&self.modulus, &self.public_exponent).part_len()
     }
 
     fn append_value<W: Writer>(&self, writer: &mut W) -> der_core::Result<()> {
-        self.modulus.encode(writer)?;
-        self.public_exponent.encode(writer)
+        (&self.modulus, &self.public_exponent).append_part(writer)
     }
 
     fn prepend_value(&self, writer: &mut BackWriter<'_>) {
-        self.public_exponent.prepend(writer);
-        self.modulus.prepend(writer);
+        (&self.modulus, &self.public_exponent).prepend_part(writer);
     }
 
     ghost contents_relate = { public_key_relates U.encoding U.has_encoding U.written_encoding U.encoding_relates };

@@ -12,7 +12,7 @@ ghost use Rattle.pkcs1.specs.Keys as grammar;
 ghost use Rattle.pkcs1.specs.Keys.{OthersOf, PrivateKey, PrivateKeyContents, public_part};
 ghost use Rattle.pkcs1.specs.OtherPrimesLeft.{others_left, HoldsNone};
 ghost use Rattle.pkcs1.specs.Laws.PrivateKey.{private_means_one};
-ghost use Rattle.pkcs1.specs.OtherPrimesHeld.{keys_are_bytes};
+ghost use Rattle.pkcs1.specs.Laws.OtherPrimesHeld.{keys_are_bytes};
 ghost use Rattle.pkcs1.specs.PrivateKeyValue.{key_with};
 ghost use Rattle.pkcs1.specs.Versions.{number_of};
 ghost use Rattle.pkcs1.specs.PublicKeyValue.{public_key_of};

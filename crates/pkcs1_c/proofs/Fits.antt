@@ -1,7 +1,5 @@
 -- Parameters that have an encoding within the limit can be held.
-use Rattle.std.proofs.Common.{ℕ, List, [], ◌∷◌, ◌++◌, ◌≡◌, ◌≤◌, ◌<◌, length, length-append, refl, ap, arith, inl, inr, map, take, Option, Some, None}
-use Rattle.std.specs.Prelude.{true, false, nat_le, if◌then◌else◌}
-use Rattle.std.proofs.lemmas.Bool.Decides.{nat_tests}
+use Rattle.std.proofs.Common.{ℕ, List, [], ◌∷◌, ◌++◌, ◌≡◌, ◌≤◌, length, length-append, refl, ap, arith, inl, inr, map, Option, Some, None}
 use Rattle.der_core.specs.Document.{Means}
 use Rattle.der_core.specs.Length.{limit}
 use Rattle.der_core.specs.Encodings.{Joins}
@@ -11,7 +9,7 @@ use Rattle.der_core.specs.Laws.Growing.{contents_shorter}
 use Rattle.spki_core.specs.Any.{TagAndContents, Any}
 use Rattle.spki_core.specs.AlgorithmIdentifier.{Algorithm, AlgorithmIdentifier, PlainAlgorithm, MaskAlgorithm}
 use Rattle.spki_core.specs.Explicit.{Field, field, Defaultable}
-use Rattle.spki_core.specs.IdentifierTest.{is_identifier-sound, is_identifier-complete}
+use Rattle.spki_core.specs.Laws.IdentifierTest.{is_identifier-sound}
 use Rattle.spki_core.specs.ObjectIdentifier.{IsIdentifier}
 use Rattle.pkcs1_params.specs.Parameters.{id_sha1, id_mgf1, id_p_specified, sha1, mgf1_sha1, empty_label, hash_fields_then, TrailerField, PssParameters, RsaPssParams, OaepParameters, RsaOaepParams}
 use Rattle.pkcs1_c.specs.Fits.{AnyFits, OptionFits, AlgorithmFits, PlainFits, MaskFits, PssFits, OaepFits}
@@ -90,11 +88,3 @@ oaep_fits p encoding m =
     let few : length m.1.contents ≤ limit = omega (arith, contents_shorter encoding m.1, m.0) in
     let (hash, mask, d, (c, rc, source, nil, ec), within) = hash_fields_fit p.hash p.mask_gen (field 2 PlainAlgorithm empty_label p.p_source ∷ []) m.1.contents m.1.holds few in
     (hash, (mask, field_fits PlainAlgorithm PlainFits plain_fits 2 empty_label p.p_source c label_fits source (front_within c rc d ec within).0))
-
--- More octets than the array has are no identifier.
-pub none_beyond : (len : ℕ) (octets : List ℕ) → 39 < len → IsIdentifier (if nat_le len 39 then take len octets else []) → ⊥
-none_beyond len octets more is =
-    let no : nat_le len 39 ≡ false = grind (arith, nat_tests) in
-    let none : IsIdentifier [] = rw no at is in
-    let f : false ≡ true = is_identifier-complete [] none in
-    cc

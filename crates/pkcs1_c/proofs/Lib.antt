@@ -1,3 +1,4 @@
+pub mod AlgorithmWrites
 pub mod Containers
 pub mod Fits
 pub mod Given

@@ -1,6 +1,8 @@
 -- What the code of an error says.
 use Rattle.std.proofs.Common.{ℕ, List, ◌≡◌, ◌<◌, ◌⊎◌, ◌∙◌, ap, arith, refl, inl, inr}
 use Rattle.der_core.specs.Reading.{TellsOfBytes}
+use Rattle.der_core.specs.Document.{HasEncoding, WhyNotWritten}
+use Rattle.der_core.specs.Writing.{encode_error}
 use Rattle.der_core.specs.declared.error.ErrorKind.{ErrorKind}
 use Rattle.der_core.specs.declared.error.ErrorKind.TheVariants as kind
 use Rattle.spki_core.specs.Explicit.{Field}
@@ -9,7 +11,9 @@ use Rattle.pkcs1_params.specs.Errors.{IsAsn1}
 use Rattle.pkcs1_params.specs.declared.error.Error.{Error}
 use Rattle.pkcs1_params.specs.declared.error.Error.TheVariants as error
 use Rattle.der_core.specs.Document.{Means}
+use Rattle.pkcs1_params.specs.Meanings.{IsWritingError}
 use Rattle.pkcs1_c.specs.Status.{kind_number, status_of, IsNumberOfFault}
+use Rattle.pkcs1_c.specs.StructErrors.{EncodingError}
 
 -- An error that names a default has the number 5.
 pub names_default : (fields : List Field) (encoding : List ℕ) (e : Error) → IsAsn1 (NamesDefault fields encoding) e → status_of e ≡ 5
@@ -66,3 +70,30 @@ status_strict Grammar fields Fault encoding (error.Asn1 a) number is (inr (v, me
 status_strict Grammar fields Fault encoding error.Crypto number is (inr p) = absurd p.2
 status_strict Grammar fields Fault encoding error.KeyMalformed number is (inr p) = absurd p.2
 status_strict Grammar fields Fault encoding error.Version number is (inr p) = absurd p.2
+
+-- What an error of writing says of a value that has an encoding.
+module _ {V : Type 0} (Grammar : V → List ℕ → Type 0) (v : V) (room : ℕ) (has : HasEncoding Grammar v) where
+  kind_writing : (k : ErrorKind) → WhyNotWritten (HasEncoding Grammar v) Grammar v room (encode_error k) → EncodingError Grammar v room (kind_number k)
+  kind_writing (kind.Value tag) p = absurd (p has.0 has.1)
+  kind_writing kind.Overflow p = inl (refl, p.1)
+  kind_writing kind.NoRoom p = inr (refl, p.0, p.1, p.2)
+  kind_writing kind.Failed p = absurd p
+  kind_writing kind.Incomplete p = absurd p
+  kind_writing kind.IndefiniteLength p = absurd p
+  kind_writing (kind.Length tag) p = absurd p
+  kind_writing (kind.Noncanonical tag) p = absurd p
+  kind_writing kind.OidMalformed p = absurd p
+  kind_writing kind.OidUnknown p = absurd p
+  kind_writing kind.Overlength p = absurd p
+  kind_writing kind.ParametersMissing p = absurd p
+  kind_writing (kind.TagUnexpected expected actual) p = absurd p
+  kind_writing (kind.TagUnknown octet) p = absurd p
+  kind_writing kind.TrailingData p = absurd p
+  kind_writing kind.File p = absurd p
+  kind_writing kind.OutOfMemory p = absurd p
+
+  pub status_writing : (e : Error) → IsWritingError Grammar v room e → EncodingError Grammar v room (status_of e)
+  status_writing (error.Asn1 e) p = kind_writing e.kind p
+  status_writing error.Crypto p = absurd p
+  status_writing error.KeyMalformed p = absurd p
+  status_writing error.Version p = absurd p

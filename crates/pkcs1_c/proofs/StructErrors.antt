@@ -1,6 +1,7 @@
 -- Why what a program gives isn't written: one status at most, and none where it is written.
-use Rattle.std.proofs.Common.{ℕ, zero, suc, List, [], ◌∷◌, ◌++◌, ◌≡◌, ◌≢◌, ◌<◌, ◌⊎◌, length, map, take, get_or, refl, sym, ap, subst, ◌∙◌, arith, Option, Some, None, inl, inr, ⊎_elim, true, false}
+use Rattle.std.proofs.Common.{ℕ, zero, suc, List, [], ◌∷◌, ◌++◌, ◌≡◌, ◌≢◌, ◌<◌, ◌≤◌, ◌⊎◌, length, map, take, get_or, refl, sym, ap, subst, ◌∙◌, arith, Option, Some, None, inl, inr, ⊎_elim, true, false}
 use Rattle.std.proofs.lemmas.Bool.{cases_lt}
+use Rattle.der_core.specs.Document.{IsShortest}
 use Rattle.der_core.specs.IntegerReading.{WhyNoNumber}
 use Rattle.der_core.specs.SequenceOf.{AllHave}
 use Rattle.der_core.specs.declared.error.ErrorKind.{ErrorKind}
@@ -11,7 +12,7 @@ use Rattle.spki_core.specs.AlgorithmIdentifier.{Algorithm}
 use Rattle.spki_core.specs.ObjectIdentifier.{IsIdentifier}
 use Rattle.pkcs1_params.specs.Parameters.{PssParameters, OaepParameters}
 use Rattle.pkcs1_c.specs.Fits.{AnyFits, OptionFits, AlgorithmFits, PlainFits, MaskFits, PssFits, OaepFits}
-use Rattle.pkcs1_c.specs.NotWritten.{IsTooLong}
+use Rattle.pkcs1_c.specs.NotWritten.{IsTooLong, HasNoRoom}
 use Rattle.pkcs1_c.specs.Status.{kind_number}
 use Rattle.pkcs1_c.specs.StructErrors.{EncodingError, GivenError, PartThen, NumberError, NumberFits, NumbersError, others_numbers, OidError, AnyError, OptionError, AlgorithmError, PlainError, MaskError, HashFieldsThen, PssFieldError, OaepFieldError}
 
@@ -43,9 +44,27 @@ module _ {V : Type 0} (Grammar : V → List ℕ → Type 0) (v : V) (room : ℕ)
   encoding_rejected s other (inl p) = p.1
   encoding_rejected s other (inr p) = absurd (other p.0)
 
+  -- An encoding that fits is written.
+  pub fits_written : (encoding : List ℕ) → IsShortest Grammar v encoding → length encoding ≤ room → (s : ℕ) → EncodingError Grammar v room s → ⊥
+  fits_written encoding shortest fits s (inl p) = p.1 encoding shortest.spells
+  fits_written encoding shortest fits s (inr p) = elim (p.2.least encoding shortest.spells) [
+    | inl same ↦ omega (arith, p.3, fits, ap length same)
+    | inr longer ↦ omega (arith, p.3, fits, longer)
+  ]
+
 pub encoding_number : {V : Type 0} (Grammar : V → List ℕ → Type 0) (v : V) (room s : ℕ) → EncodingError Grammar v room s → (s ≡ 8) ⊎ (s ≡ 15)
 encoding_number Grammar v room s (inl p) = inl p.0
 encoding_number Grammar v room s (inr p) = inr p.0
+
+-- The length that is told, or isn't.
+module _ {V : Type 0} (Grammar : V → List ℕ → Type 0) (v : V) (room old new : ℕ) where
+  pub told_no_room : (s : ℕ) → EncodingError Grammar v room s → s ≡ 15 → ((encoding : List ℕ) → IsShortest Grammar v encoding → new ≡ length encoding) → HasNoRoom Grammar v room new
+  told_no_room s (inl p) full needed = absurd (omega (arith, p.0, full))
+  told_no_room s (inr p) full needed = let e = needed p.1 p.2 in (p.1, p.2, e, omega (arith, p.3, e))
+
+  pub told_nothing : (s : ℕ) → EncodingError Grammar v room s → s ≢ 15 → (IsTooLong Grammar v → new ≡ old) → new ≡ old
+  told_nothing s (inl p) other kept = kept p.1
+  told_nothing s (inr p) other kept = absurd (other p.0)
 
 -- Of the one value that is given.
 module _ {V : Type 0} (IsTheGiven : V → Type 0) (Grammar : V → List ℕ → Type 0) (same : (v w : V) → IsTheGiven v → IsTheGiven w → v ≡ w) (room : ℕ) where

@@ -1,5 +1,5 @@
 -- What the C struct of a container with an RSA key means.
-use Rattle.std.specs.Prelude.{ℕ, List, [], ◌≡◌, false, Some, None, if◌then◌else◌, ◌⊎◌}
+use Rattle.std.specs.Prelude.{ℕ, List, [], ◌≡◌, false, Some, None, if◌then◌else◌}
 use Rattle.der_core.specs.declared.error.ErrorKind.{ErrorKind}
 use Rattle.der_core.specs.Document.{Means}
 use Rattle.pkcs1.specs.KeyFaults.{RsaPrivateKeyFault}

@@ -7,6 +7,7 @@ use Rattle.der_core.specs.SequenceOf.{AllHave}
 use Rattle.der_core.specs.Tag.{is_allowed}
 use Rattle.pkcs1.specs.Keys as keys
 use Rattle.pkcs1.specs.Writing.{key_numbers, other_numbers}
+use Rattle.pkcs1_params.specs.Algorithms.{RsaPssAlgorithm, RsaOaepAlgorithm}
 use Rattle.pkcs1_params.specs.Parameters.{PssParameters, RsaPssParams, OaepParameters, RsaOaepParams}
 use Rattle.pkcs8_core.specs.Container as container
 use Rattle.spki_core.specs.Any.{TagAndContents}
@@ -126,3 +127,10 @@ OaepFieldError p = HashFieldsThen p.hash p.mask_gen (PlainError p.p_source)
 
 abbrev pub OaepError : OaepParameters → ℕ → ℕ → Type 0
 OaepError p room = PartThen (OaepFieldError p) (OaepFits p) (EncodingError RsaOaepParams p room)
+
+-- The same of an algorithm identifier with these parameters.
+abbrev pub PssAlgorithmError : PssParameters → ℕ → ℕ → Type 0
+PssAlgorithmError p room = PartThen (PssFieldError p) (PssFits p) (EncodingError RsaPssAlgorithm p room)
+
+abbrev pub OaepAlgorithmError : OaepParameters → ℕ → ℕ → Type 0
+OaepAlgorithmError p room = PartThen (OaepFieldError p) (OaepFits p) (EncodingError RsaOaepAlgorithm p room)

@@ -1,5 +1,5 @@
 -- What the C structs mean.
-use Rattle.std.specs.Prelude.{ℕ, List, [], ◌≡◌, length, take, map, nat_le, false, Option, Some, None, if◌then◌else◌}
+use Rattle.std.specs.Prelude.{ℕ, List, [], ◌≡◌, length, take, map, false, Option, Some, None, if◌then◌else◌}
 use Rattle.spki_core.specs.Any.{TagAndContents}
 use Rattle.spki_core.specs.AlgorithmIdentifier as spki
 use Rattle.pkcs1.specs.Keys as keys
@@ -8,7 +8,6 @@ use Rattle.pkcs1.specs.ViewParts.{listed_others}
 use Rattle.pkcs1_c.specs.declared.public_key.PublicKey.{PublicKey}
 use Rattle.pkcs1_c.specs.declared.private_key.PrivateKey.{PrivateKey}
 use Rattle.pkcs1_c.specs.declared.private_key.OtherPrime.{OtherPrime}
-use Rattle.pkcs1_c.specs.declared.algorithm.Oid.{Oid}
 use Rattle.pkcs1_c.specs.declared.algorithm.Algorithm.{Algorithm}
 use Rattle.pkcs1_c.specs.declared.algorithm.MaskGen.{MaskGen}
 use Rattle.pkcs1_c.specs.declared.pss.PssParams.{PssParams}
@@ -41,22 +40,18 @@ private_key_seen key others = record {
   other_prime_infos = others;
 }
 
--- The contents octets of an object identifier: the first `len` of the array, or none if `len` is more than 39.
-abbrev pub oid_seen : Oid → List ℕ
-oid_seen oid = if nat_le oid.len 39 then take oid.len oid.octets else []
-
 abbrev pub algorithm_seen : Algorithm → spki.Algorithm TagAndContents
-algorithm_seen a = record { oid = oid_seen a.oid; parameters = if a.has_parameters then Some (record { tag = a.tag; contents = a.parameters.now }) else None }
+algorithm_seen a = record { oid = a.oid.now; parameters = if a.has_parameters then Some (record { tag = a.tag; contents = a.parameters.now }) else None }
 
 abbrev pub mask_gen_seen : MaskGen → spki.Algorithm (spki.Algorithm TagAndContents)
-mask_gen_seen m = record { oid = oid_seen m.oid; parameters = if m.has_hash then Some (algorithm_seen m.hash) else None }
+mask_gen_seen m = record { oid = m.oid.now; parameters = if m.has_hash then Some (algorithm_seen m.hash) else None }
 
 -- If a `has_..` is false, the fields that belong to it are empty.
 abbrev pub AlgorithmIsTidy : Algorithm → Type 0
 AlgorithmIsTidy a = a.has_parameters ≡ false → (a.tag ≡ 0) × (a.parameters.now ≡ [])
 
 abbrev pub MaskGenIsTidy : MaskGen → Type 0
-MaskGenIsTidy m = (m.has_hash ≡ false → (m.hash.oid.len ≡ 0) × (m.hash.has_parameters ≡ false)) × AlgorithmIsTidy m.hash
+MaskGenIsTidy m = (m.has_hash ≡ false → (m.hash.oid.now ≡ []) × (m.hash.has_parameters ≡ false)) × AlgorithmIsTidy m.hash
 
 abbrev pub PssIsTidy : PssParams → Type 0
 PssIsTidy p = AlgorithmIsTidy p.hash × MaskGenIsTidy p.mask_gen

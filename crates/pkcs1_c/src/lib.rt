@@ -6,13 +6,15 @@ mod algorithm;
 mod container;
 mod numbers;
 mod oaep;
+mod oaep_algorithm;
 mod private_key;
 mod pss;
+mod pss_algorithm;
 mod public_key;
 mod status;
 mod written;
 
-pub use algorithm::{Algorithm, MaskGen, Oid};
+pub use algorithm::{Algorithm, MaskGen, pkcs1_c_algorithm_is};
 pub use container::{
     PrivateKeyInfo, pkcs1_c_private_key_info_decode, pkcs1_c_private_key_info_encode,
 };
@@ -20,12 +22,19 @@ pub use oaep::{
     OaepParams, pkcs1_c_oaep_params_decode, pkcs1_c_oaep_params_decode_strict,
     pkcs1_c_oaep_params_encode,
 };
+pub use oaep_algorithm::{
+    pkcs1_c_oaep_algorithm_decode, pkcs1_c_oaep_algorithm_decode_strict,
+    pkcs1_c_oaep_algorithm_encode,
+};
 pub use private_key::{
     OtherPrime, PrivateKey, pkcs1_c_private_key_decode, pkcs1_c_private_key_encode,
 };
 pub use pss::{
     PssParams, pkcs1_c_pss_params_decode, pkcs1_c_pss_params_decode_strict,
     pkcs1_c_pss_params_encode,
+};
+pub use pss_algorithm::{
+    pkcs1_c_pss_algorithm_decode, pkcs1_c_pss_algorithm_decode_strict, pkcs1_c_pss_algorithm_encode,
 };
 pub use public_key::{PublicKey, pkcs1_c_public_key_decode, pkcs1_c_public_key_encode};
 pub use status::{Text, pkcs1_c_status_text, pkcs1_c_version};

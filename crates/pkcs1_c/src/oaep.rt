@@ -1,8 +1,8 @@
 //! Parameters of RSAES-OAEP.
 ghost use Rattle.std.specs.Prelude.{◌≡◌, ◌≢◌, ◌<◌, ◌≤◌, ◌⊎◌, ℕ, length, take, drop, IfOk, IfErr};
-ghost use Rattle.der_core.specs.Document.{Means, IsShortest};
+ghost use Rattle.der_core.specs.Document.{HasEncoding, Means, IsShortest};
 ghost use Rattle.pkcs1_params.specs.Parameters as grammar;
-ghost use Rattle.pkcs1_params.specs.OaepValue.{oaep_of};
+ghost use Rattle.pkcs1_params.specs.OaepValue.{oaep_viewed};
 ghost use Rattle.pkcs1_c.specs.NotWritten.{IsTooLong, HasNoRoom};
 ghost use Rattle.der_core.specs.declared.error.ErrorKind as der;
 ghost use Rattle.pkcs1_params.specs.ParameterFaults.{RsaOaepParamsFault, StrictOaepFault};
@@ -10,14 +10,14 @@ ghost use Rattle.pkcs1_params.specs.Parameters.{oaep_fields};
 ghost use Rattle.spki_core.specs.StrictFields.{WritesDefault};
 ghost use Rattle.pkcs1_c.specs.Status.{kind_number, status_of, IsNumberOfFault};
 ghost use Rattle.pkcs1_c.specs.StructValues.{oaep_seen, OaepIsTidy};
-ghost use Rattle.pkcs1_c.specs.StructErrors.{OaepError, OaepFieldError};
+ghost use Rattle.pkcs1_c.specs.StructErrors.{EncodingError, OaepError, OaepFieldError};
 
 use crate::algorithm::{
     Algorithm, MaskGen, from_c_algorithm, from_c_mask_gen, to_c_algorithm, to_c_mask_gen,
 };
 use crate::status::{NO_ROOM, NONCANONICAL, OK, status};
-use crate::written::write_encoding;
-use pkcs1::{RsaOaepParams, RsaOaepParamsRef};
+use crate::written::set_needed;
+use pkcs1::RsaOaepParamsView;
 
 /// Parameters of RSAES-OAEP.
 #[repr(C)]
@@ -32,8 +32,8 @@ pub struct OaepParams<'a> {
 }
 
 /// The C struct of parameters.
-fn to_c_oaep<'a>(read: &RsaOaepParamsRef<'a>) -> OaepParams<'a>
-    ensures seen { oaep_seen result ≡ oaep_of read.now }
+pub(crate) fn to_c_oaep<'a>(read: &RsaOaepParamsView<'a>) -> OaepParams<'a>
+    ensures seen { oaep_seen result ≡ oaep_viewed read.now }
     ensures tidy { OaepIsTidy result }
 {
     OaepParams {
@@ -44,15 +44,41 @@ fn to_c_oaep<'a>(read: &RsaOaepParamsRef<'a>) -> OaepParams<'a>
 }
 
 /// The parameters of a C struct.
-fn from_c_oaep<'a>(params: &OaepParams<'a>) -> pkcs1::Result<RsaOaepParamsRef<'a>>
-    ensures ok { IfOk result (λ made. oaep_of made ≡ oaep_seen params.now) }
+pub(crate) fn from_c_oaep<'a>(params: &OaepParams<'a>) -> pkcs1::Result<RsaOaepParamsView<'a>>
+    ensures ok { IfOk result (λ made. oaep_viewed made ≡ oaep_seen params.now) }
     ensures err { IfErr result (λ e. OaepFieldError (oaep_seen params.now) (status_of e)) }
 {
-    Ok(RsaOaepParams {
+    Ok(RsaOaepParamsView {
         hash: from_c_algorithm(&params.hash)?,
         mask_gen: from_c_mask_gen(&params.mask_gen)?,
         p_source: from_c_algorithm(&params.p_source)?,
     })
+}
+
+/// Writes the shortest encoding of the parameters, as `write_encoding` does.
+fn write_oaep(params: &RsaOaepParamsView<'_>, out: &mut [u8], len: &mut usize) -> u32
+    requires { HasEncoding grammar.RsaOaepParams (oaep_viewed params.now) }
+    ensures ok { result ≡ OK → IsShortest grammar.RsaOaepParams (oaep_viewed params.now) (take len.new out.new) }
+    ensures rest { result ≡ OK → (len.new ≤ length out.new) × (drop len.new out.new ≡ drop len.new out.old) }
+    ensures no_room { result ≡ NO_ROOM
+        → HasNoRoom grammar.RsaOaepParams (oaep_viewed params.now) (length out.old) len.new }
+    ensures exact { result ≢ OK
+        → EncodingError grammar.RsaOaepParams (oaep_viewed params.now) (length out.old) result }
+    ensures only { (status : ℕ) → EncodingError grammar.RsaOaepParams (oaep_viewed params.now) (length out.old) status
+        → result ≡ status }
+    ensures unchanged { result ≢ OK → out.new ≡ out.old }
+    ensures kept { result ≢ OK → result ≢ NO_ROOM → len.new ≡ len.old }
+{
+    match params.encode_params(out) {
+        Ok(written) => {
+            *len = written;
+            OK
+        }
+        Err(error) => {
+            set_needed(&params.keep(), len);
+            status(&error)
+        }
+    }
 }
 
 /// Decodes parameters of RSAES-OAEP. Returns 0 and fills `params` with parts of `encoding` and of static defaults, or
@@ -73,7 +99,7 @@ pub extern "C" fn pkcs1_c_oaep_params_decode<'a>(
     ensures tidy { result ≡ OK → OaepIsTidy params.new }
     ensures unchanged { result ≢ OK → params.new ≡ params.old }
 {
-    match RsaOaepParamsRef::try_from(encoding) {
+    match RsaOaepParamsView::try_from(encoding) {
         Ok(read) => {
             *params = to_c_oaep(&read);
             OK
@@ -104,7 +130,7 @@ pub extern "C" fn pkcs1_c_oaep_params_decode_strict<'a>(
     ensures tidy { result ≡ OK → OaepIsTidy params.new }
     ensures unchanged { result ≢ OK → params.new ≡ params.old }
 {
-    match RsaOaepParamsRef::from_der_strict(encoding) {
+    match RsaOaepParamsView::from_der_strict(encoding) {
         Ok(read) => {
             *params = to_c_oaep(&read);
             OK
@@ -133,7 +159,7 @@ pub extern "C" fn pkcs1_c_oaep_params_encode(
     ensures kept { result ≢ OK → result ≢ NO_ROOM → len.new ≡ len.old }
 {
     match from_c_oaep(params) {
-        Ok(made) => write_encoding(&made, out, len),
+        Ok(made) => write_oaep(&made, out, len),
         Err(failure) => status(&failure),
     }
 }

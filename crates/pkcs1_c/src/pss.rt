@@ -1,8 +1,8 @@
 //! Parameters of RSASSA-PSS.
 ghost use Rattle.std.specs.Prelude.{◌≡◌, ◌≢◌, ◌<◌, ◌≤◌, ◌⊎◌, ℕ, length, take, drop, IfOk, IfErr};
-ghost use Rattle.der_core.specs.Document.{Means, IsShortest};
+ghost use Rattle.der_core.specs.Document.{HasEncoding, Means, IsShortest};
 ghost use Rattle.pkcs1_params.specs.Parameters as grammar;
-ghost use Rattle.pkcs1_params.specs.PssValue.{pss_of};
+ghost use Rattle.pkcs1_params.specs.PssValue.{pss_viewed};
 ghost use Rattle.pkcs1_c.specs.NotWritten.{IsTooLong, HasNoRoom};
 ghost use Rattle.der_core.specs.declared.error.ErrorKind as der;
 ghost use Rattle.pkcs1_params.specs.ParameterFaults.{RsaPssParamsFault, StrictPssFault};
@@ -10,15 +10,15 @@ ghost use Rattle.pkcs1_params.specs.Parameters.{pss_fields};
 ghost use Rattle.spki_core.specs.StrictFields.{WritesDefault};
 ghost use Rattle.pkcs1_c.specs.Status.{kind_number, status_of, IsNumberOfFault};
 ghost use Rattle.pkcs1_c.specs.StructValues.{pss_seen, PssIsTidy};
-ghost use Rattle.pkcs1_c.specs.StructErrors.{PssError, PssFieldError};
+ghost use Rattle.pkcs1_c.specs.StructErrors.{EncodingError, PssError, PssFieldError};
 
 use crate::algorithm::{
     Algorithm, MaskGen, from_c_algorithm, from_c_mask_gen, to_c_algorithm, to_c_mask_gen,
 };
 use crate::status::{NO_ROOM, NONCANONICAL, OK, status};
-use crate::written::write_encoding;
+use crate::written::set_needed;
 use der_core::{ErrorKind, Tag};
-use pkcs1::{Error, RsaPssParams, RsaPssParamsRef, TrailerField};
+use pkcs1::{Error, RsaPssParamsView, TrailerField};
 
 /// Parameters of RSASSA-PSS.
 #[repr(C)]
@@ -35,8 +35,8 @@ pub struct PssParams<'a> {
 }
 
 /// The C struct of parameters.
-fn to_c_pss<'a>(read: &RsaPssParamsRef<'a>) -> PssParams<'a>
-    ensures seen { pss_seen result ≡ pss_of read.now }
+pub(crate) fn to_c_pss<'a>(read: &RsaPssParamsView<'a>) -> PssParams<'a>
+    ensures seen { pss_seen result ≡ pss_viewed read.now }
     ensures tidy { PssIsTidy result }
 {
     PssParams {
@@ -48,8 +48,8 @@ fn to_c_pss<'a>(read: &RsaPssParamsRef<'a>) -> PssParams<'a>
 }
 
 /// The parameters of a C struct.
-fn from_c_pss<'a>(params: &PssParams<'a>) -> pkcs1::Result<RsaPssParamsRef<'a>>
-    ensures ok { IfOk result (λ made. pss_of made ≡ pss_seen params.now) }
+pub(crate) fn from_c_pss<'a>(params: &PssParams<'a>) -> pkcs1::Result<RsaPssParamsView<'a>>
+    ensures ok { IfOk result (λ made. pss_viewed made ≡ pss_seen params.now) }
     ensures small { IfOk result (λ made. made.salt_len < 256) }
     ensures err { IfErr result (λ e. PssFieldError (pss_seen params.now) (status_of e)) }
 {
@@ -59,12 +59,38 @@ fn from_c_pss<'a>(params: &PssParams<'a>) -> pkcs1::Result<RsaPssParamsRef<'a>>
         let kind = ErrorKind::Value { tag: Tag::INTEGER };
         return Err(Error::Asn1(der_core::Error::new(kind)));
     }
-    Ok(RsaPssParams {
+    Ok(RsaPssParamsView {
         hash,
         mask_gen,
         salt_len: params.salt_len,
         trailer_field: TrailerField::BC,
     })
+}
+
+/// Writes the shortest encoding of the parameters, as `write_encoding` does.
+fn write_pss(params: &RsaPssParamsView<'_>, out: &mut [u8], len: &mut usize) -> u32
+    requires { HasEncoding grammar.RsaPssParams (pss_viewed params.now) }
+    ensures ok { result ≡ OK → IsShortest grammar.RsaPssParams (pss_viewed params.now) (take len.new out.new) }
+    ensures rest { result ≡ OK → (len.new ≤ length out.new) × (drop len.new out.new ≡ drop len.new out.old) }
+    ensures no_room { result ≡ NO_ROOM
+        → HasNoRoom grammar.RsaPssParams (pss_viewed params.now) (length out.old) len.new }
+    ensures exact { result ≢ OK
+        → EncodingError grammar.RsaPssParams (pss_viewed params.now) (length out.old) result }
+    ensures only { (status : ℕ) → EncodingError grammar.RsaPssParams (pss_viewed params.now) (length out.old) status
+        → result ≡ status }
+    ensures unchanged { result ≢ OK → out.new ≡ out.old }
+    ensures kept { result ≢ OK → result ≢ NO_ROOM → len.new ≡ len.old }
+{
+    match params.encode_params(out) {
+        Ok(written) => {
+            *len = written;
+            OK
+        }
+        Err(error) => {
+            set_needed(&params.keep(), len);
+            status(&error)
+        }
+    }
 }
 
 /// Decodes parameters of RSASSA-PSS. Returns 0 and fills `params` with parts of `encoding` and of static defaults, or
@@ -85,7 +111,7 @@ pub extern "C" fn pkcs1_c_pss_params_decode<'a>(
     ensures tidy { result ≡ OK → PssIsTidy params.new }
     ensures unchanged { result ≢ OK → params.new ≡ params.old }
 {
-    match RsaPssParamsRef::try_from(encoding) {
+    match RsaPssParamsView::try_from(encoding) {
         Ok(read) => {
             *params = to_c_pss(&read);
             OK
@@ -116,7 +142,7 @@ pub extern "C" fn pkcs1_c_pss_params_decode_strict<'a>(
     ensures tidy { result ≡ OK → PssIsTidy params.new }
     ensures unchanged { result ≢ OK → params.new ≡ params.old }
 {
-    match RsaPssParamsRef::from_der_strict(encoding) {
+    match RsaPssParamsView::from_der_strict(encoding) {
         Ok(read) => {
             *params = to_c_pss(&read);
             OK
@@ -145,7 +171,7 @@ pub extern "C" fn pkcs1_c_pss_params_encode(
     ensures kept { result ≢ OK → result ≢ NO_ROOM → len.new ≡ len.old }
 {
     match from_c_pss(params) {
-        Ok(made) => write_encoding(&made, out, len),
+        Ok(made) => write_pss(&made, out, len),
         Err(failure) => status(&failure),
     }
 }

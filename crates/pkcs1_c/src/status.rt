@@ -19,13 +19,13 @@ pub(crate) const LENGTH: u32 = 4;
 pub(crate) const NONCANONICAL: u32 = 5;
 /// An object identifier is malformed.
 pub(crate) const OID_MALFORMED: u32 = 6;
-/// The algorithm isn't rsaEncryption.
+/// The algorithm is another one.
 pub(crate) const OID_UNKNOWN: u32 = 7;
 /// A length is above the limit.
 pub(crate) const OVERFLOW: u32 = 8;
 /// A length isn't in shortest form.
 pub(crate) const OVERLENGTH: u32 = 9;
-/// The parameters of rsaEncryption are missing.
+/// The algorithm has no parameters.
 pub(crate) const PARAMETERS_MISSING: u32 = 10;
 /// Another tag was expected.
 pub(crate) const TAG_UNEXPECTED: u32 = 11;
@@ -104,10 +104,11 @@ fn status_octets(status: u32) -> &'static [u8]
         6 =>
             b"the object identifier is malformed: empty, cut off, not in shortest form, or over 39 octets\0",
         7 =>
-            b"the object identifier is another one: PKCS #8 with a key that is not RSA, or is an RSA-PSS key\0",
+            b"the object identifier is another one: another algorithm, or PKCS #8 with no RSA key or an RSA-PSS key\0",
         8 => b"a length passes the limit of 4294967295 octets\0",
         9 => b"the length is not in shortest form: this is not DER\0",
-        10 => b"the algorithm parameters are missing: rsaEncryption needs NULL\0",
+        10 =>
+            b"the algorithm parameters are missing: rsaEncryption needs NULL, RSASSA-PSS and RSAES-OAEP a SEQUENCE\0",
         11 =>
             b"another tag was expected: PEM, PKCS #8, SubjectPublicKeyInfo or an encrypted key, perhaps\0",
         12 => b"the tag octet is not known: this is not DER of a key or of parameters\0",

@@ -1,11 +1,22 @@
 //! Encoding into a caller's slice.
-ghost use Rattle.std.specs.Prelude.{◌≡◌, ◌≢◌, ◌≤◌, ℕ, length, take, drop};
+ghost use Rattle.std.specs.Prelude.{◌≡◌, ◌≢◌, ◌≤◌, ℕ, List, length, take, drop};
 ghost use Rattle.der_core.specs.Document.{HasEncoding, IsShortest};
-ghost use Rattle.pkcs1_c.specs.NotWritten.{HasNoRoom};
+ghost use Rattle.pkcs1_c.specs.NotWritten.{IsTooLong, HasNoRoom};
 ghost use Rattle.pkcs1_c.specs.StructErrors.{EncodingError};
 
 use crate::status::{NO_ROOM, OK, kind_number};
 use der_core::Encode;
+
+/// Sets `len` to the length of the shortest encoding of the value, if it has one within the limit.
+pub(crate) fn set_needed<T: Encode>(value: &T, len: &mut usize)
+    ensures needed { (encoding : List ℕ) → IsShortest T.encoding (T.value value.now) encoding
+        → len.new ≡ length encoding }
+    ensures kept { IsTooLong T.encoding (T.value value.now) → len.new ≡ len.old }
+{
+    if let Ok(length) = value.encoded_len() {
+        *len = length.to_usize();
+    }
+}
 
 /// Writes the shortest encoding of the value to the front of `out`. Returns 0, with its length in `len`, or `NO_ROOM`,
 /// with the needed length in `len`, or another status, with `len` unchanged.
@@ -26,9 +37,7 @@ pub(crate) fn write_encoding<T: Encode>(value: &T, out: &mut [u8], len: &mut usi
             OK
         }
         Err(error) => {
-            if let Ok(length) = value.encoded_len() {
-                *len = length.to_usize();
-            }
+            set_needed(value, len);
             kind_number(&error.kind)
         }
     }

@@ -5,7 +5,7 @@ ghost use Rattle.der_core.specs.Encodings.{IsDelimited};
 ghost use Rattle.spki_core.specs.AnyRefValue.{any_of};
 ghost use Rattle.spki_core.specs.AlgorithmValue.{algorithm_of, mask_of};
 ghost use Rattle.spki_core.specs.Explicit.{Field, HaveDefaults};
-ghost use Rattle.spki_core.specs.ObjectIdentifierValue.{octets_of};
+ghost use Rattle.spki_core.specs.ObjectIdentifierValue.{own_octets_of};
 ghost use Rattle.pkcs1_params.specs.Parameters.{PssParameters, RsaPssParams, pss_fields, OaepParameters, RsaOaepParams};
 ghost use Rattle.pkcs1_params.specs.Parameters.{oaep_fields};
 ghost use Rattle.pkcs1_params.specs.Defaults.{pss_defaults, oaep_defaults};
@@ -119,7 +119,7 @@ fn put_any(any: &AnyRef<'_>, out: &mut Vec<u8>) -> Result<(), AllocError>
 
 /// Appends the object identifier and `/` to `out`.
 fn put_identifier(oid: &ObjectIdentifier, out: &mut Vec<u8>) -> Result<(), AllocError>
-    ensures { OnOk result (out.new.items ≡ out.old.items ++ identifier_told (octets_of oid.now)) }
+    ensures { OnOk result (out.new.items ≡ out.old.items ++ identifier_told (own_octets_of oid.now)) }
 {
     put_hex(oid.as_bytes(), out)?;
     out.extend_from_slice(b"/")

@@ -11,7 +11,7 @@ use Rattle.der_core.specs.Writing.{Counts, WhyOctetsNotCounted, encode_error, jo
 use Rattle.der_core.specs.declared.error.Error.{Error}
 use Rattle.der_core.specs.declared.error.ErrorKind.TheVariants as kind
 use Rattle.der_core.specs.Laws.Counting.{counts_joined}
-use Rattle.spki_core.specs.IdentifierTest.{is_identifier-sound}
+use Rattle.spki_core.specs.Laws.IdentifierTest.{is_identifier-sound}
 use Rattle.spki_core.specs.ObjectIdentifier.{IsIdentifier}
 use Rattle.pkcs1_params.specs.Laws.Oaep.{oaep_relates, oaep_shortest}
 use Rattle.pkcs1_params.specs.OaepValue.{labelled, LabelFits, NoLabelFits}

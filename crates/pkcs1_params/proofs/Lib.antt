@@ -1,3 +1,5 @@
+mod AlgorithmRows
+pub mod Algorithms
 pub mod EmptySequences
 pub mod ParameterRows
 pub mod ParameterSpellings

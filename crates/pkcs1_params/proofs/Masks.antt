@@ -65,7 +65,7 @@ spelling_there fields n mask masks below =
     let e = masks.2 in
     let all = masks.3 in
     let r = masked_fits fields masks.0 mask all.0 masks.1 (rw e at below) all.1 all.2 in
-    (r.0, (r.1.1, r.1.0))
+    (r.0, (omega (arith, r.2, all.2), r.1))
 
 pub mask_in_range : (fields : List Field) (n mask : ℕ) → AreMasks fields n → mask < n → InRange fields mask
 mask_in_range fields n mask masks below = let e = masks.2 in in_range fields mask (masks.0, masks.1, rw e at below)

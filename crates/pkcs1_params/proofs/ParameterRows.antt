@@ -12,7 +12,7 @@ use Rattle.spki_core.specs.Any.{TagAndContents, Any}
 use Rattle.spki_core.specs.AlgorithmIdentifier.{Algorithm, AlgorithmIdentifier, PlainAlgorithm}
 use Rattle.spki_core.specs.Laws.Algorithms.{plain_delimited}
 use Rattle.spki_core.specs.Explicit.{Field, field, Defaultable}
-use Rattle.spki_core.specs.IdentifierTest.{is_identifier-sound}
+use Rattle.spki_core.specs.Laws.IdentifierTest.{is_identifier-sound}
 use Rattle.spki_core.specs.Laws.AlgorithmRows.{identifier_alone, identifier_and_parameters, sha1_alone, sha1_with_null, mgf1_with_sha1}
 use Rattle.spki_core.specs.Laws.KnownFields.{left_out_field, written_field, other_field_next, unknown_tag_rejected, field_written}
 use Rattle.pkcs1_params.specs.Parameters.{id_sha1, id_p_specified, with_parameters, sha1, mgf1_sha1, empty_label, TrailerField, PssParameters, RsaPssParams, OaepParameters, RsaOaepParams}

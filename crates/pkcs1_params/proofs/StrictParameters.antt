@@ -1,5 +1,5 @@
 -- Strict reading of parameters.
-use Rattle.std.proofs.Common.{ℕ, List, [], ◌∷◌, ◌≡◌, ◌≤◌, ◌+◌, ◌∙◌, ap, sym, length, get_or, refl, arith, Option}
+use Rattle.std.proofs.Common.{ℕ, List, ◌≡◌, ◌≤◌, ◌+◌, ◌∙◌, ap, sym, length, Option}
 use Rattle.der_core.specs.declared.error.ErrorKind.TheVariants.{Noncanonical}
 use Rattle.der_core.specs.declared.tag.Tag.{Tag}
 use Rattle.der_core.specs.Laws.Tags.{same_tag}
@@ -7,8 +7,6 @@ use Rattle.der_core.specs.Length.{limit}
 use Rattle.spki_core.specs.Explicit.{Field, FieldSequence}
 use Rattle.spki_core.specs.StrictFields.{WalksOver, NamesNumber, NamesDefault, WritesDefault}
 use Rattle.spki_core.specs.Laws.StrictWalk.{FoundIn, encoding_finds}
-use Rattle.pkcs1_params.specs.FieldRefs.{part_in, values_in}
-use Rattle.pkcs1_params.specs.declared.fields.FieldRef.{FieldRef}
 use Rattle.pkcs1_params.specs.Laws.FieldValues.{fields_of_bytes, in_order, marked}
 use Rattle.pkcs1_params.specs.Parts.{FieldValue, AreNumbered, defaults_in, fields_in}
 use Rattle.pkcs1_params.specs.Errors.{IsAsn1}
@@ -32,21 +30,3 @@ named_only n m tag error.Version same octet names = names
 pub found_among : (values : List FieldValue) → AreNumbered 0 values → (encoding : List ℕ) (found : Option ℕ) → length encoding ≤ limit → FieldSequence (fields_in values) encoding
     → WalksOver (defaults_in values) encoding found → FoundIn (fields_in values) encoding found
 found_among values numbered encoding found = encoding_finds (fields_in values) (defaults_in values) encoding found (in_order values 0 numbered) (fields_of_bytes values) (marked values 0 numbered)
-
--- Three or four fields, one after another.
-pub three_defaults : (fields : List FieldRef) (x y z : FieldRef) → length (values_in fields) ≡ 3
-    → (part_in (get_or fields 0 x)).is_default ∷ (part_in (get_or fields 1 y)).is_default ∷ (part_in (get_or fields 2 z)).is_default ∷ [] ≡ defaults_in (values_in fields)
-three_defaults [] x y z three = absurd (omega (arith, three))
-three_defaults (a ∷ []) x y z three = absurd (omega (arith, three))
-three_defaults (a ∷ b ∷ []) x y z three = absurd (omega (arith, three))
-three_defaults (a ∷ b ∷ c ∷ []) x y z three = refl
-three_defaults (a ∷ b ∷ c ∷ d ∷ fields) x y z three = absurd (omega (arith, three))
-
-pub four_defaults : (fields : List FieldRef) (w x y z : FieldRef) → length (values_in fields) ≡ 4
-    → (part_in (get_or fields 0 w)).is_default ∷ (part_in (get_or fields 1 x)).is_default ∷ (part_in (get_or fields 2 y)).is_default ∷ (part_in (get_or fields 3 z)).is_default ∷ [] ≡ defaults_in (values_in fields)
-four_defaults [] w x y z four = absurd (omega (arith, four))
-four_defaults (a ∷ []) w x y z four = absurd (omega (arith, four))
-four_defaults (a ∷ b ∷ []) w x y z four = absurd (omega (arith, four))
-four_defaults (a ∷ b ∷ c ∷ []) w x y z four = absurd (omega (arith, four))
-four_defaults (a ∷ b ∷ c ∷ d ∷ []) w x y z four = refl
-four_defaults (a ∷ b ∷ c ∷ d ∷ e ∷ fields) w x y z four = absurd (omega (arith, four))

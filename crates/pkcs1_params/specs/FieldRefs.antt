@@ -1,5 +1,4 @@
 -- The value of a borrowed field.
-use Rattle.std.specs.Prelude.{List, map}
 use Rattle.spki_core.specs.AlgorithmValue.{viewed_with}
 use Rattle.spki_core.specs.AnyRefValue.{any_of}
 use Rattle.spki_core.specs.Masks.{Part}
@@ -16,6 +15,3 @@ value_of (ref.PSource v) = p_source_field (viewed_with any_of v.now)
 
 abbrev pub part_in : FieldRef → Part
 part_in f = part_of (value_of f)
-
-abbrev pub values_in : List FieldRef → List FieldValue
-values_in fields = map value_of fields

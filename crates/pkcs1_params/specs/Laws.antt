@@ -1,4 +1,5 @@
 -- Lemmas on the definitions, which proofs here and in the crates above may cite.
+pub mod Algorithms
 pub mod Errors
 pub mod FaultsTold
 pub mod FieldValues

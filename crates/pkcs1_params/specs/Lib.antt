@@ -16,4 +16,5 @@ pub mod FieldRefs
 pub mod LabelWriting
 pub mod ParameterFaults
 pub mod DefaultBits
+pub mod Algorithms
 pub mod Laws

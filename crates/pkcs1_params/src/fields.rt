@@ -1,5 +1,5 @@
 //! The fields of parameters, and writing them under a mask that says which defaults are written.
-ghost use Rattle.std.specs.Prelude.{Bool, true, false, ◌≡◌, ◌≤◌, ◌<◌, ◌+◌, ◌*◌, ◌++◌, ℕ, length};
+ghost use Rattle.std.specs.Prelude.{Bool, false, ◌≡◌, ◌≤◌, ◌<◌, ◌+◌, ◌*◌, ◌++◌, ◌^◌, ℕ, List, [], ◌∷◌, length};
 ghost use Rattle.der_core.specs.BackWriters.{free_of, Prepends};
 ghost use Rattle.der_core.specs.Length.{limit};
 ghost use Rattle.der_core.specs.Writing.{Counts, Appends};
@@ -7,9 +7,9 @@ ghost use Rattle.spki_core.specs.Explicit.{HaveDefaults};
 ghost use Rattle.spki_core.specs.FieldWriting.{HasField, written_field};
 ghost use Rattle.spki_core.specs.Masks.{out_under, rest_under};
 ghost use Rattle.spki_core.specs.StrictFields.{number_in};
-ghost use Rattle.pkcs1_params.specs.FieldRefs.{value_of, part_in, values_in};
+ghost use Rattle.pkcs1_params.specs.FieldRefs.{value_of, part_in};
 ghost use Rattle.pkcs1_params.specs.DefaultBits.{bit_of, bits_of};
-ghost use Rattle.pkcs1_params.specs.Parts.{defaults_in, fields_in, HasFields, NoneWritten, written_fields};
+ghost use Rattle.pkcs1_params.specs.Parts.{FieldValue, defaults_in, fields_in, HasFields, written_fields};
 
 use crate::hash_fields::{is_default_hash, is_default_mask_gen};
 use crate::p_source::is_default_source;
@@ -37,6 +37,7 @@ fn lemma_is_octet(number: u8)
 }
 
 impl FieldRef<'_> {
+    #[inline(always)]
     fn number(&self) -> TagNumber
         ensures { number_in result ≡ (part_in self.now).field.number }
     {
@@ -77,6 +78,7 @@ impl FieldRef<'_> {
     }
 
     /// The length of the written field.
+    #[inline(always)]
     fn len(&self) -> Result<Length>
         ensures { let part = part_in self.now in
             Counts (HasField false part.has) (written_field false part.field.number part.encoding) result }
@@ -109,6 +111,7 @@ impl FieldRef<'_> {
     }
 
     /// Writes the field in front of what is filled.
+    #[inline(always)]
     fn prepend(&self, writer: &mut BackWriter<'_>)
         requires has { HasField false (part_in self.now).has }
         requires fits { let part = part_in self.now in
@@ -143,126 +146,142 @@ pub(crate) fn under(default: bool, mask: u8) -> (bool, u8)
 
 /// Whether the field has its default, and the bits for the later ones.
 #[inline(always)]
-fn split_changed(changed: u8, _field: &FieldRef<'_>, _later: &[FieldRef<'_>]) -> (bool, u8)
-    requires { changed ≡ bit_of (part_in _field.now).is_default + 2 * bits_of (defaults_in (values_in _later.now)) }
-    ensures { result ≡ ((part_in _field.now).is_default, bits_of (defaults_in (values_in _later.now))) }
+fn split_changed<L: Fields>(changed: u8, _field: &FieldRef<'_>, _later: &L) -> (bool, u8)
+    requires { changed ≡ bit_of (part_in _field.now).is_default + 2 * bits_of (defaults_in (L.values _later.now)) }
+    ensures { result ≡ ((part_in _field.now).is_default, bits_of (defaults_in (L.values _later.now))) }
 {
     (changed % 2 == 0, changed / 2)
 }
 
-/// Whether no field is written: each has its default, and the mask names none of them.
-#[inline(always)]
-fn none_written(_fields: &[FieldRef<'_>], changed: u8, mask: u8) -> bool
-    requires { changed ≡ bits_of (defaults_in (values_in _fields.now)) }
-    ensures { result ≡ true → NoneWritten (values_in _fields.now) mask }
-{
-    changed == 0 && mask == 0
+/// Fields with their values, in order. Each list has a type of its own, so that code for it has no loop.
+pub(crate) trait Fields: Copy + Drop {
+    ghost values: { Self → List FieldValue };
+
+    /// Does nothing: its contract says that there are contents under each mask, and bounds their length.
+    fn lemma_are_held(&self)
+        ensures { (mask : ℕ) → HasFields (values self.now) mask
+            × (length (written_fields (values self.now) mask) ≤ length (values self.now) * (limit + 846)) };
+
+    /// Which fields differ from their defaults, as bits: bit j is that of field j.
+    fn changed(&self) -> u8
+        requires { length (values self.now) ≤ 7 }
+        ensures is { result ≡ bits_of (defaults_in (values self.now)) }
+        ensures few { result < 2 ^ length (values self.now) };
+
+    /// How many of the fields have their defaults.
+    fn count_defaults(&self) -> u8
+        requires { length (values self.now) ≤ 7 }
+        ensures count { HaveDefaults (fields_in (values self.now)) result }
+        ensures few { result ≤ length (values self.now) };
+
+    /// The length of the fields under a mask. Bit j of `changed` says whether field j differs from its default.
+    fn len(&self, changed: u8, mask: u8) -> Result<Length>
+        requires { changed ≡ bits_of (defaults_in (values self.now)) }
+        ensures { Counts (HasFields (values self.now) mask) (written_fields (values self.now) mask) result };
+
+    /// Appends the fields under a mask.
+    fn append<W: Writer>(&self, changed: u8, mask: u8, writer: &mut W) -> Result<()>
+        requires changed { changed ≡ bits_of (defaults_in (values self.now)) }
+        requires has { HasFields (values self.now) mask }
+        requires fits { length (written_fields (values self.now) mask) ≤ limit }
+        ensures appends { let octets = written_fields (values self.now) mask in
+            Appends (HasFields (values self.now) mask) octets W.room W.written writer.old writer.new result }
+        ensures kept { W.keeps writer.old writer.new };
+
+    /// Writes the fields under a mask in front of what is filled, the last one first.
+    fn prepend(&self, changed: u8, mask: u8, writer: &mut BackWriter<'_>)
+        requires changed { changed ≡ bits_of (defaults_in (values self.now)) }
+        requires has { HasFields (values self.now) mask }
+        requires fits { length (written_fields (values self.now) mask) ≤ limit }
+        requires room { length (written_fields (values self.now) mask) ≤ free_of writer.old }
+        ensures { Prepends (written_fields (values self.now) mask) writer.old writer.new };
 }
 
-/// How many of the fields have their defaults.
-pub(crate) fn count_defaults(fields: &[FieldRef<'_>]) -> u8
-    requires { length fields.now ≤ 7 }
-    ensures count { HaveDefaults (fields_in (values_in fields.now)) result }
-    ensures few { result ≤ length fields.now }
-{
-    match fields.split_first() {
-        None => 0,
-        Some((field, later)) => u8::from(field.is_default()) + count_defaults(later),
-    }
+/// No field.
+#[derive(Clone, Copy, Drop)]
+pub(crate) struct NoField;
+
+/// A field and the later ones.
+#[derive(Clone, Copy, Drop)]
+pub(crate) struct FieldThen<'b, L> {
+    pub(crate) first: FieldRef<'b>,
+    pub(crate) later: L,
 }
 
-/// The bit of a field: 0 if it has its default.
-#[inline(always)]
-pub(crate) fn bit(default: bool) -> u8
-    ensures is { result ≡ bit_of default }
-    ensures few { result ≤ 1 }
-{
-    u8::from(!default)
+impl Fields for NoField {
+    ghost values = { λ _. [] };
+
+    fn lemma_are_held(&self) {}
+
+    #[inline(always)]
+    fn changed(&self) -> u8 {
+        0
+    }
+
+    #[inline(always)]
+    fn count_defaults(&self) -> u8 {
+        0
+    }
+
+    #[inline(always)]
+    fn len(&self, _changed: u8, _mask: u8) -> Result<Length> {
+        Ok(Length::ZERO)
+    }
+
+    #[inline(always)]
+    fn append<W: Writer>(&self, _changed: u8, _mask: u8, _writer: &mut W) -> Result<()> {
+        Ok(())
+    }
+
+    #[inline(always)]
+    fn prepend(&self, _changed: u8, _mask: u8, _writer: &mut BackWriter<'_>) {}
 }
 
-/// Does nothing: its contract says that there are contents under each mask, and bounds their length.
-pub(crate) fn lemma_are_held(fields: &[FieldRef<'_>])
-    ensures { (mask : ℕ) → HasFields (values_in fields.now) mask
-        × (length (written_fields (values_in fields.now) mask) ≤ length (values_in fields.now) * (limit + 846)) }
-{
-    if let Some((field, later)) = fields.split_first() {
-        field.lemma_is_held();
-        lemma_are_held(later);
-    }
-}
+impl<L: Fields> Fields for FieldThen<'_, L> {
+    ghost values = { λ fields. value_of fields.first ∷ L.values fields.later };
 
-/// The length of the fields under a mask. Bit j of `changed` says whether field j differs from its default.
-pub(crate) fn fields_len(fields: &[FieldRef<'_>], changed: u8, mask: u8) -> Result<Length>
-    requires { changed ≡ bits_of (defaults_in (values_in fields.now)) }
-    ensures { let values = values_in fields.now in
-        Counts (HasFields values mask) (written_fields values mask) result }
-{
-    if none_written(fields, changed, mask) {
-        return Ok(Length::ZERO);
+    fn lemma_are_held(&self) {
+        self.first.lemma_is_held();
+        self.later.lemma_are_held();
     }
-    match fields.split_first() {
-        None => Ok(Length::ZERO),
-        Some((field, later)) => {
-            let (default, changed) = split_changed(changed, field, later);
-            let (left_out, mask) = under(default, mask);
-            let later = fields_len(later, changed, mask);
-            if left_out {
-                later
-            } else {
-                joined_len(field.len(), later)
-            }
-        }
-    }
-}
 
-/// Appends the fields under a mask.
-pub(crate) fn append_fields<W: Writer>(
-    fields: &[FieldRef<'_>],
-    changed: u8,
-    mask: u8,
-    writer: &mut W,
-) -> Result<()>
-    requires changed { changed ≡ bits_of (defaults_in (values_in fields.now)) }
-    requires has { HasFields (values_in fields.now) mask }
-    requires fits { length (written_fields (values_in fields.now) mask) ≤ limit }
-    ensures appends { let values = values_in fields.now in
-        let octets = written_fields values mask in
-        Appends (HasFields values mask) octets W.room W.written writer.old writer.new result }
-    ensures kept { W.keeps writer.old writer.new }
-{
-    match fields.split_first() {
-        None => Ok(()),
-        Some((field, later)) => {
-            let (default, changed) = split_changed(changed, field, later);
-            let (left_out, mask) = under(default, mask);
-            field.encode(left_out, writer)?;
-            append_fields(later, changed, mask, writer)
-        }
+    #[inline(always)]
+    fn changed(&self) -> u8 {
+        u8::from(!self.first.is_default()) + 2 * self.later.changed()
     }
-}
 
-/// Writes the fields under a mask in front of what is filled, the last one first.
-pub(crate) fn prepend_fields(
-    fields: &[FieldRef<'_>],
-    changed: u8,
-    mask: u8,
-    writer: &mut BackWriter<'_>,
-)
-    requires changed { changed ≡ bits_of (defaults_in (values_in fields.now)) }
-    requires has { HasFields (values_in fields.now) mask }
-    requires fits { length (written_fields (values_in fields.now) mask) ≤ limit }
-    requires room { length (written_fields (values_in fields.now) mask) ≤ free_of writer.old }
-    ensures { Prepends (written_fields (values_in fields.now) mask) writer.old writer.new }
-{
-    if none_written(fields, changed, mask) {
-        return;
+    #[inline(always)]
+    fn count_defaults(&self) -> u8 {
+        u8::from(self.first.is_default()) + self.later.count_defaults()
     }
-    if let Some((field, later)) = fields.split_first() {
-        let (default, changed) = split_changed(changed, field, later);
+
+    #[inline(always)]
+    fn len(&self, changed: u8, mask: u8) -> Result<Length> {
+        let (default, changed) = split_changed(changed, &self.first, &self.later);
         let (left_out, mask) = under(default, mask);
-        prepend_fields(later, changed, mask, writer);
+        let later = self.later.len(changed, mask);
+        if left_out {
+            later
+        } else {
+            joined_len(self.first.len(), later)
+        }
+    }
+
+    #[inline(always)]
+    fn append<W: Writer>(&self, changed: u8, mask: u8, writer: &mut W) -> Result<()> {
+        let (default, changed) = split_changed(changed, &self.first, &self.later);
+        let (left_out, mask) = under(default, mask);
+        self.first.encode(left_out, writer)?;
+        self.later.append(changed, mask, writer)
+    }
+
+    #[inline(always)]
+    fn prepend(&self, changed: u8, mask: u8, writer: &mut BackWriter<'_>) {
+        let (default, changed) = split_changed(changed, &self.first, &self.later);
+        let (left_out, mask) = under(default, mask);
+        self.later.prepend(changed, mask, writer);
         if !left_out {
-            field.prepend(writer);
+            self.first.prepend(writer);
         }
     }
 }

@@ -1,5 +1,9 @@
 //! Laws of the grammars of parameters: functions that do nothing, each with a law as its contract.
-ghost use Rattle.der_core.specs.Document.{SameByShortest};
+ghost use Rattle.der_core.specs.Document.{Excludes, SameByShortest};
+ghost use Rattle.der_core.specs.Encodings.{IsDelimited};
+ghost use Rattle.spki_core.specs.AlgorithmIdentifier.{PlainAlgorithm};
+ghost use Rattle.pkcs1_params.specs.Algorithms.{RsaPssAlgorithm, RsaOaepAlgorithm, id_rsassa_pss, id_rsaes_oaep};
+ghost use Rattle.pkcs1_params.specs.Algorithms.{AreCountedIn};
 ghost use Rattle.pkcs1_params.specs.Parameters.{pss_fields, oaep_fields};
 ghost use Rattle.pkcs1_params.specs.Parameters as parameters;
 ghost use Rattle.pkcs1_params.specs.Spellings.{
@@ -35,4 +39,23 @@ pub fn lemma_oaep_spellings()
     ensures fits { AcceptedFits oaep_fields }
     ensures count { TwoToTheDefaults oaep_fields }
     ensures same { SameByShortest parameters.RsaOaepParams }
+{}
+
+/// Each encoding of an identifier with PSS or OAEP parameters means one value, and is no proper beginning of another;
+/// two mean the same exactly if the shortest encodings of what they mean are equal; of k default fields there are two
+/// to the k encodings.
+pub fn lemma_algorithms()
+    ensures pss { IsDelimited RsaPssAlgorithm }
+    ensures oaep { IsDelimited RsaOaepAlgorithm }
+    ensures same_pss { SameByShortest RsaPssAlgorithm }
+    ensures same_oaep { SameByShortest RsaOaepAlgorithm }
+    ensures count_pss { AreCountedIn id_rsassa_pss pss_fields }
+    ensures count_oaep { AreCountedIn id_rsaes_oaep oaep_fields }
+{}
+
+/// No bytes encode identifiers of both algorithms, or an identifier and parameters alone.
+pub fn lemma_algorithms_exclude_each_other()
+    ensures algorithms { Excludes RsaPssAlgorithm RsaOaepAlgorithm }
+    ensures pss { Excludes parameters.RsaPssParams PlainAlgorithm }
+    ensures oaep { Excludes parameters.RsaOaepParams PlainAlgorithm }
 {}

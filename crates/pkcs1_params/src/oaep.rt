@@ -77,7 +77,7 @@ impl<'a, M: Memory> DecodeValue<&'a [u8], M> for RsaOaepParams<AnyRef<'a>> {
     ghost use Rattle.spki_core.specs.Any.{Any};
     ghost use Rattle.spki_core.specs.Laws.AnyEncodings.{any_delimited};
     ghost use Rattle.spki_core.specs.AnyRefValue.{any_of};
-    ghost use Rattle.spki_core.specs.AnyValues.{holds_itself};
+    ghost use Rattle.spki_core.specs.Laws.AnyValues.{holds_itself};
     ghost use Rattle.spki_core.specs.Faults.{AnyFault};
     ghost use Rattle.spki_core.specs.Laws.Faults.{any_fault_none, any_fault_first};
     ghost use Rattle.pkcs1_params.specs.ParameterFaults.{OaepFault};
@@ -179,7 +179,7 @@ impl<'a> RsaOaepParams<AnyRef<'a>> {
 }
 
 impl<P: AnyValue> EqualByValue for RsaOaepParams<P> {
-    ghost use Rattle.spki_core.specs.AnyValues.{holds_decides};
+    ghost use Rattle.spki_core.specs.Laws.AnyValues.{holds_decides};
     ghost use Rattle.pkcs1_params.specs.ParameterEquality.{oaep_decides};
     ghost use Rattle.pkcs1_params.specs.OaepValue.{oaep_with};
     ghost use Rattle.pkcs1_params.specs.AlgorithmEquality.{plain_decides, mask_decides};
@@ -209,11 +209,11 @@ impl<P: AnyValue + TryClone> TryClone for RsaOaepParams<P> {
 
 impl RsaOaepParams<Any> {
     ghost use Rattle.pkcs1_params.specs.OaepValue.{oaep_with};
-    ghost use Rattle.spki_core.specs.OwnedAnyValue.{any_in};
+    ghost use Rattle.spki_core.specs.OwnedAnyValue.{own_any_of};
 
     /// Every field at its default. Nothing is allocated.
     pub fn default_in(alloc: Global) -> RsaOaepParams<Any>
-        ensures { oaep_with any_in result ≡ record { hash = sha1; mask_gen = mgf1_sha1; p_source = empty_label } }
+        ensures { oaep_with own_any_of result ≡ record { hash = sha1; mask_gen = mgf1_sha1; p_source = empty_label } }
     {
         RsaOaepParams {
             hash: with_null::<Sha1, Any, Global>(alloc),

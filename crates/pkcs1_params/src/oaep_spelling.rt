@@ -1,7 +1,6 @@
 //! The fields and the spellings of RSAES-OAEP parameters.
 ghost use Rattle.std.specs.Prelude.{◌≡◌, ◌≤◌, length, take, drop, OnOk, OnErr, IfOk, IfErr};
 ghost use Rattle.spki_core.specs.Explicit.{HaveDefaults};
-ghost use Rattle.pkcs1_params.specs.FieldRefs.{values_in};
 ghost use Rattle.pkcs1_params.specs.Laws.Oaep.{oaep_means_one};
 ghost use Rattle.pkcs1_params.specs.OaepValue.{oaep_viewed, oaep_with};
 ghost use Rattle.pkcs1_params.specs.Laws.Parameters.{oaep_numbered};
@@ -11,26 +10,33 @@ ghost use Rattle.pkcs1_params.specs.Spellings.{IsMask, StandsUnder, IsSpellingEr
 ghost use Rattle.pkcs1_params.specs.Spellings.{IsListingError, encodings_in};
 
 use crate::error::Result;
-use crate::fields::{
-    FieldRef, append_fields, bit, count_defaults, fields_len, lemma_are_held, prepend_fields,
-};
+use crate::fields::{FieldRef, FieldThen, Fields, NoField};
+use crate::hash_fields::{is_default_hash, is_default_mask_gen};
 use crate::oaep::RsaOaepParams;
 use crate::oaep_view::RsaOaepParamsView;
+use crate::p_source::is_default_source;
 use crate::spelling::{DefaultFields, all_spellings, spell_into};
 use der_core::{BackWriter, Length, TagNumber, Writer};
 use spki_core::{AnyValue, written_default};
 use std::alloc::Global;
 
+type OaepFields<'b> = FieldThen<'b, FieldThen<'b, FieldThen<'b, NoField>>>;
+
 impl RsaOaepParamsView<'_> {
     /// The fields, in order.
-    pub(crate) fn fields(&self) -> [FieldRef<'_>; 3]
-        ensures { values_in result ≡ oaep_values (oaep_viewed self.now) }
+    pub(crate) fn fields<'b>(&'b self) -> OaepFields<'b>
+        ensures { ⟦<OaepFields<'b> as Fields>⟧.values result ≡ oaep_values (oaep_viewed self.now) }
     {
-        [
-            FieldRef::Hash(&self.hash),
-            FieldRef::MaskGen(&self.mask_gen),
-            FieldRef::PSource(&self.p_source),
-        ]
+        FieldThen {
+            first: FieldRef::Hash(&self.hash),
+            later: FieldThen {
+                first: FieldRef::MaskGen(&self.mask_gen),
+                later: FieldThen {
+                    first: FieldRef::PSource(&self.p_source),
+                    later: NoField,
+                },
+            },
+        }
     }
 }
 
@@ -46,30 +52,28 @@ impl DefaultFields for RsaOaepParamsView<'_> {
     ghost fields_mean_one = { oaep_means_one };
 
     fn lemma_is_held(&self) {
-        lemma_are_held(&self.fields());
+        self.fields().lemma_are_held();
     }
 
     fn changed(&self) -> u8 {
-        let [hash, mask_gen, p_source] = self.fields();
-        bit(hash.is_default()) + 2 * bit(mask_gen.is_default()) + 4 * bit(p_source.is_default())
+        self.fields().changed()
     }
 
     fn count_defaults(&self) -> u8 {
-        count_defaults(&self.fields())
+        self.fields().count_defaults()
     }
 
     fn written_default(&self, bytes: &[u8]) -> Option<TagNumber> {
-        let [hash, mask_gen, p_source] = self.fields();
         let defaults = [
-            hash.is_default(),
-            mask_gen.is_default(),
-            p_source.is_default(),
+            is_default_hash(&self.hash),
+            is_default_mask_gen(&self.mask_gen),
+            is_default_source(&self.p_source),
         ];
         written_default(bytes, &defaults)
     }
 
     fn len_under(&self, changed: u8, mask: u8) -> der_core::Result<Length> {
-        fields_len(&self.fields(), changed, mask)
+        self.fields().len(changed, mask)
     }
 
     fn append_under<W: Writer>(
@@ -78,11 +82,11 @@ impl DefaultFields for RsaOaepParamsView<'_> {
         mask: u8,
         writer: &mut W,
     ) -> der_core::Result<()> {
-        append_fields(&self.fields(), changed, mask, writer)
+        self.fields().append(changed, mask, writer)
     }
 
     fn prepend_under(&self, changed: u8, mask: u8, writer: &mut BackWriter<'_>) {
-        prepend_fields(&self.fields(), changed, mask, writer);
+        self.fields().prepend(changed, mask, writer);
     }
 }
 

@@ -154,7 +154,7 @@ impl<'a, M: Memory> DecodeValue<&'a [u8], M> for RsaOaepParamsView<'a> {
     ghost use Rattle.spki_core.specs.Any.{Any};
     ghost use Rattle.spki_core.specs.Laws.AnyEncodings.{any_delimited};
     ghost use Rattle.spki_core.specs.AnyRefValue.{any_of};
-    ghost use Rattle.spki_core.specs.AnyValues.{holds_itself};
+    ghost use Rattle.spki_core.specs.Laws.AnyValues.{holds_itself};
     ghost use Rattle.spki_core.specs.Faults.{AnyFault};
     ghost use Rattle.spki_core.specs.Laws.Faults.{any_fault_none, any_fault_first};
     ghost use Rattle.pkcs1_params.specs.ParameterFaults.{OaepFault};

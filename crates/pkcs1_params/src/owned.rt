@@ -9,10 +9,10 @@ ghost use Rattle.spki_core.specs.AlgorithmValue.{algorithm_with, algorithm_of, m
 ghost use Rattle.spki_core.specs.Any as grammar;
 ghost use Rattle.spki_core.specs.Laws.AnyEncodings.{any_delimited};
 ghost use Rattle.spki_core.specs.AnyRefValue.{any_of};
-ghost use Rattle.spki_core.specs.AnyValues.{holds_itself};
+ghost use Rattle.spki_core.specs.Laws.AnyValues.{holds_itself};
 ghost use Rattle.spki_core.specs.Faults.{AnyFault};
 ghost use Rattle.spki_core.specs.Laws.Faults.{any_fault_none, any_fault_first};
-ghost use Rattle.spki_core.specs.OwnedAnyValue.{any_in};
+ghost use Rattle.spki_core.specs.OwnedAnyValue.{own_any_of};
 
 use crate::hash_fields::{MaskGen, MaskGenRef};
 use crate::oaep::{RsaOaepParams, RsaOaepParamsOwned, RsaOaepParamsRef};
@@ -23,7 +23,7 @@ use std::alloc::Global;
 
 /// Copies the contents octets. Nothing is allocated if there are none.
 fn copy_any(alloc: Global, any: AnyRef<'_>) -> Result<Any>
-    ensures ok { IfOk result (λ copy. any_in copy ≡ any_of any.entry) }
+    ensures ok { IfOk result (λ copy. own_any_of copy ≡ any_of any.entry) }
     ensures err { IfErr result (λ e. (e.kind ≡ OutOfMemory) × HasOctets (any_of any.entry)) }
 {
     if any.value().is_empty() {
@@ -37,7 +37,7 @@ fn copy_plain(
     alloc: Global,
     algorithm: AlgorithmIdentifierRef<'_>,
 ) -> Result<AlgorithmIdentifier<Any>>
-    ensures ok { IfOk result (λ copy. algorithm_with any_in copy ≡ algorithm_of algorithm.entry) }
+    ensures ok { IfOk result (λ copy. algorithm_with own_any_of copy ≡ algorithm_of algorithm.entry) }
     ensures err { let has = HasParameters HasOctets (algorithm_of algorithm.entry) in
         IfErr result (λ e. (e.kind ≡ OutOfMemory) × has) }
 {
@@ -53,7 +53,7 @@ fn copy_plain(
 
 /// Copies a mask generation function.
 fn copy_mask_gen(alloc: Global, mask_gen: MaskGenRef<'_>) -> Result<MaskGen<Any>>
-    ensures ok { IfOk result (λ copy. algorithm_with (algorithm_with any_in) copy ≡ mask_of mask_gen.entry) }
+    ensures ok { IfOk result (λ copy. algorithm_with (algorithm_with own_any_of) copy ≡ mask_of mask_gen.entry) }
     ensures err { let has = HasParameters (HasParameters HasOctets) (mask_of mask_gen.entry) in
         IfErr result (λ e. (e.kind ≡ OutOfMemory) × has) }
 {
@@ -69,7 +69,7 @@ fn copy_mask_gen(alloc: Global, mask_gen: MaskGenRef<'_>) -> Result<MaskGen<Any>
 
 /// Copies RSASSA-PSS parameters.
 fn copy_pss(alloc: Global, params: RsaPssParamsRef<'_>) -> Result<RsaPssParamsOwned>
-    ensures ok { IfOk result (λ copy. pss_with any_in copy ≡ pss_of params.entry) }
+    ensures ok { IfOk result (λ copy. pss_with own_any_of copy ≡ pss_of params.entry) }
     ensures err { let p = pss_of params.entry in
         let asks = HashesHaveOctets p.hash p.mask_gen in
         IfErr result (λ e. (e.kind ≡ OutOfMemory) × asks) }
@@ -84,7 +84,7 @@ fn copy_pss(alloc: Global, params: RsaPssParamsRef<'_>) -> Result<RsaPssParamsOw
 
 /// Copies RSAES-OAEP parameters.
 fn copy_oaep(alloc: Global, params: RsaOaepParamsRef<'_>) -> Result<RsaOaepParamsOwned>
-    ensures ok { IfOk result (λ copy. oaep_with any_in copy ≡ oaep_of params.entry) }
+    ensures ok { IfOk result (λ copy. oaep_with own_any_of copy ≡ oaep_of params.entry) }
     ensures err { let p = oaep_of params.entry in
         let asks = HashesHaveOctets p.hash p.mask_gen ⊎ HasParameters HasOctets p.p_source in
         IfErr result (λ e. (e.kind ≡ OutOfMemory) × asks) }
@@ -116,10 +116,10 @@ impl<'a> DecodeValue<&'a [u8], Global> for RsaPssParams<Any> {
         }
     }
 
-    ghost fault_none = { pss_fault_none grammar.Any AnyFault any_delimited any_fault_none (holds_itself any_in) };
+    ghost fault_none = { pss_fault_none grammar.Any AnyFault any_delimited any_fault_none (holds_itself own_any_of) };
 
     ghost fault_first = { let none = any_fault_none in
-        pss_fault_first grammar.Any AnyFault any_delimited none (holds_itself any_in) any_fault_first };
+        pss_fault_first grammar.Any AnyFault any_delimited none (holds_itself own_any_of) any_fault_first };
 }
 
 impl<'a> DecodeValue<&'a [u8], Global> for RsaOaepParams<Any> {
@@ -142,8 +142,8 @@ impl<'a> DecodeValue<&'a [u8], Global> for RsaOaepParams<Any> {
         }
     }
 
-    ghost fault_none = { oaep_fault_none grammar.Any AnyFault any_delimited any_fault_none (holds_itself any_in) };
+    ghost fault_none = { oaep_fault_none grammar.Any AnyFault any_delimited any_fault_none (holds_itself own_any_of) };
 
     ghost fault_first = { let none = any_fault_none in
-        oaep_fault_first grammar.Any AnyFault any_delimited none (holds_itself any_in) any_fault_first };
+        oaep_fault_first grammar.Any AnyFault any_delimited none (holds_itself own_any_of) any_fault_first };
 }

@@ -84,7 +84,7 @@ impl<'a, M: Memory> DecodeValue<&'a [u8], M> for RsaPssParams<AnyRef<'a>> {
     ghost use Rattle.spki_core.specs.Any.{Any};
     ghost use Rattle.spki_core.specs.Laws.AnyEncodings.{any_delimited};
     ghost use Rattle.spki_core.specs.AnyRefValue.{any_of};
-    ghost use Rattle.spki_core.specs.AnyValues.{holds_itself};
+    ghost use Rattle.spki_core.specs.Laws.AnyValues.{holds_itself};
     ghost use Rattle.spki_core.specs.Faults.{AnyFault};
     ghost use Rattle.spki_core.specs.Laws.Faults.{any_fault_none, any_fault_first};
     ghost use Rattle.pkcs1_params.specs.ParameterFaults.{PssFault};
@@ -217,7 +217,7 @@ impl<'a> RsaPssParams<AnyRef<'a>> {
 }
 
 impl<P: AnyValue> EqualByValue for RsaPssParams<P> {
-    ghost use Rattle.spki_core.specs.AnyValues.{holds_decides};
+    ghost use Rattle.spki_core.specs.Laws.AnyValues.{holds_decides};
     ghost use Rattle.pkcs1_params.specs.ParameterEquality.{pss_decides};
     ghost use Rattle.pkcs1_params.specs.AlgorithmEquality.{plain_decides, mask_decides};
 
@@ -244,11 +244,11 @@ impl<P: AnyValue + TryClone> TryClone for RsaPssParams<P> {
 }
 
 impl RsaPssParams<Any> {
-    ghost use Rattle.spki_core.specs.OwnedAnyValue.{any_in};
+    ghost use Rattle.spki_core.specs.OwnedAnyValue.{own_any_of};
 
     /// Every field at its default. Nothing is allocated.
     pub fn default_in(alloc: Global) -> RsaPssParams<Any>
-        ensures { pss_with any_in result
+        ensures { pss_with own_any_of result
             ≡ record { hash = sha1; mask_gen = mgf1_sha1; salt_len = 20; trailer_field = 1 } }
     {
         RsaPssParams {

@@ -1,7 +1,6 @@
 //! The fields and the spellings of RSASSA-PSS parameters.
 ghost use Rattle.std.specs.Prelude.{◌≡◌, ◌≤◌, length, take, drop, OnOk, OnErr, IfOk, IfErr};
 ghost use Rattle.spki_core.specs.Explicit.{HaveDefaults};
-ghost use Rattle.pkcs1_params.specs.FieldRefs.{values_in};
 ghost use Rattle.pkcs1_params.specs.Laws.Pss.{pss_means_one};
 ghost use Rattle.pkcs1_params.specs.PssValue.{pss_viewed, pss_with};
 ghost use Rattle.pkcs1_params.specs.Laws.Parameters.{pss_numbered};
@@ -11,27 +10,36 @@ ghost use Rattle.pkcs1_params.specs.Spellings.{IsMask, StandsUnder, IsSpellingEr
 ghost use Rattle.pkcs1_params.specs.Spellings.{IsListingError, encodings_in};
 
 use crate::error::Result;
-use crate::fields::{
-    FieldRef, append_fields, bit, count_defaults, fields_len, lemma_are_held, prepend_fields,
-};
-use crate::pss::RsaPssParams;
+use crate::fields::{FieldRef, FieldThen, Fields, NoField};
+use crate::hash_fields::{is_default_hash, is_default_mask_gen};
+use crate::pss::{RsaPssParams, RsaPssParamsRef};
 use crate::pss_view::RsaPssParamsView;
 use crate::spelling::{DefaultFields, all_spellings, spell_into};
+use crate::trailer_field::TrailerField;
 use der_core::{BackWriter, Length, TagNumber, Writer};
 use spki_core::{AnyValue, written_default};
 use std::alloc::Global;
 
+type PssFields<'b> = FieldThen<'b, FieldThen<'b, FieldThen<'b, FieldThen<'b, NoField>>>>;
+
 impl RsaPssParamsView<'_> {
     /// The fields, in order.
-    pub(crate) fn fields(&self) -> [FieldRef<'_>; 4]
-        ensures { values_in result ≡ pss_values (pss_viewed self.now) }
+    pub(crate) fn fields<'b>(&'b self) -> PssFields<'b>
+        ensures { ⟦<PssFields<'b> as Fields>⟧.values result ≡ pss_values (pss_viewed self.now) }
     {
-        [
-            FieldRef::Hash(&self.hash),
-            FieldRef::MaskGen(&self.mask_gen),
-            FieldRef::SaltLen(self.salt_len),
-            FieldRef::Trailer(self.trailer_field),
-        ]
+        FieldThen {
+            first: FieldRef::Hash(&self.hash),
+            later: FieldThen {
+                first: FieldRef::MaskGen(&self.mask_gen),
+                later: FieldThen {
+                    first: FieldRef::SaltLen(self.salt_len),
+                    later: FieldThen {
+                        first: FieldRef::Trailer(self.trailer_field),
+                        later: NoField,
+                    },
+                },
+            },
+        }
     }
 }
 
@@ -47,34 +55,29 @@ impl DefaultFields for RsaPssParamsView<'_> {
     ghost fields_mean_one = { pss_means_one };
 
     fn lemma_is_held(&self) {
-        lemma_are_held(&self.fields());
+        self.fields().lemma_are_held();
     }
 
     fn changed(&self) -> u8 {
-        let [hash, mask_gen, salt_len, trailer_field] = self.fields();
-        bit(hash.is_default())
-            + 2 * bit(mask_gen.is_default())
-            + 4 * bit(salt_len.is_default())
-            + 8 * bit(trailer_field.is_default())
+        self.fields().changed()
     }
 
     fn count_defaults(&self) -> u8 {
-        count_defaults(&self.fields())
+        self.fields().count_defaults()
     }
 
     fn written_default(&self, bytes: &[u8]) -> Option<TagNumber> {
-        let [hash, mask_gen, salt_len, trailer_field] = self.fields();
         let defaults = [
-            hash.is_default(),
-            mask_gen.is_default(),
-            salt_len.is_default(),
-            trailer_field.is_default(),
+            is_default_hash(&self.hash),
+            is_default_mask_gen(&self.mask_gen),
+            self.salt_len == RsaPssParamsRef::SALT_LEN_DEFAULT,
+            self.trailer_field == TrailerField::BC,
         ];
         written_default(bytes, &defaults)
     }
 
     fn len_under(&self, changed: u8, mask: u8) -> der_core::Result<Length> {
-        fields_len(&self.fields(), changed, mask)
+        self.fields().len(changed, mask)
     }
 
     fn append_under<W: Writer>(
@@ -83,11 +86,11 @@ impl DefaultFields for RsaPssParamsView<'_> {
         mask: u8,
         writer: &mut W,
     ) -> der_core::Result<()> {
-        append_fields(&self.fields(), changed, mask, writer)
+        self.fields().append(changed, mask, writer)
     }
 
     fn prepend_under(&self, changed: u8, mask: u8, writer: &mut BackWriter<'_>) {
-        prepend_fields(&self.fields(), changed, mask, writer);
+        self.fields().prepend(changed, mask, writer);
     }
 }
 

@@ -9,6 +9,7 @@ mod containers;
 mod damaged;
 mod errors;
 mod fields;
+mod identifiers;
 mod keys;
 mod lengths;
 mod parameters;

@@ -5,7 +5,7 @@ use crate::read::{borrowed, both, owned, read};
 use crate::spellings::{spell, spellings};
 use crate::told::Told;
 use crate::written::{into_both, read_into, written};
-use crate::{algorithms, containers, errors, keys, lengths, parameters, values};
+use crate::{algorithms, containers, errors, identifiers, keys, lengths, parameters, values};
 use der_core::{OctetStringRef, Uint, UintRef};
 use pkcs1::{
     OtherPrimeInfo, RsaOaepParamsOwned, RsaOaepParamsRef, RsaPrivateKeyOwned, RsaPrivateKeyRef,
@@ -66,6 +66,7 @@ pub fn of_bytes(to: &mut Told, word: &str, bytes: &[u8]) -> bool {
         || of_algorithm_text(to, word, bytes)
         || of_key_text(to, word, bytes)
         || of_parameter_text(to, word, bytes)
+        || of_identifier_text(to, word, bytes)
         || of_damaged_text(to, word, bytes)
 }
 
@@ -139,6 +140,19 @@ fn of_parameter_text(to: &mut Told, word: &str, bytes: &[u8]) -> bool {
         "oaep-spellings" => spellings::<RsaOaepParamsRef, RsaOaepParamsOwned>(to, bytes),
         "label-sha1" => parameters::with_label::<Sha1>(to, bytes),
         "label-sha256" => parameters::with_label::<Sha256>(to, bytes),
+        _ => return false,
+    }
+    true
+}
+
+/// Parameters in their algorithm identifiers, also read strictly, and identifiers of hash functions.
+fn of_identifier_text(to: &mut Told, word: &str, bytes: &[u8]) -> bool {
+    match word {
+        "pss-algorithm" => identifiers::pss_algorithm(to, bytes),
+        "pss-algorithm-strict" => identifiers::pss_strict(to, bytes),
+        "oaep-algorithm" => identifiers::oaep_algorithm(to, bytes),
+        "oaep-algorithm-strict" => identifiers::oaep_strict(to, bytes),
+        "is-sha256" => identifiers::is_sha256(to, bytes),
         _ => return false,
     }
     true

@@ -6,7 +6,7 @@ use Rattle.der_core.specs.Document.{Means, HasEncoding, IsAlone, IsShortest, Why
 use Rattle.der_core.specs.Integer.{Small}
 use Rattle.der_core.specs.OctetString.{OctetContents, OctetString}
 use Rattle.der_core.specs.Laws.OctetString.{octets_at_most_one, octet_string_at_most_one}
-use Rattle.der_core.specs.OctetStringRefValue.{octets_of, octets_held}
+use Rattle.der_core.specs.OctetStringRefValue.{octets_of}
 use Rattle.spki_core.specs.AlgorithmValue.{algorithm_of}
 use Rattle.spki_core.specs.Laws.Held.{plain_held, plain_short}
 use Rattle.pkcs8_core.specs.declared.info.PrivateKeyInfoRef.{PrivateKeyInfoRef}
@@ -72,10 +72,9 @@ encoding_held info attributes few_attributes =
     let k = tlv 4 (octets_of info.private_key) in
     let t = written_optional (λ x. tlv 160 x) (info_of info).attributes in
     let v = tlv 2 (integer_contents (0 ∷ [])) in
-    let key = octets_held info.private_key in
-    let few_key : length k ≤ limit + 128 = tlv_short 4 limit (octets_of info.private_key) key.1 (omega arith) in
+    let few_key : length k ≤ limit + 128 = tlv_short 4 limit (octets_of info.private_key) info.private_key.bounded (omega arith) in
     let few_version : length v ≤ 130 = tlv_short 2 2 (integer_contents (0 ∷ [])) (omega arith) (omega arith) in
-    has_encoding (info_of info) (omega arith, (plain_held info.algorithm, (key.0, attributes)))
+    has_encoding (info_of info) (omega arith, (plain_held info.algorithm, (are_bytes (octets_of info.private_key) info.private_key.octets, attributes)))
     (omega (arith, length-append v (a ++ (k ++ t)), length-append a (k ++ t), length-append k t, plain_short info.algorithm, few_key, few_version, few_attributes))
 
 pub attributes_held : (a : Option Attributes) → HasOptional AreBytes (option_map attributes_of a) × (length (written_optional (λ (o : List ℕ). tlv 160 o) (option_map attributes_of a)) ≤ 2 ^ 64 + 128)

@@ -20,8 +20,8 @@ ghost use Rattle.pkcs8_core.specs.Laws.Container.{info_means_one, info_of_bytes,
 use crate::attributes::Attributes;
 use pkcs1::der::{
     BackWriter, Contents, Decode, DecodeValue, Encode, EncodeValue, Error, ErrorKind, Header,
-    Length, Memory, NoMemory, OctetStringRef, Reader, Result, Sequence, SequenceTag, Tag, TaggedBy,
-    Writer, decode_optional, encode_optional, joined_len, optional_len, prepend_optional,
+    Length, Memory, NoMemory, OctetStringRef, Part, Reader, Result, Sequence, SequenceTag, Tag,
+    TaggedBy, Writer, decode_optional,
 };
 use pkcs1::spki::AlgorithmIdentifierRef;
 
@@ -136,30 +136,21 @@ const VERSION: u8 = 0;
 
 impl EncodeValue for PrivateKeyInfoRef<'_> {
     fn value_len(&self) -> Result<Length> {
-        joined_len(
-            VERSION.encoded_len(),
-            joined_len(
-                self.algorithm.encoded_len(),
-                joined_len(
-                    self.private_key.encoded_len(),
-                    optional_len(&self.attributes_encoding()),
-                ),
-            ),
-        )
+        let attributes = self.attributes_encoding();
+        let key = (&self.private_key, &attributes);
+        (&VERSION, &(&self.algorithm, &key)).part_len()
     }
 
     fn append_value<W: Writer>(&self, writer: &mut W) -> Result<()> {
-        VERSION.encode(writer)?;
-        self.algorithm.encode(writer)?;
-        self.private_key.encode(writer)?;
-        encode_optional(&self.attributes_encoding(), writer)
+        let attributes = self.attributes_encoding();
+        let key = (&self.private_key, &attributes);
+        (&VERSION, &(&self.algorithm, &key)).append_part(writer)
     }
 
     fn prepend_value(&self, writer: &mut BackWriter<'_>) {
-        prepend_optional(&self.attributes_encoding(), writer);
-        self.private_key.prepend(writer);
-        self.algorithm.prepend(writer);
-        VERSION.prepend(writer);
+        let attributes = self.attributes_encoding();
+        let key = (&self.private_key, &attributes);
+        (&VERSION, &(&self.algorithm, &key)).prepend_part(writer);
     }
 
     ghost contents_relate = { info_relates };

@@ -5,11 +5,11 @@ use Rattle.spki_core.specs.declared.algorithm_identifier.AlgorithmIdentifier.{Al
 use Rattle.spki_core.specs.declared.algorithm_view.AlgorithmView.{AlgorithmView}
 use Rattle.spki_core.specs.Any.{TagAndContents}
 use Rattle.spki_core.specs.AnyRefValue.{any_of}
-use Rattle.spki_core.specs.ObjectIdentifierValue.{octets_of, octets_in}
+use Rattle.spki_core.specs.ObjectIdentifierValue.{own_octets_of, octets_of}
 use Rattle.spki_core.specs.AlgorithmIdentifier.{Algorithm}
 
 abbrev pub algorithm_with : {X V : Type 0} → (X → V) → AlgorithmIdentifier X → Algorithm V
-algorithm_with value a = record { oid = octets_of a.oid; parameters = option_map value a.parameters }
+algorithm_with value a = record { oid = own_octets_of a.oid; parameters = option_map value a.parameters }
 
 -- with borrowed parameters of any tag
 abbrev pub algorithm_of : AlgorithmIdentifier AnyRef → Algorithm TagAndContents
@@ -21,4 +21,4 @@ mask_of = algorithm_with algorithm_of
 
 -- with a borrowed object identifier
 abbrev pub viewed_with : {X V : Type 0} → (X → V) → AlgorithmView X → Algorithm V
-viewed_with value a = record { oid = octets_in a.oid; parameters = option_map value a.parameters }
+viewed_with value a = record { oid = octets_of a.oid; parameters = option_map value a.parameters }

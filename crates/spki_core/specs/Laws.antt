@@ -16,3 +16,5 @@ pub mod KnownFields
 pub mod Masks
 pub mod Spellings
 pub mod StrictWalk
+pub mod AnyValues
+pub mod IdentifierTest

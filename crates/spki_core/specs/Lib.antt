@@ -9,8 +9,8 @@ pub mod Allocating
 pub mod ObjectIdentifierValue
 pub mod AnyRefValue
 pub mod OwnedAnyValue
-pub mod AnyValues
 pub mod AlgorithmValue
+pub mod HashAlgorithms
 pub mod IdentifierTest
 pub mod StrictFields
 pub mod Masks

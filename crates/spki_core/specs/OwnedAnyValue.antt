@@ -2,5 +2,5 @@
 use Rattle.spki_core.specs.declared.owned_any.Any.{Any}
 use Rattle.spki_core.specs.Any.{TagAndContents}
 
-abbrev pub any_in : Any → TagAndContents
-any_in any = record { tag = any.tag.octet; contents = any.contents.items }
+abbrev pub own_any_of : Any → TagAndContents
+own_any_of any = record { tag = any.tag.octet; contents = any.contents.items }

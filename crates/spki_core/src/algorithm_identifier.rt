@@ -11,8 +11,8 @@ use crate::any::{AnyRef, AnyValue};
 use crate::object_identifier::ObjectIdentifier;
 use der_core::{
     BackWriter, Contents, Decode, DecodeValue, Encode, EncodeValue, Encoding, EqualByValue, Error,
-    ErrorKind, Header, Length, Memory, Reader, Result, Sequence, SequenceTag, TaggedBy, TryClone,
-    Writer, decode_last, encode_optional, joined_len, optional_len, prepend_optional,
+    ErrorKind, Header, Length, Memory, Part, Reader, Result, Sequence, SequenceTag, TaggedBy,
+    TryClone, Writer, decode_last,
 };
 use std::alloc::Global;
 
@@ -63,10 +63,10 @@ impl<'a, P> Sequence<'a> for AlgorithmIdentifier<P> {
 }
 
 impl<P: EqualByValue> EqualByValue for AlgorithmIdentifier<P> {
-    ghost use Rattle.spki_core.specs.ObjectIdentifierValue.{octets_of};
+    ghost use Rattle.spki_core.specs.ObjectIdentifierValue.{own_octets_of};
 
-    ghost decides = { λ a b.
-        algorithm_decides P.value P.eq P.decides (octets_of a.oid) (octets_of b.oid) a.parameters b.parameters };
+    ghost decides = { λ a b. let left = own_octets_of a.oid in
+        algorithm_decides P.value P.eq P.decides left (own_octets_of b.oid) a.parameters b.parameters };
 }
 
 impl<'a, M: Memory, P: Decode<&'a [u8], M>> DecodeValue<&'a [u8], M> for AlgorithmIdentifier<P> {
@@ -101,17 +101,15 @@ pub fn lemma_identifier_alone_takes_no_memory<'a, P: Decode<&'a [u8], M>, M: Mem
 
 impl<P: Encode> EncodeValue for AlgorithmIdentifier<P> {
     fn value_len(&self) -> Result<Length> {
-        joined_len(self.oid.encoded_len(), optional_len(&self.parameters))
+        (&self.oid, &self.parameters).part_len()
     }
 
     fn append_value<W: Writer>(&self, writer: &mut W) -> Result<()> {
-        self.oid.encode(writer)?;
-        encode_optional(&self.parameters, writer)
+        (&self.oid, &self.parameters).append_part(writer)
     }
 
     fn prepend_value(&self, writer: &mut BackWriter<'_>) {
-        prepend_optional(&self.parameters, writer);
-        self.oid.prepend(writer);
+        (&self.oid, &self.parameters).prepend_part(writer);
     }
 
     ghost contents_relate = { algorithm_relates P.encoding P.has_encoding P.written_encoding P.encoding_relates };
@@ -135,13 +133,13 @@ impl<P: TryClone> TryClone for AlgorithmIdentifier<P> {
 }
 
 impl<P> AlgorithmIdentifier<P> {
-    ghost use Rattle.spki_core.specs.ObjectIdentifierValue.{octets_of};
+    ghost use Rattle.spki_core.specs.ObjectIdentifierValue.{own_octets_of};
 
     /// Returns the identifier if it is the expected one, else `OidUnknown`.
     pub fn assert_algorithm_oid(&self, expected: ObjectIdentifier) -> Result<ObjectIdentifier>
-        ensures ok { IfOk result (λ oid. (oid ≡ self.now.oid) × (octets_of self.now.oid ≡ octets_of expected)) }
+        ensures ok { IfOk result (λ oid. (oid ≡ self.now.oid) × (own_octets_of self.now.oid ≡ own_octets_of expected)) }
         ensures err { IfErr result (λ e. (e.kind ≡ ErrorKind.OidUnknown)
-            × (octets_of self.now.oid ≢ octets_of expected)) }
+            × (own_octets_of self.now.oid ≢ own_octets_of expected)) }
     {
         if self.oid == expected {
             Ok(self.oid)

@@ -9,8 +9,7 @@ use crate::algorithm_identifier::AlgorithmIdentifier;
 use crate::identifier_view::IdentifierView;
 use der_core::{
     BackWriter, Contents, Decode, DecodeValue, Encode, EncodeValue, Encoding, Header, Length,
-    Memory, Reader, Result, SequenceTag, TaggedBy, Writer, decode_last, encode_optional,
-    joined_len, optional_len, prepend_optional,
+    Memory, Part, Reader, Result, SequenceTag, TaggedBy, Writer, decode_last,
 };
 
 /// An algorithm identifier that borrows the octets of its object identifier. Only `keep` copies them.
@@ -23,12 +22,12 @@ pub struct AlgorithmView<'a, P> {
 }
 
 impl<'a, P> AlgorithmView<'a, P> {
-    ghost use Rattle.spki_core.specs.ObjectIdentifierValue.{octets_of, octets_in};
+    ghost use Rattle.spki_core.specs.ObjectIdentifierValue.{own_octets_of, octets_of};
 
     /// Copies the octets of the identifier.
     #[inline(always)]
     pub fn keep(self) -> AlgorithmIdentifier<P>
-        ensures oid { octets_of result.oid ≡ octets_in self.entry.oid }
+        ensures oid { own_octets_of result.oid ≡ octets_of self.entry.oid }
         ensures parameters { result.parameters ≡ self.entry.parameters }
     {
         AlgorithmIdentifier {
@@ -87,17 +86,15 @@ impl<'a, M: Memory, P: Decode<&'a [u8], M>> DecodeValue<&'a [u8], M> for Algorit
 
 impl<P: Encode> EncodeValue for AlgorithmView<'_, P> {
     fn value_len(&self) -> Result<Length> {
-        joined_len(self.oid.encoded_len(), optional_len(&self.parameters))
+        (&self.oid, &self.parameters).part_len()
     }
 
     fn append_value<W: Writer>(&self, writer: &mut W) -> Result<()> {
-        self.oid.encode(writer)?;
-        encode_optional(&self.parameters, writer)
+        (&self.oid, &self.parameters).append_part(writer)
     }
 
     fn prepend_value(&self, writer: &mut BackWriter<'_>) {
-        prepend_optional(&self.parameters, writer);
-        self.oid.prepend(writer);
+        (&self.oid, &self.parameters).prepend_part(writer);
     }
 
     ghost contents_relate = { algorithm_relates P.encoding P.has_encoding P.written_encoding P.encoding_relates };

@@ -242,7 +242,7 @@ impl<'a> TryClone for AnyRef<'a> {
 /// A type that holds a tag with contents octets, and is encoded as these.
 pub trait AnyValue: EqualByValue {
     ghost use Rattle.spki_core.specs.AnyRefValue.{any_of};
-    ghost use Rattle.spki_core.specs.AnyValues.{HoldsAny};
+    ghost use Rattle.spki_core.specs.Laws.AnyValues.{HoldsAny};
 
     /// The tag and contents that are held.
     ghost any: { Self → TagAndContents };
@@ -262,7 +262,7 @@ impl EqualByValue for AnyRef<'_> {
 
 impl AnyValue for AnyRef<'_> {
     ghost use Rattle.spki_core.specs.AnyRefValue.{any_of};
-    ghost use Rattle.spki_core.specs.AnyValues.{holds_itself};
+    ghost use Rattle.spki_core.specs.Laws.AnyValues.{holds_itself};
 
     ghost any = { any_of };
 

@@ -22,21 +22,21 @@ pub struct IdentifierView<'a> {
 }
 
 impl<'a> IdentifierView<'a> {
-    ghost use Rattle.spki_core.specs.ObjectIdentifierValue.{octets_of, octets_in};
+    ghost use Rattle.spki_core.specs.ObjectIdentifierValue.{own_octets_of, octets_of};
 
     /// The octets are known to be valid.
     #[inline(always)]
     pub(crate) fn over(octets: &'a [u8]) -> IdentifierView<'a>
         requires { IsTrue (specs.is_identifier octets.now) }
-        ensures { octets_in result ≡ octets.now }
+        ensures { octets_of result ≡ octets.now }
     {
         IdentifierView { octets }
     }
 
     /// The identifier with these contents octets, or `OidMalformed`.
     #[inline(always)]
-    fn from_bytes(bytes: &'a [u8]) -> Result<IdentifierView<'a>>
-        ensures ok { IfOk result (λ oid. IsIdentifier bytes.now × (octets_in oid ≡ bytes.now)) }
+    pub fn from_bytes(bytes: &'a [u8]) -> Result<IdentifierView<'a>>
+        ensures ok { IfOk result (λ oid. IsIdentifier bytes.now × (octets_of oid ≡ bytes.now)) }
         ensures err { IfErr result (λ e. (e.kind ≡ ErrorKind.OidMalformed) × (IsIdentifier bytes.now → ⊥)) }
     {
         if !is_identifier(bytes) {
@@ -48,7 +48,7 @@ impl<'a> IdentifierView<'a> {
     /// The identifier of an algorithm.
     #[inline(always)]
     pub fn of<D: AssociatedOid>() -> IdentifierView<'a>
-        ensures { octets_in result ≡ D.contents }
+        ensures { octets_of result ≡ D.contents }
     {
         IdentifierView::over(D::octets())
     }
@@ -56,8 +56,8 @@ impl<'a> IdentifierView<'a> {
     /// The contents octets, at least one.
     #[inline(always)]
     pub fn as_bytes(&self) -> &'a [u8]
-        ensures octets { result.now ≡ octets_in self.now }
-        ensures valid { IsIdentifier (octets_in self.now) }
+        ensures octets { result.now ≡ octets_of self.now }
+        ensures valid { IsIdentifier (octets_of self.now) }
     {
         self.octets
     }
@@ -65,7 +65,7 @@ impl<'a> IdentifierView<'a> {
     /// How many octets there are.
     #[inline(always)]
     fn octet_count(&self) -> u8
-        ensures { result ≡ length (octets_in self.now) }
+        ensures { result ≡ length (octets_of self.now) }
     {
         self.octets.len() as u8
     }
@@ -73,18 +73,18 @@ impl<'a> IdentifierView<'a> {
     /// Copies the octets.
     #[inline(always)]
     pub fn keep(self) -> ObjectIdentifier
-        ensures { octets_of result ≡ octets_in self.entry }
+        ensures { own_octets_of result ≡ octets_of self.entry }
     {
         ObjectIdentifier::new(self.octets)
     }
 }
 
 impl Contents for IdentifierView<'_> {
-    ghost use Rattle.spki_core.specs.ObjectIdentifierValue.{octets_in};
+    ghost use Rattle.spki_core.specs.ObjectIdentifierValue.{octets_of};
 
     ghost Value = { List ℕ };
 
-    ghost value = { octets_in };
+    ghost value = { octets_of };
 
     ghost contents = { IdentifierContents };
 

@@ -6,6 +6,7 @@ mod algorithm_view;
 mod any;
 mod context_specific;
 mod field;
+mod hash_algorithm;
 mod identifier_view;
 mod object_identifier;
 mod owned_any;

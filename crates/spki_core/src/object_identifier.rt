@@ -64,12 +64,12 @@ pub trait AssociatedOid {
 }
 
 impl ObjectIdentifier {
-    ghost use Rattle.spki_core.specs.ObjectIdentifierValue.{octets_of, octets_in};
+    ghost use Rattle.spki_core.specs.ObjectIdentifierValue.{own_octets_of, octets_of};
 
     /// The octets are known to be valid.
     pub(crate) fn new(bytes: &[u8]) -> ObjectIdentifier
         requires { IsTrue (specs.is_identifier bytes.now) }
-        ensures { octets_of result ≡ bytes.now }
+        ensures { own_octets_of result ≡ bytes.now }
     {
         let mut octets = [0; 39];
         octets[..bytes.len()].copy_from_slice(bytes);
@@ -81,7 +81,7 @@ impl ObjectIdentifier {
 
     /// The identifier with these contents octets, or `OidMalformed`.
     pub fn from_bytes(bytes: &[u8]) -> Result<ObjectIdentifier>
-        ensures ok { IfOk result (λ oid. IsIdentifier bytes.now × (octets_of oid ≡ bytes.now)) }
+        ensures ok { IfOk result (λ oid. IsIdentifier bytes.now × (own_octets_of oid ≡ bytes.now)) }
         ensures err { IfErr result (λ e. (e.kind ≡ ErrorKind.OidMalformed) × (IsIdentifier bytes.now → ⊥)) }
     {
         if !is_identifier(bytes) {
@@ -92,8 +92,8 @@ impl ObjectIdentifier {
 
     /// The contents octets, at least one.
     pub fn as_bytes(&self) -> &[u8]
-        ensures octets { result.now ≡ octets_of self.now }
-        ensures valid { IsIdentifier (octets_of self.now) }
+        ensures octets { result.now ≡ own_octets_of self.now }
+        ensures valid { IsIdentifier (own_octets_of self.now) }
     {
         &self.octets[..self.length as usize]
     }
@@ -104,7 +104,7 @@ impl ObjectIdentifier {
     pub fn padded(octets: [u8; 39], length: u8) -> ObjectIdentifier
         requires fits { length ≤ 39 }
         requires valid { IsTrue (specs.is_identifier (take length octets)) }
-        ensures { octets_of result ≡ take length octets }
+        ensures { own_octets_of result ≡ take length octets }
     {
         ObjectIdentifier { octets, length }
     }
@@ -112,23 +112,23 @@ impl ObjectIdentifier {
     /// The identifier, borrowed.
     #[inline(always)]
     pub fn as_view(&self) -> IdentifierView<'_>
-        ensures { octets_in result ≡ octets_of self.now }
+        ensures { octets_of result ≡ own_octets_of self.now }
     {
         IdentifierView::over(self.as_bytes())
     }
 
     /// The identifier of an algorithm.
     pub fn of<D: AssociatedOid>() -> ObjectIdentifier
-        ensures { octets_of result ≡ D.contents }
+        ensures { own_octets_of result ≡ D.contents }
     {
         ObjectIdentifier::new(D::octets())
     }
 }
 
 impl PartialEq for ObjectIdentifier {
-    ghost use Rattle.spki_core.specs.ObjectIdentifierValue.{octets_of};
+    ghost use Rattle.spki_core.specs.ObjectIdentifierValue.{own_octets_of};
 
-    ghost eq = { λ a b. bytes_eq (octets_of a) (octets_of b) };
+    ghost eq = { λ a b. bytes_eq (own_octets_of a) (own_octets_of b) };
 
     ghost laws = { Prim.search (comparing, rules) };
 
@@ -142,9 +142,9 @@ impl Eq for ObjectIdentifier {
 }
 
 impl Hash for ObjectIdentifier {
-    ghost use Rattle.spki_core.specs.ObjectIdentifierValue.{octets_of};
+    ghost use Rattle.spki_core.specs.ObjectIdentifierValue.{own_octets_of};
 
-    ghost hash_input = { λ oid. fed.slice fed.u8 (octets_of oid) };
+    ghost hash_input = { λ oid. fed.slice fed.u8 (own_octets_of oid) };
 
     ghost respects_eq = { Prim.search (hashing, rules) };
 
@@ -163,11 +163,11 @@ impl TagMarker for ObjectIdentifierTag {
 }
 
 impl Contents for ObjectIdentifier {
-    ghost use Rattle.spki_core.specs.ObjectIdentifierValue.{octets_of};
+    ghost use Rattle.spki_core.specs.ObjectIdentifierValue.{own_octets_of};
 
     ghost Value = { List ℕ };
 
-    ghost value = { octets_of };
+    ghost value = { own_octets_of };
 
     ghost contents = { IdentifierContents };
 
@@ -185,17 +185,17 @@ impl TaggedBy for ObjectIdentifier {
 }
 
 impl EqualByValue for ObjectIdentifier {
-    ghost use Rattle.spki_core.specs.ObjectIdentifierValue.{octets_of};
+    ghost use Rattle.spki_core.specs.ObjectIdentifierValue.{own_octets_of};
     ghost use Rattle.der_core.specs.Laws.Equality.{bytes_decide};
 
-    ghost decides = { λ a b. bytes_decide (octets_of a) (octets_of b) };
+    ghost decides = { λ a b. bytes_decide (own_octets_of a) (own_octets_of b) };
 }
 
 impl<'a, M: Memory> DecodeValue<&'a [u8], M> for ObjectIdentifier {
     ghost use Rattle.der_core.specs.Reading.{ReadsOrFaults};
     ghost use Rattle.spki_core.specs.Faults.{IdentifierFault};
     ghost use Rattle.spki_core.specs.Laws.Faults.{identifier_fault_none, identifier_fault_first};
-    ghost use Rattle.spki_core.specs.ObjectIdentifierValue.{octets_of};
+    ghost use Rattle.spki_core.specs.ObjectIdentifierValue.{own_octets_of};
 
     ghost may_allocate = { λ _. ⊥ };
 
@@ -208,10 +208,10 @@ impl<'a, M: Memory> DecodeValue<&'a [u8], M> for ObjectIdentifier {
     ) -> Result<ObjectIdentifier>
         requires { HoldsBytes (R.left reader.old) header.length }
         ensures reads { let before = R.left reader.old in
-            ReadsContents octets_of IdentifierContents (λ _. ⊥) result before (R.left reader.new) }
+            ReadsContents own_octets_of IdentifierContents (λ _. ⊥) result before (R.left reader.new) }
         ensures exact { IfErr result (λ e. e.kind ≡ ErrorKind.OidMalformed) }
         ensures fault { let before = R.left reader.old in
-            ReadsOrFaults octets_of IdentifierContents IdentifierFault (λ _. ⊥) result before (R.left reader.new) }
+            ReadsOrFaults own_octets_of IdentifierContents IdentifierFault (λ _. ⊥) result before (R.left reader.new) }
     {
         let contents = reader.read_slice(header.length)?;
         match ObjectIdentifier::from_bytes(contents) {

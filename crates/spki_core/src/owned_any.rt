@@ -22,13 +22,13 @@ pub struct Any {
 }
 
 impl Any {
-    ghost use Rattle.spki_core.specs.OwnedAnyValue.{any_in};
+    ghost use Rattle.spki_core.specs.OwnedAnyValue.{own_any_of};
     ghost use Rattle.spki_core.specs.AnyRefValue.{any_of};
 
     /// Copies the contents. `Overflow` if they are longer than `Length::MAX`, else `OutOfMemory` if there is no memory
     /// for them.
     pub fn new(alloc: Global, tag: Tag, contents: &[u8]) -> Result<Any>
-        ensures ok { IfOk result (λ any. any_in any ≡ record { tag = tag.octet; contents = contents.now }) }
+        ensures ok { IfOk result (λ any. own_any_of any ≡ record { tag = tag.octet; contents = contents.now }) }
         ensures err { let many : Type 0 = limit < length contents.now in
             let fits : Type 0 = length contents.now ≤ limit in
             IfErr result (λ e. ((e.kind ≡ ErrorKind.Overflow) × many) ⊎ ((e.kind ≡ ErrorKind.OutOfMemory) × fits)) }
@@ -42,7 +42,7 @@ impl Any {
     /// Copies the contents.
     fn copy_of(alloc: Global, tag: Tag, contents: &[u8]) -> Result<Any>
         requires { length contents.now ≤ limit }
-        ensures ok { IfOk result (λ any. any_in any ≡ record { tag = tag.octet; contents = contents.now }) }
+        ensures ok { IfOk result (λ any. own_any_of any ≡ record { tag = tag.octet; contents = contents.now }) }
         ensures err { IfErr result (λ e. e.kind ≡ ErrorKind.OutOfMemory) }
     {
         Ok(Any {
@@ -53,11 +53,11 @@ impl Any {
 }
 
 impl Encoding for Any {
-    ghost use Rattle.spki_core.specs.OwnedAnyValue.{any_in};
+    ghost use Rattle.spki_core.specs.OwnedAnyValue.{own_any_of};
 
     ghost Value = { TagAndContents };
 
-    ghost value = { any_in };
+    ghost value = { own_any_of };
 
     ghost encoding = { grammar.Any };
 
@@ -121,10 +121,10 @@ impl EqualByValue for Any {
 }
 
 impl AnyValue for Any {
-    ghost use Rattle.spki_core.specs.OwnedAnyValue.{any_in};
-    ghost use Rattle.spki_core.specs.AnyValues.{holds_itself};
+    ghost use Rattle.spki_core.specs.OwnedAnyValue.{own_any_of};
+    ghost use Rattle.spki_core.specs.Laws.AnyValues.{holds_itself};
 
-    ghost any = { any_in };
+    ghost any = { own_any_of };
 
     fn as_any_ref(&self) -> AnyRef<'_> {
         match AnyRef::new(self.tag, self.contents.as_slice()) {
@@ -133,7 +133,7 @@ impl AnyValue for Any {
         }
     }
 
-    ghost holds = { holds_itself any_in };
+    ghost holds = { holds_itself own_any_of };
 }
 
 impl AnyParams<Global> for Any {

@@ -4,7 +4,7 @@ use Rattle.std.specs.List.{AllByRecursion}
 use Rattle.std.specs.Option.{option_map}
 use Rattle.der_core.specs.Tlv as tlvs
 use Rattle.der_core.specs.Optional.{HasOptional, written_optional}
-use Rattle.spki_core.specs.IdentifierTest.{is_identifier-sound}
+use Rattle.spki_core.specs.Laws.IdentifierTest.{is_identifier-sound}
 use Rattle.spki_core.specs.Laws.IdentifierRows.{sha1_identifier, mgf1_identifier}
 use Rattle.spki_core.specs.ObjectIdentifier as oids
 use Rattle.spki_core.specs.Any as anys
@@ -13,8 +13,21 @@ use Rattle.spki_core.specs.AlgorithmIdentifier.{PlainAlgorithm, MaskAlgorithm, H
 use Rattle.spki_core.specs.Laws.AlgorithmEncodings.{plain_at_most_one, mask_at_most_one}
 use Rattle.pkcs1_params.specs.Laws.HashFields.{plain_relates, plain_shortest, mask_relates, mask_shortest}
 use Rattle.pkcs1_params.specs.Parameters.{id_p_specified}
-use Rattle.statement.specs.Statement.{tlv, limit, IsSubidentifier, IsIdentifier, TagAndContents, IsAny, any, optional, IfPresent, Algorithm, algorithm, IsAlgorithm, plain, IsPlain, mask_generation, IsMaskGeneration, sha1, mgf1_sha1, empty_label}
+use Rattle.statement.specs.Statement.{tlv, limit, IsSubidentifier, IsIdentifier, TagAndContents, IsAny, any, optional, IfPresent, Algorithm, algorithm, IsAlgorithm, sha1, mgf1_sha1, empty_label}
 use Rattle.statement.proofs.Der.{tlv_same}
+
+-- One with such parameters: a hash function, a label source. One with one of these: a mask generation function.
+abbrev pub plain : Algorithm TagAndContents → List ℕ
+plain = algorithm any
+
+abbrev pub IsPlain : Algorithm TagAndContents → Type 0
+IsPlain = IsAlgorithm IsAny
+
+abbrev pub mask_generation : Algorithm (Algorithm TagAndContents) → List ℕ
+mask_generation = algorithm plain
+
+abbrev pub IsMaskGeneration : Algorithm (Algorithm TagAndContents) → Type 0
+IsMaskGeneration = IsAlgorithm IsPlain
 
 -- The values.
 abbrev pub any_from : anys.TagAndContents → TagAndContents

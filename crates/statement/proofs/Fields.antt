@@ -1,8 +1,10 @@
 -- Fields with defaults: the statement's encodings are the library's, field by field.
-use Rattle.std.proofs.Common.{ℕ, List, [], ◌∷◌, ◌++◌, ◌≡◌, ◌≤◌, ◌+◌, ◌^◌, length, map, refl, sym, subst, ap, ◌∙◌, arith, inl, inr, length-append}
+use Rattle.std.proofs.Common.{ℕ, List, [], ◌∷◌, ◌++◌, ◌≡◌, ◌<◌, ◌≤◌, ◌+◌, ◌^◌, length, map, refl, sym, subst, ap, ◌∙◌, arith, inl, inr, length-append, Some, None}
+use Rattle.std.proofs.lemmas.Bool.{cases_lt}
 use Rattle.std.specs.List.{concat}
 use Rattle.std.specs.Prelude.{slice_index_or}
-use Rattle.der_core.specs.Document.{Means, Spellings}
+use Rattle.der_core.specs.Document.{Means, Spellings, EncodeError, no_encoding, too_long, no_room, another}
+use Rattle.der_core.specs.Writing.{encode_error}
 use Rattle.der_core.specs.Document as documents
 use Rattle.der_core.specs.Encodings.{Joins}
 use Rattle.der_core.specs.Members.{AreTheMembers}
@@ -10,7 +12,9 @@ use Rattle.der_core.specs.Tlv as tlvs
 use Rattle.spki_core.specs.Explicit as fields
 use Rattle.spki_core.specs.Explicit.{Explicit, Defaultable, FieldSequence, MaskedField, left_out, written, forced, MaskedContents, Masked, AllExplicit, HaveDefaults}
 use Rattle.pkcs1_params.specs.Spellings as spellings
-use Rattle.statement.specs.Statement.{tlv, sequence, limit, Field, field, Fields, FieldsUnder, Defaults, SequenceOf, longest, AreAll, AreByMask, TwoToTheDefaults, IsShortest}
+use Rattle.pkcs1_params.specs.declared.error.Error.{Error}
+use Rattle.pkcs1_params.specs.declared.error.Error.TheVariants as error
+use Rattle.statement.specs.Statement.{tlv, sequence, limit, Field, field, Fields, FieldsUnder, Defaults, SequenceOf, longest, AreAll, Lists, TwoToTheDefaults, IsShortest}
 use Rattle.statement.proofs.Der.{tlv_is, tlv_made, tlv_fit}
 use Rattle.statement.proofs.Algorithms.{Written}
 
@@ -130,14 +134,24 @@ all_from (f ∷ fs) (g ∷ gs) m h l =
     let both = length-append g.written (all_written gs) in
     (g.written, all_written gs, h.0 (omega (arith, l, both)), all_from fs gs m.1 h.1 (omega (arith, l, both)), refl)
 
+pub defaults_to : (fs : List fields.Field) (gs : List Field) → AllMatch fs gs → (k : ℕ) → HaveDefaults fs k → Defaults gs k
+defaults_to [] [] m k p = p
+defaults_to [] (g ∷ gs) m k p = absurd m
+defaults_to (f ∷ fs) [] m k p = absurd m
+defaults_to (f ∷ fs) (g ∷ gs) m k (inl (d, j, e, later)) = inl (m.0.to_default d, j, omega (arith, e), defaults_to fs gs m.1 j later)
+defaults_to (f ∷ fs) (g ∷ gs) m k (inr (d, later)) = inr (λ x. d (m.0.from_default x), defaults_to fs gs m.1 k later)
+
 -- Whole parameters.
-sequence_to : {P Q : List ℕ → Type 0} → ((c : List ℕ) → length c ≤ limit → P c → Q c) → (bytes : List ℕ) → length bytes ≤ limit → tlvs.Tlv 48 P bytes → SequenceOf Q bytes
+abbrev Contained : (List ℕ → Type 0) → List ℕ → Type 0
+Contained Contents bytes = (length bytes ≤ limit) × (contents : List ℕ) × Contents contents × (bytes ≡ sequence contents)
+
+sequence_to : {P Q : List ℕ → Type 0} → ((c : List ℕ) → length c ≤ limit → P c → Q c) → (bytes : List ℕ) → length bytes ≤ limit → tlvs.Tlv 48 P bytes → Contained Q bytes
 sequence_to f bytes l p =
     let few : length p.contents ≤ limit = omega (arith, l, ap length p.written, length-append p.octets p.contents) in
     let is : bytes ≡ sequence p.contents = tlv_is {P = λ x. x ≡ p.contents} 48 p.contents bytes (λ c e. e) (record { octets = p.octets; contents = p.contents; counted = p.counted; holds = refl; written = p.written }) in
     (l, p.contents, f p.contents few p.holds, is)
 
-sequence_from : {P Q : List ℕ → Type 0} → ((c : List ℕ) → length c ≤ limit → Q c → P c) → (bytes : List ℕ) → SequenceOf Q bytes → tlvs.Tlv 48 P bytes
+sequence_from : {P Q : List ℕ → Type 0} → ((c : List ℕ) → length c ≤ limit → Q c → P c) → (bytes : List ℕ) → Contained Q bytes → tlvs.Tlv 48 P bytes
 sequence_from f bytes (l, c, q, is) = tlv_made 48 c bytes (f c (omega (arith, l, ap length is, tlv_fit 48 c)) q) is l
 
 -- A type of parameters, in the library and in the statement.
@@ -149,19 +163,22 @@ pub record Sides {W V : Type 0} (from : W → V) (to : V → W) (fs : W → List
 
 module _ {W V : Type 0} {from : W → V} {to : V → W} {fs : W → List fields.Field} {gs : V → List Field} {Is : V → Type 0} (s : Sides from to fs gs Is) where
   abbrev pub Encoding : V → List ℕ → Type 0
-  Encoding v bytes = Is v × SequenceOf (Fields (gs v)) bytes
+  Encoding = SequenceOf Is gs Fields
 
   abbrev pub Under : ℕ → V → List ℕ → Type 0
-  Under mask v bytes = Is v × SequenceOf (FieldsUnder mask (gs v)) bytes
+  Under mask = SequenceOf Is gs (FieldsUnder mask)
 
   abbrev pub Grammar : W → List ℕ → Type 0
   Grammar w = FieldSequence (fs w)
 
   pub sentence : (w : W) (bytes : List ℕ) → Means Grammar bytes w → Encoding (from w) bytes
-  sentence w bytes m = (s.is w m.1.contents m.1.holds, sequence_to (fields_to (fs w) (gs (from w)) (s.match w)) bytes m.0 m.1)
+  sentence w bytes m =
+      let t = sequence_to (fields_to (fs w) (gs (from w)) (s.match w)) bytes m.0 m.1 in
+      (s.is w m.1.contents m.1.holds, t.0, t.1, t.2, t.3)
 
   pub meant : (w : W) (bytes : List ℕ) → Encoding (from w) bytes → Means Grammar bytes w
-  meant w bytes (is, e) = (e.0, sequence_from (fields_from (fs w) (gs (from w)) (s.match w) (s.make w is)) bytes e)
+  meant w bytes (is, l, c, held, e) =
+      (l, sequence_from (fields_from (fs w) (gs (from w)) (s.match w) (s.make w is)) bytes (l, c, held, e))
 
   pub means : (v : V) (bytes : List ℕ) → Encoding v bytes → Means Grammar bytes (to v)
   means v bytes e = meant (to v) bytes (subst (λ u. Encoding u bytes) (sym (s.back v)) e)
@@ -174,10 +191,12 @@ module _ {W V : Type 0} {from : W → V} {to : V → W} {fs : W → List fields.
 
   pub under : (w : W) (mask : ℕ) (bytes : List ℕ) → spellings.IsSpelling (fs w) mask bytes → Under mask (from w) bytes
   under w mask bytes (l, p) =
-      (s.is w p.contents (unmasked (fs w) mask p.contents p.holds), sequence_to (under_to (fs w) (gs (from w)) (s.match w) mask) bytes l p)
+      let t = sequence_to (under_to (fs w) (gs (from w)) (s.match w) mask) bytes l p in
+      (s.is w p.contents (unmasked (fs w) mask p.contents p.holds), t.0, t.1, t.2, t.3)
 
   pub spelling : (w : W) (mask : ℕ) (bytes : List ℕ) → Under mask (from w) bytes → spellings.IsSpelling (fs w) mask bytes
-  spelling w mask bytes (is, e) = (e.0, sequence_from (under_from (fs w) (gs (from w)) (s.match w) (s.make w is) mask) bytes e)
+  spelling w mask bytes (is, l, c, held, e) =
+      (l, sequence_from (under_from (fs w) (gs (from w)) (s.match w) (s.make w is) mask) bytes (l, c, held, e))
 
   all_explicit : (w : W) → Is (from w) → length (longest (gs (from w))) ≤ limit → AllExplicit (fs w) (longest (gs (from w)))
   all_explicit w is l =
@@ -188,20 +207,51 @@ module _ {W V : Type 0} {from : W → V} {to : V → W} {fs : W → List fields.
   pub all_fit : (w : W) → Is (from w) → length (longest (gs (from w))) ≤ limit → spellings.AllFit (fs w)
   all_fit w is l = (longest (gs (from w)), all_explicit w is l, l)
 
-  pub are_all : (w : W) (n : ℕ) (all : List (List ℕ)) → AreTheMembers (Spellings Grammar w) n all → AreAll n (Encoding (from w)) all
-  are_all w n all m = record {
+  pub are_all : (w : W) (k : ℕ) (all : List (List ℕ)) → AreTheMembers (Spellings Grammar w) (2 ^ k) all → ((i : ℕ) → i < 2 ^ k → Masked (fs w) i (slice_index_or all i [])) → AreAll Is gs (from w) k all
+  are_all w k all m masked = record {
     count = m.count;
-    each = λ i l. sentence w _ (m.only i l);
+    under = λ i l. under w i (slice_index_or all i []) ((m.only i l).0, masked i l);
     different = m.none_twice;
-    no_other = λ bytes e. m.every bytes (meant w bytes e);
+    every = λ bytes. (λ e. m.every bytes (meant w bytes e), λ p. subst (Encoding (from w)) p.2 (sentence w _ (m.only p.0 p.1)));
   }
 
-  two_of : spellings.TwoToTheDefaults fs → (w : W) (k : ℕ) → Is (from w) → Defaults (gs (from w)) k → length (longest (gs (from w))) ≤ limit → (all : List (List ℕ)) × AreByMask Encoding Under (from w) k all
+  two_of : spellings.TwoToTheDefaults fs → (w : W) (k : ℕ) → Is (from w) → Defaults (gs (from w)) k → length (longest (gs (from w))) ≤ limit → (all : List (List ℕ)) × AreAll Is gs (from w) k all
   two_of two w k is d l =
       let r = two w k (longest (gs (from w))) (defaults_from (fs w) (gs (from w)) (s.match w) k d) (all_explicit w is l) l in
-      let m = are_all w (2 ^ k) r.0 r.1 in
-      (r.0, (m, λ mask less. under w mask (slice_index_or r.0 mask []) ((m.each mask less).1.0, r.2 mask less)))
+      (r.0, are_all w k r.0 r.1 r.2)
 
-  pub two_to_the_defaults : spellings.TwoToTheDefaults fs → TwoToTheDefaults Is gs Encoding Under
+  pub two_to_the_defaults : spellings.TwoToTheDefaults fs → TwoToTheDefaults Is gs
   two_to_the_defaults two v =
-      subst (λ (u : V). (k : ℕ) → Is u → Defaults (gs u) k → length (longest (gs u)) ≤ limit → (all : List (List ℕ)) × AreByMask Encoding Under u k all) (s.back v) (two_of two (to v))
+      subst (λ (u : V). (k : ℕ) → Is u → Defaults (gs u) k → length (longest (gs u)) ≤ limit → (all : List (List ℕ)) × AreAll Is gs u k all) (s.back v) (two_of two (to v))
+
+  -- The list of all encodings, or why there is none.
+  pub lists : spellings.DefaultsAreCounted fs → (w : W) (all : List (List ℕ)) → spellings.AreAllSpellings fs w all → Lists Is gs (from w) (Some all)
+  lists counted w all a =
+      let n = counted w in
+      let m = a.members n.0 n.1 in
+      (n.0, defaults_to (fs w) (gs (from w)) (s.match w) n.0 n.1, are_all w n.0 all m (λ i l. (a.under i (omega (arith, l, m.count))).1))
+
+  pub lists_none : (w : W) → (spellings.AllFit (fs w) → ⊥) → Lists Is gs (from w) None
+  lists_none w unfit is = elim (cases_lt limit (length (longest (gs (from w))))) [
+    | inl h ↦ h
+    | inr h ↦ absurd (unfit (all_fit w is (omega (arith, h))))
+  ]
+
+  -- The encoding under a mask is the only one, and why it isn't written.
+  pub shortest_under : spellings.EachMaskHasOne fs → (w : W) (mask : ℕ) (bytes : List ℕ) → spellings.IsSpelling (fs w) mask bytes → IsShortest (Under mask) (from w) bytes
+  shortest_under one w mask bytes p = (under w mask bytes p, λ other q. inl (one w mask other bytes (spelling w mask other q) p).0)
+
+  pub none_under : spellings.EachMaskHasOne fs → (w : W) (mask room : ℕ) (e : Error) (bytes : List ℕ) → spellings.IsSpellingError (fs w) mask room e → Under mask (from w) bytes → room < length bytes
+  none_under one w mask room (error.Asn1 e) bytes h p = go (encode_error e.kind) h
+    where
+      go : (k : EncodeError) → spellings.WhyNoSpelling (fs w) mask room k → room < length bytes
+      go no_encoding h = absurd h
+      go too_long h = absurd (h bytes (spelling w mask bytes p))
+      go no_room h = omega (arith, h.2, ap length (one w mask bytes h.0 (spelling w mask bytes p) h.1).0)
+      go another h = absurd h
+  none_under one w mask room error.Crypto bytes h p = absurd h
+  none_under one w mask room error.KeyMalformed bytes h p = absurd h
+  none_under one w mask room error.Version bytes h p = absurd h
+
+  pub mask_there : (w : W) (mask : ℕ) → ((k : ℕ) × Defaults (gs (from w)) k × (mask < 2 ^ k)) → spellings.IsMask (fs w) mask
+  mask_there w mask (k, d, l) = (k, defaults_from (fs w) (gs (from w)) (s.match w) k d, l)

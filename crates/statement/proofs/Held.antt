@@ -12,14 +12,19 @@ use Rattle.pkcs1.specs.declared.private_key.PrivateKeyOf.{PrivateKeyOf}
 use Rattle.pkcs1.specs.declared.private_key.other_prime_info.OtherPrimeInfo.{OtherPrimeInfo}
 use Rattle.pkcs1.specs.declared.view.RsaPrivateKeyView.{RsaPrivateKeyView}
 use Rattle.pkcs1.specs.ViewParts.{view_of}
+use Rattle.pkcs1.specs.OtherPrimesLeft.{others_left-is}
+use Rattle.pkcs8_core.specs.Held as containers
+use Rattle.pkcs8_core.specs.declared.info.PrivateKeyInfoRef.{PrivateKeyInfoRef}
 use Rattle.pkcs1_params.specs.PssValue.{pss_with}
 use Rattle.pkcs1_params.specs.OaepValue.{oaep_with}
 use Rattle.pkcs1_params.specs.declared.pss.RsaPssParams.{RsaPssParams}
 use Rattle.pkcs1_params.specs.declared.oaep.RsaOaepParams.{RsaOaepParams}
 use Rattle.statement.specs.Statement.{OtherPrime}
-use Rattle.statement.specs.Held.{algorithm_identifier, rsa_pss_params, rsa_oaep_params, rsa_private_key, rsa_private_key_view, other_prime_info}
+use Rattle.statement.specs.Held.{algorithm_identifier, rsa_pss_params, rsa_oaep_params, rsa_private_key, rsa_private_key_view, other_prime_info, private_key_info_ref}
 use Rattle.statement.proofs.Algorithms.{any_from, algorithm_from, plain_from}
 use Rattle.statement.proofs.PrivateKeys as private
+use Rattle.statement.proofs.Containers as container
+use Rattle.spki_core.specs.AnyRefValue.{any_of}
 use Rattle.statement.proofs.Pss as pss
 use Rattle.statement.proofs.Oaep as oaep
 
@@ -64,4 +69,7 @@ private_holds bytes k =
 pub view_holds : (view : RsaPrivateKeyView) → private.numbers (view_of view) ≡ rsa_private_key_view view
 view_holds view =
     ap (λ (o : Option (List OtherPrime)). record (rsa_private_key_view view) { other_primes = o })
-    (option_maps (map private.other_numbers) _ _ (λ o. refl) view.key.other_prime_infos)
+    (option_maps (map private.other_numbers) _ _ (λ o. ap (map private.other_numbers) (others_left-is o)) view.key.other_prime_infos)
+
+pub container_holds : (info : PrivateKeyInfoRef) → container.from (containers.info_of info) ≡ private_key_info_ref info
+container_holds info = let a = plain_holds any_of info.algorithm in λ i. record (private_key_info_ref info) { algorithm = a i }

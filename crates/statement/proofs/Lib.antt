@@ -5,6 +5,15 @@ mod PublicKeys
 mod PrivateKeys
 mod Pss
 mod Oaep
+mod Containers
 mod Held
 mod Same
+mod OutOfMemory
 mod Readings
+mod ReadingsLists
+mod ReadingsNumbers
+mod ReadingsKeys
+mod ReadingsParameters
+mod ReadingsContainer
+mod ReadingsContainedKey
+mod ReadingsRows

@@ -12,8 +12,11 @@ use Rattle.der_core.specs.Laws.SmallNumbers.{small_relates}
 use Rattle.pkcs1.specs.Keys as keys
 use Rattle.pkcs1.specs.Keys.{PrivateKeyContents, RsaPrivateKey, OtherPrimeInfo, OtherPrimeInfos, version_of}
 use Rattle.pkcs1.specs.Laws.PrivateKey.{joins_put, joins_take}
-use Rattle.statement.specs.Statement.{octets, tlv, integer, integers, limit, optional, IfPresent, OtherPrime, other_prime, other_primes, PrivateKey, PrivateKeyEncoding, version, IsShortest}
+use Rattle.statement.specs.Statement.{octets, tlv, integer, integers, limit, optional, IfPresent, OtherPrime, other_primes, sequence, PrivateKey, PrivateKeyEncoding, version, IsShortest}
 use Rattle.statement.proofs.Der.{tlv_is, tlv_made, tlv_fit, integer_is, integer_made, small_integer, small_octets, joins_are, joins_made, octets_number, number_octets}
+
+abbrev other_prime : OtherPrime → List ℕ
+other_prime o = sequence (integers (o.prime ∷ o.exponent ∷ o.coefficient ∷ []))
 
 abbrev number : List ℕ → ℕ
 number x = number_from_digits 256 x

@@ -6,9 +6,11 @@ use Rattle.pkcs1.specs.Laws.PrivateKeys.{private_delimited}
 use Rattle.pkcs1_params.specs.Laws.Parameters.{pss_delimited, oaep_delimited}
 use Rattle.der_core.specs.Document.{Means}
 use Rattle.der_core.specs.Encodings.{IsDelimited}
-use Rattle.statement.specs.Statement.{IsShortest, SameByShortest, PublicKeyEncoding, PrivateKeyEncoding, PssEncoding, OaepEncoding}
+use Rattle.statement.specs.Statement.{IsShortest, SameByShortest, PublicKeyEncoding, PrivateKeyEncoding, PssEncoding, OaepEncoding, ContainerEncoding}
 use Rattle.statement.proofs.PublicKeys as keys
 use Rattle.statement.proofs.PrivateKeys as private
+use Rattle.statement.proofs.Containers as containers
+use Rattle.pkcs8_core.specs.Laws.Container.{info_delimited}
 use Rattle.statement.proofs.Fields as fields
 use Rattle.statement.proofs.Pss as pss
 use Rattle.statement.proofs.Oaep as oaep
@@ -42,3 +44,6 @@ same_pss = same PssEncoding pss_delimited pss.from pss.to pss.sides.back (fields
 
 pub same_oaep : SameByShortest OaepEncoding
 same_oaep = same OaepEncoding oaep_delimited oaep.from oaep.to oaep.sides.back (fields.means oaep.sides)
+
+pub same_container : SameByShortest ContainerEncoding
+same_container = same ContainerEncoding info_delimited containers.from containers.to containers.back containers.means

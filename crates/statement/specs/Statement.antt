@@ -1,18 +1,21 @@
--- What is proved, from the first octet on: which bytes encode which RSA keys and which RSASSA-PSS and RSAES-OAEP
--- parameters, and what reading and writing promise. `src/lib.rt` promises it of the library's calls, and `Held.antt`
--- says what their values hold. It stands alone on purpose: the grammars of the crates below were written apart from it,
--- as relations, and proofs/ shows that they say the same.
+-- What is proved, from the first octet on: which bytes encode which RSA keys, PKCS #8 containers, and RSASSA-PSS and
+-- RSAES-OAEP parameters, and what reading and writing promise. `src/lib.rt` promises it of the library's calls, and
+-- `Held.antt` says what their values hold. It stands alone on purpose: the grammars of the crates below were written
+-- apart from it, as relations, and proofs/ shows that they say the same.
 --
 -- A definition has a type, `name : arguments → result`, and equations; `f x y` is f of x and y, `λ x. e` the function
 -- that takes x to e, and an argument in braces isn't written.
 -- ℕ are the numbers 0, 1, 2, ..; an octet is one below 256, a byte string a List ℕ. [] is the empty list, x ∷ xs has
 -- the first element x, xs ++ ys joins two; take n xs and drop n xs are its first n elements and the others;
--- slice_index_or xs i y is the element at i, from 0 on, or y; concat joins all. An Option V is None, or Some of a V.
+-- slice_index_or xs i y is the element at i, from 0 on, or y; map f xs has f of each; concat joins all; digits_of 256 n
+-- are the octets of n > 0, the highest first. An Option V is None, or Some of a V.
 -- A Type 0 is a statement, or a kind of values. A × B: both. A ⊎ B: one of them. ⊥ is false, so A → ⊥: A isn't so.
 -- a ≡ b: equal. (x : A) → B: for every x of A, B. (x : A) × B: there is an x of A with B. A ↔ B: each if the other.
--- A record has named parts, r.part; as a statement, all of them hold. v.0 and v.1 are the parts of a pair.
+-- AllByRecursion P xs: P of each. A record has named parts, r.part; as a statement, all of them hold.
 -- `abbrev`, `unfoldable` and `pub` say how the prover uses a definition, and nothing about it.
-use Rattle.std.specs.Prelude.{ℕ, List, [], ◌∷◌, ◌++◌, ◌≡◌, ◌≢◌, ◌<◌, ◌≤◌, ◌+◌, ◌*◌, ◌^◌, ◌%◌, ◌⊎◌, ◌↔◌, ◌==◌, ◌&&◌, not, IsTrue, length, take, drop, slice_index, slice_index_or, nat_lt, map, if◌then◌else◌, Option, Some, None}
+use Rattle.std.specs.Prelude.{ℕ, ◌≡◌, ◌≢◌, ◌<◌, ◌≤◌, ◌+◌, ◌*◌, ◌^◌, ◌%◌, nat_lt, ◌==◌, ◌&&◌, not, if◌then◌else◌, IsTrue}
+use Rattle.std.specs.Prelude.{List, [], ◌∷◌, ◌++◌, length, take, drop, map, slice_index, slice_index_or, ◌⊎◌, ◌↔◌}
+use Rattle.std.specs.Prelude.{Option, Some, None}
 use Rattle.std.specs.Int.Digits.{digits_of}
 use Rattle.std.specs.List.{AllByRecursion, concat}
 
@@ -43,13 +46,6 @@ SameByShortest {V} Encoding =
     (v w : V) (a b s t : List ℕ) → Encoding v a → Encoding w b → IsShortest Encoding v s → IsShortest Encoding w t
     → (v ≡ w) ↔ (s ≡ t)
 
--- These n are encodings, they are different, and there is no other.
-pub record AreAll (n : ℕ) (Encoding : List ℕ → Type 0) (all : List (List ℕ)) : Type 0 where
-  pub count : length all ≡ n
-  pub each : (i : ℕ) → i < n → Encoding (slice_index_or all i [])
-  pub different : (i j : ℕ) → i < n → j < n → slice_index_or all i [] ≡ slice_index_or all j [] → i ≡ j
-  pub no_other : (bytes : List ℕ) → Encoding bytes → (i : ℕ) × (i < n) × (slice_index_or all i [] ≡ bytes)
-
 -- == DER (X.690) ==
 -- A number in base 256, the highest octet first and not 0; 0 is one octet.
 abbrev pub octets : ℕ → List ℕ
@@ -78,6 +74,9 @@ integers numbers = concat (map integer numbers)
 abbrev pub optional : {V : Type 0} → (V → List ℕ) → Option V → List ℕ
 optional encoding None = []
 optional encoding (Some v) = encoding v
+
+abbrev pub AreOctets : List ℕ → Type 0
+AreOctets bytes = AllByRecursion (λ b. b < 256) bytes
 
 abbrev pub IfPresent : {V : Type 0} → (V → Type 0) → Option V → Type 0
 IfPresent Is None = Unit {0}
@@ -114,13 +113,10 @@ pub record PrivateKey : Type 0 where
   pub coefficient : ℕ
   pub other_primes : Option (List OtherPrime)
 
--- OtherPrimeInfo: SEQUENCE { prime INTEGER, exponent INTEGER, coefficient INTEGER }
-abbrev pub other_prime : OtherPrime → List ℕ
-other_prime o = sequence (integers (o.prime ∷ o.exponent ∷ o.coefficient ∷ []))
-
--- OtherPrimeInfos: SEQUENCE SIZE(1..MAX) OF OtherPrimeInfo
+-- OtherPrimeInfos: SEQUENCE SIZE(1..MAX) OF SEQUENCE { prime INTEGER, exponent INTEGER, coefficient INTEGER }
 abbrev pub other_primes : List OtherPrime → List ℕ
-other_primes others = sequence (concat (map other_prime others))
+other_primes others =
+    sequence (concat (map (λ o. sequence (integers (o.prime ∷ o.exponent ∷ o.coefficient ∷ []))) others))
 
 -- version: 1 with other primes, else 0
 abbrev pub version : Option (List OtherPrime) → ℕ
@@ -156,7 +152,7 @@ pub record TagAndContents : Type 0 where
 abbrev pub IsAny : TagAndContents → Type 0
 IsAny v =
     IsTrue (nat_lt v.tag 256 && not (v.tag % 32 == 31) && not (v.tag == 0) && not (v.tag == 32))
-    × AllByRecursion (λ b. b < 256) v.contents
+    × AreOctets v.contents
 
 abbrev pub any : TagAndContents → List ℕ
 any v = tlv v.tag v.contents
@@ -172,22 +168,17 @@ algorithm parameters a = sequence (tlv 6 a.oid ++ optional parameters a.paramete
 abbrev pub IsAlgorithm : {P : Type 0} → (P → Type 0) → Algorithm P → Type 0
 IsAlgorithm Is a = IsIdentifier a.oid × IfPresent Is a.parameters
 
--- One with such parameters: a hash function, a label source. One with one of these: a mask generation function.
-abbrev pub plain : Algorithm TagAndContents → List ℕ
-plain = algorithm any
+-- NULL (X.690 8.8)
+abbrev pub null : TagAndContents
+null = record { tag = 5; contents = [] }
 
-abbrev pub IsPlain : Algorithm TagAndContents → Type 0
-IsPlain = IsAlgorithm IsAny
+-- rsaEncryption (RFC 8017 A.1) and id-sha1 with NULL, id-mgf1 with that, id-pSpecified with an empty label (A.2.1).
+abbrev pub rsa_encryption : Algorithm TagAndContents
+rsa_encryption =
+    record { oid = 0x2a ∷ 0x86 ∷ 0x48 ∷ 0x86 ∷ 0xf7 ∷ 0x0d ∷ 0x01 ∷ 0x01 ∷ 0x01 ∷ []; parameters = Some null }
 
-abbrev pub mask_generation : Algorithm (Algorithm TagAndContents) → List ℕ
-mask_generation = algorithm plain
-
-abbrev pub IsMaskGeneration : Algorithm (Algorithm TagAndContents) → Type 0
-IsMaskGeneration = IsAlgorithm IsPlain
-
--- id-sha1 with NULL; id-mgf1 with that; id-pSpecified with an empty OCTET STRING (RFC 8017 A.2.1)
 abbrev pub sha1 : Algorithm TagAndContents
-sha1 = record { oid = 0x2b ∷ 0x0e ∷ 0x03 ∷ 0x02 ∷ 0x1a ∷ []; parameters = Some (record { tag = 5; contents = [] }) }
+sha1 = record { oid = 0x2b ∷ 0x0e ∷ 0x03 ∷ 0x02 ∷ 0x1a ∷ []; parameters = Some null }
 
 abbrev pub mgf1_sha1 : Algorithm (Algorithm TagAndContents)
 mgf1_sha1 = record { oid = 0x2a ∷ 0x86 ∷ 0x48 ∷ 0x86 ∷ 0xf7 ∷ 0x0d ∷ 0x01 ∷ 0x01 ∷ 0x08 ∷ []; parameters = Some sha1 }
@@ -197,6 +188,25 @@ empty_label = record {
   oid = 0x2a ∷ 0x86 ∷ 0x48 ∷ 0x86 ∷ 0xf7 ∷ 0x0d ∷ 0x01 ∷ 0x01 ∷ 0x09 ∷ [];
   parameters = Some (record { tag = 4; contents = [] });
 }
+
+-- == PrivateKeyInfo (RFC 5208 5) ==
+pub record Container : Type 0 where
+  pub algorithm : Algorithm TagAndContents
+  pub private_key : List ℕ
+  pub attributes : Option (List ℕ)
+
+-- SEQUENCE { version INTEGER (0), privateKeyAlgorithm AlgorithmIdentifier, privateKey OCTET STRING,
+-- attributes [0] IMPLICIT Attributes OPTIONAL }. The contents of the attributes aren't looked at.
+abbrev pub ContainerEncoding : Container → List ℕ → Type 0
+ContainerEncoding c bytes =
+    (length bytes ≤ limit) × IsAlgorithm IsAny c.algorithm × AreOctets c.private_key × IfPresent AreOctets c.attributes
+    × (bytes ≡ sequence
+    (integer 0 ++ algorithm any c.algorithm ++ tlv 4 c.private_key ++ optional (tlv 160) c.attributes))
+
+-- A container for rsaEncryption, whose private key is the encoding of this key.
+abbrev pub ContainedKeyEncoding : PrivateKey → List ℕ → Type 0
+ContainedKeyEncoding key bytes =
+    (c : Container) × ContainerEncoding c bytes × (c.algorithm ≡ rsa_encryption) × PrivateKeyEncoding key c.private_key
 
 -- == Fields with defaults (X.690 8.14.2, 11.5) ==
 -- Whether the value of a field is its default, and the encoding if it is written.
@@ -230,27 +240,35 @@ Defaults [] k = k ≡ 0
 Defaults (f ∷ fields) k =
     (f.IsDefault × (j : ℕ) × (k ≡ j + 1) × Defaults fields j) ⊎ ((f.IsDefault → ⊥) × Defaults fields k)
 
--- A SEQUENCE with such contents.
-abbrev pub SequenceOf : (List ℕ → Type 0) → List ℕ → Type 0
-SequenceOf Contents bytes =
-    (length bytes ≤ limit) × (contents : List ℕ) × Contents contents × (bytes ≡ sequence contents)
+-- The SEQUENCE of the fields of a value that may be encoded, as Written says.
+abbrev pub SequenceOf : {V : Type 0} → (V → Type 0) → (V → List Field) → (List Field → List ℕ → Type 0) → V → List ℕ
+    → Type 0
+SequenceOf Is fields Written v bytes =
+    Is v × (length bytes ≤ limit) × (contents : List ℕ) × Written (fields v) contents × (bytes ≡ sequence contents)
+
+-- All encodings of a value k of whose fields have their defaults: two to the k different ones, each at its mask.
+pub record AreAll {V : Type 0} (Is : V → Type 0) (fields : V → List Field) (v : V) (k : ℕ) (all : List (List ℕ))
+    : Type 0 where
+  pub count : length all ≡ 2 ^ k
+  pub under : (i : ℕ) → i < 2 ^ k → SequenceOf Is fields (FieldsUnder i) v (slice_index_or all i [])
+  pub different : (i j : ℕ) → i < 2 ^ k → j < 2 ^ k → slice_index_or all i [] ≡ slice_index_or all j [] → i ≡ j
+  pub every : (bytes : List ℕ)
+      → SequenceOf Is fields Fields v bytes ↔ ((i : ℕ) × (i < 2 ^ k) × (slice_index_or all i [] ≡ bytes))
 
 -- The longest encoding: every field is written.
 abbrev pub longest : List Field → List ℕ
 longest fields = sequence (concat (map (λ f. f.written) fields))
 
--- All encodings of a value k of whose fields have their defaults: two to the k, at each index the one under it.
-abbrev pub AreByMask : {V : Type 0} → (V → List ℕ → Type 0) → (ℕ → V → List ℕ → Type 0) → V → ℕ → List (List ℕ)
-    → Type 0
-AreByMask Encoding Under v k all =
-    AreAll (2 ^ k) (Encoding v) all × ((mask : ℕ) → mask < 2 ^ k → Under mask v (slice_index_or all mask []))
+-- Listing gave a list: it is of all encodings. It gave none: the longest isn't within the limit.
+abbrev pub Lists : {V : Type 0} → (V → Type 0) → (V → List Field) → V → Option (List (List ℕ)) → Type 0
+Lists Is fields v (Some all) = (k : ℕ) × Defaults (fields v) k × AreAll Is fields v k all
+Lists Is fields v None = Is v → limit < length (longest (fields v))
 
 -- Values k of whose fields have their defaults have exactly two to the k encodings, if the longest is within the limit.
-abbrev pub TwoToTheDefaults : {V : Type 0} → (V → Type 0) → (V → List Field) → (V → List ℕ → Type 0)
-    → (ℕ → V → List ℕ → Type 0) → Type 0
-TwoToTheDefaults {V} Is fields Encoding Under =
+abbrev pub TwoToTheDefaults : {V : Type 0} → (V → Type 0) → (V → List Field) → Type 0
+TwoToTheDefaults {V} Is fields =
     (v : V) (k : ℕ) → Is v → Defaults (fields v) k → length (longest (fields v)) ≤ limit
-    → (all : List (List ℕ)) × AreByMask Encoding Under v k all
+    → (all : List (List ℕ)) × AreAll Is fields v k all
 
 -- == RSASSA-PSS-params (RFC 8017 A.2.3) ==
 pub record PssParameters : Type 0 where
@@ -261,20 +279,18 @@ pub record PssParameters : Type 0 where
 
 -- Salt lengths above 255 aren't read (the library's limit); trailerFieldBC is the only trailer field.
 abbrev pub IsPss : PssParameters → Type 0
-IsPss p = IsPlain p.hash × IsMaskGeneration p.mask_gen × (p.salt_len < 256) × (p.trailer_field ≡ 1)
+IsPss p =
+    IsAlgorithm IsAny p.hash × IsAlgorithm (IsAlgorithm IsAny) p.mask_gen × (p.salt_len < 256) × (p.trailer_field ≡ 1)
 
 -- hashAlgorithm [0] DEFAULT sha1, maskGenAlgorithm [1] DEFAULT mgf1SHA1, saltLength [2] INTEGER DEFAULT 20,
 -- trailerField [3] INTEGER DEFAULT 1
 abbrev pub pss_fields : PssParameters → List Field
 pss_fields p =
-    field 0 plain sha1 p.hash ∷ field 1 mask_generation mgf1_sha1 p.mask_gen
+    field 0 (algorithm any) sha1 p.hash ∷ field 1 (algorithm (algorithm any)) mgf1_sha1 p.mask_gen
     ∷ field 2 integer 20 p.salt_len ∷ field 3 integer 1 p.trailer_field ∷ []
 
 abbrev pub PssEncoding : PssParameters → List ℕ → Type 0
-PssEncoding p bytes = IsPss p × SequenceOf (Fields (pss_fields p)) bytes
-
-abbrev pub PssUnder : ℕ → PssParameters → List ℕ → Type 0
-PssUnder mask p bytes = IsPss p × SequenceOf (FieldsUnder mask (pss_fields p)) bytes
+PssEncoding = SequenceOf IsPss pss_fields Fields
 
 -- == RSAES-OAEP-params (RFC 8017 A.2.1) ==
 pub record OaepParameters : Type 0 where
@@ -283,15 +299,13 @@ pub record OaepParameters : Type 0 where
   pub p_source : Algorithm TagAndContents
 
 abbrev pub IsOaep : OaepParameters → Type 0
-IsOaep p = IsPlain p.hash × IsMaskGeneration p.mask_gen × IsPlain p.p_source
+IsOaep p = IsAlgorithm IsAny p.hash × IsAlgorithm (IsAlgorithm IsAny) p.mask_gen × IsAlgorithm IsAny p.p_source
 
 -- hashAlgorithm [0] DEFAULT sha1, maskGenAlgorithm [1] DEFAULT mgf1SHA1, pSourceAlgorithm [2] DEFAULT pSpecifiedEmpty
 abbrev pub oaep_fields : OaepParameters → List Field
 oaep_fields p =
-    field 0 plain sha1 p.hash ∷ field 1 mask_generation mgf1_sha1 p.mask_gen ∷ field 2 plain empty_label p.p_source ∷ []
+    field 0 (algorithm any) sha1 p.hash ∷ field 1 (algorithm (algorithm any)) mgf1_sha1 p.mask_gen
+    ∷ field 2 (algorithm any) empty_label p.p_source ∷ []
 
 abbrev pub OaepEncoding : OaepParameters → List ℕ → Type 0
-OaepEncoding p bytes = IsOaep p × SequenceOf (Fields (oaep_fields p)) bytes
-
-abbrev pub OaepUnder : ℕ → OaepParameters → List ℕ → Type 0
-OaepUnder mask p bytes = IsOaep p × SequenceOf (FieldsUnder mask (oaep_fields p)) bytes
+OaepEncoding = SequenceOf IsOaep oaep_fields Fields

@@ -1,18 +1,32 @@
-//! What is proved, in one page: each function is the library's own call, under a contract of `specs/Statement.antt`.
+//! What is proved: each function is the library's own call, under a contract of `specs/Statement.antt`.
 #![tactic(auto)]
 
+ghost use Rattle.std.specs.Prelude.{ℕ, ◌<◌, ◌^◌};
 ghost use Rattle.std.specs.Option.{option_map};
-ghost use Rattle.statement.specs.Reading.{Returns, public_key_of};
 ghost use Rattle.statement.specs.Held.{uint_ref, any_ref, rsa_public_key, rsa_private_key, rsa_private_key_view};
-ghost use Rattle.statement.specs.Held.{rsa_pss_params, rsa_oaep_params};
+ghost use Rattle.statement.specs.Held.{rsa_pss_params, rsa_oaep_params, private_key_info_ref};
 ghost use Rattle.statement.specs.Statement.{Decodes, Encodes, IsShortest, AtMostOne, SameByShortest, TwoToTheDefaults};
 ghost use Rattle.statement.specs.Statement.{PublicKeyEncoding, PrivateKeyEncoding, PssEncoding, OaepEncoding};
-ghost use Rattle.statement.specs.Statement.{IsPss, pss_fields, PssUnder, IsOaep, oaep_fields, OaepUnder};
+ghost use Rattle.statement.specs.Statement.{IsPss, pss_fields, IsOaep, oaep_fields, SequenceOf, FieldsUnder, Defaults};
+ghost use Rattle.statement.specs.Statement.{ContainerEncoding, ContainedKeyEncoding};
 
-use pkcs1::{
-    Result, RsaOaepParamsRef, RsaPrivateKeyRef, RsaPrivateKeyView, RsaPssParamsRef,
-    RsaPublicKeyRef, lemma_oaep_spellings, lemma_pss_spellings,
+mod errors;
+mod memory;
+
+pub use errors::{
+    read_contained_key_or_fault, read_container_or_fault, read_oaep_params_or_fault,
+    read_private_key_or_fault, read_pss_params_or_fault, read_public_key_or_fault,
 };
+pub use memory::{
+    OrOutOfMemory, list_oaep_params, list_pss_params, read_owned_oaep_params,
+    read_owned_private_key, read_owned_pss_params, read_owned_public_key,
+    read_private_key_as_struct,
+};
+use pkcs1::{
+    RsaOaepParamsRef, RsaOaepParamsView, RsaPrivateKeyRef, RsaPrivateKeyView, RsaPssParamsRef,
+    RsaPssParamsView, RsaPublicKeyRef, lemma_oaep_spellings, lemma_pss_spellings,
+};
+use pkcs8_core::{PrivateKeyInfoRef, rsa_from_pkcs8_der};
 
 /// Reads a slice exactly if it encodes a public key, as the one that it encodes.
 pub fn read_public_key<'a>(bytes: &'a [u8]) -> Option<RsaPublicKeyRef<'a>>
@@ -64,6 +78,16 @@ pub fn read_pss_params<'a>(bytes: &'a [u8]) -> Option<RsaPssParamsRef<'a>>
     }
 }
 
+/// Reads as a view, which holds what `keep` makes of it.
+pub fn read_pss_params_view<'a>(bytes: &'a [u8]) -> Option<RsaPssParamsRef<'a>>
+    ensures { Decodes PssEncoding bytes.now (option_map (rsa_pss_params any_ref) result) }
+{
+    match RsaPssParamsView::try_from(bytes) {
+        Ok(view) => Some(view.keep()),
+        Err(_) => None,
+    }
+}
+
 /// Reads a slice exactly if it is the shortest encoding of PSS parameters.
 pub fn read_pss_params_strictly<'a>(bytes: &'a [u8]) -> Option<RsaPssParamsRef<'a>>
     ensures { Decodes (IsShortest PssEncoding) bytes.now (option_map (rsa_pss_params any_ref) result) }
@@ -84,10 +108,27 @@ pub fn write_pss_params(params: &RsaPssParamsRef<'_>, out: &mut [u8]) -> Option<
     }
 }
 
+/// Writes the encoding of PSS parameters under a mask, if it is no longer than the slice.
+pub fn write_pss_params_under(
+    mask: u8,
+    params: &RsaPssParamsRef<'_>,
+    out: &mut [u8],
+) -> Option<usize>
+    requires { (k : ℕ) × Defaults (pss_fields (rsa_pss_params any_ref params.now)) k × (mask < 2 ^ k) }
+    ensures { let Encoding = SequenceOf IsPss pss_fields (FieldsUnder mask) in
+        Encodes Encoding (rsa_pss_params any_ref params.now) out.old out.new result }
+{
+    lemma_pss_spellings();
+    match params.encode_spelling_into(mask, out) {
+        Ok(length) => Some(length),
+        Err(_) => None,
+    }
+}
+
 /// PSS parameters k of whose fields equal their defaults have exactly two to the k encodings, one for each choice of
 /// the defaults that are written, if the longest is within the limit.
 pub fn lemma_pss_count()
-    ensures { TwoToTheDefaults IsPss pss_fields PssEncoding PssUnder }
+    ensures { TwoToTheDefaults IsPss pss_fields }
 {
     lemma_pss_spellings();
 }
@@ -98,6 +139,16 @@ pub fn read_oaep_params<'a>(bytes: &'a [u8]) -> Option<RsaOaepParamsRef<'a>>
 {
     match RsaOaepParamsRef::try_from(bytes) {
         Ok(value) => Some(value),
+        Err(_) => None,
+    }
+}
+
+/// Reads as a view, which holds what `keep` makes of it.
+pub fn read_oaep_params_view<'a>(bytes: &'a [u8]) -> Option<RsaOaepParamsRef<'a>>
+    ensures { Decodes OaepEncoding bytes.now (option_map (rsa_oaep_params any_ref) result) }
+{
+    match RsaOaepParamsView::try_from(bytes) {
+        Ok(view) => Some(view.keep()),
         Err(_) => None,
     }
 }
@@ -122,31 +173,73 @@ pub fn write_oaep_params(params: &RsaOaepParamsRef<'_>, out: &mut [u8]) -> Optio
     }
 }
 
+/// Writes the encoding of OAEP parameters under a mask, if it is no longer than the slice.
+pub fn write_oaep_params_under(
+    mask: u8,
+    params: &RsaOaepParamsRef<'_>,
+    out: &mut [u8],
+) -> Option<usize>
+    requires { (k : ℕ) × Defaults (oaep_fields (rsa_oaep_params any_ref params.now)) k × (mask < 2 ^ k) }
+    ensures { let Encoding = SequenceOf IsOaep oaep_fields (FieldsUnder mask) in
+        Encodes Encoding (rsa_oaep_params any_ref params.now) out.old out.new result }
+{
+    lemma_oaep_spellings();
+    match params.encode_spelling_into(mask, out) {
+        Ok(length) => Some(length),
+        Err(_) => None,
+    }
+}
+
 /// OAEP parameters k of whose fields equal their defaults have exactly two to the k encodings, one for each choice of
 /// the defaults that are written, if the longest is within the limit.
 pub fn lemma_oaep_count()
-    ensures { TwoToTheDefaults IsOaep oaep_fields OaepEncoding OaepUnder }
+    ensures { TwoToTheDefaults IsOaep oaep_fields }
 {
     lemma_oaep_spellings();
 }
 
-/// A key has no encoding but one.
+/// Reads a slice exactly if it encodes a container, as the one that it encodes.
+pub fn read_container<'a>(bytes: &'a [u8]) -> Option<PrivateKeyInfoRef<'a>>
+    ensures { Decodes ContainerEncoding bytes.now (option_map private_key_info_ref result) }
+{
+    match PrivateKeyInfoRef::try_from(bytes) {
+        Ok(value) => Some(value),
+        Err(_) => None,
+    }
+}
+
+/// Writes a container as the shortest encoding, if there is one that is no longer than the slice.
+pub fn write_container(info: &PrivateKeyInfoRef<'_>, out: &mut [u8]) -> Option<usize>
+    ensures { Encodes ContainerEncoding (private_key_info_ref info.now) out.old out.new result }
+{
+    match info.encode_info(out) {
+        Ok(length) => Some(length),
+        Err(_) => None,
+    }
+}
+
+/// Reads a slice exactly if it encodes a container with an RSA private key, as the key in it.
+pub fn read_contained_key<'a>(bytes: &'a [u8]) -> Option<RsaPrivateKeyView<'a>>
+    ensures { Decodes ContainedKeyEncoding bytes.now (option_map rsa_private_key_view result) }
+{
+    match rsa_from_pkcs8_der(bytes) {
+        Ok(value) => Some(value),
+        Err(_) => None,
+    }
+}
+
+/// A key has no encoding but one, nor has a container.
 pub fn lemma_keys_have_one_encoding()
     ensures public { AtMostOne PublicKeyEncoding }
     ensures private { AtMostOne PrivateKeyEncoding }
+    ensures container { AtMostOne ContainerEncoding }
 {}
 
 /// Two encodings mean the same value exactly if the shortest encodings of their values are equal.
 pub fn lemma_same_by_shortest()
     ensures public { SameByShortest PublicKeyEncoding }
     ensures private { SameByShortest PrivateKeyEncoding }
+    ensures container { SameByShortest ContainerEncoding }
     ensures pss { SameByShortest PssEncoding }
     ensures oaep { SameByShortest OaepEncoding }
 {}
-
-/// Reads a public key, with the kind of each error: one function of the bytes gives the key, or the first fault.
-pub fn read_public_key_or_fault<'a>(bytes: &'a [u8]) -> Result<RsaPublicKeyRef<'a>>
-    ensures { Returns (rsa_public_key uint_ref) (public_key_of bytes.now) result }
-{
-    RsaPublicKeyRef::try_from(bytes)
-}

@@ -1,90 +1,62 @@
 use crate::raw::{self, Bytes};
-use crate::Error;
 use std::fmt;
 
-/// The contents octets of an OBJECT IDENTIFIER, at most 39.
-// `len` is at most 39, and the octets after the first `len` are zeros, so that derived equality is right.
-#[repr(C)]
+/// The contents octets of an OBJECT IDENTIFIER (X.690 8.19). Equality and hash are those of the octets.
 #[derive(Clone, Copy, PartialEq, Eq, Hash)]
-pub struct ObjectIdentifier {
-    octets: [u8; 39],
-    len: u8,
-}
+pub struct ObjectIdentifier<'a>(&'a [u8]);
 
-const fn known(octets: &[u8]) -> ObjectIdentifier {
-    match ObjectIdentifier::new(octets) {
-        Ok(oid) => oid,
-        Err(_) => panic!("an identifier of more than 39 octets"),
-    }
-}
-
-impl ObjectIdentifier {
+impl ObjectIdentifier<'static> {
     /// SHA-1.
-    pub const SHA_1: ObjectIdentifier = known(&[0x2b, 0x0e, 0x03, 0x02, 0x1a]);
+    pub const SHA_1: Self = ObjectIdentifier(&[0x2b, 0x0e, 0x03, 0x02, 0x1a]);
     /// SHA-224.
-    pub const SHA_224: ObjectIdentifier = known(&[0x60, 0x86, 0x48, 0x01, 0x65, 0x03, 0x04, 0x02, 0x04]);
+    pub const SHA_224: Self = ObjectIdentifier(&[0x60, 0x86, 0x48, 0x01, 0x65, 0x03, 0x04, 0x02, 0x04]);
     /// SHA-256.
-    pub const SHA_256: ObjectIdentifier = known(&[0x60, 0x86, 0x48, 0x01, 0x65, 0x03, 0x04, 0x02, 0x01]);
+    pub const SHA_256: Self = ObjectIdentifier(&[0x60, 0x86, 0x48, 0x01, 0x65, 0x03, 0x04, 0x02, 0x01]);
     /// SHA-384.
-    pub const SHA_384: ObjectIdentifier = known(&[0x60, 0x86, 0x48, 0x01, 0x65, 0x03, 0x04, 0x02, 0x02]);
+    pub const SHA_384: Self = ObjectIdentifier(&[0x60, 0x86, 0x48, 0x01, 0x65, 0x03, 0x04, 0x02, 0x02]);
     /// SHA-512.
-    pub const SHA_512: ObjectIdentifier = known(&[0x60, 0x86, 0x48, 0x01, 0x65, 0x03, 0x04, 0x02, 0x03]);
+    pub const SHA_512: Self = ObjectIdentifier(&[0x60, 0x86, 0x48, 0x01, 0x65, 0x03, 0x04, 0x02, 0x03]);
     /// The mask generation function MGF1.
-    pub const MGF1: ObjectIdentifier = known(&[0x2a, 0x86, 0x48, 0x86, 0xf7, 0x0d, 0x01, 0x01, 0x08]);
+    pub const MGF1: Self = ObjectIdentifier(&[0x2a, 0x86, 0x48, 0x86, 0xf7, 0x0d, 0x01, 0x01, 0x08]);
     /// pSpecified: the parameters are the label.
-    pub const P_SPECIFIED: ObjectIdentifier = known(&[0x2a, 0x86, 0x48, 0x86, 0xf7, 0x0d, 0x01, 0x01, 0x09]);
+    pub const P_SPECIFIED: Self = ObjectIdentifier(&[0x2a, 0x86, 0x48, 0x86, 0xf7, 0x0d, 0x01, 0x01, 0x09]);
     /// rsaEncryption.
-    pub const RSA_ENCRYPTION: ObjectIdentifier = known(&[0x2a, 0x86, 0x48, 0x86, 0xf7, 0x0d, 0x01, 0x01, 0x01]);
+    pub const RSA_ENCRYPTION: Self = ObjectIdentifier(&[0x2a, 0x86, 0x48, 0x86, 0xf7, 0x0d, 0x01, 0x01, 0x01]);
+    /// id-RSASSA-PSS.
+    pub const RSASSA_PSS: Self = ObjectIdentifier(&[0x2a, 0x86, 0x48, 0x86, 0xf7, 0x0d, 0x01, 0x01, 0x0a]);
+    /// id-RSAES-OAEP.
+    pub const RSAES_OAEP: Self = ObjectIdentifier(&[0x2a, 0x86, 0x48, 0x86, 0xf7, 0x0d, 0x01, 0x01, 0x07]);
+}
 
-    /// The identifier with these contents octets; more than 39 are `OID_MALFORMED`. Octets that are no identifier are
-    /// rejected only by the encoders.
+impl<'a> ObjectIdentifier<'a> {
+    /// The identifier with these contents octets. Octets that are no identifier, or more than 39, are rejected by what
+    /// encodes them: `Error::OID_MALFORMED`.
     ///
     /// ```
-    /// use pkcs1_proved::ObjectIdentifier;
+    /// use pkcs1_proved::{Error, ObjectIdentifier, PssParams};
     ///
-    /// let sha_1 = ObjectIdentifier::new(&[0x2b, 0x0e, 0x03, 0x02, 0x1a])?; // 1.3.14.3.2.26
+    /// let sha_1 = ObjectIdentifier::new(&[0x2b, 0x0e, 0x03, 0x02, 0x1a]); // 1.3.14.3.2.26
     /// assert_eq!(sha_1, ObjectIdentifier::SHA_1);
     /// assert_eq!(sha_1.as_bytes().len(), 5);
-    /// # Ok::<(), pkcs1_proved::Error>(())
+    /// assert_eq!(PssParams::new(ObjectIdentifier::new(&[0x80]), 20).to_der(), Err(Error::OID_MALFORMED));
     /// ```
-    pub const fn new(contents: &[u8]) -> Result<ObjectIdentifier, Error> {
-        let mut octets = [0; 39];
-        if contents.len() > octets.len() {
-            return Err(Error::OID_MALFORMED);
-        }
-        let mut at = 0;
-        while at < contents.len() {
-            octets[at] = contents[at];
-            at += 1;
-        }
-        Ok(ObjectIdentifier { octets, len: contents.len() as u8 })
-    }
-
-    /// The same identifier with zeros after its octets: no clause says what the library leaves there.
-    fn tidy(&self) -> ObjectIdentifier {
-        known(self.as_bytes())
+    pub const fn new(contents: &'a [u8]) -> ObjectIdentifier<'a> {
+        ObjectIdentifier(contents)
     }
 
     /// The contents octets.
-    pub fn as_bytes(&self) -> &[u8] {
-        &self.octets[..usize::from(self.len)]
+    pub const fn as_bytes(&self) -> &'a [u8] {
+        self.0
     }
 }
 
-impl AsRef<[u8]> for ObjectIdentifier {
+impl AsRef<[u8]> for ObjectIdentifier<'_> {
     fn as_ref(&self) -> &[u8] {
-        self.as_bytes()
+        self.0
     }
 }
 
-/// No octets, which is no identifier: a value for the library to fill.
-impl Default for ObjectIdentifier {
-    fn default() -> ObjectIdentifier {
-        known(&[])
-    }
-}
-
-impl fmt::Debug for ObjectIdentifier {
+impl fmt::Debug for ObjectIdentifier<'_> {
     fn fmt(&self, f: &mut fmt::Formatter<'_>) -> fmt::Result {
         f.write_str("ObjectIdentifier(")?;
         self.as_bytes().iter().try_for_each(|octet| write!(f, "{octet:02x}"))?;
@@ -119,7 +91,7 @@ impl<'a> Any<'a> {
 #[derive(Clone, Copy, Debug, PartialEq, Eq, Hash)]
 pub struct Algorithm<'a> {
     /// The object identifier of the algorithm.
-    pub oid: ObjectIdentifier,
+    pub oid: ObjectIdentifier<'a>,
     /// Its parameters; `None` isn't the same as NULL.
     pub parameters: Option<Any<'a>>,
 }
@@ -133,17 +105,33 @@ impl<'a> Algorithm<'a> {
     /// let sha_256 = Algorithm::with_null(ObjectIdentifier::SHA_256);
     /// assert_eq!(sha_256.parameters, Some(Any::NULL));
     /// ```
-    pub const fn with_null(oid: ObjectIdentifier) -> Algorithm<'static> {
+    pub const fn with_null(oid: ObjectIdentifier<'a>) -> Algorithm<'a> {
         Algorithm { oid, parameters: Some(Any::NULL) }
     }
 
+    /// Whether this is the hash function with this identifier, with NULL or without parameters: both mean the same
+    /// (RFC 4055 2.1), and both are met, but `==` tells them apart.
+    ///
+    /// ```
+    /// use pkcs1_proved::{Algorithm, ObjectIdentifier};
+    ///
+    /// let (null, none) = (Algorithm::with_null(ObjectIdentifier::SHA_256), Algorithm { oid: ObjectIdentifier::SHA_256, parameters: None });
+    /// assert!(null.is(ObjectIdentifier::SHA_256) && none.is(ObjectIdentifier::SHA_256) && null != none);
+    /// assert!(!null.is(ObjectIdentifier::SHA_512));
+    /// ```
+    pub fn is(&self, oid: ObjectIdentifier<'_>) -> bool {
+        raw::algorithm_is(&self.raw(), oid.0)
+    }
+
     pub(crate) fn seen(raw: &raw::Algorithm<'a>) -> Algorithm<'a> {
-        Algorithm { oid: raw.oid.tidy(), parameters: raw.has_parameters.then(|| Any { tag: raw.tag, value: raw.parameters.get() }) }
+        let parameters = raw.has_parameters.then(|| Any { tag: raw.tag, value: raw.parameters.get() });
+        Algorithm { oid: ObjectIdentifier(raw.oid.get()), parameters }
     }
 
     pub(crate) fn raw(&self) -> raw::Algorithm<'a> {
         let any = self.parameters.unwrap_or(Any { tag: 0, value: &[] });
-        raw::Algorithm { oid: self.oid, has_parameters: self.parameters.is_some(), tag: any.tag, parameters: Bytes::new(any.value) }
+        let (oid, parameters) = (Bytes::new(self.oid.0), Bytes::new(any.value));
+        raw::Algorithm { oid, has_parameters: self.parameters.is_some(), tag: any.tag, parameters }
     }
 }
 
@@ -151,7 +139,7 @@ impl<'a> Algorithm<'a> {
 #[derive(Clone, Copy, Debug, PartialEq, Eq, Hash)]
 pub struct MaskGen<'a> {
     /// The object identifier of the function; RFC 8017 defines only MGF1.
-    pub oid: ObjectIdentifier,
+    pub oid: ObjectIdentifier<'a>,
     /// The hash function.
     pub hash: Option<Algorithm<'a>>,
 }
@@ -170,11 +158,11 @@ impl<'a> MaskGen<'a> {
     }
 
     pub(crate) fn seen(raw: &raw::MaskGen<'a>) -> MaskGen<'a> {
-        MaskGen { oid: raw.oid.tidy(), hash: raw.has_hash.then(|| Algorithm::seen(&raw.hash)) }
+        MaskGen { oid: ObjectIdentifier(raw.oid.get()), hash: raw.has_hash.then(|| Algorithm::seen(&raw.hash)) }
     }
 
     pub(crate) fn raw(&self) -> raw::MaskGen<'a> {
         let hash = self.hash.as_ref().map(Algorithm::raw);
-        raw::MaskGen { oid: self.oid, has_hash: hash.is_some(), hash: hash.unwrap_or_default() }
+        raw::MaskGen { oid: Bytes::new(self.oid.0), has_hash: hash.is_some(), hash: hash.unwrap_or_default() }
     }
 }

@@ -25,10 +25,18 @@ borrowed! {
     PssParameters: "PssParams::from_der(&der).unwrap()";
     StrictPssParameters: "PssParams::from_der_strict(&der).unwrap()";
     PssParametersFromASlice: "PssParams::try_from(&der[..]).unwrap()";
+    PssParametersOfAnAlgorithm: "PssParams::from_algorithm_der(&der).unwrap()";
+    StrictPssParametersOfAnAlgorithm: "PssParams::from_algorithm_der_strict(&der).unwrap()";
+    OaepParametersOfAnAlgorithm: "OaepParams::from_algorithm_der(&der).unwrap()";
+    StrictOaepParametersOfAnAlgorithm: "OaepParams::from_algorithm_der_strict(&der).unwrap()";
     OaepParameters: "OaepParams::from_der(&der).unwrap()";
     StrictOaepParameters: "OaepParams::from_der_strict(&der).unwrap()";
     OaepParametersFromASlice: "OaepParams::try_from(&der[..]).unwrap()";
     OaepParametersForALabel: "OaepParams::new_with_label(ObjectIdentifier::SHA_1, &der)";
+    AnIdentifier: "PssParams::from_der(&der).unwrap().hash.oid";
+    OctetsOfAnIdentifier: "PssParams::from_der(&der).unwrap().mask_gen.oid.as_bytes()";
+    ANewIdentifier: "ObjectIdentifier::new(&der)";
+    PssParametersForAHashFunction: "PssParams::new(ObjectIdentifier::new(&der), 20)";
     AHashFunction: "PssParams::from_der(&der).unwrap().hash";
     AMaskGenerator: "PssParams::from_der(&der).unwrap().mask_gen";
     ParametersOfAnAlgorithm: "PssParams::from_der(&der).unwrap().hash.parameters.unwrap()";

@@ -35,13 +35,13 @@ errors! {
     NONCANONICAL = 5;
     /// An identifier that is empty, cut off, not in shortest form, or of more than 39 octets.
     OID_MALFORMED = 6;
-    /// PKCS #8 with a key that isn't RSA, or an RSA key under id-RSASSA-PSS (RSA-PSS).
+    /// PKCS #8 with a key that isn't RSA, or an RSA key under id-RSASSA-PSS (RSA-PSS); an identifier of another algorithm.
     OID_UNKNOWN = 7;
     /// A length above 4294967295.
     OVERFLOW = 8;
     /// Not DER: a length in more octets than it needs.
     OVERLENGTH = 9;
-    /// PKCS #8 whose rsaEncryption has no parameters.
+    /// An algorithm without parameters: rsaEncryption has NULL, the others their own.
     PARAMETERS_MISSING = 10;
     /// Another type: PEM, PKCS #8, SubjectPublicKeyInfo or an encrypted key, perhaps.
     TAG_UNEXPECTED = 11;

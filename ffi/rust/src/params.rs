@@ -1,4 +1,4 @@
-use crate::encode::Writes;
+use crate::encode::{into_vec, Writes};
 use crate::raw::{self, Encode};
 use crate::{Algorithm, Any, Error, MaskGen, ObjectIdentifier};
 
@@ -38,7 +38,7 @@ impl<'a> PssParams<'a> {
     /// assert_eq!(params.to_der()?, std::fs::read("tests/keys/pss_sha256.der")?);
     /// # Ok::<(), Box<dyn std::error::Error>>(())
     /// ```
-    pub const fn new(hash: ObjectIdentifier, salt_len: u8) -> PssParams<'static> {
+    pub const fn new(hash: ObjectIdentifier<'a>, salt_len: u8) -> PssParams<'a> {
         let hash = Algorithm::with_null(hash);
         PssParams { hash, mask_gen: MaskGen::mgf1(hash), salt_len, trailer_field: TrailerField::BC }
     }
@@ -70,6 +70,41 @@ impl<'a> PssParams<'a> {
         raw::pss_params_strict(der).map(PssParams::seen)
     }
 
+    /// Decodes the algorithm identifier id-RSASSA-PSS with parameters, as a certificate's signatureAlgorithm, from the whole slice.
+    /// `Error::OID_UNKNOWN`: another algorithm. `Error::PARAMETERS_MISSING`: no parameters.
+    ///
+    /// ```
+    /// use pkcs1_proved::{Error, PssParams, ObjectIdentifier};
+    ///
+    /// let der = std::fs::read("tests/keys/pss_sha256.der")?;
+    /// let params = PssParams::from_der(&der)?;
+    /// let algorithm = params.to_algorithm_der()?;
+    /// assert_eq!(PssParams::from_algorithm_der(&algorithm)?, params);
+    /// assert_eq!(PssParams::from_der(&algorithm), Err(Error::TRAILING_DATA));
+    /// # Ok::<(), Box<dyn std::error::Error>>(())
+    /// ```
+    pub fn from_algorithm_der(der: &'a [u8]) -> Result<PssParams<'a>, Error> {
+        raw::pss_algorithm(der).map(|raw| PssParams::seen(raw.0))
+    }
+
+    /// As `from_algorithm_der`, but returns `Error::NONCANONICAL` if a default is written out.
+    pub fn from_algorithm_der_strict(der: &'a [u8]) -> Result<PssParams<'a>, Error> {
+        raw::pss_algorithm_strict(der).map(|raw| PssParams::seen(raw.0))
+    }
+
+    /// The DER of the algorithm identifier id-RSASSA-PSS with these parameters.
+    ///
+    /// ```
+    /// use pkcs1_proved::{PssParams, ObjectIdentifier};
+    ///
+    /// let algorithm = PssParams::new(ObjectIdentifier::SHA_256, 32).to_algorithm_der()?;
+    /// assert_eq!(algorithm[4..13], *ObjectIdentifier::RSASSA_PSS.as_bytes());
+    /// # Ok::<(), pkcs1_proved::Error>(())
+    /// ```
+    pub fn to_algorithm_der(&self) -> Result<Vec<u8>, Error> {
+        into_vec(&raw::PssAlgorithm(self.raw()))
+    }
+
     fn seen(raw: raw::PssParams<'a>) -> PssParams<'a> {
         PssParams {
             hash: Algorithm::seen(&raw.hash),
@@ -77,6 +112,11 @@ impl<'a> PssParams<'a> {
             salt_len: raw.salt_len,
             trailer_field: TrailerField::BC, // the library reads no other
         }
+    }
+
+    fn raw(&self) -> raw::PssParams<'a> {
+        let (hash, mask_gen) = (self.hash.raw(), self.mask_gen.raw());
+        raw::PssParams { hash, mask_gen, salt_len: self.salt_len, trailer_field: self.trailer_field as u8 }
     }
 }
 
@@ -88,8 +128,7 @@ impl Default for PssParams<'_> {
 
 impl Writes for PssParams<'_> {
     fn with_raw<T>(&self, call: impl FnOnce(&dyn Encode) -> Result<T, Error>) -> Result<T, Error> {
-        let (hash, mask_gen) = (self.hash.raw(), self.mask_gen.raw());
-        call(&raw::PssParams { hash, mask_gen, salt_len: self.salt_len, trailer_field: self.trailer_field as u8 })
+        call(&self.raw())
     }
 }
 
@@ -115,7 +154,7 @@ impl<'a> OaepParams<'a> {
     /// assert_eq!(OaepParams::new(ObjectIdentifier::SHA_1).to_der()?, [0x30, 0]); // all three are defaults
     /// # Ok::<(), pkcs1_proved::Error>(())
     /// ```
-    pub const fn new(hash: ObjectIdentifier) -> OaepParams<'static> {
+    pub const fn new(hash: ObjectIdentifier<'a>) -> OaepParams<'a> {
         OaepParams::new_with_label(hash, &[])
     }
 
@@ -127,7 +166,7 @@ impl<'a> OaepParams<'a> {
     /// let params = OaepParams::new_with_label(ObjectIdentifier::SHA_256, b"label");
     /// assert_eq!(params.p_source.parameters, Some(Any::octet_string(b"label")));
     /// ```
-    pub const fn new_with_label(hash: ObjectIdentifier, label: &'a [u8]) -> OaepParams<'a> {
+    pub const fn new_with_label(hash: ObjectIdentifier<'a>, label: &'a [u8]) -> OaepParams<'a> {
         let hash = Algorithm::with_null(hash);
         let p_source = Algorithm { oid: ObjectIdentifier::P_SPECIFIED, parameters: Some(Any::octet_string(label)) };
         OaepParams { hash, mask_gen: MaskGen::mgf1(hash), p_source }
@@ -159,8 +198,47 @@ impl<'a> OaepParams<'a> {
         raw::oaep_params_strict(der).map(OaepParams::seen)
     }
 
+    /// Decodes the algorithm identifier id-RSAES-OAEP with parameters, as in CMS, from the whole slice.
+    /// `Error::OID_UNKNOWN`: another algorithm. `Error::PARAMETERS_MISSING`: no parameters.
+    ///
+    /// ```
+    /// use pkcs1_proved::{Error, OaepParams, ObjectIdentifier};
+    ///
+    /// let der = std::fs::read("tests/keys/oaep_sha512.der")?;
+    /// let params = OaepParams::from_der(&der)?;
+    /// let algorithm = params.to_algorithm_der()?;
+    /// assert_eq!(OaepParams::from_algorithm_der(&algorithm)?, params);
+    /// assert_eq!(OaepParams::from_der(&algorithm), Err(Error::TRAILING_DATA));
+    /// # Ok::<(), Box<dyn std::error::Error>>(())
+    /// ```
+    pub fn from_algorithm_der(der: &'a [u8]) -> Result<OaepParams<'a>, Error> {
+        raw::oaep_algorithm(der).map(|raw| OaepParams::seen(raw.0))
+    }
+
+    /// As `from_algorithm_der`, but returns `Error::NONCANONICAL` if a default is written out.
+    pub fn from_algorithm_der_strict(der: &'a [u8]) -> Result<OaepParams<'a>, Error> {
+        raw::oaep_algorithm_strict(der).map(|raw| OaepParams::seen(raw.0))
+    }
+
+    /// The DER of the algorithm identifier id-RSAES-OAEP with these parameters.
+    ///
+    /// ```
+    /// use pkcs1_proved::{OaepParams, ObjectIdentifier};
+    ///
+    /// let algorithm = OaepParams::new(ObjectIdentifier::SHA_256).to_algorithm_der()?;
+    /// assert_eq!(algorithm[4..13], *ObjectIdentifier::RSAES_OAEP.as_bytes());
+    /// # Ok::<(), pkcs1_proved::Error>(())
+    /// ```
+    pub fn to_algorithm_der(&self) -> Result<Vec<u8>, Error> {
+        into_vec(&raw::OaepAlgorithm(self.raw()))
+    }
+
     fn seen(raw: raw::OaepParams<'a>) -> OaepParams<'a> {
         OaepParams { hash: Algorithm::seen(&raw.hash), mask_gen: MaskGen::seen(&raw.mask_gen), p_source: Algorithm::seen(&raw.p_source) }
+    }
+
+    fn raw(&self) -> raw::OaepParams<'a> {
+        raw::OaepParams { hash: self.hash.raw(), mask_gen: self.mask_gen.raw(), p_source: self.p_source.raw() }
     }
 }
 
@@ -172,6 +250,6 @@ impl Default for OaepParams<'_> {
 
 impl Writes for OaepParams<'_> {
     fn with_raw<T>(&self, call: impl FnOnce(&dyn Encode) -> Result<T, Error>) -> Result<T, Error> {
-        call(&raw::OaepParams { hash: self.hash.raw(), mask_gen: self.mask_gen.raw(), p_source: self.p_source.raw() })
+        call(&self.raw())
     }
 }

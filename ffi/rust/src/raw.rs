@@ -1,5 +1,5 @@
 //! The proved calls of `pkcs1_c.h`. What a decoder returns has the lifetime of the slice that it reads.
-use crate::{Error, ObjectIdentifier};
+use crate::Error;
 use core::marker::PhantomData;
 
 /// `struct pkcs1_bytes`: never null, and valid for `'a`.
@@ -62,7 +62,7 @@ pub struct OtherPrime<'a> {
 #[repr(C)]
 #[derive(Clone, Copy, Default)]
 pub struct Algorithm<'a> {
-    pub oid: ObjectIdentifier,
+    pub oid: Bytes<'a>,
     pub has_parameters: bool,
     pub tag: u8,
     pub parameters: Bytes<'a>,
@@ -71,7 +71,7 @@ pub struct Algorithm<'a> {
 #[repr(C)]
 #[derive(Clone, Copy, Default)]
 pub struct MaskGen<'a> {
-    pub oid: ObjectIdentifier,
+    pub oid: Bytes<'a>,
     pub has_hash: bool,
     pub hash: Algorithm<'a>,
 }
@@ -92,6 +92,15 @@ pub struct OaepParams<'a> {
     pub mask_gen: MaskGen<'a>,
     pub p_source: Algorithm<'a>,
 }
+
+/// Parameters that are read and written in their algorithm identifier.
+#[repr(transparent)]
+#[derive(Clone, Copy, Default)]
+pub struct PssAlgorithm<'a>(pub PssParams<'a>);
+
+#[repr(transparent)]
+#[derive(Clone, Copy, Default)]
+pub struct OaepAlgorithm<'a>(pub OaepParams<'a>);
 
 #[repr(C)]
 #[derive(Clone, Copy, Default)]
@@ -120,6 +129,10 @@ decoders! {
     pss_params_strict calls pkcs1_c_pss_params_decode_strict -> PssParams;
     oaep_params calls pkcs1_c_oaep_params_decode -> OaepParams;
     oaep_params_strict calls pkcs1_c_oaep_params_decode_strict -> OaepParams;
+    pss_algorithm calls pkcs1_c_pss_algorithm_decode -> PssAlgorithm;
+    pss_algorithm_strict calls pkcs1_c_pss_algorithm_decode_strict -> PssAlgorithm;
+    oaep_algorithm calls pkcs1_c_oaep_algorithm_decode -> OaepAlgorithm;
+    oaep_algorithm_strict calls pkcs1_c_oaep_algorithm_decode_strict -> OaepAlgorithm;
 }
 
 /// A struct that the library encodes: `out` gets the DER, and `len` its length or, if there is no room, the length
@@ -146,12 +159,15 @@ encoders! {
     PrivateKeyInfo calls pkcs1_c_private_key_info_encode;
     PssParams calls pkcs1_c_pss_params_encode;
     OaepParams calls pkcs1_c_oaep_params_encode;
+    PssAlgorithm calls pkcs1_c_pss_algorithm_encode;
+    OaepAlgorithm calls pkcs1_c_oaep_algorithm_encode;
 }
 
 unsafe extern "C" {
     fn pkcs1_c_private_key_decode<'a>(der: *const u8, len: usize, key: &mut PrivateKey<'a>, others: *mut OtherPrime<'a>, room: usize) -> u32;
     fn pkcs1_c_private_key_encode(key: &PrivateKey<'_>, others: *const OtherPrime<'_>, others_len: usize, out: *mut u8, room: usize, len: &mut usize) -> u32;
     fn pkcs1_c_private_key_info_decode<'a>(der: *const u8, len: usize, info: &mut PrivateKeyInfo<'a>, key: &mut PrivateKey<'a>, others: *mut OtherPrime<'a>, room: usize) -> u32;
+    fn pkcs1_c_algorithm_is(algorithm: &Algorithm<'_>, oid: *const u8, oid_len: usize) -> bool;
     safe fn pkcs1_c_status_text(status: u32, text: &mut Bytes<'static>);
     safe fn pkcs1_c_version(text: &mut Bytes<'static>);
 }
@@ -180,6 +196,12 @@ impl Encode for (PrivateKey<'_>, &[OtherPrime<'_>]) {
         let status = unsafe { pkcs1_c_private_key_encode(key, others.as_ptr(), others.len(), out.as_mut_ptr(), out.len(), len) };
         answer(status, ())
     }
+}
+
+/// Whether it is the hash function with this identifier.
+pub fn algorithm_is(algorithm: &Algorithm<'_>, oid: &[u8]) -> bool {
+    // SAFETY: the struct holds slices; pointer and length of one slice.
+    unsafe { pkcs1_c_algorithm_is(algorithm, oid.as_ptr(), oid.len()) }
 }
 
 /// The description of a status.

@@ -130,22 +130,30 @@ fn containers() {
 
 #[test]
 fn identifiers() {
-    assert_eq!(ObjectIdentifier::new(&[0x2b, 0x0e, 3, 2, 0x1a]), Ok(ObjectIdentifier::SHA_1));
-    assert_eq!(ObjectIdentifier::new(&[1; 39]).unwrap().as_bytes(), [1; 39]);
-    assert_eq!(ObjectIdentifier::new(&[1; 40]), Err(Error::OID_MALFORMED));
-    for octets in [&[][..], &[0x80], &[0x2a, 0x80, 0x01]] {
-        let oid = ObjectIdentifier::new(octets).unwrap();
+    assert_eq!(ObjectIdentifier::new(&[0x2b, 0x0e, 3, 2, 0x1a]), ObjectIdentifier::SHA_1);
+    for octets in [&[][..], &[0x80], &[0x2a, 0x80, 0x01], &[1; 40], &[1; 70_000]] {
+        let oid = ObjectIdentifier::new(octets);
         assert_eq!(PssParams::new(oid, 20).to_der(), Err(Error::OID_MALFORMED));
+        assert_eq!(OaepParams { p_source: Algorithm::with_null(oid), ..OaepParams::default() }.to_der(), Err(Error::OID_MALFORMED));
+        let mask_gen = MaskGen { oid, hash: None };
+        assert_eq!(PssParams { mask_gen, ..PssParams::default() }.to_der(), Err(Error::OID_MALFORMED));
     }
     assert_eq!(format!("{:?}", ObjectIdentifier::SHA_256), "ObjectIdentifier(608648016503040201)");
     assert_ne!(Any { tag: 4, value: &[] }, Any::NULL);
     assert_eq!(ObjectIdentifier::SHA_1.as_ref(), ObjectIdentifier::SHA_1.as_bytes());
     // What is read is equal to what is made, whatever the length of the identifier.
     for len in 1..=39 {
-        let oid = ObjectIdentifier::new(&[1; 39][..len]).unwrap();
+        let oid = ObjectIdentifier::new(&[1; 39][..len]);
         let der = PssParams::new(oid, 20).to_der().unwrap();
-        assert_eq!(PssParams::from_der(&der), Ok(PssParams::new(oid, 20)));
+        let read = PssParams::from_der(&der).unwrap();
+        assert_eq!(read, PssParams::new(oid, 20));
+        assert!(der.as_ptr_range().contains(&read.hash.oid.as_bytes().as_ptr()));
     }
+    // Equality and hash are those of the octets, wherever they are.
+    let copy = ObjectIdentifier::SHA_256.as_bytes().to_vec();
+    let set = std::collections::HashSet::from([ObjectIdentifier::SHA_256, ObjectIdentifier::new(&copy)]);
+    assert_eq!(set.len(), 1);
+    assert!(matches!(ObjectIdentifier::new(&copy), ObjectIdentifier::SHA_256));
 }
 
 #[test]

@@ -1,12 +1,13 @@
 -- Public keys: each encoding means one key and is bytes, and what is written of a key is its shortest encoding.
 use Rattle.std.specs.Prelude.{ℕ, List, ◌<◌, ◌^◌, length}
-use Rattle.std.proofs.Common.{Bool, ◌≡◌, ◌&&◌, ap, arith, length-append, Decides}
+use Rattle.std.proofs.Common.{Bool, ◌≡◌, ◌&&◌, ap, Decides}
 use Rattle.der_core.specs.Laws.Equality.{both_decide}
 use Rattle.der_core.specs.Encodings.{MeansOne, IsDelimited, IsOfBytes}
-use Rattle.der_core.specs.Laws.Encodings.{then_step, then_least, last_least, then_holds, last_holds, then_of_bytes, last_of_bytes}
+use Rattle.der_core.specs.Laws.Encodings.{then_step, then_of_bytes, last_of_bytes}
 use Rattle.der_core.specs.Writing.{IsLeast}
 use Rattle.pkcs1.specs.Keys.{PublicKey, PublicKeyContents}
-use Rattle.pkcs1.specs.Writing.{HasPublicKey, written_public_key}
+use Rattle.der_core.specs.Laws.SequenceOf.{items_relate, items_shortest}
+use Rattle.pkcs1.specs.Writing.{public_numbers, HasPublicKey, written_public_key}
 
 module _ {Number : Type 0} (NumberEncoding : Number → List ℕ → Type 0) where
   pub public_key_means_one : IsDelimited NumberEncoding → MeansOne (PublicKeyContents NumberEncoding)
@@ -21,15 +22,11 @@ module _ {Number : Type 0} (NumberEncoding : Number → List ℕ → Type 0) whe
   module _ (has : Number → Type 0) (encoding : Number → List ℕ) where
     pub public_key_relates : ((n : Number) → has n → length (encoding n) < 2 ^ 128 → NumberEncoding n (encoding n))
         → (key : PublicKey Number) → HasPublicKey has key → length (written_public_key encoding key) < 2 ^ 128 → PublicKeyContents NumberEncoding key (written_public_key encoding key)
-    public_key_relates relates key h fits =
-        let l = length-append (encoding key.modulus) (encoding key.public_exponent) in
-        then_holds (encoding key.modulus) (encoding key.public_exponent) (relates key.modulus h.0 (omega (arith, fits, l)))
-        (last_holds (encoding key.public_exponent) (relates key.public_exponent h.1 (omega (arith, fits, l))))
+    public_key_relates relates key h fits = items_relate NumberEncoding has encoding relates (public_numbers key) h fits
 
     pub public_key_shortest : ((n : Number) (b : List ℕ) → NumberEncoding n b → IsLeast (has n) (encoding n) b)
         → (key : PublicKey Number) (c : List ℕ) → PublicKeyContents NumberEncoding key c → IsLeast (HasPublicKey has key) (written_public_key encoding key) c
-    public_key_shortest least key c p =
-        then_least (encoding key.modulus) (encoding key.public_exponent) (least key.modulus) (last_least (encoding key.public_exponent) (least key.public_exponent)) c p
+    public_key_shortest least key c p = items_shortest NumberEncoding has encoding least (public_numbers key) c p
 
 -- Equality of keys, given that of numbers.
 pub public_key_decides : {U V : Type 0} (value : U → V) (E : U → U → Bool) → ((a b : U) → Decides (E a b) (value a ≡ value b)) → (m n e f : U)

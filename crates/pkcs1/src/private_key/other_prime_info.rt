@@ -1,13 +1,10 @@
 //! Other primes of private keys.
-ghost use Rattle.std.specs.Prelude.{◌≡◌, ◌≤◌, length, List, ℕ, ◌↔◌, IsTrue, None, IfOk, IsOk, IfErr, refl};
-ghost use Rattle.der_core.specs.Length.{limit};
+ghost use Rattle.std.specs.Prelude.{◌≡◌, List, ℕ, ◌↔◌, IsTrue, None, IfOk, IsOk, IfErr, refl};
 ghost use Rattle.der_core.specs.Reading.{ReadsOrFaults};
 ghost use Rattle.pkcs1.specs.KeyFaults.{OthersFault};
-ghost use Rattle.der_core.specs.BackWriters.{free_of, Prepends};
-ghost use Rattle.der_core.specs.Writing.{Counts, Appends};
 ghost use Rattle.pkcs1.specs.Allocating.{AllocatesCounted, AllocatesInOthers};
 ghost use Rattle.pkcs1.specs.Keys.{OtherPrime, OtherPrimeContents, OthersOf};
-ghost use Rattle.pkcs1.specs.Writing.{HasOther, HasOthers, written_other, written_others};
+ghost use Rattle.pkcs1.specs.Writing.{HasOther, written_other};
 ghost use Rattle.pkcs1.specs.Laws.PrivateKey.{other_means_one, other_of_bytes, other_relates, other_shortest};
 ghost use Rattle.pkcs1.specs.PrivateKeyValue.{other_of, others_of, ListsNone};
 ghost use Rattle.pkcs1.specs.Versions.{number_of};
@@ -15,8 +12,8 @@ ghost use Rattle.pkcs1.specs.Versions.{number_of};
 use crate::version::Version;
 use der_core::{
     BackWriter, Borrowed, Contents, Decode, DecodeValue, Encode, EncodeValue, Encoding, ErrorKind,
-    Header, Length, Memory, Reader, Result, Sequence, SequenceTag, Tag, TaggedBy, TryClone, Writer,
-    decode_optional, encode_items, items_len, prepend_items,
+    Header, Length, Memory, Part, Reader, Result, Sequence, SequenceTag, Tag, TaggedBy, TryClone,
+    Writer, decode_optional,
 };
 use std::alloc::{AllocError, Global};
 
@@ -129,33 +126,30 @@ impl<'a, M: Memory, U: Decode<&'a [u8], M>> DecodeValue<&'a [u8], M> for OtherPr
 
 impl<U: Encode> EncodeValue for OtherPrimeInfo<U> {
     fn value_len(&self) -> Result<Length> {
-        items_len(&[
+        [
             Borrowed(&self.prime),
             Borrowed(&self.exponent),
             Borrowed(&self.coefficient),
-        ])
+        ]
+        .part_len()
     }
 
     fn append_value<W: Writer>(&self, writer: &mut W) -> Result<()> {
-        encode_items(
-            &[
-                Borrowed(&self.prime),
-                Borrowed(&self.exponent),
-                Borrowed(&self.coefficient),
-            ],
-            writer,
-        )
+        [
+            Borrowed(&self.prime),
+            Borrowed(&self.exponent),
+            Borrowed(&self.coefficient),
+        ]
+        .append_part(writer)
     }
 
     fn prepend_value(&self, writer: &mut BackWriter<'_>) {
-        prepend_items(
-            &[
-                Borrowed(&self.prime),
-                Borrowed(&self.exponent),
-                Borrowed(&self.coefficient),
-            ],
-            writer,
-        );
+        [
+            Borrowed(&self.prime),
+            Borrowed(&self.exponent),
+            Borrowed(&self.coefficient),
+        ]
+        .prepend_part(writer);
     }
 
     ghost contents_relate = { other_relates U.encoding U.has_encoding U.written_encoding U.encoding_relates };
@@ -193,51 +187,6 @@ pub(crate) fn read_other_primes<'a, U: Decode<&'a [u8], Global>, R: Reader<&'a [
     }
     reader.finish()?;
     Ok(others)
-}
-
-/// The length of the encoding of the other primes, 0 if there are none.
-pub(crate) fn other_primes_len<U: Encode>(others: &Option<OtherPrimeInfos<U>>) -> Result<Length>
-    requires { ¬ (ListsNone others.now) }
-    ensures { let primes = others_of U.value others.now in
-        Counts (HasOthers U.has_encoding primes) (written_others U.written_encoding primes) result }
-{
-    match others {
-        None => Ok(Length::ZERO),
-        Some(infos) => infos.encoded_len(),
-    }
-}
-
-/// Writes the encoding of the other primes, if there are any.
-pub(crate) fn encode_other_primes<U: Encode, W: Writer>(
-    others: &Option<OtherPrimeInfos<U>>,
-    writer: &mut W,
-) -> Result<()>
-    requires has { HasOthers U.has_encoding (others_of U.value others.now) }
-    requires fits { length (written_others U.written_encoding (others_of U.value others.now)) ≤ limit }
-    ensures appends { let primes = others_of U.value others.now in
-        let octets = written_others U.written_encoding primes in
-        Appends (HasOthers U.has_encoding primes) octets W.room W.written writer.old writer.new result }
-    ensures kept { W.keeps writer.old writer.new }
-{
-    match others {
-        None => Ok(()),
-        Some(infos) => infos.encode(writer),
-    }
-}
-
-/// Prepends the encoding of the other primes, if there are any.
-pub(crate) fn prepend_other_primes<U: Encode>(
-    others: &Option<OtherPrimeInfos<U>>,
-    writer: &mut BackWriter<'_>,
-)
-    requires has { HasOthers U.has_encoding (others_of U.value others.now) }
-    requires fits { length (written_others U.written_encoding (others_of U.value others.now)) ≤ limit }
-    requires room { length (written_others U.written_encoding (others_of U.value others.now)) ≤ free_of writer.old }
-    ensures { Prepends (written_others U.written_encoding (others_of U.value others.now)) writer.old writer.new }
-{
-    if let Some(infos) = others {
-        infos.prepend(writer);
-    }
 }
 
 /// Copies the other primes.

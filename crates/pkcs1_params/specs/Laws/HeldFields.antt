@@ -13,14 +13,14 @@ use Rattle.spki_core.specs.AlgorithmValue.{algorithm_of, mask_of, viewed_with}
 use Rattle.spki_core.specs.AnyRefValue.{any_of}
 use Rattle.spki_core.specs.FieldWriting.{written_field, HasField}
 use Rattle.spki_core.specs.Laws.Held.{identifier_held, identifier_short, octets_short, plain_held, plain_short, viewed_held, viewed_plain_held, viewed_plain_short}
-use Rattle.spki_core.specs.ObjectIdentifierValue.{octets_of, octets_in}
+use Rattle.spki_core.specs.ObjectIdentifierValue.{own_octets_of, octets_of}
 use Rattle.spki_core.specs.declared.algorithm_identifier.AlgorithmIdentifier.{AlgorithmIdentifier}
 use Rattle.spki_core.specs.declared.algorithm_view.AlgorithmView.{AlgorithmView}
 use Rattle.spki_core.specs.declared.any.AnyRef.{AnyRef}
 
 pub mask_short : (a : AlgorithmIdentifier (AlgorithmIdentifier AnyRef)) → length (written_mask (mask_of a)) ≤ limit + 718
 mask_short a =
-    let oid = tlv object_identifier_tag (octets_of a.oid) in
+    let oid = tlv object_identifier_tag (own_octets_of a.oid) in
     let parameters = written_optional written_plain (option_map algorithm_of a.parameters) in
     let l = length-append oid parameters in
     tlv_short sequence_tag (limit + 590) (oid ++ parameters) (omega (arith, l, identifier_short a.oid, go a.parameters)) (omega arith)
@@ -60,7 +60,7 @@ viewed_mask_held a = (viewed_held a.oid, go a.parameters)
 
 pub viewed_mask_short : (a : AlgorithmView (AlgorithmView AnyRef)) → length (written_mask (viewed_with (viewed_with any_of) a)) ≤ limit + 718
 viewed_mask_short a =
-    let oid = tlv object_identifier_tag (octets_in a.oid) in
+    let oid = tlv object_identifier_tag (octets_of a.oid) in
     let parameters = written_optional written_plain (option_map (viewed_with any_of) a.parameters) in
     let l = length-append oid parameters in
     tlv_short sequence_tag (limit + 590) (oid ++ parameters) (omega (arith, l, octets_short _ (viewed_held a.oid), go a.parameters)) (omega arith)

@@ -23,7 +23,7 @@ use Rattle.spki_core.specs.AlgorithmIdentifier.{Algorithm, AlgorithmContents, Al
 use Rattle.spki_core.specs.Laws.Algorithms.{algorithm_means_one, plain_delimited, mask_delimited}
 use Rattle.spki_core.specs.Any.{TagAndContents, Any}
 use Rattle.spki_core.specs.Laws.AnyEncodings.{any_delimited}
-use Rattle.spki_core.specs.AnyValues.{HoldsAny, holds_itself}
+use Rattle.spki_core.specs.Laws.AnyValues.{HoldsAny, holds_itself}
 use Rattle.spki_core.specs.Explicit.{Field, field, Defaultable, FieldRead}
 use Rattle.spki_core.specs.Laws.Faults.{algorithm_fault_none, algorithm_fault_first, any_fault_none, any_fault_first}
 use Rattle.spki_core.specs.Faults.{AnyFault, AlgorithmFault, FieldThenFault}

@@ -5,7 +5,7 @@ use Rattle.der_core.specs.Optional.{Optional}
 use Rattle.der_core.specs.Encodings.{Joins}
 use Rattle.der_core.specs.Laws.WrittenOut.{known_tlv, known_front, known_whole, no_part_rejected}
 use Rattle.spki_core.specs.ObjectIdentifier.{IsIdentifier, IdentifierContents, ObjectIdentifier}
-use Rattle.spki_core.specs.IdentifierTest.{is_identifier-sound}
+use Rattle.spki_core.specs.Laws.IdentifierTest.{is_identifier-sound}
 use Rattle.spki_core.specs.Any.{TagAndContents, Any, null_value}
 use Rattle.spki_core.specs.AlgorithmIdentifier.{Algorithm, AlgorithmIdentifier, PlainAlgorithm, MaskAlgorithm}
 use Rattle.spki_core.specs.Laws.IdentifierRows.{sha1_contents, sha1_identifier, mgf1_contents, mgf1_identifier, no_octet_rejected}

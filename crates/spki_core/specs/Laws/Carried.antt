@@ -5,7 +5,7 @@ use Rattle.der_core.specs.Optional.{Optional}
 use Rattle.der_core.specs.Tlv.{Tlv}
 use Rattle.der_core.specs.Laws.Growing.{tlv_recast}
 use Rattle.spki_core.specs.Any.{TagAndContents, Any}
-use Rattle.spki_core.specs.AnyValues.{HoldsAny}
+use Rattle.spki_core.specs.Laws.AnyValues.{HoldsAny}
 use Rattle.spki_core.specs.AlgorithmIdentifier.{Algorithm, AlgorithmContents}
 use Rattle.spki_core.specs.AlgorithmValue.{algorithm_with}
 

@@ -11,22 +11,22 @@ use Rattle.spki_core.specs.Any.{IsAny, written_any}
 use Rattle.spki_core.specs.AlgorithmIdentifier.{HasPlain, written_plain}
 use Rattle.spki_core.specs.AlgorithmValue.{algorithm_of, viewed_with}
 use Rattle.spki_core.specs.AnyRefValue.{any_of}
-use Rattle.spki_core.specs.IdentifierTest.{is_identifier-sound}
+use Rattle.spki_core.specs.Laws.IdentifierTest.{is_identifier-sound}
 use Rattle.spki_core.specs.ObjectIdentifier.{IsIdentifier}
-use Rattle.spki_core.specs.ObjectIdentifierValue.{octets_of, octets_in}
+use Rattle.spki_core.specs.ObjectIdentifierValue.{own_octets_of, octets_of}
 use Rattle.spki_core.specs.declared.algorithm_identifier.AlgorithmIdentifier.{AlgorithmIdentifier}
 use Rattle.spki_core.specs.declared.algorithm_view.AlgorithmView.{AlgorithmView}
 use Rattle.spki_core.specs.declared.any.AnyRef.{AnyRef}
 use Rattle.spki_core.specs.declared.identifier_view.IdentifierView.{IdentifierView}
 use Rattle.spki_core.specs.declared.object_identifier.ObjectIdentifier.{ObjectIdentifier}
 
-pub identifier_held : (oid : ObjectIdentifier) → IsIdentifier (octets_of oid)
-identifier_held oid = is_identifier-sound (octets_of oid) (are_bytes (octets_of oid) oid.bytes) oid.valid
+pub identifier_held : (oid : ObjectIdentifier) → IsIdentifier (own_octets_of oid)
+identifier_held oid = is_identifier-sound (own_octets_of oid) (are_bytes (own_octets_of oid) oid.bytes) oid.valid
 
 pub octets_short : (oid : List ℕ) → IsIdentifier oid → length (tlv object_identifier_tag oid) ≤ 167
 octets_short oid held = tlv_short object_identifier_tag 39 oid held.short (omega arith)
 
-pub identifier_short : (oid : ObjectIdentifier) → length (tlv object_identifier_tag (octets_of oid)) ≤ 167
+pub identifier_short : (oid : ObjectIdentifier) → length (tlv object_identifier_tag (own_octets_of oid)) ≤ 167
 identifier_short oid = octets_short _ (identifier_held oid)
 
 pub any_held : (any : AnyRef) → IsAny (any_of any)
@@ -59,8 +59,8 @@ plain_held a = has_plain _ (identifier_held a.oid) a.parameters
 pub plain_short : (a : AlgorithmIdentifier AnyRef) → length (written_plain (algorithm_of a)) ≤ limit + 423
 plain_short a = few_plain _ (identifier_held a.oid) a.parameters
 
-pub viewed_held : (oid : IdentifierView) → IsIdentifier (octets_in oid)
-viewed_held oid = is_identifier-sound (octets_in oid) (are_bytes (octets_in oid) oid.bytes) oid.valid
+pub viewed_held : (oid : IdentifierView) → IsIdentifier (octets_of oid)
+viewed_held oid = is_identifier-sound (octets_of oid) (are_bytes (octets_of oid) oid.bytes) oid.valid
 
 pub viewed_plain_held : (a : AlgorithmView AnyRef) → HasPlain (viewed_with any_of a)
 viewed_plain_held a = has_plain _ (viewed_held a.oid) a.parameters

@@ -8,7 +8,8 @@ use Rattle.der_core.specs.Tags.{object_identifier}
 use Rattle.der_core.specs.Encodings.{AreBytes}
 use Rattle.spki_core.specs.Faults.{IdentifierFault}
 use Rattle.spki_core.specs.ObjectIdentifier.{IsIdentifier}
-use Rattle.spki_core.specs.IdentifierTest.{is_identifier, is_identifier-sound, is_identifier-complete}
+use Rattle.spki_core.specs.IdentifierTest.{is_identifier}
+use Rattle.spki_core.specs.Laws.IdentifierTest.{is_identifier-sound, is_identifier-complete}
 
 -- What the test denies are no contents.
 denied : (c : List ℕ) → is_identifier c ≡ false → IsIdentifier c → ⊥

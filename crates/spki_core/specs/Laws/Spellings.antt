@@ -34,14 +34,14 @@ zero_least fields k encoding other o d p q =
       | inr l ↦ let g : length encoding + 1 ≤ length other = tlv_grows 1 encoding other p r.2 (omega arith) in inr (omega arith)
     ]
 
--- Each mask has an encoding within the limit, if the encoding with every field is within it.
-pub masked_fits : (fields : List Field) (k m : ℕ) (all : List ℕ) → HaveDefaults fields k → m < 2 ^ k → AllExplicit fields all → length all ≤ limit → (encoding : List ℕ) × (Masked fields m encoding × (length encoding ≤ limit))
+-- Each mask has an encoding no longer than the one with every field, if that one is within the limit.
+pub masked_fits : (fields : List Field) (k m : ℕ) (all : List ℕ) → HaveDefaults fields k → m < 2 ^ k → AllExplicit fields all → length all ≤ limit → (encoding : List ℕ) × Masked fields m encoding × (length encoding ≤ length all)
 masked_fits fields k m all d l p fits =
     let r = masked_made fields k m p.contents d l p.holds in
     let s = contents_shorter all p in
     let t = tlv_made 48 (MaskedContents fields m) r.0 r.1 (omega (arith, r.2)) in
     let g : length t.0 + 0 ≤ length all = tlv_grows 0 t.0 all t.1 p (rw t.2 (omega (arith, r.2))) in
-    (t.0, (t.1, omega arith))
+    (t.0, t.1, omega arith)
 
 -- The encoding under the last mask is the one in which every field is written.
 pub last_is_all : (fields : List Field) (k m : ℕ) (encoding : List ℕ) → HaveDefaults fields k → suc m ≡ 2 ^ k → Masked fields m encoding → AllExplicit fields encoding
@@ -91,5 +91,5 @@ module _ {V : Type 0} (fields : V → List Field) (ordered : (v : V) → AreInOr
   -- So there are such encodings, if the one with every field is within the limit.
   pub masks_are_members : (v : V) (k : ℕ) (all : List ℕ) → HaveDefaults (fields v) k → AllExplicit (fields v) all → length all ≤ limit → (encodings : List (List ℕ)) × AreTheMembers (Spellings (λ w. FieldSequence (fields w)) v) (2 ^ k) encodings × ((m : ℕ) → m < 2 ^ k → Masked (fields v) m (get_or encodings m []))
   masks_are_members v k all d p l =
-      let r = list_of (2 ^ k) (λ m encoding. Masked (fields v) m encoding × (length encoding ≤ limit)) (λ m h. masked_fits (fields v) k m all d h p l) in
+      let r = list_of (2 ^ k) (λ m encoding. Masked (fields v) m encoding × (length encoding ≤ limit)) (λ m h. let e = masked_fits (fields v) k m all d h p l in (e.0, (e.1, omega (arith, e.2, l)))) in
       (r.0, members_under v k r.0 d r.1 r.2, λ m h. (r.2 m h).0)

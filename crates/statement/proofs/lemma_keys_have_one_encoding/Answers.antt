@@ -6,3 +6,6 @@ returns-clause-public c v a b p q = p.1 ∙ sym q.1
 
 pub returns-clause-private : goal.returns-clause-private
 returns-clause-private c v a b p q = p.2 ∙ sym q.2
+
+pub returns-clause-container : goal.returns-clause-container
+returns-clause-container c v a b p q = p.4 ∙ sym q.4

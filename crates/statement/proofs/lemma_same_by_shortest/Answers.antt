@@ -1,4 +1,4 @@
-use Rattle.statement.proofs.Same.{same_public, same_private, same_pss, same_oaep}
+use Rattle.statement.proofs.Same.{same_public, same_private, same_pss, same_oaep, same_container}
 use Rattle.statement.proofs.lemma_same_by_shortest.Goals as goal
 
 pub returns-clause-public : goal.returns-clause-public
@@ -12,3 +12,6 @@ returns-clause-oaep c = same_oaep
 
 pub returns-clause-private : goal.returns-clause-private
 returns-clause-private c = same_private
+
+pub returns-clause-container : goal.returns-clause-container
+returns-clause-container c = same_container

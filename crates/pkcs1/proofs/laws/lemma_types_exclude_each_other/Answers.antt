@@ -1,5 +1,5 @@
 use Rattle.pkcs1.specs.Laws.PrivateKeys.{keys_exclude}
-use Rattle.pkcs1.specs.Exclusion.{public_pss, public_oaep, private_pss, private_oaep}
+use Rattle.pkcs1.proofs.Exclusion.{public_pss, public_oaep, private_pss, private_oaep}
 use Rattle.pkcs1.proofs.laws.lemma_types_exclude_each_other.Goals as goal
 
 pub returns-clause-keys : goal.returns-clause-keys

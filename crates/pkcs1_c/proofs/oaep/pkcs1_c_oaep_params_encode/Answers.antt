@@ -8,27 +8,27 @@ use Rattle.pkcs1_c.proofs.HeldParameters.{held_oaep_fits, oaep_some}
 use Rattle.pkcs1_c.proofs.StructErrors.{encoding_one, encoding_rejected, part_one, part_rest, oaep_part}
 use Rattle.pkcs1_c.proofs.oaep.pkcs1_c_oaep_params_encode.Goals as goal
 
-pub write_encoding-requires : goal.write_encoding-requires
-write_encoding-requires c = oaep_some c.in-Ok.made
+pub write_oaep-requires : goal.write_oaep-requires
+write_oaep-requires c = oaep_some c.in-Ok.made
 
 pub returns-in-Ok-clause-ok : goal.returns-in-Ok-clause-ok
-returns-in-Ok-clause-ok c = λ zero. rw (c.in-Ok.ensures.ok) at c.write_encoding.ensures.ok zero
+returns-in-Ok-clause-ok c = λ zero. rw (c.in-Ok.ensures.ok) at c.write_oaep.ensures.ok zero
 
 pub returns-in-Ok-clause-no_room : goal.returns-in-Ok-clause-no_room
-returns-in-Ok-clause-no_room c = λ full. rw (c.in-Ok.ensures.ok) at c.write_encoding.ensures.no_room full
+returns-in-Ok-clause-no_room c = λ full. rw (c.in-Ok.ensures.ok) at c.write_oaep.ensures.no_room full
 
 pub returns-in-Ok-clause-exact : goal.returns-in-Ok-clause-exact
-returns-in-Ok-clause-exact c = λ no. inr (subst OaepFits c.in-Ok.ensures.ok (held_oaep_fits c.in-Ok.made), rw (c.in-Ok.ensures.ok) at c.write_encoding.ensures.exact no)
+returns-in-Ok-clause-exact c = λ no. inr (subst OaepFits c.in-Ok.ensures.ok (held_oaep_fits c.in-Ok.made), rw (c.in-Ok.ensures.ok) at c.write_oaep.ensures.exact no)
 
 pub returns-in-Ok-clause-only : goal.returns-in-Ok-clause-only
 returns-in-Ok-clause-only c s p =
     let seen = oaep_seen c.args.params.now in
     let fits = subst OaepFits c.in-Ok.ensures.ok (held_oaep_fits c.in-Ok.made) in
     let encoding = part_rest (OaepFieldError seen) (OaepFits seen) (EncodingError RsaOaepParams seen (length c.args.out.now)) (oaep_part seen).1 fits s p in
-    c.write_encoding.ensures.only s (rw (sym c.in-Ok.ensures.ok) at encoding)
+    c.write_oaep.ensures.only s (rw (sym c.in-Ok.ensures.ok) at encoding)
 
 pub returns-in-Ok-clause-rejected : goal.returns-in-Ok-clause-rejected
-returns-in-Ok-clause-rejected c = λ no other. encoding_rejected RsaOaepParams _ _ _ other (rw (c.in-Ok.ensures.ok) at c.write_encoding.ensures.exact no)
+returns-in-Ok-clause-rejected c = λ no other. encoding_rejected RsaOaepParams _ _ _ other (rw (c.in-Ok.ensures.ok) at c.write_oaep.ensures.exact no)
 
 pub returns-in-Err-clause-ok : goal.returns-in-Err-clause-ok
 returns-in-Err-clause-ok c = λ zero. absurd (omega (arith, zero, c.status.ensures, ((oaep_part _).2 _ c.in-Err.ensures.err).0))

@@ -1,4 +1,4 @@
-use Rattle.std.proofs.Common.{ℕ, List, ◌≡◌, ◌⊎◌, inl, inr, subst, Result, Ok, Err}
+use Rattle.std.proofs.Common.{ℕ, List, ◌≡◌, ◌⊎◌, inr, subst, Result, Ok, Err}
 use Rattle.std.specs.Prelude.{IfOk, IfErr}
 use Rattle.der_core.specs.Document.{Means}
 use Rattle.der_core.specs.DocumentValue.{encoding_of}

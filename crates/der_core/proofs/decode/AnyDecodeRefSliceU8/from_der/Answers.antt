@@ -5,7 +5,7 @@ use Rattle.der_core.specs.Laws.Faults.{tagged_whole_none, tagged_whole_first, fa
 use Rattle.der_core.specs.Tlv.{Tlv}
 use Rattle.der_core.specs.Laws.Encodings.{tlv_delimited}
 use Rattle.der_core.specs.Laws.Sequences.{whole_faults, behind_faults, whole_means}
-use Rattle.der_core.specs.SliceReaders.{left_of-bounded}
+use Rattle.der_core.specs.Laws.SliceReaders.{left_of-bounded}
 use Rattle.der_core.specs.Laws.Whole.{whole_rejected, whole_trailing}
 use Rattle.der_core.proofs.decode.AnyDecodeRefSliceU8.from_der.Goals as goal
 

@@ -4,11 +4,11 @@ use Rattle.pkcs1_params.specs.Parts.{HasFields, written_fields}
 use Rattle.pkcs1_params.proofs.ParameterWrites.{appends_for}
 use Rattle.pkcs1_params.proofs.pss_spelling.RsaPssParamsViewDefaultFields.append_under.Goals as goal
 
-pub append_fields-requires-clause-has : goal.append_fields-requires-clause-has
-append_fields-requires-clause-has g c = subst (λ vs. HasFields vs c.args.mask) (sym c.fields.ensures) c.requires.has
+pub append-requires-clause-has : goal.append-requires-clause-has
+append-requires-clause-has g c = subst (λ vs. HasFields vs c.args.mask) (sym c.fields.ensures) c.requires.has
 
-pub append_fields-requires-clause-fits : goal.append_fields-requires-clause-fits
-append_fields-requires-clause-fits g c = subst (λ vs. length (written_fields vs c.args.mask) ≤ limit) (sym c.fields.ensures) c.requires.fits
+pub append-requires-clause-fits : goal.append-requires-clause-fits
+append-requires-clause-fits g c = subst (λ vs. length (written_fields vs c.args.mask) ≤ limit) (sym c.fields.ensures) c.requires.fits
 
 pub returns-clause-appends : goal.returns-clause-appends
-returns-clause-appends g c = appends_for (λ vs. HasFields vs c.args.mask) (λ vs. written_fields vs c.args.mask) _ _ c.fields.ensures c.append_fields.ensures.appends
+returns-clause-appends g c = appends_for (λ vs. HasFields vs c.args.mask) (λ vs. written_fields vs c.args.mask) _ _ c.fields.ensures c.append.ensures.appends

@@ -6,7 +6,7 @@ use Rattle.spki_core.specs.Laws.Faults.{any_fault_none, any_fault_first}
 use Rattle.std.proofs.lemmas.Result.{err_from_is_err_and}
 use Rattle.spki_core.specs.Faults.{AnyFault}
 use Rattle.der_core.specs.Laws.Sequences.{whole_faults, behind_faults, whole_means}
-use Rattle.der_core.specs.SliceReaders.{left_of-bounded}
+use Rattle.der_core.specs.Laws.SliceReaders.{left_of-bounded}
 use Rattle.der_core.specs.Laws.Whole.{whole_rejected, whole_trailing}
 use Rattle.spki_core.specs.Any.{TagAndContents, Any}
 use Rattle.spki_core.specs.Laws.AnyEncodings.{any_delimited}

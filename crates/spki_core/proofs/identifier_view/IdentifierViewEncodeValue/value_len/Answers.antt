@@ -1,14 +1,14 @@
 use Rattle.std.proofs.Common.{◌≡◌, ◌≤◌, ◌∙◌, length, arith}
 use Rattle.der_core.specs.Laws.Input.{are_bytes}
 use Rattle.der_core.specs.Length.{limit}
-use Rattle.spki_core.specs.IdentifierTest.{is_identifier-sound}
-use Rattle.spki_core.specs.ObjectIdentifierValue.{octets_in}
+use Rattle.spki_core.specs.Laws.IdentifierTest.{is_identifier-sound}
+use Rattle.spki_core.specs.ObjectIdentifierValue.{octets_of}
 use Rattle.spki_core.proofs.identifier_view.IdentifierViewEncodeValue.value_len.Goals as goal
 
 pub returns : goal.returns
 returns c =
     let oid = c.args.self.now in
-    let held = is_identifier-sound (octets_in oid) (are_bytes (octets_in oid) oid.bytes) oid.valid in
-    let same : c.of.result ≡ length (octets_in oid) = c.of.ensures ∙ c.octet_count.ensures in
-    let few : length (octets_in oid) ≤ limit = omega (arith, held.short) in
+    let held = is_identifier-sound (octets_of oid) (are_bytes (octets_of oid) oid.bytes) oid.valid in
+    let same : c.of.result ≡ length (octets_of oid) = c.of.ensures ∙ c.octet_count.ensures in
+    let few : length (octets_of oid) ≤ limit = omega (arith, held.short) in
     (held, same, rw same few)

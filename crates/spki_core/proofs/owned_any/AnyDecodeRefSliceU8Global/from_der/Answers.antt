@@ -6,12 +6,12 @@ use Rattle.std.proofs.lemmas.Result.{err_from_is_err_and}
 use Rattle.spki_core.specs.Faults.{AnyFault}
 use Rattle.spki_core.specs.Any.{Any}
 use Rattle.spki_core.specs.AnyRefValue.{any_of}
-use Rattle.spki_core.specs.OwnedAnyValue.{any_in}
+use Rattle.spki_core.specs.OwnedAnyValue.{own_any_of}
 use Rattle.spki_core.proofs.Copies.{copy_reads_all, copy_faults}
 use Rattle.spki_core.proofs.owned_any.AnyDecodeRefSliceU8Global.from_der.Goals as goal
 
 pub returns-clause-encoding : goal.returns-clause-encoding
-returns-clause-encoding c = copy_reads_all Any any_in c.copy_of.result c.args.bytes.now (any_of c.in_ok-any.any) c.in_ok-any.ensures.encoding (rw (c.tag.ensures, c.value.ensures.contents) at c.copy_of.ensures.ok) c.copy_of.ensures.err
+returns-clause-encoding c = copy_reads_all Any own_any_of c.copy_of.result c.args.bytes.now (any_of c.in_ok-any.any) c.in_ok-any.ensures.encoding (rw (c.tag.ensures, c.value.ensures.contents) at c.copy_of.ensures.ok) c.copy_of.ensures.err
 
 pub returns-clause-exact : goal.returns-clause-exact
 returns-clause-exact c = copy_faults Any AnyFault c.copy_of.result c.args.bytes.now (any_of c.in_ok-any.any) c.in_ok-any.ensures.encoding c.copy_of.ensures.err

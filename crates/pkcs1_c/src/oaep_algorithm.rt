@@ -1,0 +1,95 @@
+//! The algorithm identifier of RSAES-OAEP with its parameters.
+ghost use Rattle.std.specs.Prelude.{◌≡◌, ◌≢◌, ◌<◌, ◌≤◌, ℕ, length, take, drop};
+ghost use Rattle.der_core.specs.Document.{Means, IsShortest};
+ghost use Rattle.der_core.specs.declared.error.ErrorKind as der;
+ghost use Rattle.pkcs1_params.specs.Algorithms.{RsaOaepAlgorithm, RsaOaepAlgorithmFault, StrictOaepAlgorithmFault};
+ghost use Rattle.pkcs1_params.specs.Parameters as grammar;
+ghost use Rattle.pkcs1_c.specs.NotWritten.{IsTooLong, HasNoRoom};
+ghost use Rattle.pkcs1_c.specs.Status.{kind_number, IsNumberOfFault};
+ghost use Rattle.pkcs1_c.specs.StructErrors.{OaepAlgorithmError};
+ghost use Rattle.pkcs1_c.specs.StructValues.{oaep_seen, OaepIsTidy};
+
+use crate::oaep::{OaepParams, from_c_oaep, to_c_oaep};
+use crate::status::{NO_ROOM, OK, status};
+use crate::written::write_encoding;
+use pkcs1::{FromAlgorithm, RsaOaepParamsView};
+
+/// Decodes the algorithm identifier of RSAES-OAEP with its parameters, as `pkcs1_c_oaep_params_decode` does the
+/// parameters. Another algorithm is rejected with status 7, one without parameters with status 10.
+#[unsafe(no_mangle)]
+pub extern "C" fn pkcs1_c_oaep_algorithm_decode<'a>(
+    encoding: &'a [u8],
+    params: &mut OaepParams<'a>,
+) -> u32
+    ensures ok { result ≡ OK → Means RsaOaepAlgorithm encoding.now (oaep_seen params.new) }
+    ensures one { result ≡ OK → (other : grammar.OaepParameters) → Means RsaOaepAlgorithm encoding.now other
+        → other ≡ oaep_seen params.new }
+    ensures told { result < NO_ROOM }
+    ensures rejected { result ≢ OK → (other : grammar.OaepParameters) → Means RsaOaepAlgorithm encoding.now other → ⊥ }
+    ensures exact { result ≢ OK → IsNumberOfFault (λ kind. RsaOaepAlgorithmFault kind encoding.now) result }
+    ensures only { (kind : der.ErrorKind) → RsaOaepAlgorithmFault kind encoding.now → result ≡ kind_number kind }
+    ensures tidy { result ≡ OK → OaepIsTidy params.new }
+    ensures unchanged { result ≢ OK → params.new ≡ params.old }
+{
+    match RsaOaepParamsView::from_algorithm_der(encoding) {
+        Ok(read) => {
+            *params = to_c_oaep(&read);
+            OK
+        }
+        Err(error) => status(&error),
+    }
+}
+
+/// Decodes the algorithm identifier as `pkcs1_c_oaep_algorithm_decode` does, but only from its shortest encoding: one
+/// with a default that is written out is rejected with status 5.
+#[unsafe(no_mangle)]
+pub extern "C" fn pkcs1_c_oaep_algorithm_decode_strict<'a>(
+    encoding: &'a [u8],
+    params: &mut OaepParams<'a>,
+) -> u32
+    ensures ok { result ≡ OK → IsShortest RsaOaepAlgorithm (oaep_seen params.new) encoding.now }
+    ensures one { result ≡ OK → (other : grammar.OaepParameters) → Means RsaOaepAlgorithm encoding.now other
+        → other ≡ oaep_seen params.new }
+    ensures told { result < NO_ROOM }
+    ensures rejected { result ≢ OK
+        → (other : grammar.OaepParameters) → IsShortest RsaOaepAlgorithm other encoding.now → ⊥ }
+    ensures exact { result ≢ OK → IsNumberOfFault (λ kind. StrictOaepAlgorithmFault kind encoding.now) result }
+    ensures only { (kind : der.ErrorKind) → StrictOaepAlgorithmFault kind encoding.now → result ≡ kind_number kind }
+    ensures tidy { result ≡ OK → OaepIsTidy params.new }
+    ensures unchanged { result ≢ OK → params.new ≡ params.old }
+{
+    match RsaOaepParamsView::from_algorithm_der_strict(encoding) {
+        Ok(read) => {
+            *params = to_c_oaep(&read);
+            OK
+        }
+        Err(error) => status(&error),
+    }
+}
+
+/// Writes the shortest encoding of the algorithm identifier of RSAES-OAEP with these parameters to the front of `out`.
+/// Returns 0, with its length in `len`, or `NO_ROOM`, with the needed length in `len`, or another status.
+#[unsafe(no_mangle)]
+pub extern "C" fn pkcs1_c_oaep_algorithm_encode(
+    params: &OaepParams<'_>,
+    out: &mut [u8],
+    len: &mut usize,
+) -> u32
+    ensures ok { result ≡ OK → IsShortest RsaOaepAlgorithm (oaep_seen params.now) (take len.new out.new) }
+    ensures rest { result ≡ OK → (len.new ≤ length out.new) × (drop len.new out.new ≡ drop len.new out.old) }
+    ensures no_room { result ≡ NO_ROOM → HasNoRoom RsaOaepAlgorithm (oaep_seen params.now) (length out.old) len.new }
+    ensures rejected { result ≢ OK → result ≢ NO_ROOM → IsTooLong RsaOaepAlgorithm (oaep_seen params.now) }
+    ensures exact { result ≢ OK → OaepAlgorithmError (oaep_seen params.now) (length out.old) result }
+    ensures only { (status : ℕ) → OaepAlgorithmError (oaep_seen params.now) (length out.old) status
+        → result ≡ status }
+    ensures unchanged { result ≢ OK → out.new ≡ out.old }
+    ensures kept { result ≢ OK → result ≢ NO_ROOM → len.new ≡ len.old }
+{
+    match from_c_oaep(params) {
+        Ok(made) => {
+            let held = made.keep();
+            write_encoding(&held.to_algorithm(), out, len)
+        }
+        Err(failure) => status(&failure),
+    }
+}

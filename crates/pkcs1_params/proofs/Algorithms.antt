@@ -1,0 +1,186 @@
+-- Algorithm identifiers with parameters of their own: reading and writing.
+use Rattle.std.proofs.Common.{ℕ, List, [], ◌++◌, ◌≡◌, ◌∙◌, ◌<◌, ◌≤◌, ◌+◌, ◌-◌, ◌^◌, length, take, drop, refl, sym, ap, inl, inr, Some, None, arith, length-append}
+use Rattle.std.proofs.Math.Seq.{drop-append_seam}
+use Rattle.std.proofs.lemmas.List.{take_all}
+use Rattle.std.specs.Prelude.{Result, Ok, Err, IfOk, IfErr, IsErrAnd, OnErr}
+use Rattle.der_core.specs.declared.error.Error as der
+use Rattle.der_core.specs.declared.error.ErrorKind.{ErrorKind}
+use Rattle.der_core.specs.Document.{Means, HasEncoding, IsShortest, WhyNotWritten, EncodeError, no_encoding, too_long, no_room, another}
+use Rattle.der_core.specs.Encodings.{Is, IsOfBytes, MeansOne}
+use Rattle.der_core.specs.Faults.{EncodingFault, WholeFault, Faulty, AreNone}
+use Rattle.der_core.specs.Laws.Encodings.{tlv_of_bytes, tlv_split, joins_last, tlv_made, tlv_relates, tlv_length}
+use Rattle.der_core.specs.Laws.Faults.{encoding_fault_none, whole_fault_none}
+use Rattle.der_core.specs.Laws.Fronts.{front_is}
+use Rattle.der_core.specs.Laws.Growing.{tlv_recast}
+use Rattle.der_core.specs.Laws.Length.{length_octets-short}
+use Rattle.der_core.specs.Laws.ShortEncodings.{tlv_short}
+use Rattle.der_core.specs.Laws.Shortest.{means_one}
+use Rattle.der_core.specs.Length.{length_octets}
+use Rattle.der_core.specs.Reading.{AllocatesIn, NoneIn, Rejects, TellsOfBytes}
+use Rattle.der_core.specs.Tags.{sequence}
+use Rattle.der_core.specs.Tlv.{Tlv, tlv}
+use Rattle.der_core.specs.Writing.{WritesEncodings}
+use Rattle.spki_core.specs.AlgorithmIdentifier.{Algorithm, AlgorithmContents, AlgorithmIdentifier, PlainAlgorithm, written_algorithm}
+use Rattle.spki_core.specs.Allocating.{AlgorithmAllocates}
+use Rattle.spki_core.specs.Any.{TagAndContents, Any}
+use Rattle.spki_core.specs.Faults.{AnyFault, AlgorithmFault, OtherAnyFault}
+use Rattle.spki_core.specs.Laws.Algorithms.{plain_delimited, algorithm_of_bytes, algorithm_relates}
+use Rattle.spki_core.specs.Laws.AnyEncodings.{any_delimited}
+use Rattle.spki_core.specs.Laws.Faults.{algorithm_fault_none, any_fault_none}
+use Rattle.spki_core.specs.Laws.FieldEncodings.{fields_of_bytes as joins_of_bytes}
+use Rattle.spki_core.specs.ObjectIdentifier.{IsIdentifier}
+use Rattle.pkcs1_params.specs.Algorithms.{AlgorithmOf, Identifies, NotIdentified, unknown, missing, faulty, AlgorithmOfFault}
+use Rattle.pkcs1_params.specs.Errors.{IsAsn1}
+use Rattle.pkcs1_params.specs.Laws.Algorithms.{algorithm_of_plain, plain_of_algorithm, same_parameters, parameters_shorter, parameters_in, shortest_of}
+use Rattle.pkcs1_params.specs.Laws.Errors.{asn1_as}
+use Rattle.pkcs1_params.specs.Laws.FieldValues.{fields_of_bytes}
+use Rattle.pkcs1_params.specs.MaskedValues.{FieldContents}
+use Rattle.pkcs1_params.specs.Meanings.{IsNoSentence, IsOnlyMeaning}
+use Rattle.pkcs1_params.specs.Parameters.{with_parameters}
+use Rattle.pkcs1_params.specs.Parts.{FieldValue, Fielded, fields_with}
+use Rattle.pkcs1_params.specs.declared.error.Error.{Error}
+
+-- Reading an identifier with borrowed parameters never asks for memory.
+pub identifier_asks : (b : List ℕ) → AllocatesIn (AlgorithmAllocates (λ _. ⊥)) b → ⊥
+identifier_asks b w = let h = w.3.holds in let l = h.1.3 in l.1.3
+
+-- What is never asked for memory tells of a fault.
+module _ {X : Type 0} {asked : Type 0} (nothing : asked → ⊥) where
+  pub told_fault : (Fault : ErrorKind → Type 0) (r : Result X der.Error) → IfErr r (λ e. Faulty e.kind asked (Fault e.kind)) → IfErr r (λ e. Fault e.kind)
+  told_fault Fault (Ok x) h = tt
+  told_fault Fault (Err e) (inl h) = absurd (nothing h.1)
+  told_fault Fault (Err e) (inr h) = h
+
+  pub told_only : (r : Result X der.Error) (kind : ErrorKind) → IsErrAnd r (λ e. Faulty e.kind asked (e.kind ≡ kind)) → IsErrAnd r (λ e. e.kind ≡ kind)
+  told_only (Ok x) kind h = h
+  told_only (Err e) kind (inl h) = absurd (nothing h.1)
+  told_only (Err e) kind (inr h) = h
+
+  pub told_bytes : (none : Type 0) (r : Result X der.Error) → IfErr r (λ e. Rejects e.kind asked none) → IfErr r (λ e. TellsOfBytes e.kind)
+  told_bytes none (Ok x) h = tt
+  told_bytes none (Err e) (inl h) = absurd (nothing h.1)
+  told_bytes none (Err e) (inr h) = h.0
+
+  pub told_none : (none : Type 0) (r : Result X der.Error) → IfErr r (λ e. Rejects e.kind asked none) → OnErr r none
+  told_none none (Ok x) h = tt
+  told_none none (Err e) (inl h) = absurd (nothing h.1)
+  told_none none (Err e) (inr h) = h.1
+
+-- The identifier agrees and has parameters, so the fault is theirs.
+pub faulty_here : (oid : List ℕ) (Fault : ErrorKind → List ℕ → Type 0) (kind : ErrorKind) (a : Algorithm TagAndContents) (any : TagAndContents) → a.oid ≡ oid → a.parameters ≡ Some any → NotIdentified oid Fault kind a → OtherAnyFault sequence Fault kind any
+faulty_here oid Fault kind a any agrees there (unknown e other) = absurd (other agrees)
+faulty_here oid Fault kind a any agrees there (missing e same none) = let no : None ≡ Some any = sym none ∙ there in absurd (cc)
+faulty_here oid Fault kind a any agrees there (faulty v same given fault) =
+    let some : Some v ≡ Some any = sym given ∙ there in
+    let is : v ≡ any = cc in
+    rw (← is) fault
+
+-- It means no other parameters than its contents.
+pub identified_one : {V : Type 0} (Contents : V → List ℕ → Type 0) → MeansOne Contents → (oid : List ℕ) (a : Algorithm TagAndContents) (any : TagAndContents) → a.parameters ≡ Some any → (v : V) → Contents v any.contents
+    → (other : V) → Identifies oid Contents a other → other ≡ v
+identified_one Contents one oid a any there v holds other (same, any', given, tag, holds') =
+    let some : Some any' ≡ Some any = sym given ∙ there in
+    let is : any' ≡ any = cc in
+    one other v any.contents (rw is at holds') holds
+
+pub fields_are_bytes : {V : Type 0} (values : V → List FieldValue) → IsOfBytes (FieldContents values)
+fields_are_bytes values v = joins_of_bytes (fields_with values v) (fields_of_bytes (values v))
+
+plain_none : AreNone (NoneIn PlainAlgorithm) (EncodingFault sequence (AlgorithmFault Any AnyFault))
+plain_none = encoding_fault_none sequence (AlgorithmFault Any AnyFault) (AlgorithmContents Any) (algorithm_fault_none Any AnyFault any_delimited any_fault_none)
+
+plain_whole_none : (k : ErrorKind) (b : List ℕ) → WholeFault PlainAlgorithm (EncodingFault sequence (AlgorithmFault Any AnyFault)) k b → (a : Algorithm TagAndContents) → Means PlainAlgorithm b a → ⊥
+plain_whole_none = whole_fault_none PlainAlgorithm _ plain_delimited plain_none
+
+-- A slice that is read as an identifier with parameters of any tag, which are then read.
+module _ {X V : Type 0} (value : X → V) (Contents : V → List ℕ → Type 0) (bytes : IsOfBytes Contents) (oid b : List ℕ) (a : Algorithm TagAndContents) (means : Means PlainAlgorithm b a) where
+  abbrev Wanted : V → List ℕ → Type 0
+  Wanted = AlgorithmOf oid (λ v c. Tlv 48 (Contents v) c)
+
+  same_plain : (v : V) → Wanted v b → Identifies oid Contents a v
+  same_plain v p =
+      let q = plain_of_algorithm Contents oid bytes v b p in
+      rw (means_one plain_delimited a q.0 b means.1 q.2) q.1
+
+  pub slice_ok : (r : Result X Error) → IfOk r (λ x. Identifies oid Contents a (value x)) → IfOk r (λ x. Means Wanted b (value x))
+  slice_ok (Ok x) h = (means.0, algorithm_of_plain Contents oid a (value x) b h means.1)
+  slice_ok (Err e) h = tt
+
+  pub slice_one : (r : Result X Error) → IfOk r (λ x. (other : V) → Identifies oid Contents a other → other ≡ value x) → IfOk r (λ x. IsOnlyMeaning Wanted b (value x))
+  slice_one (Ok x) h = λ other p. h other (same_plain other p.1)
+  slice_one (Err e) h = tt
+
+  pub slice_err : (r : Result X Error) → OnErr r ((v : V) → Identifies oid Contents a v → ⊥) → OnErr r (IsNoSentence Wanted b)
+  slice_err (Ok x) h = tt
+  slice_err (Err e) h = λ v p. h v (same_plain v p.1)
+
+  module _ (Not : ErrorKind → Algorithm TagAndContents → Type 0) where
+    pub slice_exact : (r : Result X Error) → IfErr r (IsAsn1 (λ e. Not e.kind a)) → IfErr r (IsAsn1 (λ e. AlgorithmOfFault Not e.kind b))
+    slice_exact (Ok x) h = tt
+    slice_exact (Err e) h = asn1_as (λ e not. inr (a, means, not)) e h
+
+    pub slice_only : (r : Result X Error) → ((kind : ErrorKind) → Not kind a → IsErrAnd r (IsAsn1 (λ e. e.kind ≡ kind))) → (kind : ErrorKind) → AlgorithmOfFault Not kind b → IsErrAnd r (IsAsn1 (λ e. e.kind ≡ kind))
+    slice_only r h kind (inl fault) = absurd (plain_whole_none kind b fault a means)
+    slice_only r h kind (inr (c, is, not)) = h kind (rw (means_one plain_delimited c a b is.1 means.1) at not)
+
+-- A slice that isn't read as an identifier with parameters of any tag.
+pub no_identifier : {V : Type 0} (Contents : V → List ℕ → Type 0) → IsOfBytes Contents → (oid b : List ℕ) → ((a : Algorithm TagAndContents) → Means PlainAlgorithm b a → ⊥) → (v : V)
+    → Means (AlgorithmOf oid (λ (v : V) c. Tlv 48 (Contents v) c)) b v → ⊥
+no_identifier Contents bytes oid b none v p =
+    let q = plain_of_algorithm Contents oid bytes v b p.1 in
+    none q.0 (p.0, q.2)
+
+-- An identifier is an encoding of any tag.
+pub is_any : {V : Type 0} (values : V → List FieldValue) (oid b : List ℕ) (v : V) → AlgorithmOf oid (Fielded values) v b → (contents : List ℕ) × Any (record { tag = 48; contents = contents }) b
+is_any values oid b v t =
+    let bytes = tlv_of_bytes 48 sequence.allowed (FieldContents values) (fields_are_bytes values) in
+    (t.contents, ((sequence.allowed, algorithm_of_bytes (Fielded values) bytes (with_parameters oid v) t.contents t.holds), tlv_recast b t refl))
+
+-- The parameters stand behind the object identifier in the contents.
+pub behind : {tag : ℕ} (oid contents y b : List ℕ) → Tlv tag (Is contents) b → AlgorithmOf oid Is y b → take (length contents - (2 + length oid)) (drop (2 + length oid) contents) ≡ y
+behind oid contents y b p q =
+    let s = tlv_split b [] b [] p q refl in
+    let h = s.5 in
+    let i = tlv_recast h.0 h.2 h.2.holds.1 in
+    let identifier : IsIdentifier oid = rw h.2.holds.1 at h.2.holds.0 in
+    let one : length (length_octets (length oid)) ≡ 1 = ap length (length_octets-short (length oid) (omega (arith, identifier.short))) in
+    let counted : length h.0 ≡ 1 + length (length_octets (length oid)) + length oid = tlv_length (length oid) 6 oid h.0 refl i in
+    let l : length h.0 ≡ 2 + length oid = omega (arith, one, counted) in
+    let is : contents ≡ h.0 ++ y = sym s.4 ∙ h.4 ∙ ap (λ r. h.0 ++ r) (joins_last h.1 h.3) in
+    let rest : drop (2 + length oid) contents ≡ y = ap (drop (2 + length oid)) is ∙ ap (λ n. drop n (h.0 ++ y)) (sym l) ∙ drop-append_seam h.0 y in
+    rw rest (take_all (length contents - (2 + length oid)) y (omega (arith, ap length is, length-append h.0 y, l)))
+
+pub inside : {V : Type 0} (Grammar : V → List ℕ → Type 0) (oid : List ℕ) (v : V) (b y : List ℕ) → Means (AlgorithmOf oid Grammar) b v → Means (AlgorithmOf oid Is) b y → Means Grammar y v
+inside Grammar oid v b y m t =
+    let p = parameters_in Grammar oid v b m.1 in
+    let is : p.0 ≡ y = same_parameters oid p.0 y b p.2 t.1 in
+    (omega (arith, m.0, parameters_shorter oid y b t.1), rw is at p.1)
+
+-- Writing.
+module _ {V : Type 0} (tag : ℕ) (Contents : V → List ℕ → Type 0) (has : V → Type 0) (written : V → List ℕ) (oid : List ℕ) where
+  abbrev Within : V → List ℕ → Type 0
+  Within v encoding = Tlv tag (Contents v) encoding
+
+  -- Each value has an encoding, within the limit or not.
+  pub has_algorithm : WritesEncodings Contents has written → IsIdentifier oid → (v : V) → has v → length (written v) < 2 ^ 64 → HasEncoding (AlgorithmOf oid Within) v
+  has_algorithm relates is v h few =
+      let encoding : V → List ℕ = λ w. tlv tag (written w) in
+      let a = with_parameters oid v in
+      let l = tlv_short tag (2 ^ 64 - 1) (written v) (omega (arith, few)) (omega arith) in
+      let short_oid : length (tlv 6 oid) ≤ 167 = tlv_short 6 39 oid is.short (omega arith) in
+      let fits : length (tlv 6 oid ++ tlv tag (written v)) < 2 ^ 128 = omega (arith, length-append (tlv 6 oid) (tlv tag (written v)), l, short_oid) in
+      let made = tlv_made 48 (AlgorithmContents Within a) (written_algorithm encoding a)
+      (algorithm_relates Within has encoding (λ w k less. tlv_relates tag Contents written w (relates w k) less) a (is, h) fits) fits in
+      (made.0, made.1)
+
+module _ {V : Type 0} (Grammar : V → List ℕ → Type 0) (oid : List ℕ) (a : Algorithm V) (v : V) (is : a ≡ with_parameters oid v) where
+  -- What was written at the front of a slice is the shortest encoding.
+  pub front_of : (n : ℕ) (encoding old new : List ℕ) → (n ≡ length encoding) × (new ≡ encoding ++ drop n old) → IsShortest (AlgorithmIdentifier Grammar) a encoding → IsShortest (AlgorithmOf oid Grammar) v (take n new)
+  front_of n encoding old new h s = rw (front_is encoding old new n h.0 h.1) (shortest_of is encoding s)
+
+  -- Why it isn't written, if it has an encoding.
+  pub why_not_of : (has : Type 0) (room : ℕ) → HasEncoding (AlgorithmOf oid Grammar) v → (k : EncodeError) → WhyNotWritten has (AlgorithmIdentifier Grammar) a room k → WhyNotWritten (HasEncoding (AlgorithmOf oid Grammar) v) (AlgorithmOf oid Grammar) v room k
+  why_not_of has room some no_encoding h = rw is at h
+  why_not_of has room some too_long h = (some, rw is at h.1)
+  why_not_of has room some no_room h = (h.0, shortest_of is h.0 h.1, h.2)
+  why_not_of has room some another h = h

@@ -1,0 +1,208 @@
+//! Parameters in their algorithm identifier (RFC 8017 A.2.3, A.2.1; RFC 5280 4.1.1.2).
+ghost use Rattle.std.specs.Prelude.{◌≡◌, ◌≤◌, ◌<◌, ◌^◌, ℕ, List, length, take, drop};
+ghost use Rattle.std.specs.Prelude.{IfOk, IfErr, IsErrAnd, OnOk, OnErr};
+ghost use Rattle.der_core.specs.declared.error.ErrorKind as der;
+ghost use Rattle.der_core.specs.declared.error.ErrorKind.TheVariants.{Noncanonical};
+ghost use Rattle.der_core.specs.declared.tag.Tag.{Tag};
+ghost use Rattle.der_core.specs.Document.{HasEncoding, IsShortest, Means};
+ghost use Rattle.der_core.specs.Encodings.{Is, MeansOne};
+ghost use Rattle.der_core.specs.Reading.{TellsOfBytes};
+ghost use Rattle.der_core.specs.Tag.{context_tag, sequence_tag};
+ghost use Rattle.der_core.specs.Tags.{sequence};
+ghost use Rattle.der_core.specs.Tlv.{Tlv};
+ghost use Rattle.spki_core.specs.AlgorithmValue.{algorithm_of, algorithm_with};
+ghost use Rattle.spki_core.specs.AnyRefValue.{any_of};
+ghost use Rattle.spki_core.specs.Faults.{OtherAnyFault};
+ghost use Rattle.spki_core.specs.StrictFields.{NamesDefault, WritesDefault};
+ghost use Rattle.pkcs1_params.specs.Algorithms.{AlgorithmOf, AlgorithmOfFault, Identifies, NotIdentified, StrictFault};
+ghost use Rattle.pkcs1_params.specs.Errors.{IsAsn1};
+ghost use Rattle.pkcs1_params.specs.MaskedValues.{FieldContents};
+ghost use Rattle.pkcs1_params.specs.Meanings.{IsNoSentence, IsOnlyMeaning, IsWritingError};
+ghost use Rattle.pkcs1_params.specs.ParameterFaults.{DefaultFault};
+ghost use Rattle.pkcs1_params.specs.Parameters.{with_parameters};
+ghost use Rattle.pkcs1_params.specs.Parts.{FieldValue, Fielded, fields_with};
+
+use crate::error::{Error, Result};
+use der_core::{Decode, DecodeValue, Encode, EncodeValue, ErrorKind, FixedTag, NoMemory};
+use spki_core::{
+    AlgorithmIdentifier, AlgorithmIdentifierRef, AnyRef, AssociatedOid, ObjectIdentifier,
+};
+
+/// Borrowed parameters of an algorithm.
+pub trait AlgorithmParams<'a>: Sized + Drop {
+    /// The object identifier of the algorithm.
+    type Oid: AssociatedOid;
+
+    /// What the parameters mean.
+    ghost Params: { Type 0 };
+
+    ghost params: { Self → Params };
+
+    /// The fields of their SEQUENCE.
+    ghost values: { Params → List FieldValue };
+
+    ghost fields_mean_one: { MeansOne (FieldContents values) };
+
+    /// Contents octets that mean no parameters, with the kind of error of their first fault.
+    ghost fault: { der.ErrorKind → List ℕ → Type 0 };
+
+    /// Reads the parameters of an algorithm: `TagUnexpected` if they are no SEQUENCE.
+    fn from_any(any: AnyRef<'a>) -> der_core::Result<Self>
+        ensures ok { let any = any_of any.entry in
+            IfOk result (λ p. (any.tag ≡ sequence_tag) × FieldContents values (params p) any.contents) }
+        ensures err { let any = any_of any.entry in
+            OnErr result ((v : Params) → any.tag ≡ sequence_tag → FieldContents values v any.contents → ⊥) }
+        ensures asn1 { IfErr result (λ e. TellsOfBytes e.kind) }
+        ensures exact { IfErr result (λ e. OtherAnyFault sequence fault e.kind (any_of any.entry)) }
+        ensures only { (kind : der.ErrorKind)
+            → OtherAnyFault sequence fault kind (any_of any.entry) → IsErrAnd result (λ e. e.kind ≡ kind) };
+
+    /// Rejects an encoding of the parameters in which a default is written: `Noncanonical` with the tag of the first.
+    fn reject_defaults(&self, encoding: &[u8]) -> Result<()>
+        requires { Means (Fielded values) encoding.now (params self.now) }
+        ensures ok { OnOk result (IsShortest (Fielded values) (params self.now) encoding.now) }
+        ensures default { IfErr result (IsAsn1 (NamesDefault (fields_with values (params self.now)) encoding.now)) }
+        ensures only { (n : ℕ) (tag : Tag) → WritesDefault (fields_with values (params self.now)) n encoding.now
+            → tag.octet ≡ context_tag n → IsErrAnd result (IsAsn1 (λ e. e.kind ≡ Noncanonical tag)) }
+        ensures err { OnErr result (IsShortest (Fielded values) (params self.now) encoding.now → ⊥) }
+        ensures asn1 { IfErr result (IsAsn1 (λ e. TellsOfBytes e.kind)) };
+}
+
+/// Borrowed parameters that are read from the algorithm identifier that they stand in: `RsaPssParamsRef`,
+/// `RsaPssParamsView`, `RsaOaepParamsRef`, `RsaOaepParamsView`. Nothing is allocated.
+pub trait FromAlgorithm<'a>: AlgorithmParams<'a> {
+    /// The parameters in an algorithm identifier: `OidUnknown` if it is another algorithm's, `ParametersMissing` if it
+    /// has none, as RFC 4055 forbids with a signature and an encrypted value (3.1, 4.1).
+    fn from_algorithm(algorithm: &AlgorithmIdentifierRef<'a>) -> Result<Self>
+        ensures ok { let a = algorithm_of algorithm.now in
+            IfOk result (λ p. Identifies Self.Oid.contents (FieldContents Self.values) a (Self.params p)) }
+        ensures one { let a = algorithm_of algorithm.now in
+            IfOk result (λ p. (other : Self.Params)
+            → Identifies Self.Oid.contents (FieldContents Self.values) a other → other ≡ Self.params p) }
+        ensures err { let a = algorithm_of algorithm.now in
+            OnErr result ((v : Self.Params) → Identifies Self.Oid.contents (FieldContents Self.values) a v → ⊥) }
+        ensures asn1 { IfErr result (IsAsn1 (λ e. TellsOfBytes e.kind)) }
+        ensures exact { let a = algorithm_of algorithm.now in
+            IfErr result (IsAsn1 (λ e. NotIdentified Self.Oid.contents Self.fault e.kind a)) }
+        ensures only { (kind : der.ErrorKind)
+            → NotIdentified Self.Oid.contents Self.fault kind (algorithm_of algorithm.now)
+            → IsErrAnd result (IsAsn1 (λ e. e.kind ≡ kind)) };
+
+    /// The parameters in a whole slice that is an algorithm identifier, as in a certificate's signatureAlgorithm. Once
+    /// the slice is an algorithm identifier, errors are as of `from_algorithm`.
+    fn from_algorithm_der(bytes: &'a [u8]) -> Result<Self>
+        ensures ok { let Grammar = AlgorithmOf Self.Oid.contents (Fielded Self.values) in
+            IfOk result (λ p. Means Grammar bytes.now (Self.params p)) }
+        ensures one { let Grammar = AlgorithmOf Self.Oid.contents (Fielded Self.values) in
+            IfOk result (λ p. IsOnlyMeaning Grammar bytes.now (Self.params p)) }
+        ensures err { OnErr result (IsNoSentence (AlgorithmOf Self.Oid.contents (Fielded Self.values)) bytes.now) }
+        ensures asn1 { IfErr result (IsAsn1 (λ e. TellsOfBytes e.kind)) }
+        ensures exact { let Fault = AlgorithmOfFault (NotIdentified Self.Oid.contents Self.fault) in
+            IfErr result (IsAsn1 (λ e. Fault e.kind bytes.now)) }
+        ensures only { (kind : der.ErrorKind)
+            → AlgorithmOfFault (NotIdentified Self.Oid.contents Self.fault) kind bytes.now
+            → IsErrAnd result (IsAsn1 (λ e. e.kind ≡ kind)) };
+
+    /// Like `from_algorithm_der`, but rejects parameters in which a default is written: `Noncanonical` with the tag of
+    /// the first such field. So what is read is the shortest encoding of the identifier.
+    fn from_algorithm_der_strict(bytes: &'a [u8]) -> Result<Self>
+        ensures ok { let Grammar = AlgorithmOf Self.Oid.contents (Fielded Self.values) in
+            IfOk result (λ p. IsShortest Grammar (Self.params p) bytes.now) }
+        ensures one { let Grammar = AlgorithmOf Self.Oid.contents (Fielded Self.values) in
+            IfOk result (λ p. IsOnlyMeaning Grammar bytes.now (Self.params p)) }
+        ensures err { let Grammar = AlgorithmOf Self.Oid.contents (Fielded Self.values) in
+            OnErr result ((v : Self.Params) → IsShortest Grammar v bytes.now → ⊥) }
+        ensures asn1 { IfErr result (IsAsn1 (λ e. TellsOfBytes e.kind)) }
+        ensures exact { let Fault = AlgorithmOfFault (NotIdentified Self.Oid.contents Self.fault) in
+            let Default = DefaultFault (Fielded Self.values) (fields_with Self.values) in
+            IfErr result (IsAsn1 (λ e. StrictFault Self.Oid.contents Fault Default e.kind bytes.now)) }
+        ensures only { let Fault = AlgorithmOfFault (NotIdentified Self.Oid.contents Self.fault) in
+            let Default = DefaultFault (Fielded Self.values) (fields_with Self.values) in
+            (kind : der.ErrorKind) → StrictFault Self.Oid.contents Fault Default kind bytes.now
+            → IsErrAnd result (IsAsn1 (λ e. e.kind ≡ kind)) };
+}
+
+impl<'a, T: AlgorithmParams<'a>> FromAlgorithm<'a> for T {
+    fn from_algorithm(algorithm: &AlgorithmIdentifierRef<'a>) -> Result<T> {
+        algorithm.assert_algorithm_oid(ObjectIdentifier::of::<T::Oid>())?;
+        match algorithm.parameters {
+            Some(any) => Ok(T::from_any(any)?),
+            None => Err(Error::Asn1(der_core::Error::new(ErrorKind::ParametersMissing))),
+        }
+    }
+
+    fn from_algorithm_der(bytes: &'a [u8]) -> Result<T> {
+        let algorithm = AlgorithmIdentifierRef::from_der(NoMemory, bytes)?;
+        T::from_algorithm(&algorithm)
+    }
+
+    fn from_algorithm_der_strict(bytes: &'a [u8]) -> Result<T> {
+        let params = T::from_algorithm_der(bytes)?;
+        params.reject_defaults(encoded_parameters::<T>(bytes))?;
+        Ok(params)
+    }
+}
+
+/// The encoding of the parameters in an algorithm identifier.
+fn encoded_parameters<'a, T: AlgorithmParams<'a>>(identifier: &'a [u8]) -> &'a [u8]
+    requires { (params : T.Params) × Means (AlgorithmOf T.Oid.contents (Fielded T.values)) identifier.now params }
+    ensures { Means (AlgorithmOf T.Oid.contents Is) identifier.now result.now }
+{
+    match AnyRef::from_der(NoMemory, identifier) {
+        Ok(any) => &any.value()[2 + T::Oid::octets().len()..],
+        Err(_) => unreachable!(),
+    }
+}
+
+/// `AnyRef::decode_as` of a type that asks for no memory.
+pub(crate) fn decode_borrowed<'a, T: DecodeValue<&'a [u8], NoMemory> + FixedTag>(
+    any: AnyRef<'a>,
+) -> der_core::Result<T>
+    requires { (contents : List ℕ) → T.may_allocate contents → ⊥ }
+    ensures ok { let any = any_of any.entry in
+        IfOk result (λ v. (any.tag ≡ T.TAG.octet) × T.contents (T.value v) any.contents) }
+    ensures err { let any = any_of any.entry in
+        OnErr result ((v : T.Value) → any.tag ≡ T.TAG.octet → T.contents v any.contents → ⊥) }
+    ensures asn1 { IfErr result (λ e. TellsOfBytes e.kind) }
+    ensures exact { IfErr result (λ e. OtherAnyFault T.TAG T.DecodeValue.fault e.kind (any_of any.entry)) }
+    ensures only { (kind : der.ErrorKind)
+        → OtherAnyFault T.TAG T.DecodeValue.fault kind (any_of any.entry) → IsErrAnd result (λ e. e.kind ≡ kind) }
+{
+    any.decode_as(NoMemory)
+}
+
+/// The algorithm identifier of D with these parameters.
+pub(crate) fn with_identifier<D: AssociatedOid, T: EncodeValue + FixedTag>(
+    params: T,
+) -> AlgorithmIdentifier<T>
+    requires has { T.has_contents (T.value params) }
+    requires short { length (T.written_contents (T.value params)) < 2 ^ 64 }
+    ensures means { algorithm_with T.value result ≡ with_parameters D.contents (T.value params) }
+    ensures some { HasEncoding (AlgorithmOf D.contents (λ v. Tlv T.TAG.octet (T.contents v))) (T.value params) }
+{
+    AlgorithmIdentifier {
+        oid: ObjectIdentifier::of::<D>(),
+        parameters: Some(params),
+    }
+}
+
+/// Writes the shortest encoding of the algorithm identifier of D with these parameters to the front of a slice and
+/// returns its length.
+pub(crate) fn encode_identifier<D: AssociatedOid, T: EncodeValue + FixedTag + Drop>(
+    params: T,
+    out: &mut [u8],
+) -> Result<usize>
+    requires has { T.has_contents (T.value params) }
+    requires short { length (T.written_contents (T.value params)) < 2 ^ 64 }
+    ensures shortest { let Grammar = AlgorithmOf D.contents (λ v. Tlv T.TAG.octet (T.contents v)) in
+        IfOk result (λ n. IsShortest Grammar (T.value params) (take n out.new)) }
+    ensures rest { IfOk result (λ n. (n ≤ length out.new) × (drop n out.new ≡ drop n out.old)) }
+    ensures one { let Grammar = AlgorithmOf D.contents (λ v. Tlv T.TAG.octet (T.contents v)) in
+        IfOk result (λ n. (other : T.Value) → Grammar other (take n out.new) → other ≡ T.value params) }
+    ensures unchanged { OnErr result (out.new ≡ out.old) }
+    ensures err { let Grammar = AlgorithmOf D.contents (λ v. Tlv T.TAG.octet (T.contents v)) in
+        IfErr result (IsWritingError Grammar (T.value params) (length out.old)) }
+{
+    let algorithm = with_identifier::<D, T>(params);
+    Ok(algorithm.encode_into(out)?)
+}

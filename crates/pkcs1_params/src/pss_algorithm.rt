@@ -1,0 +1,132 @@
+//! The algorithm identifier id-RSASSA-PSS with its parameters (RFC 8017 A.2.3).
+ghost use Rattle.std.specs.Prelude.{◌≡◌, ◌≤◌, length, take, drop, refl, IfOk, IfErr, OnErr};
+ghost use Rattle.der_core.specs.Document.{HasEncoding, IsShortest};
+ghost use Rattle.spki_core.specs.AlgorithmValue.{algorithm_with};
+ghost use Rattle.spki_core.specs.Any.{Any};
+ghost use Rattle.spki_core.specs.Faults.{AnyFault};
+ghost use Rattle.spki_core.specs.ObjectIdentifierValue.{own_octets_of};
+ghost use Rattle.pkcs1_params.specs.Algorithms.{id_rsassa_pss, RsaPssAlgorithm, RsaPssAlgorithmFault};
+ghost use Rattle.pkcs1_params.specs.Laws.Pss.{pss_means_one};
+ghost use Rattle.pkcs1_params.specs.Meanings.{IsWritingError, TellsFault};
+ghost use Rattle.pkcs1_params.specs.ParameterFaults.{PssFault};
+ghost use Rattle.pkcs1_params.specs.Parameters.{PssParameters, with_parameters};
+ghost use Rattle.pkcs1_params.specs.Parts.{pss_values};
+ghost use Rattle.pkcs1_params.specs.PssValue.{pss_of, pss_viewed, pss_with};
+
+use crate::algorithm::{
+    AlgorithmParams, FromAlgorithm, decode_borrowed, encode_identifier, with_identifier,
+};
+use crate::error::{Error, Result};
+use crate::pss::{RsaPssParams, RsaPssParamsRef};
+use crate::pss_view::RsaPssParamsView;
+use crate::spelling::DefaultFields;
+use crate::strict;
+use der_core::ErrorKind;
+use spki_core::{AlgorithmIdentifier, AnyRef, AnyValue, AssociatedOid, ObjectIdentifier};
+
+/// id-RSASSA-PSS, as a type.
+pub struct RsassaPss;
+
+impl AssociatedOid for RsassaPss {
+    ghost contents = { id_rsassa_pss };
+
+    ghost valid = { refl };
+
+    const OID: &'static [u8] = &[0x2a, 0x86, 0x48, 0x86, 0xf7, 0x0d, 0x01, 0x01, 0x0a];
+
+    fn octets() -> &'static [u8] {
+        Self::OID
+    }
+}
+
+/// The object identifier id-RSASSA-PSS (RFC 8017 A.2.3).
+pub fn rsassa_pss_oid() -> ObjectIdentifier
+    ensures { own_octets_of result ≡ id_rsassa_pss }
+{
+    ObjectIdentifier::of::<RsassaPss>()
+}
+
+impl<'a> AlgorithmParams<'a> for RsaPssParamsView<'a> {
+    type Oid = RsassaPss;
+
+    ghost Params = { PssParameters };
+
+    ghost params = { pss_viewed };
+
+    ghost values = { pss_values };
+
+    ghost fields_mean_one = { pss_means_one };
+
+    ghost fault = { PssFault Any AnyFault };
+
+    fn from_any(any: AnyRef<'a>) -> der_core::Result<RsaPssParamsView<'a>> {
+        decode_borrowed(any)
+    }
+
+    fn reject_defaults(&self, encoding: &[u8]) -> Result<()> {
+        strict::reject_defaults(self, encoding)
+    }
+}
+
+impl<'a> AlgorithmParams<'a> for RsaPssParams<AnyRef<'a>> {
+    type Oid = RsassaPss;
+
+    ghost Params = { PssParameters };
+
+    ghost params = { pss_of };
+
+    ghost values = { pss_values };
+
+    ghost fields_mean_one = { pss_means_one };
+
+    ghost fault = { PssFault Any AnyFault };
+
+    fn from_any(any: AnyRef<'a>) -> der_core::Result<RsaPssParams<AnyRef<'a>>> {
+        decode_borrowed(any)
+    }
+
+    fn reject_defaults(&self, encoding: &[u8]) -> Result<()> {
+        strict::reject_defaults(&self.as_view(), encoding)
+    }
+}
+
+impl<P: AnyValue> RsaPssParams<P> {
+    /// The algorithm identifier id-RSASSA-PSS with these parameters, borrowed: to be written inside something larger.
+    pub fn to_algorithm(&self) -> AlgorithmIdentifier<RsaPssParams<AnyRef<'_>>>
+        ensures means { algorithm_with pss_of result ≡ with_parameters id_rsassa_pss (pss_with P.any self.now) }
+        ensures some { HasEncoding RsaPssAlgorithm (pss_with P.any self.now) }
+    {
+        let view = self.as_view();
+        view.lemma_is_held();
+        with_identifier::<RsassaPss, RsaPssParamsRef<'_>>(view.keep())
+    }
+
+    /// Writes the shortest encoding of the algorithm identifier id-RSASSA-PSS with these parameters to the front of a
+    /// slice and returns its length. `Overflow` if the encoding is longer than `Length::MAX`, `NoRoom` if the slice is
+    /// shorter than it.
+    pub fn encode_algorithm(&self, out: &mut [u8]) -> Result<usize>
+        ensures shortest { let params = pss_with P.any self.now in
+            IfOk result (λ n. IsShortest RsaPssAlgorithm params (take n out.new)) }
+        ensures rest { IfOk result (λ n. (n ≤ length out.new) × (drop n out.new ≡ drop n out.old)) }
+        ensures one { let params = pss_with P.any self.now in
+            IfOk result (λ n. (other : PssParameters) → RsaPssAlgorithm other (take n out.new) → other ≡ params) }
+        ensures unchanged { OnErr result (out.new ≡ out.old) }
+        ensures err { IfErr result (IsWritingError RsaPssAlgorithm (pss_with P.any self.now) (length out.old)) }
+    {
+        let view = self.as_view();
+        view.lemma_is_held();
+        encode_identifier::<RsassaPss, RsaPssParamsRef<'_>>(view.keep(), out)
+    }
+}
+
+/// The first fault of bytes that aren't the algorithm identifier id-RSASSA-PSS with parameters, of which they have
+/// exactly one; `None` if they are.
+pub fn fault_of_pss_algorithm(bytes: &[u8]) -> Option<ErrorKind>
+    ensures { TellsFault RsaPssAlgorithm RsaPssAlgorithmFault bytes.now result }
+{
+    match RsaPssParamsView::from_algorithm_der(bytes) {
+        Ok(_) => None,
+        Err(Error::Asn1(error)) => Some(error.kind()),
+        Err(_) => unreachable!(),
+    }
+}

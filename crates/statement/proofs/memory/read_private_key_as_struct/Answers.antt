@@ -1,0 +1,33 @@
+use Rattle.std.proofs.Common.{sym, ap, ◌∙◌}
+use Rattle.der_core.specs.Reading.{TellsOfBytes}
+use Rattle.der_core.specs.UintRefValue.{bytes_of}
+use Rattle.pkcs1.specs.Allocating.{MayAllocate}
+use Rattle.pkcs1.specs.KeyEncodings.{IsReadingError}
+use Rattle.pkcs1.specs.Keys.{RsaPrivateKey}
+use Rattle.pkcs1.specs.PrivateKeyValue.{private_key_of}
+use Rattle.pkcs1_params.specs.Meanings.{IsOnlyMeaning}
+use Rattle.der_core.specs.Document.{Means}
+use Rattle.statement.specs.Statement.{PrivateKeyEncoding}
+use Rattle.statement.specs.Held.{rsa_private_key, uint_ref}
+use Rattle.statement.proofs.Der.{moved}
+use Rattle.statement.proofs.Held.{private_holds}
+use Rattle.statement.proofs.OutOfMemory.{rejected, decoded}
+use Rattle.statement.proofs.PrivateKeys.{numbers, key_of, back, sentence, means}
+use Rattle.statement.proofs.memory.read_private_key_as_struct.Goals as goal
+
+pub returns : goal.returns
+returns c =
+    let bytes = c.args.bytes.now in
+    let read = c.decode_key.ensures in
+    decoded (rsa_private_key uint_ref) PrivateKeyEncoding bytes c.decode_key.result c.found.result c.found.ensures.ok c.found.ensures.err
+    (λ key. Means RsaPrivateKey bytes (private_key_of key))
+    (λ key. IsOnlyMeaning RsaPrivateKey bytes (private_key_of key))
+    read.ok
+    read.one
+    (λ key ok one. (
+      moved PrivateKeyEncoding (private_holds bytes_of key) (sentence (private_key_of key) bytes ok),
+      λ w p. sym (back w) ∙ ap numbers (one (key_of w) (means w bytes p)) ∙ private_holds bytes_of key,
+    ))
+    (IsReadingError RsaPrivateKey bytes (MayAllocate bytes))
+    read.err
+    (λ e err other v p. rejected (λ x. TellsOfBytes x.kind) _ _ e err other (key_of v) (means v bytes p))
