@@ -29,6 +29,9 @@ fn first_written(contents: &[u8], number: u8, defaults: &[bool]) -> Option<TagNu
     requires few { number + length defaults.now ≤ 31 }
     ensures { Walked number defaults.now contents.now (option_map number_in result) }
 {
+    if contents.is_empty() {
+        return None;
+    }
     match defaults {
         [] => None,
         [default, later @ ..] => {

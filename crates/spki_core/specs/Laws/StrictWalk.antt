@@ -15,6 +15,12 @@ use Rattle.spki_core.specs.Laws.Fields.{AreInOrder, defaultable_split, joins_mas
 use Rattle.spki_core.specs.Laws.Spellings.{zero_shortest, shortest_zero}
 use Rattle.spki_core.specs.StrictFields.{Short, FirstWritten, WritesDefault, Walked, WalksOver}
 
+-- Behind the last field nothing is found.
+pub walked_end : (n : ℕ) (ds : List Bool) → Walked n ds [] None
+walked_end n [] = refl
+walked_end n (true ∷ ds) = inr ((λ next. absurd cc), walked_end (n + 1) ds)
+walked_end n (false ∷ ds) = inr ((λ v x rest e any. let t = any.1 in absurd cc), refl)
+
 -- A step of the walk over a field that doesn't equal its default.
 pub walked_skip : (n : ℕ) (ds : List Bool) (c x rest : List ℕ) (v : TagAndContents) (found : Option ℕ) → 1 ≤ length ds → get_or ds 0 false ≡ false
     → c ≡ x ++ rest → Any v x → Walked (n + 1) (take (length ds - 1) (drop 1 ds)) rest found → Walked n ds c found
