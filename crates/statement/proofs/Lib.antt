@@ -5,6 +5,7 @@ mod PublicKeys
 mod PrivateKeys
 mod Pss
 mod Oaep
+mod Identified
 mod Containers
 mod Held
 mod Same
