@@ -17,4 +17,5 @@ mod ReadingsKeys
 mod ReadingsParameters
 mod ReadingsContainer
 mod ReadingsContainedKey
+mod ReadingsIdentified
 mod ReadingsRows

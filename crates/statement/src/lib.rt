@@ -15,8 +15,9 @@ mod identifiers;
 mod memory;
 
 pub use errors::{
-    read_contained_key_or_fault, read_container_or_fault, read_oaep_params_or_fault,
-    read_private_key_or_fault, read_pss_params_or_fault, read_public_key_or_fault,
+    read_contained_key_or_fault, read_container_or_fault, read_oaep_algorithm_or_fault,
+    read_oaep_params_or_fault, read_private_key_or_fault, read_pss_algorithm_or_fault,
+    read_pss_params_or_fault, read_public_key_or_fault,
 };
 pub use identifiers::{
     lemma_algorithm_count, lemma_algorithms_same_by_shortest, read_oaep_algorithm,
