@@ -207,7 +207,7 @@ module _ {W V : Type 0} {from : W → V} {to : V → W} {fs : W → List fields.
   pub all_fit : (w : W) → Is (from w) → length (longest (gs (from w))) ≤ limit → spellings.AllFit (fs w)
   all_fit w is l = (longest (gs (from w)), all_explicit w is l, l)
 
-  pub are_all : (w : W) (k : ℕ) (all : List (List ℕ)) → AreTheMembers (Spellings Grammar w) (2 ^ k) all → ((i : ℕ) → i < 2 ^ k → Masked (fs w) i (slice_index_or all i [])) → AreAll Is gs (from w) k all
+  pub are_all : (w : W) (k : ℕ) (all : List (List ℕ)) → AreTheMembers (Spellings Grammar w) (2 ^ k) all → ((i : ℕ) → i < 2 ^ k → Masked (fs w) i (slice_index_or all i [])) → AreAll (λ E. E) Is gs (from w) k all
   are_all w k all m masked = record {
     count = m.count;
     under = λ i l. under w i (slice_index_or all i []) ((m.only i l).0, masked i l);
@@ -215,14 +215,14 @@ module _ {W V : Type 0} {from : W → V} {to : V → W} {fs : W → List fields.
     every = λ bytes. (λ e. m.every bytes (meant w bytes e), λ p. subst (Encoding (from w)) p.2 (sentence w _ (m.only p.0 p.1)));
   }
 
-  two_of : spellings.TwoToTheDefaults fs → (w : W) (k : ℕ) → Is (from w) → Defaults (gs (from w)) k → length (longest (gs (from w))) ≤ limit → (all : List (List ℕ)) × AreAll Is gs (from w) k all
+  two_of : spellings.TwoToTheDefaults fs → (w : W) (k : ℕ) → Is (from w) → Defaults (gs (from w)) k → length (longest (gs (from w))) ≤ limit → (all : List (List ℕ)) × AreAll (λ E. E) Is gs (from w) k all
   two_of two w k is d l =
       let r = two w k (longest (gs (from w))) (defaults_from (fs w) (gs (from w)) (s.match w) k d) (all_explicit w is l) l in
       (r.0, are_all w k r.0 r.1 r.2)
 
   pub two_to_the_defaults : spellings.TwoToTheDefaults fs → TwoToTheDefaults Is gs
   two_to_the_defaults two v =
-      subst (λ (u : V). (k : ℕ) → Is u → Defaults (gs u) k → length (longest (gs u)) ≤ limit → (all : List (List ℕ)) × AreAll Is gs u k all) (s.back v) (two_of two (to v))
+      subst (λ (u : V). (k : ℕ) → Is u → Defaults (gs u) k → length (longest (gs u)) ≤ limit → (all : List (List ℕ)) × AreAll (λ E. E) Is gs u k all) (s.back v) (two_of two (to v))
 
   -- The list of all encodings, or why there is none.
   pub lists : spellings.DefaultsAreCounted fs → (w : W) (all : List (List ℕ)) → spellings.AreAllSpellings fs w all → Lists Is gs (from w) (Some all)

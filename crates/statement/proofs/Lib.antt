@@ -5,6 +5,7 @@ mod PublicKeys
 mod PrivateKeys
 mod Pss
 mod Oaep
+mod Identified
 mod Containers
 mod Held
 mod Same
@@ -16,4 +17,5 @@ mod ReadingsKeys
 mod ReadingsParameters
 mod ReadingsContainer
 mod ReadingsContainedKey
+mod ReadingsIdentified
 mod ReadingsRows

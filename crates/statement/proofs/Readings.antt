@@ -131,7 +131,7 @@ pub checked_as : {X : Type 0} (b : Bool) (f : b ≡ true → X) (x : X) → b �
 checked_as true f x p = (refl, refl)
 checked_as false f x p = cc
 
-other_is : {V : Type 0} (tag actual : Tag) → ◌≡◌ {A = Result V ErrorKind} (unexpected tag actual.octet) (Err (TagUnexpected tag actual))
+pub other_is : {V : Type 0} (tag actual : Tag) → ◌≡◌ {A = Result V ErrorKind} (unexpected tag actual.octet) (Err (TagUnexpected tag actual))
 other_is tag actual =
     let r = checked_as (is_allowed actual.octet) (λ ok. Err (TagUnexpected tag (record { octet = actual.octet; allowed = ok }))) (Err (TagUnknown actual.octet)) actual.allowed in
     r.1 ∙ ap (λ t. Err (TagUnexpected tag t)) (same_tag (record { octet = actual.octet; allowed = r.0 }) actual refl)

@@ -27,7 +27,7 @@ use Rattle.statement.proofs.Readings.{checked_as, whole_takes, whole_rejects}
 use Rattle.statement.proofs.ReadingsContainer.{container_reads}
 use Rattle.statement.proofs.ReadingsKeys.{private_reads}
 
-differs : {P : Type 0} (b : Bool) → Decides b P → (P → ⊥) → b ≡ false
+pub differs : {P : Type 0} (b : Bool) → Decides b P → (P → ⊥) → b ≡ false
 differs true d other = absurd (other (d.0 refl))
 differs false d other = refl
 

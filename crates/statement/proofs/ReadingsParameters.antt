@@ -179,7 +179,7 @@ module _ {V W : Type 0} (n : ℕ) (tag : Tag) (same : tag.octet ≡ context_tag 
           ∙ (more v).rejects k rest (behind a rest is' s) f
 
 -- RSASSA-PSS-params
-pss_takes : (p : library.PssParameters) → Takes (PssContents p) pss_in (pss.from p)
+pub pss_takes : (p : library.PssParameters) → Takes (PssContents p) pss_in (pss.from p)
 unfolding Later
 pss_takes p =
     let t = field 3 TrailerField 1 p.trailer_field ∷ [] in
@@ -190,7 +190,7 @@ pss_takes p =
     (field_takes 2 tag_2 refl small_reads 20 _ p.salt_len t (omega arith, tt)
     (field_takes 3 tag_3 refl trailer_reads 1 _ p.trailer_field [] tt (end_takes _))))
 
-pss_rejects : Rejects (PssFault Any AnyFault) pss_in
+pub pss_rejects : Rejects (PssFault Any AnyFault) pss_in
 pss_rejects =
     field_rejects 0 tag_0 refl plain_reads library.sha1 _ (λ _. field_rejects 1 tag_1 refl mask_reads library.mgf1_sha1 _ (λ _.
     field_rejects 2 tag_2 refl small_reads 20 _ (λ _. field_rejects 3 tag_3 refl trailer_reads 1 _ (λ _. end_rejects _))))
@@ -199,7 +199,7 @@ pub pss_reads : Reads RsaPssParams (EncodingFault tags.sequence (PssFault Any An
 pss_reads = tagged_reads tags.sequence pss_in pss_takes pss_rejects
 
 -- RSAES-OAEP-params
-oaep_takes : (p : library.OaepParameters) → Takes (OaepContents p) oaep_in (oaep.from p)
+pub oaep_takes : (p : library.OaepParameters) → Takes (OaepContents p) oaep_in (oaep.from p)
 unfolding Later
 oaep_takes p =
     let s = field 2 PlainAlgorithm library.empty_label p.p_source ∷ [] in
@@ -208,7 +208,7 @@ oaep_takes p =
     (field_takes 1 tag_1 refl mask_reads library.mgf1_sha1 _ p.mask_gen s (omega arith, tt)
     (field_takes 2 tag_2 refl plain_reads library.empty_label _ p.p_source [] tt (end_takes _)))
 
-oaep_rejects : Rejects (OaepFault Any AnyFault) oaep_in
+pub oaep_rejects : Rejects (OaepFault Any AnyFault) oaep_in
 oaep_rejects =
     field_rejects 0 tag_0 refl plain_reads library.sha1 _ (λ _. field_rejects 1 tag_1 refl mask_reads library.mgf1_sha1 _ (λ _.
     field_rejects 2 tag_2 refl plain_reads library.empty_label _ (λ _. end_rejects _)))

@@ -3,10 +3,12 @@ use Rattle.std.proofs.Common.{ℕ, List, ◌≡◌, sym, subst, ap, ◌∙◌, a
 use Rattle.der_core.specs.Laws.Shortest as laws
 use Rattle.pkcs1.specs.Laws.PublicKeys.{public_delimited}
 use Rattle.pkcs1.specs.Laws.PrivateKeys.{private_delimited}
+use Rattle.pkcs1_params.specs.Laws.Algorithms.{algorithm_of_delimited}
 use Rattle.pkcs1_params.specs.Laws.Parameters.{pss_delimited, oaep_delimited}
+use Rattle.pkcs1_params.specs.Parameters.{RsaPssParams, RsaOaepParams}
 use Rattle.der_core.specs.Document.{Means}
 use Rattle.der_core.specs.Encodings.{IsDelimited}
-use Rattle.statement.specs.Statement.{IsShortest, SameByShortest, PublicKeyEncoding, PrivateKeyEncoding, PssEncoding, OaepEncoding, ContainerEncoding}
+use Rattle.statement.specs.Statement.{IsShortest, SameByShortest, PublicKeyEncoding, PrivateKeyEncoding, PssEncoding, OaepEncoding, id_rsassa_pss, PssAlgorithmEncoding, id_rsaes_oaep, OaepAlgorithmEncoding, ContainerEncoding}
 use Rattle.statement.proofs.PublicKeys as keys
 use Rattle.statement.proofs.PrivateKeys as private
 use Rattle.statement.proofs.Containers as containers
@@ -14,6 +16,7 @@ use Rattle.pkcs8_core.specs.Laws.Container.{info_delimited}
 use Rattle.statement.proofs.Fields as fields
 use Rattle.statement.proofs.Pss as pss
 use Rattle.statement.proofs.Oaep as oaep
+use Rattle.statement.proofs.Identified as algorithms
 
 module _ {V : Type 0} (Encoding : V → List ℕ → Type 0) where
   one_shortest : (v : V) (s t : List ℕ) → IsShortest Encoding v s → IsShortest Encoding v t → s ≡ t
@@ -44,6 +47,14 @@ same_pss = same PssEncoding pss_delimited pss.from pss.to pss.sides.back (fields
 
 pub same_oaep : SameByShortest OaepEncoding
 same_oaep = same OaepEncoding oaep_delimited oaep.from oaep.to oaep.sides.back (fields.means oaep.sides)
+
+pub same_pss_algorithm : SameByShortest PssAlgorithmEncoding
+same_pss_algorithm =
+    same PssAlgorithmEncoding (algorithm_of_delimited RsaPssParams id_rsassa_pss pss_delimited) pss.from pss.to pss.sides.back (algorithms.means id_rsassa_pss algorithms.pss_identifier pss.sides)
+
+pub same_oaep_algorithm : SameByShortest OaepAlgorithmEncoding
+same_oaep_algorithm =
+    same OaepAlgorithmEncoding (algorithm_of_delimited RsaOaepParams id_rsaes_oaep oaep_delimited) oaep.from oaep.to oaep.sides.back (algorithms.means id_rsaes_oaep algorithms.oaep_identifier oaep.sides)
 
 pub same_container : SameByShortest ContainerEncoding
 same_container = same ContainerEncoding info_delimited containers.from containers.to containers.back containers.means

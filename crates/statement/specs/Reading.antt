@@ -19,7 +19,7 @@ use Rattle.pkcs1_params.specs.declared.error.Error.TheVariants as error
 use Rattle.pkcs1_params.specs.ParameterFaults.{tag_0, tag_1, tag_2, tag_3}
 use Rattle.statement.specs.Statement.{limit, PublicKey, PrivateKey, OtherPrime, version, TagAndContents, Algorithm}
 use Rattle.statement.specs.Statement.{Container, rsa_encryption, sha1, mgf1_sha1, empty_label}
-use Rattle.statement.specs.Statement.{PssParameters, OaepParameters}
+use Rattle.statement.specs.Statement.{PssParameters, OaepParameters, id_rsassa_pss, id_rsaes_oaep}
 
 abbrev pub Reading : Type 0 → Type 0
 Reading V = List ℕ → Result (V × List ℕ) ErrorKind
@@ -223,6 +223,23 @@ oaep_in =
 
 abbrev pub oaep : Reading OaepParameters
 oaep = whole (tagged tags.sequence oaep_in)
+
+-- In an AlgorithmIdentifier: the algorithm is this one, and its parameters are a SEQUENCE of these contents.
+abbrev pub sequence_only : {V : Type 0} → Reading V → Option TagAndContents → Result (V × List ℕ) ErrorKind
+sequence_only contents None = Err kind.ParametersMissing
+sequence_only contents (Some v) =
+    if v.tag == tags.sequence.octet then contents v.contents else unexpected tags.sequence v.tag
+
+abbrev pub with_identifier : {V : Type 0} → List ℕ → Reading V → Reading V
+with_identifier oid contents bytes =
+    whole (algorithm any) bytes
+    >>= λ p. if bytes_eq p.0.oid oid then sequence_only contents p.0.parameters else Err kind.OidUnknown
+
+abbrev pub pss_algorithm : Reading PssParameters
+pss_algorithm = with_identifier id_rsassa_pss pss_in
+
+abbrev pub oaep_algorithm : Reading OaepParameters
+oaep_algorithm = with_identifier id_rsaes_oaep oaep_in
 
 -- == What a call returned ==
 -- What the function gives. An error of this library holds one of `der_core`.

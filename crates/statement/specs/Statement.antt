@@ -168,6 +168,12 @@ algorithm parameters a = sequence (tlv 6 a.oid ++ optional parameters a.paramete
 abbrev pub IsAlgorithm : {P : Type 0} → (P → Type 0) → Algorithm P → Type 0
 IsAlgorithm Is a = IsIdentifier a.oid × IfPresent Is a.parameters
 
+-- The algorithm with this identifier, whose parameters encode the value, and aren't absent.
+abbrev pub AlgorithmEncoding : {V : Type 0} → List ℕ → (V → List ℕ → Type 0) → V → List ℕ → Type 0
+AlgorithmEncoding oid Encoding v bytes =
+    (length bytes ≤ limit) × (parameters : List ℕ) × Encoding v parameters
+    × (bytes ≡ sequence (tlv 6 oid ++ parameters))
+
 -- NULL (X.690 8.8)
 abbrev pub null : TagAndContents
 null = record { tag = 5; contents = [] }
@@ -246,14 +252,15 @@ abbrev pub SequenceOf : {V : Type 0} → (V → Type 0) → (V → List Field) �
 SequenceOf Is fields Written v bytes =
     Is v × (length bytes ≤ limit) × (contents : List ℕ) × Written (fields v) contents × (bytes ≡ sequence contents)
 
--- All encodings of a value k of whose fields have their defaults: two to the k different ones, each at its mask.
-pub record AreAll {V : Type 0} (Is : V → Type 0) (fields : V → List Field) (v : V) (k : ℕ) (all : List (List ℕ))
-    : Type 0 where
+-- All encodings of a value k of whose fields have their defaults: two to the k different ones, each at its mask. `In`
+-- says what the SEQUENCE stands in.
+pub record AreAll {V : Type 0} (In : (V → List ℕ → Type 0) → V → List ℕ → Type 0) (Is : V → Type 0)
+    (fields : V → List Field) (v : V) (k : ℕ) (all : List (List ℕ)) : Type 0 where
   pub count : length all ≡ 2 ^ k
-  pub under : (i : ℕ) → i < 2 ^ k → SequenceOf Is fields (FieldsUnder i) v (slice_index_or all i [])
+  pub under : (i : ℕ) → i < 2 ^ k → In (SequenceOf Is fields (FieldsUnder i)) v (slice_index_or all i [])
   pub different : (i j : ℕ) → i < 2 ^ k → j < 2 ^ k → slice_index_or all i [] ≡ slice_index_or all j [] → i ≡ j
   pub every : (bytes : List ℕ)
-      → SequenceOf Is fields Fields v bytes ↔ ((i : ℕ) × (i < 2 ^ k) × (slice_index_or all i [] ≡ bytes))
+      → In (SequenceOf Is fields Fields) v bytes ↔ ((i : ℕ) × (i < 2 ^ k) × (slice_index_or all i [] ≡ bytes))
 
 -- The longest encoding: every field is written.
 abbrev pub longest : List Field → List ℕ
@@ -261,14 +268,20 @@ longest fields = sequence (concat (map (λ f. f.written) fields))
 
 -- Listing gave a list: it is of all encodings. It gave none: the longest isn't within the limit.
 abbrev pub Lists : {V : Type 0} → (V → Type 0) → (V → List Field) → V → Option (List (List ℕ)) → Type 0
-Lists Is fields v (Some all) = (k : ℕ) × Defaults (fields v) k × AreAll Is fields v k all
+Lists Is fields v (Some all) = (k : ℕ) × Defaults (fields v) k × AreAll (λ Encoding. Encoding) Is fields v k all
 Lists Is fields v None = Is v → limit < length (longest (fields v))
 
 -- Values k of whose fields have their defaults have exactly two to the k encodings, if the longest is within the limit.
 abbrev pub TwoToTheDefaults : {V : Type 0} → (V → Type 0) → (V → List Field) → Type 0
 TwoToTheDefaults {V} Is fields =
     (v : V) (k : ℕ) → Is v → Defaults (fields v) k → length (longest (fields v)) ≤ limit
-    → (all : List (List ℕ)) × AreAll Is fields v k all
+    → (all : List (List ℕ)) × AreAll (λ Encoding. Encoding) Is fields v k all
+
+-- So has the algorithm with these parameters.
+abbrev pub TwoToTheDefaultsIn : {V : Type 0} → List ℕ → (V → Type 0) → (V → List Field) → Type 0
+TwoToTheDefaultsIn {V} oid Is fields =
+    (v : V) (k : ℕ) → Is v → Defaults (fields v) k → length (sequence (tlv 6 oid ++ longest (fields v))) ≤ limit
+    → (all : List (List ℕ)) × AreAll (AlgorithmEncoding oid) Is fields v k all
 
 -- == RSASSA-PSS-params (RFC 8017 A.2.3) ==
 pub record PssParameters : Type 0 where
@@ -292,6 +305,13 @@ pss_fields p =
 abbrev pub PssEncoding : PssParameters → List ℕ → Type 0
 PssEncoding = SequenceOf IsPss pss_fields Fields
 
+abbrev pub id_rsassa_pss : List ℕ
+id_rsassa_pss = 0x2a ∷ 0x86 ∷ 0x48 ∷ 0x86 ∷ 0xf7 ∷ 0x0d ∷ 0x01 ∷ 0x01 ∷ 0x0a ∷ []
+
+-- { id-RSASSA-PSS, RSASSA-PSS-params } (1.2.840.113549.1.1.10)
+abbrev pub PssAlgorithmEncoding : PssParameters → List ℕ → Type 0
+PssAlgorithmEncoding = AlgorithmEncoding id_rsassa_pss PssEncoding
+
 -- == RSAES-OAEP-params (RFC 8017 A.2.1) ==
 pub record OaepParameters : Type 0 where
   pub hash : Algorithm TagAndContents
@@ -309,3 +329,10 @@ oaep_fields p =
 
 abbrev pub OaepEncoding : OaepParameters → List ℕ → Type 0
 OaepEncoding = SequenceOf IsOaep oaep_fields Fields
+
+abbrev pub id_rsaes_oaep : List ℕ
+id_rsaes_oaep = 0x2a ∷ 0x86 ∷ 0x48 ∷ 0x86 ∷ 0xf7 ∷ 0x0d ∷ 0x01 ∷ 0x01 ∷ 0x07 ∷ []
+
+-- { id-RSAES-OAEP, RSAES-OAEP-params } (1.2.840.113549.1.1.7)
+abbrev pub OaepAlgorithmEncoding : OaepParameters → List ℕ → Type 0
+OaepAlgorithmEncoding = AlgorithmEncoding id_rsaes_oaep OaepEncoding

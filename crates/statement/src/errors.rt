@@ -2,9 +2,11 @@
 ghost use Rattle.statement.specs.Held.{uint_ref, any_ref, rsa_public_key, rsa_private_key_view};
 ghost use Rattle.statement.specs.Held.{rsa_pss_params, rsa_oaep_params, private_key_info_ref};
 ghost use Rattle.statement.specs.Reading.{Returns, ReturnsDer, public_key, private_key, container, contained_key};
-ghost use Rattle.statement.specs.Reading.{pss, oaep};
+ghost use Rattle.statement.specs.Reading.{pss, oaep, pss_algorithm, oaep_algorithm};
 
-use pkcs1::{Result, RsaOaepParamsRef, RsaPrivateKeyView, RsaPssParamsRef, RsaPublicKeyRef};
+use pkcs1::{
+    FromAlgorithm, Result, RsaOaepParamsRef, RsaPrivateKeyView, RsaPssParamsRef, RsaPublicKeyRef,
+};
 use pkcs8_core::{PrivateKeyInfoRef, rsa_from_pkcs8_der};
 
 /// Reads a public key.
@@ -33,6 +35,20 @@ pub fn read_oaep_params_or_fault<'a>(bytes: &'a [u8]) -> Result<RsaOaepParamsRef
     ensures { Returns (rsa_oaep_params any_ref) (oaep bytes.now) result }
 {
     RsaOaepParamsRef::try_from(bytes)
+}
+
+/// Reads an algorithm identifier with PSS parameters.
+pub fn read_pss_algorithm_or_fault<'a>(bytes: &'a [u8]) -> Result<RsaPssParamsRef<'a>>
+    ensures { Returns (rsa_pss_params any_ref) (pss_algorithm bytes.now) result }
+{
+    RsaPssParamsRef::from_algorithm_der(bytes)
+}
+
+/// Reads an algorithm identifier with OAEP parameters.
+pub fn read_oaep_algorithm_or_fault<'a>(bytes: &'a [u8]) -> Result<RsaOaepParamsRef<'a>>
+    ensures { Returns (rsa_oaep_params any_ref) (oaep_algorithm bytes.now) result }
+{
+    RsaOaepParamsRef::from_algorithm_der(bytes)
 }
 
 /// Reads a container.

@@ -11,11 +11,18 @@ ghost use Rattle.statement.specs.Statement.{IsPss, pss_fields, IsOaep, oaep_fiel
 ghost use Rattle.statement.specs.Statement.{ContainerEncoding, ContainedKeyEncoding};
 
 mod errors;
+mod identifiers;
 mod memory;
 
 pub use errors::{
-    read_contained_key_or_fault, read_container_or_fault, read_oaep_params_or_fault,
-    read_private_key_or_fault, read_pss_params_or_fault, read_public_key_or_fault,
+    read_contained_key_or_fault, read_container_or_fault, read_oaep_algorithm_or_fault,
+    read_oaep_params_or_fault, read_private_key_or_fault, read_pss_algorithm_or_fault,
+    read_pss_params_or_fault, read_public_key_or_fault,
+};
+pub use identifiers::{
+    lemma_algorithm_count, lemma_algorithms_same_by_shortest, read_oaep_algorithm,
+    read_oaep_algorithm_strictly, read_pss_algorithm, read_pss_algorithm_strictly,
+    write_oaep_algorithm, write_pss_algorithm,
 };
 pub use memory::{
     OrOutOfMemory, list_oaep_params, list_pss_params, read_owned_oaep_params,
