@@ -30,8 +30,8 @@ pub fn read_pss_algorithm_strictly<'a>(bytes: &'a [u8]) -> Option<RsaPssParamsRe
     }
 }
 
-/// Writes the algorithm identifier with PSS parameters as the shortest encoding, if there is one that is no longer than
-/// the slice.
+/// Writes the algorithm identifier with PSS parameters as the shortest encoding, if there is one that is no longer
+/// than the slice.
 pub fn write_pss_algorithm(params: &RsaPssParamsRef<'_>, out: &mut [u8]) -> Option<usize>
     ensures { Encodes PssAlgorithmEncoding (rsa_pss_params any_ref params.now) out.old out.new result }
 {
@@ -62,8 +62,8 @@ pub fn read_oaep_algorithm_strictly<'a>(bytes: &'a [u8]) -> Option<RsaOaepParams
     }
 }
 
-/// Writes the algorithm identifier with OAEP parameters as the shortest encoding, if there is one that is no longer than
-/// the slice.
+/// Writes the algorithm identifier with OAEP parameters as the shortest encoding, if there is one that is no longer
+/// than the slice.
 pub fn write_oaep_algorithm(params: &RsaOaepParamsRef<'_>, out: &mut [u8]) -> Option<usize>
     ensures { Encodes OaepAlgorithmEncoding (rsa_oaep_params any_ref params.now) out.old out.new result }
 {
@@ -73,8 +73,8 @@ pub fn write_oaep_algorithm(params: &RsaOaepParamsRef<'_>, out: &mut [u8]) -> Op
     }
 }
 
-/// Algorithm identifiers with parameters k of whose fields equal their defaults have exactly two to the k encodings, one
-/// for each choice of the defaults that are written, if the longest is within the limit.
+/// Algorithm identifiers with parameters k of whose fields equal their defaults have exactly two to the k encodings,
+/// one for each choice of the defaults that are written, if the longest is within the limit.
 pub fn lemma_algorithm_count()
     ensures pss { TwoToTheDefaultsIn id_rsassa_pss IsPss pss_fields }
     ensures oaep { TwoToTheDefaultsIn id_rsaes_oaep IsOaep oaep_fields }
