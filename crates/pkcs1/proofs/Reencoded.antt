@@ -6,6 +6,7 @@ use Rattle.der_core.specs.declared.error.ErrorKind.{ErrorKind}
 use Rattle.der_core.specs.Faults.{Faulty}
 use Rattle.der_core.specs.Writing.{encode_error}
 use Rattle.pkcs1_params.specs.Errors.{IsAsn1}
+use Rattle.pkcs1_params.specs.Meanings.{ErrsOrAsks}
 use Rattle.pkcs1_params.specs.declared.error.Error.{Error}
 use Rattle.pkcs1_params.specs.declared.error.Error.TheVariants as error
 use Rattle.pkcs1.specs.KeyEncodings.{IsOnlyEncoding, IsSentence, IsReadingError, IsDocumentError}
@@ -46,11 +47,11 @@ module _ {V : Type 0} (Grammar : V → List ℕ → Type 0) (v : V) (encoding : 
   is_memory_error asked (Err error.KeyMalformed) h = h
   is_memory_error asked (Err error.Version) h = h
 
-  pub memory_wanted : {X : Type 0} (asked : Type 0) (Fault : ErrorKind → Type 0) (result : Result X Error)
-      → IfErr result (IsDocumentError Grammar v) → IfErr result (IsAsn1 (λ e. Faulty e.kind (asked ⊎ IsSentence Grammar encoding) (Fault e.kind)))
-  memory_wanted asked Fault (Ok document) h = tt
-  memory_wanted asked Fault (Err (error.Asn1 e)) (inl w) = inl (w.0, inr (v, means))
-  memory_wanted asked Fault (Err (error.Asn1 e)) (inr w) = absurd (has_one _ (encode_error e.kind) w)
-  memory_wanted asked Fault (Err error.Crypto) h = h
-  memory_wanted asked Fault (Err error.KeyMalformed) h = h
-  memory_wanted asked Fault (Err error.Version) h = h
+  pub memory_wanted : {X : Type 0} (asked : Type 0) (Fault : ErrorKind → List ℕ → Type 0) → ((kind : ErrorKind) → Fault kind encoding → ⊥) → (result : Result X Error)
+      → IfErr result (IsDocumentError Grammar v) → ErrsOrAsks Fault encoding (asked ⊎ IsSentence Grammar encoding) result
+  memory_wanted asked Fault none (Ok document) h = none
+  memory_wanted asked Fault none (Err (error.Asn1 e)) (inl w) = inl (w.0, inr (v, means))
+  memory_wanted asked Fault none (Err (error.Asn1 e)) (inr w) = absurd (has_one _ (encode_error e.kind) w)
+  memory_wanted asked Fault none (Err error.Crypto) h = h
+  memory_wanted asked Fault none (Err error.KeyMalformed) h = h
+  memory_wanted asked Fault none (Err error.Version) h = h

@@ -125,26 +125,18 @@ impl<U: TryClone> TryClone for RsaPublicKey<U> {
 }
 
 impl<'a> TryFrom<&'a [u8]> for RsaPublicKey<UintRef<'a>> {
-    ghost use Rattle.std.specs.Prelude.{◌≡◌, IfOk, IfErr, OnErr, IsErrAnd};
-    ghost use Rattle.der_core.specs.declared.error.ErrorKind as der;
-    ghost use Rattle.der_core.specs.Reading.{TellsOfBytes};
+    ghost use Rattle.std.specs.Prelude.{IfOk, OnErr};
     ghost use Rattle.pkcs1.specs.KeyFaults.{RsaPublicKeyFault};
-    ghost use Rattle.der_core.specs.Document.{Means};
-    ghost use Rattle.pkcs1_params.specs.Meanings.{IsNoSentence, IsOnlyMeaning};
+    ghost use Rattle.pkcs1_params.specs.Meanings.{ErrsExactly, IsNoSentence, IsTheMeaning};
     ghost use Rattle.pkcs1.specs.Keys as grammar;
-    ghost use Rattle.pkcs1_params.specs.Errors.{IsAsn1};
 
     type Error = Error;
 
     /// Decodes a whole slice, and allocates nothing.
     fn try_from(bytes: &'a [u8]) -> Result<RsaPublicKey<UintRef<'a>>>
-        ensures ok { IfOk result (λ key. Means grammar.RsaPublicKey bytes.now (public_key_of key)) }
-        ensures one { IfOk result (λ key. IsOnlyMeaning grammar.RsaPublicKey bytes.now (public_key_of key)) }
+        ensures ok { IfOk result (λ key. IsTheMeaning grammar.RsaPublicKey bytes.now (public_key_of key)) }
         ensures err { OnErr result (IsNoSentence grammar.RsaPublicKey bytes.now) }
-        ensures asn1 { IfErr result (IsAsn1 (λ e. TellsOfBytes e.kind)) }
-        ensures exact { IfErr result (IsAsn1 (λ e. RsaPublicKeyFault e.kind bytes.now)) }
-        ensures only { (kind : der.ErrorKind)
-            → RsaPublicKeyFault kind bytes.now → IsErrAnd result (IsAsn1 (λ e. e.kind ≡ kind)) }
+        ensures exact { ErrsExactly RsaPublicKeyFault bytes.now result }
     {
         Ok(RsaPublicKey::from_der(NoMemory, bytes)?)
     }

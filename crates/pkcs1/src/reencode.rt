@@ -1,9 +1,7 @@
 //! Keys that are decoded and encoded again.
-ghost use Rattle.std.specs.Prelude.{◌≡◌, ◌⊎◌, IfOk, IfErr, IsErrAnd};
-ghost use Rattle.der_core.specs.Faults.{Faulty};
-ghost use Rattle.der_core.specs.declared.error.ErrorKind as der;
+ghost use Rattle.std.specs.Prelude.{◌≡◌, ◌⊎◌, IfOk, IfErr};
 ghost use Rattle.pkcs1.specs.KeyFaults.{RsaPublicKeyFault, RsaPrivateKeyFault};
-ghost use Rattle.pkcs1_params.specs.Errors.{IsAsn1};
+ghost use Rattle.pkcs1_params.specs.Meanings.{ErrsOrAsks};
 ghost use Rattle.der_core.specs.DocumentValue.{encoding_of};
 ghost use Rattle.pkcs1.specs.Allocating.{OwnedKeyAllocates, OwnedPublicKeyAllocates};
 ghost use Rattle.pkcs1.specs.Keys as grammar;
@@ -25,11 +23,8 @@ pub fn reencode_public_key(alloc: Global, bytes: &[u8]) -> Result<Document>
     ensures sentence { IfOk result (λ document. IsSentence grammar.RsaPublicKey bytes.now) }
     ensures err { IfErr result (IsReadingError grammar.RsaPublicKey bytes.now
         (OwnedPublicKeyAllocates bytes.now ⊎ IsSentence grammar.RsaPublicKey bytes.now)) }
-    ensures exact { let b = bytes.now in
-        let asked = OwnedPublicKeyAllocates b ⊎ IsSentence grammar.RsaPublicKey b in
-        IfErr result (IsAsn1 (λ e. Faulty e.kind asked (RsaPublicKeyFault e.kind b))) }
-    ensures only { let b = bytes.now in (kind : der.ErrorKind) → RsaPublicKeyFault kind b
-        → IsErrAnd result (IsAsn1 (λ e. Faulty e.kind (OwnedPublicKeyAllocates b) (e.kind ≡ kind))) }
+    ensures exact { let asked = OwnedPublicKeyAllocates bytes.now ⊎ IsSentence grammar.RsaPublicKey bytes.now in
+        ErrsOrAsks RsaPublicKeyFault bytes.now asked result }
 {
     RsaPublicKeyOwned::from_pkcs1_der(alloc, bytes)?.to_pkcs1_der(alloc)
 }
@@ -41,11 +36,8 @@ pub fn reencode_private_key(alloc: Global, bytes: &[u8]) -> Result<SecretDocumen
     ensures sentence { IfOk result (λ document. IsSentence grammar.RsaPrivateKey bytes.now) }
     ensures err { IfErr result (IsReadingError grammar.RsaPrivateKey bytes.now
         (OwnedKeyAllocates bytes.now ⊎ IsSentence grammar.RsaPrivateKey bytes.now)) }
-    ensures exact { let b = bytes.now in
-        let asked = OwnedKeyAllocates b ⊎ IsSentence grammar.RsaPrivateKey b in
-        IfErr result (IsAsn1 (λ e. Faulty e.kind asked (RsaPrivateKeyFault e.kind b))) }
-    ensures only { let b = bytes.now in (kind : der.ErrorKind) → RsaPrivateKeyFault kind b
-        → IsErrAnd result (IsAsn1 (λ e. Faulty e.kind (OwnedKeyAllocates b) (e.kind ≡ kind))) }
+    ensures exact { let asked = OwnedKeyAllocates bytes.now ⊎ IsSentence grammar.RsaPrivateKey bytes.now in
+        ErrsOrAsks RsaPrivateKeyFault bytes.now asked result }
 {
     RsaPrivateKeyOwned::from_pkcs1_der(alloc, bytes)?.to_pkcs1_der(alloc)
 }

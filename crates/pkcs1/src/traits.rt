@@ -5,7 +5,6 @@ ghost use Rattle.der_core.specs.Document.{IsDocument, Means};
 ghost use Rattle.der_core.specs.DocumentValue.{encoding_of};
 ghost use Rattle.der_core.specs.Faults.{Faulty};
 ghost use Rattle.der_core.specs.ErrorKinds.{IsFile};
-ghost use Rattle.der_core.specs.declared.error.ErrorKind as der;
 ghost use Rattle.der_core.specs.Tags.{sequence};
 ghost use Rattle.der_core.specs.UintRefValue.{bytes_of};
 ghost use Rattle.der_core.specs.UintValue.{own_bytes_of};
@@ -13,7 +12,7 @@ ghost use Rattle.pkcs1.specs.Allocating.{OwnedKeyAllocates, OwnedPublicKeyAlloca
 ghost use Rattle.pkcs1.specs.KeyFaults.{RsaPrivateKeyFault, RsaPublicKeyFault};
 ghost use Rattle.pkcs1.specs.Keys as grammar;
 ghost use Rattle.pkcs1.specs.KeyEncodings.{IsDocumentError, IsOnlyEncoding, IsReadingError};
-ghost use Rattle.pkcs1_params.specs.Meanings.{IsOnlyMeaning};
+ghost use Rattle.pkcs1_params.specs.Meanings.{ErrsOrAsks, IsTheFault, IsTheMeaning};
 ghost use Rattle.pkcs1.specs.PrivateKeyValue.{private_key_with, ListsNone};
 ghost use Rattle.pkcs1.specs.PublicKeyValue.{public_key_with};
 ghost use Rattle.pkcs1_params.specs.Errors.{IsAsn1};
@@ -137,17 +136,13 @@ impl DecodeRsaPrivateKey for RsaPrivateKey<Uint> {
     ghost stands_for = { λ key bytes. Means grammar.RsaPrivateKey bytes (private_key_with own_bytes_of key) };
 
     ghost rejected_by = { λ bytes e.
-        IsAsn1 (λ asn1. Faulty asn1.kind (OwnedKeyAllocates bytes) (RsaPrivateKeyFault asn1.kind bytes)) e };
+        IsAsn1 (λ asn1. Faulty asn1.kind (OwnedKeyAllocates bytes) (IsTheFault RsaPrivateKeyFault bytes asn1.kind)) e };
 
     fn from_pkcs1_der(alloc: Global, bytes: &[u8]) -> Result<RsaPrivateKey<Uint>>
-        ensures ok { IfOk result (λ key. Means grammar.RsaPrivateKey bytes.now (private_key_with own_bytes_of key)) }
-        ensures one { let is_only = IsOnlyMeaning grammar.RsaPrivateKey bytes.now in
-            IfOk result (λ key. is_only (private_key_with own_bytes_of key)) }
+        ensures ok { let is_meaning = IsTheMeaning grammar.RsaPrivateKey bytes.now in
+            IfOk result (λ key. is_meaning (private_key_with own_bytes_of key)) }
         ensures err { IfErr result (IsReadingError grammar.RsaPrivateKey bytes.now (OwnedKeyAllocates bytes.now)) }
-        ensures exact { let b = bytes.now in
-            IfErr result (IsAsn1 (λ e. Faulty e.kind (OwnedKeyAllocates b) (RsaPrivateKeyFault e.kind b))) }
-        ensures only { let b = bytes.now in (kind : der.ErrorKind) → RsaPrivateKeyFault kind b
-            → IsErrAnd result (IsAsn1 (λ e. Faulty e.kind (OwnedKeyAllocates b) (e.kind ≡ kind))) }
+        ensures exact { ErrsOrAsks RsaPrivateKeyFault bytes.now (OwnedKeyAllocates bytes.now) result }
     {
         RsaPrivateKey::<Uint>::decode_owned_key(alloc, bytes)
     }
@@ -156,18 +151,14 @@ impl DecodeRsaPrivateKey for RsaPrivateKey<Uint> {
 impl DecodeRsaPublicKey for RsaPublicKey<Uint> {
     ghost stands_for = { λ key bytes. Means grammar.RsaPublicKey bytes (public_key_with own_bytes_of key) };
 
-    ghost rejected_by = { λ bytes e.
-        IsAsn1 (λ asn1. Faulty asn1.kind (OwnedPublicKeyAllocates bytes) (RsaPublicKeyFault asn1.kind bytes)) e };
+    ghost rejected_by = { λ bytes e. IsAsn1
+        (λ asn1. Faulty asn1.kind (OwnedPublicKeyAllocates bytes) (IsTheFault RsaPublicKeyFault bytes asn1.kind)) e };
 
     fn from_pkcs1_der(alloc: Global, bytes: &[u8]) -> Result<RsaPublicKey<Uint>>
-        ensures ok { IfOk result (λ key. Means grammar.RsaPublicKey bytes.now (public_key_with own_bytes_of key)) }
-        ensures one { let is_only = IsOnlyMeaning grammar.RsaPublicKey bytes.now in
-            IfOk result (λ key. is_only (public_key_with own_bytes_of key)) }
+        ensures ok { let is_meaning = IsTheMeaning grammar.RsaPublicKey bytes.now in
+            IfOk result (λ key. is_meaning (public_key_with own_bytes_of key)) }
         ensures err { IfErr result (IsReadingError grammar.RsaPublicKey bytes.now (OwnedPublicKeyAllocates bytes.now)) }
-        ensures exact { let b = bytes.now in
-            IfErr result (IsAsn1 (λ e. Faulty e.kind (OwnedPublicKeyAllocates b) (RsaPublicKeyFault e.kind b))) }
-        ensures only { let b = bytes.now in (kind : der.ErrorKind) → RsaPublicKeyFault kind b
-            → IsErrAnd result (IsAsn1 (λ e. Faulty e.kind (OwnedPublicKeyAllocates b) (e.kind ≡ kind))) }
+        ensures exact { ErrsOrAsks RsaPublicKeyFault bytes.now (OwnedPublicKeyAllocates bytes.now) result }
     {
         Ok(RsaPublicKey::from_der(alloc, bytes)?)
     }

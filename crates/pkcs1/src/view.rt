@@ -1,11 +1,10 @@
 //! RSA private keys over the input, without a list of their other primes.
-ghost use Rattle.std.specs.Prelude.{◌≡◌, ℕ, List, IsTrue, IsSome, IfOk, IfErr, IsErrAnd, OnErr, ◌↔◌, refl};
+ghost use Rattle.std.specs.Prelude.{◌≡◌, ℕ, List, IsTrue, IsSome, IfOk, OnErr, ◌↔◌, refl};
 ghost use Rattle.std.specs.Option.{option_map};
 ghost use Rattle.der_core.specs.Tag.{integer_tag};
 ghost use Rattle.der_core.specs.Integer.{Integer, IntegerContents, IsCanonical, integer_contents};
 ghost use Rattle.der_core.specs.Laws.Integer.{integer_delimited};
-ghost use Rattle.der_core.specs.declared.error.ErrorKind as der;
-ghost use Rattle.der_core.specs.Reading.{ReadsOrFaults, TellsOfBytes};
+ghost use Rattle.der_core.specs.Reading.{ReadsOrFaults};
 ghost use Rattle.pkcs1.specs.KeyFaults.{OthersFault, NumberFault, PrivateKeyFault, RsaPrivateKeyFault};
 ghost use Rattle.der_core.specs.Tlv.{tlv};
 ghost use Rattle.pkcs1.specs.Keys as grammar;
@@ -17,9 +16,7 @@ ghost use Rattle.pkcs1.specs.PrivateKeyValue.{key_with};
 ghost use Rattle.pkcs1.specs.Versions.{number_of};
 ghost use Rattle.pkcs1.specs.PublicKeyValue.{public_key_of};
 ghost use Rattle.pkcs1.specs.ViewParts.{view_of, viewed_encoding, listed_others};
-ghost use Rattle.pkcs1_params.specs.Meanings.{IsNoSentence, IsOnlyMeaning};
-ghost use Rattle.pkcs1_params.specs.Errors.{IsAsn1};
-ghost use Rattle.der_core.specs.Document.{Means};
+ghost use Rattle.pkcs1_params.specs.Meanings.{ErrsExactly, IsNoSentence, IsTheMeaning};
 ghost use Rattle.der_core.specs.UintRefValue.{bytes_of};
 ghost use Rattle.pkcs1.specs.Writing.{HasPrivateKey, written_private_key};
 
@@ -213,14 +210,10 @@ impl<'a> TryFrom<&'a [u8]> for RsaPrivateKeyView<'a> {
     /// Decodes a whole slice, and allocates nothing, however many primes there are. The errors are those of
     /// `RsaPrivateKeyRef::from_der`, except `OutOfMemory`, in `Error::Asn1`.
     fn try_from(bytes: &'a [u8]) -> crate::Result<RsaPrivateKeyView<'a>>
-        ensures ok { IfOk result (λ view. Means grammar.RsaPrivateKey bytes.now (view_of view)) }
-        ensures one { IfOk result (λ view. IsOnlyMeaning grammar.RsaPrivateKey bytes.now (view_of view)) }
+        ensures ok { IfOk result (λ view. IsTheMeaning grammar.RsaPrivateKey bytes.now (view_of view)) }
         ensures bytes { IfOk result (λ view. viewed_encoding view ≡ bytes.now) }
         ensures err { OnErr result (IsNoSentence grammar.RsaPrivateKey bytes.now) }
-        ensures asn1 { IfErr result (IsAsn1 (λ e. TellsOfBytes e.kind)) }
-        ensures exact { IfErr result (IsAsn1 (λ e. RsaPrivateKeyFault e.kind bytes.now)) }
-        ensures only { (kind : der.ErrorKind)
-            → RsaPrivateKeyFault kind bytes.now → IsErrAnd result (IsAsn1 (λ e. e.kind ≡ kind)) }
+        ensures exact { ErrsExactly RsaPrivateKeyFault bytes.now result }
     {
         let key = ViewedKey::from_der(NoMemory, bytes)?;
         Ok(RsaPrivateKeyView { bytes, key })

@@ -1,6 +1,6 @@
 -- Why a container isn't written: one status at most.
 use Rattle.std.proofs.Common.{ℕ, List, ap, sym, ◌∙◌}
-use Rattle.pkcs1.specs.Laws.KeyFaults.{private_key_whole_none, private_key_whole_first}
+use Rattle.pkcs1.specs.Laws.KeyFaults.{private_key_told}
 use Rattle.pkcs1.specs.Keys.{PrivateKey}
 use Rattle.pkcs8_core.specs.Container as container
 use Rattle.pkcs1_c.specs.declared.container.PrivateKeyInfo.{PrivateKeyInfo}
@@ -14,10 +14,10 @@ module _ (info : PrivateKeyInfo) where
   HoldsSome = (key : PrivateKey (List ℕ)) × HoldsKey info key
 
   fault_one : IsOne (IsNumberOfFault (KeyFault info))
-  fault_one s t (j, p, a) (k, q, b) = a ∙ ap kind_number (private_key_whole_first j k info.private_key.now p q) ∙ sym b
+  fault_one s t (j, p, a) (k, q, b) = a ∙ ap kind_number (private_key_told.first j k info.private_key.now p q) ∙ sym b
 
   pub fault_none : Excludes (IsNumberOfFault (KeyFault info)) HoldsSome
-  fault_none s (k, p, a) (key, holds) = private_key_whole_none k info.private_key.now p key holds
+  fault_none s (k, p, a) (key, holds) = private_key_told.none k info.private_key.now p key holds
 
   module _ (room : ℕ) where
     abbrev Behind : ℕ → Type 0

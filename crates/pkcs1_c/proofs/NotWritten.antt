@@ -1,5 +1,5 @@
 -- What the code of an error says.
-use Rattle.std.proofs.Common.{ℕ, List, ◌≡◌, ◌<◌, ◌⊎◌, ◌∙◌, ap, arith, refl, inl, inr}
+use Rattle.std.proofs.Common.{ℕ, List, ◌≡◌, ◌<◌, ◌⊎◌, ◌∙◌, ap, arith, refl, sym, inl, inr}
 use Rattle.der_core.specs.Reading.{TellsOfBytes}
 use Rattle.der_core.specs.Document.{HasEncoding, WhyNotWritten}
 use Rattle.der_core.specs.Writing.{encode_error}
@@ -11,8 +11,8 @@ use Rattle.pkcs1_params.specs.Errors.{IsAsn1}
 use Rattle.pkcs1_params.specs.declared.error.Error.{Error}
 use Rattle.pkcs1_params.specs.declared.error.Error.TheVariants as error
 use Rattle.der_core.specs.Document.{Means}
-use Rattle.pkcs1_params.specs.Meanings.{IsWritingError}
-use Rattle.pkcs1_c.specs.Status.{kind_number, status_of, IsNumberOfFault}
+use Rattle.pkcs1_params.specs.Meanings.{IsTheFault, IsWritingError}
+use Rattle.pkcs1_c.specs.Status.{kind_number, status_of, IsNumberOfFault, IsStatusOf}
 use Rattle.pkcs1_c.specs.StructErrors.{EncodingError}
 
 -- An error that names a default has the number 5.
@@ -60,6 +60,15 @@ status_only kind (error.Asn1 a) number is p = is ∙ ap kind_number p
 status_only kind error.Crypto number is p = absurd p
 status_only kind error.KeyMalformed number is p = absurd p
 status_only kind error.Version number is p = absurd p
+
+pub status_exact : {Read : Type 0} (Fault : ErrorKind → Read → Type 0) (read : Read) (e : Error) (number : ℕ) → number ≡ status_of e → IsAsn1 (λ a. IsTheFault Fault read a.kind) e → IsStatusOf Fault read number
+status_exact Fault read (error.Asn1 a) number is p = (omega (arith, is, tells_below a.kind p.0), λ _. (a.kind, p.1, is), λ kind fault. is ∙ ap kind_number (sym (p.2 kind fault)))
+status_exact Fault read error.Crypto number is p = absurd p
+status_exact Fault read error.KeyMalformed number is p = absurd p
+status_exact Fault read error.Version number is p = absurd p
+
+pub status_ok : {Read : Type 0} (Fault : ErrorKind → Read → Type 0) (read : Read) → ((kind : ErrorKind) → Fault kind read → ⊥) → IsStatusOf Fault read 0
+status_ok Fault read none = (omega arith, λ no. absurd (no refl), λ kind fault. absurd (none kind fault))
 
 -- What strict reading rejects: a fault, or a default that is written.
 pub status_strict : {V : Type 0} (Grammar : V → List ℕ → Type 0) (fields : V → List Field) (Fault : ErrorKind → Type 0) (encoding : List ℕ) (e : Error) (number : ℕ) → number ≡ status_of e

@@ -5,7 +5,6 @@ use Rattle.der_core.specs.Document.{Means}
 use Rattle.pkcs1.specs.KeyFaults.{RsaPrivateKeyFault}
 use Rattle.pkcs1.specs.Keys.{PrivateKey, RsaPrivateKey}
 use Rattle.pkcs8_core.specs.Container.{Info}
-use Rattle.pkcs8_core.specs.ContainerFaults.{RsaPrivateKeyInfoFault}
 use Rattle.pkcs8_core.specs.Rsa.{rsa_encryption}
 use Rattle.pkcs1_c.specs.declared.container.PrivateKeyInfo.{PrivateKeyInfo}
 
@@ -28,7 +27,3 @@ HoldsKey info key = Means RsaPrivateKey info.private_key.now key
 -- The first fault of octets that don't encode a private key.
 abbrev pub KeyFault : PrivateKeyInfo → ErrorKind → Type 0
 KeyFault info kind = RsaPrivateKeyFault kind info.private_key.now
-
--- The first fault of bytes, as a container with an RSA key.
-abbrev pub RsaContainerFault : List ℕ → ErrorKind → Type 0
-RsaContainerFault encoding kind = RsaPrivateKeyInfoFault kind encoding

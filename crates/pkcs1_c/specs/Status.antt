@@ -1,5 +1,5 @@
 -- The number of each error, and the string that describes it.
-use Rattle.std.specs.Prelude.{ℕ, List, [], ◌∷◌, ◌≡◌, codes, get_or}
+use Rattle.std.specs.Prelude.{ℕ, List, [], ◌∷◌, ◌≡◌, ◌≢◌, ◌<◌, codes, get_or}
 use Rattle.der_core.specs.declared.error.ErrorKind.{ErrorKind}
 use Rattle.der_core.specs.declared.error.ErrorKind.TheVariants as kind
 use Rattle.pkcs1_params.specs.declared.error.Error.{Error}
@@ -33,6 +33,11 @@ status_of error.Version = 20
 -- The number is that of a kind of which `Fault` holds.
 abbrev pub IsNumberOfFault : (ErrorKind → Type 0) → ℕ → Type 0
 IsNumberOfFault Fault number = (kind : ErrorKind) × Fault kind × (number ≡ kind_number kind)
+
+-- The number is 0, and what is read has no fault; or it is that of the only fault, below the number of lack of room.
+abbrev pub IsStatusOf : {Read : Type 0} → (ErrorKind → Read → Type 0) → Read → ℕ → Type 0
+IsStatusOf Fault read number =
+    (number < 15) × (number ≢ 0 → IsNumberOfFault (λ kind. Fault kind read) number) × ((kind : ErrorKind) → Fault kind read → number ≡ kind_number kind)
 
 -- The strings, by number.
 abbrev pub status_texts : List (List ℕ)

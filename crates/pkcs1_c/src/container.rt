@@ -1,18 +1,18 @@
 //! RSA keys in PKCS #8 containers.
-ghost use Rattle.std.specs.Prelude.{◌≡◌, ◌≢◌, ◌<◌, ◌≤◌, ℕ, List, Option, length, take, drop, IfOk, IfErr, IsErrAnd};
+ghost use Rattle.std.specs.Prelude.{◌≡◌, ◌≢◌, ◌<◌, ◌≤◌, ℕ, List, Option, length, take, drop, IfOk, IfErr};
 ghost use Rattle.std.specs.Prelude.{OnErr};
 ghost use Rattle.der_core.specs.Document.{Means, IsShortest, HasEncoding};
 ghost use Rattle.pkcs1.specs.Keys.{OtherPrime as Prime, PrivateKey as Key};
 ghost use Rattle.pkcs1.specs.ViewParts.{view_of, viewed_encoding};
 ghost use Rattle.pkcs8_core.specs.Container as container;
+ghost use Rattle.pkcs1_params.specs.Meanings.{ErrsExactly, IsTheMeaning, IsTheOnly};
+ghost use Rattle.pkcs8_core.specs.ContainerFaults.{RsaPrivateKeyInfoFault};
 ghost use Rattle.pkcs8_core.specs.Held.{info_of};
 ghost use Rattle.pkcs8_core.specs.Rsa.{rsa_encryption, HoldsRsa};
-ghost use Rattle.der_core.specs.declared.error.ErrorKind as der;
-ghost use Rattle.pkcs1_params.specs.Errors.{IsAsn1};
-ghost use Rattle.pkcs1_c.specs.Containers.{info_seen, InfoIsTidy, HoldsKey, KeyFault, RsaContainerFault};
+ghost use Rattle.pkcs1_c.specs.Containers.{info_seen, InfoIsTidy, HoldsKey, KeyFault};
 ghost use Rattle.pkcs1_c.specs.NotWritten.{IsTooLong, HasNoRoom};
 ghost use Rattle.pkcs1_c.specs.StructValues.{private_key_seen, AreListed};
-ghost use Rattle.pkcs1_c.specs.Status.{kind_number, status_of, IsNumberOfFault};
+ghost use Rattle.pkcs1_c.specs.Status.{status_of, IsNumberOfFault, IsStatusOf};
 ghost use Rattle.pkcs1_c.specs.StructErrors.{InfoError};
 
 use crate::private_key::{OtherPrime, PrivateKey, to_c_key};
@@ -38,17 +38,11 @@ pub struct PrivateKeyInfo<'a> {
 fn read_container<'a>(
     encoding: &'a [u8],
 ) -> pkcs1::Result<(PrivateKeyInfoRef<'a>, RsaPrivateKeyView<'a>)>
-    ensures ok { IfOk result (λ read. Means container.PrivateKeyInfo encoding.now (info_of read.0)
-        × HoldsRsa (info_of read.0) (view_of read.1)) }
-    ensures one { IfOk result (λ read. (other : container.Info) → Means container.PrivateKeyInfo encoding.now other
-        → other ≡ info_of read.0) }
-    ensures key { IfOk result (λ read. (other : Key (List ℕ)) → HoldsRsa (info_of read.0) other
-        → other ≡ view_of read.1) }
+    ensures ok { IfOk result (λ read. IsTheMeaning container.PrivateKeyInfo encoding.now (info_of read.0)) }
+    ensures key { IfOk result (λ read. IsTheOnly (HoldsRsa (info_of read.0)) (view_of read.1)) }
     ensures err { OnErr result ((info : container.Info) (key : Key (List ℕ))
         → Means container.PrivateKeyInfo encoding.now info → HoldsRsa info key → ⊥) }
-    ensures exact { IfErr result (IsAsn1 (λ e. RsaContainerFault encoding.now e.kind)) }
-    ensures only { (kind : der.ErrorKind)
-        → RsaContainerFault encoding.now kind → IsErrAnd result (IsAsn1 (λ e. e.kind ≡ kind)) }
+    ensures exact { ErrsExactly RsaPrivateKeyInfoFault encoding.now result }
 {
     let info = PrivateKeyInfoRef::try_from(encoding)?;
     let view = info.rsa_view()?;
@@ -85,9 +79,7 @@ pub extern "C" fn pkcs1_c_private_key_info_decode<'a>(
     key: &mut PrivateKey<'a>,
     others: &mut [OtherPrime<'a>],
 ) -> u32
-    ensures ok { result ≡ OK → Means container.PrivateKeyInfo encoding.now (info_seen info.new) }
-    ensures one { result ≡ OK → (other : container.Info) → Means container.PrivateKeyInfo encoding.now other
-        → other ≡ info_seen info.new }
+    ensures ok { result ≡ OK → IsTheMeaning container.PrivateKeyInfo encoding.now (info_seen info.new) }
     ensures key { result ≡ OK → (infos : Option (List (Prime (List ℕ))))
         × AreListed key.new.other_primes others.new infos × HoldsKey info.new (private_key_seen key.new infos) }
     ensures rest { result ≡ OK → drop key.new.other_primes others.new ≡ drop key.new.other_primes others.old }
@@ -95,8 +87,7 @@ pub extern "C" fn pkcs1_c_private_key_info_decode<'a>(
         → other ≡ private_key_seen key.new other.other_prime_infos }
     ensures rejected { result ≢ OK → (other : container.Info) (held : Key (List ℕ))
         → Means container.PrivateKeyInfo encoding.now other → HoldsRsa other held → ⊥ }
-    ensures exact { result ≢ OK → IsNumberOfFault (RsaContainerFault encoding.now) result }
-    ensures only { (kind : der.ErrorKind) → RsaContainerFault encoding.now kind → result ≡ kind_number kind }
+    ensures exact { IsStatusOf RsaPrivateKeyInfoFault encoding.now result }
     ensures tidy { result ≡ OK → InfoIsTidy info.new }
     ensures unchanged { result ≢ OK → (info.new ≡ info.old) × (key.new ≡ key.old) × (others.new ≡ others.old) }
 {

@@ -7,9 +7,9 @@ ghost use Rattle.pkcs1.specs.Keys as grammar;
 ghost use Rattle.pkcs1.specs.OtherPrimesLeft.{others_left};
 ghost use Rattle.pkcs1.specs.PrivateKeyValue.{other_of, private_key_of, others_of};
 ghost use Rattle.pkcs1.specs.ViewParts.{view_of, listed_others};
-ghost use Rattle.der_core.specs.declared.error.ErrorKind as der;
 ghost use Rattle.pkcs1.specs.KeyFaults.{RsaPrivateKeyFault};
-ghost use Rattle.pkcs1_c.specs.Status.{kind_number, IsNumberOfFault, status_of};
+ghost use Rattle.pkcs1_c.specs.Status.{IsStatusOf, status_of};
+ghost use Rattle.pkcs1_params.specs.Meanings.{IsNoSentence};
 ghost use Rattle.pkcs1_c.specs.StructValues.{private_key_seen, other_prime_seen, ArePlaced, AreListed};
 ghost use Rattle.pkcs1.specs.KeyEncodings.{IsOnlyEncoding};
 ghost use Rattle.pkcs1_c.specs.Given.{IsGiven};
@@ -130,12 +130,8 @@ pub extern "C" fn pkcs1_c_private_key_decode<'a>(
     ensures one { result ≡ OK → (other : grammar.PrivateKey (List ℕ)) → Means grammar.RsaPrivateKey encoding.now other
         → other ≡ private_key_seen key.new other.other_prime_infos }
     ensures rest { result ≡ OK → drop key.new.other_primes others.new ≡ drop key.new.other_primes others.old }
-    ensures told { result < NO_ROOM }
-    ensures rejected { result ≢ OK → (other : grammar.PrivateKey (List ℕ))
-        → Means grammar.RsaPrivateKey encoding.now other
-        → ⊥ }
-    ensures exact { result ≢ OK → IsNumberOfFault (λ kind. RsaPrivateKeyFault kind encoding.now) result }
-    ensures only { (kind : der.ErrorKind) → RsaPrivateKeyFault kind encoding.now → result ≡ kind_number kind }
+    ensures rejected { result ≢ OK → IsNoSentence grammar.RsaPrivateKey encoding.now }
+    ensures exact { IsStatusOf RsaPrivateKeyFault encoding.now result }
     ensures unchanged { result ≢ OK → (key.new ≡ key.old) × (others.new ≡ others.old) }
 {
     match RsaPrivateKeyView::try_from(encoding) {

@@ -1,6 +1,5 @@
 //! Public keys.
 ghost use Rattle.std.specs.Prelude.{◌≡◌, ◌≢◌, ◌<◌, ◌≤◌, ℕ, List, length, take, drop, IfOk, IfErr};
-ghost use Rattle.der_core.specs.Document.{Means};
 ghost use Rattle.pkcs1.specs.Keys as grammar;
 ghost use Rattle.pkcs1.specs.KeyEncodings.{IsOnlyEncoding};
 ghost use Rattle.pkcs1.specs.PublicKeyValue.{public_key_of};
@@ -8,9 +7,9 @@ ghost use Rattle.pkcs1_c.specs.Numbers.{ArePublicNumbers};
 ghost use Rattle.pkcs1_c.specs.NotWritten.{IsTooLong, HasNoRoom};
 ghost use Rattle.pkcs1_c.specs.StructValues.{public_key_seen};
 ghost use Rattle.pkcs1_c.specs.StructErrors.{NumbersError, PublicKeyError, two_numbers};
-ghost use Rattle.der_core.specs.declared.error.ErrorKind as der;
 ghost use Rattle.pkcs1.specs.KeyFaults.{RsaPublicKeyFault};
-ghost use Rattle.pkcs1_c.specs.Status.{kind_number, status_of, IsNumberOfFault};
+ghost use Rattle.pkcs1_c.specs.Status.{status_of, IsStatusOf};
+ghost use Rattle.pkcs1_params.specs.Meanings.{IsNoSentence, IsTheMeaning};
 
 use crate::numbers::number;
 use crate::status::{NO_ROOM, OK, status};
@@ -30,14 +29,9 @@ pub struct PublicKey<'a> {
 /// Decodes a public key. Returns 0 and fills `key` with parts of `encoding`, or returns the status of the first fault.
 #[unsafe(no_mangle)]
 pub extern "C" fn pkcs1_c_public_key_decode<'a>(encoding: &'a [u8], key: &mut PublicKey<'a>) -> u32
-    ensures ok { result ≡ OK → Means grammar.RsaPublicKey encoding.now (public_key_seen key.new) }
-    ensures one { result ≡ OK → (other : grammar.PublicKey (List ℕ)) → Means grammar.RsaPublicKey encoding.now other
-        → other ≡ public_key_seen key.new }
-    ensures told { result < NO_ROOM }
-    ensures rejected { result ≢ OK
-        → (other : grammar.PublicKey (List ℕ)) → Means grammar.RsaPublicKey encoding.now other → ⊥ }
-    ensures exact { result ≢ OK → IsNumberOfFault (λ kind. RsaPublicKeyFault kind encoding.now) result }
-    ensures only { (kind : der.ErrorKind) → RsaPublicKeyFault kind encoding.now → result ≡ kind_number kind }
+    ensures ok { result ≡ OK → IsTheMeaning grammar.RsaPublicKey encoding.now (public_key_seen key.new) }
+    ensures rejected { result ≢ OK → IsNoSentence grammar.RsaPublicKey encoding.now }
+    ensures exact { IsStatusOf RsaPublicKeyFault encoding.now result }
     ensures unchanged { result ≢ OK → key.new ≡ key.old }
 {
     match RsaPublicKeyRef::try_from(encoding) {

@@ -1,7 +1,10 @@
 -- What an encoding means, only that, and why a value isn't written, as errors of this crate.
-use Rattle.std.specs.Prelude.{ℕ, List, ◌≡◌, Option, Some, None}
+use Rattle.std.specs.Prelude.{ℕ, List, ◌≡◌, Option, Some, None, Result, Ok, Err}
+use Rattle.der_core.specs.declared.error.Error as der
 use Rattle.der_core.specs.declared.error.ErrorKind.{ErrorKind}
 use Rattle.der_core.specs.Document.{Means, WhyNotWritten, HasEncoding}
+use Rattle.der_core.specs.Faults.{Faulty}
+use Rattle.der_core.specs.Reading.{TellsOfBytes}
 use Rattle.der_core.specs.Writing.{encode_error}
 use Rattle.pkcs1_params.specs.declared.error.Error.{Error}
 use Rattle.pkcs1_params.specs.Errors.{IsAsn1}
@@ -10,9 +13,36 @@ use Rattle.pkcs1_params.specs.Errors.{IsAsn1}
 abbrev pub IsOnlyMeaning : {V : Type 0} → (V → List ℕ → Type 0) → List ℕ → V → Type 0
 IsOnlyMeaning {V} Grammar encoding v = (other : V) → Means Grammar encoding other → other ≡ v
 
+-- It holds of this value and of no other.
+abbrev pub IsTheOnly : {V : Type 0} → (V → Type 0) → V → Type 0
+IsTheOnly {V} Holds v = Holds v × ((other : V) → Holds other → other ≡ v)
+
+-- The bytes mean this value and no other.
+abbrev pub IsTheMeaning : {V : Type 0} → (V → List ℕ → Type 0) → List ℕ → V → Type 0
+IsTheMeaning Grammar encoding = IsTheOnly (Means Grammar encoding)
+
 -- The bytes mean no value.
 abbrev pub IsNoSentence : {V : Type 0} → (V → List ℕ → Type 0) → List ℕ → Type 0
 IsNoSentence {V} Grammar encoding = (v : V) → Means Grammar encoding v → ⊥
+
+-- What is read has this fault and no other, and its error is about the bytes.
+abbrev pub IsTheFault : {Read : Type 0} → (ErrorKind → Read → Type 0) → Read → ErrorKind → Type 0
+IsTheFault Fault read kind = TellsOfBytes kind × Fault kind read × ((other : ErrorKind) → Fault other read → other ≡ kind)
+
+-- What is read has no fault; or the error is that of its only fault.
+abbrev pub FailsExactly : {Read X : Type 0} → (ErrorKind → Read → Type 0) → Read → Result X der.Error → Type 0
+FailsExactly Fault read (Ok x) = (kind : ErrorKind) → Fault kind read → ⊥
+FailsExactly Fault read (Err e) = IsTheFault Fault read e.kind
+
+-- The same of an error of this crate, which holds one of der_core.
+abbrev pub ErrsExactly : {Read X : Type 0} → (ErrorKind → Read → Type 0) → Read → Result X Error → Type 0
+ErrsExactly Fault read (Ok x) = (kind : ErrorKind) → Fault kind read → ⊥
+ErrsExactly Fault read (Err e) = IsAsn1 (λ asn1. IsTheFault Fault read asn1.kind) e
+
+-- The same of a call that may ask for memory, where the error may be that there is none.
+abbrev pub ErrsOrAsks : {Read X : Type 0} → (ErrorKind → Read → Type 0) → Read → Type 0 → Result X Error → Type 0
+ErrsOrAsks Fault read asked (Ok x) = (kind : ErrorKind) → Fault kind read → ⊥
+ErrsOrAsks Fault read asked (Err e) = IsAsn1 (λ asn1. Faulty asn1.kind asked (IsTheFault Fault read asn1.kind)) e
 
 -- The bytes are a sentence and have no fault; or they are no sentence and have exactly this fault.
 abbrev pub TellsFault : {V : Type 0} → (V → List ℕ → Type 0) → (ErrorKind → List ℕ → Type 0) → List ℕ → Option ErrorKind → Type 0

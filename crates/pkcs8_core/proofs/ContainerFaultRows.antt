@@ -37,13 +37,13 @@ no_attributes = inr ((λ e. cc), (omega arith, refl))
 absent : Info
 absent = record { algorithm = record { oid = id_rsa_encryption; parameters = None }; private_key = []; attributes = None }
 
-no_parameters : RsaFault absent ParametersMissing
+no_parameters : RsaFault ParametersMissing absent
 unfolding absent
 no_parameters = inl (missing refl refl refl)
 
 sha1_for_rsa : Info
 sha1_for_rsa = record { algorithm = record { oid = id_sha1; parameters = None }; private_key = []; attributes = None }
 
-another_algorithm : RsaFault sha1_for_rsa OidUnknown
+another_algorithm : RsaFault OidUnknown sha1_for_rsa
 unfolding sha1_for_rsa
 another_algorithm = inl (unknown refl (λ e. cc))

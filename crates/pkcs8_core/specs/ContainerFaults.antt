@@ -41,10 +41,10 @@ abbrev pub PrivateKeyInfoFault : ErrorKind → List ℕ → Type 0
 PrivateKeyInfoFault = WholeFault PrivateKeyInfo (EncodingFault sequence InfoFault)
 
 -- Why a container holds no RSA key: its algorithm is another, or its key has a fault.
-abbrev pub RsaFault : Info → ErrorKind → Type 0
-RsaFault info kind =
+abbrev pub RsaFault : ErrorKind → Info → Type 0
+RsaFault kind info =
     NotRsa info.algorithm kind ⊎ ((info.algorithm ≡ rsa_encryption) × RsaPrivateKeyFault kind info.private_key)
 
 -- The first fault of a whole slice, as a container of an RSA key: that of the container, or else why it holds no such key.
 abbrev pub RsaPrivateKeyInfoFault : ErrorKind → List ℕ → Type 0
-RsaPrivateKeyInfoFault kind encoding = PrivateKeyInfoFault kind encoding ⊎ ((info : Info) × Means PrivateKeyInfo encoding info × RsaFault info kind)
+RsaPrivateKeyInfoFault kind encoding = PrivateKeyInfoFault kind encoding ⊎ ((info : Info) × Means PrivateKeyInfo encoding info × RsaFault kind info)

@@ -1,5 +1,5 @@
 //! PKCS #8 containers of private keys.
-ghost use Rattle.std.specs.Prelude.{◌≡◌, ◌≤◌, ◌+◌, ℕ, List, length, take, drop, IfOk, IfErr, IsErrAnd, OnErr, refl};
+ghost use Rattle.std.specs.Prelude.{◌≡◌, ◌≤◌, ◌+◌, ℕ, List, length, take, drop, IfOk, IfErr, OnErr, refl};
 ghost use Rattle.std.specs.Option.{option_map};
 ghost use Rattle.der_core.specs.Document.{Means, IsAlone, HasEncoding};
 ghost use Rattle.der_core.specs.Faults.{EncodingFault, FaultyFront, FaultyWhole};
@@ -8,9 +8,9 @@ ghost use Rattle.pkcs8_core.specs.ContainerFaults.{VersionEncoding, VersionFault
 ghost use Rattle.der_core.specs.declared.error.ErrorKind as der;
 ghost use Rattle.der_core.specs.Optional.{Optional};
 ghost use Rattle.der_core.specs.Encodings.{AtMostOne};
-ghost use Rattle.der_core.specs.Reading.{ReadsContents, ReadsEncoding, TellsOfBytes};
+ghost use Rattle.der_core.specs.Reading.{ReadsContents, ReadsEncoding};
 ghost use Rattle.der_core.specs.Writing.{encode_error};
-ghost use Rattle.pkcs1_params.specs.Meanings.{IsNoSentence, IsOnlyMeaning};
+ghost use Rattle.pkcs1_params.specs.Meanings.{FailsExactly, IsNoSentence, IsTheMeaning};
 ghost use Rattle.pkcs8_core.specs.Container.{Info, AttributesEncoding, InfoContents, PrivateKeyInfo, HasInfo};
 ghost use Rattle.pkcs8_core.specs.Container.{written_info, WhyContainerNotWritten};
 ghost use Rattle.pkcs8_core.specs.Held.{info_of, attributes_of, slice_now};
@@ -205,13 +205,9 @@ impl<'a> TryFrom<&'a [u8]> for PrivateKeyInfoRef<'a> {
 
     /// Decodes a whole slice, and allocates nothing. Returns `Value` of INTEGER for a version other than 0.
     fn try_from(bytes: &'a [u8]) -> Result<PrivateKeyInfoRef<'a>>
-        ensures ok { IfOk result (λ info. Means PrivateKeyInfo bytes.now (info_of info)) }
-        ensures one { IfOk result (λ info. IsOnlyMeaning PrivateKeyInfo bytes.now (info_of info)) }
+        ensures ok { IfOk result (λ info. IsTheMeaning PrivateKeyInfo bytes.now (info_of info)) }
         ensures err { OnErr result (IsNoSentence PrivateKeyInfo bytes.now) }
-        ensures memory { IfErr result (λ e. TellsOfBytes e.kind) }
-        ensures exact { IfErr result (λ e. PrivateKeyInfoFault e.kind bytes.now) }
-        ensures only { (kind : der.ErrorKind)
-            → PrivateKeyInfoFault kind bytes.now → IsErrAnd result (λ e. e.kind ≡ kind) }
+        ensures exact { FailsExactly PrivateKeyInfoFault bytes.now result }
     {
         PrivateKeyInfoRef::from_der(NoMemory, bytes)
     }

@@ -1,18 +1,14 @@
 //! RSA keys in containers.
-ghost use Rattle.std.specs.Prelude.{◌≡◌, ◌⊎◌, ℕ, List, IfOk, IfErr, IsErrAnd, OnErr};
-ghost use Rattle.der_core.specs.Faults.{Faulty};
-ghost use Rattle.der_core.specs.Reading.{Rejects, TellsOfBytes};
+ghost use Rattle.std.specs.Prelude.{◌≡◌, ℕ, List, IfOk, IfErr, OnErr};
+ghost use Rattle.der_core.specs.Reading.{Rejects};
 ghost use Rattle.spki_core.specs.AlgorithmValue.{algorithm_of};
 ghost use Rattle.pkcs1.specs.Allocating.{MayAllocate};
-ghost use Rattle.pkcs1.specs.KeyFaults.{RsaPrivateKeyFault};
 ghost use Rattle.pkcs1.specs.Keys.{PrivateKey};
 ghost use Rattle.pkcs1.specs.PrivateKeyValue.{private_key_of};
 ghost use Rattle.pkcs1_params.specs.Errors.{IsAsn1};
-ghost use Rattle.pkcs1_params.specs.Meanings.{IsNoSentence, IsOnlyMeaning};
-ghost use Rattle.der_core.specs.Document.{Means};
+ghost use Rattle.pkcs1_params.specs.Meanings.{ErrsExactly, ErrsOrAsks, IsNoSentence, IsTheMeaning, IsTheOnly};
 ghost use Rattle.pkcs1.specs.ViewParts.{view_of, viewed_encoding};
 ghost use Rattle.pkcs8_core.specs.ContainerFaults.{RsaFault, RsaPrivateKeyInfoFault};
-ghost use Rattle.der_core.specs.declared.error.ErrorKind as der;
 ghost use Rattle.pkcs8_core.specs.Held.{info_of};
 ghost use Rattle.pkcs8_core.specs.Rsa.{rsa_encryption, HoldsRsa, NotRsa, RsaPrivateKeyInfo};
 
@@ -41,17 +37,10 @@ impl<'a> PrivateKeyInfoRef<'a> {
     /// Decodes the RSA key, and allocates nothing. The algorithm must be rsaEncryption (else `OidUnknown`) with
     /// parameters (else `ParametersMissing`) that are NULL (else `Value` of their tag).
     pub fn rsa_view(&self) -> pkcs1::Result<RsaPrivateKeyView<'a>>
-        ensures ok { IfOk result (λ view. HoldsRsa (info_of self.now) (view_of view)) }
-        ensures one { IfOk result (λ view. (other : PrivateKey (List ℕ)) → HoldsRsa (info_of self.now) other
-            → other ≡ view_of view) }
+        ensures ok { IfOk result (λ view. IsTheOnly (HoldsRsa (info_of self.now)) (view_of view)) }
         ensures bytes { IfOk result (λ view. viewed_encoding view ≡ (info_of self.now).private_key) }
         ensures err { OnErr result ((key : PrivateKey (List ℕ)) → HoldsRsa (info_of self.now) key → ⊥) }
-        ensures asn1 { IfErr result (IsAsn1 (λ e. TellsOfBytes e.kind)) }
-        ensures exact { let info = info_of self.now in
-            IfErr result (IsAsn1 (λ e. NotRsa info.algorithm e.kind
-            ⊎ ((info.algorithm ≡ rsa_encryption) × RsaPrivateKeyFault e.kind info.private_key))) }
-        ensures only { (kind : der.ErrorKind)
-            → RsaFault (info_of self.now) kind → IsErrAnd result (IsAsn1 (λ e. e.kind ≡ kind)) }
+        ensures exact { ErrsExactly RsaFault (info_of self.now) result }
     {
         require_rsa(&self.algorithm)?;
         RsaPrivateKeyView::try_from(self.private_key.as_bytes())
@@ -60,18 +49,12 @@ impl<'a> PrivateKeyInfoRef<'a> {
     /// Decodes the RSA key as a struct. The errors are those of `rsa_view`, and `OutOfMemory` as
     /// `RsaPrivateKeyRef::decode_key` returns it.
     pub fn rsa_key(&self, alloc: Global) -> pkcs1::Result<RsaPrivateKeyRef<'a>>
-        ensures ok { IfOk result (λ key. HoldsRsa (info_of self.now) (private_key_of key)) }
-        ensures one { IfOk result (λ key. (other : PrivateKey (List ℕ)) → HoldsRsa (info_of self.now) other
-            → other ≡ private_key_of key) }
+        ensures ok { IfOk result (λ key. IsTheOnly (HoldsRsa (info_of self.now)) (private_key_of key)) }
         ensures err { IfErr result (IsAsn1 (λ e. Rejects e.kind (MayAllocate (info_of self.now).private_key)
             ((key : PrivateKey (List ℕ)) → HoldsRsa (info_of self.now) key → ⊥))) }
         ensures exact { let info = info_of self.now in
-            let asked = MayAllocate info.private_key in
-            IfErr result (IsAsn1 (λ e. NotRsa info.algorithm e.kind
-            ⊎ ((info.algorithm ≡ rsa_encryption) × Faulty e.kind asked (RsaPrivateKeyFault e.kind info.private_key)))) }
-        ensures only { let asked = MayAllocate (info_of self.now).private_key in
-            (kind : der.ErrorKind) → RsaFault (info_of self.now) kind
-            → IsErrAnd result (IsAsn1 (λ e. Faulty e.kind asked (e.kind ≡ kind))) }
+            let asked = (info.algorithm ≡ rsa_encryption) × MayAllocate info.private_key in
+            ErrsOrAsks RsaFault info asked result }
     {
         require_rsa(&self.algorithm)?;
         RsaPrivateKeyRef::decode_key(alloc, self.private_key.as_bytes())
@@ -81,12 +64,9 @@ impl<'a> PrivateKeyInfoRef<'a> {
 /// Decodes the RSA private key in the encoding of a container, and allocates nothing. The errors are those of
 /// `PrivateKeyInfoRef::try_from`, then those of `rsa_view`.
 pub fn rsa_from_pkcs8_der<'a>(bytes: &'a [u8]) -> pkcs1::Result<RsaPrivateKeyView<'a>>
-    ensures ok { IfOk result (λ view. Means RsaPrivateKeyInfo bytes.now (view_of view)) }
-    ensures one { IfOk result (λ view. IsOnlyMeaning RsaPrivateKeyInfo bytes.now (view_of view)) }
+    ensures ok { IfOk result (λ view. IsTheMeaning RsaPrivateKeyInfo bytes.now (view_of view)) }
     ensures err { OnErr result (IsNoSentence RsaPrivateKeyInfo bytes.now) }
-    ensures exact { IfErr result (IsAsn1 (λ e. RsaPrivateKeyInfoFault e.kind bytes.now)) }
-    ensures only { (kind : der.ErrorKind)
-        → RsaPrivateKeyInfoFault kind bytes.now → IsErrAnd result (IsAsn1 (λ e. e.kind ≡ kind)) }
+    ensures exact { ErrsExactly RsaPrivateKeyInfoFault bytes.now result }
 {
     let info = PrivateKeyInfoRef::try_from(bytes)?;
     info.rsa_view()

@@ -30,10 +30,10 @@ no_value P r h f = if_ok_as r (λ v p. subst P (sym p.0) (f p.1)) h
 pub decoded : {X V E : Type 0} (value : X → V) (Encoding : V → List ℕ → Type 0) (bytes : List ℕ) (read : Result X Error) (r : Result (Option X) E)
     → ((x : X) → read ≡ Ok x → IfOk r (λ o. o ≡ Some x))
     → ((e : Error) → read ≡ Err e → IfOk r (λ o. (o ≡ None) × (IsMemory e → ⊥)))
-    → (A B : X → Type 0) → IfOk read A → IfOk read B → ((x : X) → A x → B x → Decodes Encoding bytes (Some (value x)))
+    → (A : X → Type 0) → IfOk read A → ((x : X) → A x → Decodes Encoding bytes (Some (value x)))
     → (C : Error → Type 0) → IfErr read C → ((e : Error) → C e → (IsMemory e → ⊥) → Decodes Encoding bytes None)
     → IfOk r (λ o. Decodes Encoding bytes (option_map value o))
-decoded value Encoding bytes (Ok x) r ok err A B a b given C c none =
-    if_ok_as r (λ o same. subst (λ o. Decodes Encoding bytes (option_map value o)) (sym same) (given x a b)) (ok x refl)
-decoded value Encoding bytes (Err e) r ok err A B a b given C c none =
+decoded value Encoding bytes (Ok x) r ok err A a given C c none =
+    if_ok_as r (λ o same. subst (λ o. Decodes Encoding bytes (option_map value o)) (sym same) (given x a)) (ok x refl)
+decoded value Encoding bytes (Err e) r ok err A a given C c none =
     if_ok_as r (λ o p. subst (λ o. Decodes Encoding bytes (option_map value o)) (sym p.0) (none e c p.1)) (err e refl)

@@ -19,6 +19,8 @@ use Rattle.der_core.specs.declared.tag.Tag.{Tag}
 use Rattle.pkcs1_params.specs.Errors.{IsAsn1}
 use Rattle.pkcs1_params.specs.declared.error.Error.{Error}
 use Rattle.pkcs1_params.specs.declared.error.Error.TheVariants as error
+use Rattle.pkcs1_params.specs.Laws.Errors.{asn1_as}
+use Rattle.pkcs1_params.specs.Meanings.{ErrsExactly, FailsExactly, IsTheFault, IsTheOnly}
 use Rattle.statement.specs.Statement.{limit}
 use Rattle.statement.specs.Reading.{Reading, ◌>>=◌, chain, ended, such, checked, unexpected, behind_header, tagged, whole, Returns, ReturnsDer}
 
@@ -122,9 +124,16 @@ module _ {X V W : Type 0} (held : X → V) (value : V → W) (holds : X → W) (
   returned (Err error.KeyMalformed) ok err = absurd err
   returned (Err error.Version) ok err = absurd err
 
-  pub returned_der : (r : Result X der.Error) → IfOk r (λ x. Means (held x)) → IfErr r (λ e. Fault e.kind) → ReturnsDer holds given r
-  returned_der (Ok x) ok err = takes (held x) ok ∙ ap (λ w. Ok (w, [])) (same x)
-  returned_der (Err e) ok err = rejects e.kind err
+-- The same of contracts that say that the meaning is the only one, and which fault is told.
+module _ {X V W Read : Type 0} (held : X → V) (value : V → W) (holds : X → W) (same : (x : X) → value (held x) ≡ holds x) (Means : V → Type 0) (Fault : ErrorKind → Read → Type 0) (read : Read) (given : Result (W × List ℕ) ErrorKind)
+    (takes : (v : V) → Means v → given ≡ Ok (value v, [])) (rejects : (k : ErrorKind) → Fault k read → given ≡ Err k) where
+  pub returned_exactly : (r : Result X Error) → IfOk r (λ x. IsTheOnly Means (held x)) → ErrsExactly Fault read r → Returns holds given r
+  returned_exactly (Ok x) ok err = returned held value holds same Means (λ k. Fault k read) given takes rejects (Ok x) ok.0 tt
+  returned_exactly (Err e) ok err = returned held value holds same Means (λ k. Fault k read) given takes rejects (Err e) tt (asn1_as {P = λ (a : der.Error). IsTheFault Fault read a.kind} (λ a fault. fault.1) e err)
+
+  pub returned_der : (r : Result X der.Error) → IfOk r (λ x. IsTheOnly Means (held x)) → FailsExactly Fault read r → ReturnsDer holds given r
+  returned_der (Ok x) ok err = takes (held x) ok.0 ∙ ap (λ w. Ok (w, [])) (same x)
+  returned_der (Err e) ok err = rejects e.kind err.1
 
 -- A tag.
 pub checked_as : {X : Type 0} (b : Bool) (f : b ≡ true → X) (x : X) → b ≡ true → (q : b ≡ true) × (checked b f x ≡ f q)

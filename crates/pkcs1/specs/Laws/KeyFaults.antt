@@ -2,9 +2,8 @@
 use Rattle.std.proofs.Common.{◌≡◌, ◌≢◌, ℕ, ◌<◌, ◌≤◌, List, [], ◌∷◌, ◌++◌, length, map, refl, sym, ap, ◌∙◌, arith, length-append, append_assoc, append-nil, inl, inr, Option, Some, None}
 use Rattle.std.specs.Prelude.{slice_get}
 use Rattle.der_core.specs.declared.error.ErrorKind.{ErrorKind}
-use Rattle.der_core.specs.Document.{Means}
 use Rattle.der_core.specs.Faults.{EncodingFault, ThenFault, EndFault, ItemsFault, IntegerFault, AreNone, AreFirst}
-use Rattle.der_core.specs.Laws.Faults.{small_fault_none, small_fault_first, items_fault_none, items_fault_first, integer_fault_none, integer_fault_first, encoding_fault_none, encoding_fault_first, then_fault_none, then_fault_first, end_fault_none, end_fault_first, whole_fault_none, whole_fault_first}
+use Rattle.der_core.specs.Laws.Faults.{small_fault_none, small_fault_first, items_fault_none, items_fault_first, integer_fault_none, integer_fault_first, encoding_fault_none, encoding_fault_first, then_fault_none, then_fault_first, end_fault_none, end_fault_first}
 use Rattle.der_core.specs.Integer.{Integer, IntegerContents, Small}
 use Rattle.der_core.specs.Laws.Integer.{integer_delimited, small_means_one}
 use Rattle.der_core.specs.Length.{limit}
@@ -16,8 +15,9 @@ use Rattle.der_core.specs.Reading.{NoneHas, NoneIn, TellsOfBytes}
 use Rattle.der_core.specs.Tags.{integer, sequence}
 use Rattle.der_core.specs.Laws.Encodings.{tlv_delimited, joins_map, joins_last}
 use Rattle.der_core.specs.Encodings.{IsDelimited, Joins}
-use Rattle.pkcs1.specs.KeyFaults.{PublicKeyFault, RsaPublicKeyFault, Counted, CountedFault, OtherPrimeFault, VersionFault, ListedFault, OthersFault, PrivateKeyFault, NumberFault, OneOtherFault, RsaPrivateKeyFault}
-use Rattle.pkcs1.specs.Keys.{PublicKey, PublicKeyContents, RsaPublicKey, RsaPrivateKey, OtherPrime, OtherPrimeContents, OtherPrimeInfo, OtherPrimeInfos, PrivateKey, PrivateKeyContents, version_of}
+use Rattle.pkcs1.specs.KeyFaults.{PublicKeyFault, RsaPublicKeyFault, Counted, CountedFault, OtherPrimeFault, VersionFault, ListedFault, OthersFault, PrivateKeyFault, NumberFault, OneOtherFault, PrivateKeyEncodingFault, RsaPrivateKeyFault}
+use Rattle.pkcs1.specs.Keys.{PublicKey, PublicKeyContents, RsaPublicKey, RsaPrivateKey, OtherPrime, OtherPrimeContents, OtherPrimeInfo, OtherPrimeInfos, PrivateKey, PrivateKeyContents, PrivateKeyEncoding, version_of}
+use Rattle.pkcs1_params.specs.Laws.FaultsTold.{AreTold, tagged_told}
 use Rattle.pkcs1.specs.Laws.PrivateKey.{other_delimited, joins_take, version_small, private_means_one}
 use Rattle.pkcs1.specs.Laws.PublicKey.{public_key_means_one}
 use Rattle.pkcs1.specs.Laws.Versions.{version_means_one}
@@ -39,19 +39,13 @@ module _ {Number : Type 0} (NumberEncoding : Number → List ℕ → Type 0) (Nu
 number_none : AreNone (NoneIn Integer) (EncodingFault integer IntegerFault)
 number_none = encoding_fault_none integer IntegerFault IntegerContents integer_fault_none
 
-encoding_none : AreNone (NoneIn RsaPublicKey) (EncodingFault sequence (PublicKeyFault Integer (EncodingFault integer IntegerFault)))
-encoding_none = encoding_fault_none sequence _ (PublicKeyContents Integer) (public_key_fault_none Integer (EncodingFault integer IntegerFault) integer_delimited number_none)
+number_first : AreFirst NumberFault
+number_first = encoding_fault_first integer IntegerFault integer_fault_first
 
-public_delimited : IsDelimited RsaPublicKey
-public_delimited = tlv_delimited 48 (PublicKeyContents Integer) (public_key_means_one Integer integer_delimited)
-
-pub public_key_whole_none : (k : ErrorKind) (b : List ℕ) → RsaPublicKeyFault k b → (v : PublicKey (List ℕ)) → Means RsaPublicKey b v → ⊥
-public_key_whole_none = whole_fault_none RsaPublicKey _ public_delimited encoding_none
-
-pub public_key_whole_first : (j k : ErrorKind) (b : List ℕ) → RsaPublicKeyFault j b → RsaPublicKeyFault k b → j ≡ k
-public_key_whole_first =
-    whole_fault_first RsaPublicKey _ public_delimited encoding_none
-    (encoding_fault_first sequence _ (public_key_fault_first Integer (EncodingFault integer IntegerFault) integer_delimited number_none (encoding_fault_first integer IntegerFault integer_fault_first)))
+pub public_key_told : AreTold RsaPublicKey RsaPublicKeyFault
+public_key_told =
+    tagged_told sequence (PublicKeyContents Integer) _ (public_key_means_one Integer integer_delimited) (public_key_fault_none Integer NumberFault integer_delimited number_none)
+    (public_key_fault_first Integer NumberFault integer_delimited number_none number_first)
 
 -- n numbers in a row.
 module _ {V : Type 0} (encoding : V → List ℕ → Type 0) (Fault : ErrorKind → List ℕ → Type 0) (d : IsDelimited encoding) (none : AreNone (NoneIn encoding) Fault) where
@@ -246,10 +240,10 @@ module _ {V : Type 0} (encoding : V → List ℕ → Type 0) (Fault : ErrorKind 
       (λ n. then_fault_first (Counted 8 encoding) (CountedFault 8 encoding Fault) (λ _. OthersFault encoding Fault n) (counted_delimited encoding Fault d none 8 (omega arith)) (counted_fault_none encoding Fault d none 8)
       (counted_fault_first encoding Fault d none 8 first) (λ _. others_fault_first encoding Fault d none first n))
 
--- Keys whose numbers are INTEGERs.
-number_first : AreFirst NumberFault
-number_first = encoding_fault_first integer IntegerFault integer_fault_first
+  pub private_told : AreFirst Fault → AreTold (PrivateKeyEncoding encoding) (PrivateKeyEncodingFault encoding Fault)
+  private_told first = tagged_told sequence (PrivateKeyContents encoding) _ (private_means_one d) private_key_fault_none (private_key_fault_first first)
 
+-- Keys whose numbers are INTEGERs.
 pub listed_fault_first : AreFirst (ItemsFault (OtherPrimeInfo Integer) OneOtherFault)
 listed_fault_first =
     items_fault_first (OtherPrimeInfo Integer) OneOtherFault (other_delimited integer_delimited)
@@ -267,16 +261,5 @@ private_integers_none = private_key_fault_none Integer NumberFault integer_delim
 pub private_integers_first : AreFirst (PrivateKeyFault Integer NumberFault)
 private_integers_first = private_key_fault_first Integer NumberFault integer_delimited number_none number_first
 
-private_encoding_none : AreNone (NoneIn RsaPrivateKey) (EncodingFault sequence (PrivateKeyFault Integer NumberFault))
-private_encoding_none = encoding_fault_none sequence _ (PrivateKeyContents Integer) private_integers_none
-
-private_delimited : IsDelimited RsaPrivateKey
-private_delimited = tlv_delimited 48 (PrivateKeyContents Integer) (private_means_one integer_delimited)
-
-pub private_key_whole_none : (k : ErrorKind) (b : List ℕ) → RsaPrivateKeyFault k b → (v : PrivateKey (List ℕ)) → Means RsaPrivateKey b v → ⊥
-private_key_whole_none = whole_fault_none RsaPrivateKey _ private_delimited private_encoding_none
-
-pub private_key_whole_first : (j k : ErrorKind) (b : List ℕ) → RsaPrivateKeyFault j b → RsaPrivateKeyFault k b → j ≡ k
-private_key_whole_first =
-    whole_fault_first RsaPrivateKey _ private_delimited private_encoding_none
-    (encoding_fault_first sequence _ private_integers_first)
+pub private_key_told : AreTold RsaPrivateKey RsaPrivateKeyFault
+private_key_told = private_told Integer NumberFault integer_delimited number_none number_first

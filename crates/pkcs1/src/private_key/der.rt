@@ -1,8 +1,6 @@
 //! Decoding private keys from whole slices; encoding them into slices and documents.
 ghost use Rattle.std.specs.Prelude.{◌≡◌, ◌≤◌, length, List, ℕ, take, drop, IfOk, IfErr, IsOk, IsErrAnd, OnErr, None};
 ghost use Rattle.der_core.specs.Document.{Means, IsShortest, WhyNotWritten};
-ghost use Rattle.der_core.specs.Faults.{Faulty};
-ghost use Rattle.der_core.specs.declared.error.ErrorKind as der;
 ghost use Rattle.der_core.specs.Reading.{AllocatesIn};
 ghost use Rattle.der_core.specs.Tag.{sequence_tag};
 ghost use Rattle.der_core.specs.Tags.{sequence};
@@ -15,7 +13,7 @@ ghost use Rattle.pkcs1.specs.Keys.{PrivateKey, PrivateKeyEncoding};
 ghost use Rattle.pkcs1.specs.KeyEncodings.{IsOnlyEncoding, IsReadingError, WhyNoDocument};
 ghost use Rattle.pkcs1.specs.PrivateKeyValue.{private_key_with, ListsNone};
 ghost use Rattle.pkcs1.specs.Writing.{HasPrivateKey};
-ghost use Rattle.pkcs1_params.specs.Meanings.{IsWritingError, IsOnlyMeaning};
+ghost use Rattle.pkcs1_params.specs.Meanings.{ErrsOrAsks, IsWritingError, IsTheMeaning};
 ghost use Rattle.pkcs1_params.specs.Errors.{IsAsn1};
 
 use super::RsaPrivateKey;
@@ -77,20 +75,13 @@ impl<U> RsaPrivateKey<U> {
     where
         U: Decode<&'a [u8], Global>,
         ensures ok { let bytes = octets_of octets.entry in
-            IfOk result (λ key. Means (PrivateKeyEncoding U.encoding) bytes (private_key_with U.value key)) }
-        ensures one { let bytes = octets_of octets.entry in
-            IfOk result (λ key. IsOnlyMeaning (PrivateKeyEncoding U.encoding) bytes (private_key_with U.value key)) }
+            IfOk result (λ key. IsTheMeaning (PrivateKeyEncoding U.encoding) bytes (private_key_with U.value key)) }
         ensures err { let bytes = octets_of octets.entry in
             let asked = AllocatesIn (Tlv sequence_tag (AllocatesForKey U.encoding U.Decode.may_allocate)) bytes in
             IfErr result (IsReadingError (PrivateKeyEncoding U.encoding) bytes asked) }
         ensures exact { let bytes = octets_of octets.entry in
             let asked = AllocatesIn (Tlv sequence_tag (AllocatesForKey U.encoding U.Decode.may_allocate)) bytes in
-            let fault = PrivateKeyEncodingFault U.encoding U.Decode.fault in
-            IfErr result (IsAsn1 (λ e. Faulty e.kind asked (fault e.kind bytes))) }
-        ensures only { let bytes = octets_of octets.entry in
-            let asked = AllocatesIn (Tlv sequence_tag (AllocatesForKey U.encoding U.Decode.may_allocate)) bytes in
-            (kind : der.ErrorKind) → PrivateKeyEncodingFault U.encoding U.Decode.fault kind bytes
-            → IsErrAnd result (IsAsn1 (λ e. Faulty e.kind asked (e.kind ≡ kind))) }
+            ErrsOrAsks (PrivateKeyEncodingFault U.encoding U.Decode.fault) bytes asked result }
         ensures two_primes { ((encoding : List ℕ) → U.Decode.may_allocate encoding → ⊥)
             → (key : PrivateKey U.Value) → key.other_prime_infos ≡ None
             → Means (PrivateKeyEncoding U.encoding) (octets_of octets.entry) key → IsOk result }
@@ -106,13 +97,9 @@ impl<'a> RsaPrivateKey<UintRef<'a>> {
     /// Decodes a whole slice, as `from_der` does; the contract is stated over the grammar of private keys. Returns
     /// `OutOfMemory` only if a SEQUENCE that begins with an OtherPrimeInfo follows the eighth number.
     pub fn decode_key(memory: Global, bytes: &'a [u8]) -> crate::Result<RsaPrivateKey<UintRef<'a>>>
-        ensures ok { IfOk result (λ key. Means grammar.RsaPrivateKey bytes.now (private_key_of key)) }
-        ensures one { IfOk result (λ key. IsOnlyMeaning grammar.RsaPrivateKey bytes.now (private_key_of key)) }
+        ensures ok { IfOk result (λ key. IsTheMeaning grammar.RsaPrivateKey bytes.now (private_key_of key)) }
         ensures err { IfErr result (IsReadingError grammar.RsaPrivateKey bytes.now (MayAllocate bytes.now)) }
-        ensures exact { let b = bytes.now in
-            IfErr result (IsAsn1 (λ e. Faulty e.kind (MayAllocate b) (RsaPrivateKeyFault e.kind b))) }
-        ensures only { let b = bytes.now in (kind : der.ErrorKind) → RsaPrivateKeyFault kind b
-            → IsErrAnd result (IsAsn1 (λ e. Faulty e.kind (MayAllocate b) (e.kind ≡ kind))) }
+        ensures exact { ErrsOrAsks RsaPrivateKeyFault bytes.now (MayAllocate bytes.now) result }
         ensures two_primes { (key : PrivateKey (List ℕ))
             → key.other_prime_infos ≡ None → Means grammar.RsaPrivateKey bytes.now key → IsOk result }
     {
@@ -143,14 +130,10 @@ impl RsaPrivateKey<Uint> {
     /// Decodes a whole slice, as `decode_key` of `RsaPrivateKeyRef` does. Returns `OutOfMemory` only if the SEQUENCE
     /// begins with a version and a number.
     pub fn decode_owned_key(alloc: Global, bytes: &[u8]) -> crate::Result<RsaPrivateKey<Uint>>
-        ensures ok { IfOk result (λ key. Means grammar.RsaPrivateKey bytes.now (private_key_with own_bytes_of key)) }
-        ensures one { let is_only = IsOnlyMeaning grammar.RsaPrivateKey bytes.now in
-            IfOk result (λ key. is_only (private_key_with own_bytes_of key)) }
+        ensures ok { let is_meaning = IsTheMeaning grammar.RsaPrivateKey bytes.now in
+            IfOk result (λ key. is_meaning (private_key_with own_bytes_of key)) }
         ensures err { IfErr result (IsReadingError grammar.RsaPrivateKey bytes.now (OwnedKeyAllocates bytes.now)) }
-        ensures exact { let b = bytes.now in
-            IfErr result (IsAsn1 (λ e. Faulty e.kind (OwnedKeyAllocates b) (RsaPrivateKeyFault e.kind b))) }
-        ensures only { let b = bytes.now in (kind : der.ErrorKind) → RsaPrivateKeyFault kind b
-            → IsErrAnd result (IsAsn1 (λ e. Faulty e.kind (OwnedKeyAllocates b) (e.kind ≡ kind))) }
+        ensures exact { ErrsOrAsks RsaPrivateKeyFault bytes.now (OwnedKeyAllocates bytes.now) result }
     {
         Ok(RsaPrivateKey::from_der(alloc, bytes)?)
     }

@@ -2,16 +2,15 @@
 use Rattle.std.proofs.Common.{ℕ, List, [], ◌∷◌, ◌≡◌, sym, ap, ◌∙◌, refl, inl, inr, Some}
 use Rattle.der_core.specs.declared.error.ErrorKind.{ErrorKind}
 use Rattle.der_core.specs.declared.error.ErrorKind.TheVariants.{Value}
-use Rattle.der_core.specs.Document.{Means}
 use Rattle.der_core.specs.Faults.{EncodingFault, SmallFault, NoFault, AreNone, AreFirst}
-use Rattle.der_core.specs.Laws.Faults.{small_fault_none, small_fault_first, no_fault_none, no_fault_first, encoding_fault_none, encoding_fault_first, then_fault_none, then_fault_first, tagged_last_none, tagged_last_first, whole_fault_none}
+use Rattle.der_core.specs.Laws.Faults.{small_fault_none, small_fault_first, no_fault_none, no_fault_first, encoding_fault_none, encoding_fault_first, then_fault_none, then_fault_first, tagged_last_none, tagged_last_first}
 use Rattle.der_core.specs.Laws.Expected.{expected_fault_none, expected_fault_first}
 use Rattle.der_core.specs.Integer.{SmallContents}
 use Rattle.der_core.specs.Laws.Integer.{small_means_one}
 use Rattle.der_core.specs.OctetString.{OctetContents, OctetString}
 use Rattle.der_core.specs.Laws.OctetString.{octets_mean_one, octet_string_delimited}
 use Rattle.der_core.specs.Optional.{Optional}
-use Rattle.der_core.specs.Reading.{NoneHas, NoneIn}
+use Rattle.der_core.specs.Reading.{NoneHas, NoneIn, TellsOfBytes}
 use Rattle.der_core.specs.Laws.Tags.{same_tag}
 use Rattle.der_core.specs.Tags.{integer, octet_string, sequence}
 use Rattle.der_core.specs.Laws.Tells.{is_value}
@@ -23,10 +22,12 @@ use Rattle.spki_core.specs.Any.{TagAndContents, Any, null_value}
 use Rattle.spki_core.specs.Laws.AnyEncodings.{any_delimited}
 use Rattle.spki_core.specs.Faults.{AnyFault, AlgorithmFault}
 use Rattle.spki_core.specs.Laws.Faults.{algorithm_fault_none, algorithm_fault_first, any_fault_none, any_fault_first}
-use Rattle.pkcs1.specs.Laws.KeyFaults.{private_key_whole_first}
+use Rattle.pkcs1.specs.Laws.KeyFaults.{private_key_told}
+use Rattle.pkcs1_params.specs.Laws.FaultsTold.{AreTold, tagged_told}
+use Rattle.pkcs1_params.specs.Meanings.{IsTheFault}
 use Rattle.pkcs8_core.specs.Container.{Info, AttributesEncoding, InfoContents, PrivateKeyInfo}
-use Rattle.pkcs8_core.specs.ContainerFaults.{VersionEncoding, VersionFault, AttributesFault, BehindAlgorithm, BehindVersion, InfoFault, PrivateKeyInfoFault, RsaFault, RsaPrivateKeyInfoFault}
-use Rattle.pkcs8_core.specs.Laws.Container.{info_delimited}
+use Rattle.pkcs8_core.specs.ContainerFaults.{VersionEncoding, VersionFault, AttributesFault, BehindAlgorithm, BehindVersion, InfoFault, PrivateKeyInfoFault, RsaFault}
+use Rattle.pkcs8_core.specs.Laws.Container.{info_means_one}
 use Rattle.pkcs8_core.specs.Rsa.{NotRsa, unknown, missing, other, rsa_encryption}
 use Rattle.pkcs8_core.specs.Tags.{attributes_tag}
 
@@ -79,11 +80,8 @@ info_fault_first =
     (λ _. attributes_first)))
 
 -- Whole slices.
-info_none : AreNone (NoneIn PrivateKeyInfo) (EncodingFault sequence InfoFault)
-info_none = encoding_fault_none sequence InfoFault InfoContents info_fault_none
-
-pub info_whole_none : (k : ErrorKind) (b : List ℕ) → PrivateKeyInfoFault k b → (info : Info) → Means PrivateKeyInfo b info → ⊥
-info_whole_none = whole_fault_none PrivateKeyInfo (EncodingFault sequence InfoFault) info_delimited info_none
+pub info_told : AreTold PrivateKeyInfo PrivateKeyInfoFault
+info_told = tagged_told sequence InfoContents InfoFault info_means_one info_fault_none info_fault_first
 
 -- Another algorithm is rejected with one kind of error, and rsaEncryption with none.
 pub not_rsa_first : (a : Algorithm TagAndContents) (j k : ErrorKind) → NotRsa a j → NotRsa a k → j ≡ k
@@ -108,14 +106,17 @@ rsa_is a k (other t v p x y s ne) same =
     let some : Some v ≡ Some null_value = sym y ∙ ap (λ (b : Algorithm TagAndContents). b.parameters) same in
     let is : v ≡ null_value = cc in ne is
 
-pub rsa_fault_first : (info : Info) (j k : ErrorKind) → RsaFault info j → RsaFault info k → j ≡ k
+pub rsa_fault_first : (info : Info) (j k : ErrorKind) → RsaFault j info → RsaFault k info → j ≡ k
 rsa_fault_first info j k (inl p) (inl q) = not_rsa_first info.algorithm j k p q
 rsa_fault_first info j k (inl p) (inr q) = absurd (rsa_is info.algorithm j p q.0)
 rsa_fault_first info j k (inr p) (inl q) = absurd (rsa_is info.algorithm k q p.0)
-rsa_fault_first info j k (inr p) (inr q) = private_key_whole_first j k info.private_key p.1 q.1
+rsa_fault_first info j k (inr p) (inr q) = private_key_told.first j k info.private_key p.1 q.1
 
--- Where an encoding is a container, the fault is of what it holds.
-pub held_fault : (encoding : List ℕ) (info : Info) → Means PrivateKeyInfo encoding info → ((other : Info) → Means PrivateKeyInfo encoding other → other ≡ info)
-    → (kind : ErrorKind) → RsaPrivateKeyInfoFault kind encoding → RsaFault info kind
-held_fault encoding info means one kind (inl fault) = absurd (info_whole_none kind encoding fault info means)
-held_fault encoding info means one kind (inr (held, m, fault)) = rw (one held m) at fault
+pub not_rsa_tells : (a : Algorithm TagAndContents) (k : ErrorKind) → NotRsa a k → TellsOfBytes k
+not_rsa_tells a k (unknown p x) = (λ no. cc, λ no. cc, λ no. cc)
+not_rsa_tells a k (missing p x y) = (λ no. cc, λ no. cc, λ no. cc)
+not_rsa_tells a k (other t v p x y s ne) = is_value p
+
+-- The algorithm is another.
+pub not_rsa_fault : (info : Info) (k : ErrorKind) → NotRsa info.algorithm k → IsTheFault RsaFault info k
+not_rsa_fault info k not = (not_rsa_tells info.algorithm k not, inl not, λ other fault. rsa_fault_first info other k fault (inl not))

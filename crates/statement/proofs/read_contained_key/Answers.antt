@@ -11,8 +11,8 @@ pub returns-in-Ok : goal.returns-in-Ok
 returns-in-Ok c =
     let view = c.in-Ok.value in
     let same = view_holds view in (
-      moved ContainedKeyEncoding same (key_sentence (view_of view) _ c.in-Ok.ensures.ok),
-      λ w p. sym (back w) ∙ ap numbers (c.in-Ok.ensures.one (key_of w) (key_means w _ p)) ∙ same,
+      moved ContainedKeyEncoding same (key_sentence (view_of view) _ c.in-Ok.ensures.ok.0),
+      λ w p. sym (back w) ∙ ap numbers (c.in-Ok.ensures.ok.1 (key_of w) (key_means w _ p)) ∙ same,
     )
 
 pub returns-in-Err : goal.returns-in-Err

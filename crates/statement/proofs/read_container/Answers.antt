@@ -10,8 +10,8 @@ pub returns-in-Ok : goal.returns-in-Ok
 returns-in-Ok c =
     let info = c.in-Ok.value in
     let same = container_holds info in (
-      moved ContainerEncoding same (sentence (info_of info) _ c.in-Ok.ensures.ok),
-      λ w p. sym (back w) ∙ ap from (c.in-Ok.ensures.one (to w) (means w _ p)) ∙ same,
+      moved ContainerEncoding same (sentence (info_of info) _ c.in-Ok.ensures.ok.0),
+      λ w p. sym (back w) ∙ ap from (c.in-Ok.ensures.ok.1 (to w) (means w _ p)) ∙ same,
     )
 
 pub returns-in-Err : goal.returns-in-Err

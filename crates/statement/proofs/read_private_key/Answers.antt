@@ -10,8 +10,8 @@ pub returns-in-Ok : goal.returns-in-Ok
 returns-in-Ok c =
     let view = c.in-Ok.value in
     let same = view_holds view in (
-      moved PrivateKeyEncoding same (sentence (view_of view) _ c.in-Ok.ensures.ok),
-      λ w p. sym (back w) ∙ ap numbers (c.in-Ok.ensures.one (key_of w) (means w _ p)) ∙ same,
+      moved PrivateKeyEncoding same (sentence (view_of view) _ c.in-Ok.ensures.ok.0),
+      λ w p. sym (back w) ∙ ap numbers (c.in-Ok.ensures.ok.1 (key_of w) (means w _ p)) ∙ same,
     )
 
 pub returns-in-Err : goal.returns-in-Err

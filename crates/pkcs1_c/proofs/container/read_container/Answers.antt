@@ -1,12 +1,14 @@
-use Rattle.std.proofs.Common.{ℕ, List, subst, inl, inr, ⊎_elim}
+use Rattle.std.proofs.Common.{ℕ, List, subst}
 use Rattle.std.proofs.lemmas.Result.{err_from_is_err_and}
 use Rattle.der_core.specs.Document.{Means}
 use Rattle.pkcs1.specs.Keys.{PrivateKey}
 use Rattle.pkcs8_core.specs.Container.{Info, PrivateKeyInfo}
+use Rattle.pkcs8_core.specs.ContainerFaults.{RsaFault}
 use Rattle.pkcs8_core.specs.Rsa.{HoldsRsa}
 use Rattle.pkcs8_core.specs.Held.{info_of}
-use Rattle.pkcs8_core.specs.Laws.ContainerFaults.{held_fault}
+use Rattle.pkcs8_core.specs.Laws.ContainerFaults.{info_told}
 use Rattle.pkcs1_params.specs.Laws.Errors.{asn1_as, on_err}
+use Rattle.pkcs1_params.specs.Laws.FaultsTold.{fault_before, fault_behind, held_behind}
 use Rattle.pkcs1_c.proofs.container.read_container.Goals as goal
 
 -- The encoding is no container with an RSA key.
@@ -18,27 +20,17 @@ returns-in_err-info-clause-err c = on_err (HoldsNone c.args.encoding.now) _ (λ 
 
 pub returns-in_err-view-clause-err : goal.returns-in_err-view-clause-err
 returns-in_err-view-clause-err c =
-    on_err (HoldsNone c.args.encoding.now) _ (λ info key m holds. c.in_err-view.ensures.err key (subst (λ i. HoldsRsa i key) (c.in_ok-info.ensures.one info m) holds))
+    on_err (HoldsNone c.args.encoding.now) _ (λ info key m holds. c.in_err-view.ensures.err key (subst (λ i. HoldsRsa i key) (c.in_ok-info.ensures.ok.1 info m) holds))
 
 pub returns-in_err-info-clause-exact : goal.returns-in_err-info-clause-exact
 returns-in_err-info-clause-exact c =
     let p = err_from_is_err_and c.from_residual.result c.from_residual.ensures.1 in
-    rw (p.1, p.2) (inl c.in_err-info.ensures.exact)
-
-pub returns-in_err-info-clause-only : goal.returns-in_err-info-clause-only
-returns-in_err-info-clause-only c kind fault =
-    let p = err_from_is_err_and c.from_residual.result c.from_residual.ensures.1 in
-    rw (p.1, p.2) (⊎_elim (λ f. c.in_err-info.ensures.only kind f) (λ w. absurd (c.in_err-info.ensures.err w.0 w.1)) fault)
+    rw (p.1, p.2) (fault_before info_told c.args.encoding.now (λ i k. RsaFault k i) _ c.in_err-info.ensures.exact)
 
 pub returns-in_err-view-clause-exact : goal.returns-in_err-view-clause-exact
 returns-in_err-view-clause-exact c =
     let p = err_from_is_err_and c.from_residual-in_err-view.result c.from_residual-in_err-view.ensures.1 in
-    rw (p.1, p.2) (asn1_as (λ a f. inr (info_of c.in_ok-info.info, c.in_ok-info.ensures.ok, f)) _ c.in_err-view.ensures.exact)
+    rw (p.1, p.2) (asn1_as (λ a fault. fault_behind info_told c.args.encoding.now (λ i k. RsaFault k i) (info_of c.in_ok-info.info) c.in_ok-info.ensures.ok.0 a.kind fault) _ c.in_err-view.ensures.exact)
 
-pub returns-in_err-view-clause-only : goal.returns-in_err-view-clause-only
-returns-in_err-view-clause-only c kind fault =
-    let p = err_from_is_err_and c.from_residual-in_err-view.result c.from_residual-in_err-view.ensures.1 in
-    rw (p.1, p.2) (c.in_err-view.ensures.only kind (held_fault _ _ c.in_ok-info.ensures.ok c.in_ok-info.ensures.one kind fault))
-
-pub returns-clause-only : goal.returns-clause-only
-returns-clause-only c kind fault = absurd (c.in_ok-view.ensures.only kind (held_fault _ _ c.in_ok-info.ensures.ok c.in_ok-info.ensures.one kind fault))
+pub returns-clause-exact : goal.returns-clause-exact
+returns-clause-exact c kind fault = c.in_ok-view.ensures.exact kind (held_behind info_told c.args.encoding.now (λ i k. RsaFault k i) (info_of c.in_ok-info.info) c.in_ok-info.ensures.ok.0 kind fault)

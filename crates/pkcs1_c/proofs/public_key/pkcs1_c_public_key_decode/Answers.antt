@@ -1,20 +1,16 @@
 use Rattle.pkcs1.specs.KeyFaults.{RsaPublicKeyFault}
-use Rattle.std.proofs.Common.{◌∙◌, sym, arith}
-use Rattle.pkcs1_c.proofs.NotWritten.{status_below, status_faulty, status_only}
+use Rattle.pkcs1.specs.Keys.{RsaPublicKey}
+use Rattle.std.proofs.Common.{subst, sym}
+use Rattle.pkcs1_params.specs.Meanings.{IsTheMeaning}
+use Rattle.pkcs1_c.proofs.NotWritten.{status_exact, status_ok}
 use Rattle.pkcs1_c.proofs.public_key.pkcs1_c_public_key_decode.Goals as goal
 
-pub returns-in-Ok-clause-one : goal.returns-in-Ok-clause-one
-returns-in-Ok-clause-one c = λ _ other p.
-    c.in-Ok.ensures.one other p ∙ (λ i. record { modulus = sym c.as_bytes-key.ensures.number i; public_exponent = sym c.as_bytes-key-in-Ok.ensures.number i })
+pub returns-in-Ok-clause-ok : goal.returns-in-Ok-clause-ok
+returns-in-Ok-clause-ok c = λ _.
+    subst (IsTheMeaning RsaPublicKey c.args.encoding.now) (λ i. record { modulus = sym c.as_bytes-key.ensures.number i; public_exponent = sym c.as_bytes-key-in-Ok.ensures.number i }) c.in-Ok.ensures.ok
 
-pub returns-in-Err-clause-told : goal.returns-in-Err-clause-told
-returns-in-Err-clause-told c = omega (arith, c.status.ensures, status_below c.in-Err.error c.in-Err.ensures.asn1)
+pub returns-in-Ok-clause-exact : goal.returns-in-Ok-clause-exact
+returns-in-Ok-clause-exact c = status_ok RsaPublicKeyFault c.args.encoding.now c.in-Ok.ensures.exact
 
 pub returns-in-Err-clause-exact : goal.returns-in-Err-clause-exact
-returns-in-Err-clause-exact c = λ _. status_faulty (λ kind. RsaPublicKeyFault kind c.args.encoding.now) c.in-Err.error _ c.status.ensures c.in-Err.ensures.exact
-
-pub returns-in-Err-clause-only : goal.returns-in-Err-clause-only
-returns-in-Err-clause-only c kind fault = status_only kind c.in-Err.error _ c.status.ensures (c.in-Err.ensures.only kind fault)
-
-pub returns-in-Ok-clause-only : goal.returns-in-Ok-clause-only
-returns-in-Ok-clause-only c kind fault = absurd (c.in-Ok.ensures.only kind fault)
+returns-in-Err-clause-exact c = status_exact RsaPublicKeyFault c.args.encoding.now c.in-Err.error _ c.status.ensures c.in-Err.ensures.exact

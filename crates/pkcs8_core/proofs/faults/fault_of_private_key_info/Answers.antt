@@ -1,7 +1,4 @@
-use Rattle.std.proofs.Common.{◌≡◌, sym}
 use Rattle.pkcs8_core.proofs.faults.fault_of_private_key_info.Goals as goal
 
 pub returns-in-Err : goal.returns-in-Err
-returns-in-Err c =
-    let e = c.in-Err.ensures in
-    rw c.kind.ensures (e.err, e.exact, λ other fault. let first : c.in-Err.error.kind ≡ other = e.only other fault in sym first)
+returns-in-Err c = let e = c.in-Err.ensures in rw c.kind.ensures (e.err, e.exact.1, e.exact.2)

@@ -20,8 +20,8 @@ pub returns-in-Ok : goal.returns-in-Ok
 returns-in-Ok c =
     let key = c.in-Ok.value in
     let same = private_holds own_bytes_of key in (
-      moved PrivateKeyEncoding same (sentence (private_key_with own_bytes_of key) _ c.in-Ok.ensures.ok),
-      λ w p. sym (back w) ∙ ap numbers (c.in-Ok.ensures.one (key_of w) (means w _ p)) ∙ same,
+      moved PrivateKeyEncoding same (sentence (private_key_with own_bytes_of key) _ c.in-Ok.ensures.ok.0),
+      λ w p. sym (back w) ∙ ap numbers (c.in-Ok.ensures.ok.1 (key_of w) (means w _ p)) ∙ same,
     )
 
 pub returns-in-Err : goal.returns-in-Err

@@ -14,7 +14,7 @@ use Rattle.statement.proofs.memory.read_owned_public_key.Goals as goal
 pub returns-in-Ok : goal.returns-in-Ok
 returns-in-Ok c =
     let key = public_key_with own_bytes_of c.in-Ok.value in
-    (sentence key _ c.in-Ok.ensures.ok, λ w p. sym (back w) ∙ ap numbers (c.in-Ok.ensures.one (key_of w) (means w _ p)))
+    (sentence key _ c.in-Ok.ensures.ok.0, λ w p. sym (back w) ∙ ap numbers (c.in-Ok.ensures.ok.1 (key_of w) (means w _ p)))
 
 pub returns-in-Err : goal.returns-in-Err
 returns-in-Err c =

@@ -5,8 +5,7 @@ use Rattle.pkcs1.specs.Allocating.{MayAllocate}
 use Rattle.pkcs1.specs.KeyEncodings.{IsReadingError}
 use Rattle.pkcs1.specs.Keys.{RsaPrivateKey}
 use Rattle.pkcs1.specs.PrivateKeyValue.{private_key_of}
-use Rattle.pkcs1_params.specs.Meanings.{IsOnlyMeaning}
-use Rattle.der_core.specs.Document.{Means}
+use Rattle.pkcs1_params.specs.Meanings.{IsTheMeaning}
 use Rattle.statement.specs.Statement.{PrivateKeyEncoding}
 use Rattle.statement.specs.Held.{rsa_private_key, uint_ref}
 use Rattle.statement.proofs.Der.{moved}
@@ -20,13 +19,11 @@ returns c =
     let bytes = c.args.bytes.now in
     let read = c.decode_key.ensures in
     decoded (rsa_private_key uint_ref) PrivateKeyEncoding bytes c.decode_key.result c.found.result c.found.ensures.ok c.found.ensures.err
-    (λ key. Means RsaPrivateKey bytes (private_key_of key))
-    (λ key. IsOnlyMeaning RsaPrivateKey bytes (private_key_of key))
+    (λ key. IsTheMeaning RsaPrivateKey bytes (private_key_of key))
     read.ok
-    read.one
-    (λ key ok one. (
-      moved PrivateKeyEncoding (private_holds bytes_of key) (sentence (private_key_of key) bytes ok),
-      λ w p. sym (back w) ∙ ap numbers (one (key_of w) (means w bytes p)) ∙ private_holds bytes_of key,
+    (λ key ok. (
+      moved PrivateKeyEncoding (private_holds bytes_of key) (sentence (private_key_of key) bytes ok.0),
+      λ w p. sym (back w) ∙ ap numbers (ok.1 (key_of w) (means w bytes p)) ∙ private_holds bytes_of key,
     ))
     (IsReadingError RsaPrivateKey bytes (MayAllocate bytes))
     read.err

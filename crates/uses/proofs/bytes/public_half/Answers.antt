@@ -22,7 +22,7 @@ rejected_after Before key half encoding means is (Ok document) why = tt
 rejected_after Before key half encoding means is (Err e) why = inr (key, means, subst (λ one. IsDocumentError RsaPublicKey one e) is why)
 
 pub returns-clause-ok : goal.returns-clause-ok
-returns-clause-ok c = of_key _ _ _ c.in_ok-key.ensures.ok c.public_key.ensures _ c.to_pkcs1_der.ensures.encoding
+returns-clause-ok c = of_key _ _ _ c.in_ok-key.ensures.ok.0 c.public_key.ensures _ c.to_pkcs1_der.ensures.encoding
 
 pub returns-clause-err : goal.returns-clause-err
-returns-clause-err c = rejected_after _ _ _ _ c.in_ok-key.ensures.ok c.public_key.ensures _ c.to_pkcs1_der.ensures.err
+returns-clause-err c = rejected_after _ _ _ _ c.in_ok-key.ensures.ok.0 c.public_key.ensures _ c.to_pkcs1_der.ensures.err

@@ -1,29 +1,31 @@
-use Rattle.std.specs.Prelude.{Result, Ok, Err, IfOk}
-use Rattle.std.proofs.Common.{ℕ, List, ◌≡◌}
-use Rattle.der_core.specs.Document.{Means}
-use Rattle.der_core.specs.Laws.Shortest.{means_one}
-use Rattle.der_core.specs.Reading.{ReadsAll, AllocatesIn}
-use Rattle.der_core.specs.Laws.Faults.{not_asked, only_not_asked}
-use Rattle.der_core.specs.Tlv.{Tlv}
-use Rattle.pkcs8_core.specs.ContainerFaults.{PrivateKeyInfoFault}
+use Rattle.std.specs.Prelude.{IfOk, IfErr, Result, Ok, Err}
+use Rattle.std.proofs.Common.{ℕ, List}
 use Rattle.der_core.specs.declared.error.Error.{Error}
+use Rattle.der_core.specs.Faults.{Faulty}
+use Rattle.der_core.specs.Reading.{AllocatesIn, ReadsAll}
+use Rattle.der_core.specs.Tlv.{Tlv}
+use Rattle.pkcs1_params.specs.Laws.FaultsTold.{the_fault, the_meaning}
+use Rattle.pkcs1_params.specs.Meanings.{FailsExactly, IsTheMeaning}
 use Rattle.pkcs8_core.specs.Container.{Info, PrivateKeyInfo}
-use Rattle.pkcs8_core.specs.Laws.Container.{info_delimited}
+use Rattle.pkcs8_core.specs.ContainerFaults.{PrivateKeyInfoFault}
+use Rattle.pkcs8_core.specs.Laws.ContainerFaults.{info_told}
 use Rattle.pkcs8_core.proofs.info.PrivateKeyInfoRefTryFromRefSliceU8.try_from.Goals as goal
 
-one : {X : Type 0} (value : X → Info) (may_allocate : List ℕ → Type 0) (b : List ℕ) (r : Result X Error) → ReadsAll value PrivateKeyInfo may_allocate r b → IfOk r (λ x. (other : Info) → Means PrivateKeyInfo b other → other ≡ value x)
-one value may_allocate b (Ok x) h = λ other p. means_one info_delimited other (value x) b p.1 h.1
-one value may_allocate b (Err e) h = tt
+module _ {X : Type 0} (value : X → Info) (b : List ℕ) where
+  -- No memory is asked for.
+  abbrev Asks : List ℕ → Type 0
+  Asks = Tlv 48 (λ _. ⊥)
 
-pub returns-clause-one : goal.returns-clause-one
-returns-clause-one c = one _ _ _ _ c.from_der.ensures.encoding
+  meaning : (r : Result X Error) → ReadsAll value PrivateKeyInfo Asks r b → IfOk r (λ x. IsTheMeaning PrivateKeyInfo b (value x))
+  meaning (Ok x) h = the_meaning info_told (value x) b h
+  meaning (Err e) h = tt
 
--- No memory is asked for.
-never : (b : List ℕ) → AllocatesIn (Tlv 48 (λ _. ⊥)) b → ⊥
-never b w = w.3.holds
+  fault : (r : Result X Error) → ReadsAll value PrivateKeyInfo Asks r b → IfErr r (λ e. Faulty e.kind (AllocatesIn Asks b) (PrivateKeyInfoFault e.kind b)) → FailsExactly PrivateKeyInfoFault b r
+  fault (Ok x) h f = λ kind p. info_told.none kind b p (value x) h
+  fault (Err e) h f = the_fault info_told (λ w. w.3.holds) b h f
+
+pub returns-clause-ok : goal.returns-clause-ok
+returns-clause-ok c = meaning _ _ _ c.from_der.ensures.encoding
 
 pub returns-clause-exact : goal.returns-clause-exact
-returns-clause-exact c = not_asked (λ kind. PrivateKeyInfoFault kind c.args.bytes.now) (never _) _ c.from_der.ensures.exact
-
-pub returns-clause-only : goal.returns-clause-only
-returns-clause-only c kind fault = only_not_asked kind (never c.args.bytes.now) _ (c.from_der.ensures.only kind fault)
+returns-clause-exact c = fault _ _ _ c.from_der.ensures.encoding c.from_der.ensures.exact

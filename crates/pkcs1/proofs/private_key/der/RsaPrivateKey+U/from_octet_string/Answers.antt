@@ -1,15 +1,17 @@
 use Rattle.std.proofs.lemmas.Result.{err_from_is_err_and}
-use Rattle.der_core.specs.Laws.Shortest.{means_one}
-use Rattle.der_core.specs.Laws.Encodings.{tlv_delimited}
-use Rattle.pkcs1.specs.Keys.{PrivateKeyContents}
-use Rattle.pkcs1.specs.Laws.PrivateKey.{private_means_one}
 use Rattle.pkcs1.proofs.KeyMemory.{two_primes_rejected}
+use Rattle.pkcs1.specs.Laws.KeyFaults.{private_told}
+use Rattle.pkcs1_params.specs.Laws.FaultsTold.{fault_or_memory, the_meaning}
 use Rattle.pkcs1.proofs.private_key.der.RsaPrivateKey+U.from_octet_string.Goals as goal
 
-pub returns-clause-one : goal.returns-clause-one
-returns-clause-one g c other p =
-    let delimited = tlv_delimited 48 (PrivateKeyContents g.U.Encoding.encoding) (private_means_one g.U.Encoding.delimited) in
-    means_one delimited other _ _ (rw (← c.as_bytes.ensures.octets) at p.1) c.in_ok-from_der.ensures.encoding.1
+pub returns-clause-ok : goal.returns-clause-ok
+returns-clause-ok g c =
+    let claim : g.claim c.lifetimes = assumption in
+    let met = g.met.U.Decode c.lifetimes claim in
+    rw (← c.as_bytes.ensures.octets) (the_meaning (private_told g.U.Encoding.encoding g.U.Decode.fault g.U.Encoding.delimited met.fault_none met.fault_first) _ _ c.in_ok-from_der.ensures.encoding)
+
+pub returns-clause-exact : goal.returns-clause-exact
+returns-clause-exact g c = rw (← c.as_bytes.ensures.octets) (λ kind fault. absurd (c.in_ok-from_der.ensures.only kind fault))
 
 pub returns-in_err-from_der-clause-err : goal.returns-in_err-from_der-clause-err
 returns-in_err-from_der-clause-err g c =
@@ -22,13 +24,8 @@ returns-in_err-from_der-clause-two_primes g c none key two means =
 
 pub returns-in_err-from_der-clause-exact : goal.returns-in_err-from_der-clause-exact
 returns-in_err-from_der-clause-exact g c =
+    let claim : g.claim c.lifetimes = assumption in
+    let met = g.met.U.Decode c.lifetimes claim in
+    let told = private_told g.U.Encoding.encoding g.U.Decode.fault g.U.Encoding.delimited met.fault_none met.fault_first in
     let p = err_from_is_err_and c.from_residual.result c.from_residual.ensures.1 in
-    rw (p.1, p.2, ← c.as_bytes.ensures.octets) c.in_err-from_der.ensures.exact
-
-pub returns-in_err-from_der-clause-only : goal.returns-in_err-from_der-clause-only
-returns-in_err-from_der-clause-only g c =
-    let p = err_from_is_err_and c.from_residual.result c.from_residual.ensures.1 in
-    rw (p.1, p.2, ← c.as_bytes.ensures.octets) c.in_err-from_der.ensures.only
-
-pub returns-clause-only : goal.returns-clause-only
-returns-clause-only g c = rw (← c.as_bytes.ensures.octets) (λ kind fault. absurd (c.in_ok-from_der.ensures.only kind fault))
+    rw (p.1, p.2, ← c.as_bytes.ensures.octets) (fault_or_memory told (λ w. w) _ c.in_err-from_der.ensures.encoding c.in_err-from_der.ensures.exact)

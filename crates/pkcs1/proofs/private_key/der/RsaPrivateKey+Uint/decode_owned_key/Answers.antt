@@ -1,14 +1,14 @@
 use Rattle.std.proofs.lemmas.Result.{err_from_is_err_and}
-use Rattle.pkcs1.specs.KeyFaults.{RsaPrivateKeyFault}
-use Rattle.pkcs1.specs.Laws.KeyFaults.{private_key_whole_none, private_key_whole_first}
-use Rattle.der_core.specs.Laws.Faults.{faulty_first}
-use Rattle.der_core.specs.Laws.Shortest.{means_one}
-use Rattle.pkcs1.specs.Laws.PrivateKeys.{private_delimited}
-use Rattle.pkcs1.proofs.KeyMemory.{faulty_as, owned_key_asks, rejects_as}
+use Rattle.pkcs1.proofs.KeyMemory.{rejects_as, asks_as, owned_key_asks}
+use Rattle.pkcs1.specs.Laws.KeyFaults.{private_key_told}
+use Rattle.pkcs1_params.specs.Laws.FaultsTold.{fault_or_memory, the_meaning}
 use Rattle.pkcs1.proofs.private_key.der.RsaPrivateKey+Uint.decode_owned_key.Goals as goal
 
-pub returns-clause-one : goal.returns-clause-one
-returns-clause-one c other p = means_one private_delimited other _ _ p.1 c.in_ok-from_der.ensures.encoding.1
+pub returns-clause-ok : goal.returns-clause-ok
+returns-clause-ok c = the_meaning private_key_told _ _ c.in_ok-from_der.ensures.encoding
+
+pub returns-clause-exact : goal.returns-clause-exact
+returns-clause-exact c kind fault = private_key_told.none kind _ fault _ c.in_ok-from_der.ensures.encoding
 
 pub returns-in_err-from_der-clause-err : goal.returns-in_err-from_der-clause-err
 returns-in_err-from_der-clause-err c =
@@ -18,12 +18,4 @@ returns-in_err-from_der-clause-err c =
 pub returns-in_err-from_der-clause-exact : goal.returns-in_err-from_der-clause-exact
 returns-in_err-from_der-clause-exact c =
     let p = err_from_is_err_and c.from_residual.result c.from_residual.ensures.1 in
-    rw (p.1, p.2) (faulty_as owned_key_asks _ _ c.in_err-from_der.ensures.exact)
-
-pub returns-in_err-from_der-clause-only : goal.returns-in_err-from_der-clause-only
-returns-in_err-from_der-clause-only c kind fault =
-    let p = err_from_is_err_and c.from_residual.result c.from_residual.ensures.1 in
-    rw (p.1, p.2) (faulty_first RsaPrivateKeyFault private_key_whole_first _ kind _ fault (faulty_as owned_key_asks _ _ c.in_err-from_der.ensures.exact))
-
-pub returns-clause-only : goal.returns-clause-only
-returns-clause-only c kind fault = absurd (private_key_whole_none kind _ fault _ c.in_ok-from_der.ensures.encoding)
+    rw (p.1, p.2) (fault_or_memory private_key_told (asks_as owned_key_asks _) _ c.in_err-from_der.ensures.encoding c.in_err-from_der.ensures.exact)
