@@ -127,7 +127,7 @@ install_library() {
     cp -P "$out/libpkcs1.a" "$out/libpkcs1.so.$version" "$out/libpkcs1.so.0" "$out/libpkcs1.so" "$root/lib"
     sed "s/@version@/$version/" "$here/libpkcs1.pc.in" > "$root/lib/pkgconfig/libpkcs1.pc"
     chmod 644 "$root"/include/pkcs1*.h "$root/lib/libpkcs1.a" "$root/lib/pkgconfig/libpkcs1.pc"
-    say "installed below $root: include/pkcs1.h, lib/libpkcs1.a, lib/libpkcs1.so.$version, lib/pkgconfig/libpkcs1.pc"
+    say "installed below $root: include/pkcs1.h, include/pkcs1_c.h, lib/libpkcs1.a, lib/libpkcs1.so.$version, lib/pkgconfig/libpkcs1.pc"
 }
 
 if [ "$action" = install ]; then
