@@ -11,13 +11,14 @@ use Rattle.pkcs1.specs.KeyEncodings.{IsSentence}
 use Rattle.pkcs1_params.specs.declared.error.Error.{Error}
 use Rattle.pkcs1_params.specs.declared.error.Error.TheVariants as error
 use Rattle.pkcs1_params.specs.Errors.{IsAsn1}
+use Rattle.pkcs1_params.specs.Meanings.{IsTheFault}
 use Rattle.tool_core.specs.Copied.{IsUntouched, WhyKeyNotRead, WhyKeyNotWritten, WhyNotCopied}
 
 -- what came is rejected as a key, and the sink wasn't called
 pub no_key : (KeyFault : ErrorKind → List ℕ → Type 0) (NotWritten : der.Error → Type 0) (e : Error) (encoding : List ℕ) (before after old : Option (List ℕ)) (failures failures2 sink : ℕ)
-    → failures2 ≡ failures → GivesAll before after encoding → IsAsn1 (λ a. KeyFault a.kind encoding) e
+    → failures2 ≡ failures → GivesAll before after encoding → IsAsn1 (λ a. IsTheFault KeyFault encoding a.kind) e
     → IsAsn1 (λ a. (WhyKeyNotRead KeyFault a.kind before after failures failures2 × IsUntouched old old sink sink) ⊎ NotWritten a) e
-no_key KeyFault NotWritten (error.Asn1 a) encoding before after old failures failures2 sink same gives fault = inl (inr (same, encoding, gives, fault), (Keeps-refl old, refl))
+no_key KeyFault NotWritten (error.Asn1 a) encoding before after old failures failures2 sink same gives fault = inl (inr (same, encoding, gives, fault.1), (Keeps-refl old, refl))
 no_key KeyFault NotWritten error.Crypto encoding before after old failures failures2 sink same gives fault = absurd fault
 no_key KeyFault NotWritten error.KeyMalformed encoding before after old failures failures2 sink same gives fault = absurd fault
 no_key KeyFault NotWritten error.Version encoding before after old failures failures2 sink same gives fault = absurd fault
