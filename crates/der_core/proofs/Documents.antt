@@ -1,40 +1,25 @@
 -- Documents, as they are read and made.
-use Rattle.std.proofs.Common.{ℕ, List, ◌≡◌, ◌≤◌, ◌<◌, ◌^◌, ◌∙◌, ap, sym, length, take, ◌++◌, append-nil, arith, subst, inl, inr, ⊎_elim, Option, Some, None}
+use Rattle.std.proofs.Common.{ℕ, List, ◌≡◌, ◌≤◌, ◌<◌, ◌^◌, length, take, ◌++◌, arith, subst, inl, inr, ⊎_elim, Option}
 use Rattle.std.proofs.Math.Seq.{take-append_seam}
 use Rattle.der_core.specs.Encodings.{AreBytes, IsOfBytes}
 use Rattle.der_core.specs.Tlv.{Tlv, tlv}
 use Rattle.der_core.specs.Length.{limit}
 use Rattle.der_core.specs.Document.{Means, IsDocument}
 use Rattle.der_core.specs.Carrying.{GivesNone, WhyDocumentNotRead, FileFault}
-use Rattle.der_core.specs.Faults.{DocumentFault, Faulty}
-use Rattle.der_core.specs.Laws.Faults.{document_fault_none}
+use Rattle.der_core.specs.Faults.{DocumentFault, IsTheFault}
 use Rattle.der_core.specs.SourcesSinks.{GivesAll}
 use Rattle.der_core.specs.Reading.{Rejects, AllocatesIn, TellsOfBytes}
 use Rattle.der_core.specs.declared.error.ErrorKind.{ErrorKind}
 use Rattle.der_core.specs.Laws.Encodings.{tlv_relates}
 use Rattle.der_core.specs.Laws.Growing.{tlv_recast}
 
--- An error of a SEQUENCE for which no memory is asked.
+-- Reading a SEQUENCE asks for no memory.
 pub no_document : (e : ErrorKind) (b : List ℕ) → Rejects e (AllocatesIn (Tlv 48 (λ _. ⊥)) b) ((v : Unit {0}) → Means (λ _. Tlv 48 AreBytes) b v → ⊥)
     → TellsOfBytes e × (IsDocument b → ⊥)
 no_document e b r = ⊎_elim (λ w. absurd w.1.3.holds) (λ w. (w.0, λ p. w.1 tt p)) r
 
--- Its fault.
-pub document_faulty : (e : ErrorKind) (b : List ℕ) → Faulty e (AllocatesIn (Tlv 48 (λ _. ⊥)) b) (DocumentFault e b) → DocumentFault e b
-document_faulty e b r = ⊎_elim (λ w. absurd w.1.3.holds) (λ f. f) r
-
--- A document has none.
-pub document_sound : (k : ErrorKind) (a b : List ℕ) → a ≡ b → DocumentFault k a → IsDocument b → ⊥
-document_sound k a b same fault document = document_fault_none k b (rw same at fault) document
-
--- All that came is all that was there.
-pub all_given : (old new : Option (List ℕ)) (bytes given : List ℕ) → old ≡ Some bytes → GivesAll old new given → bytes ≡ given
-all_given None new bytes given is gives = cc
-all_given (Some xs) None bytes given is gives = absurd gives.0
-all_given (Some xs) (Some ys) bytes given is gives = let same : xs ≡ bytes = cc in sym same ∙ gives.0 ∙ ap (λ l. given ++ l) gives.1 ∙ append-nil given
-
 -- What came is no document.
-pub none_given : (e : ErrorKind) (old new : Option (List ℕ)) (given seen : List ℕ) → seen ≡ given → GivesAll old new given → (IsDocument seen → ⊥) → DocumentFault e seen → GivesNone e old new
+pub none_given : (e : ErrorKind) (old new : Option (List ℕ)) (given seen : List ℕ) → seen ≡ given → GivesAll old new given → (IsDocument seen → ⊥) → IsTheFault DocumentFault seen e → GivesNone e old new
 none_given e old new given seen same gives none fault = (given, gives, (λ d. none (rw same d)), rw same at fault)
 
 -- What stops reading a source is what a file can be rejected for.
@@ -42,7 +27,7 @@ pub file_fault : (e : ErrorKind) (old new : Option (List ℕ)) (a b : ℕ) → W
 file_fault e old new a b (inl (inl w)) = inl w.0
 file_fault e old new a b (inl (inr (inl w))) = inr (inl w.0)
 file_fault e old new a b (inl (inr (inr (over, _, (bytes, gives, more, few))))) = inr (inr (bytes, inl (more, over)))
-file_fault e old new a b (inr (tells, _, (bytes, gives, none, fault))) = inr (inr (bytes, fault))
+file_fault e old new a b (inr (_, (bytes, gives, none, fault))) = inr (inr (bytes, fault.1))
 
 -- The encoding of a message is a document.
 pub written_document : {V : Type 0} (Contents : V → List ℕ → Type 0) (written : V → List ℕ) (v : V) (tag : ℕ) → tag ≡ 48 → IsOfBytes Contents

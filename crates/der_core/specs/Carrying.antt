@@ -6,17 +6,16 @@ use Rattle.der_core.specs.declared.error.ErrorKind.{ErrorKind}
 use Rattle.der_core.specs.declared.error.ErrorKind.TheVariants.{File, OutOfMemory, Overflow}
 use Rattle.der_core.specs.Length.{limit}
 use Rattle.der_core.specs.Document.{IsDocument}
-use Rattle.der_core.specs.Faults.{DocumentFault}
+use Rattle.der_core.specs.Faults.{DocumentFault, IsTheFault}
 use Rattle.der_core.specs.SourcesSinks.{AppendsFront, GivesAll, GivesMore, SomeFailed}
-use Rattle.der_core.specs.Reading.{TellsOfBytes}
 
 -- how many bytes are read at once
 abbrev pub piece : ℕ
 piece = 65536
 
--- What came up to the end is no document, and this is its first fault.
+-- What came up to the end is no document, and this is its only fault.
 abbrev pub GivesNone : ErrorKind → Option (List ℕ) → Option (List ℕ) → Type 0
-GivesNone e old new = (bytes : List ℕ) × GivesAll old new bytes × (IsDocument bytes → ⊥) × DocumentFault e bytes
+GivesNone e old new = (bytes : List ℕ) × GivesAll old new bytes × (IsDocument bytes → ⊥) × IsTheFault DocumentFault bytes e
 
 -- Why reading stopped: a call of the source failed; or none did, and memory ran out, or too many bytes came.
 abbrev pub WhyReadingStopped : ℕ → ErrorKind → Option (List ℕ) → Option (List ℕ) → ℕ → ℕ → Type 0
@@ -29,7 +28,7 @@ WhyReadingStopped most e old new failures failures2 =
 -- document.
 abbrev pub WhyDocumentNotRead : ErrorKind → Option (List ℕ) → Option (List ℕ) → ℕ → ℕ → Type 0
 WhyDocumentNotRead e old new failures failures2 =
-    WhyReadingStopped limit e old new failures failures2 ⊎ (TellsOfBytes e × (failures2 ≡ failures) × GivesNone e old new)
+    WhyReadingStopped limit e old new failures failures2 ⊎ ((failures2 ≡ failures) × GivesNone e old new)
 
 -- Why a file isn't read, whose bytes no contract can name: a call failed, memory ran out, or some bytes have this
 -- fault.

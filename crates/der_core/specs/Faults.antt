@@ -2,7 +2,7 @@
 --
 -- Faults are defined by the grammar, as encodings are: those of an encoding with a tag by those of its contents, those
 -- of parts in a row by those of each part. No reader is involved: the grammar says what comes before the fault.
-use Rattle.std.specs.Prelude.{◌≡◌, ◌≢◌, ◌<◌, ◌≤◌, ℕ, List, ◌++◌, Some, ◌⊎◌, Result, Err, IsErrAnd, length, slice_get}
+use Rattle.std.specs.Prelude.{◌≡◌, ◌≢◌, ◌<◌, ◌≤◌, ℕ, List, ◌++◌, Some, ◌⊎◌, Result, Ok, Err, IsErrAnd, length, slice_get}
 use Rattle.der_core.specs.declared.error.Error.{Error}
 use Rattle.der_core.specs.declared.error.ErrorKind.{ErrorKind}
 use Rattle.der_core.specs.declared.error.ErrorKind.TheVariants.{Incomplete, OutOfMemory, Overflow, TagUnexpected, TrailingData}
@@ -11,7 +11,7 @@ use Rattle.der_core.specs.Length.{limit}
 use Rattle.der_core.specs.Headers.{HeaderEncoding}
 use Rattle.der_core.specs.Input.{Input, header_at}
 use Rattle.der_core.specs.IntegerReading.{integer_of, small_of}
-use Rattle.der_core.specs.Reading.{AllocatesIn, TellsOfBytes}
+use Rattle.der_core.specs.Reading.{TellsOfBytes}
 use Rattle.der_core.specs.SequenceOf.{ItemsContents}
 use Rattle.der_core.specs.Tags.{sequence}
 use Rattle.der_core.specs.Encodings.{AreBytes, Then}
@@ -96,19 +96,21 @@ AreFirst Fault = (j k : ErrorKind) (bytes : List ℕ) → length bytes ≤ limit
 abbrev pub Faulty : ErrorKind → Type 0 → Type 0 → Type 0
 Faulty e asked fault = ((e ≡ OutOfMemory) × asked) ⊎ fault
 
--- On a reader that hasn't failed, the error is out of memory or that of the fault at the front of what is left.
-abbrev pub FaultyFront : (ErrorKind → List ℕ → Type 0) → (List ℕ → Type 0) → ErrorKind → Input → Type 0
-FaultyFront Fault may_allocate e before = (i : List ℕ) → before ≡ Some i → Faulty e (AllocatesIn may_allocate i) (Fault e i)
+-- What is read has this fault and no other, and its error is about the bytes.
+abbrev pub IsTheFault : {Read : Type 0} → (ErrorKind → Read → Type 0) → Read → ErrorKind → Type 0
+IsTheFault Fault read kind = TellsOfBytes kind × Fault kind read × ((other : ErrorKind) → Fault other read → other ≡ kind)
 
--- The same, of a fault of all that is left.
-abbrev pub FaultyWhole : (ErrorKind → List ℕ → Type 0) → (List ℕ → Type 0) → ErrorKind → Input → Type 0
-FaultyWhole Fault may_allocate e before = (c : List ℕ) → before ≡ Some c → Faulty e (may_allocate c) (Fault e c)
+-- What is read has no fault; or the error is that of its only fault.
+abbrev pub FailsExactly : {Read X : Type 0} → (ErrorKind → Read → Type 0) → Read → Result X Error → Type 0
+FailsExactly Fault read (Ok x) = (kind : ErrorKind) → Fault kind read → ⊥
+FailsExactly Fault read (Err e) = IsTheFault Fault read e.kind
+
+-- The same of a call that may ask for memory, where the error may be that there is none.
+abbrev pub FailsOrAsks : {Read X : Type 0} → (ErrorKind → Read → Type 0) → Read → Type 0 → Result X Error → Type 0
+FailsOrAsks Fault read asked (Ok x) = (kind : ErrorKind) → Fault kind read → ⊥
+FailsOrAsks Fault read asked (Err e) = Faulty e.kind asked (IsTheFault Fault read e.kind)
 
 -- If the reader hasn't failed and all that is left has a fault, the result is the error of that fault, or out of
 -- memory.
 abbrev pub OnlyWhole : {X : Type 0} → (ErrorKind → List ℕ → Type 0) → (List ℕ → Type 0) → Result X Error → Input → Type 0
 OnlyWhole Fault asked result before = (kind : ErrorKind) (c : List ℕ) → before ≡ Some c → Fault kind c → IsErrAnd result (λ e. Faulty e.kind (asked c) (e.kind ≡ kind))
-
--- The same, of a fault at the front of what is left.
-abbrev pub OnlyFront : {X : Type 0} → (ErrorKind → List ℕ → Type 0) → (List ℕ → Type 0) → Result X Error → Input → Type 0
-OnlyFront Fault may_allocate = OnlyWhole Fault (AllocatesIn may_allocate)

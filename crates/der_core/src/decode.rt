@@ -1,10 +1,9 @@
 //! Reading of values.
-ghost use Rattle.std.specs.Prelude.{◌≡◌, ℕ, List, IfErr, IsErrAnd};
+ghost use Rattle.std.specs.Prelude.{ℕ, List};
 ghost use Rattle.der_core.specs.Tlv.{Tlv};
-ghost use Rattle.der_core.specs.Reading.{ReadsOrFaults, ReadsEncoding, ReadsAll, ReadsOptional, HoldsBytes, TellsNext};
+ghost use Rattle.der_core.specs.Reading.{ReadsOrFaults, ReadsFront, ReadsAll, ReadsOptional, HoldsBytes, TellsNext};
 ghost use Rattle.der_core.specs.Reading.{NoneHas, NoneIn, AllocatesIn};
-ghost use Rattle.der_core.specs.Faults.{EncodingFault, TaggedFault, WholeFault, Faulty, FaultyFront, OnlyFront};
-ghost use Rattle.der_core.specs.Faults.{AreNone, AreFirst};
+ghost use Rattle.der_core.specs.Faults.{EncodingFault, WholeFault, FailsOrAsks, AreNone, AreFirst};
 ghost use Rattle.der_core.specs.Laws.Faults.{encoding_fault_none, encoding_fault_first};
 ghost use Rattle.der_core.specs.declared.error.ErrorKind.{ErrorKind};
 
@@ -45,18 +44,14 @@ pub trait Decode<B: Octets, M: Memory>: Encoding + Sized + Drop {
 
     /// Reads the encoding at the front of what is left.
     fn decode<R: Reader<B>>(memory: M, reader: &mut R) -> Result<Self>
-        ensures encoding { ReadsEncoding Self.value Self.encoding may_allocate result (R.left reader.old)
-            (R.left reader.new) }
-        ensures exact { IfErr result (λ e. FaultyFront fault may_allocate e.kind (R.left reader.old)) }
-        ensures only { OnlyFront fault may_allocate result (R.left reader.old) };
+        ensures { let before = R.left reader.old in
+            ReadsFront Self.value Self.encoding fault may_allocate result before (R.left reader.new) };
 
     /// Reads a whole slice: `Overflow` if it is longer than `Length::MAX`, `TrailingData` if bytes follow the encoding.
     fn from_der(memory: M, bytes: B) -> Result<Self>
         ensures encoding { ReadsAll Self.value Self.encoding may_allocate result (B.octets bytes) }
         ensures exact { let b = B.octets bytes in
-            IfErr result (λ e. Faulty e.kind (AllocatesIn may_allocate b) (WholeFault Self.encoding fault e.kind b)) }
-        ensures only { let b = B.octets bytes in (kind : ErrorKind) → WholeFault Self.encoding fault kind b
-            → IsErrAnd result (λ e. Faulty e.kind (AllocatesIn may_allocate b) (e.kind ≡ kind)) };
+            FailsOrAsks (WholeFault Self.encoding fault) b (AllocatesIn may_allocate b) result };
 
     ghost fault_none: { AreNone (NoneIn Self.encoding) fault };
 
@@ -92,11 +87,11 @@ fn read_encoding<'a, T: DecodeValue<&'a [u8], M> + FixedTag, M: Memory, R: Reade
     memory: M,
     reader: &mut R,
 ) -> Result<T>
-    ensures encoding { let tag = T.TAG.octet in
+    ensures { let tag = T.TAG.octet in
         let may = Tlv tag T.DecodeValue.may_allocate in
-        ReadsEncoding T.value (λ v. Tlv tag (T.contents v)) may result (R.left reader.old) (R.left reader.new) }
-    ensures exact { let may = Tlv T.TAG.octet T.DecodeValue.may_allocate in
-        IfErr result (λ e. FaultyFront (EncodingFault T.TAG T.DecodeValue.fault) may e.kind (R.left reader.old)) }
+        let fault = EncodingFault T.TAG T.DecodeValue.fault in
+        let before = R.left reader.old in
+        ReadsFront T.value (λ v. Tlv tag (T.contents v)) fault may result before (R.left reader.new) }
 {
     let tag = T::TAG;
     let header = Header::decode_likely(reader, tag)?;
@@ -128,13 +123,11 @@ pub fn decode_optional<'a, T: DecodeValue<&'a [u8], M> + FixedTag, M: Memory, R:
     memory: M,
     reader: &mut R,
 ) -> Result<Option<T>>
-    ensures reads { let tag = T.TAG.octet in
+    ensures { let tag = T.TAG.octet in
         let may = Tlv tag T.DecodeValue.may_allocate in
-        ReadsOptional tag T.value (λ v. Tlv tag (T.contents v)) may result (R.left reader.old) (R.left reader.new) }
-    ensures exact { let may = Tlv T.TAG.octet T.DecodeValue.may_allocate in
-        IfErr result (λ e. FaultyFront (EncodingFault T.TAG T.DecodeValue.fault) may e.kind (R.left reader.old)) }
-    ensures only { let may = Tlv T.TAG.octet T.DecodeValue.may_allocate in
-        OnlyFront (TaggedFault T.TAG T.DecodeValue.fault) may result (R.left reader.old) }
+        let fault = EncodingFault T.TAG T.DecodeValue.fault in
+        let before = R.left reader.old in
+        ReadsOptional tag T.value (λ v. Tlv tag (T.contents v)) fault may result before (R.left reader.new) }
 {
     if !is_tag_next(reader, T::TAG)? {
         return Ok(None);

@@ -1,15 +1,14 @@
 //! Documents: whole SEQUENCEs, whose contents aren't looked at.
-ghost use Rattle.std.specs.Prelude.{◌≡◌, ◌≢◌, ◌≤◌, ◌⊎◌, ℕ, List, [], Some, length, refl, ⊤, IfOk, IfErr, IsErrAnd};
-ghost use Rattle.der_core.specs.Carrying.{ReadsDocument, ReadsOpened, WhyReadingStopped, FileFault, WritesAll};
+ghost use Rattle.std.specs.Prelude.{◌≡◌, ◌≢◌, ◌≤◌, [], length, refl, ⊤, IfOk, IfErr, IsErrAnd};
+ghost use Rattle.der_core.specs.Carrying.{ReadsDocument, ReadsOpened, FileFault, WritesAll};
 ghost use Rattle.der_core.specs.Document.{IsDocument};
 ghost use Rattle.der_core.specs.Laws.Document.{IsDocument-prop};
 ghost use Rattle.der_core.specs.Length.{limit};
-ghost use Rattle.der_core.specs.Faults.{NoFault, DocumentFault, Faulty};
+ghost use Rattle.der_core.specs.Faults.{NoFault, DocumentFault, FailsOrAsks};
 ghost use Rattle.der_core.specs.Laws.Faults.{no_fault_none, no_fault_first};
 ghost use Rattle.der_core.specs.Reading.{Rejects};
 ghost use Rattle.der_core.specs.ErrorKinds.{IsFile};
 ghost use Rattle.der_core.specs.Encodings.{AreBytes};
-ghost use Rattle.der_core.specs.declared.error.ErrorKind as der;
 ghost use Rattle.der_core.specs.Tlv.{Tlv, tlv};
 
 use crate::back_writer::BackWriter;
@@ -118,10 +117,7 @@ impl<S: Drop> DocumentOf<S> {
     pub fn from_der(alloc: Global, bytes: &[u8]) -> Result<DocumentOf<S>>
         ensures ok { IfOk result (λ document. IsDocument bytes.now × (encoding_of document ≡ bytes.now)) }
         ensures err { IfErr result (λ e. Rejects e.kind (IsDocument bytes.now) (IsDocument bytes.now → ⊥)) }
-        ensures exact { let b = bytes.now in
-            IfErr result (λ e. Faulty e.kind (IsDocument b) (DocumentFault e.kind b)) }
-        ensures only { (kind : der.ErrorKind)
-            → DocumentFault kind bytes.now → IsErrAnd result (λ e. e.kind ≡ kind) }
+        ensures exact { FailsOrAsks DocumentFault bytes.now (IsDocument bytes.now) result }
     {
         AnySequence::from_der(NoMemory, bytes)?;
         Ok(DocumentOf {
@@ -168,12 +164,8 @@ impl<S: Drop> DocumentOf<S> {
     /// `Length::MAX` bytes came, so it returns even if the source never ends. `File` is returned only if a read of the
     /// source failed. What was read before an error is lost.
     pub fn read_from<R: Source>(alloc: Global, source: &mut R) -> Result<DocumentOf<S>>
-        ensures reads { ReadsDocument encoding_of result (R.remaining source.old) (R.remaining source.new)
+        ensures { ReadsDocument encoding_of result (R.remaining source.old) (R.remaining source.new)
             (R.failures source.old) (R.failures source.new) }
-        ensures only { (kind : der.ErrorKind) (bytes : List ℕ)
-            → R.remaining source.old ≡ Some bytes → DocumentFault kind bytes
-            → IsErrAnd result (λ e. WhyReadingStopped limit e.kind (R.remaining source.old) (R.remaining source.new)
-            (R.failures source.old) (R.failures source.new) ⊎ (e.kind ≡ kind)) }
     {
         let bytes = read_all(alloc, source, Length::MAX)?;
         AnySequence::from_der(NoMemory, bytes.as_slice())?;

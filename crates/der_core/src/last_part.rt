@@ -1,12 +1,11 @@
 //! The last part of some contents: one encoding, or an OPTIONAL one.
-ghost use Rattle.std.specs.Prelude.{◌≡◌, None, IsErrAnd, IfErr};
-ghost use Rattle.der_core.specs.Faults.{AloneFault, LastFault, FaultyWhole, OnlyWhole};
+ghost use Rattle.der_core.specs.Faults.{AloneFault, LastFault};
 ghost use Rattle.std.specs.Option.{option_map};
 ghost use Rattle.der_core.specs.Optional.{Optional};
-ghost use Rattle.der_core.specs.Reading.{ReadsContents, AllocatesIn, AllocatesLast};
+ghost use Rattle.der_core.specs.Reading.{ReadsWhole, AllocatesIn, AllocatesLast};
 
 use crate::decode::Decode;
-use crate::error::{ErrorKind, Result};
+use crate::error::Result;
 use crate::memory::Memory;
 use crate::reader::Reader;
 
@@ -16,13 +15,9 @@ pub fn decode_whole<'a, T: Decode<&'a [u8], M>, M: Memory, R: Reader<&'a [u8]>>(
     memory: M,
     reader: &mut R,
 ) -> Result<T>
-    ensures reads { let may = AllocatesIn T.Decode.may_allocate in
-        ReadsContents T.value T.encoding may result (R.left reader.old) (R.left reader.new) }
-    ensures exact { let may = AllocatesIn T.Decode.may_allocate in
-        IfErr result (λ e. FaultyWhole (AloneFault T.encoding T.Decode.fault) may e.kind (R.left reader.old)) }
-    ensures only { let may = AllocatesIn T.Decode.may_allocate in
-        OnlyWhole (AloneFault T.encoding T.Decode.fault) may result (R.left reader.old) }
-    ensures failed { R.left reader.old ≡ None → IsErrAnd result (λ e. e.kind ≡ ErrorKind.Failed) }
+    ensures { let may = AllocatesIn T.Decode.may_allocate in
+        let fault = AloneFault T.encoding T.Decode.fault in
+        ReadsWhole T.value T.encoding fault may result (R.left reader.old) (R.left reader.new) }
 {
     let value = T::decode(memory, reader)?;
     reader.finish()?;
@@ -36,13 +31,10 @@ pub fn decode_last<'a, T: Decode<&'a [u8], M>, M: Memory, R: Reader<&'a [u8]>>(
     memory: M,
     reader: &mut R,
 ) -> Result<Option<T>>
-    ensures reads { let may = AllocatesLast T.Decode.may_allocate in
-        ReadsContents (option_map T.value) (Optional T.encoding) may result (R.left reader.old) (R.left reader.new) }
-    ensures exact { let may = AllocatesLast T.Decode.may_allocate in
-        IfErr result (λ e. FaultyWhole (LastFault T.encoding T.Decode.fault) may e.kind (R.left reader.old)) }
-    ensures only { let may = AllocatesLast T.Decode.may_allocate in
-        OnlyWhole (LastFault T.encoding T.Decode.fault) may result (R.left reader.old) }
-    ensures failed { R.left reader.old ≡ None → IsErrAnd result (λ e. e.kind ≡ ErrorKind.Failed) }
+    ensures { let may = AllocatesLast T.Decode.may_allocate in
+        let fault = LastFault T.encoding T.Decode.fault in
+        let before = R.left reader.old in
+        ReadsWhole (option_map T.value) (Optional T.encoding) fault may result before (R.left reader.new) }
 {
     if reader.peek_octet().is_none() {
         reader.finish()?;

@@ -4,9 +4,9 @@ use Rattle.der_core.specs.declared.error.ErrorKind.{ErrorKind}
 use Rattle.der_core.specs.declared.error.ErrorKind.TheVariants.{Incomplete, TagUnexpected}
 use Rattle.der_core.specs.declared.tag.Tag.{Tag}
 use Rattle.der_core.specs.Document.{Means}
-use Rattle.std.specs.Prelude.{slice_get, IfErr, IsErrAnd}
+use Rattle.std.specs.Prelude.{slice_get}
 use Rattle.der_core.specs.declared.error.Error.{Error}
-use Rattle.der_core.specs.Faults.{EncodingFault, in_header, other_tag, too_short, in_contents, ThenFault, EndFault, ItemsFault, AloneFault, LastFault, TaggedLastFault, WholeFault, IntegerFault, SmallFault, NoFault, DocumentFault, AreNone, AreFirst, Faulty, FaultyFront, FaultyWhole, OnlyFront, OnlyWhole}
+use Rattle.der_core.specs.Faults.{EncodingFault, in_header, other_tag, too_short, in_contents, ThenFault, EndFault, ItemsFault, AloneFault, LastFault, TaggedLastFault, WholeFault, IntegerFault, SmallFault, NoFault, AreNone, AreFirst, Faulty, OnlyWhole}
 use Rattle.der_core.specs.Laws.Headers.{tlv_header, header_complete, header_at-tells}
 use Rattle.der_core.specs.Headers.{HeaderEncoding}
 use Rattle.der_core.specs.Input.{Input, left_in, header_at}
@@ -17,13 +17,13 @@ use Rattle.der_core.specs.SequenceOf.{ItemsContents}
 use Rattle.der_core.specs.Integer.{IntegerContents, SmallContents}
 use Rattle.der_core.specs.Length.{limit}
 use Rattle.der_core.specs.Laws.Lists.{same_fronts}
-use Rattle.der_core.specs.Reading.{NoneHas, NoneIn, AllocatesIn, ReadsOrFaults, ReadsEncoding}
+use Rattle.der_core.specs.Reading.{NoneHas, NoneIn, AllocatesIn, FailsBy, ReadsFront, ReadsOptional, ReadsOrFaults, ReadsEncoding, ReadsWhole, Rejects, TellsOfBytes}
+use Rattle.der_core.specs.Laws.Sequences.{some_same}
 use Rattle.der_core.specs.Laws.SmallReading.{integer_none, integer_tells, small_none, small_tells}
 use Rattle.der_core.specs.Laws.Tags.{same_tag}
 use Rattle.der_core.specs.Laws.Tells.{is_incomplete, is_other_tag, is_trailing}
-use Rattle.der_core.specs.Tags.{sequence}
 use Rattle.der_core.specs.Laws.Encodings.{tlv_delimited}
-use Rattle.der_core.specs.Encodings.{AreBytes, Then, IsDelimited, MeansOne}
+use Rattle.der_core.specs.Encodings.{Then, IsDelimited, MeansOne}
 use Rattle.der_core.specs.Tlv.{Tlv}
 
 -- INTEGER
@@ -201,6 +201,10 @@ module _ {V : Type 0} (encoding : V → List ℕ → Type 0) (Fault : ErrorKind 
 
 -- A whole slice.
 module _ {V : Type 0} (encoding : V → List ℕ → Type 0) (Fault : ErrorKind → List ℕ → Type 0) (d : IsDelimited encoding) (none : AreNone (NoneIn encoding) Fault) where
+  pub whole_fault_tells : (k : ErrorKind) (b : List ℕ) → WholeFault encoding Fault k b → TellsOfBytes k
+  whole_fault_tells k b (inl long) = let over = long.1 in (λ no. cc, λ no. cc, λ no. cc)
+  whole_fault_tells k b (inr (within, fault)) = (alone_fault_none encoding Fault d none k b within fault).0
+
   pub whole_fault_none : (k : ErrorKind) (b : List ℕ) → WholeFault encoding Fault k b → (v : V) → Means encoding b v → ⊥
   whole_fault_none k b (inl long) v means = omega (arith, long.0, means.0)
   whole_fault_none k b (inr (within, fault)) v means = (alone_fault_none encoding Fault d none k b within fault).1 v means.1
@@ -218,7 +222,7 @@ no_fault_none Lacks k c within f = absurd f
 pub no_fault_first : AreFirst NoFault
 no_fault_first j k c within f g = absurd f
 
--- An encoding with a tag, as a whole slice, and as a last part that is known by its tag.
+-- An encoding with a tag, as a last part that is known by its tag.
 module _ {V : Type 0} (tag : Tag) (Contents : V → List ℕ → Type 0) (Fault : ErrorKind → List ℕ → Type 0) (means : MeansOne Contents) (none : AreNone (NoneHas Contents) Fault) where
   abbrev Tagged : V → List ℕ → Type 0
   Tagged v b = Tlv tag.octet (Contents v) b
@@ -241,61 +245,51 @@ module _ {V : Type 0} (tag : Tag) (Contents : V → List ℕ → Type 0) (Fault 
       go c other more None has = omega (arith, more, ap length has)
       go c other more (Some v) has = other (ap (λ l. slice_get l 0) has.written)
 
-  -- a whole slice
-  pub tagged_whole_none : (k : ErrorKind) (b : List ℕ) → WholeFault Tagged (EncodingFault tag Fault) k b → (v : V) → Means Tagged b v → ⊥
-  tagged_whole_none = whole_fault_none Tagged (EncodingFault tag Fault) tagged_is tagged_none
-
-  pub tagged_whole_first : AreFirst Fault → (j k : ErrorKind) (b : List ℕ) → WholeFault Tagged (EncodingFault tag Fault) j b → WholeFault Tagged (EncodingFault tag Fault) k b → j ≡ k
-  tagged_whole_first first = whole_fault_first Tagged (EncodingFault tag Fault) tagged_is tagged_none (encoding_fault_first tag Fault first)
-
   pub tagged_last_first : AreFirst Fault → AreFirst (TaggedLastFault tag Tagged (EncodingFault tag Fault))
   tagged_last_first first j k c within (inl (p, f)) (inl (q, g)) = alone_fault_first Tagged (EncodingFault tag Fault) tagged_is tagged_none (encoding_fault_first tag Fault first) j k c within f g
   tagged_last_first first j k c within (inl (p, f)) (inr (q, g)) = absurd (q p)
   tagged_last_first first j k c within (inr (p, f)) (inl (q, g)) = absurd (p q)
   tagged_last_first first j k c within (inr (p, f)) (inr (q, g)) = f.1 ∙ sym g.1
 
--- Documents.
-pub document_fault_none : (k : ErrorKind) (b : List ℕ) → DocumentFault k b → Means {V = Unit {0}} (λ _. Tlv sequence.octet AreBytes) b tt → ⊥
-document_fault_none k b fault means = tagged_whole_none {V = Unit {0}} sequence (λ _. AreBytes) NoFault (λ v w c p q. refl) (no_fault_none _) k b fault tt means
+-- What an error tells: no value is there. Bytes with a fault give the error of that fault, or out of memory.
+pub fails_none : {Lacks : List ℕ → Type 0} (Fault : ErrorKind → List ℕ → Type 0) → AreNone Lacks Fault → (asked : List ℕ → Type 0) (e : ErrorKind) (before after : Input) → length (left_in before) ≤ limit
+    → FailsBy Fault asked e before after → (c : List ℕ) → before ≡ Some c → Rejects e (asked c) (Lacks c)
+fails_none Fault none asked e before after within fails c is = ⊎_elim inl (λ f. inr (none e c (rw is at within) f)) (fails.2 c is)
 
-pub document_fault_first : (j k : ErrorKind) (b : List ℕ) → DocumentFault j b → DocumentFault k b → j ≡ k
-document_fault_first = tagged_whole_first {V = Unit {0}} sequence (λ _. AreBytes) NoFault (λ v w c p q. refl) (no_fault_none _) no_fault_first
-
--- Bytes with a fault give the error of that fault, or out of memory.
-module _ (Fault : ErrorKind → List ℕ → Type 0) (first : (j k : ErrorKind) (b : List ℕ) → Fault j b → Fault k b → j ≡ k) where
-  pub faulty_first : (e kind : ErrorKind) (b : List ℕ) {asked : Type 0} → Fault kind b → Faulty e asked (Fault e b) → Faulty e asked (e ≡ kind)
-  faulty_first e kind b fault (inl w) = inl w
-  faulty_first e kind b fault (inr f) = inr (first e kind b f fault)
-
--- The same for a reader.
-pub only_rejected : (Fault : ErrorKind → List ℕ → Type 0) → AreFirst Fault → (asked : List ℕ → Type 0) (e : ErrorKind) (before : Input) → length (left_in before) ≤ limit → FaultyWhole Fault asked e before
+pub fails_only : (Fault : ErrorKind → List ℕ → Type 0) → AreFirst Fault → (asked : List ℕ → Type 0) (e : ErrorKind) (before : Input) → length (left_in before) ≤ limit → ((c : List ℕ) → before ≡ Some c → Faulty e (asked c) (Fault e c))
     → (kind : ErrorKind) (c : List ℕ) → before ≡ Some c → Fault kind c → Faulty e (asked c) (e ≡ kind)
-only_rejected Fault first asked e before within faulty kind c is fault = ⊎_elim inl (λ f. inr (first e kind c (rw is at within) f fault)) (faulty c is)
+fails_only Fault first asked e before within faulty kind c is fault = ⊎_elim inl (λ f. inr (first e kind c (rw is at within) f fault)) (faulty c is)
 
--- Reading at the front of what is left gives the error of the fault there.
-module _ {X V : Type 0} (value : X → V) (encoding : V → List ℕ → Type 0) (Fault : ErrorKind → List ℕ → Type 0) (may_allocate : List ℕ → Type 0) (none : AreNone (NoneIn encoding) Fault) (first : AreFirst Fault) where
-  pub only_front : (r : Result X Error) (before after : Input) → length (left_in before) ≤ limit → ReadsEncoding value encoding may_allocate r before after → IfErr r (λ e. FaultyFront Fault may_allocate e.kind before)
-      → OnlyFront Fault may_allocate r before
-  only_front (Ok x) before after within reads exact kind i is fault =
-      let some : Some i ≡ Some (reads.0 ++ reads.1) = sym is ∙ reads.2 in
-      let same : i ≡ reads.0 ++ reads.1 = cc in
+-- Reading at the front of what is left.
+module _ {X V : Type 0} (value : X → V) (encoding : V → List ℕ → Type 0) (Fault : ErrorKind → List ℕ → Type 0) (may_allocate : List ℕ → Type 0) (none : AreNone (NoneIn encoding) Fault) where
+  pub front_none : (r : Result X Error) (before after : Input) → length (left_in before) ≤ limit → ReadsFront value encoding Fault may_allocate r before after → ReadsEncoding value encoding may_allocate r before after
+  front_none (Ok x) before after within reads = reads
+  front_none (Err e) before after within fails = (fails.0, fails.1, fails_none Fault none (AllocatesIn may_allocate) e.kind before after within fails)
+
+  pub front_only : AreFirst Fault → (r : Result X Error) (before after : Input) → length (left_in before) ≤ limit → ReadsFront value encoding Fault may_allocate r before after → OnlyWhole Fault (AllocatesIn may_allocate) r before
+  front_only first (Ok x) before after within reads kind i is fault =
+      let same : i ≡ reads.0 ++ reads.1 = some_same i (reads.0 ++ reads.1) (sym is ∙ reads.2) in
       absurd ((none kind i (rw is at within) fault).1 (value x) reads.0 reads.1 same reads.4)
-  only_front (Err e) before after within reads exact kind i is fault = only_rejected Fault first (AllocatesIn may_allocate) e.kind before within exact kind i is fault
+  front_only first (Err e) before after within fails kind i is fault = fails_only Fault first (AllocatesIn may_allocate) e.kind before within fails.2 kind i is fault
 
--- The same for all that is left, read as contents.
-pub only_contents : {X V : Type 0} (value : X → V) (contents : V → List ℕ → Type 0) (Fault : ErrorKind → List ℕ → Type 0) (asked : List ℕ → Type 0) → AreNone (NoneHas contents) Fault → AreFirst Fault
-    → (r : Result X Error) (before after : Input) → length (left_in before) ≤ limit → ReadsOrFaults value contents Fault asked r before after → OnlyWhole Fault asked r before
-only_contents value contents Fault asked none first (Ok x) before after within reads kind c is fault =
-    let some : Some c ≡ Some reads.0 = sym is ∙ reads.1 in
-    let same : c ≡ reads.0 = cc in
-    absurd ((none kind c (rw is at within) fault).1 (value x) (rw same reads.3))
-only_contents value contents Fault asked none first (Err e) before after within reads kind c is fault = only_rejected Fault first asked e.kind before within reads.1 kind c is fault
+  -- The same of a part that is known by its tag.
+  pub optional_only : AreFirst Fault → (t : ℕ) (r : Result (Option X) Error) (before after : Input) → length (left_in before) ≤ limit → ReadsOptional t value encoding Fault may_allocate r before after
+      → OnlyWhole (λ kind i. (slice_get i 0 ≡ Some t) × Fault kind i) (AllocatesIn may_allocate) r before
+  optional_only first t (Ok None) before after within reads kind i is fault =
+      let same : i ≡ reads.0 = some_same i reads.0 (sym is ∙ reads.1) in
+      absurd (reads.3 (ap (λ l. slice_get l 0) (sym same) ∙ fault.0))
+  optional_only first t (Ok (Some x)) before after within reads kind i is fault =
+      let same : i ≡ reads.0 ++ reads.1 = some_same i (reads.0 ++ reads.1) (sym is ∙ reads.2) in
+      absurd ((none kind i (rw is at within) fault.1).1 (value x) reads.0 reads.1 same reads.4)
+  optional_only first t (Err e) before after within fails kind i is fault =
+      fails_only (λ kind i. (slice_get i 0 ≡ Some t) × Fault kind i) (λ j k b few p q. first j k b few p.1 q.1) (AllocatesIn may_allocate) e.kind before within fails.2 kind i is fault
 
--- Without asking for memory, it doesn't run out.
-pub not_asked : {X : Type 0} {asked : Type 0} (Fault : ErrorKind → Type 0) → (asked → ⊥) → (r : Result X Error) → IfErr r (λ e. Faulty e.kind asked (Fault e.kind)) → IfErr r (λ e. Fault e.kind)
-not_asked Fault never (Ok x) h = tt
-not_asked Fault never (Err e) h = ⊎_elim (λ w. absurd (never w.1)) (λ f. f) h
+-- Reading all that is left, as contents.
+module _ {X V : Type 0} (value : X → V) (contents : V → List ℕ → Type 0) (Fault : ErrorKind → List ℕ → Type 0) (asked : List ℕ → Type 0) (none : AreNone (NoneHas contents) Fault) (first : AreFirst Fault) where
+  pub only_contents : (r : Result X Error) (before after : Input) → length (left_in before) ≤ limit → ReadsOrFaults value contents Fault asked r before after → OnlyWhole Fault asked r before
+  only_contents (Ok x) before after within reads kind c is fault = absurd ((none kind c (rw is at within) fault).1 (value x) (rw (some_same c reads.0 (sym is ∙ reads.1)) reads.3))
+  only_contents (Err e) before after within reads kind c is fault = fails_only Fault first asked e.kind before within reads.1 kind c is fault
 
-pub only_not_asked : {X : Type 0} {asked : Type 0} (kind : ErrorKind) → (asked → ⊥) → (r : Result X Error) → IsErrAnd r (λ e. Faulty e.kind asked (e.kind ≡ kind)) → IsErrAnd r (λ e. e.kind ≡ kind)
-only_not_asked kind never (Ok x) h = h
-only_not_asked kind never (Err e) h = ⊎_elim (λ w. absurd (never w.1)) (λ f. f) h
+  pub whole_only : (r : Result X Error) (before after : Input) → length (left_in before) ≤ limit → ReadsWhole value contents Fault asked r before after → OnlyWhole Fault asked r before
+  whole_only (Ok x) before after within reads = only_contents (Ok x) before after within reads
+  whole_only (Err e) before after within fails = fails_only Fault first asked e.kind before within fails.2

@@ -6,9 +6,9 @@ use Rattle.der_core.specs.Encodings.{Joins, IsDelimited}
 use Rattle.der_core.specs.Laws.Lists.{same_fronts}
 use Rattle.der_core.specs.declared.error.ErrorKind.{ErrorKind}
 use Rattle.der_core.specs.Input.{Input, left_in}
-use Rattle.der_core.specs.Reading.{HoldsBytes, NoneIn, AllocatesIn, AllocatesForItems, Begins}
+use Rattle.der_core.specs.Reading.{HoldsBytes, NoneIn, AllocatesIn, AllocatesForItems, Begins, FailsBy}
 use Rattle.der_core.specs.Laws.Sequences.{EncodingGives, some_same}
-use Rattle.der_core.specs.Faults.{ItemsFault, Faulty, FaultyFront}
+use Rattle.der_core.specs.Faults.{ItemsFault, Faulty}
 
 pub holds_some : (left : Input) (n : ℕ) → HoldsBytes left n → (c : List ℕ) × (left ≡ Some c)
 holds_some None n h = absurd h
@@ -53,11 +53,11 @@ module _ (V : Type 0) (encoding : V → List ℕ → Type 0) (d : IsDelimited en
   items_asked may_allocate [] read rest c p is w = inr (w.0, w.1, is ∙ ap (λ l. l ++ rest) p ∙ w.2, w.3)
   items_asked may_allocate (v ∷ vs) read rest c p is w = inl (p.0, p.1 ++ rest, is ∙ ap (λ l. l ++ rest) p.4 ∙ append_assoc p.0 p.1 rest, (v, p.2))
 
-  pub items_faults : (Fault : ErrorKind → List ℕ → Type 0) (vs : List V) (read rest c : List ℕ) (may_allocate : List ℕ → Type 0) (e : ErrorKind) (start left : Input) → start ≡ Some (read ++ rest) → left ≡ Some rest
-      → Joins (map encoding vs) read → 0 < length rest → FaultyFront Fault may_allocate e left → start ≡ Some c → Faulty e (AllocatesForItems encoding may_allocate c) (ItemsFault encoding Fault e c)
-  items_faults Fault vs read rest c may_allocate e start left from is joined more fault whole =
+  pub items_faults : (Fault : ErrorKind → List ℕ → Type 0) (vs : List V) (read rest c : List ℕ) (may_allocate : List ℕ → Type 0) (e : ErrorKind) (start left after : Input) → start ≡ Some (read ++ rest) → left ≡ Some rest
+      → Joins (map encoding vs) read → 0 < length rest → FailsBy Fault (AllocatesIn may_allocate) e left after → start ≡ Some c → Faulty e (AllocatesForItems encoding may_allocate c) (ItemsFault encoding Fault e c)
+  items_faults Fault vs read rest c may_allocate e start left after from is joined more fails whole =
       let c_is : c ≡ read ++ rest = some_same c (read ++ rest) (sym whole ∙ from) in
-      ⊎_elim (λ w. inl (w.0, items_asked may_allocate vs read rest c joined c_is w.1)) (λ f. inr (vs, (read, rest, joined, (more, f), c_is))) (fault rest is)
+      ⊎_elim (λ w. inl (w.0, items_asked may_allocate vs read rest c joined c_is w.1)) (λ f. inr (vs, (read, rest, joined, (more, f), c_is))) (fails.2 rest is)
 
   -- an item was read, so the first one is there
   pub items_begin : (vs : List V) (v : V) (read rest c : List ℕ) (start left after : Input) → start ≡ Some (read ++ rest) → left ≡ Some rest

@@ -1,27 +1,18 @@
 -- Reading contents that are one part after another: each step of the code is one lemma.
 use Rattle.std.proofs.Common.{◌≡◌, ℕ, ◌≤◌, arith, List, [], ◌∷◌, ◌++◌, length, refl, sym, ap, ◌∙◌, append-nil, inl, inr, ⊎_elim, Ok, Err, Some, None}
 use Rattle.der_core.specs.declared.error.ErrorKind.{ErrorKind}
-use Rattle.der_core.specs.declared.error.ErrorKind.TheVariants.{Failed}
 use Rattle.der_core.specs.Input.{Input, left_in, read_from, end_of}
-use Rattle.der_core.specs.Faults.{ThenFault, EndFault, WholeFault, Faulty, FaultyFront}
+use Rattle.der_core.specs.Faults.{ThenFault, EndFault, WholeFault, Faulty}
 use Rattle.der_core.specs.Document.{Means}
 use Rattle.der_core.specs.Length.{limit}
-use Rattle.der_core.specs.Reading.{AllocatesIn, NoneIn, Rejects, AllocatesBehind}
+use Rattle.der_core.specs.Reading.{AllocatesIn, AllocatesBehind, FailsBy}
 use Rattle.der_core.specs.Laws.Input.{ok_pair}
 
--- what decode ensures of an error, and of a value
-abbrev pub EncodingFails : {A : Type 0} → (A → List ℕ → Type 0) → (List ℕ → Type 0) → ErrorKind → Input → Input → Type 0
-EncodingFails encoding may_allocate e before after =
-    (after ≡ None) × (before ≡ None → e ≡ Failed) × ((i : List ℕ) → before ≡ Some i → Rejects e (AllocatesIn may_allocate i) (NoneIn encoding i))
-
+-- what decode ensures of a value
 abbrev pub EncodingGives : {A : Type 0} → (A → List ℕ → Type 0) → A → Input → Input → Type 0
 EncodingGives encoding x before after = (b : List ℕ) × (rest : List ℕ) × (before ≡ Some (b ++ rest)) × (after ≡ Some rest) × encoding x b
 
--- what decode_value has to ensure of an error, and of a value
-abbrev pub ContentsFail : {V : Type 0} → (V → List ℕ → Type 0) → (List ℕ → Type 0) → ErrorKind → Input → Input → Type 0
-ContentsFail {V} contents may_allocate e before after =
-    (after ≡ None) × ((c : List ℕ) → before ≡ Some c → Rejects e (may_allocate c) ((v : V) → contents v c → ⊥))
-
+-- what decode_value has to ensure of a value
 abbrev pub ContentsGive : (List ℕ → Type 0) → Input → Input → Type 0
 ContentsGive Contents before after = (c : List ℕ) × (before ≡ Some c) × (after ≡ Some []) × Contents c
 
@@ -52,8 +43,8 @@ end_faults may_allocate mid after e h = (h.1, λ c is. inr (more_than_end mid c 
 -- The fault of a part, and of what follows it.
 module _ {A : Type 0} (encoding : A → List ℕ → Type 0) (Fault : ErrorKind → List ℕ → Type 0) (Behind : A → ErrorKind → List ℕ → Type 0) (may_allocate : List ℕ → Type 0) where
   pub first_faults : {own : List ℕ → Type 0} → ((c : List ℕ) → AllocatesIn own c → may_allocate c) → (before after : Input) (e : ErrorKind)
-      → after ≡ None → FaultyFront Fault own e before → ContentsFaulty (ThenFault encoding Fault Behind) may_allocate e before after
-  first_faults asked before after e failed fault = (failed, λ c is. ⊎_elim (λ w. inl (w.0, asked c w.1)) (λ f. inr (inl f)) (fault c is))
+      → FailsBy Fault (AllocatesIn own) e before after → ContentsFaulty (ThenFault encoding Fault Behind) may_allocate e before after
+  first_faults asked before after e fails = (fails.0, λ c is. ⊎_elim (λ w. inl (w.0, asked c w.1)) (λ f. inr (inl f)) (fails.2 c is))
 
   pub rest_faults : {later : List ℕ → Type 0} → ((c : List ℕ) → AllocatesBehind encoding later c → may_allocate c) → (before mid after : Input) (e : ErrorKind) (x : A)
       → EncodingGives encoding x before mid → ContentsFaulty (Behind x) later e mid after → ContentsFaulty (ThenFault encoding Fault Behind) may_allocate e before after
@@ -69,8 +60,8 @@ module _ {A : Type 0} (encoding : A → List ℕ → Type 0) (Fault : ErrorKind 
 
 -- A whole slice: what it means, or its fault.
 module _ {V : Type 0} (encoding : V → List ℕ → Type 0) (Fault : ErrorKind → List ℕ → Type 0) (may_allocate : List ℕ → Type 0) (before : Input) (b : List ℕ) (e : ErrorKind) (is : before ≡ Some b) (within : length (left_in before) ≤ limit) where
-  pub whole_faults : FaultyFront Fault may_allocate e before → Faulty e (AllocatesIn may_allocate b) (WholeFault encoding Fault e b)
-  whole_faults fault = ⊎_elim inl (λ f. inr (inr (rw is at within, inl f))) (fault b is)
+  pub whole_faults : (after : Input) → FailsBy Fault (AllocatesIn may_allocate) e before after → Faulty e (AllocatesIn may_allocate b) (WholeFault encoding Fault e b)
+  whole_faults after fails = ⊎_elim inl (λ f. inr (inr (rw is at within, inl f))) (fails.2 b is)
 
   pub whole_means : (mid after : Input) (v : V) → EncodingGives encoding v before mid → ((rest : List ℕ) × (read_from mid end_of ≡ Ok (tt, rest)) × (after ≡ Some rest)) → Means encoding b v
   whole_means mid after v gives finish =

@@ -1,43 +1,59 @@
--- Reading all of a slice.
-use Rattle.std.proofs.Common.{◌≡◌, ℕ, ◌+◌, List, [], ◌∷◌, ◌++◌, length, refl, sym, ap, ◌∙◌, arith, append-nil, length-append, inl, inr, ⊎_elim, Err, Some}
+-- Whole slices: what is known of them, once they are read or rejected.
+use Rattle.std.proofs.Common.{◌≡◌, ◌≤◌, ℕ, List, length, ⊎_elim, inl, inr, refl, Result, Ok, Err}
+use Rattle.der_core.specs.declared.error.Error.{Error}
 use Rattle.der_core.specs.declared.error.ErrorKind.{ErrorKind}
-use Rattle.der_core.specs.declared.error.ErrorKind.TheVariants.{TrailingData}
-use Rattle.der_core.specs.Input.{Input, read_from, end_of}
-use Rattle.der_core.specs.Laws.Tells.{is_trailing}
-use Rattle.der_core.specs.Reading.{AllocatesIn, NoneIn, Rejects}
+use Rattle.der_core.specs.declared.tag.Tag.{Tag}
 use Rattle.der_core.specs.Document.{Means}
-use Rattle.der_core.specs.Encodings.{IsDelimited}
+use Rattle.der_core.specs.Encodings.{AreBytes, IsDelimited, MeansOne}
+use Rattle.der_core.specs.Faults.{AreFirst, AreNone, DocumentFault, EncodingFault, FailsExactly, FailsOrAsks, Faulty, IsTheFault, NoFault, WholeFault}
+use Rattle.der_core.specs.Laws.Encodings.{tlv_delimited}
+use Rattle.der_core.specs.Laws.Faults.{encoding_fault_none, encoding_fault_first, no_fault_none, no_fault_first, whole_fault_tells, whole_fault_none, whole_fault_first}
+use Rattle.der_core.specs.Length.{limit}
+use Rattle.der_core.specs.Reading.{AllocatesIn, NoneHas, NoneIn, Rejects, TellsOfBytes}
+use Rattle.der_core.specs.Tags.{sequence}
+use Rattle.der_core.specs.Tlv.{Tlv}
 
--- bytes behind the value
-pub trailing_is : (mid : Input) (rest : List ℕ) (e : ErrorKind) → mid ≡ Some rest → read_from mid end_of ≡ Err e → (e ≡ TrailingData) × (z : ℕ) × (zs : List ℕ) × (rest ≡ z ∷ zs)
-trailing_is mid [] e is read = let no = rw is at read in cc
-trailing_is mid (z ∷ zs) e is read = let yes = rw is at read in (cc, z, zs, refl)
+-- A grammar and the faults of its whole slices.
+pub record AreTold {V : Type 0} (Grammar : V → List ℕ → Type 0) (Fault : ErrorKind → List ℕ → Type 0) : Type 0 where
+  pub delimited : IsDelimited Grammar
+  pub tells : (kind : ErrorKind) (bytes : List ℕ) → Fault kind bytes → TellsOfBytes kind
+  pub none : (kind : ErrorKind) (bytes : List ℕ) → Fault kind bytes → (v : V) → Means Grammar bytes v → ⊥
+  pub first : (j k : ErrorKind) (bytes : List ℕ) → Fault j bytes → Fault k bytes → j ≡ k
 
--- an encoding was found, and bytes follow, so the whole is no encoding
-pub trailing_none : {V : Type 0} {encoding : V → List ℕ → Type 0} → IsDelimited encoding → (i a : List ℕ) (z : ℕ) (zs : List ℕ) (x : V) → encoding x a → i ≡ a ++ z ∷ zs → (w : V) → encoding w i → ⊥
-trailing_none d i a z zs x found is w has =
-    let e : a ++ z ∷ zs ≡ i ++ [] = sym is ∙ sym (append-nil i) in
-    let same = d.one x w a (z ∷ zs) i [] found has e in
-    let len : length i ≡ length a + length (z ∷ zs) = ap length is ∙ length-append a (z ∷ zs) in
-    let len2 : length a ≡ length i = ap length same.0 in
-    omega arith
+pub whole_told : {V : Type 0} (encoding : V → List ℕ → Type 0) (Fault : ErrorKind → List ℕ → Type 0) → IsDelimited encoding → AreNone (NoneIn encoding) Fault → AreFirst Fault → AreTold encoding (WholeFault encoding Fault)
+whole_told encoding Fault d none first = record {
+  delimited = d;
+  tells = whole_fault_tells encoding Fault d none;
+  none = whole_fault_none encoding Fault d none;
+  first = whole_fault_first encoding Fault d none first;
+}
 
-module _ (V : Type 0) (encoding : V → List ℕ → Type 0) (may_allocate : List ℕ → Type 0) where
-  -- no encoding at the front, so the whole is none
-  pub whole_rejected : (before : Input) (b : List ℕ) (e : ErrorKind) → before ≡ Some b
-      → ((i : List ℕ) → before ≡ Some i → Rejects e (AllocatesIn may_allocate i) (NoneIn encoding i))
-      → Rejects e (AllocatesIn may_allocate b) ((v : V) → Means encoding b v → ⊥)
-  whole_rejected before b e is why =
-      ⊎_elim inl (λ w. inr (w.0, λ v means. w.1 v b [] (sym (append-nil b)) means.1)) (why b is)
+pub tagged_told : {V : Type 0} (tag : Tag) (Contents : V → List ℕ → Type 0) (Fault : ErrorKind → List ℕ → Type 0) → MeansOne Contents → AreNone (NoneHas Contents) Fault → AreFirst Fault
+    → AreTold (λ v. Tlv tag.octet (Contents v)) (WholeFault (λ v. Tlv tag.octet (Contents v)) (EncodingFault tag Fault))
+tagged_told tag Contents Fault means none first =
+    whole_told (λ v. Tlv tag.octet (Contents v)) (EncodingFault tag Fault) (tlv_delimited tag.octet Contents means) (encoding_fault_none tag Fault Contents none) (encoding_fault_first tag Fault first)
 
-  -- an encoding with bytes behind it, so the whole is none
-  pub whole_trailing : IsDelimited encoding → (before mid : Input) (b : List ℕ) (e : ErrorKind) (v : V) → before ≡ Some b
-      → ((a : List ℕ) × (rest : List ℕ) × (before ≡ Some (a ++ rest)) × (mid ≡ Some rest) × encoding v a)
-      → read_from mid end_of ≡ Err e
-      → Rejects e (AllocatesIn may_allocate b) ((w : V) → Means encoding b w → ⊥)
-  whole_trailing splits before mid b e v is found read =
-      let more = trailing_is mid found.1 e found.3 read in
-      let some : Some b ≡ Some (found.0 ++ found.1) = sym is ∙ found.2 in
-      let same : b ≡ found.0 ++ found.1 = cc in
-      let whole : b ≡ found.0 ++ more.1 ∷ more.2 = same ∙ ap (λ l. found.0 ++ l) more.3 in
-      inr (is_trailing more.0, λ w means. trailing_none splits b found.0 more.1 more.2 v found.4 whole w means.1)
+pub document_told : AreTold {V = Unit {0}} (λ _. Tlv sequence.octet AreBytes) DocumentFault
+document_told = tagged_told {V = Unit {0}} sequence (λ _. AreBytes) NoFault (λ v w c p q. refl) (no_fault_none _) no_fault_first
+
+module _ {V : Type 0} {Grammar : V → List ℕ → Type 0} {Fault : ErrorKind → List ℕ → Type 0} (told : AreTold Grammar Fault) (bytes : List ℕ) where
+  pub the_only_fault : {kind : ErrorKind} → Fault kind bytes → IsTheFault Fault bytes kind
+  the_only_fault {kind} fault = (told.tells kind bytes fault, fault, λ other f. told.first other kind bytes f fault)
+
+  module _ {kind : ErrorKind} {asked : Type 0} (faulty : Faulty kind asked (Fault kind bytes)) where
+    pub the_fault_or_memory : Faulty kind asked (IsTheFault Fault bytes kind)
+    the_fault_or_memory = ⊎_elim inl (λ f. inr (the_only_fault f)) faulty
+
+    pub fault_rejects : Rejects kind asked ((v : V) → Means Grammar bytes v → ⊥)
+    fault_rejects = ⊎_elim inl (λ f. inr (told.tells kind bytes f, told.none kind bytes f)) faulty
+
+-- Where no memory is asked for.
+pub no_memory : {kind : ErrorKind} {asked fault : Type 0} → (asked → ⊥) → Faulty kind asked fault → fault
+no_memory never faulty = ⊎_elim (λ w. absurd (never w.1)) (λ f. f) faulty
+
+pub never_asks : {Read X : Type 0} (Fault : ErrorKind → Read → Type 0) (read : Read) {asked : Type 0} → (asked → ⊥) → (r : Result X Error) → FailsOrAsks Fault read asked r → FailsExactly Fault read r
+never_asks Fault read never (Ok x) none = none
+never_asks Fault read never (Err e) faulty = no_memory never faulty
+
+pub lacks_there : {Lacks : List ℕ → Type 0} {Fault : ErrorKind → List ℕ → Type 0} → AreNone Lacks Fault → {kind : ErrorKind} (bytes : List ℕ) → length bytes ≤ limit → Faulty kind (AllocatesIn (λ _. ⊥) bytes) (Fault kind bytes) → Lacks bytes
+lacks_there none bytes within faulty = (none _ bytes within (no_memory (λ w. w.3) faulty)).1

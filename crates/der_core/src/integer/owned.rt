@@ -2,7 +2,7 @@
 ghost use Rattle.std.specs.Prelude.{◌≡◌, ◌≤◌, ◌<◌, ◌⊎◌, ℕ, List, length, OnOk, IfOk, IfErr, Some};
 ghost use Rattle.std.specs.Int.Digits.{number_from_digits};
 ghost use Rattle.der_core.specs.Length.{limit};
-ghost use Rattle.der_core.specs.Reading.{HoldsBytes, ReadsContents, ReadsOrFaults};
+ghost use Rattle.der_core.specs.Reading.{HoldsBytes, ReadsOrFaults};
 ghost use Rattle.der_core.specs.Faults.{IntegerFault};
 ghost use Rattle.der_core.specs.Laws.Faults.{integer_fault_none, integer_fault_first};
 ghost use Rattle.der_core.specs.Integer.{HoldsNumber, IsCanonical, AreCanonicalOf, IntegerContents, integer_contents};
@@ -126,8 +126,6 @@ impl<'a> DecodeValue<&'a [u8], Global> for Uint {
         header: Header,
     ) -> Result<Uint>
         requires { HoldsBytes (R.left reader.old) header.length }
-        ensures reads { let may_allocate = λ (c : List ℕ). (bytes : List ℕ) × IntegerContents bytes c in
-            ReadsContents own_bytes_of IntegerContents may_allocate result (R.left reader.old) (R.left reader.new) }
         ensures exact { (c : List ℕ) → R.left reader.old ≡ Some c
             → AnswersOrRunsOut own_bytes_of result (integer_of c) }
         ensures fault { let may_allocate = λ (c : List ℕ). (bytes : List ℕ) × IntegerContents bytes c in

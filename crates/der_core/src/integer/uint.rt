@@ -2,7 +2,7 @@
 ghost use Rattle.std.specs.Prelude.{◌≡◌, ◌≤◌, ◌<◌, ◌⊎◌, ℕ, List, length, slice_index, OnOk, IfOk, IfErr, IsOk, Some, ⊤};
 ghost use Rattle.std.specs.Int.Digits.{number_from_digits};
 ghost use Rattle.der_core.specs.Length.{limit};
-ghost use Rattle.der_core.specs.Reading.{ReadsContents, ReadsOrFaults, HoldsBytes};
+ghost use Rattle.der_core.specs.Reading.{ReadsOrFaults, HoldsBytes};
 ghost use Rattle.der_core.specs.Faults.{IntegerFault};
 ghost use Rattle.der_core.specs.Laws.Faults.{integer_fault_none, integer_fault_first};
 ghost use Rattle.der_core.specs.Integer.{HoldsNumber, IsCanonical, AreCanonicalOf, IntegerContents, integer_contents};
@@ -183,7 +183,6 @@ impl<'a, M: Memory> DecodeValue<&'a [u8], M> for UintRef<'a> {
         header: Header,
     ) -> Result<UintRef<'a>>
         requires { HoldsBytes (R.left reader.old) header.length }
-        ensures reads { ReadsContents bytes_of IntegerContents (λ _. ⊥) result (R.left reader.old) (R.left reader.new) }
         ensures exact { (c : List ℕ) → R.left reader.old ≡ Some c → Answers bytes_of result (integer_of c) }
         ensures fault { let before = R.left reader.old in
             ReadsOrFaults bytes_of IntegerContents IntegerFault (λ _. ⊥) result before (R.left reader.new) }

@@ -1,8 +1,8 @@
-use Rattle.std.proofs.Common.{refl, sym, subst, inr}
+use Rattle.std.proofs.Common.{sym, subst, inr}
 use Rattle.std.proofs.lemmas.Result.{err_from_is_err_and}
 use Rattle.der_core.specs.Document.{IsDocument}
-use Rattle.der_core.specs.Laws.Faults.{document_fault_first}
-use Rattle.der_core.proofs.Documents.{no_document, document_faulty, document_sound}
+use Rattle.der_core.specs.Laws.Whole.{no_memory}
+use Rattle.der_core.proofs.Documents.{no_document}
 use Rattle.der_core.proofs.document.DocumentOf.from_der.Goals as goal
 
 pub returns-in_err-from_der-clause-err : goal.returns-in_err-from_der-clause-err
@@ -13,18 +13,7 @@ returns-in_err-from_der-clause-err g c =
 pub returns-in_err-from_der-clause-exact : goal.returns-in_err-from_der-clause-exact
 returns-in_err-from_der-clause-exact g c =
     let p = err_from_is_err_and c.from_residual.result c.from_residual.ensures.1 in
-    rw (p.1, p.2) (inr (document_faulty _ _ c.in_err-from_der.ensures.exact))
-
-pub returns-in_err-from_der-clause-only : goal.returns-in_err-from_der-clause-only
-returns-in_err-from_der-clause-only g c kind fault =
-    let p = err_from_is_err_and c.from_residual.result c.from_residual.ensures.1 in
-    rw (p.1, p.2) (document_fault_first _ kind _ (document_faulty _ _ c.in_err-from_der.ensures.exact) fault)
-
-pub returns-in_err-copy_of-clause-only : goal.returns-in_err-copy_of-clause-only
-returns-in_err-copy_of-clause-only g c kind fault = absurd (document_sound kind _ _ refl fault c.in_ok-from_der.ensures.encoding)
-
-pub returns-clause-only : goal.returns-clause-only
-returns-clause-only g c kind fault = absurd (document_sound kind _ _ refl fault c.in_ok-from_der.ensures.encoding)
+    rw (p.1, p.2) (inr (no_memory (λ w. w.3.holds) c.in_err-from_der.ensures.exact))
 
 pub invariant_of-result : goal.invariant_of-result
 invariant_of-result g c = record { whole = subst IsDocument (sym c.in_ok-copy_of.ensures.ok) c.in_ok-from_der.ensures.encoding }
