@@ -1,20 +1,22 @@
 -- Reading an encoding of any tag.
-use Rattle.std.proofs.Common.{◌≡◌, ℕ, ◌<◌, ◌≤◌, List, [], ◌∷◌, ◌++◌, length, take, drop, refl, sym, ap, ◌∙◌, arith, length-append, length-take, append_assoc, inr, ⊎_elim, Ok, Err, Some, None}
+use Rattle.std.proofs.Common.{◌≡◌, ℕ, ◌<◌, ◌≤◌, List, [], ◌∷◌, ◌++◌, length, take, drop, refl, sym, ap, ◌∙◌, arith, length-take, append_assoc, inr, ⊎_elim, Ok, Err, Some, None}
 use Rattle.std.proofs.lemmas.Bool.Decides.{nat_tests}
 use Rattle.std.proofs.lemmas.List.{take-append-drop}
 use Rattle.std.specs.Prelude.{nat_lt}
-use Rattle.der_core.specs.Length.{limit}
 use Rattle.der_core.specs.Encodings.{AreBytes}
 use Rattle.der_core.specs.declared.error.ErrorKind.{ErrorKind}
 use Rattle.der_core.specs.declared.error.ErrorKind.TheVariants.{Incomplete}
 use Rattle.der_core.specs.Input.{Input, left_in, read_from, front_of, header_at}
 use Rattle.der_core.specs.Laws.LengthReading.{chosen}
 use Rattle.der_core.specs.Laws.Input.{ok_pair}
-use Rattle.der_core.specs.Laws.Headers.{tlv_header, header_at-sound, header_at-tells, header_sound}
-use Rattle.der_core.specs.Laws.Tells.{is_incomplete}
+use Rattle.der_core.specs.Laws.Headers.{header_at-sound, header_sound}
 use Rattle.der_core.specs.Laws.HeaderAndContents.{Headed}
-use Rattle.der_core.specs.Laws.Sequences.{EncodingFails, EncodingGives}
-use Rattle.der_core.specs.Faults.{FaultyFront}
+use Rattle.der_core.specs.Laws.Sequences.{EncodingGives}
+use Rattle.der_core.specs.Laws.Whole.{AreTold, whole_told}
+use Rattle.der_core.specs.Faults.{WholeFault}
+use Rattle.der_core.specs.Reading.{FailsBy}
+use Rattle.spki_core.specs.Laws.AnyEncodings.{any_delimited}
+use Rattle.spki_core.specs.Laws.Faults.{any_fault_none, any_fault_first}
 use Rattle.spki_core.specs.Faults.{AnyFault, headless, too_few}
 use Rattle.spki_core.specs.Any.{Any}
 
@@ -41,53 +43,24 @@ bytes_front : (a b : List ℕ) → AreBytes (a ++ b) → AreBytes a
 bytes_front [] b o = tt
 bytes_front (x ∷ a) b o = (o.0, bytes_front a b o.1)
 
--- no header, so no encoding
-pub no_header : (before after : Input) (e : ErrorKind) → length (left_in before) ≤ limit
-    → read_from before header_at ≡ Err e → after ≡ None → EncodingFails Any (λ _. ⊥) e before after
-no_header None after e within read failed = (failed, λ _. cc, λ i is. cc)
-no_header (Some i) after e within read failed = (
+-- no header
+pub header_fails : {asked : List ℕ → Type 0} (before after : Input) (e : ErrorKind) → read_from before header_at ≡ Err e → after ≡ None → FailsBy AnyFault asked e before after
+header_fails before after e read failed = (failed, (λ none. let kind = rw none at read in cc), λ i is. inr (headless (rw is at read)))
+
+-- no room for the contents
+pub room_fails : {asked : List ℕ → Type 0} (before mid after : Input) (e : ErrorKind) (t n : ℕ) → AreBytes (left_in before) → Headed before mid t n → read_from mid (front_of n) ≡ Err e → after ≡ None → FailsBy AnyFault asked e before after
+room_fails before mid after e t n bytes head short failed = (
   failed,
-  λ none. cc,
-  λ j is.
-      let same : i ≡ j = cc in
-      inr (
-        header_at-tells i e read,
-        λ v b rest split encoding.
-            let found = tlv_header v.tag b i rest encoding.0.0 within encoding.1 (same ∙ split) in
-            cc,
-      ),
+  (λ none. let no = rw none at head.1 in cc),
+  λ i is.
+      let few = front_fails n head.0 e (rw head.2 at short) in
+      let front = header_sound i head.0 (t, n) (rw is at bytes) (rw is at head.1) in
+      inr (too_few t n front.0 head.0 front.2 front.1 few.0 few.1),
 )
 
--- no room for the contents, so no encoding
-pub no_room : (before mid after : Input) (e : ErrorKind) (t n : ℕ) → length (left_in before) ≤ limit
-    → Headed before mid t n → read_from mid (front_of n) ≡ Err e → after ≡ None → EncodingFails Any (λ _. ⊥) e before after
-no_room None mid after e t n within head short failed = let no = head.1 in cc
-no_room (Some i) mid after e t n within head short failed =
-    let few = front_fails n head.0 e (rw head.2 at short) in (
-      failed,
-      λ none. cc,
-      λ j is.
-          let same : i ≡ j = cc in
-          inr (
-            is_incomplete few.1,
-            λ v b rest split encoding.
-                let p = encoding.1 in
-                let found = tlv_header v.tag b i rest encoding.0.0 within p (same ∙ split) in
-                let parts = ok_pair (t, n) (v.tag, length p.contents) head.0 (p.contents ++ rest) (sym head.1 ∙ found) in
-                let number : n ≡ length p.contents = ap (λ q. q.1) parts.0 in
-                omega (arith, few.0, ap length parts.1, length-append p.contents rest),
-          ),
-    )
-
--- the same, as first faults
-pub header_fault : (before : Input) (e : ErrorKind) → read_from before header_at ≡ Err e → FaultyFront AnyFault (λ _. ⊥) e before
-header_fault before e read i is = inr (headless (rw is at read))
-
-pub room_fault : (before mid : Input) (e : ErrorKind) (t n : ℕ) → AreBytes (left_in before) → Headed before mid t n → read_from mid (front_of n) ≡ Err e → FaultyFront AnyFault (λ _. ⊥) e before
-room_fault before mid e t n bytes head short i is =
-    let few = front_fails n head.0 e (rw head.2 at short) in
-    let front = header_sound i head.0 (t, n) (rw is at bytes) (rw is at head.1) in
-    inr (too_few t n front.0 head.0 front.2 front.1 few.0 few.1)
+-- whole slices
+pub any_told : AreTold Any (WholeFault Any AnyFault)
+any_told = whole_told Any AnyFault any_delimited any_fault_none any_fault_first
 
 -- a header and its contents
 pub any_read : (before mid after : Input) (t n : ℕ) (c : List ℕ) → AreBytes (left_in before)

@@ -9,6 +9,7 @@ use Rattle.spki_core.specs.Any.{TagAndContents}
 use Rattle.der_core.specs.Headers.{HeaderEncoding}
 use Rattle.der_core.specs.Input.{header_at}
 use Rattle.der_core.specs.Reading.{NoneHas}
+use Rattle.der_core.specs.Tag.{context_tag}
 use Rattle.der_core.specs.Tags.{object_identifier}
 use Rattle.spki_core.specs.Explicit.{IsNext, FieldRead}
 use Rattle.spki_core.specs.ObjectIdentifier.{IdentifierContents, ObjectIdentifier}
@@ -29,6 +30,10 @@ IdentifierFault kind contents = (kind ≡ OidMalformed) × NoneHas IdentifierCon
 -- A fault of the identifier, or of the parameters behind it, if there are any.
 abbrev pub AlgorithmFault : {P : Type 0} → (P → List ℕ → Type 0) → (ErrorKind → List ℕ → Type 0) → ErrorKind → List ℕ → Type 0
 AlgorithmFault Parameters ParametersFault = ThenFault ObjectIdentifier (EncodingFault object_identifier IdentifierFault) (λ _. LastFault Parameters ParametersFault)
+
+-- The encoding with the tag [n], whose contents have faults of their own, has a fault.
+abbrev pub ExplicitFault : ℕ → (ErrorKind → List ℕ → Type 0) → ErrorKind → List ℕ → Type 0
+ExplicitFault n ContentsFault kind bytes = (tag : Tag) × (tag.octet ≡ context_tag n) × EncodingFault tag ContentsFault kind bytes
 
 -- The octet of the field [n] is next, and the field has a fault.
 abbrev pub NextFault : ℕ → (ErrorKind → List ℕ → Type 0) → ErrorKind → List ℕ → Type 0

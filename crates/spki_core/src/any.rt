@@ -1,13 +1,11 @@
 //! Encodings of any tag.
-ghost use Rattle.std.specs.Prelude.{◌≡◌, ◌≢◌, ◌≤◌, ◌<◌, ℕ, [], length, slice_index, refl, ⊤, IfOk, IsOk, IfErr};
-ghost use Rattle.std.specs.Prelude.{IsErrAnd, IsTrue};
+ghost use Rattle.std.specs.Prelude.{◌≡◌, ◌≤◌, ◌<◌, ℕ, [], length, slice_index, refl, ⊤, IfOk, IsOk, IfErr};
+ghost use Rattle.std.specs.Prelude.{IsTrue};
 ghost use Rattle.der_core.specs.Length.{limit};
 ghost use Rattle.der_core.specs.Tag.{is_allowed};
-ghost use Rattle.der_core.specs.Faults.{Faulty, FaultyFront};
-ghost use Rattle.der_core.specs.Reading.{ReadsEncoding, Rejects};
+ghost use Rattle.der_core.specs.Faults.{FailsOrAsks};
+ghost use Rattle.der_core.specs.Reading.{ReadsFront, Rejects};
 ghost use Rattle.spki_core.specs.Faults.{AnyFault, OtherAnyFault};
-ghost use Rattle.der_core.specs.declared.error.ErrorKind as der;
-ghost use Rattle.der_core.specs.ErrorKinds.{IsUnexpected};
 ghost use Rattle.spki_core.specs.Any.{TagAndContents, IsAny, Any, null_value, written_any};
 ghost use Rattle.spki_core.specs.Laws.AnyEncodings.{any_delimited, any_of_bytes, any_relates, any_shortest};
 
@@ -115,14 +113,9 @@ impl<'a> AnyRef<'a> {
         ensures err { let any = any_of self.entry in
             let no_value : Type 0 = (value : T.Value) → any.tag ≡ T.TAG.octet → T.contents value any.contents → ⊥ in
             IfErr result (λ e. Rejects e.kind (T.may_allocate any.contents) no_value) }
-        ensures tag { let tag = (any_of self.entry).tag in
-            IfErr result (λ e. tag ≢ T.TAG.octet → IsUnexpected T.TAG tag e.kind) }
         ensures exact { let any = any_of self.entry in
-            let asked = T.may_allocate any.contents in
-            IfErr result (λ e. Faulty e.kind asked (OtherAnyFault T.TAG T.DecodeValue.fault e.kind any)) }
-        ensures only { let any = any_of self.entry in
-            (kind : der.ErrorKind) → OtherAnyFault T.TAG T.DecodeValue.fault kind any
-            → IsErrAnd result (λ e. Faulty e.kind (T.may_allocate any.contents) (e.kind ≡ kind)) }
+            let asked = (any.tag ≡ T.TAG.octet) × T.may_allocate any.contents in
+            FailsOrAsks (OtherAnyFault T.TAG T.DecodeValue.fault) any asked result }
     {
         if self.tag() != T::TAG {
             return Err(Error::new(ErrorKind::TagUnexpected {
@@ -191,9 +184,8 @@ impl<'a, M: Memory> Decode<&'a [u8], M> for AnyRef<'a> {
 /// Reads the encoding at the front of what is left.
 #[inline(always)]
 fn read_any<'a, R: Reader<&'a [u8]>>(reader: &mut R) -> Result<AnyRef<'a>>
-    ensures encoding { ReadsEncoding (λ (any : AnyRef). record { tag = any.tag.octet; contents = any.contents.now })
-        Any (λ _. ⊥) result (R.left reader.old) (R.left reader.new) }
-    ensures exact { IfErr result (λ e. FaultyFront AnyFault (λ _. ⊥) e.kind (R.left reader.old)) }
+    ensures { ReadsFront (λ (any : AnyRef). record { tag = any.tag.octet; contents = any.contents.now })
+        Any AnyFault (λ _. ⊥) result (R.left reader.old) (R.left reader.new) }
 {
     let header = Header::decode(reader)?;
     let contents = reader.read_slice(header.length)?;

@@ -1,12 +1,11 @@
 //! Values inside explicit context-specific tags (X.690 8.14.2).
-ghost use Rattle.std.specs.Prelude.{IfErr, ◌≡◌, ◌+◌};
+ghost use Rattle.std.specs.Prelude.{◌≡◌, ◌+◌};
 ghost use Rattle.der_core.specs.Tag.{context_tag};
 ghost use Rattle.der_core.specs.Tlv.{Tlv};
-ghost use Rattle.der_core.specs.declared.tag.Tag.{Tag};
-ghost use Rattle.der_core.specs.Faults.{EncodingFault, AloneFault, FaultyFront, OnlyFront};
-ghost use Rattle.der_core.specs.Reading.{ReadsEncoding, ReadsOptional, AllocatesIn, TellsNext};
+ghost use Rattle.der_core.specs.Faults.{EncodingFault, AloneFault};
+ghost use Rattle.der_core.specs.Reading.{ReadsFront, ReadsOptional, AllocatesIn, TellsNext};
 ghost use Rattle.spki_core.specs.Allocating.{FieldAllocates};
-ghost use Rattle.spki_core.specs.Faults.{NextFault};
+ghost use Rattle.spki_core.specs.Faults.{ExplicitFault};
 ghost use Rattle.spki_core.specs.ContextSpecific.{Numbered, ContextSpecific, HasNumbered, written_numbered};
 ghost use Rattle.spki_core.specs.Laws.ContextSpecific.{numbered_delimited, numbered_of_bytes, numbered_relates};
 ghost use Rattle.spki_core.specs.Laws.ContextSpecific.{numbered_shortest};
@@ -92,16 +91,11 @@ pub fn read_context_specific<'a, T: Decode<&'a [u8], M>, M: Memory, R: Reader<&'
     reader: &mut R,
     number: TagNumber,
 ) -> Result<Option<T>>
-    ensures reads { let tag = context_tag number.value in
+    ensures { let tag = context_tag number.value in
         let may = FieldAllocates number.value T.Decode.may_allocate in
-        ReadsOptional tag T.value (λ v. Tlv tag (T.encoding v)) may result (R.left reader.old) (R.left reader.new) }
-    ensures exact { let may = FieldAllocates number.value T.Decode.may_allocate in
-        let fault = λ (tag : Tag). NextFault number.value (EncodingFault tag (AloneFault T.encoding T.Decode.fault)) in
-        IfErr result (λ e. (tag : Tag) → tag.octet ≡ context_tag number.value
-        → FaultyFront (fault tag) may e.kind (R.left reader.old)) }
-    ensures only { let may = FieldAllocates number.value T.Decode.may_allocate in
-        let fault = λ (tag : Tag). NextFault number.value (EncodingFault tag (AloneFault T.encoding T.Decode.fault)) in
-        (tag : Tag) → tag.octet ≡ context_tag number.value → OnlyFront (fault tag) may result (R.left reader.old) }
+        let fault = ExplicitFault number.value (AloneFault T.encoding T.Decode.fault) in
+        let before = R.left reader.old in
+        ReadsOptional tag T.value (λ v. Tlv tag (T.encoding v)) fault may result before (R.left reader.new) }
 {
     if !is_field_next(reader, number)? {
         return Ok(None);
@@ -117,15 +111,11 @@ pub fn read_explicit<'a, T: Decode<&'a [u8], M>, M: Memory, R: Reader<&'a [u8]>>
     reader: &mut R,
     number: TagNumber,
 ) -> Result<T>
-    ensures encoding { let tag = context_tag number.value in
+    ensures { let tag = context_tag number.value in
         let may = FieldAllocates number.value T.Decode.may_allocate in
-        ReadsEncoding T.value (λ v. Tlv tag (T.encoding v)) may result (R.left reader.old) (R.left reader.new) }
-    ensures exact { let may = FieldAllocates number.value T.Decode.may_allocate in
-        IfErr result (λ e. (tag : Tag) → tag.octet ≡ context_tag number.value
-        → FaultyFront (EncodingFault tag (AloneFault T.encoding T.Decode.fault)) may e.kind (R.left reader.old)) }
-    ensures only { let may = FieldAllocates number.value T.Decode.may_allocate in
-        let fault = λ (tag : Tag). EncodingFault tag (AloneFault T.encoding T.Decode.fault) in
-        (tag : Tag) → tag.octet ≡ context_tag number.value → OnlyFront (fault tag) may result (R.left reader.old) }
+        let fault = ExplicitFault number.value (AloneFault T.encoding T.Decode.fault) in
+        let before = R.left reader.old in
+        ReadsFront T.value (λ v. Tlv tag (T.encoding v)) fault may result before (R.left reader.new) }
 {
     read_inside(memory, reader, Tag::context(number))
 }
@@ -137,11 +127,10 @@ fn read_inside<'a, T: Decode<&'a [u8], M>, M: Memory, R: Reader<&'a [u8]>>(
     reader: &mut R,
     tag: Tag,
 ) -> Result<T>
-    ensures encoding { let may = Tlv tag.octet (AllocatesIn T.Decode.may_allocate) in
-        ReadsEncoding T.value (λ v. Tlv tag.octet (T.encoding v)) may result (R.left reader.old) (R.left reader.new) }
-    ensures exact { let may = Tlv tag.octet (AllocatesIn T.Decode.may_allocate) in
+    ensures { let may = Tlv tag.octet (AllocatesIn T.Decode.may_allocate) in
         let fault = EncodingFault tag (AloneFault T.encoding T.Decode.fault) in
-        IfErr result (λ e. FaultyFront fault may e.kind (R.left reader.old)) }
+        let before = R.left reader.old in
+        ReadsFront T.value (λ v. Tlv tag.octet (T.encoding v)) fault may result before (R.left reader.new) }
 {
     let header = Header::decode_likely(reader, tag)?;
     if header.tag != tag {

@@ -1,21 +1,18 @@
 //! Explicit fields with defaults (X.690 8.14.2, 11.5).
-ghost use Rattle.std.specs.Prelude.{IfErr, ◌≡◌, ◌≤◌, ◌+◌, length, None, IsErrAnd};
+ghost use Rattle.std.specs.Prelude.{◌≤◌, ◌+◌, length};
 ghost use Rattle.der_core.specs.Length.{limit};
 ghost use Rattle.der_core.specs.BackWriters.{free_of, Prepends};
 ghost use Rattle.der_core.specs.Writing.{Counts, Appends};
-ghost use Rattle.der_core.specs.declared.tag.Tag.{Tag};
 ghost use Rattle.der_core.specs.Tag.{context_tag};
 ghost use Rattle.der_core.specs.Tlv.{tlv};
-ghost use Rattle.der_core.specs.Faults.{EncodingFault, AloneFault, FaultyFront, OnlyFront};
-ghost use Rattle.spki_core.specs.Allocating.{FieldAllocates};
-ghost use Rattle.spki_core.specs.Faults.{NextFault};
+ghost use Rattle.der_core.specs.Faults.{AloneFault};
+ghost use Rattle.spki_core.specs.Faults.{ExplicitFault};
 ghost use Rattle.spki_core.specs.FieldReading.{ReadsField};
 ghost use Rattle.spki_core.specs.FieldWriting.{HasField, written_field};
 
 use crate::context_specific::{ContextSpecificRef, is_field_next, read_explicit};
 use der_core::{
-    BackWriter, Decode, Encode, Encoding, ErrorKind, Length, Memory, Reader, Result, TagNumber,
-    Writer,
+    BackWriter, Decode, Encode, Encoding, Length, Memory, Reader, Result, TagNumber, Writer,
 };
 
 /// Reads an explicit field, or returns its default if the next octet isn't that of its tag. If the default is costly to
@@ -27,17 +24,9 @@ pub fn read_field<'a, T: Decode<&'a [u8], M>, M: Memory, R: Reader<&'a [u8]>>(
     number: TagNumber,
     default: T,
 ) -> Result<T>
-    ensures reads { let may = T.Decode.may_allocate in
-        ReadsField number.value T.value T.encoding (T.value default) may result (R.left reader.old)
-        (R.left reader.new) }
-    ensures exact { let may = FieldAllocates number.value T.Decode.may_allocate in
-        let fault = λ (tag : Tag). NextFault number.value (EncodingFault tag (AloneFault T.encoding T.Decode.fault)) in
-        IfErr result (λ e. (tag : Tag) → tag.octet ≡ context_tag number.value
-        → FaultyFront (fault tag) may e.kind (R.left reader.old)) }
-    ensures only { let may = FieldAllocates number.value T.Decode.may_allocate in
-        let fault = λ (tag : Tag). NextFault number.value (EncodingFault tag (AloneFault T.encoding T.Decode.fault)) in
-        (tag : Tag) → tag.octet ≡ context_tag number.value → OnlyFront (fault tag) may result (R.left reader.old) }
-    ensures failed { R.left reader.old ≡ None → IsErrAnd result (λ e. e.kind ≡ ErrorKind.Failed) }
+    ensures { let fault = ExplicitFault number.value (AloneFault T.encoding T.Decode.fault) in
+        ReadsField number.value T.value T.encoding (T.value default) fault T.Decode.may_allocate result
+        (R.left reader.old) (R.left reader.new) }
 {
     if is_field_next(reader, number)? {
         read_explicit(memory, reader, number)

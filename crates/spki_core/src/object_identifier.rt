@@ -9,7 +9,6 @@ ghost use Rattle.std.specs.Hash as fed;
 ghost use Rattle.std.specs.Str.{bytes_eq};
 ghost use Rattle.std.specs.Cmp.Rules.{comparing, hashing};
 ghost use Rattle.der_core.specs.Tags.{object_identifier};
-ghost use Rattle.der_core.specs.Reading.{ReadsContents, HoldsBytes};
 
 use crate::identifier_view::IdentifierView;
 use der_core::{
@@ -192,10 +191,8 @@ impl EqualByValue for ObjectIdentifier {
 }
 
 impl<'a, M: Memory> DecodeValue<&'a [u8], M> for ObjectIdentifier {
-    ghost use Rattle.der_core.specs.Reading.{ReadsOrFaults};
     ghost use Rattle.spki_core.specs.Faults.{IdentifierFault};
     ghost use Rattle.spki_core.specs.Laws.Faults.{identifier_fault_none, identifier_fault_first};
-    ghost use Rattle.spki_core.specs.ObjectIdentifierValue.{own_octets_of};
 
     ghost may_allocate = { λ _. ⊥ };
 
@@ -205,14 +202,7 @@ impl<'a, M: Memory> DecodeValue<&'a [u8], M> for ObjectIdentifier {
         _memory: M,
         reader: &mut R,
         header: Header,
-    ) -> Result<ObjectIdentifier>
-        requires { HoldsBytes (R.left reader.old) header.length }
-        ensures reads { let before = R.left reader.old in
-            ReadsContents own_octets_of IdentifierContents (λ _. ⊥) result before (R.left reader.new) }
-        ensures exact { IfErr result (λ e. e.kind ≡ ErrorKind.OidMalformed) }
-        ensures fault { let before = R.left reader.old in
-            ReadsOrFaults own_octets_of IdentifierContents IdentifierFault (λ _. ⊥) result before (R.left reader.new) }
-    {
+    ) -> Result<ObjectIdentifier> {
         let contents = reader.read_slice(header.length)?;
         match ObjectIdentifier::from_bytes(contents) {
             Ok(oid) => Ok(oid),
