@@ -7,9 +7,9 @@ use Rattle.der_core.specs.Laws.Encodings.{last_holds}
 use Rattle.der_core.specs.Integer.{Small}
 use Rattle.der_core.specs.declared.error.ErrorKind.{ErrorKind}
 use Rattle.der_core.specs.Input.{Input}
-use Rattle.der_core.specs.Reading.{AllocatesBehind}
+use Rattle.der_core.specs.Reading.{AllocatesBehind, AllocatesIn, FailsBy}
 use Rattle.der_core.specs.Laws.Sequences.{some_same, first_faults, rest_faults, EncodingGives, ContentsGive, ContentsFaulty}
-use Rattle.der_core.specs.Faults.{EncodingFault, ThenFault, FaultyFront}
+use Rattle.der_core.specs.Faults.{EncodingFault, ThenFault}
 use Rattle.der_core.specs.Tags.{integer}
 use Rattle.pkcs1.specs.KeyFaults.{Counted, VersionFault, CountedFault, OthersFault, PrivateKeyFault}
 use Rattle.pkcs1.specs.Allocating.{AllocatesCounted, AllocatesInKey, VersionEncoding}
@@ -30,7 +30,7 @@ module _ {V : Type 0} (encoding : V → List ℕ → Type 0) where
     abbrev Behind : ℕ → ErrorKind → List ℕ → Type 0
     Behind n = ThenFault (Counted 8 encoding) (CountedFault 8 encoding Fault) (λ _. OthersFault encoding Fault n)
 
-    pub version_faults : {before after : Input} {e : ErrorKind} → after ≡ None → FaultyFront (EncodingFault integer VersionFault) (Tlv 2 (λ _. ⊥)) e before → KeyFaulty e before after
+    pub version_faults : {before after : Input} {e : ErrorKind} → FailsBy (EncodingFault integer VersionFault) (AllocatesIn (Tlv 2 (λ _. ⊥))) e before after → KeyFaulty e before after
     version_faults = first_faults VersionEncoding (EncodingFault integer VersionFault) Behind (AllocatesInKey encoding may_allocate others_ask) (λ c w. absurd w.3.holds) _ _ _
 
     behind_faults : {n : ℕ} {before one after : Input} {e : ErrorKind} {later : List ℕ → Type 0} → ((c : List ℕ) → AllocatesBehind VersionEncoding later c → AllocatesInKey encoding may_allocate others_ask c)

@@ -5,9 +5,9 @@ use Rattle.der_core.specs.Encodings.{Then, Joins, IsDelimited}
 use Rattle.der_core.specs.Laws.Lists.{same_fronts, cons_path}
 use Rattle.der_core.specs.declared.error.ErrorKind.{ErrorKind}
 use Rattle.der_core.specs.Input.{Input, read_from, end_of}
-use Rattle.der_core.specs.Reading.{AllocatesBehind, AllocatesIn}
+use Rattle.der_core.specs.Reading.{AllocatesBehind, AllocatesIn, FailsBy}
 use Rattle.der_core.specs.Laws.Encodings.{last_holds}
-use Rattle.der_core.specs.Faults.{ThenFault, EndFault, FaultyFront}
+use Rattle.der_core.specs.Faults.{ThenFault, EndFault}
 use Rattle.pkcs1.specs.Allocating.{AllocatesCounted}
 use Rattle.pkcs1.specs.KeyFaults.{Counted, CountedFault, OtherPrimeFault}
 use Rattle.der_core.specs.Laws.Sequences.{some_same, EncodingGives, ContentsFaulty, more_than_end}
@@ -68,22 +68,22 @@ first_part Encoding Fault Behind asks fails = (fails.0, λ c is. ⊎_elim inl (�
 
 -- The faults of numbers, one after another.
 module _ {V : Type 0} {encoding : V → List ℕ → Type 0} (Fault : ErrorKind → List ℕ → Type 0) (may_allocate : List ℕ → Type 0) where
-  pub number_faults : (n : ℕ) {vs : List V} {before mid after : Input} {e : ErrorKind} → length vs < n → GivesAll encoding vs before mid → after ≡ None → FaultyFront Fault may_allocate e mid
+  pub number_faults : (n : ℕ) {vs : List V} {before mid after : Input} {e : ErrorKind} → length vs < n → GivesAll encoding vs before mid → FailsBy Fault (AllocatesIn may_allocate) e mid after
       → ContentsFaulty (CountedFault n encoding Fault) (AllocatesCounted n encoding may_allocate) e before after
-  number_faults n {vs} l all failed fault = (
-    failed,
+  number_faults n {vs} l all fails = (
+    fails.0,
     λ c is.
         let a = all.split c is in
         ⊎_elim
         (λ w. inl (w.0, (vs, l, (a.0, a.1, a.2, w.1, a.4))))
         (λ f. inr (vs, l, (a.0, a.1, a.2, f, a.4)))
-        (fault a.1 a.3),
+        (fails.2 a.1 a.3),
   )
 
   -- three numbers, and nothing behind them
-  pub other_number_faults : {vs : List V} {before mid after : Input} {e : ErrorKind} → length vs < 3 → GivesAll encoding vs before mid → after ≡ None → FaultyFront Fault may_allocate e mid
+  pub other_number_faults : {vs : List V} {before mid after : Input} {e : ErrorKind} → length vs < 3 → GivesAll encoding vs before mid → FailsBy Fault (AllocatesIn may_allocate) e mid after
       → ContentsFaulty (OtherPrimeFault encoding Fault) (AllocatesCounted 3 encoding may_allocate) e before after
-  other_number_faults l all failed fault = first_part (Counted 3 encoding) (CountedFault 3 encoding Fault) (λ _. EndFault) _ (number_faults 3 l all failed fault)
+  other_number_faults l all fails = first_part (Counted 3 encoding) (CountedFault 3 encoding Fault) (λ _. EndFault) _ (number_faults 3 l all fails)
 
   pub other_end_faults : {vs : List V} {before mid after : Input} {e : ErrorKind} → length vs ≡ 3 → GivesAll encoding vs before mid → (read_from mid end_of ≡ Err e) × (after ≡ None)
       → ContentsFaulty (OtherPrimeFault encoding Fault) (AllocatesCounted 3 encoding may_allocate) e before after

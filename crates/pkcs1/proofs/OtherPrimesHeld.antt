@@ -13,7 +13,7 @@ use Rattle.der_core.specs.Input.{front_of}
 use Rattle.der_core.specs.Laws.ContentsReads.{empty_is}
 use Rattle.std.specs.Prelude.{nat_lt}
 use Rattle.std.proofs.lemmas.Bool.Decides.{nat_tests}
-use Rattle.der_core.specs.Laws.ItemReads.{joins_none, items_more}
+use Rattle.der_core.specs.Laws.ItemReads.{items_more}
 use Rattle.pkcs1.specs.declared.private_key.other_prime_info.OtherPrimeInfo as declared
 use Rattle.pkcs1.specs.PrivateKeyValue.{other_of}
 use Rattle.std.proofs.Math.Logic.{∥∥₁_elim}
@@ -102,10 +102,6 @@ counted bytes rest count i ends =
 
 pub fault_there : (bytes rest : List ℕ) (count : ℕ) (k : ErrorKind) → AreCounted bytes rest count → 0 < length rest → OneOtherFault k rest → ItemsFault (OtherPrimeInfo Integer) OneOtherFault k bytes
 fault_there bytes rest count k i more fault = (map (other_of bytes_of) i.1, (i.0, rest, i.3, (more, fault), i.2))
-
-pub none_there : (bytes rest : List ℕ) (count : ℕ) → AreCounted bytes rest count → 0 < length rest → NoneIn (OtherPrimeInfo Integer) rest
-    → (others : List (OtherPrime (List ℕ))) → ItemsContents (OtherPrimeInfo Integer) others bytes → ⊥
-none_there bytes rest count i more none = joins_none (OtherPrime (List ℕ)) (OtherPrimeInfo Integer) (other_delimited integer_delimited) (map (other_of bytes_of) i.1) bytes i.0 rest i.3 i.2 more none
 
 -- All that is left can be read.
 pub all_there : (left : List ℕ) (n : ℕ) (e : ErrorKind) → n ≡ length left → front_of n left ≡ Err e → ⊥

@@ -10,7 +10,7 @@ use Rattle.der_core.specs.declared.error.ErrorKind.{ErrorKind}
 use Rattle.der_core.specs.declared.error.ErrorKind.TheVariants as kind
 use Rattle.der_core.specs.Input.{Input, read_from, end_of}
 use Rattle.der_core.specs.Reading.{ReadsOptional, AllocatesIn}
-use Rattle.der_core.specs.Faults.{EncodingFault, ItemsFault, FaultyFront}
+use Rattle.der_core.specs.Faults.{EncodingFault, ItemsFault}
 use Rattle.der_core.specs.Tags.{integer, sequence}
 use Rattle.der_core.specs.Laws.Sequences.{some_same, end_gives, more_than_end, ContentsGive, ContentsFaulty}
 use Rattle.pkcs1.specs.declared.version.Version.{Version}
@@ -58,15 +58,14 @@ module _ {X V : Type 0} (items : X → List (OtherPrime V)) (count : X → ℕ) 
     Listed os b = Tlv 48 (ItemsContents (OtherPrimeInfo encoding) os) b
 
     abbrev Found : Result (Option X) Error → Input → Input → Type 0
-    Found r before after = ReadsOptional 48 items Listed may_allocate r before after
+    Found r before after = ReadsOptional 48 items Listed (EncodingFault sequence (ItemsFault (OtherPrimeInfo encoding) (EncodingFault sequence (OtherPrimeFault encoding Fault)))) may_allocate r before after
 
     abbrev Fails : Version → ErrorKind → Input → Input → Type 0
     Fails v = ContentsFaulty (OthersFault encoding Fault (number_of v)) asks
 
     -- A fault inside them.
-    pub others_faults : (v : Version) {before after : Input} {e : Error} → ((c : List ℕ) → AllocatesIn may_allocate c → asks c) → Found (Err e) before after
-        → FaultyFront (EncodingFault sequence (ItemsFault (OtherPrimeInfo encoding) (EncodingFault sequence (OtherPrimeFault encoding Fault)))) may_allocate e.kind before → Fails v e.kind before after
-    others_faults v asked f fault = (f.0, λ c is. ⊎_elim (λ w. inl (w.0, asked c w.1)) (λ x. inr (inl ((f.2 c is).0, inl x))) (fault c is))
+    pub others_faults : (v : Version) {before after : Input} {e : Error} → ((c : List ℕ) → AllocatesIn may_allocate c → asks c) → Found (Err e) before after → Fails v e.kind before after
+    others_faults v asked f = (f.0, λ c is. ⊎_elim (λ w. inl (w.0, asked c w.1)) (λ x. inr (inl (x.0, inl x.1))) (f.2 c is))
 
     stands : (x : X) {before mid : Input} → Found (Ok (Some x)) before mid → (c : List ℕ) → before ≡ Some c
         → (slice_get c 0 ≡ Some 48) × (b : List ℕ) × (rest : List ℕ) × (mid ≡ Some rest) × Listed (items x) b × (c ≡ b ++ rest)

@@ -1,5 +1,5 @@
 //! The other primes of a private key, as an iterator over the input.
-ghost use Rattle.std.specs.Prelude.{◌≡◌, [], ◌++◌, ◌<◌, ◌≤◌, List, ℕ, length, IfOk, IfErr, IfSome, OnOk, Some};
+ghost use Rattle.std.specs.Prelude.{◌≡◌, [], ◌++◌, ◌<◌, ◌≤◌, List, ℕ, length, IfOk, IfErr, IfSome, OnOk, OnErr};
 ghost use Rattle.std.specs.Iterator.{UpTo, YieldsFirstBy, item_count};
 ghost use Rattle.std.specs.Iterator.SizeHint.{IsWithinCount};
 ghost use Rattle.der_core.specs.Tag.{integer_tag, sequence_tag};
@@ -11,7 +11,7 @@ ghost use Rattle.der_core.specs.Tlv.{tlv};
 ghost use Rattle.pkcs1.specs.Writing.{HasOther, written_other};
 ghost use Rattle.pkcs1.specs.Laws.PrivateKey.{other_delimited};
 ghost use Rattle.der_core.specs.Faults.{ItemsFault};
-ghost use Rattle.der_core.specs.Reading.{NoneIn, TellsOfBytes};
+ghost use Rattle.der_core.specs.Reading.{NoneIn, ReadsFront};
 ghost use Rattle.pkcs1.specs.KeyFaults.{OneOtherFault};
 ghost use Rattle.der_core.specs.SequenceOf.{ItemsContents, AllHave, all_encodings};
 ghost use Rattle.der_core.specs.SliceReaders.{left_of};
@@ -49,12 +49,8 @@ fn read_other<'a, M: Memory>(
     memory: M,
     reader: &mut SliceReader<'a>,
 ) -> Result<OtherPrimeInfo<UintRef<'a>>>
-    ensures ok { IfOk result (λ other. (encoding : List ℕ) × (rest : List ℕ)
-        × (left_of reader.old ≡ Some (encoding ++ rest)) × (left_of reader.new ≡ Some rest)
-        × grammar.OtherPrimeInfo Integer (other_of bytes_of other) encoding) }
-    ensures err { IfErr result (λ e. (left : List ℕ) → left_of reader.old ≡ Some left
-        → TellsOfBytes e.kind × NoneIn (grammar.OtherPrimeInfo Integer) left) }
-    ensures exact { IfErr result (λ e. (left : List ℕ) → left_of reader.old ≡ Some left → OneOtherFault e.kind left) }
+    ensures { ReadsFront (other_of bytes_of) (grammar.OtherPrimeInfo Integer) OneOtherFault (λ _. ⊥) result
+        (left_of reader.old) (left_of reader.new) }
 {
     let other = OtherPrimeInfo::decode(memory, reader)?;
     Ok(other)
@@ -65,7 +61,7 @@ fn first_other<'a>(bytes: &'a [u8]) -> Result<(OtherPrimeInfo<UintRef<'a>>, &'a 
     requires { length bytes.now ≤ limit }
     ensures ok { IfOk result (λ p. (encoding : List ℕ) × (bytes.now ≡ encoding ++ p.1.now)
         × grammar.OtherPrimeInfo Integer (other_of bytes_of p.0) encoding) }
-    ensures err { IfErr result (λ e. TellsOfBytes e.kind × NoneIn (grammar.OtherPrimeInfo Integer) bytes.now) }
+    ensures err { OnErr result (NoneIn (grammar.OtherPrimeInfo Integer) bytes.now) }
 {
     let mut reader = SliceReader::new(bytes)?;
     let other = read_other(NoMemory, &mut reader)?;
@@ -78,8 +74,6 @@ fn count_others(bytes: &[u8]) -> Result<usize>
     requires { length bytes.now ≤ limit }
     ensures ok { IfOk result (λ count. (others : List (grammar.OtherPrime (List ℕ)))
         × ItemsContents (grammar.OtherPrimeInfo Integer) others bytes.now × (length others ≡ count)) }
-    ensures err { IfErr result (λ e. TellsOfBytes e.kind × ((others : List (grammar.OtherPrime (List ℕ)))
-        → ItemsContents (grammar.OtherPrimeInfo Integer) others bytes.now → ⊥)) }
     ensures exact { IfErr result (λ e. ItemsFault (grammar.OtherPrimeInfo Integer) OneOtherFault e.kind bytes.now) }
 {
     let mut reader = SliceReader::new(bytes)?;

@@ -3,7 +3,7 @@ ghost use Rattle.std.specs.Prelude.{◌≡◌, ◌⊎◌, List, ℕ, IfOk, IfErr
 ghost use Rattle.der_core.specs.Carrying.{FileFault};
 ghost use Rattle.der_core.specs.Document.{IsDocument, Means};
 ghost use Rattle.der_core.specs.DocumentValue.{encoding_of};
-ghost use Rattle.der_core.specs.Faults.{Faulty};
+ghost use Rattle.der_core.specs.Faults.{Faulty, IsTheFault};
 ghost use Rattle.der_core.specs.ErrorKinds.{IsFile};
 ghost use Rattle.der_core.specs.Tags.{sequence};
 ghost use Rattle.der_core.specs.UintRefValue.{bytes_of};
@@ -12,7 +12,7 @@ ghost use Rattle.pkcs1.specs.Allocating.{OwnedKeyAllocates, OwnedPublicKeyAlloca
 ghost use Rattle.pkcs1.specs.KeyFaults.{RsaPrivateKeyFault, RsaPublicKeyFault};
 ghost use Rattle.pkcs1.specs.Keys as grammar;
 ghost use Rattle.pkcs1.specs.KeyEncodings.{IsDocumentError, IsOnlyEncoding, IsReadingError};
-ghost use Rattle.pkcs1_params.specs.Meanings.{ErrsOrAsks, IsTheFault, IsTheMeaning};
+ghost use Rattle.pkcs1_params.specs.Meanings.{ErrsOrAsks, IsTheMeaning};
 ghost use Rattle.pkcs1.specs.PrivateKeyValue.{private_key_with, ListsNone};
 ghost use Rattle.pkcs1.specs.PublicKeyValue.{public_key_with};
 ghost use Rattle.pkcs1_params.specs.Errors.{IsAsn1};

@@ -6,7 +6,7 @@ ghost use Rattle.std.specs.Cmp.Rules.{comparing};
 ghost use Rattle.std.specs.Ordering.{on, nat_cmp, as_partial_cmp};
 ghost use Rattle.der_core.specs.Integer.{integer_contents};
 ghost use Rattle.der_core.specs.IntegerReading.{Answers};
-ghost use Rattle.der_core.specs.Reading.{ReadsContents, HoldsBytes};
+ghost use Rattle.der_core.specs.Reading.{HoldsBytes};
 ghost use Rattle.pkcs1.specs.Versions.{number_of, IsVersionOf, VersionContents, version_at};
 ghost use Rattle.pkcs1.specs.Laws.Versions.{version_means_one, version_of_bytes, version_relates, version_shortest};
 
@@ -139,8 +139,6 @@ impl<'a, M: Memory> DecodeValue<&'a [u8], M> for Version {
         header: Header,
     ) -> Result<Version>
         requires { HoldsBytes (R.left reader.old) header.length }
-        ensures reads { let before = R.left reader.old in
-            ReadsContents number_of VersionContents (λ _. ⊥) result before (R.left reader.new) }
         ensures exact { (c : List ℕ) → R.left reader.old ≡ Some c → Answers number_of result (version_at c) }
         ensures fault { let before = R.left reader.old in
             ReadsOrFaults number_of VersionContents VersionFault (λ _. ⊥) result before (R.left reader.new) }

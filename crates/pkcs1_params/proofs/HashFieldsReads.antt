@@ -1,10 +1,5 @@
 -- Reading hashAlgorithm and maskGenAlgorithm, and the fields behind them: each exit of the code is one lemma.
-use Rattle.std.proofs.Common.{ℕ, List, ◌∷◌, ◌≡◌, ◌+◌, map, subst, arith}
-use Rattle.der_core.specs.declared.error.ErrorKind.{ErrorKind}
-use Rattle.der_core.specs.declared.tag.Tag.{Tag}
-use Rattle.der_core.specs.Faults.{FaultyFront}
-use Rattle.spki_core.specs.Allocating.{FieldAllocates}
-use Rattle.spki_core.specs.Faults.{NextFault}
+use Rattle.std.proofs.Common.{ℕ, List, ◌∷◌, ◌≡◌, map, arith}
 use Rattle.der_core.specs.Input.{Input}
 use Rattle.der_core.specs.Encodings.{Joins}
 use Rattle.der_core.specs.Laws.Sequences.{ContentsGive}
@@ -17,12 +12,6 @@ use Rattle.pkcs1_params.specs.Parameters.{sha1, mgf1_sha1, hash_fields_then}
 use Rattle.pkcs1_params.specs.Laws.HashFields.{later_still}
 
 -- The number of a field, and its default, as they are known.
-pub at_number : (Fault : Tag → ErrorKind → List ℕ → Type 0) (own : List ℕ → Type 0) (n k : ℕ) → n ≡ k → (t : Tag) → t.octet ≡ 160 + k → (before : Input) (e : ErrorKind)
-    → ((tag : Tag) → tag.octet ≡ 160 + n → FaultyFront (NextFault n (Fault tag)) (FieldAllocates n own) e before) → FaultyFront (NextFault k (Fault t)) (FieldAllocates k own) e before
-at_number Fault own n k is t octet before e fault =
-    let P : ℕ → Type 0 = λ m. (tag : Tag) → tag.octet ≡ 160 + m → FaultyFront (NextFault m (Fault tag)) (FieldAllocates m own) e before in
-    subst P is fault t octet
-
 pub gives_at : {V : Type 0} (encoding : V → List ℕ → Type 0) (default given : V) → given ≡ default → (n k : ℕ) → n ≡ k → (v : V) (before after : Input) → FieldGives n encoding given v before after → FieldGives k encoding default v before after
 gives_at encoding default given same n k is v before after gives = rw (is, same) at gives
 

@@ -1,16 +1,10 @@
 -- Reading RSASSA-PSS parameters: each exit of the code is one lemma.
-use Rattle.std.proofs.Common.{◌≡◌, ◌+◌, refl, subst, ℕ, List, [], ◌∷◌, arith, inl, inr, Ok, Some}
-use Rattle.der_core.specs.declared.error.ErrorKind.{ErrorKind}
-use Rattle.der_core.specs.declared.tag.Tag.{Tag}
-use Rattle.der_core.specs.Faults.{EncodingFault, AloneFault, SmallFault, FaultyFront}
-use Rattle.der_core.specs.Tags.{integer}
-use Rattle.spki_core.specs.Faults.{NextFault}
-use Rattle.pkcs1_params.specs.ParameterFaults.{tag_2, tag_3, SaltFault, TrailerFault, TrailerFieldFault}
+use Rattle.std.proofs.Common.{◌≡◌, ℕ, List, [], ◌∷◌, arith, inl, inr, Ok, Some}
 use Rattle.der_core.specs.Input.{Input, read_from, end_of}
 use Rattle.der_core.specs.Integer.{Small}
 use Rattle.der_core.specs.Tlv.{Tlv}
 use Rattle.der_core.specs.Laws.Sequences.{ContentsGive, end_gives}
-use Rattle.spki_core.specs.Allocating.{AllocatesFromField, FieldAllocates}
+use Rattle.spki_core.specs.Allocating.{AllocatesFromField}
 use Rattle.spki_core.specs.Explicit.{Field, field}
 use Rattle.spki_core.specs.Laws.FieldEncodings.{AreLater}
 use Rattle.spki_core.specs.Laws.FieldReads.{FieldGives, fields_give}
@@ -45,20 +39,6 @@ pss_gives n m is third before mid at last after p read salt trailing finish =
     (fields_give 3 TrailerField 1 (λ p. p.trailer_field) (λ _. []) (λ _. tt) at last after p (rw third at trailing) (end_gives last after finish)))
 
 -- The numbers of the fields, as they are known.
-pub at_salt : (n : ℕ) → n ≡ 2 → (before : Input) (e : ErrorKind) (may_allocate : List ℕ → Type 0)
-    → ((tag : Tag) → tag.octet ≡ 160 + n → FaultyFront (NextFault n (EncodingFault tag (AloneFault Small (EncodingFault integer SmallFault)))) (FieldAllocates n may_allocate) e before)
-    → FaultyFront (NextFault 2 SaltFault) (FieldAllocates 2 may_allocate) e before
-at_salt n is before e may_allocate fault =
-    let P : ℕ → Type 0 = λ m. (tag : Tag) → tag.octet ≡ 160 + m → FaultyFront (NextFault m (EncodingFault tag (AloneFault Small (EncodingFault integer SmallFault)))) (FieldAllocates m may_allocate) e before in
-    subst P is fault tag_2 refl
-
-pub at_trailer : (n : ℕ) → n ≡ 3 → (before : Input) (e : ErrorKind) (may_allocate : List ℕ → Type 0)
-    → ((tag : Tag) → tag.octet ≡ 160 + n → FaultyFront (NextFault n (EncodingFault tag (AloneFault TrailerField (EncodingFault integer TrailerFault)))) (FieldAllocates n may_allocate) e before)
-    → FaultyFront (NextFault 3 TrailerFieldFault) (FieldAllocates 3 may_allocate) e before
-at_trailer n is before e may_allocate fault =
-    let P : ℕ → Type 0 = λ m. (tag : Tag) → tag.octet ≡ 160 + m → FaultyFront (NextFault m (EncodingFault tag (AloneFault TrailerField (EncodingFault integer TrailerFault)))) (FieldAllocates m may_allocate) e before in
-    subst P is fault tag_3 refl
-
 pub salt_read : (n : ℕ) → n ≡ 2 → (s : ℕ) (before after : Input) → FieldGives n Small 20 s before after → FieldGives 2 Small 20 s before after
 salt_read n is s before after gives = rw is at gives
 

@@ -2,7 +2,7 @@
 ghost use Rattle.std.specs.Prelude.{◌≡◌, ℕ, List, ◌∷◌, [], Some, refl};
 ghost use Rattle.der_core.specs.Integer.{integer_contents};
 ghost use Rattle.der_core.specs.IntegerReading.{Answers};
-ghost use Rattle.der_core.specs.Reading.{ReadsContents, HoldsBytes};
+ghost use Rattle.der_core.specs.Reading.{HoldsBytes};
 ghost use Rattle.pkcs1_params.specs.Parameters.{TrailerContents};
 ghost use Rattle.pkcs1_params.specs.Trailers.{trailer_at};
 ghost use Rattle.pkcs1_params.specs.Laws.Trailers.{trailer_means_one, trailer_of_bytes, trailer_relates};
@@ -69,8 +69,6 @@ impl<'a, M: Memory> DecodeValue<&'a [u8], M> for TrailerField {
         header: Header,
     ) -> Result<TrailerField>
         requires { HoldsBytes (R.left reader.old) header.length }
-        ensures reads { let before = R.left reader.old in
-            ReadsContents (λ (_ : TrailerField). 1) TrailerContents (λ _. ⊥) result before (R.left reader.new) }
         ensures exact { (c : List ℕ)
             → R.left reader.old ≡ Some c → Answers (λ (_ : TrailerField). 1) result (trailer_at c) }
         ensures fault { let before = R.left reader.old in

@@ -3,6 +3,7 @@ use Rattle.std.proofs.Common.{◌≡◌, ℕ, List, ⊎_elim, inl, inr, subst}
 use Rattle.std.specs.Prelude.{Result, Ok, Err, IfOk, IfErr, OnErr}
 use Rattle.der_core.specs.declared.error.ErrorKind.{ErrorKind}
 use Rattle.der_core.specs.Document.{Means}
+use Rattle.der_core.specs.Faults.{IsTheFault}
 use Rattle.der_core.specs.Reading.{Rejects}
 use Rattle.pkcs1.specs.Allocating.{MayAllocate}
 use Rattle.pkcs1.specs.KeyFaults.{RsaPrivateKeyFault}
@@ -11,7 +12,7 @@ use Rattle.pkcs1_params.specs.Errors.{IsAsn1}
 use Rattle.pkcs1_params.specs.declared.error.Error.{Error}
 use Rattle.pkcs1_params.specs.Laws.Errors.{asn1_as}
 use Rattle.pkcs1_params.specs.Laws.FaultsTold.{held_behind, fault_behind}
-use Rattle.pkcs1_params.specs.Meanings.{ErrsExactly, ErrsOrAsks, IsNoSentence, IsTheFault, IsTheMeaning, IsTheOnly}
+use Rattle.pkcs1_params.specs.Meanings.{ErrsExactly, ErrsOrAsks, IsNoSentence, IsTheMeaning, IsTheOnly}
 use Rattle.pkcs8_core.specs.Container.{Info, PrivateKeyInfo}
 use Rattle.pkcs8_core.specs.ContainerFaults.{RsaFault, RsaPrivateKeyInfoFault}
 use Rattle.pkcs8_core.specs.Laws.ContainerFaults.{info_told, rsa_is}

@@ -2,15 +2,15 @@
 ghost use Rattle.std.specs.Prelude.{◌≡◌, ◌≤◌, ◌+◌, ℕ, List, length, take, drop, IfOk, IfErr, OnErr, refl};
 ghost use Rattle.std.specs.Option.{option_map};
 ghost use Rattle.der_core.specs.Document.{Means, IsAlone, HasEncoding};
-ghost use Rattle.der_core.specs.Faults.{EncodingFault, FaultyFront, FaultyWhole};
+ghost use Rattle.der_core.specs.Faults.{EncodingFault, FailsExactly};
 ghost use Rattle.der_core.specs.Tags.{integer};
 ghost use Rattle.pkcs8_core.specs.ContainerFaults.{VersionEncoding, VersionFault, AttributesFault, PrivateKeyInfoFault};
 ghost use Rattle.der_core.specs.declared.error.ErrorKind as der;
 ghost use Rattle.der_core.specs.Optional.{Optional};
 ghost use Rattle.der_core.specs.Encodings.{AtMostOne};
-ghost use Rattle.der_core.specs.Reading.{ReadsContents, ReadsEncoding};
+ghost use Rattle.der_core.specs.Reading.{ReadsFront, ReadsWhole};
 ghost use Rattle.der_core.specs.Writing.{encode_error};
-ghost use Rattle.pkcs1_params.specs.Meanings.{FailsExactly, IsNoSentence, IsTheMeaning};
+ghost use Rattle.pkcs1_params.specs.Meanings.{IsNoSentence, IsTheMeaning};
 ghost use Rattle.pkcs8_core.specs.Container.{Info, AttributesEncoding, InfoContents, PrivateKeyInfo, HasInfo};
 ghost use Rattle.pkcs8_core.specs.Container.{written_info, WhyContainerNotWritten};
 ghost use Rattle.pkcs8_core.specs.Held.{info_of, attributes_of, slice_now};
@@ -57,9 +57,9 @@ fn contents_of<'a>(attributes: Option<Attributes<'a>>) -> Option<&'a [u8]>
 
 /// Decodes the rest of a container: the attributes, if there are any.
 fn read_attributes<'a, R: Reader<&'a [u8]>>(reader: &mut R) -> Result<Option<&'a [u8]>>
-    ensures reads { ReadsContents (option_map slice_now) (Optional AttributesEncoding) (λ _. ⊥)
-        result (R.left reader.old) (R.left reader.new) }
-    ensures exact { IfErr result (λ e. FaultyWhole AttributesFault (λ _. ⊥) e.kind (R.left reader.old)) }
+    ensures { let before = R.left reader.old in
+        ReadsWhole (option_map slice_now) (Optional AttributesEncoding) AttributesFault (λ _. ⊥) result before
+        (R.left reader.new) }
 {
     let attributes: Option<Attributes<'a>> = decode_optional(NoMemory, reader)?;
     reader.finish()?;
@@ -68,9 +68,8 @@ fn read_attributes<'a, R: Reader<&'a [u8]>>(reader: &mut R) -> Result<Option<&'a
 
 /// Decodes the version, which must be 0.
 fn read_version<'a, M: Memory, R: Reader<&'a [u8]>>(memory: M, reader: &mut R) -> Result<()>
-    ensures encoding { ReadsEncoding (λ _. tt) VersionEncoding (λ _. ⊥) result (R.left reader.old) (R.left reader.new) }
-    ensures exact { let fault = EncodingFault integer VersionFault in
-        IfErr result (λ e. FaultyFront fault (λ _. ⊥) e.kind (R.left reader.old)) }
+    ensures { let fault = EncodingFault integer VersionFault in
+        ReadsFront (λ _. tt) VersionEncoding fault (λ _. ⊥) result (R.left reader.old) (R.left reader.new) }
 {
     if u8::decode(memory, reader)? != 0 {
         return Err(reader.error(ErrorKind::Value { tag: Tag::INTEGER }));

@@ -17,7 +17,7 @@ use Rattle.der_core.specs.Laws.Encodings.{tlv_delimited, joins_map, joins_last}
 use Rattle.der_core.specs.Encodings.{IsDelimited, Joins}
 use Rattle.pkcs1.specs.KeyFaults.{PublicKeyFault, RsaPublicKeyFault, Counted, CountedFault, OtherPrimeFault, VersionFault, ListedFault, OthersFault, PrivateKeyFault, NumberFault, OneOtherFault, PrivateKeyEncodingFault, RsaPrivateKeyFault}
 use Rattle.pkcs1.specs.Keys.{PublicKey, PublicKeyContents, RsaPublicKey, RsaPrivateKey, OtherPrime, OtherPrimeContents, OtherPrimeInfo, OtherPrimeInfos, PrivateKey, PrivateKeyContents, PrivateKeyEncoding, version_of}
-use Rattle.pkcs1_params.specs.Laws.FaultsTold.{AreTold, tagged_told}
+use Rattle.der_core.specs.Laws.Whole.{AreTold, tagged_told}
 use Rattle.pkcs1.specs.Laws.PrivateKey.{other_delimited, joins_take, version_small, private_means_one}
 use Rattle.pkcs1.specs.Laws.PublicKey.{public_key_means_one}
 use Rattle.pkcs1.specs.Laws.Versions.{version_means_one}
@@ -244,16 +244,16 @@ module _ {V : Type 0} (encoding : V → List ℕ → Type 0) (Fault : ErrorKind 
   private_told first = tagged_told sequence (PrivateKeyContents encoding) _ (private_means_one d) private_key_fault_none (private_key_fault_first first)
 
 -- Keys whose numbers are INTEGERs.
+pub one_other_none : AreNone (NoneIn (OtherPrimeInfo Integer)) OneOtherFault
+one_other_none = one_none Integer NumberFault integer_delimited number_none
+
 pub listed_fault_first : AreFirst (ItemsFault (OtherPrimeInfo Integer) OneOtherFault)
 listed_fault_first =
-    items_fault_first (OtherPrimeInfo Integer) OneOtherFault (other_delimited integer_delimited)
-    (encoding_fault_none sequence (OtherPrimeFault Integer NumberFault) (OtherPrimeContents Integer) (other_fault_none Integer NumberFault integer_delimited number_none))
+    items_fault_first (OtherPrimeInfo Integer) OneOtherFault (other_delimited integer_delimited) one_other_none
     (encoding_fault_first sequence (OtherPrimeFault Integer NumberFault) (other_fault_first Integer NumberFault integer_delimited number_none number_first))
 
 pub listed_fault_none : AreNone (NoneHas (ItemsContents (OtherPrimeInfo Integer))) (ItemsFault (OtherPrimeInfo Integer) OneOtherFault)
-listed_fault_none =
-    items_fault_none (OtherPrimeInfo Integer) OneOtherFault (other_delimited integer_delimited)
-    (encoding_fault_none sequence (OtherPrimeFault Integer NumberFault) (OtherPrimeContents Integer) (other_fault_none Integer NumberFault integer_delimited number_none))
+listed_fault_none = items_fault_none (OtherPrimeInfo Integer) OneOtherFault (other_delimited integer_delimited) one_other_none
 
 pub private_integers_none : AreNone (NoneHas (PrivateKeyContents Integer)) (PrivateKeyFault Integer NumberFault)
 private_integers_none = private_key_fault_none Integer NumberFault integer_delimited number_none

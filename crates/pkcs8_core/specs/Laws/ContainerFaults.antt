@@ -2,7 +2,7 @@
 use Rattle.std.proofs.Common.{ℕ, List, [], ◌∷◌, ◌≡◌, sym, ap, ◌∙◌, refl, inl, inr, Some}
 use Rattle.der_core.specs.declared.error.ErrorKind.{ErrorKind}
 use Rattle.der_core.specs.declared.error.ErrorKind.TheVariants.{Value}
-use Rattle.der_core.specs.Faults.{EncodingFault, SmallFault, NoFault, AreNone, AreFirst}
+use Rattle.der_core.specs.Faults.{EncodingFault, SmallFault, NoFault, AreNone, AreFirst, IsTheFault}
 use Rattle.der_core.specs.Laws.Faults.{small_fault_none, small_fault_first, no_fault_none, no_fault_first, encoding_fault_none, encoding_fault_first, then_fault_none, then_fault_first, tagged_last_none, tagged_last_first}
 use Rattle.der_core.specs.Laws.Expected.{expected_fault_none, expected_fault_first}
 use Rattle.der_core.specs.Integer.{SmallContents}
@@ -23,8 +23,7 @@ use Rattle.spki_core.specs.Laws.AnyEncodings.{any_delimited}
 use Rattle.spki_core.specs.Faults.{AnyFault, AlgorithmFault}
 use Rattle.spki_core.specs.Laws.Faults.{algorithm_fault_none, algorithm_fault_first, any_fault_none, any_fault_first}
 use Rattle.pkcs1.specs.Laws.KeyFaults.{private_key_told}
-use Rattle.pkcs1_params.specs.Laws.FaultsTold.{AreTold, tagged_told}
-use Rattle.pkcs1_params.specs.Meanings.{IsTheFault}
+use Rattle.der_core.specs.Laws.Whole.{AreTold, tagged_told}
 use Rattle.pkcs8_core.specs.Container.{Info, AttributesEncoding, InfoContents, PrivateKeyInfo}
 use Rattle.pkcs8_core.specs.ContainerFaults.{VersionEncoding, VersionFault, AttributesFault, BehindAlgorithm, BehindVersion, InfoFault, PrivateKeyInfoFault, RsaFault}
 use Rattle.pkcs8_core.specs.Laws.Container.{info_means_one}

@@ -3,7 +3,7 @@ use Rattle.pkcs1.specs.KeyFaults.{RsaPrivateKeyFault}
 use Rattle.der_core.specs.DocumentValue.{encoding_of}
 use Rattle.pkcs1.specs.Laws.KeyFaults.{private_key_told}
 use Rattle.pkcs1.specs.Keys.{RsaPrivateKey}
-use Rattle.pkcs1_params.specs.Meanings.{IsTheFault}
+use Rattle.der_core.specs.Faults.{IsTheFault}
 use Rattle.pkcs1.proofs.Reencoded.{comes_out, is_sentence, is_memory_error, memory_wanted, more_asked}
 use Rattle.pkcs1.proofs.reencode.reencode_private_key.Goals as goal
 

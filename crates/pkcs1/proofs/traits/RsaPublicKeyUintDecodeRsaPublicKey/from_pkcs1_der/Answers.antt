@@ -1,14 +1,11 @@
 use Rattle.std.proofs.lemmas.Result.{err_from_is_err_and}
-use Rattle.pkcs1.proofs.KeyMemory.{rejects_as, asks_as, owned_numbers_ask}
+use Rattle.pkcs1.proofs.KeyMemory.{rejects_as, faulty_as, owned_numbers_ask}
 use Rattle.pkcs1.specs.Laws.KeyFaults.{public_key_told}
-use Rattle.pkcs1_params.specs.Laws.FaultsTold.{fault_or_memory, the_meaning}
+use Rattle.pkcs1_params.specs.Laws.FaultsTold.{the_meaning}
 use Rattle.pkcs1.proofs.traits.RsaPublicKeyUintDecodeRsaPublicKey.from_pkcs1_der.Goals as goal
 
 pub returns-clause-ok : goal.returns-clause-ok
 returns-clause-ok c = the_meaning public_key_told _ _ c.in_ok-from_der.ensures.encoding
-
-pub returns-clause-exact : goal.returns-clause-exact
-returns-clause-exact c kind fault = public_key_told.none kind _ fault _ c.in_ok-from_der.ensures.encoding
 
 pub returns-in_err-from_der-clause-err : goal.returns-in_err-from_der-clause-err
 returns-in_err-from_der-clause-err c =
@@ -18,4 +15,4 @@ returns-in_err-from_der-clause-err c =
 pub returns-in_err-from_der-clause-exact : goal.returns-in_err-from_der-clause-exact
 returns-in_err-from_der-clause-exact c =
     let p = err_from_is_err_and c.from_residual.result c.from_residual.ensures.1 in
-    rw (p.1, p.2) (fault_or_memory public_key_told (asks_as (owned_numbers_ask 2) _) _ c.in_err-from_der.ensures.encoding c.in_err-from_der.ensures.exact)
+    rw (p.1, p.2) (faulty_as (owned_numbers_ask 2) _ _ c.in_err-from_der.ensures.exact)

@@ -1,61 +1,62 @@
 use Rattle.std.proofs.Common.{refl}
 use Rattle.std.proofs.lemmas.Result.{err_from_is_err_and}
-use Rattle.der_core.specs.Faults.{EncodingFault, AloneFault, EndFault}
+use Rattle.der_core.specs.Faults.{EncodingFault, AloneFault, EndFault, SmallFault}
 use Rattle.der_core.specs.Integer.{Small}
 use Rattle.der_core.specs.Laws.Sequences.{end_faults}
+use Rattle.der_core.specs.Tags.{integer}
 use Rattle.der_core.specs.Tlv.{Tlv}
 use Rattle.spki_core.specs.Laws.FieldReads.{field_faults, fields_faults}
 use Rattle.spki_core.specs.AlgorithmIdentifier.{PlainAlgorithm, MaskAlgorithm}
 use Rattle.spki_core.specs.Allocating.{AlgorithmAllocates}
 use Rattle.spki_core.specs.Any.{Any}
 use Rattle.spki_core.specs.Faults.{AnyFault, FieldThenFault}
-use Rattle.pkcs1_params.specs.ParameterFaults.{tag_0, tag_1, PlainFault, HashFault, MaskFault, SaltFault, TrailerFieldFault}
+use Rattle.pkcs1_params.specs.ParameterFaults.{tag_0, tag_1, tag_2, tag_3, PlainFault, HashFault, MaskFault, SaltFault, TrailerFault, TrailerFieldFault}
 use Rattle.pkcs1_params.specs.Parameters.{sha1, mgf1_sha1, TrailerField}
-use Rattle.pkcs1_params.proofs.HashFieldsReads.{at_number, gives_at, both_read}
-use Rattle.pkcs1_params.proofs.PssReads.{pss_gives, numbers_ask, at_salt, at_trailer, salt_read, trailer_read}
+use Rattle.pkcs1_params.proofs.HashFieldsReads.{gives_at, both_read}
+use Rattle.pkcs1_params.proofs.PssReads.{pss_gives, numbers_ask, salt_read, trailer_read}
 use Rattle.pkcs1_params.proofs.pss_view.RsaPssParamsViewDecodeValueRefSliceU8.decode_value.Goals as goal
 
 pub returns-in_err-hash : goal.returns-in_err-hash
 returns-in_err-hash g c =
     let p = err_from_is_err_and c.from_residual.result c.from_residual.ensures.1 in
     rw (p.1, p.2)
-    (field_faults 0 PlainAlgorithm sha1 (HashFault Any AnyFault) (FieldThenFault 1 MaskAlgorithm mgf1_sha1 (MaskFault Any AnyFault) (FieldThenFault 2 Small 20 SaltFault (FieldThenFault 3 TrailerField 1 TrailerFieldFault EndFault))) (AlgorithmAllocates (λ _. ⊥)) _ _ _ _ c.in_err-hash.ensures.reads.0 (at_number (λ t. EncodingFault t (AloneFault PlainAlgorithm (PlainFault Any AnyFault))) (AlgorithmAllocates (λ _. ⊥)) c.new.result.value 0 c.new.ensures tag_0 refl _ _ c.in_err-hash.ensures.exact))
+    (field_faults 0 PlainAlgorithm sha1 (FieldThenFault 1 MaskAlgorithm mgf1_sha1 (MaskFault Any AnyFault) (FieldThenFault 2 Small 20 SaltFault (FieldThenFault 3 TrailerField 1 TrailerFieldFault EndFault))) (AlgorithmAllocates (λ _. ⊥)) _ tag_0 (AloneFault PlainAlgorithm (PlainFault Any AnyFault)) refl c.new.result.value c.new.ensures _ _ _ c.in_err-hash.ensures)
 
 pub returns-in_err-mask_gen : goal.returns-in_err-mask_gen
 returns-in_err-mask_gen g c =
     let p = err_from_is_err_and c.from_residual-in_err-mask_gen.result c.from_residual-in_err-mask_gen.ensures.1 in
     rw (p.1, p.2)
-    (fields_faults 0 PlainAlgorithm sha1 (HashFault Any AnyFault) (FieldThenFault 1 MaskAlgorithm mgf1_sha1 (MaskFault Any AnyFault) (FieldThenFault 2 Small 20 SaltFault (FieldThenFault 3 TrailerField 1 TrailerFieldFault EndFault))) (AlgorithmAllocates (λ _. ⊥)) _ (λ _ w. w) _ _ _ _ _ (gives_at PlainAlgorithm sha1 _ c.sha1_view.ensures c.new.result.value 0 c.new.ensures _ _ _ c.in_ok-hash.ensures.reads)
-    (field_faults 1 MaskAlgorithm mgf1_sha1 (MaskFault Any AnyFault) (FieldThenFault 2 Small 20 SaltFault (FieldThenFault 3 TrailerField 1 TrailerFieldFault EndFault)) (AlgorithmAllocates (AlgorithmAllocates (λ _. ⊥))) _ _ _ _ c.in_err-mask_gen.ensures.reads.0 (at_number (λ t. EncodingFault t (AloneFault MaskAlgorithm (PlainFault PlainAlgorithm (PlainFault Any AnyFault)))) (AlgorithmAllocates (AlgorithmAllocates (λ _. ⊥))) c.new-2.result.value 1 c.new-2.ensures tag_1 refl _ _ c.in_err-mask_gen.ensures.exact)))
+    (fields_faults 0 PlainAlgorithm sha1 (HashFault Any AnyFault) (FieldThenFault 1 MaskAlgorithm mgf1_sha1 (MaskFault Any AnyFault) (FieldThenFault 2 Small 20 SaltFault (FieldThenFault 3 TrailerField 1 TrailerFieldFault EndFault))) (AlgorithmAllocates (λ _. ⊥)) _ (λ _ w. w) _ _ _ _ _ (gives_at PlainAlgorithm sha1 _ c.sha1_view.ensures c.new.result.value 0 c.new.ensures _ _ _ c.in_ok-hash.ensures)
+    (field_faults 1 MaskAlgorithm mgf1_sha1 (FieldThenFault 2 Small 20 SaltFault (FieldThenFault 3 TrailerField 1 TrailerFieldFault EndFault)) (AlgorithmAllocates (AlgorithmAllocates (λ _. ⊥))) _ tag_1 (AloneFault MaskAlgorithm (PlainFault PlainAlgorithm (PlainFault Any AnyFault))) refl c.new-2.result.value c.new-2.ensures _ _ _ c.in_err-mask_gen.ensures))
 
 pub returns-in_err-salt_len : goal.returns-in_err-salt_len
 returns-in_err-salt_len g c =
     let p = err_from_is_err_and c.from_residual-in_err-salt_len.result c.from_residual-in_err-salt_len.ensures.1 in
     rw (p.1, p.2)
-    (fields_faults 0 PlainAlgorithm sha1 (HashFault Any AnyFault) (FieldThenFault 1 MaskAlgorithm mgf1_sha1 (MaskFault Any AnyFault) (FieldThenFault 2 Small 20 SaltFault (FieldThenFault 3 TrailerField 1 TrailerFieldFault EndFault))) (AlgorithmAllocates (λ _. ⊥)) _ (λ _ w. w) _ _ _ _ _ (gives_at PlainAlgorithm sha1 _ c.sha1_view.ensures c.new.result.value 0 c.new.ensures _ _ _ c.in_ok-hash.ensures.reads)
-    (fields_faults 1 MaskAlgorithm mgf1_sha1 (MaskFault Any AnyFault) (FieldThenFault 2 Small 20 SaltFault (FieldThenFault 3 TrailerField 1 TrailerFieldFault EndFault)) (AlgorithmAllocates (AlgorithmAllocates (λ _. ⊥))) _ (numbers_ask 2 20 Small) _ _ _ _ _ (gives_at MaskAlgorithm mgf1_sha1 _ c.mgf1_view.ensures c.new-2.result.value 1 c.new-2.ensures _ _ _ c.in_ok-mask_gen.ensures.reads)
-    (field_faults 2 Small 20 SaltFault (FieldThenFault 3 TrailerField 1 TrailerFieldFault EndFault) (Tlv 2 (λ _. ⊥)) (λ _. ⊥) _ _ _ c.in_err-salt_len.ensures.reads.0 (at_salt c.new-3.result.value c.new-3.ensures _ _ _ c.in_err-salt_len.ensures.exact))))
+    (fields_faults 0 PlainAlgorithm sha1 (HashFault Any AnyFault) (FieldThenFault 1 MaskAlgorithm mgf1_sha1 (MaskFault Any AnyFault) (FieldThenFault 2 Small 20 SaltFault (FieldThenFault 3 TrailerField 1 TrailerFieldFault EndFault))) (AlgorithmAllocates (λ _. ⊥)) _ (λ _ w. w) _ _ _ _ _ (gives_at PlainAlgorithm sha1 _ c.sha1_view.ensures c.new.result.value 0 c.new.ensures _ _ _ c.in_ok-hash.ensures)
+    (fields_faults 1 MaskAlgorithm mgf1_sha1 (MaskFault Any AnyFault) (FieldThenFault 2 Small 20 SaltFault (FieldThenFault 3 TrailerField 1 TrailerFieldFault EndFault)) (AlgorithmAllocates (AlgorithmAllocates (λ _. ⊥))) _ (numbers_ask 2 20 Small) _ _ _ _ _ (gives_at MaskAlgorithm mgf1_sha1 _ c.mgf1_view.ensures c.new-2.result.value 1 c.new-2.ensures _ _ _ c.in_ok-mask_gen.ensures)
+    (field_faults 2 Small 20 (FieldThenFault 3 TrailerField 1 TrailerFieldFault EndFault) (Tlv 2 (λ _. ⊥)) (λ _. ⊥) tag_2 (AloneFault Small (EncodingFault integer SmallFault)) refl c.new-3.result.value c.new-3.ensures _ _ _ c.in_err-salt_len.ensures)))
 
 pub returns-in_err-trailer_field : goal.returns-in_err-trailer_field
 returns-in_err-trailer_field g c =
     let p = err_from_is_err_and c.from_residual-in_err-trailer_field.result c.from_residual-in_err-trailer_field.ensures.1 in
     rw (p.1, p.2)
-    (fields_faults 0 PlainAlgorithm sha1 (HashFault Any AnyFault) (FieldThenFault 1 MaskAlgorithm mgf1_sha1 (MaskFault Any AnyFault) (FieldThenFault 2 Small 20 SaltFault (FieldThenFault 3 TrailerField 1 TrailerFieldFault EndFault))) (AlgorithmAllocates (λ _. ⊥)) _ (λ _ w. w) _ _ _ _ _ (gives_at PlainAlgorithm sha1 _ c.sha1_view.ensures c.new.result.value 0 c.new.ensures _ _ _ c.in_ok-hash.ensures.reads)
-    (fields_faults 1 MaskAlgorithm mgf1_sha1 (MaskFault Any AnyFault) (FieldThenFault 2 Small 20 SaltFault (FieldThenFault 3 TrailerField 1 TrailerFieldFault EndFault)) (AlgorithmAllocates (AlgorithmAllocates (λ _. ⊥))) _ (numbers_ask 2 20 Small) _ _ _ _ _ (gives_at MaskAlgorithm mgf1_sha1 _ c.mgf1_view.ensures c.new-2.result.value 1 c.new-2.ensures _ _ _ c.in_ok-mask_gen.ensures.reads)
-    (fields_faults 2 Small 20 SaltFault (FieldThenFault 3 TrailerField 1 TrailerFieldFault EndFault) (Tlv 2 (λ _. ⊥)) (λ _. ⊥) (numbers_ask 3 1 TrailerField) _ _ _ _ _ (salt_read c.new-3.result.value c.new-3.ensures _ _ _ c.in_ok-salt_len.ensures.reads)
-    (field_faults 3 TrailerField 1 TrailerFieldFault EndFault (Tlv 2 (λ _. ⊥)) (λ _. ⊥) _ _ _ c.in_err-trailer_field.ensures.reads.0 (at_trailer c.new-4.result.value c.new-4.ensures _ _ _ c.in_err-trailer_field.ensures.exact)))))
+    (fields_faults 0 PlainAlgorithm sha1 (HashFault Any AnyFault) (FieldThenFault 1 MaskAlgorithm mgf1_sha1 (MaskFault Any AnyFault) (FieldThenFault 2 Small 20 SaltFault (FieldThenFault 3 TrailerField 1 TrailerFieldFault EndFault))) (AlgorithmAllocates (λ _. ⊥)) _ (λ _ w. w) _ _ _ _ _ (gives_at PlainAlgorithm sha1 _ c.sha1_view.ensures c.new.result.value 0 c.new.ensures _ _ _ c.in_ok-hash.ensures)
+    (fields_faults 1 MaskAlgorithm mgf1_sha1 (MaskFault Any AnyFault) (FieldThenFault 2 Small 20 SaltFault (FieldThenFault 3 TrailerField 1 TrailerFieldFault EndFault)) (AlgorithmAllocates (AlgorithmAllocates (λ _. ⊥))) _ (numbers_ask 2 20 Small) _ _ _ _ _ (gives_at MaskAlgorithm mgf1_sha1 _ c.mgf1_view.ensures c.new-2.result.value 1 c.new-2.ensures _ _ _ c.in_ok-mask_gen.ensures)
+    (fields_faults 2 Small 20 SaltFault (FieldThenFault 3 TrailerField 1 TrailerFieldFault EndFault) (Tlv 2 (λ _. ⊥)) (λ _. ⊥) (numbers_ask 3 1 TrailerField) _ _ _ _ _ (salt_read c.new-3.result.value c.new-3.ensures _ _ _ c.in_ok-salt_len.ensures)
+    (field_faults 3 TrailerField 1 EndFault (Tlv 2 (λ _. ⊥)) (λ _. ⊥) tag_3 (AloneFault TrailerField (EncodingFault integer TrailerFault)) refl c.new-4.result.value c.new-4.ensures _ _ _ c.in_err-trailer_field.ensures))))
 
 pub returns-in_err-finish : goal.returns-in_err-finish
 returns-in_err-finish g c =
     let p = err_from_is_err_and c.from_residual-in_err-finish.result c.from_residual-in_err-finish.ensures.1 in
     rw (p.1, p.2)
-    (fields_faults 0 PlainAlgorithm sha1 (HashFault Any AnyFault) (FieldThenFault 1 MaskAlgorithm mgf1_sha1 (MaskFault Any AnyFault) (FieldThenFault 2 Small 20 SaltFault (FieldThenFault 3 TrailerField 1 TrailerFieldFault EndFault))) (AlgorithmAllocates (λ _. ⊥)) _ (λ _ w. w) _ _ _ _ _ (gives_at PlainAlgorithm sha1 _ c.sha1_view.ensures c.new.result.value 0 c.new.ensures _ _ _ c.in_ok-hash.ensures.reads)
-    (fields_faults 1 MaskAlgorithm mgf1_sha1 (MaskFault Any AnyFault) (FieldThenFault 2 Small 20 SaltFault (FieldThenFault 3 TrailerField 1 TrailerFieldFault EndFault)) (AlgorithmAllocates (AlgorithmAllocates (λ _. ⊥))) _ (numbers_ask 2 20 Small) _ _ _ _ _ (gives_at MaskAlgorithm mgf1_sha1 _ c.mgf1_view.ensures c.new-2.result.value 1 c.new-2.ensures _ _ _ c.in_ok-mask_gen.ensures.reads)
-    (fields_faults 2 Small 20 SaltFault (FieldThenFault 3 TrailerField 1 TrailerFieldFault EndFault) (Tlv 2 (λ _. ⊥)) (λ _. ⊥) (numbers_ask 3 1 TrailerField) _ _ _ _ _ (salt_read c.new-3.result.value c.new-3.ensures _ _ _ c.in_ok-salt_len.ensures.reads)
-    (fields_faults 3 TrailerField 1 TrailerFieldFault EndFault (Tlv 2 (λ _. ⊥)) (λ _. ⊥) (λ _ w. w) _ _ _ _ _ (trailer_read c.new-4.result.value c.new-4.ensures _ _ _ c.in_ok-trailer_field.ensures.reads)
+    (fields_faults 0 PlainAlgorithm sha1 (HashFault Any AnyFault) (FieldThenFault 1 MaskAlgorithm mgf1_sha1 (MaskFault Any AnyFault) (FieldThenFault 2 Small 20 SaltFault (FieldThenFault 3 TrailerField 1 TrailerFieldFault EndFault))) (AlgorithmAllocates (λ _. ⊥)) _ (λ _ w. w) _ _ _ _ _ (gives_at PlainAlgorithm sha1 _ c.sha1_view.ensures c.new.result.value 0 c.new.ensures _ _ _ c.in_ok-hash.ensures)
+    (fields_faults 1 MaskAlgorithm mgf1_sha1 (MaskFault Any AnyFault) (FieldThenFault 2 Small 20 SaltFault (FieldThenFault 3 TrailerField 1 TrailerFieldFault EndFault)) (AlgorithmAllocates (AlgorithmAllocates (λ _. ⊥))) _ (numbers_ask 2 20 Small) _ _ _ _ _ (gives_at MaskAlgorithm mgf1_sha1 _ c.mgf1_view.ensures c.new-2.result.value 1 c.new-2.ensures _ _ _ c.in_ok-mask_gen.ensures)
+    (fields_faults 2 Small 20 SaltFault (FieldThenFault 3 TrailerField 1 TrailerFieldFault EndFault) (Tlv 2 (λ _. ⊥)) (λ _. ⊥) (numbers_ask 3 1 TrailerField) _ _ _ _ _ (salt_read c.new-3.result.value c.new-3.ensures _ _ _ c.in_ok-salt_len.ensures)
+    (fields_faults 3 TrailerField 1 TrailerFieldFault EndFault (Tlv 2 (λ _. ⊥)) (λ _. ⊥) (λ _ w. w) _ _ _ _ _ (trailer_read c.new-4.result.value c.new-4.ensures _ _ _ c.in_ok-trailer_field.ensures)
     (end_faults (λ _. ⊥) _ _ _ c.in_err-finish.ensures)))))
 
 pub returns : goal.returns
 returns g c =
-    let d = both_read (gives_at PlainAlgorithm sha1 _ c.sha1_view.ensures c.new.result.value 0 c.new.ensures _ _ _ c.in_ok-hash.ensures.reads) (gives_at MaskAlgorithm mgf1_sha1 _ c.mgf1_view.ensures c.new-2.result.value 1 c.new-2.ensures _ _ _ c.in_ok-mask_gen.ensures.reads) in
-    pss_gives c.new-3.result.value c.new-4.result.value c.new-3.ensures c.new-4.ensures _ _ _ _ _ _ d c.in_ok-salt_len.ensures.reads c.in_ok-trailer_field.ensures.reads c.in_ok-finish.ensures
+    let d = both_read (gives_at PlainAlgorithm sha1 _ c.sha1_view.ensures c.new.result.value 0 c.new.ensures _ _ _ c.in_ok-hash.ensures) (gives_at MaskAlgorithm mgf1_sha1 _ c.mgf1_view.ensures c.new-2.result.value 1 c.new-2.ensures _ _ _ c.in_ok-mask_gen.ensures) in
+    pss_gives c.new-3.result.value c.new-4.result.value c.new-3.ensures c.new-4.ensures _ _ _ _ _ _ d c.in_ok-salt_len.ensures c.in_ok-trailer_field.ensures c.in_ok-finish.ensures

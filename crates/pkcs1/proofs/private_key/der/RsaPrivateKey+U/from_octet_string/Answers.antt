@@ -1,7 +1,7 @@
 use Rattle.std.proofs.lemmas.Result.{err_from_is_err_and}
 use Rattle.pkcs1.proofs.KeyMemory.{two_primes_rejected}
 use Rattle.pkcs1.specs.Laws.KeyFaults.{private_told}
-use Rattle.pkcs1_params.specs.Laws.FaultsTold.{fault_or_memory, the_meaning}
+use Rattle.pkcs1_params.specs.Laws.FaultsTold.{the_meaning}
 use Rattle.pkcs1.proofs.private_key.der.RsaPrivateKey+U.from_octet_string.Goals as goal
 
 pub returns-clause-ok : goal.returns-clause-ok
@@ -11,7 +11,7 @@ returns-clause-ok g c =
     rw (← c.as_bytes.ensures.octets) (the_meaning (private_told g.U.Encoding.encoding g.U.Decode.fault g.U.Encoding.delimited met.fault_none met.fault_first) _ _ c.in_ok-from_der.ensures.encoding)
 
 pub returns-clause-exact : goal.returns-clause-exact
-returns-clause-exact g c = rw (← c.as_bytes.ensures.octets) (λ kind fault. absurd (c.in_ok-from_der.ensures.only kind fault))
+returns-clause-exact g c = rw (← c.as_bytes.ensures.octets) c.in_ok-from_der.ensures.exact
 
 pub returns-in_err-from_der-clause-err : goal.returns-in_err-from_der-clause-err
 returns-in_err-from_der-clause-err g c =
@@ -24,8 +24,5 @@ returns-in_err-from_der-clause-two_primes g c none key two means =
 
 pub returns-in_err-from_der-clause-exact : goal.returns-in_err-from_der-clause-exact
 returns-in_err-from_der-clause-exact g c =
-    let claim : g.claim c.lifetimes = assumption in
-    let met = g.met.U.Decode c.lifetimes claim in
-    let told = private_told g.U.Encoding.encoding g.U.Decode.fault g.U.Encoding.delimited met.fault_none met.fault_first in
     let p = err_from_is_err_and c.from_residual.result c.from_residual.ensures.1 in
-    rw (p.1, p.2, ← c.as_bytes.ensures.octets) (fault_or_memory told (λ w. w) _ c.in_err-from_der.ensures.encoding c.in_err-from_der.ensures.exact)
+    rw (p.1, p.2, ← c.as_bytes.ensures.octets) c.in_err-from_der.ensures.exact

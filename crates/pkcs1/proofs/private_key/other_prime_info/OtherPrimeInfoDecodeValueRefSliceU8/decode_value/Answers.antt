@@ -7,22 +7,22 @@ pub returns-in_err-prime : goal.returns-in_err-prime
 returns-in_err-prime g c =
     let p = err_from_is_err_and c.from_residual.result c.from_residual.ensures.1 in
     let read = nothing g.U.Encoding.encoding in
-    rw (p.1, p.2) (other_number_faults g.U.Decode.fault _ (omega arith) read c.in_err-prime.ensures.encoding.0 c.in_err-prime.ensures.exact)
+    rw (p.1, p.2) (other_number_faults g.U.Decode.fault _ (omega arith) read c.in_err-prime.ensures)
 
 pub returns-in_err-exponent : goal.returns-in_err-exponent
 returns-in_err-exponent g c =
     let p = err_from_is_err_and c.from_residual-in_err-exponent.result c.from_residual-in_err-exponent.ensures.1 in
-    let read = nothing g.U.Encoding.encoding ▸ c.in_ok-prime.ensures.encoding in
-    rw (p.1, p.2) (other_number_faults g.U.Decode.fault _ (omega arith) read c.in_err-exponent.ensures.encoding.0 c.in_err-exponent.ensures.exact)
+    let read = nothing g.U.Encoding.encoding ▸ c.in_ok-prime.ensures in
+    rw (p.1, p.2) (other_number_faults g.U.Decode.fault _ (omega arith) read c.in_err-exponent.ensures)
 
 pub returns-in_err-coefficient : goal.returns-in_err-coefficient
 returns-in_err-coefficient g c =
     let p = err_from_is_err_and c.from_residual-in_err-coefficient.result c.from_residual-in_err-coefficient.ensures.1 in
-    let read = nothing g.U.Encoding.encoding ▸ c.in_ok-prime.ensures.encoding ▸ c.in_ok-exponent.ensures.encoding in
-    rw (p.1, p.2) (other_number_faults g.U.Decode.fault _ (omega arith) read c.in_err-coefficient.ensures.encoding.0 c.in_err-coefficient.ensures.exact)
+    let read = nothing g.U.Encoding.encoding ▸ c.in_ok-prime.ensures ▸ c.in_ok-exponent.ensures in
+    rw (p.1, p.2) (other_number_faults g.U.Decode.fault _ (omega arith) read c.in_err-coefficient.ensures)
 
 pub returns-in_err-finish : goal.returns-in_err-finish
 returns-in_err-finish g c =
     let p = err_from_is_err_and c.from_residual-in_err-finish.result c.from_residual-in_err-finish.ensures.1 in
-    let read = nothing g.U.Encoding.encoding ▸ c.in_ok-prime.ensures.encoding ▸ c.in_ok-exponent.ensures.encoding ▸ c.in_ok-coefficient.ensures.encoding in
+    let read = nothing g.U.Encoding.encoding ▸ c.in_ok-prime.ensures ▸ c.in_ok-exponent.ensures ▸ c.in_ok-coefficient.ensures in
     rw (p.1, p.2) (other_end_faults g.U.Decode.fault _ refl read c.in_err-finish.ensures)
