@@ -1,9 +1,6 @@
 //! RSASSA-PSS parameters over their encoding.
 ghost use Rattle.std.specs.Prelude.{◌≡◌, ◌≤◌, length, OnOk, IfErr};
-ghost use Rattle.der_core.specs.Reading.{TellsOfBytes};
-ghost use Rattle.der_core.specs.declared.error.ErrorKind as der;
 ghost use Rattle.pkcs1_params.specs.Allocating.{PssAllocates};
-ghost use Rattle.pkcs1_params.specs.Errors.{IsAsn1};
 ghost use Rattle.pkcs1_params.specs.ParameterFaults.{RsaPssParamsFault, StrictPssFault};
 ghost use Rattle.pkcs1_params.specs.Parameters as grammar;
 ghost use Rattle.pkcs1_params.specs.Parameters.{PssParameters, PssContents, pss_fields, sha1, mgf1_sha1};
@@ -39,11 +36,10 @@ pub struct RsaPssParamsView<'a> {
 }
 
 impl<'a> RsaPssParamsView<'a> {
-    ghost use Rattle.std.specs.Prelude.{ℕ, List, drop, take, IfOk, IsErrAnd, OnErr, ◌⊎◌};
-    ghost use Rattle.der_core.specs.Document.{Means, IsShortest};
+    ghost use Rattle.std.specs.Prelude.{ℕ, List, drop, take, IfOk, OnErr};
+    ghost use Rattle.der_core.specs.Document.{IsShortest};
     ghost use Rattle.spki_core.specs.Explicit.{Masked};
-    ghost use Rattle.spki_core.specs.StrictFields.{NamesDefault};
-    ghost use Rattle.pkcs1_params.specs.Meanings.{IsWritingError};
+    ghost use Rattle.pkcs1_params.specs.Meanings.{ErrsExactly, IsNoShortest, IsTheShortest, IsWritingError};
     ghost use Rattle.pkcs1_params.specs.Spellings.{HasTwoToTheDefaults};
 
     /// The parameters as a struct that holds its identifiers.
@@ -61,19 +57,9 @@ impl<'a> RsaPssParamsView<'a> {
 
     /// Like `RsaPssParams::from_der_strict`.
     pub fn from_der_strict(bytes: &'a [u8]) -> Result<RsaPssParamsView<'a>>
-        ensures ok { IfOk result (λ params. IsShortest grammar.RsaPssParams (pss_viewed params) bytes.now) }
-        ensures one { IfOk result (λ params. (other : PssParameters) → Means grammar.RsaPssParams bytes.now other
-            → other ≡ pss_viewed params) }
-        ensures default { IfErr result (λ e. (params : PssParameters) → Means grammar.RsaPssParams bytes.now params
-            → IsAsn1 (NamesDefault (pss_fields params) bytes.now) e) }
-        ensures err { IfErr result (λ e. (params : PssParameters)
-            → IsShortest grammar.RsaPssParams params bytes.now → ⊥) }
-        ensures asn1 { IfErr result (IsAsn1 (λ e. TellsOfBytes e.kind)) }
-        ensures exact { IfErr result (λ e. IsAsn1 (λ e. RsaPssParamsFault e.kind bytes.now) e
-            ⊎ ((params : PssParameters) × Means grammar.RsaPssParams bytes.now params
-            × IsAsn1 (NamesDefault (pss_fields params) bytes.now) e)) }
-        ensures only { (kind : der.ErrorKind)
-            → StrictPssFault kind bytes.now → IsErrAnd result (IsAsn1 (λ e. e.kind ≡ kind)) }
+        ensures ok { IfOk result (λ params. IsTheShortest grammar.RsaPssParams bytes.now (pss_viewed params)) }
+        ensures err { OnErr result (IsNoShortest grammar.RsaPssParams bytes.now) }
+        ensures exact { ErrsExactly StrictPssFault bytes.now result }
     {
         let params = RsaPssParamsView::try_from(bytes)?;
         reject_defaults(&params, bytes)?;
@@ -111,21 +97,16 @@ impl<'a> Default for RsaPssParamsView<'a> {
 }
 
 impl<'a> TryFrom<&'a [u8]> for RsaPssParamsView<'a> {
-    ghost use Rattle.std.specs.Prelude.{IfOk, IsErrAnd, OnErr};
-    ghost use Rattle.der_core.specs.Document.{Means};
-    ghost use Rattle.pkcs1_params.specs.Meanings.{IsNoSentence, IsOnlyMeaning};
+    ghost use Rattle.std.specs.Prelude.{IfOk, OnErr};
+    ghost use Rattle.pkcs1_params.specs.Meanings.{ErrsExactly, IsNoSentence, IsTheMeaning};
 
     type Error = Error;
 
     /// Reads a whole slice. Nothing is allocated.
     fn try_from(bytes: &'a [u8]) -> Result<RsaPssParamsView<'a>>
-        ensures ok { IfOk result (λ params. Means grammar.RsaPssParams bytes.now (pss_viewed params)) }
-        ensures one { IfOk result (λ params. IsOnlyMeaning grammar.RsaPssParams bytes.now (pss_viewed params)) }
+        ensures ok { IfOk result (λ params. IsTheMeaning grammar.RsaPssParams bytes.now (pss_viewed params)) }
         ensures err { OnErr result (IsNoSentence grammar.RsaPssParams bytes.now) }
-        ensures asn1 { IfErr result (IsAsn1 (λ e. TellsOfBytes e.kind)) }
-        ensures exact { IfErr result (IsAsn1 (λ e. RsaPssParamsFault e.kind bytes.now)) }
-        ensures only { (kind : der.ErrorKind)
-            → RsaPssParamsFault kind bytes.now → IsErrAnd result (IsAsn1 (λ e. e.kind ≡ kind)) }
+        ensures exact { ErrsExactly RsaPssParamsFault bytes.now result }
     {
         if is_empty_sequence(bytes) {
             return Ok(RsaPssParamsView::default());
