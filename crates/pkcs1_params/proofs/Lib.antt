@@ -1,4 +1,3 @@
-mod AlgorithmRows
 pub mod Algorithms
 pub mod EmptySequences
 pub mod ParameterRows
@@ -13,5 +12,4 @@ pub mod Labels
 pub mod ParameterWrites
 pub mod NothingAsked
 pub mod MemoryAsked
-pub mod ParameterFaultRows
 pub mod Unchanged

@@ -1,4 +1,3 @@
 pub mod ContainerReads
 pub mod ContainerWrites
 pub mod RsaHeld
-pub mod ContainerFaultRows

@@ -1,5 +1,4 @@
 -- Lemmas on the definitions, which proofs here and in the crates above may cite.
-pub mod AlgorithmRows
 pub mod AlgorithmEncodings
 pub mod Algorithms
 pub mod AnyEncodings
@@ -10,7 +9,6 @@ pub mod FieldReads
 pub mod FieldEncodings
 pub mod Fields
 pub mod Held
-pub mod IdentifierRows
 pub mod Identifiers
 pub mod KnownFields
 pub mod Masks

@@ -5,14 +5,13 @@ use Rattle.std.specs.Option.{option_map}
 use Rattle.der_core.specs.Tlv as tlvs
 use Rattle.der_core.specs.Optional.{HasOptional, written_optional}
 use Rattle.spki_core.specs.Laws.IdentifierTest.{is_identifier-sound}
-use Rattle.spki_core.specs.Laws.IdentifierRows.{sha1_identifier, mgf1_identifier}
 use Rattle.spki_core.specs.ObjectIdentifier as oids
 use Rattle.spki_core.specs.Any as anys
 use Rattle.spki_core.specs.AlgorithmIdentifier as algorithms
 use Rattle.spki_core.specs.AlgorithmIdentifier.{PlainAlgorithm, MaskAlgorithm, HasPlain, HasMask, HasAlgorithm, written_algorithm, written_plain, written_mask}
 use Rattle.spki_core.specs.Laws.AlgorithmEncodings.{plain_at_most_one, mask_at_most_one}
 use Rattle.pkcs1_params.specs.Laws.HashFields.{plain_relates, plain_shortest, mask_relates, mask_shortest}
-use Rattle.pkcs1_params.specs.Parameters.{id_p_specified}
+use Rattle.pkcs1_params.specs.Parameters.{id_sha1, id_mgf1, id_p_specified}
 use Rattle.statement.specs.Statement.{tlv, limit, IsSubidentifier, IsIdentifier, TagAndContents, IsAny, any, optional, IfPresent, Algorithm, algorithm, IsAlgorithm, sha1, mgf1_sha1, empty_label}
 use Rattle.statement.proofs.Der.{tlv_same}
 
@@ -167,6 +166,12 @@ mask_written = record {
 }
 
 -- The defaults may be values.
+sha1_identifier : oids.IsIdentifier id_sha1
+sha1_identifier = is_identifier-sound id_sha1 (omega arith, (omega arith, (omega arith, (omega arith, (omega arith, tt))))) refl
+
+mgf1_identifier : oids.IsIdentifier id_mgf1
+mgf1_identifier = is_identifier-sound id_mgf1 (omega arith, (omega arith, (omega arith, (omega arith, (omega arith, (omega arith, (omega arith, (omega arith, (omega arith, tt))))))))) refl
+
 pub sha1_is : IsPlain sha1
 sha1_is = (id_to sha1.oid sha1_identifier, any_is (record { tag = 5; contents = [] }) (refl, tt))
 

@@ -34,32 +34,11 @@ pub known_whole : {t u : ℕ} {P : List ℕ → Type 0} (c : List ℕ) → Tlv t
 known_whole {t} {u} c p l = (known_front c [] (u ∷ length c ∷ c) [] p refl l).1
 
 -- INTEGER encodings of one byte.
-pub integer_byte : (n : ℕ) → n < 128 → Integer (n ∷ []) (2 ∷ 1 ∷ n ∷ [])
-integer_byte n l = elim (cases_lt 0 n) [
-  | inl h ↦ known_tlv 2 (n ∷ []) (inr ((omega arith, tt), h), inl (l, refl)) (omega arith)
-  | inr h ↦ let z : n ≡ 0 = omega arith in known_tlv 2 (n ∷ []) (inl (rw z refl), inl (l, refl)) (omega arith)
-]
-
 pub small_byte : (n : ℕ) → n < 128 → Small n (2 ∷ 1 ∷ n ∷ [])
 small_byte n l = elim (cases_lt 0 n) [
   | inl h ↦ known_tlv 2 (n ∷ []) (omega arith, n ∷ [], omega arith, (inr ((omega arith, tt), h), inl (l, refl))) (omega arith)
   | inr h ↦ let z : n ≡ 0 = omega arith in known_tlv 2 (n ∷ []) (omega arith, n ∷ [], omega arith, (inl (rw z refl), inl (l, refl))) (omega arith)
 ]
-
--- A header that isn't read is the start of no encoding within the limit.
-pub rejected_header : (t : ℕ) {P : List ℕ → Type 0} (x : List ℕ) (k : ErrorKind) → IsTrue (is_allowed t) → length x ≤ limit → header_at x ≡ Err k → Tlv t P x → ⊥
-rejected_header t x k allowed within is p =
-    let read = tlv_header t x x [] allowed within p (sym (append-nil x)) in
-    let no = sym is ∙ read in cc
-
--- A header that is read has the tag, and it counts what follows, which is the contents.
-pub counted_header : (t u n : ℕ) {P : List ℕ → Type 0} (x c : List ℕ) → IsTrue (is_allowed t) → length x ≤ limit → header_at x ≡ Ok ((u, n), c) → Tlv t P x → (u ≡ t) × (length c ≡ n) × P c
-counted_header t u n x c allowed within is p =
-    let read = tlv_header t x x [] allowed within p (sym (append-nil x)) in
-    let parts = ok_pair (u, n) (t, length p.contents) c (p.contents ++ []) (sym is ∙ read) in
-    let same : c ≡ p.contents = parts.1 ∙ append-nil p.contents in
-    let number : n ≡ length p.contents = ap (λ q. q.1) parts.0 in
-    (ap (λ q. q.0) parts.0, ap length same ∙ sym number, rw same p.holds)
 
 -- An encoding isn't empty, and its first byte is the tag.
 pub no_bytes_rejected : {t : ℕ} {P : List ℕ → Type 0} → Tlv t P [] → ⊥
