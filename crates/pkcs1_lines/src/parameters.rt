@@ -8,7 +8,7 @@ ghost use Rattle.spki_core.specs.Explicit.{Field, HaveDefaults};
 ghost use Rattle.spki_core.specs.ObjectIdentifierValue.{own_octets_of};
 ghost use Rattle.pkcs1_params.specs.Parameters.{PssParameters, RsaPssParams, pss_fields, OaepParameters, RsaOaepParams};
 ghost use Rattle.pkcs1_params.specs.Parameters.{oaep_fields};
-ghost use Rattle.pkcs1_params.specs.Defaults.{pss_defaults, oaep_defaults};
+ghost use Rattle.pkcs1_params.specs.Laws.Parts.{pss_defaults, oaep_defaults};
 ghost use Rattle.pkcs1_params.specs.Laws.Parameters.{pss_delimited, oaep_delimited};
 ghost use Rattle.pkcs1_params.specs.PssValue.{pss_of};
 ghost use Rattle.pkcs1_params.specs.OaepValue.{oaep_of};

@@ -27,10 +27,6 @@ use Rattle.pkcs1_params.specs.Laws.Parts.{parts_counted, parts_hold}
 use Rattle.pkcs1_params.specs.Parts.{FieldValue, AreNumbered, parts_of, fields_with, Fielded, HasFields, written_fields}
 use Rattle.pkcs1_params.proofs.ParameterSpellings.{each_has_one_mask}
 
-pub if_ok_as : {A E : Type 0} {P Q : A → Type 0} (r : Result A E) → ((a : A) → P a → Q a) → IfOk r P → IfOk r Q
-if_ok_as (Ok a) f p = f a p
-if_ok_as (Err e) f p = tt
-
 pub if_err_as : {A E : Type 0} {P Q : E → Type 0} (r : Result A E) → ((e : E) → P e → Q e) → IfErr r P → IfErr r Q
 if_err_as (Ok a) f p = tt
 if_err_as (Err e) f p = f e p

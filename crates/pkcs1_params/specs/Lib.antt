@@ -4,11 +4,8 @@ pub mod Trailers
 pub mod PssValue
 pub mod OaepValue
 pub mod Spellings
-pub mod ParameterEquality
-pub mod AlgorithmEquality
 pub mod ErrorText
 pub mod Errors
-pub mod Defaults
 pub mod MaskedValues
 pub mod Meanings
 pub mod Parts

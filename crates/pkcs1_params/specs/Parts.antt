@@ -2,11 +2,8 @@
 use Rattle.std.specs.Prelude.{ℕ, Bool, List, [], ◌∷◌, ◌≡◌, ◌+◌, ◌<◌, ◌^◌, eqb, length, map}
 use Rattle.der_core.specs.Laws.Equality.{number_decides}
 use Rattle.der_core.specs.Integer.{Small, SmallContents, integer_contents}
-use Rattle.der_core.specs.Laws.SmallNumbers.{small_relates, small_shortest}
 use Rattle.der_core.specs.Tag.{integer_tag}
-use Rattle.der_core.specs.Laws.Encodings.{tlv_relates, tlv_shortest}
 use Rattle.der_core.specs.Tlv.{tlv}
-use Rattle.der_core.specs.Writing.{IsLeast}
 use Rattle.spki_core.specs.Any.{TagAndContents}
 use Rattle.spki_core.specs.AlgorithmIdentifier.{Algorithm, PlainAlgorithm, MaskAlgorithm, HasPlain, HasMask, written_plain, written_mask, same_plain, same_mask}
 use Rattle.spki_core.specs.Laws.Algorithms.{same_plain_decides, same_mask_decides}
@@ -14,7 +11,7 @@ use Rattle.spki_core.specs.Explicit.{Field, field, FieldSequence}
 use Rattle.spki_core.specs.Masks.{Part, fields_of, has_under, written_under}
 use Rattle.pkcs1_params.specs.Laws.HashFields.{plain_relates, plain_shortest, mask_relates, mask_shortest}
 use Rattle.pkcs1_params.specs.Parameters.{sha1, mgf1_sha1, empty_label, TrailerContents, TrailerField, PssParameters, OaepParameters}
-use Rattle.pkcs1_params.specs.Laws.Trailers.{trailer_relates, trailer_shortest}
+use Rattle.pkcs1_params.specs.Laws.SmallFields.{salt_relates, salt_shortest, trailer_encoding_relates, trailer_encoding_shortest}
 
 abbrev plain_part : ℕ → Algorithm TagAndContents → Algorithm TagAndContents → Part
 plain_part number default v = record {
@@ -40,18 +37,6 @@ mask_gen_part v = record {
 
 abbrev pub written_number : ℕ → List ℕ
 written_number n = tlv integer_tag (integer_contents (n ∷ []))
-
-pub salt_relates : (n : ℕ) → n < 256 → length (written_number n) < 2 ^ 128 → Small n (written_number n)
-salt_relates n h fits = tlv_relates integer_tag SmallContents (λ m. integer_contents (m ∷ [])) n (λ _. small_relates n h) fits
-
-pub salt_shortest : (n : ℕ) (b : List ℕ) → Small n b → IsLeast (n < 256) (written_number n) b
-salt_shortest = tlv_shortest integer_tag SmallContents (λ m. integer_contents (m ∷ [])) (λ m. m < 256) small_shortest
-
-pub trailer_encoding_relates : (n : ℕ) → n ≡ 1 → length (written_number n) < 2 ^ 128 → TrailerField n (written_number n)
-trailer_encoding_relates n h fits = tlv_relates integer_tag TrailerContents (λ m. integer_contents (m ∷ [])) n (λ _. trailer_relates n h) fits
-
-pub trailer_encoding_shortest : (n : ℕ) (b : List ℕ) → TrailerField n b → IsLeast (n ≡ 1) (written_number n) b
-trailer_encoding_shortest = tlv_shortest integer_tag TrailerContents (λ m. integer_contents (m ∷ [])) (λ m. m ≡ 1) trailer_shortest
 
 abbrev salt_part : ℕ → Part
 salt_part n = record {

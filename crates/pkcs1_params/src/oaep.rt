@@ -179,9 +179,8 @@ impl<'a> RsaOaepParams<AnyRef<'a>> {
 
 impl<P: AnyValue> EqualByValue for RsaOaepParams<P> {
     ghost use Rattle.spki_core.specs.Laws.AnyValues.{holds_decides};
-    ghost use Rattle.pkcs1_params.specs.ParameterEquality.{oaep_decides};
+    ghost use Rattle.pkcs1_params.specs.Laws.Equality.{oaep_decides, plain_decides, mask_decides};
     ghost use Rattle.pkcs1_params.specs.OaepValue.{oaep_with};
-    ghost use Rattle.pkcs1_params.specs.AlgorithmEquality.{plain_decides, mask_decides};
 
     ghost decides = { λ a b.
         oaep_decides (oaep_with P.any a) (oaep_with P.any b)

@@ -204,8 +204,7 @@ impl<'a> RsaPssParams<AnyRef<'a>> {
 
 impl<P: AnyValue> EqualByValue for RsaPssParams<P> {
     ghost use Rattle.spki_core.specs.Laws.AnyValues.{holds_decides};
-    ghost use Rattle.pkcs1_params.specs.ParameterEquality.{pss_decides};
-    ghost use Rattle.pkcs1_params.specs.AlgorithmEquality.{plain_decides, mask_decides};
+    ghost use Rattle.pkcs1_params.specs.Laws.Equality.{pss_decides, plain_decides, mask_decides};
 
     ghost decides = { λ a b.
         pss_decides (pss_with P.any a) (pss_with P.any b)

@@ -19,8 +19,8 @@ ghost use Rattle.pkcs1_params.specs.DefaultBits.{bits_of};
 ghost use Rattle.pkcs1_params.specs.Parts.{FieldValue, AreNumbered, defaults_in, fields_with, Fielded, HasFields};
 ghost use Rattle.pkcs1_params.specs.Parts.{NoneWritten, written_fields};
 ghost use Rattle.pkcs1_params.specs.MaskedValues.{MaskedValue, InRange, FieldContents, MaskedValueContents, HasMasked};
-ghost use Rattle.pkcs1_params.specs.MaskedValues.{written_masked, masked_means_one, masked_of_bytes, masked_relates};
-ghost use Rattle.pkcs1_params.specs.MaskedValues.{masked_least};
+ghost use Rattle.pkcs1_params.specs.MaskedValues.{written_masked};
+ghost use Rattle.pkcs1_params.specs.Laws.MaskedValues.{masked_means_one, masked_of_bytes, masked_relates, masked_least};
 
 use crate::error::Result;
 use der_core::{

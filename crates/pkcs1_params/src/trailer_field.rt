@@ -5,8 +5,8 @@ ghost use Rattle.der_core.specs.IntegerReading.{Answers};
 ghost use Rattle.der_core.specs.Reading.{HoldsBytes};
 ghost use Rattle.pkcs1_params.specs.Parameters.{TrailerContents};
 ghost use Rattle.pkcs1_params.specs.Trailers.{trailer_at};
-ghost use Rattle.pkcs1_params.specs.Laws.Trailers.{trailer_means_one, trailer_of_bytes, trailer_relates};
-ghost use Rattle.pkcs1_params.specs.Laws.Trailers.{trailer_shortest};
+ghost use Rattle.pkcs1_params.specs.Laws.SmallFields.{trailer_means_one, trailer_of_bytes, trailer_relates};
+ghost use Rattle.pkcs1_params.specs.Laws.SmallFields.{trailer_shortest};
 
 use der_core::{
     BackWriter, Contents, DecodeValue, EncodeValue, EqualByValue, ErrorKind, Header, IntegerTag,

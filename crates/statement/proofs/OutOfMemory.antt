@@ -1,4 +1,5 @@
 -- Reading with memory: an error that isn't out of memory says that there is no value.
+use Rattle.std.proofs.lemmas.Result.{IfOk-weaker}
 use Rattle.std.proofs.Common.{ℕ, List, ◌≡◌, ◌⊎◌, refl, sym, subst, inl, inr, Option, Some, None, Result, Ok, Err}
 use Rattle.std.specs.Prelude.{IfOk, IfErr}
 use Rattle.std.specs.Option.{option_map}
@@ -18,13 +19,9 @@ rejected Q asked none error.Crypto h other = absurd h
 rejected Q asked none error.KeyMalformed h other = absurd h
 rejected Q asked none error.Version h other = absurd h
 
-if_ok_as : {A E : Type 0} {P Q : A → Type 0} (r : Result A E) → ((a : A) → P a → Q a) → IfOk r P → IfOk r Q
-if_ok_as (Ok a) f p = f a p
-if_ok_as (Err e) f p = tt
-
 -- What holds of no value holds of a call that gives none, or out of memory.
 pub no_value : {X E : Type 0} (P : Option X → Type 0) {Other : Type 0} (r : Result (Option X) E) → IfOk r (λ v. (v ≡ None) × Other) → (Other → P None) → IfOk r P
-no_value P r h f = if_ok_as r (λ v p. subst P (sym p.0) (f p.1)) h
+no_value P r h f = IfOk-weaker r _ _ (λ v p. subst P (sym p.0) (f p.1)) h
 
 -- A call that gives what another gave, or out of memory.
 pub decoded : {X V E : Type 0} (value : X → V) (Encoding : V → List ℕ → Type 0) (bytes : List ℕ) (read : Result X Error) (r : Result (Option X) E)
@@ -34,6 +31,6 @@ pub decoded : {X V E : Type 0} (value : X → V) (Encoding : V → List ℕ → 
     → (C : Error → Type 0) → IfErr read C → ((e : Error) → C e → (IsMemory e → ⊥) → Decodes Encoding bytes None)
     → IfOk r (λ o. Decodes Encoding bytes (option_map value o))
 decoded value Encoding bytes (Ok x) r ok err A a given C c none =
-    if_ok_as r (λ o same. subst (λ o. Decodes Encoding bytes (option_map value o)) (sym same) (given x a)) (ok x refl)
+    IfOk-weaker r _ _ (λ o same. subst (λ o. Decodes Encoding bytes (option_map value o)) (sym same) (given x a)) (ok x refl)
 decoded value Encoding bytes (Err e) r ok err A a given C c none =
-    if_ok_as r (λ o p. subst (λ o. Decodes Encoding bytes (option_map value o)) (sym p.0) (none e c p.1)) (err e refl)
+    IfOk-weaker r _ _ (λ o p. subst (λ o. Decodes Encoding bytes (option_map value o)) (sym p.0) (none e c p.1)) (err e refl)

@@ -13,7 +13,7 @@ use Rattle.spki_core.specs.Laws.StrictWalk.{Marked}
 use Rattle.pkcs1_params.specs.Laws.HashFields.{plain_of_bytes, mask_of_bytes}
 use Rattle.pkcs1_params.specs.Parameters.{TrailerContents, TrailerField}
 use Rattle.pkcs1_params.specs.Parts.{FieldValue, hash_field, mask_gen_field, salt_len_field, trailer_field, p_source_field, part_of, fields_in, fields_with, defaults_in, AreNumbered}
-use Rattle.pkcs1_params.specs.Laws.Trailers.{trailer_of_bytes}
+use Rattle.pkcs1_params.specs.Laws.SmallFields.{trailer_of_bytes}
 
 number_small : (v : FieldValue) → (part_of v).field.number ≤ 30
 number_small (hash_field v) = omega arith

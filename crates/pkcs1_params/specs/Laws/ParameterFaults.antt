@@ -33,7 +33,7 @@ use Rattle.pkcs1_params.specs.ParameterFaults.{tag_0, tag_1, tag_2, tag_3, Trail
 use Rattle.pkcs1_params.specs.Parameters.{sha1, mgf1_sha1, empty_label, TrailerContents, TrailerField, hash_fields_then, PssParameters, PssContents, OaepParameters, OaepContents, RsaPssParams, RsaOaepParams}
 use Rattle.pkcs1_params.specs.Laws.Pss.{pss_means_one}
 use Rattle.pkcs1_params.specs.Laws.Oaep.{oaep_means_one}
-use Rattle.pkcs1_params.specs.Laws.Trailers.{trailer_delimited}
+use Rattle.pkcs1_params.specs.Laws.SmallFields.{trailer_delimited}
 
 -- What is left of the bytes behind a field.
 rest_fits : {V : Type 0} (n : ℕ) (encoding : V → List ℕ → Type 0) (default v : V) (c rest : List ℕ) → FieldRead n encoding default c v rest → length rest ≤ length c

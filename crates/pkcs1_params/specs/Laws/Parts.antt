@@ -13,6 +13,8 @@ use Rattle.spki_core.specs.Explicit.{Field, Defaultable, HaveDefaults}
 use Rattle.spki_core.specs.FieldWriting.{HasField, written_field}
 use Rattle.spki_core.specs.Laws.Masks.{parts_relate}
 use Rattle.spki_core.specs.Masks.{out_under, rest_under, Part, fields_of, has_under, written_under}
+use Rattle.pkcs1_params.specs.Parameters.{PssParameters, pss_fields, OaepParameters, oaep_fields}
+use Rattle.pkcs1_params.specs.Parts.{parts_of, pss_values, oaep_values}
 
 -- One more field.
 pub one_more : (f : Field) (fields : List Field) (b : Bool) (k : ℕ) → Decides b f.IsDefault → HaveDefaults fields k → HaveDefaults (f ∷ fields) (from_bool b + k)
@@ -69,3 +71,10 @@ field_has false h = h
 pub have_under : (parts : List Part) (mask : ℕ) → AllHave parts → has_under parts mask
 have_under [] mask all = tt
 have_under (p ∷ parts) mask all = (field_has (out_under p.is_default mask) all.0, have_under parts (rest_under p.is_default mask) all.1)
+
+-- Every value has a number of defaults.
+pub pss_defaults : (p : PssParameters) → (k : ℕ) × HaveDefaults (pss_fields p) k
+pss_defaults p = parts_counted (parts_of (pss_values p))
+
+pub oaep_defaults : (p : OaepParameters) → (k : ℕ) × HaveDefaults (oaep_fields p) k
+oaep_defaults p = parts_counted (parts_of (oaep_values p))

@@ -12,7 +12,7 @@ use Rattle.pkcs1_params.specs.Laws.HashFields.{hash_fields_step}
 use Rattle.pkcs1_params.specs.Parameters.{TrailerField, PssParameters, pss_fields, PssContents}
 use Rattle.pkcs1_params.specs.Laws.Parts.{parts_hold, parts_shortest}
 use Rattle.pkcs1_params.specs.Parts.{parts_of, pss_values, HasFields, written_fields}
-use Rattle.pkcs1_params.specs.Laws.Trailers.{trailer_delimited}
+use Rattle.pkcs1_params.specs.Laws.SmallFields.{trailer_delimited}
 
 -- saltLength and trailerField
 abbrev later : PssParameters → List Field

@@ -1,9 +1,10 @@
+use Rattle.std.proofs.lemmas.Result.{IfOk-weaker}
 use Rattle.der_core.specs.Laws.Shortest.{means_one}
 use Rattle.der_core.specs.Laws.Encodings.{tlv_delimited}
 use Rattle.pkcs1_params.specs.Laws.FieldValues.{ordered}
 use Rattle.pkcs1_params.specs.MaskedValues.{FieldContents}
 use Rattle.pkcs1_params.specs.Parts.{fields_with}
-use Rattle.pkcs1_params.proofs.Masks.{zero_in_range, zero_is_shortest, not_written, if_ok_as, if_err_as}
+use Rattle.pkcs1_params.proofs.Masks.{zero_in_range, zero_is_shortest, not_written, if_err_as}
 use Rattle.pkcs1_params.proofs.ParameterSpellings.{two_to_the_defaults}
 use Rattle.spki_core.specs.Laws.Spellings.{masked_spells}
 use Rattle.pkcs1_params.proofs.spelling.encode_shortest.Goals as goal
@@ -14,23 +15,23 @@ spell_into-requires g c = let t = g.T.DefaultFields in zero_in_range t.values t.
 pub returns-clause-shortest : goal.returns-clause-shortest
 returns-clause-shortest g c =
     let t = g.T.DefaultFields in
-    if_ok_as c.spell_into.result (λ n s. zero_is_shortest t.values t.numbered (t.params c.args.params.now) _ s.spelling) c.spell_into.ensures.stands
+    IfOk-weaker c.spell_into.result _ _ (λ n s. zero_is_shortest t.values t.numbered (t.params c.args.params.now) _ s.spelling) c.spell_into.ensures.stands
 
 pub returns-clause-no_default : goal.returns-clause-no_default
-returns-clause-no_default g c = if_ok_as c.spell_into.result (λ n s. s.spelling.1) c.spell_into.ensures.stands
+returns-clause-no_default g c = IfOk-weaker c.spell_into.result _ _ (λ n s. s.spelling.1) c.spell_into.ensures.stands
 
 pub returns-clause-one : goal.returns-clause-one
 returns-clause-one g c =
     let t = g.T.DefaultFields in
     let v = t.params c.args.params.now in
-    if_ok_as c.spell_into.result
+    IfOk-weaker c.spell_into.result _ _
     (λ n s other p. means_one (tlv_delimited 48 (FieldContents t.values) t.fields_mean_one) other v _ p (masked_spells (fields_with t.values v) 0 _ s.spelling.1))
     c.spell_into.ensures.stands
 
 pub returns-clause-count : goal.returns-clause-count
 returns-clause-count g c =
     let t = g.T.DefaultFields in
-    if_ok_as c.spell_into.result (λ n s. two_to_the_defaults (fields_with t.values) (ordered t.values t.numbered) (t.params c.args.params.now)) c.spell_into.ensures.stands
+    IfOk-weaker c.spell_into.result _ _ (λ n s. two_to_the_defaults (fields_with t.values) (ordered t.values t.numbered) (t.params c.args.params.now)) c.spell_into.ensures.stands
 
 pub returns-clause-err : goal.returns-clause-err
 returns-clause-err g c =

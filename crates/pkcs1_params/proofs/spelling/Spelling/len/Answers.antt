@@ -1,6 +1,7 @@
 use Rattle.std.proofs.Common.{arith}
 use Rattle.der_core.specs.Laws.Encodings.{tlv_relates}
-use Rattle.pkcs1_params.specs.MaskedValues.{MaskedValue, MaskedValueContents, written_masked, masked_relates}
+use Rattle.pkcs1_params.specs.MaskedValues.{MaskedValue, MaskedValueContents, written_masked}
+use Rattle.pkcs1_params.specs.Laws.MaskedValues.{masked_relates}
 use Rattle.pkcs1_params.proofs.spelling.Spelling.len.Goals as goal
 
 pub returns-clause-spells : goal.returns-clause-spells
