@@ -5,7 +5,7 @@ use Rattle.der_core.specs.Encodings.{AreBytes, IsOfBytes}
 use Rattle.der_core.specs.Tlv.{Tlv, tlv}
 use Rattle.der_core.specs.Length.{limit}
 use Rattle.der_core.specs.Document.{Means, IsDocument}
-use Rattle.der_core.specs.Carrying.{GivesNone, WhyDocumentNotRead, FileFault}
+use Rattle.der_core.specs.Carrying.{GivesNone}
 use Rattle.der_core.specs.Faults.{DocumentFault, IsTheFault}
 use Rattle.der_core.specs.SourcesSinks.{GivesAll}
 use Rattle.der_core.specs.Reading.{Rejects, AllocatesIn, TellsOfBytes}
@@ -21,13 +21,6 @@ no_document e b r = ⊎_elim (λ w. absurd w.1.3.holds) (λ w. (w.0, λ p. w.1 t
 -- What came is no document.
 pub none_given : (e : ErrorKind) (old new : Option (List ℕ)) (given seen : List ℕ) → seen ≡ given → GivesAll old new given → (IsDocument seen → ⊥) → IsTheFault DocumentFault seen e → GivesNone e old new
 none_given e old new given seen same gives none fault = (given, gives, (λ d. none (rw same d)), rw same at fault)
-
--- What stops reading a source is what a file can be rejected for.
-pub file_fault : (e : ErrorKind) (old new : Option (List ℕ)) (a b : ℕ) → WhyDocumentNotRead e old new a b → FileFault e
-file_fault e old new a b (inl (inl w)) = inl w.0
-file_fault e old new a b (inl (inr (inl w))) = inr (inl w.0)
-file_fault e old new a b (inl (inr (inr (over, _, (bytes, gives, more, few))))) = inr (inr (bytes, inl (more, over)))
-file_fault e old new a b (inr (_, (bytes, gives, none, fault))) = inr (inr (bytes, fault.1))
 
 -- The encoding of a message is a document.
 pub written_document : {V : Type 0} (Contents : V → List ℕ → Type 0) (written : V → List ℕ) (v : V) (tag : ℕ) → tag ≡ 48 → IsOfBytes Contents

@@ -70,10 +70,6 @@ TaggedLastFault tag Encoding Fault kind bytes =
     ((slice_get bytes 0 ≡ Some tag.octet) × AloneFault Encoding Fault kind bytes)
     ⊎ ((slice_get bytes 0 ≢ Some tag.octet) × EndFault kind bytes)
 
--- An optional part with a tag: the tag's octet is next, and the encoding has a fault.
-abbrev pub TaggedFault : Tag → (ErrorKind → List ℕ → Type 0) → ErrorKind → List ℕ → Type 0
-TaggedFault tag Fault kind bytes = (slice_get bytes 0 ≡ Some tag.octet) × EncodingFault tag Fault kind bytes
-
 -- Contents that have to mean one expected value: they have a fault, or mean another value, which has an error of its
 -- own.
 abbrev pub ExpectedFault : {V : Type 0} → (V → List ℕ → Type 0) → (ErrorKind → List ℕ → Type 0) → V → ErrorKind → ErrorKind → List ℕ → Type 0

@@ -11,7 +11,8 @@ use Rattle.pkcs1_params.specs.Errors.{IsAsn1}
 use Rattle.pkcs1_params.specs.declared.error.Error.{Error}
 use Rattle.pkcs1_params.specs.declared.error.Error.TheVariants as error
 use Rattle.der_core.specs.Document.{Means}
-use Rattle.pkcs1_params.specs.Meanings.{IsTheFault, IsWritingError}
+use Rattle.der_core.specs.Faults.{IsTheFault}
+use Rattle.pkcs1_params.specs.Meanings.{IsWritingError}
 use Rattle.pkcs1_c.specs.Status.{kind_number, status_of, IsNumberOfFault, IsStatusOf}
 use Rattle.pkcs1_c.specs.StructErrors.{EncodingError}
 

@@ -7,7 +7,7 @@ use Rattle.der_core.specs.declared.error.Error as der
 use Rattle.der_core.specs.declared.error.ErrorKind.{ErrorKind}
 use Rattle.der_core.specs.Document.{Means, HasEncoding, IsShortest, WhyNotWritten, EncodeError, no_encoding, too_long, no_room, another}
 use Rattle.der_core.specs.Encodings.{Is, IsOfBytes, MeansOne}
-use Rattle.der_core.specs.Faults.{EncodingFault, WholeFault, Faulty}
+use Rattle.der_core.specs.Faults.{EncodingFault, WholeFault, Faulty, FailsExactly, IsTheFault}
 use Rattle.der_core.specs.Laws.Encodings.{tlv_of_bytes, tlv_split, joins_last, tlv_made, tlv_relates, tlv_length}
 use Rattle.der_core.specs.Laws.Fronts.{front_is}
 use Rattle.der_core.specs.Laws.Growing.{tlv_recast}
@@ -35,10 +35,11 @@ use Rattle.pkcs1_params.specs.Algorithms.{AlgorithmOf, Identifies, NotIdentified
 use Rattle.pkcs1_params.specs.Errors.{IsAsn1}
 use Rattle.pkcs1_params.specs.Laws.Algorithms.{algorithm_of_plain, plain_of_algorithm, same_parameters, parameters_shorter, parameters_in, shortest_of}
 use Rattle.pkcs1_params.specs.Laws.Errors.{asn1_as}
-use Rattle.pkcs1_params.specs.Laws.FaultsTold.{AreTold, tagged_told, unasked, fault_before, errs_behind}
+use Rattle.der_core.specs.Laws.Whole.{AreTold, tagged_told}
+use Rattle.pkcs1_params.specs.Laws.FaultsTold.{fault_before, errs_behind}
 use Rattle.pkcs1_params.specs.Laws.FieldValues.{fields_of_bytes}
 use Rattle.pkcs1_params.specs.MaskedValues.{FieldContents}
-use Rattle.pkcs1_params.specs.Meanings.{ErrsExactly, FailsExactly, IsNoSentence, IsTheFault, IsTheMeaning, IsTheOnly}
+use Rattle.pkcs1_params.specs.Meanings.{ErrsExactly, IsNoSentence, IsTheMeaning, IsTheOnly}
 use Rattle.pkcs1_params.specs.Parameters.{with_parameters}
 use Rattle.pkcs1_params.specs.Parts.{FieldValue, Fielded, fields_with}
 use Rattle.pkcs1_params.specs.declared.error.Error.{Error}
@@ -47,18 +48,11 @@ use Rattle.pkcs1_params.specs.declared.error.Error.{Error}
 pub identifier_asks : (b : List ℕ) → AllocatesIn (AlgorithmAllocates (λ _. ⊥)) b → ⊥
 identifier_asks b w = let h = w.3.holds in let l = h.1.3 in l.1.3
 
--- What is never asked for memory tells of a fault.
-module _ {X : Type 0} {asked : Type 0} (nothing : asked → ⊥) where
-  pub told_none : (none : Type 0) (r : Result X der.Error) → IfErr r (λ e. Rejects e.kind asked none) → OnErr r none
-  told_none none (Ok x) h = tt
-  told_none none (Err e) (inl h) = absurd (nothing h.1)
-  told_none none (Err e) (inr h) = h.1
-
-  pub told_exactly : {Read : Type 0} (Fault : ErrorKind → Read → Type 0) (read : Read) (none : Type 0) (r : Result X der.Error) → IfErr r (λ e. Rejects e.kind asked none) → IfErr r (λ e. Faulty e.kind asked (Fault e.kind read))
-      → ((kind : ErrorKind) → Fault kind read → IsErrAnd r (λ e. Faulty e.kind asked (e.kind ≡ kind))) → FailsExactly Fault read r
-  told_exactly Fault read none (Ok x) h fault only = only
-  told_exactly Fault read none (Err e) (inl h) fault only = absurd (nothing h.1)
-  told_exactly Fault read none (Err e) (inr h) fault only = (h.0, unasked nothing fault, λ other f. sym (unasked nothing (only other f)))
+-- What is never asked for memory tells that there is no value.
+pub told_none : {X : Type 0} {asked : Type 0} → (asked → ⊥) → (none : Type 0) (r : Result X der.Error) → IfErr r (λ e. Rejects e.kind asked none) → OnErr r none
+told_none nothing none (Ok x) h = tt
+told_none nothing none (Err e) (inl h) = absurd (nothing h.1)
+told_none nothing none (Err e) (inr h) = h.1
 
 -- The identifier agrees and has parameters, so the value and the fault are theirs.
 module _ {oid : List ℕ} {a : Algorithm TagAndContents} {any : TagAndContents} (agrees : a.oid ≡ oid) (there : a.parameters ≡ Some any) where

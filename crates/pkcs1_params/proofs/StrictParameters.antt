@@ -11,7 +11,7 @@ use Rattle.spki_core.specs.Laws.StrictWalk.{FoundIn, encoding_finds, none_found,
 use Rattle.pkcs1_params.specs.Laws.Errors.{asn1_as}
 use Rattle.pkcs1_params.specs.Laws.FieldValues.{fields_of_bytes, in_order, marked, ordered}
 use Rattle.pkcs1_params.specs.Laws.Parts.{parts_counted}
-use Rattle.pkcs1_params.specs.Meanings.{IsTheFault}
+use Rattle.der_core.specs.Faults.{IsTheFault}
 use Rattle.pkcs1_params.specs.Parts.{FieldValue, Fielded, AreNumbered, defaults_in, fields_with, parts_of}
 use Rattle.pkcs1_params.specs.Errors.{IsAsn1}
 use Rattle.pkcs1_params.specs.declared.error.Error.{Error}

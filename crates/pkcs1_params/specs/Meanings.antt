@@ -1,10 +1,8 @@
 -- What an encoding means, only that, and why a value isn't written, as errors of this crate.
 use Rattle.std.specs.Prelude.{ℕ, List, ◌≡◌, Option, Some, None, Result, Ok, Err}
-use Rattle.der_core.specs.declared.error.Error as der
 use Rattle.der_core.specs.declared.error.ErrorKind.{ErrorKind}
 use Rattle.der_core.specs.Document.{Means, IsShortest, WhyNotWritten, HasEncoding}
-use Rattle.der_core.specs.Faults.{Faulty}
-use Rattle.der_core.specs.Reading.{TellsOfBytes}
+use Rattle.der_core.specs.Faults.{Faulty, IsTheFault}
 use Rattle.der_core.specs.Writing.{encode_error}
 use Rattle.pkcs1_params.specs.declared.error.Error.{Error}
 use Rattle.pkcs1_params.specs.Errors.{IsAsn1}
@@ -29,16 +27,7 @@ IsNoSentence {V} Grammar encoding = (v : V) → Means Grammar encoding v → ⊥
 abbrev pub IsNoShortest : {V : Type 0} → (V → List ℕ → Type 0) → List ℕ → Type 0
 IsNoShortest {V} Grammar encoding = (v : V) → IsShortest Grammar v encoding → ⊥
 
--- What is read has this fault and no other, and its error is about the bytes.
-abbrev pub IsTheFault : {Read : Type 0} → (ErrorKind → Read → Type 0) → Read → ErrorKind → Type 0
-IsTheFault Fault read kind = TellsOfBytes kind × Fault kind read × ((other : ErrorKind) → Fault other read → other ≡ kind)
-
--- What is read has no fault; or the error is that of its only fault.
-abbrev pub FailsExactly : {Read X : Type 0} → (ErrorKind → Read → Type 0) → Read → Result X der.Error → Type 0
-FailsExactly Fault read (Ok x) = (kind : ErrorKind) → Fault kind read → ⊥
-FailsExactly Fault read (Err e) = IsTheFault Fault read e.kind
-
--- The same of an error of this crate, which holds one of der_core.
+-- What is read has no fault; or the error, which holds one of der_core, is that of its only fault.
 abbrev pub ErrsExactly : {Read X : Type 0} → (ErrorKind → Read → Type 0) → Read → Result X Error → Type 0
 ErrsExactly Fault read (Ok x) = (kind : ErrorKind) → Fault kind read → ⊥
 ErrsExactly Fault read (Err e) = IsAsn1 (λ asn1. IsTheFault Fault read asn1.kind) e

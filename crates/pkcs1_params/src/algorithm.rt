@@ -13,7 +13,8 @@ ghost use Rattle.spki_core.specs.Faults.{OtherAnyFault};
 ghost use Rattle.spki_core.specs.StrictFields.{NamesDefault};
 ghost use Rattle.pkcs1_params.specs.Algorithms.{AlgorithmOf, AlgorithmOfFault, Identifies, NotIdentified, StrictFault};
 ghost use Rattle.pkcs1_params.specs.MaskedValues.{FieldContents};
-ghost use Rattle.pkcs1_params.specs.Meanings.{ErrsExactly, FailsExactly, IsNoSentence, IsNoShortest};
+ghost use Rattle.der_core.specs.Faults.{FailsExactly};
+ghost use Rattle.pkcs1_params.specs.Meanings.{ErrsExactly, IsNoSentence, IsNoShortest};
 ghost use Rattle.pkcs1_params.specs.Meanings.{IsTheMeaning, IsTheOnly, IsTheShortest, IsWritingError};
 ghost use Rattle.pkcs1_params.specs.Parameters.{with_parameters};
 ghost use Rattle.pkcs1_params.specs.Parts.{FieldValue, Fielded, fields_with};
@@ -159,10 +160,8 @@ pub(crate) fn encode_identifier<D: AssociatedOid, T: EncodeValue + FixedTag + Dr
     requires has { T.has_contents (T.value params) }
     requires short { length (T.written_contents (T.value params)) < 2 ^ 64 }
     ensures shortest { let Grammar = AlgorithmOf D.contents (λ v. Tlv T.TAG.octet (T.contents v)) in
-        IfOk result (λ n. IsShortest Grammar (T.value params) (take n out.new)) }
+        IfOk result (λ n. IsTheShortest Grammar (take n out.new) (T.value params)) }
     ensures rest { IfOk result (λ n. (n ≤ length out.new) × (drop n out.new ≡ drop n out.old)) }
-    ensures one { let Grammar = AlgorithmOf D.contents (λ v. Tlv T.TAG.octet (T.contents v)) in
-        IfOk result (λ n. (other : T.Value) → Grammar other (take n out.new) → other ≡ T.value params) }
     ensures unchanged { OnErr result (out.new ≡ out.old) }
     ensures err { let Grammar = AlgorithmOf D.contents (λ v. Tlv T.TAG.octet (T.contents v)) in
         IfErr result (IsWritingError Grammar (T.value params) (length out.old)) }

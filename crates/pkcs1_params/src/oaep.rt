@@ -103,11 +103,9 @@ impl<'a, M: Memory> DecodeValue<&'a [u8], M> for RsaOaepParams<AnyRef<'a>> {
 
 impl<P: AnyValue> RsaOaepParams<P> {
     ghost use Rattle.std.specs.Prelude.{drop, take, IfOk, OnErr};
-    ghost use Rattle.der_core.specs.Document.{IsShortest};
-    ghost use Rattle.pkcs1_params.specs.Meanings.{IsWritingError};
+    ghost use Rattle.pkcs1_params.specs.Meanings.{IsTheShortest, IsWritingError};
     ghost use Rattle.spki_core.specs.Explicit.{Masked};
     ghost use Rattle.pkcs1_params.specs.OaepValue.{oaep_of, oaep_viewed, oaep_with};
-    ghost use Rattle.pkcs1_params.specs.Errors.{IsAsn1};
     ghost use Rattle.pkcs1_params.specs.Spellings.{HasTwoToTheDefaults};
 
     /// The parameters, borrowed.
@@ -127,12 +125,9 @@ impl<P: AnyValue> RsaOaepParams<P> {
     /// slice is shorter than it.
     pub fn encode_params(&self, out: &mut [u8]) -> Result<usize>
         ensures shortest { let params = oaep_with P.any self.now in
-            IfOk result (λ n. IsShortest grammar.RsaOaepParams params (take n out.new)) }
+            IfOk result (λ n. IsTheShortest grammar.RsaOaepParams (take n out.new) params) }
         ensures no_default { IfOk result (λ n. Masked (oaep_fields (oaep_with P.any self.now)) 0 (take n out.new)) }
         ensures rest { IfOk result (λ n. (n ≤ length out.new) × (drop n out.new ≡ drop n out.old)) }
-        ensures one { let params = oaep_with P.any self.now in
-            IfOk result (λ n.
-            (other : OaepParameters) → grammar.RsaOaepParams other (take n out.new) → other ≡ params) }
         ensures count { OnOk result (HasTwoToTheDefaults oaep_fields (oaep_with P.any self.now)) }
         ensures unchanged { OnErr result (out.new ≡ out.old) }
         ensures err { IfErr result (IsWritingError grammar.RsaOaepParams (oaep_with P.any self.now) (length out.old)) }

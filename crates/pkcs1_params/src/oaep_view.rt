@@ -33,8 +33,7 @@ pub struct RsaOaepParamsView<'a> {
 }
 
 impl<'a> RsaOaepParamsView<'a> {
-    ghost use Rattle.std.specs.Prelude.{ℕ, List, drop, take, IfOk, OnErr};
-    ghost use Rattle.der_core.specs.Document.{IsShortest};
+    ghost use Rattle.std.specs.Prelude.{drop, take, IfOk, OnErr};
     ghost use Rattle.spki_core.specs.Explicit.{Masked};
     ghost use Rattle.pkcs1_params.specs.Meanings.{ErrsExactly, IsNoShortest, IsTheShortest, IsWritingError};
     ghost use Rattle.pkcs1_params.specs.Spellings.{HasTwoToTheDefaults};
@@ -64,11 +63,10 @@ impl<'a> RsaOaepParamsView<'a> {
 
     /// Like `RsaOaepParams::encode_params`.
     pub fn encode_params(&self, out: &mut [u8]) -> Result<usize>
-        ensures shortest { IfOk result (λ n. IsShortest grammar.RsaOaepParams (oaep_viewed self.now) (take n out.new)) }
+        ensures shortest { let params = oaep_viewed self.now in
+            IfOk result (λ n. IsTheShortest grammar.RsaOaepParams (take n out.new) params) }
         ensures no_default { IfOk result (λ n. Masked (oaep_fields (oaep_viewed self.now)) 0 (take n out.new)) }
         ensures rest { IfOk result (λ n. (n ≤ length out.new) × (drop n out.new ≡ drop n out.old)) }
-        ensures one { IfOk result (λ n. (other : OaepParameters) → grammar.RsaOaepParams other (take n out.new)
-            → other ≡ oaep_viewed self.now) }
         ensures count { OnOk result (HasTwoToTheDefaults oaep_fields (oaep_viewed self.now)) }
         ensures unchanged { OnErr result (out.new ≡ out.old) }
         ensures err { IfErr result (IsWritingError grammar.RsaOaepParams (oaep_viewed self.now) (length out.old)) }

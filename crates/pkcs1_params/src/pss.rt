@@ -107,9 +107,8 @@ impl<'a, M: Memory> DecodeValue<&'a [u8], M> for RsaPssParams<AnyRef<'a>> {
 }
 
 impl<P: AnyValue> RsaPssParams<P> {
-    ghost use Rattle.std.specs.Prelude.{ℕ, List, drop, take, IfOk, OnErr};
-    ghost use Rattle.der_core.specs.Document.{IsShortest};
-    ghost use Rattle.pkcs1_params.specs.Meanings.{IsWritingError};
+    ghost use Rattle.std.specs.Prelude.{drop, take, IfOk, OnErr};
+    ghost use Rattle.pkcs1_params.specs.Meanings.{IsTheShortest, IsWritingError};
     ghost use Rattle.spki_core.specs.Explicit.{Masked};
     ghost use Rattle.pkcs1_params.specs.Spellings.{HasTwoToTheDefaults};
 
@@ -131,12 +130,9 @@ impl<P: AnyValue> RsaPssParams<P> {
     /// slice is shorter than it.
     pub fn encode_params(&self, out: &mut [u8]) -> Result<usize>
         ensures shortest { let params = pss_with P.any self.now in
-            IfOk result (λ n. IsShortest grammar.RsaPssParams params (take n out.new)) }
+            IfOk result (λ n. IsTheShortest grammar.RsaPssParams (take n out.new) params) }
         ensures no_default { IfOk result (λ n. Masked (pss_fields (pss_with P.any self.now)) 0 (take n out.new)) }
         ensures rest { IfOk result (λ n. (n ≤ length out.new) × (drop n out.new ≡ drop n out.old)) }
-        ensures one { let params = pss_with P.any self.now in
-            IfOk result (λ n.
-            (other : PssParameters) → grammar.RsaPssParams other (take n out.new) → other ≡ params) }
         ensures count { OnOk result (HasTwoToTheDefaults pss_fields (pss_with P.any self.now)) }
         ensures unchanged { OnErr result (out.new ≡ out.old) }
         ensures err { IfErr result (IsWritingError grammar.RsaPssParams (pss_with P.any self.now) (length out.old)) }

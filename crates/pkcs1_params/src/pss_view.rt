@@ -36,8 +36,7 @@ pub struct RsaPssParamsView<'a> {
 }
 
 impl<'a> RsaPssParamsView<'a> {
-    ghost use Rattle.std.specs.Prelude.{ℕ, List, drop, take, IfOk, OnErr};
-    ghost use Rattle.der_core.specs.Document.{IsShortest};
+    ghost use Rattle.std.specs.Prelude.{drop, take, IfOk, OnErr};
     ghost use Rattle.spki_core.specs.Explicit.{Masked};
     ghost use Rattle.pkcs1_params.specs.Meanings.{ErrsExactly, IsNoShortest, IsTheShortest, IsWritingError};
     ghost use Rattle.pkcs1_params.specs.Spellings.{HasTwoToTheDefaults};
@@ -68,11 +67,10 @@ impl<'a> RsaPssParamsView<'a> {
 
     /// Like `RsaPssParams::encode_params`.
     pub fn encode_params(&self, out: &mut [u8]) -> Result<usize>
-        ensures shortest { IfOk result (λ n. IsShortest grammar.RsaPssParams (pss_viewed self.now) (take n out.new)) }
+        ensures shortest { let params = pss_viewed self.now in
+            IfOk result (λ n. IsTheShortest grammar.RsaPssParams (take n out.new) params) }
         ensures no_default { IfOk result (λ n. Masked (pss_fields (pss_viewed self.now)) 0 (take n out.new)) }
         ensures rest { IfOk result (λ n. (n ≤ length out.new) × (drop n out.new ≡ drop n out.old)) }
-        ensures one { IfOk result (λ n. (other : PssParameters) → grammar.RsaPssParams other (take n out.new)
-            → other ≡ pss_viewed self.now) }
         ensures count { OnOk result (HasTwoToTheDefaults pss_fields (pss_viewed self.now)) }
         ensures unchanged { OnErr result (out.new ≡ out.old) }
         ensures err { IfErr result (IsWritingError grammar.RsaPssParams (pss_viewed self.now) (length out.old)) }

@@ -5,7 +5,7 @@ use Rattle.std.proofs.lemmas.Bool.Decides.{nat_tests}
 use Rattle.std.specs.Prelude.{nat_lt, if◌then◌else◌, IfOk, IfErr}
 use Rattle.der_core.specs.Document.{Means}
 use Rattle.der_core.specs.Encodings.{AreBytes, Then}
-use Rattle.der_core.specs.Faults.{EncodingFault, in_header, other_tag, too_short, in_contents, ThenFault, EndFault, AloneFault, WholeFault}
+use Rattle.der_core.specs.Faults.{EncodingFault, in_header, other_tag, too_short, in_contents, ThenFault, EndFault, AloneFault, WholeFault, FailsExactly, IsTheFault}
 use Rattle.der_core.specs.Headers.{HeaderEncoding}
 use Rattle.der_core.specs.Input.{header_at, front_of}
 use Rattle.der_core.specs.Laws.Headers.{header_complete, tlv_header}
@@ -20,7 +20,7 @@ use Rattle.pkcs1_params.specs.Errors.{IsAsn1}
 use Rattle.pkcs1_params.specs.declared.error.Error.{Error}
 use Rattle.pkcs1_params.specs.declared.error.Error.TheVariants as error
 use Rattle.pkcs1_params.specs.Laws.Errors.{asn1_as}
-use Rattle.pkcs1_params.specs.Meanings.{ErrsExactly, FailsExactly, IsTheFault, IsTheOnly}
+use Rattle.pkcs1_params.specs.Meanings.{ErrsExactly, IsTheOnly}
 use Rattle.statement.specs.Statement.{limit}
 use Rattle.statement.specs.Reading.{Reading, ◌>>=◌, chain, ended, such, checked, unexpected, behind_header, tagged, whole, Returns, ReturnsDer}
 

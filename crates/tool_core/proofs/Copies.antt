@@ -5,13 +5,13 @@ use Rattle.std.proofs.KnownBytes.{Keeps-refl}
 use Rattle.der_core.specs.declared.error.Error as der
 use Rattle.der_core.specs.declared.error.ErrorKind.{ErrorKind}
 use Rattle.der_core.specs.declared.error.ErrorKind.TheVariants.{File}
-use Rattle.der_core.specs.Carrying.{FileFault, WhyDocumentNotRead}
+use Rattle.der_core.specs.Laws.SourceMoves.{file_fault}
 use Rattle.der_core.specs.SourcesSinks.{AppendsFront, GivesAll, SomeFailed}
 use Rattle.pkcs1.specs.KeyEncodings.{IsSentence}
 use Rattle.pkcs1_params.specs.declared.error.Error.{Error}
 use Rattle.pkcs1_params.specs.declared.error.Error.TheVariants as error
 use Rattle.pkcs1_params.specs.Errors.{IsAsn1}
-use Rattle.pkcs1_params.specs.Meanings.{IsTheFault}
+use Rattle.der_core.specs.Faults.{IsTheFault}
 use Rattle.tool_core.specs.Copied.{IsUntouched, WhyKeyNotRead, WhyKeyNotWritten, WhyNotCopied}
 
 -- what came is rejected as a key, and the sink wasn't called
@@ -29,13 +29,6 @@ pub not_written : {V : Type 0} (Grammar : V → List ℕ → Type 0) (First : Ty
     → First ⊎ WhyKeyNotWritten Grammar kind before after old new sink sink2
 not_written Grammar First kind encoding before after old new sink sink2 gives is stopped =
     inr (stopped.1, encoding, gives, is, stopped.0, stopped.2)
-
--- why no document was read is why a file isn't
-file_fault : (e : ErrorKind) (before after : Option (List ℕ)) (failures failures2 : ℕ) → WhyDocumentNotRead e before after failures failures2 → FileFault e
-file_fault e before after failures failures2 (inl (inl failed)) = inl failed.0
-file_fault e before after failures failures2 (inl (inr (inl memory))) = inr (inl memory.0)
-file_fault e before after failures failures2 (inl (inr (inr (over, _, (bytes, _, more, _))))) = inr (inr (bytes, inl (more, over)))
-file_fault e before after failures failures2 (inr (_, _, (bytes, _, _, fault))) = inr (inr (bytes, fault))
 
 -- why a key isn't copied is why a file isn't
 stopped : {V : Type 0} (Grammar : V → List ℕ → Type 0) (KeyFault : ErrorKind → List ℕ → Type 0) (e : ErrorKind) (before after old new : Option (List ℕ)) (failures failures2 sink sink2 : ℕ)

@@ -3,18 +3,13 @@ use Rattle.std.proofs.Common.{ℕ, List, ◌≡◌, ◌⊎◌, inl, inr, ⊎_eli
 use Rattle.std.specs.Prelude.{Result, Ok, Err}
 use Rattle.der_core.specs.declared.error.Error as der
 use Rattle.der_core.specs.Document.{Means}
-use Rattle.der_core.specs.declared.tag.Tag.{Tag}
-use Rattle.der_core.specs.Encodings.{IsDelimited, MeansOne}
-use Rattle.der_core.specs.Faults.{AreFirst, AreNone, EncodingFault, Faulty, WholeFault}
-use Rattle.der_core.specs.Laws.Encodings.{tlv_delimited}
-use Rattle.der_core.specs.Laws.Faults.{tagged_whole_none, tagged_whole_first}
+use Rattle.der_core.specs.Faults.{IsTheFault}
+use Rattle.der_core.specs.Laws.Whole.{AreTold}
 use Rattle.der_core.specs.Laws.Shortest.{means_one}
-use Rattle.der_core.specs.Reading.{NoneHas, Rejects}
-use Rattle.der_core.specs.Tlv.{Tlv}
 use Rattle.der_core.specs.declared.error.ErrorKind.{ErrorKind}
 use Rattle.pkcs1_params.specs.declared.error.Error.{Error}
 use Rattle.pkcs1_params.specs.declared.error.Error.TheVariants as error
-use Rattle.pkcs1_params.specs.Meanings.{ErrsExactly, IsNoSentence, IsTheMeaning, IsTheFault}
+use Rattle.pkcs1_params.specs.Meanings.{ErrsExactly, IsNoSentence, IsTheMeaning}
 use Rattle.pkcs1_params.specs.Errors.{IsAsn1}
 use Rattle.pkcs1_params.specs.Laws.Errors.{asn1_as}
 
@@ -22,36 +17,8 @@ pub fault_told : {V : Type 0} (Grammar : V → List ℕ → Type 0) (Fault : Err
     → IsAsn1 (λ x. IsTheFault Fault encoding x.kind) e → IsNoSentence Grammar encoding × IsTheFault Fault encoding told
 fault_told Grammar Fault encoding e a told is kind none exact = let fault : IsTheFault Fault encoding a.kind = rw is at exact in (none, rw kind fault)
 
--- A grammar and the faults of its whole slices.
-pub record AreTold {V : Type 0} (Grammar : V → List ℕ → Type 0) (Fault : ErrorKind → List ℕ → Type 0) : Type 0 where
-  pub delimited : IsDelimited Grammar
-  pub none : (kind : ErrorKind) (bytes : List ℕ) → Fault kind bytes → (v : V) → Means Grammar bytes v → ⊥
-  pub first : (j k : ErrorKind) (bytes : List ℕ) → Fault j bytes → Fault k bytes → j ≡ k
-
-pub tagged_told : {V : Type 0} (tag : Tag) (Contents : V → List ℕ → Type 0) (Fault : ErrorKind → List ℕ → Type 0) → MeansOne Contents → AreNone (NoneHas Contents) Fault → AreFirst Fault
-    → AreTold (λ v. Tlv tag.octet (Contents v)) (WholeFault (λ v. Tlv tag.octet (Contents v)) (EncodingFault tag Fault))
-tagged_told tag Contents Fault means none first = record {
-  delimited = tlv_delimited tag.octet Contents means;
-  none = tagged_whole_none tag Contents Fault means none;
-  first = tagged_whole_first tag Contents Fault means none first;
-}
-
--- No memory is asked for.
-pub unasked : {asked : Type 0} → (asked → ⊥) → {kind : ErrorKind} {P : Type 0} → Faulty kind asked P → P
-unasked never (inl w) = absurd (never w.1)
-unasked never (inr p) = p
-
-module _ {V : Type 0} {Grammar : V → List ℕ → Type 0} {Fault : ErrorKind → List ℕ → Type 0} (told : AreTold Grammar Fault) where
-  pub the_meaning : (v : V) (bytes : List ℕ) → Means Grammar bytes v → IsTheMeaning Grammar bytes v
-  the_meaning v bytes means = (means, λ other p. means_one told.delimited other v bytes p.1 means.1)
-
-  pub fault_or_memory : {asked needed : Type 0} → (asked → needed) → {kind : ErrorKind} {no_value : Type 0} (bytes : List ℕ) → Rejects kind asked no_value → Faulty kind asked (Fault kind bytes) → Faulty kind needed (IsTheFault Fault bytes kind)
-  fault_or_memory needs bytes (inl w) fault = inl (w.0, needs w.1)
-  fault_or_memory needs bytes (inr w) (inl v) = absurd (w.0.0 v.0)
-  fault_or_memory needs {kind} bytes (inr w) (inr fault) = inr (w.0, fault, λ other f. told.first other kind bytes f fault)
-
-  pub the_fault : {asked : Type 0} → (asked → ⊥) → {kind : ErrorKind} {no_value : Type 0} (bytes : List ℕ) → Rejects kind asked no_value → Faulty kind asked (Fault kind bytes) → IsTheFault Fault bytes kind
-  the_fault never bytes rejected fault = unasked never (fault_or_memory (λ w. w) bytes rejected fault)
+pub the_meaning : {V : Type 0} {Grammar : V → List ℕ → Type 0} {Fault : ErrorKind → List ℕ → Type 0} → AreTold Grammar Fault → (v : V) (bytes : List ℕ) → Means Grammar bytes v → IsTheMeaning Grammar bytes v
+the_meaning told v bytes means = (means, λ other p. means_one told.delimited other v bytes p.1 means.1)
 
 -- Bytes that mean a value may have a fault of it.
 module _ {V : Type 0} (Grammar : V → List ℕ → Type 0) (Fault : ErrorKind → List ℕ → Type 0) (bytes : List ℕ) (Behind : ErrorKind → V → Type 0) where

@@ -27,7 +27,7 @@ use Rattle.spki_core.specs.Explicit.{Field, field, Defaultable, FieldRead}
 use Rattle.spki_core.specs.Laws.Faults.{algorithm_fault_none, algorithm_fault_first, any_fault_none, any_fault_first}
 use Rattle.spki_core.specs.Faults.{AnyFault, AlgorithmFault, FieldThenFault}
 use Rattle.spki_core.specs.Laws.FieldEncodings.{AreLater}
-use Rattle.pkcs1_params.specs.Laws.FaultsTold.{AreTold, tagged_told}
+use Rattle.der_core.specs.Laws.Whole.{AreTold, tagged_told}
 use Rattle.pkcs1_params.specs.Laws.HashFields.{later_still}
 use Rattle.pkcs1_params.specs.ParameterFaults.{tag_0, tag_1, tag_2, tag_3, TrailerFault, PlainFault, HashFault, MaskFault, SaltFault, SourceFault, TrailerFieldFault, PssFault, OaepFault, RsaPssParamsFault, RsaOaepParamsFault}
 use Rattle.pkcs1_params.specs.Parameters.{sha1, mgf1_sha1, empty_label, TrailerContents, TrailerField, hash_fields_then, PssParameters, PssContents, OaepParameters, OaepContents, RsaPssParams, RsaOaepParams}

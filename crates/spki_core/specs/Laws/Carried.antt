@@ -47,9 +47,6 @@ algorithm_carried {X} {V} {W} {value} {G} {other} {H} k = record {
   encoding_back = λ a b t. tlv_recast b t (contents_carried H G k.back k.encoding_back a t.contents t.holds);
 }
 
-pub itself_carried : {X V : Type 0} {value : X → V} {G : V → List ℕ → Type 0} → Carried value G value G
-itself_carried = record { there = λ v. v; back = λ v. v; meant = λ x. refl; encoding_there = λ v b p. p; encoding_back = λ v b p. p }
-
 -- Two that mean the same by the one grammar mean the same by the other.
 pub same_carried : {X V W : Type 0} {value : X → V} {G : V → List ℕ → Type 0} {other : X → W} {H : W → List ℕ → Type 0} → Carried value G other H
     → (x y : X) → value x ≡ value y → other x ≡ other y

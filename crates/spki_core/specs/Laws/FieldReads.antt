@@ -7,7 +7,6 @@ use Rattle.der_core.specs.Input.{Input, left_in}
 use Rattle.der_core.specs.Encodings.{Joins}
 use Rattle.der_core.specs.Tlv.{Tlv}
 use Rattle.der_core.specs.Reading.{AllocatesIn, FailsBy, NoneIn, ReadsFront, TellsNext}
-use Rattle.der_core.specs.Laws.Growing.{tlv_recast}
 use Rattle.der_core.specs.declared.tag.Tag.{Tag}
 use Rattle.der_core.specs.Faults.{EncodingFault, AreNone, AreFirst, OnlyWhole}
 use Rattle.der_core.specs.Laws.Faults.{fails_only}
@@ -20,7 +19,6 @@ use Rattle.spki_core.specs.Allocating.{FieldAllocates, AllocatesFromField}
 use Rattle.spki_core.specs.Explicit.{Field, field, Defaultable, IsNext, FieldRead, FieldRejected}
 use Rattle.spki_core.specs.Laws.FieldEncodings.{AreLater}
 use Rattle.spki_core.specs.FieldReading.{ReadsField}
-use Rattle.spki_core.specs.Laws.Carried.{Carried}
 use Rattle.spki_core.specs.Laws.Fields.{read_then}
 
 is_next : (i : List ℕ) (n : ℕ) → slice_get i 0 ≡ Some (160 + n) → IsNext n i
@@ -28,12 +26,10 @@ is_next [] n e = cc
 is_next (x ∷ xs) n e = (xs, let same : x ≡ 160 + n = cc in ap (λ k. k ∷ xs) same)
 
 -- Its octet is next: an encoding was read, or it has a fault.
-pub field_present : {X V W : Type 0} {value : X → V} {G : V → List ℕ → Type 0} {other : X → W} {H : W → List ℕ → Type 0} → Carried value G other H
-    → (n : ℕ) (Fault : ErrorKind → List ℕ → Type 0) (may_allocate : List ℕ → Type 0) (default : W) (result : Result X Error) (before mid after : Input)
-    → TellsNext (160 + n) (Ok true) before mid → ReadsFront value (λ v. Tlv (160 + n) (G v)) Fault (FieldAllocates n may_allocate) result mid after → ReadsField n other H default Fault may_allocate result before after
-field_present k n Fault may_allocate default (Ok x) before mid after (i, is, at, told) (b, rest, e, left, t) =
-    (i, rest, is, left, inr (b, rest, tlv_recast b t (rw (k.meant x) (k.encoding_there _ t.contents t.holds)), refl, some_same i (b ++ rest) (sym at ∙ e)))
-field_present k n Fault may_allocate default (Err e) before mid after next fails =
+pub field_present : {X V : Type 0} (value : X → V) (encoding : V → List ℕ → Type 0) (n : ℕ) (Fault : ErrorKind → List ℕ → Type 0) (may_allocate : List ℕ → Type 0) (default : V) (result : Result X Error) (before mid after : Input)
+    → TellsNext (160 + n) (Ok true) before mid → ReadsFront value (λ v. Tlv (160 + n) (encoding v)) Fault (FieldAllocates n may_allocate) result mid after → ReadsField n value encoding default Fault may_allocate result before after
+field_present value encoding n Fault may_allocate default (Ok x) before mid after (i, is, at, told) (b, rest, e, left, t) = (i, rest, is, left, inr (b, rest, t, refl, some_same i (b ++ rest) (sym at ∙ e)))
+field_present value encoding n Fault may_allocate default (Err e) before mid after next fails =
     let next_has = next_fails (160 + n) Fault (AllocatesIn (FieldAllocates n may_allocate)) e.kind before mid after next fails in
     (next_has.0, next_has.1, λ i is. ⊎_elim inl (λ f. inr (is_next i n f.0, f.1)) (next_has.2 i is))
 

@@ -2,7 +2,7 @@ use Rattle.std.proofs.Common.{◌<◌, refl}
 use Rattle.der_core.specs.declared.error.Error as der
 use Rattle.pkcs1.specs.KeyFaults.{RsaPrivateKeyFault}
 use Rattle.pkcs1_params.specs.Laws.Errors.{asn1_as}
-use Rattle.pkcs1_params.specs.Meanings.{IsTheFault}
+use Rattle.der_core.specs.Faults.{IsTheFault}
 use Rattle.pkcs1_c.specs.Containers.{KeyFault}
 use Rattle.pkcs1_c.specs.Status.{status_of, IsNumberOfFault}
 use Rattle.pkcs1_c.proofs.Given.{err_handed}

@@ -3,7 +3,7 @@ use Rattle.std.proofs.Common.{ℕ, List, Option, inl}
 use Rattle.der_core.specs.Carrying.{ReadsOpened, FileFault}
 use Rattle.der_core.specs.declared.error.Error.{Error}
 use Rattle.der_core.specs.declared.error.ErrorKind.TheVariants.{File}
-use Rattle.der_core.proofs.Documents.{file_fault}
+use Rattle.der_core.specs.Laws.SourceMoves.{file_fault}
 use Rattle.der_core.proofs.document.DocumentOf.read_der_file.Goals as goal
 
 of_read : {X : Type 0} (encoding : X → List ℕ) (r : Result X Error) (old : Option (List ℕ)) → ReadsOpened encoding r old → IfErr r (λ e. FileFault e.kind)

@@ -1,5 +1,6 @@
 use Rattle.std.proofs.lemmas.Result.{err_from_is_err_and}
-use Rattle.pkcs1_params.specs.Laws.FaultsTold.{the_fault, the_meaning}
+use Rattle.der_core.specs.Laws.Whole.{no_memory}
+use Rattle.pkcs1_params.specs.Laws.FaultsTold.{the_meaning}
 use Rattle.pkcs1_params.specs.Laws.ParameterFaults.{oaep_told}
 use Rattle.pkcs1_params.proofs.NothingAsked.{oaep_asks}
 use Rattle.pkcs1_params.proofs.ParameterRows.{oaep_by_default}
@@ -16,11 +17,7 @@ returns-then-is_empty_sequence-clause-exact c kind fault =
 pub returns-clause-ok : goal.returns-clause-ok
 returns-clause-ok c = rw c.keep.ensures (the_meaning oaep_told _ _ c.in_ok-view.ensures.encoding)
 
-pub returns-clause-exact : goal.returns-clause-exact
-returns-clause-exact c kind fault = oaep_told.none kind _ fault _ c.in_ok-view.ensures.encoding
-
 pub returns-in_err-view-clause-exact : goal.returns-in_err-view-clause-exact
 returns-in_err-view-clause-exact c =
     let p = err_from_is_err_and c.from_residual.result c.from_residual.ensures.1 in
-    let e = c.in_err-view.ensures in
-    rw (p.1, p.2) (the_fault oaep_told (oaep_asks _) _ e.encoding e.exact)
+    rw (p.1, p.2) (no_memory (oaep_asks _) c.in_err-view.ensures.exact)
