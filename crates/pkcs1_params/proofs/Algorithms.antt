@@ -2,12 +2,12 @@
 use Rattle.std.proofs.Common.{ℕ, List, [], ◌++◌, ◌≡◌, ◌∙◌, ◌<◌, ◌≤◌, ◌+◌, ◌-◌, ◌^◌, length, take, drop, refl, sym, ap, inl, inr, Some, None, arith, length-append}
 use Rattle.std.proofs.Math.Seq.{drop-append_seam}
 use Rattle.std.proofs.lemmas.List.{take_all}
-use Rattle.std.specs.Prelude.{Result, Ok, Err, IfOk, IfErr, IsErrAnd, OnErr}
+use Rattle.std.specs.Prelude.{Result, Ok, Err, IfOk, IfErr, OnErr}
 use Rattle.der_core.specs.declared.error.Error as der
 use Rattle.der_core.specs.declared.error.ErrorKind.{ErrorKind}
 use Rattle.der_core.specs.Document.{Means, HasEncoding, IsShortest, WhyNotWritten, EncodeError, no_encoding, too_long, no_room, another}
 use Rattle.der_core.specs.Encodings.{Is, IsOfBytes, MeansOne}
-use Rattle.der_core.specs.Faults.{EncodingFault, WholeFault, Faulty, FailsExactly, IsTheFault}
+use Rattle.der_core.specs.Faults.{EncodingFault, WholeFault, IsTheFault}
 use Rattle.der_core.specs.Laws.Encodings.{tlv_of_bytes, tlv_split, joins_last, tlv_made, tlv_relates, tlv_length}
 use Rattle.der_core.specs.Laws.Fronts.{front_is}
 use Rattle.der_core.specs.Laws.Growing.{tlv_recast}

@@ -57,9 +57,9 @@ never_asks Fault read never (Ok x) none = none
 never_asks Fault read never (Err e) faulty = no_memory never faulty
 
 -- Of what has a fault the error is that one.
-pub fault_only : {Read X : Type 0} (Fault : ErrorKind → Read → Type 0) (read : Read) {asked : Type 0} (r : Result X Error) → FailsOrAsks Fault read asked r → (kind : ErrorKind) → Fault kind read → IsErrAnd r (λ e. Faulty e.kind asked (e.kind ≡ kind))
-fault_only Fault read (Ok x) none kind fault = absurd (none kind fault)
-fault_only Fault read (Err e) faulty kind fault = ⊎_elim inl (λ f. inr (sym (f.2 kind fault))) faulty
+pub fault_only : {Read X : Type 0} (Fault : ErrorKind → Read → Type 0) (read : Read) (asked : Type 0) (r : Result X Error) → FailsOrAsks Fault read asked r → (kind : ErrorKind) → Fault kind read → IsErrAnd r (λ e. Faulty e.kind asked (e.kind ≡ kind))
+fault_only Fault read asked (Ok x) none kind fault = absurd (none kind fault)
+fault_only Fault read asked (Err e) faulty kind fault = ⊎_elim inl (λ f. inr (sym (f.2 kind fault))) faulty
 
 pub lacks_there : {Lacks : List ℕ → Type 0} {Fault : ErrorKind → List ℕ → Type 0} → AreNone Lacks Fault → {kind : ErrorKind} (bytes : List ℕ) → length bytes ≤ limit → Faulty kind (AllocatesIn (λ _. ⊥) bytes) (Fault kind bytes) → Lacks bytes
 lacks_there none bytes within faulty = (none _ bytes within (no_memory (λ w. w.3) faulty)).1
