@@ -61,6 +61,9 @@ pub oaep_all_left_out : RsaOaepParams oaep_defaults (0x30 ∷ 0x00 ∷ [])
 oaep_all_left_out = known_tlv 0x30 []
     (left_out_field (hash_field sha1) [] refl (left_out_field (mask_field mgf1_sha1) [] refl (left_out_field (source_field empty_label) [] refl refl))) (omega arith)
 
+pub oaep_by_default : (b : List ℕ) (p : OaepParameters) → b ≡ 0x30 ∷ 0x00 ∷ [] → p ≡ oaep_defaults → Means RsaOaepParams b p
+oaep_by_default b p empty is = rw (empty, is) (omega arith, oaep_all_left_out)
+
 -- 3005a203020114: the default salt length is written, so this is no shortest encoding
 default_salt : StrictPssFault (Noncanonical tag_2) (0x30 ∷ 0x05 ∷ 0xa2 ∷ 0x03 ∷ 0x02 ∷ 0x01 ∷ 0x14 ∷ [])
 default_salt =
