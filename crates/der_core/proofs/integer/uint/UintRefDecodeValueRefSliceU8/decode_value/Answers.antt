@@ -4,19 +4,13 @@ use Rattle.der_core.specs.Laws.SmallReading.{all_read}
 use Rattle.der_core.specs.Laws.ContentsReads.{all_taken, integer_gives}
 use Rattle.der_core.proofs.integer.uint.UintRefDecodeValueRefSliceU8.decode_value.Goals as goal
 
-pub returns-in-Err-clause-exact : goal.returns-in-Err-clause-exact
-returns-in-Err-clause-exact g c = λ all is.
+pub returns-in-Err : goal.returns-in-Err
+returns-in-Err g c =
     let kind : c.error.result.kind ≡ c.in-Err.e.kind = c.error.ensures.value ∙ c.kind.ensures in
-    ap integer_of (sym (all_read _ _ _ _ all c.requires c.in_ok-contents.ensures.1 is)) ∙ c.in-Err.ensures ∙ ap (λ k. Err k) (sym kind)
+    (c.error.ensures.failed, λ all is. inr (ap integer_of (sym (all_read _ _ _ _ all c.requires c.in_ok-contents.ensures.1 is)) ∙ c.in-Err.ensures ∙ ap (λ k. Err k) (sym kind)))
 
-pub returns-in-Err-clause-fault : goal.returns-in-Err-clause-fault
-returns-in-Err-clause-fault g c = (c.error.ensures.failed, λ all is. inr (returns-in-Err-clause-exact g c all is))
-
-pub returns-in-Ok-clause-exact : goal.returns-in-Ok-clause-exact
-returns-in-Ok-clause-exact g c = λ all is. ap integer_of (sym (all_read _ _ _ _ all c.requires c.in_ok-contents.ensures.1 is)) ∙ c.in-Ok.ensures
-
-pub returns-in-Ok-clause-fault : goal.returns-in-Ok-clause-fault
-returns-in-Ok-clause-fault g c =
+pub returns-in-Ok : goal.returns-in-Ok
+returns-in-Ok g c =
     let all = all_taken _ _ _ _ c.requires c.in_ok-contents.ensures.1 in
     let contents = integer_gives _ _ (rw all.0 at (g.R.BytesLeft.bytes c.args.reader.now)) c.in-Ok.ensures in
     (c.in_ok-contents.contents.now, all.0, c.in_ok-contents.ensures.2 ∙ ap (λ l. Some l) all.1, contents)
