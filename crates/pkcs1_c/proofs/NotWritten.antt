@@ -1,5 +1,5 @@
 -- What the code of an error says.
-use Rattle.std.proofs.Common.{ℕ, List, ◌≡◌, ◌<◌, ◌⊎◌, ◌∙◌, ap, arith, refl, sym, inl, inr}
+use Rattle.std.proofs.Common.{ℕ, zero, suc, List, ◌≡◌, ◌<◌, ◌⊎◌, ◌∙◌, ap, arith, refl, sym, inl, inr}
 use Rattle.der_core.specs.Reading.{TellsOfBytes}
 use Rattle.der_core.specs.Document.{HasEncoding, WhyNotWritten}
 use Rattle.der_core.specs.Writing.{encode_error}
@@ -22,27 +22,27 @@ names_default fields encoding error.Crypto p = absurd p
 names_default fields encoding error.KeyMalformed p = absurd p
 names_default fields encoding error.Version p = absurd p
 
--- An error that tells of bytes has a number below that of lack of room.
-pub tells_below : (e : ErrorKind) → TellsOfBytes e → kind_number e < 15
-tells_below kind.Failed t = omega arith
-tells_below kind.Incomplete t = omega arith
-tells_below kind.IndefiniteLength t = omega arith
-tells_below (kind.Length tag) t = omega arith
-tells_below (kind.Noncanonical tag) t = omega arith
-tells_below kind.OidMalformed t = omega arith
-tells_below kind.OidUnknown t = omega arith
-tells_below kind.Overflow t = omega arith
-tells_below kind.Overlength t = omega arith
-tells_below kind.ParametersMissing t = omega arith
-tells_below (kind.TagUnexpected expected actual) t = omega arith
-tells_below (kind.TagUnknown octet) t = omega arith
-tells_below kind.TrailingData t = omega arith
-tells_below (kind.Value tag) t = omega arith
+-- An error that tells of bytes has a number, below that of lack of room.
+tells_below : (e : ErrorKind) → TellsOfBytes e → (0 < kind_number e) × (kind_number e < 15)
+tells_below kind.Failed t = (omega arith, omega arith)
+tells_below kind.Incomplete t = (omega arith, omega arith)
+tells_below kind.IndefiniteLength t = (omega arith, omega arith)
+tells_below (kind.Length tag) t = (omega arith, omega arith)
+tells_below (kind.Noncanonical tag) t = (omega arith, omega arith)
+tells_below kind.OidMalformed t = (omega arith, omega arith)
+tells_below kind.OidUnknown t = (omega arith, omega arith)
+tells_below kind.Overflow t = (omega arith, omega arith)
+tells_below kind.Overlength t = (omega arith, omega arith)
+tells_below kind.ParametersMissing t = (omega arith, omega arith)
+tells_below (kind.TagUnexpected expected actual) t = (omega arith, omega arith)
+tells_below (kind.TagUnknown octet) t = (omega arith, omega arith)
+tells_below kind.TrailingData t = (omega arith, omega arith)
+tells_below (kind.Value tag) t = (omega arith, omega arith)
 tells_below kind.NoRoom t = absurd (t.2 refl)
 tells_below kind.File t = absurd (t.1 refl)
 tells_below kind.OutOfMemory t = absurd (t.0 refl)
 
-pub status_below : (e : Error) → IsAsn1 (λ e. TellsOfBytes e.kind) e → status_of e < 15
+pub status_below : (e : Error) → IsAsn1 (λ e. TellsOfBytes e.kind) e → (0 < status_of e) × (status_of e < 15)
 status_below (error.Asn1 e) p = tells_below e.kind p
 status_below error.Crypto p = absurd p
 status_below error.KeyMalformed p = absurd p
@@ -62,13 +62,11 @@ status_only kind error.KeyMalformed number is p = absurd p
 status_only kind error.Version number is p = absurd p
 
 pub status_exact : {Read : Type 0} (Fault : ErrorKind → Read → Type 0) (read : Read) (e : Error) (number : ℕ) → number ≡ status_of e → IsAsn1 (λ a. IsTheFault Fault read a.kind) e → IsStatusOf Fault read number
-status_exact Fault read (error.Asn1 a) number is p = (omega (arith, is, tells_below a.kind p.0), λ _. (a.kind, p.1, is), λ kind fault. is ∙ ap kind_number (sym (p.2 kind fault)))
+status_exact Fault read (error.Asn1 a) zero is p = absurd (omega (arith, is, (tells_below a.kind p.0).0))
+status_exact Fault read (error.Asn1 a) (suc n) is p = (omega (arith, is, (tells_below a.kind p.0).1), (a.kind, p.1, is), λ kind fault. ap kind_number (p.2 kind fault) ∙ sym is)
 status_exact Fault read error.Crypto number is p = absurd p
 status_exact Fault read error.KeyMalformed number is p = absurd p
 status_exact Fault read error.Version number is p = absurd p
-
-pub status_ok : {Read : Type 0} (Fault : ErrorKind → Read → Type 0) (read : Read) → ((kind : ErrorKind) → Fault kind read → ⊥) → IsStatusOf Fault read 0
-status_ok Fault read none = (omega arith, λ no. absurd (no refl), λ kind fault. absurd (none kind fault))
 
 -- What strict reading rejects: a fault, or a default that is written.
 pub status_strict : {V : Type 0} (Grammar : V → List ℕ → Type 0) (fields : V → List Field) (Fault : ErrorKind → Type 0) (encoding : List ℕ) (e : Error) (number : ℕ) → number ≡ status_of e
@@ -81,8 +79,8 @@ status_strict Grammar fields Fault encoding error.KeyMalformed number is (inr p)
 status_strict Grammar fields Fault encoding error.Version number is (inr p) = absurd p.2
 
 -- What an error of writing says of a value that has an encoding.
-module _ {V : Type 0} (Grammar : V → List ℕ → Type 0) (v : V) (room : ℕ) (has : HasEncoding Grammar v) where
-  kind_writing : (k : ErrorKind) → WhyNotWritten (HasEncoding Grammar v) Grammar v room (encode_error k) → EncodingError Grammar v room (kind_number k)
+module _ {V : Type 0} (Some : Type 0) (Grammar : V → List ℕ → Type 0) (v : V) (room : ℕ) (has : HasEncoding Grammar v) where
+  pub kind_writing : (k : ErrorKind) → WhyNotWritten Some Grammar v room (encode_error k) → EncodingError Grammar v room (kind_number k)
   kind_writing (kind.Value tag) p = absurd (p has.0 has.1)
   kind_writing kind.Overflow p = inl (refl, p.1)
   kind_writing kind.NoRoom p = inr (refl, p.0, p.1, p.2)
@@ -101,8 +99,8 @@ module _ {V : Type 0} (Grammar : V → List ℕ → Type 0) (v : V) (room : ℕ)
   kind_writing kind.File p = absurd p
   kind_writing kind.OutOfMemory p = absurd p
 
-  pub status_writing : (e : Error) → IsWritingError Grammar v room e → EncodingError Grammar v room (status_of e)
-  status_writing (error.Asn1 e) p = kind_writing e.kind p
-  status_writing error.Crypto p = absurd p
-  status_writing error.KeyMalformed p = absurd p
-  status_writing error.Version p = absurd p
+pub status_writing : {V : Type 0} (Grammar : V → List ℕ → Type 0) (v : V) (room : ℕ) → HasEncoding Grammar v → (e : Error) → IsWritingError Grammar v room e → EncodingError Grammar v room (status_of e)
+status_writing Grammar v room has (error.Asn1 e) p = kind_writing (HasEncoding Grammar v) Grammar v room has e.kind p
+status_writing Grammar v room has error.Crypto p = absurd p
+status_writing Grammar v room has error.KeyMalformed p = absurd p
+status_writing Grammar v room has error.Version p = absurd p

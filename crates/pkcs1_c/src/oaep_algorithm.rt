@@ -4,10 +4,10 @@ ghost use Rattle.der_core.specs.Document.{Means, IsShortest};
 ghost use Rattle.der_core.specs.declared.error.ErrorKind as der;
 ghost use Rattle.pkcs1_params.specs.Algorithms.{RsaOaepAlgorithm, RsaOaepAlgorithmFault, StrictOaepAlgorithmFault};
 ghost use Rattle.pkcs1_params.specs.Parameters as grammar;
-ghost use Rattle.pkcs1_c.specs.NotWritten.{IsTooLong, HasNoRoom};
 ghost use Rattle.pkcs1_c.specs.Status.{kind_number, IsNumberOfFault};
 ghost use Rattle.pkcs1_c.specs.StructErrors.{OaepAlgorithmError};
 ghost use Rattle.pkcs1_c.specs.StructValues.{oaep_seen, OaepIsTidy};
+ghost use Rattle.pkcs1_c.specs.Writes.{Writes};
 
 use crate::oaep::{OaepParams, from_c_oaep, to_c_oaep};
 use crate::status::{NO_ROOM, OK, status};
@@ -75,15 +75,8 @@ pub extern "C" fn pkcs1_c_oaep_algorithm_encode(
     out: &mut [u8],
     len: &mut usize,
 ) -> u32
-    ensures ok { result ≡ OK → IsShortest RsaOaepAlgorithm (oaep_seen params.now) (take len.new out.new) }
-    ensures rest { result ≡ OK → (len.new ≤ length out.new) × (drop len.new out.new ≡ drop len.new out.old) }
-    ensures no_room { result ≡ NO_ROOM → HasNoRoom RsaOaepAlgorithm (oaep_seen params.now) (length out.old) len.new }
-    ensures rejected { result ≢ OK → result ≢ NO_ROOM → IsTooLong RsaOaepAlgorithm (oaep_seen params.now) }
-    ensures exact { result ≢ OK → OaepAlgorithmError (oaep_seen params.now) (length out.old) result }
-    ensures only { (status : ℕ) → OaepAlgorithmError (oaep_seen params.now) (length out.old) status
-        → result ≡ status }
-    ensures unchanged { result ≢ OK → out.new ≡ out.old }
-    ensures kept { result ≢ OK → result ≢ NO_ROOM → len.new ≡ len.old }
+    ensures { let v = oaep_seen params.now in
+        Writes (IsShortest RsaOaepAlgorithm v) (OaepAlgorithmError v) out.old out.new len.old len.new result }
 {
     match from_c_oaep(params) {
         Ok(made) => {

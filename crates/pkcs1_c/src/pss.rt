@@ -3,7 +3,6 @@ ghost use Rattle.std.specs.Prelude.{◌≡◌, ◌≢◌, ◌<◌, ◌≤◌, �
 ghost use Rattle.der_core.specs.Document.{HasEncoding, Means, IsShortest};
 ghost use Rattle.pkcs1_params.specs.Parameters as grammar;
 ghost use Rattle.pkcs1_params.specs.PssValue.{pss_viewed};
-ghost use Rattle.pkcs1_c.specs.NotWritten.{IsTooLong, HasNoRoom};
 ghost use Rattle.der_core.specs.declared.error.ErrorKind as der;
 ghost use Rattle.pkcs1_params.specs.ParameterFaults.{RsaPssParamsFault, StrictPssFault};
 ghost use Rattle.pkcs1_params.specs.Parameters.{pss_fields};
@@ -11,6 +10,7 @@ ghost use Rattle.spki_core.specs.StrictFields.{WritesDefault};
 ghost use Rattle.pkcs1_c.specs.Status.{kind_number, status_of, IsNumberOfFault};
 ghost use Rattle.pkcs1_c.specs.StructValues.{pss_seen, PssIsTidy};
 ghost use Rattle.pkcs1_c.specs.StructErrors.{EncodingError, PssError, PssFieldError};
+ghost use Rattle.pkcs1_c.specs.Writes.{Writes};
 
 use crate::algorithm::{
     Algorithm, MaskGen, from_c_algorithm, from_c_mask_gen, to_c_algorithm, to_c_mask_gen,
@@ -70,16 +70,8 @@ pub(crate) fn from_c_pss<'a>(params: &PssParams<'a>) -> pkcs1::Result<RsaPssPara
 /// Writes the shortest encoding of the parameters, as `write_encoding` does.
 fn write_pss(params: &RsaPssParamsView<'_>, out: &mut [u8], len: &mut usize) -> u32
     requires { HasEncoding grammar.RsaPssParams (pss_viewed params.now) }
-    ensures ok { result ≡ OK → IsShortest grammar.RsaPssParams (pss_viewed params.now) (take len.new out.new) }
-    ensures rest { result ≡ OK → (len.new ≤ length out.new) × (drop len.new out.new ≡ drop len.new out.old) }
-    ensures no_room { result ≡ NO_ROOM
-        → HasNoRoom grammar.RsaPssParams (pss_viewed params.now) (length out.old) len.new }
-    ensures exact { result ≢ OK
-        → EncodingError grammar.RsaPssParams (pss_viewed params.now) (length out.old) result }
-    ensures only { (status : ℕ) → EncodingError grammar.RsaPssParams (pss_viewed params.now) (length out.old) status
-        → result ≡ status }
-    ensures unchanged { result ≢ OK → out.new ≡ out.old }
-    ensures kept { result ≢ OK → result ≢ NO_ROOM → len.new ≡ len.old }
+    ensures { let v = pss_viewed params.now in let Grammar = grammar.RsaPssParams in
+        Writes (IsShortest Grammar v) (EncodingError Grammar v) out.old out.new len.old len.new result }
 {
     match params.encode_params(out) {
         Ok(written) => {
@@ -159,16 +151,8 @@ pub extern "C" fn pkcs1_c_pss_params_encode(
     out: &mut [u8],
     len: &mut usize,
 ) -> u32
-    ensures ok { result ≡ OK → IsShortest grammar.RsaPssParams (pss_seen params.now) (take len.new out.new) }
-    ensures rest { result ≡ OK → (len.new ≤ length out.new) × (drop len.new out.new ≡ drop len.new out.old) }
-    ensures no_room { result ≡ NO_ROOM
-        → HasNoRoom grammar.RsaPssParams (pss_seen params.now) (length out.old) len.new }
-    ensures rejected { result ≢ OK → result ≢ NO_ROOM → IsTooLong grammar.RsaPssParams (pss_seen params.now) }
-    ensures exact { result ≢ OK → PssError (pss_seen params.now) (length out.old) result }
-    ensures only { (status : ℕ) → PssError (pss_seen params.now) (length out.old) status
-        → result ≡ status }
-    ensures unchanged { result ≢ OK → out.new ≡ out.old }
-    ensures kept { result ≢ OK → result ≢ NO_ROOM → len.new ≡ len.old }
+    ensures { let v = pss_seen params.now in
+        Writes (IsShortest grammar.RsaPssParams v) (PssError v) out.old out.new len.old len.new result }
 {
     match from_c_pss(params) {
         Ok(made) => write_pss(&made, out, len),

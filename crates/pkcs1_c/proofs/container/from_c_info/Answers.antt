@@ -16,4 +16,4 @@ returns-in_err-_view-clause-err c =
 
 pub returns-in_err-_view-clause-told : goal.returns-in_err-_view-clause-told
 returns-in_err-_view-clause-told c =
-    err_handed (λ e. status_of e < 15) c.in_err-_view.field-0.0 _ c.from_residual.ensures.1 (status_below c.in_err-_view.field-0.0 (asn1_as {P = λ (a : der.Error). IsTheFault RsaPrivateKeyFault c.args.info.now.private_key.now a.kind} (λ a fault. fault.0) _ c.in_err-_view.ensures.exact))
+    err_handed (λ e. (0 < status_of e) × (status_of e < 15)) c.in_err-_view.field-0.0 _ c.from_residual.ensures.1 (status_below c.in_err-_view.field-0.0 (asn1_as {P = λ (a : der.Error). IsTheFault RsaPrivateKeyFault c.args.info.now.private_key.now a.kind} (λ a fault. fault.0) _ c.in_err-_view.ensures.exact))

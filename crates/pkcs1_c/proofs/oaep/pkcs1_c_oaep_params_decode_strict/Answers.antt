@@ -14,7 +14,7 @@ pub returns-in-Err-clause-default : goal.returns-in-Err-clause-default
 returns-in-Err-clause-default c = λ _ other p. c.status.ensures ∙ names_default (oaep_fields other) c.args.encoding.now c.in-Err.error (c.in-Err.ensures.default other p)
 
 pub returns-in-Err-clause-told : goal.returns-in-Err-clause-told
-returns-in-Err-clause-told c = omega (arith, c.status.ensures, status_below c.in-Err.error c.in-Err.ensures.asn1)
+returns-in-Err-clause-told c = omega (arith, c.status.ensures, (status_below c.in-Err.error c.in-Err.ensures.asn1).1)
 
 pub returns-in-Err-clause-exact : goal.returns-in-Err-clause-exact
 returns-in-Err-clause-exact c = λ _. status_strict RsaOaepParams oaep_fields (λ kind. RsaOaepParamsFault kind c.args.encoding.now) c.args.encoding.now c.in-Err.error _ c.status.ensures c.in-Err.ensures.exact

@@ -8,7 +8,7 @@ pub returns-in-Ok-clause-one : goal.returns-in-Ok-clause-one
 returns-in-Ok-clause-one c = λ _ other p. c.in-Ok.ensures.one other p ∙ sym c.to_c_pss.ensures.seen
 
 pub returns-in-Err-clause-told : goal.returns-in-Err-clause-told
-returns-in-Err-clause-told c = omega (arith, c.status.ensures, status_below c.in-Err.error c.in-Err.ensures.asn1)
+returns-in-Err-clause-told c = omega (arith, c.status.ensures, (status_below c.in-Err.error c.in-Err.ensures.asn1).1)
 
 pub returns-in-Err-clause-exact : goal.returns-in-Err-clause-exact
 returns-in-Err-clause-exact c = λ _. status_faulty (λ kind. RsaPssParamsFault kind c.args.encoding.now) c.in-Err.error _ c.status.ensures c.in-Err.ensures.exact
