@@ -1,4 +1,4 @@
-use Rattle.std.proofs.Common.{List, [], ◌∷◌, ◌≡◌, ◌≢◌, map, inl, inr}
+use Rattle.std.proofs.Common.{List, [], ◌∷◌, ◌≡◌, ◌≢◌, map}
 use Rattle.pkcs1_params.specs.declared.error.Error.{Error}
 use Rattle.pkcs1_c.specs.declared.private_key.PrivateKey as view
 use Rattle.pkcs1_c.specs.declared.private_key.OtherPrime.{OtherPrime}
@@ -11,31 +11,6 @@ use Rattle.pkcs1_c.proofs.private_key.from_c_key.Goals as goal
 
 abbrev pub Told : view.PrivateKey → List OtherPrime → Error → Type 0
 Told key others e = status_of e ≢ 17 → NumbersError (given_numbers key others) (status_of e)
-
-pub returns-in_err-number-4-clause-err : goal.returns-in_err-number-4-clause-err
-returns-in_err-number-4-clause-err c =
-    err_handed (Told c.args.key.now c.args.others.now) c.in_err-number-4.field-0.0 _ c.from_residual-in_err-number-4.ensures.1
-    (λ _. inr (c.in_ok-number.ensures.held, inr (c.in_ok-number-2.ensures.held, inr (c.in_ok-number-3.ensures.held, inl c.in_err-number-4.ensures.err))))
-
-pub returns-in_err-number-5-clause-err : goal.returns-in_err-number-5-clause-err
-returns-in_err-number-5-clause-err c =
-    err_handed (Told c.args.key.now c.args.others.now) c.in_err-number-5.field-0.0 _ c.from_residual-in_err-number-5.ensures.1
-    (λ _. inr (c.in_ok-number.ensures.held, inr (c.in_ok-number-2.ensures.held, inr (c.in_ok-number-3.ensures.held, inr (c.in_ok-number-4.ensures.held, inl c.in_err-number-5.ensures.err)))))
-
-pub returns-in_err-number-6-clause-err : goal.returns-in_err-number-6-clause-err
-returns-in_err-number-6-clause-err c =
-    err_handed (Told c.args.key.now c.args.others.now) c.in_err-number-6.field-0.0 _ c.from_residual-in_err-number-6.ensures.1
-    (λ _. inr (c.in_ok-number.ensures.held, inr (c.in_ok-number-2.ensures.held, inr (c.in_ok-number-3.ensures.held, inr (c.in_ok-number-4.ensures.held, inr (c.in_ok-number-5.ensures.held, inl c.in_err-number-6.ensures.err))))))
-
-pub returns-in_err-number-7-clause-err : goal.returns-in_err-number-7-clause-err
-returns-in_err-number-7-clause-err c =
-    err_handed (Told c.args.key.now c.args.others.now) c.in_err-number-7.field-0.0 _ c.from_residual-in_err-number-7.ensures.1
-    (λ _. inr (c.in_ok-number.ensures.held, inr (c.in_ok-number-2.ensures.held, inr (c.in_ok-number-3.ensures.held, inr (c.in_ok-number-4.ensures.held, inr (c.in_ok-number-5.ensures.held, inr (c.in_ok-number-6.ensures.held, inl c.in_err-number-7.ensures.err)))))))
-
-pub returns-in_err-number-8-clause-err : goal.returns-in_err-number-8-clause-err
-returns-in_err-number-8-clause-err c =
-    err_handed (Told c.args.key.now c.args.others.now) c.in_err-number-8.field-0.0 _ c.from_residual-in_err-number-8.ensures.1
-    (λ _. inr (c.in_ok-number.ensures.held, inr (c.in_ok-number-2.ensures.held, inr (c.in_ok-number-3.ensures.held, inr (c.in_ok-number-4.ensures.held, inr (c.in_ok-number-5.ensures.held, inr (c.in_ok-number-6.ensures.held, inr (c.in_ok-number-7.ensures.held, inl c.in_err-number-8.ensures.err))))))))
 
 pub returns-in_err-from_c_other_primes-clause-err : goal.returns-in_err-from_c_other_primes-clause-err
 returns-in_err-from_c_other_primes-clause-err c =
