@@ -7,35 +7,38 @@ use Rattle.der_core.specs.declared.error.Error as der
 use Rattle.der_core.specs.declared.error.ErrorKind.{ErrorKind}
 use Rattle.der_core.specs.Document.{Means, HasEncoding, IsShortest, WhyNotWritten, EncodeError, no_encoding, too_long, no_room, another}
 use Rattle.der_core.specs.Encodings.{Is, IsOfBytes, MeansOne}
-use Rattle.der_core.specs.Faults.{EncodingFault, WholeFault, Faulty, AreNone}
+use Rattle.der_core.specs.Faults.{EncodingFault, WholeFault, Faulty}
 use Rattle.der_core.specs.Laws.Encodings.{tlv_of_bytes, tlv_split, joins_last, tlv_made, tlv_relates, tlv_length}
-use Rattle.der_core.specs.Laws.Faults.{encoding_fault_none, whole_fault_none}
 use Rattle.der_core.specs.Laws.Fronts.{front_is}
 use Rattle.der_core.specs.Laws.Growing.{tlv_recast}
 use Rattle.der_core.specs.Laws.Length.{length_octets-short}
 use Rattle.der_core.specs.Laws.ShortEncodings.{tlv_short}
 use Rattle.der_core.specs.Laws.Shortest.{means_one}
 use Rattle.der_core.specs.Length.{length_octets}
-use Rattle.der_core.specs.Reading.{AllocatesIn, NoneIn, Rejects, TellsOfBytes}
+use Rattle.der_core.specs.Reading.{AllocatesIn, Rejects}
+use Rattle.der_core.specs.Tag.{sequence_tag}
 use Rattle.der_core.specs.Tags.{sequence}
 use Rattle.der_core.specs.Tlv.{Tlv, tlv}
 use Rattle.der_core.specs.Writing.{WritesEncodings}
 use Rattle.spki_core.specs.AlgorithmIdentifier.{Algorithm, AlgorithmContents, AlgorithmIdentifier, PlainAlgorithm, written_algorithm}
 use Rattle.spki_core.specs.Allocating.{AlgorithmAllocates}
 use Rattle.spki_core.specs.Any.{TagAndContents, Any}
+use Rattle.spki_core.specs.Explicit.{Field}
 use Rattle.spki_core.specs.Faults.{AnyFault, AlgorithmFault, OtherAnyFault}
-use Rattle.spki_core.specs.Laws.Algorithms.{plain_delimited, algorithm_of_bytes, algorithm_relates}
+use Rattle.spki_core.specs.Laws.Algorithms.{plain_delimited, algorithm_means_one, algorithm_of_bytes, algorithm_relates}
 use Rattle.spki_core.specs.Laws.AnyEncodings.{any_delimited}
-use Rattle.spki_core.specs.Laws.Faults.{algorithm_fault_none, any_fault_none}
+use Rattle.spki_core.specs.Laws.Faults.{algorithm_fault_none, algorithm_fault_first, any_fault_none, any_fault_first}
 use Rattle.spki_core.specs.Laws.FieldEncodings.{fields_of_bytes as joins_of_bytes}
 use Rattle.spki_core.specs.ObjectIdentifier.{IsIdentifier}
-use Rattle.pkcs1_params.specs.Algorithms.{AlgorithmOf, Identifies, NotIdentified, unknown, missing, faulty, AlgorithmOfFault}
+use Rattle.spki_core.specs.StrictFields.{NamesDefault}
+use Rattle.pkcs1_params.specs.Algorithms.{AlgorithmOf, Identifies, NotIdentified, unknown, missing, faulty, StrictFault}
 use Rattle.pkcs1_params.specs.Errors.{IsAsn1}
 use Rattle.pkcs1_params.specs.Laws.Algorithms.{algorithm_of_plain, plain_of_algorithm, same_parameters, parameters_shorter, parameters_in, shortest_of}
 use Rattle.pkcs1_params.specs.Laws.Errors.{asn1_as}
+use Rattle.pkcs1_params.specs.Laws.FaultsTold.{AreTold, tagged_told, unasked, fault_before, errs_behind}
 use Rattle.pkcs1_params.specs.Laws.FieldValues.{fields_of_bytes}
 use Rattle.pkcs1_params.specs.MaskedValues.{FieldContents}
-use Rattle.pkcs1_params.specs.Meanings.{IsNoSentence, IsOnlyMeaning}
+use Rattle.pkcs1_params.specs.Meanings.{ErrsExactly, FailsExactly, IsNoSentence, IsTheFault, IsTheMeaning, IsTheOnly}
 use Rattle.pkcs1_params.specs.Parameters.{with_parameters}
 use Rattle.pkcs1_params.specs.Parts.{FieldValue, Fielded, fields_with}
 use Rattle.pkcs1_params.specs.declared.error.Error.{Error}
@@ -46,51 +49,39 @@ identifier_asks b w = let h = w.3.holds in let l = h.1.3 in l.1.3
 
 -- What is never asked for memory tells of a fault.
 module _ {X : Type 0} {asked : Type 0} (nothing : asked → ⊥) where
-  pub told_fault : (Fault : ErrorKind → Type 0) (r : Result X der.Error) → IfErr r (λ e. Faulty e.kind asked (Fault e.kind)) → IfErr r (λ e. Fault e.kind)
-  told_fault Fault (Ok x) h = tt
-  told_fault Fault (Err e) (inl h) = absurd (nothing h.1)
-  told_fault Fault (Err e) (inr h) = h
-
-  pub told_only : (r : Result X der.Error) (kind : ErrorKind) → IsErrAnd r (λ e. Faulty e.kind asked (e.kind ≡ kind)) → IsErrAnd r (λ e. e.kind ≡ kind)
-  told_only (Ok x) kind h = h
-  told_only (Err e) kind (inl h) = absurd (nothing h.1)
-  told_only (Err e) kind (inr h) = h
-
-  pub told_bytes : (none : Type 0) (r : Result X der.Error) → IfErr r (λ e. Rejects e.kind asked none) → IfErr r (λ e. TellsOfBytes e.kind)
-  told_bytes none (Ok x) h = tt
-  told_bytes none (Err e) (inl h) = absurd (nothing h.1)
-  told_bytes none (Err e) (inr h) = h.0
-
   pub told_none : (none : Type 0) (r : Result X der.Error) → IfErr r (λ e. Rejects e.kind asked none) → OnErr r none
   told_none none (Ok x) h = tt
   told_none none (Err e) (inl h) = absurd (nothing h.1)
   told_none none (Err e) (inr h) = h.1
 
--- The identifier agrees and has parameters, so the fault is theirs.
-pub faulty_here : (oid : List ℕ) (Fault : ErrorKind → List ℕ → Type 0) (kind : ErrorKind) (a : Algorithm TagAndContents) (any : TagAndContents) → a.oid ≡ oid → a.parameters ≡ Some any → NotIdentified oid Fault kind a → OtherAnyFault sequence Fault kind any
-faulty_here oid Fault kind a any agrees there (unknown e other) = absurd (other agrees)
-faulty_here oid Fault kind a any agrees there (missing e same none) = let no : None ≡ Some any = sym none ∙ there in absurd (cc)
-faulty_here oid Fault kind a any agrees there (faulty v same given fault) =
-    let some : Some v ≡ Some any = sym given ∙ there in
-    let is : v ≡ any = cc in
-    rw (← is) fault
+  pub told_exactly : {Read : Type 0} (Fault : ErrorKind → Read → Type 0) (read : Read) (none : Type 0) (r : Result X der.Error) → IfErr r (λ e. Rejects e.kind asked none) → IfErr r (λ e. Faulty e.kind asked (Fault e.kind read))
+      → ((kind : ErrorKind) → Fault kind read → IsErrAnd r (λ e. Faulty e.kind asked (e.kind ≡ kind))) → FailsExactly Fault read r
+  told_exactly Fault read none (Ok x) h fault only = only
+  told_exactly Fault read none (Err e) (inl h) fault only = absurd (nothing h.1)
+  told_exactly Fault read none (Err e) (inr h) fault only = (h.0, unasked nothing fault, λ other f. sym (unasked nothing (only other f)))
 
--- It means no other parameters than its contents.
-pub identified_one : {V : Type 0} (Contents : V → List ℕ → Type 0) → MeansOne Contents → (oid : List ℕ) (a : Algorithm TagAndContents) (any : TagAndContents) → a.parameters ≡ Some any → (v : V) → Contents v any.contents
-    → (other : V) → Identifies oid Contents a other → other ≡ v
-identified_one Contents one oid a any there v holds other (same, any', given, tag, holds') =
-    let some : Some any' ≡ Some any = sym given ∙ there in
-    let is : any' ≡ any = cc in
-    one other v any.contents (rw is at holds') holds
+-- The identifier agrees and has parameters, so the value and the fault are theirs.
+module _ {oid : List ℕ} {a : Algorithm TagAndContents} {any : TagAndContents} (agrees : a.oid ≡ oid) (there : a.parameters ≡ Some any) where
+  same_any : (other : TagAndContents) → a.parameters ≡ Some other → other ≡ any
+  same_any other given = let some : Some other ≡ Some any = sym given ∙ there in cc
+
+  pub only_identified : {V : Type 0} (Contents : V → List ℕ → Type 0) → MeansOne Contents → (v : V) → (any.tag ≡ sequence_tag) × Contents v any.contents → IsTheOnly (Identifies oid Contents a) v
+  only_identified Contents one v h = ((agrees, any, there, h.0, h.1), λ other (same, w, given, tag, holds). one other v any.contents (rw (same_any w given) at holds) h.1)
+
+  module _ (Fault : ErrorKind → List ℕ → Type 0) where
+    pub faulty_here : (kind : ErrorKind) → NotIdentified oid Fault kind a → OtherAnyFault sequence Fault kind any
+    faulty_here kind (unknown e other) = absurd (other agrees)
+    faulty_here kind (missing e same none) = let no : None ≡ Some any = sym none ∙ there in absurd (cc)
+    faulty_here kind (faulty v same given fault) = rw (← same_any v given) fault
+
+    pub fault_identified : (kind : ErrorKind) → IsTheFault (OtherAnyFault sequence Fault) any kind → IsTheFault (NotIdentified oid Fault) a kind
+    fault_identified kind fault = (fault.0, faulty any agrees there fault.1, λ other f. fault.2 other (faulty_here other f))
 
 pub fields_are_bytes : {V : Type 0} (values : V → List FieldValue) → IsOfBytes (FieldContents values)
 fields_are_bytes values v = joins_of_bytes (fields_with values v) (fields_of_bytes (values v))
 
-plain_none : AreNone (NoneIn PlainAlgorithm) (EncodingFault sequence (AlgorithmFault Any AnyFault))
-plain_none = encoding_fault_none sequence (AlgorithmFault Any AnyFault) (AlgorithmContents Any) (algorithm_fault_none Any AnyFault any_delimited any_fault_none)
-
-plain_whole_none : (k : ErrorKind) (b : List ℕ) → WholeFault PlainAlgorithm (EncodingFault sequence (AlgorithmFault Any AnyFault)) k b → (a : Algorithm TagAndContents) → Means PlainAlgorithm b a → ⊥
-plain_whole_none = whole_fault_none PlainAlgorithm _ plain_delimited plain_none
+pub plain_told : AreTold PlainAlgorithm (WholeFault PlainAlgorithm (EncodingFault sequence (AlgorithmFault Any AnyFault)))
+plain_told = tagged_told sequence (AlgorithmContents Any) (AlgorithmFault Any AnyFault) (algorithm_means_one Any any_delimited) (algorithm_fault_none Any AnyFault any_delimited any_fault_none) (algorithm_fault_first Any AnyFault any_delimited any_fault_none any_fault_first)
 
 -- A slice that is read as an identifier with parameters of any tag, which are then read.
 module _ {X V : Type 0} (value : X → V) (Contents : V → List ℕ → Type 0) (bytes : IsOfBytes Contents) (oid b : List ℕ) (a : Algorithm TagAndContents) (means : Means PlainAlgorithm b a) where
@@ -102,26 +93,13 @@ module _ {X V : Type 0} (value : X → V) (Contents : V → List ℕ → Type 0)
       let q = plain_of_algorithm Contents oid bytes v b p in
       rw (means_one plain_delimited a q.0 b means.1 q.2) q.1
 
-  pub slice_ok : (r : Result X Error) → IfOk r (λ x. Identifies oid Contents a (value x)) → IfOk r (λ x. Means Wanted b (value x))
-  slice_ok (Ok x) h = (means.0, algorithm_of_plain Contents oid a (value x) b h means.1)
+  pub slice_ok : (r : Result X Error) → IfOk r (λ x. IsTheOnly (Identifies oid Contents a) (value x)) → IfOk r (λ x. IsTheMeaning Wanted b (value x))
+  slice_ok (Ok x) h = ((means.0, algorithm_of_plain Contents oid a (value x) b h.0 means.1), λ other p. h.1 other (same_plain other p.1))
   slice_ok (Err e) h = tt
-
-  pub slice_one : (r : Result X Error) → IfOk r (λ x. (other : V) → Identifies oid Contents a other → other ≡ value x) → IfOk r (λ x. IsOnlyMeaning Wanted b (value x))
-  slice_one (Ok x) h = λ other p. h other (same_plain other p.1)
-  slice_one (Err e) h = tt
 
   pub slice_err : (r : Result X Error) → OnErr r ((v : V) → Identifies oid Contents a v → ⊥) → OnErr r (IsNoSentence Wanted b)
   slice_err (Ok x) h = tt
   slice_err (Err e) h = λ v p. h v (same_plain v p.1)
-
-  module _ (Not : ErrorKind → Algorithm TagAndContents → Type 0) where
-    pub slice_exact : (r : Result X Error) → IfErr r (IsAsn1 (λ e. Not e.kind a)) → IfErr r (IsAsn1 (λ e. AlgorithmOfFault Not e.kind b))
-    slice_exact (Ok x) h = tt
-    slice_exact (Err e) h = asn1_as (λ e not. inr (a, means, not)) e h
-
-    pub slice_only : (r : Result X Error) → ((kind : ErrorKind) → Not kind a → IsErrAnd r (IsAsn1 (λ e. e.kind ≡ kind))) → (kind : ErrorKind) → AlgorithmOfFault Not kind b → IsErrAnd r (IsAsn1 (λ e. e.kind ≡ kind))
-    slice_only r h kind (inl fault) = absurd (plain_whole_none kind b fault a means)
-    slice_only r h kind (inr (c, is, not)) = h kind (rw (means_one plain_delimited c a b is.1 means.1) at not)
 
 -- A slice that isn't read as an identifier with parameters of any tag.
 pub no_identifier : {V : Type 0} (Contents : V → List ℕ → Type 0) → IsOfBytes Contents → (oid b : List ℕ) → ((a : Algorithm TagAndContents) → Means PlainAlgorithm b a → ⊥) → (v : V)
@@ -155,6 +133,25 @@ inside Grammar oid v b y m t =
     let p = parameters_in Grammar oid v b m.1 in
     let is : p.0 ≡ y = same_parameters oid p.0 y b p.2 t.1 in
     (omega (arith, m.0, parameters_shorter oid y b t.1), rw is at p.1)
+
+-- Strict reading: a default may be written in the encoding of the parameters.
+module _ {V : Type 0} (Grammar : V → List ℕ → Type 0) (fields : V → List Field) (Fault : ErrorKind → List ℕ → Type 0) (oid b : List ℕ) where
+  abbrev Default : ErrorKind → V → Type 0
+  Default kind v = (x : List ℕ) × Means (AlgorithmOf oid Is) b x × NamesDefault (fields v) kind x
+
+  pub strict_before : IsNoSentence (AlgorithmOf oid Grammar) b → (e : Error) → IsAsn1 (λ a. IsTheFault Fault b a.kind) e → IsAsn1 (λ a. IsTheFault (StrictFault oid Grammar fields Fault) b a.kind) e
+  strict_before none = asn1_as (λ a. fault_before (AlgorithmOf oid Grammar) Fault b Default none a.kind)
+
+  module _ (v : V) (means : IsTheMeaning (AlgorithmOf oid Grammar) b v) (unfaulty : (kind : ErrorKind) → Fault kind b → ⊥) (y : List ℕ) (there : Means (AlgorithmOf oid Is) b y) where
+    written : (kind : ErrorKind) → Default kind v → NamesDefault (fields v) kind y
+    written kind (x, m, names) = rw (same_parameters oid x y b m.1 there.1) at names
+
+    within : {X : Type 0} (r : Result X Error) → ErrsExactly (NamesDefault (fields v)) y r → ErrsExactly Default v r
+    within (Ok x) f = λ kind names. f kind (written kind names)
+    within (Err e) f = asn1_as (λ a fault. (fault.0, (y, there, fault.1), λ other names. fault.2 other (written other names))) e f
+
+    pub strict_behind : {X : Type 0} (r : Result X Error) → ErrsExactly (NamesDefault (fields v)) y r → ErrsExactly (StrictFault oid Grammar fields Fault) b r
+    strict_behind r f = errs_behind (AlgorithmOf oid Grammar) Fault b Default v means unfaulty r (within r f)
 
 -- Writing.
 module _ {V : Type 0} (tag : ℕ) (Contents : V → List ℕ → Type 0) (has : V → Type 0) (written : V → List ℕ) (oid : List ℕ) where

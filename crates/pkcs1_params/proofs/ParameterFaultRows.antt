@@ -226,15 +226,15 @@ default_salt =
     inr (
       pss_defaults,
       (omega arith, pss_salt_written),
-      2,
-      known_tlv 0x30 salt_bytes (inr (
-        [],
-        salt_bytes,
-        inl (refl, refl),
-        inr ([], salt_bytes, inl (refl, refl), inl (refl, refl, (salt_bytes, [], known_tlv 0xa2 (0x02 ∷ 0x01 ∷ 0x14 ∷ []) (small_byte 20 (omega arith)) (omega arith), left_out_field (trailer_field 1) [] refl refl, refl)), refl),
-        refl,
-      )) (omega arith),
-      tag_2,
-      refl,
-      refl,
+      (
+        2,
+        (tag_2, refl, refl),
+        known_tlv 0x30 salt_bytes (inr (
+          [],
+          salt_bytes,
+          inl (refl, refl),
+          inr ([], salt_bytes, inl (refl, refl), inl (refl, refl, (salt_bytes, [], known_tlv 0xa2 (0x02 ∷ 0x01 ∷ 0x14 ∷ []) (small_byte 20 (omega arith)) (omega arith), left_out_field (trailer_field 1) [] refl refl, refl)), refl),
+          refl,
+        )) (omega arith),
+      ),
     )

@@ -1,6 +1,7 @@
 -- Parameters of RSASSA-PSS and RSAES-OAEP at worked examples.
 use Rattle.std.proofs.Common.{ℕ, List, [], ◌∷◌, ◌++◌, ◌≡◌, ◌<◌, inl, inr, length, length-append, map, refl, sym, ap, arith, None}
 use Rattle.std.specs.Int.Digits.{number_from_digits}
+use Rattle.der_core.specs.Document.{Means}
 use Rattle.der_core.specs.Integer.{SmallContents, Small}
 use Rattle.der_core.specs.Laws.Integer.{small_delimited}
 use Rattle.der_core.specs.Laws.Lists.{same_cons}
@@ -43,6 +44,9 @@ oaep_defaults = record { hash = sha1; mask_gen = mgf1_sha1; p_source = empty_lab
 pub pss_all_left_out : RsaPssParams pss_defaults (0x30 ∷ 0x00 ∷ [])
 pss_all_left_out = known_tlv 0x30 []
     (left_out_field (hash_field sha1) [] refl (left_out_field (mask_field mgf1_sha1) [] refl (left_out_field (salt_field 20) [] refl (left_out_field (trailer_field 1) [] refl refl)))) (omega arith)
+
+pub pss_by_default : (b : List ℕ) (p : PssParameters) → b ≡ 0x30 ∷ 0x00 ∷ [] → p ≡ pss_defaults → Means RsaPssParams b p
+pss_by_default b p empty is = rw (empty, is) (omega arith, pss_all_left_out)
 
 -- a203020114, and a303020101
 abbrev pub salt_bytes : List ℕ
@@ -171,6 +175,9 @@ pss_unknown_field_rejected p t =
 pub oaep_all_left_out : RsaOaepParams oaep_defaults (0x30 ∷ 0x00 ∷ [])
 oaep_all_left_out = known_tlv 0x30 []
     (left_out_field (hash_field sha1) [] refl (left_out_field (mask_field mgf1_sha1) [] refl (left_out_field (source_field empty_label) [] refl refl))) (omega arith)
+
+pub oaep_by_default : (b : List ℕ) (p : OaepParameters) → b ≡ 0x30 ∷ 0x00 ∷ [] → p ≡ oaep_defaults → Means RsaOaepParams b p
+oaep_by_default b p empty is = rw (empty, is) (omega arith, oaep_all_left_out)
 
 -- A source alone.
 source_alone : (a : Algorithm TagAndContents) (c : List ℕ) → PlainAlgorithm a c → length (0xa2 ∷ length c ∷ c) < 128

@@ -14,7 +14,8 @@ use Rattle.spki_core.specs.AlgorithmIdentifier.{Algorithm, AlgorithmIdentifier, 
 use Rattle.spki_core.specs.Any.{TagAndContents, Any}
 use Rattle.spki_core.specs.Explicit.{Field, FieldSequence, HaveDefaults, AllExplicit}
 use Rattle.spki_core.specs.Faults.{AnyFault, AlgorithmFault, OtherAnyFault}
-use Rattle.pkcs1_params.specs.ParameterFaults.{PssFault, OaepFault, DefaultFault}
+use Rattle.spki_core.specs.StrictFields.{NamesDefault}
+use Rattle.pkcs1_params.specs.ParameterFaults.{PssFault, OaepFault}
 use Rattle.pkcs1_params.specs.Parameters.{with_parameters, PssParameters, PssContents, RsaPssParams, pss_fields, OaepParameters, OaepContents, RsaOaepParams, oaep_fields}
 
 abbrev pub id_rsassa_pss : List ℕ
@@ -68,17 +69,18 @@ RsaPssAlgorithmFault = AlgorithmOfFault NotPss
 abbrev pub RsaOaepAlgorithmFault : ErrorKind → List ℕ → Type 0
 RsaOaepAlgorithmFault = AlgorithmOfFault NotOaep
 
--- Whole slices that have to be the shortest encoding of an identifier: they have a fault as one, or a default is written
--- in the encoding of its parameters.
-abbrev pub StrictFault : List ℕ → (ErrorKind → List ℕ → Type 0) → (ErrorKind → List ℕ → Type 0) → ErrorKind → List ℕ → Type 0
-StrictFault oid Fault Default kind bytes =
-    Fault kind bytes ⊎ ((encoding : List ℕ) × Means (AlgorithmOf oid Is) bytes encoding × Default kind encoding)
+-- Whole slices that have to be the shortest encoding of an identifier: they have a fault as one; or they are one, and a
+-- default is written in the encoding of its parameters.
+abbrev pub StrictFault : {V : Type 0} → List ℕ → (V → List ℕ → Type 0) → (V → List Field) → (ErrorKind → List ℕ → Type 0) → ErrorKind → List ℕ → Type 0
+StrictFault {V} oid Grammar fields Fault kind bytes =
+    Fault kind bytes
+    ⊎ ((v : V) × Means (AlgorithmOf oid Grammar) bytes v × ((encoding : List ℕ) × Means (AlgorithmOf oid Is) bytes encoding × NamesDefault (fields v) kind encoding))
 
 abbrev pub StrictPssAlgorithmFault : ErrorKind → List ℕ → Type 0
-StrictPssAlgorithmFault = StrictFault id_rsassa_pss RsaPssAlgorithmFault (DefaultFault RsaPssParams pss_fields)
+StrictPssAlgorithmFault = StrictFault id_rsassa_pss RsaPssParams pss_fields RsaPssAlgorithmFault
 
 abbrev pub StrictOaepAlgorithmFault : ErrorKind → List ℕ → Type 0
-StrictOaepAlgorithmFault = StrictFault id_rsaes_oaep RsaOaepAlgorithmFault (DefaultFault RsaOaepParams oaep_fields)
+StrictOaepAlgorithmFault = StrictFault id_rsaes_oaep RsaOaepParams oaep_fields RsaOaepAlgorithmFault
 
 -- If the identifier whose parameters have every field written is within the limit, there are two to the k encodings of
 -- it: one for each encoding of the parameters.

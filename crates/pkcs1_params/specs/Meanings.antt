@@ -2,16 +2,12 @@
 use Rattle.std.specs.Prelude.{ℕ, List, ◌≡◌, Option, Some, None, Result, Ok, Err}
 use Rattle.der_core.specs.declared.error.Error as der
 use Rattle.der_core.specs.declared.error.ErrorKind.{ErrorKind}
-use Rattle.der_core.specs.Document.{Means, WhyNotWritten, HasEncoding}
+use Rattle.der_core.specs.Document.{Means, IsShortest, WhyNotWritten, HasEncoding}
 use Rattle.der_core.specs.Faults.{Faulty}
 use Rattle.der_core.specs.Reading.{TellsOfBytes}
 use Rattle.der_core.specs.Writing.{encode_error}
 use Rattle.pkcs1_params.specs.declared.error.Error.{Error}
 use Rattle.pkcs1_params.specs.Errors.{IsAsn1}
-
--- The bytes mean no other value.
-abbrev pub IsOnlyMeaning : {V : Type 0} → (V → List ℕ → Type 0) → List ℕ → V → Type 0
-IsOnlyMeaning {V} Grammar encoding v = (other : V) → Means Grammar encoding other → other ≡ v
 
 -- It holds of this value and of no other.
 abbrev pub IsTheOnly : {V : Type 0} → (V → Type 0) → V → Type 0
@@ -21,9 +17,17 @@ IsTheOnly {V} Holds v = Holds v × ((other : V) → Holds other → other ≡ v)
 abbrev pub IsTheMeaning : {V : Type 0} → (V → List ℕ → Type 0) → List ℕ → V → Type 0
 IsTheMeaning Grammar encoding = IsTheOnly (Means Grammar encoding)
 
+-- The bytes are the shortest encoding of this value, and mean no other.
+abbrev pub IsTheShortest : {V : Type 0} → (V → List ℕ → Type 0) → List ℕ → V → Type 0
+IsTheShortest {V} Grammar encoding v = IsShortest Grammar v encoding × ((other : V) → Means Grammar encoding other → other ≡ v)
+
 -- The bytes mean no value.
 abbrev pub IsNoSentence : {V : Type 0} → (V → List ℕ → Type 0) → List ℕ → Type 0
 IsNoSentence {V} Grammar encoding = (v : V) → Means Grammar encoding v → ⊥
+
+-- The bytes are the shortest encoding of no value.
+abbrev pub IsNoShortest : {V : Type 0} → (V → List ℕ → Type 0) → List ℕ → Type 0
+IsNoShortest {V} Grammar encoding = (v : V) → IsShortest Grammar v encoding → ⊥
 
 -- What is read has this fault and no other, and its error is about the bytes.
 abbrev pub IsTheFault : {Read : Type 0} → (ErrorKind → Read → Type 0) → Read → ErrorKind → Type 0
@@ -47,8 +51,7 @@ ErrsOrAsks Fault read asked (Err e) = IsAsn1 (λ asn1. Faulty asn1.kind asked (I
 -- The bytes are a sentence and have no fault; or they are no sentence and have exactly this fault.
 abbrev pub TellsFault : {V : Type 0} → (V → List ℕ → Type 0) → (ErrorKind → List ℕ → Type 0) → List ℕ → Option ErrorKind → Type 0
 TellsFault {V} Grammar Fault encoding None = ((v : V) × Means Grammar encoding v) × ((kind : ErrorKind) → Fault kind encoding → ⊥)
-TellsFault Grammar Fault encoding (Some kind) =
-    IsNoSentence Grammar encoding × Fault kind encoding × ((other : ErrorKind) → Fault other encoding → other ≡ kind)
+TellsFault Grammar Fault encoding (Some kind) = IsNoSentence Grammar encoding × IsTheFault Fault encoding kind
 
 -- Why a value isn't written to so many bytes: it has no encoding, none within the limit, or there is no room for the
 -- shortest.

@@ -1,9 +1,8 @@
 -- The first fault of bytes that are no parameters (RFC 8017 A.2.3, A.2.1).
-use Rattle.std.specs.Prelude.{ℕ, List, ◌≡◌, ◌⊎◌, refl}
+use Rattle.std.specs.Prelude.{ℕ, List, ◌⊎◌, refl}
 use Rattle.der_core.specs.declared.error.ErrorKind.{ErrorKind}
-use Rattle.der_core.specs.declared.error.ErrorKind.TheVariants.{Noncanonical, Value}
+use Rattle.der_core.specs.declared.error.ErrorKind.TheVariants.{Value}
 use Rattle.der_core.specs.Document.{Means}
-use Rattle.der_core.specs.Tag.{context_tag}
 use Rattle.der_core.specs.declared.tag.Tag.{Tag}
 use Rattle.der_core.specs.Faults.{EncodingFault, AloneFault, EndFault, WholeFault, SmallFault, ExpectedFault}
 use Rattle.der_core.specs.Integer.{Small, SmallContents}
@@ -11,7 +10,7 @@ use Rattle.der_core.specs.Tags.{integer, sequence}
 use Rattle.spki_core.specs.AlgorithmIdentifier.{AlgorithmIdentifier, PlainAlgorithm, MaskAlgorithm}
 use Rattle.spki_core.specs.Any.{Any}
 use Rattle.spki_core.specs.Explicit.{Field}
-use Rattle.spki_core.specs.StrictFields.{WritesDefault}
+use Rattle.spki_core.specs.StrictFields.{NamesDefault}
 use Rattle.spki_core.specs.Faults.{AnyFault, AlgorithmFault, FieldThenFault}
 use Rattle.pkcs1_params.specs.Parameters.{sha1, mgf1_sha1, empty_label, TrailerField, RsaPssParams, RsaOaepParams, pss_fields, oaep_fields}
 
@@ -71,8 +70,7 @@ RsaOaepParamsFault = WholeFault RsaOaepParams (EncodingFault sequence (OaepFault
 
 -- An encoding means a value, and a default is written in it (X.690 11.5): the fault names the tag of the first.
 abbrev pub DefaultFault : {V : Type 0} → (V → List ℕ → Type 0) → (V → List Field) → ErrorKind → List ℕ → Type 0
-DefaultFault {V} Grammar fields kind encoding =
-    (v : V) × Means Grammar encoding v × (n : ℕ) × WritesDefault (fields v) n encoding × (tag : Tag) × (tag.octet ≡ context_tag n) × (kind ≡ Noncanonical tag)
+DefaultFault {V} Grammar fields kind encoding = (v : V) × Means Grammar encoding v × NamesDefault (fields v) kind encoding
 
 -- Whole slices that have to be the shortest encoding of parameters.
 abbrev pub StrictPssFault : ErrorKind → List ℕ → Type 0

@@ -1,24 +1,20 @@
 //! Parameters in their algorithm identifier (RFC 8017 A.2.3, A.2.1; RFC 5280 4.1.1.2).
 ghost use Rattle.std.specs.Prelude.{◌≡◌, ◌≤◌, ◌<◌, ◌^◌, ℕ, List, length, take, drop};
-ghost use Rattle.std.specs.Prelude.{IfOk, IfErr, IsErrAnd, OnOk, OnErr};
+ghost use Rattle.std.specs.Prelude.{IfOk, IfErr, OnOk, OnErr};
 ghost use Rattle.der_core.specs.declared.error.ErrorKind as der;
-ghost use Rattle.der_core.specs.declared.error.ErrorKind.TheVariants.{Noncanonical};
-ghost use Rattle.der_core.specs.declared.tag.Tag.{Tag};
 ghost use Rattle.der_core.specs.Document.{HasEncoding, IsShortest, Means};
 ghost use Rattle.der_core.specs.Encodings.{Is, MeansOne};
-ghost use Rattle.der_core.specs.Reading.{TellsOfBytes};
-ghost use Rattle.der_core.specs.Tag.{context_tag, sequence_tag};
+ghost use Rattle.der_core.specs.Tag.{sequence_tag};
 ghost use Rattle.der_core.specs.Tags.{sequence};
 ghost use Rattle.der_core.specs.Tlv.{Tlv};
 ghost use Rattle.spki_core.specs.AlgorithmValue.{algorithm_of, algorithm_with};
 ghost use Rattle.spki_core.specs.AnyRefValue.{any_of};
 ghost use Rattle.spki_core.specs.Faults.{OtherAnyFault};
-ghost use Rattle.spki_core.specs.StrictFields.{NamesDefault, WritesDefault};
+ghost use Rattle.spki_core.specs.StrictFields.{NamesDefault};
 ghost use Rattle.pkcs1_params.specs.Algorithms.{AlgorithmOf, AlgorithmOfFault, Identifies, NotIdentified, StrictFault};
-ghost use Rattle.pkcs1_params.specs.Errors.{IsAsn1};
 ghost use Rattle.pkcs1_params.specs.MaskedValues.{FieldContents};
-ghost use Rattle.pkcs1_params.specs.Meanings.{IsNoSentence, IsOnlyMeaning, IsWritingError};
-ghost use Rattle.pkcs1_params.specs.ParameterFaults.{DefaultFault};
+ghost use Rattle.pkcs1_params.specs.Meanings.{ErrsExactly, FailsExactly, IsNoSentence, IsNoShortest};
+ghost use Rattle.pkcs1_params.specs.Meanings.{IsTheMeaning, IsTheOnly, IsTheShortest, IsWritingError};
 ghost use Rattle.pkcs1_params.specs.Parameters.{with_parameters};
 ghost use Rattle.pkcs1_params.specs.Parts.{FieldValue, Fielded, fields_with};
 
@@ -52,20 +48,14 @@ pub trait AlgorithmParams<'a>: Sized + Drop {
             IfOk result (λ p. (any.tag ≡ sequence_tag) × FieldContents values (params p) any.contents) }
         ensures err { let any = any_of any.entry in
             OnErr result ((v : Params) → any.tag ≡ sequence_tag → FieldContents values v any.contents → ⊥) }
-        ensures asn1 { IfErr result (λ e. TellsOfBytes e.kind) }
-        ensures exact { IfErr result (λ e. OtherAnyFault sequence fault e.kind (any_of any.entry)) }
-        ensures only { (kind : der.ErrorKind)
-            → OtherAnyFault sequence fault kind (any_of any.entry) → IsErrAnd result (λ e. e.kind ≡ kind) };
+        ensures exact { FailsExactly (OtherAnyFault sequence fault) (any_of any.entry) result };
 
     /// Rejects an encoding of the parameters in which a default is written: `Noncanonical` with the tag of the first.
     fn reject_defaults(&self, encoding: &[u8]) -> Result<()>
         requires { Means (Fielded values) encoding.now (params self.now) }
         ensures ok { OnOk result (IsShortest (Fielded values) (params self.now) encoding.now) }
-        ensures default { IfErr result (IsAsn1 (NamesDefault (fields_with values (params self.now)) encoding.now)) }
-        ensures only { (n : ℕ) (tag : Tag) → WritesDefault (fields_with values (params self.now)) n encoding.now
-            → tag.octet ≡ context_tag n → IsErrAnd result (IsAsn1 (λ e. e.kind ≡ Noncanonical tag)) }
         ensures err { OnErr result (IsShortest (Fielded values) (params self.now) encoding.now → ⊥) }
-        ensures asn1 { IfErr result (IsAsn1 (λ e. TellsOfBytes e.kind)) };
+        ensures exact { ErrsExactly (NamesDefault (fields_with values (params self.now))) encoding.now result };
 }
 
 /// Borrowed parameters that are read from the algorithm identifier that they stand in: `RsaPssParamsRef`,
@@ -75,51 +65,28 @@ pub trait FromAlgorithm<'a>: AlgorithmParams<'a> {
     /// has none, as RFC 4055 forbids with a signature and an encrypted value (3.1, 4.1).
     fn from_algorithm(algorithm: &AlgorithmIdentifierRef<'a>) -> Result<Self>
         ensures ok { let a = algorithm_of algorithm.now in
-            IfOk result (λ p. Identifies Self.Oid.contents (FieldContents Self.values) a (Self.params p)) }
-        ensures one { let a = algorithm_of algorithm.now in
-            IfOk result (λ p. (other : Self.Params)
-            → Identifies Self.Oid.contents (FieldContents Self.values) a other → other ≡ Self.params p) }
+            IfOk result (λ p. IsTheOnly (Identifies Self.Oid.contents (FieldContents Self.values) a) (Self.params p)) }
         ensures err { let a = algorithm_of algorithm.now in
             OnErr result ((v : Self.Params) → Identifies Self.Oid.contents (FieldContents Self.values) a v → ⊥) }
-        ensures asn1 { IfErr result (IsAsn1 (λ e. TellsOfBytes e.kind)) }
-        ensures exact { let a = algorithm_of algorithm.now in
-            IfErr result (IsAsn1 (λ e. NotIdentified Self.Oid.contents Self.fault e.kind a)) }
-        ensures only { (kind : der.ErrorKind)
-            → NotIdentified Self.Oid.contents Self.fault kind (algorithm_of algorithm.now)
-            → IsErrAnd result (IsAsn1 (λ e. e.kind ≡ kind)) };
+        ensures exact { ErrsExactly (NotIdentified Self.Oid.contents Self.fault) (algorithm_of algorithm.now) result };
 
     /// The parameters in a whole slice that is an algorithm identifier, as in a certificate's signatureAlgorithm. Once
     /// the slice is an algorithm identifier, errors are as of `from_algorithm`.
     fn from_algorithm_der(bytes: &'a [u8]) -> Result<Self>
         ensures ok { let Grammar = AlgorithmOf Self.Oid.contents (Fielded Self.values) in
-            IfOk result (λ p. Means Grammar bytes.now (Self.params p)) }
-        ensures one { let Grammar = AlgorithmOf Self.Oid.contents (Fielded Self.values) in
-            IfOk result (λ p. IsOnlyMeaning Grammar bytes.now (Self.params p)) }
+            IfOk result (λ p. IsTheMeaning Grammar bytes.now (Self.params p)) }
         ensures err { OnErr result (IsNoSentence (AlgorithmOf Self.Oid.contents (Fielded Self.values)) bytes.now) }
-        ensures asn1 { IfErr result (IsAsn1 (λ e. TellsOfBytes e.kind)) }
-        ensures exact { let Fault = AlgorithmOfFault (NotIdentified Self.Oid.contents Self.fault) in
-            IfErr result (IsAsn1 (λ e. Fault e.kind bytes.now)) }
-        ensures only { (kind : der.ErrorKind)
-            → AlgorithmOfFault (NotIdentified Self.Oid.contents Self.fault) kind bytes.now
-            → IsErrAnd result (IsAsn1 (λ e. e.kind ≡ kind)) };
+        ensures exact { ErrsExactly (AlgorithmOfFault (NotIdentified Self.Oid.contents Self.fault)) bytes.now result };
 
     /// Like `from_algorithm_der`, but rejects parameters in which a default is written: `Noncanonical` with the tag of
     /// the first such field. So what is read is the shortest encoding of the identifier.
     fn from_algorithm_der_strict(bytes: &'a [u8]) -> Result<Self>
         ensures ok { let Grammar = AlgorithmOf Self.Oid.contents (Fielded Self.values) in
-            IfOk result (λ p. IsShortest Grammar (Self.params p) bytes.now) }
-        ensures one { let Grammar = AlgorithmOf Self.Oid.contents (Fielded Self.values) in
-            IfOk result (λ p. IsOnlyMeaning Grammar bytes.now (Self.params p)) }
-        ensures err { let Grammar = AlgorithmOf Self.Oid.contents (Fielded Self.values) in
-            OnErr result ((v : Self.Params) → IsShortest Grammar v bytes.now → ⊥) }
-        ensures asn1 { IfErr result (IsAsn1 (λ e. TellsOfBytes e.kind)) }
+            IfOk result (λ p. IsTheShortest Grammar bytes.now (Self.params p)) }
+        ensures err { OnErr result (IsNoShortest (AlgorithmOf Self.Oid.contents (Fielded Self.values)) bytes.now) }
         ensures exact { let Fault = AlgorithmOfFault (NotIdentified Self.Oid.contents Self.fault) in
-            let Default = DefaultFault (Fielded Self.values) (fields_with Self.values) in
-            IfErr result (IsAsn1 (λ e. StrictFault Self.Oid.contents Fault Default e.kind bytes.now)) }
-        ensures only { let Fault = AlgorithmOfFault (NotIdentified Self.Oid.contents Self.fault) in
-            let Default = DefaultFault (Fielded Self.values) (fields_with Self.values) in
-            (kind : der.ErrorKind) → StrictFault Self.Oid.contents Fault Default kind bytes.now
-            → IsErrAnd result (IsAsn1 (λ e. e.kind ≡ kind)) };
+            let Strict = StrictFault Self.Oid.contents (Fielded Self.values) (fields_with Self.values) Fault in
+            ErrsExactly Strict bytes.now result };
 }
 
 impl<'a, T: AlgorithmParams<'a>> FromAlgorithm<'a> for T {
@@ -163,10 +130,7 @@ pub(crate) fn decode_borrowed<'a, T: DecodeValue<&'a [u8], NoMemory> + FixedTag>
         IfOk result (λ v. (any.tag ≡ T.TAG.octet) × T.contents (T.value v) any.contents) }
     ensures err { let any = any_of any.entry in
         OnErr result ((v : T.Value) → any.tag ≡ T.TAG.octet → T.contents v any.contents → ⊥) }
-    ensures asn1 { IfErr result (λ e. TellsOfBytes e.kind) }
-    ensures exact { IfErr result (λ e. OtherAnyFault T.TAG T.DecodeValue.fault e.kind (any_of any.entry)) }
-    ensures only { (kind : der.ErrorKind)
-        → OtherAnyFault T.TAG T.DecodeValue.fault kind (any_of any.entry) → IsErrAnd result (λ e. e.kind ≡ kind) }
+    ensures exact { FailsExactly (OtherAnyFault T.TAG T.DecodeValue.fault) (any_of any.entry) result }
 {
     any.decode_as(NoMemory)
 }
@@ -195,10 +159,8 @@ pub(crate) fn encode_identifier<D: AssociatedOid, T: EncodeValue + FixedTag + Dr
     requires has { T.has_contents (T.value params) }
     requires short { length (T.written_contents (T.value params)) < 2 ^ 64 }
     ensures shortest { let Grammar = AlgorithmOf D.contents (λ v. Tlv T.TAG.octet (T.contents v)) in
-        IfOk result (λ n. IsShortest Grammar (T.value params) (take n out.new)) }
+        IfOk result (λ n. IsTheShortest Grammar (take n out.new) (T.value params)) }
     ensures rest { IfOk result (λ n. (n ≤ length out.new) × (drop n out.new ≡ drop n out.old)) }
-    ensures one { let Grammar = AlgorithmOf D.contents (λ v. Tlv T.TAG.octet (T.contents v)) in
-        IfOk result (λ n. (other : T.Value) → Grammar other (take n out.new) → other ≡ T.value params) }
     ensures unchanged { OnErr result (out.new ≡ out.old) }
     ensures err { let Grammar = AlgorithmOf D.contents (λ v. Tlv T.TAG.octet (T.contents v)) in
         IfErr result (IsWritingError Grammar (T.value params) (length out.old)) }

@@ -6,7 +6,6 @@ ghost use Rattle.pkcs1_params.specs.Parameters.{empty_label};
 ghost use Rattle.pkcs1_params.specs.Parts.{oaep_values, HasFields, written_fields};
 ghost use Rattle.pkcs1_params.specs.Laws.Oaep.{oaep_means_one, oaep_of_bytes, oaep_relates, oaep_shortest};
 ghost use Rattle.pkcs1_params.specs.Parameters as grammar;
-ghost use Rattle.der_core.specs.declared.error.ErrorKind as der;
 
 use crate::defaults::{default_oaep, is_empty_sequence};
 use crate::error::{Error, Result};
@@ -104,11 +103,9 @@ impl<'a, M: Memory> DecodeValue<&'a [u8], M> for RsaOaepParams<AnyRef<'a>> {
 
 impl<P: AnyValue> RsaOaepParams<P> {
     ghost use Rattle.std.specs.Prelude.{drop, take, IfOk, OnErr};
-    ghost use Rattle.der_core.specs.Document.{IsShortest};
-    ghost use Rattle.pkcs1_params.specs.Meanings.{IsWritingError};
+    ghost use Rattle.pkcs1_params.specs.Meanings.{IsTheShortest, IsWritingError};
     ghost use Rattle.spki_core.specs.Explicit.{Masked};
     ghost use Rattle.pkcs1_params.specs.OaepValue.{oaep_of, oaep_viewed, oaep_with};
-    ghost use Rattle.pkcs1_params.specs.Errors.{IsAsn1};
     ghost use Rattle.pkcs1_params.specs.Spellings.{HasTwoToTheDefaults};
 
     /// The parameters, borrowed.
@@ -128,12 +125,9 @@ impl<P: AnyValue> RsaOaepParams<P> {
     /// slice is shorter than it.
     pub fn encode_params(&self, out: &mut [u8]) -> Result<usize>
         ensures shortest { let params = oaep_with P.any self.now in
-            IfOk result (λ n. IsShortest grammar.RsaOaepParams params (take n out.new)) }
+            IfOk result (λ n. IsTheShortest grammar.RsaOaepParams (take n out.new) params) }
         ensures no_default { IfOk result (λ n. Masked (oaep_fields (oaep_with P.any self.now)) 0 (take n out.new)) }
         ensures rest { IfOk result (λ n. (n ≤ length out.new) × (drop n out.new ≡ drop n out.old)) }
-        ensures one { let params = oaep_with P.any self.now in
-            IfOk result (λ n.
-            (other : OaepParameters) → grammar.RsaOaepParams other (take n out.new) → other ≡ params) }
         ensures count { OnOk result (HasTwoToTheDefaults oaep_fields (oaep_with P.any self.now)) }
         ensures unchanged { OnErr result (out.new ≡ out.old) }
         ensures err { IfErr result (IsWritingError grammar.RsaOaepParams (oaep_with P.any self.now) (length out.old)) }
@@ -235,30 +229,17 @@ impl<'a> Default for RsaOaepParams<AnyRef<'a>> {
 }
 
 impl<'a> RsaOaepParams<AnyRef<'a>> {
-    ghost use Rattle.std.specs.Prelude.{IfOk, IsErrAnd, ◌⊎◌};
-    ghost use Rattle.der_core.specs.Reading.{TellsOfBytes};
-    ghost use Rattle.der_core.specs.Document.{Means, IsShortest};
-    ghost use Rattle.pkcs1_params.specs.ParameterFaults.{RsaOaepParamsFault, StrictOaepFault};
+    ghost use Rattle.std.specs.Prelude.{IfOk, OnErr};
+    ghost use Rattle.pkcs1_params.specs.Meanings.{ErrsExactly, IsNoShortest, IsTheShortest};
+    ghost use Rattle.pkcs1_params.specs.ParameterFaults.{StrictOaepFault};
     ghost use Rattle.pkcs1_params.specs.OaepValue.{oaep_of};
-    ghost use Rattle.pkcs1_params.specs.Errors.{IsAsn1};
-    ghost use Rattle.spki_core.specs.StrictFields.{NamesDefault};
 
     /// Like `try_from`, but rejects an encoding in which a default is written: `Noncanonical` with the tag of the first
     /// such field. So what is read is the shortest encoding of its value.
     pub fn from_der_strict(bytes: &'a [u8]) -> Result<RsaOaepParams<AnyRef<'a>>>
-        ensures ok { IfOk result (λ params. IsShortest grammar.RsaOaepParams (oaep_of params) bytes.now) }
-        ensures one { IfOk result (λ params. (other : OaepParameters) → Means grammar.RsaOaepParams bytes.now other
-            → other ≡ oaep_of params) }
-        ensures default { IfErr result (λ e. (params : OaepParameters) → Means grammar.RsaOaepParams bytes.now params
-            → IsAsn1 (NamesDefault (oaep_fields params) bytes.now) e) }
-        ensures err { IfErr result (λ e. (params : OaepParameters)
-            → IsShortest grammar.RsaOaepParams params bytes.now → ⊥) }
-        ensures asn1 { IfErr result (IsAsn1 (λ e. TellsOfBytes e.kind)) }
-        ensures exact { IfErr result (λ e. IsAsn1 (λ e. RsaOaepParamsFault e.kind bytes.now) e
-            ⊎ ((params : OaepParameters) × Means grammar.RsaOaepParams bytes.now params
-            × IsAsn1 (NamesDefault (oaep_fields params) bytes.now) e)) }
-        ensures only { (kind : der.ErrorKind)
-            → StrictOaepFault kind bytes.now → IsErrAnd result (IsAsn1 (λ e. e.kind ≡ kind)) }
+        ensures ok { IfOk result (λ params. IsTheShortest grammar.RsaOaepParams bytes.now (oaep_of params)) }
+        ensures err { OnErr result (IsNoShortest grammar.RsaOaepParams bytes.now) }
+        ensures exact { ErrsExactly StrictOaepFault bytes.now result }
     {
         let view = RsaOaepParamsView::from_der_strict(bytes)?;
         Ok(view.keep())
@@ -267,25 +248,17 @@ impl<'a> RsaOaepParams<AnyRef<'a>> {
 
 impl<'a> TryFrom<&'a [u8]> for RsaOaepParams<AnyRef<'a>> {
     ghost use Rattle.std.specs.Prelude.{IfOk, OnErr};
-    ghost use Rattle.der_core.specs.Reading.{TellsOfBytes};
-    ghost use Rattle.der_core.specs.Document.{Means};
-    ghost use Rattle.pkcs1_params.specs.Meanings.{IsNoSentence, IsOnlyMeaning};
+    ghost use Rattle.pkcs1_params.specs.Meanings.{ErrsExactly, IsNoSentence, IsTheMeaning};
     ghost use Rattle.pkcs1_params.specs.OaepValue.{oaep_of};
-    ghost use Rattle.pkcs1_params.specs.Errors.{IsAsn1};
-    ghost use Rattle.std.specs.Prelude.{IsErrAnd};
     ghost use Rattle.pkcs1_params.specs.ParameterFaults.{RsaOaepParamsFault};
 
     type Error = Error;
 
     /// Reads a whole slice. Nothing is allocated.
     fn try_from(bytes: &'a [u8]) -> Result<RsaOaepParams<AnyRef<'a>>>
-        ensures ok { IfOk result (λ params. Means grammar.RsaOaepParams bytes.now (oaep_of params)) }
-        ensures one { IfOk result (λ params. IsOnlyMeaning grammar.RsaOaepParams bytes.now (oaep_of params)) }
+        ensures ok { IfOk result (λ params. IsTheMeaning grammar.RsaOaepParams bytes.now (oaep_of params)) }
         ensures err { OnErr result (IsNoSentence grammar.RsaOaepParams bytes.now) }
-        ensures asn1 { IfErr result (IsAsn1 (λ e. TellsOfBytes e.kind)) }
-        ensures exact { IfErr result (IsAsn1 (λ e. RsaOaepParamsFault e.kind bytes.now)) }
-        ensures only { (kind : der.ErrorKind)
-            → RsaOaepParamsFault kind bytes.now → IsErrAnd result (IsAsn1 (λ e. e.kind ≡ kind)) }
+        ensures exact { ErrsExactly RsaOaepParamsFault bytes.now result }
     {
         if is_empty_sequence(bytes) {
             return Ok(RsaOaepParams::default());

@@ -1,13 +1,13 @@
 //! The algorithm identifier id-RSAES-OAEP with its parameters (RFC 8017 A.2.1).
 ghost use Rattle.std.specs.Prelude.{◌≡◌, ◌≤◌, length, take, drop, refl, IfOk, IfErr, OnErr};
-ghost use Rattle.der_core.specs.Document.{HasEncoding, IsShortest};
+ghost use Rattle.der_core.specs.Document.{HasEncoding};
 ghost use Rattle.spki_core.specs.AlgorithmValue.{algorithm_with};
 ghost use Rattle.spki_core.specs.Any.{Any};
 ghost use Rattle.spki_core.specs.Faults.{AnyFault};
 ghost use Rattle.spki_core.specs.ObjectIdentifierValue.{own_octets_of};
 ghost use Rattle.pkcs1_params.specs.Algorithms.{id_rsaes_oaep, RsaOaepAlgorithm, RsaOaepAlgorithmFault};
 ghost use Rattle.pkcs1_params.specs.Laws.Oaep.{oaep_means_one};
-ghost use Rattle.pkcs1_params.specs.Meanings.{IsWritingError, TellsFault};
+ghost use Rattle.pkcs1_params.specs.Meanings.{IsTheShortest, IsWritingError, TellsFault};
 ghost use Rattle.pkcs1_params.specs.ParameterFaults.{OaepFault};
 ghost use Rattle.pkcs1_params.specs.Parameters.{OaepParameters, with_parameters};
 ghost use Rattle.pkcs1_params.specs.Parts.{oaep_values};
@@ -106,10 +106,8 @@ impl<P: AnyValue> RsaOaepParams<P> {
     /// shorter than it.
     pub fn encode_algorithm(&self, out: &mut [u8]) -> Result<usize>
         ensures shortest { let params = oaep_with P.any self.now in
-            IfOk result (λ n. IsShortest RsaOaepAlgorithm params (take n out.new)) }
+            IfOk result (λ n. IsTheShortest RsaOaepAlgorithm (take n out.new) params) }
         ensures rest { IfOk result (λ n. (n ≤ length out.new) × (drop n out.new ≡ drop n out.old)) }
-        ensures one { let params = oaep_with P.any self.now in
-            IfOk result (λ n. (other : OaepParameters) → RsaOaepAlgorithm other (take n out.new) → other ≡ params) }
         ensures unchanged { OnErr result (out.new ≡ out.old) }
         ensures err { IfErr result (IsWritingError RsaOaepAlgorithm (oaep_with P.any self.now) (length out.old)) }
     {

@@ -1,9 +1,6 @@
 //! RSAES-OAEP parameters over their encoding.
 ghost use Rattle.std.specs.Prelude.{◌≡◌, ◌≤◌, length, OnOk, IfErr};
-ghost use Rattle.der_core.specs.Reading.{TellsOfBytes};
-ghost use Rattle.der_core.specs.declared.error.ErrorKind as der;
 ghost use Rattle.pkcs1_params.specs.Allocating.{OaepAllocates};
-ghost use Rattle.pkcs1_params.specs.Errors.{IsAsn1};
 ghost use Rattle.pkcs1_params.specs.ParameterFaults.{RsaOaepParamsFault, StrictOaepFault};
 ghost use Rattle.pkcs1_params.specs.Parameters as grammar;
 ghost use Rattle.pkcs1_params.specs.Parameters.{OaepParameters, OaepContents, oaep_fields, sha1, mgf1_sha1, empty_label};
@@ -36,11 +33,9 @@ pub struct RsaOaepParamsView<'a> {
 }
 
 impl<'a> RsaOaepParamsView<'a> {
-    ghost use Rattle.std.specs.Prelude.{ℕ, List, drop, take, IfOk, IsErrAnd, OnErr, ◌⊎◌};
-    ghost use Rattle.der_core.specs.Document.{Means, IsShortest};
+    ghost use Rattle.std.specs.Prelude.{drop, take, IfOk, OnErr};
     ghost use Rattle.spki_core.specs.Explicit.{Masked};
-    ghost use Rattle.spki_core.specs.StrictFields.{NamesDefault};
-    ghost use Rattle.pkcs1_params.specs.Meanings.{IsWritingError};
+    ghost use Rattle.pkcs1_params.specs.Meanings.{ErrsExactly, IsNoShortest, IsTheShortest, IsWritingError};
     ghost use Rattle.pkcs1_params.specs.Spellings.{HasTwoToTheDefaults};
 
     /// The parameters as a struct that holds its identifiers.
@@ -57,19 +52,9 @@ impl<'a> RsaOaepParamsView<'a> {
 
     /// Like `RsaOaepParams::from_der_strict`.
     pub fn from_der_strict(bytes: &'a [u8]) -> Result<RsaOaepParamsView<'a>>
-        ensures ok { IfOk result (λ params. IsShortest grammar.RsaOaepParams (oaep_viewed params) bytes.now) }
-        ensures one { IfOk result (λ params. (other : OaepParameters) → Means grammar.RsaOaepParams bytes.now other
-            → other ≡ oaep_viewed params) }
-        ensures default { IfErr result (λ e. (params : OaepParameters) → Means grammar.RsaOaepParams bytes.now params
-            → IsAsn1 (NamesDefault (oaep_fields params) bytes.now) e) }
-        ensures err { IfErr result (λ e. (params : OaepParameters)
-            → IsShortest grammar.RsaOaepParams params bytes.now → ⊥) }
-        ensures asn1 { IfErr result (IsAsn1 (λ e. TellsOfBytes e.kind)) }
-        ensures exact { IfErr result (λ e. IsAsn1 (λ e. RsaOaepParamsFault e.kind bytes.now) e
-            ⊎ ((params : OaepParameters) × Means grammar.RsaOaepParams bytes.now params
-            × IsAsn1 (NamesDefault (oaep_fields params) bytes.now) e)) }
-        ensures only { (kind : der.ErrorKind)
-            → StrictOaepFault kind bytes.now → IsErrAnd result (IsAsn1 (λ e. e.kind ≡ kind)) }
+        ensures ok { IfOk result (λ params. IsTheShortest grammar.RsaOaepParams bytes.now (oaep_viewed params)) }
+        ensures err { OnErr result (IsNoShortest grammar.RsaOaepParams bytes.now) }
+        ensures exact { ErrsExactly StrictOaepFault bytes.now result }
     {
         let params = RsaOaepParamsView::try_from(bytes)?;
         reject_defaults(&params, bytes)?;
@@ -78,11 +63,10 @@ impl<'a> RsaOaepParamsView<'a> {
 
     /// Like `RsaOaepParams::encode_params`.
     pub fn encode_params(&self, out: &mut [u8]) -> Result<usize>
-        ensures shortest { IfOk result (λ n. IsShortest grammar.RsaOaepParams (oaep_viewed self.now) (take n out.new)) }
+        ensures shortest { let params = oaep_viewed self.now in
+            IfOk result (λ n. IsTheShortest grammar.RsaOaepParams (take n out.new) params) }
         ensures no_default { IfOk result (λ n. Masked (oaep_fields (oaep_viewed self.now)) 0 (take n out.new)) }
         ensures rest { IfOk result (λ n. (n ≤ length out.new) × (drop n out.new ≡ drop n out.old)) }
-        ensures one { IfOk result (λ n. (other : OaepParameters) → grammar.RsaOaepParams other (take n out.new)
-            → other ≡ oaep_viewed self.now) }
         ensures count { OnOk result (HasTwoToTheDefaults oaep_fields (oaep_viewed self.now)) }
         ensures unchanged { OnErr result (out.new ≡ out.old) }
         ensures err { IfErr result (IsWritingError grammar.RsaOaepParams (oaep_viewed self.now) (length out.old)) }
@@ -106,21 +90,16 @@ impl<'a> Default for RsaOaepParamsView<'a> {
 }
 
 impl<'a> TryFrom<&'a [u8]> for RsaOaepParamsView<'a> {
-    ghost use Rattle.std.specs.Prelude.{IfOk, IsErrAnd, OnErr};
-    ghost use Rattle.der_core.specs.Document.{Means};
-    ghost use Rattle.pkcs1_params.specs.Meanings.{IsNoSentence, IsOnlyMeaning};
+    ghost use Rattle.std.specs.Prelude.{IfOk, OnErr};
+    ghost use Rattle.pkcs1_params.specs.Meanings.{ErrsExactly, IsNoSentence, IsTheMeaning};
 
     type Error = Error;
 
     /// Reads a whole slice. Nothing is allocated.
     fn try_from(bytes: &'a [u8]) -> Result<RsaOaepParamsView<'a>>
-        ensures ok { IfOk result (λ params. Means grammar.RsaOaepParams bytes.now (oaep_viewed params)) }
-        ensures one { IfOk result (λ params. IsOnlyMeaning grammar.RsaOaepParams bytes.now (oaep_viewed params)) }
+        ensures ok { IfOk result (λ params. IsTheMeaning grammar.RsaOaepParams bytes.now (oaep_viewed params)) }
         ensures err { OnErr result (IsNoSentence grammar.RsaOaepParams bytes.now) }
-        ensures asn1 { IfErr result (IsAsn1 (λ e. TellsOfBytes e.kind)) }
-        ensures exact { IfErr result (IsAsn1 (λ e. RsaOaepParamsFault e.kind bytes.now)) }
-        ensures only { (kind : der.ErrorKind)
-            → RsaOaepParamsFault kind bytes.now → IsErrAnd result (IsAsn1 (λ e. e.kind ≡ kind)) }
+        ensures exact { ErrsExactly RsaOaepParamsFault bytes.now result }
     {
         if is_empty_sequence(bytes) {
             return Ok(RsaOaepParamsView::default());

@@ -1,11 +1,8 @@
 //! Parameters of RSASSA-PSS (RFC 8017 A.2.3).
 ghost use Rattle.std.specs.Prelude.{◌≡◌, ◌≤◌, refl, length, OnOk, IfErr};
-ghost use Rattle.der_core.specs.Reading.{TellsOfBytes};
-ghost use Rattle.der_core.specs.declared.error.ErrorKind as der;
 ghost use Rattle.pkcs1_params.specs.Allocating.{PssAllocates};
 ghost use Rattle.pkcs1_params.specs.ParameterFaults.{RsaPssParamsFault, StrictPssFault};
 ghost use Rattle.pkcs1_params.specs.Parameters as grammar;
-ghost use Rattle.pkcs1_params.specs.Errors.{IsAsn1};
 ghost use Rattle.spki_core.specs.Any.{null_value};
 ghost use Rattle.pkcs1_params.specs.Parameters.{PssParameters, PssContents, pss_fields, with_parameters, id_mgf1, sha1};
 ghost use Rattle.pkcs1_params.specs.Parameters.{mgf1_sha1};
@@ -110,9 +107,8 @@ impl<'a, M: Memory> DecodeValue<&'a [u8], M> for RsaPssParams<AnyRef<'a>> {
 }
 
 impl<P: AnyValue> RsaPssParams<P> {
-    ghost use Rattle.std.specs.Prelude.{ℕ, List, drop, take, IfOk, OnErr};
-    ghost use Rattle.der_core.specs.Document.{IsShortest};
-    ghost use Rattle.pkcs1_params.specs.Meanings.{IsWritingError};
+    ghost use Rattle.std.specs.Prelude.{drop, take, IfOk, OnErr};
+    ghost use Rattle.pkcs1_params.specs.Meanings.{IsTheShortest, IsWritingError};
     ghost use Rattle.spki_core.specs.Explicit.{Masked};
     ghost use Rattle.pkcs1_params.specs.Spellings.{HasTwoToTheDefaults};
 
@@ -134,12 +130,9 @@ impl<P: AnyValue> RsaPssParams<P> {
     /// slice is shorter than it.
     pub fn encode_params(&self, out: &mut [u8]) -> Result<usize>
         ensures shortest { let params = pss_with P.any self.now in
-            IfOk result (λ n. IsShortest grammar.RsaPssParams params (take n out.new)) }
+            IfOk result (λ n. IsTheShortest grammar.RsaPssParams (take n out.new) params) }
         ensures no_default { IfOk result (λ n. Masked (pss_fields (pss_with P.any self.now)) 0 (take n out.new)) }
         ensures rest { IfOk result (λ n. (n ≤ length out.new) × (drop n out.new ≡ drop n out.old)) }
-        ensures one { let params = pss_with P.any self.now in
-            IfOk result (λ n.
-            (other : PssParameters) → grammar.RsaPssParams other (take n out.new) → other ≡ params) }
         ensures count { OnOk result (HasTwoToTheDefaults pss_fields (pss_with P.any self.now)) }
         ensures unchanged { OnErr result (out.new ≡ out.old) }
         ensures err { IfErr result (IsWritingError grammar.RsaPssParams (pss_with P.any self.now) (length out.old)) }
@@ -190,26 +183,15 @@ impl<'a> RsaPssParams<AnyRef<'a>> {
 }
 
 impl<'a> RsaPssParams<AnyRef<'a>> {
-    ghost use Rattle.std.specs.Prelude.{ℕ, List, IfOk, IsErrAnd, ◌⊎◌};
-    ghost use Rattle.der_core.specs.Document.{Means, IsShortest};
-    ghost use Rattle.spki_core.specs.StrictFields.{NamesDefault};
+    ghost use Rattle.std.specs.Prelude.{IfOk, OnErr};
+    ghost use Rattle.pkcs1_params.specs.Meanings.{ErrsExactly, IsNoShortest, IsTheShortest};
 
     /// Like `try_from`, but rejects an encoding in which a default is written: `Noncanonical` with the tag of the first
     /// such field. So what is read is the shortest encoding of its value.
     pub fn from_der_strict(bytes: &'a [u8]) -> Result<RsaPssParams<AnyRef<'a>>>
-        ensures ok { IfOk result (λ params. IsShortest grammar.RsaPssParams (pss_of params) bytes.now) }
-        ensures one { IfOk result (λ params. (other : PssParameters) → Means grammar.RsaPssParams bytes.now other
-            → other ≡ pss_of params) }
-        ensures default { IfErr result (λ e. (params : PssParameters) → Means grammar.RsaPssParams bytes.now params
-            → IsAsn1 (NamesDefault (pss_fields params) bytes.now) e) }
-        ensures err { IfErr result (λ e. (params : PssParameters)
-            → IsShortest grammar.RsaPssParams params bytes.now → ⊥) }
-        ensures asn1 { IfErr result (IsAsn1 (λ e. TellsOfBytes e.kind)) }
-        ensures exact { IfErr result (λ e. IsAsn1 (λ e. RsaPssParamsFault e.kind bytes.now) e
-            ⊎ ((params : PssParameters) × Means grammar.RsaPssParams bytes.now params
-            × IsAsn1 (NamesDefault (pss_fields params) bytes.now) e)) }
-        ensures only { (kind : der.ErrorKind)
-            → StrictPssFault kind bytes.now → IsErrAnd result (IsAsn1 (λ e. e.kind ≡ kind)) }
+        ensures ok { IfOk result (λ params. IsTheShortest grammar.RsaPssParams bytes.now (pss_of params)) }
+        ensures err { OnErr result (IsNoShortest grammar.RsaPssParams bytes.now) }
+        ensures exact { ErrsExactly StrictPssFault bytes.now result }
     {
         let view = RsaPssParamsView::from_der_strict(bytes)?;
         Ok(view.keep())
@@ -270,21 +252,16 @@ impl<'a> Default for RsaPssParams<AnyRef<'a>> {
 }
 
 impl<'a> TryFrom<&'a [u8]> for RsaPssParams<AnyRef<'a>> {
-    ghost use Rattle.std.specs.Prelude.{ℕ, List, IfOk, IsErrAnd, OnErr};
-    ghost use Rattle.der_core.specs.Document.{Means};
-    ghost use Rattle.pkcs1_params.specs.Meanings.{IsNoSentence, IsOnlyMeaning};
+    ghost use Rattle.std.specs.Prelude.{IfOk, OnErr};
+    ghost use Rattle.pkcs1_params.specs.Meanings.{ErrsExactly, IsNoSentence, IsTheMeaning};
 
     type Error = Error;
 
     /// Reads a whole slice. Nothing is allocated.
     fn try_from(bytes: &'a [u8]) -> Result<RsaPssParams<AnyRef<'a>>>
-        ensures ok { IfOk result (λ params. Means grammar.RsaPssParams bytes.now (pss_of params)) }
-        ensures one { IfOk result (λ params. IsOnlyMeaning grammar.RsaPssParams bytes.now (pss_of params)) }
+        ensures ok { IfOk result (λ params. IsTheMeaning grammar.RsaPssParams bytes.now (pss_of params)) }
         ensures err { OnErr result (IsNoSentence grammar.RsaPssParams bytes.now) }
-        ensures asn1 { IfErr result (IsAsn1 (λ e. TellsOfBytes e.kind)) }
-        ensures exact { IfErr result (IsAsn1 (λ e. RsaPssParamsFault e.kind bytes.now)) }
-        ensures only { (kind : der.ErrorKind)
-            → RsaPssParamsFault kind bytes.now → IsErrAnd result (IsAsn1 (λ e. e.kind ≡ kind)) }
+        ensures exact { ErrsExactly RsaPssParamsFault bytes.now result }
     {
         if is_empty_sequence(bytes) {
             return Ok(RsaPssParams::default());

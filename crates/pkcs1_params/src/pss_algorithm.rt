@@ -1,13 +1,13 @@
 //! The algorithm identifier id-RSASSA-PSS with its parameters (RFC 8017 A.2.3).
 ghost use Rattle.std.specs.Prelude.{◌≡◌, ◌≤◌, length, take, drop, refl, IfOk, IfErr, OnErr};
-ghost use Rattle.der_core.specs.Document.{HasEncoding, IsShortest};
+ghost use Rattle.der_core.specs.Document.{HasEncoding};
 ghost use Rattle.spki_core.specs.AlgorithmValue.{algorithm_with};
 ghost use Rattle.spki_core.specs.Any.{Any};
 ghost use Rattle.spki_core.specs.Faults.{AnyFault};
 ghost use Rattle.spki_core.specs.ObjectIdentifierValue.{own_octets_of};
 ghost use Rattle.pkcs1_params.specs.Algorithms.{id_rsassa_pss, RsaPssAlgorithm, RsaPssAlgorithmFault};
 ghost use Rattle.pkcs1_params.specs.Laws.Pss.{pss_means_one};
-ghost use Rattle.pkcs1_params.specs.Meanings.{IsWritingError, TellsFault};
+ghost use Rattle.pkcs1_params.specs.Meanings.{IsTheShortest, IsWritingError, TellsFault};
 ghost use Rattle.pkcs1_params.specs.ParameterFaults.{PssFault};
 ghost use Rattle.pkcs1_params.specs.Parameters.{PssParameters, with_parameters};
 ghost use Rattle.pkcs1_params.specs.Parts.{pss_values};
@@ -106,10 +106,8 @@ impl<P: AnyValue> RsaPssParams<P> {
     /// shorter than it.
     pub fn encode_algorithm(&self, out: &mut [u8]) -> Result<usize>
         ensures shortest { let params = pss_with P.any self.now in
-            IfOk result (λ n. IsShortest RsaPssAlgorithm params (take n out.new)) }
+            IfOk result (λ n. IsTheShortest RsaPssAlgorithm (take n out.new) params) }
         ensures rest { IfOk result (λ n. (n ≤ length out.new) × (drop n out.new ≡ drop n out.old)) }
-        ensures one { let params = pss_with P.any self.now in
-            IfOk result (λ n. (other : PssParameters) → RsaPssAlgorithm other (take n out.new) → other ≡ params) }
         ensures unchanged { OnErr result (out.new ≡ out.old) }
         ensures err { IfErr result (IsWritingError RsaPssAlgorithm (pss_with P.any self.now) (length out.old)) }
     {

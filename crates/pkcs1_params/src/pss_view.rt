@@ -1,9 +1,6 @@
 //! RSASSA-PSS parameters over their encoding.
 ghost use Rattle.std.specs.Prelude.{◌≡◌, ◌≤◌, length, OnOk, IfErr};
-ghost use Rattle.der_core.specs.Reading.{TellsOfBytes};
-ghost use Rattle.der_core.specs.declared.error.ErrorKind as der;
 ghost use Rattle.pkcs1_params.specs.Allocating.{PssAllocates};
-ghost use Rattle.pkcs1_params.specs.Errors.{IsAsn1};
 ghost use Rattle.pkcs1_params.specs.ParameterFaults.{RsaPssParamsFault, StrictPssFault};
 ghost use Rattle.pkcs1_params.specs.Parameters as grammar;
 ghost use Rattle.pkcs1_params.specs.Parameters.{PssParameters, PssContents, pss_fields, sha1, mgf1_sha1};
@@ -39,11 +36,9 @@ pub struct RsaPssParamsView<'a> {
 }
 
 impl<'a> RsaPssParamsView<'a> {
-    ghost use Rattle.std.specs.Prelude.{ℕ, List, drop, take, IfOk, IsErrAnd, OnErr, ◌⊎◌};
-    ghost use Rattle.der_core.specs.Document.{Means, IsShortest};
+    ghost use Rattle.std.specs.Prelude.{drop, take, IfOk, OnErr};
     ghost use Rattle.spki_core.specs.Explicit.{Masked};
-    ghost use Rattle.spki_core.specs.StrictFields.{NamesDefault};
-    ghost use Rattle.pkcs1_params.specs.Meanings.{IsWritingError};
+    ghost use Rattle.pkcs1_params.specs.Meanings.{ErrsExactly, IsNoShortest, IsTheShortest, IsWritingError};
     ghost use Rattle.pkcs1_params.specs.Spellings.{HasTwoToTheDefaults};
 
     /// The parameters as a struct that holds its identifiers.
@@ -61,19 +56,9 @@ impl<'a> RsaPssParamsView<'a> {
 
     /// Like `RsaPssParams::from_der_strict`.
     pub fn from_der_strict(bytes: &'a [u8]) -> Result<RsaPssParamsView<'a>>
-        ensures ok { IfOk result (λ params. IsShortest grammar.RsaPssParams (pss_viewed params) bytes.now) }
-        ensures one { IfOk result (λ params. (other : PssParameters) → Means grammar.RsaPssParams bytes.now other
-            → other ≡ pss_viewed params) }
-        ensures default { IfErr result (λ e. (params : PssParameters) → Means grammar.RsaPssParams bytes.now params
-            → IsAsn1 (NamesDefault (pss_fields params) bytes.now) e) }
-        ensures err { IfErr result (λ e. (params : PssParameters)
-            → IsShortest grammar.RsaPssParams params bytes.now → ⊥) }
-        ensures asn1 { IfErr result (IsAsn1 (λ e. TellsOfBytes e.kind)) }
-        ensures exact { IfErr result (λ e. IsAsn1 (λ e. RsaPssParamsFault e.kind bytes.now) e
-            ⊎ ((params : PssParameters) × Means grammar.RsaPssParams bytes.now params
-            × IsAsn1 (NamesDefault (pss_fields params) bytes.now) e)) }
-        ensures only { (kind : der.ErrorKind)
-            → StrictPssFault kind bytes.now → IsErrAnd result (IsAsn1 (λ e. e.kind ≡ kind)) }
+        ensures ok { IfOk result (λ params. IsTheShortest grammar.RsaPssParams bytes.now (pss_viewed params)) }
+        ensures err { OnErr result (IsNoShortest grammar.RsaPssParams bytes.now) }
+        ensures exact { ErrsExactly StrictPssFault bytes.now result }
     {
         let params = RsaPssParamsView::try_from(bytes)?;
         reject_defaults(&params, bytes)?;
@@ -82,11 +67,10 @@ impl<'a> RsaPssParamsView<'a> {
 
     /// Like `RsaPssParams::encode_params`.
     pub fn encode_params(&self, out: &mut [u8]) -> Result<usize>
-        ensures shortest { IfOk result (λ n. IsShortest grammar.RsaPssParams (pss_viewed self.now) (take n out.new)) }
+        ensures shortest { let params = pss_viewed self.now in
+            IfOk result (λ n. IsTheShortest grammar.RsaPssParams (take n out.new) params) }
         ensures no_default { IfOk result (λ n. Masked (pss_fields (pss_viewed self.now)) 0 (take n out.new)) }
         ensures rest { IfOk result (λ n. (n ≤ length out.new) × (drop n out.new ≡ drop n out.old)) }
-        ensures one { IfOk result (λ n. (other : PssParameters) → grammar.RsaPssParams other (take n out.new)
-            → other ≡ pss_viewed self.now) }
         ensures count { OnOk result (HasTwoToTheDefaults pss_fields (pss_viewed self.now)) }
         ensures unchanged { OnErr result (out.new ≡ out.old) }
         ensures err { IfErr result (IsWritingError grammar.RsaPssParams (pss_viewed self.now) (length out.old)) }
@@ -111,21 +95,16 @@ impl<'a> Default for RsaPssParamsView<'a> {
 }
 
 impl<'a> TryFrom<&'a [u8]> for RsaPssParamsView<'a> {
-    ghost use Rattle.std.specs.Prelude.{IfOk, IsErrAnd, OnErr};
-    ghost use Rattle.der_core.specs.Document.{Means};
-    ghost use Rattle.pkcs1_params.specs.Meanings.{IsNoSentence, IsOnlyMeaning};
+    ghost use Rattle.std.specs.Prelude.{IfOk, OnErr};
+    ghost use Rattle.pkcs1_params.specs.Meanings.{ErrsExactly, IsNoSentence, IsTheMeaning};
 
     type Error = Error;
 
     /// Reads a whole slice. Nothing is allocated.
     fn try_from(bytes: &'a [u8]) -> Result<RsaPssParamsView<'a>>
-        ensures ok { IfOk result (λ params. Means grammar.RsaPssParams bytes.now (pss_viewed params)) }
-        ensures one { IfOk result (λ params. IsOnlyMeaning grammar.RsaPssParams bytes.now (pss_viewed params)) }
+        ensures ok { IfOk result (λ params. IsTheMeaning grammar.RsaPssParams bytes.now (pss_viewed params)) }
         ensures err { OnErr result (IsNoSentence grammar.RsaPssParams bytes.now) }
-        ensures asn1 { IfErr result (IsAsn1 (λ e. TellsOfBytes e.kind)) }
-        ensures exact { IfErr result (IsAsn1 (λ e. RsaPssParamsFault e.kind bytes.now)) }
-        ensures only { (kind : der.ErrorKind)
-            → RsaPssParamsFault kind bytes.now → IsErrAnd result (IsAsn1 (λ e. e.kind ≡ kind)) }
+        ensures exact { ErrsExactly RsaPssParamsFault bytes.now result }
     {
         if is_empty_sequence(bytes) {
             return Ok(RsaPssParamsView::default());

@@ -4,7 +4,6 @@ ghost use Rattle.std.specs.Prelude.{IfErr, true};
 ghost use Rattle.der_core.specs.Tag.{sequence_tag};
 ghost use Rattle.der_core.specs.BackWriters.{free_of, Prepends};
 ghost use Rattle.der_core.specs.Length.{limit};
-ghost use Rattle.der_core.specs.Document.{IsShortest};
 ghost use Rattle.der_core.specs.Encodings.{MeansOne};
 ghost use Rattle.std.specs.Option.{option_map};
 ghost use Rattle.der_core.specs.Writing.{Counts, Appends};
@@ -14,7 +13,7 @@ ghost use Rattle.der_core.specs.declared.error.ErrorKind.{ErrorKind};
 ghost use Rattle.pkcs1_params.specs.Spellings.{IsMask, IsSpelling, HasNoSpelling, StandsUnder, IsSpellingError, AllFit};
 ghost use Rattle.pkcs1_params.specs.Spellings.{AreUnder, AreMasks, AreAllSpellings, IsListingError};
 ghost use Rattle.pkcs1_params.specs.Spellings.{HasTwoToTheDefaults, encodings_in};
-ghost use Rattle.pkcs1_params.specs.Meanings.{IsWritingError};
+ghost use Rattle.pkcs1_params.specs.Meanings.{IsTheShortest, IsWritingError};
 ghost use Rattle.pkcs1_params.specs.DefaultBits.{bits_of};
 ghost use Rattle.pkcs1_params.specs.Parts.{FieldValue, AreNumbered, defaults_in, fields_with, Fielded, HasFields};
 ghost use Rattle.pkcs1_params.specs.Parts.{NoneWritten, written_fields};
@@ -158,11 +157,9 @@ pub(crate) fn spell_into<T: DefaultFields>(params: &T, mask: u8, out: &mut [u8])
 
 /// Writes the shortest encoding to the front of a slice and returns its length.
 pub(crate) fn encode_shortest<T: DefaultFields>(params: &T, out: &mut [u8]) -> Result<usize>
-    ensures shortest { IfOk result (λ n. IsShortest (Fielded T.values) (T.params params.now) (take n out.new)) }
+    ensures shortest { IfOk result (λ n. IsTheShortest (Fielded T.values) (take n out.new) (T.params params.now)) }
     ensures no_default { IfOk result (λ n. Masked (fields_with T.values (T.params params.now)) 0 (take n out.new)) }
     ensures rest { IfOk result (λ n. (n ≤ length out.new) × (drop n out.new ≡ drop n out.old)) }
-    ensures one { IfOk result (λ n. (other : T.Params) → Fielded T.values other (take n out.new)
-        → other ≡ T.params params.now) }
     ensures count { OnOk result (HasTwoToTheDefaults (fields_with T.values) (T.params params.now)) }
     ensures unchanged { OnErr result (out.new ≡ out.old) }
     ensures err { IfErr result (IsWritingError (Fielded T.values) (T.params params.now) (length out.old)) }

@@ -1,13 +1,10 @@
 //! Strict reading: encodings in which a default is written are rejected.
-ghost use Rattle.std.specs.Prelude.{◌≡◌, ℕ, OnOk, OnErr, IfErr, IsErrAnd};
-ghost use Rattle.der_core.specs.Tag.{context_tag};
-ghost use Rattle.der_core.specs.declared.tag.Tag.{Tag};
-ghost use Rattle.der_core.specs.declared.error.ErrorKind.TheVariants.{Noncanonical};
+ghost use Rattle.std.specs.Prelude.{OnOk, OnErr};
 ghost use Rattle.der_core.specs.Document.{Means, IsShortest};
-ghost use Rattle.der_core.specs.Reading.{TellsOfBytes};
-ghost use Rattle.spki_core.specs.StrictFields.{NamesNumber, NamesDefault, WritesDefault, number_in};
+ghost use Rattle.spki_core.specs.StrictFields.{NamesNumber, NamesDefault, number_in};
 ghost use Rattle.pkcs1_params.specs.Parts.{fields_with, Fielded};
 ghost use Rattle.pkcs1_params.specs.Errors.{IsAsn1};
+ghost use Rattle.pkcs1_params.specs.Meanings.{ErrsExactly};
 
 use crate::error::{Error, Result};
 use crate::spelling::DefaultFields;
@@ -15,7 +12,7 @@ use der_core::{ErrorKind, Tag, TagNumber};
 
 /// The error for a field that is written though it equals its default.
 fn is_written(number: TagNumber) -> Error
-    ensures { IsAsn1 (NamesNumber (number_in number)) result }
+    ensures { IsAsn1 (λ e. NamesNumber (number_in number) e.kind) result }
 {
     let tag = Tag::context(number);
     Error::Asn1(der_core::Error::new(ErrorKind::Noncanonical { tag }))
@@ -26,11 +23,8 @@ fn is_written(number: TagNumber) -> Error
 pub(crate) fn reject_defaults<T: DefaultFields>(params: &T, bytes: &[u8]) -> Result<()>
     requires { Means (Fielded T.values) bytes.now (T.params params.now) }
     ensures ok { OnOk result (IsShortest (Fielded T.values) (T.params params.now) bytes.now) }
-    ensures default { IfErr result (IsAsn1 (NamesDefault (fields_with T.values (T.params params.now)) bytes.now)) }
-    ensures only { (n : ℕ) (tag : Tag) → WritesDefault (fields_with T.values (T.params params.now)) n bytes.now
-        → tag.octet ≡ context_tag n → IsErrAnd result (IsAsn1 (λ e. e.kind ≡ Noncanonical tag)) }
     ensures err { OnErr result (IsShortest (Fielded T.values) (T.params params.now) bytes.now → ⊥) }
-    ensures asn1 { IfErr result (IsAsn1 (λ e. TellsOfBytes e.kind)) }
+    ensures exact { ErrsExactly (NamesDefault (fields_with T.values (T.params params.now))) bytes.now result }
 {
     match params.written_default(bytes) {
         Some(number) => Err(is_written(number)),

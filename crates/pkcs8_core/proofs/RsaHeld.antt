@@ -10,11 +10,10 @@ use Rattle.pkcs1.specs.Keys.{PrivateKey, RsaPrivateKey}
 use Rattle.pkcs1_params.specs.Errors.{IsAsn1}
 use Rattle.pkcs1_params.specs.declared.error.Error.{Error}
 use Rattle.pkcs1_params.specs.Laws.Errors.{asn1_as}
-use Rattle.pkcs1_params.specs.Laws.FaultsTold.{held_behind, fault_behind}
 use Rattle.pkcs1_params.specs.Meanings.{ErrsExactly, ErrsOrAsks, IsNoSentence, IsTheFault, IsTheMeaning, IsTheOnly}
 use Rattle.pkcs8_core.specs.Container.{Info, PrivateKeyInfo}
-use Rattle.pkcs8_core.specs.ContainerFaults.{RsaFault, RsaPrivateKeyInfoFault}
-use Rattle.pkcs8_core.specs.Laws.ContainerFaults.{info_told, rsa_is}
+use Rattle.pkcs8_core.specs.ContainerFaults.{RsaFault}
+use Rattle.pkcs8_core.specs.Laws.ContainerFaults.{rsa_is}
 use Rattle.pkcs8_core.specs.Rsa.{HoldsRsa, RsaPrivateKeyInfo, rsa_encryption}
 
 module _ (info : Info) (q : List ℕ) (same : q ≡ info.private_key) (agrees : info.algorithm ≡ rsa_encryption) where
@@ -59,7 +58,3 @@ module _ (encoding : List ℕ) (info : Info) (is : IsTheMeaning PrivateKeyInfo e
   pub none_in : {X : Type 0} (r : Result X Error) → OnErr r ((key : PrivateKey (List ℕ)) → HoldsRsa info key → ⊥) → OnErr r (IsNoSentence RsaPrivateKeyInfo encoding)
   none_in (Ok x) f = tt
   none_in (Err e) f = λ key m. f key (held key m)
-
-  pub fault_in : {X : Type 0} (r : Result X Error) → ErrsExactly RsaFault info r → ErrsExactly RsaPrivateKeyInfoFault encoding r
-  fault_in (Ok x) f = λ kind fault. f kind (held_behind info_told encoding (λ i k. RsaFault k i) info is.0 kind fault)
-  fault_in (Err e) f = asn1_as (λ a fault. fault_behind info_told encoding (λ i k. RsaFault k i) info is.0 a.kind fault) e f

@@ -7,7 +7,7 @@ use Rattle.der_core.specs.Encodings.{Then, Joins}
 use Rattle.der_core.specs.Tlv.{Tlv}
 use Rattle.der_core.specs.declared.tag.Tag.{Tag}
 use Rattle.der_core.specs.declared.tag.TagNumber.{TagNumber}
-use Rattle.der_core.specs.declared.error.Error.{Error}
+use Rattle.der_core.specs.declared.error.ErrorKind.{ErrorKind}
 use Rattle.der_core.specs.declared.error.ErrorKind.TheVariants.{Noncanonical}
 use Rattle.spki_core.specs.Any.{TagAndContents, Any}
 use Rattle.spki_core.specs.Explicit.{Field, Explicit, Defaultable, IsNext}
@@ -27,12 +27,12 @@ abbrev pub WritesDefault : List Field → ℕ → List ℕ → Type 0
 WritesDefault fields n encoding = Tlv sequence_tag (FirstWritten fields n) encoding
 
 -- The error names the tag [n].
-abbrev pub NamesNumber : ℕ → Error → Type 0
-NamesNumber n e = (tag : Tag) × (e.kind ≡ Noncanonical tag) × (tag.octet ≡ context_tag n)
+abbrev pub NamesNumber : ℕ → ErrorKind → Type 0
+NamesNumber n kind = (tag : Tag) × (kind ≡ Noncanonical tag) × (tag.octet ≡ context_tag n)
 
 -- The error names the tag of the first default that is written.
-abbrev pub NamesDefault : List Field → List ℕ → Error → Type 0
-NamesDefault fields encoding e = (n : ℕ) × NamesNumber n e × WritesDefault fields n encoding
+abbrev pub NamesDefault : List Field → ErrorKind → List ℕ → Type 0
+NamesDefault fields kind encoding = (n : ℕ) × NamesNumber n kind × WritesDefault fields n encoding
 
 -- A walk over the contents, from the field [n] on, knowing for each field whether it equals its default. A default is
 -- looked for by its octet, and each other field is skipped as an encoding of any tag.

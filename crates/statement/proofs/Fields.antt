@@ -11,11 +11,12 @@ use Rattle.der_core.specs.Members.{AreTheMembers}
 use Rattle.der_core.specs.Tlv as tlvs
 use Rattle.spki_core.specs.Explicit as fields
 use Rattle.spki_core.specs.Explicit.{Explicit, Defaultable, FieldSequence, MaskedField, left_out, written, forced, MaskedContents, Masked, AllExplicit, HaveDefaults}
+use Rattle.pkcs1_params.specs.Meanings.{IsTheMeaning, IsTheShortest}
 use Rattle.pkcs1_params.specs.Spellings as spellings
 use Rattle.pkcs1_params.specs.declared.error.Error.{Error}
 use Rattle.pkcs1_params.specs.declared.error.Error.TheVariants as error
 use Rattle.statement.specs.Statement.{tlv, sequence, limit, Field, field, Fields, FieldsUnder, Defaults, SequenceOf, longest, AreAll, Lists, TwoToTheDefaults, IsShortest}
-use Rattle.statement.proofs.Der.{tlv_is, tlv_made, tlv_fit}
+use Rattle.statement.proofs.Der.{moved, tlv_is, tlv_made, tlv_fit}
 use Rattle.statement.proofs.Algorithms.{Written}
 
 -- A field of the library and one of the statement.
@@ -188,6 +189,16 @@ module _ {W V : Type 0} {from : W → V} {to : V → W} {fs : W → List fields.
 
   pub is_shortest : (w : W) (bytes : List ℕ) → IsShortest Encoding (from w) bytes → documents.IsShortest Grammar w bytes
   is_shortest w bytes p = record { spells = meant w bytes p.0; least = λ other q. p.1 other (sentence w other q) }
+
+  module _ (w : W) {v : V} (same : from w ≡ v) (bytes : List ℕ) where
+    only : ((u : W) → Means Grammar bytes u → u ≡ w) → (u : V) → Encoding u bytes → u ≡ v
+    only one u e = sym (s.back u) ∙ ap from (one (to u) (means u bytes e)) ∙ same
+
+    pub read : IsTheMeaning Grammar bytes w → Encoding v bytes × ((u : V) → Encoding u bytes → u ≡ v)
+    read m = (moved Encoding same (sentence w bytes m.0), only m.1)
+
+    pub read_strictly : IsTheShortest Grammar bytes w → IsShortest Encoding v bytes × ((u : V) → IsShortest Encoding u bytes → u ≡ v)
+    read_strictly m = (moved (IsShortest Encoding) same (shortest w bytes m.0), λ u e. only m.1 u e.0)
 
   pub under : (w : W) (mask : ℕ) (bytes : List ℕ) → spellings.IsSpelling (fs w) mask bytes → Under mask (from w) bytes
   under w mask bytes (l, p) =

@@ -11,9 +11,10 @@ use Rattle.der_core.specs.Tlv.{Tlv}
 use Rattle.spki_core.specs.Laws.IdentifierTest.{is_identifier-sound}
 use Rattle.spki_core.specs.ObjectIdentifier.{IsIdentifier}
 use Rattle.pkcs1_params.specs.Algorithms.{AlgorithmOf}
+use Rattle.pkcs1_params.specs.Meanings.{IsTheMeaning, IsTheShortest}
 use Rattle.pkcs1_params.specs.Laws.Algorithms.{parameters_in, with_encoded, parameters_shorter, identifier_made, identifier_grows, same_parameters}
-use Rattle.statement.specs.Statement.{tlv, sequence, limit, AlgorithmEncoding, IsShortest, Field, Fields, FieldsUnder, SequenceOf, Defaults, longest, AreAll, TwoToTheDefaults, TwoToTheDefaultsIn, id_rsassa_pss, id_rsaes_oaep}
-use Rattle.statement.proofs.Der.{tlv_is, tlv_made, tlv_fit}
+use Rattle.statement.specs.Statement.{tlv, sequence, limit, AlgorithmEncoding, IsShortest, Field, Fields, FieldsUnder, SequenceOf, longest, AreAll, TwoToTheDefaults, TwoToTheDefaultsIn, id_rsassa_pss, id_rsaes_oaep}
+use Rattle.statement.proofs.Der.{moved, tlv_is, tlv_made, tlv_fit}
 use Rattle.statement.proofs.Fields as parameters
 use Rattle.statement.proofs.Fields.{Sides, all_written}
 use Rattle.spki_core.specs.Explicit as fields
@@ -89,6 +90,16 @@ module _ (oid : List ℕ) (identifier : IsIdentifier oid) where
 
     pub is_shortest : (w : W) (bytes : List ℕ) → IsShortest Encoding (from w) bytes → documents.IsShortest Grammar w bytes
     is_shortest w bytes p = record { spells = meant w bytes p.0; least = λ other q. p.1 other (sentence w other q) }
+
+    module _ (w : W) {v : V} (same : from w ≡ v) (bytes : List ℕ) where
+      only : ((u : W) → Means Grammar bytes u → u ≡ w) → (u : V) → Encoding u bytes → u ≡ v
+      only one u e = sym (s.back u) ∙ ap from (one (to u) (means u bytes e)) ∙ same
+
+      pub read : IsTheMeaning Grammar bytes w → Encoding v bytes × ((u : V) → Encoding u bytes → u ≡ v)
+      read m = (moved Encoding same (sentence w bytes m.0), only m.1)
+
+      pub read_strictly : IsTheShortest Grammar bytes w → IsShortest Encoding v bytes × ((u : V) → IsShortest Encoding u bytes → u ≡ v)
+      read_strictly m = (moved (IsShortest Encoding) same (shortest w bytes m.0), λ u e. only m.1 u e.0)
 
   -- All encodings, by those of the parameters.
   module _ {V : Type 0} {Is' : V → Type 0} {gs : V → List Field} (v : V) (k : ℕ) (l : length (wrapped (longest (gs v))) ≤ limit) (all : List (List ℕ)) (a : AreAll (λ E. E) Is' gs v k all) where

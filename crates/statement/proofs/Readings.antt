@@ -2,7 +2,7 @@
 use Rattle.std.proofs.Common.{ℕ, Bool, true, false, List, [], ◌∷◌, ◌++◌, ◌≡◌, ◌≢◌, ◌<◌, ◌≤◌, ◌==◌, length, drop, refl, sym, ap, ◌∙◌, arith, inl, inr, length-append, append-nil, Result, Ok, Err}
 use Rattle.std.proofs.Math.Seq.{take-append_seam, drop-append_seam}
 use Rattle.std.proofs.lemmas.Bool.Decides.{nat_tests}
-use Rattle.std.specs.Prelude.{nat_lt, if◌then◌else◌, IfOk, IfErr}
+use Rattle.std.specs.Prelude.{nat_lt, if◌then◌else◌, IfOk}
 use Rattle.der_core.specs.Document.{Means}
 use Rattle.der_core.specs.Encodings.{AreBytes, Then}
 use Rattle.der_core.specs.Faults.{EncodingFault, in_header, other_tag, too_short, in_contents, ThenFault, EndFault, AloneFault, WholeFault}
@@ -16,11 +16,9 @@ use Rattle.der_core.specs.declared.error.Error as der
 use Rattle.der_core.specs.declared.error.ErrorKind.{ErrorKind}
 use Rattle.der_core.specs.declared.error.ErrorKind.TheVariants.{Incomplete, TagUnexpected, TagUnknown, TrailingData}
 use Rattle.der_core.specs.declared.tag.Tag.{Tag}
-use Rattle.pkcs1_params.specs.Errors.{IsAsn1}
 use Rattle.pkcs1_params.specs.declared.error.Error.{Error}
 use Rattle.pkcs1_params.specs.declared.error.Error.TheVariants as error
-use Rattle.pkcs1_params.specs.Laws.Errors.{asn1_as}
-use Rattle.pkcs1_params.specs.Meanings.{ErrsExactly, FailsExactly, IsTheFault, IsTheOnly}
+use Rattle.pkcs1_params.specs.Meanings.{ErrsExactly, FailsExactly, IsTheOnly}
 use Rattle.statement.specs.Statement.{limit}
 use Rattle.statement.specs.Reading.{Reading, ◌>>=◌, chain, ended, such, checked, unexpected, behind_header, tagged, whole, Returns, ReturnsDer}
 
@@ -115,21 +113,14 @@ module _ {V W : Type 0} {Encoding : V → List ℕ → Type 0} {Fault : ErrorKin
       rw no (alone_rejects.rejects k c (within, b) f)
 
 -- What a call returned that keeps its contract: the function gave it.
-module _ {X V W : Type 0} (held : X → V) (value : V → W) (holds : X → W) (same : (x : X) → value (held x) ≡ holds x) (Means : V → Type 0) (Fault : ErrorKind → Type 0) (given : Result (W × List ℕ) ErrorKind)
-    (takes : (v : V) → Means v → given ≡ Ok (value v, [])) (rejects : (k : ErrorKind) → Fault k → given ≡ Err k) where
-  pub returned : (r : Result X Error) → IfOk r (λ x. Means (held x)) → IfErr r (IsAsn1 (λ e. Fault e.kind)) → Returns holds given r
-  returned (Ok x) ok err = takes (held x) ok ∙ ap (λ w. Ok (w, [])) (same x)
-  returned (Err (error.Asn1 e)) ok err = rejects e.kind err
+module _ {X V W Read : Type 0} (held : X → V) (value : V → W) (holds : X → W) (same : (x : X) → value (held x) ≡ holds x) (Means : V → Type 0) (Fault : ErrorKind → Read → Type 0) (read : Read) (given : Result (W × List ℕ) ErrorKind)
+    (takes : (v : V) → Means v → given ≡ Ok (value v, [])) (rejects : (k : ErrorKind) → Fault k read → given ≡ Err k) where
+  pub returned : (r : Result X Error) → IfOk r (λ x. IsTheOnly Means (held x)) → ErrsExactly Fault read r → Returns holds given r
+  returned (Ok x) ok err = takes (held x) ok.0 ∙ ap (λ w. Ok (w, [])) (same x)
+  returned (Err (error.Asn1 e)) ok err = rejects e.kind err.1
   returned (Err error.Crypto) ok err = absurd err
   returned (Err error.KeyMalformed) ok err = absurd err
   returned (Err error.Version) ok err = absurd err
-
--- The same of contracts that say that the meaning is the only one, and which fault is told.
-module _ {X V W Read : Type 0} (held : X → V) (value : V → W) (holds : X → W) (same : (x : X) → value (held x) ≡ holds x) (Means : V → Type 0) (Fault : ErrorKind → Read → Type 0) (read : Read) (given : Result (W × List ℕ) ErrorKind)
-    (takes : (v : V) → Means v → given ≡ Ok (value v, [])) (rejects : (k : ErrorKind) → Fault k read → given ≡ Err k) where
-  pub returned_exactly : (r : Result X Error) → IfOk r (λ x. IsTheOnly Means (held x)) → ErrsExactly Fault read r → Returns holds given r
-  returned_exactly (Ok x) ok err = returned held value holds same Means (λ k. Fault k read) given takes rejects (Ok x) ok.0 tt
-  returned_exactly (Err e) ok err = returned held value holds same Means (λ k. Fault k read) given takes rejects (Err e) tt (asn1_as {P = λ (a : der.Error). IsTheFault Fault read a.kind} (λ a fault. fault.1) e err)
 
   pub returned_der : (r : Result X der.Error) → IfOk r (λ x. IsTheOnly Means (held x)) → FailsExactly Fault read r → ReturnsDer holds given r
   returned_der (Ok x) ok err = takes (held x) ok.0 ∙ ap (λ w. Ok (w, [])) (same x)

@@ -5,9 +5,8 @@ use Rattle.der_core.specs.declared.error.ErrorKind.TheVariants.{Value}
 use Rattle.der_core.specs.declared.tag.Tag.{Tag}
 use Rattle.der_core.specs.Laws.Expected.{expected_fault_none, expected_fault_first}
 use Rattle.der_core.specs.Laws.Growing.{tlv_recast}
-use Rattle.der_core.specs.Document.{Means}
 use Rattle.der_core.specs.Faults.{EncodingFault, AloneFault, EndFault, SmallFault, AreNone, AreFirst}
-use Rattle.der_core.specs.Laws.Faults.{small_fault_none, small_fault_first, encoding_fault_none, encoding_fault_first, alone_fault_none, alone_fault_first, end_fault_none, end_fault_first, whole_fault_none, whole_fault_first}
+use Rattle.der_core.specs.Laws.Faults.{small_fault_none, small_fault_first, encoding_fault_none, encoding_fault_first, alone_fault_none, alone_fault_first, end_fault_none, end_fault_first}
 use Rattle.der_core.specs.Integer.{Small, SmallContents}
 use Rattle.der_core.specs.Laws.Integer.{small_delimited, small_means_one}
 use Rattle.der_core.specs.Length.{limit}
@@ -28,6 +27,7 @@ use Rattle.spki_core.specs.Explicit.{Field, field, Defaultable, FieldRead}
 use Rattle.spki_core.specs.Laws.Faults.{algorithm_fault_none, algorithm_fault_first, any_fault_none, any_fault_first}
 use Rattle.spki_core.specs.Faults.{AnyFault, AlgorithmFault, FieldThenFault}
 use Rattle.spki_core.specs.Laws.FieldEncodings.{AreLater}
+use Rattle.pkcs1_params.specs.Laws.FaultsTold.{AreTold, tagged_told}
 use Rattle.pkcs1_params.specs.Laws.HashFields.{later_still}
 use Rattle.pkcs1_params.specs.ParameterFaults.{tag_0, tag_1, tag_2, tag_3, TrailerFault, PlainFault, HashFault, MaskFault, SaltFault, SourceFault, TrailerFieldFault, PssFault, OaepFault, RsaPssParamsFault, RsaOaepParamsFault}
 use Rattle.pkcs1_params.specs.Parameters.{sha1, mgf1_sha1, empty_label, TrailerContents, TrailerField, hash_fields_then, PssParameters, PssContents, OaepParameters, OaepContents, RsaPssParams, RsaOaepParams}
@@ -186,26 +186,8 @@ module _ where
   itself : HoldsAny (λ (v : TagAndContents). v) Any (λ v. v)
   itself = holds_itself (λ v. v)
 
-  pss_is : IsDelimited RsaPssParams
-  pss_is = tlv_delimited 48 PssContents pss_means_one
+  pub pss_told : AreTold RsaPssParams RsaPssParamsFault
+  pss_told = tagged_told sequence PssContents (PssFault Any AnyFault) pss_means_one (pss_fault_none Any AnyFault any_delimited any_fault_none itself) (pss_fault_first Any AnyFault any_delimited any_fault_none itself any_fault_first)
 
-  pss_none : AreNone (NoneIn RsaPssParams) (EncodingFault sequence (PssFault Any AnyFault))
-  pss_none = encoding_fault_none sequence (PssFault Any AnyFault) PssContents (pss_fault_none Any AnyFault any_delimited any_fault_none itself)
-
-  pub pss_whole_none : (k : ErrorKind) (b : List ℕ) → RsaPssParamsFault k b → (v : PssParameters) → Means RsaPssParams b v → ⊥
-  pss_whole_none = whole_fault_none RsaPssParams _ pss_is pss_none
-
-  pub pss_whole_first : (j k : ErrorKind) (b : List ℕ) → RsaPssParamsFault j b → RsaPssParamsFault k b → j ≡ k
-  pss_whole_first = whole_fault_first RsaPssParams _ pss_is pss_none (encoding_fault_first sequence _ (pss_fault_first Any AnyFault any_delimited any_fault_none itself any_fault_first))
-
-  oaep_is : IsDelimited RsaOaepParams
-  oaep_is = tlv_delimited 48 OaepContents oaep_means_one
-
-  oaep_none : AreNone (NoneIn RsaOaepParams) (EncodingFault sequence (OaepFault Any AnyFault))
-  oaep_none = encoding_fault_none sequence (OaepFault Any AnyFault) OaepContents (oaep_fault_none Any AnyFault any_delimited any_fault_none itself)
-
-  pub oaep_whole_none : (k : ErrorKind) (b : List ℕ) → RsaOaepParamsFault k b → (v : OaepParameters) → Means RsaOaepParams b v → ⊥
-  oaep_whole_none = whole_fault_none RsaOaepParams _ oaep_is oaep_none
-
-  pub oaep_whole_first : (j k : ErrorKind) (b : List ℕ) → RsaOaepParamsFault j b → RsaOaepParamsFault k b → j ≡ k
-  oaep_whole_first = whole_fault_first RsaOaepParams _ oaep_is oaep_none (encoding_fault_first sequence _ (oaep_fault_first Any AnyFault any_delimited any_fault_none itself any_fault_first))
+  pub oaep_told : AreTold RsaOaepParams RsaOaepParamsFault
+  oaep_told = tagged_told sequence OaepContents (OaepFault Any AnyFault) oaep_means_one (oaep_fault_none Any AnyFault any_delimited any_fault_none itself) (oaep_fault_first Any AnyFault any_delimited any_fault_none itself any_fault_first)

@@ -1,19 +1,11 @@
-use Rattle.std.proofs.Common.{sym, ap, ◌∙◌}
 use Rattle.spki_core.specs.AnyRefValue.{any_of}
-use Rattle.pkcs1_params.specs.PssValue.{pss_of}
-use Rattle.statement.specs.Statement.{PssEncoding}
-use Rattle.statement.proofs.Der.{moved}
 use Rattle.statement.proofs.Held.{pss_holds}
-use Rattle.statement.proofs.Fields.{sentence, means}
-use Rattle.statement.proofs.Pss.{from, to, sides}
+use Rattle.statement.proofs.Fields.{read, means}
+use Rattle.statement.proofs.Pss.{to, sides}
 use Rattle.statement.proofs.read_pss_params.Goals as goal
 
 pub returns-in-Ok : goal.returns-in-Ok
-returns-in-Ok c =
-    let same = pss_holds any_of c.in-Ok.value in (
-      moved PssEncoding same (sentence sides (pss_of c.in-Ok.value) _ c.in-Ok.ensures.ok),
-      λ w p. sym (sides.back w) ∙ ap from (c.in-Ok.ensures.one (to w) (means sides w _ p)) ∙ same,
-    )
+returns-in-Ok c = read sides _ (pss_holds any_of c.in-Ok.value) _ c.in-Ok.ensures.ok
 
 pub returns-in-Err : goal.returns-in-Err
 returns-in-Err c v p = c.in-Err.ensures.err (to v) (means sides v _ p)

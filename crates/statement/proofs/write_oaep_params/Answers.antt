@@ -12,7 +12,7 @@ use Rattle.statement.proofs.write_oaep_params.Goals as goal
 pub returns-in-Ok : goal.returns-in-Ok
 returns-in-Ok c =
     let p = c.args.params.now in
-    (c.in-Ok.ensures.rest.0, moved (IsShortest OaepEncoding) (oaep_holds any_of p) (shortest sides (oaep_of p) _ c.in-Ok.ensures.shortest), c.in-Ok.ensures.rest.1)
+    (c.in-Ok.ensures.rest.0, moved (IsShortest OaepEncoding) (oaep_holds any_of p) (shortest sides (oaep_of p) _ c.in-Ok.ensures.shortest.0), c.in-Ok.ensures.rest.1)
 
 pub returns-in-Err : goal.returns-in-Err
 returns-in-Err c =

@@ -12,7 +12,7 @@ use Rattle.statement.proofs.write_pss_params.Goals as goal
 pub returns-in-Ok : goal.returns-in-Ok
 returns-in-Ok c =
     let p = c.args.params.now in
-    (c.in-Ok.ensures.rest.0, moved (IsShortest PssEncoding) (pss_holds any_of p) (shortest sides (pss_of p) _ c.in-Ok.ensures.shortest), c.in-Ok.ensures.rest.1)
+    (c.in-Ok.ensures.rest.0, moved (IsShortest PssEncoding) (pss_holds any_of p) (shortest sides (pss_of p) _ c.in-Ok.ensures.shortest.0), c.in-Ok.ensures.rest.1)
 
 pub returns-in-Err : goal.returns-in-Err
 returns-in-Err c =

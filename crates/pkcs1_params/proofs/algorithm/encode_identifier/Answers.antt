@@ -22,11 +22,6 @@ pub returns-clause-shortest : goal.returns-clause-shortest
 returns-clause-shortest g c =
     let t = g.T.Contents in
     let made = c.with_identifier-algorithm in
-    front_of (λ v encoding. Tlv g.T.FixedTag.TAG.octet (t.contents v) encoding) g.D.AssociatedOid.contents (algorithm_with t.value made.result) (t.value c.args.params) made.ensures.means _ _ c.args.out.now c.encode_into.new.out
-    c.in_ok-encode_into.ensures.ok c.in_ok-encode_into.ensures.shortest
-
-pub returns-clause-one : goal.returns-clause-one
-returns-clause-one g c other q =
-    let t = g.T.Contents in
-    let s = returns-clause-shortest g c in
-    means_one (algorithm_of_delimited (λ v encoding. Tlv g.T.FixedTag.TAG.octet (t.contents v) encoding) g.D.AssociatedOid.contents (tlv_delimited g.T.FixedTag.TAG.octet t.contents t.means_one)) other (t.value c.args.params) _ q s.spells.1
+    let s = front_of (λ v encoding. Tlv g.T.FixedTag.TAG.octet (t.contents v) encoding) g.D.AssociatedOid.contents (algorithm_with t.value made.result) (t.value c.args.params) made.ensures.means _ _ c.args.out.now c.encode_into.new.out
+    c.in_ok-encode_into.ensures.ok c.in_ok-encode_into.ensures.shortest in
+    (s, λ other q. means_one (algorithm_of_delimited (λ v encoding. Tlv g.T.FixedTag.TAG.octet (t.contents v) encoding) g.D.AssociatedOid.contents (tlv_delimited g.T.FixedTag.TAG.octet t.contents t.means_one)) other (t.value c.args.params) _ q.1 s.spells.1)

@@ -14,18 +14,13 @@ spell_into-requires g c = let t = g.T.DefaultFields in zero_in_range t.values t.
 pub returns-clause-shortest : goal.returns-clause-shortest
 returns-clause-shortest g c =
     let t = g.T.DefaultFields in
-    if_ok_as c.spell_into.result (λ n s. zero_is_shortest t.values t.numbered (t.params c.args.params.now) _ s.spelling) c.spell_into.ensures.stands
+    let v = t.params c.args.params.now in
+    if_ok_as c.spell_into.result
+    (λ n s. (zero_is_shortest t.values t.numbered v _ s.spelling, λ other p. means_one (tlv_delimited 48 (FieldContents t.values) t.fields_mean_one) other v _ p.1 (masked_spells (fields_with t.values v) 0 _ s.spelling.1)))
+    c.spell_into.ensures.stands
 
 pub returns-clause-no_default : goal.returns-clause-no_default
 returns-clause-no_default g c = if_ok_as c.spell_into.result (λ n s. s.spelling.1) c.spell_into.ensures.stands
-
-pub returns-clause-one : goal.returns-clause-one
-returns-clause-one g c =
-    let t = g.T.DefaultFields in
-    let v = t.params c.args.params.now in
-    if_ok_as c.spell_into.result
-    (λ n s other p. means_one (tlv_delimited 48 (FieldContents t.values) t.fields_mean_one) other v _ p (masked_spells (fields_with t.values v) 0 _ s.spelling.1))
-    c.spell_into.ensures.stands
 
 pub returns-clause-count : goal.returns-clause-count
 returns-clause-count g c =

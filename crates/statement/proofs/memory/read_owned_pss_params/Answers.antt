@@ -1,30 +1,22 @@
-use Rattle.std.proofs.Common.{sym, ap, ◌∙◌, Option}
+use Rattle.std.proofs.Common.{Option}
 use Rattle.std.specs.Option.{option_map}
 use Rattle.der_core.specs.Reading.{TellsOfBytes}
 use Rattle.spki_core.specs.OwnedAnyValue.{own_any_of}
 use Rattle.spki_core.specs.declared.owned_any.Any.{Any}
-use Rattle.pkcs1_params.specs.PssValue.{pss_with}
-use Rattle.pkcs1_params.specs.Laws.Parameters.{pss_delimited}
+use Rattle.pkcs1_params.specs.Laws.FaultsTold.{the_meaning}
+use Rattle.pkcs1_params.specs.Laws.ParameterFaults.{pss_told}
 use Rattle.pkcs1_params.specs.declared.pss.RsaPssParams.{RsaPssParams}
 use Rattle.pkcs1_params.specs.declared.error.Error.TheVariants as error
-use Rattle.der_core.specs.Laws.Shortest.{means_one}
 use Rattle.statement.specs.Statement.{Decodes, PssEncoding}
 use Rattle.statement.specs.Held.{rsa_pss_params, any}
-use Rattle.statement.proofs.Der.{moved}
 use Rattle.statement.proofs.Held.{pss_holds}
 use Rattle.statement.proofs.OutOfMemory.{rejected, no_value}
-use Rattle.statement.proofs.Fields.{sentence, means}
-use Rattle.statement.proofs.Pss.{from, to, sides}
+use Rattle.statement.proofs.Fields.{read, means}
+use Rattle.statement.proofs.Pss.{to, sides}
 use Rattle.statement.proofs.memory.read_owned_pss_params.Goals as goal
 
 pub returns-in-Ok : goal.returns-in-Ok
-returns-in-Ok c =
-    let p = pss_with own_any_of c.in-Ok.value in
-    let same = pss_holds own_any_of c.in-Ok.value in
-    let read = c.in-Ok.ensures.encoding in (
-      moved PssEncoding same (sentence sides p _ read),
-      λ w q. sym (sides.back w) ∙ ap from (means_one pss_delimited (to w) p _ (means sides w _ q).1 read.1) ∙ same,
-    )
+returns-in-Ok c = read sides _ (pss_holds own_any_of c.in-Ok.value) _ (the_meaning pss_told _ _ c.in-Ok.ensures.encoding)
 
 pub returns-in-Err : goal.returns-in-Err
 returns-in-Err c =

@@ -1,8 +1,6 @@
-use Rattle.std.proofs.Common.{◌≡◌, ◌∙◌, length, take, IfOk, IfErr, sym, subst}
-use Rattle.der_core.specs.Document.{IsShortest}
+use Rattle.std.proofs.Common.{◌∙◌, length, take, IfOk, IfErr, sym, subst}
 use Rattle.pkcs1_params.specs.Algorithms.{RsaOaepAlgorithm}
-use Rattle.pkcs1_params.specs.Meanings.{IsWritingError}
-use Rattle.pkcs1_params.specs.Parameters.{OaepParameters}
+use Rattle.pkcs1_params.specs.Meanings.{IsTheShortest, IsWritingError}
 use Rattle.pkcs1_params.specs.Parts.{oaep_values, HasFields}
 use Rattle.pkcs1_params.proofs.oaep.RsaOaepParams.encode_algorithm.Goals as goal
 
@@ -11,11 +9,7 @@ encode_identifier-requires-clause-has g c = subst (λ p. HasFields (oaep_values 
 
 pub returns-clause-shortest : goal.returns-clause-shortest
 returns-clause-shortest g c =
-    subst (λ p. IfOk c.encode_identifier.result (λ n. IsShortest RsaOaepAlgorithm p (take n c.encode_identifier.new.out))) (c.keep.ensures ∙ c.as_view-view.ensures) c.encode_identifier.ensures.shortest
-
-pub returns-clause-one : goal.returns-clause-one
-returns-clause-one g c =
-    subst (λ p. IfOk c.encode_identifier.result (λ n. (other : OaepParameters) → RsaOaepAlgorithm other (take n c.encode_identifier.new.out) → other ≡ p)) (c.keep.ensures ∙ c.as_view-view.ensures) c.encode_identifier.ensures.one
+    subst (λ p. IfOk c.encode_identifier.result (λ n. IsTheShortest RsaOaepAlgorithm (take n c.encode_identifier.new.out) p)) (c.keep.ensures ∙ c.as_view-view.ensures) c.encode_identifier.ensures.shortest
 
 pub returns-clause-err : goal.returns-clause-err
 returns-clause-err g c = subst (λ p. IfErr c.encode_identifier.result (IsWritingError RsaOaepAlgorithm p (length c.args.out.now))) (c.keep.ensures ∙ c.as_view-view.ensures) c.encode_identifier.ensures.err

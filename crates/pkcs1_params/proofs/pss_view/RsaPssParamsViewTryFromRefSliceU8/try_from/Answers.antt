@@ -1,45 +1,26 @@
-use Rattle.std.proofs.Common.{◌≡◌, [], ◌∷◌, ⊎_elim, arith}
 use Rattle.std.proofs.lemmas.Result.{err_from_is_err_and}
+use Rattle.pkcs1_params.specs.Laws.FaultsTold.{the_fault, the_meaning}
+use Rattle.pkcs1_params.specs.Laws.ParameterFaults.{pss_told}
 use Rattle.pkcs1_params.proofs.NothingAsked.{pss_asks}
-use Rattle.pkcs1_params.specs.Laws.ParameterFaults.{pss_whole_none, pss_whole_first}
-use Rattle.der_core.specs.Document.{Means}
-use Rattle.pkcs1_params.specs.Parameters as grammar
-use Rattle.pkcs1_params.specs.PssValue.{pss_viewed}
-use Rattle.pkcs1_params.proofs.ParameterRows.{pss_all_left_out}
-use Rattle.der_core.specs.Laws.Shortest.{means_one}
-use Rattle.pkcs1_params.specs.Laws.Parameters.{pss_delimited}
+use Rattle.pkcs1_params.proofs.ParameterRows.{pss_by_default}
 use Rattle.pkcs1_params.proofs.pss_view.RsaPssParamsViewTryFromRefSliceU8.try_from.Goals as goal
 
-pub returns-clause-one : goal.returns-clause-one
-returns-clause-one c other p = means_one pss_delimited other _ _ p.1 c.in_ok-params.ensures.encoding.1
+pub returns-then-is_empty_sequence-clause-ok : goal.returns-then-is_empty_sequence-clause-ok
+returns-then-is_empty_sequence-clause-ok c =
+    the_meaning pss_told _ _ (pss_by_default _ _ (c.is_empty_sequence.ensures c.if-is_empty_sequence.true) c.default.ensures)
+
+pub returns-then-is_empty_sequence-clause-exact : goal.returns-then-is_empty_sequence-clause-exact
+returns-then-is_empty_sequence-clause-exact c kind fault =
+    pss_told.none kind _ fault _ (pss_by_default _ _ (c.is_empty_sequence.ensures c.if-is_empty_sequence.true) c.default.ensures)
+
+pub returns-clause-ok : goal.returns-clause-ok
+returns-clause-ok c = the_meaning pss_told _ _ c.in_ok-params.ensures.encoding
+
+pub returns-clause-exact : goal.returns-clause-exact
+returns-clause-exact c kind fault = pss_told.none kind _ fault _ c.in_ok-params.ensures.encoding
 
 pub returns-in_err-params-clause-exact : goal.returns-in_err-params-clause-exact
 returns-in_err-params-clause-exact c =
     let p = err_from_is_err_and c.from_residual.result c.from_residual.ensures.1 in
-    rw (p.1, p.2) (⊎_elim (λ w. absurd (pss_asks _ w.1)) (λ f. f) c.in_err-params.ensures.exact)
-
-pub returns-in_err-params-clause-only : goal.returns-in_err-params-clause-only
-returns-in_err-params-clause-only c kind fault =
-    let p = err_from_is_err_and c.from_residual.result c.from_residual.ensures.1 in
-    rw (p.1, p.2) (pss_whole_first _ kind _ (⊎_elim (λ w. absurd (pss_asks _ w.1)) (λ f. f) c.in_err-params.ensures.exact) fault)
-
-pub returns-clause-only : goal.returns-clause-only
-returns-clause-only c kind fault = absurd (pss_whole_none kind _ fault _ c.in_ok-params.ensures.encoding)
-
-pub returns-then-is_empty_sequence-clause-ok : goal.returns-then-is_empty_sequence-clause-ok
-returns-then-is_empty_sequence-clause-ok c =
-    let empty : c.args.bytes.now ≡ 48 ∷ 0 ∷ [] = c.is_empty_sequence.ensures c.if-is_empty_sequence.true in
-    let means : Means grammar.RsaPssParams c.args.bytes.now (pss_viewed c.default.result) = rw (empty, c.default.ensures) (omega arith, pss_all_left_out) in
-    means
-
-pub returns-then-is_empty_sequence-clause-one : goal.returns-then-is_empty_sequence-clause-one
-returns-then-is_empty_sequence-clause-one c other p =
-    let empty : c.args.bytes.now ≡ 48 ∷ 0 ∷ [] = c.is_empty_sequence.ensures c.if-is_empty_sequence.true in
-    let means : Means grammar.RsaPssParams c.args.bytes.now (pss_viewed c.default.result) = rw (empty, c.default.ensures) (omega arith, pss_all_left_out) in
-    means_one pss_delimited other _ _ p.1 means.1
-
-pub returns-then-is_empty_sequence-clause-only : goal.returns-then-is_empty_sequence-clause-only
-returns-then-is_empty_sequence-clause-only c kind fault =
-    let empty : c.args.bytes.now ≡ 48 ∷ 0 ∷ [] = c.is_empty_sequence.ensures c.if-is_empty_sequence.true in
-    let means : Means grammar.RsaPssParams c.args.bytes.now (pss_viewed c.default.result) = rw (empty, c.default.ensures) (omega arith, pss_all_left_out) in
-    absurd (pss_whole_none kind _ fault _ means)
+    let e = c.in_err-params.ensures in
+    rw (p.1, p.2) (the_fault pss_told (pss_asks _) _ e.encoding e.exact)
