@@ -1,7 +1,8 @@
 //! RSA keys in PKCS #8 containers.
-ghost use Rattle.std.specs.Prelude.{◌≡◌, ◌≢◌, ◌<◌, ℕ, List, Option, drop, IfOk, IfErr};
+ghost use Rattle.std.specs.Prelude.{◌≡◌, ◌≢◌, ℕ, List, Option, drop, IfOk};
 ghost use Rattle.std.specs.Prelude.{OnErr};
 ghost use Rattle.der_core.specs.Document.{Means, IsShortest, HasEncoding};
+ghost use Rattle.pkcs1.specs.KeyFaults.{RsaPrivateKeyFault};
 ghost use Rattle.pkcs1.specs.Keys.{OtherPrime as Prime, PrivateKey as Key};
 ghost use Rattle.pkcs1.specs.ViewParts.{view_of, viewed_encoding};
 ghost use Rattle.pkcs8_core.specs.Container as container;
@@ -9,14 +10,14 @@ ghost use Rattle.pkcs1_params.specs.Meanings.{ErrsExactly, IsTheMeaning, IsTheOn
 ghost use Rattle.pkcs8_core.specs.ContainerFaults.{RsaPrivateKeyInfoFault};
 ghost use Rattle.pkcs8_core.specs.Held.{info_of};
 ghost use Rattle.pkcs8_core.specs.Rsa.{rsa_encryption, HoldsRsa};
-ghost use Rattle.pkcs1_c.specs.Containers.{info_seen, InfoIsTidy, HoldsKey, HoldsSomeKey, KeyFault};
+ghost use Rattle.pkcs1_c.specs.Containers.{info_seen, InfoIsTidy, HoldsKey, HoldsSomeKey};
 ghost use Rattle.pkcs1_c.specs.Writes.{Writes};
 ghost use Rattle.pkcs1_c.specs.StructValues.{private_key_seen, AreListed};
-ghost use Rattle.pkcs1_c.specs.Status.{status_of, IsNumberOfFault, IsStatusOf};
+ghost use Rattle.pkcs1_c.specs.Status.{IsStatusOf};
 ghost use Rattle.pkcs1_c.specs.StructErrors.{InfoError};
 
 use crate::private_key::{OtherPrime, PrivateKey, to_c_key};
-use crate::status::{NO_ROOM, OK, status};
+use crate::status::{OK, status};
 use crate::written::write_encoding;
 use der_core::OctetStringRef;
 use pkcs1::{RsaPrivateKeyView, algorithm_id};
@@ -106,8 +107,7 @@ fn from_c_info<'a>(info: &PrivateKeyInfo<'a>) -> pkcs1::Result<PrivateKeyInfoRef
     ensures ok { IfOk result (λ made. info_of made ≡ info_seen info.now) }
     ensures key { IfOk result (λ made. HoldsSomeKey info.now) }
     ensures some { IfOk result (λ made. HasEncoding container.PrivateKeyInfo (info_of made)) }
-    ensures err { IfErr result (λ e. IsNumberOfFault (KeyFault info.now) (status_of e)) }
-    ensures told { IfErr result (λ e. (0 < status_of e) × (status_of e < NO_ROOM)) }
+    ensures exact { ErrsExactly RsaPrivateKeyFault info.now.private_key.now result }
 {
     let _view = RsaPrivateKeyView::try_from(info.private_key)?;
     let private_key = OctetStringRef::new(info.private_key)?;

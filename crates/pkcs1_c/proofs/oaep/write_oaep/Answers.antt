@@ -8,7 +8,7 @@ use Rattle.pkcs1_c.proofs.Writes.{not_written, written}
 use Rattle.pkcs1_c.proofs.oaep.write_oaep.Goals as goal
 
 pub returns-in-Ok : goal.returns-in-Ok
-returns-in-Ok c = written RsaOaepParams (oaep_viewed c.args.params.now) c.args.out.now _ c.args.len.now _ c.in-Ok.ensures.shortest c.in-Ok.ensures.rest c.encode_params.auto.out
+returns-in-Ok c = written RsaOaepParams (oaep_viewed c.args.params.now) c.args.out.now _ c.args.len.now _ c.in-Ok.ensures.shortest.0 c.in-Ok.ensures.rest c.encode_params.auto.out
 
 pub returns-in-Err : goal.returns-in-Err
 returns-in-Err c =
