@@ -8,7 +8,8 @@ use Rattle.der_core.specs.Laws.SmallNumbers.{small_relates}
 use Rattle.der_core.specs.Tag.{context_tag, sequence_tag}
 use Rattle.der_core.specs.Laws.Encodings.{tlv_made, tlv_relates, tlv_little_longer, then_holds, last_holds}
 use Rattle.der_core.specs.Tlv.{Tlv}
-use Rattle.spki_core.specs.AlgorithmIdentifier.{PlainAlgorithm, MaskAlgorithm, written_plain, written_mask}
+use Rattle.spki_core.specs.Any.{TagAndContents}
+use Rattle.spki_core.specs.AlgorithmIdentifier.{Algorithm, PlainAlgorithm, MaskAlgorithm, written_plain, written_mask}
 use Rattle.spki_core.specs.AlgorithmValue.{viewed_with}
 use Rattle.spki_core.specs.AnyRefValue.{any_of}
 use Rattle.spki_core.specs.Laws.Held.{viewed_held, viewed_plain_held, viewed_plain_short}
@@ -20,7 +21,7 @@ use Rattle.spki_core.specs.declared.identifier_view.IdentifierView.{IdentifierVi
 use Rattle.pkcs1_params.specs.Laws.HashFields.{plain_relates, mask_relates}
 use Rattle.pkcs1_params.specs.Laws.HeldFields.{viewed_mask_held, viewed_mask_short, number_short}
 use Rattle.pkcs1_params.specs.OaepValue.{oaep_viewed}
-use Rattle.pkcs1_params.specs.Parameters.{PssContents, OaepContents, RsaPssParams, RsaOaepParams, TrailerContents}
+use Rattle.pkcs1_params.specs.Parameters.{PssParameters, OaepParameters, PssContents, OaepContents, RsaPssParams, RsaOaepParams, TrailerContents}
 use Rattle.pkcs1_params.specs.PssValue.{pss_viewed}
 use Rattle.pkcs1_params.specs.declared.oaep_view.RsaOaepParamsView.{RsaOaepParamsView}
 use Rattle.pkcs1_params.specs.declared.pss_view.RsaPssParamsView.{RsaPssParamsView}
@@ -40,26 +41,26 @@ module _ {P V : Type 0} (of : P → V) (WhyNot : V → ℕ → Type 0) (a : Algo
   algorithm_none : NoStatus (OptionError WhyNot (option_map of a.parameters)) → NoStatus (AlgorithmError WhyNot (viewed_with of a))
   algorithm_none none = part_none (OidError (viewed_with of a).oid) (OptionError WhyNot (viewed_with of a).parameters) (λ s p. p.1 (viewed_held a.oid)) none
 
-pub plain_none : (a : AlgorithmView AnyRef) → NoStatus (PlainError (viewed_with any_of a))
-plain_none a = algorithm_none any_of AnyError a (any_none a.parameters)
+pub plain_none : (a : AlgorithmView AnyRef) (seen : Algorithm TagAndContents) → viewed_with any_of a ≡ seen → NoStatus (PlainError seen)
+plain_none a seen is = subst (λ a. NoStatus (PlainError a)) is (algorithm_none any_of AnyError a (any_none a.parameters))
 
 under_none : (under : Option (AlgorithmView AnyRef)) → NoStatus (OptionError PlainError (option_map (viewed_with any_of) under))
 under_none None s p = p
-under_none (Some a) s p = plain_none a s p
+under_none (Some a) s p = plain_none a _ refl s p
 
-pub mask_none : (a : AlgorithmView (AlgorithmView AnyRef)) → NoStatus (MaskError (viewed_with (viewed_with any_of) a))
-mask_none a = algorithm_none (viewed_with any_of) PlainError a (under_none a.parameters)
+pub mask_none : (m : AlgorithmView (AlgorithmView AnyRef)) (seen : Algorithm (Algorithm TagAndContents)) → viewed_with (viewed_with any_of) m ≡ seen → NoStatus (MaskError seen)
+mask_none m seen is = subst (λ m. NoStatus (MaskError m)) is (algorithm_none (viewed_with any_of) PlainError m (under_none m.parameters))
 
 hash_none : (hash : AlgorithmView AnyRef) (mask : AlgorithmView (AlgorithmView AnyRef)) (Rest : ℕ → Type 0) → NoStatus Rest → NoStatus (HashFieldsThen (viewed_with any_of hash) (viewed_with (viewed_with any_of) mask) Rest)
 hash_none hash mask Rest none =
     let Mask = MaskError (viewed_with (viewed_with any_of) mask) in
-    part_none (PlainError (viewed_with any_of hash)) (PartThen Mask Rest) (plain_none hash) (part_none Mask Rest (mask_none mask) none)
+    part_none (PlainError (viewed_with any_of hash)) (PartThen Mask Rest) (plain_none hash _ refl) (part_none Mask Rest (mask_none mask _ refl) none)
 
-pub pss_none : (p : RsaPssParamsView) → NoStatus (PssFieldError (pss_viewed p))
-pss_none p = hash_none p.hash p.mask_gen _ (λ s q. q.1 refl)
+pub pss_none : (p : RsaPssParamsView) (seen : PssParameters) → pss_viewed p ≡ seen → NoStatus (PssFieldError seen)
+pss_none p seen is = subst (λ v. NoStatus (PssFieldError v)) is (hash_none p.hash p.mask_gen _ (λ s q. q.1 refl))
 
-pub oaep_none : (p : RsaOaepParamsView) → NoStatus (OaepFieldError (oaep_viewed p))
-oaep_none p = hash_none p.hash p.mask_gen (PlainError (viewed_with any_of p.p_source)) (plain_none p.p_source)
+pub oaep_none : (p : RsaOaepParamsView) (seen : OaepParameters) → oaep_viewed p ≡ seen → NoStatus (OaepFieldError seen)
+oaep_none p seen is = subst (λ v. NoStatus (OaepFieldError v)) is (hash_none p.hash p.mask_gen (PlainError (viewed_with any_of p.p_source)) (plain_none p.p_source _ refl))
 
 -- A field that is written.
 abbrev Written : ℕ → (List ℕ → Type 0) → Type 0

@@ -2,7 +2,7 @@
 use Rattle.std.proofs.Common.{ℕ, zero, suc, List, ◌≡◌, ◌≢◌, ◌≤◌, ◌<◌, ◌∙◌, length, take, drop, refl, arith, inl, inr}
 use Rattle.std.proofs.lemmas.List.{length-take-le}
 use Rattle.der_core.specs.Document.{IsShortest}
-use Rattle.pkcs1_c.specs.StructErrors.{EncodingError, PartThen}
+use Rattle.pkcs1_c.specs.StructErrors.{EncodingError, PartThen, WritesFields}
 use Rattle.pkcs1_c.specs.Writes.{IsTooLong, IsErrorOf, NoStatus, Writes}
 use Rattle.pkcs1_c.proofs.StructErrors.{IsOne, IsPart, encoding_one, fits_written, part_one, part_rest}
 
@@ -41,6 +41,14 @@ module _ (E : List ℕ → Type 0) (old : List ℕ) (l status s : ℕ) (is : sta
 -- What is behind a part that can be held.
 pub behind_part : {E : List ℕ → Type 0} {old new : List ℕ} {l m s : ℕ} (Part : ℕ → Type 0) (Rest : ℕ → ℕ → Type 0) → NoStatus Part → Writes E Rest old new l m s → Writes E (λ room. PartThen Part (Rest room)) old new l m s
 behind_part {old = old} Part Rest none = writes_as (λ _ p. p) (λ t p. inr (none, p)) (part_rest Part (Rest (length old)) none)
+
+-- Parameters whose fields can be held, or not.
+module _ {V : Type 0} (FieldError : V → ℕ → Type 0) (Grammar : V → List ℕ → Type 0) (v : V) where
+  pub fields_written : {old new : List ℕ} {l m s : ℕ} → NoStatus (FieldError v) → Writes (IsShortest Grammar v) (EncodingError Grammar v) old new l m s → WritesFields FieldError Grammar v old new l m s
+  fields_written = behind_part (FieldError v) (EncodingError Grammar v)
+
+  pub fields_refused : (old : List ℕ) (l status s : ℕ) → status ≡ s → IsPart (FieldError v) → FieldError v s → WritesFields FieldError Grammar v old old l l status
+  fields_refused old l status s is part = part_refused (IsShortest Grammar v) old l status s is (FieldError v) (EncodingError Grammar v) part (encoding_one Grammar v (length old))
 
 module _ {V : Type 0} (Grammar : V → List ℕ → Type 0) (v : V) (old new : List ℕ) (l m : ℕ) where
   -- The shortest encoding is at the front.

@@ -6,8 +6,7 @@ use Rattle.der_core.specs.Length.{limit}
 use Rattle.der_core.specs.Tag.{is_allowed}
 use Rattle.pkcs1.specs.Keys as keys
 use Rattle.pkcs1.specs.Writing.{key_numbers, other_numbers}
-use Rattle.pkcs1_params.specs.Algorithms.{RsaPssAlgorithm, RsaOaepAlgorithm}
-use Rattle.pkcs1_params.specs.Parameters.{PssParameters, RsaPssParams, OaepParameters, RsaOaepParams}
+use Rattle.pkcs1_params.specs.Parameters.{PssParameters, OaepParameters}
 use Rattle.pkcs8_core.specs.Container as container
 use Rattle.spki_core.specs.Any.{TagAndContents}
 use Rattle.spki_core.specs.AlgorithmIdentifier.{Algorithm}
@@ -21,7 +20,7 @@ use Rattle.pkcs1_c.specs.Given.{IsGiven}
 use Rattle.pkcs1_c.specs.Numbers.{IsNumberOf, ArePublicNumbers}
 use Rattle.pkcs1_c.specs.Status.{IsNumberOfFault}
 use Rattle.pkcs1_c.specs.StructValues.{private_key_seen, other_prime_seen}
-use Rattle.pkcs1_c.specs.Writes.{IsTooLong, NoStatus}
+use Rattle.pkcs1_c.specs.Writes.{IsTooLong, NoStatus, Writes}
 
 -- All parts can be held: the value has no encoding within the limit, or its shortest one is longer than the room.
 abbrev pub EncodingError : {V : Type 0} → (V → List ℕ → Type 0) → V → ℕ → ℕ → Type 0
@@ -103,24 +102,15 @@ MaskError = AlgorithmError PlainError
 
 -- One of the fields that both types of parameters begin with can't be held, or what follows them.
 abbrev pub HashFieldsThen : Algorithm TagAndContents → Algorithm (Algorithm TagAndContents) → (ℕ → Type 0) → ℕ → Type 0
-HashFieldsThen hash mask_gen Rest =
-    PartThen (PlainError hash) (PartThen (MaskError mask_gen) Rest)
+HashFieldsThen hash mask_gen Rest = PartThen (PlainError hash) (PartThen (MaskError mask_gen) Rest)
 
 abbrev pub PssFieldError : PssParameters → ℕ → Type 0
 PssFieldError p = HashFieldsThen p.hash p.mask_gen (λ status. (status ≡ VALUE) × (p.trailer_field ≢ 1))
 
-abbrev pub PssError : PssParameters → ℕ → ℕ → Type 0
-PssError p room = PartThen (PssFieldError p) (EncodingError RsaPssParams p room)
-
 abbrev pub OaepFieldError : OaepParameters → ℕ → Type 0
 OaepFieldError p = HashFieldsThen p.hash p.mask_gen (PlainError p.p_source)
 
-abbrev pub OaepError : OaepParameters → ℕ → ℕ → Type 0
-OaepError p room = PartThen (OaepFieldError p) (EncodingError RsaOaepParams p room)
-
--- The same of an algorithm identifier with these parameters.
-abbrev pub PssAlgorithmError : PssParameters → ℕ → ℕ → Type 0
-PssAlgorithmError p room = PartThen (PssFieldError p) (EncodingError RsaPssAlgorithm p room)
-
-abbrev pub OaepAlgorithmError : OaepParameters → ℕ → ℕ → Type 0
-OaepAlgorithmError p room = PartThen (OaepFieldError p) (EncodingError RsaOaepAlgorithm p room)
+-- The shortest encoding is written of parameters whose fields can be held: their own, or that of the algorithm
+-- identifier that they stand in.
+abbrev pub WritesFields : {V : Type 0} → (V → ℕ → Type 0) → (V → List ℕ → Type 0) → V → List ℕ → List ℕ → ℕ → ℕ → ℕ → Type 0
+WritesFields FieldError Grammar v = Writes (IsShortest Grammar v) (λ room. PartThen (FieldError v) (EncodingError Grammar v room))

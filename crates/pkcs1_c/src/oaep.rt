@@ -7,7 +7,7 @@ ghost use Rattle.pkcs1_params.specs.OaepValue.{oaep_viewed};
 ghost use Rattle.pkcs1_params.specs.ParameterFaults.{RsaOaepParamsFault, StrictOaepFault};
 ghost use Rattle.pkcs1_c.specs.Status.{IsStatusOf, status_of};
 ghost use Rattle.pkcs1_c.specs.StructValues.{oaep_seen, OaepIsTidy};
-ghost use Rattle.pkcs1_c.specs.StructErrors.{EncodingError, OaepError, OaepFieldError};
+ghost use Rattle.pkcs1_c.specs.StructErrors.{EncodingError, OaepFieldError, WritesFields};
 ghost use Rattle.pkcs1_c.specs.Writes.{Writes};
 
 use crate::algorithm::{
@@ -124,7 +124,7 @@ pub extern "C" fn pkcs1_c_oaep_params_encode(
     len: &mut usize,
 ) -> u32
     ensures { let v = oaep_seen params.now in
-        Writes (IsShortest grammar.RsaOaepParams v) (OaepError v) out.old out.new len.old len.new result }
+        WritesFields OaepFieldError grammar.RsaOaepParams v out.old out.new len.old len.new result }
 {
     match from_c_oaep(params) {
         Ok(made) => write_oaep(&made, out, len),

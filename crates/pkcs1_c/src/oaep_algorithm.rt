@@ -1,12 +1,10 @@
 //! The algorithm identifier of RSAES-OAEP with its parameters.
 ghost use Rattle.std.specs.Prelude.{◌≡◌, ◌≢◌};
-ghost use Rattle.der_core.specs.Document.{IsShortest};
 ghost use Rattle.pkcs1_params.specs.Algorithms.{RsaOaepAlgorithm, RsaOaepAlgorithmFault, StrictOaepAlgorithmFault};
 ghost use Rattle.pkcs1_params.specs.Meanings.{IsNoSentence, IsNoShortest, IsTheMeaning, IsTheShortest};
 ghost use Rattle.pkcs1_c.specs.Status.{IsStatusOf};
-ghost use Rattle.pkcs1_c.specs.StructErrors.{OaepAlgorithmError};
+ghost use Rattle.pkcs1_c.specs.StructErrors.{OaepFieldError, WritesFields};
 ghost use Rattle.pkcs1_c.specs.StructValues.{oaep_seen, OaepIsTidy};
-ghost use Rattle.pkcs1_c.specs.Writes.{Writes};
 
 use crate::oaep::{OaepParams, from_c_oaep, to_c_oaep};
 use crate::status::{OK, status};
@@ -66,7 +64,7 @@ pub extern "C" fn pkcs1_c_oaep_algorithm_encode(
     len: &mut usize,
 ) -> u32
     ensures { let v = oaep_seen params.now in
-        Writes (IsShortest RsaOaepAlgorithm v) (OaepAlgorithmError v) out.old out.new len.old len.new result }
+        WritesFields OaepFieldError RsaOaepAlgorithm v out.old out.new len.old len.new result }
 {
     match from_c_oaep(params) {
         Ok(made) => {

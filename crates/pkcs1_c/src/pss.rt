@@ -7,7 +7,7 @@ ghost use Rattle.pkcs1_params.specs.PssValue.{pss_viewed};
 ghost use Rattle.pkcs1_params.specs.ParameterFaults.{RsaPssParamsFault, StrictPssFault};
 ghost use Rattle.pkcs1_c.specs.Status.{IsStatusOf, status_of};
 ghost use Rattle.pkcs1_c.specs.StructValues.{pss_seen, PssIsTidy};
-ghost use Rattle.pkcs1_c.specs.StructErrors.{EncodingError, PssError, PssFieldError};
+ghost use Rattle.pkcs1_c.specs.StructErrors.{EncodingError, PssFieldError, WritesFields};
 ghost use Rattle.pkcs1_c.specs.Writes.{Writes};
 
 use crate::algorithm::{
@@ -136,7 +136,7 @@ pub extern "C" fn pkcs1_c_pss_params_encode(
     len: &mut usize,
 ) -> u32
     ensures { let v = pss_seen params.now in
-        Writes (IsShortest grammar.RsaPssParams v) (PssError v) out.old out.new len.old len.new result }
+        WritesFields PssFieldError grammar.RsaPssParams v out.old out.new len.old len.new result }
 {
     match from_c_pss(params) {
         Ok(made) => write_pss(&made, out, len),

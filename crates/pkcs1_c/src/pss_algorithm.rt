@@ -1,12 +1,10 @@
 //! The algorithm identifier of RSASSA-PSS with its parameters.
 ghost use Rattle.std.specs.Prelude.{◌≡◌, ◌≢◌};
-ghost use Rattle.der_core.specs.Document.{IsShortest};
 ghost use Rattle.pkcs1_params.specs.Algorithms.{RsaPssAlgorithm, RsaPssAlgorithmFault, StrictPssAlgorithmFault};
 ghost use Rattle.pkcs1_params.specs.Meanings.{IsNoSentence, IsNoShortest, IsTheMeaning, IsTheShortest};
 ghost use Rattle.pkcs1_c.specs.Status.{IsStatusOf};
-ghost use Rattle.pkcs1_c.specs.StructErrors.{PssAlgorithmError};
+ghost use Rattle.pkcs1_c.specs.StructErrors.{PssFieldError, WritesFields};
 ghost use Rattle.pkcs1_c.specs.StructValues.{pss_seen, PssIsTidy};
-ghost use Rattle.pkcs1_c.specs.Writes.{Writes};
 
 use crate::pss::{PssParams, from_c_pss, to_c_pss};
 use crate::status::{OK, status};
@@ -66,7 +64,7 @@ pub extern "C" fn pkcs1_c_pss_algorithm_encode(
     len: &mut usize,
 ) -> u32
     ensures { let v = pss_seen params.now in
-        Writes (IsShortest RsaPssAlgorithm v) (PssAlgorithmError v) out.old out.new len.old len.new result }
+        WritesFields PssFieldError RsaPssAlgorithm v out.old out.new len.old len.new result }
 {
     match from_c_pss(params) {
         Ok(made) => {

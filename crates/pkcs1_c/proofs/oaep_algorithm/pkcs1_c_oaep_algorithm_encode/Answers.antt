@@ -1,14 +1,12 @@
-use Rattle.std.proofs.Common.{◌∙◌, ap, length, subst}
-use Rattle.der_core.specs.Document.{IsShortest}
+use Rattle.std.proofs.Common.{◌∙◌, ap}
 use Rattle.pkcs1_params.specs.Algorithms.{id_rsaes_oaep, RsaOaepAlgorithm}
 use Rattle.pkcs1_params.specs.Parameters.{RsaOaepParams, with_parameters}
 use Rattle.pkcs1_c.specs.StructValues.{oaep_seen}
-use Rattle.pkcs1_c.specs.StructErrors.{EncodingError, OaepFieldError}
-use Rattle.pkcs1_c.specs.Writes.{NoStatus}
+use Rattle.pkcs1_c.specs.StructErrors.{OaepFieldError}
 use Rattle.pkcs1_c.proofs.AlgorithmWrites.{identifier_written}
 use Rattle.pkcs1_c.proofs.HeldParameters.{oaep_none}
-use Rattle.pkcs1_c.proofs.StructErrors.{encoding_one, oaep_part}
-use Rattle.pkcs1_c.proofs.Writes.{behind_part, part_refused}
+use Rattle.pkcs1_c.proofs.StructErrors.{oaep_part}
+use Rattle.pkcs1_c.proofs.Writes.{fields_refused, fields_written}
 use Rattle.pkcs1_c.proofs.oaep_algorithm.pkcs1_c_oaep_algorithm_encode.Goals as goal
 
 pub write_encoding-requires : goal.write_encoding-requires
@@ -18,9 +16,9 @@ pub returns-in-Ok : goal.returns-in-Ok
 returns-in-Ok c =
     let is = c.to_algorithm.ensures.means ∙ ap (with_parameters id_rsaes_oaep) (c.keep-held.ensures ∙ c.in-Ok.ensures.ok) in
     let seen = oaep_seen c.args.params.now in
-    behind_part (OaepFieldError seen) (EncodingError RsaOaepAlgorithm seen) (subst (λ v. NoStatus (OaepFieldError v)) c.in-Ok.ensures.ok (oaep_none c.in-Ok.made)) (identifier_written RsaOaepParams is c.write_encoding.ensures)
+    fields_written OaepFieldError RsaOaepAlgorithm seen (oaep_none c.in-Ok.made seen c.in-Ok.ensures.ok) (identifier_written RsaOaepParams is c.write_encoding.ensures)
 
 pub returns-in-Err : goal.returns-in-Err
 returns-in-Err c =
     let seen = oaep_seen c.args.params.now in
-    part_refused (IsShortest RsaOaepAlgorithm seen) c.args.out.now _ _ _ c.status.ensures (OaepFieldError seen) (EncodingError RsaOaepAlgorithm seen) (oaep_part seen) (encoding_one RsaOaepAlgorithm seen (length c.args.out.now)) c.in-Err.ensures.err
+    fields_refused OaepFieldError RsaOaepAlgorithm seen c.args.out.now c.args.len.now _ _ c.status.ensures (oaep_part seen) c.in-Err.ensures.err
