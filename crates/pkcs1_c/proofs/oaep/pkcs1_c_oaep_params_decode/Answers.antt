@@ -1,12 +1,9 @@
-use Rattle.std.proofs.Common.{sym, subst}
-use Rattle.pkcs1_params.specs.Parameters.{RsaOaepParams}
 use Rattle.pkcs1_params.specs.ParameterFaults.{RsaOaepParamsFault}
-use Rattle.pkcs1_params.specs.Meanings.{IsTheMeaning}
 use Rattle.pkcs1_c.proofs.NotWritten.{status_exact}
 use Rattle.pkcs1_c.proofs.oaep.pkcs1_c_oaep_params_decode.Goals as goal
 
 pub returns-in-Ok-clause-ok : goal.returns-in-Ok-clause-ok
-returns-in-Ok-clause-ok c = λ _. subst (IsTheMeaning RsaOaepParams c.args.encoding.now) (sym c.to_c_oaep.ensures.seen) c.in-Ok.ensures.ok
+returns-in-Ok-clause-ok c = λ _. rw c.to_c_oaep.ensures.seen c.in-Ok.ensures.ok
 
 pub returns-in-Err-clause-exact : goal.returns-in-Err-clause-exact
 returns-in-Err-clause-exact c = status_exact RsaOaepParamsFault c.args.encoding.now c.in-Err.error _ c.status.ensures c.in-Err.ensures.exact

@@ -1,12 +1,9 @@
-use Rattle.std.proofs.Common.{sym, subst}
-use Rattle.pkcs1_params.specs.Parameters.{RsaPssParams}
 use Rattle.pkcs1_params.specs.ParameterFaults.{RsaPssParamsFault}
-use Rattle.pkcs1_params.specs.Meanings.{IsTheMeaning}
 use Rattle.pkcs1_c.proofs.NotWritten.{status_exact}
 use Rattle.pkcs1_c.proofs.pss.pkcs1_c_pss_params_decode.Goals as goal
 
 pub returns-in-Ok-clause-ok : goal.returns-in-Ok-clause-ok
-returns-in-Ok-clause-ok c = λ _. subst (IsTheMeaning RsaPssParams c.args.encoding.now) (sym c.to_c_pss.ensures.seen) c.in-Ok.ensures.ok
+returns-in-Ok-clause-ok c = λ _. rw c.to_c_pss.ensures.seen c.in-Ok.ensures.ok
 
 pub returns-in-Err-clause-exact : goal.returns-in-Err-clause-exact
 returns-in-Err-clause-exact c = status_exact RsaPssParamsFault c.args.encoding.now c.in-Err.error _ c.status.ensures c.in-Err.ensures.exact

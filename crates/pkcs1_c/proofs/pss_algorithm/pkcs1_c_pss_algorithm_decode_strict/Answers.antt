@@ -1,11 +1,9 @@
-use Rattle.std.proofs.Common.{sym, subst}
-use Rattle.pkcs1_params.specs.Algorithms.{RsaPssAlgorithm, StrictPssAlgorithmFault}
-use Rattle.pkcs1_params.specs.Meanings.{IsTheShortest}
+use Rattle.pkcs1_params.specs.Algorithms.{StrictPssAlgorithmFault}
 use Rattle.pkcs1_c.proofs.NotWritten.{status_exact}
 use Rattle.pkcs1_c.proofs.pss_algorithm.pkcs1_c_pss_algorithm_decode_strict.Goals as goal
 
 pub returns-in-Ok-clause-ok : goal.returns-in-Ok-clause-ok
-returns-in-Ok-clause-ok c = λ _. subst (IsTheShortest RsaPssAlgorithm c.args.encoding.now) (sym c.to_c_pss.ensures.seen) c.in-Ok.ensures.ok
+returns-in-Ok-clause-ok c = λ _. rw c.to_c_pss.ensures.seen c.in-Ok.ensures.ok
 
 pub returns-in-Err-clause-exact : goal.returns-in-Err-clause-exact
 returns-in-Err-clause-exact c = status_exact StrictPssAlgorithmFault c.args.encoding.now c.in-Err.error _ c.status.ensures c.in-Err.ensures.exact
