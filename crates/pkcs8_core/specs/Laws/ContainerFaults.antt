@@ -1,5 +1,5 @@
 -- Bytes with a fault encode no container, and have only one first fault.
-use Rattle.std.proofs.Common.{ℕ, List, [], ◌∷◌, ◌≡◌, sym, ap, ◌∙◌, refl, inl, inr, Some}
+use Rattle.std.proofs.Common.{[], ◌∷◌, ◌≡◌, sym, ap, ◌∙◌, refl, inl, inr, Some}
 use Rattle.der_core.specs.declared.error.ErrorKind.{ErrorKind}
 use Rattle.der_core.specs.declared.error.ErrorKind.TheVariants.{Value}
 use Rattle.der_core.specs.Faults.{EncodingFault, SmallFault, NoFault, AreNone, AreFirst}
