@@ -1,14 +1,8 @@
 -- Keys of given numbers.
-use Rattle.std.proofs.Common.{ℕ, List, [], ◌∷◌, ◌++◌, ◌≡◌, ◌≤◌, length, length-append, map, refl, sym, ap, subst, ◌∙◌, arith, Option, Some, None, inl, inr}
+use Rattle.std.proofs.Common.{ℕ, List, [], ◌∷◌, ◌≡◌, length, refl, sym, ap, subst, ◌∙◌, arith, Option, Some, None}
 use Rattle.std.specs.Prelude.{Result, Ok, Err, IfErr, IsErrAnd}
-use Rattle.der_core.specs.Document.{Means}
-use Rattle.der_core.specs.Length.{limit}
-use Rattle.der_core.specs.Encodings.{Joins}
-use Rattle.der_core.specs.Integer.{Integer, IntegerContents}
 use Rattle.der_core.specs.Laws.Integer.{canonical_same}
-use Rattle.der_core.specs.Laws.Growing.{contents_shorter}
-use Rattle.pkcs1.specs.Writing.{key_numbers}
-use Rattle.pkcs1.specs.Keys.{PublicKey, PrivateKey, RsaPrivateKey, OtherPrime, OtherPrimeInfo, OtherPrimeInfos}
+use Rattle.pkcs1.specs.Keys.{PublicKey, PrivateKey, OtherPrime}
 use Rattle.pkcs1_c.specs.Numbers.{IsNumberOf, ArePublicNumbers, IsOtherOf, AreOthersOf, AreOtherNumbers, ArePrivateNumbers}
 
 -- What holds whatever the error is.
@@ -20,44 +14,6 @@ err_all P (Err e) p = p e
 pub err_handed : {T E : Type 0} (P : E → Type 0) (first : E) (r : Result T E) → IsErrAnd r (λ e. e ≡ first) → P first → IfErr r P
 err_handed P first (Ok x) same p = absurd same
 err_handed P first (Err e) same p = subst P (sym same) p
-
--- A number is no longer than its contents, nor than an encoding that its encoding stands in.
-contents_hold : (n c : List ℕ) → IntegerContents n c → length n ≤ length c
-contents_hold n c (p, inl a) = omega (arith, ap length a.1)
-contents_hold n c (p, inr a) = omega (arith, ap length a.1)
-
-number_within : {most : ℕ} (n x : List ℕ) → Integer n x → length x ≤ most → length n ≤ most
-number_within n x p few = omega (arith, contents_hold n p.contents p.holds, contents_shorter x p, few)
-
-abbrev pub AreWithin : List (List ℕ) → ℕ → Type 0
-AreWithin [] most = Unit {0}
-AreWithin (n ∷ ns) most = (length n ≤ most) × AreWithin ns most
-
--- Numbers at the front of contents, and what stands behind them, are within the contents.
-pub joins_hold : (ns : List (List ℕ)) (Qs : List (List ℕ → Type 0)) (c : List ℕ) (most : ℕ) → Joins (map Integer ns ++ Qs) c → length c ≤ most
-    → AreWithin ns most × (d : List ℕ) × Joins Qs d × (length d ≤ most)
-joins_hold [] Qs c most p few = (tt, c, p, few)
-joins_hold (n ∷ ns) Qs c most (x, d, p, i, e) few =
-    let l = ap length e in
-    let k = length-append x d in
-    let r = joins_hold ns Qs d most i (omega (arith, l, k, few)) in
-    ((number_within n x p (omega (arith, l, k, few)), r.0), r.1, r.2, r.3)
-
-pub private_within : (key : PrivateKey (List ℕ)) (encoding : List ℕ) → Means RsaPrivateKey encoding key
-    → AreWithin (key_numbers key) limit × (d : List ℕ) × OtherPrimeInfos Integer key.other_prime_infos d × (length d ≤ limit)
-private_within key encoding m =
-    let (x, c, version, numbers, e) = m.1.holds in
-    let l = ap length e in
-    let k = length-append x c in
-    let r = joins_hold (key_numbers key) (OtherPrimeInfos Integer key.other_prime_infos ∷ []) c limit numbers (omega (arith, l, k, contents_shorter encoding m.1, m.0)) in
-    let (y, z, others, nil, f) = r.2 in
-    let j = ap length f in
-    let h = length-append y z in
-    (r.0, y, others, omega (arith, r.3, j, h))
-
-pub other_within : (other : OtherPrime (List ℕ)) (encoding : List ℕ) → OtherPrimeInfo Integer other encoding → length encoding ≤ limit
-    → AreWithin (other.prime ∷ other.exponent ∷ other.coefficient ∷ []) limit
-other_within other encoding p few = (joins_hold (other.prime ∷ other.exponent ∷ other.coefficient ∷ []) [] p.contents limit p.holds (omega (arith, contents_shorter encoding p, few))).0
 
 -- Bytes have one number.
 pub number_same : (bytes m n : List ℕ) → IsNumberOf bytes m → IsNumberOf bytes n → m ≡ n

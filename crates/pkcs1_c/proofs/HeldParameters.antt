@@ -1,5 +1,5 @@
 -- Parameters that are held: their parts can be, and they have encodings.
-use Rattle.std.proofs.Common.{ℕ, List, [], ◌∷◌, ◌++◌, ◌≡◌, ◌≤◌, ◌<◌, ◌+◌, length, length-append, ap, arith, refl, true, Option, Some, None, inr}
+use Rattle.std.proofs.Common.{ℕ, List, [], ◌∷◌, ◌++◌, ◌≡◌, ◌≤◌, ◌<◌, ◌+◌, length, length-append, ap, arith, refl, subst, true, false, Option, Some, None, inl, inr}
 use Rattle.std.specs.Option.{option_map}
 use Rattle.der_core.specs.Document.{HasEncoding}
 use Rattle.der_core.specs.Length.{limit}
@@ -8,45 +8,59 @@ use Rattle.der_core.specs.Laws.SmallNumbers.{small_relates}
 use Rattle.der_core.specs.Tag.{context_tag, sequence_tag}
 use Rattle.der_core.specs.Laws.Encodings.{tlv_made, tlv_relates, tlv_little_longer, then_holds, last_holds}
 use Rattle.der_core.specs.Tlv.{Tlv}
-use Rattle.spki_core.specs.AlgorithmIdentifier.{PlainAlgorithm, MaskAlgorithm, written_plain, written_mask}
+use Rattle.spki_core.specs.Any.{TagAndContents}
+use Rattle.spki_core.specs.AlgorithmIdentifier.{Algorithm, PlainAlgorithm, MaskAlgorithm, written_plain, written_mask}
 use Rattle.spki_core.specs.AlgorithmValue.{viewed_with}
 use Rattle.spki_core.specs.AnyRefValue.{any_of}
 use Rattle.spki_core.specs.Laws.Held.{viewed_held, viewed_plain_held, viewed_plain_short}
 use Rattle.spki_core.specs.ObjectIdentifier.{IsIdentifier}
+use Rattle.spki_core.specs.ObjectIdentifierValue.{octets_of}
 use Rattle.spki_core.specs.declared.algorithm_view.AlgorithmView.{AlgorithmView}
 use Rattle.spki_core.specs.declared.any.AnyRef.{AnyRef}
+use Rattle.spki_core.specs.declared.identifier_view.IdentifierView.{IdentifierView}
 use Rattle.pkcs1_params.specs.Laws.HashFields.{plain_relates, mask_relates}
 use Rattle.pkcs1_params.specs.Laws.HeldFields.{viewed_mask_held, viewed_mask_short, number_short}
 use Rattle.pkcs1_params.specs.OaepValue.{oaep_viewed}
-use Rattle.pkcs1_params.specs.Parameters.{PssContents, OaepContents, RsaPssParams, RsaOaepParams, TrailerContents}
+use Rattle.pkcs1_params.specs.Parameters.{PssParameters, OaepParameters, PssContents, OaepContents, RsaPssParams, RsaOaepParams, TrailerContents}
 use Rattle.pkcs1_params.specs.PssValue.{pss_viewed}
 use Rattle.pkcs1_params.specs.declared.oaep_view.RsaOaepParamsView.{RsaOaepParamsView}
 use Rattle.pkcs1_params.specs.declared.pss_view.RsaPssParamsView.{RsaPssParamsView}
 use Rattle.pkcs1_c.specs.declared.algorithm.Algorithm as c
 use Rattle.pkcs1_c.specs.declared.algorithm.MaskGen as c_mask
 use Rattle.pkcs1_c.specs.StructValues.{algorithm_seen, mask_gen_seen}
-use Rattle.pkcs1_c.specs.StructErrors.{AnyError, OptionError, PlainError, MaskError}
-use Rattle.pkcs1_c.specs.Fits.{AnyFits, OptionFits, PlainFits, MaskFits, PssFits, OaepFits}
+use Rattle.pkcs1_c.specs.StructErrors.{PartThen, OidError, AnyError, OptionError, AlgorithmError, PlainError, MaskError, HashFieldsThen, PssFieldError, OaepFieldError}
+use Rattle.pkcs1_c.specs.Writes.{NoStatus}
+use Rattle.pkcs1_c.proofs.StructErrors.{part_none}
 
-any_fits : (any : Option AnyRef) → OptionFits AnyFits (option_map any_of any)
-any_fits None = tt
-any_fits (Some any) = (any.tag.allowed, any.bounded)
+any_none : (any : Option AnyRef) → NoStatus (OptionError AnyError (option_map any_of any))
+any_none None s p = p
+any_none (Some any) s (inl p) = let f : false ≡ true = rw p.1 at any.tag.allowed in cc
+any_none (Some any) s (inr p) = omega (arith, p.2, any.bounded)
 
-pub plain_fits : (a : AlgorithmView AnyRef) → PlainFits (viewed_with any_of a)
-plain_fits a = (viewed_held a.oid, any_fits a.parameters)
+module _ {P V : Type 0} (of : P → V) (WhyNot : V → ℕ → Type 0) (a : AlgorithmView P) where
+  algorithm_none : NoStatus (OptionError WhyNot (option_map of a.parameters)) → NoStatus (AlgorithmError WhyNot (viewed_with of a))
+  algorithm_none none = part_none (OidError (viewed_with of a).oid) (OptionError WhyNot (viewed_with of a).parameters) (λ s p. p.1 (viewed_held a.oid)) none
 
-under_fits : (under : Option (AlgorithmView AnyRef)) → OptionFits PlainFits (option_map (viewed_with any_of) under)
-under_fits None = tt
-under_fits (Some a) = plain_fits a
+pub plain_none : (a : AlgorithmView AnyRef) (seen : Algorithm TagAndContents) → viewed_with any_of a ≡ seen → NoStatus (PlainError seen)
+plain_none a seen is = subst (λ a. NoStatus (PlainError a)) is (algorithm_none any_of AnyError a (any_none a.parameters))
 
-pub mask_fits : (a : AlgorithmView (AlgorithmView AnyRef)) → MaskFits (viewed_with (viewed_with any_of) a)
-mask_fits a = (viewed_held a.oid, under_fits a.parameters)
+under_none : (under : Option (AlgorithmView AnyRef)) → NoStatus (OptionError PlainError (option_map (viewed_with any_of) under))
+under_none None s p = p
+under_none (Some a) s p = plain_none a _ refl s p
 
-pub held_pss_fits : (p : RsaPssParamsView) → PssFits (pss_viewed p)
-held_pss_fits p = (plain_fits p.hash, (mask_fits p.mask_gen, refl))
+pub mask_none : (m : AlgorithmView (AlgorithmView AnyRef)) (seen : Algorithm (Algorithm TagAndContents)) → viewed_with (viewed_with any_of) m ≡ seen → NoStatus (MaskError seen)
+mask_none m seen is = subst (λ m. NoStatus (MaskError m)) is (algorithm_none (viewed_with any_of) PlainError m (under_none m.parameters))
 
-pub held_oaep_fits : (p : RsaOaepParamsView) → OaepFits (oaep_viewed p)
-held_oaep_fits p = (plain_fits p.hash, (mask_fits p.mask_gen, plain_fits p.p_source))
+hash_none : (hash : AlgorithmView AnyRef) (mask : AlgorithmView (AlgorithmView AnyRef)) (Rest : ℕ → Type 0) → NoStatus Rest → NoStatus (HashFieldsThen (viewed_with any_of hash) (viewed_with (viewed_with any_of) mask) Rest)
+hash_none hash mask Rest none =
+    let Mask = MaskError (viewed_with (viewed_with any_of) mask) in
+    part_none (PlainError (viewed_with any_of hash)) (PartThen Mask Rest) (plain_none hash _ refl) (part_none Mask Rest (mask_none mask _ refl) none)
+
+pub pss_none : (p : RsaPssParamsView) (seen : PssParameters) → pss_viewed p ≡ seen → NoStatus (PssFieldError seen)
+pss_none p seen is = subst (λ v. NoStatus (PssFieldError v)) is (hash_none p.hash p.mask_gen _ (λ s q. q.1 refl))
+
+pub oaep_none : (p : RsaOaepParamsView) (seen : OaepParameters) → oaep_viewed p ≡ seen → NoStatus (OaepFieldError seen)
+oaep_none p seen is = subst (λ v. NoStatus (OaepFieldError v)) is (hash_none p.hash p.mask_gen (PlainError (viewed_with any_of p.p_source)) (plain_none p.p_source _ refl))
 
 -- A field that is written.
 abbrev Written : ℕ → (List ℕ → Type 0) → Type 0
@@ -99,12 +113,16 @@ oaep_some p =
     (made.0, made.1)
 
 -- What is rejected of the parameters of an algorithm is rejected of the algorithm.
-pub algorithm_rejected : (a : c.Algorithm) (s : ℕ) → a.has_parameters ≡ true → IsIdentifier a.oid.now → AnyError (record { tag = a.tag; contents = a.parameters.now }) s → PlainError (algorithm_seen a) s
-algorithm_rejected a s has is p =
-    let q : OptionError AnyError (algorithm_seen a).parameters s = rw has p in
-    inr (is, q)
+module _ (oid : IdentifierView) where
+  oid_none : (octets : List ℕ) → octets_of oid ≡ octets → NoStatus (OidError octets)
+  oid_none octets is s p = p.1 (subst IsIdentifier is (viewed_held oid))
 
-pub mask_rejected : (m : c_mask.MaskGen) (s : ℕ) → m.has_hash ≡ true → IsIdentifier m.oid.now → PlainError (algorithm_seen m.hash) s → MaskError (mask_gen_seen m) s
-mask_rejected m s has is p =
-    let q : OptionError PlainError (mask_gen_seen m).parameters s = rw has p in
-    inr (is, q)
+  pub algorithm_rejected : (a : c.Algorithm) (s : ℕ) → a.has_parameters ≡ true → octets_of oid ≡ a.oid.now → AnyError (record { tag = a.tag; contents = a.parameters.now }) s → PlainError (algorithm_seen a) s
+  algorithm_rejected a s has is p =
+      let q : OptionError AnyError (algorithm_seen a).parameters s = rw has p in
+      inr (oid_none a.oid.now is, q)
+
+  pub mask_rejected : (m : c_mask.MaskGen) (s : ℕ) → m.has_hash ≡ true → octets_of oid ≡ m.oid.now → PlainError (algorithm_seen m.hash) s → MaskError (mask_gen_seen m) s
+  mask_rejected m s has is p =
+      let q : OptionError PlainError (mask_gen_seen m).parameters s = rw has p in
+      inr (oid_none m.oid.now is, q)

@@ -1,9 +1,9 @@
 pub mod AlgorithmWrites
 pub mod Containers
-pub mod Fits
 pub mod Given
 pub mod HeldKeys
 pub mod HeldParameters
 pub mod Lists
 pub mod NotWritten
 pub mod StructErrors
+pub mod Writes

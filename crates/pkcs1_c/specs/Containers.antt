@@ -24,6 +24,9 @@ InfoIsTidy info = info.has_attributes ≡ false → info.attributes.now ≡ []
 abbrev pub HoldsKey : PrivateKeyInfo → PrivateKey (List ℕ) → Type 0
 HoldsKey info key = Means RsaPrivateKey info.private_key.now key
 
+abbrev pub HoldsSomeKey : PrivateKeyInfo → Type 0
+HoldsSomeKey info = (key : PrivateKey (List ℕ)) × HoldsKey info key
+
 -- The first fault of octets that don't encode a private key.
 abbrev pub KeyFault : PrivateKeyInfo → ErrorKind → Type 0
 KeyFault info kind = RsaPrivateKeyFault kind info.private_key.now

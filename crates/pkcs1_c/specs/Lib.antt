@@ -1,8 +1,7 @@
 pub mod Containers
 pub mod Given
 pub mod Numbers
-pub mod NotWritten
+pub mod Writes
 pub mod StructValues
 pub mod Status
 pub mod StructErrors
-pub mod Fits

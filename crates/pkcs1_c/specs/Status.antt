@@ -1,5 +1,5 @@
 -- The number of each error, and the string that describes it.
-use Rattle.std.specs.Prelude.{ℕ, List, [], ◌∷◌, ◌≡◌, ◌≢◌, ◌<◌, codes, get_or}
+use Rattle.std.specs.Prelude.{ℕ, zero, suc, List, [], ◌∷◌, ◌≡◌, ◌<◌, codes, get_or}
 use Rattle.der_core.specs.declared.error.ErrorKind.{ErrorKind}
 use Rattle.der_core.specs.declared.error.ErrorKind.TheVariants as kind
 use Rattle.pkcs1_params.specs.declared.error.Error.{Error}
@@ -36,8 +36,9 @@ IsNumberOfFault Fault number = (kind : ErrorKind) × Fault kind × (number ≡ k
 
 -- The number is 0, and what is read has no fault; or it is that of the only fault, below the number of lack of room.
 abbrev pub IsStatusOf : {Read : Type 0} → (ErrorKind → Read → Type 0) → Read → ℕ → Type 0
-IsStatusOf Fault read number =
-    (number < 15) × (number ≢ 0 → IsNumberOfFault (λ kind. Fault kind read) number) × ((kind : ErrorKind) → Fault kind read → number ≡ kind_number kind)
+IsStatusOf Fault read zero = (kind : ErrorKind) → Fault kind read → ⊥
+IsStatusOf Fault read (suc n) =
+    (suc n < 15) × IsNumberOfFault (λ kind. Fault kind read) (suc n) × ((kind : ErrorKind) → Fault kind read → kind_number kind ≡ suc n)
 
 -- The strings, by number.
 abbrev pub status_texts : List (List ℕ)

@@ -1,14 +1,12 @@
 -- Why a C struct isn't written, by status: the first of its parts that can't be held, in the order of the struct; else
 -- why the value that it means isn't written.
-use Rattle.std.specs.Prelude.{ℕ, List, [], ◌∷◌, ◌++◌, ◌≡◌, ◌≢◌, ◌<◌, ◌≤◌, ◌⊎◌, IsTrue, length, map, false, Option, Some, None}
+use Rattle.std.specs.Prelude.{ℕ, List, [], ◌∷◌, ◌++◌, ◌≡◌, ◌≢◌, ◌<◌, ◌⊎◌, IsTrue, length, map, false, Option, Some, None}
 use Rattle.der_core.specs.Document.{IsShortest}
 use Rattle.der_core.specs.Length.{limit}
-use Rattle.der_core.specs.SequenceOf.{AllHave}
 use Rattle.der_core.specs.Tag.{is_allowed}
 use Rattle.pkcs1.specs.Keys as keys
 use Rattle.pkcs1.specs.Writing.{key_numbers, other_numbers}
-use Rattle.pkcs1_params.specs.Algorithms.{RsaPssAlgorithm, RsaOaepAlgorithm}
-use Rattle.pkcs1_params.specs.Parameters.{PssParameters, RsaPssParams, OaepParameters, RsaOaepParams}
+use Rattle.pkcs1_params.specs.Parameters.{PssParameters, OaepParameters}
 use Rattle.pkcs8_core.specs.Container as container
 use Rattle.spki_core.specs.Any.{TagAndContents}
 use Rattle.spki_core.specs.AlgorithmIdentifier.{Algorithm}
@@ -17,13 +15,12 @@ use Rattle.pkcs1_c.specs.declared.container.PrivateKeyInfo.{PrivateKeyInfo}
 use Rattle.pkcs1_c.specs.declared.private_key.PrivateKey.{PrivateKey}
 use Rattle.pkcs1_c.specs.declared.private_key.OtherPrime.{OtherPrime}
 use Rattle.pkcs1_c.specs.declared.status.TheConstants.{LENGTH, OID_MALFORMED, OVERFLOW, TAG_UNKNOWN, VALUE, NO_ROOM, OTHER_PRIMES}
-use Rattle.pkcs1_c.specs.Containers.{info_seen, HoldsKey, KeyFault}
-use Rattle.pkcs1_c.specs.Fits.{PlainFits, MaskFits, PssFits, OaepFits}
+use Rattle.pkcs1_c.specs.Containers.{info_seen, HoldsSomeKey, KeyFault}
 use Rattle.pkcs1_c.specs.Given.{IsGiven}
 use Rattle.pkcs1_c.specs.Numbers.{IsNumberOf, ArePublicNumbers}
-use Rattle.pkcs1_c.specs.NotWritten.{IsTooLong}
 use Rattle.pkcs1_c.specs.Status.{IsNumberOfFault}
 use Rattle.pkcs1_c.specs.StructValues.{private_key_seen, other_prime_seen}
+use Rattle.pkcs1_c.specs.Writes.{IsTooLong, NoStatus, Writes}
 
 -- All parts can be held: the value has no encoding within the limit, or its shortest one is longer than the room.
 abbrev pub EncodingError : {V : Type 0} → (V → List ℕ → Type 0) → V → ℕ → ℕ → Type 0
@@ -34,32 +31,25 @@ abbrev pub GivenError : {V : Type 0} → (V → Type 0) → (V → List ℕ → 
 GivenError {V} IsTheGiven Grammar room status = (made : V) × IsTheGiven made × EncodingError Grammar made room status
 
 -- A part can't be held; or it can, and what follows it can't be, or isn't written.
-abbrev pub PartThen : (ℕ → Type 0) → Type 0 → (ℕ → Type 0) → ℕ → Type 0
-PartThen WhyNot Fits Rest status = WhyNot status ⊎ (Fits × Rest status)
+abbrev pub PartThen : (ℕ → Type 0) → (ℕ → Type 0) → ℕ → Type 0
+PartThen WhyNot Rest status = WhyNot status ⊎ (NoStatus WhyNot × Rest status)
 
 -- Bytes that aren't accepted as a number: there are none, or the number is longer than the limit.
 abbrev pub NumberError : List ℕ → ℕ → Type 0
 NumberError bytes status =
     ((status ≡ LENGTH) × (length bytes ≡ 0)) ⊎ ((status ≡ OVERFLOW) × (0 < length bytes) × ((n : List ℕ) → IsNumberOf bytes n → limit < length n))
 
-abbrev pub NumberFits : List ℕ → Type 0
-NumberFits bytes = (n : List ℕ) × IsNumberOf bytes n × (length n ≤ limit)
-
 -- One of the numbers, in order, can't be held.
 abbrev pub NumbersError : List (List ℕ) → ℕ → Type 0
 NumbersError [] status = ⊥
-NumbersError (bytes ∷ more) status = PartThen (NumberError bytes) (NumberFits bytes) (NumbersError more) status
-
--- The numbers can't be held; or they can, and what follows them isn't written.
-abbrev pub NumbersThen : List (List ℕ) → (ℕ → Type 0) → ℕ → Type 0
-NumbersThen numbers = PartThen (NumbersError numbers) (AllHave NumberFits numbers)
+NumbersError (bytes ∷ more) status = PartThen (NumberError bytes) (NumbersError more) status
 
 abbrev pub two_numbers : keys.PublicKey (List ℕ) → List (List ℕ)
 two_numbers key = key.modulus ∷ key.public_exponent ∷ []
 
 abbrev pub PublicKeyError : keys.PublicKey (List ℕ) → ℕ → ℕ → Type 0
 PublicKeyError given room =
-    NumbersThen (two_numbers given) (GivenError (λ made. ArePublicNumbers made given) keys.RsaPublicKey room)
+    PartThen (NumbersError (two_numbers given)) (GivenError (λ made. ArePublicNumbers made given) keys.RsaPublicKey room)
 
 -- The eight numbers of a key, and those of its other primes.
 abbrev pub eight_numbers : PrivateKey → List (List ℕ)
@@ -76,18 +66,17 @@ given_numbers key others = eight_numbers key ++ others_numbers (map other_prime_
 -- of memory is left out here.
 abbrev pub PrivateKeyError : PrivateKey → List OtherPrime → ℕ → ℕ → Type 0
 PrivateKeyError key others room =
-    PartThen (λ status. (status ≡ OTHER_PRIMES) × (key.other_primes ≢ length others)) (key.other_primes ≡ length others)
-    (NumbersThen (given_numbers key others) (GivenError (IsGiven key others) keys.RsaPrivateKey room))
+    PartThen (λ status. (status ≡ OTHER_PRIMES) × (key.other_primes ≢ length others))
+    (PartThen (NumbersError (given_numbers key others)) (GivenError (IsGiven key others) keys.RsaPrivateKey room))
 
--- Memory may be needed for other primes, once the eight numbers can be held.
+-- Memory may be needed for other primes, once there are as many as the key says and the eight numbers can be held.
 abbrev pub MayRunOutOfMemory : PrivateKey → List OtherPrime → Type 0
-MayRunOutOfMemory key others = (0 < length others) × AllHave NumberFits (eight_numbers key)
+MayRunOutOfMemory key others = (key.other_primes ≡ length others) × (0 < length others) × NoStatus (NumbersError (eight_numbers key))
 
 -- The octets don't encode a private key (the status is that of their first fault); or the container isn't written.
 abbrev pub InfoError : PrivateKeyInfo → ℕ → ℕ → Type 0
-InfoError info room =
-    PartThen (IsNumberOfFault (KeyFault info)) ((key : keys.PrivateKey (List ℕ)) × HoldsKey info key)
-    (EncodingError container.PrivateKeyInfo (info_seen info) room)
+InfoError info room status =
+    IsNumberOfFault (KeyFault info) status ⊎ (HoldsSomeKey info × EncodingError container.PrivateKeyInfo (info_seen info) room status)
 
 -- Octets that are no object identifier.
 abbrev pub OidError : List ℕ → ℕ → Type 0
@@ -103,7 +92,7 @@ OptionError WhyNot None status = ⊥
 OptionError WhyNot (Some v) status = WhyNot v status
 
 abbrev pub AlgorithmError : {P : Type 0} → (P → ℕ → Type 0) → Algorithm P → ℕ → Type 0
-AlgorithmError WhyNot a = PartThen (OidError a.oid) (IsIdentifier a.oid) (OptionError WhyNot a.parameters)
+AlgorithmError WhyNot a = PartThen (OidError a.oid) (OptionError WhyNot a.parameters)
 
 abbrev pub PlainError : Algorithm TagAndContents → ℕ → Type 0
 PlainError = AlgorithmError AnyError
@@ -113,24 +102,15 @@ MaskError = AlgorithmError PlainError
 
 -- One of the fields that both types of parameters begin with can't be held, or what follows them.
 abbrev pub HashFieldsThen : Algorithm TagAndContents → Algorithm (Algorithm TagAndContents) → (ℕ → Type 0) → ℕ → Type 0
-HashFieldsThen hash mask_gen Rest =
-    PartThen (PlainError hash) (PlainFits hash) (PartThen (MaskError mask_gen) (MaskFits mask_gen) Rest)
+HashFieldsThen hash mask_gen Rest = PartThen (PlainError hash) (PartThen (MaskError mask_gen) Rest)
 
 abbrev pub PssFieldError : PssParameters → ℕ → Type 0
 PssFieldError p = HashFieldsThen p.hash p.mask_gen (λ status. (status ≡ VALUE) × (p.trailer_field ≢ 1))
 
-abbrev pub PssError : PssParameters → ℕ → ℕ → Type 0
-PssError p room = PartThen (PssFieldError p) (PssFits p) (EncodingError RsaPssParams p room)
-
 abbrev pub OaepFieldError : OaepParameters → ℕ → Type 0
 OaepFieldError p = HashFieldsThen p.hash p.mask_gen (PlainError p.p_source)
 
-abbrev pub OaepError : OaepParameters → ℕ → ℕ → Type 0
-OaepError p room = PartThen (OaepFieldError p) (OaepFits p) (EncodingError RsaOaepParams p room)
-
--- The same of an algorithm identifier with these parameters.
-abbrev pub PssAlgorithmError : PssParameters → ℕ → ℕ → Type 0
-PssAlgorithmError p room = PartThen (PssFieldError p) (PssFits p) (EncodingError RsaPssAlgorithm p room)
-
-abbrev pub OaepAlgorithmError : OaepParameters → ℕ → ℕ → Type 0
-OaepAlgorithmError p room = PartThen (OaepFieldError p) (OaepFits p) (EncodingError RsaOaepAlgorithm p room)
+-- The shortest encoding is written of parameters whose fields can be held: their own, or that of the algorithm
+-- identifier that they stand in.
+abbrev pub WritesFields : {V : Type 0} → (V → ℕ → Type 0) → (V → List ℕ → Type 0) → V → List ℕ → List ℕ → ℕ → ℕ → ℕ → Type 0
+WritesFields FieldError Grammar v = Writes (IsShortest Grammar v) (λ room. PartThen (FieldError v) (EncodingError Grammar v room))

@@ -1,7 +1,8 @@
 //! RSA keys in PKCS #8 containers.
-ghost use Rattle.std.specs.Prelude.{◌≡◌, ◌≢◌, ◌<◌, ◌≤◌, ℕ, List, Option, length, take, drop, IfOk, IfErr};
+ghost use Rattle.std.specs.Prelude.{◌≡◌, ◌≢◌, ℕ, List, Option, drop, IfOk};
 ghost use Rattle.std.specs.Prelude.{OnErr};
 ghost use Rattle.der_core.specs.Document.{Means, IsShortest, HasEncoding};
+ghost use Rattle.pkcs1.specs.KeyFaults.{RsaPrivateKeyFault};
 ghost use Rattle.pkcs1.specs.Keys.{OtherPrime as Prime, PrivateKey as Key};
 ghost use Rattle.pkcs1.specs.ViewParts.{view_of, viewed_encoding};
 ghost use Rattle.pkcs8_core.specs.Container as container;
@@ -9,14 +10,14 @@ ghost use Rattle.pkcs1_params.specs.Meanings.{ErrsExactly, IsTheMeaning, IsTheOn
 ghost use Rattle.pkcs8_core.specs.ContainerFaults.{RsaPrivateKeyInfoFault};
 ghost use Rattle.pkcs8_core.specs.Held.{info_of};
 ghost use Rattle.pkcs8_core.specs.Rsa.{rsa_encryption, HoldsRsa};
-ghost use Rattle.pkcs1_c.specs.Containers.{info_seen, InfoIsTidy, HoldsKey, KeyFault};
-ghost use Rattle.pkcs1_c.specs.NotWritten.{IsTooLong, HasNoRoom};
+ghost use Rattle.pkcs1_c.specs.Containers.{info_seen, InfoIsTidy, HoldsKey, HoldsSomeKey};
+ghost use Rattle.pkcs1_c.specs.Writes.{Writes};
 ghost use Rattle.pkcs1_c.specs.StructValues.{private_key_seen, AreListed};
-ghost use Rattle.pkcs1_c.specs.Status.{status_of, IsNumberOfFault, IsStatusOf};
+ghost use Rattle.pkcs1_c.specs.Status.{IsStatusOf};
 ghost use Rattle.pkcs1_c.specs.StructErrors.{InfoError};
 
 use crate::private_key::{OtherPrime, PrivateKey, to_c_key};
-use crate::status::{NO_ROOM, OK, status};
+use crate::status::{OK, status};
 use crate::written::write_encoding;
 use der_core::OctetStringRef;
 use pkcs1::{RsaPrivateKeyView, algorithm_id};
@@ -104,10 +105,9 @@ pub extern "C" fn pkcs1_c_private_key_info_decode<'a>(
 /// The container of a C struct. Its `private_key` must be the encoding of a private key.
 fn from_c_info<'a>(info: &PrivateKeyInfo<'a>) -> pkcs1::Result<PrivateKeyInfoRef<'a>>
     ensures ok { IfOk result (λ made. info_of made ≡ info_seen info.now) }
-    ensures key { IfOk result (λ made. (key : Key (List ℕ)) × HoldsKey info.now key) }
+    ensures key { IfOk result (λ made. HoldsSomeKey info.now) }
     ensures some { IfOk result (λ made. HasEncoding container.PrivateKeyInfo (info_of made)) }
-    ensures err { IfErr result (λ e. IsNumberOfFault (KeyFault info.now) (status_of e)) }
-    ensures told { IfErr result (λ e. status_of e < NO_ROOM) }
+    ensures exact { ErrsExactly RsaPrivateKeyFault info.now.private_key.now result }
 {
     let _view = RsaPrivateKeyView::try_from(info.private_key)?;
     let private_key = OctetStringRef::new(info.private_key)?;
@@ -133,18 +133,9 @@ pub extern "C" fn pkcs1_c_private_key_info_encode(
     out: &mut [u8],
     len: &mut usize,
 ) -> u32
-    ensures ok { result ≡ OK → IsShortest container.PrivateKeyInfo (info_seen info.now) (take len.new out.new) }
-    ensures key { result ≡ OK → (key : Key (List ℕ)) × HoldsKey info.now key }
-    ensures key_no_room { result ≡ NO_ROOM → (key : Key (List ℕ)) × HoldsKey info.now key }
-    ensures rest { result ≡ OK → (len.new ≤ length out.new) × (drop len.new out.new ≡ drop len.new out.old) }
-    ensures no_room { result ≡ NO_ROOM
-        → HasNoRoom container.PrivateKeyInfo (info_seen info.now) (length out.old) len.new }
-    ensures rejected { result ≢ OK → result ≢ NO_ROOM → (key : Key (List ℕ)) → HoldsKey info.now key
-        → IsTooLong container.PrivateKeyInfo (info_seen info.now) }
-    ensures exact { result ≢ OK → InfoError info.now (length out.old) result }
-    ensures only { (status : ℕ) → InfoError info.now (length out.old) status → result ≡ status }
-    ensures unchanged { result ≢ OK → out.new ≡ out.old }
-    ensures kept { result ≢ OK → result ≢ NO_ROOM → len.new ≡ len.old }
+    ensures { let IsEncoding = IsShortest container.PrivateKeyInfo (info_seen info.now) in
+        Writes (λ encoding. HoldsSomeKey info.now × IsEncoding encoding) (InfoError info.now)
+        out.old out.new len.old len.new result }
 {
     match from_c_info(info) {
         Ok(made) => write_encoding(&made, out, len),

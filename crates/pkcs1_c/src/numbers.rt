@@ -1,9 +1,10 @@
 //! Numbers that the caller passes.
-ghost use Rattle.std.specs.Prelude.{IfOk, IfErr};
+ghost use Rattle.std.specs.Prelude.{OnOk, IfOk, IfErr};
 ghost use Rattle.der_core.specs.UintRefValue.{bytes_of};
 ghost use Rattle.pkcs1_c.specs.Numbers.{IsNumberOf};
 ghost use Rattle.pkcs1_c.specs.Status.{status_of};
 ghost use Rattle.pkcs1_c.specs.StructErrors.{NumberError};
+ghost use Rattle.pkcs1_c.specs.Writes.{NoStatus};
 
 use pkcs1::UintRef;
 
@@ -11,6 +12,7 @@ use pkcs1::UintRef;
 /// limit.
 pub(crate) fn number<'a>(bytes: &'a [u8]) -> pkcs1::Result<UintRef<'a>>
     ensures ok { IfOk result (λ n. IsNumberOf bytes.now (bytes_of n)) }
+    ensures held { OnOk result (NoStatus (NumberError bytes.now)) }
     ensures err { IfErr result (λ e. NumberError bytes.now (status_of e)) }
 {
     Ok(UintRef::new(bytes)?)

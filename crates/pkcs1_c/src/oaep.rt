@@ -1,21 +1,19 @@
 //! Parameters of RSAES-OAEP.
-ghost use Rattle.std.specs.Prelude.{◌≡◌, ◌≢◌, ◌<◌, ◌≤◌, ◌⊎◌, ℕ, length, take, drop, IfOk, IfErr};
-ghost use Rattle.der_core.specs.Document.{HasEncoding, Means, IsShortest};
+ghost use Rattle.std.specs.Prelude.{◌≡◌, ◌≢◌, IfOk, IfErr};
+ghost use Rattle.der_core.specs.Document.{HasEncoding, IsShortest};
+ghost use Rattle.pkcs1_params.specs.Meanings.{IsNoSentence, IsNoShortest, IsTheMeaning, IsTheShortest};
 ghost use Rattle.pkcs1_params.specs.Parameters as grammar;
 ghost use Rattle.pkcs1_params.specs.OaepValue.{oaep_viewed};
-ghost use Rattle.pkcs1_c.specs.NotWritten.{IsTooLong, HasNoRoom};
-ghost use Rattle.der_core.specs.declared.error.ErrorKind as der;
 ghost use Rattle.pkcs1_params.specs.ParameterFaults.{RsaOaepParamsFault, StrictOaepFault};
-ghost use Rattle.pkcs1_params.specs.Parameters.{oaep_fields};
-ghost use Rattle.spki_core.specs.StrictFields.{WritesDefault};
-ghost use Rattle.pkcs1_c.specs.Status.{kind_number, status_of, IsNumberOfFault};
+ghost use Rattle.pkcs1_c.specs.Status.{IsStatusOf, status_of};
 ghost use Rattle.pkcs1_c.specs.StructValues.{oaep_seen, OaepIsTidy};
-ghost use Rattle.pkcs1_c.specs.StructErrors.{EncodingError, OaepError, OaepFieldError};
+ghost use Rattle.pkcs1_c.specs.StructErrors.{EncodingError, OaepFieldError, WritesFields};
+ghost use Rattle.pkcs1_c.specs.Writes.{Writes};
 
 use crate::algorithm::{
     Algorithm, MaskGen, from_c_algorithm, from_c_mask_gen, to_c_algorithm, to_c_mask_gen,
 };
-use crate::status::{NO_ROOM, NONCANONICAL, OK, status};
+use crate::status::{OK, status};
 use crate::written::set_needed;
 use pkcs1::RsaOaepParamsView;
 
@@ -58,16 +56,8 @@ pub(crate) fn from_c_oaep<'a>(params: &OaepParams<'a>) -> pkcs1::Result<RsaOaepP
 /// Writes the shortest encoding of the parameters, as `write_encoding` does.
 fn write_oaep(params: &RsaOaepParamsView<'_>, out: &mut [u8], len: &mut usize) -> u32
     requires { HasEncoding grammar.RsaOaepParams (oaep_viewed params.now) }
-    ensures ok { result ≡ OK → IsShortest grammar.RsaOaepParams (oaep_viewed params.now) (take len.new out.new) }
-    ensures rest { result ≡ OK → (len.new ≤ length out.new) × (drop len.new out.new ≡ drop len.new out.old) }
-    ensures no_room { result ≡ NO_ROOM
-        → HasNoRoom grammar.RsaOaepParams (oaep_viewed params.now) (length out.old) len.new }
-    ensures exact { result ≢ OK
-        → EncodingError grammar.RsaOaepParams (oaep_viewed params.now) (length out.old) result }
-    ensures only { (status : ℕ) → EncodingError grammar.RsaOaepParams (oaep_viewed params.now) (length out.old) status
-        → result ≡ status }
-    ensures unchanged { result ≢ OK → out.new ≡ out.old }
-    ensures kept { result ≢ OK → result ≢ NO_ROOM → len.new ≡ len.old }
+    ensures { let v = oaep_viewed params.now in let Grammar = grammar.RsaOaepParams in
+        Writes (IsShortest Grammar v) (EncodingError Grammar v) out.old out.new len.old len.new result }
 {
     match params.encode_params(out) {
         Ok(written) => {
@@ -88,14 +78,9 @@ pub extern "C" fn pkcs1_c_oaep_params_decode<'a>(
     encoding: &'a [u8],
     params: &mut OaepParams<'a>,
 ) -> u32
-    ensures ok { result ≡ OK → Means grammar.RsaOaepParams encoding.now (oaep_seen params.new) }
-    ensures one { result ≡ OK → (other : grammar.OaepParameters) → Means grammar.RsaOaepParams encoding.now other
-        → other ≡ oaep_seen params.new }
-    ensures told { result < NO_ROOM }
-    ensures rejected { result ≢ OK → (other : grammar.OaepParameters) → Means grammar.RsaOaepParams encoding.now other
-        → ⊥ }
-    ensures exact { result ≢ OK → IsNumberOfFault (λ kind. RsaOaepParamsFault kind encoding.now) result }
-    ensures only { (kind : der.ErrorKind) → RsaOaepParamsFault kind encoding.now → result ≡ kind_number kind }
+    ensures ok { result ≡ OK → IsTheMeaning grammar.RsaOaepParams encoding.now (oaep_seen params.new) }
+    ensures rejected { result ≢ OK → IsNoSentence grammar.RsaOaepParams encoding.now }
+    ensures exact { IsStatusOf RsaOaepParamsFault encoding.now result }
     ensures tidy { result ≡ OK → OaepIsTidy params.new }
     ensures unchanged { result ≢ OK → params.new ≡ params.old }
 {
@@ -115,18 +100,9 @@ pub extern "C" fn pkcs1_c_oaep_params_decode_strict<'a>(
     encoding: &'a [u8],
     params: &mut OaepParams<'a>,
 ) -> u32
-    ensures ok { result ≡ OK → IsShortest grammar.RsaOaepParams (oaep_seen params.new) encoding.now }
-    ensures one { result ≡ OK → (other : grammar.OaepParameters) → Means grammar.RsaOaepParams encoding.now other
-        → other ≡ oaep_seen params.new }
-    ensures told { result < NO_ROOM }
-    ensures rejected { result ≢ OK
-        → (other : grammar.OaepParameters) → IsShortest grammar.RsaOaepParams other encoding.now → ⊥ }
-    ensures default { result ≢ OK
-        → (other : grammar.OaepParameters) → Means grammar.RsaOaepParams encoding.now other → result ≡ NONCANONICAL }
-    ensures exact { result ≢ OK → IsNumberOfFault (λ kind. RsaOaepParamsFault kind encoding.now) result
-        ⊎ ((result ≡ NONCANONICAL) × (other : grammar.OaepParameters) × Means grammar.RsaOaepParams encoding.now other
-        × (n : ℕ) × WritesDefault (oaep_fields other) n encoding.now) }
-    ensures only { (kind : der.ErrorKind) → StrictOaepFault kind encoding.now → result ≡ kind_number kind }
+    ensures ok { result ≡ OK → IsTheShortest grammar.RsaOaepParams encoding.now (oaep_seen params.new) }
+    ensures rejected { result ≢ OK → IsNoShortest grammar.RsaOaepParams encoding.now }
+    ensures exact { IsStatusOf StrictOaepFault encoding.now result }
     ensures tidy { result ≡ OK → OaepIsTidy params.new }
     ensures unchanged { result ≢ OK → params.new ≡ params.old }
 {
@@ -147,16 +123,8 @@ pub extern "C" fn pkcs1_c_oaep_params_encode(
     out: &mut [u8],
     len: &mut usize,
 ) -> u32
-    ensures ok { result ≡ OK → IsShortest grammar.RsaOaepParams (oaep_seen params.now) (take len.new out.new) }
-    ensures rest { result ≡ OK → (len.new ≤ length out.new) × (drop len.new out.new ≡ drop len.new out.old) }
-    ensures no_room { result ≡ NO_ROOM
-        → HasNoRoom grammar.RsaOaepParams (oaep_seen params.now) (length out.old) len.new }
-    ensures rejected { result ≢ OK → result ≢ NO_ROOM → IsTooLong grammar.RsaOaepParams (oaep_seen params.now) }
-    ensures exact { result ≢ OK → OaepError (oaep_seen params.now) (length out.old) result }
-    ensures only { (status : ℕ) → OaepError (oaep_seen params.now) (length out.old) status
-        → result ≡ status }
-    ensures unchanged { result ≢ OK → out.new ≡ out.old }
-    ensures kept { result ≢ OK → result ≢ NO_ROOM → len.new ≡ len.old }
+    ensures { let v = oaep_seen params.now in
+        WritesFields OaepFieldError grammar.RsaOaepParams v out.old out.new len.old len.new result }
 {
     match from_c_oaep(params) {
         Ok(made) => write_oaep(&made, out, len),

@@ -1,16 +1,13 @@
 //! The algorithm identifier of RSAES-OAEP with its parameters.
-ghost use Rattle.std.specs.Prelude.{◌≡◌, ◌≢◌, ◌<◌, ◌≤◌, ℕ, length, take, drop};
-ghost use Rattle.der_core.specs.Document.{Means, IsShortest};
-ghost use Rattle.der_core.specs.declared.error.ErrorKind as der;
+ghost use Rattle.std.specs.Prelude.{◌≡◌, ◌≢◌};
 ghost use Rattle.pkcs1_params.specs.Algorithms.{RsaOaepAlgorithm, RsaOaepAlgorithmFault, StrictOaepAlgorithmFault};
-ghost use Rattle.pkcs1_params.specs.Parameters as grammar;
-ghost use Rattle.pkcs1_c.specs.NotWritten.{IsTooLong, HasNoRoom};
-ghost use Rattle.pkcs1_c.specs.Status.{kind_number, IsNumberOfFault};
-ghost use Rattle.pkcs1_c.specs.StructErrors.{OaepAlgorithmError};
+ghost use Rattle.pkcs1_params.specs.Meanings.{IsNoSentence, IsNoShortest, IsTheMeaning, IsTheShortest};
+ghost use Rattle.pkcs1_c.specs.Status.{IsStatusOf};
+ghost use Rattle.pkcs1_c.specs.StructErrors.{OaepFieldError, WritesFields};
 ghost use Rattle.pkcs1_c.specs.StructValues.{oaep_seen, OaepIsTidy};
 
 use crate::oaep::{OaepParams, from_c_oaep, to_c_oaep};
-use crate::status::{NO_ROOM, OK, status};
+use crate::status::{OK, status};
 use crate::written::write_encoding;
 use pkcs1::{FromAlgorithm, RsaOaepParamsView};
 
@@ -21,13 +18,9 @@ pub extern "C" fn pkcs1_c_oaep_algorithm_decode<'a>(
     encoding: &'a [u8],
     params: &mut OaepParams<'a>,
 ) -> u32
-    ensures ok { result ≡ OK → Means RsaOaepAlgorithm encoding.now (oaep_seen params.new) }
-    ensures one { result ≡ OK → (other : grammar.OaepParameters) → Means RsaOaepAlgorithm encoding.now other
-        → other ≡ oaep_seen params.new }
-    ensures told { result < NO_ROOM }
-    ensures rejected { result ≢ OK → (other : grammar.OaepParameters) → Means RsaOaepAlgorithm encoding.now other → ⊥ }
-    ensures exact { result ≢ OK → IsNumberOfFault (λ kind. RsaOaepAlgorithmFault kind encoding.now) result }
-    ensures only { (kind : der.ErrorKind) → RsaOaepAlgorithmFault kind encoding.now → result ≡ kind_number kind }
+    ensures ok { result ≡ OK → IsTheMeaning RsaOaepAlgorithm encoding.now (oaep_seen params.new) }
+    ensures rejected { result ≢ OK → IsNoSentence RsaOaepAlgorithm encoding.now }
+    ensures exact { IsStatusOf RsaOaepAlgorithmFault encoding.now result }
     ensures tidy { result ≡ OK → OaepIsTidy params.new }
     ensures unchanged { result ≢ OK → params.new ≡ params.old }
 {
@@ -47,14 +40,9 @@ pub extern "C" fn pkcs1_c_oaep_algorithm_decode_strict<'a>(
     encoding: &'a [u8],
     params: &mut OaepParams<'a>,
 ) -> u32
-    ensures ok { result ≡ OK → IsShortest RsaOaepAlgorithm (oaep_seen params.new) encoding.now }
-    ensures one { result ≡ OK → (other : grammar.OaepParameters) → Means RsaOaepAlgorithm encoding.now other
-        → other ≡ oaep_seen params.new }
-    ensures told { result < NO_ROOM }
-    ensures rejected { result ≢ OK
-        → (other : grammar.OaepParameters) → IsShortest RsaOaepAlgorithm other encoding.now → ⊥ }
-    ensures exact { result ≢ OK → IsNumberOfFault (λ kind. StrictOaepAlgorithmFault kind encoding.now) result }
-    ensures only { (kind : der.ErrorKind) → StrictOaepAlgorithmFault kind encoding.now → result ≡ kind_number kind }
+    ensures ok { result ≡ OK → IsTheShortest RsaOaepAlgorithm encoding.now (oaep_seen params.new) }
+    ensures rejected { result ≢ OK → IsNoShortest RsaOaepAlgorithm encoding.now }
+    ensures exact { IsStatusOf StrictOaepAlgorithmFault encoding.now result }
     ensures tidy { result ≡ OK → OaepIsTidy params.new }
     ensures unchanged { result ≢ OK → params.new ≡ params.old }
 {
@@ -75,15 +63,8 @@ pub extern "C" fn pkcs1_c_oaep_algorithm_encode(
     out: &mut [u8],
     len: &mut usize,
 ) -> u32
-    ensures ok { result ≡ OK → IsShortest RsaOaepAlgorithm (oaep_seen params.now) (take len.new out.new) }
-    ensures rest { result ≡ OK → (len.new ≤ length out.new) × (drop len.new out.new ≡ drop len.new out.old) }
-    ensures no_room { result ≡ NO_ROOM → HasNoRoom RsaOaepAlgorithm (oaep_seen params.now) (length out.old) len.new }
-    ensures rejected { result ≢ OK → result ≢ NO_ROOM → IsTooLong RsaOaepAlgorithm (oaep_seen params.now) }
-    ensures exact { result ≢ OK → OaepAlgorithmError (oaep_seen params.now) (length out.old) result }
-    ensures only { (status : ℕ) → OaepAlgorithmError (oaep_seen params.now) (length out.old) status
-        → result ≡ status }
-    ensures unchanged { result ≢ OK → out.new ≡ out.old }
-    ensures kept { result ≢ OK → result ≢ NO_ROOM → len.new ≡ len.old }
+    ensures { let v = oaep_seen params.now in
+        WritesFields OaepFieldError RsaOaepAlgorithm v out.old out.new len.old len.new result }
 {
     match from_c_oaep(params) {
         Ok(made) => {

@@ -1,5 +1,5 @@
 //! Private keys.
-ghost use Rattle.std.specs.Prelude.{length, drop, ◌≡◌, ◌≢◌, ◌<◌, ℕ, List, Option, ◌≤◌, ◌⊎◌, take, map, ◌++◌, ◌∷◌, []};
+ghost use Rattle.std.specs.Prelude.{length, drop, ◌≡◌, ◌≢◌, ◌<◌, ℕ, List, Option, map, ◌++◌, ◌∷◌, []};
 ghost use Rattle.std.specs.Prelude.{OnOk, IfOk, IfErr};
 ghost use Rattle.der_core.specs.Document.{Means};
 ghost use Rattle.der_core.specs.UintRefValue.{bytes_of};
@@ -11,16 +11,15 @@ ghost use Rattle.pkcs1.specs.KeyFaults.{RsaPrivateKeyFault};
 ghost use Rattle.pkcs1_c.specs.Status.{IsStatusOf, status_of};
 ghost use Rattle.pkcs1_params.specs.Meanings.{IsNoSentence};
 ghost use Rattle.pkcs1_c.specs.StructValues.{private_key_seen, other_prime_seen, ArePlaced, AreListed};
-ghost use Rattle.pkcs1.specs.KeyEncodings.{IsOnlyEncoding};
 ghost use Rattle.pkcs1_c.specs.Given.{IsGiven};
 ghost use Rattle.pkcs1_c.specs.Numbers.{IsOtherOf, AreOtherNumbers};
-ghost use Rattle.pkcs1_c.specs.NotWritten.{IsTooLong, HasNoRoom};
+ghost use Rattle.pkcs1_c.specs.Writes.{IsGivenEncoding, Writes};
 ghost use Rattle.pkcs1.specs.Writing.{other_numbers};
 ghost use Rattle.pkcs1_c.specs.StructErrors.{NumbersError, PrivateKeyError, MayRunOutOfMemory};
 ghost use Rattle.pkcs1_c.specs.StructErrors.{given_numbers, others_numbers};
 
 use crate::numbers::number;
-use crate::status::{NO_ROOM, OK, OTHER_PRIMES, OUT_OF_MEMORY, status};
+use crate::status::{OK, OTHER_PRIMES, OUT_OF_MEMORY, status};
 use crate::written::write_encoding;
 use der_core::ErrorKind;
 use pkcs1::{
@@ -226,21 +225,11 @@ pub extern "C" fn pkcs1_c_private_key_encode(
     out: &mut [u8],
     len: &mut usize,
 ) -> u32
-    ensures ok { result ≡ OK → (made : grammar.PrivateKey (List ℕ)) × IsGiven key.now others.now made
-        × IsOnlyEncoding grammar.RsaPrivateKey made (take len.new out.new) }
-    ensures rest { result ≡ OK → (len.new ≤ length out.new) × (drop len.new out.new ≡ drop len.new out.old) }
-    ensures no_room { result ≡ NO_ROOM → (made : grammar.PrivateKey (List ℕ)) × IsGiven key.now others.now made
-        × HasNoRoom grammar.RsaPrivateKey made (length out.old) len.new }
-    ensures rejected { result ≢ OK → result ≢ NO_ROOM → result ≢ OUT_OF_MEMORY → (made : grammar.PrivateKey (List ℕ))
-        → IsGiven key.now others.now made → IsTooLong grammar.RsaPrivateKey made }
-    ensures counts { key.now.other_primes ≢ length others.now → result ≡ OTHER_PRIMES }
-    ensures exact { result ≢ OK → result ≢ OUT_OF_MEMORY
-        → PrivateKeyError key.now others.now (length out.old) result }
-    ensures only { (status : ℕ) → PrivateKeyError key.now others.now (length out.old) status
-        → (result ≡ status) ⊎ (result ≡ OUT_OF_MEMORY) }
-    ensures memory { result ≡ OUT_OF_MEMORY → MayRunOutOfMemory key.now others.now }
-    ensures unchanged { result ≢ OK → out.new ≡ out.old }
-    ensures kept { result ≢ OK → result ≢ NO_ROOM → len.new ≡ len.old }
+    ensures writes { result ≢ OUT_OF_MEMORY
+        → let IsEncoding = IsGivenEncoding (IsGiven key.now others.now) grammar.RsaPrivateKey in
+        Writes IsEncoding (PrivateKeyError key.now others.now) out.old out.new len.old len.new result }
+    ensures memory { result ≡ OUT_OF_MEMORY
+        → MayRunOutOfMemory key.now others.now × (out.new ≡ out.old) × (len.new ≡ len.old) }
 {
     if key.other_primes != others.len() {
         return OTHER_PRIMES;

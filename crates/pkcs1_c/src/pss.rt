@@ -1,21 +1,19 @@
 //! Parameters of RSASSA-PSS.
-ghost use Rattle.std.specs.Prelude.{◌≡◌, ◌≢◌, ◌<◌, ◌≤◌, ◌⊎◌, ℕ, length, take, drop, IfOk, IfErr};
-ghost use Rattle.der_core.specs.Document.{HasEncoding, Means, IsShortest};
+ghost use Rattle.std.specs.Prelude.{◌≡◌, ◌≢◌, ◌<◌, IfOk, IfErr};
+ghost use Rattle.der_core.specs.Document.{HasEncoding, IsShortest};
+ghost use Rattle.pkcs1_params.specs.Meanings.{IsNoSentence, IsNoShortest, IsTheMeaning, IsTheShortest};
 ghost use Rattle.pkcs1_params.specs.Parameters as grammar;
 ghost use Rattle.pkcs1_params.specs.PssValue.{pss_viewed};
-ghost use Rattle.pkcs1_c.specs.NotWritten.{IsTooLong, HasNoRoom};
-ghost use Rattle.der_core.specs.declared.error.ErrorKind as der;
 ghost use Rattle.pkcs1_params.specs.ParameterFaults.{RsaPssParamsFault, StrictPssFault};
-ghost use Rattle.pkcs1_params.specs.Parameters.{pss_fields};
-ghost use Rattle.spki_core.specs.StrictFields.{WritesDefault};
-ghost use Rattle.pkcs1_c.specs.Status.{kind_number, status_of, IsNumberOfFault};
+ghost use Rattle.pkcs1_c.specs.Status.{IsStatusOf, status_of};
 ghost use Rattle.pkcs1_c.specs.StructValues.{pss_seen, PssIsTidy};
-ghost use Rattle.pkcs1_c.specs.StructErrors.{EncodingError, PssError, PssFieldError};
+ghost use Rattle.pkcs1_c.specs.StructErrors.{EncodingError, PssFieldError, WritesFields};
+ghost use Rattle.pkcs1_c.specs.Writes.{Writes};
 
 use crate::algorithm::{
     Algorithm, MaskGen, from_c_algorithm, from_c_mask_gen, to_c_algorithm, to_c_mask_gen,
 };
-use crate::status::{NO_ROOM, NONCANONICAL, OK, status};
+use crate::status::{OK, status};
 use crate::written::set_needed;
 use der_core::{ErrorKind, Tag};
 use pkcs1::{Error, RsaPssParamsView, TrailerField};
@@ -70,16 +68,8 @@ pub(crate) fn from_c_pss<'a>(params: &PssParams<'a>) -> pkcs1::Result<RsaPssPara
 /// Writes the shortest encoding of the parameters, as `write_encoding` does.
 fn write_pss(params: &RsaPssParamsView<'_>, out: &mut [u8], len: &mut usize) -> u32
     requires { HasEncoding grammar.RsaPssParams (pss_viewed params.now) }
-    ensures ok { result ≡ OK → IsShortest grammar.RsaPssParams (pss_viewed params.now) (take len.new out.new) }
-    ensures rest { result ≡ OK → (len.new ≤ length out.new) × (drop len.new out.new ≡ drop len.new out.old) }
-    ensures no_room { result ≡ NO_ROOM
-        → HasNoRoom grammar.RsaPssParams (pss_viewed params.now) (length out.old) len.new }
-    ensures exact { result ≢ OK
-        → EncodingError grammar.RsaPssParams (pss_viewed params.now) (length out.old) result }
-    ensures only { (status : ℕ) → EncodingError grammar.RsaPssParams (pss_viewed params.now) (length out.old) status
-        → result ≡ status }
-    ensures unchanged { result ≢ OK → out.new ≡ out.old }
-    ensures kept { result ≢ OK → result ≢ NO_ROOM → len.new ≡ len.old }
+    ensures { let v = pss_viewed params.now in let Grammar = grammar.RsaPssParams in
+        Writes (IsShortest Grammar v) (EncodingError Grammar v) out.old out.new len.old len.new result }
 {
     match params.encode_params(out) {
         Ok(written) => {
@@ -100,14 +90,9 @@ pub extern "C" fn pkcs1_c_pss_params_decode<'a>(
     encoding: &'a [u8],
     params: &mut PssParams<'a>,
 ) -> u32
-    ensures ok { result ≡ OK → Means grammar.RsaPssParams encoding.now (pss_seen params.new) }
-    ensures one { result ≡ OK → (other : grammar.PssParameters) → Means grammar.RsaPssParams encoding.now other
-        → other ≡ pss_seen params.new }
-    ensures told { result < NO_ROOM }
-    ensures rejected { result ≢ OK → (other : grammar.PssParameters) → Means grammar.RsaPssParams encoding.now other
-        → ⊥ }
-    ensures exact { result ≢ OK → IsNumberOfFault (λ kind. RsaPssParamsFault kind encoding.now) result }
-    ensures only { (kind : der.ErrorKind) → RsaPssParamsFault kind encoding.now → result ≡ kind_number kind }
+    ensures ok { result ≡ OK → IsTheMeaning grammar.RsaPssParams encoding.now (pss_seen params.new) }
+    ensures rejected { result ≢ OK → IsNoSentence grammar.RsaPssParams encoding.now }
+    ensures exact { IsStatusOf RsaPssParamsFault encoding.now result }
     ensures tidy { result ≡ OK → PssIsTidy params.new }
     ensures unchanged { result ≢ OK → params.new ≡ params.old }
 {
@@ -127,18 +112,9 @@ pub extern "C" fn pkcs1_c_pss_params_decode_strict<'a>(
     encoding: &'a [u8],
     params: &mut PssParams<'a>,
 ) -> u32
-    ensures ok { result ≡ OK → IsShortest grammar.RsaPssParams (pss_seen params.new) encoding.now }
-    ensures one { result ≡ OK → (other : grammar.PssParameters) → Means grammar.RsaPssParams encoding.now other
-        → other ≡ pss_seen params.new }
-    ensures told { result < NO_ROOM }
-    ensures rejected { result ≢ OK
-        → (other : grammar.PssParameters) → IsShortest grammar.RsaPssParams other encoding.now → ⊥ }
-    ensures default { result ≢ OK
-        → (other : grammar.PssParameters) → Means grammar.RsaPssParams encoding.now other → result ≡ NONCANONICAL }
-    ensures exact { result ≢ OK → IsNumberOfFault (λ kind. RsaPssParamsFault kind encoding.now) result
-        ⊎ ((result ≡ NONCANONICAL) × (other : grammar.PssParameters) × Means grammar.RsaPssParams encoding.now other
-        × (n : ℕ) × WritesDefault (pss_fields other) n encoding.now) }
-    ensures only { (kind : der.ErrorKind) → StrictPssFault kind encoding.now → result ≡ kind_number kind }
+    ensures ok { result ≡ OK → IsTheShortest grammar.RsaPssParams encoding.now (pss_seen params.new) }
+    ensures rejected { result ≢ OK → IsNoShortest grammar.RsaPssParams encoding.now }
+    ensures exact { IsStatusOf StrictPssFault encoding.now result }
     ensures tidy { result ≡ OK → PssIsTidy params.new }
     ensures unchanged { result ≢ OK → params.new ≡ params.old }
 {
@@ -159,16 +135,8 @@ pub extern "C" fn pkcs1_c_pss_params_encode(
     out: &mut [u8],
     len: &mut usize,
 ) -> u32
-    ensures ok { result ≡ OK → IsShortest grammar.RsaPssParams (pss_seen params.now) (take len.new out.new) }
-    ensures rest { result ≡ OK → (len.new ≤ length out.new) × (drop len.new out.new ≡ drop len.new out.old) }
-    ensures no_room { result ≡ NO_ROOM
-        → HasNoRoom grammar.RsaPssParams (pss_seen params.now) (length out.old) len.new }
-    ensures rejected { result ≢ OK → result ≢ NO_ROOM → IsTooLong grammar.RsaPssParams (pss_seen params.now) }
-    ensures exact { result ≢ OK → PssError (pss_seen params.now) (length out.old) result }
-    ensures only { (status : ℕ) → PssError (pss_seen params.now) (length out.old) status
-        → result ≡ status }
-    ensures unchanged { result ≢ OK → out.new ≡ out.old }
-    ensures kept { result ≢ OK → result ≢ NO_ROOM → len.new ≡ len.old }
+    ensures { let v = pss_seen params.now in
+        WritesFields PssFieldError grammar.RsaPssParams v out.old out.new len.old len.new result }
 {
     match from_c_pss(params) {
         Ok(made) => write_pss(&made, out, len),

@@ -1,16 +1,13 @@
 //! The algorithm identifier of RSASSA-PSS with its parameters.
-ghost use Rattle.std.specs.Prelude.{◌≡◌, ◌≢◌, ◌<◌, ◌≤◌, ℕ, length, take, drop};
-ghost use Rattle.der_core.specs.Document.{Means, IsShortest};
-ghost use Rattle.der_core.specs.declared.error.ErrorKind as der;
+ghost use Rattle.std.specs.Prelude.{◌≡◌, ◌≢◌};
 ghost use Rattle.pkcs1_params.specs.Algorithms.{RsaPssAlgorithm, RsaPssAlgorithmFault, StrictPssAlgorithmFault};
-ghost use Rattle.pkcs1_params.specs.Parameters as grammar;
-ghost use Rattle.pkcs1_c.specs.NotWritten.{IsTooLong, HasNoRoom};
-ghost use Rattle.pkcs1_c.specs.Status.{kind_number, IsNumberOfFault};
-ghost use Rattle.pkcs1_c.specs.StructErrors.{PssAlgorithmError};
+ghost use Rattle.pkcs1_params.specs.Meanings.{IsNoSentence, IsNoShortest, IsTheMeaning, IsTheShortest};
+ghost use Rattle.pkcs1_c.specs.Status.{IsStatusOf};
+ghost use Rattle.pkcs1_c.specs.StructErrors.{PssFieldError, WritesFields};
 ghost use Rattle.pkcs1_c.specs.StructValues.{pss_seen, PssIsTidy};
 
 use crate::pss::{PssParams, from_c_pss, to_c_pss};
-use crate::status::{NO_ROOM, OK, status};
+use crate::status::{OK, status};
 use crate::written::write_encoding;
 use pkcs1::{FromAlgorithm, RsaPssParamsView};
 
@@ -21,13 +18,9 @@ pub extern "C" fn pkcs1_c_pss_algorithm_decode<'a>(
     encoding: &'a [u8],
     params: &mut PssParams<'a>,
 ) -> u32
-    ensures ok { result ≡ OK → Means RsaPssAlgorithm encoding.now (pss_seen params.new) }
-    ensures one { result ≡ OK → (other : grammar.PssParameters) → Means RsaPssAlgorithm encoding.now other
-        → other ≡ pss_seen params.new }
-    ensures told { result < NO_ROOM }
-    ensures rejected { result ≢ OK → (other : grammar.PssParameters) → Means RsaPssAlgorithm encoding.now other → ⊥ }
-    ensures exact { result ≢ OK → IsNumberOfFault (λ kind. RsaPssAlgorithmFault kind encoding.now) result }
-    ensures only { (kind : der.ErrorKind) → RsaPssAlgorithmFault kind encoding.now → result ≡ kind_number kind }
+    ensures ok { result ≡ OK → IsTheMeaning RsaPssAlgorithm encoding.now (pss_seen params.new) }
+    ensures rejected { result ≢ OK → IsNoSentence RsaPssAlgorithm encoding.now }
+    ensures exact { IsStatusOf RsaPssAlgorithmFault encoding.now result }
     ensures tidy { result ≡ OK → PssIsTidy params.new }
     ensures unchanged { result ≢ OK → params.new ≡ params.old }
 {
@@ -47,14 +40,9 @@ pub extern "C" fn pkcs1_c_pss_algorithm_decode_strict<'a>(
     encoding: &'a [u8],
     params: &mut PssParams<'a>,
 ) -> u32
-    ensures ok { result ≡ OK → IsShortest RsaPssAlgorithm (pss_seen params.new) encoding.now }
-    ensures one { result ≡ OK → (other : grammar.PssParameters) → Means RsaPssAlgorithm encoding.now other
-        → other ≡ pss_seen params.new }
-    ensures told { result < NO_ROOM }
-    ensures rejected { result ≢ OK
-        → (other : grammar.PssParameters) → IsShortest RsaPssAlgorithm other encoding.now → ⊥ }
-    ensures exact { result ≢ OK → IsNumberOfFault (λ kind. StrictPssAlgorithmFault kind encoding.now) result }
-    ensures only { (kind : der.ErrorKind) → StrictPssAlgorithmFault kind encoding.now → result ≡ kind_number kind }
+    ensures ok { result ≡ OK → IsTheShortest RsaPssAlgorithm encoding.now (pss_seen params.new) }
+    ensures rejected { result ≢ OK → IsNoShortest RsaPssAlgorithm encoding.now }
+    ensures exact { IsStatusOf StrictPssAlgorithmFault encoding.now result }
     ensures tidy { result ≡ OK → PssIsTidy params.new }
     ensures unchanged { result ≢ OK → params.new ≡ params.old }
 {
@@ -75,15 +63,8 @@ pub extern "C" fn pkcs1_c_pss_algorithm_encode(
     out: &mut [u8],
     len: &mut usize,
 ) -> u32
-    ensures ok { result ≡ OK → IsShortest RsaPssAlgorithm (pss_seen params.now) (take len.new out.new) }
-    ensures rest { result ≡ OK → (len.new ≤ length out.new) × (drop len.new out.new ≡ drop len.new out.old) }
-    ensures no_room { result ≡ NO_ROOM → HasNoRoom RsaPssAlgorithm (pss_seen params.now) (length out.old) len.new }
-    ensures rejected { result ≢ OK → result ≢ NO_ROOM → IsTooLong RsaPssAlgorithm (pss_seen params.now) }
-    ensures exact { result ≢ OK → PssAlgorithmError (pss_seen params.now) (length out.old) result }
-    ensures only { (status : ℕ) → PssAlgorithmError (pss_seen params.now) (length out.old) status
-        → result ≡ status }
-    ensures unchanged { result ≢ OK → out.new ≡ out.old }
-    ensures kept { result ≢ OK → result ≢ NO_ROOM → len.new ≡ len.old }
+    ensures { let v = pss_seen params.now in
+        WritesFields PssFieldError RsaPssAlgorithm v out.old out.new len.old len.new result }
 {
     match from_c_pss(params) {
         Ok(made) => {

@@ -1,10 +1,9 @@
 //! Public keys.
-ghost use Rattle.std.specs.Prelude.{◌≡◌, ◌≢◌, ◌<◌, ◌≤◌, ℕ, List, length, take, drop, IfOk, IfErr};
+ghost use Rattle.std.specs.Prelude.{◌≡◌, ◌≢◌, IfOk, IfErr};
 ghost use Rattle.pkcs1.specs.Keys as grammar;
-ghost use Rattle.pkcs1.specs.KeyEncodings.{IsOnlyEncoding};
 ghost use Rattle.pkcs1.specs.PublicKeyValue.{public_key_of};
 ghost use Rattle.pkcs1_c.specs.Numbers.{ArePublicNumbers};
-ghost use Rattle.pkcs1_c.specs.NotWritten.{IsTooLong, HasNoRoom};
+ghost use Rattle.pkcs1_c.specs.Writes.{IsGivenEncoding, Writes};
 ghost use Rattle.pkcs1_c.specs.StructValues.{public_key_seen};
 ghost use Rattle.pkcs1_c.specs.StructErrors.{NumbersError, PublicKeyError, two_numbers};
 ghost use Rattle.pkcs1.specs.KeyFaults.{RsaPublicKeyFault};
@@ -12,7 +11,7 @@ ghost use Rattle.pkcs1_c.specs.Status.{status_of, IsStatusOf};
 ghost use Rattle.pkcs1_params.specs.Meanings.{IsNoSentence, IsTheMeaning};
 
 use crate::numbers::number;
-use crate::status::{NO_ROOM, OK, status};
+use crate::status::{OK, status};
 use crate::written::write_encoding;
 use pkcs1::{RsaPublicKey, RsaPublicKeyRef};
 
@@ -63,18 +62,9 @@ pub extern "C" fn pkcs1_c_public_key_encode(
     out: &mut [u8],
     len: &mut usize,
 ) -> u32
-    ensures ok { result ≡ OK → (made : grammar.PublicKey (List ℕ)) × ArePublicNumbers made (public_key_seen key.now)
-        × IsOnlyEncoding grammar.RsaPublicKey made (take len.new out.new) }
-    ensures rest { result ≡ OK → (len.new ≤ length out.new) × (drop len.new out.new ≡ drop len.new out.old) }
-    ensures no_room { result ≡ NO_ROOM → (made : grammar.PublicKey (List ℕ))
-        × ArePublicNumbers made (public_key_seen key.now)
-        × HasNoRoom grammar.RsaPublicKey made (length out.old) len.new }
-    ensures rejected { result ≢ OK → result ≢ NO_ROOM → (made : grammar.PublicKey (List ℕ))
-        → ArePublicNumbers made (public_key_seen key.now) → IsTooLong grammar.RsaPublicKey made }
-    ensures exact { result ≢ OK → PublicKeyError (public_key_seen key.now) (length out.old) result }
-    ensures only { (status : ℕ) → PublicKeyError (public_key_seen key.now) (length out.old) status → result ≡ status }
-    ensures unchanged { result ≢ OK → out.new ≡ out.old }
-    ensures kept { result ≢ OK → result ≢ NO_ROOM → len.new ≡ len.old }
+    ensures { let given = public_key_seen key.now in
+        let IsEncoding = IsGivenEncoding (λ made. ArePublicNumbers made given) grammar.RsaPublicKey in
+        Writes IsEncoding (PublicKeyError given) out.old out.new len.old len.new result }
 {
     match from_c_key(key) {
         Ok(key) => write_encoding(&key, out, len),

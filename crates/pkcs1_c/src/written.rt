@@ -1,10 +1,10 @@
 //! Encoding into a caller's slice.
-ghost use Rattle.std.specs.Prelude.{◌≡◌, ◌≢◌, ◌≤◌, ℕ, List, length, take, drop};
+ghost use Rattle.std.specs.Prelude.{◌≡◌, ℕ, List, length};
 ghost use Rattle.der_core.specs.Document.{HasEncoding, IsShortest};
-ghost use Rattle.pkcs1_c.specs.NotWritten.{IsTooLong, HasNoRoom};
 ghost use Rattle.pkcs1_c.specs.StructErrors.{EncodingError};
+ghost use Rattle.pkcs1_c.specs.Writes.{IsTooLong, Writes};
 
-use crate::status::{NO_ROOM, OK, kind_number};
+use crate::status::{OK, kind_number};
 use der_core::Encode;
 
 /// Sets `len` to the length of the shortest encoding of the value, if it has one within the limit.
@@ -22,14 +22,8 @@ pub(crate) fn set_needed<T: Encode>(value: &T, len: &mut usize)
 /// with the needed length in `len`, or another status, with `len` unchanged.
 pub(crate) fn write_encoding<T: Encode>(value: &T, out: &mut [u8], len: &mut usize) -> u32
     requires { HasEncoding T.encoding (T.value value.now) }
-    ensures ok { result ≡ OK → IsShortest T.encoding (T.value value.now) (take len.new out.new) }
-    ensures rest { result ≡ OK → (len.new ≤ length out.new) × (drop len.new out.new ≡ drop len.new out.old) }
-    ensures no_room { result ≡ NO_ROOM → HasNoRoom T.encoding (T.value value.now) (length out.old) len.new }
-    ensures exact { result ≢ OK → EncodingError T.encoding (T.value value.now) (length out.old) result }
-    ensures only { (status : ℕ) → EncodingError T.encoding (T.value value.now) (length out.old) status
-        → result ≡ status }
-    ensures unchanged { result ≢ OK → out.new ≡ out.old }
-    ensures kept { result ≢ OK → result ≢ NO_ROOM → len.new ≡ len.old }
+    ensures { let v = T.value value.now in
+        Writes (IsShortest T.encoding v) (EncodingError T.encoding v) out.old out.new len.old len.new result }
 {
     match value.encode_into(out) {
         Ok(written) => {

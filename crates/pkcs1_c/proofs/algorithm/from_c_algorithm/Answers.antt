@@ -1,9 +1,5 @@
-use Rattle.std.proofs.Common.{ap, subst, inl, inr}
-use Rattle.std.specs.Prelude.{IsTrue}
-use Rattle.der_core.specs.Tag.{is_allowed}
+use Rattle.std.proofs.Common.{ap, inl, inr}
 use Rattle.der_core.specs.declared.error.Error.{Error}
-use Rattle.spki_core.specs.Laws.Held.{viewed_held}
-use Rattle.spki_core.specs.ObjectIdentifier.{IsIdentifier}
 use Rattle.pkcs1_c.specs.declared.algorithm.Algorithm.{Algorithm}
 use Rattle.pkcs1_c.specs.Status.{kind_number}
 use Rattle.pkcs1_c.specs.StructValues.{algorithm_seen}
@@ -17,15 +13,13 @@ Told a e = PlainError (algorithm_seen a) (kind_number e.kind)
 
 pub returns-in_err-tag-clause-err : goal.returns-in_err-tag-clause-err
 returns-in_err-tag-clause-err c =
-    let is = subst IsIdentifier c.in_ok-oid.ensures.ok (viewed_held c.in_ok-oid.oid) in
     let err = c.in_err-tag.ensures.err in
     err_handed (Told c.args.algorithm.now) c.in_err-tag.field-0.0 _ c.from_residual-in_err-tag.ensures.1
-    (algorithm_rejected c.args.algorithm.now (kind_number c.in_err-tag.field-0.0.kind) c.if-algorithm.true is (inl (ap kind_number err.0, err.1)))
+    (algorithm_rejected c.in_ok-oid.oid c.args.algorithm.now (kind_number c.in_err-tag.field-0.0.kind) c.if-algorithm.true c.in_ok-oid.ensures.ok (inl (ap kind_number err.0, err.1)))
 
 pub returns-in_err-new-clause-err : goal.returns-in_err-new-clause-err
 returns-in_err-new-clause-err c =
-    let is = subst IsIdentifier c.in_ok-oid.ensures.ok (viewed_held c.in_ok-oid.oid) in
-    let allowed = subst (λ t. IsTrue (is_allowed t)) c.in_ok-tag.ensures.ok c.in_ok-tag.tag.allowed in
+    let allowed = rw c.in_ok-tag.ensures.ok at c.in_ok-tag.tag.allowed in
     let err = c.in_err-new.ensures.err in
     err_handed (Told c.args.algorithm.now) c.in_err-new.field-0.0 _ c.from_residual-in_err-new.ensures.1
-    (algorithm_rejected c.args.algorithm.now (kind_number c.in_err-new.field-0.0.kind) c.if-algorithm.true is (inr (ap kind_number err.0, allowed, err.1)))
+    (algorithm_rejected c.in_ok-oid.oid c.args.algorithm.now (kind_number c.in_err-new.field-0.0.kind) c.if-algorithm.true c.in_ok-oid.ensures.ok (inr (ap kind_number err.0, allowed, err.1)))

@@ -1,7 +1,4 @@
-use Rattle.std.proofs.Common.{subst}
 use Rattle.der_core.specs.declared.error.Error.{Error}
-use Rattle.spki_core.specs.Laws.Held.{viewed_held}
-use Rattle.spki_core.specs.ObjectIdentifier.{IsIdentifier}
 use Rattle.pkcs1_c.specs.declared.algorithm.MaskGen.{MaskGen}
 use Rattle.pkcs1_c.specs.Status.{kind_number}
 use Rattle.pkcs1_c.specs.StructValues.{mask_gen_seen}
@@ -15,6 +12,5 @@ Told m e = MaskError (mask_gen_seen m) (kind_number e.kind)
 
 pub returns-in_err-from_c_algorithm-clause-err : goal.returns-in_err-from_c_algorithm-clause-err
 returns-in_err-from_c_algorithm-clause-err c =
-    let is = subst IsIdentifier c.in_ok-oid.ensures.ok (viewed_held c.in_ok-oid.oid) in
     err_handed (Told c.args.mask_gen.now) c.in_err-from_c_algorithm.field-0.0 _ c.from_residual-in_err-from_c_algorithm.ensures.1
-    (mask_rejected c.args.mask_gen.now (kind_number c.in_err-from_c_algorithm.field-0.0.kind) c.if-mask_gen.true is c.in_err-from_c_algorithm.ensures.err)
+    (mask_rejected c.in_ok-oid.oid c.args.mask_gen.now (kind_number c.in_err-from_c_algorithm.field-0.0.kind) c.if-mask_gen.true c.in_ok-oid.ensures.ok c.in_err-from_c_algorithm.ensures.err)

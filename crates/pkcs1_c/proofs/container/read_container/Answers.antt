@@ -1,14 +1,13 @@
 use Rattle.std.proofs.Common.{ℕ, List, subst}
+use Rattle.std.specs.Prelude.{Ok, Err}
 use Rattle.std.proofs.lemmas.Result.{err_from_is_err_and}
 use Rattle.der_core.specs.Document.{Means}
 use Rattle.pkcs1.specs.Keys.{PrivateKey}
 use Rattle.pkcs8_core.specs.Container.{Info, PrivateKeyInfo}
-use Rattle.pkcs8_core.specs.ContainerFaults.{RsaFault}
+use Rattle.pkcs8_core.specs.ContainerFaults.{PrivateKeyInfoFault, RsaFault}
 use Rattle.pkcs8_core.specs.Rsa.{HoldsRsa}
-use Rattle.pkcs8_core.specs.Held.{info_of}
-use Rattle.pkcs8_core.specs.Laws.ContainerFaults.{info_told}
-use Rattle.pkcs1_params.specs.Laws.Errors.{asn1_as, on_err}
-use Rattle.pkcs1_params.specs.Laws.FaultsTold.{fault_before, fault_behind, held_behind}
+use Rattle.pkcs1_params.specs.Laws.Errors.{on_err}
+use Rattle.pkcs1_params.specs.Laws.FaultsTold.{fault_before, errs_behind}
 use Rattle.pkcs1_c.proofs.container.read_container.Goals as goal
 
 -- The encoding is no container with an RSA key.
@@ -25,12 +24,16 @@ returns-in_err-view-clause-err c =
 pub returns-in_err-info-clause-exact : goal.returns-in_err-info-clause-exact
 returns-in_err-info-clause-exact c =
     let p = err_from_is_err_and c.from_residual.result c.from_residual.ensures.1 in
-    rw (p.1, p.2) (fault_before info_told c.args.encoding.now (λ i k. RsaFault k i) _ c.in_err-info.ensures.exact)
+    let e = c.in_err-info.ensures in
+    rw (p.1, p.2) (fault_before PrivateKeyInfo PrivateKeyInfoFault c.args.encoding.now RsaFault e.err _ e.exact)
 
 pub returns-in_err-view-clause-exact : goal.returns-in_err-view-clause-exact
 returns-in_err-view-clause-exact c =
     let p = err_from_is_err_and c.from_residual-in_err-view.result c.from_residual-in_err-view.ensures.1 in
-    rw (p.1, p.2) (asn1_as (λ a fault. fault_behind info_told c.args.encoding.now (λ i k. RsaFault k i) (info_of c.in_ok-info.info) c.in_ok-info.ensures.ok.0 a.kind fault) _ c.in_err-view.ensures.exact)
+    let r = c.in_ok-info.ensures in
+    rw (p.1, p.2) (errs_behind PrivateKeyInfo PrivateKeyInfoFault c.args.encoding.now RsaFault _ r.ok r.exact {X = Unit {0}} (Err _) c.in_err-view.ensures.exact)
 
 pub returns-clause-exact : goal.returns-clause-exact
-returns-clause-exact c kind fault = c.in_ok-view.ensures.exact kind (held_behind info_told c.args.encoding.now (λ i k. RsaFault k i) (info_of c.in_ok-info.info) c.in_ok-info.ensures.ok.0 kind fault)
+returns-clause-exact c =
+    let r = c.in_ok-info.ensures in
+    errs_behind PrivateKeyInfo PrivateKeyInfoFault c.args.encoding.now RsaFault _ r.ok r.exact {X = Unit {0}} (Ok tt) c.in_ok-view.ensures.exact

@@ -1,20 +1,9 @@
 use Rattle.pkcs1_params.specs.ParameterFaults.{RsaOaepParamsFault}
-use Rattle.std.proofs.Common.{◌∙◌, sym}
-use Rattle.std.proofs.Common.{arith}
-use Rattle.pkcs1_c.proofs.NotWritten.{status_below, status_faulty, status_only}
+use Rattle.pkcs1_c.proofs.NotWritten.{status_exact}
 use Rattle.pkcs1_c.proofs.oaep.pkcs1_c_oaep_params_decode.Goals as goal
 
-pub returns-in-Ok-clause-one : goal.returns-in-Ok-clause-one
-returns-in-Ok-clause-one c = λ _ other p. c.in-Ok.ensures.one other p ∙ sym c.to_c_oaep.ensures.seen
-
-pub returns-in-Err-clause-told : goal.returns-in-Err-clause-told
-returns-in-Err-clause-told c = omega (arith, c.status.ensures, status_below c.in-Err.error c.in-Err.ensures.asn1)
+pub returns-in-Ok-clause-ok : goal.returns-in-Ok-clause-ok
+returns-in-Ok-clause-ok c = λ _. rw c.to_c_oaep.ensures.seen c.in-Ok.ensures.ok
 
 pub returns-in-Err-clause-exact : goal.returns-in-Err-clause-exact
-returns-in-Err-clause-exact c = λ _. status_faulty (λ kind. RsaOaepParamsFault kind c.args.encoding.now) c.in-Err.error _ c.status.ensures c.in-Err.ensures.exact
-
-pub returns-in-Err-clause-only : goal.returns-in-Err-clause-only
-returns-in-Err-clause-only c kind fault = status_only kind c.in-Err.error _ c.status.ensures (c.in-Err.ensures.only kind fault)
-
-pub returns-in-Ok-clause-only : goal.returns-in-Ok-clause-only
-returns-in-Ok-clause-only c kind fault = absurd (c.in-Ok.ensures.only kind fault)
+returns-in-Err-clause-exact c = status_exact RsaOaepParamsFault c.args.encoding.now c.in-Err.error _ c.status.ensures c.in-Err.ensures.exact

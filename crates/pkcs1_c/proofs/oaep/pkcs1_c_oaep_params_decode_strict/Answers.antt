@@ -1,26 +1,9 @@
-use Rattle.pkcs1_params.specs.ParameterFaults.{RsaOaepParamsFault}
-use Rattle.pkcs1_params.specs.Parameters.{RsaOaepParams}
-use Rattle.std.proofs.Common.{◌∙◌, sym}
-use Rattle.pkcs1_params.specs.Parameters.{oaep_fields}
-use Rattle.pkcs1_c.proofs.NotWritten.{names_default}
-use Rattle.std.proofs.Common.{arith}
-use Rattle.pkcs1_c.proofs.NotWritten.{status_below, status_strict, status_only}
+use Rattle.pkcs1_params.specs.ParameterFaults.{StrictOaepFault}
+use Rattle.pkcs1_c.proofs.NotWritten.{status_exact}
 use Rattle.pkcs1_c.proofs.oaep.pkcs1_c_oaep_params_decode_strict.Goals as goal
 
-pub returns-in-Ok-clause-one : goal.returns-in-Ok-clause-one
-returns-in-Ok-clause-one c = λ _ other p. c.in-Ok.ensures.one other p ∙ sym c.to_c_oaep.ensures.seen
-
-pub returns-in-Err-clause-default : goal.returns-in-Err-clause-default
-returns-in-Err-clause-default c = λ _ other p. c.status.ensures ∙ names_default (oaep_fields other) c.args.encoding.now c.in-Err.error (c.in-Err.ensures.default other p)
-
-pub returns-in-Err-clause-told : goal.returns-in-Err-clause-told
-returns-in-Err-clause-told c = omega (arith, c.status.ensures, status_below c.in-Err.error c.in-Err.ensures.asn1)
+pub returns-in-Ok-clause-ok : goal.returns-in-Ok-clause-ok
+returns-in-Ok-clause-ok c = λ _. rw c.to_c_oaep.ensures.seen c.in-Ok.ensures.ok
 
 pub returns-in-Err-clause-exact : goal.returns-in-Err-clause-exact
-returns-in-Err-clause-exact c = λ _. status_strict RsaOaepParams oaep_fields (λ kind. RsaOaepParamsFault kind c.args.encoding.now) c.args.encoding.now c.in-Err.error _ c.status.ensures c.in-Err.ensures.exact
-
-pub returns-in-Err-clause-only : goal.returns-in-Err-clause-only
-returns-in-Err-clause-only c kind fault = status_only kind c.in-Err.error _ c.status.ensures (c.in-Err.ensures.only kind fault)
-
-pub returns-in-Ok-clause-only : goal.returns-in-Ok-clause-only
-returns-in-Ok-clause-only c kind fault = absurd (c.in-Ok.ensures.only kind fault)
+returns-in-Err-clause-exact c = status_exact StrictOaepFault c.args.encoding.now c.in-Err.error _ c.status.ensures c.in-Err.ensures.exact

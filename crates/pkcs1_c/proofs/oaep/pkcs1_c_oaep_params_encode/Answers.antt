@@ -1,54 +1,21 @@
-use Rattle.std.proofs.Common.{length, sym, subst, arith, inl, inr}
 use Rattle.pkcs1_params.specs.Parameters.{RsaOaepParams}
-use Rattle.pkcs1_c.specs.Fits.{OaepFits}
 use Rattle.pkcs1_c.specs.StructValues.{oaep_seen}
-use Rattle.pkcs1_c.specs.StructErrors.{EncodingError, OaepFieldError}
-use Rattle.pkcs1_c.proofs.Fits.{oaep_fits}
-use Rattle.pkcs1_c.proofs.HeldParameters.{held_oaep_fits, oaep_some}
-use Rattle.pkcs1_c.proofs.StructErrors.{encoding_one, encoding_rejected, part_one, part_rest, oaep_part}
+use Rattle.pkcs1_c.specs.StructErrors.{OaepFieldError}
+use Rattle.pkcs1_c.proofs.HeldParameters.{oaep_none, oaep_some}
+use Rattle.pkcs1_c.proofs.StructErrors.{oaep_part}
+use Rattle.pkcs1_c.proofs.Writes.{fields_refused, fields_written}
 use Rattle.pkcs1_c.proofs.oaep.pkcs1_c_oaep_params_encode.Goals as goal
 
 pub write_oaep-requires : goal.write_oaep-requires
 write_oaep-requires c = oaep_some c.in-Ok.made
 
-pub returns-in-Ok-clause-ok : goal.returns-in-Ok-clause-ok
-returns-in-Ok-clause-ok c = λ zero. rw (c.in-Ok.ensures.ok) at c.write_oaep.ensures.ok zero
-
-pub returns-in-Ok-clause-no_room : goal.returns-in-Ok-clause-no_room
-returns-in-Ok-clause-no_room c = λ full. rw (c.in-Ok.ensures.ok) at c.write_oaep.ensures.no_room full
-
-pub returns-in-Ok-clause-exact : goal.returns-in-Ok-clause-exact
-returns-in-Ok-clause-exact c = λ no. inr (subst OaepFits c.in-Ok.ensures.ok (held_oaep_fits c.in-Ok.made), rw (c.in-Ok.ensures.ok) at c.write_oaep.ensures.exact no)
-
-pub returns-in-Ok-clause-only : goal.returns-in-Ok-clause-only
-returns-in-Ok-clause-only c s p =
+pub returns-in-Ok : goal.returns-in-Ok
+returns-in-Ok c =
     let seen = oaep_seen c.args.params.now in
-    let fits = subst OaepFits c.in-Ok.ensures.ok (held_oaep_fits c.in-Ok.made) in
-    let encoding = part_rest (OaepFieldError seen) (OaepFits seen) (EncodingError RsaOaepParams seen (length c.args.out.now)) (oaep_part seen).1 fits s p in
-    c.write_oaep.ensures.only s (rw (sym c.in-Ok.ensures.ok) at encoding)
+    let is = c.in-Ok.ensures.ok in
+    fields_written OaepFieldError RsaOaepParams seen (oaep_none c.in-Ok.made seen is) (rw is at c.write_oaep.ensures)
 
-pub returns-in-Ok-clause-rejected : goal.returns-in-Ok-clause-rejected
-returns-in-Ok-clause-rejected c = λ no other. encoding_rejected RsaOaepParams _ _ _ other (rw (c.in-Ok.ensures.ok) at c.write_oaep.ensures.exact no)
-
-pub returns-in-Err-clause-ok : goal.returns-in-Err-clause-ok
-returns-in-Err-clause-ok c = λ zero. absurd (omega (arith, zero, c.status.ensures, ((oaep_part _).2 _ c.in-Err.ensures.err).0))
-
-pub returns-in-Err-clause-rest : goal.returns-in-Err-clause-rest
-returns-in-Err-clause-rest c = λ zero. absurd (omega (arith, zero, c.status.ensures, ((oaep_part _).2 _ c.in-Err.ensures.err).0))
-
-pub returns-in-Err-clause-no_room : goal.returns-in-Err-clause-no_room
-returns-in-Err-clause-no_room c = λ full. absurd (omega (arith, full, c.status.ensures, ((oaep_part _).2 _ c.in-Err.ensures.err).1))
-
-pub returns-in-Err-clause-exact : goal.returns-in-Err-clause-exact
-returns-in-Err-clause-exact c = λ _. inl (subst (OaepFieldError (oaep_seen c.args.params.now)) (sym c.status.ensures) c.in-Err.ensures.err)
-
-pub returns-in-Err-clause-only : goal.returns-in-Err-clause-only
-returns-in-Err-clause-only c s p =
+pub returns-in-Err : goal.returns-in-Err
+returns-in-Err c =
     let seen = oaep_seen c.args.params.now in
-    let room = length c.args.out.now in
-    let part = oaep_part seen in
-    let err = subst (OaepFieldError seen) (sym c.status.ensures) c.in-Err.ensures.err in
-    part_one (OaepFieldError seen) (OaepFits seen) (EncodingError RsaOaepParams seen room) part.0 part.1 (encoding_one RsaOaepParams seen room) c.status.result s (inl err) p
-
-pub returns-in-Err-clause-rejected : goal.returns-in-Err-clause-rejected
-returns-in-Err-clause-rejected c = λ _ _ encoding m. absurd ((oaep_part _).1 _ c.in-Err.ensures.err (oaep_fits _ encoding m))
+    fields_refused OaepFieldError RsaOaepParams seen c.args.out.now c.args.len.now _ _ c.status.ensures (oaep_part seen) c.in-Err.ensures.err

@@ -1,71 +1,54 @@
-use Rattle.std.proofs.Common.{◌≢◌, ◌<◌, length, sym, subst, ◌∙◌, arith, inl, inr, ⊎_elim}
+use Rattle.std.proofs.Common.{ℕ, List, ◌≡◌, ◌≢◌, length, sym, refl, ◌∙◌, arith}
 use Rattle.pkcs1.specs.Keys.{RsaPrivateKey}
 use Rattle.pkcs1.specs.PrivateKeyValue.{private_key_of}
 use Rattle.pkcs1.specs.Laws.KeyEncodings.{only_encoding}
 use Rattle.pkcs1.specs.Laws.PrivateKeys.{private_at_most_one, private_delimited}
-use Rattle.pkcs1_c.specs.StructErrors.{NumbersError, given_numbers}
-use Rattle.pkcs1_c.proofs.HeldKeys.{private_fits, private_some, private_error, private_one, private_rejected}
-use Rattle.pkcs1_c.proofs.StructErrors.{is_memory, encoding_number, numbers_part}
+use Rattle.pkcs1_c.specs.declared.private_key.PrivateKey.{PrivateKey}
+use Rattle.pkcs1_c.specs.declared.private_key.OtherPrime.{OtherPrime}
+use Rattle.pkcs1_c.specs.Given.{IsGiven}
+use Rattle.pkcs1_c.specs.StructErrors.{GivenError, PartThen, NumbersError, given_numbers}
+use Rattle.pkcs1_c.specs.Writes.{IsGivenEncoding}
+use Rattle.pkcs1_c.proofs.HeldKeys.{given_same, given_written, numbers_refused, private_none, private_some}
+use Rattle.pkcs1_c.proofs.StructErrors.{given_one, numbers_part, part_one, unless_part}
+use Rattle.pkcs1_c.proofs.Writes.{behind_part, part_refused, no_memory_asked}
 use Rattle.pkcs1_c.proofs.private_key.pkcs1_c_private_key_encode.Goals as goal
+
+abbrev Miscounted : PrivateKey → List OtherPrime → ℕ → Type 0
+Miscounted key others status = (status ≡ 21) × (key.other_primes ≢ length others)
+
+abbrev Counted : PrivateKey → List OtherPrime → ℕ → ℕ → Type 0
+Counted key others room = PartThen (NumbersError (given_numbers key others)) (GivenError (IsGiven key others) RsaPrivateKey room)
 
 pub write_encoding-requires : goal.write_encoding-requires
 write_encoding-requires c = private_some c.in-Ok.key _ c.in-Ok.ensures.ok.1.8
 
-pub returns-in-Ok-clause-ok : goal.returns-in-Ok-clause-ok
-returns-in-Ok-clause-ok c = λ zero.
-    let key = private_key_of c.in-Ok.key in
-    (key, c.in-Ok.ensures.ok, only_encoding RsaPrivateKey private_delimited key (private_at_most_one key) _ (c.write_encoding.ensures.ok zero))
-
-pub returns-in-Ok-clause-no_room : goal.returns-in-Ok-clause-no_room
-returns-in-Ok-clause-no_room c = λ full. (private_key_of c.in-Ok.key, c.in-Ok.ensures.ok, c.write_encoding.ensures.no_room full)
-
-pub returns-in-Ok-clause-exact : goal.returns-in-Ok-clause-exact
-returns-in-Ok-clause-exact c = λ no _.
-    let given = c.in-Ok.ensures.ok in
-    inr (given.0, inr (private_fits c.args.key.now c.args.others.now c.in-Ok.key given, (private_key_of c.in-Ok.key, given, c.write_encoding.ensures.exact no)))
-
-pub returns-in-Ok-clause-memory : goal.returns-in-Ok-clause-memory
-returns-in-Ok-clause-memory c = λ memory.
-    let encoding = c.write_encoding.ensures.exact (λ zero. omega (arith, zero, memory)) in
-    absurd (⊎_elim (λ long. omega (arith, long, memory)) (λ room. omega (arith, room, memory)) (encoding_number RsaPrivateKey _ _ _ encoding))
-
-pub returns-in-Ok-clause-only : goal.returns-in-Ok-clause-only
-returns-in-Ok-clause-only c s p =
+pub returns-then-key-others-clause-writes : goal.returns-then-key-others-clause-writes
+returns-then-key-others-clause-writes c = λ _.
     let key = c.args.key.now in
     let others = c.args.others.now in
+    let numbers = given_numbers key others in
+    let room = length c.args.out.now in
+    part_refused (IsGivenEncoding (IsGiven key others) RsaPrivateKey) c.args.out.now c.args.len.now 21 21 refl (Miscounted key others) (Counted key others) (unless_part 21 (key.other_primes ≡ length others) (omega arith) (λ e. omega (arith, e)))
+    (part_one (NumbersError numbers) (GivenError (IsGiven key others) RsaPrivateKey room) (numbers_part numbers).0 (given_one (IsGiven key others) RsaPrivateKey (given_same key others) room)) (refl, c.if-key-others.true)
+
+pub returns-in-Ok-clause-writes : goal.returns-in-Ok-clause-writes
+returns-in-Ok-clause-writes c = λ _.
+    let key = c.args.key.now in
+    let others = c.args.others.now in
+    let made = private_key_of c.in-Ok.key in
     let given = c.in-Ok.ensures.ok in
-    inl (c.write_encoding.ensures.only s (private_error key others (length c.args.out.now) (private_key_of c.in-Ok.key) given (private_fits key others c.in-Ok.key given) s p))
+    behind_part (Miscounted key others) (Counted key others) (λ s p. p.1 given.0)
+    (given_written (given_numbers key others) (IsGiven key others) RsaPrivateKey (given_same key others) made given (private_none key others c.in-Ok.key given) (only_encoding RsaPrivateKey private_delimited made (private_at_most_one made)) c.write_encoding.ensures)
 
-pub returns-in-Ok-clause-rejected : goal.returns-in-Ok-clause-rejected
-returns-in-Ok-clause-rejected c = λ no other memory. private_rejected c.args.key.now c.args.others.now (length c.args.out.now) _ other (returns-in-Ok-clause-exact c no memory)
+pub returns-in-Err-clause-writes : goal.returns-in-Err-clause-writes
+returns-in-Err-clause-writes c = λ other.
+    let key = c.args.key.now in
+    let others = c.args.others.now in
+    behind_part (Miscounted key others) (Counted key others) (λ s p. p.1 (omega (arith, c.if-key-others.false)))
+    (numbers_refused (given_numbers key others) (IsGiven key others) RsaPrivateKey (given_same key others) c.args.out.now c.args.len.now _ _ c.status.ensures (c.in-Err.ensures.err (λ e. other (c.status.ensures ∙ e))))
 
--- A number is rejected, lack of memory aside.
-numbers : (c : goal.After-status) → c.status.result ≢ 17 → NumbersError (given_numbers c.args.key.now c.args.others.now) c.status.result
-numbers c other = subst (NumbersError (given_numbers c.args.key.now c.args.others.now)) (sym c.status.ensures) (c.in-Err.ensures.err (λ e. other (c.status.ensures ∙ e)))
-
-told : (c : goal.After-status) → c.status.result ≢ 17 → (0 < c.status.result) × (c.status.result < 15)
-told c other = (numbers_part (given_numbers c.args.key.now c.args.others.now)).2 c.status.result (numbers c other)
-
-pub returns-in-Err-clause-exact : goal.returns-in-Err-clause-exact
-returns-in-Err-clause-exact c = λ _ other. inr (omega (arith, c.if-key-others.false), inl (numbers c other))
-
-pub returns-in-Err-clause-only : goal.returns-in-Err-clause-only
-returns-in-Err-clause-only c s p = elim (is_memory c.status.result) [
-  | inl memory ↦ inr memory
-  | inr other ↦ inl (private_one c.args.key.now c.args.others.now (length c.args.out.now) c.status.result s (inr (omega (arith, c.if-key-others.false), inl (numbers c other))) p)
-]
-
-pub returns-in-Err-clause-rejected : goal.returns-in-Err-clause-rejected
-returns-in-Err-clause-rejected c = λ no other memory. private_rejected c.args.key.now c.args.others.now (length c.args.out.now) _ other (returns-in-Err-clause-exact c no memory)
-
-pub returns-in-Err-clause-ok : goal.returns-in-Err-clause-ok
-returns-in-Err-clause-ok c = λ zero. absurd (omega (arith, zero, (told c (λ memory. omega (arith, zero, memory))).0))
-
-pub returns-in-Err-clause-rest : goal.returns-in-Err-clause-rest
-returns-in-Err-clause-rest c = λ zero. absurd (omega (arith, zero, (told c (λ memory. omega (arith, zero, memory))).0))
-
-pub returns-in-Err-clause-no_room : goal.returns-in-Err-clause-no_room
-returns-in-Err-clause-no_room c = λ full. absurd (omega (arith, full, (told c (λ memory. omega (arith, full, memory))).1))
+pub returns-in-Ok-clause-memory : goal.returns-in-Ok-clause-memory
+returns-in-Ok-clause-memory c = λ memory. absurd (no_memory_asked RsaPrivateKey (private_key_of c.in-Ok.key) _ _ c.write_encoding.ensures.exact memory)
 
 pub returns-in-Err-clause-memory : goal.returns-in-Err-clause-memory
-returns-in-Err-clause-memory c = λ memory. c.in-Err.ensures.memory (sym c.status.ensures ∙ memory)
+returns-in-Err-clause-memory c = λ memory. (c.in-Err.ensures.memory (sym c.status.ensures ∙ memory), refl, refl)

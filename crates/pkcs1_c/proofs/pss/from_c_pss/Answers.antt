@@ -1,18 +1,17 @@
-use Rattle.std.proofs.Common.{subst, ap, inl, inr}
+use Rattle.std.proofs.Common.{ap, inl, inr}
 use Rattle.std.proofs.lemmas.Result.{err_from_is_err_and}
-use Rattle.pkcs1_c.specs.Fits.{PlainFits, MaskFits}
 use Rattle.pkcs1_c.specs.Status.{kind_number}
-use Rattle.pkcs1_c.proofs.HeldParameters.{plain_fits, mask_fits}
+use Rattle.pkcs1_c.proofs.HeldParameters.{plain_none, mask_none}
 use Rattle.pkcs1_c.proofs.pss.from_c_pss.Goals as goal
 
 pub returns-in_err-mask_gen-clause-err : goal.returns-in_err-mask_gen-clause-err
 returns-in_err-mask_gen-clause-err c =
-    let hash = subst PlainFits c.in_ok-hash.ensures.ok (plain_fits c.in_ok-hash.hash) in
+    let hash = plain_none c.in_ok-hash.hash _ c.in_ok-hash.ensures.ok in
     let p = err_from_is_err_and c.from_residual-in_err-mask_gen.result c.from_residual-in_err-mask_gen.ensures.1 in
     rw (p.1, p.2) (inr (hash, inl c.in_err-mask_gen.ensures.err))
 
 pub returns-then-params-ne1-clause-err : goal.returns-then-params-ne1-clause-err
 returns-then-params-ne1-clause-err c =
-    let hash = subst PlainFits c.in_ok-hash.ensures.ok (plain_fits c.in_ok-hash.hash) in
-    let mask = subst MaskFits c.in_ok-mask_gen.ensures.ok (mask_fits c.in_ok-mask_gen.mask_gen) in
+    let hash = plain_none c.in_ok-hash.hash _ c.in_ok-hash.ensures.ok in
+    let mask = mask_none c.in_ok-mask_gen.mask_gen _ c.in_ok-mask_gen.ensures.ok in
     inr (hash, inr (mask, (ap (λ e. kind_number e.kind) c.new.ensures, c.if-params-ne1.true)))

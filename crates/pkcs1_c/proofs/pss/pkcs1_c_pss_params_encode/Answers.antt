@@ -1,54 +1,21 @@
-use Rattle.std.proofs.Common.{length, sym, subst, arith, inl, inr}
 use Rattle.pkcs1_params.specs.Parameters.{RsaPssParams}
-use Rattle.pkcs1_c.specs.Fits.{PssFits}
 use Rattle.pkcs1_c.specs.StructValues.{pss_seen}
-use Rattle.pkcs1_c.specs.StructErrors.{EncodingError, PssFieldError}
-use Rattle.pkcs1_c.proofs.Fits.{pss_fits}
-use Rattle.pkcs1_c.proofs.HeldParameters.{held_pss_fits, pss_some}
-use Rattle.pkcs1_c.proofs.StructErrors.{encoding_one, encoding_rejected, part_one, part_rest, pss_part}
+use Rattle.pkcs1_c.specs.StructErrors.{PssFieldError}
+use Rattle.pkcs1_c.proofs.HeldParameters.{pss_none, pss_some}
+use Rattle.pkcs1_c.proofs.StructErrors.{pss_part}
+use Rattle.pkcs1_c.proofs.Writes.{fields_refused, fields_written}
 use Rattle.pkcs1_c.proofs.pss.pkcs1_c_pss_params_encode.Goals as goal
 
 pub write_pss-requires : goal.write_pss-requires
 write_pss-requires c = pss_some c.in-Ok.made c.in-Ok.ensures.small
 
-pub returns-in-Ok-clause-ok : goal.returns-in-Ok-clause-ok
-returns-in-Ok-clause-ok c = λ zero. rw (c.in-Ok.ensures.ok) at c.write_pss.ensures.ok zero
-
-pub returns-in-Ok-clause-no_room : goal.returns-in-Ok-clause-no_room
-returns-in-Ok-clause-no_room c = λ full. rw (c.in-Ok.ensures.ok) at c.write_pss.ensures.no_room full
-
-pub returns-in-Ok-clause-exact : goal.returns-in-Ok-clause-exact
-returns-in-Ok-clause-exact c = λ no. inr (subst PssFits c.in-Ok.ensures.ok (held_pss_fits c.in-Ok.made), rw (c.in-Ok.ensures.ok) at c.write_pss.ensures.exact no)
-
-pub returns-in-Ok-clause-only : goal.returns-in-Ok-clause-only
-returns-in-Ok-clause-only c s p =
+pub returns-in-Ok : goal.returns-in-Ok
+returns-in-Ok c =
     let seen = pss_seen c.args.params.now in
-    let fits = subst PssFits c.in-Ok.ensures.ok (held_pss_fits c.in-Ok.made) in
-    let encoding = part_rest (PssFieldError seen) (PssFits seen) (EncodingError RsaPssParams seen (length c.args.out.now)) (pss_part seen).1 fits s p in
-    c.write_pss.ensures.only s (rw (sym c.in-Ok.ensures.ok) at encoding)
+    let is = c.in-Ok.ensures.ok in
+    fields_written PssFieldError RsaPssParams seen (pss_none c.in-Ok.made seen is) (rw is at c.write_pss.ensures)
 
-pub returns-in-Ok-clause-rejected : goal.returns-in-Ok-clause-rejected
-returns-in-Ok-clause-rejected c = λ no other. encoding_rejected RsaPssParams _ _ _ other (rw (c.in-Ok.ensures.ok) at c.write_pss.ensures.exact no)
-
-pub returns-in-Err-clause-ok : goal.returns-in-Err-clause-ok
-returns-in-Err-clause-ok c = λ zero. absurd (omega (arith, zero, c.status.ensures, ((pss_part (pss_seen c.args.params.now)).2 _ c.in-Err.ensures.err).0))
-
-pub returns-in-Err-clause-rest : goal.returns-in-Err-clause-rest
-returns-in-Err-clause-rest c = λ zero. absurd (omega (arith, zero, c.status.ensures, ((pss_part (pss_seen c.args.params.now)).2 _ c.in-Err.ensures.err).0))
-
-pub returns-in-Err-clause-no_room : goal.returns-in-Err-clause-no_room
-returns-in-Err-clause-no_room c = λ full. absurd (omega (arith, full, c.status.ensures, ((pss_part (pss_seen c.args.params.now)).2 _ c.in-Err.ensures.err).1))
-
-pub returns-in-Err-clause-exact : goal.returns-in-Err-clause-exact
-returns-in-Err-clause-exact c = λ _. inl (subst (PssFieldError (pss_seen c.args.params.now)) (sym c.status.ensures) c.in-Err.ensures.err)
-
-pub returns-in-Err-clause-only : goal.returns-in-Err-clause-only
-returns-in-Err-clause-only c s p =
+pub returns-in-Err : goal.returns-in-Err
+returns-in-Err c =
     let seen = pss_seen c.args.params.now in
-    let room = length c.args.out.now in
-    let part = pss_part seen in
-    let err = subst (PssFieldError seen) (sym c.status.ensures) c.in-Err.ensures.err in
-    part_one (PssFieldError seen) (PssFits seen) (EncodingError RsaPssParams seen room) part.0 part.1 (encoding_one RsaPssParams seen room) c.status.result s (inl err) p
-
-pub returns-in-Err-clause-rejected : goal.returns-in-Err-clause-rejected
-returns-in-Err-clause-rejected c = λ _ _ encoding m. absurd ((pss_part (pss_seen c.args.params.now)).1 _ c.in-Err.ensures.err (pss_fits _ encoding m))
+    fields_refused PssFieldError RsaPssParams seen c.args.out.now c.args.len.now _ _ c.status.ensures (pss_part seen) c.in-Err.ensures.err

@@ -1,16 +1,9 @@
 use Rattle.pkcs1.specs.KeyFaults.{RsaPublicKeyFault}
-use Rattle.pkcs1.specs.Keys.{RsaPublicKey}
-use Rattle.std.proofs.Common.{subst, sym}
-use Rattle.pkcs1_params.specs.Meanings.{IsTheMeaning}
-use Rattle.pkcs1_c.proofs.NotWritten.{status_exact, status_ok}
+use Rattle.pkcs1_c.proofs.NotWritten.{status_exact}
 use Rattle.pkcs1_c.proofs.public_key.pkcs1_c_public_key_decode.Goals as goal
 
 pub returns-in-Ok-clause-ok : goal.returns-in-Ok-clause-ok
-returns-in-Ok-clause-ok c = λ _.
-    subst (IsTheMeaning RsaPublicKey c.args.encoding.now) (λ i. record { modulus = sym c.as_bytes-key.ensures.number i; public_exponent = sym c.as_bytes-key-in-Ok.ensures.number i }) c.in-Ok.ensures.ok
-
-pub returns-in-Ok-clause-exact : goal.returns-in-Ok-clause-exact
-returns-in-Ok-clause-exact c = status_ok RsaPublicKeyFault c.args.encoding.now c.in-Ok.ensures.exact
+returns-in-Ok-clause-ok c = λ _. rw (c.as_bytes-key.ensures.number, c.as_bytes-key-in-Ok.ensures.number) c.in-Ok.ensures.ok
 
 pub returns-in-Err-clause-exact : goal.returns-in-Err-clause-exact
 returns-in-Err-clause-exact c = status_exact RsaPublicKeyFault c.args.encoding.now c.in-Err.error _ c.status.ensures c.in-Err.ensures.exact
