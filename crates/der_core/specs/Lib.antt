@@ -29,3 +29,4 @@ pub mod OctetStringRefValue
 pub mod Members
 pub mod Faults
 pub mod Laws
+pub mod Words

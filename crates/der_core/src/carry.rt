@@ -1,7 +1,6 @@
 //! Reading a source to its end, and writing all bytes to a sink.
 ghost use Rattle.std.specs.Prelude.{◌≡◌, ◌≤◌, ◌⊎◌, length, IfOk, IfErr, OnOk};
-ghost use Rattle.der_core.specs.Carrying.{WhyReadingStopped, WritesAll};
-ghost use Rattle.der_core.specs.SourcesSinks.{GivesAll};
+ghost use Rattle.der_core.specs.Words.{WhyReadingStopped, WritesAll, GivesAll};
 
 use crate::error::{Error, ErrorKind, Result};
 use crate::length::Length;

@@ -1,10 +1,8 @@
 //! Reading of values.
 ghost use Rattle.std.specs.Prelude.{ℕ, List};
-ghost use Rattle.der_core.specs.Tlv.{Tlv};
-ghost use Rattle.der_core.specs.Reading.{ReadsOrFaults, ReadsFront, ReadsAll, ReadsOptional, HoldsBytes, TellsNext};
-ghost use Rattle.der_core.specs.Reading.{NoneHas, NoneIn, AllocatesIn};
-ghost use Rattle.der_core.specs.Faults.{EncodingFault, WholeFault, FailsOrAsks, AreNone, AreFirst};
-ghost use Rattle.der_core.specs.Laws.Faults.{encoding_fault_none, encoding_fault_first};
+ghost use Rattle.der_core.specs.Words.{Tlv, ReadsOrFaults, ReadsFront, ReadsAll, ReadsOptional, HoldsBytes, TellsNext};
+ghost use Rattle.der_core.specs.Words.{NoneHas, NoneIn, AllocatesIn, EncodingFault, WholeFault, FailsOrAsks, AreNone};
+ghost use Rattle.der_core.specs.Words.{AreFirst, encoding_fault_none, encoding_fault_first};
 ghost use Rattle.der_core.specs.declared.error.ErrorKind.{ErrorKind};
 
 use crate::error::{ErrorKind, Result};

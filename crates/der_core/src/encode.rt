@@ -1,12 +1,9 @@
 //! Writing of values.
 ghost use Rattle.std.specs.Prelude.{◌≡◌, ◌≤◌, ◌++◌, length, drop, OnOk, OnErr, IfOk, IfErr};
-ghost use Rattle.der_core.specs.Length.{limit, length_octets};
-ghost use Rattle.der_core.specs.Tlv.{Tlv, tlv};
-ghost use Rattle.der_core.specs.Document.{IsShortest, WhyNotCounted, WhyNotWritten};
-ghost use Rattle.der_core.specs.BackWriters.{free_of, Prepends};
-ghost use Rattle.der_core.specs.EncodeToSlice.{IsFront, LeavesRest};
+ghost use Rattle.der_core.specs.Words.{limit, length_octets, Tlv, tlv, IsShortest, WhyNotCounted, WhyNotWritten};
+ghost use Rattle.der_core.specs.Words.{free_of, Prepends, IsFront, LeavesRest, WritesEncodings, WritesLeast, Counts};
+ghost use Rattle.der_core.specs.Words.{Appends, encode_error, joined};
 ghost use Rattle.std.specs.Borrow.{sem};
-ghost use Rattle.der_core.specs.Writing.{WritesEncodings, WritesLeast, Counts, Appends, encode_error, joined};
 
 use crate::back_writer::BackWriter;
 use crate::error::{Error, ErrorKind, Result};
@@ -179,7 +176,7 @@ impl<T: EncodeValue + FixedTag> Encode for T {
         });
     }
 
-    ghost use Rattle.der_core.specs.Laws.Encodings.{tlv_relates, tlv_shortest};
+    ghost use Rattle.der_core.specs.Words.{tlv_relates, tlv_shortest};
 
     ghost encoding_relates = { λ v has. tlv_relates T.TAG.octet T.contents T.written_contents v
         (T.contents_relate v has) };

@@ -1,6 +1,6 @@
 //! Errors.
 ghost use Rattle.std.specs.Prelude.{◌≡◌, Some};
-ghost use Rattle.der_core.specs.Writing.{encode_error, is_no_encoding};
+ghost use Rattle.der_core.specs.Words.{encode_error, is_no_encoding};
 
 use crate::tag::{PrintedOctet, Tag};
 use std::alloc::{AllocError, AllocFailed};
@@ -47,7 +47,7 @@ pub enum ErrorKind {
 }
 
 impl fmt::Display for ErrorKind {
-    ghost use Rattle.der_core.specs.ErrorText.{kind_text};
+    ghost use Rattle.der_core.specs.Words.{kind_text};
 
     ghost output = { λ kind. Some (kind_text kind) };
 
@@ -145,7 +145,7 @@ impl<T: Drop> From<AllocFailed<T>> for Error {
 }
 
 impl fmt::Display for Error {
-    ghost use Rattle.der_core.specs.ErrorText.{kind_text};
+    ghost use Rattle.der_core.specs.Words.{kind_text};
 
     ghost output = { λ error. Some (kind_text error.kind) };
 

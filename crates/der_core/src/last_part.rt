@@ -1,8 +1,6 @@
 //! The last part of some contents: one encoding, or an OPTIONAL one.
-ghost use Rattle.der_core.specs.Faults.{AloneFault, LastFault};
+ghost use Rattle.der_core.specs.Words.{AloneFault, LastFault, Optional, ReadsWhole, AllocatesIn, AllocatesLast};
 ghost use Rattle.std.specs.Option.{option_map};
-ghost use Rattle.der_core.specs.Optional.{Optional};
-ghost use Rattle.der_core.specs.Reading.{ReadsWhole, AllocatesIn, AllocatesLast};
 
 use crate::decode::Decode;
 use crate::error::Result;

@@ -2,14 +2,8 @@
 ghost use Rattle.std.specs.Prelude.{◌≡◌, ◌≤◌, ℕ, Result, length, true, false};
 ghost use Rattle.std.specs.Bool.{Decides};
 ghost use Rattle.std.specs.Ordering.{nat_cmp};
-ghost use Rattle.der_core.specs.DocumentValue.{encoding_of};
-ghost use Rattle.der_core.specs.Faults.{OnlyWhole};
-ghost use Rattle.der_core.specs.Input.{Input, left_in};
-ghost use Rattle.der_core.specs.Length.{limit};
-ghost use Rattle.der_core.specs.Reading.{ReadsOrFaults};
-ghost use Rattle.der_core.specs.OctetStringRefValue.{octets_of};
-ghost use Rattle.der_core.specs.Tags.{integer, sequence};
-ghost use Rattle.der_core.specs.UintRefValue.{bytes_of};
+ghost use Rattle.der_core.specs.Words.{encoding_of, OnlyWhole, Input, left_in, limit, ReadsOrFaults, octets_of};
+ghost use Rattle.der_core.specs.Words.{integer, sequence, bytes_of};
 ghost use Rattle.der_core.specs.declared.document.DocumentOf as documents;
 ghost use Rattle.der_core.specs.declared.document.Open as marks;
 ghost use Rattle.der_core.specs.declared.error.Error as errors;

@@ -2,13 +2,9 @@
 ghost use Rattle.std.specs.Prelude.{◌≡◌, ℕ, List, ◌+◌, ◌≤◌, ◌<◌, length, IfOk, IfErr, MatchResult};
 ghost use Rattle.der_core.specs.declared.error.ErrorKind.TheVariants.{Overflow};
 ghost use Rattle.std.specs.Int.Digits.{number_from_digits};
-ghost use Rattle.der_core.specs.Length.{limit, IsLength, length_octets, tlv_len};
-ghost use Rattle.der_core.specs.Input.{Reads, length_at};
+ghost use Rattle.der_core.specs.Words.{limit, IsLength, length_octets, tlv_len, Reads, length_at, ReadsEncoding};
+ghost use Rattle.der_core.specs.Words.{LengthEncoding, Is, Tlv};
 ghost use Rattle.der_core.specs.Input as specs;
-ghost use Rattle.der_core.specs.Reading.{ReadsEncoding};
-ghost use Rattle.der_core.specs.Headers.{LengthEncoding};
-ghost use Rattle.der_core.specs.Encodings.{Is};
-ghost use Rattle.der_core.specs.Tlv.{Tlv};
 
 use crate::error::{Error, ErrorKind, Result};
 use crate::reader::{Reader, read_octet};
@@ -24,7 +20,7 @@ pub struct Length {
 
 impl Model for Length {
     ghost use Rattle.std.specs.Prelude.{ℕ, ◌≤◌};
-    ghost use Rattle.der_core.specs.Length.{limit};
+    ghost use Rattle.der_core.specs.Words.{limit};
 
     ghost Value = { ℕ };
 

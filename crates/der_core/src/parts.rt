@@ -1,11 +1,8 @@
 //! Parts of contents, written one after another.
 ghost use Rattle.std.specs.Prelude.{◌≡◌, ◌≤◌, ◌++◌, List, ℕ, length};
 ghost use Rattle.std.specs.Option.{option_map};
-ghost use Rattle.der_core.specs.Length.{limit};
-ghost use Rattle.der_core.specs.BackWriters.{free_of, Prepends};
-ghost use Rattle.der_core.specs.Optional.{HasOptional, written_optional};
-ghost use Rattle.der_core.specs.SequenceOf.{AllHave, all_encodings};
-ghost use Rattle.der_core.specs.Writing.{Counts, Appends};
+ghost use Rattle.der_core.specs.Words.{limit, free_of, Prepends, HasOptional, written_optional, AllHave, all_encodings};
+ghost use Rattle.der_core.specs.Words.{Counts, Appends};
 
 use crate::back_writer::BackWriter;
 use crate::encode::{Encode, joined_len};

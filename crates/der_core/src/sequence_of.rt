@@ -1,14 +1,8 @@
 //! SEQUENCE OF (X.690 8.10), as a `Vec` of its items.
 ghost use Rattle.std.specs.Prelude.{◌≡◌, ◌≤◌, List, length, map};
-ghost use Rattle.der_core.specs.Length.{limit};
-ghost use Rattle.der_core.specs.BackWriters.{free_of, Prepends};
-ghost use Rattle.der_core.specs.Faults.{ItemsFault};
-ghost use Rattle.der_core.specs.Reading.{AllocatesForItems};
-ghost use Rattle.der_core.specs.Laws.Faults.{items_fault_none, items_fault_first};
-ghost use Rattle.der_core.specs.Writing.{Counts, Appends};
-ghost use Rattle.der_core.specs.Laws.SequenceOf.{items_of_bytes, items_relate, items_shortest};
-ghost use Rattle.der_core.specs.SequenceOf.{ItemsContents, AllHave, all_encodings};
-ghost use Rattle.der_core.specs.Laws.Encodings.{joins_map};
+ghost use Rattle.der_core.specs.Words.{limit, free_of, Prepends, ItemsFault, AllocatesForItems, items_fault_none};
+ghost use Rattle.der_core.specs.Words.{items_fault_first, Counts, Appends, items_of_bytes, items_relate};
+ghost use Rattle.der_core.specs.Words.{items_shortest, ItemsContents, AllHave, all_encodings, joins_map};
 
 use crate::back_writer::BackWriter;
 use crate::decode::{Decode, DecodeValue};

@@ -3,10 +3,8 @@
 //! The author of a type writes `Contents` (ghosts alone), `TaggedBy` (the tag), and then `DecodeValue` or `EncodeValue`
 //! or both.
 ghost use Rattle.std.specs.Prelude.{◌≡◌, ℕ, List};
-ghost use Rattle.der_core.specs.Encodings.{MeansOne, IsDelimited, IsOfBytes};
-ghost use Rattle.der_core.specs.Tlv.{Tlv, tlv};
-ghost use Rattle.der_core.specs.Laws.Encodings.{tlv_delimited, tlv_of_bytes};
-ghost use Rattle.der_core.specs.Tags.{integer, sequence};
+ghost use Rattle.der_core.specs.Words.{MeansOne, IsDelimited, IsOfBytes, Tlv, tlv, tlv_delimited, tlv_of_bytes};
+ghost use Rattle.der_core.specs.Words.{integer, sequence};
 ghost use Rattle.der_core.specs.declared.tag.Tag.{Tag};
 ghost use Rattle.std.specs.Bool.{Decides};
 

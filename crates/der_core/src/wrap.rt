@@ -2,8 +2,7 @@
 ghost use Rattle.std.specs.Prelude.{◌≡◌, ◌<◌, ◌+◌, ◌-◌, ◌^◌, min, length, IfOk, IfErr};
 ghost use Rattle.std.specs.Io.{ReadsAtMost, WritesAtMost};
 ghost use Rattle.std.specs.Io.KnownBytes.{Keeps, ReadConsumes, WriteAppends};
-ghost use Rattle.der_core.specs.SourcesSinks.{CountsFailure};
-ghost use Rattle.der_core.specs.ErrorKinds.{IsFile};
+ghost use Rattle.der_core.specs.Words.{CountsFailure, IsFile};
 
 use crate::error::{Error, ErrorKind, Result};
 use crate::source_sink::{Sink, Source};
@@ -26,7 +25,7 @@ pub struct FromRead<R> {
 }
 
 impl<R: Read> FromRead<R> {
-    ghost use Rattle.der_core.specs.Wrap.{reader_of, read_faults};
+    ghost use Rattle.der_core.specs.Words.{reader_of, read_faults};
 
     /// A source that counts no failed call yet.
     pub fn new(inner: R) -> Self
@@ -46,7 +45,7 @@ impl<R: Read> FromRead<R> {
 }
 
 impl<R: Read> Source for FromRead<R> {
-    ghost use Rattle.der_core.specs.Wrap.{reader_of, read_faults};
+    ghost use Rattle.der_core.specs.Words.{reader_of, read_faults};
 
     ghost remaining = { λ source. R.remaining (reader_of source) };
 
@@ -79,7 +78,7 @@ pub struct ToWrite<W> {
 }
 
 impl<W: Write> ToWrite<W> {
-    ghost use Rattle.der_core.specs.Wrap.{writer_of, write_faults};
+    ghost use Rattle.der_core.specs.Words.{writer_of, write_faults};
 
     /// A sink that counts no failed call yet.
     pub fn new(inner: W) -> Self
@@ -99,7 +98,7 @@ impl<W: Write> ToWrite<W> {
 }
 
 impl<W: Write> Sink for ToWrite<W> {
-    ghost use Rattle.der_core.specs.Wrap.{writer_of, write_faults};
+    ghost use Rattle.der_core.specs.Words.{writer_of, write_faults};
 
     ghost contents = { λ sink. W.contents (writer_of sink) };
 

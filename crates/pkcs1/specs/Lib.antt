@@ -11,3 +11,4 @@ pub mod OtherPrimesLeft
 pub mod ViewParts
 pub mod KeyFaults
 pub mod Laws
+pub mod Words

@@ -1,9 +1,7 @@
 //! The algorithm identifier of RSA keys (RFC 8017 A.1).
 ghost use Rattle.std.specs.Prelude.{◌≡◌, refl};
-ghost use Rattle.spki_core.specs.Any.{null_value};
-ghost use Rattle.spki_core.specs.AlgorithmValue.{algorithm_of};
-ghost use Rattle.spki_core.specs.ObjectIdentifierValue.{own_octets_of};
-ghost use Rattle.pkcs1_params.specs.Parameters.{id_rsa_encryption, with_parameters};
+ghost use Rattle.spki_core.specs.Words.{null_value, algorithm_of, own_octets_of};
+ghost use Rattle.pkcs1_params.specs.Words.{id_rsa_encryption, with_parameters};
 
 use der_core::NoMemory;
 use pkcs1_params::with_null;

@@ -1,7 +1,7 @@
 //! Why bytes encode no key: the error of reading, as a function of the bytes alone.
-ghost use Rattle.pkcs1.specs.KeyFaults.{RsaPublicKeyFault, RsaPrivateKeyFault};
+ghost use Rattle.pkcs1.specs.Words.{RsaPublicKeyFault, RsaPrivateKeyFault};
 ghost use Rattle.pkcs1.specs.Keys as grammar;
-ghost use Rattle.pkcs1_params.specs.Meanings.{TellsFault};
+ghost use Rattle.pkcs1_params.specs.Words.{TellsFault};
 
 use crate::public_key::RsaPublicKeyRef;
 use crate::view::RsaPrivateKeyView;

@@ -1,9 +1,7 @@
 //! The eight numbers of private keys: decoding and copying them.
 ghost use Rattle.std.specs.Prelude.{◌≡◌, IfOk, IfErr, IsOk};
-ghost use Rattle.pkcs1.specs.KeyFaults.{Counted, CountedFault};
-ghost use Rattle.der_core.specs.Laws.Sequences.{EncodingGives, ContentsFaulty};
-ghost use Rattle.pkcs1.specs.Allocating.{AllocatesCounted};
-ghost use Rattle.pkcs1.specs.PrivateKeyValue.{numbers_of};
+ghost use Rattle.pkcs1.specs.Words.{Counted, CountedFault, AllocatesCounted, numbers_of};
+ghost use Rattle.der_core.specs.Words.{EncodingGives, ContentsFaulty};
 
 use crate::private_key::PrivateKeyOf;
 use der_core::{Decode, ErrorKind, Memory, Reader, Result, TryClone};

@@ -1,23 +1,17 @@
 //! Laws of the grammars of keys and parameters: functions that do nothing, each with a law as its contract.
 ghost use Rattle.std.specs.Prelude.{◌≡◌, ℕ, List, true, false};
-ghost use Rattle.pkcs1.specs.Forms.{SameEncodings};
-ghost use Rattle.der_core.specs.Encodings.{AtMostOne, IsDelimited, MeansOne};
-ghost use Rattle.der_core.specs.Document.{Excludes, SameByShortest};
-ghost use Rattle.pkcs1.specs.Keys.{PublicKey, PrivateKey};
+ghost use Rattle.pkcs1.specs.Words.{SameEncodings, PublicKey, PrivateKey, others_left, public_key_of, view_of};
+ghost use Rattle.der_core.specs.Words.{AtMostOne, IsDelimited, MeansOne, Excludes, SameByShortest};
 ghost use Rattle.pkcs1.specs.Keys as keys;
 ghost use Rattle.pkcs1_params.specs.Parameters as parameters;
 ghost use Rattle.der_core.specs.declared.error.ErrorKind as kinds;
 ghost use Rattle.der_core.specs.declared.integer.uint.UintRef as numbers;
-ghost use Rattle.spki_core.specs.AnyRefValue.{any_of};
+ghost use Rattle.spki_core.specs.Words.{any_of};
 ghost use Rattle.spki_core.specs.declared.any.AnyRef as anys;
-ghost use Rattle.pkcs1_params.specs.OaepValue.{oaep_of};
-ghost use Rattle.pkcs1_params.specs.PssValue.{pss_of};
+ghost use Rattle.pkcs1_params.specs.Words.{oaep_of, pss_of};
 ghost use Rattle.pkcs1_params.specs.declared.error.Error as errors;
 ghost use Rattle.pkcs1_params.specs.declared.oaep.RsaOaepParams as oaep_params;
 ghost use Rattle.pkcs1_params.specs.declared.pss.RsaPssParams as pss_params;
-ghost use Rattle.pkcs1.specs.OtherPrimesLeft.{others_left};
-ghost use Rattle.pkcs1.specs.PublicKeyValue.{public_key_of};
-ghost use Rattle.pkcs1.specs.ViewParts.{view_of};
 ghost use Rattle.pkcs1.specs.declared.other_primes.OtherPrimes as primes;
 ghost use Rattle.pkcs1.specs.declared.public_key.RsaPublicKey as public_keys;
 ghost use Rattle.pkcs1.specs.declared.view.RsaPrivateKeyView as views;

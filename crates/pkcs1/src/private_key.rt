@@ -1,13 +1,10 @@
 //! RSA private keys.
 ghost use Rattle.std.specs.Prelude.{◌≡◌, ◌↔◌, ⊤, map, IsSome, IsErrAnd, refl};
-ghost use Rattle.der_core.specs.Tags.{sequence};
-ghost use Rattle.der_core.specs.Writing.{Counts, Appends};
-ghost use Rattle.pkcs1.specs.Allocating.{AllocatesForKey};
-ghost use Rattle.pkcs1.specs.Keys.{PrivateKey, PrivateKeyContents};
-ghost use Rattle.pkcs1.specs.Writing.{HasPrivateKey, written_private_key, key_numbers};
-ghost use Rattle.pkcs1.specs.Laws.PrivateKey.{private_means_one, private_of_bytes, private_relates, private_shortest};
-ghost use Rattle.pkcs1.specs.PublicKeyValue.{public_key_of};
-ghost use Rattle.pkcs1.specs.PrivateKeyValue.{private_key_with, public_in, ListsNone};
+ghost use Rattle.der_core.specs.Words.{sequence, Counts, Appends};
+ghost use Rattle.pkcs1.specs.Words.{AllocatesForKey, PrivateKey, PrivateKeyContents, HasPrivateKey};
+ghost use Rattle.pkcs1.specs.Words.{written_private_key, key_numbers, private_means_one, private_of_bytes};
+ghost use Rattle.pkcs1.specs.Words.{private_relates, private_shortest, public_key_of, private_key_with, public_in};
+ghost use Rattle.pkcs1.specs.Words.{ListsNone};
 
 mod der;
 pub(crate) mod other_prime_info;
@@ -160,8 +157,7 @@ impl<'a, U, O> Sequence<'a> for PrivateKeyOf<U, O> {
 }
 
 impl<'a, U: Decode<&'a [u8], Global>> DecodeValue<&'a [u8], Global> for RsaPrivateKey<U> {
-    ghost use Rattle.pkcs1.specs.KeyFaults.{PrivateKeyFault};
-    ghost use Rattle.pkcs1.specs.Laws.KeyFaults.{private_key_fault_none, private_key_fault_first};
+    ghost use Rattle.pkcs1.specs.Words.{PrivateKeyFault, private_key_fault_none, private_key_fault_first};
 
     ghost may_allocate = { AllocatesForKey U.encoding U.Decode.may_allocate };
 

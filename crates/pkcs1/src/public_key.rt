@@ -1,13 +1,9 @@
 //! RSA public keys.
 ghost use Rattle.std.specs.Prelude.{refl};
-ghost use Rattle.pkcs1.specs.Allocating.{AllocatesCounted};
-ghost use Rattle.pkcs1.specs.Keys.{PublicKey, PublicKeyContents};
-ghost use Rattle.pkcs1.specs.KeyFaults.{PublicKeyFault};
-ghost use Rattle.pkcs1.specs.Laws.KeyFaults.{public_key_fault_none, public_key_fault_first};
-ghost use Rattle.pkcs1.specs.Writing.{HasPublicKey, written_public_key};
-ghost use Rattle.pkcs1.specs.PublicKeyValue.{public_key_with, public_key_of};
-ghost use Rattle.pkcs1.specs.Laws.PublicKey.{public_key_means_one, public_key_of_bytes, public_key_relates};
-ghost use Rattle.pkcs1.specs.Laws.PublicKey.{public_key_shortest};
+ghost use Rattle.pkcs1.specs.Words.{AllocatesCounted, PublicKey, PublicKeyContents, PublicKeyFault};
+ghost use Rattle.pkcs1.specs.Words.{public_key_fault_none, public_key_fault_first, HasPublicKey, written_public_key};
+ghost use Rattle.pkcs1.specs.Words.{public_key_with, public_key_of, public_key_means_one, public_key_of_bytes};
+ghost use Rattle.pkcs1.specs.Words.{public_key_relates, public_key_shortest};
 
 use der_core::{
     AsUintRef, BackWriter, Contents, Decode, DecodeValue, Encode, EncodeValue, Encoding,
@@ -107,7 +103,7 @@ impl<U: Encode> EncodeValue for RsaPublicKey<U> {
 }
 
 impl<U: EqualByValue> EqualByValue for RsaPublicKey<U> {
-    ghost use Rattle.pkcs1.specs.Laws.PublicKey.{public_key_decides};
+    ghost use Rattle.pkcs1.specs.Words.{public_key_decides};
 
     ghost decides = { λ a b.
         public_key_decides U.value U.eq U.decides a.modulus b.modulus a.public_exponent b.public_exponent };
@@ -126,8 +122,8 @@ impl<U: TryClone> TryClone for RsaPublicKey<U> {
 
 impl<'a> TryFrom<&'a [u8]> for RsaPublicKey<UintRef<'a>> {
     ghost use Rattle.std.specs.Prelude.{IfOk, OnErr};
-    ghost use Rattle.pkcs1.specs.KeyFaults.{RsaPublicKeyFault};
-    ghost use Rattle.pkcs1_params.specs.Meanings.{ErrsExactly, IsNoSentence, IsTheMeaning};
+    ghost use Rattle.pkcs1.specs.Words.{RsaPublicKeyFault};
+    ghost use Rattle.pkcs1_params.specs.Words.{ErrsExactly, IsNoSentence, IsTheMeaning};
     ghost use Rattle.pkcs1.specs.Keys as grammar;
 
     type Error = Error;
@@ -144,8 +140,8 @@ impl<'a> TryFrom<&'a [u8]> for RsaPublicKey<UintRef<'a>> {
 
 impl<U: AsUintRef> RsaPublicKey<U> {
     ghost use Rattle.std.specs.Prelude.{◌≡◌, ◌≤◌, length, take, drop, IfOk, IfErr, OnErr};
-    ghost use Rattle.pkcs1.specs.KeyEncodings.{IsOnlyEncoding};
-    ghost use Rattle.pkcs1_params.specs.Meanings.{IsWritingError};
+    ghost use Rattle.pkcs1.specs.Words.{IsOnlyEncoding};
+    ghost use Rattle.pkcs1_params.specs.Words.{IsWritingError};
     ghost use Rattle.pkcs1.specs.Keys as grammar;
 
     /// The same key, borrowed.

@@ -1,11 +1,10 @@
 //! Keys that are decoded and encoded again.
 ghost use Rattle.std.specs.Prelude.{◌≡◌, ◌⊎◌, IfOk, IfErr};
-ghost use Rattle.pkcs1.specs.KeyFaults.{RsaPublicKeyFault, RsaPrivateKeyFault};
-ghost use Rattle.pkcs1_params.specs.Meanings.{ErrsOrAsks};
-ghost use Rattle.der_core.specs.DocumentValue.{encoding_of};
-ghost use Rattle.pkcs1.specs.Allocating.{OwnedKeyAllocates, OwnedPublicKeyAllocates};
+ghost use Rattle.pkcs1.specs.Words.{RsaPublicKeyFault, RsaPrivateKeyFault, OwnedKeyAllocates, OwnedPublicKeyAllocates};
+ghost use Rattle.pkcs1.specs.Words.{IsSentence, IsReadingError};
+ghost use Rattle.pkcs1_params.specs.Words.{ErrsOrAsks};
+ghost use Rattle.der_core.specs.Words.{encoding_of};
 ghost use Rattle.pkcs1.specs.Keys as grammar;
-ghost use Rattle.pkcs1.specs.KeyEncodings.{IsSentence, IsReadingError};
 
 use crate::private_key::RsaPrivateKeyOwned;
 use crate::public_key::RsaPublicKeyOwned;

@@ -1,21 +1,12 @@
 //! Traits for keys of any type: PKCS #1 encodings decoded and written, in memory and in files.
 ghost use Rattle.std.specs.Prelude.{◌≡◌, ◌⊎◌, List, ℕ, IfOk, IfErr, OnOk, IsErrAnd};
-ghost use Rattle.der_core.specs.Carrying.{FileFault};
-ghost use Rattle.der_core.specs.Document.{IsDocument, Means};
-ghost use Rattle.der_core.specs.DocumentValue.{encoding_of};
-ghost use Rattle.der_core.specs.Faults.{Faulty, IsTheFault};
-ghost use Rattle.der_core.specs.ErrorKinds.{IsFile};
-ghost use Rattle.der_core.specs.Tags.{sequence};
-ghost use Rattle.der_core.specs.UintRefValue.{bytes_of};
-ghost use Rattle.der_core.specs.UintValue.{own_bytes_of};
-ghost use Rattle.pkcs1.specs.Allocating.{OwnedKeyAllocates, OwnedPublicKeyAllocates};
-ghost use Rattle.pkcs1.specs.KeyFaults.{RsaPrivateKeyFault, RsaPublicKeyFault};
+ghost use Rattle.der_core.specs.Words.{FileFault, IsDocument, Means, encoding_of, Faulty, IsTheFault, IsFile, sequence};
+ghost use Rattle.der_core.specs.Words.{bytes_of, own_bytes_of};
+ghost use Rattle.pkcs1.specs.Words.{OwnedKeyAllocates, OwnedPublicKeyAllocates, RsaPrivateKeyFault, RsaPublicKeyFault};
+ghost use Rattle.pkcs1.specs.Words.{IsDocumentError, IsOnlyEncoding, IsReadingError, private_key_with, ListsNone};
+ghost use Rattle.pkcs1.specs.Words.{public_key_with};
 ghost use Rattle.pkcs1.specs.Keys as grammar;
-ghost use Rattle.pkcs1.specs.KeyEncodings.{IsDocumentError, IsOnlyEncoding, IsReadingError};
-ghost use Rattle.pkcs1_params.specs.Meanings.{ErrsOrAsks, IsTheMeaning};
-ghost use Rattle.pkcs1.specs.PrivateKeyValue.{private_key_with, ListsNone};
-ghost use Rattle.pkcs1.specs.PublicKeyValue.{public_key_with};
-ghost use Rattle.pkcs1_params.specs.Errors.{IsAsn1};
+ghost use Rattle.pkcs1_params.specs.Words.{ErrsOrAsks, IsTheMeaning, IsAsn1};
 ghost use Rattle.pkcs1_params.specs.declared.error.Error.{Error};
 
 use crate::private_key::RsaPrivateKey;

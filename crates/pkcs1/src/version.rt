@@ -4,9 +4,9 @@ ghost use Rattle.std.proofs.Common.{rules};
 ghost use Rattle.std.specs.Cmp.{partial_order_from_own_ties};
 ghost use Rattle.std.specs.Cmp.Rules.{comparing};
 ghost use Rattle.std.specs.Ordering.{on, nat_cmp, as_partial_cmp};
-ghost use Rattle.der_core.specs.Integer.{integer_contents};
-ghost use Rattle.pkcs1.specs.Versions.{number_of, IsVersionOf, VersionContents};
-ghost use Rattle.pkcs1.specs.Laws.Versions.{version_means_one, version_of_bytes, version_relates, version_shortest};
+ghost use Rattle.der_core.specs.Words.{integer_contents};
+ghost use Rattle.pkcs1.specs.Words.{number_of, IsVersionOf, VersionContents, version_means_one, version_of_bytes};
+ghost use Rattle.pkcs1.specs.Words.{version_relates, version_shortest};
 
 use der_core::{
     BackWriter, Contents, DecodeValue, EncodeValue, ErrorKind, Header, IntegerTag, Length, Memory,
@@ -123,8 +123,7 @@ impl TaggedBy for Version {
 }
 
 impl<'a, M: Memory> DecodeValue<&'a [u8], M> for Version {
-    ghost use Rattle.pkcs1.specs.KeyFaults.{VersionFault};
-    ghost use Rattle.pkcs1.specs.Laws.KeyFaults.{version_fault_none, version_fault_first};
+    ghost use Rattle.pkcs1.specs.Words.{VersionFault, version_fault_none, version_fault_first};
 
     ghost may_allocate = { λ _. ⊥ };
 

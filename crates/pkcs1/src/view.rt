@@ -1,24 +1,14 @@
 //! RSA private keys over the input, without a list of their other primes.
 ghost use Rattle.std.specs.Prelude.{◌≡◌, ℕ, List, IsTrue, IsSome, IfOk, OnErr, ◌↔◌, refl};
 ghost use Rattle.std.specs.Option.{option_map};
-ghost use Rattle.der_core.specs.Tag.{integer_tag};
-ghost use Rattle.der_core.specs.Integer.{Integer, IntegerContents, IsCanonical, integer_contents};
-ghost use Rattle.der_core.specs.Laws.Integer.{integer_delimited};
-ghost use Rattle.der_core.specs.Reading.{ReadsOrFaults};
-ghost use Rattle.pkcs1.specs.KeyFaults.{OthersFault, NumberFault, PrivateKeyFault, RsaPrivateKeyFault};
-ghost use Rattle.der_core.specs.Tlv.{tlv};
+ghost use Rattle.der_core.specs.Words.{integer_tag, Integer, IntegerContents, IsCanonical, integer_contents};
+ghost use Rattle.der_core.specs.Words.{integer_delimited, ReadsOrFaults, tlv, bytes_of};
+ghost use Rattle.pkcs1.specs.Words.{OthersFault, NumberFault, PrivateKeyFault, RsaPrivateKeyFault, OthersOf};
+ghost use Rattle.pkcs1.specs.Words.{PrivateKey, PrivateKeyContents, public_part, others_left, HoldsNone};
+ghost use Rattle.pkcs1.specs.Words.{private_means_one, keys_are_bytes, key_with, number_of, public_key_of, view_of};
+ghost use Rattle.pkcs1.specs.Words.{viewed_encoding, listed_others, HasPrivateKey, written_private_key};
 ghost use Rattle.pkcs1.specs.Keys as grammar;
-ghost use Rattle.pkcs1.specs.Keys.{OthersOf, PrivateKey, PrivateKeyContents, public_part};
-ghost use Rattle.pkcs1.specs.OtherPrimesLeft.{others_left, HoldsNone};
-ghost use Rattle.pkcs1.specs.Laws.PrivateKey.{private_means_one};
-ghost use Rattle.pkcs1.specs.Laws.OtherPrimesHeld.{keys_are_bytes};
-ghost use Rattle.pkcs1.specs.PrivateKeyValue.{key_with};
-ghost use Rattle.pkcs1.specs.Versions.{number_of};
-ghost use Rattle.pkcs1.specs.PublicKeyValue.{public_key_of};
-ghost use Rattle.pkcs1.specs.ViewParts.{view_of, viewed_encoding, listed_others};
-ghost use Rattle.pkcs1_params.specs.Meanings.{ErrsExactly, IsNoSentence, IsTheMeaning};
-ghost use Rattle.der_core.specs.UintRefValue.{bytes_of};
-ghost use Rattle.pkcs1.specs.Writing.{HasPrivateKey, written_private_key};
+ghost use Rattle.pkcs1_params.specs.Words.{ErrsExactly, IsNoSentence, IsTheMeaning};
 
 use crate::key_numbers::read_key_numbers;
 use crate::other_primes::OtherPrimes;
@@ -82,7 +72,7 @@ impl Contents for ViewedKey<'_> {
 }
 
 impl<'a> DecodeValue<&'a [u8], NoMemory> for ViewedKey<'a> {
-    ghost use Rattle.pkcs1.specs.Laws.KeyFaults.{private_integers_none, private_integers_first};
+    ghost use Rattle.pkcs1.specs.Words.{private_integers_none, private_integers_first};
 
     ghost may_allocate = { λ _. ⊥ };
 

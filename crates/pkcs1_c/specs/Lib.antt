@@ -5,3 +5,4 @@ pub mod Writes
 pub mod StructValues
 pub mod Status
 pub mod StructErrors
+pub mod Words

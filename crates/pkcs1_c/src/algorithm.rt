@@ -1,13 +1,9 @@
 //! Algorithm identifiers.
 ghost use Rattle.std.specs.Bool.{Decides};
 ghost use Rattle.std.specs.Prelude.{◌≡◌, IfOk, IfErr};
-ghost use Rattle.spki_core.specs.HashAlgorithms.{IsHash};
-ghost use Rattle.spki_core.specs.AlgorithmValue.{viewed_with};
-ghost use Rattle.spki_core.specs.AnyRefValue.{any_of};
-ghost use Rattle.spki_core.specs.ObjectIdentifierValue.{octets_of};
-ghost use Rattle.pkcs1_c.specs.Status.{kind_number};
-ghost use Rattle.pkcs1_c.specs.StructValues.{algorithm_seen, mask_gen_seen, AlgorithmIsTidy, MaskGenIsTidy};
-ghost use Rattle.pkcs1_c.specs.StructErrors.{OidError, PlainError, MaskError};
+ghost use Rattle.spki_core.specs.Words.{IsHash, viewed_with, any_of, octets_of};
+ghost use Rattle.pkcs1_c.specs.Words.{kind_number, algorithm_seen, mask_gen_seen, AlgorithmIsTidy, MaskGenIsTidy};
+ghost use Rattle.pkcs1_c.specs.Words.{OidError, PlainError, MaskError};
 
 use der_core::{Result, Tag};
 use spki_core::{AlgorithmView, AnyRef, IdentifierView};

@@ -1,20 +1,13 @@
 //! RSA keys in PKCS #8 containers.
-ghost use Rattle.std.specs.Prelude.{◌≡◌, ◌≢◌, ℕ, List, Option, drop, IfOk};
-ghost use Rattle.std.specs.Prelude.{OnErr};
-ghost use Rattle.der_core.specs.Document.{Means, IsShortest, HasEncoding};
-ghost use Rattle.pkcs1.specs.KeyFaults.{RsaPrivateKeyFault};
+ghost use Rattle.std.specs.Prelude.{◌≡◌, ◌≢◌, ℕ, List, Option, drop, IfOk, OnErr};
+ghost use Rattle.der_core.specs.Words.{Means, IsShortest, HasEncoding};
+ghost use Rattle.pkcs1.specs.Words.{RsaPrivateKeyFault, view_of, viewed_encoding};
 ghost use Rattle.pkcs1.specs.Keys.{OtherPrime as Prime, PrivateKey as Key};
-ghost use Rattle.pkcs1.specs.ViewParts.{view_of, viewed_encoding};
 ghost use Rattle.pkcs8_core.specs.Container as container;
-ghost use Rattle.pkcs1_params.specs.Meanings.{ErrsExactly, IsTheMeaning, IsTheOnly};
-ghost use Rattle.pkcs8_core.specs.ContainerFaults.{RsaPrivateKeyInfoFault};
-ghost use Rattle.pkcs8_core.specs.Held.{info_of};
-ghost use Rattle.pkcs8_core.specs.Rsa.{rsa_encryption, HoldsRsa};
-ghost use Rattle.pkcs1_c.specs.Containers.{info_seen, InfoIsTidy, HoldsKey, HoldsSomeKey};
-ghost use Rattle.pkcs1_c.specs.Writes.{Writes};
-ghost use Rattle.pkcs1_c.specs.StructValues.{private_key_seen, AreListed};
-ghost use Rattle.pkcs1_c.specs.Status.{IsStatusOf};
-ghost use Rattle.pkcs1_c.specs.StructErrors.{InfoError};
+ghost use Rattle.pkcs1_params.specs.Words.{ErrsExactly, IsTheMeaning, IsTheOnly};
+ghost use Rattle.pkcs8_core.specs.Words.{RsaPrivateKeyInfoFault, info_of, rsa_encryption, HoldsRsa};
+ghost use Rattle.pkcs1_c.specs.Words.{info_seen, InfoIsTidy, HoldsKey, HoldsSomeKey, Writes, private_key_seen};
+ghost use Rattle.pkcs1_c.specs.Words.{AreListed, IsStatusOf, InfoError};
 
 use crate::private_key::{OtherPrime, PrivateKey, to_c_key};
 use crate::status::{OK, status};

@@ -1,10 +1,7 @@
 //! Numbers that the caller passes.
 ghost use Rattle.std.specs.Prelude.{OnOk, IfOk, IfErr};
-ghost use Rattle.der_core.specs.UintRefValue.{bytes_of};
-ghost use Rattle.pkcs1_c.specs.Numbers.{IsNumberOf};
-ghost use Rattle.pkcs1_c.specs.Status.{status_of};
-ghost use Rattle.pkcs1_c.specs.StructErrors.{NumberError};
-ghost use Rattle.pkcs1_c.specs.Writes.{NoStatus};
+ghost use Rattle.der_core.specs.Words.{bytes_of};
+ghost use Rattle.pkcs1_c.specs.Words.{IsNumberOf, status_of, NumberError, NoStatus};
 
 use pkcs1::UintRef;
 

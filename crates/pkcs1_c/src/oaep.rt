@@ -1,14 +1,11 @@
 //! Parameters of RSAES-OAEP.
 ghost use Rattle.std.specs.Prelude.{◌≡◌, ◌≢◌, IfOk, IfErr};
-ghost use Rattle.der_core.specs.Document.{HasEncoding, IsShortest};
-ghost use Rattle.pkcs1_params.specs.Meanings.{IsNoSentence, IsNoShortest, IsTheMeaning, IsTheShortest};
+ghost use Rattle.der_core.specs.Words.{HasEncoding, IsShortest};
+ghost use Rattle.pkcs1_params.specs.Words.{IsNoSentence, IsNoShortest, IsTheMeaning, IsTheShortest, oaep_viewed};
+ghost use Rattle.pkcs1_params.specs.Words.{RsaOaepParamsFault, StrictOaepFault};
 ghost use Rattle.pkcs1_params.specs.Parameters as grammar;
-ghost use Rattle.pkcs1_params.specs.OaepValue.{oaep_viewed};
-ghost use Rattle.pkcs1_params.specs.ParameterFaults.{RsaOaepParamsFault, StrictOaepFault};
-ghost use Rattle.pkcs1_c.specs.Status.{IsStatusOf, status_of};
-ghost use Rattle.pkcs1_c.specs.StructValues.{oaep_seen, OaepIsTidy};
-ghost use Rattle.pkcs1_c.specs.StructErrors.{EncodingError, OaepFieldError, WritesFields};
-ghost use Rattle.pkcs1_c.specs.Writes.{Writes};
+ghost use Rattle.pkcs1_c.specs.Words.{IsStatusOf, status_of, oaep_seen, OaepIsTidy, EncodingError, OaepFieldError};
+ghost use Rattle.pkcs1_c.specs.Words.{WritesFields, Writes};
 
 use crate::algorithm::{
     Algorithm, MaskGen, from_c_algorithm, from_c_mask_gen, to_c_algorithm, to_c_mask_gen,

@@ -1,10 +1,8 @@
 //! The algorithm identifier of RSAES-OAEP with its parameters.
 ghost use Rattle.std.specs.Prelude.{◌≡◌, ◌≢◌};
-ghost use Rattle.pkcs1_params.specs.Algorithms.{RsaOaepAlgorithm, RsaOaepAlgorithmFault, StrictOaepAlgorithmFault};
-ghost use Rattle.pkcs1_params.specs.Meanings.{IsNoSentence, IsNoShortest, IsTheMeaning, IsTheShortest};
-ghost use Rattle.pkcs1_c.specs.Status.{IsStatusOf};
-ghost use Rattle.pkcs1_c.specs.StructErrors.{OaepFieldError, WritesFields};
-ghost use Rattle.pkcs1_c.specs.StructValues.{oaep_seen, OaepIsTidy};
+ghost use Rattle.pkcs1_params.specs.Words.{RsaOaepAlgorithm, RsaOaepAlgorithmFault, StrictOaepAlgorithmFault};
+ghost use Rattle.pkcs1_params.specs.Words.{IsNoSentence, IsNoShortest, IsTheMeaning, IsTheShortest};
+ghost use Rattle.pkcs1_c.specs.Words.{IsStatusOf, OaepFieldError, WritesFields, oaep_seen, OaepIsTidy};
 
 use crate::oaep::{OaepParams, from_c_oaep, to_c_oaep};
 use crate::status::{OK, status};

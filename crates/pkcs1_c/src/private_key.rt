@@ -1,22 +1,14 @@
 //! Private keys.
-ghost use Rattle.std.specs.Prelude.{length, drop, ◌≡◌, ◌≢◌, ◌<◌, ℕ, List, Option, map, ◌++◌, ◌∷◌, []};
-ghost use Rattle.std.specs.Prelude.{OnOk, IfOk, IfErr};
-ghost use Rattle.der_core.specs.Document.{Means};
-ghost use Rattle.der_core.specs.UintRefValue.{bytes_of};
+ghost use Rattle.std.specs.Prelude.{length, drop, ◌≡◌, ◌≢◌, ◌<◌, ℕ, List, Option, map, ◌++◌, ◌∷◌, [], OnOk, IfOk};
+ghost use Rattle.std.specs.Prelude.{IfErr};
+ghost use Rattle.der_core.specs.Words.{Means, bytes_of};
 ghost use Rattle.pkcs1.specs.Keys as grammar;
-ghost use Rattle.pkcs1.specs.OtherPrimesLeft.{others_left};
-ghost use Rattle.pkcs1.specs.PrivateKeyValue.{other_of, private_key_of, others_of};
-ghost use Rattle.pkcs1.specs.ViewParts.{view_of, listed_others};
-ghost use Rattle.pkcs1.specs.KeyFaults.{RsaPrivateKeyFault};
-ghost use Rattle.pkcs1_c.specs.Status.{IsStatusOf, status_of};
-ghost use Rattle.pkcs1_params.specs.Meanings.{IsNoSentence};
-ghost use Rattle.pkcs1_c.specs.StructValues.{private_key_seen, other_prime_seen, ArePlaced, AreListed};
-ghost use Rattle.pkcs1_c.specs.Given.{IsGiven};
-ghost use Rattle.pkcs1_c.specs.Numbers.{IsOtherOf, AreOtherNumbers};
-ghost use Rattle.pkcs1_c.specs.Writes.{IsGivenEncoding, Writes};
-ghost use Rattle.pkcs1.specs.Writing.{other_numbers};
-ghost use Rattle.pkcs1_c.specs.StructErrors.{NumbersError, PrivateKeyError, MayRunOutOfMemory};
-ghost use Rattle.pkcs1_c.specs.StructErrors.{given_numbers, others_numbers};
+ghost use Rattle.pkcs1.specs.Words.{others_left, other_of, private_key_of, others_of, view_of, listed_others};
+ghost use Rattle.pkcs1.specs.Words.{RsaPrivateKeyFault, other_numbers};
+ghost use Rattle.pkcs1_c.specs.Words.{IsStatusOf, status_of, private_key_seen, other_prime_seen, ArePlaced, AreListed};
+ghost use Rattle.pkcs1_c.specs.Words.{IsGiven, IsOtherOf, AreOtherNumbers, IsGivenEncoding, Writes, NumbersError};
+ghost use Rattle.pkcs1_c.specs.Words.{PrivateKeyError, MayRunOutOfMemory, given_numbers, others_numbers};
+ghost use Rattle.pkcs1_params.specs.Words.{IsNoSentence};
 
 use crate::numbers::number;
 use crate::status::{OK, OTHER_PRIMES, OUT_OF_MEMORY, status};

@@ -1,14 +1,11 @@
 //! Parameters of RSASSA-PSS.
 ghost use Rattle.std.specs.Prelude.{◌≡◌, ◌≢◌, ◌<◌, IfOk, IfErr};
-ghost use Rattle.der_core.specs.Document.{HasEncoding, IsShortest};
-ghost use Rattle.pkcs1_params.specs.Meanings.{IsNoSentence, IsNoShortest, IsTheMeaning, IsTheShortest};
+ghost use Rattle.der_core.specs.Words.{HasEncoding, IsShortest};
+ghost use Rattle.pkcs1_params.specs.Words.{IsNoSentence, IsNoShortest, IsTheMeaning, IsTheShortest, pss_viewed};
+ghost use Rattle.pkcs1_params.specs.Words.{RsaPssParamsFault, StrictPssFault};
 ghost use Rattle.pkcs1_params.specs.Parameters as grammar;
-ghost use Rattle.pkcs1_params.specs.PssValue.{pss_viewed};
-ghost use Rattle.pkcs1_params.specs.ParameterFaults.{RsaPssParamsFault, StrictPssFault};
-ghost use Rattle.pkcs1_c.specs.Status.{IsStatusOf, status_of};
-ghost use Rattle.pkcs1_c.specs.StructValues.{pss_seen, PssIsTidy};
-ghost use Rattle.pkcs1_c.specs.StructErrors.{EncodingError, PssFieldError, WritesFields};
-ghost use Rattle.pkcs1_c.specs.Writes.{Writes};
+ghost use Rattle.pkcs1_c.specs.Words.{IsStatusOf, status_of, pss_seen, PssIsTidy, EncodingError, PssFieldError};
+ghost use Rattle.pkcs1_c.specs.Words.{WritesFields, Writes};
 
 use crate::algorithm::{
     Algorithm, MaskGen, from_c_algorithm, from_c_mask_gen, to_c_algorithm, to_c_mask_gen,

@@ -1,10 +1,8 @@
 //! The algorithm identifier of RSASSA-PSS with its parameters.
 ghost use Rattle.std.specs.Prelude.{◌≡◌, ◌≢◌};
-ghost use Rattle.pkcs1_params.specs.Algorithms.{RsaPssAlgorithm, RsaPssAlgorithmFault, StrictPssAlgorithmFault};
-ghost use Rattle.pkcs1_params.specs.Meanings.{IsNoSentence, IsNoShortest, IsTheMeaning, IsTheShortest};
-ghost use Rattle.pkcs1_c.specs.Status.{IsStatusOf};
-ghost use Rattle.pkcs1_c.specs.StructErrors.{PssFieldError, WritesFields};
-ghost use Rattle.pkcs1_c.specs.StructValues.{pss_seen, PssIsTidy};
+ghost use Rattle.pkcs1_params.specs.Words.{RsaPssAlgorithm, RsaPssAlgorithmFault, StrictPssAlgorithmFault};
+ghost use Rattle.pkcs1_params.specs.Words.{IsNoSentence, IsNoShortest, IsTheMeaning, IsTheShortest};
+ghost use Rattle.pkcs1_c.specs.Words.{IsStatusOf, PssFieldError, WritesFields, pss_seen, PssIsTidy};
 
 use crate::pss::{PssParams, from_c_pss, to_c_pss};
 use crate::status::{OK, status};

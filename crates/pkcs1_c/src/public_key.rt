@@ -1,14 +1,10 @@
 //! Public keys.
 ghost use Rattle.std.specs.Prelude.{◌≡◌, ◌≢◌, IfOk, IfErr};
 ghost use Rattle.pkcs1.specs.Keys as grammar;
-ghost use Rattle.pkcs1.specs.PublicKeyValue.{public_key_of};
-ghost use Rattle.pkcs1_c.specs.Numbers.{ArePublicNumbers};
-ghost use Rattle.pkcs1_c.specs.Writes.{IsGivenEncoding, Writes};
-ghost use Rattle.pkcs1_c.specs.StructValues.{public_key_seen};
-ghost use Rattle.pkcs1_c.specs.StructErrors.{NumbersError, PublicKeyError, two_numbers};
-ghost use Rattle.pkcs1.specs.KeyFaults.{RsaPublicKeyFault};
-ghost use Rattle.pkcs1_c.specs.Status.{status_of, IsStatusOf};
-ghost use Rattle.pkcs1_params.specs.Meanings.{IsNoSentence, IsTheMeaning};
+ghost use Rattle.pkcs1.specs.Words.{public_key_of, RsaPublicKeyFault};
+ghost use Rattle.pkcs1_c.specs.Words.{ArePublicNumbers, IsGivenEncoding, Writes, public_key_seen, NumbersError};
+ghost use Rattle.pkcs1_c.specs.Words.{PublicKeyError, two_numbers, status_of, IsStatusOf};
+ghost use Rattle.pkcs1_params.specs.Words.{IsNoSentence, IsTheMeaning};
 
 use crate::numbers::number;
 use crate::status::{OK, status};

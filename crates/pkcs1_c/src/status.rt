@@ -1,6 +1,6 @@
 //! The statuses that calls return: 0, or the number of an error.
 ghost use Rattle.std.specs.Prelude.{◌≡◌, ◌++◌, ◌∷◌, [], codes};
-ghost use Rattle.pkcs1_c.specs.Status.{kind_number, status_of, status_text};
+ghost use Rattle.pkcs1_c.specs.Words.{kind_number, status_of, status_text};
 
 use der_core::ErrorKind;
 use pkcs1::Error;

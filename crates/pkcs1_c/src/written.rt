@@ -1,8 +1,7 @@
 //! Encoding into a caller's slice.
 ghost use Rattle.std.specs.Prelude.{◌≡◌, ℕ, List, length};
-ghost use Rattle.der_core.specs.Document.{HasEncoding, IsShortest};
-ghost use Rattle.pkcs1_c.specs.StructErrors.{EncodingError};
-ghost use Rattle.pkcs1_c.specs.Writes.{IsTooLong, Writes};
+ghost use Rattle.der_core.specs.Words.{HasEncoding, IsShortest};
+ghost use Rattle.pkcs1_c.specs.Words.{EncodingError, IsTooLong, Writes};
 
 use crate::status::{OK, kind_number};
 use der_core::Encode;

@@ -1,7 +1,6 @@
 //! The output for a line.
 ghost use Rattle.std.specs.Prelude.{OnOk};
-ghost use Rattle.pkcs1_lines.specs.Answer.{WordAnswer, PairAnswer};
-ghost use Rattle.pkcs1_lines.specs.Put.{Puts, PutsAnswer};
+ghost use Rattle.pkcs1_lines.specs.Words.{WordAnswer, PairAnswer, Puts, PutsAnswer};
 
 use crate::keys::{answer_p8, answer_priv, answer_pub};
 use crate::parameter_answers::{answer_parameters, answer_same, answer_spell, answer_strict};

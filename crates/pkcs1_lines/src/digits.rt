@@ -1,7 +1,7 @@
 //! Bytes in hexadecimal digits, numbers in decimal ones.
 ghost use Rattle.std.specs.Prelude.{◌≡◌, ◌++◌, OnOk};
 ghost use Rattle.hex.specs.Hex.{encode_lower};
-ghost use Rattle.pkcs1_lines.specs.Told.{field, number_field};
+ghost use Rattle.pkcs1_lines.specs.Words.{field, number_field};
 
 use std::alloc::AllocError;
 use std::io::Write;

@@ -1,18 +1,13 @@
 //! The output for keys.
 ghost use Rattle.std.specs.Prelude.{◌≡◌, ℕ, List, ◌++◌, OnOk, IfSome, IfNone};
 ghost use Rattle.std.specs.List.{flat_map};
-ghost use Rattle.der_core.specs.Document.{Means};
-ghost use Rattle.der_core.specs.UintRefValue.{bytes_of};
-ghost use Rattle.pkcs1.specs.Keys.{RsaPublicKey, RsaPrivateKey};
-ghost use Rattle.pkcs1.specs.PublicKeyValue.{public_key_of};
-ghost use Rattle.pkcs1.specs.PrivateKeyValue.{other_of};
-ghost use Rattle.pkcs1.specs.ViewParts.{view_of, viewed_encoding};
-ghost use Rattle.pkcs8_core.specs.Held.{info_of};
-ghost use Rattle.pkcs1_params.specs.Meanings.{IsNoSentence};
-ghost use Rattle.pkcs1_lines.specs.Answer.{Tells, RsaPrivateKeyInfo, TellsContainer};
-ghost use Rattle.pkcs1_lines.specs.Put.{Puts};
-ghost use Rattle.pkcs1_lines.specs.Told.{field, pub_answer, version_told, numbers_told, other_told, others_told};
-ghost use Rattle.pkcs1_lines.specs.Told.{key_told, priv_answer, attributes_told, p8_answer};
+ghost use Rattle.der_core.specs.Words.{Means, bytes_of};
+ghost use Rattle.pkcs1.specs.Words.{RsaPublicKey, RsaPrivateKey, public_key_of, other_of, view_of, viewed_encoding};
+ghost use Rattle.pkcs8_core.specs.Words.{info_of};
+ghost use Rattle.pkcs1_params.specs.Words.{IsNoSentence};
+ghost use Rattle.pkcs1_lines.specs.Words.{Tells, RsaPrivateKeyInfo, TellsContainer, Puts, field, pub_answer};
+ghost use Rattle.pkcs1_lines.specs.Words.{version_told, numbers_told, other_told, others_told, key_told, priv_answer};
+ghost use Rattle.pkcs1_lines.specs.Words.{attributes_told, p8_answer};
 
 use crate::digits::put_field;
 use crate::verdict::put_refused;

@@ -1,7 +1,7 @@
 //! A law of outputs: a function that does nothing, with the law as its contract.
 ghost use Rattle.std.specs.Prelude.{ℕ, List};
-ghost use Rattle.der_core.specs.Encodings.{AtMostOne};
-ghost use Rattle.pkcs1_lines.specs.Answer.{Answer, Answers};
+ghost use Rattle.der_core.specs.Words.{AtMostOne};
+ghost use Rattle.pkcs1_lines.specs.Words.{Answer, Answers};
 
 use pkcs1::{lemma_encodings_are_delimited, lemma_oaep_spellings, lemma_pss_spellings};
 

@@ -2,7 +2,7 @@
 ghost use Rattle.std.specs.Prelude.{◌≡◌, ◌<◌, ◌≤◌, ◌∷◌, ◌==◌, [], length};
 ghost use Rattle.std.specs.List.{position};
 ghost use Rattle.std.specs.Option.{option_map_or};
-ghost use Rattle.pkcs1_lines.specs.Lines.{lines_of, parts_of};
+ghost use Rattle.pkcs1_lines.specs.Words.{lines_of, parts_of};
 
 /// The index of the first such byte.
 fn place_of(byte: u8, bytes: &[u8]) -> Option<usize>

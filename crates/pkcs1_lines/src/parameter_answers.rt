@@ -1,9 +1,8 @@
 //! The output for lines with parameters.
 ghost use Rattle.std.specs.Prelude.{◌≡◌, ℕ, List, ◌++◌, OnOk, map, codes};
 ghost use Rattle.std.specs.List.{flat_map};
-ghost use Rattle.pkcs1_lines.specs.Put.{Puts};
-ghost use Rattle.pkcs1_lines.specs.Answer.{TellsParameters, TellsSame, TellsSpellings, TellsStrict};
-ghost use Rattle.pkcs1_lines.specs.Told.{field, spell_answer};
+ghost use Rattle.pkcs1_lines.specs.Words.{Puts, TellsParameters, TellsSame, TellsSpellings, TellsStrict, field};
+ghost use Rattle.pkcs1_lines.specs.Words.{spell_answer};
 
 use crate::digits::{put_field, put_number};
 use crate::parameters::Parameters;

@@ -1,22 +1,12 @@
 //! Parameters, and the output for them.
 ghost use Rattle.std.specs.Prelude.{◌≡◌, ℕ, List, ◌++◌, ◌↔◌, IsTrue, OnOk, IfOk, IfSome, IfNone, IsErrAnd};
-ghost use Rattle.der_core.specs.Document.{Means, IsShortest};
-ghost use Rattle.der_core.specs.Encodings.{IsDelimited};
-ghost use Rattle.spki_core.specs.AnyRefValue.{any_of};
-ghost use Rattle.spki_core.specs.AlgorithmValue.{algorithm_of, mask_of};
-ghost use Rattle.spki_core.specs.Explicit.{Field, HaveDefaults};
-ghost use Rattle.spki_core.specs.ObjectIdentifierValue.{own_octets_of};
-ghost use Rattle.pkcs1_params.specs.Parameters.{PssParameters, RsaPssParams, pss_fields, OaepParameters, RsaOaepParams};
-ghost use Rattle.pkcs1_params.specs.Parameters.{oaep_fields};
-ghost use Rattle.pkcs1_params.specs.Laws.Parts.{pss_defaults, oaep_defaults};
-ghost use Rattle.pkcs1_params.specs.Laws.Parameters.{pss_delimited, oaep_delimited};
-ghost use Rattle.pkcs1_params.specs.PssValue.{pss_of};
-ghost use Rattle.pkcs1_params.specs.OaepValue.{oaep_of};
-ghost use Rattle.pkcs1_params.specs.Spellings.{AllFit, AreAllSpellings, encodings_in};
-ghost use Rattle.pkcs1_lines.specs.MemoryErrors.{IsMemoryError};
-ghost use Rattle.pkcs1_params.specs.Meanings.{IsNoSentence};
-ghost use Rattle.pkcs1_lines.specs.Told.{any_told, identifier_told, plain_told, bracketed, mask_told, hash_fields_told};
-ghost use Rattle.pkcs1_lines.specs.Told.{spelling_told, pss_answer, oaep_answer};
+ghost use Rattle.der_core.specs.Words.{Means, IsShortest, IsDelimited};
+ghost use Rattle.spki_core.specs.Words.{any_of, algorithm_of, mask_of, Field, HaveDefaults, own_octets_of};
+ghost use Rattle.pkcs1_params.specs.Words.{PssParameters, RsaPssParams, pss_fields, OaepParameters, RsaOaepParams};
+ghost use Rattle.pkcs1_params.specs.Words.{oaep_fields, pss_defaults, oaep_defaults, pss_delimited, oaep_delimited};
+ghost use Rattle.pkcs1_params.specs.Words.{pss_of, oaep_of, AllFit, AreAllSpellings, encodings_in, IsNoSentence};
+ghost use Rattle.pkcs1_lines.specs.Words.{IsMemoryError, any_told, identifier_told, plain_told, bracketed, mask_told};
+ghost use Rattle.pkcs1_lines.specs.Words.{hash_fields_told, spelling_told, pss_answer, oaep_answer};
 
 use crate::digits::{put_field, put_hex, put_number};
 use der_core::{Encode, ErrorKind};

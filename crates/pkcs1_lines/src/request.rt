@@ -1,8 +1,7 @@
 //! Parsing a line into a request.
 ghost use Rattle.std.specs.Prelude.{◌≡◌, IfOk, Some, None, if◌then◌else◌, map};
-ghost use Rattle.pkcs1_lines.specs.Request.{asked_by, asked_with, named, pair_asked_with, pair_words, encoding_of};
-ghost use Rattle.pkcs1_lines.specs.Request.{words};
-ghost use Rattle.pkcs1_lines.specs.RequestValue.{seen};
+ghost use Rattle.pkcs1_lines.specs.Words.{asked_by, asked_with, named, pair_asked_with, pair_words, encoding_of, words};
+ghost use Rattle.pkcs1_lines.specs.Words.{seen};
 
 use crate::lines::split_part;
 use std::alloc::{AllocError, Global};

@@ -1,6 +1,6 @@
 //! The shortest encoding of a value.
 ghost use Rattle.std.specs.Prelude.{◌≤◌, length};
-ghost use Rattle.der_core.specs.Document.{Means, IsShortest};
+ghost use Rattle.der_core.specs.Words.{Means, IsShortest};
 
 use der_core::Encode;
 

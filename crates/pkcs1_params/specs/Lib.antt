@@ -14,3 +14,4 @@ pub mod ParameterFaults
 pub mod DefaultBits
 pub mod Algorithms
 pub mod Laws
+pub mod Words

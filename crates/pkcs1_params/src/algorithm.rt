@@ -1,23 +1,13 @@
 //! Parameters in their algorithm identifier (RFC 8017 A.2.3, A.2.1; RFC 5280 4.1.1.2).
-ghost use Rattle.std.specs.Prelude.{◌≡◌, ◌≤◌, ◌<◌, ◌^◌, ℕ, List, length, take, drop};
-ghost use Rattle.std.specs.Prelude.{IfOk, IfErr, OnOk, OnErr};
+ghost use Rattle.std.specs.Prelude.{◌≡◌, ◌≤◌, ◌<◌, ◌^◌, ℕ, List, length, take, drop, IfOk, IfErr, OnOk, OnErr};
 ghost use Rattle.der_core.specs.declared.error.ErrorKind as der;
-ghost use Rattle.der_core.specs.Document.{HasEncoding, IsShortest, Means};
-ghost use Rattle.der_core.specs.Encodings.{Is, MeansOne};
-ghost use Rattle.der_core.specs.Tag.{sequence_tag};
-ghost use Rattle.der_core.specs.Tags.{sequence};
-ghost use Rattle.der_core.specs.Tlv.{Tlv};
-ghost use Rattle.spki_core.specs.AlgorithmValue.{algorithm_of, algorithm_with};
-ghost use Rattle.spki_core.specs.AnyRefValue.{any_of};
-ghost use Rattle.spki_core.specs.Faults.{OtherAnyFault};
-ghost use Rattle.spki_core.specs.StrictFields.{NamesDefault};
-ghost use Rattle.pkcs1_params.specs.Algorithms.{AlgorithmOf, AlgorithmOfFault, Identifies, NotIdentified, StrictFault};
-ghost use Rattle.pkcs1_params.specs.MaskedValues.{FieldContents};
-ghost use Rattle.der_core.specs.Faults.{FailsExactly};
-ghost use Rattle.pkcs1_params.specs.Meanings.{ErrsExactly, IsNoSentence, IsNoShortest};
-ghost use Rattle.pkcs1_params.specs.Meanings.{IsTheMeaning, IsTheOnly, IsTheShortest, IsWritingError};
-ghost use Rattle.pkcs1_params.specs.Parameters.{with_parameters};
-ghost use Rattle.pkcs1_params.specs.Parts.{FieldValue, Fielded, fields_with};
+ghost use Rattle.der_core.specs.Words.{HasEncoding, IsShortest, Means, Is, MeansOne, sequence_tag, sequence, Tlv};
+ghost use Rattle.der_core.specs.Words.{FailsExactly};
+ghost use Rattle.spki_core.specs.Words.{algorithm_of, algorithm_with, any_of, OtherAnyFault, NamesDefault};
+ghost use Rattle.pkcs1_params.specs.Words.{AlgorithmOf, AlgorithmOfFault, Identifies, NotIdentified, StrictFault};
+ghost use Rattle.pkcs1_params.specs.Words.{FieldContents, ErrsExactly, IsNoSentence, IsNoShortest, IsTheMeaning};
+ghost use Rattle.pkcs1_params.specs.Words.{IsTheOnly, IsTheShortest, IsWritingError, with_parameters, FieldValue};
+ghost use Rattle.pkcs1_params.specs.Words.{Fielded, fields_with};
 
 use crate::error::{Error, Result};
 use der_core::{Decode, DecodeValue, Encode, EncodeValue, ErrorKind, FixedTag, NoMemory};

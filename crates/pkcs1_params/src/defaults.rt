@@ -1,10 +1,8 @@
 //! Parameters with defaults, from constants.
 ghost use Rattle.std.specs.Prelude.{◌≡◌, ◌∷◌, [], IsTrue};
-ghost use Rattle.der_core.specs.Tag.{sequence_tag};
-ghost use Rattle.spki_core.specs.AlgorithmValue.{algorithm_of, mask_of};
-ghost use Rattle.pkcs1_params.specs.OaepValue.{oaep_of};
-ghost use Rattle.pkcs1_params.specs.Parameters.{sha1, mgf1_sha1, empty_label};
-ghost use Rattle.pkcs1_params.specs.PssValue.{pss_of};
+ghost use Rattle.der_core.specs.Words.{sequence_tag};
+ghost use Rattle.spki_core.specs.Words.{algorithm_of, mask_of};
+ghost use Rattle.pkcs1_params.specs.Words.{oaep_of, sha1, mgf1_sha1, empty_label, pss_of};
 
 use crate::hash_fields::MaskGenRef;
 use crate::oaep::{RsaOaepParams, RsaOaepParamsRef};

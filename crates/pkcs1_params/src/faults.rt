@@ -1,6 +1,5 @@
 //! The first fault of bytes that aren't parameters.
-ghost use Rattle.pkcs1_params.specs.Meanings.{TellsFault};
-ghost use Rattle.pkcs1_params.specs.ParameterFaults.{RsaPssParamsFault, RsaOaepParamsFault};
+ghost use Rattle.pkcs1_params.specs.Words.{TellsFault, RsaPssParamsFault, RsaOaepParamsFault};
 ghost use Rattle.pkcs1_params.specs.Parameters as grammar;
 
 use crate::oaep_view::RsaOaepParamsView;

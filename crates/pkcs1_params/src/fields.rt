@@ -1,15 +1,9 @@
 //! The fields of parameters, and writing them under a mask that says which defaults are written.
 ghost use Rattle.std.specs.Prelude.{Bool, false, ◌≡◌, ◌≤◌, ◌<◌, ◌+◌, ◌*◌, ◌++◌, ◌^◌, ℕ, List, [], ◌∷◌, length};
-ghost use Rattle.der_core.specs.BackWriters.{free_of, Prepends};
-ghost use Rattle.der_core.specs.Length.{limit};
-ghost use Rattle.der_core.specs.Writing.{Counts, Appends};
-ghost use Rattle.spki_core.specs.Explicit.{HaveDefaults};
-ghost use Rattle.spki_core.specs.FieldWriting.{HasField, written_field};
-ghost use Rattle.spki_core.specs.Masks.{out_under, rest_under};
-ghost use Rattle.spki_core.specs.StrictFields.{number_in};
-ghost use Rattle.pkcs1_params.specs.FieldRefs.{value_of, part_in};
-ghost use Rattle.pkcs1_params.specs.DefaultBits.{bit_of, bits_of};
-ghost use Rattle.pkcs1_params.specs.Parts.{FieldValue, defaults_in, fields_in, HasFields, written_fields};
+ghost use Rattle.der_core.specs.Words.{free_of, Prepends, limit, Counts, Appends};
+ghost use Rattle.spki_core.specs.Words.{HaveDefaults, HasField, written_field, out_under, rest_under, number_in};
+ghost use Rattle.pkcs1_params.specs.Words.{value_of, part_in, bit_of, bits_of, FieldValue, defaults_in, fields_in};
+ghost use Rattle.pkcs1_params.specs.Words.{HasFields, written_fields};
 
 use crate::hash_fields::{is_default_hash, is_default_mask_gen};
 use crate::p_source::is_default_source;

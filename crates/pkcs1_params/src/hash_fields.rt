@@ -1,11 +1,8 @@
 //! hashAlgorithm and maskGenAlgorithm, which both sets of parameters begin with.
 ghost use Rattle.std.specs.Prelude.{◌≡◌, ◌∷◌, [], refl};
-ghost use Rattle.spki_core.specs.Any.{null_value};
+ghost use Rattle.spki_core.specs.Words.{null_value, same_plain, same_mask, algorithm_with, viewed_with, any_of};
 ghost use Rattle.std.specs.Str.{bytes_eq};
-ghost use Rattle.spki_core.specs.AlgorithmIdentifier.{same_plain, same_mask};
-ghost use Rattle.spki_core.specs.AlgorithmValue.{algorithm_with, viewed_with};
-ghost use Rattle.spki_core.specs.AnyRefValue.{any_of};
-ghost use Rattle.pkcs1_params.specs.Parameters.{id_sha1, id_mgf1, with_parameters, sha1, mgf1_sha1};
+ghost use Rattle.pkcs1_params.specs.Words.{id_sha1, id_mgf1, with_parameters, sha1, mgf1_sha1};
 
 use crate::views::{MaskGenView, PlainView};
 use der_core::{Memory, Tag};

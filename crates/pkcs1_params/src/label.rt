@@ -1,10 +1,7 @@
 //! RSAES-OAEP parameters with a label, and how long a label may be.
 ghost use Rattle.std.specs.Prelude.{◌≡◌, ◌≤◌, ⊤, length, true, false, ℕ, List};
-ghost use Rattle.der_core.specs.Tlv.{tlv};
-ghost use Rattle.der_core.specs.Encodings.{AreBytes};
-ghost use Rattle.der_core.specs.Writing.{Counts};
-ghost use Rattle.pkcs1_params.specs.OaepValue.{oaep_of, labelled, LabelFits, NoLabelFits};
-ghost use Rattle.pkcs1_params.specs.LabelWriting.{written_source, CountsLabelled};
+ghost use Rattle.der_core.specs.Words.{tlv, AreBytes, Counts};
+ghost use Rattle.pkcs1_params.specs.Words.{oaep_of, labelled, LabelFits, NoLabelFits, written_source, CountsLabelled};
 
 use crate::hash_fields::{mgf1_with, with_null};
 use crate::oaep::{RsaOaepParams, RsaOaepParamsRef};

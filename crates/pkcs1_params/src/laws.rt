@@ -1,10 +1,8 @@
 //! Laws of the grammars of parameters: functions that do nothing, each with a law as its contract.
-ghost use Rattle.der_core.specs.Document.{Excludes, SameByShortest};
-ghost use Rattle.der_core.specs.Encodings.{IsDelimited};
-ghost use Rattle.spki_core.specs.AlgorithmIdentifier.{PlainAlgorithm};
-ghost use Rattle.pkcs1_params.specs.Algorithms.{RsaPssAlgorithm, RsaOaepAlgorithm, id_rsassa_pss, id_rsaes_oaep};
-ghost use Rattle.pkcs1_params.specs.Algorithms.{AreCountedIn};
-ghost use Rattle.pkcs1_params.specs.Parameters.{pss_fields, oaep_fields};
+ghost use Rattle.der_core.specs.Words.{Excludes, SameByShortest, IsDelimited};
+ghost use Rattle.spki_core.specs.Words.{PlainAlgorithm};
+ghost use Rattle.pkcs1_params.specs.Words.{RsaPssAlgorithm, RsaOaepAlgorithm, id_rsassa_pss, id_rsaes_oaep};
+ghost use Rattle.pkcs1_params.specs.Words.{AreCountedIn, pss_fields, oaep_fields};
 ghost use Rattle.pkcs1_params.specs.Parameters as parameters;
 ghost use Rattle.pkcs1_params.specs.Spellings.{
   DefaultsAreCounted,

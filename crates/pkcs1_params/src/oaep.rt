@@ -1,10 +1,8 @@
 //! Parameters of RSAES-OAEP (RFC 8017 A.2.1).
 ghost use Rattle.std.specs.Prelude.{◌≡◌, ◌≤◌, [], refl, length, OnOk, IfErr};
-ghost use Rattle.pkcs1_params.specs.Allocating.{OaepAllocates};
-ghost use Rattle.pkcs1_params.specs.Parameters.{OaepParameters, OaepContents, oaep_fields, sha1, mgf1_sha1};
-ghost use Rattle.pkcs1_params.specs.Parameters.{empty_label};
-ghost use Rattle.pkcs1_params.specs.Parts.{oaep_values, HasFields, written_fields};
-ghost use Rattle.pkcs1_params.specs.Laws.Oaep.{oaep_means_one, oaep_of_bytes, oaep_relates, oaep_shortest};
+ghost use Rattle.pkcs1_params.specs.Words.{OaepAllocates, OaepParameters, OaepContents, oaep_fields, sha1, mgf1_sha1};
+ghost use Rattle.pkcs1_params.specs.Words.{empty_label, oaep_values, HasFields, written_fields, oaep_means_one};
+ghost use Rattle.pkcs1_params.specs.Words.{oaep_of_bytes, oaep_relates, oaep_shortest};
 ghost use Rattle.pkcs1_params.specs.Parameters as grammar;
 
 use crate::defaults::{default_oaep, is_empty_sequence};
@@ -47,7 +45,7 @@ pub type RsaOaepParamsRef<'a> = RsaOaepParams<AnyRef<'a>>;
 pub type RsaOaepParamsOwned = RsaOaepParams<Any>;
 
 impl<P: AnyValue> Contents for RsaOaepParams<P> {
-    ghost use Rattle.pkcs1_params.specs.OaepValue.{oaep_with};
+    ghost use Rattle.pkcs1_params.specs.Words.{oaep_with};
 
     ghost Value = { OaepParameters };
 
@@ -73,14 +71,9 @@ impl<'a, P> Sequence<'a> for RsaOaepParams<P> {
 }
 
 impl<'a, M: Memory> DecodeValue<&'a [u8], M> for RsaOaepParams<AnyRef<'a>> {
-    ghost use Rattle.spki_core.specs.Any.{Any};
-    ghost use Rattle.spki_core.specs.Laws.AnyEncodings.{any_delimited};
-    ghost use Rattle.spki_core.specs.AnyRefValue.{any_of};
-    ghost use Rattle.spki_core.specs.Laws.AnyValues.{holds_itself};
-    ghost use Rattle.spki_core.specs.Faults.{AnyFault};
-    ghost use Rattle.spki_core.specs.Laws.Faults.{any_fault_none, any_fault_first};
-    ghost use Rattle.pkcs1_params.specs.ParameterFaults.{OaepFault};
-    ghost use Rattle.pkcs1_params.specs.Laws.ParameterFaults.{oaep_fault_none, oaep_fault_first};
+    ghost use Rattle.spki_core.specs.Words.{Any, any_delimited, any_of, holds_itself, AnyFault, any_fault_none};
+    ghost use Rattle.spki_core.specs.Words.{any_fault_first};
+    ghost use Rattle.pkcs1_params.specs.Words.{OaepFault, oaep_fault_none, oaep_fault_first};
 
     ghost may_allocate = { OaepAllocates (λ _. ⊥) };
 
@@ -103,10 +96,9 @@ impl<'a, M: Memory> DecodeValue<&'a [u8], M> for RsaOaepParams<AnyRef<'a>> {
 
 impl<P: AnyValue> RsaOaepParams<P> {
     ghost use Rattle.std.specs.Prelude.{drop, take, IfOk, OnErr};
-    ghost use Rattle.pkcs1_params.specs.Meanings.{IsTheShortest, IsWritingError};
-    ghost use Rattle.spki_core.specs.Explicit.{Masked};
-    ghost use Rattle.pkcs1_params.specs.OaepValue.{oaep_of, oaep_viewed, oaep_with};
-    ghost use Rattle.pkcs1_params.specs.Spellings.{HasTwoToTheDefaults};
+    ghost use Rattle.pkcs1_params.specs.Words.{IsTheShortest, IsWritingError, oaep_of, oaep_viewed, oaep_with};
+    ghost use Rattle.pkcs1_params.specs.Words.{HasTwoToTheDefaults};
+    ghost use Rattle.spki_core.specs.Words.{Masked};
 
     /// The parameters, borrowed.
     #[inline(always)]
@@ -158,7 +150,7 @@ impl<P: AnyValue> EncodeValue for RsaOaepParams<P> {
 }
 
 impl<'a> RsaOaepParams<AnyRef<'a>> {
-    ghost use Rattle.pkcs1_params.specs.OaepValue.{oaep_of, labelled};
+    ghost use Rattle.pkcs1_params.specs.Words.{oaep_of, labelled};
 
     /// The hash function D with NULL, MGF1 with the same hash function, and the empty label.
     pub fn new<D: AssociatedOid>() -> RsaOaepParams<AnyRef<'a>>
@@ -173,9 +165,8 @@ impl<'a> RsaOaepParams<AnyRef<'a>> {
 }
 
 impl<P: AnyValue> EqualByValue for RsaOaepParams<P> {
-    ghost use Rattle.spki_core.specs.Laws.AnyValues.{holds_decides};
-    ghost use Rattle.pkcs1_params.specs.Laws.Equality.{oaep_decides, plain_decides, mask_decides};
-    ghost use Rattle.pkcs1_params.specs.OaepValue.{oaep_with};
+    ghost use Rattle.spki_core.specs.Words.{holds_decides};
+    ghost use Rattle.pkcs1_params.specs.Words.{oaep_decides, plain_decides, mask_decides, oaep_with};
 
     ghost decides = { λ a b.
         oaep_decides (oaep_with P.any a) (oaep_with P.any b)
@@ -201,8 +192,8 @@ impl<P: AnyValue + TryClone> TryClone for RsaOaepParams<P> {
 }
 
 impl RsaOaepParams<Any> {
-    ghost use Rattle.pkcs1_params.specs.OaepValue.{oaep_with};
-    ghost use Rattle.spki_core.specs.OwnedAnyValue.{own_any_of};
+    ghost use Rattle.pkcs1_params.specs.Words.{oaep_with};
+    ghost use Rattle.spki_core.specs.Words.{own_any_of};
 
     /// Every field at its default. Nothing is allocated.
     pub fn default_in(alloc: Global) -> RsaOaepParams<Any>
@@ -217,7 +208,7 @@ impl RsaOaepParams<Any> {
 }
 
 impl<'a> Default for RsaOaepParams<AnyRef<'a>> {
-    ghost use Rattle.pkcs1_params.specs.OaepValue.{oaep_of};
+    ghost use Rattle.pkcs1_params.specs.Words.{oaep_of};
 
     /// Every field at its default.
     fn default() -> RsaOaepParams<AnyRef<'a>>
@@ -229,9 +220,7 @@ impl<'a> Default for RsaOaepParams<AnyRef<'a>> {
 
 impl<'a> RsaOaepParams<AnyRef<'a>> {
     ghost use Rattle.std.specs.Prelude.{IfOk, OnErr};
-    ghost use Rattle.pkcs1_params.specs.Meanings.{ErrsExactly, IsNoShortest, IsTheShortest};
-    ghost use Rattle.pkcs1_params.specs.ParameterFaults.{StrictOaepFault};
-    ghost use Rattle.pkcs1_params.specs.OaepValue.{oaep_of};
+    ghost use Rattle.pkcs1_params.specs.Words.{ErrsExactly, IsNoShortest, IsTheShortest, StrictOaepFault, oaep_of};
 
     /// Like `try_from`, but rejects an encoding in which a default is written: `Noncanonical` with the tag of the first
     /// such field. So what is read is the shortest encoding of its value.
@@ -247,9 +236,7 @@ impl<'a> RsaOaepParams<AnyRef<'a>> {
 
 impl<'a> TryFrom<&'a [u8]> for RsaOaepParams<AnyRef<'a>> {
     ghost use Rattle.std.specs.Prelude.{IfOk, OnErr};
-    ghost use Rattle.pkcs1_params.specs.Meanings.{ErrsExactly, IsNoSentence, IsTheMeaning};
-    ghost use Rattle.pkcs1_params.specs.OaepValue.{oaep_of};
-    ghost use Rattle.pkcs1_params.specs.ParameterFaults.{RsaOaepParamsFault};
+    ghost use Rattle.pkcs1_params.specs.Words.{ErrsExactly, IsNoSentence, IsTheMeaning, oaep_of, RsaOaepParamsFault};
 
     type Error = Error;
 

@@ -1,17 +1,10 @@
 //! The algorithm identifier id-RSAES-OAEP with its parameters (RFC 8017 A.2.1).
 ghost use Rattle.std.specs.Prelude.{◌≡◌, ◌≤◌, length, take, drop, refl, IfOk, IfErr, OnErr};
-ghost use Rattle.der_core.specs.Document.{HasEncoding};
-ghost use Rattle.spki_core.specs.AlgorithmValue.{algorithm_with};
-ghost use Rattle.spki_core.specs.Any.{Any};
-ghost use Rattle.spki_core.specs.Faults.{AnyFault};
-ghost use Rattle.spki_core.specs.ObjectIdentifierValue.{own_octets_of};
-ghost use Rattle.pkcs1_params.specs.Algorithms.{id_rsaes_oaep, RsaOaepAlgorithm, RsaOaepAlgorithmFault};
-ghost use Rattle.pkcs1_params.specs.Laws.Oaep.{oaep_means_one};
-ghost use Rattle.pkcs1_params.specs.Meanings.{IsTheShortest, IsWritingError, TellsFault};
-ghost use Rattle.pkcs1_params.specs.ParameterFaults.{OaepFault};
-ghost use Rattle.pkcs1_params.specs.Parameters.{OaepParameters, with_parameters};
-ghost use Rattle.pkcs1_params.specs.Parts.{oaep_values};
-ghost use Rattle.pkcs1_params.specs.OaepValue.{oaep_of, oaep_viewed, oaep_with};
+ghost use Rattle.der_core.specs.Words.{HasEncoding};
+ghost use Rattle.spki_core.specs.Words.{algorithm_with, Any, AnyFault, own_octets_of};
+ghost use Rattle.pkcs1_params.specs.Words.{id_rsaes_oaep, RsaOaepAlgorithm, RsaOaepAlgorithmFault, oaep_means_one};
+ghost use Rattle.pkcs1_params.specs.Words.{IsTheShortest, IsWritingError, TellsFault, OaepFault, OaepParameters};
+ghost use Rattle.pkcs1_params.specs.Words.{with_parameters, oaep_values, oaep_of, oaep_viewed, oaep_with};
 
 use crate::algorithm::{
     AlgorithmParams, FromAlgorithm, decode_borrowed, encode_identifier, with_identifier,

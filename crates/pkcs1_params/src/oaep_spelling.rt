@@ -1,13 +1,9 @@
 //! The fields and the spellings of RSAES-OAEP parameters.
 ghost use Rattle.std.specs.Prelude.{◌≡◌, ◌≤◌, length, take, drop, OnOk, OnErr, IfOk, IfErr};
-ghost use Rattle.spki_core.specs.Explicit.{HaveDefaults};
-ghost use Rattle.pkcs1_params.specs.Laws.Oaep.{oaep_means_one};
-ghost use Rattle.pkcs1_params.specs.OaepValue.{oaep_viewed, oaep_with};
-ghost use Rattle.pkcs1_params.specs.Laws.Parameters.{oaep_numbered};
-ghost use Rattle.pkcs1_params.specs.Parameters.{OaepParameters, oaep_fields};
-ghost use Rattle.pkcs1_params.specs.Parts.{oaep_values};
-ghost use Rattle.pkcs1_params.specs.Spellings.{IsMask, StandsUnder, IsSpellingError, AllFit, AreAllSpellings};
-ghost use Rattle.pkcs1_params.specs.Spellings.{IsListingError, encodings_in};
+ghost use Rattle.spki_core.specs.Words.{HaveDefaults};
+ghost use Rattle.pkcs1_params.specs.Words.{oaep_means_one, oaep_viewed, oaep_with, oaep_numbered, OaepParameters};
+ghost use Rattle.pkcs1_params.specs.Words.{oaep_fields, oaep_values, IsMask, StandsUnder, IsSpellingError, AllFit};
+ghost use Rattle.pkcs1_params.specs.Words.{AreAllSpellings, IsListingError, encodings_in};
 
 use crate::error::Result;
 use crate::fields::{FieldRef, FieldThen, Fields, NoField};

@@ -1,12 +1,10 @@
 //! RSAES-OAEP parameters over their encoding.
 ghost use Rattle.std.specs.Prelude.{◌≡◌, ◌≤◌, length, OnOk, IfErr};
-ghost use Rattle.pkcs1_params.specs.Allocating.{OaepAllocates};
-ghost use Rattle.pkcs1_params.specs.ParameterFaults.{RsaOaepParamsFault, StrictOaepFault};
+ghost use Rattle.pkcs1_params.specs.Words.{OaepAllocates, RsaOaepParamsFault, StrictOaepFault, OaepParameters};
+ghost use Rattle.pkcs1_params.specs.Words.{OaepContents, oaep_fields, sha1, mgf1_sha1, empty_label, oaep_values};
+ghost use Rattle.pkcs1_params.specs.Words.{HasFields, written_fields, oaep_means_one, oaep_of_bytes, oaep_of};
+ghost use Rattle.pkcs1_params.specs.Words.{oaep_viewed};
 ghost use Rattle.pkcs1_params.specs.Parameters as grammar;
-ghost use Rattle.pkcs1_params.specs.Parameters.{OaepParameters, OaepContents, oaep_fields, sha1, mgf1_sha1, empty_label};
-ghost use Rattle.pkcs1_params.specs.Parts.{oaep_values, HasFields, written_fields};
-ghost use Rattle.pkcs1_params.specs.Laws.Oaep.{oaep_means_one, oaep_of_bytes};
-ghost use Rattle.pkcs1_params.specs.OaepValue.{oaep_of, oaep_viewed};
 
 use crate::defaults::is_empty_sequence;
 use crate::error::{Error, Result};
@@ -34,9 +32,9 @@ pub struct RsaOaepParamsView<'a> {
 
 impl<'a> RsaOaepParamsView<'a> {
     ghost use Rattle.std.specs.Prelude.{drop, take, IfOk, OnErr};
-    ghost use Rattle.spki_core.specs.Explicit.{Masked};
-    ghost use Rattle.pkcs1_params.specs.Meanings.{ErrsExactly, IsNoShortest, IsTheShortest, IsWritingError};
-    ghost use Rattle.pkcs1_params.specs.Spellings.{HasTwoToTheDefaults};
+    ghost use Rattle.spki_core.specs.Words.{Masked};
+    ghost use Rattle.pkcs1_params.specs.Words.{ErrsExactly, IsNoShortest, IsTheShortest, IsWritingError};
+    ghost use Rattle.pkcs1_params.specs.Words.{HasTwoToTheDefaults};
 
     /// The parameters as a struct that holds its identifiers.
     #[inline(always)]
@@ -91,7 +89,7 @@ impl<'a> Default for RsaOaepParamsView<'a> {
 
 impl<'a> TryFrom<&'a [u8]> for RsaOaepParamsView<'a> {
     ghost use Rattle.std.specs.Prelude.{IfOk, OnErr};
-    ghost use Rattle.pkcs1_params.specs.Meanings.{ErrsExactly, IsNoSentence, IsTheMeaning};
+    ghost use Rattle.pkcs1_params.specs.Words.{ErrsExactly, IsNoSentence, IsTheMeaning};
 
     type Error = Error;
 
@@ -130,14 +128,9 @@ impl TaggedBy for RsaOaepParamsView<'_> {
 }
 
 impl<'a, M: Memory> DecodeValue<&'a [u8], M> for RsaOaepParamsView<'a> {
-    ghost use Rattle.spki_core.specs.Any.{Any};
-    ghost use Rattle.spki_core.specs.Laws.AnyEncodings.{any_delimited};
-    ghost use Rattle.spki_core.specs.AnyRefValue.{any_of};
-    ghost use Rattle.spki_core.specs.Laws.AnyValues.{holds_itself};
-    ghost use Rattle.spki_core.specs.Faults.{AnyFault};
-    ghost use Rattle.spki_core.specs.Laws.Faults.{any_fault_none, any_fault_first};
-    ghost use Rattle.pkcs1_params.specs.ParameterFaults.{OaepFault};
-    ghost use Rattle.pkcs1_params.specs.Laws.ParameterFaults.{oaep_fault_none, oaep_fault_first};
+    ghost use Rattle.spki_core.specs.Words.{Any, any_delimited, any_of, holds_itself, AnyFault, any_fault_none};
+    ghost use Rattle.spki_core.specs.Words.{any_fault_first};
+    ghost use Rattle.pkcs1_params.specs.Words.{OaepFault, oaep_fault_none, oaep_fault_first};
 
     ghost may_allocate = { OaepAllocates (λ _. ⊥) };
 

@@ -1,18 +1,11 @@
 //! Reading parameters whose algorithms have owned parameters: those that borrow from the input, copied.
 ghost use Rattle.std.specs.Prelude.{◌≡◌, ◌⊎◌, IfOk, IfErr};
 ghost use Rattle.der_core.specs.declared.error.ErrorKind.TheVariants.{OutOfMemory};
-ghost use Rattle.pkcs1_params.specs.Allocating.{OwnedPssAllocates, OwnedOaepAllocates, HasOctets, HasParameters};
-ghost use Rattle.pkcs1_params.specs.Allocating.{HashesHaveOctets};
-ghost use Rattle.pkcs1_params.specs.PssValue.{pss_with, pss_of};
-ghost use Rattle.pkcs1_params.specs.OaepValue.{oaep_with, oaep_of};
-ghost use Rattle.spki_core.specs.AlgorithmValue.{algorithm_with, algorithm_of, mask_of};
+ghost use Rattle.pkcs1_params.specs.Words.{OwnedPssAllocates, OwnedOaepAllocates, HasOctets, HasParameters};
+ghost use Rattle.pkcs1_params.specs.Words.{HashesHaveOctets, pss_with, pss_of, oaep_with, oaep_of};
+ghost use Rattle.spki_core.specs.Words.{algorithm_with, algorithm_of, mask_of, any_delimited, any_of, holds_itself};
+ghost use Rattle.spki_core.specs.Words.{AnyFault, any_fault_none, any_fault_first, own_any_of};
 ghost use Rattle.spki_core.specs.Any as grammar;
-ghost use Rattle.spki_core.specs.Laws.AnyEncodings.{any_delimited};
-ghost use Rattle.spki_core.specs.AnyRefValue.{any_of};
-ghost use Rattle.spki_core.specs.Laws.AnyValues.{holds_itself};
-ghost use Rattle.spki_core.specs.Faults.{AnyFault};
-ghost use Rattle.spki_core.specs.Laws.Faults.{any_fault_none, any_fault_first};
-ghost use Rattle.spki_core.specs.OwnedAnyValue.{own_any_of};
 
 use crate::hash_fields::{MaskGen, MaskGenRef};
 use crate::oaep::{RsaOaepParams, RsaOaepParamsOwned, RsaOaepParamsRef};
@@ -97,8 +90,7 @@ fn copy_oaep(alloc: Global, params: RsaOaepParamsRef<'_>) -> Result<RsaOaepParam
 }
 
 impl<'a> DecodeValue<&'a [u8], Global> for RsaPssParams<Any> {
-    ghost use Rattle.pkcs1_params.specs.ParameterFaults.{PssFault};
-    ghost use Rattle.pkcs1_params.specs.Laws.ParameterFaults.{pss_fault_none, pss_fault_first};
+    ghost use Rattle.pkcs1_params.specs.Words.{PssFault, pss_fault_none, pss_fault_first};
 
     ghost may_allocate = { OwnedPssAllocates };
 
@@ -123,8 +115,7 @@ impl<'a> DecodeValue<&'a [u8], Global> for RsaPssParams<Any> {
 }
 
 impl<'a> DecodeValue<&'a [u8], Global> for RsaOaepParams<Any> {
-    ghost use Rattle.pkcs1_params.specs.ParameterFaults.{OaepFault};
-    ghost use Rattle.pkcs1_params.specs.Laws.ParameterFaults.{oaep_fault_none, oaep_fault_first};
+    ghost use Rattle.pkcs1_params.specs.Words.{OaepFault, oaep_fault_none, oaep_fault_first};
 
     ghost may_allocate = { OwnedOaepAllocates };
 

@@ -1,11 +1,9 @@
 //! pSourceAlgorithm: the source of the label of RSAES-OAEP (RFC 8017 A.2.1).
 ghost use Rattle.std.specs.Prelude.{◌≡◌, ◌≤◌, refl, length};
-ghost use Rattle.der_core.specs.Length.{limit};
+ghost use Rattle.der_core.specs.Words.{limit};
 ghost use Rattle.std.specs.Str.{bytes_eq};
-ghost use Rattle.spki_core.specs.AlgorithmIdentifier.{same_plain};
-ghost use Rattle.spki_core.specs.AlgorithmValue.{algorithm_with, algorithm_of, viewed_with};
-ghost use Rattle.spki_core.specs.AnyRefValue.{any_of};
-ghost use Rattle.pkcs1_params.specs.Parameters.{with_parameters, id_p_specified, octets_value, empty_label};
+ghost use Rattle.spki_core.specs.Words.{same_plain, algorithm_with, algorithm_of, viewed_with, any_of};
+ghost use Rattle.pkcs1_params.specs.Words.{with_parameters, id_p_specified, octets_value, empty_label};
 
 use crate::views::PlainView;
 use der_core::{Memory, NoMemory, Tag};

@@ -1,14 +1,11 @@
 //! Parameters of RSASSA-PSS (RFC 8017 A.2.3).
 ghost use Rattle.std.specs.Prelude.{◌≡◌, ◌≤◌, refl, length, OnOk, IfErr};
-ghost use Rattle.pkcs1_params.specs.Allocating.{PssAllocates};
-ghost use Rattle.pkcs1_params.specs.ParameterFaults.{RsaPssParamsFault, StrictPssFault};
+ghost use Rattle.pkcs1_params.specs.Words.{PssAllocates, RsaPssParamsFault, StrictPssFault, PssParameters, PssContents};
+ghost use Rattle.pkcs1_params.specs.Words.{pss_fields, with_parameters, id_mgf1, sha1, mgf1_sha1, pss_values};
+ghost use Rattle.pkcs1_params.specs.Words.{HasFields, written_fields, pss_means_one, pss_of_bytes, pss_relates};
+ghost use Rattle.pkcs1_params.specs.Words.{pss_shortest, pss_of, pss_viewed, pss_with};
 ghost use Rattle.pkcs1_params.specs.Parameters as grammar;
-ghost use Rattle.spki_core.specs.Any.{null_value};
-ghost use Rattle.pkcs1_params.specs.Parameters.{PssParameters, PssContents, pss_fields, with_parameters, id_mgf1, sha1};
-ghost use Rattle.pkcs1_params.specs.Parameters.{mgf1_sha1};
-ghost use Rattle.pkcs1_params.specs.Parts.{pss_values, HasFields, written_fields};
-ghost use Rattle.pkcs1_params.specs.Laws.Pss.{pss_means_one, pss_of_bytes, pss_relates, pss_shortest};
-ghost use Rattle.pkcs1_params.specs.PssValue.{pss_of, pss_viewed, pss_with};
+ghost use Rattle.spki_core.specs.Words.{null_value};
 
 use crate::default_salt::DefaultSalt;
 use crate::defaults::{default_pss, is_empty_sequence};
@@ -78,14 +75,9 @@ impl<'a, P> Sequence<'a> for RsaPssParams<P> {
 }
 
 impl<'a, M: Memory> DecodeValue<&'a [u8], M> for RsaPssParams<AnyRef<'a>> {
-    ghost use Rattle.spki_core.specs.Any.{Any};
-    ghost use Rattle.spki_core.specs.Laws.AnyEncodings.{any_delimited};
-    ghost use Rattle.spki_core.specs.AnyRefValue.{any_of};
-    ghost use Rattle.spki_core.specs.Laws.AnyValues.{holds_itself};
-    ghost use Rattle.spki_core.specs.Faults.{AnyFault};
-    ghost use Rattle.spki_core.specs.Laws.Faults.{any_fault_none, any_fault_first};
-    ghost use Rattle.pkcs1_params.specs.ParameterFaults.{PssFault};
-    ghost use Rattle.pkcs1_params.specs.Laws.ParameterFaults.{pss_fault_none, pss_fault_first};
+    ghost use Rattle.spki_core.specs.Words.{Any, any_delimited, any_of, holds_itself, AnyFault, any_fault_none};
+    ghost use Rattle.spki_core.specs.Words.{any_fault_first};
+    ghost use Rattle.pkcs1_params.specs.Words.{PssFault, pss_fault_none, pss_fault_first};
 
     ghost may_allocate = { PssAllocates (λ _. ⊥) };
 
@@ -108,9 +100,8 @@ impl<'a, M: Memory> DecodeValue<&'a [u8], M> for RsaPssParams<AnyRef<'a>> {
 
 impl<P: AnyValue> RsaPssParams<P> {
     ghost use Rattle.std.specs.Prelude.{drop, take, IfOk, OnErr};
-    ghost use Rattle.pkcs1_params.specs.Meanings.{IsTheShortest, IsWritingError};
-    ghost use Rattle.spki_core.specs.Explicit.{Masked};
-    ghost use Rattle.pkcs1_params.specs.Spellings.{HasTwoToTheDefaults};
+    ghost use Rattle.pkcs1_params.specs.Words.{IsTheShortest, IsWritingError, HasTwoToTheDefaults};
+    ghost use Rattle.spki_core.specs.Words.{Masked};
 
     /// The parameters, borrowed.
     #[inline(always)]
@@ -184,7 +175,7 @@ impl<'a> RsaPssParams<AnyRef<'a>> {
 
 impl<'a> RsaPssParams<AnyRef<'a>> {
     ghost use Rattle.std.specs.Prelude.{IfOk, OnErr};
-    ghost use Rattle.pkcs1_params.specs.Meanings.{ErrsExactly, IsNoShortest, IsTheShortest};
+    ghost use Rattle.pkcs1_params.specs.Words.{ErrsExactly, IsNoShortest, IsTheShortest};
 
     /// Like `try_from`, but rejects an encoding in which a default is written: `Noncanonical` with the tag of the first
     /// such field. So what is read is the shortest encoding of its value.
@@ -199,8 +190,8 @@ impl<'a> RsaPssParams<AnyRef<'a>> {
 }
 
 impl<P: AnyValue> EqualByValue for RsaPssParams<P> {
-    ghost use Rattle.spki_core.specs.Laws.AnyValues.{holds_decides};
-    ghost use Rattle.pkcs1_params.specs.Laws.Equality.{pss_decides, plain_decides, mask_decides};
+    ghost use Rattle.spki_core.specs.Words.{holds_decides};
+    ghost use Rattle.pkcs1_params.specs.Words.{pss_decides, plain_decides, mask_decides};
 
     ghost decides = { λ a b.
         pss_decides (pss_with P.any a) (pss_with P.any b)
@@ -225,7 +216,7 @@ impl<P: AnyValue + TryClone> TryClone for RsaPssParams<P> {
 }
 
 impl RsaPssParams<Any> {
-    ghost use Rattle.spki_core.specs.OwnedAnyValue.{own_any_of};
+    ghost use Rattle.spki_core.specs.Words.{own_any_of};
 
     /// Every field at its default. Nothing is allocated.
     pub fn default_in(alloc: Global) -> RsaPssParams<Any>
@@ -252,7 +243,7 @@ impl<'a> Default for RsaPssParams<AnyRef<'a>> {
 
 impl<'a> TryFrom<&'a [u8]> for RsaPssParams<AnyRef<'a>> {
     ghost use Rattle.std.specs.Prelude.{IfOk, OnErr};
-    ghost use Rattle.pkcs1_params.specs.Meanings.{ErrsExactly, IsNoSentence, IsTheMeaning};
+    ghost use Rattle.pkcs1_params.specs.Words.{ErrsExactly, IsNoSentence, IsTheMeaning};
 
     type Error = Error;
 

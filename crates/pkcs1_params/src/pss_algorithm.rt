@@ -1,17 +1,10 @@
 //! The algorithm identifier id-RSASSA-PSS with its parameters (RFC 8017 A.2.3).
 ghost use Rattle.std.specs.Prelude.{◌≡◌, ◌≤◌, length, take, drop, refl, IfOk, IfErr, OnErr};
-ghost use Rattle.der_core.specs.Document.{HasEncoding};
-ghost use Rattle.spki_core.specs.AlgorithmValue.{algorithm_with};
-ghost use Rattle.spki_core.specs.Any.{Any};
-ghost use Rattle.spki_core.specs.Faults.{AnyFault};
-ghost use Rattle.spki_core.specs.ObjectIdentifierValue.{own_octets_of};
-ghost use Rattle.pkcs1_params.specs.Algorithms.{id_rsassa_pss, RsaPssAlgorithm, RsaPssAlgorithmFault};
-ghost use Rattle.pkcs1_params.specs.Laws.Pss.{pss_means_one};
-ghost use Rattle.pkcs1_params.specs.Meanings.{IsTheShortest, IsWritingError, TellsFault};
-ghost use Rattle.pkcs1_params.specs.ParameterFaults.{PssFault};
-ghost use Rattle.pkcs1_params.specs.Parameters.{PssParameters, with_parameters};
-ghost use Rattle.pkcs1_params.specs.Parts.{pss_values};
-ghost use Rattle.pkcs1_params.specs.PssValue.{pss_of, pss_viewed, pss_with};
+ghost use Rattle.der_core.specs.Words.{HasEncoding};
+ghost use Rattle.spki_core.specs.Words.{algorithm_with, Any, AnyFault, own_octets_of};
+ghost use Rattle.pkcs1_params.specs.Words.{id_rsassa_pss, RsaPssAlgorithm, RsaPssAlgorithmFault, pss_means_one};
+ghost use Rattle.pkcs1_params.specs.Words.{IsTheShortest, IsWritingError, TellsFault, PssFault, PssParameters};
+ghost use Rattle.pkcs1_params.specs.Words.{with_parameters, pss_values, pss_of, pss_viewed, pss_with};
 
 use crate::algorithm::{
     AlgorithmParams, FromAlgorithm, decode_borrowed, encode_identifier, with_identifier,

@@ -1,13 +1,9 @@
 //! The fields and the spellings of RSASSA-PSS parameters.
 ghost use Rattle.std.specs.Prelude.{◌≡◌, ◌≤◌, length, take, drop, OnOk, OnErr, IfOk, IfErr};
-ghost use Rattle.spki_core.specs.Explicit.{HaveDefaults};
-ghost use Rattle.pkcs1_params.specs.Laws.Pss.{pss_means_one};
-ghost use Rattle.pkcs1_params.specs.PssValue.{pss_viewed, pss_with};
-ghost use Rattle.pkcs1_params.specs.Laws.Parameters.{pss_numbered};
-ghost use Rattle.pkcs1_params.specs.Parameters.{PssParameters, pss_fields};
-ghost use Rattle.pkcs1_params.specs.Parts.{pss_values};
-ghost use Rattle.pkcs1_params.specs.Spellings.{IsMask, StandsUnder, IsSpellingError, AllFit, AreAllSpellings};
-ghost use Rattle.pkcs1_params.specs.Spellings.{IsListingError, encodings_in};
+ghost use Rattle.spki_core.specs.Words.{HaveDefaults};
+ghost use Rattle.pkcs1_params.specs.Words.{pss_means_one, pss_viewed, pss_with, pss_numbered, PssParameters};
+ghost use Rattle.pkcs1_params.specs.Words.{pss_fields, pss_values, IsMask, StandsUnder, IsSpellingError, AllFit};
+ghost use Rattle.pkcs1_params.specs.Words.{AreAllSpellings, IsListingError, encodings_in};
 
 use crate::error::Result;
 use crate::fields::{FieldRef, FieldThen, Fields, NoField};

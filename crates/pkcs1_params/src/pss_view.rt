@@ -1,12 +1,9 @@
 //! RSASSA-PSS parameters over their encoding.
 ghost use Rattle.std.specs.Prelude.{◌≡◌, ◌≤◌, length, OnOk, IfErr};
-ghost use Rattle.pkcs1_params.specs.Allocating.{PssAllocates};
-ghost use Rattle.pkcs1_params.specs.ParameterFaults.{RsaPssParamsFault, StrictPssFault};
+ghost use Rattle.pkcs1_params.specs.Words.{PssAllocates, RsaPssParamsFault, StrictPssFault, PssParameters, PssContents};
+ghost use Rattle.pkcs1_params.specs.Words.{pss_fields, sha1, mgf1_sha1, pss_values, HasFields, written_fields};
+ghost use Rattle.pkcs1_params.specs.Words.{pss_means_one, pss_of_bytes, pss_of, pss_viewed};
 ghost use Rattle.pkcs1_params.specs.Parameters as grammar;
-ghost use Rattle.pkcs1_params.specs.Parameters.{PssParameters, PssContents, pss_fields, sha1, mgf1_sha1};
-ghost use Rattle.pkcs1_params.specs.Parts.{pss_values, HasFields, written_fields};
-ghost use Rattle.pkcs1_params.specs.Laws.Pss.{pss_means_one, pss_of_bytes};
-ghost use Rattle.pkcs1_params.specs.PssValue.{pss_of, pss_viewed};
 
 use crate::defaults::is_empty_sequence;
 use crate::error::{Error, Result};
@@ -37,9 +34,9 @@ pub struct RsaPssParamsView<'a> {
 
 impl<'a> RsaPssParamsView<'a> {
     ghost use Rattle.std.specs.Prelude.{drop, take, IfOk, OnErr};
-    ghost use Rattle.spki_core.specs.Explicit.{Masked};
-    ghost use Rattle.pkcs1_params.specs.Meanings.{ErrsExactly, IsNoShortest, IsTheShortest, IsWritingError};
-    ghost use Rattle.pkcs1_params.specs.Spellings.{HasTwoToTheDefaults};
+    ghost use Rattle.spki_core.specs.Words.{Masked};
+    ghost use Rattle.pkcs1_params.specs.Words.{ErrsExactly, IsNoShortest, IsTheShortest, IsWritingError};
+    ghost use Rattle.pkcs1_params.specs.Words.{HasTwoToTheDefaults};
 
     /// The parameters as a struct that holds its identifiers.
     #[inline(always)]
@@ -96,7 +93,7 @@ impl<'a> Default for RsaPssParamsView<'a> {
 
 impl<'a> TryFrom<&'a [u8]> for RsaPssParamsView<'a> {
     ghost use Rattle.std.specs.Prelude.{IfOk, OnErr};
-    ghost use Rattle.pkcs1_params.specs.Meanings.{ErrsExactly, IsNoSentence, IsTheMeaning};
+    ghost use Rattle.pkcs1_params.specs.Words.{ErrsExactly, IsNoSentence, IsTheMeaning};
 
     type Error = Error;
 
@@ -135,14 +132,9 @@ impl TaggedBy for RsaPssParamsView<'_> {
 }
 
 impl<'a, M: Memory> DecodeValue<&'a [u8], M> for RsaPssParamsView<'a> {
-    ghost use Rattle.spki_core.specs.Any.{Any};
-    ghost use Rattle.spki_core.specs.Laws.AnyEncodings.{any_delimited};
-    ghost use Rattle.spki_core.specs.AnyRefValue.{any_of};
-    ghost use Rattle.spki_core.specs.Laws.AnyValues.{holds_itself};
-    ghost use Rattle.spki_core.specs.Faults.{AnyFault};
-    ghost use Rattle.spki_core.specs.Laws.Faults.{any_fault_none, any_fault_first};
-    ghost use Rattle.pkcs1_params.specs.ParameterFaults.{PssFault};
-    ghost use Rattle.pkcs1_params.specs.Laws.ParameterFaults.{pss_fault_none, pss_fault_first};
+    ghost use Rattle.spki_core.specs.Words.{Any, any_delimited, any_of, holds_itself, AnyFault, any_fault_none};
+    ghost use Rattle.spki_core.specs.Words.{any_fault_first};
+    ghost use Rattle.pkcs1_params.specs.Words.{PssFault, pss_fault_none, pss_fault_first};
 
     ghost may_allocate = { PssAllocates (λ _. ⊥) };
 

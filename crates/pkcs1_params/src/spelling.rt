@@ -1,14 +1,9 @@
 //! Spellings of parameters: a mask says which of their defaults are written.
 ghost use Rattle.std.specs.Prelude.{◌≡◌, ◌≤◌, ◌<◌, ◌+◌, ◌++◌, ◌^◌, ℕ, List, length, take, drop, OnOk, OnErr, IfOk};
 ghost use Rattle.std.specs.Prelude.{IfErr, true};
-ghost use Rattle.der_core.specs.Tag.{sequence_tag};
-ghost use Rattle.der_core.specs.BackWriters.{free_of, Prepends};
-ghost use Rattle.der_core.specs.Length.{limit};
-ghost use Rattle.der_core.specs.Encodings.{MeansOne};
+ghost use Rattle.der_core.specs.Words.{sequence_tag, free_of, Prepends, limit, MeansOne, Counts, Appends};
 ghost use Rattle.std.specs.Option.{option_map};
-ghost use Rattle.der_core.specs.Writing.{Counts, Appends};
-ghost use Rattle.spki_core.specs.Explicit.{HaveDefaults, Masked};
-ghost use Rattle.spki_core.specs.StrictFields.{WalksOver, number_in};
+ghost use Rattle.spki_core.specs.Words.{HaveDefaults, Masked, WalksOver, number_in};
 ghost use Rattle.der_core.specs.declared.error.ErrorKind.{ErrorKind};
 ghost use Rattle.pkcs1_params.specs.Spellings.{IsMask, IsSpelling, HasNoSpelling, StandsUnder, IsSpellingError, AllFit};
 ghost use Rattle.pkcs1_params.specs.Spellings.{AreUnder, AreMasks, AreAllSpellings, IsListingError};
@@ -178,7 +173,7 @@ impl<T: DefaultFields> Spelling<'_, T> {
     }
 
     ghost use Rattle.std.specs.Prelude.{◌⊎◌};
-    ghost use Rattle.der_core.specs.Tlv.{tlv};
+    ghost use Rattle.der_core.specs.Words.{tlv};
 
     /// The length of the encoding: `Overflow` if there is no spelling under the mask.
     fn len(&self) -> der_core::Result<usize>

@@ -1,10 +1,8 @@
 //! Strict reading: encodings in which a default is written are rejected.
 ghost use Rattle.std.specs.Prelude.{OnOk, OnErr};
-ghost use Rattle.der_core.specs.Document.{Means, IsShortest};
-ghost use Rattle.spki_core.specs.StrictFields.{NamesNumber, NamesDefault, number_in};
-ghost use Rattle.pkcs1_params.specs.Parts.{fields_with, Fielded};
-ghost use Rattle.pkcs1_params.specs.Errors.{IsAsn1};
-ghost use Rattle.pkcs1_params.specs.Meanings.{ErrsExactly};
+ghost use Rattle.der_core.specs.Words.{Means, IsShortest};
+ghost use Rattle.spki_core.specs.Words.{NamesNumber, NamesDefault, number_in};
+ghost use Rattle.pkcs1_params.specs.Words.{fields_with, Fielded, IsAsn1, ErrsExactly};
 
 use crate::error::{Error, Result};
 use crate::spelling::DefaultFields;

@@ -1,9 +1,8 @@
 //! The trailer field of RSASSA-PSS.
 ghost use Rattle.std.specs.Prelude.{◌≡◌, ℕ, ◌∷◌, [], refl};
-ghost use Rattle.der_core.specs.Integer.{integer_contents};
-ghost use Rattle.pkcs1_params.specs.Parameters.{TrailerContents};
-ghost use Rattle.pkcs1_params.specs.Laws.SmallFields.{trailer_means_one, trailer_of_bytes, trailer_relates};
-ghost use Rattle.pkcs1_params.specs.Laws.SmallFields.{trailer_shortest};
+ghost use Rattle.der_core.specs.Words.{integer_contents};
+ghost use Rattle.pkcs1_params.specs.Words.{TrailerContents, trailer_means_one, trailer_of_bytes, trailer_relates};
+ghost use Rattle.pkcs1_params.specs.Words.{trailer_shortest};
 
 use der_core::{
     BackWriter, Contents, DecodeValue, EncodeValue, EqualByValue, ErrorKind, Header, IntegerTag,
@@ -52,8 +51,7 @@ impl EqualByValue for TrailerField {
 }
 
 impl<'a, M: Memory> DecodeValue<&'a [u8], M> for TrailerField {
-    ghost use Rattle.pkcs1_params.specs.ParameterFaults.{TrailerFault};
-    ghost use Rattle.pkcs1_params.specs.Laws.ParameterFaults.{trailer_fault_none, trailer_fault_first};
+    ghost use Rattle.pkcs1_params.specs.Words.{TrailerFault, trailer_fault_none, trailer_fault_first};
 
     ghost may_allocate = { λ _. ⊥ };
 

@@ -1,8 +1,7 @@
 //! Algorithms and label sources that borrow from the input.
 ghost use Rattle.std.specs.Prelude.{◌≡◌, []};
-ghost use Rattle.spki_core.specs.AlgorithmValue.{algorithm_with, mask_of, viewed_with};
-ghost use Rattle.spki_core.specs.AnyRefValue.{any_of};
-ghost use Rattle.pkcs1_params.specs.Parameters.{with_parameters, sha1, mgf1_sha1, empty_label};
+ghost use Rattle.spki_core.specs.Words.{algorithm_with, mask_of, viewed_with, any_of};
+ghost use Rattle.pkcs1_params.specs.Words.{with_parameters, sha1, mgf1_sha1, empty_label};
 
 use crate::hash_fields::{MaskGen, MaskGenRef, Mgf1, Sha1};
 use crate::p_source::PSpecified;

@@ -1,10 +1,8 @@
 //! A key type of a caller, which implements the traits of keys.
 ghost use Rattle.std.specs.Prelude.{◌≡◌, List, ℕ, IfOk, IfErr};
-ghost use Rattle.der_core.specs.Document.{IsDocument};
-ghost use Rattle.der_core.specs.DocumentValue.{encoding_of};
-ghost use Rattle.der_core.specs.Reading.{Rejects};
+ghost use Rattle.der_core.specs.Words.{IsDocument, encoding_of, Rejects};
 ghost use Rattle.der_core.specs.declared.error.ErrorKind.TheVariants.{OutOfMemory};
-ghost use Rattle.pkcs1_params.specs.Errors.{IsAsn1};
+ghost use Rattle.pkcs1_params.specs.Words.{IsAsn1};
 
 use crate::checks::equal;
 use crate::key_files::PRIVATE;

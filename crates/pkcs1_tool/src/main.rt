@@ -4,7 +4,7 @@
 #![tactic(auto)]
 
 ghost use Rattle.std.specs.Prelude.{◌≡◌, Bool, is_ok};
-ghost use Rattle.tool_core.specs.Plan.{status_of};
+ghost use Rattle.tool_core.specs.Words.{status_of};
 
 use std::fmt::Display;
 use std::path::Path;

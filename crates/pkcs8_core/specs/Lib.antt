@@ -4,3 +4,4 @@ pub mod Held
 pub mod Rsa
 pub mod ContainerFaults
 pub mod Laws
+pub mod Words

@@ -1,8 +1,7 @@
 //! The attributes of containers, as opaque bytes.
 ghost use Rattle.std.specs.Prelude.{◌≡◌, ◌<◌, ◌^◌, ℕ, List, length, slice_index};
-ghost use Rattle.der_core.specs.OctetString.{OctetContents};
-ghost use Rattle.der_core.specs.Laws.OctetString.{octets_mean_one, octets_of_bytes, octets_relate, octets_shortest};
-ghost use Rattle.der_core.specs.Encodings.{AreBytes};
+ghost use Rattle.der_core.specs.Words.{OctetContents, octets_mean_one, octets_of_bytes, octets_relate, octets_shortest};
+ghost use Rattle.der_core.specs.Words.{AreBytes};
 ghost use Rattle.pkcs8_core.specs.Tags.{attributes_tag};
 
 use pkcs1::der::{
@@ -61,8 +60,7 @@ impl TaggedBy for Attributes<'_> {
 }
 
 impl<'a, M: Memory> DecodeValue<&'a [u8], M> for Attributes<'a> {
-    ghost use Rattle.der_core.specs.Faults.{NoFault};
-    ghost use Rattle.der_core.specs.Laws.Faults.{no_fault_none, no_fault_first};
+    ghost use Rattle.der_core.specs.Words.{NoFault, no_fault_none, no_fault_first};
 
     ghost may_allocate = { λ _. ⊥ };
 

@@ -1,7 +1,7 @@
 //! Why bytes encode no container: the error of reading, as a function of the bytes alone.
-ghost use Rattle.pkcs1_params.specs.Meanings.{TellsFault};
+ghost use Rattle.pkcs1_params.specs.Words.{TellsFault};
 ghost use Rattle.pkcs8_core.specs.Container as container;
-ghost use Rattle.pkcs8_core.specs.ContainerFaults.{PrivateKeyInfoFault};
+ghost use Rattle.pkcs8_core.specs.Words.{PrivateKeyInfoFault};
 
 use crate::info::PrivateKeyInfoRef;
 use pkcs1::der::ErrorKind;

@@ -1,21 +1,15 @@
 //! PKCS #8 containers of private keys.
 ghost use Rattle.std.specs.Prelude.{◌≡◌, ◌≤◌, ◌+◌, ℕ, List, length, take, drop, IfOk, IfErr, OnErr, refl};
 ghost use Rattle.std.specs.Option.{option_map};
-ghost use Rattle.der_core.specs.Document.{Means, IsAlone, HasEncoding};
-ghost use Rattle.der_core.specs.Faults.{EncodingFault, FailsExactly};
-ghost use Rattle.der_core.specs.Tags.{integer};
-ghost use Rattle.pkcs8_core.specs.ContainerFaults.{VersionEncoding, VersionFault, AttributesFault, PrivateKeyInfoFault};
+ghost use Rattle.der_core.specs.Words.{Means, IsAlone, HasEncoding, EncodingFault, FailsExactly, integer, Optional};
+ghost use Rattle.der_core.specs.Words.{AtMostOne, ReadsFront, ReadsWhole, encode_error};
+ghost use Rattle.pkcs8_core.specs.Words.{VersionEncoding, VersionFault, AttributesFault, PrivateKeyInfoFault, Info};
+ghost use Rattle.pkcs8_core.specs.Words.{AttributesEncoding, InfoContents, PrivateKeyInfo, HasInfo, written_info};
+ghost use Rattle.pkcs8_core.specs.Words.{WhyContainerNotWritten, info_of, attributes_of, slice_now, info_means_one};
+ghost use Rattle.pkcs8_core.specs.Words.{info_of_bytes, info_relates, info_shortest};
 ghost use Rattle.der_core.specs.declared.error.ErrorKind as der;
-ghost use Rattle.der_core.specs.Optional.{Optional};
-ghost use Rattle.der_core.specs.Encodings.{AtMostOne};
-ghost use Rattle.der_core.specs.Reading.{ReadsFront, ReadsWhole};
-ghost use Rattle.der_core.specs.Writing.{encode_error};
-ghost use Rattle.pkcs1_params.specs.Meanings.{IsNoSentence, IsTheMeaning};
-ghost use Rattle.pkcs8_core.specs.Container.{Info, AttributesEncoding, InfoContents, PrivateKeyInfo, HasInfo};
-ghost use Rattle.pkcs8_core.specs.Container.{written_info, WhyContainerNotWritten};
-ghost use Rattle.pkcs8_core.specs.Held.{info_of, attributes_of, slice_now};
+ghost use Rattle.pkcs1_params.specs.Words.{IsNoSentence, IsTheMeaning};
 ghost use Rattle.pkcs8_core.specs.declared.info.PrivateKeyInfoRef as containers;
-ghost use Rattle.pkcs8_core.specs.Laws.Container.{info_means_one, info_of_bytes, info_relates, info_shortest};
 
 use crate::attributes::Attributes;
 use pkcs1::der::{
@@ -102,8 +96,7 @@ impl<'a> Sequence<'a> for PrivateKeyInfoRef<'_> {
 }
 
 impl<'a, M: Memory> DecodeValue<&'a [u8], M> for PrivateKeyInfoRef<'a> {
-    ghost use Rattle.pkcs8_core.specs.ContainerFaults.{InfoFault};
-    ghost use Rattle.pkcs8_core.specs.Laws.ContainerFaults.{info_fault_none, info_fault_first};
+    ghost use Rattle.pkcs8_core.specs.Words.{InfoFault, info_fault_none, info_fault_first};
 
     ghost may_allocate = { λ _. ⊥ };
 

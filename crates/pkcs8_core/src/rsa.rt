@@ -1,16 +1,11 @@
 //! RSA keys in containers.
 ghost use Rattle.std.specs.Prelude.{◌≡◌, ℕ, List, IfOk, IfErr, OnErr};
-ghost use Rattle.der_core.specs.Reading.{Rejects};
-ghost use Rattle.spki_core.specs.AlgorithmValue.{algorithm_of};
-ghost use Rattle.pkcs1.specs.Allocating.{MayAllocate};
-ghost use Rattle.pkcs1.specs.Keys.{PrivateKey};
-ghost use Rattle.pkcs1.specs.PrivateKeyValue.{private_key_of};
-ghost use Rattle.pkcs1_params.specs.Errors.{IsAsn1};
-ghost use Rattle.pkcs1_params.specs.Meanings.{ErrsExactly, ErrsOrAsks, IsNoSentence, IsTheMeaning, IsTheOnly};
-ghost use Rattle.pkcs1.specs.ViewParts.{view_of, viewed_encoding};
-ghost use Rattle.pkcs8_core.specs.ContainerFaults.{RsaFault, RsaPrivateKeyInfoFault};
-ghost use Rattle.pkcs8_core.specs.Held.{info_of};
-ghost use Rattle.pkcs8_core.specs.Rsa.{rsa_encryption, HoldsRsa, NotRsa, RsaPrivateKeyInfo};
+ghost use Rattle.der_core.specs.Words.{Rejects};
+ghost use Rattle.spki_core.specs.Words.{algorithm_of};
+ghost use Rattle.pkcs1.specs.Words.{MayAllocate, PrivateKey, private_key_of, view_of, viewed_encoding};
+ghost use Rattle.pkcs1_params.specs.Words.{IsAsn1, ErrsExactly, ErrsOrAsks, IsNoSentence, IsTheMeaning, IsTheOnly};
+ghost use Rattle.pkcs8_core.specs.Words.{RsaFault, RsaPrivateKeyInfoFault, info_of, rsa_encryption, HoldsRsa, NotRsa};
+ghost use Rattle.pkcs8_core.specs.Words.{RsaPrivateKeyInfo};
 
 use crate::info::PrivateKeyInfoRef;
 use pkcs1::der::{Error, ErrorKind, Result, Tag};

@@ -16,3 +16,4 @@ pub mod StrictFields
 pub mod Masks
 pub mod Faults
 pub mod Laws
+pub mod Words

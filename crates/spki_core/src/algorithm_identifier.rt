@@ -1,11 +1,9 @@
 //! Algorithm identifiers (RFC 5280 4.1.1.2).
 ghost use Rattle.std.specs.Prelude.{◌≡◌, ◌≢◌, refl, IfOk, IfErr, IfSome};
 ghost use Rattle.std.specs.Option.{option_map};
-ghost use Rattle.spki_core.specs.Allocating.{AllocatesForParameters, NothingAskedAlone};
-ghost use Rattle.spki_core.specs.Any.{TagAndContents};
-ghost use Rattle.spki_core.specs.AlgorithmIdentifier.{Algorithm, AlgorithmContents, HasAlgorithm, written_algorithm};
-ghost use Rattle.spki_core.specs.Laws.Algorithms.{algorithm_means_one, algorithm_of_bytes, algorithm_relates};
-ghost use Rattle.spki_core.specs.Laws.Algorithms.{algorithm_shortest, algorithm_decides};
+ghost use Rattle.spki_core.specs.Words.{AllocatesForParameters, NothingAskedAlone, TagAndContents, Algorithm};
+ghost use Rattle.spki_core.specs.Words.{AlgorithmContents, HasAlgorithm, written_algorithm, algorithm_means_one};
+ghost use Rattle.spki_core.specs.Words.{algorithm_of_bytes, algorithm_relates, algorithm_shortest, algorithm_decides};
 
 use crate::any::{AnyRef, AnyValue};
 use crate::object_identifier::ObjectIdentifier;
@@ -37,7 +35,7 @@ pub struct AlgorithmIdentifier<P> {
 pub type AlgorithmIdentifierRef<'a> = AlgorithmIdentifier<AnyRef<'a>>;
 
 impl<P: Encoding> Contents for AlgorithmIdentifier<P> {
-    ghost use Rattle.spki_core.specs.AlgorithmValue.{algorithm_with};
+    ghost use Rattle.spki_core.specs.Words.{algorithm_with};
 
     ghost Value = { Algorithm P.Value };
 
@@ -63,15 +61,14 @@ impl<'a, P> Sequence<'a> for AlgorithmIdentifier<P> {
 }
 
 impl<P: EqualByValue> EqualByValue for AlgorithmIdentifier<P> {
-    ghost use Rattle.spki_core.specs.ObjectIdentifierValue.{own_octets_of};
+    ghost use Rattle.spki_core.specs.Words.{own_octets_of};
 
     ghost decides = { λ a b. let left = own_octets_of a.oid in
         algorithm_decides P.value P.eq P.decides left (own_octets_of b.oid) a.parameters b.parameters };
 }
 
 impl<'a, M: Memory, P: Decode<&'a [u8], M>> DecodeValue<&'a [u8], M> for AlgorithmIdentifier<P> {
-    ghost use Rattle.spki_core.specs.Faults.{AlgorithmFault};
-    ghost use Rattle.spki_core.specs.Laws.Faults.{algorithm_fault_none, algorithm_fault_first};
+    ghost use Rattle.spki_core.specs.Words.{AlgorithmFault, algorithm_fault_none, algorithm_fault_first};
 
     ghost may_allocate = { AllocatesForParameters P.Decode.may_allocate };
 
@@ -133,7 +130,7 @@ impl<P: TryClone> TryClone for AlgorithmIdentifier<P> {
 }
 
 impl<P> AlgorithmIdentifier<P> {
-    ghost use Rattle.spki_core.specs.ObjectIdentifierValue.{own_octets_of};
+    ghost use Rattle.spki_core.specs.Words.{own_octets_of};
 
     /// Returns the identifier if it is the expected one, else `OidUnknown`.
     pub fn assert_algorithm_oid(&self, expected: ObjectIdentifier) -> Result<ObjectIdentifier>
@@ -151,7 +148,7 @@ impl<P> AlgorithmIdentifier<P> {
 
 impl<P: AnyValue> AlgorithmIdentifier<P> {
     ghost use Rattle.std.specs.Prelude.{Some, None};
-    ghost use Rattle.spki_core.specs.AnyRefValue.{any_of};
+    ghost use Rattle.spki_core.specs.Words.{any_of};
 
     /// The parameters, borrowed, or `ParametersMissing` if there are none.
     pub fn parameters_any(&self) -> Result<AnyRef<'_>>
@@ -168,7 +165,7 @@ impl<P: AnyValue> AlgorithmIdentifier<P> {
 
 /// A type that holds an algorithm identifier with parameters of any tag.
 pub trait AsAlgorithmIdentifierRef {
-    ghost use Rattle.spki_core.specs.AlgorithmValue.{algorithm_of};
+    ghost use Rattle.spki_core.specs.Words.{algorithm_of};
 
     /// The value that is held.
     ghost algorithm: { Self → Algorithm TagAndContents };
@@ -179,7 +176,7 @@ pub trait AsAlgorithmIdentifierRef {
 }
 
 impl<P: AnyValue> AsAlgorithmIdentifierRef for AlgorithmIdentifier<P> {
-    ghost use Rattle.spki_core.specs.AlgorithmValue.{algorithm_with};
+    ghost use Rattle.spki_core.specs.Words.{algorithm_with};
 
     ghost algorithm = { algorithm_with P.any };
 

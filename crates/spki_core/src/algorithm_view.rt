@@ -1,9 +1,8 @@
 //! Algorithm identifiers that borrow their octets from the input.
 ghost use Rattle.std.specs.Prelude.{◌≡◌};
-ghost use Rattle.spki_core.specs.Allocating.{AllocatesForParameters};
-ghost use Rattle.spki_core.specs.AlgorithmIdentifier.{Algorithm, AlgorithmContents, HasAlgorithm, written_algorithm};
-ghost use Rattle.spki_core.specs.Laws.Algorithms.{algorithm_means_one, algorithm_of_bytes, algorithm_relates};
-ghost use Rattle.spki_core.specs.Laws.Algorithms.{algorithm_shortest};
+ghost use Rattle.spki_core.specs.Words.{AllocatesForParameters, Algorithm, AlgorithmContents, HasAlgorithm};
+ghost use Rattle.spki_core.specs.Words.{written_algorithm, algorithm_means_one, algorithm_of_bytes, algorithm_relates};
+ghost use Rattle.spki_core.specs.Words.{algorithm_shortest};
 
 use crate::algorithm_identifier::AlgorithmIdentifier;
 use crate::identifier_view::IdentifierView;
@@ -22,7 +21,7 @@ pub struct AlgorithmView<'a, P> {
 }
 
 impl<'a, P> AlgorithmView<'a, P> {
-    ghost use Rattle.spki_core.specs.ObjectIdentifierValue.{own_octets_of, octets_of};
+    ghost use Rattle.spki_core.specs.Words.{own_octets_of, octets_of};
 
     /// Copies the octets of the identifier.
     #[inline(always)]
@@ -38,7 +37,7 @@ impl<'a, P> AlgorithmView<'a, P> {
 }
 
 impl<P: Encoding> Contents for AlgorithmView<'_, P> {
-    ghost use Rattle.spki_core.specs.AlgorithmValue.{viewed_with};
+    ghost use Rattle.spki_core.specs.Words.{viewed_with};
 
     ghost Value = { Algorithm P.Value };
 
@@ -60,8 +59,7 @@ impl<P> TaggedBy for AlgorithmView<'_, P> {
 }
 
 impl<'a, M: Memory, P: Decode<&'a [u8], M>> DecodeValue<&'a [u8], M> for AlgorithmView<'a, P> {
-    ghost use Rattle.spki_core.specs.Faults.{AlgorithmFault};
-    ghost use Rattle.spki_core.specs.Laws.Faults.{algorithm_fault_none, algorithm_fault_first};
+    ghost use Rattle.spki_core.specs.Words.{AlgorithmFault, algorithm_fault_none, algorithm_fault_first};
 
     ghost may_allocate = { AllocatesForParameters P.Decode.may_allocate };
 

@@ -1,10 +1,6 @@
 //! Encodings of any tag.
-ghost use Rattle.std.specs.Prelude.{◌≡◌, ◌≤◌, ◌<◌, ℕ, [], length, slice_index, refl, ⊤, IfOk, IsOk, IfErr};
-ghost use Rattle.std.specs.Prelude.{IsTrue};
-ghost use Rattle.der_core.specs.Length.{limit};
-ghost use Rattle.der_core.specs.Tag.{is_allowed};
-ghost use Rattle.der_core.specs.Faults.{FailsOrAsks};
-ghost use Rattle.der_core.specs.Reading.{ReadsFront, Rejects};
+ghost use Rattle.std.specs.Prelude.{◌≡◌, ◌≤◌, ◌<◌, ℕ, [], length, slice_index, refl, ⊤, IfOk, IsOk, IfErr, IsTrue};
+ghost use Rattle.der_core.specs.Words.{limit, is_allowed, FailsOrAsks, ReadsFront, Rejects};
 ghost use Rattle.spki_core.specs.Faults.{AnyFault, OtherAnyFault};
 ghost use Rattle.spki_core.specs.Any.{TagAndContents, IsAny, Any, null_value, written_any};
 ghost use Rattle.spki_core.specs.Laws.AnyEncodings.{any_delimited, any_of_bytes, any_relates, any_shortest};

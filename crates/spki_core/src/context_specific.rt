@@ -1,14 +1,10 @@
 //! Values inside explicit context-specific tags (X.690 8.14.2).
 ghost use Rattle.std.specs.Prelude.{◌≡◌, ◌+◌};
-ghost use Rattle.der_core.specs.Tag.{context_tag};
-ghost use Rattle.der_core.specs.Tlv.{Tlv};
-ghost use Rattle.der_core.specs.Faults.{EncodingFault, AloneFault};
-ghost use Rattle.der_core.specs.Reading.{ReadsFront, ReadsOptional, AllocatesIn, TellsNext};
-ghost use Rattle.spki_core.specs.Allocating.{FieldAllocates};
-ghost use Rattle.spki_core.specs.Faults.{ExplicitFault};
-ghost use Rattle.spki_core.specs.ContextSpecific.{Numbered, ContextSpecific, HasNumbered, written_numbered};
-ghost use Rattle.spki_core.specs.Laws.ContextSpecific.{numbered_delimited, numbered_of_bytes, numbered_relates};
-ghost use Rattle.spki_core.specs.Laws.ContextSpecific.{numbered_shortest};
+ghost use Rattle.der_core.specs.Words.{context_tag, Tlv, EncodingFault, AloneFault, ReadsFront, ReadsOptional};
+ghost use Rattle.der_core.specs.Words.{AllocatesIn, TellsNext};
+ghost use Rattle.spki_core.specs.Words.{FieldAllocates, ExplicitFault, Numbered, ContextSpecific, HasNumbered};
+ghost use Rattle.spki_core.specs.Words.{written_numbered, numbered_delimited, numbered_of_bytes, numbered_relates};
+ghost use Rattle.spki_core.specs.Words.{numbered_shortest};
 
 use der_core::{
     BackWriter, Decode, Encode, Encoding, ErrorKind, Header, Length, Memory, Reader, Result, Tag,

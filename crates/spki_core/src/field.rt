@@ -1,14 +1,7 @@
 //! Explicit fields with defaults (X.690 8.14.2, 11.5).
 ghost use Rattle.std.specs.Prelude.{◌≤◌, ◌+◌, length};
-ghost use Rattle.der_core.specs.Length.{limit};
-ghost use Rattle.der_core.specs.BackWriters.{free_of, Prepends};
-ghost use Rattle.der_core.specs.Writing.{Counts, Appends};
-ghost use Rattle.der_core.specs.Tag.{context_tag};
-ghost use Rattle.der_core.specs.Tlv.{tlv};
-ghost use Rattle.der_core.specs.Faults.{AloneFault};
-ghost use Rattle.spki_core.specs.Faults.{ExplicitFault};
-ghost use Rattle.spki_core.specs.FieldReading.{ReadsField};
-ghost use Rattle.spki_core.specs.FieldWriting.{HasField, written_field};
+ghost use Rattle.der_core.specs.Words.{limit, free_of, Prepends, Counts, Appends, context_tag, tlv, AloneFault};
+ghost use Rattle.spki_core.specs.Words.{ExplicitFault, ReadsField, HasField, written_field};
 
 use crate::context_specific::{ContextSpecificRef, is_field_next, read_explicit};
 use der_core::{

@@ -1,8 +1,6 @@
 //! Algorithm identifiers of hash functions.
 ghost use Rattle.std.specs.Bool.{Decides};
-ghost use Rattle.spki_core.specs.AlgorithmValue.{algorithm_with, viewed_with};
-ghost use Rattle.spki_core.specs.AnyRefValue.{any_of};
-ghost use Rattle.spki_core.specs.HashAlgorithms.{IsHash};
+ghost use Rattle.spki_core.specs.Words.{algorithm_with, viewed_with, any_of, IsHash};
 
 use crate::algorithm_identifier::AlgorithmIdentifier;
 use crate::algorithm_view::AlgorithmView;

@@ -8,7 +8,7 @@ ghost use Rattle.std.proofs.Common.{rules};
 ghost use Rattle.std.specs.Hash as fed;
 ghost use Rattle.std.specs.Str.{bytes_eq};
 ghost use Rattle.std.specs.Cmp.Rules.{comparing, hashing};
-ghost use Rattle.der_core.specs.Tags.{object_identifier};
+ghost use Rattle.der_core.specs.Words.{object_identifier};
 
 use crate::identifier_view::IdentifierView;
 use der_core::{
@@ -185,7 +185,7 @@ impl TaggedBy for ObjectIdentifier {
 
 impl EqualByValue for ObjectIdentifier {
     ghost use Rattle.spki_core.specs.ObjectIdentifierValue.{own_octets_of};
-    ghost use Rattle.der_core.specs.Laws.Equality.{bytes_decide};
+    ghost use Rattle.der_core.specs.Words.{bytes_decide};
 
     ghost decides = { λ a b. bytes_decide (own_octets_of a) (own_octets_of b) };
 }

@@ -1,6 +1,6 @@
 //! Encodings of any tag that own their contents.
 ghost use Rattle.std.specs.Prelude.{◌≡◌, ◌≤◌, ◌<◌, ◌⊎◌, ℕ, length, slice_index, IfOk, IfErr};
-ghost use Rattle.der_core.specs.Length.{limit};
+ghost use Rattle.der_core.specs.Words.{limit};
 ghost use Rattle.spki_core.specs.Any.{TagAndContents, IsAny, written_any};
 ghost use Rattle.spki_core.specs.Any as grammar;
 ghost use Rattle.spki_core.specs.Laws.AnyEncodings.{any_delimited, any_of_bytes, any_relates, any_shortest};

@@ -1,11 +1,8 @@
 //! Fields that are written though they equal their defaults, which DER forbids (X.690 11.5).
 ghost use Rattle.std.specs.Prelude.{◌≡◌, ◌≤◌, ◌+◌, ◌++◌, List, ℕ, length, IfOk, OnErr};
 ghost use Rattle.std.specs.Option.{option_map};
-ghost use Rattle.der_core.specs.Length.{limit};
-ghost use Rattle.der_core.specs.Reading.{NoneIn};
-ghost use Rattle.spki_core.specs.Any.{Any};
-ghost use Rattle.spki_core.specs.AnyRefValue.{any_of};
-ghost use Rattle.spki_core.specs.StrictFields.{Walked, WalksOver, number_in};
+ghost use Rattle.der_core.specs.Words.{limit, NoneIn};
+ghost use Rattle.spki_core.specs.Words.{Any, any_of, Walked, WalksOver, number_in};
 
 use crate::any::AnyRef;
 use der_core::{Decode, NoMemory, Reader, Result, SliceReader, TagNumber};

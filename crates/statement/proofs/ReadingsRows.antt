@@ -45,7 +45,7 @@ public_keys : Mean public_key (
     ∷ (codes "30818602818040" ++ (replicate 254 0x30 ++ codes "020103"), numbers (256 ^ 127 * 64) 3)
     ∷ []
     )
-unfolding bytes_of digit header_at length_at chain ended such present items_within tagged whole field integer_in  small_in identifier_in any octets_in
+unfolding bytes_of digit header_at length_at chain ended such present items_within tagged whole field integer_in small_in identifier_in any octets_in
 public_keys = (refl, (refl, (refl, (refl, (refl, tt)))))
 
 no_public_keys : AreRejected public_key (
@@ -78,7 +78,7 @@ no_public_keys : AreRejected public_key (
     ∷ (codes "3006020107020180", Value integer)
     ∷ []
     )
-unfolding bytes_of digit header_at length_at chain ended such present items_within tagged whole field integer_in  small_in identifier_in any octets_in
+unfolding bytes_of digit header_at length_at chain ended such present items_within tagged whole field integer_in small_in identifier_in any octets_in
 no_public_keys = (refl, (refl, (refl, (refl, (refl, (refl, (refl, (refl, (refl, (refl, (refl, (refl, (refl, (refl, (refl, (refl, (refl, (refl, (refl, (refl, (refl, (refl, (refl, (refl, tt))))))))))))))))))))))))
 
 -- == RSAPrivateKey ==
@@ -104,7 +104,7 @@ private_keys : Mean private_key (
     ∷ (codes "303302010102010702010302010502010b02010d020102020104020106301630090201110201020201033009020113020104020105", key_with (Some (other 17 2 3 ∷ other 19 4 5 ∷ [])))
     ∷ []
     )
-unfolding bytes_of digit header_at length_at chain ended such present items_within tagged whole field integer_in  small_in identifier_in any octets_in
+unfolding bytes_of digit header_at length_at chain ended such present items_within tagged whole field integer_in small_in identifier_in any octets_in
 private_keys = (refl, (refl, (refl, tt)))
 
 no_private_keys : AreRejected private_key (
@@ -122,7 +122,7 @@ no_private_keys : AreRejected private_key (
     ∷ (codes "302702010002010702010302010502010b02010d020102020104020106300a30080201110201020201", Incomplete)
     ∷ []
     )
-unfolding bytes_of digit header_at length_at chain ended such present items_within tagged whole field integer_in  small_in identifier_in any octets_in
+unfolding bytes_of digit header_at length_at chain ended such present items_within tagged whole field integer_in small_in identifier_in any octets_in
 no_private_keys = (refl, (refl, (refl, (refl, (refl, (refl, (refl, (refl, (refl, (refl, tt))))))))))
 
 -- == Identifiers, any encoding, AlgorithmIdentifier ==
@@ -219,7 +219,7 @@ pss_params : Mean pss (
     ∷ (codes "300ba009300706052b0e03021a", pss_with (algorithm_with sha1.oid None) 20)
     ∷ []
     )
-unfolding bytes_of digit header_at length_at chain ended such present items_within tagged whole field integer_in  small_in identifier_in any octets_in
+unfolding bytes_of digit header_at length_at chain ended such present items_within tagged whole field integer_in small_in identifier_in any octets_in
 pss_params = (refl, (refl, (refl, (refl, (refl, tt)))))
 
 no_pss_params : AreRejected pss (
@@ -251,7 +251,7 @@ no_pss_params : AreRejected pss (
     ∷ (codes "300da00b300906052b0e03021a0502", Incomplete)
     ∷ []
     )
-unfolding bytes_of digit header_at length_at chain ended such present items_within tagged whole field integer_in  small_in identifier_in any octets_in
+unfolding bytes_of digit header_at length_at chain ended such present items_within tagged whole field integer_in small_in identifier_in any octets_in
 no_pss_params = (refl, (refl, (refl, (refl, (refl, (refl, (refl, (refl, (refl, (refl, (refl, (refl, (refl, (refl, (refl, (refl, (refl, (refl, (refl, (refl, (refl, (refl, tt))))))))))))))))))))))
 
 oaep_params : Mean oaep (
@@ -260,7 +260,7 @@ oaep_params : Mean oaep (
     ∷ (codes "3012a210300e06092a864886f70d010109040161", oaep_with (algorithm_with empty_label.oid (Some (plain_any 4 (0x61 ∷ [])))))
     ∷ []
     )
-unfolding bytes_of digit header_at length_at chain ended such present items_within tagged whole field integer_in  small_in identifier_in any octets_in
+unfolding bytes_of digit header_at length_at chain ended such present items_within tagged whole field integer_in small_in identifier_in any octets_in
 oaep_params = (refl, (refl, (refl, tt)))
 
 no_oaep_params : AreRejected oaep (
@@ -272,7 +272,7 @@ no_oaep_params : AreRejected oaep (
     ∷ (codes "3005a203020114", TagUnexpected sequence integer)
     ∷ []
     )
-unfolding bytes_of digit header_at length_at chain ended such present items_within tagged whole field integer_in  small_in identifier_in any octets_in
+unfolding bytes_of digit header_at length_at chain ended such present items_within tagged whole field integer_in small_in identifier_in any octets_in
 no_oaep_params = (refl, (refl, (refl, (refl, (refl, tt)))))
 
 pss_algorithms : Mean pss_algorithm (
@@ -280,7 +280,7 @@ pss_algorithms : Mean pss_algorithm (
     ∷ (codes "301206092a864886f70d01010a3005a203020114", pss_with sha1 20)
     ∷ []
     )
-unfolding bytes_of digit header_at length_at chain ended such present items_within tagged whole field integer_in  small_in identifier_in any octets_in
+unfolding bytes_of digit header_at length_at chain ended such present items_within tagged whole field integer_in small_in identifier_in any octets_in
 pss_algorithms = (refl, (refl, tt))
 
 no_pss_algorithms : AreRejected pss_algorithm (
@@ -289,14 +289,14 @@ no_pss_algorithms : AreRejected pss_algorithm (
     ∷ (codes "300d06092a864886f70d01010a0500", TagUnexpected sequence null)
     ∷ []
     )
-unfolding bytes_of digit header_at length_at chain ended such present items_within tagged whole field integer_in  small_in identifier_in any octets_in
+unfolding bytes_of digit header_at length_at chain ended such present items_within tagged whole field integer_in small_in identifier_in any octets_in
 no_pss_algorithms = (refl, (refl, (refl, tt)))
 
 oaep_algorithms : Mean oaep_algorithm (
     (codes "300d06092a864886f70d0101073000", oaep_with empty_label)
     ∷ []
     )
-unfolding bytes_of digit header_at length_at chain ended such present items_within tagged whole field integer_in  small_in identifier_in any octets_in
+unfolding bytes_of digit header_at length_at chain ended such present items_within tagged whole field integer_in small_in identifier_in any octets_in
 oaep_algorithms = (refl, tt)
 
 -- == PrivateKeyInfo, and the key in it ==
@@ -311,7 +311,7 @@ containers : Mean container (
     (codes "300d020100300406022a030402050a", small_container)
     ∷ []
     )
-unfolding bytes_of digit header_at length_at chain ended such present items_within tagged whole field integer_in  small_in identifier_in any octets_in
+unfolding bytes_of digit header_at length_at chain ended such present items_within tagged whole field integer_in small_in identifier_in any octets_in
 containers = (refl, tt)
 
 no_containers : AreRejected container (
@@ -324,7 +324,7 @@ no_containers : AreRejected container (
     ∷ (codes "300f020100300406022a030402050a0500", TrailingData)
     ∷ []
     )
-unfolding bytes_of digit header_at length_at chain ended such present items_within tagged whole field integer_in  small_in identifier_in any octets_in
+unfolding bytes_of digit header_at length_at chain ended such present items_within tagged whole field integer_in small_in identifier_in any octets_in
 no_containers = (refl, (refl, (refl, (refl, (refl, tt)))))
 
 no_contained_keys : AreRejected contained_key (
@@ -333,5 +333,5 @@ no_contained_keys : AreRejected contained_key (
     ∷ (codes "3016020100300d06092a864886f70d010101050004023006", Incomplete)
     ∷ []
     )
-unfolding bytes_of digit header_at length_at chain ended such present items_within tagged whole field integer_in  small_in identifier_in any octets_in
+unfolding bytes_of digit header_at length_at chain ended such present items_within tagged whole field integer_in small_in identifier_in any octets_in
 no_contained_keys = (refl, (refl, (refl, tt)))

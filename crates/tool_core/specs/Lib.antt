@@ -3,3 +3,4 @@ pub mod Fault
 pub mod Plan
 pub mod Copied
 pub mod NewFile
+pub mod Words

@@ -1,11 +1,9 @@
 //! Copying keys from a source to a sink, and from file to file.
 ghost use Rattle.std.specs.Prelude.{◌≡◌, ◌⊎◌, IfOk, IfErr, OnOk};
-ghost use Rattle.der_core.specs.ErrorKinds.{IsFile};
-ghost use Rattle.der_core.specs.Wrap.{read_faults};
-ghost use Rattle.pkcs1.specs.Keys.{RsaPrivateKey, RsaPublicKey};
-ghost use Rattle.pkcs1.specs.KeyFaults.{RsaPrivateKeyFault, RsaPublicKeyFault};
-ghost use Rattle.pkcs1_params.specs.Errors.{IsAsn1};
-ghost use Rattle.tool_core.specs.Copied.{CopiesKey, IsUntouched, WhyKeyNotRead, WhyKeyNotWritten, WhyNotCopied};
+ghost use Rattle.der_core.specs.Words.{IsFile, read_faults};
+ghost use Rattle.pkcs1.specs.Words.{RsaPrivateKey, RsaPublicKey, RsaPrivateKeyFault, RsaPublicKeyFault};
+ghost use Rattle.pkcs1_params.specs.Words.{IsAsn1};
+ghost use Rattle.tool_core.specs.Words.{CopiesKey, IsUntouched, WhyKeyNotRead, WhyKeyNotWritten, WhyNotCopied};
 
 use crate::new_file::{FileAt, NewFile};
 use der_core::{Document, Error, ErrorKind, FromRead, SecretDocument, Sink, Source};

@@ -13,7 +13,7 @@ pub enum Fault {
 }
 
 impl fmt::Display for Fault {
-    ghost use Rattle.tool_core.specs.Fault.{fault_text};
+    ghost use Rattle.tool_core.specs.Words.{fault_text};
 
     ghost output = { λ fault. Some (fault_text fault) };
 

@@ -1,12 +1,9 @@
 //! The program as a filter: reading lines and writing the output for each.
 ghost use Rattle.std.specs.Prelude.{◌≡◌, ◌≤◌, ◌⊎◌, ℕ, List, length, IfSome, IfOk, OnOk, OnErr, IsErrOf, vec_len};
 ghost use Rattle.std.specs.Io.KnownBytes.{Appends, Keeps, IsAtEnd};
-ghost use Rattle.der_core.specs.Carrying.{piece};
-ghost use Rattle.der_core.specs.SourcesSinks.{AppendsFront, GivesAll, GivesMore, SomeFailed};
-ghost use Rattle.der_core.specs.Encodings.{AtMostOne};
-ghost use Rattle.pkcs1_lines.specs.Answer.{Answer, Output};
-ghost use Rattle.pkcs1_lines.specs.Lines.{lines_of};
-ghost use Rattle.tool_core.specs.Written.{Writes, WritesFirst, WritesFront, WritesFrontOfAll};
+ghost use Rattle.der_core.specs.Words.{piece, AppendsFront, GivesAll, GivesMore, SomeFailed, AtMostOne};
+ghost use Rattle.pkcs1_lines.specs.Words.{Answer, Output, lines_of};
+ghost use Rattle.tool_core.specs.Words.{Writes, WritesFirst, WritesFront, WritesFrontOfAll};
 
 use crate::fault::Fault;
 use der_core::{ErrorKind, FromRead, Length, Sink, Source, ToWrite, put_all, read_all};

@@ -1,7 +1,7 @@
 //! The file that a key is copied to.
 ghost use Rattle.std.specs.Prelude.{◌≡◌, List, ℕ, None, Option, IfOk};
 ghost use Rattle.std.specs.Io.KnownBytes.{Keeps};
-ghost use Rattle.tool_core.specs.NewFile.{held_by};
+ghost use Rattle.tool_core.specs.Words.{held_by};
 
 use der_core::{Error, ErrorKind, Result, Sink, ToWrite};
 use std::fs::File;

@@ -1,7 +1,7 @@
 //! What the program is to do.
 ghost use Rattle.std.specs.Prelude.{◌≡◌, drop, map};
 ghost use Rattle.std.specs.String.{string_bytes};
-ghost use Rattle.tool_core.specs.Plan.{asked_by, status_of, task_of};
+ghost use Rattle.tool_core.specs.Words.{asked_by, status_of, task_of};
 
 /// What the program is to do.
 #[derive(Clone, Copy, Debug, PartialEq, Eq)]

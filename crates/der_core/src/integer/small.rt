@@ -1,12 +1,8 @@
 //! INTEGER from 0 to 255, as `u8`.
 ghost use Rattle.std.specs.Prelude.{◌≤◌, ◌<◌, ℕ, ◌∷◌, [], length};
-ghost use Rattle.der_core.specs.Length.{limit};
-ghost use Rattle.der_core.specs.Faults.{SmallFault};
-ghost use Rattle.der_core.specs.Laws.Faults.{small_fault_none, small_fault_first};
-ghost use Rattle.der_core.specs.Integer.{SmallContents, integer_contents};
-ghost use Rattle.der_core.specs.IntegerReading.{Answers, small_of};
-ghost use Rattle.der_core.specs.Laws.Integer.{small_means_one, small_of_bytes};
-ghost use Rattle.der_core.specs.Laws.SmallNumbers.{small_relates, small_shortest};
+ghost use Rattle.der_core.specs.Words.{limit, SmallFault, small_fault_none, small_fault_first, SmallContents};
+ghost use Rattle.der_core.specs.Words.{integer_contents, Answers, small_of, small_means_one, small_of_bytes};
+ghost use Rattle.der_core.specs.Words.{small_relates, small_shortest};
 
 use crate::back_writer::BackWriter;
 use crate::decode::DecodeValue;
@@ -55,7 +51,7 @@ impl TaggedBy for u8 {
 }
 
 impl EqualByValue for u8 {
-    ghost use Rattle.der_core.specs.Laws.Equality.{number_decides};
+    ghost use Rattle.der_core.specs.Words.{number_decides};
 
     ghost decides = { λ a b. number_decides a b };
 }

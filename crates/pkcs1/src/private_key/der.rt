@@ -1,20 +1,12 @@
 //! Decoding private keys from whole slices; encoding them into slices and documents.
 ghost use Rattle.std.specs.Prelude.{◌≡◌, ◌≤◌, length, List, ℕ, take, drop, IfOk, IfErr, IsOk, IsErrAnd, OnErr, None};
-ghost use Rattle.der_core.specs.Document.{Means, IsShortest, WhyNotWritten};
-ghost use Rattle.der_core.specs.Reading.{AllocatesIn};
-ghost use Rattle.der_core.specs.Tag.{sequence_tag};
-ghost use Rattle.der_core.specs.Tags.{sequence};
-ghost use Rattle.der_core.specs.Tlv.{Tlv};
-ghost use Rattle.der_core.specs.Writing.{encode_error};
-ghost use Rattle.pkcs1.specs.Allocating.{AllocatesForKey};
-ghost use Rattle.pkcs1.specs.KeyFaults.{PrivateKeyEncodingFault, RsaPrivateKeyFault};
+ghost use Rattle.der_core.specs.Words.{Means, IsShortest, WhyNotWritten, AllocatesIn, sequence_tag, sequence, Tlv};
+ghost use Rattle.der_core.specs.Words.{encode_error};
+ghost use Rattle.pkcs1.specs.Words.{AllocatesForKey, PrivateKeyEncodingFault, RsaPrivateKeyFault, PrivateKey};
+ghost use Rattle.pkcs1.specs.Words.{PrivateKeyEncoding, IsOnlyEncoding, IsReadingError, WhyNoDocument};
+ghost use Rattle.pkcs1.specs.Words.{private_key_with, ListsNone, HasPrivateKey};
 ghost use Rattle.pkcs1.specs.Keys as grammar;
-ghost use Rattle.pkcs1.specs.Keys.{PrivateKey, PrivateKeyEncoding};
-ghost use Rattle.pkcs1.specs.KeyEncodings.{IsOnlyEncoding, IsReadingError, WhyNoDocument};
-ghost use Rattle.pkcs1.specs.PrivateKeyValue.{private_key_with, ListsNone};
-ghost use Rattle.pkcs1.specs.Writing.{HasPrivateKey};
-ghost use Rattle.pkcs1_params.specs.Meanings.{ErrsOrAsks, IsWritingError, IsTheMeaning};
-ghost use Rattle.pkcs1_params.specs.Errors.{IsAsn1};
+ghost use Rattle.pkcs1_params.specs.Words.{ErrsOrAsks, IsWritingError, IsTheMeaning, IsAsn1};
 
 use super::RsaPrivateKey;
 use super::other_prime_info::lists_none;
@@ -23,7 +15,7 @@ use pkcs1_params::Error;
 use std::alloc::Global;
 
 impl<U: Encode> RsaPrivateKey<U> {
-    ghost use Rattle.der_core.specs.DocumentValue.{encoding_of};
+    ghost use Rattle.der_core.specs.Words.{encoding_of};
 
     /// `encode_into`, but `Value` of SEQUENCE if the list of other primes is there but empty.
     fn encode_front(&self, out: &mut [u8]) -> crate::Result<usize>
@@ -64,7 +56,7 @@ impl<U: Encode> RsaPrivateKey<U> {
 }
 
 impl<U> RsaPrivateKey<U> {
-    ghost use Rattle.der_core.specs.OctetStringRefValue.{octets_of};
+    ghost use Rattle.der_core.specs.Words.{octets_of};
 
     /// Decodes the contents of an OCTET STRING, as `from_der` does. If the numbers need no memory, a key of two primes
     /// is always read.
@@ -91,8 +83,7 @@ impl<U> RsaPrivateKey<U> {
 }
 
 impl<'a> RsaPrivateKey<UintRef<'a>> {
-    ghost use Rattle.pkcs1.specs.Allocating.{MayAllocate};
-    ghost use Rattle.pkcs1.specs.PrivateKeyValue.{private_key_of};
+    ghost use Rattle.pkcs1.specs.Words.{MayAllocate, private_key_of};
 
     /// Decodes a whole slice, as `from_der` does; the contract is stated over the grammar of private keys. Returns
     /// `OutOfMemory` only if a SEQUENCE that begins with an OtherPrimeInfo follows the eighth number.
@@ -124,8 +115,8 @@ impl<'a> RsaPrivateKey<UintRef<'a>> {
 }
 
 impl RsaPrivateKey<Uint> {
-    ghost use Rattle.der_core.specs.UintValue.{own_bytes_of};
-    ghost use Rattle.pkcs1.specs.Allocating.{OwnedKeyAllocates};
+    ghost use Rattle.der_core.specs.Words.{own_bytes_of};
+    ghost use Rattle.pkcs1.specs.Words.{OwnedKeyAllocates};
 
     /// Decodes a whole slice, as `decode_key` of `RsaPrivateKeyRef` does. Returns `OutOfMemory` only if the SEQUENCE
     /// begins with a version and a number.

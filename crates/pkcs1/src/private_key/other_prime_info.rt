@@ -1,13 +1,9 @@
 //! Other primes of private keys.
 ghost use Rattle.std.specs.Prelude.{◌≡◌, List, ℕ, ◌↔◌, IsTrue, None, IfOk, IsOk, IfErr, refl};
-ghost use Rattle.der_core.specs.Reading.{ReadsOrFaults};
-ghost use Rattle.pkcs1.specs.KeyFaults.{OthersFault};
-ghost use Rattle.pkcs1.specs.Allocating.{AllocatesCounted, AllocatesInOthers};
-ghost use Rattle.pkcs1.specs.Keys.{OtherPrime, OtherPrimeContents, OthersOf};
-ghost use Rattle.pkcs1.specs.Writing.{HasOther, written_other};
-ghost use Rattle.pkcs1.specs.Laws.PrivateKey.{other_means_one, other_of_bytes, other_relates, other_shortest};
-ghost use Rattle.pkcs1.specs.PrivateKeyValue.{other_of, others_of, ListsNone};
-ghost use Rattle.pkcs1.specs.Versions.{number_of};
+ghost use Rattle.der_core.specs.Words.{ReadsOrFaults};
+ghost use Rattle.pkcs1.specs.Words.{OthersFault, AllocatesCounted, AllocatesInOthers, OtherPrime, OtherPrimeContents};
+ghost use Rattle.pkcs1.specs.Words.{OthersOf, HasOther, written_other, other_means_one, other_of_bytes, other_relates};
+ghost use Rattle.pkcs1.specs.Words.{other_shortest, other_of, others_of, ListsNone, number_of};
 
 use crate::version::Version;
 use der_core::{
@@ -95,8 +91,7 @@ impl<U: TryClone> TryClone for OtherPrimeInfo<U> {
 }
 
 impl<'a, M: Memory, U: Decode<&'a [u8], M>> DecodeValue<&'a [u8], M> for OtherPrimeInfo<U> {
-    ghost use Rattle.pkcs1.specs.KeyFaults.{OtherPrimeFault};
-    ghost use Rattle.pkcs1.specs.Laws.KeyFaults.{other_fault_none, other_fault_first};
+    ghost use Rattle.pkcs1.specs.Words.{OtherPrimeFault, other_fault_none, other_fault_first};
 
     ghost may_allocate = { AllocatesCounted 3 U.encoding U.Decode.may_allocate };
 

@@ -37,4 +37,3 @@ trailer_encoding_relates n h fits = tlv_relates integer_tag TrailerContents (λ 
 
 pub trailer_encoding_shortest : (n : ℕ) (b : List ℕ) → TrailerField n b → IsLeast (n ≡ 1) (tlv integer_tag (integer_contents (n ∷ []))) b
 trailer_encoding_shortest = tlv_shortest integer_tag TrailerContents (λ m. integer_contents (m ∷ [])) (λ m. m ≡ 1) trailer_shortest
-

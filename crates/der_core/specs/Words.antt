@@ -1,0 +1,44 @@
+-- The words that contracts cite, from all files of specs.
+pub use Rattle.der_core.specs.BackWriters.{Prepends, free_of}
+pub use Rattle.der_core.specs.Carrying.{FileFault, WhyReadingStopped, WritesAll, piece}
+pub use Rattle.der_core.specs.Document.{Excludes, HasEncoding, IsAlone, IsDocument, IsShortest, Means, SameByShortest}
+pub use Rattle.der_core.specs.Document.{WhyNotCounted, WhyNotWritten}
+pub use Rattle.der_core.specs.DocumentValue.{encoding_of}
+pub use Rattle.der_core.specs.EncodeToSlice.{IsFront, LeavesRest}
+pub use Rattle.der_core.specs.Encodings.{AreBytes, AtMostOne, Is, IsDelimited, IsOfBytes, MeansOne}
+pub use Rattle.der_core.specs.ErrorKinds.{IsFile}
+pub use Rattle.der_core.specs.ErrorText.{kind_text}
+pub use Rattle.der_core.specs.Faults.{AloneFault, AreFirst, AreNone, EncodingFault, FailsExactly, FailsOrAsks, Faulty}
+pub use Rattle.der_core.specs.Faults.{IsTheFault, ItemsFault, LastFault, NoFault, OnlyWhole, SmallFault, WholeFault}
+pub use Rattle.der_core.specs.Headers.{HeaderEncoding, LengthEncoding}
+pub use Rattle.der_core.specs.Input.{Input, Reads, end_of, front_of, header_at, inner_of, left_in, length_at, octet_at}
+pub use Rattle.der_core.specs.Integer.{Integer, IntegerContents, IsCanonical, SmallContents, integer_contents}
+pub use Rattle.der_core.specs.IntegerReading.{Answers, small_of}
+pub use Rattle.der_core.specs.Length.{IsLength, length_octets, limit, tlv_len}
+pub use Rattle.der_core.specs.OctetString.{OctetContents}
+pub use Rattle.der_core.specs.OctetStringRefValue.{octets_of}
+pub use Rattle.der_core.specs.Optional.{HasOptional, Optional, written_optional}
+pub use Rattle.der_core.specs.Reading.{AllocatesForItems, AllocatesIn, AllocatesLast, HoldsBytes, NoneHas, NoneIn}
+pub use Rattle.der_core.specs.Reading.{ReadsAll, ReadsEncoding, ReadsFront, ReadsOptional, ReadsOrFaults, ReadsWhole}
+pub use Rattle.der_core.specs.Reading.{Rejects, TellsNext}
+pub use Rattle.der_core.specs.SequenceOf.{AllHave, ItemsContents, all_encodings}
+pub use Rattle.der_core.specs.SliceReaders.{left_of}
+pub use Rattle.der_core.specs.SourcesSinks.{AppendsFront, CountsFailure, GivesAll, GivesMore, SomeFailed}
+pub use Rattle.der_core.specs.Tag.{context_tag, integer_tag, is_allowed, sequence_tag}
+pub use Rattle.der_core.specs.Tags.{integer, object_identifier, sequence}
+pub use Rattle.der_core.specs.Tlv.{Tlv, tlv}
+pub use Rattle.der_core.specs.UintRefValue.{bytes_of}
+pub use Rattle.der_core.specs.UintValue.{own_bytes_of}
+pub use Rattle.der_core.specs.Wrap.{read_faults, reader_of, write_faults, writer_of}
+pub use Rattle.der_core.specs.Writing.{Appends, Counts, WritesEncodings, WritesLeast, encode_error, is_no_encoding}
+pub use Rattle.der_core.specs.Writing.{joined}
+pub use Rattle.der_core.specs.Laws.Encodings.{joins_map, tlv_delimited, tlv_of_bytes, tlv_relates, tlv_shortest}
+pub use Rattle.der_core.specs.Laws.Equality.{bytes_decide, number_decides}
+pub use Rattle.der_core.specs.Laws.Faults.{encoding_fault_first, encoding_fault_none, items_fault_first}
+pub use Rattle.der_core.specs.Laws.Faults.{items_fault_none, no_fault_first, no_fault_none, small_fault_first}
+pub use Rattle.der_core.specs.Laws.Faults.{small_fault_none}
+pub use Rattle.der_core.specs.Laws.Integer.{integer_delimited, small_means_one, small_of_bytes}
+pub use Rattle.der_core.specs.Laws.OctetString.{octets_mean_one, octets_of_bytes, octets_relate, octets_shortest}
+pub use Rattle.der_core.specs.Laws.SequenceOf.{items_of_bytes, items_relate, items_shortest}
+pub use Rattle.der_core.specs.Laws.Sequences.{ContentsFaulty, EncodingGives}
+pub use Rattle.der_core.specs.Laws.SmallNumbers.{small_relates, small_shortest}
