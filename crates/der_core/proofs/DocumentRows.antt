@@ -12,7 +12,8 @@ other_tag d = other_tag_rejected 5 (0 ∷ []) (λ e. cc) d.1
 
 trailing_byte : IsDocument (48 ∷ 0 ∷ 0 ∷ []) → ⊥
 trailing_byte d =
-    let front = known_front {u = 48} [] (0 ∷ []) (48 ∷ 0 ∷ 0 ∷ []) [] d.1 refl (omega arith) in omega (arith, ap length front.2)
+    let front =
+    known_front {u = 48} [] (0 ∷ []) (48 ∷ 0 ∷ 0 ∷ []) [] d.1 refl (omega arith) in omega (arith, ap length front.2)
 
 no_bytes : IsDocument [] → ⊥
 no_bytes d = no_bytes_rejected d.1

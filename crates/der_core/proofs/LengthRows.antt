@@ -1,7 +1,8 @@
 -- Length octets at worked examples.
 use Rattle.std.proofs.Common.{ℕ, List, [], ◌∷◌, refl, arith}
 use Rattle.der_core.specs.Length.{IsLength, short}
-use Rattle.der_core.specs.Laws.WrittenOut.{known_long, no_octets_rejected, long_form, other_count_rejected, needless_long_form_rejected, needless_octet_rejected}
+use Rattle.der_core.specs.Laws.WrittenOut.{known_long, no_octets_rejected, long_form, other_count_rejected}
+use Rattle.der_core.specs.Laws.WrittenOut.{needless_long_form_rejected, needless_octet_rejected}
 
 -- 7f
 length_127 : IsLength 127 (0x7f ∷ [])
@@ -25,19 +26,27 @@ length_65535 = known_long (0xff ∷ 0xff ∷ []) (omega arith, (omega arith, tt)
 
 -- 83010000
 length_65536 : IsLength 65536 (0x83 ∷ 0x01 ∷ 0x00 ∷ 0x00 ∷ [])
-length_65536 = known_long (0x01 ∷ 0x00 ∷ 0x00 ∷ []) (omega arith, (omega arith, (omega arith, tt))) (omega arith) (omega arith) (omega arith)
+length_65536 =
+    known_long (0x01 ∷ 0x00 ∷ 0x00 ∷ []) (omega arith, (omega arith, (omega arith, tt))) (omega arith) (omega arith)
+    (omega arith)
 
 -- 8401000000
 length_16777216 : IsLength 16777216 (0x84 ∷ 0x01 ∷ 0x00 ∷ 0x00 ∷ 0x00 ∷ [])
-length_16777216 = known_long (0x01 ∷ 0x00 ∷ 0x00 ∷ 0x00 ∷ []) (omega arith, (omega arith, (omega arith, (omega arith, tt)))) (omega arith) (omega arith) (omega arith)
+length_16777216 =
+    known_long (0x01 ∷ 0x00 ∷ 0x00 ∷ 0x00 ∷ []) (omega arith, (omega arith, (omega arith, (omega arith, tt))))
+    (omega arith) (omega arith) (omega arith)
 
 -- 840fffffff
 length_268435455 : IsLength 268435455 (0x84 ∷ 0x0f ∷ 0xff ∷ 0xff ∷ 0xff ∷ [])
-length_268435455 = known_long (0x0f ∷ 0xff ∷ 0xff ∷ 0xff ∷ []) (omega arith, (omega arith, (omega arith, (omega arith, tt)))) (omega arith) (omega arith) (omega arith)
+length_268435455 =
+    known_long (0x0f ∷ 0xff ∷ 0xff ∷ 0xff ∷ []) (omega arith, (omega arith, (omega arith, (omega arith, tt))))
+    (omega arith) (omega arith) (omega arith)
 
 -- 84ffffffff
 length_4294967295 : IsLength 4294967295 (0x84 ∷ 0xff ∷ 0xff ∷ 0xff ∷ 0xff ∷ [])
-length_4294967295 = known_long (0xff ∷ 0xff ∷ 0xff ∷ 0xff ∷ []) (omega arith, (omega arith, (omega arith, (omega arith, tt)))) (omega arith) (omega arith) (omega arith)
+length_4294967295 =
+    known_long (0xff ∷ 0xff ∷ 0xff ∷ 0xff ∷ []) (omega arith, (omega arith, (omega arith, (omega arith, tt))))
+    (omega arith) (omega arith) (omega arith)
 
 -- 817f
 needless_long_rejected : (n : ℕ) → IsLength n (0x81 ∷ 0x7f ∷ []) → ⊥

@@ -15,7 +15,8 @@ piece = 65536
 
 -- What came up to the end is no document, and this is its only fault.
 abbrev pub GivesNone : ErrorKind → Option (List ℕ) → Option (List ℕ) → Type 0
-GivesNone e old new = (bytes : List ℕ) × GivesAll old new bytes × (IsDocument bytes → ⊥) × IsTheFault DocumentFault bytes e
+GivesNone e old new =
+    (bytes : List ℕ) × GivesAll old new bytes × (IsDocument bytes → ⊥) × IsTheFault DocumentFault bytes e
 
 -- Why reading stopped: a call of the source failed; or none did, and memory ran out, or too many bytes came.
 abbrev pub WhyReadingStopped : ℕ → ErrorKind → Option (List ℕ) → Option (List ℕ) → ℕ → ℕ → Type 0

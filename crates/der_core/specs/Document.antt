@@ -25,7 +25,8 @@ MeanTheSame {V} Grammar a b = (v : V) × Means Grammar a v × Means Grammar b v
 -- Two encodings that mean values mean the same one exactly if the shortest encodings of those values are equal.
 abbrev pub SameByShortest : {V : Type 0} → (V → List ℕ → Type 0) → Type 0
 SameByShortest {V} Grammar =
-    (v w : V) (a b s t : List ℕ) → Means Grammar a v → Means Grammar b w → IsShortest Grammar v s → IsShortest Grammar w t
+    (v w : V) (a b s t : List ℕ) → Means Grammar a v → Means Grammar b w → IsShortest Grammar v s
+    → IsShortest Grammar w t
     → MeanTheSame Grammar a b ↔ (s ≡ t)
 
 -- No encoding is one of both grammars.
@@ -55,7 +56,8 @@ WhyNotCounted Some Grammar v another = ⊥
 abbrev pub WhyNotWritten : {V : Type 0} → Type 0 → (V → List ℕ → Type 0) → V → ℕ → EncodeError → Type 0
 WhyNotWritten Some Grammar v room no_encoding = (encoding : List ℕ) → Grammar v encoding → ⊥
 WhyNotWritten Some Grammar v room too_long = Some × ((encoding : List ℕ) → Means Grammar encoding v → ⊥)
-WhyNotWritten Some Grammar v room no_room = (encoding : List ℕ) × IsShortest Grammar v encoding × (room < length encoding)
+WhyNotWritten Some Grammar v room no_room =
+    (encoding : List ℕ) × IsShortest Grammar v encoding × (room < length encoding)
 WhyNotWritten Some Grammar v room another = ⊥
 
 -- The value has an encoding.

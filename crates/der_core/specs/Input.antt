@@ -1,8 +1,10 @@
 -- What a reader has left, and what a call on it does.
-use Rattle.std.specs.Prelude.{◌==◌, ◌-◌, ◌≡◌, ℕ, Bool, true, List, [], ◌∷◌, Option, Some, None, Result, Ok, Err, if◌then◌else◌, nat_lt, length, take, drop}
+use Rattle.std.specs.Prelude.{◌==◌, ◌-◌, ◌≡◌, ℕ, Bool, true, List, [], ◌∷◌, Option, Some, None, Result, Ok, Err}
+use Rattle.std.specs.Prelude.{if◌then◌else◌, nat_lt, length, take, drop}
 use Rattle.der_core.specs.declared.error.Error.{Error}
 use Rattle.der_core.specs.declared.error.ErrorKind.{ErrorKind}
-use Rattle.der_core.specs.declared.error.ErrorKind.TheVariants.{Failed, Incomplete, IndefiniteLength, Overflow, Overlength, TagUnknown, TrailingData}
+use Rattle.der_core.specs.declared.error.ErrorKind.TheVariants.{Failed, Incomplete, IndefiniteLength, Overflow}
+use Rattle.der_core.specs.declared.error.ErrorKind.TheVariants.{Overlength, TagUnknown, TrailingData}
 use Rattle.std.specs.Int.Digits.{number_from_digits}
 use Rattle.der_core.specs.Length.{limit}
 use Rattle.der_core.specs.Tag.{is_allowed}
@@ -21,7 +23,8 @@ read_from None f = Err Failed
 read_from (Some b) f = f b
 
 -- A call returned what f reads, and the rest is left; or it returned the error of f, and the reader has failed.
-abbrev pub Reads : {X Y : Type 0} → (X → Y) → Result X Error → Input → Input → (List ℕ → Result (Y × List ℕ) ErrorKind) → Type 0
+abbrev pub Reads : {X Y : Type 0} → (X → Y) → Result X Error → Input → Input → (List ℕ → Result (Y × List ℕ) ErrorKind)
+    → Type 0
 Reads view (Ok x) before after f = (rest : List ℕ) × (read_from before f ≡ Ok (view x, rest)) × (after ≡ Some rest)
 Reads view (Err e) before after f = (read_from before f ≡ Err e.kind) × (after ≡ None)
 

@@ -9,7 +9,8 @@ GivesAll old new bytes = Consumes old new bytes × IsAtEnd new
 
 -- More bytes than the limit came, by at most one piece.
 abbrev pub GivesMore : ℕ → ℕ → Option (List ℕ) → Option (List ℕ) → Type 0
-GivesMore limit piece old new = (bytes : List ℕ) × Consumes old new bytes × (limit < length bytes) × (length bytes ≤ limit + piece)
+GivesMore limit piece old new =
+    (bytes : List ℕ) × Consumes old new bytes × (limit < length bytes) × (length bytes ≤ limit + piece)
 
 -- A beginning of the bytes was taken.
 abbrev pub AppendsFront : Option (List ℕ) → Option (List ℕ) → List ℕ → Type 0

@@ -1,5 +1,6 @@
 -- Reading encodings of one kind, one after another.
-use Rattle.std.proofs.Common.{◌≡◌, ℕ, ◌<◌, List, [], ◌∷◌, ◌++◌, length, map, refl, sym, ap, ◌∙◌, arith, append_assoc, inl, inr, ⊎_elim, Some, None, Err}
+use Rattle.std.proofs.Common.{◌≡◌, ℕ, ◌<◌, List, [], ◌∷◌, ◌++◌, length, map, refl, sym, ap, ◌∙◌, arith, append_assoc}
+use Rattle.std.proofs.Common.{inl, inr, ⊎_elim, Some, None, Err}
 use Rattle.std.proofs.lemmas.List.{map-append}
 use Rattle.der_core.specs.Encodings.{Then, Joins, IsDelimited}
 use Rattle.der_core.specs.Laws.Lists.{same_fronts, cons_path}
@@ -23,7 +24,8 @@ nothing encoding = record { split = λ c is. ([], c, refl, is, refl) }
 module _ {V : Type 0} {encoding : V → List ℕ → Type 0} where
   infixl 10 ◌▸◌
   -- and one more
-  pub ◌▸◌ : {vs : List V} {v : V} {before mid after : Input} → GivesAll encoding vs before mid → EncodingGives encoding v mid after → GivesAll encoding (vs ++ v ∷ []) before after
+  pub ◌▸◌ : {vs : List V} {v : V} {before mid after : Input} → GivesAll encoding vs before mid
+      → EncodingGives encoding v mid after → GivesAll encoding (vs ++ v ∷ []) before after
   ◌▸◌ {vs} {v} all one = record {
     split = λ c is.
         let a = all.split c is in
@@ -36,17 +38,21 @@ module _ {V : Type 0} {encoding : V → List ℕ → Type 0} where
         );
   }
 
-  pub counted_given : (n : ℕ) {vs : List V} {before after : Input} {c : List ℕ} → length vs ≡ n → GivesAll encoding vs before after → before ≡ Some c → EncodingGives (Counted n encoding) vs before after
+  pub counted_given : (n : ℕ) {vs : List V} {before after : Input} {c : List ℕ} → length vs ≡ n
+      → GivesAll encoding vs before after → before ≡ Some c → EncodingGives (Counted n encoding) vs before after
   counted_given n {c = c} l all is = let a = all.split c is in (a.0, a.1, is ∙ ap (λ r. Some r) a.4, a.3, (l, a.2))
 
 module _ {V : Type 0} (encoding : V → List ℕ → Type 0) (d : IsDelimited encoding) where
   -- as many were read: they are the same, and the other parts follow
-  pub as_many : (vs ws : List V) (parts : List (List ℕ → Type 0)) (read rest c : List ℕ) → Joins (map encoding vs) read → length vs ≡ length ws → c ≡ read ++ rest → Joins (map encoding ws ++ parts) c → (vs ≡ ws) × Joins parts rest
-  as_many [] [] parts read rest c p l is has = let same : c ≡ rest = is ∙ ap (λ r. r ++ rest) p in (refl, rw same at has)
+  pub as_many : (vs ws : List V) (parts : List (List ℕ → Type 0)) (read rest c : List ℕ) → Joins (map encoding vs) read
+      → length vs ≡ length ws → c ≡ read ++ rest → Joins (map encoding ws ++ parts) c → (vs ≡ ws) × Joins parts rest
+  as_many [] [] parts read rest c p l is has =
+      let same : c ≡ rest = is ∙ ap (λ r. r ++ rest) p in (refl, rw same at has)
   as_many [] (w ∷ ws) parts read rest c p l is has = absurd (omega arith)
   as_many (v ∷ vs) [] parts read rest c p l is has = absurd (omega arith)
   as_many (v ∷ vs) (w ∷ ws) parts read rest c p l is has =
-      let e : p.0 ++ (p.1 ++ rest) ≡ has.0 ++ has.1 = sym (append_assoc p.0 p.1 rest) ∙ ap (λ r. r ++ rest) (sym p.4) ∙ sym is ∙ has.4 in
+      let e : p.0 ++ (p.1 ++ rest) ≡ has.0 ++ has.1 =
+      sym (append_assoc p.0 p.1 rest) ∙ ap (λ r. r ++ rest) (sym p.4) ∙ sym is ∙ has.4 in
       let same = d.one v w p.0 (p.1 ++ rest) has.0 has.1 p.2 has.2 e in
       let tails = same_fronts p.0 (p.1 ++ rest) has.0 has.1 (ap length same.0) e in
       let more = as_many vs ws parts p.1 rest has.1 p.3 (omega arith) (sym tails.1) has.3 in
@@ -54,21 +60,30 @@ module _ {V : Type 0} (encoding : V → List ℕ → Type 0) (d : IsDelimited en
 
 -- The first of some numbers may need memory, or a number behind it.
 module _ {V : Type 0} {encoding : V → List ℕ → Type 0} {may_allocate : List ℕ → Type 0} where
-  pub counted_first : (n : ℕ) → 0 < n → (c : List ℕ) → AllocatesIn may_allocate c → AllocatesCounted n encoding may_allocate c
+  pub counted_first : (n : ℕ) → 0 < n → (c : List ℕ) → AllocatesIn may_allocate c
+      → AllocatesCounted n encoding may_allocate c
   counted_first n some c w = ([], some, ([], c, refl, w, refl))
 
-  pub counted_behind : (n m : ℕ) → n < m → (c : List ℕ) → AllocatesBehind encoding (AllocatesCounted n encoding may_allocate) c → AllocatesCounted m encoding may_allocate c
-  counted_behind n m more c (v, (x, rest, t, (vs, l, (a, b, p, w, f)), is)) =
-      (v ∷ vs, omega (arith, l, more), (x ++ a, b, (x, a, t, p, refl), w, is ∙ ap (λ r. x ++ r) f ∙ sym (append_assoc x a b)))
+  pub counted_behind : (n m : ℕ) → n < m → (c : List ℕ)
+      → AllocatesBehind encoding (AllocatesCounted n encoding may_allocate) c
+      → AllocatesCounted m encoding may_allocate c
+  counted_behind n m more c (v, (x, rest, t, (vs, l, (a, b, p, w, f)), is)) = (
+    v ∷ vs,
+    omega (arith, l, more),
+    (x ++ a, b, (x, a, t, p, refl), w, is ∙ ap (λ r. x ++ r) f ∙ sym (append_assoc x a b)),
+  )
 
 -- A fault of the first part is one of the whole.
-pub first_part : {A : Type 0} (Encoding : A → List ℕ → Type 0) (Fault : ErrorKind → List ℕ → Type 0) (Behind : A → ErrorKind → List ℕ → Type 0) (asks : List ℕ → Type 0) {e : ErrorKind} {before after : Input}
+pub first_part : {A : Type 0} (Encoding : A → List ℕ → Type 0) (Fault : ErrorKind → List ℕ → Type 0)
+    (Behind : A → ErrorKind → List ℕ → Type 0) (asks : List ℕ → Type 0) {e : ErrorKind} {before after : Input}
     → ContentsFaulty Fault asks e before after → ContentsFaulty (ThenFault Encoding Fault Behind) asks e before after
 first_part Encoding Fault Behind asks fails = (fails.0, λ c is. ⊎_elim inl (λ f. inr (inl f)) (fails.1 c is))
 
 -- The faults of numbers, one after another.
-module _ {V : Type 0} {encoding : V → List ℕ → Type 0} (Fault : ErrorKind → List ℕ → Type 0) (may_allocate : List ℕ → Type 0) where
-  pub number_faults : (n : ℕ) {vs : List V} {before mid after : Input} {e : ErrorKind} → length vs < n → GivesAll encoding vs before mid → FailsBy Fault (AllocatesIn may_allocate) e mid after
+module _ {V : Type 0} {encoding : V → List ℕ → Type 0} (Fault : ErrorKind → List ℕ → Type 0)
+    (may_allocate : List ℕ → Type 0) where
+  pub number_faults : (n : ℕ) {vs : List V} {before mid after : Input} {e : ErrorKind} → length vs < n
+      → GivesAll encoding vs before mid → FailsBy Fault (AllocatesIn may_allocate) e mid after
       → ContentsFaulty (CountedFault n encoding Fault) (AllocatesCounted n encoding may_allocate) e before after
   number_faults n {vs} l all fails = (
     fails.0,
@@ -81,10 +96,17 @@ module _ {V : Type 0} {encoding : V → List ℕ → Type 0} (Fault : ErrorKind 
   )
 
   -- three numbers, and nothing behind them
-  pub other_number_faults : {vs : List V} {before mid after : Input} {e : ErrorKind} → length vs < 3 → GivesAll encoding vs before mid → FailsBy Fault (AllocatesIn may_allocate) e mid after
+  pub other_number_faults : {vs : List V} {before mid after : Input} {e : ErrorKind} → length vs < 3
+      → GivesAll encoding vs before mid → FailsBy Fault (AllocatesIn may_allocate) e mid after
       → ContentsFaulty (OtherPrimeFault encoding Fault) (AllocatesCounted 3 encoding may_allocate) e before after
-  other_number_faults l all fails = first_part (Counted 3 encoding) (CountedFault 3 encoding Fault) (λ _. EndFault) _ (number_faults 3 l all fails)
+  other_number_faults l all fails =
+      first_part (Counted 3 encoding) (CountedFault 3 encoding Fault) (λ _. EndFault) _ (number_faults 3 l all fails)
 
-  pub other_end_faults : {vs : List V} {before mid after : Input} {e : ErrorKind} → length vs ≡ 3 → GivesAll encoding vs before mid → (read_from mid end_of ≡ Err e) × (after ≡ None)
+  pub other_end_faults : {vs : List V} {before mid after : Input} {e : ErrorKind} → length vs ≡ 3
+      → GivesAll encoding vs before mid → (read_from mid end_of ≡ Err e) × (after ≡ None)
       → ContentsFaulty (OtherPrimeFault encoding Fault) (AllocatesCounted 3 encoding may_allocate) e before after
-  other_end_faults {vs} {mid = mid} {e = e} l all ends = (ends.1, λ c is. let a = all.split c is in inr (inr (vs, (a.0, a.1, (l, a.2), more_than_end mid a.1 e a.3 ends.0, a.4))))
+  other_end_faults {vs} {mid = mid} {e = e} l all ends = (
+    ends.1,
+    λ c is. let a = all.split c is in
+        inr (inr (vs, (a.0, a.1, (l, a.2), more_than_end mid a.1 e a.3 ends.0, a.4))),
+  )

@@ -1,5 +1,6 @@
 -- The first of the other primes that bytes hold, and those behind it.
-use Rattle.std.proofs.Common.{◌≡◌, ℕ, ◌+◌, ◌-◌, ◌<◌, ◌≤◌, List, [], ◌∷◌, ◌++◌, length, map, refl, sym, ap, ◌∙◌, arith, append-nil, length-append, Some, Err, false}
+use Rattle.std.proofs.Common.{◌≡◌, ℕ, ◌+◌, ◌-◌, ◌<◌, ◌≤◌, List, [], ◌∷◌, ◌++◌, length, map, refl, sym, ap, ◌∙◌, arith}
+use Rattle.std.proofs.Common.{append-nil, length-append, Some, Err, false}
 use Rattle.std.proofs.lemmas.List.{length-map}
 use Rattle.der_core.specs.Faults.{ItemsFault}
 use Rattle.pkcs1.specs.KeyFaults.{OneOtherFault}
@@ -35,8 +36,10 @@ other_set : IsSet (OtherPrime (List ℕ))
 other_set = hlevel props
 
 -- the first one is the one that stands at the front
-first_is : (v w : OtherPrime (List ℕ)) (ws : List (OtherPrime (List ℕ))) (bytes encoding rest : List ℕ) → Then (OtherPrimeInfo Integer w) (Joins (map (OtherPrimeInfo Integer) ws)) bytes
-    → bytes ≡ encoding ++ rest → OtherPrimeInfo Integer v encoding → (w ≡ v) × Joins (map (OtherPrimeInfo Integer) ws) rest
+first_is : (v w : OtherPrime (List ℕ)) (ws : List (OtherPrime (List ℕ))) (bytes encoding rest : List ℕ)
+    → Then (OtherPrimeInfo Integer w) (Joins (map (OtherPrimeInfo Integer) ws)) bytes
+    → bytes ≡ encoding ++ rest → OtherPrimeInfo Integer v encoding
+    → (w ≡ v) × Joins (map (OtherPrimeInfo Integer) ws) rest
 first_is v w ws bytes encoding rest (x, y, p, q, e) is has =
     let f : x ++ y ≡ encoding ++ rest = sym e ∙ is in
     let one = (other_delimited integer_delimited).one w v x y encoding rest p has f in
@@ -44,12 +47,14 @@ first_is v w ws bytes encoding rest (x, y, p, q, e) is has =
     (one.1, rw tails.1 at q)
 
 -- the others hold what is behind it
-pub behind_first : (bytes encoding rest : List ℕ) (left : ℕ) (v : OtherPrime (List ℕ)) (h : HoldsOthers bytes left) → (left ≡ 0 → ⊥) → bytes ≡ encoding ++ rest → OtherPrimeInfo Integer v encoding
+pub behind_first : (bytes encoding rest : List ℕ) (left : ℕ) (v : OtherPrime (List ℕ)) (h : HoldsOthers bytes left)
+    → (left ≡ 0 → ⊥) → bytes ≡ encoding ++ rest → OtherPrimeInfo Integer v encoding
     → (t : HoldsOthers rest (left - 1)) × (h.0 ≡ v ∷ t.0)
 behind_first bytes encoding rest left v ([], p, l) some is has = absurd (some (sym l))
 behind_first bytes encoding rest left v (w ∷ ws, p, l) some is has =
     let same : w ≡ v = ∥∥₁_elim p (other_set w v) (λ a. (first_is v w ws bytes encoding rest a is has).0) in
-    let joined : ∥ Joins (map (OtherPrimeInfo Integer) ws) rest ∥₁ = ∥∥₁_elim p squash₁ (λ a. ∣ (first_is v w ws bytes encoding rest a is has).1 ∣₁) in
+    let joined : ∥ Joins (map (OtherPrimeInfo Integer) ws) rest ∥₁ =
+    ∥∥₁_elim p squash₁ (λ a. ∣ (first_is v w ws bytes encoding rest a is has).1 ∣₁) in
     let less : length ws ≡ left - 1 = omega (arith, l) in
     ((ws, joined, less), ap (λ x. x ∷ ws) same)
 
@@ -58,14 +63,17 @@ pub left_counted : (primes : OtherPrimes) → primes.left ≡ length (others_lef
 left_counted primes = sym (ap length (others_left-is primes) ∙ primes.held.2)
 
 -- what an iterator has left, and what it has left behind the first one
-pub steps_behind : (old new : OtherPrimes) (encoding : List ℕ) (v : OtherPrime (List ℕ)) → (old.left ≡ 0 → ⊥) → new.left ≡ old.left - 1 → old.bytes.now ≡ encoding ++ new.bytes.now
+pub steps_behind : (old new : OtherPrimes) (encoding : List ℕ) (v : OtherPrime (List ℕ)) → (old.left ≡ 0 → ⊥)
+    → new.left ≡ old.left - 1 → old.bytes.now ≡ encoding ++ new.bytes.now
     → OtherPrimeInfo Integer v encoding → others_left old ≡ v ∷ others_left new
 steps_behind old new encoding v some less is has =
     let s = behind_first old.bytes.now encoding new.bytes.now old.left v old.held some is has in
-    others_left-is old ∙ (s.1 ∙ ap (λ (o : List (OtherPrime (List ℕ))). v ∷ o) (one_list s.0.0 new.held.0 new.bytes.now s.0.1 new.held.1 ∙ sym (others_left-is new)))
+    others_left-is old ∙ (s.1 ∙ ap (λ (o : List (OtherPrime (List ℕ))). v ∷ o)
+    (one_list s.0.0 new.held.0 new.bytes.now s.0.1 new.held.1 ∙ sym (others_left-is new)))
 
 -- there is a first one
-pub some_first : (bytes : List ℕ) (left : ℕ) → HoldsOthers bytes left → (left ≡ 0 → ⊥) → NoneIn (OtherPrimeInfo Integer) bytes → ⊥
+pub some_first : (bytes : List ℕ) (left : ℕ) → HoldsOthers bytes left → (left ≡ 0 → ⊥)
+    → NoneIn (OtherPrimeInfo Integer) bytes → ⊥
 some_first bytes left ([], p, l) some none = some (sym l)
 some_first bytes left (w ∷ ws, p, l) some none = ∥∥₁_elim p (λ x y. absurd x) (λ a. none w a.0 a.1 a.4 a.2)
 
@@ -73,34 +81,59 @@ some_first bytes left (w ∷ ws, p, l) some none = ∥∥₁_elim p (λ x y. abs
 abbrev pub AreCounted : List ℕ → List ℕ → ℕ → Type 0
 AreCounted bytes rest count =
     (read : List ℕ) × (others : List (declared.OtherPrimeInfo UintRef))
-    × (bytes ≡ read ++ rest) × ItemsContents (OtherPrimeInfo Integer) (map (other_of bytes_of) others) read × (length others ≡ count)
+    × (bytes ≡ read ++ rest) × ItemsContents (OtherPrimeInfo Integer) (map (other_of bytes_of) others) read
+    × (length others ≡ count)
 
-pub read_first : (bytes rest behind : List ℕ) (count : ℕ) (other : declared.OtherPrimeInfo UintRef) (encoding : List ℕ) → AreCounted bytes rest count → rest ≡ encoding ++ behind
+pub read_first : (bytes rest behind : List ℕ) (count : ℕ) (other : declared.OtherPrimeInfo UintRef) (encoding : List ℕ)
+    → AreCounted bytes rest count → rest ≡ encoding ++ behind
     → OtherPrimeInfo Integer (other_of bytes_of other) encoding → AreCounted bytes behind (count + 1)
 read_first bytes rest behind count other encoding i is has =
-    let m = items_more (OtherPrime (List ℕ)) (OtherPrimeInfo Integer) (other_delimited integer_delimited) (declared.OtherPrimeInfo UintRef) (other_of bytes_of) i.1 other i.0 rest
-    (Some bytes) (Some rest) (Some behind) (ap (λ l. Some l) i.2) refl i.3 (encoding, behind, ap (λ l. Some l) is, refl, has) in
-    let same : behind ≡ m.1 = some_same behind m.1 m.3 in
-    (m.0, i.1 ++ other ∷ [], some_same bytes (m.0 ++ m.1) m.2 ∙ ap (λ l. m.0 ++ l) (sym same), m.4, omega (arith, i.4, length-append i.1 (other ∷ [])))
+    let m =
+    items_more (OtherPrime (List ℕ)) (OtherPrimeInfo Integer) (other_delimited integer_delimited)
+    (declared.OtherPrimeInfo UintRef) (other_of bytes_of) i.1 other i.0 rest
+    (Some bytes) (Some rest) (Some behind) (ap (λ l. Some l) i.2) refl i.3
+    (encoding, behind, ap (λ l. Some l) is, refl, has) in
+    let same : behind ≡ m.1 = some_same behind m.1 m.3 in (
+      m.0,
+      i.1 ++ other ∷ [],
+      some_same bytes (m.0 ++ m.1) m.2
+          ∙ ap (λ l. m.0 ++ l) (sym same),
+      m.4,
+      omega (arith, i.4, length-append i.1 (other ∷ [])),
+    )
 
-items_few : (vs : List (OtherPrime (List ℕ))) (c : List ℕ) → ItemsContents (OtherPrimeInfo Integer) vs c → length vs ≤ length c
+items_few : (vs : List (OtherPrime (List ℕ))) (c : List ℕ) → ItemsContents (OtherPrimeInfo Integer) vs c
+    → length vs ≤ length c
 items_few [] c h = omega arith
-items_few (v ∷ vs) c (x, y, p, q, e) = omega (arith, tlv_not_empty x p, items_few vs y q, ap length e, length-append x y)
+items_few (v ∷ vs) c (x, y, p, q, e) =
+    omega (arith, tlv_not_empty x p, items_few vs y q, ap length e, length-append x y)
 
 pub few_counted : (bytes rest : List ℕ) (count : ℕ) → AreCounted bytes rest count → count + length rest ≤ length bytes
 few_counted bytes rest count i =
-    omega (arith, items_few (map (other_of bytes_of) i.1) i.0 i.3, length-map i.1 (other_of bytes_of), i.4, ap length i.2, length-append i.0 rest)
+    omega (
+      arith,
+      items_few (map (other_of bytes_of) i.1) i.0 i.3,
+      length-map i.1 (other_of bytes_of),
+      i.4,
+      ap length i.2,
+      length-append i.0 rest,
+    )
 
-pub shorter_behind : (rest encoding behind : List ℕ) (other : OtherPrime (List ℕ)) → rest ≡ encoding ++ behind → OtherPrimeInfo Integer other encoding → length behind < length rest
-shorter_behind rest encoding behind other is has = omega (arith, tlv_not_empty encoding has, ap length is, length-append encoding behind)
+pub shorter_behind : (rest encoding behind : List ℕ) (other : OtherPrime (List ℕ)) → rest ≡ encoding ++ behind
+    → OtherPrimeInfo Integer other encoding → length behind < length rest
+shorter_behind rest encoding behind other is has =
+    omega (arith, tlv_not_empty encoding has, ap length is, length-append encoding behind)
 
-pub counted : (bytes rest : List ℕ) (count : ℕ) → AreCounted bytes rest count → length rest ≡ 0 → (others : List (OtherPrime (List ℕ))) × ItemsContents (OtherPrimeInfo Integer) others bytes × (length others ≡ count)
+pub counted : (bytes rest : List ℕ) (count : ℕ) → AreCounted bytes rest count → length rest ≡ 0
+    → (others : List (OtherPrime (List ℕ))) × ItemsContents (OtherPrimeInfo Integer) others bytes
+    × (length others ≡ count)
 counted bytes rest count i ends =
     let nothing : rest ≡ [] = empty_is rest ends in
     let all : bytes ≡ i.0 = i.2 ∙ ap (λ l. i.0 ++ l) nothing ∙ append-nil i.0 in
     (map (other_of bytes_of) i.1, rw all i.3, omega (arith, i.4, length-map i.1 (other_of bytes_of)))
 
-pub fault_there : (bytes rest : List ℕ) (count : ℕ) (k : ErrorKind) → AreCounted bytes rest count → 0 < length rest → OneOtherFault k rest → ItemsFault (OtherPrimeInfo Integer) OneOtherFault k bytes
+pub fault_there : (bytes rest : List ℕ) (count : ℕ) (k : ErrorKind) → AreCounted bytes rest count → 0 < length rest
+    → OneOtherFault k rest → ItemsFault (OtherPrimeInfo Integer) OneOtherFault k bytes
 fault_there bytes rest count k i more fault = (map (other_of bytes_of) i.1, (i.0, rest, i.3, (more, fault), i.2))
 
 -- All that is left can be read.
@@ -110,7 +143,8 @@ all_there left n e same rejected =
     let no = rw room at rejected in
     cc
 
-pub list_given : (bytes : List ℕ) (primes : OtherPrimes) (others : List (OtherPrime (List ℕ))) → ItemsContents (OtherPrimeInfo Integer) others bytes → primes.bytes.now ≡ bytes
+pub list_given : (bytes : List ℕ) (primes : OtherPrimes) (others : List (OtherPrime (List ℕ)))
+    → ItemsContents (OtherPrimeInfo Integer) others bytes → primes.bytes.now ≡ bytes
     → ItemsContents (OtherPrimeInfo Integer) (others_left primes) bytes
 list_given bytes primes others has is =
     let kept : ∥ ItemsContents (OtherPrimeInfo Integer) primes.held.0 bytes ∥₁ = rw is at primes.held.1 in

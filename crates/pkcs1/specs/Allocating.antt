@@ -15,27 +15,33 @@ VersionEncoding n encoding = Tlv integer_tag (VersionContents n) encoding
 -- Where n numbers are read, one after another: behind fewer of them, some bytes may need memory.
 abbrev pub AllocatesCounted : {Number : Type 0} → ℕ → (Number → List ℕ → Type 0) → (List ℕ → Type 0) → List ℕ → Type 0
 AllocatesCounted {Number} n NumberEncoding may_allocate c =
-    (numbers : List Number) × (length numbers < n) × Then (Joins (map NumberEncoding numbers)) (AllocatesIn may_allocate) c
+    (numbers : List Number) × (length numbers < n)
+    × Then (Joins (map NumberEncoding numbers)) (AllocatesIn may_allocate) c
 
 -- The bytes begin with a SEQUENCE whose first OtherPrimeInfo is there, or may need memory.
 abbrev pub AllocatesInOthers : {Number : Type 0} → (Number → List ℕ → Type 0) → (List ℕ → Type 0) → List ℕ → Type 0
 AllocatesInOthers NumberEncoding may_allocate c =
-    AllocatesIn (Tlv sequence_tag (AllocatesForItems (OtherPrimeInfo NumberEncoding) (Tlv sequence_tag (AllocatesCounted 3 NumberEncoding may_allocate)))) c
+    AllocatesIn (Tlv sequence_tag (AllocatesForItems (OtherPrimeInfo NumberEncoding)
+    (Tlv sequence_tag (AllocatesCounted 3 NumberEncoding may_allocate)))) c
 
 -- The bytes are a version and eight numbers, and then bytes of which `Rest` holds.
 abbrev pub BehindNumbers : {Number : Type 0} → (Number → List ℕ → Type 0) → (List ℕ → Type 0) → List ℕ → Type 0
 BehindNumbers {Number} NumberEncoding Rest c =
     (n : ℕ) × (numbers : List Number) × (front : List ℕ) × (rest : List ℕ)
-    × (length numbers ≡ 8) × Joins (VersionEncoding n ∷ map NumberEncoding numbers) front × Rest rest × (c ≡ front ++ rest)
+    × (length numbers ≡ 8) × Joins (VersionEncoding n ∷ map NumberEncoding numbers) front × Rest rest
+    × (c ≡ front ++ rest)
 
 -- Behind a version, one of the eight numbers may need memory, or what follows them.
-abbrev pub AllocatesInKey : {Number : Type 0} → (Number → List ℕ → Type 0) → (List ℕ → Type 0) → (List ℕ → Type 0) → List ℕ → Type 0
+abbrev pub AllocatesInKey : {Number : Type 0} → (Number → List ℕ → Type 0) → (List ℕ → Type 0) → (List ℕ → Type 0)
+    → List ℕ → Type 0
 AllocatesInKey NumberEncoding may_allocate Rest c =
-    AllocatesBehind VersionEncoding (AllocatesCounted 8 NumberEncoding may_allocate) c ⊎ BehindNumbers NumberEncoding Rest c
+    AllocatesBehind VersionEncoding (AllocatesCounted 8 NumberEncoding may_allocate) c
+    ⊎ BehindNumbers NumberEncoding Rest c
 
 -- What follows them may need it for other primes.
 abbrev pub AllocatesForKey : {Number : Type 0} → (Number → List ℕ → Type 0) → (List ℕ → Type 0) → List ℕ → Type 0
-AllocatesForKey NumberEncoding may_allocate c = AllocatesInKey NumberEncoding may_allocate (AllocatesInOthers NumberEncoding may_allocate) c
+AllocatesForKey NumberEncoding may_allocate c =
+    AllocatesInKey NumberEncoding may_allocate (AllocatesInOthers NumberEncoding may_allocate) c
 
 -- A version, eight numbers, and a SEQUENCE that begins with an OtherPrimeInfo, whatever follows.
 abbrev pub OthersFollow : List ℕ → Type 0

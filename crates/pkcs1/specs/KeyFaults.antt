@@ -13,27 +13,35 @@ use Rattle.pkcs1.specs.Keys.{RsaPublicKey, PrivateKeyEncoding, OtherPrime, Other
 use Rattle.pkcs1.specs.Versions.{VersionContents}
 
 -- A fault of the modulus, or else of the public exponent, or bytes after it.
-abbrev pub PublicKeyFault : {Number : Type 0} → (Number → List ℕ → Type 0) → (ErrorKind → List ℕ → Type 0) → ErrorKind → List ℕ → Type 0
-PublicKeyFault NumberEncoding NumberFault = ThenFault NumberEncoding NumberFault (λ _. ThenFault NumberEncoding NumberFault (λ _. EndFault))
+abbrev pub PublicKeyFault : {Number : Type 0} → (Number → List ℕ → Type 0) → (ErrorKind → List ℕ → Type 0) → ErrorKind
+    → List ℕ → Type 0
+PublicKeyFault NumberEncoding NumberFault =
+    ThenFault NumberEncoding NumberFault (λ _. ThenFault NumberEncoding NumberFault (λ _. EndFault))
 
 -- The first fault of a whole slice, as a public key.
 abbrev pub RsaPublicKeyFault : ErrorKind → List ℕ → Type 0
-RsaPublicKeyFault = WholeFault RsaPublicKey (EncodingFault sequence (PublicKeyFault Integer (EncodingFault integer IntegerFault)))
+RsaPublicKeyFault =
+    WholeFault RsaPublicKey (EncodingFault sequence (PublicKeyFault Integer (EncodingFault integer IntegerFault)))
 
 -- n numbers in a row. The fault: fewer of them, and then a fault of the next.
 abbrev pub Counted : {Number : Type 0} → ℕ → (Number → List ℕ → Type 0) → List Number → List ℕ → Type 0
 Counted n NumberEncoding numbers encodings = (length numbers ≡ n) × Joins (map NumberEncoding numbers) encodings
 
-abbrev pub CountedFault : {Number : Type 0} → ℕ → (Number → List ℕ → Type 0) → (ErrorKind → List ℕ → Type 0) → ErrorKind → List ℕ → Type 0
-CountedFault {Number} n NumberEncoding NumberFault kind bytes = (numbers : List Number) × (length numbers < n) × Then (Joins (map NumberEncoding numbers)) (NumberFault kind) bytes
+abbrev pub CountedFault : {Number : Type 0} → ℕ → (Number → List ℕ → Type 0) → (ErrorKind → List ℕ → Type 0) → ErrorKind
+    → List ℕ → Type 0
+CountedFault {Number} n NumberEncoding NumberFault kind bytes =
+    (numbers : List Number) × (length numbers < n) × Then (Joins (map NumberEncoding numbers)) (NumberFault kind) bytes
 
 -- A fault of one of the three numbers, or bytes after them.
-abbrev pub OtherPrimeFault : {Number : Type 0} → (Number → List ℕ → Type 0) → (ErrorKind → List ℕ → Type 0) → ErrorKind → List ℕ → Type 0
-OtherPrimeFault NumberEncoding NumberFault = ThenFault (Counted 3 NumberEncoding) (CountedFault 3 NumberEncoding NumberFault) (λ _. EndFault)
+abbrev pub OtherPrimeFault : {Number : Type 0} → (Number → List ℕ → Type 0) → (ErrorKind → List ℕ → Type 0) → ErrorKind
+    → List ℕ → Type 0
+OtherPrimeFault NumberEncoding NumberFault =
+    ThenFault (Counted 3 NumberEncoding) (CountedFault 3 NumberEncoding NumberFault) (λ _. EndFault)
 
 -- Not a number from 0 to 255, or one that is no version.
 abbrev pub VersionFault : ErrorKind → List ℕ → Type 0
-VersionFault kind contents = SmallFault kind contents ⊎ ((n : ℕ) × SmallContents n contents × (2 ≤ n) × (kind ≡ Value integer))
+VersionFault kind contents =
+    SmallFault kind contents ⊎ ((n : ℕ) × SmallContents n contents × (2 ≤ n) × (kind ≡ Value integer))
 
 -- After the other primes: they don't agree with the version, or the list is empty, or bytes follow it.
 abbrev pub ListedFault : {Number : Type 0} → ℕ → List (OtherPrime Number) → ErrorKind → List ℕ → Type 0
@@ -44,16 +52,23 @@ ListedFault version others kind rest =
 
 -- After the eight numbers: if the tag of a SEQUENCE is next, a fault of the other primes or of what follows them; if
 -- not, the version requires other primes, or bytes follow.
-abbrev pub OthersFault : {Number : Type 0} → (Number → List ℕ → Type 0) → (ErrorKind → List ℕ → Type 0) → ℕ → ErrorKind → List ℕ → Type 0
+abbrev pub OthersFault : {Number : Type 0} → (Number → List ℕ → Type 0) → (ErrorKind → List ℕ → Type 0) → ℕ → ErrorKind
+    → List ℕ → Type 0
 OthersFault NumberEncoding NumberFault version kind rest =
     ((slice_get rest 0 ≡ Some sequence_tag)
-    × ThenFault (λ others. Tlv sequence_tag (ItemsContents (OtherPrimeInfo NumberEncoding) others)) (EncodingFault sequence (ItemsFault (OtherPrimeInfo NumberEncoding) (EncodingFault sequence (OtherPrimeFault NumberEncoding NumberFault)))) (ListedFault version) kind rest)
-    ⊎ ((slice_get rest 0 ≢ Some sequence_tag) × (((version ≡ 1) × (kind ≡ Value integer)) ⊎ ((version ≢ 1) × EndFault kind rest)))
+    × ThenFault (λ others. Tlv sequence_tag (ItemsContents (OtherPrimeInfo NumberEncoding) others))
+    (EncodingFault sequence (ItemsFault (OtherPrimeInfo NumberEncoding)
+    (EncodingFault sequence (OtherPrimeFault NumberEncoding NumberFault)))) (ListedFault version) kind rest)
+    ⊎ ((slice_get rest 0 ≢ Some sequence_tag)
+    × (((version ≡ 1) × (kind ≡ Value integer)) ⊎ ((version ≢ 1) × EndFault kind rest)))
 
 -- A fault of the version, or else of one of the eight numbers, or of what follows them.
-abbrev pub PrivateKeyFault : {Number : Type 0} → (Number → List ℕ → Type 0) → (ErrorKind → List ℕ → Type 0) → ErrorKind → List ℕ → Type 0
+abbrev pub PrivateKeyFault : {Number : Type 0} → (Number → List ℕ → Type 0) → (ErrorKind → List ℕ → Type 0) → ErrorKind
+    → List ℕ → Type 0
 PrivateKeyFault NumberEncoding NumberFault =
-    ThenFault (λ n. Tlv integer_tag (VersionContents n)) (EncodingFault integer VersionFault) (λ version. ThenFault (Counted 8 NumberEncoding) (CountedFault 8 NumberEncoding NumberFault) (λ _. OthersFault NumberEncoding NumberFault version))
+    ThenFault (λ n. Tlv integer_tag (VersionContents n)) (EncodingFault integer VersionFault)
+    (λ version. ThenFault (Counted 8 NumberEncoding) (CountedFault 8 NumberEncoding NumberFault)
+    (λ _. OthersFault NumberEncoding NumberFault version))
 
 -- The faults of an INTEGER, of an OtherPrimeInfo.
 abbrev pub NumberFault : ErrorKind → List ℕ → Type 0
@@ -63,8 +78,10 @@ abbrev pub OneOtherFault : ErrorKind → List ℕ → Type 0
 OneOtherFault = EncodingFault sequence (OtherPrimeFault Integer NumberFault)
 
 -- The first fault of a whole slice, as a private key of numbers of any type, and of INTEGERs.
-abbrev pub PrivateKeyEncodingFault : {Number : Type 0} → (Number → List ℕ → Type 0) → (ErrorKind → List ℕ → Type 0) → ErrorKind → List ℕ → Type 0
-PrivateKeyEncodingFault NumberEncoding NumberFault = WholeFault (PrivateKeyEncoding NumberEncoding) (EncodingFault sequence (PrivateKeyFault NumberEncoding NumberFault))
+abbrev pub PrivateKeyEncodingFault : {Number : Type 0} → (Number → List ℕ → Type 0) → (ErrorKind → List ℕ → Type 0)
+    → ErrorKind → List ℕ → Type 0
+PrivateKeyEncodingFault NumberEncoding NumberFault =
+    WholeFault (PrivateKeyEncoding NumberEncoding) (EncodingFault sequence (PrivateKeyFault NumberEncoding NumberFault))
 
 abbrev pub RsaPrivateKeyFault : ErrorKind → List ℕ → Type 0
 RsaPrivateKeyFault = PrivateKeyEncodingFault Integer NumberFault

@@ -12,7 +12,8 @@ pub record PublicKey (Number : Type 0) : Type 0 where
 
 -- RSAPublicKey ::= SEQUENCE { modulus INTEGER, publicExponent INTEGER } (A.1.1)
 abbrev pub PublicKeyContents : {Number : Type 0} → (Number → List ℕ → Type 0) → PublicKey Number → List ℕ → Type 0
-PublicKeyContents NumberEncoding key contents = Joins (NumberEncoding key.modulus ∷ NumberEncoding key.public_exponent ∷ []) contents
+PublicKeyContents NumberEncoding key contents =
+    Joins (NumberEncoding key.modulus ∷ NumberEncoding key.public_exponent ∷ []) contents
 
 abbrev pub RsaPublicKey : PublicKey (List ℕ) → List ℕ → Type 0
 RsaPublicKey key encoding = Tlv sequence_tag (PublicKeyContents Integer key) encoding
@@ -24,15 +25,18 @@ pub record OtherPrime (Number : Type 0) : Type 0 where
 
 -- OtherPrimeInfo ::= SEQUENCE { prime INTEGER, exponent INTEGER, coefficient INTEGER } (A.1.2)
 abbrev pub OtherPrimeContents : {Number : Type 0} → (Number → List ℕ → Type 0) → OtherPrime Number → List ℕ → Type 0
-OtherPrimeContents NumberEncoding other contents = Joins (NumberEncoding other.prime ∷ NumberEncoding other.exponent ∷ NumberEncoding other.coefficient ∷ []) contents
+OtherPrimeContents NumberEncoding other contents =
+    Joins (NumberEncoding other.prime ∷ NumberEncoding other.exponent ∷ NumberEncoding other.coefficient ∷ []) contents
 
 abbrev pub OtherPrimeInfo : {Number : Type 0} → (Number → List ℕ → Type 0) → OtherPrime Number → List ℕ → Type 0
 OtherPrimeInfo NumberEncoding other encoding = Tlv sequence_tag (OtherPrimeContents NumberEncoding other) encoding
 
 -- OtherPrimeInfos ::= SEQUENCE SIZE(1..MAX) OF OtherPrimeInfo, OPTIONAL (A.1.2)
-abbrev pub OtherPrimeInfos : {Number : Type 0} → (Number → List ℕ → Type 0) → Option (List (OtherPrime Number)) → List ℕ → Type 0
+abbrev pub OtherPrimeInfos : {Number : Type 0} → (Number → List ℕ → Type 0) → Option (List (OtherPrime Number)) → List ℕ
+    → Type 0
 OtherPrimeInfos NumberEncoding None encoding = encoding ≡ []
-OtherPrimeInfos NumberEncoding (Some others) encoding = (0 < length others) × Tlv sequence_tag (ItemsContents (OtherPrimeInfo NumberEncoding) others) encoding
+OtherPrimeInfos NumberEncoding (Some others) encoding =
+    (0 < length others) × Tlv sequence_tag (ItemsContents (OtherPrimeInfo NumberEncoding) others) encoding
 
 -- Version ::= INTEGER { two-prime(0), multi(1) }: multi if there are other primes (A.1.2)
 abbrev pub version_of : {Number : Type 0} → Option (List (OtherPrime Number)) → ℕ
@@ -40,8 +44,10 @@ version_of None = 0
 version_of (Some others) = 1
 
 -- The other primes at the end of a private key that has this version.
-abbrev pub OthersOf : {Number : Type 0} → (Number → List ℕ → Type 0) → ℕ → Option (List (OtherPrime Number)) → List ℕ → Type 0
-OthersOf NumberEncoding version others encoding = (version_of others ≡ version) × OtherPrimeInfos NumberEncoding others encoding
+abbrev pub OthersOf : {Number : Type 0} → (Number → List ℕ → Type 0) → ℕ → Option (List (OtherPrime Number)) → List ℕ
+    → Type 0
+OthersOf NumberEncoding version others encoding =
+    (version_of others ≡ version) × OtherPrimeInfos NumberEncoding others encoding
 
 pub record PrivateKey (Number : Type 0) : Type 0 where
   pub modulus : Number

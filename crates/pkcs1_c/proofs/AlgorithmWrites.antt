@@ -9,14 +9,19 @@ use Rattle.pkcs1_c.specs.StructErrors.{EncodingError}
 use Rattle.pkcs1_c.specs.Writes.{Writes}
 use Rattle.pkcs1_c.proofs.Writes.{writes_as}
 
-module _ {V : Type 0} (Grammar : V → List ℕ → Type 0) {oid : List ℕ} {a : Algorithm V} {v : V} (is : a ≡ with_parameters oid v) where
-  error_of : (room s : ℕ) → EncodingError (AlgorithmIdentifier Grammar) a room s → EncodingError (AlgorithmOf oid Grammar) v room s
+module _ {V : Type 0} (Grammar : V → List ℕ → Type 0) {oid : List ℕ} {a : Algorithm V} {v : V}
+    (is : a ≡ with_parameters oid v) where
+  error_of : (room s : ℕ) → EncodingError (AlgorithmIdentifier Grammar) a room s
+      → EncodingError (AlgorithmOf oid Grammar) v room s
   error_of room s (inl p) = inl (p.0, λ encoding m. p.1 encoding (rw is m))
   error_of room s (inr p) = inr (p.0, p.1, shortest_of is p.1 p.2, p.3)
 
-  error_as : (room s : ℕ) → EncodingError (AlgorithmOf oid Grammar) v room s → EncodingError (AlgorithmIdentifier Grammar) a room s
+  error_as : (room s : ℕ) → EncodingError (AlgorithmOf oid Grammar) v room s
+      → EncodingError (AlgorithmIdentifier Grammar) a room s
   error_as room s (inl p) = inl (p.0, λ encoding m. p.1 encoding (rw is at m))
   error_as room s (inr p) = inr (p.0, p.1, shortest_as is p.1 p.2, p.3)
 
-  pub identifier_written : {old new : List ℕ} {l m s : ℕ} → Writes (IsShortest (AlgorithmIdentifier Grammar) a) (EncodingError (AlgorithmIdentifier Grammar) a) old new l m s → Writes (IsShortest (AlgorithmOf oid Grammar) v) (EncodingError (AlgorithmOf oid Grammar) v) old new l m s
+  pub identifier_written : {old new : List ℕ} {l m s : ℕ}
+      → Writes (IsShortest (AlgorithmIdentifier Grammar) a) (EncodingError (AlgorithmIdentifier Grammar) a) old new l m
+      s → Writes (IsShortest (AlgorithmOf oid Grammar) v) (EncodingError (AlgorithmOf oid Grammar) v) old new l m s
   identifier_written = writes_as (shortest_of is) (error_of _) (error_as _)

@@ -14,11 +14,13 @@ module _ (info : PrivateKeyInfo) where
 
   module _ (room : ℕ) where
     pub info_one : IsOne (InfoError info room)
-    info_one s t (inl (j, p, a)) (inl (k, q, b)) = a ∙ ap kind_number (private_key_told.first j k info.private_key.now p q) ∙ sym b
+    info_one s t (inl (j, p, a)) (inl (k, q, b)) =
+        a ∙ ap kind_number (private_key_told.first j k info.private_key.now p q) ∙ sym b
     info_one s t (inl p) (inr q) = absurd (fault_none s p q.0)
     info_one s t (inr p) (inl q) = absurd (fault_none t q p.0)
     info_one s t (inr p) (inr q) = encoding_one container.PrivateKeyInfo (info_seen info) room s t p.1 q.1
 
-    pub info_rest : HoldsSomeKey info → (s : ℕ) → InfoError info room s → EncodingError container.PrivateKeyInfo (info_seen info) room s
+    pub info_rest : HoldsSomeKey info → (s : ℕ) → InfoError info room s
+        → EncodingError container.PrivateKeyInfo (info_seen info) room s
     info_rest holds s (inl p) = absurd (fault_none s p holds)
     info_rest holds s (inr p) = p.1

@@ -3,7 +3,8 @@ use Rattle.std.proofs.Common.{ℕ, List, [], ◌∷◌, ◌≡◌, length, refl,
 use Rattle.std.specs.Prelude.{Result, Ok, Err, IfErr, IsErrAnd}
 use Rattle.der_core.specs.Laws.Integer.{canonical_same}
 use Rattle.pkcs1.specs.Keys.{PublicKey, PrivateKey, OtherPrime}
-use Rattle.pkcs1_c.specs.Numbers.{IsNumberOf, ArePublicNumbers, IsOtherOf, AreOthersOf, AreOtherNumbers, ArePrivateNumbers}
+use Rattle.pkcs1_c.specs.Numbers.{IsNumberOf, ArePublicNumbers, IsOtherOf, AreOthersOf, AreOtherNumbers}
+use Rattle.pkcs1_c.specs.Numbers.{ArePrivateNumbers}
 
 -- What holds whatever the error is.
 pub err_all : {T E : Type 0} (P : E → Type 0) (r : Result T E) → ((e : E) → P e) → IfErr r P
@@ -11,7 +12,8 @@ err_all P (Ok x) p = tt
 err_all P (Err e) p = p e
 
 -- What holds of an error that was handed on.
-pub err_handed : {T E : Type 0} (P : E → Type 0) (first : E) (r : Result T E) → IsErrAnd r (λ e. e ≡ first) → P first → IfErr r P
+pub err_handed : {T E : Type 0} (P : E → Type 0) (first : E) (r : Result T E) → IsErrAnd r (λ e. e ≡ first) → P first
+    → IfErr r P
 err_handed P first (Ok x) same p = absurd same
 err_handed P first (Err e) same p = subst P (sym same) p
 
@@ -40,13 +42,15 @@ others_same (g ∷ gs) [] ls p q = absurd p
 others_same (g ∷ gs) (k ∷ ks) [] p q = absurd q
 others_same (g ∷ gs) (k ∷ ks) (l ∷ ls) p q = λ i. other_same g k l p.0 q.0 i ∷ others_same gs ks ls p.1 q.1 i
 
-listed_same : (given : List (OtherPrime (List ℕ))) (ks ls : Option (List (OtherPrime (List ℕ)))) → AreOtherNumbers ks given → AreOtherNumbers ls given → ks ≡ ls
+listed_same : (given : List (OtherPrime (List ℕ))) (ks ls : Option (List (OtherPrime (List ℕ))))
+    → AreOtherNumbers ks given → AreOtherNumbers ls given → ks ≡ ls
 listed_same given None None p q = refl
 listed_same given None (Some ls) p q = absurd (omega (arith, ap length p, q.0))
 listed_same given (Some ks) None p q = absurd (omega (arith, ap length q, p.0))
 listed_same given (Some ks) (Some ls) p q = ap Some (others_same given ks ls p.1 q.1)
 
-pub private_same : (given k l : PrivateKey (List ℕ)) (others : List (OtherPrime (List ℕ))) → ArePrivateNumbers k given others → ArePrivateNumbers l given others → k ≡ l
+pub private_same : (given k l : PrivateKey (List ℕ)) (others : List (OtherPrime (List ℕ)))
+    → ArePrivateNumbers k given others → ArePrivateNumbers l given others → k ≡ l
 private_same given k l others p q =
     let a = number_same given.modulus k.modulus l.modulus p.0 q.0 in
     let b = number_same given.public_exponent k.public_exponent l.public_exponent p.1 q.1 in

@@ -35,41 +35,51 @@ tells_below kind.OutOfMemory t = absurd (t.0 refl)
 
 -- What is known of an error, of its number.
 module _ {Read : Type 0} (Fault : ErrorKind → Read → Type 0) (read : Read) where
-  pub status_known : (e : Error) → IsAsn1 (λ a. IsTheFault Fault read a.kind) e → ((0 < status_of e) × (status_of e < 15)) × IsNumberOfFault (λ kind. Fault kind read) (status_of e)
+  pub status_known : (e : Error) → IsAsn1 (λ a. IsTheFault Fault read a.kind) e
+      → ((0 < status_of e) × (status_of e < 15)) × IsNumberOfFault (λ kind. Fault kind read) (status_of e)
   status_known (error.Asn1 a) p = (tells_below a.kind p.0, (a.kind, p.1, refl))
   status_known error.Crypto p = absurd p
   status_known error.KeyMalformed p = absurd p
   status_known error.Version p = absurd p
 
-  pub status_exact : (e : Error) (number : ℕ) → number ≡ status_of e → IsAsn1 (λ a. IsTheFault Fault read a.kind) e → IsStatusOf Fault read number
+  pub status_exact : (e : Error) (number : ℕ) → number ≡ status_of e → IsAsn1 (λ a. IsTheFault Fault read a.kind) e
+      → IsStatusOf Fault read number
   status_exact (error.Asn1 a) zero is p = absurd (omega (arith, is, (tells_below a.kind p.0).0))
-  status_exact (error.Asn1 a) (suc n) is p = (omega (arith, is, (tells_below a.kind p.0).1), (a.kind, p.1, is), λ kind fault. ap kind_number (p.2 kind fault) ∙ sym is)
+  status_exact (error.Asn1 a) (suc n) is p = (
+    omega (arith, is, (tells_below a.kind p.0).1),
+    (a.kind, p.1, is),
+    λ kind fault. ap kind_number (p.2 kind fault)
+        ∙ sym is,
+  )
   status_exact error.Crypto number is p = absurd p
   status_exact error.KeyMalformed number is p = absurd p
   status_exact error.Version number is p = absurd p
 
 -- What an error of writing says of a value that has an encoding.
-module _ {V : Type 0} (Some : Type 0) (Grammar : V → List ℕ → Type 0) (v : V) (room : ℕ) (has : HasEncoding Grammar v) where
-  pub kind_writing : (k : ErrorKind) → WhyNotWritten Some Grammar v room (encode_error k) → EncodingError Grammar v room (kind_number k)
-  kind_writing (kind.Value tag) p = absurd (p has.0 has.1)
-  kind_writing kind.Overflow p = inl (refl, p.1)
-  kind_writing kind.NoRoom p = inr (refl, p.0, p.1, p.2)
-  kind_writing kind.Failed p = absurd p
-  kind_writing kind.Incomplete p = absurd p
-  kind_writing kind.IndefiniteLength p = absurd p
-  kind_writing (kind.Length tag) p = absurd p
-  kind_writing (kind.Noncanonical tag) p = absurd p
-  kind_writing kind.OidMalformed p = absurd p
-  kind_writing kind.OidUnknown p = absurd p
-  kind_writing kind.Overlength p = absurd p
-  kind_writing kind.ParametersMissing p = absurd p
-  kind_writing (kind.TagUnexpected expected actual) p = absurd p
-  kind_writing (kind.TagUnknown octet) p = absurd p
-  kind_writing kind.TrailingData p = absurd p
-  kind_writing kind.File p = absurd p
-  kind_writing kind.OutOfMemory p = absurd p
+module _ {V : Type 0} (Some : Type 0) (Grammar : V → List ℕ → Type 0) (v : V) (room : ℕ) (has : HasEncoding Grammar v)
+  where
+    pub kind_writing : (k : ErrorKind) → WhyNotWritten Some Grammar v room (encode_error k)
+        → EncodingError Grammar v room (kind_number k)
+    kind_writing (kind.Value tag) p = absurd (p has.0 has.1)
+    kind_writing kind.Overflow p = inl (refl, p.1)
+    kind_writing kind.NoRoom p = inr (refl, p.0, p.1, p.2)
+    kind_writing kind.Failed p = absurd p
+    kind_writing kind.Incomplete p = absurd p
+    kind_writing kind.IndefiniteLength p = absurd p
+    kind_writing (kind.Length tag) p = absurd p
+    kind_writing (kind.Noncanonical tag) p = absurd p
+    kind_writing kind.OidMalformed p = absurd p
+    kind_writing kind.OidUnknown p = absurd p
+    kind_writing kind.Overlength p = absurd p
+    kind_writing kind.ParametersMissing p = absurd p
+    kind_writing (kind.TagUnexpected expected actual) p = absurd p
+    kind_writing (kind.TagUnknown octet) p = absurd p
+    kind_writing kind.TrailingData p = absurd p
+    kind_writing kind.File p = absurd p
+    kind_writing kind.OutOfMemory p = absurd p
 
-pub status_writing : {V : Type 0} (Grammar : V → List ℕ → Type 0) (v : V) (room : ℕ) → HasEncoding Grammar v → (e : Error) → IsWritingError Grammar v room e → EncodingError Grammar v room (status_of e)
+pub status_writing : {V : Type 0} (Grammar : V → List ℕ → Type 0) (v : V) (room : ℕ) → HasEncoding Grammar v
+    → (e : Error) → IsWritingError Grammar v room e → EncodingError Grammar v room (status_of e)
 status_writing Grammar v room has (error.Asn1 e) p = kind_writing (HasEncoding Grammar v) Grammar v room has e.kind p
 status_writing Grammar v room has error.Crypto p = absurd p
 status_writing Grammar v room has error.KeyMalformed p = absurd p

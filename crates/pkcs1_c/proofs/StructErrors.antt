@@ -1,5 +1,6 @@
 -- Why what a program gives isn't written: one status at most, neither 0 nor that of lack of room for a part.
-use Rattle.std.proofs.Common.{ℕ, zero, suc, List, [], ◌∷◌, ◌++◌, ◌≡◌, ◌≢◌, ◌<◌, ◌≤◌, length, map, take, get_or, refl, sym, ap, subst, ◌∙◌, arith, Option, Some, None, inl, inr, ⊎_elim, true, false}
+use Rattle.std.proofs.Common.{ℕ, zero, suc, List, [], ◌∷◌, ◌++◌, ◌≡◌, ◌≢◌, ◌<◌, ◌≤◌, length, map, take, get_or, refl}
+use Rattle.std.proofs.Common.{sym, ap, subst, ◌∙◌, arith, Option, Some, None, inl, inr, ⊎_elim, true, false}
 use Rattle.der_core.specs.Document.{IsShortest}
 use Rattle.der_core.specs.IntegerReading.{WhyNoNumber}
 use Rattle.der_core.specs.declared.error.ErrorKind.{ErrorKind}
@@ -13,7 +14,9 @@ use Rattle.spki_core.specs.ObjectIdentifier.{IsIdentifier}
 use Rattle.pkcs1_params.specs.Parameters.{PssParameters, OaepParameters}
 use Rattle.pkcs1_c.specs.Numbers.{IsNumberOf}
 use Rattle.pkcs1_c.specs.Status.{kind_number}
-use Rattle.pkcs1_c.specs.StructErrors.{EncodingError, GivenError, PartThen, NumberError, NumbersError, others_numbers, OidError, AnyError, OptionError, AlgorithmError, PlainError, MaskError, HashFieldsThen, PssFieldError, OaepFieldError}
+use Rattle.pkcs1_c.specs.StructErrors.{EncodingError, GivenError, PartThen, NumberError, NumbersError, others_numbers}
+use Rattle.pkcs1_c.specs.StructErrors.{OidError, AnyError, OptionError, AlgorithmError, PlainError, MaskError}
+use Rattle.pkcs1_c.specs.StructErrors.{HashFieldsThen, PssFieldError, OaepFieldError}
 use Rattle.pkcs1_c.specs.Writes.{NoStatus}
 
 -- There is one status at most.
@@ -37,7 +40,8 @@ module _ {V : Type 0} (Grammar : V → List ℕ → Type 0) (v : V) (room : ℕ)
   encoding_one s t (inr p) (inr q) = p.0 ∙ sym q.0
 
   -- An encoding that fits is written.
-  pub fits_written : (encoding : List ℕ) → IsShortest Grammar v encoding → length encoding ≤ room → NoStatus (EncodingError Grammar v room)
+  pub fits_written : (encoding : List ℕ) → IsShortest Grammar v encoding → length encoding ≤ room
+      → NoStatus (EncodingError Grammar v room)
   fits_written encoding shortest fits s (inl p) = p.1 encoding shortest.spells
   fits_written encoding shortest fits s (inr p) = elim (p.2.least encoding shortest.spells) [
     | inl same ↦ omega (arith, p.3, fits, ap length same)
@@ -45,8 +49,10 @@ module _ {V : Type 0} (Grammar : V → List ℕ → Type 0) (v : V) (room : ℕ)
   ]
 
 -- Of the one value that is given.
-module _ {V : Type 0} (IsTheGiven : V → Type 0) (Grammar : V → List ℕ → Type 0) (same : (v w : V) → IsTheGiven v → IsTheGiven w → v ≡ w) (room : ℕ) where
-  pub given_error : (v : V) → IsTheGiven v → (s : ℕ) → GivenError IsTheGiven Grammar room s → EncodingError Grammar v room s
+module _ {V : Type 0} (IsTheGiven : V → Type 0) (Grammar : V → List ℕ → Type 0)
+    (same : (v w : V) → IsTheGiven v → IsTheGiven w → v ≡ w) (room : ℕ) where
+  pub given_error : (v : V) → IsTheGiven v → (s : ℕ) → GivenError IsTheGiven Grammar room s
+      → EncodingError Grammar v room s
   given_error v given s (w, is, p) = subst (λ w. EncodingError Grammar w room s) (same w v is given) p
 
   pub given_one : IsOne (GivenError IsTheGiven Grammar room)
@@ -98,7 +104,8 @@ number_part bytes = (one, told)
     told s (inl p) = (omega (arith, p.0), λ e. omega (arith, e, p.0))
     told s (inr p) = (omega (arith, p.0), λ e. omega (arith, e, p.0))
 
-pub number_none : (bytes : List ℕ) (number : UintRef) → IsNumberOf bytes (bytes_of number) → NoStatus (NumberError bytes)
+pub number_none : (bytes : List ℕ) (number : UintRef) → IsNumberOf bytes (bytes_of number)
+    → NoStatus (NumberError bytes)
 number_none bytes number is s (inl p) = omega (arith, p.1, is.0)
 number_none bytes number is s (inr p) = omega (arith, p.2 (bytes_of number) is, number.bounded)
 
@@ -115,33 +122,38 @@ AreHeld (n ∷ ns) (u ∷ us) = IsNumberOf n (bytes_of u) × AreHeld ns us
 pub held_none : (ns : List (List ℕ)) (us : List UintRef) → AreHeld ns us → NoStatus (NumbersError ns)
 held_none [] us are s p = p
 held_none (n ∷ ns) [] are s p = are
-held_none (n ∷ ns) (u ∷ us) are s p = part_none (NumberError n) (NumbersError ns) (number_none n u are.0) (held_none ns us are.1) s p
+held_none (n ∷ ns) (u ∷ us) are s p =
+    part_none (NumberError n) (NumbersError ns) (number_none n u are.0) (held_none ns us are.1) s p
 
 numbers_before : (ns ms : List (List ℕ)) (s : ℕ) → NumbersError ns s → NumbersError (ns ++ ms) s
 numbers_before [] ms s p = absurd p
 numbers_before (n ∷ ns) ms s (inl p) = inl p
 numbers_before (n ∷ ns) ms s (inr p) = inr (p.0, numbers_before ns ms s p.1)
 
-pub numbers_behind : (ns ms : List (List ℕ)) → NoStatus (NumbersError ns) → (s : ℕ) → NumbersError ms s → NumbersError (ns ++ ms) s
+pub numbers_behind : (ns ms : List (List ℕ)) → NoStatus (NumbersError ns) → (s : ℕ) → NumbersError ms s
+    → NumbersError (ns ++ ms) s
 numbers_behind [] ms none s p = p
 numbers_behind (n ∷ ns) ms none s p =
     let first = part_first (NumberError n) (NumbersError ns) none in
     inr (first, numbers_behind ns ms (λ t q. none t (inr (first, q))) s p)
 
-pub none_both : (ns ms : List (List ℕ)) → NoStatus (NumbersError ns) → NoStatus (NumbersError ms) → NoStatus (NumbersError (ns ++ ms))
+pub none_both : (ns ms : List (List ℕ)) → NoStatus (NumbersError ns) → NoStatus (NumbersError ms)
+    → NoStatus (NumbersError (ns ++ ms))
 none_both [] ms none more = more
 none_both (n ∷ ns) ms none more =
     let first = part_first (NumberError n) (NumbersError ns) none in
     part_none (NumberError n) (NumbersError (ns ++ ms)) first (none_both ns ms (λ t q. none t (inr (first, q))) more)
 
 -- One of the primes is rejected, and those before it can be held.
-pub others_at : {X : Type 0} (f : X → OtherPrime (List ℕ)) (gs : List X) (i : ℕ) (d : X) (s : ℕ) → i < length gs → NoStatus (NumbersError (others_numbers (take i (map f gs))))
+pub others_at : {X : Type 0} (f : X → OtherPrime (List ℕ)) (gs : List X) (i : ℕ) (d : X) (s : ℕ) → i < length gs
+    → NoStatus (NumbersError (others_numbers (take i (map f gs))))
     → NumbersError (other_numbers (f (get_or gs i d))) s → NumbersError (others_numbers (map f gs)) s
 others_at f [] i d s l none p = absurd (omega (arith, l))
 others_at f (g ∷ gs) zero d s l none p = numbers_before (other_numbers (f g)) (others_numbers (map f gs)) s p
 others_at f (g ∷ gs) (suc i) d s l none p =
     let before = others_numbers (take i (map f gs)) in
-    let first : NoStatus (NumbersError (other_numbers (f g))) = λ t q. none t (numbers_before (other_numbers (f g)) before t q) in
+    let first : NoStatus (NumbersError (other_numbers (f g))) =
+    λ t q. none t (numbers_before (other_numbers (f g)) before t q) in
     numbers_behind (other_numbers (f g)) (others_numbers (map f gs)) first s
     (others_at f gs i d s (omega (arith, l)) (λ t q. none t (numbers_behind (other_numbers (f g)) before first t q)) p)
 
@@ -165,14 +177,19 @@ module _ {P : Type 0} (WhyNot : P → ℕ → Type 0) (part : (v : P) → IsPart
   option_part (Some v) = part v
 
   algorithm_part : (a : Algorithm P) → IsPart (AlgorithmError WhyNot a)
-  algorithm_part a = part_then (OidError a.oid) (OptionError WhyNot a.parameters) (unless_part 6 (IsIdentifier a.oid) (omega arith) (λ e. omega (arith, e))) (option_part a.parameters)
+  algorithm_part a =
+      part_then (OidError a.oid) (OptionError WhyNot a.parameters)
+      (unless_part 6 (IsIdentifier a.oid) (omega arith) (λ e. omega (arith, e))) (option_part a.parameters)
 
 plain_part : (a : Algorithm TagAndContents) → IsPart (PlainError a)
 plain_part = algorithm_part AnyError any_part
 
 -- Parameters.
-hash_part : (hash : Algorithm TagAndContents) (mask : Algorithm (Algorithm TagAndContents)) (Rest : ℕ → Type 0) → IsPart Rest → IsPart (HashFieldsThen hash mask Rest)
-hash_part hash mask Rest rest = part_then (PlainError hash) (PartThen (MaskError mask) Rest) (plain_part hash) (part_then (MaskError mask) Rest (algorithm_part PlainError plain_part mask) rest)
+hash_part : (hash : Algorithm TagAndContents) (mask : Algorithm (Algorithm TagAndContents)) (Rest : ℕ → Type 0)
+    → IsPart Rest → IsPart (HashFieldsThen hash mask Rest)
+hash_part hash mask Rest rest =
+    part_then (PlainError hash) (PartThen (MaskError mask) Rest) (plain_part hash)
+    (part_then (MaskError mask) Rest (algorithm_part PlainError plain_part mask) rest)
 
 pub pss_part : (p : PssParameters) → IsPart (PssFieldError p)
 pss_part p = hash_part p.hash p.mask_gen _ (unless_part 14 (p.trailer_field ≡ 1) (omega arith) (λ e. omega (arith, e)))

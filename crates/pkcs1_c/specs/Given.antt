@@ -8,4 +8,6 @@ use Rattle.pkcs1_c.specs.StructValues.{private_key_seen, other_prime_seen}
 
 -- The key has the numbers of the struct and of the other primes, of which there are as many as the struct says.
 abbrev pub IsGiven : PrivateKey → List OtherPrime → keys.PrivateKey (List ℕ) → Type 0
-IsGiven key others made = (key.other_primes ≡ length others) × ArePrivateNumbers made (private_key_seen key None) (map other_prime_seen others)
+IsGiven key others made =
+    (key.other_primes ≡ length others)
+    × ArePrivateNumbers made (private_key_seen key None) (map other_prime_seen others)

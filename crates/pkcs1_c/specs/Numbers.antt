@@ -7,13 +7,16 @@ use Rattle.pkcs1.specs.Keys.{PublicKey, PrivateKey, OtherPrime}
 -- The canonical bytes of a number that is passed as one byte or more, most significant first, with leading zeros or
 -- not.
 abbrev pub IsNumberOf : List ℕ → List ℕ → Type 0
-IsNumberOf bytes number = (0 < length bytes) × IsCanonical number × (number_from_digits 256 number ≡ number_from_digits 256 bytes)
+IsNumberOf bytes number =
+    (0 < length bytes) × IsCanonical number × (number_from_digits 256 number ≡ number_from_digits 256 bytes)
 
 abbrev pub ArePublicNumbers : PublicKey (List ℕ) → PublicKey (List ℕ) → Type 0
 ArePublicNumbers key given = IsNumberOf given.modulus key.modulus × IsNumberOf given.public_exponent key.public_exponent
 
 abbrev pub IsOtherOf : OtherPrime (List ℕ) → OtherPrime (List ℕ) → Type 0
-IsOtherOf given other = IsNumberOf given.prime other.prime × IsNumberOf given.exponent other.exponent × IsNumberOf given.coefficient other.coefficient
+IsOtherOf given other =
+    IsNumberOf given.prime other.prime × IsNumberOf given.exponent other.exponent
+    × IsNumberOf given.coefficient other.coefficient
 
 abbrev pub AreOthersOf : List (OtherPrime (List ℕ)) → List (OtherPrime (List ℕ)) → Type 0
 AreOthersOf [] [] = ⊤

@@ -38,7 +38,8 @@ IsNumberOfFault Fault number = (kind : ErrorKind) × Fault kind × (number ≡ k
 abbrev pub IsStatusOf : {Read : Type 0} → (ErrorKind → Read → Type 0) → Read → ℕ → Type 0
 IsStatusOf Fault read zero = (kind : ErrorKind) → Fault kind read → ⊥
 IsStatusOf Fault read (suc n) =
-    (suc n < 15) × IsNumberOfFault (λ kind. Fault kind read) (suc n) × ((kind : ErrorKind) → Fault kind read → kind_number kind ≡ suc n)
+    (suc n < 15) × IsNumberOfFault (λ kind. Fault kind read) (suc n)
+    × ((kind : ErrorKind) → Fault kind read → kind_number kind ≡ suc n)
 
 -- The strings, by number.
 abbrev pub status_texts : List (List ℕ)

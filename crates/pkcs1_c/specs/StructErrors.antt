@@ -1,6 +1,7 @@
 -- Why a C struct isn't written, by status: the first of its parts that can't be held, in the order of the struct; else
 -- why the value that it means isn't written.
-use Rattle.std.specs.Prelude.{ℕ, List, [], ◌∷◌, ◌++◌, ◌≡◌, ◌≢◌, ◌<◌, ◌⊎◌, IsTrue, length, map, false, Option, Some, None}
+use Rattle.std.specs.Prelude.{ℕ, List, [], ◌∷◌, ◌++◌, ◌≡◌, ◌≢◌, ◌<◌, ◌⊎◌, IsTrue, length, map, false, Option, Some}
+use Rattle.std.specs.Prelude.{None}
 use Rattle.der_core.specs.Document.{IsShortest}
 use Rattle.der_core.specs.Length.{limit}
 use Rattle.der_core.specs.Tag.{is_allowed}
@@ -14,7 +15,8 @@ use Rattle.spki_core.specs.ObjectIdentifier.{IsIdentifier}
 use Rattle.pkcs1_c.specs.declared.container.PrivateKeyInfo.{PrivateKeyInfo}
 use Rattle.pkcs1_c.specs.declared.private_key.PrivateKey.{PrivateKey}
 use Rattle.pkcs1_c.specs.declared.private_key.OtherPrime.{OtherPrime}
-use Rattle.pkcs1_c.specs.declared.status.TheConstants.{LENGTH, OID_MALFORMED, OVERFLOW, TAG_UNKNOWN, VALUE, NO_ROOM, OTHER_PRIMES}
+use Rattle.pkcs1_c.specs.declared.status.TheConstants.{LENGTH, OID_MALFORMED, OVERFLOW, TAG_UNKNOWN, VALUE, NO_ROOM}
+use Rattle.pkcs1_c.specs.declared.status.TheConstants.{OTHER_PRIMES}
 use Rattle.pkcs1_c.specs.Containers.{info_seen, HoldsSomeKey, KeyFault}
 use Rattle.pkcs1_c.specs.Given.{IsGiven}
 use Rattle.pkcs1_c.specs.Numbers.{IsNumberOf, ArePublicNumbers}
@@ -24,7 +26,9 @@ use Rattle.pkcs1_c.specs.Writes.{IsTooLong, NoStatus, Writes}
 
 -- All parts can be held: the value has no encoding within the limit, or its shortest one is longer than the room.
 abbrev pub EncodingError : {V : Type 0} → (V → List ℕ → Type 0) → V → ℕ → ℕ → Type 0
-EncodingError Grammar v room status = ((status ≡ OVERFLOW) × IsTooLong Grammar v) ⊎ ((status ≡ NO_ROOM) × (encoding : List ℕ) × IsShortest Grammar v encoding × (room < length encoding))
+EncodingError Grammar v room status =
+    ((status ≡ OVERFLOW) × IsTooLong Grammar v)
+    ⊎ ((status ≡ NO_ROOM) × (encoding : List ℕ) × IsShortest Grammar v encoding × (room < length encoding))
 
 -- The same for the one value that is given.
 abbrev pub GivenError : {V : Type 0} → (V → Type 0) → (V → List ℕ → Type 0) → ℕ → ℕ → Type 0
@@ -37,7 +41,8 @@ PartThen WhyNot Rest status = WhyNot status ⊎ (NoStatus WhyNot × Rest status)
 -- Bytes that aren't accepted as a number: there are none, or the number is longer than the limit.
 abbrev pub NumberError : List ℕ → ℕ → Type 0
 NumberError bytes status =
-    ((status ≡ LENGTH) × (length bytes ≡ 0)) ⊎ ((status ≡ OVERFLOW) × (0 < length bytes) × ((n : List ℕ) → IsNumberOf bytes n → limit < length n))
+    ((status ≡ LENGTH) × (length bytes ≡ 0))
+    ⊎ ((status ≡ OVERFLOW) × (0 < length bytes) × ((n : List ℕ) → IsNumberOf bytes n → limit < length n))
 
 -- One of the numbers, in order, can't be held.
 abbrev pub NumbersError : List (List ℕ) → ℕ → Type 0
@@ -49,7 +54,8 @@ two_numbers key = key.modulus ∷ key.public_exponent ∷ []
 
 abbrev pub PublicKeyError : keys.PublicKey (List ℕ) → ℕ → ℕ → Type 0
 PublicKeyError given room =
-    PartThen (NumbersError (two_numbers given)) (GivenError (λ made. ArePublicNumbers made given) keys.RsaPublicKey room)
+    PartThen (NumbersError (two_numbers given))
+    (GivenError (λ made. ArePublicNumbers made given) keys.RsaPublicKey room)
 
 -- The eight numbers of a key, and those of its other primes.
 abbrev pub eight_numbers : PrivateKey → List (List ℕ)
@@ -71,12 +77,14 @@ PrivateKeyError key others room =
 
 -- Memory may be needed for other primes, once there are as many as the key says and the eight numbers can be held.
 abbrev pub MayRunOutOfMemory : PrivateKey → List OtherPrime → Type 0
-MayRunOutOfMemory key others = (key.other_primes ≡ length others) × (0 < length others) × NoStatus (NumbersError (eight_numbers key))
+MayRunOutOfMemory key others =
+    (key.other_primes ≡ length others) × (0 < length others) × NoStatus (NumbersError (eight_numbers key))
 
 -- The octets don't encode a private key (the status is that of their first fault); or the container isn't written.
 abbrev pub InfoError : PrivateKeyInfo → ℕ → ℕ → Type 0
 InfoError info room status =
-    IsNumberOfFault (KeyFault info) status ⊎ (HoldsSomeKey info × EncodingError container.PrivateKeyInfo (info_seen info) room status)
+    IsNumberOfFault (KeyFault info) status
+    ⊎ (HoldsSomeKey info × EncodingError container.PrivateKeyInfo (info_seen info) room status)
 
 -- Octets that are no object identifier.
 abbrev pub OidError : List ℕ → ℕ → Type 0
@@ -85,7 +93,8 @@ OidError oid status = (status ≡ OID_MALFORMED) × (IsIdentifier oid → ⊥)
 -- Parameters that can't be held: the tag octet isn't allowed, or the contents are longer than the limit.
 abbrev pub AnyError : TagAndContents → ℕ → Type 0
 AnyError v status =
-    ((status ≡ TAG_UNKNOWN) × (is_allowed v.tag ≡ false)) ⊎ ((status ≡ OVERFLOW) × IsTrue (is_allowed v.tag) × (limit < length v.contents))
+    ((status ≡ TAG_UNKNOWN) × (is_allowed v.tag ≡ false))
+    ⊎ ((status ≡ OVERFLOW) × IsTrue (is_allowed v.tag) × (limit < length v.contents))
 
 abbrev pub OptionError : {P : Type 0} → (P → ℕ → Type 0) → Option P → ℕ → Type 0
 OptionError WhyNot None status = ⊥
@@ -112,5 +121,7 @@ OaepFieldError p = HashFieldsThen p.hash p.mask_gen (PlainError p.p_source)
 
 -- The shortest encoding is written of parameters whose fields can be held: their own, or that of the algorithm
 -- identifier that they stand in.
-abbrev pub WritesFields : {V : Type 0} → (V → ℕ → Type 0) → (V → List ℕ → Type 0) → V → List ℕ → List ℕ → ℕ → ℕ → ℕ → Type 0
-WritesFields FieldError Grammar v = Writes (IsShortest Grammar v) (λ room. PartThen (FieldError v) (EncodingError Grammar v room))
+abbrev pub WritesFields : {V : Type 0} → (V → ℕ → Type 0) → (V → List ℕ → Type 0) → V → List ℕ → List ℕ → ℕ → ℕ → ℕ
+    → Type 0
+WritesFields FieldError Grammar v =
+    Writes (IsShortest Grammar v) (λ room. PartThen (FieldError v) (EncodingError Grammar v room))

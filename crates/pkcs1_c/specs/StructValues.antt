@@ -17,7 +17,8 @@ abbrev pub public_key_seen : PublicKey → keys.PublicKey (List ℕ)
 public_key_seen key = record { modulus = key.modulus.now; public_exponent = key.public_exponent.now }
 
 abbrev pub other_prime_seen : OtherPrime → keys.OtherPrime (List ℕ)
-other_prime_seen other = record { prime = other.prime.now; exponent = other.exponent.now; coefficient = other.coefficient.now }
+other_prime_seen other =
+    record { prime = other.prime.now; exponent = other.exponent.now; coefficient = other.coefficient.now }
 
 -- The array holds the first of the other primes, as many as fit.
 abbrev pub ArePlaced : List (keys.OtherPrime (List ℕ)) → List OtherPrime → Type 0
@@ -41,7 +42,12 @@ private_key_seen key others = record {
 }
 
 abbrev pub algorithm_seen : Algorithm → spki.Algorithm TagAndContents
-algorithm_seen a = record { oid = a.oid.now; parameters = if a.has_parameters then Some (record { tag = a.tag; contents = a.parameters.now }) else None }
+algorithm_seen a =
+    record {
+      oid = a.oid.now;
+      parameters = if a.has_parameters then Some
+          (record { tag = a.tag; contents = a.parameters.now }) else None;
+    }
 
 abbrev pub mask_gen_seen : MaskGen → spki.Algorithm (spki.Algorithm TagAndContents)
 mask_gen_seen m = record { oid = m.oid.now; parameters = if m.has_hash then Some (algorithm_seen m.hash) else None }
@@ -51,7 +57,8 @@ abbrev pub AlgorithmIsTidy : Algorithm → Type 0
 AlgorithmIsTidy a = a.has_parameters ≡ false → (a.tag ≡ 0) × (a.parameters.now ≡ [])
 
 abbrev pub MaskGenIsTidy : MaskGen → Type 0
-MaskGenIsTidy m = (m.has_hash ≡ false → (m.hash.oid.now ≡ []) × (m.hash.has_parameters ≡ false)) × AlgorithmIsTidy m.hash
+MaskGenIsTidy m =
+    (m.has_hash ≡ false → (m.hash.oid.now ≡ []) × (m.hash.has_parameters ≡ false)) × AlgorithmIsTidy m.hash
 
 abbrev pub PssIsTidy : PssParams → Type 0
 PssIsTidy p = AlgorithmIsTidy p.hash × MaskGenIsTidy p.mask_gen
@@ -60,7 +67,14 @@ abbrev pub OaepIsTidy : OaepParams → Type 0
 OaepIsTidy p = AlgorithmIsTidy p.hash × MaskGenIsTidy p.mask_gen × AlgorithmIsTidy p.p_source
 
 abbrev pub pss_seen : PssParams → PssParameters
-pss_seen p = record { hash = algorithm_seen p.hash; mask_gen = mask_gen_seen p.mask_gen; salt_len = p.salt_len; trailer_field = p.trailer_field }
+pss_seen p =
+    record {
+      hash = algorithm_seen p.hash;
+      mask_gen = mask_gen_seen p.mask_gen;
+      salt_len = p.salt_len;
+      trailer_field = p.trailer_field;
+    }
 
 abbrev pub oaep_seen : OaepParams → OaepParameters
-oaep_seen p = record { hash = algorithm_seen p.hash; mask_gen = mask_gen_seen p.mask_gen; p_source = algorithm_seen p.p_source }
+oaep_seen p =
+    record { hash = algorithm_seen p.hash; mask_gen = mask_gen_seen p.mask_gen; p_source = algorithm_seen p.p_source }

@@ -24,8 +24,10 @@ IsErrorOf WhyNot (suc n) = WhyNot (suc n) × ((other : ℕ) → WhyNot other →
 -- A slice became a new one, and a length too. The encoding stands at the front, and the rest of the slice is as it was;
 -- or the status says why not, by how much room there was, and nothing changed, but that without room the length is that
 -- of the encoding.
-pub record Writes (IsEncoding : List ℕ → Type 0) (WhyNot : ℕ → ℕ → Type 0) (old new : List ℕ) (old_len new_len status : ℕ) : Type 0 where
+pub record Writes (IsEncoding : List ℕ → Type 0) (WhyNot : ℕ → ℕ → Type 0) (old new : List ℕ)
+    (old_len new_len status : ℕ) : Type 0 where
   pub ok : status ≡ OK → IsEncoding (take new_len new) × (new_len ≤ length new) × (drop new_len new ≡ drop new_len old)
-  pub no_room : status ≡ NO_ROOM → (encoding : List ℕ) × IsEncoding encoding × (new_len ≡ length encoding) × (length old < new_len)
+  pub no_room : status ≡ NO_ROOM → (encoding : List ℕ) × IsEncoding encoding × (new_len ≡ length encoding)
+      × (length old < new_len)
   pub exact : IsErrorOf (WhyNot (length old)) status
   pub unchanged : status ≢ OK → (new ≡ old) × (status ≢ NO_ROOM → new_len ≡ old_len)

@@ -124,8 +124,8 @@ pub(crate) fn from_c_mask_gen<'a>(
     Ok(AlgorithmView { oid, parameters })
 }
 
-/// Whether the algorithm is the hash function with this identifier: with NULL or without parameters, which mean the same
-/// (RFC 4055 2.1).
+/// Whether the algorithm is the hash function with this identifier: with NULL or without parameters, which mean the
+/// same (RFC 4055 2.1).
 #[unsafe(no_mangle)]
 pub extern "C" fn pkcs1_c_algorithm_is(algorithm: &Algorithm<'_>, oid: &[u8]) -> bool
     ensures { Decides result (IsHash oid.now (algorithm_seen algorithm.now)) }

@@ -16,12 +16,15 @@ use Rattle.pkcs1_lines.specs.declared.request.PairWord.TheVariants as pair
 use Rattle.pkcs1_lines.specs.Request.{Asked, bad_line, asks, asks_pair, asked_by}
 use Rattle.pkcs1.specs.KeyEncodings.{IsSentence}
 use Rattle.pkcs1_params.specs.Meanings.{IsNoSentence}
-use Rattle.pkcs1_lines.specs.Answer.{Answered, Tells, TellsParameters, SaysWhether, TellsStrict, TellsSame, TellsSpellings, RsaPrivateKeyInfo, TellsContainer, WordAnswer, PairAnswer, AnswerTo, Answer, Answers}
+use Rattle.pkcs1_lines.specs.Answer.{Answered, Tells, TellsParameters, SaysWhether, TellsStrict, TellsSame}
+use Rattle.pkcs1_lines.specs.Answer.{TellsSpellings, RsaPrivateKeyInfo, TellsContainer, WordAnswer, PairAnswer}
+use Rattle.pkcs1_lines.specs.Answer.{AnswerTo, Answer, Answers}
 use Rattle.pkcs1_lines.specs.Told.{pub_answer, priv_answer, p8_answer, pss_answer, oaep_answer, spell_answer}
 use Rattle.pkcs1_lines.proofs.Spelled.{same_encodings}
 
 -- what is told of the one value is one
-answered_one : {V : Type 0} (Grammar : V → List ℕ → Type 0) (Told : V → List ℕ → Type 0) → MeansOne Grammar → ((value : V) → AtMostOne (Told value)) → (encoding : List ℕ)
+answered_one : {V : Type 0} (Grammar : V → List ℕ → Type 0) (Told : V → List ℕ → Type 0) → MeansOne Grammar
+    → ((value : V) → AtMostOne (Told value)) → (encoding : List ℕ)
     → AtMostOne (Answered Grammar Told encoding)
 answered_one Grammar Told one told encoding a b (inl p) (inl q) = p.1 ∙ sym q.1
 answered_one Grammar Told one told encoding a b (inl p) (inr q) = absurd (p.0 q.0 q.1)
@@ -30,15 +33,19 @@ answered_one Grammar Told one told encoding a b (inr p) (inr q) =
     let value : p.0 ≡ q.0 = one p.0 q.0 encoding p.1.1 q.1.1 in
     told q.0 a b (subst (λ v. Told v a) value p.2) q.2
 
-tells_one : {V : Type 0} (Grammar : V → List ℕ → Type 0) (told : V → List ℕ → List ℕ) → MeansOne Grammar → (encoding : List ℕ) → AtMostOne (Tells Grammar told encoding)
+tells_one : {V : Type 0} (Grammar : V → List ℕ → Type 0) (told : V → List ℕ → List ℕ) → MeansOne Grammar
+    → (encoding : List ℕ) → AtMostOne (Tells Grammar told encoding)
 tells_one Grammar told one encoding =
-    answered_one Grammar _ one (λ value a b p q. p.2 ∙ ap (told value) (shortest_same value p.0 q.0 p.1 q.1) ∙ sym q.2) encoding
+    answered_one Grammar _ one (λ value a b p q. p.2 ∙ ap (told value) (shortest_same value p.0 q.0 p.1 q.1) ∙ sym q.2)
+    encoding
 
 -- a value has one number of defaults
-defaults_same : {V : Type 0} (fields : V → List Field) → DefaultsAreCounted fields → (value : V) (j k : ℕ) → HaveDefaults (fields value) j → HaveDefaults (fields value) k → j ≡ k
+defaults_same : {V : Type 0} (fields : V → List Field) → DefaultsAreCounted fields → (value : V) (j k : ℕ)
+    → HaveDefaults (fields value) j → HaveDefaults (fields value) k → j ≡ k
 defaults_same fields counted value j k p q = let count = counted value in count.2 j p ∙ sym (count.2 k q)
 
-tells_parameters_one : {V : Type 0} (Grammar : V → List ℕ → Type 0) (fields : V → List Field) (told : V → ℕ → List ℕ → List ℕ) → MeansOne Grammar → DefaultsAreCounted fields → (encoding : List ℕ)
+tells_parameters_one : {V : Type 0} (Grammar : V → List ℕ → Type 0) (fields : V → List Field)
+    (told : V → ℕ → List ℕ → List ℕ) → MeansOne Grammar → DefaultsAreCounted fields → (encoding : List ℕ)
     → AtMostOne (TellsParameters Grammar fields told encoding)
 tells_parameters_one Grammar fields told one counted encoding =
     answered_one Grammar _ one
@@ -54,30 +61,37 @@ says_one word fact a b (inl p) (inr q) = absurd (q.0 p.0)
 says_one word fact a b (inr p) (inl q) = absurd (p.0 q.0)
 says_one word fact a b (inr p) (inr q) = p.1 ∙ sym q.1
 
-tells_strict_one : {V : Type 0} (word : List ℕ) (Grammar : V → List ℕ → Type 0) → MeansOne Grammar → (encoding : List ℕ) → AtMostOne (TellsStrict word Grammar encoding)
-tells_strict_one word Grammar one encoding = answered_one Grammar _ one (λ value. says_one word (IsShortest Grammar value encoding)) encoding
+tells_strict_one : {V : Type 0} (word : List ℕ) (Grammar : V → List ℕ → Type 0) → MeansOne Grammar → (encoding : List ℕ)
+    → AtMostOne (TellsStrict word Grammar encoding)
+tells_strict_one word Grammar one encoding =
+    answered_one Grammar _ one (λ value. says_one word (IsShortest Grammar value encoding)) encoding
 
 -- no value has one of two encodings, and some value has each
-not_both : {V : Type 0} (Grammar : V → List ℕ → Type 0) (a b : List ℕ) → IsNoSentence Grammar a ⊎ IsNoSentence Grammar b → IsSentence Grammar a → IsSentence Grammar b → ⊥
+not_both : {V : Type 0} (Grammar : V → List ℕ → Type 0) (a b : List ℕ) → IsNoSentence Grammar a ⊎ IsNoSentence Grammar b
+    → IsSentence Grammar a → IsSentence Grammar b → ⊥
 not_both Grammar a b (inl none) some other = none some.0 some.1
 not_both Grammar a b (inr none) some other = none other.0 other.1
 
-tells_spellings_one : {V : Type 0} (word : List ℕ) (Grammar : V → List ℕ → Type 0) (fields : V → List Field) → MeansOne Grammar → DefaultsAreCounted fields → EachMaskHasOne fields → (encoding : List ℕ)
+tells_spellings_one : {V : Type 0} (word : List ℕ) (Grammar : V → List ℕ → Type 0) (fields : V → List Field)
+    → MeansOne Grammar → DefaultsAreCounted fields → EachMaskHasOne fields → (encoding : List ℕ)
     → AtMostOne (TellsSpellings word Grammar fields encoding)
 tells_spellings_one word Grammar fields one counted each encoding =
     answered_one (λ value t. Grammar value t × AllFit (fields value))
-    (λ value a. (k : ℕ) × HaveDefaults (fields value) k × (encodings : List (List ℕ)) × AreUnder (fields value) (2 ^ k) encodings × (a ≡ spell_answer word encodings))
+    (λ value a. (k : ℕ) × HaveDefaults (fields value) k × (encodings : List (List ℕ))
+    × AreUnder (fields value) (2 ^ k) encodings × (a ≡ spell_answer word encodings))
     (λ v w t p q. one v w t p.0 q.0)
     (λ value a b p q.
     let k : p.0 ≡ q.0 = defaults_same fields counted value p.0 q.0 p.1 q.1 in
     p.4 ∙ ap (spell_answer word) (same_encodings fields value _ _ p.2 q.2 each (ap (λ n. 2 ^ n) k) p.3 q.3) ∙ sym q.4)
     encoding
 
-tells_same_one : {V : Type 0} (word : List ℕ) (Grammar : V → List ℕ → Type 0) (first second : List ℕ) → AtMostOne (TellsSame word Grammar first second)
+tells_same_one : {V : Type 0} (word : List ℕ) (Grammar : V → List ℕ → Type 0) (first second : List ℕ)
+    → AtMostOne (TellsSame word Grammar first second)
 tells_same_one word Grammar first second a b (inl p) (inl q) = p.1 ∙ sym q.1
 tells_same_one word Grammar first second a b (inl p) (inr q) = absurd (not_both Grammar first second p.0 q.0 q.1)
 tells_same_one word Grammar first second a b (inr p) (inl q) = absurd (not_both Grammar first second q.0 p.0 p.1)
-tells_same_one word Grammar first second a b (inr p) (inr q) = says_one word (MeanTheSame Grammar first second) a b p.2 q.2
+tells_same_one word Grammar first second a b (inr p) (inr q) =
+    says_one word (MeanTheSame Grammar first second) a b p.2 q.2
 
 -- what the crates below promise of their grammars
 pub record Laws : Type 0 where
@@ -112,22 +126,33 @@ module _ (laws : Laws) where
 
   tells_container_one : (encoding : List ℕ) → AtMostOne (TellsContainer encoding)
   tells_container_one encoding =
-      answered_one RsaPrivateKeyInfo (λ held a. a ≡ p8_answer held.key held.info.attributes encoding) container_means_one (λ held a b p q. p ∙ sym q) encoding
+      answered_one RsaPrivateKeyInfo (λ held a. a ≡ p8_answer held.key held.info.attributes encoding)
+      container_means_one (λ held a b p q. p ∙ sym q) encoding
 
   word_answer_one : (asked : Word) (encoding : List ℕ) → AtMostOne (WordAnswer asked encoding)
   word_answer_one word.Pub encoding a b p q = tells_one RsaPublicKey pub_answer public_means_one encoding a b p q
   word_answer_one word.Priv encoding a b p q = tells_one RsaPrivateKey priv_answer private_means_one encoding a b p q
-  word_answer_one word.Pss encoding a b p q = tells_parameters_one RsaPssParams pss_fields pss_answer pss_means_one laws.pss_counted encoding a b p q
-  word_answer_one word.Oaep encoding a b p q = tells_parameters_one RsaOaepParams oaep_fields oaep_answer oaep_means_one laws.oaep_counted encoding a b p q
+  word_answer_one word.Pss encoding a b p q =
+      tells_parameters_one RsaPssParams pss_fields pss_answer pss_means_one laws.pss_counted encoding a b p q
+  word_answer_one word.Oaep encoding a b p q =
+      tells_parameters_one RsaOaepParams oaep_fields oaep_answer oaep_means_one laws.oaep_counted encoding a b p q
   word_answer_one word.P8 encoding a b p q = tells_container_one encoding a b p q
-  word_answer_one word.SpellPss encoding a b p q = tells_spellings_one (codes "spell-pss") RsaPssParams pss_fields pss_means_one laws.pss_counted laws.pss_masks encoding a b p q
-  word_answer_one word.SpellOaep encoding a b p q = tells_spellings_one (codes "spell-oaep") RsaOaepParams oaep_fields oaep_means_one laws.oaep_counted laws.oaep_masks encoding a b p q
-  word_answer_one word.StrictPss encoding a b p q = tells_strict_one (codes "strict-pss") RsaPssParams pss_means_one encoding a b p q
-  word_answer_one word.StrictOaep encoding a b p q = tells_strict_one (codes "strict-oaep") RsaOaepParams oaep_means_one encoding a b p q
+  word_answer_one word.SpellPss encoding a b p q =
+      tells_spellings_one (codes "spell-pss") RsaPssParams pss_fields pss_means_one laws.pss_counted laws.pss_masks
+      encoding a b p q
+  word_answer_one word.SpellOaep encoding a b p q =
+      tells_spellings_one (codes "spell-oaep") RsaOaepParams oaep_fields oaep_means_one laws.oaep_counted
+      laws.oaep_masks encoding a b p q
+  word_answer_one word.StrictPss encoding a b p q =
+      tells_strict_one (codes "strict-pss") RsaPssParams pss_means_one encoding a b p q
+  word_answer_one word.StrictOaep encoding a b p q =
+      tells_strict_one (codes "strict-oaep") RsaOaepParams oaep_means_one encoding a b p q
 
   pair_answer_one : (asked : PairWord) (first second : List ℕ) → AtMostOne (PairAnswer asked first second)
-  pair_answer_one pair.SamePss first second a b p q = tells_same_one (codes "same-pss") RsaPssParams first second a b p q
-  pair_answer_one pair.SameOaep first second a b p q = tells_same_one (codes "same-oaep") RsaOaepParams first second a b p q
+  pair_answer_one pair.SamePss first second a b p q =
+      tells_same_one (codes "same-pss") RsaPssParams first second a b p q
+  pair_answer_one pair.SameOaep first second a b p q =
+      tells_same_one (codes "same-oaep") RsaOaepParams first second a b p q
 
   answer_to_one : (asked : Asked) → AtMostOne (AnswerTo asked)
   answer_to_one bad_line a b p q = p ∙ sym q

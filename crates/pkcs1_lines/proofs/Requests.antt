@@ -1,5 +1,6 @@
 -- What a line asks for.
-use Rattle.std.proofs.Common.{◌≡◌, ℕ, ◌==◌, true, false, List, [], ◌∷◌, length, Some, None, refl, sym, ap, ◌∙◌, subst, arith}
+use Rattle.std.proofs.Common.{◌≡◌, ℕ, ◌==◌, true, false, List, [], ◌∷◌, length, Some, None, refl, sym, ap, ◌∙◌, subst}
+use Rattle.std.proofs.Common.{arith}
 use Rattle.std.specs.Prelude.{Option, Result, Ok, Err, codes}
 use Rattle.std.specs.List.{join_with_byte}
 use Rattle.std.specs.Str.{bytes_eq}
@@ -12,7 +13,8 @@ use Rattle.hex.proofs.HexLemmas.{decode_of-ok}
 use Rattle.pkcs1_lines.specs.Lines.{parts_of}
 use Rattle.pkcs1_lines.specs.declared.request.Word.{Word}
 use Rattle.pkcs1_lines.specs.declared.request.PairWord.{PairWord}
-use Rattle.pkcs1_lines.specs.Request.{bad_line, words, pair_words, named, decoded, encoding_of, asked_with, pair_asked_with, asked_by, asked_by_parts}
+use Rattle.pkcs1_lines.specs.Request.{bad_line, words, pair_words, named, decoded, encoding_of, asked_with}
+use Rattle.pkcs1_lines.specs.Request.{pair_asked_with, asked_by, asked_by_parts}
 use Rattle.pkcs1_lines.proofs.CutAtByte.{parts_of-some}
 
 -- a space is no digit
@@ -23,7 +25,8 @@ not_space b digit =
       | false ↦ λ e. refl
     ] refl
 
-decoded_ok : (r : Result (List ℕ) FromHexError) (encoding : List ℕ) → decoded r ≡ Some encoding → (bytes : List ℕ) × (r ≡ Ok bytes)
+decoded_ok : (r : Result (List ℕ) FromHexError) (encoding : List ℕ) → decoded r ≡ Some encoding
+    → (bytes : List ℕ) × (r ≡ Ok bytes)
 decoded_ok (Ok bytes) encoding e = (bytes, refl)
 decoded_ok (Err failure) encoding e = cc
 
@@ -35,7 +38,8 @@ hex_one_part hex encoding e =
     slice_split_none (λ byte. byte == 32) hex (λ k d below. not_space _ (digits k d below))
 
 -- what has a space stands for no encoding
-no_encoding_at : (encoding : Option (List ℕ)) (hex a b : List ℕ) (more : List (List ℕ)) → encoding_of hex ≡ encoding → parts_of hex ≡ a ∷ b ∷ more → encoding ≡ None
+no_encoding_at : (encoding : Option (List ℕ)) (hex a b : List ℕ) (more : List (List ℕ)) → encoding_of hex ≡ encoding
+    → parts_of hex ≡ a ∷ b ∷ more → encoding ≡ None
 no_encoding_at None hex a b more e cut = refl
 no_encoding_at (Some encoding) hex a b more e cut =
     let lengths : length (hex ∷ []) ≡ length (a ∷ b ∷ more) = ap length (sym (hex_one_part hex encoding e) ∙ cut) in
@@ -55,10 +59,12 @@ no_parts line cut =
     omega (arith, some, none)
 
 -- a word of one encoding isn't one of two
-another_name : (name word : List ℕ) (w : Word) → named words name ≡ None → named words word ≡ Some w → bytes_eq name word ≡ false
+another_name : (name word : List ℕ) (w : Word) → named words name ≡ None → named words word ≡ Some w
+    → bytes_eq name word ≡ false
 another_name name word w none some =
     elim (bytes_eq name word) as (λ t. bytes_eq name word ≡ t → t ≡ false) [
-      | true ↦ λ e. let no : None ≡ Some w = sym none ∙ subst (λ n. named words n ≡ Some w) (sym ((bytes_eq-Decides name word).0 e)) some in cc
+      | true ↦ λ e. let no : None ≡ Some w =
+          sym none ∙ subst (λ n. named words n ≡ Some w) (sym ((bytes_eq-Decides name word).0 e)) some in cc
       | false ↦ λ e. refl
     ] refl
 
@@ -67,14 +73,17 @@ no_pair_word word w is =
     rw (another_name (codes "same-pss") word w refl is, another_name (codes "same-oaep") word w refl is)
 
 -- What follows a word of one encoding is that encoding, or the line is bad.
-one_encoding : (word rest : List ℕ) (w : Word) (parts : List (List ℕ)) → parts_of rest ≡ parts → named words word ≡ Some w
+one_encoding : (word rest : List ℕ) (w : Word) (parts : List (List ℕ)) → parts_of rest ≡ parts
+    → named words word ≡ Some w
     → asked_by_parts (word ∷ parts) ≡ asked_with (Some w) (encoding_of rest)
 one_encoding word rest w [] cut is = absurd (no_parts rest cut)
 one_encoding word rest w (hex ∷ []) cut is =
     ap (λ n. asked_with n (encoding_of hex)) is ∙ ap (λ h. asked_with (Some w) (encoding_of h)) (one_part rest hex cut)
 one_encoding word rest w (hex ∷ second ∷ []) cut is =
-    ap (λ n. pair_asked_with n (encoding_of hex) (encoding_of second)) (no_pair_word word w is) ∙ sym (ap (λ t. asked_with (Some w) t) (no_encoding rest hex second [] cut))
-one_encoding word rest w (hex ∷ second ∷ more ∷ parts) cut is = sym (ap (λ t. asked_with (Some w) t) (no_encoding rest hex second (more ∷ parts) cut))
+    ap (λ n. pair_asked_with n (encoding_of hex) (encoding_of second)) (no_pair_word word w is)
+    ∙ sym (ap (λ t. asked_with (Some w) t) (no_encoding rest hex second [] cut))
+one_encoding word rest w (hex ∷ second ∷ more ∷ parts) cut is =
+    sym (ap (λ t. asked_with (Some w) t) (no_encoding rest hex second (more ∷ parts) cut))
 
 pub asks_one : (line word rest : List ℕ) (w : Word) → parts_of line ≡ word ∷ parts_of rest → named words word ≡ Some w
     → asked_by line ≡ asked_with (Some w) (encoding_of rest)
@@ -85,15 +94,20 @@ no_second : (w : PairWord) (first : Option (List ℕ)) → pair_asked_with (Some
 no_second w (Some first) = refl
 no_second w None = refl
 
-two_encodings : (word first rest : List ℕ) (w : PairWord) (parts : List (List ℕ)) → parts_of rest ≡ parts → named pair_words word ≡ Some w
+two_encodings : (word first rest : List ℕ) (w : PairWord) (parts : List (List ℕ)) → parts_of rest ≡ parts
+    → named pair_words word ≡ Some w
     → asked_by_parts (word ∷ first ∷ parts) ≡ pair_asked_with (Some w) (encoding_of first) (encoding_of rest)
 two_encodings word first rest w [] cut is = absurd (no_parts rest cut)
 two_encodings word first rest w (second ∷ []) cut is =
-    ap (λ n. pair_asked_with n (encoding_of first) (encoding_of second)) is ∙ ap (λ s. pair_asked_with (Some w) (encoding_of first) (encoding_of s)) (one_part rest second cut)
+    ap (λ n. pair_asked_with n (encoding_of first) (encoding_of second)) is
+    ∙ ap (λ s. pair_asked_with (Some w) (encoding_of first) (encoding_of s)) (one_part rest second cut)
 two_encodings word first rest w (second ∷ more ∷ parts) cut is =
-    sym (ap (λ t. pair_asked_with (Some w) (encoding_of first) t) (no_encoding rest second more parts cut) ∙ no_second w (encoding_of first))
+    sym (ap (λ t. pair_asked_with (Some w) (encoding_of first) t) (no_encoding rest second more parts cut)
+    ∙ no_second w (encoding_of first))
 
-pub asks_two : (line word rest first second : List ℕ) (w : PairWord) → parts_of line ≡ word ∷ parts_of rest → parts_of rest ≡ first ∷ parts_of second
+pub asks_two : (line word rest first second : List ℕ) (w : PairWord) → parts_of line ≡ word ∷ parts_of rest
+    → parts_of rest ≡ first ∷ parts_of second
     → named pair_words word ≡ Some w → asked_by line ≡ pair_asked_with (Some w) (encoding_of first) (encoding_of second)
 asks_two line word rest first second w cut cut2 is =
-    ap asked_by_parts (cut ∙ ap (λ parts. word ∷ parts) cut2) ∙ two_encodings word first second w (parts_of second) refl is
+    ap asked_by_parts (cut ∙ ap (λ parts. word ∷ parts) cut2)
+    ∙ two_encodings word first second w (parts_of second) refl is

@@ -14,22 +14,33 @@ says : (word : List ℕ) (holds : Bool) (fact : Type 0) → IsTrue holds ↔ fac
 says word true fact is = inl (is.0 refl, refl)
 says word false fact is = inr ((λ so. let no : false ≡ true = is.1 so in cc), refl)
 
-module _ {V T E : Type 0} (Grammar : V → List ℕ → Type 0) (splits : IsDelimited Grammar) (word old new : List ℕ) (holds : Bool) (r : Result T E) where
+module _ {V T E : Type 0} (Grammar : V → List ℕ → Type 0) (splits : IsDelimited Grammar) (word old new : List ℕ)
+    (holds : Bool) (r : Result T E) where
   -- whether an encoding with a value is the shortest one
-  pub strict_told : (v : V) (encoding : List ℕ) → Means Grammar encoding v → IsTrue holds ↔ ((w : V) × IsShortest Grammar w encoding) → OnOk r (new ≡ old ++ said word holds)
+  pub strict_told : (v : V) (encoding : List ℕ) → Means Grammar encoding v
+      → IsTrue holds ↔ ((w : V) × IsShortest Grammar w encoding) → OnOk r (new ≡ old ++ said word holds)
       → OnOk r ((answer : List ℕ) × TellsStrict word Grammar encoding answer × (new ≡ old ++ answer))
   strict_told v encoding means is put =
       let own : IsTrue holds ↔ IsShortest Grammar v encoding = (
-        λ so. let some = is.0 so in subst (λ w. IsShortest Grammar w encoding) (means_one splits some.0 v encoding some.1.spells.1 means.1) some.1,
+        λ so. let some =
+            is.0 so in subst (λ w. IsShortest Grammar w encoding)
+            (means_one splits some.0 v encoding some.1.spells.1 means.1) some.1,
         λ shortest. is.1 (v, shortest),
       )
       in
-      on_ok_weaker r (λ p. (said word holds, inr (v, means, says word holds (IsShortest Grammar v encoding) own), p)) put
+      on_ok_weaker r (λ p. (said word holds, inr (v, means, says word holds (IsShortest Grammar v encoding) own), p))
+      put
 
   -- whether two encodings with values mean the same, by the shortest encodings of these
-  pub same_told : (v w : V) (a b s t : List ℕ) → Means Grammar a v → Means Grammar b w → IsShortest Grammar v s → IsShortest Grammar w t → IsTrue holds ↔ (s ≡ t)
-      → OnOk r (new ≡ old ++ said word holds) → OnOk r ((answer : List ℕ) × TellsSame word Grammar a b answer × (new ≡ old ++ answer))
+  pub same_told : (v w : V) (a b s t : List ℕ) → Means Grammar a v → Means Grammar b w → IsShortest Grammar v s
+      → IsShortest Grammar w t → IsTrue holds ↔ (s ≡ t)
+      → OnOk r (new ≡ old ++ said word holds)
+      → OnOk r ((answer : List ℕ) × TellsSame word Grammar a b answer × (new ≡ old ++ answer))
   same_told v w a b s t p q x y is put =
       let law = same_by_shortest splits v w a b s t p q x y in
       let own : IsTrue holds ↔ MeanTheSame Grammar a b = (λ so. law.1 (is.0 so), λ same. is.1 (law.0 same)) in
-      on_ok_weaker r (λ put. (said word holds, inr ((v, p), (w, q), says word holds (MeanTheSame Grammar a b) own), put)) put
+      on_ok_weaker r (λ put. (
+        said word holds,
+        inr ((v, p), (w, q), says word holds (MeanTheSame Grammar a b) own),
+        put,
+      )) put

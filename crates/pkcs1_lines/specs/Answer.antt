@@ -19,16 +19,22 @@ use Rattle.pkcs1_lines.specs.Told.{pub_answer, priv_answer, p8_answer, pss_answe
 
 -- If no value has the encoding, the output is `refused`; else it is what `Told` says of the value.
 abbrev pub Answered : {V : Type 0} → (V → List ℕ → Type 0) → (V → List ℕ → Type 0) → List ℕ → List ℕ → Type 0
-Answered {V} Grammar Told encoding answer = (IsNoSentence Grammar encoding × (answer ≡ codes "refused")) ⊎ ((value : V) × Means Grammar encoding value × Told value answer)
+Answered {V} Grammar Told encoding answer =
+    (IsNoSentence Grammar encoding × (answer ≡ codes "refused"))
+    ⊎ ((value : V) × Means Grammar encoding value × Told value answer)
 
 -- the value and its shortest encoding
 abbrev pub Tells : {V : Type 0} → (V → List ℕ → Type 0) → (V → List ℕ → List ℕ) → List ℕ → List ℕ → Type 0
-Tells Grammar told encoding answer = Answered Grammar (λ value a. (again : List ℕ) × IsShortest Grammar value again × (a ≡ told value again)) encoding answer
+Tells Grammar told encoding answer =
+    Answered Grammar (λ value a. (again : List ℕ) × IsShortest Grammar value again × (a ≡ told value again)) encoding
+    answer
 
 -- the value, how many of its fields equal their defaults, and its shortest encoding
-abbrev pub TellsParameters : {V : Type 0} → (V → List ℕ → Type 0) → (V → List Field) → (V → ℕ → List ℕ → List ℕ) → List ℕ → List ℕ → Type 0
+abbrev pub TellsParameters : {V : Type 0} → (V → List ℕ → Type 0) → (V → List Field) → (V → ℕ → List ℕ → List ℕ)
+    → List ℕ → List ℕ → Type 0
 TellsParameters Grammar fields told encoding answer =
-    Answered Grammar (λ value a. (k : ℕ) × HaveDefaults (fields value) k × (again : List ℕ) × IsShortest Grammar value again × (a ≡ told value k again)) encoding answer
+    Answered Grammar (λ value a. (k : ℕ) × HaveDefaults (fields value) k × (again : List ℕ)
+    × IsShortest Grammar value again × (a ≡ told value k again)) encoding answer
 
 -- the word and ` yes` if the fact holds, else the word and ` no`
 abbrev pub SaysWhether : List ℕ → Type 0 → List ℕ → Type 0
@@ -36,19 +42,22 @@ SaysWhether word fact answer = (fact × (answer ≡ word ++ codes " yes")) ⊎ (
 
 -- whether the encoding is the shortest of its value
 abbrev pub TellsStrict : {V : Type 0} → List ℕ → (V → List ℕ → Type 0) → List ℕ → List ℕ → Type 0
-TellsStrict word Grammar encoding answer = Answered Grammar (λ value a. SaysWhether word (IsShortest Grammar value encoding) a) encoding answer
+TellsStrict word Grammar encoding answer =
+    Answered Grammar (λ value a. SaysWhether word (IsShortest Grammar value encoding) a) encoding answer
 
 -- If no value has the encoding, or its value has an encoding longer than the limit, the output is `refused`; else it
 -- lists the encodings of the value, ordered by mask.
 abbrev pub TellsSpellings : {V : Type 0} → List ℕ → (V → List ℕ → Type 0) → (V → List Field) → List ℕ → List ℕ → Type 0
 TellsSpellings word Grammar fields encoding answer =
     Answered (λ value t. Grammar value t × AllFit (fields value))
-    (λ value a. (k : ℕ) × HaveDefaults (fields value) k × (encodings : List (List ℕ)) × AreUnder (fields value) (2 ^ k) encodings × (a ≡ spell_answer word encodings)) encoding answer
+    (λ value a. (k : ℕ) × HaveDefaults (fields value) k × (encodings : List (List ℕ))
+    × AreUnder (fields value) (2 ^ k) encodings × (a ≡ spell_answer word encodings)) encoding answer
 
 -- If one of the two is no encoding of any value, the output is `refused`; else it says whether one value has both.
 abbrev pub TellsSame : {V : Type 0} → List ℕ → (V → List ℕ → Type 0) → List ℕ → List ℕ → List ℕ → Type 0
 TellsSame word Grammar a b answer =
-    ((IsNoSentence Grammar a ⊎ IsNoSentence Grammar b) × (answer ≡ codes "refused")) ⊎ (IsSentence Grammar a × IsSentence Grammar b × SaysWhether word (MeanTheSame Grammar a b) answer)
+    ((IsNoSentence Grammar a ⊎ IsNoSentence Grammar b) × (answer ≡ codes "refused"))
+    ⊎ (IsSentence Grammar a × IsSentence Grammar b × SaysWhether word (MeanTheSame Grammar a b) answer)
 
 -- a PKCS #8 container, with the RSA key that it holds
 pub record RsaContainer : Type 0 where
@@ -60,7 +69,8 @@ RsaPrivateKeyInfo held encoding = PrivateKeyInfo held.info encoding × HoldsRsa 
 
 -- the RSA key in the container, the container's attributes, and its encoding
 abbrev pub TellsContainer : List ℕ → List ℕ → Type 0
-TellsContainer encoding answer = Answered RsaPrivateKeyInfo (λ held a. a ≡ p8_answer held.key held.info.attributes encoding) encoding answer
+TellsContainer encoding answer =
+    Answered RsaPrivateKeyInfo (λ held a. a ≡ p8_answer held.key held.info.attributes encoding) encoding answer
 
 -- the output for a word with one encoding
 abbrev pub WordAnswer : Word → List ℕ → List ℕ → Type 0
@@ -70,7 +80,8 @@ WordAnswer word.Pss encoding answer = TellsParameters RsaPssParams pss_fields ps
 WordAnswer word.Oaep encoding answer = TellsParameters RsaOaepParams oaep_fields oaep_answer encoding answer
 WordAnswer word.P8 encoding answer = TellsContainer encoding answer
 WordAnswer word.SpellPss encoding answer = TellsSpellings (codes "spell-pss") RsaPssParams pss_fields encoding answer
-WordAnswer word.SpellOaep encoding answer = TellsSpellings (codes "spell-oaep") RsaOaepParams oaep_fields encoding answer
+WordAnswer word.SpellOaep encoding answer =
+    TellsSpellings (codes "spell-oaep") RsaOaepParams oaep_fields encoding answer
 WordAnswer word.StrictPss encoding answer = TellsStrict (codes "strict-pss") RsaPssParams encoding answer
 WordAnswer word.StrictOaep encoding answer = TellsStrict (codes "strict-oaep") RsaOaepParams encoding answer
 
@@ -91,7 +102,8 @@ Answer line answer = AnswerTo (asked_by line) answer
 -- the output for lines: that for each, followed by a line feed
 abbrev pub Answers : List (List ℕ) → List ℕ → Type 0
 Answers [] output = output ≡ []
-Answers (line ∷ lines) output = (answer : List ℕ) × (more : List ℕ) × Answer line answer × Answers lines more × (output ≡ answer ++ 10 ∷ more)
+Answers (line ∷ lines) output =
+    (answer : List ℕ) × (more : List ℕ) × Answer line answer × Answers lines more × (output ≡ answer ++ 10 ∷ more)
 
 -- the output for an input
 abbrev pub Output : List ℕ → List ℕ → Type 0

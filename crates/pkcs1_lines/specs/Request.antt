@@ -64,7 +64,8 @@ abbrev pub asked_by_parts : List (List ℕ) → Asked
 asked_by_parts [] = bad_line
 asked_by_parts (word ∷ []) = bad_line
 asked_by_parts (word ∷ hex ∷ []) = asked_with (named words word) (encoding_of hex)
-asked_by_parts (word ∷ hex ∷ second ∷ []) = pair_asked_with (named pair_words word) (encoding_of hex) (encoding_of second)
+asked_by_parts (word ∷ hex ∷ second ∷ []) =
+    pair_asked_with (named pair_words word) (encoding_of hex) (encoding_of second)
 asked_by_parts (word ∷ hex ∷ second ∷ more ∷ rest) = bad_line
 
 -- what the line asks for

@@ -18,7 +18,8 @@ fields told = flat_map (λ f. field f.0 f.1) told
 -- `pub n=N e=E again=HEX`
 abbrev pub pub_answer : PublicKey (List ℕ) → List ℕ → List ℕ
 pub_answer key again =
-    codes "pub" ++ (fields ((codes " n=", key.modulus) ∷ (codes " e=", key.public_exponent) ∷ []) ++ field (codes " again=") again)
+    codes "pub" ++ (fields ((codes " n=", key.modulus) ∷ (codes " e=", key.public_exponent) ∷ [])
+    ++ field (codes " again=") again)
 
 -- the version is 1 if there are other primes
 abbrev pub version_told : Option (List (OtherPrime (List ℕ))) → List ℕ
@@ -41,7 +42,8 @@ numbers_told key =
 
 -- ` other=R,D,T`
 abbrev pub other_told : OtherPrime (List ℕ) → List ℕ
-other_told other = fields ((codes " other=", other.prime) ∷ (codes ",", other.exponent) ∷ (codes ",", other.coefficient) ∷ [])
+other_told other =
+    fields ((codes " other=", other.prime) ∷ (codes ",", other.exponent) ∷ (codes ",", other.coefficient) ∷ [])
 
 -- each other prime, in order
 abbrev pub others_told : Option (List (OtherPrime (List ℕ))) → List ℕ
@@ -63,7 +65,8 @@ attributes_told (Some contents) = field (codes " attributes=") contents
 
 -- as `priv`, with the word `p8`, and with the attributes before ` again=HEX`
 abbrev pub p8_answer : PrivateKey (List ℕ) → Option (List ℕ) → List ℕ → List ℕ
-p8_answer key attributes again = codes "p8" ++ (key_told key ++ (attributes_told attributes ++ field (codes " again=") again))
+p8_answer key attributes again =
+    codes "p8" ++ (key_told key ++ (attributes_told attributes ++ field (codes " again=") again))
 
 -- a label, and a number in decimal digits
 abbrev pub number_field : List ℕ → ℕ → List ℕ
@@ -110,13 +113,16 @@ abbrev pub pss_answer : PssParameters → ℕ → List ℕ → List ℕ
 pss_answer p k again =
     codes "pss"
     ++ (hash_fields_told p.hash p.mask_gen
-    ++ (number_field (codes " salt=") p.salt_len ++ (number_field (codes " trailer=") p.trailer_field ++ spelling_told k again)))
+    ++ (number_field (codes " salt=") p.salt_len
+    ++ (number_field (codes " trailer=") p.trailer_field ++ spelling_told k again)))
 
 -- the word, the number of encodings, and each of them
 abbrev pub spell_answer : List ℕ → List (List ℕ) → List ℕ
-spell_answer word encodings = word ++ (number_field (codes " ") (length encodings) ++ flat_map (λ encoding. field (codes " ") encoding) encodings)
+spell_answer word encodings =
+    word ++ (number_field (codes " ") (length encodings) ++ flat_map (λ encoding. field (codes " ") encoding) encodings)
 
 -- `oaep hash=ALG mask=MASK source=ALG defaults=K again=HEX`
 abbrev pub oaep_answer : OaepParameters → ℕ → List ℕ → List ℕ
 oaep_answer p k again =
-    codes "oaep" ++ (hash_fields_told p.hash p.mask_gen ++ (codes " source=" ++ (plain_told p.p_source ++ spelling_told k again)))
+    codes "oaep" ++ (hash_fields_told p.hash p.mask_gen
+    ++ (codes " source=" ++ (plain_told p.p_source ++ spelling_told k again)))

@@ -1,11 +1,13 @@
 -- Algorithm identifiers with parameters of their own: reading and writing.
-use Rattle.std.proofs.Common.{ℕ, List, [], ◌++◌, ◌≡◌, ◌∙◌, ◌<◌, ◌≤◌, ◌+◌, ◌-◌, ◌^◌, length, take, drop, refl, sym, ap, inl, inr, Some, None, arith, length-append}
+use Rattle.std.proofs.Common.{ℕ, List, [], ◌++◌, ◌≡◌, ◌∙◌, ◌<◌, ◌≤◌, ◌+◌, ◌-◌, ◌^◌, length, take, drop, refl, sym, ap}
+use Rattle.std.proofs.Common.{inl, inr, Some, None, arith, length-append}
 use Rattle.std.proofs.Math.Seq.{drop-append_seam}
 use Rattle.std.proofs.lemmas.List.{take_all}
 use Rattle.std.specs.Prelude.{Result, Ok, Err, IfOk, IfErr, OnErr}
 use Rattle.der_core.specs.declared.error.Error as der
 use Rattle.der_core.specs.declared.error.ErrorKind.{ErrorKind}
-use Rattle.der_core.specs.Document.{Means, HasEncoding, IsShortest, WhyNotWritten, EncodeError, no_encoding, too_long, no_room, another}
+use Rattle.der_core.specs.Document.{Means, HasEncoding, IsShortest, WhyNotWritten, EncodeError, no_encoding, too_long}
+use Rattle.der_core.specs.Document.{no_room, another}
 use Rattle.der_core.specs.Encodings.{Is, IsOfBytes, MeansOne}
 use Rattle.der_core.specs.Faults.{EncodingFault, WholeFault, IsTheFault}
 use Rattle.der_core.specs.Laws.Encodings.{tlv_of_bytes, tlv_split, joins_last, tlv_made, tlv_relates, tlv_length}
@@ -20,7 +22,8 @@ use Rattle.der_core.specs.Tag.{sequence_tag}
 use Rattle.der_core.specs.Tags.{sequence}
 use Rattle.der_core.specs.Tlv.{Tlv, tlv}
 use Rattle.der_core.specs.Writing.{WritesEncodings}
-use Rattle.spki_core.specs.AlgorithmIdentifier.{Algorithm, AlgorithmContents, AlgorithmIdentifier, PlainAlgorithm, written_algorithm}
+use Rattle.spki_core.specs.AlgorithmIdentifier.{Algorithm, AlgorithmContents, AlgorithmIdentifier, PlainAlgorithm}
+use Rattle.spki_core.specs.AlgorithmIdentifier.{written_algorithm}
 use Rattle.spki_core.specs.Allocating.{AlgorithmAllocates}
 use Rattle.spki_core.specs.Any.{TagAndContents, Any}
 use Rattle.spki_core.specs.Explicit.{Field}
@@ -33,7 +36,8 @@ use Rattle.spki_core.specs.ObjectIdentifier.{IsIdentifier}
 use Rattle.spki_core.specs.StrictFields.{NamesDefault}
 use Rattle.pkcs1_params.specs.Algorithms.{AlgorithmOf, Identifies, NotIdentified, unknown, missing, faulty, StrictFault}
 use Rattle.pkcs1_params.specs.Errors.{IsAsn1}
-use Rattle.pkcs1_params.specs.Laws.Algorithms.{algorithm_of_plain, plain_of_algorithm, same_parameters, parameters_shorter, parameters_in, shortest_of}
+use Rattle.pkcs1_params.specs.Laws.Algorithms.{algorithm_of_plain, plain_of_algorithm, same_parameters}
+use Rattle.pkcs1_params.specs.Laws.Algorithms.{parameters_shorter, parameters_in, shortest_of}
 use Rattle.pkcs1_params.specs.Laws.Errors.{asn1_as}
 use Rattle.der_core.specs.Laws.Whole.{AreTold, tagged_told}
 use Rattle.pkcs1_params.specs.Laws.FaultsTold.{fault_before, errs_behind}
@@ -49,18 +53,24 @@ pub identifier_asks : (b : List ℕ) → AllocatesIn (AlgorithmAllocates (λ _. 
 identifier_asks b w = let h = w.3.holds in let l = h.1.3 in l.1.3
 
 -- What is never asked for memory tells that there is no value.
-pub told_none : {X : Type 0} {asked : Type 0} → (asked → ⊥) → (none : Type 0) (r : Result X der.Error) → IfErr r (λ e. Rejects e.kind asked none) → OnErr r none
+pub told_none : {X : Type 0} {asked : Type 0} → (asked → ⊥) → (none : Type 0) (r : Result X der.Error)
+    → IfErr r (λ e. Rejects e.kind asked none) → OnErr r none
 told_none nothing none (Ok x) h = tt
 told_none nothing none (Err e) (inl h) = absurd (nothing h.1)
 told_none nothing none (Err e) (inr h) = h.1
 
 -- The identifier agrees and has parameters, so the value and the fault are theirs.
-module _ {oid : List ℕ} {a : Algorithm TagAndContents} {any : TagAndContents} (agrees : a.oid ≡ oid) (there : a.parameters ≡ Some any) where
+module _ {oid : List ℕ} {a : Algorithm TagAndContents} {any : TagAndContents} (agrees : a.oid ≡ oid)
+    (there : a.parameters ≡ Some any) where
   same_any : (other : TagAndContents) → a.parameters ≡ Some other → other ≡ any
   same_any other given = let some : Some other ≡ Some any = sym given ∙ there in cc
 
-  pub only_identified : {V : Type 0} (Contents : V → List ℕ → Type 0) → MeansOne Contents → (v : V) → (any.tag ≡ sequence_tag) × Contents v any.contents → IsTheOnly (Identifies oid Contents a) v
-  only_identified Contents one v h = ((agrees, any, there, h.0, h.1), λ other (same, w, given, tag, holds). one other v any.contents (rw (same_any w given) at holds) h.1)
+  pub only_identified : {V : Type 0} (Contents : V → List ℕ → Type 0) → MeansOne Contents → (v : V)
+      → (any.tag ≡ sequence_tag) × Contents v any.contents → IsTheOnly (Identifies oid Contents a) v
+  only_identified Contents one v h = (
+    (agrees, any, there, h.0, h.1),
+    λ other (same, w, given, tag, holds). one other v any.contents (rw (same_any w given) at holds) h.1,
+  )
 
   module _ (Fault : ErrorKind → List ℕ → Type 0) where
     pub faulty_here : (kind : ErrorKind) → NotIdentified oid Fault kind a → OtherAnyFault sequence Fault kind any
@@ -68,17 +78,24 @@ module _ {oid : List ℕ} {a : Algorithm TagAndContents} {any : TagAndContents} 
     faulty_here kind (missing e same none) = let no : None ≡ Some any = sym none ∙ there in absurd (cc)
     faulty_here kind (faulty v same given fault) = rw (← same_any v given) fault
 
-    pub fault_identified : (kind : ErrorKind) → IsTheFault (OtherAnyFault sequence Fault) any kind → IsTheFault (NotIdentified oid Fault) a kind
-    fault_identified kind fault = (fault.0, faulty any agrees there fault.1, λ other f. fault.2 other (faulty_here other f))
+    pub fault_identified : (kind : ErrorKind) → IsTheFault (OtherAnyFault sequence Fault) any kind
+        → IsTheFault (NotIdentified oid Fault) a kind
+    fault_identified kind fault =
+        (fault.0, faulty any agrees there fault.1, λ other f. fault.2 other (faulty_here other f))
 
 pub fields_are_bytes : {V : Type 0} (values : V → List FieldValue) → IsOfBytes (FieldContents values)
 fields_are_bytes values v = joins_of_bytes (fields_with values v) (fields_of_bytes (values v))
 
-pub plain_told : AreTold PlainAlgorithm (WholeFault PlainAlgorithm (EncodingFault sequence (AlgorithmFault Any AnyFault)))
-plain_told = tagged_told sequence (AlgorithmContents Any) (AlgorithmFault Any AnyFault) (algorithm_means_one Any any_delimited) (algorithm_fault_none Any AnyFault any_delimited any_fault_none) (algorithm_fault_first Any AnyFault any_delimited any_fault_none any_fault_first)
+pub plain_told : AreTold PlainAlgorithm
+    (WholeFault PlainAlgorithm (EncodingFault sequence (AlgorithmFault Any AnyFault)))
+plain_told =
+    tagged_told sequence (AlgorithmContents Any) (AlgorithmFault Any AnyFault) (algorithm_means_one Any any_delimited)
+    (algorithm_fault_none Any AnyFault any_delimited any_fault_none)
+    (algorithm_fault_first Any AnyFault any_delimited any_fault_none any_fault_first)
 
 -- A slice that is read as an identifier with parameters of any tag, which are then read.
-module _ {X V : Type 0} (value : X → V) (Contents : V → List ℕ → Type 0) (bytes : IsOfBytes Contents) (oid b : List ℕ) (a : Algorithm TagAndContents) (means : Means PlainAlgorithm b a) where
+module _ {X V : Type 0} (value : X → V) (Contents : V → List ℕ → Type 0) (bytes : IsOfBytes Contents) (oid b : List ℕ)
+    (a : Algorithm TagAndContents) (means : Means PlainAlgorithm b a) where
   abbrev Wanted : V → List ℕ → Type 0
   Wanted = AlgorithmOf oid (λ v c. Tlv 48 (Contents v) c)
 
@@ -87,90 +104,123 @@ module _ {X V : Type 0} (value : X → V) (Contents : V → List ℕ → Type 0)
       let q = plain_of_algorithm Contents oid bytes v b p in
       rw (means_one plain_delimited a q.0 b means.1 q.2) q.1
 
-  pub slice_ok : (r : Result X Error) → IfOk r (λ x. IsTheOnly (Identifies oid Contents a) (value x)) → IfOk r (λ x. IsTheMeaning Wanted b (value x))
-  slice_ok (Ok x) h = ((means.0, algorithm_of_plain Contents oid a (value x) b h.0 means.1), λ other p. h.1 other (same_plain other p.1))
+  pub slice_ok : (r : Result X Error) → IfOk r (λ x. IsTheOnly (Identifies oid Contents a) (value x))
+      → IfOk r (λ x. IsTheMeaning Wanted b (value x))
+  slice_ok (Ok x) h = (
+    (means.0, algorithm_of_plain Contents oid a (value x) b h.0 means.1),
+    λ other p. h.1 other (same_plain other p.1),
+  )
   slice_ok (Err e) h = tt
 
-  pub slice_err : (r : Result X Error) → OnErr r ((v : V) → Identifies oid Contents a v → ⊥) → OnErr r (IsNoSentence Wanted b)
+  pub slice_err : (r : Result X Error) → OnErr r ((v : V) → Identifies oid Contents a v → ⊥)
+      → OnErr r (IsNoSentence Wanted b)
   slice_err (Ok x) h = tt
   slice_err (Err e) h = λ v p. h v (same_plain v p.1)
 
 -- A slice that isn't read as an identifier with parameters of any tag.
-pub no_identifier : {V : Type 0} (Contents : V → List ℕ → Type 0) → IsOfBytes Contents → (oid b : List ℕ) → ((a : Algorithm TagAndContents) → Means PlainAlgorithm b a → ⊥) → (v : V)
+pub no_identifier : {V : Type 0} (Contents : V → List ℕ → Type 0) → IsOfBytes Contents → (oid b : List ℕ)
+    → ((a : Algorithm TagAndContents) → Means PlainAlgorithm b a → ⊥) → (v : V)
     → Means (AlgorithmOf oid (λ (v : V) c. Tlv 48 (Contents v) c)) b v → ⊥
 no_identifier Contents bytes oid b none v p =
     let q = plain_of_algorithm Contents oid bytes v b p.1 in
     none q.0 (p.0, q.2)
 
 -- An identifier is an encoding of any tag.
-pub is_any : {V : Type 0} (values : V → List FieldValue) (oid b : List ℕ) (v : V) → AlgorithmOf oid (Fielded values) v b → (contents : List ℕ) × Any (record { tag = 48; contents = contents }) b
+pub is_any : {V : Type 0} (values : V → List FieldValue) (oid b : List ℕ) (v : V) → AlgorithmOf oid (Fielded values) v b
+    → (contents : List ℕ) × Any (record { tag = 48; contents = contents }) b
 is_any values oid b v t =
-    let bytes = tlv_of_bytes 48 sequence.allowed (FieldContents values) (fields_are_bytes values) in
-    (t.contents, ((sequence.allowed, algorithm_of_bytes (Fielded values) bytes (with_parameters oid v) t.contents t.holds), tlv_recast b t refl))
+    let bytes = tlv_of_bytes 48 sequence.allowed (FieldContents values) (fields_are_bytes values) in (
+      t.contents,
+      (
+        (
+          sequence.allowed,
+          algorithm_of_bytes (Fielded values) bytes (with_parameters oid v) t.contents t.holds,
+        ),
+        tlv_recast b t refl,
+      ),
+    )
 
 -- The parameters stand behind the object identifier in the contents.
-pub behind : {tag : ℕ} (oid contents y b : List ℕ) → Tlv tag (Is contents) b → AlgorithmOf oid Is y b → take (length contents - (2 + length oid)) (drop (2 + length oid) contents) ≡ y
+pub behind : {tag : ℕ} (oid contents y b : List ℕ) → Tlv tag (Is contents) b → AlgorithmOf oid Is y b
+    → take (length contents - (2 + length oid)) (drop (2 + length oid) contents) ≡ y
 behind oid contents y b p q =
     let s = tlv_split b [] b [] p q refl in
     let h = s.5 in
     let i = tlv_recast h.0 h.2 h.2.holds.1 in
     let identifier : IsIdentifier oid = rw h.2.holds.1 at h.2.holds.0 in
-    let one : length (length_octets (length oid)) ≡ 1 = ap length (length_octets-short (length oid) (omega (arith, identifier.short))) in
-    let counted : length h.0 ≡ 1 + length (length_octets (length oid)) + length oid = tlv_length (length oid) 6 oid h.0 refl i in
+    let one : length (length_octets (length oid)) ≡ 1 =
+    ap length (length_octets-short (length oid) (omega (arith, identifier.short))) in
+    let counted : length h.0 ≡ 1 + length (length_octets (length oid)) + length oid =
+    tlv_length (length oid) 6 oid h.0 refl i in
     let l : length h.0 ≡ 2 + length oid = omega (arith, one, counted) in
     let is : contents ≡ h.0 ++ y = sym s.4 ∙ h.4 ∙ ap (λ r. h.0 ++ r) (joins_last h.1 h.3) in
-    let rest : drop (2 + length oid) contents ≡ y = ap (drop (2 + length oid)) is ∙ ap (λ n. drop n (h.0 ++ y)) (sym l) ∙ drop-append_seam h.0 y in
+    let rest : drop (2 + length oid) contents ≡ y =
+    ap (drop (2 + length oid)) is ∙ ap (λ n. drop n (h.0 ++ y)) (sym l) ∙ drop-append_seam h.0 y in
     rw rest (take_all (length contents - (2 + length oid)) y (omega (arith, ap length is, length-append h.0 y, l)))
 
-pub inside : {V : Type 0} (Grammar : V → List ℕ → Type 0) (oid : List ℕ) (v : V) (b y : List ℕ) → Means (AlgorithmOf oid Grammar) b v → Means (AlgorithmOf oid Is) b y → Means Grammar y v
+pub inside : {V : Type 0} (Grammar : V → List ℕ → Type 0) (oid : List ℕ) (v : V) (b y : List ℕ)
+    → Means (AlgorithmOf oid Grammar) b v → Means (AlgorithmOf oid Is) b y → Means Grammar y v
 inside Grammar oid v b y m t =
     let p = parameters_in Grammar oid v b m.1 in
     let is : p.0 ≡ y = same_parameters oid p.0 y b p.2 t.1 in
     (omega (arith, m.0, parameters_shorter oid y b t.1), rw is at p.1)
 
 -- Strict reading: a default may be written in the encoding of the parameters.
-module _ {V : Type 0} (Grammar : V → List ℕ → Type 0) (fields : V → List Field) (Fault : ErrorKind → List ℕ → Type 0) (oid b : List ℕ) where
+module _ {V : Type 0} (Grammar : V → List ℕ → Type 0) (fields : V → List Field) (Fault : ErrorKind → List ℕ → Type 0)
+    (oid b : List ℕ) where
   abbrev Default : ErrorKind → V → Type 0
   Default kind v = (x : List ℕ) × Means (AlgorithmOf oid Is) b x × NamesDefault (fields v) kind x
 
-  pub strict_before : IsNoSentence (AlgorithmOf oid Grammar) b → (e : Error) → IsAsn1 (λ a. IsTheFault Fault b a.kind) e → IsAsn1 (λ a. IsTheFault (StrictFault oid Grammar fields Fault) b a.kind) e
+  pub strict_before : IsNoSentence (AlgorithmOf oid Grammar) b → (e : Error) → IsAsn1 (λ a. IsTheFault Fault b a.kind) e
+      → IsAsn1 (λ a. IsTheFault (StrictFault oid Grammar fields Fault) b a.kind) e
   strict_before none = asn1_as (λ a. fault_before (AlgorithmOf oid Grammar) Fault b Default none a.kind)
 
-  module _ (v : V) (means : IsTheMeaning (AlgorithmOf oid Grammar) b v) (unfaulty : (kind : ErrorKind) → Fault kind b → ⊥) (y : List ℕ) (there : Means (AlgorithmOf oid Is) b y) where
+  module _ (v : V) (means : IsTheMeaning (AlgorithmOf oid Grammar) b v)
+      (unfaulty : (kind : ErrorKind) → Fault kind b → ⊥) (y : List ℕ) (there : Means (AlgorithmOf oid Is) b y) where
     written : (kind : ErrorKind) → Default kind v → NamesDefault (fields v) kind y
     written kind (x, m, names) = rw (same_parameters oid x y b m.1 there.1) at names
 
     within : {X : Type 0} (r : Result X Error) → ErrsExactly (NamesDefault (fields v)) y r → ErrsExactly Default v r
     within (Ok x) f = λ kind names. f kind (written kind names)
-    within (Err e) f = asn1_as (λ a fault. (fault.0, (y, there, fault.1), λ other names. fault.2 other (written other names))) e f
+    within (Err e) f =
+        asn1_as (λ a fault. (fault.0, (y, there, fault.1), λ other names. fault.2 other (written other names))) e f
 
-    pub strict_behind : {X : Type 0} (r : Result X Error) → ErrsExactly (NamesDefault (fields v)) y r → ErrsExactly (StrictFault oid Grammar fields Fault) b r
+    pub strict_behind : {X : Type 0} (r : Result X Error) → ErrsExactly (NamesDefault (fields v)) y r
+        → ErrsExactly (StrictFault oid Grammar fields Fault) b r
     strict_behind r f = errs_behind (AlgorithmOf oid Grammar) Fault b Default v means unfaulty r (within r f)
 
 -- Writing.
-module _ {V : Type 0} (tag : ℕ) (Contents : V → List ℕ → Type 0) (has : V → Type 0) (written : V → List ℕ) (oid : List ℕ) where
+module _ {V : Type 0} (tag : ℕ) (Contents : V → List ℕ → Type 0) (has : V → Type 0) (written : V → List ℕ)
+    (oid : List ℕ) where
   abbrev Within : V → List ℕ → Type 0
   Within v encoding = Tlv tag (Contents v) encoding
 
   -- Each value has an encoding, within the limit or not.
-  pub has_algorithm : WritesEncodings Contents has written → IsIdentifier oid → (v : V) → has v → length (written v) < 2 ^ 64 → HasEncoding (AlgorithmOf oid Within) v
+  pub has_algorithm : WritesEncodings Contents has written → IsIdentifier oid → (v : V) → has v
+      → length (written v) < 2 ^ 64 → HasEncoding (AlgorithmOf oid Within) v
   has_algorithm relates is v h few =
       let encoding : V → List ℕ = λ w. tlv tag (written w) in
       let a = with_parameters oid v in
       let l = tlv_short tag (2 ^ 64 - 1) (written v) (omega (arith, few)) (omega arith) in
       let short_oid : length (tlv 6 oid) ≤ 167 = tlv_short 6 39 oid is.short (omega arith) in
-      let fits : length (tlv 6 oid ++ tlv tag (written v)) < 2 ^ 128 = omega (arith, length-append (tlv 6 oid) (tlv tag (written v)), l, short_oid) in
+      let fits : length (tlv 6 oid ++ tlv tag (written v)) < 2 ^ 128 =
+      omega (arith, length-append (tlv 6 oid) (tlv tag (written v)), l, short_oid) in
       let made = tlv_made 48 (AlgorithmContents Within a) (written_algorithm encoding a)
-      (algorithm_relates Within has encoding (λ w k less. tlv_relates tag Contents written w (relates w k) less) a (is, h) fits) fits in
+      (algorithm_relates Within has encoding (λ w k less. tlv_relates tag Contents written w (relates w k) less) a
+      (is, h) fits) fits in
       (made.0, made.1)
 
-module _ {V : Type 0} (Grammar : V → List ℕ → Type 0) (oid : List ℕ) (a : Algorithm V) (v : V) (is : a ≡ with_parameters oid v) where
+module _ {V : Type 0} (Grammar : V → List ℕ → Type 0) (oid : List ℕ) (a : Algorithm V) (v : V)
+    (is : a ≡ with_parameters oid v) where
   -- What was written at the front of a slice is the shortest encoding.
-  pub front_of : (n : ℕ) (encoding old new : List ℕ) → (n ≡ length encoding) × (new ≡ encoding ++ drop n old) → IsShortest (AlgorithmIdentifier Grammar) a encoding → IsShortest (AlgorithmOf oid Grammar) v (take n new)
+  pub front_of : (n : ℕ) (encoding old new : List ℕ) → (n ≡ length encoding) × (new ≡ encoding ++ drop n old)
+      → IsShortest (AlgorithmIdentifier Grammar) a encoding → IsShortest (AlgorithmOf oid Grammar) v (take n new)
   front_of n encoding old new h s = rw (front_is encoding old new n h.0 h.1) (shortest_of is encoding s)
 
   -- Why it isn't written, if it has an encoding.
-  pub why_not_of : (has : Type 0) (room : ℕ) → HasEncoding (AlgorithmOf oid Grammar) v → (k : EncodeError) → WhyNotWritten has (AlgorithmIdentifier Grammar) a room k → WhyNotWritten (HasEncoding (AlgorithmOf oid Grammar) v) (AlgorithmOf oid Grammar) v room k
+  pub why_not_of : (has : Type 0) (room : ℕ) → HasEncoding (AlgorithmOf oid Grammar) v → (k : EncodeError)
+      → WhyNotWritten has (AlgorithmIdentifier Grammar) a room k
+      → WhyNotWritten (HasEncoding (AlgorithmOf oid Grammar) v) (AlgorithmOf oid Grammar) v room k
   why_not_of has room some no_encoding h = rw is at h
   why_not_of has room some too_long h = (some, rw is at h.1)
   why_not_of has room some no_room h = (h.0, shortest_of is h.0 h.1, h.2)

@@ -1,5 +1,6 @@
 -- Spellings under masks: what writing tells of them.
-use Rattle.std.proofs.Common.{ℕ, suc, List, [], ◌∷◌, ◌++◌, ◌≡◌, ◌<◌, ◌^◌, ◌⊎◌, inl, inr, length, length-append, map, ◌+◌, ap, ◌∙◌, arith}
+use Rattle.std.proofs.Common.{ℕ, suc, List, [], ◌∷◌, ◌++◌, ◌≡◌, ◌<◌, ◌^◌, ◌⊎◌, inl, inr, length, length-append, map}
+use Rattle.std.proofs.Common.{◌+◌, ap, ◌∙◌, arith}
 use Rattle.std.specs.Global.{Vec}
 use Rattle.std.specs.Prelude.{Result, Ok, Err, IfOk, IfErr}
 use Rattle.std.proofs.lemmas.Bool.{cases_lt}
@@ -7,7 +8,8 @@ use Rattle.std.proofs.lemmas.List.{map-append}
 use Rattle.std.proofs.lemmas.Nat.{pow_pos}
 use Rattle.std.proofs.Math.ListN.{get_or-append}
 use Rattle.std.proofs.Math.Seq.{get_or-append_seam}
-use Rattle.der_core.specs.Document.{WhyNotWritten, IsShortest, HasEncoding, EncodeError, no_encoding, too_long, no_room, another}
+use Rattle.der_core.specs.Document.{WhyNotWritten, IsShortest, HasEncoding, EncodeError, no_encoding, too_long, no_room}
+use Rattle.der_core.specs.Document.{another}
 use Rattle.der_core.specs.Encodings.{Joins}
 use Rattle.der_core.specs.Writing.{encode_error}
 use Rattle.der_core.specs.Tlv.{Tlv}
@@ -16,9 +18,11 @@ use Rattle.der_core.specs.declared.error.ErrorKind.TheVariants.{OutOfMemory, Ove
 use Rattle.der_core.specs.Laws.Encodings.{tlv_made}
 use Rattle.spki_core.specs.Explicit.{Field, Defaultable, HaveDefaults, MaskedContents, Masked}
 use Rattle.spki_core.specs.Laws.Fields.{AreInOrder, defaults_same}
-use Rattle.spki_core.specs.Laws.Spellings.{one_mask, masked_fits, last_is_all, all_is_last, members_under, zero_fits, zero_shortest}
+use Rattle.spki_core.specs.Laws.Spellings.{one_mask, masked_fits, last_is_all, all_is_last, members_under, zero_fits}
+use Rattle.spki_core.specs.Laws.Spellings.{zero_shortest}
 use Rattle.pkcs1_params.specs.MaskedValues.{MaskedValue, InRange}
-use Rattle.pkcs1_params.specs.Spellings.{IsMask, AllFit, IsSpelling, HasNoSpelling, StandsUnder, WhyNoSpelling, IsSpellingError, AreUnder, AreMasks, AreAllSpellings, encodings_in}
+use Rattle.pkcs1_params.specs.Spellings.{IsMask, AllFit, IsSpelling, HasNoSpelling, StandsUnder, WhyNoSpelling}
+use Rattle.pkcs1_params.specs.Spellings.{IsSpellingError, AreUnder, AreMasks, AreAllSpellings, encodings_in}
 use Rattle.pkcs1_params.specs.declared.error.Error.{Error}
 use Rattle.pkcs1_params.specs.declared.error.Error.TheVariants as error
 use Rattle.pkcs1_params.specs.Laws.FieldValues.{ordered}
@@ -32,7 +36,8 @@ if_err_as (Ok a) f p = tt
 if_err_as (Err e) f p = f e p
 
 module _ {V : Type 0} (fields : V → List Field) (v : V) (mask : ℕ) where
-  pub stands_under : ((w : V) → AreInOrder (fields w)) → (encoding : List ℕ) → IsSpelling (fields v) mask encoding → StandsUnder fields v mask encoding
+  pub stands_under : ((w : V) → AreInOrder (fields w)) → (encoding : List ℕ) → IsSpelling (fields v) mask encoding
+      → StandsUnder fields v mask encoding
   stands_under ordered encoding p = record {
     spelling = p;
     no_other = λ other q. one_mask (fields v) other mask encoding (ordered v) q.1 p.1;
@@ -40,8 +45,10 @@ module _ {V : Type 0} (fields : V → List Field) (v : V) (mask : ℕ) where
   }
 
   -- An error of a value that has an encoding under the mask.
-  pub unspelled_as : (has : Type 0) (room : ℕ) → (encoding : List ℕ) × Masked (fields v) mask encoding → (k : EncodeError)
-      → WhyNotWritten has (λ (w : MaskedValue V). Tlv 48 (MaskedContents (fields w.value) w.mask)) (record { value = v; mask = mask }) room k → WhyNoSpelling (fields v) mask room k
+  pub unspelled_as : (has : Type 0) (room : ℕ) → (encoding : List ℕ) × Masked (fields v) mask encoding
+      → (k : EncodeError)
+      → WhyNotWritten has (λ (w : MaskedValue V). Tlv 48 (MaskedContents (fields w.value) w.mask))
+      (record { value = v; mask = mask }) room k → WhyNoSpelling (fields v) mask room k
   unspelled_as has room made no_encoding h = h made.0 made.1
   unspelled_as has room made too_long h = h.1
   unspelled_as has room made no_room h = (h.0, h.1.spells, h.2)
@@ -52,11 +59,14 @@ pub in_range : (fields : List Field) (mask : ℕ) → IsMask fields mask → InR
 in_range fields mask m k count = rw (defaults_same fields k m.0 count m.1) m.2
 
 -- Contents that are not too long have an encoding.
-pub encoding_under : (fields : List Field) (mask : ℕ) (contents : List ℕ) → MaskedContents fields mask contents → length contents < 2 ^ 64 → (encoding : List ℕ) × Masked fields mask encoding
-encoding_under fields mask contents p few = let made = tlv_made 48 (MaskedContents fields mask) contents p (omega (arith, few)) in (made.0, made.1)
+pub encoding_under : (fields : List Field) (mask : ℕ) (contents : List ℕ) → MaskedContents fields mask contents
+    → length contents < 2 ^ 64 → (encoding : List ℕ) × Masked fields mask encoding
+encoding_under fields mask contents p few =
+    let made = tlv_made 48 (MaskedContents fields mask) contents p (omega (arith, few)) in (made.0, made.1)
 
 -- Where every spelling is within the limit, there is one under each mask.
-pub spelling_there : (fields : List Field) (n mask : ℕ) → AreMasks fields n → mask < n → (encoding : List ℕ) × IsSpelling fields mask encoding
+pub spelling_there : (fields : List Field) (n mask : ℕ) → AreMasks fields n → mask < n
+    → (encoding : List ℕ) × IsSpelling fields mask encoding
 spelling_there fields n mask masks below =
     let e = masks.2 in
     let all = masks.3 in
@@ -67,26 +77,33 @@ pub mask_in_range : (fields : List Field) (n mask : ℕ) → AreMasks fields n �
 mask_in_range fields n mask masks below = let e = masks.2 in in_range fields mask (masks.0, masks.1, rw e at below)
 
 -- So no error but lack of memory is left.
-pub memory_alone : (fields : List Field) (n mask : ℕ) {kind : ErrorKind} → AreMasks fields n → mask < n → (kind ≡ OutOfMemory) ⊎ ((kind ≡ Overflow) × HasNoSpelling fields mask) → kind ≡ OutOfMemory
+pub memory_alone : (fields : List Field) (n mask : ℕ) {kind : ErrorKind} → AreMasks fields n → mask < n
+    → (kind ≡ OutOfMemory) ⊎ ((kind ≡ Overflow) × HasNoSpelling fields mask) → kind ≡ OutOfMemory
 memory_alone fields n mask masks below (inl e) = e
-memory_alone fields n mask masks below (inr h) = let s = spelling_there fields n mask masks below in absurd (h.1 s.0 s.1)
+memory_alone fields n mask masks below (inr h) =
+    let s = spelling_there fields n mask masks below in absurd (h.1 s.0 s.1)
 
 -- One more encoding.
 module _ (fields : List Field) (n : ℕ) where
-  under_next : (encodings : List (List ℕ)) (encoding : List ℕ) → AreUnder fields n encodings → IsSpelling fields n encoding → AreUnder fields (n + 1) (encodings ++ encoding ∷ [])
+  under_next : (encodings : List (List ℕ)) (encoding : List ℕ) → AreUnder fields n encodings
+      → IsSpelling fields n encoding → AreUnder fields (n + 1) (encodings ++ encoding ∷ [])
   under_next encodings encoding under p = (
     omega (arith, length-append encodings (encoding ∷ []), under.0),
     λ mask below. elim (cases_lt mask n) [
-      | inl earlier ↦ rw (get_or-append encodings (encoding ∷ []) [] mask (omega (arith, earlier, under.0))) (under.1 mask earlier)
+      | inl earlier ↦ rw (get_or-append encodings (encoding ∷ []) [] mask (omega (arith, earlier, under.0)))
+          (under.1 mask earlier)
       | inr later ↦
           let last : mask ≡ length encodings = omega (arith, below, later, under.0) in
           rw (last, get_or-append_seam encodings encoding [] [], under.0) p
     ],
   )
 
-  pub under_more : (encodings new : Vec (Vec ℕ)) (encoding : Vec ℕ) → new.items ≡ encodings.items ++ encoding ∷ [] → AreUnder fields n (encodings_in encodings) → IsSpelling fields n encoding.items → AreUnder fields (n + 1) (encodings_in new)
+  pub under_more : (encodings new : Vec (Vec ℕ)) (encoding : Vec ℕ) → new.items ≡ encodings.items ++ encoding ∷ []
+      → AreUnder fields n (encodings_in encodings) → IsSpelling fields n encoding.items
+      → AreUnder fields (n + 1) (encodings_in new)
   under_more encodings new encoding e under p =
-      let all : encodings_in new ≡ encodings_in encodings ++ encoding.items ∷ [] = ap (map (λ (t : Vec ℕ). t.items)) e ∙ map-append (λ (t : Vec ℕ). t.items) encodings.items (encoding ∷ []) in
+      let all : encodings_in new ≡ encodings_in encodings ++ encoding.items ∷ [] =
+      ap (map (λ (t : Vec ℕ). t.items)) e ∙ map-append (λ (t : Vec ℕ). t.items) encodings.items (encoding ∷ []) in
       rw all (under_next (encodings_in encodings) encoding.items under p)
 
 -- The last mask writes every field.
@@ -98,7 +115,9 @@ module _ (fields : List Field) (k m : ℕ) (count : HaveDefaults fields k) (last
   none_fit none fit = none fit.0 (fit.2, all_is_last fields k m fit.0 count last fit.1)
 
 -- The encodings under all masks are all spellings.
-pub are_all : {V : Type 0} (fields : V → List Field) → ((v : V) → AreInOrder (fields v)) → (v : V) (n : ℕ) (encodings : List (List ℕ)) → AreMasks (fields v) n → AreUnder (fields v) n encodings → AreAllSpellings fields v encodings
+pub are_all : {V : Type 0} (fields : V → List Field) → ((v : V) → AreInOrder (fields v))
+    → (v : V) (n : ℕ) (encodings : List (List ℕ)) → AreMasks (fields v) n → AreUnder (fields v) n encodings
+    → AreAllSpellings fields v encodings
 are_all fields ordered v n encodings masks under =
     let k = masks.0 in
     let e = masks.2 in
@@ -106,7 +125,8 @@ are_all fields ordered v n encodings masks under =
     record {
       members = λ j count.
           let same : j ≡ k = defaults_same (fields v) j k count masks.1 in
-          rw same (members_under fields ordered v k encodings masks.1 (under.0 ∙ e) (λ m below. let p = under.1 m (omega (arith, e, below)) in (p.1, p.0)));
+          rw same (members_under fields ordered v k encodings masks.1 (under.0 ∙ e)
+          (λ m below. let p = under.1 m (omega (arith, e, below)) in (p.1, p.0)));
       under = λ mask below. under.1 mask (omega (arith, below, under.0));
       shortest = zero_shortest fields ordered v k _ masks.1 first.1 first.0;
     }
@@ -116,18 +136,26 @@ module _ {V : Type 0} (values : V → List FieldValue) (numbered : (v : V) → A
   pub zero_in_range : IsMask (fields_with values v) 0
   zero_in_range = let k = parts_counted (parts_of (values v)) in (k.0, k.1, omega (arith, pow_pos k.0))
 
-  pub zero_is_shortest : (encoding : List ℕ) → IsSpelling (fields_with values v) 0 encoding → IsShortest (Fielded values) v encoding
-  zero_is_shortest encoding p = let k = parts_counted (parts_of (values v)) in zero_shortest (fields_with values) (ordered values numbered) v k.0 encoding k.1 p.1 p.0
+  pub zero_is_shortest : (encoding : List ℕ) → IsSpelling (fields_with values v) 0 encoding
+      → IsShortest (Fielded values) v encoding
+  zero_is_shortest encoding p =
+      let k =
+      parts_counted (parts_of (values v)) in
+      zero_shortest (fields_with values) (ordered values numbered) v k.0 encoding k.1 p.1 p.0
 
   -- A value with contents that memory holds has an encoding.
-  has_encoding : HasFields (values v) 0 × (length (written_fields (values v) 0) < 2 ^ 64) → HasEncoding (Fielded values) v
+  has_encoding : HasFields (values v) 0 × (length (written_fields (values v) 0) < 2 ^ 64)
+      → HasEncoding (Fielded values) v
   has_encoding held =
       let contents = written_fields (values v) 0 in
-      let made = tlv_made 48 (λ c. Joins (map Defaultable (fields_with values v)) c) contents (parts_hold (parts_of (values v)) held.0 (omega (arith, held.1))) (omega (arith, held.1)) in
+      let made =
+      tlv_made 48 (λ c. Joins (map Defaultable (fields_with values v)) c) contents
+      (parts_hold (parts_of (values v)) held.0 (omega (arith, held.1))) (omega (arith, held.1)) in
       (made.0, made.1)
 
   unwritten_as : (room : ℕ) → HasFields (values v) 0 × (length (written_fields (values v) 0) < 2 ^ 64)
-      → (k : EncodeError) → WhyNoSpelling (fields_with values v) 0 room k → WhyNotWritten (HasEncoding (Fielded values) v) (Fielded values) v room k
+      → (k : EncodeError) → WhyNoSpelling (fields_with values v) 0 room k
+      → WhyNotWritten (HasEncoding (Fielded values) v) (Fielded values) v room k
   unwritten_as room held no_encoding h = absurd h
   unwritten_as room held too_long h = (
     has_encoding held,

@@ -19,7 +19,9 @@ later_than_mask p = (omega arith, tt)
 
 pub oaep_gives : (before mid last after : Input) (p : OaepParameters)
     → HashFieldsRead p.hash p.mask_gen before mid → FieldGives 2 PlainAlgorithm empty_label p.p_source mid last
-    → ((rest : List ℕ) × (read_from last end_of ≡ Ok (tt, rest)) × (after ≡ Some rest)) → ContentsGive (OaepContents p) before after
+    → ((rest : List ℕ) × (read_from last end_of ≡ Ok (tt, rest)) × (after ≡ Some rest))
+    → ContentsGive (OaepContents p) before after
 oaep_gives before mid last after p read gives finish =
     hash_fields.later_gives (λ p. p.hash) (λ p. p.mask_gen) source later_than_mask before mid after p read
-    (fields_give 2 PlainAlgorithm empty_label (λ p. p.p_source) (λ _. []) (λ _. tt) mid last after p gives (end_gives last after finish))
+    (fields_give 2 PlainAlgorithm empty_label (λ p. p.p_source) (λ _. []) (λ _. tt) mid last after p gives
+    (end_gives last after finish))

@@ -37,7 +37,9 @@ oaep_defaults = record { hash = sha1; mask_gen = mgf1_sha1; p_source = empty_lab
 -- 3000
 pub pss_all_left_out : RsaPssParams pss_defaults (0x30 ∷ 0x00 ∷ [])
 pss_all_left_out = known_tlv 0x30 []
-    (left_out_field (hash_field sha1) [] refl (left_out_field (mask_field mgf1_sha1) [] refl (left_out_field (salt_field 20) [] refl (left_out_field (trailer_field 1) [] refl refl)))) (omega arith)
+    (left_out_field (hash_field sha1) [] refl
+    (left_out_field (mask_field mgf1_sha1) [] refl
+    (left_out_field (salt_field 20) [] refl (left_out_field (trailer_field 1) [] refl refl)))) (omega arith)
 
 pub pss_by_default : (b : List ℕ) (p : PssParameters) → b ≡ 0x30 ∷ 0x00 ∷ [] → p ≡ pss_defaults → Means RsaPssParams b p
 pss_by_default b p empty is = rw (empty, is) (omega arith, pss_all_left_out)
@@ -51,7 +53,8 @@ pss_salt_written : RsaPssParams pss_defaults (0x30 ∷ 0x05 ∷ 0xa2 ∷ 0x03 �
 pss_salt_written = known_tlv 0x30 salt_bytes (
     left_out_field (hash_field sha1) salt_bytes refl (
     left_out_field (mask_field mgf1_sha1) salt_bytes refl (
-    written_field (salt_field 20) (0x02 ∷ 0x01 ∷ 0x14 ∷ []) [] (small_byte 20 (omega arith)) (omega arith) (left_out_field (trailer_field 1) [] refl refl)
+    written_field (salt_field 20) (0x02 ∷ 0x01 ∷ 0x14 ∷ []) [] (small_byte 20 (omega arith)) (omega arith)
+    (left_out_field (trailer_field 1) [] refl refl)
     )
     )
     ) (omega arith)
@@ -59,9 +62,12 @@ pss_salt_written = known_tlv 0x30 salt_bytes (
 -- 3000
 pub oaep_all_left_out : RsaOaepParams oaep_defaults (0x30 ∷ 0x00 ∷ [])
 oaep_all_left_out = known_tlv 0x30 []
-    (left_out_field (hash_field sha1) [] refl (left_out_field (mask_field mgf1_sha1) [] refl (left_out_field (source_field empty_label) [] refl refl))) (omega arith)
+    (left_out_field (hash_field sha1) [] refl
+    (left_out_field (mask_field mgf1_sha1) [] refl (left_out_field (source_field empty_label) [] refl refl)))
+    (omega arith)
 
-pub oaep_by_default : (b : List ℕ) (p : OaepParameters) → b ≡ 0x30 ∷ 0x00 ∷ [] → p ≡ oaep_defaults → Means RsaOaepParams b p
+pub oaep_by_default : (b : List ℕ) (p : OaepParameters) → b ≡ 0x30 ∷ 0x00 ∷ [] → p ≡ oaep_defaults
+    → Means RsaOaepParams b p
 oaep_by_default b p empty is = rw (empty, is) (omega arith, oaep_all_left_out)
 
 -- 3005a203020114: the default salt length is written, so this is no shortest encoding

@@ -2,8 +2,10 @@
 use Rattle.std.proofs.Common.{List, arith}
 use Rattle.spki_core.specs.Explicit.{Field}
 use Rattle.spki_core.specs.Laws.Fields.{AreInOrder}
-use Rattle.spki_core.specs.Laws.Spellings.{masked_spells, spelled_is_masked, one_mask, one_encoding, zero_shortest, shortest_zero, zero_fits, masks_are_members}
-use Rattle.pkcs1_params.specs.Spellings.{EachHasOneMask, EachMaskHasOne, ShortestHasNoDefaults, AcceptedFits, HasTwoToTheDefaults}
+use Rattle.spki_core.specs.Laws.Spellings.{masked_spells, spelled_is_masked, one_mask, one_encoding, zero_shortest}
+use Rattle.spki_core.specs.Laws.Spellings.{shortest_zero, zero_fits, masks_are_members}
+use Rattle.pkcs1_params.specs.Spellings.{EachHasOneMask, EachMaskHasOne, ShortestHasNoDefaults, AcceptedFits}
+use Rattle.pkcs1_params.specs.Spellings.{HasTwoToTheDefaults}
 
 module _ {V : Type 0} (fields : V → List Field) (ordered : (v : V) → AreInOrder (fields v)) where
   pub each_has_one_mask : EachHasOneMask fields
@@ -12,7 +14,8 @@ module _ {V : Type 0} (fields : V → List Field) (ordered : (v : V) → AreInOr
       (r.0, r.1, (p.0, r.2), λ other q. one_mask (fields v) other r.0 encoding (ordered v) q.1 r.2)
 
   pub each_mask_has_one : EachMaskHasOne fields
-  each_mask_has_one v mask x y p q = (one_encoding (fields v) mask x y (ordered v) p.1 q.1, (p.0, masked_spells (fields v) mask x p.1))
+  each_mask_has_one v mask x y p q =
+      (one_encoding (fields v) mask x y (ordered v) p.1 q.1, (p.0, masked_spells (fields v) mask x p.1))
 
   pub shortest_has_no_defaults : ShortestHasNoDefaults fields
   shortest_has_no_defaults v k encoding d = (

@@ -26,21 +26,27 @@ later_than_mask : (p : PssParameters) → AreLater 1 (salt_and_trailer p)
 later_than_mask p = (omega arith, (omega arith, tt))
 
 -- A number and what is behind it, which ask for nothing.
-pub numbers_ask : (n d : ℕ) (encoding : ℕ → List ℕ → Type 0) (c : List ℕ) → AllocatesFromField n encoding d (Tlv 2 (λ _. ⊥)) (λ _. ⊥) c → ⊥
+pub numbers_ask : (n d : ℕ) (encoding : ℕ → List ℕ → Type 0) (c : List ℕ)
+    → AllocatesFromField n encoding d (Tlv 2 (λ _. ⊥)) (λ _. ⊥) c → ⊥
 numbers_ask n d encoding c (inl w) = w.3.holds.3.holds
 numbers_ask n d encoding c (inr w) = w.1.3
 
 pub pss_gives : (n m : ℕ) → n ≡ 2 → m ≡ 3 → (before mid at last after : Input) (p : PssParameters)
-    → HashFieldsRead p.hash p.mask_gen before mid → FieldGives n Small 20 p.salt_len mid at → FieldGives m TrailerField 1 p.trailer_field at last
-    → ((rest : List ℕ) × (read_from last end_of ≡ Ok (tt, rest)) × (after ≡ Some rest)) → ContentsGive (PssContents p) before after
+    → HashFieldsRead p.hash p.mask_gen before mid → FieldGives n Small 20 p.salt_len mid at
+    → FieldGives m TrailerField 1 p.trailer_field at last
+    → ((rest : List ℕ) × (read_from last end_of ≡ Ok (tt, rest)) × (after ≡ Some rest))
+    → ContentsGive (PssContents p) before after
 pss_gives n m is third before mid at last after p read salt trailing finish =
     hash_fields.later_gives (λ p. p.hash) (λ p. p.mask_gen) salt_and_trailer later_than_mask before mid after p read
     (fields_give 2 Small 20 (λ p. p.salt_len) trailer later_than_salt mid at after p (rw is at salt)
-    (fields_give 3 TrailerField 1 (λ p. p.trailer_field) (λ _. []) (λ _. tt) at last after p (rw third at trailing) (end_gives last after finish)))
+    (fields_give 3 TrailerField 1 (λ p. p.trailer_field) (λ _. []) (λ _. tt) at last after p (rw third at trailing)
+    (end_gives last after finish)))
 
 -- The numbers of the fields, as they are known.
-pub salt_read : (n : ℕ) → n ≡ 2 → (s : ℕ) (before after : Input) → FieldGives n Small 20 s before after → FieldGives 2 Small 20 s before after
+pub salt_read : (n : ℕ) → n ≡ 2 → (s : ℕ) (before after : Input) → FieldGives n Small 20 s before after
+    → FieldGives 2 Small 20 s before after
 salt_read n is s before after gives = rw is at gives
 
-pub trailer_read : (n : ℕ) → n ≡ 3 → (s : ℕ) (before after : Input) → FieldGives n TrailerField 1 s before after → FieldGives 3 TrailerField 1 s before after
+pub trailer_read : (n : ℕ) → n ≡ 3 → (s : ℕ) (before after : Input) → FieldGives n TrailerField 1 s before after
+    → FieldGives 3 TrailerField 1 s before after
 trailer_read n is s before after gives = rw is at gives

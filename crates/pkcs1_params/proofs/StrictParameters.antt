@@ -20,18 +20,28 @@ tells : {kind : ErrorKind} {tag : Tag} → kind ≡ Noncanonical tag → TellsOf
 tells is = (λ no. cc, λ no. cc, λ no. cc)
 
 -- A walk over an encoding of a value.
-module _ {V : Type 0} (values : V → List FieldValue) (numbered : (v : V) → AreNumbered 0 (values v)) (v : V) (encoding : List ℕ) (means : Means (Fielded values) encoding v) where
-  found_among : (found : Option ℕ) → WalksOver (defaults_in (values v)) encoding found → FoundIn (fields_with values v) encoding found
-  found_among found = encoding_finds (fields_with values v) (defaults_in (values v)) encoding found (in_order (values v) 0 (numbered v)) (fields_of_bytes (values v)) (marked (values v) 0 (numbered v)) means.0 means.1
+module _ {V : Type 0} (values : V → List FieldValue) (numbered : (v : V) → AreNumbered 0 (values v)) (v : V)
+    (encoding : List ℕ) (means : Means (Fielded values) encoding v) where
+  found_among : (found : Option ℕ) → WalksOver (defaults_in (values v)) encoding found
+      → FoundIn (fields_with values v) encoding found
+  found_among found =
+      encoding_finds (fields_with values v) (defaults_in (values v)) encoding found (in_order (values v) 0 (numbered v))
+      (fields_of_bytes (values v)) (marked (values v) 0 (numbered v)) means.0 means.1
 
   longer : (n : ℕ) → WritesDefault (fields_with values v) n encoding → IsShortest (Fielded values) v encoding → ⊥
-  longer n = let k = parts_counted (parts_of (values v)) in found_longer (fields_with values) (ordered values numbered) v k.0 n encoding k.1
+  longer n =
+      let k =
+      parts_counted (parts_of (values v)) in
+      found_longer (fields_with values) (ordered values numbered) v k.0 n encoding k.1
 
-  pub not_shortest : (n : ℕ) → WalksOver (defaults_in (values v)) encoding (Some n) → IsShortest (Fielded values) v encoding → ⊥
+  pub not_shortest : (n : ℕ) → WalksOver (defaults_in (values v)) encoding (Some n)
+      → IsShortest (Fielded values) v encoding → ⊥
   not_shortest n walk = longer n (found_among (Some n) walk)
 
   -- It ends at the only default that is rejected.
-  pub named : (n : ℕ) → WalksOver (defaults_in (values v)) encoding (Some n) → (e : Error) → IsAsn1 (λ a. NamesNumber n a.kind) e → IsAsn1 (λ a. IsTheFault (NamesDefault (fields_with values v)) encoding a.kind) e
+  pub named : (n : ℕ) → WalksOver (defaults_in (values v)) encoding (Some n) → (e : Error)
+      → IsAsn1 (λ a. NamesNumber n a.kind) e
+      → IsAsn1 (λ a. IsTheFault (NamesDefault (fields_with values v)) encoding a.kind) e
   named n walk =
       let found = found_among (Some n) walk in
       asn1_as (λ a (tag, kind, at). (
@@ -44,7 +54,10 @@ module _ {V : Type 0} (values : V → List FieldValue) (numbered : (v : V) → A
 
   module _ (walk : WalksOver (defaults_in (values v)) encoding None) where
     pub shortest : IsShortest (Fielded values) v encoding
-    shortest = let k = parts_counted (parts_of (values v)) in none_found (fields_with values) (ordered values numbered) v k.0 encoding k.1 means.0 (found_among None walk)
+    shortest =
+        let k =
+        parts_counted (parts_of (values v)) in
+        none_found (fields_with values) (ordered values numbered) v k.0 encoding k.1 means.0 (found_among None walk)
 
     pub no_default : (kind : ErrorKind) → NamesDefault (fields_with values v) kind encoding → ⊥
     no_default kind (n, names, writes) = longer n writes shortest

@@ -7,9 +7,12 @@ use Rattle.pkcs1_params.specs.Parts.{FieldValue, part_of, defaults_in, HasFields
 
 pub none_written : (values : List FieldValue) → bits_of (defaults_in values) ≡ 0 → NoneWritten values 0
 none_written [] unchanged = (tt, refl)
-none_written (v ∷ values) unchanged = let p = part_of v in go p.is_default p.has p.field.number p.encoding (λ later. none_written values later) unchanged
+none_written (v ∷ values) unchanged =
+    let p = part_of v in go p.is_default p.has p.field.number p.encoding (λ later. none_written values later) unchanged
   where
-    go : (d : Bool) (Has : Type 0) (n : ℕ) (encoding : List ℕ) → (bits_of (defaults_in values) ≡ 0 → NoneWritten values 0) → bit_of d + 2 * bits_of (defaults_in values) ≡ 0
-        → (HasField (out_under d 0) Has × HasFields values (rest_under d 0)) × (written_field (out_under d 0) n encoding ++ written_fields values (rest_under d 0) ≡ [])
+    go : (d : Bool) (Has : Type 0) (n : ℕ) (encoding : List ℕ)
+        → (bits_of (defaults_in values) ≡ 0 → NoneWritten values 0) → bit_of d + 2 * bits_of (defaults_in values) ≡ 0
+        → (HasField (out_under d 0) Has × HasFields values (rest_under d 0))
+        × (written_field (out_under d 0) n encoding ++ written_fields values (rest_under d 0) ≡ [])
     go true Has n encoding rest none = let later = rest (omega (arith, none)) in ((tt, later.0), later.1)
     go false Has n encoding rest none = absurd (omega (arith, none))

@@ -16,7 +16,8 @@ use Rattle.spki_core.specs.Explicit.{Field, FieldSequence, HaveDefaults, AllExpl
 use Rattle.spki_core.specs.Faults.{AnyFault, AlgorithmFault, OtherAnyFault}
 use Rattle.spki_core.specs.StrictFields.{NamesDefault}
 use Rattle.pkcs1_params.specs.ParameterFaults.{PssFault, OaepFault}
-use Rattle.pkcs1_params.specs.Parameters.{with_parameters, PssParameters, PssContents, RsaPssParams, pss_fields, OaepParameters, OaepContents, RsaOaepParams, oaep_fields}
+use Rattle.pkcs1_params.specs.Parameters.{with_parameters, PssParameters, PssContents, RsaPssParams, pss_fields}
+use Rattle.pkcs1_params.specs.Parameters.{OaepParameters, OaepContents, RsaOaepParams, oaep_fields}
 
 abbrev pub id_rsassa_pss : List ℕ
 id_rsassa_pss = 0x2a ∷ 0x86 ∷ 0x48 ∷ 0x86 ∷ 0xf7 ∷ 0x0d ∷ 0x01 ∷ 0x01 ∷ 0x0a ∷ []
@@ -37,7 +38,8 @@ RsaOaepAlgorithm = AlgorithmOf id_rsaes_oaep RsaOaepParams
 -- The identifier is this one, and its parameters are a SEQUENCE of these contents.
 abbrev pub Identifies : {V : Type 0} → List ℕ → (V → List ℕ → Type 0) → Algorithm TagAndContents → V → Type 0
 Identifies oid Contents a v =
-    (a.oid ≡ oid) × (any : TagAndContents) × (a.parameters ≡ Some any) × (any.tag ≡ sequence_tag) × Contents v any.contents
+    (a.oid ≡ oid) × (any : TagAndContents) × (a.parameters ≡ Some any) × (any.tag ≡ sequence_tag)
+    × Contents v any.contents
 
 abbrev pub IdentifiesPss : Algorithm TagAndContents → PssParameters → Type 0
 IdentifiesPss = Identifies id_rsassa_pss PssContents
@@ -46,10 +48,12 @@ abbrev pub IdentifiesOaep : Algorithm TagAndContents → OaepParameters → Type
 IdentifiesOaep = Identifies id_rsaes_oaep OaepContents
 
 -- Why it isn't so: another identifier, no parameters, or parameters with a fault.
-pub data NotIdentified (oid : List ℕ) (ContentsFault : ErrorKind → List ℕ → Type 0) (kind : ErrorKind) (a : Algorithm TagAndContents) : Type 0 where
+pub data NotIdentified (oid : List ℕ) (ContentsFault : ErrorKind → List ℕ → Type 0) (kind : ErrorKind)
+    (a : Algorithm TagAndContents) : Type 0 where
   unknown : kind ≡ OidUnknown → a.oid ≢ oid → NotIdentified oid ContentsFault kind a
   missing : kind ≡ ParametersMissing → a.oid ≡ oid → a.parameters ≡ None → NotIdentified oid ContentsFault kind a
-  faulty : (any : TagAndContents) → a.oid ≡ oid → a.parameters ≡ Some any → OtherAnyFault sequence ContentsFault kind any → NotIdentified oid ContentsFault kind a
+  faulty : (any : TagAndContents) → a.oid ≡ oid → a.parameters ≡ Some any
+      → OtherAnyFault sequence ContentsFault kind any → NotIdentified oid ContentsFault kind a
 
 abbrev pub NotPss : ErrorKind → Algorithm TagAndContents → Type 0
 NotPss = NotIdentified id_rsassa_pss (PssFault Any AnyFault)
@@ -71,10 +75,12 @@ RsaOaepAlgorithmFault = AlgorithmOfFault NotOaep
 
 -- Whole slices that have to be the shortest encoding of an identifier: they have a fault as one; or they are one, and a
 -- default is written in the encoding of its parameters.
-abbrev pub StrictFault : {V : Type 0} → List ℕ → (V → List ℕ → Type 0) → (V → List Field) → (ErrorKind → List ℕ → Type 0) → ErrorKind → List ℕ → Type 0
+abbrev pub StrictFault : {V : Type 0} → List ℕ → (V → List ℕ → Type 0) → (V → List Field)
+    → (ErrorKind → List ℕ → Type 0) → ErrorKind → List ℕ → Type 0
 StrictFault {V} oid Grammar fields Fault kind bytes =
     Fault kind bytes
-    ⊎ ((v : V) × Means (AlgorithmOf oid Grammar) bytes v × ((encoding : List ℕ) × Means (AlgorithmOf oid Is) bytes encoding × NamesDefault (fields v) kind encoding))
+    ⊎ ((v : V) × Means (AlgorithmOf oid Grammar) bytes v
+    × ((encoding : List ℕ) × Means (AlgorithmOf oid Is) bytes encoding × NamesDefault (fields v) kind encoding))
 
 abbrev pub StrictPssAlgorithmFault : ErrorKind → List ℕ → Type 0
 StrictPssAlgorithmFault = StrictFault id_rsassa_pss RsaPssParams pss_fields RsaPssAlgorithmFault

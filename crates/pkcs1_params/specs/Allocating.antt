@@ -19,7 +19,8 @@ PssAllocates may_allocate contents = AllocatesFromHash may_allocate (λ _. ⊥) 
 
 -- The parameters of the source in [2] may ask for memory too.
 abbrev pub OaepAllocates : (List ℕ → Type 0) → List ℕ → Type 0
-OaepAllocates may_allocate contents = AllocatesFromHash may_allocate (AllocatesIn (FieldAllocates 2 (AlgorithmAllocates may_allocate))) contents
+OaepAllocates may_allocate contents =
+    AllocatesFromHash may_allocate (AllocatesIn (FieldAllocates 2 (AlgorithmAllocates may_allocate))) contents
 
 -- Values whose owned form asks for memory: contents octets, parameters with these, and a hash function or one under a
 -- mask generation function with such parameters.
@@ -38,4 +39,6 @@ abbrev pub OwnedPssAllocates : List ℕ → Type 0
 OwnedPssAllocates contents = (p : PssParameters) × PssContents p contents × HashesHaveOctets p.hash p.mask_gen
 
 abbrev pub OwnedOaepAllocates : List ℕ → Type 0
-OwnedOaepAllocates contents = (p : OaepParameters) × OaepContents p contents × (HashesHaveOctets p.hash p.mask_gen ⊎ HasParameters HasOctets p.p_source)
+OwnedOaepAllocates contents =
+    (p : OaepParameters) × OaepContents p contents
+    × (HashesHaveOctets p.hash p.mask_gen ⊎ HasParameters HasOctets p.p_source)

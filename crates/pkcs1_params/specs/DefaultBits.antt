@@ -1,5 +1,5 @@
--- Which fields differ from their defaults, as the bits of a number: the lowest is the first field's. The list says which
--- are defaults.
+-- Which fields differ from their defaults, as the bits of a number: the lowest is the first field's. The list says
+-- which are defaults.
 use Rattle.std.specs.Prelude.{ℕ, Bool, true, false, List, [], ◌∷◌, ◌+◌, ◌*◌}
 
 abbrev pub bit_of : Bool → ℕ

@@ -2,7 +2,8 @@
 use Rattle.spki_core.specs.AlgorithmValue.{viewed_with}
 use Rattle.spki_core.specs.AnyRefValue.{any_of}
 use Rattle.spki_core.specs.Masks.{Part}
-use Rattle.pkcs1_params.specs.Parts.{FieldValue, hash_field, mask_gen_field, salt_len_field, trailer_field, p_source_field, part_of}
+use Rattle.pkcs1_params.specs.Parts.{FieldValue, hash_field, mask_gen_field, salt_len_field, trailer_field}
+use Rattle.pkcs1_params.specs.Parts.{p_source_field, part_of}
 use Rattle.pkcs1_params.specs.declared.fields.FieldRef.{FieldRef}
 use Rattle.pkcs1_params.specs.declared.fields.FieldRef.TheVariants as ref
 

@@ -12,7 +12,10 @@ use Rattle.pkcs1_params.specs.Parts.{oaep_values, HasFields, written_fields}
 
 -- What is written for the source of a label.
 abbrev pub written_source : List ℕ → List ℕ
-written_source label = let source = with_parameters id_p_specified (octets_value label) in written_field (same_plain source empty_label) 2 (written_plain source)
+written_source label =
+    let source =
+    with_parameters id_p_specified (octets_value label) in
+    written_field (same_plain source empty_label) 2 (written_plain source)
 
 -- The length of what is written for parameters with a label.
 abbrev pub CountsLabelled : List ℕ → List ℕ → Result ℕ Error → Type 0

@@ -17,7 +17,8 @@ IsTheMeaning Grammar encoding = IsTheOnly (Means Grammar encoding)
 
 -- The bytes are the shortest encoding of this value, and mean no other.
 abbrev pub IsTheShortest : {V : Type 0} → (V → List ℕ → Type 0) → List ℕ → V → Type 0
-IsTheShortest {V} Grammar encoding v = IsShortest Grammar v encoding × ((other : V) → Means Grammar encoding other → other ≡ v)
+IsTheShortest {V} Grammar encoding v =
+    IsShortest Grammar v encoding × ((other : V) → Means Grammar encoding other → other ≡ v)
 
 -- The bytes mean no value.
 abbrev pub IsNoSentence : {V : Type 0} → (V → List ℕ → Type 0) → List ℕ → Type 0
@@ -38,8 +39,10 @@ ErrsOrAsks Fault read asked (Ok x) = (kind : ErrorKind) → Fault kind read → 
 ErrsOrAsks Fault read asked (Err e) = IsAsn1 (λ asn1. Faulty asn1.kind asked (IsTheFault Fault read asn1.kind)) e
 
 -- The bytes are a sentence and have no fault; or they are no sentence and have exactly this fault.
-abbrev pub TellsFault : {V : Type 0} → (V → List ℕ → Type 0) → (ErrorKind → List ℕ → Type 0) → List ℕ → Option ErrorKind → Type 0
-TellsFault {V} Grammar Fault encoding None = ((v : V) × Means Grammar encoding v) × ((kind : ErrorKind) → Fault kind encoding → ⊥)
+abbrev pub TellsFault : {V : Type 0} → (V → List ℕ → Type 0) → (ErrorKind → List ℕ → Type 0) → List ℕ → Option ErrorKind
+    → Type 0
+TellsFault {V} Grammar Fault encoding None =
+    ((v : V) × Means Grammar encoding v) × ((kind : ErrorKind) → Fault kind encoding → ⊥)
 TellsFault Grammar Fault encoding (Some kind) = IsNoSentence Grammar encoding × IsTheFault Fault encoding kind
 
 -- Why a value isn't written to so many bytes: it has no encoding, none within the limit, or there is no room for the

@@ -12,7 +12,12 @@ use Rattle.pkcs1_params.specs.declared.oaep_view.RsaOaepParamsView.{RsaOaepParam
 use Rattle.pkcs1_params.specs.declared.oaep.RsaOaepParams.{RsaOaepParams}
 
 abbrev pub oaep_with : {X : Type 0} → (X → TagAndContents) → RsaOaepParams X → OaepParameters
-oaep_with any p = record { hash = algorithm_with any p.hash; mask_gen = algorithm_with (algorithm_with any) p.mask_gen; p_source = algorithm_with any p.p_source }
+oaep_with any p =
+    record {
+      hash = algorithm_with any p.hash;
+      mask_gen = algorithm_with (algorithm_with any) p.mask_gen;
+      p_source = algorithm_with any p.p_source;
+    }
 
 -- borrowed
 abbrev pub oaep_of : RsaOaepParams AnyRef → OaepParameters
@@ -20,7 +25,12 @@ oaep_of = oaep_with any_of
 
 -- that borrow from the input
 abbrev pub oaep_viewed : RsaOaepParamsView → OaepParameters
-oaep_viewed p = record { hash = viewed_with any_of p.hash; mask_gen = viewed_with (viewed_with any_of) p.mask_gen; p_source = viewed_with any_of p.p_source }
+oaep_viewed p =
+    record {
+      hash = viewed_with any_of p.hash;
+      mask_gen = viewed_with (viewed_with any_of) p.mask_gen;
+      p_source = viewed_with any_of p.p_source;
+    }
 
 -- a hash function with NULL, MGF1 with the same, and a label
 abbrev pub labelled : List ℕ → List ℕ → OaepParameters
@@ -32,7 +42,11 @@ labelled oid label = record {
 
 -- with a label of n bytes there is always an encoding, or never
 abbrev pub LabelFits : List ℕ → ℕ → Type 0
-LabelFits oid n = (label : List ℕ) → AreBytes label → length label ≡ n → (encoding : List ℕ) × Means grammar.RsaOaepParams encoding (labelled oid label)
+LabelFits oid n =
+    (label : List ℕ) → AreBytes label → length label ≡ n
+    → (encoding : List ℕ) × Means grammar.RsaOaepParams encoding (labelled oid label)
 
 abbrev pub NoLabelFits : List ℕ → ℕ → Type 0
-NoLabelFits oid n = (label : List ℕ) → AreBytes label → length label ≡ n → (encoding : List ℕ) → Means grammar.RsaOaepParams encoding (labelled oid label) → ⊥
+NoLabelFits oid n =
+    (label : List ℕ) → AreBytes label → length label ≡ n → (encoding : List ℕ)
+    → Means grammar.RsaOaepParams encoding (labelled oid label) → ⊥

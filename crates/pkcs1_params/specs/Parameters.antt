@@ -48,7 +48,8 @@ TrailerField n encoding = Tlv integer_tag (TrailerContents n) encoding
 
 -- hashAlgorithm [0] and maskGenAlgorithm [1], which both sets of parameters begin with
 abbrev pub hash_fields_then : Algorithm TagAndContents → Algorithm (Algorithm TagAndContents) → List Field → List Field
-hash_fields_then hash mask_gen later = field 0 PlainAlgorithm sha1 hash ∷ field 1 MaskAlgorithm mgf1_sha1 mask_gen ∷ later
+hash_fields_then hash mask_gen later =
+    field 0 PlainAlgorithm sha1 hash ∷ field 1 MaskAlgorithm mgf1_sha1 mask_gen ∷ later
 
 pub record PssParameters : Type 0 where
   pub hash : Algorithm TagAndContents
@@ -57,7 +58,8 @@ pub record PssParameters : Type 0 where
   pub trailer_field : ℕ
 
 abbrev pub pss_fields : PssParameters → List Field
-pss_fields p = hash_fields_then p.hash p.mask_gen (field 2 Small 20 p.salt_len ∷ field 3 TrailerField 1 p.trailer_field ∷ [])
+pss_fields p =
+    hash_fields_then p.hash p.mask_gen (field 2 Small 20 p.salt_len ∷ field 3 TrailerField 1 p.trailer_field ∷ [])
 
 abbrev pub PssContents : PssParameters → List ℕ → Type 0
 PssContents p contents = Joins (map Defaultable (pss_fields p)) contents

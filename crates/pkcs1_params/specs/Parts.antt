@@ -5,13 +5,16 @@ use Rattle.der_core.specs.Integer.{Small, SmallContents, integer_contents}
 use Rattle.der_core.specs.Tag.{integer_tag}
 use Rattle.der_core.specs.Tlv.{tlv}
 use Rattle.spki_core.specs.Any.{TagAndContents}
-use Rattle.spki_core.specs.AlgorithmIdentifier.{Algorithm, PlainAlgorithm, MaskAlgorithm, HasPlain, HasMask, written_plain, written_mask, same_plain, same_mask}
+use Rattle.spki_core.specs.AlgorithmIdentifier.{Algorithm, PlainAlgorithm, MaskAlgorithm, HasPlain, HasMask}
+use Rattle.spki_core.specs.AlgorithmIdentifier.{written_plain, written_mask, same_plain, same_mask}
 use Rattle.spki_core.specs.Laws.Algorithms.{same_plain_decides, same_mask_decides}
 use Rattle.spki_core.specs.Explicit.{Field, field, FieldSequence}
 use Rattle.spki_core.specs.Masks.{Part, fields_of, has_under, written_under}
 use Rattle.pkcs1_params.specs.Laws.HashFields.{plain_relates, plain_shortest, mask_relates, mask_shortest}
-use Rattle.pkcs1_params.specs.Parameters.{sha1, mgf1_sha1, empty_label, TrailerContents, TrailerField, PssParameters, OaepParameters}
-use Rattle.pkcs1_params.specs.Laws.SmallFields.{salt_relates, salt_shortest, trailer_encoding_relates, trailer_encoding_shortest}
+use Rattle.pkcs1_params.specs.Parameters.{sha1, mgf1_sha1, empty_label, TrailerContents, TrailerField, PssParameters}
+use Rattle.pkcs1_params.specs.Parameters.{OaepParameters}
+use Rattle.pkcs1_params.specs.Laws.SmallFields.{salt_relates, salt_shortest, trailer_encoding_relates}
+use Rattle.pkcs1_params.specs.Laws.SmallFields.{trailer_encoding_shortest}
 
 abbrev plain_part : ℕ → Algorithm TagAndContents → Algorithm TagAndContents → Part
 plain_part number default v = record {
@@ -99,7 +102,8 @@ AreNumbered n [] = Unit {0}
 AreNumbered n (v ∷ values) = ((part_of v).field.number ≡ n) × AreNumbered (n + 1) values
 
 abbrev pub pss_values : PssParameters → List FieldValue
-pss_values p = hash_field p.hash ∷ mask_gen_field p.mask_gen ∷ salt_len_field p.salt_len ∷ trailer_field p.trailer_field ∷ []
+pss_values p =
+    hash_field p.hash ∷ mask_gen_field p.mask_gen ∷ salt_len_field p.salt_len ∷ trailer_field p.trailer_field ∷ []
 
 abbrev pub oaep_values : OaepParameters → List FieldValue
 oaep_values p = hash_field p.hash ∷ mask_gen_field p.mask_gen ∷ p_source_field p.p_source ∷ []

@@ -25,15 +25,20 @@ AllFit fields = (all : List ℕ) × AllExplicit fields all × (length all ≤ li
 
 -- The encoding is the spelling under exactly one mask, which is below two to the k.
 abbrev pub HasOneMask : List Field → ℕ → List ℕ → Type 0
-HasOneMask fields k encoding = (mask : ℕ) × (mask < 2 ^ k) × IsSpelling fields mask encoding × ((other : ℕ) → IsSpelling fields other encoding → other ≡ mask)
+HasOneMask fields k encoding =
+    (mask : ℕ) × (mask < 2 ^ k) × IsSpelling fields mask encoding
+    × ((other : ℕ) → IsSpelling fields other encoding → other ≡ mask)
 
 -- Each value has one number of default fields.
 abbrev pub DefaultsAreCounted : {V : Type 0} → (V → List Field) → Type 0
-DefaultsAreCounted {V} fields = (v : V) → (k : ℕ) × HaveDefaults (fields v) k × ((j : ℕ) → HaveDefaults (fields v) j → j ≡ k)
+DefaultsAreCounted {V} fields =
+    (v : V) → (k : ℕ) × HaveDefaults (fields v) k × ((j : ℕ) → HaveDefaults (fields v) j → j ≡ k)
 
 -- Each spelling has exactly one mask, which is below two to the number of default fields.
 abbrev pub EachHasOneMask : {V : Type 0} → (V → List Field) → Type 0
-EachHasOneMask {V} fields = (v : V) (k : ℕ) (encoding : List ℕ) → HaveDefaults (fields v) k → Spellings (λ w. FieldSequence (fields w)) v encoding → HasOneMask (fields v) k encoding
+EachHasOneMask {V} fields =
+    (v : V) (k : ℕ) (encoding : List ℕ) → HaveDefaults (fields v) k
+    → Spellings (λ w. FieldSequence (fields w)) v encoding → HasOneMask (fields v) k encoding
 
 -- Each mask has at most one spelling, and it is a spelling of the value.
 abbrev pub EachMaskHasOne : {V : Type 0} → (V → List Field) → Type 0
@@ -65,13 +70,15 @@ TwoToTheDefaults {V} fields =
     HaveDefaults (fields v) k →
     AllExplicit (fields v) all →
     length all ≤ limit →
-    (encodings : List (List ℕ)) × AreTheMembers (Spellings (λ w. FieldSequence (fields w)) v) (2 ^ k) encodings × ((m : ℕ) → m < 2 ^ k → Masked (fields v) m (slice_index_or encodings m []))
+    (encodings : List (List ℕ)) × AreTheMembers (Spellings (λ w. FieldSequence (fields w)) v) (2 ^ k) encodings
+    × ((m : ℕ) → m < 2 ^ k → Masked (fields v) m (slice_index_or encodings m []))
 
 -- The encoding is the spelling under this mask and under no other; each spelling of the value has exactly one mask.
 pub record StandsUnder {V : Type 0} (fields : V → List Field) (v : V) (mask : ℕ) (encoding : List ℕ) : Type 0 where
   pub spelling : IsSpelling (fields v) mask encoding
   pub no_other : (other : ℕ) → IsSpelling (fields v) other encoding → other ≡ mask
-  pub each_once : (k : ℕ) (other : List ℕ) → HaveDefaults (fields v) k → Spellings (λ w. FieldSequence (fields w)) v other → HasOneMask (fields v) k other
+  pub each_once : (k : ℕ) (other : List ℕ) → HaveDefaults (fields v) k
+      → Spellings (λ w. FieldSequence (fields w)) v other → HasOneMask (fields v) k other
 
 abbrev pub HasNoSpelling : List Field → ℕ → Type 0
 HasNoSpelling fields mask = (encoding : List ℕ) → IsSpelling fields mask encoding → ⊥
@@ -80,7 +87,8 @@ HasNoSpelling fields mask = (encoding : List ℕ) → IsSpelling fields mask enc
 abbrev pub WhyNoSpelling : List Field → ℕ → ℕ → EncodeError → Type 0
 WhyNoSpelling fields mask room no_encoding = ⊥
 WhyNoSpelling fields mask room too_long = HasNoSpelling fields mask
-WhyNoSpelling fields mask room no_room = (encoding : List ℕ) × IsSpelling fields mask encoding × (room < length encoding)
+WhyNoSpelling fields mask room no_room =
+    (encoding : List ℕ) × IsSpelling fields mask encoding × (room < length encoding)
 WhyNoSpelling fields mask room another = ⊥
 
 abbrev pub IsSpellingError : List Field → ℕ → ℕ → Error → Type 0
@@ -91,11 +99,14 @@ encodings_in encodings = map (λ encoding. encoding.items) encodings.items
 
 -- If every spelling is within the limit, there are two to the number of default fields.
 abbrev pub HasTwoToTheDefaults : {V : Type 0} → (V → List Field) → V → Type 0
-HasTwoToTheDefaults fields v = (k : ℕ) → HaveDefaults (fields v) k → AllFit (fields v) → HasMembers (Spellings (λ w. FieldSequence (fields w)) v) (2 ^ k)
+HasTwoToTheDefaults fields v =
+    (k : ℕ) → HaveDefaults (fields v) k → AllFit (fields v)
+    → HasMembers (Spellings (λ w. FieldSequence (fields w)) v) (2 ^ k)
 
 -- The first n spellings, each at the index that is its mask.
 abbrev pub AreUnder : List Field → ℕ → List (List ℕ) → Type 0
-AreUnder fields n encodings = (length encodings ≡ n) × ((mask : ℕ) → mask < n → IsSpelling fields mask (slice_index_or encodings mask []))
+AreUnder fields n encodings =
+    (length encodings ≡ n) × ((mask : ℕ) → mask < n → IsSpelling fields mask (slice_index_or encodings mask []))
 
 -- The number of masks of a value all of whose spellings are within the limit.
 abbrev pub AreMasks : List Field → ℕ → Type 0
@@ -104,7 +115,8 @@ AreMasks fields n = (k : ℕ) × HaveDefaults fields k × (n ≡ 2 ^ k) × AllFi
 -- The encodings are all spellings of the value, none twice: each at the index that is its mask, so the shortest is the
 -- first.
 pub record AreAllSpellings {V : Type 0} (fields : V → List Field) (v : V) (encodings : List (List ℕ)) : Type 0 where
-  pub members : (k : ℕ) → HaveDefaults (fields v) k → AreTheMembers (Spellings (λ w. FieldSequence (fields w)) v) (2 ^ k) encodings
+  pub members : (k : ℕ) → HaveDefaults (fields v) k
+      → AreTheMembers (Spellings (λ w. FieldSequence (fields w)) v) (2 ^ k) encodings
   pub under : (mask : ℕ) → mask < length encodings → IsSpelling (fields v) mask (slice_index_or encodings mask [])
   pub shortest : IsShortest (λ w. FieldSequence (fields w)) v (slice_index_or encodings 0 [])
 

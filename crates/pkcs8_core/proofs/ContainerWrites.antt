@@ -1,8 +1,10 @@
 -- Writing of containers: each value has an encoding, and no more than one.
-use Rattle.std.proofs.Common.{◌≡◌, ℕ, List, [], ◌∷◌, ◌++◌, ◌<◌, ◌≤◌, ◌+◌, ◌^◌, length, length-append, take, arith, Option, Some, None}
+use Rattle.std.proofs.Common.{◌≡◌, ℕ, List, [], ◌∷◌, ◌++◌, ◌<◌, ◌≤◌, ◌+◌, ◌^◌, length, length-append, take, arith}
+use Rattle.std.proofs.Common.{Option, Some, None}
 use Rattle.std.specs.Prelude.{Result, Ok, Err, IfOk, IfErr}
 use Rattle.std.specs.Option.{option_map}
-use Rattle.der_core.specs.Document.{Means, HasEncoding, IsAlone, IsShortest, WhyNotWritten, EncodeError, no_encoding, too_long, no_room, another}
+use Rattle.der_core.specs.Document.{Means, HasEncoding, IsAlone, IsShortest, WhyNotWritten, EncodeError, no_encoding}
+use Rattle.der_core.specs.Document.{too_long, no_room, another}
 use Rattle.der_core.specs.Integer.{Small}
 use Rattle.der_core.specs.OctetString.{OctetContents, OctetString}
 use Rattle.der_core.specs.Laws.OctetString.{octets_at_most_one, octet_string_at_most_one}
@@ -16,7 +18,8 @@ use Rattle.der_core.specs.Laws.Encodings.{tlv_at_most_one, tlv_made, joins_at_mo
 use Rattle.der_core.specs.Laws.Integer.{small_at_most_one}
 use Rattle.spki_core.specs.AlgorithmIdentifier.{PlainAlgorithm, written_plain}
 use Rattle.spki_core.specs.Laws.AlgorithmEncodings.{plain_at_most_one, optional_at_most_one}
-use Rattle.pkcs8_core.specs.Container.{Info, AttributesEncoding, InfoContents, PrivateKeyInfo, HasInfo, written_info, WhyContainerNotWritten}
+use Rattle.pkcs8_core.specs.Container.{Info, AttributesEncoding, InfoContents, PrivateKeyInfo, HasInfo, written_info}
+use Rattle.pkcs8_core.specs.Container.{WhyContainerNotWritten}
 use Rattle.pkcs8_core.specs.Laws.Container.{info_relates}
 use Rattle.pkcs8_core.specs.Held.{attributes_of, info_of}
 use Rattle.pkcs8_core.specs.declared.attributes.Attributes.{Attributes}
@@ -34,49 +37,79 @@ use Rattle.std.specs.Prelude.{OnOk}
 pub info_at_most_one : (info : Info) → AtMostOne (PrivateKeyInfo info)
 info_at_most_one info =
     tlv_at_most_one 48 (InfoContents info)
-    (joins_at_most_one (Small 0 ∷ PlainAlgorithm info.algorithm ∷ OctetString info.private_key ∷ Optional AttributesEncoding info.attributes ∷ []) (
+    (joins_at_most_one (Small 0 ∷ PlainAlgorithm info.algorithm ∷ OctetString info.private_key
+    ∷ Optional AttributesEncoding info.attributes ∷ []) (
       small_at_most_one 0,
       (
         plain_at_most_one info.algorithm,
         (
           octet_string_at_most_one info.private_key,
-          (optional_at_most_one AttributesEncoding (λ o. tlv_at_most_one 160 (OctetContents o) (octets_at_most_one o)) info.attributes, tt),
+          (
+            optional_at_most_one AttributesEncoding (λ o. tlv_at_most_one 160 (OctetContents o) (octets_at_most_one o))
+                info.attributes,
+            tt,
+          ),
         ),
       ),
     ))
 
 pub has_encoding : (info : Info) → HasInfo info → length (written_info info) < 2 ^ 128 → HasEncoding PrivateKeyInfo info
-has_encoding info has few = let made = tlv_made 48 (InfoContents info) (written_info info) (info_relates info has few) few in (made.0, made.1)
+has_encoding info has few =
+    let made = tlv_made 48 (InfoContents info) (written_info info) (info_relates info has few) few in (made.0, made.1)
 
-pub unwritten : (has : Type 0) (info : Info) (room : ℕ) → HasEncoding PrivateKeyInfo info → (k : EncodeError) → WhyNotWritten has PrivateKeyInfo info room k → WhyContainerNotWritten info room k
+pub unwritten : (has : Type 0) (info : Info) (room : ℕ) → HasEncoding PrivateKeyInfo info → (k : EncodeError)
+    → WhyNotWritten has PrivateKeyInfo info room k → WhyContainerNotWritten info room k
 unwritten has info room some no_encoding h = h some.0 some.1
 unwritten has info room some too_long h = h.1
 unwritten has info room some no_room h = (h.0, h.1.spells, h.2)
 unwritten has info room some another h = h
 
-pub if_unwritten : {A : Type 0} (has : Type 0) (info : Info) (room : ℕ) → HasEncoding PrivateKeyInfo info → (r : Result A Error) → IfErr r (λ e. WhyNotWritten has PrivateKeyInfo info room (encode_error e.kind))
+pub if_unwritten : {A : Type 0} (has : Type 0) (info : Info) (room : ℕ) → HasEncoding PrivateKeyInfo info
+    → (r : Result A Error) → IfErr r (λ e. WhyNotWritten has PrivateKeyInfo info room (encode_error e.kind))
     → IfErr r (λ e. WhyContainerNotWritten info room (encode_error e.kind))
 if_unwritten has info room some (Ok x) h = tt
 if_unwritten has info room some (Err e) h = unwritten has info room some (encode_error e.kind) h
 
-pub alone : (info : Info) (r : Result ℕ Error) (encoding old new : List ℕ) → IfOk r (λ n. (n ≡ length encoding) × (new ≡ encoding ++ drop n old)) → OnOk r (IsShortest PrivateKeyInfo info encoding)
+pub alone : (info : Info) (r : Result ℕ Error) (encoding old new : List ℕ)
+    → IfOk r (λ n. (n ≡ length encoding) × (new ≡ encoding ++ drop n old))
+    → OnOk r (IsShortest PrivateKeyInfo info encoding)
     → IfOk r (λ n. Means PrivateKeyInfo (take n new) info × IsAlone PrivateKeyInfo info (take n new))
 alone info (Err e) encoding old new h s = tt
 alone info (Ok n) encoding old new h s =
     rw (front_is encoding old new n h.0 h.1) (s.spells, λ other p. info_at_most_one info other encoding p.1 s.spells.1)
 
 -- What a container holds is far shorter than 2 ^ 128 octets, so it has an encoding.
-pub encoding_held : (info : PrivateKeyInfoRef) → HasOptional AreBytes (info_of info).attributes → length (written_optional (λ (o : List ℕ). tlv 160 o) (info_of info).attributes) ≤ 2 ^ 64 + 128 → HasEncoding PrivateKeyInfo (info_of info)
+pub encoding_held : (info : PrivateKeyInfoRef) → HasOptional AreBytes (info_of info).attributes
+    → length (written_optional (λ (o : List ℕ). tlv 160 o) (info_of info).attributes) ≤ 2 ^ 64 + 128
+    → HasEncoding PrivateKeyInfo (info_of info)
 encoding_held info attributes few_attributes =
     let a = written_plain (algorithm_of info.algorithm) in
     let k = tlv 4 (octets_of info.private_key) in
     let t = written_optional (λ x. tlv 160 x) (info_of info).attributes in
     let v = tlv 2 (integer_contents (0 ∷ [])) in
-    let few_key : length k ≤ limit + 128 = tlv_short 4 limit (octets_of info.private_key) info.private_key.bounded (omega arith) in
+    let few_key : length k ≤ limit + 128 =
+    tlv_short 4 limit (octets_of info.private_key) info.private_key.bounded (omega arith) in
     let few_version : length v ≤ 130 = tlv_short 2 2 (integer_contents (0 ∷ [])) (omega arith) (omega arith) in
-    has_encoding (info_of info) (omega arith, (plain_held info.algorithm, (are_bytes (octets_of info.private_key) info.private_key.octets, attributes)))
-    (omega (arith, length-append v (a ++ (k ++ t)), length-append a (k ++ t), length-append k t, plain_short info.algorithm, few_key, few_version, few_attributes))
+    has_encoding (info_of info) (
+      omega arith,
+      (plain_held info.algorithm, (are_bytes (octets_of info.private_key) info.private_key.octets, attributes)),
+    )
+    (omega (
+      arith,
+      length-append v (a ++ (k ++ t)),
+      length-append a (k ++ t),
+      length-append k t,
+      plain_short info.algorithm,
+      few_key,
+      few_version,
+      few_attributes,
+    ))
 
-pub attributes_held : (a : Option Attributes) → HasOptional AreBytes (option_map attributes_of a) × (length (written_optional (λ (o : List ℕ). tlv 160 o) (option_map attributes_of a)) ≤ 2 ^ 64 + 128)
+pub attributes_held : (a : Option Attributes)
+    → HasOptional AreBytes (option_map attributes_of a)
+    × (length (written_optional (λ (o : List ℕ). tlv 160 o) (option_map attributes_of a)) ≤ 2 ^ 64 + 128)
 attributes_held None = (tt, omega arith)
-attributes_held (Some a) = (are_bytes a.bytes.now a.octets, let s = tlv_short 160 (2 ^ 64 - 1) a.bytes.now (omega (arith, a.short)) (omega arith) in omega (arith, s))
+attributes_held (Some a) = (
+  are_bytes a.bytes.now a.octets,
+  let s = tlv_short 160 (2 ^ 64 - 1) a.bytes.now (omega (arith, a.short)) (omega arith) in omega (arith, s),
+)

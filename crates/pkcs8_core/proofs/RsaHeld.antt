@@ -18,18 +18,25 @@ use Rattle.pkcs8_core.specs.Laws.ContainerFaults.{rsa_is}
 use Rattle.pkcs8_core.specs.Rsa.{HoldsRsa, RsaPrivateKeyInfo, rsa_encryption}
 
 module _ (info : Info) (q : List ℕ) (same : q ≡ info.private_key) (agrees : info.algorithm ≡ rsa_encryption) where
-  pub only_held : {X : Type 0} (value : X → PrivateKey (List ℕ)) (r : Result X Error) → IfOk r (λ x. IsTheMeaning RsaPrivateKey q (value x)) → IfOk r (λ x. IsTheOnly (HoldsRsa info) (value x))
+  pub only_held : {X : Type 0} (value : X → PrivateKey (List ℕ)) (r : Result X Error)
+      → IfOk r (λ x. IsTheMeaning RsaPrivateKey q (value x)) → IfOk r (λ x. IsTheOnly (HoldsRsa info) (value x))
   only_held value (Ok x) f = ((agrees, rw (← same) f.0), λ other h. f.1 other (rw same h.1))
   only_held value (Err e) f = tt
 
-  pub none_held : {X : Type 0} (r : Result X Error) → OnErr r ((key : PrivateKey (List ℕ)) → Means RsaPrivateKey q key → ⊥) → OnErr r ((key : PrivateKey (List ℕ)) → HoldsRsa info key → ⊥)
+  pub none_held : {X : Type 0} (r : Result X Error)
+      → OnErr r ((key : PrivateKey (List ℕ)) → Means RsaPrivateKey q key → ⊥)
+      → OnErr r ((key : PrivateKey (List ℕ)) → HoldsRsa info key → ⊥)
   none_held (Ok x) f = tt
   none_held (Err e) f = λ key h. f key (rw same h.1)
 
-  pub rejected_held : {X : Type 0} (r : Result X Error) → IfErr r (IsAsn1 (λ e. Rejects e.kind (MayAllocate q) ((key : PrivateKey (List ℕ)) → Means RsaPrivateKey q key → ⊥)))
-      → IfErr r (IsAsn1 (λ e. Rejects e.kind (MayAllocate info.private_key) ((key : PrivateKey (List ℕ)) → HoldsRsa info key → ⊥)))
+  pub rejected_held : {X : Type 0} (r : Result X Error)
+      → IfErr r (IsAsn1 (λ e. Rejects e.kind (MayAllocate q)
+      ((key : PrivateKey (List ℕ)) → Means RsaPrivateKey q key → ⊥)))
+      → IfErr r (IsAsn1 (λ e. Rejects e.kind (MayAllocate info.private_key)
+      ((key : PrivateKey (List ℕ)) → HoldsRsa info key → ⊥)))
   rejected_held (Ok x) f = tt
-  rejected_held (Err e) f = asn1_as (λ a. ⊎_elim (λ w. inl (w.0, rw (← same) w.1)) (λ w. inr (w.0, λ key h. w.1 key (rw same h.1)))) e f
+  rejected_held (Err e) f =
+      asn1_as (λ a. ⊎_elim (λ w. inl (w.0, rw (← same) w.1)) (λ w. inr (w.0, λ key h. w.1 key (rw same h.1)))) e f
 
   -- The algorithm agrees, so the fault is that of the key.
   key_fault : (kind : ErrorKind) → RsaFault kind info → RsaPrivateKeyFault kind q
@@ -43,19 +50,24 @@ module _ (info : Info) (q : List ℕ) (same : q ≡ info.private_key) (agrees : 
   fault_held (Ok x) f = λ kind fault. f kind (key_fault kind fault)
   fault_held (Err e) f = asn1_as (λ a. the_fault_held a.kind) e f
 
-  pub faulty_held : {X : Type 0} (r : Result X Error) → ErrsOrAsks RsaPrivateKeyFault q (MayAllocate q) r → ErrsOrAsks RsaFault info ((info.algorithm ≡ rsa_encryption) × MayAllocate info.private_key) r
+  pub faulty_held : {X : Type 0} (r : Result X Error) → ErrsOrAsks RsaPrivateKeyFault q (MayAllocate q) r
+      → ErrsOrAsks RsaFault info ((info.algorithm ≡ rsa_encryption) × MayAllocate info.private_key) r
   faulty_held (Ok x) f = λ kind fault. f kind (key_fault kind fault)
-  faulty_held (Err e) f = asn1_as (λ a. ⊎_elim (λ w. inl (w.0, (agrees, rw (← same) w.1))) (λ fault. inr (the_fault_held a.kind fault))) e f
+  faulty_held (Err e) f =
+      asn1_as (λ a. ⊎_elim (λ w. inl (w.0, (agrees, rw (← same) w.1))) (λ fault. inr (the_fault_held a.kind fault))) e f
 
 -- What is said of the container that an encoding means, is said of the encoding.
 module _ (encoding : List ℕ) (info : Info) (is : IsTheMeaning PrivateKeyInfo encoding info) where
   held : (key : PrivateKey (List ℕ)) → Means RsaPrivateKeyInfo encoding key → HoldsRsa info key
   held key m = subst (λ i. HoldsRsa i key) (is.1 m.1.0 (m.0, m.1.1)) m.1.2
 
-  pub only_in : {X : Type 0} (value : X → PrivateKey (List ℕ)) (r : Result X Error) → IfOk r (λ x. IsTheOnly (HoldsRsa info) (value x)) → IfOk r (λ x. IsTheMeaning RsaPrivateKeyInfo encoding (value x))
+  pub only_in : {X : Type 0} (value : X → PrivateKey (List ℕ)) (r : Result X Error)
+      → IfOk r (λ x. IsTheOnly (HoldsRsa info) (value x))
+      → IfOk r (λ x. IsTheMeaning RsaPrivateKeyInfo encoding (value x))
   only_in value (Ok x) f = ((is.0.0, (info, is.0.1, f.0)), λ key m. f.1 key (held key m))
   only_in value (Err e) f = tt
 
-  pub none_in : {X : Type 0} (r : Result X Error) → OnErr r ((key : PrivateKey (List ℕ)) → HoldsRsa info key → ⊥) → OnErr r (IsNoSentence RsaPrivateKeyInfo encoding)
+  pub none_in : {X : Type 0} (r : Result X Error) → OnErr r ((key : PrivateKey (List ℕ)) → HoldsRsa info key → ⊥)
+      → OnErr r (IsNoSentence RsaPrivateKeyInfo encoding)
   none_in (Ok x) f = tt
   none_in (Err e) f = λ key m. f key (held key m)

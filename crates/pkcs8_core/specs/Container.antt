@@ -21,7 +21,8 @@ AttributesEncoding octets encoding = Tlv (context_tag 0) (OctetContents octets) 
 
 abbrev pub InfoContents : Info → List ℕ → Type 0
 InfoContents info contents =
-    Joins (Small 0 ∷ PlainAlgorithm info.algorithm ∷ OctetString info.private_key ∷ Optional AttributesEncoding info.attributes ∷ []) contents
+    Joins (Small 0 ∷ PlainAlgorithm info.algorithm ∷ OctetString info.private_key
+    ∷ Optional AttributesEncoding info.attributes ∷ []) contents
 
 -- PrivateKeyInfo ::= SEQUENCE { version INTEGER (0), privateKeyAlgorithm AlgorithmIdentifier, privateKey OCTET STRING,
 -- attributes [0] IMPLICIT Attributes OPTIONAL }
@@ -30,15 +31,20 @@ PrivateKeyInfo info encoding = Tlv sequence_tag (InfoContents info) encoding
 
 -- Which values have contents, and the contents that are written.
 abbrev pub HasInfo : Info → Type 0
-HasInfo info = (0 < 256) × (HasPlain info.algorithm × (AreBytes info.private_key × HasOptional AreBytes info.attributes))
+HasInfo info =
+    (0 < 256) × (HasPlain info.algorithm × (AreBytes info.private_key × HasOptional AreBytes info.attributes))
 
 abbrev pub written_info : Info → List ℕ
 written_info info =
-    tlv integer_tag (integer_contents (0 ∷ [])) ++ (written_plain info.algorithm ++ (tlv octet_string_tag info.private_key ++ written_optional (λ octets. tlv (context_tag 0) octets) info.attributes))
+    tlv integer_tag (integer_contents (0 ∷ []))
+    ++ (written_plain info.algorithm
+    ++ (tlv octet_string_tag info.private_key
+    ++ written_optional (λ octets. tlv (context_tag 0) octets) info.attributes))
 
 -- Why a container isn't written: it has no encoding within the limit, or its encoding is longer than the room.
 abbrev pub WhyContainerNotWritten : Info → ℕ → EncodeError → Type 0
 WhyContainerNotWritten info room no_encoding = ⊥
 WhyContainerNotWritten info room too_long = (encoding : List ℕ) → Means PrivateKeyInfo encoding info → ⊥
-WhyContainerNotWritten info room no_room = (encoding : List ℕ) × Means PrivateKeyInfo encoding info × (room < length encoding)
+WhyContainerNotWritten info room no_room =
+    (encoding : List ℕ) × Means PrivateKeyInfo encoding info × (room < length encoding)
 WhyContainerNotWritten info room another = ⊥

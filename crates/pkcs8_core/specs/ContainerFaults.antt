@@ -3,7 +3,8 @@ use Rattle.std.specs.Prelude.{ℕ, List, ◌≡◌, ◌⊎◌}
 use Rattle.der_core.specs.declared.error.ErrorKind.{ErrorKind}
 use Rattle.der_core.specs.declared.error.ErrorKind.TheVariants.{Value}
 use Rattle.der_core.specs.Document.{Means}
-use Rattle.der_core.specs.Faults.{EncodingFault, ThenFault, TaggedLastFault, WholeFault, SmallFault, NoFault, ExpectedFault}
+use Rattle.der_core.specs.Faults.{EncodingFault, ThenFault, TaggedLastFault, WholeFault, SmallFault, NoFault}
+use Rattle.der_core.specs.Faults.{ExpectedFault}
 use Rattle.der_core.specs.Integer.{Small, SmallContents}
 use Rattle.der_core.specs.OctetString.{OctetString}
 use Rattle.der_core.specs.Tags.{integer, octet_string, sequence}
@@ -45,6 +46,8 @@ abbrev pub RsaFault : ErrorKind → Info → Type 0
 RsaFault kind info =
     NotRsa info.algorithm kind ⊎ ((info.algorithm ≡ rsa_encryption) × RsaPrivateKeyFault kind info.private_key)
 
--- The first fault of a whole slice, as a container of an RSA key: that of the container, or else why it holds no such key.
+-- The first fault of a whole slice, as a container of an RSA key: that of the container, or else why it holds no such
+-- key.
 abbrev pub RsaPrivateKeyInfoFault : ErrorKind → List ℕ → Type 0
-RsaPrivateKeyInfoFault kind encoding = PrivateKeyInfoFault kind encoding ⊎ ((info : Info) × Means PrivateKeyInfo encoding info × RsaFault kind info)
+RsaPrivateKeyInfoFault kind encoding =
+    PrivateKeyInfoFault kind encoding ⊎ ((info : Info) × Means PrivateKeyInfo encoding info × RsaFault kind info)

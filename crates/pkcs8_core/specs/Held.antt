@@ -15,4 +15,9 @@ abbrev pub attributes_of : Attributes → List ℕ
 attributes_of attributes = attributes.bytes.now
 
 abbrev pub info_of : PrivateKeyInfoRef → Info
-info_of info = record { algorithm = algorithm_of info.algorithm; private_key = octets_of info.private_key; attributes = option_map slice_now info.attributes }
+info_of info =
+    record {
+      algorithm = algorithm_of info.algorithm;
+      private_key = octets_of info.private_key;
+      attributes = option_map slice_now info.attributes;
+    }

@@ -26,4 +26,5 @@ RsaPrivateKeyInfo key encoding = (info : Info) × PrivateKeyInfo info encoding �
 pub data NotRsa (a : Algorithm TagAndContents) (e : ErrorKind) : Type 0 where
   unknown : e ≡ kind.OidUnknown → a.oid ≢ id_rsa_encryption → NotRsa a e
   missing : e ≡ kind.ParametersMissing → a.oid ≡ id_rsa_encryption → a.parameters ≡ None → NotRsa a e
-  other : (tag : Tag) (v : TagAndContents) → e ≡ kind.Value tag → a.oid ≡ id_rsa_encryption → a.parameters ≡ Some v → tag.octet ≡ v.tag → v ≢ null_value → NotRsa a e
+  other : (tag : Tag) (v : TagAndContents) → e ≡ kind.Value tag → a.oid ≡ id_rsa_encryption → a.parameters ≡ Some v
+      → tag.octet ≡ v.tag → v ≢ null_value → NotRsa a e

@@ -1,5 +1,6 @@
 -- Reading an encoding of any tag.
-use Rattle.std.proofs.Common.{◌≡◌, ℕ, ◌<◌, ◌≤◌, List, [], ◌∷◌, ◌++◌, length, take, drop, refl, sym, ap, ◌∙◌, arith, length-take, append_assoc, inr, ⊎_elim, Ok, Err, Some, None}
+use Rattle.std.proofs.Common.{◌≡◌, ℕ, ◌<◌, ◌≤◌, List, [], ◌∷◌, ◌++◌, length, take, drop, refl, sym, ap, ◌∙◌, arith}
+use Rattle.std.proofs.Common.{length-take, append_assoc, inr, ⊎_elim, Ok, Err, Some, None}
 use Rattle.std.proofs.lemmas.Bool.Decides.{nat_tests}
 use Rattle.std.proofs.lemmas.List.{take-append-drop}
 use Rattle.std.specs.Prelude.{nat_lt}
@@ -22,7 +23,8 @@ use Rattle.spki_core.specs.Any.{Any}
 
 front_fails : (n : ℕ) (left : List ℕ) (e : ErrorKind) → front_of n left ≡ Err e → (length left < n) × (e ≡ Incomplete)
 front_fails n left e is =
-    ⊎_elim (λ w. let few : length left < n = grind (arith, nat_tests, w.0) in let kind = w.1 in (few, cc)) (λ w. let no = w.1 in cc)
+    ⊎_elim (λ w. let few : length left < n = grind (arith, nat_tests, w.0) in let kind = w.1 in (few, cc))
+    (λ w. let no = w.1 in cc)
     (chosen (nat_lt (length left) n) _ _ _ is)
 
 front_gives : (n : ℕ) (left c rest : List ℕ) → front_of n left ≡ Ok (c, rest) → (length c ≡ n) × (left ≡ c ++ rest)
@@ -31,8 +33,11 @@ front_gives n left c rest is =
     (λ w.
     let parts = ok_pair (take n left) c (drop n left) rest w.1 in
     let enough : n ≤ length left = grind (arith, nat_tests, w.0) in
-    let len : length (take n left) ≡ n = simp length-take (omega arith) in
-    (sym (ap length parts.0) ∙ len, sym (take-append-drop n left) ∙ ap (λ l. l ++ drop n left) parts.0 ∙ ap (λ l. c ++ l) parts.1))
+    let len : length (take n left) ≡ n = simp length-take (omega arith) in (
+      sym (ap length parts.0) ∙ len,
+      sym (take-append-drop n left) ∙ ap (λ l. l ++ drop n left) parts.0
+          ∙ ap (λ l. c ++ l) parts.1,
+    ))
     (chosen (nat_lt (length left) n) _ _ _ is)
 
 bytes_rest : (a b : List ℕ) → AreBytes (a ++ b) → AreBytes b
@@ -44,11 +49,15 @@ bytes_front [] b o = tt
 bytes_front (x ∷ a) b o = (o.0, bytes_front a b o.1)
 
 -- no header
-pub header_fails : {asked : List ℕ → Type 0} (before after : Input) (e : ErrorKind) → read_from before header_at ≡ Err e → after ≡ None → FailsBy AnyFault asked e before after
-header_fails before after e read failed = (failed, (λ none. let kind = rw none at read in cc), λ i is. inr (headless (rw is at read)))
+pub header_fails : {asked : List ℕ → Type 0} (before after : Input) (e : ErrorKind) → read_from before header_at ≡ Err e
+    → after ≡ None → FailsBy AnyFault asked e before after
+header_fails before after e read failed =
+    (failed, (λ none. let kind = rw none at read in cc), λ i is. inr (headless (rw is at read)))
 
 -- no room for the contents
-pub room_fails : {asked : List ℕ → Type 0} (before mid after : Input) (e : ErrorKind) (t n : ℕ) → AreBytes (left_in before) → Headed before mid t n → read_from mid (front_of n) ≡ Err e → after ≡ None → FailsBy AnyFault asked e before after
+pub room_fails : {asked : List ℕ → Type 0} (before mid after : Input) (e : ErrorKind) (t n : ℕ)
+    → AreBytes (left_in before) → Headed before mid t n → read_from mid (front_of n) ≡ Err e → after ≡ None
+    → FailsBy AnyFault asked e before after
 room_fails before mid after e t n bytes head short failed = (
   failed,
   (λ none. let no = rw none at head.1 in cc),
@@ -71,12 +80,22 @@ any_read (Some i) mid after t n c octets head got =
     let whole = header_at-sound i head.0 t n octets head.1 in
     let part = front_gives n head.0 c got.0 (rw head.2 at got.1) in
     let s = whole.0 in
-    let all : i ≡ (t ∷ s ++ c) ++ got.0 = whole.2 ∙ ap (λ l. t ∷ s ++ l) part.1 ∙ ap (λ l. t ∷ l) (sym (append_assoc s c got.0)) in
+    let all : i ≡ (t ∷ s ++ c) ++ got.0 =
+    whole.2 ∙ ap (λ l. t ∷ s ++ l) part.1 ∙ ap (λ l. t ∷ l) (sym (append_assoc s c got.0)) in
     let split : i ≡ (t ∷ s) ++ (c ++ got.0) = whole.2 ∙ ap (λ l. t ∷ s ++ l) part.1 in
     let bytes : AreBytes c = bytes_front c got.0 (bytes_rest (t ∷ s) (c ++ got.0) (rw split at octets)) in (
       t ∷ s ++ c,
       got.0,
       ap (λ l. Some l) all,
       got.2,
-      ((whole.4, bytes), record { octets = s; contents = c; counted = rw part.0 whole.1; holds = refl; written = refl }),
+      (
+        (whole.4, bytes),
+        record {
+          octets = s;
+          contents = c;
+          counted = rw part.0 whole.1;
+          holds = refl;
+          written = refl;
+        },
+      ),
     )

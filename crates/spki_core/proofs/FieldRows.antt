@@ -1,12 +1,15 @@
 -- Explicit tags, and fields with defaults, at worked examples.
-use Rattle.std.proofs.Common.{ℕ, List, [], ◌∷◌, ◌++◌, ◌≡◌, ◌<◌, ◌+◌, inl, inr, length, map, refl, sym, ◌∙◌, arith, length-append}
+use Rattle.std.proofs.Common.{ℕ, List, [], ◌∷◌, ◌++◌, ◌≡◌, ◌<◌, ◌+◌, inl, inr, length, map, refl, sym, ◌∙◌, arith}
+use Rattle.std.proofs.Common.{length-append}
 use Rattle.der_core.specs.Integer.{Small}
 use Rattle.der_core.specs.Laws.Integer.{small_delimited}
 use Rattle.der_core.specs.Laws.Lists.{same_cons}
 use Rattle.der_core.specs.Encodings.{Joins}
-use Rattle.der_core.specs.Laws.WrittenOut.{known_tlv, known_front, known_whole, small_byte, no_bytes_rejected, other_tag_rejected, no_part_rejected}
+use Rattle.der_core.specs.Laws.WrittenOut.{known_tlv, known_front, known_whole, small_byte, no_bytes_rejected}
+use Rattle.der_core.specs.Laws.WrittenOut.{other_tag_rejected, no_part_rejected}
 use Rattle.spki_core.specs.ContextSpecific.{Numbered, ContextSpecific}
-use Rattle.spki_core.specs.Explicit.{Field, field, Defaultable, FieldSequence, HaveDefaults, MaskedField, Masked, AllExplicit, FieldRead, FieldRejected, left_out, written, forced}
+use Rattle.spki_core.specs.Explicit.{Field, field, Defaultable, FieldSequence, HaveDefaults, MaskedField, Masked}
+use Rattle.spki_core.specs.Explicit.{AllExplicit, FieldRead, FieldRejected, left_out, written, forced}
 use Rattle.spki_core.specs.Laws.KnownFields.{left_out_field, written_field, field_written}
 
 -- a203020114
@@ -39,37 +42,55 @@ default_left_out = known_tlv 0x30 [] (left_out_field (salt 20) [] refl refl) (om
 
 -- 3005a203020114
 default_written : FieldSequence (salt 20 ∷ []) (0x30 ∷ 0x05 ∷ 0xa2 ∷ 0x03 ∷ 0x02 ∷ 0x01 ∷ 0x14 ∷ [])
-default_written = known_tlv 0x30 (0xa2 ∷ 0x03 ∷ 0x02 ∷ 0x01 ∷ 0x14 ∷ []) (written_field (salt 20) (0x02 ∷ 0x01 ∷ 0x14 ∷ []) [] (small_byte 20 (omega arith)) (omega arith) refl) (omega arith)
+default_written =
+    known_tlv 0x30 (0xa2 ∷ 0x03 ∷ 0x02 ∷ 0x01 ∷ 0x14 ∷ [])
+    (written_field (salt 20) (0x02 ∷ 0x01 ∷ 0x14 ∷ []) [] (small_byte 20 (omega arith)) (omega arith) refl)
+    (omega arith)
 
 -- 3005a203020115
 another_value_written : FieldSequence (salt 21 ∷ []) (0x30 ∷ 0x05 ∷ 0xa2 ∷ 0x03 ∷ 0x02 ∷ 0x01 ∷ 0x15 ∷ [])
-another_value_written = known_tlv 0x30 (0xa2 ∷ 0x03 ∷ 0x02 ∷ 0x01 ∷ 0x15 ∷ []) (written_field (salt 21) (0x02 ∷ 0x01 ∷ 0x15 ∷ []) [] (small_byte 21 (omega arith)) (omega arith) refl) (omega arith)
+another_value_written =
+    known_tlv 0x30 (0xa2 ∷ 0x03 ∷ 0x02 ∷ 0x01 ∷ 0x15 ∷ [])
+    (written_field (salt 21) (0x02 ∷ 0x01 ∷ 0x15 ∷ []) [] (small_byte 21 (omega arith)) (omega arith) refl)
+    (omega arith)
 
 -- What an encoding says of the tag of the field, of what stands in it, and of what follows it.
 field_and_rest : (f : Field) (u : ℕ) (c rest : List ℕ) → length ((u ∷ length c ∷ c) ++ rest) < 128
-    → FieldSequence (f ∷ []) (0x30 ∷ length ((u ∷ length c ∷ c) ++ rest) ∷ (u ∷ length c ∷ c) ++ rest) → (160 + f.number ≡ u) × f.Inner c × (rest ≡ [])
+    → FieldSequence (f ∷ []) (0x30 ∷ length ((u ∷ length c ∷ c) ++ rest) ∷ (u ∷ length c ∷ c) ++ rest)
+    → (160 + f.number ≡ u) × f.Inner c × (rest ≡ [])
 field_and_rest f u c rest few p =
-    let w : Joins (map Defaultable (f ∷ [])) ((u ∷ length c ∷ c) ++ rest) = known_whole ((u ∷ length c ∷ c) ++ rest) p few in
+    let w : Joins (map Defaultable (f ∷ [])) ((u ∷ length c ∷ c) ++ rest) =
+    known_whole ((u ∷ length c ∷ c) ++ rest) p few in
     field_written f [] u c rest (omega (arith, few, length-append c rest)) tt w
 
 -- 300aa203020114a203020114
-field_twice_rejected : (v : ℕ) → FieldSequence (salt v ∷ []) (0x30 ∷ 0x0a ∷ 0xa2 ∷ 0x03 ∷ 0x02 ∷ 0x01 ∷ 0x14 ∷ 0xa2 ∷ 0x03 ∷ 0x02 ∷ 0x01 ∷ 0x14 ∷ []) → ⊥
-field_twice_rejected v p = let e = (field_and_rest (salt v) 0xa2 (0x02 ∷ 0x01 ∷ 0x14 ∷ []) (0xa2 ∷ 0x03 ∷ 0x02 ∷ 0x01 ∷ 0x14 ∷ []) (omega arith) p).2 in cc
+field_twice_rejected : (v : ℕ) → FieldSequence (salt v ∷ [])
+    (0x30 ∷ 0x0a ∷ 0xa2 ∷ 0x03 ∷ 0x02 ∷ 0x01 ∷ 0x14 ∷ 0xa2 ∷ 0x03 ∷ 0x02 ∷ 0x01 ∷ 0x14 ∷ []) → ⊥
+field_twice_rejected v p =
+    let e =
+    (field_and_rest (salt v) 0xa2 (0x02 ∷ 0x01 ∷ 0x14 ∷ []) (0xa2 ∷ 0x03 ∷ 0x02 ∷ 0x01 ∷ 0x14 ∷ []) (omega arith) p).2
+    in cc
 
 -- 3005a303020114
-another_number_rejected : (v : ℕ) → FieldSequence (salt v ∷ []) (0x30 ∷ 0x05 ∷ 0xa3 ∷ 0x03 ∷ 0x02 ∷ 0x01 ∷ 0x14 ∷ []) → ⊥
-another_number_rejected v p = let e = (field_and_rest (salt v) 0xa3 (0x02 ∷ 0x01 ∷ 0x14 ∷ []) [] (omega arith) p).0 in omega arith
+another_number_rejected : (v : ℕ) → FieldSequence (salt v ∷ []) (0x30 ∷ 0x05 ∷ 0xa3 ∷ 0x03 ∷ 0x02 ∷ 0x01 ∷ 0x14 ∷ [])
+    → ⊥
+another_number_rejected v p =
+    let e = (field_and_rest (salt v) 0xa3 (0x02 ∷ 0x01 ∷ 0x14 ∷ []) [] (omega arith) p).0 in omega arith
 
 -- 3008a206020114020114
-two_encodings_in_one_tag_rejected : (v : ℕ) → FieldSequence (salt v ∷ []) (0x30 ∷ 0x08 ∷ 0xa2 ∷ 0x06 ∷ 0x02 ∷ 0x01 ∷ 0x14 ∷ 0x02 ∷ 0x01 ∷ 0x14 ∷ []) → ⊥
+two_encodings_in_one_tag_rejected : (v : ℕ)
+    → FieldSequence (salt v ∷ []) (0x30 ∷ 0x08 ∷ 0xa2 ∷ 0x06 ∷ 0x02 ∷ 0x01 ∷ 0x14 ∷ 0x02 ∷ 0x01 ∷ 0x14 ∷ []) → ⊥
 two_encodings_in_one_tag_rejected v p =
     let inner = (field_and_rest (salt v) 0xa2 (0x02 ∷ 0x01 ∷ 0x14 ∷ 0x02 ∷ 0x01 ∷ 0x14 ∷ []) [] (omega arith) p).1 in
-    let e = (known_front (0x14 ∷ []) (0x02 ∷ 0x01 ∷ 0x14 ∷ []) (0x02 ∷ 0x01 ∷ 0x14 ∷ 0x02 ∷ 0x01 ∷ 0x14 ∷ []) [] inner refl (omega arith)).2 in
+    let e =
+    (known_front (0x14 ∷ []) (0x02 ∷ 0x01 ∷ 0x14 ∷ []) (0x02 ∷ 0x01 ∷ 0x14 ∷ 0x02 ∷ 0x01 ∷ 0x14 ∷ []) [] inner refl
+    (omega arith)).2 in
     cc
 
 -- 30058203020114
 primitive_tag_rejected : (v : ℕ) → FieldSequence (salt v ∷ []) (0x30 ∷ 0x05 ∷ 0x82 ∷ 0x03 ∷ 0x02 ∷ 0x01 ∷ 0x14 ∷ []) → ⊥
-primitive_tag_rejected v p = let e = (field_and_rest (salt v) 0x82 (0x02 ∷ 0x01 ∷ 0x14 ∷ []) [] (omega arith) p).0 in omega arith
+primitive_tag_rejected v p =
+    let e = (field_and_rest (salt v) 0x82 (0x02 ∷ 0x01 ∷ 0x14 ∷ []) [] (omega arith) p).0 in omega arith
 
 -- 3005a203020114
 another_value_rejected : FieldSequence (salt 21 ∷ []) (0x30 ∷ 0x05 ∷ 0xa2 ∷ 0x03 ∷ 0x02 ∷ 0x01 ∷ 0x14 ∷ []) → ⊥
@@ -102,7 +123,8 @@ another_mask_rejected p =
     let w = known_whole (0xa2 ∷ 0x03 ∷ 0x02 ∷ 0x01 ∷ 0x14 ∷ []) p (omega arith) in
     go w.0 w.1.0 w.1.1 w.1.2 w.1.3.0 w.1.4
   where
-    go : (rest : ℕ) (x y : List ℕ) → MaskedField (salt 20) 0 rest x → y ≡ [] → 0xa2 ∷ 0x03 ∷ 0x02 ∷ 0x01 ∷ 0x14 ∷ [] ≡ x ++ y → ⊥
+    go : (rest : ℕ) (x y : List ℕ) → MaskedField (salt 20) 0 rest x → y ≡ []
+        → 0xa2 ∷ 0x03 ∷ 0x02 ∷ 0x01 ∷ 0x14 ∷ [] ≡ x ++ y → ⊥
     go rest x y (left_out d m e) end all = let l = rw (e, end) at all in cc
     go rest x y (written d m t) end all = omega arith
     go rest x y (forced d m t) end all = d refl
@@ -137,7 +159,8 @@ mask_of_second = known_tlv 0x30 (0xa3 ∷ 0x03 ∷ 0x02 ∷ 0x01 ∷ 0x01 ∷ []
       (
         0xa3 ∷ 0x03 ∷ 0x02 ∷ 0x01 ∷ 0x01 ∷ [],
         [],
-        written refl (omega arith) (known_tlv 0xa3 (0x02 ∷ 0x01 ∷ 0x01 ∷ []) (small_byte 1 (omega arith)) (omega arith)),
+        written refl (omega arith) (known_tlv 0xa3 (0x02 ∷ 0x01 ∷ 0x01 ∷ []) (small_byte 1 (omega arith))
+            (omega arith)),
         (refl, refl),
         refl,
       ),
@@ -176,15 +199,21 @@ one_is_not_both (inr (d, inr (isnt, none))) = isnt refl
 
 -- 3005a203020114, with every field written
 all_explicit : AllExplicit (salt 20 ∷ []) (0x30 ∷ 0x05 ∷ 0xa2 ∷ 0x03 ∷ 0x02 ∷ 0x01 ∷ 0x14 ∷ [])
-all_explicit = known_tlv 0x30 (0xa2 ∷ 0x03 ∷ 0x02 ∷ 0x01 ∷ 0x14 ∷ [])
-    (0xa2 ∷ 0x03 ∷ 0x02 ∷ 0x01 ∷ 0x14 ∷ [], [], known_tlv 0xa2 (0x02 ∷ 0x01 ∷ 0x14 ∷ []) (small_byte 20 (omega arith)) (omega arith), refl, refl) (omega arith)
+all_explicit = known_tlv 0x30 (0xa2 ∷ 0x03 ∷ 0x02 ∷ 0x01 ∷ 0x14 ∷ []) (
+  0xa2 ∷ 0x03 ∷ 0x02 ∷ 0x01 ∷ 0x14 ∷ [],
+  [],
+  known_tlv 0xa2 (0x02 ∷ 0x01 ∷ 0x14 ∷ []) (small_byte 20 (omega arith)) (omega arith),
+  refl,
+  refl,
+) (omega arith)
 
 -- 3000: a field is left out
 left_out_is_not_explicit : (v : ℕ) → AllExplicit (salt v ∷ []) (0x30 ∷ 0x00 ∷ []) → ⊥
 left_out_is_not_explicit v p = no_part_rejected (known_whole [] p (omega arith))
 
 -- a203020115a303020101: the field is read with 21, and a303020101 is left
-field_is_read : FieldRead 2 Small 20 (0xa2 ∷ 0x03 ∷ 0x02 ∷ 0x01 ∷ 0x15 ∷ 0xa3 ∷ 0x03 ∷ 0x02 ∷ 0x01 ∷ 0x01 ∷ []) 21 (0xa3 ∷ 0x03 ∷ 0x02 ∷ 0x01 ∷ 0x01 ∷ [])
+field_is_read : FieldRead 2 Small 20 (0xa2 ∷ 0x03 ∷ 0x02 ∷ 0x01 ∷ 0x15 ∷ 0xa3 ∷ 0x03 ∷ 0x02 ∷ 0x01 ∷ 0x01 ∷ []) 21
+    (0xa3 ∷ 0x03 ∷ 0x02 ∷ 0x01 ∷ 0x01 ∷ [])
 field_is_read = inr (
   0xa2 ∷ 0x03 ∷ 0x02 ∷ 0x01 ∷ 0x15 ∷ [],
   0xa3 ∷ 0x03 ∷ 0x02 ∷ 0x01 ∷ 0x01 ∷ [],
@@ -194,11 +223,13 @@ field_is_read = inr (
 )
 
 -- a303020101: the default is read, and all is left
-default_is_read : FieldRead 2 Small 20 (0xa3 ∷ 0x03 ∷ 0x02 ∷ 0x01 ∷ 0x01 ∷ []) 20 (0xa3 ∷ 0x03 ∷ 0x02 ∷ 0x01 ∷ 0x01 ∷ [])
+default_is_read : FieldRead 2 Small 20 (0xa3 ∷ 0x03 ∷ 0x02 ∷ 0x01 ∷ 0x01 ∷ []) 20
+    (0xa3 ∷ 0x03 ∷ 0x02 ∷ 0x01 ∷ 0x01 ∷ [])
 default_is_read = inl ((λ n. omega (arith, (same_cons n.1).0)), refl, refl)
 
 -- a203020114: it isn't read as left out
-written_is_read : (v : ℕ) → FieldRead 2 Small 20 (0xa2 ∷ 0x03 ∷ 0x02 ∷ 0x01 ∷ 0x14 ∷ []) v (0xa2 ∷ 0x03 ∷ 0x02 ∷ 0x01 ∷ 0x14 ∷ []) → ⊥
+written_is_read : (v : ℕ) → FieldRead 2 Small 20 (0xa2 ∷ 0x03 ∷ 0x02 ∷ 0x01 ∷ 0x14 ∷ []) v
+    (0xa2 ∷ 0x03 ∷ 0x02 ∷ 0x01 ∷ 0x14 ∷ []) → ⊥
 written_is_read v (inl n) = n.0 (0x03 ∷ 0x02 ∷ 0x01 ∷ 0x14 ∷ [], refl)
 written_is_read v (inr (x, y, p, q, e)) =
     let f = known_front (0x02 ∷ 0x01 ∷ 0x14 ∷ []) [] x y p e (omega arith) in

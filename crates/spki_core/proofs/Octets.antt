@@ -1,11 +1,13 @@
 -- Steps of the test for identifiers.
 use Rattle.std.specs.Prelude.{Bool, true, false, ◌==◌, nat_lt}
-use Rattle.std.proofs.Common.{ℕ, zero, suc, List, [], ◌∷◌, ◌≡◌, ◌≢◌, ◌<◌, ◌+◌, ◌⊎◌, inl, inr, length, take, drop, get_or, slice_index, refl, ap, ◌∙◌, arith}
+use Rattle.std.proofs.Common.{ℕ, zero, suc, List, [], ◌∷◌, ◌≡◌, ◌≢◌, ◌<◌, ◌+◌, ◌⊎◌, inl, inr, length, take, drop}
+use Rattle.std.proofs.Common.{get_or, slice_index, refl, ap, ◌∙◌, arith}
 use Rattle.std.proofs.lemmas.List.{at_drop_more}
 use Rattle.std.proofs.lemmas.Bool.Decides.{nat_tests}
 use Rattle.spki_core.specs.IdentifierTest.{ends_well, starts_at}
 
-goes_on : (start : Bool) (b : ℕ) (bs : List ℕ) → (start ≡ false) ⊎ (b ≢ 128) → ends_well start (b ∷ bs) ≡ ends_well (nat_lt b 128) bs
+goes_on : (start : Bool) (b : ℕ) (bs : List ℕ) → (start ≡ false) ⊎ (b ≢ 128)
+    → ends_well start (b ∷ bs) ≡ ends_well (nat_lt b 128) bs
 goes_on start b bs (inl h) = rw h refl
 goes_on true b bs (inr other) = let no : (b == 128) ≡ false = grind (arith, nat_tests) in rw no refl
 goes_on false b bs (inr other) = refl
@@ -13,9 +15,12 @@ goes_on false b bs (inr other) = refl
 after : (c : List ℕ) (i : ℕ) → nat_lt (get_or c i 0) 128 ≡ starts_at c (i + 1)
 after c i = let more : i + 1 ≡ suc i = omega arith in rw more refl
 
-pub next : (c : List ℕ) (i : ℕ) → i < length c → (starts_at c i ≡ false) ⊎ (get_or c i 0 ≢ 128) → ends_well true c ≡ ends_well (starts_at c i) (drop i c)
+pub next : (c : List ℕ) (i : ℕ) → i < length c → (starts_at c i ≡ false) ⊎ (get_or c i 0 ≢ 128)
+    → ends_well true c ≡ ends_well (starts_at c i) (drop i c)
     → ends_well true c ≡ ends_well (starts_at c (i + 1)) (drop (i + 1) c)
-next c i l h is = is ∙ at_drop_more (ends_well (starts_at c i)) c i 0 l ∙ goes_on (starts_at c i) (get_or c i 0) (drop (i + 1) c) h ∙ ap (λ s. ends_well s (drop (i + 1) c)) (after c i)
+next c i l h is =
+    is ∙ at_drop_more (ends_well (starts_at c i)) c i 0 l ∙ goes_on (starts_at c i) (get_or c i 0) (drop (i + 1) c) h
+    ∙ ap (λ s. ends_well s (drop (i + 1) c)) (after c i)
 
 -- What is taken of octets are octets.
 pub taken_bytes : (n : ℕ) (xs : List ℕ) → ((i : ℕ) → slice_index xs i < 256) → (i : ℕ) → slice_index (take n xs) i < 256

@@ -16,7 +16,8 @@ pub record Algorithm (P : Type 0) : Type 0 where
 
 -- The identifier, then the parameters if there are any.
 abbrev pub AlgorithmContents : {P : Type 0} → (P → List ℕ → Type 0) → Algorithm P → List ℕ → Type 0
-AlgorithmContents Parameters a contents = Joins (ObjectIdentifier a.oid ∷ Optional Parameters a.parameters ∷ []) contents
+AlgorithmContents Parameters a contents =
+    Joins (ObjectIdentifier a.oid ∷ Optional Parameters a.parameters ∷ []) contents
 
 abbrev pub AlgorithmIdentifier : {P : Type 0} → (P → List ℕ → Type 0) → Algorithm P → List ℕ → Type 0
 AlgorithmIdentifier Parameters a encoding = Tlv sequence_tag (AlgorithmContents Parameters a) encoding

@@ -16,13 +16,16 @@ AlgorithmAllocates may_allocate encoding = Tlv sequence_tag (AllocatesForParamet
 
 -- The encoding of an identifier without parameters doesn't ask for memory.
 abbrev pub NothingAskedAlone : (List ℕ → Type 0) → Type 0
-NothingAskedAlone may_allocate = (oid encoding : List ℕ) → Tlv sequence_tag (ObjectIdentifier oid) encoding → AllocatesIn may_allocate encoding → ⊥
+NothingAskedAlone may_allocate =
+    (oid encoding : List ℕ) → Tlv sequence_tag (ObjectIdentifier oid) encoding → AllocatesIn may_allocate encoding → ⊥
 
 -- The value inside the tag [number] may ask for memory.
 abbrev pub FieldAllocates : ℕ → (List ℕ → Type 0) → List ℕ → Type 0
 FieldAllocates number may_allocate encoding = Tlv (context_tag number) (AllocatesIn may_allocate) encoding
 
 -- In contents that begin with a field: its value may ask for memory, or what follows it may.
-abbrev pub AllocatesFromField : {V : Type 0} → ℕ → (V → List ℕ → Type 0) → V → (List ℕ → Type 0) → (List ℕ → Type 0) → List ℕ → Type 0
+abbrev pub AllocatesFromField : {V : Type 0} → ℕ → (V → List ℕ → Type 0) → V → (List ℕ → Type 0) → (List ℕ → Type 0)
+    → List ℕ → Type 0
 AllocatesFromField number Grammar default may_allocate later contents =
-    AllocatesIn (FieldAllocates number may_allocate) contents ⊎ AllocatesBehind (λ v. Defaultable (field number Grammar default v)) later contents
+    AllocatesIn (FieldAllocates number may_allocate) contents
+    ⊎ AllocatesBehind (λ v. Defaultable (field number Grammar default v)) later contents

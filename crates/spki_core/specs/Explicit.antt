@@ -28,7 +28,8 @@ FieldSequence fields encoding = Tlv sequence_tag (Joins (map Defaultable fields)
 -- How many of the fields have their defaults.
 abbrev pub HaveDefaults : List Field → ℕ → Type 0
 HaveDefaults [] k = k ≡ 0
-HaveDefaults (f ∷ fields) k = (f.IsDefault × (j : ℕ) × (k ≡ suc j) × HaveDefaults fields j) ⊎ ((f.IsDefault → ⊥) × HaveDefaults fields k)
+HaveDefaults (f ∷ fields) k =
+    (f.IsDefault × (j : ℕ) × (k ≡ suc j) × HaveDefaults fields j) ⊎ ((f.IsDefault → ⊥) × HaveDefaults fields k)
 
 -- One field under a mask: the lowest bit says whether a default is written, and the rest is for the later ones.
 pub data MaskedField (f : Field) (mask rest : ℕ) (encoding : List ℕ) : Type 0 where
@@ -40,7 +41,8 @@ pub data MaskedField (f : Field) (mask rest : ℕ) (encoding : List ℕ) : Type 
 -- field is written.
 abbrev pub MaskedContents : List Field → ℕ → List ℕ → Type 0
 MaskedContents [] mask encoding = (encoding ≡ []) × (mask ≡ 0)
-MaskedContents (f ∷ fields) mask encoding = (rest : ℕ) × Then (MaskedField f mask rest) (MaskedContents fields rest) encoding
+MaskedContents (f ∷ fields) mask encoding =
+    (rest : ℕ) × Then (MaskedField f mask rest) (MaskedContents fields rest) encoding
 
 abbrev pub Masked : List Field → ℕ → List ℕ → Type 0
 Masked fields mask encoding = Tlv sequence_tag (MaskedContents fields mask) encoding
@@ -62,4 +64,6 @@ FieldRead number Grammar default bytes value rest =
 
 -- Its octet is next, but no encoding of the field.
 abbrev pub FieldRejected : {V : Type 0} → ℕ → (V → List ℕ → Type 0) → List ℕ → Type 0
-FieldRejected {V} number Grammar bytes = IsNext number bytes × ((value : V) (rest : List ℕ) → Then (Tlv (context_tag number) (Grammar value)) (Is rest) bytes → ⊥)
+FieldRejected {V} number Grammar bytes =
+    IsNext number bytes × ((value : V) (rest : List ℕ) → Then (Tlv (context_tag number) (Grammar value)) (Is rest) bytes
+    → ⊥)

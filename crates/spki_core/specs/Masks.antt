@@ -30,8 +30,11 @@ fields_of parts = map (λ p. p.field) parts
 
 abbrev pub has_under : List Part → ℕ → Type 0
 has_under [] mask = Unit {0}
-has_under (p ∷ parts) mask = HasField (out_under p.is_default mask) p.has × has_under parts (rest_under p.is_default mask)
+has_under (p ∷ parts) mask =
+    HasField (out_under p.is_default mask) p.has × has_under parts (rest_under p.is_default mask)
 
 abbrev pub written_under : List Part → ℕ → List ℕ
 written_under [] mask = []
-written_under (p ∷ parts) mask = written_field (out_under p.is_default mask) p.field.number p.encoding ++ written_under parts (rest_under p.is_default mask)
+written_under (p ∷ parts) mask =
+    written_field (out_under p.is_default mask) p.field.number p.encoding
+    ++ written_under parts (rest_under p.is_default mask)

@@ -48,4 +48,5 @@ number_in number = number.value
 
 -- A walk over the contents of an encoding.
 abbrev pub WalksOver : List Bool → List ℕ → Option ℕ → Type 0
-WalksOver ds encoding found = (c : List ℕ) → Means Any encoding (record { tag = sequence_tag; contents = c }) → Walked 0 ds c found
+WalksOver ds encoding found =
+    (c : List ℕ) → Means Any encoding (record { tag = sequence_tag; contents = c }) → Walked 0 ds c found

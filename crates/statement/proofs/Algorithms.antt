@@ -8,11 +8,13 @@ use Rattle.spki_core.specs.Laws.IdentifierTest.{is_identifier-sound}
 use Rattle.spki_core.specs.ObjectIdentifier as oids
 use Rattle.spki_core.specs.Any as anys
 use Rattle.spki_core.specs.AlgorithmIdentifier as algorithms
-use Rattle.spki_core.specs.AlgorithmIdentifier.{PlainAlgorithm, MaskAlgorithm, HasPlain, HasMask, HasAlgorithm, written_algorithm, written_plain, written_mask}
+use Rattle.spki_core.specs.AlgorithmIdentifier.{PlainAlgorithm, MaskAlgorithm, HasPlain, HasMask, HasAlgorithm}
+use Rattle.spki_core.specs.AlgorithmIdentifier.{written_algorithm, written_plain, written_mask}
 use Rattle.spki_core.specs.Laws.AlgorithmEncodings.{plain_at_most_one, mask_at_most_one}
 use Rattle.pkcs1_params.specs.Laws.HashFields.{plain_relates, plain_shortest, mask_relates, mask_shortest}
 use Rattle.pkcs1_params.specs.Parameters.{id_sha1, id_mgf1, id_p_specified}
-use Rattle.statement.specs.Statement.{tlv, limit, IsSubidentifier, IsIdentifier, TagAndContents, IsAny, any, optional, IfPresent, Algorithm, algorithm, IsAlgorithm, sha1, mgf1_sha1, empty_label}
+use Rattle.statement.specs.Statement.{tlv, limit, IsSubidentifier, IsIdentifier, TagAndContents, IsAny, any, optional}
+use Rattle.statement.specs.Statement.{IfPresent, Algorithm, algorithm, IsAlgorithm, sha1, mgf1_sha1, empty_label}
 use Rattle.statement.proofs.Der.{tlv_same}
 
 -- One with such parameters: a hash function, a label source. One with one of these: a mask generation function.
@@ -47,34 +49,46 @@ plain_from = algorithm_from any_from
 abbrev pub plain_to : Algorithm TagAndContents → algorithms.Algorithm anys.TagAndContents
 plain_to = algorithm_to any_to
 
-abbrev pub mask_from : algorithms.Algorithm (algorithms.Algorithm anys.TagAndContents) → Algorithm (Algorithm TagAndContents)
+abbrev pub mask_from : algorithms.Algorithm (algorithms.Algorithm anys.TagAndContents)
+    → Algorithm (Algorithm TagAndContents)
 mask_from = algorithm_from plain_from
 
-abbrev pub mask_to : Algorithm (Algorithm TagAndContents) → algorithms.Algorithm (algorithms.Algorithm anys.TagAndContents)
+abbrev pub mask_to : Algorithm (Algorithm TagAndContents)
+    → algorithms.Algorithm (algorithms.Algorithm anys.TagAndContents)
 mask_to = algorithm_to plain_to
 
-option_back : {P Q : Type 0} (f : P → Q) (g : Q → P) → ((q : Q) → f (g q) ≡ q) → (o : Option Q) → option_map f (option_map g o) ≡ o
+option_back : {P Q : Type 0} (f : P → Q) (g : Q → P) → ((q : Q) → f (g q) ≡ q) → (o : Option Q)
+    → option_map f (option_map g o) ≡ o
 option_back f g h None = refl
 option_back f g h (Some q) = ap Some (h q)
 
 pub plain_back : (v : Algorithm TagAndContents) → plain_from (plain_to v) ≡ v
-plain_back v = ap (λ (o : Option TagAndContents). record { oid = v.oid; parameters = o }) (option_back any_from any_to (λ _. refl) v.parameters)
+plain_back v =
+    ap (λ (o : Option TagAndContents). record { oid = v.oid; parameters = o })
+    (option_back any_from any_to (λ _. refl) v.parameters)
 
 pub plain_forth : (v : algorithms.Algorithm anys.TagAndContents) → plain_to (plain_from v) ≡ v
-plain_forth v = ap (λ (o : Option anys.TagAndContents). record { oid = v.oid; parameters = o }) (option_back any_to any_from (λ _. refl) v.parameters)
+plain_forth v =
+    ap (λ (o : Option anys.TagAndContents). record { oid = v.oid; parameters = o })
+    (option_back any_to any_from (λ _. refl) v.parameters)
 
 pub mask_back : (v : Algorithm (Algorithm TagAndContents)) → mask_from (mask_to v) ≡ v
-mask_back v = ap (λ (o : Option (Algorithm TagAndContents)). record { oid = v.oid; parameters = o }) (option_back plain_from plain_to plain_back v.parameters)
+mask_back v =
+    ap (λ (o : Option (Algorithm TagAndContents)). record { oid = v.oid; parameters = o })
+    (option_back plain_from plain_to plain_back v.parameters)
 
 pub mask_forth : (v : algorithms.Algorithm (algorithms.Algorithm anys.TagAndContents)) → mask_to (mask_from v) ≡ v
-mask_forth v = ap (λ (o : Option (algorithms.Algorithm anys.TagAndContents)). record { oid = v.oid; parameters = o }) (option_back plain_to plain_from plain_forth v.parameters)
+mask_forth v =
+    ap (λ (o : Option (algorithms.Algorithm anys.TagAndContents)). record { oid = v.oid; parameters = o })
+    (option_back plain_to plain_from plain_forth v.parameters)
 
 -- Identifiers.
 sub_to : (s : List ℕ) → oids.IsSubidentifier s → IsSubidentifier s
 sub_to s p = (p.front, p.last, p.all, p.more_follow, p.ends, p.least)
 
 sub_from : (s : List ℕ) → IsSubidentifier s → oids.IsSubidentifier s
-sub_from s (front, last, all, more, ends, least) = record { front = front; last = last; all = all; more_follow = more; ends = ends; least = least }
+sub_from s (front, last, all, more, ends, least) =
+    record { front = front; last = last; all = all; more_follow = more; ends = ends; least = least }
 
 subs_to : (ids : List (List ℕ)) → AllByRecursion oids.IsSubidentifier ids → AllByRecursion IsSubidentifier ids
 subs_to [] all = tt
@@ -88,7 +102,8 @@ id_to : (oid : List ℕ) → oids.IsIdentifier oid → IsIdentifier oid
 id_to oid p = (p.subidentifiers, p.some, subs_to p.subidentifiers p.each, p.joined, p.short)
 
 id_from : (oid : List ℕ) → IsIdentifier oid → oids.IsIdentifier oid
-id_from oid (ids, some, each, joined, short) = record { subidentifiers = ids; some = some; each = subs_from ids each; joined = joined; short = short }
+id_from oid (ids, some, each, joined, short) =
+    record { subidentifiers = ids; some = some; each = subs_from ids each; joined = joined; short = short }
 
 -- Parameters in general.
 any_is : (v : anys.TagAndContents) → anys.IsAny v → IsAny (any_from v)
@@ -101,7 +116,8 @@ any_same : (v : anys.TagAndContents) → anys.written_any v ≡ any (any_from v)
 any_same v = tlv_same v.tag v.contents
 
 -- Optional parts, and algorithms, over what their parameters have.
-module _ {P Q : Type 0} (from : P → Q) (has : P → Type 0) (Is : Q → Type 0) (written : P → List ℕ) (encoding : Q → List ℕ) where
+module _ {P Q : Type 0} (from : P → Q) (has : P → Type 0) (Is : Q → Type 0) (written : P → List ℕ)
+    (encoding : Q → List ℕ) where
   optional_is : ((p : P) → has p → Is (from p)) → (v : Option P) → HasOptional has v → IfPresent Is (option_map from v)
   optional_is to None h = tt
   optional_is to (Some v) h = to v h
@@ -110,25 +126,31 @@ module _ {P Q : Type 0} (from : P → Q) (has : P → Type 0) (Is : Q → Type 0
   optional_has from' None h = tt
   optional_has from' (Some v) h = from' v h
 
-  optional_same : ((p : P) → written p ≡ encoding (from p)) → (v : Option P) → written_optional written v ≡ optional encoding (option_map from v)
+  optional_same : ((p : P) → written p ≡ encoding (from p)) → (v : Option P)
+      → written_optional written v ≡ optional encoding (option_map from v)
   optional_same same None = refl
   optional_same same (Some v) = same v
 
-  algorithm_same : ((p : P) → written p ≡ encoding (from p)) → (v : algorithms.Algorithm P) → tlvs.tlv 48 (written_algorithm written v) ≡ algorithm encoding (algorithm_from from v)
+  algorithm_same : ((p : P) → written p ≡ encoding (from p)) → (v : algorithms.Algorithm P)
+      → tlvs.tlv 48 (written_algorithm written v) ≡ algorithm encoding (algorithm_from from v)
   algorithm_same same v =
-      tlv_same 48 (written_algorithm written v) ∙ ap (λ x. tlv 48 (x ++ written_optional written v.parameters)) (tlv_same 6 v.oid)
+      tlv_same 48 (written_algorithm written v)
+      ∙ ap (λ x. tlv 48 (x ++ written_optional written v.parameters)) (tlv_same 6 v.oid)
       ∙ ap (λ x. tlv 48 (tlv 6 v.oid ++ x)) (optional_same same v.parameters)
 
-  algorithm_is : ((p : P) → has p → Is (from p)) → (v : algorithms.Algorithm P) → HasAlgorithm has v → IsAlgorithm Is (algorithm_from from v)
+  algorithm_is : ((p : P) → has p → Is (from p)) → (v : algorithms.Algorithm P) → HasAlgorithm has v
+      → IsAlgorithm Is (algorithm_from from v)
   algorithm_is to v h = (id_to v.oid h.0, optional_is to v.parameters h.1)
 
-  algorithm_has : ((p : P) → Is (from p) → has p) → (v : algorithms.Algorithm P) → IsAlgorithm Is (algorithm_from from v) → HasAlgorithm has v
+  algorithm_has : ((p : P) → Is (from p) → has p) → (v : algorithms.Algorithm P)
+      → IsAlgorithm Is (algorithm_from from v) → HasAlgorithm has v
   algorithm_has from' v h = (id_from v.oid h.0, optional_has from' v.parameters h.1)
 
 plain_same : (v : algorithms.Algorithm anys.TagAndContents) → written_plain v ≡ plain (plain_from v)
 plain_same = algorithm_same any_from anys.IsAny IsAny anys.written_any any any_same
 
-mask_same : (v : algorithms.Algorithm (algorithms.Algorithm anys.TagAndContents)) → written_mask v ≡ mask_generation (mask_from v)
+mask_same : (v : algorithms.Algorithm (algorithms.Algorithm anys.TagAndContents))
+    → written_mask v ≡ mask_generation (mask_from v)
 mask_same = algorithm_same plain_from HasPlain IsPlain written_plain plain plain_same
 
 plain_is : (v : algorithms.Algorithm anys.TagAndContents) → HasPlain v → IsPlain (plain_from v)
@@ -138,7 +160,8 @@ plain_has : (v : algorithms.Algorithm anys.TagAndContents) → IsPlain (plain_fr
 plain_has = algorithm_has any_from anys.IsAny IsAny anys.written_any any any_has
 
 -- A grammar whose values have one encoding each, as a function.
-pub record Written {W V : Type 0} (from : W → V) (Grammar : W → List ℕ → Type 0) (Is : V → Type 0) (encoding : V → List ℕ) : Type 0 where
+pub record Written {W V : Type 0} (from : W → V) (Grammar : W → List ℕ → Type 0) (Is : V → Type 0)
+    (encoding : V → List ℕ) : Type 0 where
   pub only : (w : W) (c : List ℕ) → length c ≤ limit → Grammar w c → c ≡ encoding (from w)
   pub is : (w : W) (c : List ℕ) → Grammar w c → Is (from w)
   pub made : (w : W) → Is (from w) → length (encoding (from w)) ≤ limit → Grammar w (encoding (from w))
@@ -150,7 +173,9 @@ plain_written = record {
       let w : PlainAlgorithm v (written_plain v) = plain_relates v s.0 (omega (arith, s.1, l)) in
       plain_at_most_one v c (written_plain v) p w ∙ plain_same v;
   is = λ v c p. plain_is v (plain_shortest v c p).0;
-  made = λ v h l. subst (PlainAlgorithm v) (plain_same v) (plain_relates v (plain_has v h) (omega (arith, l, ap length (plain_same v))));
+  made =
+      λ v h l. subst (PlainAlgorithm v) (plain_same v)
+      (plain_relates v (plain_has v h) (omega (arith, l, ap length (plain_same v))));
 }
 
 pub mask_written : Written mask_from MaskAlgorithm IsMaskGeneration mask_generation
@@ -167,10 +192,18 @@ mask_written = record {
 
 -- The defaults may be values.
 sha1_identifier : oids.IsIdentifier id_sha1
-sha1_identifier = is_identifier-sound id_sha1 (omega arith, (omega arith, (omega arith, (omega arith, (omega arith, tt))))) refl
+sha1_identifier =
+    is_identifier-sound id_sha1 (omega arith, (omega arith, (omega arith, (omega arith, (omega arith, tt))))) refl
 
 mgf1_identifier : oids.IsIdentifier id_mgf1
-mgf1_identifier = is_identifier-sound id_mgf1 (omega arith, (omega arith, (omega arith, (omega arith, (omega arith, (omega arith, (omega arith, (omega arith, (omega arith, tt))))))))) refl
+mgf1_identifier =
+    is_identifier-sound id_mgf1 (
+      omega arith,
+      (
+        omega arith,
+        (omega arith, (omega arith, (omega arith, (omega arith, (omega arith, (omega arith, (omega arith, tt))))))),
+      ),
+    ) refl
 
 pub sha1_is : IsPlain sha1
 sha1_is = (id_to sha1.oid sha1_identifier, any_is (record { tag = 5; contents = [] }) (refl, tt))
@@ -179,7 +212,14 @@ pub mgf1_is : IsMaskGeneration mgf1_sha1
 mgf1_is = (id_to mgf1_sha1.oid mgf1_identifier, sha1_is)
 
 p_specified : oids.IsIdentifier id_p_specified
-p_specified = is_identifier-sound id_p_specified (omega arith, (omega arith, (omega arith, (omega arith, (omega arith, (omega arith, (omega arith, (omega arith, (omega arith, tt))))))))) refl
+p_specified =
+    is_identifier-sound id_p_specified (
+      omega arith,
+      (
+        omega arith,
+        (omega arith, (omega arith, (omega arith, (omega arith, (omega arith, (omega arith, (omega arith, tt))))))),
+      ),
+    ) refl
 
 pub label_is : IsPlain empty_label
 label_is = (id_to empty_label.oid p_specified, any_is (record { tag = 4; contents = [] }) (refl, tt))

@@ -1,5 +1,6 @@
 -- Fields with defaults: the statement's encodings are the library's, field by field.
-use Rattle.std.proofs.Common.{ℕ, List, [], ◌∷◌, ◌++◌, ◌≡◌, ◌<◌, ◌≤◌, ◌+◌, ◌^◌, length, map, refl, sym, subst, ap, ◌∙◌, arith, inl, inr, length-append, Some, None}
+use Rattle.std.proofs.Common.{ℕ, List, [], ◌∷◌, ◌++◌, ◌≡◌, ◌<◌, ◌≤◌, ◌+◌, ◌^◌, length, map, refl, sym, subst, ap, ◌∙◌}
+use Rattle.std.proofs.Common.{arith, inl, inr, length-append, Some, None}
 use Rattle.std.proofs.lemmas.Bool.{cases_lt}
 use Rattle.std.specs.List.{concat}
 use Rattle.std.specs.Prelude.{slice_index_or}
@@ -10,12 +11,14 @@ use Rattle.der_core.specs.Encodings.{Joins}
 use Rattle.der_core.specs.Members.{AreTheMembers}
 use Rattle.der_core.specs.Tlv as tlvs
 use Rattle.spki_core.specs.Explicit as fields
-use Rattle.spki_core.specs.Explicit.{Explicit, Defaultable, FieldSequence, MaskedField, left_out, written, forced, MaskedContents, Masked, AllExplicit, HaveDefaults}
+use Rattle.spki_core.specs.Explicit.{Explicit, Defaultable, FieldSequence, MaskedField, left_out, written, forced}
+use Rattle.spki_core.specs.Explicit.{MaskedContents, Masked, AllExplicit, HaveDefaults}
 use Rattle.pkcs1_params.specs.Meanings.{IsTheMeaning, IsTheShortest}
 use Rattle.pkcs1_params.specs.Spellings as spellings
 use Rattle.pkcs1_params.specs.declared.error.Error.{Error}
 use Rattle.pkcs1_params.specs.declared.error.Error.TheVariants as error
-use Rattle.statement.specs.Statement.{tlv, sequence, limit, Field, field, Fields, FieldsUnder, Defaults, SequenceOf, longest, AreAll, Lists, TwoToTheDefaults, IsShortest}
+use Rattle.statement.specs.Statement.{tlv, sequence, limit, Field, field, Fields, FieldsUnder, Defaults, SequenceOf}
+use Rattle.statement.specs.Statement.{longest, AreAll, Lists, TwoToTheDefaults, IsShortest}
 use Rattle.statement.proofs.Der.{moved, tlv_is, tlv_made, tlv_fit}
 use Rattle.statement.proofs.Algorithms.{Written}
 
@@ -37,26 +40,39 @@ AllMade [] gs = Unit {0}
 AllMade (f ∷ fs) [] = Unit {0}
 AllMade (f ∷ fs) (g ∷ gs) = (length g.written ≤ limit → Explicit f g.written) × AllMade fs gs
 
-module _ {W V : Type 0} (from : W → V) (to : V → W) (forth : (w : W) → to (from w) ≡ w) {Grammar : W → List ℕ → Type 0} {Is : V → Type 0} {encoding : V → List ℕ} (w : Written from Grammar Is encoding) (n : ℕ) (default v : W) where
+module _ {W V : Type 0} (from : W → V) (to : V → W) (forth : (w : W) → to (from w) ≡ w) {Grammar : W → List ℕ → Type 0}
+    {Is : V → Type 0} {encoding : V → List ℕ} (w : Written from Grammar Is encoding) (n : ℕ) (default v : W) where
   pub matches : Matches (fields.field n Grammar default v) (field n encoding (from default) (from v))
   matches = record {
     to_default = λ e. ap from e;
     from_default = λ e. sym (forth v) ∙ ap to e ∙ forth default;
     only = λ x l p.
-        let few : length p.contents ≤ limit = omega (arith, l, ap length p.written, length-append p.octets p.contents) in
+        let few : length p.contents ≤ limit =
+        omega (arith, l, ap length p.written, length-append p.octets p.contents) in
         let same : p.contents ≡ encoding (from v) = w.only v p.contents few p.holds in
-        tlv_is {P = λ c. c ≡ p.contents} (160 + n) (encoding (from v)) x (λ c e. e ∙ same) (record { octets = p.octets; contents = p.contents; counted = p.counted; holds = refl; written = p.written });
+        tlv_is {P = λ c. c ≡ p.contents} (160 + n) (encoding (from v)) x (λ c e. e ∙ same)
+        (record {
+          octets = p.octets;
+          contents = p.contents;
+          counted = p.counted;
+          holds = refl;
+          written = p.written;
+        });
   }
 
-  pub made : Is (from v) → length (tlv (160 + n) (encoding (from v))) ≤ limit → Explicit (fields.field n Grammar default v) (tlv (160 + n) (encoding (from v)))
-  made h l = tlv_made (160 + n) (encoding (from v)) _ (w.made v h (omega (arith, l, tlv_fit (160 + n) (encoding (from v))))) refl l
+  pub made : Is (from v) → length (tlv (160 + n) (encoding (from v))) ≤ limit
+      → Explicit (fields.field n Grammar default v) (tlv (160 + n) (encoding (from v)))
+  made h l =
+      tlv_made (160 + n) (encoding (from v)) _ (w.made v h (omega (arith, l, tlv_fit (160 + n) (encoding (from v)))))
+      refl l
 
   pub value_is : Is (from default) → (x : List ℕ) → Defaultable (fields.field n Grammar default v) x → Is (from v)
   value_is h x (inl (nothing, e)) = subst (λ (u : W). Is (from u)) (sym e) h
   value_is h x (inr p) = w.is v p.contents p.holds
 
 -- Contents.
-pub fields_to : (fs : List fields.Field) (gs : List Field) → AllMatch fs gs → (c : List ℕ) → length c ≤ limit → Joins (map Defaultable fs) c → Fields gs c
+pub fields_to : (fs : List fields.Field) (gs : List Field) → AllMatch fs gs → (c : List ℕ) → length c ≤ limit
+    → Joins (map Defaultable fs) c → Fields gs c
 fields_to [] [] m c l p = p
 fields_to [] (g ∷ gs) m c l p = absurd m
 fields_to (f ∷ fs) [] m c l p = absurd m
@@ -66,20 +82,32 @@ fields_to (f ∷ fs) (g ∷ gs) m c l (a, r, inl (e, d), later, is) =
 fields_to (f ∷ fs) (g ∷ gs) m c l (a, r, inr p, later, is) =
     let both = length-append a r in
     let same = ap length is in
-    inr (r, is ∙ ap (λ x. x ++ r) (m.0.only a (omega (arith, l, same, both)) p), fields_to fs gs m.1 r (omega (arith, l, same, both)) later)
+    inr (
+      r,
+      is ∙ ap (λ x. x ++ r) (m.0.only a (omega (arith, l, same, both)) p),
+      fields_to fs gs m.1 r (omega (arith, l, same, both)) later,
+    )
 
-pub fields_from : (fs : List fields.Field) (gs : List Field) → AllMatch fs gs → AllMade fs gs → (c : List ℕ) → length c ≤ limit → Fields gs c → Joins (map Defaultable fs) c
+pub fields_from : (fs : List fields.Field) (gs : List Field) → AllMatch fs gs → AllMade fs gs → (c : List ℕ)
+    → length c ≤ limit → Fields gs c → Joins (map Defaultable fs) c
 fields_from [] [] m h c l p = p
 fields_from [] (g ∷ gs) m h c l p = absurd m
 fields_from (f ∷ fs) [] m h c l p = absurd m
-fields_from (f ∷ fs) (g ∷ gs) m h c l (inl (d, later)) = ([], c, inl (refl, m.0.from_default d), fields_from fs gs m.1 h.1 c l later, refl)
+fields_from (f ∷ fs) (g ∷ gs) m h c l (inl (d, later)) =
+    ([], c, inl (refl, m.0.from_default d), fields_from fs gs m.1 h.1 c l later, refl)
 fields_from (f ∷ fs) (g ∷ gs) m h c l (inr (r, is, later)) =
     let both = length-append g.written r in
-    let same = ap length is in
-    (g.written, r, inr (h.0 (omega (arith, l, same, both))), fields_from fs gs m.1 h.1 r (omega (arith, l, same, both)) later, is)
+    let same = ap length is in (
+      g.written,
+      r,
+      inr (h.0 (omega (arith, l, same, both))),
+      fields_from fs gs m.1 h.1 r (omega (arith, l, same, both)) later,
+      is,
+    )
 
 -- Under a mask.
-under_to : (fs : List fields.Field) (gs : List Field) → AllMatch fs gs → (mask : ℕ) (c : List ℕ) → length c ≤ limit → MaskedContents fs mask c → FieldsUnder mask gs c
+under_to : (fs : List fields.Field) (gs : List Field) → AllMatch fs gs → (mask : ℕ) (c : List ℕ) → length c ≤ limit
+    → MaskedContents fs mask c → FieldsUnder mask gs c
 under_to [] [] m mask c l p = p
 under_to [] (g ∷ gs) m mask c l p = absurd m
 under_to (f ∷ fs) [] m mask c l p = absurd m
@@ -89,13 +117,28 @@ under_to (f ∷ fs) (g ∷ gs) m mask c l (half, (a, r, left_out d e nothing, la
 under_to (f ∷ fs) (g ∷ gs) m mask c l (half, (a, r, written d e p, later, is)) =
     let both = length-append a r in
     let same = ap length is in
-    inr (inl (m.0.to_default d, half, e, r, is ∙ ap (λ x. x ++ r) (m.0.only a (omega (arith, l, same, both)) p), under_to fs gs m.1 half r (omega (arith, l, same, both)) later))
+    inr (inl (
+      m.0.to_default d,
+      half,
+      e,
+      r,
+      is
+          ∙ ap (λ x. x ++ r) (m.0.only a (omega (arith, l, same, both)) p),
+      under_to fs gs m.1 half r (omega (arith, l, same, both)) later,
+    ))
 under_to (f ∷ fs) (g ∷ gs) m mask c l (half, (a, r, forced d e p, later, is)) =
     let both = length-append a r in
     let same = ap length is in
-    inr (inr (λ x. d (m.0.from_default x), r, is ∙ ap (λ x. x ++ r) (m.0.only a (omega (arith, l, same, both)) p), under_to fs gs m.1 mask r (omega (arith, l, same, both)) (subst (λ n. MaskedContents fs n r) (sym e) later)))
+    inr (inr (
+      λ x. d (m.0.from_default x),
+      r,
+      is
+          ∙ ap (λ x. x ++ r) (m.0.only a (omega (arith, l, same, both)) p),
+      under_to fs gs m.1 mask r (omega (arith, l, same, both)) (subst (λ n. MaskedContents fs n r) (sym e) later),
+    ))
 
-under_from : (fs : List fields.Field) (gs : List Field) → AllMatch fs gs → AllMade fs gs → (mask : ℕ) (c : List ℕ) → length c ≤ limit → FieldsUnder mask gs c → MaskedContents fs mask c
+under_from : (fs : List fields.Field) (gs : List Field) → AllMatch fs gs → AllMade fs gs → (mask : ℕ) (c : List ℕ)
+    → length c ≤ limit → FieldsUnder mask gs c → MaskedContents fs mask c
 under_from [] [] m h mask c l p = p
 under_from [] (g ∷ gs) m h mask c l p = absurd m
 under_from (f ∷ fs) [] m h mask c l p = absurd m
@@ -103,31 +146,51 @@ under_from (f ∷ fs) (g ∷ gs) m h mask c l (inl (d, half, e, later)) =
     (half, ([], c, left_out (m.0.from_default d) e refl, under_from fs gs m.1 h.1 half c l later, refl))
 under_from (f ∷ fs) (g ∷ gs) m h mask c l (inr (inl (d, half, e, r, is, later))) =
     let both = length-append g.written r in
-    let same = ap length is in
-    (half, (g.written, r, written (m.0.from_default d) e (h.0 (omega (arith, l, same, both))), under_from fs gs m.1 h.1 half r (omega (arith, l, same, both)) later, is))
+    let same = ap length is in (
+      half,
+      (
+        g.written,
+        r,
+        written (m.0.from_default d) e (h.0 (omega (arith, l, same, both))),
+        under_from fs gs m.1 h.1 half r (omega (arith, l, same, both)) later,
+        is,
+      ),
+    )
 under_from (f ∷ fs) (g ∷ gs) m h mask c l (inr (inr (d, r, is, later))) =
     let both = length-append g.written r in
-    let same = ap length is in
-    (mask, (g.written, r, forced (λ x. d (m.0.to_default x)) refl (h.0 (omega (arith, l, same, both))), under_from fs gs m.1 h.1 mask r (omega (arith, l, same, both)) later, is))
+    let same = ap length is in (
+      mask,
+      (
+        g.written,
+        r,
+        forced (λ x. d (m.0.to_default x)) refl (h.0 (omega (arith, l, same, both))),
+        under_from fs gs m.1 h.1 mask r (omega (arith, l, same, both)) later,
+        is,
+      ),
+    )
 
 -- What is written under a mask is an encoding.
 unmasked : (fs : List fields.Field) (mask : ℕ) (c : List ℕ) → MaskedContents fs mask c → Joins (map Defaultable fs) c
 unmasked [] mask c p = p.0
-unmasked (f ∷ fs) mask c (half, (a, r, left_out d e nothing, later, is)) = (a, r, inl (nothing, d), unmasked fs half r later, is)
+unmasked (f ∷ fs) mask c (half, (a, r, left_out d e nothing, later, is)) =
+    (a, r, inl (nothing, d), unmasked fs half r later, is)
 unmasked (f ∷ fs) mask c (half, (a, r, written d e p, later, is)) = (a, r, inr p, unmasked fs half r later, is)
 unmasked (f ∷ fs) mask c (half, (a, r, forced d e p, later, is)) = (a, r, inr p, unmasked fs half r later, is)
 
-pub defaults_from : (fs : List fields.Field) (gs : List Field) → AllMatch fs gs → (k : ℕ) → Defaults gs k → HaveDefaults fs k
+pub defaults_from : (fs : List fields.Field) (gs : List Field) → AllMatch fs gs → (k : ℕ) → Defaults gs k
+    → HaveDefaults fs k
 defaults_from [] [] m k p = p
 defaults_from [] (g ∷ gs) m k p = absurd m
 defaults_from (f ∷ fs) [] m k p = absurd m
-defaults_from (f ∷ fs) (g ∷ gs) m k (inl (d, j, e, later)) = inl (m.0.from_default d, j, omega (arith, e), defaults_from fs gs m.1 j later)
+defaults_from (f ∷ fs) (g ∷ gs) m k (inl (d, j, e, later)) =
+    inl (m.0.from_default d, j, omega (arith, e), defaults_from fs gs m.1 j later)
 defaults_from (f ∷ fs) (g ∷ gs) m k (inr (d, later)) = inr (λ x. d (m.0.to_default x), defaults_from fs gs m.1 k later)
 
 abbrev pub all_written : List Field → List ℕ
 all_written gs = concat (map (λ (g : Field). g.written) gs)
 
-pub all_from : (fs : List fields.Field) (gs : List Field) → AllMatch fs gs → AllMade fs gs → length (all_written gs) ≤ limit → Joins (map Explicit fs) (all_written gs)
+pub all_from : (fs : List fields.Field) (gs : List Field) → AllMatch fs gs → AllMade fs gs
+    → length (all_written gs) ≤ limit → Joins (map Explicit fs) (all_written gs)
 all_from [] [] m h l = refl
 all_from [] (g ∷ gs) m h l = absurd m
 all_from (f ∷ fs) [] m h l = absurd m
@@ -135,34 +198,43 @@ all_from (f ∷ fs) (g ∷ gs) m h l =
     let both = length-append g.written (all_written gs) in
     (g.written, all_written gs, h.0 (omega (arith, l, both)), all_from fs gs m.1 h.1 (omega (arith, l, both)), refl)
 
-pub defaults_to : (fs : List fields.Field) (gs : List Field) → AllMatch fs gs → (k : ℕ) → HaveDefaults fs k → Defaults gs k
+pub defaults_to : (fs : List fields.Field) (gs : List Field) → AllMatch fs gs → (k : ℕ) → HaveDefaults fs k
+    → Defaults gs k
 defaults_to [] [] m k p = p
 defaults_to [] (g ∷ gs) m k p = absurd m
 defaults_to (f ∷ fs) [] m k p = absurd m
-defaults_to (f ∷ fs) (g ∷ gs) m k (inl (d, j, e, later)) = inl (m.0.to_default d, j, omega (arith, e), defaults_to fs gs m.1 j later)
+defaults_to (f ∷ fs) (g ∷ gs) m k (inl (d, j, e, later)) =
+    inl (m.0.to_default d, j, omega (arith, e), defaults_to fs gs m.1 j later)
 defaults_to (f ∷ fs) (g ∷ gs) m k (inr (d, later)) = inr (λ x. d (m.0.from_default x), defaults_to fs gs m.1 k later)
 
 -- Whole parameters.
 abbrev Contained : (List ℕ → Type 0) → List ℕ → Type 0
-Contained Contents bytes = (length bytes ≤ limit) × (contents : List ℕ) × Contents contents × (bytes ≡ sequence contents)
+Contained Contents bytes =
+    (length bytes ≤ limit) × (contents : List ℕ) × Contents contents × (bytes ≡ sequence contents)
 
-sequence_to : {P Q : List ℕ → Type 0} → ((c : List ℕ) → length c ≤ limit → P c → Q c) → (bytes : List ℕ) → length bytes ≤ limit → tlvs.Tlv 48 P bytes → Contained Q bytes
+sequence_to : {P Q : List ℕ → Type 0} → ((c : List ℕ) → length c ≤ limit → P c → Q c) → (bytes : List ℕ)
+    → length bytes ≤ limit → tlvs.Tlv 48 P bytes → Contained Q bytes
 sequence_to f bytes l p =
     let few : length p.contents ≤ limit = omega (arith, l, ap length p.written, length-append p.octets p.contents) in
-    let is : bytes ≡ sequence p.contents = tlv_is {P = λ x. x ≡ p.contents} 48 p.contents bytes (λ c e. e) (record { octets = p.octets; contents = p.contents; counted = p.counted; holds = refl; written = p.written }) in
+    let is : bytes ≡ sequence p.contents =
+    tlv_is {P = λ x. x ≡ p.contents} 48 p.contents bytes (λ c e. e)
+    (record { octets = p.octets; contents = p.contents; counted = p.counted; holds = refl; written = p.written }) in
     (l, p.contents, f p.contents few p.holds, is)
 
-sequence_from : {P Q : List ℕ → Type 0} → ((c : List ℕ) → length c ≤ limit → Q c → P c) → (bytes : List ℕ) → Contained Q bytes → tlvs.Tlv 48 P bytes
+sequence_from : {P Q : List ℕ → Type 0} → ((c : List ℕ) → length c ≤ limit → Q c → P c) → (bytes : List ℕ)
+    → Contained Q bytes → tlvs.Tlv 48 P bytes
 sequence_from f bytes (l, c, q, is) = tlv_made 48 c bytes (f c (omega (arith, l, ap length is, tlv_fit 48 c)) q) is l
 
 -- A type of parameters, in the library and in the statement.
-pub record Sides {W V : Type 0} (from : W → V) (to : V → W) (fs : W → List fields.Field) (gs : V → List Field) (Is : V → Type 0) : Type 0 where
+pub record Sides {W V : Type 0} (from : W → V) (to : V → W) (fs : W → List fields.Field) (gs : V → List Field)
+    (Is : V → Type 0) : Type 0 where
   pub back : (v : V) → from (to v) ≡ v
   pub match : (w : W) → AllMatch (fs w) (gs (from w))
   pub make : (w : W) → Is (from w) → AllMade (fs w) (gs (from w))
   pub is : (w : W) (c : List ℕ) → Joins (map Defaultable (fs w)) c → Is (from w)
 
-module _ {W V : Type 0} {from : W → V} {to : V → W} {fs : W → List fields.Field} {gs : V → List Field} {Is : V → Type 0} (s : Sides from to fs gs Is) where
+module _ {W V : Type 0} {from : W → V} {to : V → W} {fs : W → List fields.Field} {gs : V → List Field} {Is : V → Type 0}
+    (s : Sides from to fs gs Is) where
   abbrev pub Encoding : V → List ℕ → Type 0
   Encoding = SequenceOf Is gs Fields
 
@@ -197,7 +269,8 @@ module _ {W V : Type 0} {from : W → V} {to : V → W} {fs : W → List fields.
     pub read : IsTheMeaning Grammar bytes w → Encoding v bytes × ((u : V) → Encoding u bytes → u ≡ v)
     read m = (moved Encoding same (sentence w bytes m.0), only m.1)
 
-    pub read_strictly : IsTheShortest Grammar bytes w → IsShortest Encoding v bytes × ((u : V) → IsShortest Encoding u bytes → u ≡ v)
+    pub read_strictly : IsTheShortest Grammar bytes w
+        → IsShortest Encoding v bytes × ((u : V) → IsShortest Encoding u bytes → u ≡ v)
     read_strictly m = (moved (IsShortest Encoding) same (shortest w bytes m.0), λ u e. only m.1 u e.0)
 
   pub under : (w : W) (mask : ℕ) (bytes : List ℕ) → spellings.IsSpelling (fs w) mask bytes → Under mask (from w) bytes
@@ -205,11 +278,13 @@ module _ {W V : Type 0} {from : W → V} {to : V → W} {fs : W → List fields.
       let t = sequence_to (under_to (fs w) (gs (from w)) (s.match w) mask) bytes l p in
       (s.is w p.contents (unmasked (fs w) mask p.contents p.holds), t.0, t.1, t.2, t.3)
 
-  pub spelling : (w : W) (mask : ℕ) (bytes : List ℕ) → Under mask (from w) bytes → spellings.IsSpelling (fs w) mask bytes
+  pub spelling : (w : W) (mask : ℕ) (bytes : List ℕ) → Under mask (from w) bytes
+      → spellings.IsSpelling (fs w) mask bytes
   spelling w mask bytes (is, l, c, held, e) =
       (l, sequence_from (under_from (fs w) (gs (from w)) (s.match w) (s.make w is) mask) bytes (l, c, held, e))
 
-  all_explicit : (w : W) → Is (from w) → length (longest (gs (from w))) ≤ limit → AllExplicit (fs w) (longest (gs (from w)))
+  all_explicit : (w : W) → Is (from w) → length (longest (gs (from w))) ≤ limit
+      → AllExplicit (fs w) (longest (gs (from w)))
   all_explicit w is l =
       let c = all_written (gs (from w)) in
       let all = all_from (fs w) (gs (from w)) (s.match w) (s.make w is) (omega (arith, l, tlv_fit 48 c)) in
@@ -218,29 +293,42 @@ module _ {W V : Type 0} {from : W → V} {to : V → W} {fs : W → List fields.
   pub all_fit : (w : W) → Is (from w) → length (longest (gs (from w))) ≤ limit → spellings.AllFit (fs w)
   all_fit w is l = (longest (gs (from w)), all_explicit w is l, l)
 
-  pub are_all : (w : W) (k : ℕ) (all : List (List ℕ)) → AreTheMembers (Spellings Grammar w) (2 ^ k) all → ((i : ℕ) → i < 2 ^ k → Masked (fs w) i (slice_index_or all i [])) → AreAll (λ E. E) Is gs (from w) k all
+  pub are_all : (w : W) (k : ℕ) (all : List (List ℕ)) → AreTheMembers (Spellings Grammar w) (2 ^ k) all
+      → ((i : ℕ) → i < 2 ^ k → Masked (fs w) i (slice_index_or all i [])) → AreAll (λ E. E) Is gs (from w) k all
   are_all w k all m masked = record {
     count = m.count;
     under = λ i l. under w i (slice_index_or all i []) ((m.only i l).0, masked i l);
     different = m.none_twice;
-    every = λ bytes. (λ e. m.every bytes (meant w bytes e), λ p. subst (Encoding (from w)) p.2 (sentence w _ (m.only p.0 p.1)));
+    every =
+        λ bytes. (
+          λ e. m.every bytes (meant w bytes e),
+          λ p. subst (Encoding (from w)) p.2 (sentence w _ (m.only p.0 p.1)),
+        );
   }
 
-  two_of : spellings.TwoToTheDefaults fs → (w : W) (k : ℕ) → Is (from w) → Defaults (gs (from w)) k → length (longest (gs (from w))) ≤ limit → (all : List (List ℕ)) × AreAll (λ E. E) Is gs (from w) k all
+  two_of : spellings.TwoToTheDefaults fs → (w : W) (k : ℕ) → Is (from w) → Defaults (gs (from w)) k
+      → length (longest (gs (from w))) ≤ limit → (all : List (List ℕ)) × AreAll (λ E. E) Is gs (from w) k all
   two_of two w k is d l =
-      let r = two w k (longest (gs (from w))) (defaults_from (fs w) (gs (from w)) (s.match w) k d) (all_explicit w is l) l in
+      let r =
+      two w k (longest (gs (from w))) (defaults_from (fs w) (gs (from w)) (s.match w) k d) (all_explicit w is l) l
+      in
       (r.0, are_all w k r.0 r.1 r.2)
 
   pub two_to_the_defaults : spellings.TwoToTheDefaults fs → TwoToTheDefaults Is gs
   two_to_the_defaults two v =
-      subst (λ (u : V). (k : ℕ) → Is u → Defaults (gs u) k → length (longest (gs u)) ≤ limit → (all : List (List ℕ)) × AreAll (λ E. E) Is gs u k all) (s.back v) (two_of two (to v))
+      subst (λ (u : V). (k : ℕ) → Is u → Defaults (gs u) k → length (longest (gs u)) ≤ limit
+      → (all : List (List ℕ)) × AreAll (λ E. E) Is gs u k all) (s.back v) (two_of two (to v))
 
   -- The list of all encodings, or why there is none.
-  pub lists : spellings.DefaultsAreCounted fs → (w : W) (all : List (List ℕ)) → spellings.AreAllSpellings fs w all → Lists Is gs (from w) (Some all)
+  pub lists : spellings.DefaultsAreCounted fs → (w : W) (all : List (List ℕ)) → spellings.AreAllSpellings fs w all
+      → Lists Is gs (from w) (Some all)
   lists counted w all a =
       let n = counted w in
-      let m = a.members n.0 n.1 in
-      (n.0, defaults_to (fs w) (gs (from w)) (s.match w) n.0 n.1, are_all w n.0 all m (λ i l. (a.under i (omega (arith, l, m.count))).1))
+      let m = a.members n.0 n.1 in (
+        n.0,
+        defaults_to (fs w) (gs (from w)) (s.match w) n.0 n.1,
+        are_all w n.0 all m (λ i l. (a.under i (omega (arith, l, m.count))).1),
+      )
 
   pub lists_none : (w : W) → (spellings.AllFit (fs w) → ⊥) → Lists Is gs (from w) None
   lists_none w unfit is = elim (cases_lt limit (length (longest (gs (from w))))) [
@@ -249,10 +337,13 @@ module _ {W V : Type 0} {from : W → V} {to : V → W} {fs : W → List fields.
   ]
 
   -- The encoding under a mask is the only one, and why it isn't written.
-  pub shortest_under : spellings.EachMaskHasOne fs → (w : W) (mask : ℕ) (bytes : List ℕ) → spellings.IsSpelling (fs w) mask bytes → IsShortest (Under mask) (from w) bytes
-  shortest_under one w mask bytes p = (under w mask bytes p, λ other q. inl (one w mask other bytes (spelling w mask other q) p).0)
+  pub shortest_under : spellings.EachMaskHasOne fs → (w : W) (mask : ℕ) (bytes : List ℕ)
+      → spellings.IsSpelling (fs w) mask bytes → IsShortest (Under mask) (from w) bytes
+  shortest_under one w mask bytes p =
+      (under w mask bytes p, λ other q. inl (one w mask other bytes (spelling w mask other q) p).0)
 
-  pub none_under : spellings.EachMaskHasOne fs → (w : W) (mask room : ℕ) (e : Error) (bytes : List ℕ) → spellings.IsSpellingError (fs w) mask room e → Under mask (from w) bytes → room < length bytes
+  pub none_under : spellings.EachMaskHasOne fs → (w : W) (mask room : ℕ) (e : Error) (bytes : List ℕ)
+      → spellings.IsSpellingError (fs w) mask room e → Under mask (from w) bytes → room < length bytes
   none_under one w mask room (error.Asn1 e) bytes h p = go (encode_error e.kind) h
     where
       go : (k : EncodeError) → spellings.WhyNoSpelling (fs w) mask room k → room < length bytes
@@ -264,5 +355,6 @@ module _ {W V : Type 0} {from : W → V} {to : V → W} {fs : W → List fields.
   none_under one w mask room error.KeyMalformed bytes h p = absurd h
   none_under one w mask room error.Version bytes h p = absurd h
 
-  pub mask_there : (w : W) (mask : ℕ) → ((k : ℕ) × Defaults (gs (from w)) k × (mask < 2 ^ k)) → spellings.IsMask (fs w) mask
+  pub mask_there : (w : W) (mask : ℕ) → ((k : ℕ) × Defaults (gs (from w)) k × (mask < 2 ^ k))
+      → spellings.IsMask (fs w) mask
   mask_there w mask (k, d, l) = (k, defaults_from (fs w) (gs (from w)) (s.match w) k d, l)

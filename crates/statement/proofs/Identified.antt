@@ -1,5 +1,6 @@
 -- Algorithm identifiers with parameters of their own: the statement's encodings are the library's.
-use Rattle.std.proofs.Common.{ℕ, List, [], ◌∷◌, ◌++◌, ◌≡◌, ◌<◌, ◌≤◌, ◌+◌, ◌^◌, length, map, refl, sym, subst, ap, ◌∙◌, arith, inl, inr, length-append}
+use Rattle.std.proofs.Common.{ℕ, List, [], ◌∷◌, ◌++◌, ◌≡◌, ◌<◌, ◌≤◌, ◌+◌, ◌^◌, length, map, refl, sym, subst, ap, ◌∙◌}
+use Rattle.std.proofs.Common.{arith, inl, inr, length-append}
 use Rattle.std.proofs.lemmas.List.{get_or-map, length-map}
 use Rattle.std.specs.Prelude.{slice_index_or}
 use Rattle.der_core.specs.Document.{Means}
@@ -12,8 +13,11 @@ use Rattle.spki_core.specs.Laws.IdentifierTest.{is_identifier-sound}
 use Rattle.spki_core.specs.ObjectIdentifier.{IsIdentifier}
 use Rattle.pkcs1_params.specs.Algorithms.{AlgorithmOf}
 use Rattle.pkcs1_params.specs.Meanings.{IsTheMeaning, IsTheShortest}
-use Rattle.pkcs1_params.specs.Laws.Algorithms.{parameters_in, with_encoded, parameters_shorter, identifier_made, identifier_grows, same_parameters}
-use Rattle.statement.specs.Statement.{tlv, sequence, limit, AlgorithmEncoding, IsShortest, Field, Fields, FieldsUnder, SequenceOf, longest, AreAll, TwoToTheDefaults, TwoToTheDefaultsIn, id_rsassa_pss, id_rsaes_oaep}
+use Rattle.pkcs1_params.specs.Laws.Algorithms.{parameters_in, with_encoded, parameters_shorter, identifier_made}
+use Rattle.pkcs1_params.specs.Laws.Algorithms.{identifier_grows, same_parameters}
+use Rattle.statement.specs.Statement.{tlv, sequence, limit, AlgorithmEncoding, IsShortest, Field, Fields, FieldsUnder}
+use Rattle.statement.specs.Statement.{SequenceOf, longest, AreAll, TwoToTheDefaults, TwoToTheDefaultsIn, id_rsassa_pss}
+use Rattle.statement.specs.Statement.{id_rsaes_oaep}
 use Rattle.statement.proofs.Der.{moved, tlv_is, tlv_made, tlv_fit}
 use Rattle.statement.proofs.Fields as parameters
 use Rattle.statement.proofs.Fields.{Sides, all_written}
@@ -22,17 +26,32 @@ use Rattle.spki_core.specs.Explicit as fields
 -- What is written under a mask is no longer than all fields.
 within : (fs : List Field) (mask : ℕ) (c : List ℕ) → FieldsUnder mask fs c → length c ≤ length (all_written fs)
 within [] mask c p = omega (arith, ap length p.0)
-within (f ∷ fs) mask c (inl (d, half, e, later)) = omega (arith, within fs half c later, length-append f.written (all_written fs))
+within (f ∷ fs) mask c (inl (d, half, e, later)) =
+    omega (arith, within fs half c later, length-append f.written (all_written fs))
 within (f ∷ fs) mask c (inr (inl (d, half, e, r, is, later))) =
-    omega (arith, within fs half r later, ap length is, length-append f.written r, length-append f.written (all_written fs))
+    omega (
+      arith,
+      within fs half r later,
+      ap length is,
+      length-append f.written r,
+      length-append f.written (all_written fs),
+    )
 within (f ∷ fs) mask c (inr (inr (d, r, is, later))) =
-    omega (arith, within fs mask r later, ap length is, length-append f.written r, length-append f.written (all_written fs))
+    omega (
+      arith,
+      within fs mask r later,
+      ap length is,
+      length-append f.written r,
+      length-append f.written (all_written fs),
+    )
 
-sequence_grows : (c d : List ℕ) → length (sequence c) ≤ limit → length (sequence d) ≤ limit → length c ≤ length d → length (sequence c) ≤ length (sequence d)
+sequence_grows : (c d : List ℕ) → length (sequence c) ≤ limit → length (sequence d) ≤ limit → length c ≤ length d
+    → length (sequence c) ≤ length (sequence d)
 sequence_grows c d l m less =
     let p : Tlv 48 (λ x. x ≡ c) (sequence c) = tlv_made 48 c (sequence c) refl refl l in
     let q : Tlv 48 (λ x. x ≡ d) (sequence d) = tlv_made 48 d (sequence d) refl refl m in
-    let g : length (sequence c) + 0 ≤ length (sequence d) = tlv_grows 0 (sequence c) (sequence d) p q (omega (arith, less, ap length p.holds, ap length q.holds)) in
+    let g : length (sequence c) + 0 ≤ length (sequence d) =
+    tlv_grows 0 (sequence c) (sequence d) p q (omega (arith, less, ap length p.holds, ap length q.holds)) in
     omega (arith, g)
 
 module _ (oid : List ℕ) (identifier : IsIdentifier oid) where
@@ -53,21 +72,31 @@ module _ (oid : List ℕ) (identifier : IsIdentifier oid) where
 
   made : (y b : List ℕ) → b ≡ wrapped y → length b ≤ limit → AlgorithmOf oid Is y b
   made y b e l =
-      let few : length (tlv 6 oid) ≤ limit = omega (arith, l, ap length e, tlv_fit 48 (tlv 6 oid ++ y), length-append (tlv 6 oid) y) in
-      tlv_made 48 (tlv 6 oid ++ y) b (tlv 6 oid, y, tlv_made 6 oid (tlv 6 oid) (identifier, refl) refl few, last_holds y refl, refl) e l
+      let few : length (tlv 6 oid) ≤ limit =
+      omega (arith, l, ap length e, tlv_fit 48 (tlv 6 oid ++ y), length-append (tlv 6 oid) y) in
+      tlv_made 48 (tlv 6 oid ++ y) b (
+        tlv 6 oid,
+        y,
+        tlv_made 6 oid (tlv 6 oid) (identifier, refl) refl few,
+        last_holds y refl,
+        refl,
+      ) e l
 
   -- An identifier is the longer, the longer its parameters, and has one encoding of them.
   fits : (x y : List ℕ) → length (wrapped x) ≤ limit → length y ≤ length x → length (wrapped y) ≤ limit
   fits x y l less =
       let t = made x (wrapped x) refl l in
-      let m = identifier_made oid x (wrapped x) y t l (omega (arith, less, l, parameters_shorter oid x (wrapped x) t)) in
-      let g : length m.0 + 0 ≤ length (wrapped x) = identifier_grows oid 0 y x m.0 (wrapped x) m.1 t (omega (arith, less)) in
+      let m =
+      identifier_made oid x (wrapped x) y t l (omega (arith, less, l, parameters_shorter oid x (wrapped x) t)) in
+      let g : length m.0 + 0 ≤ length (wrapped x) =
+      identifier_grows oid 0 y x m.0 (wrapped x) m.1 t (omega (arith, less)) in
       omega (arith, g, l, ap length (identified y m.0 m.1))
 
   one : (x y : List ℕ) → length (wrapped x) ≤ limit → wrapped x ≡ wrapped y → x ≡ y
   one x y l e = same_parameters oid x y (wrapped x) (made x (wrapped x) refl l) (made y (wrapped x) e l)
 
-  module _ {W V : Type 0} {from : W → V} {to : V → W} {fs : W → List fields.Field} {gs : V → List Field} {Is' : V → Type 0} (s : Sides from to fs gs Is') where
+  module _ {W V : Type 0} {from : W → V} {to : V → W} {fs : W → List fields.Field} {gs : V → List Field}
+      {Is' : V → Type 0} (s : Sides from to fs gs Is') where
     abbrev Grammar : W → List ℕ → Type 0
     Grammar = AlgorithmOf oid (parameters.Grammar s)
 
@@ -76,11 +105,16 @@ module _ (oid : List ℕ) (identifier : IsIdentifier oid) where
 
     pub sentence : (w : W) (bytes : List ℕ) → Means Grammar bytes w → Encoding (from w) bytes
     sentence w bytes m =
-        let p = parameters_in (parameters.Grammar s) oid w bytes m.1 in
-        (m.0, p.0, parameters.sentence s w p.0 (omega (arith, m.0, parameters_shorter oid p.0 bytes p.2), p.1), identified p.0 bytes p.2)
+        let p = parameters_in (parameters.Grammar s) oid w bytes m.1 in (
+          m.0,
+          p.0,
+          parameters.sentence s w p.0 (omega (arith, m.0, parameters_shorter oid p.0 bytes p.2), p.1),
+          identified p.0 bytes p.2,
+        )
 
     pub meant : (w : W) (bytes : List ℕ) → Encoding (from w) bytes → Means Grammar bytes w
-    meant w bytes (l, y, e, is) = (l, with_encoded (parameters.Grammar s) oid w y bytes (parameters.meant s w y e).1 (made y bytes is l))
+    meant w bytes (l, y, e, is) =
+        (l, with_encoded (parameters.Grammar s) oid w y bytes (parameters.meant s w y e).1 (made y bytes is l))
 
     pub means : (v : V) (bytes : List ℕ) → Encoding v bytes → Means Grammar bytes (to v)
     means v bytes e = meant (to v) bytes (subst (λ u. Encoding u bytes) (sym (s.back v)) e)
@@ -88,7 +122,8 @@ module _ (oid : List ℕ) (identifier : IsIdentifier oid) where
     pub shortest : (w : W) (bytes : List ℕ) → documents.IsShortest Grammar w bytes → IsShortest Encoding (from w) bytes
     shortest w bytes p = (sentence w bytes p.spells, λ other q. p.least other (meant w other q))
 
-    pub is_shortest : (w : W) (bytes : List ℕ) → IsShortest Encoding (from w) bytes → documents.IsShortest Grammar w bytes
+    pub is_shortest : (w : W) (bytes : List ℕ) → IsShortest Encoding (from w) bytes
+        → documents.IsShortest Grammar w bytes
     is_shortest w bytes p = record { spells = meant w bytes p.0; least = λ other q. p.1 other (sentence w other q) }
 
     module _ (w : W) {v : V} (same : from w ≡ v) (bytes : List ℕ) where
@@ -98,11 +133,13 @@ module _ (oid : List ℕ) (identifier : IsIdentifier oid) where
       pub read : IsTheMeaning Grammar bytes w → Encoding v bytes × ((u : V) → Encoding u bytes → u ≡ v)
       read m = (moved Encoding same (sentence w bytes m.0), only m.1)
 
-      pub read_strictly : IsTheShortest Grammar bytes w → IsShortest Encoding v bytes × ((u : V) → IsShortest Encoding u bytes → u ≡ v)
+      pub read_strictly : IsTheShortest Grammar bytes w
+          → IsShortest Encoding v bytes × ((u : V) → IsShortest Encoding u bytes → u ≡ v)
       read_strictly m = (moved (IsShortest Encoding) same (shortest w bytes m.0), λ u e. only m.1 u e.0)
 
   -- All encodings, by those of the parameters.
-  module _ {V : Type 0} {Is' : V → Type 0} {gs : V → List Field} (v : V) (k : ℕ) (l : length (wrapped (longest (gs v))) ≤ limit) (all : List (List ℕ)) (a : AreAll (λ E. E) Is' gs v k all) where
+  module _ {V : Type 0} {Is' : V → Type 0} {gs : V → List Field} (v : V) (k : ℕ)
+      (l : length (wrapped (longest (gs v))) ≤ limit) (all : List (List ℕ)) (a : AreAll (λ E. E) Is' gs v k all) where
     at : (i : ℕ) → i < 2 ^ k → slice_index_or (map wrapped all) i [] ≡ wrapped (slice_index_or all i [])
     at i h = get_or-map wrapped all i [] [] (omega (arith, h, a.count))
 
@@ -111,32 +148,54 @@ module _ (oid : List ℕ) (identifier : IsIdentifier oid) where
         let y = slice_index_or all i [] in
         let (is, few, c, written, same) = a.under i h in
         let t = made (longest (gs v)) (wrapped (longest (gs v))) refl l in
-        let all_few : length (longest (gs v)) ≤ limit = omega (arith, l, parameters_shorter oid (longest (gs v)) (wrapped (longest (gs v))) t) in
-        let g = sequence_grows c (all_written (gs v)) (omega (arith, few, ap length same)) all_few (within (gs v) i c written) in
+        let all_few : length (longest (gs v)) ≤ limit =
+        omega (arith, l, parameters_shorter oid (longest (gs v)) (wrapped (longest (gs v))) t) in
+        let g =
+        sequence_grows c (all_written (gs v)) (omega (arith, few, ap length same)) all_few
+        (within (gs v) i c written) in
         fits (longest (gs v)) y l (omega (arith, g, ap length same))
 
-    entry : (E : V → List ℕ → Type 0) (i : ℕ) → i < 2 ^ k → E v (slice_index_or all i []) → AlgorithmEncoding oid E v (slice_index_or (map wrapped all) i [])
+    entry : (E : V → List ℕ → Type 0) (i : ℕ) → i < 2 ^ k → E v (slice_index_or all i [])
+        → AlgorithmEncoding oid E v (slice_index_or (map wrapped all) i [])
     entry E i h e = subst (AlgorithmEncoding oid E v) (sym (at i h)) (fit i h, slice_index_or all i [], e, refl)
 
     are_all : AreAll (AlgorithmEncoding oid) Is' gs v k (map wrapped all)
     are_all = record {
       count = length-map all wrapped ∙ a.count;
       under = λ i h. entry (SequenceOf Is' gs (FieldsUnder i)) i h (a.under i h);
-      different = λ i j h n e. a.different i j h n (one (slice_index_or all i []) (slice_index_or all j []) (fit i h) (sym (at i h) ∙ e ∙ at j n));
+      different =
+          λ i j h n e. a.different i j h n
+          (one (slice_index_or all i []) (slice_index_or all j []) (fit i h) (sym (at i h) ∙ e ∙ at j n));
       every = λ bytes. (
         λ (few, y, e, same). let (i, h, is) = (a.every y).0 e in (i, h, at i h ∙ ap wrapped is ∙ sym same),
-        λ (i, h, is). subst (AlgorithmEncoding oid (SequenceOf Is' gs Fields) v) is (entry (SequenceOf Is' gs Fields) i h ((a.every (slice_index_or all i [])).1 (i, h, refl))),
+        λ (i, h, is). subst (AlgorithmEncoding oid (SequenceOf Is' gs Fields) v) is
+            (entry (SequenceOf Is' gs Fields) i h ((a.every (slice_index_or all i [])).1 (i, h, refl))),
       );
     }
 
-  pub counted_in : {V : Type 0} {Is' : V → Type 0} {gs : V → List Field} → TwoToTheDefaults Is' gs → TwoToTheDefaultsIn oid Is' gs
+  pub counted_in : {V : Type 0} {Is' : V → Type 0} {gs : V → List Field} → TwoToTheDefaults Is' gs
+      → TwoToTheDefaultsIn oid Is' gs
   counted_in {gs = gs} two v k is d l =
       let t = made (longest (gs v)) (wrapped (longest (gs v))) refl l in
       let r = two v k is d (omega (arith, l, parameters_shorter oid (longest (gs v)) (wrapped (longest (gs v))) t)) in
       (map wrapped r.0, are_all v k l r.0 r.1)
 
 pub pss_identifier : IsIdentifier id_rsassa_pss
-pss_identifier = is_identifier-sound id_rsassa_pss (omega arith, (omega arith, (omega arith, (omega arith, (omega arith, (omega arith, (omega arith, (omega arith, (omega arith, tt))))))))) refl
+pss_identifier =
+    is_identifier-sound id_rsassa_pss (
+      omega arith,
+      (
+        omega arith,
+        (omega arith, (omega arith, (omega arith, (omega arith, (omega arith, (omega arith, (omega arith, tt))))))),
+      ),
+    ) refl
 
 pub oaep_identifier : IsIdentifier id_rsaes_oaep
-oaep_identifier = is_identifier-sound id_rsaes_oaep (omega arith, (omega arith, (omega arith, (omega arith, (omega arith, (omega arith, (omega arith, (omega arith, (omega arith, tt))))))))) refl
+oaep_identifier =
+    is_identifier-sound id_rsaes_oaep (
+      omega arith,
+      (
+        omega arith,
+        (omega arith, (omega arith, (omega arith, (omega arith, (omega arith, (omega arith, (omega arith, tt))))))),
+      ),
+    ) refl

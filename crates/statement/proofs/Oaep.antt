@@ -2,7 +2,8 @@
 use Rattle.std.proofs.Common.{ℕ, List}
 use Rattle.pkcs1_params.specs.Parameters as library
 use Rattle.statement.specs.Statement.{OaepParameters, IsOaep, oaep_fields}
-use Rattle.statement.proofs.Algorithms.{plain_from, plain_to, plain_back, plain_forth, mask_from, mask_to, mask_back, mask_forth, plain_written, mask_written, sha1_is, mgf1_is, label_is}
+use Rattle.statement.proofs.Algorithms.{plain_from, plain_to, plain_back, plain_forth, mask_from, mask_to, mask_back}
+use Rattle.statement.proofs.Algorithms.{mask_forth, plain_written, mask_written, sha1_is, mgf1_is, label_is}
 use Rattle.statement.proofs.Fields.{Sides, matches, made, value_is}
 
 abbrev pub from : library.OaepParameters → OaepParameters

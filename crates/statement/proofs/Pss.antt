@@ -4,7 +4,8 @@ use Rattle.der_core.specs.Integer.{Small}
 use Rattle.pkcs1_params.specs.Parameters as library
 use Rattle.statement.specs.Statement.{integer, PssParameters, IsPss, pss_fields}
 use Rattle.statement.proofs.Der.{small_integer, small_made}
-use Rattle.statement.proofs.Algorithms.{Written, plain_from, plain_to, plain_back, plain_forth, mask_from, mask_to, mask_back, mask_forth, plain_written, mask_written, sha1_is, mgf1_is}
+use Rattle.statement.proofs.Algorithms.{Written, plain_from, plain_to, plain_back, plain_forth, mask_from, mask_to}
+use Rattle.statement.proofs.Algorithms.{mask_back, mask_forth, plain_written, mask_written, sha1_is, mgf1_is}
 use Rattle.statement.proofs.Fields.{Sides, matches, made, value_is}
 
 abbrev itself : ℕ → ℕ
@@ -15,18 +16,44 @@ salt = record { only = λ n c l p. small_integer n c p; is = λ n c p. p.holds.0
 
 trailer : Written itself library.TrailerField (λ n. n ≡ 1) integer
 trailer = record {
-  only = λ n c l p. small_integer n c (record { octets = p.octets; contents = p.contents; counted = p.counted; holds = p.holds.1; written = p.written });
+  only =
+      λ n c l p. small_integer n c
+      (record {
+        octets = p.octets;
+        contents = p.contents;
+        counted = p.counted;
+        holds = p.holds.1;
+        written = p.written;
+      });
   is = λ n c p. p.holds.0;
   made = λ n e l.
       let p = small_made n (omega (arith, e)) l in
-      record { octets = p.octets; contents = p.contents; counted = p.counted; holds = (e, p.holds); written = p.written };
+      record {
+        octets = p.octets;
+        contents = p.contents;
+        counted = p.counted;
+        holds = (e, p.holds);
+        written = p.written;
+      };
 }
 
 abbrev pub from : library.PssParameters → PssParameters
-from p = record { hash = plain_from p.hash; mask_gen = mask_from p.mask_gen; salt_len = p.salt_len; trailer_field = p.trailer_field }
+from p =
+    record {
+      hash = plain_from p.hash;
+      mask_gen = mask_from p.mask_gen;
+      salt_len = p.salt_len;
+      trailer_field = p.trailer_field;
+    }
 
 abbrev pub to : PssParameters → library.PssParameters
-to p = record { hash = plain_to p.hash; mask_gen = mask_to p.mask_gen; salt_len = p.salt_len; trailer_field = p.trailer_field }
+to p =
+    record {
+      hash = plain_to p.hash;
+      mask_gen = mask_to p.mask_gen;
+      salt_len = p.salt_len;
+      trailer_field = p.trailer_field;
+    }
 
 pub sides : Sides from to library.pss_fields pss_fields IsPss
 sides = record {

@@ -5,12 +5,18 @@ use Rattle.der_core.specs.Document.{Means}
 use Rattle.der_core.specs.Document as documents
 use Rattle.der_core.specs.Integer.{Integer, IsCanonical}
 use Rattle.pkcs1.specs.Keys as keys
-use Rattle.statement.specs.Statement.{octets, integer, integers, sequence, limit, PublicKey, PublicKeyEncoding, IsShortest}
-use Rattle.statement.proofs.Der.{tlv_is, tlv_fit, tlv_made, integer_is, integer_made, joins_are, joins_made, octets_number, number_octets}
+use Rattle.statement.specs.Statement.{octets, integer, integers, sequence, limit, PublicKey, PublicKeyEncoding}
+use Rattle.statement.specs.Statement.{IsShortest}
+use Rattle.statement.proofs.Der.{tlv_is, tlv_fit, tlv_made, integer_is, integer_made, joins_are, joins_made}
+use Rattle.statement.proofs.Der.{octets_number, number_octets}
 
 -- The numbers of a key, and the key of two numbers.
 abbrev pub numbers : keys.PublicKey (List ℕ) → PublicKey
-numbers key = record { modulus = number_from_digits 256 key.modulus; public_exponent = number_from_digits 256 key.public_exponent }
+numbers key =
+    record {
+      modulus = number_from_digits 256 key.modulus;
+      public_exponent = number_from_digits 256 key.public_exponent;
+    }
 
 abbrev pub key_of : PublicKey → keys.PublicKey (List ℕ)
 key_of v = record { modulus = octets v.modulus; public_exponent = octets v.public_exponent }
@@ -18,23 +24,32 @@ key_of v = record { modulus = octets v.modulus; public_exponent = octets v.publi
 pub back : (v : PublicKey) → numbers (key_of v) ≡ v
 back v = λ i. record { modulus = octets_number v.modulus i; public_exponent = octets_number v.public_exponent i }
 
-pub forth : (key : keys.PublicKey (List ℕ)) → IsCanonical key.modulus → IsCanonical key.public_exponent → key_of (numbers key) ≡ key
+pub forth : (key : keys.PublicKey (List ℕ)) → IsCanonical key.modulus → IsCanonical key.public_exponent
+    → key_of (numbers key) ≡ key
 forth key m e =
     let n = number_octets key.modulus m in
     let x = number_octets key.public_exponent e in
     λ i. record { modulus = n i; public_exponent = x i }
 
-encoding_is : (key : keys.PublicKey (List ℕ)) (encoding : List ℕ) → keys.RsaPublicKey key encoding → encoding ≡ sequence (integers ((numbers key).modulus ∷ (numbers key).public_exponent ∷ []))
-encoding_is key encoding p = tlv_is 48 _ encoding (joins_are Integer (λ x. integer (number_from_digits 256 x)) integer_is (key.modulus ∷ key.public_exponent ∷ [])) p
+encoding_is : (key : keys.PublicKey (List ℕ)) (encoding : List ℕ) → keys.RsaPublicKey key encoding
+    → encoding ≡ sequence (integers ((numbers key).modulus ∷ (numbers key).public_exponent ∷ []))
+encoding_is key encoding p =
+    tlv_is 48 _ encoding (joins_are Integer (λ x. integer (number_from_digits 256 x)) integer_is
+    (key.modulus ∷ key.public_exponent ∷ [])) p
 
-pub sentence : (key : keys.PublicKey (List ℕ)) (bytes : List ℕ) → Means keys.RsaPublicKey bytes key → PublicKeyEncoding (numbers key) bytes
+pub sentence : (key : keys.PublicKey (List ℕ)) (bytes : List ℕ) → Means keys.RsaPublicKey bytes key
+    → PublicKeyEncoding (numbers key) bytes
 sentence key bytes p = (p.0, encoding_is key bytes p.1)
 
 pub means : (v : PublicKey) (bytes : List ℕ) → PublicKeyEncoding v bytes → Means keys.RsaPublicKey bytes (key_of v)
 means v bytes p =
     let both = v.modulus ∷ v.public_exponent ∷ [] in
-    let few : length (integers both) ≤ limit = omega (arith, p.0, ap length p.1, tlv_fit 48 (integers both)) in
-    (p.0, tlv_made 48 (integers both) bytes (joins_made (λ n. Integer (octets n)) integer integer_made both few) p.1 p.0)
+    let few : length (integers both) ≤ limit = omega (arith, p.0, ap length p.1, tlv_fit 48 (integers both)) in (
+      p.0,
+      tlv_made 48 (integers both) bytes (joins_made (λ n. Integer (octets n)) integer integer_made both few) p.1
+          p.0,
+    )
 
-pub shortest : (key : keys.PublicKey (List ℕ)) (bytes : List ℕ) → documents.IsShortest keys.RsaPublicKey key bytes → IsShortest PublicKeyEncoding (numbers key) bytes
+pub shortest : (key : keys.PublicKey (List ℕ)) (bytes : List ℕ) → documents.IsShortest keys.RsaPublicKey key bytes
+    → IsShortest PublicKeyEncoding (numbers key) bytes
 shortest key bytes p = (sentence key bytes p.spells, λ other q. inl (q.1 ∙ sym (encoding_is key bytes p.spells.1)))

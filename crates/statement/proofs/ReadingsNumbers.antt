@@ -25,7 +25,8 @@ bytes_of x c b p = go (integer_of c) refl
 
 integer_takes : (x : List ℕ) → Takes (IntegerContents x) integer_in (number_from_digits 256 x)
 unfolding integer_in
-integer_takes x = record { takes = λ c s p. ap (λ r. r >>= λ y. Ok (number_from_digits 256 y, [])) (bytes_of x c s.1 p) }
+integer_takes x =
+    record { takes = λ c s p. ap (λ r. r >>= λ y. Ok (number_from_digits 256 y, [])) (bytes_of x c s.1 p) }
 
 integer_rejects : Rejects IntegerFault integer_in
 unfolding integer_in
@@ -63,8 +64,10 @@ module _ (n : ℕ) where
   pub expected_rejects : Rejects (ExpectedFault SmallContents SmallFault n (kind.Value tags.integer)) (expected n)
   expected_rejects = record { rejects = go }
     where
-      go : (k : ErrorKind) (c : List ℕ) → Slice c → ExpectedFault SmallContents SmallFault n (kind.Value tags.integer) k c → expected n c ≡ Err k
+      go : (k : ErrorKind) (c : List ℕ) → Slice c
+          → ExpectedFault SmallContents SmallFault n (kind.Value tags.integer) k c → expected n c ≡ Err k
       go k c s (inl f) = such_err (λ m. m == n) (kind.Value tags.integer) small_in (small_rejects.rejects k c s f)
       go k c s (inr (m, p, other, is)) =
           let no_match : (m == n) ≡ false = grind (arith, nat_tests, other) in
-          such_not (λ m. m == n) (kind.Value tags.integer) small_in ((small_takes m).takes c s p) no_match ∙ ap (λ e. Err e) (sym is)
+          such_not (λ m. m == n) (kind.Value tags.integer) small_in ((small_takes m).takes c s p) no_match
+          ∙ ap (λ e. Err e) (sym is)

@@ -45,7 +45,8 @@ public_keys : Mean public_key (
     ∷ (codes "30818602818040" ++ (replicate 254 0x30 ++ codes "020103"), numbers (256 ^ 127 * 64) 3)
     ∷ []
     )
-unfolding bytes_of digit header_at length_at chain ended such present items_within tagged whole field integer_in small_in identifier_in any octets_in
+unfolding bytes_of digit header_at length_at chain ended such present items_within tagged whole field integer_in
+    small_in identifier_in any octets_in
 public_keys = (refl, (refl, (refl, (refl, (refl, tt)))))
 
 no_public_keys : AreRejected public_key (
@@ -78,8 +79,60 @@ no_public_keys : AreRejected public_key (
     ∷ (codes "3006020107020180", Value integer)
     ∷ []
     )
-unfolding bytes_of digit header_at length_at chain ended such present items_within tagged whole field integer_in small_in identifier_in any octets_in
-no_public_keys = (refl, (refl, (refl, (refl, (refl, (refl, (refl, (refl, (refl, (refl, (refl, (refl, (refl, (refl, (refl, (refl, (refl, (refl, (refl, (refl, (refl, (refl, (refl, (refl, tt))))))))))))))))))))))))
+unfolding bytes_of digit header_at length_at chain ended such present items_within tagged whole field integer_in
+    small_in identifier_in any octets_in
+no_public_keys = (
+  refl,
+  (
+    refl,
+    (
+      refl,
+      (
+        refl,
+        (
+          refl,
+          (
+            refl,
+            (
+              refl,
+              (
+                refl,
+                (
+                  refl,
+                  (
+                    refl,
+                    (
+                      refl,
+                      (
+                        refl,
+                        (
+                          refl,
+                          (
+                            refl,
+                            (
+                              refl,
+                              (
+                                refl,
+                                (
+                                  refl,
+                                  (refl, (refl, (refl, (refl, (refl, (refl, (refl, tt))))))),
+                                ),
+                              ),
+                            ),
+                          ),
+                        ),
+                      ),
+                    ),
+                  ),
+                ),
+              ),
+            ),
+          ),
+        ),
+      ),
+    ),
+  ),
+)
 
 -- == RSAPrivateKey ==
 abbrev key_with : Option (List OtherPrime) → PrivateKey
@@ -100,11 +153,19 @@ other r d t = record { prime = r; exponent = d; coefficient = t }
 
 private_keys : Mean private_key (
     (codes "301b02010002010702010302010502010b02010d020102020104020106", key_with None)
-    ∷ (codes "302802010102010702010302010502010b02010d020102020104020106300b3009020111020102020103", key_with (Some (other 17 2 3 ∷ [])))
-    ∷ (codes "303302010102010702010302010502010b02010d020102020104020106301630090201110201020201033009020113020104020105", key_with (Some (other 17 2 3 ∷ other 19 4 5 ∷ [])))
+    ∷ (
+      codes "302802010102010702010302010502010b02010d020102020104020106300b3009020111020102020103",
+      key_with (Some (other 17 2 3 ∷ [])),
+    )
+    ∷ (
+      codes
+          "303302010102010702010302010502010b02010d020102020104020106301630090201110201020201033009020113020104020105",
+      key_with (Some (other 17 2 3 ∷ other 19 4 5 ∷ [])),
+    )
     ∷ []
     )
-unfolding bytes_of digit header_at length_at chain ended such present items_within tagged whole field integer_in small_in identifier_in any octets_in
+unfolding bytes_of digit header_at length_at chain ended such present items_within tagged whole field integer_in
+    small_in identifier_in any octets_in
 private_keys = (refl, (refl, (refl, tt)))
 
 no_private_keys : AreRejected private_key (
@@ -122,7 +183,8 @@ no_private_keys : AreRejected private_key (
     ∷ (codes "302702010002010702010302010502010b02010d020102020104020106300a30080201110201020201", Incomplete)
     ∷ []
     )
-unfolding bytes_of digit header_at length_at chain ended such present items_within tagged whole field integer_in small_in identifier_in any octets_in
+unfolding bytes_of digit header_at length_at chain ended such present items_within tagged whole field integer_in
+    small_in identifier_in any octets_in
 no_private_keys = (refl, (refl, (refl, (refl, (refl, (refl, (refl, (refl, (refl, (refl, tt))))))))))
 
 -- == Identifiers, any encoding, AlgorithmIdentifier ==
@@ -136,16 +198,19 @@ no_identifiers : AreRejected identifier (
     ∷ (codes "0600", OidMalformed)
     ∷ []
     )
-unfolding bytes_of digit header_at length_at chain ended such present items_within tagged whole field integer_in small_in identifier_in any octets_in
+unfolding bytes_of digit header_at length_at chain ended such present items_within tagged whole field integer_in
+    small_in identifier_in any octets_in
 no_identifiers = (refl, (refl, (refl, tt)))
 
 -- At most 39 octets.
 longest_identifier : identifier (0x06 ∷ 39 ∷ replicate 39 1) ≡ Ok (replicate 39 1, [])
-unfolding bytes_of digit header_at length_at chain ended such present items_within tagged whole field integer_in small_in identifier_in any octets_in
+unfolding bytes_of digit header_at length_at chain ended such present items_within tagged whole field integer_in
+    small_in identifier_in any octets_in
 longest_identifier = refl
 
 longer_identifier : identifier (0x06 ∷ 40 ∷ replicate 40 1) ≡ Err OidMalformed
-unfolding bytes_of digit header_at length_at chain ended such present items_within tagged whole field integer_in small_in identifier_in any octets_in
+unfolding bytes_of digit header_at length_at chain ended such present items_within tagged whole field integer_in
+    small_in identifier_in any octets_in
 longer_identifier = refl
 
 abbrev plain_any : ℕ → List ℕ → TagAndContents
@@ -156,7 +221,8 @@ encodings : Mean any (
     ∷ (codes "050100", plain_any 5 (0x00 ∷ []))
     ∷ []
     )
-unfolding bytes_of digit header_at length_at chain ended such present items_within tagged whole field integer_in small_in identifier_in any octets_in
+unfolding bytes_of digit header_at length_at chain ended such present items_within tagged whole field integer_in
+    small_in identifier_in any octets_in
 encodings = (refl, (refl, tt))
 
 no_encodings : AreRejected any (
@@ -164,7 +230,8 @@ no_encodings : AreRejected any (
     ∷ (codes "1f00", TagUnknown 0x1f)
     ∷ []
     )
-unfolding bytes_of digit header_at length_at chain ended such present items_within tagged whole field integer_in small_in identifier_in any octets_in
+unfolding bytes_of digit header_at length_at chain ended such present items_within tagged whole field integer_in
+    small_in identifier_in any octets_in
 no_encodings = (refl, (refl, tt))
 
 abbrev algorithm_with : {P : Type 0} → List ℕ → Option P → Algorithm P
@@ -176,7 +243,8 @@ algorithms : Mean (algorithm any) (
     ∷ (codes "300d06092a864886f70d0101010500", rsa_encryption)
     ∷ []
     )
-unfolding bytes_of digit header_at length_at chain ended such present items_within tagged whole field integer_in small_in identifier_in any octets_in
+unfolding bytes_of digit header_at length_at chain ended such present items_within tagged whole field integer_in
+    small_in identifier_in any octets_in
 algorithms = (refl, (refl, (refl, tt)))
 
 no_algorithms : AreRejected (algorithm any) (
@@ -186,7 +254,8 @@ no_algorithms : AreRejected (algorithm any) (
     ∷ (codes "300f06092a864886f70d01010105000500", TrailingData)
     ∷ []
     )
-unfolding bytes_of digit header_at length_at chain ended such present items_within tagged whole field integer_in small_in identifier_in any octets_in
+unfolding bytes_of digit header_at length_at chain ended such present items_within tagged whole field integer_in
+    small_in identifier_in any octets_in
 no_algorithms = (refl, (refl, (refl, (refl, tt))))
 
 mask_algorithms : Mean (algorithm (algorithm any)) (
@@ -194,14 +263,16 @@ mask_algorithms : Mean (algorithm (algorithm any)) (
     ∷ (codes "300b06092a864886f70d010108", algorithm_with mgf1_sha1.oid None)
     ∷ []
     )
-unfolding bytes_of digit header_at length_at chain ended such present items_within tagged whole field integer_in small_in identifier_in any octets_in
+unfolding bytes_of digit header_at length_at chain ended such present items_within tagged whole field integer_in
+    small_in identifier_in any octets_in
 mask_algorithms = (refl, (refl, tt))
 
 no_mask_algorithms : AreRejected (algorithm (algorithm any)) (
     (codes "300d06092a864886f70d0101080500", TagUnexpected sequence null)
     ∷ []
     )
-unfolding bytes_of digit header_at length_at chain ended such present items_within tagged whole field integer_in small_in identifier_in any octets_in
+unfolding bytes_of digit header_at length_at chain ended such present items_within tagged whole field integer_in
+    small_in identifier_in any octets_in
 no_mask_algorithms = (refl, tt)
 
 -- == RSASSA-PSS-params and RSAES-OAEP-params, alone and in their algorithm identifiers ==
@@ -214,12 +285,16 @@ oaep_with source = record { hash = sha1; mask_gen = mgf1_sha1; p_source = source
 pss_params : Mean pss (
     (codes "3000", pss_with sha1 20)
     ∷ (codes "3005a203020114", pss_with sha1 20)
-    ∷ (codes "3031a00b300906052b0e03021a0500a118301606092a864886f70d010108300906052b0e03021a0500a203020114a303020101", pss_with sha1 20)
+    ∷ (
+      codes "3031a00b300906052b0e03021a0500a118301606092a864886f70d010108300906052b0e03021a0500a203020114a303020101",
+      pss_with sha1 20,
+    )
     ∷ (codes "3005a203020120", pss_with sha1 32)
     ∷ (codes "300ba009300706052b0e03021a", pss_with (algorithm_with sha1.oid None) 20)
     ∷ []
     )
-unfolding bytes_of digit header_at length_at chain ended such present items_within tagged whole field integer_in small_in identifier_in any octets_in
+unfolding bytes_of digit header_at length_at chain ended such present items_within tagged whole field integer_in
+    small_in identifier_in any octets_in
 pss_params = (refl, (refl, (refl, (refl, (refl, tt)))))
 
 no_pss_params : AreRejected pss (
@@ -251,16 +326,57 @@ no_pss_params : AreRejected pss (
     ∷ (codes "300da00b300906052b0e03021a0502", Incomplete)
     ∷ []
     )
-unfolding bytes_of digit header_at length_at chain ended such present items_within tagged whole field integer_in small_in identifier_in any octets_in
-no_pss_params = (refl, (refl, (refl, (refl, (refl, (refl, (refl, (refl, (refl, (refl, (refl, (refl, (refl, (refl, (refl, (refl, (refl, (refl, (refl, (refl, (refl, (refl, tt))))))))))))))))))))))
+unfolding bytes_of digit header_at length_at chain ended such present items_within tagged whole field integer_in
+    small_in identifier_in any octets_in
+no_pss_params = (
+  refl,
+  (
+    refl,
+    (
+      refl,
+      (
+        refl,
+        (
+          refl,
+          (
+            refl,
+            (
+              refl,
+              (
+                refl,
+                (
+                  refl,
+                  (
+                    refl,
+                    (
+                      refl,
+                      (
+                        refl,
+                        (refl, (refl, (refl, (refl, (refl, (refl, (refl, (refl, (refl, (refl, tt)))))))))),
+                      ),
+                    ),
+                  ),
+                ),
+              ),
+            ),
+          ),
+        ),
+      ),
+    ),
+  ),
+)
 
 oaep_params : Mean oaep (
     (codes "3000", oaep_with empty_label)
     ∷ (codes "300fa20d300b06092a864886f70d010109", oaep_with (algorithm_with empty_label.oid None))
-    ∷ (codes "3012a210300e06092a864886f70d010109040161", oaep_with (algorithm_with empty_label.oid (Some (plain_any 4 (0x61 ∷ [])))))
+    ∷ (
+      codes "3012a210300e06092a864886f70d010109040161",
+      oaep_with (algorithm_with empty_label.oid (Some (plain_any 4 (0x61 ∷ [])))),
+    )
     ∷ []
     )
-unfolding bytes_of digit header_at length_at chain ended such present items_within tagged whole field integer_in small_in identifier_in any octets_in
+unfolding bytes_of digit header_at length_at chain ended such present items_within tagged whole field integer_in
+    small_in identifier_in any octets_in
 oaep_params = (refl, (refl, (refl, tt)))
 
 no_oaep_params : AreRejected oaep (
@@ -272,7 +388,8 @@ no_oaep_params : AreRejected oaep (
     ∷ (codes "3005a203020114", TagUnexpected sequence integer)
     ∷ []
     )
-unfolding bytes_of digit header_at length_at chain ended such present items_within tagged whole field integer_in small_in identifier_in any octets_in
+unfolding bytes_of digit header_at length_at chain ended such present items_within tagged whole field integer_in
+    small_in identifier_in any octets_in
 no_oaep_params = (refl, (refl, (refl, (refl, (refl, tt)))))
 
 pss_algorithms : Mean pss_algorithm (
@@ -280,7 +397,8 @@ pss_algorithms : Mean pss_algorithm (
     ∷ (codes "301206092a864886f70d01010a3005a203020114", pss_with sha1 20)
     ∷ []
     )
-unfolding bytes_of digit header_at length_at chain ended such present items_within tagged whole field integer_in small_in identifier_in any octets_in
+unfolding bytes_of digit header_at length_at chain ended such present items_within tagged whole field integer_in
+    small_in identifier_in any octets_in
 pss_algorithms = (refl, (refl, tt))
 
 no_pss_algorithms : AreRejected pss_algorithm (
@@ -289,14 +407,16 @@ no_pss_algorithms : AreRejected pss_algorithm (
     ∷ (codes "300d06092a864886f70d01010a0500", TagUnexpected sequence null)
     ∷ []
     )
-unfolding bytes_of digit header_at length_at chain ended such present items_within tagged whole field integer_in small_in identifier_in any octets_in
+unfolding bytes_of digit header_at length_at chain ended such present items_within tagged whole field integer_in
+    small_in identifier_in any octets_in
 no_pss_algorithms = (refl, (refl, (refl, tt)))
 
 oaep_algorithms : Mean oaep_algorithm (
     (codes "300d06092a864886f70d0101073000", oaep_with empty_label)
     ∷ []
     )
-unfolding bytes_of digit header_at length_at chain ended such present items_within tagged whole field integer_in small_in identifier_in any octets_in
+unfolding bytes_of digit header_at length_at chain ended such present items_within tagged whole field integer_in
+    small_in identifier_in any octets_in
 oaep_algorithms = (refl, tt)
 
 -- == PrivateKeyInfo, and the key in it ==
@@ -311,7 +431,8 @@ containers : Mean container (
     (codes "300d020100300406022a030402050a", small_container)
     ∷ []
     )
-unfolding bytes_of digit header_at length_at chain ended such present items_within tagged whole field integer_in small_in identifier_in any octets_in
+unfolding bytes_of digit header_at length_at chain ended such present items_within tagged whole field integer_in
+    small_in identifier_in any octets_in
 containers = (refl, tt)
 
 no_containers : AreRejected container (
@@ -324,7 +445,8 @@ no_containers : AreRejected container (
     ∷ (codes "300f020100300406022a030402050a0500", TrailingData)
     ∷ []
     )
-unfolding bytes_of digit header_at length_at chain ended such present items_within tagged whole field integer_in small_in identifier_in any octets_in
+unfolding bytes_of digit header_at length_at chain ended such present items_within tagged whole field integer_in
+    small_in identifier_in any octets_in
 no_containers = (refl, (refl, (refl, (refl, (refl, tt)))))
 
 no_contained_keys : AreRejected contained_key (
@@ -333,5 +455,6 @@ no_contained_keys : AreRejected contained_key (
     ∷ (codes "3016020100300d06092a864886f70d010101050004023006", Incomplete)
     ∷ []
     )
-unfolding bytes_of digit header_at length_at chain ended such present items_within tagged whole field integer_in small_in identifier_in any octets_in
+unfolding bytes_of digit header_at length_at chain ended such present items_within tagged whole field integer_in
+    small_in identifier_in any octets_in
 no_contained_keys = (refl, (refl, (refl, tt)))

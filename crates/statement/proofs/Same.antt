@@ -8,7 +8,9 @@ use Rattle.pkcs1_params.specs.Laws.Parameters.{pss_delimited, oaep_delimited}
 use Rattle.pkcs1_params.specs.Parameters.{RsaPssParams, RsaOaepParams}
 use Rattle.der_core.specs.Document.{Means}
 use Rattle.der_core.specs.Encodings.{IsDelimited}
-use Rattle.statement.specs.Statement.{IsShortest, SameByShortest, PublicKeyEncoding, PrivateKeyEncoding, PssEncoding, OaepEncoding, id_rsassa_pss, PssAlgorithmEncoding, id_rsaes_oaep, OaepAlgorithmEncoding, ContainerEncoding}
+use Rattle.statement.specs.Statement.{IsShortest, SameByShortest, PublicKeyEncoding, PrivateKeyEncoding, PssEncoding}
+use Rattle.statement.specs.Statement.{OaepEncoding, id_rsassa_pss, PssAlgorithmEncoding, id_rsaes_oaep}
+use Rattle.statement.specs.Statement.{OaepAlgorithmEncoding, ContainerEncoding}
 use Rattle.statement.proofs.PublicKeys as keys
 use Rattle.statement.proofs.PrivateKeys as private
 use Rattle.statement.proofs.Containers as containers
@@ -32,9 +34,13 @@ module _ {V : Type 0} (Encoding : V → List ℕ → Type 0) where
   )
 
 -- Bytes encode one value, since they do in the library.
-module _ {V W : Type 0} (Encoding : V → List ℕ → Type 0) {Grammar : W → List ℕ → Type 0} (delimited : IsDelimited Grammar) (from : W → V) (to : V → W) where
-  same : ((v : V) → from (to v) ≡ v) → ((v : V) (bytes : List ℕ) → Encoding v bytes → Means Grammar bytes (to v)) → SameByShortest Encoding
-  same back means = by_shortest Encoding (λ v w bytes p q. sym (back v) ∙ ap from (laws.means_one delimited (to v) (to w) bytes (means v bytes p).1 (means w bytes q).1) ∙ back w)
+module _ {V W : Type 0} (Encoding : V → List ℕ → Type 0) {Grammar : W → List ℕ → Type 0}
+    (delimited : IsDelimited Grammar) (from : W → V) (to : V → W) where
+  same : ((v : V) → from (to v) ≡ v) → ((v : V) (bytes : List ℕ) → Encoding v bytes → Means Grammar bytes (to v))
+      → SameByShortest Encoding
+  same back means =
+      by_shortest Encoding (λ v w bytes p q. sym (back v)
+      ∙ ap from (laws.means_one delimited (to v) (to w) bytes (means v bytes p).1 (means w bytes q).1) ∙ back w)
 
 pub same_public : SameByShortest PublicKeyEncoding
 same_public = same PublicKeyEncoding public_delimited keys.numbers keys.key_of keys.back keys.means
@@ -50,11 +56,13 @@ same_oaep = same OaepEncoding oaep_delimited oaep.from oaep.to oaep.sides.back (
 
 pub same_pss_algorithm : SameByShortest PssAlgorithmEncoding
 same_pss_algorithm =
-    same PssAlgorithmEncoding (algorithm_of_delimited RsaPssParams id_rsassa_pss pss_delimited) pss.from pss.to pss.sides.back (algorithms.means id_rsassa_pss algorithms.pss_identifier pss.sides)
+    same PssAlgorithmEncoding (algorithm_of_delimited RsaPssParams id_rsassa_pss pss_delimited) pss.from pss.to
+    pss.sides.back (algorithms.means id_rsassa_pss algorithms.pss_identifier pss.sides)
 
 pub same_oaep_algorithm : SameByShortest OaepAlgorithmEncoding
 same_oaep_algorithm =
-    same OaepAlgorithmEncoding (algorithm_of_delimited RsaOaepParams id_rsaes_oaep oaep_delimited) oaep.from oaep.to oaep.sides.back (algorithms.means id_rsaes_oaep algorithms.oaep_identifier oaep.sides)
+    same OaepAlgorithmEncoding (algorithm_of_delimited RsaOaepParams id_rsaes_oaep oaep_delimited) oaep.from oaep.to
+    oaep.sides.back (algorithms.means id_rsaes_oaep algorithms.oaep_identifier oaep.sides)
 
 pub same_container : SameByShortest ContainerEncoding
 same_container = same ContainerEncoding info_delimited containers.from containers.to containers.back containers.means

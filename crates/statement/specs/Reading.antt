@@ -1,7 +1,8 @@
 -- Reading as a function of the bytes, in the order of reading: the value, or the kind of the first fault from the left.
--- A Reading takes bytes, and gives Ok of a value and of the bytes behind what it read, or Err of the kind. `src/errors.rt`
--- promises that the library's calls return what the functions give; `proofs/ReadingsRows.antt` has worked rows.
--- Values and symbols are those of `Statement.antt`; `header_at`, `front_of`, `integer_of` and `small_of` are `der_core`'s.
+-- A Reading takes bytes, and gives Ok of a value and of the bytes behind what it read, or Err of the kind.
+-- `src/errors.rt` promises that the library's calls return what the functions give; `proofs/ReadingsRows.antt` has
+-- worked rows. Values and symbols are those of `Statement.antt`; `header_at`, `front_of`, `integer_of` and `small_of`
+-- are `der_core`'s.
 use Rattle.std.specs.Prelude.{ℕ, zero, suc, nat_lt, ◌==◌, Bool, true, false, not, ◌&&◌, if◌then◌else◌, ◌≡◌}
 use Rattle.std.specs.Prelude.{List, [], ◌∷◌, length, Option, Some, None, Result, Ok, Err}
 use Rattle.std.specs.Int.Digits.{number_from_digits}

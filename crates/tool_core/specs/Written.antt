@@ -10,7 +10,8 @@ Writes old new lines = (output : List ℕ) × Answers lines output × Appends ol
 
 -- Exactly the output for the first lines, however many, was written.
 abbrev pub WritesFirst : Option (List ℕ) → Option (List ℕ) → List (List ℕ) → Type 0
-WritesFirst old new lines = (first : List (List ℕ)) × (later : List (List ℕ)) × (lines ≡ first ++ later) × Writes old new first
+WritesFirst old new lines =
+    (first : List (List ℕ)) × (later : List (List ℕ)) × (lines ≡ first ++ later) × Writes old new first
 
 -- Exactly a beginning of the output for the first lines, however many, was written.
 abbrev pub WritesFront : Option (List ℕ) → Option (List ℕ) → List (List ℕ) → Type 0

@@ -1,5 +1,6 @@
 -- Contents that were read whole, and the number in them.
-use Rattle.std.proofs.Common.{◌≡◌, ℕ, ◌<◌, ◌≤◌, List, [], ◌∷◌, length, take, drop, take_all, refl, sym, ap, ◌∙◌, arith, inl, inr, Result, Ok, Err, Some, None, false, suc, zero}
+use Rattle.std.proofs.Common.{◌≡◌, ℕ, ◌<◌, ◌≤◌, List, [], ◌∷◌, length, take, drop, take_all, refl, sym, ap, ◌∙◌, arith}
+use Rattle.std.proofs.Common.{inl, inr, Result, Ok, Err, Some, None, false, suc, zero}
 use Rattle.std.specs.Prelude.{nat_lt, ◌==◌}
 use Rattle.std.specs.Int.Digits.{number_from_digits}
 use Rattle.std.proofs.lemmas.Bool.Decides.{nat_tests}
@@ -18,7 +19,8 @@ empty_is [] e = refl
 empty_is (b ∷ x) e = absurd (omega (arith, e))
 
 -- All that was left was read, and nothing is left.
-pub all_taken : (before : Input) (n : ℕ) (bytes rest : List ℕ) → HoldsBytes before n → read_from before (front_of n) ≡ Ok (bytes, rest) → (before ≡ Some bytes) × (rest ≡ [])
+pub all_taken : (before : Input) (n : ℕ) (bytes rest : List ℕ) → HoldsBytes before n
+    → read_from before (front_of n) ≡ Ok (bytes, rest) → (before ≡ Some bytes) × (rest ≡ [])
 all_taken None n bytes rest h r = absurd h
 all_taken (Some c) n bytes rest h r =
     let room : nat_lt (length c) n ≡ false = grind (arith, nat_tests, h) in
@@ -61,7 +63,8 @@ integer_gives (x ∷ y ∷ ys) bytes b e = elim (chosen (nat_lt x 128) _ _ _ e) 
 ]
 
 -- The same of a number from 0 to 255.
-small_gives_of : (c : List ℕ) (n : ℕ) → AreBytes c → (r : Result (List ℕ) ErrorKind) → integer_of c ≡ r → as_small r ≡ Ok n → SmallContents n c
+small_gives_of : (c : List ℕ) (n : ℕ) → AreBytes c → (r : Result (List ℕ) ErrorKind) → integer_of c ≡ r
+    → as_small r ≡ Ok n → SmallContents n c
 small_gives_of c n b (Err k) is e = cc
 small_gives_of c n b (Ok bytes) is e = elim (chosen (nat_lt (number_from_digits 256 bytes) 256) _ _ _ e) [
   | inl w ↦

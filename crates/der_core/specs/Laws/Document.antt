@@ -30,17 +30,25 @@ IsLength-prop n octets (long ds p j a e) (long ds' q k b f) =
     long (d i) (le_prop p q i)
     (is_prop→PathP (λ h. length (d h) ≤ 126) (λ h. le_prop) j k i)
     (is_prop→PathP (λ h. IsBase256 n (d h)) (λ h. IsBase256-prop n (d h)) a b i)
-    (is_prop→PathP (λ h. octets ≡ (128 + length (d h)) ∷ d h) (λ h. bytes_set octets ((128 + length (d h)) ∷ d h)) e f i)
+    (is_prop→PathP (λ h. octets ≡ (128 + length (d h)) ∷ d h) (λ h. bytes_set octets ((128 + length (d h)) ∷ d h)) e f
+    i)
 
-Tlv-prop : (t : ℕ) (Contents : List ℕ → Type 0) → ((c : List ℕ) → IsProp (Contents c)) → (encoding : List ℕ) → IsProp (Tlv t Contents encoding)
+Tlv-prop : (t : ℕ) (Contents : List ℕ → Type 0) → ((c : List ℕ) → IsProp (Contents c)) → (encoding : List ℕ)
+    → IsProp (Tlv t Contents encoding)
 Tlv-prop t Contents is_prop encoding p q =
     let c = same_cons (sym p.written ∙ q.written) in
-    let s = length_split (length p.contents) (length q.contents) p.octets p.contents q.octets q.contents p.counted q.counted c.1 in λ i. record {
+    let s =
+    length_split (length p.contents) (length q.contents) p.octets p.contents q.octets q.contents p.counted q.counted
+    c.1 in λ i. record {
       octets = s.0 i;
       contents = s.2 i;
-      counted = is_prop→PathP (λ h. IsLength (length (s.2 h)) (s.0 h)) (λ h. IsLength-prop (length (s.2 h)) (s.0 h)) p.counted q.counted i;
+      counted =
+          is_prop→PathP (λ h. IsLength (length (s.2 h)) (s.0 h)) (λ h. IsLength-prop (length (s.2 h)) (s.0 h)) p.counted
+          q.counted i;
       holds = is_prop→PathP (λ h. Contents (s.2 h)) (λ h. is_prop (s.2 h)) p.holds q.holds i;
-      written = is_prop→PathP (λ h. encoding ≡ t ∷ s.0 h ++ s.2 h) (λ h. bytes_set encoding (t ∷ s.0 h ++ s.2 h)) p.written q.written i;
+      written =
+          is_prop→PathP (λ h. encoding ≡ t ∷ s.0 h ++ s.2 h) (λ h. bytes_set encoding (t ∷ s.0 h ++ s.2 h)) p.written
+          q.written i;
     }
 
 pub IsDocument-prop : (encoding : List ℕ) → IsProp (IsDocument encoding)

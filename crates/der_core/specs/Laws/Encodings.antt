@@ -1,5 +1,6 @@
 -- What the parts of an encoding say of the whole.
-use Rattle.std.proofs.Common.{ℕ, List, [], ◌∷◌, ◌++◌, ◌≡◌, ◌<◌, ◌≤◌, ◌+◌, ◌^◌, length, refl, sym, ap, ◌∙◌, arith, map, append_assoc, length-append, append-nil}
+use Rattle.std.proofs.Common.{ℕ, List, [], ◌∷◌, ◌++◌, ◌≡◌, ◌<◌, ◌≤◌, ◌+◌, ◌^◌, length, refl, sym, ap, ◌∙◌, arith, map}
+use Rattle.std.proofs.Common.{append_assoc, length-append, append-nil}
 use Rattle.std.proofs.lemmas.List.{append_cancel_left}
 use Rattle.der_core.specs.Length.{IsLength, length_octets}
 use Rattle.std.specs.Prelude.{IsTrue}
@@ -9,14 +10,20 @@ use Rattle.der_core.specs.Encodings.{AreBytes, Is, Joins, Then, IsDelimited, IsO
 use Rattle.der_core.specs.Tlv.{Tlv, tlv}
 use Rattle.der_core.specs.Writing.{IsLeast}
 use Rattle.der_core.specs.Laws.Lists.{same_cons, cons_path, same_fronts}
-use Rattle.der_core.specs.Laws.Length.{length_split, length_same, length_grows, length_made, length_octets-are, length_octets-only, length_octets-within, length_few, length_of_bytes}
+use Rattle.der_core.specs.Laws.Length.{length_split, length_same, length_grows, length_made, length_octets-are}
+use Rattle.der_core.specs.Laws.Length.{length_octets-only, length_octets-within, length_few, length_of_bytes}
 
 -- Two encodings at the front of the same bytes are one encoding, with one tag and contents that both hold of.
-pub tlv_split : {t u : ℕ} {P Q : List ℕ → Type 0} (x y x' y' : List ℕ) → Tlv t P x → Tlv u Q x' → x ++ y ≡ x' ++ y' → (x ≡ x') × (t ≡ u) × (y ≡ y') × (c : List ℕ) × P c × Q c
+pub tlv_split : {t u : ℕ} {P Q : List ℕ → Type 0} (x y x' y' : List ℕ) → Tlv t P x → Tlv u Q x' → x ++ y ≡ x' ++ y'
+    → (x ≡ x') × (t ≡ u) × (y ≡ y') × (c : List ℕ) × P c × Q c
 tlv_split {t} {u} {P} {Q} x y x' y' p q h =
-    let c : t ∷ (p.octets ++ (p.contents ++ y)) ≡ u ∷ (q.octets ++ (q.contents ++ y')) = rw (p.written, q.written, append_assoc (t ∷ p.octets) p.contents y, append_assoc (u ∷ q.octets) q.contents y') at h in
+    let c : t ∷ (p.octets ++ (p.contents ++ y)) ≡ u ∷ (q.octets ++ (q.contents ++ y')) =
+    rw (p.written, q.written, append_assoc (t ∷ p.octets) p.contents y, append_assoc (u ∷ q.octets) q.contents y')
+    at h in
     let d = same_cons c in
-    let s = length_split (length p.contents) (length q.contents) p.octets (p.contents ++ y) q.octets (q.contents ++ y') p.counted q.counted d.1 in
+    let s =
+    length_split (length p.contents) (length q.contents) p.octets (p.contents ++ y) q.octets (q.contents ++ y')
+    p.counted q.counted d.1 in
     let f = same_fronts p.contents y q.contents y' s.1 s.2 in
     (rw (p.written, q.written, d.0, s.0, f.0), d.0, f.1, p.contents, p.holds, rw (← f.0) at q.holds)
 
@@ -24,7 +31,8 @@ pub tlv_not_empty : {t : ℕ} {P : List ℕ → Type 0} (x : List ℕ) → Tlv t
 tlv_not_empty x p = rw p.written (omega arith)
 
 -- What has a tag of its own, and contents that mean one value, is delimited.
-pub tlv_delimited : {V : Type 0} (t : ℕ) (Contents : V → List ℕ → Type 0) → MeansOne Contents → IsDelimited (λ v. Tlv t (Contents v))
+pub tlv_delimited : {V : Type 0} (t : ℕ) (Contents : V → List ℕ → Type 0) → MeansOne Contents
+    → IsDelimited (λ v. Tlv t (Contents v))
 tlv_delimited t Contents m = record {
   not_empty = λ v encoding p. tlv_not_empty encoding p;
   one = λ v w x y x' y' p q e. let s = tlv_split x y x' y' p q e in (s.0, m v w s.3 s.4 s.5);
@@ -49,12 +57,15 @@ joins_at_most_one (P ∷ ps) m x y (a, b, p, i, e) (a', b', q, j, f) =
     let r = joins_at_most_one ps m.1 b b' i j in
     rw (e, f, s, r)
 
-pub map_at_most_one : {V : Type 0} (Grammar : V → List ℕ → Type 0) → ((v : V) → AtMostOne (Grammar v)) → (vs : List V) → AllAtMostOne (map Grammar vs)
+pub map_at_most_one : {V : Type 0} (Grammar : V → List ℕ → Type 0) → ((v : V) → AtMostOne (Grammar v)) → (vs : List V)
+    → AllAtMostOne (map Grammar vs)
 map_at_most_one Grammar m [] = tt
 map_at_most_one Grammar m (v ∷ vs) = (m v, map_at_most_one Grammar m vs)
 
 -- A delimited part in front of two splits of the same bytes.
-pub then_step : {V : Type 0} {Grammar : V → List ℕ → Type 0} → IsDelimited Grammar → {Ps Qs : List ℕ → Type 0} (v w : V) (c : List ℕ) → Then (Grammar v) Ps c → Then (Grammar w) Qs c → (v ≡ w) × (rest : List ℕ) × Ps rest × Qs rest
+pub then_step : {V : Type 0} {Grammar : V → List ℕ → Type 0} → IsDelimited Grammar
+    → {Ps Qs : List ℕ → Type 0} (v w : V) (c : List ℕ) → Then (Grammar v) Ps c → Then (Grammar w) Qs c
+    → (v ≡ w) × (rest : List ℕ) × Ps rest × Qs rest
 then_step {V} {Grammar} d {Ps} {Qs} v w c (x, y, p, i, e) (x', y', q, j, f) =
     let h : x ++ y ≡ x' ++ y' = sym e ∙ f in
     let s = d.one v w x y x' y' p q h in
@@ -63,26 +74,38 @@ then_step {V} {Grammar} d {Ps} {Qs} v w c (x, y, p, i, e) (x', y', q, j, f) =
     (s.1, y', rw k at i, j)
 
 -- Two lists of values whose encodings join to the same bytes.
-pub joins_map : {V : Type 0} (Grammar : V → List ℕ → Type 0) → IsDelimited Grammar → (vs ws : List V) (c : List ℕ) → Joins (map Grammar vs) c → Joins (map Grammar ws) c → vs ≡ ws
+pub joins_map : {V : Type 0} (Grammar : V → List ℕ → Type 0) → IsDelimited Grammar → (vs ws : List V) (c : List ℕ)
+    → Joins (map Grammar vs) c → Joins (map Grammar ws) c → vs ≡ ws
 joins_map Grammar d [] [] c p q = refl
-joins_map Grammar d [] (w ∷ ws) c e (x, y, q, j, f) = absurd (omega (arith, d.not_empty w x q, ap length e, ap length f, length-append x y))
-joins_map Grammar d (v ∷ vs) [] c (x, y, q, j, f) e = absurd (omega (arith, d.not_empty v x q, ap length e, ap length f, length-append x y))
+joins_map Grammar d [] (w ∷ ws) c e (x, y, q, j, f) =
+    absurd (omega (arith, d.not_empty w x q, ap length e, ap length f, length-append x y))
+joins_map Grammar d (v ∷ vs) [] c (x, y, q, j, f) e =
+    absurd (omega (arith, d.not_empty v x q, ap length e, ap length f, length-append x y))
 joins_map Grammar d (v ∷ vs) (w ∷ ws) c p q =
     let s = then_step d v w c p q in
     cons_path s.0 (joins_map Grammar d vs ws s.1 s.2 s.3)
 
 -- Contents that aren't too long have an encoding.
-pub tlv_made : (t : ℕ) (P : List ℕ → Type 0) (c : List ℕ) → P c → length c < 2 ^ 128 → (encoding : List ℕ) × (p : Tlv t P encoding) × (p.contents ≡ c)
+pub tlv_made : (t : ℕ) (P : List ℕ → Type 0) (c : List ℕ) → P c → length c < 2 ^ 128
+    → (encoding : List ℕ) × (p : Tlv t P encoding) × (p.contents ≡ c)
 tlv_made t P c p l =
     let o = length_made (length c) l in
     (t ∷ o.0 ++ c, record { octets = o.0; contents = c; counted = o.1; holds = p; written = refl }, refl)
 
 -- What is written.
 module _ {V : Type 0} (tag : ℕ) (Contents : V → List ℕ → Type 0) (written : V → List ℕ) where
-  pub tlv_relates : (v : V) → (length (written v) < 2 ^ 128 → Contents v (written v)) → length (tlv tag (written v)) < 2 ^ 128 → Tlv tag (Contents v) (tlv tag (written v))
+  pub tlv_relates : (v : V) → (length (written v) < 2 ^ 128 → Contents v (written v))
+      → length (tlv tag (written v)) < 2 ^ 128 → Tlv tag (Contents v) (tlv tag (written v))
   tlv_relates v related fits =
-      let few : length (written v) < 2 ^ 128 = omega (arith, fits, length-append (length_octets (length (written v))) (written v)) in
-      record { octets = length_octets (length (written v)); contents = written v; counted = length_octets-within (length (written v)) few; holds = related few; written = refl }
+      let few : length (written v) < 2 ^ 128 =
+      omega (arith, fits, length-append (length_octets (length (written v))) (written v)) in
+      record {
+        octets = length_octets (length (written v));
+        contents = written v;
+        counted = length_octets-within (length (written v)) few;
+        holds = related few;
+        written = refl;
+      }
 
   pub tlv_shortest : (has : V → Type 0) → ((v : V) (c : List ℕ) → Contents v c → IsLeast (has v) (written v) c)
       → (v : V) (encoding : List ℕ) → Tlv tag (Contents v) encoding → IsLeast (has v) (tlv tag (written v)) encoding
@@ -99,13 +122,15 @@ module _ {V : Type 0} (tag : ℕ) (Contents : V → List ℕ → Type 0) (writte
         (λ (h : length encoding ≤ length (tlv tag (written v))).
             let c : p.contents ≡ written v = s.2 (omega (arith, l, m, k, few, h)) in
             let counted : IsLength (length (written v)) p.octets = rw c at p.counted in
-            let form : p.octets ≡ length_octets (length (written v)) = length_octets-only (length (written v)) p.octets counted in
+            let form : p.octets ≡ length_octets (length (written v)) =
+            length_octets-only (length (written v)) p.octets counted in
             p.written ∙ ap (λ x. tag ∷ (p.octets ++ x)) c ∙ ap (λ x. tag ∷ (x ++ written v)) form),
       )
 
 -- Parts that are written one after another.
 pub then_least : {h k : Type 0} {P Q : List ℕ → Type 0} (x y : List ℕ)
-    → ((a : List ℕ) → P a → IsLeast h x a) → ((b : List ℕ) → Q b → IsLeast k y b) → (c : List ℕ) → Then P Q c → IsLeast (h × k) (x ++ y) c
+    → ((a : List ℕ) → P a → IsLeast h x a) → ((b : List ℕ) → Q b → IsLeast k y b) → (c : List ℕ) → Then P Q c
+    → IsLeast (h × k) (x ++ y) c
 then_least x y f g c (a, b, p, q, e) =
     let s = f a p in
     let t = g b q in
@@ -115,10 +140,12 @@ then_least x y f g c (a, b, p, q, e) =
       (s.0, t.0),
       omega (arith, s.1, t.1, l, m, n),
       (λ (z : length c ≤ length (x ++ y)).
-          e ∙ ap (λ r. r ++ b) (s.2 (omega (arith, t.1, l, m, n, z))) ∙ ap (λ r. x ++ r) (t.2 (omega (arith, s.1, l, m, n, z)))),
+          e ∙ ap (λ r. r ++ b) (s.2 (omega (arith, t.1, l, m, n, z)))
+          ∙ ap (λ r. x ++ r) (t.2 (omega (arith, s.1, l, m, n, z)))),
     )
 
-pub last_least : {h : Type 0} {P : List ℕ → Type 0} (x : List ℕ) → ((a : List ℕ) → P a → IsLeast h x a) → (c : List ℕ) → Joins (P ∷ []) c → IsLeast h x c
+pub last_least : {h : Type 0} {P : List ℕ → Type 0} (x : List ℕ) → ((a : List ℕ) → P a → IsLeast h x a) → (c : List ℕ)
+    → Joins (P ∷ []) c → IsLeast h x c
 last_least x f c (a, b, p, q, e) = let same : c ≡ a = e ∙ ap (λ r. a ++ r) q ∙ append-nil a in rw same (f a p)
 
 pub then_holds : {P Q : List ℕ → Type 0} (x y : List ℕ) → P x → Q y → Then P Q (x ++ y)
@@ -131,11 +158,14 @@ pub last_holds : {P : List ℕ → Type 0} (x : List ℕ) → P x → Joins (P �
 last_holds x p = (x, [], p, refl, sym (append-nil x))
 
 -- An encoding is little longer than its contents.
-pub tlv_little_longer : {t : ℕ} {P : List ℕ → Type 0} (encoding : List ℕ) (p : Tlv t P encoding) → length encoding ≤ length p.contents + 128
-tlv_little_longer encoding p = rw p.written (omega (arith, length_few (length p.contents) p.octets p.counted, length-append p.octets p.contents))
+pub tlv_little_longer : {t : ℕ} {P : List ℕ → Type 0} (encoding : List ℕ) (p : Tlv t P encoding)
+    → length encoding ≤ length p.contents + 128
+tlv_little_longer encoding p =
+    rw p.written (omega (arith, length_few (length p.contents) p.octets p.counted, length-append p.octets p.contents))
 
 -- The length of an encoding, by that of its contents.
-pub tlv_length : (n t : ℕ) (c encoding : List ℕ) → length c ≡ n → Tlv t (Is c) encoding → length encoding ≡ 1 + length (length_octets n) + n
+pub tlv_length : (n t : ℕ) (c encoding : List ℕ) → length c ≡ n → Tlv t (Is c) encoding
+    → length encoding ≡ 1 + length (length_octets n) + n
 tlv_length n t c encoding e p =
     let same : p.contents ≡ c = p.holds in
     let count : length p.contents ≡ n = ap length same ∙ e in
@@ -149,13 +179,16 @@ bytes_append [] y p q = q
 bytes_append (b ∷ x) y p q = (p.0, bytes_append x y p.1 q)
 
 -- What has an allowed tag, and contents that are bytes, is bytes.
-pub tlv_of_bytes : {V : Type 0} (tag : ℕ) → IsTrue (is_allowed tag) → (Contents : V → List ℕ → Type 0) → IsOfBytes Contents → IsOfBytes (λ v. Tlv tag (Contents v))
+pub tlv_of_bytes : {V : Type 0} (tag : ℕ) → IsTrue (is_allowed tag) → (Contents : V → List ℕ → Type 0)
+    → IsOfBytes Contents → IsOfBytes (λ v. Tlv tag (Contents v))
 tlv_of_bytes tag allowed Contents of_bytes v encoding p =
     let octets = length_of_bytes (length p.contents) p.octets p.counted in
     rw p.written (allowed_below tag allowed, bytes_append p.octets p.contents octets (of_bytes v p.contents p.holds))
 
-pub then_of_bytes : {P Q : List ℕ → Type 0} → ((x : List ℕ) → P x → AreBytes x) → ((y : List ℕ) → Q y → AreBytes y) → (c : List ℕ) → Then P Q c → AreBytes c
+pub then_of_bytes : {P Q : List ℕ → Type 0} → ((x : List ℕ) → P x → AreBytes x) → ((y : List ℕ) → Q y → AreBytes y)
+    → (c : List ℕ) → Then P Q c → AreBytes c
 then_of_bytes f g c (x, y, p, q, e) = rw e (bytes_append x y (f x p) (g y q))
 
-pub last_of_bytes : {P : List ℕ → Type 0} → ((x : List ℕ) → P x → AreBytes x) → (c : List ℕ) → Joins (P ∷ []) c → AreBytes c
+pub last_of_bytes : {P : List ℕ → Type 0} → ((x : List ℕ) → P x → AreBytes x) → (c : List ℕ) → Joins (P ∷ []) c
+    → AreBytes c
 last_of_bytes f c (x, y, p, q, e) = let same : c ≡ x = e ∙ ap (λ r. x ++ r) q ∙ append-nil x in rw same (f x p)

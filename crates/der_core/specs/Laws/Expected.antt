@@ -1,8 +1,10 @@
 -- Reading the encoding of one value that is expected, of a type that has others.
-use Rattle.std.proofs.Common.{◌≡◌, ◌≢◌, ℕ, ◌≤◌, List, ◌∷◌, ◌++◌, length, refl, sym, ap, ◌∙◌, arith, append_assoc, length-append, inl, inr, ⊎_elim, None, Some}
+use Rattle.std.proofs.Common.{◌≡◌, ◌≢◌, ℕ, ◌≤◌, List, ◌∷◌, ◌++◌, length, refl, sym, ap, ◌∙◌, arith, append_assoc}
+use Rattle.std.proofs.Common.{length-append, inl, inr, ⊎_elim, None, Some}
 use Rattle.der_core.specs.declared.error.ErrorKind.{ErrorKind}
 use Rattle.der_core.specs.declared.tag.Tag.{Tag}
-use Rattle.der_core.specs.Faults.{EncodingFault, in_header, other_tag, too_short, in_contents, ExpectedFault, Faulty, AreNone, AreFirst}
+use Rattle.der_core.specs.Faults.{EncodingFault, in_header, other_tag, too_short, in_contents, ExpectedFault, Faulty}
+use Rattle.der_core.specs.Faults.{AreNone, AreFirst}
 use Rattle.der_core.specs.Input.{Input, left_in}
 use Rattle.der_core.specs.Length.{limit}
 use Rattle.der_core.specs.Tlv.{Tlv}
@@ -11,7 +13,8 @@ use Rattle.der_core.specs.Laws.Sequences.{EncodingGives, some_same}
 use Rattle.der_core.specs.Encodings.{MeansOne}
 
 -- Another value is a fault of the contents.
-module _ {V : Type 0} (Contents : V → List ℕ → Type 0) (Fault : ErrorKind → List ℕ → Type 0) (v : V) (failure : ErrorKind) where
+module _ {V : Type 0} (Contents : V → List ℕ → Type 0) (Fault : ErrorKind → List ℕ → Type 0) (v : V)
+    (failure : ErrorKind) where
   abbrev Wanted : ErrorKind → List ℕ → Type 0
   Wanted = ExpectedFault Contents Fault v failure
 
@@ -34,18 +37,35 @@ module _ {V : Type 0} (Contents : V → List ℕ → Type 0) (Fault : ErrorKind 
     as_wanted k b (in_contents header c rest h is fault) = in_contents header c rest h is (inl fault)
 
     -- the encoding has a fault, and no memory was asked for
-    pub expected_fails : {asked : List ℕ → Type 0} (before after : Input) (e : ErrorKind) → FailsBy (EncodingFault tag Fault) (AllocatesIn (Tlv tag.octet (λ _. ⊥))) e before after → FailsBy (EncodingFault tag Wanted) asked e before after
-    expected_fails before after e fails = (fails.0, fails.1, λ i is. ⊎_elim (λ w. absurd w.1.3.holds) (λ f. inr (as_wanted e i f)) (fails.2 i is))
+    pub expected_fails : {asked : List ℕ → Type 0} (before after : Input) (e : ErrorKind)
+        → FailsBy (EncodingFault tag Fault) (AllocatesIn (Tlv tag.octet (λ _. ⊥))) e before after
+        → FailsBy (EncodingFault tag Wanted) asked e before after
+    expected_fails before after e fails =
+        (fails.0, fails.1, λ i is. ⊎_elim (λ w. absurd w.1.3.holds) (λ f. inr (as_wanted e i f)) (fails.2 i is))
 
     -- or another value was read
-    pub other_fails : {asked : List ℕ → Type 0} (w : V) (before mid after : Input) (e : ErrorKind) → length (left_in before) ≤ limit → EncodingGives (λ x. Tlv tag.octet (Contents x)) w before mid → w ≢ v → e ≡ failure → after ≡ None
+    pub other_fails : {asked : List ℕ → Type 0} (w : V) (before mid after : Input) (e : ErrorKind)
+        → length (left_in before) ≤ limit → EncodingGives (λ x. Tlv tag.octet (Contents x)) w before mid → w ≢ v
+        → e ≡ failure → after ≡ None
         → FailsBy (EncodingFault tag Wanted) asked e before after
-    other_fails {asked} w before mid after e within (b, rest, at, left, encoding) other kind failed = (failed, (λ none. let no = sym none ∙ at in cc), there)
+    other_fails {asked} w before mid after e within (b, rest, at, left, encoding) other kind failed =
+        (failed, (λ none. let no = sym none ∙ at in cc), there)
       where
         there : (i : List ℕ) → before ≡ Some i → Faulty e (asked i) (EncodingFault tag Wanted e i)
         there i is =
             let same : i ≡ b ++ rest = some_same i (b ++ rest) (sym is ∙ at) in
-            let whole : i ≡ (tag.octet ∷ encoding.octets) ++ (encoding.contents ++ rest) = same ∙ ap (λ l. l ++ rest) encoding.written ∙ append_assoc (tag.octet ∷ encoding.octets) encoding.contents rest in
+            let whole : i ≡ (tag.octet ∷ encoding.octets) ++ (encoding.contents ++ rest) =
+            same ∙ ap (λ l. l ++ rest) encoding.written
+            ∙ append_assoc (tag.octet ∷ encoding.octets) encoding.contents rest in
             let fits : length i ≤ limit = rw is at within in
-            let few : length encoding.contents ≤ limit = omega (arith, fits, ap length whole, length-append (tag.octet ∷ encoding.octets) (encoding.contents ++ rest), length-append encoding.contents rest) in
-            inr (in_contents (tag.octet ∷ encoding.octets) encoding.contents rest (tag.allowed, encoding.octets, (few, encoding.counted), refl) whole (inr (w, encoding.holds, other, kind)))
+            let few : length encoding.contents ≤ limit =
+            omega (
+              arith,
+              fits,
+              ap length whole,
+              length-append (tag.octet ∷ encoding.octets) (encoding.contents ++ rest),
+              length-append encoding.contents rest,
+            ) in
+            inr (in_contents (tag.octet ∷ encoding.octets) encoding.contents rest
+            (tag.allowed, encoding.octets, (few, encoding.counted), refl) whole
+            (inr (w, encoding.holds, other, kind)))

@@ -7,4 +7,8 @@ module _ (encoding old new : List ℕ) (n : ℕ) (e : n ≡ length encoding) (is
   front_is = ap (take n) is ∙ ap (λ k. take k (encoding ++ drop n old)) e ∙ take-append_seam encoding (drop n old)
 
   pub rest_is : (n ≤ length new) × (drop n new ≡ drop n old)
-  rest_is = (omega (arith, e, ap length is, length-append encoding (drop n old)), ap (drop n) is ∙ ap (λ k. drop k (encoding ++ drop n old)) e ∙ drop-append_seam encoding (drop n old))
+  rest_is = (
+    omega (arith, e, ap length is, length-append encoding (drop n old)),
+    ap (drop n) is
+        ∙ ap (λ k. drop k (encoding ++ drop n old)) e ∙ drop-append_seam encoding (drop n old),
+  )

@@ -1,5 +1,6 @@
 -- Laws of headers and encodings.
-use Rattle.std.proofs.Common.{◌≡◌, ℕ, ◌-◌, ◌≤◌, List, [], ◌∷◌, ◌++◌, length, take, refl, sym, ap, ◌∙◌, arith, length-append, append_assoc, inr, ⊎_elim, Result, Ok, Err, true, Some, None}
+use Rattle.std.proofs.Common.{◌≡◌, ℕ, ◌-◌, ◌≤◌, List, [], ◌∷◌, ◌++◌, length, take, refl, sym, ap, ◌∙◌, arith}
+use Rattle.std.proofs.Common.{length-append, append_assoc, inr, ⊎_elim, Result, Ok, Err, true, Some, None}
 use Rattle.std.specs.Prelude.{nat_lt, ◌==◌, IsTrue}
 use Rattle.std.specs.Int.Digits.{number_from_digits}
 use Rattle.der_core.specs.Encodings.{AreBytes}
@@ -10,13 +11,15 @@ use Rattle.der_core.specs.Reading.{ReadsEncoding, TellsOfBytes}
 use Rattle.der_core.specs.declared.error.Error.{Error}
 use Rattle.der_core.specs.Tag.{is_allowed}
 use Rattle.der_core.specs.declared.error.ErrorKind.{ErrorKind}
-use Rattle.der_core.specs.declared.error.ErrorKind.TheVariants.{Incomplete, IndefiniteLength, Overflow, Overlength, TagUnknown}
+use Rattle.der_core.specs.declared.error.ErrorKind.TheVariants.{Incomplete, IndefiniteLength, Overflow, Overlength}
+use Rattle.der_core.specs.declared.error.ErrorKind.TheVariants.{TagUnknown}
 use Rattle.der_core.specs.Input.{Input, left_in, Reads, is_overlong, long_length_at, length_at, header_at, with_tag}
 use Rattle.der_core.specs.Laws.Tells.{guard_tells, is_incomplete}
 use Rattle.der_core.specs.Laws.Input.{ok_pair}
 use Rattle.der_core.specs.Laws.LengthReading.{chosen, length_at-sound, length_at-complete}
 
-with_tag_ok : (t : ℕ) (r : Result (ℕ × List ℕ) ErrorKind) (u n : ℕ) (rest : List ℕ) → with_tag t r ≡ Ok ((u, n), rest) → (t ≡ u) × (r ≡ Ok (n, rest))
+with_tag_ok : (t : ℕ) (r : Result (ℕ × List ℕ) ErrorKind) (u n : ℕ) (rest : List ℕ) → with_tag t r ≡ Ok ((u, n), rest)
+    → (t ≡ u) × (r ≡ Ok (n, rest))
 with_tag_ok t (Err k) u n rest e = cc
 with_tag_ok t (Ok p) u n rest e =
     let parts = ok_pair (t, p.0) (u, n) p.1 rest e in
@@ -28,7 +31,8 @@ allowed_as : (x t : ℕ) → x ≡ t → is_allowed x ≡ true → IsTrue (is_al
 allowed_as x t same ok = let is : is_allowed t ≡ true = ap is_allowed (sym same) ∙ ok in is
 
 -- What header_at reads is an allowed tag and length octets.
-pub header_at-sound : (i rest : List ℕ) (t n : ℕ) → AreBytes i → header_at i ≡ Ok ((t, n), rest) → (s : List ℕ) × IsLength n s × (i ≡ t ∷ s ++ rest) × (n ≤ limit) × IsTrue (is_allowed t)
+pub header_at-sound : (i rest : List ℕ) (t n : ℕ) → AreBytes i → header_at i ≡ Ok ((t, n), rest)
+    → (s : List ℕ) × IsLength n s × (i ≡ t ∷ s ++ rest) × (n ≤ limit) × IsTrue (is_allowed t)
 unfolding header_at
 header_at-sound [] rest t n octets e = cc
 header_at-sound (x ∷ b) rest t n octets e =
@@ -41,14 +45,16 @@ header_at-sound (x ∷ b) rest t n octets e =
     (chosen (is_allowed x) (with_tag x (length_at b)) (Err (TagUnknown x)) _ e)
 
 -- An allowed tag and length octets are read, whatever follows.
-pub header_at-complete : (t n : ℕ) (s rest : List ℕ) → IsTrue (is_allowed t) → IsLength n s → n ≤ limit → header_at (t ∷ s ++ rest) ≡ Ok ((t, n), rest)
+pub header_at-complete : (t n : ℕ) (s rest : List ℕ) → IsTrue (is_allowed t) → IsLength n s → n ≤ limit
+    → header_at (t ∷ s ++ rest) ≡ Ok ((t, n), rest)
 unfolding header_at
 header_at-complete t n s rest allowed is within =
     let ok : is_allowed t ≡ true = allowed in
     rw (ok, length_at-complete n s rest is within) refl
 
 -- An encoding at the front of bytes within the limit is read by its header.
-pub tlv_header : (t : ℕ) {P : List ℕ → Type 0} (b i rest : List ℕ) → IsTrue (is_allowed t) → length i ≤ limit → (p : Tlv t P b) → i ≡ b ++ rest → header_at i ≡ Ok ((t, length p.contents), p.contents ++ rest)
+pub tlv_header : (t : ℕ) {P : List ℕ → Type 0} (b i rest : List ℕ) → IsTrue (is_allowed t) → length i ≤ limit
+    → (p : Tlv t P b) → i ≡ b ++ rest → header_at i ≡ Ok ((t, length p.contents), p.contents ++ rest)
 tlv_header t b i rest allowed within p is =
     let s = p.octets in
     let c = p.contents in
@@ -61,7 +67,8 @@ long_length_at-tells : (m : ℕ) (b : List ℕ) (k : ErrorKind) → long_length_
 long_length_at-tells m b k e =
     guard_tells (nat_lt (length b) m) Incomplete k _ (is_incomplete refl)
     (guard_tells (is_overlong (take m b)) Overlength k _ (λ no. cc, λ no. cc, λ no. cc)
-    (guard_tells (nat_lt limit (number_from_digits 256 (take m b))) Overflow k _ (λ no. cc, λ no. cc, λ no. cc) (λ is. cc))) e
+    (guard_tells (nat_lt limit (number_from_digits 256 (take m b))) Overflow k _ (λ no. cc, λ no. cc, λ no. cc)
+    (λ is. cc))) e
 
 length_at-tells : (b : List ℕ) (k : ErrorKind) → length_at b ≡ Err k → TellsOfBytes k
 unfolding length_at
@@ -80,15 +87,18 @@ pub header_at-tells : (i : List ℕ) (k : ErrorKind) → header_at i ≡ Err k �
 unfolding header_at
 header_at-tells [] k e = is_incomplete (let same : Incomplete ≡ k = cc in sym same)
 header_at-tells (x ∷ b) k e =
-    ⊎_elim (λ w. length_at-tells b k (with_tag-err x k (length_at b) w.1)) (λ w. let is = w.1 in let same : TagUnknown x ≡ k = cc in (λ no. cc, λ no. cc, λ no. cc))
+    ⊎_elim (λ w. length_at-tells b k (with_tag-err x k (length_at b) w.1))
+    (λ w. let is = w.1 in let same : TagUnknown x ≡ k = cc in (λ no. cc, λ no. cc, λ no. cc))
     (chosen (is_allowed x) _ _ _ e)
 
 -- If f reads exactly the encodings, then a call that returns what f reads is one that ReadsEncoding describes.
 module _ {Y : Type 0} (f : List ℕ → Result (Y × List ℕ) ErrorKind) (encoding : Y → List ℕ → Type 0)
-    (sound : (i rest : List ℕ) (y : Y) → AreBytes i → f i ≡ Ok (y, rest) → (b : List ℕ) × (i ≡ b ++ rest) × encoding y b)
+    (sound : (i rest : List ℕ) (y : Y) → AreBytes i → f i ≡ Ok (y, rest)
+    → (b : List ℕ) × (i ≡ b ++ rest) × encoding y b)
     (complete : (y : Y) (b rest : List ℕ) → encoding y b → f (b ++ rest) ≡ Ok (y, rest))
     (tells : (i : List ℕ) (k : ErrorKind) → f i ≡ Err k → TellsOfBytes k) where
-  pub exact_reads : {X : Type 0} (view : X → Y) (r : Result X Error) (before after : Input) → AreBytes (left_in before) → Reads view r before after f → ReadsEncoding view encoding (λ _. ⊥) r before after
+  pub exact_reads : {X : Type 0} (view : X → Y) (r : Result X Error) (before after : Input) → AreBytes (left_in before)
+      → Reads view r before after f → ReadsEncoding view encoding (λ _. ⊥) r before after
   exact_reads view (Ok x) None after bytes h = let no = h.1 in cc
   exact_reads view (Ok x) (Some i) after bytes h =
       let p = sound i h.0 (view x) bytes h.1 in
@@ -107,17 +117,25 @@ module _ {Y : Type 0} (f : List ℕ → Result (Y × List ℕ) ErrorKind) (encod
         ),
   )
 
-length_sound : (i rest : List ℕ) (n : ℕ) → AreBytes i → length_at i ≡ Ok (n, rest) → (b : List ℕ) × (i ≡ b ++ rest) × LengthEncoding n b
+length_sound : (i rest : List ℕ) (n : ℕ) → AreBytes i → length_at i ≡ Ok (n, rest)
+    → (b : List ℕ) × (i ≡ b ++ rest) × LengthEncoding n b
 length_sound i rest n bytes e = let p = length_at-sound i rest n bytes e in (p.0, p.2, (p.3, p.1))
 
-pub length_reads : {X : Type 0} (view : X → ℕ) (r : Result X Error) (before after : Input) → AreBytes (left_in before) → Reads view r before after length_at → ReadsEncoding view LengthEncoding (λ _. ⊥) r before after
-length_reads = exact_reads length_at LengthEncoding length_sound (λ n b rest t. length_at-complete n b rest t.1 t.0) length_at-tells
+pub length_reads : {X : Type 0} (view : X → ℕ) (r : Result X Error) (before after : Input) → AreBytes (left_in before)
+    → Reads view r before after length_at → ReadsEncoding view LengthEncoding (λ _. ⊥) r before after
+length_reads =
+    exact_reads length_at LengthEncoding length_sound (λ n b rest t. length_at-complete n b rest t.1 t.0)
+    length_at-tells
 
-pub header_sound : (i rest : List ℕ) (h : ℕ × ℕ) → AreBytes i → header_at i ≡ Ok (h, rest) → (b : List ℕ) × (i ≡ b ++ rest) × HeaderEncoding h b
-header_sound i rest h bytes e = let p = header_at-sound i rest h.0 h.1 bytes e in (h.0 ∷ p.0, p.2, (p.4, p.0, (p.3, p.1), refl))
+pub header_sound : (i rest : List ℕ) (h : ℕ × ℕ) → AreBytes i → header_at i ≡ Ok (h, rest)
+    → (b : List ℕ) × (i ≡ b ++ rest) × HeaderEncoding h b
+header_sound i rest h bytes e =
+    let p = header_at-sound i rest h.0 h.1 bytes e in (h.0 ∷ p.0, p.2, (p.4, p.0, (p.3, p.1), refl))
 
 pub header_complete : (h : ℕ × ℕ) (b rest : List ℕ) → HeaderEncoding h b → header_at (b ++ rest) ≡ Ok (h, rest)
 header_complete h b rest t = rw t.3 (header_at-complete h.0 h.1 t.1 rest t.0 t.2.1 t.2.0)
 
-pub header_reads : {X : Type 0} (view : X → ℕ × ℕ) (r : Result X Error) (before after : Input) → AreBytes (left_in before) → Reads view r before after header_at → ReadsEncoding view HeaderEncoding (λ _. ⊥) r before after
+pub header_reads : {X : Type 0} (view : X → ℕ × ℕ) (r : Result X Error) (before after : Input)
+    → AreBytes (left_in before) → Reads view r before after header_at
+    → ReadsEncoding view HeaderEncoding (λ _. ⊥) r before after
 header_reads = exact_reads header_at HeaderEncoding header_sound header_complete header_at-tells

@@ -1,10 +1,12 @@
 -- INTEGER: each encoding means one number, and each number has one encoding.
-use Rattle.std.proofs.Common.{take_all, ℕ, suc, List, [], ◌∷◌, ◌≡◌, ◌<◌, ◌≤◌, ◌-◌, ◌+◌, ◌^◌, length, get_or, take, drop, refl, sym, ap, ◌∙◌, arith, inl, inr}
+use Rattle.std.proofs.Common.{take_all, ℕ, suc, List, [], ◌∷◌, ◌≡◌, ◌<◌, ◌≤◌, ◌-◌, ◌+◌, ◌^◌, length, get_or, take, drop}
+use Rattle.std.proofs.Common.{refl, sym, ap, ◌∙◌, arith, inl, inr}
 use Rattle.std.specs.Prelude.{slice_index}
 use Rattle.std.specs.Int.Digits.{number_from_digits}
 use Rattle.der_core.specs.Tag.{integer_tag}
 use Rattle.der_core.specs.Encodings.{AreBytes, IsDelimited, IsOfBytes, MeansOne, AtMostOne}
-use Rattle.der_core.specs.Integer.{IsCanonical, IntegerContents, Integer, SmallContents, Small, HoldsNumber, integer_contents}
+use Rattle.der_core.specs.Integer.{IsCanonical, IntegerContents, Integer, SmallContents, Small, HoldsNumber}
+use Rattle.der_core.specs.Integer.{integer_contents}
 use Rattle.der_core.specs.Laws.Input.{are_bytes}
 use Rattle.der_core.specs.Writing.{IsLeast}
 use Rattle.std.proofs.lemmas.Bool.{cases_lt}
@@ -20,7 +22,8 @@ first_of_same x y e = ap (λ z. slice_index z 0) e
 -- Canonical bytes don't begin with a zero octet and another of 128 or more.
 not_padded : (x y : List ℕ) → IsCanonical x → 128 ≤ slice_index y 0 → x ≡ 0 ∷ y → ⊥
 not_padded x [] c h e = omega arith
-not_padded x (b ∷ y) (inl z) h e = let l : length x ≡ 1 = ap length z in let k : length x ≡ suc (suc (length y)) = ap length e in omega arith
+not_padded x (b ∷ y) (inl z) h e =
+    let l : length x ≡ 1 = ap length z in let k : length x ≡ suc (suc (length y)) = ap length e in omega arith
 not_padded x (b ∷ y) (inr z) h e = let l : slice_index x 0 ≡ 0 = first_of_same x (0 ∷ (b ∷ y)) e in omega arith
 
 pub integer_means_one : MeansOne IntegerContents
@@ -42,17 +45,22 @@ pub integer_at_most_one : (bytes : List ℕ) → AtMostOne (Integer bytes)
 integer_at_most_one bytes = tlv_at_most_one integer_tag (IntegerContents bytes) (contents_at_most_one bytes)
 
 -- A number has one list of canonical bytes.
-pub canonical_same : (x y : List ℕ) → IsCanonical x → IsCanonical y → number_from_digits 256 x ≡ number_from_digits 256 y → x ≡ y
+pub canonical_same : (x y : List ℕ) → IsCanonical x → IsCanonical y
+    → number_from_digits 256 x ≡ number_from_digits 256 y → x ≡ y
 canonical_same x y (inl p) (inl q) e = p ∙ sym q
 canonical_same x y (inl p) (inr q) e =
     let z : number_from_digits 256 x ≡ 0 = ap (number_from_digits 256) p in
-    let k : 0 < number_from_digits 256 y = base256_pos (number_from_digits 256 y) y (record { bytes = q.0; value = refl; no_leading_zero = q.1 }) in
+    let k : 0 < number_from_digits 256 y =
+    base256_pos (number_from_digits 256 y) y (record { bytes = q.0; value = refl; no_leading_zero = q.1 }) in
     absurd (omega arith)
 canonical_same x y (inr p) (inl q) e =
     let z : number_from_digits 256 y ≡ 0 = ap (number_from_digits 256) q in
-    let k : 0 < number_from_digits 256 x = base256_pos (number_from_digits 256 x) x (record { bytes = p.0; value = refl; no_leading_zero = p.1 }) in
+    let k : 0 < number_from_digits 256 x =
+    base256_pos (number_from_digits 256 x) x (record { bytes = p.0; value = refl; no_leading_zero = p.1 }) in
     absurd (omega arith)
-canonical_same x y (inr p) (inr q) e = base256_same (number_from_digits 256 y) x y (record { bytes = p.0; value = e; no_leading_zero = p.1 }) (record { bytes = q.0; value = refl; no_leading_zero = q.1 })
+canonical_same x y (inr p) (inr q) e =
+    base256_same (number_from_digits 256 y) x y (record { bytes = p.0; value = e; no_leading_zero = p.1 })
+    (record { bytes = q.0; value = refl; no_leading_zero = q.1 })
 
 pub small_means_one : MeansOne SmallContents
 small_means_one m n c (p, x, e, i) (q, y, f, j) =
@@ -93,27 +101,34 @@ integer_relates bytes p = elim (cases_lt (slice_index bytes 0) 128) [
   | inr h ↦ (p, inr (h, written_large bytes h))
 ]
 
-pub integer_shortest : (bytes c : List ℕ) → IntegerContents bytes c → IsLeast (IsCanonical bytes) (integer_contents bytes) c
+pub integer_shortest : (bytes c : List ℕ) → IntegerContents bytes c
+    → IsLeast (IsCanonical bytes) (integer_contents bytes) c
 integer_shortest bytes c p =
-    let same : c ≡ integer_contents bytes = contents_at_most_one bytes c (integer_contents bytes) p (integer_relates bytes p.0) in
+    let same : c ≡ integer_contents bytes =
+    contents_at_most_one bytes c (integer_contents bytes) p (integer_relates bytes p.0) in
     (p.0, omega (arith, ap length same), (λ (_ : length c ≤ length (integer_contents bytes)). same))
 
 -- What is left behind a padding zero.
-pub tail_holds : (xs : List ℕ) → 2 ≤ length xs → 128 ≤ get_or xs 1 0 → ((i : ℕ) → get_or xs i 0 < 256) → HoldsNumber (take (length xs - 1) (drop 1 xs))
+pub tail_holds : (xs : List ℕ) → 2 ≤ length xs → 128 ≤ get_or xs 1 0 → ((i : ℕ) → get_or xs i 0 < 256)
+    → HoldsNumber (take (length xs - 1) (drop 1 xs))
 tail_holds [] n h b = absurd (omega (arith, n))
 tail_holds (x ∷ []) n h b = absurd (omega (arith, n))
 tail_holds (x ∷ y ∷ ys) n h b =
-    let e : take (length (x ∷ y ∷ ys) - 1) (y ∷ ys) ≡ y ∷ ys = take_all (length (x ∷ y ∷ ys) - 1) (y ∷ ys) (omega arith) in
+    let e : take (length (x ∷ y ∷ ys) - 1) (y ∷ ys) ≡ y ∷ ys =
+    take_all (length (x ∷ y ∷ ys) - 1) (y ∷ ys) (omega arith) in
     rw e (omega arith, (λ _. omega (arith, h)), λ i. b (suc i))
 
 -- A number has an encoding, which is little longer than the number.
-pub integer_made : (bytes : List ℕ) → IsCanonical bytes → length bytes < 2 ^ 64 → (encoding : List ℕ) × Integer bytes encoding × (length encoding < 2 ^ 65)
+pub integer_made : (bytes : List ℕ) → IsCanonical bytes → length bytes < 2 ^ 64
+    → (encoding : List ℕ) × Integer bytes encoding × (length encoding < 2 ^ 65)
 integer_made bytes p h =
     let few : length (integer_contents bytes) ≤ length bytes + 1 = elim (cases_lt (slice_index bytes 0) 128) [
       | inl l ↦ omega (arith, ap length (written_small bytes l))
       | inr l ↦ omega (arith, ap length (written_large bytes l))
     ] in
-    let made = tlv_made integer_tag (IntegerContents bytes) (integer_contents bytes) (integer_relates bytes p) (omega (arith, few, h)) in
+    let made =
+    tlv_made integer_tag (IntegerContents bytes) (integer_contents bytes) (integer_relates bytes p)
+    (omega (arith, few, h)) in
     (made.0, made.1, omega (arith, few, h, ap length made.2, tlv_little_longer made.0 made.1))
 
 -- Contents of numbers are bytes.

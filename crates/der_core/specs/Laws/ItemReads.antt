@@ -1,5 +1,7 @@
 -- Reading encodings one after another, up to the end.
-use Rattle.std.proofs.Common.{◌≡◌, ℕ, ◌<◌, List, [], ◌∷◌, ◌++◌, length, refl, sym, ap, ◌∙◌, arith, append-nil, append_assoc, length-append, map, inl, inr, ⊎_elim, Option, Some, None, is_some, true, false, Bool}
+use Rattle.std.proofs.Common.{◌≡◌, ℕ, ◌<◌, List, [], ◌∷◌, ◌++◌, length, refl, sym, ap, ◌∙◌, arith, append-nil}
+use Rattle.std.proofs.Common.{append_assoc, length-append, map, inl, inr, ⊎_elim, Option, Some, None, is_some, true}
+use Rattle.std.proofs.Common.{false, Bool}
 use Rattle.std.proofs.lemmas.List.{map-append}
 use Rattle.std.specs.Prelude.{slice_get}
 use Rattle.der_core.specs.Encodings.{Joins, IsDelimited}
@@ -14,22 +16,30 @@ pub holds_some : (left : Input) (n : ℕ) → HoldsBytes left n → (c : List �
 holds_some None n h = absurd h
 holds_some (Some c) n h = (c, refl)
 
-pub peek_some : (left : Input) (rest : List ℕ) (r : Bool) (o : Option ℕ) → left ≡ Some rest → r ≡ true → r ≡ is_some o → o ≡ slice_get (left_in left) 0 → 0 < length rest
-peek_some left [] r o is shown some get = let f : o ≡ None = rw is at get in let g : r ≡ false = some ∙ ap is_some f in cc
+pub peek_some : (left : Input) (rest : List ℕ) (r : Bool) (o : Option ℕ) → left ≡ Some rest → r ≡ true → r ≡ is_some o
+    → o ≡ slice_get (left_in left) 0 → 0 < length rest
+peek_some left [] r o is shown some get =
+    let f : o ≡ None = rw is at get in let g : r ≡ false = some ∙ ap is_some f in cc
 peek_some left (x ∷ xs) r o is shown some get = omega arith
 
-pub peek_none : (left : Input) (rest : List ℕ) (r : Bool) (o : Option ℕ) → left ≡ Some rest → r ≡ false → r ≡ is_some o → o ≡ slice_get (left_in left) 0 → rest ≡ []
+pub peek_none : (left : Input) (rest : List ℕ) (r : Bool) (o : Option ℕ) → left ≡ Some rest → r ≡ false → r ≡ is_some o
+    → o ≡ slice_get (left_in left) 0 → rest ≡ []
 peek_none left [] r o is hidden some get = refl
-peek_none left (x ∷ xs) r o is hidden some get = let e : o ≡ slice_get (x ∷ xs) 0 = rw is at get in let f : o ≡ Some x = e in let g : r ≡ is_some (Some x) = some ∙ ap is_some f in cc
+peek_none left (x ∷ xs) r o is hidden some get =
+    let e : o ≡ slice_get (x ∷ xs) 0 =
+    rw is at get in let f : o ≡ Some x = e in let g : r ≡ is_some (Some x) = some ∙ ap is_some f in cc
 
 module _ (V : Type 0) (encoding : V → List ℕ → Type 0) (d : IsDelimited encoding) where
   -- one more encoding at the end
-  joins_push : (vs : List V) (w : V) (c a : List ℕ) → Joins (map encoding vs) c → encoding w a → Joins (map encoding (vs ++ w ∷ [])) (c ++ a)
+  joins_push : (vs : List V) (w : V) (c a : List ℕ) → Joins (map encoding vs) c → encoding w a
+      → Joins (map encoding (vs ++ w ∷ [])) (c ++ a)
   joins_push [] w c a p q = (a, [], q, refl, ap (λ l. l ++ a) p ∙ sym (append-nil a))
-  joins_push (v ∷ vs) w c a p q = (p.0, p.1 ++ a, p.2, joins_push vs w p.1 a p.3 q, ap (λ l. l ++ a) p.4 ∙ append_assoc p.0 p.1 a)
+  joins_push (v ∷ vs) w c a p q =
+      (p.0, p.1 ++ a, p.2, joins_push vs w p.1 a p.3 q, ap (λ l. l ++ a) p.4 ∙ append_assoc p.0 p.1 a)
 
   -- values were found, and nothing fits behind them
-  pub joins_none : (vs : List V) (c read rest : List ℕ) → Joins (map encoding vs) read → c ≡ read ++ rest → 0 < length rest → NoneIn encoding rest
+  pub joins_none : (vs : List V) (c read rest : List ℕ) → Joins (map encoding vs) read → c ≡ read ++ rest
+      → 0 < length rest → NoneIn encoding rest
       → (ws : List V) → Joins (map encoding ws) c → ⊥
   joins_none [] c read rest p is more none [] has =
       omega (arith, ap length is, ap length has, length-append read rest)
@@ -39,37 +49,49 @@ module _ (V : Type 0) (encoding : V → List ℕ → Type 0) (d : IsDelimited en
   joins_none (v ∷ vs) c read rest p is more none [] has =
       omega (arith, ap length is, ap length has, length-append read rest)
   joins_none (v ∷ vs) c read rest p is more none (w ∷ ws) has =
-      let e : p.0 ++ (p.1 ++ rest) ≡ has.0 ++ has.1 = sym (append_assoc p.0 p.1 rest) ∙ ap (λ l. l ++ rest) (sym p.4) ∙ sym is ∙ has.4 in
+      let e : p.0 ++ (p.1 ++ rest) ≡ has.0 ++ has.1 =
+      sym (append_assoc p.0 p.1 rest) ∙ ap (λ l. l ++ rest) (sym p.4) ∙ sym is ∙ has.4 in
       let same = d.one v w p.0 (p.1 ++ rest) has.0 has.1 p.2 has.2 e in
       let tails = same_fronts p.0 (p.1 ++ rest) has.0 has.1 (ap length same.0) e in
       joins_none vs has.1 p.1 rest p.3 (sym tails.1) more none ws has.3
 
   -- if there is an item behind the first ones, or none of these, the first one of all is there
-  first_item : (vs : List V) (read rest c : List ℕ) → Joins (map encoding vs) read → c ≡ read ++ rest → Begins encoding rest → Begins encoding c
+  first_item : (vs : List V) (read rest c : List ℕ) → Joins (map encoding vs) read → c ≡ read ++ rest
+      → Begins encoding rest → Begins encoding c
   first_item [] read rest c p is next = (next.0, next.1, is ∙ ap (λ l. l ++ rest) p ∙ next.2, next.3)
-  first_item (v ∷ vs) read rest c p is next = (p.0, p.1 ++ rest, is ∙ ap (λ l. l ++ rest) p.4 ∙ append_assoc p.0 p.1 rest, (v, p.2))
+  first_item (v ∷ vs) read rest c p is next =
+      (p.0, p.1 ++ rest, is ∙ ap (λ l. l ++ rest) p.4 ∙ append_assoc p.0 p.1 rest, (v, p.2))
 
-  items_asked : (may_allocate : List ℕ → Type 0) (vs : List V) (read rest c : List ℕ) → Joins (map encoding vs) read → c ≡ read ++ rest → AllocatesIn may_allocate rest → AllocatesForItems encoding may_allocate c
+  items_asked : (may_allocate : List ℕ → Type 0) (vs : List V) (read rest c : List ℕ) → Joins (map encoding vs) read
+      → c ≡ read ++ rest → AllocatesIn may_allocate rest → AllocatesForItems encoding may_allocate c
   items_asked may_allocate [] read rest c p is w = inr (w.0, w.1, is ∙ ap (λ l. l ++ rest) p ∙ w.2, w.3)
-  items_asked may_allocate (v ∷ vs) read rest c p is w = inl (p.0, p.1 ++ rest, is ∙ ap (λ l. l ++ rest) p.4 ∙ append_assoc p.0 p.1 rest, (v, p.2))
+  items_asked may_allocate (v ∷ vs) read rest c p is w =
+      inl (p.0, p.1 ++ rest, is ∙ ap (λ l. l ++ rest) p.4 ∙ append_assoc p.0 p.1 rest, (v, p.2))
 
-  pub items_faults : (Fault : ErrorKind → List ℕ → Type 0) (vs : List V) (read rest c : List ℕ) (may_allocate : List ℕ → Type 0) (e : ErrorKind) (start left after : Input) → start ≡ Some (read ++ rest) → left ≡ Some rest
-      → Joins (map encoding vs) read → 0 < length rest → FailsBy Fault (AllocatesIn may_allocate) e left after → start ≡ Some c → Faulty e (AllocatesForItems encoding may_allocate c) (ItemsFault encoding Fault e c)
+  pub items_faults : (Fault : ErrorKind → List ℕ → Type 0) (vs : List V) (read rest c : List ℕ)
+      (may_allocate : List ℕ → Type 0) (e : ErrorKind) (start left after : Input) → start ≡ Some (read ++ rest)
+      → left ≡ Some rest
+      → Joins (map encoding vs) read → 0 < length rest → FailsBy Fault (AllocatesIn may_allocate) e left after
+      → start ≡ Some c → Faulty e (AllocatesForItems encoding may_allocate c) (ItemsFault encoding Fault e c)
   items_faults Fault vs read rest c may_allocate e start left after from is joined more fails whole =
       let c_is : c ≡ read ++ rest = some_same c (read ++ rest) (sym whole ∙ from) in
-      ⊎_elim (λ w. inl (w.0, items_asked may_allocate vs read rest c joined c_is w.1)) (λ f. inr (vs, (read, rest, joined, (more, f), c_is))) (fails.2 rest is)
+      ⊎_elim (λ w. inl (w.0, items_asked may_allocate vs read rest c joined c_is w.1))
+      (λ f. inr (vs, (read, rest, joined, (more, f), c_is))) (fails.2 rest is)
 
   -- an item was read, so the first one is there
-  pub items_begin : (vs : List V) (v : V) (read rest c : List ℕ) (start left after : Input) → start ≡ Some (read ++ rest) → left ≡ Some rest
+  pub items_begin : (vs : List V) (v : V) (read rest c : List ℕ) (start left after : Input)
+      → start ≡ Some (read ++ rest) → left ≡ Some rest
       → Joins (map encoding vs) read → EncodingGives encoding v left after → start ≡ Some c → Begins encoding c
   items_begin vs v read rest c start left after from is joined gives whole =
       let c_is : c ≡ read ++ rest = some_same c (read ++ rest) (sym whole ∙ from) in
       let rest_is : rest ≡ gives.0 ++ gives.1 = some_same rest (gives.0 ++ gives.1) (sym is ∙ gives.2) in
       first_item vs read rest c joined c_is (gives.0, gives.1, rest_is, (v, gives.4))
 
-  pub items_more : (X : Type 0) (value : X → V) (xs : List X) (x : X) (read rest : List ℕ) (start left after : Input) → start ≡ Some (read ++ rest) → left ≡ Some rest
+  pub items_more : (X : Type 0) (value : X → V) (xs : List X) (x : X) (read rest : List ℕ) (start left after : Input)
+      → start ≡ Some (read ++ rest) → left ≡ Some rest
       → Joins (map encoding (map value xs)) read → EncodingGives encoding (value x) left after
-      → (read2 : List ℕ) × (rest2 : List ℕ) × (start ≡ Some (read2 ++ rest2)) × (after ≡ Some rest2) × Joins (map encoding (map value (xs ++ x ∷ []))) read2
+      → (read2 : List ℕ) × (rest2 : List ℕ) × (start ≡ Some (read2 ++ rest2)) × (after ≡ Some rest2)
+      × Joins (map encoding (map value (xs ++ x ∷ []))) read2
   items_more X value xs x read rest start left after from is joined gives =
       let a = gives.0 in
       let same : Some rest ≡ Some (a ++ gives.1) = sym is ∙ gives.2 in

@@ -1,8 +1,10 @@
 -- Length octets: told apart from what follows, one for each length, and no fewer for a greater length.
-use Rattle.std.proofs.Common.{◌/◌, ◌%◌, ℕ, List, [], ◌∷◌, ◌++◌, ◌≡◌, ◌<◌, ◌≤◌, ◌+◌, ◌^◌, length, refl, sym, ap, ◌∙◌, arith, inl, inr}
+use Rattle.std.proofs.Common.{◌/◌, ◌%◌, ℕ, List, [], ◌∷◌, ◌++◌, ◌≡◌, ◌<◌, ◌≤◌, ◌+◌, ◌^◌, length, refl, sym, ap, ◌∙◌}
+use Rattle.std.proofs.Common.{arith, inl, inr}
 use Rattle.std.proofs.lemmas.Bool.{cases_lt}
 use Rattle.std.specs.Int.Digits.{digits_of}
-use Rattle.std.proofs.lemmas.Int.Digits.{all_below_base_digits_of, number_digits_of, first_digits_of, length-digits_of-le}
+use Rattle.std.proofs.lemmas.Int.Digits.{all_below_base_digits_of, number_digits_of, first_digits_of}
+use Rattle.std.proofs.lemmas.Int.Digits.{length-digits_of-le}
 use Rattle.std.specs.Int.Digits.{number_from_digits}
 use Rattle.der_core.specs.Length.{IsLength, IsBase256, short, long, length_octets}
 use Rattle.std.specs.Prelude.{nat_lt, true, false}
@@ -11,7 +13,8 @@ use Rattle.der_core.specs.Encodings.{AreBytes}
 use Rattle.der_core.specs.Laws.Lists.{same_cons, same_fronts}
 use Rattle.der_core.specs.Laws.Numbers.{base256_grows, base256_same}
 
-pub length_split : (m n : ℕ) (x y x' y' : List ℕ) → IsLength m x → IsLength n x' → x ++ y ≡ x' ++ y' → (x ≡ x') × (m ≡ n) × (y ≡ y')
+pub length_split : (m n : ℕ) (x y x' y' : List ℕ) → IsLength m x → IsLength n x' → x ++ y ≡ x' ++ y'
+    → (x ≡ x') × (m ≡ n) × (y ≡ y')
 length_split m n x y x' y' (short p e) (short q f) h =
     let c : m ∷ y ≡ n ∷ y' = rw (e, f) at h in
     let d = same_cons c in
@@ -56,7 +59,13 @@ length_made n l = elim (cases_lt n 128) [
       let k : length (digits_of 256 n) ≤ 16 = length-digits_of-le 256 16 n (omega arith) l in (
         (128 + length (digits_of 256 n)) ∷ digits_of 256 n,
         long (digits_of 256 n) h (omega arith)
-            (record { bytes = all_below_base_digits_of 256 n (omega arith); value = number_digits_of 256 n (omega arith); no_leading_zero = first_digits_of 256 n (omega arith) (omega arith) })
+            (record {
+              bytes = all_below_base_digits_of 256 n (omega arith);
+              value =
+                  number_digits_of 256 n (omega arith);
+              no_leading_zero =
+                  first_digits_of 256 n (omega arith) (omega arith);
+            })
             refl,
       )
 ]
@@ -71,7 +80,12 @@ unfolding length_octets
 length_octets-long n h = let e : nat_lt n 128 ≡ false = grind (arith, nat_tests) in rw e refl
 
 digits_are : (n : ℕ) → 0 < n → IsBase256 n (digits_of 256 n)
-digits_are n h = record { bytes = all_below_base_digits_of 256 n (omega arith); value = number_digits_of 256 n (omega arith); no_leading_zero = first_digits_of 256 n (omega arith) h }
+digits_are n h =
+    record {
+      bytes = all_below_base_digits_of 256 n (omega arith);
+      value = number_digits_of 256 n (omega arith);
+      no_leading_zero = first_digits_of 256 n (omega arith) h;
+    }
 
 -- They are length octets of the number, if a number that isn't less has any.
 pub length_octets-are : (m n : ℕ) (s : List ℕ) → m ≤ n → IsLength n s → IsLength m (length_octets m)
@@ -82,12 +96,15 @@ length_octets-are m n s le p = elim (cases_lt m 128) [
   where
     few : IsLength n s → length (digits_of 256 m) ≤ 126
     few (short q f) = elim (cases_lt m 128) [
-      | inl h ↦ let k : length (digits_of 256 m) ≤ 1 = length-digits_of-le 256 1 m (omega arith) (omega arith) in omega arith
+      | inl h ↦ let k : length (digits_of 256 m) ≤ 1 =
+          length-digits_of-le 256 1 m (omega arith) (omega arith) in omega arith
       | inr h ↦ absurd (omega arith)
     ]
     few (long ds q k b f) = elim (cases_lt 0 m) [
-      | inl h ↦ let g : length (digits_of 256 m) ≤ length ds = base256_grows m n (digits_of 256 m) ds (digits_are m h) b le in omega arith
-      | inr h ↦ let g : length (digits_of 256 m) ≤ 1 = length-digits_of-le 256 1 m (omega arith) (omega arith) in omega arith
+      | inl h ↦ let g : length (digits_of 256 m) ≤ length ds =
+          base256_grows m n (digits_of 256 m) ds (digits_are m h) b le in omega arith
+      | inr h ↦ let g : length (digits_of 256 m) ≤ 1 =
+          length-digits_of-le 256 1 m (omega arith) (omega arith) in omega arith
     ]
 
 pub length_octets-only : (n : ℕ) (s : List ℕ) → IsLength n s → s ≡ length_octets n
@@ -98,16 +115,32 @@ length_octets-within n h = let made = length_made n h in length_octets-are n n m
 
 -- The length octets of the lengths below 2 ^ 32.
 length_1 : (n : ℕ) → 128 ≤ n → n < 256 → IsLength n (129 ∷ n ∷ [])
-length_1 n h l = long (n ∷ []) h (omega arith) (record { bytes = (l, tt); value = omega arith; no_leading_zero = omega arith }) refl
+length_1 n h l =
+    long (n ∷ []) h (omega arith) (record { bytes = (l, tt); value = omega arith; no_leading_zero = omega arith }) refl
 
 length_2 : (n : ℕ) → 256 ≤ n → n < 65536 → IsLength n (130 ∷ (n / 256) ∷ (n % 256) ∷ [])
-length_2 n h l = long ((n / 256) ∷ (n % 256) ∷ []) (omega arith) (omega arith) (record { bytes = (omega arith, (omega arith, tt)); value = omega arith; no_leading_zero = omega arith }) refl
+length_2 n h l =
+    long ((n / 256) ∷ (n % 256) ∷ []) (omega arith) (omega arith)
+    (record { bytes = (omega arith, (omega arith, tt)); value = omega arith; no_leading_zero = omega arith }) refl
 
 length_3 : (n : ℕ) → 65536 ≤ n → n < 16777216 → IsLength n (131 ∷ (n / 65536) ∷ (n / 256 % 256) ∷ (n % 256) ∷ [])
-length_3 n h l = long ((n / 65536) ∷ (n / 256 % 256) ∷ (n % 256) ∷ []) (omega arith) (omega arith) (record { bytes = (omega arith, (omega arith, (omega arith, tt))); value = omega arith; no_leading_zero = omega arith }) refl
+length_3 n h l =
+    long ((n / 65536) ∷ (n / 256 % 256) ∷ (n % 256) ∷ []) (omega arith) (omega arith)
+    (record {
+      bytes = (omega arith, (omega arith, (omega arith, tt)));
+      value = omega arith;
+      no_leading_zero = omega arith;
+    }) refl
 
-length_4 : (n : ℕ) → 16777216 ≤ n → n < 4294967296 → IsLength n (132 ∷ (n / 16777216) ∷ (n / 65536 % 256) ∷ (n / 256 % 256) ∷ (n % 256) ∷ [])
-length_4 n h l = long ((n / 16777216) ∷ (n / 65536 % 256) ∷ (n / 256 % 256) ∷ (n % 256) ∷ []) (omega arith) (omega arith) (record { bytes = (omega arith, (omega arith, (omega arith, (omega arith, tt)))); value = omega arith; no_leading_zero = omega arith }) refl
+length_4 : (n : ℕ) → 16777216 ≤ n → n < 4294967296
+    → IsLength n (132 ∷ (n / 16777216) ∷ (n / 65536 % 256) ∷ (n / 256 % 256) ∷ (n % 256) ∷ [])
+length_4 n h l =
+    long ((n / 16777216) ∷ (n / 65536 % 256) ∷ (n / 256 % 256) ∷ (n % 256) ∷ []) (omega arith) (omega arith)
+    (record {
+      bytes = (omega arith, (omega arith, (omega arith, (omega arith, tt))));
+      value = omega arith;
+      no_leading_zero = omega arith;
+    }) refl
 
 pub length_octets-1 : (n : ℕ) → 128 ≤ n → n < 256 → length_octets n ≡ 129 ∷ n ∷ []
 length_octets-1 n h l = sym (length_octets-only n (129 ∷ n ∷ []) (length_1 n h l))
@@ -115,11 +148,16 @@ length_octets-1 n h l = sym (length_octets-only n (129 ∷ n ∷ []) (length_1 n
 pub length_octets-2 : (n : ℕ) → 256 ≤ n → n < 65536 → length_octets n ≡ 130 ∷ (n / 256) ∷ (n % 256) ∷ []
 length_octets-2 n h l = sym (length_octets-only n (130 ∷ (n / 256) ∷ (n % 256) ∷ []) (length_2 n h l))
 
-pub length_octets-3 : (n : ℕ) → 65536 ≤ n → n < 16777216 → length_octets n ≡ 131 ∷ (n / 65536) ∷ (n / 256 % 256) ∷ (n % 256) ∷ []
-length_octets-3 n h l = sym (length_octets-only n (131 ∷ (n / 65536) ∷ (n / 256 % 256) ∷ (n % 256) ∷ []) (length_3 n h l))
+pub length_octets-3 : (n : ℕ) → 65536 ≤ n → n < 16777216
+    → length_octets n ≡ 131 ∷ (n / 65536) ∷ (n / 256 % 256) ∷ (n % 256) ∷ []
+length_octets-3 n h l =
+    sym (length_octets-only n (131 ∷ (n / 65536) ∷ (n / 256 % 256) ∷ (n % 256) ∷ []) (length_3 n h l))
 
-pub length_octets-4 : (n : ℕ) → 16777216 ≤ n → n < 4294967296 → length_octets n ≡ 132 ∷ (n / 16777216) ∷ (n / 65536 % 256) ∷ (n / 256 % 256) ∷ (n % 256) ∷ []
-length_octets-4 n h l = sym (length_octets-only n (132 ∷ (n / 16777216) ∷ (n / 65536 % 256) ∷ (n / 256 % 256) ∷ (n % 256) ∷ []) (length_4 n h l))
+pub length_octets-4 : (n : ℕ) → 16777216 ≤ n → n < 4294967296
+    → length_octets n ≡ 132 ∷ (n / 16777216) ∷ (n / 65536 % 256) ∷ (n / 256 % 256) ∷ (n % 256) ∷ []
+length_octets-4 n h l =
+    sym (length_octets-only n (132 ∷ (n / 16777216) ∷ (n / 65536 % 256) ∷ (n / 256 % 256) ∷ (n % 256) ∷ [])
+    (length_4 n h l))
 
 -- There are few length octets.
 pub length_few : (n : ℕ) (s : List ℕ) → IsLength n s → length s ≤ 127

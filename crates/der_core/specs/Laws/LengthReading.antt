@@ -1,5 +1,7 @@
 -- Laws of length octets as they are read.
-use Rattle.std.proofs.Common.{◌≡◌, ◌≢◌, ℕ, zero, suc, ◌+◌, ◌-◌, ◌*◌, ◌^◌, ◌<◌, ◌≤◌, List, [], ◌∷◌, ◌++◌, length, take, refl, sym, ap, arith, length-append, length-take, inl, inr, ◌⊎◌, ⊎_elim, Result, Ok, Err, true, false, cond, Bool}
+use Rattle.std.proofs.Common.{◌≡◌, ◌≢◌, ℕ, zero, suc, ◌+◌, ◌-◌, ◌*◌, ◌^◌, ◌<◌, ◌≤◌, List, [], ◌∷◌, ◌++◌, length, take}
+use Rattle.std.proofs.Common.{refl, sym, ap, arith, length-append, length-take, inl, inr, ◌⊎◌, ⊎_elim, Result, Ok, Err}
+use Rattle.std.proofs.Common.{true, false, cond, Bool}
 use Rattle.std.proofs.lemmas.Bool.Decides.{nat_tests}
 use Rattle.std.specs.Prelude.{nat_lt, ◌==◌, slice_index}
 use Rattle.std.specs.Int.Digits.{number_from_digits}
@@ -21,26 +23,30 @@ bytes_front (x ∷ xs) (suc i) h = (h.0, bytes_front xs i h.1)
 fills : (xs : List ℕ) → 0 < slice_index xs 0 → 256 ^ length xs ≤ number_from_digits 256 xs * 256
 fills [] h = absurd (omega (arith, h))
 fills (x ∷ xs) h =
-    let g : 256 ^ length xs ≤ number_from_digits 256 (x ∷ xs) = base256_ge (number_from_digits 256 (x ∷ xs)) xs x h refl in
+    let g : 256 ^ length xs ≤ number_from_digits 256 (x ∷ xs) =
+    base256_ge (number_from_digits 256 (x ∷ xs)) xs x h refl in
     rw (pow-suc 256 (length xs)) (omega arith)
 
 -- five octets that start with a digit spell more than the limit
 pub short_within_limit : (xs : List ℕ) → 0 < slice_index xs 0 → number_from_digits 256 xs ≤ limit → length xs ≤ 4
 short_within_limit xs h below =
     let full : 256 ^ length xs ≤ number_from_digits 256 xs * 256 = fills xs h in
-    let more : 5 ≤ length xs → 256 ^ 5 ≤ 256 ^ length xs = λ m. (let positive : 0 < 256 = omega arith in pow-le-pow_right positive m) in
+    let more : 5 ≤ length xs → 256 ^ 5 ≤ 256 ^ length xs =
+    λ m. (let positive : 0 < 256 = omega arith in pow-le-pow_right positive m) in
     grind arith
 
 pub chosen : {X : Type 0} (b : Bool) (x y z : X) → cond b x y ≡ z → ((b ≡ true) × (x ≡ z)) ⊎ ((b ≡ false) × (y ≡ z))
 chosen true x y z e = inl (refl, e)
 chosen false x y z e = inr (refl, e)
 
-pub guard_ok : {X : Type 0} (b : Bool) (d : ErrorKind) (r : Result X ErrorKind) (x : X) → cond b (Err d) r ≡ Ok x → (b ≡ false) × (r ≡ Ok x)
+pub guard_ok : {X : Type 0} (b : Bool) (d : ErrorKind) (r : Result X ErrorKind) (x : X) → cond b (Err d) r ≡ Ok x
+    → (b ≡ false) × (r ≡ Ok x)
 guard_ok true d r x e = cc
 guard_ok false d r x e = (refl, e)
 
 -- octets that aren't overlong
-pub not_overlong : (m : List ℕ) → 0 < length m → is_overlong m ≡ false → (0 < slice_index m 0) × (128 ≤ number_from_digits 256 m)
+pub not_overlong : (m : List ℕ) → 0 < length m → is_overlong m ≡ false
+    → (0 < slice_index m 0) × (128 ≤ number_from_digits 256 m)
 not_overlong [] h e = absurd (omega arith)
 not_overlong (x ∷ []) h e =
     let big : 128 ≤ x = grind (arith, nat_tests) in (omega arith, omega arith)
@@ -58,14 +64,16 @@ overlong_not (x ∷ []) h e = let big : 128 ≤ x = omega (arith, e) in grind (a
 overlong_not (x ∷ y ∷ ys) h e = grind (arith, nat_tests)
 
 -- equal results have equal values and rests
-pub ok_pair : {A : Type 0} (a a2 : A) (r r2 : List ℕ) (e : ◌≡◌ {A = Result (A × List ℕ) ErrorKind} (Ok (a, r)) (Ok (a2, r2))) → (a ≡ a2) × (r ≡ r2)
+pub ok_pair : {A : Type 0} (a a2 : A) (r r2 : List ℕ)
+    (e : ◌≡◌ {A = Result (A × List ℕ) ErrorKind} (Ok (a, r)) (Ok (a2, r2))) → (a ≡ a2) × (r ≡ r2)
 ok_pair {A} a a2 r r2 e =
     let same : ◌≡◌ {A = A × List ℕ} (a, r) (a2, r2) = cc in
     (ap (λ p. p.0) same, ap (λ p. p.1) same)
 
 -- What long_length_at reads are m octets that spell the number.
 pub long_length_at-sound : (m : ℕ) (b rest : List ℕ) (n : ℕ) → 0 < m → long_length_at m b ≡ Ok (n, rest)
-    → (length (take m b) ≡ m) × (number_from_digits 256 (take m b) ≡ n) × (0 < slice_index (take m b) 0) × (128 ≤ n) × (b ≡ take m b ++ rest) × (n ≤ limit)
+    → (length (take m b) ≡ m) × (number_from_digits 256 (take m b) ≡ n) × (0 < slice_index (take m b) 0) × (128 ≤ n)
+    × (b ≡ take m b ++ rest) × (n ≤ limit)
 long_length_at-sound m b rest n positive e =
     let room = guard_ok (nat_lt (length b) m) _ _ _ e in
     let canonical = guard_ok (is_overlong (take m b)) _ _ _ room.1 in
@@ -78,7 +86,8 @@ long_length_at-sound m b rest n positive e =
     (len, parts.0, first.0, rw (← parts.0) first.1, rw (← parts.1) (sym (take-append-drop m b)), rw (← parts.0) low)
 
 -- What length_at reads are length octets.
-pub length_at-sound : (b rest : List ℕ) (n : ℕ) → AreBytes b → length_at b ≡ Ok (n, rest) → (s : List ℕ) × IsLength n s × (b ≡ s ++ rest) × (n ≤ limit)
+pub length_at-sound : (b rest : List ℕ) (n : ℕ) → AreBytes b → length_at b ≡ Ok (n, rest)
+    → (s : List ℕ) × IsLength n s × (b ≡ s ++ rest) × (n ≤ limit)
 unfolding length_at
 length_at-sound [] rest n bytes e = cc
 length_at-sound (x ∷ b) rest n bytes e =
@@ -97,8 +106,14 @@ length_at-sound (x ∷ b) rest n bytes e =
     let read = long_length_at-sound (x - 128) b rest n (omega arith) not_more.1 in
     let m = take (x - 128) b in
     let len : length m ≡ x - 128 = read.0 in
-    let head : x ≡ 128 + length m = omega arith in
-    (x ∷ m, long m read.3 (omega arith) (record { bytes = bytes_front b (x - 128) bytes.1; value = read.1; no_leading_zero = read.2 }) (ap (λ t. t ∷ m) head), ap (λ t. x ∷ t) read.4, read.5))
+    let head : x ≡ 128 + length m = omega arith in (
+      x ∷ m,
+      long m read.3 (omega arith)
+          (record { bytes = bytes_front b (x - 128) bytes.1; value = read.1; no_leading_zero = read.2 })
+          (ap (λ t. t ∷ m) head),
+      ap (λ t. x ∷ t) read.4,
+      read.5,
+    ))
     (chosen (nat_lt x 128) _ _ _ e)
 
 first_positive : (m : List ℕ) → 0 < slice_index m 0 → 0 < length m
@@ -123,4 +138,15 @@ length_at-complete n s rest (long m p few b e) within =
     let same : 128 + length m - 128 ≡ length m = omega arith in
     let room : nat_lt (length (m ++ rest)) (length m) ≡ false = simp length-append (grind (arith, nat_tests)) in
     let low : nat_lt limit (number_from_digits 256 m) ≡ false = rw spells (grind (arith, nat_tests)) in
-    rw e (rw (not_short, not_80, not_more, same, room, take-append_seam m rest, fewest, low, drop-append_seam m rest, spells) refl)
+    rw e (rw (
+      not_short,
+      not_80,
+      not_more,
+      same,
+      room,
+      take-append_seam m rest,
+      fewest,
+      low,
+      drop-append_seam m rest,
+      spells,
+    ) refl)

@@ -1,5 +1,6 @@
 -- A number has one list of digits without a leading zero, and a greater number has no fewer digits.
-use Rattle.std.proofs.Common.{ℕ, suc, List, [], ◌∷◌, ◌≡◌, ◌<◌, ◌≤◌, ◌+◌, ◌*◌, ◌^◌, length, refl, sym, ◌∙◌, arith, inl, inr, mul-le-mul_right, zero-le}
+use Rattle.std.proofs.Common.{ℕ, suc, List, [], ◌∷◌, ◌≡◌, ◌<◌, ◌≤◌, ◌+◌, ◌*◌, ◌^◌, length, refl, sym, ◌∙◌, arith, inl}
+use Rattle.std.proofs.Common.{inr, mul-le-mul_right, zero-le}
 use Rattle.std.proofs.Math.Nat.{pow-suc, pow-le-pow_right}
 use Rattle.std.proofs.lemmas.Bool.{cases_lt}
 use Rattle.std.specs.Int.Digits.{number_from_digits, number_from_digits_after, AllBelowBase}
@@ -11,7 +12,8 @@ use Rattle.der_core.specs.Laws.Lists.{cons_path}
 same_step : (m n x y : ℕ) → x < 256 → y < 256 → m * 256 + x ≡ n * 256 + y → (m ≡ n) × (x ≡ y)
 same_step m n x y p q e = (omega arith, omega arith)
 
-same_after : (m n : ℕ) (x y : List ℕ) → AllBelowBase 256 x → AllBelowBase 256 y → length x ≡ length y → number_from_digits_after 256 m x ≡ number_from_digits_after 256 n y → (m ≡ n) × (x ≡ y)
+same_after : (m n : ℕ) (x y : List ℕ) → AllBelowBase 256 x → AllBelowBase 256 y → length x ≡ length y
+    → number_from_digits_after 256 m x ≡ number_from_digits_after 256 n y → (m ≡ n) × (x ≡ y)
 same_after m n [] [] p q l e = (e, refl)
 same_after m n [] (b ∷ y) p q l e = absurd (omega arith)
 same_after m n (a ∷ x) [] p q l e = absurd (omega arith)

@@ -10,7 +10,8 @@ use Rattle.der_core.specs.Laws.Sequences.{some_same, more_than_end}
 use Rattle.der_core.specs.Faults.{TaggedLastFault}
 use Rattle.der_core.specs.declared.tag.Tag.{Tag}
 
-module _ {X V : Type 0} (value : X → V) (tag : Tag) (Contents : V → List ℕ → Type 0) (Fault : ErrorKind → List ℕ → Type 0) where
+module _ {X V : Type 0} (value : X → V) (tag : Tag) (Contents : V → List ℕ → Type 0)
+    (Fault : ErrorKind → List ℕ → Type 0) where
   abbrev Encoding : V → List ℕ → Type 0
   Encoding v encoding = Tlv tag.octet (Contents v) encoding
 
@@ -18,23 +19,31 @@ module _ {X V : Type 0} (value : X → V) (tag : Tag) (Contents : V → List ℕ
   Found r before after = ReadsOptional tag.octet value Encoding Fault (Tlv tag.octet (λ _. ⊥)) r before after
 
   -- its fault
-  pub part_fails : (before after : Input) (e : Error) → Found (Err e) before after → FailsBy (TaggedLastFault tag Encoding Fault) (λ _. ⊥) e.kind before after
-  part_fails before after e f = (f.0, f.1, λ c is. ⊎_elim (λ w. absurd w.1.3.holds) (λ g. inr (inl (g.0, inl g.1))) (f.2 c is))
+  pub part_fails : (before after : Input) (e : Error) → Found (Err e) before after
+      → FailsBy (TaggedLastFault tag Encoding Fault) (λ _. ⊥) e.kind before after
+  part_fails before after e f =
+      (f.0, f.1, λ c is. ⊎_elim (λ w. absurd w.1.3.holds) (λ g. inr (inl (g.0, inl g.1))) (f.2 c is))
 
   -- or bytes behind it, or elsewhere
-  pub rest_fails : (r : Option X) (before mid after : Input) (e : ErrorKind) → Found (Ok r) before mid → (read_from mid end_of ≡ Err e) × (after ≡ None) → FailsBy (TaggedLastFault tag Encoding Fault) (λ _. ⊥) e before after
+  pub rest_fails : (r : Option X) (before mid after : Input) (e : ErrorKind) → Found (Ok r) before mid
+      → (read_from mid end_of ≡ Err e) × (after ≡ None)
+      → FailsBy (TaggedLastFault tag Encoding Fault) (λ _. ⊥) e before after
   rest_fails None before mid after e f ended = (
     ended.1,
     (λ none. let no : ◌≡◌ {A = Input} None (Some f.0) = sym none ∙ f.1 in cc),
     λ c is.
         let same : f.0 ≡ c = some_same f.0 c (sym f.1 ∙ is) in
-        inr (inr ((λ next. f.3 (ap (λ l. slice_get l 0) same ∙ next)), more_than_end mid c e (f.2 ∙ ap (λ l. Some l) same) ended.0)),
+        inr (inr (
+          (λ next. f.3 (ap (λ l. slice_get l 0) same ∙ next)),
+          more_than_end mid c e (f.2 ∙ ap (λ l. Some l) same) ended.0,
+        )),
   )
   rest_fails (Some x) before mid after e f ended = (
     ended.1,
     (λ none. let no : ◌≡◌ {A = Input} None (Some (f.0 ++ f.1)) = sym none ∙ f.2 in cc),
     λ c is.
         let same : f.0 ++ f.1 ≡ c = some_same (f.0 ++ f.1) c (sym f.2 ∙ is) in
-        let next : slice_get c 0 ≡ Some tag.octet = sym (ap (λ l. slice_get l 0) same) ∙ ap (λ l. slice_get (l ++ f.1) 0) f.4.written in
+        let next : slice_get c 0 ≡ Some tag.octet =
+        sym (ap (λ l. slice_get l 0) same) ∙ ap (λ l. slice_get (l ++ f.1) 0) f.4.written in
         inr (inl (next, inr (value x, (f.0, f.1, f.4, more_than_end mid f.1 e f.3 ended.0, sym same)))),
   )

@@ -7,18 +7,22 @@ use Rattle.der_core.specs.SequenceOf.{ItemsContents, AllHave, all_encodings}
 
 module _ {V : Type 0} (Grammar : V → List ℕ → Type 0) (has : V → Type 0) (encoding : V → List ℕ) where
   pub items_relate : ((v : V) → has v → length (encoding v) < 2 ^ 128 → Grammar v (encoding v))
-      → (vs : List V) → AllHave has vs → length (all_encodings encoding vs) < 2 ^ 128 → ItemsContents Grammar vs (all_encodings encoding vs)
+      → (vs : List V) → AllHave has vs → length (all_encodings encoding vs) < 2 ^ 128
+      → ItemsContents Grammar vs (all_encodings encoding vs)
   items_relate relates [] h fits = refl
   items_relate relates (v ∷ vs) h fits =
       let l = length-append (encoding v) (all_encodings encoding vs) in
-      then_holds (encoding v) (all_encodings encoding vs) (relates v h.0 (omega (arith, fits, l))) (items_relate relates vs h.1 (omega (arith, fits, l)))
+      then_holds (encoding v) (all_encodings encoding vs) (relates v h.0 (omega (arith, fits, l)))
+      (items_relate relates vs h.1 (omega (arith, fits, l)))
 
   pub items_shortest : ((v : V) (b : List ℕ) → Grammar v b → IsLeast (has v) (encoding v) b)
       → (vs : List V) (c : List ℕ) → ItemsContents Grammar vs c → IsLeast (AllHave has vs) (all_encodings encoding vs) c
   items_shortest least [] c p = (tt, omega arith, (λ (_ : length c ≤ 0). p))
-  items_shortest least (v ∷ vs) c p = then_least (encoding v) (all_encodings encoding vs) (least v) (items_shortest least vs) c p
+  items_shortest least (v ∷ vs) c p =
+      then_least (encoding v) (all_encodings encoding vs) (least v) (items_shortest least vs) c p
 
 -- The contents are bytes if the items' encodings are.
-pub items_of_bytes : {V : Type 0} (Grammar : V → List ℕ → Type 0) → IsOfBytes Grammar → IsOfBytes (ItemsContents Grammar)
+pub items_of_bytes : {V : Type 0} (Grammar : V → List ℕ → Type 0) → IsOfBytes Grammar
+    → IsOfBytes (ItemsContents Grammar)
 items_of_bytes Grammar bytes [] c p = rw p tt
 items_of_bytes Grammar bytes (v ∷ vs) c p = then_of_bytes (bytes v) (items_of_bytes Grammar bytes vs) c p

@@ -17,7 +17,8 @@ pub byte_number : (n : ℕ) → number_from_digits 256 (n ∷ []) ≡ n
 byte_number n = omega arith
 
 -- Canonical bytes of a number below 256 are one byte.
-pub one_byte : (n : ℕ) (bytes : List ℕ) → n < 256 → IsCanonical bytes → number_from_digits 256 bytes ≡ n → bytes ≡ n ∷ []
+pub one_byte : (n : ℕ) (bytes : List ℕ) → n < 256 → IsCanonical bytes → number_from_digits 256 bytes ≡ n
+    → bytes ≡ n ∷ []
 one_byte n bytes l p e = canonical_same bytes (n ∷ []) p (byte_canonical n l) (e ∙ sym (byte_number n))
 
 pub small_relates : (n : ℕ) → n < 256 → SmallContents n (integer_contents (n ∷ []))
@@ -28,5 +29,7 @@ small_is n c (l, bytes, e, i) = let s : bytes ≡ n ∷ [] = one_byte n bytes l 
 
 pub small_shortest : (n : ℕ) (c : List ℕ) → SmallContents n c → IsLeast (n < 256) (integer_contents (n ∷ [])) c
 small_shortest n c p =
-    let same : c ≡ integer_contents (n ∷ []) = contents_at_most_one (n ∷ []) c (integer_contents (n ∷ [])) (small_is n c p) (integer_relates (n ∷ []) (byte_canonical n p.0)) in
+    let same : c ≡ integer_contents (n ∷ []) =
+    contents_at_most_one (n ∷ []) c (integer_contents (n ∷ [])) (small_is n c p)
+    (integer_relates (n ∷ []) (byte_canonical n p.0)) in
     (p.0, omega (arith, ap length same), (λ (_ : length c ≤ length (integer_contents (n ∷ []))). same))

@@ -1,5 +1,6 @@
 -- Reading the contents of an INTEGER from 0 to 255.
-use Rattle.std.proofs.Common.{◌≡◌, ℕ, ◌<◌, ◌≤◌, ◌^◌, List, [], ◌∷◌, length, take, drop, take_all, refl, sym, ap, ◌∙◌, arith, inl, inr, Result, Ok, Err, true, false, Some, None}
+use Rattle.std.proofs.Common.{◌≡◌, ℕ, ◌<◌, ◌≤◌, ◌^◌, List, [], ◌∷◌, length, take, drop, take_all, refl, sym, ap, ◌∙◌}
+use Rattle.std.proofs.Common.{arith, inl, inr, Result, Ok, Err, true, false, Some, None}
 use Rattle.std.specs.Prelude.{nat_lt, ◌==◌}
 use Rattle.std.specs.Int.Digits.{number_from_digits}
 use Rattle.std.proofs.lemmas.Bool.Decides.{nat_tests}
@@ -23,13 +24,15 @@ large : (bytes : List ℕ) → HoldsNumber bytes → 1 < length bytes → 256 �
 large [] h l = absurd (omega arith)
 large (x ∷ xs) h l =
     let first : 0 < x = h.1 l in
-    let ge : 256 ^ length xs ≤ number_from_digits 256 (x ∷ xs) = base256_ge (number_from_digits 256 (x ∷ xs)) xs x first refl in
+    let ge : 256 ^ length xs ≤ number_from_digits 256 (x ∷ xs) =
+    base256_ge (number_from_digits 256 (x ∷ xs)) xs x first refl in
     let positive : 0 < 256 = omega arith in
     let one : 1 ≤ length xs = omega arith in
     let up : 256 ^ 1 ≤ 256 ^ length xs = pow-le-pow_right positive one in
     omega arith
 
-pub is_large : (xs bytes : List ℕ) (k : ErrorKind) (t : Tag) → integer_of xs ≡ Ok bytes → HoldsNumber bytes → 1 < length bytes → k ≡ kind.Value t → t.octet ≡ 2 → small_of xs ≡ Err k
+pub is_large : (xs bytes : List ℕ) (k : ErrorKind) (t : Tag) → integer_of xs ≡ Ok bytes → HoldsNumber bytes
+    → 1 < length bytes → k ≡ kind.Value t → t.octet ≡ 2 → small_of xs ≡ Err k
 is_large xs bytes k t read h l e o =
     let big : 256 ≤ number_from_digits 256 bytes = large bytes h l in
     let test : nat_lt (number_from_digits 256 bytes) 256 ≡ false = grind (arith, nat_tests) in
@@ -68,7 +71,8 @@ pub integer_none : (bytes c : List ℕ) (k : ErrorKind) → integer_of c ≡ Err
 integer_none bytes c k e p = let r : integer_of c ≡ Ok bytes = contents_read bytes c p in let no = sym r ∙ e in cc
 
 -- The errors are about the bytes.
-as_tells : (k : ErrorKind) (r : Result (List ℕ) ErrorKind) → ((d : ErrorKind) → r ≡ Err d → TellsOfBytes d) → as_small r ≡ Err k → TellsOfBytes k
+as_tells : (k : ErrorKind) (r : Result (List ℕ) ErrorKind) → ((d : ErrorKind) → r ≡ Err d → TellsOfBytes d)
+    → as_small r ≡ Err k → TellsOfBytes k
 as_tells k (Err d) h e = let same : d ≡ k = cc in h k (ap (λ x. Err x) same)
 as_tells k (Ok bytes) h e = elim (chosen (nat_lt (number_from_digits 256 bytes) 256) _ _ _ e) [
   | inl w ↦ let no = w.1 in cc
@@ -99,7 +103,8 @@ pub small_tells : (c : List ℕ) (k : ErrorKind) → small_of c ≡ Err k → Te
 small_tells c k e = as_tells k (integer_of c) (integer_tells c) e
 
 -- All that was left was read.
-pub all_read : (left : Input) (n : ℕ) (c rest all : List ℕ) → HoldsBytes left n → read_from left (front_of n) ≡ Ok (c, rest) → left ≡ Some all → c ≡ all
+pub all_read : (left : Input) (n : ℕ) (c rest all : List ℕ) → HoldsBytes left n
+    → read_from left (front_of n) ≡ Ok (c, rest) → left ≡ Some all → c ≡ all
 all_read None n c rest all h r is = absurd h
 all_read (Some b) n c rest all h r is = elim (chosen (nat_lt (length b) n) _ _ _ r) [
   | inl w ↦ let no = w.1 in cc

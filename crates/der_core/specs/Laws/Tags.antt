@@ -9,7 +9,12 @@ use mathlib.Core.HLevel.{is_prop→PathP}
 
 -- Tags of one octet are the same.
 pub same_tag : (s t : Tag) → s.octet ≡ t.octet → s ≡ t
-same_tag s t e = λ i. record { octet = e i; allowed = is_prop→PathP (λ j. IsTrue (is_allowed (e j))) (λ j. Bool-set (is_allowed (e j)) true) s.allowed t.allowed i }
+same_tag s t e =
+    λ i. record {
+      octet = e i;
+      allowed = is_prop→PathP (λ j. IsTrue (is_allowed (e j)))
+          (λ j. Bool-set (is_allowed (e j)) true) s.allowed t.allowed i;
+    }
 
 -- An allowed octet is a byte.
 pub allowed_below : (t : ℕ) → IsTrue (is_allowed t) → t < 256

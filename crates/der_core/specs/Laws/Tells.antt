@@ -18,7 +18,8 @@ pub is_value : {k : ErrorKind} {tag : Tag} → k ≡ kind.Value tag → TellsOfB
 is_value e = (λ no. cc, λ no. cc, λ no. cc)
 
 -- An error about the bytes, or the result that it guards.
-pub guard_tells : {X : Type 0} (b : Bool) (d k : ErrorKind) (r : Result X ErrorKind) → TellsOfBytes d → (r ≡ Err k → TellsOfBytes k) → cond b (Err d) r ≡ Err k → TellsOfBytes k
+pub guard_tells : {X : Type 0} (b : Bool) (d k : ErrorKind) (r : Result X ErrorKind) → TellsOfBytes d
+    → (r ≡ Err k → TellsOfBytes k) → cond b (Err d) r ≡ Err k → TellsOfBytes k
 guard_tells {X} true d k r tells behind is = same_tells d k tells is
   where
     same_tells : (a b : ErrorKind) → TellsOfBytes a → ◌≡◌ {A = Result X ErrorKind} (Err a) (Err b) → TellsOfBytes b

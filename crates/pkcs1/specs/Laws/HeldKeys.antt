@@ -33,13 +33,16 @@ module _ {U : Type 0} (number : U → List ℕ) (held : (u : U) → IsHeld (numb
   other_held : (other : OtherPrimeInfo U) → AllHave IsHeld (other_numbers (other_of number other))
   other_held other = (held other.prime, (held other.exponent, (held other.coefficient, tt)))
 
-  each_held : (others : List (OtherPrimeInfo U)) → AllHave (λ other. AllHave IsHeld (other_numbers other)) (map (other_of number) others)
+  each_held : (others : List (OtherPrimeInfo U))
+      → AllHave (λ other. AllHave IsHeld (other_numbers other)) (map (other_of number) others)
   each_held [] = tt
   each_held (other ∷ others) = (other_held other, each_held others)
 
-  others_held : (others : Option (Vec (OtherPrimeInfo U) Global)) → HasOthers IsCanonical (others_of number others) → AreHeld (others_of number others)
+  others_held : (others : Option (Vec (OtherPrimeInfo U) Global)) → HasOthers IsCanonical (others_of number others)
+      → AreHeld (others_of number others)
   others_held None has = tt
-  others_held (Some v) has = (has.0, omega (arith, length-map v.items (other_of number), v.ok, v.small), each_held v.items)
+  others_held (Some v) has =
+      (has.0, omega (arith, length-map v.items (other_of number), v.ok, v.small), each_held v.items)
 
   numbers_held : (key : Listed U) → AllHave IsHeld (key_numbers (private_key_with number key))
   numbers_held key = (
@@ -54,14 +57,19 @@ module _ {U : Type 0} (number : U → List ℕ) (held : (u : U) → IsHeld (numb
   )
 
   -- So a key that can be written has an encoding.
-  pub held_has_encoding : (key : Listed U) → HasPrivateKey IsCanonical (private_key_with number key) → HasEncoding RsaPrivateKey (private_key_with number key)
-  held_has_encoding key has = private_made (private_key_with number key) (numbers_held key) (others_held key.other_prime_infos has.1.1)
+  pub held_has_encoding : (key : Listed U) → HasPrivateKey IsCanonical (private_key_with number key)
+      → HasEncoding RsaPrivateKey (private_key_with number key)
+  held_has_encoding key has =
+      private_made (private_key_with number key) (numbers_held key) (others_held key.other_prime_infos has.1.1)
 
   pub rejected_held : (key : Listed U) (room : ℕ) (result : Result ℕ Error)
-      → IfErr result (IsAsn1 (λ e. WhyNotWritten (HasPrivateKey IsCanonical (private_key_with number key)) RsaPrivateKey (private_key_with number key) room (encode_error e.kind)))
-      → IfErr result (IsAsn1 (λ e. WhyNotWritten (HasEncoding RsaPrivateKey (private_key_with number key)) RsaPrivateKey (private_key_with number key) room (encode_error e.kind)))
+      → IfErr result (IsAsn1 (λ e. WhyNotWritten (HasPrivateKey IsCanonical (private_key_with number key)) RsaPrivateKey
+      (private_key_with number key) room (encode_error e.kind)))
+      → IfErr result (IsAsn1 (λ e. WhyNotWritten (HasEncoding RsaPrivateKey (private_key_with number key)) RsaPrivateKey
+      (private_key_with number key) room (encode_error e.kind)))
   rejected_held key room (Ok n) h = tt
-  rejected_held key room (Err (error.Asn1 e)) h = rejected_by RsaPrivateKey (private_key_with number key) _ room (held_has_encoding key) (encode_error e.kind) h
+  rejected_held key room (Err (error.Asn1 e)) h =
+      rejected_by RsaPrivateKey (private_key_with number key) _ room (held_has_encoding key) (encode_error e.kind) h
   rejected_held key room (Err error.Crypto) h = h
   rejected_held key room (Err error.KeyMalformed) h = h
   rejected_held key room (Err error.Version) h = h

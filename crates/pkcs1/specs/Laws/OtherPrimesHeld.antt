@@ -23,9 +23,11 @@ others_set : IsSet (List (OtherPrime (List ℕ)))
 others_set = hlevel props
 
 -- Bytes hold at most one list of other primes.
-pub one_list : (v w : List (OtherPrime (List ℕ))) (c : List ℕ) → ∥ ItemsContents (OtherPrimeInfo Integer) v c ∥₁ → ∥ ItemsContents (OtherPrimeInfo Integer) w c ∥₁ → v ≡ w
+pub one_list : (v w : List (OtherPrime (List ℕ))) (c : List ℕ) → ∥ ItemsContents (OtherPrimeInfo Integer) v c ∥₁
+    → ∥ ItemsContents (OtherPrimeInfo Integer) w c ∥₁ → v ≡ w
 one_list v w c p q =
-    ∥∥₁_elim p (others_set v w) (λ a. ∥∥₁_elim q (others_set v w) (λ b. joins_map (OtherPrimeInfo Integer) (other_delimited integer_delimited) v w c a b))
+    ∥∥₁_elim p (others_set v w) (λ a. ∥∥₁_elim q (others_set v w)
+    (λ b. joins_map (OtherPrimeInfo Integer) (other_delimited integer_delimited) v w c a b))
 
 pub HoldsOthers-prop : (bytes : List ℕ) (left : ℕ) → IsProp (HoldsOthers bytes left)
 HoldsOthers-prop bytes left p q =
@@ -41,7 +43,9 @@ numbers_are_bytes : IsOfBytes Integer
 numbers_are_bytes = tlv_of_bytes integer_tag refl IntegerContents integer_of_bytes
 
 pub others_are_bytes : IsOfBytes (ItemsContents (OtherPrimeInfo Integer))
-others_are_bytes = items_of_bytes (OtherPrimeInfo Integer) (tlv_of_bytes sequence_tag refl (OtherPrimeContents Integer) (other_of_bytes Integer numbers_are_bytes))
+others_are_bytes =
+    items_of_bytes (OtherPrimeInfo Integer)
+    (tlv_of_bytes sequence_tag refl (OtherPrimeContents Integer) (other_of_bytes Integer numbers_are_bytes))
 
 pub keys_are_bytes : IsOfBytes (PrivateKeyContents Integer)
 keys_are_bytes = private_of_bytes Integer numbers_are_bytes

@@ -21,15 +21,20 @@ module _ {Number : Type 0} (NumberEncoding : Number → List ℕ → Type 0) whe
 
   module _ (has : Number → Type 0) (encoding : Number → List ℕ) where
     pub public_key_relates : ((n : Number) → has n → length (encoding n) < 2 ^ 128 → NumberEncoding n (encoding n))
-        → (key : PublicKey Number) → HasPublicKey has key → length (written_public_key encoding key) < 2 ^ 128 → PublicKeyContents NumberEncoding key (written_public_key encoding key)
+        → (key : PublicKey Number) → HasPublicKey has key → length (written_public_key encoding key) < 2 ^ 128
+        → PublicKeyContents NumberEncoding key (written_public_key encoding key)
     public_key_relates relates key h fits = items_relate NumberEncoding has encoding relates (public_numbers key) h fits
 
     pub public_key_shortest : ((n : Number) (b : List ℕ) → NumberEncoding n b → IsLeast (has n) (encoding n) b)
-        → (key : PublicKey Number) (c : List ℕ) → PublicKeyContents NumberEncoding key c → IsLeast (HasPublicKey has key) (written_public_key encoding key) c
+        → (key : PublicKey Number) (c : List ℕ) → PublicKeyContents NumberEncoding key c
+        → IsLeast (HasPublicKey has key) (written_public_key encoding key) c
     public_key_shortest least key c p = items_shortest NumberEncoding has encoding least (public_numbers key) c p
 
 -- Equality of keys, given that of numbers.
-pub public_key_decides : {U V : Type 0} (value : U → V) (E : U → U → Bool) → ((a b : U) → Decides (E a b) (value a ≡ value b)) → (m n e f : U)
-    → Decides (E m n && E e f) (◌≡◌ {A = PublicKey V} (record { modulus = value m; public_exponent = value e }) (record { modulus = value n; public_exponent = value f }))
+pub public_key_decides : {U V : Type 0} (value : U → V) (E : U → U → Bool)
+    → ((a b : U) → Decides (E a b) (value a ≡ value b)) → (m n e f : U)
+    → Decides (E m n && E e f) (◌≡◌ {A = PublicKey V} (record { modulus = value m; public_exponent = value e })
+    (record { modulus = value n; public_exponent = value f }))
 public_key_decides {U} {V} value E d m n e f =
-    both_decide (d m n) (d e f) (λ p q. λ i. record { modulus = p i; public_exponent = q i }) (λ s. ap (λ (k : PublicKey V). k.modulus) s) (λ s. ap (λ (k : PublicKey V). k.public_exponent) s)
+    both_decide (d m n) (d e f) (λ p q. λ i. record { modulus = p i; public_exponent = q i })
+    (λ s. ap (λ (k : PublicKey V). k.modulus) s) (λ s. ap (λ (k : PublicKey V). k.public_exponent) s)

@@ -1,6 +1,7 @@
 -- Algorithm identifiers with parameters of their own: each encoding of the parameters stands in one encoding of the
 -- identifier, and each encoding of the identifier holds one of the parameters.
-use Rattle.std.proofs.Common.{ℕ, List, [], ◌++◌, ◌≡◌, ◌∙◌, ◌≤◌, ◌+◌, ◌^◌, length, refl, sym, ap, inl, inr, arith, Some, length-append}
+use Rattle.std.proofs.Common.{ℕ, List, [], ◌++◌, ◌≡◌, ◌∙◌, ◌≤◌, ◌+◌, ◌^◌, length, refl, sym, ap, inl, inr, arith, Some}
+use Rattle.std.proofs.Common.{length-append}
 use Rattle.std.proofs.lemmas.Bool.{cases_lt}
 use Rattle.der_core.specs.Document.{IsShortest, Excludes}
 use Rattle.der_core.specs.Encodings.{Is, IsDelimited, IsOfBytes}
@@ -28,21 +29,38 @@ module _ {V : Type 0} (Contents : V → List ℕ → Type 0) (oid : List ℕ) wh
   Grammar v encoding = Tlv sequence_tag (Contents v) encoding
 
   -- One that means these parameters is one of the grammar.
-  pub algorithm_of_plain : (a : Algorithm TagAndContents) (v : V) (b : List ℕ) → Identifies oid Contents a v → PlainAlgorithm a b → AlgorithmOf oid Grammar v b
+  pub algorithm_of_plain : (a : Algorithm TagAndContents) (v : V) (b : List ℕ) → Identifies oid Contents a v
+      → PlainAlgorithm a b → AlgorithmOf oid Grammar v b
   algorithm_of_plain a v b (same, any, given, tag, holds) t =
       let q = t.holds in
       let there : Any any q.1 = rw given at (joins_last q.1 q.3) in
       let p = there.1 in
-      tlv_recast b t (q.0, q.1, rw same at q.2, last_holds q.1 (record { octets = p.octets; contents = p.contents; counted = p.counted; holds = rw p.holds holds; written = rw (← tag) p.written }), q.4)
+      tlv_recast b t (
+        q.0,
+        q.1,
+        rw same at q.2,
+        last_holds q.1 (record {
+          octets = p.octets;
+          contents = p.contents;
+          counted = p.counted;
+          holds = rw p.holds holds;
+          written = rw (← tag) p.written;
+        }),
+        q.4,
+      )
 
   -- And each of the grammar is one that means these parameters.
-  pub plain_of_algorithm : IsOfBytes Contents → (v : V) (b : List ℕ) → AlgorithmOf oid Grammar v b → (a : Algorithm TagAndContents) × Identifies oid Contents a v × PlainAlgorithm a b
+  pub plain_of_algorithm : IsOfBytes Contents → (v : V) (b : List ℕ) → AlgorithmOf oid Grammar v b
+      → (a : Algorithm TagAndContents) × Identifies oid Contents a v × PlainAlgorithm a b
   plain_of_algorithm bytes v b t =
       let q = t.holds in
       let p = joins_last q.1 q.3 in
       let any : TagAndContents = record { tag = sequence_tag; contents = p.contents } in
-      let there : Any any q.1 = ((sequence.allowed, bytes v p.contents p.holds), tlv_recast q.1 p refl) in
-      (with_parameters oid any, (refl, any, refl, refl, p.holds), tlv_recast b t (q.0, q.1, q.2, last_holds q.1 there, q.4))
+      let there : Any any q.1 = ((sequence.allowed, bytes v p.contents p.holds), tlv_recast q.1 p refl) in (
+        with_parameters oid any,
+        (refl, any, refl, refl, p.holds),
+        tlv_recast b t (q.0, q.1, q.2, last_holds q.1 there, q.4),
+      )
 
 -- The encoding of the parameters.
 module _ (oid : List ℕ) where
@@ -56,12 +74,23 @@ module _ (oid : List ℕ) where
   same_identifier y = algorithm_at_most_one Is (λ z c d p q. p ∙ sym q) (with_parameters oid y)
 
   -- Longer parameters stand in a longer identifier.
-  pub identifier_grows : (n : ℕ) (x y b c : List ℕ) → AlgorithmOf oid Is x b → AlgorithmOf oid Is y c → length x + n ≤ length y → length b + n ≤ length c
+  pub identifier_grows : (n : ℕ) (x y b c : List ℕ) → AlgorithmOf oid Is x b → AlgorithmOf oid Is y c
+      → length x + n ≤ length y → length b + n ≤ length c
   identifier_grows n x y b c p q less =
       let h = p.holds in
       let k = q.holds in
       let same : h.0 ≡ k.0 = identifier_at_most_one oid h.0 k.0 h.2 k.2 in
-      tlv_grows n b c p q (omega (arith, less, ap length same, ap length (joins_last h.1 h.3), ap length (joins_last k.1 k.3), ap length h.4, ap length k.4, length-append h.0 h.1, length-append k.0 k.1))
+      tlv_grows n b c p q (omega (
+        arith,
+        less,
+        ap length same,
+        ap length (joins_last h.1 h.3),
+        ap length (joins_last k.1 k.3),
+        ap length h.4,
+        ap length k.4,
+        length-append h.0 h.1,
+        length-append k.0 k.1,
+      ))
 
   pub parameters_shorter : (y b : List ℕ) → AlgorithmOf oid Is y b → length y ≤ length b
   parameters_shorter y b p =
@@ -69,16 +98,21 @@ module _ (oid : List ℕ) where
       omega (arith, contents_shorter b p, ap length (joins_last h.1 h.3), ap length h.4, length-append h.0 h.1)
 
   -- Each encoding within the limit stands in an identifier, if another one does.
-  pub identifier_made : (x b y : List ℕ) → AlgorithmOf oid Is x b → length b ≤ limit → length y ≤ limit → (c : List ℕ) × AlgorithmOf oid Is y c
+  pub identifier_made : (x b y : List ℕ) → AlgorithmOf oid Is x b → length b ≤ limit → length y ≤ limit
+      → (c : List ℕ) × AlgorithmOf oid Is y c
   identifier_made x b y p few short =
       let h = p.holds in
       let less : length h.0 ≤ limit = omega (arith, few, contents_shorter b p, ap length h.4, length-append h.0 h.1) in
-      let m = tlv_made sequence_tag _ (h.0 ++ y) (then_holds h.0 y h.2 (last_holds y refl)) (omega (arith, less, short, length-append h.0 y)) in
+      let m =
+      tlv_made sequence_tag _ (h.0 ++ y) (then_holds h.0 y h.2 (last_holds y refl))
+      (omega (arith, less, short, length-append h.0 y)) in
       (m.0, m.1)
 
 module _ {V : Type 0} (Grammar : V → List ℕ → Type 0) (oid : List ℕ) where
-  pub parameters_in : (v : V) (b : List ℕ) → AlgorithmOf oid Grammar v b → (y : List ℕ) × Grammar v y × AlgorithmOf oid Is y b
-  parameters_in v b t = let q = t.holds in (q.1, joins_last q.1 q.3, tlv_recast b t (q.0, q.1, q.2, last_holds q.1 refl, q.4))
+  pub parameters_in : (v : V) (b : List ℕ) → AlgorithmOf oid Grammar v b
+      → (y : List ℕ) × Grammar v y × AlgorithmOf oid Is y b
+  parameters_in v b t =
+      let q = t.holds in (q.1, joins_last q.1 q.3, tlv_recast b t (q.0, q.1, q.2, last_holds q.1 refl, q.4))
 
   pub with_encoded : (v : V) (y b : List ℕ) → Grammar v y → AlgorithmOf oid Is y b → AlgorithmOf oid Grammar v b
   with_encoded v y b g t =
@@ -99,7 +133,8 @@ module _ {V : Type 0} (Grammar : V → List ℕ → Type 0) (oid : List ℕ) whe
       }
 
   -- The shortest encoding of an identifier holds the shortest one of its parameters.
-  pub shortest_outside : (v : V) (y b : List ℕ) → AlgorithmOf oid Is y b → length b ≤ limit → IsShortest Grammar v y → IsShortest (AlgorithmOf oid Grammar) v b
+  pub shortest_outside : (v : V) (y b : List ℕ) → AlgorithmOf oid Is y b → length b ≤ limit → IsShortest Grammar v y
+      → IsShortest (AlgorithmOf oid Grammar) v b
   shortest_outside v y b t few s = record {
     spells = (few, with_encoded v y b s.spells.1 t);
     least = λ other m.
@@ -107,11 +142,13 @@ module _ {V : Type 0} (Grammar : V → List ℕ → Type 0) (oid : List ℕ) whe
         let short : length p.0 ≤ limit = omega (arith, m.0, parameters_shorter oid p.0 other p.2) in
         elim (s.least p.0 (short, p.1)) [
           | inl e ↦ inl (same_identifier oid y other b (rw e at p.2) t)
-          | inr l ↦ let g : length b + 1 ≤ length other = identifier_grows oid 1 y p.0 b other t p.2 (omega (arith, l)) in inr (omega (arith, g))
+          | inr l ↦ let g : length b + 1 ≤ length other =
+              identifier_grows oid 1 y p.0 b other t p.2 (omega (arith, l)) in inr (omega (arith, g))
         ];
   }
 
-  pub shortest_inside : (v : V) (y b : List ℕ) → AlgorithmOf oid Is y b → IsShortest (AlgorithmOf oid Grammar) v b → IsShortest Grammar v y
+  pub shortest_inside : (v : V) (y b : List ℕ) → AlgorithmOf oid Is y b → IsShortest (AlgorithmOf oid Grammar) v b
+      → IsShortest Grammar v y
   shortest_inside v y b t s =
       let p = parameters_in v b s.spells.1 in
       let is : p.0 ≡ y = same_parameters oid p.0 y b p.2 t in
@@ -147,7 +184,13 @@ module _ {V : Type 0} (fields : V → List Field) (ordered : (v : V) → AreInOr
         r.0,
         record {
           count = r.1;
-          only = λ i h. let s = r.2 i h in (s.3, with_encoded (λ w. FieldSequence (fields w)) oid v s.0 _ (masked_spells (fields v) i s.0 s.1) s.2);
+          only =
+              λ i h. let s =
+              r.2 i h in (
+                s.3,
+                with_encoded (λ w. FieldSequence (fields w)) oid v s.0 _
+                    (masked_spells (fields v) i s.0 s.1) s.2,
+              );
           none_twice = λ i j h k e.
               let s = r.2 i h in
               let u = r.2 j k in
@@ -163,23 +206,31 @@ module _ {V : Type 0} (fields : V → List Field) (ordered : (v : V) → AreInOr
       )
 
 -- An identifier begins with an OBJECT IDENTIFIER, so it is no SEQUENCE of fields, nor one that begins with another tag.
-pub identifiers_exclude_fields : {P : Type 0} (Parameters : P → List ℕ → Type 0) (fields : List Field) (a : Algorithm P) (encoding : List ℕ) → FieldSequence fields encoding → AlgorithmIdentifier Parameters a encoding → ⊥
+pub identifiers_exclude_fields : {P : Type 0} (Parameters : P → List ℕ → Type 0) (fields : List Field) (a : Algorithm P)
+    (encoding : List ℕ) → FieldSequence fields encoding → AlgorithmIdentifier Parameters a encoding → ⊥
 identifiers_exclude_fields Parameters fields a encoding p q =
     let s = tlv_split encoding [] encoding [] p q refl in
     let h = s.5 in
     let i = h.2 in
-    fields_start fields object_identifier_tag s.3 ((i.octets ++ i.contents) ++ h.1) (omega arith) s.4 (rw (h.4, i.written) refl)
+    fields_start fields object_identifier_tag s.3 ((i.octets ++ i.contents) ++ h.1) (omega arith) s.4
+    (rw (h.4, i.written) refl)
 
 -- Identifiers of two algorithms.
-pub other_identifiers : {V W : Type 0} (G : V → List ℕ → Type 0) (H : W → List ℕ → Type 0) (x y : List ℕ) → (x ≡ y → ⊥) → Excludes (AlgorithmOf x G) (AlgorithmOf y H)
+pub other_identifiers : {V W : Type 0} (G : V → List ℕ → Type 0) (H : W → List ℕ → Type 0) (x y : List ℕ) → (x ≡ y → ⊥)
+    → Excludes (AlgorithmOf x G) (AlgorithmOf y H)
 other_identifiers G H x y other v w encoding p q =
     let s = tlv_split encoding [] encoding [] p q refl in
     other (then_step identifier_delimited x y s.3 s.4 s.5).0
 
 -- The shortest encoding of the identifier with these parameters, said of the parameters alone.
-module _ {V : Type 0} {Grammar : V → List ℕ → Type 0} {oid : List ℕ} {a : Algorithm V} {v : V} (is : a ≡ with_parameters oid v) where
-  pub shortest_of : (encoding : List ℕ) → IsShortest (AlgorithmIdentifier Grammar) a encoding → IsShortest (AlgorithmOf oid Grammar) v encoding
-  shortest_of encoding s = let t : IsShortest (AlgorithmIdentifier Grammar) (with_parameters oid v) encoding = rw is at s in record { spells = t.spells; least = t.least }
+module _ {V : Type 0} {Grammar : V → List ℕ → Type 0} {oid : List ℕ} {a : Algorithm V} {v : V}
+    (is : a ≡ with_parameters oid v) where
+  pub shortest_of : (encoding : List ℕ) → IsShortest (AlgorithmIdentifier Grammar) a encoding
+      → IsShortest (AlgorithmOf oid Grammar) v encoding
+  shortest_of encoding s =
+      let t : IsShortest (AlgorithmIdentifier Grammar) (with_parameters oid v) encoding =
+      rw is at s in record { spells = t.spells; least = t.least }
 
-  pub shortest_as : (encoding : List ℕ) → IsShortest (AlgorithmOf oid Grammar) v encoding → IsShortest (AlgorithmIdentifier Grammar) a encoding
+  pub shortest_as : (encoding : List ℕ) → IsShortest (AlgorithmOf oid Grammar) v encoding
+      → IsShortest (AlgorithmIdentifier Grammar) a encoding
   shortest_as encoding s = rw is (record { spells = s.spells; least = s.least })

@@ -14,11 +14,14 @@ use Rattle.pkcs1_params.specs.Parameters.{PssParameters, OaepParameters}
 abbrev pub eq_with : {X : Type 0} → (X → X → Bool) → AlgorithmIdentifier X → AlgorithmIdentifier X → Bool
 eq_with E a b = bytes_eq (own_octets_of a.oid) (own_octets_of b.oid) && option_eq E a.parameters b.parameters
 
-pub plain_decides : {X V : Type 0} (any : X → V) (E : X → X → Bool) → ((x y : X) → Decides (E x y) (any x ≡ any y)) → (a b : AlgorithmIdentifier X)
+pub plain_decides : {X V : Type 0} (any : X → V) (E : X → X → Bool) → ((x y : X) → Decides (E x y) (any x ≡ any y))
+    → (a b : AlgorithmIdentifier X)
     → Decides (eq_with E a b) (algorithm_with any a ≡ algorithm_with any b)
-plain_decides any E d a b = algorithm_decides any E d (own_octets_of a.oid) (own_octets_of b.oid) a.parameters b.parameters
+plain_decides any E d a b =
+    algorithm_decides any E d (own_octets_of a.oid) (own_octets_of b.oid) a.parameters b.parameters
 
-pub mask_decides : {X V : Type 0} (any : X → V) (E : X → X → Bool) → ((x y : X) → Decides (E x y) (any x ≡ any y)) → (a b : AlgorithmIdentifier (AlgorithmIdentifier X))
+pub mask_decides : {X V : Type 0} (any : X → V) (E : X → X → Bool) → ((x y : X) → Decides (E x y) (any x ≡ any y))
+    → (a b : AlgorithmIdentifier (AlgorithmIdentifier X))
     → Decides (eq_with (eq_with E) a b) (algorithm_with (algorithm_with any) a ≡ algorithm_with (algorithm_with any) b)
 mask_decides any E d = plain_decides (algorithm_with any) (eq_with E) (plain_decides any E d)
 
@@ -28,15 +31,20 @@ pair_decides p q = both_decide p q (λ s u. (s, u)) (λ w. w.0) (λ w. w.1)
 held_decides : {A : Type 0} → A → Decides true A
 held_decides a = (λ _. a, λ _. refl)
 
-pub pss_decides : {h g : Bool} (a b : PssParameters) → Decides h (a.hash ≡ b.hash) → Decides g (a.mask_gen ≡ b.mask_gen) → a.trailer_field ≡ b.trailer_field
+pub pss_decides : {h g : Bool} (a b : PssParameters) → Decides h (a.hash ≡ b.hash) → Decides g (a.mask_gen ≡ b.mask_gen)
+    → a.trailer_field ≡ b.trailer_field
     → Decides (h && (g && (eqb a.salt_len b.salt_len && true))) (a ≡ b)
 pss_decides a b p q t =
     both_decide p (pair_decides q (pair_decides (number_decides a.salt_len b.salt_len) (held_decides t)))
     (λ hash rest. λ i. record { hash = hash i; mask_gen = rest.0 i; salt_len = rest.1.0 i; trailer_field = rest.1.1 i })
     (λ e. ap (λ (v : PssParameters). v.hash) e)
-    (λ e. (ap (λ (v : PssParameters). v.mask_gen) e, (ap (λ (v : PssParameters). v.salt_len) e, ap (λ (v : PssParameters). v.trailer_field) e)))
+    (λ e. (
+      ap (λ (v : PssParameters). v.mask_gen) e,
+      (ap (λ (v : PssParameters). v.salt_len) e, ap (λ (v : PssParameters). v.trailer_field) e),
+    ))
 
-pub oaep_decides : {h g s : Bool} (a b : OaepParameters) → Decides h (a.hash ≡ b.hash) → Decides g (a.mask_gen ≡ b.mask_gen) → Decides s (a.p_source ≡ b.p_source) → Decides (h && (g && s)) (a ≡ b)
+pub oaep_decides : {h g s : Bool} (a b : OaepParameters) → Decides h (a.hash ≡ b.hash)
+    → Decides g (a.mask_gen ≡ b.mask_gen) → Decides s (a.p_source ≡ b.p_source) → Decides (h && (g && s)) (a ≡ b)
 oaep_decides a b p q r =
     both_decide p (pair_decides q r)
     (λ hash rest. λ i. record { hash = hash i; mask_gen = rest.0 i; p_source = rest.1 i })

@@ -12,7 +12,8 @@ use Rattle.spki_core.specs.Laws.Fields.{AreInOrder}
 use Rattle.spki_core.specs.Laws.StrictWalk.{Marked}
 use Rattle.pkcs1_params.specs.Laws.HashFields.{plain_of_bytes, mask_of_bytes}
 use Rattle.pkcs1_params.specs.Parameters.{TrailerContents, TrailerField}
-use Rattle.pkcs1_params.specs.Parts.{FieldValue, hash_field, mask_gen_field, salt_len_field, trailer_field, p_source_field, part_of, fields_in, fields_with, defaults_in, AreNumbered}
+use Rattle.pkcs1_params.specs.Parts.{FieldValue, hash_field, mask_gen_field, salt_len_field, trailer_field}
+use Rattle.pkcs1_params.specs.Parts.{p_source_field, part_of, fields_in, fields_with, defaults_in, AreNumbered}
 use Rattle.pkcs1_params.specs.Laws.SmallFields.{trailer_of_bytes}
 
 number_small : (v : FieldValue) → (part_of v).field.number ≤ 30
@@ -46,16 +47,22 @@ at_most_one (p_source_field v) = plain_at_most_one v
 -- Fields that are numbered one after another.
 are_later : (values : List FieldValue) (m n : ℕ) → m < n → AreNumbered n values → AreLater m (fields_in values)
 are_later [] m n less numbered = tt
-are_later (v ∷ values) m n less numbered = (omega (arith, less, numbered.0), are_later values m (n + 1) (omega (arith, less)) numbered.1)
+are_later (v ∷ values) m n less numbered =
+    (omega (arith, less, numbered.0), are_later values m (n + 1) (omega (arith, less)) numbered.1)
 
 pub in_order : (values : List FieldValue) (n : ℕ) → AreNumbered n values → AreInOrder (fields_in values)
 in_order [] n numbered = tt
-in_order (v ∷ values) n numbered =
-    (at_most_one v, are_later values (part_of v).field.number (n + 1) (omega (arith, numbered.0)) numbered.1, in_order values (n + 1) numbered.1)
+in_order (v ∷ values) n numbered = (
+  at_most_one v,
+  are_later values (part_of v).field.number (n + 1) (omega (arith, numbered.0)) numbered.1,
+  in_order values (n + 1) numbered.1,
+)
 
-pub marked : (values : List FieldValue) (n : ℕ) → AreNumbered n values → Marked n (fields_in values) (defaults_in values)
+pub marked : (values : List FieldValue) (n : ℕ) → AreNumbered n values
+    → Marked n (fields_in values) (defaults_in values)
 marked [] n numbered = tt
 marked (v ∷ values) n numbered = (numbered.0, (part_of v).decides, marked values (n + 1) numbered.1)
 
-pub ordered : {V : Type 0} (values : V → List FieldValue) → ((v : V) → AreNumbered 0 (values v)) → (v : V) → AreInOrder (fields_with values v)
+pub ordered : {V : Type 0} (values : V → List FieldValue) → ((v : V) → AreNumbered 0 (values v)) → (v : V)
+    → AreInOrder (fields_with values v)
 ordered values numbered v = in_order (values v) 0 (numbered v)

@@ -12,17 +12,22 @@ use Rattle.pkcs1_params.specs.Parts.{FieldValue, parts_of, fields_with, AreNumbe
 use Rattle.pkcs1_params.specs.MaskedValues.{MaskedValue, FieldContents, MaskedValueContents, HasMasked, written_masked}
 
 module _ {V : Type 0} (values : V → List FieldValue) where
-  pub masked_means_one : ((v : V) → AreNumbered 0 (values v)) → MeansOne (FieldContents values) → MeansOne (MaskedValueContents values)
+  pub masked_means_one : ((v : V) → AreNumbered 0 (values v)) → MeansOne (FieldContents values)
+      → MeansOne (MaskedValueContents values)
   masked_means_one numbered one v w c p q =
       let a = masked_joins (fields_with values v.value) v.mask c p in
       let b = masked_joins (fields_with values w.value) w.mask c q in
       let same : v.value ≡ w.value = one v.value w.value c a b in
       let there : MaskedContents (fields_with values w.value) v.mask c = rw same at p in
-      let mask : v.mask ≡ w.mask = mask_same (fields_with values w.value) v.mask w.mask c (in_order (values w.value) 0 (numbered w.value)) there q in
+      let mask : v.mask ≡ w.mask =
+      mask_same (fields_with values w.value) v.mask w.mask c (in_order (values w.value) 0 (numbered w.value)) there
+      q in
       λ i. record { value = same i; mask = mask i }
 
   pub masked_of_bytes : IsOfBytes (MaskedValueContents values)
-  masked_of_bytes v c p = joins_of_bytes (fields_with values v.value) (fields_of_bytes (values v.value)) c (masked_joins (fields_with values v.value) v.mask c p)
+  masked_of_bytes v c p =
+      joins_of_bytes (fields_with values v.value) (fields_of_bytes (values v.value)) c
+      (masked_joins (fields_with values v.value) v.mask c p)
 
   pub masked_relates : WritesEncodings (MaskedValueContents values) (HasMasked values) (written_masked values)
   masked_relates v h fits =

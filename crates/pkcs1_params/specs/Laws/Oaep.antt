@@ -19,14 +19,17 @@ later p = field 2 PlainAlgorithm empty_label p.p_source ∷ []
 
 pub oaep_means_one : MeansOne OaepContents
 oaep_means_one v w c p q =
-    let a = hash_fields_step v.hash w.hash v.mask_gen w.mask_gen (later v) (later w) (omega arith, tt) (omega arith, tt) c p q in
+    let a =
+    hash_fields_step v.hash w.hash v.mask_gen w.mask_gen (later v) (later w) (omega arith, tt) (omega arith, tt) c p
+    q in
     let b = value_step 2 PlainAlgorithm plain_delimited empty_label v.p_source w.p_source [] [] tt tt a.2 a.3 a.4 in
     λ i. record { hash = a.0 i; mask_gen = a.1 i; p_source = b.0 i }
 
 pub oaep_of_bytes : IsOfBytes OaepContents
 oaep_of_bytes p = joins_of_bytes (oaep_fields p) (fields_of_bytes (oaep_values p))
 
-pub oaep_relates : WritesEncodings OaepContents (λ p. HasFields (oaep_values p) 0) (λ p. written_fields (oaep_values p) 0)
+pub oaep_relates : WritesEncodings OaepContents (λ p. HasFields (oaep_values p) 0)
+    (λ p. written_fields (oaep_values p) 0)
 oaep_relates p = parts_hold (parts_of (oaep_values p))
 
 pub oaep_shortest : WritesLeast OaepContents (λ p. HasFields (oaep_values p) 0) (λ p. written_fields (oaep_values p) 0)

@@ -7,7 +7,8 @@ use Rattle.der_core.specs.Tlv.{Tlv}
 use Rattle.der_core.specs.Laws.Encodings.{tlv_split, tlv_delimited}
 use Rattle.spki_core.specs.Explicit.{Field, Defaultable, FieldSequence}
 use Rattle.spki_core.specs.Laws.Fields.{AreInOrder, fields_start}
-use Rattle.pkcs1_params.specs.Parameters.{PssParameters, PssContents, RsaPssParams, pss_fields, OaepParameters, OaepContents, RsaOaepParams, oaep_fields}
+use Rattle.pkcs1_params.specs.Parameters.{PssParameters, PssContents, RsaPssParams, pss_fields, OaepParameters}
+use Rattle.pkcs1_params.specs.Parameters.{OaepContents, RsaOaepParams, oaep_fields}
 use Rattle.pkcs1_params.specs.Laws.FieldValues.{in_order}
 use Rattle.pkcs1_params.specs.Parts.{AreNumbered, pss_values, oaep_values}
 use Rattle.pkcs1_params.specs.Laws.Pss.{pss_means_one}
@@ -32,11 +33,14 @@ pub oaep_in_order : (p : OaepParameters) → AreInOrder (oaep_fields p)
 oaep_in_order p = in_order (oaep_values p) 0 (oaep_numbered p)
 
 -- Bytes that begin with an INTEGER are no fields.
-integer_not_fields : {P Rest : List ℕ → Type 0} (fields : List Field) (c : List ℕ) → Then (Tlv integer_tag P) Rest c → Joins (map Defaultable fields) c → ⊥
-integer_not_fields fields c (x, y, p, i, e) q = fields_start fields 2 c ((p.octets ++ p.contents) ++ y) (omega arith) q (rw (e, p.written) refl)
+integer_not_fields : {P Rest : List ℕ → Type 0} (fields : List Field) (c : List ℕ) → Then (Tlv integer_tag P) Rest c
+    → Joins (map Defaultable fields) c → ⊥
+integer_not_fields fields c (x, y, p, i, e) q =
+    fields_start fields 2 c ((p.octets ++ p.contents) ++ y) (omega arith) q (rw (e, p.written) refl)
 
 -- So a SEQUENCE that begins with an INTEGER is none of fields.
-pub sequences_exclude : {P Rest : List ℕ → Type 0} (fields : List Field) (encoding : List ℕ) → Tlv sequence_tag (Then (Tlv integer_tag P) Rest) encoding → FieldSequence fields encoding → ⊥
+pub sequences_exclude : {P Rest : List ℕ → Type 0} (fields : List Field) (encoding : List ℕ)
+    → Tlv sequence_tag (Then (Tlv integer_tag P) Rest) encoding → FieldSequence fields encoding → ⊥
 sequences_exclude fields encoding p q =
     let s = tlv_split encoding [] encoding [] p q refl in
     integer_not_fields fields s.3 s.4 s.5

@@ -20,8 +20,12 @@ later p = field 2 Small 20 p.salt_len ∷ field 3 TrailerField 1 p.trailer_field
 
 pub pss_means_one : MeansOne PssContents
 pss_means_one v w c p q =
-    let a = hash_fields_step v.hash w.hash v.mask_gen w.mask_gen (later v) (later w) (omega arith, (omega arith, tt)) (omega arith, (omega arith, tt)) c p q in
-    let b = value_step 2 Small small_delimited 20 v.salt_len w.salt_len (field 3 TrailerField 1 v.trailer_field ∷ []) (field 3 TrailerField 1 w.trailer_field ∷ []) (omega arith, tt) (omega arith, tt) a.2 a.3 a.4 in
+    let a =
+    hash_fields_step v.hash w.hash v.mask_gen w.mask_gen (later v) (later w) (omega arith, (omega arith, tt))
+    (omega arith, (omega arith, tt)) c p q in
+    let b =
+    value_step 2 Small small_delimited 20 v.salt_len w.salt_len (field 3 TrailerField 1 v.trailer_field ∷ [])
+    (field 3 TrailerField 1 w.trailer_field ∷ []) (omega arith, tt) (omega arith, tt) a.2 a.3 a.4 in
     let e = value_step 3 TrailerField trailer_delimited 1 v.trailer_field w.trailer_field [] [] tt tt b.1 b.2 b.3 in
     λ i. record { hash = a.0 i; mask_gen = a.1 i; salt_len = b.0 i; trailer_field = e.0 i }
 

@@ -26,14 +26,20 @@ trailer_shortest n c p = let s = small_shortest n c p.1 in (p.0, s.1, s.2)
 pub trailer_of_bytes : IsOfBytes TrailerContents
 trailer_of_bytes n c p = small_of_bytes n c p.1
 
-pub salt_relates : (n : ℕ) → n < 256 → length (tlv integer_tag (integer_contents (n ∷ []))) < 2 ^ 128 → Small n (tlv integer_tag (integer_contents (n ∷ [])))
-salt_relates n h fits = tlv_relates integer_tag SmallContents (λ m. integer_contents (m ∷ [])) n (λ _. small_relates n h) fits
+pub salt_relates : (n : ℕ) → n < 256 → length (tlv integer_tag (integer_contents (n ∷ []))) < 2 ^ 128
+    → Small n (tlv integer_tag (integer_contents (n ∷ [])))
+salt_relates n h fits =
+    tlv_relates integer_tag SmallContents (λ m. integer_contents (m ∷ [])) n (λ _. small_relates n h) fits
 
 pub salt_shortest : (n : ℕ) (b : List ℕ) → Small n b → IsLeast (n < 256) (tlv integer_tag (integer_contents (n ∷ []))) b
 salt_shortest = tlv_shortest integer_tag SmallContents (λ m. integer_contents (m ∷ [])) (λ m. m < 256) small_shortest
 
-pub trailer_encoding_relates : (n : ℕ) → n ≡ 1 → length (tlv integer_tag (integer_contents (n ∷ []))) < 2 ^ 128 → TrailerField n (tlv integer_tag (integer_contents (n ∷ [])))
-trailer_encoding_relates n h fits = tlv_relates integer_tag TrailerContents (λ m. integer_contents (m ∷ [])) n (λ _. trailer_relates n h) fits
+pub trailer_encoding_relates : (n : ℕ) → n ≡ 1 → length (tlv integer_tag (integer_contents (n ∷ []))) < 2 ^ 128
+    → TrailerField n (tlv integer_tag (integer_contents (n ∷ [])))
+trailer_encoding_relates n h fits =
+    tlv_relates integer_tag TrailerContents (λ m. integer_contents (m ∷ [])) n (λ _. trailer_relates n h) fits
 
-pub trailer_encoding_shortest : (n : ℕ) (b : List ℕ) → TrailerField n b → IsLeast (n ≡ 1) (tlv integer_tag (integer_contents (n ∷ []))) b
-trailer_encoding_shortest = tlv_shortest integer_tag TrailerContents (λ m. integer_contents (m ∷ [])) (λ m. m ≡ 1) trailer_shortest
+pub trailer_encoding_shortest : (n : ℕ) (b : List ℕ) → TrailerField n b
+    → IsLeast (n ≡ 1) (tlv integer_tag (integer_contents (n ∷ []))) b
+trailer_encoding_shortest =
+    tlv_shortest integer_tag TrailerContents (λ m. integer_contents (m ∷ [])) (λ m. m ≡ 1) trailer_shortest

@@ -4,7 +4,8 @@ use Rattle.std.proofs.Common.{ℕ, List, ◌≡◌, ◌<◌, ◌^◌, length, re
 use Rattle.der_core.specs.Tag.{object_identifier_tag, sequence_tag}
 use Rattle.der_core.specs.Encodings.{IsDelimited, IsOfBytes, MeansOne}
 use Rattle.der_core.specs.Tlv.{tlv}
-use Rattle.der_core.specs.Laws.Encodings.{tlv_delimited, then_step, then_least, last_least, then_holds, last_holds, then_of_bytes, last_of_bytes}
+use Rattle.der_core.specs.Laws.Encodings.{tlv_delimited, then_step, then_least, last_least, then_holds, last_holds}
+use Rattle.der_core.specs.Laws.Encodings.{then_of_bytes, last_of_bytes}
 use Rattle.der_core.specs.Optional.{written_optional}
 use Rattle.der_core.specs.Laws.Optional.{optional_last, optional_of_bytes, optional_relates, optional_shortest}
 use Rattle.der_core.specs.Writing.{IsLeast}
@@ -13,10 +14,13 @@ use Rattle.std.specs.Prelude.{Bool, ◌&&◌}
 use Rattle.std.specs.Str.{bytes_eq}
 use Rattle.std.specs.Option.{option_eq, option_map}
 use Rattle.der_core.specs.Laws.Equality.{bytes_decide, option_decides, both_decide}
-use Rattle.spki_core.specs.Laws.Identifiers.{identifier_delimited, identifier_of_bytes, identifier_relates, identifier_shortest}
+use Rattle.spki_core.specs.Laws.Identifiers.{identifier_delimited, identifier_of_bytes, identifier_relates}
+use Rattle.spki_core.specs.Laws.Identifiers.{identifier_shortest}
 use Rattle.spki_core.specs.Any.{TagAndContents, Any}
 use Rattle.spki_core.specs.Laws.AnyEncodings.{any_delimited, any_decides}
-use Rattle.spki_core.specs.AlgorithmIdentifier.{Algorithm, AlgorithmContents, AlgorithmIdentifier, PlainAlgorithm, MaskAlgorithm, HasAlgorithm, written_algorithm, same_any, same_algorithm, same_plain, same_mask}
+use Rattle.spki_core.specs.AlgorithmIdentifier.{Algorithm, AlgorithmContents, AlgorithmIdentifier, PlainAlgorithm}
+use Rattle.spki_core.specs.AlgorithmIdentifier.{MaskAlgorithm, HasAlgorithm, written_algorithm, same_any}
+use Rattle.spki_core.specs.AlgorithmIdentifier.{same_algorithm, same_plain, same_mask}
 
 algorithm_path : {P : Type 0} {v w : Algorithm P} → v.oid ≡ w.oid → v.parameters ≡ w.parameters → v ≡ w
 algorithm_path p q = λ i. record { oid = p i; parameters = q i }
@@ -31,21 +35,28 @@ module _ {P : Type 0} (Parameters : P → List ℕ → Type 0) where
   algorithm_delimited d = tlv_delimited sequence_tag (AlgorithmContents Parameters) (algorithm_means_one d)
 
   pub algorithm_of_bytes : IsOfBytes Parameters → IsOfBytes (AlgorithmContents Parameters)
-  algorithm_of_bytes of_bytes v c p = then_of_bytes (identifier_of_bytes v.oid) (last_of_bytes (optional_of_bytes Parameters of_bytes v.parameters)) c p
+  algorithm_of_bytes of_bytes v c p =
+      then_of_bytes (identifier_of_bytes v.oid) (last_of_bytes (optional_of_bytes Parameters of_bytes v.parameters)) c p
 
   module _ (has : P → Type 0) (encoding : P → List ℕ) where
     pub algorithm_relates : ((v : P) → has v → length (encoding v) < 2 ^ 128 → Parameters v (encoding v))
-        → (v : Algorithm P) → HasAlgorithm has v → length (written_algorithm encoding v) < 2 ^ 128 → AlgorithmContents Parameters v (written_algorithm encoding v)
+        → (v : Algorithm P) → HasAlgorithm has v → length (written_algorithm encoding v) < 2 ^ 128
+        → AlgorithmContents Parameters v (written_algorithm encoding v)
     algorithm_relates relates v h fits =
         let l = length-append (tlv object_identifier_tag v.oid) (written_optional encoding v.parameters) in
-        then_holds (tlv object_identifier_tag v.oid) (written_optional encoding v.parameters) (identifier_relates v.oid h.0)
-        (last_holds (written_optional encoding v.parameters) (optional_relates Parameters has encoding relates v.parameters h.1 (omega (arith, fits, l))))
+        then_holds (tlv object_identifier_tag v.oid) (written_optional encoding v.parameters)
+        (identifier_relates v.oid h.0)
+        (last_holds (written_optional encoding v.parameters)
+        (optional_relates Parameters has encoding relates v.parameters h.1 (omega (arith, fits, l))))
 
     pub algorithm_shortest : ((v : P) (b : List ℕ) → Parameters v b → IsLeast (has v) (encoding v) b)
-        → (v : Algorithm P) (c : List ℕ) → AlgorithmContents Parameters v c → IsLeast (HasAlgorithm has v) (written_algorithm encoding v) c
+        → (v : Algorithm P) (c : List ℕ) → AlgorithmContents Parameters v c
+        → IsLeast (HasAlgorithm has v) (written_algorithm encoding v) c
     algorithm_shortest least v c p =
-        then_least (tlv object_identifier_tag v.oid) (written_optional encoding v.parameters) (identifier_shortest v.oid)
-        (last_least (written_optional encoding v.parameters) (optional_shortest Parameters has encoding least v.parameters)) c p
+        then_least (tlv object_identifier_tag v.oid) (written_optional encoding v.parameters)
+        (identifier_shortest v.oid)
+        (last_least (written_optional encoding v.parameters)
+        (optional_shortest Parameters has encoding least v.parameters)) c p
 
 pub plain_delimited : IsDelimited PlainAlgorithm
 plain_delimited = algorithm_delimited Any any_delimited
@@ -54,20 +65,27 @@ pub mask_delimited : IsDelimited MaskAlgorithm
 mask_delimited = algorithm_delimited PlainAlgorithm plain_delimited
 
 -- Equality, by that of the parameters.
-pub algorithm_decides : {P V : Type 0} (value : P → V) (E : P → P → Bool) → ((a b : P) → Decides (E a b) (value a ≡ value b)) → (x y : List ℕ) (p q : Option P)
-    → Decides (bytes_eq x y && option_eq E p q) (◌≡◌ {A = Algorithm V} (record { oid = x; parameters = option_map value p }) (record { oid = y; parameters = option_map value q }))
+pub algorithm_decides : {P V : Type 0} (value : P → V) (E : P → P → Bool)
+    → ((a b : P) → Decides (E a b) (value a ≡ value b)) → (x y : List ℕ) (p q : Option P)
+    → Decides (bytes_eq x y && option_eq E p q)
+    (◌≡◌ {A = Algorithm V} (record { oid = x; parameters = option_map value p })
+    (record { oid = y; parameters = option_map value q }))
 algorithm_decides {P} {V} value E d x y p q =
-    both_decide (bytes_decide x y) (option_decides value E d p q) (λ a b. algorithm_path a b) (λ e. ap (λ (v : Algorithm V). v.oid) e) (λ e. ap (λ (v : Algorithm V). v.parameters) e)
+    both_decide (bytes_decide x y) (option_decides value E d p q) (λ a b. algorithm_path a b)
+    (λ e. ap (λ (v : Algorithm V). v.oid) e) (λ e. ap (λ (v : Algorithm V). v.parameters) e)
 
-option_same : {V : Type 0} (E : V → V → Bool) → ((v w : V) → Decides (E v w) (v ≡ w)) → (p q : Option V) → Decides (option_eq E p q) (p ≡ q)
+option_same : {V : Type 0} (E : V → V → Bool) → ((v w : V) → Decides (E v w) (v ≡ w)) → (p q : Option V)
+    → Decides (option_eq E p q) (p ≡ q)
 option_same E d None None = (λ e. refl, λ e. refl)
 option_same E d None (Some w) = (λ e. cc, λ e. cc)
 option_same E d (Some v) None = (λ e. cc, λ e. cc)
 option_same E d (Some v) (Some w) = (λ e. ap Some ((d v w).0 e), λ e. (d v w).1 (let same : v ≡ w = cc in same))
 
-pub same_algorithm_decides : {P : Type 0} (same : P → P → Bool) → ((v w : P) → Decides (same v w) (v ≡ w)) → (a b : Algorithm P) → Decides (same_algorithm same a b) (a ≡ b)
+pub same_algorithm_decides : {P : Type 0} (same : P → P → Bool) → ((v w : P) → Decides (same v w) (v ≡ w))
+    → (a b : Algorithm P) → Decides (same_algorithm same a b) (a ≡ b)
 same_algorithm_decides {P} same d a b =
-    both_decide (bytes_decide a.oid b.oid) (option_same same d a.parameters b.parameters) (λ p q. algorithm_path p q) (λ e. ap (λ (v : Algorithm P). v.oid) e) (λ e. ap (λ (v : Algorithm P). v.parameters) e)
+    both_decide (bytes_decide a.oid b.oid) (option_same same d a.parameters b.parameters) (λ p q. algorithm_path p q)
+    (λ e. ap (λ (v : Algorithm P). v.oid) e) (λ e. ap (λ (v : Algorithm P). v.parameters) e)
 
 pub same_plain_decides : (a b : Algorithm TagAndContents) → Decides (same_plain a b) (a ≡ b)
 same_plain_decides = same_algorithm_decides same_any (λ v w. any_decides v.tag w.tag v.contents w.contents)

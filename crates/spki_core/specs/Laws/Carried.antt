@@ -10,44 +10,63 @@ use Rattle.spki_core.specs.AlgorithmIdentifier.{Algorithm, AlgorithmContents}
 use Rattle.spki_core.specs.AlgorithmValue.{algorithm_with}
 
 -- What X means by G is mapped to what it means by H.
-pub record Carried {X V W : Type 0} (value : X → V) (G : V → List ℕ → Type 0) (other : X → W) (H : W → List ℕ → Type 0) : Type 0 where
+pub record Carried {X V W : Type 0} (value : X → V) (G : V → List ℕ → Type 0) (other : X → W)
+    (H : W → List ℕ → Type 0) : Type 0 where
   pub there : V → W
   pub back : W → V
   pub meant : (x : X) → other x ≡ there (value x)
   pub encoding_there : (v : V) (b : List ℕ) → G v b → H (there v) b
   pub encoding_back : (w : W) (b : List ℕ) → H w b → G (back w) b
 
-pub any_carried : {X V : Type 0} {value : X → V} {encoding : V → List ℕ → Type 0} {any : X → TagAndContents} → HoldsAny value encoding any → Carried value encoding any Any
-any_carried h = record { there = h.to_any; back = h.of_any; meant = h.held; encoding_there = h.encoding_to; encoding_back = h.encoding_of }
+pub any_carried : {X V : Type 0} {value : X → V} {encoding : V → List ℕ → Type 0} {any : X → TagAndContents}
+    → HoldsAny value encoding any → Carried value encoding any Any
+any_carried h =
+    record {
+      there = h.to_any;
+      back = h.of_any;
+      meant = h.held;
+      encoding_there = h.encoding_to;
+      encoding_back = h.encoding_of;
+    }
 
 -- Algorithm identifiers, by their parameters.
 abbrev map_parameters : {V W : Type 0} → (V → W) → Algorithm V → Algorithm W
 map_parameters f a = record { oid = a.oid; parameters = option_map f a.parameters }
 
-option_meant : {X V W : Type 0} (value : X → V) (other : X → W) (f : V → W) → ((x : X) → other x ≡ f (value x)) → (o : Option X) → option_map other o ≡ option_map f (option_map value o)
+option_meant : {X V W : Type 0} (value : X → V) (other : X → W) (f : V → W) → ((x : X) → other x ≡ f (value x))
+    → (o : Option X) → option_map other o ≡ option_map f (option_map value o)
 option_meant value other f same None = refl
 option_meant value other f same (Some x) = ap Some (same x)
 
-optional_carried : {V W : Type 0} (G : V → List ℕ → Type 0) (H : W → List ℕ → Type 0) (f : V → W) → ((v : V) (b : List ℕ) → G v b → H (f v) b)
+optional_carried : {V W : Type 0} (G : V → List ℕ → Type 0) (H : W → List ℕ → Type 0) (f : V → W)
+    → ((v : V) (b : List ℕ) → G v b → H (f v) b)
     → (o : Option V) (b : List ℕ) → Optional G o b → Optional H (option_map f o) b
 optional_carried G H f carry None b p = p
 optional_carried G H f carry (Some v) b p = carry v b p
 
-contents_carried : {V W : Type 0} (G : V → List ℕ → Type 0) (H : W → List ℕ → Type 0) (f : V → W) → ((v : V) (b : List ℕ) → G v b → H (f v) b)
+contents_carried : {V W : Type 0} (G : V → List ℕ → Type 0) (H : W → List ℕ → Type 0) (f : V → W)
+    → ((v : V) (b : List ℕ) → G v b → H (f v) b)
     → (a : Algorithm V) (c : List ℕ) → AlgorithmContents G a c → AlgorithmContents H (map_parameters f a) c
-contents_carried G H f carry a c (x, y, oid, (b, rest, p, none, e), d) = (x, y, oid, (b, rest, optional_carried G H f carry a.parameters b p, none, e), d)
+contents_carried G H f carry a c (x, y, oid, (b, rest, p, none, e), d) =
+    (x, y, oid, (b, rest, optional_carried G H f carry a.parameters b p, none, e), d)
 
-pub algorithm_carried : {X V W : Type 0} {value : X → V} {G : V → List ℕ → Type 0} {other : X → W} {H : W → List ℕ → Type 0} → Carried value G other H
-    → Carried (algorithm_with value) (λ a. Tlv 48 (AlgorithmContents G a)) (algorithm_with other) (λ a. Tlv 48 (AlgorithmContents H a))
+pub algorithm_carried : {X V W : Type 0} {value : X → V} {G : V → List ℕ → Type 0} {other : X → W}
+    {H : W → List ℕ → Type 0} → Carried value G other H
+    → Carried (algorithm_with value) (λ a. Tlv 48 (AlgorithmContents G a)) (algorithm_with other)
+    (λ a. Tlv 48 (AlgorithmContents H a))
 algorithm_carried {X} {V} {W} {value} {G} {other} {H} k = record {
   there = map_parameters k.there;
   back = map_parameters k.back;
-  meant = λ a. let p = option_meant value other k.there k.meant a.parameters in λ i. record { oid = (algorithm_with other a).oid; parameters = p i };
+  meant =
+      λ a. let p =
+      option_meant value other k.there k.meant a.parameters in
+      λ i. record { oid = (algorithm_with other a).oid; parameters = p i };
   encoding_there = λ a b t. tlv_recast b t (contents_carried G H k.there k.encoding_there a t.contents t.holds);
   encoding_back = λ a b t. tlv_recast b t (contents_carried H G k.back k.encoding_back a t.contents t.holds);
 }
 
 -- Two that mean the same by the one grammar mean the same by the other.
-pub same_carried : {X V W : Type 0} {value : X → V} {G : V → List ℕ → Type 0} {other : X → W} {H : W → List ℕ → Type 0} → Carried value G other H
+pub same_carried : {X V W : Type 0} {value : X → V} {G : V → List ℕ → Type 0} {other : X → W} {H : W → List ℕ → Type 0}
+    → Carried value G other H
     → (x y : X) → value x ≡ value y → other x ≡ other y
 same_carried k x y same = k.meant x ∙ ap k.there same ∙ sym (k.meant y)

@@ -31,15 +31,19 @@ module _ {V : Type 0} (Grammar : V → List ℕ → Type 0) where
   }
 
   pub numbered_of_bytes : IsOfBytes Grammar → IsOfBytes (ContextSpecific Grammar)
-  numbered_of_bytes of_bytes v encoding p = tlv_of_bytes (context_tag v.number) (number_allowed v.number p.0) Grammar of_bytes v.value encoding p.1
+  numbered_of_bytes of_bytes v encoding p =
+      tlv_of_bytes (context_tag v.number) (number_allowed v.number p.0) Grammar of_bytes v.value encoding p.1
 
   module _ (has : V → Type 0) (encoding : V → List ℕ) where
     pub numbered_relates : ((v : V) → has v → length (encoding v) < 2 ^ 128 → Grammar v (encoding v))
-        → (v : Numbered V) → HasNumbered has v → length (written_numbered encoding v) < 2 ^ 128 → ContextSpecific Grammar v (written_numbered encoding v)
-    numbered_relates relates v h fits = (h.0, tlv_relates (context_tag v.number) Grammar encoding v.value (relates v.value h.1) fits)
+        → (v : Numbered V) → HasNumbered has v → length (written_numbered encoding v) < 2 ^ 128
+        → ContextSpecific Grammar v (written_numbered encoding v)
+    numbered_relates relates v h fits =
+        (h.0, tlv_relates (context_tag v.number) Grammar encoding v.value (relates v.value h.1) fits)
 
     pub numbered_shortest : ((v : V) (b : List ℕ) → Grammar v b → IsLeast (has v) (encoding v) b)
-        → (v : Numbered V) (b : List ℕ) → ContextSpecific Grammar v b → IsLeast (HasNumbered has v) (written_numbered encoding v) b
+        → (v : Numbered V) (b : List ℕ) → ContextSpecific Grammar v b
+        → IsLeast (HasNumbered has v) (written_numbered encoding v) b
     numbered_shortest least v b p =
         let s = tlv_shortest (context_tag v.number) Grammar encoding has least v.value b p.1 in
         ((p.0, s.0), s.1, s.2)

@@ -1,11 +1,13 @@
 -- Bytes with a fault are no object identifier, and no algorithm identifier, and have one first fault.
-use Rattle.std.proofs.Common.{ℕ, List, [], ◌∷◌, ◌++◌, ◌≡◌, ◌≢◌, inl, inr, length, refl, ap, sym, ◌∙◌, arith, length-append, Result, Ok, Err}
+use Rattle.std.proofs.Common.{ℕ, List, [], ◌∷◌, ◌++◌, ◌≡◌, ◌≢◌, inl, inr, length, refl, ap, sym, ◌∙◌, arith}
+use Rattle.std.proofs.Common.{length-append, Result, Ok, Err}
 use Rattle.der_core.specs.declared.error.ErrorKind.{ErrorKind}
 use Rattle.der_core.specs.declared.tag.Tag.{Tag}
 use Rattle.der_core.specs.ErrorKinds.{IsUnexpected}
 use Rattle.der_core.specs.declared.error.ErrorKind.TheVariants.{Incomplete, OidMalformed}
 use Rattle.der_core.specs.Faults.{EncodingFault, Faulty, IsTheFault, LastFault, AreNone, AreFirst}
-use Rattle.der_core.specs.Laws.Faults.{encoding_fault_none, encoding_fault_first, then_fault_none, then_fault_first, last_fault_none, last_fault_first}
+use Rattle.der_core.specs.Laws.Faults.{encoding_fault_none, encoding_fault_first, then_fault_none, then_fault_first}
+use Rattle.der_core.specs.Laws.Faults.{last_fault_none, last_fault_first}
 use Rattle.der_core.specs.Laws.Headers.{tlv_header, header_complete, header_at-tells}
 use Rattle.der_core.specs.Headers.{HeaderEncoding}
 use Rattle.der_core.specs.Input.{header_at}
@@ -34,19 +36,25 @@ identifier_fault_first j k c within f g = f.0 ∙ sym g.0
 oid_none : AreNone (NoneIn ObjectIdentifier) (EncodingFault object_identifier IdentifierFault)
 oid_none = encoding_fault_none object_identifier IdentifierFault IdentifierContents identifier_fault_none
 
-module _ {P : Type 0} (encoding : P → List ℕ → Type 0) (Fault : ErrorKind → List ℕ → Type 0) (d : IsDelimited encoding) (none : AreNone (NoneIn encoding) Fault) where
+module _ {P : Type 0} (encoding : P → List ℕ → Type 0) (Fault : ErrorKind → List ℕ → Type 0) (d : IsDelimited encoding)
+    (none : AreNone (NoneIn encoding) Fault) where
   pub algorithm_fault_none : AreNone (NoneHas (AlgorithmContents encoding)) (AlgorithmFault encoding Fault)
   algorithm_fault_none =
-      then_fault_none ObjectIdentifier (EncodingFault object_identifier IdentifierFault) (λ _. LastFault encoding Fault) identifier_delimited oid_none (λ (a : Algorithm P). a.oid) (λ a. Joins (Optional encoding a.parameters ∷ []))
-      (λ oid k c within fault. let told = last_fault_none encoding Fault d none k c within fault in (told.0, λ a _ p. told.1 a.parameters (joins_last c p)))
+      then_fault_none ObjectIdentifier (EncodingFault object_identifier IdentifierFault) (λ _. LastFault encoding Fault)
+      identifier_delimited oid_none (λ (a : Algorithm P). a.oid) (λ a. Joins (Optional encoding a.parameters ∷ []))
+      (λ oid k c within fault. let told = last_fault_none encoding Fault d none k c within fault in
+      (told.0, λ a _ p. told.1 a.parameters (joins_last c p)))
 
   pub algorithm_fault_first : AreFirst Fault → AreFirst (AlgorithmFault encoding Fault)
   algorithm_fault_first first =
-      then_fault_first ObjectIdentifier (EncodingFault object_identifier IdentifierFault) (λ _. LastFault encoding Fault) identifier_delimited oid_none
-      (encoding_fault_first object_identifier IdentifierFault identifier_fault_first) (λ _. last_fault_first encoding Fault d none first)
+      then_fault_first ObjectIdentifier (EncodingFault object_identifier IdentifierFault)
+      (λ _. LastFault encoding Fault) identifier_delimited oid_none
+      (encoding_fault_first object_identifier IdentifierFault identifier_fault_first)
+      (λ _. last_fault_first encoding Fault d none first)
 
 -- Encodings of any tag.
-read_as : {t n : ℕ} (i header rest : List ℕ) → HeaderEncoding (t, n) header → i ≡ header ++ rest → header_at i ≡ Ok ((t, n), rest)
+read_as : {t n : ℕ} (i header rest : List ℕ) → HeaderEncoding (t, n) header → i ≡ header ++ rest
+    → header_at i ≡ Ok ((t, n), rest)
 read_as {t} {n} i header rest h is = ap header_at is ∙ header_complete (t, n) header rest h
 
 pub any_fault_none : AreNone (NoneIn Any) AnyFault
@@ -61,7 +69,9 @@ any_fault_none k i within (too_few t n header rest h is few kind) = (
   λ v b more split encoding.
       let p = encoding.1 in
       let found = tlv_header v.tag b i more encoding.0.0 within p split in
-      let parts = ok_pair (t, n) (v.tag, length p.contents) rest (p.contents ++ more) (sym (read_as i header rest h is) ∙ found) in
+      let parts =
+      ok_pair (t, n) (v.tag, length p.contents) rest (p.contents ++ more) (sym (read_as i header rest h is) ∙ found)
+      in
       let number : n ≡ length p.contents = ap (λ q. q.1) parts.0 in
       omega (arith, few, number, ap length parts.1, length-append p.contents more),
 )
@@ -85,8 +95,10 @@ pub any_fault_first : AreFirst AnyFault
 any_fault_first j k i within p q = any_one j k (header_at i) (any_at j i p) (any_at k i q)
 
 -- Of another tag than the expected one, the error names both.
-pub unexpected_told : (tag : Tag) (Fault : ErrorKind → List ℕ → Type 0) (any : TagAndContents) (kind : ErrorKind) (asked : Type 0) → any.tag ≢ tag.octet
-    → Faulty kind ((any.tag ≡ tag.octet) × asked) (IsTheFault (OtherAnyFault tag Fault) any kind) → IsUnexpected tag any.tag kind
+pub unexpected_told : (tag : Tag) (Fault : ErrorKind → List ℕ → Type 0) (any : TagAndContents) (kind : ErrorKind)
+    (asked : Type 0) → any.tag ≢ tag.octet
+    → Faulty kind ((any.tag ≡ tag.octet) × asked) (IsTheFault (OtherAnyFault tag Fault) any kind)
+    → IsUnexpected tag any.tag kind
 unexpected_told tag Fault any kind asked other (inl (_, (same, _))) = absurd (other same)
 unexpected_told tag Fault any kind asked other (inr (_, (inl (_, told)), _)) = told
 unexpected_told tag Fault any kind asked other (inr (_, (inr (same, _)), _)) = absurd (other same)

@@ -39,19 +39,24 @@ parameters_held : (parameters : Option AnyRef) → HasOptional IsAny (option_map
 parameters_held None = tt
 parameters_held (Some any) = any_held any
 
-parameters_short : (parameters : Option AnyRef) → length (written_optional written_any (option_map any_of parameters)) ≤ limit + 128
+parameters_short : (parameters : Option AnyRef)
+    → length (written_optional written_any (option_map any_of parameters)) ≤ limit + 128
 parameters_short None = omega arith
 parameters_short (Some any) = any_short any
 
 -- an algorithm with these octets as its identifier
-has_plain : (oid : List ℕ) → IsIdentifier oid → (parameters : Option AnyRef) → HasPlain (record { oid = oid; parameters = option_map any_of parameters })
+has_plain : (oid : List ℕ) → IsIdentifier oid → (parameters : Option AnyRef)
+    → HasPlain (record { oid = oid; parameters = option_map any_of parameters })
 has_plain oid held parameters = (held, parameters_held parameters)
 
-few_plain : (oid : List ℕ) → IsIdentifier oid → (parameters : Option AnyRef) → length (written_plain (record { oid = oid; parameters = option_map any_of parameters })) ≤ limit + 423
+few_plain : (oid : List ℕ) → IsIdentifier oid → (parameters : Option AnyRef)
+    → length (written_plain (record { oid = oid; parameters = option_map any_of parameters })) ≤ limit + 423
 few_plain oid held parameters =
     let identifier = tlv object_identifier_tag oid in
     let written = written_optional written_any (option_map any_of parameters) in
-    tlv_short sequence_tag (limit + 295) (identifier ++ written) (omega (arith, length-append identifier written, octets_short oid held, parameters_short parameters)) (omega arith)
+    tlv_short sequence_tag (limit + 295) (identifier ++ written)
+    (omega (arith, length-append identifier written, octets_short oid held, parameters_short parameters))
+    (omega arith)
 
 pub plain_held : (a : AlgorithmIdentifier AnyRef) → HasPlain (algorithm_of a)
 plain_held a = has_plain _ (identifier_held a.oid) a.parameters

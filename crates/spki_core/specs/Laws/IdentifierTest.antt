@@ -1,6 +1,7 @@
 -- The test for the contents of an identifier is exact.
 use Rattle.std.specs.Prelude.{Bool, true, false, ◌&&◌, ◌==◌, nat_lt}
-use Rattle.std.proofs.Common.{ℕ, List, [], ◌∷◌, ◌++◌, ◌≡◌, ◌≢◌, ◌<◌, ◌≤◌, ◌+◌, length, slice_index, refl, sym, ap, ◌∙◌, arith, append_assoc, length-append}
+use Rattle.std.proofs.Common.{ℕ, List, [], ◌∷◌, ◌++◌, ◌≡◌, ◌≢◌, ◌<◌, ◌≤◌, ◌+◌, length, slice_index, refl, sym, ap, ◌∙◌}
+use Rattle.std.proofs.Common.{arith, append_assoc, length-append}
 use Rattle.std.proofs.lemmas.Bool.Decides.{nat_tests}
 use Rattle.std.specs.List.{AllByRecursion, concat}
 use Rattle.der_core.specs.Encodings.{AreBytes}
@@ -13,7 +14,9 @@ Parts c = (subs : List (List ℕ)) × AllByRecursion IsSubidentifier subs × (c 
 
 -- The octets are the rest of a subidentifier, and whole ones behind it.
 abbrev Rest : List ℕ → Type 0
-Rest c = (front : List ℕ) × (last : ℕ) × (c' : List ℕ) × Parts c' × AllByRecursion (λ b. (128 ≤ b) × (b < 256)) front × (last < 128) × (c ≡ front ++ last ∷ c')
+Rest c =
+    (front : List ℕ) × (last : ℕ) × (c' : List ℕ) × Parts c' × AllByRecursion (λ b. (128 ≤ b) × (b < 256)) front
+    × (last < 128) × (c ≡ front ++ last ∷ c')
 
 by_test : {X : Type 0} (b : Bool) → (b ≡ true → X) → (b ≡ false → X) → X
 by_test true f g = f refl
@@ -50,7 +53,17 @@ cut (b ∷ bs) o =
           let p = r.3 in
           let other : b ≢ 128 = grind (arith, nat_tests) in (
             ((b ∷ r.0) ++ r.1 ∷ []) ∷ p.0,
-            (record { front = b ∷ r.0; last = r.1; all = refl; more_follow = ((high, os.0), r.4); ends = r.5; least = other }, p.1),
+            (
+              record {
+                front = b ∷ r.0;
+                last = r.1;
+                all = refl;
+                more_follow = ((high, os.0), r.4);
+                ends = r.5;
+                least = other;
+              },
+              p.1,
+            ),
             ap (λ l. b ∷ l) (r.6 ∙ ap (λ l. r.0 ++ r.1 ∷ l) p.2 ∙ sym (append_assoc r.0 (r.1 ∷ []) (concat p.0))),
           ))),
       (λ e.
@@ -60,7 +73,8 @@ cut (b ∷ bs) o =
     ))
 
 -- A subidentifier ends well, whatever follows.
-within_ends : (front : List ℕ) (last : ℕ) (rest : List ℕ) → AllByRecursion (λ b. (128 ≤ b) × (b < 256)) front → last < 128 → ends_well false (front ++ last ∷ rest) ≡ ends_well true rest
+within_ends : (front : List ℕ) (last : ℕ) (rest : List ℕ) → AllByRecursion (λ b. (128 ≤ b) × (b < 256)) front
+    → last < 128 → ends_well false (front ++ last ∷ rest) ≡ ends_well true rest
 within_ends [] last rest all low = let small : nat_lt last 128 ≡ true = grind (arith, nat_tests) in rw small refl
 within_ends (b ∷ front) last rest all low =
     let large : nat_lt b 128 ≡ false = grind (arith, nat_tests, all.0.0) in
@@ -69,7 +83,8 @@ within_ends (b ∷ front) last rest all low =
 one_ends : (s rest : List ℕ) → IsSubidentifier s → ends_well true (s ++ rest) ≡ ends_well true rest
 one_ends s rest p = go p.front p.more_follow p.all
   where
-    go : (front : List ℕ) → AllByRecursion (λ b. (128 ≤ b) × (b < 256)) front → s ≡ front ++ p.last ∷ [] → ends_well true (s ++ rest) ≡ ends_well true rest
+    go : (front : List ℕ) → AllByRecursion (λ b. (128 ≤ b) × (b < 256)) front → s ≡ front ++ p.last ∷ []
+        → ends_well true (s ++ rest) ≡ ends_well true rest
     go [] all e =
         let low = p.ends in
         let small : nat_lt p.last 128 ≡ true = grind (arith, nat_tests) in
@@ -115,10 +130,12 @@ is_identifier-complete c p =
     let b : nat_lt (length c) 40 ≡ true = grind (arith, nat_tests) in
     rw (a, b, ends) refl
   where
-    count : (subs : List (List ℕ)) → 0 < length subs → AllByRecursion IsSubidentifier subs → c ≡ concat subs → 0 < length c
+    count : (subs : List (List ℕ)) → 0 < length subs → AllByRecursion IsSubidentifier subs → c ≡ concat subs
+        → 0 < length c
     count [] l all h = absurd (omega arith)
     count (s ∷ subs) l all h =
         let first = all.0 in
         let len : length c ≡ length s + length (concat subs) = ap length h ∙ length-append s (concat subs) in
-        let one : length s ≡ length first.front + 1 = ap length first.all ∙ length-append first.front (first.last ∷ []) in
+        let one : length s ≡ length first.front + 1 =
+        ap length first.all ∙ length-append first.front (first.last ∷ []) in
         omega arith

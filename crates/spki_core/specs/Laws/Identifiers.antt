@@ -30,7 +30,8 @@ subidentifier_of_bytes s p =
 
 parts_of_bytes : (subs : List (List ℕ)) → AllByRecursion IsSubidentifier subs → AreBytes (concat subs)
 parts_of_bytes [] all = tt
-parts_of_bytes (s ∷ subs) all = bytes_append s (concat subs) (subidentifier_of_bytes s all.0) (parts_of_bytes subs all.1)
+parts_of_bytes (s ∷ subs) all =
+    bytes_append s (concat subs) (subidentifier_of_bytes s all.0) (parts_of_bytes subs all.1)
 
 pub identifier_contents_of_bytes : IsOfBytes IdentifierContents
 identifier_contents_of_bytes oid c p = rw p.0.joined (parts_of_bytes p.0.subidentifiers p.0.each)
@@ -50,7 +51,16 @@ identifier_contents_shortest oid c p =
 pub identifier_relates : (oid : List ℕ) → IsIdentifier oid → ObjectIdentifier oid (tlv object_identifier_tag oid)
 identifier_relates oid h =
     let few = h.short in
-    record { octets = _; contents = oid; counted = length_octets-within (length oid) (omega arith); holds = (h, refl); written = refl }
+    record {
+      octets = _;
+      contents = oid;
+      counted = length_octets-within (length oid) (omega arith);
+      holds = (h, refl);
+      written = refl;
+    }
 
-pub identifier_shortest : (oid encoding : List ℕ) → ObjectIdentifier oid encoding → IsLeast (IsIdentifier oid) (tlv object_identifier_tag oid) encoding
-identifier_shortest oid encoding p = tlv_shortest object_identifier_tag IdentifierContents (λ o. o) IsIdentifier identifier_contents_shortest oid encoding p
+pub identifier_shortest : (oid encoding : List ℕ) → ObjectIdentifier oid encoding
+    → IsLeast (IsIdentifier oid) (tlv object_identifier_tag oid) encoding
+identifier_shortest oid encoding p =
+    tlv_shortest object_identifier_tag IdentifierContents (λ o. o) IsIdentifier identifier_contents_shortest oid
+    encoding p

@@ -8,10 +8,17 @@ use Rattle.statement.proofs.write_container.Goals as goal
 
 pub returns-in-Ok : goal.returns-in-Ok
 returns-in-Ok c =
-    let info = c.args.info.now in
-    (c.in-Ok.ensures.rest.0, moved (IsShortest ContainerEncoding) (container_holds info) (shortest (info_of info) _ c.in-Ok.ensures.encoding.0), c.in-Ok.ensures.rest.1)
+    let info = c.args.info.now in (
+      c.in-Ok.ensures.rest.0,
+      moved (IsShortest ContainerEncoding) (container_holds info)
+          (shortest (info_of info) _ c.in-Ok.ensures.encoding.0),
+      c.in-Ok.ensures.rest.1,
+    )
 
 pub returns-in-Err : goal.returns-in-Err
 returns-in-Err c =
-    let info = c.args.info.now in
-    (c.in-Err.ensures.unchanged, λ bytes p. none_fits (info_of info) _ _ bytes c.in-Err.ensures.err (moved ContainerEncoding (sym (container_holds info)) p))
+    let info = c.args.info.now in (
+      c.in-Err.ensures.unchanged,
+      λ bytes p. none_fits (info_of info) _ _ bytes c.in-Err.ensures.err
+          (moved ContainerEncoding (sym (container_holds info)) p),
+    )

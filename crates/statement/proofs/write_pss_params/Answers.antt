@@ -11,10 +11,17 @@ use Rattle.statement.proofs.write_pss_params.Goals as goal
 
 pub returns-in-Ok : goal.returns-in-Ok
 returns-in-Ok c =
-    let p = c.args.params.now in
-    (c.in-Ok.ensures.rest.0, moved (IsShortest PssEncoding) (pss_holds any_of p) (shortest sides (pss_of p) _ c.in-Ok.ensures.shortest.0), c.in-Ok.ensures.rest.1)
+    let p = c.args.params.now in (
+      c.in-Ok.ensures.rest.0,
+      moved (IsShortest PssEncoding) (pss_holds any_of p)
+          (shortest sides (pss_of p) _ c.in-Ok.ensures.shortest.0),
+      c.in-Ok.ensures.rest.1,
+    )
 
 pub returns-in-Err : goal.returns-in-Err
 returns-in-Err c =
-    let p = c.args.params.now in
-    (c.in-Err.ensures.unchanged, λ bytes e. none_fits RsaPssParams (pss_of p) _ _ bytes c.in-Err.ensures.err (meant sides (pss_of p) bytes (moved PssEncoding (sym (pss_holds any_of p)) e)))
+    let p = c.args.params.now in (
+      c.in-Err.ensures.unchanged,
+      λ bytes e. none_fits RsaPssParams (pss_of p) _ _ bytes c.in-Err.ensures.err
+          (meant sides (pss_of p) bytes (moved PssEncoding (sym (pss_holds any_of p)) e)),
+    )

@@ -11,19 +11,24 @@ use Rattle.statement.proofs.write_pss_params_under.Goals as goal
 pub encode_spelling_into-requires : goal.encode_spelling_into-requires
 encode_spelling_into-requires c =
     let p = c.args.params.now in
-    mask_there sides (pss_of p) c.args.mask (subst (λ v. (k : ℕ) × Defaults (pss_fields v) k × (c.args.mask < 2 ^ k)) (sym (pss_holds any_of p)) c.requires)
+    mask_there sides (pss_of p) c.args.mask
+    (subst (λ v. (k : ℕ) × Defaults (pss_fields v) k × (c.args.mask < 2 ^ k)) (sym (pss_holds any_of p)) c.requires)
 
 pub returns-in-Ok : goal.returns-in-Ok
 returns-in-Ok c =
     let p = c.args.params.now in
     let one = c.lemma_pss_spellings.ensures.encoding in (
       c.in-Ok.ensures.rest.0,
-      moved (IsShortest (SequenceOf IsPss pss_fields (FieldsUnder c.args.mask))) (pss_holds any_of p) (shortest_under sides one (pss_of p) c.args.mask _ c.in-Ok.ensures.stands.spelling),
+      moved (IsShortest (SequenceOf IsPss pss_fields (FieldsUnder c.args.mask))) (pss_holds any_of p)
+          (shortest_under sides one (pss_of p) c.args.mask _ c.in-Ok.ensures.stands.spelling),
       c.in-Ok.ensures.rest.1,
     )
 
 pub returns-in-Err : goal.returns-in-Err
 returns-in-Err c =
     let p = c.args.params.now in
-    let one = c.lemma_pss_spellings.ensures.encoding in
-    (c.in-Err.ensures.unchanged, λ bytes e. none_under sides one (pss_of p) c.args.mask _ _ bytes c.in-Err.ensures.err (moved (SequenceOf IsPss pss_fields (FieldsUnder c.args.mask)) (sym (pss_holds any_of p)) e))
+    let one = c.lemma_pss_spellings.ensures.encoding in (
+      c.in-Err.ensures.unchanged,
+      λ bytes e. none_under sides one (pss_of p) c.args.mask _ _ bytes c.in-Err.ensures.err
+          (moved (SequenceOf IsPss pss_fields (FieldsUnder c.args.mask)) (sym (pss_holds any_of p)) e),
+    )

@@ -13,5 +13,10 @@ returns-in-Ok c = (c.in-Ok.ensures.rest.0, shortest _ _ c.in-Ok.ensures.encoding
 pub returns-in-Err : goal.returns-in-Err
 returns-in-Err c =
     let key = public_key_of c.args.key.now in
-    let same = forth key (holds_canonical _ c.args.key.now.modulus.canonical) (holds_canonical _ c.args.key.now.public_exponent.canonical) in
-    (c.in-Err.ensures.unchanged, λ bytes p. none_fits RsaPublicKey key _ _ bytes c.in-Err.ensures.err (subst (λ k. Means RsaPublicKey bytes k) same (means (numbers key) bytes p)))
+    let same =
+    forth key (holds_canonical _ c.args.key.now.modulus.canonical)
+    (holds_canonical _ c.args.key.now.public_exponent.canonical) in (
+      c.in-Err.ensures.unchanged,
+      λ bytes p. none_fits RsaPublicKey key _ _ bytes c.in-Err.ensures.err
+          (subst (λ k. Means RsaPublicKey bytes k) same (means (numbers key) bytes p)),
+    )

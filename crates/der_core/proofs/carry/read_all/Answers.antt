@@ -12,7 +12,16 @@ returns-then-count-to_usize-clause-err g c =
       (
         c.loop-count.bytes.items ++ last,
         Consumes-trans _ _ _ _ _ c.loop-count.invariant.came c.in-Ok.ensures.bytes.0,
-        simp (length-append, length-take) (omega (arith, c.loop-count.bytes.ok.0, c.in-Ok.ensures.bound, c.if-count-to_usize.true, c.len.ensures, c.to_usize.ensures.value)),
-        simp (length-append, length-take) (omega (arith, c.loop-count.bytes.ok.0, c.in-Ok.ensures.bound, c.loop-count.invariant.within)),
+        simp (length-append, length-take)
+            (omega (
+              arith,
+              c.loop-count.bytes.ok.0,
+              c.in-Ok.ensures.bound,
+              c.if-count-to_usize.true,
+              c.len.ensures,
+              c.to_usize.ensures.value,
+            )),
+        simp (length-append, length-take)
+            (omega (arith, c.loop-count.bytes.ok.0, c.in-Ok.ensures.bound, c.loop-count.invariant.within)),
       ),
     ))

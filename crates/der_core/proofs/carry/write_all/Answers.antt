@@ -13,6 +13,7 @@ returns-in_err-put_all g c =
 -- all bytes were taken, and then the flush was rejected
 pub returns-in-Err : goal.returns-in-Err
 returns-in-Err g c =
-    let all : Appends (g.W.Sink.contents c.args.sink.now) (g.W.Sink.contents c.flush.new.self) c.args.bytes.now = search rules in
+    let all : Appends (g.W.Sink.contents c.args.sink.now) (g.W.Sink.contents c.flush.new.self) c.args.bytes.now =
+    search rules in
     let rejected : SomeFailed (g.W.Sink.failures c.args.sink.now) (g.W.Sink.failures c.flush.new.self) = search rules in
     ((length c.args.bytes.now, rw take-length all), search rules, rejected)

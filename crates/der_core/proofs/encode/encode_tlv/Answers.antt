@@ -10,11 +10,27 @@ returns-in_err-write-clause-appends g c =
     let p = err_from_is_err_and c.from_residual-in_err-write.result c.from_residual-in_err-write.ensures.1 in
     let t = g.T.Contents in
     let v = t.value c.args.value.now in
-    let size : length (length_octets c.in_ok-length.length) ≡ length (length_octets (length (t.written_contents v))) = ap (λ n. length (length_octets n)) c.in_ok-length.ensures.1 in
-    let few : length (tlv g.T.FixedTag.TAG.octet (t.written_contents v)) ≤ limit = omega (arith, size, c.in_ok-for_tlv.ensures.ok, c.in_ok-length.ensures, length-append (length_octets (length (t.written_contents v))) (t.written_contents v)) in
+    let size : length (length_octets c.in_ok-length.length) ≡ length (length_octets (length (t.written_contents v))) =
+    ap (λ n. length (length_octets n)) c.in_ok-length.ensures.1 in
+    let few : length (tlv g.T.FixedTag.TAG.octet (t.written_contents v)) ≤ limit =
+    omega (
+      arith,
+      size,
+      c.in_ok-for_tlv.ensures.ok,
+      c.in_ok-length.ensures,
+      length-append (length_octets (length (t.written_contents v))) (t.written_contents v),
+    ) in
     let head : length c.deref.result.now ≡ 1 + length (length_octets c.in_ok-length.length) = search rules in
-    let full : g.W.Writer.room c.args.writer.now < length (tlv g.T.FixedTag.TAG.octet (t.written_contents v)) = omega (arith, size, head, c.in_err-write.ensures.err.1, length-append (length_octets (length (t.written_contents v))) (t.written_contents v)) in
-    rw (p.1, p.2) (appends_nothing c.in_ok-length.ensures.0 few c.in_err-write.ensures.err.0 full c.in_err-write.ensures.nothing.0)
+    let full : g.W.Writer.room c.args.writer.now < length (tlv g.T.FixedTag.TAG.octet (t.written_contents v)) =
+    omega (
+      arith,
+      size,
+      head,
+      c.in_err-write.ensures.err.1,
+      length-append (length_octets (length (t.written_contents v))) (t.written_contents v),
+    ) in
+    rw (p.1, p.2) (appends_nothing c.in_ok-length.ensures.0 few c.in_err-write.ensures.err.0 full
+    c.in_err-write.ensures.nothing.0)
 
 pub returns-clause-appends : goal.returns-clause-appends
 returns-clause-appends g c =
@@ -23,8 +39,16 @@ returns-clause-appends g c =
     let head = c.to_bytes.result.items in
     let has : t.has_contents v = c.in_ok-length.ensures.0 in
     let encoding : tlv g.T.FixedTag.TAG.octet (t.written_contents v) ≡ head ++ t.written_contents v = search rules in
-    let size : length (length_octets c.in_ok-length.length) ≡ length (length_octets (length (t.written_contents v))) = ap (λ n. length (length_octets n)) c.in_ok-length.ensures.1 in
-    let few : length (tlv g.T.FixedTag.TAG.octet (t.written_contents v)) ≤ limit = omega (arith, size, c.in_ok-for_tlv.ensures.ok, c.in_ok-length.ensures, length-append (length_octets (length (t.written_contents v))) (t.written_contents v)) in
+    let size : length (length_octets c.in_ok-length.length) ≡ length (length_octets (length (t.written_contents v))) =
+    ap (λ n. length (length_octets n)) c.in_ok-length.ensures.1 in
+    let few : length (tlv g.T.FixedTag.TAG.octet (t.written_contents v)) ≤ limit =
+    omega (
+      arith,
+      size,
+      c.in_ok-for_tlv.ensures.ok,
+      c.in_ok-length.ensures,
+      length-append (length_octets (length (t.written_contents v))) (t.written_contents v),
+    ) in
     let mid : g.W.Writer.written c.write.new.self ≡ g.W.Writer.written c.args.writer.now ++ head = search rules in
     let room : g.W.Writer.room c.write.new.self + length head ≡ g.W.Writer.room c.args.writer.now = search rules in
     appends_behind _ _ _ has has encoding few mid room c.append_value.ensures.appends
@@ -34,8 +58,16 @@ returns-in_err-for_tlv-clause-appends g c =
     let p = err_from_is_err_and c.from_residual-in_err-for_tlv.result c.from_residual-in_err-for_tlv.ensures.1 in
     let t = g.T.Contents in
     let v = t.value c.args.value.now in
-    let size : length (length_octets c.in_ok-length.length) ≡ length (length_octets (length (t.written_contents v))) = ap (λ n. length (length_octets n)) c.in_ok-length.ensures.1 in
-    let many : limit < length (tlv g.T.FixedTag.TAG.octet (t.written_contents v)) = omega (arith, size, c.in_err-for_tlv.ensures.err.1, c.in_ok-length.ensures, length-append (length_octets (length (t.written_contents v))) (t.written_contents v)) in
+    let size : length (length_octets c.in_ok-length.length) ≡ length (length_octets (length (t.written_contents v))) =
+    ap (λ n. length (length_octets n)) c.in_ok-length.ensures.1 in
+    let many : limit < length (tlv g.T.FixedTag.TAG.octet (t.written_contents v)) =
+    omega (
+      arith,
+      size,
+      c.in_err-for_tlv.ensures.err.1,
+      c.in_ok-length.ensures,
+      length-append (length_octets (length (t.written_contents v))) (t.written_contents v),
+    ) in
     rw (p.1, p.2) (appends_too_long c.in_ok-length.ensures.0 c.in_err-for_tlv.ensures.err.0 many)
 
 pub returns-clause-kept : goal.returns-clause-kept

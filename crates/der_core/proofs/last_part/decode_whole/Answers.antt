@@ -10,4 +10,5 @@ returns-in_err-value g c =
 pub returns-in_err-finish : goal.returns-in_err-finish
 returns-in_err-finish g c =
     let p = err_from_is_err_and c.from_residual-in_err-finish.result c.from_residual-in_err-finish.ensures.1 in
-    rw (p.1, p.2) (whole_trailing g.T.Encoding.encoding g.T.Decode.fault _ _ _ _ _ _ c.in_ok-value.ensures c.in_err-finish.ensures)
+    rw (p.1, p.2) (whole_trailing g.T.Encoding.encoding g.T.Decode.fault _ _ _ _ _ _ c.in_ok-value.ensures
+    c.in_err-finish.ensures)

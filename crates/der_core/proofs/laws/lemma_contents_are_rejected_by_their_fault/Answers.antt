@@ -5,4 +5,5 @@ pub returns : goal.returns
 returns g c =
     let claim : g.claim c.lifetimes = assumption in
     let met = g.met.T.DecodeValue c.lifetimes claim in
-    only_contents g.T.Contents.value g.T.Contents.contents g.T.DecodeValue.fault g.T.DecodeValue.may_allocate met.fault_none met.fault_first
+    only_contents g.T.Contents.value g.T.Contents.contents g.T.DecodeValue.fault g.T.DecodeValue.may_allocate
+    met.fault_none met.fault_first

@@ -1,4 +1,5 @@
-use Rattle.std.proofs.Common.{arith, rules, refl, ap, sym, ◌∙◌, subst, append_assoc, length-append, ◌≡◌, ◌+◌, ◌≤◌, ◌<◌, ◌++◌, length, get_or, take, drop, List, ℕ}
+use Rattle.std.proofs.Common.{arith, rules, refl, ap, sym, ◌∙◌, subst, append_assoc, length-append, ◌≡◌, ◌+◌, ◌≤◌, ◌<◌}
+use Rattle.std.proofs.Common.{◌++◌, length, get_or, take, drop, List, ℕ}
 use Rattle.std.proofs.lemmas.Result.{err_from_is_err_and}
 use Rattle.der_core.specs.SequenceOf.{AllHave, all_encodings}
 use Rattle.der_core.specs.Length.{limit}
@@ -6,12 +7,16 @@ use Rattle.der_core.specs.Laws.Items.{encodings_more, encodings_around, have_at}
 use Rattle.der_core.specs.Laws.StoppedWriting.{appends_in_front, appends_behind}
 use Rattle.der_core.proofs.sequence_of.encode_items.Goals as goal
 
-module _ {T : Type 0} (has : T → Type 0) (encoding : T → List ℕ) (xs : List T) (i : ℕ) (x : T) (h : i < length xs) (e : x ≡ get_or xs i x) where
+module _ {T : Type 0} (has : T → Type 0) (encoding : T → List ℕ) (xs : List T) (i : ℕ) (x : T) (h : i < length xs)
+    (e : x ≡ get_or xs i x) where
   more : all_encodings encoding (take (i + 1) xs) ≡ all_encodings encoding (take i xs) ++ encoding x
   more = encodings_more has encoding xs i x h ∙ ap (λ y. all_encodings encoding (take i xs) ++ encoding y) (sym e)
 
-  around : all_encodings encoding xs ≡ all_encodings encoding (take i xs) ++ (encoding x ++ all_encodings encoding (drop (i + 1) xs))
-  around = encodings_around has encoding xs i x h ∙ ap (λ y. all_encodings encoding (take i xs) ++ (encoding y ++ all_encodings encoding (drop (i + 1) xs))) (sym e)
+  around : all_encodings encoding xs ≡ all_encodings encoding (take i xs)
+      ++ (encoding x ++ all_encodings encoding (drop (i + 1) xs))
+  around =
+      encodings_around has encoding xs i x h
+      ∙ ap (λ y. all_encodings encoding (take i xs) ++ (encoding y ++ all_encodings encoding (drop (i + 1) xs))) (sym e)
 
   here : AllHave has xs → has x
   here p = subst has (sym e) (have_at has encoding xs i x h p)
@@ -21,21 +26,54 @@ returns-in_err-encode-clause-appends g c =
     let p = err_from_is_err_and c.from_residual.result c.from_residual.ensures.1 in
     let xs = c.args.items.now in
     let all : AllHave (λ (x : g.row.T.Denot). g.T.Encoding.has_encoding (g.T.Encoding.value x)) xs = c.requires.has in
-    let few : length (all_encodings (λ (x : g.row.T.Denot). g.T.Encoding.written_encoding (g.T.Encoding.value x)) xs) ≤ limit = c.requires.fits in
+    let few : length (all_encodings (λ (x : g.row.T.Denot). g.T.Encoding.written_encoding (g.T.Encoding.value x))
+    xs) ≤ limit = c.requires.fits in
     let x = c.item-item.result in
     let i = c.loop-item.item-index in
-    let has = here (λ (x : g.row.T.Denot). g.T.Encoding.has_encoding (g.T.Encoding.value x)) (λ (x : g.row.T.Denot). g.T.Encoding.written_encoding (g.T.Encoding.value x)) xs i x c.loop-item-test.true c.item-item.is all in
-    let whole = around (λ (x : g.row.T.Denot). g.T.Encoding.has_encoding (g.T.Encoding.value x)) (λ (x : g.row.T.Denot). g.T.Encoding.written_encoding (g.T.Encoding.value x)) xs i x c.loop-item-test.true c.item-item.is in
-    let rest = all_encodings (λ (x : g.row.T.Denot). g.T.Encoding.written_encoding (g.T.Encoding.value x)) (drop (i + 1) xs) in
-    let less : length ((λ (x : g.row.T.Denot). g.T.Encoding.written_encoding (g.T.Encoding.value x)) x ++ rest) ≤ limit = omega (arith, few, ap length whole, length-append (all_encodings (λ (x : g.row.T.Denot). g.T.Encoding.written_encoding (g.T.Encoding.value x)) (take i xs)) ((λ (x : g.row.T.Denot). g.T.Encoding.written_encoding (g.T.Encoding.value x)) x ++ rest)) in
+    let has =
+    here (λ (x : g.row.T.Denot). g.T.Encoding.has_encoding (g.T.Encoding.value x))
+    (λ (x : g.row.T.Denot). g.T.Encoding.written_encoding (g.T.Encoding.value x)) xs i x c.loop-item-test.true
+    c.item-item.is all in
+    let whole =
+    around (λ (x : g.row.T.Denot). g.T.Encoding.has_encoding (g.T.Encoding.value x))
+    (λ (x : g.row.T.Denot). g.T.Encoding.written_encoding (g.T.Encoding.value x)) xs i x c.loop-item-test.true
+    c.item-item.is in
+    let rest =
+    all_encodings (λ (x : g.row.T.Denot). g.T.Encoding.written_encoding (g.T.Encoding.value x)) (drop (i + 1) xs) in
+    let less : length ((λ (x : g.row.T.Denot). g.T.Encoding.written_encoding (g.T.Encoding.value x)) x
+    ++ rest) ≤ limit = omega (
+      arith,
+      few,
+      ap length whole,
+      length-append (all_encodings (λ (x : g.row.T.Denot). g.T.Encoding.written_encoding (g.T.Encoding.value x))
+          (take i xs)) ((λ (x : g.row.T.Denot). g.T.Encoding.written_encoding (g.T.Encoding.value x)) x ++ rest),
+    ) in
     rw (p.1, p.2) (appends_behind _ _ _ has all whole few c.loop-item.invariant.written c.loop-item.invariant.room
     (appends_in_front _ _ rest has has refl less c.in_err-encode.ensures.appends))
 
 pub loop-item-preserved : goal.loop-item-preserved
 loop-item-preserved g c =
-    let q = more (λ (x : g.row.T.Denot). g.T.Encoding.has_encoding (g.T.Encoding.value x)) (λ (x : g.row.T.Denot). g.T.Encoding.written_encoding (g.T.Encoding.value x)) c.args.items.now c.loop-item.item-index c.item-item.result c.loop-item-test.true c.item-item.is in
+    let q =
+    more (λ (x : g.row.T.Denot). g.T.Encoding.has_encoding (g.T.Encoding.value x))
+    (λ (x : g.row.T.Denot). g.T.Encoding.written_encoding (g.T.Encoding.value x)) c.args.items.now
+    c.loop-item.item-index c.item-item.result c.loop-item-test.true c.item-item.is in
     record {
-      written = rw q (c.in_ok-encode.ensures.appends.written ∙ ap (λ w. w ++ (λ (x : g.row.T.Denot). g.T.Encoding.written_encoding (g.T.Encoding.value x)) c.item-item.result) c.loop-item.invariant.written ∙ append_assoc (g.W.Writer.written c.args.writer.now) (all_encodings (λ (x : g.row.T.Denot). g.T.Encoding.written_encoding (g.T.Encoding.value x)) (take c.loop-item.item-index c.args.items.now)) ((λ (x : g.row.T.Denot). g.T.Encoding.written_encoding (g.T.Encoding.value x)) c.item-item.result));
-      room = rw q (omega (arith, c.in_ok-encode.ensures.appends.room, c.loop-item.invariant.room, length-append (all_encodings (λ (x : g.row.T.Denot). g.T.Encoding.written_encoding (g.T.Encoding.value x)) (take c.loop-item.item-index c.args.items.now)) ((λ (x : g.row.T.Denot). g.T.Encoding.written_encoding (g.T.Encoding.value x)) c.item-item.result)));
+      written =
+          rw q (c.in_ok-encode.ensures.appends.written
+          ∙ ap (λ w. w ++ (λ (x : g.row.T.Denot). g.T.Encoding.written_encoding (g.T.Encoding.value x))
+          c.item-item.result) c.loop-item.invariant.written
+          ∙ append_assoc (g.W.Writer.written c.args.writer.now)
+          (all_encodings (λ (x : g.row.T.Denot). g.T.Encoding.written_encoding (g.T.Encoding.value x))
+          (take c.loop-item.item-index c.args.items.now))
+          ((λ (x : g.row.T.Denot). g.T.Encoding.written_encoding (g.T.Encoding.value x)) c.item-item.result));
+      room =
+          rw q (omega (
+            arith,
+            c.in_ok-encode.ensures.appends.room,
+            c.loop-item.invariant.room,
+            length-append (all_encodings (λ (x : g.row.T.Denot). g.T.Encoding.written_encoding (g.T.Encoding.value x))
+                (take c.loop-item.item-index c.args.items.now))
+                ((λ (x : g.row.T.Denot). g.T.Encoding.written_encoding (g.T.Encoding.value x)) c.item-item.result),
+          ));
       kept = search rules;
     }

@@ -4,4 +4,8 @@ use Rattle.der_core.specs.SequenceOf.{AllHave, all_encodings}
 use Rattle.der_core.proofs.sequence_of.items_len.Given as goal
 
 abbrev pub invariant-loop-item : goal.invariant-loop-item
-invariant-loop-item g l = Counts (AllHave (λ (x : g.row.T.Denot). g.T.Encoding.has_encoding (g.T.Encoding.value x)) (take l.item-index l.items)) (all_encodings (λ (x : g.row.T.Denot). g.T.Encoding.written_encoding (g.T.Encoding.value x)) (take l.item-index l.items)) l.total
+invariant-loop-item g l =
+    Counts (AllHave (λ (x : g.row.T.Denot). g.T.Encoding.has_encoding (g.T.Encoding.value x))
+    (take l.item-index l.items))
+    (all_encodings (λ (x : g.row.T.Denot). g.T.Encoding.written_encoding (g.T.Encoding.value x))
+    (take l.item-index l.items)) l.total

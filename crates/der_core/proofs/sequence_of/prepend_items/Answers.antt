@@ -4,17 +4,38 @@ use Rattle.der_core.specs.Laws.Items.{encodings_behind_len}
 use Rattle.der_core.proofs.sequence_of.prepend_items.Goals as goal
 
 -- the item and those behind it are no more than all of them
-fits : {T : Type 0} (has : T → Type 0) (encoding : T → List ℕ) (xs : List T) (left : ℕ) (x : T) → 0 < left → left ≤ length xs → x ≡ get_or xs (left - 1) x
+fits : {T : Type 0} (has : T → Type 0) (encoding : T → List ℕ) (xs : List T) (left : ℕ) (x : T) → 0 < left
+    → left ≤ length xs → x ≡ get_or xs (left - 1) x
     → length (encoding x) + length (all_encodings encoding (drop left xs)) ≤ length (all_encodings encoding xs)
 fits has encoding xs left x p l e =
     let next : left - 1 + 1 ≡ left = omega arith in
     let same = ap (λ y. length (encoding y)) e in
-    omega (arith, same, ap (λ k. length (all_encodings encoding (drop k xs))) next, encodings_behind_len has encoding xs (left - 1) x (omega arith))
+    omega (
+      arith,
+      same,
+      ap (λ k. length (all_encodings encoding (drop k xs))) next,
+      encodings_behind_len has encoding xs (left - 1) x (omega arith),
+    )
 
 pub prepend-requires-clause-fits : goal.prepend-requires-clause-fits
 prepend-requires-clause-fits g c =
-    omega (arith, c.requires.fits, fits (λ (x : g.row.T.Denot). g.T.Encoding.has_encoding (g.T.Encoding.value x)) (λ (x : g.row.T.Denot). g.T.Encoding.written_encoding (g.T.Encoding.value x)) c.args.items.now c.loop-left.left c.index-items-left.result c.loop-left-test.true c.loop-left.invariant.0 c.index-items-left.is)
+    omega (
+      arith,
+      c.requires.fits,
+      fits (λ (x : g.row.T.Denot). g.T.Encoding.has_encoding (g.T.Encoding.value x))
+          (λ (x : g.row.T.Denot). g.T.Encoding.written_encoding (g.T.Encoding.value x)) c.args.items.now
+          c.loop-left.left
+          c.index-items-left.result c.loop-left-test.true c.loop-left.invariant.0 c.index-items-left.is,
+    )
 
 pub prepend-requires-clause-room : goal.prepend-requires-clause-room
 prepend-requires-clause-room g c =
-    omega (arith, c.requires.room, c.loop-left.invariant.1.1, fits (λ (x : g.row.T.Denot). g.T.Encoding.has_encoding (g.T.Encoding.value x)) (λ (x : g.row.T.Denot). g.T.Encoding.written_encoding (g.T.Encoding.value x)) c.args.items.now c.loop-left.left c.index-items-left.result c.loop-left-test.true c.loop-left.invariant.0 c.index-items-left.is)
+    omega (
+      arith,
+      c.requires.room,
+      c.loop-left.invariant.1.1,
+      fits (λ (x : g.row.T.Denot). g.T.Encoding.has_encoding (g.T.Encoding.value x))
+          (λ (x : g.row.T.Denot). g.T.Encoding.written_encoding (g.T.Encoding.value x)) c.args.items.now
+          c.loop-left.left
+          c.index-items-left.result c.loop-left-test.true c.loop-left.invariant.0 c.index-items-left.is,
+    )

@@ -6,4 +6,5 @@ use Rattle.pkcs1.proofs.faults.fault_of_public_key.Goals as goal
 pub returns-in-Err-Asn1 : goal.returns-in-Err-Asn1
 returns-in-Err-Asn1 c =
     let e = c.in-Err-Asn1.ensures in
-    fault_told RsaPublicKey RsaPublicKeyFault c.args.bytes.now c.in-Err-Asn1.field-0 c.in-Err-Asn1.error _ c.in-Err-Asn1.field-0-is c.kind.ensures e.err e.exact
+    fault_told RsaPublicKey RsaPublicKeyFault c.args.bytes.now c.in-Err-Asn1.field-0 c.in-Err-Asn1.error _
+    c.in-Err-Asn1.field-0-is c.kind.ensures e.err e.exact

@@ -8,4 +8,8 @@ pub returns-in_err-other : goal.returns-in_err-other
 returns-in_err-other _ c =
     let p = err_from_is_err_and c.from_residual.result c.from_residual.ensures.1 in
     let fails = c.in_err-other.ensures in
-    rw (p.1, p.2) (fails.0, fails.1, λ left is. ⊎_elim (λ w. let t = w.1.3 in absurd (none_counted 3 t.contents t.holds)) inr (fails.2 left is))
+    rw (p.1, p.2) (
+      fails.0,
+      fails.1,
+      λ left is. ⊎_elim (λ w. let t = w.1.3 in absurd (none_counted 3 t.contents t.holds)) inr (fails.2 left is),
+    )

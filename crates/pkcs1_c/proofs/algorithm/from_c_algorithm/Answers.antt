@@ -15,11 +15,13 @@ pub returns-in_err-tag-clause-err : goal.returns-in_err-tag-clause-err
 returns-in_err-tag-clause-err c =
     let err = c.in_err-tag.ensures.err in
     err_handed (Told c.args.algorithm.now) c.in_err-tag.field-0.0 _ c.from_residual-in_err-tag.ensures.1
-    (algorithm_rejected c.in_ok-oid.oid c.args.algorithm.now (kind_number c.in_err-tag.field-0.0.kind) c.if-algorithm.true c.in_ok-oid.ensures.ok (inl (ap kind_number err.0, err.1)))
+    (algorithm_rejected c.in_ok-oid.oid c.args.algorithm.now (kind_number c.in_err-tag.field-0.0.kind)
+    c.if-algorithm.true c.in_ok-oid.ensures.ok (inl (ap kind_number err.0, err.1)))
 
 pub returns-in_err-new-clause-err : goal.returns-in_err-new-clause-err
 returns-in_err-new-clause-err c =
     let allowed = rw c.in_ok-tag.ensures.ok at c.in_ok-tag.tag.allowed in
     let err = c.in_err-new.ensures.err in
     err_handed (Told c.args.algorithm.now) c.in_err-new.field-0.0 _ c.from_residual-in_err-new.ensures.1
-    (algorithm_rejected c.in_ok-oid.oid c.args.algorithm.now (kind_number c.in_err-new.field-0.0.kind) c.if-algorithm.true c.in_ok-oid.ensures.ok (inr (ap kind_number err.0, allowed, err.1)))
+    (algorithm_rejected c.in_ok-oid.oid c.args.algorithm.now (kind_number c.in_err-new.field-0.0.kind)
+    c.if-algorithm.true c.in_ok-oid.ensures.ok (inr (ap kind_number err.0, allowed, err.1)))

@@ -18,4 +18,5 @@ returns-in-Ok-clause-one_key c = λ _ other m.
     same ∙ sym c.to_c_key.ensures.key ∙ (λ i. private_key_seen c.to_c_key.result (sym same i).other_prime_infos)
 
 pub returns-in-Err-clause-exact : goal.returns-in-Err-clause-exact
-returns-in-Err-clause-exact c = status_exact RsaPrivateKeyInfoFault c.args.encoding.now c.in-Err.error _ c.status.ensures c.in-Err.ensures.exact
+returns-in-Err-clause-exact c =
+    status_exact RsaPrivateKeyInfoFault c.args.encoding.now c.in-Err.error _ c.status.ensures c.in-Err.ensures.exact

@@ -16,10 +16,13 @@ pub returns-in-Ok : goal.returns-in-Ok
 returns-in-Ok c =
     let info = c.args.info.now in
     let holds = c.in-Ok.ensures.key in
-    writes_as {B = InfoError info} (λ _ p. (holds, p)) (λ t p. inr (holds, p)) (info_rest info (length c.args.out.now) holds) (rw (c.in-Ok.ensures.ok) at c.write_encoding.ensures)
+    writes_as {B = InfoError info} (λ _ p. (holds, p)) (λ t p. inr (holds, p))
+    (info_rest info (length c.args.out.now) holds) (rw (c.in-Ok.ensures.ok) at c.write_encoding.ensures)
 
 pub returns-in-Err : goal.returns-in-Err
 returns-in-Err c =
     let info = c.args.info.now in
     let e = status_known RsaPrivateKeyFault info.private_key.now c.in-Err.failure c.in-Err.ensures.exact in
-    refused (λ encoding. HoldsSomeKey info × IsShortest PrivateKeyInfo (info_seen info) encoding) c.args.out.now c.args.len.now _ _ c.status.ensures (InfoError info) (info_one info (length c.args.out.now)) (e.0.0, λ full. omega (arith, full, e.0.1)) (inl e.1)
+    refused (λ encoding. HoldsSomeKey info × IsShortest PrivateKeyInfo (info_seen info) encoding) c.args.out.now
+    c.args.len.now _ _ c.status.ensures (InfoError info) (info_one info (length c.args.out.now))
+    (e.0.0, λ full. omega (arith, full, e.0.1)) (inl e.1)

@@ -12,14 +12,18 @@ use Rattle.pkcs1_c.proofs.container.read_container.Goals as goal
 
 -- The encoding is no container with an RSA key.
 abbrev HoldsNone : List ℕ → Type 0
-HoldsNone encoding = (info : Info) (key : PrivateKey (List ℕ)) → Means PrivateKeyInfo encoding info → HoldsRsa info key → ⊥
+HoldsNone encoding =
+    (info : Info) (key : PrivateKey (List ℕ)) → Means PrivateKeyInfo encoding info → HoldsRsa info key → ⊥
 
 pub returns-in_err-info-clause-err : goal.returns-in_err-info-clause-err
-returns-in_err-info-clause-err c = on_err (HoldsNone c.args.encoding.now) _ (λ info _ m _. c.in_err-info.ensures.err info m)
+returns-in_err-info-clause-err c =
+    on_err (HoldsNone c.args.encoding.now) _ (λ info _ m _. c.in_err-info.ensures.err info m)
 
 pub returns-in_err-view-clause-err : goal.returns-in_err-view-clause-err
 returns-in_err-view-clause-err c =
-    on_err (HoldsNone c.args.encoding.now) _ (λ info key m holds. c.in_err-view.ensures.err key (subst (λ i. HoldsRsa i key) (c.in_ok-info.ensures.ok.1 info m) holds))
+    on_err (HoldsNone c.args.encoding.now) _
+    (λ info key m holds. c.in_err-view.ensures.err key
+    (subst (λ i. HoldsRsa i key) (c.in_ok-info.ensures.ok.1 info m) holds))
 
 pub returns-in_err-info-clause-exact : goal.returns-in_err-info-clause-exact
 returns-in_err-info-clause-exact c =
@@ -31,9 +35,11 @@ pub returns-in_err-view-clause-exact : goal.returns-in_err-view-clause-exact
 returns-in_err-view-clause-exact c =
     let p = err_from_is_err_and c.from_residual-in_err-view.result c.from_residual-in_err-view.ensures.1 in
     let r = c.in_ok-info.ensures in
-    rw (p.1, p.2) (errs_behind PrivateKeyInfo PrivateKeyInfoFault c.args.encoding.now RsaFault _ r.ok r.exact {X = Unit {0}} (Err _) c.in_err-view.ensures.exact)
+    rw (p.1, p.2) (errs_behind PrivateKeyInfo PrivateKeyInfoFault c.args.encoding.now RsaFault _ r.ok r.exact
+    {X = Unit {0}} (Err _) c.in_err-view.ensures.exact)
 
 pub returns-clause-exact : goal.returns-clause-exact
 returns-clause-exact c =
     let r = c.in_ok-info.ensures in
-    errs_behind PrivateKeyInfo PrivateKeyInfoFault c.args.encoding.now RsaFault _ r.ok r.exact {X = Unit {0}} (Ok tt) c.in_ok-view.ensures.exact
+    errs_behind PrivateKeyInfo PrivateKeyInfoFault c.args.encoding.now RsaFault _ r.ok r.exact {X = Unit {0}} (Ok tt)
+    c.in_ok-view.ensures.exact

@@ -8,4 +8,5 @@ returns-in_err-new-clause-err c =
     rw (p.1, p.2) (number_rejected c.args.bytes.now _ c.in_err-new.ensures.err)
 
 pub returns-clause-held : goal.returns-clause-held
-returns-clause-held c = let made = c.in_ok-new.ensures in number_none c.args.bytes.now c.in_ok-new.field-0 (made.some, made.ok.1, made.ok.0)
+returns-clause-held c =
+    let made = c.in_ok-new.ensures in number_none c.args.bytes.now c.in_ok-new.field-0 (made.some, made.ok.1, made.ok.0)

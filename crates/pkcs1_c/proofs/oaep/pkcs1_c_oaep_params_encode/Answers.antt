@@ -18,4 +18,5 @@ returns-in-Ok c =
 pub returns-in-Err : goal.returns-in-Err
 returns-in-Err c =
     let seen = oaep_seen c.args.params.now in
-    fields_refused OaepFieldError RsaOaepParams seen c.args.out.now c.args.len.now _ _ c.status.ensures (oaep_part seen) c.in-Err.ensures.err
+    fields_refused OaepFieldError RsaOaepParams seen c.args.out.now c.args.len.now _ _ c.status.ensures (oaep_part seen)
+    c.in-Err.ensures.err

@@ -6,4 +6,5 @@ pub returns-in-Ok-clause-ok : goal.returns-in-Ok-clause-ok
 returns-in-Ok-clause-ok c = λ _. rw c.to_c_oaep.ensures.seen c.in-Ok.ensures.ok
 
 pub returns-in-Err-clause-exact : goal.returns-in-Err-clause-exact
-returns-in-Err-clause-exact c = status_exact RsaOaepAlgorithmFault c.args.encoding.now c.in-Err.error _ c.status.ensures c.in-Err.ensures.exact
+returns-in-Err-clause-exact c =
+    status_exact RsaOaepAlgorithmFault c.args.encoding.now c.in-Err.error _ c.status.ensures c.in-Err.ensures.exact

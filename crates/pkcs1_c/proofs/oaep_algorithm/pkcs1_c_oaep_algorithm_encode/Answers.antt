@@ -14,11 +14,14 @@ write_encoding-requires c = rw c.to_algorithm.ensures.means c.to_algorithm.ensur
 
 pub returns-in-Ok : goal.returns-in-Ok
 returns-in-Ok c =
-    let is = c.to_algorithm.ensures.means ∙ ap (with_parameters id_rsaes_oaep) (c.keep-held.ensures ∙ c.in-Ok.ensures.ok) in
+    let is =
+    c.to_algorithm.ensures.means ∙ ap (with_parameters id_rsaes_oaep) (c.keep-held.ensures ∙ c.in-Ok.ensures.ok) in
     let seen = oaep_seen c.args.params.now in
-    fields_written OaepFieldError RsaOaepAlgorithm seen (oaep_none c.in-Ok.made seen c.in-Ok.ensures.ok) (identifier_written RsaOaepParams is c.write_encoding.ensures)
+    fields_written OaepFieldError RsaOaepAlgorithm seen (oaep_none c.in-Ok.made seen c.in-Ok.ensures.ok)
+    (identifier_written RsaOaepParams is c.write_encoding.ensures)
 
 pub returns-in-Err : goal.returns-in-Err
 returns-in-Err c =
     let seen = oaep_seen c.args.params.now in
-    fields_refused OaepFieldError RsaOaepAlgorithm seen c.args.out.now c.args.len.now _ _ c.status.ensures (oaep_part seen) c.in-Err.ensures.err
+    fields_refused OaepFieldError RsaOaepAlgorithm seen c.args.out.now c.args.len.now _ _ c.status.ensures
+    (oaep_part seen) c.in-Err.ensures.err

@@ -14,7 +14,8 @@ use Rattle.pkcs1_c.proofs.private_key.from_c_other_primes.Goals as goal
 
 pub loop-other-preserved : goal.loop-other-preserved
 loop-other-preserved c =
-    others_step other_prime_seen (other_of bytes_of) c.args.others.now c.loop-other.infos.items c.push_other.new.infos.items c.loop-other.other-index _ c.in_ok-info.info
+    others_step other_prime_seen (other_of bytes_of) c.args.others.now c.loop-other.infos.items
+    c.push_other.new.infos.items c.loop-other.other-index _ c.in_ok-info.info
     c.loop-other-test.true c.loop-other.invariant c.in_ok-info.ensures.ok c.in_ok-push_other.ensures.ok
 
 abbrev pub Told : List OtherPrime → Error → Type 0
@@ -22,6 +23,9 @@ Told others e = status_of e ≢ 17 → NumbersError (others_numbers (map other_p
 
 pub returns-in_err-info-clause-err : goal.returns-in_err-info-clause-err
 returns-in_err-info-clause-err c =
-    let made = others_none (take c.loop-other.other-index (map other_prime_seen c.args.others.now)) c.loop-other.infos.items c.loop-other.invariant in
+    let made =
+    others_none (take c.loop-other.other-index (map other_prime_seen c.args.others.now)) c.loop-other.infos.items
+    c.loop-other.invariant in
     err_handed (Told c.args.others.now) c.in_err-info.field-0.0 _ c.from_residual.ensures.1
-    (λ _. others_at other_prime_seen c.args.others.now c.loop-other.other-index _ (status_of c.in_err-info.field-0.0) c.loop-other-test.true made c.in_err-info.ensures.err)
+    (λ _. others_at other_prime_seen c.args.others.now c.loop-other.other-index _ (status_of c.in_err-info.field-0.0)
+    c.loop-other-test.true made c.in_err-info.ensures.err)

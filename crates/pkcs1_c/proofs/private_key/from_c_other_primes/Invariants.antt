@@ -7,4 +7,5 @@ use Rattle.pkcs1_c.proofs.private_key.from_c_other_primes.Given as goal
 
 -- so many of the primes were made
 abbrev pub invariant-loop-other : goal.invariant-loop-other
-invariant-loop-other l = AreOthersOf (take l.other-index (map other_prime_seen l.others)) (map (other_of bytes_of) l.infos.items)
+invariant-loop-other l =
+    AreOthersOf (take l.other-index (map other_prime_seen l.others)) (map (other_of bytes_of) l.infos.items)

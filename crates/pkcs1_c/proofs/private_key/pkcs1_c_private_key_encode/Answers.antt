@@ -17,7 +17,8 @@ abbrev Miscounted : PrivateKey → List OtherPrime → ℕ → Type 0
 Miscounted key others status = (status ≡ 21) × (key.other_primes ≢ length others)
 
 abbrev Counted : PrivateKey → List OtherPrime → ℕ → ℕ → Type 0
-Counted key others room = PartThen (NumbersError (given_numbers key others)) (GivenError (IsGiven key others) RsaPrivateKey room)
+Counted key others room =
+    PartThen (NumbersError (given_numbers key others)) (GivenError (IsGiven key others) RsaPrivateKey room)
 
 pub write_encoding-requires : goal.write_encoding-requires
 write_encoding-requires c = private_some c.in-Ok.key _ c.in-Ok.ensures.ok.1.8
@@ -28,8 +29,11 @@ returns-then-key-others-clause-writes c = λ _.
     let others = c.args.others.now in
     let numbers = given_numbers key others in
     let room = length c.args.out.now in
-    part_refused (IsGivenEncoding (IsGiven key others) RsaPrivateKey) c.args.out.now c.args.len.now 21 21 refl (Miscounted key others) (Counted key others) (unless_part 21 (key.other_primes ≡ length others) (omega arith) (λ e. omega (arith, e)))
-    (part_one (NumbersError numbers) (GivenError (IsGiven key others) RsaPrivateKey room) (numbers_part numbers).0 (given_one (IsGiven key others) RsaPrivateKey (given_same key others) room)) (refl, c.if-key-others.true)
+    part_refused (IsGivenEncoding (IsGiven key others) RsaPrivateKey) c.args.out.now c.args.len.now 21 21 refl
+    (Miscounted key others) (Counted key others)
+    (unless_part 21 (key.other_primes ≡ length others) (omega arith) (λ e. omega (arith, e)))
+    (part_one (NumbersError numbers) (GivenError (IsGiven key others) RsaPrivateKey room) (numbers_part numbers).0
+    (given_one (IsGiven key others) RsaPrivateKey (given_same key others) room)) (refl, c.if-key-others.true)
 
 pub returns-in-Ok-clause-writes : goal.returns-in-Ok-clause-writes
 returns-in-Ok-clause-writes c = λ _.
@@ -38,17 +42,22 @@ returns-in-Ok-clause-writes c = λ _.
     let made = private_key_of c.in-Ok.key in
     let given = c.in-Ok.ensures.ok in
     behind_part (Miscounted key others) (Counted key others) (λ s p. p.1 given.0)
-    (given_written (given_numbers key others) (IsGiven key others) RsaPrivateKey (given_same key others) made given (private_none key others c.in-Ok.key given) (only_encoding RsaPrivateKey private_delimited made (private_at_most_one made)) c.write_encoding.ensures)
+    (given_written (given_numbers key others) (IsGiven key others) RsaPrivateKey (given_same key others) made given
+    (private_none key others c.in-Ok.key given)
+    (only_encoding RsaPrivateKey private_delimited made (private_at_most_one made)) c.write_encoding.ensures)
 
 pub returns-in-Err-clause-writes : goal.returns-in-Err-clause-writes
 returns-in-Err-clause-writes c = λ other.
     let key = c.args.key.now in
     let others = c.args.others.now in
     behind_part (Miscounted key others) (Counted key others) (λ s p. p.1 (omega (arith, c.if-key-others.false)))
-    (numbers_refused (given_numbers key others) (IsGiven key others) RsaPrivateKey (given_same key others) c.args.out.now c.args.len.now _ _ c.status.ensures (c.in-Err.ensures.err (λ e. other (c.status.ensures ∙ e))))
+    (numbers_refused (given_numbers key others) (IsGiven key others) RsaPrivateKey (given_same key others)
+    c.args.out.now c.args.len.now _ _ c.status.ensures (c.in-Err.ensures.err (λ e. other (c.status.ensures ∙ e))))
 
 pub returns-in-Ok-clause-memory : goal.returns-in-Ok-clause-memory
-returns-in-Ok-clause-memory c = λ memory. absurd (no_memory_asked RsaPrivateKey (private_key_of c.in-Ok.key) _ _ c.write_encoding.ensures.exact memory)
+returns-in-Ok-clause-memory c =
+    λ memory. absurd (no_memory_asked RsaPrivateKey (private_key_of c.in-Ok.key) _ _ c.write_encoding.ensures.exact
+    memory)
 
 pub returns-in-Err-clause-memory : goal.returns-in-Err-clause-memory
 returns-in-Err-clause-memory c = λ memory. (c.in-Err.ensures.memory (sym c.status.ensures ∙ memory), refl, refl)

@@ -3,7 +3,9 @@ use Rattle.pkcs1_c.proofs.NotWritten.{status_exact}
 use Rattle.pkcs1_c.proofs.public_key.pkcs1_c_public_key_decode.Goals as goal
 
 pub returns-in-Ok-clause-ok : goal.returns-in-Ok-clause-ok
-returns-in-Ok-clause-ok c = λ _. rw (c.as_bytes-key.ensures.number, c.as_bytes-key-in-Ok.ensures.number) c.in-Ok.ensures.ok
+returns-in-Ok-clause-ok c =
+    λ _. rw (c.as_bytes-key.ensures.number, c.as_bytes-key-in-Ok.ensures.number) c.in-Ok.ensures.ok
 
 pub returns-in-Err-clause-exact : goal.returns-in-Err-clause-exact
-returns-in-Err-clause-exact c = status_exact RsaPublicKeyFault c.args.encoding.now c.in-Err.error _ c.status.ensures c.in-Err.ensures.exact
+returns-in-Err-clause-exact c =
+    status_exact RsaPublicKeyFault c.args.encoding.now c.in-Err.error _ c.status.ensures c.in-Err.ensures.exact

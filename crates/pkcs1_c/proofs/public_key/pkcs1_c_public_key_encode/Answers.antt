@@ -15,9 +15,12 @@ pub returns-in-Ok : goal.returns-in-Ok
 returns-in-Ok c =
     let given = public_key_seen c.args.key.now in
     let made = public_key_of c.in-Ok.key in
-    given_written (two_numbers given) (λ key. ArePublicNumbers key given) RsaPublicKey (public_same given) made c.in-Ok.ensures.ok (public_none c.in-Ok.key given c.in-Ok.ensures.ok) (public_only made) c.write_encoding.ensures
+    given_written (two_numbers given) (λ key. ArePublicNumbers key given) RsaPublicKey (public_same given) made
+    c.in-Ok.ensures.ok (public_none c.in-Ok.key given c.in-Ok.ensures.ok) (public_only made)
+    c.write_encoding.ensures
 
 pub returns-in-Err : goal.returns-in-Err
 returns-in-Err c =
     let given = public_key_seen c.args.key.now in
-    numbers_refused (two_numbers given) (λ key. ArePublicNumbers key given) RsaPublicKey (public_same given) c.args.out.now c.args.len.now _ _ c.status.ensures c.in-Err.ensures.err
+    numbers_refused (two_numbers given) (λ key. ArePublicNumbers key given) RsaPublicKey (public_same given)
+    c.args.out.now c.args.len.now _ _ c.status.ensures c.in-Err.ensures.err

@@ -8,10 +8,14 @@ returns-in-Ok g c =
     let t = g.T.Encoding in
     let made = c.in-Ok.ensures in
     let v = t.value c.args.value.now in
-    written t.encoding v c.args.out.now _ c.args.len.now _ (rw (front_is _ c.args.out.now _ _ made.ok.0 made.ok.1) made.shortest) (rest_is _ c.args.out.now _ _ made.ok.0 made.ok.1) c.encode_into.auto.out
+    written t.encoding v c.args.out.now _ c.args.len.now _
+    (rw (front_is _ c.args.out.now _ _ made.ok.0 made.ok.1) made.shortest)
+    (rest_is _ c.args.out.now _ _ made.ok.0 made.ok.1) c.encode_into.auto.out
 
 pub returns-in-Err : goal.returns-in-Err
 returns-in-Err g c =
     let t = g.T.Encoding in
     let v = t.value c.args.value.now in
-    not_written t.encoding v c.args.out.now _ c.args.len.now _ _ _ c.kind_number.ensures (kind_writing (t.has_encoding v) t.encoding v _ c.requires c.in-Err.error.kind c.in-Err.ensures.err) c.in-Err.ensures.unchanged c.set_needed.ensures.needed c.set_needed.ensures.kept
+    not_written t.encoding v c.args.out.now _ c.args.len.now _ _ _ c.kind_number.ensures
+    (kind_writing (t.has_encoding v) t.encoding v _ c.requires c.in-Err.error.kind c.in-Err.ensures.err)
+    c.in-Err.ensures.unchanged c.set_needed.ensures.needed c.set_needed.ensures.kept

@@ -9,4 +9,8 @@ pub returns-in-Some : goal.returns-in-Some
 returns-in-Some c =
     let info = info_of c.in-Some.info in
     let key = view_of c.in-Some.key in
-    on_ok_weaker c.put_p8.result (λ put. (p8_answer key info.attributes c.args.encoding.now, inr (record { info = info; key = key }, c.in-Some.ensures.some, refl), put)) c.put_p8.ensures
+    on_ok_weaker c.put_p8.result (λ put. (
+      p8_answer key info.attributes c.args.encoding.now,
+      inr (record { info = info; key = key }, c.in-Some.ensures.some, refl),
+      put,
+    )) c.put_p8.ensures

@@ -13,4 +13,5 @@ returns-in-Ok c =
     let encoding = c.args.encoding.now in
     let means = c.in-Ok.ensures.ok.0 in
     let shortest = only_shortest RsaPrivateKey key encoding (private_at_most_one key) means in
-    told RsaPrivateKey priv_answer key encoding (viewed_encoding c.in-Ok.key) _ _ c.put_priv.result means (subst (λ t. IsShortest RsaPrivateKey key t) (sym c.in-Ok.ensures.bytes) shortest) c.put_priv.ensures
+    told RsaPrivateKey priv_answer key encoding (viewed_encoding c.in-Ok.key) _ _ c.put_priv.result means
+    (subst (λ t. IsShortest RsaPrivateKey key t) (sym c.in-Ok.ensures.bytes) shortest) c.put_priv.ensures

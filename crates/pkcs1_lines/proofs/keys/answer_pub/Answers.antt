@@ -10,4 +10,5 @@ returns-in-Ok c =
     let key = public_key_of c.in-Ok.key in
     let encoding = c.args.encoding.now in
     let means = c.in-Ok.ensures.ok.0 in
-    told RsaPublicKey pub_answer key encoding encoding _ _ c.put_pub.result means (only_shortest RsaPublicKey key encoding (public_at_most_one key) means) c.put_pub.ensures
+    told RsaPublicKey pub_answer key encoding encoding _ _ c.put_pub.result means
+    (only_shortest RsaPublicKey key encoding (public_at_most_one key) means) c.put_pub.ensures

@@ -6,4 +6,5 @@ use Rattle.pkcs1_lines.proofs.keys.put_numbers.Given as goal
 
 -- so many of the numbers were put
 abbrev pub invariant-loop-label : goal.invariant-loop-label
-invariant-loop-label l = l.out.items ≡ l.fn.out.items ++ flat_map (λ n. field n.0.now (bytes_of n.1)) (take l.label-index l.numbers)
+invariant-loop-label l =
+    l.out.items ≡ l.fn.out.items ++ flat_map (λ n. field n.0.now (bytes_of n.1)) (take l.label-index l.numbers)

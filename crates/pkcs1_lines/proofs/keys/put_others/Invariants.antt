@@ -8,4 +8,5 @@ use Rattle.pkcs1_lines.proofs.keys.put_others.Given as goal
 -- what was put, and what is left, are the primes
 abbrev pub invariant-loop-other : goal.invariant-loop-other
 invariant-loop-other l =
-    l.out.items ++ flat_map other_told (others_left l.other-iterator) ≡ l.fn.out.items ++ flat_map other_told (listed_others (view_of l.key).other_prime_infos)
+    l.out.items ++ flat_map other_told (others_left l.other-iterator) ≡ l.fn.out.items
+    ++ flat_map other_told (listed_others (view_of l.key).other_prime_infos)

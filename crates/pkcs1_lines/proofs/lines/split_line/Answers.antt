@@ -9,4 +9,5 @@ returns-in-Some-clause-lines c =
     rw take_rest (lines_of-at c.in-Some.end c.args.bytes.now c.requires found.0)
 
 pub returns-in-None-clause-lines : goal.returns-in-None-clause-lines
-returns-in-None-clause-lines c = lines_of-none c.args.bytes.now c.requires (position-none 10 c.args.bytes.now (sym c.in-None.ensures))
+returns-in-None-clause-lines c =
+    lines_of-none c.args.bytes.now c.requires (position-none 10 c.args.bytes.now (sym c.in-None.ensures))

@@ -11,5 +11,8 @@ returns-in_ok-buffer-in-Some g c =
     let claim : g.claim c.lifetimes = assumption in
     let params = c.in-Some.params in
     let t = g.T.Parameters in
-    let shortest = (g.met.T.Parameters c.lifetimes claim).shortest_as params c.shortest-again.result.now c.shortest-again.ensures in
-    parameters_told t.grammar t.fields t.told (t.meaning params) c.defaults.result c.args.encoding.now _ _ _ c.put.result c.in-Some.ensures.some c.defaults.ensures shortest c.put.ensures
+    let shortest =
+    (g.met.T.Parameters c.lifetimes claim).shortest_as params c.shortest-again.result.now c.shortest-again.ensures
+    in
+    parameters_told t.grammar t.fields t.told (t.meaning params) c.defaults.result c.args.encoding.now _ _ _
+    c.put.result c.in-Some.ensures.some c.defaults.ensures shortest c.put.ensures

@@ -11,8 +11,10 @@ returns-in-Some-2 g c =
     let t = g.T.Parameters in
     let params = t.meaning c.in-Some.params in
     let all = rw c.in-Some-2.is at c.in_ok-encodings.ensures.all in
-    spellings_told t.grammar t.fields c.args.word.now c.args.encoding.now params c.in-Some.ensures.some (encodings_in c.in-Some-2.encodings) _ _ c.put_spellings.result
-    ((g.met.T.Parameters c.lifetimes claim).counted params) all.0 all.1 (rw c.as_slice.ensures.value at c.put_spellings.ensures)
+    spellings_told t.grammar t.fields c.args.word.now c.args.encoding.now params c.in-Some.ensures.some
+    (encodings_in c.in-Some-2.encodings) _ _ c.put_spellings.result
+    ((g.met.T.Parameters c.lifetimes claim).counted params) all.0 all.1
+    (rw c.as_slice.ensures.value at c.put_spellings.ensures)
 
 pub returns : goal.returns
 returns g c =
@@ -20,5 +22,8 @@ returns g c =
     let t = g.T.Parameters in
     let params = t.meaning c.in-Some.params in
     let none = rw c.in-None.is at c.in_ok-encodings.ensures.none in
-    let rejected = not_all_fit t.grammar t.fields c.args.word.now c.args.encoding.now params c.in-Some.ensures.some (g.met.T.Parameters c.lifetimes claim).delimited none in
-    on_ok_weaker c.put_refused-in-None.result (λ put. (codes "refused", inl (rejected, refl), put)) c.put_refused-in-None.ensures
+    let rejected =
+    not_all_fit t.grammar t.fields c.args.word.now c.args.encoding.now params c.in-Some.ensures.some
+    (g.met.T.Parameters c.lifetimes claim).delimited none in
+    on_ok_weaker c.put_refused-in-None.result (λ put. (codes "refused", inl (rejected, refl), put))
+    c.put_refused-in-None.ensures

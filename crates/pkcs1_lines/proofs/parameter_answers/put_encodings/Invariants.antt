@@ -6,4 +6,6 @@ use Rattle.pkcs1_lines.proofs.parameter_answers.put_encodings.Given as goal
 
 -- so many of the encodings were put
 abbrev pub invariant-loop-encoding : goal.invariant-loop-encoding
-invariant-loop-encoding l = l.out.items ≡ l.fn.out.items ++ flat_map (λ encoding. field (codes " ") encoding.items) (take l.encoding-index l.encodings)
+invariant-loop-encoding l =
+    l.out.items ≡ l.fn.out.items
+    ++ flat_map (λ encoding. field (codes " ") encoding.items) (take l.encoding-index l.encodings)

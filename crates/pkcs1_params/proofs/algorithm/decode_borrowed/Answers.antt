@@ -9,4 +9,5 @@ returns-clause-err g c = told_none (c.requires _) _ c.decode_as.result c.decode_
 
 pub returns-clause-exact : goal.returns-clause-exact
 returns-clause-exact g c =
-    never_asks (OtherAnyFault g.T.FixedTag.TAG g.T.DecodeValue.fault) (any_of c.args.any) (λ w. c.requires _ w.1) c.decode_as.result c.decode_as.ensures.exact
+    never_asks (OtherAnyFault g.T.FixedTag.TAG g.T.DecodeValue.fault) (any_of c.args.any) (λ w. c.requires _ w.1)
+    c.decode_as.result c.decode_as.ensures.exact

@@ -11,4 +11,5 @@ returns-clause-some g c =
     let is : own_octets_of c.of.result ≡ oid = c.of.ensures in
     let identifier : IsIdentifier oid = rw is at (identifier_held c.of.result) in
     let t = g.T.Contents in
-    has_algorithm g.T.FixedTag.TAG.octet t.contents t.has_contents t.written_contents oid g.met.T.EncodeValue.contents_relate identifier (t.value c.args.params) c.requires.has c.requires.short
+    has_algorithm g.T.FixedTag.TAG.octet t.contents t.has_contents t.written_contents oid
+    g.met.T.EncodeValue.contents_relate identifier (t.value c.args.params) c.requires.has c.requires.short

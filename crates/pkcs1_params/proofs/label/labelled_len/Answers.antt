@@ -14,5 +14,9 @@ returns g c label bytes same =
     let values = oaep_values (labelled oid label) in
     let written = written_fields values 0 in
     let held = rw (ap (λ (v : OaepParameters). v.hash.oid) c.new.ensures) at (identifier_held c.new.result.hash.oid) in
-    let encoding = c.tagged_len.ensures written (rw c.joined_len.ensures (labelled_counted oid label (oaep_of c.new.result) _ _ held c.new.ensures c.value_len-hash_fields.ensures (c.source_len.ensures label same))) in
-    counts_as (tlv 48 written) _ (λ (_ : ⊤). labelled_held oid label held bytes) (λ (_ : HasFields values 0). tt) encoding
+    let encoding =
+    c.tagged_len.ensures written
+    (rw c.joined_len.ensures (labelled_counted oid label (oaep_of c.new.result) _ _ held c.new.ensures
+    c.value_len-hash_fields.ensures (c.source_len.ensures label same))) in
+    counts_as (tlv 48 written) _ (λ (_ : ⊤). labelled_held oid label held bytes) (λ (_ : HasFields values 0). tt)
+    encoding

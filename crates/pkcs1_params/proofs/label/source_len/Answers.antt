@@ -8,6 +8,10 @@ pub returns : goal.returns
 returns c label same =
     let contents = tlv 6 id_p_specified ++ tlv 4 label in
     let identifier = rw c.of.ensures at c.encoded_len-identifier.ensures.counted in
-    let octets = c.tagged_len-octets.ensures label (label_counted label c.args.len _ same c.try_from.ensures.ok c.try_from.ensures.err) in
-    let source = c.tagged_len-source.ensures contents (rw c.joined_len.ensures (source_counted label _ _ identifier octets)) in
-    rw (source_written label (omega arith)) (rw (c.context.ensures, c.new.ensures) at (c.tagged_len.ensures (tlv 48 contents) source))
+    let octets =
+    c.tagged_len-octets.ensures label
+    (label_counted label c.args.len _ same c.try_from.ensures.ok c.try_from.ensures.err) in
+    let source =
+    c.tagged_len-source.ensures contents (rw c.joined_len.ensures (source_counted label _ _ identifier octets)) in
+    rw (source_written label (omega arith))
+    (rw (c.context.ensures, c.new.ensures) at (c.tagged_len.ensures (tlv 48 contents) source))

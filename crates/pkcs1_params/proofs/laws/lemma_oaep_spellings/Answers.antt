@@ -2,7 +2,8 @@ use Rattle.der_core.specs.Laws.Shortest.{same_by_shortest}
 use Rattle.spki_core.specs.Laws.Fields.{defaults_same}
 use Rattle.spki_core.specs.Laws.Spellings.{masks_are_members}
 use Rattle.pkcs1_params.specs.Parameters.{oaep_fields}
-use Rattle.pkcs1_params.proofs.ParameterSpellings.{each_has_one_mask, each_mask_has_one, shortest_has_no_defaults, accepted_fits}
+use Rattle.pkcs1_params.proofs.ParameterSpellings.{each_has_one_mask, each_mask_has_one, shortest_has_no_defaults}
+use Rattle.pkcs1_params.proofs.ParameterSpellings.{accepted_fits}
 use Rattle.pkcs1_params.specs.Laws.Parameters.{oaep_delimited, oaep_in_order}
 use Rattle.pkcs1_params.specs.Laws.Parts.{oaep_defaults}
 use Rattle.pkcs1_params.proofs.laws.lemma_oaep_spellings.Goals as goal

@@ -17,7 +17,11 @@ returns-clause-shortest g c =
     let t = g.T.DefaultFields in
     let v = t.params c.args.params.now in
     IfOk-weaker c.spell_into.result _ _
-    (λ n s. (zero_is_shortest t.values t.numbered v _ s.spelling, λ other p. means_one (tlv_delimited 48 (FieldContents t.values) t.fields_mean_one) other v _ p.1 (masked_spells (fields_with t.values v) 0 _ s.spelling.1)))
+    (λ n s. (
+      zero_is_shortest t.values t.numbered v _ s.spelling,
+      λ other p. means_one (tlv_delimited 48 (FieldContents t.values) t.fields_mean_one) other v _ p.1
+          (masked_spells (fields_with t.values v) 0 _ s.spelling.1),
+    ))
     c.spell_into.ensures.stands
 
 pub returns-clause-no_default : goal.returns-clause-no_default
@@ -26,9 +30,12 @@ returns-clause-no_default g c = IfOk-weaker c.spell_into.result _ _ (λ n s. s.s
 pub returns-clause-count : goal.returns-clause-count
 returns-clause-count g c =
     let t = g.T.DefaultFields in
-    IfOk-weaker c.spell_into.result _ _ (λ n s. two_to_the_defaults (fields_with t.values) (ordered t.values t.numbered) (t.params c.args.params.now)) c.spell_into.ensures.stands
+    IfOk-weaker c.spell_into.result _ _
+    (λ n s. two_to_the_defaults (fields_with t.values) (ordered t.values t.numbered) (t.params c.args.params.now))
+    c.spell_into.ensures.stands
 
 pub returns-clause-err : goal.returns-clause-err
 returns-clause-err g c =
     let t = g.T.DefaultFields in
-    if_err_as c.spell_into.result (not_written t.values t.numbered (t.params c.args.params.now) _ (c.lemma_is_held.ensures 0)) c.spell_into.ensures.err
+    if_err_as c.spell_into.result (not_written t.values t.numbered (t.params c.args.params.now) _
+    (c.lemma_is_held.ensures 0)) c.spell_into.ensures.err

@@ -9,7 +9,13 @@ use Rattle.pkcs1_params.proofs.Masks.{stands_under, unspelled_as, in_range, enco
 use Rattle.pkcs1_params.proofs.spelling.spell_into.Goals as goal
 
 pub invariant_of-spelling : goal.invariant_of-spelling
-invariant_of-spelling g c = let t = g.T.DefaultFields in record { range = in_range (fields_with t.values (t.params c.args.params.now)) c.args.mask c.requires; known = c.changed.ensures }
+invariant_of-spelling g c =
+    let t =
+    g.T.DefaultFields in record {
+      range = in_range (fields_with t.values (t.params c.args.params.now)) c.args.mask
+          c.requires;
+      known = c.changed.ensures;
+    }
 
 pub returns-in_err-encode_into-clause-err : goal.returns-in_err-encode_into-clause-err
 returns-in_err-encode_into-clause-err g c =
@@ -19,7 +25,10 @@ returns-in_err-encode_into-clause-err g c =
     let mask = c.args.mask in
     let v = t.params p in
     let held = c.lemma_is_held.ensures mask in
-    let made = encoding_under (fields_with t.values v) mask (written_fields (t.values v) mask) (parts_relate (parts_of (t.values v)) c.requires.0 mask c.requires.1 c.requires.2 held.0 (omega (arith, held.1))) held.1 in
+    let made =
+    encoding_under (fields_with t.values v) mask (written_fields (t.values v) mask)
+    (parts_relate (parts_of (t.values v)) c.requires.0 mask c.requires.1 c.requires.2 held.0
+    (omega (arith, held.1))) held.1 in
     rw (e.1, e.2) (unspelled_as (fields_with t.values) v mask _ _ made _ c.in_err-encode_into.ensures.err)
 
 pub returns-clause-stands : goal.returns-clause-stands
@@ -28,10 +37,12 @@ returns-clause-stands g c =
     let made = c.in_ok-encode_into.ensures in
     let v = t.params c.args.params.now in
     let encoding = tlv 48 (written_fields (t.values v) c.args.mask) in
-    rw (front_is encoding c.args.out.now _ _ made.ok.0 made.ok.1) (stands_under (fields_with t.values) v c.args.mask (ordered t.values t.numbered) encoding made.shortest.spells)
+    rw (front_is encoding c.args.out.now _ _ made.ok.0 made.ok.1)
+    (stands_under (fields_with t.values) v c.args.mask (ordered t.values t.numbered) encoding made.shortest.spells)
 
 pub returns-clause-rest : goal.returns-clause-rest
 returns-clause-rest g c =
     let t = g.T.DefaultFields in
     let made = c.in_ok-encode_into.ensures.ok in
-    rest_is (tlv 48 (written_fields (t.values (t.params c.args.params.now)) c.args.mask)) c.args.out.now _ _ made.0 made.1
+    rest_is (tlv 48 (written_fields (t.values (t.params c.args.params.now)) c.args.mask)) c.args.out.now _ _ made.0
+    made.1

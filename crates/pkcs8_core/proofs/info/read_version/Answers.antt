@@ -15,4 +15,6 @@ returns-in_err-decode g c =
 
 pub returns-then-branch-ne0 : goal.returns-then-branch-ne0
 returns-then-branch-ne0 g c =
-    other_fails SmallContents SmallFault 0 (Value integer) integer _ _ _ _ _ (g.R.BytesLeft.bounded c.args.reader.now) c.in_ok-decode.ensures c.if-branch-ne0.true (c.error.ensures.value ∙ ap (λ t. Value t) (same_tag _ integer refl)) c.error.ensures.failed
+    other_fails SmallContents SmallFault 0 (Value integer) integer _ _ _ _ _ (g.R.BytesLeft.bounded c.args.reader.now)
+    c.in_ok-decode.ensures c.if-branch-ne0.true
+    (c.error.ensures.value ∙ ap (λ t. Value t) (same_tag _ integer refl)) c.error.ensures.failed

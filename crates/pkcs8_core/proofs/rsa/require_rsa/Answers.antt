@@ -16,8 +16,13 @@ not_empty n e h = let no : false ≡ eqb 0 0 = rw e at h in cc
 pub returns-then-ne-clause-err : goal.returns-then-ne-clause-err
 returns-then-ne-clause-err c =
     let any = c.in_ok-parameters.parameters in
-    other c.tag-then-ne.result (any_of any) (ap (λ (e : Error). e.kind) c.new.ensures) (c.in_ok-assert_algorithm_oid.ensures.ok.1 ∙ c.rsa_encryption_oid.ensures) c.in_ok-parameters.ensures.ok c.tag-then-ne.ensures
+    other c.tag-then-ne.result (any_of any) (ap (λ (e : Error). e.kind) c.new.ensures)
+    (c.in_ok-assert_algorithm_oid.ensures.ok.1 ∙ c.rsa_encryption_oid.ensures) c.in_ok-parameters.ensures.ok
+    c.tag-then-ne.ensures
     (elim c.then-ne.branch [
-      | then-ne-via-then-ne w ↦ λ null. let tag : c.tag.result.octet ≡ 5 = c.tag.ensures ∙ ap (λ (v : TagAndContents). v.tag) null in ne_refl _ tag (sym w.if-ne.true ∙ c.ne.ensures)
-      | then-ne-via-else-ne+then-not-is_empty w ↦ λ null. let none : length w.value.result.now ≡ 0 = ap length (w.value.ensures.contents ∙ ap (λ (v : TagAndContents). v.contents) null) in not_empty _ none (sym w.if-not-is_empty.true ∙ w.is_empty.ensures)
+      | then-ne-via-then-ne w ↦ λ null. let tag : c.tag.result.octet ≡ 5 =
+          c.tag.ensures ∙ ap (λ (v : TagAndContents). v.tag) null in ne_refl _ tag (sym w.if-ne.true ∙ c.ne.ensures)
+      | then-ne-via-else-ne+then-not-is_empty w ↦ λ null. let none : length w.value.result.now ≡ 0 =
+          ap length (w.value.ensures.contents ∙ ap (λ (v : TagAndContents). v.contents) null) in
+          not_empty _ none (sym w.if-not-is_empty.true ∙ w.is_empty.ensures)
     ])

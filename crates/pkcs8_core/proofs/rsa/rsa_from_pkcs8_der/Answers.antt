@@ -10,7 +10,8 @@ use Rattle.pkcs1.specs.ViewParts.{view_of}
 use Rattle.pkcs8_core.proofs.rsa.rsa_from_pkcs8_der.Goals as goal
 
 pub returns-in_err-info-clause-err : goal.returns-in_err-info-clause-err
-returns-in_err-info-clause-err c = on_err (IsNoSentence RsaPrivateKeyInfo c.args.bytes.now) _ (λ key m. c.in_err-info.ensures.err m.1.0 (m.0, m.1.1))
+returns-in_err-info-clause-err c =
+    on_err (IsNoSentence RsaPrivateKeyInfo c.args.bytes.now) _ (λ key m. c.in_err-info.ensures.err m.1.0 (m.0, m.1.1))
 
 pub returns-in_err-info-clause-exact : goal.returns-in_err-info-clause-exact
 returns-in_err-info-clause-exact c =
@@ -25,4 +26,7 @@ pub returns-clause-err : goal.returns-clause-err
 returns-clause-err c = none_in _ _ c.in_ok-info.ensures.ok _ c.rsa_view.ensures.err
 
 pub returns-clause-exact : goal.returns-clause-exact
-returns-clause-exact c = let r = c.in_ok-info.ensures in errs_behind PrivateKeyInfo PrivateKeyInfoFault c.args.bytes.now RsaFault _ r.ok r.exact _ c.rsa_view.ensures.exact
+returns-clause-exact c =
+    let r =
+    c.in_ok-info.ensures in errs_behind PrivateKeyInfo PrivateKeyInfoFault c.args.bytes.now RsaFault _ r.ok r.exact _
+    c.rsa_view.ensures.exact

@@ -6,8 +6,10 @@ use Rattle.spki_core.proofs.algorithm_identifier.lemma_identifier_alone_takes_no
 
 none_alone : (may_allocate : List ℕ → Type 0) → NothingAskedAlone (AlgorithmAllocates may_allocate)
 none_alone may_allocate oid encoding alone (b, rest, is, asks) =
-    let (_, _, _, c, only, (other, (front, last, identifier, (more, _), split))) = tlv_split encoding [] b rest alone asks (append-nil encoding ∙ is) in
-    let same : c ≡ front = (identifier_delimited.one oid other c [] front last only identifier (append-nil c ∙ split)).0 in
+    let (_, _, _, c, only, (other, (front, last, identifier, (more, _), split))) =
+    tlv_split encoding [] b rest alone asks (append-nil encoding ∙ is) in
+    let same : c ≡ front =
+    (identifier_delimited.one oid other c [] front last only identifier (append-nil c ∙ split)).0 in
     omega (arith, more, ap length same, ap length split, length-append front last)
 
 pub returns : goal.returns

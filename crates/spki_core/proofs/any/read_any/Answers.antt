@@ -10,7 +10,10 @@ returns-in_err-header g c =
 pub returns-in_err-contents : goal.returns-in_err-contents
 returns-in_err-contents g c =
     let p = err_from_is_err_and c.from_residual-in_err-contents.result c.from_residual-in_err-contents.ensures.1 in
-    rw (p.1, p.2) (room_fails _ _ _ _ _ _ (g.R.BytesLeft.bytes c.args.reader.now) c.in_ok-header.ensures.exact c.in_err-contents.ensures.0 c.in_err-contents.ensures.1)
+    rw (p.1, p.2) (room_fails _ _ _ _ _ _ (g.R.BytesLeft.bytes c.args.reader.now) c.in_ok-header.ensures.exact
+    c.in_err-contents.ensures.0 c.in_err-contents.ensures.1)
 
 pub returns : goal.returns
-returns g c = rw c.of.ensures (any_read _ _ _ _ _ _ (g.R.BytesLeft.bytes c.args.reader.now) c.in_ok-header.ensures.exact c.in_ok-contents.ensures)
+returns g c =
+    rw c.of.ensures (any_read _ _ _ _ _ _ (g.R.BytesLeft.bytes c.args.reader.now) c.in_ok-header.ensures.exact
+    c.in_ok-contents.ensures)

@@ -3,4 +3,5 @@ use Rattle.spki_core.specs.IdentifierTest as specs
 use Rattle.spki_core.proofs.object_identifier.is_identifier.Given as goal
 
 abbrev pub invariant-loop-index : goal.invariant-loop-index
-invariant-loop-index l = specs.ends_well true l.octets ≡ specs.ends_well (specs.starts_at l.octets l.index) (drop l.index l.octets)
+invariant-loop-index l =
+    specs.ends_well true l.octets ≡ specs.ends_well (specs.starts_at l.octets l.index) (drop l.index l.octets)

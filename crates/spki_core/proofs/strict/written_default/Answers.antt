@@ -8,7 +8,8 @@ use Rattle.spki_core.proofs.strict.written_default.Goals as goal
 pub returns-in-Ok : goal.returns-in-Ok
 returns-in-Ok c = λ contents means.
     let same = means_one any_delimited (any_of c.in-Ok.any) _ _ c.in-Ok.ensures.encoding.1 means.1 in
-    let bytes : c.value.result.now ≡ contents = c.value.ensures.contents ∙ ap (λ (v : TagAndContents). v.contents) same in
+    let bytes : c.value.result.now ≡ contents =
+    c.value.ensures.contents ∙ ap (λ (v : TagAndContents). v.contents) same in
     rw bytes at c.first_written.ensures
 
 pub returns-in-Err : goal.returns-in-Err

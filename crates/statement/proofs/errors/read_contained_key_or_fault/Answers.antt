@@ -12,4 +12,6 @@ use Rattle.statement.proofs.errors.read_contained_key_or_fault.Goals as goal
 pub returns : goal.returns
 returns c =
     let bytes = are_bytes c.args.bytes.now (λ i. omega (arith, c.type_inv.bytes i)) in
-    returned view_of numbers rsa_private_key_view view_holds _ RsaPrivateKeyInfoFault c.args.bytes.now _ (λ v. contained_takes v _ bytes) (λ k. contained_rejects k _ bytes) c.rsa_from_pkcs8_der.result c.rsa_from_pkcs8_der.ensures.ok c.rsa_from_pkcs8_der.ensures.exact
+    returned view_of numbers rsa_private_key_view view_holds _ RsaPrivateKeyInfoFault c.args.bytes.now _
+    (λ v. contained_takes v _ bytes) (λ k. contained_rejects k _ bytes) c.rsa_from_pkcs8_der.result
+    c.rsa_from_pkcs8_der.ensures.ok c.rsa_from_pkcs8_der.ensures.exact

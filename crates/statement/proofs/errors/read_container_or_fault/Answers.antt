@@ -11,4 +11,6 @@ use Rattle.statement.proofs.errors.read_container_or_fault.Goals as goal
 pub returns : goal.returns
 returns c =
     let bytes = are_bytes c.args.bytes.now (λ i. omega (arith, c.type_inv.bytes i)) in
-    returned_der info_of read_as private_key_info_ref (λ x. from_same (info_of x) ∙ container_holds x) _ PrivateKeyInfoFault c.args.bytes.now _ (λ v. whole_takes container_reads v _ bytes) (λ k. whole_rejects container_reads k _ bytes) c.try_from.result c.try_from.ensures.ok c.try_from.ensures.exact
+    returned_der info_of read_as private_key_info_ref (λ x. from_same (info_of x) ∙ container_holds x) _
+    PrivateKeyInfoFault c.args.bytes.now _ (λ v. whole_takes container_reads v _ bytes)
+    (λ k. whole_rejects container_reads k _ bytes) c.try_from.result c.try_from.ensures.ok c.try_from.ensures.exact

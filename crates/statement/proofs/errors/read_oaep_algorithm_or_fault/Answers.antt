@@ -16,4 +16,7 @@ use Rattle.statement.proofs.errors.read_oaep_algorithm_or_fault.Goals as goal
 pub returns : goal.returns
 returns c =
     let bytes = are_bytes c.args.bytes.now (λ i. omega (arith, c.type_inv.bytes i)) in
-    returned oaep_of from (rsa_oaep_params any_ref) (oaep_holds any_of) _ RsaOaepAlgorithmFault c.args.bytes.now _ (λ v. identified_takes id_rsaes_oaep oaep_takes oaep_rejects oaep_of_bytes v _ bytes) (λ k. identified_rejects id_rsaes_oaep oaep_takes oaep_rejects k _ bytes) c.from_algorithm_der.result c.from_algorithm_der.ensures.ok c.from_algorithm_der.ensures.exact
+    returned oaep_of from (rsa_oaep_params any_ref) (oaep_holds any_of) _ RsaOaepAlgorithmFault c.args.bytes.now _
+    (λ v. identified_takes id_rsaes_oaep oaep_takes oaep_rejects oaep_of_bytes v _ bytes)
+    (λ k. identified_rejects id_rsaes_oaep oaep_takes oaep_rejects k _ bytes) c.from_algorithm_der.result
+    c.from_algorithm_der.ensures.ok c.from_algorithm_der.ensures.exact

@@ -16,4 +16,7 @@ use Rattle.statement.proofs.errors.read_pss_algorithm_or_fault.Goals as goal
 pub returns : goal.returns
 returns c =
     let bytes = are_bytes c.args.bytes.now (λ i. omega (arith, c.type_inv.bytes i)) in
-    returned pss_of from (rsa_pss_params any_ref) (pss_holds any_of) _ RsaPssAlgorithmFault c.args.bytes.now _ (λ v. identified_takes id_rsassa_pss pss_takes pss_rejects pss_of_bytes v _ bytes) (λ k. identified_rejects id_rsassa_pss pss_takes pss_rejects k _ bytes) c.from_algorithm_der.result c.from_algorithm_der.ensures.ok c.from_algorithm_der.ensures.exact
+    returned pss_of from (rsa_pss_params any_ref) (pss_holds any_of) _ RsaPssAlgorithmFault c.args.bytes.now _
+    (λ v. identified_takes id_rsassa_pss pss_takes pss_rejects pss_of_bytes v _ bytes)
+    (λ k. identified_rejects id_rsassa_pss pss_takes pss_rejects k _ bytes) c.from_algorithm_der.result
+    c.from_algorithm_der.ensures.ok c.from_algorithm_der.ensures.exact

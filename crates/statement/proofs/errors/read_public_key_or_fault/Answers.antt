@@ -11,4 +11,6 @@ use Rattle.statement.proofs.errors.read_public_key_or_fault.Goals as goal
 pub returns : goal.returns
 returns c =
     let bytes = are_bytes c.args.bytes.now (λ i. omega (arith, c.type_inv.bytes i)) in
-    returned public_key_of numbers (rsa_public_key uint_ref) (λ _. refl) _ RsaPublicKeyFault c.args.bytes.now _ (λ v. whole_takes public_reads v _ bytes) (λ k. whole_rejects public_reads k _ bytes) c.try_from.result c.try_from.ensures.ok c.try_from.ensures.exact
+    returned public_key_of numbers (rsa_public_key uint_ref) (λ _. refl) _ RsaPublicKeyFault c.args.bytes.now _
+    (λ v. whole_takes public_reads v _ bytes) (λ k. whole_rejects public_reads k _ bytes) c.try_from.result
+    c.try_from.ensures.ok c.try_from.ensures.exact

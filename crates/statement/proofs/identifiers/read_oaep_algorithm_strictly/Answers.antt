@@ -8,8 +8,10 @@ use Rattle.statement.proofs.Oaep.{to, sides}
 use Rattle.statement.proofs.identifiers.read_oaep_algorithm_strictly.Goals as goal
 
 pub returns-in-Ok : goal.returns-in-Ok
-returns-in-Ok c = read_strictly id_rsaes_oaep oaep_identifier sides _ (oaep_holds any_of c.in-Ok.value) _ c.in-Ok.ensures.ok
+returns-in-Ok c =
+    read_strictly id_rsaes_oaep oaep_identifier sides _ (oaep_holds any_of c.in-Ok.value) _ c.in-Ok.ensures.ok
 
 pub returns-in-Err : goal.returns-in-Err
 returns-in-Err c v p =
-    c.in-Err.ensures.err (to v) (is_shortest id_rsaes_oaep oaep_identifier sides (to v) _ (moved (IsShortest OaepAlgorithmEncoding) (sym (sides.back v)) p))
+    c.in-Err.ensures.err (to v) (is_shortest id_rsaes_oaep oaep_identifier sides (to v) _
+    (moved (IsShortest OaepAlgorithmEncoding) (sym (sides.back v)) p))

@@ -11,10 +11,18 @@ use Rattle.statement.proofs.identifiers.write_oaep_algorithm.Goals as goal
 
 pub returns-in-Ok : goal.returns-in-Ok
 returns-in-Ok c =
-    let p = c.args.params.now in
-    (c.in-Ok.ensures.rest.0, moved (IsShortest OaepAlgorithmEncoding) (oaep_holds any_of p) (shortest id_rsaes_oaep oaep_identifier sides (oaep_of p) _ c.in-Ok.ensures.shortest.0), c.in-Ok.ensures.rest.1)
+    let p = c.args.params.now in (
+      c.in-Ok.ensures.rest.0,
+      moved (IsShortest OaepAlgorithmEncoding) (oaep_holds any_of p)
+          (shortest id_rsaes_oaep oaep_identifier sides (oaep_of p) _ c.in-Ok.ensures.shortest.0),
+      c.in-Ok.ensures.rest.1,
+    )
 
 pub returns-in-Err : goal.returns-in-Err
 returns-in-Err c =
-    let p = c.args.params.now in
-    (c.in-Err.ensures.unchanged, λ bytes e. none_fits RsaOaepAlgorithm (oaep_of p) _ _ bytes c.in-Err.ensures.err (meant id_rsaes_oaep oaep_identifier sides (oaep_of p) bytes (moved OaepAlgorithmEncoding (sym (oaep_holds any_of p)) e)))
+    let p = c.args.params.now in (
+      c.in-Err.ensures.unchanged,
+      λ bytes e. none_fits RsaOaepAlgorithm (oaep_of p) _ _ bytes c.in-Err.ensures.err
+          (meant id_rsaes_oaep oaep_identifier sides (oaep_of p) bytes
+          (moved OaepAlgorithmEncoding (sym (oaep_holds any_of p)) e)),
+    )

@@ -11,10 +11,18 @@ use Rattle.statement.proofs.identifiers.write_pss_algorithm.Goals as goal
 
 pub returns-in-Ok : goal.returns-in-Ok
 returns-in-Ok c =
-    let p = c.args.params.now in
-    (c.in-Ok.ensures.rest.0, moved (IsShortest PssAlgorithmEncoding) (pss_holds any_of p) (shortest id_rsassa_pss pss_identifier sides (pss_of p) _ c.in-Ok.ensures.shortest.0), c.in-Ok.ensures.rest.1)
+    let p = c.args.params.now in (
+      c.in-Ok.ensures.rest.0,
+      moved (IsShortest PssAlgorithmEncoding) (pss_holds any_of p)
+          (shortest id_rsassa_pss pss_identifier sides (pss_of p) _ c.in-Ok.ensures.shortest.0),
+      c.in-Ok.ensures.rest.1,
+    )
 
 pub returns-in-Err : goal.returns-in-Err
 returns-in-Err c =
-    let p = c.args.params.now in
-    (c.in-Err.ensures.unchanged, λ bytes e. none_fits RsaPssAlgorithm (pss_of p) _ _ bytes c.in-Err.ensures.err (meant id_rsassa_pss pss_identifier sides (pss_of p) bytes (moved PssAlgorithmEncoding (sym (pss_holds any_of p)) e)))
+    let p = c.args.params.now in (
+      c.in-Err.ensures.unchanged,
+      λ bytes e. none_fits RsaPssAlgorithm (pss_of p) _ _ bytes c.in-Err.ensures.err
+          (meant id_rsassa_pss pss_identifier sides (pss_of p) bytes
+          (moved PssAlgorithmEncoding (sym (pss_holds any_of p)) e)),
+    )

@@ -18,13 +18,16 @@ pub returns-in-Ok : goal.returns-in-Ok
 returns-in-Ok c =
     let p = c.args.params.now in
     let all = encodings_in c.in-Ok.value in
-    subst (λ v. Lists IsPss pss_fields v (Some all)) (pss_holds any_of p) (lists sides c.lemma_pss_spellings.ensures.defaults (pss_of p) all c.in-Ok.ensures.all)
+    subst (λ v. Lists IsPss pss_fields v (Some all)) (pss_holds any_of p)
+    (lists sides c.lemma_pss_spellings.ensures.defaults (pss_of p) all c.in-Ok.ensures.all)
 
 pub returns-in-Err : goal.returns-in-Err
 returns-in-Err c =
     let p = c.args.params.now in
     no_value
-    (λ (list : Option (Vec (Vec ℕ Global) Global)). Lists IsPss pss_fields (rsa_pss_params any_ref p) (option_map (vec (λ (encoding : Vec ℕ Global). encoding.items)) list))
+    (λ (list : Option (Vec (Vec ℕ Global) Global)). Lists IsPss pss_fields (rsa_pss_params any_ref p)
+    (option_map (vec (λ (encoding : Vec ℕ Global). encoding.items)) list))
     c.none_but_for_memory.result
     c.none_but_for_memory.ensures
-    (λ other. subst (λ v. Lists IsPss pss_fields v None) (pss_holds any_of p) (lists_none sides (pss_of p) (rejected (λ x. x.kind ≡ Overflow) _ _ c.in-Err.e c.in-Err.ensures.err other)))
+    (λ other. subst (λ v. Lists IsPss pss_fields v None) (pss_holds any_of p)
+    (lists_none sides (pss_of p) (rejected (λ x. x.kind ≡ Overflow) _ _ c.in-Err.e c.in-Err.ensures.err other)))

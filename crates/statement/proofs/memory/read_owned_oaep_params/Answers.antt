@@ -16,9 +16,12 @@ use Rattle.statement.proofs.Oaep.{to, sides}
 use Rattle.statement.proofs.memory.read_owned_oaep_params.Goals as goal
 
 pub returns-in-Ok : goal.returns-in-Ok
-returns-in-Ok c = read sides _ (oaep_holds own_any_of c.in-Ok.value) _ (the_meaning oaep_told _ _ c.in-Ok.ensures.encoding)
+returns-in-Ok c =
+    read sides _ (oaep_holds own_any_of c.in-Ok.value) _ (the_meaning oaep_told _ _ c.in-Ok.ensures.encoding)
 
 pub returns-in-Err : goal.returns-in-Err
 returns-in-Err c =
-    no_value (λ (v : Option (RsaOaepParams Any)). Decodes OaepEncoding c.args.bytes.now (option_map (rsa_oaep_params any) v)) c.none_but_for_memory.result c.none_but_for_memory.ensures
-    (λ other v p. rejected (λ x. TellsOfBytes x.kind) _ _ (error.Asn1 c.in-Err.e) c.in-Err.ensures.encoding other (to v) (means sides v _ p))
+    no_value (λ (v : Option (RsaOaepParams Any)). Decodes OaepEncoding c.args.bytes.now
+    (option_map (rsa_oaep_params any) v)) c.none_but_for_memory.result c.none_but_for_memory.ensures
+    (λ other v p. rejected (λ x. TellsOfBytes x.kind) _ _ (error.Asn1 c.in-Err.e) c.in-Err.ensures.encoding other (to v)
+    (means sides v _ p))

@@ -26,5 +26,8 @@ returns-in-Ok c =
 
 pub returns-in-Err : goal.returns-in-Err
 returns-in-Err c =
-    no_value (λ (v : Option (PrivateKeyOf Uint (Vec (OtherPrimeInfo Uint) Global))). Decodes PrivateKeyEncoding c.args.bytes.now (option_map (rsa_private_key uint) v)) c.none_but_for_memory.result c.none_but_for_memory.ensures
-    (λ other v p. rejected (λ x. TellsOfBytes x.kind) _ _ c.in-Err.e c.in-Err.ensures.err other (key_of v) (means v _ p))
+    no_value (λ (v : Option (PrivateKeyOf Uint (Vec (OtherPrimeInfo Uint) Global))). Decodes PrivateKeyEncoding
+    c.args.bytes.now (option_map (rsa_private_key uint) v)) c.none_but_for_memory.result
+    c.none_but_for_memory.ensures
+    (λ other v p. rejected (λ x. TellsOfBytes x.kind) _ _ c.in-Err.e c.in-Err.ensures.err other (key_of v)
+    (means v _ p))

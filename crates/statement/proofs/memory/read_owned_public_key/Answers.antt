@@ -13,10 +13,15 @@ use Rattle.statement.proofs.memory.read_owned_public_key.Goals as goal
 
 pub returns-in-Ok : goal.returns-in-Ok
 returns-in-Ok c =
-    let key = public_key_with own_bytes_of c.in-Ok.value in
-    (sentence key _ c.in-Ok.ensures.ok.0, λ w p. sym (back w) ∙ ap numbers (c.in-Ok.ensures.ok.1 (key_of w) (means w _ p)))
+    let key = public_key_with own_bytes_of c.in-Ok.value in (
+      sentence key _ c.in-Ok.ensures.ok.0,
+      λ w p. sym (back w)
+          ∙ ap numbers (c.in-Ok.ensures.ok.1 (key_of w) (means w _ p)),
+    )
 
 pub returns-in-Err : goal.returns-in-Err
 returns-in-Err c =
-    no_value (λ (v : Option (RsaPublicKey Uint)). Decodes PublicKeyEncoding c.args.bytes.now (option_map (rsa_public_key uint) v)) c.none_but_for_memory.result c.none_but_for_memory.ensures
-    (λ other v p. rejected (λ x. TellsOfBytes x.kind) _ _ c.in-Err.e c.in-Err.ensures.err other (key_of v) (means v _ p))
+    no_value (λ (v : Option (RsaPublicKey Uint)). Decodes PublicKeyEncoding c.args.bytes.now
+    (option_map (rsa_public_key uint) v)) c.none_but_for_memory.result c.none_but_for_memory.ensures
+    (λ other v p. rejected (λ x. TellsOfBytes x.kind) _ _ c.in-Err.e c.in-Err.ensures.err other (key_of v)
+    (means v _ p))

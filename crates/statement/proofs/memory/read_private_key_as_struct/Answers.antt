@@ -18,7 +18,8 @@ pub returns : goal.returns
 returns c =
     let bytes = c.args.bytes.now in
     let read = c.decode_key.ensures in
-    decoded (rsa_private_key uint_ref) PrivateKeyEncoding bytes c.decode_key.result c.found.result c.found.ensures.ok c.found.ensures.err
+    decoded (rsa_private_key uint_ref) PrivateKeyEncoding bytes c.decode_key.result c.found.result c.found.ensures.ok
+    c.found.ensures.err
     (λ key. IsTheMeaning RsaPrivateKey bytes (private_key_of key))
     read.ok
     (λ key ok. (

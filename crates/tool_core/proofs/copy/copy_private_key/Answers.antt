@@ -8,9 +8,11 @@ pub returns-in_err-try_from-clause-err : goal.returns-in_err-try_from-clause-err
 returns-in_err-try_from-clause-err g c =
     let p = err_from_is_err_and c.from_residual-in_err-try_from.result c.from_residual-in_err-try_from.ensures.1 in
     let reads = c.in_ok-secret.ensures in
-    rw (p.1, p.2) (no_key RsaPrivateKeyFault _ _ _ _ _ _ _ _ _ reads.1 reads.0 (rw c.as_bytes.ensures.encoding at c.in_err-try_from.ensures.exact))
+    rw (p.1, p.2) (no_key RsaPrivateKeyFault _ _ _ _ _ _ _ _ _ reads.1 reads.0
+    (rw c.as_bytes.ensures.encoding at c.in_err-try_from.ensures.exact))
 
 pub returns-in_err-write_to-clause-err : goal.returns-in_err-write_to-clause-err
 returns-in_err-write_to-clause-err g c =
     let p = err_from_is_err_and c.from_residual-in_err-write_to.result c.from_residual-in_err-write_to.ensures.1 in
-    rw (p.1, p.2) (not_written RsaPrivateKey _ _ _ _ _ _ _ _ _ c.in_ok-secret.ensures.0 (_, (rw c.as_bytes.ensures.encoding at c.in_ok-try_from.ensures.ok).0) c.in_err-write_to.ensures)
+    rw (p.1, p.2) (not_written RsaPrivateKey _ _ _ _ _ _ _ _ _ c.in_ok-secret.ensures.0
+    (_, (rw c.as_bytes.ensures.encoding at c.in_ok-try_from.ensures.ok).0) c.in_err-write_to.ensures)

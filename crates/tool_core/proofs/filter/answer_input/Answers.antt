@@ -7,5 +7,6 @@ use Rattle.tool_core.proofs.filter.answer_input.Goals as goal
 pub returns-in-Err-clause-write : goal.returns-in-Err-clause-write
 returns-in-Err-clause-write g c = λ _. (
   SomeFailed-after _ _ _ c.in_ok-answer_lines.ensures.same c.in-Err.ensures.faults,
-  WritesFront-whole _ _ _ _ (lines_of c.args.input.now) [] (sym (append-nil (lines_of c.args.input.now))) c.in_ok-answer_lines.ensures.ok c.in-Err.ensures.bytes,
+  WritesFront-whole _ _ _ _ (lines_of c.args.input.now) [] (sym (append-nil (lines_of c.args.input.now)))
+      c.in_ok-answer_lines.ensures.ok c.in-Err.ensures.bytes,
 )

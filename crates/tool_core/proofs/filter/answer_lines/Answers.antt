@@ -11,7 +11,12 @@ returns-in-Err-clause-write g c = λ _.
     let answer = c.in_ok-answer_line.ensures in
     let more = lines_of c.split_line.result.1.now in (
       (rw c.loop-rest.invariant.faults at c.in-Err.ensures.2),
-      WritesFront-push _ _ _ _ before.0 more line answer.0 (before.1 ∙ ap (λ r. before.0 ++ r) c.split_line.ensures.lines) before.2 answer.1 (front.0, rw (c.as_slice.ensures.value, c.in_ok-push.ensures.items, answer.2, c.clear.ensures.items) at front.1),
+      WritesFront-push _ _ _ _ before.0 more line answer.0
+          (before.1 ∙ ap (λ r. before.0 ++ r) c.split_line.ensures.lines) before.2 answer.1 (
+            front.0,
+            rw (c.as_slice.ensures.value, c.in_ok-push.ensures.items, answer.2, c.clear.ensures.items) at
+                front.1,
+          ),
     )
 
 pub loop-rest-preserved : goal.loop-rest-preserved
@@ -24,7 +29,9 @@ loop-rest-preserved g c =
       answered = (
         before.0 ++ line ∷ [],
         before.1 ∙ ap (λ r. before.0 ++ r) c.split_line.ensures.lines ∙ sym (append_assoc before.0 (line ∷ []) more),
-        Writes-push _ _ _ _ _ _ before.2 answer.1 (rw (c.as_slice.ensures.value, c.in_ok-push.ensures.items, answer.2, c.clear.ensures.items) at c.in-Ok.ensures.0),
+        Writes-push _ _ _ _ _ _ before.2 answer.1
+            (rw (c.as_slice.ensures.value, c.in_ok-push.ensures.items, answer.2, c.clear.ensures.items) at
+            c.in-Ok.ensures.0),
       );
       faults = c.in-Ok.ensures.1 ∙ c.loop-rest.invariant.faults;
     }

@@ -14,7 +14,9 @@ pub returns-clause-front_of_all : goal.returns-clause-front_of_all
 returns-clause-front_of_all g c = λ rejected.
     let all = c.in_ok-input.ensures.all in
     let front = (c.answer_input.ensures.write rejected).1 in
-    Consumes-whole _ _ c.in_ok-input.input.items (λ input. WritesFrontOfAll (g.W.Sink.contents c.args.sink.now) (g.W.Sink.contents c.answer_input.new.sink) (lines_of input))
+    Consumes-whole _ _ c.in_ok-input.input.items
+    (λ input. WritesFrontOfAll (g.W.Sink.contents c.args.sink.now) (g.W.Sink.contents c.answer_input.new.sink)
+    (lines_of input))
     all.0 all.1 (WritesFront-all c.lemma_answers_are_one.ensures.1 _ _ _ (rw c.as_slice.ensures.value at front))
 
 pub returns-clause-one_answer : goal.returns-clause-one_answer

@@ -9,17 +9,24 @@ use Rattle.pkcs1.specs.Keys.{PrivateKey, PublicKey, RsaPrivateKey, RsaPublicKey,
 use Rattle.pkcs1.specs.KeyEncodings.{IsDocumentError, IsOnlyEncoding}
 use Rattle.uses.proofs.bytes.public_half.Goals as goal
 
-of_key : (key : PrivateKey (List ℕ)) (half : PublicKey (List ℕ)) (encoding : List ℕ) → Means RsaPrivateKey encoding key → half ≡ public_part key
-    → (result : Result (DocumentOf Open) Error) → IfOk result (λ document. IsOnlyEncoding RsaPublicKey half (encoding_of document))
-    → IfOk result (λ document. (other : PrivateKey (List ℕ)) × Means RsaPrivateKey encoding other × IsOnlyEncoding RsaPublicKey (public_part other) (encoding_of document))
-of_key key half encoding means is (Ok document) only = (key, means, subst (λ one. IsOnlyEncoding RsaPublicKey one (encoding_of document)) is only)
+of_key : (key : PrivateKey (List ℕ)) (half : PublicKey (List ℕ)) (encoding : List ℕ) → Means RsaPrivateKey encoding key
+    → half ≡ public_part key
+    → (result : Result (DocumentOf Open) Error)
+    → IfOk result (λ document. IsOnlyEncoding RsaPublicKey half (encoding_of document))
+    → IfOk result (λ document. (other : PrivateKey (List ℕ)) × Means RsaPrivateKey encoding other
+    × IsOnlyEncoding RsaPublicKey (public_part other) (encoding_of document))
+of_key key half encoding means is (Ok document) only =
+    (key, means, subst (λ one. IsOnlyEncoding RsaPublicKey one (encoding_of document)) is only)
 of_key key half encoding means is (Err e) only = tt
 
 rejected_after : (Before : Error → Type 0) (key : PrivateKey (List ℕ)) (half : PublicKey (List ℕ)) (encoding : List ℕ)
-    → Means RsaPrivateKey encoding key → half ≡ public_part key → (result : Result (DocumentOf Open) Error) → IfErr result (IsDocumentError RsaPublicKey half)
-    → IfErr result (λ e. Before e ⊎ ((other : PrivateKey (List ℕ)) × Means RsaPrivateKey encoding other × IsDocumentError RsaPublicKey (public_part other) e))
+    → Means RsaPrivateKey encoding key → half ≡ public_part key → (result : Result (DocumentOf Open) Error)
+    → IfErr result (IsDocumentError RsaPublicKey half)
+    → IfErr result (λ e. Before e ⊎ ((other : PrivateKey (List ℕ)) × Means RsaPrivateKey encoding other
+    × IsDocumentError RsaPublicKey (public_part other) e))
 rejected_after Before key half encoding means is (Ok document) why = tt
-rejected_after Before key half encoding means is (Err e) why = inr (key, means, subst (λ one. IsDocumentError RsaPublicKey one e) is why)
+rejected_after Before key half encoding means is (Err e) why =
+    inr (key, means, subst (λ one. IsDocumentError RsaPublicKey one e) is why)
 
 pub returns-clause-ok : goal.returns-clause-ok
 returns-clause-ok c = of_key _ _ _ c.in_ok-key.ensures.ok.0 c.public_key.ensures _ c.to_pkcs1_der.ensures.encoding

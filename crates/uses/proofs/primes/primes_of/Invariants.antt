@@ -10,4 +10,6 @@ prime_of other = other.prime
 
 -- What was pushed, and what is left, are the primes.
 abbrev pub invariant-loop-other : goal.invariant-loop-other
-invariant-loop-other l = map bytes_of l.primes.items ++ map prime_of (others_left l.other-iterator) ≡ map prime_of (listed_others (view_of l.view).other_prime_infos)
+invariant-loop-other l =
+    map bytes_of l.primes.items ++ map prime_of (others_left l.other-iterator)
+    ≡ map prime_of (listed_others (view_of l.view).other_prime_infos)

@@ -16,4 +16,5 @@ returns-in_err-from_der-clause-exact g c =
     rw (p.1, p.2) (inr (no_memory (λ w. w.3.holds) c.in_err-from_der.ensures.exact))
 
 pub invariant_of-result : goal.invariant_of-result
-invariant_of-result g c = record { whole = subst IsDocument (sym c.in_ok-copy_of.ensures.ok) c.in_ok-from_der.ensures.encoding }
+invariant_of-result g c =
+    record { whole = subst IsDocument (sym c.in_ok-copy_of.ensures.ok) c.in_ok-from_der.ensures.encoding }

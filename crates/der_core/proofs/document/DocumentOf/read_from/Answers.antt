@@ -9,7 +9,11 @@ pub returns-in_err-from_der : goal.returns-in_err-from_der
 returns-in_err-from_der g c =
     let p = err_from_is_err_and c.from_residual-in_err-from_der.result c.from_residual-in_err-from_der.ensures.1 in
     let none = no_document _ _ c.in_err-from_der.ensures.encoding in
-    rw (p.1, p.2) (inr (c.in_ok-bytes.ensures.same, none_given _ _ _ _ _ c.as_slice.ensures.value c.in_ok-bytes.ensures.all none.1 (no_memory (λ w. w.3.holds) c.in_err-from_der.ensures.exact)))
+    rw (p.1, p.2) (inr (
+      c.in_ok-bytes.ensures.same,
+      none_given _ _ _ _ _ c.as_slice.ensures.value c.in_ok-bytes.ensures.all none.1
+          (no_memory (λ w. w.3.holds) c.in_err-from_der.ensures.exact),
+    ))
 
 pub invariant_of-result : goal.invariant_of-result
 invariant_of-result g c = record { whole = subst IsDocument c.as_slice.ensures.value c.in_ok-from_der.ensures.encoding }

@@ -8,4 +8,6 @@ returns-clause-err g c =
     let t = g.T.Contents in
     let tag = g.T.FixedTag.TAG.octet in
     let v = t.value c.args.self.now in
-    uncounted (λ w. Tlv tag (t.contents w)) v _ (tlv_shortest tag t.contents t.written_contents t.has_contents g.met.T.EncodeValue.contents_shortest v) _ c.encoding_len.ensures
+    uncounted (λ w. Tlv tag (t.contents w)) v _
+    (tlv_shortest tag t.contents t.written_contents t.has_contents g.met.T.EncodeValue.contents_shortest v) _
+    c.encoding_len.ensures

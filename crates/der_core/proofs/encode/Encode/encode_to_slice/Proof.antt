@@ -1,5 +1,6 @@
 -- `encode_to_slice` lends the slice to `encode_into`, shares it for all of its own lifetime, and answers the front.
-use Rattle.std.proofs.Common.{◌≡◌, ℕ, ◌≤◌, ◌<◌, List, [], ◌∷◌, length, ◌^◌, refl, sym, ap, arith, Result, OnOk, OnErr, IfOk, IfErr, MatchResult, ◌++◌, drop as list-drop}
+use Rattle.std.proofs.Common.{◌≡◌, ℕ, ◌≤◌, ◌<◌, List, [], ◌∷◌, length, ◌^◌, refl, sym, ap, arith, Result, OnOk, OnErr}
+use Rattle.std.proofs.Common.{IfOk, IfErr, MatchResult, ◌++◌, drop as list-drop}
 use Rattle.std.proofs.raw_atomic.Walks.{proved, leaves}
 use mir.Syntax.{a_type, dcons, dnil, named, erased}
 use mir.Val.{Val, vptr}
@@ -7,7 +8,8 @@ use mir.MapTy.{inst_fn}
 use base.Logic.{SProp, emp, id⊢}
 use base.Fraction.{full_share}
 use base.Fml.{Lft, Share, GName, ftrue, flft}
-use types.Kit.{◌∵◌, ‵, raw, ◌⊛◌, some, given, later, ◌$◌, !, qed, by, move, keep, drop, use0, use1, use2, use3, split, split3, join, learn, fsplit, fjoin, pick, await, feq_i, feq_l}
+use types.Kit.{◌∵◌, ‵, raw, ◌⊛◌, some, given, later, ◌$◌, !, qed, by, move, keep, drop, use0, use1, use2, use3, split}
+use types.Kit.{split3, join, learn, fsplit, fjoin, pick, await, feq_i, feq_l}
 use types.Run.{from, addr, stop, fld, hop, no_more, and_then, returns, enter}
 use types.ByLocal.{alloc_all, pass_all, free_all, look_at, look_in_at, get, get_in, sets, lands_as, is}
 use types.Part.{agg, whole, sub}
@@ -63,14 +65,19 @@ abbrev Count : RattleType
 Count = Res.the_row usize ErrorRow
 
 count_laws : Laws Count
-count_laws = result_laws usize ErrorRow (of_field usize-field usize-laws refl (copy_shared usize-field usize-copy)) error_laws
+count_laws =
+    result_laws usize ErrorRow (of_field usize-field usize-laws refl (copy_shared usize-field usize-copy)) error_laws
 
 -- what `front` returns
 abbrev Front : Lft → RattleType
 Front κ = Res.the_row (ShrSlice (named 0) κ u8) ErrorRow
 
 front_laws : (κ : Lft) → Laws (Front κ)
-front_laws κ = let F = shr_slice_field (record { mir = named 0; lft = κ }) u8 tt in result_laws F.row ErrorRow (of_field F (shr_slice_laws (record { mir = named 0; lft = κ }) u8 tt) refl (copy_shared F (shr_slice_copy (record { mir = named 0; lft = κ }) u8 tt byte_laws.shr_laws))) error_laws
+front_laws κ =
+    let F =
+    shr_slice_field (record { mir = named 0; lft = κ }) u8 tt in
+    result_laws F.row ErrorRow (of_field F (shr_slice_laws (record { mir = named 0; lft = κ }) u8 tt) refl
+    (copy_shared F (shr_slice_copy (record { mir = named 0; lft = κ }) u8 tt byte_laws.shr_laws))) error_laws
 
 pub encode_to_slice_spec : {M : Type 1} → statement M
 encode_to_slice_spec 𝓤 𝓛 𝓜 𝓡 wired W L gh d gt dt met of_encoding =
@@ -78,66 +85,131 @@ encode_to_slice_spec 𝓤 𝓛 𝓜 𝓡 wired W L gh d gt dt met of_encoding =
     let En = f.ended W gh d gt dt in let c = f.clauses W gh d gt dt 𝓛 𝓜.mem 𝓡.returns in
     let inst = bounded (a_type ∷ []) (W, tt) (dcons d (dcons dt dnil)) in let fn = inst_fn inst code.function in
     let self = RefOf (0 ∷ []) tt (plain (λ _. R)) (λ _. tt) in
-    let hs : Stays En.signature.params En.kept = (stay_dropped self yes, (stay_dropped (mut_slice_of (1 ∷ []) tt (plain (λ _. u8))) no, tt)) in
-    proved 𝓛 En hs c 𝓜 𝓡 (Goes-dropped 𝓛 3 self yes (λ κs x w. refl), (Goes-spent_slice 𝓛 3 (1 ∷ []) tt (plain (λ _. u8)), tt)) (#self inst) fn (code.unfolded 𝓤 H 𝓜 𝓡 wired (W, tt) d dt)
-    (λ κs. (shr_vals, (mut_slice_vals, tt))) (λ κs. (shr_Tells (named 0) κs.0 R, (mut_slice_Tells (named 1) κs.1.0 u8, tt))) (λ κs qs bounds a _ are.
+    let hs : Stays En.signature.params En.kept =
+    (stay_dropped self yes, (stay_dropped (mut_slice_of (1 ∷ []) tt (plain (λ _. u8))) no, tt)) in
+    proved 𝓛 En hs c 𝓜 𝓡 (
+      Goes-dropped 𝓛 3 self yes (λ κs x w. refl),
+      (Goes-spent_slice 𝓛 3 (1 ∷ []) tt (plain (λ _. u8)), tt),
+    ) (#self inst) fn
+    (code.unfolded 𝓤 H 𝓜 𝓡 wired (W, tt) d dt)
+    (λ κs. (shr_vals, (mut_slice_vals, tt)))
+    (λ κs. (shr_Tells (named 0) κs.0 R, (mut_slice_Tells (named 1) κs.1.0 u8, tt))) (λ κs qs bounds a _ are.
     let κ₀ : Lft = κs.0 in let κ : Lft = κs.1.0 in let κ₂ : Lft = κs.1.1.0 in let q : Share = qs.1.0 in
-    let out : MutBor (List ℕ) = a.1.0 in let b : ℕ = out.ref_ptr.0 in let o : ℕ = out.ref_ptr.1 in let γ : GName = out.ghost_name in let xs : List ℕ = out.now in
+    let out : MutBor (List ℕ) =
+    a.1.0 in let b : ℕ =
+    out.ref_ptr.0 in let o : ℕ = out.ref_ptr.1 in let γ : GName = out.ghost_name in let xs : List ℕ = out.now in
     let rm = are.1.0.0.1 in
-    let y : (walk_of 𝓛 En hs c).Ghost = ((κs, qs, bounds, a, (shr_vals a.0, (mut_slice_vals out, tt))), tt) in let Post : Val → SProp 𝓤 = (walk_of 𝓛 En hs c).post y in
-    qed 𝓛 (((‵ (flft κ₀ qs.0) ⊛ ‵ (flft κ q) ⊛ ‵ (flft κ₂ qs.1.1.0) ⊛ ‵ ftrue) ⊛ (‵ ((ShrRef (named 0) κ₀ R).own_val a.0 (shr_vals a.0)) ⊛ ‵ ((MutSlice (named 1) κ u8).own_val out (mut_slice_vals out)) ⊛ ‵ ftrue)) ∷ (given (κ₂ ⊑ W.lives) (‵ ftrue) ⊛ ‵ ftrue) ∷ []) ∵
-    move ! (1 ∷ []) $ split ! $ learn ! (λ inside. drop ! $ drop ! $ split ! $ split3 ! $ move ! (2 ∷ []) $ split ! $ move ! (4 ∷ []) $ split3 ! $ keep ! (0 ∷ 1 ∷ 5 ∷ 6 ∷ 3 ∷ []) $
+    let y : (walk_of 𝓛 En hs c).Ghost =
+    ((κs, qs, bounds, a, (shr_vals a.0, (mut_slice_vals out, tt))), tt) in
+    let Post : Val → SProp 𝓤 = (walk_of 𝓛 En hs c).post y in
+    qed 𝓛 (((‵ (flft κ₀ qs.0) ⊛ ‵ (flft κ q) ⊛ ‵ (flft κ₂ qs.1.1.0) ⊛ ‵ ftrue)
+    ⊛ (‵ ((ShrRef (named 0) κ₀ R).own_val a.0 (shr_vals a.0))
+    ⊛ ‵ ((MutSlice (named 1) κ u8).own_val out (mut_slice_vals out)) ⊛ ‵ ftrue))
+    ∷ (given (κ₂ ⊑ W.lives) (‵ ftrue) ⊛ ‵ ftrue) ∷ []) ∵
+    move ! (1 ∷ []) $ split ! $ learn !
+    (λ inside. drop ! $ drop ! $ split ! $ split3 ! $ move ! (2 ∷ []) $ split ! $ move ! (4 ∷ []) $ split3 ! $
+    keep ! (0 ∷ 1 ∷ 5 ∷ 6 ∷ 3 ∷ []) $
     -- [self; the slice; the tokens of κ₀, κ and κ₂]
     enter ! 𝓣.C 𝓣.Λ fn (vptr a.0.ref_ptr.0 a.0.ref_ptr.1 ∷ slice_val out.ref_ptr (length xs) ∷ []) Post $
     alloc_all ! (λ l. pass_all ! refl ((tt, tt), ((tt, (tt, (record { fits = rm.0 }, tt))), tt)) $
     sets ! (addr ! (from ! (fld ! refl (hop ! (look_in_at ! 2 (sub ! 0 refl (whole !))) (stop !))))) refl (tt, tt) $
-    sets ! (agg ! (and_then ! (get ! refl) (and_then ! (get_in ! (fld ! refl (stop !)) (sub ! 1 refl (whole !))) (no_more !)))) refl (tt, (tt, (record { fits = rm.0 }, tt))) $
+    sets ! (agg ! (and_then ! (get ! refl)
+    (and_then ! (get_in ! (fld ! refl (stop !)) (sub ! 1 refl (whole !))) (no_more !)))) refl
+    (tt, (tt, (record { fits = rm.0 }, tt))) $
     -- lent to `encode_into`
     lft_new ! tt (λ α. move ! (2 ∷ []) $ fsplit ! $ fsplit ! $ feq_l ! (λ _. fjoin ! $ move ! (0 ∷ 4 ∷ []) $
-    use2 𝓛 (later (some (λ (δ : GName). ‵ ((own.MutSlice erased (α ∷ []) u8).own_val (record out { ghost_name = δ })) ⊛ kept_f 𝓛 u8 κ q (α ∷ []) γ δ xs b o))) (sl_relend 𝓛 u8 κ q (α ∷ []) b o γ xs) $ await ! tt $ pick ! (λ δ. split ! $
+    use2 𝓛 (later (some (λ (δ : GName). ‵ ((own.MutSlice erased (α ∷ []) u8).own_val (record out { ghost_name = δ }))
+    ⊛ kept_f 𝓛 u8 κ q (α ∷ []) γ δ xs b o))) (sl_relend 𝓛 u8 κ q (α ∷ []) b o γ xs) $ await ! tt $
+    pick ! (λ δ. split ! $
     -- [the loan; what is kept; the token of α; self; the tokens of κ₀ and κ₂]
     let lent : MutBor (List ℕ) = record out { ghost_name = δ } in
     let G = triple_of 𝓛 (g.signature W) (g.spec W gh d gt dt 𝓛 𝓜.mem 𝓡.returns) in
-    let z : G.Ghost = (((κ₀, (α ∷ [], (κ₂, tt))), (qs.0, (full_share, (qs.1.1.0, tt))), bounds, (a.0, (lent, tt)), (shr_vals a.0, (mut_slice_vals lent, tt))), tt) in
+    let z : G.Ghost = (
+      (
+        (κ₀, (α ∷ [], (κ₂, tt))),
+        (qs.0, (full_share, (qs.1.1.0, tt))),
+        bounds,
+        (a.0, (lent, tt)),
+        (shr_vals a.0, (mut_slice_vals lent, tt)),
+      ),
+      tt,
+    ) in
     fsplit ! $ feq_i ! (List Val) (mut_slice_vals lent) (mut_slice_vals lent) refl $ fjoin ! $ fjoin ! $
     nothing ! $ use0 𝓛 (raw (fact 𝓤 (κ₂ ⊑ W.lives))) (fact_i 𝓤 (κ₂ ⊑ W.lives) (emp 𝓤) inside) $ join ! $
     nothing ! $ move ! (2 ∷ 0 ∷ []) $ join ! $ move ! (4 ∷ 0 ∷ []) $ join ! $
-    nothing ! $ move ! (6 ∷ 0 ∷ []) $ join ! $ move ! (4 ∷ 0 ∷ []) $ join ! $ move ! (4 ∷ 0 ∷ []) $ join ! $ join ! $ join ! $
+    nothing ! $ move ! (6 ∷ 0 ∷ []) $ join ! $ move ! (4 ∷ 0 ∷ []) $ join ! $ move ! (4 ∷ 0 ∷ []) $ join ! $ join ! $
+    join ! $
     use1 𝓛 (raw (G.pre z)) (id⊢ 𝓤 _) $
-    calls_at ! (framed 𝓤 H 𝓜 𝓣) G (writes 𝓤 𝓛 𝓜 𝓡 (code.calls-der_core::encode::Encode::encode_into 𝓡.env wired) W L gh d gt dt met of_encoding) z (and_then ! (get ! refl) (and_then ! (get ! refl) (no_more !))) (λ v.
-    let value : gt.Value = gt.value a.0.now in let encoding : List ℕ = gt.written_encoding value in let Rejected : Error → Type 0 = λ e. WhyNotWritten (gt.has_encoding value) gt.encoding value (length xs) (encode_error e.kind) in
-    use1 𝓛 (later (some (λ (r : Result ℕ Error). ((‵ (flft κ₀ qs.0) ⊛ ‵ (flft (α ∷ []) full_share) ⊛ ‵ (flft κ₂ qs.1.1.0) ⊛ ‵ ftrue) ⊛ ‵ (Count.own_val r (v ∷ []))) ⊛ some (λ (ws : Unit {0} × (List ℕ × Unit {0})). ‵ (lasts (g.ended W gh d gt dt) z.0.0 z.0.3 ws)
-    ⊛ given (Wrote encoding xs ws.1.0 r) (‵ ftrue) ⊛ given (OnOk r (IsShortest gt.encoding value encoding)) (‵ ftrue) ⊛ given (IfErr r Rejected) (‵ ftrue) ⊛ given (OnErr r (ws.1.0 ≡ xs)) (‵ ftrue))))) (id⊢ 𝓤 _) $
-    await ! tt $ pick ! (λ r. split ! $ split ! $ move ! (1 ∷ []) $ peeks ! Count (Is Count) (shows 𝓛 Count) r (v ∷ []) (λ told.
-    lands_as ! refl refl ((count_laws.lawful 𝓛).typed r (v ∷ []) told).0 $ move ! (2 ∷ []) $ pick ! (λ ws. let ys : List ℕ = ws.1.0 in
-    split ! $ move ! (1 ∷ []) $ split3 ! $ learn ! (λ wrote. drop ! $ learn ! (λ least. drop ! $ split ! $ learn ! (λ rejected. drop ! $ learn ! (λ kept. drop ! $ fsplit ! $ drop ! $ fsplit ! $ fsplit ! $ fsplit ! $
+    calls_at ! (framed 𝓤 H 𝓜 𝓣) G (writes 𝓤 𝓛 𝓜 𝓡 (code.calls-der_core::encode::Encode::encode_into 𝓡.env wired) W L gh
+    d gt dt met of_encoding) z (and_then ! (get ! refl) (and_then ! (get ! refl) (no_more !))) (λ v.
+    let value : gt.Value =
+    gt.value a.0.now in let encoding : List ℕ =
+    gt.written_encoding value in let Rejected : Error → Type 0 =
+    λ e. WhyNotWritten (gt.has_encoding value) gt.encoding value (length xs) (encode_error e.kind) in
+    use1 𝓛 (later (some (λ (r : Result ℕ Error).
+    ((‵ (flft κ₀ qs.0) ⊛ ‵ (flft (α ∷ []) full_share) ⊛ ‵ (flft κ₂ qs.1.1.0) ⊛ ‵ ftrue)
+    ⊛ ‵ (Count.own_val r (v ∷ [])))
+    ⊛ some (λ (ws : Unit {0} × (List ℕ × Unit {0})). ‵ (lasts (g.ended W gh d gt dt) z.0.0 z.0.3 ws)
+    ⊛ given (Wrote encoding xs ws.1.0 r) (‵ ftrue) ⊛ given (OnOk r (IsShortest gt.encoding value encoding)) (‵ ftrue)
+    ⊛ given (IfErr r Rejected) (‵ ftrue) ⊛ given (OnErr r (ws.1.0 ≡ xs)) (‵ ftrue))))) (id⊢ 𝓤 _) $
+    await ! tt $ pick ! (λ r. split ! $ split ! $ move ! (1 ∷ []) $
+    peeks ! Count (Is Count) (shows 𝓛 Count) r (v ∷ []) (λ told.
+    lands_as ! refl refl ((count_laws.lawful 𝓛).typed r (v ∷ []) told).0 $ move ! (2 ∷ []) $
+    pick ! (λ ws. let ys : List ℕ = ws.1.0 in
+    split ! $ move ! (1 ∷ []) $ split3 ! $
+    learn ! (λ wrote. drop ! $ learn !
+    (λ least. drop ! $ split ! $
+    learn ! (λ rejected. drop ! $ learn ! (λ kept. drop ! $ fsplit ! $ drop ! $ fsplit ! $ fsplit ! $ fsplit ! $
     -- [how the loan ends; two facts; nothing; the count; the tokens; what is kept]
     move ! (5 ∷ []) $ split3 ! $ move ! (1 ∷ []) $ lft_end ! tt $ move ! (0 ∷ 8 ∷ 3 ∷ []) $
-    use3 𝓛 (later (given (length ys ≡ length xs) (‵ ((own.MutSlice erased κ u8).own_val (record out { now = ys })) ⊛ ‵ (flft κ q)))) (sl_relent_backˡ 𝓛 u8 κ q (α ∷ []) b o γ δ xs ys) $ await ! tt $ learn ! (λ long. split ! $
+    use3 𝓛 (later (given (length ys ≡ length xs)
+    (‵ ((own.MutSlice erased κ u8).own_val (record out { now = ys })) ⊛ ‵ (flft κ q))))
+    (sl_relent_backˡ 𝓛 u8 κ q (α ∷ []) b o γ δ xs ys) $ await ! tt $ learn ! (λ long. split ! $
     -- shared for all of κ
-    use2 𝓛 (later (‵ ((own.ShrSlice erased κ u8).own_val (record { ref_ptr = (b, o); now = ys })) ⊛ ‵ (finally u8 γ ys) ⊛ ‵ (flft κ q))) (sl_Share 𝓛 u8 b o γ ys byte_laws.shr_laws κ q (Shares-less 𝓛 u8 [] κ (⊑_static κ) (byte_laws.shares 𝓛))) $ await ! tt $ split3 ! $
+    use2 𝓛 (later (‵ ((own.ShrSlice erased κ u8).own_val (record { ref_ptr = (b, o); now = ys })) ⊛ ‵ (finally u8 γ ys)
+    ⊛ ‵ (flft κ q))) (sl_Share 𝓛 u8 b o γ ys byte_laws.shr_laws κ q
+    (Shares-less 𝓛 u8 [] κ (⊑_static κ) (byte_laws.shares 𝓛))) $ await ! tt $ split3 ! $
     -- [the shared slice; how the slice ends; the tokens of κ, κ₀ and κ₂; two facts; nothing; the count]
     sets ! (addr ! (from ! (fld ! refl (hop ! (look_in_at ! 2 (sub ! 0 refl (whole !))) (stop !))))) refl (tt, tt) $
     let room : length ys < 2 ^ 64 = (let room = rm.0 in omega arith) in
-    sets ! (is ! (agg ! (and_then ! (get ! refl) (and_then ! (get_in ! (fld ! refl (stop !)) (sub ! 1 refl (whole !))) (no_more !)))) (ap (slice_val (b, o)) (sym long))) refl (tt, (tt, (record { fits = room }, tt))) $
+    sets ! (is ! (agg ! (and_then ! (get ! refl)
+    (and_then ! (get_in ! (fld ! refl (stop !)) (sub ! 1 refl (whole !))) (no_more !))))
+    (ap (slice_val (b, o)) (sym long))) refl (tt, (tt, (record { fits = room }, tt))) $
     let all : Bor (List ℕ) = record { ref_ptr = (b, o); now = ys } in
     let B = triple_of 𝓛 h.signature (h.spec 𝓛 𝓜.mem 𝓡.returns) in
     let x : B.Ghost = (((κ, tt), (q, tt), tt, (all, (r, tt)), (shr_slice_vals all, (v ∷ [], tt))), tt) in
     fsplit ! $ feq_i ! (List Val) (shr_slice_vals all) (shr_slice_vals all) refl $ fjoin ! $ fjoin ! $
-    nothing ! $ move ! (9 ∷ 0 ∷ []) $ join ! $ move ! (1 ∷ 0 ∷ []) $ join ! $ nothing ! $ move ! (3 ∷ 0 ∷ []) $ join ! $ join ! $
-    use0 𝓛 (raw (fact 𝓤 (IfOk r (λ n. n ≤ length ys)))) (fact_i 𝓤 (IfOk r (λ n. n ≤ length ys)) (emp 𝓤) (fits encoding xs ys r wrote)) $ move ! (1 ∷ 0 ∷ []) $ join ! $
+    nothing ! $ move ! (9 ∷ 0 ∷ []) $ join ! $ move ! (1 ∷ 0 ∷ []) $ join ! $ nothing ! $ move ! (3 ∷ 0 ∷ []) $ join ! $
+    join ! $
+    use0 𝓛 (raw (fact 𝓤 (IfOk r (λ n. n ≤ length ys))))
+    (fact_i 𝓤 (IfOk r (λ n. n ≤ length ys)) (emp 𝓤) (fits encoding xs ys r wrote)) $ move ! (1 ∷ 0 ∷ []) $ join ! $
     use1 𝓛 (raw (B.pre x)) (id⊢ 𝓤 _) $
-    calls_at ! (framed 𝓤 H 𝓜 𝓣) B (answers 𝓤 𝓛 𝓜 𝓡 (code.calls-der_core::encode::front 𝓡.env wired)) x (and_then ! (get ! refl) (and_then ! (get ! refl) (no_more !))) (λ u.
-    use1 𝓛 (later (some (λ (t : Result (Bor (List ℕ)) Error). ((‵ (flft κ q) ⊛ ‵ ftrue) ⊛ ‵ ((Front κ).own_val t (u ∷ []))) ⊛ some (λ (us : Unit {0} × (Unit {0} × Unit {0})). ‵ (lasts h.ended x.0.0 x.0.3 us) ⊛ given (IsFront ys r t) (‵ ftrue))))) (id⊢ 𝓤 _) $
-    await ! tt $ pick ! (λ t. split ! $ split ! $ move ! (1 ∷ []) $ peeks ! (Front κ) (Is (Front κ)) (shows 𝓛 (Front κ)) t (u ∷ []) (λ told'.
-    lands_as ! refl refl (((front_laws κ).lawful 𝓛).typed t (u ∷ []) told').0 $ move ! (2 ∷ []) $ pick ! (λ us. split ! $ move ! (1 ∷ []) $ learn ! (λ answered. drop ! $ drop ! $
+    calls_at ! (framed 𝓤 H 𝓜 𝓣) B (answers 𝓤 𝓛 𝓜 𝓡 (code.calls-der_core::encode::front 𝓡.env wired)) x
+    (and_then ! (get ! refl) (and_then ! (get ! refl) (no_more !))) (λ u.
+    use1 𝓛 (later (some (λ (t : Result (Bor (List ℕ)) Error).
+    ((‵ (flft κ q) ⊛ ‵ ftrue) ⊛ ‵ ((Front κ).own_val t (u ∷ [])))
+    ⊛ some (λ (us : Unit {0} × (Unit {0} × Unit {0})). ‵ (lasts h.ended x.0.0 x.0.3 us)
+    ⊛ given (IsFront ys r t) (‵ ftrue))))) (id⊢ 𝓤 _) $
+    await ! tt $ pick ! (λ t. split ! $ split ! $ move ! (1 ∷ []) $
+    peeks ! (Front κ) (Is (Front κ)) (shows 𝓛 (Front κ)) t (u ∷ []) (λ told'.
+    lands_as ! refl refl (((front_laws κ).lawful 𝓛).typed t (u ∷ []) told').0 $ move ! (2 ∷ []) $
+    pick ! (λ us. split ! $ move ! (1 ∷ []) $ learn ! (λ answered. drop ! $ drop ! $
     -- [the answer; the token of κ; how the slice ends; the tokens of κ₀ and κ₂; ..]
     returns ! (look_at ! 0 refl) $ free_all ! refl $
-    move ! (1 ∷ []) $ split ! $ keep ! (0 ∷ 2 ∷ 3 ∷ 4 ∷ 5 ∷ []) $ move ! (0 ∷ 4 ∷ []) $ join ! $ move ! (3 ∷ 0 ∷ []) $ join ! $ move ! (2 ∷ []) $
-    let F₁ : Type 0 = IfOk t (λ front. front.now ≡ encoding) in let F₂ : Type 0 = IfOk t (λ front. IsShortest gt.encoding value front.now) in let F₃ : Type 0 = IfErr t Rejected in
-    use1 𝓛 (‵ (LeavesRest out encoding t)) (rests 𝓛 out ys (λ end. MatchResult t (λ _. end ≡ encoding ++ list-drop (length encoding) xs) (λ _. end ≡ xs)) (leaves_rest encoding xs ys r t wrote kept answered)) $
+    move ! (1 ∷ []) $ split ! $ keep ! (0 ∷ 2 ∷ 3 ∷ 4 ∷ 5 ∷ []) $ move ! (0 ∷ 4 ∷ []) $ join ! $ move ! (3 ∷ 0 ∷ []) $
+    join ! $ move ! (2 ∷ []) $
+    let F₁ : Type 0 =
+    IfOk t (λ front. front.now ≡ encoding) in let F₂ : Type 0 =
+    IfOk t (λ front. IsShortest gt.encoding value front.now) in let F₃ : Type 0 = IfErr t Rejected in
+    use1 𝓛 (‵ (LeavesRest out encoding t))
+    (rests 𝓛 out ys (λ end. MatchResult t (λ _. end ≡ encoding ++ list-drop (length encoding) xs) (λ _. end ≡ xs))
+    (leaves_rest encoding xs ys r t wrote kept answered)) $
     use0 𝓛 (raw (fact 𝓤 F₃)) (fact_i 𝓤 F₃ (emp 𝓤) (on_error ys Rejected r t rejected answered)) $
-    use0 𝓛 (raw (fact 𝓤 F₂)) (fact_i 𝓤 F₂ (emp 𝓤) (on_front encoding xs ys (IsShortest gt.encoding value encoding) (λ x. IsShortest gt.encoding value x) (λ k. k) r t wrote least answered)) $ join ! $
-    use0 𝓛 (raw (fact 𝓤 F₁)) (fact_i 𝓤 F₁ (emp 𝓤) (on_front encoding xs ys (IsShortest gt.encoding value encoding) (λ x. x ≡ encoding) (λ _. refl) r t wrote least answered)) $ join ! $ move ! (1 ∷ 0 ∷ []) $ join ! $
+    use0 𝓛 (raw (fact 𝓤 F₂)) (fact_i 𝓤 F₂ (emp 𝓤)
+    (on_front encoding xs ys (IsShortest gt.encoding value encoding) (λ x. IsShortest gt.encoding value x) (λ k. k)
+    r t wrote least answered)) $ join ! $
+    use0 𝓛 (raw (fact 𝓤 F₁)) (fact_i 𝓤 F₁ (emp 𝓤)
+    (on_front encoding xs ys (IsShortest gt.encoding value encoding) (λ x. x ≡ encoding) (λ _. refl) r t wrote least
+    answered)) $ join ! $ move ! (1 ∷ 0 ∷ []) $ join ! $
     nothing ! $ nothing ! $ fjoin ! $ nothing ! $ fjoin ! $ move ! (2 ∷ 0 ∷ 3 ∷ 1 ∷ []) $
     by ! (leaves 𝓛 En hs c y u t (tt, (tt, tt)) (tt, (tt, tt)))))))))))))))))))))))

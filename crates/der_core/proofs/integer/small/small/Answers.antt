@@ -4,4 +4,6 @@ use Rattle.der_core.proofs.integer.small.small.Goals as goal
 
 pub returns-then-bytes-gt1 : goal.returns-then-bytes-gt1
 returns-then-bytes-gt1 c =
-    is_large c.args.contents.now c.in_ok-number.number.bytes.now c.new.result.kind _ c.in_ok-number.ensures c.in_ok-number.number.canonical (rw c.as_bytes-bytes.ensures.number at c.if-bytes-gt1.true) (ap (λ e. e.kind) c.new.ensures) refl
+    is_large c.args.contents.now c.in_ok-number.number.bytes.now c.new.result.kind _ c.in_ok-number.ensures
+    c.in_ok-number.number.canonical (rw c.as_bytes-bytes.ensures.number at c.if-bytes-gt1.true)
+    (ap (λ e. e.kind) c.new.ensures) refl

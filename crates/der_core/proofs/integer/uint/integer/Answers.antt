@@ -5,13 +5,16 @@ use Rattle.der_core.proofs.IntegerFaults.{is_empty, is_negative, is_padded}
 use Rattle.der_core.proofs.integer.uint.integer.Goals as goal
 
 pub invariant_of-result-clause-canonical : goal.invariant_of-result-clause-canonical
-invariant_of-result-clause-canonical c = tail_holds _ c.in-0.len_at_least c.if-second-lt128.false (λ i. omega (arith, c.type_inv.contents i))
+invariant_of-result-clause-canonical c =
+    tail_holds _ c.in-0.len_at_least c.if-second-lt128.false (λ i. omega (arith, c.type_inv.contents i))
 
 pub returns-in-len1-up : goal.returns-in-len1-up
-returns-in-len1-up c = is_negative _ _ _ c.in-len1-up.len_at_least c.if-first-ge128.true (ap (λ e. e.kind) c.new-in-len1-up.ensures) refl
+returns-in-len1-up c =
+    is_negative _ _ _ c.in-len1-up.len_at_least c.if-first-ge128.true (ap (λ e. e.kind) c.new-in-len1-up.ensures) refl
 
 pub returns-in-0 : goal.returns-in-0
-returns-in-0 c = is_padded _ _ _ c.in-0.len_at_least (omega arith) c.if-second-lt128.true (ap (λ e. e.kind) c.new-in-0.ensures) refl
+returns-in-0 c =
+    is_padded _ _ _ c.in-0.len_at_least (omega arith) c.if-second-lt128.true (ap (λ e. e.kind) c.new-in-0.ensures) refl
 
 pub returns-then-is_empty : goal.returns-then-is_empty
 returns-then-is_empty c =

@@ -13,19 +13,25 @@ returns-clause-counts g c =
     let key = private_key_with t.value c.args.self.now in
     let value : Borrowed g.row.U.Denot → t.Value = λ n. t.value n.0.now in
     let same = version_number t.value _ _ c.version.ensures in
-    let some : ListsNone c.args.self.now.other_prime_infos → ⊥ = λ none. let yes : c.lists_none.result ≡ true = c.lists_none.ensures.1 none in let no = c.if-lists_none.false in cc in
+    let some : ListsNone c.args.self.now.other_prime_infos → ⊥ =
+    λ none. let yes : c.lists_none.result ≡ true =
+    c.lists_none.ensures.1 none in let no = c.if-lists_none.false in cc in
     counts_as _ _
-    (λ h. parts_have value t.has_encoding t.written_encoding key _ _ same c.numbers.ensures (some_have t.value t.has_encoding _ some h.1.1) h)
+    (λ h. parts_have value t.has_encoding t.written_encoding key _ _ same c.numbers.ensures
+    (some_have t.value t.has_encoding _ some h.1.1) h)
     (have_parts value t.has_encoding t.written_encoding key _ _ same c.numbers.ensures)
     (parts_written value t.has_encoding t.written_encoding key _ _ same c.numbers.ensures) _ c.part_len.ensures
 
 pub returns-then-lists_none-clause-counts : goal.returns-then-lists_none-clause-counts
 returns-then-lists_none-clause-counts g c =
     let none : ListsNone c.args.self.now.other_prime_infos = c.lists_none.ensures.0 c.if-lists_none.true in
-    rw c.new.ensures (λ h. none_has g.U.Encoding.value g.U.Encoding.has_encoding c.args.self.now.other_prime_infos none h.1.1)
+    rw c.new.ensures (λ h. none_has g.U.Encoding.value g.U.Encoding.has_encoding c.args.self.now.other_prime_infos none
+    h.1.1)
 
 pub returns-then-lists_none-clause-no_primes : goal.returns-then-lists_none-clause-no_primes
-returns-then-lists_none-clause-no_primes g c = λ none. ap (λ e. e.kind) c.new.ensures ∙ ap kind.Value (same_tag _ _ refl)
+returns-then-lists_none-clause-no_primes g c =
+    λ none. ap (λ e. e.kind) c.new.ensures ∙ ap kind.Value (same_tag _ _ refl)
 
 pub returns-clause-no_primes : goal.returns-clause-no_primes
-returns-clause-no_primes g c = λ none. let yes : c.lists_none.result ≡ true = c.lists_none.ensures.1 none in let no = c.if-lists_none.false in cc
+returns-clause-no_primes g c =
+    λ none. let yes : c.lists_none.result ≡ true = c.lists_none.ensures.1 none in let no = c.if-lists_none.false in cc

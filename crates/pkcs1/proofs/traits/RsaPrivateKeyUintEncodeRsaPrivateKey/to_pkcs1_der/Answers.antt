@@ -5,7 +5,9 @@ use Rattle.pkcs1.proofs.NotWritten.{document_only, unwritten_held}
 use Rattle.pkcs1.proofs.traits.RsaPrivateKeyUintEncodeRsaPrivateKey.to_pkcs1_der.Goals as goal
 
 pub returns-clause-encoding : goal.returns-clause-encoding
-returns-clause-encoding c = document_only (private_key_with own_bytes_of c.args.self.now) c.to_document.result c.to_document.ensures.shortest
+returns-clause-encoding c =
+    document_only (private_key_with own_bytes_of c.args.self.now) c.to_document.result c.to_document.ensures.shortest
 
 pub returns-clause-err : goal.returns-clause-err
-returns-clause-err c = unwritten_held own_bytes_of own_held c.args.self.now c.to_document.result c.to_document.ensures.err
+returns-clause-err c =
+    unwritten_held own_bytes_of own_held c.args.self.now c.to_document.result c.to_document.ensures.err

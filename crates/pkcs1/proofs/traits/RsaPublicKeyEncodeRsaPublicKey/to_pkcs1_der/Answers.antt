@@ -18,4 +18,5 @@ returns-in_err-encode_msg-clause-err g c =
     let n = c.as_key_ref.result.modulus in
     let e = c.as_key_ref.result.public_exponent in
     let some = public_made key (holds_canonical _ n.canonical) (holds_canonical _ e.canonical) n.bounded e.bounded in
-    rw (← c.as_key_ref.ensures, p.1, p.2) (unwritten_as RsaPublicKey key (λ _. some) _ (public_written key) _ c.in_err-encode_msg.ensures)
+    rw (← c.as_key_ref.ensures, p.1, p.2)
+    (unwritten_as RsaPublicKey key (λ _. some) _ (public_written key) _ c.in_err-encode_msg.ensures)

@@ -14,5 +14,13 @@ returns-in_err-number g c =
 
 pub returns-in-Err : goal.returns-in-Err
 returns-in-Err g c =
-    let r = c.in_ok-number.ensures in
-    (c.error.ensures.failed, λ all is. inr (inr (c.in_ok-number.number, rw (some_same all r.0 (sym is ∙ r.1)) r.3, omega (arith, c.in-Err.ensures.1), c.error.ensures.value ∙ ap kind.Value (same_tag _ integer refl))))
+    let r = c.in_ok-number.ensures in (
+      c.error.ensures.failed,
+      λ all is. inr
+          (inr (
+            c.in_ok-number.number,
+            rw (some_same all r.0 (sym is ∙ r.1)) r.3,
+            omega (arith, c.in-Err.ensures.1),
+            c.error.ensures.value ∙ ap kind.Value (same_tag _ integer refl),
+          )),
+    )

@@ -8,14 +8,20 @@ use Rattle.pkcs1_params.proofs.algorithm.AnyFromAlgorithm.from_algorithm.Goals a
 
 pub returns-in_err-from_any-in-Some-clause-exact : goal.returns-in_err-from_any-in-Some-clause-exact
 returns-in_err-from_any-in-Some-clause-exact g c =
-    let p = err_from_is_err_and c.from_residual-in_err-from_any-in-Some.result c.from_residual-in_err-from_any-in-Some.ensures.1 in
-    rw (p.1, p.2) (fault_identified (c.in_ok-assert_algorithm_oid.ensures.ok.1 ∙ c.of.ensures) (ap (option_map any_of) c.in-Some.is) g.T.AlgorithmParams.fault _ c.in_err-from_any-in-Some.ensures.exact)
+    let p =
+    err_from_is_err_and c.from_residual-in_err-from_any-in-Some.result
+    c.from_residual-in_err-from_any-in-Some.ensures.1 in
+    rw (p.1, p.2) (fault_identified (c.in_ok-assert_algorithm_oid.ensures.ok.1 ∙ c.of.ensures)
+    (ap (option_map any_of) c.in-Some.is) g.T.AlgorithmParams.fault _ c.in_err-from_any-in-Some.ensures.exact)
 
 pub returns-in_ok-from_any-in-Some-clause-ok : goal.returns-in_ok-from_any-in-Some-clause-ok
 returns-in_ok-from_any-in-Some-clause-ok g c =
     let t = g.T.AlgorithmParams in
-    only_identified (c.in_ok-assert_algorithm_oid.ensures.ok.1 ∙ c.of.ensures) (ap (option_map any_of) c.in-Some.is) (FieldContents t.values) t.fields_mean_one _ c.in_ok-from_any-in-Some.ensures.ok
+    only_identified (c.in_ok-assert_algorithm_oid.ensures.ok.1 ∙ c.of.ensures) (ap (option_map any_of) c.in-Some.is)
+    (FieldContents t.values) t.fields_mean_one _ c.in_ok-from_any-in-Some.ensures.ok
 
 pub returns-in_ok-from_any-in-Some-clause-exact : goal.returns-in_ok-from_any-in-Some-clause-exact
 returns-in_ok-from_any-in-Some-clause-exact g c kind fault =
-    c.in_ok-from_any-in-Some.ensures.exact kind (faulty_here (c.in_ok-assert_algorithm_oid.ensures.ok.1 ∙ c.of.ensures) (ap (option_map any_of) c.in-Some.is) g.T.AlgorithmParams.fault kind fault)
+    c.in_ok-from_any-in-Some.ensures.exact kind
+    (faulty_here (c.in_ok-assert_algorithm_oid.ensures.ok.1 ∙ c.of.ensures) (ap (option_map any_of) c.in-Some.is)
+    g.T.AlgorithmParams.fault kind fault)

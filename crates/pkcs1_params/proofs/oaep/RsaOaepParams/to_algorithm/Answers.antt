@@ -5,7 +5,9 @@ use Rattle.pkcs1_params.specs.Parts.{oaep_values, HasFields}
 use Rattle.pkcs1_params.proofs.oaep.RsaOaepParams.to_algorithm.Goals as goal
 
 pub with_identifier-requires-clause-has : goal.with_identifier-requires-clause-has
-with_identifier-requires-clause-has g c = subst (λ p. HasFields (oaep_values p) 0) (sym c.keep.ensures) (c.lemma_is_held.ensures 0).0
+with_identifier-requires-clause-has g c =
+    subst (λ p. HasFields (oaep_values p) 0) (sym c.keep.ensures) (c.lemma_is_held.ensures 0).0
 
 pub returns-clause-some : goal.returns-clause-some
-returns-clause-some g c = subst (λ p. HasEncoding RsaOaepAlgorithm p) (c.keep.ensures ∙ c.as_view-view.ensures) c.with_identifier.ensures.some
+returns-clause-some g c =
+    subst (λ p. HasEncoding RsaOaepAlgorithm p) (c.keep.ensures ∙ c.as_view-view.ensures) c.with_identifier.ensures.some

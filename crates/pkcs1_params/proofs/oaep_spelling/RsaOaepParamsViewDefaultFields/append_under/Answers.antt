@@ -8,7 +8,10 @@ pub append-requires-clause-has : goal.append-requires-clause-has
 append-requires-clause-has g c = subst (λ vs. HasFields vs c.args.mask) (sym c.fields.ensures) c.requires.has
 
 pub append-requires-clause-fits : goal.append-requires-clause-fits
-append-requires-clause-fits g c = subst (λ vs. length (written_fields vs c.args.mask) ≤ limit) (sym c.fields.ensures) c.requires.fits
+append-requires-clause-fits g c =
+    subst (λ vs. length (written_fields vs c.args.mask) ≤ limit) (sym c.fields.ensures) c.requires.fits
 
 pub returns-clause-appends : goal.returns-clause-appends
-returns-clause-appends g c = appends_for (λ vs. HasFields vs c.args.mask) (λ vs. written_fields vs c.args.mask) _ _ c.fields.ensures c.append.ensures.appends
+returns-clause-appends g c =
+    appends_for (λ vs. HasFields vs c.args.mask) (λ vs. written_fields vs c.args.mask) _ _ c.fields.ensures
+    c.append.ensures.appends

@@ -5,5 +5,7 @@ use Rattle.pkcs1_params.proofs.oaep_spelling.RsaOaepParamsViewDefaultFields.lemm
 
 pub returns : goal.returns
 returns c = λ mask.
-    let held = subst (λ vs. HasFields vs mask × (length (written_fields vs mask) ≤ length vs * (limit + 846))) c.fields.ensures (c.lemma_are_held.ensures mask) in
+    let held =
+    subst (λ vs. HasFields vs mask × (length (written_fields vs mask) ≤ length vs * (limit + 846))) c.fields.ensures
+    (c.lemma_are_held.ensures mask) in
     (held.0, omega (arith, held.1))

@@ -11,20 +11,30 @@ pub returns-in_err-params-clause-exact : goal.returns-in_err-params-clause-exact
 returns-in_err-params-clause-exact c =
     let p = err_from_is_err_and c.from_residual.result c.from_residual.ensures.1 in
     let e = c.in_err-params.ensures in
-    rw (p.1, p.2) (asn1_as (λ a. fault_before RsaOaepParams RsaOaepParamsFault c.args.bytes.now (λ k v. NamesDefault (oaep_fields v) k c.args.bytes.now) e.err a.kind) _ e.exact)
+    rw (p.1, p.2) (asn1_as (λ a. fault_before RsaOaepParams RsaOaepParamsFault c.args.bytes.now
+    (λ k v. NamesDefault (oaep_fields v) k c.args.bytes.now) e.err a.kind) _ e.exact)
 
 pub returns-in_err-reject_defaults-clause-err : goal.returns-in_err-reject_defaults-clause-err
 returns-in_err-reject_defaults-clause-err c =
-    let p = err_from_is_err_and c.from_residual-in_err-reject_defaults.result c.from_residual-in_err-reject_defaults.ensures.1 in
-    rw p.1 (λ other s. let same = c.in_ok-params.ensures.ok.1 other s.spells in c.in_err-reject_defaults.ensures.err (rw same at s))
+    let p =
+    err_from_is_err_and c.from_residual-in_err-reject_defaults.result
+    c.from_residual-in_err-reject_defaults.ensures.1 in
+    rw p.1 (λ other s. let same = c.in_ok-params.ensures.ok.1 other s.spells in
+    c.in_err-reject_defaults.ensures.err (rw same at s))
 
 pub returns-in_err-reject_defaults-clause-exact : goal.returns-in_err-reject_defaults-clause-exact
 returns-in_err-reject_defaults-clause-exact c =
-    let p = err_from_is_err_and c.from_residual-in_err-reject_defaults.result c.from_residual-in_err-reject_defaults.ensures.1 in
+    let p =
+    err_from_is_err_and c.from_residual-in_err-reject_defaults.result
+    c.from_residual-in_err-reject_defaults.ensures.1 in
     let r = c.in_ok-params.ensures in
-    rw (p.1, p.2) (errs_behind RsaOaepParams RsaOaepParamsFault c.args.bytes.now (λ k v. NamesDefault (oaep_fields v) k c.args.bytes.now) _ r.ok r.exact {X = Unit {0}} (Err _) c.in_err-reject_defaults.ensures.exact)
+    rw (p.1, p.2) (errs_behind RsaOaepParams RsaOaepParamsFault c.args.bytes.now
+    (λ k v. NamesDefault (oaep_fields v) k c.args.bytes.now) _ r.ok r.exact {X = Unit {0}} (Err _)
+    c.in_err-reject_defaults.ensures.exact)
 
 pub returns-clause-exact : goal.returns-clause-exact
 returns-clause-exact c =
     let r = c.in_ok-params.ensures in
-    errs_behind RsaOaepParams RsaOaepParamsFault c.args.bytes.now (λ k v. NamesDefault (oaep_fields v) k c.args.bytes.now) _ r.ok r.exact {X = Unit {0}} (Ok tt) c.in_ok-reject_defaults.ensures.exact
+    errs_behind RsaOaepParams RsaOaepParamsFault c.args.bytes.now
+    (λ k v. NamesDefault (oaep_fields v) k c.args.bytes.now) _ r.ok r.exact {X = Unit {0}} (Ok tt)
+    c.in_ok-reject_defaults.ensures.exact

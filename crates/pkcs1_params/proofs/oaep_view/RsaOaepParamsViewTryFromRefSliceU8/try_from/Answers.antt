@@ -8,11 +8,13 @@ use Rattle.pkcs1_params.proofs.oaep_view.RsaOaepParamsViewTryFromRefSliceU8.try_
 
 pub returns-then-is_empty_sequence-clause-ok : goal.returns-then-is_empty_sequence-clause-ok
 returns-then-is_empty_sequence-clause-ok c =
-    the_meaning oaep_told _ _ (oaep_by_default _ _ (c.is_empty_sequence.ensures c.if-is_empty_sequence.true) c.default.ensures)
+    the_meaning oaep_told _ _ (oaep_by_default _ _ (c.is_empty_sequence.ensures c.if-is_empty_sequence.true)
+    c.default.ensures)
 
 pub returns-then-is_empty_sequence-clause-exact : goal.returns-then-is_empty_sequence-clause-exact
 returns-then-is_empty_sequence-clause-exact c kind fault =
-    oaep_told.none kind _ fault _ (oaep_by_default _ _ (c.is_empty_sequence.ensures c.if-is_empty_sequence.true) c.default.ensures)
+    oaep_told.none kind _ fault _ (oaep_by_default _ _ (c.is_empty_sequence.ensures c.if-is_empty_sequence.true)
+    c.default.ensures)
 
 pub returns-clause-ok : goal.returns-clause-ok
 returns-clause-ok c = the_meaning oaep_told _ _ c.in_ok-params.ensures.encoding

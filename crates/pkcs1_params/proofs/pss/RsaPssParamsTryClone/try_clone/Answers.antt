@@ -8,6 +8,10 @@ returns-clause-ok g c =
     let p = c.args.self.now in
     let any = g.P.AnyValue.any in
     let carried = any_carried g.met.P.AnyValue.holds in
-    let hash : algorithm_with any c.in_ok-try_clone.field-0 ≡ algorithm_with any p.hash = same_carried (algorithm_carried carried) c.in_ok-try_clone.field-0 p.hash c.in_ok-try_clone.ensures.ok in
-    let mask_gen : algorithm_with (algorithm_with any) c.in_ok-try_clone-2.field-0 ≡ algorithm_with (algorithm_with any) p.mask_gen = same_carried (algorithm_carried (algorithm_carried carried)) c.in_ok-try_clone-2.field-0 p.mask_gen c.in_ok-try_clone-2.ensures.ok in
+    let hash : algorithm_with any c.in_ok-try_clone.field-0 ≡ algorithm_with any p.hash =
+    same_carried (algorithm_carried carried) c.in_ok-try_clone.field-0 p.hash c.in_ok-try_clone.ensures.ok in
+    let mask_gen : algorithm_with (algorithm_with any) c.in_ok-try_clone-2.field-0
+    ≡ algorithm_with (algorithm_with any) p.mask_gen =
+    same_carried (algorithm_carried (algorithm_carried carried)) c.in_ok-try_clone-2.field-0 p.mask_gen
+    c.in_ok-try_clone-2.ensures.ok in
     λ i. record { hash = hash i; mask_gen = mask_gen i; salt_len = p.salt_len; trailer_field = 1 }

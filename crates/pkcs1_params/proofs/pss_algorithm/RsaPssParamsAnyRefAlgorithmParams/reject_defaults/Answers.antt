@@ -5,4 +5,6 @@ use Rattle.spki_core.specs.StrictFields.{NamesDefault}
 use Rattle.pkcs1_params.proofs.pss_algorithm.RsaPssParamsAnyRefAlgorithmParams.reject_defaults.Goals as goal
 
 pub returns-clause-exact : goal.returns-clause-exact
-returns-clause-exact c = subst (λ p. ErrsExactly (NamesDefault (pss_fields p)) c.args.encoding.now c.reject_defaults.result) c.as_view.ensures c.reject_defaults.ensures.exact
+returns-clause-exact c =
+    subst (λ p. ErrsExactly (NamesDefault (pss_fields p)) c.args.encoding.now c.reject_defaults.result)
+    c.as_view.ensures c.reject_defaults.ensures.exact

@@ -8,10 +8,15 @@ pub prepend-requires-clause-has : goal.prepend-requires-clause-has
 prepend-requires-clause-has c = subst (λ vs. HasFields vs c.args.mask) (sym c.fields.ensures) c.requires.has
 
 pub prepend-requires-clause-fits : goal.prepend-requires-clause-fits
-prepend-requires-clause-fits c = subst (λ vs. length (written_fields vs c.args.mask) ≤ limit) (sym c.fields.ensures) c.requires.fits
+prepend-requires-clause-fits c =
+    subst (λ vs. length (written_fields vs c.args.mask) ≤ limit) (sym c.fields.ensures) c.requires.fits
 
 pub prepend-requires-clause-room : goal.prepend-requires-clause-room
-prepend-requires-clause-room c = subst (λ vs. length (written_fields vs c.args.mask) ≤ free_of c.args.writer.now) (sym c.fields.ensures) c.requires.room
+prepend-requires-clause-room c =
+    subst (λ vs. length (written_fields vs c.args.mask) ≤ free_of c.args.writer.now) (sym c.fields.ensures)
+    c.requires.room
 
 pub returns : goal.returns
-returns c = subst (λ vs. Prepends (written_fields vs c.args.mask) c.args.writer.now c.prepend.new.writer) c.fields.ensures c.prepend.ensures
+returns c =
+    subst (λ vs. Prepends (written_fields vs c.args.mask) c.args.writer.now c.prepend.new.writer) c.fields.ensures
+    c.prepend.ensures

@@ -10,7 +10,8 @@ use Rattle.spki_core.specs.AlgorithmIdentifier.{PlainAlgorithm, MaskAlgorithm}
 use Rattle.spki_core.specs.Allocating.{AlgorithmAllocates}
 use Rattle.spki_core.specs.Any.{Any}
 use Rattle.spki_core.specs.Faults.{AnyFault, FieldThenFault}
-use Rattle.pkcs1_params.specs.ParameterFaults.{tag_0, tag_1, tag_2, tag_3, PlainFault, HashFault, MaskFault, SaltFault, TrailerFault, TrailerFieldFault}
+use Rattle.pkcs1_params.specs.ParameterFaults.{tag_0, tag_1, tag_2, tag_3, PlainFault, HashFault, MaskFault, SaltFault}
+use Rattle.pkcs1_params.specs.ParameterFaults.{TrailerFault, TrailerFieldFault}
 use Rattle.pkcs1_params.specs.Parameters.{sha1, mgf1_sha1, TrailerField}
 use Rattle.pkcs1_params.proofs.HashFieldsReads.{gives_at, both_read}
 use Rattle.pkcs1_params.proofs.PssReads.{pss_gives, numbers_ask, salt_read, trailer_read}
@@ -20,43 +21,98 @@ pub returns-in_err-hash : goal.returns-in_err-hash
 returns-in_err-hash g c =
     let p = err_from_is_err_and c.from_residual.result c.from_residual.ensures.1 in
     rw (p.1, p.2)
-    (field_faults 0 PlainAlgorithm sha1 (FieldThenFault 1 MaskAlgorithm mgf1_sha1 (MaskFault Any AnyFault) (FieldThenFault 2 Small 20 SaltFault (FieldThenFault 3 TrailerField 1 TrailerFieldFault EndFault))) (AlgorithmAllocates (λ _. ⊥)) _ tag_0 (AloneFault PlainAlgorithm (PlainFault Any AnyFault)) refl c.new.result.value c.new.ensures _ _ _ c.in_err-hash.ensures)
+    (field_faults 0 PlainAlgorithm sha1
+    (FieldThenFault 1 MaskAlgorithm mgf1_sha1 (MaskFault Any AnyFault)
+    (FieldThenFault 2 Small 20 SaltFault (FieldThenFault 3 TrailerField 1 TrailerFieldFault EndFault)))
+    (AlgorithmAllocates (λ _. ⊥)) _ tag_0 (AloneFault PlainAlgorithm (PlainFault Any AnyFault)) refl
+    c.new.result.value c.new.ensures _ _ _ c.in_err-hash.ensures)
 
 pub returns-in_err-mask_gen : goal.returns-in_err-mask_gen
 returns-in_err-mask_gen g c =
     let p = err_from_is_err_and c.from_residual-in_err-mask_gen.result c.from_residual-in_err-mask_gen.ensures.1 in
     rw (p.1, p.2)
-    (fields_faults 0 PlainAlgorithm sha1 (HashFault Any AnyFault) (FieldThenFault 1 MaskAlgorithm mgf1_sha1 (MaskFault Any AnyFault) (FieldThenFault 2 Small 20 SaltFault (FieldThenFault 3 TrailerField 1 TrailerFieldFault EndFault))) (AlgorithmAllocates (λ _. ⊥)) _ (λ _ w. w) _ _ _ _ _ (gives_at PlainAlgorithm sha1 _ c.sha1_view.ensures c.new.result.value 0 c.new.ensures _ _ _ c.in_ok-hash.ensures)
-    (field_faults 1 MaskAlgorithm mgf1_sha1 (FieldThenFault 2 Small 20 SaltFault (FieldThenFault 3 TrailerField 1 TrailerFieldFault EndFault)) (AlgorithmAllocates (AlgorithmAllocates (λ _. ⊥))) _ tag_1 (AloneFault MaskAlgorithm (PlainFault PlainAlgorithm (PlainFault Any AnyFault))) refl c.new-2.result.value c.new-2.ensures _ _ _ c.in_err-mask_gen.ensures))
+    (fields_faults 0 PlainAlgorithm sha1 (HashFault Any AnyFault)
+    (FieldThenFault 1 MaskAlgorithm mgf1_sha1 (MaskFault Any AnyFault)
+    (FieldThenFault 2 Small 20 SaltFault (FieldThenFault 3 TrailerField 1 TrailerFieldFault EndFault)))
+    (AlgorithmAllocates (λ _. ⊥)) _ (λ _ w. w) _ _ _ _ _
+    (gives_at PlainAlgorithm sha1 _ c.sha1_view.ensures c.new.result.value 0 c.new.ensures _ _ _
+    c.in_ok-hash.ensures)
+    (field_faults 1 MaskAlgorithm mgf1_sha1
+    (FieldThenFault 2 Small 20 SaltFault (FieldThenFault 3 TrailerField 1 TrailerFieldFault EndFault))
+    (AlgorithmAllocates (AlgorithmAllocates (λ _. ⊥))) _ tag_1
+    (AloneFault MaskAlgorithm (PlainFault PlainAlgorithm (PlainFault Any AnyFault))) refl c.new-2.result.value
+    c.new-2.ensures _ _ _ c.in_err-mask_gen.ensures))
 
 pub returns-in_err-salt_len : goal.returns-in_err-salt_len
 returns-in_err-salt_len g c =
     let p = err_from_is_err_and c.from_residual-in_err-salt_len.result c.from_residual-in_err-salt_len.ensures.1 in
     rw (p.1, p.2)
-    (fields_faults 0 PlainAlgorithm sha1 (HashFault Any AnyFault) (FieldThenFault 1 MaskAlgorithm mgf1_sha1 (MaskFault Any AnyFault) (FieldThenFault 2 Small 20 SaltFault (FieldThenFault 3 TrailerField 1 TrailerFieldFault EndFault))) (AlgorithmAllocates (λ _. ⊥)) _ (λ _ w. w) _ _ _ _ _ (gives_at PlainAlgorithm sha1 _ c.sha1_view.ensures c.new.result.value 0 c.new.ensures _ _ _ c.in_ok-hash.ensures)
-    (fields_faults 1 MaskAlgorithm mgf1_sha1 (MaskFault Any AnyFault) (FieldThenFault 2 Small 20 SaltFault (FieldThenFault 3 TrailerField 1 TrailerFieldFault EndFault)) (AlgorithmAllocates (AlgorithmAllocates (λ _. ⊥))) _ (numbers_ask 2 20 Small) _ _ _ _ _ (gives_at MaskAlgorithm mgf1_sha1 _ c.mgf1_view.ensures c.new-2.result.value 1 c.new-2.ensures _ _ _ c.in_ok-mask_gen.ensures)
-    (field_faults 2 Small 20 (FieldThenFault 3 TrailerField 1 TrailerFieldFault EndFault) (Tlv 2 (λ _. ⊥)) (λ _. ⊥) tag_2 (AloneFault Small (EncodingFault integer SmallFault)) refl c.new-3.result.value c.new-3.ensures _ _ _ c.in_err-salt_len.ensures)))
+    (fields_faults 0 PlainAlgorithm sha1 (HashFault Any AnyFault)
+    (FieldThenFault 1 MaskAlgorithm mgf1_sha1 (MaskFault Any AnyFault)
+    (FieldThenFault 2 Small 20 SaltFault (FieldThenFault 3 TrailerField 1 TrailerFieldFault EndFault)))
+    (AlgorithmAllocates (λ _. ⊥)) _ (λ _ w. w) _ _ _ _ _
+    (gives_at PlainAlgorithm sha1 _ c.sha1_view.ensures c.new.result.value 0 c.new.ensures _ _ _
+    c.in_ok-hash.ensures)
+    (fields_faults 1 MaskAlgorithm mgf1_sha1 (MaskFault Any AnyFault)
+    (FieldThenFault 2 Small 20 SaltFault (FieldThenFault 3 TrailerField 1 TrailerFieldFault EndFault))
+    (AlgorithmAllocates (AlgorithmAllocates (λ _. ⊥))) _ (numbers_ask 2 20 Small) _ _ _ _ _
+    (gives_at MaskAlgorithm mgf1_sha1 _ c.mgf1_view.ensures c.new-2.result.value 1 c.new-2.ensures _ _ _
+    c.in_ok-mask_gen.ensures)
+    (field_faults 2 Small 20 (FieldThenFault 3 TrailerField 1 TrailerFieldFault EndFault) (Tlv 2 (λ _. ⊥)) (λ _. ⊥)
+    tag_2 (AloneFault Small (EncodingFault integer SmallFault)) refl c.new-3.result.value c.new-3.ensures _ _ _
+    c.in_err-salt_len.ensures)))
 
 pub returns-in_err-trailer_field : goal.returns-in_err-trailer_field
 returns-in_err-trailer_field g c =
-    let p = err_from_is_err_and c.from_residual-in_err-trailer_field.result c.from_residual-in_err-trailer_field.ensures.1 in
+    let p =
+    err_from_is_err_and c.from_residual-in_err-trailer_field.result c.from_residual-in_err-trailer_field.ensures.1
+    in
     rw (p.1, p.2)
-    (fields_faults 0 PlainAlgorithm sha1 (HashFault Any AnyFault) (FieldThenFault 1 MaskAlgorithm mgf1_sha1 (MaskFault Any AnyFault) (FieldThenFault 2 Small 20 SaltFault (FieldThenFault 3 TrailerField 1 TrailerFieldFault EndFault))) (AlgorithmAllocates (λ _. ⊥)) _ (λ _ w. w) _ _ _ _ _ (gives_at PlainAlgorithm sha1 _ c.sha1_view.ensures c.new.result.value 0 c.new.ensures _ _ _ c.in_ok-hash.ensures)
-    (fields_faults 1 MaskAlgorithm mgf1_sha1 (MaskFault Any AnyFault) (FieldThenFault 2 Small 20 SaltFault (FieldThenFault 3 TrailerField 1 TrailerFieldFault EndFault)) (AlgorithmAllocates (AlgorithmAllocates (λ _. ⊥))) _ (numbers_ask 2 20 Small) _ _ _ _ _ (gives_at MaskAlgorithm mgf1_sha1 _ c.mgf1_view.ensures c.new-2.result.value 1 c.new-2.ensures _ _ _ c.in_ok-mask_gen.ensures)
-    (fields_faults 2 Small 20 SaltFault (FieldThenFault 3 TrailerField 1 TrailerFieldFault EndFault) (Tlv 2 (λ _. ⊥)) (λ _. ⊥) (numbers_ask 3 1 TrailerField) _ _ _ _ _ (salt_read c.new-3.result.value c.new-3.ensures _ _ _ c.in_ok-salt_len.ensures)
-    (field_faults 3 TrailerField 1 EndFault (Tlv 2 (λ _. ⊥)) (λ _. ⊥) tag_3 (AloneFault TrailerField (EncodingFault integer TrailerFault)) refl c.new-4.result.value c.new-4.ensures _ _ _ c.in_err-trailer_field.ensures))))
+    (fields_faults 0 PlainAlgorithm sha1 (HashFault Any AnyFault)
+    (FieldThenFault 1 MaskAlgorithm mgf1_sha1 (MaskFault Any AnyFault)
+    (FieldThenFault 2 Small 20 SaltFault (FieldThenFault 3 TrailerField 1 TrailerFieldFault EndFault)))
+    (AlgorithmAllocates (λ _. ⊥)) _ (λ _ w. w) _ _ _ _ _
+    (gives_at PlainAlgorithm sha1 _ c.sha1_view.ensures c.new.result.value 0 c.new.ensures _ _ _
+    c.in_ok-hash.ensures)
+    (fields_faults 1 MaskAlgorithm mgf1_sha1 (MaskFault Any AnyFault)
+    (FieldThenFault 2 Small 20 SaltFault (FieldThenFault 3 TrailerField 1 TrailerFieldFault EndFault))
+    (AlgorithmAllocates (AlgorithmAllocates (λ _. ⊥))) _ (numbers_ask 2 20 Small) _ _ _ _ _
+    (gives_at MaskAlgorithm mgf1_sha1 _ c.mgf1_view.ensures c.new-2.result.value 1 c.new-2.ensures _ _ _
+    c.in_ok-mask_gen.ensures)
+    (fields_faults 2 Small 20 SaltFault (FieldThenFault 3 TrailerField 1 TrailerFieldFault EndFault) (Tlv 2 (λ _. ⊥))
+    (λ _. ⊥) (numbers_ask 3 1 TrailerField) _ _ _ _ _
+    (salt_read c.new-3.result.value c.new-3.ensures _ _ _ c.in_ok-salt_len.ensures)
+    (field_faults 3 TrailerField 1 EndFault (Tlv 2 (λ _. ⊥)) (λ _. ⊥) tag_3
+    (AloneFault TrailerField (EncodingFault integer TrailerFault)) refl c.new-4.result.value c.new-4.ensures _ _ _
+    c.in_err-trailer_field.ensures))))
 
 pub returns-in_err-finish : goal.returns-in_err-finish
 returns-in_err-finish g c =
     let p = err_from_is_err_and c.from_residual-in_err-finish.result c.from_residual-in_err-finish.ensures.1 in
     rw (p.1, p.2)
-    (fields_faults 0 PlainAlgorithm sha1 (HashFault Any AnyFault) (FieldThenFault 1 MaskAlgorithm mgf1_sha1 (MaskFault Any AnyFault) (FieldThenFault 2 Small 20 SaltFault (FieldThenFault 3 TrailerField 1 TrailerFieldFault EndFault))) (AlgorithmAllocates (λ _. ⊥)) _ (λ _ w. w) _ _ _ _ _ (gives_at PlainAlgorithm sha1 _ c.sha1_view.ensures c.new.result.value 0 c.new.ensures _ _ _ c.in_ok-hash.ensures)
-    (fields_faults 1 MaskAlgorithm mgf1_sha1 (MaskFault Any AnyFault) (FieldThenFault 2 Small 20 SaltFault (FieldThenFault 3 TrailerField 1 TrailerFieldFault EndFault)) (AlgorithmAllocates (AlgorithmAllocates (λ _. ⊥))) _ (numbers_ask 2 20 Small) _ _ _ _ _ (gives_at MaskAlgorithm mgf1_sha1 _ c.mgf1_view.ensures c.new-2.result.value 1 c.new-2.ensures _ _ _ c.in_ok-mask_gen.ensures)
-    (fields_faults 2 Small 20 SaltFault (FieldThenFault 3 TrailerField 1 TrailerFieldFault EndFault) (Tlv 2 (λ _. ⊥)) (λ _. ⊥) (numbers_ask 3 1 TrailerField) _ _ _ _ _ (salt_read c.new-3.result.value c.new-3.ensures _ _ _ c.in_ok-salt_len.ensures)
-    (fields_faults 3 TrailerField 1 TrailerFieldFault EndFault (Tlv 2 (λ _. ⊥)) (λ _. ⊥) (λ _ w. w) _ _ _ _ _ (trailer_read c.new-4.result.value c.new-4.ensures _ _ _ c.in_ok-trailer_field.ensures)
+    (fields_faults 0 PlainAlgorithm sha1 (HashFault Any AnyFault)
+    (FieldThenFault 1 MaskAlgorithm mgf1_sha1 (MaskFault Any AnyFault)
+    (FieldThenFault 2 Small 20 SaltFault (FieldThenFault 3 TrailerField 1 TrailerFieldFault EndFault)))
+    (AlgorithmAllocates (λ _. ⊥)) _ (λ _ w. w) _ _ _ _ _
+    (gives_at PlainAlgorithm sha1 _ c.sha1_view.ensures c.new.result.value 0 c.new.ensures _ _ _
+    c.in_ok-hash.ensures)
+    (fields_faults 1 MaskAlgorithm mgf1_sha1 (MaskFault Any AnyFault)
+    (FieldThenFault 2 Small 20 SaltFault (FieldThenFault 3 TrailerField 1 TrailerFieldFault EndFault))
+    (AlgorithmAllocates (AlgorithmAllocates (λ _. ⊥))) _ (numbers_ask 2 20 Small) _ _ _ _ _
+    (gives_at MaskAlgorithm mgf1_sha1 _ c.mgf1_view.ensures c.new-2.result.value 1 c.new-2.ensures _ _ _
+    c.in_ok-mask_gen.ensures)
+    (fields_faults 2 Small 20 SaltFault (FieldThenFault 3 TrailerField 1 TrailerFieldFault EndFault) (Tlv 2 (λ _. ⊥))
+    (λ _. ⊥) (numbers_ask 3 1 TrailerField) _ _ _ _ _
+    (salt_read c.new-3.result.value c.new-3.ensures _ _ _ c.in_ok-salt_len.ensures)
+    (fields_faults 3 TrailerField 1 TrailerFieldFault EndFault (Tlv 2 (λ _. ⊥)) (λ _. ⊥) (λ _ w. w) _ _ _ _ _
+    (trailer_read c.new-4.result.value c.new-4.ensures _ _ _ c.in_ok-trailer_field.ensures)
     (end_faults (λ _. ⊥) _ _ _ c.in_err-finish.ensures)))))
 
 pub returns : goal.returns
 returns g c =
-    let d = both_read (gives_at PlainAlgorithm sha1 _ c.sha1_view.ensures c.new.result.value 0 c.new.ensures _ _ _ c.in_ok-hash.ensures) (gives_at MaskAlgorithm mgf1_sha1 _ c.mgf1_view.ensures c.new-2.result.value 1 c.new-2.ensures _ _ _ c.in_ok-mask_gen.ensures) in
-    pss_gives c.new-3.result.value c.new-4.result.value c.new-3.ensures c.new-4.ensures _ _ _ _ _ _ d c.in_ok-salt_len.ensures c.in_ok-trailer_field.ensures c.in_ok-finish.ensures
+    let d =
+    both_read (gives_at PlainAlgorithm sha1 _ c.sha1_view.ensures c.new.result.value 0 c.new.ensures _ _ _
+    c.in_ok-hash.ensures) (gives_at MaskAlgorithm mgf1_sha1 _ c.mgf1_view.ensures c.new-2.result.value 1
+    c.new-2.ensures _ _ _ c.in_ok-mask_gen.ensures) in
+    pss_gives c.new-3.result.value c.new-4.result.value c.new-3.ensures c.new-4.ensures _ _ _ _ _ _ d
+    c.in_ok-salt_len.ensures c.in_ok-trailer_field.ensures c.in_ok-finish.ensures

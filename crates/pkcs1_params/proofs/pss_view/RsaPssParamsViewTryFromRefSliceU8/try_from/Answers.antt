@@ -8,11 +8,13 @@ use Rattle.pkcs1_params.proofs.pss_view.RsaPssParamsViewTryFromRefSliceU8.try_fr
 
 pub returns-then-is_empty_sequence-clause-ok : goal.returns-then-is_empty_sequence-clause-ok
 returns-then-is_empty_sequence-clause-ok c =
-    the_meaning pss_told _ _ (pss_by_default _ _ (c.is_empty_sequence.ensures c.if-is_empty_sequence.true) c.default.ensures)
+    the_meaning pss_told _ _ (pss_by_default _ _ (c.is_empty_sequence.ensures c.if-is_empty_sequence.true)
+    c.default.ensures)
 
 pub returns-then-is_empty_sequence-clause-exact : goal.returns-then-is_empty_sequence-clause-exact
 returns-then-is_empty_sequence-clause-exact c kind fault =
-    pss_told.none kind _ fault _ (pss_by_default _ _ (c.is_empty_sequence.ensures c.if-is_empty_sequence.true) c.default.ensures)
+    pss_told.none kind _ fault _ (pss_by_default _ _ (c.is_empty_sequence.ensures c.if-is_empty_sequence.true)
+    c.default.ensures)
 
 pub returns-clause-ok : goal.returns-clause-ok
 returns-clause-ok c = the_meaning pss_told _ _ c.in_ok-params.ensures.encoding

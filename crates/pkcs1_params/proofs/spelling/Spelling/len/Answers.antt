@@ -9,5 +9,8 @@ returns-clause-spells g c =
     let t = g.T.DefaultFields in
     let s = c.args.self.now in
     let v : MaskedValue t.Params = record { value = t.params s.params.now; mask = s.mask } in
-    let n = c.in_ok-encoded_len.ensures.counted in
-    (omega (arith, n), tlv_relates 48 (MaskedValueContents t.values) (written_masked t.values) v (masked_relates t.values v n.0) (omega (arith, n)))
+    let n = c.in_ok-encoded_len.ensures.counted in (
+      omega (arith, n),
+      tlv_relates 48 (MaskedValueContents t.values) (written_masked t.values) v
+          (masked_relates t.values v n.0) (omega (arith, n)),
+    )

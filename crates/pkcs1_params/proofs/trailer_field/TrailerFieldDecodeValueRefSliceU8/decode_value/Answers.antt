@@ -14,5 +14,13 @@ returns-in_err-decode_value g c =
 
 pub returns-in_default : goal.returns-in_default
 returns-in_default g c =
-    let r = c.in_ok-decode_value.ensures in
-    (c.error.ensures.failed, λ all is. inr (inr (c.in_ok-decode_value.field-0, rw (some_same all r.0 (sym is ∙ r.1)) r.3, (λ one. omega arith), c.error.ensures.value ∙ ap kind.Value (same_tag _ integer refl))))
+    let r = c.in_ok-decode_value.ensures in (
+      c.error.ensures.failed,
+      λ all is. inr
+          (inr (
+            c.in_ok-decode_value.field-0,
+            rw (some_same all r.0 (sym is ∙ r.1)) r.3,
+            (λ one. omega arith),
+            c.error.ensures.value ∙ ap kind.Value (same_tag _ integer refl),
+          )),
+    )

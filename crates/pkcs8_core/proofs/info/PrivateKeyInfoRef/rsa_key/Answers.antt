@@ -7,10 +7,14 @@ use Rattle.pkcs8_core.proofs.RsaHeld.{only_held, rejected_held, faulty_held}
 use Rattle.pkcs8_core.proofs.info.PrivateKeyInfoRef.rsa_key.Goals as goal
 
 pub returns-clause-ok : goal.returns-clause-ok
-returns-clause-ok c = only_held (info_of c.args.self.now) _ c.as_bytes.ensures.octets c.in_ok-require_rsa.ensures.ok private_key_of _ c.decode_key.ensures.ok
+returns-clause-ok c =
+    only_held (info_of c.args.self.now) _ c.as_bytes.ensures.octets c.in_ok-require_rsa.ensures.ok private_key_of _
+    c.decode_key.ensures.ok
 
 pub returns-clause-err : goal.returns-clause-err
-returns-clause-err c = rejected_held (info_of c.args.self.now) _ c.as_bytes.ensures.octets c.in_ok-require_rsa.ensures.ok _ c.decode_key.ensures.err
+returns-clause-err c =
+    rejected_held (info_of c.args.self.now) _ c.as_bytes.ensures.octets c.in_ok-require_rsa.ensures.ok _
+    c.decode_key.ensures.err
 
 pub returns-in_err-require_rsa-clause-exact : goal.returns-in_err-require_rsa-clause-exact
 returns-in_err-require_rsa-clause-exact c =
@@ -18,4 +22,6 @@ returns-in_err-require_rsa-clause-exact c =
     rw (p.1, p.2) (inr (not_rsa_fault (info_of c.args.self.now) _ c.in_err-require_rsa.ensures.err))
 
 pub returns-clause-exact : goal.returns-clause-exact
-returns-clause-exact c = faulty_held (info_of c.args.self.now) _ c.as_bytes.ensures.octets c.in_ok-require_rsa.ensures.ok _ c.decode_key.ensures.exact
+returns-clause-exact c =
+    faulty_held (info_of c.args.self.now) _ c.as_bytes.ensures.octets c.in_ok-require_rsa.ensures.ok _
+    c.decode_key.ensures.exact

@@ -14,10 +14,13 @@ returns-in_err-algorithm g c =
 
 pub returns-in_err-private_key : goal.returns-in_err-private_key
 returns-in_err-private_key g c =
-    let p = err_from_is_err_and c.from_residual-in_err-private_key.result c.from_residual-in_err-private_key.ensures.1 in
-    rw (p.1, p.2) (at_key _ _ _ _ _ _ c.in_ok-read_version.ensures c.in_ok-algorithm.ensures c.in_err-private_key.ensures)
+    let p =
+    err_from_is_err_and c.from_residual-in_err-private_key.result c.from_residual-in_err-private_key.ensures.1 in
+    rw (p.1, p.2) (at_key _ _ _ _ _ _ c.in_ok-read_version.ensures c.in_ok-algorithm.ensures
+    c.in_err-private_key.ensures)
 
 pub returns-in_err-attributes : goal.returns-in_err-attributes
 returns-in_err-attributes g c =
     let p = err_from_is_err_and c.from_residual-in_err-attributes.result c.from_residual-in_err-attributes.ensures.1 in
-    rw (p.1, p.2) (at_attributes _ _ _ _ _ _ _ _ c.in_ok-read_version.ensures c.in_ok-algorithm.ensures c.in_ok-private_key.ensures c.in_err-attributes.ensures)
+    rw (p.1, p.2) (at_attributes _ _ _ _ _ _ _ _ c.in_ok-read_version.ensures c.in_ok-algorithm.ensures
+    c.in_ok-private_key.ensures c.in_err-attributes.ensures)

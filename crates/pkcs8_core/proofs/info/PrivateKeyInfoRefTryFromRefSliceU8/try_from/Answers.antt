@@ -10,7 +10,8 @@ use Rattle.pkcs8_core.specs.ContainerFaults.{PrivateKeyInfoFault}
 use Rattle.pkcs8_core.specs.Laws.ContainerFaults.{info_told}
 use Rattle.pkcs8_core.proofs.info.PrivateKeyInfoRefTryFromRefSliceU8.try_from.Goals as goal
 
-meaning : {X : Type 0} (value : X → Info) (may_allocate : List ℕ → Type 0) (b : List ℕ) (r : Result X Error) → ReadsAll value PrivateKeyInfo may_allocate r b → IfOk r (λ x. IsTheMeaning PrivateKeyInfo b (value x))
+meaning : {X : Type 0} (value : X → Info) (may_allocate : List ℕ → Type 0) (b : List ℕ) (r : Result X Error)
+    → ReadsAll value PrivateKeyInfo may_allocate r b → IfOk r (λ x. IsTheMeaning PrivateKeyInfo b (value x))
 meaning value may_allocate b (Ok x) h = the_meaning info_told (value x) b h
 meaning value may_allocate b (Err e) h = tt
 

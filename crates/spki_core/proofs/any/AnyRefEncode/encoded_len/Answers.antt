@@ -9,7 +9,8 @@ use Rattle.spki_core.proofs.any.AnyRefEncode.encoded_len.Goals as goal
 pub returns-clause-counted : goal.returns-clause-counted
 returns-clause-counted c =
     let any = c.args.self.now in
-    counts_encoding any.tag.octet any.contents.now _ _ (any.tag.allowed, are_bytes any.contents.now any.octets) c.header.ensures.length c.for_tlv.ensures.ok c.for_tlv.ensures.err
+    counts_encoding any.tag.octet any.contents.now _ _ (any.tag.allowed, are_bytes any.contents.now any.octets)
+    c.header.ensures.length c.for_tlv.ensures.ok c.for_tlv.ensures.err
 
 pub returns-clause-err : goal.returns-clause-err
 returns-clause-err c =

@@ -9,10 +9,14 @@ pub returns-clause-counted : goal.returns-clause-counted
 returns-clause-counted g c =
     let number = c.args.self.now.tag_number in
     let all = c.in_ok-encoded_len.ensures.counted in
-    counts_encoding (160 + number.value) (g.T.Encoding.written_encoding (g.T.Encoding.value c.args.self.now.value.now)) _ _ (number.fits, all.0) all.1 c.for_tlv.ensures.ok c.for_tlv.ensures.err
+    counts_encoding (160 + number.value) (g.T.Encoding.written_encoding (g.T.Encoding.value c.args.self.now.value.now))
+    _ _ (number.fits, all.0) all.1 c.for_tlv.ensures.ok c.for_tlv.ensures.err
 
 pub returns-clause-err : goal.returns-clause-err
 returns-clause-err g c =
     let t = g.T.Encoding in
-    let v : Numbered t.Value = record { number = c.args.self.now.tag_number.value; value = t.value c.args.self.now.value.now } in
-    uncounted (ContextSpecific t.encoding) v _ (numbered_shortest t.encoding t.has_encoding t.written_encoding g.met.T.Encode.encoding_shortest v) _ (returns-clause-counted g c)
+    let v : Numbered t.Value =
+    record { number = c.args.self.now.tag_number.value; value = t.value c.args.self.now.value.now } in
+    uncounted (ContextSpecific t.encoding) v _
+    (numbered_shortest t.encoding t.has_encoding t.written_encoding g.met.T.Encode.encoding_shortest v) _
+    (returns-clause-counted g c)

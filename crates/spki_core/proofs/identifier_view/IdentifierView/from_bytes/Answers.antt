@@ -5,10 +5,14 @@ use Rattle.spki_core.specs.Laws.IdentifierTest.{is_identifier-sound, is_identifi
 use Rattle.spki_core.proofs.identifier_view.IdentifierView.from_bytes.Goals as goal
 
 pub returns-then-not-is_identifier-clause-err : goal.returns-then-not-is_identifier-clause-err
-returns-then-not-is_identifier-clause-err c =
-    (ap (λ e. e.kind) c.new.ensures, λ is. let yes = is_identifier-complete c.args.bytes.now is in let no = c.is_identifier.ensures in let f = c.if-not-is_identifier.true in cc)
+returns-then-not-is_identifier-clause-err c = (
+  ap (λ e. e.kind) c.new.ensures,
+  λ is. let yes = is_identifier-complete c.args.bytes.now is in
+      let no = c.is_identifier.ensures in let f = c.if-not-is_identifier.true in cc,
+)
 
 pub returns-clause-ok : goal.returns-clause-ok
 returns-clause-ok c =
-    let yes : is_identifier c.args.bytes.now ≡ true = let no = c.is_identifier.ensures in let f = c.if-not-is_identifier.false in cc in
+    let yes : is_identifier c.args.bytes.now ≡ true =
+    let no = c.is_identifier.ensures in let f = c.if-not-is_identifier.false in cc in
     (is_identifier-sound c.args.bytes.now (are_bytes c.args.bytes.now (search rules)) yes, c.over.ensures)

@@ -11,4 +11,6 @@ returns-in_err-any g c =
     rw (p.1, p.2) (fails_more AnyFault _ _ _ c.in_err-any.ensures)
 
 pub returns-in-Err : goal.returns-in-Err
-returns-in-Err g c = copy_fails Any AnyFault _ _ _ _ _ c.in_ok-any.ensures (c.error.ensures.value ∙ c.kind.ensures ∙ c.in-Err.ensures.err) c.error.ensures.failed
+returns-in-Err g c =
+    copy_fails Any AnyFault _ _ _ _ _ c.in_ok-any.ensures
+    (c.error.ensures.value ∙ c.kind.ensures ∙ c.in-Err.ensures.err) c.error.ensures.failed

@@ -9,10 +9,15 @@ use Rattle.spki_core.proofs.Copies.{copy_reads_all, copy_faults}
 use Rattle.spki_core.proofs.owned_any.AnyDecodeRefSliceU8Global.from_der.Goals as goal
 
 pub returns-clause-encoding : goal.returns-clause-encoding
-returns-clause-encoding c = copy_reads_all Any AnyFault own_any_of c.copy_of.result c.args.bytes.now (any_of c.in_ok-any.any) c.in_ok-any.ensures.encoding (rw (c.tag.ensures, c.value.ensures.contents) at c.copy_of.ensures.ok) c.copy_of.ensures.err
+returns-clause-encoding c =
+    copy_reads_all Any AnyFault own_any_of c.copy_of.result c.args.bytes.now (any_of c.in_ok-any.any)
+    c.in_ok-any.ensures.encoding (rw (c.tag.ensures, c.value.ensures.contents) at c.copy_of.ensures.ok)
+    c.copy_of.ensures.err
 
 pub returns-clause-exact : goal.returns-clause-exact
-returns-clause-exact c = copy_faults Any (WholeFault Any AnyFault) c.copy_of.result c.args.bytes.now (any_of c.in_ok-any.any) c.in_ok-any.ensures.encoding c.in_ok-any.ensures.exact c.copy_of.ensures.err
+returns-clause-exact c =
+    copy_faults Any (WholeFault Any AnyFault) c.copy_of.result c.args.bytes.now (any_of c.in_ok-any.any)
+    c.in_ok-any.ensures.encoding c.in_ok-any.ensures.exact c.copy_of.ensures.err
 
 pub returns-in_err-any-clause-exact : goal.returns-in_err-any-clause-exact
 returns-in_err-any-clause-exact c =

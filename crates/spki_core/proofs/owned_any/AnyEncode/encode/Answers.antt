@@ -5,4 +5,6 @@ use Rattle.spki_core.proofs.Copies.{rejected_same}
 use Rattle.spki_core.proofs.owned_any.AnyEncode.encode.Goals as goal
 
 pub returns-clause-err : goal.returns-clause-err
-returns-clause-err g c = rejected_same IsAny Any c.encode.result (any_of c.as_any_ref.result) (own_any_of c.args.self.now) _ c.as_any_ref.ensures c.encode.ensures.err
+returns-clause-err g c =
+    rejected_same IsAny Any c.encode.result (any_of c.as_any_ref.result) (own_any_of c.args.self.now) _
+    c.as_any_ref.ensures c.encode.ensures.err

@@ -6,8 +6,12 @@ use Rattle.der_core.proofs.integer.small.U8DecodeValueRefSliceU8.decode_value.Go
 
 pub returns-in-Err : goal.returns-in-Err
 returns-in-Err g c =
-    let kind : c.error.result.kind ≡ c.in-Err.e.kind = c.error.ensures.value ∙ c.kind.ensures in
-    (c.error.ensures.failed, λ all is. inr (ap small_of (sym (all_read _ _ _ _ all c.requires c.in_ok-contents.ensures.1 is)) ∙ c.in-Err.ensures ∙ ap (λ k. Err k) (sym kind)))
+    let kind : c.error.result.kind ≡ c.in-Err.e.kind = c.error.ensures.value ∙ c.kind.ensures in (
+      c.error.ensures.failed,
+      λ all is. inr
+          (ap small_of (sym (all_read _ _ _ _ all c.requires c.in_ok-contents.ensures.1 is)) ∙ c.in-Err.ensures
+          ∙ ap (λ k. Err k) (sym kind)),
+    )
 
 pub returns-in-Ok : goal.returns-in-Ok
 returns-in-Ok g c =

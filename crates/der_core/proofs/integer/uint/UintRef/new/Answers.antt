@@ -11,15 +11,22 @@ returns-then-is_empty-clause-err c =
     inl (c.strip-bytes.ensures.empty none, ap (λ e. e.kind) c.new.ensures ∙ ap kind.Length (same_tag _ _ refl))
 
 pub returns-clause-ok : goal.returns-clause-ok
-returns-clause-ok c =
-    (c.strip-bytes.ensures.number, holds_canonical _ (grind (arith, nat_tests, c.if-is_empty.false, c.is_empty.ensures), c.strip-bytes.ensures.fewest, search rules))
+returns-clause-ok c = (
+  c.strip-bytes.ensures.number,
+  holds_canonical _
+      (grind (arith, nat_tests, c.if-is_empty.false, c.is_empty.ensures), c.strip-bytes.ensures.fewest, search rules),
+)
 
 pub returns-then-bytes-to_usize-clause-err : goal.returns-then-bytes-to_usize-clause-err
 returns-then-bytes-to_usize-clause-err c =
-    let some : 0 < length c.strip-bytes.result.now = grind (arith, nat_tests, c.if-is_empty.false, c.is_empty.ensures) in
+    let some : 0 < length c.strip-bytes.result.now =
+    grind (arith, nat_tests, c.if-is_empty.false, c.is_empty.ensures) in
     inr (
       (λ x p e.
-          let same : x ≡ c.strip-bytes.result.now = canonical_same x c.strip-bytes.result.now p (holds_canonical _ (some, c.strip-bytes.ensures.fewest, search rules)) (e ∙ sym c.strip-bytes.ensures.number) in
+          let same : x ≡ c.strip-bytes.result.now =
+          canonical_same x c.strip-bytes.result.now p
+          (holds_canonical _ (some, c.strip-bytes.ensures.fewest, search rules))
+          (e ∙ sym c.strip-bytes.ensures.number) in
           omega (arith, ap length same, c.if-bytes-to_usize.true, c.to_usize.ensures.value)),
       ap (λ e. e.kind) c.new-then-bytes-to_usize.ensures,
     )

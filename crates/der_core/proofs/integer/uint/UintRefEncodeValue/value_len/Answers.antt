@@ -4,6 +4,8 @@ use Rattle.der_core.proofs.integer.uint.UintRefEncodeValue.value_len.Goals as go
 
 pub returns : goal.returns
 returns c = elim c.if-self-lt128.branch [
-  | then-self-lt128 w ↦ counts_integer _ _ _ c.args.self.now.canonical (rw w.zeros-is (length_small _ w.if-self-lt128.true)) c.try_from.ensures.ok c.try_from.ensures.err
-  | else-self-lt128 w ↦ counts_integer _ _ _ c.args.self.now.canonical (rw w.zeros-is (length_large _ w.if-self-lt128.false)) c.try_from.ensures.ok c.try_from.ensures.err
+  | then-self-lt128 w ↦ counts_integer _ _ _ c.args.self.now.canonical
+      (rw w.zeros-is (length_small _ w.if-self-lt128.true)) c.try_from.ensures.ok c.try_from.ensures.err
+  | else-self-lt128 w ↦ counts_integer _ _ _ c.args.self.now.canonical
+      (rw w.zeros-is (length_large _ w.if-self-lt128.false)) c.try_from.ensures.ok c.try_from.ensures.err
 ]

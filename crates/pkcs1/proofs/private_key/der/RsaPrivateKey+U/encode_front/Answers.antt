@@ -13,13 +13,17 @@ returns-then-lists_none-clause-no_primes g c = λ _. ap (λ e. e.kind) c.new.ens
 
 pub returns-clause-shortest : goal.returns-clause-shortest
 returns-clause-shortest g c =
-    let encoding = tlv 48 (written_private_key g.U.Encoding.written_encoding (private_key_with g.U.Encoding.value c.args.self.now)) in
+    let encoding =
+    tlv 48 (written_private_key g.U.Encoding.written_encoding (private_key_with g.U.Encoding.value c.args.self.now))
+    in
     let made = c.in_ok-encode_into.ensures in
     rw (front_is encoding c.args.out.now _ _ made.ok.0 made.ok.1) made.shortest
 
 pub returns-clause-rest : goal.returns-clause-rest
 returns-clause-rest g c =
-    let encoding = tlv 48 (written_private_key g.U.Encoding.written_encoding (private_key_with g.U.Encoding.value c.args.self.now)) in
+    let encoding =
+    tlv 48 (written_private_key g.U.Encoding.written_encoding (private_key_with g.U.Encoding.value c.args.self.now))
+    in
     let made = c.in_ok-encode_into.ensures.ok in
     rest_is encoding c.args.out.now _ _ made.0 made.1
 

@@ -8,7 +8,9 @@ pub returns-clause-ok : goal.returns-clause-ok
 returns-clause-ok g c =
     let claim : g.claim c.lifetimes = assumption in
     let met = g.met.U.Decode c.lifetimes claim in
-    rw (← c.as_bytes.ensures.octets) (the_meaning (private_told g.U.Encoding.encoding g.U.Decode.fault g.U.Encoding.delimited met.fault_none met.fault_first) _ _ c.in_ok-from_der.ensures.encoding)
+    rw (← c.as_bytes.ensures.octets)
+    (the_meaning (private_told g.U.Encoding.encoding g.U.Decode.fault g.U.Encoding.delimited met.fault_none
+    met.fault_first) _ _ c.in_ok-from_der.ensures.encoding)
 
 pub returns-clause-exact : goal.returns-clause-exact
 returns-clause-exact g c = rw (← c.as_bytes.ensures.octets) c.in_ok-from_der.ensures.exact
@@ -20,7 +22,8 @@ returns-in_err-from_der-clause-err g c =
 
 pub returns-in_err-from_der-clause-two_primes : goal.returns-in_err-from_der-clause-two_primes
 returns-in_err-from_der-clause-two_primes g c none key two means =
-    absurd (two_primes_rejected g.U.Encoding.delimited key two _ none _ _ (rw (← c.as_bytes.ensures.octets) at means) c.in_err-from_der.ensures.encoding)
+    absurd (two_primes_rejected g.U.Encoding.delimited key two _ none _ _ (rw (← c.as_bytes.ensures.octets) at means)
+    c.in_err-from_der.ensures.encoding)
 
 pub returns-in_err-from_der-clause-exact : goal.returns-in_err-from_der-clause-exact
 returns-in_err-from_der-clause-exact g c =

@@ -12,7 +12,8 @@ use Rattle.pkcs1.proofs.NotWritten.{unwritten_as}
 use Rattle.pkcs1.proofs.private_key.der.RsaPrivateKey+U.to_document.Goals as goal
 
 pub returns-then-lists_none-clause-no_primes : goal.returns-then-lists_none-clause-no_primes
-returns-then-lists_none-clause-no_primes g c = λ _. ap (λ e. e.kind) c.new-rejected.ensures ∙ ap kind.Value (same_tag _ _ refl)
+returns-then-lists_none-clause-no_primes g c =
+    λ _. ap (λ e. e.kind) c.new-rejected.ensures ∙ ap kind.Value (same_tag _ _ refl)
 
 pub returns-in_err-encode_msg-clause-err : goal.returns-in_err-encode_msg-clause-err
 returns-in_err-encode_msg-clause-err g c =
@@ -21,5 +22,7 @@ returns-in_err-encode_msg-clause-err g c =
     let encoding = g.U.Encoding.encoding in
     let written = written_private_key g.U.Encoding.written_encoding in
     rw (p.1, p.2) (unwritten_as (λ v. Tlv 48 (PrivateKeyContents encoding v)) key (λ has. has) (tlv 48 (written key))
-    (λ has fits. tlv_relates 48 (PrivateKeyContents encoding) written key (private_relates encoding g.U.Encoding.has_encoding g.U.Encoding.written_encoding g.met.U.Encode.encoding_relates key has) (omega (arith, fits)))
+    (λ has fits. tlv_relates 48 (PrivateKeyContents encoding) written key
+    (private_relates encoding g.U.Encoding.has_encoding g.U.Encoding.written_encoding
+    g.met.U.Encode.encoding_relates key has) (omega (arith, fits)))
     _ c.in_err-encode_msg.ensures)

@@ -5,7 +5,9 @@ use Rattle.pkcs1.specs.Laws.PrivateKeys.{private_only}
 use Rattle.pkcs1.proofs.private_key.der.RsaPrivateKey+Uint.encode_key.Goals as goal
 
 pub returns-clause-encoding : goal.returns-clause-encoding
-returns-clause-encoding c = private_only (private_key_with own_bytes_of c.args.self.now) c.encode_front.result _ c.encode_front.ensures.shortest
+returns-clause-encoding c =
+    private_only (private_key_with own_bytes_of c.args.self.now) c.encode_front.result _ c.encode_front.ensures.shortest
 
 pub returns-clause-err : goal.returns-clause-err
-returns-clause-err c = rejected_held own_bytes_of own_held c.args.self.now _ c.encode_front.result c.encode_front.ensures.err
+returns-clause-err c =
+    rejected_held own_bytes_of own_held c.args.self.now _ c.encode_front.result c.encode_front.ensures.err

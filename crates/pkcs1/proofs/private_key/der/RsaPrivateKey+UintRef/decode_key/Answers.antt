@@ -14,7 +14,8 @@ returns-in_err-from_der-clause-err c =
     rw (p.1, p.2) (rejects_as borrowed_key_asks _ _ c.in_err-from_der.ensures.encoding)
 
 pub returns-in_err-from_der-clause-two_primes : goal.returns-in_err-from_der-clause-two_primes
-returns-in_err-from_der-clause-two_primes c key two means = absurd (two_primes_rejected integer_delimited key two _ borrowed_ask _ _ means c.in_err-from_der.ensures.encoding)
+returns-in_err-from_der-clause-two_primes c key two means =
+    absurd (two_primes_rejected integer_delimited key two _ borrowed_ask _ _ means c.in_err-from_der.ensures.encoding)
 
 pub returns-in_err-from_der-clause-exact : goal.returns-in_err-from_der-clause-exact
 returns-in_err-from_der-clause-exact c =
