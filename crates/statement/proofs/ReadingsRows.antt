@@ -1,6 +1,6 @@
 -- Worked rows: encodings in hexadecimal digits, with the value that they mean, or with the kind of their first fault.
 -- The functions compute, and are proved equal to what the library's definitions say, so the rows pin these too.
-use Rattle.std.proofs.Common.{ℕ, List, [], ◌∷◌, ◌++◌, ◌≡◌, ◌+◌, ◌*◌, refl, Ok, Err, Option, Some, None}
+use Rattle.std.proofs.Common.{ℕ, List, [], ◌∷◌, ◌++◌, ◌≡◌, ◌+◌, ◌*◌, map, refl, Ok, Err, Option, Some, None}
 use Rattle.std.specs.Prelude.{codes, nat_lt, if◌then◌else◌, ◌-◌, ◌^◌, replicate}
 use Rattle.der_core.specs.Input.{header_at, length_at}
 use Rattle.der_core.specs.Tags.{integer, null, object_identifier, octet_string, sequence}
@@ -25,12 +25,10 @@ bytes_of (a ∷ []) = []
 bytes_of (a ∷ b ∷ digits) = (16 * digit a + digit b) ∷ bytes_of digits
 
 abbrev Mean : {V : Type 0} → Reading V → List (List ℕ × V) → Type 0
-Mean read [] = Unit {0}
-Mean read (row ∷ rows) = (read (bytes_of row.0) ≡ Ok (row.1, [])) × Mean read rows
+Mean read rows = map (λ row. read (bytes_of row.0)) rows ≡ map (λ row. Ok (row.1, [])) rows
 
 abbrev AreRejected : {V : Type 0} → Reading V → List (List ℕ × ErrorKind) → Type 0
-AreRejected read [] = Unit {0}
-AreRejected read (row ∷ rows) = (read (bytes_of row.0) ≡ Err row.1) × AreRejected read rows
+AreRejected read rows = map (λ row. read (bytes_of row.0)) rows ≡ map (λ row. Err row.1) rows
 
 -- == RSAPublicKey ==
 abbrev numbers : ℕ → ℕ → PublicKey
@@ -47,7 +45,7 @@ public_keys : Mean public_key (
     )
 unfolding bytes_of digit header_at length_at chain ended such present items_within tagged whole field integer_in
     small_in identifier_in any octets_in
-public_keys = (refl, (refl, (refl, (refl, (refl, tt)))))
+public_keys = refl
 
 no_public_keys : AreRejected public_key (
     -- No header, or not that of a SEQUENCE; lengths that aren't DER, or too long.
@@ -81,58 +79,7 @@ no_public_keys : AreRejected public_key (
     )
 unfolding bytes_of digit header_at length_at chain ended such present items_within tagged whole field integer_in
     small_in identifier_in any octets_in
-no_public_keys = (
-  refl,
-  (
-    refl,
-    (
-      refl,
-      (
-        refl,
-        (
-          refl,
-          (
-            refl,
-            (
-              refl,
-              (
-                refl,
-                (
-                  refl,
-                  (
-                    refl,
-                    (
-                      refl,
-                      (
-                        refl,
-                        (
-                          refl,
-                          (
-                            refl,
-                            (
-                              refl,
-                              (
-                                refl,
-                                (
-                                  refl,
-                                  (refl, (refl, (refl, (refl, (refl, (refl, (refl, tt))))))),
-                                ),
-                              ),
-                            ),
-                          ),
-                        ),
-                      ),
-                    ),
-                  ),
-                ),
-              ),
-            ),
-          ),
-        ),
-      ),
-    ),
-  ),
-)
+no_public_keys = refl
 
 -- == RSAPrivateKey ==
 abbrev key_with : Option (List OtherPrime) → PrivateKey
@@ -166,7 +113,7 @@ private_keys : Mean private_key (
     )
 unfolding bytes_of digit header_at length_at chain ended such present items_within tagged whole field integer_in
     small_in identifier_in any octets_in
-private_keys = (refl, (refl, (refl, tt)))
+private_keys = refl
 
 no_private_keys : AreRejected private_key (
     (codes "3003020102", Value integer)
@@ -185,7 +132,7 @@ no_private_keys : AreRejected private_key (
     )
 unfolding bytes_of digit header_at length_at chain ended such present items_within tagged whole field integer_in
     small_in identifier_in any octets_in
-no_private_keys = (refl, (refl, (refl, (refl, (refl, (refl, (refl, (refl, (refl, (refl, tt))))))))))
+no_private_keys = refl
 
 -- == Identifiers, any encoding, AlgorithmIdentifier ==
 abbrev identifier : Reading (List ℕ)
@@ -200,7 +147,7 @@ no_identifiers : AreRejected identifier (
     )
 unfolding bytes_of digit header_at length_at chain ended such present items_within tagged whole field integer_in
     small_in identifier_in any octets_in
-no_identifiers = (refl, (refl, (refl, tt)))
+no_identifiers = refl
 
 -- At most 39 octets.
 longest_identifier : identifier (0x06 ∷ 39 ∷ replicate 39 1) ≡ Ok (replicate 39 1, [])
@@ -223,7 +170,7 @@ encodings : Mean any (
     )
 unfolding bytes_of digit header_at length_at chain ended such present items_within tagged whole field integer_in
     small_in identifier_in any octets_in
-encodings = (refl, (refl, tt))
+encodings = refl
 
 no_encodings : AreRejected any (
     (codes "0000", TagUnknown 0)
@@ -232,7 +179,7 @@ no_encodings : AreRejected any (
     )
 unfolding bytes_of digit header_at length_at chain ended such present items_within tagged whole field integer_in
     small_in identifier_in any octets_in
-no_encodings = (refl, (refl, tt))
+no_encodings = refl
 
 abbrev algorithm_with : {P : Type 0} → List ℕ → Option P → Algorithm P
 algorithm_with oid parameters = record { oid = oid; parameters = parameters }
@@ -245,7 +192,7 @@ algorithms : Mean (algorithm any) (
     )
 unfolding bytes_of digit header_at length_at chain ended such present items_within tagged whole field integer_in
     small_in identifier_in any octets_in
-algorithms = (refl, (refl, (refl, tt)))
+algorithms = refl
 
 no_algorithms : AreRejected (algorithm any) (
     (codes "3000", Incomplete)
@@ -256,7 +203,7 @@ no_algorithms : AreRejected (algorithm any) (
     )
 unfolding bytes_of digit header_at length_at chain ended such present items_within tagged whole field integer_in
     small_in identifier_in any octets_in
-no_algorithms = (refl, (refl, (refl, (refl, tt))))
+no_algorithms = refl
 
 mask_algorithms : Mean (algorithm (algorithm any)) (
     (codes "301606092a864886f70d010108300906052b0e03021a0500", mgf1_sha1)
@@ -265,7 +212,7 @@ mask_algorithms : Mean (algorithm (algorithm any)) (
     )
 unfolding bytes_of digit header_at length_at chain ended such present items_within tagged whole field integer_in
     small_in identifier_in any octets_in
-mask_algorithms = (refl, (refl, tt))
+mask_algorithms = refl
 
 no_mask_algorithms : AreRejected (algorithm (algorithm any)) (
     (codes "300d06092a864886f70d0101080500", TagUnexpected sequence null)
@@ -273,7 +220,7 @@ no_mask_algorithms : AreRejected (algorithm (algorithm any)) (
     )
 unfolding bytes_of digit header_at length_at chain ended such present items_within tagged whole field integer_in
     small_in identifier_in any octets_in
-no_mask_algorithms = (refl, tt)
+no_mask_algorithms = refl
 
 -- == RSASSA-PSS-params and RSAES-OAEP-params, alone and in their algorithm identifiers ==
 abbrev pss_with : Algorithm TagAndContents → ℕ → PssParameters
@@ -295,7 +242,7 @@ pss_params : Mean pss (
     )
 unfolding bytes_of digit header_at length_at chain ended such present items_within tagged whole field integer_in
     small_in identifier_in any octets_in
-pss_params = (refl, (refl, (refl, (refl, (refl, tt)))))
+pss_params = refl
 
 no_pss_params : AreRejected pss (
     (codes "", Incomplete)
@@ -328,43 +275,7 @@ no_pss_params : AreRejected pss (
     )
 unfolding bytes_of digit header_at length_at chain ended such present items_within tagged whole field integer_in
     small_in identifier_in any octets_in
-no_pss_params = (
-  refl,
-  (
-    refl,
-    (
-      refl,
-      (
-        refl,
-        (
-          refl,
-          (
-            refl,
-            (
-              refl,
-              (
-                refl,
-                (
-                  refl,
-                  (
-                    refl,
-                    (
-                      refl,
-                      (
-                        refl,
-                        (refl, (refl, (refl, (refl, (refl, (refl, (refl, (refl, (refl, (refl, tt)))))))))),
-                      ),
-                    ),
-                  ),
-                ),
-              ),
-            ),
-          ),
-        ),
-      ),
-    ),
-  ),
-)
+no_pss_params = refl
 
 oaep_params : Mean oaep (
     (codes "3000", oaep_with empty_label)
@@ -377,7 +288,7 @@ oaep_params : Mean oaep (
     )
 unfolding bytes_of digit header_at length_at chain ended such present items_within tagged whole field integer_in
     small_in identifier_in any octets_in
-oaep_params = (refl, (refl, (refl, tt)))
+oaep_params = refl
 
 no_oaep_params : AreRejected oaep (
     (codes "0500", TagUnexpected sequence null)
@@ -390,7 +301,7 @@ no_oaep_params : AreRejected oaep (
     )
 unfolding bytes_of digit header_at length_at chain ended such present items_within tagged whole field integer_in
     small_in identifier_in any octets_in
-no_oaep_params = (refl, (refl, (refl, (refl, (refl, tt)))))
+no_oaep_params = refl
 
 pss_algorithms : Mean pss_algorithm (
     (codes "300d06092a864886f70d01010a3000", pss_with sha1 20)
@@ -399,7 +310,7 @@ pss_algorithms : Mean pss_algorithm (
     )
 unfolding bytes_of digit header_at length_at chain ended such present items_within tagged whole field integer_in
     small_in identifier_in any octets_in
-pss_algorithms = (refl, (refl, tt))
+pss_algorithms = refl
 
 no_pss_algorithms : AreRejected pss_algorithm (
     (codes "300b06092a864886f70d01010a", ParametersMissing)
@@ -409,7 +320,7 @@ no_pss_algorithms : AreRejected pss_algorithm (
     )
 unfolding bytes_of digit header_at length_at chain ended such present items_within tagged whole field integer_in
     small_in identifier_in any octets_in
-no_pss_algorithms = (refl, (refl, (refl, tt)))
+no_pss_algorithms = refl
 
 oaep_algorithms : Mean oaep_algorithm (
     (codes "300d06092a864886f70d0101073000", oaep_with empty_label)
@@ -417,7 +328,7 @@ oaep_algorithms : Mean oaep_algorithm (
     )
 unfolding bytes_of digit header_at length_at chain ended such present items_within tagged whole field integer_in
     small_in identifier_in any octets_in
-oaep_algorithms = (refl, tt)
+oaep_algorithms = refl
 
 -- == PrivateKeyInfo, and the key in it ==
 abbrev small_container : Container
@@ -433,7 +344,7 @@ containers : Mean container (
     )
 unfolding bytes_of digit header_at length_at chain ended such present items_within tagged whole field integer_in
     small_in identifier_in any octets_in
-containers = (refl, tt)
+containers = refl
 
 no_containers : AreRejected container (
     -- Version 1 (RFC 5958).
@@ -447,7 +358,7 @@ no_containers : AreRejected container (
     )
 unfolding bytes_of digit header_at length_at chain ended such present items_within tagged whole field integer_in
     small_in identifier_in any octets_in
-no_containers = (refl, (refl, (refl, (refl, (refl, tt)))))
+no_containers = refl
 
 no_contained_keys : AreRejected contained_key (
     (codes "300d020100300406022a030402050a", OidUnknown)
@@ -457,4 +368,4 @@ no_contained_keys : AreRejected contained_key (
     )
 unfolding bytes_of digit header_at length_at chain ended such present items_within tagged whole field integer_in
     small_in identifier_in any octets_in
-no_contained_keys = (refl, (refl, (refl, tt)))
+no_contained_keys = refl
