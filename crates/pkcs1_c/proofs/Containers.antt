@@ -9,7 +9,7 @@ use Rattle.pkcs1_c.specs.StructErrors.{EncodingError, InfoError}
 use Rattle.pkcs1_c.proofs.StructErrors.{IsOne, encoding_one}
 
 module _ (info : PrivateKeyInfo) where
-  fault_none : (s : ℕ) → IsNumberOfFault (KeyFault info) s → HoldsSomeKey info → ⊥
+  pub fault_none : (s : ℕ) → IsNumberOfFault (KeyFault info) s → HoldsSomeKey info → ⊥
   fault_none s (k, p, a) (key, holds) = private_key_told.none k info.private_key.now p key holds
 
   module _ (room : ℕ) where

@@ -1,10 +1,17 @@
 -- Keys of given numbers.
-use Rattle.std.proofs.Common.{ℕ, List, [], ◌∷◌, ◌≡◌, length, refl, sym, ap, subst, ◌∙◌, arith, Option, Some, None}
+use Rattle.std.proofs.Common.{ℕ, List, [], ◌∷◌, ◌++◌, ◌≡◌, ◌≤◌, length, length-append, map, refl, sym, ap, subst, ◌∙◌}
+use Rattle.std.proofs.Common.{arith, Option, Some, None, inl, inr}
 use Rattle.std.specs.Prelude.{Result, Ok, Err, IfErr, IsErrAnd}
+use Rattle.der_core.specs.Encodings.{Joins}
+use Rattle.der_core.specs.Integer.{Integer, IntegerContents}
+use Rattle.der_core.specs.Length.{limit}
+use Rattle.der_core.specs.SequenceOf.{AllHave}
+use Rattle.der_core.specs.Laws.Growing.{contents_shorter}
 use Rattle.der_core.specs.Laws.Integer.{canonical_same}
 use Rattle.pkcs1.specs.Keys.{PublicKey, PrivateKey, OtherPrime}
 use Rattle.pkcs1_c.specs.Numbers.{IsNumberOf, ArePublicNumbers, IsOtherOf, AreOthersOf, AreOtherNumbers}
 use Rattle.pkcs1_c.specs.Numbers.{ArePrivateNumbers}
+use Rattle.pkcs1_c.proofs.StructErrors.{IsWithin}
 
 -- What holds whatever the error is.
 pub err_all : {T E : Type 0} (P : E → Type 0) (r : Result T E) → ((e : E) → P e) → IfErr r P
@@ -16,6 +23,21 @@ pub err_handed : {T E : Type 0} (P : E → Type 0) (first : E) (r : Result T E) 
     → IfErr r P
 err_handed P first (Ok x) same p = absurd same
 err_handed P first (Err e) same p = subst P (sym same) p
+
+-- A number is no longer than its contents, nor than an encoding that its encoding stands in.
+contents_hold : (n c : List ℕ) → IntegerContents n c → length n ≤ length c
+contents_hold n c (p, inl a) = omega (arith, ap length a.1)
+contents_hold n c (p, inr a) = omega (arith, ap length a.1)
+
+-- Numbers at the front of contents, and what stands behind them, are within the limit if the contents are.
+pub joins_hold : (ns : List (List ℕ)) (Qs : List (List ℕ → Type 0)) (c : List ℕ) → Joins (map Integer ns ++ Qs) c
+    → length c ≤ limit → AllHave IsWithin ns × (d : List ℕ) × Joins Qs d × (length d ≤ limit)
+joins_hold [] Qs c p few = (tt, c, p, few)
+joins_hold (n ∷ ns) Qs c (x, d, p, i, e) few =
+    let l = ap length e in
+    let k = length-append x d in
+    let r = joins_hold ns Qs d i (omega (arith, l, k, few)) in
+    ((omega (arith, contents_hold n p.contents p.holds, contents_shorter x p, l, k, few), r.0), r.1, r.2, r.3)
 
 -- Bytes have one number.
 pub number_same : (bytes m n : List ℕ) → IsNumberOf bytes m → IsNumberOf bytes n → m ≡ n

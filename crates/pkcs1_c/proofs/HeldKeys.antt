@@ -1,17 +1,21 @@
 -- Keys whose numbers can be held: they have encodings, and only the encoding is rejected.
-use Rattle.std.proofs.Common.{ℕ, List, [], ◌∷◌, ◌≡◌, ◌<◌, length, map, arith, Option, Some, None}
+use Rattle.std.proofs.Common.{ℕ, List, [], ◌∷◌, ◌≡◌, ◌≤◌, ◌<◌, length, length-append, map, ap, subst, arith, Option}
+use Rattle.std.proofs.Common.{Some, None}
 use Rattle.std.specs.declared.alloc.Global.{Global}
 use Rattle.std.specs.declared.vec.Vec.{Vec}
-use Rattle.der_core.specs.Document.{HasEncoding, IsShortest}
-use Rattle.der_core.specs.Integer.{IsCanonical}
-use Rattle.der_core.specs.SequenceOf.{AllHave}
+use Rattle.der_core.specs.Document.{HasEncoding, IsShortest, Means}
+use Rattle.der_core.specs.Integer.{Integer, IsCanonical}
+use Rattle.der_core.specs.Length.{limit}
+use Rattle.der_core.specs.SequenceOf.{AllHave, ItemsContents}
 use Rattle.der_core.specs.UintRefValue.{bytes_of}
 use Rattle.der_core.specs.declared.integer.uint.UintRef.{UintRef}
+use Rattle.der_core.specs.Laws.Growing.{contents_shorter}
 use Rattle.pkcs1.specs.KeyEncodings.{IsOnlyEncoding}
-use Rattle.pkcs1.specs.Keys.{PublicKey, RsaPublicKey, PrivateKey, RsaPrivateKey, OtherPrime, version_of}
+use Rattle.pkcs1.specs.Keys.{PublicKey, RsaPublicKey, PrivateKey, RsaPrivateKey, OtherPrime, OtherPrimeInfo}
+use Rattle.pkcs1.specs.Keys.{OtherPrimeInfos, version_of}
 use Rattle.pkcs1.specs.PrivateKeyValue.{Listed, other_of, others_of, private_key_of}
 use Rattle.pkcs1.specs.PublicKeyValue.{public_key_of}
-use Rattle.pkcs1.specs.Writing.{other_numbers, HasOthers}
+use Rattle.pkcs1.specs.Writing.{key_numbers, other_numbers, HasOther, HasOthers}
 use Rattle.pkcs1.specs.declared.private_key.other_prime_info.OtherPrimeInfo as declared_other
 use Rattle.pkcs1.specs.declared.public_key.RsaPublicKey as declared_public
 use Rattle.pkcs1.specs.Laws.HeldKeys.{borrowed_held, held_has_encoding}
@@ -23,9 +27,9 @@ use Rattle.pkcs1_c.specs.Numbers.{ArePublicNumbers, AreOthersOf, AreOtherNumbers
 use Rattle.pkcs1_c.specs.StructValues.{private_key_seen, other_prime_seen}
 use Rattle.pkcs1_c.specs.StructErrors.{EncodingError, GivenError, PartThen, NumbersError, two_numbers, eight_numbers}
 use Rattle.pkcs1_c.specs.StructErrors.{others_numbers, given_numbers}
-use Rattle.pkcs1_c.specs.Writes.{IsGivenEncoding, NoStatus, Writes}
-use Rattle.pkcs1_c.proofs.Given.{private_same}
-use Rattle.pkcs1_c.proofs.StructErrors.{held_none, none_both, given_error, given_one, numbers_part}
+use Rattle.pkcs1_c.specs.Writes.{IsGivenEncoding, IsTooLong, NoStatus, WritesGiven, WritesValue}
+use Rattle.pkcs1_c.proofs.Given.{joins_hold, private_same}
+use Rattle.pkcs1_c.proofs.StructErrors.{IsWithin, numbers_none, none_both, given_error, given_one, numbers_part}
 use Rattle.pkcs1_c.proofs.Writes.{behind_part, part_refused, writes_as}
 
 -- Why a key of given numbers isn't written.
@@ -34,27 +38,44 @@ module _ {V : Type 0} (numbers : List (List ℕ)) (IsTheGiven : V → Type 0) (G
   abbrev Behind : ℕ → ℕ → Type 0
   Behind = GivenError IsTheGiven Grammar
 
-  pub numbers_refused : (old : List ℕ) (l status s : ℕ) → status ≡ s → NumbersError numbers s
-      → Writes (IsGivenEncoding IsTheGiven Grammar) (λ room. PartThen (NumbersError numbers) (Behind room)) old old l l
-      status
-  numbers_refused old l status s is =
+  abbrev NoNumberError : V → Type 0
+  NoNumberError made =
+      IsTheGiven made → (encoding : List ℕ) → Means Grammar encoding made → NoStatus (NumbersError numbers)
+
+  -- A key that has an encoding within the limit has none of the errors.
+  pub numbers_refused : (old : List ℕ) (l status s : ℕ) → status ≡ s → ((made : V) → NoNumberError made)
+      → NumbersError numbers s
+      → WritesGiven IsTheGiven Grammar (λ room. PartThen (NumbersError numbers) (Behind room)) old old l l status
+  numbers_refused old l status s is fits p =
       part_refused (IsGivenEncoding IsTheGiven Grammar) old l status s is (NumbersError numbers) Behind
-      (numbers_part numbers) (given_one IsTheGiven Grammar same (length old))
+      (numbers_part numbers)
+      (given_one IsTheGiven Grammar same (length old)) (λ made given encoding m. fits made given encoding m s p) p
 
   -- The one that is given is written.
   pub given_written : {old new : List ℕ} {l m s : ℕ} (made : V) → IsTheGiven made → NoStatus (NumbersError numbers)
       → ((encoding : List ℕ) → IsShortest Grammar made encoding → IsOnlyEncoding Grammar made encoding)
-      → Writes (IsShortest Grammar made) (EncodingError Grammar made) old new l m s
-      → Writes (IsGivenEncoding IsTheGiven Grammar) (λ room. PartThen (NumbersError numbers) (Behind room)) old new
-      l m s
+      → WritesValue Grammar made (EncodingError Grammar made) old new l m s
+      → WritesGiven IsTheGiven Grammar (λ room. PartThen (NumbersError numbers) (Behind room)) old new l m s
   given_written {old = old} made given none only w = behind_part (NumbersError numbers) Behind none
-      (writes_as (λ encoding p. (made, given, only encoding p)) (λ t p. (made, given, p))
-      (λ t. given_error IsTheGiven Grammar same (length old) made given t) w)
+      (writes_as (λ encoding p. (made, given, only encoding p))
+      (λ long other is. subst (IsTooLong Grammar) (same made other given is) long)
+      (λ t p. (made, given, p)) (λ t. given_error IsTheGiven Grammar same (length old) made given t) w)
 
 -- Public keys.
-pub public_none : (key : declared_public.RsaPublicKey UintRef) (given : PublicKey (List ℕ))
+public_none : (given made : PublicKey (List ℕ)) → ArePublicNumbers made given → AllHave IsWithin (two_numbers made)
+    → NoStatus (NumbersError (two_numbers given))
+public_none given made are = numbers_none (two_numbers given) (two_numbers made) (are.0, (are.1, tt))
+
+pub public_held : (key : declared_public.RsaPublicKey UintRef) (given : PublicKey (List ℕ))
     → ArePublicNumbers (public_key_of key) given → NoStatus (NumbersError (two_numbers given))
-public_none key given are = held_none (two_numbers given) (key.modulus ∷ key.public_exponent ∷ []) (are.0, (are.1, tt))
+public_held key given are =
+    public_none given (public_key_of key) are (key.modulus.bounded, (key.public_exponent.bounded, tt))
+
+pub public_fits : (given made : PublicKey (List ℕ)) → ArePublicNumbers made given → (encoding : List ℕ)
+    → Means RsaPublicKey encoding made → NoStatus (NumbersError (two_numbers given))
+public_fits given made are encoding m =
+    let few : length m.1.contents ≤ limit = omega (arith, contents_shorter encoding m.1, m.0) in
+    public_none given made are (joins_hold (two_numbers made) [] m.1.contents m.1.holds few).0
 
 pub public_some : (key : declared_public.RsaPublicKey UintRef) → HasEncoding RsaPublicKey (public_key_of key)
 public_some key =
@@ -63,41 +84,35 @@ public_some key =
     public_made (public_key_of key) m.0 e.0 m.1 e.1
 
 -- Other primes.
-pub others_none : (given : List (OtherPrime (List ℕ))) (items : List (declared_other.OtherPrimeInfo UintRef))
-    → AreOthersOf given (map (other_of bytes_of) items) → NoStatus (NumbersError (others_numbers given))
-others_none [] items are s p = p
-others_none (g ∷ gs) [] are s p = are
-others_none (g ∷ gs) (o ∷ os) are s p =
+others_none : (given others : List (OtherPrime (List ℕ))) → AreOthersOf given others
+    → AllHave (HasOther IsWithin) others → NoStatus (NumbersError (others_numbers given))
+others_none [] others are few s p = p
+others_none (g ∷ gs) [] are few s p = are
+others_none (g ∷ gs) (o ∷ os) are few s p =
     none_both (other_numbers g) (others_numbers gs)
-    (held_none (other_numbers g) (o.prime ∷ o.exponent ∷ o.coefficient ∷ []) (are.0.0, (are.0.1, (are.0.2, tt))))
-    (others_none gs os are.1) s p
+    (numbers_none (other_numbers g) (other_numbers o) (are.0.0, (are.0.1, (are.0.2, tt))) few.0)
+    (others_none gs os are.1 few.1) s p
 
-infos_none : (infos : Option (Vec (declared_other.OtherPrimeInfo UintRef) Global)) (given : List (OtherPrime (List ℕ)))
-    → AreOtherNumbers (others_of bytes_of infos) given → NoStatus (NumbersError (others_numbers given))
-infos_none None given are = rw are (λ s p. p)
-infos_none (Some v) given are = others_none given v.items are.1
+infos_none : (infos : Option (List (OtherPrime (List ℕ)))) (given : List (OtherPrime (List ℕ)))
+    → AreOtherNumbers infos given → HasOthers IsWithin infos → NoStatus (NumbersError (others_numbers given))
+infos_none None given are few = rw are (λ s p. p)
+infos_none (Some others) given are few = others_none given others are.1 few.1
 
--- Private keys.
-pub private_none : (key : c.PrivateKey) (others : List c_other.OtherPrime) (made : Listed UintRef)
-    → IsGiven key others (private_key_of made) → NoStatus (NumbersError (given_numbers key others))
-private_none key others made given =
-    let are = given.1 in
-    let eight =
-    made.modulus ∷ made.public_exponent ∷ made.private_exponent ∷ made.prime1 ∷ made.prime2 ∷ made.exponent1
-    ∷ made.exponent2 ∷ made.coefficient ∷ [] in
-    let none =
-    held_none (eight_numbers key) eight (are.0, (are.1, (are.2, (are.3, (are.4, (are.5, (are.6, (are.7, tt))))))))
-    in
-    none_both (eight_numbers key) (others_numbers (map other_prime_seen others)) none
-    (infos_none made.other_prime_infos (map other_prime_seen others) are.8)
+encodings_within : (others : List (OtherPrime (List ℕ))) (c : List ℕ) → ItemsContents (OtherPrimeInfo Integer) others c
+    → length c ≤ limit → AllHave (HasOther IsWithin) others
+encodings_within [] c p few = tt
+encodings_within (o ∷ os) c (x, r, q, rest, e) few =
+    let k = ap length e in
+    let j = length-append x r in (
+      (joins_hold (other_numbers o) [] q.contents q.holds (omega (arith, k, j, few, contents_shorter x q))).0,
+      encodings_within os r rest (omega (arith, k, j, few)),
+    )
 
-others_canonical : (items : List (declared_other.OtherPrimeInfo UintRef))
-    → AllHave (λ other. AllHave IsCanonical (other_numbers other)) (map (other_of bytes_of) items)
-others_canonical [] = tt
-others_canonical (o ∷ os) = (
-  ((borrowed_held o.prime).0, ((borrowed_held o.exponent).0, ((borrowed_held o.coefficient).0, tt))),
-  others_canonical os,
-)
+infos_within : (infos : Option (List (OtherPrime (List ℕ)))) (d : List ℕ) → OtherPrimeInfos Integer infos d
+    → length d ≤ limit → HasOthers IsWithin infos
+infos_within None d p few = tt
+infos_within (Some others) d p few =
+    (p.0, encodings_within others p.1.contents p.1.holds (omega (arith, contents_shorter d p.1, few)))
 
 not_empty : (given others : List (OtherPrime (List ℕ))) → 0 < length given → AreOthersOf given others
     → 0 < length others
@@ -105,44 +120,80 @@ not_empty [] others l p = absurd (omega (arith, l))
 not_empty (g ∷ gs) [] l p = absurd p
 not_empty (g ∷ gs) (o ∷ os) l p = omega arith
 
-infos_have : (infos : Option (Vec (declared_other.OtherPrimeInfo UintRef) Global)) (given : List (OtherPrime (List ℕ)))
-    → AreOtherNumbers (others_of bytes_of infos) given
-    → (version_of (others_of bytes_of infos) < 2) × HasOthers IsCanonical (others_of bytes_of infos)
-infos_have None given are = (omega arith, tt)
-infos_have (Some v) given are =
-    (omega arith, (not_empty given (map (other_of bytes_of) v.items) are.0 are.1, others_canonical v.items))
+-- What is so of all numbers that are held.
+module _ (Has : List ℕ → Type 0) (held : (number : UintRef) → Has (bytes_of number)) where
+  items_have : (items : List (declared_other.OtherPrimeInfo UintRef))
+      → AllHave (HasOther Has) (map (other_of bytes_of) items)
+  items_have [] = tt
+  items_have (o ∷ os) = ((held o.prime, (held o.exponent, (held o.coefficient, tt))), items_have os)
+
+  infos_have : (infos : Option (Vec (declared_other.OtherPrimeInfo UintRef) Global))
+      (given : List (OtherPrime (List ℕ))) → AreOtherNumbers (others_of bytes_of infos) given
+      → HasOthers Has (others_of bytes_of infos)
+  infos_have None given are = tt
+  infos_have (Some v) given are = (not_empty given (map (other_of bytes_of) v.items) are.0 are.1, items_have v.items)
+
+  key_has : (key : Listed UintRef) → AllHave Has (key_numbers (private_key_of key))
+  key_has key = (
+    held key.modulus,
+    (
+      held key.public_exponent,
+      (
+        held key.private_exponent,
+        (
+          held key.prime1,
+          (held key.prime2, (held key.exponent1, (held key.exponent2, (held key.coefficient, tt)))),
+        ),
+      ),
+    ),
+  )
+
+-- Those that were made so far.
+pub items_none : (given : List (OtherPrime (List ℕ))) (items : List (declared_other.OtherPrimeInfo UintRef))
+    → AreOthersOf given (map (other_of bytes_of) items) → NoStatus (NumbersError (others_numbers given))
+items_none given items are =
+    others_none given (map (other_of bytes_of) items) are (items_have IsWithin (λ number. number.bounded) items)
+
+version_small : (infos : Option (List (OtherPrime (List ℕ)))) → version_of infos < 2
+version_small None = omega arith
+version_small (Some others) = omega arith
 
 pub private_some : (key : Listed UintRef) (given : List (OtherPrime (List ℕ)))
     → AreOtherNumbers (others_of bytes_of key.other_prime_infos) given → HasEncoding RsaPrivateKey (private_key_of key)
 private_some key given are =
-    let h = infos_have key.other_prime_infos given are in
+    let canonical : (number : UintRef) → IsCanonical (bytes_of number) = λ number. (borrowed_held number).0 in
     held_has_encoding bytes_of borrowed_held key (
-      h.0,
-      (
-        (
-          (borrowed_held key.modulus).0,
-          (
-            (borrowed_held key.public_exponent).0,
-            (
-              (borrowed_held key.private_exponent).0,
-              (
-                (borrowed_held key.prime1).0,
-                (
-                  (borrowed_held key.prime2).0,
-                  (
-                    (borrowed_held key.exponent1).0,
-                    ((borrowed_held key.exponent2).0, ((borrowed_held key.coefficient).0, tt)),
-                  ),
-                ),
-              ),
-            ),
-          ),
-        ),
-        h.1,
-      ),
+      version_small (others_of bytes_of key.other_prime_infos),
+      (key_has IsCanonical canonical key, infos_have IsCanonical canonical key.other_prime_infos given are),
     )
 
 -- A key that is given.
-pub given_same : (key : c.PrivateKey) (others : List c_other.OtherPrime) (k l : PrivateKey (List ℕ))
-    → IsGiven key others k → IsGiven key others l → k ≡ l
-given_same key others k l p q = private_same (private_key_seen key None) k l (map other_prime_seen others) p.1 q.1
+module _ (key : c.PrivateKey) (others : List c_other.OtherPrime) where
+  private_none : (made : PrivateKey (List ℕ)) → IsGiven key others made → AllHave IsWithin (key_numbers made)
+      → HasOthers IsWithin made.other_prime_infos → NoStatus (NumbersError (given_numbers key others))
+  private_none made (many, are) few infos =
+      none_both (eight_numbers key) (others_numbers (map other_prime_seen others))
+      (numbers_none (eight_numbers key) (key_numbers made)
+      (are.0, (are.1, (are.2, (are.3, (are.4, (are.5, (are.6, (are.7, tt)))))))) few)
+      (infos_none made.other_prime_infos (map other_prime_seen others) are.8 infos)
+
+  pub private_held : (made : Listed UintRef) → IsGiven key others (private_key_of made)
+      → NoStatus (NumbersError (given_numbers key others))
+  private_held made given =
+      let bounded : (number : UintRef) → IsWithin (bytes_of number) = λ number. number.bounded in
+      private_none (private_key_of made) given (key_has IsWithin bounded made)
+      (infos_have IsWithin bounded made.other_prime_infos (map other_prime_seen others) given.1.8)
+
+  pub private_fits : (made : PrivateKey (List ℕ)) → IsGiven key others made → (encoding : List ℕ)
+      → Means RsaPrivateKey encoding made → NoStatus (NumbersError (given_numbers key others))
+  private_fits made given encoding m =
+      let (x, c, version, numbers, e) = m.1.holds in
+      let few : length c ≤ limit = omega (arith, ap length e, length-append x c, contents_shorter encoding m.1, m.0) in
+      let (eight, d, (y, z, infos, nil, f), short) =
+      joins_hold (key_numbers made) (OtherPrimeInfos Integer made.other_prime_infos ∷ []) c numbers few in
+      let l = ap length f in
+      let k = length-append y z in
+      private_none made given eight (infos_within made.other_prime_infos y infos (omega (arith, short, l, k)))
+
+  pub given_same : (k l : PrivateKey (List ℕ)) → IsGiven key others k → IsGiven key others l → k ≡ l
+  given_same k l p q = private_same (private_key_seen key None) k l (map other_prime_seen others) p.1 q.1

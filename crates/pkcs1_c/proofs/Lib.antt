@@ -1,5 +1,6 @@
 pub mod AlgorithmWrites
 pub mod Containers
+pub mod Fits
 pub mod Given
 pub mod HeldKeys
 pub mod HeldParameters

@@ -3,9 +3,9 @@ use Rattle.std.proofs.Common.{ℕ, zero, suc, List, [], ◌∷◌, ◌++◌, ◌
 use Rattle.std.proofs.Common.{sym, ap, subst, ◌∙◌, arith, Option, Some, None, inl, inr, ⊎_elim, true, false}
 use Rattle.der_core.specs.Document.{IsShortest}
 use Rattle.der_core.specs.IntegerReading.{WhyNoNumber}
+use Rattle.der_core.specs.Length.{limit}
+use Rattle.der_core.specs.SequenceOf.{AllHave}
 use Rattle.der_core.specs.declared.error.ErrorKind.{ErrorKind}
-use Rattle.der_core.specs.declared.integer.uint.UintRef.{UintRef}
-use Rattle.der_core.specs.UintRefValue.{bytes_of}
 use Rattle.pkcs1.specs.Keys.{OtherPrime}
 use Rattle.pkcs1.specs.Writing.{other_numbers}
 use Rattle.spki_core.specs.Any.{TagAndContents}
@@ -104,26 +104,32 @@ number_part bytes = (one, told)
     told s (inl p) = (omega (arith, p.0), λ e. omega (arith, e, p.0))
     told s (inr p) = (omega (arith, p.0), λ e. omega (arith, e, p.0))
 
-pub number_none : (bytes : List ℕ) (number : UintRef) → IsNumberOf bytes (bytes_of number)
-    → NoStatus (NumberError bytes)
-number_none bytes number is s (inl p) = omega (arith, p.1, is.0)
-number_none bytes number is s (inr p) = omega (arith, p.2 (bytes_of number) is, number.bounded)
+pub number_none : (bytes n : List ℕ) → IsNumberOf bytes n → length n ≤ limit → NoStatus (NumberError bytes)
+number_none bytes n is few s (inl p) = omega (arith, p.1, is.0)
+number_none bytes n is few s (inr p) = omega (arith, p.2 n is, few)
 
 pub numbers_part : (ns : List (List ℕ)) → IsPart (NumbersError ns)
 numbers_part [] = (λ s t p q. absurd p, λ s p. absurd p)
 numbers_part (n ∷ ns) = part_then (NumberError n) (NumbersError ns) (number_part n) (numbers_part ns)
 
--- Numbers that are held.
-abbrev pub AreHeld : List (List ℕ) → List UintRef → Type 0
-AreHeld [] us = Unit {0}
-AreHeld (n ∷ ns) [] = ⊥
-AreHeld (n ∷ ns) (u ∷ us) = IsNumberOf n (bytes_of u) × AreHeld ns us
+pub held_none : (ns : List (List ℕ)) → AllHave (λ n. NoStatus (NumberError n)) ns → NoStatus (NumbersError ns)
+held_none [] none s p = p
+held_none (n ∷ ns) none s p = part_none (NumberError n) (NumbersError ns) none.0 (held_none ns none.1) s p
 
-pub held_none : (ns : List (List ℕ)) (us : List UintRef) → AreHeld ns us → NoStatus (NumbersError ns)
-held_none [] us are s p = p
-held_none (n ∷ ns) [] are s p = are
-held_none (n ∷ ns) (u ∷ us) are s p =
-    part_none (NumberError n) (NumbersError ns) (number_none n u are.0) (held_none ns us are.1) s p
+-- Numbers within the limit.
+abbrev pub IsWithin : List ℕ → Type 0
+IsWithin n = length n ≤ limit
+
+abbrev pub AreNumbersOf : List (List ℕ) → List (List ℕ) → Type 0
+AreNumbersOf [] ms = Unit {0}
+AreNumbersOf (n ∷ ns) [] = ⊥
+AreNumbersOf (n ∷ ns) (m ∷ ms) = IsNumberOf n m × AreNumbersOf ns ms
+
+pub numbers_none : (ns ms : List (List ℕ)) → AreNumbersOf ns ms → AllHave IsWithin ms → NoStatus (NumbersError ns)
+numbers_none [] ms are few s p = p
+numbers_none (n ∷ ns) [] are few s p = are
+numbers_none (n ∷ ns) (m ∷ ms) are few s p =
+    part_none (NumberError n) (NumbersError ns) (number_none n m are.0 few.0) (numbers_none ns ms are.1 few.1) s p
 
 numbers_before : (ns ms : List (List ℕ)) (s : ℕ) → NumbersError ns s → NumbersError (ns ++ ms) s
 numbers_before [] ms s p = absurd p

@@ -22,7 +22,7 @@ use Rattle.pkcs1_c.specs.Given.{IsGiven}
 use Rattle.pkcs1_c.specs.Numbers.{IsNumberOf, ArePublicNumbers}
 use Rattle.pkcs1_c.specs.Status.{IsNumberOfFault}
 use Rattle.pkcs1_c.specs.StructValues.{private_key_seen, other_prime_seen}
-use Rattle.pkcs1_c.specs.Writes.{IsTooLong, NoStatus, Writes}
+use Rattle.pkcs1_c.specs.Writes.{IsTooLong, NoStatus, WritesValue}
 
 -- All parts can be held: the value has no encoding within the limit, or its shortest one is longer than the room.
 abbrev pub EncodingError : {V : Type 0} → (V → List ℕ → Type 0) → V → ℕ → ℕ → Type 0
@@ -124,4 +124,4 @@ OaepFieldError p = HashFieldsThen p.hash p.mask_gen (PlainError p.p_source)
 abbrev pub WritesFields : {V : Type 0} → (V → ℕ → Type 0) → (V → List ℕ → Type 0) → V → List ℕ → List ℕ → ℕ → ℕ → ℕ
     → Type 0
 WritesFields FieldError Grammar v =
-    Writes (IsShortest Grammar v) (λ room. PartThen (FieldError v) (EncodingError Grammar v room))
+    WritesValue Grammar v (λ room. PartThen (FieldError v) (EncodingError Grammar v room))

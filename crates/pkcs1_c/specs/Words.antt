@@ -10,4 +10,4 @@ pub use Rattle.pkcs1_c.specs.StructErrors.{two_numbers}
 pub use Rattle.pkcs1_c.specs.StructValues.{AlgorithmIsTidy, AreListed, ArePlaced, MaskGenIsTidy, OaepIsTidy, PssIsTidy}
 pub use Rattle.pkcs1_c.specs.StructValues.{algorithm_seen, mask_gen_seen, oaep_seen, other_prime_seen, private_key_seen}
 pub use Rattle.pkcs1_c.specs.StructValues.{pss_seen, public_key_seen}
-pub use Rattle.pkcs1_c.specs.Writes.{IsGivenEncoding, IsTooLong, NoStatus, Writes}
+pub use Rattle.pkcs1_c.specs.Writes.{IsTooLong, NoStatus, Writes, WritesGiven, WritesValue}

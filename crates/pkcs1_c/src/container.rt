@@ -1,13 +1,13 @@
 //! RSA keys in PKCS #8 containers.
 ghost use Rattle.std.specs.Prelude.{◌≡◌, ◌≢◌, ℕ, List, Option, drop, IfOk, OnErr};
-ghost use Rattle.der_core.specs.Words.{Means, IsShortest, HasEncoding};
+ghost use Rattle.der_core.specs.Words.{IsShortest, HasEncoding};
 ghost use Rattle.pkcs1.specs.Words.{RsaPrivateKeyFault, view_of, viewed_encoding};
 ghost use Rattle.pkcs1.specs.Keys.{OtherPrime as Prime, PrivateKey as Key};
 ghost use Rattle.pkcs8_core.specs.Container as container;
-ghost use Rattle.pkcs1_params.specs.Words.{ErrsExactly, IsTheMeaning, IsTheOnly};
-ghost use Rattle.pkcs8_core.specs.Words.{RsaPrivateKeyInfoFault, info_of, rsa_encryption, HoldsRsa};
-ghost use Rattle.pkcs1_c.specs.Words.{info_seen, InfoIsTidy, HoldsKey, HoldsSomeKey, Writes, private_key_seen};
-ghost use Rattle.pkcs1_c.specs.Words.{AreListed, IsStatusOf, InfoError};
+ghost use Rattle.pkcs1_params.specs.Words.{ErrsExactly, IsNoSentence, IsTheMeaning, IsTheOnly};
+ghost use Rattle.pkcs8_core.specs.Words.{RsaPrivateKeyInfoFault, info_of, rsa_encryption, HoldsRsa, RsaPrivateKeyInfo};
+ghost use Rattle.pkcs1_c.specs.Words.{info_seen, InfoIsTidy, HoldsKey, HoldsSomeKey, IsTooLong, Writes};
+ghost use Rattle.pkcs1_c.specs.Words.{private_key_seen, AreListed, IsStatusOf, InfoError};
 
 use crate::private_key::{OtherPrime, PrivateKey, to_c_key};
 use crate::status::{OK, status};
@@ -34,8 +34,7 @@ fn read_container<'a>(
 ) -> pkcs1::Result<(PrivateKeyInfoRef<'a>, RsaPrivateKeyView<'a>)>
     ensures ok { IfOk result (λ read. IsTheMeaning container.PrivateKeyInfo encoding.now (info_of read.0)) }
     ensures key { IfOk result (λ read. IsTheOnly (HoldsRsa (info_of read.0)) (view_of read.1)) }
-    ensures err { OnErr result ((info : container.Info) (key : Key (List ℕ))
-        → Means container.PrivateKeyInfo encoding.now info → HoldsRsa info key → ⊥) }
+    ensures err { OnErr result (IsNoSentence RsaPrivateKeyInfo encoding.now) }
     ensures exact { ErrsExactly RsaPrivateKeyInfoFault encoding.now result }
 {
     let info = PrivateKeyInfoRef::try_from(encoding)?;
@@ -79,8 +78,7 @@ pub extern "C" fn pkcs1_c_private_key_info_decode<'a>(
     ensures rest { result ≡ OK → drop key.new.other_primes others.new ≡ drop key.new.other_primes others.old }
     ensures one_key { result ≡ OK → (other : Key (List ℕ)) → HoldsKey info.new other
         → other ≡ private_key_seen key.new other.other_prime_infos }
-    ensures rejected { result ≢ OK → (other : container.Info) (held : Key (List ℕ))
-        → Means container.PrivateKeyInfo encoding.now other → HoldsRsa other held → ⊥ }
+    ensures rejected { result ≢ OK → IsNoSentence RsaPrivateKeyInfo encoding.now }
     ensures exact { IsStatusOf RsaPrivateKeyInfoFault encoding.now result }
     ensures tidy { result ≡ OK → InfoIsTidy info.new }
     ensures unchanged { result ≢ OK → (info.new ≡ info.old) × (key.new ≡ key.old) × (others.new ≡ others.old) }
@@ -127,7 +125,8 @@ pub extern "C" fn pkcs1_c_private_key_info_encode(
     len: &mut usize,
 ) -> u32
     ensures { let IsEncoding = IsShortest container.PrivateKeyInfo (info_seen info.now) in
-        Writes (λ encoding. HoldsSomeKey info.now × IsEncoding encoding) (InfoError info.now)
+        Writes (λ encoding. HoldsSomeKey info.now × IsEncoding encoding)
+        (HoldsSomeKey info.now → IsTooLong container.PrivateKeyInfo (info_seen info.now)) (InfoError info.now)
         out.old out.new len.old len.new result }
 {
     match from_c_info(info) {

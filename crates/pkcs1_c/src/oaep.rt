@@ -5,7 +5,7 @@ ghost use Rattle.pkcs1_params.specs.Words.{IsNoSentence, IsNoShortest, IsTheMean
 ghost use Rattle.pkcs1_params.specs.Words.{RsaOaepParamsFault, StrictOaepFault};
 ghost use Rattle.pkcs1_params.specs.Parameters as grammar;
 ghost use Rattle.pkcs1_c.specs.Words.{IsStatusOf, status_of, oaep_seen, OaepIsTidy, EncodingError, OaepFieldError};
-ghost use Rattle.pkcs1_c.specs.Words.{WritesFields, Writes};
+ghost use Rattle.pkcs1_c.specs.Words.{WritesFields, WritesValue};
 
 use crate::algorithm::{
     Algorithm, MaskGen, from_c_algorithm, from_c_mask_gen, to_c_algorithm, to_c_mask_gen,
@@ -54,7 +54,7 @@ pub(crate) fn from_c_oaep<'a>(params: &OaepParams<'a>) -> pkcs1::Result<RsaOaepP
 fn write_oaep(params: &RsaOaepParamsView<'_>, out: &mut [u8], len: &mut usize) -> u32
     requires { HasEncoding grammar.RsaOaepParams (oaep_viewed params.now) }
     ensures { let v = oaep_viewed params.now in let Grammar = grammar.RsaOaepParams in
-        Writes (IsShortest Grammar v) (EncodingError Grammar v) out.old out.new len.old len.new result }
+        WritesValue Grammar v (EncodingError Grammar v) out.old out.new len.old len.new result }
 {
     match params.encode_params(out) {
         Ok(written) => {

@@ -6,8 +6,8 @@ ghost use Rattle.pkcs1.specs.Keys as grammar;
 ghost use Rattle.pkcs1.specs.Words.{others_left, other_of, private_key_of, others_of, view_of, listed_others};
 ghost use Rattle.pkcs1.specs.Words.{RsaPrivateKeyFault, other_numbers};
 ghost use Rattle.pkcs1_c.specs.Words.{IsStatusOf, status_of, private_key_seen, other_prime_seen, ArePlaced, AreListed};
-ghost use Rattle.pkcs1_c.specs.Words.{IsGiven, IsOtherOf, AreOtherNumbers, IsGivenEncoding, Writes, NumbersError};
-ghost use Rattle.pkcs1_c.specs.Words.{PrivateKeyError, MayRunOutOfMemory, given_numbers, others_numbers};
+ghost use Rattle.pkcs1_c.specs.Words.{IsGiven, IsOtherOf, AreOtherNumbers, WritesGiven, NumbersError, PrivateKeyError};
+ghost use Rattle.pkcs1_c.specs.Words.{MayRunOutOfMemory, given_numbers, others_numbers};
 ghost use Rattle.pkcs1_params.specs.Words.{IsNoSentence};
 
 use crate::numbers::number;
@@ -218,8 +218,8 @@ pub extern "C" fn pkcs1_c_private_key_encode(
     len: &mut usize,
 ) -> u32
     ensures writes { result ≢ OUT_OF_MEMORY
-        → let IsEncoding = IsGivenEncoding (IsGiven key.now others.now) grammar.RsaPrivateKey in
-        Writes IsEncoding (PrivateKeyError key.now others.now) out.old out.new len.old len.new result }
+        → let Given = IsGiven key.now others.now in let WhyNot = PrivateKeyError key.now others.now in
+        WritesGiven Given grammar.RsaPrivateKey WhyNot out.old out.new len.old len.new result }
     ensures memory { result ≡ OUT_OF_MEMORY
         → MayRunOutOfMemory key.now others.now × (out.new ≡ out.old) × (len.new ≡ len.old) }
 {

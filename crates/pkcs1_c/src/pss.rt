@@ -5,7 +5,7 @@ ghost use Rattle.pkcs1_params.specs.Words.{IsNoSentence, IsNoShortest, IsTheMean
 ghost use Rattle.pkcs1_params.specs.Words.{RsaPssParamsFault, StrictPssFault};
 ghost use Rattle.pkcs1_params.specs.Parameters as grammar;
 ghost use Rattle.pkcs1_c.specs.Words.{IsStatusOf, status_of, pss_seen, PssIsTidy, EncodingError, PssFieldError};
-ghost use Rattle.pkcs1_c.specs.Words.{WritesFields, Writes};
+ghost use Rattle.pkcs1_c.specs.Words.{WritesFields, WritesValue};
 
 use crate::algorithm::{
     Algorithm, MaskGen, from_c_algorithm, from_c_mask_gen, to_c_algorithm, to_c_mask_gen,
@@ -66,7 +66,7 @@ pub(crate) fn from_c_pss<'a>(params: &PssParams<'a>) -> pkcs1::Result<RsaPssPara
 fn write_pss(params: &RsaPssParamsView<'_>, out: &mut [u8], len: &mut usize) -> u32
     requires { HasEncoding grammar.RsaPssParams (pss_viewed params.now) }
     ensures { let v = pss_viewed params.now in let Grammar = grammar.RsaPssParams in
-        Writes (IsShortest Grammar v) (EncodingError Grammar v) out.old out.new len.old len.new result }
+        WritesValue Grammar v (EncodingError Grammar v) out.old out.new len.old len.new result }
 {
     match params.encode_params(out) {
         Ok(written) => {

@@ -2,8 +2,8 @@
 ghost use Rattle.std.specs.Prelude.{◌≡◌, ◌≢◌, IfOk, IfErr};
 ghost use Rattle.pkcs1.specs.Keys as grammar;
 ghost use Rattle.pkcs1.specs.Words.{public_key_of, RsaPublicKeyFault};
-ghost use Rattle.pkcs1_c.specs.Words.{ArePublicNumbers, IsGivenEncoding, Writes, public_key_seen, NumbersError};
-ghost use Rattle.pkcs1_c.specs.Words.{PublicKeyError, two_numbers, status_of, IsStatusOf};
+ghost use Rattle.pkcs1_c.specs.Words.{ArePublicNumbers, WritesGiven, public_key_seen, NumbersError, PublicKeyError};
+ghost use Rattle.pkcs1_c.specs.Words.{two_numbers, status_of, IsStatusOf};
 ghost use Rattle.pkcs1_params.specs.Words.{IsNoSentence, IsTheMeaning};
 
 use crate::numbers::number;
@@ -59,8 +59,8 @@ pub extern "C" fn pkcs1_c_public_key_encode(
     len: &mut usize,
 ) -> u32
     ensures { let given = public_key_seen key.now in
-        let IsEncoding = IsGivenEncoding (λ made. ArePublicNumbers made given) grammar.RsaPublicKey in
-        Writes IsEncoding (PublicKeyError given) out.old out.new len.old len.new result }
+        WritesGiven (λ made. ArePublicNumbers made given) grammar.RsaPublicKey (PublicKeyError given)
+        out.old out.new len.old len.new result }
 {
     match from_c_key(key) {
         Ok(key) => write_encoding(&key, out, len),

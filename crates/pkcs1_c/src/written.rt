@@ -1,7 +1,7 @@
 //! Encoding into a caller's slice.
 ghost use Rattle.std.specs.Prelude.{◌≡◌, ℕ, List, length};
 ghost use Rattle.der_core.specs.Words.{HasEncoding, IsShortest};
-ghost use Rattle.pkcs1_c.specs.Words.{EncodingError, IsTooLong, Writes};
+ghost use Rattle.pkcs1_c.specs.Words.{EncodingError, IsTooLong, WritesValue};
 
 use crate::status::{OK, kind_number};
 use der_core::Encode;
@@ -22,7 +22,7 @@ pub(crate) fn set_needed<T: Encode>(value: &T, len: &mut usize)
 pub(crate) fn write_encoding<T: Encode>(value: &T, out: &mut [u8], len: &mut usize) -> u32
     requires { HasEncoding T.encoding (T.value value.now) }
     ensures { let v = T.value value.now in
-        Writes (IsShortest T.encoding v) (EncodingError T.encoding v) out.old out.new len.old len.new result }
+        WritesValue T.encoding v (EncodingError T.encoding v) out.old out.new len.old len.new result }
 {
     match value.encode_into(out) {
         Ok(written) => {

@@ -4,7 +4,7 @@ use Rattle.pkcs1.specs.KeyFaults.{RsaPrivateKeyFault}
 use Rattle.pkcs8_core.specs.Container.{PrivateKeyInfo}
 use Rattle.pkcs1_c.specs.Containers.{info_seen, HoldsSomeKey}
 use Rattle.pkcs1_c.specs.StructErrors.{InfoError}
-use Rattle.pkcs1_c.proofs.Containers.{info_one, info_rest}
+use Rattle.pkcs1_c.proofs.Containers.{fault_none, info_one, info_rest}
 use Rattle.pkcs1_c.proofs.NotWritten.{status_known}
 use Rattle.pkcs1_c.proofs.Writes.{refused, writes_as}
 use Rattle.pkcs1_c.proofs.container.pkcs1_c_private_key_info_encode.Goals as goal
@@ -16,7 +16,7 @@ pub returns-in-Ok : goal.returns-in-Ok
 returns-in-Ok c =
     let info = c.args.info.now in
     let holds = c.in-Ok.ensures.key in
-    writes_as {B = InfoError info} (λ _ p. (holds, p)) (λ t p. inr (holds, p))
+    writes_as {B = InfoError info} (λ _ p. (holds, p)) (λ long _. long) (λ t p. inr (holds, p))
     (info_rest info (length c.args.out.now) holds) (rw (c.in-Ok.ensures.ok) at c.write_encoding.ensures)
 
 pub returns-in-Err : goal.returns-in-Err
@@ -25,4 +25,5 @@ returns-in-Err c =
     let e = status_known RsaPrivateKeyFault info.private_key.now c.in-Err.failure c.in-Err.ensures.exact in
     refused (λ encoding. HoldsSomeKey info × IsShortest PrivateKeyInfo (info_seen info) encoding) c.args.out.now
     c.args.len.now _ _ c.status.ensures (InfoError info) (info_one info (length c.args.out.now))
-    (e.0.0, λ full. omega (arith, full, e.0.1)) (inl e.1)
+    (e.0.0, λ full. omega (arith, full, e.0.1))
+    (λ holds. absurd (fault_none info _ e.1 holds)) (inl e.1)

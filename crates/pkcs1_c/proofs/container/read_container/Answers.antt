@@ -1,29 +1,24 @@
-use Rattle.std.proofs.Common.{ℕ, List, subst}
+use Rattle.std.proofs.Common.{subst}
 use Rattle.std.specs.Prelude.{Ok, Err}
 use Rattle.std.proofs.lemmas.Result.{err_from_is_err_and}
-use Rattle.der_core.specs.Document.{Means}
-use Rattle.pkcs1.specs.Keys.{PrivateKey}
-use Rattle.pkcs8_core.specs.Container.{Info, PrivateKeyInfo}
+use Rattle.pkcs8_core.specs.Container.{PrivateKeyInfo}
 use Rattle.pkcs8_core.specs.ContainerFaults.{PrivateKeyInfoFault, RsaFault}
-use Rattle.pkcs8_core.specs.Rsa.{HoldsRsa}
+use Rattle.pkcs8_core.specs.Rsa.{HoldsRsa, RsaPrivateKeyInfo}
 use Rattle.pkcs1_params.specs.Laws.Errors.{on_err}
+use Rattle.pkcs1_params.specs.Meanings.{IsNoSentence}
 use Rattle.pkcs1_params.specs.Laws.FaultsTold.{fault_before, errs_behind}
 use Rattle.pkcs1_c.proofs.container.read_container.Goals as goal
 
--- The encoding is no container with an RSA key.
-abbrev HoldsNone : List ℕ → Type 0
-HoldsNone encoding =
-    (info : Info) (key : PrivateKey (List ℕ)) → Means PrivateKeyInfo encoding info → HoldsRsa info key → ⊥
-
 pub returns-in_err-info-clause-err : goal.returns-in_err-info-clause-err
 returns-in_err-info-clause-err c =
-    on_err (HoldsNone c.args.encoding.now) _ (λ info _ m _. c.in_err-info.ensures.err info m)
+    on_err (IsNoSentence RsaPrivateKeyInfo c.args.encoding.now) _
+    (λ key m. c.in_err-info.ensures.err m.1.0 (m.0, m.1.1))
 
 pub returns-in_err-view-clause-err : goal.returns-in_err-view-clause-err
 returns-in_err-view-clause-err c =
-    on_err (HoldsNone c.args.encoding.now) _
-    (λ info key m holds. c.in_err-view.ensures.err key
-    (subst (λ i. HoldsRsa i key) (c.in_ok-info.ensures.ok.1 info m) holds))
+    on_err (IsNoSentence RsaPrivateKeyInfo c.args.encoding.now) _
+    (λ key m. c.in_err-view.ensures.err key
+    (subst (λ i. HoldsRsa i key) (c.in_ok-info.ensures.ok.1 m.1.0 (m.0, m.1.1)) m.1.2))
 
 pub returns-in_err-info-clause-exact : goal.returns-in_err-info-clause-exact
 returns-in_err-info-clause-exact c =

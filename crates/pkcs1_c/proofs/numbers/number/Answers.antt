@@ -9,4 +9,5 @@ returns-in_err-new-clause-err c =
 
 pub returns-clause-held : goal.returns-clause-held
 returns-clause-held c =
-    let made = c.in_ok-new.ensures in number_none c.args.bytes.now c.in_ok-new.field-0 (made.some, made.ok.1, made.ok.0)
+    let made = c.in_ok-new.ensures in
+    number_none c.args.bytes.now _ (made.some, made.ok.1, made.ok.0) c.in_ok-new.field-0.bounded

@@ -1,6 +1,7 @@
 use Rattle.pkcs1_params.specs.Parameters.{RsaOaepParams}
 use Rattle.pkcs1_c.specs.StructValues.{oaep_seen}
 use Rattle.pkcs1_c.specs.StructErrors.{OaepFieldError}
+use Rattle.pkcs1_c.proofs.Fits.{oaep_fits}
 use Rattle.pkcs1_c.proofs.HeldParameters.{oaep_none, oaep_some}
 use Rattle.pkcs1_c.proofs.StructErrors.{oaep_part}
 use Rattle.pkcs1_c.proofs.Writes.{fields_refused, fields_written}
@@ -19,4 +20,4 @@ pub returns-in-Err : goal.returns-in-Err
 returns-in-Err c =
     let seen = oaep_seen c.args.params.now in
     fields_refused OaepFieldError RsaOaepParams seen c.args.out.now c.args.len.now _ _ c.status.ensures (oaep_part seen)
-    c.in-Err.ensures.err
+    (oaep_fits seen) c.in-Err.ensures.err

@@ -3,7 +3,8 @@ use Rattle.pkcs1_params.specs.Algorithms.{id_rsaes_oaep, RsaOaepAlgorithm}
 use Rattle.pkcs1_params.specs.Parameters.{RsaOaepParams, with_parameters}
 use Rattle.pkcs1_c.specs.StructValues.{oaep_seen}
 use Rattle.pkcs1_c.specs.StructErrors.{OaepFieldError}
-use Rattle.pkcs1_c.proofs.AlgorithmWrites.{identifier_written}
+use Rattle.pkcs1_c.proofs.AlgorithmWrites.{identifier_written, parameters_fit}
+use Rattle.pkcs1_c.proofs.Fits.{oaep_fits}
 use Rattle.pkcs1_c.proofs.HeldParameters.{oaep_none}
 use Rattle.pkcs1_c.proofs.StructErrors.{oaep_part}
 use Rattle.pkcs1_c.proofs.Writes.{fields_refused, fields_written}
@@ -24,4 +25,5 @@ pub returns-in-Err : goal.returns-in-Err
 returns-in-Err c =
     let seen = oaep_seen c.args.params.now in
     fields_refused OaepFieldError RsaOaepAlgorithm seen c.args.out.now c.args.len.now _ _ c.status.ensures
-    (oaep_part seen) c.in-Err.ensures.err
+    (oaep_part seen)
+    (parameters_fit RsaOaepParams id_rsaes_oaep seen (oaep_fits seen)) c.in-Err.ensures.err

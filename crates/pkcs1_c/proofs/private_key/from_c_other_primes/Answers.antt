@@ -7,7 +7,7 @@ use Rattle.pkcs1_c.specs.Status.{status_of}
 use Rattle.pkcs1_c.specs.StructValues.{other_prime_seen}
 use Rattle.pkcs1_c.specs.StructErrors.{NumbersError, others_numbers}
 use Rattle.pkcs1_c.proofs.Given.{err_handed}
-use Rattle.pkcs1_c.proofs.HeldKeys.{others_none}
+use Rattle.pkcs1_c.proofs.HeldKeys.{items_none}
 use Rattle.pkcs1_c.proofs.Lists.{others_step}
 use Rattle.pkcs1_c.proofs.StructErrors.{others_at}
 use Rattle.pkcs1_c.proofs.private_key.from_c_other_primes.Goals as goal
@@ -23,9 +23,8 @@ Told others e = status_of e ≢ 17 → NumbersError (others_numbers (map other_p
 
 pub returns-in_err-info-clause-err : goal.returns-in_err-info-clause-err
 returns-in_err-info-clause-err c =
-    let made =
-    others_none (take c.loop-other.other-index (map other_prime_seen c.args.others.now)) c.loop-other.infos.items
-    c.loop-other.invariant in
+    let made = items_none (take c.loop-other.other-index (map other_prime_seen c.args.others.now))
+    c.loop-other.infos.items c.loop-other.invariant in
     err_handed (Told c.args.others.now) c.in_err-info.field-0.0 _ c.from_residual.ensures.1
     (λ _. others_at other_prime_seen c.args.others.now c.loop-other.other-index _ (status_of c.in_err-info.field-0.0)
     c.loop-other-test.true made c.in_err-info.ensures.err)

@@ -8,7 +8,8 @@ use Rattle.pkcs1_c.specs.declared.private_key.OtherPrime.{OtherPrime}
 use Rattle.pkcs1_c.specs.Given.{IsGiven}
 use Rattle.pkcs1_c.specs.StructErrors.{GivenError, PartThen, NumbersError, given_numbers}
 use Rattle.pkcs1_c.specs.Writes.{IsGivenEncoding}
-use Rattle.pkcs1_c.proofs.HeldKeys.{given_same, given_written, numbers_refused, private_none, private_some}
+use Rattle.pkcs1_c.proofs.HeldKeys.{given_same, given_written, numbers_refused, private_fits, private_held}
+use Rattle.pkcs1_c.proofs.HeldKeys.{private_some}
 use Rattle.pkcs1_c.proofs.StructErrors.{given_one, numbers_part, part_one, unless_part}
 use Rattle.pkcs1_c.proofs.Writes.{behind_part, part_refused, no_memory_asked}
 use Rattle.pkcs1_c.proofs.private_key.pkcs1_c_private_key_encode.Goals as goal
@@ -33,7 +34,8 @@ returns-then-key-others-clause-writes c = λ _.
     (Miscounted key others) (Counted key others)
     (unless_part 21 (key.other_primes ≡ length others) (omega arith) (λ e. omega (arith, e)))
     (part_one (NumbersError numbers) (GivenError (IsGiven key others) RsaPrivateKey room) (numbers_part numbers).0
-    (given_one (IsGiven key others) RsaPrivateKey (given_same key others) room)) (refl, c.if-key-others.true)
+    (given_one (IsGiven key others) RsaPrivateKey (given_same key others) room))
+    (λ made given. absurd (c.if-key-others.true given.0)) (refl, c.if-key-others.true)
 
 pub returns-in-Ok-clause-writes : goal.returns-in-Ok-clause-writes
 returns-in-Ok-clause-writes c = λ _.
@@ -43,7 +45,7 @@ returns-in-Ok-clause-writes c = λ _.
     let given = c.in-Ok.ensures.ok in
     behind_part (Miscounted key others) (Counted key others) (λ s p. p.1 given.0)
     (given_written (given_numbers key others) (IsGiven key others) RsaPrivateKey (given_same key others) made given
-    (private_none key others c.in-Ok.key given)
+    (private_held key others c.in-Ok.key given)
     (only_encoding RsaPrivateKey private_delimited made (private_at_most_one made)) c.write_encoding.ensures)
 
 pub returns-in-Err-clause-writes : goal.returns-in-Err-clause-writes
@@ -52,7 +54,8 @@ returns-in-Err-clause-writes c = λ other.
     let others = c.args.others.now in
     behind_part (Miscounted key others) (Counted key others) (λ s p. p.1 (omega (arith, c.if-key-others.false)))
     (numbers_refused (given_numbers key others) (IsGiven key others) RsaPrivateKey (given_same key others)
-    c.args.out.now c.args.len.now _ _ c.status.ensures (c.in-Err.ensures.err (λ e. other (c.status.ensures ∙ e))))
+    c.args.out.now c.args.len.now _ _ c.status.ensures
+    (private_fits key others) (c.in-Err.ensures.err (λ e. other (c.status.ensures ∙ e))))
 
 pub returns-in-Ok-clause-memory : goal.returns-in-Ok-clause-memory
 returns-in-Ok-clause-memory c =

@@ -1,6 +1,7 @@
 use Rattle.pkcs1_params.specs.Parameters.{RsaPssParams}
 use Rattle.pkcs1_c.specs.StructValues.{pss_seen}
 use Rattle.pkcs1_c.specs.StructErrors.{PssFieldError}
+use Rattle.pkcs1_c.proofs.Fits.{pss_fits}
 use Rattle.pkcs1_c.proofs.HeldParameters.{pss_none, pss_some}
 use Rattle.pkcs1_c.proofs.StructErrors.{pss_part}
 use Rattle.pkcs1_c.proofs.Writes.{fields_refused, fields_written}
@@ -19,4 +20,4 @@ pub returns-in-Err : goal.returns-in-Err
 returns-in-Err c =
     let seen = pss_seen c.args.params.now in
     fields_refused PssFieldError RsaPssParams seen c.args.out.now c.args.len.now _ _ c.status.ensures (pss_part seen)
-    c.in-Err.ensures.err
+    (pss_fits seen) c.in-Err.ensures.err

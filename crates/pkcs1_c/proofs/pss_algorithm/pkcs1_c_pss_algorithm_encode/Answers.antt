@@ -3,7 +3,8 @@ use Rattle.pkcs1_params.specs.Algorithms.{id_rsassa_pss, RsaPssAlgorithm}
 use Rattle.pkcs1_params.specs.Parameters.{RsaPssParams, with_parameters}
 use Rattle.pkcs1_c.specs.StructValues.{pss_seen}
 use Rattle.pkcs1_c.specs.StructErrors.{PssFieldError}
-use Rattle.pkcs1_c.proofs.AlgorithmWrites.{identifier_written}
+use Rattle.pkcs1_c.proofs.AlgorithmWrites.{identifier_written, parameters_fit}
+use Rattle.pkcs1_c.proofs.Fits.{pss_fits}
 use Rattle.pkcs1_c.proofs.HeldParameters.{pss_none}
 use Rattle.pkcs1_c.proofs.StructErrors.{pss_part}
 use Rattle.pkcs1_c.proofs.Writes.{fields_refused, fields_written}
@@ -24,4 +25,4 @@ pub returns-in-Err : goal.returns-in-Err
 returns-in-Err c =
     let seen = pss_seen c.args.params.now in
     fields_refused PssFieldError RsaPssAlgorithm seen c.args.out.now c.args.len.now _ _ c.status.ensures (pss_part seen)
-    c.in-Err.ensures.err
+    (parameters_fit RsaPssParams id_rsassa_pss seen (pss_fits seen)) c.in-Err.ensures.err
