@@ -70,19 +70,91 @@ hex() {
     printf "$(printf '%s' "$1" | sed 's/../\\x&/g')"
 }
 
+# others FILE: what the folder holds besides this file.
+others() {
+    (cd "$room/files" && find . ! -path "./$1" ! -type f && find . ! -path "./$1" -type f -exec cksum {} +) | sort
+}
+
 # copies STATUS ERROR FILE BYTES ARGUMENT..: with these arguments the program exits with this status and standard error,
-# and then the file has these bytes; `-` means that the file isn't there.
+# and then the file has these bytes; `-` means that the file isn't there. All else in the folder is as it was.
 copies() {
-    local status=$1 error=$2 file=$3 bytes=$4 got
+    local status=$1 error=$2 file=$3 bytes=$4 got before
     shift 4
+    before=$(others "$file")
     (cd "$room/files" && "$program" "$@" < /dev/null > "$room/output" 2> "$room/error")
     got=$?
+    [ "$(others "$file")" = "$before" ] || fails "copy $*: another file than $file changed"
     if [ "$bytes" = - ]; then
         [ ! -e "$room/files/$file" ] || fails "copy $*: $file is there"
     elif ! hex "$bytes" | cmp -s - "$room/files/$file"; then
         fails "copy $*: $file doesn't hold $bytes"
     fi
     ends "$*" "$status" "$error" "" "$got"
+}
+
+# Two names of one file, pipes, names that are too long.
+copies_by_other_names() {
+    local long
+    long=$(head -c 5000 /dev/zero | tr '\0' x)
+    copies 1 "$file" new.der - copy pub "$long" new.der
+    copies 1 "$file" kept.der $old copy pub pub.der "$long"
+    ln "$room/files/same.der" "$room/files/hard.der"
+    ln -s same.der "$room/files/soft.der"
+    copies 0 "" hard.der $public copy pub same.der hard.der
+    copies 0 "" same.der $public copy pub soft.der same.der
+    copies 1 "$error the value of tag 0x02 is not allowed" same.der $public copy priv soft.der same.der
+    rm "$room/files/hard.der" "$room/files/soft.der"
+    mkfifo "$room/files/pipe"
+    hex $public > "$room/files/pipe" &
+    copies 0 "" out.der $public copy pub pipe out.der
+    hex 3006020107 > "$room/files/pipe" &
+    copies 1 "$error the input ends too early" kept.der $old copy pub pipe kept.der
+    cat "$room/files/pipe" > "$room/piped" &
+    copies 0 "" pub.der $public copy pub pub.der pipe
+    wait
+    hex $public | cmp -s - "$room/piped" || fails "copy pub pub.der pipe: other bytes"
+    rm "$room/files/pipe"
+}
+
+# A file system of one page, where the machine allows to mount one: a longer key leaves a beginning, and where there is
+# room for no other file, none is created.
+copies_to_a_full_disk() {
+    unshare -rm true 2> "$room/error" || {
+        echo "run_built: a full disk isn't tried: no file system can be mounted here"
+        return
+    }
+    (hex 30821f47 && hex 02821f40 && head -c 8000 /dev/zero | tr '\0' '\021' && hex 020103) > "$room/files/page.der"
+    mkdir "$room/small"
+    unshare -rm sh -c 'mount -t tmpfs -o size=4k,nr_inodes=2 none "$2" && cd "$2" && {
+        "$1" copy pub ../files/page.der out.der > ../output 2> ../error; echo $? > ../status
+        "$1" copy pub ../files/page.der new.der >> ../output 2>> ../error; echo $? >> ../status
+        cp out.der ..; ls > ../listing; }' sh "$program" "$room/small"
+    ends "copies to a full disk" "1
+1" "$file
+$file" "" "$(cat "$room/status")"
+    [ "$(cat "$room/listing")" = out.der ] || fails "copies to a full disk: another file is there"
+    head -c 4096 "$room/files/page.der" | cmp -s - "$room/out.der" || fails "copies to a full disk: another beginning"
+    rm -r "$room/small" "$room/files/page.der"
+}
+
+# The files that are opened, in order, where strace is there to tell: OUT, which is truncated and not replaced, only behind
+# a key.
+opens_in_order() {
+    local node
+    command -v strace > /dev/null && strace -o "$room/trace" true 2> "$room/error" || {
+        echo "run_built: the order of calls isn't looked at: strace is not installed, or may not trace here"
+        return
+    }
+    node=$(stat -c '%i %a' "$room/files/out.der")
+    (cd "$room/files" && strace -o "$room/trace" -e trace=file,ftruncate "$program" copy pub pub.der out.der > "$room/output" 2> "$room/error")
+    ends "copy pub pub.der out.der, traced" 0 "" "" $?
+    sed -i -e '/^execve/d' -e '/\.der"/!d' "$room/trace"
+    [ "$(sed 's/.*"\(.*\)", \(O_[A-Z]*\).*/\1 \2/' "$room/trace")" = $'pub.der O_RDONLY\nout.der O_WRONLY' ] ||
+        fails "copy pub pub.der out.der: $(cat "$room/trace")"
+    [ "$(stat -c '%i %a' "$room/files/out.der")" = "$node" ] || fails "copy pub: out.der is another file"
+    (cd "$room/files" && strace -o "$room/trace" -e trace=file,ftruncate "$program" copy pub null.der out.der > "$room/output" 2> "$room/error")
+    ends "copy pub null.der out.der, traced" 1 "$error tag 0x30 was expected, 0x05 was found" "" $?
+    ! sed '/^execve/d' "$room/trace" | grep -q 'out\.der"' || fails "copy pub null.der out.der: out.der is opened"
 }
 
 copies_keys() {
@@ -130,12 +202,25 @@ copies_keys() {
     (ulimit -v 45000 && cd "$room/files" && "$program" copy pub large.der again.der < /dev/null > "$room/output" 2> "$room/error")
     ends "copy pub large.der again.der" 0 "" "" $?
     cmp -s "$room/files/large.der" "$room/files/again.der" || fails "copy pub large.der again.der: other bytes"
+    copies_by_other_names
+    copies_to_a_full_disk
+    opens_in_order
     copies 2 "$usage" kept.der $old copy
     copies 2 "$usage" new.der - copy pub pub.der
     copies 2 "$usage" kept.der $old copy pub pub.der kept.der more
     copies 2 "$usage" kept.der $old copy pem pub.der kept.der
     copies 2 "$usage" kept.der $old move pub pub.der kept.der
     copies 2 "$usage" kept.der $old copy pub "$(printf 'pub\377.der')" kept.der
+}
+
+# The man page names each word that has an answer, and the version of the header of the library.
+manual_is_right() {
+    local version
+    version=$(sed -n 's/^#define PKCS1_VERSION_[A-Z]* //p' ../../ffi/include/pkcs1.h | paste -s -d .)
+    grep '^\.TH ' pkcs1_tool.1 | grep -q "\"pkcs1 $version\"" || fails "pkcs1_tool.1 has another version than $version"
+    grep -v '=> bad line' rows | sed -n 's/^\([a-z][a-z0-9-]*\) .*/\1/p' | sort -u > "$room/words"
+    grep '^\.BI ' pkcs1_tool.1 | grep -oE '[a-z][a-z0-9-]* "' | tr -d ' "' | sort | diff "$room/words" - ||
+        fails "pkcs1_tool.1 has other words (>)"
 }
 
 usage="usage: pkcs1_tool [copy pub|priv IN OUT]"
@@ -145,10 +230,11 @@ for program in ${PROGRAMS:-"${programs[@]}"}; do
         runs_on_rows
         runs_to_each_status
         copies_keys
+        manual_is_right
     else
         fails "it isn't there: rt ci builds it"
     fi
 done
-echo "run_built: $(grep -vc -e '^#' -e '^$' rows) rows and 39 runs, of each program"
+echo "run_built: $(grep -vc -e '^#' -e '^$' rows) rows and 50 runs, of each program"
 echo "$passed passed, $failed failed"
 [ "$failed" = 0 ]

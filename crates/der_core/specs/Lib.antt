@@ -21,6 +21,7 @@ pub mod BackWriters
 pub mod EncodeToSlice
 pub mod SourcesSinks
 pub mod Carrying
+pub mod Files
 pub mod Wrap
 pub mod ErrorKinds
 pub mod Optional

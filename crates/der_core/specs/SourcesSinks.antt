@@ -1,5 +1,5 @@
 -- What sources give and sinks take.
-use Rattle.std.specs.Prelude.{◌≡◌, ℕ, ◌+◌, ◌-◌, ◌^◌, ◌<◌, ◌≤◌, ◌⊎◌, min, List, length, take, Option, MatchResult}
+use Rattle.std.specs.Prelude.{◌≡◌, ℕ, ◌+◌, ◌-◌, ◌^◌, ◌<◌, ◌≤◌, min, List, length, take, Option, MatchResult}
 use Rattle.std.specs.declared.result.Result.{Result}
 use Rattle.std.specs.Io.KnownBytes.{Appends, Consumes, IsAtEnd}
 
@@ -12,14 +12,19 @@ abbrev pub GivesMore : ℕ → ℕ → Option (List ℕ) → Option (List ℕ) �
 GivesMore limit piece old new =
     (bytes : List ℕ) × Consumes old new bytes × (limit < length bytes) × (length bytes ≤ limit + piece)
 
+-- At least one byte came, and no more than the limit.
+abbrev pub GivesSome : ℕ → Option (List ℕ) → Option (List ℕ) → Type 0
+GivesSome limit old new =
+    (bytes : List ℕ) × Consumes old new bytes × (0 < length bytes) × (length bytes ≤ limit)
+
 -- A beginning of the bytes was taken.
 abbrev pub AppendsFront : Option (List ℕ) → Option (List ℕ) → List ℕ → Type 0
 AppendsFront old new bytes = (n : ℕ) × Appends old new (take n bytes)
 
--- A count of failed calls: it rises by one with each, and stays at its greatest value.
-abbrev pub CountsFailure : {T E : Type 0} → ℕ → ℕ → Result T E → Type 0
-CountsFailure old new r = MatchResult r (λ _. new ≡ old) (λ _. new ≡ min (old + 1) (2 ^ 64 - 1))
+-- One call failed: the count rose by one, or stays at its greatest value.
+abbrev pub OneFailed : ℕ → ℕ → Type 0
+OneFailed old new = new ≡ min (old + 1) (2 ^ 64 - 1)
 
--- A call failed: the count rose, or is at its greatest value.
-abbrev pub SomeFailed : ℕ → ℕ → Type 0
-SomeFailed old new = (old < new) ⊎ (new ≡ 2 ^ 64 - 1)
+-- A count of failed calls.
+abbrev pub CountsFailure : {T E : Type 0} → ℕ → ℕ → Result T E → Type 0
+CountsFailure old new r = MatchResult r (λ _. new ≡ old) (λ _. OneFailed old new)

@@ -1,6 +1,6 @@
 -- The words that contracts cite, from all files of specs.
 pub use Rattle.der_core.specs.BackWriters.{Prepends, free_of}
-pub use Rattle.der_core.specs.Carrying.{FileFault, WhyReadingStopped, WritesAll, piece}
+pub use Rattle.der_core.specs.Carrying.{WhyReadingStopped, WritesAll, piece}
 pub use Rattle.der_core.specs.Document.{Excludes, HasEncoding, IsAlone, IsDocument, IsShortest, Means, SameByShortest}
 pub use Rattle.der_core.specs.Document.{WhyNotCounted, WhyNotWritten}
 pub use Rattle.der_core.specs.DocumentValue.{encoding_of}
@@ -10,6 +10,7 @@ pub use Rattle.der_core.specs.ErrorKinds.{IsFile}
 pub use Rattle.der_core.specs.ErrorText.{kind_text}
 pub use Rattle.der_core.specs.Faults.{AloneFault, AreFirst, AreNone, EncodingFault, FailsExactly, FailsOrAsks, Faulty}
 pub use Rattle.der_core.specs.Faults.{IsTheFault, ItemsFault, LastFault, NoFault, OnlyWhole, SmallFault, WholeFault}
+pub use Rattle.der_core.specs.Files.{FileFault, FileGives, FileRefuses, FileTakes, Obtains}
 pub use Rattle.der_core.specs.Headers.{HeaderEncoding, LengthEncoding}
 pub use Rattle.der_core.specs.Input.{Input, Reads, end_of, front_of, header_at, inner_of, left_in, length_at, octet_at}
 pub use Rattle.der_core.specs.Integer.{Integer, IntegerContents, IsCanonical, SmallContents, integer_contents}
@@ -23,13 +24,13 @@ pub use Rattle.der_core.specs.Reading.{ReadsAll, ReadsEncoding, ReadsFront, Read
 pub use Rattle.der_core.specs.Reading.{Rejects, TellsNext}
 pub use Rattle.der_core.specs.SequenceOf.{AllHave, ItemsContents, all_encodings}
 pub use Rattle.der_core.specs.SliceReaders.{left_of}
-pub use Rattle.der_core.specs.SourcesSinks.{AppendsFront, CountsFailure, GivesAll, GivesMore, SomeFailed}
+pub use Rattle.der_core.specs.SourcesSinks.{AppendsFront, CountsFailure, GivesAll, GivesMore, GivesSome, OneFailed}
 pub use Rattle.der_core.specs.Tag.{context_tag, integer_tag, is_allowed, sequence_tag}
 pub use Rattle.der_core.specs.Tags.{integer, object_identifier, sequence}
 pub use Rattle.der_core.specs.Tlv.{Tlv, tlv}
 pub use Rattle.der_core.specs.UintRefValue.{bytes_of}
 pub use Rattle.der_core.specs.UintValue.{own_bytes_of}
-pub use Rattle.der_core.specs.Wrap.{read_faults, reader_of, write_faults, writer_of}
+pub use Rattle.der_core.specs.Wrap.{IsCreated, IsOpened, read_faults, reader_of, write_faults, writer_of}
 pub use Rattle.der_core.specs.Writing.{Appends, Counts, WritesEncodings, WritesLeast, encode_error, is_no_encoding}
 pub use Rattle.der_core.specs.Writing.{joined}
 pub use Rattle.der_core.specs.Laws.Encodings.{joins_map, tlv_delimited, tlv_of_bytes, tlv_relates, tlv_shortest}

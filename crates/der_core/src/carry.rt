@@ -11,8 +11,8 @@ use std::alloc::Global;
 const PIECE: usize = 65536;
 
 /// Reads a source to its end. Stops with `Overflow` as soon as it gave more than `most` bytes, so it returns even if
-/// the source never ends. `File` is returned only if a read of the source failed. What was read before an error is
-/// lost.
+/// the source never ends. `File` is returned only if a read of the source failed, `OutOfMemory` only if a byte came.
+/// What was read before an error is lost.
 pub fn read_all<R: Source>(alloc: Global, source: &mut R, most: Length) -> Result<Vec<u8>>
     ensures all { IfOk result (λ bytes. GivesAll (R.remaining source.old) (R.remaining source.new) bytes.items) }
     ensures within { IfOk result (λ bytes. length bytes.items ≤ most) }
@@ -55,8 +55,9 @@ pub fn put_all<W: Sink>(bytes: &[u8], sink: &mut W) -> Result<()>
 
 /// Like `put_all`, and flushes.
 pub(crate) fn write_all<W: Sink>(bytes: &[u8], sink: &mut W) -> Result<()>
-    ensures { WritesAll bytes.now result (W.contents sink.old) (W.contents sink.new)
+    ensures written { WritesAll bytes.now result (W.contents sink.old) (W.contents sink.new)
         (W.failures sink.old) (W.failures sink.new) }
+    ensures flushed { OnOk result (W.is_flushed sink.new) }
 {
     put_all(bytes, sink)?;
     match sink.flush() {

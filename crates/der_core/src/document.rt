@@ -1,6 +1,8 @@
 //! Documents: whole SEQUENCEs, whose contents aren't looked at.
-ghost use Rattle.std.specs.Prelude.{◌≡◌, ◌≢◌, ◌≤◌, [], length, refl, ⊤, IfOk, IfErr, IsErrAnd};
-ghost use Rattle.der_core.specs.Carrying.{ReadsDocument, ReadsOpened, FileFault, WritesAll};
+ghost use Rattle.std.specs.Prelude.{◌≡◌, ◌≢◌, ◌≤◌, [], length, refl, ⊤, IfOk, IfErr, OnOk};
+ghost use Rattle.std.specs.Path.{path_bytes};
+ghost use Rattle.der_core.specs.Carrying.{ReadsDocument, WritesAll};
+ghost use Rattle.der_core.specs.Files.{FileFault, FileGives, FileRefuses, FileTakes};
 ghost use Rattle.der_core.specs.Document.{IsDocument};
 ghost use Rattle.der_core.specs.Laws.Document.{IsDocument-prop};
 ghost use Rattle.der_core.specs.Length.{limit};
@@ -16,20 +18,17 @@ use crate::carry::{read_all, write_all};
 use crate::decode::{Decode, DecodeValue};
 use crate::encode::{Encode, EncodeValue};
 use crate::error::{Error, ErrorKind, Result};
+use crate::file_system::FileSystem;
 use crate::header::Header;
 use crate::length::Length;
 use crate::memory::{NoMemory, copy_of};
 use crate::reader::Reader;
-use crate::source_sink::{Sink, Source};
+use crate::source_sink::{Close, Sink, Source};
 use crate::types::{Contents, FixedTag, Sequence, SequenceTag, TaggedBy};
-use crate::wrap::{FromRead, ToWrite};
 use std::alloc::Global;
 use std::fmt;
-use std::fs::File;
-use std::io::Read;
 use std::marker::PhantomData;
 use std::path::Path;
-use std::rt::Files;
 
 /// Some SEQUENCE, whose contents aren't kept.
 #[derive(Drop)]
@@ -162,7 +161,7 @@ impl<S: Drop> DocumentOf<S> {
 
     /// Reads a source to its end. Its bytes must be one SEQUENCE. Stops with `Overflow` as soon as more than
     /// `Length::MAX` bytes came, so it returns even if the source never ends. `File` is returned only if a read of the
-    /// source failed. What was read before an error is lost.
+    /// source failed, `OutOfMemory` only if a byte came. What was read before an error is lost.
     pub fn read_from<R: Source>(alloc: Global, source: &mut R) -> Result<DocumentOf<S>>
         ensures { ReadsDocument encoding_of result (R.remaining source.old) (R.remaining source.new)
             (R.failures source.old) (R.failures source.new) }
@@ -178,43 +177,41 @@ impl<S: Drop> DocumentOf<S> {
     /// Writes all bytes to the sink, in order, and flushes. The only error is `File`, if a call of the sink failed; the
     /// sink has then taken a beginning of the bytes. Nothing is allocated.
     pub fn write_to<W: Sink>(&self, sink: &mut W) -> Result<()>
-        ensures { WritesAll (encoding_of self.now) result (W.contents sink.old) (W.contents sink.new)
+        ensures written { WritesAll (encoding_of self.now) result (W.contents sink.old) (W.contents sink.new)
             (W.failures sink.old) (W.failures sink.new) }
+        ensures flushed { OnOk result (W.is_flushed sink.new) }
     {
         write_all(self.bytes.as_slice(), sink)
     }
 
     /// Reads the document in a file, as `read_from` does. `File` also if the file can't be opened.
-    pub fn read_der_file<Rt: Files>(rt: &Rt, alloc: Global, path: Path<'_>) -> Result<DocumentOf<S>>
-        ensures room { IfErr result (λ e. e.kind ≢ ErrorKind.NoRoom) }
-        ensures exact { IfErr result (λ e. FileFault e.kind) }
-    {
-        DocumentOf::read_opened(alloc, File::open(rt, path))
-    }
-
-    /// Reads what was opened, as `read_from` does. `File` also if it wasn't.
-    fn read_opened<R: Read + Drop, E: Drop>(
+    pub fn read_der_file<F: FileSystem>(
+        files: &F,
         alloc: Global,
-        opened: std::result::Result<R, E>,
+        path: Path<'_>,
     ) -> Result<DocumentOf<S>>
-        ensures read { IfOk opened (λ reader. ReadsOpened encoding_of result (R.remaining reader)) }
-        ensures closed { IfErr opened (λ _. IsErrAnd result (λ e. e.kind ≡ ErrorKind.File)) }
+        ensures ok { let opens = F.opens (path_bytes path.entry) in
+            IfOk result (λ document. FileGives opens F.Opened.remaining (encoding_of document)) }
+        ensures room { IfErr result (λ e. e.kind ≢ ErrorKind.NoRoom) }
+        ensures exact { let opens = F.opens (path_bytes path.entry) in
+            IfErr result (λ e. FileFault opens F.Opened.remaining F.Opened.failures e.kind) }
     {
-        let Ok(reader) = opened else {
-            return Err(Error::new(ErrorKind::File));
-        };
-        DocumentOf::read_from(alloc, &mut FromRead::new(reader))
+        let mut source = files.open(path)?;
+        DocumentOf::read_from(alloc, &mut source)
     }
 
-    /// Creates the file, or truncates an old one, and writes as `write_to` does. `File` also if it can't be created.
-    /// After an error the file may hold a beginning of the bytes.
-    pub fn write_der_file<Rt: Files>(&self, rt: &Rt, path: Path<'_>) -> Result<()>
-        ensures { IfErr result IsFile }
+    /// Creates the file, or truncates an old one, writes as `write_to` does, and closes it. `File` also if it can't be
+    /// created. After an error the file may hold a beginning of the bytes.
+    pub fn write_der_file<F: FileSystem>(&self, files: &F, path: Path<'_>) -> Result<()>
+        ensures ok { OnOk result (FileTakes (F.creates (path_bytes path.entry)) F.Created.is_closed
+            F.Created.contents F.Created.is_flushed (encoding_of self.now)) }
+        ensures err { let refuses = FileRefuses (F.creates (path_bytes path.entry)) F.Created.is_closed in
+            IfErr result (λ e. IsFile e × refuses F.Created.contents F.Created.failures (encoding_of self.now)) }
     {
-        let Ok(file) = File::create(rt, path) else {
-            return Err(Error::new(ErrorKind::File));
-        };
-        self.write_to(&mut ToWrite::new(file))
+        let mut sink = files.create(path)?;
+        let written = self.write_to(&mut sink);
+        sink.close();
+        written
     }
 }
 

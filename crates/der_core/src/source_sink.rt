@@ -1,5 +1,5 @@
 //! Sources and sinks of bytes.
-ghost use Rattle.std.specs.Prelude.{◌≡◌, ◌<◌, ℕ, List, Option, length, IfOk};
+ghost use Rattle.std.specs.Prelude.{◌≡◌, ◌<◌, ℕ, List, Option, length, IfOk, OnOk};
 ghost use Rattle.std.specs.Io.{ReadsAtMost, WritesAtMost};
 ghost use Rattle.std.specs.Io.KnownBytes.{Keeps, ReadConsumes, WriteAppends};
 ghost use Rattle.der_core.specs.Words.{CountsFailure};
@@ -33,6 +33,9 @@ pub trait Sink {
     /// How many calls have failed.
     ghost failures: { Self → ℕ };
 
+    /// All that was taken was flushed.
+    ghost is_flushed: { Self → Type 0 };
+
     /// Takes a beginning of the bytes and returns its length: at least 1, unless there are no bytes.
     fn write(&mut self, bytes: &[u8]) -> Result<usize>
         ensures bound { WritesAtMost result bytes.now }
@@ -43,9 +46,20 @@ pub trait Sink {
     /// Flushes what was taken.
     fn flush(&mut self) -> Result<()>
         ensures bytes { Keeps (contents self.old) (contents self.new) }
-        ensures faults { CountsFailure (failures self.old) (failures self.new) result };
+        ensures faults { CountsFailure (failures self.old) (failures self.new) result }
+        ensures flushed { OnOk result (is_flushed self.new) };
 
     /// How many calls have failed. At its greatest value the count stays.
     fn faults(&self) -> u64
         ensures { result ≡ failures self.now };
+}
+
+/// A sink that is closed in the end, as a file is.
+pub trait Close: Sink {
+    /// It was closed in this state: nothing is written to it any more.
+    ghost is_closed: { Self → Type 0 };
+
+    /// Closes the sink.
+    fn close(self)
+        ensures { is_closed self };
 }

@@ -1,11 +1,11 @@
 //! Sources and sinks over std's readers and writers.
-ghost use Rattle.std.specs.Prelude.{◌≡◌, ◌<◌, ◌+◌, ◌-◌, ◌^◌, min, length, IfOk, IfErr};
+ghost use Rattle.std.specs.Prelude.{◌≡◌, ◌<◌, ◌+◌, ◌-◌, ◌^◌, ⊤, min, length, IfOk, IfErr, OnOk};
 ghost use Rattle.std.specs.Io.{ReadsAtMost, WritesAtMost};
 ghost use Rattle.std.specs.Io.KnownBytes.{Keeps, ReadConsumes, WriteAppends};
 ghost use Rattle.der_core.specs.Words.{CountsFailure, IsFile};
 
 use crate::error::{Error, ErrorKind, Result};
-use crate::source_sink::{Sink, Source};
+use crate::source_sink::{Close, Sink, Source};
 use std::io::{Read, Write};
 
 /// Counts one more failed call.
@@ -25,7 +25,7 @@ pub struct FromRead<R> {
 }
 
 impl<R: Read> FromRead<R> {
-    ghost use Rattle.der_core.specs.Words.{reader_of, read_faults};
+    ghost use Rattle.der_core.specs.Words.{IsOpened, reader_of, read_faults};
 
     /// A source that counts no failed call yet.
     pub fn new(inner: R) -> Self
@@ -33,6 +33,16 @@ impl<R: Read> FromRead<R> {
         ensures faults { read_faults result ≡ 0 }
     {
         FromRead { inner, faults: 0 }
+    }
+
+    /// A source over what was opened. `File` if nothing was.
+    pub fn opened<E: Drop>(reader: std::result::Result<R, E>) -> Result<Self>
+        ensures { IsOpened reader result }
+    {
+        match reader {
+            Ok(inner) => Ok(FromRead::new(inner)),
+            Err(_) => Err(Error::new(ErrorKind::File)),
+        }
     }
 
     /// Returns the reader.
@@ -78,7 +88,7 @@ pub struct ToWrite<W> {
 }
 
 impl<W: Write> ToWrite<W> {
-    ghost use Rattle.der_core.specs.Words.{writer_of, write_faults};
+    ghost use Rattle.der_core.specs.Words.{IsCreated, writer_of, write_faults};
 
     /// A sink that counts no failed call yet.
     pub fn new(inner: W) -> Self
@@ -86,6 +96,16 @@ impl<W: Write> ToWrite<W> {
         ensures faults { write_faults result ≡ 0 }
     {
         ToWrite { inner, faults: 0 }
+    }
+
+    /// A sink over what was created. `File` if nothing was.
+    pub fn created<E: Drop>(writer: std::result::Result<W, E>) -> Result<Self>
+        ensures { IsCreated writer result }
+    {
+        match writer {
+            Ok(inner) => Ok(ToWrite::new(inner)),
+            Err(_) => Err(Error::new(ErrorKind::File)),
+        }
     }
 
     /// Returns the writer.
@@ -104,6 +124,8 @@ impl<W: Write> Sink for ToWrite<W> {
 
     ghost failures = { write_faults };
 
+    ghost is_flushed = { λ _. ⊤ };
+
     fn write(&mut self, bytes: &[u8]) -> Result<usize>
         ensures bound { WritesAtMost result bytes.now }
         ensures progress { 0 < length bytes.now → IfOk result (λ n. 0 < n) }
@@ -121,6 +143,7 @@ impl<W: Write> Sink for ToWrite<W> {
     fn flush(&mut self) -> Result<()>
         ensures bytes { Keeps (W.contents (writer_of self.old)) (W.contents (writer_of self.new)) }
         ensures faults { CountsFailure (write_faults self.old) (write_faults self.new) result }
+        ensures flushed { OnOk result ⊤ }
         ensures file { IfErr result IsFile }
     {
         match self.inner.flush() {
@@ -132,4 +155,10 @@ impl<W: Write> Sink for ToWrite<W> {
     fn faults(&self) -> u64 {
         self.faults
     }
+}
+
+impl<W: Write + Drop> Close for ToWrite<W> {
+    ghost is_closed = { λ _. ⊤ };
+
+    fn close(self) {}
 }

@@ -1,7 +1,8 @@
 //! Traits for keys of any type: PKCS #1 encodings decoded and written, in memory and in files.
 ghost use Rattle.std.specs.Prelude.{◌≡◌, ◌⊎◌, List, ℕ, IfOk, IfErr, OnOk, IsErrAnd};
-ghost use Rattle.der_core.specs.Words.{FileFault, IsDocument, Means, encoding_of, Faulty, IsTheFault, IsFile, sequence};
-ghost use Rattle.der_core.specs.Words.{bytes_of, own_bytes_of};
+ghost use Rattle.std.specs.Path.{path_bytes};
+ghost use Rattle.der_core.specs.Words.{FileFault, FileGives, FileRefuses, FileTakes, IsDocument, Means, encoding_of};
+ghost use Rattle.der_core.specs.Words.{Faulty, IsTheFault, IsFile, sequence, bytes_of, own_bytes_of};
 ghost use Rattle.pkcs1.specs.Words.{OwnedKeyAllocates, OwnedPublicKeyAllocates, RsaPrivateKeyFault, RsaPublicKeyFault};
 ghost use Rattle.pkcs1.specs.Words.{IsDocumentError, IsOnlyEncoding, IsReadingError, private_key_with, ListsNone};
 ghost use Rattle.pkcs1.specs.Words.{public_key_with};
@@ -11,11 +12,10 @@ ghost use Rattle.pkcs1_params.specs.declared.error.Error.{Error};
 
 use crate::private_key::RsaPrivateKey;
 use crate::public_key::RsaPublicKey;
-use der_core::{AsUintRef, Decode, Document, ErrorKind, SecretDocument, Uint, UintRef};
+use der_core::{AsUintRef, Decode, Document, ErrorKind, FileSystem, SecretDocument, Uint, UintRef};
 use pkcs1_params::Result;
 use std::alloc::Global;
 use std::path::Path;
-use std::rt::Files;
 
 /// A private key that can be decoded from its PKCS #1 encoding (RFC 8017 A.1.2). A caller's own type says by
 /// `stands_for` how a key relates to the bytes that it was read from, and by `rejected_by` which bytes an error
@@ -34,12 +34,14 @@ pub trait DecodeRsaPrivateKey: Sized + Drop {
 
     /// Reads the document that a file holds, and calls `from_pkcs1_der` on its bytes. Returns `File` if the file can't
     /// be opened or read, `Overflow` if it has more bytes than `Length::MAX`.
-    fn read_pkcs1_der_file<Rt: Files>(rt: &Rt, alloc: Global, path: Path<'_>) -> Result<Self>
-        ensures read { IfOk result (λ key. (bytes : List ℕ) × IsDocument bytes × stands_for key bytes) }
-        ensures rejected { IfErr result (λ e. IsAsn1 (λ file. FileFault file.kind) e
-            ⊎ ((bytes : List ℕ) × IsDocument bytes × rejected_by bytes e)) }
+    fn read_pkcs1_der_file<F: FileSystem>(files: &F, alloc: Global, path: Path<'_>) -> Result<Self>
+        ensures read { let gives = FileGives (F.opens (path_bytes path.entry)) F.Opened.remaining in
+            IfOk result (λ key. (bytes : List ℕ) × gives bytes × IsDocument bytes × stands_for key bytes) }
+        ensures rejected { let opens = F.opens (path_bytes path.entry) in
+            IfErr result (λ e. IsAsn1 (λ file. FileFault opens F.Opened.remaining F.Opened.failures file.kind) e
+            ⊎ ((bytes : List ℕ) × FileGives opens F.Opened.remaining bytes × IsDocument bytes × rejected_by bytes e)) }
     {
-        let document = SecretDocument::read_der_file(rt, alloc, path)?;
+        let document = SecretDocument::read_der_file(files, alloc, path)?;
         Self::from_pkcs1_der(alloc, document.as_bytes())
     }
 }
@@ -61,12 +63,14 @@ pub trait DecodeRsaPublicKey: Sized + Drop {
 
     /// Reads the document that a file holds, and calls `from_pkcs1_der` on its bytes. Returns `File` if the file can't
     /// be opened or read, `Overflow` if it has more bytes than `Length::MAX`.
-    fn read_pkcs1_der_file<Rt: Files>(rt: &Rt, alloc: Global, path: Path<'_>) -> Result<Self>
-        ensures read { IfOk result (λ key. (bytes : List ℕ) × IsDocument bytes × stands_for key bytes) }
-        ensures rejected { IfErr result (λ e. IsAsn1 (λ file. FileFault file.kind) e
-            ⊎ ((bytes : List ℕ) × IsDocument bytes × rejected_by bytes e)) }
+    fn read_pkcs1_der_file<F: FileSystem>(files: &F, alloc: Global, path: Path<'_>) -> Result<Self>
+        ensures read { let gives = FileGives (F.opens (path_bytes path.entry)) F.Opened.remaining in
+            IfOk result (λ key. (bytes : List ℕ) × gives bytes × IsDocument bytes × stands_for key bytes) }
+        ensures rejected { let opens = F.opens (path_bytes path.entry) in
+            IfErr result (λ e. IsAsn1 (λ file. FileFault opens F.Opened.remaining F.Opened.failures file.kind) e
+            ⊎ ((bytes : List ℕ) × FileGives opens F.Opened.remaining bytes × IsDocument bytes × rejected_by bytes e)) }
     {
-        let document = Document::read_der_file(rt, alloc, path)?;
+        let document = Document::read_der_file(files, alloc, path)?;
         Self::from_pkcs1_der(alloc, document.as_bytes())
     }
 }
@@ -88,12 +92,21 @@ pub trait EncodeRsaPrivateKey {
     /// Writes the encoding of the key to a file. The key is encoded before the file is created or truncated, so a key
     /// that can't be encoded leaves an old file as it was; a failed write may leave a beginning. Returns `File` if the
     /// file can't be created or written.
-    fn write_pkcs1_der_file<Rt: Files>(&self, rt: &Rt, alloc: Global, path: Path<'_>) -> Result<()>
-        ensures written { OnOk result ((bytes : List ℕ) × IsDocument bytes × written_as self.now bytes) }
-        ensures rejected { IfErr result (λ e. IsAsn1 IsFile e ⊎ unwritten_by self.now e) }
+    fn write_pkcs1_der_file<F: FileSystem>(
+        &self,
+        files: &F,
+        alloc: Global,
+        path: Path<'_>,
+    ) -> Result<()>
+        ensures written { let takes = FileTakes (F.creates (path_bytes path.entry)) F.Created.is_closed in
+            OnOk result ((bytes : List ℕ) × takes F.Created.contents F.Created.is_flushed bytes × IsDocument bytes
+            × written_as self.now bytes) }
+        ensures rejected { let refuses = FileRefuses (F.creates (path_bytes path.entry)) F.Created.is_closed in
+            IfErr result (λ e. unwritten_by self.now e ⊎ (IsAsn1 IsFile e × (bytes : List ℕ) × IsDocument bytes
+            × written_as self.now bytes × refuses F.Created.contents F.Created.failures bytes)) }
     {
         let secret = self.to_pkcs1_der(alloc)?;
-        Ok(secret.write_der_file(rt, path)?)
+        Ok(secret.write_der_file(files, path)?)
     }
 }
 
@@ -114,12 +127,21 @@ pub trait EncodeRsaPublicKey {
     /// Writes the encoding of the key to a file. The key is encoded before the file is created or truncated, so a key
     /// that can't be encoded leaves an old file as it was; a failed write may leave a beginning. Returns `File` if the
     /// file can't be created or written.
-    fn write_pkcs1_der_file<Rt: Files>(&self, rt: &Rt, alloc: Global, path: Path<'_>) -> Result<()>
-        ensures written { OnOk result ((bytes : List ℕ) × IsDocument bytes × written_as self.now bytes) }
-        ensures rejected { IfErr result (λ e. IsAsn1 IsFile e ⊎ unwritten_by self.now e) }
+    fn write_pkcs1_der_file<F: FileSystem>(
+        &self,
+        files: &F,
+        alloc: Global,
+        path: Path<'_>,
+    ) -> Result<()>
+        ensures written { let takes = FileTakes (F.creates (path_bytes path.entry)) F.Created.is_closed in
+            OnOk result ((bytes : List ℕ) × takes F.Created.contents F.Created.is_flushed bytes × IsDocument bytes
+            × written_as self.now bytes) }
+        ensures rejected { let refuses = FileRefuses (F.creates (path_bytes path.entry)) F.Created.is_closed in
+            IfErr result (λ e. unwritten_by self.now e ⊎ (IsAsn1 IsFile e × (bytes : List ℕ) × IsDocument bytes
+            × written_as self.now bytes × refuses F.Created.contents F.Created.failures bytes)) }
     {
         let document = self.to_pkcs1_der(alloc)?;
-        Ok(document.write_der_file(rt, path)?)
+        Ok(document.write_der_file(files, path)?)
     }
 }
 

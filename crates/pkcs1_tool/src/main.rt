@@ -3,16 +3,19 @@
 //! `pkcs1_lines` has the other words. `copy pub IN OUT` and `copy priv IN OUT` copy a key from file to file.
 #![tactic(auto)]
 
-ghost use Rattle.std.specs.Prelude.{◌≡◌, Bool, is_ok};
-ghost use Rattle.tool_core.specs.Words.{status_of};
+ghost use Rattle.std.specs.Prelude.{◌≡◌, ℕ, List, Bool, is_ok};
+ghost use Rattle.der_core.specs.Words.{FileTakes, GivesAll};
+ghost use Rattle.pkcs1.specs.Words.{RsaPrivateKey, RsaPublicKey};
+ghost use Rattle.pkcs1_lines.specs.Words.{lines_of};
+ghost use Rattle.tool_core.specs.Words.{CopiesAt, IsDone, Writes, status_of};
 
+use der_core::{FileSystem, FromRead, Sink, Source, ToWrite};
+use std::alloc::Global;
 use std::fmt::Display;
 use std::path::Path;
 use std::process::ExitCode;
 use std::{env, io};
-pub use tool_core::{
-    Fault, Plan, behind_name, copy_priv, copy_pub, plan_of, run, run_buffered, status,
-};
+pub use tool_core::{Fault, Plan, behind_name, copy_priv, copy_pub, plan_of, run, status};
 
 const USAGE: &str = "usage: pkcs1_tool [copy pub|priv IN OUT]";
 
@@ -38,20 +41,33 @@ fn reported<T: Drop, E: Display + Drop>(rt: &impl Eprint, outcome: Result<T, E>)
     }
 }
 
-/// Carries out the plan, and returns the exit status.
-fn carry_out(rt: &HostRuntime, plan: &Plan<'_>) -> u8
-    ensures { (ok : Bool) × (result ≡ status_of plan.now ok) }
+/// Carries out the plan, and returns the exit status. Lines are read from the source and answered to the sink.
+fn carry_out<P: Eprint, F: FileSystem, R: Source, W: Sink>(
+    rt: &P,
+    alloc: Global,
+    plan: &Plan<'_>,
+    files: &F,
+    source: &mut R,
+    sink: &mut W,
+) -> u8
+    ensures status { (ok : Bool) × (result ≡ status_of plan.now ok) }
+    ensures done { let answered = (input : List ℕ) × GivesAll (R.remaining source.old) (R.remaining source.new) input
+        × Writes (W.contents sink.old) (W.contents sink.new) (lines_of input) × W.is_flushed sink.new in
+        let takes : List ℕ → List ℕ → Type 0 = λ path.
+        FileTakes (F.creates path) F.Created.is_closed F.Created.contents F.Created.is_flushed in
+        result ≡ 0 → IsDone plan.now answered (CopiesAt RsaPublicKey F.opens F.Opened.remaining takes)
+        (CopiesAt RsaPrivateKey F.opens F.Opened.remaining takes) }
 {
     let ok = match plan {
         Plan::Usage => reported::<(), _>(rt, Err(USAGE)),
-        Plan::Lines => reported(rt, run_buffered(rt.alloc(), rt.stdin(), rt.stdout())),
+        Plan::Lines => reported(rt, run(alloc, source, sink)),
         Plan::CopyPub { input, output } => {
             let (input, output) = (Path::new(input), Path::new(output));
-            reported(rt, copy_pub(rt, rt.alloc(), input, output))
+            reported(rt, copy_pub(files, alloc, input, output))
         }
         Plan::CopyPriv { input, output } => {
             let (input, output) = (Path::new(input), Path::new(output));
-            reported(rt, copy_priv(rt, rt.alloc(), input, output))
+            reported(rt, copy_priv(files, alloc, input, output))
         }
     };
     status(plan, ok)
@@ -59,11 +75,15 @@ fn carry_out(rt: &HostRuntime, plan: &Plan<'_>) -> u8
 
 fn main(rt: HostRuntime) -> ExitCode {
     let status = match arguments(&rt) {
-        Ok(arguments) => carry_out(&rt, &plan_of(behind_name(arguments.as_slice()))),
+        Ok(arguments) => {
+            let plan = plan_of(behind_name(arguments.as_slice()));
+            let (mut source, mut sink) = (FromRead::new(rt.stdin()), ToWrite::new(rt.stdout()));
+            carry_out(&rt, rt.alloc(), &plan, &rt, &mut source, &mut sink)
+        }
         Err(error) if error.kind() == io::ErrorKind::OutOfMemory => {
             status(&Plan::Lines, reported::<(), _>(&rt, Err(Fault::Memory)))
         }
-        Err(_) => carry_out(&rt, &Plan::Usage),
+        Err(_) => status(&Plan::Usage, reported::<(), _>(&rt, Err(USAGE))),
     };
     ExitCode::from(status)
 }

@@ -1,15 +1,14 @@
-//! Runs over sources and sinks that move a few bytes per call and fail at one call; files; plans.
+//! Runs over sources and sinks that move a few bytes per call and fail at one call; calls on files; plans.
 mod doubles;
+mod file_calls;
+mod recorded;
 
-use crate::{Fault, Plan, behind_name, plan_of, run, run_buffered, status};
-use der_core::{FromRead, Sink, Source, ToWrite, put_all};
+use crate::{Fault, Plan, behind_name, plan_of, run, status};
+use der_core::{FromRead, Sink, Source, ToWrite};
 use doubles::{FailingReader, FailingWriter, Full, Many, Narrow, Slow};
 use std::fmt::Debug;
-use std::fs;
-use std::path::Path;
 use std::process::Abort;
 use std::test::Fail;
-use tool_core::{FileAt, NewFile};
 
 const INPUT: &[u8; 45] = b"pub 3006020107020103\n\npub 300602010702010300\n";
 
@@ -39,19 +38,6 @@ fn answers_lines(rt: HostRuntime) -> Result<(), Fail> {
 }
 
 #[test]
-fn nothing_is_left_in_the_buffer(rt: HostRuntime) -> Result<(), Fail> {
-    let written = run_buffered(rt.alloc(), INPUT.as_slice(), Vec::new(rt.alloc()))?;
-    equal(&rt, written.as_slice(), OUTPUT.as_slice());
-    Ok(())
-}
-
-#[test]
-fn a_full_writer_is_told(rt: HostRuntime) {
-    let done = run_buffered(rt.alloc(), INPUT.as_slice(), Full);
-    equal(&rt, done.map(|_| ()), Err(Fault::Write));
-}
-
-#[test]
 fn stops_on_a_failed_read(rt: HostRuntime) {
     for failing in 0..48 {
         let mut source = Slow {
@@ -76,7 +62,7 @@ fn stops_on_a_failed_read(rt: HostRuntime) {
 
 #[test]
 fn stops_on_a_failed_write(rt: HostRuntime) {
-    for (step, calls) in [(1, 54), (3, 19)] {
+    for (step, calls) in [(1, 54), (3, 18)] {
         for failing in 0..calls + 2 {
             let mut sink = Narrow {
                 taken: Vec::new(rt.alloc()),
@@ -148,7 +134,7 @@ fn stops_on_a_writer_that_takes_nothing(rt: HostRuntime) {
 
 #[test]
 fn stops_on_the_first_error_of_a_writer(rt: HostRuntime) {
-    for (failing, output) in [(1, 0), (2, 37), (3, 46), (4, 54)] {
+    for (failing, output) in [(1, 0), (2, 54)] {
         let (done, faults, writer) = into_sink(&rt, failing);
         equal(
             &rt,
@@ -157,29 +143,9 @@ fn stops_on_the_first_error_of_a_writer(rt: HostRuntime) {
         );
         equal(&rt, writer.taken.as_slice(), &OUTPUT[..output]);
     }
-    let (done, faults, writer) = into_sink(&rt, 5);
-    equal(&rt, (done, faults, writer.calls), (Ok(()), 0, 4));
+    let (done, faults, writer) = into_sink(&rt, 3);
+    equal(&rt, (done, faults, writer.calls), (Ok(()), 0, 2));
     equal(&rt, writer.taken.as_slice(), OUTPUT.as_slice());
-}
-
-#[test]
-fn a_new_file_is_created_at_the_first_write(rt: HostRuntime) -> Result<(), Fail> {
-    let path = Path::new("new_file");
-    fs::write(&rt, path, "an old text that is longer")?;
-    let mut file = NewFile::new(FileAt::new(&rt, path));
-    file.flush()?;
-    let before = fs::read(&rt, path)?;
-    put_all(b"one, ", &mut file)?;
-    put_all(b"two", &mut file)?;
-    let after = fs::read(&rt, path)?;
-    fs::remove_file(&rt, path)?;
-    equal(
-        &rt,
-        before.as_slice(),
-        b"an old text that is longer".as_slice(),
-    );
-    equal(&rt, after.as_slice(), b"one, two".as_slice());
-    Ok(())
 }
 
 #[test]

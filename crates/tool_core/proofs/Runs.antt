@@ -1,15 +1,15 @@
 -- Answers, line by line.
-use Rattle.std.proofs.Common.{◌≡◌, ℕ, ◌+◌, min, List, [], ◌∷◌, ◌++◌, length, take, refl, sym, ap, ◌∙◌, arith}
+use Rattle.std.proofs.Common.{◌≡◌, ℕ, ◌+◌, min, List, [], ◌∷◌, ◌++◌, length, take, refl, sym, ap, subst, ◌∙◌, arith}
 use Rattle.std.proofs.Common.{append_assoc}
 use Rattle.std.specs.Prelude.{Option}
-use Rattle.std.specs.Io.KnownBytes.{Appends, Keeps}
-use Rattle.std.proofs.KnownBytes.{Appends-trans, Appends-kept}
-use Rattle.std.proofs.Math.Seq.{take-append-add, take-length}
+use Rattle.std.specs.Io.KnownBytes.{Appends}
+use Rattle.std.proofs.KnownBytes.{Appends-nil, Appends-trans}
+use Rattle.std.proofs.Math.Seq.{take-append-add}
 use Rattle.std.proofs.lemmas.List.{take-append-le, take_min}
 use Rattle.der_core.specs.SourcesSinks.{AppendsFront}
 use Rattle.der_core.specs.Encodings.{AtMostOne}
 use Rattle.pkcs1_lines.specs.Answer.{Answer, Answers}
-use Rattle.tool_core.specs.Written.{Writes, WritesFront, WritesFrontOfAll}
+use Rattle.tool_core.specs.Written.{Makes, Writes, WritesFront, WritesFrontOfAll}
 
 -- one more answer
 pub Answers-push : (lines : List (List ℕ)) (line output answer : List ℕ) → Answers lines output → Answer line answer
@@ -23,44 +23,39 @@ Answers-push (first ∷ lines) line output answer h k = (
   rw h.4 (append_assoc h.0 (10 ∷ h.1) (answer ++ 10 ∷ [])),
 )
 
--- one more answer is written
-pub Writes-push : (old mid new : Option (List ℕ)) (lines : List (List ℕ)) (line answer : List ℕ) → Writes old mid lines
-    → Answer line answer
-    → Appends mid new (answer ++ 10 ∷ []) → Writes old new (lines ++ line ∷ [])
-Writes-push old mid new lines line answer written h taken = (
-  written.0 ++ (answer ++ 10 ∷ []),
-  Answers-push lines line written.0 answer written.1 h,
-  Appends-trans old mid new _ _ written.2 taken,
+-- one more answer is held, and then a front of what is held is written
+pub Makes-push : (old mid new : Option (List ℕ)) (held all held2 : List ℕ) (lines : List (List ℕ))
+    (line answer front : List ℕ) → Makes old mid held lines → Answer line answer → all ≡ held ++ (answer ++ 10 ∷ [])
+    → Appends mid new front → all ≡ front ++ held2 → Makes old new held2 (lines ++ line ∷ [])
+Makes-push old mid new held all held2 lines line answer front made h e taken split = (
+  made.0 ++ front,
+  Appends-trans old mid new _ _ made.1 taken,
+  subst (Answers (lines ++ line ∷ [])) (append_assoc made.0 held (answer ++ 10 ∷ []) ∙ ap (λ o. made.0 ++ o) (sym e)
+      ∙ ap (λ o. made.0 ++ o) split
+      ∙ sym (append_assoc made.0 front held2)) (Answers-push lines line (made.0 ++ held) answer made.2 h),
 )
 
--- a beginning of one more answer is written
-pub WritesFront-push : (old mid new : Option (List ℕ)) (all lines rest : List (List ℕ)) (line answer : List ℕ)
-    → all ≡ lines ++ line ∷ rest → Writes old mid lines → Answer line answer
-    → AppendsFront mid new (answer ++ 10 ∷ []) → WritesFront old new all
-WritesFront-push old mid new all lines rest line answer e written h taken =
-    let output = written.0 ++ (answer ++ 10 ∷ []) in
-    let front : AppendsFront old new output =
-    (length written.0 + taken.0, rw take-append-add (Appends-trans old mid new _ _ written.2 taken.1))
-    in (
-      lines ++ line ∷ [],
-      rest,
-      rw (e, append_assoc),
-      output,
-      Answers-push lines line written.0 answer written.1 h,
-      front,
-    )
+-- what is held was written
+pub Makes-writes : (old mid new : Option (List ℕ)) (held : List ℕ) (lines : List (List ℕ)) → Makes old mid held lines
+    → Appends mid new held → Writes old new lines
+Makes-writes old mid new held lines made taken =
+    (made.0 ++ held, made.2, Appends-trans old mid new _ _ made.1 taken)
 
--- whole answers are a beginning
-pub WritesFront-whole : (old mid new : Option (List ℕ)) (all lines rest : List (List ℕ)) → all ≡ lines ++ rest
-    → Writes old mid lines → Keeps mid new → WritesFront old new all
-WritesFront-whole old mid new all lines rest e written kept = (
-  lines,
-  rest,
-  e,
-  written.0,
-  written.1,
-  (length written.0, rw take-length (Appends-kept old mid new _ written.2 kept)),
-)
+-- a beginning of what is held was written
+pub Makes-front : (old mid new : Option (List ℕ)) (held : List ℕ) (all lines rest : List (List ℕ))
+    → all ≡ lines ++ rest → Makes old mid held lines → AppendsFront mid new held → WritesFront old new all
+Makes-front old mid new held all lines rest e made taken =
+    let front : AppendsFront old new (made.0 ++ held) =
+    (length made.0 + taken.0, rw take-append-add (Appends-trans old mid new _ _ made.1 taken.1))
+    in (lines, rest, e, made.0 ++ held, made.2, front)
+
+-- one more answer is held, and then a beginning of what is held was written
+pub Makes-stop : (old mid new : Option (List ℕ)) (held all : List ℕ) (whole lines rest : List (List ℕ))
+    (line answer : List ℕ) → whole ≡ lines ++ line ∷ rest → Makes old mid held lines → Answer line answer
+    → all ≡ held ++ (answer ++ 10 ∷ []) → AppendsFront mid new all → WritesFront old new whole
+Makes-stop old mid new held all whole lines rest line answer w made h e taken =
+    Makes-front old mid new all whole (lines ++ line ∷ []) rest (rw (w, append_assoc))
+    (Makes-push old mid mid held all all lines line answer [] made h e (Appends-nil mid) refl) taken
 
 -- the answers of lines in two parts
 Answers-split : (first later : List (List ℕ)) (all : List ℕ) → Answers (first ++ later) all

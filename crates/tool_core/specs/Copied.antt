@@ -1,17 +1,17 @@
 -- What copying a key does.
-use Rattle.std.specs.Prelude.{◌≡◌, ◌⊎◌, ℕ, List, Option}
-use Rattle.std.specs.Io.KnownBytes.{Appends, Keeps}
+use Rattle.std.specs.Prelude.{◌≡◌, ◌⊎◌, ℕ, List, Option, Some, None}
 use Rattle.der_core.specs.declared.error.ErrorKind.{ErrorKind}
 use Rattle.der_core.specs.declared.error.ErrorKind.TheVariants.{File}
-use Rattle.der_core.specs.Carrying.{FileFault, WhyDocumentNotRead}
-use Rattle.der_core.specs.SourcesSinks.{AppendsFront, GivesAll, SomeFailed}
+use Rattle.der_core.specs.Carrying.{WhyDocumentNotRead}
+use Rattle.der_core.specs.Files.{FileFault, FileGives}
+use Rattle.der_core.specs.SourcesSinks.{GivesAll}
 use Rattle.pkcs1.specs.KeyEncodings.{IsSentence}
 
--- All that the source gave until its end is the encoding of a key, and exactly that was written.
-abbrev pub CopiesKey : {V : Type 0} → (V → List ℕ → Type 0) → Option (List ℕ) → Option (List ℕ) → Option (List ℕ)
-    → Option (List ℕ) → Type 0
-CopiesKey Grammar before after old new =
-    (encoding : List ℕ) × GivesAll before after encoding × IsSentence Grammar encoding × Appends old new encoding
+-- All that the source gave until its end is the encoding of a key, and exactly that was written at the place.
+abbrev pub CopiesKey : {V Place : Type 0} → (V → List ℕ → Type 0) → Option (List ℕ) → Option (List ℕ)
+    → (Place → List ℕ → Type 0) → Option Place → Type 0
+CopiesKey Grammar before after Takes output = (encoding : List ℕ) × GivesAll before after encoding
+    × IsSentence Grammar encoding × (place : _) × (output ≡ Some place) × Takes place encoding
 
 -- No key was read: reading stopped, or all that the source gave is no document; or it has this first fault as a key,
 -- and no read failed.
@@ -21,18 +21,30 @@ WhyKeyNotRead KeyFault e before after failures failures2 =
     WhyDocumentNotRead e before after failures failures2
     ⊎ ((failures2 ≡ failures) × (encoding : List ℕ) × GivesAll before after encoding × KeyFault e encoding)
 
--- Nothing was written, and no call to write failed.
-abbrev pub IsUntouched : Option (List ℕ) → Option (List ℕ) → ℕ → ℕ → Type 0
-IsUntouched old new failures failures2 = Keeps old new × (failures2 ≡ failures)
+-- The encoding of a key was read, and no read failed; but the place was used up before, or refused the encoding.
+abbrev pub WhyKeyNotWritten : {V Place : Type 0} → (V → List ℕ → Type 0) → ErrorKind → Option (List ℕ)
+    → Option (List ℕ) → ℕ → ℕ → (Place → List ℕ → Type 0) → Option Place → Type 0
+WhyKeyNotWritten Grammar e before after failures failures2 Refuses output =
+    (e ≡ File) × (failures2 ≡ failures) × (encoding : List ℕ) × GivesAll before after encoding
+    × IsSentence Grammar encoding
+    × ((output ≡ None) ⊎ ((place : _) × (output ≡ Some place) × Refuses place encoding))
 
--- The encoding of a key was read, a beginning of it was written, and a call to write failed.
-abbrev pub WhyKeyNotWritten : {V : Type 0} → (V → List ℕ → Type 0) → ErrorKind → Option (List ℕ) → Option (List ℕ)
-    → Option (List ℕ) → Option (List ℕ) → ℕ → ℕ → Type 0
-WhyKeyNotWritten Grammar e before after old new failures failures2 =
-    (e ≡ File) × (encoding : List ℕ) × GivesAll before after encoding × IsSentence Grammar encoding
-    × AppendsFront old new encoding × SomeFailed failures failures2
+-- All that the opened file gave until its end is the encoding of a key, and the created file took exactly that.
+abbrev pub CopiesFile : {V F : Type 0} → (V → List ℕ → Type 0) → (Option F → Type 0) → (F → Option (List ℕ))
+    → (List ℕ → Type 0) → Type 0
+CopiesFile Grammar Opens remaining Takes =
+    (encoding : List ℕ) × FileGives Opens remaining encoding × IsSentence Grammar encoding × Takes encoding
 
--- Why a file isn't copied, whose bytes no contract can name: a file failed, memory ran out, or some bytes have this
--- fault as a document or as a key.
-abbrev pub WhyNotCopied : (ErrorKind → List ℕ → Type 0) → ErrorKind → Type 0
-WhyNotCopied KeyFault e = FileFault e ⊎ ((bytes : List ℕ) × KeyFault e bytes)
+-- The same from path to path.
+abbrev pub CopiesAt : {V F : Type 0} → (V → List ℕ → Type 0) → (List ℕ → Option F → Type 0) → (F → Option (List ℕ))
+    → (List ℕ → List ℕ → Type 0) → List ℕ → List ℕ → Type 0
+CopiesAt Grammar opens remaining Takes input output = CopiesFile Grammar (opens input) remaining (Takes output)
+
+-- Why a file isn't copied: what it gave has this fault as a document or as a key, or it failed, or memory ran out for
+-- it; or it gave the encoding of a key, which the other file refused.
+abbrev pub WhyNotCopied : {V F : Type 0} → (V → List ℕ → Type 0) → (ErrorKind → List ℕ → Type 0) → ErrorKind
+    → (Option F → Type 0) → (F → Option (List ℕ)) → (F → ℕ) → (List ℕ → Type 0) → Type 0
+WhyNotCopied Grammar KeyFault e Opens remaining failures Refuses =
+    FileFault Opens remaining failures e
+    ⊎ ((bytes : List ℕ) × FileGives Opens remaining bytes × KeyFault e bytes)
+    ⊎ ((e ≡ File) × CopiesFile Grammar Opens remaining Refuses)

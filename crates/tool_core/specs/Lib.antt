@@ -2,5 +2,4 @@ pub mod Written
 pub mod Fault
 pub mod Plan
 pub mod Copied
-pub mod NewFile
 pub mod Words

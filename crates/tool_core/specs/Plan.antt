@@ -35,3 +35,10 @@ status_of Usage ok = 2
 status_of Lines ok = if ok then 0 else 1
 status_of (CopyPub input output) ok = if ok then 0 else 1
 status_of (CopyPriv input output) ok = if ok then 0 else 1
+
+-- What was asked for is done: the lines are answered, or the file is copied.
+abbrev pub IsDone : Plan → Type 0 → (List ℕ → List ℕ → Type 0) → (List ℕ → List ℕ → Type 0) → Type 0
+IsDone Lines Answered CopiedPub CopiedPriv = Answered
+IsDone Usage Answered CopiedPub CopiedPriv = ⊥
+IsDone (CopyPub input output) Answered CopiedPub CopiedPriv = CopiedPub input.now output.now
+IsDone (CopyPriv input output) Answered CopiedPub CopiedPriv = CopiedPriv input.now output.now

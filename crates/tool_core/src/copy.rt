@@ -1,95 +1,123 @@
-//! Copying keys from a source to a sink, and from file to file.
+//! Copying keys from a source to a place, and from file to file.
 ghost use Rattle.std.specs.Prelude.{◌≡◌, ◌⊎◌, IfOk, IfErr, OnOk};
-ghost use Rattle.der_core.specs.Words.{IsFile, read_faults};
-ghost use Rattle.pkcs1.specs.Words.{RsaPrivateKey, RsaPublicKey, RsaPrivateKeyFault, RsaPublicKeyFault};
+ghost use Rattle.std.specs.Path.{path_bytes};
+ghost use Rattle.der_core.specs.Words.{FileRefuses, FileTakes, GivesAll, encoding_of};
+ghost use Rattle.pkcs1.specs.Words.{IsSentence, RsaPrivateKey, RsaPublicKey, RsaPrivateKeyFault, RsaPublicKeyFault};
 ghost use Rattle.pkcs1_params.specs.Words.{IsAsn1};
-ghost use Rattle.tool_core.specs.Words.{CopiesKey, IsUntouched, WhyKeyNotRead, WhyKeyNotWritten, WhyNotCopied};
+ghost use Rattle.tool_core.specs.Words.{CopiesFile, CopiesKey, WhyKeyNotRead, WhyKeyNotWritten, WhyNotCopied};
 
-use crate::new_file::{FileAt, NewFile};
-use der_core::{Document, Error, ErrorKind, FromRead, SecretDocument, Sink, Source};
-use pkcs1::{Result, RsaPrivateKeyView, RsaPublicKeyRef};
+use crate::place::{FileAt, Place};
+use der_core::{Document, ErrorKind, FileSystem, SecretDocument, Source};
+use pkcs1::{Error, Result, RsaPrivateKeyView, RsaPublicKeyRef};
 use std::alloc::Global;
-use std::fs::File;
 use std::path::Path;
-use std::rt::Files;
 
-/// Copies a public key, whose encoding must be all that the source gives until its end. The sink is called only after
-/// the key was read. The encoding is held once.
-pub fn copy_public_key<R: Source, W: Sink>(
-    alloc: Global,
-    source: &mut R,
-    sink: &mut W,
-) -> Result<()>
-    ensures copied { OnOk result (CopiesKey RsaPublicKey (R.remaining source.old) (R.remaining source.new)
-        (W.contents sink.old) (W.contents sink.new)) }
-    ensures quiet { OnOk result ((R.failures source.new ≡ R.failures source.old)
-        × (W.failures sink.new ≡ W.failures sink.old)) }
-    ensures err { IfErr result (IsAsn1 (λ e.
-        (WhyKeyNotRead RsaPublicKeyFault e.kind (R.remaining source.old) (R.remaining source.new)
-        (R.failures source.old) (R.failures source.new)
-        × IsUntouched (W.contents sink.old) (W.contents sink.new) (W.failures sink.old) (W.failures sink.new))
-        ⊎ WhyKeyNotWritten RsaPublicKey e.kind (R.remaining source.old) (R.remaining source.new)
-        (W.contents sink.old) (W.contents sink.new) (W.failures sink.old) (W.failures sink.new))) }
+/// Reads the document of a public key, whose encoding must be all that the source gives until its end.
+fn read_public_key<R: Source>(alloc: Global, source: &mut R) -> Result<Document>
+    ensures ok { IfOk result (λ document. GivesAll (R.remaining source.old) (R.remaining source.new)
+        (encoding_of document) × IsSentence RsaPublicKey (encoding_of document)) }
+    ensures quiet { OnOk result (R.failures source.new ≡ R.failures source.old) }
+    ensures err { IfErr result (IsAsn1 (λ e. WhyKeyNotRead RsaPublicKeyFault e.kind (R.remaining source.old)
+        (R.remaining source.new) (R.failures source.old) (R.failures source.new))) }
 {
     let document = Document::read_from(alloc, source)?;
     RsaPublicKeyRef::try_from(document.as_bytes())?;
-    Ok(document.write_to(sink)?)
+    Ok(document)
 }
 
-/// Copies a private key, whose encoding must be all that the source gives until its end. The sink is called only after
-/// the key was read. The encoding is held once.
-pub fn copy_private_key<R: Source, W: Sink>(
-    alloc: Global,
-    source: &mut R,
-    sink: &mut W,
-) -> Result<()>
-    ensures copied { OnOk result (CopiesKey RsaPrivateKey (R.remaining source.old) (R.remaining source.new)
-        (W.contents sink.old) (W.contents sink.new)) }
-    ensures quiet { OnOk result ((R.failures source.new ≡ R.failures source.old)
-        × (W.failures sink.new ≡ W.failures sink.old)) }
-    ensures err { IfErr result (IsAsn1 (λ e.
-        (WhyKeyNotRead RsaPrivateKeyFault e.kind (R.remaining source.old) (R.remaining source.new)
-        (R.failures source.old) (R.failures source.new)
-        × IsUntouched (W.contents sink.old) (W.contents sink.new) (W.failures sink.old) (W.failures sink.new))
-        ⊎ WhyKeyNotWritten RsaPrivateKey e.kind (R.remaining source.old) (R.remaining source.new)
-        (W.contents sink.old) (W.contents sink.new) (W.failures sink.old) (W.failures sink.new))) }
+/// Reads the document of a private key, whose encoding must be all that the source gives until its end.
+fn read_private_key<R: Source>(alloc: Global, source: &mut R) -> Result<SecretDocument>
+    ensures ok { IfOk result (λ secret. GivesAll (R.remaining source.old) (R.remaining source.new)
+        (encoding_of secret) × IsSentence RsaPrivateKey (encoding_of secret)) }
+    ensures quiet { OnOk result (R.failures source.new ≡ R.failures source.old) }
+    ensures err { IfErr result (IsAsn1 (λ e. WhyKeyNotRead RsaPrivateKeyFault e.kind (R.remaining source.old)
+        (R.remaining source.new) (R.failures source.old) (R.failures source.new))) }
 {
     let secret = SecretDocument::read_from(alloc, source)?;
     RsaPrivateKeyView::try_from(secret.as_bytes())?;
-    Ok(secret.write_to(sink)?)
+    Ok(secret)
 }
 
-/// Opens a file as a source.
-fn open<Rt: Files>(rt: &Rt, path: Path<'_>) -> Result<FromRead<Rt::File>>
-    ensures ok { IfOk result (λ source. read_faults source ≡ 0) }
-    ensures err { IfErr result (IsAsn1 IsFile) }
+/// Copies a public key, whose encoding must be all that the source gives until its end, to the place. The place is used
+/// only after the key was read: after an error of reading it is unchanged. The encoding is held once.
+pub fn copy_public_key<R: Source, P: Place>(
+    alloc: Global,
+    source: &mut R,
+    output: &mut Option<P>,
+) -> Result<()>
+    ensures copied { OnOk result (CopiesKey RsaPublicKey (R.remaining source.old) (R.remaining source.new)
+        P.takes output.old) }
+    ensures quiet { OnOk result (R.failures source.new ≡ R.failures source.old) }
+    ensures err { IfErr result (IsAsn1 (λ e.
+        (WhyKeyNotRead RsaPublicKeyFault e.kind (R.remaining source.old) (R.remaining source.new)
+        (R.failures source.old) (R.failures source.new) × (output.new ≡ output.old))
+        ⊎ WhyKeyNotWritten RsaPublicKey e.kind (R.remaining source.old) (R.remaining source.new)
+        (R.failures source.old) (R.failures source.new) P.refuses output.old)) }
 {
-    match File::open(rt, path) {
-        Ok(file) => Ok(FromRead::new(file)),
-        Err(_) => Err(Error::new(ErrorKind::File).into()),
+    let document = read_public_key(alloc, source)?;
+    match output.take() {
+        Some(place) => Ok(place.write(&document)?),
+        None => Err(Error::Asn1(der_core::Error::new(ErrorKind::File))),
+    }
+}
+
+/// Copies a private key, whose encoding must be all that the source gives until its end, to the place. The place is used
+/// only after the key was read: after an error of reading it is unchanged. The encoding is held once.
+pub fn copy_private_key<R: Source, P: Place>(
+    alloc: Global,
+    source: &mut R,
+    output: &mut Option<P>,
+) -> Result<()>
+    ensures copied { OnOk result (CopiesKey RsaPrivateKey (R.remaining source.old) (R.remaining source.new)
+        P.takes output.old) }
+    ensures quiet { OnOk result (R.failures source.new ≡ R.failures source.old) }
+    ensures err { IfErr result (IsAsn1 (λ e.
+        (WhyKeyNotRead RsaPrivateKeyFault e.kind (R.remaining source.old) (R.remaining source.new)
+        (R.failures source.old) (R.failures source.new) × (output.new ≡ output.old))
+        ⊎ WhyKeyNotWritten RsaPrivateKey e.kind (R.remaining source.old) (R.remaining source.new)
+        (R.failures source.old) (R.failures source.new) P.refuses output.old)) }
+{
+    let secret = read_private_key(alloc, source)?;
+    match output.take() {
+        Some(place) => Ok(place.write(&secret)?),
+        None => Err(Error::Asn1(der_core::Error::new(ErrorKind::File))),
     }
 }
 
 /// Copies a public key from file to file. The output is created or truncated only after the key was read.
-pub fn copy_pub<Rt: Files>(rt: &Rt, alloc: Global, input: Path<'_>, output: Path<'_>) -> Result<()>
-    ensures err { IfErr result (IsAsn1 (λ e. WhyNotCopied RsaPublicKeyFault e.kind)) }
+pub fn copy_pub<F: FileSystem>(
+    files: &F,
+    alloc: Global,
+    input: Path<'_>,
+    output: Path<'_>,
+) -> Result<()>
+    ensures copied { let takes = FileTakes (F.creates (path_bytes output.entry)) F.Created.is_closed in
+        OnOk result (CopiesFile RsaPublicKey (F.opens (path_bytes input.entry)) F.Opened.remaining
+        (takes F.Created.contents F.Created.is_flushed)) }
+    ensures err { let refuses = FileRefuses (F.creates (path_bytes output.entry)) F.Created.is_closed in
+        IfErr result (IsAsn1 (λ e. WhyNotCopied RsaPublicKey RsaPublicKeyFault e.kind
+        (F.opens (path_bytes input.entry)) F.Opened.remaining F.Opened.failures
+        (refuses F.Created.contents F.Created.failures))) }
 {
-    let mut source = open(rt, input)?;
-    copy_public_key(
-        alloc,
-        &mut source,
-        &mut NewFile::new(FileAt::new(rt, output)),
-    )
+    let mut source = files.open(input)?;
+    copy_public_key(alloc, &mut source, &mut Some(FileAt::new(files, output)))
 }
 
 /// Copies a private key from file to file. The output is created or truncated only after the key was read.
-pub fn copy_priv<Rt: Files>(rt: &Rt, alloc: Global, input: Path<'_>, output: Path<'_>) -> Result<()>
-    ensures err { IfErr result (IsAsn1 (λ e. WhyNotCopied RsaPrivateKeyFault e.kind)) }
+pub fn copy_priv<F: FileSystem>(
+    files: &F,
+    alloc: Global,
+    input: Path<'_>,
+    output: Path<'_>,
+) -> Result<()>
+    ensures copied { let takes = FileTakes (F.creates (path_bytes output.entry)) F.Created.is_closed in
+        OnOk result (CopiesFile RsaPrivateKey (F.opens (path_bytes input.entry)) F.Opened.remaining
+        (takes F.Created.contents F.Created.is_flushed)) }
+    ensures err { let refuses = FileRefuses (F.creates (path_bytes output.entry)) F.Created.is_closed in
+        IfErr result (IsAsn1 (λ e. WhyNotCopied RsaPrivateKey RsaPrivateKeyFault e.kind
+        (F.opens (path_bytes input.entry)) F.Opened.remaining F.Opened.failures
+        (refuses F.Created.contents F.Created.failures))) }
 {
-    let mut source = open(rt, input)?;
-    copy_private_key(
-        alloc,
-        &mut source,
-        &mut NewFile::new(FileAt::new(rt, output)),
-    )
+    let mut source = files.open(input)?;
+    copy_private_key(alloc, &mut source, &mut Some(FileAt::new(files, output)))
 }

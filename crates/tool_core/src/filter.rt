@@ -1,20 +1,20 @@
 //! The program as a filter: reading lines and writing the output for each.
-ghost use Rattle.std.specs.Prelude.{◌≡◌, ◌≤◌, ◌⊎◌, ℕ, List, length, IfSome, IfOk, OnOk, OnErr, IsErrOf, vec_len};
+ghost use Rattle.std.specs.Prelude.{◌≡◌, ◌<◌, ◌≤◌, ◌⊎◌, ℕ, List, [], length, IfSome, IfOk, OnOk, IsErrOf, vec_len};
 ghost use Rattle.std.specs.Io.KnownBytes.{Appends, Keeps, IsAtEnd};
-ghost use Rattle.der_core.specs.Words.{piece, AppendsFront, GivesAll, GivesMore, SomeFailed, AtMostOne};
+ghost use Rattle.der_core.specs.Words.{piece, AppendsFront, GivesAll, GivesMore, GivesSome, OneFailed, AtMostOne};
 ghost use Rattle.pkcs1_lines.specs.Words.{Answer, Output, lines_of};
-ghost use Rattle.tool_core.specs.Words.{Writes, WritesFirst, WritesFront, WritesFrontOfAll};
+ghost use Rattle.tool_core.specs.Words.{Makes, MakesFirst, Writes, WritesFirst, WritesFront, WritesFrontOfAll};
+ghost use Rattle.tool_core.specs.Words.{WritesHeld, WritesOut};
 
 use crate::fault::Fault;
-use der_core::{ErrorKind, FromRead, Length, Sink, Source, ToWrite, put_all, read_all};
+use der_core::{ErrorKind, Length, Sink, Source, put_all, read_all};
 use pkcs1_lines::{Encodings, answer_line, lemma_answers_are_one, split_line};
 use std::alloc::Global;
-use std::io::{BufWriter, Read, Write};
 
 /// The longest input, in bytes.
 pub const LIMIT: usize = 16777216;
 
-/// How many bytes of output are written at once.
+/// How many bytes of output are held before they are written.
 const BUFFER: usize = 65536;
 
 /// Reads all that the source gives until its end.
@@ -22,10 +22,12 @@ fn read_input<R: Source>(alloc: Global, source: &mut R) -> Result<Vec<u8>, Fault
     ensures all { IfOk result (λ input. GivesAll (R.remaining source.old) (R.remaining source.new) input.items) }
     ensures within { IfOk result (λ input. vec_len input ≤ LIMIT) }
     ensures same { OnOk result (R.failures source.new ≡ R.failures source.old) }
-    ensures read { IsErrOf result Fault.Read → SomeFailed (R.failures source.old) (R.failures source.new)
+    ensures read { IsErrOf result Fault.Read → OneFailed (R.failures source.old) (R.failures source.new)
         ⊎ GivesMore LIMIT piece (R.remaining source.old) (R.remaining source.new) }
     ensures write { ¬ IsErrOf result Fault.Write }
     ensures memory_quiet { IsErrOf result Fault.Memory → R.failures source.new ≡ R.failures source.old }
+    ensures wanted { IsErrOf result Fault.Memory
+        → GivesSome LIMIT (R.remaining source.old) (R.remaining source.new) }
 {
     match read_all(alloc, source, Length::of(LIMIT)) {
         Ok(input) => Ok(input),
@@ -34,16 +36,60 @@ fn read_input<R: Source>(alloc: Global, source: &mut R) -> Result<Vec<u8>, Fault
     }
 }
 
-/// Writes the output for each line, in order.
-fn answer_lines<W: Sink>(alloc: Global, input: &[u8], sink: &mut W) -> Result<(), Fault>
-    ensures ok { OnOk result (Writes (W.contents sink.old) (W.contents sink.new) (lines_of input.now)) }
+/// Writes all the bytes, in order.
+fn write_out<W: Sink>(bytes: &[u8], sink: &mut W) -> Result<(), Fault>
+    ensures { WritesOut bytes.now result (W.contents sink.old) (W.contents sink.new)
+        (W.failures sink.old) (W.failures sink.new) }
+{
+    match put_all(bytes, sink) {
+        Ok(()) => Ok(()),
+        Err(_) => Err(Fault::Write),
+    }
+}
+
+/// Writes what is held, if it is long.
+fn write_long<W: Sink>(held: &mut Vec<u8>, sink: &mut W) -> Result<(), Fault>
+    ensures { WritesHeld held.old.items held.new.items result (W.contents sink.old) (W.contents sink.new)
+        (W.failures sink.old) (W.failures sink.new) }
+{
+    if held.len() < BUFFER {
+        return Ok(());
+    }
+    write_out(held.as_slice(), sink)?;
+    held.clear();
+    Ok(())
+}
+
+/// Writes all the bytes, in order, and flushes the sink.
+fn finish<W: Sink>(bytes: &[u8], sink: &mut W) -> Result<(), Fault>
+    ensures written { WritesOut bytes.now result (W.contents sink.old) (W.contents sink.new)
+        (W.failures sink.old) (W.failures sink.new) }
+    ensures flushed { OnOk result (W.is_flushed sink.new) }
+{
+    write_out(bytes, sink)?;
+    match sink.flush() {
+        Ok(()) => Ok(()),
+        Err(_) => Err(Fault::Write),
+    }
+}
+
+/// Makes the output for each line, in order. Of it, what is long is written, and the rest is left in `held`.
+fn answer_lines<W: Sink>(
+    alloc: Global,
+    input: &[u8],
+    held: &mut Vec<u8>,
+    sink: &mut W,
+) -> Result<(), Fault>
+    requires { held.old.items ≡ [] }
+    ensures ok { OnOk result (Makes (W.contents sink.old) (W.contents sink.new) held.new.items (lines_of input.now)) }
     ensures same { OnOk result (W.failures sink.new ≡ W.failures sink.old) }
     ensures read { ¬ IsErrOf result Fault.Read }
-    ensures write { IsErrOf result Fault.Write → SomeFailed (W.failures sink.old) (W.failures sink.new)
+    ensures write { IsErrOf result Fault.Write → OneFailed (W.failures sink.old) (W.failures sink.new)
         × WritesFront (W.contents sink.old) (W.contents sink.new) (lines_of input.now) }
     ensures memory { IsErrOf result Fault.Memory
-        → WritesFirst (W.contents sink.old) (W.contents sink.new) (lines_of input.now) }
+        → MakesFirst (W.contents sink.old) (W.contents sink.new) held.new.items (lines_of input.now) }
     ensures memory_quiet { IsErrOf result Fault.Memory → W.failures sink.new ≡ W.failures sink.old }
+    ensures wanted { IsErrOf result Fault.Memory → 0 < length input.now }
 {
     let mut encodings = Encodings::new(alloc);
     let mut answer = Vec::new(alloc);
@@ -53,33 +99,39 @@ fn answer_lines<W: Sink>(alloc: Global, input: &[u8], sink: &mut W) -> Result<()
         answer.clear();
         answer_line(alloc, line, &mut encodings, &mut answer)?;
         answer.push(b'\n')?;
-        match put_all(answer.as_slice(), sink) {
-            Ok(()) => rest = more,
-            Err(_) => return Err(Fault::Write),
-        }
+        held.extend_from_slice(answer.as_slice())?;
+        write_long(held, sink)?;
+        rest = more;
     }
     Ok(())
 }
 
-/// Writes the output for each line, in order, and flushes the sink.
+/// Writes the output for each line, in order, and flushes the sink. If memory runs out, the output for the lines before
+/// is written.
 fn answer_input<W: Sink>(alloc: Global, input: &[u8], sink: &mut W) -> Result<(), Fault>
     ensures ok { OnOk result (Writes (W.contents sink.old) (W.contents sink.new) (lines_of input.now)) }
     ensures same { OnOk result (W.failures sink.new ≡ W.failures sink.old) }
     ensures read { ¬ IsErrOf result Fault.Read }
-    ensures write { IsErrOf result Fault.Write → SomeFailed (W.failures sink.old) (W.failures sink.new)
+    ensures write { IsErrOf result Fault.Write → OneFailed (W.failures sink.old) (W.failures sink.new)
         × WritesFront (W.contents sink.old) (W.contents sink.new) (lines_of input.now) }
     ensures memory { IsErrOf result Fault.Memory
         → WritesFirst (W.contents sink.old) (W.contents sink.new) (lines_of input.now) }
     ensures memory_quiet { IsErrOf result Fault.Memory → W.failures sink.new ≡ W.failures sink.old }
+    ensures wanted { IsErrOf result Fault.Memory → 0 < length input.now }
+    ensures flushed { OnOk result (W.is_flushed sink.new) }
 {
-    answer_lines(alloc, input, sink)?;
-    match sink.flush() {
-        Ok(()) => Ok(()),
-        Err(_) => Err(Fault::Write),
+    let mut held = Vec::new(alloc);
+    match answer_lines(alloc, input, &mut held, sink) {
+        Ok(()) => finish(held.as_slice(), sink),
+        Err(Fault::Memory) => {
+            write_out(held.as_slice(), sink)?;
+            Err(Fault::Memory)
+        }
+        Err(fault) => Err(fault),
     }
 }
 
-/// Reads the whole input, then writes the output line by line.
+/// Reads the whole input, then writes the output for each line, many lines at once.
 pub fn run<R: Source, W: Sink>(alloc: Global, source: &mut R, sink: &mut W) -> Result<(), Fault>
     ensures ok { let writes = Writes (W.contents sink.old) (W.contents sink.new) in
         OnOk result (IfSome (R.remaining source.old) (λ input. writes (lines_of input))) }
@@ -91,11 +143,11 @@ pub fn run<R: Source, W: Sink>(alloc: Global, source: &mut R, sink: &mut W) -> R
     ensures within { OnOk result (IfSome (R.remaining source.old) (λ input. length input ≤ LIMIT)) }
     ensures quiet { OnOk result ((R.failures source.new ≡ R.failures source.old)
         × (W.failures sink.new ≡ W.failures sink.old)) }
-    ensures read { IsErrOf result Fault.Read → SomeFailed (R.failures source.old) (R.failures source.new)
+    ensures read { IsErrOf result Fault.Read → OneFailed (R.failures source.old) (R.failures source.new)
         ⊎ GivesMore LIMIT piece (R.remaining source.old) (R.remaining source.new) }
     ensures untouched { IsErrOf result Fault.Read
         → Keeps (W.contents sink.old) (W.contents sink.new) × (W.failures sink.new ≡ W.failures sink.old) }
-    ensures write { IsErrOf result Fault.Write → SomeFailed (W.failures sink.old) (W.failures sink.new) }
+    ensures write { IsErrOf result Fault.Write → OneFailed (W.failures sink.old) (W.failures sink.new) }
     ensures front { let writes = WritesFront (W.contents sink.old) (W.contents sink.new) in
         IsErrOf result Fault.Write → IfSome (R.remaining source.old) (λ input. writes (lines_of input)) }
     ensures front_of_all { let writes = WritesFrontOfAll (W.contents sink.old) (W.contents sink.new) in
@@ -104,31 +156,13 @@ pub fn run<R: Source, W: Sink>(alloc: Global, source: &mut R, sink: &mut W) -> R
         IsErrOf result Fault.Memory → IfSome (R.remaining source.old) (λ input. writes (lines_of input)) }
     ensures memory_quiet { IsErrOf result Fault.Memory → (R.failures source.new ≡ R.failures source.old)
         × (W.failures sink.new ≡ W.failures sink.old) }
+    ensures wanted { IsErrOf result Fault.Memory
+        → GivesSome LIMIT (R.remaining source.old) (R.remaining source.new) }
+    ensures flushed { OnOk result (W.is_flushed sink.new) }
     ensures one_answer { (line : List ℕ) → AtMostOne (Answer line) }
     ensures one_output { (input : List ℕ) → AtMostOne (Output input) }
 {
     lemma_answers_are_one();
     let input = read_input(alloc, source)?;
     answer_input(alloc, input.as_slice(), sink)
-}
-
-/// Reads the whole input from a reader of std, and writes the output to a writer of std, through a buffer. On success
-/// all of it has gone from the buffer to the writer, which is returned.
-pub fn run_buffered<R: Read + Drop, W: Write + Drop>(
-    alloc: Global,
-    reader: R,
-    writer: W,
-) -> Result<W, Fault>
-    ensures ok { IfOk result (λ written. let writes = Writes (W.contents writer) (W.contents written) in
-        IfSome (R.remaining reader) (λ input. writes (lines_of input))) }
-    ensures within { OnOk result (IfSome (R.remaining reader) (λ input. length input ≤ LIMIT)) }
-    ensures some { IfOk result (λ written. (input : List ℕ) × (length input ≤ LIMIT)
-        × Writes (W.contents writer) (W.contents written) (lines_of input)) }
-{
-    let Ok(buffer) = BufWriter::with_capacity(alloc, BUFFER, writer) else {
-        return Err(Fault::Memory);
-    };
-    let mut sink = ToWrite::new(buffer);
-    run(alloc, &mut FromRead::new(reader), &mut sink)?;
-    sink.into_inner().into_inner().map_err(|_| Fault::Write)
 }

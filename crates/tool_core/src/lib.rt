@@ -5,11 +5,11 @@
 mod copy;
 mod fault;
 mod filter;
-mod new_file;
+mod place;
 mod plan;
 
 pub use copy::{copy_priv, copy_private_key, copy_pub, copy_public_key};
 pub use fault::Fault;
-pub use filter::{LIMIT, run, run_buffered};
-pub use new_file::{Create, FileAt, NewFile};
+pub use filter::{LIMIT, run};
+pub use place::{FileAt, Place};
 pub use plan::{Plan, behind_name, plan_of, status};

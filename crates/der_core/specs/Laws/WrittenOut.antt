@@ -1,20 +1,15 @@
 -- Encodings that are written out: making one, taking one apart, and showing that there is none.
 use Rattle.std.proofs.Common.{ℕ, List, [], ◌∷◌, ◌++◌, ◌≡◌, ◌≢◌, ◌<◌, ◌≤◌, ◌+◌, inl, inr, length, refl, sym, ap, ◌∙◌}
-use Rattle.std.proofs.Common.{arith, append-nil, length-append, Ok, Err}
+use Rattle.std.proofs.Common.{arith, length-append}
 use Rattle.std.proofs.lemmas.Bool.{cases_lt}
-use Rattle.std.specs.Prelude.{IsTrue, slice_index}
+use Rattle.std.specs.Prelude.{slice_index}
 use Rattle.std.specs.Int.Digits.{number_from_digits}
-use Rattle.der_core.specs.declared.error.ErrorKind.{ErrorKind}
-use Rattle.der_core.specs.Length.{IsLength, IsBase256, short, long, limit}
-use Rattle.der_core.specs.Tag.{is_allowed}
+use Rattle.der_core.specs.Length.{IsLength, IsBase256, short, long}
 use Rattle.der_core.specs.Encodings.{AreBytes, Is, Then}
 use Rattle.der_core.specs.Tlv.{Tlv}
-use Rattle.der_core.specs.Integer.{Integer, IntegerContents, Small}
-use Rattle.der_core.specs.Input.{header_at}
+use Rattle.der_core.specs.Integer.{IntegerContents, Small}
 use Rattle.der_core.specs.Laws.Lists.{same_cons}
 use Rattle.der_core.specs.Laws.Encodings.{tlv_split, tlv_not_empty}
-use Rattle.der_core.specs.Laws.Input.{ok_pair}
-use Rattle.der_core.specs.Laws.Headers.{tlv_header}
 
 -- Length octets in the long form.
 pub known_long : (digits : List ℕ) → AreBytes digits → 0 < slice_index digits 0 → 128 ≤ number_from_digits 256 digits

@@ -17,7 +17,7 @@ use std::alloc::Global;
 impl<U: Encode> RsaPrivateKey<U> {
     ghost use Rattle.der_core.specs.Words.{encoding_of};
 
-    /// `encode_into`, but `Value` of SEQUENCE if the list of other primes is there but empty.
+    /// As `encode_into`. It looks for an empty list of other primes first, so its contract says the tag of `Value`.
     fn encode_front(&self, out: &mut [u8]) -> crate::Result<usize>
         ensures shortest { let key = private_key_with U.value self.now in
             IfOk result (λ n. IsShortest (PrivateKeyEncoding U.encoding) key (take n out.new)) }
@@ -37,7 +37,7 @@ impl<U: Encode> RsaPrivateKey<U> {
         Ok(self.encode_into(out)?)
     }
 
-    /// `encode_msg`, but `Value` of SEQUENCE if the list of other primes is there but empty.
+    /// As `encode_msg`. It looks for an empty list of other primes first, so its contract says the tag of `Value`.
     pub(crate) fn to_document(&self, alloc: Global) -> crate::Result<SecretDocument>
         ensures shortest { let key = private_key_with U.value self.now in
             IfOk result (λ document. IsShortest (PrivateKeyEncoding U.encoding) key (encoding_of document)) }

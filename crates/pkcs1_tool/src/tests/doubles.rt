@@ -77,6 +77,8 @@ impl Sink for Narrow {
 
     ghost failures = { λ s. s.faults };
 
+    ghost is_flushed = { λ s. 0 < s.flushes };
+
     fn write(&mut self, bytes: &[u8]) -> Result<usize> {
         self.calls = self.calls.saturating_add(1);
         let count = self.step.min(bytes.len());

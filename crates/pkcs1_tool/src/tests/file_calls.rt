@@ -1,0 +1,91 @@
+//! Which calls on files are made, in order: no file is created before what goes into it is there, and no other file.
+use super::equal;
+use super::recorded::{Call, Recorder};
+use crate::{copy_priv, copy_pub};
+use pkcs1::{
+    DecodeRsaPrivateKey, DecodeRsaPublicKey, EncodeRsaPrivateKey, EncodeRsaPublicKey,
+    RsaPrivateKeyOwned, RsaPublicKeyOwned, RsaPublicKeyRef,
+};
+use std::cell::RefCell;
+use std::path::Path;
+use std::test::Fail;
+
+const PUBLIC: &[u8] = &[0x30, 0x06, 0x02, 0x01, 0x07, 0x02, 0x01, 0x03];
+
+const PRIVATE: &[u8] = &[
+    0x30, 0x1b, 0x02, 0x01, 0x00, 0x02, 0x01, 0x07, 0x02, 0x01, 0x03, 0x02, 0x01, 0x05, 0x02, 0x01,
+    0x0b, 0x02, 0x01, 0x0d, 0x02, 0x01, 0x02, 0x02, 0x01, 0x04, 0x02, 0x01, 0x06,
+];
+
+const READ: &[Call] = &[Call::Open, Call::Read, Call::Read];
+
+const WRITTEN: &[Call] = &[Call::Create, Call::Write, Call::Flush, Call::Close];
+
+const COPIED: &[Call] = &[
+    Call::Open,
+    Call::Read,
+    Call::Read,
+    Call::Create,
+    Call::Write,
+    Call::Flush,
+    Call::Close,
+];
+
+#[test]
+fn copies_call_files_in_order(rt: HostRuntime) {
+    let alloc = rt.alloc();
+    let (from, to) = (Path::new("in"), Path::new("out"));
+    for (input, public, private) in [
+        (PUBLIC, COPIED, READ),
+        (PRIVATE, READ, COPIED),
+        (b"0\x00".as_slice(), READ, READ),
+    ] {
+        let calls = RefCell::new(Vec::new(alloc));
+        let files = Recorder {
+            calls: &calls,
+            input,
+        };
+        let done = copy_pub(&files, alloc, from, to);
+        equal(&rt, done.is_ok(), input == PUBLIC);
+        equal(&rt, calls.into_inner().as_slice(), public);
+        let calls = RefCell::new(Vec::new(alloc));
+        let files = Recorder {
+            calls: &calls,
+            input,
+        };
+        let done = copy_priv(&files, alloc, from, to);
+        equal(&rt, done.is_ok(), input == PRIVATE);
+        equal(&rt, calls.into_inner().as_slice(), private);
+    }
+}
+
+#[test]
+fn keys_call_files_in_order(rt: HostRuntime) -> Result<(), Fail> {
+    let alloc = rt.alloc();
+    let (from, to) = (Path::new("in"), Path::new("out"));
+    let calls = RefCell::new(Vec::new(alloc));
+    let files = Recorder {
+        calls: &calls,
+        input: PRIVATE,
+    };
+    let key = RsaPrivateKeyOwned::read_pkcs1_der_file(&files, alloc, from)?;
+    key.write_pkcs1_der_file(&files, alloc, to)?;
+    equal(&rt, calls.into_inner().as_slice(), COPIED);
+    let calls = RefCell::new(Vec::new(alloc));
+    let files = Recorder {
+        calls: &calls,
+        input: PUBLIC,
+    };
+    let key = RsaPublicKeyOwned::read_pkcs1_der_file(&files, alloc, from)?;
+    key.write_pkcs1_der_file(&files, alloc, to)?;
+    equal(&rt, calls.into_inner().as_slice(), COPIED);
+    let calls = RefCell::new(Vec::new(alloc));
+    let files = Recorder {
+        calls: &calls,
+        input: PUBLIC,
+    };
+    let key = RsaPublicKeyRef::try_from(PUBLIC)?;
+    key.write_pkcs1_der_file(&files, alloc, to)?;
+    equal(&rt, calls.into_inner().as_slice(), WRITTEN);
+    Ok(())
+}
