@@ -2,7 +2,6 @@
 use Rattle.std.proofs.Common.{ℕ, List, [], ◌++◌, ◌≡◌, ◌∙◌, ◌<◌, ◌≤◌, ◌+◌, ◌-◌, ◌^◌, length, take, drop, refl, sym, ap}
 use Rattle.std.proofs.Common.{inl, inr, Some, None, arith, length-append}
 use Rattle.std.proofs.Math.Seq.{drop-append_seam}
-use Rattle.std.proofs.lemmas.List.{take_all}
 use Rattle.std.specs.Prelude.{Result, Ok, Err, IfOk, IfErr, OnErr}
 use Rattle.der_core.specs.declared.error.Error as der
 use Rattle.der_core.specs.declared.error.ErrorKind.{ErrorKind}
@@ -142,7 +141,7 @@ is_any values oid b v t =
 
 -- The parameters stand behind the object identifier in the contents.
 pub behind : {tag : ℕ} (oid contents y b : List ℕ) → Tlv tag (Is contents) b → AlgorithmOf oid Is y b
-    → take (length contents - (2 + length oid)) (drop (2 + length oid) contents) ≡ y
+    → drop (2 + length oid) contents ≡ y
 behind oid contents y b p q =
     let s = tlv_split b [] b [] p q refl in
     let h = s.5 in
@@ -154,9 +153,7 @@ behind oid contents y b p q =
     tlv_length (length oid) 6 oid h.0 refl i in
     let l : length h.0 ≡ 2 + length oid = omega (arith, one, counted) in
     let is : contents ≡ h.0 ++ y = sym s.4 ∙ h.4 ∙ ap (λ r. h.0 ++ r) (joins_last h.1 h.3) in
-    let rest : drop (2 + length oid) contents ≡ y =
-    ap (drop (2 + length oid)) is ∙ ap (λ n. drop n (h.0 ++ y)) (sym l) ∙ drop-append_seam h.0 y in
-    rw rest (take_all (length contents - (2 + length oid)) y (omega (arith, ap length is, length-append h.0 y, l)))
+    ap (drop (2 + length oid)) is ∙ ap (λ n. drop n (h.0 ++ y)) (sym l) ∙ drop-append_seam h.0 y
 
 pub inside : {V : Type 0} (Grammar : V → List ℕ → Type 0) (oid : List ℕ) (v : V) (b y : List ℕ)
     → Means (AlgorithmOf oid Grammar) b v → Means (AlgorithmOf oid Is) b y → Means Grammar y v

@@ -9,6 +9,9 @@ pub use Rattle.pkcs1_params.specs.DefaultBits.{bit_of, bits_of}
 pub use Rattle.pkcs1_params.specs.ErrorText.{error_text}
 pub use Rattle.pkcs1_params.specs.Errors.{IsAsn1}
 pub use Rattle.pkcs1_params.specs.FieldRefs.{part_in, value_of}
+pub use Rattle.pkcs1_params.specs.HashFunctions.{UsesHash, id_sha224, id_sha256, id_sha384, id_sha512, id_sha512_224}
+pub use Rattle.pkcs1_params.specs.HashFunctions.{id_sha512_256}
+pub use Rattle.pkcs1_params.specs.Labels.{LabelOf}
 pub use Rattle.pkcs1_params.specs.LabelWriting.{CountsLabelled, written_source}
 pub use Rattle.pkcs1_params.specs.MaskedValues.{FieldContents}
 pub use Rattle.pkcs1_params.specs.Meanings.{ErrsExactly, ErrsOrAsks, IsNoSentence, IsNoShortest, IsTheMeaning}

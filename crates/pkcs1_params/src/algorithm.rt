@@ -101,14 +101,25 @@ impl<'a, T: AlgorithmParams<'a>> FromAlgorithm<'a> for T {
     }
 }
 
+/// The octets behind the first `count`, or none if there are fewer.
+fn behind(octets: &[u8], count: usize) -> &[u8]
+    ensures { result.now ≡ drop count octets.now }
+{
+    if count <= octets.len() {
+        &octets[count..]
+    } else {
+        &[]
+    }
+}
+
 /// The encoding of the parameters in an algorithm identifier.
 fn encoded_parameters<'a, T: AlgorithmParams<'a>>(identifier: &'a [u8]) -> &'a [u8]
     requires { (params : T.Params) × Means (AlgorithmOf T.Oid.contents (Fielded T.values)) identifier.now params }
     ensures { Means (AlgorithmOf T.Oid.contents Is) identifier.now result.now }
 {
     match AnyRef::from_der(NoMemory, identifier) {
-        Ok(any) => &any.value()[2 + T::Oid::octets().len()..],
-        Err(_) => unreachable!(),
+        Ok(any) => behind(any.value(), 2 + T::Oid::octets().len()),
+        Err(_) => &[],
     }
 }
 

@@ -1,44 +1,16 @@
 //! hashAlgorithm and maskGenAlgorithm, which both sets of parameters begin with.
-ghost use Rattle.std.specs.Prelude.{◌≡◌, ◌∷◌, [], refl};
+ghost use Rattle.std.specs.Bool.{Decides};
+ghost use Rattle.std.specs.Prelude.{◌≡◌};
 ghost use Rattle.spki_core.specs.Words.{null_value, same_plain, same_mask, algorithm_with, viewed_with, any_of};
 ghost use Rattle.std.specs.Str.{bytes_eq};
-ghost use Rattle.pkcs1_params.specs.Words.{id_sha1, id_mgf1, with_parameters, sha1, mgf1_sha1};
+ghost use Rattle.pkcs1_params.specs.Words.{id_sha1, id_mgf1, with_parameters, sha1, mgf1_sha1, UsesHash};
 
+use crate::hash_functions::Mgf1;
 use crate::views::{MaskGenView, PlainView};
 use der_core::{Memory, Tag};
 use spki_core::{
     AlgorithmIdentifier, AlgorithmIdentifierRef, AnyParams, AnyRef, AssociatedOid, ObjectIdentifier,
 };
-
-/// SHA-1.
-pub(crate) struct Sha1;
-
-impl AssociatedOid for Sha1 {
-    ghost contents = { id_sha1 };
-
-    ghost valid = { refl };
-
-    const OID: &'static [u8] = &[0x2b, 0x0e, 0x03, 0x02, 0x1a];
-
-    fn octets() -> &'static [u8] {
-        Self::OID
-    }
-}
-
-/// MGF1 (RFC 8017 B.2.1).
-pub(crate) struct Mgf1;
-
-impl AssociatedOid for Mgf1 {
-    ghost contents = { id_mgf1 };
-
-    ghost valid = { refl };
-
-    const OID: &'static [u8] = &[0x2a, 0x86, 0x48, 0x86, 0xf7, 0x0d, 0x01, 0x01, 0x08];
-
-    fn octets() -> &'static [u8] {
-        Self::OID
-    }
-}
 
 /// A mask generation function, whose parameters name a hash function.
 pub(crate) type MaskGen<P> = AlgorithmIdentifier<AlgorithmIdentifier<P>>;
@@ -99,6 +71,19 @@ pub(crate) fn is_default_mask_gen(mask_gen: &MaskGenView<'_>) -> bool
 {
     match &mask_gen.parameters {
         Some(hash) => is_mgf1(mask_gen.oid.as_bytes()) && is_default_hash(hash),
+        None => false,
+    }
+}
+
+/// Whether the hash function is D, and the mask generation function is MGF1 with D.
+pub(crate) fn uses_hash<D: AssociatedOid>(hash: &PlainView<'_>, mask_gen: &MaskGenView<'_>) -> bool
+    ensures { let mask_gen = viewed_with (viewed_with any_of) mask_gen.now in
+        Decides result (UsesHash D.contents (viewed_with any_of hash.now) mask_gen) }
+{
+    match &mask_gen.parameters {
+        Some(under) => {
+            is_mgf1(mask_gen.oid.as_bytes()) && hash.is_hash::<D>() && under.is_hash::<D>()
+        }
         None => false,
     }
 }

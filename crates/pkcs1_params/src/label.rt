@@ -1,13 +1,17 @@
-//! RSAES-OAEP parameters with a label, and how long a label may be.
+//! RSAES-OAEP parameters with a label, how long it may be, and the label of parameters.
 ghost use Rattle.std.specs.Prelude.{◌≡◌, ◌≤◌, ⊤, length, true, false, ℕ, List};
+ghost use Rattle.std.specs.Option.{option_map};
 ghost use Rattle.der_core.specs.Words.{tlv, AreBytes, Counts};
 ghost use Rattle.pkcs1_params.specs.Words.{oaep_of, labelled, LabelFits, NoLabelFits, written_source, CountsLabelled};
+ghost use Rattle.pkcs1_params.specs.Words.{LabelOf, oaep_viewed, oaep_with};
 
 use crate::hash_fields::{mgf1_with, with_null};
 use crate::oaep::{RsaOaepParams, RsaOaepParamsRef};
-use crate::p_source::{PSpecified, source_of};
+use crate::oaep_view::RsaOaepParamsView;
+use crate::p_source::{PSpecified, label_of, source_of};
+use crate::views::plain_view;
 use der_core::{Encode, EncodeValue, Length, NoMemory, Result, Tag, TagNumber, joined_len};
-use spki_core::{AnyRef, AssociatedOid, ObjectIdentifier};
+use spki_core::{AnyRef, AnyValue, AssociatedOid, ObjectIdentifier};
 
 impl<'a> RsaOaepParams<AnyRef<'a>> {
     /// The hash function D with NULL, MGF1 with the same hash function, and this label. `label_fits` says whether a
@@ -29,6 +33,24 @@ impl<'a> RsaOaepParams<AnyRef<'a>> {
         ensures too_long { result ≡ false → NoLabelFits D.contents len }
     {
         labelled_len::<D>(len).is_ok()
+    }
+}
+
+impl<P: AnyValue> RsaOaepParams<P> {
+    /// The octets of the label, or `None` if the source isn't pSpecified with an OCTET STRING.
+    pub fn label(&self) -> Option<&[u8]>
+        ensures { LabelOf (oaep_with P.any self.now).p_source (option_map (λ label. label.now) result) }
+    {
+        label_of(&plain_view(&self.p_source))
+    }
+}
+
+impl<'a> RsaOaepParamsView<'a> {
+    /// Like `RsaOaepParams::label`.
+    pub fn label(&self) -> Option<&'a [u8]>
+        ensures { LabelOf (oaep_viewed self.now).p_source (option_map (λ label. label.now) result) }
+    {
+        label_of(&self.p_source)
     }
 }
 

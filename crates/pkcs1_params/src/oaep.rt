@@ -7,7 +7,8 @@ ghost use Rattle.pkcs1_params.specs.Parameters as grammar;
 
 use crate::defaults::{default_oaep, is_empty_sequence};
 use crate::error::{Error, Result};
-use crate::hash_fields::{Sha1, mgf1_with, with_null};
+use crate::hash_fields::{mgf1_with, with_null};
+use crate::hash_functions::Sha1;
 use crate::oaep_view::RsaOaepParamsView;
 use crate::p_source::empty_source;
 use crate::spelling::{DefaultFields, encode_shortest};
@@ -97,8 +98,9 @@ impl<'a, M: Memory> DecodeValue<&'a [u8], M> for RsaOaepParams<AnyRef<'a>> {
 impl<P: AnyValue> RsaOaepParams<P> {
     ghost use Rattle.std.specs.Prelude.{drop, take, IfOk, OnErr};
     ghost use Rattle.pkcs1_params.specs.Words.{IsTheShortest, IsWritingError, oaep_of, oaep_viewed, oaep_with};
-    ghost use Rattle.pkcs1_params.specs.Words.{HasTwoToTheDefaults};
+    ghost use Rattle.pkcs1_params.specs.Words.{HasTwoToTheDefaults, UsesHash};
     ghost use Rattle.spki_core.specs.Words.{Masked};
+    ghost use Rattle.std.specs.Bool.{Decides};
 
     /// The parameters, borrowed.
     #[inline(always)]
@@ -110,6 +112,14 @@ impl<P: AnyValue> RsaOaepParams<P> {
             mask_gen: mask_gen_view(&self.mask_gen),
             p_source: plain_view(&self.p_source),
         }
+    }
+
+    /// Like `RsaPssParams::uses_hash`.
+    pub fn uses_hash<D: AssociatedOid>(&self) -> bool
+        ensures { let params = oaep_with P.any self.now in
+            Decides result (UsesHash D.contents params.hash params.mask_gen) }
+    {
+        self.as_view().uses_hash::<D>()
     }
 
     /// Writes the shortest encoding, in which no default is written, to the front of a slice and returns its length:

@@ -8,6 +8,7 @@ ghost use Rattle.pkcs1_params.specs.Parameters as grammar;
 
 use crate::defaults::is_empty_sequence;
 use crate::error::{Error, Result};
+use crate::hash_fields::uses_hash;
 use crate::oaep::{RsaOaepParams, RsaOaepParamsRef};
 use crate::spelling::encode_shortest;
 use crate::strict::reject_defaults;
@@ -16,10 +17,10 @@ use der_core::{
     Contents, Decode, DecodeValue, Header, Memory, NoMemory, Reader, SequenceTag, TagNumber,
     TaggedBy,
 };
-use spki_core::{AlgorithmView, AnyRef, read_field};
+use spki_core::{AlgorithmView, AnyRef, AssociatedOid, read_field};
 
-/// RSAES-OAEP parameters (RFC 8017 A.2.1) over their encoding, whose octets are their
-/// identifiers. Only `keep` copies them.
+/// RSAES-OAEP parameters (RFC 8017 A.2.1) whose identifiers are octets of the encoding that they were read from.
+/// Only `keep` copies these.
 #[derive(Clone, Copy, Drop)]
 pub struct RsaOaepParamsView<'a> {
     /// The hash function; SHA-1 with NULL by default.
@@ -34,7 +35,8 @@ impl<'a> RsaOaepParamsView<'a> {
     ghost use Rattle.std.specs.Prelude.{drop, take, IfOk, OnErr};
     ghost use Rattle.spki_core.specs.Words.{Masked};
     ghost use Rattle.pkcs1_params.specs.Words.{ErrsExactly, IsNoShortest, IsTheShortest, IsWritingError};
-    ghost use Rattle.pkcs1_params.specs.Words.{HasTwoToTheDefaults};
+    ghost use Rattle.pkcs1_params.specs.Words.{HasTwoToTheDefaults, UsesHash};
+    ghost use Rattle.std.specs.Bool.{Decides};
 
     /// The parameters as a struct that holds its identifiers.
     #[inline(always)]
@@ -57,6 +59,14 @@ impl<'a> RsaOaepParamsView<'a> {
         let params = RsaOaepParamsView::try_from(bytes)?;
         reject_defaults(&params, bytes)?;
         Ok(params)
+    }
+
+    /// Like `RsaPssParams::uses_hash`.
+    pub fn uses_hash<D: AssociatedOid>(&self) -> bool
+        ensures { let params = oaep_viewed self.now in
+            Decides result (UsesHash D.contents params.hash params.mask_gen) }
+    {
+        uses_hash::<D>(&self.hash, &self.mask_gen)
     }
 
     /// Like `RsaOaepParams::encode_params`.

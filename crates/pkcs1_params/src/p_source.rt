@@ -1,9 +1,10 @@
 //! pSourceAlgorithm: the source of the label of RSAES-OAEP (RFC 8017 A.2.1).
 ghost use Rattle.std.specs.Prelude.{◌≡◌, ◌≤◌, refl, length};
 ghost use Rattle.der_core.specs.Words.{limit};
+ghost use Rattle.std.specs.Option.{option_map};
 ghost use Rattle.std.specs.Str.{bytes_eq};
 ghost use Rattle.spki_core.specs.Words.{same_plain, algorithm_with, algorithm_of, viewed_with, any_of};
-ghost use Rattle.pkcs1_params.specs.Words.{with_parameters, id_p_specified, octets_value, empty_label};
+ghost use Rattle.pkcs1_params.specs.Words.{with_parameters, id_p_specified, octets_value, empty_label, LabelOf};
 
 use crate::views::PlainView;
 use der_core::{Memory, NoMemory, Tag};
@@ -12,7 +13,7 @@ use spki_core::{
 };
 
 /// id-pSpecified: the label is in the parameters (RFC 8017 A.2.1).
-pub(crate) struct PSpecified;
+pub struct PSpecified;
 
 impl AssociatedOid for PSpecified {
     ghost contents = { id_p_specified };
@@ -53,6 +54,18 @@ pub(crate) fn is_default_source(p_source: &PlainView<'_>) -> bool
 {
     let empty = AnyRef::empty(NoMemory, Tag::OCTET_STRING);
     is_p_specified(p_source.oid.as_bytes()) && p_source.parameters == Some(empty)
+}
+
+/// The label of a source, or `None` if it isn't pSpecified with an OCTET STRING.
+pub(crate) fn label_of<'a>(source: &PlainView<'a>) -> Option<&'a [u8]>
+    ensures { LabelOf (viewed_with any_of source.now) (option_map (λ label. label.now) result) }
+{
+    match source.parameters {
+        Some(any) if any.tag() == Tag::OCTET_STRING && is_p_specified(source.oid.as_bytes()) => {
+            Some(any.value())
+        }
+        _ => None,
+    }
 }
 
 /// pSpecified with this label.

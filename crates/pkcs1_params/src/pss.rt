@@ -10,7 +10,8 @@ ghost use Rattle.spki_core.specs.Words.{null_value};
 use crate::default_salt::DefaultSalt;
 use crate::defaults::{default_pss, is_empty_sequence};
 use crate::error::{Error, Result};
-use crate::hash_fields::{Sha1, mgf1_with, with_null};
+use crate::hash_fields::{mgf1_with, with_null};
+use crate::hash_functions::Sha1;
 use crate::pss_view::RsaPssParamsView;
 use crate::spelling::{DefaultFields, encode_shortest};
 use crate::trailer_field::TrailerField;
@@ -100,8 +101,9 @@ impl<'a, M: Memory> DecodeValue<&'a [u8], M> for RsaPssParams<AnyRef<'a>> {
 
 impl<P: AnyValue> RsaPssParams<P> {
     ghost use Rattle.std.specs.Prelude.{drop, take, IfOk, OnErr};
-    ghost use Rattle.pkcs1_params.specs.Words.{IsTheShortest, IsWritingError, HasTwoToTheDefaults};
+    ghost use Rattle.pkcs1_params.specs.Words.{IsTheShortest, IsWritingError, HasTwoToTheDefaults, UsesHash};
     ghost use Rattle.spki_core.specs.Words.{Masked};
+    ghost use Rattle.std.specs.Bool.{Decides};
 
     /// The parameters, borrowed.
     #[inline(always)]
@@ -114,6 +116,15 @@ impl<P: AnyValue> RsaPssParams<P> {
             salt_len: self.salt_len,
             trailer_field: self.trailer_field,
         }
+    }
+
+    /// Whether the hash function is D, and the mask generation function is MGF1 with D: each of them by `is_hash`, so
+    /// with NULL or without parameters.
+    pub fn uses_hash<D: AssociatedOid>(&self) -> bool
+        ensures { let params = pss_with P.any self.now in
+            Decides result (UsesHash D.contents params.hash params.mask_gen) }
+    {
+        self.as_view().uses_hash::<D>()
     }
 
     /// Writes the shortest encoding, in which no default is written, to the front of a slice and returns its length:

@@ -3,7 +3,8 @@ ghost use Rattle.std.specs.Prelude.{◌≡◌, []};
 ghost use Rattle.spki_core.specs.Words.{algorithm_with, mask_of, viewed_with, any_of};
 ghost use Rattle.pkcs1_params.specs.Words.{with_parameters, sha1, mgf1_sha1, empty_label};
 
-use crate::hash_fields::{MaskGen, MaskGenRef, Mgf1, Sha1};
+use crate::hash_fields::{MaskGen, MaskGenRef};
+use crate::hash_functions::{Mgf1, Sha1};
 use crate::p_source::PSpecified;
 use der_core::{NoMemory, Tag};
 use spki_core::{

@@ -15,7 +15,7 @@ algorithm_with value a = record { oid = own_octets_of a.oid; parameters = option
 abbrev pub algorithm_of : AlgorithmIdentifier AnyRef → Algorithm TagAndContents
 algorithm_of = algorithm_with any_of
 
--- with a borrowed identifier as parameters
+-- whose parameters are an algorithm identifier with borrowed parameters
 abbrev pub mask_of : AlgorithmIdentifier (AlgorithmIdentifier AnyRef) → Algorithm (Algorithm TagAndContents)
 mask_of = algorithm_with algorithm_of
 

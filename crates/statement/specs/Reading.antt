@@ -1,4 +1,4 @@
--- Reading as a function of the bytes, in the order of reading: the value, or the kind of the first fault from the left.
+-- Reading as a function of the bytes: the value, or the kind of the first fault in the order of reading.
 -- A Reading takes bytes, and gives Ok of a value and of the bytes behind what it read, or Err of the kind.
 -- `src/errors.rt` promises that the library's calls return what the functions give; `proofs/ReadingsRows.antt` has
 -- worked rows. Values and symbols are those of `Statement.antt`; `header_at`, `front_of`, `integer_of` and `small_of`

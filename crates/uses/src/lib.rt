@@ -4,13 +4,11 @@
 mod bytes;
 mod errors;
 mod files;
-mod marks;
 mod primes;
 mod signatures;
 
 pub use bytes::{modulus_of, public_half};
 pub use errors::Advice;
 pub use files::publish;
-pub use marks::{Mgf1, Sha1, Sha256};
 pub use primes::primes_of;
-pub use signatures::salt_with_sha256;
+pub use signatures::{is_accepted, salt_with_sha256};

@@ -5,22 +5,9 @@ ghost use Rattle.der_core.specs.Document.{Means};
 ghost use Rattle.pkcs1_params.specs.Algorithms.{RsaPssAlgorithm};
 ghost use Rattle.pkcs1_params.specs.Parameters.{PssParameters};
 ghost use Rattle.pkcs1_params.specs.PssValue.{pss_of};
-ghost use Rattle.uses.specs.Signatures.{GivesSalt, UsesSha256};
+ghost use Rattle.uses.specs.Signatures.{GivesSalt, IsAccepted};
 
-use crate::marks::{Mgf1, Sha256};
-use pkcs1::{FromAlgorithm, Result, RsaPssParamsRef};
-use spki_core::{AssociatedOid, ObjectIdentifier};
-
-/// Whether the hash function is SHA-256 and the mask generation function is MGF1 with SHA-256.
-fn uses_sha256(params: &RsaPssParamsRef<'_>) -> bool
-    ensures { Decides result (UsesSha256 (pss_of params.now)) }
-{
-    let mgf1 = params.mask_gen.oid == ObjectIdentifier::of::<Mgf1>();
-    match &params.mask_gen.parameters {
-        Some(hash) => params.hash.is_hash::<Sha256>() && mgf1 && hash.is_hash::<Sha256>(),
-        None => false,
-    }
-}
+use pkcs1::{FromAlgorithm, Result, RsaPssParamsRef, Sha256, Sha384};
 
 /// The salt length of an RSASSA-PSS signature, from its signatureAlgorithm in DER, if it uses SHA-256.
 pub fn salt_with_sha256(signature_algorithm: &[u8]) -> Result<Option<u8>>
@@ -29,8 +16,22 @@ pub fn salt_with_sha256(signature_algorithm: &[u8]) -> Result<Option<u8>>
     ensures err { OnErr result ((params : PssParameters) → Means RsaPssAlgorithm signature_algorithm.now params → ⊥) }
 {
     let params = RsaPssParamsRef::from_algorithm_der(signature_algorithm)?;
-    if !uses_sha256(&params) {
+    if !params.uses_hash::<Sha256>() {
         return Ok(None);
     }
     Ok(Some(params.salt_len))
+}
+
+/// Whether an RSASSA-PSS signature has parameters that are accepted, from its signatureAlgorithm in DER.
+pub fn is_accepted(signature_algorithm: &[u8]) -> bool
+    ensures { Decides result ((params : PssParameters)
+        × Means RsaPssAlgorithm signature_algorithm.now params × IsAccepted params) }
+{
+    match RsaPssParamsRef::from_algorithm_der(signature_algorithm) {
+        Ok(params) => {
+            (params.uses_hash::<Sha256>() && params.salt_len == 32)
+                || (params.uses_hash::<Sha384>() && params.salt_len == 48)
+        }
+        Err(_) => false,
+    }
 }
