@@ -1,5 +1,5 @@
 //! Sources and sinks that move a few bytes per call, or fail at one.
-ghost use Rattle.std.specs.Prelude.{Some};
+ghost use Rattle.std.specs.Prelude.{◌<◌, Some};
 
 use der_core::{Error, ErrorKind, Result, Sink, Source, ToWrite};
 use std::alloc::Global;
@@ -65,6 +65,8 @@ impl Sink for Narrow {
     ghost contents = { λ s. Some s.taken.items };
 
     ghost failures = { λ s. s.faults };
+
+    ghost is_flushed = { λ s. 0 < s.flushes };
 
     fn write(&mut self, bytes: &[u8]) -> Result<usize> {
         self.calls = self.calls.saturating_add(1);

@@ -2,8 +2,9 @@
 use crate::checks::{equal, holds};
 use der_core::{AsUintRef, Document, Error, ErrorKind, SecretDocument, Tag, UintRef};
 use pkcs1::{
-    ALGORITHM_OID, OtherPrimeInfo, RsaOaepParamsRef, RsaOaepParamsView, RsaPrivateKeyOwned,
-    RsaPssParamsRef, RsaPssParamsView, Version,
+    ALGORITHM_OID, Mgf1, OtherPrimeInfo, PSpecified, RsaOaepParamsRef, RsaOaepParamsView,
+    RsaPrivateKeyOwned, RsaPssParamsRef, RsaPssParamsView, Sha1, Sha224, Sha256, Sha384, Sha512,
+    Sha512_224, Sha512_256, Version,
 };
 use spki_core::{AnyRef, AssociatedOid, ObjectIdentifier};
 use std::alloc::Global;
@@ -11,13 +12,17 @@ use std::fmt::Debug;
 use std::hash::{DefaultHasher, Hash, Hasher};
 use std::process::Abort;
 use std::test::Fail;
-use uses::{Sha1, Sha256};
 
 /// The hash of an identifier.
 fn hash_of(oid: ObjectIdentifier) -> u64 {
     let mut state = DefaultHasher::new();
     oid.hash(&mut state);
     state.finish()
+}
+
+/// Whether the constant of a type is what its function returns, of which contracts speak.
+fn is_alike<D: AssociatedOid>() -> bool {
+    D::OID == D::octets()
 }
 
 #[test]
@@ -28,10 +33,11 @@ fn identifiers_are_hashed_by_their_octets(rt: HostRuntime) -> Result<(), Fail> {
     holds(&rt, sha1 == same && sha1 != front);
     equal(&rt, hash_of(sha1), hash_of(same));
     holds(&rt, hash_of(sha1) != hash_of(front));
-    holds(
-        &rt,
-        Sha1::OID == Sha1::octets() && Sha256::OID == Sha256::octets(),
-    );
+    holds(&rt, is_alike::<Sha1>() && is_alike::<Sha224>());
+    holds(&rt, is_alike::<Sha256>() && is_alike::<Sha384>());
+    holds(&rt, is_alike::<Sha512>() && is_alike::<Sha512_224>());
+    holds(&rt, is_alike::<Sha512_256>() && is_alike::<Mgf1>());
+    holds(&rt, is_alike::<PSpecified>());
     equal(&rt, ALGORITHM_OID, pkcs1::rsa_encryption_oid().as_bytes());
     Ok(())
 }

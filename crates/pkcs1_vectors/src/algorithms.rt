@@ -1,15 +1,17 @@
 //! Object identifiers, encodings of any tag, and algorithm identifiers.
-use crate::read::both;
+use crate::read::{both, owned, shown};
 use crate::shown::Shown;
 use crate::told::{PrintedError, Told};
 use crate::written::written;
 use der_core::{Decode, DecodeValue, Encode, FixedTag, NoMemory, Result, Tag};
-use pkcs1::rsa_encryption_oid;
+use pkcs1::{
+    Mgf1, PSpecified, Sha1, Sha224, Sha256, Sha384, Sha512, Sha512_224, Sha512_256,
+    rsa_encryption_oid, rsaes_oaep_oid, rsassa_pss_oid,
+};
 use spki_core::{
     AlgorithmIdentifier, AlgorithmIdentifierRef, Any, AnyParams, AnyRef, AnyValue,
     AsAlgorithmIdentifierRef, ObjectIdentifier,
 };
-use uses::{Sha1, Sha256};
 
 /// The encoding of the value, or the error.
 fn made<T: Encode + Drop>(to: &mut Told, answer: Result<T>) {
@@ -28,8 +30,17 @@ pub fn oid_new(to: &mut Told, bytes: &[u8]) {
 pub fn oid_named(to: &mut Told, name: &str) {
     match name {
         "SHA-1" => ObjectIdentifier::of::<Sha1>().shown(to),
+        "SHA-224" => ObjectIdentifier::of::<Sha224>().shown(to),
         "SHA-256" => ObjectIdentifier::of::<Sha256>().shown(to),
+        "SHA-384" => ObjectIdentifier::of::<Sha384>().shown(to),
+        "SHA-512" => ObjectIdentifier::of::<Sha512>().shown(to),
+        "SHA-512/224" => ObjectIdentifier::of::<Sha512_224>().shown(to),
+        "SHA-512/256" => ObjectIdentifier::of::<Sha512_256>().shown(to),
+        "MGF1" => ObjectIdentifier::of::<Mgf1>().shown(to),
+        "pSpecified" => ObjectIdentifier::of::<PSpecified>().shown(to),
         "rsaEncryption" => rsa_encryption_oid().shown(to),
+        "id-RSAES-OAEP" => rsaes_oaep_oid().shown(to),
+        "id-RSASSA-PSS" => rsassa_pss_oid().shown(to),
         _ => to.malformed(),
     }
 }
@@ -40,6 +51,13 @@ fn tag_of(octets: &[u8]) -> Option<Tag> {
         [octet] => Tag::from_octet(*octet).ok(),
         _ => None,
     }
+}
+
+/// `any HEX`: an encoding of any tag, borrowed and owned, and a copy of the borrowed one.
+pub fn any(to: &mut Told, bytes: &[u8]) {
+    both::<AnyRef, Any>(to, bytes);
+    to.way("try_clone");
+    owned::<AnyRef>(to, bytes);
 }
 
 /// `any-new TAG HEX`: the encoding of this tag with these contents. Without contents, that of `empty` as well.
@@ -56,14 +74,6 @@ pub fn any_new(to: &mut Told, tag: &[u8], bytes: &[u8]) {
         written(to, &AnyRef::empty(NoMemory, tag));
         to.way("owned empty");
         written(to, &Any::empty(alloc, tag));
-    }
-}
-
-/// The value, or the error.
-fn shown<T: Shown + Drop>(to: &mut Told, answer: Result<T>) {
-    match answer {
-        Ok(value) => value.shown(to),
-        Err(error) => error.told(to),
     }
 }
 

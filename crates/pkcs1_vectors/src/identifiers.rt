@@ -1,15 +1,14 @@
 //! Parameters in their algorithm identifiers.
-use crate::read;
+use crate::read::{compared, told};
 use crate::shown::Shown;
 use crate::told::{PrintedError, Told};
 use crate::written::encoding_of;
-use der_core::{Decode, Encode, ErrorKind, NoMemory};
+use der_core::{Decode, Encode, NoMemory};
 use pkcs1::{
     FromAlgorithm, Result, RsaOaepParamsRef, RsaOaepParamsView, RsaPssParamsRef, RsaPssParamsView,
-    fault_of_oaep_algorithm, fault_of_pss_algorithm,
+    Sha256, fault_of_oaep_algorithm, fault_of_pss_algorithm,
 };
-use spki_core::AlgorithmIdentifierRef;
-use uses::Sha256;
+use spki_core::{AlgorithmIdentifierRef, AlgorithmView, AnyRef};
 
 /// The value that was read, its encoding if that differs from the one that was read, and what `encode_algorithm` wrote
 /// if that differs from its encoding.
@@ -20,7 +19,7 @@ fn identified<T: Shown + Encode>(
     slice: &[u8],
     length: Result<usize>,
 ) {
-    read::told(to, bytes, algorithm);
+    told(to, bytes, algorithm);
     let mut written = Told::new(to.alloc());
     match length {
         Ok(length) => written.digits(slice.get(..length).unwrap_or(slice)),
@@ -58,17 +57,6 @@ fn parsed<'a, T: FromAlgorithm<'a>>(bytes: &'a [u8]) -> Result<T> {
     T::from_algorithm(&algorithm)
 }
 
-/// Says that a fault is told of bytes that are read, or none or another one of bytes that aren't.
-fn compared<T: Drop>(to: &mut Told, answer: Result<T>, fault: Option<ErrorKind>) {
-    let kind = match answer {
-        Err(pkcs1::Error::Asn1(error)) => Some(error.kind()),
-        _ => None,
-    };
-    if fault != kind {
-        to.text("; another fault is told");
-    }
-}
-
 /// `pss-algorithm HEX`: the algorithm identifier of PSS, by each way of reading, written again.
 pub fn pss_algorithm(to: &mut Told, bytes: &[u8]) {
     pss(to, bytes, RsaPssParamsRef::from_algorithm_der(bytes));
@@ -80,7 +68,6 @@ pub fn pss_algorithm(to: &mut Told, bytes: &[u8]) {
         bytes,
         RsaPssParamsView::from_algorithm_der(bytes).map(RsaPssParamsView::keep),
     );
-    to.rest();
     compared(
         to,
         RsaPssParamsView::from_algorithm_der(bytes),
@@ -110,7 +97,6 @@ pub fn oaep_algorithm(to: &mut Told, bytes: &[u8]) {
         bytes,
         RsaOaepParamsView::from_algorithm_der(bytes).map(RsaOaepParamsView::keep),
     );
-    to.rest();
     compared(
         to,
         RsaOaepParamsView::from_algorithm_der(bytes),
@@ -136,6 +122,11 @@ pub fn oaep_strict(to: &mut Told, bytes: &[u8]) {
 /// `is-sha256 HEX`: whether this is the algorithm identifier of SHA-256.
 pub fn is_sha256(to: &mut Told, bytes: &[u8]) {
     match AlgorithmIdentifierRef::from_der(NoMemory, bytes) {
+        Ok(algorithm) => to.yes_or_no(algorithm.is_hash::<Sha256>()),
+        Err(error) => error.told(to),
+    }
+    to.way("view");
+    match AlgorithmView::<AnyRef>::from_der(NoMemory, bytes) {
         Ok(algorithm) => to.yes_or_no(algorithm.is_hash::<Sha256>()),
         Err(error) => error.told(to),
     }

@@ -1,13 +1,15 @@
 //! Versions, keys and other primes.
 use crate::carried::{private_der, public_der, viewed};
-use crate::read::{both, owned, read};
+use crate::into::{in_each_room, into_each};
+use crate::read::{both, compared, owned, read};
 use crate::shown::Shown;
 use crate::told::{PrintedError, Told};
-use crate::written::{contents, encoding_of, held, held_too, in_each_room, into_each, written};
+use crate::written::{contents, encoding_of, held, held_too, written};
 use der_core::{Decode, OctetStringRef, UintRef};
 use pkcs1::{
     EncodeRsaPrivateKey, OtherPrimeInfos, RsaPrivateKeyOwned, RsaPrivateKeyRef, RsaPrivateKeyView,
-    RsaPublicKey, RsaPublicKeyOwned, RsaPublicKeyRef, Uint, Version,
+    RsaPublicKey, RsaPublicKeyOwned, RsaPublicKeyRef, Uint, Version, fault_of_private_key,
+    fault_of_public_key,
 };
 
 /// `version-new N`: the version with this number, its number, and whether it has other primes.
@@ -17,14 +19,21 @@ pub fn version_new(to: &mut Told, number: usize) {
     };
     match Version::try_from(number) {
         Ok(version) => {
-            version.shown(to);
-            to.text(" ");
-            to.plain(u8::from(version));
-            to.text(" ");
-            to.plain(version.is_multi());
+            with_number(to, version, version.is_multi());
+            to.way("eq");
+            with_number(to, version, version == Version::Multi);
         }
         Err(error) => error.told(to),
     }
+}
+
+/// The version, its number, and whether it has other primes.
+fn with_number(to: &mut Told, version: Version, is_multi: bool) {
+    version.shown(to);
+    to.text(" ");
+    to.plain(u8::from(version));
+    to.text(" ");
+    to.plain(is_multi);
 }
 
 /// `pub HEX`: a public key, borrowed and owned, written again by the traits and by documents.
@@ -42,6 +51,11 @@ pub fn public_key(to: &mut Told, bytes: &[u8]) {
         }
         Err(error) => error.told(to),
     }
+    compared(
+        to,
+        RsaPublicKeyRef::try_from(bytes),
+        fault_of_public_key(bytes),
+    );
 }
 
 /// `pub-filled N`: the length and the first six octets of the encoding of the key with a modulus of N octets `11` and
@@ -90,6 +104,12 @@ pub fn private_key(to: &mut Told, bytes: &[u8]) {
     owned::<RsaPrivateKeyOwned>(to, bytes);
     to.way("decode_key");
     read(to, bytes, RsaPrivateKeyRef::decode_key(alloc, bytes));
+    to.way("decode_owned_key");
+    read(
+        to,
+        bytes,
+        RsaPrivateKeyOwned::decode_owned_key(alloc, bytes),
+    );
     to.way("view");
     viewed(to, bytes);
     to.way("pkcs1_der");
@@ -102,6 +122,11 @@ pub fn private_key(to: &mut Told, bytes: &[u8]) {
         }
         Err(error) => error.told(to),
     }
+    compared(
+        to,
+        RsaPrivateKeyView::try_from(bytes),
+        fault_of_private_key(bytes),
+    );
 }
 
 /// `priv-octets HEX`: the private key inside an OCTET STRING with these octets.

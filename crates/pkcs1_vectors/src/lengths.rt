@@ -104,7 +104,11 @@ pub fn tag_number(number: usize) -> Option<TagNumber> {
 /// `tag-context N`: the octet of the tag `[N]`.
 pub fn context(to: &mut Told, number: usize) {
     match tag_number(number) {
-        Some(number) => to.digits(&[Tag::context(number).octet()]),
+        Some(number) => {
+            to.digits(&[Tag::context(number).octet()]);
+            to.way("value");
+            to.digits(&[0xa0 | number.value()]);
+        }
         None => to.malformed(),
     }
 }

@@ -4,12 +4,14 @@
 #![tactic(auto)]
 
 mod algorithms;
+mod asked;
 mod carried;
 mod containers;
 mod damaged;
 mod errors;
 mod fields;
 mod identifiers;
+mod into;
 mod keys;
 mod lengths;
 mod parameters;

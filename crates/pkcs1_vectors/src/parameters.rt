@@ -1,10 +1,13 @@
 //! Parameters of RSASSA-PSS and RSAES-OAEP.
-use crate::read::{both, read};
+use crate::read::{both, compared, read, told};
 use crate::shown::Shown;
 use crate::told::{PrintedError, Told};
 use crate::written::{encoding_of, held_too, written};
 use der_core::{Decode, Encode, EncodeValue, Sequence};
-use pkcs1::{Result, RsaOaepParamsOwned, RsaOaepParamsRef, RsaPssParamsOwned, RsaPssParamsRef};
+use pkcs1::{
+    Result, RsaOaepParamsOwned, RsaOaepParamsRef, RsaPssParamsOwned, RsaPssParamsRef,
+    fault_of_oaep_params, fault_of_pss_params,
+};
 use spki_core::AssociatedOid;
 use std::alloc::Global;
 
@@ -16,7 +19,7 @@ fn documents<'a, T: Decode<&'a [u8], Global> + Shown + Encode + EncodeValue + Se
     to.way("from_der");
     match T::from_der(to.alloc(), bytes) {
         Ok(params) => {
-            crate::read::told(to, bytes, &params);
+            told(to, bytes, &params);
             held_too(to, &params);
         }
         Err(error) => error.told(to),
@@ -29,6 +32,11 @@ pub fn pss(to: &mut Told, bytes: &[u8]) {
     to.way("try_from");
     read(to, bytes, RsaPssParamsRef::try_from(bytes));
     documents::<RsaPssParamsOwned>(to, bytes);
+    compared(
+        to,
+        RsaPssParamsRef::try_from(bytes),
+        fault_of_pss_params(bytes),
+    );
 }
 
 /// `oaep HEX`: OAEP parameters, borrowed and owned, written again by the traits and by documents.
@@ -37,6 +45,11 @@ pub fn oaep(to: &mut Told, bytes: &[u8]) {
     to.way("try_from");
     read(to, bytes, RsaOaepParamsRef::try_from(bytes));
     documents::<RsaOaepParamsOwned>(to, bytes);
+    compared(
+        to,
+        RsaOaepParamsRef::try_from(bytes),
+        fault_of_oaep_params(bytes),
+    );
 }
 
 /// The parameters and their encoding.

@@ -2,8 +2,28 @@
 use crate::shown::Shown;
 use crate::told::{PrintedError, Told};
 use crate::written::encoding_of;
-use der_core::{Decode, Encode, NoMemory, Reader, Result, SliceReader, TryClone};
+use der_core::{Decode, Encode, ErrorKind, NoMemory, Reader, Result, SliceReader, TryClone};
 use std::alloc::Global;
+
+/// The value, or the error.
+pub fn shown<T: Shown + Drop, E: PrintedError>(to: &mut Told, answer: std::result::Result<T, E>) {
+    match answer {
+        Ok(value) => value.shown(to),
+        Err(error) => error.told(to),
+    }
+}
+
+/// Ends the ways, and says so if the fault that is told of the bytes isn't the error of reading them.
+pub fn compared<T: Drop>(to: &mut Told, answer: pkcs1::Result<T>, fault: Option<ErrorKind>) {
+    let kind = match answer {
+        Err(pkcs1::Error::Asn1(error)) => Some(error.kind()),
+        _ => None,
+    };
+    to.rest();
+    if fault != kind {
+        to.text("; another fault is told");
+    }
+}
 
 /// The value that was read, and its encoding if that differs from the one that was read.
 pub fn told<T: Shown + Encode>(to: &mut Told, bytes: &[u8], value: &T) {

@@ -2,8 +2,8 @@
 use crate::told::Told;
 use der_core::{AsUintRef, OctetStringRef, Uint, UintRef};
 use pkcs1::{
-    OtherPrimeInfo, RsaOaepParams, RsaPrivateKey, RsaPrivateKeyView, RsaPssParams, RsaPublicKey,
-    TrailerField, Version,
+    OtherPrimeInfo, OtherPrimes, RsaOaepParams, RsaPrivateKey, RsaPrivateKeyView, RsaPssParams,
+    RsaPublicKey, TrailerField, Version,
 };
 use pkcs8_core::PrivateKeyInfoRef;
 use spki_core::{AlgorithmIdentifier, Any, AnyRef, AnyValue, ObjectIdentifier};
@@ -161,15 +161,29 @@ impl Shown for RsaPrivateKeyView<'_> {
             self.coefficient(),
         ];
         numbers_shown(to, self.version(), numbers);
-        let mut is_empty = true;
-        for other in self.other_primes() {
-            is_empty = false;
-            to.text("[");
-            other.shown(to);
-            to.text("]");
-        }
-        if is_empty {
+        self.other_primes().shown(to);
+    }
+}
+
+impl Shown for OtherPrimes<'_> {
+    /// The primes in order. Says so where `size_hint` or `len` isn't how many are left.
+    fn shown(&self, to: &mut Told) {
+        let mut primes = *self;
+        let count = primes.remaining();
+        if count == 0 {
             to.text("-");
+        }
+        for taken in 0..=count {
+            let left = count.saturating_sub(taken);
+            if primes.size_hint() != (left, Some(left)) || primes.len() != left {
+                to.text("another number than ");
+                to.number(left);
+            }
+            if let Some(prime) = primes.next() {
+                to.text("[");
+                prime.shown(to);
+                to.text("]");
+            }
         }
     }
 }

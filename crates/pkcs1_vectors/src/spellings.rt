@@ -1,16 +1,16 @@
 //! Spellings of parameters.
+use crate::into::{after, untouched};
 use crate::told::{PrintedError, Told};
-use crate::written::{after, untouched};
 use der_core::Decode;
-use pkcs1::{Error, Result, RsaOaepParams, RsaPssParams};
+use pkcs1::{Result, RsaOaepParams, RsaOaepParamsView, RsaPssParams, RsaPssParamsView};
 use spki_core::AnyValue;
 use std::alloc::Global;
 
 /// Parameters with spellings.
 pub trait Spelled {
-    /// Writes the spelling under the mask into the slice, and returns the error, if any. `Err` if the mask is none of
-    /// the parameters.
-    fn spell_into(&self, mask: u8, slice: &mut [u8]) -> std::result::Result<Option<Error>, NoMask>;
+    /// Writes the spelling under the mask into the slice, and returns its length. `Err` if the mask is none of the
+    /// parameters.
+    fn spell_into(&self, mask: u8, slice: &mut [u8]) -> Spelling;
 
     /// All spellings, by mask.
     fn all_spellings(&self, alloc: Global) -> Result<Vec<Vec<u8>>>;
@@ -20,10 +20,20 @@ pub trait Spelled {
 #[derive(Drop)]
 pub struct NoMask;
 
+/// The length of the spelling under a mask, or why it isn't written.
+pub type Spelling = std::result::Result<Result<usize>, NoMask>;
+
+/// The length of what was written.
+fn length_of(spelling: Result<&[u8]>) -> Result<usize> {
+    Ok(spelling?.len())
+}
+
 impl<P: AnyValue> Spelled for RsaPssParams<P> {
-    fn spell_into(&self, mask: u8, slice: &mut [u8]) -> std::result::Result<Option<Error>, NoMask> {
+    fn spell_into(&self, mask: u8, slice: &mut [u8]) -> Spelling {
         match 2_u32.checked_pow(u32::from(self.default_fields())) {
-            Some(masks) if u32::from(mask) < masks => Ok(self.encode_spelling(mask, slice).err()),
+            Some(masks) if u32::from(mask) < masks => Ok(length_of(self.encode_spelling(
+                mask, slice,
+            ))),
             _ => Err(NoMask),
         }
     }
@@ -34,9 +44,37 @@ impl<P: AnyValue> Spelled for RsaPssParams<P> {
 }
 
 impl<P: AnyValue> Spelled for RsaOaepParams<P> {
-    fn spell_into(&self, mask: u8, slice: &mut [u8]) -> std::result::Result<Option<Error>, NoMask> {
+    fn spell_into(&self, mask: u8, slice: &mut [u8]) -> Spelling {
         match 2_u32.checked_pow(u32::from(self.default_fields())) {
-            Some(masks) if u32::from(mask) < masks => Ok(self.encode_spelling(mask, slice).err()),
+            Some(masks) if u32::from(mask) < masks => Ok(length_of(self.encode_spelling(
+                mask, slice,
+            ))),
+            _ => Err(NoMask),
+        }
+    }
+
+    fn all_spellings(&self, alloc: Global) -> Result<Vec<Vec<u8>>> {
+        self.spellings(alloc)
+    }
+}
+
+impl Spelled for RsaPssParamsView<'_> {
+    fn spell_into(&self, mask: u8, slice: &mut [u8]) -> Spelling {
+        match 2_u32.checked_pow(u32::from(self.default_fields())) {
+            Some(masks) if u32::from(mask) < masks => Ok(self.encode_spelling_into(mask, slice)),
+            _ => Err(NoMask),
+        }
+    }
+
+    fn all_spellings(&self, alloc: Global) -> Result<Vec<Vec<u8>>> {
+        self.spellings(alloc)
+    }
+}
+
+impl Spelled for RsaOaepParamsView<'_> {
+    fn spell_into(&self, mask: u8, slice: &mut [u8]) -> Spelling {
+        match 2_u32.checked_pow(u32::from(self.default_fields())) {
+            Some(masks) if u32::from(mask) < masks => Ok(self.encode_spelling_into(mask, slice)),
             _ => Err(NoMask),
         }
     }
@@ -63,20 +101,23 @@ fn listed<'a, T: Decode<&'a [u8], Global> + Spelled>(to: &mut Told, bytes: &'a [
     }
 }
 
-/// `pss-spellings HEX`, `oaep-spellings HEX`: all spellings, of the borrowed parameters and of those that own their
-/// parts.
-pub fn spellings<'a, B: Decode<&'a [u8], Global> + Spelled, O: Decode<&'a [u8], Global> + Spelled>(
-    to: &mut Told,
-    bytes: &'a [u8],
-) {
+/// `pss-spellings HEX`, `oaep-spellings HEX`: all spellings, of the borrowed parameters, of those that own their parts
+/// and of the view.
+pub fn spellings<
+    'a,
+    B: Decode<&'a [u8], Global> + Spelled,
+    O: Decode<&'a [u8], Global> + Spelled,
+    V: Decode<&'a [u8], Global> + Spelled,
+>(to: &mut Told, bytes: &'a [u8]) {
     listed::<B>(to, bytes);
     to.way("owned");
     listed::<O>(to, bytes);
+    to.way("view");
+    listed::<V>(to, bytes);
 }
 
-/// `pss-spell M N HEX`, `oaep-spell M N HEX`: what a slice of N bytes holds after writing the spelling under the mask
-/// M.
-pub fn spell<'a, T: Decode<&'a [u8], Global> + Spelled>(
+/// What a slice of this length holds after writing the spelling under the mask.
+fn under_mask<'a, T: Decode<&'a [u8], Global> + Spelled>(
     to: &mut Told,
     mask: u8,
     room: usize,
@@ -87,7 +128,20 @@ pub fn spell<'a, T: Decode<&'a [u8], Global> + Spelled>(
     };
     let mut slice = untouched(to, room);
     match params.spell_into(mask, slice.as_mut_slice()) {
-        Ok(error) => after(to, error, slice.as_slice()),
+        Ok(answer) => after(to, answer, slice.as_slice()),
         Err(NoMask) => to.malformed(),
     }
+}
+
+/// `pss-spell M N HEX`, `oaep-spell M N HEX`: what a slice of N bytes holds after writing the spelling under the mask
+/// M, of the borrowed parameters and of the view.
+pub fn spell<'a, B: Decode<&'a [u8], Global> + Spelled, V: Decode<&'a [u8], Global> + Spelled>(
+    to: &mut Told,
+    mask: u8,
+    room: usize,
+    bytes: &'a [u8],
+) {
+    under_mask::<B>(to, mask, room, bytes);
+    to.way("view");
+    under_mask::<V>(to, mask, room, bytes);
 }

@@ -1,19 +1,23 @@
 //! The words of rows, by their parameters. Each function returns whether the word is one of its own.
 use crate::damaged::{self, Oaep, Private, Pss, Public};
 use crate::fields::{self, Part};
+use crate::into::{into_all, into_both, read_into};
 use crate::read::{borrowed, both, owned, read};
 use crate::spellings::{spell, spellings};
 use crate::told::Told;
-use crate::written::{into_both, read_into, written};
-use crate::{algorithms, containers, errors, identifiers, keys, lengths, parameters, values};
+use crate::written::written;
+use crate::{
+    algorithms, asked, containers, errors, identifiers, keys, lengths, parameters, values,
+};
 use der_core::{OctetStringRef, Uint, UintRef};
 use pkcs1::{
-    OtherPrimeInfo, RsaOaepParamsOwned, RsaOaepParamsRef, RsaPrivateKeyOwned, RsaPrivateKeyRef,
-    RsaPssParamsOwned, RsaPssParamsRef, RsaPublicKeyRef, TrailerField, Version, algorithm_id,
+    OtherPrimeInfo, RsaOaepParamsOwned, RsaOaepParamsRef, RsaOaepParamsView, RsaPrivateKeyOwned,
+    RsaPrivateKeyRef, RsaPssParamsOwned, RsaPssParamsRef, RsaPssParamsView, RsaPublicKeyRef, Sha1,
+    Sha256, TrailerField, Version, algorithm_id,
 };
 use pkcs8_core::PrivateKeyInfoRef;
 use spki_core::{AlgorithmIdentifier, AlgorithmIdentifierRef, Any, AnyRef, ObjectIdentifier};
-use uses::{Sha1, Sha256};
+use uses::is_accepted;
 
 /// Words without parameters.
 pub fn alone(to: &mut Told, word: &str) -> bool {
@@ -21,6 +25,7 @@ pub fn alone(to: &mut Told, word: &str) -> bool {
         "length-max" => lengths::max(to),
         "any-null" => written(to, &AnyRef::null()),
         "algorithm-rsa" => written(to, &algorithm_id()),
+        "trailer-default" => written(to, &TrailerField::default()),
         "pss-default" => parameters::pss_default(to),
         "oaep-default" => parameters::oaep_default(to),
         "new-oaep-sha1" => parameters::new_oaep::<Sha1>(to),
@@ -96,7 +101,7 @@ fn of_algorithm_text(to: &mut Told, word: &str, bytes: &[u8]) -> bool {
     match word {
         "oid" => borrowed::<ObjectIdentifier>(to, bytes),
         "oid-new" => algorithms::oid_new(to, bytes),
-        "any" => both::<AnyRef, Any>(to, bytes),
+        "any" => algorithms::any(to, bytes),
         "anys" => owned::<Vec<Any>>(to, bytes),
         "algorithm" => algorithms::algorithm(to, bytes),
         "algorithms" => owned::<Vec<AlgorithmIdentifier<Any>>>(to, bytes),
@@ -128,24 +133,31 @@ fn of_key_text(to: &mut Told, word: &str, bytes: &[u8]) -> bool {
     true
 }
 
-/// Parameters, also read strictly, and labels.
+/// Parameters, also read strictly, their hash functions and labels.
 fn of_parameter_text(to: &mut Told, word: &str, bytes: &[u8]) -> bool {
     match word {
         "trailer" => borrowed::<TrailerField>(to, bytes),
         "pss" => parameters::pss(to, bytes),
         "pss-strict" => read(to, bytes, RsaPssParamsRef::from_der_strict(bytes)),
-        "pss-spellings" => spellings::<RsaPssParamsRef, RsaPssParamsOwned>(to, bytes),
+        "pss-spellings" => spellings::<RsaPssParamsRef, RsaPssParamsOwned, RsaPssParamsView>(
+            to, bytes,
+        ),
         "oaep" => parameters::oaep(to, bytes),
         "oaep-strict" => read(to, bytes, RsaOaepParamsRef::from_der_strict(bytes)),
-        "oaep-spellings" => spellings::<RsaOaepParamsRef, RsaOaepParamsOwned>(to, bytes),
+        "oaep-spellings" => spellings::<RsaOaepParamsRef, RsaOaepParamsOwned, RsaOaepParamsView>(
+            to, bytes,
+        ),
         "label-sha1" => parameters::with_label::<Sha1>(to, bytes),
         "label-sha256" => parameters::with_label::<Sha256>(to, bytes),
+        "pss-hash" => asked::pss_hash(to, bytes),
+        "oaep-hash" => asked::oaep_hash(to, bytes),
+        "oaep-label" => asked::oaep_label(to, bytes),
         _ => return false,
     }
     true
 }
 
-/// Parameters in their algorithm identifiers, also read strictly, and identifiers of hash functions.
+/// Parameters in their algorithm identifiers, also read strictly or with a policy, and identifiers of hash functions.
 fn of_identifier_text(to: &mut Told, word: &str, bytes: &[u8]) -> bool {
     match word {
         "pss-algorithm" => identifiers::pss_algorithm(to, bytes),
@@ -153,6 +165,7 @@ fn of_identifier_text(to: &mut Told, word: &str, bytes: &[u8]) -> bool {
         "oaep-algorithm" => identifiers::oaep_algorithm(to, bytes),
         "oaep-algorithm-strict" => identifiers::oaep_strict(to, bytes),
         "is-sha256" => identifiers::is_sha256(to, bytes),
+        "pss-accepted" => to.yes_or_no(is_accepted(bytes)),
         _ => return false,
     }
     true
@@ -190,8 +203,12 @@ pub fn of_room(to: &mut Told, word: &str, room: usize, bytes: &[u8]) -> bool {
         "priv-into" => into_both::<RsaPrivateKeyRef, RsaPrivateKeyOwned>(to, room, bytes),
         "priv-empty-list" => keys::empty_list(to, room, bytes),
         "info-into" => read_into::<PrivateKeyInfoRef>(to, room, bytes),
-        "pss-into" => into_both::<RsaPssParamsRef, RsaPssParamsOwned>(to, room, bytes),
-        "oaep-into" => into_both::<RsaOaepParamsRef, RsaOaepParamsOwned>(to, room, bytes),
+        "pss-into" => into_all::<RsaPssParamsRef, RsaPssParamsOwned, RsaPssParamsView>(
+            to, room, bytes,
+        ),
+        "oaep-into" => into_all::<RsaOaepParamsRef, RsaOaepParamsOwned, RsaOaepParamsView>(
+            to, room, bytes,
+        ),
         _ => return false,
     }
     true
@@ -216,8 +233,8 @@ pub fn of_texts(to: &mut Told, word: &str, first: &[u8], second: &[u8]) -> bool 
 /// Words with a mask, the length of a slice, and bytes.
 pub fn of_mask(to: &mut Told, word: &str, mask: u8, room: usize, bytes: &[u8]) -> bool {
     match word {
-        "pss-spell" => spell::<RsaPssParamsRef>(to, mask, room, bytes),
-        "oaep-spell" => spell::<RsaOaepParamsRef>(to, mask, room, bytes),
+        "pss-spell" => spell::<RsaPssParamsRef, RsaPssParamsView>(to, mask, room, bytes),
+        "oaep-spell" => spell::<RsaOaepParamsRef, RsaOaepParamsView>(to, mask, room, bytes),
         _ => return false,
     }
     true

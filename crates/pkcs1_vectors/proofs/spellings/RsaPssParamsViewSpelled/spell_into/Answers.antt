@@ -1,0 +1,7 @@
+use Rattle.std.proofs.Common.{◌<◌, ◌^◌, rules}
+use Rattle.pkcs1_vectors.proofs.spellings.RsaPssParamsViewSpelled.spell_into.Goals as goal
+
+pub encode_spelling_into-requires : goal.encode_spelling_into-requires
+encode_spelling_into-requires c =
+    let less : c.args.mask < 2 ^ c.default_fields.result = search rules in
+    (c.default_fields.result, c.default_fields.ensures, less)
