@@ -7,21 +7,23 @@ use Rattle.der_core.specs.Document.{HasEncoding, IsShortest, Means}
 use Rattle.der_core.specs.Integer.{Integer, IsCanonical}
 use Rattle.der_core.specs.Length.{limit}
 use Rattle.der_core.specs.SequenceOf.{AllHave, ItemsContents}
-use Rattle.der_core.specs.UintRefValue.{bytes_of}
-use Rattle.der_core.specs.declared.integer.uint.UintRef.{UintRef}
+use Rattle.der_core.specs.Laws.Integer.{holds_canonical}
 use Rattle.der_core.specs.Laws.Growing.{contents_shorter}
 use Rattle.pkcs1.specs.KeyEncodings.{IsOnlyEncoding}
 use Rattle.pkcs1.specs.Keys.{PublicKey, RsaPublicKey, PrivateKey, RsaPrivateKey, OtherPrime, OtherPrimeInfo}
 use Rattle.pkcs1.specs.Keys.{OtherPrimeInfos, version_of}
-use Rattle.pkcs1.specs.PrivateKeyValue.{Listed, other_of, others_of, private_key_of}
-use Rattle.pkcs1.specs.PublicKeyValue.{public_key_of}
+use Rattle.pkcs1.specs.PrivateKeyValue.{Listed, other_of, others_of, private_key_with}
+use Rattle.pkcs1.specs.PublicKeyValue.{public_key_with}
 use Rattle.pkcs1.specs.Writing.{key_numbers, other_numbers, HasOther, HasOthers}
 use Rattle.pkcs1.specs.declared.private_key.other_prime_info.OtherPrimeInfo as declared_other
 use Rattle.pkcs1.specs.declared.public_key.RsaPublicKey as declared_public
-use Rattle.pkcs1.specs.Laws.HeldKeys.{borrowed_held, held_has_encoding}
+use Rattle.pkcs1.specs.Laws.HeldKeys.{held_has_encoding}
+use Rattle.pkcs1.specs.Laws.PrivateKeys.{IsHeld}
 use Rattle.pkcs1.specs.Laws.PublicKeys.{public_made}
 use Rattle.pkcs1_c.specs.declared.private_key.PrivateKey as c
 use Rattle.pkcs1_c.specs.declared.private_key.OtherPrime as c_other
+use Rattle.pkcs1_c.specs.declared.given_number.Number.{Number}
+use Rattle.pkcs1_c.specs.NumberValue.{number_of}
 use Rattle.pkcs1_c.specs.Given.{IsGiven}
 use Rattle.pkcs1_c.specs.Numbers.{ArePublicNumbers, AreOthersOf, AreOtherNumbers}
 use Rattle.pkcs1_c.specs.StructValues.{private_key_seen, other_prime_seen}
@@ -61,15 +63,19 @@ module _ {V : Type 0} (numbers : List (List ℕ)) (IsTheGiven : V → Type 0) (G
       (λ long other is. subst (IsTooLong Grammar) (same made other given is) long)
       (λ t p. (made, given, p)) (λ t. given_error IsTheGiven Grammar same (length old) made given t) w)
 
+-- A number that is held.
+number_held : (number : Number) → IsHeld (number_of number)
+number_held number = (holds_canonical (number_of number) number.canonical, number.bounded)
+
 -- Public keys.
 public_none : (given made : PublicKey (List ℕ)) → ArePublicNumbers made given → AllHave IsWithin (two_numbers made)
     → NoStatus (NumbersError (two_numbers given))
 public_none given made are = numbers_none (two_numbers given) (two_numbers made) (are.0, (are.1, tt))
 
-pub public_held : (key : declared_public.RsaPublicKey UintRef) (given : PublicKey (List ℕ))
-    → ArePublicNumbers (public_key_of key) given → NoStatus (NumbersError (two_numbers given))
+pub public_held : (key : declared_public.RsaPublicKey Number) (given : PublicKey (List ℕ))
+    → ArePublicNumbers (public_key_with number_of key) given → NoStatus (NumbersError (two_numbers given))
 public_held key given are =
-    public_none given (public_key_of key) are (key.modulus.bounded, (key.public_exponent.bounded, tt))
+    public_none given (public_key_with number_of key) are (key.modulus.bounded, (key.public_exponent.bounded, tt))
 
 pub public_fits : (given made : PublicKey (List ℕ)) → ArePublicNumbers made given → (encoding : List ℕ)
     → Means RsaPublicKey encoding made → NoStatus (NumbersError (two_numbers given))
@@ -77,11 +83,11 @@ public_fits given made are encoding m =
     let few : length m.1.contents ≤ limit = omega (arith, contents_shorter encoding m.1, m.0) in
     public_none given made are (joins_hold (two_numbers made) [] m.1.contents m.1.holds few).0
 
-pub public_some : (key : declared_public.RsaPublicKey UintRef) → HasEncoding RsaPublicKey (public_key_of key)
+pub public_some : (key : declared_public.RsaPublicKey Number) → HasEncoding RsaPublicKey (public_key_with number_of key)
 public_some key =
-    let m = borrowed_held key.modulus in
-    let e = borrowed_held key.public_exponent in
-    public_made (public_key_of key) m.0 e.0 m.1 e.1
+    let m = number_held key.modulus in
+    let e = number_held key.public_exponent in
+    public_made (public_key_with number_of key) m.0 e.0 m.1 e.1
 
 -- Other primes.
 others_none : (given others : List (OtherPrime (List ℕ))) → AreOthersOf given others
@@ -121,19 +127,19 @@ not_empty (g ∷ gs) [] l p = absurd p
 not_empty (g ∷ gs) (o ∷ os) l p = omega arith
 
 -- What is so of all numbers that are held.
-module _ (Has : List ℕ → Type 0) (held : (number : UintRef) → Has (bytes_of number)) where
-  items_have : (items : List (declared_other.OtherPrimeInfo UintRef))
-      → AllHave (HasOther Has) (map (other_of bytes_of) items)
+module _ (Has : List ℕ → Type 0) (held : (number : Number) → Has (number_of number)) where
+  items_have : (items : List (declared_other.OtherPrimeInfo Number))
+      → AllHave (HasOther Has) (map (other_of number_of) items)
   items_have [] = tt
   items_have (o ∷ os) = ((held o.prime, (held o.exponent, (held o.coefficient, tt))), items_have os)
 
-  infos_have : (infos : Option (Vec (declared_other.OtherPrimeInfo UintRef) Global))
-      (given : List (OtherPrime (List ℕ))) → AreOtherNumbers (others_of bytes_of infos) given
-      → HasOthers Has (others_of bytes_of infos)
+  infos_have : (infos : Option (Vec (declared_other.OtherPrimeInfo Number) Global))
+      (given : List (OtherPrime (List ℕ))) → AreOtherNumbers (others_of number_of infos) given
+      → HasOthers Has (others_of number_of infos)
   infos_have None given are = tt
-  infos_have (Some v) given are = (not_empty given (map (other_of bytes_of) v.items) are.0 are.1, items_have v.items)
+  infos_have (Some v) given are = (not_empty given (map (other_of number_of) v.items) are.0 are.1, items_have v.items)
 
-  key_has : (key : Listed UintRef) → AllHave Has (key_numbers (private_key_of key))
+  key_has : (key : Listed Number) → AllHave Has (key_numbers (private_key_with number_of key))
   key_has key = (
     held key.modulus,
     (
@@ -149,21 +155,21 @@ module _ (Has : List ℕ → Type 0) (held : (number : UintRef) → Has (bytes_o
   )
 
 -- Those that were made so far.
-pub items_none : (given : List (OtherPrime (List ℕ))) (items : List (declared_other.OtherPrimeInfo UintRef))
-    → AreOthersOf given (map (other_of bytes_of) items) → NoStatus (NumbersError (others_numbers given))
+pub items_none : (given : List (OtherPrime (List ℕ))) (items : List (declared_other.OtherPrimeInfo Number))
+    → AreOthersOf given (map (other_of number_of) items) → NoStatus (NumbersError (others_numbers given))
 items_none given items are =
-    others_none given (map (other_of bytes_of) items) are (items_have IsWithin (λ number. number.bounded) items)
+    others_none given (map (other_of number_of) items) are (items_have IsWithin (λ number. number.bounded) items)
 
 version_small : (infos : Option (List (OtherPrime (List ℕ)))) → version_of infos < 2
 version_small None = omega arith
 version_small (Some others) = omega arith
 
-pub private_some : (key : Listed UintRef) (given : List (OtherPrime (List ℕ)))
-    → AreOtherNumbers (others_of bytes_of key.other_prime_infos) given → HasEncoding RsaPrivateKey (private_key_of key)
+pub private_some : (key : Listed Number) (given : List (OtherPrime (List ℕ)))
+    → AreOtherNumbers (others_of number_of key.other_prime_infos) given → HasEncoding RsaPrivateKey (private_key_with number_of key)
 private_some key given are =
-    let canonical : (number : UintRef) → IsCanonical (bytes_of number) = λ number. (borrowed_held number).0 in
-    held_has_encoding bytes_of borrowed_held key (
-      version_small (others_of bytes_of key.other_prime_infos),
+    let canonical : (number : Number) → IsCanonical (number_of number) = λ number. (number_held number).0 in
+    held_has_encoding number_of number_held key (
+      version_small (others_of number_of key.other_prime_infos),
       (key_has IsCanonical canonical key, infos_have IsCanonical canonical key.other_prime_infos given are),
     )
 
@@ -177,11 +183,11 @@ module _ (key : c.PrivateKey) (others : List c_other.OtherPrime) where
       (are.0, (are.1, (are.2, (are.3, (are.4, (are.5, (are.6, (are.7, tt)))))))) few)
       (infos_none made.other_prime_infos (map other_prime_seen others) are.8 infos)
 
-  pub private_held : (made : Listed UintRef) → IsGiven key others (private_key_of made)
+  pub private_held : (made : Listed Number) → IsGiven key others (private_key_with number_of made)
       → NoStatus (NumbersError (given_numbers key others))
   private_held made given =
-      let bounded : (number : UintRef) → IsWithin (bytes_of number) = λ number. number.bounded in
-      private_none (private_key_of made) given (key_has IsWithin bounded made)
+      let bounded : (number : Number) → IsWithin (number_of number) = λ number. number.bounded in
+      private_none (private_key_with number_of made) given (key_has IsWithin bounded made)
       (infos_have IsWithin bounded made.other_prime_infos (map other_prime_seen others) given.1.8)
 
   pub private_fits : (made : PrivateKey (List ℕ)) → IsGiven key others made → (encoding : List ℕ)

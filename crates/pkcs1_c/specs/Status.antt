@@ -57,7 +57,7 @@ status_texts =
     ∷ codes "the algorithm parameters are missing: rsaEncryption needs NULL, RSASSA-PSS and RSAES-OAEP a SEQUENCE"
     ∷ codes "another tag was expected: PEM, PKCS #8, SubjectPublicKeyInfo or an encrypted key, perhaps"
     ∷ codes "the tag octet is not known: this is not DER of a key or of parameters"
-    ∷ codes "bytes follow the value, or a field that the type does not have there"
+    ∷ codes "bytes follow the value, or a field that it does not have: a private key read as a public one, perhaps"
     ∷ codes "the value is not allowed: negative, a salt length over 255, another version, trailer field or NULL"
     ∷ codes "there is too little room for the encoding"
     ∷ codes "a read or a write failed"

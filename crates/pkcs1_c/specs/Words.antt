@@ -2,6 +2,7 @@
 pub use Rattle.pkcs1_c.specs.Containers.{HoldsKey, HoldsSomeKey, InfoIsTidy, info_seen}
 pub use Rattle.pkcs1_c.specs.Given.{IsGiven}
 pub use Rattle.pkcs1_c.specs.Numbers.{AreOtherNumbers, ArePublicNumbers, IsNumberOf, IsOtherOf}
+pub use Rattle.pkcs1_c.specs.NumberValue.{number_of}
 pub use Rattle.pkcs1_c.specs.Status.{IsStatusOf, kind_number, status_of, status_text}
 pub use Rattle.pkcs1_c.specs.StructErrors.{EncodingError, InfoError, MaskError, MayRunOutOfMemory, NumberError}
 pub use Rattle.pkcs1_c.specs.StructErrors.{NumbersError, OaepFieldError, OidError, PlainError, PrivateKeyError}

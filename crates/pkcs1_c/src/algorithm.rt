@@ -2,11 +2,13 @@
 ghost use Rattle.std.specs.Bool.{Decides};
 ghost use Rattle.std.specs.Prelude.{◌≡◌, IfOk, IfErr};
 ghost use Rattle.spki_core.specs.Words.{IsHash, viewed_with, any_of, octets_of};
+ghost use Rattle.pkcs1_params.specs.Words.{UsesHash};
 ghost use Rattle.pkcs1_c.specs.Words.{kind_number, algorithm_seen, mask_gen_seen, AlgorithmIsTidy, MaskGenIsTidy};
 ghost use Rattle.pkcs1_c.specs.Words.{OidError, PlainError, MaskError};
 
 use der_core::{Result, Tag};
-use spki_core::{AlgorithmView, AnyRef, IdentifierView};
+use pkcs1::Mgf1;
+use spki_core::{AlgorithmView, AnyRef, AssociatedOid, IdentifierView};
 
 /// An AlgorithmIdentifier (RFC 5280 4.1.1.2).
 #[repr(C)]
@@ -132,4 +134,14 @@ pub extern "C" fn pkcs1_c_algorithm_is(algorithm: &Algorithm<'_>, oid: &[u8]) ->
 {
     let is_null = algorithm.tag == Tag::NULL.octet() && algorithm.parameters.is_empty();
     (!algorithm.has_parameters || is_null) && algorithm.oid == oid
+}
+
+/// Whether the hash function has this identifier, and the mask generation function is MGF1 with the same.
+pub(crate) fn uses_hash(hash: &Algorithm<'_>, mask_gen: &MaskGen<'_>, oid: &[u8]) -> bool
+    ensures { Decides result (UsesHash oid.now (algorithm_seen hash.now) (mask_gen_seen mask_gen.now)) }
+{
+    mask_gen.has_hash
+        && mask_gen.oid == Mgf1::octets()
+        && pkcs1_c_algorithm_is(hash, oid)
+        && pkcs1_c_algorithm_is(&mask_gen.hash, oid)
 }

@@ -3,7 +3,9 @@
 #![tactic(auto)]
 
 mod algorithm;
+mod bytes;
 mod container;
+mod given_number;
 mod numbers;
 mod oaep;
 mod oaep_algorithm;
@@ -15,12 +17,13 @@ mod status;
 mod written;
 
 pub use algorithm::{Algorithm, MaskGen, pkcs1_c_algorithm_is};
+pub use bytes::Bytes;
 pub use container::{
     PrivateKeyInfo, pkcs1_c_private_key_info_decode, pkcs1_c_private_key_info_encode,
 };
 pub use oaep::{
-    OaepParams, pkcs1_c_oaep_params_decode, pkcs1_c_oaep_params_decode_strict,
-    pkcs1_c_oaep_params_encode,
+    OaepParams, pkcs1_c_oaep_is, pkcs1_c_oaep_label, pkcs1_c_oaep_params_decode,
+    pkcs1_c_oaep_params_decode_strict, pkcs1_c_oaep_params_encode,
 };
 pub use oaep_algorithm::{
     pkcs1_c_oaep_algorithm_decode, pkcs1_c_oaep_algorithm_decode_strict,
@@ -30,11 +33,11 @@ pub use private_key::{
     OtherPrime, PrivateKey, pkcs1_c_private_key_decode, pkcs1_c_private_key_encode,
 };
 pub use pss::{
-    PssParams, pkcs1_c_pss_params_decode, pkcs1_c_pss_params_decode_strict,
+    PssParams, pkcs1_c_pss_is, pkcs1_c_pss_params_decode, pkcs1_c_pss_params_decode_strict,
     pkcs1_c_pss_params_encode,
 };
 pub use pss_algorithm::{
     pkcs1_c_pss_algorithm_decode, pkcs1_c_pss_algorithm_decode_strict, pkcs1_c_pss_algorithm_encode,
 };
 pub use public_key::{PublicKey, pkcs1_c_public_key_decode, pkcs1_c_public_key_encode};
-pub use status::{Text, pkcs1_c_status_text, pkcs1_c_version};
+pub use status::{pkcs1_c_status_text, pkcs1_c_version};

@@ -1,18 +1,22 @@
 //! Parameters of RSAES-OAEP.
-ghost use Rattle.std.specs.Prelude.{◌≡◌, ◌≢◌, IfOk, IfErr};
+ghost use Rattle.std.specs.Bool.{Decides};
+ghost use Rattle.std.specs.Prelude.{◌≡◌, ◌≢◌, IfOk, IfErr, Some, None, true, false};
 ghost use Rattle.der_core.specs.Words.{HasEncoding, IsShortest};
 ghost use Rattle.pkcs1_params.specs.Words.{IsNoSentence, IsNoShortest, IsTheMeaning, IsTheShortest, oaep_viewed};
-ghost use Rattle.pkcs1_params.specs.Words.{RsaOaepParamsFault, StrictOaepFault};
+ghost use Rattle.pkcs1_params.specs.Words.{LabelOf, RsaOaepParamsFault, StrictOaepFault, UsesHash};
 ghost use Rattle.pkcs1_params.specs.Parameters as grammar;
 ghost use Rattle.pkcs1_c.specs.Words.{IsStatusOf, status_of, oaep_seen, OaepIsTidy, EncodingError, OaepFieldError};
 ghost use Rattle.pkcs1_c.specs.Words.{WritesFields, WritesValue};
 
 use crate::algorithm::{
-    Algorithm, MaskGen, from_c_algorithm, from_c_mask_gen, to_c_algorithm, to_c_mask_gen,
+    Algorithm, MaskGen, from_c_algorithm, from_c_mask_gen, to_c_algorithm, to_c_mask_gen, uses_hash,
 };
+use crate::bytes::Bytes;
 use crate::status::{OK, status};
 use crate::written::set_needed;
-use pkcs1::RsaOaepParamsView;
+use der_core::Tag;
+use pkcs1::{PSpecified, RsaOaepParamsView};
+use spki_core::AssociatedOid;
 
 /// Parameters of RSAES-OAEP.
 #[repr(C)]
@@ -127,4 +131,28 @@ pub extern "C" fn pkcs1_c_oaep_params_encode(
         Ok(made) => write_oaep(&made, out, len),
         Err(failure) => status(&failure),
     }
+}
+
+/// Like `pkcs1_c_pss_is`.
+#[unsafe(no_mangle)]
+pub extern "C" fn pkcs1_c_oaep_is(params: &OaepParams<'_>, oid: &[u8]) -> bool
+    ensures { let v = oaep_seen params.now in Decides result (UsesHash oid.now v.hash v.mask_gen) }
+{
+    uses_hash(&params.hash, &params.mask_gen, oid)
+}
+
+/// Whether there is a label, with its octets in `label`: the source is pSpecified with an OCTET STRING.
+#[unsafe(no_mangle)]
+pub extern "C" fn pkcs1_c_oaep_label<'a>(params: &OaepParams<'a>, label: &mut Bytes<'a>) -> bool
+    ensures label { result ≡ true → LabelOf (oaep_seen params.now).p_source (Some label.new.octets.now) }
+    ensures none { result ≡ false → LabelOf (oaep_seen params.now).p_source None }
+    ensures unchanged { result ≡ false → label.new ≡ label.old }
+{
+    let source = &params.p_source;
+    let is_octets = source.has_parameters && source.tag == Tag::OCTET_STRING.octet();
+    let is_label = is_octets && source.oid == PSpecified::octets();
+    if is_label {
+        label.octets = source.parameters;
+    }
+    is_label
 }

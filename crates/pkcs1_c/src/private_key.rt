@@ -3,20 +3,20 @@ ghost use Rattle.std.specs.Prelude.{length, drop, ◌≡◌, ◌≢◌, ◌<◌,
 ghost use Rattle.std.specs.Prelude.{IfErr};
 ghost use Rattle.der_core.specs.Words.{Means, bytes_of};
 ghost use Rattle.pkcs1.specs.Keys as grammar;
-ghost use Rattle.pkcs1.specs.Words.{others_left, other_of, private_key_of, others_of, view_of, listed_others};
+ghost use Rattle.pkcs1.specs.Words.{others_left, other_of, private_key_with, others_of, view_of, listed_others};
 ghost use Rattle.pkcs1.specs.Words.{RsaPrivateKeyFault, other_numbers};
 ghost use Rattle.pkcs1_c.specs.Words.{IsStatusOf, status_of, private_key_seen, other_prime_seen, ArePlaced, AreListed};
 ghost use Rattle.pkcs1_c.specs.Words.{IsGiven, IsOtherOf, AreOtherNumbers, WritesGiven, NumbersError, PrivateKeyError};
-ghost use Rattle.pkcs1_c.specs.Words.{MayRunOutOfMemory, given_numbers, others_numbers};
+ghost use Rattle.pkcs1_c.specs.Words.{MayRunOutOfMemory, number_of, given_numbers, others_numbers};
 ghost use Rattle.pkcs1_params.specs.Words.{IsNoSentence};
 
+use crate::given_number::Number;
 use crate::numbers::number;
 use crate::status::{OK, OTHER_PRIMES, OUT_OF_MEMORY, status};
 use crate::written::write_encoding;
 use der_core::ErrorKind;
 use pkcs1::{
-    Error, OtherPrimeInfo, OtherPrimeInfos, OtherPrimes, RsaPrivateKey, RsaPrivateKeyRef,
-    RsaPrivateKeyView, UintRef,
+    Error, OtherPrimeInfo, OtherPrimeInfos, OtherPrimes, RsaPrivateKey, RsaPrivateKeyView, UintRef,
 };
 use std::alloc::Global;
 
@@ -135,8 +135,8 @@ pub extern "C" fn pkcs1_c_private_key_decode<'a>(
 }
 
 /// The prime with these numbers.
-fn from_c_other_prime<'a>(other: &OtherPrime<'a>) -> pkcs1::Result<OtherPrimeInfo<UintRef<'a>>>
-    ensures ok { IfOk result (λ info. IsOtherOf (other_prime_seen other.now) (other_of bytes_of info)) }
+fn from_c_other_prime<'a>(other: &OtherPrime<'a>) -> pkcs1::Result<OtherPrimeInfo<Number<'a>>>
+    ensures ok { IfOk result (λ info. IsOtherOf (other_prime_seen other.now) (other_of number_of info)) }
     ensures err { IfErr result (λ e. NumbersError (other_numbers (other_prime_seen other.now)) (status_of e)) }
 {
     Ok(OtherPrimeInfo {
@@ -148,8 +148,8 @@ fn from_c_other_prime<'a>(other: &OtherPrime<'a>) -> pkcs1::Result<OtherPrimeInf
 
 /// Appends a prime.
 fn push_other<'a>(
-    infos: &mut OtherPrimeInfos<UintRef<'a>>,
-    info: OtherPrimeInfo<UintRef<'a>>,
+    infos: &mut OtherPrimeInfos<Number<'a>>,
+    info: OtherPrimeInfo<Number<'a>>,
 ) -> pkcs1::Result<()>
     ensures ok { OnOk result (infos.new.items ≡ infos.old.items ++ info.entry ∷ []) }
     ensures err { IfErr result (λ e. status_of e ≡ OUT_OF_MEMORY) }
@@ -161,11 +161,12 @@ fn push_other<'a>(
 }
 
 /// The list of other primes with these numbers, or `None` if there are none.
+#[inline(always)]
 fn from_c_other_primes<'a>(
     alloc: Global,
     others: &[OtherPrime<'a>],
-) -> pkcs1::Result<Option<OtherPrimeInfos<UintRef<'a>>>>
-    ensures ok { IfOk result (λ infos. AreOtherNumbers (others_of bytes_of infos) (map other_prime_seen others.now)) }
+) -> pkcs1::Result<Option<OtherPrimeInfos<Number<'a>>>>
+    ensures ok { IfOk result (λ infos. AreOtherNumbers (others_of number_of infos) (map other_prime_seen others.now)) }
     ensures err { let numbers = others_numbers (map other_prime_seen others.now) in
         IfErr result (λ e. status_of e ≢ OUT_OF_MEMORY → NumbersError numbers (status_of e)) }
     ensures some { IfErr result (λ e. 0 < length others.now) }
@@ -186,9 +187,9 @@ fn from_c_key<'a>(
     alloc: Global,
     key: &PrivateKey<'a>,
     others: &[OtherPrime<'a>],
-) -> pkcs1::Result<RsaPrivateKeyRef<'a>>
+) -> pkcs1::Result<RsaPrivateKey<Number<'a>>>
     requires { key.now.other_primes ≡ length others.now }
-    ensures ok { IfOk result (λ made. IsGiven key.now others.now (private_key_of made)) }
+    ensures ok { IfOk result (λ made. IsGiven key.now others.now (private_key_with number_of made)) }
     ensures err { let numbers = given_numbers key.now others.now in
         IfErr result (λ e. status_of e ≢ OUT_OF_MEMORY → NumbersError numbers (status_of e)) }
     ensures memory { IfErr result (λ e. status_of e ≡ OUT_OF_MEMORY → MayRunOutOfMemory key.now others.now) }

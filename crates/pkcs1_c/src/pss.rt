@@ -1,14 +1,15 @@
 //! Parameters of RSASSA-PSS.
+ghost use Rattle.std.specs.Bool.{Decides};
 ghost use Rattle.std.specs.Prelude.{◌≡◌, ◌≢◌, ◌<◌, IfOk, IfErr};
 ghost use Rattle.der_core.specs.Words.{HasEncoding, IsShortest};
 ghost use Rattle.pkcs1_params.specs.Words.{IsNoSentence, IsNoShortest, IsTheMeaning, IsTheShortest, pss_viewed};
-ghost use Rattle.pkcs1_params.specs.Words.{RsaPssParamsFault, StrictPssFault};
+ghost use Rattle.pkcs1_params.specs.Words.{RsaPssParamsFault, StrictPssFault, UsesHash};
 ghost use Rattle.pkcs1_params.specs.Parameters as grammar;
 ghost use Rattle.pkcs1_c.specs.Words.{IsStatusOf, status_of, pss_seen, PssIsTidy, EncodingError, PssFieldError};
 ghost use Rattle.pkcs1_c.specs.Words.{WritesFields, WritesValue};
 
 use crate::algorithm::{
-    Algorithm, MaskGen, from_c_algorithm, from_c_mask_gen, to_c_algorithm, to_c_mask_gen,
+    Algorithm, MaskGen, from_c_algorithm, from_c_mask_gen, to_c_algorithm, to_c_mask_gen, uses_hash,
 };
 use crate::status::{OK, status};
 use crate::written::set_needed;
@@ -139,4 +140,13 @@ pub extern "C" fn pkcs1_c_pss_params_encode(
         Ok(made) => write_pss(&made, out, len),
         Err(failure) => status(&failure),
     }
+}
+
+/// Whether the hash function has this identifier, and the mask generation function is MGF1 with the same: each of them
+/// as `pkcs1_c_algorithm_is` has it.
+#[unsafe(no_mangle)]
+pub extern "C" fn pkcs1_c_pss_is(params: &PssParams<'_>, oid: &[u8]) -> bool
+    ensures { let v = pss_seen params.now in Decides result (UsesHash oid.now v.hash v.mask_gen) }
+{
+    uses_hash(&params.hash, &params.mask_gen, oid)
 }

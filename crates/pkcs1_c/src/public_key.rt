@@ -1,11 +1,12 @@
 //! Public keys.
 ghost use Rattle.std.specs.Prelude.{◌≡◌, ◌≢◌, IfOk, IfErr};
 ghost use Rattle.pkcs1.specs.Keys as grammar;
-ghost use Rattle.pkcs1.specs.Words.{public_key_of, RsaPublicKeyFault};
+ghost use Rattle.pkcs1.specs.Words.{public_key_with, RsaPublicKeyFault};
 ghost use Rattle.pkcs1_c.specs.Words.{ArePublicNumbers, WritesGiven, public_key_seen, NumbersError, PublicKeyError};
-ghost use Rattle.pkcs1_c.specs.Words.{two_numbers, status_of, IsStatusOf};
+ghost use Rattle.pkcs1_c.specs.Words.{two_numbers, number_of, status_of, IsStatusOf};
 ghost use Rattle.pkcs1_params.specs.Words.{IsNoSentence, IsTheMeaning};
 
+use crate::given_number::Number;
 use crate::numbers::number;
 use crate::status::{OK, status};
 use crate::written::write_encoding;
@@ -40,8 +41,8 @@ pub extern "C" fn pkcs1_c_public_key_decode<'a>(encoding: &'a [u8], key: &mut Pu
 }
 
 /// The key with these numbers.
-fn from_c_key<'a>(key: &PublicKey<'a>) -> pkcs1::Result<RsaPublicKeyRef<'a>>
-    ensures ok { IfOk result (λ made. ArePublicNumbers (public_key_of made) (public_key_seen key.now)) }
+fn from_c_key<'a>(key: &PublicKey<'a>) -> pkcs1::Result<RsaPublicKey<Number<'a>>>
+    ensures ok { IfOk result (λ made. ArePublicNumbers (public_key_with number_of made) (public_key_seen key.now)) }
     ensures err { IfErr result (λ e. NumbersError (two_numbers (public_key_seen key.now)) (status_of e)) }
 {
     Ok(RsaPublicKey {

@@ -2,6 +2,7 @@
 ghost use Rattle.std.specs.Prelude.{◌≡◌, ◌++◌, ◌∷◌, [], codes};
 ghost use Rattle.pkcs1_c.specs.Words.{kind_number, status_of, status_text};
 
+use crate::bytes::Bytes;
 use der_core::ErrorKind;
 use pkcs1::Error;
 
@@ -81,15 +82,7 @@ pub(crate) fn status(error: &Error) -> u32
     }
 }
 
-/// A C string: octets that end with a zero.
-#[repr(C)]
-#[derive(Clone, Copy, Drop)]
-pub struct Text<'a> {
-    /// The octets, including the zero.
-    pub octets: &'a [u8],
-}
-
-/// The C string that describes a status.
+/// The C string that describes a status: its octets end with a zero.
 fn status_octets(status: u32) -> &'static [u8]
     ensures { result.now ≡ status_text status ++ 0 ∷ [] }
 {
@@ -112,7 +105,8 @@ fn status_octets(status: u32) -> &'static [u8]
         11 =>
             b"another tag was expected: PEM, PKCS #8, SubjectPublicKeyInfo or an encrypted key, perhaps\0",
         12 => b"the tag octet is not known: this is not DER of a key or of parameters\0",
-        13 => b"bytes follow the value, or a field that the type does not have there\0",
+        13 =>
+            b"bytes follow the value, or a field that it does not have: a private key read as a public one, perhaps\0",
         14 =>
             b"the value is not allowed: negative, a salt length over 255, another version, trailer field or NULL\0",
         15 => b"there is too little room for the encoding\0",
@@ -125,7 +119,7 @@ fn status_octets(status: u32) -> &'static [u8]
 
 /// The C string that describes a status.
 #[unsafe(no_mangle)]
-pub extern "C" fn pkcs1_c_status_text(status: u32, text: &mut Text<'static>)
+pub extern "C" fn pkcs1_c_status_text(status: u32, text: &mut Bytes<'static>)
     ensures { text.new.octets.now ≡ status_text status ++ 0 ∷ [] }
 {
     text.octets = status_octets(status);
@@ -133,7 +127,7 @@ pub extern "C" fn pkcs1_c_status_text(status: u32, text: &mut Text<'static>)
 
 /// The version of the library, as a C string.
 #[unsafe(no_mangle)]
-pub extern "C" fn pkcs1_c_version(text: &mut Text<'static>)
+pub extern "C" fn pkcs1_c_version(text: &mut Bytes<'static>)
     ensures { text.new.octets.now ≡ codes "0.8.0" ++ 0 ∷ [] }
 {
     text.octets = b"0.8.0\0";

@@ -1,5 +1,5 @@
 use Rattle.std.proofs.Common.{List, map, take, ◌≢◌}
-use Rattle.der_core.specs.UintRefValue.{bytes_of}
+use Rattle.pkcs1_c.specs.NumberValue.{number_of}
 use Rattle.pkcs1.specs.PrivateKeyValue.{other_of}
 use Rattle.pkcs1_params.specs.declared.error.Error.{Error}
 use Rattle.pkcs1_c.specs.declared.private_key.OtherPrime.{OtherPrime}
@@ -14,7 +14,7 @@ use Rattle.pkcs1_c.proofs.private_key.from_c_other_primes.Goals as goal
 
 pub loop-other-preserved : goal.loop-other-preserved
 loop-other-preserved c =
-    others_step other_prime_seen (other_of bytes_of) c.args.others.now c.loop-other.infos.items
+    others_step other_prime_seen (other_of number_of) c.args.others.now c.loop-other.infos.items
     c.push_other.new.infos.items c.loop-other.other-index _ c.in_ok-info.info
     c.loop-other-test.true c.loop-other.invariant c.in_ok-info.ensures.ok c.in_ok-push_other.ensures.ok
 

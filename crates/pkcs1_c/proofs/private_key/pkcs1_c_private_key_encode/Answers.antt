@@ -1,6 +1,7 @@
 use Rattle.std.proofs.Common.{ℕ, List, ◌≡◌, ◌≢◌, length, sym, refl, ◌∙◌, arith}
 use Rattle.pkcs1.specs.Keys.{RsaPrivateKey}
-use Rattle.pkcs1.specs.PrivateKeyValue.{private_key_of}
+use Rattle.pkcs1.specs.PrivateKeyValue.{private_key_with}
+use Rattle.pkcs1_c.specs.NumberValue.{number_of}
 use Rattle.pkcs1.specs.Laws.KeyEncodings.{only_encoding}
 use Rattle.pkcs1.specs.Laws.PrivateKeys.{private_at_most_one, private_delimited}
 use Rattle.pkcs1_c.specs.declared.private_key.PrivateKey.{PrivateKey}
@@ -41,7 +42,7 @@ pub returns-in-Ok-clause-writes : goal.returns-in-Ok-clause-writes
 returns-in-Ok-clause-writes c = λ _.
     let key = c.args.key.now in
     let others = c.args.others.now in
-    let made = private_key_of c.in-Ok.key in
+    let made = private_key_with number_of c.in-Ok.key in
     let given = c.in-Ok.ensures.ok in
     behind_part (Miscounted key others) (Counted key others) (λ s p. p.1 given.0)
     (given_written (given_numbers key others) (IsGiven key others) RsaPrivateKey (given_same key others) made given
@@ -59,7 +60,7 @@ returns-in-Err-clause-writes c = λ other.
 
 pub returns-in-Ok-clause-memory : goal.returns-in-Ok-clause-memory
 returns-in-Ok-clause-memory c =
-    λ memory. absurd (no_memory_asked RsaPrivateKey (private_key_of c.in-Ok.key) _ _ c.write_encoding.ensures.exact
+    λ memory. absurd (no_memory_asked RsaPrivateKey (private_key_with number_of c.in-Ok.key) _ _ c.write_encoding.ensures.exact
     memory)
 
 pub returns-in-Err-clause-memory : goal.returns-in-Err-clause-memory

@@ -1,5 +1,6 @@
 use Rattle.pkcs1.specs.Keys.{RsaPublicKey}
-use Rattle.pkcs1.specs.PublicKeyValue.{public_key_of}
+use Rattle.pkcs1.specs.PublicKeyValue.{public_key_with}
+use Rattle.pkcs1_c.specs.NumberValue.{number_of}
 use Rattle.pkcs1.specs.Laws.PublicKeys.{public_only}
 use Rattle.pkcs1_c.specs.Numbers.{ArePublicNumbers}
 use Rattle.pkcs1_c.specs.StructValues.{public_key_seen}
@@ -14,7 +15,7 @@ write_encoding-requires c = public_some c.in-Ok.key
 pub returns-in-Ok : goal.returns-in-Ok
 returns-in-Ok c =
     let given = public_key_seen c.args.key.now in
-    let made = public_key_of c.in-Ok.key in
+    let made = public_key_with number_of c.in-Ok.key in
     given_written (two_numbers given) (λ key. ArePublicNumbers key given) RsaPublicKey (public_same given) made
     c.in-Ok.ensures.ok (public_held c.in-Ok.key given c.in-Ok.ensures.ok) (public_only made) c.write_encoding.ensures
 

@@ -1,0 +1,7 @@
+-- The number that is written of bytes that the caller passes.
+use Rattle.std.specs.Prelude.{ℕ, List}
+use Rattle.pkcs1_c.specs.declared.given_number.Number.{Number}
+
+-- its bytes, most significant first
+abbrev pub number_of : Number → List ℕ
+number_of number = number.bytes.now

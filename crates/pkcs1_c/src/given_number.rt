@@ -1,0 +1,83 @@
+//! Numbers to be written.
+ghost use Rattle.std.specs.Prelude.{◌≡◌, ◌≤◌, ℕ, List, length, slice_index, nat_lt, if◌then◌else◌};
+ghost use Rattle.der_core.specs.Integer.{HoldsNumber, IntegerContents, IsCanonical, integer_contents};
+ghost use Rattle.der_core.specs.Length.{limit};
+ghost use Rattle.der_core.specs.UintRefValue.{bytes_of};
+ghost use Rattle.der_core.specs.Laws.Integer.{integer_means_one, integer_of_bytes, integer_relates, integer_shortest};
+
+use der_core::{
+    BackWriter, Contents, EncodeValue, IntegerTag, Length, Result, TaggedBy, UintRef, Writer,
+};
+
+/// A number over the caller's bytes. How many zero octets stand in front of them is looked up once: so as many octets
+/// are written as were counted, even where another thread changes the bytes meanwhile.
+#[derive(Clone, Copy, Drop)]
+pub struct Number<'a> {
+    bytes: &'a [u8],
+    zeros: usize,
+    ghost canonical: { HoldsNumber bytes.now },
+    ghost bounded: { length bytes.now ≤ limit },
+    ghost told: { zeros ≡ (if nat_lt (slice_index bytes.now 0) 128 then 0 else 1) },
+}
+
+impl<'a> Number<'a> {
+    ghost use Rattle.pkcs1_c.specs.NumberValue.{number_of};
+
+    /// The same number.
+    #[inline(always)]
+    pub(crate) fn of(number: UintRef<'a>) -> Number<'a>
+        ensures { number_of result ≡ bytes_of number.entry }
+    {
+        let bytes = number.as_bytes();
+        Number {
+            bytes,
+            zeros: if bytes[0] < 0x80 { 0 } else { 1 },
+        }
+    }
+}
+
+impl Contents for Number<'_> {
+    ghost use Rattle.pkcs1_c.specs.NumberValue.{number_of};
+
+    ghost Value = { List ℕ };
+
+    ghost value = { number_of };
+
+    ghost contents = { IntegerContents };
+
+    ghost has_contents = { IsCanonical };
+
+    ghost written_contents = { integer_contents };
+
+    ghost means_one = { integer_means_one };
+
+    ghost contents_of_bytes = { integer_of_bytes };
+}
+
+impl TaggedBy for Number<'_> {
+    type Marker = IntegerTag;
+}
+
+impl EncodeValue for Number<'_> {
+    fn value_len(&self) -> Result<Length> {
+        Length::try_from(self.bytes.len() + self.zeros)
+    }
+
+    fn append_value<W: Writer>(&self, writer: &mut W) -> Result<()> {
+        if self.zeros > 0 {
+            writer.write(&[0])?;
+        }
+        writer.write(self.bytes)
+    }
+
+    fn prepend_value(&self, writer: &mut BackWriter<'_>) {
+        writer.prepend(self.bytes);
+        if self.zeros > 0 {
+            writer.prepend(&[0]);
+        }
+    }
+
+    ghost contents_relate = { λ bytes has fits. integer_relates bytes has };
+
+    ghost contents_shortest = { integer_shortest };
+}
