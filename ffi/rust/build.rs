@@ -37,7 +37,10 @@ fn main() {
             println!("cargo::rerun-if-changed={}", folder.join(NAME).display());
             println!("cargo::rustc-link-search=native={}", folder.display());
         }
-        None => println!("cargo::warning={NAME} isn't found, so nothing can be linked: call ffi/build.sh, or set PKCS1_LIB to its folder"),
+        None => {
+            let advice = "so nothing can be linked: call ffi/build.sh, or set PKCS1_LIB to its folder";
+            println!("cargo::warning={NAME} isn't found, {advice}");
+        }
     }
     println!("cargo::rustc-link-lib=static=pkcs1");
 }

@@ -1,5 +1,5 @@
-//! `signature_algorithm FILE`: prints the hash function and the salt length of RSASSA-PSS in the file, which is the DER of
-//! a certificate's signatureAlgorithm.
+//! `signature_algorithm FILE`: prints the hash function and the salt length of RSASSA-PSS in the file, which is the DER
+//! of a certificate's signatureAlgorithm.
 use pkcs1_proved::{ObjectIdentifier, PssParams};
 
 const HASHES: [(ObjectIdentifier, &str); 3] = [
@@ -12,10 +12,7 @@ fn main() -> Result<(), Box<dyn std::error::Error>> {
     let path = std::env::args().nth(1).ok_or("usage: signature_algorithm FILE")?;
     let der = std::fs::read(&path)?;
     let params = PssParams::from_algorithm_der(&der).map_err(|error| format!("{path}: {error}"))?;
-    let mask_gen = params.mask_gen;
-    let accepted = HASHES.iter().find(|(oid, _)| {
-        params.hash.is(*oid) && mask_gen.oid == ObjectIdentifier::MGF1 && mask_gen.hash.is_some_and(|hash| hash.is(*oid))
-    });
+    let accepted = HASHES.iter().find(|(hash, _)| params.uses_hash(*hash));
     let (_, name) = accepted.ok_or_else(|| format!("{path}: hash functions that are not accepted"))?;
     println!("{name}, a salt of {} octets", params.salt_len);
     Ok(())

@@ -1,31 +1,47 @@
+use crate::hexadecimal::{digits, Hexadecimal};
 use crate::raw::{self, Bytes};
 use std::fmt;
 
-/// The contents octets of an OBJECT IDENTIFIER (X.690 8.19). Equality and hash are those of the octets.
+/// The contents octets of an OBJECT IDENTIFIER (X.690 8.19). Equality and hash are those of the octets. `Debug` prints
+/// the name of its constant, if there is one, else the octets.
 #[derive(Clone, Copy, PartialEq, Eq, Hash)]
 pub struct ObjectIdentifier<'a>(&'a [u8]);
 
-impl ObjectIdentifier<'static> {
+macro_rules! identifiers {
+    ($($(#[doc = $text:literal])* $name:ident = $octets:expr;)*) => {
+        impl ObjectIdentifier<'static> {
+            $($(#[doc = $text])* pub const $name: Self = ObjectIdentifier(&$octets);)*
+        }
+
+        /// The constants, and their names.
+        const NAMED: &[(ObjectIdentifier<'static>, &str)] = &[$((ObjectIdentifier::$name, stringify!($name)),)*];
+    };
+}
+identifiers! {
     /// SHA-1.
-    pub const SHA_1: Self = ObjectIdentifier(&[0x2b, 0x0e, 0x03, 0x02, 0x1a]);
+    SHA_1 = [0x2b, 0x0e, 0x03, 0x02, 0x1a];
     /// SHA-224.
-    pub const SHA_224: Self = ObjectIdentifier(&[0x60, 0x86, 0x48, 0x01, 0x65, 0x03, 0x04, 0x02, 0x04]);
+    SHA_224 = [0x60, 0x86, 0x48, 0x01, 0x65, 0x03, 0x04, 0x02, 0x04];
     /// SHA-256.
-    pub const SHA_256: Self = ObjectIdentifier(&[0x60, 0x86, 0x48, 0x01, 0x65, 0x03, 0x04, 0x02, 0x01]);
+    SHA_256 = [0x60, 0x86, 0x48, 0x01, 0x65, 0x03, 0x04, 0x02, 0x01];
     /// SHA-384.
-    pub const SHA_384: Self = ObjectIdentifier(&[0x60, 0x86, 0x48, 0x01, 0x65, 0x03, 0x04, 0x02, 0x02]);
+    SHA_384 = [0x60, 0x86, 0x48, 0x01, 0x65, 0x03, 0x04, 0x02, 0x02];
     /// SHA-512.
-    pub const SHA_512: Self = ObjectIdentifier(&[0x60, 0x86, 0x48, 0x01, 0x65, 0x03, 0x04, 0x02, 0x03]);
+    SHA_512 = [0x60, 0x86, 0x48, 0x01, 0x65, 0x03, 0x04, 0x02, 0x03];
+    /// SHA-512/224.
+    SHA_512_224 = [0x60, 0x86, 0x48, 0x01, 0x65, 0x03, 0x04, 0x02, 0x05];
+    /// SHA-512/256.
+    SHA_512_256 = [0x60, 0x86, 0x48, 0x01, 0x65, 0x03, 0x04, 0x02, 0x06];
     /// The mask generation function MGF1.
-    pub const MGF1: Self = ObjectIdentifier(&[0x2a, 0x86, 0x48, 0x86, 0xf7, 0x0d, 0x01, 0x01, 0x08]);
+    MGF1 = [0x2a, 0x86, 0x48, 0x86, 0xf7, 0x0d, 0x01, 0x01, 0x08];
     /// pSpecified: the parameters are the label.
-    pub const P_SPECIFIED: Self = ObjectIdentifier(&[0x2a, 0x86, 0x48, 0x86, 0xf7, 0x0d, 0x01, 0x01, 0x09]);
+    P_SPECIFIED = [0x2a, 0x86, 0x48, 0x86, 0xf7, 0x0d, 0x01, 0x01, 0x09];
     /// rsaEncryption.
-    pub const RSA_ENCRYPTION: Self = ObjectIdentifier(&[0x2a, 0x86, 0x48, 0x86, 0xf7, 0x0d, 0x01, 0x01, 0x01]);
+    RSA_ENCRYPTION = [0x2a, 0x86, 0x48, 0x86, 0xf7, 0x0d, 0x01, 0x01, 0x01];
     /// id-RSASSA-PSS.
-    pub const RSASSA_PSS: Self = ObjectIdentifier(&[0x2a, 0x86, 0x48, 0x86, 0xf7, 0x0d, 0x01, 0x01, 0x0a]);
+    RSASSA_PSS = [0x2a, 0x86, 0x48, 0x86, 0xf7, 0x0d, 0x01, 0x01, 0x0a];
     /// id-RSAES-OAEP.
-    pub const RSAES_OAEP: Self = ObjectIdentifier(&[0x2a, 0x86, 0x48, 0x86, 0xf7, 0x0d, 0x01, 0x01, 0x07]);
+    RSAES_OAEP = [0x2a, 0x86, 0x48, 0x86, 0xf7, 0x0d, 0x01, 0x01, 0x07];
 }
 
 impl<'a> ObjectIdentifier<'a> {
@@ -40,11 +56,13 @@ impl<'a> ObjectIdentifier<'a> {
     /// assert_eq!(sha_1.as_bytes().len(), 5);
     /// assert_eq!(PssParams::new(ObjectIdentifier::new(&[0x80]), 20).to_der(), Err(Error::OID_MALFORMED));
     /// ```
+    #[must_use]
     pub const fn new(contents: &'a [u8]) -> ObjectIdentifier<'a> {
         ObjectIdentifier(contents)
     }
 
     /// The contents octets.
+    #[must_use]
     pub const fn as_bytes(&self) -> &'a [u8] {
         self.0
     }
@@ -59,13 +77,16 @@ impl AsRef<[u8]> for ObjectIdentifier<'_> {
 impl fmt::Debug for ObjectIdentifier<'_> {
     fn fmt(&self, f: &mut fmt::Formatter<'_>) -> fmt::Result {
         f.write_str("ObjectIdentifier(")?;
-        self.as_bytes().iter().try_for_each(|octet| write!(f, "{octet:02x}"))?;
+        match NAMED.iter().find(|(oid, _)| oid == self) {
+            Some((_, name)) => f.write_str(name)?,
+            None => digits(self.as_bytes(), f)?,
+        }
         f.write_str(")")
     }
 }
 
-/// A value of any type: its tag octet, and its contents, which aren't checked.
-#[derive(Clone, Copy, Debug, PartialEq, Eq, Hash)]
+/// A value of any type: its tag octet, and its contents, which aren't checked. `Debug` shortens long contents.
+#[derive(Clone, Copy, PartialEq, Eq, Hash)]
 pub struct Any<'a> {
     /// The tag octet.
     pub tag: u8,
@@ -82,8 +103,18 @@ impl<'a> Any<'a> {
     /// ```
     /// assert_eq!(pkcs1_proved::Any::octet_string(b"label").tag, 0x04);
     /// ```
+    #[must_use]
     pub const fn octet_string(value: &'a [u8]) -> Any<'a> {
         Any { tag: 0x04, value }
+    }
+}
+
+impl fmt::Debug for Any<'_> {
+    fn fmt(&self, f: &mut fmt::Formatter<'_>) -> fmt::Result {
+        f.debug_struct("Any")
+            .field("tag", &format_args!("0x{:02x}", self.tag))
+            .field("value", &Hexadecimal(self.value))
+            .finish()
     }
 }
 
@@ -105,6 +136,7 @@ impl<'a> Algorithm<'a> {
     /// let sha_256 = Algorithm::with_null(ObjectIdentifier::SHA_256);
     /// assert_eq!(sha_256.parameters, Some(Any::NULL));
     /// ```
+    #[must_use]
     pub const fn with_null(oid: ObjectIdentifier<'a>) -> Algorithm<'a> {
         Algorithm { oid, parameters: Some(Any::NULL) }
     }
@@ -115,12 +147,14 @@ impl<'a> Algorithm<'a> {
     /// ```
     /// use pkcs1_proved::{Algorithm, ObjectIdentifier};
     ///
-    /// let (null, none) = (Algorithm::with_null(ObjectIdentifier::SHA_256), Algorithm { oid: ObjectIdentifier::SHA_256, parameters: None });
-    /// assert!(null.is(ObjectIdentifier::SHA_256) && none.is(ObjectIdentifier::SHA_256) && null != none);
+    /// let oid = ObjectIdentifier::SHA_256;
+    /// let (null, none) = (Algorithm::with_null(oid), Algorithm { oid, parameters: None });
+    /// assert!(null.is(oid) && none.is(oid) && null != none);
     /// assert!(!null.is(ObjectIdentifier::SHA_512));
     /// ```
+    #[must_use]
     pub fn is(&self, oid: ObjectIdentifier<'_>) -> bool {
-        raw::algorithm_is(&self.raw(), oid.0)
+        self.raw().is(oid.0)
     }
 
     pub(crate) fn seen(raw: &raw::Algorithm<'a>) -> Algorithm<'a> {
@@ -153,6 +187,7 @@ impl<'a> MaskGen<'a> {
     /// let mask_gen = MaskGen::mgf1(Algorithm::with_null(ObjectIdentifier::SHA_256));
     /// assert_eq!(PssParams::new(ObjectIdentifier::SHA_256, 32).mask_gen, mask_gen);
     /// ```
+    #[must_use]
     pub const fn mgf1(hash: Algorithm<'a>) -> MaskGen<'a> {
         MaskGen { oid: ObjectIdentifier::MGF1, hash: Some(hash) }
     }

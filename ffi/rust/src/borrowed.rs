@@ -3,8 +3,10 @@
 
 macro_rules! borrowed {
     ($($name:ident: $value:literal;)*) => {
-        $(#[doc = concat!("```no_run\nuse pkcs1_proved::*;\nlet der = vec![0x30];\nlet kept = ", $value, ";\ndrop(kept);\n```")]
-        #[doc = concat!("```compile_fail,E0597\nuse pkcs1_proved::*;\nlet kept = { let der = vec![0x30]; ", $value, " };\ndrop(kept);\n```")]
+        $(#[doc = concat!("```no_run\nuse pkcs1_proved::*;\nlet der = vec![0x30];\nlet kept = ", $value,
+            ";\ndrop(kept);\n```")]
+        #[doc = concat!("```compile_fail,E0597\nuse pkcs1_proved::*;\nlet kept = { let der = vec![0x30]; ", $value,
+            " };\ndrop(kept);\n```")]
         struct $name;)*
     };
 }
@@ -32,6 +34,7 @@ borrowed! {
     OaepParameters: "OaepParams::from_der(&der).unwrap()";
     StrictOaepParameters: "OaepParams::from_der_strict(&der).unwrap()";
     OaepParametersFromASlice: "OaepParams::try_from(&der[..]).unwrap()";
+    ALabel: "OaepParams::from_der(&der).unwrap().label()";
     OaepParametersForALabel: "OaepParams::new_with_label(ObjectIdentifier::SHA_1, &der)";
     AnIdentifier: "PssParams::from_der(&der).unwrap().hash.oid";
     OctetsOfAnIdentifier: "PssParams::from_der(&der).unwrap().mask_gen.oid.as_bytes()";
@@ -43,27 +46,23 @@ borrowed! {
     AnOctetString: "Any::octet_string(&der)";
 }
 
-/// What an owned key gives borrows from it.
-///
-/// ```no_run
-/// use pkcs1_proved::*;
-/// let (public, private) = (PublicKeyBuf::from_der(vec![]).unwrap(), PrivateKeyBuf::from_der(vec![]).unwrap());
-/// let kept = (public.key(), public.as_der(), private.key(), private.public_key(), private.as_der());
-/// drop(kept);
-/// ```
-/// ```compile_fail,E0597
-/// let kept = { let owned = pkcs1_proved::PublicKeyBuf::from_der(vec![]).unwrap(); owned.key() };
-/// drop(kept);
-/// ```
-/// ```compile_fail,E0597
-/// let kept = { let owned = pkcs1_proved::PrivateKeyBuf::from_der(vec![]).unwrap(); owned.key() };
-/// drop(kept);
-/// ```
-/// ```compile_fail,E0597
-/// let kept = { let owned = pkcs1_proved::PrivateKeyBuf::from_der(vec![]).unwrap(); owned.public_key() };
-/// drop(kept);
-/// ```
-struct AKeyOfAnOwnedKey;
+macro_rules! lent {
+    ($($name:ident: $type:literal $call:literal;)*) => {
+        $(#[doc = concat!("```no_run\nlet owned = pkcs1_proved::", $type, "::from_der(vec![]).unwrap();\n",
+            "let kept = owned.", $call, ";\ndrop(kept);\n```")]
+        #[doc = concat!("```compile_fail,E0597\nlet kept = { let owned = pkcs1_proved::", $type,
+            "::from_der(vec![]).unwrap(); owned.", $call, " };\ndrop(kept);\n```")]
+        struct $name;)*
+    };
+}
+lent! {
+    APublicKeyOfAnOwnedOne: "PublicKeyBuf" "key()";
+    APrivateKeyOfAnOwnedOne: "PrivateKeyBuf" "key()";
+    APublicHalfOfAnOwnedKey: "PrivateKeyBuf" "public_key()";
+    TheDerOfAnOwnedKey: "PrivateKeyBuf" "as_der()";
+    PssParametersOfOwnedOnes: "PssParamsBuf" "params()";
+    OaepParametersOfOwnedOnes: "OaepParamsBuf" "params()";
+}
 
 macro_rules! incomparable {
     ($($name:ident: $type:literal;)*) => {
@@ -77,4 +76,5 @@ incomparable! {
     OtherPrimes: "pkcs1_proved::OtherPrime<'_>";
     Containers: "pkcs1_proved::PrivateKeyInfo<'_>";
     OwnedPrivateKeys: "pkcs1_proved::PrivateKeyBuf";
+    OctetsGivenBack: "pkcs1_proved::FromDerError";
 }

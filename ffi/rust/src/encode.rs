@@ -53,17 +53,25 @@ macro_rules! encodings {
             /// The length of the DER.
             ///
             #[doc = example!($value, "assert_eq!(value.encoded_len()?, value.to_der()?.len());")]
+            ///
+            /// # Errors
+            ///
+            /// A field can't be encoded, the DER would pass 4294967295 octets, or there is no memory.
             pub fn encoded_len(&self) -> Result<usize, $crate::Error> {
                 $crate::encode::Writes::with_raw(self, |raw| $crate::encode::len_of(raw))
             }
 
-            /// Writes the DER to the front of `out`, and returns it. The rest of `out` is unchanged, and all of it after
-            /// an error.
+            /// Writes the DER to the front of `out`, and returns it. The rest of `out` is unchanged, and all of it
+            /// after an error.
             ///
             #[doc = example!($value,
                 "let mut out = [0; 2048];"
                 "assert_eq!(value.encode_to_slice(&mut out)?, value.to_der()?);"
                 "assert_eq!(value.encode_to_slice(&mut []), Err(Error::NO_ROOM));")]
+            ///
+            /// # Errors
+            ///
+            /// Those of `encoded_len`, and `Error::NO_ROOM` if `out` is too short.
             pub fn encode_to_slice<'o>(&self, out: &'o mut [u8]) -> Result<&'o [u8], $crate::Error> {
                 $crate::encode::Writes::with_raw(self, |raw| $crate::encode::into_slice(raw, out))
             }
@@ -71,6 +79,10 @@ macro_rules! encodings {
             /// The DER.
             ///
             #[doc = example!($value, "assert_eq!(value.to_der()?[0], 0x30);")]
+            ///
+            /// # Errors
+            ///
+            /// Those of `encoded_len`.
             pub fn to_der(&self) -> Result<Vec<u8>, $crate::Error> {
                 $crate::encode::Writes::with_raw(self, |raw| $crate::encode::into_vec(raw))
             }

@@ -35,7 +35,8 @@ errors! {
     NONCANONICAL = 5;
     /// An identifier that is empty, cut off, not in shortest form, or of more than 39 octets.
     OID_MALFORMED = 6;
-    /// PKCS #8 with a key that isn't RSA, or an RSA key under id-RSASSA-PSS (RSA-PSS); an identifier of another algorithm.
+    /// PKCS #8 with a key that isn't RSA, or an RSA key under id-RSASSA-PSS (RSA-PSS); an identifier of another
+    /// algorithm.
     OID_UNKNOWN = 7;
     /// A length above 4294967295.
     OVERFLOW = 8;
@@ -47,7 +48,7 @@ errors! {
     TAG_UNEXPECTED = 11;
     /// Not DER of these types: a tag octet that none of them has.
     TAG_UNKNOWN = 12;
-    /// Octets follow the value, or a field that the type doesn't have there.
+    /// Octets follow the value, or a field that it doesn't have: a private key read as a public one, perhaps.
     TRAILING_DATA = 13;
     /// A negative number; a version, salt length, trailer field or NULL that isn't allowed.
     VALUE = 14;
@@ -71,6 +72,7 @@ impl Error {
     /// ```
     /// assert_eq!(pkcs1_proved::Error::TRAILING_DATA.status(), 13);
     /// ```
+    #[must_use]
     pub const fn status(self) -> u32 {
         self.0
     }

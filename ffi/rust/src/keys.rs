@@ -1,11 +1,12 @@
 use crate::encode::{collected, Writes};
+use crate::hexadecimal::Hexadecimal;
 use crate::raw::{self, Bytes, Encode};
 use crate::Error;
 use std::fmt;
 
 /// A public key (RFC 8017 A.1.1). The numbers are unsigned, most significant octet first. Decoding gives no leading
-/// zeros; encoding accepts them. Equality compares the octets.
-#[derive(Clone, Copy, Debug, PartialEq, Eq, Hash)]
+/// zeros; encoding accepts them. Equality compares the octets. `Debug` shortens long numbers.
+#[derive(Clone, Copy, PartialEq, Eq, Hash)]
 pub struct PublicKey<'a> {
     /// n.
     pub modulus: &'a [u8],
@@ -24,9 +25,22 @@ impl<'a> PublicKey<'a> {
     /// assert_eq!((key.modulus.len(), key.public_exponent), (256, &[1, 0, 1][..]));
     /// # Ok::<(), Box<dyn std::error::Error>>(())
     /// ```
+    ///
+    /// # Errors
+    ///
+    /// The slice isn't one whole encoding of a public key.
     pub fn from_der(der: &'a [u8]) -> Result<PublicKey<'a>, Error> {
-        let key = raw::public_key(der)?;
+        let key = raw::PublicKey::decode(der)?;
         Ok(PublicKey { modulus: key.modulus.get(), public_exponent: key.public_exponent.get() })
+    }
+}
+
+impl fmt::Debug for PublicKey<'_> {
+    fn fmt(&self, f: &mut fmt::Formatter<'_>) -> fmt::Result {
+        f.debug_struct("PublicKey")
+            .field("modulus", &Hexadecimal(self.modulus))
+            .field("public_exponent", &Hexadecimal(self.public_exponent))
+            .finish()
     }
 }
 
@@ -53,7 +67,11 @@ impl<'a> OtherPrime<'a> {
     }
 
     fn raw(&self) -> raw::OtherPrime<'a> {
-        raw::OtherPrime { prime: Bytes::new(self.prime), exponent: Bytes::new(self.exponent), coefficient: Bytes::new(self.coefficient) }
+        raw::OtherPrime {
+            prime: Bytes::new(self.prime),
+            exponent: Bytes::new(self.exponent),
+            coefficient: Bytes::new(self.coefficient),
+        }
     }
 }
 
@@ -98,6 +116,10 @@ impl<'a> PrivateKey<'a> {
     /// assert_eq!((key.modulus.len(), key.other_primes.len()), (256, 1));
     /// # Ok::<(), Box<dyn std::error::Error>>(())
     /// ```
+    ///
+    /// # Errors
+    ///
+    /// The slice isn't one whole encoding of a private key, or `Error::OUT_OF_MEMORY` for one of more than two primes.
     pub fn from_der(der: &'a [u8]) -> Result<PrivateKey<'a>, Error> {
         let key = raw::private_key(der, &mut [])?;
         PrivateKey::seen(der, &key)
@@ -139,6 +161,7 @@ impl<'a> PrivateKey<'a> {
     /// assert_eq!(public, std::fs::read("tests/keys/pub2.der")?);
     /// # Ok::<(), Box<dyn std::error::Error>>(())
     /// ```
+    #[must_use]
     pub fn public_key(&self) -> PublicKey<'a> {
         PublicKey { modulus: self.modulus, public_exponent: self.public_exponent }
     }
@@ -153,8 +176,8 @@ impl<'a> From<&PrivateKey<'a>> for PublicKey<'a> {
 impl fmt::Debug for PrivateKey<'_> {
     fn fmt(&self, f: &mut fmt::Formatter<'_>) -> fmt::Result {
         f.debug_struct("PrivateKey")
-            .field("modulus", &self.modulus)
-            .field("public_exponent", &self.public_exponent)
+            .field("modulus", &Hexadecimal(self.modulus))
+            .field("public_exponent", &Hexadecimal(self.public_exponent))
             .finish_non_exhaustive()
     }
 }

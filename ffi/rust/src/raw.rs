@@ -115,24 +115,26 @@ macro_rules! decoders {
         unsafe extern "C" {
             $(fn $call<'a>(der: *const u8, len: usize, value: &mut $type<'a>) -> u32;)*
         }
-        $(pub fn $name<'a>(der: &'a [u8]) -> Result<$type<'a>, Error> {
-            let mut value = $type::<'a>::default();
-            // SAFETY: pointer and length of one slice, which lives as long as the result.
-            let status = unsafe { $call(der.as_ptr(), der.len(), &mut value) };
-            answer(status, value)
+        $(impl<'a> $type<'a> {
+            pub fn $name(der: &'a [u8]) -> Result<$type<'a>, Error> {
+                let mut value = $type::default();
+                // SAFETY: pointer and length of one slice, which lives as long as the result.
+                let status = unsafe { $call(der.as_ptr(), der.len(), &mut value) };
+                answer(status, value)
+            }
         })*
     };
 }
 decoders! {
-    public_key calls pkcs1_c_public_key_decode -> PublicKey;
-    pss_params calls pkcs1_c_pss_params_decode -> PssParams;
-    pss_params_strict calls pkcs1_c_pss_params_decode_strict -> PssParams;
-    oaep_params calls pkcs1_c_oaep_params_decode -> OaepParams;
-    oaep_params_strict calls pkcs1_c_oaep_params_decode_strict -> OaepParams;
-    pss_algorithm calls pkcs1_c_pss_algorithm_decode -> PssAlgorithm;
-    pss_algorithm_strict calls pkcs1_c_pss_algorithm_decode_strict -> PssAlgorithm;
-    oaep_algorithm calls pkcs1_c_oaep_algorithm_decode -> OaepAlgorithm;
-    oaep_algorithm_strict calls pkcs1_c_oaep_algorithm_decode_strict -> OaepAlgorithm;
+    decode calls pkcs1_c_public_key_decode -> PublicKey;
+    decode calls pkcs1_c_pss_params_decode -> PssParams;
+    decode_strict calls pkcs1_c_pss_params_decode_strict -> PssParams;
+    decode calls pkcs1_c_oaep_params_decode -> OaepParams;
+    decode_strict calls pkcs1_c_oaep_params_decode_strict -> OaepParams;
+    decode calls pkcs1_c_pss_algorithm_decode -> PssAlgorithm;
+    decode_strict calls pkcs1_c_pss_algorithm_decode_strict -> PssAlgorithm;
+    decode calls pkcs1_c_oaep_algorithm_decode -> OaepAlgorithm;
+    decode_strict calls pkcs1_c_oaep_algorithm_decode_strict -> OaepAlgorithm;
 }
 
 /// A struct that the library encodes: `out` gets the DER, and `len` its length or, if there is no room, the length
@@ -164,10 +166,33 @@ encoders! {
 }
 
 unsafe extern "C" {
-    fn pkcs1_c_private_key_decode<'a>(der: *const u8, len: usize, key: &mut PrivateKey<'a>, others: *mut OtherPrime<'a>, room: usize) -> u32;
-    fn pkcs1_c_private_key_encode(key: &PrivateKey<'_>, others: *const OtherPrime<'_>, others_len: usize, out: *mut u8, room: usize, len: &mut usize) -> u32;
-    fn pkcs1_c_private_key_info_decode<'a>(der: *const u8, len: usize, info: &mut PrivateKeyInfo<'a>, key: &mut PrivateKey<'a>, others: *mut OtherPrime<'a>, room: usize) -> u32;
+    fn pkcs1_c_private_key_decode<'a>(
+        der: *const u8,
+        len: usize,
+        key: &mut PrivateKey<'a>,
+        others: *mut OtherPrime<'a>,
+        room: usize,
+    ) -> u32;
+    fn pkcs1_c_private_key_encode(
+        key: &PrivateKey<'_>,
+        others: *const OtherPrime<'_>,
+        others_len: usize,
+        out: *mut u8,
+        room: usize,
+        len: &mut usize,
+    ) -> u32;
+    fn pkcs1_c_private_key_info_decode<'a>(
+        der: *const u8,
+        len: usize,
+        info: &mut PrivateKeyInfo<'a>,
+        key: &mut PrivateKey<'a>,
+        others: *mut OtherPrime<'a>,
+        room: usize,
+    ) -> u32;
     fn pkcs1_c_algorithm_is(algorithm: &Algorithm<'_>, oid: *const u8, oid_len: usize) -> bool;
+    fn pkcs1_c_pss_is(params: &PssParams<'_>, oid: *const u8, oid_len: usize) -> bool;
+    fn pkcs1_c_oaep_is(params: &OaepParams<'_>, oid: *const u8, oid_len: usize) -> bool;
+    safe fn pkcs1_c_oaep_label<'a>(params: &OaepParams<'a>, label: &mut Bytes<'a>) -> bool;
     safe fn pkcs1_c_status_text(status: u32, text: &mut Bytes<'static>);
     safe fn pkcs1_c_version(text: &mut Bytes<'static>);
 }
@@ -176,7 +201,8 @@ unsafe extern "C" {
 pub fn private_key<'a>(der: &'a [u8], others: &mut [OtherPrime<'a>]) -> Result<PrivateKey<'a>, Error> {
     let mut key = PrivateKey::default();
     // SAFETY: pointers and lengths of slices, the first of which lives as long as the result.
-    let status = unsafe { pkcs1_c_private_key_decode(der.as_ptr(), der.len(), &mut key, others.as_mut_ptr(), others.len()) };
+    let status =
+        unsafe { pkcs1_c_private_key_decode(der.as_ptr(), der.len(), &mut key, others.as_mut_ptr(), others.len()) };
     answer(status, key)
 }
 
@@ -185,7 +211,9 @@ pub fn private_key_info<'a>(der: &'a [u8]) -> Result<(PrivateKeyInfo<'a>, Privat
     let (mut info, mut key) = (PrivateKeyInfo::default(), PrivateKey::default());
     let others: &mut [OtherPrime<'a>] = &mut [];
     // SAFETY: as above.
-    let status = unsafe { pkcs1_c_private_key_info_decode(der.as_ptr(), der.len(), &mut info, &mut key, others.as_mut_ptr(), others.len()) };
+    let status = unsafe {
+        pkcs1_c_private_key_info_decode(der.as_ptr(), der.len(), &mut info, &mut key, others.as_mut_ptr(), others.len())
+    };
     answer(status, (info, key))
 }
 
@@ -193,15 +221,33 @@ impl Encode for (PrivateKey<'_>, &[OtherPrime<'_>]) {
     fn encode(&self, out: &mut [u8], len: &mut usize) -> Result<(), Error> {
         let (key, others) = self;
         // SAFETY: the structs hold slices; pointers and lengths of slices.
-        let status = unsafe { pkcs1_c_private_key_encode(key, others.as_ptr(), others.len(), out.as_mut_ptr(), out.len(), len) };
+        let status =
+            unsafe { pkcs1_c_private_key_encode(key, others.as_ptr(), others.len(), out.as_mut_ptr(), out.len(), len) };
         answer(status, ())
     }
 }
 
-/// Whether it is the hash function with this identifier.
-pub fn algorithm_is(algorithm: &Algorithm<'_>, oid: &[u8]) -> bool {
-    // SAFETY: the struct holds slices; pointer and length of one slice.
-    unsafe { pkcs1_c_algorithm_is(algorithm, oid.as_ptr(), oid.len()) }
+macro_rules! questions {
+    ($($type:ident asks $call:ident;)*) => {
+        $(impl $type<'_> {
+            /// Whether it is the hash function with this identifier, or uses it throughout.
+            pub fn is(&self, oid: &[u8]) -> bool {
+                // SAFETY: the struct holds slices; pointer and length of one slice.
+                unsafe { $call(self, oid.as_ptr(), oid.len()) }
+            }
+        })*
+    };
+}
+questions! {
+    Algorithm asks pkcs1_c_algorithm_is;
+    PssParams asks pkcs1_c_pss_is;
+    OaepParams asks pkcs1_c_oaep_is;
+}
+
+/// The label, if the source is one.
+pub fn oaep_label<'a>(params: &OaepParams<'a>) -> Option<&'a [u8]> {
+    let mut label = Bytes::default();
+    pkcs1_c_oaep_label(params, &mut label).then(|| label.get())
 }
 
 /// The description of a status.

@@ -58,11 +58,18 @@ fn out_of_memory_is_reported() {
     assert_eq!(requests(|| PrivateKey::from_der(two)), 0);
     assert_eq!(requests(|| key.encode_to_slice(&mut [0; 2000]).map(<[u8]>::len)), 0);
     assert_eq!(requests(|| key.to_der()), 1);
-    assert_eq!(requests(|| PssParams::new(ObjectIdentifier::SHA_256, 32).encode_to_slice(&mut [0; 99]).map(<[u8]>::len)), 0);
+    assert_eq!(
+        requests(|| PssParams::new(ObjectIdentifier::SHA_256, 32).encode_to_slice(&mut [0; 99]).map(<[u8]>::len)),
+        0
+    );
     assert_eq!(requests(|| OaepParams::default().encoded_len()), 0);
+    assert_eq!(requests(|| OaepParams::default().to_buf()), 1);
+    assert_eq!(requests(|| OaepParams::default().to_algorithm_der()), 1);
+    assert_eq!(requests(|| key.to_buf()), 1);
     assert_eq!(requests(|| PrivateKey::from_der(three)), 2);
     assert_eq!(requests(|| PrivateKeyInfo::from_der(p8)), 2);
-    let (owned, long_owned) = (PrivateKeyBuf::from_der(two.to_vec()).unwrap(), PrivateKeyBuf::from_der(three.to_vec()).unwrap());
+    let (owned, long_owned) =
+        (PrivateKeyBuf::from_der(two.to_vec()).unwrap(), PrivateKeyBuf::from_der(three.to_vec()).unwrap());
     assert_eq!(requests(|| owned.key()), 0);
     assert_eq!(requests(|| long_owned.key()), 2);
     assert_eq!(requests(|| Ok(long_owned.public_key())), 0);

@@ -10,21 +10,33 @@ macro_rules! file {
 
 /// The numbers that OpenSSL printed, one in each line.
 fn printed(lines: &str) -> Vec<Vec<u8>> {
-    let octets = |line: &str| (0..line.len()).step_by(2).map(|at| u8::from_str_radix(&line[at..at + 2], 16).unwrap()).collect();
+    let octets =
+        |line: &str| (0..line.len()).step_by(2).map(|at| u8::from_str_radix(&line[at..at + 2], 16).unwrap()).collect();
     lines.lines().map(octets).collect()
 }
 
 fn numbers<'a>(key: &PrivateKey<'a>) -> Vec<&'a [u8]> {
     let others = key.other_primes.iter().flat_map(|other| [other.prime, other.exponent, other.coefficient]);
-    [key.modulus, key.public_exponent, key.private_exponent, key.prime1, key.prime2, key.exponent1, key.exponent2, key.coefficient]
-        .into_iter()
-        .chain(others)
-        .collect()
+    [
+        key.modulus,
+        key.public_exponent,
+        key.private_exponent,
+        key.prime1,
+        key.prime2,
+        key.exponent1,
+        key.exponent2,
+        key.coefficient,
+    ]
+    .into_iter()
+    .chain(others)
+    .collect()
 }
 
 #[test]
 fn public_keys() {
-    for (der, lines) in [(file!("pub2.der"), include_str!("keys/pub2.numbers")), (file!("pub3.der"), include_str!("keys/pub3.numbers"))] {
+    for (der, lines) in
+        [(file!("pub2.der"), include_str!("keys/pub2.numbers")), (file!("pub3.der"), include_str!("keys/pub3.numbers"))]
+    {
         let key = PublicKey::from_der(der).unwrap();
         assert_eq!([key.modulus, key.public_exponent], *printed(lines));
         assert_eq!((key.modulus.len(), key.to_der().unwrap()), (256, der.to_vec()));
@@ -64,7 +76,11 @@ fn parameters() {
     // OpenSSL writes the hash function of OAEP without parameters.
     let oaep = file!("oaep_sha512.der");
     let hash = Algorithm { oid: ObjectIdentifier::SHA_512, parameters: None };
-    let want = OaepParams { hash, mask_gen: MaskGen::mgf1(hash), ..OaepParams::new_with_label(ObjectIdentifier::SHA_512, b"label") };
+    let want = OaepParams {
+        hash,
+        mask_gen: MaskGen::mgf1(hash),
+        ..OaepParams::new_with_label(ObjectIdentifier::SHA_512, b"label")
+    };
     assert_eq!(OaepParams::from_der(oaep), Ok(want));
     assert_eq!(OaepParams::from_der_strict(oaep).unwrap().to_der().unwrap(), oaep);
 }
@@ -90,14 +106,16 @@ fn a_private_key_in_parts_of_a_changed_file() {
 #[test]
 fn what_is_no_such_key() {
     let errors = |der: &[u8]| {
-        [PublicKey::from_der(der).err(), PrivateKey::from_der(der).err(), PrivateKeyInfo::from_der(der).err()].map(Option::unwrap)
+        [PublicKey::from_der(der).err(), PrivateKey::from_der(der).err(), PrivateKeyInfo::from_der(der).err()]
+            .map(Option::unwrap)
     };
     assert_eq!(errors(file!("pub.pem")), [Error::TAG_UNEXPECTED; 3]);
     assert_eq!(errors(file!("spki.der")), [Error::TAG_UNEXPECTED; 3]);
     assert_eq!(errors(file!("encrypted.der")), [Error::TAG_UNEXPECTED; 3]);
     assert_eq!(errors(file!("ed25519.der"))[2], Error::OID_UNKNOWN);
     assert_eq!(PublicKey::from_der(file!("priv2.der")), Err(Error::TRAILING_DATA));
-    assert_eq!(PrivateKey::from_der(file!("pub2.der")).unwrap_err(), Error::VALUE); // the modulus stands where the version does
+    // The modulus of a public key stands where the version of a private one does.
+    assert_eq!(PrivateKey::from_der(file!("pub2.der")).unwrap_err(), Error::VALUE);
     assert_eq!(PrivateKey::from_der(file!("p8_2.der")).unwrap_err(), Error::TAG_UNEXPECTED);
     assert_eq!(PrivateKeyInfo::from_der(file!("priv2.der")).unwrap_err(), Error::TAG_UNEXPECTED);
 }
