@@ -1,11 +1,18 @@
 #!/usr/bin/env bash
 # Builds libpkcs1 for callers in C and in Rust; usage says how. It needs rt, gcc and binutils, for the tests g++ and
 # cargo too; test.sh reports what else it could use and doesn't find. No network. .ci/run calls it after rt ci, with
-# --over-ci.
+# --over-ci, which needs all of that too.
 set -eu
-usage="usage: ffi/build.sh                  builds libpkcs1 into ffi/out, and runs its tests
-       ffi/build.sh --over-ci        the same behind rt ci, over the libraries that it proved
-       ffi/build.sh install PREFIX   builds it, and installs it below PREFIX (below DESTDIR too, where that is set)"
+usage="usage: ffi/build.sh                      builds libpkcs1 into ffi/out, and runs its tests
+       ffi/build.sh --over-ci            the same behind rt ci, over the libraries that it proved
+       ffi/build.sh --tools              whether all is installed that --over-ci needs
+       ffi/build.sh install PREFIX       builds it, and installs it below PREFIX; pkcs1_tool with its man page too, if
+                                         rt run built it in crates/pkcs1_tool
+       ffi/build.sh uninstall PREFIX     removes what install put there
+       UNPROVED=FOLDER ffi/build.sh install-unproved PREFIX
+                                         installs the library in FOLDER, whose libpkcs1_c.a isn't proved
+   DESTDIR, LIBDIR: a folder to install below, and the libraries' folder in place of PREFIX/lib
+   CC, CFLAGS, LDFLAGS: the compiler, its options, and those for linking libpkcs1.so"
 here=$(cd "$(dirname "$0")" && pwd)
 crate=$here/../crates/pkcs1_c
 out=${UNPROVED:-$here/out} # UNPROVED: a folder with a libpkcs1_c.a that is only to be tested
@@ -17,12 +24,13 @@ prefix=
 case "$#:${1-}" in
     0:) ;;
     1:--over-ci) action=over-ci ;;
+    1:--tools) action=tools ;;
     1:-h | 1:--help)
         printf '%s\n' "$usage"
         exit 0
         ;;
-    2:install)
-        action=install
+    2:install | 2:uninstall | 2:install-unproved)
+        action=$1
         prefix=$2
         ;;
     *)
@@ -39,37 +47,67 @@ stop() {
     exit 1
 }
 
+version=$(sed -n 's/^#define PKCS1_VERSION_[A-Z]* //p' "$here/include/pkcs1.h" | paste -s -d .)
+case $action in
+    *install*) case $prefix in
+        /*) ;;
+        '') stop "PREFIX is empty" ;;
+        *) prefix=$PWD/$prefix ;;
+    esac ;;
+esac
+case ${LIBDIR-} in '' | /*) ;; *) LIBDIR=$PWD/$LIBDIR ;; esac
+case $action:${UNPROVED:+unproved} in
+    uninstall:*) exec "$here/install.sh" remove "$prefix" "$version" ;;
+    install:unproved) stop "UNPROVED is set: its library isn't proved, and only install-unproved installs it" ;;
+    install-unproved:) stop "UNPROVED isn't set to the folder of a library" ;;
+esac
+
 tools=(rt "$CC" ar ld nm objcopy)
-[ "$action" = install ] || tools+=("$CXX" cargo)
+case $action in
+    test) tools+=("$CXX" cargo) ;;
+    over-ci | tools) tools+=("$CXX" cargo cargo-clippy rustfmt clang clang++ valgrind pkg-config openssl) ;;
+esac
 for tool in "${tools[@]}"; do
     command -v "$tool" > /dev/null || stop "$tool isn't installed, and is needed"
 done
+[ "$action" != tools ] || exit 0
 mkdir -p "$out"
 kit=$(dirname "$(rt doc)")
 
-# The hash of all that the proved library is made of.
+# The hash of all that the proved library is made of, and of how it is made.
 inputs() {
     {
         rt version
         cd "$here/.."
-        cat crates.txt
+        cat crates.txt ffi/build.sh
         for name in der_core spki_core pkcs1_params pkcs1 pkcs8_core pkcs1_c; do
             find "crates/$name/src" "crates/$name/specs" "crates/$name/proofs" -type f
         done | LC_ALL=C sort | tr '\n' '\0' | xargs -0 sha256sum
     } | sha256sum
 }
 
-# After rt ci, which proved and kept the libraries below, only this crate is proved again: rt ci builds no static
-# library, and rt lib would prove them all.
-build_over_ci() {
+# A toolchain whose clang also writes down how to go back from each call, for debuggers. No instruction changes.
+make_toolchain() {
+    rm -rf "$out/toolchain"
+    mkdir -p "$out/toolchain/bin"
+    ln -s "$kit/toolchain/lib" "$out/toolchain"
+    ln -s "$kit"/toolchain/bin/* "$out/toolchain/bin"
+    rm "$out/toolchain/bin/clang"
+    printf '#!/bin/sh\nexec "%s" -fforce-dwarf-frame "$@"\n' "$kit/toolchain/bin/clang" > "$out/toolchain/bin/clang"
+    chmod +x "$out/toolchain/bin/clang"
+}
+# build_over WORD..: proves this crate again and builds it, over libraries that rt ci or rt lib proved and kept: rt ci
+# builds no static library, and rt lib takes no other toolchain.
+build_over() {
     local words=(--extern "std=$kit/rlibs/std.rlib" -L "dependency=$kit/rlibs") name
     for name in der_core spki_core pkcs1_params pkcs1 pkcs8_core; do
         words+=(--extern "$name=$here/../crates/$name/out/rlib/$name.rlib" -L "dependency=$here/../crates/$name/out/rlib")
     done
     mkdir -p out
+    make_toolchain
     "$kit/bin/rattle" build --crate-name pkcs1_c --crate-type staticlib src/lib.rt "${words[@]}" --jobs 2 \
         --antt-project "$kit/rattle/logic/antt-project.json" --logic-built "$kit/logic_built" \
-        --toolchain "$kit/toolchain" -o out/libpkcs1_c.a
+        --toolchain "$out/toolchain" "$@" -o out/libpkcs1_c.a
 }
 prove() {
     (cd "$crate" && "$@" > "$out/rt.log" 2>&1) || {
@@ -89,7 +127,12 @@ build_library() {
     fi
     rm -f "$out/stamp"
     say "proving and building the library, and the first time all below it, which takes 10 minutes and more; ffi/out/rt.log tells how far it is"
-    if [ "$action" = over-ci ]; then prove build_over_ci; else prove rt lib; fi
+    if [ "$action" = over-ci ]; then
+        prove build_over
+    else
+        prove rt lib
+        prove build_over --incremental out/incremental # what rt lib has proved
+    fi
     printf '%s\n' "$made $(sha256sum < "$library")" > "$out/stamp"
     say "proved and built, after $SECONDS seconds"
 }
@@ -98,18 +141,18 @@ build_library() {
 # only what the headers declare is global.
 link_library() {
     local headers=("$here/include/pkcs1.h" "$here/include/pkcs1_c.h") exports
-    version=$(sed -n 's/^#define PKCS1_VERSION_[A-Z]* //p' "$here/include/pkcs1.h" | paste -s -d .)
     grep -oh 'pkcs1_[a-z0-9_]*(' "${headers[@]}" | tr -d '(' > "$out/declared.names"
     grep -h '^extern const' "${headers[@]}" | grep -o 'pkcs1_oid_[a-z0-9_]*' >> "$out/declared.names"
     LC_ALL=C sort -u "$out/declared.names" > "$out/declared"
     ld -r -o "$out/proved.o" --whole-archive "$library" "$kit/c/liblibc_c.a"
     objcopy --wildcard --keep-global-symbol='pkcs1_c_*' "$out/proved.o"
-    "$CC" -std=c99 -O2 -fPIC -Wall -Wextra -Werror -pedantic "-I$here/include" -c "$here/c/pkcs1.c" -o "$out/calls.o"
+    "$CC" -std=c99 -O2 ${CFLAGS-} -fPIC -Wall -Wextra -Werror -pedantic "-I$here/include" \
+        -c "$here/c/pkcs1.c" -o "$out/calls.o"
     ld -r -o "$out/pkcs1.o" "$out/proved.o" "$out/calls.o"
     objcopy --keep-global-symbols="$out/declared" "$out/pkcs1.o"
     rm -f "$out"/libpkcs1.*
     ar rcs "$out/libpkcs1.a" "$out/pkcs1.o"
-    "$CC" -shared -o "$out/libpkcs1.so.$version" -Wl,-soname,libpkcs1.so.0 "$out/pkcs1.o"
+    "$CC" -shared ${LDFLAGS-} -o "$out/libpkcs1.so.$version" -Wl,-soname,libpkcs1.so.0 "$out/pkcs1.o"
     ln -s "libpkcs1.so.$version" "$out/libpkcs1.so.0"
     ln -s libpkcs1.so.0 "$out/libpkcs1.so"
     nm -g --defined-only "$out/libpkcs1.a" | sed -n 's/^[0-9a-f]* [A-Z] //p' | LC_ALL=C sort > "$out/exports.a"
@@ -120,28 +163,17 @@ link_library() {
     say "ffi/out/libpkcs1.a and libpkcs1.so.$version"
 }
 
-install_library() {
-    local root=${DESTDIR-}$prefix
-    mkdir -p "$root/include" "$root/lib/pkgconfig"
-    cp "$here/include/pkcs1.h" "$here/include/pkcs1_c.h" "$root/include"
-    cp -P "$out/libpkcs1.a" "$out/libpkcs1.so.$version" "$out/libpkcs1.so.0" "$out/libpkcs1.so" "$root/lib"
-    sed "s/@version@/$version/" "$here/libpkcs1.pc.in" > "$root/lib/pkgconfig/libpkcs1.pc"
-    chmod 644 "$root"/include/pkcs1*.h "$root/lib/libpkcs1.a" "$root/lib/pkgconfig/libpkcs1.pc"
-    say "installed below $root: include/pkcs1.h, include/pkcs1_c.h, lib/libpkcs1.a, lib/libpkcs1.so.$version, lib/pkgconfig/libpkcs1.pc"
-}
-
-if [ "$action" = install ]; then
-    case $prefix in
-        /*) ;;
-        '') stop "PREFIX is empty" ;;
-        *) prefix=$PWD/$prefix ;;
-    esac
-fi
 build_library
 link_library
-if [ "$action" = install ]; then
-    install_library
-else
-    say "testing, half a minute"
-    "$here/test.sh"
-fi
+case $action in
+    install*)
+        tool=$here/../crates/pkcs1_tool/out/pkcs1_tool
+        [ -x "$tool" ] && [ "$action" = install ] || tool=
+        "$here/install.sh" add "$prefix" "$version${UNPROVED:+-unproved}" "$out" ${tool:+"$tool"}
+        say "installed below ${DESTDIR-}$prefix: libpkcs1${tool:+, pkcs1_tool and its man page}"
+        ;;
+    *)
+        say "testing, half a minute"
+        "$here/test.sh"
+        ;;
+esac

@@ -3,10 +3,6 @@
 # it again as the same bytes; those of all folders print the same numbers. The others do one thing each, which OpenSSL
 # does too. Called by test.sh.
 set -eu -o pipefail
-command -v openssl > /dev/null || {
-    echo "ffi/openssl.sh: openssl isn't installed: nothing was compared with it" >&2
-    exit 0
-}
 room=$(mktemp -d)
 trap 'rm -rf "$room"' EXIT
 count=0

@@ -9,6 +9,7 @@ statuses=$here/rust/tests/statuses
 CC=${CC:-gcc} CXX=${CXX:-g++}
 room=$(mktemp -d)
 trap 'rm -rf "$room"' EXIT
+ulimit -t 300 # no test runs forever
 
 stop() {
     printf 'ffi/test.sh: %s\n' "$*" >&2
@@ -30,10 +31,11 @@ for compiler in "$CXX" $clangxx; do
     "$room/header"
 done
 for compiler in $clang "$CC"; do
-    for name in test modulus read_key public_half open_container signature_algorithm; do
+    for name in test sizes modulus read_key public_half open_container signature_algorithm; do
         "$compiler" -std=c99 "${flags[@]}" "$here/c/$name.c" "$out/libpkcs1.a" -o "$room/$name"
     done
     "$room/test" "$statuses"
+    "$room/sizes"
 done
 "$CC" -std=c11 "${flags[@]}" -fsanitize=address,undefined -fno-sanitize-recover=all "$here/c/test.c" "$here/c/pkcs1.c" \
     "$out/proved.o" -o "$room/sanitized"
@@ -43,12 +45,14 @@ for name in calls proved; do
     objcopy --redefine-sym malloc=counted_malloc --redefine-sym realloc=counted_realloc \
         --redefine-sym calloc=counted_calloc "$out/$name.o" "$room/$name.o"
 done
-mapfile -t wraps < <(sed -n 's/^EACH(\([a-z0-9_]*\),/-Wl,--wrap=\1/p' "$here/c/passed.c")
+mapfile -t wraps < <(sed -nE 's/^(EACH|TEST)\(([a-z0-9_]*),/-Wl,--wrap=\2/p' "$here/c/passed.c")
 "$CC" -std=c11 "${flags[@]}" "$here/c/test.c" "$here/c/passed.c" "$room/calls.o" "$room/proved.o" "${wraps[@]}" \
-    -Wl,--wrap=pkcs1_c_algorithm_is -Wl,--wrap=pkcs1_private_key_encode -o "$room/passed"
+    -Wl,--wrap=pkcs1_private_key_encode -o "$room/passed"
 "$room/passed" "$statuses"
 nm -f sysv "$out/pkcs1.o" | grep -E '\|(\.data|\.bss|\*COM\*)[.a-z0-9_]*$' | grep -v '^nothing ' | grep -v '\.data\.rel\.ro' &&
     stop "the calls share data"
+frames=$(readelf --debug-dump=frames "$out/pkcs1.o" 2> /dev/null | grep -c 'FDE cie')
+[ "$frames" = "$(readelf -sW "$out/pkcs1.o" | grep -c ' FUNC ')" ] || stop "a debugger can't go back from each call"
 "$CC" -std=c99 "${flags[@]}" "$here/c/test.c" "-L$out" -lpkcs1 -Wl,-rpath,"$out" -o "$room/test_shared"
 "$room/test_shared" "$statuses"
 "$CC" -std=c99 "${flags[@]}" "$here/c/dlopen.c" -ldl -o "$room/dlopen"
@@ -57,14 +61,41 @@ if have valgrind "the C test runs under the sanitizers alone"; then
     valgrind --quiet --error-exitcode=9 --leak-check=full "$room/test" "$statuses"
 fi
 
-# Installed into a folder with a space in its name, by itself and below DESTDIR.
+# Octets that change during a call; two threads a mode.
+"$CC" -std=c99 "${flags[@]}" "$here/c/races.c" "$out/libpkcs1.a" -lpthread -o "$room/races"
+"$room/races" | xargs -P $((($(nproc) + 1) / 2)) -n 1 timeout 60 "$room/races" > "$room/log" ||
+    stop "octets that change during a call do harm"
+
+# Installed where the umask shuts others out, with another folder of libraries, and uninstalled. Another program stands
+# in for the tool.
+version=$("$room/test" --version)
+word=install${UNPROVED:+-unproved}
+export LIBDIR=$room/c/lib64
+(umask 077 && CFLAGS=-DNDEBUG LDFLAGS=-Wl,-z,now "$here/build.sh" $word "$room/c" > /dev/null)
+cp "$room/modulus" "$room/pkcs1_tool"
+"$here/install.sh" add "$room/c" "$version" "$out" "$room/pkcs1_tool"
+[ -z "$(find "$room/c" -type d ! -perm 755 -o -type f ! -perm 644 ! -path "*/bin/*")" ] ||
+    stop "others can't read what is installed"
+readelf -d "$LIBDIR/libpkcs1.so" | grep -q BIND_NOW || stop "LDFLAGS aren't used"
+if have pkg-config "LIBDIR isn't tested"; then
+    "$CC" "$here/c/modulus.c" $(PKG_CONFIG_PATH=$LIBDIR/pkgconfig pkg-config --cflags --libs libpkcs1) -o "$room/shared"
+fi
+"$here/build.sh" uninstall "$room/c"
+[ -z "$(find "$room/c" ! -type d)" ] || stop "uninstall leaves files"
+unset LIBDIR
+"$here/build.sh" uninstall "$room/c" 2> /dev/null && stop "what isn't installed is uninstalled"
+# Installed into a folder with a space in its name, by itself and below DESTDIR; and again: files are replaced, not
+# changed, as a program may be running with them.
 printf '\060\010\002\003\000\301\177\002\001\003' > "$room/pub.der"
-"$here/build.sh" install "$room/a b" > /dev/null
-DESTDIR=$room/stage "$here/build.sh" install /usr > /dev/null
+DESTDIR=$room/stage "$here/build.sh" $word /usr > /dev/null
+"$here/build.sh" $word "$room/a b" > /dev/null
 diff -r "$room/a b" "$room/stage/usr"
+cp -al "$room/a b" "$room/old"
+"$here/build.sh" $word "$room/a b" > /dev/null
+[ -z "$(find "$room/old" -type f -links +1)" ] || stop "an installed file is changed"
 if have pkg-config "libpkcs1.pc is not used"; then
     export PKG_CONFIG_PATH="$room/a b/lib/pkgconfig"
-    [ "$(pkg-config --modversion libpkcs1)" = "$("$room/test" --version)" ] || stop "libpkcs1.pc tells another version"
+    [ "$(pkg-config --modversion libpkcs1)" = "$version" ] || stop "libpkcs1.pc tells another version"
     shared=$(pkg-config --cflags --libs libpkcs1)
     static=$(pkg-config --static --cflags --libs libpkcs1)
 else
@@ -79,6 +110,8 @@ else
     "$CC" "-I$room/a b/include" "$here/c/modulus.c" "$room/a b/lib/libpkcs1.a" -o "$room/static"
 fi
 "$here/build.sh" install > /dev/null 2>&1 && stop "build.sh takes wrong arguments"
+UNPROVED=$out "$here/build.sh" install "$room/d" > /dev/null 2>&1 && stop "an unproved library is installed"
+[ ! -e "$room/d" ] || stop "an unproved library is installed in part"
 
 # Rust.
 cd "$here/rust"
@@ -96,6 +129,9 @@ if have valgrind "the Rust tests don't run under it"; then
 fi
 cargo_quietly build --offline --quiet --examples
 RUSTDOCFLAGS='-D warnings' cargo_quietly doc --offline --quiet --no-deps
+if have rustfmt "the layout of the crate's sources isn't checked"; then
+    cargo_quietly fmt --check
+fi
 if have cargo-clippy "the crate isn't linted"; then
     cargo_quietly clippy --offline --quiet --all-targets -- -D warnings
 fi
@@ -146,5 +182,10 @@ done
 for want in 'none: No such file' 'empty: the file is empty' 'long: the file is longer than 65536 bytes'; do
     "$room/modulus" "$room/${want%%:*}" 2>&1 | grep -q "$want" || stop "modulus doesn't print '$want'"
 done
-"$here/openssl.sh" "$room" "$out/target/debug/examples"
+if have openssl "nothing was compared with it"; then
+    "$here/openssl.sh" "$room" "$out/target/debug/examples"
+    top=$here/..
+    "$here/openssl_commands.sh" "$room" "$here/include/pkcs1.h" "$here/rust/README.md" "$top/README.md" \
+        "$top"/docs/*.md "$top/crates/pkcs1_tool/pkcs1_tool.1"
+fi
 printf 'ffi: %s calls and constants, tested in C and Rust\n' "$(wc -l < "$out/declared")"

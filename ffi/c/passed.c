@@ -1,6 +1,6 @@
-/* Linked with --wrap between test.c, pkcs1.c and the proved calls. Stops where pkcs1.c passes a proved call a struct that isn't
- * valid: a null, octets that can't be read, a `bool` that is neither 0 nor 1, or something after a false `has_..`; and
- * where the library allocates, except to encode a key of more than two primes. */
+/* Linked with --wrap between test.c, pkcs1.c and the proved calls. Stops where pkcs1.c passes a proved call something
+ * that isn't valid: a null, octets that can't be read, a `bool` that is neither 0 nor 1, or something after a false
+ * `has_..`; and where the library allocates, except to encode a key of more than two primes. */
 #include "pkcs1_c.h"
 #include <stdio.h>
 #include <stdlib.h>
@@ -8,14 +8,16 @@
 
 #define VALID(c) do { if (!(c)) { fprintf(stderr, "%s:%d: %s\n", __func__, __LINE__, #c); abort(); } } while (0)
 
-/* Defines what is called in place of `call`: it does `before`, and calls it. */
-#define EACH(call, parameters, arguments, before)                                                                     \
-    uint32_t __real_##call parameters;                                                                                \
-    uint32_t __wrap_##call parameters;                                                                                \
-    uint32_t __wrap_##call parameters {                                                                               \
+/* Defines what is called in place of `call`, which returns `type`: it does `before`, and calls it. */
+#define WRAP(type, call, parameters, arguments, before)                                                               \
+    type __real_##call parameters;                                                                                    \
+    type __wrap_##call parameters;                                                                                    \
+    type __wrap_##call parameters {                                                                                   \
         before;                                                                                                       \
         return __real_##call arguments;                                                                               \
     }
+#define EACH(call, parameters, arguments, before) WRAP(uint32_t, call, parameters, arguments, before)
+#define TEST(call, parameters, arguments, before) WRAP(bool, call, parameters, arguments, before)
 
 static volatile uint8_t sum;
 
@@ -46,6 +48,15 @@ static void bytes(struct pkcs1_bytes b) {
     VALID(b.data != NULL && b.len < (size_t)1 << 40);
     for (size_t i = 0; i < b.len; i++)
         sum ^= b.data[i];
+}
+
+static void octets(const uint8_t *data, size_t len) {
+    struct pkcs1_bytes given = {data, len};
+    bytes(given);
+}
+
+static void output(const uint8_t *out, const size_t *len) {
+    VALID(out != NULL && len != NULL);
 }
 
 static void flag(const bool *given) {
@@ -79,6 +90,7 @@ static void private_key(const struct pkcs1_private_key *key) {
 }
 
 static void primes(const struct pkcs1_other_prime *others, size_t count) {
+    VALID(others != NULL);
     for (size_t i = 0; i < count; i++)
         bytes(others[i].prime), bytes(others[i].exponent), bytes(others[i].coefficient);
 }
@@ -103,71 +115,75 @@ static void oaep(const struct pkcs1_oaep_params *params) {
 
 EACH(pkcs1_c_public_key_decode,
      (const uint8_t *der, size_t der_len, struct pkcs1_public_key *key),
-     (der, der_len, key), public_key(key))
+     (der, der_len, key), octets(der, der_len); public_key(key))
 EACH(pkcs1_c_public_key_encode,
      (const struct pkcs1_public_key *key, uint8_t *out, size_t room, size_t *len),
-     (key, out, room, len), public_key(key))
+     (key, out, room, len), output(out, len); public_key(key))
 EACH(pkcs1_c_private_key_decode,
      (const uint8_t *der, size_t der_len, struct pkcs1_private_key *key,
       struct pkcs1_other_prime *others, size_t others_room),
-     (der, der_len, key, others, others_room), private_key(key); primes(others, others_room))
+     (der, der_len, key, others, others_room), octets(der, der_len); private_key(key); primes(others, others_room))
 EACH(pkcs1_c_private_key_encode,
      (const struct pkcs1_private_key *key, const struct pkcs1_other_prime *others, size_t others_len,
       uint8_t *out, size_t room, size_t *len),
-     (key, others, others_len, out, room, len), private_key(key); primes(others, others_len))
+     (key, others, others_len, out, room, len), output(out, len); private_key(key); primes(others, others_len))
 EACH(pkcs1_c_private_key_info_decode,
      (const uint8_t *der, size_t der_len, struct pkcs1_private_key_info *given, struct pkcs1_private_key *key,
       struct pkcs1_other_prime *others, size_t others_room),
-     (der, der_len, given, key, others, others_room), info(given); private_key(key); primes(others, others_room))
+     (der, der_len, given, key, others, others_room),
+     octets(der, der_len); info(given); private_key(key); primes(others, others_room))
 EACH(pkcs1_c_private_key_info_encode,
      (const struct pkcs1_private_key_info *given, uint8_t *out, size_t room, size_t *len),
-     (given, out, room, len), info(given))
+     (given, out, room, len), output(out, len); info(given))
 EACH(pkcs1_c_pss_params_decode,
      (const uint8_t *der, size_t der_len, struct pkcs1_pss_params *params),
-     (der, der_len, params), pss(params))
+     (der, der_len, params), octets(der, der_len); pss(params))
 EACH(pkcs1_c_pss_params_decode_strict,
      (const uint8_t *der, size_t der_len, struct pkcs1_pss_params *params),
-     (der, der_len, params), pss(params))
+     (der, der_len, params), octets(der, der_len); pss(params))
 EACH(pkcs1_c_pss_params_encode,
      (const struct pkcs1_pss_params *params, uint8_t *out, size_t room, size_t *len),
-     (params, out, room, len), pss(params))
+     (params, out, room, len), output(out, len); pss(params))
 EACH(pkcs1_c_oaep_params_decode,
      (const uint8_t *der, size_t der_len, struct pkcs1_oaep_params *params),
-     (der, der_len, params), oaep(params))
+     (der, der_len, params), octets(der, der_len); oaep(params))
 EACH(pkcs1_c_oaep_params_decode_strict,
      (const uint8_t *der, size_t der_len, struct pkcs1_oaep_params *params),
-     (der, der_len, params), oaep(params))
+     (der, der_len, params), octets(der, der_len); oaep(params))
 EACH(pkcs1_c_oaep_params_encode,
      (const struct pkcs1_oaep_params *params, uint8_t *out, size_t room, size_t *len),
-     (params, out, room, len), oaep(params))
+     (params, out, room, len), output(out, len); oaep(params))
 EACH(pkcs1_c_pss_algorithm_decode,
      (const uint8_t *der, size_t der_len, struct pkcs1_pss_params *params),
-     (der, der_len, params), pss(params))
+     (der, der_len, params), octets(der, der_len); pss(params))
 EACH(pkcs1_c_pss_algorithm_decode_strict,
      (const uint8_t *der, size_t der_len, struct pkcs1_pss_params *params),
-     (der, der_len, params), pss(params))
+     (der, der_len, params), octets(der, der_len); pss(params))
 EACH(pkcs1_c_pss_algorithm_encode,
      (const struct pkcs1_pss_params *params, uint8_t *out, size_t room, size_t *len),
-     (params, out, room, len), pss(params))
+     (params, out, room, len), output(out, len); pss(params))
 EACH(pkcs1_c_oaep_algorithm_decode,
      (const uint8_t *der, size_t der_len, struct pkcs1_oaep_params *params),
-     (der, der_len, params), oaep(params))
+     (der, der_len, params), octets(der, der_len); oaep(params))
 EACH(pkcs1_c_oaep_algorithm_decode_strict,
      (const uint8_t *der, size_t der_len, struct pkcs1_oaep_params *params),
-     (der, der_len, params), oaep(params))
+     (der, der_len, params), octets(der, der_len); oaep(params))
 EACH(pkcs1_c_oaep_algorithm_encode,
      (const struct pkcs1_oaep_params *params, uint8_t *out, size_t room, size_t *len),
-     (params, out, room, len), oaep(params))
+     (params, out, room, len), output(out, len); oaep(params))
 
-/* This one returns no status. */
-bool __real_pkcs1_c_algorithm_is(const struct pkcs1_algorithm *given, const uint8_t *oid, size_t oid_len);
-bool __wrap_pkcs1_c_algorithm_is(const struct pkcs1_algorithm *given, const uint8_t *oid, size_t oid_len);
-bool __wrap_pkcs1_c_algorithm_is(const struct pkcs1_algorithm *given, const uint8_t *oid, size_t oid_len) {
-    struct pkcs1_bytes octets = {oid, oid_len};
-    algorithm(given);
-    bytes(octets);
-    return __real_pkcs1_c_algorithm_is(given, oid, oid_len);
-}
+TEST(pkcs1_c_algorithm_is,
+     (const struct pkcs1_algorithm *given, const uint8_t *oid, size_t oid_len),
+     (given, oid, oid_len), algorithm(given); octets(oid, oid_len))
+TEST(pkcs1_c_pss_is,
+     (const struct pkcs1_pss_params *params, const uint8_t *oid, size_t oid_len),
+     (params, oid, oid_len), pss(params); octets(oid, oid_len))
+TEST(pkcs1_c_oaep_is,
+     (const struct pkcs1_oaep_params *params, const uint8_t *oid, size_t oid_len),
+     (params, oid, oid_len), oaep(params); octets(oid, oid_len))
+TEST(pkcs1_c_oaep_label,
+     (const struct pkcs1_oaep_params *params, struct pkcs1_bytes *label),
+     (params, label), oaep(params); bytes(*label))
 
 /* The one call that may allocate. */
 uint32_t __real_pkcs1_private_key_encode(const struct pkcs1_private_key *key, const struct pkcs1_other_prime *others,

@@ -6,13 +6,6 @@
 static const struct { const struct pkcs1_bytes *oid; const char *name; } hashes[] = {
     {&pkcs1_oid_sha256, "SHA-256"}, {&pkcs1_oid_sha384, "SHA-384"}, {&pkcs1_oid_sha512, "SHA-512"}};
 
-/* Whether the hash function is this one, under MGF1 too. */
-static bool has_hash(const struct pkcs1_pss_params *params, const struct pkcs1_bytes *oid) {
-    const struct pkcs1_mask_gen *mask_gen = &params->mask_gen;
-    return pkcs1_algorithm_is(&params->hash, oid) && pkcs1_oid_equal(&mask_gen->oid, &pkcs1_oid_mgf1) &&
-           mask_gen->has_hash && pkcs1_algorithm_is(&mask_gen->hash, oid);
-}
-
 int main(int argc, char **argv) {
     static uint8_t der[65536];
     FILE *in = argc == 2 ? fopen(argv[1], "rb") : NULL;
@@ -26,7 +19,7 @@ int main(int argc, char **argv) {
     if (status != PKCS1_OK)
         return fprintf(stderr, "%s: %s\n", argv[1], pkcs1_strerror(status)), 1;
     for (size_t i = 0; i < sizeof hashes / sizeof hashes[0]; i++)
-        if (has_hash(&params, hashes[i].oid))
+        if (pkcs1_pss_is(&params, hashes[i].oid))
             return printf("%s, a salt of %u octets\n", hashes[i].name, params.salt_len) < 0;
     return fprintf(stderr, "%s: hash functions that are not accepted\n", argv[1]), 1;
 }

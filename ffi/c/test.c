@@ -145,11 +145,11 @@ static void other_primes(void) {
     }
 }
 
-/* Each number of other primes up to 130, written and read again. */
+/* Each number of other primes up to 260, written and read again; not written, for lack of room or of a number. */
 static void many_other_primes(void) {
-    uint8_t octets[130], out[2500];
-    struct pkcs1_other_prime others[130], read[130];
-    for (size_t count = 1; count <= 130; count++) {
+    uint8_t octets[260], out[4000];
+    struct pkcs1_other_prime others[260], read[260];
+    for (size_t count = 1; count <= 260; count++) {
         struct pkcs1_private_key key, again;
         size_t len = 0;
         octets[count - 1] = (uint8_t)count;
@@ -158,11 +158,15 @@ static void many_other_primes(void) {
         others[count - 1].coefficient = others[count - 1].prime;
         CHECK(pkcs1_private_key_decode(two, sizeof two, &key, NULL, 0) == PKCS1_OK);
         key.other_primes = count;
+        CHECK(pkcs1_private_key_encode(&key, others, count, NULL, 0, &len) == PKCS1_NO_ROOM);
+        others[count - 1].coefficient = (struct pkcs1_bytes){NULL, 0};
+        CHECK(pkcs1_private_key_encode(&key, others, count, out, sizeof out, &len) == PKCS1_LENGTH);
+        others[count - 1].coefficient = others[count - 1].prime;
         CHECK(pkcs1_private_key_encode(&key, others, count, out, sizeof out, &len) == PKCS1_OK);
         CHECK(pkcs1_private_key_decode(out, len, &again, read, count) == PKCS1_OK && again.other_primes == count);
         for (size_t i = 0; i < count; i++) {
-            CHECK(read[i].prime.len == 1 && read[i].prime.data[0] == i + 1 && same(read[i].exponent, "\1", 1));
-            CHECK(read[i].coefficient.len == 1 && read[i].coefficient.data[0] == i + 1);
+            CHECK(read[i].prime.len == 1 && read[i].prime.data[0] == (uint8_t)(i + 1) && same(read[i].exponent, "\1", 1));
+            CHECK(read[i].coefficient.len == 1 && read[i].coefficient.data[0] == (uint8_t)(i + 1));
         }
     }
 }
@@ -269,10 +273,31 @@ static void absent_fields(void) {
     CHECK(pkcs1_oaep_params_encode(&oaep, out, sizeof out, &len) == PKCS1_OID_MALFORMED && len == 77);
 }
 
+/* Flags whose octet is 2, as a caller in another language can set them, are set. */
+static void flags(void) {
+    struct pkcs1_private_key_info info = {{two, sizeof two}, true, {NULL, 0}};
+    struct pkcs1_pss_params params;
+    uint8_t want[64], out[64];
+    size_t want_len, len;
+    CHECK(pkcs1_private_key_info_encode(&info, want, sizeof want, &want_len) == PKCS1_OK);
+    memset(&info.has_attributes, 2, 1);
+    CHECK(pkcs1_private_key_info_encode(&info, out, sizeof out, &len) == PKCS1_OK);
+    CHECK(len == want_len && memcmp(out, want, len) == 0);
+    pkcs1_pss_params_init(&params, &pkcs1_oid_sha256, 32);
+    CHECK(pkcs1_pss_params_encode(&params, want, sizeof want, &want_len) == PKCS1_OK);
+    memset(&params.hash.has_parameters, 2, 1);
+    memset(&params.mask_gen.has_hash, 2, 1);
+    memset(&params.mask_gen.hash.has_parameters, 2, 1);
+    CHECK(pkcs1_pss_params_encode(&params, out, sizeof out, &len) == PKCS1_OK);
+    CHECK(len == want_len && memcmp(out, want, len) == 0);
+    CHECK(pkcs1_algorithm_is(&params.hash, &pkcs1_oid_sha256));
+}
+
 /* Parameters for each hash function: the constants are the right octets. */
 static void made_for_a_hash(void) {
     static const struct { const struct pkcs1_bytes *oid; uint8_t last; } hashes[] = {
-        {&pkcs1_oid_sha224, 4}, {&pkcs1_oid_sha256, 1}, {&pkcs1_oid_sha384, 2}, {&pkcs1_oid_sha512, 3}};
+        {&pkcs1_oid_sha224, 4}, {&pkcs1_oid_sha256, 1}, {&pkcs1_oid_sha384, 2}, {&pkcs1_oid_sha512, 3},
+        {&pkcs1_oid_sha512_224, 5}, {&pkcs1_oid_sha512_256, 6}};
     uint8_t want[] = {0x30, 0x34, 0xa0, 0x0f, 0x30, 0x0d, 6, 9, 0x60, 0x86, 0x48, 1, 0x65, 3, 4, 2, 0, 5, 0,
                       0xa1, 0x1c, 0x30, 0x1a, 6, 9, 0x2a, 0x86, 0x48, 0x86, 0xf7, 0x0d, 1, 1, 8,
                       0x30, 0x0d, 6, 9, 0x60, 0x86, 0x48, 1, 0x65, 3, 4, 2, 0, 5, 0, 0xa2, 3, 2, 1, 32};
@@ -326,6 +351,53 @@ static void a_hash_function(void) {
     CHECK(memcmp(pkcs1_oid_rsaes_oaep.data, "\x2a\x86\x48\x86\xf7\x0d\1\1\7", 9) == 0 && pkcs1_oid_rsaes_oaep.len == 9);
 }
 
+/* Parameters that use one hash function, in MGF1 too, and those that don't. */
+static void in_both_places(void) {
+    static const struct pkcs1_bytes *sha256 = &pkcs1_oid_sha256, *sha384 = &pkcs1_oid_sha384;
+    struct pkcs1_pss_params pss, zeros = {0};
+    struct pkcs1_oaep_params oaep, no_fields = {0};
+    struct pkcs1_bytes none = {NULL, 0};
+    CHECK(!pkcs1_pss_is(&zeros, &none) && !pkcs1_oaep_is(&no_fields, &none));
+    pkcs1_pss_params_init(&pss, sha256, 32);
+    pkcs1_oaep_params_init(&oaep, sha256, NULL, 0);
+    CHECK(pkcs1_pss_is(&pss, sha256) && !pkcs1_pss_is(&pss, sha384) && !pkcs1_pss_is(&pss, &none));
+    CHECK(pkcs1_oaep_is(&oaep, sha256) && !pkcs1_oaep_is(&oaep, sha384) && !pkcs1_oaep_is(&oaep, &none));
+    pss.hash.has_parameters = oaep.mask_gen.hash.has_parameters = false;
+    memset(&pss.hash.parameters, 0xa5, sizeof pss.hash.parameters);
+    CHECK(pkcs1_pss_is(&pss, sha256) && pkcs1_oaep_is(&oaep, sha256));
+    pss.hash.oid = oaep.hash.oid = *sha384;
+    CHECK(!pkcs1_pss_is(&pss, sha256) && !pkcs1_pss_is(&pss, sha384));
+    CHECK(!pkcs1_oaep_is(&oaep, sha256) && !pkcs1_oaep_is(&oaep, sha384));
+    pss.mask_gen.hash.oid = oaep.mask_gen.hash.oid = *sha384;
+    CHECK(pkcs1_pss_is(&pss, sha384) && pkcs1_oaep_is(&oaep, sha384));
+    pss.mask_gen.oid = pkcs1_oid_p_specified;
+    oaep.mask_gen.has_hash = false;
+    memset(&oaep.mask_gen.hash, 0xa5, sizeof oaep.mask_gen.hash);
+    CHECK(!pkcs1_pss_is(&pss, sha384) && !pkcs1_oaep_is(&oaep, sha384));
+}
+
+static void labels(void) {
+    struct pkcs1_oaep_params params, no_fields = {0};
+    struct pkcs1_bytes label = {NULL, 77};
+    CHECK(!pkcs1_oaep_label(&no_fields, &label) && label.data == NULL && label.len == 77);
+    pkcs1_oaep_params_init(&params, &pkcs1_oid_sha1, (const uint8_t *)"label", 5);
+    CHECK(pkcs1_oaep_label(&params, &label) && same(label, "label", 5));
+    params.p_source.tag = 12;
+    params.p_source.parameters.len = 4;
+    CHECK(!pkcs1_oaep_label(&params, &label) && same(label, "label", 5));
+    params.p_source.tag = 4;
+    CHECK(pkcs1_oaep_label(&params, &label) && same(label, "labe", 4));
+    params.p_source.oid = pkcs1_oid_mgf1;
+    CHECK(!pkcs1_oaep_label(&params, &label) && same(label, "labe", 4));
+    params.p_source.oid = pkcs1_oid_p_specified;
+    params.p_source.parameters.data = NULL;
+    params.p_source.parameters.len = 0;
+    CHECK(pkcs1_oaep_label(&params, &label) && same(label, "", 0));
+    params.p_source.has_parameters = false;
+    label.len = 77;
+    CHECK(!pkcs1_oaep_label(&params, &label) && label.len == 77);
+}
+
 static void compared(void) {
     uint8_t copy[9];
     struct pkcs1_bytes left = {copy, 9}, none = {NULL, 0}, empty = {copy, 0};
@@ -338,10 +410,12 @@ static void compared(void) {
 
 static void texts(void) {
     char version[32];
-    sprintf(version, "%d.%d.%d", PKCS1_VERSION_MAJOR, PKCS1_VERSION_MINOR, PKCS1_VERSION_PATCH);
-    CHECK(strcmp(pkcs1_version(), version) == 0);
+    int len = sprintf(version, "%d.%d.%d", PKCS1_VERSION_MAJOR, PKCS1_VERSION_MINOR, PKCS1_VERSION_PATCH);
+    CHECK(strncmp(pkcs1_version(), version, (size_t)len) == 0);
+    CHECK(pkcs1_version()[len] == '\0' || strcmp(pkcs1_version() + len, "-unproved") == 0);
     CHECK(strcmp(pkcs1_strerror(PKCS1_TRAILING_DATA),
-                 "bytes follow the value, or a field that the type does not have there") == 0);
+                 "bytes follow the value, or a field that it does not have: a private key read as a public one, "
+                 "perhaps") == 0);
     CHECK(strstr(pkcs1_strerror(PKCS1_TAG_UNEXPECTED), "PEM") != NULL);
     CHECK(strcmp(pkcs1_strerror(0), "no error") == 0 && strcmp(pkcs1_strerror(1000), "another error") == 0);
     CHECK(strcmp(pkcs1_strerror(PKCS1_OTHER_PRIMES), "the other primes are not as many as the key says") == 0);
@@ -402,6 +476,7 @@ static void row(const char *kind, const char *digits, const char *name) {
     while (at < sizeof names / sizeof names[0] && strcmp(names[at].name, name) != 0)
         at++;
     CHECK(at < sizeof names / sizeof names[0]);
+    CHECK(read_row(kind, NULL, 0, value) == PKCS1_INCOMPLETE);
     uint32_t status = read_row(kind, der, len, value);
     if (status != names[at].status) {
         fprintf(stderr, "%s %s %s: %s\n", kind, digits, name, pkcs1_strerror(status));
@@ -410,7 +485,9 @@ static void row(const char *kind, const char *digits, const char *name) {
     if (status != PKCS1_OK) {
         CHECK(memcmp(value, old, sizeof *value) == 0);
     } else {
-        CHECK(write_row(kind, value, again, sizeof again, &again_len) == PKCS1_OK);
+        size_t need = 0;
+        CHECK(write_row(kind, value, NULL, 0, &need) == PKCS1_NO_ROOM);
+        CHECK(write_row(kind, value, again, sizeof again, &again_len) == PKCS1_OK && again_len == need);
         bool has_one = strncmp(kind, "pss", 3) != 0 && strncmp(kind, "oaep", 4) != 0;
         if (has_one || strstr(kind, "-strict") != NULL)
             CHECK(again_len == len && memcmp(again, der, len) == 0);
@@ -440,10 +517,11 @@ static void statuses(const char *path) {
 static void proved_calls(void) {
     struct pkcs1_private_key key = {PKCS1_NO_BYTES, PKCS1_NO_BYTES, PKCS1_NO_BYTES, PKCS1_NO_BYTES, PKCS1_NO_BYTES,
                                     PKCS1_NO_BYTES, PKCS1_NO_BYTES, PKCS1_NO_BYTES, 0};
+    struct pkcs1_other_prime none[1];
     struct pkcs1_bytes version = PKCS1_NO_BYTES;
-    CHECK(pkcs1_c_private_key_decode(two, sizeof two, &key, NULL, 0) == PKCS1_OK && same(key.modulus, "\1", 1));
+    CHECK(pkcs1_c_private_key_decode(two, sizeof two, &key, none, 0) == PKCS1_OK && same(key.modulus, "\1", 1));
     pkcs1_c_version(&version);
-    CHECK((const char *)version.data == pkcs1_version() && version.len == 6);
+    CHECK((const char *)version.data == pkcs1_version() && version.len == strlen(pkcs1_version()) + 1);
 }
 
 int main(int argc, char **argv) {
@@ -458,9 +536,12 @@ int main(int argc, char **argv) {
     containers();
     pss();
     absent_fields();
+    flags();
     made_for_a_hash();
     compared();
     a_hash_function();
+    in_both_places();
+    labels();
     texts();
     statuses(argv[1]);
     proved_calls();

@@ -1,18 +1,23 @@
 /* Decodes and encodes DER: RSA keys and RSA algorithm parameters (PKCS #1, RFC 8017), RSA keys in PKCS #8 (RFC 5208).
  * Only binary DER: no PEM, no SubjectPublicKeyInfo ("BEGIN PUBLIC KEY"), nothing encrypted, no RSA-PSS key
- *   (id-RSASSA-PSS) in PKCS #8; OpenSSL makes each key readable: openssl rsa -in IN -traditional -outform DER -out OUT
+ *   (id-RSASSA-PSS) in PKCS #8. OpenSSL makes each key readable, first a private one, then a public one:
+ *     openssl rsa -in IN -traditional -outform DER -out OUT
+ *     openssl rsa -pubin -in IN -RSAPublicKey_out -outform DER -out OUT
  * No salt length over 255: with SHA-256, not what OpenSSL 3.0 writes by default for keys over 2313 bits
  *   (-sigopt rsa_pss_saltlen:digest is read).
  *
  * Status: a decoder or encoder returns PKCS1_OK or an error of the enum below, which pkcs1_strerror describes.
  * Decoders (.._decode): `der` is one whole encoding. On PKCS1_OK the struct holds the value that it encodes. An error
- *   means that no value of the type has this encoding: the status is that of the first fault from the left, and what
- *   the call would have filled is unchanged.
+ *   means that no value of the type has this encoding, and what the call would have filled is unchanged. The status is
+ *   that of the first fault from the left. An AlgorithmIdentifier and a container are read twice: first the whole
+ *   SEQUENCE, then which algorithm it is, whether it has parameters, and what is in the parameters or in the key. So
+ *   30 03 06 01 2a 00 is PKCS1_TRAILING_DATA, not PKCS1_OID_UNKNOWN.
  * Encoders (.._encode): on PKCS1_OK the first `*len` octets of `out` are the DER of the value, and the rest is
  *   unchanged. On PKCS1_NO_ROOM `*len` is the length that is needed: call with a null `out` and room 0 to get it. On
  *   another error the value has no encoding of at most 4294967295 octets (or memory has run out), and `*len` is
- *   unchanged: the status is that of the first field, in their order, that can't be encoded, or PKCS1_OVERFLOW if each
- *   can, but they are too long together. On any error `out` is unchanged.
+ *   unchanged: the status is that of the first field, in their order, that can't be held, as a number without octets or
+ *   an identifier that isn't one, or PKCS1_OVERFLOW if each can, but the encoding is too long. On any error `out` is
+ *   unchanged.
  * Structs: one that a call fills may be uninitialised, as in `struct pkcs1_public_key key;`. One that a call reads must
  *   have its fields set, but `data` may be null if `len` is 0, and the fields after a false `has_..` in its struct
  *   aren't read. `{0}` is such a struct (`{}` in C++).
@@ -24,6 +29,9 @@
  * Overlap: `out`, `*len` and what a decoder fills must not overlap each other or any other argument.
  * Null: `der`, `others`, `out` and `label` may be null if their length is 0. No other argument may be null.
  * Threads: the calls share no state and take no locks, so any of them may run at the same time.
+ *   If the octets that `data` or `der` points to change during a call (shared memory), the call still returns, reads
+ *   nothing outside them and writes nothing outside `out[0..room]`, `*len` (at most `room` on PKCS1_OK) and what it
+ *   fills, but its status and what it writes mean nothing. Structs, lengths and pointers must not change.
  * Memory: only pkcs1_private_key_encode allocates, for a key of more than two primes, and frees it before it returns.
  *
  * Only the encoding is checked: not that the modulus is the product of the primes, nor that a key is strong enough. */
@@ -57,7 +65,8 @@ enum pkcs1_status {
     PKCS1_PARAMETERS_MISSING = 10, /* an algorithm without parameters: rsaEncryption has NULL, the others their own */
     PKCS1_TAG_UNEXPECTED = 11,     /* another type: PEM, PKCS #8, SubjectPublicKeyInfo or an encrypted key, perhaps */
     PKCS1_TAG_UNKNOWN = 12,        /* not DER of these types: a tag octet that none of them has */
-    PKCS1_TRAILING_DATA = 13,      /* octets follow the value, or a field follows that the type doesn't have there */
+    PKCS1_TRAILING_DATA = 13,      /* octets follow the value, or a field follows that the type doesn't have there: a
+                                      private key read as a public one, perhaps */
     PKCS1_VALUE = 14,              /* a negative number; a version, salt length, trailer field or NULL that isn't allowed */
     PKCS1_NO_ROOM = 15,            /* `out` is too short: `*len` is the length that is needed */
     PKCS1_FILE = 16,               /* not returned by these calls */
@@ -118,17 +127,18 @@ uint32_t pkcs1_private_key_info_encode(const struct pkcs1_private_key_info *info
 
 /* Identifiers are the contents octets of an OBJECT IDENTIFIER (X.690 8.19). */
 extern const struct pkcs1_bytes pkcs1_oid_sha1, pkcs1_oid_sha224, pkcs1_oid_sha256, pkcs1_oid_sha384, pkcs1_oid_sha512;
+extern const struct pkcs1_bytes pkcs1_oid_sha512_224, pkcs1_oid_sha512_256;
 extern const struct pkcs1_bytes pkcs1_oid_mgf1, pkcs1_oid_p_specified, pkcs1_oid_rsa_encryption;
 extern const struct pkcs1_bytes pkcs1_oid_rsassa_pss, pkcs1_oid_rsaes_oaep;
 
 /* Whether both are the same identifier. */
 bool pkcs1_oid_equal(const struct pkcs1_bytes *left, const struct pkcs1_bytes *right);
 
-/* An AlgorithmIdentifier. The contents of its parameters aren't checked. If there are none, a decoder sets `tag` to 0
- * and `parameters` to empty. */
+/* An AlgorithmIdentifier. Neither the type nor the contents of its parameters are checked. If there are none, a decoder
+ * sets `tag` to 0 and `parameters` to empty. */
 struct pkcs1_algorithm {
     struct pkcs1_bytes oid;
-    bool has_parameters; /* false: no octet follows the identifier, which isn't the same as NULL */
+    bool has_parameters; /* false: no octet follows the identifier, which isn't the same as NULL here */
     uint8_t tag;         /* the tag octet of the parameters; 0x05: NULL */
     struct pkcs1_bytes parameters; /* their contents; of NULL: none */
 };
@@ -137,14 +147,16 @@ struct pkcs1_algorithm {
  * (RFC 4055 2.1), and both are met. */
 bool pkcs1_algorithm_is(const struct pkcs1_algorithm *algorithm, const struct pkcs1_bytes *oid);
 
-/* If there is no hash function, a decoder sets `hash` to empty: `hash.oid.len` is 0. */
+/* If there is no hash function, a decoder sets `hash` to empty: `hash.oid.len` is 0. Even MGF1 may be without one,
+ * which a verifier should reject. */
 struct pkcs1_mask_gen {
     struct pkcs1_bytes oid;
     bool has_hash;
     struct pkcs1_algorithm hash;
 };
 
-/* The parameters of RSASSA-PSS (RFC 8017 A.2.3). A field that the encoding leaves out has its default. */
+/* The parameters of RSASSA-PSS (RFC 8017 A.2.3). A field that the encoding leaves out has its default. `30 00` has only
+ * defaults, and is an encoding of parameters of RSAES-OAEP too: only the algorithm says which ones are meant. */
 struct pkcs1_pss_params {
     struct pkcs1_algorithm hash;
     struct pkcs1_mask_gen mask_gen;
@@ -156,7 +168,7 @@ struct pkcs1_pss_params {
 struct pkcs1_oaep_params {
     struct pkcs1_algorithm hash;
     struct pkcs1_mask_gen mask_gen;
-    struct pkcs1_algorithm p_source; /* pSpecified: the parameters are the label, with tag 0x04 */
+    struct pkcs1_algorithm p_source; /* pSpecified: the label, if the tag is 0x04; other tags are accepted too */
 };
 
 /* Sets all fields for one hash function: MGF1 with the same one, and both with NULL parameters. The octets of the
@@ -164,6 +176,15 @@ struct pkcs1_oaep_params {
 void pkcs1_pss_params_init(struct pkcs1_pss_params *params, const struct pkcs1_bytes *hash, uint8_t salt_len);
 void pkcs1_oaep_params_init(struct pkcs1_oaep_params *params, const struct pkcs1_bytes *hash, const uint8_t *label,
                             size_t label_len);
+
+/* Whether the hash function has the identifier `hash`, and the mask generation function is MGF1 with the same one: both
+ * as pkcs1_algorithm_is tells it, so with NULL or without parameters. */
+bool pkcs1_pss_is(const struct pkcs1_pss_params *params, const struct pkcs1_bytes *hash);
+bool pkcs1_oaep_is(const struct pkcs1_oaep_params *params, const struct pkcs1_bytes *hash);
+
+/* Sets `label` to the octets of the label, which may be none, and returns true, if the source is pSpecified with an
+ * OCTET STRING. Another source has no label: returns false, and `label` is unchanged. The octets aren't copied. */
+bool pkcs1_oaep_label(const struct pkcs1_oaep_params *params, struct pkcs1_bytes *label);
 
 /* Encoders leave out each field that has its default, as DER requires (X.690 11.5). Decoders also accept a default that
  * is written out; .._decode_strict returns PKCS1_NONCANONICAL for it. */

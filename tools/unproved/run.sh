@@ -2,14 +2,16 @@
 # Does everything work? Builds and runs all that is tested, in a copy of the tree, and proves nothing: the documents'
 # checks, the worked rows, the tests, the tool, and the libraries for C and Rust. .ci/run proves all.
 #
-#     tools/unproved/run.sh [documents|rows|tests|tool|ffi]..
+#     tools/unproved/run.sh [documents|rows|tests|tool|ffi].. [--keep PREFIX]
 #
+# --keep: the library for C is installed below PREFIX. Its version and its libpkcs1.pc say that it isn't proved.
 # `rt try` builds a program without a proof, and keeps no file. Here it runs from a copy of the kit, of links, whose
 # compiler also leaves an object: the tool is linked from one. For the library for C, exports.py makes a program of its
 # crate. What a step prints is shown if it fails. The status is 0 if all passed, 1 if not, 2 if nothing could be tried.
 set -eu
 shopt -s nullglob
 exec < /dev/null
+from=$PWD
 cd "$(dirname "$0")/../.."
 room=$(mktemp -d)
 trap 'rm -rf "$room"' EXIT
@@ -50,7 +52,8 @@ case " \$* " in *" -fsanitize=address "*)
     \$clang -x ir module.bc -S -emit-llvm -O0 -Xclang -disable-llvm-passes -o - | sed \\
         -e '/^define internal.*@"pkcs1_c::[a-z0-9_:]*::pkcs1_c_/s/ internal / /' \\
         -e 's/@"pkcs1_c::[a-z0-9_:]*::\\(pkcs1_c_[a-z0-9_]*\\)"/@\\1/g' > "$object.ll"
-    \$clang -march=x86-64-v2 -ffunction-sections -fdata-sections -fPIC -O1 -c -x ir "$object.ll" -o "$object.o"
+    \$clang -march=x86-64-v2 -ffunction-sections -fdata-sections -fPIC -fforce-dwarf-frame -O1 -c -x ir \
+        "$object.ll" -o "$object.o"
     rm "$object.ll" ;;
 esac
 exec "$kit/toolchain/bin/clang" "\$@"
@@ -92,12 +95,16 @@ tool() {
     PROGRAMS=$room/tool ./refuse_memory.sh
 }
 ffi() {
-    needs python3 ar
+    needs python3 ar "${CC:-gcc}" rustc
+    ffi/check_layout.py
     cp -r "$tree" "$room/exports"
-    (cd "$room/exports" && "$tree/tools/unproved/exports.py" pkcs1_c && cd crates/pkcs1_c && try_and_keep library --steps 1)
+    (cd "$room/exports" && "$tree/tools/unproved/exports.py" pkcs1_c && cd crates/pkcs1_c &&
+        sed -i 's/^    text.octets = b"[0-9.]*/&-unproved/' src/status.rt && try_and_keep library --steps 1)
     mkdir -p ffi/out
     ar rcs ffi/out/libpkcs1_c.a "$room/library.o"
-    UNPROVED=$tree/ffi/out ffi/build.sh
+    export UNPROVED=$tree/ffi/out
+    ffi/build.sh
+    [ -z "$keep" ] || ffi/build.sh install-unproved "$keep"
 }
 
 # step NAME COMMAND..: runs the command in the copy, and says how it ended.
@@ -124,8 +131,21 @@ steps_of() {
     esac
 }
 
-[ $# -gt 0 ] || set -- ffi tests rows tool documents
-for part; do
+keep= parts=()
+while [ $# -gt 0 ]; do
+    case $1 in
+    --keep)
+        [ -n "${2-}" ] || stop "--keep needs a folder"
+        keep=$(cd "$from" && realpath -m "$2")
+        shift
+        ;;
+    *) parts+=("$1") ;;
+    esac
+    shift
+done
+[ ${#parts[@]} -gt 0 ] || parts=(ffi tests rows tool documents)
+[ -z "$keep" ] || [[ " ${parts[*]} " = *" ffi "* ]] || stop "--keep needs the part ffi"
+for part in "${parts[@]}"; do
     steps_of "$part" >> "$room/steps"
 done
 needs rt python3 tar > "$room/log" || stop "$(cat "$room/log")"

@@ -1,0 +1,63 @@
+#!/usr/bin/env bash
+# Installs the library that build.sh made, and removes it again. build.sh calls it with an absolute PREFIX. DESTDIR and
+# LIBDIR are as there.
+#     install.sh add PREFIX VERSION BUILT [TOOL]   from the folder BUILT; the program TOOL with its man page too
+#     install.sh remove PREFIX VERSION
+set -eu
+umask 022
+here=$(cd "$(dirname "$0")" && pwd)
+top=$here/..
+action=$1 prefix=$2 version=$3
+libdir=${LIBDIR:-$prefix/lib}
+include=${DESTDIR-}$prefix/include
+lib=${DESTDIR-}$libdir
+doc=${DESTDIR-}$prefix/share/doc/libpkcs1
+bin=${DESTDIR-}$prefix/bin
+man=${DESTDIR-}$prefix/share/man/man1
+file_version=${version%%-*}
+
+# put MODE FILE FOLDER: replaces the file of this name in one step. A program that maps the old one goes on with it.
+put() {
+    install -m "$1" "$2" "$3/.new.$$"
+    mv -fT "$3/.new.$$" "$3/$(basename "$2")"
+}
+# link TARGET NAME FOLDER
+link() {
+    ln -s "$1" "$3/.new.$$"
+    mv -fT "$3/.new.$$" "$3/$2"
+}
+add() {
+    local built=$1 tool=${2-} to_prefix text
+    mkdir -p "$include" "$lib/pkgconfig" "$doc"
+    put 644 "$here/include/pkcs1.h" "$include"
+    put 644 "$here/include/pkcs1_c.h" "$include"
+    put 644 "$built/libpkcs1.a" "$lib"
+    put 644 "$built/libpkcs1.so.$file_version" "$lib"
+    link "libpkcs1.so.$file_version" libpkcs1.so.0 "$lib"
+    link libpkcs1.so.0 libpkcs1.so "$lib"
+    to_prefix=$(realpath -sm --relative-to="$libdir/pkgconfig" "$prefix")
+    text=$(< "$here/libpkcs1.pc.in")
+    text=${text//@version@/"$version"}
+    printf '%s\n' "${text//@to_prefix@/"${to_prefix// /\\ }"}" > "$built/libpkcs1.pc"
+    put 644 "$built/libpkcs1.pc" "$lib/pkgconfig"
+    put 644 "$top/LICENSE-APACHE" "$doc"
+    put 644 "$top/LICENSE-MIT" "$doc"
+    [ -n "$tool" ] || return 0
+    mkdir -p "$bin" "$man"
+    put 755 "$tool" "$bin"
+    put 644 "$top/crates/pkcs1_tool/pkcs1_tool.1" "$man"
+}
+remove() {
+    [ -e "$include/pkcs1.h" ] || {
+        echo "ffi/install.sh: libpkcs1 isn't installed below ${DESTDIR-}$prefix" >&2
+        exit 1
+    }
+    rm -f "$include/pkcs1.h" "$include/pkcs1_c.h" "$lib"/libpkcs1.{a,so,so.0} "$lib/libpkcs1.so.$file_version" \
+        "$lib/pkgconfig/libpkcs1.pc" "$bin/pkcs1_tool" "$man/pkcs1_tool.1" "$doc"/LICENSE-{APACHE,MIT}
+    rmdir --ignore-fail-on-non-empty "$doc"
+}
+case $action in
+    add) add "${@:4}" ;;
+    remove) remove ;;
+    *) exit 2 ;;
+esac
