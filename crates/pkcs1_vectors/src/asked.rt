@@ -1,24 +1,22 @@
 //! What a verifier and a receiver ask of parameters: the hash function, and the label.
 use crate::told::{PrintedError, Told};
 use pkcs1::{
-    Result, RsaOaepParamsRef, RsaOaepParamsView, RsaPssParamsRef, RsaPssParamsView, Sha1, Sha224,
-    Sha256, Sha384, Sha512, Sha512_224, Sha512_256,
+    RsaOaepParamsRef, RsaOaepParamsView, RsaPssParamsRef, RsaPssParamsView, Sha1, Sha224, Sha256,
+    Sha384, Sha512, Sha512_224, Sha512_256,
 };
 
 /// Whether the parameters use each of `NAMES`.
 macro_rules! uses_each {
     ($params:expr) => {
-        $params.map(|params| {
-            [
-                params.uses_hash::<Sha1>(),
-                params.uses_hash::<Sha224>(),
-                params.uses_hash::<Sha256>(),
-                params.uses_hash::<Sha384>(),
-                params.uses_hash::<Sha512>(),
-                params.uses_hash::<Sha512_224>(),
-                params.uses_hash::<Sha512_256>(),
-            ]
-        })
+        [
+            $params.uses_hash::<Sha1>(),
+            $params.uses_hash::<Sha224>(),
+            $params.uses_hash::<Sha256>(),
+            $params.uses_hash::<Sha384>(),
+            $params.uses_hash::<Sha512>(),
+            $params.uses_hash::<Sha512_224>(),
+            $params.uses_hash::<Sha512_256>(),
+        ]
     };
 }
 
@@ -33,32 +31,41 @@ const NAMES: [&str; 7] = [
 ];
 
 /// The names of the hash functions that are used, or `-`.
-fn names(to: &mut Told, uses: Result<[bool; 7]>) {
-    match uses {
-        Ok([false, false, false, false, false, false, false]) => to.text("-"),
-        Ok(uses) => {
-            for (used, name) in uses.iter().zip(NAMES.iter()) {
-                if *used {
-                    to.text(name);
-                }
-            }
+fn names(to: &mut Told, uses: &[bool]) {
+    if !uses.contains(&true) {
+        to.text("-");
+    }
+    for (used, name) in uses.iter().zip(NAMES.iter()) {
+        if *used {
+            to.text(name);
         }
-        Err(error) => error.told(to),
     }
 }
 
 /// `pss-hash HEX`: the hash function of PSS parameters.
 pub fn pss_hash(to: &mut Told, bytes: &[u8]) {
-    names(to, uses_each!(RsaPssParamsRef::try_from(bytes)));
+    match RsaPssParamsRef::try_from(bytes) {
+        Ok(params) => names(to, &uses_each!(params)),
+        Err(error) => error.told(to),
+    }
     to.way("view");
-    names(to, uses_each!(RsaPssParamsView::try_from(bytes)));
+    match RsaPssParamsView::try_from(bytes) {
+        Ok(params) => names(to, &uses_each!(params)),
+        Err(error) => error.told(to),
+    }
 }
 
 /// `oaep-hash HEX`: the hash function of OAEP parameters.
 pub fn oaep_hash(to: &mut Told, bytes: &[u8]) {
-    names(to, uses_each!(RsaOaepParamsRef::try_from(bytes)));
+    match RsaOaepParamsRef::try_from(bytes) {
+        Ok(params) => names(to, &uses_each!(params)),
+        Err(error) => error.told(to),
+    }
     to.way("view");
-    names(to, uses_each!(RsaOaepParamsView::try_from(bytes)));
+    match RsaOaepParamsView::try_from(bytes) {
+        Ok(params) => names(to, &uses_each!(params)),
+        Err(error) => error.told(to),
+    }
 }
 
 /// The label in hexadecimal digits, `-` if it is empty.
