@@ -1,0 +1,104 @@
+"""Calls, and those of LLVM's own functions, which C says in other words."""
+from ir_types import Integer, Void, type_of
+from operands import operand
+
+# What is said of parameters and functions besides their types; a call means the same without it.
+ATTRIBUTES = {
+    "noundef", "zeroext", "signext", "nonnull", "noalias", "captures", "readonly", "readnone", "writeonly", "nocapture",
+    "nofree", "returned", "immarg", "range", "initializes", "dead_on_unwind", "writable", "dereferenceable",
+    "dereferenceable_or_null", "dead_on_return",
+}
+
+
+def attributes(line):
+    """Takes what is said of a parameter."""
+    line.skip(ATTRIBUTES)
+    while line.accept("align"):
+        line.number()
+        line.skip(ATTRIBUTES)
+
+
+def arguments(line, scope):
+    """Takes the arguments of a call in brackets: their types and expressions."""
+    line.expect("(")
+    made = []
+    while not line.accept(")"):
+        type_ = type_of(line)
+        attributes(line)
+        made.append((type_, operand(line, type_, scope)))
+        if line.peek() != ")":
+            line.expect(",")
+    return made
+
+
+def of_memory(name):
+    """A call that fills or copies octets, of which there may be none."""
+    return lambda given: (Void(), f"{name}({given[0][1]}, {given[1][1]}, {given[2][1]})")
+
+
+def of_nothing(_given):
+    """A call that does nothing."""
+    return Void(), ""
+
+
+def of_trap(_given):
+    """A call that ends the program."""
+    return Void(), "__builtin_trap()"
+
+
+def of_two(form):
+    """A call of two numbers a and b, of which C has none."""
+    return lambda given: (given[0][0], form.format(a=given[0][1], b=given[1][1]))
+
+
+INTRINSICS = {
+    "memcpy": of_memory("copy"), "memmove": of_memory("move"), "memset": of_memory("fill"),
+    "lifetime.start": of_nothing, "lifetime.end": of_nothing, "assume": of_nothing,
+    "trap": of_trap,
+    "umin": of_two("{a} < {b} ? {a} : {b}"), "umax": of_two("{a} > {b} ? {a} : {b}"),
+    "usub.sat": of_two("{a} > {b} ? {a} - {b} : 0u"),
+}
+
+
+def intrinsic(line, result, name, scope):
+    """A call of an LLVM function, whose name ends with its types."""
+    parts = name.split(".")[1:]
+    while parts and ".".join(parts) not in INTRINSICS:
+        parts.pop()
+    if not parts:
+        raise line.refused()
+    line.take()
+    if parts == ["assume"]: # what holds may be left unsaid
+        line.at = len(line.tokens)
+        return
+    type_, expression = INTRINSICS[".".join(parts)](arguments(line, scope))
+    if isinstance(type_, Void) != (result is None):
+        raise line.refused()
+    if result is None:
+        scope.say(f"{expression};" if expression else "")
+    elif isinstance(type_, Integer) and type_.bits == type_.width:
+        scope.let(result, type_, expression)
+    else:
+        raise line.refused()
+
+
+def call(line, result, scope):
+    """A call of a function by its name."""
+    line.accept("fastcc")
+    attributes(line)
+    type_ = type_of(line)
+    if line.peek()[:1] != "@":
+        raise line.refused()
+    name = line.peek()
+    if name.startswith("@llvm."):
+        intrinsic(line, result, name, scope)
+    else:
+        line.take()
+        given = arguments(line, scope)
+        made = f"{scope.module[name]}({', '.join(it for _, it in given)})"
+        if result is None or isinstance(type_, Void):
+            scope.say(f"{made};")
+        else:
+            scope.let(result, type_, made)
+    if line.peek()[:1] == "#":
+        line.take()
