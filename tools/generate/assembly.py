@@ -4,54 +4,59 @@
     assembly.py TOOLCHAIN OUT.s      TOOLCHAIN: the folder in which clang_that_keeps.sh kept the calls
 
 rattle has clang compile the module in one call, or, for some processors, in two, between which it changes the IR. The
-last call is made again, with assembly for an object. Three things are changed: the functions get tables by which a
-debugger goes back from a call; rattle_* gets pkcs1_ in front, so that two libraries made by rattle link together; and
-the program's main, which ffi/c/os.c calls, is pkcs1_tool_main. Comments go.
+last call is made again, with assembly for an object, and no comments. Then rattle_* gets pkcs1_ in front, so that two
+libraries made by rattle link together, and the program's main, which ffi/c/os.c calls, is pkcs1_tool_main.
+
+A debugger goes back from a call by tables, which the object hasn't. LLVM writes them if it is asked, but then orders
+some instructions otherwise. So the assembly is made twice, and the tables of the second are put into the first.
 """
 import os
 import re
 import subprocess
 import sys
 
+SETS_FRAME_POINTER = re.compile(r"\t(mov\tx29, sp|add\tx29, sp, #\d+)")
+
+
+def refuse(what):
+    """Ends the program: the kit isn't the one that this fits."""
+    print(f"assembly.py: this fits another kit: {what}", file=sys.stderr)
+    sys.exit(2)
+
 
 def last_call(toolchain):
     """The folder and the words of the last call, which makes the object."""
-    folder = f"{toolchain}/kept/{max(os.listdir(f'{toolchain}/kept'), key=int)}"
+    calls = os.listdir(f"{toolchain}/kept")
+    if not calls:
+        refuse("rattle doesn't call clang")
+    folder = f"{toolchain}/kept/{max(calls, key=int)}"
     with open(f"{folder}/words", encoding="utf-8") as it:
-        words = it.read().splitlines()
-    return folder, words
-
-
-def without(words, *options):
-    """The words without these options and the one word behind each."""
-    left = list(words)
-    for option in options:
-        at = left.index(option)
-        del left[at : at + 2]
-    return left
+        return folder, it.read().splitlines()
 
 
 def parts_of(words):
     """The words of a call that makes an object, without its input and output, and the input."""
+    left = [it for it in words if not it.startswith("--sysroot=")]
     try:
-        kind, source = words[words.index("-x") + 1 :][:2]
-        left = without(words, "-o", "-x")
-        left.remove(source)
         left.remove("-c")
-    except (ValueError, IndexError):
-        sys.exit(f"assembly.py: another kit: its clang is called in a way that isn't known: {' '.join(words)}")
+        at = left.index("-x")
+        kind, source = left[at + 1 : at + 3]
+        del left[at : at + 3]
+        at = left.index("-o")
+        del left[at : at + 2]
+    except ValueError:
+        refuse(f"clang is called by {' '.join(words)}")
     if kind != "ir" or any(it.endswith((".bc", ".ll", ".o")) for it in left):
-        sys.exit(f"assembly.py: another kit: its clang is called in a way that isn't known: {' '.join(words)}")
-    return [it for it in left if not it.startswith("--sysroot=")], source
+        refuse(f"clang is called by {' '.join(words)}")
+    return left, source
 
 
 def clang(toolchain, folder, words):
     """What the kit's clang writes for these words, in this folder."""
-    made = subprocess.run(
-        [os.path.realpath(f"{toolchain}/kit/toolchain/bin/clang"), *words, "-o", "-"],
-        cwd=folder, capture_output=True, text=True, check=False)
+    program = os.path.realpath(f"{toolchain}/kit/toolchain/bin/clang")
+    made = subprocess.run([program, *words, "-S", "-o", "-"], cwd=folder, capture_output=True, text=True, check=False)
     if made.returncode:
-        sys.exit(f"assembly.py: clang fails: {made.stderr}")
+        refuse(f"clang fails: {made.stderr}")
     return made.stdout
 
 
@@ -60,17 +65,51 @@ def text_of(toolchain, folder, words, source):
     if source.endswith(".ll"):
         with open(f"{folder}/{source}", encoding="utf-8") as it:
             return it.read()
-    return clang(toolchain, folder, [*words, "-Xclang", "-disable-llvm-passes", "-Xclang", "-emit-llvm-uselists",
-                                     "-S", "-emit-llvm", "-x", "ir", source])
+    return clang(toolchain, folder, [
+        *words, "-Xclang", "-disable-llvm-passes", "-Xclang", "-emit-llvm-uselists", "-emit-llvm", "-x", "ir", source])
 
 
-def with_tables(text):
-    """The module with the attribute `uwtable` at each function that it defines."""
-    groups = set(re.findall(r"^define .* (#\d+)(?: section \S+)?(?: align \d+)? \{$", text, re.M))
+def asking_tables(text):
+    """The module with LLVM's attribute for tables at each function that it defines."""
+    groups = set(re.findall(r"^define .* (#\d+) \{$", text, re.M))
     if not groups:
-        sys.exit("assembly.py: another kit: its functions have no attributes")
+        refuse("functions have no attributes")
     return re.sub(r"^attributes (#\d+) = \{ ",
-                  lambda it: it[0] + "uwtable " if it[1] in groups else it[0], text, flags=re.M)
+                  lambda it: it[0] + "uwtable(sync) " if it[1] in groups else it[0], text, flags=re.M)
+
+
+def tables_of(tabled):
+    """A list for each function: lines, each with the tables' directives that stand behind it."""
+    made, behind = [], None
+    for line in tabled.splitlines():
+        if not line.startswith("\t.cfi_"):
+            behind = line
+            continue
+        if line == "\t.cfi_startproc":
+            made.append([])
+        if not made[-1] or made[-1][-1][0] is not behind:
+            made[-1].append((behind, []))
+        made[-1][-1][1].append(line)
+    return made
+
+
+def with_tables(plain, tabled):
+    """The plain assembly with the tables' directives, behind the same lines as in the other. Where the plain one makes
+    room on the stack by other instructions, they stand behind that which sets the frame pointer."""
+    plain, made, at = plain.splitlines(), [], 0
+    for table in tables_of(tabled):
+        end, waiting = plain.index(table[-1][0], at) + 1, []
+        for behind, directives in table:
+            if behind is table[-1][0] and waiting:
+                refuse(f"tables change the lines before {behind}")
+            waiting += directives
+            if behind not in plain[at:end] and directives[0].startswith("\t.cfi_def_cfa w29,"):
+                behind = next(filter(SETS_FRAME_POINTER.fullmatch, plain[at:end]), None)
+            if behind in plain[at:end]:
+                found = plain.index(behind, at) + 1
+                made += plain[at:found] + waiting
+                at, waiting = found, []
+    return "\n".join(made + plain[at:]) + "\n"
 
 
 def renamed(text):
@@ -86,8 +125,9 @@ def main():
     folder, words = last_call(toolchain)
     words, source = parts_of(words)
     with open(f"{folder}/tables.ll", "w", encoding="utf-8") as it:
-        it.write(with_tables(text_of(toolchain, folder, words, source)))
-    made = clang(toolchain, folder, [*words, "-fno-addrsig", "-fno-verbose-asm", "-S", "-x", "ir", "tables.ll"])
+        it.write(asking_tables(text_of(toolchain, folder, words, source)))
+    words += ["-fno-addrsig", "-fno-verbose-asm", "-x", "ir"]
+    made = with_tables(clang(toolchain, folder, [*words, source]), clang(toolchain, folder, [*words, "tables.ll"]))
     with open(out, "w", encoding="utf-8") as it:
         it.write(renamed(made))
 

@@ -10,9 +10,9 @@ import sys
 from calls import attributes
 from constants import constant
 from functions import Function
-from ir_types import Struct, Void, type_of
+from ir_types import Struct, type_of
 from operands import Globals
-from reading import NAME, Line, Refused
+from reading import Line, Refused
 
 HEAD = """\
 /* Made by tools/generate.sh of the proved library: not to be read, nor changed. PROVENANCE says from what. */
@@ -37,14 +37,6 @@ __extension__ typedef unsigned __int128 u128;
 #define MEMORY(type) \\
     static inline type get_##type(const unsigned char *at) { type it; memcpy(&it, at, sizeof it); return it; } \\
     static inline void put_##type(unsigned char *at, type it) { memcpy(at, &it, sizeof it); }
-MEMORY(u8)
-MEMORY(u16)
-MEMORY(u32)
-MEMORY(u64)
-MEMORY(u128)
-MEMORY(P)
-static inline u1 get_u1(const unsigned char *at) { return *at & 1; }
-static inline void put_u1(unsigned char *at, u1 it) { *at = it; }
 
 /* Of no octets, as C's own may not be asked with no address. */
 static inline void copy(P to, const unsigned char *from, u64 n) { if (n != 0) memcpy(to, from, n); }
@@ -55,10 +47,10 @@ LINKAGE = {"internal", "fastcc", "local_unnamed_addr", "unnamed_addr", "dso_loca
 
 
 class Module:
-    """The parts of the C file."""
+    """The parts of the C file: `names` of functions and constants, `memory` the types that are read and written."""
 
     def __init__(self):
-        self.names, self.structs = Globals("f_"), set()
+        self.names, self.structs, self.memory = Globals("f_"), set(), set()
         self.constants, self.headers, self.bodies = [], [], []
 
     def header(self, line, scope):
@@ -77,9 +69,8 @@ class Module:
             parameters.append(f"{type_} {scope.registers[register]}" if register else str(type_))
             if line.peek() != ")":
                 line.expect(",")
-        for type_ in (result,):
-            if isinstance(type_, Struct):
-                self.structs.add(type_)
+        if isinstance(result, Struct):
+            self.structs.add(result)
         static = "static " if is_static else ""
         return name, f"{static}{result} {self.names[name]}({', '.join(parameters) or 'void'})"
 
@@ -87,7 +78,7 @@ class Module:
         """A function of another file, or LLVM's own, which calls say in other words."""
         line = Line(text)
         line.expect("declare")
-        name, made = self.header(line, Function(self.names, self.structs))
+        name, made = self.header(line, Function(self))
         if not name.startswith("@llvm."):
             self.headers.append(made + ";")
 
@@ -95,7 +86,7 @@ class Module:
         """A function and its lines."""
         line = Line(text)
         line.expect("define")
-        scope = Function(self.names, self.structs)
+        scope = Function(self)
         _, made = self.header(line, scope)
         self.headers.append(made + ";")
         self.bodies.append("\n".join([made + " {", *scope.body(lines), "}"]))
@@ -105,7 +96,7 @@ class Module:
         lines = iter(lines)
         for text in lines:
             if text.startswith("@"):
-                self.constants.append(constant(text, Function(self.names, self.structs)))
+                self.constants.append(constant(text, Function(self)))
             elif text.startswith("declare "):
                 self.declaration(text)
             elif text.startswith("define "):
@@ -117,7 +108,8 @@ class Module:
         """The C file."""
         structs = [f"{it} {{ {' '.join(f'{of} f{n};' for n, of in enumerate(it.fields))} }};"
                    for it in sorted(self.structs, key=str)]
-        parts = [HEAD, *structs, *self.constants, *self.headers, *self.bodies]
+        memory = [f"MEMORY({it})" for it in sorted(self.memory)]
+        parts = [HEAD, *memory, *structs, *self.constants, *self.headers, *self.bodies]
         return "\n".join(parts) + "\n"
 
 

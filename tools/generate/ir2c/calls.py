@@ -95,7 +95,7 @@ def call(line, result, scope):
     else:
         line.take()
         given = arguments(line, scope)
-        made = f"{scope.module[name]}({', '.join(it for _, it in given)})"
+        made = f"{scope.module.names[name]}({', '.join(it for _, it in given)})"
         if result is None or isinstance(type_, Void):
             scope.say(f"{made};")
         else:

@@ -51,4 +51,4 @@ def constant(text, scope):
     line.end()
     if isinstance(type_.element, Pointer):
         element = "P"
-    return f"static const {element} {scope.module[found[1]]}[{max(type_.count, 1)}] = {{{values}}};"
+    return f"static const {element} {scope.module.names[found[1]]}[{max(type_.count, 1)}] = {{{values}}};"

@@ -1,7 +1,7 @@
 """A function of LLVM IR as one of C: a label for each block, a variable for each value."""
 import re
 
-from ir_types import Integer, Struct, Void, type_of
+from ir_types import Integer, Pointer, Struct, type_of
 from opcodes import OPCODES
 from operands import Names, operand
 from reading import NAME, Line, Refused
@@ -24,8 +24,8 @@ def instructions_of(lines):
 class Function:
     """The text of a function, as its instructions are read. They call what stands first."""
 
-    def __init__(self, module, structs):
-        self.module, self.structs = module, structs
+    def __init__(self, module):
+        self.module = module
         self.registers, self.labels = Names("v_"), Names("L_")
         self.read, self.reached = set(), set()
         self.declarations, self.statements = [], []
@@ -45,14 +45,15 @@ class Function:
         if result is None:
             raise Refused(f"not known: a value without a name, {expression}")
         if isinstance(type_, Struct):
-            self.structs.add(type_)
+            self.module.structs.add(type_)
         self.statements.append((f"    {self.registers[result]} = {expression};", (result, type_, expression)))
 
     def memory(self, type_, line):
-        """What the calls that read and write this type are called by."""
-        if isinstance(type_, (Void, Struct)):
+        """The end of the names of what reads and writes values of this type."""
+        if not isinstance(type_, (Integer, Pointer)):
             raise line.refused()
         _ = type_.octets
+        self.module.memory.add(str(type_))
         return str(type_)
 
     def is_first_block(self):

@@ -4,7 +4,7 @@ Numbers are unsigned in C too, and their bits above those of their type are zero
 is told by its bit. Memory is read and written octet by octet, by memcpy, at any alignment.
 """
 from calls import call
-from ir_types import Array, Integer, Pointer, Struct, type_of
+from ir_types import Integer, Pointer, Struct, type_of
 from operands import operand
 
 FLAGS = {"nuw", "nsw", "exact", "disjoint", "nneg", "samesign", "inbounds", "nusw"}
@@ -133,7 +133,6 @@ def place(line, result, scope):
 def load(line, result, scope):
     """Reads memory."""
     type_ = type_of(line)
-    _ = scope.memory(type_, line)
     line.expect(",", "ptr")
     scope.let(result, type_, f"get_{scope.memory(type_, line)}({operand(line, Pointer(), scope)})")
 
@@ -187,7 +186,7 @@ def with_field(line, result, scope):
     type_ = type_of(line)
     if not isinstance(type_, Struct):
         raise line.refused()
-    scope.structs.add(type_)
+    scope.module.structs.add(type_)
     scope.declare(f"{type_} {scope.registers[result]}")
     if line.peek() in ("poison", "undef"):
         line.take()

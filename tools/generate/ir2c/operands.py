@@ -45,7 +45,7 @@ def of_global(token, type_, scope):
     """The address of a constant or a function."""
     if not isinstance(type_, Pointer):
         raise Refused(f"not known: the address {token} as another value")
-    return f"(P){scope.module[token]}"
+    return f"(P){scope.module.names[token]}"
 
 
 def of_number(token, type_, _scope):

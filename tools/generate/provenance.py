@@ -1,0 +1,50 @@
+#!/usr/bin/env python3
+"""Writes what PROVENANCE says: provenance.py KIT HASH CLANG X86_64.ll TOOL.ll, whose functions it counts by crate."""
+import collections
+import re
+import sys
+
+TEXT = """\
+Made by tools/generate.sh, as are the files beside it. None is changed by hand.
+
+kit: {kit}
+clang: {clang}
+sources: {hash}
+
+The kit's clang gets each module from rattle, which proved the crate. It makes
+
+    x86_64/pkcs1_c.s, pkcs1_tool.s      with --target=x86_64-unknown-linux-gnu -march=x86-64
+    aarch64/pkcs1_c.s, pkcs1_tool.s     with --target=aarch64-unknown-linux-gnu -march=armv8-a
+    pkcs1_c.c                           by tools/generate/ir2c, from the library's module for x86_64 after LLVM's passes
+
+and the assembly, assembled by it, is the code that the proved build made. To see it, and that these files come from
+these sources, with that kit:
+
+    rt ci                          proves the crates, an hour
+    tools/generate.sh --check      makes the files again elsewhere, and compares
+
+Licences. Functions that each module has, by the crate that they come from:
+
+{counts}
+
+Those of der_core, spki_core, pkcs8_core, tool_core and pkcs1* are this repository's: Apache-2.0 or MIT. hex is a port
+of hex 0.4.3, Apache-2.0 or MIT. core, io, libc, os and std* are the kit's, which states no licence for them: until that
+is settled, nothing that is made of these files may be published.
+"""
+
+
+def counts(path):
+    """How many functions of each crate a module defines, in words, the most first."""
+    with open(path, encoding="utf-8") as it:
+        names = re.findall(r'^define [^@]*@(?:"([a-z0-9_]+)::|(pkcs1_c)_)', it.read(), re.M)
+    made = collections.Counter(first or second for first, second in names)
+    return ", ".join(f"{name} {count}" for name, count in sorted(made.items(), key=lambda it: (-it[1], it[0])))
+
+
+def main():
+    kit, made_of, clang, library, tool = sys.argv[1:]
+    listed = f"    library: {counts(library)}\n    tool: {counts(tool)}"
+    print(TEXT.format(kit=kit, hash=made_of, clang=clang, counts=listed), end="")
+
+
+main()
