@@ -88,7 +88,7 @@ assemble() {
     [ "$2" = x86_64 ] || objdump=$2-linux-gnu-objdump
     mkdir -p "$room/generated/$2"
     $parts/assembly.py "$room/$1.$2" "$assembly" || exit 2
-    $parts/same_code.py "$kit/toolchain/bin/clang" $objdump "$2-unknown-linux-gnu" "$3" "$assembly" || exit 1
+    $parts/same_code.py "$kit/toolchain/bin/clang" "$objdump" "$2-unknown-linux-gnu" "$3" "$assembly" || exit 1
     say "the assembly of $1 for $2 is the code that was proved"
 }
 

@@ -1,0 +1,105 @@
+#!/usr/bin/env bash
+# Tests ffi/generated, and the translation to C: the objects are such that they link with anything, the C passes the test
+# of the library as the assembly does, and what the translation doesn't know it refuses. It needs gcc, clang, binutils
+# and python3, for other processors aarch64-linux-gnu-gcc, to compare the opcodes the kit.
+set -eu
+here=$(cd "$(dirname "$0")" && pwd)
+ffi=$here/../../ffi
+generated=$ffi/generated
+room=$(mktemp -d)
+trap 'rm -rf "$room"' EXIT
+ulimit -t 300 # no test runs forever
+export PYTHONDONTWRITEBYTECODE=1
+export ASAN_OPTIONS=allocator_may_return_null=1 # the library says itself that there is no memory
+
+stop() {
+    printf 'tools/generate/test.sh: %s\n' "$*" >&2
+    exit 1
+}
+for tool in gcc clang readelf nm python3; do
+    command -v $tool > /dev/null || {
+        printf 'tools/generate/test.sh: %s is not installed, and is needed\n' $tool >&2
+        exit 2
+    }
+done
+
+# object_is_right OBJECT CC EXPORTS IMPORTS: no part of the stack is executed, nothing in the code depends on where it is
+# loaded, and these names alone are given and asked for.
+object_is_right() {
+    local object=$1
+    readelf -SW "$object" | grep -F .note.GNU-stack | grep -qv ' X ' || stop "$object: its stack would be executable"
+    "$2" -shared -nostdlib -Wl,-z,text "$object" -o "$room/shared" || stop "$object: it can't be moved"
+    nm -g --defined-only "$object" | sed 's/.* //' | grep -vxE "$3" && stop "$object gives other names"
+    nm -u "$object" | sed 's/.* //' | grep -vxE "$4" && stop "$object asks for other names"
+    return 0
+}
+# frames_are_right OBJECT: a debugger goes back from each function.
+frames_are_right() {
+    local frames
+    frames=$(readelf --debug-dump=frames "$1" 2> /dev/null | grep -c 'FDE cie')
+    [ "$frames" = "$(readelf -sW "$1" | grep -c ' FUNC ')" ] || stop "$1: a debugger can't go back from each call"
+}
+objects_are_right() {
+    local calls='pkcs1_c_[a-z0-9_]*' of_c='memcpy|memmove|memset|memcmp|bcmp|pkcs1_rattle_(alloc|realloc|dealloc)' processor cc
+    local of_tool="$of_c|read|write|open|close|__sysv_signal|pkcs1_rattle_(arg|arg_count|env|env_at|errno|set_errno)"
+    for processor in x86_64 aarch64; do
+        cc=$processor-linux-gnu-gcc
+        [ $processor != "$(uname -m)" ] || cc=gcc
+        command -v $cc > /dev/null || {
+            echo "tools/generate/test.sh: $cc is not installed: the code for $processor isn't tested"
+            continue
+        }
+        $cc -c "$generated/$processor/pkcs1_c.s" -o "$room/c.o"
+        $cc -c "$generated/$processor/pkcs1_tool.s" -o "$room/tool.o"
+        object_is_right "$room/c.o" $cc "$calls" "$of_c"
+        object_is_right "$room/tool.o" $cc pkcs1_tool_main "$of_tool"
+        frames_are_right "$room/c.o"
+        frames_are_right "$room/tool.o"
+        $cc -std=c99 -Wall -Wextra -Werror -pedantic -O2 -fPIC -c "$generated/pkcs1_c.c" -o "$room/portable.o"
+        object_is_right "$room/portable.o" $cc "$calls" "$of_c"
+    done
+}
+
+# The library's test, over the assembly and over the C.
+library_passes() {
+    local compiler flags
+    local files=("-I$ffi/include" "$ffi/c/test.c" "$ffi/c/pkcs1.c" "$ffi/c/heap.c")
+    gcc -O1 "${files[@]}" "$generated/$(uname -m)/pkcs1_c.s" -o "$room/test"
+    "$room/test" "$ffi/rust/tests/statuses" > /dev/null
+    for compiler in gcc clang; do
+        for flags in -O2 "-O1 -g -fsanitize=address,undefined -fno-sanitize-recover=all"; do
+            # shellcheck disable=SC2086
+            $compiler -std=c99 -Wall -Wextra -Werror -pedantic $flags "${files[@]}" "$generated/pkcs1_c.c" -o "$room/test"
+            "$room/test" "$ffi/rust/tests/statuses" > /dev/null
+        done
+    done
+}
+
+# refuses TEXT MESSAGE: a function with this line isn't translated, and one line says why.
+refuses() {
+    printf 'define void @pkcs1_c_it(ptr %%0, i64 %%1) {\n  %s\n  ret void\n}\n' "$1" > "$room/it.ll"
+    rm -f "$room/it.c"
+    python3 "$here/ir2c" "$room/it.ll" "$room/it.c" 2> "$room/error" && stop "$1 is translated"
+    [ ! -e "$room/it.c" ] && [ "$(wc -l < "$room/error")" = 1 ] && grep -qF "$2" "$room/error" ||
+        stop "$1 is refused otherwise: $(cat "$room/error")"
+}
+unknown_is_refused() {
+    refuses '%2 = fadd double 1.0, 2.0' 'not known: the instruction fadd'
+    refuses '%2 = sdiv i64 %1, 3' 'not known: the instruction sdiv'
+    refuses '%2 = load volatile i64, ptr %0, align 8' 'not known: volatile'
+    refuses '%2 = load i24, ptr %0, align 1' 'a number of 24 bits in memory'
+    refuses 'call void @llvm.umul.with.overflow.i64(i64 %1, i64 1)' 'not known: @llvm.umul.with.overflow.i64'
+    refuses 'call void %0(i64 %1)' 'not known: %0'
+    refuses '%2 = add <2 x i64> zeroinitializer, zeroinitializer' 'not known: <'
+    refuses '%2 = add i256 1, 1' 'a number of 256 bits'
+    refuses 'store i64 %1, ptr %0, align 8, !nontemporal !0, more' 'more'
+    refuses '%2 = alloca i8, i64 %1, align 1' 'not known'
+}
+
+objects_are_right
+library_passes
+unknown_is_refused
+if false && command -v rt > /dev/null; then
+    "$here/test_opcodes.py" "$(dirname "$(rt doc)")/toolchain/bin/clang" "$room"
+fi
+echo "generated: the objects, the library's test over assembly and C, the translation"
