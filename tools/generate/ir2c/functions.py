@@ -65,6 +65,8 @@ class Function:
         self.reached.add(name)
         moves = ""
         for result, type_, arms in self.phis.get(name, ()):
+            if self.block not in arms:
+                raise Refused(f"not known: where {result} comes from, in a block without a name")
             moves += f"p_{self.registers[result]} = {operand(Line(arms[self.block]), type_, self)}; "
         return f"{{ {moves}goto {self.labels[name]}; }}"
 

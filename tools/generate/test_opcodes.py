@@ -1,0 +1,139 @@
+#!/usr/bin/env python3
+"""Compares what ir2c makes of each instruction with what the kit's clang makes of it: test_opcodes.py CLANG FOLDER.
+
+Each function of a module of LLVM IR takes two numbers, and gives one: for each instruction and width one function.
+Both programs of it print the same for the same numbers, of which some lie at the ends of a width.
+"""
+import os
+import random
+import subprocess
+import sys
+
+WIDTHS = [1, 3, 8, 13, 16, 24, 32, 33, 64, 77, 128]
+SIMPLE = ["add", "sub", "mul", "and", "or", "xor"]
+PREDICATES = ["eq", "ne", "ult", "ule", "ugt", "uge", "slt", "sle", "sgt", "sge"]
+HARNESS = """
+#include <inttypes.h>
+#include <stdio.h>
+{prototypes}
+static uint64_t (*const calls[])(uint64_t, uint64_t) = {{{names}}};
+static const uint64_t numbers[] = {{{numbers}}};
+int main(void) {{
+    for (unsigned f = 0; f < sizeof calls / sizeof *calls; f++)
+        for (unsigned a = 0; a < sizeof numbers / sizeof *numbers; a++)
+            for (unsigned b = 0; b < sizeof numbers / sizeof *numbers; b++)
+                printf("%u %" PRIx64 "\\n", f, calls[f](numbers[a], numbers[b]));
+    return 0;
+}}
+"""
+DECLARED = """
+@numbers = private unnamed_addr constant [4 x i16] [i16 -1, i16 0, i16 513, i16 7], align 2
+@text = private unnamed_addr constant [5 x i8] c"a\\00\\FF\\22z", align 1
+declare void @llvm.memcpy.p0.p0.i64(ptr, ptr, i64, i1)
+declare void @llvm.memmove.p0.p0.i64(ptr, ptr, i64, i1)
+declare void @llvm.memset.p0.i64(ptr, i8, i64, i1)
+"""
+
+
+def operands(width):
+    """Lines that make %x and %y of this width from the two numbers."""
+    if width <= 64:
+        narrowed = "trunc i64 %{0} to i{1}" if width < 64 else "add i64 %{0}, 0"
+        return [f"%x = {narrowed.format('a', width)}", f"%y = {narrowed.format('b', width)}"]
+    return ["%a1 = zext i64 %a to i128", "%b1 = zext i64 %b to i128", "%a2 = shl i128 %a1, 64", "%b2 = shl i128 %b1, 60",
+            "%x1 = or i128 %a2, %b1", "%y1 = xor i128 %b2, %a1", *(
+                f"%{it} = {'trunc i128' if width < 128 else 'add i128'} %{it}1{f' to i{width}' if width < 128 else ', 0'}"
+                for it in "xy")]
+
+
+def result(width):
+    """Lines that give back %z of this width."""
+    if width == 64:
+        return ["ret i64 %z"]
+    if width < 64:
+        return [f"%r = zext i{width} %z to i64", "ret i64 %r"]
+    return [f"%h = lshr i{width} %z, 64", f"%hi = trunc i{width} %h to i64", f"%lo = trunc i{width} %z to i64",
+            "%r = xor i64 %lo, %hi", "ret i64 %r"]
+
+
+def of_width(width):
+    """The functions of one width, each a list of lines."""
+    t, begin, end = f"i{width}", operands(width), result(width)
+    for op in SIMPLE:
+        yield [*begin, f"%z = {op} {t} %x, %y", *end]
+    for op in ("udiv", "urem"):
+        yield [*begin, f"%y2 = or {t} %y, 1", f"%z = {op} {t} %x, %y2", *end]
+    if width > 1:
+        for op in ("shl", "lshr"):
+            yield [*begin, f"%y2 = and {t} %y, {(1 << (width.bit_length() - 1)) - 1}", f"%z = {op} {t} %x, %y2", *end]
+    for predicate in PREDICATES:
+        yield [*begin, f"%c = icmp {predicate} {t} %x, %y", f"%z = select i1 %c, {t} %x, {t} -1", *end]
+    if width < 128:
+        yield [*begin, f"%z = sext {t} %x to i128", *result(128)]
+    if width in (8, 16, 32, 64, 128):
+        for name in ("umin", "umax", "usub.sat"):
+            yield [*begin, f"%z = call {t} @llvm.{name}.{t}({t} %x, {t} %y)", *end]
+        yield [*begin, f"%p = alloca {t}, align 1", f"store {t} %x, ptr %p, align 1", "%q = getelementptr i8, ptr %p, i64 0",
+               f"%z = load {t}, ptr %q, align 1", *end]
+    if 1 < width <= 64:
+        yield [*begin, f"switch {t} %x, label %c [", f"{t} 0, label %d", f"{t} -1, label %e", "]", "c:", "br label %f", "d:",
+               "br label %f", "e:", "br label %f", "f:", f"%z = phi {t} [ %x, %c ], [ 2, %d ], [ %y, %e ]", *end]
+
+
+def of_shape():
+    """Functions of memory, of the order of blocks, and of structs."""
+    yield ["%i = and i64 %a, 3", "%p = getelementptr inbounds i16, ptr @numbers, i64 %i", "%x = load i16, ptr %p, align 2",
+           "%r = zext i16 %x to i64", "ret i64 %r"]
+    yield ["%m = alloca [16 x i8], align 8", "call void @llvm.memset.p0.i64(ptr %m, i8 7, i64 16, i1 false)",
+           "%n = and i64 %a, 3", "call void @llvm.memcpy.p0.p0.i64(ptr %m, ptr @text, i64 %n, i1 false)",
+           "%q = getelementptr i8, ptr %m, i64 %n", "%k = getelementptr i8, ptr %q, i64 -1", "%o = getelementptr i8, ptr %k, i64 2",
+           "call void @llvm.memmove.p0.p0.i64(ptr %o, ptr %m, i64 8, i1 false)", "%x = load i64, ptr %m, align 8",
+           "%y = load i64, ptr %o, align 1", "%r = xor i64 %x, %y", "ret i64 %r"]
+    yield ["%n = and i64 %a, 15", "br label %l", "l:", "%i = phi i64 [ 0, %begin ], [ %j, %l ]",
+           "%x = phi i64 [ %a, %begin ], [ %y, %l ]", "%y = phi i64 [ %b, %begin ], [ %x, %l ]", "%j = add i64 %i, 1",
+           "%c = icmp ult i64 %j, %n", "br i1 %c, label %l, label %e", "e:", "%r = sub i64 %x, %y", "ret i64 %r"]
+    yield ["%s = insertvalue { i64, i8 } poison, i64 %a, 0", "%x = trunc i64 %b to i8", "%t = insertvalue { i64, i8 } %s, i8 %x, 1",
+           "%u = extractvalue { i64, i8 } %t, 0", "%v = extractvalue { i64, i8 } %t, 1", "%w = zext i8 %v to i64",
+           "%r = add i64 %u, %w", "ret i64 %r"]
+    yield ["%p = getelementptr i8, ptr @text, i64 1", "%n = ptrtoint ptr %p to i64", "%m = inttoptr i64 %n to ptr",
+           "%c = icmp ult ptr @text, %m", "%x = load i8, ptr %m, align 1", "%y = zext i1 %c to i8", "%z = add i8 %x, %y",
+           "%f = freeze i8 %z", "%r = zext i8 %f to i64", "ret i64 %r"]
+
+
+def built(folder, name, *words):
+    """What a program prints that is built so."""
+    subprocess.run(["gcc", "-O1", "-w", f"{folder}/harness.c", *words, "-o", f"{folder}/{name}"], check=True)
+    return subprocess.run([f"{folder}/{name}"], capture_output=True, check=True).stdout
+
+
+def main():
+    clang, folder = sys.argv[1:]
+    functions = [it for width in WIDTHS for it in of_width(width)] + list(of_shape())
+    names = [f"pkcs1_c_{number}" for number in range(len(functions))]
+    with open(f"{folder}/opcodes.ll", "w", encoding="utf-8") as it:
+        print('target triple = "x86_64-unknown-linux-gnu"', DECLARED, file=it)
+        for name in ("umin", "umax", "usub.sat"):
+            for width in (8, 16, 32, 64, 128):
+                print(f"declare i{width} @llvm.{name}.i{width}(i{width}, i{width})", file=it)
+        for name, lines in zip(names, functions):
+            print(f"define i64 @{name}(i64 %a, i64 %b) {{\nbegin:", file=it)
+            print(*(f"  {line}" if line[-1] != ":" else line for line in lines), "}\n", sep="\n", file=it)
+    chance = random.Random(1)
+    numbers = {0, 1, 2, 3, *(chance.getrandbits(64) for _ in range(6))}
+    for width in WIDTHS[1:9]:
+        numbers |= {(1 << width) - 1, (1 << (width - 1)), (1 << (width - 1)) - 1}
+    with open(f"{folder}/harness.c", "w", encoding="utf-8") as it:
+        it.write(HARNESS.format(prototypes="\n".join(f"uint64_t {name}(uint64_t, uint64_t);" for name in names),
+                                names=", ".join(names), numbers=", ".join(f"{it}ull" for it in sorted(numbers))))
+    subprocess.run([clang, "-c", "-w", "-x", "ir", f"{folder}/opcodes.ll", "-o", f"{folder}/opcodes.o"], check=True)
+    here = os.path.dirname(os.path.realpath(__file__))
+    subprocess.run([sys.executable, f"{here}/ir2c", f"{folder}/opcodes.ll", f"{folder}/opcodes.c"], check=True)
+    wanted, made = built(folder, "wanted", f"{folder}/opcodes.o"), built(folder, "made", f"{folder}/opcodes.c")
+    for left, right in zip(wanted.splitlines(), made.splitlines()):
+        if left != right:
+            number = int(left.split()[0])
+            sys.exit("\n".join(["test_opcodes.py: C gives another number:", *functions[number]]))
+    print(f"opcodes: {len(functions)} functions, {len(wanted.splitlines())} calls")
+
+
+main()
