@@ -75,6 +75,16 @@ library_passes() {
     done
 }
 
+# Machines whose numbers or addresses are others stop the compiler.
+other_machines_are_refused() {
+    local option
+    for option in -D__BYTE_ORDER__=4321 -m32; do
+        gcc -w -ffreestanding -fsyntax-only $option "$generated/pkcs1_c.c" 2> "$room/error" &&
+            stop "the C is compiled with $option"
+        grep -q '#error "pkcs1' "$room/error" || stop "with $option the compiler stops elsewhere"
+    done
+}
+
 # refuses TEXT MESSAGE: a function with this line isn't translated, and one line says why.
 refuses() {
     printf 'define void @pkcs1_c_it(ptr %%0, i64 %%1) {\n  %s\n  ret void\n}\n' "$1" > "$room/it.ll"
@@ -89,6 +99,7 @@ unknown_is_refused() {
     refuses '%2 = load volatile i64, ptr %0, align 8' 'not known: volatile'
     refuses '%2 = load i24, ptr %0, align 1' 'a number of 24 bits in memory'
     refuses 'call void @llvm.umul.with.overflow.i64(i64 %1, i64 1)' 'not known: @llvm.umul.with.overflow.i64'
+    refuses 'call void @llvm.memset.p0.i64(ptr %0, i8 0, i64 %1, i1 true)' 'a volatile fill'
     refuses 'call void %0(i64 %1)' 'not known: %0'
     refuses '%2 = add <2 x i64> zeroinitializer, zeroinitializer' 'not known: <'
     refuses '%2 = add i256 1, 1' 'a number of 256 bits'
@@ -98,6 +109,7 @@ unknown_is_refused() {
 
 objects_are_right
 library_passes
+other_machines_are_refused
 unknown_is_refused
 if command -v rt > /dev/null; then
     "$here/test_opcodes.py" "$(dirname "$(rt doc)")/toolchain/bin/clang" "$room"

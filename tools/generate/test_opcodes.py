@@ -32,6 +32,9 @@ DECLARED = """
 declare void @llvm.memcpy.p0.p0.i64(ptr, ptr, i64, i1)
 declare void @llvm.memmove.p0.p0.i64(ptr, ptr, i64, i1)
 declare void @llvm.memset.p0.i64(ptr, i8, i64, i1)
+declare i16 @llvm.bswap.i16(i16)
+declare i32 @llvm.bswap.i32(i32)
+declare i64 @llvm.bswap.i64(i64)
 """
 
 
@@ -75,6 +78,8 @@ def of_width(width):
             yield [*begin, f"%z = call {t} @llvm.{name}.{t}({t} %x, {t} %y)", *end]
         yield [*begin, f"%p = alloca {t}, align 1", f"store {t} %x, ptr %p, align 1", "%q = getelementptr i8, ptr %p, i64 0",
                f"%z = load {t}, ptr %q, align 1", *end]
+    if width in (16, 32, 64):
+        yield [*begin, f"%z = call {t} @llvm.bswap.{t}({t} %x)", *end]
     if 1 < width <= 64:
         yield [*begin, f"switch {t} %x, label %c [", f"{t} 0, label %d", f"{t} -1, label %e", "]", "c:", "br label %f", "d:",
                "br label %f", "e:", "br label %f", "f:", f"%z = phi {t} [ %x, %c ], [ 2, %d ], [ %y, %e ]", *end]

@@ -17,7 +17,6 @@ from reading import Line, Refused
 HEAD = """\
 /* Made by tools/generate.sh of the proved library: not to be read, nor changed. PROVENANCE says from what. */
 #include <stdint.h>
-#include <string.h>
 
 #if UINTPTR_MAX != 0xffffffffffffffffu || !defined __SIZEOF_INT128__
 #error "pkcs1: this code is for machines with addresses of 64 bits, and compilers that have __int128, as gcc and clang"
@@ -25,6 +24,8 @@ HEAD = """\
 #if __BYTE_ORDER__ != __ORDER_LITTLE_ENDIAN__
 #error "pkcs1: this code is for machines that have the least octet of a number first"
 #endif
+
+#include <string.h>
 
 #define ALIGNED(n) __attribute__((aligned(n)))
 typedef unsigned char *P;
@@ -34,9 +35,9 @@ typedef uint32_t u32;
 typedef uint64_t u64;
 __extension__ typedef unsigned __int128 u128;
 
-#define MEMORY(type) \\
-    static inline type get_##type(const unsigned char *at) { type it; memcpy(&it, at, sizeof it); return it; } \\
-    static inline void put_##type(unsigned char *at, type it) { memcpy(at, &it, sizeof it); }
+#define GET(type) \\
+    static inline type get_##type(const unsigned char *at) { type it; memcpy(&it, at, sizeof it); return it; }
+#define PUT(type) static inline void put_##type(unsigned char *at, type it) { memcpy(at, &it, sizeof it); }
 
 /* Of no octets, as C's own may not be asked with no address. */
 static inline void copy(P to, const unsigned char *from, u64 n) { if (n != 0) memcpy(to, from, n); }
@@ -47,7 +48,7 @@ LINKAGE = {"internal", "fastcc", "local_unnamed_addr", "unnamed_addr", "dso_loca
 
 
 class Module:
-    """The parts of the C file: `names` of functions and constants, `memory` the types that are read and written."""
+    """The parts of the C file: `names` of functions and constants, `memory` what reads and writes types."""
 
     def __init__(self):
         self.names, self.structs, self.memory = Globals("f_"), set(), set()
@@ -108,8 +109,7 @@ class Module:
         """The C file."""
         structs = [f"{it} {{ {' '.join(f'{of} f{n};' for n, of in enumerate(it.fields))} }};"
                    for it in sorted(self.structs, key=str)]
-        memory = [f"MEMORY({it})" for it in sorted(self.memory)]
-        parts = [HEAD, *memory, *structs, *self.constants, *self.headers, *self.bodies]
+        parts = [HEAD, *sorted(self.memory), *structs, *self.constants, *self.headers, *self.bodies]
         return "\n".join(parts) + "\n"
 
 

@@ -1,6 +1,9 @@
 """Calls, and those of LLVM's own functions, which C says in other words."""
+import re
+
 from ir_types import Integer, Void, type_of
 from operands import operand
+from reading import Refused
 
 # What is said of parameters and functions besides their types; a call means the same without it.
 ATTRIBUTES = {
@@ -32,8 +35,14 @@ def arguments(line, scope):
 
 
 def of_memory(name):
-    """A call that fills or copies octets, of which there may be none."""
-    return lambda given: (Void(), f"{name}({given[0][1]}, {given[1][1]}, {given[2][1]})")
+    """A call that fills or copies octets, of which there may be none. The last word says whether it is volatile."""
+
+    def made(given):
+        if given[3][1] != "0u":
+            raise Refused(f"not known: a volatile {name}")
+        return Void(), f"{name}({given[0][1]}, {given[1][1]}, {given[2][1]})"
+
+    return made
 
 
 def of_nothing(_given):
@@ -51,21 +60,28 @@ def of_two(form):
     return lambda given: (given[0][0], form.format(a=given[0][1], b=given[1][1]))
 
 
+def of_order(given):
+    """A call that turns the order of a number's octets, for which compilers have a call of their own."""
+    type_, value = given[0]
+    if type_.bits not in (16, 32, 64):
+        raise Refused(f"not known: a number of {type_.bits} bits turned")
+    return type_, f"__builtin_bswap{type_.bits}({value})"
+
+
 INTRINSICS = {
     "memcpy": of_memory("copy"), "memmove": of_memory("move"), "memset": of_memory("fill"),
-    "lifetime.start": of_nothing, "lifetime.end": of_nothing, "assume": of_nothing,
-    "trap": of_trap,
+    "lifetime.start": of_nothing, "lifetime.end": of_nothing, "assume": of_nothing, "trap": of_trap,
     "umin": of_two("{a} < {b} ? {a} : {b}"), "umax": of_two("{a} > {b} ? {a} : {b}"),
-    "usub.sat": of_two("{a} > {b} ? {a} - {b} : 0u"),
+    "usub.sat": of_two("{a} > {b} ? {a} - {b} : 0u"), "bswap": of_order,
 }
 
 
 def intrinsic(line, result, name, scope):
     """A call of an LLVM function, whose name ends with its types."""
     parts = name.split(".")[1:]
-    while parts and ".".join(parts) not in INTRINSICS:
+    while re.fullmatch(r"p0|i\d+", parts[-1]):
         parts.pop()
-    if not parts:
+    if ".".join(parts) not in INTRINSICS:
         raise line.refused()
     line.take()
     if parts == ["assume"]: # what holds may be left unsaid

@@ -48,13 +48,13 @@ class Function:
             self.module.structs.add(type_)
         self.statements.append((f"    {self.registers[result]} = {expression};", (result, type_, expression)))
 
-    def memory(self, type_, line):
-        """The end of the names of what reads and writes values of this type."""
+    def memory(self, macro, type_, line):
+        """The name of what reads (GET) or writes (PUT) values of this type."""
         if not isinstance(type_, (Integer, Pointer)):
             raise line.refused()
         _ = type_.octets
-        self.module.memory.add(str(type_))
-        return str(type_)
+        self.module.memory.add(f"{macro}({type_})")
+        return f"{macro.lower()}_{type_}"
 
     def is_first_block(self):
         """Whether the instruction stands in the function's first block, which runs once."""
@@ -96,8 +96,6 @@ class Function:
         if self.blocks > 1:
             self.statements.append((f"{self.labels[self.block]}:;", self.block))
         for result, type_, _ in self.phis.get(self.block, ()):
-            if isinstance(type_, Struct):
-                raise Refused("not known: a struct that depends on the block before")
             self.declare(f"{type_} p_{self.registers[result]}")
             self.let(result, type_, f"p_{self.registers[result]}")
 

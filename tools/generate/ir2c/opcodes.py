@@ -134,7 +134,7 @@ def load(line, result, scope):
     """Reads memory."""
     type_ = type_of(line)
     line.expect(",", "ptr")
-    scope.let(result, type_, f"get_{scope.memory(type_, line)}({operand(line, Pointer(), scope)})")
+    scope.let(result, type_, f"{scope.memory('GET', type_, line)}({operand(line, Pointer(), scope)})")
 
 
 def store(line, _result, scope):
@@ -142,7 +142,7 @@ def store(line, _result, scope):
     type_ = type_of(line)
     value = operand(line, type_, scope)
     line.expect(",", "ptr")
-    scope.say(f"put_{scope.memory(type_, line)}({operand(line, Pointer(), scope)}, {value});")
+    scope.say(f"{scope.memory('PUT', type_, line)}({operand(line, Pointer(), scope)}, {value});")
 
 
 def offset(line, result, scope):
