@@ -67,7 +67,7 @@ library_passes() {
     gcc -O1 "${files[@]}" "$generated/$(uname -m)/pkcs1_c.s" -o "$room/test"
     "$room/test" "$ffi/rust/tests/statuses" > /dev/null
     for compiler in gcc clang; do
-        for flags in -O2 "-O1 -g -fsanitize=address,undefined -fno-sanitize-recover=all"; do
+        for flags in -O2 "-O0 -fsanitize=address,undefined -fno-sanitize-recover=all"; do
             # shellcheck disable=SC2086
             $compiler -std=c99 -Wall -Wextra -Werror -pedantic $flags "${files[@]}" "$generated/pkcs1_c.c" -o "$room/test"
             "$room/test" "$ffi/rust/tests/statuses" > /dev/null
