@@ -1,7 +1,7 @@
 #!/usr/bin/env bash
 # Tests ffi/generated, and the translation to C: the objects are such that they link with anything, the C passes the test
 # of the library as the assembly does, and what the translation doesn't know it refuses. It needs gcc, clang, binutils
-# and python3, for other processors aarch64-linux-gnu-gcc, to compare the opcodes the kit.
+# and python3; for the other processor its gcc and qemu, and to compare instructions the kit.
 set -eu
 here=$(cd "$(dirname "$0")" && pwd)
 ffi=$here/../../ffi
@@ -33,11 +33,24 @@ object_is_right() {
     nm -u "$object" | sed 's/.* //' | grep -vxE "$4" && stop "$object asks for other names"
     return 0
 }
-# frames_are_right OBJECT: a debugger goes back from each function.
-frames_are_right() {
-    local frames
-    frames=$(readelf --debug-dump=frames "$1" 2> /dev/null | grep -c 'FDE cie')
-    [ "$frames" = "$(readelf -sW "$1" | grep -c ' FUNC ')" ] || stop "$1: a debugger can't go back from each call"
+# leads_back PROCESSOR CC: a debugger goes back from each function of the two objects; a program does so by itself.
+leads_back() {
+    local object frames run=() words=()
+    for object in c tool; do
+        frames=$(readelf --debug-dump=frames "$room/$object.o" 2> /dev/null | grep -c 'FDE cie')
+        [ "$frames" = "$(readelf -sW "$room/$object.o" | grep -c ' FUNC ')" ] ||
+            stop "$1: a debugger can't go back from each call of $object"
+    done
+    if [ "$1" != "$(uname -m)" ]; then
+        run=("qemu-$1") words=(-static)
+        command -v "${run[0]}" > /dev/null || {
+            echo "tools/generate/test.sh: ${run[0]} is not installed: no code for $1 is run"
+            return
+        }
+    fi
+    "$2" "${words[@]}" -std=c99 -O1 -fasynchronous-unwind-tables "-I$ffi/include" "$here/way_back.c" "$ffi/c/pkcs1.c" \
+        "$room/c.o" -o "$room/way_back"
+    "${run[@]}" "$room/way_back" || stop "$1: a debugger doesn't come back to main"
 }
 objects_are_right() {
     local calls='pkcs1_c_[a-z0-9_]*' of_c='memcpy|memmove|memset|memcmp|bcmp|pkcs1_rattle_(alloc|realloc|dealloc)' processor cc
@@ -53,8 +66,7 @@ objects_are_right() {
         $cc -c "$generated/$processor/pkcs1_tool.s" -o "$room/tool.o"
         object_is_right "$room/c.o" $cc "$calls" "$of_c"
         object_is_right "$room/tool.o" $cc pkcs1_tool_main "$of_tool"
-        frames_are_right "$room/c.o"
-        frames_are_right "$room/tool.o"
+        leads_back $processor $cc
         $cc -std=c99 -Wall -Wextra -Werror -pedantic -O2 -fPIC -c "$generated/pkcs1_c.c" -o "$room/portable.o"
         object_is_right "$room/portable.o" $cc "$calls" "$of_c"
     done
@@ -90,8 +102,9 @@ refuses() {
     printf 'define void @pkcs1_c_it(ptr %%0, i64 %%1) {\n  %s\n  ret void\n}\n' "$1" > "$room/it.ll"
     rm -f "$room/it.c"
     python3 "$here/ir2c" "$room/it.ll" "$room/it.c" 2> "$room/error" && stop "$1 is translated"
-    [ ! -e "$room/it.c" ] && [ "$(wc -l < "$room/error")" = 1 ] && grep -qF "$2" "$room/error" ||
+    if [ -e "$room/it.c" ] || [ "$(wc -l < "$room/error")" != 1 ] || ! grep -qF "$2" "$room/error"; then
         stop "$1 is refused otherwise: $(cat "$room/error")"
+    fi
 }
 unknown_is_refused() {
     refuses '%2 = fadd double 1.0, 2.0' 'not known: the instruction fadd'
