@@ -120,10 +120,25 @@ unknown_is_refused() {
     refuses '%2 = alloca i8, i64 %1, align 1' 'not known'
 }
 
+# A clang that is called otherwise than is known is told in one line.
+another_kit_is_refused() {
+    local words
+    mkdir -p "$room/toolchain/kept/0"
+    for words in '-c -x ir module.bc -o module.o other.bc' '-c module.c -o module.o' '-S -x ir module.bc -o module.s'; do
+        # shellcheck disable=SC2086
+        printf '%s\n' $words > "$room/toolchain/kept/0/words"
+        "$here/assembly.py" "$room/toolchain" "$room/it.s" 2> "$room/error" && stop "clang $words is made again"
+        if [ -e "$room/it.s" ] || [ "$(wc -l < "$room/error")" != 1 ] || ! grep -q 'another kit' "$room/error"; then
+            stop "clang $words is refused otherwise: $(cat "$room/error")"
+        fi
+    done
+}
+
 objects_are_right
 library_passes
 other_machines_are_refused
 unknown_is_refused
+another_kit_is_refused
 if command -v rt > /dev/null; then
     "$here/test_opcodes.py" "$(dirname "$(rt doc)")/toolchain/bin/clang" "$room"
 fi

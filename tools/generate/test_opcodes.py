@@ -37,16 +37,80 @@ declare i32 @llvm.bswap.i32(i32)
 declare i64 @llvm.bswap.i64(i64)
 """
 
+# Functions of memory, of the order of blocks, of structs, and of addresses.
+OTHERS = """
+%i = and i64 %a, 3
+%p = getelementptr inbounds i16, ptr @numbers, i64 %i
+%x = load i16, ptr %p, align 2
+%r = zext i16 %x to i64
+ret i64 %r
+
+%m = alloca [16 x i8], align 8
+call void @llvm.memset.p0.i64(ptr %m, i8 7, i64 16, i1 false)
+%n = and i64 %a, 3
+call void @llvm.memcpy.p0.p0.i64(ptr %m, ptr @text, i64 %n, i1 false)
+%q = getelementptr i8, ptr %m, i64 %n
+%k = getelementptr i8, ptr %q, i64 -1
+%o = getelementptr i8, ptr %k, i64 2
+call void @llvm.memmove.p0.p0.i64(ptr %o, ptr %m, i64 8, i1 false)
+%x = load i64, ptr %m, align 8
+%y = load i64, ptr %o, align 1
+%r = xor i64 %x, %y
+ret i64 %r
+
+%n = and i64 %a, 15
+br label %l
+l:
+%i = phi i64 [ 0, %begin ], [ %j, %l ]
+%x = phi i64 [ %a, %begin ], [ %y, %l ]
+%y = phi i64 [ %b, %begin ], [ %x, %l ]
+%j = add i64 %i, 1
+%c = icmp ult i64 %j, %n
+br i1 %c, label %l, label %e
+e:
+%r = sub i64 %x, %y
+ret i64 %r
+
+%s = insertvalue { i64, i8 } poison, i64 %a, 0
+%x = trunc i64 %b to i8
+%t = insertvalue { i64, i8 } %s, i8 %x, 1
+%c = icmp ult i64 %a, %b
+br i1 %c, label %d, label %e
+d:
+%v = insertvalue { i64, i8 } %t, i64 %b, 0
+br label %e
+e:
+%u = phi { i64, i8 } [ %t, %begin ], [ %v, %d ]
+%f = extractvalue { i64, i8 } %u, 0
+%g = extractvalue { i64, i8 } %u, 1
+%w = zext i8 %g to i64
+%r = add i64 %f, %w
+ret i64 %r
+
+%p = getelementptr i8, ptr @text, i64 1
+%n = ptrtoint ptr %p to i64
+%m = inttoptr i64 %n to ptr
+%c = icmp ult ptr @text, %m
+%x = load i8, ptr %m, align 1
+%y = zext i1 %c to i8
+%z = add i8 %x, %y
+%f = freeze i8 %z
+%r = zext i8 %f to i64
+ret i64 %r
+"""
+
 
 def operands(width):
     """Lines that make %x and %y of this width from the two numbers."""
-    if width <= 64:
-        narrowed = "trunc i64 %{0} to i{1}" if width < 64 else "add i64 %{0}, 0"
-        return [f"%x = {narrowed.format('a', width)}", f"%y = {narrowed.format('b', width)}"]
-    return ["%a1 = zext i64 %a to i128", "%b1 = zext i64 %b to i128", "%a2 = shl i128 %a1, 64", "%b2 = shl i128 %b1, 60",
-            "%x1 = or i128 %a2, %b1", "%y1 = xor i128 %b2, %a1", *(
-                f"%{it} = {'trunc i128' if width < 128 else 'add i128'} %{it}1{f' to i{width}' if width < 128 else ', 0'}"
-                for it in "xy")]
+    if width == 64:
+        return ["%x = add i64 %a, 0", "%y = add i64 %b, 0"]
+    if width < 64:
+        return [f"%x = trunc i64 %a to i{width}", f"%y = trunc i64 %b to i{width}"]
+    made = ["%a1 = zext i64 %a to i128", "%b1 = zext i64 %b to i128", "%a2 = shl i128 %a1, 64", "%b2 = shl i128 %b1, 60",
+            "%x1 = or i128 %a2, %b1", "%y1 = xor i128 %b2, %a1"]
+    if width == 128:
+        return [*made, "%x = add i128 %x1, 0", "%y = add i128 %y1, 0"]
+    return [*made, f"%x = trunc i128 %x1 to i{width}", f"%y = trunc i128 %y1 to i{width}"]
 
 
 def result(width):
@@ -76,33 +140,13 @@ def of_width(width):
     if width in (8, 16, 32, 64, 128):
         for name in ("umin", "umax", "usub.sat"):
             yield [*begin, f"%z = call {t} @llvm.{name}.{t}({t} %x, {t} %y)", *end]
-        yield [*begin, f"%p = alloca {t}, align 1", f"store {t} %x, ptr %p, align 1", "%q = getelementptr i8, ptr %p, i64 0",
-               f"%z = load {t}, ptr %q, align 1", *end]
+        yield [*begin, f"%p = alloca {t}, align 1", f"store {t} %x, ptr %p, align 1",
+               "%q = getelementptr i8, ptr %p, i64 0", f"%z = load {t}, ptr %q, align 1", *end]
     if width in (16, 32, 64):
         yield [*begin, f"%z = call {t} @llvm.bswap.{t}({t} %x)", *end]
     if 1 < width <= 64:
-        yield [*begin, f"switch {t} %x, label %c [", f"{t} 0, label %d", f"{t} -1, label %e", "]", "c:", "br label %f", "d:",
-               "br label %f", "e:", "br label %f", "f:", f"%z = phi {t} [ %x, %c ], [ 2, %d ], [ %y, %e ]", *end]
-
-
-def of_shape():
-    """Functions of memory, of the order of blocks, and of structs."""
-    yield ["%i = and i64 %a, 3", "%p = getelementptr inbounds i16, ptr @numbers, i64 %i", "%x = load i16, ptr %p, align 2",
-           "%r = zext i16 %x to i64", "ret i64 %r"]
-    yield ["%m = alloca [16 x i8], align 8", "call void @llvm.memset.p0.i64(ptr %m, i8 7, i64 16, i1 false)",
-           "%n = and i64 %a, 3", "call void @llvm.memcpy.p0.p0.i64(ptr %m, ptr @text, i64 %n, i1 false)",
-           "%q = getelementptr i8, ptr %m, i64 %n", "%k = getelementptr i8, ptr %q, i64 -1", "%o = getelementptr i8, ptr %k, i64 2",
-           "call void @llvm.memmove.p0.p0.i64(ptr %o, ptr %m, i64 8, i1 false)", "%x = load i64, ptr %m, align 8",
-           "%y = load i64, ptr %o, align 1", "%r = xor i64 %x, %y", "ret i64 %r"]
-    yield ["%n = and i64 %a, 15", "br label %l", "l:", "%i = phi i64 [ 0, %begin ], [ %j, %l ]",
-           "%x = phi i64 [ %a, %begin ], [ %y, %l ]", "%y = phi i64 [ %b, %begin ], [ %x, %l ]", "%j = add i64 %i, 1",
-           "%c = icmp ult i64 %j, %n", "br i1 %c, label %l, label %e", "e:", "%r = sub i64 %x, %y", "ret i64 %r"]
-    yield ["%s = insertvalue { i64, i8 } poison, i64 %a, 0", "%x = trunc i64 %b to i8", "%t = insertvalue { i64, i8 } %s, i8 %x, 1",
-           "%u = extractvalue { i64, i8 } %t, 0", "%v = extractvalue { i64, i8 } %t, 1", "%w = zext i8 %v to i64",
-           "%r = add i64 %u, %w", "ret i64 %r"]
-    yield ["%p = getelementptr i8, ptr @text, i64 1", "%n = ptrtoint ptr %p to i64", "%m = inttoptr i64 %n to ptr",
-           "%c = icmp ult ptr @text, %m", "%x = load i8, ptr %m, align 1", "%y = zext i1 %c to i8", "%z = add i8 %x, %y",
-           "%f = freeze i8 %z", "%r = zext i8 %f to i64", "ret i64 %r"]
+        yield [*begin, f"switch {t} %x, label %c [", f"{t} 0, label %d", f"{t} -1, label %e", "]", "c:", "br label %f",
+               "d:", "br label %f", "e:", "br label %f", "f:", f"%z = phi {t} [ %x, %c ], [ 2, %d ], [ %y, %e ]", *end]
 
 
 def built(folder, name, *words):
@@ -113,7 +157,7 @@ def built(folder, name, *words):
 
 def main():
     clang, folder = sys.argv[1:]
-    functions = [it for width in WIDTHS for it in of_width(width)] + list(of_shape())
+    functions = [it for width in WIDTHS for it in of_width(width)] + [it.strip().splitlines() for it in OTHERS.split("\n\n")]
     names = [f"pkcs1_c_{number}" for number in range(len(functions))]
     with open(f"{folder}/opcodes.ll", "w", encoding="utf-8") as it:
         print('target triple = "x86_64-unknown-linux-gnu"', DECLARED, file=it)

@@ -1,7 +1,7 @@
 """Instructions: a table of opcodes, and a function for each kind, which takes its operands and gives C for it.
 
-Numbers are unsigned in C too, and their bits above those of their type are zero. So a sum is cut to the type, and a sign
-is told by its bit. Memory is read and written octet by octet, by memcpy, at any alignment.
+Numbers are unsigned in C too, and their bits above those of their type are zero. So a sum is cut to the type, and a
+sign is told by its bit. Memory is read and written by memcpy, at any alignment.
 """
 from calls import call
 from ir_types import Integer, Pointer, Struct, type_of
