@@ -113,7 +113,8 @@ build() {
 translate() {
     local clang=$kit/toolchain/bin/clang
     (cd "$room/pkcs1_c.x86_64/kept/0" && "$clang" --target=x86_64-unknown-linux-gnu -fno-pic -O3 -fno-vectorize \
-        -fno-slp-vectorize -x ir -S -emit-llvm module.bc -o "$room/portable.ll") || stop 2 "this fits another kit: no module"
+        -fno-slp-vectorize -x ir -S -emit-llvm module.bc -o "$room/portable.ll") ||
+        stop 2 "this fits another kit: no module"
     python3 $parts/ir2c "$room/portable.ll" "$room/generated/pkcs1_c.c" || exit 2
     say "C"
 }
@@ -128,7 +129,8 @@ make_all() {
     translate
     version=$("$kit/toolchain/bin/clang" --version | sed -n 's/^clang version //p')
     $parts/provenance.py "$kit_version" "$($parts/sources.py hash "$kit_version")" "$version" \
-        "$room/pkcs1_c.x86_64/kept/0/tables.ll" "$room/pkcs1_tool.x86_64/kept/0/tables.ll" > "$room/generated/PROVENANCE"
+        "$room/pkcs1_c.x86_64/kept/0/tables.ll" "$room/pkcs1_tool.x86_64/kept/0/tables.ll" \
+        > "$room/generated/PROVENANCE"
 }
 
 needs rt python3

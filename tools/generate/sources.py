@@ -2,7 +2,7 @@
 """What ffi/generated is made of.
 
     sources.py libraries CRATE      the crates that crates.txt names for this one, in a line
-    sources.py hash KIT             the hash of the sources, of what makes the files of them, and of what `rt version` says
+    sources.py hash KIT             the hash of the sources, of what makes the files, and of what `rt version` says
 
 Comments, contracts and ghosts make no code: they are left out, so that a change of them alone makes no new files.
 """

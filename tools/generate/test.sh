@@ -1,6 +1,6 @@
 #!/usr/bin/env bash
-# Tests ffi/generated, and the translation to C: the objects are such that they link with anything, the C passes the test
-# of the library as the assembly does, and what the translation doesn't know it refuses. It needs gcc, clang, binutils
+# Tests ffi/generated, and the translation to C: the objects are such that they link with anything, the C passes the
+# test of the library as the assembly does, and what the translation doesn't know it refuses. It needs gcc, clang, binutils
 # and python3; for the other processor its gcc and qemu, and to compare instructions the kit.
 set -eu
 here=$(cd "$(dirname "$0")" && pwd)
@@ -23,8 +23,8 @@ for tool in gcc clang readelf nm python3; do
     }
 done
 
-# object_is_right OBJECT CC EXPORTS IMPORTS: no part of the stack is executed, nothing in the code depends on where it is
-# loaded, and these names alone are given and asked for.
+# object_is_right OBJECT CC EXPORTS IMPORTS: no part of the stack is executed, nothing in the code depends on where it
+# is loaded, and these names alone are given and asked for.
 object_is_right() {
     local object=$1
     readelf -SW "$object" | grep -F .note.GNU-stack | grep -qv ' X ' || stop "$object: its stack would be executable"
@@ -53,7 +53,8 @@ leads_back() {
     "${run[@]}" "$room/way_back" || stop "$1: a debugger doesn't come back to main"
 }
 objects_are_right() {
-    local calls='pkcs1_c_[a-z0-9_]*' of_c='memcpy|memmove|memset|memcmp|bcmp|pkcs1_rattle_(alloc|realloc|dealloc)' processor cc
+    local calls='pkcs1_c_[a-z0-9_]*' processor cc
+    local of_c='memcpy|memmove|memset|memcmp|bcmp|pkcs1_rattle_(alloc|realloc|dealloc)'
     local of_tool="$of_c|read|write|open|close|__sysv_signal|pkcs1_rattle_(arg|arg_count|env|env_at|errno|set_errno)"
     for processor in x86_64 aarch64; do
         cc=$processor-linux-gnu-gcc
@@ -81,7 +82,8 @@ library_passes() {
     for compiler in gcc clang; do
         for flags in -O2 "-O0 -fsanitize=address,undefined -fno-sanitize-recover=all"; do
             # shellcheck disable=SC2086
-            $compiler -std=c99 -Wall -Wextra -Werror -pedantic $flags "${files[@]}" "$generated/pkcs1_c.c" -o "$room/test"
+            $compiler -std=c99 -Wall -Wextra -Werror -pedantic $flags "${files[@]}" "$generated/pkcs1_c.c" \
+                -o "$room/test"
             "$room/test" "$ffi/rust/tests/statuses" > /dev/null
         done
     done
@@ -124,7 +126,7 @@ unknown_is_refused() {
 another_kit_is_refused() {
     local words
     mkdir -p "$room/toolchain/kept/0"
-    for words in '-c -x ir module.bc -o module.o other.bc' '-c module.c -o module.o' '-S -x ir module.bc -o module.s'; do
+    for words in '-c -x ir module.bc -o module.o other.bc' '-c module.c -o module.o' '-S -x ir module.bc -o it.s'; do
         # shellcheck disable=SC2086
         printf '%s\n' $words > "$room/toolchain/kept/0/words"
         "$here/assembly.py" "$room/toolchain" "$room/it.s" 2> "$room/error" && stop "clang $words is made again"

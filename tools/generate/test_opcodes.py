@@ -106,8 +106,8 @@ def operands(width):
         return ["%x = add i64 %a, 0", "%y = add i64 %b, 0"]
     if width < 64:
         return [f"%x = trunc i64 %a to i{width}", f"%y = trunc i64 %b to i{width}"]
-    made = ["%a1 = zext i64 %a to i128", "%b1 = zext i64 %b to i128", "%a2 = shl i128 %a1, 64", "%b2 = shl i128 %b1, 60",
-            "%x1 = or i128 %a2, %b1", "%y1 = xor i128 %b2, %a1"]
+    made = ["%a1 = zext i64 %a to i128", "%b1 = zext i64 %b to i128",
+            "%a2 = shl i128 %a1, 64", "%b2 = shl i128 %b1, 60", "%x1 = or i128 %a2, %b1", "%y1 = xor i128 %b2, %a1"]
     if width == 128:
         return [*made, "%x = add i128 %x1, 0", "%y = add i128 %y1, 0"]
     return [*made, f"%x = trunc i128 %x1 to i{width}", f"%y = trunc i128 %y1 to i{width}"]
@@ -157,7 +157,8 @@ def built(folder, name, *words):
 
 def main():
     clang, folder = sys.argv[1:]
-    functions = [it for width in WIDTHS for it in of_width(width)] + [it.strip().splitlines() for it in OTHERS.split("\n\n")]
+    functions = [it for width in WIDTHS for it in of_width(width)]
+    functions += [it.strip().splitlines() for it in OTHERS.split("\n\n")]
     names = [f"pkcs1_c_{number}" for number in range(len(functions))]
     with open(f"{folder}/opcodes.ll", "w", encoding="utf-8") as it:
         print('target triple = "x86_64-unknown-linux-gnu"', DECLARED, file=it)

@@ -42,8 +42,8 @@ void pkcs1_rattle_dealloc(void *block) {
 }
 
 int main(void) {
-    static const uint8_t der[] = {0x30, 40, 2, 1, 1, 2, 1, 1, 2, 1, 2, 2, 1, 3, 2, 1, 4, 2, 1, 5, 2, 1, 6, 2, 1, 7, 2, 1, 8,
-                                  0x30, 11, 0x30, 9, 2, 1, 9, 2, 1, 10, 2, 1, 11};
+    static const uint8_t der[] = {0x30, 40, 2, 1, 1, 2, 1, 1, 2, 1, 2, 2, 1, 3, 2, 1, 4, 2, 1, 5, 2, 1, 6, 2, 1, 7,
+                                  2, 1, 8, 0x30, 11, 0x30, 9, 2, 1, 9, 2, 1, 10, 2, 1, 11};
     struct pkcs1_private_key key;
     struct pkcs1_other_prime other;
     uint8_t out[sizeof der];
