@@ -1,7 +1,7 @@
 #!/usr/bin/env bash
 # Tests ffi/generated, and the translation to C: the objects are such that they link with anything, the C passes the
-# test of the library as the assembly does, and what the translation doesn't know it refuses. It needs gcc, clang, binutils
-# and python3; for the other processor its gcc and qemu, and to compare instructions the kit.
+# test of the library as the assembly does, and what the translation doesn't know it refuses. It needs gcc, clang,
+# binutils and python3; for the other processor its gcc and qemu, and to compare instructions the kit.
 set -eu
 here=$(cd "$(dirname "$0")" && pwd)
 ffi=$here/../../ffi
@@ -120,6 +120,7 @@ unknown_is_refused() {
     refuses '%2 = add i256 1, 1' 'a number of 256 bits'
     refuses 'store i64 %1, ptr %0, align 8, !nontemporal !0, more' 'more'
     refuses '%2 = alloca i8, i64 %1, align 1' 'not known'
+    refuses '%2 = alloca { i64, i8 }, align 8' 'not known: struct s_u64_u8 in memory'
 }
 
 # A clang that is called otherwise than is known is told in one line.

@@ -70,6 +70,9 @@ class Module:
             parameters.append(f"{type_} {scope.registers[register]}" if register else str(type_))
             if line.peek() != ")":
                 line.expect(",")
+        line.skip(LINKAGE)
+        if line.peek()[:1] == "#":
+            line.take()
         if isinstance(result, Struct):
             self.structs.add(result)
         static = "static " if is_static else ""
@@ -80,6 +83,7 @@ class Module:
         line = Line(text)
         line.expect("declare")
         name, made = self.header(line, Function(self))
+        line.end()
         if not name.startswith("@llvm."):
             self.headers.append(made + ";")
 
@@ -89,6 +93,8 @@ class Module:
         line.expect("define")
         scope = Function(self)
         _, made = self.header(line, scope)
+        line.expect("{")
+        line.end()
         self.headers.append(made + ";")
         self.bodies.append("\n".join([made + " {", *scope.body(lines), "}"]))
 

@@ -42,8 +42,17 @@ class Pointer:
         return "P"
 
 
+class Unstored:
+    """A type that isn't read or written as a whole, nor counted in memory."""
+
+    @property
+    def octets(self):
+        """The octets that it takes in memory."""
+        raise Refused(f"not known: {self} in memory")
+
+
 @dataclass(frozen=True)
-class Void:
+class Void(Unstored):
     """No value."""
 
     def __str__(self):
@@ -51,7 +60,7 @@ class Void:
 
 
 @dataclass(frozen=True)
-class Struct:
+class Struct(Unstored):
     """Values side by side, as a call returns them."""
 
     fields: tuple
