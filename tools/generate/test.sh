@@ -137,11 +137,28 @@ another_kit_is_refused() {
     done
 }
 
+# hash_after EDIT: the hash of the sources if der_core/src/length.rt is edited so.
+hash_after() {
+    sed "$1" "$here/../../crates/der_core/src/length.rt" > "$room/tree/crates/der_core/src/length.rt"
+    "$room/tree/tools/generate/sources.py" hash kit
+}
+hash_is_of_code() {
+    local hash edit
+    mkdir "$room/tree"
+    (cd "$here/../.." && tar c crates.txt crates/*/src tools/generate.sh tools/generate) | tar x -C "$room/tree"
+    hash=$(hash_after '')
+    for edit in 's,^//,// Or:,' 's/^\( *ensures .*{\)/\1 1 ≡ 1 ×/' '/^ghost use/d' '/tactic/d'; do
+        [ "$(hash_after "$edit")" = "$hash" ] || stop "the hash changes with $edit"
+    done
+    [ "$(hash_after 's/0x84/0x85/')" != "$hash" ] || stop "the hash doesn't change with the code"
+}
+
 objects_are_right
 library_passes
 other_machines_are_refused
 unknown_is_refused
 another_kit_is_refused
+hash_is_of_code
 if command -v rt > /dev/null; then
     "$here/test_opcodes.py" "$(dirname "$(rt doc)")/toolchain/bin/clang" "$room"
 fi
