@@ -1,7 +1,8 @@
 #!/usr/bin/env bash
-# Builds libpkcs1 for callers in C and in Rust; usage says how. It needs rt, gcc and binutils, for the tests g++ and
-# cargo too; test.sh reports what else it could use and doesn't find. No network. .ci/run calls it after rt ci, with
-# --over-ci, which needs all of that too.
+# Proves libpkcs1, and builds it for callers in C and in Rust; usage says how. The Makefile at the top builds it from
+# what was proved before, without the toolchain. This needs rt, gcc and binutils, for the tests g++ and cargo too;
+# test.sh reports what else it could use and doesn't find. No network. .ci/run calls it after rt ci, with --over-ci,
+# which needs all of that too.
 set -eu
 usage="usage: ffi/build.sh                      builds libpkcs1 into ffi/out, and runs its tests
        ffi/build.sh --over-ci            the same behind rt ci, over the libraries that it proved
@@ -48,14 +49,7 @@ stop() {
 }
 
 version=$(sed -n 's/^#define PKCS1_VERSION_[A-Z]* //p' "$here/include/pkcs1.h" | paste -s -d .)
-case $action in
-    *install*) case $prefix in
-        /*) ;;
-        '') stop "PREFIX is empty" ;;
-        *) prefix=$PWD/$prefix ;;
-    esac ;;
-esac
-case ${LIBDIR-} in '' | /*) ;; *) LIBDIR=$PWD/$LIBDIR ;; esac
+case $action:$prefix in *install*:) stop "PREFIX is empty" ;; esac
 case $action:${UNPROVED:+unproved} in
     uninstall:*) exec "$here/install.sh" remove "$prefix" "$version" ;;
     install:unproved) stop "UNPROVED is set: its library isn't proved, and only install-unproved installs it" ;;
@@ -137,29 +131,14 @@ build_library() {
     say "proved and built, after $SECONDS seconds"
 }
 
-# Links the crate, the kit's liblibc_c.a, which stands for the C library's calls, and c/pkcs1.c into one object, where
-# only what the headers declare is global.
+# Makes the two objects that link.sh links: the crate with the kit's liblibc_c.a, which stands for the C library's
+# calls, and c/pkcs1.c.
 link_library() {
-    local headers=("$here/include/pkcs1.h" "$here/include/pkcs1_c.h") exports
-    grep -oh 'pkcs1_[a-z0-9_]*(' "${headers[@]}" | tr -d '(' > "$out/declared.names"
-    grep -h '^extern const' "${headers[@]}" | grep -o 'pkcs1_oid_[a-z0-9_]*' >> "$out/declared.names"
-    LC_ALL=C sort -u "$out/declared.names" > "$out/declared"
     ld -r -o "$out/proved.o" --whole-archive "$library" "$kit/c/liblibc_c.a"
     objcopy --wildcard --keep-global-symbol='pkcs1_c_*' "$out/proved.o"
     "$CC" -std=c99 -O2 ${CFLAGS-} -fPIC -Wall -Wextra -Werror -pedantic "-I$here/include" \
         -c "$here/c/pkcs1.c" -o "$out/calls.o"
-    ld -r -o "$out/pkcs1.o" "$out/proved.o" "$out/calls.o"
-    objcopy --keep-global-symbols="$out/declared" "$out/pkcs1.o"
-    rm -f "$out"/libpkcs1.*
-    ar rcs "$out/libpkcs1.a" "$out/pkcs1.o"
-    "$CC" -shared ${LDFLAGS-} -o "$out/libpkcs1.so.$version" -Wl,-soname,libpkcs1.so.0 "$out/pkcs1.o"
-    ln -s "libpkcs1.so.$version" "$out/libpkcs1.so.0"
-    ln -s libpkcs1.so.0 "$out/libpkcs1.so"
-    nm -g --defined-only "$out/libpkcs1.a" | sed -n 's/^[0-9a-f]* [A-Z] //p' | LC_ALL=C sort > "$out/exports.a"
-    nm -D --defined-only "$out/libpkcs1.so" | sed -n 's/^[0-9a-f]* [A-Z] //p' | LC_ALL=C sort > "$out/exports.so"
-    for exports in exports.a exports.so; do
-        diff "$out/declared" "$out/$exports" || stop "what the headers declare (<) and $exports (>) differ"
-    done
+    "$here/link.sh" "$out" || stop "the library isn't linked"
     say "ffi/out/libpkcs1.a and libpkcs1.so.$version"
 }
 
@@ -170,7 +149,6 @@ case $action in
         tool=$here/../crates/pkcs1_tool/out/pkcs1_tool
         [ -x "$tool" ] && [ "$action" = install ] || tool=
         "$here/install.sh" add "$prefix" "$version${UNPROVED:+-unproved}" "$out" ${tool:+"$tool"}
-        say "installed below ${DESTDIR-}$prefix: libpkcs1${tool:+, pkcs1_tool and its man page}"
         ;;
     *)
         say "testing, half a minute"

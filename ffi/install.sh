@@ -1,6 +1,5 @@
 #!/usr/bin/env bash
-# Installs the library that build.sh made, and removes it again. build.sh calls it with an absolute PREFIX. DESTDIR and
-# LIBDIR are as there.
+# Installs the library that make or build.sh made, and removes it again. They call this; DESTDIR and LIBDIR are as there.
 #     install.sh add PREFIX VERSION BUILT [TOOL]   from the folder BUILT; the program TOOL with its man page too
 #     install.sh remove PREFIX VERSION
 set -eu
@@ -8,7 +7,16 @@ umask 022
 here=$(cd "$(dirname "$0")" && pwd)
 top=$here/..
 action=$1 prefix=$2 version=$3
+case $prefix in
+    /*) ;;
+    '')
+        echo "ffi/install.sh: PREFIX is empty" >&2
+        exit 1
+        ;;
+    *) prefix=$PWD/$prefix ;;
+esac
 libdir=${LIBDIR:-$prefix/lib}
+case $libdir in /*) ;; *) libdir=$PWD/$libdir ;; esac
 include=${DESTDIR-}$prefix/include
 lib=${DESTDIR-}$libdir
 doc=${DESTDIR-}$prefix/share/doc/libpkcs1
@@ -42,10 +50,12 @@ add() {
     put 644 "$built/libpkcs1.pc" "$lib/pkgconfig"
     put 644 "$top/LICENSE-APACHE" "$doc"
     put 644 "$top/LICENSE-MIT" "$doc"
-    [ -n "$tool" ] || return 0
-    mkdir -p "$bin" "$man"
-    put 755 "$tool" "$bin"
-    put 644 "$top/crates/pkcs1_tool/pkcs1_tool.1" "$man"
+    if [ -n "$tool" ]; then
+        mkdir -p "$bin" "$man"
+        put 755 "$tool" "$bin"
+        put 644 "$top/crates/pkcs1_tool/pkcs1_tool.1" "$man"
+    fi
+    echo "installed below ${DESTDIR-}$prefix: libpkcs1${tool:+, pkcs1_tool and its man page}"
 }
 remove() {
     [ -e "$include/pkcs1.h" ] || {

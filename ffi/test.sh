@@ -51,8 +51,7 @@ mapfile -t wraps < <(sed -nE 's/^(EACH|TEST)\(([a-z0-9_]*),/-Wl,--wrap=\2/p' "$h
 "$room/passed" "$statuses"
 nm -f sysv "$out/pkcs1.o" | grep -E '\|(\.data|\.bss|\*COM\*)[.a-z0-9_]*$' | grep -v '^nothing ' | grep -v '\.data\.rel\.ro' &&
     stop "the calls share data"
-frames=$(readelf --debug-dump=frames "$out/pkcs1.o" 2> /dev/null | grep -c 'FDE cie')
-[ "$frames" = "$(readelf -sW "$out/pkcs1.o" | grep -c ' FUNC ')" ] || stop "a debugger can't go back from each call"
+"$here/check_object.sh" "$out"
 "$CC" -std=c99 "${flags[@]}" "$here/c/test.c" "-L$out" -lpkcs1 -Wl,-rpath,"$out" -o "$room/test_shared"
 "$room/test_shared" "$statuses"
 "$CC" -std=c99 "${flags[@]}" "$here/c/dlopen.c" -ldl -o "$room/dlopen"
@@ -73,7 +72,7 @@ word=install${UNPROVED:+-unproved}
 export LIBDIR=$room/c/lib64
 (umask 077 && CFLAGS=-DNDEBUG LDFLAGS=-Wl,-z,now "$here/build.sh" $word "$room/c" > /dev/null)
 cp "$room/modulus" "$room/pkcs1_tool"
-"$here/install.sh" add "$room/c" "$version" "$out" "$room/pkcs1_tool"
+"$here/install.sh" add "$room/c" "$version" "$out" "$room/pkcs1_tool" > /dev/null
 [ -z "$(find "$room/c" -type d ! -perm 755 -o -type f ! -perm 644 ! -path "*/bin/*")" ] ||
     stop "others can't read what is installed"
 readelf -d "$LIBDIR/libpkcs1.so" | grep -q BIND_NOW || stop "LDFLAGS aren't used"

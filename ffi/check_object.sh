@@ -1,0 +1,19 @@
+#!/bin/sh
+# check_object.sh OUT: what a linker, a loader and a debugger ask of the objects there and of libpkcs1.so. READELF is as
+# in the Makefile.
+set -eu
+out=$1
+readelf=${READELF:-readelf}
+export LC_ALL=C
+
+stop() {
+    echo "ffi/check_object.sh: $*" >&2
+    exit 1
+}
+for object in "$out"/*.o; do
+    $readelf -SW "$object" | grep -q '\.note\.GNU-stack *PROGBITS *0* [0-9a-f]* 0* 00 *0' ||
+        stop "$object doesn't say that its stack isn't run"
+done
+! $readelf -dW "$out/libpkcs1.so" | grep TEXTREL || stop "libpkcs1.so has text relocations"
+frames=$($readelf --debug-dump=frames "$out/pkcs1.o" 2> /dev/null | grep -c 'FDE cie')
+[ "$frames" = "$($readelf -sW "$out/pkcs1.o" | grep -c ' FUNC ')" ] || stop "a debugger can't go back from each call"

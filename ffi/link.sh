@@ -1,0 +1,34 @@
+#!/bin/sh
+# link.sh OUT: links OUT/proved.o, the proved calls, and OUT/calls.o, those of pkcs1.h over them, into libpkcs1.a and
+# libpkcs1.so.VERSION, in which only what the headers declare is global. CC, CFLAGS, LDFLAGS, AR, OBJCOPY and NM are as in the
+# Makefile, which calls this, and build.sh too.
+set -eu
+out=$1
+headers=$(dirname "$0")/include
+version=$(sed -n 's/^#define PKCS1_VERSION_[A-Z]* //p' "$headers/pkcs1.h" | paste -s -d .)
+export LC_ALL=C
+
+{
+    grep -oh 'pkcs1_[a-z0-9_]*(' "$headers/pkcs1.h" "$headers/pkcs1_c.h" | tr -d '('
+    grep -h '^extern const' "$headers/pkcs1.h" "$headers/pkcs1_c.h" | grep -o 'pkcs1_oid_[a-z0-9_]*'
+} | sort -u > "$out/declared"
+$CC ${CFLAGS-} -fno-lto -r -nostdlib -o "$out/pkcs1.o" "$out/proved.o" "$out/calls.o"
+${OBJCOPY:-objcopy} --keep-global-symbols="$out/declared" "$out/pkcs1.o"
+rm -f "$out"/libpkcs1.*
+$CC ${CFLAGS-} -fno-lto -shared ${LDFLAGS-} -o "$out/libpkcs1.so.$version" -Wl,-soname,libpkcs1.so.0 "$out/pkcs1.o"
+ln -s "libpkcs1.so.$version" "$out/libpkcs1.so.0"
+ln -s libpkcs1.so.0 "$out/libpkcs1.so"
+${AR:-ar} rcs "$out/libpkcs1.a" "$out/pkcs1.o"
+
+# exports WORD..: what nm, called with these words, prints of the symbols that are defined.
+exports() {
+    ${NM:-nm} --defined-only "$@" | sed -n 's/^[0-9a-f]* [A-Z] //p' | sort
+}
+exports -g "$out/libpkcs1.a" > "$out/exports.a"
+exports -D "$out/libpkcs1.so" > "$out/exports.so"
+for of in a so; do
+    diff "$out/declared" "$out/exports.$of" || {
+        echo "ffi/link.sh: what the headers declare (<) and what libpkcs1.$of exports (>) differ" >&2
+        exit 1
+    }
+done
