@@ -1,0 +1,96 @@
+# Builds libpkcs1 and pkcs1_tool with a C compiler, from what ffi/generated holds of the proved code.
+#
+#     make              out/libpkcs1.a, out/libpkcs1.so and, where there is assembly for the machine, out/pkcs1_tool
+#     make check        tests them, and with cargo the crate for Rust over them
+#     make install      below PREFIX; make uninstall removes it
+#     make clean
+#
+# PREFIX, LIBDIR, DESTDIR   where to install: /usr/local, PREFIX/lib, and a folder to install below
+# CC, CFLAGS, LDFLAGS       the compiler, its options, and those for linking
+# CROSS, RUN                for another machine: CROSS=aarch64-linux-gnu- RUN=qemu-aarch64 make check
+# CODE=c                    the generated C in place of the assembly for this machine
+# OUT                       the folder for what is made
+PREFIX ?= /usr/local
+OUT ?= out
+CFLAGS ?= -O2
+ifeq ($(origin CC),default)
+CC := $(CROSS)gcc
+endif
+version := $(shell sed -n 's/^.define PKCS1_VERSION_[A-Z]* //p' ffi/include/pkcs1.h | paste -s -d .)
+
+# What can't be built stops here, in one line, before anything is made.
+ifneq ($(filter-out clean uninstall,$(or $(MAKECMDGOALS),all)),)
+machine := $(shell ffi/machine.sh $(CC) $(CFLAGS))
+ifeq ($(filter x86_64 aarch64 other,$(machine)),)
+$(error $(machine))
+endif
+# program NAME: the compiler's own tool of this name, which is that of the machine it builds for.
+program = $(shell $(CC) -print-prog-name=$(1) 2> /dev/null || echo $(1))
+ifeq ($(origin AR),default)
+AR := $(call program,ar)
+endif
+OBJCOPY ?= $(call program,objcopy)
+NM ?= $(call program,nm)
+READELF ?= $(call program,readelf)
+tools := AR OBJCOPY NM READELF
+missing := $(firstword $(foreach it,$(tools),$(if $(shell command -v $(firstword $($(it))) 2> /dev/null),,$(it))))
+ifneq ($(missing),)
+$(error there is no $($(missing)): install binutils, or name your own, as in make $(missing)=FILE)
+endif
+endif
+export CC CFLAGS LDFLAGS AR OBJCOPY NM READELF RUN
+
+generated := ffi/generated
+CODE ?= $(if $(filter other,$(machine)),c,assembly)
+ifeq ($(CODE),c)
+code := $(generated)/pkcs1_c.c
+else
+code := $(generated)/$(machine)/pkcs1_c.s
+endif
+tool := $(if $(filter other,$(machine)),,$(OUT)/pkcs1_tool)
+# Of objects for the link time nothing could be made local.
+compile = $(CC) -std=c99 $(CFLAGS) -fPIC -fno-lto -Iffi/include -c $< -o $@
+
+all: fresh $(OUT)/libpkcs1.a $(tool)
+
+# Says it in one line, where sources are there that the generated files aren't made of.
+fresh:
+	@[ ! -x tools/generate.sh ] || tools/generate.sh --fresh || true
+
+# All is made again if it would be made in another way.
+export settings := $(CC) $(CFLAGS) $(LDFLAGS) $(AR) $(OBJCOPY) $(code)
+$(OUT)/settings: FORCE
+	@mkdir -p $(OUT)
+	@printf '%s\n' "$$settings" | cmp -s - $@ || printf '%s\n' "$$settings" > $@
+
+$(OUT)/code.o: $(code) $(OUT)/settings
+	$(CC) $(CFLAGS) $(if $(filter c,$(CODE)),-std=gnu99 -fPIC -fno-lto -fno-strict-aliasing,-g0) -c $< -o $@
+$(OUT)/tool.o: $(generated)/$(machine)/pkcs1_tool.s $(OUT)/settings
+	$(CC) $(CFLAGS) -g0 -c $< -o $@
+$(OUT)/calls.o: ffi/c/pkcs1.c ffi/include/pkcs1.h ffi/include/pkcs1_c.h $(OUT)/settings
+	$(compile)
+$(OUT)/heap.o: ffi/c/heap.c $(OUT)/settings
+	$(compile)
+$(OUT)/os.o: ffi/c/os.c $(OUT)/settings
+	$(compile)
+$(OUT)/proved.o: $(OUT)/code.o $(OUT)/heap.o
+	$(CC) $(CFLAGS) -fno-lto -r -nostdlib -o $@ $^
+	$(OBJCOPY) --wildcard --keep-global-symbol='pkcs1_c_*' $@
+$(OUT)/libpkcs1.a: $(OUT)/proved.o $(OUT)/calls.o ffi/link.sh
+	ffi/link.sh $(OUT)
+$(OUT)/pkcs1_tool: $(OUT)/tool.o $(OUT)/os.o $(OUT)/heap.o
+	$(CC) $(CFLAGS) -fno-lto $(LDFLAGS) -o $@ $^
+
+check: all
+	ffi/check.sh $(OUT)
+
+install: all
+	DESTDIR='$(DESTDIR)' LIBDIR='$(LIBDIR)' ffi/install.sh add '$(PREFIX)' $(version) $(OUT) $(tool)
+uninstall:
+	DESTDIR='$(DESTDIR)' LIBDIR='$(LIBDIR)' ffi/install.sh remove '$(PREFIX)' $(version)
+
+clean:
+	rm -rf $(OUT)
+
+.PHONY: all fresh check install uninstall clean FORCE
+.DELETE_ON_ERROR:

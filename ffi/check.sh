@@ -1,0 +1,56 @@
+#!/bin/sh
+# check.sh OUT: tests what make left in this folder: the C test over the static and the shared library, the tool, and,
+# with cargo, the crate for Rust over the library. CC, CFLAGS and RUN are as in the Makefile, which calls this.
+set -eu
+out=$(cd "$1" && pwd)
+cd "$(dirname "$0")/.."
+tests=$out/tests
+mkdir -p "$tests"
+# Where qemu, of which RUN may be one, finds the C library of the other machine.
+[ -z "${RUN-}" ] || export QEMU_LD_PREFIX="${QEMU_LD_PREFIX:-/usr/$($CC -dumpmachine)}"
+
+say() {
+    echo "check: $*"
+}
+# c_test NAME WORD..: the C test with the library that these words name.
+c_test() {
+    name=$1
+    shift
+    $CC ${CFLAGS-} -std=c99 -Iffi/include ffi/c/test.c "$@" -o "$tests/$name"
+    ${RUN-} "$tests/$name" ffi/rust/tests/statuses
+}
+# The tool's rows, and what else can be seen of it from outside.
+tool() {
+    program=$out/pkcs1_tool
+    if [ -n "${RUN-}" ]; then
+        program=$tests/pkcs1_tool
+        printf '#!/bin/sh\nexec %s "%s" "$@"\n' "$RUN" "$out/pkcs1_tool" > "$program"
+        chmod +x "$program"
+    fi
+    PROGRAMS=$program EMULATED=${RUN-} crates/pkcs1_tool/run_built.sh
+}
+crate() {
+    command -v cargo > /dev/null || {
+        say "cargo isn't installed: the crate for Rust isn't tested"
+        return
+    }
+    has=$(cargo --version | cut -d ' ' -f 2)
+    needs=$(sed -n 's/^rust-version = "\(.*\)"/\1/p' ffi/rust/Cargo.toml)
+    printf '%s\n%s\n' "$needs" "$has" | sort -CV || {
+        say "cargo is $has, and the crate for Rust needs $needs: it isn't tested"
+        return
+    }
+    PKCS1_LIB=$out CARGO_TARGET_DIR=$out/target cargo test --offline --manifest-path ffi/rust/Cargo.toml \
+        > "$tests/cargo" 2>&1 || {
+        cat "$tests/cargo" >&2
+        exit 1
+    }
+    say "the crate for Rust, $(awk '/^test result: ok/ { sum += $4 } END { print sum }' "$tests/cargo") tests"
+}
+
+ffi/check_object.sh "$out"
+c_test static "$out/libpkcs1.a"
+c_test shared "-L$out" -lpkcs1 "-Wl,-rpath,$out"
+say "the C test, with the static and the shared library"
+[ ! -x "$out/pkcs1_tool" ] || tool
+[ -n "${RUN-}" ] || crate

@@ -1,0 +1,34 @@
+#!/bin/sh
+# machine.sh COMPILER OPTION..: prints the machine that the compiler builds for: x86_64 or aarch64, for which there is
+# assembly, or other, for which there is C. Where nothing can be built it prints, in one line, why.
+set -u
+compiler="$*"
+
+say() {
+    printf '%s\n' "$*"
+    exit 0
+}
+command -v "${1-}" > /dev/null || say "there is no compiler ${1-}: install gcc or clang, or name yours, as in make CC=clang"
+machine=$("$@" -E -P -x c - 2> /dev/null << 'END' | tail -n 1
+#if !defined __BYTE_ORDER__ || __BYTE_ORDER__ != __ORDER_LITTLE_ENDIAN__
+big_endian
+#elif __SIZEOF_POINTER__ != 8 || __SIZEOF_SIZE_T__ != 8
+narrow
+#elif defined __x86_64__ && defined __linux__
+x86_64
+#elif defined __aarch64__ && defined __linux__
+aarch64
+#else
+other
+#endif
+END
+)
+case $machine in
+    big_endian) say "$compiler builds for a big-endian machine: the proved code is for little-endian ones only" ;;
+    narrow) say "$compiler builds for a machine without 64-bit addresses: the proved code is for 64-bit ones only" ;;
+    x86_64 | aarch64 | other) ;;
+    *) say "$compiler doesn't compile C: name gcc or clang, as in make CC=clang, and look at CFLAGS" ;;
+esac
+echo '#include <stdlib.h>' | "$@" -E -x c - > /dev/null 2>&1 ||
+    say "$compiler finds no stdlib.h: install the C library's headers (libc6-dev, glibc-devel)"
+say "$machine"
