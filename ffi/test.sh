@@ -134,38 +134,7 @@ fi
 if have cargo-clippy "the crate isn't linted"; then
     cargo_quietly clippy --offline --quiet --all-targets -- -D warnings
 fi
-cargo_quietly package --offline --quiet --allow-dirty --no-verify --list
-for file in Cargo.toml LICENSE-APACHE LICENSE-MIT README.md build.rs src/lib.rs; do
-    grep -qx "$file" "$out/cargo.log" || stop "the crate's package lacks $file"
-done
-# The library is found without PKCS1_LIB, and a library that was built again is linked again.
-(
-    unset PKCS1_LIB
-    cargo_quietly test --offline --quiet --test statuses
-)
-mkdir "$room/lib"
-cp "$out/libpkcs1.a" "$room/lib"
-export PKCS1_LIB=$room/lib
-cargo_quietly test --offline --quiet --test values
-sed 's/0\.8\.0/9.9.9/g' "$out/libpkcs1.a" > "$room/lib/libpkcs1.a"
-cargo test --offline --quiet --test values > "$room/log" 2>&1 && stop "a library that was built again isn't linked again"
-grep -q '"9.9.9"' "$room/log" || stop "the test of another library fails for another reason"
-# A copy of the crate elsewhere can be checked and documented without the library, and linked with an installed one. A
-# wrong PKCS1_LIB is an error.
-cp -rL "$here/rust" "$room/crate"
-(
-    cd "$room/crate"
-    unset PKCS1_LIB
-    export CARGO_TARGET_DIR=$room/target
-    PKG_CONFIG_PATH='' PKG_CONFIG_LIBDIR=$room cargo_quietly check --offline
-    grep -q "libpkcs1.a isn't found" "$out/cargo.log" || stop "cargo check doesn't say that the library is missing"
-    PKG_CONFIG_PATH='' PKG_CONFIG_LIBDIR=$room cargo_quietly doc --offline --quiet --no-deps
-    if command -v pkg-config > /dev/null; then
-        cargo_quietly test --offline --quiet --test statuses
-    fi
-)
-PKCS1_LIB=$room cargo check --offline --quiet 2> "$room/log" && stop "a folder without the library is taken"
-grep -q '^ *error: PKCS1_LIB' "$room/log" || stop "the build doesn't say that PKCS1_LIB is wrong"
+"$here/test_crate.sh" "$out" "$room/a b"
 
 # The example in each language: it prints the key in a file, and rejects other files.
 : > "$room/empty"

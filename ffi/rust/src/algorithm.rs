@@ -1,6 +1,6 @@
 use crate::hexadecimal::{digits, Hexadecimal};
 use crate::raw::{self, Bytes};
-use std::fmt;
+use core::fmt;
 
 /// The contents octets of an OBJECT IDENTIFIER (X.690 8.19). Equality and hash are those of the octets. `Debug` prints
 /// the name of its constant, if there is one, else the octets.

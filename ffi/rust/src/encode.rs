@@ -1,5 +1,6 @@
 use crate::raw::Encode;
 use crate::Error;
+use alloc::vec::Vec;
 
 /// A type that the library encodes.
 pub(crate) trait Writes {
@@ -26,7 +27,7 @@ pub(crate) fn len_of(value: &dyn Encode) -> Result<usize, Error> {
 /// The DER.
 pub(crate) fn into_vec(value: &dyn Encode) -> Result<Vec<u8>, Error> {
     let len = len_of(value)?;
-    let mut out = collected(len, std::iter::repeat_n(0, len))?;
+    let mut out = collected(len, core::iter::repeat_n(0, len))?;
     into_slice(value, &mut out)?;
     Ok(out)
 }

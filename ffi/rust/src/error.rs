@@ -1,5 +1,5 @@
 use crate::raw;
-use std::fmt;
+use core::fmt;
 
 /// Why a call failed: one of the constants. `Display` and `Debug` print its description.
 ///
@@ -90,4 +90,4 @@ impl fmt::Debug for Error {
     }
 }
 
-impl std::error::Error for Error {}
+impl core::error::Error for Error {}

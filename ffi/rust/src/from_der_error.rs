@@ -1,5 +1,6 @@
 use crate::Error;
-use std::fmt;
+use alloc::vec::Vec;
+use core::fmt;
 
 /// Why octets weren't decoded into an owned value, and the octets. They may be a private key, so `Debug` and `Display`
 /// print none of them, and it can't be compared.
@@ -69,4 +70,4 @@ impl fmt::Debug for FromDerError {
     }
 }
 
-impl std::error::Error for FromDerError {}
+impl core::error::Error for FromDerError {}

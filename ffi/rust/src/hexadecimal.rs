@@ -1,4 +1,4 @@
-use std::fmt;
+use core::fmt;
 
 /// Octets that are printed in hexadecimal. Of more than 16 only the first and the last ones are, and their number.
 pub(crate) struct Hexadecimal<'a>(pub &'a [u8]);

@@ -2,7 +2,8 @@ use crate::encode::{collected, Writes};
 use crate::hexadecimal::Hexadecimal;
 use crate::raw::{self, Bytes, Encode};
 use crate::Error;
-use std::fmt;
+use alloc::vec::Vec;
+use core::fmt;
 
 /// A public key (RFC 8017 A.1.1). The numbers are unsigned, most significant octet first. Decoding gives no leading
 /// zeros; encoding accepts them. Equality compares the octets. `Debug` shortens long numbers.
@@ -134,7 +135,7 @@ impl<'a> PrivateKey<'a> {
     /// The key that the library decoded from `der`, with its other primes.
     pub(crate) fn seen(der: &'a [u8], key: &raw::PrivateKey<'a>) -> Result<PrivateKey<'a>, Error> {
         let count = key.other_primes;
-        let mut others = collected(count, std::iter::repeat_n(raw::OtherPrime::default(), count))?;
+        let mut others = collected(count, core::iter::repeat_n(raw::OtherPrime::default(), count))?;
         if count > 0 {
             raw::private_key(der, &mut others)?;
         }

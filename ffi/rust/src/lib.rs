@@ -1,5 +1,8 @@
 #![doc = include_str!("../README.md")]
+#![no_std]
 #![deny(missing_docs, unsafe_code)]
+
+extern crate alloc;
 
 mod algorithm;
 #[cfg(doctest)]

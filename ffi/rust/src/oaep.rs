@@ -1,6 +1,7 @@
 use crate::encode::{into_vec, Writes};
 use crate::raw::{self, Encode};
 use crate::{Algorithm, Any, Error, MaskGen, ObjectIdentifier};
+use alloc::vec::Vec;
 
 /// The parameters of RSAES-OAEP (RFC 8017 A.2.1). Decoding sets a field that isn't in the DER to its default, and
 /// encoding leaves out a field that has its default. A recipient looks at `uses_hash` and `label`.

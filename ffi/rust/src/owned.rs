@@ -1,6 +1,7 @@
 use crate::{Error, FromDerError, OaepParams, PrivateKey, PrivateKeyInfo, PssParams, PublicKey};
-use std::fmt;
-use std::hash::{Hash, Hasher};
+use alloc::vec::Vec;
+use core::fmt;
+use core::hash::{Hash, Hasher};
 
 /// A public key with its DER, which it owns: a function can return it, and a thread can take it.
 ///

@@ -1,8 +1,8 @@
 use crate::encode::Writes;
 use crate::raw::{self, Bytes, Encode};
 use crate::{Error, PrivateKey};
-use std::fmt;
-use std::ops::Range;
+use core::fmt;
+use core::ops::Range;
 
 /// An RSA private key in an unencrypted PKCS #8 container (PrivateKeyInfo of RFC 5208). `Debug` prints only the public
 /// half of the key, and it can't be compared.

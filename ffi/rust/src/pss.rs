@@ -1,6 +1,7 @@
 use crate::encode::{into_vec, Writes};
 use crate::raw::{self, Encode};
 use crate::{Algorithm, Error, MaskGen, ObjectIdentifier};
+use alloc::vec::Vec;
 
 /// The trailer field of RSASSA-PSS (RFC 8017 A.2.3), which has only one value.
 #[derive(Clone, Copy, Debug, Default, PartialEq, Eq, Hash)]
