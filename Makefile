@@ -48,8 +48,9 @@ else
 code := $(generated)/$(machine)/pkcs1_c.s
 endif
 tool := $(if $(filter other,$(machine)),,$(OUT)/pkcs1_tool)
-# Of objects for the link time nothing could be made local.
-compile = $(CC) -std=c99 $(CFLAGS) -fPIC -fno-lto -Iffi/include -c $< -o $@
+# What is left to the link can't be made local; debuggers go back from each call.
+library := -fPIC -fno-lto -fasynchronous-unwind-tables
+compile = $(CC) -std=c99 $(CFLAGS) $(library) -Iffi/include -c $< -o $@
 
 all: fresh $(OUT)/libpkcs1.a $(tool)
 
@@ -58,13 +59,13 @@ fresh:
 	@[ ! -x tools/generate.sh ] || tools/generate.sh --fresh || true
 
 # All is made again if it would be made in another way.
-export settings := $(CC) $(CFLAGS) $(LDFLAGS) $(AR) $(OBJCOPY) $(code)
+export settings := $(CC) $(CFLAGS) $(library) $(LDFLAGS) $(AR) $(OBJCOPY) $(code)
 $(OUT)/settings: FORCE
 	@mkdir -p $(OUT)
 	@printf '%s\n' "$$settings" | cmp -s - $@ || printf '%s\n' "$$settings" > $@
 
 $(OUT)/code.o: $(code) $(OUT)/settings
-	$(CC) $(CFLAGS) $(if $(filter c,$(CODE)),-std=gnu99 -fPIC -fno-lto -fno-strict-aliasing,-g0) -c $< -o $@
+	$(CC) $(CFLAGS) $(if $(filter c,$(CODE)),-std=gnu99 $(library) -fno-strict-aliasing,-g0) -c $< -o $@
 $(OUT)/tool.o: $(generated)/$(machine)/pkcs1_tool.s $(OUT)/settings
 	$(CC) $(CFLAGS) -g0 -c $< -o $@
 $(OUT)/calls.o: ffi/c/pkcs1.c ffi/include/pkcs1.h ffi/include/pkcs1_c.h $(OUT)/settings
