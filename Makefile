@@ -42,10 +42,9 @@ export CC CFLAGS LDFLAGS AR OBJCOPY NM READELF RUN
 
 generated := ffi/generated
 CODE ?= $(if $(filter other,$(machine)),c,assembly)
-ifeq ($(CODE),c)
-code := $(generated)/pkcs1_c.c
-else
-code := $(generated)/$(machine)/pkcs1_c.s
+code := $(generated)/$(if $(filter c,$(CODE)),pkcs1_c.c,$(machine)/pkcs1_c.s)
+ifneq ($(machine),)
+$(if $(and $(filter c assembly,$(CODE)),$(wildcard $(code))),,$(error CODE is c or, on x86_64 and aarch64, assembly))
 endif
 tool := $(if $(filter other,$(machine)),,$(OUT)/pkcs1_tool)
 # What is left to the link can't be made local; debuggers go back from each call.

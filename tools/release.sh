@@ -1,0 +1,42 @@
+#!/usr/bin/env bash
+# release.sh OUT: packs pkcs1-proved-VERSION.tar.gz into this folder, from what is committed: what `make` and cargo need,
+# with the documents for users. Two checkouts of a commit give the same bytes. A tree with changes that aren't committed
+# is refused. It must not be published before the licence of the kit's library is settled: docs/DECISIONS.md.
+set -eu
+contents=(
+    Makefile README.md CHANGELOG.md SECURITY.md LICENSE-APACHE LICENSE-MIT docs/USING.md docs/PROMISES.md
+    docs/DIFFERENCES.md docs/DECISIONS.md ffi/{machine,link,install,check,check_object}.sh ffi/libpkcs1.pc.in ffi/include
+    ffi/c/{pkcs1,heap,os,test,modulus,read_key,public_half,open_container,signature_algorithm}.c ffi/generated ffi/rust
+    crates/pkcs1_tool/{run_built.sh,rows,stdin,stdout,pkcs1_tool.1}
+)
+
+stop() {
+    printf 'tools/release.sh: %s\n' "$*" >&2
+    exit 2
+}
+[ $# = 1 ] && [ -n "$1" ] || stop "usage: tools/release.sh OUT"
+out=$(realpath -m "$1")
+cd "$(dirname "$0")/.."
+[ -z "$(git status --porcelain)" ] || stop "there are changes that aren't committed: git status tells which"
+date=$(git log -1 --format=%ct)
+version=$(sed -n 's/^#define PKCS1_VERSION_[A-Z]* //p' ffi/include/pkcs1.h | paste -s -d .)
+name=pkcs1-proved-$version
+room=$(mktemp -d)
+trap 'rm -rf "$room"' EXIT
+export LC_ALL=C
+
+git archive --prefix="$name/" HEAD "${contents[@]}" | tar x -C "$room"
+cd "$room/$name"
+# A link to what isn't packed is its text alone.
+for document in *.md docs/*.md ffi/rust/README.md; do
+    FOLDER=$(dirname "$document") perl -pi -e \
+        's{\[([^][]*)\]\((?!https?:)([^)#]+)(#[^)]*)?\)}{-e "$ENV{FOLDER}/$2" ? $& : $1}ge' "$document"
+done
+find . -type f ! -name SHA256SUMS | sed 's,^\./,,' | sort | tr '\n' '\0' | xargs -0 sha256sum > SHA256SUMS
+cd "$room"
+tar c --format=ustar --sort=name --owner=0 --group=0 --numeric-owner --mode=u=rwX,go=rX --mtime="@$date" "$name" |
+    gzip -9n > packed
+[ "$(stat -c %s packed)" -lt 1000000 ] || stop "a release has less than 1000000 bytes, and this $(stat -c %s packed)"
+mkdir -p "$out"
+mv packed "$out/$name.tar.gz"
+echo "$out/$name.tar.gz"
