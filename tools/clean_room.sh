@@ -1,0 +1,154 @@
+#!/usr/bin/env bash
+# Does what README says to users work for one who has a C compiler and cargo, and nothing of the toolchain? Here the
+# toolchain's folders are empty, and there is no network. A clone is built, tested, installed and used as README and
+# docs/USING.md say, then a release alike, then the library is built for other machines and tested under qemu.
+#
+#     tools/clean_room.sh             all of this
+#     tools/clean_room.sh FOLDER      the first half of it, of a copy of this folder: README's commands, and programs
+#     tools/clean_room.sh --needs     whether all is there that the first needs
+set -eu
+here=$(cd "$(dirname "$0")" && pwd)
+others='aarch64 riscv64'
+
+stop() {
+    printf 'tools/clean_room.sh: %s\n' "$*" >&2
+    exit 1
+}
+# needs TOOL..: whether these are installed.
+needs() {
+    local it
+    for it; do
+        command -v "$it" > /dev/null || stop "$it isn't installed, and is needed"
+    done
+}
+# step NAME COMMAND..: runs the command, and says how long it took; what it prints is shown only if it fails.
+step() {
+    local began=$SECONDS
+    (set -e && "${@:2}") > "$room/log" 2>&1 || {
+        cat "$room/log" >&2
+        stop "$1: failed"
+    }
+    echo "clean room: $1, $((SECONDS - began)) s"
+}
+
+# The two commands of README, as they stand there.
+readme() {
+    local commands
+    mapfile -t commands < <(sed -n 's/^    \(make\b.*\)/\1/p' README.md)
+    [ ${#commands[@]} = 2 ] || stop "README has ${#commands[@]} commands that begin with make, not 2"
+    sh -c "${commands[0]}" | tee "$room/printed"
+    tail -n 1 "$room/printed" | grep -qx 'pub n=07 e=03 again=3006020107020103' || stop "the tool prints another line"
+    sh -c "${commands[1]}"
+}
+# prints PROGRAM..: it prints the modulus of a key.
+prints() {
+    printf '\060\010\002\003\000\301\177\002\001\003' > "$room/key.der"
+    [ "$("$@" "$room/key.der")" = c17f ] || stop "$1 prints another modulus"
+}
+# Installed, found by pkg-config, and linked either way; then nothing is left of it.
+c_program() {
+    local prefix=$room/installed
+    make install PREFIX="$prefix"
+    export PKG_CONFIG_PATH=$prefix/lib/pkgconfig
+    cc ffi/c/modulus.c $(pkg-config --cflags --libs libpkcs1) -Wl,-rpath,"$prefix/lib" -o "$room/shared"
+    cc -static ffi/c/modulus.c $(pkg-config --static --cflags --libs libpkcs1) -o "$room/static"
+    prints "$room/shared"
+    prints "$room/static"
+    readelf -d "$room/shared" | grep -q 'NEEDED.*libpkcs1\.so\.0' || stop "libpkcs1.so isn't linked"
+    printf 'pub 0500\n' | "$prefix/bin/pkcs1_tool" | grep -qx refused
+    make uninstall PREFIX="$prefix"
+    [ -z "$(find "$prefix" ! -type d)" ] || stop "uninstall leaves files"
+}
+# A program that depends on the crate by its path.
+rust_program() {
+    mkdir -p "$room/program/src"
+    printf '[package]\nname = "program"\nversion = "0.1.0"\nedition = "2021"\n[dependencies]\npkcs1-proved = { path = "%s" }\n' \
+        "$PWD/ffi/rust" > "$room/program/Cargo.toml"
+    cp ffi/rust/examples/modulus.rs "$room/program/src/main.rs"
+    prints cargo run --offline --quiet --manifest-path "$room/program/Cargo.toml" --
+    rm -r "$room/program"
+}
+# use WHAT: this folder, as users would.
+use() {
+    step "$1: README's two commands" readme
+    step "$1: a program in C" c_program
+    step "$1: a program in Rust" rust_program
+}
+crate_tests() {
+    (cd ffi/rust && cargo test --offline --quiet)
+}
+release() {
+    local of
+    tools/release.sh "$room/release"
+    git clone --quiet . "$room/again"
+    (umask 077 && cd "$room/again" && tools/release.sh "$room/release_again")
+    diff -r "$room/release" "$room/release_again"
+    echo > "$room/again/new"
+    ! "$room/again/tools/release.sh" "$room/refused" || stop "a release is made of what isn't committed"
+    [ ! -e "$room/refused" ] || stop "a release is refused, and made in part"
+    tar xzf "$room"/release/*.tar.gz -C "$room"
+    mv "$room"/pkcs1-proved-* "$room/unpacked"
+    (cd "$room/unpacked" && sha256sum --quiet -c SHA256SUMS)
+}
+# for_machine MACHINE: by the compiler for it, under qemu.
+for_machine() {
+    make check OUT="out/$1" CC="$1-linux-gnu-gcc" RUN="qemu-$1"
+}
+
+# In the room: $1 is its folder, which holds the tree, and $2 says whether to do all.
+inside() {
+    room=$1
+    ! command -v rt > /dev/null || stop "the toolchain can be reached, as $(command -v rt)"
+    ! grep : /proc/net/dev | grep -qv ' lo:' || stop "the network can be reached"
+    cd "$room/tree"
+    use tree
+    [ "$2" = all ] || return 0
+    step "tree: the crate's tests" crate_tests
+    step "tree: make check CODE=c" make check OUT=out/c CODE=c
+    step "a release" release
+    cd "$room/unpacked"
+    use release
+    step "release: the crate's tests" crate_tests
+    for it in $others; do
+        step "tree: make check for $it" for_machine "$it"
+    done
+}
+# enter FOLDER WORD: goes on in a room of this folder. What is mounted there is seen there only.
+enter() {
+    local kit words=(--net --mount) user=$([ "$(id -u)" = 0 ] || echo --map-root-user)
+    unshare $user "${words[@]}" true 2> /dev/null || stop "unshare ${words[*]} isn't allowed here, and is needed"
+    kit=$(rt doc 2> /dev/null) && kit=$(dirname "$(realpath "$kit")") || kit=/opt
+    unshare $user "${words[@]}" sh -euc '
+        for folder in /opt "$1"; do
+            [ ! -d "$folder" ] || mount -t tmpfs none "$folder"
+        done
+        exec env -i PATH="$PATH" HOME="$HOME" CARGO_NET_OFFLINE=true "$2" --inside "$3" "$4"' \
+        sh "$kit" "$here/clean_room.sh" "$1" "$2"
+}
+
+[ "${1-}" != --inside ] || {
+    inside "$2" "$3"
+    exit
+}
+needs unshare make cc ar objcopy readelf pkg-config cargo
+case $#:${1-} in
+    0: | 1:--needs)
+        for machine in $others; do
+            needs "$machine-linux-gnu-gcc" "qemu-$machine"
+        done
+        needs git
+        ;;
+    1:-*) stop "there is no $1" ;;
+esac
+[ "${1-}" != --needs ] || exit 0
+room=$(mktemp -d)
+trap 'rm -rf "$room"' EXIT
+if [ $# = 0 ]; then
+    git clone --quiet "$here/.." "$room/tree"
+    enter "$room" all
+else
+    mkdir "$room/tree"
+    tar c -C "$1" --exclude=./.git --exclude=out --exclude=target --exclude=Cargo.lock . | tar x -C "$room/tree"
+    enter "$room" half
+fi
+echo "clean room: all of it works, after $SECONDS s"
