@@ -23,8 +23,12 @@ needs() {
 }
 # step NAME COMMAND..: runs the command, and says how long it took; what it prints is shown only if it fails.
 step() {
-    local began=$SECONDS
-    (set -e && "${@:2}") > "$room/log" 2>&1 || {
+    local began=$SECONDS status
+    set +e
+    (set -e && "${@:2}") > "$room/log" 2>&1
+    status=$?
+    set -e
+    [ $status = 0 ] || {
         cat "$room/log" >&2
         stop "$1: failed"
     }
@@ -78,7 +82,6 @@ crate_tests() {
     (cd ffi/rust && cargo test --offline --quiet)
 }
 release() {
-    local of
     tools/release.sh "$room/release"
     git clone --quiet . "$room/again"
     (umask 077 && cd "$room/again" && tools/release.sh "$room/release_again")
@@ -110,15 +113,16 @@ inside() {
     use release
     step "release: the crate's tests" crate_tests
     for it in $others; do
-        step "tree: make check for $it" for_machine "$it"
+        step "release: make check for $it" for_machine "$it"
     done
 }
 # enter FOLDER WORD: goes on in a room of this folder. What is mounted there is seen there only.
 enter() {
-    local kit words=(--net --mount) user=$([ "$(id -u)" = 0 ] || echo --map-root-user)
-    unshare $user "${words[@]}" true 2> /dev/null || stop "unshare ${words[*]} isn't allowed here, and is needed"
+    local kit words=(--net --mount)
+    [ "$(id -u)" = 0 ] || words+=(--map-root-user)
+    unshare "${words[@]}" true 2> /dev/null || stop "unshare ${words[*]} isn't allowed here, and is needed"
     kit=$(rt doc 2> /dev/null) && kit=$(dirname "$(realpath "$kit")") || kit=/opt
-    unshare $user "${words[@]}" sh -euc '
+    unshare "${words[@]}" sh -euc '
         for folder in /opt "$1"; do
             [ ! -d "$folder" ] || mount -t tmpfs none "$folder"
         done

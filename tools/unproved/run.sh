@@ -107,6 +107,10 @@ ffi() {
     [ -z "$keep" ] || ffi/build.sh install-unproved "$keep"
 }
 
+clean_room() {
+    tools/clean_room.sh .
+}
+
 # step NAME COMMAND..: runs the command in the copy, and says how it ended.
 step() {
     local began=$SECONDS log=$room/$1.log ended=passed
@@ -121,13 +125,13 @@ step() {
 steps_of() {
     local it
     case $1 in
-    documents | tool | ffi) echo "$1" ;;
+    documents | tool | ffi | clean_room) echo "$1" ;;
     rows) for it in crates/*/src/main.rt; do
         it=${it#crates/} && it=${it%%/*}
         [ "$it" = pkcs1_tool ] || echo "rows $it"
     done ;;
     tests) grep -rl --include='*.rt' '#\[test\]' crates/*/src | sed 's,crates/\([^/]*\)/.*,tests \1,' | sort -u ;;
-    *) stop "there is no part $1: it knows documents, rows, tests, tool and ffi" ;;
+    *) stop "there is no part $1: it knows documents, rows, tests, tool, ffi and clean_room" ;;
     esac
 }
 
@@ -143,7 +147,7 @@ while [ $# -gt 0 ]; do
     esac
     shift
 done
-[ ${#parts[@]} -gt 0 ] || parts=(ffi tests rows tool documents)
+[ ${#parts[@]} -gt 0 ] || parts=(ffi clean_room tests rows tool documents)
 [ -z "$keep" ] || [[ " ${parts[*]} " = *" ffi "* ]] || stop "--keep needs the part ffi"
 for part in "${parts[@]}"; do
     steps_of "$part" >> "$room/steps"
