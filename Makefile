@@ -53,9 +53,9 @@ compile = $(CC) -std=c99 $(CFLAGS) $(library) -Iffi/include -c $< -o $@
 
 all: fresh $(OUT)/libpkcs1.a $(tool)
 
-# Says it in one line, where sources are there that the generated files aren't made of.
+# Says in one line if the proved code has other sources than the generated files were made of; no release has it.
 fresh:
-	@[ ! -x tools/generate.sh ] || tools/generate.sh --fresh || true
+	@[ ! -x tools/fresh.sh ] || tools/fresh.sh || true
 
 # All is made again if it would be made in another way.
 export settings := $(CC) $(CFLAGS) $(library) $(LDFLAGS) $(AR) $(OBJCOPY) $(code)

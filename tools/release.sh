@@ -1,7 +1,7 @@
 #!/usr/bin/env bash
 # release.sh OUT: packs pkcs1-proved-VERSION.tar.gz into this folder, from what is committed: what `make` and cargo need,
 # with the documents for users. Two checkouts of a commit give the same bytes. A tree with changes that aren't committed
-# is refused. It must not be published before the licence of the kit's library is settled: docs/DECISIONS.md.
+# is refused, and one whose generated files are made of other sources. It must not be published before the licence of the kit's library is settled: docs/DECISIONS.md.
 set -eu
 contents=(
     Makefile README.md CHANGELOG.md SECURITY.md LICENSE-APACHE LICENSE-MIT docs/USING.md docs/PROMISES.md
@@ -18,6 +18,7 @@ stop() {
 out=$(realpath -m "$1")
 cd "$(dirname "$0")/.."
 [ -z "$(git status --porcelain)" ] || stop "there are changes that aren't committed: git status tells which"
+tools/fresh.sh || exit 2
 date=$(git log -1 --format=%ct)
 version=$(sed -n 's/^#define PKCS1_VERSION_[A-Z]* //p' ffi/include/pkcs1.h | paste -s -d .)
 name=pkcs1-proved-$version
