@@ -1,7 +1,8 @@
 #!/usr/bin/env bash
 # release.sh OUT: packs pkcs1-proved-VERSION.tar.gz into this folder, from what is committed: what `make` and cargo need,
 # with the documents for users. Two checkouts of a commit give the same bytes. A tree with changes that aren't committed
-# is refused, and one whose generated files are made of other sources. It must not be published before the licence of the kit's library is settled: docs/DECISIONS.md.
+# is refused, and one whose generated files are made of other sources. A release must not be published before the licence
+# of the kit's library is settled: docs/DECISIONS.md.
 set -eu
 contents=(
     Makefile README.md CHANGELOG.md SECURITY.md LICENSE-APACHE LICENSE-MIT docs/USING.md docs/PROMISES.md
