@@ -101,7 +101,7 @@ build_over() {
     make_toolchain
     "$kit/bin/rattle" build --crate-name pkcs1_c --crate-type staticlib src/lib.rt "${words[@]}" --jobs 2 \
         --antt-project "$kit/rattle/logic/antt-project.json" --logic-built "$kit/logic_built" \
-        --toolchain "$out/toolchain" "$@" -o out/libpkcs1_c.a
+        --toolchain "$out/toolchain" --cpu x86-64 "$@" -o out/libpkcs1_c.a
 }
 prove() {
     (cd "$crate" && "$@" > "$out/rt.log" 2>&1) || {

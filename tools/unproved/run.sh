@@ -52,7 +52,7 @@ case " \$* " in *" -fsanitize=address "*)
     \$clang -x ir module.bc -S -emit-llvm -O0 -Xclang -disable-llvm-passes -o - | sed \\
         -e '/^define internal.*@"pkcs1_c::[a-z0-9_:]*::pkcs1_c_/s/ internal / /' \\
         -e 's/@"pkcs1_c::[a-z0-9_:]*::\\(pkcs1_c_[a-z0-9_]*\\)"/@\\1/g' > "$object.ll"
-    \$clang -march=x86-64-v2 -ffunction-sections -fdata-sections -fPIC -fforce-dwarf-frame -O1 -c -x ir \
+    \$clang -march=x86-64 -ffunction-sections -fdata-sections -fPIC -fforce-dwarf-frame -O1 -c -x ir \
         "$object.ll" -o "$object.o"
     rm "$object.ll" ;;
 esac
