@@ -17,4 +17,4 @@ done
 ! $readelf -dW "$out/libpkcs1.so" | grep TEXTREL || stop "libpkcs1.so has text relocations"
 frames=$($readelf --debug-dump=frames "$out/pkcs1.o" 2> /dev/null | grep -c 'FDE cie' || true)
 places=$($readelf -sW "$out/pkcs1.o" | awk '/ FUNC / { print $7, $2 }' | sort -u | wc -l)
-[ "$frames" = "$places" ] || stop "a debugger can't go back from each call: there are $frames ways back, of $places calls"
+[ "$frames" = "$places" ] || stop "a debugger can't go back from each call: $frames ways back, $places calls"

@@ -1,5 +1,6 @@
 #!/usr/bin/env bash
-# Installs the library that make or build.sh made, and removes it again. They call this; DESTDIR and LIBDIR are as there.
+# Installs the library that make or build.sh made, and removes it again. They call this. DESTDIR and LIBDIR are as
+# there.
 #     install.sh add PREFIX VERSION BUILT [TOOL]   from the folder BUILT; the program TOOL with its man page too
 #     install.sh remove PREFIX VERSION
 set -eu

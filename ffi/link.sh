@@ -1,7 +1,7 @@
 #!/bin/sh
 # link.sh OUT: links OUT/proved.o, the proved calls, and OUT/calls.o, those of pkcs1.h over them, into libpkcs1.a and
-# libpkcs1.so.VERSION, in which only what the headers declare is global. CC, CFLAGS, LDFLAGS, AR, OBJCOPY and NM are as in the
-# Makefile, which calls this, and build.sh too.
+# libpkcs1.so.VERSION, in which only what the headers declare is global. The Makefile and build.sh call it. CC, CFLAGS,
+# LDFLAGS, AR, OBJCOPY and NM are as in the Makefile.
 set -eu
 out=$1
 headers=$(dirname "$0")/include

@@ -8,7 +8,8 @@ say() {
     printf '%s\n' "$*"
     exit 0
 }
-command -v "${1-}" > /dev/null || say "there is no compiler ${1-}: install gcc or clang, or name yours, as in make CC=clang"
+command -v "${1-}" > /dev/null ||
+    say "there is no compiler ${1-}: install gcc or clang, or name yours, as in make CC=clang"
 machine=$("$@" -E -P -x c - 2> /dev/null << 'END' | tail -n 1
 #if !defined __BYTE_ORDER__ || __BYTE_ORDER__ != __ORDER_LITTLE_ENDIAN__
 big_endian

@@ -63,7 +63,8 @@ export PKCS1_LIB=$room/lib
 runs test --offline --quiet --test values
 linked "$room/lib"
 sed 's/0\.8\.0/9.9.9/g' "$out/libpkcs1.a" > "$room/lib/libpkcs1.a"
-! cargo test --offline --quiet --test values > "$room/log" 2>&1 || stop "a library that was built again isn't linked again"
+! cargo test --offline --quiet --test values > "$room/log" 2>&1 ||
+    stop "a library that was built again isn't linked again"
 grep -q '"9.9.9"' "$room/log" || stop "the test of another library fails for another reason"
 PKCS1_LIB=$room fails 'PKCS1_LIB must name' check --offline --quiet
 unset PKCS1_LIB

@@ -66,8 +66,8 @@ c_program() {
 # A program that depends on the crate by its path.
 rust_program() {
     mkdir -p "$room/program/src"
-    printf '[package]\nname = "program"\nversion = "0.1.0"\nedition = "2021"\n[dependencies]\npkcs1-proved = { path = "%s" }\n' \
-        "$PWD/ffi/rust" > "$room/program/Cargo.toml"
+    printf '%s\n' '[package]' 'name = "program"' 'edition = "2021"' '[dependencies]' \
+        "pkcs1-proved = { path = \"$PWD/ffi/rust\" }" > "$room/program/Cargo.toml"
     cp ffi/rust/examples/modulus.rs "$room/program/src/main.rs"
     prints cargo run --offline --quiet --manifest-path "$room/program/Cargo.toml" --
     rm -r "$room/program"

@@ -1,13 +1,14 @@
 #!/usr/bin/env bash
-# release.sh OUT: packs pkcs1-proved-VERSION.tar.gz into this folder, from what is committed: what `make` and cargo need,
-# with the documents for users. Two checkouts of a commit give the same bytes. A tree with changes that aren't committed
-# is refused, and one whose generated files are made of other sources. A release must not be published before the licence
-# of the kit's library is settled: docs/DECISIONS.md.
+# release.sh OUT: packs pkcs1-proved-VERSION.tar.gz into this folder, from what is committed: what `make` and cargo
+# need, with the documents for users. Two checkouts of a commit give the same bytes. A tree with changes that aren't
+# committed is refused, and one whose generated files are made of other sources. A release must not be published before
+# the licence of the kit's library is settled: docs/DECISIONS.md.
 set -eu
 contents=(
-    Makefile README.md CHANGELOG.md SECURITY.md LICENSE-APACHE LICENSE-MIT docs/USING.md docs/PROMISES.md
-    docs/DIFFERENCES.md docs/DECISIONS.md ffi/{machine,link,install,check,check_object}.sh ffi/libpkcs1.pc.in ffi/include
-    ffi/c/{pkcs1,heap,os,test,modulus,read_key,public_half,open_container,signature_algorithm}.c ffi/generated ffi/rust
+    Makefile README.md CHANGELOG.md SECURITY.md LICENSE-APACHE LICENSE-MIT
+    docs/{USING,PROMISES,DIFFERENCES,DECISIONS}.md
+    ffi/{machine,link,install,check,check_object}.sh ffi/libpkcs1.pc.in ffi/include ffi/generated ffi/rust
+    ffi/c/{pkcs1,heap,os,test,modulus,read_key,public_half,open_container,signature_algorithm}.c
     crates/pkcs1_tool/{run_built.sh,rows,stdin,stdout,pkcs1_tool.1}
 )
 
