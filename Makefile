@@ -50,6 +50,7 @@ tool := $(if $(filter other,$(machine)),,$(OUT)/pkcs1_tool)
 # What is left to the link can't be made local; debuggers go back from each call.
 library := -fPIC -fno-lto -fasynchronous-unwind-tables
 compile = $(CC) -std=c99 $(CFLAGS) $(library) -Iffi/include -c $< -o $@
+assemble = $(CC) $(CFLAGS) -g0 -Wno-unused-command-line-argument -c $< -o $@
 
 all: fresh $(OUT)/libpkcs1.a $(tool)
 
@@ -64,9 +65,9 @@ $(OUT)/settings: FORCE
 	@printf '%s\n' "$$settings" | cmp -s - $@ || printf '%s\n' "$$settings" > $@
 
 $(OUT)/code.o: $(code) $(OUT)/settings
-	$(CC) $(CFLAGS) $(if $(filter c,$(CODE)),-std=gnu99 $(library) -fno-strict-aliasing,-g0) -c $< -o $@
+	$(if $(filter c,$(CODE)),$(compile) -fno-strict-aliasing,$(assemble))
 $(OUT)/tool.o: $(generated)/$(machine)/pkcs1_tool.s $(OUT)/settings
-	$(CC) $(CFLAGS) -g0 -c $< -o $@
+	$(assemble)
 $(OUT)/calls.o: ffi/c/pkcs1.c ffi/include/pkcs1.h ffi/include/pkcs1_c.h $(OUT)/settings
 	$(compile)
 $(OUT)/heap.o: ffi/c/heap.c $(OUT)/settings
