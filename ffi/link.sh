@@ -15,7 +15,10 @@ export LC_ALL=C
 $CC ${CFLAGS-} -fno-lto -r -nostdlib -o "$out/pkcs1.o" "$out/proved.o" "$out/calls.o"
 ${OBJCOPY:-objcopy} --keep-global-symbols="$out/declared" "$out/pkcs1.o"
 rm -f "$out"/libpkcs1.*
-$CC ${CFLAGS-} -fno-lto -shared ${LDFLAGS-} -o "$out/libpkcs1.so.$version" -Wl,-soname,libpkcs1.so.0 "$out/pkcs1.o"
+# Else a C library's own start files, as those of musl, may add names.
+printf '{ global: %s local: *; };\n' "$(sed 's/$/;/' "$out/declared")" > "$out/exports.map"
+$CC ${CFLAGS-} -fno-lto -shared ${LDFLAGS-} -o "$out/libpkcs1.so.$version" -Wl,-soname,libpkcs1.so.0 \
+    -Wl,--version-script="$out/exports.map" "$out/pkcs1.o"
 ln -s "libpkcs1.so.$version" "$out/libpkcs1.so.0"
 ln -s libpkcs1.so.0 "$out/libpkcs1.so"
 ${AR:-ar} rcs "$out/libpkcs1.a" "$out/pkcs1.o"

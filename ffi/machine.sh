@@ -8,7 +8,7 @@ say() {
     printf '%s\n' "$*"
     exit 0
 }
-command -v "${1-}" > /dev/null ||
+command -v "${1-}" > /dev/null 2>&1 ||
     say "there is no compiler ${1-}: install gcc or clang, or name yours, as in make CC=clang"
 machine=$("$@" -E -P -x c - 2> /dev/null << 'END' | tail -n 1
 #if !defined __BYTE_ORDER__ || __BYTE_ORDER__ != __ORDER_LITTLE_ENDIAN__
