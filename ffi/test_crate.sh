@@ -55,6 +55,7 @@ CC='gcc -DA' AR=none fails 'there is no none: install gcc' check --offline
 for target in i686-unknown-linux-gnu powerpc64-unknown-linux-gnu x86_64-pc-windows-msvc; do
     fails "$target isn't supported" check --offline --target $target
 done
+fails 'name the C compiler for x86_64-pc-windows-gnu' check --offline --target x86_64-pc-windows-gnu
 
 # That in a folder, which is linked again when it was built again.
 mkdir "$room/lib"

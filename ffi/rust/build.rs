@@ -79,8 +79,12 @@ fn code() -> &'static str {
 
 /// The compiler that is called where CC names none.
 fn default_compiler() -> String {
-    if told("TARGET") == told("HOST") || told("CARGO_CFG_TARGET_OS") != "linux" {
+    let target = told("TARGET");
+    if target == told("HOST") {
         return "cc".to_string();
+    }
+    if told("CARGO_CFG_TARGET_OS") != "linux" {
+        stop(&format!("name the C compiler for {target} by CC_{}", target.replace('-', "_")));
     }
     told("CARGO_CFG_TARGET_ARCH") + "-linux-gnu-gcc"
 }
