@@ -153,6 +153,20 @@ hash_is_of_code() {
     [ "$(hash_after 's/0x84/0x85/')" != "$hash" ] || stop "the hash doesn't change with the code"
 }
 
+# What differs from the code of an object is told: an instruction, a constant, a name.
+other_code_is_told() {
+    local assembly=$generated/x86_64/pkcs1_c.s words edit
+    words=("$1" objdump x86_64-unknown-linux-gnu "$room/code.o")
+    "$1" --target=x86_64-unknown-linux-gnu -c "$assembly" -o "$room/code.o"
+    "$here/same_code.py" "${words[@]}" "$assembly"
+    for edit in 's/cmpb\t\$5/cmpb\t$6/' 's/no error/no Error/' 's/callq\tmemcpy/callq\tmemmove/'; do
+        sed "$edit" "$assembly" > "$room/other.s"
+        cmp -s "$assembly" "$room/other.s" && stop "nothing is changed by $edit"
+        "$here/same_code.py" "${words[@]}" "$room/other.s" 2> "$room/error" && stop "$edit isn't told"
+        grep -q 'what was proved and' "$room/error" || stop "$edit is told otherwise"
+    done
+}
+
 objects_are_right
 library_passes
 other_machines_are_refused
@@ -160,6 +174,8 @@ unknown_is_refused
 another_kit_is_refused
 hash_is_of_code
 if command -v rt > /dev/null; then
-    "$here/test_opcodes.py" "$(dirname "$(rt doc)")/toolchain/bin/clang" "$room"
+    clang=$(dirname "$(rt doc)")/toolchain/bin/clang
+    "$here/test_opcodes.py" "$clang" "$room"
+    other_code_is_told "$clang"
 fi
 echo "generated: the objects, the library's test over assembly and C, the translation"
