@@ -4,7 +4,8 @@
     sources.py libraries CRATE      the crates that crates.txt names for this one, in a line
     sources.py hash KIT             the hash of the sources, of what makes the files, and of what `rt version` says
 
-Comments, contracts and ghosts make no code: they are left out, so that a change of them alone makes no new files.
+Comments, contracts, ghosts and tests make no code that is kept: they are left out, so that a change of them alone makes
+no new files.
 """
 import glob
 import hashlib
@@ -14,6 +15,7 @@ import sys
 
 MAKERS = ["tools/generate.sh", "tools/generate/assembly.py", "tools/generate/clang_that_keeps.sh",
           "tools/generate/sources.py", "tools/generate/ir2c/*.py"]
+TESTS = re.compile(r"/src/tests(\.rt$|/)")
 UNBUILT = re.compile(r"\s*((pub(\([a-z]+\))? )?ghost|requires|ensures)\b|\s*#!?\[tactic\(")
 
 
@@ -52,6 +54,8 @@ def sources_hash(kit):
     for name in sorted(below("pkcs1_c", known) | below("pkcs1_tool", known)):
         made.update(repr(known[name]).encode())
         for path in sorted(glob.glob(f"crates/{name}/src/**/*.rt", recursive=True)):
+            if TESTS.search(path):
+                continue
             with open(path, encoding="utf-8") as it:
                 made.update(repr((path, code(it.read()))).encode())
     for path in sorted(it for pattern in MAKERS for it in glob.glob(pattern)):

@@ -44,6 +44,7 @@ fn copies_call_files_in_order(rt: HostRuntime) {
         let files = Recorder {
             calls: &calls,
             input,
+            failing: None,
         };
         let done = copy_pub(&files, alloc, from, to);
         equal(&rt, done.is_ok(), input == PUBLIC);
@@ -52,6 +53,7 @@ fn copies_call_files_in_order(rt: HostRuntime) {
         let files = Recorder {
             calls: &calls,
             input,
+            failing: None,
         };
         let done = copy_priv(&files, alloc, from, to);
         equal(&rt, done.is_ok(), input == PRIVATE);
@@ -67,6 +69,7 @@ fn keys_call_files_in_order(rt: HostRuntime) -> Result<(), Fail> {
     let files = Recorder {
         calls: &calls,
         input: PRIVATE,
+        failing: None,
     };
     let key = RsaPrivateKeyOwned::read_pkcs1_der_file(&files, alloc, from)?;
     key.write_pkcs1_der_file(&files, alloc, to)?;
@@ -75,6 +78,7 @@ fn keys_call_files_in_order(rt: HostRuntime) -> Result<(), Fail> {
     let files = Recorder {
         calls: &calls,
         input: PUBLIC,
+        failing: None,
     };
     let key = RsaPublicKeyOwned::read_pkcs1_der_file(&files, alloc, from)?;
     key.write_pkcs1_der_file(&files, alloc, to)?;
@@ -83,9 +87,40 @@ fn keys_call_files_in_order(rt: HostRuntime) -> Result<(), Fail> {
     let files = Recorder {
         calls: &calls,
         input: PUBLIC,
+        failing: None,
     };
     let key = RsaPublicKeyRef::try_from(PUBLIC)?;
     key.write_pkcs1_der_file(&files, alloc, to)?;
     equal(&rt, calls.into_inner().as_slice(), WRITTEN);
     Ok(())
+}
+
+#[test]
+fn a_call_that_failed_is_the_last(rt: HostRuntime) {
+    let alloc = rt.alloc();
+    let (from, to) = (Path::new("in"), Path::new("out"));
+    for (failing, input, read, copied) in [
+        (None, b"1\x00".as_slice(), READ, READ),
+        (Some(Call::Read), PUBLIC, &READ[..2], &READ[..2]),
+        (Some(Call::Flush), PUBLIC, READ, COPIED),
+    ] {
+        let calls = RefCell::new(Vec::new(alloc));
+        let files = Recorder {
+            calls: &calls,
+            input,
+            failing,
+        };
+        let key = RsaPublicKeyOwned::read_pkcs1_der_file(&files, alloc, from);
+        equal(&rt, key.is_ok(), failing == Some(Call::Flush));
+        equal(&rt, calls.into_inner().as_slice(), read);
+        let calls = RefCell::new(Vec::new(alloc));
+        let files = Recorder {
+            calls: &calls,
+            input,
+            failing,
+        };
+        let done = copy_pub(&files, alloc, from, to);
+        equal(&rt, done.is_ok(), false);
+        equal(&rt, calls.into_inner().as_slice(), copied);
+    }
 }

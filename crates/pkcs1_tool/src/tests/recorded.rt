@@ -31,6 +31,8 @@ fn keep(calls: &Calls, call: Call) {
 pub struct Recorder<'a> {
     pub calls: &'a Calls,
     pub input: &'a [u8],
+    /// The call on a file that fails.
+    pub failing: Option<Call>,
 }
 
 impl<'a> FileSystem for Recorder<'a> {
@@ -50,6 +52,8 @@ impl<'a> FileSystem for Recorder<'a> {
         Ok(Recorded {
             calls: self.calls,
             left: self.input,
+            failing: self.failing,
+            faults: 0,
         })
     }
 
@@ -61,6 +65,8 @@ impl<'a> FileSystem for Recorder<'a> {
         Ok(Recorded {
             calls: self.calls,
             left: &[],
+            failing: self.failing,
+            faults: 0,
         })
     }
 }
@@ -70,15 +76,21 @@ impl<'a> FileSystem for Recorder<'a> {
 pub struct Recorded<'a> {
     calls: &'a Calls,
     left: &'a [u8],
+    failing: Option<Call>,
+    faults: u64,
 }
 
 impl Source for Recorded<'_> {
     ghost remaining = { λ _. None };
 
-    ghost failures = { λ _. 0 };
+    ghost failures = { λ file. file.faults };
 
     fn read(&mut self, buf: &mut [u8]) -> Result<usize> {
         keep(self.calls, Call::Read);
+        if self.failing == Some(Call::Read) {
+            self.faults = self.faults.saturating_add(1);
+            return Err(Error::new(ErrorKind::File));
+        }
         let count = self.left.len().min(buf.len());
         let (given, left) = self.left.split_at(count);
         buf[..count].copy_from_slice(given);
@@ -87,29 +99,37 @@ impl Source for Recorded<'_> {
     }
 
     fn faults(&self) -> u64 {
-        0
+        self.faults
     }
 }
 
 impl Sink for Recorded<'_> {
     ghost contents = { λ _. None };
 
-    ghost failures = { λ _. 0 };
+    ghost failures = { λ file. file.faults };
 
     ghost is_flushed = { λ _. ⊤ };
 
     fn write(&mut self, bytes: &[u8]) -> Result<usize> {
         keep(self.calls, Call::Write);
+        if self.failing == Some(Call::Write) {
+            self.faults = self.faults.saturating_add(1);
+            return Err(Error::new(ErrorKind::File));
+        }
         Ok(bytes.len())
     }
 
     fn flush(&mut self) -> Result<()> {
         keep(self.calls, Call::Flush);
+        if self.failing == Some(Call::Flush) {
+            self.faults = self.faults.saturating_add(1);
+            return Err(Error::new(ErrorKind::File));
+        }
         Ok(())
     }
 
     fn faults(&self) -> u64 {
-        0
+        self.faults
     }
 }
 
