@@ -134,7 +134,7 @@ make_all() {
 }
 
 needs rt python3
-kit_version=$(rt version)
+kit_version=$(rt version) || stop 2 "rt doesn't run"
 kit=$(dirname "$(rt doc)")
 case "$#:${1-}" in
     1:--fresh)
