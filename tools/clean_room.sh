@@ -126,7 +126,7 @@ enter() {
         for folder in /opt "$1"; do
             [ ! -d "$folder" ] || mount -t tmpfs none "$folder"
         done
-        exec env -i PATH="$PATH" HOME="$HOME" CARGO_NET_OFFLINE=true "$2" --inside "$3" "$4"' \
+        exec env -i PATH="$PATH" HOME="$HOME" CARGO_NET_OFFLINE=true CARGO_INCREMENTAL=0 "$2" --inside "$3" "$4"' \
         sh "$kit" "$here/clean_room.sh" "$1" "$2"
 }
 
