@@ -80,15 +80,17 @@ inputs() {
     } | sha256sum
 }
 
-# A toolchain whose clang also writes down how to go back from each call, for debuggers. No instruction changes.
+# A toolchain in the folder $toolchain whose clang also writes down how to go back from each call, for debuggers. No
+# instruction changes.
 make_toolchain() {
-    rm -rf "$out/toolchain"
-    mkdir -p "$out/toolchain/bin"
-    ln -s "$kit/toolchain/lib" "$out/toolchain"
-    ln -s "$kit"/toolchain/bin/* "$out/toolchain/bin"
-    rm "$out/toolchain/bin/clang"
-    printf '#!/bin/sh\nexec "%s" -fforce-dwarf-frame "$@"\n' "$kit/toolchain/bin/clang" > "$out/toolchain/bin/clang"
-    chmod +x "$out/toolchain/bin/clang"
+    toolchain=$(mktemp -d)
+    trap 'rm -rf "$toolchain"' EXIT
+    mkdir "$toolchain/bin"
+    ln -s "$kit/toolchain/lib" "$toolchain"
+    ln -s "$kit"/toolchain/bin/* "$toolchain/bin"
+    rm "$toolchain/bin/clang"
+    printf '#!/bin/sh\nexec "%s" -fforce-dwarf-frame "$@"\n' "$kit/toolchain/bin/clang" > "$toolchain/bin/clang"
+    chmod +x "$toolchain/bin/clang"
 }
 # build_over WORD..: proves this crate again and builds it, over libraries that rt ci or rt lib proved and kept: rt ci
 # builds no static library, and rt lib takes no other toolchain.
@@ -101,7 +103,7 @@ build_over() {
     make_toolchain
     "$kit/bin/rattle" build --crate-name pkcs1_c --crate-type staticlib src/lib.rt "${words[@]}" --jobs 2 \
         --antt-project "$kit/rattle/logic/antt-project.json" --logic-built "$kit/logic_built" \
-        --toolchain "$out/toolchain" --cpu x86-64 "$@" -o out/libpkcs1_c.a
+        --toolchain "$toolchain" --cpu x86-64 "$@" -o out/libpkcs1_c.a
 }
 prove() {
     (cd "$crate" && "$@" > "$out/rt.log" 2>&1) || {

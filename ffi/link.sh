@@ -19,8 +19,9 @@ rm -f "$out"/libpkcs1.*
 printf '{ global: %s local: *; };\n' "$(sed 's/$/;/' "$out/declared")" > "$out/exports.map"
 $CC ${CFLAGS-} -fno-lto -shared ${LDFLAGS-} -o "$out/libpkcs1.so.$version" -Wl,-soname,libpkcs1.so.0 \
     -Wl,--version-script="$out/exports.map" "$out/pkcs1.o"
-ln -s "libpkcs1.so.$version" "$out/libpkcs1.so.0"
-ln -s libpkcs1.so.0 "$out/libpkcs1.so"
+# Copies, since rt ci takes no tree with links.
+cp "$out/libpkcs1.so.$version" "$out/libpkcs1.so.0"
+cp "$out/libpkcs1.so.$version" "$out/libpkcs1.so"
 ${AR:-ar} rcs "$out/libpkcs1.a" "$out/pkcs1.o"
 
 # exports WORD..: what nm, called with these words, prints of the symbols that are defined.

@@ -36,9 +36,8 @@ linked() {
 }
 
 # The crate as cargo packages it, with nothing beside it.
-cd "$here/rust"
-runs package --offline --quiet --allow-dirty --no-verify
-tar xzf "$room"/target/package/*.crate -C "$room"
+"$here/package_crate.sh" "$room/packed"
+tar xzf "$room"/packed/*.crate -C "$room"
 cd "$room"/pkcs1-proved-*
 for file in LICENSE-APACHE LICENSE-MIT README.md generated/PROVENANCE; do
     [ -s $file ] || stop "the crate's package lacks $file"
