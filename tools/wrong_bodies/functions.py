@@ -98,7 +98,7 @@ def owner_of(head, aliases):
         name = words(base(parts[0]), parameters)
         # behind an alias its parameters are arguments of the type that it stands for
         arguments = arguments_of(parts[0], set() if name in aliases else parameters)
-        return f"{name}+{arguments}" if arguments else name
+        return "+".join([name, *arguments])
     trait, of = parts
     return (words(of, parameters) or "Any") + words(trait, parameters)
 
@@ -116,7 +116,11 @@ def base(type_):
 
 
 def arguments_of(type_, parameters):
-    return words(type_[len(base(type_)) :], parameters)
+    """The arguments of a type, without lifetimes; none if they are parameters alone."""
+    arguments = split(type_[len(base(type_)) :].strip()[1:-1])
+    if not any(words(it, parameters) for it in arguments):
+        return []
+    return [it for it in (words(it, set()) for it in arguments) if it]
 
 
 def closing(text):

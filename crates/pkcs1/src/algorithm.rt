@@ -36,5 +36,5 @@ pub fn rsa_encryption_oid() -> ObjectIdentifier
 pub fn algorithm_id() -> AlgorithmIdentifierRef<'static>
     ensures { algorithm_of result ≡ with_parameters id_rsa_encryption null_value }
 {
-    with_null::<RsaEncryption, AnyRef<'static>, NoMemory>(NoMemory)
+    with_null::<RsaEncryption, ObjectIdentifier, AnyRef<'static>, NoMemory>(NoMemory)
 }

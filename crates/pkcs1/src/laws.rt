@@ -8,10 +8,11 @@ ghost use Rattle.der_core.specs.declared.error.ErrorKind as kinds;
 ghost use Rattle.der_core.specs.declared.integer.uint.UintRef as numbers;
 ghost use Rattle.spki_core.specs.Words.{any_of};
 ghost use Rattle.spki_core.specs.declared.any.AnyRef as anys;
+ghost use Rattle.spki_core.specs.declared.object_identifier.ObjectIdentifier as oids;
 ghost use Rattle.pkcs1_params.specs.Words.{oaep_of, pss_of};
 ghost use Rattle.pkcs1_params.specs.declared.error.Error as errors;
-ghost use Rattle.pkcs1_params.specs.declared.oaep.RsaOaepParams as oaep_params;
-ghost use Rattle.pkcs1_params.specs.declared.pss.RsaPssParams as pss_params;
+ghost use Rattle.pkcs1_params.specs.declared.oaep.OaepParamsOf as oaep_params;
+ghost use Rattle.pkcs1_params.specs.declared.pss.PssParamsOf as pss_params;
 ghost use Rattle.pkcs1.specs.declared.other_primes.OtherPrimes as primes;
 ghost use Rattle.pkcs1.specs.declared.public_key.RsaPublicKey as public_keys;
 ghost use Rattle.pkcs1.specs.declared.view.RsaPrivateKeyView as views;
@@ -89,8 +90,8 @@ pub fn lemma_clones_mean_the_same()
     ensures others { (a b : primes.OtherPrimes)
         → ⟦<OtherPrimes<'static> as Clone>⟧.is_clone a b → others_left b ≡ others_left a }
     ensures any { (a b : anys.AnyRef) → ⟦<AnyRef<'static> as Clone>⟧.is_clone a b → any_of b ≡ any_of a }
-    ensures pss { (a b : pss_params.RsaPssParams anys.AnyRef)
+    ensures pss { (a b : pss_params.PssParamsOf oids.ObjectIdentifier anys.AnyRef)
         → ⟦<RsaPssParams<AnyRef<'static>> as Clone>⟧.is_clone a b → pss_of b ≡ pss_of a }
-    ensures oaep { (a b : oaep_params.RsaOaepParams anys.AnyRef)
+    ensures oaep { (a b : oaep_params.OaepParamsOf oids.ObjectIdentifier anys.AnyRef)
         → ⟦<RsaOaepParams<AnyRef<'static>> as Clone>⟧.is_clone a b → oaep_of b ≡ oaep_of a }
 {}

@@ -5,6 +5,7 @@
 mod algorithm;
 mod bytes;
 mod container;
+mod filled;
 mod given_number;
 mod numbers;
 mod oaep;

@@ -12,8 +12,9 @@ use crate::algorithm::{
     Algorithm, MaskGen, from_c_algorithm, from_c_mask_gen, to_c_algorithm, to_c_mask_gen, uses_hash,
 };
 use crate::bytes::Bytes;
+use crate::filled::fill;
 use crate::status::{OK, status};
-use crate::written::set_needed;
+use crate::written::write_params;
 use der_core::Tag;
 use pkcs1::{PSpecified, RsaOaepParamsView};
 use spki_core::AssociatedOid;
@@ -54,24 +55,6 @@ pub(crate) fn from_c_oaep<'a>(params: &OaepParams<'a>) -> pkcs1::Result<RsaOaepP
     })
 }
 
-/// Writes the shortest encoding of the parameters, as `write_encoding` does.
-fn write_oaep(params: &RsaOaepParamsView<'_>, out: &mut [u8], len: &mut usize) -> u32
-    requires { HasEncoding grammar.RsaOaepParams (oaep_viewed params.now) }
-    ensures { let v = oaep_viewed params.now in let Grammar = grammar.RsaOaepParams in
-        WritesValue Grammar v (EncodingError Grammar v) out.old out.new len.old len.new result }
-{
-    match params.encode_params(out) {
-        Ok(written) => {
-            *len = written;
-            OK
-        }
-        Err(error) => {
-            set_needed(&params.keep(), len);
-            status(&error)
-        }
-    }
-}
-
 /// Decodes parameters of RSAES-OAEP. Returns 0 and fills `params` with parts of `encoding` and of static defaults, or
 /// returns the status of the first fault.
 #[unsafe(no_mangle)]
@@ -85,13 +68,7 @@ pub extern "C" fn pkcs1_c_oaep_params_decode<'a>(
     ensures tidy { result ≡ OK → OaepIsTidy params.new }
     ensures unchanged { result ≢ OK → params.new ≡ params.old }
 {
-    match RsaOaepParamsView::try_from(encoding) {
-        Ok(read) => {
-            *params = to_c_oaep(&read);
-            OK
-        }
-        Err(error) => status(&error),
-    }
+    fill!(params, RsaOaepParamsView::try_from(encoding), to_c_oaep)
 }
 
 /// Decodes parameters of RSAES-OAEP as `pkcs1_c_oaep_params_decode` does, but only from their shortest encoding: one
@@ -107,13 +84,11 @@ pub extern "C" fn pkcs1_c_oaep_params_decode_strict<'a>(
     ensures tidy { result ≡ OK → OaepIsTidy params.new }
     ensures unchanged { result ≢ OK → params.new ≡ params.old }
 {
-    match RsaOaepParamsView::from_der_strict(encoding) {
-        Ok(read) => {
-            *params = to_c_oaep(&read);
-            OK
-        }
-        Err(error) => status(&error),
-    }
+    fill!(
+        params,
+        RsaOaepParamsView::from_der_strict(encoding),
+        to_c_oaep
+    )
 }
 
 /// Writes the shortest encoding of parameters of RSAES-OAEP to the front of `out`. Returns 0, with its length in `len`,
@@ -128,7 +103,7 @@ pub extern "C" fn pkcs1_c_oaep_params_encode(
         WritesFields OaepFieldError grammar.RsaOaepParams v out.old out.new len.old len.new result }
 {
     match from_c_oaep(params) {
-        Ok(made) => write_oaep(&made, out, len),
+        Ok(made) => write_params(&made, out, len),
         Err(failure) => status(&failure),
     }
 }

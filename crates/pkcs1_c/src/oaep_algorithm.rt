@@ -4,10 +4,11 @@ ghost use Rattle.pkcs1_params.specs.Words.{RsaOaepAlgorithm, RsaOaepAlgorithmFau
 ghost use Rattle.pkcs1_params.specs.Words.{IsNoSentence, IsNoShortest, IsTheMeaning, IsTheShortest};
 ghost use Rattle.pkcs1_c.specs.Words.{IsStatusOf, OaepFieldError, WritesFields, oaep_seen, OaepIsTidy};
 
+use crate::filled::fill;
 use crate::oaep::{OaepParams, from_c_oaep, to_c_oaep};
 use crate::status::{OK, status};
-use crate::written::write_encoding;
-use pkcs1::{FromAlgorithm, RsaOaepParamsView};
+use crate::written::write_algorithm;
+use pkcs1::{FromAlgorithm, RsaOaepParamsView, RsaesOaep};
 
 /// Decodes the algorithm identifier of RSAES-OAEP with its parameters, as `pkcs1_c_oaep_params_decode` does the
 /// parameters. Another algorithm is rejected with status 7, one without parameters with status 10.
@@ -22,13 +23,11 @@ pub extern "C" fn pkcs1_c_oaep_algorithm_decode<'a>(
     ensures tidy { result ≡ OK → OaepIsTidy params.new }
     ensures unchanged { result ≢ OK → params.new ≡ params.old }
 {
-    match RsaOaepParamsView::from_algorithm_der(encoding) {
-        Ok(read) => {
-            *params = to_c_oaep(&read);
-            OK
-        }
-        Err(error) => status(&error),
-    }
+    fill!(
+        params,
+        RsaOaepParamsView::from_algorithm_der(encoding),
+        to_c_oaep
+    )
 }
 
 /// Decodes the algorithm identifier as `pkcs1_c_oaep_algorithm_decode` does, but only from its shortest encoding: one
@@ -44,13 +43,11 @@ pub extern "C" fn pkcs1_c_oaep_algorithm_decode_strict<'a>(
     ensures tidy { result ≡ OK → OaepIsTidy params.new }
     ensures unchanged { result ≢ OK → params.new ≡ params.old }
 {
-    match RsaOaepParamsView::from_algorithm_der_strict(encoding) {
-        Ok(read) => {
-            *params = to_c_oaep(&read);
-            OK
-        }
-        Err(error) => status(&error),
-    }
+    fill!(
+        params,
+        RsaOaepParamsView::from_algorithm_der_strict(encoding),
+        to_c_oaep
+    )
 }
 
 /// Writes the shortest encoding of the algorithm identifier of RSAES-OAEP with these parameters to the front of `out`.
@@ -65,10 +62,7 @@ pub extern "C" fn pkcs1_c_oaep_algorithm_encode(
         WritesFields OaepFieldError RsaOaepAlgorithm v out.old out.new len.old len.new result }
 {
     match from_c_oaep(params) {
-        Ok(made) => {
-            let held = made.keep();
-            write_encoding(&held.to_algorithm(), out, len)
-        }
+        Ok(made) => write_algorithm::<RsaesOaep, _>(&made, out, len),
         Err(failure) => status(&failure),
     }
 }

@@ -11,8 +11,9 @@ ghost use Rattle.pkcs1_c.specs.Words.{WritesFields, WritesValue};
 use crate::algorithm::{
     Algorithm, MaskGen, from_c_algorithm, from_c_mask_gen, to_c_algorithm, to_c_mask_gen, uses_hash,
 };
+use crate::filled::fill;
 use crate::status::{OK, status};
-use crate::written::set_needed;
+use crate::written::write_params;
 use der_core::{ErrorKind, Tag};
 use pkcs1::{Error, RsaPssParamsView, TrailerField};
 
@@ -46,7 +47,6 @@ pub(crate) fn to_c_pss<'a>(read: &RsaPssParamsView<'a>) -> PssParams<'a>
 /// The parameters of a C struct.
 pub(crate) fn from_c_pss<'a>(params: &PssParams<'a>) -> pkcs1::Result<RsaPssParamsView<'a>>
     ensures ok { IfOk result (λ made. pss_viewed made ≡ pss_seen params.now) }
-    ensures small { IfOk result (λ made. made.salt_len < 256) }
     ensures err { IfErr result (λ e. PssFieldError (pss_seen params.now) (status_of e)) }
 {
     let hash = from_c_algorithm(&params.hash)?;
@@ -63,24 +63,6 @@ pub(crate) fn from_c_pss<'a>(params: &PssParams<'a>) -> pkcs1::Result<RsaPssPara
     })
 }
 
-/// Writes the shortest encoding of the parameters, as `write_encoding` does.
-fn write_pss(params: &RsaPssParamsView<'_>, out: &mut [u8], len: &mut usize) -> u32
-    requires { HasEncoding grammar.RsaPssParams (pss_viewed params.now) }
-    ensures { let v = pss_viewed params.now in let Grammar = grammar.RsaPssParams in
-        WritesValue Grammar v (EncodingError Grammar v) out.old out.new len.old len.new result }
-{
-    match params.encode_params(out) {
-        Ok(written) => {
-            *len = written;
-            OK
-        }
-        Err(error) => {
-            set_needed(&params.keep(), len);
-            status(&error)
-        }
-    }
-}
-
 /// Decodes parameters of RSASSA-PSS. Returns 0 and fills `params` with parts of `encoding` and of static defaults, or
 /// returns the status of the first fault.
 #[unsafe(no_mangle)]
@@ -94,13 +76,7 @@ pub extern "C" fn pkcs1_c_pss_params_decode<'a>(
     ensures tidy { result ≡ OK → PssIsTidy params.new }
     ensures unchanged { result ≢ OK → params.new ≡ params.old }
 {
-    match RsaPssParamsView::try_from(encoding) {
-        Ok(read) => {
-            *params = to_c_pss(&read);
-            OK
-        }
-        Err(error) => status(&error),
-    }
+    fill!(params, RsaPssParamsView::try_from(encoding), to_c_pss)
 }
 
 /// Decodes parameters of RSASSA-PSS as `pkcs1_c_pss_params_decode` does, but only from their shortest encoding: one
@@ -116,13 +92,11 @@ pub extern "C" fn pkcs1_c_pss_params_decode_strict<'a>(
     ensures tidy { result ≡ OK → PssIsTidy params.new }
     ensures unchanged { result ≢ OK → params.new ≡ params.old }
 {
-    match RsaPssParamsView::from_der_strict(encoding) {
-        Ok(read) => {
-            *params = to_c_pss(&read);
-            OK
-        }
-        Err(error) => status(&error),
-    }
+    fill!(
+        params,
+        RsaPssParamsView::from_der_strict(encoding),
+        to_c_pss
+    )
 }
 
 /// Writes the shortest encoding of parameters of RSASSA-PSS to the front of `out`. Returns 0, with its length in `len`,
@@ -137,7 +111,7 @@ pub extern "C" fn pkcs1_c_pss_params_encode(
         WritesFields PssFieldError grammar.RsaPssParams v out.old out.new len.old len.new result }
 {
     match from_c_pss(params) {
-        Ok(made) => write_pss(&made, out, len),
+        Ok(made) => write_params(&made, out, len),
         Err(failure) => status(&failure),
     }
 }

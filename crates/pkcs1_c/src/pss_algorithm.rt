@@ -4,10 +4,11 @@ ghost use Rattle.pkcs1_params.specs.Words.{RsaPssAlgorithm, RsaPssAlgorithmFault
 ghost use Rattle.pkcs1_params.specs.Words.{IsNoSentence, IsNoShortest, IsTheMeaning, IsTheShortest};
 ghost use Rattle.pkcs1_c.specs.Words.{IsStatusOf, PssFieldError, WritesFields, pss_seen, PssIsTidy};
 
+use crate::filled::fill;
 use crate::pss::{PssParams, from_c_pss, to_c_pss};
 use crate::status::{OK, status};
-use crate::written::write_encoding;
-use pkcs1::{FromAlgorithm, RsaPssParamsView};
+use crate::written::write_algorithm;
+use pkcs1::{FromAlgorithm, RsaPssParamsView, RsassaPss};
 
 /// Decodes the algorithm identifier of RSASSA-PSS with its parameters, as `pkcs1_c_pss_params_decode` does the
 /// parameters. Another algorithm is rejected with status 7, one without parameters with status 10.
@@ -22,13 +23,11 @@ pub extern "C" fn pkcs1_c_pss_algorithm_decode<'a>(
     ensures tidy { result ≡ OK → PssIsTidy params.new }
     ensures unchanged { result ≢ OK → params.new ≡ params.old }
 {
-    match RsaPssParamsView::from_algorithm_der(encoding) {
-        Ok(read) => {
-            *params = to_c_pss(&read);
-            OK
-        }
-        Err(error) => status(&error),
-    }
+    fill!(
+        params,
+        RsaPssParamsView::from_algorithm_der(encoding),
+        to_c_pss
+    )
 }
 
 /// Decodes the algorithm identifier as `pkcs1_c_pss_algorithm_decode` does, but only from its shortest encoding: one
@@ -44,13 +43,11 @@ pub extern "C" fn pkcs1_c_pss_algorithm_decode_strict<'a>(
     ensures tidy { result ≡ OK → PssIsTidy params.new }
     ensures unchanged { result ≢ OK → params.new ≡ params.old }
 {
-    match RsaPssParamsView::from_algorithm_der_strict(encoding) {
-        Ok(read) => {
-            *params = to_c_pss(&read);
-            OK
-        }
-        Err(error) => status(&error),
-    }
+    fill!(
+        params,
+        RsaPssParamsView::from_algorithm_der_strict(encoding),
+        to_c_pss
+    )
 }
 
 /// Writes the shortest encoding of the algorithm identifier of RSASSA-PSS with these parameters to the front of `out`.
@@ -65,10 +62,7 @@ pub extern "C" fn pkcs1_c_pss_algorithm_encode(
         WritesFields PssFieldError RsaPssAlgorithm v out.old out.new len.old len.new result }
 {
     match from_c_pss(params) {
-        Ok(made) => {
-            let held = made.keep();
-            write_encoding(&held.to_algorithm(), out, len)
-        }
+        Ok(made) => write_algorithm::<RsassaPss, _>(&made, out, len),
         Err(failure) => status(&failure),
     }
 }

@@ -1,10 +1,13 @@
 //! Encoding into a caller's slice.
 ghost use Rattle.std.specs.Prelude.{◌≡◌, ℕ, List, length};
 ghost use Rattle.der_core.specs.Words.{HasEncoding, IsShortest};
+ghost use Rattle.pkcs1_params.specs.Words.{AlgorithmOf, Fielded};
 ghost use Rattle.pkcs1_c.specs.Words.{EncodingError, IsTooLong, WritesValue};
 
-use crate::status::{OK, kind_number};
+use crate::status::{OK, kind_number, status};
 use der_core::Encode;
+use pkcs1::{EncodeParams, Shortest};
+use spki_core::AssociatedOid;
 
 /// Sets `len` to the length of the shortest encoding of the value, if it has one within the limit.
 pub(crate) fn set_needed<T: Encode>(value: &T, len: &mut usize)
@@ -34,4 +37,34 @@ pub(crate) fn write_encoding<T: Encode>(value: &T, out: &mut [u8], len: &mut usi
             kind_number(&error.kind)
         }
     }
+}
+
+/// Writes the shortest encoding of parameters, as `write_encoding` does.
+pub(crate) fn write_params<T: EncodeParams>(params: T, out: &mut [u8], len: &mut usize) -> u32
+    ensures { let v = T.params params in let Grammar = Fielded T.values in
+        WritesValue Grammar v (EncodingError Grammar v) out.old out.new len.old len.new result }
+{
+    params.lemma_has_encoding();
+    match params.encode_params(out) {
+        Ok(count) => {
+            *len = count;
+            OK
+        }
+        Err(error) => {
+            set_needed(&Shortest::of(params), len);
+            status(&error)
+        }
+    }
+}
+
+/// Writes the shortest encoding of the algorithm identifier of D with parameters, as `write_encoding` does.
+pub(crate) fn write_algorithm<D: AssociatedOid, T: EncodeParams>(
+    params: T,
+    out: &mut [u8],
+    len: &mut usize,
+) -> u32
+    ensures { let v = T.params params in let Grammar = AlgorithmOf D.contents (Fielded T.values) in
+        WritesValue Grammar v (EncodingError Grammar v) out.old out.new len.old len.new result }
+{
+    write_encoding(&Shortest::identified::<D>(params), out, len)
 }

@@ -2,12 +2,16 @@
 use Rattle.std.proofs.Common.{ℕ, List, ◌∷◌, ◌≡◌, map, arith}
 use Rattle.der_core.specs.Input.{Input}
 use Rattle.der_core.specs.Encodings.{Joins}
-use Rattle.der_core.specs.Laws.Sequences.{ContentsGive}
-use Rattle.spki_core.specs.Any.{TagAndContents}
+use Rattle.der_core.specs.Laws.Sequences.{ContentsFaulty, ContentsGive}
+use Rattle.der_core.specs.declared.error.ErrorKind.{ErrorKind}
+use Rattle.spki_core.specs.Allocating.{AlgorithmAllocates, AllocatesFromField}
+use Rattle.spki_core.specs.Any.{Any, TagAndContents}
 use Rattle.spki_core.specs.AlgorithmIdentifier.{Algorithm, PlainAlgorithm, MaskAlgorithm}
 use Rattle.spki_core.specs.Explicit.{Field, field, Defaultable}
+use Rattle.spki_core.specs.Faults.{AnyFault, FieldThenFault}
 use Rattle.spki_core.specs.Laws.FieldEncodings.{AreLater}
-use Rattle.spki_core.specs.Laws.FieldReads.{FieldGives, fields_give}
+use Rattle.spki_core.specs.Laws.FieldReads.{FieldGives, fields_faults, fields_give}
+use Rattle.pkcs1_params.specs.ParameterFaults.{HashFault, MaskFault}
 use Rattle.pkcs1_params.specs.Parameters.{sha1, mgf1_sha1, hash_fields_then}
 use Rattle.pkcs1_params.specs.Laws.HashFields.{later_still}
 
@@ -24,11 +28,34 @@ pub record HashFieldsRead (hash : Algorithm TagAndContents) (mask_gen : Algorith
   pub hash_read : FieldGives 0 PlainAlgorithm sha1 hash before between
   pub mask_read : FieldGives 1 MaskAlgorithm mgf1_sha1 mask_gen between after
 
-pub both_read : {hash : Algorithm TagAndContents} {mask_gen : Algorithm (Algorithm TagAndContents)}
-    {before between after : Input}
-    → FieldGives 0 PlainAlgorithm sha1 hash before between → FieldGives 1 MaskAlgorithm mgf1_sha1 mask_gen between after
+pub both_read : {hash default : Algorithm TagAndContents} {mask_gen default_mask : Algorithm (Algorithm TagAndContents)}
+    {n m : ℕ} {before between after : Input}
+    → default ≡ sha1 → n ≡ 0 → FieldGives n PlainAlgorithm default hash before between
+    → default_mask ≡ mgf1_sha1 → m ≡ 1 → FieldGives m MaskAlgorithm default_mask mask_gen between after
     → HashFieldsRead hash mask_gen before after
-both_read {hash} {mask_gen} {before} {between} h g = record { between = between; hash_read = h; mask_read = g }
+both_read {between = between} is first h mask_is second g =
+    record {
+      between = between;
+      hash_read = gives_at PlainAlgorithm sha1 _ is _ 0 first _ _ _ h;
+      mask_read = gives_at MaskAlgorithm mgf1_sha1 _ mask_is _ 1 second _ _ _ g;
+    }
+
+-- A fault behind both is the first.
+pub behind_both : (Behind : ErrorKind → List ℕ → Type 0) (behind : List ℕ → Type 0) {later : List ℕ → Type 0}
+    → ((c : List ℕ) → later c → behind c)
+    → {hash : Algorithm TagAndContents} {mask_gen : Algorithm (Algorithm TagAndContents)} {before mid after : Input}
+    {e : ErrorKind} → HashFieldsRead hash mask_gen before mid → ContentsFaulty Behind later e mid after
+    → ContentsFaulty (FieldThenFault 0 PlainAlgorithm sha1 (HashFault Any AnyFault)
+    (FieldThenFault 1 MaskAlgorithm mgf1_sha1 (MaskFault Any AnyFault) Behind))
+    (AllocatesFromField 0 PlainAlgorithm sha1 (AlgorithmAllocates (λ _. ⊥))
+    (AllocatesFromField 1 MaskAlgorithm mgf1_sha1 (AlgorithmAllocates (AlgorithmAllocates (λ _. ⊥))) behind)) e before
+    after
+behind_both Behind behind asked read fails =
+    fields_faults 0 PlainAlgorithm sha1 (HashFault Any AnyFault)
+    (FieldThenFault 1 MaskAlgorithm mgf1_sha1 (MaskFault Any AnyFault) Behind) (AlgorithmAllocates (λ _. ⊥)) _ (λ _ w. w)
+    _ _ _ _ _ read.hash_read
+    (fields_faults 1 MaskAlgorithm mgf1_sha1 (MaskFault Any AnyFault) Behind
+    (AlgorithmAllocates (AlgorithmAllocates (λ _. ⊥))) behind asked _ _ _ _ _ read.mask_read fails)
 
 module _ {W : Type 0} (hash : W → Algorithm TagAndContents) (mask_gen : W → Algorithm (Algorithm TagAndContents))
     (fields : W → List Field) (later : (w : W) → AreLater 1 (fields w)) where

@@ -14,7 +14,7 @@ use Rattle.der_core.specs.declared.error.ErrorKind.TheVariants as kind
 use Rattle.der_core.specs.Laws.Counting.{counts_joined}
 use Rattle.spki_core.specs.Laws.IdentifierTest.{is_identifier-sound}
 use Rattle.spki_core.specs.ObjectIdentifier.{IsIdentifier}
-use Rattle.pkcs1_params.specs.Laws.Oaep.{oaep_relates, oaep_shortest}
+use Rattle.pkcs1_params.specs.Laws.MaskedValues.{contents_relate, contents_least}
 use Rattle.pkcs1_params.specs.OaepValue.{labelled, LabelFits, NoLabelFits}
 use Rattle.pkcs1_params.specs.LabelWriting.{written_source, CountsLabelled}
 use Rattle.pkcs1_params.specs.Laws.Parts.{written_last, have_under}
@@ -102,7 +102,7 @@ fits_where_counted oid n (Ok m) ok all label bytes e =
     let c = all label bytes e in
     let few : length (tlv 48 (written_fields (oaep_values p) 0)) ≤ limit = omega (arith, c.1, c.2) in (
       tlv 48 (written_fields (oaep_values p) 0),
-      (few, tlv_relates 48 OaepContents (λ v. written_fields (oaep_values v) 0) p (oaep_relates p c.0) (omega arith)),
+      (few, tlv_relates 48 OaepContents (λ v. written_fields (oaep_values v) 0) p (contents_relate oaep_values p c.0) (omega arith)),
     )
 fits_where_counted oid n (Err x) ok all label bytes e = cc
 
@@ -113,7 +113,7 @@ none_where_uncounted oid n (Err x) ok all label bytes e encoding means =
     let p = labelled oid label in
     let least =
     tlv_shortest 48 OaepContents (λ v. written_fields (oaep_values v) 0) (λ v. HasFields (oaep_values v) 0)
-    oaep_shortest p encoding means.1 in
+    (contents_least oaep_values) p encoding means.1 in
     go (encode_error x.kind) (tlv 48 (written_fields (oaep_values p) 0)) least.0 (omega (arith, least.1, means.0))
     (all label bytes e)
   where
@@ -147,7 +147,7 @@ label_within oid label bytes fits =
     let means = fits label bytes refl in
     let least =
     tlv_shortest 48 OaepContents (λ v. written_fields (oaep_values v) 0) (λ v. HasFields (oaep_values v) 0)
-    oaep_shortest p means.0 means.1.1 in
+    (contents_least oaep_values) p means.0 means.1.1 in
     let written = labelled_written oid label in
     omega (
       arith,

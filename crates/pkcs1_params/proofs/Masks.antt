@@ -2,7 +2,7 @@
 use Rattle.std.proofs.Common.{ℕ, suc, List, [], ◌∷◌, ◌++◌, ◌≡◌, ◌<◌, ◌^◌, ◌⊎◌, inl, inr, length, length-append, map}
 use Rattle.std.proofs.Common.{◌+◌, ap, ◌∙◌, arith}
 use Rattle.std.specs.Global.{Vec}
-use Rattle.std.specs.Prelude.{Result, Ok, Err, IfOk, IfErr}
+use Rattle.std.specs.Prelude.{Result, Ok, Err, IfErr}
 use Rattle.std.proofs.lemmas.Bool.{cases_lt}
 use Rattle.std.proofs.lemmas.List.{map-append}
 use Rattle.std.proofs.lemmas.Nat.{pow_pos}
@@ -144,7 +144,7 @@ module _ {V : Type 0} (values : V → List FieldValue) (numbered : (v : V) → A
       zero_shortest (fields_with values) (ordered values numbered) v k.0 encoding k.1 p.1 p.0
 
   -- A value with contents that memory holds has an encoding.
-  has_encoding : HasFields (values v) 0 × (length (written_fields (values v) 0) < 2 ^ 64)
+  pub has_encoding : HasFields (values v) 0 × (length (written_fields (values v) 0) < 2 ^ 64)
       → HasEncoding (Fielded values) v
   has_encoding held =
       let contents = written_fields (values v) 0 in

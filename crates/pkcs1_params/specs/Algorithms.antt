@@ -16,8 +16,8 @@ use Rattle.spki_core.specs.Explicit.{Field, FieldSequence, HaveDefaults, AllExpl
 use Rattle.spki_core.specs.Faults.{AnyFault, AlgorithmFault, OtherAnyFault}
 use Rattle.spki_core.specs.StrictFields.{NamesDefault}
 use Rattle.pkcs1_params.specs.ParameterFaults.{PssFault, OaepFault}
-use Rattle.pkcs1_params.specs.Parameters.{with_parameters, PssParameters, PssContents, RsaPssParams, pss_fields}
-use Rattle.pkcs1_params.specs.Parameters.{OaepParameters, OaepContents, RsaOaepParams, oaep_fields}
+use Rattle.pkcs1_params.specs.Parameters.{with_parameters, PssParameters, RsaPssParams, pss_fields}
+use Rattle.pkcs1_params.specs.Parameters.{OaepParameters, RsaOaepParams, oaep_fields}
 
 abbrev pub id_rsassa_pss : List ℕ
 id_rsassa_pss = 0x2a ∷ 0x86 ∷ 0x48 ∷ 0x86 ∷ 0xf7 ∷ 0x0d ∷ 0x01 ∷ 0x01 ∷ 0x0a ∷ []
@@ -40,12 +40,6 @@ abbrev pub Identifies : {V : Type 0} → List ℕ → (V → List ℕ → Type 0
 Identifies oid Contents a v =
     (a.oid ≡ oid) × (any : TagAndContents) × (a.parameters ≡ Some any) × (any.tag ≡ sequence_tag)
     × Contents v any.contents
-
-abbrev pub IdentifiesPss : Algorithm TagAndContents → PssParameters → Type 0
-IdentifiesPss = Identifies id_rsassa_pss PssContents
-
-abbrev pub IdentifiesOaep : Algorithm TagAndContents → OaepParameters → Type 0
-IdentifiesOaep = Identifies id_rsaes_oaep OaepContents
 
 -- Why it isn't so: another identifier, no parameters, or parameters with a fault.
 pub data NotIdentified (oid : List ℕ) (ContentsFault : ErrorKind → List ℕ → Type 0) (kind : ErrorKind)

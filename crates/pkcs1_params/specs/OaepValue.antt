@@ -1,36 +1,37 @@
--- What RSAES-OAEP parameters mean, by what the parameters of algorithms hold.
+-- What RSAES-OAEP parameters mean, by what holds their identifiers and the parameters of algorithms.
 use Rattle.std.specs.Prelude.{ℕ, List, ◌≡◌, length}
 use Rattle.der_core.specs.Encodings.{AreBytes}
 use Rattle.der_core.specs.Document.{Means}
 use Rattle.spki_core.specs.Any.{TagAndContents, null_value}
 use Rattle.spki_core.specs.AnyRefValue.{any_of}
 use Rattle.spki_core.specs.declared.any.AnyRef.{AnyRef}
-use Rattle.spki_core.specs.AlgorithmValue.{algorithm_with, viewed_with}
+use Rattle.spki_core.specs.AlgorithmValue.{algorithm_in, mask_in}
+use Rattle.spki_core.specs.ObjectIdentifierValue.{own_octets_of, octets_of}
 use Rattle.pkcs1_params.specs.Parameters.{id_mgf1, id_p_specified, with_parameters, octets_value, OaepParameters}
 use Rattle.pkcs1_params.specs.Parameters as grammar
-use Rattle.pkcs1_params.specs.declared.oaep_view.RsaOaepParamsView.{RsaOaepParamsView}
-use Rattle.pkcs1_params.specs.declared.oaep.RsaOaepParams.{RsaOaepParams}
+use Rattle.pkcs1_params.specs.declared.oaep.OaepParamsOf.{OaepParamsOf}
+use Rattle.spki_core.specs.declared.identifier_view.IdentifierView.{IdentifierView}
+use Rattle.spki_core.specs.declared.object_identifier.ObjectIdentifier.{ObjectIdentifier}
 
-abbrev pub oaep_with : {X : Type 0} → (X → TagAndContents) → RsaOaepParams X → OaepParameters
-oaep_with any p =
+abbrev pub oaep_in : {O X : Type 0} → (O → List ℕ) → (X → TagAndContents) → OaepParamsOf O X → OaepParameters
+oaep_in octets any p =
     record {
-      hash = algorithm_with any p.hash;
-      mask_gen = algorithm_with (algorithm_with any) p.mask_gen;
-      p_source = algorithm_with any p.p_source;
+      hash = algorithm_in octets any p.hash;
+      mask_gen = mask_in octets any p.mask_gen;
+      p_source = algorithm_in octets any p.p_source;
     }
 
--- borrowed
-abbrev pub oaep_of : RsaOaepParams AnyRef → OaepParameters
+-- that hold their identifiers
+abbrev pub oaep_with : {X : Type 0} → (X → TagAndContents) → OaepParamsOf ObjectIdentifier X → OaepParameters
+oaep_with = oaep_in own_octets_of
+
+-- with borrowed parameters
+abbrev pub oaep_of : OaepParamsOf ObjectIdentifier AnyRef → OaepParameters
 oaep_of = oaep_with any_of
 
 -- that borrow from the input
-abbrev pub oaep_viewed : RsaOaepParamsView → OaepParameters
-oaep_viewed p =
-    record {
-      hash = viewed_with any_of p.hash;
-      mask_gen = viewed_with (viewed_with any_of) p.mask_gen;
-      p_source = viewed_with any_of p.p_source;
-    }
+abbrev pub oaep_viewed : OaepParamsOf IdentifierView AnyRef → OaepParameters
+oaep_viewed = oaep_in octets_of any_of
 
 -- a hash function with NULL, MGF1 with the same, and a label
 abbrev pub labelled : List ℕ → List ℕ → OaepParameters

@@ -1,7 +1,7 @@
 -- The fields of parameters as they are written.
-use Rattle.std.specs.Prelude.{ℕ, Bool, List, [], ◌∷◌, ◌≡◌, ◌+◌, ◌<◌, ◌^◌, eqb, length, map}
+use Rattle.std.specs.Prelude.{ℕ, Bool, List, [], ◌∷◌, ◌≡◌, ◌+◌, ◌<◌, eqb, map}
 use Rattle.der_core.specs.Laws.Equality.{number_decides}
-use Rattle.der_core.specs.Integer.{Small, SmallContents, integer_contents}
+use Rattle.der_core.specs.Integer.{Small, integer_contents}
 use Rattle.der_core.specs.Tag.{integer_tag}
 use Rattle.der_core.specs.Tlv.{tlv}
 use Rattle.spki_core.specs.Any.{TagAndContents}
@@ -11,7 +11,7 @@ use Rattle.spki_core.specs.Laws.Algorithms.{same_plain_decides, same_mask_decide
 use Rattle.spki_core.specs.Explicit.{Field, field, FieldSequence}
 use Rattle.spki_core.specs.Masks.{Part, fields_of, has_under, written_under}
 use Rattle.pkcs1_params.specs.Laws.HashFields.{plain_relates, plain_shortest, mask_relates, mask_shortest}
-use Rattle.pkcs1_params.specs.Parameters.{sha1, mgf1_sha1, empty_label, TrailerContents, TrailerField, PssParameters}
+use Rattle.pkcs1_params.specs.Parameters.{sha1, mgf1_sha1, empty_label, TrailerField, PssParameters}
 use Rattle.pkcs1_params.specs.Parameters.{OaepParameters}
 use Rattle.pkcs1_params.specs.Laws.SmallFields.{salt_relates, salt_shortest, trailer_encoding_relates}
 use Rattle.pkcs1_params.specs.Laws.SmallFields.{trailer_encoding_shortest}

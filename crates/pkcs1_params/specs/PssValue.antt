@@ -1,29 +1,32 @@
--- What RSASSA-PSS parameters mean, by what the parameters of algorithms hold.
+-- What RSASSA-PSS parameters mean, by what holds their identifiers and the parameters of algorithms.
+use Rattle.std.specs.Prelude.{ℕ, List}
 use Rattle.spki_core.specs.Any.{TagAndContents}
 use Rattle.spki_core.specs.AnyRefValue.{any_of}
 use Rattle.spki_core.specs.declared.any.AnyRef.{AnyRef}
-use Rattle.spki_core.specs.AlgorithmValue.{algorithm_with, viewed_with}
+use Rattle.spki_core.specs.AlgorithmValue.{algorithm_in, mask_in}
+use Rattle.spki_core.specs.ObjectIdentifierValue.{own_octets_of, octets_of}
 use Rattle.pkcs1_params.specs.Parameters.{PssParameters}
-use Rattle.pkcs1_params.specs.declared.pss_view.RsaPssParamsView.{RsaPssParamsView}
-use Rattle.pkcs1_params.specs.declared.pss.RsaPssParams.{RsaPssParams}
+use Rattle.pkcs1_params.specs.declared.pss.PssParamsOf.{PssParamsOf}
+use Rattle.spki_core.specs.declared.identifier_view.IdentifierView.{IdentifierView}
+use Rattle.spki_core.specs.declared.object_identifier.ObjectIdentifier.{ObjectIdentifier}
 
-abbrev pub pss_with : {X : Type 0} → (X → TagAndContents) → RsaPssParams X → PssParameters
-pss_with any p = record {
-  hash = algorithm_with any p.hash;
-  mask_gen = algorithm_with (algorithm_with any) p.mask_gen;
-  salt_len = p.salt_len;
-  trailer_field = 1;
-}
+abbrev pub pss_in : {O X : Type 0} → (O → List ℕ) → (X → TagAndContents) → PssParamsOf O X → PssParameters
+pss_in octets any p =
+    record {
+      hash = algorithm_in octets any p.hash;
+      mask_gen = mask_in octets any p.mask_gen;
+      salt_len = p.salt_len;
+      trailer_field = 1;
+    }
 
--- borrowed
-abbrev pub pss_of : RsaPssParams AnyRef → PssParameters
+-- that hold their identifiers
+abbrev pub pss_with : {X : Type 0} → (X → TagAndContents) → PssParamsOf ObjectIdentifier X → PssParameters
+pss_with = pss_in own_octets_of
+
+-- with borrowed parameters
+abbrev pub pss_of : PssParamsOf ObjectIdentifier AnyRef → PssParameters
 pss_of = pss_with any_of
 
 -- that borrow from the input
-abbrev pub pss_viewed : RsaPssParamsView → PssParameters
-pss_viewed p = record {
-  hash = viewed_with any_of p.hash;
-  mask_gen = viewed_with (viewed_with any_of) p.mask_gen;
-  salt_len = p.salt_len;
-  trailer_field = 1;
-}
+abbrev pub pss_viewed : PssParamsOf IdentifierView AnyRef → PssParameters
+pss_viewed = pss_in octets_of any_of

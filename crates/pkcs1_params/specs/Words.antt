@@ -16,7 +16,8 @@ pub use Rattle.pkcs1_params.specs.LabelWriting.{CountsLabelled, written_source}
 pub use Rattle.pkcs1_params.specs.MaskedValues.{FieldContents}
 pub use Rattle.pkcs1_params.specs.Meanings.{ErrsExactly, ErrsOrAsks, IsNoSentence, IsNoShortest, IsTheMeaning}
 pub use Rattle.pkcs1_params.specs.Meanings.{IsTheOnly, IsTheShortest, IsWritingError, TellsFault}
-pub use Rattle.pkcs1_params.specs.OaepValue.{LabelFits, NoLabelFits, labelled, oaep_of, oaep_viewed, oaep_with}
+pub use Rattle.pkcs1_params.specs.OaepValue.{LabelFits, NoLabelFits, labelled}
+pub use Rattle.pkcs1_params.specs.OaepValue.{oaep_in, oaep_of, oaep_viewed, oaep_with}
 pub use Rattle.pkcs1_params.specs.ParameterFaults.{OaepFault, PssFault, RsaOaepParamsFault, RsaPssParamsFault}
 pub use Rattle.pkcs1_params.specs.ParameterFaults.{StrictOaepFault, StrictPssFault, TrailerFault}
 pub use Rattle.pkcs1_params.specs.Parameters.{OaepContents, OaepParameters, PssContents, PssParameters, RsaOaepParams}
@@ -25,15 +26,19 @@ pub use Rattle.pkcs1_params.specs.Parameters.{id_rsa_encryption, id_sha1, mgf1_s
 pub use Rattle.pkcs1_params.specs.Parameters.{pss_fields, sha1, with_parameters}
 pub use Rattle.pkcs1_params.specs.Parts.{FieldValue, Fielded, HasFields, defaults_in, fields_in, fields_with}
 pub use Rattle.pkcs1_params.specs.Parts.{oaep_values, pss_values, written_fields}
-pub use Rattle.pkcs1_params.specs.PssValue.{pss_of, pss_viewed, pss_with}
+pub use Rattle.pkcs1_params.specs.PssValue.{pss_in, pss_of, pss_viewed, pss_with}
 pub use Rattle.pkcs1_params.specs.Spellings.{AllFit, AreAllSpellings, HasTwoToTheDefaults, IsListingError, IsMask}
 pub use Rattle.pkcs1_params.specs.Spellings.{IsSpellingError, StandsUnder, encodings_in}
 pub use Rattle.pkcs1_params.specs.Laws.Equality.{mask_decides, oaep_decides, plain_decides, pss_decides}
-pub use Rattle.pkcs1_params.specs.Laws.Oaep.{oaep_means_one, oaep_of_bytes, oaep_relates, oaep_shortest}
+pub use Rattle.pkcs1_params.specs.Laws.MaskedValues.{contents_are_bytes, contents_least, contents_relate}
+pub use Rattle.pkcs1_params.specs.Laws.Oaep.{oaep_means_one}
 pub use Rattle.pkcs1_params.specs.Laws.ParameterFaults.{oaep_fault_first, oaep_fault_none, pss_fault_first}
 pub use Rattle.pkcs1_params.specs.Laws.ParameterFaults.{pss_fault_none, trailer_fault_first, trailer_fault_none}
 pub use Rattle.pkcs1_params.specs.Laws.Parameters.{oaep_delimited, oaep_numbered, pss_delimited, pss_numbered}
 pub use Rattle.pkcs1_params.specs.Laws.Parts.{oaep_defaults, pss_defaults}
-pub use Rattle.pkcs1_params.specs.Laws.Pss.{pss_means_one, pss_of_bytes, pss_relates, pss_shortest}
+pub use Rattle.pkcs1_params.specs.Laws.Pss.{pss_means_one}
 pub use Rattle.pkcs1_params.specs.Laws.SmallFields.{trailer_means_one, trailer_of_bytes, trailer_relates}
 pub use Rattle.pkcs1_params.specs.Laws.SmallFields.{trailer_shortest}
+pub use Rattle.spki_core.specs.Laws.WritesAs.{WritesAs, algorithm_writes}
+pub use Rattle.spki_core.specs.AlgorithmIdentifier.{HasMask, HasPlain, written_mask, written_plain}
+pub use Rattle.spki_core.specs.Laws.Held.{AreHeld, mask_held, plain_held}

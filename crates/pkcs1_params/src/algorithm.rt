@@ -3,16 +3,19 @@ ghost use Rattle.std.specs.Prelude.{◌≡◌, ◌≤◌, ◌<◌, ◌^◌, ℕ,
 ghost use Rattle.der_core.specs.declared.error.ErrorKind as der;
 ghost use Rattle.der_core.specs.Words.{HasEncoding, IsShortest, Means, Is, MeansOne, sequence_tag, sequence, Tlv};
 ghost use Rattle.der_core.specs.Words.{FailsExactly};
-ghost use Rattle.spki_core.specs.Words.{algorithm_of, algorithm_with, any_of, OtherAnyFault, NamesDefault};
+ghost use Rattle.spki_core.specs.Words.{algorithm_of, viewed_with, any_of, OtherAnyFault, NamesDefault};
 ghost use Rattle.pkcs1_params.specs.Words.{AlgorithmOf, AlgorithmOfFault, Identifies, NotIdentified, StrictFault};
 ghost use Rattle.pkcs1_params.specs.Words.{FieldContents, ErrsExactly, IsNoSentence, IsNoShortest, IsTheMeaning};
 ghost use Rattle.pkcs1_params.specs.Words.{IsTheOnly, IsTheShortest, IsWritingError, with_parameters, FieldValue};
 ghost use Rattle.pkcs1_params.specs.Words.{Fielded, fields_with};
 
 use crate::error::{Error, Result};
-use der_core::{Decode, DecodeValue, Encode, EncodeValue, ErrorKind, FixedTag, NoMemory};
+use crate::shortest::Shortest;
+use crate::spelling::EncodeParams;
+use der_core::{Decode, DecodeValue, Encode, ErrorKind, FixedTag, NoMemory};
 use spki_core::{
-    AlgorithmIdentifier, AlgorithmIdentifierRef, AnyRef, AssociatedOid, ObjectIdentifier,
+    AlgorithmIdentifierRef, AlgorithmView, AnyRef, AssociatedOid, IdentifierValue, IdentifierView,
+    ObjectIdentifier,
 };
 
 /// Borrowed parameters of an algorithm.
@@ -137,36 +140,19 @@ pub(crate) fn decode_borrowed<'a, T: DecodeValue<&'a [u8], NoMemory> + FixedTag>
     any.decode_as(NoMemory)
 }
 
-/// The algorithm identifier of D with these parameters.
-pub(crate) fn with_identifier<D: AssociatedOid, T: EncodeValue + FixedTag>(
-    params: T,
-) -> AlgorithmIdentifier<T>
-    requires has { T.has_contents (T.value params) }
-    requires short { length (T.written_contents (T.value params)) < 2 ^ 64 }
-    ensures means { algorithm_with T.value result ≡ with_parameters D.contents (T.value params) }
-    ensures some { HasEncoding (AlgorithmOf D.contents (λ v. Tlv T.TAG.octet (T.contents v))) (T.value params) }
-{
-    AlgorithmIdentifier {
-        oid: ObjectIdentifier::of::<D>(),
-        parameters: Some(params),
-    }
-}
-
 /// Writes the shortest encoding of the algorithm identifier of D with these parameters to the front of a slice and
 /// returns its length.
-pub(crate) fn encode_identifier<D: AssociatedOid, T: EncodeValue + FixedTag + Drop>(
+pub(crate) fn encode_identifier<D: AssociatedOid, T: EncodeParams>(
     params: T,
     out: &mut [u8],
 ) -> Result<usize>
-    requires has { T.has_contents (T.value params) }
-    requires short { length (T.written_contents (T.value params)) < 2 ^ 64 }
-    ensures shortest { let Grammar = AlgorithmOf D.contents (λ v. Tlv T.TAG.octet (T.contents v)) in
-        IfOk result (λ n. IsTheShortest Grammar (take n out.new) (T.value params)) }
+    ensures shortest { let Grammar = AlgorithmOf D.contents (Fielded T.values) in
+        IfOk result (λ n. IsTheShortest Grammar (take n out.new) (T.params params)) }
     ensures rest { IfOk result (λ n. (n ≤ length out.new) × (drop n out.new ≡ drop n out.old)) }
     ensures unchanged { OnErr result (out.new ≡ out.old) }
-    ensures err { let Grammar = AlgorithmOf D.contents (λ v. Tlv T.TAG.octet (T.contents v)) in
-        IfErr result (IsWritingError Grammar (T.value params) (length out.old)) }
+    ensures err { let Grammar = AlgorithmOf D.contents (Fielded T.values) in
+        IfErr result (IsWritingError Grammar (T.params params) (length out.old)) }
 {
-    let algorithm = with_identifier::<D, T>(params);
+    let algorithm = Shortest::identified::<D>(params);
     Ok(algorithm.encode_into(out)?)
 }

@@ -2,8 +2,8 @@
 ghost use Rattle.pkcs1_params.specs.Words.{TellsFault, RsaPssParamsFault, RsaOaepParamsFault};
 ghost use Rattle.pkcs1_params.specs.Parameters as grammar;
 
-use crate::oaep_view::RsaOaepParamsView;
-use crate::pss_view::RsaPssParamsView;
+use crate::oaep::RsaOaepParamsView;
+use crate::pss::RsaPssParamsView;
 use der_core::{Decode, ErrorKind, NoMemory};
 
 /// The first fault of bytes that aren't RSASSA-PSS parameters, of which they have exactly one; `None` if they are such

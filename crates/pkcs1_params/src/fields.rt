@@ -1,26 +1,24 @@
 //! The fields of parameters, and writing them under a mask that says which defaults are written.
-ghost use Rattle.std.specs.Prelude.{Bool, false, ◌≡◌, ◌≤◌, ◌<◌, ◌+◌, ◌*◌, ◌++◌, ◌^◌, ℕ, List, [], ◌∷◌, length};
+ghost use Rattle.std.specs.Prelude.{false, ◌≡◌, ◌≤◌, ◌<◌, ◌+◌, ◌*◌, ◌^◌, ℕ, List, [], ◌∷◌, length};
 ghost use Rattle.der_core.specs.Words.{free_of, Prepends, limit, Counts, Appends};
 ghost use Rattle.spki_core.specs.Words.{HaveDefaults, HasField, written_field, out_under, rest_under, number_in};
 ghost use Rattle.pkcs1_params.specs.Words.{value_of, part_in, bit_of, bits_of, FieldValue, defaults_in, fields_in};
 ghost use Rattle.pkcs1_params.specs.Words.{HasFields, written_fields};
 
-use crate::hash_fields::{is_default_hash, is_default_mask_gen};
-use crate::p_source::is_default_source;
+use crate::holders::{MaskHolder, PlainHolder};
 use crate::pss::RsaPssParamsRef;
 use crate::trailer_field::TrailerField;
-use crate::views::{MaskGenView, PlainView};
 use der_core::{BackWriter, Length, Result, TagNumber, Writer, joined_len};
 use spki_core::{encode_field, field_len, prepend_field};
 
-/// A field with its value.
-#[derive(Clone, Copy, Drop)]
-pub(crate) enum FieldRef<'b> {
-    Hash(&'b PlainView<'b>),
-    MaskGen(&'b MaskGenView<'b>),
+/// A field with its value. A `Plain` holds a hash function or a label source, a `Mask` a mask generation function.
+#[derive(Drop)]
+pub enum FieldRef<'b, Plain, Mask> {
+    Hash(&'b Plain),
+    MaskGen(&'b Mask),
     SaltLen(u8),
     Trailer(TrailerField),
-    PSource(&'b PlainView<'b>),
+    PSource(&'b Plain),
 }
 
 /// Does nothing: its contract bounds the number, which proofs don't know of a field.
@@ -30,10 +28,10 @@ fn lemma_is_octet(number: u8)
     let _ = number;
 }
 
-impl FieldRef<'_> {
+impl<Plain: PlainHolder, Mask: MaskHolder> FieldRef<'_, Plain, Mask> {
     #[inline(always)]
     fn number(&self) -> TagNumber
-        ensures { number_in result ≡ (part_in self.now).field.number }
+        ensures { number_in result ≡ (part_in Plain.plain Mask.mask self.now).field.number }
     {
         TagNumber::new(match self {
             FieldRef::Hash(_) => 0,
@@ -47,20 +45,21 @@ impl FieldRef<'_> {
     /// Whether the value is the default.
     #[inline(always)]
     pub(crate) fn is_default(&self) -> bool
-        ensures { result ≡ (part_in self.now).is_default }
+        ensures { result ≡ (part_in Plain.plain Mask.mask self.now).is_default }
     {
         match *self {
-            FieldRef::Hash(hash) => is_default_hash(hash),
-            FieldRef::MaskGen(mask_gen) => is_default_mask_gen(mask_gen),
+            FieldRef::Hash(hash) => hash.is_default_hash(),
+            FieldRef::MaskGen(mask_gen) => mask_gen.is_default(),
             FieldRef::SaltLen(salt_len) => salt_len == RsaPssParamsRef::SALT_LEN_DEFAULT,
             FieldRef::Trailer(trailer) => trailer == TrailerField::BC,
-            FieldRef::PSource(p_source) => is_default_source(p_source),
+            FieldRef::PSource(p_source) => p_source.is_default_source(),
         }
     }
 
     /// Does nothing: its contract says that the value has an encoding, little longer than the limit.
     fn lemma_is_held(&self)
-        ensures { (part_in self.now).has × (length (part_in self.now).encoding ≤ limit + 718) }
+        ensures { let part = part_in Plain.plain Mask.mask self.now in
+            part.has × (length part.encoding ≤ limit + 718) }
     {
         match *self {
             FieldRef::Hash(_) => {}
@@ -74,7 +73,7 @@ impl FieldRef<'_> {
     /// The length of the written field.
     #[inline(always)]
     fn len(&self) -> Result<Length>
-        ensures { let part = part_in self.now in
+        ensures { let part = part_in Plain.plain Mask.mask self.now in
             Counts (HasField false part.has) (written_field false part.field.number part.encoding) result }
     {
         let number = self.number();
@@ -89,7 +88,7 @@ impl FieldRef<'_> {
 
     /// Appends the field, unless it is left out.
     fn encode<W: Writer>(&self, left_out: bool, writer: &mut W) -> Result<()>
-        ensures appends { let part = part_in self.now in
+        ensures appends { let part = part_in Plain.plain Mask.mask self.now in
             let octets = written_field left_out part.field.number part.encoding in
             Appends (HasField left_out part.has) octets W.room W.written writer.old writer.new result }
         ensures kept { W.keeps writer.old writer.new }
@@ -107,12 +106,12 @@ impl FieldRef<'_> {
     /// Writes the field in front of what is filled.
     #[inline(always)]
     fn prepend(&self, writer: &mut BackWriter<'_>)
-        requires has { HasField false (part_in self.now).has }
-        requires fits { let part = part_in self.now in
+        requires has { HasField false (part_in Plain.plain Mask.mask self.now).has }
+        requires fits { let part = part_in Plain.plain Mask.mask self.now in
             length (written_field false part.field.number part.encoding) ≤ limit }
-        requires room { let part = part_in self.now in
+        requires room { let part = part_in Plain.plain Mask.mask self.now in
             length (written_field false part.field.number part.encoding) ≤ free_of writer.old }
-        ensures { let part = part_in self.now in
+        ensures { let part = part_in Plain.plain Mask.mask self.now in
             Prepends (written_field false part.field.number part.encoding) writer.old writer.new }
     {
         let number = self.number();
@@ -140,15 +139,21 @@ pub(crate) fn under(default: bool, mask: u8) -> (bool, u8)
 
 /// Whether the field has its default, and the bits for the later ones.
 #[inline(always)]
-fn split_changed<L: Fields>(changed: u8, _field: &FieldRef<'_>, _later: &L) -> (bool, u8)
-    requires { changed ≡ bit_of (part_in _field.now).is_default + 2 * bits_of (defaults_in (L.values _later.now)) }
-    ensures { result ≡ ((part_in _field.now).is_default, bits_of (defaults_in (L.values _later.now))) }
+fn split_changed<Plain: PlainHolder, Mask: MaskHolder, L: Fields>(
+    changed: u8,
+    _field: &FieldRef<'_, Plain, Mask>,
+    _later: &L,
+) -> (bool, u8)
+    requires { let part = part_in Plain.plain Mask.mask _field.now in
+        changed ≡ bit_of part.is_default + 2 * bits_of (defaults_in (L.values _later.now)) }
+    ensures { let part = part_in Plain.plain Mask.mask _field.now in
+        result ≡ (part.is_default, bits_of (defaults_in (L.values _later.now))) }
 {
     (changed % 2 == 0, changed / 2)
 }
 
 /// Fields with their values, in order. Each list has a type of its own, so that code for it has no loop.
-pub(crate) trait Fields: Copy + Drop {
+pub trait Fields: Drop {
     ghost values: { Self → List FieldValue };
 
     /// Does nothing: its contract says that there are contents under each mask, and bounds their length.
@@ -192,13 +197,13 @@ pub(crate) trait Fields: Copy + Drop {
 }
 
 /// No field.
-#[derive(Clone, Copy, Drop)]
-pub(crate) struct NoField;
+#[derive(Drop)]
+pub struct NoField;
 
 /// A field and the later ones.
-#[derive(Clone, Copy, Drop)]
-pub(crate) struct FieldThen<'b, L> {
-    pub(crate) first: FieldRef<'b>,
+#[derive(Drop)]
+pub struct FieldThen<'b, Plain, Mask, L> {
+    pub(crate) first: FieldRef<'b, Plain, Mask>,
     pub(crate) later: L,
 }
 
@@ -231,8 +236,8 @@ impl Fields for NoField {
     fn prepend(&self, _changed: u8, _mask: u8, _writer: &mut BackWriter<'_>) {}
 }
 
-impl<L: Fields> Fields for FieldThen<'_, L> {
-    ghost values = { λ fields. value_of fields.first ∷ L.values fields.later };
+impl<Plain: PlainHolder, Mask: MaskHolder, L: Fields> Fields for FieldThen<'_, Plain, Mask, L> {
+    ghost values = { λ fields. value_of Plain.plain Mask.mask fields.first ∷ L.values fields.later };
 
     fn lemma_are_held(&self) {
         self.first.lemma_is_held();

@@ -1,15 +1,13 @@
 //! RSAES-OAEP parameters with a label, how long it may be, and the label of parameters.
-ghost use Rattle.std.specs.Prelude.{◌≡◌, ◌≤◌, ⊤, length, true, false, ℕ, List};
+ghost use Rattle.std.specs.Prelude.{◌≡◌, ⊤, length, true, false, ℕ, List};
 ghost use Rattle.std.specs.Option.{option_map};
 ghost use Rattle.der_core.specs.Words.{tlv, AreBytes, Counts};
 ghost use Rattle.pkcs1_params.specs.Words.{oaep_of, labelled, LabelFits, NoLabelFits, written_source, CountsLabelled};
 ghost use Rattle.pkcs1_params.specs.Words.{LabelOf, oaep_viewed, oaep_with};
 
 use crate::hash_fields::{mgf1_with, with_null};
-use crate::oaep::{RsaOaepParams, RsaOaepParamsRef};
-use crate::oaep_view::RsaOaepParamsView;
+use crate::oaep::{RsaOaepParams, RsaOaepParamsRef, RsaOaepParamsView};
 use crate::p_source::{PSpecified, label_of, source_of};
-use crate::views::plain_view;
 use der_core::{Encode, EncodeValue, Length, NoMemory, Result, Tag, TagNumber, joined_len};
 use spki_core::{AnyRef, AnyValue, AssociatedOid, ObjectIdentifier};
 
@@ -21,8 +19,8 @@ impl<'a> RsaOaepParams<AnyRef<'a>> {
         ensures { oaep_of result ≡ labelled D.contents label.now }
     {
         RsaOaepParams {
-            hash: with_null::<D, AnyRef<'a>, NoMemory>(NoMemory),
-            mask_gen: mgf1_with::<D, AnyRef<'a>, NoMemory>(NoMemory),
+            hash: with_null::<D, ObjectIdentifier, AnyRef<'a>, NoMemory>(NoMemory),
+            mask_gen: mgf1_with::<D, ObjectIdentifier, AnyRef<'a>, NoMemory>(NoMemory),
             p_source: source_of(label),
         }
     }
@@ -41,7 +39,7 @@ impl<P: AnyValue> RsaOaepParams<P> {
     pub fn label(&self) -> Option<&[u8]>
         ensures { LabelOf (oaep_with P.any self.now).p_source (option_map (λ label. label.now) result) }
     {
-        label_of(&plain_view(&self.p_source))
+        label_of(&self.p_source.as_view())
     }
 }
 

@@ -2,6 +2,7 @@
 #![tactic(auto)]
 
 mod algorithm;
+mod contents;
 mod default_salt;
 mod defaults;
 mod error;
@@ -9,22 +10,24 @@ mod faults;
 mod fields;
 mod hash_fields;
 mod hash_functions;
+mod holders;
+mod kept;
 mod label;
 mod laws;
 mod oaep;
 mod oaep_algorithm;
+mod oaep_reading;
 mod oaep_spelling;
-mod oaep_view;
 mod owned;
 mod p_source;
 mod pss;
 mod pss_algorithm;
+mod pss_reading;
 mod pss_spelling;
-mod pss_view;
+mod shortest;
 mod spelling;
 mod strict;
 mod trailer_field;
-mod views;
 
 pub use algorithm::FromAlgorithm;
 pub use default_salt::DefaultSalt;
@@ -36,11 +39,13 @@ pub use laws::{
     lemma_algorithms, lemma_algorithms_exclude_each_other, lemma_oaep_spellings,
     lemma_pss_spellings,
 };
-pub use oaep::{RsaOaepParams, RsaOaepParamsOwned, RsaOaepParamsRef};
+pub use oaep::{
+    OaepParamsOf, RsaOaepParams, RsaOaepParamsOwned, RsaOaepParamsRef, RsaOaepParamsView,
+};
 pub use oaep_algorithm::{RsaesOaep, fault_of_oaep_algorithm, rsaes_oaep_oid};
-pub use oaep_view::RsaOaepParamsView;
 pub use p_source::PSpecified;
-pub use pss::{RsaPssParams, RsaPssParamsOwned, RsaPssParamsRef};
+pub use pss::{PssParamsOf, RsaPssParams, RsaPssParamsOwned, RsaPssParamsRef, RsaPssParamsView};
 pub use pss_algorithm::{RsassaPss, fault_of_pss_algorithm, rsassa_pss_oid};
-pub use pss_view::RsaPssParamsView;
+pub use shortest::Shortest;
+pub use spelling::EncodeParams;
 pub use trailer_field::TrailerField;

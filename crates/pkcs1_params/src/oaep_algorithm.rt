@@ -1,21 +1,22 @@
 //! The algorithm identifier id-RSAES-OAEP with its parameters (RFC 8017 A.2.1).
 ghost use Rattle.std.specs.Prelude.{◌≡◌, ◌≤◌, length, take, drop, refl, IfOk, IfErr, OnErr};
 ghost use Rattle.der_core.specs.Words.{HasEncoding};
-ghost use Rattle.spki_core.specs.Words.{algorithm_with, Any, AnyFault, own_octets_of};
+ghost use Rattle.spki_core.specs.Words.{viewed_with, any_of, Any, AnyFault, own_octets_of};
 ghost use Rattle.pkcs1_params.specs.Words.{id_rsaes_oaep, RsaOaepAlgorithm, RsaOaepAlgorithmFault, oaep_means_one};
 ghost use Rattle.pkcs1_params.specs.Words.{IsTheShortest, IsWritingError, TellsFault, OaepFault, OaepParameters};
-ghost use Rattle.pkcs1_params.specs.Words.{with_parameters, oaep_values, oaep_of, oaep_viewed, oaep_with};
+ghost use Rattle.pkcs1_params.specs.Words.{with_parameters, oaep_values, oaep_in};
 
-use crate::algorithm::{
-    AlgorithmParams, FromAlgorithm, decode_borrowed, encode_identifier, with_identifier,
-};
+use crate::algorithm::{AlgorithmParams, FromAlgorithm, decode_borrowed, encode_identifier};
 use crate::error::{Error, Result};
-use crate::oaep::{RsaOaepParams, RsaOaepParamsRef};
-use crate::oaep_view::RsaOaepParamsView;
-use crate::spelling::DefaultFields;
+use crate::kept::ReadParams;
+use crate::oaep::{OaepParamsOf, RsaOaepParamsView};
+use crate::spelling::EncodeParams;
 use crate::strict;
-use der_core::ErrorKind;
-use spki_core::{AlgorithmIdentifier, AnyRef, AnyValue, AssociatedOid, ObjectIdentifier};
+use der_core::{Borrowed, ErrorKind};
+use spki_core::{
+    AlgorithmView, AnyRef, AnyValue, AssociatedOid, IdentifierValue, IdentifierView,
+    ObjectIdentifier,
+};
 
 /// id-RSAES-OAEP, as a type.
 pub struct RsaesOaep;
@@ -39,12 +40,12 @@ pub fn rsaes_oaep_oid() -> ObjectIdentifier
     ObjectIdentifier::of::<RsaesOaep>()
 }
 
-impl<'a> AlgorithmParams<'a> for RsaOaepParamsView<'a> {
+impl<'a, O: ReadParams<'a>> AlgorithmParams<'a> for OaepParamsOf<O, AnyRef<'a>> {
     type Oid = RsaesOaep;
 
     ghost Params = { OaepParameters };
 
-    ghost params = { oaep_viewed };
+    ghost params = { oaep_in O.octets any_of };
 
     ghost values = { oaep_values };
 
@@ -52,8 +53,9 @@ impl<'a> AlgorithmParams<'a> for RsaOaepParamsView<'a> {
 
     ghost fault = { OaepFault Any AnyFault };
 
-    fn from_any(any: AnyRef<'a>) -> der_core::Result<RsaOaepParamsView<'a>> {
-        decode_borrowed(any)
+    fn from_any(any: AnyRef<'a>) -> der_core::Result<OaepParamsOf<O, AnyRef<'a>>> {
+        let view = decode_borrowed::<RsaOaepParamsView<'a>>(any)?;
+        Ok(O::keep_oaep(view))
     }
 
     fn reject_defaults(&self, encoding: &[u8]) -> Result<()> {
@@ -61,52 +63,32 @@ impl<'a> AlgorithmParams<'a> for RsaOaepParamsView<'a> {
     }
 }
 
-impl<'a> AlgorithmParams<'a> for RsaOaepParams<AnyRef<'a>> {
-    type Oid = RsaesOaep;
-
-    ghost Params = { OaepParameters };
-
-    ghost params = { oaep_of };
-
-    ghost values = { oaep_values };
-
-    ghost fields_mean_one = { oaep_means_one };
-
-    ghost fault = { OaepFault Any AnyFault };
-
-    fn from_any(any: AnyRef<'a>) -> der_core::Result<RsaOaepParams<AnyRef<'a>>> {
-        decode_borrowed(any)
-    }
-
-    fn reject_defaults(&self, encoding: &[u8]) -> Result<()> {
-        strict::reject_defaults(&self.as_view(), encoding)
-    }
-}
-
-impl<P: AnyValue> RsaOaepParams<P> {
+impl<O: IdentifierValue, P: AnyValue> OaepParamsOf<O, P> {
     /// The algorithm identifier id-RSAES-OAEP with these parameters, borrowed: to be written inside something larger.
-    pub fn to_algorithm(&self) -> AlgorithmIdentifier<RsaOaepParams<AnyRef<'_>>>
-        ensures means { algorithm_with oaep_of result ≡ with_parameters id_rsaes_oaep (oaep_with P.any self.now) }
-        ensures some { HasEncoding RsaOaepAlgorithm (oaep_with P.any self.now) }
+    pub fn to_algorithm(&self) -> AlgorithmView<'_, Borrowed<'_, OaepParamsOf<O, P>>>
+        ensures means { viewed_with (λ p. oaep_in O.octets P.any p.0.now) result
+            ≡ with_parameters id_rsaes_oaep (oaep_in O.octets P.any self.now) }
+        ensures some { HasEncoding RsaOaepAlgorithm (oaep_in O.octets P.any self.now) }
     {
-        let view = self.as_view();
-        view.lemma_is_held();
-        with_identifier::<RsaesOaep, RsaOaepParamsRef<'_>>(view.keep())
+        self.lemma_has_algorithm::<RsaesOaep>();
+        AlgorithmView {
+            oid: IdentifierView::named::<RsaesOaep>(),
+            parameters: Some(Borrowed(self)),
+        }
     }
 
     /// Writes the shortest encoding of the algorithm identifier id-RSAES-OAEP with these parameters to the front of a
     /// slice and returns its length. `Overflow` if the encoding is longer than `Length::MAX`, `NoRoom` if the slice is
     /// shorter than it.
     pub fn encode_algorithm(&self, out: &mut [u8]) -> Result<usize>
-        ensures shortest { let params = oaep_with P.any self.now in
+        ensures shortest { let params = oaep_in O.octets P.any self.now in
             IfOk result (λ n. IsTheShortest RsaOaepAlgorithm (take n out.new) params) }
         ensures rest { IfOk result (λ n. (n ≤ length out.new) × (drop n out.new ≡ drop n out.old)) }
         ensures unchanged { OnErr result (out.new ≡ out.old) }
-        ensures err { IfErr result (IsWritingError RsaOaepAlgorithm (oaep_with P.any self.now) (length out.old)) }
+        ensures err { let params = oaep_in O.octets P.any self.now in
+            IfErr result (IsWritingError RsaOaepAlgorithm params (length out.old)) }
     {
-        let view = self.as_view();
-        view.lemma_is_held();
-        encode_identifier::<RsaesOaep, RsaOaepParamsRef<'_>>(view.keep(), out)
+        encode_identifier::<RsaesOaep, _>(self, out)
     }
 }
 

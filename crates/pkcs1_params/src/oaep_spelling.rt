@@ -1,28 +1,39 @@
 //! The fields and the spellings of RSAES-OAEP parameters.
-ghost use Rattle.std.specs.Prelude.{◌≡◌, ◌≤◌, length, take, drop, OnOk, OnErr, IfOk, IfErr};
+ghost use Rattle.std.specs.Prelude.{length, OnOk, IfOk, IfErr};
 ghost use Rattle.spki_core.specs.Words.{HaveDefaults};
-ghost use Rattle.pkcs1_params.specs.Words.{oaep_means_one, oaep_viewed, oaep_with, oaep_numbered, OaepParameters};
+ghost use Rattle.pkcs1_params.specs.Words.{oaep_means_one, oaep_in, oaep_numbered, OaepParameters};
 ghost use Rattle.pkcs1_params.specs.Words.{oaep_fields, oaep_values, IsMask, StandsUnder, IsSpellingError, AllFit};
 ghost use Rattle.pkcs1_params.specs.Words.{AreAllSpellings, IsListingError, encodings_in};
 
 use crate::error::Result;
-use crate::fields::{FieldRef, FieldThen, Fields, NoField};
-use crate::hash_fields::{is_default_hash, is_default_mask_gen};
-use crate::oaep::RsaOaepParams;
-use crate::oaep_view::RsaOaepParamsView;
-use crate::p_source::is_default_source;
-use crate::spelling::{DefaultFields, all_spellings, spell_into};
-use der_core::{BackWriter, Length, TagNumber, Writer};
-use spki_core::{AnyValue, written_default};
+use crate::fields::{FieldRef, FieldThen, NoField};
+use crate::hash_fields::{MaskGenOf, uses_hash};
+use crate::holders::{MaskHolder, PlainHolder};
+use crate::oaep::OaepParamsOf;
+use crate::spelling::{EncodeParams, all_spellings, count_defaults};
+use der_core::TagNumber;
+use spki_core::{AlgorithmIdentifierOf, AnyValue, AssociatedOid, IdentifierValue, written_default};
 use std::alloc::Global;
 
-type OaepFields<'b> = FieldThen<'b, FieldThen<'b, FieldThen<'b, NoField>>>;
+/// A field and the later ones.
+type Then<'b, O, P, L> = FieldThen<'b, AlgorithmIdentifierOf<O, P>, MaskGenOf<O, P>, L>;
 
-impl RsaOaepParamsView<'_> {
-    /// The fields, in order.
-    pub(crate) fn fields<'b>(&'b self) -> OaepFields<'b>
-        ensures { ⟦<OaepFields<'b> as Fields>⟧.values result ≡ oaep_values (oaep_viewed self.now) }
-    {
+type OaepFields<'b, O, P> = Then<'b, O, P, Then<'b, O, P, Then<'b, O, P, NoField>>>;
+
+impl<'b, O: IdentifierValue, P: AnyValue> EncodeParams for &'b OaepParamsOf<O, P> {
+    type Fields = OaepFields<'b, O, P>;
+
+    ghost Params = { OaepParameters };
+
+    ghost params = { λ p. oaep_in O.octets P.any p.now };
+
+    ghost values = { oaep_values };
+
+    ghost numbered = { oaep_numbered };
+
+    ghost fields_mean_one = { oaep_means_one };
+
+    fn fields(self) -> OaepFields<'b, O, P> {
         FieldThen {
             first: FieldRef::Hash(&self.hash),
             later: FieldThen {
@@ -34,116 +45,45 @@ impl RsaOaepParamsView<'_> {
             },
         }
     }
-}
 
-impl DefaultFields for RsaOaepParamsView<'_> {
-    ghost Params = { OaepParameters };
-
-    ghost params = { oaep_viewed };
-
-    ghost values = { oaep_values };
-
-    ghost numbered = { oaep_numbered };
-
-    ghost fields_mean_one = { oaep_means_one };
-
-    fn lemma_is_held(&self) {
-        self.fields().lemma_are_held();
-    }
-
-    fn changed(&self) -> u8 {
-        self.fields().changed()
-    }
-
-    fn count_defaults(&self) -> u8 {
-        self.fields().count_defaults()
-    }
-
-    fn written_default(&self, bytes: &[u8]) -> Option<TagNumber> {
+    fn written_default(self, bytes: &[u8]) -> Option<TagNumber> {
         let defaults = [
-            is_default_hash(&self.hash),
-            is_default_mask_gen(&self.mask_gen),
-            is_default_source(&self.p_source),
+            self.hash.is_default_hash(),
+            self.mask_gen.is_default(),
+            self.p_source.is_default_source(),
         ];
         written_default(bytes, &defaults)
     }
-
-    fn len_under(&self, changed: u8, mask: u8) -> der_core::Result<Length> {
-        self.fields().len(changed, mask)
-    }
-
-    fn append_under<W: Writer>(
-        &self,
-        changed: u8,
-        mask: u8,
-        writer: &mut W,
-    ) -> der_core::Result<()> {
-        self.fields().append(changed, mask, writer)
-    }
-
-    fn prepend_under(&self, changed: u8, mask: u8, writer: &mut BackWriter<'_>) {
-        self.fields().prepend(changed, mask, writer);
-    }
 }
 
-impl RsaOaepParamsView<'_> {
+impl<O: IdentifierValue, P: AnyValue> OaepParamsOf<O, P> {
+    ghost use Rattle.std.specs.Bool.{Decides};
+    ghost use Rattle.pkcs1_params.specs.Words.{UsesHash};
+
+    /// Whether the hash function is D, and the mask generation function is MGF1 with D: each of them by `is_hash`, so
+    /// with NULL or without parameters.
+    pub fn uses_hash<D: AssociatedOid>(&self) -> bool
+        ensures { let params = oaep_in O.octets P.any self.now in
+            Decides result (UsesHash D.contents params.hash params.mask_gen) }
+    {
+        uses_hash::<D, O, P>(&self.hash, &self.mask_gen)
+    }
+
     /// How many fields equal their defaults.
     pub fn default_fields(&self) -> u8
-        ensures { HaveDefaults (oaep_fields (oaep_viewed self.now)) result }
+        ensures { HaveDefaults (oaep_fields (oaep_in O.octets P.any self.now)) result }
     {
-        DefaultFields::count_defaults(self)
-    }
-
-    /// Like `RsaOaepParams::encode_spelling_into`.
-    pub fn encode_spelling_into(&self, mask: u8, out: &mut [u8]) -> Result<usize>
-        requires { IsMask (oaep_fields (oaep_viewed self.now)) mask }
-        ensures stands { IfOk result (λ n. StandsUnder oaep_fields (oaep_viewed self.now) mask (take n out.new)) }
-        ensures rest { IfOk result (λ n. (n ≤ length out.new) × (drop n out.new ≡ drop n out.old)) }
-        ensures unchanged { OnErr result (out.new ≡ out.old) }
-        ensures err { IfErr result (IsSpellingError (oaep_fields (oaep_viewed self.now)) mask (length out.old)) }
-    {
-        spell_into(self, mask, out)
-    }
-
-    /// Like `RsaOaepParams::spellings`.
-    pub fn spellings(&self, alloc: Global) -> Result<Vec<Vec<u8>>>
-        ensures all { IfOk result (λ encodings. AreAllSpellings oaep_fields (oaep_viewed self.now)
-            (encodings_in encodings)) }
-        ensures fit { OnOk result (AllFit (oaep_fields (oaep_viewed self.now))) }
-        ensures err { IfErr result (IsListingError (oaep_fields (oaep_viewed self.now))) }
-    {
-        all_spellings(self, alloc)
-    }
-}
-
-impl<P: AnyValue> RsaOaepParams<P> {
-    /// How many fields equal their defaults.
-    pub fn default_fields(&self) -> u8
-        ensures { HaveDefaults (oaep_fields (oaep_with P.any self.now)) result }
-    {
-        self.as_view().count_defaults()
-    }
-
-    /// Writes one spelling to the front of a slice and returns its length. Bit j of the mask (bit 0 is the lowest) says
-    /// whether the j-th of the fields that equal their defaults, in their order, is written. Mask 0 gives the shortest.
-    /// `Overflow` if the encoding is longer than `Length::MAX`, `NoRoom` if the slice is shorter than it.
-    pub fn encode_spelling_into(&self, mask: u8, out: &mut [u8]) -> Result<usize>
-        requires { IsMask (oaep_fields (oaep_with P.any self.now)) mask }
-        ensures stands { IfOk result (λ n. StandsUnder oaep_fields (oaep_with P.any self.now) mask (take n out.new)) }
-        ensures rest { IfOk result (λ n. (n ≤ length out.new) × (drop n out.new ≡ drop n out.old)) }
-        ensures unchanged { OnErr result (out.new ≡ out.old) }
-        ensures err { IfErr result (IsSpellingError (oaep_fields (oaep_with P.any self.now)) mask (length out.old)) }
-    {
-        spell_into(&self.as_view(), mask, out)
+        count_defaults(self)
     }
 
     /// Like `encode_spelling_into`, but returns the part of the slice that was written. A caller that needs in a proof
     /// what the rest of the slice holds calls `encode_spelling_into`.
     pub fn encode_spelling<'b>(&self, mask: u8, out: &'b mut [u8]) -> Result<&'b [u8]>
-        requires { IsMask (oaep_fields (oaep_with P.any self.now)) mask }
-        ensures stands { IfOk result (λ encoding. StandsUnder oaep_fields (oaep_with P.any self.now) mask
+        requires { IsMask (oaep_fields (oaep_in O.octets P.any self.now)) mask }
+        ensures stands { IfOk result (λ encoding. StandsUnder oaep_fields (oaep_in O.octets P.any self.now) mask
             encoding.now) }
-        ensures err { IfErr result (IsSpellingError (oaep_fields (oaep_with P.any self.now)) mask (length out.old)) }
+        ensures err { let fields = oaep_fields (oaep_in O.octets P.any self.now) in
+            IfErr result (IsSpellingError fields mask (length out.old)) }
     {
         let length = self.encode_spelling_into(mask, out)?;
         Ok(&out[..length])
@@ -152,11 +92,11 @@ impl<P: AnyValue> RsaOaepParams<P> {
     /// All spellings, each at the index that is its mask, so the shortest is the first: two to the number of default
     /// fields. `Overflow`, before anything is allocated, if the one with every field is longer than `Length::MAX`.
     pub fn spellings(&self, alloc: Global) -> Result<Vec<Vec<u8>>>
-        ensures all { IfOk result (λ encodings. AreAllSpellings oaep_fields (oaep_with P.any self.now)
+        ensures all { IfOk result (λ encodings. AreAllSpellings oaep_fields (oaep_in O.octets P.any self.now)
             (encodings_in encodings)) }
-        ensures fit { OnOk result (AllFit (oaep_fields (oaep_with P.any self.now))) }
-        ensures err { IfErr result (IsListingError (oaep_fields (oaep_with P.any self.now))) }
+        ensures fit { OnOk result (AllFit (oaep_fields (oaep_in O.octets P.any self.now))) }
+        ensures err { IfErr result (IsListingError (oaep_fields (oaep_in O.octets P.any self.now))) }
     {
-        all_spellings(&self.as_view(), alloc)
+        all_spellings(self, alloc)
     }
 }

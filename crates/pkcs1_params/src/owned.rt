@@ -7,11 +7,13 @@ ghost use Rattle.spki_core.specs.Words.{algorithm_with, algorithm_of, mask_of, a
 ghost use Rattle.spki_core.specs.Words.{AnyFault, any_fault_none, any_fault_first, own_any_of};
 ghost use Rattle.spki_core.specs.Any as grammar;
 
-use crate::hash_fields::{MaskGen, MaskGenRef};
+use crate::hash_fields::{MaskGenOf, MaskGenRef};
 use crate::oaep::{RsaOaepParams, RsaOaepParamsOwned, RsaOaepParamsRef};
 use crate::pss::{RsaPssParams, RsaPssParamsOwned, RsaPssParamsRef};
 use der_core::{DecodeValue, Header, NoMemory, Reader, Result};
-use spki_core::{AlgorithmIdentifier, AlgorithmIdentifierRef, Any, AnyParams, AnyRef};
+use spki_core::{
+    AlgorithmIdentifier, AlgorithmIdentifierRef, Any, AnyParams, AnyRef, ObjectIdentifier,
+};
 use std::alloc::Global;
 
 /// Copies the contents octets. Nothing is allocated if there are none.
@@ -45,7 +47,10 @@ fn copy_plain(
 }
 
 /// Copies a mask generation function.
-fn copy_mask_gen(alloc: Global, mask_gen: MaskGenRef<'_>) -> Result<MaskGen<Any>>
+fn copy_mask_gen(
+    alloc: Global,
+    mask_gen: MaskGenRef<'_>,
+) -> Result<MaskGenOf<ObjectIdentifier, Any>>
     ensures ok { IfOk result (λ copy. algorithm_with (algorithm_with own_any_of) copy ≡ mask_of mask_gen.entry) }
     ensures err { let has = HasParameters (HasParameters HasOctets) (mask_of mask_gen.entry) in
         IfErr result (λ e. (e.kind ≡ OutOfMemory) × has) }

@@ -3,13 +3,13 @@ ghost use Rattle.std.specs.Prelude.{◌≡◌, ◌≤◌, refl, length};
 ghost use Rattle.der_core.specs.Words.{limit};
 ghost use Rattle.std.specs.Option.{option_map};
 ghost use Rattle.std.specs.Str.{bytes_eq};
-ghost use Rattle.spki_core.specs.Words.{same_plain, algorithm_with, algorithm_of, viewed_with, any_of};
+ghost use Rattle.spki_core.specs.Words.{algorithm_in, algorithm_of, viewed_with, any_of};
 ghost use Rattle.pkcs1_params.specs.Words.{with_parameters, id_p_specified, octets_value, empty_label, LabelOf};
 
-use crate::views::PlainView;
-use der_core::{Memory, NoMemory, Tag};
+use der_core::{Memory, Tag};
 use spki_core::{
-    AlgorithmIdentifier, AlgorithmIdentifierRef, AnyParams, AnyRef, AssociatedOid, ObjectIdentifier,
+    AlgorithmIdentifier, AlgorithmIdentifierOf, AlgorithmIdentifierRef, AlgorithmView, AnyParams,
+    AnyRef, AssociatedOid, IdentifierValue, ObjectIdentifier,
 };
 
 /// id-pSpecified: the label is in the parameters (RFC 8017 A.2.1).
@@ -28,18 +28,21 @@ impl AssociatedOid for PSpecified {
 }
 
 /// pSpecified with the empty label.
-pub(crate) fn empty_source<P: AnyParams<M>, M: Memory>(memory: M) -> AlgorithmIdentifier<P>
-    ensures { algorithm_with P.any result ≡ empty_label }
+#[inline(always)]
+pub(crate) fn empty_source<O: IdentifierValue, P: AnyParams<M>, M: Memory>(
+    memory: M,
+) -> AlgorithmIdentifierOf<O, P>
+    ensures { algorithm_in O.octets P.any result ≡ empty_label }
 {
-    AlgorithmIdentifier {
-        oid: ObjectIdentifier::of::<PSpecified>(),
+    AlgorithmIdentifierOf {
+        oid: O::named::<PSpecified>(),
         parameters: Some(P::empty(memory, Tag::OCTET_STRING)),
     }
 }
 
 /// Whether these are the octets of id-pSpecified.
 #[inline(always)]
-fn is_p_specified(octets: &[u8]) -> bool
+pub(crate) fn is_p_specified(octets: &[u8]) -> bool
     ensures { result ≡ bytes_eq octets.now id_p_specified }
 {
     match octets {
@@ -48,16 +51,8 @@ fn is_p_specified(octets: &[u8]) -> bool
     }
 }
 
-/// Whether the source is the default, pSpecified with the empty label.
-pub(crate) fn is_default_source(p_source: &PlainView<'_>) -> bool
-    ensures { result ≡ same_plain (viewed_with any_of p_source.now) empty_label }
-{
-    let empty = AnyRef::empty(NoMemory, Tag::OCTET_STRING);
-    is_p_specified(p_source.oid.as_bytes()) && p_source.parameters == Some(empty)
-}
-
 /// The label of a source, or `None` if it isn't pSpecified with an OCTET STRING.
-pub(crate) fn label_of<'a>(source: &PlainView<'a>) -> Option<&'a [u8]>
+pub(crate) fn label_of<'a>(source: &AlgorithmView<'a, AnyRef<'a>>) -> Option<&'a [u8]>
     ensures { LabelOf (viewed_with any_of source.now) (option_map (λ label. label.now) result) }
 {
     match source.parameters {

@@ -1,21 +1,22 @@
 //! The algorithm identifier id-RSASSA-PSS with its parameters (RFC 8017 A.2.3).
 ghost use Rattle.std.specs.Prelude.{◌≡◌, ◌≤◌, length, take, drop, refl, IfOk, IfErr, OnErr};
 ghost use Rattle.der_core.specs.Words.{HasEncoding};
-ghost use Rattle.spki_core.specs.Words.{algorithm_with, Any, AnyFault, own_octets_of};
+ghost use Rattle.spki_core.specs.Words.{viewed_with, any_of, Any, AnyFault, own_octets_of};
 ghost use Rattle.pkcs1_params.specs.Words.{id_rsassa_pss, RsaPssAlgorithm, RsaPssAlgorithmFault, pss_means_one};
 ghost use Rattle.pkcs1_params.specs.Words.{IsTheShortest, IsWritingError, TellsFault, PssFault, PssParameters};
-ghost use Rattle.pkcs1_params.specs.Words.{with_parameters, pss_values, pss_of, pss_viewed, pss_with};
+ghost use Rattle.pkcs1_params.specs.Words.{with_parameters, pss_values, pss_in};
 
-use crate::algorithm::{
-    AlgorithmParams, FromAlgorithm, decode_borrowed, encode_identifier, with_identifier,
-};
+use crate::algorithm::{AlgorithmParams, FromAlgorithm, decode_borrowed, encode_identifier};
 use crate::error::{Error, Result};
-use crate::pss::{RsaPssParams, RsaPssParamsRef};
-use crate::pss_view::RsaPssParamsView;
-use crate::spelling::DefaultFields;
+use crate::kept::ReadParams;
+use crate::pss::{PssParamsOf, RsaPssParamsView};
+use crate::spelling::EncodeParams;
 use crate::strict;
-use der_core::ErrorKind;
-use spki_core::{AlgorithmIdentifier, AnyRef, AnyValue, AssociatedOid, ObjectIdentifier};
+use der_core::{Borrowed, ErrorKind};
+use spki_core::{
+    AlgorithmView, AnyRef, AnyValue, AssociatedOid, IdentifierValue, IdentifierView,
+    ObjectIdentifier,
+};
 
 /// id-RSASSA-PSS, as a type.
 pub struct RsassaPss;
@@ -39,12 +40,12 @@ pub fn rsassa_pss_oid() -> ObjectIdentifier
     ObjectIdentifier::of::<RsassaPss>()
 }
 
-impl<'a> AlgorithmParams<'a> for RsaPssParamsView<'a> {
+impl<'a, O: ReadParams<'a>> AlgorithmParams<'a> for PssParamsOf<O, AnyRef<'a>> {
     type Oid = RsassaPss;
 
     ghost Params = { PssParameters };
 
-    ghost params = { pss_viewed };
+    ghost params = { pss_in O.octets any_of };
 
     ghost values = { pss_values };
 
@@ -52,8 +53,9 @@ impl<'a> AlgorithmParams<'a> for RsaPssParamsView<'a> {
 
     ghost fault = { PssFault Any AnyFault };
 
-    fn from_any(any: AnyRef<'a>) -> der_core::Result<RsaPssParamsView<'a>> {
-        decode_borrowed(any)
+    fn from_any(any: AnyRef<'a>) -> der_core::Result<PssParamsOf<O, AnyRef<'a>>> {
+        let view = decode_borrowed::<RsaPssParamsView<'a>>(any)?;
+        Ok(O::keep_pss(view))
     }
 
     fn reject_defaults(&self, encoding: &[u8]) -> Result<()> {
@@ -61,52 +63,32 @@ impl<'a> AlgorithmParams<'a> for RsaPssParamsView<'a> {
     }
 }
 
-impl<'a> AlgorithmParams<'a> for RsaPssParams<AnyRef<'a>> {
-    type Oid = RsassaPss;
-
-    ghost Params = { PssParameters };
-
-    ghost params = { pss_of };
-
-    ghost values = { pss_values };
-
-    ghost fields_mean_one = { pss_means_one };
-
-    ghost fault = { PssFault Any AnyFault };
-
-    fn from_any(any: AnyRef<'a>) -> der_core::Result<RsaPssParams<AnyRef<'a>>> {
-        decode_borrowed(any)
-    }
-
-    fn reject_defaults(&self, encoding: &[u8]) -> Result<()> {
-        strict::reject_defaults(&self.as_view(), encoding)
-    }
-}
-
-impl<P: AnyValue> RsaPssParams<P> {
+impl<O: IdentifierValue, P: AnyValue> PssParamsOf<O, P> {
     /// The algorithm identifier id-RSASSA-PSS with these parameters, borrowed: to be written inside something larger.
-    pub fn to_algorithm(&self) -> AlgorithmIdentifier<RsaPssParams<AnyRef<'_>>>
-        ensures means { algorithm_with pss_of result ≡ with_parameters id_rsassa_pss (pss_with P.any self.now) }
-        ensures some { HasEncoding RsaPssAlgorithm (pss_with P.any self.now) }
+    pub fn to_algorithm(&self) -> AlgorithmView<'_, Borrowed<'_, PssParamsOf<O, P>>>
+        ensures means { viewed_with (λ p. pss_in O.octets P.any p.0.now) result
+            ≡ with_parameters id_rsassa_pss (pss_in O.octets P.any self.now) }
+        ensures some { HasEncoding RsaPssAlgorithm (pss_in O.octets P.any self.now) }
     {
-        let view = self.as_view();
-        view.lemma_is_held();
-        with_identifier::<RsassaPss, RsaPssParamsRef<'_>>(view.keep())
+        self.lemma_has_algorithm::<RsassaPss>();
+        AlgorithmView {
+            oid: IdentifierView::named::<RsassaPss>(),
+            parameters: Some(Borrowed(self)),
+        }
     }
 
     /// Writes the shortest encoding of the algorithm identifier id-RSASSA-PSS with these parameters to the front of a
     /// slice and returns its length. `Overflow` if the encoding is longer than `Length::MAX`, `NoRoom` if the slice is
     /// shorter than it.
     pub fn encode_algorithm(&self, out: &mut [u8]) -> Result<usize>
-        ensures shortest { let params = pss_with P.any self.now in
+        ensures shortest { let params = pss_in O.octets P.any self.now in
             IfOk result (λ n. IsTheShortest RsaPssAlgorithm (take n out.new) params) }
         ensures rest { IfOk result (λ n. (n ≤ length out.new) × (drop n out.new ≡ drop n out.old)) }
         ensures unchanged { OnErr result (out.new ≡ out.old) }
-        ensures err { IfErr result (IsWritingError RsaPssAlgorithm (pss_with P.any self.now) (length out.old)) }
+        ensures err { let params = pss_in O.octets P.any self.now in
+            IfErr result (IsWritingError RsaPssAlgorithm params (length out.old)) }
     {
-        let view = self.as_view();
-        view.lemma_is_held();
-        encode_identifier::<RsassaPss, RsaPssParamsRef<'_>>(view.keep(), out)
+        encode_identifier::<RsassaPss, _>(self, out)
     }
 }
 

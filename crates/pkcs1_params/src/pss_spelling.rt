@@ -1,28 +1,40 @@
 //! The fields and the spellings of RSASSA-PSS parameters.
-ghost use Rattle.std.specs.Prelude.{◌≡◌, ◌≤◌, length, take, drop, OnOk, OnErr, IfOk, IfErr};
+ghost use Rattle.std.specs.Prelude.{length, OnOk, IfOk, IfErr};
 ghost use Rattle.spki_core.specs.Words.{HaveDefaults};
-ghost use Rattle.pkcs1_params.specs.Words.{pss_means_one, pss_viewed, pss_with, pss_numbered, PssParameters};
+ghost use Rattle.pkcs1_params.specs.Words.{pss_means_one, pss_in, pss_numbered, PssParameters};
 ghost use Rattle.pkcs1_params.specs.Words.{pss_fields, pss_values, IsMask, StandsUnder, IsSpellingError, AllFit};
 ghost use Rattle.pkcs1_params.specs.Words.{AreAllSpellings, IsListingError, encodings_in};
 
 use crate::error::Result;
-use crate::fields::{FieldRef, FieldThen, Fields, NoField};
-use crate::hash_fields::{is_default_hash, is_default_mask_gen};
-use crate::pss::{RsaPssParams, RsaPssParamsRef};
-use crate::pss_view::RsaPssParamsView;
-use crate::spelling::{DefaultFields, all_spellings, spell_into};
+use crate::fields::{FieldRef, FieldThen, NoField};
+use crate::hash_fields::{MaskGenOf, uses_hash};
+use crate::holders::{MaskHolder, PlainHolder};
+use crate::pss::{PssParamsOf, RsaPssParamsRef};
+use crate::spelling::{EncodeParams, all_spellings, count_defaults};
 use crate::trailer_field::TrailerField;
-use der_core::{BackWriter, Length, TagNumber, Writer};
-use spki_core::{AnyValue, written_default};
+use der_core::TagNumber;
+use spki_core::{AlgorithmIdentifierOf, AnyValue, AssociatedOid, IdentifierValue, written_default};
 use std::alloc::Global;
 
-type PssFields<'b> = FieldThen<'b, FieldThen<'b, FieldThen<'b, FieldThen<'b, NoField>>>>;
+/// A field and the later ones.
+type Then<'b, O, P, L> = FieldThen<'b, AlgorithmIdentifierOf<O, P>, MaskGenOf<O, P>, L>;
 
-impl RsaPssParamsView<'_> {
-    /// The fields, in order.
-    pub(crate) fn fields<'b>(&'b self) -> PssFields<'b>
-        ensures { ⟦<PssFields<'b> as Fields>⟧.values result ≡ pss_values (pss_viewed self.now) }
-    {
+type PssFields<'b, O, P> = Then<'b, O, P, Then<'b, O, P, Then<'b, O, P, Then<'b, O, P, NoField>>>>;
+
+impl<'b, O: IdentifierValue, P: AnyValue> EncodeParams for &'b PssParamsOf<O, P> {
+    type Fields = PssFields<'b, O, P>;
+
+    ghost Params = { PssParameters };
+
+    ghost params = { λ p. pss_in O.octets P.any p.now };
+
+    ghost values = { pss_values };
+
+    ghost numbered = { pss_numbered };
+
+    ghost fields_mean_one = { pss_means_one };
+
+    fn fields(self) -> PssFields<'b, O, P> {
         FieldThen {
             first: FieldRef::Hash(&self.hash),
             later: FieldThen {
@@ -37,116 +49,46 @@ impl RsaPssParamsView<'_> {
             },
         }
     }
-}
 
-impl DefaultFields for RsaPssParamsView<'_> {
-    ghost Params = { PssParameters };
-
-    ghost params = { pss_viewed };
-
-    ghost values = { pss_values };
-
-    ghost numbered = { pss_numbered };
-
-    ghost fields_mean_one = { pss_means_one };
-
-    fn lemma_is_held(&self) {
-        self.fields().lemma_are_held();
-    }
-
-    fn changed(&self) -> u8 {
-        self.fields().changed()
-    }
-
-    fn count_defaults(&self) -> u8 {
-        self.fields().count_defaults()
-    }
-
-    fn written_default(&self, bytes: &[u8]) -> Option<TagNumber> {
+    fn written_default(self, bytes: &[u8]) -> Option<TagNumber> {
         let defaults = [
-            is_default_hash(&self.hash),
-            is_default_mask_gen(&self.mask_gen),
+            self.hash.is_default_hash(),
+            self.mask_gen.is_default(),
             self.salt_len == RsaPssParamsRef::SALT_LEN_DEFAULT,
             self.trailer_field == TrailerField::BC,
         ];
         written_default(bytes, &defaults)
     }
-
-    fn len_under(&self, changed: u8, mask: u8) -> der_core::Result<Length> {
-        self.fields().len(changed, mask)
-    }
-
-    fn append_under<W: Writer>(
-        &self,
-        changed: u8,
-        mask: u8,
-        writer: &mut W,
-    ) -> der_core::Result<()> {
-        self.fields().append(changed, mask, writer)
-    }
-
-    fn prepend_under(&self, changed: u8, mask: u8, writer: &mut BackWriter<'_>) {
-        self.fields().prepend(changed, mask, writer);
-    }
 }
 
-impl RsaPssParamsView<'_> {
+impl<O: IdentifierValue, P: AnyValue> PssParamsOf<O, P> {
+    ghost use Rattle.std.specs.Bool.{Decides};
+    ghost use Rattle.pkcs1_params.specs.Words.{UsesHash};
+
+    /// Whether the hash function is D, and the mask generation function is MGF1 with D: each of them by `is_hash`, so
+    /// with NULL or without parameters.
+    pub fn uses_hash<D: AssociatedOid>(&self) -> bool
+        ensures { let params = pss_in O.octets P.any self.now in
+            Decides result (UsesHash D.contents params.hash params.mask_gen) }
+    {
+        uses_hash::<D, O, P>(&self.hash, &self.mask_gen)
+    }
+
     /// How many fields equal their defaults.
     pub fn default_fields(&self) -> u8
-        ensures { HaveDefaults (pss_fields (pss_viewed self.now)) result }
+        ensures { HaveDefaults (pss_fields (pss_in O.octets P.any self.now)) result }
     {
-        DefaultFields::count_defaults(self)
-    }
-
-    /// Like `RsaPssParams::encode_spelling_into`.
-    pub fn encode_spelling_into(&self, mask: u8, out: &mut [u8]) -> Result<usize>
-        requires { IsMask (pss_fields (pss_viewed self.now)) mask }
-        ensures stands { IfOk result (λ n. StandsUnder pss_fields (pss_viewed self.now) mask (take n out.new)) }
-        ensures rest { IfOk result (λ n. (n ≤ length out.new) × (drop n out.new ≡ drop n out.old)) }
-        ensures unchanged { OnErr result (out.new ≡ out.old) }
-        ensures err { IfErr result (IsSpellingError (pss_fields (pss_viewed self.now)) mask (length out.old)) }
-    {
-        spell_into(self, mask, out)
-    }
-
-    /// Like `RsaPssParams::spellings`.
-    pub fn spellings(&self, alloc: Global) -> Result<Vec<Vec<u8>>>
-        ensures all { IfOk result (λ encodings. AreAllSpellings pss_fields (pss_viewed self.now)
-            (encodings_in encodings)) }
-        ensures fit { OnOk result (AllFit (pss_fields (pss_viewed self.now))) }
-        ensures err { IfErr result (IsListingError (pss_fields (pss_viewed self.now))) }
-    {
-        all_spellings(self, alloc)
-    }
-}
-
-impl<P: AnyValue> RsaPssParams<P> {
-    /// How many fields equal their defaults.
-    pub fn default_fields(&self) -> u8
-        ensures { HaveDefaults (pss_fields (pss_with P.any self.now)) result }
-    {
-        self.as_view().count_defaults()
-    }
-
-    /// Writes one spelling to the front of a slice and returns its length. Bit j of the mask (bit 0 is the lowest) says
-    /// whether the j-th of the fields that equal their defaults, in their order, is written. Mask 0 gives the shortest.
-    /// `Overflow` if the encoding is longer than `Length::MAX`, `NoRoom` if the slice is shorter than it.
-    pub fn encode_spelling_into(&self, mask: u8, out: &mut [u8]) -> Result<usize>
-        requires { IsMask (pss_fields (pss_with P.any self.now)) mask }
-        ensures stands { IfOk result (λ n. StandsUnder pss_fields (pss_with P.any self.now) mask (take n out.new)) }
-        ensures rest { IfOk result (λ n. (n ≤ length out.new) × (drop n out.new ≡ drop n out.old)) }
-        ensures unchanged { OnErr result (out.new ≡ out.old) }
-        ensures err { IfErr result (IsSpellingError (pss_fields (pss_with P.any self.now)) mask (length out.old)) }
-    {
-        spell_into(&self.as_view(), mask, out)
+        count_defaults(self)
     }
 
     /// Like `encode_spelling_into`, but returns the part of the slice that was written. A caller that needs in a proof
     /// what the rest of the slice holds calls `encode_spelling_into`.
     pub fn encode_spelling<'b>(&self, mask: u8, out: &'b mut [u8]) -> Result<&'b [u8]>
-        requires { IsMask (pss_fields (pss_with P.any self.now)) mask }
-        ensures stands { IfOk result (λ encoding. StandsUnder pss_fields (pss_with P.any self.now) mask encoding.now) }
-        ensures err { IfErr result (IsSpellingError (pss_fields (pss_with P.any self.now)) mask (length out.old)) }
+        requires { IsMask (pss_fields (pss_in O.octets P.any self.now)) mask }
+        ensures stands { let params = pss_in O.octets P.any self.now in
+            IfOk result (λ encoding. StandsUnder pss_fields params mask encoding.now) }
+        ensures err { let fields = pss_fields (pss_in O.octets P.any self.now) in
+            IfErr result (IsSpellingError fields mask (length out.old)) }
     {
         let length = self.encode_spelling_into(mask, out)?;
         Ok(&out[..length])
@@ -155,11 +97,11 @@ impl<P: AnyValue> RsaPssParams<P> {
     /// All spellings, each at the index that is its mask, so the shortest is the first: two to the number of default
     /// fields. `Overflow`, before anything is allocated, if the one with every field is longer than `Length::MAX`.
     pub fn spellings(&self, alloc: Global) -> Result<Vec<Vec<u8>>>
-        ensures all { IfOk result (λ encodings. AreAllSpellings pss_fields (pss_with P.any self.now)
+        ensures all { IfOk result (λ encodings. AreAllSpellings pss_fields (pss_in O.octets P.any self.now)
             (encodings_in encodings)) }
-        ensures fit { OnOk result (AllFit (pss_fields (pss_with P.any self.now))) }
-        ensures err { IfErr result (IsListingError (pss_fields (pss_with P.any self.now))) }
+        ensures fit { OnOk result (AllFit (pss_fields (pss_in O.octets P.any self.now))) }
+        ensures err { IfErr result (IsListingError (pss_fields (pss_in O.octets P.any self.now))) }
     {
-        all_spellings(&self.as_view(), alloc)
+        all_spellings(self, alloc)
     }
 }

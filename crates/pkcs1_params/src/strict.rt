@@ -5,7 +5,7 @@ ghost use Rattle.spki_core.specs.Words.{NamesNumber, NamesDefault, number_in};
 ghost use Rattle.pkcs1_params.specs.Words.{fields_with, Fielded, IsAsn1, ErrsExactly};
 
 use crate::error::{Error, Result};
-use crate::spelling::DefaultFields;
+use crate::spelling::EncodeParams;
 use der_core::{ErrorKind, Tag, TagNumber};
 
 /// The error for a field that is written though it equals its default.
@@ -18,11 +18,11 @@ fn is_written(number: TagNumber) -> Error
 
 /// Returns an error with the tag of the first default that is written in an encoding of the parameters, if there is
 /// one.
-pub(crate) fn reject_defaults<T: DefaultFields>(params: &T, bytes: &[u8]) -> Result<()>
-    requires { Means (Fielded T.values) bytes.now (T.params params.now) }
-    ensures ok { OnOk result (IsShortest (Fielded T.values) (T.params params.now) bytes.now) }
-    ensures err { OnErr result (IsShortest (Fielded T.values) (T.params params.now) bytes.now → ⊥) }
-    ensures exact { ErrsExactly (NamesDefault (fields_with T.values (T.params params.now))) bytes.now result }
+pub(crate) fn reject_defaults<T: EncodeParams>(params: T, bytes: &[u8]) -> Result<()>
+    requires { Means (Fielded T.values) bytes.now (T.params params) }
+    ensures ok { OnOk result (IsShortest (Fielded T.values) (T.params params) bytes.now) }
+    ensures err { OnErr result (IsShortest (Fielded T.values) (T.params params) bytes.now → ⊥) }
+    ensures exact { ErrsExactly (NamesDefault (fields_with T.values (T.params params))) bytes.now result }
 {
     match params.written_default(bytes) {
         Some(number) => Err(is_written(number)),

@@ -2,9 +2,9 @@
 use crate::checks::{equal, holds};
 use der_core::{AsUintRef, Document, Error, ErrorKind, SecretDocument, Tag, UintRef};
 use pkcs1::{
-    ALGORITHM_OID, Mgf1, OtherPrimeInfo, PSpecified, RsaOaepParamsRef, RsaOaepParamsView,
-    RsaPrivateKeyOwned, RsaPssParamsRef, RsaPssParamsView, Sha1, Sha224, Sha256, Sha384, Sha512,
-    Sha512_224, Sha512_256, Version,
+    ALGORITHM_OID, EncodeParams, Mgf1, OtherPrimeInfo, PSpecified, RsaOaepParamsRef,
+    RsaOaepParamsView, RsaPrivateKeyOwned, RsaPssParamsRef, RsaPssParamsView, Sha1, Sha224, Sha256,
+    Sha384, Sha512, Sha512_224, Sha512_256, Version,
 };
 use spki_core::{AnyRef, AssociatedOid, ObjectIdentifier};
 use std::alloc::Global;

@@ -2,11 +2,9 @@
 use crate::told::{PrintedError, Told};
 use crate::written::UNTOUCHED;
 use der_core::{AsUintRef, Decode, Encode, Error, ErrorKind, Uint, UintRef};
-use pkcs1::{
-    RsaOaepParams, RsaOaepParamsView, RsaPrivateKey, RsaPssParams, RsaPssParamsView, RsaPublicKey,
-};
+use pkcs1::{EncodeParams, OaepParamsOf, PssParamsOf, RsaPrivateKey, RsaPublicKey};
 use pkcs8_core::PrivateKeyInfoRef;
-use spki_core::AnyValue;
+use spki_core::{AnyValue, IdentifierValue};
 use std::alloc::Global;
 
 /// The slice after a call that was to write into it. The untouched bytes at its end are shown as their number. In front
@@ -72,25 +70,13 @@ impl WriteInto for RsaPrivateKey<Uint> {
     }
 }
 
-impl<P: AnyValue + Encode> WriteInto for RsaPssParams<P> {
+impl<O: IdentifierValue, P: AnyValue> WriteInto for PssParamsOf<O, P> {
     fn write_into(&self, slice: &mut [u8]) -> pkcs1::Result<usize> {
         self.encode_params(slice)
     }
 }
 
-impl<P: AnyValue + Encode> WriteInto for RsaOaepParams<P> {
-    fn write_into(&self, slice: &mut [u8]) -> pkcs1::Result<usize> {
-        self.encode_params(slice)
-    }
-}
-
-impl WriteInto for RsaPssParamsView<'_> {
-    fn write_into(&self, slice: &mut [u8]) -> pkcs1::Result<usize> {
-        self.encode_params(slice)
-    }
-}
-
-impl WriteInto for RsaOaepParamsView<'_> {
+impl<O: IdentifierValue, P: AnyValue> WriteInto for OaepParamsOf<O, P> {
     fn write_into(&self, slice: &mut [u8]) -> pkcs1::Result<usize> {
         self.encode_params(slice)
     }

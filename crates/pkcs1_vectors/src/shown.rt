@@ -1,12 +1,12 @@
 //! Values as rows show them: numbers and contents in hexadecimal digits, `-` if absent.
 use crate::told::Told;
-use der_core::{AsUintRef, OctetStringRef, Uint, UintRef};
+use der_core::{AsUintRef, Borrowed, OctetStringRef, Uint, UintRef};
 use pkcs1::{
-    OtherPrimeInfo, OtherPrimes, RsaOaepParams, RsaPrivateKey, RsaPrivateKeyView, RsaPssParams,
+    OaepParamsOf, OtherPrimeInfo, OtherPrimes, PssParamsOf, RsaPrivateKey, RsaPrivateKeyView,
     RsaPublicKey, TrailerField, Version,
 };
 use pkcs8_core::PrivateKeyInfoRef;
-use spki_core::{AlgorithmIdentifier, Any, AnyRef, AnyValue, ObjectIdentifier};
+use spki_core::{AlgorithmIdentifierOf, Any, AnyRef, AnyValue, IdentifierValue, ObjectIdentifier};
 
 /// A value that rows can show.
 pub trait Shown {
@@ -70,14 +70,20 @@ impl Shown for Any {
     }
 }
 
-impl<P: Shown> Shown for AlgorithmIdentifier<P> {
+impl<O: IdentifierValue, P: Shown> Shown for AlgorithmIdentifierOf<O, P> {
     fn shown(&self, to: &mut Told) {
-        self.oid.shown(to);
+        self.oid.as_identifier_view().keep().shown(to);
         to.text("/");
         match &self.parameters {
             Some(parameters) => parameters.shown(to),
             None => to.text("-"),
         }
+    }
+}
+
+impl<T: Shown> Shown for Borrowed<'_, T> {
+    fn shown(&self, to: &mut Told) {
+        self.0.shown(to);
     }
 }
 
@@ -201,7 +207,7 @@ impl Shown for PrivateKeyInfoRef<'_> {
     }
 }
 
-impl<P: AnyValue + Shown> Shown for RsaPssParams<P> {
+impl<O: IdentifierValue, P: AnyValue + Shown> Shown for PssParamsOf<O, P> {
     fn shown(&self, to: &mut Told) {
         to.text("hash=");
         self.hash.shown(to);
@@ -216,7 +222,7 @@ impl<P: AnyValue + Shown> Shown for RsaPssParams<P> {
     }
 }
 
-impl<P: AnyValue + Shown> Shown for RsaOaepParams<P> {
+impl<O: IdentifierValue, P: AnyValue + Shown> Shown for OaepParamsOf<O, P> {
     fn shown(&self, to: &mut Told) {
         to.text("hash=");
         self.hash.shown(to);

@@ -2,7 +2,9 @@
 use crate::into::{after, untouched};
 use crate::told::{PrintedError, Told};
 use der_core::Decode;
-use pkcs1::{Result, RsaOaepParams, RsaOaepParamsView, RsaPssParams, RsaPssParamsView};
+use pkcs1::{
+    EncodeParams, Result, RsaOaepParams, RsaOaepParamsView, RsaPssParams, RsaPssParamsView,
+};
 use spki_core::AnyValue;
 use std::alloc::Global;
 

@@ -10,7 +10,9 @@ use Rattle.der_core.specs.OctetString.{OctetContents, OctetString}
 use Rattle.der_core.specs.Laws.OctetString.{octets_at_most_one, octet_string_at_most_one}
 use Rattle.der_core.specs.OctetStringRefValue.{octets_of}
 use Rattle.spki_core.specs.AlgorithmValue.{algorithm_of}
-use Rattle.spki_core.specs.Laws.Held.{plain_held, plain_short}
+use Rattle.spki_core.specs.AnyRefValue.{any_of}
+use Rattle.spki_core.specs.Laws.Held.{any_held, identifier_held, plain_held}
+use Rattle.spki_core.specs.ObjectIdentifierValue.{own_octets_of}
 use Rattle.pkcs8_core.specs.declared.info.PrivateKeyInfoRef.{PrivateKeyInfoRef}
 use Rattle.der_core.specs.Optional.{Optional, HasOptional, written_optional}
 use Rattle.der_core.specs.Encodings.{AtMostOne, AreBytes}
@@ -84,6 +86,7 @@ pub encoding_held : (info : PrivateKeyInfoRef) → HasOptional AreBytes (info_of
     → HasEncoding PrivateKeyInfo (info_of info)
 encoding_held info attributes few_attributes =
     let a = written_plain (algorithm_of info.algorithm) in
+    let held = plain_held own_octets_of identifier_held any_of any_held info.algorithm in
     let k = tlv 4 (octets_of info.private_key) in
     let t = written_optional (λ x. tlv 160 x) (info_of info).attributes in
     let v = tlv 2 (integer_contents (0 ∷ [])) in
@@ -92,14 +95,14 @@ encoding_held info attributes few_attributes =
     let few_version : length v ≤ 130 = tlv_short 2 2 (integer_contents (0 ∷ [])) (omega arith) (omega arith) in
     has_encoding (info_of info) (
       omega arith,
-      (plain_held info.algorithm, (are_bytes (octets_of info.private_key) info.private_key.octets, attributes)),
+      (held.0, (are_bytes (octets_of info.private_key) info.private_key.octets, attributes)),
     )
     (omega (
       arith,
       length-append v (a ++ (k ++ t)),
       length-append a (k ++ t),
       length-append k t,
-      plain_short info.algorithm,
+      held.1,
       few_key,
       few_version,
       few_attributes,

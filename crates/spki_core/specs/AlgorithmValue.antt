@@ -1,24 +1,36 @@
 -- What an algorithm identifier means, by what its parameters mean.
+use Rattle.std.specs.Prelude.{ℕ, List}
 use Rattle.std.specs.Option.{option_map}
 use Rattle.spki_core.specs.declared.any.AnyRef.{AnyRef}
-use Rattle.spki_core.specs.declared.algorithm_identifier.AlgorithmIdentifier.{AlgorithmIdentifier}
-use Rattle.spki_core.specs.declared.algorithm_view.AlgorithmView.{AlgorithmView}
+use Rattle.spki_core.specs.declared.algorithm_identifier.AlgorithmIdentifierOf.{AlgorithmIdentifierOf}
+use Rattle.spki_core.specs.declared.identifier_view.IdentifierView.{IdentifierView}
+use Rattle.spki_core.specs.declared.object_identifier.ObjectIdentifier.{ObjectIdentifier}
 use Rattle.spki_core.specs.Any.{TagAndContents}
 use Rattle.spki_core.specs.AnyRefValue.{any_of}
 use Rattle.spki_core.specs.ObjectIdentifierValue.{own_octets_of, octets_of}
 use Rattle.spki_core.specs.AlgorithmIdentifier.{Algorithm}
 
-abbrev pub algorithm_with : {X V : Type 0} → (X → V) → AlgorithmIdentifier X → Algorithm V
-algorithm_with value a = record { oid = own_octets_of a.oid; parameters = option_map value a.parameters }
+-- by the octets of its object identifier too
+abbrev pub algorithm_in : {O X V : Type 0} → (O → List ℕ) → (X → V) → AlgorithmIdentifierOf O X → Algorithm V
+algorithm_in octets value a = record { oid = octets a.oid; parameters = option_map value a.parameters }
+
+abbrev pub algorithm_with : {X V : Type 0} → (X → V) → AlgorithmIdentifierOf ObjectIdentifier X → Algorithm V
+algorithm_with = algorithm_in own_octets_of
 
 -- with borrowed parameters of any tag
-abbrev pub algorithm_of : AlgorithmIdentifier AnyRef → Algorithm TagAndContents
+abbrev pub algorithm_of : AlgorithmIdentifierOf ObjectIdentifier AnyRef → Algorithm TagAndContents
 algorithm_of = algorithm_with any_of
 
--- whose parameters are an algorithm identifier with borrowed parameters
-abbrev pub mask_of : AlgorithmIdentifier (AlgorithmIdentifier AnyRef) → Algorithm (Algorithm TagAndContents)
-mask_of = algorithm_with algorithm_of
+-- whose parameters are an algorithm identifier
+abbrev pub mask_in : {O X : Type 0} → (O → List ℕ) → (X → TagAndContents)
+    → AlgorithmIdentifierOf O (AlgorithmIdentifierOf O X) → Algorithm (Algorithm TagAndContents)
+mask_in octets any = algorithm_in octets (algorithm_in octets any)
+
+-- with borrowed parameters
+abbrev pub mask_of : AlgorithmIdentifierOf ObjectIdentifier (AlgorithmIdentifierOf ObjectIdentifier AnyRef)
+    → Algorithm (Algorithm TagAndContents)
+mask_of = mask_in own_octets_of any_of
 
 -- with a borrowed object identifier
-abbrev pub viewed_with : {X V : Type 0} → (X → V) → AlgorithmView X → Algorithm V
-viewed_with value a = record { oid = octets_of a.oid; parameters = option_map value a.parameters }
+abbrev pub viewed_with : {X V : Type 0} → (X → V) → AlgorithmIdentifierOf IdentifierView X → Algorithm V
+viewed_with = algorithm_in octets_of

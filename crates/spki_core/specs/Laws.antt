@@ -16,3 +16,4 @@ pub mod Spellings
 pub mod StrictWalk
 pub mod AnyValues
 pub mod IdentifierTest
+pub mod WritesAs

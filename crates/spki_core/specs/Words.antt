@@ -1,7 +1,7 @@
 -- The words that contracts cite, from all files of specs.
 pub use Rattle.spki_core.specs.AlgorithmIdentifier.{Algorithm, AlgorithmContents, HasAlgorithm, PlainAlgorithm}
 pub use Rattle.spki_core.specs.AlgorithmIdentifier.{same_mask, same_plain, written_algorithm}
-pub use Rattle.spki_core.specs.AlgorithmValue.{algorithm_of, algorithm_with, mask_of, viewed_with}
+pub use Rattle.spki_core.specs.AlgorithmValue.{algorithm_in, algorithm_of, algorithm_with, mask_in, mask_of, viewed_with}
 pub use Rattle.spki_core.specs.Allocating.{AllocatesForParameters, FieldAllocates, NothingAskedAlone}
 pub use Rattle.spki_core.specs.Any.{Any, TagAndContents, null_value}
 pub use Rattle.spki_core.specs.AnyRefValue.{any_of}

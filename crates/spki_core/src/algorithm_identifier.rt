@@ -6,15 +6,18 @@ ghost use Rattle.spki_core.specs.Words.{AlgorithmContents, HasAlgorithm, written
 ghost use Rattle.spki_core.specs.Words.{algorithm_of_bytes, algorithm_relates, algorithm_shortest, algorithm_decides};
 
 use crate::any::{AnyRef, AnyValue};
-use crate::object_identifier::ObjectIdentifier;
+use crate::identifier_view::{IdentifierValue, IdentifierView};
+use crate::object_identifier::{AssociatedOid, ObjectIdentifier};
 use der_core::{
     BackWriter, Contents, Decode, DecodeValue, Encode, EncodeValue, Encoding, EqualByValue, Error,
     ErrorKind, Header, Length, Memory, Part, Reader, Result, Sequence, SequenceTag, TaggedBy,
     TryClone, Writer, decode_last,
 };
 use std::alloc::Global;
+use std::fmt;
 
-/// An identifier, and parameters that are there or not (RFC 5280 4.1.1.2).
+/// An identifier, and parameters that are there or not (RFC 5280 4.1.1.2). An `O` holds the object identifier: see
+/// `AlgorithmIdentifier` and `AlgorithmView`.
 ///
 /// ```text
 /// AlgorithmIdentifier ::= SEQUENCE {
@@ -22,24 +25,39 @@ use std::alloc::Global;
 ///     parameters  ANY DEFINED BY algorithm OPTIONAL
 /// }
 /// ```
-#[derive(Clone, Copy, Debug, PartialEq, Eq, Drop)]
-pub struct AlgorithmIdentifier<P> {
+#[derive(Clone, Copy, PartialEq, Eq, Drop)]
+pub struct AlgorithmIdentifierOf<O, P> {
     /// The identifier of the algorithm.
-    pub oid: ObjectIdentifier,
+    pub oid: O,
     /// The parameters of the algorithm. `None` means that no octet follows the identifier, which is another value than
     /// NULL.
     pub parameters: Option<P>,
 }
 
+/// An algorithm identifier that holds its object identifier.
+pub type AlgorithmIdentifier<P> = AlgorithmIdentifierOf<ObjectIdentifier, P>;
+
 /// An algorithm identifier with borrowed parameters of any tag.
 pub type AlgorithmIdentifierRef<'a> = AlgorithmIdentifier<AnyRef<'a>>;
 
-impl<P: Encoding> Contents for AlgorithmIdentifier<P> {
-    ghost use Rattle.spki_core.specs.Words.{algorithm_with};
+/// An algorithm identifier that borrows the octets of its object identifier. Only `keep` copies them.
+pub type AlgorithmView<'a, P> = AlgorithmIdentifierOf<IdentifierView<'a>, P>;
+
+impl<O: fmt::Debug, P: fmt::Debug> fmt::Debug for AlgorithmIdentifierOf<O, P> {
+    fn fmt<W: fmt::Write>(&self, f: &mut fmt::Formatter<W>) -> fmt::Result {
+        f.debug_struct("AlgorithmIdentifier")
+            .field("oid", &self.oid)
+            .field("parameters", &self.parameters)
+            .finish()
+    }
+}
+
+impl<O: IdentifierValue, P: Encoding> Contents for AlgorithmIdentifierOf<O, P> {
+    ghost use Rattle.spki_core.specs.Words.{algorithm_in};
 
     ghost Value = { Algorithm P.Value };
 
-    ghost value = { algorithm_with P.value };
+    ghost value = { algorithm_in O.octets P.value };
 
     ghost contents = { AlgorithmContents P.encoding };
 
@@ -52,11 +70,11 @@ impl<P: Encoding> Contents for AlgorithmIdentifier<P> {
     ghost contents_of_bytes = { algorithm_of_bytes P.encoding P.encoding_of_bytes };
 }
 
-impl<P> TaggedBy for AlgorithmIdentifier<P> {
+impl<O, P> TaggedBy for AlgorithmIdentifierOf<O, P> {
     type Marker = SequenceTag;
 }
 
-impl<'a, P> Sequence<'a> for AlgorithmIdentifier<P> {
+impl<'a, O, P> Sequence<'a> for AlgorithmIdentifierOf<O, P> {
     ghost is_sequence = { refl };
 }
 
@@ -67,21 +85,23 @@ impl<P: EqualByValue> EqualByValue for AlgorithmIdentifier<P> {
         algorithm_decides P.value P.eq P.decides left (own_octets_of b.oid) a.parameters b.parameters };
 }
 
-impl<'a, M: Memory, P: Decode<&'a [u8], M>> DecodeValue<&'a [u8], M> for AlgorithmIdentifier<P> {
+impl<'a, M: Memory, O: ReadIdentifier<'a>, P: Decode<&'a [u8], M>> DecodeValue<&'a [u8], M>
+    for AlgorithmIdentifierOf<O, P> {
     ghost use Rattle.spki_core.specs.Words.{AlgorithmFault, algorithm_fault_none, algorithm_fault_first};
 
     ghost may_allocate = { AllocatesForParameters P.Decode.may_allocate };
 
     ghost fault = { AlgorithmFault P.encoding P.Decode.fault };
 
+    #[inline(always)]
     fn decode_value<R: Reader<&'a [u8]>>(
         memory: M,
         reader: &mut R,
         _header: Header,
-    ) -> Result<AlgorithmIdentifier<P>> {
-        let oid = ObjectIdentifier::decode(memory, reader)?;
+    ) -> Result<AlgorithmIdentifierOf<O, P>> {
+        let oid = IdentifierView::decode(memory, reader)?;
         let parameters = decode_last(memory, reader)?;
-        Ok(AlgorithmIdentifier { oid, parameters })
+        Ok(O::keep(AlgorithmView { oid, parameters }))
     }
 
     ghost fault_none = { algorithm_fault_none P.encoding P.Decode.fault P.delimited P.Decode.fault_none };
@@ -96,17 +116,20 @@ pub fn lemma_identifier_alone_takes_no_memory<'a, P: Decode<&'a [u8], M>, M: Mem
     ensures { NothingAskedAlone ⟦<AlgorithmIdentifier<P> as Decode<&'a [u8], M>>⟧.may_allocate }
 {}
 
-impl<P: Encode> EncodeValue for AlgorithmIdentifier<P> {
+impl<O: IdentifierValue, P: Encode> EncodeValue for AlgorithmIdentifierOf<O, P> {
     fn value_len(&self) -> Result<Length> {
-        (&self.oid, &self.parameters).part_len()
+        let oid = self.oid.as_identifier_view();
+        (&oid, &self.parameters).part_len()
     }
 
     fn append_value<W: Writer>(&self, writer: &mut W) -> Result<()> {
-        (&self.oid, &self.parameters).append_part(writer)
+        let oid = self.oid.as_identifier_view();
+        (&oid, &self.parameters).append_part(writer)
     }
 
     fn prepend_value(&self, writer: &mut BackWriter<'_>) {
-        (&self.oid, &self.parameters).prepend_part(writer);
+        let oid = self.oid.as_identifier_view();
+        (&oid, &self.parameters).prepend_part(writer);
     }
 
     ghost contents_relate = { algorithm_relates P.encoding P.has_encoding P.written_encoding P.encoding_relates };
@@ -146,9 +169,76 @@ impl<P> AlgorithmIdentifier<P> {
     }
 }
 
-impl<P: AnyValue> AlgorithmIdentifier<P> {
+impl<'a, P> AlgorithmView<'a, P> {
+    ghost use Rattle.spki_core.specs.Words.{own_octets_of, octets_of};
+
+    /// Copies the octets of the identifier.
+    #[inline(always)]
+    pub fn keep(self) -> AlgorithmIdentifier<P>
+        ensures oid { own_octets_of result.oid ≡ octets_of self.entry.oid }
+        ensures parameters { result.parameters ≡ self.entry.parameters }
+    {
+        ObjectIdentifier::keep(self)
+    }
+}
+
+/// What holds the object identifiers of algorithms that are read: `IdentifierView`, or `ObjectIdentifier` as a copy.
+pub trait ReadIdentifier<'a>: IdentifierValue + Drop {
+    ghost use Rattle.spki_core.specs.Words.{octets_of};
+
+    /// The algorithm of a view.
+    fn keep<P>(algorithm: AlgorithmView<'a, P>) -> AlgorithmIdentifierOf<Self, P>
+        ensures oid { Self.octets result.oid ≡ octets_of algorithm.entry.oid }
+        ensures parameters { result.parameters ≡ algorithm.entry.parameters };
+}
+
+impl<'a> ReadIdentifier<'a> for IdentifierView<'a> {
+    #[inline(always)]
+    fn keep<P>(algorithm: AlgorithmView<'a, P>) -> AlgorithmView<'a, P> {
+        algorithm
+    }
+}
+
+impl<'a> ReadIdentifier<'a> for ObjectIdentifier {
+    #[inline(always)]
+    fn keep<P>(algorithm: AlgorithmView<'a, P>) -> AlgorithmIdentifier<P> {
+        AlgorithmIdentifier {
+            oid: algorithm.oid.keep(),
+            parameters: algorithm.parameters,
+        }
+    }
+}
+
+impl<O: IdentifierValue, P: AnyValue> AlgorithmIdentifierOf<O, P> {
     ghost use Rattle.std.specs.Prelude.{Some, None};
-    ghost use Rattle.spki_core.specs.Words.{any_of};
+    ghost use Rattle.std.specs.Bool.{Decides};
+    ghost use Rattle.spki_core.specs.Words.{any_of, algorithm_in, viewed_with, IsHash};
+
+    /// The algorithm identifier, borrowed.
+    #[inline(always)]
+    pub fn as_view(&self) -> AlgorithmView<'_, AnyRef<'_>>
+        ensures { viewed_with any_of result ≡ algorithm_in O.octets P.any self.now }
+    {
+        AlgorithmView {
+            oid: self.oid.as_identifier_view(),
+            parameters: match &self.parameters {
+                Some(parameters) => Some(parameters.as_any_ref()),
+                None => None,
+            },
+        }
+    }
+
+    /// Whether this is the hash function D: its identifier, with NULL or without parameters. Both mean the same
+    /// function (RFC 4055 2.1), though `==` tells them apart.
+    pub fn is_hash<D: AssociatedOid>(&self) -> bool
+        ensures { Decides result (IsHash D.contents (algorithm_in O.octets P.any self.now)) }
+    {
+        let plain = match &self.parameters {
+            None => true,
+            Some(parameters) => parameters.as_any_ref() == AnyRef::null(),
+        };
+        plain && self.oid.as_identifier_view().as_bytes() == D::octets()
+    }
 
     /// The parameters, borrowed, or `ParametersMissing` if there are none.
     pub fn parameters_any(&self) -> Result<AnyRef<'_>>
@@ -183,10 +273,7 @@ impl<P: AnyValue> AsAlgorithmIdentifierRef for AlgorithmIdentifier<P> {
     fn as_algo_ref(&self) -> AlgorithmIdentifier<AnyRef<'_>> {
         AlgorithmIdentifier {
             oid: self.oid,
-            parameters: match &self.parameters {
-                Some(parameters) => Some(parameters.as_any_ref()),
-                None => None,
-            },
+            parameters: self.as_view().parameters,
         }
     }
 }

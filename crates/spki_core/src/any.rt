@@ -58,6 +58,7 @@ pub struct AnyRef<'a> {
 
 impl<'a> AnyRef<'a> {
     ghost use Rattle.spki_core.specs.AnyRefValue.{any_of};
+    ghost use Rattle.spki_core.specs.AlgorithmIdentifier.{same_any};
 
     /// `Overflow` if the contents are longer than `Length::MAX`.
     pub fn new(tag: Tag, contents: &'a [u8]) -> Result<AnyRef<'a>>
@@ -121,6 +122,14 @@ impl<'a> AnyRef<'a> {
         }
         let mut reader = SliceReader::new(self.contents)?;
         T::decode_value(memory, &mut reader, self.header())
+    }
+
+    /// Whether it is this tag without contents octets.
+    #[inline(always)]
+    pub fn is_alone(&self, tag: Tag) -> bool
+        ensures { result ≡ same_any (any_of self.now) (record { tag = tag.octet; contents = [] }) }
+    {
+        self.tag() == tag && self.contents.is_empty()
     }
 
     /// The header of the encoding.
@@ -228,9 +237,11 @@ impl<'a> TryClone for AnyRef<'a> {
 }
 
 /// A type that holds a tag with contents octets, and is encoded as these.
-pub trait AnyValue: EqualByValue {
+pub trait AnyValue: EqualByValue + Encode {
     ghost use Rattle.spki_core.specs.AnyRefValue.{any_of};
     ghost use Rattle.spki_core.specs.Laws.AnyValues.{HoldsAny};
+    ghost use Rattle.spki_core.specs.Laws.Held.{AreAnyHeld};
+    ghost use Rattle.spki_core.specs.Laws.WritesAs.{WritesAs};
 
     /// The tag and contents that are held.
     ghost any: { Self → TagAndContents };
@@ -240,6 +251,10 @@ pub trait AnyValue: EqualByValue {
         ensures { any_of result ≡ any self.now };
 
     ghost holds: { HoldsAny Self.value Self.encoding Self.any };
+
+    ghost writes: { WritesAs Self.value Self.has_encoding Self.written_encoding Self.any IsAny written_any };
+
+    ghost held: { AreAnyHeld Self.any };
 }
 
 impl EqualByValue for AnyRef<'_> {
@@ -251,6 +266,8 @@ impl EqualByValue for AnyRef<'_> {
 impl AnyValue for AnyRef<'_> {
     ghost use Rattle.spki_core.specs.AnyRefValue.{any_of};
     ghost use Rattle.spki_core.specs.Laws.AnyValues.{holds_itself};
+    ghost use Rattle.spki_core.specs.Laws.Held.{any_held};
+    ghost use Rattle.spki_core.specs.Laws.WritesAs.{writes_itself};
 
     ghost any = { any_of };
 
@@ -259,6 +276,10 @@ impl AnyValue for AnyRef<'_> {
     }
 
     ghost holds = { holds_itself any_of };
+
+    ghost writes = { writes_itself any_of IsAny written_any };
+
+    ghost held = { any_held };
 }
 
 /// Parameters that are encodings of any tag, and can be made without allocating.

@@ -45,14 +45,6 @@ impl<'a> IdentifierView<'a> {
         Ok(IdentifierView::over(bytes))
     }
 
-    /// The identifier of an algorithm.
-    #[inline(always)]
-    pub fn of<D: AssociatedOid>() -> IdentifierView<'a>
-        ensures { octets_of result ≡ D.contents }
-    {
-        IdentifierView::over(D::octets())
-    }
-
     /// The contents octets, at least one.
     #[inline(always)]
     pub fn as_bytes(&self) -> &'a [u8]
@@ -77,6 +69,43 @@ impl<'a> IdentifierView<'a> {
     {
         ObjectIdentifier::new(self.octets)
     }
+}
+
+/// A type that holds an object identifier: `ObjectIdentifier` or `IdentifierView`.
+pub trait IdentifierValue: Sized {
+    ghost use Rattle.spki_core.specs.ObjectIdentifierValue.{octets_of};
+
+    /// The contents octets that are held.
+    ghost octets: { Self → List ℕ };
+
+    /// The identifier of an algorithm.
+    fn named<D: AssociatedOid>() -> Self
+        ensures { octets result ≡ D.contents };
+
+    /// The identifier, borrowed.
+    fn as_identifier_view(&self) -> IdentifierView<'_>
+        ensures { octets_of result ≡ octets self.now };
+
+    ghost identifies: { (oid : Self) → IsIdentifier (octets oid) };
+}
+
+impl<'a> IdentifierValue for IdentifierView<'a> {
+    ghost use Rattle.spki_core.specs.ObjectIdentifierValue.{octets_of};
+    ghost use Rattle.spki_core.specs.Laws.Held.{viewed_held};
+
+    ghost octets = { octets_of };
+
+    #[inline(always)]
+    fn named<D: AssociatedOid>() -> IdentifierView<'a> {
+        IdentifierView::over(D::octets())
+    }
+
+    #[inline(always)]
+    fn as_identifier_view(&self) -> IdentifierView<'_> {
+        *self
+    }
+
+    ghost identifies = { viewed_held };
 }
 
 impl Contents for IdentifierView<'_> {

@@ -2,27 +2,24 @@
 #![tactic(auto)]
 
 mod algorithm_identifier;
-mod algorithm_view;
 mod any;
 mod context_specific;
 mod field;
-mod hash_algorithm;
 mod identifier_view;
 mod object_identifier;
 mod owned_any;
 mod strict;
 
 pub use algorithm_identifier::{
-    AlgorithmIdentifier, AlgorithmIdentifierRef, AsAlgorithmIdentifierRef,
-    lemma_identifier_alone_takes_no_memory,
+    AlgorithmIdentifier, AlgorithmIdentifierOf, AlgorithmIdentifierRef, AlgorithmView,
+    AsAlgorithmIdentifierRef, ReadIdentifier, lemma_identifier_alone_takes_no_memory,
 };
-pub use algorithm_view::AlgorithmView;
 pub use any::{AnyParams, AnyRef, AnyValue};
 pub use context_specific::{
     ContextSpecificRef, is_field_next, read_context_specific, read_explicit,
 };
 pub use field::{encode_field, field_len, prepend_field, read_field};
-pub use identifier_view::IdentifierView;
+pub use identifier_view::{IdentifierValue, IdentifierView};
 pub use object_identifier::{AssociatedOid, ObjectIdentifier, ObjectIdentifierTag};
 pub use owned_any::Any;
 pub use strict::written_default;

@@ -10,7 +10,7 @@ ghost use Rattle.std.specs.Str.{bytes_eq};
 ghost use Rattle.std.specs.Cmp.Rules.{comparing, hashing};
 ghost use Rattle.der_core.specs.Words.{object_identifier};
 
-use crate::identifier_view::IdentifierView;
+use crate::identifier_view::{IdentifierValue, IdentifierView};
 use der_core::{
     BackWriter, Contents, DecodeValue, EncodeValue, EqualByValue, Error, ErrorKind, Header, Length,
     Memory, Reader, Result, Tag, TagMarker, TaggedBy, Writer,
@@ -60,10 +60,18 @@ pub trait AssociatedOid {
     /// `OID`, for contracts.
     fn octets() -> &'static [u8]
         ensures { result.now ≡ contents };
+
+    /// `OID` with zeros behind it. A constant in its place saves copying a number of octets that is known only at run
+    /// time.
+    fn padded() -> [u8; 39]
+        ensures { take (length contents) result ≡ contents }
+    {
+        ObjectIdentifier::new(Self::octets()).octets
+    }
 }
 
 impl ObjectIdentifier {
-    ghost use Rattle.spki_core.specs.ObjectIdentifierValue.{own_octets_of, octets_of};
+    ghost use Rattle.spki_core.specs.ObjectIdentifierValue.{own_octets_of};
 
     /// The octets are known to be valid.
     pub(crate) fn new(bytes: &[u8]) -> ObjectIdentifier
@@ -97,31 +105,35 @@ impl ObjectIdentifier {
         &self.octets[..self.length as usize]
     }
 
-    /// The identifier whose contents octets are the first `length` of these; the others are zeros. It avoids copying a
-    /// number of octets that is known only at run time.
-    #[inline(always)]
-    pub fn padded(octets: [u8; 39], length: u8) -> ObjectIdentifier
-        requires fits { length ≤ 39 }
-        requires valid { IsTrue (specs.is_identifier (take length octets)) }
-        ensures { own_octets_of result ≡ take length octets }
-    {
-        ObjectIdentifier { octets, length }
-    }
-
-    /// The identifier, borrowed.
-    #[inline(always)]
-    pub fn as_view(&self) -> IdentifierView<'_>
-        ensures { octets_of result ≡ own_octets_of self.now }
-    {
-        IdentifierView::over(self.as_bytes())
-    }
-
     /// The identifier of an algorithm.
+    #[inline(always)]
     pub fn of<D: AssociatedOid>() -> ObjectIdentifier
         ensures { own_octets_of result ≡ D.contents }
     {
-        ObjectIdentifier::new(D::octets())
+        ObjectIdentifier {
+            octets: D::padded(),
+            length: D::octets().len() as u8,
+        }
     }
+}
+
+impl IdentifierValue for ObjectIdentifier {
+    ghost use Rattle.spki_core.specs.ObjectIdentifierValue.{own_octets_of};
+    ghost use Rattle.spki_core.specs.Laws.Held.{identifier_held};
+
+    ghost octets = { own_octets_of };
+
+    #[inline(always)]
+    fn named<D: AssociatedOid>() -> ObjectIdentifier {
+        ObjectIdentifier::of::<D>()
+    }
+
+    #[inline(always)]
+    fn as_identifier_view(&self) -> IdentifierView<'_> {
+        IdentifierView::over(self.as_bytes())
+    }
+
+    ghost identifies = { identifier_held };
 }
 
 impl PartialEq for ObjectIdentifier {

@@ -123,6 +123,8 @@ impl EqualByValue for Any {
 impl AnyValue for Any {
     ghost use Rattle.spki_core.specs.OwnedAnyValue.{own_any_of};
     ghost use Rattle.spki_core.specs.Laws.AnyValues.{holds_itself};
+    ghost use Rattle.spki_core.specs.Laws.Held.{own_any_held};
+    ghost use Rattle.spki_core.specs.Laws.WritesAs.{writes_itself};
 
     ghost any = { own_any_of };
 
@@ -134,6 +136,10 @@ impl AnyValue for Any {
     }
 
     ghost holds = { holds_itself own_any_of };
+
+    ghost writes = { writes_itself own_any_of IsAny written_any };
+
+    ghost held = { own_any_held };
 }
 
 impl AnyParams<Global> for Any {

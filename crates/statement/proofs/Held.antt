@@ -6,7 +6,8 @@ use Rattle.std.specs.declared.vec.Vec as vecs
 use Rattle.std.specs.Int.Digits.{number_from_digits}
 use Rattle.spki_core.specs.Any as anys
 use Rattle.spki_core.specs.AlgorithmValue.{algorithm_with}
-use Rattle.spki_core.specs.declared.algorithm_identifier.AlgorithmIdentifier.{AlgorithmIdentifier}
+use Rattle.spki_core.specs.declared.algorithm_identifier.AlgorithmIdentifierOf.{AlgorithmIdentifierOf}
+use Rattle.spki_core.specs.declared.object_identifier.ObjectIdentifier.{ObjectIdentifier}
 use Rattle.pkcs1.specs.PrivateKeyValue.{key_with, other_of}
 use Rattle.pkcs1.specs.declared.private_key.PrivateKeyOf.{PrivateKeyOf}
 use Rattle.pkcs1.specs.declared.private_key.other_prime_info.OtherPrimeInfo.{OtherPrimeInfo}
@@ -17,8 +18,8 @@ use Rattle.pkcs8_core.specs.Held as containers
 use Rattle.pkcs8_core.specs.declared.info.PrivateKeyInfoRef.{PrivateKeyInfoRef}
 use Rattle.pkcs1_params.specs.PssValue.{pss_with}
 use Rattle.pkcs1_params.specs.OaepValue.{oaep_with}
-use Rattle.pkcs1_params.specs.declared.pss.RsaPssParams.{RsaPssParams}
-use Rattle.pkcs1_params.specs.declared.oaep.RsaOaepParams.{RsaOaepParams}
+use Rattle.pkcs1_params.specs.declared.pss.PssParamsOf.{PssParamsOf}
+use Rattle.pkcs1_params.specs.declared.oaep.OaepParamsOf.{OaepParamsOf}
 use Rattle.statement.specs.Statement.{OtherPrime}
 use Rattle.statement.specs.Held.{algorithm_identifier, rsa_pss_params, rsa_oaep_params, rsa_private_key}
 use Rattle.statement.specs.Held.{rsa_private_key_view, other_prime_info, private_key_info_ref}
@@ -39,29 +40,31 @@ maps f g [] = refl
 maps f g (x ∷ xs) = ap (λ ys. f (g x) ∷ ys) (maps f g xs)
 
 algorithm_holds : {X P Q : Type 0} (f : P → Q) (g : X → P) (h : X → Q) → ((x : X) → f (g x) ≡ h x)
-    → (a : AlgorithmIdentifier X) → algorithm_from f (algorithm_with g a) ≡ algorithm_identifier h a
+    → (a : AlgorithmIdentifierOf ObjectIdentifier X) → algorithm_from f (algorithm_with g a) ≡ algorithm_identifier h a
 algorithm_holds {Q = Q} f g h e a =
     ap (λ (o : Option Q). record { oid = (algorithm_identifier h a).oid; parameters = o })
     (option_maps f g h e a.parameters)
 
 module _ {X : Type 0} (any : X → anys.TagAndContents) where
-  plain_holds : (a : AlgorithmIdentifier X)
+  plain_holds : (a : AlgorithmIdentifierOf ObjectIdentifier X)
       → plain_from (algorithm_with any a) ≡ algorithm_identifier (λ x. any_from (any x)) a
   plain_holds a = algorithm_holds any_from any (λ x. any_from (any x)) (λ x. refl) a
 
-  mask_holds : (a : AlgorithmIdentifier (AlgorithmIdentifier X))
+  mask_holds : (a : AlgorithmIdentifierOf ObjectIdentifier (AlgorithmIdentifierOf ObjectIdentifier X))
       → algorithm_from plain_from (algorithm_with (algorithm_with any) a)
       ≡ algorithm_identifier (algorithm_identifier (λ x. any_from (any x))) a
   mask_holds a =
       algorithm_holds plain_from (algorithm_with any) (algorithm_identifier (λ x. any_from (any x))) plain_holds a
 
-  pub pss_holds : (p : RsaPssParams X) → pss.from (pss_with any p) ≡ rsa_pss_params (λ x. any_from (any x)) p
+  pub pss_holds : (p : PssParamsOf ObjectIdentifier X)
+      → pss.from (pss_with any p) ≡ rsa_pss_params (λ x. any_from (any x)) p
   pss_holds p =
       let h = plain_holds p.hash in
       let g = mask_holds p.mask_gen in
       λ i. record { hash = h i; mask_gen = g i; salt_len = p.salt_len; trailer_field = 1 }
 
-  pub oaep_holds : (p : RsaOaepParams X) → oaep.from (oaep_with any p) ≡ rsa_oaep_params (λ x. any_from (any x)) p
+  pub oaep_holds : (p : OaepParamsOf ObjectIdentifier X)
+      → oaep.from (oaep_with any p) ≡ rsa_oaep_params (λ x. any_from (any x)) p
   oaep_holds p =
       let h = plain_holds p.hash in
       let g = mask_holds p.mask_gen in

@@ -11,9 +11,9 @@ use Rattle.der_core.specs.declared.integer.owned.Uint.{Uint}
 use Rattle.spki_core.specs.declared.any.AnyRef.{AnyRef}
 use Rattle.spki_core.specs.declared.owned_any.Any.{Any}
 use Rattle.spki_core.specs.declared.object_identifier.ObjectIdentifier.{ObjectIdentifier}
-use Rattle.spki_core.specs.declared.algorithm_identifier.AlgorithmIdentifier.{AlgorithmIdentifier}
-use Rattle.pkcs1_params.specs.declared.pss.RsaPssParams.{RsaPssParams}
-use Rattle.pkcs1_params.specs.declared.oaep.RsaOaepParams.{RsaOaepParams}
+use Rattle.spki_core.specs.declared.algorithm_identifier.AlgorithmIdentifierOf.{AlgorithmIdentifierOf}
+use Rattle.pkcs1_params.specs.declared.pss.PssParamsOf.{PssParamsOf}
+use Rattle.pkcs1_params.specs.declared.oaep.OaepParamsOf.{OaepParamsOf}
 use Rattle.pkcs1.specs.declared.public_key.RsaPublicKey.{RsaPublicKey}
 use Rattle.pkcs1.specs.declared.private_key.PrivateKeyOf.{PrivateKeyOf}
 use Rattle.pkcs1.specs.declared.private_key.other_prime_info.OtherPrimeInfo.{OtherPrimeInfo}
@@ -78,7 +78,7 @@ any v = record { tag = v.tag.octet; contents = v.contents.items }
 abbrev pub object_identifier : ObjectIdentifier → List ℕ
 object_identifier oid = take oid.length oid.octets
 
-abbrev pub algorithm_identifier : {X V : Type 0} → (X → V) → AlgorithmIdentifier X → Algorithm V
+abbrev pub algorithm_identifier : {X V : Type 0} → (X → V) → AlgorithmIdentifierOf ObjectIdentifier X → Algorithm V
 algorithm_identifier parameters a =
     record { oid = object_identifier a.oid; parameters = option_map parameters a.parameters }
 
@@ -90,7 +90,7 @@ private_key_info_ref info = record {
 }
 
 -- A trailer field is always trailerFieldBC.
-abbrev pub rsa_pss_params : {X : Type 0} → (X → TagAndContents) → RsaPssParams X → PssParameters
+abbrev pub rsa_pss_params : {X : Type 0} → (X → TagAndContents) → PssParamsOf ObjectIdentifier X → PssParameters
 rsa_pss_params parameters p = record {
   hash = algorithm_identifier parameters p.hash;
   mask_gen = algorithm_identifier (algorithm_identifier parameters) p.mask_gen;
@@ -98,7 +98,7 @@ rsa_pss_params parameters p = record {
   trailer_field = 1;
 }
 
-abbrev pub rsa_oaep_params : {X : Type 0} → (X → TagAndContents) → RsaOaepParams X → OaepParameters
+abbrev pub rsa_oaep_params : {X : Type 0} → (X → TagAndContents) → OaepParamsOf ObjectIdentifier X → OaepParameters
 rsa_oaep_params parameters p = record {
   hash = algorithm_identifier parameters p.hash;
   mask_gen = algorithm_identifier (algorithm_identifier parameters) p.mask_gen;

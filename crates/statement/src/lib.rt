@@ -30,8 +30,8 @@ pub use memory::{
     read_private_key_as_struct,
 };
 use pkcs1::{
-    RsaOaepParamsRef, RsaOaepParamsView, RsaPrivateKeyRef, RsaPrivateKeyView, RsaPssParamsRef,
-    RsaPssParamsView, RsaPublicKeyRef, lemma_oaep_spellings, lemma_pss_spellings,
+    EncodeParams, RsaOaepParamsRef, RsaOaepParamsView, RsaPrivateKeyRef, RsaPrivateKeyView,
+    RsaPssParamsRef, RsaPssParamsView, RsaPublicKeyRef, lemma_oaep_spellings, lemma_pss_spellings,
 };
 use pkcs8_core::{PrivateKeyInfoRef, rsa_from_pkcs8_der};
 

@@ -7,21 +7,23 @@ use Rattle.der_core.specs.Laws.Equality.{both_decide, number_decides}
 use Rattle.spki_core.specs.Laws.Algorithms.{algorithm_decides}
 use Rattle.spki_core.specs.AlgorithmValue.{algorithm_with}
 use Rattle.spki_core.specs.ObjectIdentifierValue.{own_octets_of}
-use Rattle.spki_core.specs.declared.algorithm_identifier.AlgorithmIdentifier.{AlgorithmIdentifier}
+use Rattle.spki_core.specs.declared.algorithm_identifier.AlgorithmIdentifierOf.{AlgorithmIdentifierOf}
+use Rattle.spki_core.specs.declared.object_identifier.ObjectIdentifier.{ObjectIdentifier}
 use Rattle.pkcs1_params.specs.Parameters.{PssParameters, OaepParameters}
 
 -- What decides whether two identifiers are equal.
-abbrev pub eq_with : {X : Type 0} → (X → X → Bool) → AlgorithmIdentifier X → AlgorithmIdentifier X → Bool
+abbrev pub eq_with : {X : Type 0} → (X → X → Bool) → AlgorithmIdentifierOf ObjectIdentifier X
+    → AlgorithmIdentifierOf ObjectIdentifier X → Bool
 eq_with E a b = bytes_eq (own_octets_of a.oid) (own_octets_of b.oid) && option_eq E a.parameters b.parameters
 
 pub plain_decides : {X V : Type 0} (any : X → V) (E : X → X → Bool) → ((x y : X) → Decides (E x y) (any x ≡ any y))
-    → (a b : AlgorithmIdentifier X)
+    → (a b : AlgorithmIdentifierOf ObjectIdentifier X)
     → Decides (eq_with E a b) (algorithm_with any a ≡ algorithm_with any b)
 plain_decides any E d a b =
     algorithm_decides any E d (own_octets_of a.oid) (own_octets_of b.oid) a.parameters b.parameters
 
 pub mask_decides : {X V : Type 0} (any : X → V) (E : X → X → Bool) → ((x y : X) → Decides (E x y) (any x ≡ any y))
-    → (a b : AlgorithmIdentifier (AlgorithmIdentifier X))
+    → (a b : AlgorithmIdentifierOf ObjectIdentifier (AlgorithmIdentifierOf ObjectIdentifier X))
     → Decides (eq_with (eq_with E) a b) (algorithm_with (algorithm_with any) a ≡ algorithm_with (algorithm_with any) b)
 mask_decides any E d = plain_decides (algorithm_with any) (eq_with E) (plain_decides any E d)
 

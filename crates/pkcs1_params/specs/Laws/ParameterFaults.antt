@@ -18,7 +18,7 @@ use Rattle.der_core.specs.Laws.Tells.{is_value}
 use Rattle.der_core.specs.Laws.Encodings.{tlv_delimited, tlv_split}
 use Rattle.der_core.specs.Encodings.{Is, Then, IsDelimited, Joins}
 use Rattle.der_core.specs.Tlv.{Tlv}
-use Rattle.spki_core.specs.Laws.Carried.{Carried, any_carried, algorithm_carried}
+use Rattle.spki_core.specs.Laws.Carried.{Carried, algorithm_carried}
 use Rattle.spki_core.specs.Laws.Fields.{rejected_step, read_step}
 use Rattle.spki_core.specs.AlgorithmIdentifier.{Algorithm, AlgorithmContents, AlgorithmIdentifier, PlainAlgorithm}
 use Rattle.spki_core.specs.AlgorithmIdentifier.{MaskAlgorithm}
@@ -166,18 +166,18 @@ module _ {P X : Type 0} {value : X → P} {any : X → TagAndContents} (encoding
   hash_none : NoField 0 PlainAlgorithm (HashFault encoding Fault)
   hash_none =
       inside tag_0 0 refl (AlgorithmIdentifier encoding) (PlainFault encoding Fault) plain_is plain_none PlainAlgorithm
-      (algorithm_carried (any_carried holds))
+      (algorithm_carried holds.carried)
 
   mask_gen_none : NoField 1 MaskAlgorithm (MaskFault encoding Fault)
   mask_gen_none =
       inside tag_1 1 refl (AlgorithmIdentifier (AlgorithmIdentifier encoding))
       (PlainFault (AlgorithmIdentifier encoding) (PlainFault encoding Fault)) mask_is mask_none MaskAlgorithm
-      (algorithm_carried (algorithm_carried (any_carried holds)))
+      (algorithm_carried (algorithm_carried holds.carried))
 
   source_none : NoField 2 PlainAlgorithm (SourceFault encoding Fault)
   source_none =
       inside tag_2 2 refl (AlgorithmIdentifier encoding) (PlainFault encoding Fault) plain_is plain_none PlainAlgorithm
-      (algorithm_carried (any_carried holds))
+      (algorithm_carried holds.carried)
 
   -- the hash function, the mask generation function, and what follows
   module _ {W : Type 0} (hash : W → Algorithm TagAndContents) (mask_gen : W → Algorithm (Algorithm TagAndContents))

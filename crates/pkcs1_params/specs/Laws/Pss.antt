@@ -1,17 +1,12 @@
--- RSASSA-PSS parameters: each encoding means one value and is bytes, and what is written of a value is the shortest of
--- its encodings.
+-- RSASSA-PSS parameters: each encoding means one value.
 use Rattle.std.proofs.Common.{List, [], ◌∷◌, arith}
 use Rattle.der_core.specs.Integer.{Small}
 use Rattle.der_core.specs.Laws.Integer.{small_delimited}
-use Rattle.der_core.specs.Encodings.{IsOfBytes, MeansOne}
-use Rattle.der_core.specs.Writing.{WritesEncodings, WritesLeast}
+use Rattle.der_core.specs.Encodings.{MeansOne}
 use Rattle.spki_core.specs.Explicit.{Field, field}
-use Rattle.spki_core.specs.Laws.FieldEncodings.{value_step, fields_of_bytes as joins_of_bytes}
-use Rattle.pkcs1_params.specs.Laws.FieldValues.{fields_of_bytes}
+use Rattle.spki_core.specs.Laws.FieldEncodings.{value_step}
 use Rattle.pkcs1_params.specs.Laws.HashFields.{hash_fields_step}
-use Rattle.pkcs1_params.specs.Parameters.{TrailerField, PssParameters, pss_fields, PssContents}
-use Rattle.pkcs1_params.specs.Laws.Parts.{parts_hold, parts_shortest}
-use Rattle.pkcs1_params.specs.Parts.{parts_of, pss_values, HasFields, written_fields}
+use Rattle.pkcs1_params.specs.Parameters.{TrailerField, PssParameters, PssContents}
 use Rattle.pkcs1_params.specs.Laws.SmallFields.{trailer_delimited}
 
 -- saltLength and trailerField
@@ -28,12 +23,3 @@ pss_means_one v w c p q =
     (field 3 TrailerField 1 w.trailer_field ∷ []) (omega arith, tt) (omega arith, tt) a.2 a.3 a.4 in
     let e = value_step 3 TrailerField trailer_delimited 1 v.trailer_field w.trailer_field [] [] tt tt b.1 b.2 b.3 in
     λ i. record { hash = a.0 i; mask_gen = a.1 i; salt_len = b.0 i; trailer_field = e.0 i }
-
-pub pss_of_bytes : IsOfBytes PssContents
-pss_of_bytes p = joins_of_bytes (pss_fields p) (fields_of_bytes (pss_values p))
-
-pub pss_relates : WritesEncodings PssContents (λ p. HasFields (pss_values p) 0) (λ p. written_fields (pss_values p) 0)
-pss_relates p = parts_hold (parts_of (pss_values p))
-
-pub pss_shortest : WritesLeast PssContents (λ p. HasFields (pss_values p) 0) (λ p. written_fields (pss_values p) 0)
-pss_shortest p = parts_shortest (parts_of (pss_values p))

@@ -4,8 +4,6 @@ use Rattle.std.specs.Option.{option_map}
 use Rattle.der_core.specs.Optional.{Optional}
 use Rattle.der_core.specs.Tlv.{Tlv}
 use Rattle.der_core.specs.Laws.Growing.{tlv_recast}
-use Rattle.spki_core.specs.Any.{TagAndContents, Any}
-use Rattle.spki_core.specs.Laws.AnyValues.{HoldsAny}
 use Rattle.spki_core.specs.AlgorithmIdentifier.{Algorithm, AlgorithmContents}
 use Rattle.spki_core.specs.AlgorithmValue.{algorithm_with}
 
@@ -17,17 +15,6 @@ pub record Carried {X V W : Type 0} (value : X → V) (G : V → List ℕ → Ty
   pub meant : (x : X) → other x ≡ there (value x)
   pub encoding_there : (v : V) (b : List ℕ) → G v b → H (there v) b
   pub encoding_back : (w : W) (b : List ℕ) → H w b → G (back w) b
-
-pub any_carried : {X V : Type 0} {value : X → V} {encoding : V → List ℕ → Type 0} {any : X → TagAndContents}
-    → HoldsAny value encoding any → Carried value encoding any Any
-any_carried h =
-    record {
-      there = h.to_any;
-      back = h.of_any;
-      meant = h.held;
-      encoding_there = h.encoding_to;
-      encoding_back = h.encoding_of;
-    }
 
 -- Algorithm identifiers, by their parameters.
 abbrev map_parameters : {V W : Type 0} → (V → W) → Algorithm V → Algorithm W

@@ -1,11 +1,9 @@
 -- Bytes with a fault are no object identifier, and no algorithm identifier, and have one first fault.
-use Rattle.std.proofs.Common.{ℕ, List, [], ◌∷◌, ◌++◌, ◌≡◌, ◌≢◌, inl, inr, length, refl, ap, sym, ◌∙◌, arith}
+use Rattle.std.proofs.Common.{ℕ, List, [], ◌∷◌, ◌++◌, ◌≡◌, length, refl, ap, sym, ◌∙◌, arith}
 use Rattle.std.proofs.Common.{length-append, Result, Ok, Err}
 use Rattle.der_core.specs.declared.error.ErrorKind.{ErrorKind}
-use Rattle.der_core.specs.declared.tag.Tag.{Tag}
-use Rattle.der_core.specs.ErrorKinds.{IsUnexpected}
 use Rattle.der_core.specs.declared.error.ErrorKind.TheVariants.{Incomplete, OidMalformed}
-use Rattle.der_core.specs.Faults.{EncodingFault, Faulty, IsTheFault, LastFault, AreNone, AreFirst}
+use Rattle.der_core.specs.Faults.{EncodingFault, LastFault, AreNone, AreFirst}
 use Rattle.der_core.specs.Laws.Faults.{encoding_fault_none, encoding_fault_first, then_fault_none, then_fault_first}
 use Rattle.der_core.specs.Laws.Faults.{last_fault_none, last_fault_first}
 use Rattle.der_core.specs.Laws.Headers.{tlv_header, header_complete, header_at-tells}
@@ -18,9 +16,9 @@ use Rattle.der_core.specs.Reading.{NoneHas, NoneIn, TellsOfBytes}
 use Rattle.der_core.specs.Tags.{object_identifier}
 use Rattle.der_core.specs.Laws.Encodings.{joins_last}
 use Rattle.der_core.specs.Encodings.{IsDelimited, Joins}
-use Rattle.spki_core.specs.Any.{Any, TagAndContents}
+use Rattle.spki_core.specs.Any.{Any}
 use Rattle.spki_core.specs.AlgorithmIdentifier.{Algorithm, AlgorithmContents}
-use Rattle.spki_core.specs.Faults.{IdentifierFault, AlgorithmFault, AnyFault, OtherAnyFault, headless, too_few}
+use Rattle.spki_core.specs.Faults.{IdentifierFault, AlgorithmFault, AnyFault, headless, too_few}
 use Rattle.spki_core.specs.Laws.Identifiers.{identifier_delimited}
 use Rattle.spki_core.specs.ObjectIdentifier.{IdentifierContents, ObjectIdentifier}
 
@@ -93,12 +91,3 @@ any_one j k (Ok r) p q = p ∙ sym q
 
 pub any_fault_first : AreFirst AnyFault
 any_fault_first j k i within p q = any_one j k (header_at i) (any_at j i p) (any_at k i q)
-
--- Of another tag than the expected one, the error names both.
-pub unexpected_told : (tag : Tag) (Fault : ErrorKind → List ℕ → Type 0) (any : TagAndContents) (kind : ErrorKind)
-    (asked : Type 0) → any.tag ≢ tag.octet
-    → Faulty kind ((any.tag ≡ tag.octet) × asked) (IsTheFault (OtherAnyFault tag Fault) any kind)
-    → IsUnexpected tag any.tag kind
-unexpected_told tag Fault any kind asked other (inl (_, (same, _))) = absurd (other same)
-unexpected_told tag Fault any kind asked other (inr (_, (inl (_, told)), _)) = told
-unexpected_told tag Fault any kind asked other (inr (_, (inr (same, _)), _)) = absurd (other same)

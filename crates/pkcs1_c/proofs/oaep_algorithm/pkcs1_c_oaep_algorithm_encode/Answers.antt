@@ -1,25 +1,20 @@
-use Rattle.std.proofs.Common.{◌∙◌, ap}
 use Rattle.pkcs1_params.specs.Algorithms.{id_rsaes_oaep, RsaOaepAlgorithm}
-use Rattle.pkcs1_params.specs.Parameters.{RsaOaepParams, with_parameters}
+use Rattle.pkcs1_params.specs.Parameters.{RsaOaepParams}
 use Rattle.pkcs1_c.specs.StructValues.{oaep_seen}
 use Rattle.pkcs1_c.specs.StructErrors.{OaepFieldError}
-use Rattle.pkcs1_c.proofs.AlgorithmWrites.{identifier_written, parameters_fit}
+use Rattle.pkcs1_c.proofs.AlgorithmWrites.{parameters_fit}
 use Rattle.pkcs1_c.proofs.Fits.{oaep_fits}
 use Rattle.pkcs1_c.proofs.HeldParameters.{oaep_none}
 use Rattle.pkcs1_c.proofs.StructErrors.{oaep_part}
 use Rattle.pkcs1_c.proofs.Writes.{fields_refused, fields_written}
 use Rattle.pkcs1_c.proofs.oaep_algorithm.pkcs1_c_oaep_algorithm_encode.Goals as goal
 
-pub write_encoding-requires : goal.write_encoding-requires
-write_encoding-requires c = rw c.to_algorithm.ensures.means c.to_algorithm.ensures.some
-
 pub returns-in-Ok : goal.returns-in-Ok
 returns-in-Ok c =
-    let is =
-    c.to_algorithm.ensures.means ∙ ap (with_parameters id_rsaes_oaep) (c.keep-held.ensures ∙ c.in-Ok.ensures.ok) in
     let seen = oaep_seen c.args.params.now in
-    fields_written OaepFieldError RsaOaepAlgorithm seen (oaep_none c.in-Ok.made seen c.in-Ok.ensures.ok)
-    (identifier_written RsaOaepParams is c.write_encoding.ensures)
+    let is = c.in-Ok.ensures.ok in
+    fields_written OaepFieldError RsaOaepAlgorithm seen (oaep_none c.in-Ok.made seen is)
+    (rw is at c.write_algorithm.ensures)
 
 pub returns-in-Err : goal.returns-in-Err
 returns-in-Err c =

@@ -1,25 +1,20 @@
-use Rattle.std.proofs.Common.{◌∙◌, ap}
 use Rattle.pkcs1_params.specs.Algorithms.{id_rsassa_pss, RsaPssAlgorithm}
-use Rattle.pkcs1_params.specs.Parameters.{RsaPssParams, with_parameters}
+use Rattle.pkcs1_params.specs.Parameters.{RsaPssParams}
 use Rattle.pkcs1_c.specs.StructValues.{pss_seen}
 use Rattle.pkcs1_c.specs.StructErrors.{PssFieldError}
-use Rattle.pkcs1_c.proofs.AlgorithmWrites.{identifier_written, parameters_fit}
+use Rattle.pkcs1_c.proofs.AlgorithmWrites.{parameters_fit}
 use Rattle.pkcs1_c.proofs.Fits.{pss_fits}
 use Rattle.pkcs1_c.proofs.HeldParameters.{pss_none}
 use Rattle.pkcs1_c.proofs.StructErrors.{pss_part}
 use Rattle.pkcs1_c.proofs.Writes.{fields_refused, fields_written}
 use Rattle.pkcs1_c.proofs.pss_algorithm.pkcs1_c_pss_algorithm_encode.Goals as goal
 
-pub write_encoding-requires : goal.write_encoding-requires
-write_encoding-requires c = rw c.to_algorithm.ensures.means c.to_algorithm.ensures.some
-
 pub returns-in-Ok : goal.returns-in-Ok
 returns-in-Ok c =
-    let is =
-    c.to_algorithm.ensures.means ∙ ap (with_parameters id_rsassa_pss) (c.keep-held.ensures ∙ c.in-Ok.ensures.ok) in
     let seen = pss_seen c.args.params.now in
-    fields_written PssFieldError RsaPssAlgorithm seen (pss_none c.in-Ok.made seen c.in-Ok.ensures.ok)
-    (identifier_written RsaPssParams is c.write_encoding.ensures)
+    let is = c.in-Ok.ensures.ok in
+    fields_written PssFieldError RsaPssAlgorithm seen (pss_none c.in-Ok.made seen is)
+    (rw is at c.write_algorithm.ensures)
 
 pub returns-in-Err : goal.returns-in-Err
 returns-in-Err c =

@@ -10,23 +10,23 @@ loop-mask-init g c =
 
 pub invariant_of-spelling : goal.invariant_of-spelling
 invariant_of-spelling g c =
-    let t = g.T.DefaultFields in
+    let t = g.T.EncodeParams in
     record {
-      range = mask_in_range (fields_with t.values (t.params c.args.params.now)) c.args.count c.loop-mask.mask
+      range = mask_in_range (fields_with t.values (t.params c.args.params)) c.args.count c.loop-mask.mask
           c.requires.masks c.loop-mask-test.true;
       known = c.requires.changed;
     }
 
 pub returns-in_err-to_vec-clause-err : goal.returns-in_err-to_vec-clause-err
 returns-in_err-to_vec-clause-err g c =
-    let t = g.T.DefaultFields in
+    let t = g.T.EncodeParams in
     let e = err_from_is_err_and c.from_residual.result c.from_residual.ensures.1 in
-    rw (e.1, e.2) (memory_alone (fields_with t.values (t.params c.args.params.now)) c.args.count c.loop-mask.mask
+    rw (e.1, e.2) (memory_alone (fields_with t.values (t.params c.args.params)) c.args.count c.loop-mask.mask
     c.requires.masks c.loop-mask-test.true c.in_err-to_vec.ensures.err)
 
 pub loop-mask-preserved : goal.loop-mask-preserved
 loop-mask-preserved g c =
-    let t = g.T.DefaultFields in
-    under_more (fields_with t.values (t.params c.args.params.now)) c.loop-mask.mask c.loop-mask.encodings
+    let t = g.T.EncodeParams in
+    under_more (fields_with t.values (t.params c.args.params)) c.loop-mask.mask c.loop-mask.encodings
     c.push.new.self c.in_ok-to_vec.field-0 c.in_ok-push.ensures.items c.loop-mask.invariant
     c.in_ok-to_vec.ensures.ok

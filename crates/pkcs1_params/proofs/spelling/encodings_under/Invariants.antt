@@ -4,4 +4,4 @@ use Rattle.pkcs1_params.proofs.spelling.encodings_under.Given as goal
 
 abbrev pub invariant-loop-mask : goal.invariant-loop-mask
 invariant-loop-mask g l =
-    let t = g.T.DefaultFields in AreUnder (fields_with t.values (t.params l.params)) l.mask (encodings_in l.encodings)
+    let t = g.T.EncodeParams in AreUnder (fields_with t.values (t.params l.params)) l.mask (encodings_in l.encodings)

@@ -5,7 +5,8 @@ use Rattle.spki_core.specs.OwnedAnyValue.{own_any_of}
 use Rattle.spki_core.specs.declared.owned_any.Any.{Any}
 use Rattle.pkcs1_params.specs.Laws.FaultsTold.{the_meaning}
 use Rattle.pkcs1_params.specs.Laws.ParameterFaults.{pss_told}
-use Rattle.pkcs1_params.specs.declared.pss.RsaPssParams.{RsaPssParams}
+use Rattle.spki_core.specs.declared.object_identifier.ObjectIdentifier.{ObjectIdentifier}
+use Rattle.pkcs1_params.specs.declared.pss.PssParamsOf.{PssParamsOf}
 use Rattle.pkcs1_params.specs.declared.error.Error.TheVariants as error
 use Rattle.statement.specs.Statement.{Decodes, PssEncoding}
 use Rattle.statement.specs.Held.{rsa_pss_params, any}
@@ -21,7 +22,8 @@ returns-in-Ok c =
 
 pub returns-in-Err : goal.returns-in-Err
 returns-in-Err c =
-    no_value (λ (v : Option (RsaPssParams Any)). Decodes PssEncoding c.args.bytes.now
+    no_value (λ (v : Option (PssParamsOf ObjectIdentifier Any)).
+    Decodes PssEncoding c.args.bytes.now
     (option_map (rsa_pss_params any) v)) c.none_but_for_memory.result c.none_but_for_memory.ensures
     (λ other v p. rejected (λ x. TellsOfBytes x.kind) _ _ (error.Asn1 c.in-Err.e) c.in-Err.ensures.encoding other (to v)
     (means sides v _ p))

@@ -9,7 +9,7 @@ use Rattle.pkcs1_params.proofs.fields.FieldThenFields.lemma_are_held.Goals as go
 
 pub returns : goal.returns
 returns g c = λ mask.
-    let p = part_in c.args.self.now.first in
+    let p = part_in g.Plain.PlainHolder.plain g.Mask.MaskHolder.mask c.args.self.now.first in
     let out = out_under p.is_default mask in
     let first = c.lemma_is_held.ensures in
     let later = c.lemma_are_held.ensures (rest_under p.is_default mask) in

@@ -8,7 +8,7 @@ use Rattle.pkcs1_params.proofs.fields.FieldThenFields.len.Goals as goal
 
 pub returns-else-left_out : goal.returns-else-left_out
 returns-else-left_out g c =
-    let p = part_in c.args.self.now.first in
+    let p = part_in g.Plain.PlainHolder.plain g.Mask.MaskHolder.mask c.args.self.now.first in
     let written : out_under p.is_default c.args.mask ≡ false =
     rw (c.under-left_out.ensures, c.split_changed-default.ensures) at c.if-left_out.false in
     let later = rw (c.under-left_out.ensures, c.split_changed-default.ensures) at c.len-later.ensures in

@@ -1,5 +1,5 @@
 use Rattle.std.proofs.Common.{◌≡◌}
-use Rattle.spki_core.specs.Laws.Carried.{any_carried, algorithm_carried, same_carried}
+use Rattle.spki_core.specs.Laws.Carried.{algorithm_carried, same_carried}
 use Rattle.spki_core.specs.AlgorithmValue.{algorithm_with}
 use Rattle.pkcs1_params.proofs.oaep.RsaOaepParamsTryClone.try_clone.Goals as goal
 
@@ -7,7 +7,7 @@ pub returns-clause-ok : goal.returns-clause-ok
 returns-clause-ok g c =
     let p = c.args.self.now in
     let any = g.P.AnyValue.any in
-    let carried = any_carried g.met.P.AnyValue.holds in
+    let carried = g.met.P.AnyValue.holds.carried in
     let hash : algorithm_with any c.in_ok-try_clone.field-0 ≡ algorithm_with any p.hash =
     same_carried (algorithm_carried carried) c.in_ok-try_clone.field-0 p.hash c.in_ok-try_clone.ensures.ok in
     let mask_gen : algorithm_with (algorithm_with any) c.in_ok-try_clone-2.field-0

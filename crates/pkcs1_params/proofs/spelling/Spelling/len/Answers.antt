@@ -6,9 +6,9 @@ use Rattle.pkcs1_params.proofs.spelling.Spelling.len.Goals as goal
 
 pub returns-clause-spells : goal.returns-clause-spells
 returns-clause-spells g c =
-    let t = g.T.DefaultFields in
+    let t = g.T.EncodeParams in
     let s = c.args.self.now in
-    let v : MaskedValue t.Params = record { value = t.params s.params.now; mask = s.mask } in
+    let v : MaskedValue t.Params = record { value = t.params s.params; mask = s.mask } in
     let n = c.in_ok-encoded_len.ensures.counted in (
       omega (arith, n),
       tlv_relates 48 (MaskedValueContents t.values) (written_masked t.values) v

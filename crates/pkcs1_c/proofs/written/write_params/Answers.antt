@@ -1,0 +1,21 @@
+use Rattle.pkcs1_params.specs.Parts.{Fielded}
+use Rattle.pkcs1_c.proofs.NotWritten.{status_writing}
+use Rattle.pkcs1_c.proofs.Writes.{not_written, written}
+use Rattle.pkcs1_c.proofs.written.write_params.Goals as goal
+
+pub returns-in-Ok : goal.returns-in-Ok
+returns-in-Ok g c =
+    let t = g.T.EncodeParams in
+    written (Fielded t.values) (t.params c.args.params) c.args.out.now _ c.args.len.now _ c.in-Ok.ensures.shortest.0
+    c.in-Ok.ensures.rest c.encode_params.auto.out
+
+pub returns-in-Err : goal.returns-in-Err
+returns-in-Err g c =
+    let t = g.T.EncodeParams in
+    let value = t.params c.args.params in
+    let needed = rw c.of.ensures at c.set_needed.ensures in
+    not_written (Fielded t.values) value c.args.out.now _ c.args.len.now _ _ _ c.status.ensures
+    (status_writing (Fielded t.values) value _ c.lemma_has_encoding.ensures c.in-Err.error c.in-Err.ensures.err)
+    c.in-Err.ensures.unchanged
+    (λ encoding shortest. needed.needed encoding shortest)
+    (λ long. needed.kept long)

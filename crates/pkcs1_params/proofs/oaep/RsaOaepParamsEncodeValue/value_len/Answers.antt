@@ -1,9 +1,0 @@
-use Rattle.std.proofs.Common.{subst}
-use Rattle.der_core.specs.Writing.{Counts}
-use Rattle.pkcs1_params.specs.Parts.{oaep_values, HasFields, written_fields}
-use Rattle.pkcs1_params.proofs.oaep.RsaOaepParamsEncodeValue.value_len.Goals as goal
-
-pub returns : goal.returns
-returns g c =
-    subst (λ p. Counts (HasFields (oaep_values p) 0) (written_fields (oaep_values p) 0) c.len_under.result)
-    c.as_view-params.ensures c.len_under.ensures

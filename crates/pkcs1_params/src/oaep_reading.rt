@@ -1,0 +1,127 @@
+//! Reading of RSAES-OAEP parameters.
+ghost use Rattle.std.specs.Prelude.{◌≡◌};
+ghost use Rattle.pkcs1_params.specs.Words.{OaepAllocates, RsaOaepParamsFault, StrictOaepFault};
+ghost use Rattle.pkcs1_params.specs.Words.{sha1, mgf1_sha1, empty_label};
+ghost use Rattle.pkcs1_params.specs.Words.{oaep_of};
+ghost use Rattle.pkcs1_params.specs.Words.{oaep_viewed};
+ghost use Rattle.pkcs1_params.specs.Words.{oaep_in};
+ghost use Rattle.spki_core.specs.Words.{any_of};
+ghost use Rattle.pkcs1_params.specs.Parameters as grammar;
+
+use crate::defaults::is_empty_sequence;
+use crate::error::{Error, Result};
+use crate::hash_fields::{mgf1_with, with_null};
+use crate::hash_functions::Sha1;
+use crate::kept::ReadParams;
+use crate::oaep::{OaepParamsOf, RsaOaepParams, RsaOaepParamsRef, RsaOaepParamsView};
+use crate::p_source::empty_source;
+use crate::strict::reject_defaults;
+use der_core::{Decode, DecodeValue, Header, Memory, NoMemory, Reader, TagNumber};
+use spki_core::{AnyRef, IdentifierValue, ObjectIdentifier, read_field};
+
+impl<'a> RsaOaepParamsView<'a> {
+    /// The parameters as a struct that holds its identifiers.
+    #[inline(always)]
+    pub fn keep(self) -> RsaOaepParamsRef<'a>
+        ensures { oaep_of result ≡ oaep_viewed self.entry }
+    {
+        ObjectIdentifier::keep_oaep(self)
+    }
+}
+
+impl<'a, O: ReadParams<'a>> OaepParamsOf<O, AnyRef<'a>> {
+    ghost use Rattle.std.specs.Prelude.{IfOk, OnErr};
+    ghost use Rattle.pkcs1_params.specs.Words.{ErrsExactly, IsNoShortest, IsTheShortest};
+
+    /// Like `try_from`, but rejects an encoding in which a default is written: `Noncanonical` with the tag of the first
+    /// such field. So what is read is the shortest encoding of its value.
+    pub fn from_der_strict(bytes: &'a [u8]) -> Result<OaepParamsOf<O, AnyRef<'a>>>
+        ensures ok { let Grammar = grammar.RsaOaepParams in
+            IfOk result (λ params. IsTheShortest Grammar bytes.now (oaep_in O.octets any_of params)) }
+        ensures err { OnErr result (IsNoShortest grammar.RsaOaepParams bytes.now) }
+        ensures exact { ErrsExactly StrictOaepFault bytes.now result }
+    {
+        let view = RsaOaepParamsView::try_from(bytes)?;
+        reject_defaults(&view, bytes)?;
+        Ok(O::keep_oaep(view))
+    }
+}
+
+impl<'a, O: IdentifierValue> Default for OaepParamsOf<O, AnyRef<'a>> {
+    /// Every field at its default.
+    #[inline(always)]
+    fn default() -> OaepParamsOf<O, AnyRef<'a>>
+        ensures { oaep_in O.octets any_of result
+            ≡ record { hash = sha1; mask_gen = mgf1_sha1; p_source = empty_label } }
+    {
+        OaepParamsOf::of_hash::<Sha1, NoMemory>(NoMemory)
+    }
+}
+
+impl<'a, O: ReadParams<'a>> TryFrom<&'a [u8]> for OaepParamsOf<O, AnyRef<'a>> {
+    ghost use Rattle.std.specs.Prelude.{IfOk, OnErr};
+    ghost use Rattle.pkcs1_params.specs.Words.{ErrsExactly, IsNoSentence, IsTheMeaning};
+
+    type Error = Error;
+
+    /// Reads a whole slice. Nothing is allocated.
+    fn try_from(bytes: &'a [u8]) -> Result<OaepParamsOf<O, AnyRef<'a>>>
+        ensures ok { let Grammar = grammar.RsaOaepParams in
+            IfOk result (λ params. IsTheMeaning Grammar bytes.now (oaep_in O.octets any_of params)) }
+        ensures err { OnErr result (IsNoSentence grammar.RsaOaepParams bytes.now) }
+        ensures exact { ErrsExactly RsaOaepParamsFault bytes.now result }
+    {
+        if is_empty_sequence(bytes) {
+            return Ok(OaepParamsOf::default());
+        }
+        let view = RsaOaepParamsView::from_der(NoMemory, bytes)?;
+        Ok(O::keep_oaep(view))
+    }
+}
+
+impl<'a, M: Memory, O: ReadParams<'a>> DecodeValue<&'a [u8], M> for OaepParamsOf<O, AnyRef<'a>> {
+    ghost use Rattle.spki_core.specs.Words.{Any, any_delimited, holds_itself, AnyFault, any_fault_none};
+    ghost use Rattle.spki_core.specs.Words.{any_fault_first};
+    ghost use Rattle.pkcs1_params.specs.Words.{OaepFault, oaep_fault_none, oaep_fault_first};
+
+    ghost may_allocate = { OaepAllocates (λ _. ⊥) };
+
+    ghost fault = { OaepFault Any AnyFault };
+
+    #[inline(always)]
+    fn decode_value<R: Reader<&'a [u8]>>(
+        memory: M,
+        reader: &mut R,
+        _header: Header,
+    ) -> der_core::Result<OaepParamsOf<O, AnyRef<'a>>> {
+        let hash = read_field(
+            memory,
+            reader,
+            TagNumber::new(0),
+            with_null::<Sha1, _, _, _>(NoMemory),
+        )?;
+        let mask_gen = read_field(
+            memory,
+            reader,
+            TagNumber::new(1),
+            mgf1_with::<Sha1, _, _, _>(NoMemory),
+        )?;
+        let p_source = read_field(
+            memory,
+            reader,
+            TagNumber::new(2),
+            empty_source::<_, _, _>(NoMemory),
+        )?;
+        reader.finish()?;
+        Ok(O::keep_oaep(RsaOaepParamsView {
+            hash,
+            mask_gen,
+            p_source,
+        }))
+    }
+
+    ghost fault_none = { oaep_fault_none Any AnyFault any_delimited any_fault_none (holds_itself any_of) };
+
+    ghost fault_first = { let none = any_fault_none in
+        oaep_fault_first Any AnyFault any_delimited none (holds_itself any_of) any_fault_first };
+}

@@ -1,0 +1,127 @@
+//! Reading of RSASSA-PSS parameters.
+ghost use Rattle.std.specs.Prelude.{◌≡◌};
+ghost use Rattle.pkcs1_params.specs.Words.{PssAllocates, RsaPssParamsFault, StrictPssFault};
+ghost use Rattle.pkcs1_params.specs.Words.{sha1, mgf1_sha1};
+ghost use Rattle.pkcs1_params.specs.Words.{pss_in, pss_of, pss_viewed};
+ghost use Rattle.spki_core.specs.Words.{any_of};
+ghost use Rattle.pkcs1_params.specs.Parameters as grammar;
+
+use crate::defaults::is_empty_sequence;
+use crate::error::{Error, Result};
+use crate::hash_fields::{mgf1_with, with_null};
+use crate::hash_functions::Sha1;
+use crate::kept::ReadParams;
+use crate::pss::{PssParamsOf, RsaPssParams, RsaPssParamsRef, RsaPssParamsView};
+use crate::strict::reject_defaults;
+use crate::trailer_field::TrailerField;
+use der_core::{Decode, DecodeValue, Header, Memory, NoMemory, Reader, TagNumber};
+use spki_core::{AnyRef, IdentifierValue, ObjectIdentifier, read_field};
+
+impl<'a> RsaPssParamsView<'a> {
+    /// The parameters as a struct that holds its identifiers.
+    #[inline(always)]
+    pub fn keep(self) -> RsaPssParamsRef<'a>
+        ensures { pss_of result ≡ pss_viewed self.entry }
+    {
+        ObjectIdentifier::keep_pss(self)
+    }
+}
+
+impl<'a, O: ReadParams<'a>> PssParamsOf<O, AnyRef<'a>> {
+    ghost use Rattle.std.specs.Prelude.{IfOk, OnErr};
+    ghost use Rattle.pkcs1_params.specs.Words.{ErrsExactly, IsNoShortest, IsTheShortest};
+
+    /// Like `try_from`, but rejects an encoding in which a default is written: `Noncanonical` with the tag of the first
+    /// such field. So what is read is the shortest encoding of its value.
+    pub fn from_der_strict(bytes: &'a [u8]) -> Result<PssParamsOf<O, AnyRef<'a>>>
+        ensures ok { let Grammar = grammar.RsaPssParams in
+            IfOk result (λ params. IsTheShortest Grammar bytes.now (pss_in O.octets any_of params)) }
+        ensures err { OnErr result (IsNoShortest grammar.RsaPssParams bytes.now) }
+        ensures exact { ErrsExactly StrictPssFault bytes.now result }
+    {
+        let view = RsaPssParamsView::try_from(bytes)?;
+        reject_defaults(&view, bytes)?;
+        Ok(O::keep_pss(view))
+    }
+}
+
+impl<'a, O: IdentifierValue> Default for PssParamsOf<O, AnyRef<'a>> {
+    /// Every field at its default.
+    #[inline(always)]
+    fn default() -> PssParamsOf<O, AnyRef<'a>>
+        ensures { pss_in O.octets any_of result
+            ≡ record { hash = sha1; mask_gen = mgf1_sha1; salt_len = 20; trailer_field = 1 } }
+    {
+        PssParamsOf::of_hash::<Sha1, NoMemory>(NoMemory, RsaPssParamsRef::SALT_LEN_DEFAULT)
+    }
+}
+
+impl<'a, O: ReadParams<'a>> TryFrom<&'a [u8]> for PssParamsOf<O, AnyRef<'a>> {
+    ghost use Rattle.std.specs.Prelude.{IfOk, OnErr};
+    ghost use Rattle.pkcs1_params.specs.Words.{ErrsExactly, IsNoSentence, IsTheMeaning};
+
+    type Error = Error;
+
+    /// Reads a whole slice. Nothing is allocated.
+    fn try_from(bytes: &'a [u8]) -> Result<PssParamsOf<O, AnyRef<'a>>>
+        ensures ok { let Grammar = grammar.RsaPssParams in
+            IfOk result (λ params. IsTheMeaning Grammar bytes.now (pss_in O.octets any_of params)) }
+        ensures err { OnErr result (IsNoSentence grammar.RsaPssParams bytes.now) }
+        ensures exact { ErrsExactly RsaPssParamsFault bytes.now result }
+    {
+        if is_empty_sequence(bytes) {
+            return Ok(PssParamsOf::default());
+        }
+        let view = RsaPssParamsView::from_der(NoMemory, bytes)?;
+        Ok(O::keep_pss(view))
+    }
+}
+
+impl<'a, M: Memory, O: ReadParams<'a>> DecodeValue<&'a [u8], M> for PssParamsOf<O, AnyRef<'a>> {
+    ghost use Rattle.spki_core.specs.Words.{Any, any_delimited, holds_itself, AnyFault, any_fault_none};
+    ghost use Rattle.spki_core.specs.Words.{any_fault_first};
+    ghost use Rattle.pkcs1_params.specs.Words.{PssFault, pss_fault_none, pss_fault_first};
+
+    ghost may_allocate = { PssAllocates (λ _. ⊥) };
+
+    ghost fault = { PssFault Any AnyFault };
+
+    #[inline(always)]
+    fn decode_value<R: Reader<&'a [u8]>>(
+        memory: M,
+        reader: &mut R,
+        _header: Header,
+    ) -> der_core::Result<PssParamsOf<O, AnyRef<'a>>> {
+        let hash = read_field(
+            memory,
+            reader,
+            TagNumber::new(0),
+            with_null::<Sha1, _, _, _>(NoMemory),
+        )?;
+        let mask_gen = read_field(
+            memory,
+            reader,
+            TagNumber::new(1),
+            mgf1_with::<Sha1, _, _, _>(NoMemory),
+        )?;
+        let salt_len = read_field(
+            memory,
+            reader,
+            TagNumber::new(2),
+            RsaPssParamsRef::SALT_LEN_DEFAULT,
+        )?;
+        let trailer_field = read_field(memory, reader, TagNumber::new(3), TrailerField::BC)?;
+        reader.finish()?;
+        Ok(O::keep_pss(RsaPssParamsView {
+            hash,
+            mask_gen,
+            salt_len,
+            trailer_field,
+        }))
+    }
+
+    ghost fault_none = { pss_fault_none Any AnyFault any_delimited any_fault_none (holds_itself any_of) };
+
+    ghost fault_first = { let none = any_fault_none in
+        pss_fault_first Any AnyFault any_delimited none (holds_itself any_of) any_fault_first };
+}
