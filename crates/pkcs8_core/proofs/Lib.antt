@@ -1,3 +1,4 @@
 pub mod ContainerReads
 pub mod ContainerWrites
+mod Exclusion
 pub mod RsaHeld

@@ -2,7 +2,7 @@
 ghost use Rattle.std.specs.Prelude.{◌≡◌, ◌≤◌, ◌+◌, ℕ, List, length, take, drop, IfOk, IfErr, OnErr, refl};
 ghost use Rattle.std.specs.Option.{option_map};
 ghost use Rattle.der_core.specs.Words.{Means, IsAlone, HasEncoding, EncodingFault, FailsExactly, integer, Optional};
-ghost use Rattle.der_core.specs.Words.{AtMostOne, ReadsFront, ReadsWhole, encode_error};
+ghost use Rattle.der_core.specs.Words.{AtMostOne, Excludes, ReadsFront, ReadsWhole, encode_error};
 ghost use Rattle.pkcs8_core.specs.Words.{VersionEncoding, VersionFault, AttributesFault, PrivateKeyInfoFault, Info};
 ghost use Rattle.pkcs8_core.specs.Words.{AttributesEncoding, InfoContents, PrivateKeyInfo, HasInfo, written_info};
 ghost use Rattle.pkcs8_core.specs.Words.{WhyContainerNotWritten, info_of, attributes_of, slice_now, info_means_one};
@@ -10,6 +10,8 @@ ghost use Rattle.pkcs8_core.specs.Words.{info_of_bytes, info_relates, info_short
 ghost use Rattle.der_core.specs.declared.error.ErrorKind as der;
 ghost use Rattle.pkcs1_params.specs.Words.{IsNoSentence, IsTheMeaning};
 ghost use Rattle.pkcs8_core.specs.declared.info.PrivateKeyInfoRef as containers;
+ghost use Rattle.pkcs1.specs.Keys as keys;
+ghost use Rattle.pkcs1_params.specs.Parameters as parameters;
 
 use crate::attributes::Attributes;
 use pkcs1::der::{
@@ -208,6 +210,15 @@ impl<'a> TryFrom<&'a [u8]> for PrivateKeyInfoRef<'a> {
 /// A container has at most one encoding.
 pub fn lemma_containers_have_one_encoding()
     ensures { (info : Info) → AtMostOne (PrivateKeyInfo info) }
+{}
+
+/// No bytes encode both a container and a key, or both a container and parameters: so a loader may try one after the
+/// other.
+pub fn lemma_containers_exclude_other_types()
+    ensures public_key { Excludes PrivateKeyInfo keys.RsaPublicKey }
+    ensures private_key { Excludes PrivateKeyInfo keys.RsaPrivateKey }
+    ensures pss { Excludes PrivateKeyInfo parameters.RsaPssParams }
+    ensures oaep { Excludes PrivateKeyInfo parameters.RsaOaepParams }
 {}
 
 /// A clone of a container means the same as the original.

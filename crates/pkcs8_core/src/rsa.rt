@@ -1,11 +1,11 @@
 //! RSA keys in containers.
-ghost use Rattle.std.specs.Prelude.{◌≡◌, ℕ, List, IfOk, IfErr, OnErr};
-ghost use Rattle.der_core.specs.Words.{Rejects};
+ghost use Rattle.std.specs.Prelude.{◌≡◌, ℕ, List, IfOk, IfErr, IsOk, OnErr, None};
+ghost use Rattle.der_core.specs.Words.{Means, Rejects};
 ghost use Rattle.spki_core.specs.Words.{algorithm_of};
 ghost use Rattle.pkcs1.specs.Words.{MayAllocate, PrivateKey, private_key_of, view_of, viewed_encoding};
 ghost use Rattle.pkcs1_params.specs.Words.{IsAsn1, ErrsExactly, ErrsOrAsks, IsNoSentence, IsTheMeaning, IsTheOnly};
 ghost use Rattle.pkcs8_core.specs.Words.{RsaFault, RsaPrivateKeyInfoFault, info_of, rsa_encryption, HoldsRsa, NotRsa};
-ghost use Rattle.pkcs8_core.specs.Words.{RsaPrivateKeyInfo};
+ghost use Rattle.pkcs8_core.specs.Words.{Info, PrivateKeyInfo, RsaPrivateKeyInfo};
 
 use crate::info::PrivateKeyInfoRef;
 use pkcs1::der::{Error, ErrorKind, Result, Tag};
@@ -50,6 +50,8 @@ impl<'a> PrivateKeyInfoRef<'a> {
         ensures exact { let info = info_of self.now in
             let asked = (info.algorithm ≡ rsa_encryption) × MayAllocate info.private_key in
             ErrsOrAsks RsaFault info asked result }
+        ensures two_primes { (key : PrivateKey (List ℕ))
+            → key.other_prime_infos ≡ None → HoldsRsa (info_of self.now) key → IsOk result }
     {
         require_rsa(&self.algorithm)?;
         RsaPrivateKeyRef::decode_key(alloc, self.private_key.as_bytes())
@@ -60,6 +62,8 @@ impl<'a> PrivateKeyInfoRef<'a> {
 /// `PrivateKeyInfoRef::try_from`, then those of `rsa_view`.
 pub fn rsa_from_pkcs8_der<'a>(bytes: &'a [u8]) -> pkcs1::Result<RsaPrivateKeyView<'a>>
     ensures ok { IfOk result (λ view. IsTheMeaning RsaPrivateKeyInfo bytes.now (view_of view)) }
+    ensures bytes { IfOk result (λ view. (info : Info) × Means PrivateKeyInfo bytes.now info
+        × (viewed_encoding view ≡ info.private_key)) }
     ensures err { OnErr result (IsNoSentence RsaPrivateKeyInfo bytes.now) }
     ensures exact { ErrsExactly RsaPrivateKeyInfoFault bytes.now result }
 {
