@@ -6,5 +6,10 @@ pub mod HeldKeys
 pub mod HeldParameters
 pub mod Lists
 pub mod NotWritten
+pub mod StatedCalls
+pub mod StatedContainers
+pub mod StatedKeys
+pub mod StatedParameters
+pub mod StatedHashes
 pub mod StructErrors
 pub mod Writes

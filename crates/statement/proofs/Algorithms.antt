@@ -16,6 +16,9 @@ use Rattle.pkcs1_params.specs.Parameters.{id_sha1, id_mgf1, id_p_specified}
 use Rattle.statement.specs.Statement.{tlv, limit, IsSubidentifier, IsIdentifier, TagAndContents, IsAny, any, optional}
 use Rattle.statement.specs.Statement.{IfPresent, Algorithm, algorithm, IsAlgorithm, sha1, mgf1_sha1, empty_label}
 use Rattle.statement.proofs.Der.{tlv_same}
+pub use Rattle.statement.specs.Library.{any as any_to, algorithm as algorithm_to}
+pub use Rattle.statement.specs.Laws.Values.{any_from, algorithm_from, plain_from, plain_to, plain_back, plain_forth}
+pub use Rattle.statement.specs.Laws.Values.{mask_from, mask_to, mask_back, mask_forth}
 
 -- One with such parameters: a hash function, a label source. One with one of these: a mask generation function.
 abbrev pub plain : Algorithm TagAndContents → List ℕ
@@ -29,58 +32,6 @@ mask_generation = algorithm plain
 
 abbrev pub IsMaskGeneration : Algorithm (Algorithm TagAndContents) → Type 0
 IsMaskGeneration = IsAlgorithm IsPlain
-
--- The values.
-abbrev pub any_from : anys.TagAndContents → TagAndContents
-any_from v = record { tag = v.tag; contents = v.contents }
-
-abbrev pub any_to : TagAndContents → anys.TagAndContents
-any_to v = record { tag = v.tag; contents = v.contents }
-
-abbrev pub algorithm_from : {P Q : Type 0} → (P → Q) → algorithms.Algorithm P → Algorithm Q
-algorithm_from f a = record { oid = a.oid; parameters = option_map f a.parameters }
-
-abbrev pub algorithm_to : {P Q : Type 0} → (P → Q) → Algorithm P → algorithms.Algorithm Q
-algorithm_to f a = record { oid = a.oid; parameters = option_map f a.parameters }
-
-abbrev pub plain_from : algorithms.Algorithm anys.TagAndContents → Algorithm TagAndContents
-plain_from = algorithm_from any_from
-
-abbrev pub plain_to : Algorithm TagAndContents → algorithms.Algorithm anys.TagAndContents
-plain_to = algorithm_to any_to
-
-abbrev pub mask_from : algorithms.Algorithm (algorithms.Algorithm anys.TagAndContents)
-    → Algorithm (Algorithm TagAndContents)
-mask_from = algorithm_from plain_from
-
-abbrev pub mask_to : Algorithm (Algorithm TagAndContents)
-    → algorithms.Algorithm (algorithms.Algorithm anys.TagAndContents)
-mask_to = algorithm_to plain_to
-
-option_back : {P Q : Type 0} (f : P → Q) (g : Q → P) → ((q : Q) → f (g q) ≡ q) → (o : Option Q)
-    → option_map f (option_map g o) ≡ o
-option_back f g h None = refl
-option_back f g h (Some q) = ap Some (h q)
-
-pub plain_back : (v : Algorithm TagAndContents) → plain_from (plain_to v) ≡ v
-plain_back v =
-    ap (λ (o : Option TagAndContents). record { oid = v.oid; parameters = o })
-    (option_back any_from any_to (λ _. refl) v.parameters)
-
-pub plain_forth : (v : algorithms.Algorithm anys.TagAndContents) → plain_to (plain_from v) ≡ v
-plain_forth v =
-    ap (λ (o : Option anys.TagAndContents). record { oid = v.oid; parameters = o })
-    (option_back any_to any_from (λ _. refl) v.parameters)
-
-pub mask_back : (v : Algorithm (Algorithm TagAndContents)) → mask_from (mask_to v) ≡ v
-mask_back v =
-    ap (λ (o : Option (Algorithm TagAndContents)). record { oid = v.oid; parameters = o })
-    (option_back plain_from plain_to plain_back v.parameters)
-
-pub mask_forth : (v : algorithms.Algorithm (algorithms.Algorithm anys.TagAndContents)) → mask_to (mask_from v) ≡ v
-mask_forth v =
-    ap (λ (o : Option (algorithms.Algorithm anys.TagAndContents)). record { oid = v.oid; parameters = o })
-    (option_back plain_to plain_from plain_forth v.parameters)
 
 -- Identifiers.
 sub_to : (s : List ℕ) → oids.IsSubidentifier s → IsSubidentifier s

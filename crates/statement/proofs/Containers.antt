@@ -10,19 +10,10 @@ use Rattle.pkcs1.specs.Keys as keys
 use Rattle.statement.specs.Statement.{tlv, integer, optional, IfPresent, AreOctets, limit, sequence, Container}
 use Rattle.statement.specs.Statement.{ContainerEncoding, ContainedKeyEncoding, PrivateKey, IsShortest}
 use Rattle.statement.proofs.Der.{tlv_is, tlv_made, tlv_fit, small_integer, small_made}
-use Rattle.statement.proofs.Algorithms.{plain, IsPlain, plain_from, plain_to, plain_back, plain_written}
+use Rattle.statement.proofs.Algorithms.{plain, IsPlain, plain_from, plain_to, plain_written}
 use Rattle.statement.proofs.PrivateKeys as private
-
-abbrev pub from : Info → Container
-from i = record { algorithm = plain_from i.algorithm; private_key = i.private_key; attributes = i.attributes }
-
-abbrev pub to : Container → Info
-to c = record { algorithm = plain_to c.algorithm; private_key = c.private_key; attributes = c.attributes }
-
-pub back : (c : Container) → from (to c) ≡ c
-back c =
-    let a =
-    plain_back c.algorithm in λ i. record { algorithm = a i; private_key = c.private_key; attributes = c.attributes }
+pub use Rattle.statement.specs.Library.{container as to}
+pub use Rattle.statement.specs.Laws.Values.{container_from as from, container_back as back}
 
 -- The attributes.
 attributes_is : (o : Option (List ℕ)) (b : List ℕ) → Optional AttributesEncoding o b → b ≡ optional (tlv 160) o

@@ -1,27 +1,25 @@
 -- Lengths, INTEGER and encodings in a row: the statement's functions are what the library's relations relate, and back.
-use Rattle.std.proofs.Common.{ℕ, List, [], ◌∷◌, ◌++◌, ◌≡◌, ◌<◌, ◌≤◌, ◌==◌, length, refl, sym, subst, ap, ◌∙◌, arith}
-use Rattle.std.proofs.Common.{inl, inr, length-append, true, false}
+use Rattle.std.proofs.Common.{ℕ, List, [], ◌∷◌, ◌++◌, ◌≡◌, ◌<◌, ◌≤◌, length, refl, sym, subst, ap, ◌∙◌, arith}
+use Rattle.std.proofs.Common.{inl, inr, length-append}
 use Rattle.std.specs.Prelude.{map}
 use Rattle.std.specs.List.{concat}
-use Rattle.std.specs.Int.Digits.{number_from_digits, digits_of}
-use Rattle.std.proofs.lemmas.Bool.{cases_lt}
-use Rattle.std.proofs.lemmas.Bool.Decides.{nat_tests}
-use Rattle.std.proofs.lemmas.Int.Digits.{all_below_base_digits_of, number_digits_of, first_digits_of}
+use Rattle.std.specs.Int.Digits.{number_from_digits}
 use Rattle.der_core.specs.Length.{length_octets as der_octets}
 use Rattle.der_core.specs.Tlv as tlvs
 use Rattle.der_core.specs.Encodings.{Joins}
-use Rattle.der_core.specs.Integer.{IsCanonical, Integer, Small, integer_contents}
+use Rattle.der_core.specs.Integer.{Integer, Small, integer_contents}
 use Rattle.der_core.specs.Laws.Encodings.{tlv_relates}
 use Rattle.der_core.specs.Document.{Means, HasEncoding, WhyNotWritten, EncodeError, no_encoding, too_long, no_room}
 use Rattle.der_core.specs.Document.{another}
 use Rattle.der_core.specs.Writing.{encode_error}
-use Rattle.der_core.specs.Laws.Integer.{canonical_same, contents_at_most_one, integer_relates}
+use Rattle.der_core.specs.Laws.Integer.{contents_at_most_one, integer_relates}
 use Rattle.der_core.specs.Laws.Length.{length_octets-only}
 use Rattle.der_core.specs.Laws.SmallNumbers.{small_relates, small_is, byte_canonical, byte_number}
 use Rattle.pkcs1_params.specs.Meanings.{IsWritingError}
 use Rattle.pkcs1_params.specs.declared.error.Error.{Error}
 use Rattle.pkcs1_params.specs.declared.error.Error.TheVariants as error
 use Rattle.statement.specs.Statement.{octets, length_octets, tlv, integer, limit}
+use Rattle.statement.specs.Laws.Octets.{octets_canonical, number_octets}
 
 pub length_octets_same : (n : ℕ) → der_octets n ≡ length_octets n
 unfolding der_octets length_octets
@@ -38,31 +36,7 @@ tlv_is t w encoding is p =
     length_octets-only (length p.contents) p.octets p.counted ∙ length_octets_same (length p.contents) in
     p.written ∙ ap (λ x. t ∷ x ++ p.contents) o ∙ ap (tlv t) (is p.contents p.holds)
 
--- Numbers and their bytes.
-octets_zero : (n : ℕ) → n ≡ 0 → octets n ≡ 0 ∷ []
-octets_zero n e = let t : (n == 0) ≡ true = grind (arith, nat_tests) in rw t refl
-
-octets_some : (n : ℕ) → 0 < n → octets n ≡ digits_of 256 n
-octets_some n h = let t : (n == 0) ≡ false = grind (arith, nat_tests) in rw t refl
-
-pub octets_canonical : (n : ℕ) → IsCanonical (octets n)
-octets_canonical n = elim (cases_lt 0 n) [
-  | inl h ↦ rw (octets_some n h) (inr
-      (all_below_base_digits_of 256 n (omega arith), first_digits_of 256 n (omega arith) h))
-  | inr h ↦ rw (octets_zero n (omega arith)) (inl refl)
-]
-
-pub octets_number : (n : ℕ) → number_from_digits 256 (octets n) ≡ n
-octets_number n = elim (cases_lt 0 n) [
-  | inl h ↦ rw (octets_some n h) (number_digits_of 256 n (omega arith))
-  | inr h ↦ rw (octets_zero n (omega arith)) (omega arith)
-]
-
-pub number_octets : (x : List ℕ) → IsCanonical x → octets (number_from_digits 256 x) ≡ x
-number_octets x p =
-    canonical_same (octets (number_from_digits 256 x)) x (octets_canonical (number_from_digits 256 x)) p
-    (octets_number (number_from_digits 256 x))
-
+-- INTEGER.
 pub integer_is : (x encoding : List ℕ) → Integer x encoding → encoding ≡ integer (number_from_digits 256 x)
 integer_is x encoding p =
     let same : octets (number_from_digits 256 x) ≡ x = number_octets x p.holds.0 in

@@ -3,7 +3,7 @@ use Rattle.std.proofs.Common.{ℕ, List, [], ◌∷◌, ◌++◌, ◌≡◌, ◌
 use Rattle.std.proofs.Common.{arith, inl, inr, length-append, Some, None}
 use Rattle.std.proofs.lemmas.Bool.{cases_lt}
 use Rattle.std.specs.List.{concat}
-use Rattle.std.specs.Prelude.{slice_index_or}
+use Rattle.std.specs.Prelude.{slice_index_or, ◌↔◌}
 use Rattle.der_core.specs.Document.{Means, Spellings, EncodeError, no_encoding, too_long, no_room, another}
 use Rattle.der_core.specs.Writing.{encode_error}
 use Rattle.der_core.specs.Document as documents
@@ -207,6 +207,17 @@ defaults_to (f ∷ fs) (g ∷ gs) m k (inl (d, j, e, later)) =
     inl (m.0.to_default d, j, omega (arith, e), defaults_to fs gs m.1 j later)
 defaults_to (f ∷ fs) (g ∷ gs) m k (inr (d, later)) = inr (λ x. d (m.0.from_default x), defaults_to fs gs m.1 k later)
 
+all_to : (fs : List fields.Field) (gs : List Field) → AllMatch fs gs → (c : List ℕ) → length c ≤ limit
+    → Joins (map Explicit fs) c → c ≡ all_written gs
+all_to [] [] m c l p = p
+all_to [] (g ∷ gs) m c l p = absurd m
+all_to (f ∷ fs) [] m c l p = absurd m
+all_to (f ∷ fs) (g ∷ gs) m c l (a, r, p, later, is) =
+    let both = length-append a r in
+    let same = ap length is in
+    is ∙ ap (λ x. x ++ r) (m.0.only a (omega (arith, l, same, both)) p)
+    ∙ ap (λ x. g.written ++ x) (all_to fs gs m.1 r (omega (arith, l, same, both)) later)
+
 -- Whole parameters.
 abbrev Contained : (List ℕ → Type 0) → List ℕ → Type 0
 Contained Contents bytes =
@@ -256,6 +267,9 @@ module _ {W V : Type 0} {from : W → V} {to : V → W} {fs : W → List fields.
   pub means : (v : V) (bytes : List ℕ) → Encoding v bytes → Means Grammar bytes (to v)
   means v bytes e = meant (to v) bytes (subst (λ u. Encoding u bytes) (sym (s.back v)) e)
 
+  pub same : (w : W) {v : V} → from w ≡ v → (bytes : List ℕ) → Encoding v bytes ↔ Means Grammar bytes w
+  same w e bytes = (λ p. meant w bytes (moved Encoding (sym e) p), λ m. moved Encoding e (sentence w bytes m))
+
   pub shortest : (w : W) (bytes : List ℕ) → documents.IsShortest Grammar w bytes → IsShortest Encoding (from w) bytes
   shortest w bytes p = (sentence w bytes p.spells, λ other q. p.least other (meant w other q))
 
@@ -292,6 +306,11 @@ module _ {W V : Type 0} {from : W → V} {to : V → W} {fs : W → List fields.
 
   pub all_fit : (w : W) → Is (from w) → length (longest (gs (from w))) ≤ limit → spellings.AllFit (fs w)
   all_fit w is l = (longest (gs (from w)), all_explicit w is l, l)
+
+  pub longest_fits : (w : W) → spellings.AllFit (fs w) → length (longest (gs (from w))) ≤ limit
+  longest_fits w (all, p, l) =
+      let t = sequence_to (all_to (fs w) (gs (from w)) (s.match w)) all l p in
+      omega (arith, l, ap length t.3, ap (λ x. length (sequence x)) t.2)
 
   pub are_all : (w : W) (k : ℕ) (all : List (List ℕ)) → AreTheMembers (Spellings Grammar w) (2 ^ k) all
       → ((i : ℕ) → i < 2 ^ k → Masked (fs w) i (slice_index_or all i [])) → AreAll (λ E. E) Is gs (from w) k all

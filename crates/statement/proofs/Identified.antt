@@ -1,8 +1,9 @@
 -- Algorithm identifiers with parameters of their own: the statement's encodings are the library's.
 use Rattle.std.proofs.Common.{ℕ, List, [], ◌∷◌, ◌++◌, ◌≡◌, ◌<◌, ◌≤◌, ◌+◌, ◌^◌, length, map, refl, sym, subst, ap, ◌∙◌}
-use Rattle.std.proofs.Common.{arith, inl, inr, length-append}
+use Rattle.std.proofs.Common.{arith, inl, inr, length-append, Option, Some, None}
+use Rattle.std.specs.Option.{option_map}
 use Rattle.std.proofs.lemmas.List.{get_or-map, length-map}
-use Rattle.std.specs.Prelude.{slice_index_or}
+use Rattle.std.specs.Prelude.{slice_index_or, IfSome}
 use Rattle.der_core.specs.Document.{Means}
 use Rattle.der_core.specs.Document as documents
 use Rattle.der_core.specs.Encodings.{Is}
@@ -12,16 +13,26 @@ use Rattle.der_core.specs.Tlv.{Tlv}
 use Rattle.spki_core.specs.Laws.IdentifierTest.{is_identifier-sound}
 use Rattle.spki_core.specs.ObjectIdentifier.{IsIdentifier}
 use Rattle.pkcs1_params.specs.Algorithms.{AlgorithmOf}
-use Rattle.pkcs1_params.specs.Meanings.{IsTheMeaning, IsTheShortest}
+use Rattle.pkcs1_params.specs.Meanings.{IsTheMeaning, IsTheShortest, IsTheOnly}
 use Rattle.pkcs1_params.specs.Laws.Algorithms.{parameters_in, with_encoded, parameters_shorter, identifier_made}
 use Rattle.pkcs1_params.specs.Laws.Algorithms.{identifier_grows, same_parameters}
 use Rattle.statement.specs.Statement.{tlv, sequence, limit, AlgorithmEncoding, IsShortest, Field, Fields, FieldsUnder}
+use Rattle.statement.specs.Statement.{Algorithm, TagAndContents}
 use Rattle.statement.specs.Statement.{SequenceOf, longest, AreAll, TwoToTheDefaults, TwoToTheDefaultsIn, id_rsassa_pss}
 use Rattle.statement.specs.Statement.{id_rsaes_oaep}
 use Rattle.statement.proofs.Der.{moved, tlv_is, tlv_made, tlv_fit}
 use Rattle.statement.proofs.Fields as parameters
-use Rattle.statement.proofs.Fields.{Sides, all_written}
+use Rattle.statement.proofs.Fields.{Sides, all_written, fields_to, fields_from}
 use Rattle.spki_core.specs.Explicit as fields
+use Rattle.spki_core.specs.Explicit.{Defaultable}
+use Rattle.der_core.specs.Encodings.{Joins}
+use Rattle.spki_core.specs.Any as anys
+use Rattle.spki_core.specs.AlgorithmIdentifier as algorithms
+use Rattle.spki_core.specs.AnyRefValue.{any_of}
+use Rattle.spki_core.specs.declared.any.AnyRef.{AnyRef}
+use Rattle.pkcs1_params.specs.Algorithms as library
+use Rattle.statement.specs.Made.{Identifies, Finds}
+use Rattle.statement.proofs.Algorithms.{any_from, plain_from, plain_to, plain_forth}
 
 -- What is written under a mask is no longer than all fields.
 within : (fs : List Field) (mask : ℕ) (c : List ℕ) → FieldsUnder mask fs c → length c ≤ length (all_written fs)
@@ -137,6 +148,10 @@ module _ (oid : List ℕ) (identifier : IsIdentifier oid) where
           → IsShortest Encoding v bytes × ((u : V) → IsShortest Encoding u bytes → u ≡ v)
       read_strictly m = (moved (IsShortest Encoding) same (shortest w bytes m.0), λ u e. only m.1 u e.0)
 
+    pub encodable : (w : W) {v : V} → from w ≡ v → documents.HasEncoding Grammar w → Is' v
+    encodable w same (bytes, p) =
+        let t = (parameters_in (parameters.Grammar s) oid w bytes p).1 in subst Is' same (s.is w t.contents t.holds)
+
   -- All encodings, by those of the parameters.
   module _ {V : Type 0} {Is' : V → Type 0} {gs : V → List Field} (v : V) (k : ℕ)
       (l : length (wrapped (longest (gs v))) ≤ limit) (all : List (List ℕ)) (a : AreAll (λ E. E) Is' gs v k all) where
@@ -179,6 +194,55 @@ module _ (oid : List ℕ) (identifier : IsIdentifier oid) where
       let t = made (longest (gs v)) (wrapped (longest (gs v))) refl l in
       let r = two v k is d (omega (arith, l, parameters_shorter oid (longest (gs v)) (wrapped (longest (gs v))) t)) in
       (map wrapped r.0, are_all v k l r.0 r.1)
+
+-- Parameters in an algorithm identifier that was read, whose contents are few.
+module _ {W V : Type 0} {from : W → V} {to : V → W} {fs : W → List fields.Field} {gs : V → List Field}
+    {Is' : V → Type 0} (s : Sides from to fs gs Is') (oid : List ℕ) (a : algorithms.Algorithm anys.TagAndContents)
+    (few : (any : anys.TagAndContents) → a.parameters ≡ Some any → length any.contents ≤ limit) where
+  abbrev Contents : W → List ℕ → Type 0
+  Contents w = Joins (map Defaultable (fs w))
+
+  there : (w : W) → library.Identifies oid Contents a w → Identifies oid Is' gs (plain_from a) (from w)
+  there w (e, any, p, tag, holds) =
+      let q : option_map any_from a.parameters ≡ Some (record { tag = 48; contents = any.contents }) =
+      ap (option_map any_from) p ∙ (λ i. Some (record { tag = tag i; contents = any.contents })) in (
+        any.contents,
+        λ i. record { oid = e i; parameters = q i },
+        s.is w any.contents holds,
+        fields_to (fs w) (gs (from w)) (s.match w) any.contents (few any p) holds,
+      )
+
+  back : (w : W) → Identifies oid Is' gs (plain_from a) (from w) → library.Identifies oid Contents a w
+  back w (c, e, is, held) =
+      let p = ap (λ (x : Algorithm TagAndContents). (plain_to x).parameters) e in
+      let q = sym (ap (λ (x : algorithms.Algorithm anys.TagAndContents). x.parameters) (plain_forth a)) ∙ p in
+      let any : anys.TagAndContents = record { tag = 48; contents = c } in (
+        ap (λ (x : Algorithm TagAndContents). x.oid) e,
+        any,
+        q,
+        refl,
+        fields_from (fs w) (gs (from w)) (s.match w) (s.make w is) c (few any q) held,
+      )
+
+  given : (v : V) → Identifies oid Is' gs (plain_from a) v → library.Identifies oid Contents a (to v)
+  given v p = back (to v) (subst (Identifies oid Is' gs (plain_from a)) (sym (s.back v)) p)
+
+  module _ {b : Algorithm TagAndContents} (same : plain_from a ≡ b) where
+    pub finds : (w : W) {v : V} → from w ≡ v → IsTheOnly (library.Identifies oid Contents a) w
+        → Finds (Identifies oid Is' gs b) (Some v)
+    finds w {v = v} e p =
+        subst (λ b. Finds (Identifies oid Is' gs b) (Some v)) same (
+          subst (Identifies oid Is' gs (plain_from a)) e (there w p.0),
+          λ u q. sym (s.back u) ∙ ap from (p.1 (to u) (given u q)) ∙ e,
+        )
+
+    pub finds_none : ((w : W) → library.Identifies oid Contents a w → ⊥) → Finds (Identifies oid Is' gs b) None
+    finds_none p = subst (λ b. Finds (Identifies oid Is' gs b) None) same (λ v q. p (to v) (given v q))
+
+pub few_contents : (o : Option AnyRef) (any : anys.TagAndContents) → option_map any_of o ≡ Some any
+    → length any.contents ≤ limit
+few_contents None any e = cc
+few_contents (Some x) any e = subst (λ o. IfSome o (λ (v : anys.TagAndContents). length v.contents ≤ limit)) e x.bounded
 
 pub pss_identifier : IsIdentifier id_rsassa_pss
 pss_identifier =

@@ -6,10 +6,17 @@ mod PrivateKeys
 mod Pss
 mod Oaep
 mod Identified
+mod Labels
 mod Containers
 mod Held
 mod Same
 mod OutOfMemory
+mod Beginnings
+mod FromReaders
+mod Bare
+mod Writing
+mod Each
+mod OtherPrimes
 mod Readings
 mod ReadingsLists
 mod ReadingsNumbers

@@ -1,24 +1,17 @@
 -- OAEP parameters: the statement's encodings are the library's.
 use Rattle.std.proofs.Common.{ℕ, List}
 use Rattle.pkcs1_params.specs.Parameters as library
-use Rattle.statement.specs.Statement.{OaepParameters, IsOaep, oaep_fields}
-use Rattle.statement.proofs.Algorithms.{plain_from, plain_to, plain_back, plain_forth, mask_from, mask_to, mask_back}
+use Rattle.statement.specs.Statement.{IsOaep, oaep_fields}
+use Rattle.statement.proofs.Algorithms.{plain_from, plain_to, plain_forth, mask_from, mask_to}
 use Rattle.statement.proofs.Algorithms.{mask_forth, plain_written, mask_written, sha1_is, mgf1_is, label_is}
 use Rattle.statement.proofs.Fields.{Sides, matches, made, value_is}
-
-abbrev pub from : library.OaepParameters → OaepParameters
-from p = record { hash = plain_from p.hash; mask_gen = mask_from p.mask_gen; p_source = plain_from p.p_source }
-
-abbrev pub to : OaepParameters → library.OaepParameters
-to p = record { hash = plain_to p.hash; mask_gen = mask_to p.mask_gen; p_source = plain_to p.p_source }
+use Rattle.statement.specs.Laws.Values.{oaep_back}
+pub use Rattle.statement.specs.Library.{oaep as to}
+pub use Rattle.statement.specs.Laws.Values.{oaep_from as from}
 
 pub sides : Sides from to library.oaep_fields oaep_fields IsOaep
 sides = record {
-  back = λ p.
-      let h = plain_back p.hash in
-      let g = mask_back p.mask_gen in
-      let s = plain_back p.p_source in
-      λ i. record { hash = h i; mask_gen = g i; p_source = s i };
+  back = oaep_back;
   match = λ p. (
     matches plain_from plain_to plain_forth plain_written 0 library.sha1 p.hash,
     (

@@ -1,7 +1,7 @@
 -- Reading with memory: an error that isn't out of memory says that there is no value.
 use Rattle.std.proofs.lemmas.Result.{IfOk-weaker}
 use Rattle.std.proofs.Common.{ℕ, List, ◌≡◌, ◌⊎◌, refl, sym, subst, inl, inr, Option, Some, None, Result, Ok, Err}
-use Rattle.std.specs.Prelude.{IfOk, IfErr}
+use Rattle.std.specs.Prelude.{IfOk, IfErr, OnErr, IsOk, IsErrAnd}
 use Rattle.std.specs.Option.{option_map}
 use Rattle.der_core.specs.declared.error.Error as der
 use Rattle.der_core.specs.declared.error.ErrorKind.TheVariants.{OutOfMemory}
@@ -39,3 +39,21 @@ decoded value Encoding bytes (Ok x) r ok err A a given C c none =
 decoded value Encoding bytes (Err e) r ok err A a given C c none =
     IfOk-weaker r _ _ (λ o p. subst (λ o. Decodes Encoding bytes (option_map value o)) (sym p.0) (none e c p.1))
     (err e refl)
+
+-- What is known where memory ran out.
+pub refused : {X E : Type 0} (r : Result X E) {P Q : Type 0} → OnErr r P → (P → Q) → OnErr r Q
+refused (Ok x) h f = tt
+refused (Err e) h f = f h
+
+pub not_both : {X E : Type 0} (r : Result X E) (P : E → Type 0) → IsErrAnd r P → IsOk r → ⊥
+not_both (Ok x) P h ok = h
+not_both (Err e) P h ok = cc
+
+pub asked : (Q : der.Error → Type 0) (asks none : Type 0) (e : Error)
+    → ((x : der.Error) → Q x → x.kind ≡ OutOfMemory → ⊥)
+    → IsAsn1 (λ x. ((x.kind ≡ OutOfMemory) × asks) ⊎ (Q x × none)) e → IsMemory e → asks
+asked Q asks none (error.Asn1 a) other h memory =
+    elim h [ inl asks ↦ asks.1 | inr told ↦ absurd (other a told.0 memory) ]
+asked Q asks none error.Crypto other h memory = absurd h
+asked Q asks none error.KeyMalformed other h memory = absurd h
+asked Q asks none error.Version other h memory = absurd h

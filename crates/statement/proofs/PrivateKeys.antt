@@ -16,75 +16,17 @@ use Rattle.pkcs1.specs.Laws.PrivateKey.{joins_put, joins_take}
 use Rattle.statement.specs.Statement.{octets, tlv, integer, integers, limit, optional, IfPresent, OtherPrime}
 use Rattle.statement.specs.Statement.{other_primes, sequence, PrivateKey, PrivateKeyEncoding, version, IsShortest}
 use Rattle.statement.proofs.Der.{tlv_is, tlv_made, tlv_fit, integer_is, integer_made, small_integer, small_octets}
-use Rattle.statement.proofs.Der.{joins_are, joins_made, octets_number, number_octets}
+use Rattle.statement.proofs.Der.{joins_are, joins_made}
+use Rattle.statement.specs.Laws.Octets.{number_octets}
+pub use Rattle.statement.specs.Library.{private_key as key_of, other_prime as other_of}
+pub use Rattle.statement.specs.Laws.Values.{private_key_from as numbers, other_prime_from as other_numbers}
+pub use Rattle.statement.specs.Laws.Values.{private_key_back as back}
 
 abbrev other_prime : OtherPrime → List ℕ
 other_prime o = sequence (integers (o.prime ∷ o.exponent ∷ o.coefficient ∷ []))
 
 abbrev number : List ℕ → ℕ
 number x = number_from_digits 256 x
-
--- the numbers of a key, and the key of numbers
-abbrev pub other_numbers : keys.OtherPrime (List ℕ) → OtherPrime
-other_numbers o = record { prime = number o.prime; exponent = number o.exponent; coefficient = number o.coefficient }
-
-abbrev other_of : OtherPrime → keys.OtherPrime (List ℕ)
-other_of o = record { prime = octets o.prime; exponent = octets o.exponent; coefficient = octets o.coefficient }
-
-abbrev pub numbers : keys.PrivateKey (List ℕ) → PrivateKey
-numbers k = record {
-  modulus = number k.modulus;
-  public_exponent = number k.public_exponent;
-  private_exponent = number k.private_exponent;
-  prime1 = number k.prime1;
-  prime2 = number k.prime2;
-  exponent1 = number k.exponent1;
-  exponent2 = number k.exponent2;
-  coefficient = number k.coefficient;
-  other_primes = option_map (map other_numbers) k.other_prime_infos;
-}
-
-abbrev pub key_of : PrivateKey → keys.PrivateKey (List ℕ)
-key_of k = record {
-  modulus = octets k.modulus;
-  public_exponent = octets k.public_exponent;
-  private_exponent = octets k.private_exponent;
-  prime1 = octets k.prime1;
-  prime2 = octets k.prime2;
-  exponent1 = octets k.exponent1;
-  exponent2 = octets k.exponent2;
-  coefficient = octets k.coefficient;
-  other_prime_infos = option_map (map other_of) k.other_primes;
-}
-
-list_back : (os : List OtherPrime) → map other_numbers (map other_of os) ≡ os
-list_back [] = refl
-list_back (o ∷ os) =
-    let r =
-    list_back os in λ i. record {
-      prime = octets_number o.prime i;
-      exponent = octets_number o.exponent i;
-      coefficient = octets_number o.coefficient i;
-    } ∷ r i
-
-others_back : (os : Option (List OtherPrime)) → option_map (map other_numbers) (option_map (map other_of) os) ≡ os
-others_back None = refl
-others_back (Some os) = ap Some (list_back os)
-
-pub back : (k : PrivateKey) → numbers (key_of k) ≡ k
-back k =
-    let o = others_back k.other_primes in
-    λ i. record {
-      modulus = octets_number k.modulus i;
-      public_exponent = octets_number k.public_exponent i;
-      private_exponent = octets_number k.private_exponent i;
-      prime1 = octets_number k.prime1 i;
-      prime2 = octets_number k.prime2 i;
-      exponent1 = octets_number k.exponent1 i;
-      exponent2 = octets_number k.exponent2 i;
-      coefficient = octets_number k.coefficient i;
-      other_primes = o i;
-    }
 
 abbrev pub eight : keys.PrivateKey (List ℕ) → List (List ℕ)
 eight k =

@@ -2,11 +2,14 @@
 use Rattle.std.proofs.Common.{ℕ, List, ◌≡◌, ◌<◌, refl, arith}
 use Rattle.der_core.specs.Integer.{Small}
 use Rattle.pkcs1_params.specs.Parameters as library
-use Rattle.statement.specs.Statement.{integer, PssParameters, IsPss, pss_fields}
+use Rattle.statement.specs.Statement.{integer, IsPss, pss_fields}
 use Rattle.statement.proofs.Der.{small_integer, small_made}
-use Rattle.statement.proofs.Algorithms.{Written, plain_from, plain_to, plain_back, plain_forth, mask_from, mask_to}
-use Rattle.statement.proofs.Algorithms.{mask_back, mask_forth, plain_written, mask_written, sha1_is, mgf1_is}
+use Rattle.statement.proofs.Algorithms.{Written, plain_from, plain_to, plain_forth, mask_from, mask_to}
+use Rattle.statement.proofs.Algorithms.{mask_forth, plain_written, mask_written, sha1_is, mgf1_is}
 use Rattle.statement.proofs.Fields.{Sides, matches, made, value_is}
+use Rattle.statement.specs.Laws.Values.{pss_back}
+pub use Rattle.statement.specs.Library.{pss as to}
+pub use Rattle.statement.specs.Laws.Values.{pss_from as from}
 
 abbrev itself : ℕ → ℕ
 itself n = n
@@ -37,30 +40,9 @@ trailer = record {
       };
 }
 
-abbrev pub from : library.PssParameters → PssParameters
-from p =
-    record {
-      hash = plain_from p.hash;
-      mask_gen = mask_from p.mask_gen;
-      salt_len = p.salt_len;
-      trailer_field = p.trailer_field;
-    }
-
-abbrev pub to : PssParameters → library.PssParameters
-to p =
-    record {
-      hash = plain_to p.hash;
-      mask_gen = mask_to p.mask_gen;
-      salt_len = p.salt_len;
-      trailer_field = p.trailer_field;
-    }
-
 pub sides : Sides from to library.pss_fields pss_fields IsPss
 sides = record {
-  back = λ p.
-      let h = plain_back p.hash in
-      let g = mask_back p.mask_gen in
-      λ i. record { hash = h i; mask_gen = g i; salt_len = p.salt_len; trailer_field = p.trailer_field };
+  back = pss_back;
   match = λ p. (
     matches plain_from plain_to plain_forth plain_written 0 library.sha1 p.hash,
     (

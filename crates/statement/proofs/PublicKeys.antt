@@ -8,21 +8,9 @@ use Rattle.pkcs1.specs.Keys as keys
 use Rattle.statement.specs.Statement.{octets, integer, integers, sequence, limit, PublicKey, PublicKeyEncoding}
 use Rattle.statement.specs.Statement.{IsShortest}
 use Rattle.statement.proofs.Der.{tlv_is, tlv_fit, tlv_made, integer_is, integer_made, joins_are, joins_made}
-use Rattle.statement.proofs.Der.{octets_number, number_octets}
-
--- The numbers of a key, and the key of two numbers.
-abbrev pub numbers : keys.PublicKey (List ℕ) → PublicKey
-numbers key =
-    record {
-      modulus = number_from_digits 256 key.modulus;
-      public_exponent = number_from_digits 256 key.public_exponent;
-    }
-
-abbrev pub key_of : PublicKey → keys.PublicKey (List ℕ)
-key_of v = record { modulus = octets v.modulus; public_exponent = octets v.public_exponent }
-
-pub back : (v : PublicKey) → numbers (key_of v) ≡ v
-back v = λ i. record { modulus = octets_number v.modulus i; public_exponent = octets_number v.public_exponent i }
+use Rattle.statement.specs.Laws.Octets.{number_octets}
+pub use Rattle.statement.specs.Library.{public_key as key_of}
+pub use Rattle.statement.specs.Laws.Values.{public_key_from as numbers, public_key_back as back}
 
 pub forth : (key : keys.PublicKey (List ℕ)) → IsCanonical key.modulus → IsCanonical key.public_exponent
     → key_of (numbers key) ≡ key

@@ -1,6 +1,7 @@
 -- Readings that are put together: if each part gives what the grammar and its faults say, so does the whole.
 use Rattle.std.proofs.Common.{ℕ, Bool, true, false, List, [], ◌∷◌, ◌++◌, ◌≡◌, ◌≢◌, ◌<◌, ◌≤◌, ◌==◌, length, drop, refl}
 use Rattle.std.proofs.Common.{sym, ap, ◌∙◌, arith, inl, inr, length-append, append-nil, Result, Ok, Err}
+use Rattle.std.proofs.Common.{Option, Some, None}
 use Rattle.std.proofs.Math.Seq.{take-append_seam, drop-append_seam}
 use Rattle.std.proofs.lemmas.Bool.Decides.{nat_tests}
 use Rattle.std.specs.Prelude.{nat_lt, if◌then◌else◌, IfOk}
@@ -20,10 +21,10 @@ use Rattle.der_core.specs.declared.error.ErrorKind.TheVariants.{Incomplete, TagU
 use Rattle.der_core.specs.declared.tag.Tag.{Tag}
 use Rattle.pkcs1_params.specs.declared.error.Error.{Error}
 use Rattle.pkcs1_params.specs.declared.error.Error.TheVariants as error
-use Rattle.pkcs1_params.specs.Meanings.{ErrsExactly, IsTheOnly}
+use Rattle.pkcs1_params.specs.Meanings.{ErrsExactly, IsTheOnly, TellsFault}
 use Rattle.statement.specs.Statement.{limit}
 use Rattle.statement.specs.Reading.{Reading, ◌>>=◌, chain, ended, such, checked, unexpected, behind_header, tagged}
-use Rattle.statement.specs.Reading.{whole, Returns, ReturnsDer}
+use Rattle.statement.specs.Reading.{whole, Returns, ReturnsDer, fault_in}
 
 -- Bytes that a slice can hold, and so their parts.
 abbrev pub Slice : List ℕ → Type 0
@@ -150,6 +151,14 @@ module _ {X V W Read : Type 0} (held : X → V) (value : V → W) (holds : X →
         → ReturnsDer holds given r
     returned_der (Ok x) ok err = takes (held x) ok.0 ∙ ap (λ w. Ok (w, [])) (same x)
     returned_der (Err e) ok err = rejects e.kind err.1
+
+-- What a call that tells only the fault returned.
+pub told : {V W : Type 0} (Grammar : V → List ℕ → Type 0) (Fault : ErrorKind → List ℕ → Type 0) (value : V → W)
+    (bytes : List ℕ) (given : Result (W × List ℕ) ErrorKind)
+    → ((v : V) → Means Grammar bytes v → given ≡ Ok (value v, [])) → ((k : ErrorKind) → Fault k bytes → given ≡ Err k)
+    → (r : Option ErrorKind) → TellsFault Grammar Fault bytes r → r ≡ fault_in given
+told Grammar Fault value bytes given takes rejects None t = sym (ap fault_in (takes t.0.0 t.0.1))
+told Grammar Fault value bytes given takes rejects (Some k) t = sym (ap fault_in (rejects k t.1.1))
 
 -- A tag.
 pub checked_as : {X : Type 0} (b : Bool) (f : b ≡ true → X) (x : X) → b ≡ true → (q : b ≡ true) × (checked b f x ≡ f q)

@@ -1,3 +1,7 @@
 pub mod Statement
+pub mod Hidden
 pub mod Held
+pub mod Made
 pub mod Reading
+pub mod Library
+pub mod Laws

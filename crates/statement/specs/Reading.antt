@@ -58,7 +58,8 @@ abbrev pub items : {V : Type 0} → Reading V → Reading (List V)
 items at bytes = items_within (length bytes) at bytes
 
 -- == DER (X.690) ==
--- A kind of error holds a tag that is allowed, with the proof.
+-- A kind of error holds a tag together with the knowledge that it is allowed. So `checked b f x` is f of the knowledge
+-- that b is true, or x if it isn't.
 abbrev pub checked : {X : Type 0} (b : Bool) → (b ≡ true → X) → X → X
 checked true f x = f (λ i. true)
 checked false f x = x
@@ -254,3 +255,8 @@ Returns value r (Err error.Version) = ⊥
 abbrev pub ReturnsDer : {X V : Type 0} → (X → V) → Result (V × List ℕ) ErrorKind → Result X der.Error → Type 0
 ReturnsDer value r (Ok x) = r ≡ Ok (value x, [])
 ReturnsDer value r (Err e) = r ≡ Err e.kind
+
+-- The kind of the first fault, or none.
+abbrev pub fault_in : {V : Type 0} → Result V ErrorKind → Option ErrorKind
+fault_in (Ok x) = None
+fault_in (Err k) = Some k

@@ -1,17 +1,20 @@
 -- What is proved, from the first octet on: which bytes encode which RSA keys, PKCS #8 containers, and RSASSA-PSS and
--- RSAES-OAEP parameters, and what reading and writing promise. `src/lib.rt` promises it of the library's calls, and
+-- RSAES-OAEP parameters, and what reading and writing promise. `src/` promises it of the library's calls, and
 -- `Held.antt` says what their values hold. It stands alone on purpose: the grammars of the crates below were written
--- apart from it, as relations, and proofs/ shows that they say the same.
+-- apart from it, as relations, and proofs/ shows that they say the same. Three definitions are nearly the library's own,
+-- `length_octets`, `IsSubidentifier` and `IsAny`: a mistake in one of these would be in both.
 --
 -- A definition has a type, `name : arguments → result`, and equations; `f x y` is f of x and y, `λ x. e` the function
 -- that takes x to e, and an argument in braces isn't written.
 -- ℕ are the numbers 0, 1, 2, ..; an octet is one below 256, a byte string a List ℕ. [] is the empty list, x ∷ xs has
 -- the first element x, xs ++ ys joins two; take n xs and drop n xs are its first n elements and the others;
--- slice_index_or xs i y is the element at i, from 0 on, or y; map f xs has f of each; concat joins all; digits_of 256 n
--- are the octets of n > 0, the highest first. An Option V is None, or Some of a V.
--- A Type 0 is a statement, or a kind of values. A × B: both. A ⊎ B: one of them. ⊥ is false, so A → ⊥: A isn't so.
--- a ≡ b: equal. (x : A) → B: for every x of A, B. (x : A) × B: there is an x of A with B. A ↔ B: each if the other.
--- AllByRecursion P xs: P of each. A record has named parts, r.part; as a statement, all of them hold.
+-- slice_index_or xs i y is the element at i, from 0 on, or y; slice_index xs i is slice_index_or xs i 0; map f xs has f
+-- of each; concat joins all; digits_of 256 n are the octets of n > 0, the highest first. An Option V is None, or Some of
+-- a V. Tests are true or false: nat_lt m n whether m < n, m == n whether they are equal, a && b whether both, not a.
+-- A Type 0 is a statement, or a kind of values; a Type 1 is a kind of values that have statements as parts.
+-- A × B: both. A ⊎ B: one of them. Unit is true, ⊥ is false, so A → ⊥: A isn't so. IsTrue a: the test a is true.
+-- a ≡ b: equal; a ≢ b: not so. (x : A) → B: for every x of A, B. (x : A) × B: there is an x of A with B. A ↔ B: each if
+-- the other. AllByRecursion P xs: P of each. A record has named parts, r.part; as a statement, all of them hold.
 -- `abbrev`, `unfoldable` and `pub` say how the prover uses a definition, and nothing about it.
 use Rattle.std.specs.Prelude.{ℕ, ◌≡◌, ◌≢◌, ◌<◌, ◌≤◌, ◌+◌, ◌*◌, ◌^◌, ◌%◌, nat_lt, ◌==◌, ◌&&◌, not, if◌then◌else◌, IsTrue}
 use Rattle.std.specs.Prelude.{List, [], ◌∷◌, ◌++◌, length, take, drop, map, slice_index, slice_index_or, ◌⊎◌, ◌↔◌}
@@ -148,7 +151,7 @@ pub record TagAndContents : Type 0 where
   pub tag : ℕ
   pub contents : List ℕ
 
--- The tag is one octet (8.1.2.4.3: the low five bits of 31 begin a longer one), and neither 00 nor 20.
+-- The tag is one octet (8.1.2.4.1: low five bits of 31 begin a longer one), and neither 0 nor 32.
 abbrev pub IsAny : TagAndContents → Type 0
 IsAny v =
     IsTrue (nat_lt v.tag 256 && not (v.tag % 32 == 31) && not (v.tag == 0) && not (v.tag == 32))
@@ -167,6 +170,10 @@ algorithm parameters a = sequence (tlv 6 a.oid ++ optional parameters a.paramete
 
 abbrev pub IsAlgorithm : {P : Type 0} → (P → Type 0) → Algorithm P → Type 0
 IsAlgorithm Is a = IsIdentifier a.oid × IfPresent Is a.parameters
+
+-- The parameters, if there are any, have no octets: a copy of them needs no memory.
+abbrev pub IsBare : Algorithm TagAndContents → Type 0
+IsBare a = IfPresent (λ v. v.contents ≡ []) a.parameters
 
 -- The algorithm with this identifier, whose parameters encode the value, and aren't absent.
 abbrev pub AlgorithmEncoding : {V : Type 0} → List ℕ → (V → List ℕ → Type 0) → V → List ℕ → Type 0

@@ -1,39 +1,75 @@
 //! What is proved: each function is the library's own call, under a contract of `specs/Statement.antt`.
 #![tactic(auto)]
 
-ghost use Rattle.std.specs.Prelude.{ℕ, ◌<◌, ◌^◌};
 ghost use Rattle.std.specs.Option.{option_map};
 ghost use Rattle.statement.specs.Held.{uint_ref, any_ref, rsa_public_key, rsa_private_key, rsa_private_key_view};
 ghost use Rattle.statement.specs.Held.{rsa_pss_params, rsa_oaep_params, private_key_info_ref};
+ghost use Rattle.statement.specs.Held.{pss_params_of, oaep_params_of};
 ghost use Rattle.statement.specs.Statement.{Decodes, Encodes, IsShortest, AtMostOne, SameByShortest, TwoToTheDefaults};
 ghost use Rattle.statement.specs.Statement.{PublicKeyEncoding, PrivateKeyEncoding, PssEncoding, OaepEncoding};
-ghost use Rattle.statement.specs.Statement.{IsPss, pss_fields, IsOaep, oaep_fields, SequenceOf, FieldsUnder, Defaults};
+ghost use Rattle.statement.specs.Statement.{IsPss, pss_fields, IsOaep, oaep_fields};
 ghost use Rattle.statement.specs.Statement.{ContainerEncoding, ContainedKeyEncoding};
 
+pub mod documents;
 mod errors;
+mod faults;
 mod identifiers;
+mod library;
+pub mod made;
 mod memory;
+mod named;
+mod seen;
+pub mod sources;
+mod stated;
+mod views;
 
 pub use errors::{
     read_contained_key_or_fault, read_container_or_fault, read_oaep_algorithm_or_fault,
     read_oaep_params_or_fault, read_private_key_or_fault, read_pss_algorithm_or_fault,
     read_pss_params_or_fault, read_public_key_or_fault,
 };
+pub use faults::{
+    fault_of_container, fault_of_oaep, fault_of_oaep_identifier, fault_of_private, fault_of_pss,
+    fault_of_pss_identifier, fault_of_public,
+};
 pub use identifiers::{
-    lemma_algorithm_count, lemma_algorithms_same_by_shortest, read_oaep_algorithm,
+    algorithm_of_oaep_params, algorithm_of_pss_params, lemma_algorithm_count,
+    lemma_algorithms_same_by_shortest, oaep_params_of_algorithm, oaep_view_of_algorithm,
+    pss_params_of_algorithm, pss_view_of_algorithm, read_oaep_algorithm,
     read_oaep_algorithm_strictly, read_pss_algorithm, read_pss_algorithm_strictly,
     write_oaep_algorithm, write_pss_algorithm,
 };
+pub use library::lemma_encodings_are_the_librarys;
 pub use memory::{
-    OrOutOfMemory, list_oaep_params, list_pss_params, read_owned_oaep_params,
-    read_owned_private_key, read_owned_pss_params, read_owned_public_key,
+    OrOutOfMemory, list_oaep_params, list_pss_params, read_contained_key_as_struct,
+    read_owned_oaep_params, read_owned_private_key, read_owned_pss_params, read_owned_public_key,
     read_private_key_as_struct,
 };
+pub use named::{
+    count_oaep_defaults, count_pss_defaults, is_algorithm_of_hash, label_of_params, label_of_view,
+    oaep_params_use_hash, pss_params_use_hash, read_contained_key_as_view,
+    slice_of_oaep_params_under, slice_of_pss_params_under, write_oaep_params_under,
+    write_pss_params_under,
+};
 use pkcs1::{
-    EncodeParams, RsaOaepParamsRef, RsaOaepParamsView, RsaPrivateKeyRef, RsaPrivateKeyView,
-    RsaPssParamsRef, RsaPssParamsView, RsaPublicKeyRef, lemma_oaep_spellings, lemma_pss_spellings,
+    EncodeParams, OaepParamsOf, PssParamsOf, RsaOaepParamsRef, RsaPrivateKeyRef, RsaPrivateKeyView,
+    RsaPssParamsRef, RsaPublicKeyRef, lemma_oaep_spellings, lemma_pss_spellings,
 };
 use pkcs8_core::{PrivateKeyInfoRef, rsa_from_pkcs8_der};
+pub use seen::{
+    attributes_of_container, borrowed_any, bytes_of_number, bytes_of_owned_number, contents_of_any,
+    count_other_primes, key_by_getters, next_other_prime, number_of_bytes, octets_of_container_key,
+    octets_of_identifier, other_primes_by_getters, public_key_of_struct, public_key_of_view,
+    tag_of_any, viewed_bytes,
+};
+pub use stated::{
+    HoldsIdentifier, HoldsNumber, HoldsTagged, Stated, encode, encode_into, encode_to_slice,
+    encoded_len, is_equal, try_clone,
+};
+pub use views::{
+    keep_oaep_params, keep_pss_params, octets_of_identifier_view, view_oaep_params,
+    view_oaep_params_strictly, view_pss_params, view_pss_params_strictly,
+};
 
 /// Reads a slice exactly if it encodes a public key, as the one that it encodes.
 pub fn read_public_key<'a>(bytes: &'a [u8]) -> Option<RsaPublicKeyRef<'a>>
@@ -85,16 +121,6 @@ pub fn read_pss_params<'a>(bytes: &'a [u8]) -> Option<RsaPssParamsRef<'a>>
     }
 }
 
-/// Reads as a view, which holds what `keep` makes of it.
-pub fn read_pss_params_view<'a>(bytes: &'a [u8]) -> Option<RsaPssParamsRef<'a>>
-    ensures { Decodes PssEncoding bytes.now (option_map (rsa_pss_params any_ref) result) }
-{
-    match RsaPssParamsView::try_from(bytes) {
-        Ok(view) => Some(view.keep()),
-        Err(_) => None,
-    }
-}
-
 /// Reads a slice exactly if it is the shortest encoding of PSS parameters.
 pub fn read_pss_params_strictly<'a>(bytes: &'a [u8]) -> Option<RsaPssParamsRef<'a>>
     ensures { Decodes (IsShortest PssEncoding) bytes.now (option_map (rsa_pss_params any_ref) result) }
@@ -106,27 +132,13 @@ pub fn read_pss_params_strictly<'a>(bytes: &'a [u8]) -> Option<RsaPssParamsRef<'
 }
 
 /// Writes PSS parameters as the shortest encoding, if there is one that is no longer than the slice.
-pub fn write_pss_params(params: &RsaPssParamsRef<'_>, out: &mut [u8]) -> Option<usize>
-    ensures { Encodes PssEncoding (rsa_pss_params any_ref params.now) out.old out.new result }
-{
-    match params.encode_params(out) {
-        Ok(length) => Some(length),
-        Err(_) => None,
-    }
-}
-
-/// Writes the encoding of PSS parameters under a mask, if it is no longer than the slice.
-pub fn write_pss_params_under(
-    mask: u8,
-    params: &RsaPssParamsRef<'_>,
+pub fn write_pss_params<O: HoldsIdentifier, P: HoldsTagged>(
+    params: &PssParamsOf<O, P>,
     out: &mut [u8],
 ) -> Option<usize>
-    requires { (k : ℕ) × Defaults (pss_fields (rsa_pss_params any_ref params.now)) k × (mask < 2 ^ k) }
-    ensures { let Encoding = SequenceOf IsPss pss_fields (FieldsUnder mask) in
-        Encodes Encoding (rsa_pss_params any_ref params.now) out.old out.new result }
+    ensures { Encodes PssEncoding (pss_params_of O.oid P.tagged params.now) out.old out.new result }
 {
-    lemma_pss_spellings();
-    match params.encode_spelling_into(mask, out) {
+    match params.encode_params(out) {
         Ok(length) => Some(length),
         Err(_) => None,
     }
@@ -150,16 +162,6 @@ pub fn read_oaep_params<'a>(bytes: &'a [u8]) -> Option<RsaOaepParamsRef<'a>>
     }
 }
 
-/// Reads as a view, which holds what `keep` makes of it.
-pub fn read_oaep_params_view<'a>(bytes: &'a [u8]) -> Option<RsaOaepParamsRef<'a>>
-    ensures { Decodes OaepEncoding bytes.now (option_map (rsa_oaep_params any_ref) result) }
-{
-    match RsaOaepParamsView::try_from(bytes) {
-        Ok(view) => Some(view.keep()),
-        Err(_) => None,
-    }
-}
-
 /// Reads a slice exactly if it is the shortest encoding of OAEP parameters.
 pub fn read_oaep_params_strictly<'a>(bytes: &'a [u8]) -> Option<RsaOaepParamsRef<'a>>
     ensures { Decodes (IsShortest OaepEncoding) bytes.now (option_map (rsa_oaep_params any_ref) result) }
@@ -171,27 +173,13 @@ pub fn read_oaep_params_strictly<'a>(bytes: &'a [u8]) -> Option<RsaOaepParamsRef
 }
 
 /// Writes OAEP parameters as the shortest encoding, if there is one that is no longer than the slice.
-pub fn write_oaep_params(params: &RsaOaepParamsRef<'_>, out: &mut [u8]) -> Option<usize>
-    ensures { Encodes OaepEncoding (rsa_oaep_params any_ref params.now) out.old out.new result }
-{
-    match params.encode_params(out) {
-        Ok(length) => Some(length),
-        Err(_) => None,
-    }
-}
-
-/// Writes the encoding of OAEP parameters under a mask, if it is no longer than the slice.
-pub fn write_oaep_params_under(
-    mask: u8,
-    params: &RsaOaepParamsRef<'_>,
+pub fn write_oaep_params<O: HoldsIdentifier, P: HoldsTagged>(
+    params: &OaepParamsOf<O, P>,
     out: &mut [u8],
 ) -> Option<usize>
-    requires { (k : ℕ) × Defaults (oaep_fields (rsa_oaep_params any_ref params.now)) k × (mask < 2 ^ k) }
-    ensures { let Encoding = SequenceOf IsOaep oaep_fields (FieldsUnder mask) in
-        Encodes Encoding (rsa_oaep_params any_ref params.now) out.old out.new result }
+    ensures { Encodes OaepEncoding (oaep_params_of O.oid P.tagged params.now) out.old out.new result }
 {
-    lemma_oaep_spellings();
-    match params.encode_spelling_into(mask, out) {
+    match params.encode_params(out) {
         Ok(length) => Some(length),
         Err(_) => None,
     }

@@ -1,20 +1,26 @@
 //! Reading and listing with memory: `AllocError` says only that memory has run out.
-ghost use Rattle.std.specs.Prelude.{◌≡◌, ◌↔◌, IsTrue, IfOk, Ok, Err, Some, None};
+ghost use Rattle.std.specs.Prelude.{ℕ, List, ◌≡◌, ◌≢◌, ◌≤◌, ◌↔◌, ◌++◌, length, IsTrue, IfOk, OnErr, IsErrAnd, Ok, Err};
+ghost use Rattle.std.specs.Prelude.{Some, None};
 ghost use Rattle.std.specs.Option.{option_map};
 ghost use Rattle.der_core.specs.declared.error.ErrorKind.TheVariants.{OutOfMemory};
 ghost use Rattle.pkcs1_params.specs.Errors.{IsAsn1};
 ghost use Rattle.pkcs1_params.specs.declared.error.Error.{Error};
-ghost use Rattle.statement.specs.Held.{uint, uint_ref, any, any_ref, vec};
+ghost use Rattle.statement.specs.Held.{uint, uint_ref, any, any_ref, vec, pss_params_of, oaep_params_of};
 ghost use Rattle.statement.specs.Held.{rsa_public_key, rsa_private_key, rsa_pss_params, rsa_oaep_params};
-ghost use Rattle.statement.specs.Statement.{Decodes, Lists, PublicKeyEncoding, PrivateKeyEncoding};
-ghost use Rattle.statement.specs.Statement.{IsPss, pss_fields, PssEncoding, IsOaep, oaep_fields, OaepEncoding};
+ghost use Rattle.statement.specs.Held.{private_key_info_ref};
+ghost use Rattle.statement.specs.Statement.{Decodes, Lists, PublicKeyEncoding, PrivateKey, PrivateKeyEncoding};
+ghost use Rattle.statement.specs.Statement.{OaepParameters, OaepEncoding, IsBare, IfPresent, rsa_encryption, integer};
+ghost use Rattle.statement.specs.Statement.{sequence, longest, limit};
+ghost use Rattle.statement.specs.Statement.{IsPss, pss_fields, PssParameters, PssEncoding, IsOaep, oaep_fields};
 
+use crate::stated::{HoldsIdentifier, HoldsTagged};
 use pkcs1::der::{Decode, ErrorKind};
 use pkcs1::{
-    DecodeRsaPrivateKey, DecodeRsaPublicKey, Error, RsaOaepParamsOwned, RsaOaepParamsRef,
-    RsaPrivateKeyOwned, RsaPrivateKeyRef, RsaPssParamsOwned, RsaPssParamsRef, RsaPublicKeyOwned,
+    DecodeRsaPrivateKey, DecodeRsaPublicKey, Error, OaepParamsOf, PssParamsOf, RsaOaepParamsOwned,
+    RsaPrivateKeyOwned, RsaPrivateKeyRef, RsaPssParamsOwned, RsaPublicKeyOwned,
     lemma_oaep_spellings, lemma_pss_spellings,
 };
+use pkcs8_core::PrivateKeyInfoRef;
 use std::alloc::{AllocError, Global};
 
 /// What a call gives without `OutOfMemory`: a value or none.
@@ -31,8 +37,9 @@ fn is_out_of_memory(error: &Error) -> bool
 }
 
 /// No value, but for out of memory.
-fn none_but_for_memory<V>(error: Error) -> OrOutOfMemory<V>
-    ensures { IfOk result (λ value. (value ≡ None) × (IsAsn1 (λ e. e.kind ≡ OutOfMemory) error → ⊥)) }
+pub(crate) fn none_but_for_memory<V>(error: Error) -> OrOutOfMemory<V>
+    ensures none { IfOk result (λ value. (value ≡ None) × (IsAsn1 (λ e. e.kind ≡ OutOfMemory) error → ⊥)) }
+    ensures memory { OnErr result (IsAsn1 (λ e. e.kind ≡ OutOfMemory) error) }
 {
     if is_out_of_memory(&error) {
         return Err(AllocError);
@@ -45,6 +52,7 @@ fn found<V>(read: pkcs1::Result<V>) -> OrOutOfMemory<V>
     ensures ok { (value : V) → read ≡ Ok value → IfOk result (λ given. given ≡ Some value) }
     ensures err { (e : Error) → read ≡ Err e
         → IfOk result (λ given. (given ≡ None) × (IsAsn1 (λ asn1. asn1.kind ≡ OutOfMemory) e → ⊥)) }
+    ensures memory { OnErr result (IsErrAnd read (IsAsn1 (λ e. e.kind ≡ OutOfMemory))) }
 {
     match read {
         Ok(value) => Ok(Some(value)),
@@ -52,19 +60,40 @@ fn found<V>(read: pkcs1::Result<V>) -> OrOutOfMemory<V>
     }
 }
 
-/// Reads a slice exactly if it encodes a private key, as the one that it encodes, with a list of its other primes.
+/// Reads a slice exactly if it encodes a private key, as the one that it encodes, with a list of its other primes. A
+/// key without other primes is read without memory.
 pub fn read_private_key_as_struct<'a>(
     alloc: Global,
     bytes: &'a [u8],
 ) -> OrOutOfMemory<RsaPrivateKeyRef<'a>>
-    ensures { IfOk result (λ key. Decodes PrivateKeyEncoding bytes.now (option_map (rsa_private_key uint_ref) key)) }
+    ensures read { IfOk result (λ k. Decodes PrivateKeyEncoding bytes.now (option_map (rsa_private_key uint_ref) k)) }
+    ensures memory { OnErr result ((key : PrivateKey) → PrivateKeyEncoding key bytes.now → key.other_primes ≢ None) }
 {
     found(RsaPrivateKeyRef::decode_key(alloc, bytes))
 }
 
+/// The RSA key in a container that was read, with a list of its other primes. A key without other primes is read without
+/// memory.
+pub fn read_contained_key_as_struct<'a>(
+    alloc: Global,
+    info: &PrivateKeyInfoRef<'a>,
+) -> OrOutOfMemory<RsaPrivateKeyRef<'a>>
+    ensures read { let c = private_key_info_ref info.now in
+        IfOk result (λ read. Decodes
+        (λ key bytes. (c.algorithm ≡ rsa_encryption) × PrivateKeyEncoding key bytes) c.private_key
+        (option_map (rsa_private_key uint_ref) read)) }
+    ensures memory { let c = private_key_info_ref info.now in
+        OnErr result ((key : PrivateKey) → c.algorithm ≡ rsa_encryption → PrivateKeyEncoding key c.private_key
+        → key.other_primes ≢ None) }
+{
+    found(info.rsa_key(alloc))
+}
+
 /// Reads a slice exactly if it encodes a private key, as the one that it encodes, with numbers of its own.
 pub fn read_owned_private_key(alloc: Global, bytes: &[u8]) -> OrOutOfMemory<RsaPrivateKeyOwned>
-    ensures { IfOk result (λ key. Decodes PrivateKeyEncoding bytes.now (option_map (rsa_private_key uint) key)) }
+    ensures read { IfOk result (λ key. Decodes PrivateKeyEncoding bytes.now (option_map (rsa_private_key uint) key)) }
+    ensures memory { OnErr result ((version : ℕ) × (n : ℕ) × (more : List ℕ) × (behind : List ℕ)
+        × (bytes.now ≡ sequence (integer version ++ integer n ++ more) ++ behind)) }
 {
     let read = RsaPrivateKeyOwned::from_pkcs1_der(alloc, bytes);
     match read {
@@ -75,7 +104,9 @@ pub fn read_owned_private_key(alloc: Global, bytes: &[u8]) -> OrOutOfMemory<RsaP
 
 /// Reads a slice exactly if it encodes a public key, as the one that it encodes, with numbers of its own.
 pub fn read_owned_public_key(alloc: Global, bytes: &[u8]) -> OrOutOfMemory<RsaPublicKeyOwned>
-    ensures { IfOk result (λ key. Decodes PublicKeyEncoding bytes.now (option_map (rsa_public_key uint) key)) }
+    ensures read { IfOk result (λ key. Decodes PublicKeyEncoding bytes.now (option_map (rsa_public_key uint) key)) }
+    ensures memory { OnErr result ((n : ℕ) × (more : List ℕ) × (behind : List ℕ)
+        × (bytes.now ≡ sequence (integer n ++ more) ++ behind)) }
 {
     let read = RsaPublicKeyOwned::from_pkcs1_der(alloc, bytes);
     match read {
@@ -84,9 +115,12 @@ pub fn read_owned_public_key(alloc: Global, bytes: &[u8]) -> OrOutOfMemory<RsaPu
     }
 }
 
-/// Reads a slice exactly if it encodes PSS parameters, as the ones that it encodes, with octets of their own.
+/// Reads a slice exactly if it encodes PSS parameters, as the ones that it encodes, with octets of their own: without
+/// memory if they have none.
 pub fn read_owned_pss_params(alloc: Global, bytes: &[u8]) -> OrOutOfMemory<RsaPssParamsOwned>
-    ensures { IfOk result (λ params. Decodes PssEncoding bytes.now (option_map (rsa_pss_params any) params)) }
+    ensures read { IfOk result (λ params. Decodes PssEncoding bytes.now (option_map (rsa_pss_params any) params)) }
+    ensures memory { OnErr result ((params : PssParameters) → PssEncoding params bytes.now
+        → IsBare params.hash × IfPresent IsBare params.mask_gen.parameters → ⊥) }
 {
     let read = RsaPssParamsOwned::from_der(alloc, bytes);
     match read {
@@ -96,9 +130,13 @@ pub fn read_owned_pss_params(alloc: Global, bytes: &[u8]) -> OrOutOfMemory<RsaPs
 }
 
 /// Lists all encodings of PSS parameters, if the longest is within the limit.
-pub fn list_pss_params(alloc: Global, params: &RsaPssParamsRef<'_>) -> OrOutOfMemory<Vec<Vec<u8>>>
-    ensures { let encodings = option_map (vec (λ encoding. encoding.items)) in
-        IfOk result (λ list. Lists IsPss pss_fields (rsa_pss_params any_ref params.now) (encodings list)) }
+pub fn list_pss_params<O: HoldsIdentifier, P: HoldsTagged>(
+    alloc: Global,
+    params: &PssParamsOf<O, P>,
+) -> OrOutOfMemory<Vec<Vec<u8>>>
+    ensures list { let encodings = option_map (vec (λ encoding. encoding.items)) in
+        IfOk result (λ list. Lists IsPss pss_fields (pss_params_of O.oid P.tagged params.now) (encodings list)) }
+    ensures memory { OnErr result (length (longest (pss_fields (pss_params_of O.oid P.tagged params.now))) ≤ limit) }
 {
     lemma_pss_spellings();
     let list = params.spellings(alloc);
@@ -108,9 +146,12 @@ pub fn list_pss_params(alloc: Global, params: &RsaPssParamsRef<'_>) -> OrOutOfMe
     }
 }
 
-/// Reads a slice exactly if it encodes OAEP parameters, as the ones that it encodes, with octets of their own.
+/// Reads a slice exactly if it encodes OAEP parameters, as the ones that it encodes, with octets of their own: without
+/// memory if they have none.
 pub fn read_owned_oaep_params(alloc: Global, bytes: &[u8]) -> OrOutOfMemory<RsaOaepParamsOwned>
-    ensures { IfOk result (λ params. Decodes OaepEncoding bytes.now (option_map (rsa_oaep_params any) params)) }
+    ensures read { IfOk result (λ params. Decodes OaepEncoding bytes.now (option_map (rsa_oaep_params any) params)) }
+    ensures memory { OnErr result ((params : OaepParameters) → OaepEncoding params bytes.now
+        → IsBare params.hash × IfPresent IsBare params.mask_gen.parameters × IsBare params.p_source → ⊥) }
 {
     let read = RsaOaepParamsOwned::from_der(alloc, bytes);
     match read {
@@ -120,9 +161,13 @@ pub fn read_owned_oaep_params(alloc: Global, bytes: &[u8]) -> OrOutOfMemory<RsaO
 }
 
 /// Lists all encodings of OAEP parameters, if the longest is within the limit.
-pub fn list_oaep_params(alloc: Global, params: &RsaOaepParamsRef<'_>) -> OrOutOfMemory<Vec<Vec<u8>>>
-    ensures { let encodings = option_map (vec (λ encoding. encoding.items)) in
-        IfOk result (λ list. Lists IsOaep oaep_fields (rsa_oaep_params any_ref params.now) (encodings list)) }
+pub fn list_oaep_params<O: HoldsIdentifier, P: HoldsTagged>(
+    alloc: Global,
+    params: &OaepParamsOf<O, P>,
+) -> OrOutOfMemory<Vec<Vec<u8>>>
+    ensures list { let encodings = option_map (vec (λ encoding. encoding.items)) in
+        IfOk result (λ list. Lists IsOaep oaep_fields (oaep_params_of O.oid P.tagged params.now) (encodings list)) }
+    ensures memory { OnErr result (length (longest (oaep_fields (oaep_params_of O.oid P.tagged params.now))) ≤ limit) }
 {
     lemma_oaep_spellings();
     let list = params.spellings(alloc);

@@ -11,19 +11,27 @@ use Rattle.pkcs1_params.specs.declared.error.Error.TheVariants as error
 use Rattle.statement.specs.Statement.{Decodes, PssEncoding}
 use Rattle.statement.specs.Held.{rsa_pss_params, any}
 use Rattle.statement.proofs.Held.{pss_holds}
-use Rattle.statement.proofs.OutOfMemory.{rejected, no_value}
+use Rattle.statement.proofs.Bare.{pss_asked}
+use Rattle.statement.proofs.OutOfMemory.{rejected, no_value, refused, asked}
 use Rattle.statement.proofs.Fields.{read, means}
 use Rattle.statement.proofs.Pss.{to, sides}
 use Rattle.statement.proofs.memory.read_owned_pss_params.Goals as goal
 
-pub returns-in-Ok : goal.returns-in-Ok
-returns-in-Ok c =
+pub returns-in-Ok-clause-read : goal.returns-in-Ok-clause-read
+returns-in-Ok-clause-read c =
     read sides _ (pss_holds own_any_of c.in-Ok.value) _ (the_meaning pss_told _ _ c.in-Ok.ensures.encoding)
 
-pub returns-in-Err : goal.returns-in-Err
-returns-in-Err c =
-    no_value (λ (v : Option (PssParamsOf ObjectIdentifier Any)).
-    Decodes PssEncoding c.args.bytes.now
-    (option_map (rsa_pss_params any) v)) c.none_but_for_memory.result c.none_but_for_memory.ensures
+pub returns-in-Err-clause-read : goal.returns-in-Err-clause-read
+returns-in-Err-clause-read c =
+    no_value (λ (v : Option (PssParamsOf ObjectIdentifier Any)). Decodes PssEncoding c.args.bytes.now
+    (option_map (rsa_pss_params any) v)) c.none_but_for_memory.result c.none_but_for_memory.ensures.none
     (λ other v p. rejected (λ x. TellsOfBytes x.kind) _ _ (error.Asn1 c.in-Err.e) c.in-Err.ensures.encoding other (to v)
     (means sides v _ p))
+
+pub returns-in-Err-clause-memory : goal.returns-in-Err-clause-memory
+returns-in-Err-clause-memory c =
+    let bytes = c.args.bytes.now in
+    refused c.none_but_for_memory.result c.none_but_for_memory.ensures.memory
+    (λ memory params p bare. pss_asked bytes
+    (asked (λ x. TellsOfBytes x.kind) _ _ (error.Asn1 c.in-Err.e) (λ x told is. told.0 is) c.in-Err.ensures.encoding
+    memory) params (means sides params bytes p) bare)

@@ -1,0 +1,10 @@
+use Rattle.pkcs1_params.specs.Parameters.{RsaOaepParams}
+use Rattle.statement.specs.Statement.{OaepEncoding}
+use Rattle.pkcs1_c.proofs.StatedCalls.{wrote}
+use Rattle.pkcs1_c.proofs.StatedParameters.{oaep}
+use Rattle.pkcs1_c.proofs.stated_oaep.encode_oaep_params.Goals as goal
+
+pub returns : goal.returns
+returns c =
+    let same = c.lemma_encodings_are_the_librarys.ensures.oaep in
+    wrote oaep OaepEncoding RsaOaepParams same c.args.params.now c.pkcs1_c_oaep_params_encode.ensures

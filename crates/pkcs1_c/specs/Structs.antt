@@ -1,0 +1,175 @@
+-- What the structs for C hold in the words of `statement`, and what a call that writes says and leaves.
+-- One rule, as in `Held.antt` there: the function that is named as a struct, in lower case with underscores, gives the
+-- value that it holds.
+use Rattle.std.specs.Prelude.{ℕ, List, [], ◌∷◌, ◌≡◌, ◌≢◌, ◌<◌, ◌⊎◌, length, take, map, Option, Some, None}
+use Rattle.std.specs.Prelude.{if◌then◌else◌}
+use Rattle.std.specs.Int.Digits.{number_from_digits}
+use Rattle.std.specs.List.{AllByRecursion}
+use Rattle.pkcs1_c.specs.declared.algorithm.Algorithm as algorithms
+use Rattle.pkcs1_c.specs.declared.algorithm.MaskGen.{MaskGen}
+use Rattle.pkcs1_c.specs.declared.container.PrivateKeyInfo.{PrivateKeyInfo}
+use Rattle.pkcs1_c.specs.declared.oaep.OaepParams.{OaepParams}
+use Rattle.pkcs1_c.specs.declared.private_key.OtherPrime as prime_structs
+use Rattle.pkcs1_c.specs.declared.private_key.PrivateKey as key_structs
+use Rattle.pkcs1_c.specs.declared.pss.PssParams.{PssParams}
+use Rattle.pkcs1_c.specs.declared.public_key.PublicKey as public_structs
+use Rattle.statement.specs.Statement.{octets, PublicKey, PrivateKey, PrivateKeyEncoding, OtherPrime, TagAndContents}
+use Rattle.statement.specs.Statement.{Algorithm, PssParameters, OaepParameters, Container, null, mgf1_sha1}
+use Rattle.statement.specs.Statement.{empty_label, rsa_encryption, IsShortest, Encodes, Decodes}
+
+-- == Writing ==
+-- The length of the value's shortest encoding.
+abbrev pub IsLength : {V : Type 0} → (V → List ℕ → Type 0) → V → ℕ → Type 0
+IsLength Encoding v n = (bytes : List ℕ) × IsShortest Encoding v bytes × (n ≡ length bytes)
+
+-- A call was to write a value's shortest encoding over a slice, and its length over a number. Status 0: it did, and the
+-- rest of the slice is as before. 15, `PKCS1_NO_ROOM`: the encoding is longer than the slice, and the number is its
+-- length. Any other status: there is none, and nothing changed. The slice changed only at 0.
+pub record WritesOrTells {V : Type 0} (Encoding : V → List ℕ → Type 0) (v : V) (old new : List ℕ)
+    (old_len new_len status : ℕ) : Type 0 where
+  pub ok : status ≡ 0 → Encodes Encoding v old new (Some new_len)
+  pub no_room : status ≡ 15 → IsLength Encoding v new_len × (length old < new_len)
+  pub rejected : status ≢ 0 → status ≢ 15 → (bytes : List ℕ) → Encoding v bytes → ⊥
+  pub unchanged : status ≢ 0 → (new ≡ old) × (status ≢ 15 → new_len ≡ old_len)
+
+-- A value that can't be held has no encoding.
+abbrev pub If : {V : Type 0} → Type 0 → (V → List ℕ → Type 0) → V → List ℕ → Type 0
+If IsHeld Encoding v bytes = IsHeld × Encoding v bytes
+
+-- == Public keys ==
+abbrev pub number : List ℕ → ℕ
+number bytes = number_from_digits 256 bytes
+
+-- The key with these numbers: zeros in front don't matter.
+abbrev pub public_key : public_structs.PublicKey → PublicKey
+public_key key =
+    record { modulus = number key.modulus.now; public_exponent = number key.public_exponent.now }
+
+-- Each number has a byte.
+abbrev pub HasNumbers : public_structs.PublicKey → Type 0
+HasNumbers key = (0 < length key.modulus.now) × (0 < length key.public_exponent.now)
+
+-- The struct has the octets of the key.
+abbrev pub Holds : public_structs.PublicKey → PublicKey → Type 0
+Holds key v = (key.modulus.now ≡ octets v.modulus) × (key.public_exponent.now ≡ octets v.public_exponent)
+
+-- == Parameters ==
+-- Tag and contents count only if `has_parameters` is true, the hash of MGF1 only if `has_hash` is.
+abbrev pub algorithm : algorithms.Algorithm → Algorithm TagAndContents
+algorithm a =
+    record {
+      oid = a.oid.now;
+      parameters = if a.has_parameters then Some
+          (record { tag = a.tag; contents = a.parameters.now }) else None;
+    }
+
+abbrev pub mask_gen : MaskGen → Algorithm (Algorithm TagAndContents)
+mask_gen m = record { oid = m.oid.now; parameters = if m.has_hash then Some (algorithm m.hash) else None }
+
+abbrev pub pss_params : PssParams → PssParameters
+pss_params p =
+    record {
+      hash = algorithm p.hash;
+      mask_gen = mask_gen p.mask_gen;
+      salt_len = p.salt_len;
+      trailer_field = p.trailer_field;
+    }
+
+abbrev pub oaep_params : OaepParams → OaepParameters
+oaep_params p =
+    record { hash = algorithm p.hash; mask_gen = mask_gen p.mask_gen; p_source = algorithm p.p_source }
+
+-- The algorithm is the hash function with this identifier: its parameters are absent, or NULL.
+abbrev pub IsHash : List ℕ → Algorithm TagAndContents → Type 0
+IsHash oid a = (a.oid ≡ oid) × ((a.parameters ≡ None) ⊎ (a.parameters ≡ Some null))
+
+-- The hash function has this identifier, and the mask generation function is MGF1 with a hash function that has it too.
+abbrev pub UsesHash : List ℕ → Algorithm TagAndContents → Algorithm (Algorithm TagAndContents) → Type 0
+UsesHash oid hash mask_gen =
+    IsHash oid hash × (mask_gen.oid ≡ mgf1_sha1.oid)
+    × (inner : Algorithm TagAndContents) × (mask_gen.parameters ≡ Some inner) × IsHash oid inner
+
+-- The source is pSpecified with an OCTET STRING, whose octets are the label.
+abbrev pub HasLabel : Algorithm TagAndContents → List ℕ → Type 0
+HasLabel source label =
+    source ≡ record { oid = empty_label.oid; parameters = Some (record { tag = 4; contents = label }) }
+
+-- == Private keys ==
+-- Each number has a byte.
+abbrev pub HaveBytes : List (List ℕ) → Type 0
+HaveBytes numbers = AllByRecursion (λ bytes. 0 < length bytes) numbers
+
+abbrev pub numbers_of_prime : prime_structs.OtherPrime → List (List ℕ)
+numbers_of_prime o = o.prime.now ∷ o.exponent.now ∷ o.coefficient.now ∷ []
+
+abbrev pub numbers_of_key : key_structs.PrivateKey → List (List ℕ)
+numbers_of_key key =
+    key.modulus.now ∷ key.public_exponent.now ∷ key.private_exponent.now ∷ key.prime1.now ∷ key.prime2.now
+    ∷ key.exponent1.now ∷ key.exponent2.now ∷ key.coefficient.now ∷ []
+
+-- The struct tells how many other primes the array has, and each number has a byte.
+abbrev pub HasPrivateNumbers : key_structs.PrivateKey → List prime_structs.OtherPrime → Type 0
+HasPrivateNumbers key others =
+    (key.other_primes ≡ length others) × HaveBytes (numbers_of_key key)
+    × AllByRecursion (λ o. HaveBytes (numbers_of_prime o)) others
+
+abbrev pub other_prime : prime_structs.OtherPrime → OtherPrime
+other_prime o = record {
+  prime = number o.prime.now;
+  exponent = number o.exponent.now;
+  coefficient = number o.coefficient.now;
+}
+
+-- An empty array: there are none.
+abbrev pub other_primes : List prime_structs.OtherPrime → Option (List OtherPrime)
+other_primes [] = None
+other_primes (o ∷ others) = Some (map other_prime (o ∷ others))
+
+-- The key with the numbers of a struct and of an array: zeros in front don't matter.
+abbrev pub private_key : key_structs.PrivateKey → List prime_structs.OtherPrime → PrivateKey
+private_key key others = record {
+  modulus = number key.modulus.now;
+  public_exponent = number key.public_exponent.now;
+  private_exponent = number key.private_exponent.now;
+  prime1 = number key.prime1.now;
+  prime2 = number key.prime2.now;
+  exponent1 = number key.exponent1.now;
+  exponent2 = number key.exponent2.now;
+  coefficient = number key.coefficient.now;
+  other_primes = other_primes others;
+}
+
+abbrev pub listed : Option (List OtherPrime) → List OtherPrime
+listed None = []
+listed (Some others) = others
+
+abbrev pub octets_of_prime : OtherPrime → List (List ℕ)
+octets_of_prime o = octets o.prime ∷ octets o.exponent ∷ octets o.coefficient ∷ []
+
+-- The struct has the octets of the key and tells how many other primes it has. The array has the octets of the first of
+-- them, as many as fit.
+abbrev pub HoldsPrivate : key_structs.PrivateKey → List prime_structs.OtherPrime → PrivateKey → Type 0
+HoldsPrivate key array v =
+    (numbers_of_key key ≡ octets v.modulus ∷ octets v.public_exponent ∷ octets v.private_exponent ∷ octets v.prime1
+    ∷ octets v.prime2 ∷ octets v.exponent1 ∷ octets v.exponent2 ∷ octets v.coefficient ∷ [])
+    × (key.other_primes ≡ length (listed v.other_primes))
+    × (take (length array) (map octets_of_prime (listed v.other_primes))
+    ≡ take (length (listed v.other_primes)) (map numbers_of_prime array))
+
+-- The bytes encode one key, and struct and array have it.
+abbrev pub DecodesPrivate : List ℕ → key_structs.PrivateKey → List prime_structs.OtherPrime → Type 0
+DecodesPrivate bytes key array =
+    (v : PrivateKey) × Decodes PrivateKeyEncoding bytes (Some v) × HoldsPrivate key array v
+
+-- == Containers ==
+-- The algorithm is always rsaEncryption with NULL. Attributes count only if `has_attributes` is true.
+abbrev pub private_key_info : PrivateKeyInfo → Container
+private_key_info info = record {
+  algorithm = rsa_encryption;
+  private_key = info.private_key.now;
+  attributes = if info.has_attributes then Some info.attributes.now else None;
+}
+
+-- The private key's octets encode a key.
+abbrev pub HasKey : PrivateKeyInfo → Type 0
+HasKey info = (key : PrivateKey) × PrivateKeyEncoding key info.private_key.now

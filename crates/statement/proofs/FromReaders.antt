@@ -1,0 +1,61 @@
+-- What was read of readers and sources.
+use Rattle.std.proofs.Common.{ℕ, List, ◌≡◌, ◌≢◌, ◌≤◌, ◌++◌, length, refl, subst, inl, inr, Some, None, Result, Ok, Err}
+use Rattle.std.specs.Prelude.{IfErr, IfOk, ◌⊎◌, Option}
+use Rattle.der_core.specs.Carrying.{piece, ReadsDocument}
+use Rattle.der_core.specs.Document.{Means, IsDocument}
+use Rattle.der_core.specs.Faults.{AreNone}
+use Rattle.der_core.specs.Input.{Input, left_in}
+use Rattle.der_core.specs.Reading.{ReadsFront, NoneIn}
+use Rattle.der_core.specs.SourcesSinks.{GivesAll, GivesMore, GivesSome, OneFailed}
+use Rattle.der_core.specs.declared.document.DocumentOf.{DocumentOf}
+use Rattle.der_core.specs.declared.error.Error.{Error}
+use Rattle.der_core.specs.declared.error.ErrorKind.{ErrorKind}
+use Rattle.der_core.specs.declared.error.ErrorKind.TheVariants.{File, OutOfMemory}
+use Rattle.statement.specs.Held.{document_of}
+use Rattle.statement.specs.Statement.{AreOctets, limit, sequence}
+use Rattle.statement.proofs.Beginnings.{opened}
+use Rattle.statement.proofs.Der.{tlv_made}
+
+pub unread : {X W V : Type 0} (value : X → W) (Encoding : W → List ℕ → Type 0) (encodes : V → List ℕ → Type 0)
+    (fault : ErrorKind → List ℕ → Type 0) (may : List ℕ → Type 0) → AreNone (NoneIn Encoding) fault
+    → ((v : V) (bytes : List ℕ) → encodes v bytes → (w : W) × Means Encoding bytes w) → (r : Result X Error)
+    (before after : Input) → length (left_in before) ≤ limit → ReadsFront value Encoding fault may r before after
+    → IfErr r (λ e. (after ≡ None) × (e.kind ≢ OutOfMemory → (v : V) (bytes rest : List ℕ)
+    → before ≡ Some (bytes ++ rest) → encodes v bytes → ⊥))
+unread value Encoding encodes fault may none each (Ok x) before after few h = tt
+unread value Encoding encodes fault may none each (Err e) before after few (failed, by, faulty) = (
+  failed,
+  λ other v bytes rest is p. elim (faulty (bytes ++ rest) is) [
+    | inl memory ↦ other memory.0
+    | inr f ↦ let (w, m) = each v bytes p in
+        (none e.kind (bytes ++ rest) (subst (λ i. length (left_in i) ≤ limit) is few) f).1 w bytes rest refl m.1
+  ],
+)
+
+abbrev pub IsSequence : List ℕ → Type 0
+IsSequence bytes =
+    (contents : List ℕ) × AreOctets contents × (length bytes ≤ limit) × (bytes ≡ sequence contents)
+
+pub document_is : (bytes : List ℕ) → IsDocument bytes → IsSequence bytes
+document_is bytes d = let (c, octets, is) = opened bytes d.1 in (c, octets, d.0, is)
+
+pub document_made : (bytes contents : List ℕ) → AreOctets contents → length bytes ≤ limit → bytes ≡ sequence contents
+    → IsDocument bytes
+document_made bytes contents octets few is = (few, tlv_made 48 contents bytes octets is few)
+
+pub documents : {S : Type 0} (r : Result (DocumentOf S) Error) → IfOk r (λ d. IsSequence (document_of d))
+documents (Ok d) = document_is (document_of d) d.whole
+documents (Err e) = tt
+
+pub undocumented : {S : Type 0} (r : Result (DocumentOf S) Error) (old new : Option (List ℕ)) (failures failures2 : ℕ)
+    → ReadsDocument document_of r old new failures failures2
+    → IfErr r (λ e. ((e.kind ≡ File) × OneFailed failures failures2) ⊎ ((failures2 ≡ failures)
+    × (((e.kind ≡ OutOfMemory) × GivesSome limit old new) ⊎ GivesMore limit piece old new
+    ⊎ ((bytes : List ℕ) × GivesAll old new bytes
+    × ((contents : List ℕ) → AreOctets contents → length bytes ≤ limit → bytes ≡ sequence contents → ⊥)))))
+undocumented (Ok d) old new failures failures2 h = tt
+undocumented (Err e) old new failures failures2 (inl (inl file)) = inl file
+undocumented (Err e) old new failures failures2 (inl (inr (inl memory))) = inr (memory.1, inl (memory.0, memory.2))
+undocumented (Err e) old new failures failures2 (inl (inr (inr more))) = inr (more.1, inr (inl more.2))
+undocumented (Err e) old new failures failures2 (inr (same, (bytes, all, none, fault))) =
+    inr (same, inr (inr (bytes, all, λ c octets few is. none (document_made bytes c octets few is))))

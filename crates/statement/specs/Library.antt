@@ -1,0 +1,53 @@
+-- The values of the crates below for those of `Statement.antt`, for `src/library.rt`: numbers are their octets.
+use Rattle.std.specs.Prelude.{ℕ, List, map}
+use Rattle.std.specs.Option.{option_map}
+use Rattle.spki_core.specs.Any as anys
+use Rattle.spki_core.specs.AlgorithmIdentifier as algorithms
+use Rattle.pkcs1.specs.Keys as keys
+use Rattle.pkcs1_params.specs.Parameters as parameters
+use Rattle.pkcs8_core.specs.Container.{Info}
+use Rattle.statement.specs.Statement.{octets, PublicKey, PrivateKey, OtherPrime, TagAndContents, Algorithm, Container}
+use Rattle.statement.specs.Statement.{PssParameters, OaepParameters}
+
+abbrev pub public_key : PublicKey → keys.PublicKey (List ℕ)
+public_key v = record { modulus = octets v.modulus; public_exponent = octets v.public_exponent }
+
+abbrev pub other_prime : OtherPrime → keys.OtherPrime (List ℕ)
+other_prime o = record { prime = octets o.prime; exponent = octets o.exponent; coefficient = octets o.coefficient }
+
+abbrev pub private_key : PrivateKey → keys.PrivateKey (List ℕ)
+private_key k = record {
+  modulus = octets k.modulus;
+  public_exponent = octets k.public_exponent;
+  private_exponent = octets k.private_exponent;
+  prime1 = octets k.prime1;
+  prime2 = octets k.prime2;
+  exponent1 = octets k.exponent1;
+  exponent2 = octets k.exponent2;
+  coefficient = octets k.coefficient;
+  other_prime_infos = option_map (map other_prime) k.other_primes;
+}
+
+abbrev pub any : TagAndContents → anys.TagAndContents
+any v = record { tag = v.tag; contents = v.contents }
+
+abbrev pub algorithm : {P Q : Type 0} → (P → Q) → Algorithm P → algorithms.Algorithm Q
+algorithm f a = record { oid = a.oid; parameters = option_map f a.parameters }
+
+abbrev pub pss : PssParameters → parameters.PssParameters
+pss p = record {
+  hash = algorithm any p.hash;
+  mask_gen = algorithm (algorithm any) p.mask_gen;
+  salt_len = p.salt_len;
+  trailer_field = p.trailer_field;
+}
+
+abbrev pub oaep : OaepParameters → parameters.OaepParameters
+oaep p = record {
+  hash = algorithm any p.hash;
+  mask_gen = algorithm (algorithm any) p.mask_gen;
+  p_source = algorithm any p.p_source;
+}
+
+abbrev pub container : Container → Info
+container c = record { algorithm = algorithm any c.algorithm; private_key = c.private_key; attributes = c.attributes }

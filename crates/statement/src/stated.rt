@@ -1,0 +1,284 @@
+//! Every way of writing a value, of every type: which bytes encode it is what the type says by `encodes`.
+ghost use Rattle.std.specs.Prelude.{ℕ, List, ◌≡◌, ◌≤◌, ◌<◌, ◌++◌, ◌↔◌, length, IfSome, IfNone, IfOk, OnErr};
+ghost use Rattle.std.specs.Prelude.{true, false};
+ghost use Rattle.std.specs.Option.{option_map};
+ghost use Rattle.der_core.specs.Document as documents;
+ghost use Rattle.std.specs.Prelude.{refl, IsTrue, IsOk};
+ghost use Rattle.std.specs.Int.Digits.{number_from_digits};
+ghost use Rattle.der_core.specs.Integer.{IsCanonical};
+ghost use Rattle.der_core.specs.Laws.Integer.{holds_canonical};
+ghost use Rattle.std.specs.Global.{Vec};
+ghost use Rattle.der_core.specs.declared.integer.uint.UintRef.{UintRef};
+ghost use Rattle.pkcs1.specs.Keys as keys;
+ghost use Rattle.pkcs1.specs.PublicKeyValue.{public_key_of};
+ghost use Rattle.pkcs1.specs.PrivateKeyValue.{private_key_of};
+ghost use Rattle.pkcs1.specs.declared.public_key.RsaPublicKey.{RsaPublicKey};
+ghost use Rattle.pkcs1.specs.declared.private_key.PrivateKeyOf.{PrivateKeyOf};
+ghost use Rattle.pkcs1.specs.declared.private_key.other_prime_info.OtherPrimeInfo.{OtherPrimeInfo};
+ghost use Rattle.pkcs8_core.specs.Container.{Info, PrivateKeyInfo};
+ghost use Rattle.pkcs8_core.specs.Held.{info_of};
+ghost use Rattle.pkcs8_core.specs.declared.info.PrivateKeyInfoRef.{PrivateKeyInfoRef};
+ghost use Rattle.statement.specs.Library as library;
+ghost use Rattle.statement.specs.Held.{uint_ref, uint, any_ref, any, object_identifier, identifier_view};
+ghost use Rattle.statement.specs.Held.{rsa_public_key, rsa_private_key, pss_params_of, oaep_params_of};
+ghost use Rattle.statement.specs.Held.{private_key_info_ref};
+ghost use Rattle.statement.specs.Statement.{Encodes, IsShortest, PublicKey, PublicKeyEncoding, PrivateKey, limit};
+ghost use Rattle.statement.specs.Statement.{PrivateKeyEncoding, PssParameters, PssEncoding, OaepParameters};
+ghost use Rattle.statement.specs.Statement.{OaepEncoding, Container, ContainerEncoding, TagAndContents};
+
+use pkcs1::der::{AsUintRef, Encode, EqualByValue, TryClone, Uint, UintRef, Writer};
+use pkcs1::spki::{Any, AnyRef, AnyValue, IdentifierValue, IdentifierView, ObjectIdentifier};
+use pkcs1::{OaepParamsOf, PssParamsOf, RsaPrivateKey, RsaPublicKey};
+use pkcs8_core::PrivateKeyInfoRef;
+use std::alloc::{AllocError, Global};
+
+/// What holds an identifier.
+pub trait HoldsIdentifier: IdentifierValue {
+    /// Its octets.
+    ghost oid: { Self → List ℕ };
+
+    ghost is_oid: { (held : Self) → Self.octets held ≡ oid held };
+}
+
+impl HoldsIdentifier for ObjectIdentifier {
+    ghost oid = { object_identifier };
+
+    ghost is_oid = { λ held. refl };
+}
+
+impl HoldsIdentifier for IdentifierView<'_> {
+    ghost oid = { identifier_view };
+
+    ghost is_oid = { λ held. refl };
+}
+
+/// What holds a tag with contents.
+pub trait HoldsTagged: AnyValue {
+    /// The tag and the contents.
+    ghost tagged: { Self → TagAndContents };
+
+    ghost is_tagged: { (held : Self) → Self.any held ≡ library.any (tagged held) };
+}
+
+impl HoldsTagged for AnyRef<'_> {
+    ghost tagged = { any_ref };
+
+    ghost is_tagged = { λ held. refl };
+}
+
+impl HoldsTagged for Any {
+    ghost tagged = { any };
+
+    ghost is_tagged = { λ held. refl };
+}
+
+/// What holds a number.
+pub trait HoldsNumber: AsUintRef {
+    /// The number.
+    ghost whole: { Self → ℕ };
+
+    ghost is_whole: { (held : Self) → number_from_digits 256 (Self.number held) ≡ whole held };
+
+    ghost canonical: { (held : Self) → IsCanonical (Self.number held) };
+}
+
+impl HoldsNumber for UintRef<'_> {
+    ghost whole = { uint_ref };
+
+    ghost is_whole = { λ held. refl };
+
+    ghost canonical = { λ held. holds_canonical held.bytes.now held.canonical };
+}
+
+impl HoldsNumber for Uint {
+    ghost whole = { uint };
+
+    ghost is_whole = { λ held. refl };
+
+    ghost canonical = { λ held. holds_canonical held.bytes.items held.canonical };
+}
+
+/// A type of the library whose values mean values of the statement.
+pub trait Stated: Encode + Sized {
+    ghost Meaning: { Type 0 };
+
+    /// What a value means.
+    ghost meaning: { Self → Meaning };
+
+    /// Which bytes encode it.
+    ghost encodes: { Meaning → List ℕ → Type 0 };
+
+    /// Does nothing. Its contract: they are those that the library's grammar says, also of values of the statement that
+    /// no value of the type means; and two values mean the same in the library exactly if they do here.
+    fn lemma_same()
+        ensures bytes { (held : Self) (bytes : List ℕ)
+            → encodes (meaning held) bytes ↔ documents.Means Self.encoding bytes (Self.value held) }
+        ensures each { (v : Meaning) (bytes : List ℕ) → encodes v bytes
+            → (w : Self.Value) × documents.Means Self.encoding bytes w }
+        ensures equal { (a b : Self) → (meaning a ≡ meaning b) ↔ (Self.value a ≡ Self.value b) };
+}
+
+impl Stated for RsaPublicKey<UintRef<'_>> {
+    ghost Meaning = { PublicKey };
+
+    ghost meaning = { rsa_public_key uint_ref };
+
+    ghost encodes = { PublicKeyEncoding };
+
+    fn lemma_same()
+        ensures bytes { (held : RsaPublicKey UintRef) (bytes : List ℕ)
+            → PublicKeyEncoding (rsa_public_key uint_ref held) bytes
+            ↔ documents.Means keys.RsaPublicKey bytes (public_key_of held) }
+        ensures each { (v : PublicKey) (bytes : List ℕ) → PublicKeyEncoding v bytes
+            → (w : keys.PublicKey (List ℕ)) × documents.Means keys.RsaPublicKey bytes w }
+        ensures equal { (a b : RsaPublicKey UintRef) → (rsa_public_key uint_ref a ≡ rsa_public_key uint_ref b)
+            ↔ (public_key_of a ≡ public_key_of b) }
+    {}
+}
+
+impl Stated for RsaPrivateKey<UintRef<'_>> {
+    ghost Meaning = { PrivateKey };
+
+    ghost meaning = { rsa_private_key uint_ref };
+
+    ghost encodes = { PrivateKeyEncoding };
+
+    fn lemma_same()
+        ensures bytes { (held : PrivateKeyOf UintRef (Vec (OtherPrimeInfo UintRef))) (bytes : List ℕ)
+            → PrivateKeyEncoding (rsa_private_key uint_ref held) bytes
+            ↔ documents.Means keys.RsaPrivateKey bytes (private_key_of held) }
+        ensures each { (v : PrivateKey) (bytes : List ℕ) → PrivateKeyEncoding v bytes
+            → (w : keys.PrivateKey (List ℕ)) × documents.Means keys.RsaPrivateKey bytes w }
+        ensures equal { (a b : PrivateKeyOf UintRef (Vec (OtherPrimeInfo UintRef)))
+            → (rsa_private_key uint_ref a ≡ rsa_private_key uint_ref b) ↔ (private_key_of a ≡ private_key_of b) }
+    {}
+}
+
+impl<O: HoldsIdentifier, P: HoldsTagged> Stated for PssParamsOf<O, P> {
+    ghost Meaning = { PssParameters };
+
+    ghost meaning = { pss_params_of O.oid P.tagged };
+
+    ghost encodes = { PssEncoding };
+
+    fn lemma_same() {}
+}
+
+impl<O: HoldsIdentifier, P: HoldsTagged> Stated for OaepParamsOf<O, P> {
+    ghost Meaning = { OaepParameters };
+
+    ghost meaning = { oaep_params_of O.oid P.tagged };
+
+    ghost encodes = { OaepEncoding };
+
+    fn lemma_same() {}
+}
+
+impl Stated for PrivateKeyInfoRef<'_> {
+    ghost Meaning = { Container };
+
+    ghost meaning = { private_key_info_ref };
+
+    ghost encodes = { ContainerEncoding };
+
+    fn lemma_same()
+        ensures bytes { (held : PrivateKeyInfoRef) (bytes : List ℕ)
+            → ContainerEncoding (private_key_info_ref held) bytes
+            ↔ documents.Means PrivateKeyInfo bytes (info_of held) }
+        ensures each { (v : Container) (bytes : List ℕ) → ContainerEncoding v bytes
+            → (w : Info) × documents.Means PrivateKeyInfo bytes w }
+        ensures equal { (a b : PrivateKeyInfoRef)
+            → (private_key_info_ref a ≡ private_key_info_ref b) ↔ (info_of a ≡ info_of b) }
+    {}
+}
+
+impl Stated for RsaPublicKey<Uint> {
+    ghost Meaning = { PublicKey };
+
+    ghost meaning = { rsa_public_key uint };
+
+    ghost encodes = { PublicKeyEncoding };
+
+    fn lemma_same() {}
+}
+
+impl Stated for RsaPrivateKey<Uint> {
+    ghost Meaning = { PrivateKey };
+
+    ghost meaning = { rsa_private_key uint };
+
+    ghost encodes = { PrivateKeyEncoding };
+
+    fn lemma_same() {}
+}
+
+/// Writes over the front of a slice, as `Encodes` says.
+pub fn encode_into<T: Stated>(value: &T, out: &mut [u8]) -> Option<usize>
+    ensures { Encodes T.encodes (T.meaning value.now) out.old out.new result }
+{
+    T::lemma_same();
+    match value.encode_into(out) {
+        Ok(length) => Some(length),
+        Err(_) => None,
+    }
+}
+
+/// Writes over the front of a slice, and returns it.
+pub fn encode_to_slice<'b, T: Stated>(value: &T, out: &'b mut [u8]) -> Option<&'b [u8]>
+    ensures some { IfSome result (λ s. IsShortest T.encodes (T.meaning value.now) s.now) }
+    ensures none { IfNone result ((bytes : List ℕ)
+        → T.encodes (T.meaning value.now) bytes → length out.old < length bytes) }
+{
+    T::lemma_same();
+    match value.encode_to_slice(out) {
+        Ok(encoding) => Some(encoding),
+        Err(_) => None,
+    }
+}
+
+/// How many bytes are written.
+pub fn encoded_len<T: Stated>(value: &T) -> Option<usize>
+    ensures some { IfSome result (λ n. (bytes : List ℕ)
+        × IsShortest T.encodes (T.meaning value.now) bytes × (length bytes ≡ n)) }
+    ensures none { IfNone result ((bytes : List ℕ) → T.encodes (T.meaning value.now) bytes → ⊥) }
+{
+    T::lemma_same();
+    match value.encoded_len() {
+        Ok(length) => Some(length.to_usize()),
+        Err(_) => None,
+    }
+}
+
+/// Appends to any writer, or says that there is no room.
+pub fn encode<T: Stated, W: Writer>(value: &T, writer: &mut W) -> bool
+    ensures written { result ≡ true → (bytes : List ℕ) × IsShortest T.encodes (T.meaning value.now) bytes
+        × (W.written writer.new ≡ W.written writer.old ++ bytes) }
+    ensures unwritten { result ≡ false → (bytes : List ℕ)
+        → T.encodes (T.meaning value.now) bytes → W.room writer.old < length bytes }
+{
+    T::lemma_same();
+    match value.encode(writer) {
+        Ok(_) => true,
+        Err(_) => false,
+    }
+}
+
+/// Values are equal exactly if they mean the same.
+pub fn is_equal<T: Stated + EqualByValue>(a: &T, b: &T) -> bool
+    ensures { IsTrue result ↔ (T.meaning a.now ≡ T.meaning b.now) }
+{
+    T::lemma_same();
+    *a == *b
+}
+
+/// A copy means the same. Memory doesn't run out where nothing is allocated.
+pub fn try_clone<T: Stated + TryClone>(alloc: Global, value: &T) -> Result<T, AllocError>
+    ensures same { IfOk result (λ copy. T.meaning copy ≡ T.meaning value.now) }
+    ensures memory { T.allocates_nothing value.now → IsOk result }
+{
+    T::lemma_same();
+    match value.try_clone(alloc) {
+        Ok(copy) => Ok(copy),
+        Err(_) => Err(AllocError),
+    }
+}
