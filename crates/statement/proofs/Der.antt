@@ -1,7 +1,7 @@
 -- Lengths, INTEGER and encodings in a row: the statement's functions are what the library's relations relate, and back.
 use Rattle.std.proofs.Common.{ℕ, List, [], ◌∷◌, ◌++◌, ◌≡◌, ◌<◌, ◌≤◌, length, refl, sym, subst, ap, ◌∙◌, arith}
 use Rattle.std.proofs.Common.{inl, inr, length-append}
-use Rattle.std.specs.Prelude.{map}
+use Rattle.std.specs.Prelude.{map, ◌↔◌}
 use Rattle.std.specs.List.{concat}
 use Rattle.std.specs.Int.Digits.{number_from_digits}
 use Rattle.der_core.specs.Length.{length_octets as der_octets}
@@ -122,3 +122,8 @@ small_made n h l =
 -- A fact of a value and bytes, at an equal value.
 pub moved : {V : Type 0} (P : V → List ℕ → Type 0) {v w : V} {bytes : List ℕ} → v ≡ w → P v bytes → P w bytes
 moved P {bytes = bytes} same p = subst (λ v. P v bytes) same p
+
+-- Values are equal in the statement exactly if they are in the library.
+pub equal_by : {W V : Type 0} (from : W → V) (to : V → W) {x y : W} {v u : V} → from x ≡ v → from y ≡ u
+    → to (from x) ≡ x → to (from y) ≡ y → (v ≡ u) ↔ (x ≡ y)
+equal_by from to a b f g = (λ e. sym f ∙ ap to (a ∙ e ∙ sym b) ∙ g, λ e. sym a ∙ ap from e ∙ b)

@@ -3,7 +3,7 @@ use Rattle.std.proofs.Common.{ℕ, List, [], ◌∷◌, ◌++◌, ◌≡◌, ◌
 use Rattle.std.proofs.Common.{arith, inl, inr, length-append, Some, None}
 use Rattle.std.proofs.lemmas.Bool.{cases_lt}
 use Rattle.std.specs.List.{concat}
-use Rattle.std.specs.Prelude.{slice_index_or, ◌↔◌}
+use Rattle.std.specs.Prelude.{slice_index_or}
 use Rattle.der_core.specs.Document.{Means, Spellings, EncodeError, no_encoding, too_long, no_room, another}
 use Rattle.der_core.specs.Writing.{encode_error}
 use Rattle.der_core.specs.Document as documents
@@ -19,7 +19,8 @@ use Rattle.pkcs1_params.specs.declared.error.Error.{Error}
 use Rattle.pkcs1_params.specs.declared.error.Error.TheVariants as error
 use Rattle.statement.specs.Statement.{tlv, sequence, limit, Field, field, Fields, FieldsUnder, Defaults, SequenceOf}
 use Rattle.statement.specs.Statement.{longest, AreAll, Lists, TwoToTheDefaults, IsShortest}
-use Rattle.statement.proofs.Der.{moved, tlv_is, tlv_made, tlv_fit}
+use Rattle.statement.specs.Library.{Agree}
+use Rattle.statement.proofs.Der.{moved, equal_by, tlv_is, tlv_made, tlv_fit}
 use Rattle.statement.proofs.Algorithms.{Written}
 
 -- A field of the library and one of the statement.
@@ -267,8 +268,17 @@ module _ {W V : Type 0} {from : W → V} {to : V → W} {fs : W → List fields.
   pub means : (v : V) (bytes : List ℕ) → Encoding v bytes → Means Grammar bytes (to v)
   means v bytes e = meant (to v) bytes (subst (λ u. Encoding u bytes) (sym (s.back v)) e)
 
-  pub same : (w : W) {v : V} → from w ≡ v → (bytes : List ℕ) → Encoding v bytes ↔ Means Grammar bytes w
-  same w e bytes = (λ p. meant w bytes (moved Encoding (sym e) p), λ m. moved Encoding e (sentence w bytes m))
+  pub agree : ((w : W) → to (from w) ≡ w) → {T : Type 0} (value : T → W) (meaning : T → V)
+      → ((p : T) → from (value p) ≡ meaning p) → Agree meaning Encoding value Grammar
+  agree forth value meaning e = record {
+    bytes =
+        λ p bytes. (
+          λ q. meant (value p) bytes (moved Encoding (sym (e p)) q),
+          λ m. moved Encoding (e p) (sentence (value p) bytes m),
+        );
+    each = λ v bytes p. (to v, means v bytes p);
+    equal = λ a b. equal_by from to (e a) (e b) (forth (value a)) (forth (value b));
+  }
 
   pub shortest : (w : W) (bytes : List ℕ) → documents.IsShortest Grammar w bytes → IsShortest Encoding (from w) bytes
   shortest w bytes p = (sentence w bytes p.spells, λ other q. p.least other (meant w other q))
@@ -307,8 +317,9 @@ module _ {W V : Type 0} {from : W → V} {to : V → W} {fs : W → List fields.
   pub all_fit : (w : W) → Is (from w) → length (longest (gs (from w))) ≤ limit → spellings.AllFit (fs w)
   all_fit w is l = (longest (gs (from w)), all_explicit w is l, l)
 
-  pub longest_fits : (w : W) → spellings.AllFit (fs w) → length (longest (gs (from w))) ≤ limit
-  longest_fits w (all, p, l) =
+  pub longest_fits : (w : W) {v : V} → from w ≡ v → spellings.AllFit (fs w) → length (longest (gs v)) ≤ limit
+  longest_fits w held (all, p, l) =
+      subst (λ u. length (longest (gs u)) ≤ limit) held
       let t = sequence_to (all_to (fs w) (gs (from w)) (s.match w)) all l p in
       omega (arith, l, ap length t.3, ap (λ x. length (sequence x)) t.2)
 
@@ -339,41 +350,48 @@ module _ {W V : Type 0} {from : W → V} {to : V → W} {fs : W → List fields.
       → (all : List (List ℕ)) × AreAll (λ E. E) Is gs u k all) (s.back v) (two_of two (to v))
 
   -- The list of all encodings, or why there is none.
-  pub lists : spellings.DefaultsAreCounted fs → (w : W) (all : List (List ℕ)) → spellings.AreAllSpellings fs w all
-      → Lists Is gs (from w) (Some all)
-  lists counted w all a =
+  pub lists : spellings.DefaultsAreCounted fs → (w : W) {v : V} → from w ≡ v → (all : List (List ℕ))
+      → spellings.AreAllSpellings fs w all → Lists Is gs v (Some all)
+  lists counted w held all a =
       let n = counted w in
-      let m = a.members n.0 n.1 in (
+      let m = a.members n.0 n.1 in
+      subst (λ u. Lists Is gs u (Some all)) held (
         n.0,
         defaults_to (fs w) (gs (from w)) (s.match w) n.0 n.1,
         are_all w n.0 all m (λ i l. (a.under i (omega (arith, l, m.count))).1),
       )
 
-  pub lists_none : (w : W) → (spellings.AllFit (fs w) → ⊥) → Lists Is gs (from w) None
-  lists_none w unfit is = elim (cases_lt limit (length (longest (gs (from w))))) [
-    | inl h ↦ h
-    | inr h ↦ absurd (unfit (all_fit w is (omega (arith, h))))
-  ]
+  pub lists_none : (w : W) {v : V} → from w ≡ v → (spellings.AllFit (fs w) → ⊥) → Lists Is gs v None
+  lists_none w held unfit =
+      subst (λ u. Lists Is gs u None) held (λ is. elim (cases_lt limit (length (longest (gs (from w))))) [
+        | inl h ↦ h
+        | inr h ↦ absurd (unfit (all_fit w is (omega (arith, h))))
+      ])
 
   -- The encoding under a mask is the only one, and why it isn't written.
-  pub shortest_under : spellings.EachMaskHasOne fs → (w : W) (mask : ℕ) (bytes : List ℕ)
-      → spellings.IsSpelling (fs w) mask bytes → IsShortest (Under mask) (from w) bytes
-  shortest_under one w mask bytes p =
+  pub shortest_under : spellings.EachMaskHasOne fs → (w : W) {v : V} → from w ≡ v → (mask : ℕ) (bytes : List ℕ)
+      → spellings.IsSpelling (fs w) mask bytes → IsShortest (Under mask) v bytes
+  shortest_under one w held mask bytes p =
+      moved (IsShortest (Under mask)) held
       (under w mask bytes p, λ other q. inl (one w mask other bytes (spelling w mask other q) p).0)
 
-  pub none_under : spellings.EachMaskHasOne fs → (w : W) (mask room : ℕ) (e : Error) (bytes : List ℕ)
-      → spellings.IsSpellingError (fs w) mask room e → Under mask (from w) bytes → room < length bytes
-  none_under one w mask room (error.Asn1 e) bytes h p = go (encode_error e.kind) h
+  pub none_under : spellings.EachMaskHasOne fs → (w : W) {v : V} → from w ≡ v → (mask room : ℕ) (e : Error)
+      (bytes : List ℕ) → spellings.IsSpellingError (fs w) mask room e → Under mask v bytes → room < length bytes
+  none_under one w held mask room (error.Asn1 e) bytes h q =
+      let p = moved (Under mask) (sym held) q in go p (encode_error e.kind) h
     where
-      go : (k : EncodeError) → spellings.WhyNoSpelling (fs w) mask room k → room < length bytes
-      go no_encoding h = absurd h
-      go too_long h = absurd (h bytes (spelling w mask bytes p))
-      go no_room h = omega (arith, h.2, ap length (one w mask bytes h.0 (spelling w mask bytes p) h.1).0)
-      go another h = absurd h
-  none_under one w mask room error.Crypto bytes h p = absurd h
-  none_under one w mask room error.KeyMalformed bytes h p = absurd h
-  none_under one w mask room error.Version bytes h p = absurd h
+      go : Under mask (from w) bytes → (k : EncodeError) → spellings.WhyNoSpelling (fs w) mask room k
+          → room < length bytes
+      go p no_encoding h = absurd h
+      go p too_long h = absurd (h bytes (spelling w mask bytes p))
+      go p no_room h = omega (arith, h.2, ap length (one w mask bytes h.0 (spelling w mask bytes p) h.1).0)
+      go p another h = absurd h
+  none_under one w held mask room error.Crypto bytes h p = absurd h
+  none_under one w held mask room error.KeyMalformed bytes h p = absurd h
+  none_under one w held mask room error.Version bytes h p = absurd h
 
-  pub mask_there : (w : W) (mask : ℕ) → ((k : ℕ) × Defaults (gs (from w)) k × (mask < 2 ^ k))
+  pub mask_there : (w : W) {v : V} → from w ≡ v → (mask : ℕ) → ((k : ℕ) × Defaults (gs v) k × (mask < 2 ^ k))
       → spellings.IsMask (fs w) mask
-  mask_there w mask (k, d, l) = (k, defaults_from (fs w) (gs (from w)) (s.match w) k d, l)
+  mask_there w held mask p =
+      let (k, d, l) = subst (λ u. (k : ℕ) × Defaults (gs u) k × (mask < 2 ^ k)) (sym held) p in
+      (k, defaults_from (fs w) (gs (from w)) (s.match w) k d, l)

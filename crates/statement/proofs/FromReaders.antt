@@ -10,7 +10,7 @@ use Rattle.der_core.specs.SourcesSinks.{GivesAll, GivesMore, GivesSome, OneFaile
 use Rattle.der_core.specs.declared.document.DocumentOf.{DocumentOf}
 use Rattle.der_core.specs.declared.error.Error.{Error}
 use Rattle.der_core.specs.declared.error.ErrorKind.{ErrorKind}
-use Rattle.der_core.specs.declared.error.ErrorKind.TheVariants.{File, OutOfMemory}
+use Rattle.der_core.specs.declared.error.ErrorKind.TheVariants.{File, OutOfMemory, Overflow}
 use Rattle.statement.specs.Held.{document_of}
 use Rattle.statement.specs.Statement.{AreOctets, limit, sequence}
 use Rattle.statement.proofs.Beginnings.{opened}
@@ -50,12 +50,12 @@ documents (Err e) = tt
 pub undocumented : {S : Type 0} (r : Result (DocumentOf S) Error) (old new : Option (List ℕ)) (failures failures2 : ℕ)
     → ReadsDocument document_of r old new failures failures2
     → IfErr r (λ e. ((e.kind ≡ File) × OneFailed failures failures2) ⊎ ((failures2 ≡ failures)
-    × (((e.kind ≡ OutOfMemory) × GivesSome limit old new) ⊎ GivesMore limit piece old new
+    × (((e.kind ≡ OutOfMemory) × GivesSome limit old new) ⊎ ((e.kind ≡ Overflow) × GivesMore limit piece old new)
     ⊎ ((bytes : List ℕ) × GivesAll old new bytes
     × ((contents : List ℕ) → AreOctets contents → length bytes ≤ limit → bytes ≡ sequence contents → ⊥)))))
 undocumented (Ok d) old new failures failures2 h = tt
 undocumented (Err e) old new failures failures2 (inl (inl file)) = inl file
 undocumented (Err e) old new failures failures2 (inl (inr (inl memory))) = inr (memory.1, inl (memory.0, memory.2))
-undocumented (Err e) old new failures failures2 (inl (inr (inr more))) = inr (more.1, inr (inl more.2))
+undocumented (Err e) old new failures failures2 (inl (inr (inr more))) = inr (more.1, inr (inl (more.0, more.2)))
 undocumented (Err e) old new failures failures2 (inr (same, (bytes, all, none, fault))) =
     inr (same, inr (inr (bytes, all, λ c octets few is. none (document_made bytes c octets few is))))

@@ -29,10 +29,17 @@ use Rattle.der_core.specs.Encodings.{Joins}
 use Rattle.spki_core.specs.Any as anys
 use Rattle.spki_core.specs.AlgorithmIdentifier as algorithms
 use Rattle.spki_core.specs.AnyRefValue.{any_of}
+use Rattle.spki_core.specs.AlgorithmValue.{algorithm_of, viewed_with}
+use Rattle.spki_core.specs.ObjectIdentifierValue.{octets_of}
+use Rattle.spki_core.specs.declared.identifier_view.IdentifierView.{IdentifierView}
 use Rattle.spki_core.specs.declared.any.AnyRef.{AnyRef}
+use Rattle.spki_core.specs.declared.algorithm_identifier.AlgorithmIdentifierOf.{AlgorithmIdentifierOf}
+use Rattle.spki_core.specs.declared.object_identifier.ObjectIdentifier.{ObjectIdentifier}
+use Rattle.statement.specs.Held.{algorithm_identifier, algorithm_identifier_of, identifier_view, any_ref}
+use Rattle.statement.proofs.Held.{plain_holds, algorithm_holds}
 use Rattle.pkcs1_params.specs.Algorithms as library
 use Rattle.statement.specs.Made.{Identifies, Finds}
-use Rattle.statement.proofs.Algorithms.{any_from, plain_from, plain_to, plain_forth}
+use Rattle.statement.proofs.Algorithms.{any_from, algorithm_from, plain_from, plain_to, plain_forth}
 
 -- What is written under a mask is no longer than all fields.
 within : (fs : List Field) (mask : ℕ) (c : List ℕ) → FieldsUnder mask fs c → length c ≤ length (all_written fs)
@@ -195,10 +202,27 @@ module _ (oid : List ℕ) (identifier : IsIdentifier oid) where
       let r = two v k is d (omega (arith, l, parameters_shorter oid (longest (gs v)) (wrapped (longest (gs v))) t)) in
       (map wrapped r.0, are_all v k l r.0 r.1)
 
--- Parameters in an algorithm identifier that was read, whose contents are few.
+-- The identifier of a value that something else holds.
+pub identified_holds : {X W V : Type 0} (from : W → V) (value : X → W) (meaning : X → V)
+    → ((x : X) → from (value x) ≡ meaning x) → (oid : List ℕ) (a : AlgorithmIdentifierOf IdentifierView X) (w : W) (v : V)
+    → from w ≡ v → viewed_with value a ≡ record { oid = oid; parameters = Some w }
+    → algorithm_identifier_of identifier_view meaning a ≡ record { oid = oid; parameters = Some v }
+identified_holds from value meaning e oid a w v same p =
+    sym (algorithm_holds octets_of from value meaning e a) ∙ ap (algorithm_from from) p
+    ∙ (λ i. record { oid = oid; parameters = Some (same i) })
+
+few_contents : (o : Option AnyRef) (any : anys.TagAndContents) → option_map any_of o ≡ Some any
+    → length any.contents ≤ limit
+few_contents None any e = cc
+few_contents (Some x) any e = subst (λ o. IfSome o (λ (v : anys.TagAndContents). length v.contents ≤ limit)) e x.bounded
+
+-- Parameters in an algorithm identifier that was read.
 module _ {W V : Type 0} {from : W → V} {to : V → W} {fs : W → List fields.Field} {gs : V → List Field}
-    {Is' : V → Type 0} (s : Sides from to fs gs Is') (oid : List ℕ) (a : algorithms.Algorithm anys.TagAndContents)
-    (few : (any : anys.TagAndContents) → a.parameters ≡ Some any → length any.contents ≤ limit) where
+    {Is' : V → Type 0} (s : Sides from to fs gs Is') (oid : List ℕ)
+    (algorithm : AlgorithmIdentifierOf ObjectIdentifier AnyRef) where
+  abbrev a : algorithms.Algorithm anys.TagAndContents
+  a = algorithm_of algorithm
+
   abbrev Contents : W → List ℕ → Type 0
   Contents w = Joins (map Defaultable (fs w))
 
@@ -209,7 +233,7 @@ module _ {W V : Type 0} {from : W → V} {to : V → W} {fs : W → List fields.
         any.contents,
         λ i. record { oid = e i; parameters = q i },
         s.is w any.contents holds,
-        fields_to (fs w) (gs (from w)) (s.match w) any.contents (few any p) holds,
+        fields_to (fs w) (gs (from w)) (s.match w) any.contents (few_contents algorithm.parameters any p) holds,
       )
 
   back : (w : W) → Identifies oid Is' gs (plain_from a) (from w) → library.Identifies oid Contents a w
@@ -221,28 +245,26 @@ module _ {W V : Type 0} {from : W → V} {to : V → W} {fs : W → List fields.
         any,
         q,
         refl,
-        fields_from (fs w) (gs (from w)) (s.match w) (s.make w is) c (few any q) held,
+        fields_from (fs w) (gs (from w)) (s.match w) (s.make w is) c (few_contents algorithm.parameters any q) held,
       )
 
   given : (v : V) → Identifies oid Is' gs (plain_from a) v → library.Identifies oid Contents a (to v)
   given v p = back (to v) (subst (Identifies oid Is' gs (plain_from a)) (sym (s.back v)) p)
 
-  module _ {b : Algorithm TagAndContents} (same : plain_from a ≡ b) where
-    pub finds : (w : W) {v : V} → from w ≡ v → IsTheOnly (library.Identifies oid Contents a) w
-        → Finds (Identifies oid Is' gs b) (Some v)
-    finds w {v = v} e p =
-        subst (λ b. Finds (Identifies oid Is' gs b) (Some v)) same (
-          subst (Identifies oid Is' gs (plain_from a)) e (there w p.0),
-          λ u q. sym (s.back u) ∙ ap from (p.1 (to u) (given u q)) ∙ e,
-        )
+  abbrev b : Algorithm TagAndContents
+  b = algorithm_identifier any_ref algorithm
 
-    pub finds_none : ((w : W) → library.Identifies oid Contents a w → ⊥) → Finds (Identifies oid Is' gs b) None
-    finds_none p = subst (λ b. Finds (Identifies oid Is' gs b) None) same (λ v q. p (to v) (given v q))
+  pub finds : (w : W) {v : V} → from w ≡ v → IsTheOnly (library.Identifies oid Contents a) w
+      → Finds (Identifies oid Is' gs b) (Some v)
+  finds w {v = v} e p =
+      subst (λ b. Finds (Identifies oid Is' gs b) (Some v)) (plain_holds any_of algorithm) (
+        subst (Identifies oid Is' gs (plain_from a)) e (there w p.0),
+        λ u q. sym (s.back u) ∙ ap from (p.1 (to u) (given u q)) ∙ e,
+      )
 
-pub few_contents : (o : Option AnyRef) (any : anys.TagAndContents) → option_map any_of o ≡ Some any
-    → length any.contents ≤ limit
-few_contents None any e = cc
-few_contents (Some x) any e = subst (λ o. IfSome o (λ (v : anys.TagAndContents). length v.contents ≤ limit)) e x.bounded
+  pub finds_none : ((w : W) → library.Identifies oid Contents a w → ⊥) → Finds (Identifies oid Is' gs b) None
+  finds_none p =
+      subst (λ b. Finds (Identifies oid Is' gs b) None) (plain_holds any_of algorithm) (λ v q. p (to v) (given v q))
 
 pub pss_identifier : IsIdentifier id_rsassa_pss
 pss_identifier =

@@ -1,10 +1,10 @@
 -- Reading with memory: an error that isn't out of memory says that there is no value.
 use Rattle.std.proofs.lemmas.Result.{IfOk-weaker}
-use Rattle.std.proofs.Common.{ℕ, List, ◌≡◌, ◌⊎◌, refl, sym, subst, inl, inr, Option, Some, None, Result, Ok, Err}
+use Rattle.std.proofs.Common.{ℕ, List, ◌≡◌, ◌⊎◌, ◌∙◌, refl, sym, subst, inl, inr, Option, Some, None, Result, Ok, Err}
 use Rattle.std.specs.Prelude.{IfOk, IfErr, OnErr, IsOk, IsErrAnd}
 use Rattle.std.specs.Option.{option_map}
 use Rattle.der_core.specs.declared.error.Error as der
-use Rattle.der_core.specs.declared.error.ErrorKind.TheVariants.{OutOfMemory}
+use Rattle.der_core.specs.declared.error.ErrorKind.TheVariants.{OutOfMemory, Overflow}
 use Rattle.pkcs1_params.specs.Errors.{IsAsn1}
 use Rattle.pkcs1_params.specs.declared.error.Error.{Error}
 use Rattle.pkcs1_params.specs.declared.error.Error.TheVariants as error
@@ -57,3 +57,6 @@ asked Q asks none (error.Asn1 a) other h memory =
 asked Q asks none error.Crypto other h memory = absurd h
 asked Q asks none error.KeyMalformed other h memory = absurd h
 asked Q asks none error.Version other h memory = absurd h
+
+pub overflow_is_told : (x : der.Error) → x.kind ≡ Overflow → x.kind ≡ OutOfMemory → ⊥
+overflow_is_told x e f = let same : Overflow ≡ OutOfMemory = sym e ∙ f in cc

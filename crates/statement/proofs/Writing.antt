@@ -34,7 +34,8 @@ use Rattle.statement.specs.Statement.{ContainerEncoding}
 use Rattle.statement.specs.Held.{rsa_public_key, rsa_private_key}
 use Rattle.statement.specs.Held.{private_key_info_ref}
 use Rattle.statement.specs.Laws.Shortest.{shortest}
-use Rattle.statement.proofs.Der.{moved}
+use Rattle.statement.specs.Library.{Agree}
+use Rattle.statement.proofs.Der.{moved, equal_by}
 use Rattle.statement.proofs.OutOfMemory.{IsMemory}
 use Rattle.statement.proofs.Held.{private_holds, container_holds}
 use Rattle.statement.proofs.PublicKeys as public
@@ -119,11 +120,6 @@ written {Grammar = Grammar} {octets = octets} relates least w h l =
 abbrev Same : {W V : Type 0} → (W → List ℕ → Type 0) → (V → List ℕ → Type 0) → W → V → Type 0
 Same Grammar Encoding w v = (bytes : List ℕ) → Encoding v bytes ↔ Means Grammar bytes w
 
--- Values are equal in the statement exactly if they are in the library.
-pub equal_by : {W V : Type 0} (from : W → V) (to : V → W) {x y : W} {v u : V} → from x ≡ v → from y ≡ u
-    → to (from x) ≡ x → to (from y) ≡ y → (v ≡ u) ↔ (x ≡ y)
-equal_by from to a b f g = (λ e. sym f ∙ ap to (a ∙ e ∙ sym b) ∙ g, λ e. sym a ∙ ap from e ∙ b)
-
 -- Keys, over the bytes of numbers.
 module _ {U : Type 0} (bytes_in : U → List ℕ) (canonical : (u : U) → IsCanonical (bytes_in u)) where
   abbrev number : U → ℕ
@@ -142,9 +138,12 @@ module _ {U : Type 0} (bytes_in : U → List ℕ) (canonical : (u : U) → IsCan
         public.sentence w bytes,
       )
 
-  pub public_equal : (a b : RsaPublicKey U)
-      → (rsa_public_key number a ≡ rsa_public_key number b) ↔ (public_key_with bytes_in a ≡ public_key_with bytes_in b)
-  public_equal a b = equal_by public.numbers public.key_of refl refl (public_forth a) (public_forth b)
+  pub public_agree : Agree (rsa_public_key number) PublicKeyEncoding (public_key_with bytes_in) keys.RsaPublicKey
+  public_agree = record {
+    bytes = public_same;
+    each = λ v bytes p. (public.key_of v, public.means v bytes p);
+    equal = λ a b. equal_by public.numbers public.key_of refl refl (public_forth a) (public_forth b);
+  }
 
   each : (os : List (OtherPrimeInfo U)) → EachCanonical (map (other_of bytes_in) os)
   each [] = tt
@@ -176,11 +175,14 @@ module _ {U : Type 0} (bytes_in : U → List ℕ) (canonical : (u : U) → IsCan
         λ p. moved PrivateKeyEncoding holds (private.sentence w bytes p),
       )
 
-  pub private_equal : (a b : Listed U) → (rsa_private_key number a ≡ rsa_private_key number b)
-      ↔ (private_key_with bytes_in a ≡ private_key_with bytes_in b)
-  private_equal a b =
-      equal_by private.numbers private.key_of (private_holds bytes_in a) (private_holds bytes_in b) (private_forth a)
-      (private_forth b)
+  pub private_agree : Agree (rsa_private_key number) PrivateKeyEncoding (private_key_with bytes_in) keys.RsaPrivateKey
+  private_agree = record {
+    bytes = private_same;
+    each = λ v bytes p. (private.key_of v, private.means v bytes p);
+    equal =
+        λ a b. equal_by private.numbers private.key_of (private_holds bytes_in a) (private_holds bytes_in b)
+        (private_forth a) (private_forth b);
+  }
 
 -- By what the statement says of the numbers.
 pub public_held : {U : Type 0} {bytes_in : U → List ℕ} {whole : U → ℕ} → ((u : U) → IsCanonical (bytes_in u))

@@ -1,6 +1,7 @@
 -- The values of the crates below for those of `Statement.antt`, for `src/library.rt`: numbers are their octets.
-use Rattle.std.specs.Prelude.{ℕ, List, map}
+use Rattle.std.specs.Prelude.{ℕ, List, map, ◌≡◌, ◌↔◌}
 use Rattle.std.specs.Option.{option_map}
+use Rattle.der_core.specs.Document.{Means}
 use Rattle.spki_core.specs.Any as anys
 use Rattle.spki_core.specs.AlgorithmIdentifier as algorithms
 use Rattle.pkcs1.specs.Keys as keys
@@ -51,3 +52,11 @@ oaep p = record {
 
 abbrev pub container : Container → Info
 container c = record { algorithm = algorithm any c.algorithm; private_key = c.private_key; attributes = c.attributes }
+
+-- What the values of a type mean here has the encodings that the library's grammar says, and so have values that none of
+-- them means. Two mean the same here exactly if they do in the library.
+pub record Agree {T V W : Type 0} (meaning : T → V) (encodes : V → List ℕ → Type 0) (value : T → W)
+    (Grammar : W → List ℕ → Type 0) : Type 0 where
+  pub bytes : (held : T) (bytes : List ℕ) → encodes (meaning held) bytes ↔ Means Grammar bytes (value held)
+  pub each : (v : V) (bytes : List ℕ) → encodes v bytes → (w : W) × Means Grammar bytes w
+  pub equal : (a b : T) → (meaning a ≡ meaning b) ↔ (value a ≡ value b)

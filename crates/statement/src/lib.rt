@@ -11,65 +11,25 @@ ghost use Rattle.statement.specs.Statement.{IsPss, pss_fields, IsOaep, oaep_fiel
 ghost use Rattle.statement.specs.Statement.{ContainerEncoding, ContainedKeyEncoding};
 
 pub mod documents;
-mod errors;
-mod faults;
-mod identifiers;
+pub mod errors;
+pub mod faults;
+pub mod identifiers;
 mod library;
 pub mod made;
-mod memory;
-mod named;
-mod seen;
+pub mod memory;
+pub mod named;
+pub mod seen;
 pub mod sources;
-mod stated;
-mod views;
+pub mod stated;
+pub mod views;
 
-pub use errors::{
-    read_contained_key_or_fault, read_container_or_fault, read_oaep_algorithm_or_fault,
-    read_oaep_params_or_fault, read_private_key_or_fault, read_pss_algorithm_or_fault,
-    read_pss_params_or_fault, read_public_key_or_fault,
-};
-pub use faults::{
-    fault_of_container, fault_of_oaep, fault_of_oaep_identifier, fault_of_private, fault_of_pss,
-    fault_of_pss_identifier, fault_of_public,
-};
-pub use identifiers::{
-    algorithm_of_oaep_params, algorithm_of_pss_params, lemma_algorithm_count,
-    lemma_algorithms_same_by_shortest, oaep_params_of_algorithm, oaep_view_of_algorithm,
-    pss_params_of_algorithm, pss_view_of_algorithm, read_oaep_algorithm,
-    read_oaep_algorithm_strictly, read_pss_algorithm, read_pss_algorithm_strictly,
-    write_oaep_algorithm, write_pss_algorithm,
-};
 pub use library::lemma_encodings_are_the_librarys;
-pub use memory::{
-    OrOutOfMemory, list_oaep_params, list_pss_params, read_contained_key_as_struct,
-    read_owned_oaep_params, read_owned_private_key, read_owned_pss_params, read_owned_public_key,
-    read_private_key_as_struct,
-};
-pub use named::{
-    count_oaep_defaults, count_pss_defaults, is_algorithm_of_hash, label_of_params, label_of_view,
-    oaep_params_use_hash, pss_params_use_hash, read_contained_key_as_view,
-    slice_of_oaep_params_under, slice_of_pss_params_under, write_oaep_params_under,
-    write_pss_params_under,
-};
 use pkcs1::{
     EncodeParams, OaepParamsOf, PssParamsOf, RsaOaepParamsRef, RsaPrivateKeyRef, RsaPrivateKeyView,
     RsaPssParamsRef, RsaPublicKeyRef, lemma_oaep_spellings, lemma_pss_spellings,
 };
 use pkcs8_core::{PrivateKeyInfoRef, rsa_from_pkcs8_der};
-pub use seen::{
-    attributes_of_container, borrowed_any, bytes_of_number, bytes_of_owned_number, contents_of_any,
-    count_other_primes, key_by_getters, next_other_prime, number_of_bytes, octets_of_container_key,
-    octets_of_identifier, other_primes_by_getters, public_key_of_struct, public_key_of_view,
-    tag_of_any, viewed_bytes,
-};
-pub use stated::{
-    HoldsIdentifier, HoldsNumber, HoldsTagged, Stated, encode, encode_into, encode_to_slice,
-    encoded_len, is_equal, try_clone,
-};
-pub use views::{
-    keep_oaep_params, keep_pss_params, octets_of_identifier_view, view_oaep_params,
-    view_oaep_params_strictly, view_pss_params, view_pss_params_strictly,
-};
+use stated::{HoldsIdentifier, HoldsTagged};
 
 /// Reads a slice exactly if it encodes a public key, as the one that it encodes.
 pub fn read_public_key<'a>(bytes: &'a [u8]) -> Option<RsaPublicKeyRef<'a>>

@@ -1,7 +1,7 @@
 //! Reading from readers and sources, and writing to sinks: what was read of them, and what it encodes.
 ghost use Rattle.std.specs.Prelude.{ℕ, List, ◌≡◌, ◌≢◌, ◌≤◌, ◌⊎◌, ◌++◌, length, Some, None, IfOk, OnOk, IfErr};
 ghost use Rattle.std.specs.Io.KnownBytes.{Appends};
-ghost use Rattle.der_core.specs.declared.error.ErrorKind.TheVariants.{File, OutOfMemory};
+ghost use Rattle.der_core.specs.declared.error.ErrorKind.TheVariants.{File, OutOfMemory, Overflow};
 ghost use Rattle.der_core.specs.Carrying.{piece};
 ghost use Rattle.der_core.specs.SourcesSinks.{AppendsFront, GivesAll, GivesMore, GivesSome, OneFailed};
 ghost use Rattle.statement.specs.Held.{document_of};
@@ -37,7 +37,7 @@ pub fn read_document<S: Drop, R: Source>(alloc: Global, source: &mut R) -> Resul
     ensures unread { IfErr result (λ e. ((e.kind ≡ File) × OneFailed (R.failures source.old) (R.failures source.new))
         ⊎ ((R.failures source.new ≡ R.failures source.old)
         × (((e.kind ≡ OutOfMemory) × GivesSome limit (R.remaining source.old) (R.remaining source.new))
-        ⊎ GivesMore limit piece (R.remaining source.old) (R.remaining source.new)
+        ⊎ ((e.kind ≡ Overflow) × GivesMore limit piece (R.remaining source.old) (R.remaining source.new))
         ⊎ ((bytes : List ℕ) × GivesAll (R.remaining source.old) (R.remaining source.new) bytes
         × ((contents : List ℕ) → AreOctets contents → length bytes ≤ limit → bytes ≡ sequence contents → ⊥))))) }
 {

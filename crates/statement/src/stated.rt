@@ -2,22 +2,14 @@
 ghost use Rattle.std.specs.Prelude.{ℕ, List, ◌≡◌, ◌≤◌, ◌<◌, ◌++◌, ◌↔◌, length, IfSome, IfNone, IfOk, OnErr};
 ghost use Rattle.std.specs.Prelude.{true, false};
 ghost use Rattle.std.specs.Option.{option_map};
-ghost use Rattle.der_core.specs.Document as documents;
 ghost use Rattle.std.specs.Prelude.{refl, IsTrue, IsOk};
 ghost use Rattle.std.specs.Int.Digits.{number_from_digits};
 ghost use Rattle.der_core.specs.Integer.{IsCanonical};
 ghost use Rattle.der_core.specs.Laws.Integer.{holds_canonical};
-ghost use Rattle.std.specs.Global.{Vec};
-ghost use Rattle.der_core.specs.declared.integer.uint.UintRef.{UintRef};
 ghost use Rattle.pkcs1.specs.Keys as keys;
-ghost use Rattle.pkcs1.specs.PublicKeyValue.{public_key_of};
-ghost use Rattle.pkcs1.specs.PrivateKeyValue.{private_key_of};
-ghost use Rattle.pkcs1.specs.declared.public_key.RsaPublicKey.{RsaPublicKey};
-ghost use Rattle.pkcs1.specs.declared.private_key.PrivateKeyOf.{PrivateKeyOf};
-ghost use Rattle.pkcs1.specs.declared.private_key.other_prime_info.OtherPrimeInfo.{OtherPrimeInfo};
-ghost use Rattle.pkcs8_core.specs.Container.{Info, PrivateKeyInfo};
+ghost use Rattle.pkcs1.specs.Words.{public_key_of, private_key_of};
+ghost use Rattle.pkcs8_core.specs.Container.{PrivateKeyInfo};
 ghost use Rattle.pkcs8_core.specs.Held.{info_of};
-ghost use Rattle.pkcs8_core.specs.declared.info.PrivateKeyInfoRef.{PrivateKeyInfoRef};
 ghost use Rattle.statement.specs.Library as library;
 ghost use Rattle.statement.specs.Held.{uint_ref, uint, any_ref, any, object_identifier, identifier_view};
 ghost use Rattle.statement.specs.Held.{rsa_public_key, rsa_private_key, pss_params_of, oaep_params_of};
@@ -108,14 +100,9 @@ pub trait Stated: Encode + Sized {
     /// Which bytes encode it.
     ghost encodes: { Meaning → List ℕ → Type 0 };
 
-    /// Does nothing. Its contract: they are those that the library's grammar says, also of values of the statement that
-    /// no value of the type means; and two values mean the same in the library exactly if they do here.
+    /// Does nothing. Its contract: what values mean, and which bytes encode it, is what the library says.
     fn lemma_same()
-        ensures bytes { (held : Self) (bytes : List ℕ)
-            → encodes (meaning held) bytes ↔ documents.Means Self.encoding bytes (Self.value held) }
-        ensures each { (v : Meaning) (bytes : List ℕ) → encodes v bytes
-            → (w : Self.Value) × documents.Means Self.encoding bytes w }
-        ensures equal { (a b : Self) → (meaning a ≡ meaning b) ↔ (Self.value a ≡ Self.value b) };
+        ensures { library.Agree meaning encodes Self.value Self.encoding };
 }
 
 impl Stated for RsaPublicKey<UintRef<'_>> {
@@ -126,13 +113,7 @@ impl Stated for RsaPublicKey<UintRef<'_>> {
     ghost encodes = { PublicKeyEncoding };
 
     fn lemma_same()
-        ensures bytes { (held : RsaPublicKey UintRef) (bytes : List ℕ)
-            → PublicKeyEncoding (rsa_public_key uint_ref held) bytes
-            ↔ documents.Means keys.RsaPublicKey bytes (public_key_of held) }
-        ensures each { (v : PublicKey) (bytes : List ℕ) → PublicKeyEncoding v bytes
-            → (w : keys.PublicKey (List ℕ)) × documents.Means keys.RsaPublicKey bytes w }
-        ensures equal { (a b : RsaPublicKey UintRef) → (rsa_public_key uint_ref a ≡ rsa_public_key uint_ref b)
-            ↔ (public_key_of a ≡ public_key_of b) }
+        ensures { library.Agree (rsa_public_key uint_ref) PublicKeyEncoding public_key_of keys.RsaPublicKey }
     {}
 }
 
@@ -144,13 +125,7 @@ impl Stated for RsaPrivateKey<UintRef<'_>> {
     ghost encodes = { PrivateKeyEncoding };
 
     fn lemma_same()
-        ensures bytes { (held : PrivateKeyOf UintRef (Vec (OtherPrimeInfo UintRef))) (bytes : List ℕ)
-            → PrivateKeyEncoding (rsa_private_key uint_ref held) bytes
-            ↔ documents.Means keys.RsaPrivateKey bytes (private_key_of held) }
-        ensures each { (v : PrivateKey) (bytes : List ℕ) → PrivateKeyEncoding v bytes
-            → (w : keys.PrivateKey (List ℕ)) × documents.Means keys.RsaPrivateKey bytes w }
-        ensures equal { (a b : PrivateKeyOf UintRef (Vec (OtherPrimeInfo UintRef)))
-            → (rsa_private_key uint_ref a ≡ rsa_private_key uint_ref b) ↔ (private_key_of a ≡ private_key_of b) }
+        ensures { library.Agree (rsa_private_key uint_ref) PrivateKeyEncoding private_key_of keys.RsaPrivateKey }
     {}
 }
 
@@ -182,13 +157,7 @@ impl Stated for PrivateKeyInfoRef<'_> {
     ghost encodes = { ContainerEncoding };
 
     fn lemma_same()
-        ensures bytes { (held : PrivateKeyInfoRef) (bytes : List ℕ)
-            → ContainerEncoding (private_key_info_ref held) bytes
-            ↔ documents.Means PrivateKeyInfo bytes (info_of held) }
-        ensures each { (v : Container) (bytes : List ℕ) → ContainerEncoding v bytes
-            → (w : Info) × documents.Means PrivateKeyInfo bytes w }
-        ensures equal { (a b : PrivateKeyInfoRef)
-            → (private_key_info_ref a ≡ private_key_info_ref b) ↔ (info_of a ≡ info_of b) }
+        ensures { library.Agree private_key_info_ref ContainerEncoding info_of PrivateKeyInfo }
     {}
 }
 

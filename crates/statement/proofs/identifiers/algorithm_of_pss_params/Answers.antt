@@ -1,22 +1,14 @@
-use Rattle.std.proofs.Common.{◌∙◌, sym, ap, Some}
-use Rattle.spki_core.specs.ObjectIdentifierValue.{octets_of}
-use Rattle.pkcs1_params.specs.PssValue.{pss_in}
-use Rattle.statement.specs.Held.{pss_params_of}
 use Rattle.statement.specs.Statement.{id_rsassa_pss}
-use Rattle.statement.proofs.Algorithms.{algorithm_from}
-use Rattle.statement.proofs.Held.{pss_held, algorithm_holds}
-use Rattle.statement.proofs.Identified.{encodable, pss_identifier}
+use Rattle.statement.proofs.Held.{pss_held}
+use Rattle.statement.proofs.Identified.{identified_holds, encodable, pss_identifier}
 use Rattle.statement.proofs.Pss.{from, sides}
 use Rattle.statement.proofs.identifiers.algorithm_of_pss_params.Goals as goal
 
 pub returns-clause-means : goal.returns-clause-means
 returns-clause-means g c =
     let held = pss_held g.met.O.HoldsIdentifier.is_oid g.met.P.HoldsTagged.is_tagged in
-    let value = pss_in g.O.IdentifierValue.octets g.P.AnyValue.any in
-    let meaning = pss_params_of g.O.HoldsIdentifier.oid g.P.HoldsTagged.tagged in
-    sym (algorithm_holds octets_of from (λ b. value b.0.now) (λ b. meaning b.0.now) (λ b. held b.0.now)
-    c.to_algorithm.result) ∙ ap (algorithm_from from) c.to_algorithm.ensures.means
-    ∙ (λ i. record { oid = id_rsassa_pss; parameters = Some (held c.args.params.now i) })
+    identified_holds from _ _ (λ b. held b.0.now) id_rsassa_pss c.to_algorithm.result _ _ (held c.args.params.now)
+    c.to_algorithm.ensures.means
 
 pub returns-clause-encodable : goal.returns-clause-encodable
 returns-clause-encodable g c =

@@ -1,18 +1,11 @@
-use Rattle.spki_core.specs.AlgorithmValue.{algorithm_of}
-use Rattle.spki_core.specs.AnyRefValue.{any_of}
 use Rattle.statement.specs.Statement.{id_rsassa_pss}
-use Rattle.statement.proofs.Held.{plain_holds, pss_seen}
-use Rattle.statement.proofs.Identified.{finds, finds_none, few_contents}
+use Rattle.statement.proofs.Held.{pss_seen}
+use Rattle.statement.proofs.Identified.{finds, finds_none}
 use Rattle.statement.proofs.Pss.{sides}
 use Rattle.statement.proofs.identifiers.pss_view_of_algorithm.Goals as goal
 
 pub returns-in-Ok : goal.returns-in-Ok
-returns-in-Ok c =
-    let a = c.args.algorithm.now in
-    finds sides id_rsassa_pss (algorithm_of a) (few_contents a.parameters) (plain_holds any_of a) _
-    (pss_seen c.in-Ok.params) c.in-Ok.ensures.ok
+returns-in-Ok c = finds sides id_rsassa_pss c.args.algorithm.now _ (pss_seen c.in-Ok.params) c.in-Ok.ensures.ok
 
 pub returns-in-Err : goal.returns-in-Err
-returns-in-Err c =
-    let a = c.args.algorithm.now in
-    finds_none sides id_rsassa_pss (algorithm_of a) (few_contents a.parameters) (plain_holds any_of a) c.in-Err.ensures.err
+returns-in-Err c = finds_none sides id_rsassa_pss c.args.algorithm.now c.in-Err.ensures.err

@@ -1,7 +1,3 @@
-use Rattle.std.proofs.Common.{ℕ, ◌<◌, ◌^◌, sym, subst}
-use Rattle.pkcs1_params.specs.OaepValue.{oaep_in}
-use Rattle.statement.specs.Statement.{IsOaep, oaep_fields, SequenceOf, FieldsUnder, Defaults, IsShortest}
-use Rattle.statement.proofs.Der.{moved}
 use Rattle.statement.proofs.Held.{oaep_held}
 use Rattle.statement.proofs.Fields.{shortest_under, none_under, mask_there}
 use Rattle.statement.proofs.Oaep.{sides}
@@ -9,20 +5,14 @@ use Rattle.statement.proofs.named.slice_of_oaep_params_under.Goals as goal
 
 pub encode_spelling-requires : goal.encode_spelling-requires
 encode_spelling-requires g c =
-    let p = c.args.params.now in
-    mask_there sides (oaep_in g.O.IdentifierValue.octets g.P.AnyValue.any p) c.args.mask
-    (subst (λ v. (k : ℕ) × Defaults (oaep_fields v) k × (c.args.mask < 2 ^ k)) (sym (oaep_held g.met.O.HoldsIdentifier.is_oid g.met.P.HoldsTagged.is_tagged p)) c.requires)
+    let held = oaep_held g.met.O.HoldsIdentifier.is_oid g.met.P.HoldsTagged.is_tagged c.args.params.now in mask_there sides _ held c.args.mask c.requires
 
 pub returns-in-Ok-clause-some : goal.returns-in-Ok-clause-some
 returns-in-Ok-clause-some g c =
-    let p = c.args.params.now in
-    moved (IsShortest (SequenceOf IsOaep oaep_fields (FieldsUnder c.args.mask))) (oaep_held g.met.O.HoldsIdentifier.is_oid g.met.P.HoldsTagged.is_tagged p)
-    (shortest_under sides c.lemma_oaep_spellings.ensures.encoding (oaep_in g.O.IdentifierValue.octets g.P.AnyValue.any p) c.args.mask _
-    c.in-Ok.ensures.stands.spelling)
+    let held = oaep_held g.met.O.HoldsIdentifier.is_oid g.met.P.HoldsTagged.is_tagged c.args.params.now in
+    shortest_under sides c.lemma_oaep_spellings.ensures.encoding _ held c.args.mask _ c.in-Ok.ensures.stands.spelling
 
 pub returns-in-Err-clause-none : goal.returns-in-Err-clause-none
-returns-in-Err-clause-none g c =
-    let p = c.args.params.now in
-    λ bytes e. none_under sides c.lemma_oaep_spellings.ensures.encoding (oaep_in g.O.IdentifierValue.octets g.P.AnyValue.any p) c.args.mask _ _ bytes
-    c.in-Err.ensures.err
-    (moved (SequenceOf IsOaep oaep_fields (FieldsUnder c.args.mask)) (sym (oaep_held g.met.O.HoldsIdentifier.is_oid g.met.P.HoldsTagged.is_tagged p)) e)
+returns-in-Err-clause-none g c bytes e =
+    let held = oaep_held g.met.O.HoldsIdentifier.is_oid g.met.P.HoldsTagged.is_tagged c.args.params.now in
+    none_under sides c.lemma_oaep_spellings.ensures.encoding _ held c.args.mask _ _ bytes c.in-Err.ensures.err e

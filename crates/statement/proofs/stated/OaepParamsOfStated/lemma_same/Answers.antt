@@ -1,19 +1,11 @@
 use Rattle.pkcs1_params.specs.OaepValue.{oaep_in}
 use Rattle.statement.proofs.Each.{oaep_forth}
-use Rattle.statement.proofs.Fields.{same, means}
+use Rattle.statement.proofs.Fields.{agree}
 use Rattle.statement.proofs.Held.{oaep_held}
-use Rattle.statement.proofs.Oaep.{from, to, sides}
-use Rattle.statement.proofs.Writing.{equal_by}
+use Rattle.statement.proofs.Oaep.{sides}
 use Rattle.statement.proofs.stated.OaepParamsOfStated.lemma_same.Goals as goal
 
-pub returns-clause-bytes : goal.returns-clause-bytes
-returns-clause-bytes g c p = same sides _ (oaep_held g.met.O.HoldsIdentifier.is_oid g.met.P.HoldsTagged.is_tagged p)
-
-pub returns-clause-each : goal.returns-clause-each
-returns-clause-each g c v bytes p = (to v, means sides v bytes p)
-
-pub returns-clause-equal : goal.returns-clause-equal
-returns-clause-equal g c a b =
-    let value = oaep_in g.O.IdentifierValue.octets g.P.AnyValue.any in
-    let held = oaep_held g.met.O.HoldsIdentifier.is_oid g.met.P.HoldsTagged.is_tagged in
-    equal_by from to (held a) (held b) (oaep_forth (value a)) (oaep_forth (value b))
+pub returns : goal.returns
+returns g c =
+    agree sides oaep_forth (oaep_in g.O.IdentifierValue.octets g.P.AnyValue.any) _
+    (oaep_held g.met.O.HoldsIdentifier.is_oid g.met.P.HoldsTagged.is_tagged)

@@ -1,13 +1,6 @@
 use Rattle.der_core.specs.UintValue.{own_bytes_of}
-use Rattle.statement.proofs.PrivateKeys.{key_of, means}
-use Rattle.statement.proofs.Writing.{private_same, private_equal, owned_canonical}
+use Rattle.statement.proofs.Writing.{private_agree, owned_canonical}
 use Rattle.statement.proofs.stated.RsaPrivateKeyUintStated.lemma_same.Goals as goal
 
-pub returns-clause-bytes : goal.returns-clause-bytes
-returns-clause-bytes c = private_same own_bytes_of owned_canonical
-
-pub returns-clause-each : goal.returns-clause-each
-returns-clause-each c v bytes p = (key_of v, means v bytes p)
-
-pub returns-clause-equal : goal.returns-clause-equal
-returns-clause-equal c = private_equal own_bytes_of owned_canonical
+pub returns : goal.returns
+returns c = private_agree own_bytes_of owned_canonical

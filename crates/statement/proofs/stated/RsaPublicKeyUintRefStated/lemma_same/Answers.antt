@@ -1,13 +1,6 @@
 use Rattle.der_core.specs.UintRefValue.{bytes_of}
-use Rattle.statement.proofs.PublicKeys.{key_of, means}
-use Rattle.statement.proofs.Writing.{public_same, public_equal, borrowed_canonical}
+use Rattle.statement.proofs.Writing.{public_agree, borrowed_canonical}
 use Rattle.statement.proofs.stated.RsaPublicKeyUintRefStated.lemma_same.Goals as goal
 
-pub returns-clause-bytes : goal.returns-clause-bytes
-returns-clause-bytes c = public_same bytes_of borrowed_canonical
-
-pub returns-clause-each : goal.returns-clause-each
-returns-clause-each c v bytes p = (key_of v, means v bytes p)
-
-pub returns-clause-equal : goal.returns-clause-equal
-returns-clause-equal c = public_equal bytes_of borrowed_canonical
+pub returns : goal.returns
+returns c = public_agree bytes_of borrowed_canonical
