@@ -1,5 +1,5 @@
 -- Encodings as a whole, within the limit on their length.
-use Rattle.std.specs.Prelude.{ℕ, List, ◌≡◌, ◌<◌, ◌≤◌, ◌⊎◌, ◌↔◌, length}
+use Rattle.std.specs.Prelude.{ℕ, List, ◌≡◌, ◌<◌, ◌≤◌, ◌⊎◌, ◌↔◌, length, take, drop}
 use Rattle.der_core.specs.Tag.{sequence_tag}
 use Rattle.der_core.specs.Length.{limit}
 use Rattle.der_core.specs.Encodings.{AreBytes}
@@ -8,6 +8,10 @@ use Rattle.der_core.specs.Tlv.{Tlv}
 -- The value has this encoding, which is within the limit.
 abbrev pub Means : {V : Type 0} → (V → List ℕ → Type 0) → List ℕ → V → Type 0
 Means Grammar encoding v = (length encoding ≤ limit) × Grammar v encoding
+
+-- The bytes mean this value and no other.
+abbrev pub IsMeaning : {V : Type 0} → (V → List ℕ → Type 0) → List ℕ → V → Type 0
+IsMeaning {V} Grammar encoding v = Means Grammar encoding v × ((w : V) → Means Grammar encoding w → w ≡ v)
 
 -- The encodings of a value within the limit.
 abbrev pub Spellings : {V : Type 0} → (V → List ℕ → Type 0) → V → List ℕ → Type 0
@@ -36,6 +40,11 @@ Excludes {V} {W} G H = (v : V) (w : W) (encoding : List ℕ) → G v encoding �
 -- The value has no other encoding within the limit.
 abbrev pub IsAlone : {V : Type 0} → (V → List ℕ → Type 0) → V → List ℕ → Type 0
 IsAlone Grammar v encoding = (other : List ℕ) → Spellings Grammar v other → other ≡ encoding
+
+-- The first n bytes are the value's only encoding, and the others are as they were.
+abbrev pub IsWrittenAlone : {V : Type 0} → (V → List ℕ → Type 0) → V → List ℕ → List ℕ → ℕ → Type 0
+IsWrittenAlone Grammar v old new n =
+    (n ≤ length new) × IsShortest Grammar v (take n new) × IsAlone Grammar v (take n new) × (drop n new ≡ drop n old)
 
 -- Why a value isn't written.
 pub data EncodeError : Type 0 where

@@ -5,6 +5,7 @@ pub mod Document
 pub mod Equality
 pub mod Expected
 pub mod Faults
+pub mod FrontParts
 pub mod Fronts
 pub mod Growing
 pub mod HeaderAndContents
@@ -23,6 +24,7 @@ pub mod Numbers
 pub mod OctetString
 pub mod Optional
 pub mod OptionalReads
+pub mod Parts
 pub mod NotWritten
 pub mod SequenceOf
 pub mod Sequences

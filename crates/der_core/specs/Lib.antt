@@ -29,5 +29,6 @@ pub mod OctetString
 pub mod OctetStringRefValue
 pub mod Members
 pub mod Faults
+pub mod Parts
 pub mod Laws
 pub mod Words

@@ -1,11 +1,166 @@
 //! The last part of some contents: one encoding, or an OPTIONAL one.
-ghost use Rattle.der_core.specs.Words.{AloneFault, LastFault, Optional, ReadsWhole, AllocatesIn, AllocatesLast};
+ghost use Rattle.std.specs.Prelude.{◌≡◌, Option};
 ghost use Rattle.std.specs.Option.{option_map};
+ghost use Rattle.der_core.specs.Words.{AllocatesIn, AllocatesLast, AloneFault, HasOptional, LastContents, LastFault};
+ghost use Rattle.der_core.specs.Words.{Optional, ReadsWhole, TaggedLastFault, Tlv, EncodingFault, last_fault_first, last_part_none};
+ghost use Rattle.der_core.specs.Words.{last_part_of_bytes, last_part_relates, last_part_shortest, optional_last};
+ghost use Rattle.der_core.specs.Words.{last_by_tag_none, tagged_last_first, tlv_relates, tlv_shortest};
+ghost use Rattle.der_core.specs.Words.{written_optional};
 
-use crate::decode::Decode;
+use crate::back_writer::BackWriter;
+use crate::borrowed::Borrowed;
+use crate::decode::{Decode, DecodeValue, decode_optional};
+use crate::encode::{Encode, EncodeValue};
 use crate::error::Result;
+use crate::length::Length;
 use crate::memory::Memory;
+use crate::parts::DecodeParts;
 use crate::reader::Reader;
+use crate::types::{Contents, Encoding, FixedTag};
+use crate::writer::Writer;
+
+/// An OPTIONAL last part: one encoding, or nothing. Whatever is left is read as the part.
+#[derive(Drop)]
+pub struct Last<T>(pub Option<T>);
+
+impl<'b, T: Encoding> Last<Borrowed<'b, T>> {
+    /// A last part to be written.
+    #[inline(always)]
+    pub fn borrowed(part: &'b Option<T>) -> Last<Borrowed<'b, T>>
+        ensures { option_map (λ b. T.value b.0.now) result.0 ≡ option_map T.value part.now }
+    {
+        match part {
+            Some(value) => Last(Some(Borrowed(value))),
+            None => Last(None),
+        }
+    }
+}
+
+impl<T: Encoding> Contents for Last<T> {
+    ghost Value = { Option T.Value };
+
+    ghost value = { λ last. option_map T.value last.0 };
+
+    ghost contents = { LastContents T.encoding };
+
+    ghost has_contents = { HasOptional T.has_encoding };
+
+    ghost written_contents = { written_optional T.written_encoding };
+
+    ghost means_one = { optional_last T.encoding T.delimited };
+
+    ghost contents_of_bytes = { last_part_of_bytes T.encoding T.encoding_of_bytes };
+}
+
+impl<'a, M: Memory, T: Decode<&'a [u8], M>> DecodeParts<&'a [u8], M> for Last<T> {
+    ghost may_allocate = { AllocatesLast T.Decode.may_allocate };
+
+    ghost fault = { LastFault T.encoding T.Decode.fault };
+
+    #[inline(always)]
+    fn decode_parts<R: Reader<&'a [u8]>>(memory: M, reader: &mut R) -> Result<Last<T>> {
+        let part = decode_last(memory, reader)?;
+        Ok(Last(part))
+    }
+
+    ghost fault_none = { last_part_none T.encoding T.Decode.fault T.delimited T.Decode.fault_none };
+
+    ghost fault_first = { last_fault_first T.encoding T.Decode.fault T.delimited T.Decode.fault_none
+        T.Decode.fault_first };
+}
+
+impl<T: Encode> EncodeValue for Last<T> {
+    #[inline(always)]
+    fn value_len(&self) -> Result<Length> {
+        match &self.0 {
+            Some(part) => part.encoded_len(),
+            None => Ok(Length::ZERO),
+        }
+    }
+
+    #[inline(always)]
+    fn append_value<W: Writer>(&self, writer: &mut W) -> Result<()> {
+        match &self.0 {
+            Some(part) => part.encode(writer),
+            None => Ok(()),
+        }
+    }
+
+    #[inline(always)]
+    fn prepend_value(&self, writer: &mut BackWriter<'_>) {
+        if let Some(part) = &self.0 {
+            part.prepend(writer);
+        }
+    }
+
+    ghost contents_relate = { last_part_relates T.encoding T.has_encoding T.written_encoding T.encoding_relates };
+
+    ghost contents_shortest = { last_part_shortest T.encoding T.has_encoding T.written_encoding T.encoding_shortest };
+}
+
+/// An OPTIONAL last part that is known by its tag: octets that begin with another are `TrailingData`.
+#[derive(Drop)]
+pub struct LastByTag<T>(pub Last<T>);
+
+impl<T: Contents + FixedTag> Contents for LastByTag<T> {
+    ghost Value = { ⟦<Last<T> as Contents>⟧.Value };
+
+    ghost value = { λ part. ⟦<Last<T> as Contents>⟧.value part.0 };
+
+    ghost contents = { ⟦<Last<T> as Contents>⟧.contents };
+
+    ghost has_contents = { ⟦<Last<T> as Contents>⟧.has_contents };
+
+    ghost written_contents = { ⟦<Last<T> as Contents>⟧.written_contents };
+
+    ghost means_one = { ⟦<Last<T> as Contents>⟧.means_one };
+
+    ghost contents_of_bytes = { ⟦<Last<T> as Contents>⟧.contents_of_bytes };
+}
+
+impl<'a, M: Memory, T: DecodeValue<&'a [u8], M> + FixedTag> DecodeParts<&'a [u8], M> for LastByTag<T> {
+    ghost may_allocate = { AllocatesIn (Tlv T.TAG.octet T.DecodeValue.may_allocate) };
+
+    ghost fault = { TaggedLastFault T.TAG (λ v. Tlv T.TAG.octet (T.contents v))
+        (EncodingFault T.TAG T.DecodeValue.fault) };
+
+    #[inline(always)]
+    fn decode_parts<R: Reader<&'a [u8]>>(memory: M, reader: &mut R) -> Result<LastByTag<T>> {
+        let part = decode_optional(memory, reader)?;
+        reader.finish()?;
+        Ok(LastByTag(Last(part)))
+    }
+
+    ghost fault_none = { last_by_tag_none T.TAG T.contents T.DecodeValue.fault T.means_one T.DecodeValue.fault_none };
+
+    ghost fault_first = { tagged_last_first T.TAG T.contents T.DecodeValue.fault T.means_one T.DecodeValue.fault_none
+        T.DecodeValue.fault_first };
+}
+
+impl<T: EncodeValue + FixedTag> EncodeValue for LastByTag<T> {
+    #[inline(always)]
+    fn value_len(&self) -> Result<Length> {
+        self.0.value_len()
+    }
+
+    #[inline(always)]
+    fn append_value<W: Writer>(&self, writer: &mut W) -> Result<()> {
+        self.0.append_value(writer)
+    }
+
+    #[inline(always)]
+    fn prepend_value(&self, writer: &mut BackWriter<'_>) {
+        self.0.prepend_value(writer);
+    }
+
+    ghost contents_relate = { last_part_relates ⟦<T as Encoding>⟧.encoding T.has_contents
+        ⟦<T as Encoding>⟧.written_encoding
+        (λ v has. tlv_relates T.TAG.octet T.contents T.written_contents v (T.contents_relate v has)) };
+
+    ghost contents_shortest = { last_part_shortest ⟦<T as Encoding>⟧.encoding T.has_contents
+        ⟦<T as Encoding>⟧.written_encoding
+        (tlv_shortest T.TAG.octet T.contents T.written_contents T.has_contents T.contents_shortest) };
+}
 
 /// Reads all that is left as one encoding: `TrailingData` if bytes follow it. `Failed` on a reader that has failed.
 #[inline(always)]

@@ -8,6 +8,7 @@
 //! encoding of at most `Length::MAX` bytes that means a value.
 #![tactic(auto)]
 
+mod asks_none;
 mod back_writer;
 mod borrowed;
 mod carry;
@@ -15,7 +16,9 @@ mod decode;
 mod document;
 mod encode;
 mod error;
+mod expected;
 mod file_system;
+mod front;
 mod header;
 mod integer;
 mod last_part;
@@ -23,8 +26,10 @@ mod laws;
 mod length;
 mod memory;
 mod octet_string;
+mod one_encoding;
 mod parts;
 mod reader;
+mod record;
 mod sequence_of;
 mod slice_reader;
 mod source_sink;
@@ -34,6 +39,7 @@ mod types;
 mod wrap;
 mod writer;
 
+pub use asks_none::{AsksNone, ContentsAskNone, PartsAskNone, read_borrowed};
 pub use back_writer::BackWriter;
 pub use borrowed::Borrowed;
 pub use carry::{put_all, read_all};
@@ -41,10 +47,12 @@ pub use decode::{Decode, DecodeValue, decode_optional, is_tag_next};
 pub use document::{Document, DocumentOf, Open, Secret, SecretDocument, write_over};
 pub use encode::{Encode, EncodeValue, joined_len};
 pub use error::{Error, ErrorKind, Result};
+pub use expected::Expected;
 pub use file_system::FileSystem;
+pub use front::DecodeFront;
 pub use header::Header;
 pub use integer::{AsUintRef, Uint, UintRef};
-pub use last_part::{decode_last, decode_whole};
+pub use last_part::{Last, LastByTag, decode_last, decode_whole};
 pub use laws::{
     lemma_clones_hold_the_same, lemma_contents_are_rejected_by_their_fault,
     lemma_documents_compare_by_bytes, lemma_headers_compare_by_value, lemma_kinds_are_told_apart,
@@ -53,8 +61,10 @@ pub use laws::{
 pub use length::Length;
 pub use memory::{Memory, NoMemory};
 pub use octet_string::{OctetStringRef, OctetStringTag};
-pub use parts::Part;
+pub use one_encoding::{OneContents, OneEncoding, lemma_one_encoding, write_only};
+pub use parts::DecodeParts;
 pub use reader::{BytesLeft, Octets, Reader};
+pub use record::{EncodeInParts, InParts, Record};
 pub use slice_reader::SliceReader;
 pub use source_sink::{Close, Sink, Source};
 pub use tag::{Tag, TagNumber};

@@ -1,132 +1,147 @@
-//! Parts of contents, written one after another.
-ghost use Rattle.std.specs.Prelude.{◌≡◌, ◌≤◌, ◌++◌, List, ℕ, length};
-ghost use Rattle.std.specs.Option.{option_map};
-ghost use Rattle.der_core.specs.Words.{limit, free_of, Prepends, HasOptional, written_optional, AllHave, all_encodings};
-ghost use Rattle.der_core.specs.Words.{Counts, Appends};
+//! Parts of contents in a row, as a type: a nested pair that ends with `()`, as `(A, (B, ()))`, or with an OPTIONAL last
+//! part, as `(A, Last<B>)`. A row is written as contents, `(Borrowed(&self.a), (Borrowed(&self.b), ())).value_len()`.
+ghost use Rattle.std.specs.Prelude.{List, [], ℕ};
+ghost use Rattle.der_core.specs.declared.error.ErrorKind.{ErrorKind};
+ghost use Rattle.der_core.specs.Words.{AllocatesInParts, AreFirst, AreNone, EndFault, HaveParts, NoneHas, NoParts};
+ghost use Rattle.der_core.specs.Words.{PartsContents, PartsFault, ReadsOrFaults, end_fault_first, end_fault_none};
+ghost use Rattle.der_core.specs.Words.{no_parts_mean_one, no_parts_of_bytes, no_parts_relate, no_parts_shortest};
+ghost use Rattle.der_core.specs.Words.{parts_fault_first, parts_fault_none, parts_mean_one, parts_of_bytes};
+ghost use Rattle.der_core.specs.Words.{parts_relate, parts_shortest, written_parts};
 
 use crate::back_writer::BackWriter;
-use crate::encode::{Encode, joined_len};
+use crate::decode::Decode;
+use crate::encode::{Encode, EncodeValue, joined_len};
 use crate::error::Result;
 use crate::length::Length;
-use crate::sequence_of::{encode_items, items_len, prepend_items};
+use crate::memory::Memory;
+use crate::reader::{Octets, Reader};
+use crate::types::{Contents, Encoding};
 use crate::writer::Writer;
 
-/// A part of some contents: one encoding, an OPTIONAL one, several, or two parts. A type with several parts writes its
-/// contents as those of nested pairs: `(&self.oid, &self.parameters).append_part(writer)`.
-pub trait Part {
-    /// Which parts have octets.
-    ghost has_octets: { Self → Type 0 };
+/// Contents that are read to the end of what is left.
+pub trait DecodeParts<B: Octets, M: Memory>: Contents + Sized + Drop {
+    /// The contents whose reading may allocate.
+    ghost may_allocate: { List ℕ → Type 0 };
 
-    /// The octets that are written.
-    ghost octets: { Self → List ℕ };
+    /// Contents that mean no value, with the kind of error of their first fault.
+    ghost fault: { ErrorKind → List ℕ → Type 0 };
 
-    /// The number of octets.
-    fn part_len(&self) -> Result<Length>
-        ensures { Counts (Self.has_octets self.now) (Self.octets self.now) result };
+    /// Reads all that is left as the contents octets of a value.
+    fn decode_parts<R: Reader<B>>(memory: M, reader: &mut R) -> Result<Self>
+        ensures { let before = R.left reader.old in
+            ReadsOrFaults Self.value Self.contents fault may_allocate result before (R.left reader.new) };
 
-    /// Appends the octets: `NoRoom` after a beginning of them.
-    fn append_part<W: Writer>(&self, writer: &mut W) -> Result<()>
-        requires has { Self.has_octets self.now }
-        requires fits { length (Self.octets self.now) ≤ limit }
-        ensures appends { let octets = Self.octets self.now in
-            Appends (Self.has_octets self.now) octets W.room W.written writer.old writer.new result }
-        ensures kept { W.keeps writer.old writer.new };
+    ghost fault_none: { AreNone (NoneHas Self.contents) fault };
 
-    /// Writes the octets in front of what is filled.
-    fn prepend_part(&self, writer: &mut BackWriter<'_>)
-        requires has { Self.has_octets self.now }
-        requires fits { length (Self.octets self.now) ≤ limit }
-        requires room { length (Self.octets self.now) ≤ free_of writer.old }
-        ensures { Prepends (Self.octets self.now) writer.old writer.new };
+    ghost fault_first: { AreFirst fault };
 }
 
-impl<T: Encode> Part for T {
-    ghost has_octets = { λ part. T.has_encoding (T.value part) };
+impl Contents for () {
+    ghost Value = { Unit {0} };
 
-    ghost octets = { λ part. T.written_encoding (T.value part) };
+    ghost value = { λ _. tt };
 
-    #[inline(always)]
-    fn part_len(&self) -> Result<Length> {
-        self.encoded_len()
-    }
+    ghost contents = { NoParts };
 
-    #[inline(always)]
-    fn append_part<W: Writer>(&self, writer: &mut W) -> Result<()> {
-        self.encode(writer)
-    }
+    ghost has_contents = { λ _. Unit {0} };
 
-    #[inline(always)]
-    fn prepend_part(&self, writer: &mut BackWriter<'_>) {
-        self.prepend(writer);
-    }
+    ghost written_contents = { λ _. [] };
+
+    ghost means_one = { no_parts_mean_one };
+
+    ghost contents_of_bytes = { no_parts_of_bytes };
 }
 
-impl<T: Encode> Part for Option<T> {
-    ghost has_octets = { λ part. HasOptional T.has_encoding (option_map T.value part) };
+impl<A: Encoding, B: Contents> Contents for (A, B) {
+    ghost Value = { A.Value × B.Value };
 
-    ghost octets = { λ part. written_optional T.written_encoding (option_map T.value part) };
+    ghost value = { λ parts. (A.value parts.0, B.value parts.1) };
 
-    fn part_len(&self) -> Result<Length> {
-        match self {
-            Some(value) => value.encoded_len(),
-            None => Ok(Length::ZERO),
-        }
-    }
+    ghost contents = { PartsContents A.encoding B.contents };
 
-    fn append_part<W: Writer>(&self, writer: &mut W) -> Result<()> {
-        match self {
-            Some(value) => value.encode(writer),
-            None => Ok(()),
-        }
-    }
+    ghost has_contents = { HaveParts A.has_encoding B.has_contents };
 
-    fn prepend_part(&self, writer: &mut BackWriter<'_>) {
-        if let Some(value) = self {
-            value.prepend(writer);
-        }
-    }
+    ghost written_contents = { written_parts A.written_encoding B.written_contents };
+
+    ghost means_one = { parts_mean_one A.encoding B.contents A.delimited B.means_one };
+
+    ghost contents_of_bytes = { parts_of_bytes A.encoding B.contents A.encoding_of_bytes B.contents_of_bytes };
 }
 
-impl<T: Encode, const N: usize> Part for [T; N] {
-    ghost has_octets = { λ items. AllHave (λ x. T.has_encoding (T.value x)) items };
+impl<'a, M: Memory> DecodeParts<&'a [u8], M> for () {
+    ghost may_allocate = { λ _. ⊥ };
 
-    ghost octets = { λ items. all_encodings (λ x. T.written_encoding (T.value x)) items };
-
-    #[inline(always)]
-    fn part_len(&self) -> Result<Length> {
-        items_len(self)
-    }
+    ghost fault = { EndFault };
 
     #[inline(always)]
-    fn append_part<W: Writer>(&self, writer: &mut W) -> Result<()> {
-        encode_items(self, writer)
+    fn decode_parts<R: Reader<&'a [u8]>>(_memory: M, reader: &mut R) -> Result<()> {
+        reader.finish()
     }
 
-    #[inline(always)]
-    fn prepend_part(&self, writer: &mut BackWriter<'_>) {
-        prepend_items(self, writer);
-    }
+    ghost fault_none = { end_fault_none };
+
+    ghost fault_first = { end_fault_first };
 }
 
-impl<A: Part, B: Part> Part for (&A, &B) {
-    ghost has_octets = { λ pair. A.has_octets pair.0.now × B.has_octets pair.1.now };
+impl<'a, M: Memory, A: Decode<&'a [u8], M>, B: DecodeParts<&'a [u8], M>> DecodeParts<&'a [u8], M> for (A, B) {
+    ghost may_allocate = { AllocatesInParts A.encoding A.Decode.may_allocate B.DecodeParts.may_allocate };
 
-    ghost octets = { λ pair. A.octets pair.0.now ++ B.octets pair.1.now };
+    ghost fault = { PartsFault A.encoding A.Decode.fault B.DecodeParts.fault };
 
     #[inline(always)]
-    fn part_len(&self) -> Result<Length> {
-        joined_len(self.0.part_len(), self.1.part_len())
+    fn decode_parts<R: Reader<&'a [u8]>>(memory: M, reader: &mut R) -> Result<(A, B)> {
+        let first = A::decode(memory, reader)?;
+        let rest = B::decode_parts(memory, reader)?;
+        Ok((first, rest))
+    }
+
+    ghost fault_none = { parts_fault_none A.encoding B.contents A.Decode.fault B.DecodeParts.fault A.delimited
+        A.Decode.fault_none B.DecodeParts.fault_none };
+
+    ghost fault_first = { parts_fault_first A.encoding B.contents A.Decode.fault B.DecodeParts.fault A.delimited
+        A.Decode.fault_none A.Decode.fault_first B.DecodeParts.fault_first };
+}
+
+impl EncodeValue for () {
+    #[inline(always)]
+    fn value_len(&self) -> Result<Length> {
+        Ok(Length::ZERO)
     }
 
     #[inline(always)]
-    fn append_part<W: Writer>(&self, writer: &mut W) -> Result<()> {
-        self.0.append_part(writer)?;
-        self.1.append_part(writer)
+    fn append_value<W: Writer>(&self, _writer: &mut W) -> Result<()> {
+        Ok(())
     }
 
     #[inline(always)]
-    fn prepend_part(&self, writer: &mut BackWriter<'_>) {
-        self.1.prepend_part(writer);
-        self.0.prepend_part(writer);
+    fn prepend_value(&self, _writer: &mut BackWriter<'_>) {}
+
+    ghost contents_relate = { no_parts_relate };
+
+    ghost contents_shortest = { no_parts_shortest };
+}
+
+impl<A: Encode, B: EncodeValue> EncodeValue for (A, B) {
+    #[inline(always)]
+    fn value_len(&self) -> Result<Length> {
+        joined_len(self.0.encoded_len(), self.1.value_len())
     }
+
+    #[inline(always)]
+    fn append_value<W: Writer>(&self, writer: &mut W) -> Result<()> {
+        self.0.encode(writer)?;
+        self.1.append_value(writer)
+    }
+
+    #[inline(always)]
+    fn prepend_value(&self, writer: &mut BackWriter<'_>) {
+        self.1.prepend_value(writer);
+        self.0.prepend(writer);
+    }
+
+    ghost contents_relate = { parts_relate A.encoding B.contents A.has_encoding B.has_contents A.written_encoding
+        B.written_contents A.encoding_relates B.contents_relate };
+
+    ghost contents_shortest = { parts_shortest A.encoding B.contents A.has_encoding B.has_contents A.written_encoding
+        B.written_contents A.encoding_shortest B.contents_shortest };
 }

@@ -15,7 +15,8 @@ use Rattle.der_core.specs.Laws.Integer.{small_delimited}
 use Rattle.der_core.specs.Reading.{AllocatesBehind, AllocatesIn, Begins, Rejects}
 use Rattle.der_core.specs.declared.error.ErrorKind.{ErrorKind}
 use Rattle.pkcs1.specs.Allocating.{AllocatesCounted, AllocatesForKey, AllocatesInOthers, BehindNumbers, OthersFollow}
-use Rattle.pkcs1.specs.Allocating.{VersionEncoding}
+use Rattle.pkcs1.specs.Allocating.{VersionEncoding, AllocatesInOther}
+use Rattle.der_core.specs.Parts.{AllocatesInParts}
 use Rattle.pkcs1.specs.Keys.{OtherPrime, OtherPrimeInfo, OtherPrimeInfos, version_of, PrivateKey, PrivateKeyContents}
 use Rattle.pkcs1.specs.Writing.{key_numbers}
 use Rattle.pkcs1.proofs.NumberReads.{as_many}
@@ -89,12 +90,23 @@ Borrowed = Tlv 2 (λ _. ⊥)
 pub borrowed_ask : (b : List ℕ) → Borrowed b → ⊥
 borrowed_ask b t = t.holds
 
-pub none_counted : (n : ℕ) (c : List ℕ) → AllocatesCounted n Integer Borrowed c → ⊥
+none_counted : (n : ℕ) (c : List ℕ) → AllocatesCounted n Integer Borrowed c → ⊥
 none_counted n c (vs, l, (a, b, p, w, f)) = borrowed_ask w.0 w.3
+
+none_in_parts : {rest : List ℕ → Type 0} → ((c : List ℕ) → rest c → ⊥) → (c : List ℕ)
+    → AllocatesInParts Integer Borrowed rest c → ⊥
+none_in_parts none c (inl w) = borrowed_ask w.0 w.3
+none_in_parts none c (inr (v, (x, y, t, w, is))) = none y w
+
+pub none_in_public : (c : List ℕ) → AllocatesInParts Integer Borrowed (AllocatesInParts Integer Borrowed (λ _. ⊥)) c → ⊥
+none_in_public = none_in_parts (none_in_parts (λ _ w. w))
+
+pub none_in_other : (c : List ℕ) → AllocatesInOther Integer Borrowed c → ⊥
+none_in_other = none_in_parts none_in_public
 
 others_begin : (c : List ℕ) → AllocatesInOthers Integer Borrowed c
     → AllocatesIn (Tlv 48 (Begins (OtherPrimeInfo Integer))) c
-others_begin = asks_as (λ c. ⊎_elim (λ w. w) (λ w. let t = w.3 in absurd (none_counted 3 t.contents t.holds)))
+others_begin = asks_as (λ c. ⊎_elim (λ w. w) (λ w. let t = w.3 in absurd (none_in_other t.contents t.holds)))
 
 pub borrowed_key_asks : (c : List ℕ) → AllocatesForKey Integer Borrowed c → OthersFollow c
 borrowed_key_asks c (inl (n, (x, y, t, w, is))) = absurd (none_counted 8 y w)
@@ -113,7 +125,11 @@ begins_first : (v : List ℕ) (vs : List (List ℕ)) (front rest c : List ℕ) �
 begins_first v vs front rest c (a, b, t, p, e) is =
     (a, b ++ rest, is ∙ ap (λ l. l ++ rest) e ∙ append_assoc a b rest, (v, t))
 
-pub owned_numbers_ask : (n : ℕ) (c : List ℕ) → AllocatesCounted n Integer Copied c → Begins Integer c
+pub owned_parts_ask : {rest : List ℕ → Type 0} (c : List ℕ) → AllocatesInParts Integer Copied rest c → Begins Integer c
+owned_parts_ask c (inl w) = begins_copied c w
+owned_parts_ask c (inr (v, (x, y, t, w, is))) = (x, y, is, (v, t))
+
+owned_numbers_ask : (n : ℕ) (c : List ℕ) → AllocatesCounted n Integer Copied c → Begins Integer c
 owned_numbers_ask n c ([], l, (a, b, p, w, is)) = begins_copied c (w.0, w.1, is ∙ ap (λ r. r ++ b) p ∙ w.2, w.3)
 owned_numbers_ask n c (v ∷ vs, l, (a, b, p, w, is)) = begins_first v vs a b c p is
 

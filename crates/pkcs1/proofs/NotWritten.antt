@@ -18,9 +18,9 @@ use Rattle.pkcs1_params.specs.declared.error.Error.TheVariants as error
 use Rattle.pkcs1.specs.Keys.{PublicKey, PublicKeyContents, RsaPublicKey, PrivateKey, RsaPrivateKey}
 use Rattle.pkcs1.specs.KeyEncodings.{IsOnlyEncoding, WhyNoDocument}
 use Rattle.pkcs1.specs.PrivateKeyValue.{Listed, private_key_with}
-use Rattle.pkcs1.specs.Laws.PublicKey.{public_key_relates}
+use Rattle.der_core.specs.Laws.SequenceOf.{items_relate}
 use Rattle.pkcs1_params.specs.Errors.{IsAsn1}
-use Rattle.pkcs1.specs.Writing.{HasPublicKey, HasPrivateKey, written_public_key}
+use Rattle.pkcs1.specs.Writing.{HasPublicKey, HasPrivateKey, public_numbers, written_public_key}
 use Rattle.pkcs1.specs.Laws.HeldKeys.{held_has_encoding}
 use Rattle.pkcs1.specs.Laws.KeyEncodings.{only_encoding}
 use Rattle.pkcs1.specs.Laws.PrivateKeys.{IsHeld, private_delimited, private_at_most_one}
@@ -52,7 +52,7 @@ public_written key has fits =
     → Integer n (tlv 2 (integer_contents n)) =
     λ n canonical few. tlv_relates 2 IntegerContents integer_contents n (λ _. integer_relates n canonical) few in
     tlv_relates 48 (PublicKeyContents Integer) (written_public_key (λ n. tlv 2 (integer_contents n))) key
-    (public_key_relates Integer IsCanonical (λ n. tlv 2 (integer_contents n)) number key has) (omega (arith, fits))
+    (items_relate Integer IsCanonical (λ n. tlv 2 (integer_contents n)) number (public_numbers key) has) (omega (arith, fits))
 
 -- A document of a private key holds its one encoding.
 pub document_only : (key : PrivateKey (List ℕ)) (result : Result (DocumentOf Secret) Error)

@@ -58,21 +58,6 @@ module _ {V : Type 0} (encoding : V → List ℕ → Type 0) (d : IsDelimited en
       let more = as_many vs ws parts p.1 rest has.1 p.3 (omega arith) (sym tails.1) has.3 in
       (cons_path same.1 more.0, more.1)
 
--- The first of some numbers may need memory, or a number behind it.
-module _ {V : Type 0} {encoding : V → List ℕ → Type 0} {may_allocate : List ℕ → Type 0} where
-  pub counted_first : (n : ℕ) → 0 < n → (c : List ℕ) → AllocatesIn may_allocate c
-      → AllocatesCounted n encoding may_allocate c
-  counted_first n some c w = ([], some, ([], c, refl, w, refl))
-
-  pub counted_behind : (n m : ℕ) → n < m → (c : List ℕ)
-      → AllocatesBehind encoding (AllocatesCounted n encoding may_allocate) c
-      → AllocatesCounted m encoding may_allocate c
-  counted_behind n m more c (v, (x, rest, t, (vs, l, (a, b, p, w, f)), is)) = (
-    v ∷ vs,
-    omega (arith, l, more),
-    (x ++ a, b, (x, a, t, p, refl), w, is ∙ ap (λ r. x ++ r) f ∙ sym (append_assoc x a b)),
-  )
-
 -- A fault of the first part is one of the whole.
 pub first_part : {A : Type 0} (Encoding : A → List ℕ → Type 0) (Fault : ErrorKind → List ℕ → Type 0)
     (Behind : A → ErrorKind → List ℕ → Type 0) (asks : List ℕ → Type 0) {e : ErrorKind} {before after : Input}
@@ -93,20 +78,4 @@ module _ {V : Type 0} {encoding : V → List ℕ → Type 0} (Fault : ErrorKind 
         (λ w. inl (w.0, (vs, l, (a.0, a.1, a.2, w.1, a.4))))
         (λ f. inr (vs, l, (a.0, a.1, a.2, f, a.4)))
         (fails.2 a.1 a.3),
-  )
-
-  -- three numbers, and nothing behind them
-  pub other_number_faults : {vs : List V} {before mid after : Input} {e : ErrorKind} → length vs < 3
-      → GivesAll encoding vs before mid → FailsBy Fault (AllocatesIn may_allocate) e mid after
-      → ContentsFaulty (OtherPrimeFault encoding Fault) (AllocatesCounted 3 encoding may_allocate) e before after
-  other_number_faults l all fails =
-      first_part (Counted 3 encoding) (CountedFault 3 encoding Fault) (λ _. EndFault) _ (number_faults 3 l all fails)
-
-  pub other_end_faults : {vs : List V} {before mid after : Input} {e : ErrorKind} → length vs ≡ 3
-      → GivesAll encoding vs before mid → (read_from mid end_of ≡ Err e) × (after ≡ None)
-      → ContentsFaulty (OtherPrimeFault encoding Fault) (AllocatesCounted 3 encoding may_allocate) e before after
-  other_end_faults {vs} {mid = mid} {e = e} l all ends = (
-    ends.1,
-    λ c is. let a = all.split c is in
-        inr (inr (vs, (a.0, a.1, (l, a.2), more_than_end mid a.1 e a.3 ends.0, a.4))),
   )

@@ -36,7 +36,8 @@ CountedFault {Number} n NumberEncoding NumberFault kind bytes =
 abbrev pub OtherPrimeFault : {Number : Type 0} → (Number → List ℕ → Type 0) → (ErrorKind → List ℕ → Type 0) → ErrorKind
     → List ℕ → Type 0
 OtherPrimeFault NumberEncoding NumberFault =
-    ThenFault (Counted 3 NumberEncoding) (CountedFault 3 NumberEncoding NumberFault) (λ _. EndFault)
+    ThenFault NumberEncoding NumberFault (λ _. ThenFault NumberEncoding NumberFault (λ _.
+    ThenFault NumberEncoding NumberFault (λ _. EndFault)))
 
 -- Not a number from 0 to 255, or one that is no version.
 abbrev pub VersionFault : ErrorKind → List ℕ → Type 0

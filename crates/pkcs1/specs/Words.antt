@@ -1,5 +1,6 @@
 -- The words that contracts cite, from all files of specs.
-pub use Rattle.pkcs1.specs.Allocating.{AllocatesCounted, AllocatesForKey, AllocatesInOthers, MayAllocate}
+pub use Rattle.pkcs1.specs.Allocating.{AllocatesCounted, AllocatesForKey, AllocatesInOther, AllocatesInOthers}
+pub use Rattle.pkcs1.specs.Allocating.{MayAllocate}
 pub use Rattle.pkcs1.specs.Allocating.{OwnedKeyAllocates, OwnedPublicKeyAllocates}
 pub use Rattle.pkcs1.specs.Forms.{SameEncodings}
 pub use Rattle.pkcs1.specs.KeyEncodings.{IsDocumentError, IsOnlyEncoding, IsReadingError, IsSentence, WhyNoDocument}
@@ -8,7 +9,7 @@ pub use Rattle.pkcs1.specs.KeyFaults.{PrivateKeyEncodingFault, PrivateKeyFault, 
 pub use Rattle.pkcs1.specs.KeyFaults.{RsaPublicKeyFault, VersionFault}
 pub use Rattle.pkcs1.specs.Keys.{OtherPrime, OtherPrimeContents, OthersOf, PrivateKey, PrivateKeyContents}
 pub use Rattle.pkcs1.specs.Keys.{PrivateKeyEncoding, PublicKey, PublicKeyContents, RsaPrivateKey, RsaPublicKey}
-pub use Rattle.pkcs1.specs.Keys.{public_part}
+pub use Rattle.pkcs1.specs.Keys.{other_parts, public_part, public_parts}
 pub use Rattle.pkcs1.specs.OtherPrimesLeft.{HoldsNone, others_left}
 pub use Rattle.pkcs1.specs.PrivateKeyValue.{ListsNone, key_with, numbers_of, other_of, others_of, private_key_of}
 pub use Rattle.pkcs1.specs.PrivateKeyValue.{private_key_with, public_in}
@@ -17,13 +18,12 @@ pub use Rattle.pkcs1.specs.Versions.{IsVersionOf, VersionContents, number_of}
 pub use Rattle.pkcs1.specs.ViewParts.{listed_others, view_of, viewed_encoding}
 pub use Rattle.pkcs1.specs.Writing.{HasOther, HasPrivateKey, HasPublicKey, key_numbers, other_numbers, written_other}
 pub use Rattle.pkcs1.specs.Writing.{written_private_key, written_public_key}
-pub use Rattle.pkcs1.specs.Laws.KeyFaults.{other_fault_first, other_fault_none, private_integers_first}
+pub use Rattle.pkcs1.specs.Laws.KeyFaults.{private_integers_first}
 pub use Rattle.pkcs1.specs.Laws.KeyFaults.{private_integers_none, private_key_fault_first, private_key_fault_none}
-pub use Rattle.pkcs1.specs.Laws.KeyFaults.{public_key_fault_first, public_key_fault_none, version_fault_first}
+pub use Rattle.pkcs1.specs.Laws.KeyFaults.{version_fault_first}
 pub use Rattle.pkcs1.specs.Laws.KeyFaults.{version_fault_none}
 pub use Rattle.pkcs1.specs.Laws.OtherPrimesHeld.{keys_are_bytes}
-pub use Rattle.pkcs1.specs.Laws.PrivateKey.{other_means_one, other_of_bytes, other_relates, other_shortest}
+pub use Rattle.pkcs1.specs.Laws.PrivateKey.{other_means_one}
 pub use Rattle.pkcs1.specs.Laws.PrivateKey.{private_means_one, private_of_bytes, private_relates, private_shortest}
-pub use Rattle.pkcs1.specs.Laws.PublicKey.{public_key_decides, public_key_means_one, public_key_of_bytes}
-pub use Rattle.pkcs1.specs.Laws.PublicKey.{public_key_relates, public_key_shortest}
+pub use Rattle.pkcs1.specs.Laws.PublicKey.{public_key_decides, public_key_means_one}
 pub use Rattle.pkcs1.specs.Laws.Versions.{version_means_one, version_of_bytes, version_relates, version_shortest}

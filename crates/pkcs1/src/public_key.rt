@@ -1,14 +1,13 @@
 //! RSA public keys.
 ghost use Rattle.std.specs.Prelude.{refl};
-ghost use Rattle.pkcs1.specs.Words.{AllocatesCounted, PublicKey, PublicKeyContents, PublicKeyFault};
-ghost use Rattle.pkcs1.specs.Words.{public_key_fault_none, public_key_fault_first, HasPublicKey, written_public_key};
-ghost use Rattle.pkcs1.specs.Words.{public_key_with, public_key_of, public_key_means_one, public_key_of_bytes};
-ghost use Rattle.pkcs1.specs.Words.{public_key_relates, public_key_shortest};
+ghost use Rattle.der_core.specs.Words.{as_parts};
+ghost use Rattle.pkcs1.specs.Words.{PublicKey, PublicKeyContents, HasPublicKey, written_public_key, public_parts};
+ghost use Rattle.pkcs1.specs.Words.{public_key_with, public_key_of, public_key_means_one};
 
 use der_core::{
-    AsUintRef, BackWriter, Contents, Decode, DecodeValue, Encode, EncodeValue, Encoding,
-    EqualByValue, Header, Length, Memory, NoMemory, Part, Reader, Sequence, SequenceTag, TaggedBy,
-    TryClone, Uint, UintRef, Writer,
+    AsUintRef, BackWriter, Borrowed, Contents, Decode, Encode, EncodeInParts, EncodeValue, Encoding,
+    EqualByValue, InParts, Length, NoMemory, Sequence, SequenceTag, TaggedBy, TryClone, Uint,
+    UintRef, Writer,
 };
 use pkcs1_params::{Error, Result};
 use std::alloc::Global;
@@ -48,7 +47,7 @@ impl<U: Encoding> Contents for RsaPublicKey<U> {
 
     ghost means_one = { public_key_means_one U.encoding U.delimited };
 
-    ghost contents_of_bytes = { public_key_of_bytes U.encoding U.encoding_of_bytes };
+    ghost contents_of_bytes = { λ key. ⟦<(U, (U, ())) as Contents>⟧.contents_of_bytes (public_parts key) };
 }
 
 impl<U> TaggedBy for RsaPublicKey<U> {
@@ -59,47 +58,32 @@ impl<'a, U> Sequence<'a> for RsaPublicKey<U> {
     ghost is_sequence = { refl };
 }
 
-impl<'a, M: Memory, U: Decode<&'a [u8], M>> DecodeValue<&'a [u8], M> for RsaPublicKey<U> {
-    ghost may_allocate = { AllocatesCounted 2 U.encoding U.Decode.may_allocate };
+impl<U: Encoding> InParts for RsaPublicKey<U> {
+    type Parts = (U, (U, ()));
 
-    ghost fault = { PublicKeyFault U.encoding U.Decode.fault };
-
-    fn decode_value<R: Reader<&'a [u8]>>(
-        memory: M,
-        reader: &mut R,
-        _header: Header,
-    ) -> der_core::Result<RsaPublicKey<U>> {
-        let modulus = U::decode(memory, reader)?;
-        let public_exponent = U::decode(memory, reader)?;
-        reader.finish()?;
-        Ok(RsaPublicKey {
+    fn from_parts(parts: (U, (U, ()))) -> RsaPublicKey<U> {
+        let (modulus, (public_exponent, ())) = parts;
+        RsaPublicKey {
             modulus,
             public_exponent,
-        })
+        }
     }
 
-    ghost fault_none = { public_key_fault_none U.encoding U.Decode.fault U.delimited U.Decode.fault_none };
-
-    ghost fault_first = { let none = U.Decode.fault_none in
-        public_key_fault_first U.encoding U.Decode.fault U.delimited none U.Decode.fault_first };
+    ghost is_parts = { λ key. as_parts _ _ _ (public_parts key) };
 }
 
-impl<U: Encode> EncodeValue for RsaPublicKey<U> {
-    fn value_len(&self) -> der_core::Result<Length> {
-        (&self.modulus, &self.public_exponent).part_len()
+impl<U: Encode> EncodeInParts for RsaPublicKey<U> {
+    fn parts_len(&self) -> der_core::Result<Length> {
+        (Borrowed(&self.modulus), (Borrowed(&self.public_exponent), ())).value_len()
     }
 
-    fn append_value<W: Writer>(&self, writer: &mut W) -> der_core::Result<()> {
-        (&self.modulus, &self.public_exponent).append_part(writer)
+    fn append_parts<W: Writer>(&self, writer: &mut W) -> der_core::Result<()> {
+        (Borrowed(&self.modulus), (Borrowed(&self.public_exponent), ())).append_value(writer)
     }
 
-    fn prepend_value(&self, writer: &mut BackWriter<'_>) {
-        (&self.modulus, &self.public_exponent).prepend_part(writer);
+    fn prepend_parts(&self, writer: &mut BackWriter<'_>) {
+        (Borrowed(&self.modulus), (Borrowed(&self.public_exponent), ())).prepend_value(writer);
     }
-
-    ghost contents_relate = { public_key_relates U.encoding U.has_encoding U.written_encoding U.encoding_relates };
-
-    ghost contents_shortest = { public_key_shortest U.encoding U.has_encoding U.written_encoding U.encoding_shortest };
 }
 
 impl<U: EqualByValue> EqualByValue for RsaPublicKey<U> {

@@ -9,9 +9,9 @@ use crate::any::{AnyRef, AnyValue};
 use crate::identifier_view::{IdentifierValue, IdentifierView};
 use crate::object_identifier::{AssociatedOid, ObjectIdentifier};
 use der_core::{
-    BackWriter, Contents, Decode, DecodeValue, Encode, EncodeValue, Encoding, EqualByValue, Error,
-    ErrorKind, Header, Length, Memory, Part, Reader, Result, Sequence, SequenceTag, TaggedBy,
-    TryClone, Writer, decode_last,
+    BackWriter, Contents, Decode, DecodeParts, DecodeValue, Encode, EncodeValue, Encoding,
+    EqualByValue, Error, ErrorKind, Header, Last, Length, Memory, Reader, Result, Sequence,
+    SequenceTag, TaggedBy, TryClone, Writer,
 };
 use std::alloc::Global;
 use std::fmt;
@@ -99,8 +99,7 @@ impl<'a, M: Memory, O: ReadIdentifier<'a>, P: Decode<&'a [u8], M>> DecodeValue<&
         reader: &mut R,
         _header: Header,
     ) -> Result<AlgorithmIdentifierOf<O, P>> {
-        let oid = IdentifierView::decode(memory, reader)?;
-        let parameters = decode_last(memory, reader)?;
+        let (oid, Last(parameters)) = <(IdentifierView<'a>, Last<P>)>::decode_parts(memory, reader)?;
         Ok(O::keep(AlgorithmView { oid, parameters }))
     }
 
@@ -119,17 +118,17 @@ pub fn lemma_identifier_alone_takes_no_memory<'a, P: Decode<&'a [u8], M>, M: Mem
 impl<O: IdentifierValue, P: Encode> EncodeValue for AlgorithmIdentifierOf<O, P> {
     fn value_len(&self) -> Result<Length> {
         let oid = self.oid.as_identifier_view();
-        (&oid, &self.parameters).part_len()
+        (oid, Last::borrowed(&self.parameters)).value_len()
     }
 
     fn append_value<W: Writer>(&self, writer: &mut W) -> Result<()> {
         let oid = self.oid.as_identifier_view();
-        (&oid, &self.parameters).append_part(writer)
+        (oid, Last::borrowed(&self.parameters)).append_value(writer)
     }
 
     fn prepend_value(&self, writer: &mut BackWriter<'_>) {
         let oid = self.oid.as_identifier_view();
-        (&oid, &self.parameters).prepend_part(writer);
+        (oid, Last::borrowed(&self.parameters)).prepend_value(writer);
     }
 
     ghost contents_relate = { algorithm_relates P.encoding P.has_encoding P.written_encoding P.encoding_relates };

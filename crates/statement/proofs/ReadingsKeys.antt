@@ -97,9 +97,8 @@ other_takes o =
 
 other_rejects : Rejects (OtherPrimeFault Integer NumberFault) other_prime_in
 other_rejects =
-    counted_rejects integer_reads 2 _
-    (λ _. counted_rejects integer_reads 1 _
-    (λ _. counted_rejects integer_reads 0 _ (λ _. counted_done integer_reads _ (end_rejects _))))
+    then_rejects integer_reads _ (λ _ _ _. then_rejects integer_reads _ (λ _ _ _.
+    then_rejects integer_reads _ (λ _ _ _. end_rejects _)))
 
 other_reads : Reads (OtherPrimeInfo Integer) OneOtherFault other_numbers (tagged tags.sequence other_prime_in)
 other_reads = tagged_reads tags.sequence other_prime_in other_takes other_rejects

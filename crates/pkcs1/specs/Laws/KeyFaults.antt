@@ -8,6 +8,8 @@ use Rattle.der_core.specs.Laws.Faults.{small_fault_none, small_fault_first, item
 use Rattle.der_core.specs.Laws.Faults.{integer_fault_none, integer_fault_first, encoding_fault_none}
 use Rattle.der_core.specs.Laws.Faults.{encoding_fault_first, then_fault_none, then_fault_first, end_fault_none}
 use Rattle.der_core.specs.Laws.Faults.{end_fault_first}
+use Rattle.der_core.specs.Laws.Parts.{parts_fault_none, parts_fault_first}
+use Rattle.der_core.specs.Parts.{PartsContents, NoParts, PartsFault}
 use Rattle.der_core.specs.Integer.{Integer, IntegerContents, Small}
 use Rattle.der_core.specs.Laws.Integer.{integer_delimited, small_means_one}
 use Rattle.der_core.specs.Length.{limit}
@@ -24,33 +26,44 @@ use Rattle.pkcs1.specs.KeyFaults.{VersionFault, ListedFault, OthersFault, Privat
 use Rattle.pkcs1.specs.KeyFaults.{PrivateKeyEncodingFault, RsaPrivateKeyFault}
 use Rattle.pkcs1.specs.Keys.{PublicKey, PublicKeyContents, RsaPublicKey, RsaPrivateKey, OtherPrime, OtherPrimeContents}
 use Rattle.pkcs1.specs.Keys.{OtherPrimeInfo, OtherPrimeInfos, PrivateKey, PrivateKeyContents, PrivateKeyEncoding}
-use Rattle.pkcs1.specs.Keys.{version_of}
+use Rattle.pkcs1.specs.Keys.{version_of, public_parts, other_parts}
 use Rattle.der_core.specs.Laws.Whole.{AreTold, tagged_told}
 use Rattle.pkcs1.specs.Laws.PrivateKey.{other_delimited, joins_take, version_small, private_means_one}
 use Rattle.pkcs1.specs.Laws.PublicKey.{public_key_means_one}
 use Rattle.pkcs1.specs.Laws.Versions.{version_means_one}
 use Rattle.pkcs1.specs.Versions.{VersionContents}
-use Rattle.pkcs1.specs.Writing.{key_numbers, other_numbers}
+use Rattle.pkcs1.specs.Writing.{key_numbers}
 
-module _ {Number : Type 0} (NumberEncoding : Number → List ℕ → Type 0) (NumberFault : ErrorKind → List ℕ → Type 0)
-    (d : IsDelimited NumberEncoding) (none : AreNone (NoneIn NumberEncoding) NumberFault) where
-  pub public_key_fault_none : AreNone (NoneHas (PublicKeyContents NumberEncoding))
-      (PublicKeyFault NumberEncoding NumberFault)
-  public_key_fault_none =
-      then_fault_none NumberEncoding NumberFault (λ _. ThenFault NumberEncoding NumberFault (λ _. EndFault)) d none
-      (λ (k : PublicKey Number). k.modulus) (λ k. Joins (NumberEncoding k.public_exponent ∷ []))
-      (λ a kind c within fault.
-      let told =
-      then_fault_none NumberEncoding NumberFault (λ _. EndFault) d none
-      (λ (k : PublicKey Number). k.public_exponent) (λ k. Joins [])
-      (λ b j more few f. let ends = end_fault_none {V = PublicKey Number} j more few f in (ends.0, λ v _ p. ends.1 v p))
-      kind c within fault in
-      (told.0, λ v _ p. told.1 v p))
+-- Numbers in a row: the first has a fault, or what follows it.
+module _ {N : Type 0} (encoding : N → List ℕ → Type 0) (Fault : ErrorKind → List ℕ → Type 0) (d : IsDelimited encoding)
+    (none : AreNone (NoneIn encoding) Fault) where
+  abbrev pub Row2 : N × (N × Unit {0}) → List ℕ → Type 0
+  Row2 = PartsContents encoding (PartsContents encoding NoParts)
 
-  pub public_key_fault_first : AreFirst NumberFault → AreFirst (PublicKeyFault NumberEncoding NumberFault)
+  row2_none : AreNone (NoneHas Row2) (PublicKeyFault encoding Fault)
+  row2_none =
+      parts_fault_none encoding (PartsContents encoding NoParts) Fault (PartsFault encoding Fault EndFault) d none
+      (parts_fault_none encoding NoParts Fault EndFault d none end_fault_none)
+
+  pub public_key_fault_none : AreNone (NoneHas (PublicKeyContents encoding)) (PublicKeyFault encoding Fault)
+  public_key_fault_none k c within fault =
+      let told = row2_none k c within fault in (told.0, λ key p. told.1 (public_parts key) p)
+
+  pub public_key_fault_first : AreFirst Fault → AreFirst (PublicKeyFault encoding Fault)
   public_key_fault_first first =
-      then_fault_first NumberEncoding NumberFault _ d none first
-      (λ _. then_fault_first NumberEncoding NumberFault _ d none first (λ _. end_fault_first))
+      parts_fault_first encoding (PartsContents encoding NoParts) Fault (PartsFault encoding Fault EndFault) d none first
+      (parts_fault_first encoding NoParts Fault EndFault d none first end_fault_first)
+
+  -- one of the other primes
+  pub other_fault_none : AreNone (NoneHas (OtherPrimeContents encoding)) (OtherPrimeFault encoding Fault)
+  other_fault_none k c within fault =
+      let told =
+      parts_fault_none encoding Row2 Fault (PublicKeyFault encoding Fault) d none row2_none k c within fault in
+      (told.0, λ other p. told.1 (other_parts other) p)
+
+  pub other_fault_first : AreFirst Fault → AreFirst (OtherPrimeFault encoding Fault)
+  other_fault_first first =
+      parts_fault_first encoding Row2 Fault (PublicKeyFault encoding Fault) d none first (public_key_fault_first first)
 
 number_none : AreNone (NoneIn Integer) (EncodingFault integer IntegerFault)
 number_none = encoding_fault_none integer IntegerFault IntegerContents integer_fault_none
@@ -136,21 +149,6 @@ module _ {V : Type 0} (encoding : V → List ℕ → Type 0) (Fault : ErrorKind 
     one = λ vs ws x y z w p q e. counted_same vs ws x y z w (p.0 ∙ sym q.0) p.1 q.1 e;
   }
 
-  -- one of the other primes
-  pub other_fault_none : AreNone (NoneHas (OtherPrimeContents encoding)) (OtherPrimeFault encoding Fault)
-  other_fault_none k c within fault =
-      let told =
-      then_fault_none (Counted 3 encoding) (CountedFault 3 encoding Fault) (λ _. EndFault)
-      (counted_delimited 3 (omega arith)) (counted_fault_none 3) (λ (o : OtherPrime V). other_numbers o)
-      (λ _ b. b ≡ [])
-      (λ a j b few f. (is_trailing f.1, λ v _ p. omega (arith, f.0, ap length p))) k c within fault in
-      (told.0, λ o has. told.1 o (c, [], (refl, has), refl, sym (append-nil c)))
-
-  pub other_fault_first : AreFirst Fault → AreFirst (OtherPrimeFault encoding Fault)
-  other_fault_first first =
-      then_fault_first (Counted 3 encoding) (CountedFault 3 encoding Fault) (λ _. EndFault)
-      (counted_delimited 3 (omega arith)) (counted_fault_none 3) (counted_fault_first 3 first) (λ _. end_fault_first)
-
   -- their list
   abbrev Listed : List (OtherPrime V) → List ℕ → Type 0
   Listed os b = Tlv 48 (ItemsContents (OtherPrimeInfo encoding) os) b
@@ -162,7 +160,8 @@ module _ {V : Type 0} (encoding : V → List ℕ → Type 0) (Fault : ErrorKind 
 
   one_none : AreNone (NoneIn (OtherPrimeInfo encoding)) (EncodingFault sequence (OtherPrimeFault encoding Fault))
   one_none =
-      encoding_fault_none sequence (OtherPrimeFault encoding Fault) (OtherPrimeContents encoding) other_fault_none
+      encoding_fault_none sequence (OtherPrimeFault encoding Fault) (OtherPrimeContents encoding)
+      (other_fault_none encoding Fault d none)
 
   listed_none : AreNone (NoneIn Listed)
       (EncodingFault sequence (ItemsFault (OtherPrimeInfo encoding)
@@ -237,7 +236,7 @@ module _ {V : Type 0} (encoding : V → List ℕ → Type 0) (Fault : ErrorKind 
       (ListedFault n) listed_delimited listed_none
       (encoding_fault_first sequence _
       (items_fault_first (OtherPrimeInfo encoding) _ (other_delimited d) one_none
-      (encoding_fault_first sequence _ (other_fault_first first)))) (listed_first n) j k c within p q
+      (encoding_fault_first sequence _ (other_fault_first encoding Fault d none first)))) (listed_first n) j k c within p q
   others_fault_first first n j k c within (inl (f, p)) (inr (g, q)) = absurd (g f)
   others_fault_first first n j k c within (inr (f, p)) (inl (g, q)) = absurd (f g)
   others_fault_first first n j k c within (inr (f, inl p)) (inr (g, inl q)) = p.1 ∙ sym q.1

@@ -1,15 +1,16 @@
 //! Other primes of private keys.
 ghost use Rattle.std.specs.Prelude.{◌≡◌, List, ℕ, ◌↔◌, IsTrue, None, IfOk, IsOk, IfErr, refl};
 ghost use Rattle.der_core.specs.Words.{ReadsOrFaults};
-ghost use Rattle.pkcs1.specs.Words.{OthersFault, AllocatesCounted, AllocatesInOthers, OtherPrime, OtherPrimeContents};
-ghost use Rattle.pkcs1.specs.Words.{OthersOf, HasOther, written_other, other_means_one, other_of_bytes, other_relates};
-ghost use Rattle.pkcs1.specs.Words.{other_shortest, other_of, others_of, ListsNone, number_of};
+ghost use Rattle.der_core.specs.Words.{as_parts};
+ghost use Rattle.pkcs1.specs.Words.{OthersFault, AllocatesInOthers, OtherPrime, OtherPrimeContents, other_parts};
+ghost use Rattle.pkcs1.specs.Words.{OthersOf, HasOther, written_other, other_means_one};
+ghost use Rattle.pkcs1.specs.Words.{other_of, others_of, ListsNone, number_of};
 
 use crate::version::Version;
 use der_core::{
-    BackWriter, Borrowed, Contents, Decode, DecodeValue, Encode, EncodeValue, Encoding, ErrorKind,
-    Header, Length, Memory, Part, Reader, Result, Sequence, SequenceTag, Tag, TaggedBy, TryClone,
-    Writer, decode_optional,
+    BackWriter, Borrowed, Contents, Decode, Encode, EncodeInParts, EncodeValue, Encoding, ErrorKind,
+    InParts, Length, Reader, Result, Sequence, SequenceTag, Tag, TaggedBy, TryClone, Writer,
+    decode_optional,
 };
 use std::alloc::{AllocError, Global};
 
@@ -66,7 +67,7 @@ impl<U: Encoding> Contents for OtherPrimeInfo<U> {
 
     ghost means_one = { other_means_one U.delimited };
 
-    ghost contents_of_bytes = { other_of_bytes U.encoding U.encoding_of_bytes };
+    ghost contents_of_bytes = { λ other. ⟦<(U, (U, (U, ()))) as Contents>⟧.contents_of_bytes (other_parts other) };
 }
 
 impl<U> TaggedBy for OtherPrimeInfo<U> {
@@ -90,66 +91,36 @@ impl<U: TryClone> TryClone for OtherPrimeInfo<U> {
     }
 }
 
-impl<'a, M: Memory, U: Decode<&'a [u8], M>> DecodeValue<&'a [u8], M> for OtherPrimeInfo<U> {
-    ghost use Rattle.pkcs1.specs.Words.{OtherPrimeFault, other_fault_none, other_fault_first};
+impl<U: Encoding> InParts for OtherPrimeInfo<U> {
+    type Parts = (U, (U, (U, ())));
 
-    ghost may_allocate = { AllocatesCounted 3 U.encoding U.Decode.may_allocate };
-
-    ghost fault = { OtherPrimeFault U.encoding U.Decode.fault };
-
-    fn decode_value<R: Reader<&'a [u8]>>(
-        memory: M,
-        reader: &mut R,
-        _header: Header,
-    ) -> Result<OtherPrimeInfo<U>> {
-        let prime = U::decode(memory, reader)?;
-        let exponent = U::decode(memory, reader)?;
-        let coefficient = U::decode(memory, reader)?;
-        reader.finish()?;
-        Ok(OtherPrimeInfo {
+    fn from_parts(parts: (U, (U, (U, ())))) -> OtherPrimeInfo<U> {
+        let (prime, (exponent, (coefficient, ()))) = parts;
+        OtherPrimeInfo {
             prime,
             exponent,
             coefficient,
-        })
+        }
     }
 
-    ghost fault_none = { other_fault_none U.encoding U.Decode.fault U.delimited U.Decode.fault_none };
-
-    ghost fault_first = { let none = U.Decode.fault_none in
-        other_fault_first U.encoding U.Decode.fault U.delimited none U.Decode.fault_first };
+    ghost is_parts = { λ other. as_parts _ _ _ (other_parts other) };
 }
 
-impl<U: Encode> EncodeValue for OtherPrimeInfo<U> {
-    fn value_len(&self) -> Result<Length> {
-        [
-            Borrowed(&self.prime),
-            Borrowed(&self.exponent),
-            Borrowed(&self.coefficient),
-        ]
-        .part_len()
+impl<U: Encode> EncodeInParts for OtherPrimeInfo<U> {
+    fn parts_len(&self) -> Result<Length> {
+        let coefficient = (Borrowed(&self.coefficient), ());
+        (Borrowed(&self.prime), (Borrowed(&self.exponent), coefficient)).value_len()
     }
 
-    fn append_value<W: Writer>(&self, writer: &mut W) -> Result<()> {
-        [
-            Borrowed(&self.prime),
-            Borrowed(&self.exponent),
-            Borrowed(&self.coefficient),
-        ]
-        .append_part(writer)
+    fn append_parts<W: Writer>(&self, writer: &mut W) -> Result<()> {
+        let coefficient = (Borrowed(&self.coefficient), ());
+        (Borrowed(&self.prime), (Borrowed(&self.exponent), coefficient)).append_value(writer)
     }
 
-    fn prepend_value(&self, writer: &mut BackWriter<'_>) {
-        [
-            Borrowed(&self.prime),
-            Borrowed(&self.exponent),
-            Borrowed(&self.coefficient),
-        ]
-        .prepend_part(writer);
+    fn prepend_parts(&self, writer: &mut BackWriter<'_>) {
+        let coefficient = (Borrowed(&self.coefficient), ());
+        (Borrowed(&self.prime), (Borrowed(&self.exponent), coefficient)).prepend_value(writer);
     }
-
-    ghost contents_relate = { other_relates U.encoding U.has_encoding U.written_encoding U.encoding_relates };
-
-    ghost contents_shortest = { other_shortest U.encoding U.has_encoding U.written_encoding U.encoding_shortest };
 }
 
 /// Whether the list is there but empty.

@@ -1,14 +1,17 @@
 -- Algorithm identifiers: each encoding means one value and is bytes, and what is written of a value is the shortest of
 -- its encodings.
-use Rattle.std.proofs.Common.{ℕ, List, ◌≡◌, ◌<◌, ◌^◌, length, refl, ap, arith, length-append, Option, Some, None}
+use Rattle.std.proofs.Common.{ℕ, List, ◌≡◌, refl, ap, Option, Some, None}
 use Rattle.der_core.specs.Tag.{object_identifier_tag, sequence_tag}
 use Rattle.der_core.specs.Encodings.{IsDelimited, IsOfBytes, MeansOne}
 use Rattle.der_core.specs.Tlv.{tlv}
-use Rattle.der_core.specs.Laws.Encodings.{tlv_delimited, then_step, then_least, last_least, then_holds, last_holds}
-use Rattle.der_core.specs.Laws.Encodings.{then_of_bytes, last_of_bytes}
-use Rattle.der_core.specs.Optional.{written_optional}
-use Rattle.der_core.specs.Laws.Optional.{optional_last, optional_of_bytes, optional_relates, optional_shortest}
-use Rattle.der_core.specs.Writing.{IsLeast}
+use Rattle.der_core.specs.Laws.Encodings.{tlv_delimited, then_step}
+use Rattle.der_core.specs.Optional.{HasOptional, written_optional}
+use Rattle.der_core.specs.Parts.{LastContents}
+use Rattle.der_core.specs.Laws.Optional.{optional_last}
+use Rattle.der_core.specs.Laws.Parts.{last_part_of_bytes, last_part_relates, last_part_shortest, parts_of_bytes}
+use Rattle.der_core.specs.Laws.Parts.{parts_relate, parts_shortest}
+use Rattle.der_core.specs.Writing.{WritesEncodings, WritesLeast}
+use Rattle.spki_core.specs.ObjectIdentifier.{IsIdentifier, ObjectIdentifier}
 use Rattle.std.specs.Bool.{Decides}
 use Rattle.std.specs.Prelude.{Bool, ◌&&◌}
 use Rattle.std.specs.Str.{bytes_eq}
@@ -35,28 +38,24 @@ module _ {P : Type 0} (Parameters : P → List ℕ → Type 0) where
   algorithm_delimited d = tlv_delimited sequence_tag (AlgorithmContents Parameters) (algorithm_means_one d)
 
   pub algorithm_of_bytes : IsOfBytes Parameters → IsOfBytes (AlgorithmContents Parameters)
-  algorithm_of_bytes of_bytes v c p =
-      then_of_bytes (identifier_of_bytes v.oid) (last_of_bytes (optional_of_bytes Parameters of_bytes v.parameters)) c p
+  algorithm_of_bytes of_bytes v =
+      parts_of_bytes ObjectIdentifier (LastContents Parameters) identifier_of_bytes
+      (last_part_of_bytes Parameters of_bytes) (v.oid, v.parameters)
 
   module _ (has : P → Type 0) (encoding : P → List ℕ) where
-    pub algorithm_relates : ((v : P) → has v → length (encoding v) < 2 ^ 128 → Parameters v (encoding v))
-        → (v : Algorithm P) → HasAlgorithm has v → length (written_algorithm encoding v) < 2 ^ 128
-        → AlgorithmContents Parameters v (written_algorithm encoding v)
-    algorithm_relates relates v h fits =
-        let l = length-append (tlv object_identifier_tag v.oid) (written_optional encoding v.parameters) in
-        then_holds (tlv object_identifier_tag v.oid) (written_optional encoding v.parameters)
-        (identifier_relates v.oid h.0)
-        (last_holds (written_optional encoding v.parameters)
-        (optional_relates Parameters has encoding relates v.parameters h.1 (omega (arith, fits, l))))
+    pub algorithm_relates : WritesEncodings Parameters has encoding
+        → WritesEncodings (AlgorithmContents Parameters) (HasAlgorithm has) (written_algorithm encoding)
+    algorithm_relates relates v =
+        parts_relate ObjectIdentifier (LastContents Parameters) IsIdentifier (HasOptional has)
+        (tlv object_identifier_tag) (written_optional encoding) (λ oid is _. identifier_relates oid is)
+        (last_part_relates Parameters has encoding relates) (v.oid, v.parameters)
 
-    pub algorithm_shortest : ((v : P) (b : List ℕ) → Parameters v b → IsLeast (has v) (encoding v) b)
-        → (v : Algorithm P) (c : List ℕ) → AlgorithmContents Parameters v c
-        → IsLeast (HasAlgorithm has v) (written_algorithm encoding v) c
-    algorithm_shortest least v c p =
-        then_least (tlv object_identifier_tag v.oid) (written_optional encoding v.parameters)
-        (identifier_shortest v.oid)
-        (last_least (written_optional encoding v.parameters)
-        (optional_shortest Parameters has encoding least v.parameters)) c p
+    pub algorithm_shortest : WritesLeast Parameters has encoding
+        → WritesLeast (AlgorithmContents Parameters) (HasAlgorithm has) (written_algorithm encoding)
+    algorithm_shortest least v =
+        parts_shortest ObjectIdentifier (LastContents Parameters) IsIdentifier (HasOptional has)
+        (tlv object_identifier_tag) (written_optional encoding) identifier_shortest
+        (last_part_shortest Parameters has encoding least) (v.oid, v.parameters)
 
 pub plain_delimited : IsDelimited PlainAlgorithm
 plain_delimited = algorithm_delimited Any any_delimited

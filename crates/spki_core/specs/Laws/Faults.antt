@@ -4,20 +4,19 @@ use Rattle.std.proofs.Common.{length-append, Result, Ok, Err}
 use Rattle.der_core.specs.declared.error.ErrorKind.{ErrorKind}
 use Rattle.der_core.specs.declared.error.ErrorKind.TheVariants.{Incomplete, OidMalformed}
 use Rattle.der_core.specs.Faults.{EncodingFault, LastFault, AreNone, AreFirst}
-use Rattle.der_core.specs.Laws.Faults.{encoding_fault_none, encoding_fault_first, then_fault_none, then_fault_first}
-use Rattle.der_core.specs.Laws.Faults.{last_fault_none, last_fault_first}
+use Rattle.der_core.specs.Laws.Faults.{encoding_fault_none, encoding_fault_first, last_fault_first}
+use Rattle.der_core.specs.Laws.Parts.{last_part_none, parts_fault_first, parts_fault_none}
+use Rattle.der_core.specs.Parts.{LastContents}
 use Rattle.der_core.specs.Laws.Headers.{tlv_header, header_complete, header_at-tells}
 use Rattle.der_core.specs.Headers.{HeaderEncoding}
 use Rattle.der_core.specs.Input.{header_at}
 use Rattle.der_core.specs.Laws.Input.{ok_pair}
 use Rattle.der_core.specs.Laws.Tells.{is_incomplete}
-use Rattle.der_core.specs.Optional.{Optional}
 use Rattle.der_core.specs.Reading.{NoneHas, NoneIn, TellsOfBytes}
 use Rattle.der_core.specs.Tags.{object_identifier}
-use Rattle.der_core.specs.Laws.Encodings.{joins_last}
-use Rattle.der_core.specs.Encodings.{IsDelimited, Joins}
+use Rattle.der_core.specs.Encodings.{IsDelimited}
 use Rattle.spki_core.specs.Any.{Any}
-use Rattle.spki_core.specs.AlgorithmIdentifier.{Algorithm, AlgorithmContents}
+use Rattle.spki_core.specs.AlgorithmIdentifier.{AlgorithmContents}
 use Rattle.spki_core.specs.Faults.{IdentifierFault, AlgorithmFault, AnyFault, headless, too_few}
 use Rattle.spki_core.specs.Laws.Identifiers.{identifier_delimited}
 use Rattle.spki_core.specs.ObjectIdentifier.{IdentifierContents, ObjectIdentifier}
@@ -37,18 +36,18 @@ oid_none = encoding_fault_none object_identifier IdentifierFault IdentifierConte
 module _ {P : Type 0} (encoding : P → List ℕ → Type 0) (Fault : ErrorKind → List ℕ → Type 0) (d : IsDelimited encoding)
     (none : AreNone (NoneIn encoding) Fault) where
   pub algorithm_fault_none : AreNone (NoneHas (AlgorithmContents encoding)) (AlgorithmFault encoding Fault)
-  algorithm_fault_none =
-      then_fault_none ObjectIdentifier (EncodingFault object_identifier IdentifierFault) (λ _. LastFault encoding Fault)
-      identifier_delimited oid_none (λ (a : Algorithm P). a.oid) (λ a. Joins (Optional encoding a.parameters ∷ []))
-      (λ oid k c within fault. let told = last_fault_none encoding Fault d none k c within fault in
-      (told.0, λ a _ p. told.1 a.parameters (joins_last c p)))
+  algorithm_fault_none k c within fault =
+      let told =
+      parts_fault_none ObjectIdentifier (LastContents encoding) (EncodingFault object_identifier IdentifierFault)
+      (LastFault encoding Fault) identifier_delimited oid_none (last_part_none encoding Fault d none) k c within fault in
+      (told.0, λ a p. told.1 (a.oid, a.parameters) p)
 
   pub algorithm_fault_first : AreFirst Fault → AreFirst (AlgorithmFault encoding Fault)
   algorithm_fault_first first =
-      then_fault_first ObjectIdentifier (EncodingFault object_identifier IdentifierFault)
-      (λ _. LastFault encoding Fault) identifier_delimited oid_none
+      parts_fault_first ObjectIdentifier (LastContents encoding) (EncodingFault object_identifier IdentifierFault)
+      (LastFault encoding Fault) identifier_delimited oid_none
       (encoding_fault_first object_identifier IdentifierFault identifier_fault_first)
-      (λ _. last_fault_first encoding Fault d none first)
+      (last_fault_first encoding Fault d none first)
 
 -- Encodings of any tag.
 read_as : {t n : ℕ} (i header rest : List ℕ) → HeaderEncoding (t, n) header → i ≡ header ++ rest

@@ -1,6 +1,6 @@
 use Rattle.std.proofs.Common.{⊎_elim, inr}
 use Rattle.std.proofs.lemmas.Result.{err_from_is_err_and}
-use Rattle.pkcs1.proofs.KeyMemory.{none_counted}
+use Rattle.pkcs1.proofs.KeyMemory.{none_in_other}
 use Rattle.pkcs1.proofs.other_primes.read_other.Goals as goal
 
 -- Borrowed numbers ask for no memory.
@@ -11,5 +11,5 @@ returns-in_err-other _ c =
     rw (p.1, p.2) (
       fails.0,
       fails.1,
-      λ left is. ⊎_elim (λ w. let t = w.1.3 in absurd (none_counted 3 t.contents t.holds)) inr (fails.2 left is),
+      λ left is. ⊎_elim (λ w. let t = w.1.3 in absurd (none_in_other t.contents t.holds)) inr (fails.2 left is),
     )

@@ -7,7 +7,7 @@ use Rattle.der_core.specs.declared.error.ErrorKind.TheVariants as kind
 use Rattle.der_core.specs.Laws.Tags.{same_tag}
 use Rattle.der_core.specs.Tags.{integer, sequence}
 use Rattle.der_core.specs.Tlv.{Tlv}
-use Rattle.pkcs1.specs.Allocating.{AllocatesCounted, AllocatesInOthers}
+use Rattle.pkcs1.specs.Allocating.{AllocatesInOther, AllocatesInOthers}
 use Rattle.pkcs1.specs.declared.private_key.other_prime_info.OtherPrimeInfo.{OtherPrimeInfo}
 use Rattle.der_core.specs.Reading.{AllocatesForItems}
 use Rattle.pkcs1.specs.Keys.{OtherPrime, OtherPrimeInfo as grammar_info}
@@ -29,7 +29,7 @@ returns-in_err-others g c =
     let p = err_from_is_err_and c.from_residual.result c.from_residual.ensures.1 in
     rw (p.1, p.2) (others_faults (items g.U.Encoding.value) count (counts g.U.Encoding.value) g.U.Encoding.encoding
     g.U.Decode.fault (Tlv 48 (AllocatesForItems (grammar_info g.U.Encoding.encoding)
-    (Tlv 48 (AllocatesCounted 3 g.U.Encoding.encoding g.U.Decode.may_allocate))))
+    (Tlv 48 (AllocatesInOther g.U.Encoding.encoding g.U.Decode.may_allocate))))
     (AllocatesInOthers g.U.Encoding.encoding g.U.Decode.may_allocate) _ (λ c w. w) c.in_err-others.ensures)
 
 pub returns-then-is_multi-is_some : goal.returns-then-is_multi-is_some

@@ -1,5 +1,5 @@
 use Rattle.std.proofs.lemmas.Result.{err_from_is_err_and}
-use Rattle.pkcs1.proofs.KeyMemory.{rejects_as, faulty_as, owned_numbers_ask}
+use Rattle.pkcs1.proofs.KeyMemory.{rejects_as, faulty_as, owned_parts_ask}
 use Rattle.pkcs1.specs.Laws.KeyFaults.{public_key_told}
 use Rattle.pkcs1_params.specs.Laws.FaultsTold.{the_meaning}
 use Rattle.pkcs1.proofs.traits.RsaPublicKeyUintDecodeRsaPublicKey.from_pkcs1_der.Goals as goal
@@ -10,9 +10,9 @@ returns-clause-ok c = the_meaning public_key_told _ _ c.in_ok-from_der.ensures.e
 pub returns-in_err-from_der-clause-err : goal.returns-in_err-from_der-clause-err
 returns-in_err-from_der-clause-err c =
     let p = err_from_is_err_and c.from_residual.result c.from_residual.ensures.1 in
-    rw (p.1, p.2) (rejects_as (owned_numbers_ask 2) _ _ c.in_err-from_der.ensures.encoding)
+    rw (p.1, p.2) (rejects_as owned_parts_ask _ _ c.in_err-from_der.ensures.encoding)
 
 pub returns-in_err-from_der-clause-exact : goal.returns-in_err-from_der-clause-exact
 returns-in_err-from_der-clause-exact c =
     let p = err_from_is_err_and c.from_residual.result c.from_residual.ensures.1 in
-    rw (p.1, p.2) (faulty_as (owned_numbers_ask 2) _ _ c.in_err-from_der.ensures.exact)
+    rw (p.1, p.2) (faulty_as owned_parts_ask _ _ c.in_err-from_der.ensures.exact)

@@ -1,0 +1,60 @@
+//! Types that are read without memory.
+ghost use Rattle.std.specs.Prelude.{List, ℕ, IfOk, OnErr};
+ghost use Rattle.der_core.specs.Words.{FailsExactly, IsMeaning, Means, WholeFault, parts_ask_none};
+
+use crate::decode::{Decode, DecodeValue};
+use crate::error::Result;
+use crate::integer::UintRef;
+use crate::memory::NoMemory;
+use crate::parts::DecodeParts;
+use crate::reader::Octets;
+use crate::record::InParts;
+use crate::types::FixedTag;
+
+/// Contents that are read without memory.
+pub trait ContentsAskNone<B: Octets>: DecodeValue<B, NoMemory> {
+    ghost contents_ask_none: { (c : List ℕ) → Self.DecodeValue.may_allocate c → ⊥ };
+}
+
+/// Parts that are read without memory.
+pub trait PartsAskNone<B: Octets>: DecodeParts<B, NoMemory> {
+    ghost parts_ask_none: { (c : List ℕ) → Self.DecodeParts.may_allocate c → ⊥ };
+}
+
+/// Encodings that are read without memory.
+pub trait AsksNone<B: Octets>: Decode<B, NoMemory> {
+    ghost asks_none: { (b : List ℕ) → Self.Decode.may_allocate b → ⊥ };
+}
+
+impl<'a, T: ContentsAskNone<&'a [u8]> + FixedTag> AsksNone<&'a [u8]> for T {
+    ghost asks_none = { λ b t. T.contents_ask_none t.contents t.holds };
+}
+
+impl<'a> ContentsAskNone<&'a [u8]> for UintRef<'a> {
+    ghost contents_ask_none = { λ c no. no };
+}
+
+impl<'a> PartsAskNone<&'a [u8]> for () {
+    ghost parts_ask_none = { λ c no. no };
+}
+
+impl<'a, A: AsksNone<&'a [u8]>, B: PartsAskNone<&'a [u8]>> PartsAskNone<&'a [u8]> for (A, B) {
+    ghost parts_ask_none = { parts_ask_none A.encoding A.asks_none B.parts_ask_none };
+}
+
+impl<'a, T: InParts + Drop> ContentsAskNone<&'a [u8]> for T
+where
+    T::Parts: PartsAskNone<&'a [u8]>,
+{
+    ghost contents_ask_none = { T.Parts.parts_ask_none };
+}
+
+/// Reads a whole slice without memory: the value that it means, or the error of its first fault.
+#[inline(always)]
+pub fn read_borrowed<'a, T: AsksNone<&'a [u8]>>(bytes: &'a [u8]) -> Result<T>
+    ensures ok { IfOk result (λ x. IsMeaning T.encoding bytes.now (T.value x)) }
+    ensures err { OnErr result ((v : T.Value) → Means T.encoding bytes.now v → ⊥) }
+    ensures exact { FailsExactly (WholeFault T.encoding T.Decode.fault) bytes.now result }
+{
+    T::from_der(NoMemory, bytes)
+}
