@@ -44,11 +44,14 @@ pub use Rattle.der_core.specs.Laws.Faults.{encoding_fault_first, encoding_fault_
 pub use Rattle.der_core.specs.Laws.Faults.{items_fault_first, items_fault_none, last_fault_first, no_fault_first}
 pub use Rattle.der_core.specs.Laws.Faults.{no_fault_none, small_fault_first, small_fault_none, tagged_last_first}
 pub use Rattle.der_core.specs.Laws.FrontParts.{front_none, no_parts_none_in, no_parts_told_apart, parts_told_apart}
-pub use Rattle.der_core.specs.Laws.Integer.{contents_at_most_one, integer_delimited, small_means_one, small_of_bytes}
-pub use Rattle.der_core.specs.Laws.OctetString.{octets_mean_one, octets_of_bytes, octets_relate, octets_shortest}
+pub use Rattle.der_core.specs.Laws.Integer.{contents_at_most_one, integer_delimited, small_contents_at_most_one}
+pub use Rattle.der_core.specs.Laws.Integer.{small_means_one, small_of_bytes}
+pub use Rattle.der_core.specs.Laws.OctetString.{octets_at_most_one, octets_mean_one, octets_of_bytes, octets_relate}
+pub use Rattle.der_core.specs.Laws.OctetString.{octets_shortest}
 pub use Rattle.der_core.specs.Laws.Optional.{optional_last}
 pub use Rattle.der_core.specs.Laws.Parts.{IsParts, as_parts, in_parts_at_most_one, in_parts_none, in_parts_relate}
-pub use Rattle.der_core.specs.Laws.Parts.{in_parts_shortest, last_by_tag_none, last_part_none, last_part_of_bytes}
+pub use Rattle.der_core.specs.Laws.Parts.{in_parts_shortest, last_by_tag_none, last_part_asks_none}
+pub use Rattle.der_core.specs.Laws.Parts.{last_part_at_most_one, last_part_none, last_part_of_bytes}
 pub use Rattle.der_core.specs.Laws.Parts.{last_part_relates, last_part_shortest, no_parts_at_most_one}
 pub use Rattle.der_core.specs.Laws.Parts.{no_parts_mean_one, no_parts_of_bytes, no_parts_relate, no_parts_shortest}
 pub use Rattle.der_core.specs.Laws.Parts.{parts_ask_none, parts_at_most_one, parts_fault_first, parts_fault_none}

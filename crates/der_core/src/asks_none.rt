@@ -1,11 +1,15 @@
 //! Types that are read without memory.
 ghost use Rattle.std.specs.Prelude.{List, ℕ, IfOk, OnErr};
-ghost use Rattle.der_core.specs.Words.{FailsExactly, IsMeaning, Means, WholeFault, parts_ask_none};
+ghost use Rattle.der_core.specs.Words.{FailsExactly, IsMeaning, Means, WholeFault, last_part_asks_none};
+ghost use Rattle.der_core.specs.Words.{parts_ask_none};
 
 use crate::decode::{Decode, DecodeValue};
 use crate::error::Result;
+use crate::expected::Expected;
 use crate::integer::UintRef;
+use crate::last_part::{Last, LastByTag};
 use crate::memory::NoMemory;
+use crate::octet_string::OctetStringRef;
 use crate::parts::DecodeParts;
 use crate::reader::Octets;
 use crate::record::InParts;
@@ -34,12 +38,32 @@ impl<'a> ContentsAskNone<&'a [u8]> for UintRef<'a> {
     ghost contents_ask_none = { λ c no. no };
 }
 
+impl<'a> ContentsAskNone<&'a [u8]> for u8 {
+    ghost contents_ask_none = { λ c no. no };
+}
+
+impl<'a> ContentsAskNone<&'a [u8]> for OctetStringRef<'a> {
+    ghost contents_ask_none = { λ c no. no };
+}
+
+impl<'a, const N: u8> ContentsAskNone<&'a [u8]> for Expected<N> {
+    ghost contents_ask_none = { λ c no. no };
+}
+
 impl<'a> PartsAskNone<&'a [u8]> for () {
     ghost parts_ask_none = { λ c no. no };
 }
 
 impl<'a, A: AsksNone<&'a [u8]>, B: PartsAskNone<&'a [u8]>> PartsAskNone<&'a [u8]> for (A, B) {
     ghost parts_ask_none = { parts_ask_none A.encoding A.asks_none B.parts_ask_none };
+}
+
+impl<'a, T: AsksNone<&'a [u8]>> PartsAskNone<&'a [u8]> for Last<T> {
+    ghost parts_ask_none = { last_part_asks_none T.asks_none };
+}
+
+impl<'a, T: ContentsAskNone<&'a [u8]> + FixedTag> PartsAskNone<&'a [u8]> for LastByTag<T> {
+    ghost parts_ask_none = { λ c t. T.contents_ask_none t.3.contents t.3.holds };
 }
 
 impl<'a, T: InParts + Drop> ContentsAskNone<&'a [u8]> for T

@@ -49,7 +49,8 @@ impl<'a, M: Memory> DecodeFront<&'a [u8], M> for () {
     ghost fault_first = { no_fault_first };
 }
 
-impl<'a, M: Memory, A: Decode<&'a [u8], M>, B: DecodeFront<&'a [u8], M>> DecodeFront<&'a [u8], M> for (A, B) {
+impl<'a, M: Memory, A: Decode<&'a [u8], M>, B: DecodeFront<&'a [u8], M>> DecodeFront<&'a [u8], M>
+    for (A, B) {
     ghost may_allocate = { AllocatesInParts A.encoding A.Decode.may_allocate B.DecodeFront.may_allocate };
 
     ghost fault = { PartsFault A.encoding A.Decode.fault B.DecodeFront.fault };

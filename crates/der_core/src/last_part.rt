@@ -118,7 +118,8 @@ impl<T: Contents + FixedTag> Contents for LastByTag<T> {
     ghost contents_of_bytes = { ⟦<Last<T> as Contents>⟧.contents_of_bytes };
 }
 
-impl<'a, M: Memory, T: DecodeValue<&'a [u8], M> + FixedTag> DecodeParts<&'a [u8], M> for LastByTag<T> {
+impl<'a, M: Memory, T: DecodeValue<&'a [u8], M> + FixedTag> DecodeParts<&'a [u8], M>
+    for LastByTag<T> {
     ghost may_allocate = { AllocatesIn (Tlv T.TAG.octet T.DecodeValue.may_allocate) };
 
     ghost fault = { TaggedLastFault T.TAG (λ v. Tlv T.TAG.octet (T.contents v))

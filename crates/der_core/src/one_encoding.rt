@@ -1,11 +1,16 @@
 //! Types whose values have one encoding each: what is written is the only one.
 ghost use Rattle.std.specs.Prelude.{◌≡◌, IfErr, IfOk, OnErr, length};
 ghost use Rattle.der_core.specs.Words.{AtMostOne, IsWrittenAlone, WhyNotWritten, contents_at_most_one, encode_error};
-ghost use Rattle.der_core.specs.Words.{in_parts_at_most_one, no_parts_at_most_one, parts_at_most_one, tlv_at_most_one};
+ghost use Rattle.der_core.specs.Words.{in_parts_at_most_one, last_part_at_most_one, no_parts_at_most_one};
+ghost use Rattle.der_core.specs.Words.{octets_at_most_one, parts_at_most_one, small_contents_at_most_one};
+ghost use Rattle.der_core.specs.Words.{tlv_at_most_one};
 
 use crate::encode::Encode;
 use crate::error::Result;
+use crate::expected::Expected;
 use crate::integer::{Uint, UintRef};
+use crate::last_part::{Last, LastByTag};
+use crate::octet_string::OctetStringRef;
 use crate::record::InParts;
 use crate::types::{Contents, Encoding, FixedTag};
 
@@ -31,6 +36,18 @@ impl OneContents for Uint {
     ghost one_contents = { contents_at_most_one };
 }
 
+impl OneContents for u8 {
+    ghost one_contents = { small_contents_at_most_one };
+}
+
+impl OneContents for OctetStringRef<'_> {
+    ghost one_contents = { octets_at_most_one };
+}
+
+impl<const N: u8> OneContents for Expected<N> {
+    ghost one_contents = { λ _. small_contents_at_most_one N };
+}
+
 impl OneContents for () {
     ghost one_contents = { no_parts_at_most_one };
 }
@@ -39,12 +56,21 @@ impl<A: OneEncoding, B: OneContents> OneContents for (A, B) {
     ghost one_contents = { parts_at_most_one A.encoding B.contents A.one_encoding B.one_contents };
 }
 
+impl<T: OneEncoding> OneContents for Last<T> {
+    ghost one_contents = { last_part_at_most_one T.encoding T.one_encoding };
+}
+
+impl<T: OneContents + FixedTag> OneContents for LastByTag<T> {
+    ghost one_contents = { last_part_at_most_one ⟦<T as Encoding>⟧.encoding
+        (λ v. tlv_at_most_one T.TAG.octet (T.contents v) (T.one_contents v)) };
+}
+
 impl<T: InParts> OneContents for T
 where
     T::Parts: OneContents,
 {
-    ghost one_contents = { in_parts_at_most_one T.Parts.contents T.Parts.has_contents T.Parts.written_contents T.contents
-        T.has_contents T.written_contents T.is_parts T.Parts.one_contents };
+    ghost one_contents = { in_parts_at_most_one T.Parts.contents T.Parts.has_contents T.Parts.written_contents
+        T.contents T.has_contents T.written_contents T.is_parts T.Parts.one_contents };
 }
 
 /// A value of the type has at most one encoding: so what is written is the only one. It does nothing: the law is its

@@ -83,7 +83,8 @@ impl<'a, M: Memory> DecodeParts<&'a [u8], M> for () {
     ghost fault_first = { end_fault_first };
 }
 
-impl<'a, M: Memory, A: Decode<&'a [u8], M>, B: DecodeParts<&'a [u8], M>> DecodeParts<&'a [u8], M> for (A, B) {
+impl<'a, M: Memory, A: Decode<&'a [u8], M>, B: DecodeParts<&'a [u8], M>> DecodeParts<&'a [u8], M>
+    for (A, B) {
     ghost may_allocate = { AllocatesInParts A.encoding A.Decode.may_allocate B.DecodeParts.may_allocate };
 
     ghost fault = { PartsFault A.encoding A.Decode.fault B.DecodeParts.fault };

@@ -1,5 +1,5 @@
 -- Rows of parts at the front of contents: where they end is told by their parts.
-use Rattle.std.proofs.Common.{ℕ, List, [], ◌++◌, ◌≤◌, ◌<◌, ◌≡◌, length, refl, sym, ap, ◌∙◌, arith, length-append, inl, inr}
+use Rattle.std.proofs.Common.{ℕ, List, ◌++◌, ◌≤◌, ◌≡◌, length, refl, sym, ap, ◌∙◌, arith, length-append, inl, inr}
 use Rattle.std.proofs.Common.{append_assoc, Some, None}
 use Rattle.der_core.specs.declared.error.ErrorKind.{ErrorKind}
 use Rattle.der_core.specs.Encodings.{IsDelimited, Then}

@@ -71,7 +71,7 @@ small_means_one m n c (p, x, e, i) (q, y, f, j) =
 pub small_delimited : IsDelimited Small
 small_delimited = tlv_delimited integer_tag SmallContents small_means_one
 
-small_contents_at_most_one : (n : ℕ) → AtMostOne (SmallContents n)
+pub small_contents_at_most_one : (n : ℕ) → AtMostOne (SmallContents n)
 small_contents_at_most_one n c d (p, x, e, i) (q, y, f, j) =
     let s : x ≡ y = canonical_same x y i.0 j.0 (e ∙ sym f) in
     contents_at_most_one y c d (rw s at i) j

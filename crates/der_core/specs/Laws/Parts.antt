@@ -1,5 +1,5 @@
 -- Parts in a row: what the laws of a first part and of what follows say of both.
-use Rattle.std.proofs.Common.{ℕ, List, [], ◌≤◌, ◌<◌, ◌^◌, ◌≡◌, length, refl, sym, ap, ◌∙◌, arith, length-append, Option, Some, Result, Ok, Err, inl, inr}
+use Rattle.std.proofs.Common.{ℕ, List, [], ◌≤◌, ◌≡◌, length, refl, sym, ap, ◌∙◌, arith, length-append, Option, Some, Result, Ok, Err, inl, inr}
 use Rattle.std.specs.Prelude.{IfOk, OnOk, OnErr, ◌++◌, drop}
 use Rattle.der_core.specs.Laws.Fronts.{front_is, rest_is}
 use Rattle.der_core.specs.declared.error.Error.{Error}
@@ -12,12 +12,13 @@ use Rattle.der_core.specs.declared.tag.Tag.{Tag}
 use Rattle.der_core.specs.Tlv.{Tlv}
 use Rattle.der_core.specs.Input.{Input}
 use Rattle.der_core.specs.Optional.{Optional, HasOptional, written_optional}
-use Rattle.der_core.specs.Reading.{NoneHas, NoneIn, ReadsAll}
-use Rattle.der_core.specs.Writing.{IsLeast, WritesEncodings, WritesLeast}
+use Rattle.der_core.specs.Reading.{AllocatesLast, NoneHas, NoneIn, ReadsAll}
+use Rattle.der_core.specs.Writing.{WritesEncodings, WritesLeast}
 use Rattle.der_core.specs.Laws.Encodings.{then_step, then_of_bytes, then_holds, then_least, last_of_bytes, last_holds}
 use Rattle.der_core.specs.Laws.Encodings.{last_least, joins_last}
 use Rattle.der_core.specs.Laws.Faults.{then_fault_none, then_fault_first, last_fault_none, tagged_last_none}
-use Rattle.der_core.specs.Laws.Optional.{optional_of_bytes, optional_relates, optional_shortest}
+use Rattle.der_core.specs.Laws.Optional.{optional_at_most_one, optional_of_bytes, optional_relates}
+use Rattle.der_core.specs.Laws.Optional.{optional_shortest}
 use Rattle.der_core.specs.Parts.{PartsContents, NoParts, HaveParts, written_parts, PartsFault, LastContents, AllocatesInParts}
 
 module _ {A B : Type 0} (First : A → List ℕ → Type 0) (Rest : B → List ℕ → Type 0) where
@@ -114,6 +115,9 @@ module _ {V : Type 0} (Grammar : V → List ℕ → Type 0) where
   pub last_part_of_bytes : IsOfBytes Grammar → IsOfBytes (LastContents Grammar)
   last_part_of_bytes bytes v c p = last_of_bytes (optional_of_bytes Grammar bytes v) c p
 
+  pub last_part_at_most_one : ((v : V) → AtMostOne (Grammar v)) → (v : Option V) → AtMostOne (LastContents Grammar v)
+  last_part_at_most_one one v x y p q = optional_at_most_one Grammar one v x y (joins_last x p) (joins_last y q)
+
   pub last_part_none : (Fault : ErrorKind → List ℕ → Type 0) → IsDelimited Grammar → AreNone (NoneIn Grammar) Fault
       → AreNone (NoneHas (LastContents Grammar)) (LastFault Grammar Fault)
   last_part_none Fault d none k c within fault =
@@ -150,6 +154,9 @@ pub parts_ask_none : {A : Type 0} (First : A → List ℕ → Type 0) {first res
     → ((b : List ℕ) → first b → ⊥) → ((c : List ℕ) → rest c → ⊥) → (c : List ℕ) → AllocatesInParts First first rest c → ⊥
 parts_ask_none First none behind c (inl w) = none w.0 w.3
 parts_ask_none First none behind c (inr (v, (x, y, t, w, is))) = behind y w
+
+pub last_part_asks_none : {may : List ℕ → Type 0} → ((b : List ℕ) → may b → ⊥) → (c : List ℕ) → AllocatesLast may c → ⊥
+last_part_asks_none none c w = none w.1.0 w.1.3
 
 -- What a whole slice means, if it means something, where no memory is asked for.
 module _ {X V : Type 0} (value : X → V) (Grammar : V → List ℕ → Type 0) (may : List ℕ → Type 0) (b : List ℕ) where
