@@ -1,0 +1,80 @@
+//! The value of a DSA or ECDSA signature (RFC 3279 2.2.3), as an example of a type over `der_core` alone.
+#![tactic(auto)]
+
+mod by_grammar;
+mod optional_salt;
+
+ghost use Rattle.std.specs.Prelude.{◌≡◌, IfErr, IfOk, OnErr, length};
+ghost use Rattle.der_core.specs.Words.{FailsExactly, IsMeaning, IsWrittenAlone, Means, WhyNotWritten, WholeFault};
+ghost use Rattle.der_core.specs.Words.{encode_error};
+
+pub use by_grammar::{read_signature, write_signature};
+use der_core::{
+    BackWriter, Borrowed, Decode, Encode, EncodeInParts, EncodeValue, Encoding, Length, NoMemory,
+    Record, Result, UintRef, Writer, read_borrowed, write_only,
+};
+pub use optional_salt::{OptionalSalt, OptionalSaltRef, read_optional_salt, write_optional_salt};
+
+/// The value of a DSA or ECDSA signature.
+///
+/// ```text
+/// Dss-Sig-Value ::= SEQUENCE { r INTEGER, s INTEGER }
+/// ```
+#[derive(Clone, Copy, Debug, PartialEq, Eq, Drop)]
+pub struct DssSigValue<U> {
+    /// The number r.
+    pub r: U,
+    /// The number s.
+    pub s: U,
+}
+
+/// A signature that borrows its numbers.
+pub type DssSigValueRef<'a> = DssSigValue<UintRef<'a>>;
+
+impl<U: Encoding> Record for DssSigValue<U> {
+    type Fields = (U, (U, ()));
+
+    ghost fields = { λ signature. (signature.r, (signature.s, tt)) };
+
+    fn from_fields(row: (U, (U, ()))) -> DssSigValue<U> {
+        let (r, (s, ())) = row;
+        DssSigValue { r, s }
+    }
+}
+
+impl<U: Encode> EncodeInParts for DssSigValue<U> {
+    fn parts_len(&self) -> Result<Length> {
+        (Borrowed(&self.r), (Borrowed(&self.s), ())).value_len()
+    }
+
+    fn append_parts<W: Writer>(&self, writer: &mut W) -> Result<()> {
+        (Borrowed(&self.r), (Borrowed(&self.s), ())).append_value(writer)
+    }
+
+    fn prepend_parts(&self, writer: &mut BackWriter<'_>) {
+        (Borrowed(&self.r), (Borrowed(&self.s), ())).prepend_value(writer);
+    }
+}
+
+/// The signature that a slice encodes, read without memory; or the error of its first fault.
+pub fn read<'a>(bytes: &'a [u8]) -> Result<DssSigValueRef<'a>>
+    ensures ok { let T = ⟦<DssSigValueRef<'a> as Encoding>⟧ in
+        IfOk result (λ x. IsMeaning T.encoding bytes.now (T.value x)) }
+    ensures err { let T = ⟦<DssSigValueRef<'a> as Encoding>⟧ in
+        OnErr result ((v : T.Value) → Means T.encoding bytes.now v → ⊥) }
+    ensures exact { let fault = ⟦<DssSigValueRef<'a> as Decode<&'a [u8], NoMemory>>⟧.fault in
+        FailsExactly (WholeFault ⟦<DssSigValueRef<'a> as Encoding>⟧.encoding fault) bytes.now result }
+{
+    read_borrowed(bytes)
+}
+
+/// Writes the only encoding of a signature to the front of a slice and returns its length.
+pub fn write<'a>(signature: &DssSigValueRef<'a>, out: &mut [u8]) -> Result<usize>
+    ensures ok { let T = ⟦<DssSigValueRef<'a> as Encoding>⟧ in
+        IfOk result (IsWrittenAlone T.encoding (T.value signature.now) out.old out.new) }
+    ensures err { let T = ⟦<DssSigValueRef<'a> as Encoding>⟧ in let v = T.value signature.now in
+        IfErr result (λ e. WhyNotWritten (T.has_encoding v) T.encoding v (length out.old) (encode_error e.kind)) }
+    ensures unchanged { OnErr result (out.new ≡ out.old) }
+{
+    write_only(signature, out)
+}
