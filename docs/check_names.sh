@@ -68,7 +68,7 @@ def check_clauses(named, cells):
 def headings(path):
     return {re.sub(r'[^\w -]', '', line.strip('# \n').lower()).replace(' ', '-') for line in open(path) if line[0] == '#'}
 
-documents = ['README.md', 'CONTRIBUTING.md', 'SECURITY.md', *glob.glob('docs/*.md'), 'ffi/rust/README.md', *glob.glob('tools/*/README.md')]
+documents = ['README.md', 'CONTRIBUTING.md', 'SECURITY.md', *glob.glob('docs/*.md'), *glob.glob('crates/*/README.md'), 'ffi/rust/README.md', *glob.glob('tools/*/README.md')]
 for document in documents:
     crate, head, fenced = '', [], False
     for number, line in enumerate(open(document), 1):
