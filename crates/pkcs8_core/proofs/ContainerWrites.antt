@@ -1,63 +1,50 @@
 -- Writing of containers: each value has an encoding, and no more than one.
-use Rattle.std.proofs.Common.{◌≡◌, ℕ, List, [], ◌∷◌, ◌++◌, ◌<◌, ◌≤◌, ◌+◌, ◌^◌, length, length-append, take, arith}
-use Rattle.std.proofs.Common.{Option, Some, None}
-use Rattle.std.specs.Prelude.{Result, Ok, Err, IfOk, IfErr}
+use Rattle.std.proofs.Common.{◌≡◌, ◌-◌, ℕ, List, [], ◌∷◌, ◌++◌, ◌<◌, ◌≤◌, ◌+◌, ◌^◌, length, length-append, drop, take}
+use Rattle.std.proofs.Common.{arith, Option, Some, None}
+use Rattle.std.specs.Prelude.{Result, Ok, Err, IfOk, IfErr, OnOk}
 use Rattle.std.specs.Option.{option_map}
 use Rattle.der_core.specs.Document.{Means, HasEncoding, IsAlone, IsShortest, WhyNotWritten, EncodeError, no_encoding}
 use Rattle.der_core.specs.Document.{too_long, no_room, another}
-use Rattle.der_core.specs.Integer.{Small}
-use Rattle.der_core.specs.OctetString.{OctetContents, OctetString}
-use Rattle.der_core.specs.Laws.OctetString.{octets_at_most_one, octet_string_at_most_one}
-use Rattle.der_core.specs.OctetStringRefValue.{octets_of}
-use Rattle.spki_core.specs.AlgorithmValue.{algorithm_of}
-use Rattle.spki_core.specs.AnyRefValue.{any_of}
-use Rattle.spki_core.specs.Laws.Held.{any_held, identifier_held, plain_held}
-use Rattle.spki_core.specs.ObjectIdentifierValue.{own_octets_of}
-use Rattle.pkcs8_core.specs.declared.info.PrivateKeyInfoRef.{PrivateKeyInfoRef}
-use Rattle.der_core.specs.Optional.{Optional, HasOptional, written_optional}
 use Rattle.der_core.specs.Encodings.{AtMostOne, AreBytes}
+use Rattle.der_core.specs.Integer.{Small, integer_contents}
 use Rattle.der_core.specs.Laws.Encodings.{tlv_at_most_one, tlv_made, joins_at_most_one}
-use Rattle.der_core.specs.Laws.Integer.{small_at_most_one}
-use Rattle.spki_core.specs.AlgorithmIdentifier.{PlainAlgorithm, written_plain}
-use Rattle.spki_core.specs.Laws.AlgorithmEncodings.{plain_at_most_one, optional_at_most_one}
-use Rattle.pkcs8_core.specs.Container.{Info, AttributesEncoding, InfoContents, PrivateKeyInfo, HasInfo, written_info}
-use Rattle.pkcs8_core.specs.Container.{WhyContainerNotWritten}
-use Rattle.pkcs8_core.specs.Laws.Container.{info_relates}
-use Rattle.pkcs8_core.specs.Held.{attributes_of, info_of}
-use Rattle.pkcs8_core.specs.declared.attributes.Attributes.{Attributes}
-use Rattle.der_core.specs.Laws.ShortEncodings.{tlv_short}
 use Rattle.der_core.specs.Laws.Fronts.{front_is}
 use Rattle.der_core.specs.Laws.Input.{are_bytes}
+use Rattle.der_core.specs.Laws.Integer.{small_at_most_one}
+use Rattle.der_core.specs.Laws.OctetString.{octets_at_most_one, octet_string_at_most_one}
+use Rattle.der_core.specs.Laws.ShortEncodings.{tlv_short}
 use Rattle.der_core.specs.Length.{limit}
-use Rattle.der_core.specs.Writing.{encode_error}
+use Rattle.der_core.specs.OctetString.{OctetContents, OctetString}
+use Rattle.der_core.specs.OctetStringRefValue.{octets_of}
+use Rattle.der_core.specs.Optional.{Optional, HasOptional, written_optional}
 use Rattle.der_core.specs.Tlv.{tlv}
-use Rattle.der_core.specs.Integer.{integer_contents}
+use Rattle.der_core.specs.Writing.{encode_error}
 use Rattle.der_core.specs.declared.error.Error.{Error}
-use Rattle.std.proofs.Common.{drop, ◌-◌}
-use Rattle.std.specs.Prelude.{OnOk}
+use Rattle.spki_core.specs.AlgorithmIdentifier.{HasPlain, PlainAlgorithm, written_plain}
+use Rattle.spki_core.specs.AlgorithmValue.{algorithm_of}
+use Rattle.spki_core.specs.AnyRefValue.{any_of}
+use Rattle.spki_core.specs.Laws.AlgorithmEncodings.{plain_at_most_one, optional_at_most_one}
+use Rattle.spki_core.specs.Laws.Held.{any_held, identifier_held, plain_held}
+use Rattle.spki_core.specs.ObjectIdentifierValue.{own_octets_of}
+use Rattle.pkcs8_core.specs.Container.{Info, AttributesEncoding, InfoContents, PrivateKeyInfo, WhyContainerNotWritten}
+use Rattle.pkcs8_core.specs.Held.{attributes_of}
+use Rattle.pkcs8_core.specs.declared.attributes.Attributes.{Attributes}
+use Rattle.pkcs8_core.specs.declared.info.PrivateKeyInfoRef.{PrivateKeyInfoRef}
 
 pub info_at_most_one : (info : Info) → AtMostOne (PrivateKeyInfo info)
 info_at_most_one info =
+    let key = octet_string_at_most_one info.private_key in
+    let attributes =
+    optional_at_most_one AttributesEncoding (λ o. tlv_at_most_one 160 (OctetContents o) (octets_at_most_one o))
+    info.attributes in
     tlv_at_most_one 48 (InfoContents info)
     (joins_at_most_one (Small 0 ∷ PlainAlgorithm info.algorithm ∷ OctetString info.private_key
-    ∷ Optional AttributesEncoding info.attributes ∷ []) (
-      small_at_most_one 0,
-      (
-        plain_at_most_one info.algorithm,
-        (
-          octet_string_at_most_one info.private_key,
-          (
-            optional_at_most_one AttributesEncoding (λ o. tlv_at_most_one 160 (OctetContents o) (octets_at_most_one o))
-                info.attributes,
-            tt,
-          ),
-        ),
-      ),
-    ))
+    ∷ Optional AttributesEncoding info.attributes ∷ [])
+    (small_at_most_one 0, (plain_at_most_one info.algorithm, (key, (attributes, tt)))))
 
-pub has_encoding : (info : Info) → HasInfo info → length (written_info info) < 2 ^ 128 → HasEncoding PrivateKeyInfo info
-has_encoding info has few =
-    let made = tlv_made 48 (InfoContents info) (written_info info) (info_relates info has few) few in (made.0, made.1)
+pub has_encoding : (info : Info) (c : List ℕ) → InfoContents info c → length c < 2 ^ 128
+    → HasEncoding PrivateKeyInfo info
+has_encoding info c p few = let made = tlv_made 48 (InfoContents info) c p few in (made.0, made.1)
 
 pub unwritten : (has : Type 0) (info : Info) (room : ℕ) → HasEncoding PrivateKeyInfo info → (k : EncodeError)
     → WhyNotWritten has PrivateKeyInfo info room k → WhyContainerNotWritten info room k
@@ -80,33 +67,24 @@ alone info (Err e) encoding old new h s = tt
 alone info (Ok n) encoding old new h s =
     rw (front_is encoding old new n h.0 h.1) (s.spells, λ other p. info_at_most_one info other encoding p.1 s.spells.1)
 
--- What a container holds is far shorter than 2 ^ 128 octets, so it has an encoding.
-pub encoding_held : (info : PrivateKeyInfoRef) → HasOptional AreBytes (info_of info).attributes
-    → length (written_optional (λ (o : List ℕ). tlv 160 o) (info_of info).attributes) ≤ 2 ^ 64 + 128
-    → HasEncoding PrivateKeyInfo (info_of info)
-encoding_held info attributes few_attributes =
-    let a = written_plain (algorithm_of info.algorithm) in
-    let held = plain_held own_octets_of identifier_held any_of any_held info.algorithm in
-    let k = tlv 4 (octets_of info.private_key) in
-    let t = written_optional (λ x. tlv 160 x) (info_of info).attributes in
+-- What a container holds are octets, and far fewer than 2 ^ 128.
+pub algorithm_held : (info : PrivateKeyInfoRef)
+    → HasPlain (algorithm_of info.algorithm) × (length (written_plain (algorithm_of info.algorithm)) ≤ limit + 423)
+algorithm_held info = plain_held own_octets_of identifier_held any_of any_held info.algorithm
+
+pub few_held : (info : PrivateKeyInfoRef) (t : List ℕ) → length t ≤ 2 ^ 64 + 128
+    → length (tlv 2 (integer_contents (0 ∷ [])) ++ (written_plain (algorithm_of info.algorithm)
+    ++ (tlv 4 (octets_of info.private_key) ++ t))) < 2 ^ 128
+few_held info t few =
     let v = tlv 2 (integer_contents (0 ∷ [])) in
+    let a = written_plain (algorithm_of info.algorithm) in
+    let k = tlv 4 (octets_of info.private_key) in
     let few_key : length k ≤ limit + 128 =
     tlv_short 4 limit (octets_of info.private_key) info.private_key.bounded (omega arith) in
     let few_version : length v ≤ 130 = tlv_short 2 2 (integer_contents (0 ∷ [])) (omega arith) (omega arith) in
-    has_encoding (info_of info) (
-      omega arith,
-      (held.0, (are_bytes (octets_of info.private_key) info.private_key.octets, attributes)),
-    )
-    (omega (
-      arith,
-      length-append v (a ++ (k ++ t)),
-      length-append a (k ++ t),
-      length-append k t,
-      held.1,
-      few_key,
-      few_version,
-      few_attributes,
-    ))
+    let lv = length-append v (a ++ (k ++ t)) in
+    let la = length-append a (k ++ t) in
+    omega (arith, lv, la, length-append k t, (algorithm_held info).1, few_key, few_version, few)
 
 pub attributes_held : (a : Option Attributes)
     → HasOptional AreBytes (option_map attributes_of a)

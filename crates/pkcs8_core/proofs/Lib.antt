@@ -1,4 +1,3 @@
-pub mod ContainerReads
 pub mod ContainerWrites
 mod Exclusion
 pub mod RsaHeld

@@ -1,14 +1,14 @@
 -- PrivateKeyInfo (RFC 5208 5).
-use Rattle.std.specs.Prelude.{ℕ, List, [], ◌∷◌, ◌++◌, ◌<◌, length, Option}
-use Rattle.der_core.specs.Tag.{context_tag, integer_tag, octet_string_tag, sequence_tag}
+use Rattle.std.specs.Prelude.{ℕ, List, [], ◌∷◌, ◌<◌, length, Option}
+use Rattle.der_core.specs.Tag.{context_tag, sequence_tag}
 use Rattle.der_core.specs.Document.{Means, EncodeError, no_encoding, too_long, no_room, another}
-use Rattle.der_core.specs.Integer.{Small, integer_contents}
+use Rattle.der_core.specs.Integer.{Small}
 use Rattle.der_core.specs.OctetString.{OctetContents, OctetString}
-use Rattle.der_core.specs.Optional.{Optional, HasOptional, written_optional}
-use Rattle.der_core.specs.Encodings.{AreBytes, Joins}
-use Rattle.der_core.specs.Tlv.{Tlv, tlv}
+use Rattle.der_core.specs.Optional.{Optional}
+use Rattle.der_core.specs.Encodings.{Joins}
+use Rattle.der_core.specs.Tlv.{Tlv}
 use Rattle.spki_core.specs.Any.{TagAndContents}
-use Rattle.spki_core.specs.AlgorithmIdentifier.{Algorithm, PlainAlgorithm, HasPlain, written_plain}
+use Rattle.spki_core.specs.AlgorithmIdentifier.{Algorithm, PlainAlgorithm}
 
 pub record Info : Type 0 where
   pub algorithm : Algorithm TagAndContents
@@ -24,22 +24,14 @@ InfoContents info contents =
     Joins (Small 0 ∷ PlainAlgorithm info.algorithm ∷ OctetString info.private_key
     ∷ Optional AttributesEncoding info.attributes ∷ []) contents
 
+-- Its parts in a row. The version has no value.
+abbrev pub info_parts : Info → Unit {0} × (Algorithm TagAndContents × (List ℕ × Option (List ℕ)))
+info_parts info = (tt, (info.algorithm, (info.private_key, info.attributes)))
+
 -- PrivateKeyInfo ::= SEQUENCE { version INTEGER (0), privateKeyAlgorithm AlgorithmIdentifier, privateKey OCTET STRING,
 -- attributes [0] IMPLICIT Attributes OPTIONAL }
 abbrev pub PrivateKeyInfo : Info → List ℕ → Type 0
 PrivateKeyInfo info encoding = Tlv sequence_tag (InfoContents info) encoding
-
--- Which values have contents, and the contents that are written.
-abbrev pub HasInfo : Info → Type 0
-HasInfo info =
-    (0 < 256) × (HasPlain info.algorithm × (AreBytes info.private_key × HasOptional AreBytes info.attributes))
-
-abbrev pub written_info : Info → List ℕ
-written_info info =
-    tlv integer_tag (integer_contents (0 ∷ []))
-    ++ (written_plain info.algorithm
-    ++ (tlv octet_string_tag info.private_key
-    ++ written_optional (λ octets. tlv (context_tag 0) octets) info.attributes))
 
 -- Why a container isn't written: it has no encoding within the limit, or its encoding is longer than the room.
 abbrev pub WhyContainerNotWritten : Info → ℕ → EncodeError → Type 0

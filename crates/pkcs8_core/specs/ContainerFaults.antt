@@ -3,10 +3,10 @@ use Rattle.std.specs.Prelude.{ℕ, List, ◌≡◌, ◌⊎◌}
 use Rattle.der_core.specs.declared.error.ErrorKind.{ErrorKind}
 use Rattle.der_core.specs.declared.error.ErrorKind.TheVariants.{Value}
 use Rattle.der_core.specs.Document.{Means}
-use Rattle.der_core.specs.Faults.{EncodingFault, ThenFault, TaggedLastFault, WholeFault, SmallFault, NoFault}
-use Rattle.der_core.specs.Faults.{ExpectedFault}
+use Rattle.der_core.specs.Faults.{EncodingFault, ExpectedFault, NoFault, SmallFault, TaggedLastFault, WholeFault}
 use Rattle.der_core.specs.Integer.{Small, SmallContents}
 use Rattle.der_core.specs.OctetString.{OctetString}
+use Rattle.der_core.specs.Parts.{PartsFault}
 use Rattle.der_core.specs.Tags.{integer, octet_string, sequence}
 use Rattle.spki_core.specs.AlgorithmIdentifier.{PlainAlgorithm}
 use Rattle.spki_core.specs.Any.{Any}
@@ -27,15 +27,12 @@ VersionFault = ExpectedFault SmallContents SmallFault 0 (Value integer)
 abbrev pub AttributesFault : ErrorKind → List ℕ → Type 0
 AttributesFault = TaggedLastFault attributes_tag AttributesEncoding (EncodingFault attributes_tag NoFault)
 
-abbrev pub BehindAlgorithm : ErrorKind → List ℕ → Type 0
-BehindAlgorithm = ThenFault OctetString (EncodingFault octet_string NoFault) (λ _. AttributesFault)
-
-abbrev pub BehindVersion : ErrorKind → List ℕ → Type 0
-BehindVersion = ThenFault PlainAlgorithm (EncodingFault sequence (AlgorithmFault Any AnyFault)) (λ _. BehindAlgorithm)
-
 -- A fault of the version, or else of the algorithm, the private key, or what follows it.
 abbrev pub InfoFault : ErrorKind → List ℕ → Type 0
-InfoFault = ThenFault VersionEncoding (EncodingFault integer VersionFault) (λ _. BehindVersion)
+InfoFault =
+    PartsFault VersionEncoding (EncodingFault integer VersionFault)
+    (PartsFault PlainAlgorithm (EncodingFault sequence (AlgorithmFault Any AnyFault))
+    (PartsFault OctetString (EncodingFault octet_string NoFault) AttributesFault))
 
 -- The first fault of a whole slice, as a container.
 abbrev pub PrivateKeyInfoFault : ErrorKind → List ℕ → Type 0

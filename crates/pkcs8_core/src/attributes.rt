@@ -10,7 +10,7 @@ use pkcs1::der::{
 };
 
 /// The tag of attributes.
-pub(crate) struct AttributesTag;
+pub struct AttributesTag;
 
 impl TagMarker for AttributesTag {
     ghost TAG = { attributes_tag };
@@ -20,7 +20,7 @@ impl TagMarker for AttributesTag {
 
 /// Attributes, whose contents aren't checked and may be longer than `Length::MAX`.
 #[derive(Clone, Copy, Drop)]
-pub(crate) struct Attributes<'a> {
+pub struct Attributes<'a> {
     pub(crate) bytes: &'a [u8],
     pub(crate) ghost octets: { (i : ℕ) → slice_index bytes.now i < 256 },
     pub(crate) ghost short: { length bytes.now < 2 ^ 64 },

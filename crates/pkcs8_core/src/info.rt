@@ -1,12 +1,11 @@
 //! PKCS #8 containers of private keys.
 ghost use Rattle.std.specs.Prelude.{◌≡◌, ◌≤◌, ◌+◌, ℕ, List, length, take, drop, IfOk, IfErr, OnErr, refl};
 ghost use Rattle.std.specs.Option.{option_map};
-ghost use Rattle.der_core.specs.Words.{Means, IsAlone, HasEncoding, EncodingFault, FailsExactly, integer, Optional};
-ghost use Rattle.der_core.specs.Words.{AtMostOne, Excludes, ReadsFront, ReadsWhole, encode_error};
-ghost use Rattle.pkcs8_core.specs.Words.{VersionEncoding, VersionFault, AttributesFault, PrivateKeyInfoFault, Info};
-ghost use Rattle.pkcs8_core.specs.Words.{AttributesEncoding, InfoContents, PrivateKeyInfo, HasInfo, written_info};
-ghost use Rattle.pkcs8_core.specs.Words.{WhyContainerNotWritten, info_of, attributes_of, slice_now, info_means_one};
-ghost use Rattle.pkcs8_core.specs.Words.{info_of_bytes, info_relates, info_shortest};
+ghost use Rattle.der_core.specs.Words.{AtMostOne, Excludes, FailsExactly, HasEncoding, IsAlone, Means};
+ghost use Rattle.der_core.specs.Words.{WritesEncodings, as_parts, encode_error};
+ghost use Rattle.pkcs8_core.specs.Words.{Info, InfoContents, PrivateKeyInfo, PrivateKeyInfoFault};
+ghost use Rattle.pkcs8_core.specs.Words.{WhyContainerNotWritten, attributes_of, info_means_one, info_of, info_parts};
+ghost use Rattle.pkcs8_core.specs.Words.{slice_now};
 ghost use Rattle.der_core.specs.declared.error.ErrorKind as der;
 ghost use Rattle.pkcs1_params.specs.Words.{IsNoSentence, IsTheMeaning};
 ghost use Rattle.pkcs8_core.specs.declared.info.PrivateKeyInfoRef as containers;
@@ -15,9 +14,9 @@ ghost use Rattle.pkcs1_params.specs.Parameters as parameters;
 
 use crate::attributes::Attributes;
 use pkcs1::der::{
-    BackWriter, Contents, Decode, DecodeValue, Encode, EncodeValue, Error, ErrorKind, Header,
-    Length, Memory, NoMemory, OctetStringRef, Part, Reader, Result, Sequence, SequenceTag, Tag,
-    TaggedBy, Writer, decode_optional,
+    BackWriter, Borrowed, Contents, Decode, Encode, EncodeInParts, EncodeValue, Error, Expected,
+    InParts, Last, LastByTag, Length, Memory, NoMemory, OctetStringRef, Result, Sequence,
+    SequenceTag, TaggedBy, Writer,
 };
 use pkcs1::spki::AlgorithmIdentifierRef;
 
@@ -51,27 +50,14 @@ fn contents_of<'a>(attributes: Option<Attributes<'a>>) -> Option<&'a [u8]>
     }
 }
 
-/// Decodes the rest of a container: the attributes, if there are any.
-fn read_attributes<'a, R: Reader<&'a [u8]>>(reader: &mut R) -> Result<Option<&'a [u8]>>
-    ensures { let before = R.left reader.old in
-        ReadsWhole (option_map slice_now) (Optional AttributesEncoding) AttributesFault (λ _. ⊥) result before
-        (R.left reader.new) }
-{
-    let attributes: Option<Attributes<'a>> = decode_optional(NoMemory, reader)?;
-    reader.finish()?;
-    Ok(contents_of(attributes))
-}
-
-/// Decodes the version, which must be 0.
-fn read_version<'a, M: Memory, R: Reader<&'a [u8]>>(memory: M, reader: &mut R) -> Result<()>
-    ensures { let fault = EncodingFault integer VersionFault in
-        ReadsFront (λ _. tt) VersionEncoding fault (λ _. ⊥) result (R.left reader.old) (R.left reader.new) }
-{
-    if u8::decode(memory, reader)? != 0 {
-        return Err(reader.error(ErrorKind::Value { tag: Tag::INTEGER }));
-    }
-    Ok(())
-}
+/// The parts of a container: its version, its algorithm, its private key, and its attributes.
+type InfoParts<'a> = (
+    Expected<0>,
+    (
+        AlgorithmIdentifierRef<'a>,
+        (OctetStringRef<'a>, LastByTag<Attributes<'a>>),
+    ),
+);
 
 impl Contents for PrivateKeyInfoRef<'_> {
     ghost Value = { Info };
@@ -80,13 +66,13 @@ impl Contents for PrivateKeyInfoRef<'_> {
 
     ghost contents = { InfoContents };
 
-    ghost has_contents = { HasInfo };
+    ghost has_contents = { λ info. ⟦<InfoParts<'static> as Contents>⟧.has_contents (info_parts info) };
 
-    ghost written_contents = { written_info };
+    ghost written_contents = { λ info. ⟦<InfoParts<'static> as Contents>⟧.written_contents (info_parts info) };
 
     ghost means_one = { info_means_one };
 
-    ghost contents_of_bytes = { info_of_bytes };
+    ghost contents_of_bytes = { λ info. ⟦<InfoParts<'static> as Contents>⟧.contents_of_bytes (info_parts info) };
 }
 
 impl TaggedBy for PrivateKeyInfoRef<'_> {
@@ -97,60 +83,51 @@ impl<'a> Sequence<'a> for PrivateKeyInfoRef<'_> {
     ghost is_sequence = { refl };
 }
 
-impl<'a, M: Memory> DecodeValue<&'a [u8], M> for PrivateKeyInfoRef<'a> {
-    ghost use Rattle.pkcs8_core.specs.Words.{InfoFault, info_fault_none, info_fault_first};
+impl<'a> InParts for PrivateKeyInfoRef<'a> {
+    type Parts = InfoParts<'a>;
 
-    ghost may_allocate = { λ _. ⊥ };
-
-    ghost fault = { InfoFault };
-
-    fn decode_value<R: Reader<&'a [u8]>>(
-        memory: M,
-        reader: &mut R,
-        _header: Header,
-    ) -> Result<PrivateKeyInfoRef<'a>> {
-        read_version(memory, reader)?;
-        let algorithm = AlgorithmIdentifierRef::decode(memory, reader)?;
-        let private_key = OctetStringRef::decode(memory, reader)?;
-        let attributes = read_attributes(reader)?;
-        Ok(PrivateKeyInfoRef {
+    fn from_parts(parts: InfoParts<'a>) -> PrivateKeyInfoRef<'a> {
+        let (_version, (algorithm, (private_key, LastByTag(Last(attributes))))) = parts;
+        PrivateKeyInfoRef {
             algorithm,
             private_key,
-            attributes,
-        })
+            attributes: contents_of(attributes),
+        }
     }
 
-    ghost fault_none = { info_fault_none };
-
-    ghost fault_first = { info_fault_first };
+    ghost is_parts = { λ info. as_parts _ _ _ (info_parts info) };
 }
 
-/// The version of a container.
-const VERSION: u8 = 0;
-
-impl EncodeValue for PrivateKeyInfoRef<'_> {
-    fn value_len(&self) -> Result<Length> {
-        let attributes = self.attributes_encoding();
-        let key = (&self.private_key, &attributes);
-        (&VERSION, &(&self.algorithm, &key)).part_len()
+impl EncodeInParts for PrivateKeyInfoRef<'_> {
+    fn parts_len(&self) -> Result<Length> {
+        let key = (
+            Borrowed(&self.private_key),
+            LastByTag(Last(self.attributes_encoding())),
+        );
+        (Expected::<0>, (Borrowed(&self.algorithm), key)).value_len()
     }
 
-    fn append_value<W: Writer>(&self, writer: &mut W) -> Result<()> {
-        let attributes = self.attributes_encoding();
-        let key = (&self.private_key, &attributes);
-        (&VERSION, &(&self.algorithm, &key)).append_part(writer)
+    fn append_parts<W: Writer>(&self, writer: &mut W) -> Result<()> {
+        let key = (
+            Borrowed(&self.private_key),
+            LastByTag(Last(self.attributes_encoding())),
+        );
+        (Expected::<0>, (Borrowed(&self.algorithm), key)).append_value(writer)
     }
 
-    fn prepend_value(&self, writer: &mut BackWriter<'_>) {
-        let attributes = self.attributes_encoding();
-        let key = (&self.private_key, &attributes);
-        (&VERSION, &(&self.algorithm, &key)).prepend_part(writer);
+    fn prepend_parts(&self, writer: &mut BackWriter<'_>) {
+        let key = (
+            Borrowed(&self.private_key),
+            LastByTag(Last(self.attributes_encoding())),
+        );
+        (Expected::<0>, (Borrowed(&self.algorithm), key)).prepend_value(writer);
     }
-
-    ghost contents_relate = { info_relates };
-
-    ghost contents_shortest = { info_shortest };
 }
+
+/// What is written are contents of the value.
+fn lemma_written<T: EncodeValue>()
+    ensures { WritesEncodings T.contents T.has_contents T.written_contents }
+{}
 
 impl<'a> PrivateKeyInfoRef<'a> {
     /// The contents octets of the attributes, if there are any.
@@ -176,6 +153,7 @@ impl<'a> PrivateKeyInfoRef<'a> {
         ensures { HasEncoding PrivateKeyInfo (info_of self.now) }
     {
         let _attributes = self.attributes_encoding();
+        lemma_written::<PrivateKeyInfoRef<'a>>();
     }
 
     /// Writes the container's only encoding to the front of a slice and returns its length, as `encode_into` does; the
@@ -203,9 +181,15 @@ impl<'a> TryFrom<&'a [u8]> for PrivateKeyInfoRef<'a> {
         ensures err { OnErr result (IsNoSentence PrivateKeyInfo bytes.now) }
         ensures exact { FailsExactly PrivateKeyInfoFault bytes.now result }
     {
+        lemma_containers_take_no_memory::<NoMemory>();
         PrivateKeyInfoRef::from_der(NoMemory, bytes)
     }
 }
+
+/// Reading a container never asks for memory. It does nothing: the law is its contract.
+pub fn lemma_containers_take_no_memory<M: Memory>()
+    ensures { (b : List ℕ) → ⟦<PrivateKeyInfoRef<'static> as Decode<&'static [u8], M>>⟧.may_allocate b → ⊥ }
+{}
 
 /// A container has at most one encoding.
 pub fn lemma_containers_have_one_encoding()
