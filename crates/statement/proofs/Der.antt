@@ -84,6 +84,10 @@ joins_made Grammar encoding made (v ∷ vs) l =
       refl,
     )
 
+-- A fact of a value and bytes, at an equal value.
+pub moved : {V : Type 0} (P : V → List ℕ → Type 0) {v w : V} {bytes : List ℕ} → v ≡ w → P v bytes → P w bytes
+moved P {bytes = bytes} same p = subst (λ v. P v bytes) same p
+
 -- Why a value isn't written: no encoding of it fits.
 pub none_fits : {V : Type 0} (Grammar : V → List ℕ → Type 0) (v : V) (room : ℕ) (e : Error) (bytes : List ℕ)
     → IsWritingError Grammar v room e → Means Grammar bytes v → room < length bytes
@@ -102,6 +106,13 @@ none_fits Grammar v room error.Crypto bytes h p = absurd h
 none_fits Grammar v room error.KeyMalformed bytes h p = absurd h
 none_fits Grammar v room error.Version bytes h p = absurd h
 
+-- The same in the statement's words.
+pub none_written : {W V : Type 0} (Grammar : W → List ℕ → Type 0) (Encoding : V → List ℕ → Type 0) {from : W → V}
+    → ((w : W) (bytes : List ℕ) → Encoding (from w) bytes → Means Grammar bytes w) → (w : W) {v : V} → from w ≡ v
+    → (room : ℕ) (e : Error) → IsWritingError Grammar w room e → (bytes : List ℕ) → Encoding v bytes → room < length bytes
+none_written Grammar Encoding meant w same room e h bytes p =
+    none_fits Grammar w room e bytes h (meant w bytes (moved Encoding (sym same) p))
+
 pub tlv_made : {P : List ℕ → Type 0} (t : ℕ) (w encoding : List ℕ) → P w → encoding ≡ tlv t w → length encoding ≤ limit
     → tlvs.Tlv t P encoding
 tlv_made {P} t w encoding h e fits =
@@ -118,10 +129,6 @@ pub small_made : (n : ℕ) → n < 256 → length (integer n) ≤ limit → Smal
 small_made n h l =
     tlv_made 2 (integer_contents (n ∷ [])) (integer n) (small_relates n h)
     (ap (λ x. tlv 2 (integer_contents x)) (small_octets n h)) l
-
--- A fact of a value and bytes, at an equal value.
-pub moved : {V : Type 0} (P : V → List ℕ → Type 0) {v w : V} {bytes : List ℕ} → v ≡ w → P v bytes → P w bytes
-moved P {bytes = bytes} same p = subst (λ v. P v bytes) same p
 
 -- Values are equal in the statement exactly if they are in the library.
 pub equal_by : {W V : Type 0} (from : W → V) (to : V → W) {x y : W} {v u : V} → from x ≡ v → from y ≡ u

@@ -1,12 +1,14 @@
 -- What was read of readers and sources.
-use Rattle.std.proofs.Common.{ℕ, List, ◌≡◌, ◌≢◌, ◌≤◌, ◌++◌, length, refl, subst, inl, inr, Some, None, Result, Ok, Err}
+use Rattle.std.proofs.Common.{ℕ, List, ◌≡◌, ◌≢◌, ◌<◌, ◌≤◌, ◌+◌, ◌++◌, length, refl, subst, inl, inr, Some, None}
+use Rattle.std.proofs.Common.{Result, Ok, Err}
+use Rattle.std.specs.Io.KnownBytes.{Consumes, IsAtEnd}
 use Rattle.std.specs.Prelude.{IfErr, IfOk, ◌⊎◌, Option}
 use Rattle.der_core.specs.Carrying.{piece, ReadsDocument}
 use Rattle.der_core.specs.Document.{Means, IsDocument}
 use Rattle.der_core.specs.Faults.{AreNone}
 use Rattle.der_core.specs.Input.{Input, left_in}
 use Rattle.der_core.specs.Reading.{ReadsFront, NoneIn}
-use Rattle.der_core.specs.SourcesSinks.{GivesAll, GivesMore, GivesSome, OneFailed}
+use Rattle.der_core.specs.SourcesSinks.{OneFailed}
 use Rattle.der_core.specs.declared.document.DocumentOf.{DocumentOf}
 use Rattle.der_core.specs.declared.error.Error.{Error}
 use Rattle.der_core.specs.declared.error.ErrorKind.{ErrorKind}
@@ -50,12 +52,15 @@ documents (Err e) = tt
 pub undocumented : {S : Type 0} (r : Result (DocumentOf S) Error) (old new : Option (List ℕ)) (failures failures2 : ℕ)
     → ReadsDocument document_of r old new failures failures2
     → IfErr r (λ e. ((e.kind ≡ File) × OneFailed failures failures2) ⊎ ((failures2 ≡ failures)
-    × (((e.kind ≡ OutOfMemory) × GivesSome limit old new) ⊎ ((e.kind ≡ Overflow) × GivesMore limit piece old new)
-    ⊎ ((bytes : List ℕ) × GivesAll old new bytes
+    × (bytes : List ℕ) × Consumes old new bytes
+    × (((e.kind ≡ OutOfMemory) × (0 < length bytes) × (length bytes ≤ limit))
+    ⊎ ((e.kind ≡ Overflow) × (limit < length bytes) × (length bytes ≤ limit + piece)) ⊎ (IsAtEnd new
     × ((contents : List ℕ) → AreOctets contents → length bytes ≤ limit → bytes ≡ sequence contents → ⊥)))))
 undocumented (Ok d) old new failures failures2 h = tt
 undocumented (Err e) old new failures failures2 (inl (inl file)) = inl file
-undocumented (Err e) old new failures failures2 (inl (inr (inl memory))) = inr (memory.1, inl (memory.0, memory.2))
-undocumented (Err e) old new failures failures2 (inl (inr (inr more))) = inr (more.1, inr (inl (more.0, more.2)))
+undocumented (Err e) old new failures failures2 (inl (inr (inl (memory, same, (bytes, taken, some, few))))) =
+    inr (same, bytes, taken, inl (memory, some, few))
+undocumented (Err e) old new failures failures2 (inl (inr (inr (more, same, (bytes, taken, many, soon))))) =
+    inr (same, bytes, taken, inr (inl (more, many, soon)))
 undocumented (Err e) old new failures failures2 (inr (same, (bytes, all, none, fault))) =
-    inr (same, inr (inr (bytes, all, λ c octets few is. none (document_made bytes c octets few is))))
+    inr (same, bytes, all.0, inr (inr (all.1, λ c octets few is. none (document_made bytes c octets few is))))

@@ -17,7 +17,7 @@ use Rattle.pkcs1_params.specs.Meanings.{IsTheMeaning, IsTheShortest, IsTheOnly}
 use Rattle.pkcs1_params.specs.Laws.Algorithms.{parameters_in, with_encoded, parameters_shorter, identifier_made}
 use Rattle.pkcs1_params.specs.Laws.Algorithms.{identifier_grows, same_parameters}
 use Rattle.statement.specs.Statement.{tlv, sequence, limit, AlgorithmEncoding, IsShortest, Field, Fields, FieldsUnder}
-use Rattle.statement.specs.Statement.{Algorithm, TagAndContents}
+use Rattle.statement.specs.Statement.{Algorithm, TagAndContents, Decodes}
 use Rattle.statement.specs.Statement.{SequenceOf, longest, AreAll, TwoToTheDefaults, TwoToTheDefaultsIn, id_rsassa_pss}
 use Rattle.statement.specs.Statement.{id_rsaes_oaep}
 use Rattle.statement.proofs.Der.{moved, tlv_is, tlv_made, tlv_fit}
@@ -38,7 +38,7 @@ use Rattle.spki_core.specs.declared.object_identifier.ObjectIdentifier.{ObjectId
 use Rattle.statement.specs.Held.{algorithm_identifier, algorithm_identifier_of, identifier_view, any_ref}
 use Rattle.statement.proofs.Held.{plain_holds, algorithm_holds}
 use Rattle.pkcs1_params.specs.Algorithms as library
-use Rattle.statement.specs.Made.{Identifies, Finds}
+use Rattle.statement.specs.Made.{Identifies}
 use Rattle.statement.proofs.Algorithms.{any_from, algorithm_from, plain_from, plain_to, plain_forth}
 
 -- What is written under a mask is no longer than all fields.
@@ -226,7 +226,7 @@ module _ {W V : Type 0} {from : W → V} {to : V → W} {fs : W → List fields.
   abbrev Contents : W → List ℕ → Type 0
   Contents w = Joins (map Defaultable (fs w))
 
-  there : (w : W) → library.Identifies oid Contents a w → Identifies oid Is' gs (plain_from a) (from w)
+  there : (w : W) → library.Identifies oid Contents a w → Identifies oid Is' gs (from w) (plain_from a)
   there w (e, any, p, tag, holds) =
       let q : option_map any_from a.parameters ≡ Some (record { tag = 48; contents = any.contents }) =
       ap (option_map any_from) p ∙ (λ i. Some (record { tag = tag i; contents = any.contents })) in (
@@ -236,7 +236,7 @@ module _ {W V : Type 0} {from : W → V} {to : V → W} {fs : W → List fields.
         fields_to (fs w) (gs (from w)) (s.match w) any.contents (few_contents algorithm.parameters any p) holds,
       )
 
-  back : (w : W) → Identifies oid Is' gs (plain_from a) (from w) → library.Identifies oid Contents a w
+  back : (w : W) → Identifies oid Is' gs (from w) (plain_from a) → library.Identifies oid Contents a w
   back w (c, e, is, held) =
       let p = ap (λ (x : Algorithm TagAndContents). (plain_to x).parameters) e in
       let q = sym (ap (λ (x : algorithms.Algorithm anys.TagAndContents). x.parameters) (plain_forth a)) ∙ p in
@@ -248,23 +248,23 @@ module _ {W V : Type 0} {from : W → V} {to : V → W} {fs : W → List fields.
         fields_from (fs w) (gs (from w)) (s.match w) (s.make w is) c (few_contents algorithm.parameters any q) held,
       )
 
-  given : (v : V) → Identifies oid Is' gs (plain_from a) v → library.Identifies oid Contents a (to v)
-  given v p = back (to v) (subst (Identifies oid Is' gs (plain_from a)) (sym (s.back v)) p)
+  given : (v : V) → Identifies oid Is' gs v (plain_from a) → library.Identifies oid Contents a (to v)
+  given v p = back (to v) (subst (λ v. Identifies oid Is' gs v (plain_from a)) (sym (s.back v)) p)
 
   abbrev b : Algorithm TagAndContents
   b = algorithm_identifier any_ref algorithm
 
   pub finds : (w : W) {v : V} → from w ≡ v → IsTheOnly (library.Identifies oid Contents a) w
-      → Finds (Identifies oid Is' gs b) (Some v)
+      → Decodes (Identifies oid Is' gs) b (Some v)
   finds w {v = v} e p =
-      subst (λ b. Finds (Identifies oid Is' gs b) (Some v)) (plain_holds any_of algorithm) (
-        subst (Identifies oid Is' gs (plain_from a)) e (there w p.0),
+      subst (λ b. Decodes (Identifies oid Is' gs) b (Some v)) (plain_holds any_of algorithm) (
+        subst (λ v. Identifies oid Is' gs v (plain_from a)) e (there w p.0),
         λ u q. sym (s.back u) ∙ ap from (p.1 (to u) (given u q)) ∙ e,
       )
 
-  pub finds_none : ((w : W) → library.Identifies oid Contents a w → ⊥) → Finds (Identifies oid Is' gs b) None
+  pub finds_none : ((w : W) → library.Identifies oid Contents a w → ⊥) → Decodes (Identifies oid Is' gs) b None
   finds_none p =
-      subst (λ b. Finds (Identifies oid Is' gs b) None) (plain_holds any_of algorithm) (λ v q. p (to v) (given v q))
+      subst (λ b. Decodes (Identifies oid Is' gs) b None) (plain_holds any_of algorithm) (λ v q. p (to v) (given v q))
 
 pub pss_identifier : IsIdentifier id_rsassa_pss
 pss_identifier =

@@ -1,12 +1,11 @@
 -- Private keys: the statement's encodings are the library's.
-use Rattle.std.proofs.Common.{ℕ, List, [], ◌∷◌, ◌++◌, ◌≡◌, ◌<◌, ◌≤◌, length, refl, sym, ap, ◌∙◌, arith, inl}
+use Rattle.std.proofs.Common.{ℕ, List, [], ◌∷◌, ◌++◌, ◌≡◌, ◌<◌, ◌≤◌, length, refl, sym, ap, ◌∙◌, arith}
 use Rattle.std.proofs.Common.{length-append, append-nil, append_assoc, map, Option, Some, None}
 use Rattle.std.proofs.lemmas.List.{length-map}
 use Rattle.std.specs.Int.Digits.{number_from_digits}
 use Rattle.std.specs.List.{concat}
 use Rattle.std.specs.Option.{option_map}
 use Rattle.der_core.specs.Document.{Means}
-use Rattle.der_core.specs.Document as documents
 use Rattle.der_core.specs.Encodings.{Joins}
 use Rattle.der_core.specs.Integer.{Integer, IsCanonical, Small, integer_contents}
 use Rattle.der_core.specs.Laws.SmallNumbers.{small_relates}
@@ -14,7 +13,7 @@ use Rattle.pkcs1.specs.Keys as keys
 use Rattle.pkcs1.specs.Keys.{PrivateKeyContents, RsaPrivateKey, OtherPrimeInfo, OtherPrimeInfos, version_of}
 use Rattle.pkcs1.specs.Laws.PrivateKey.{joins_put, joins_take}
 use Rattle.statement.specs.Statement.{octets, tlv, integer, integers, limit, optional, IfPresent, OtherPrime}
-use Rattle.statement.specs.Statement.{other_primes, sequence, PrivateKey, PrivateKeyEncoding, version, IsShortest}
+use Rattle.statement.specs.Statement.{other_primes, sequence, PrivateKey, PrivateKeyEncoding, version}
 use Rattle.statement.proofs.Der.{tlv_is, tlv_made, tlv_fit, integer_is, integer_made, small_integer, small_octets}
 use Rattle.statement.proofs.Der.{joins_are, joins_made}
 use Rattle.statement.specs.Laws.Octets.{number_octets}
@@ -176,10 +175,6 @@ means k bytes (fits, some, is) =
     joins_put (map Integer (eight (key_of k))) (OtherPrimeInfos Integer (key_of k).other_prime_infos ∷ []) n o hn
     (o, [], ho, refl, sym (append-nil o)) in
     (fits, tlv_made 48 ((v ++ n) ++ o) bytes (v, n ++ o, hv, later, append_assoc v n o) is fits)
-
-pub shortest : (k : keys.PrivateKey (List ℕ)) (bytes : List ℕ) → documents.IsShortest RsaPrivateKey k bytes
-    → IsShortest PrivateKeyEncoding (numbers k) bytes
-shortest k bytes p = (sentence k bytes p.spells, λ other q. inl (q.2 ∙ sym (encoding_is k bytes p.spells.1)))
 
 -- The key of the numbers of a key whose numbers are canonical.
 abbrev pub OtherCanonical : keys.OtherPrime (List ℕ) → Type 0

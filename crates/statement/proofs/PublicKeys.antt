@@ -1,12 +1,10 @@
 -- Public keys: the statement's encodings are the library's.
-use Rattle.std.proofs.Common.{ℕ, List, [], ◌∷◌, ◌≡◌, ◌≤◌, length, sym, ap, ◌∙◌, arith, inl}
+use Rattle.std.proofs.Common.{ℕ, List, [], ◌∷◌, ◌≡◌, ◌≤◌, length, ap, arith}
 use Rattle.std.specs.Int.Digits.{number_from_digits}
 use Rattle.der_core.specs.Document.{Means}
-use Rattle.der_core.specs.Document as documents
 use Rattle.der_core.specs.Integer.{Integer, IsCanonical}
 use Rattle.pkcs1.specs.Keys as keys
 use Rattle.statement.specs.Statement.{octets, integer, integers, sequence, limit, PublicKey, PublicKeyEncoding}
-use Rattle.statement.specs.Statement.{IsShortest}
 use Rattle.statement.proofs.Der.{tlv_is, tlv_fit, tlv_made, integer_is, integer_made, joins_are, joins_made}
 use Rattle.statement.specs.Laws.Octets.{number_octets}
 pub use Rattle.statement.specs.Library.{public_key as key_of}
@@ -37,7 +35,3 @@ means v bytes p =
       tlv_made 48 (integers both) bytes (joins_made (λ n. Integer (octets n)) integer integer_made both few) p.1
           p.0,
     )
-
-pub shortest : (key : keys.PublicKey (List ℕ)) (bytes : List ℕ) → documents.IsShortest keys.RsaPublicKey key bytes
-    → IsShortest PublicKeyEncoding (numbers key) bytes
-shortest key bytes p = (sentence key bytes p.spells, λ other q. inl (q.1 ∙ sym (encoding_is key bytes p.spells.1)))

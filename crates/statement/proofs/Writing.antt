@@ -20,6 +20,7 @@ use Rattle.der_core.specs.declared.integer.owned.Uint.{Uint}
 use Rattle.std.specs.Int.Digits.{number_from_digits}
 use Rattle.pkcs1.specs.Keys as keys
 use Rattle.pkcs1.specs.KeyEncodings.{IsDocumentError}
+use Rattle.pkcs1_params.specs.Meanings.{IsWritingError}
 use Rattle.pkcs1_params.specs.declared.error.Error.{Error}
 use Rattle.pkcs1_params.specs.declared.error.Error.TheVariants as error
 use Rattle.pkcs1.specs.PublicKeyValue.{public_key_with}
@@ -35,7 +36,7 @@ use Rattle.statement.specs.Held.{rsa_public_key, rsa_private_key}
 use Rattle.statement.specs.Held.{private_key_info_ref}
 use Rattle.statement.specs.Laws.Shortest.{shortest}
 use Rattle.statement.specs.Library.{Agree}
-use Rattle.statement.proofs.Der.{moved, equal_by}
+use Rattle.statement.proofs.Der.{moved, equal_by, none_fits}
 use Rattle.statement.proofs.OutOfMemory.{IsMemory}
 use Rattle.statement.proofs.Held.{private_holds, container_holds}
 use Rattle.statement.proofs.PublicKeys as public
@@ -61,6 +62,11 @@ module _ {W V : Type 0} (Grammar : W → List ℕ → Type 0) (Encoding : V → 
     | inr longer ↦ omega (arith, h.2, longer)
   ]
   unwritten some room another h bytes p = absurd h
+
+  -- why a call that writes over a slice wrote nothing
+  pub unfit : (room : ℕ) (e : Error) → IsWritingError Grammar w room e → (bytes : List ℕ) → Encoding v bytes
+      → room < length bytes
+  unfit room e h bytes p = none_fits Grammar w room e bytes h ((same bytes).0 p)
 
   -- why no document is made
   undocumented : (e : Error) → IsDocumentError Grammar w e → (IsMemory e → ⊥) → (bytes : List ℕ) → Encoding v bytes → ⊥

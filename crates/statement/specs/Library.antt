@@ -53,8 +53,8 @@ oaep p = record {
 abbrev pub container : Container → Info
 container c = record { algorithm = algorithm any c.algorithm; private_key = c.private_key; attributes = c.attributes }
 
--- What the values of a type mean here has the encodings that the library's grammar says, and so have values that none of
--- them means. Two mean the same here exactly if they do in the library.
+-- What the values of a type mean here has the encodings that the library's grammar says, and so have values that none
+-- of them means. Two mean the same here exactly if they do in the library.
 pub record Agree {T V W : Type 0} (meaning : T → V) (encodes : V → List ℕ → Type 0) (value : T → W)
     (Grammar : W → List ℕ → Type 0) : Type 0 where
   pub bytes : (held : T) (bytes : List ℕ) → encodes (meaning held) bytes ↔ Means Grammar bytes (value held)

@@ -1,5 +1,5 @@
 -- The values that constructors make, and what is asked of parameters: hash functions, labels, identifiers.
-use Rattle.std.specs.Prelude.{ℕ, List, ◌≡◌, ◌⊎◌, length, Option, Some, None, IsSomeAnd}
+use Rattle.std.specs.Prelude.{ℕ, List, ◌≡◌, ◌⊎◌, length, Some, None, IsSomeAnd}
 use Rattle.statement.specs.Statement.{TagAndContents, Algorithm, null, mgf1_sha1, empty_label, AreOctets, Field, Fields}
 use Rattle.statement.specs.Statement.{OaepParameters, OaepEncoding}
 
@@ -33,12 +33,7 @@ UsesHash oid hash mask_gen =
     IsHash oid hash × (mask_gen.oid ≡ mgf1_sha1.oid) × IsSomeAnd mask_gen.parameters (IsHash oid)
 
 -- The algorithm has this identifier, and its parameters are the SEQUENCE of the fields of a value that may be encoded.
-abbrev pub Identifies : {V : Type 0} → List ℕ → (V → Type 0) → (V → List Field) → Algorithm TagAndContents → V → Type 0
-Identifies oid Is fields a v =
+abbrev pub Identifies : {V : Type 0} → List ℕ → (V → Type 0) → (V → List Field) → V → Algorithm TagAndContents → Type 0
+Identifies oid Is fields v a =
     (contents : List ℕ) × (a ≡ record { oid = oid; parameters = Some (record { tag = 48; contents = contents }) })
     × Is v × Fields (fields v) contents
-
--- Asking gave a value: it is the only one. It gave none: there is none.
-abbrev pub Finds : {V : Type 0} → (V → Type 0) → Option V → Type 0
-Finds {V} Holds (Some v) = Holds v × ((other : V) → Holds other → other ≡ v)
-Finds {V} Holds None = (v : V) → Holds v → ⊥

@@ -33,8 +33,8 @@ pub fn document_of_public_key<U: HoldsNumber>(
     ensures memory { let k = rsa_public_key U.whole key.now in
         OnErr result ((bytes : List ℕ) × PublicKeyEncoding k bytes) }
 {
-    let made = key.to_pkcs1_der(alloc);
-    match made {
+    let public = key.to_pkcs1_der(alloc);
+    match public {
         Ok(value) => Ok(Some(value)),
         Err(e) => none_but_for_memory(e),
     }
@@ -53,15 +53,15 @@ pub fn document_of_private_key(
     ensures memory { let k = rsa_private_key uint_ref key.now in
         OnErr result ((bytes : List ℕ) × PrivateKeyEncoding k bytes) }
 {
-    let made = key.to_pkcs1_der(alloc);
-    match made {
+    let secret = key.to_pkcs1_der(alloc);
+    match secret {
         Ok(value) => Ok(Some(value)),
         Err(e) => none_but_for_memory(e),
     }
 }
 
-/// A document of an owned private key holds its encoding. None is made only if there is no encoding, and memory runs out only
-/// if there is one.
+/// A document of an owned private key holds its encoding. None is made only if there is no encoding, and memory runs out
+/// only if there is one.
 pub fn document_of_owned_private_key(
     alloc: Global,
     key: &RsaPrivateKeyOwned,
@@ -80,7 +80,8 @@ pub fn document_of_owned_private_key(
     }
 }
 
-/// Reads a public key and writes it again, which gives the same bytes. None is made exactly if the bytes encode no key.
+/// Reads a public key and writes it again, which gives the same bytes. None is made exactly if the bytes encode no
+/// key.
 pub fn document_of_encoded_public_key(alloc: Global, bytes: &[u8]) -> OrOutOfMemory<Document>
     ensures some { IfOk result (λ made. IfSome made (λ document. (document_of document ≡ bytes.now)
         × (key : PublicKey) × PublicKeyEncoding key bytes.now)) }
@@ -95,7 +96,8 @@ pub fn document_of_encoded_public_key(alloc: Global, bytes: &[u8]) -> OrOutOfMem
     }
 }
 
-/// Reads a private key and writes it again, which gives the same bytes. None is made exactly if the bytes encode no key.
+/// Reads a private key and writes it again, which gives the same bytes. None is made exactly if the bytes encode no
+/// key.
 pub fn document_of_encoded_private_key(alloc: Global, bytes: &[u8]) -> OrOutOfMemory<SecretDocument>
     ensures some { IfOk result (λ made. IfSome made (λ document. (document_of document ≡ bytes.now)
         × (key : PrivateKey) × PrivateKeyEncoding key bytes.now)) }

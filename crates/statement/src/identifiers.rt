@@ -4,7 +4,7 @@ ghost use Rattle.std.specs.Option.{option_map};
 ghost use Rattle.statement.specs.Held.{any_ref, rsa_pss_params, rsa_oaep_params, pss_params_of, oaep_params_of};
 ghost use Rattle.statement.specs.Held.{rsa_pss_params_view, rsa_oaep_params_view, algorithm_identifier};
 ghost use Rattle.statement.specs.Held.{algorithm_identifier_of, identifier_view};
-ghost use Rattle.statement.specs.Made.{Finds, Identifies};
+ghost use Rattle.statement.specs.Made.{Identifies};
 ghost use Rattle.statement.specs.Statement.{Decodes, Encodes, IsShortest, SameByShortest, TwoToTheDefaultsIn};
 ghost use Rattle.statement.specs.Statement.{id_rsassa_pss, PssAlgorithmEncoding, IsPss, pss_fields};
 ghost use Rattle.statement.specs.Statement.{id_rsaes_oaep, OaepAlgorithmEncoding, IsOaep, oaep_fields};
@@ -89,13 +89,13 @@ pub fn write_oaep_algorithm<O: HoldsIdentifier, P: HoldsTagged>(
 
 /// The algorithm identifier with PSS parameters, which may be encoded.
 pub fn algorithm_of_pss_params<'b, O: HoldsIdentifier, P: HoldsTagged>(
-    params: &'b PssParamsOf<O, P>,
+    pss: &'b PssParamsOf<O, P>,
 ) -> AlgorithmView<'b, Borrowed<'b, PssParamsOf<O, P>>>
     ensures means { algorithm_identifier_of identifier_view (λ b. pss_params_of O.oid P.tagged b.0.now) result
-        ≡ record { oid = id_rsassa_pss; parameters = Some (pss_params_of O.oid P.tagged params.now) } }
-    ensures encodable { IsPss (pss_params_of O.oid P.tagged params.now) }
+        ≡ record { oid = id_rsassa_pss; parameters = Some (pss_params_of O.oid P.tagged pss.now) } }
+    ensures encodable { IsPss (pss_params_of O.oid P.tagged pss.now) }
 {
-    params.to_algorithm()
+    pss.to_algorithm()
 }
 
 /// The PSS parameters in an algorithm identifier.
@@ -103,7 +103,7 @@ pub fn pss_params_of_algorithm<'a>(
     algorithm: &AlgorithmIdentifierRef<'a>,
 ) -> Option<RsaPssParamsRef<'a>>
     ensures { let a = algorithm_identifier any_ref algorithm.now in
-        Finds (Identifies id_rsassa_pss IsPss pss_fields a) (option_map (rsa_pss_params any_ref) result) }
+        Decodes (Identifies id_rsassa_pss IsPss pss_fields) a (option_map (rsa_pss_params any_ref) result) }
 {
     match RsaPssParamsRef::from_algorithm(algorithm) {
         Ok(params) => Some(params),
@@ -116,7 +116,7 @@ pub fn pss_view_of_algorithm<'a>(
     algorithm: &AlgorithmIdentifierRef<'a>,
 ) -> Option<RsaPssParamsView<'a>>
     ensures { let a = algorithm_identifier any_ref algorithm.now in
-        Finds (Identifies id_rsassa_pss IsPss pss_fields a) (option_map rsa_pss_params_view result) }
+        Decodes (Identifies id_rsassa_pss IsPss pss_fields) a (option_map rsa_pss_params_view result) }
 {
     match RsaPssParamsView::from_algorithm(algorithm) {
         Ok(params) => Some(params),
@@ -126,13 +126,13 @@ pub fn pss_view_of_algorithm<'a>(
 
 /// The algorithm identifier with OAEP parameters, which may be encoded.
 pub fn algorithm_of_oaep_params<'b, O: HoldsIdentifier, P: HoldsTagged>(
-    params: &'b OaepParamsOf<O, P>,
+    oaep: &'b OaepParamsOf<O, P>,
 ) -> AlgorithmView<'b, Borrowed<'b, OaepParamsOf<O, P>>>
     ensures means { algorithm_identifier_of identifier_view (λ b. oaep_params_of O.oid P.tagged b.0.now) result
-        ≡ record { oid = id_rsaes_oaep; parameters = Some (oaep_params_of O.oid P.tagged params.now) } }
-    ensures encodable { IsOaep (oaep_params_of O.oid P.tagged params.now) }
+        ≡ record { oid = id_rsaes_oaep; parameters = Some (oaep_params_of O.oid P.tagged oaep.now) } }
+    ensures encodable { IsOaep (oaep_params_of O.oid P.tagged oaep.now) }
 {
-    params.to_algorithm()
+    oaep.to_algorithm()
 }
 
 /// The OAEP parameters in an algorithm identifier.
@@ -140,7 +140,7 @@ pub fn oaep_params_of_algorithm<'a>(
     algorithm: &AlgorithmIdentifierRef<'a>,
 ) -> Option<RsaOaepParamsRef<'a>>
     ensures { let a = algorithm_identifier any_ref algorithm.now in
-        Finds (Identifies id_rsaes_oaep IsOaep oaep_fields a) (option_map (rsa_oaep_params any_ref) result) }
+        Decodes (Identifies id_rsaes_oaep IsOaep oaep_fields) a (option_map (rsa_oaep_params any_ref) result) }
 {
     match RsaOaepParamsRef::from_algorithm(algorithm) {
         Ok(params) => Some(params),
@@ -153,7 +153,7 @@ pub fn oaep_view_of_algorithm<'a>(
     algorithm: &AlgorithmIdentifierRef<'a>,
 ) -> Option<RsaOaepParamsView<'a>>
     ensures { let a = algorithm_identifier any_ref algorithm.now in
-        Finds (Identifies id_rsaes_oaep IsOaep oaep_fields a) (option_map rsa_oaep_params_view result) }
+        Decodes (Identifies id_rsaes_oaep IsOaep oaep_fields) a (option_map rsa_oaep_params_view result) }
 {
     match RsaOaepParamsView::from_algorithm(algorithm) {
         Ok(params) => Some(params),

@@ -1,4 +1,6 @@
-//! Reading and listing with memory: `AllocError` says only that memory has run out.
+//! Reading and listing with memory. A result is `Ok` of what a call without an allocator gives, or `Err` of
+//! `AllocError`: memory has run out, which says nothing of the value. Each clause `memory` says of which inputs alone it
+//! can run out.
 ghost use Rattle.std.specs.Prelude.{ℕ, List, ◌≡◌, ◌≢◌, ◌≤◌, ◌↔◌, ◌++◌, length, IsTrue, IfOk, OnErr, IsErrAnd, Ok, Err};
 ghost use Rattle.std.specs.Prelude.{Some, None};
 ghost use Rattle.std.specs.Option.{option_map};
@@ -66,7 +68,8 @@ pub fn read_private_key_as_struct<'a>(
     alloc: Global,
     bytes: &'a [u8],
 ) -> OrOutOfMemory<RsaPrivateKeyRef<'a>>
-    ensures read { IfOk result (λ k. Decodes PrivateKeyEncoding bytes.now (option_map (rsa_private_key uint_ref) k)) }
+    ensures read { let held = option_map (rsa_private_key uint_ref) in
+        IfOk result (λ key. Decodes PrivateKeyEncoding bytes.now (held key)) }
     ensures memory { OnErr result ((key : PrivateKey) → PrivateKeyEncoding key bytes.now → key.other_primes ≢ None) }
 {
     found(RsaPrivateKeyRef::decode_key(alloc, bytes))

@@ -4,7 +4,7 @@ ghost use Rattle.std.specs.Option.{option_map};
 ghost use Rattle.statement.specs.Held.{any_ref, rsa_private_key_view, pss_params_of, oaep_params_of};
 ghost use Rattle.statement.specs.Held.{algorithm_identifier, private_key_info_ref, rsa_oaep_params};
 ghost use Rattle.statement.specs.Held.{rsa_oaep_params_view};
-ghost use Rattle.statement.specs.Made.{IsHash, UsesHash, Finds, source_of};
+ghost use Rattle.statement.specs.Made.{IsHash, UsesHash, source_of};
 ghost use Rattle.statement.specs.Statement.{Decodes, Encodes, IsShortest, PrivateKeyEncoding, Defaults, SequenceOf};
 ghost use Rattle.statement.specs.Statement.{FieldsUnder};
 ghost use Rattle.statement.specs.Statement.{IsPss, pss_fields, IsOaep, oaep_fields, rsa_encryption};
@@ -113,7 +113,7 @@ pub fn oaep_params_use_hash<D: AssociatedOid, O: HoldsIdentifier, P: HoldsTagged
 /// The label, if the source is id-pSpecified with an OCTET STRING.
 pub fn label_of_params<P: HoldsTagged>(params: &RsaOaepParams<P>) -> Option<&[u8]>
     ensures { let source = (rsa_oaep_params P.tagged params.now).p_source in
-        Finds (λ label. source ≡ source_of label) (option_map (λ label. label.now) result) }
+        Decodes (λ label source. source ≡ source_of label) source (option_map (λ label. label.now) result) }
 {
     params.label()
 }
@@ -121,7 +121,7 @@ pub fn label_of_params<P: HoldsTagged>(params: &RsaOaepParams<P>) -> Option<&[u8
 /// The label, if the source is id-pSpecified with an OCTET STRING.
 pub fn label_of_view<'a>(view: &RsaOaepParamsView<'a>) -> Option<&'a [u8]>
     ensures { let source = (rsa_oaep_params_view view.now).p_source in
-        Finds (λ label. source ≡ source_of label) (option_map (λ label. label.now) result) }
+        Decodes (λ label source. source ≡ source_of label) source (option_map (λ label. label.now) result) }
 {
     view.label()
 }

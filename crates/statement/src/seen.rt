@@ -23,10 +23,10 @@ pub fn bytes_of_number<'a>(number: &UintRef<'a>) -> &'a [u8]
 }
 
 /// The bytes of an owned number are its octets.
-pub fn bytes_of_owned_number(number: &Uint) -> &[u8]
-    ensures { result.now ≡ octets (uint number.now) }
+pub fn bytes_of_owned_number(owned: &Uint) -> &[u8]
+    ensures { result.now ≡ octets (uint owned.now) }
 {
-    number.as_bytes()
+    owned.as_bytes()
 }
 
 /// The number of these bytes, the highest first, zeros in front or not. There is none if there is no byte, or if more

@@ -7,11 +7,11 @@ use Rattle.statement.proofs.identifiers.algorithm_of_pss_params.Goals as goal
 pub returns-clause-means : goal.returns-clause-means
 returns-clause-means g c =
     let held = pss_held g.met.O.HoldsIdentifier.is_oid g.met.P.HoldsTagged.is_tagged in
-    identified_holds from _ _ (λ b. held b.0.now) id_rsassa_pss c.to_algorithm.result _ _ (held c.args.params.now)
+    identified_holds from _ _ (λ b. held b.0.now) id_rsassa_pss c.to_algorithm.result _ _ (held c.args.pss.now)
     c.to_algorithm.ensures.means
 
 pub returns-clause-encodable : goal.returns-clause-encodable
 returns-clause-encodable g c =
     encodable id_rsassa_pss pss_identifier sides _
-    (pss_held g.met.O.HoldsIdentifier.is_oid g.met.P.HoldsTagged.is_tagged c.args.params.now)
+    (pss_held g.met.O.HoldsIdentifier.is_oid g.met.P.HoldsTagged.is_tagged c.args.pss.now)
     c.to_algorithm.ensures.some

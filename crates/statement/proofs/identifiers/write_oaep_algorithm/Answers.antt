@@ -1,8 +1,6 @@
-use Rattle.std.proofs.Common.{sym}
-use Rattle.pkcs1_params.specs.OaepValue.{oaep_in}
 use Rattle.pkcs1_params.specs.Algorithms.{RsaOaepAlgorithm}
 use Rattle.statement.specs.Statement.{id_rsaes_oaep, OaepAlgorithmEncoding, IsShortest}
-use Rattle.statement.proofs.Der.{none_fits, moved}
+use Rattle.statement.proofs.Der.{none_written, moved}
 use Rattle.statement.proofs.Held.{oaep_held}
 use Rattle.statement.proofs.Identified.{shortest, meant, oaep_identifier}
 use Rattle.statement.proofs.Oaep.{sides}
@@ -10,18 +8,15 @@ use Rattle.statement.proofs.identifiers.write_oaep_algorithm.Goals as goal
 
 pub returns-in-Ok : goal.returns-in-Ok
 returns-in-Ok g c =
-    let p = c.args.params.now in (
+    let held = oaep_held g.met.O.HoldsIdentifier.is_oid g.met.P.HoldsTagged.is_tagged c.args.params.now in (
       c.in-Ok.ensures.rest.0,
-      moved (IsShortest OaepAlgorithmEncoding) (oaep_held g.met.O.HoldsIdentifier.is_oid g.met.P.HoldsTagged.is_tagged p)
-          (shortest id_rsaes_oaep oaep_identifier sides (oaep_in g.O.IdentifierValue.octets g.P.AnyValue.any p) _ c.in-Ok.ensures.shortest.0),
+      moved (IsShortest OaepAlgorithmEncoding) held (shortest id_rsaes_oaep oaep_identifier sides _ _ c.in-Ok.ensures.shortest.0),
       c.in-Ok.ensures.rest.1,
     )
 
 pub returns-in-Err : goal.returns-in-Err
 returns-in-Err g c =
-    let p = c.args.params.now in (
+    let held = oaep_held g.met.O.HoldsIdentifier.is_oid g.met.P.HoldsTagged.is_tagged c.args.params.now in (
       c.in-Err.ensures.unchanged,
-      λ bytes e. none_fits RsaOaepAlgorithm (oaep_in g.O.IdentifierValue.octets g.P.AnyValue.any p) _ _ bytes c.in-Err.ensures.err
-          (meant id_rsaes_oaep oaep_identifier sides (oaep_in g.O.IdentifierValue.octets g.P.AnyValue.any p) bytes
-          (moved OaepAlgorithmEncoding (sym (oaep_held g.met.O.HoldsIdentifier.is_oid g.met.P.HoldsTagged.is_tagged p)) e)),
+      none_written RsaOaepAlgorithm OaepAlgorithmEncoding (meant id_rsaes_oaep oaep_identifier sides) _ held _ _ c.in-Err.ensures.err,
     )

@@ -1,8 +1,6 @@
-use Rattle.std.proofs.Common.{sym}
-use Rattle.pkcs1_params.specs.PssValue.{pss_in}
 use Rattle.pkcs1_params.specs.Algorithms.{RsaPssAlgorithm}
 use Rattle.statement.specs.Statement.{id_rsassa_pss, PssAlgorithmEncoding, IsShortest}
-use Rattle.statement.proofs.Der.{none_fits, moved}
+use Rattle.statement.proofs.Der.{none_written, moved}
 use Rattle.statement.proofs.Held.{pss_held}
 use Rattle.statement.proofs.Identified.{shortest, meant, pss_identifier}
 use Rattle.statement.proofs.Pss.{sides}
@@ -10,18 +8,15 @@ use Rattle.statement.proofs.identifiers.write_pss_algorithm.Goals as goal
 
 pub returns-in-Ok : goal.returns-in-Ok
 returns-in-Ok g c =
-    let p = c.args.params.now in (
+    let held = pss_held g.met.O.HoldsIdentifier.is_oid g.met.P.HoldsTagged.is_tagged c.args.params.now in (
       c.in-Ok.ensures.rest.0,
-      moved (IsShortest PssAlgorithmEncoding) (pss_held g.met.O.HoldsIdentifier.is_oid g.met.P.HoldsTagged.is_tagged p)
-          (shortest id_rsassa_pss pss_identifier sides (pss_in g.O.IdentifierValue.octets g.P.AnyValue.any p) _ c.in-Ok.ensures.shortest.0),
+      moved (IsShortest PssAlgorithmEncoding) held (shortest id_rsassa_pss pss_identifier sides _ _ c.in-Ok.ensures.shortest.0),
       c.in-Ok.ensures.rest.1,
     )
 
 pub returns-in-Err : goal.returns-in-Err
 returns-in-Err g c =
-    let p = c.args.params.now in (
+    let held = pss_held g.met.O.HoldsIdentifier.is_oid g.met.P.HoldsTagged.is_tagged c.args.params.now in (
       c.in-Err.ensures.unchanged,
-      λ bytes e. none_fits RsaPssAlgorithm (pss_in g.O.IdentifierValue.octets g.P.AnyValue.any p) _ _ bytes c.in-Err.ensures.err
-          (meant id_rsassa_pss pss_identifier sides (pss_in g.O.IdentifierValue.octets g.P.AnyValue.any p) bytes
-          (moved PssAlgorithmEncoding (sym (pss_held g.met.O.HoldsIdentifier.is_oid g.met.P.HoldsTagged.is_tagged p)) e)),
+      none_written RsaPssAlgorithm PssAlgorithmEncoding (meant id_rsassa_pss pss_identifier sides) _ held _ _ c.in-Err.ensures.err,
     )

@@ -5,7 +5,8 @@ use Rattle.statement.proofs.named.slice_of_pss_params_under.Goals as goal
 
 pub encode_spelling-requires : goal.encode_spelling-requires
 encode_spelling-requires g c =
-    let held = pss_held g.met.O.HoldsIdentifier.is_oid g.met.P.HoldsTagged.is_tagged c.args.params.now in mask_there sides _ held c.args.mask c.requires
+    let held = pss_held g.met.O.HoldsIdentifier.is_oid g.met.P.HoldsTagged.is_tagged c.args.params.now in
+    mask_there sides _ held c.args.mask c.requires
 
 pub returns-in-Ok-clause-some : goal.returns-in-Ok-clause-some
 returns-in-Ok-clause-some g c =

@@ -5,7 +5,8 @@ use Rattle.statement.proofs.named.write_pss_params_under.Goals as goal
 
 pub encode_spelling_into-requires : goal.encode_spelling_into-requires
 encode_spelling_into-requires g c =
-    let held = pss_held g.met.O.HoldsIdentifier.is_oid g.met.P.HoldsTagged.is_tagged c.args.params.now in mask_there sides _ held c.args.mask c.requires
+    let held = pss_held g.met.O.HoldsIdentifier.is_oid g.met.P.HoldsTagged.is_tagged c.args.params.now in
+    mask_there sides _ held c.args.mask c.requires
 
 pub returns-in-Ok : goal.returns-in-Ok
 returns-in-Ok g c =
