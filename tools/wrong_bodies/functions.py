@@ -107,7 +107,7 @@ def words(type_, parameters):
     """A type in the prover's words: `&'a [u8]` is RefSliceU8. Parameters and lifetimes are left out."""
     found = re.findall(r"&\s*mut\b|&|\[|(?<!')\b\w+\b(?!::)", type_)
     named = {"&": "Ref", "[": "Array" if ";" in type_ else "Slice", "_": "", "dyn": ""} | dict.fromkeys(parameters, "")
-    tuple_ = f"Tuple{len(split(type_[1:-1]))}" if type_.startswith("(") else ""
+    tuple_ = "Unit" if type_ == "()" else f"Tuple{len(split(type_[1:-1]))}" if type_.startswith("(") else ""
     return tuple_ + "".join("RefMut" if it.endswith("mut") else named.get(it, it[0].upper() + it[1:]) for it in found)
 
 
