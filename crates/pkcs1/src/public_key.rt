@@ -5,9 +5,9 @@ ghost use Rattle.pkcs1.specs.Words.{PublicKey, PublicKeyContents, HasPublicKey, 
 ghost use Rattle.pkcs1.specs.Words.{public_key_with, public_key_of, public_key_means_one};
 
 use der_core::{
-    AsUintRef, BackWriter, Borrowed, Contents, Decode, Encode, EncodeInParts, EncodeValue, Encoding,
-    EqualByValue, InParts, Length, NoMemory, Sequence, SequenceTag, TaggedBy, TryClone, Uint,
-    UintRef, Writer,
+    AsUintRef, BackWriter, Borrowed, Contents, Decode, Encode, EncodeInParts, EncodeValue,
+    Encoding, EqualByValue, InParts, Length, NoMemory, Sequence, SequenceTag, TaggedBy, TryClone,
+    Uint, UintRef, Writer,
 };
 use pkcs1_params::{Error, Result};
 use std::alloc::Global;
@@ -74,15 +74,27 @@ impl<U: Encoding> InParts for RsaPublicKey<U> {
 
 impl<U: Encode> EncodeInParts for RsaPublicKey<U> {
     fn parts_len(&self) -> der_core::Result<Length> {
-        (Borrowed(&self.modulus), (Borrowed(&self.public_exponent), ())).value_len()
+        (
+            Borrowed(&self.modulus),
+            (Borrowed(&self.public_exponent), ()),
+        )
+            .value_len()
     }
 
     fn append_parts<W: Writer>(&self, writer: &mut W) -> der_core::Result<()> {
-        (Borrowed(&self.modulus), (Borrowed(&self.public_exponent), ())).append_value(writer)
+        (
+            Borrowed(&self.modulus),
+            (Borrowed(&self.public_exponent), ()),
+        )
+            .append_value(writer)
     }
 
     fn prepend_parts(&self, writer: &mut BackWriter<'_>) {
-        (Borrowed(&self.modulus), (Borrowed(&self.public_exponent), ())).prepend_value(writer);
+        (
+            Borrowed(&self.modulus),
+            (Borrowed(&self.public_exponent), ()),
+        )
+            .prepend_value(writer);
     }
 }
 

@@ -99,7 +99,9 @@ impl<'a, M: Memory, O: ReadIdentifier<'a>, P: Decode<&'a [u8], M>> DecodeValue<&
         reader: &mut R,
         _header: Header,
     ) -> Result<AlgorithmIdentifierOf<O, P>> {
-        let (oid, Last(parameters)) = <(IdentifierView<'a>, Last<P>)>::decode_parts(memory, reader)?;
+        let (oid, Last(parameters)) = <(IdentifierView<'a>, Last<P>)>::decode_parts(
+            memory, reader,
+        )?;
         Ok(O::keep(AlgorithmView { oid, parameters }))
     }
 

@@ -8,9 +8,9 @@ ghost use Rattle.pkcs1.specs.Words.{other_of, others_of, ListsNone, number_of};
 
 use crate::version::Version;
 use der_core::{
-    BackWriter, Borrowed, Contents, Decode, Encode, EncodeInParts, EncodeValue, Encoding, ErrorKind,
-    InParts, Length, Reader, Result, Sequence, SequenceTag, Tag, TaggedBy, TryClone, Writer,
-    decode_optional,
+    BackWriter, Borrowed, Contents, Decode, Encode, EncodeInParts, EncodeValue, Encoding,
+    ErrorKind, InParts, Length, Reader, Result, Sequence, SequenceTag, Tag, TaggedBy, TryClone,
+    Writer, decode_optional,
 };
 use std::alloc::{AllocError, Global};
 
@@ -109,17 +109,29 @@ impl<U: Encoding> InParts for OtherPrimeInfo<U> {
 impl<U: Encode> EncodeInParts for OtherPrimeInfo<U> {
     fn parts_len(&self) -> Result<Length> {
         let coefficient = (Borrowed(&self.coefficient), ());
-        (Borrowed(&self.prime), (Borrowed(&self.exponent), coefficient)).value_len()
+        (
+            Borrowed(&self.prime),
+            (Borrowed(&self.exponent), coefficient),
+        )
+            .value_len()
     }
 
     fn append_parts<W: Writer>(&self, writer: &mut W) -> Result<()> {
         let coefficient = (Borrowed(&self.coefficient), ());
-        (Borrowed(&self.prime), (Borrowed(&self.exponent), coefficient)).append_value(writer)
+        (
+            Borrowed(&self.prime),
+            (Borrowed(&self.exponent), coefficient),
+        )
+            .append_value(writer)
     }
 
     fn prepend_parts(&self, writer: &mut BackWriter<'_>) {
         let coefficient = (Borrowed(&self.coefficient), ());
-        (Borrowed(&self.prime), (Borrowed(&self.exponent), coefficient)).prepend_value(writer);
+        (
+            Borrowed(&self.prime),
+            (Borrowed(&self.exponent), coefficient),
+        )
+            .prepend_value(writer);
     }
 }
 
