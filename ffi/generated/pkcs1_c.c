@@ -67,7 +67,7 @@ static const unsigned char f_static_25[9] = {42, 134, 72, 134, 247, 13, 1, 1, 8}
 static const unsigned char f_static_26[9] = {42, 134, 72, 134, 247, 13, 1, 1, 1};
 static const unsigned char f_static_27[9] = {42, 134, 72, 134, 247, 13, 1, 1, 10};
 static const u64 f_switch_table_pkcs1_c_status_text[22] = {9u, 23u, 72u, 47u, 57u, 98u, 92u, 102u, 47u, 52u, 101u, 90u, 70u, 102u, 99u, 42u, 25u, 20u, 14u, 14u, 14u, 49u};
-static const P f_switch_table_pkcs1_c_status_text_177[22] = {(P)f_static_2, (P)f_static_3, (P)f_static_4, (P)f_static_5, (P)f_static_6, (P)f_static_7, (P)f_static_8, (P)f_static_9, (P)f_static_10, (P)f_static_11, (P)f_static_12, (P)f_static_13, (P)f_static_14, (P)f_static_15, (P)f_static_16, (P)f_static_17, (P)f_static_18, (P)f_static_19, (P)f_static_21, (P)f_static_21, (P)f_static_21, (P)f_static_20};
+static const P f_switch_table_pkcs1_c_status_text_181[22] = {(P)f_static_2, (P)f_static_3, (P)f_static_4, (P)f_static_5, (P)f_static_6, (P)f_static_7, (P)f_static_8, (P)f_static_9, (P)f_static_10, (P)f_static_11, (P)f_static_12, (P)f_static_13, (P)f_static_14, (P)f_static_15, (P)f_static_16, (P)f_static_17, (P)f_static_18, (P)f_static_19, (P)f_static_21, (P)f_static_21, (P)f_static_21, (P)f_static_20};
 static u1 f_core_cmp_slices_groups_equal_i8_31_core_cmp_number(P v_a0, u64 v_a1, P v_a2);
 static void f_pkcs1_params_algorithm_AnyFromAlgorithm_from_algor(P v_a0, P v_a1, u64 v_a2);
 static u1 f_spki_core_object_identifier_is_identifier(P v_a0, u64 v_a1);
@@ -10987,58 +10987,58 @@ static void f_pkcs1_view_RsaPrivateKeyViewTryFromRefSliceU8_try_(P v_a0, P v_a1,
     ALIGNED(4) unsigned char m_v_r0_i19_sroa_27_i_i_sroa_0_i[20];
     ALIGNED(4) unsigned char m_v_r17_sroa_9_i_sroa_0_i_i[20];
     ALIGNED(8) unsigned char m_v_r7_sroa_20_sroa_0_i_i[16];
-    ALIGNED(8) unsigned char m_v_r21_sroa_28_i[16];
-    ALIGNED(8) unsigned char m_v_r30_i23_sroa_41[16];
+    ALIGNED(8) unsigned char m_v_r17_sroa_28_i[16];
+    ALIGNED(8) unsigned char m_v_r30_i23_sroa_36[16];
     ALIGNED(4) unsigned char m_v_r0_i1_sroa_27_sroa_89[16];
     ALIGNED(4) unsigned char m_v_r15_i_sroa_11_sroa_21[16];
     ALIGNED(4) unsigned char m_v_r7_sroa_21_sroa_70[16];
-    u8 p_v_r4_i20_i_sroa_6_01002;
-    u64 p_v_r4_i_sroa_12_21058;
-    P p_v_r4_i_sroa_0_21056;
+    u8 p_v_r4_i20_i_sroa_6_0976;
+    u64 p_v_r4_i_sroa_12_21032;
+    P p_v_r4_i_sroa_0_21030;
     u64 p_v_r12_sroa_10_0_i;
-    P p_v_r13_sroa_0_0_copyload_i_i183_i;
-    u64 p_v_r36_i_i180_i;
+    P p_v_r13_sroa_0_0_copyload_i_i870_i;
+    u64 p_v_r36_i_i867_i;
     u32 p_v_r12_sroa_10_0_i_i;
-    P p_v_r13_sroa_0_0_copyload_i_i3090_i_i;
-    u64 p_v_r36_i_i3087_i_i;
+    P p_v_r13_sroa_0_0_copyload_i_i1185_i;
+    u64 p_v_r36_i_i1182_i;
+    u32 p_v_r12_sroa_10_0_i1120_i;
+    P p_v_r12_sroa_10_i1273_sroa_3_0_ph_i;
+    u64 p_v_r12_sroa_10_i1273_sroa_5_0_ph_i;
+    P p_v_r13_sroa_0_0_copyload_i_i1522_i;
+    u64 p_v_r36_i_i1519_i;
+    u32 p_v_r12_sroa_10_0_i1457_i;
+    P p_v_r12_sroa_10_i1625_sroa_3_0_ph_i;
+    u64 p_v_r12_sroa_10_i1625_sroa_5_0_ph_i;
+    P p_v_r13_sroa_0_0_copyload_i_i2197_i_i;
+    u64 p_v_r36_i_i2194_i_i;
     u32 p_v_r12_sroa_10_0_i_i_i;
-    u64 p_v_r12_sroa_10_i3170_sroa_5_0_ph_i_i;
-    P p_v_r12_sroa_10_i3170_sroa_3_0_ph_i_i;
-    P p_v_r13_sroa_0_0_copyload_i_i3419_i_i;
-    u64 p_v_r36_i_i3416_i_i;
-    u32 p_v_r12_sroa_10_0_i3354_i_i;
-    u64 p_v_r12_sroa_10_i3522_sroa_5_0_ph_i_i;
-    P p_v_r12_sroa_10_i3522_sroa_3_0_ph_i_i;
-    P p_v_r13_sroa_0_0_copyload_i_i3778_i_i;
-    u64 p_v_r36_i_i3775_i_i;
-    u32 p_v_r12_sroa_10_0_i3713_i_i;
-    u64 p_v_r12_sroa_10_i3881_sroa_5_0_ph_i_i;
-    P p_v_r12_sroa_10_i3881_sroa_3_0_ph_i_i;
-    P p_v_r13_sroa_0_0_copyload_i_i4137_i_i;
-    u64 p_v_r36_i_i4134_i_i;
-    u32 p_v_r12_sroa_10_0_i4072_i_i;
-    u64 p_v_r12_sroa_10_i4240_sroa_5_0_ph_i_i;
-    P p_v_r12_sroa_10_i4240_sroa_3_0_ph_i_i;
-    P p_v_r13_sroa_0_0_copyload_i_i4496_i_i;
-    u64 p_v_r36_i_i4493_i_i;
-    u32 p_v_r12_sroa_10_0_i4431_i_i;
-    u64 p_v_r12_sroa_10_i4599_sroa_5_0_ph_i_i;
-    P p_v_r12_sroa_10_i4599_sroa_3_0_ph_i_i;
-    P p_v_r13_sroa_0_0_copyload_i_i4855_i_i;
-    u64 p_v_r36_i_i4852_i_i;
-    u32 p_v_r12_sroa_10_0_i4790_i_i;
-    u64 p_v_r12_sroa_10_i4958_sroa_5_0_ph_i_i;
-    P p_v_r12_sroa_10_i4958_sroa_3_0_ph_i_i;
-    P p_v_r13_sroa_0_0_copyload_i_i5214_i_i;
-    u64 p_v_r36_i_i5211_i_i;
-    u32 p_v_r12_sroa_10_0_i5149_i_i;
-    u64 p_v_r12_sroa_10_i5317_sroa_5_0_ph_i_i;
-    P p_v_r12_sroa_10_i5317_sroa_3_0_ph_i_i;
-    P p_v_r13_sroa_0_0_copyload_i_i5573_i_i;
-    u64 p_v_r36_i_i5570_i_i;
-    u32 p_v_r12_sroa_10_0_i5508_i_i;
-    u64 p_v_r12_sroa_10_i5676_sroa_5_0_ph_i_i;
-    P p_v_r12_sroa_10_i5676_sroa_3_0_ph_i_i;
+    P p_v_r12_sroa_10_i2279_sroa_3_0_ph_i_i;
+    u64 p_v_r12_sroa_10_i2279_sroa_5_0_ph_i_i;
+    P p_v_r13_sroa_0_0_copyload_i_i2528_i_i;
+    u64 p_v_r36_i_i2525_i_i;
+    u32 p_v_r12_sroa_10_0_i2463_i_i;
+    P p_v_r12_sroa_10_i2631_sroa_3_0_ph_i_i;
+    u64 p_v_r12_sroa_10_i2631_sroa_5_0_ph_i_i;
+    P p_v_r13_sroa_0_0_copyload_i_i2881_i_i;
+    u64 p_v_r36_i_i2878_i_i;
+    u32 p_v_r12_sroa_10_0_i2816_i_i;
+    P p_v_r12_sroa_10_i2984_sroa_3_0_ph_i_i;
+    u64 p_v_r12_sroa_10_i2984_sroa_5_0_ph_i_i;
+    P p_v_r13_sroa_0_0_copyload_i_i3234_i_i;
+    u64 p_v_r36_i_i3231_i_i;
+    u32 p_v_r12_sroa_10_0_i3169_i_i;
+    P p_v_r12_sroa_10_i3337_sroa_3_0_ph_i_i;
+    u64 p_v_r12_sroa_10_i3337_sroa_5_0_ph_i_i;
+    P p_v_r13_sroa_0_0_copyload_i_i3587_i_i;
+    u64 p_v_r36_i_i3584_i_i;
+    u32 p_v_r12_sroa_10_0_i3522_i_i;
+    P p_v_r12_sroa_10_i3690_sroa_3_0_ph_i_i;
+    u64 p_v_r12_sroa_10_i3690_sroa_5_0_ph_i_i;
+    P p_v_r13_sroa_0_0_copyload_i_i3940_i_i;
+    u64 p_v_r36_i_i3937_i_i;
+    u32 p_v_r12_sroa_10_0_i3875_i_i;
+    P p_v_r12_sroa_10_i1786_sroa_18_0_ph_i;
+    u64 p_v_r12_sroa_10_i1786_sroa_19_0_ph_i;
     P p_v_r13_sroa_0_0_copyload_i_i333_i_i_i;
     u64 p_v_r36_i_i330_i_i_i;
     u32 p_v_r12_sroa_10_0_i_i_i_i;
@@ -11049,12 +11049,12 @@ static void f_pkcs1_view_RsaPrivateKeyViewTryFromRefSliceU8_try_(P v_a0, P v_a1,
     u8 p_v_r0_i19_sroa_9_0_ph_i_i_i;
     u8 p_v_r0_i19_sroa_15_0_ph_i_i_i;
     u8 p_v_r0_i19_sroa_21_0_ph_i_i_i;
-    u8 p_v_r21_sroa_0_sroa_7_0_ph_i;
-    u8 p_v_r21_sroa_0_sroa_12_0_ph_i;
-    u8 p_v_r21_sroa_0_sroa_17_0_ph_i;
-    u8 p_v_r30_i23_sroa_0_sroa_8_0_ph;
-    u8 p_v_r30_i23_sroa_0_sroa_12_0_ph;
-    u8 p_v_r30_i23_sroa_0_sroa_16_0_ph;
+    u8 p_v_r17_sroa_0_sroa_7_0_ph_i;
+    u8 p_v_r17_sroa_0_sroa_12_0_ph_i;
+    u8 p_v_r17_sroa_0_sroa_17_0_ph_i;
+    u8 p_v_r30_i23_sroa_0_sroa_7_0_ph;
+    u8 p_v_r30_i23_sroa_0_sroa_10_0_ph;
+    u8 p_v_r30_i23_sroa_0_sroa_13_0_ph;
     u8 p_v_r0_i1_sroa_9_0_ph;
     u8 p_v_r0_i1_sroa_15_0_ph;
     u8 p_v_r0_i1_sroa_21_0_ph;
@@ -11066,8 +11066,8 @@ static void f_pkcs1_view_RsaPrivateKeyViewTryFromRefSliceU8_try_(P v_a0, P v_a1,
     P v_r0_i19_sroa_27_i_i_sroa_0_i;
     P v_r17_sroa_9_i_sroa_0_i_i;
     P v_r7_sroa_20_sroa_0_i_i;
-    P v_r21_sroa_28_i;
-    P v_r30_i23_sroa_41;
+    P v_r17_sroa_28_i;
+    P v_r30_i23_sroa_36;
     P v_r0_i1_sroa_27_sroa_89;
     P v_r15_i_sroa_11_sroa_21;
     P v_r7_sroa_21_sroa_70;
@@ -11081,7 +11081,7 @@ static void f_pkcs1_view_RsaPrivateKeyViewTryFromRefSliceU8_try_(P v_a0, P v_a1,
     u8 v_0;
     u1 v_1;
     u1 v_r2_0_in_i_not;
-    u8 v_r4_i20_i_sroa_6_01002;
+    u8 v_r4_i20_i_sroa_6_0976;
     u1 v_r39_i_i104;
     P v_r16_i_i_i107;
     u64 v_r19_i_i_i108;
@@ -11136,37 +11136,37 @@ static void f_pkcs1_view_RsaPrivateKeyViewTryFromRefSliceU8_try_(P v_a0, P v_a1,
     u8 v_r177_i_i;
     u64 v_r179_i_i;
     u64 v_r182_i_i;
-    u64 v_r4_i_sroa_12_21058;
-    P v_r4_i_sroa_0_21056;
+    u64 v_r4_i_sroa_12_21032;
+    P v_r4_i_sroa_0_21030;
     u64 v_r12_sroa_10_0_i;
     u1 v_r7_i_i_i_not;
     u1 v_r39_i_i266;
-    u1 v_r39_i_i13_i;
-    P v_r16_i_i_i_i;
-    u8 v_r29_i15_i;
+    u1 v_r39_i_i682_i;
+    P v_r16_i_i_i684_i;
+    u8 v_r29_i686_i;
     u1 v_r8_i23_i_i;
-    u8 v_r9_i23_i;
-    u1 v_r11_i24_i;
+    u8 v_r9_i697_i;
+    u1 v_r11_i698_i;
     u8 v_2;
     u1 v_3;
     u1 v_r2_0_in_i_not_i;
-    u1 v_r39_i_i35_i;
-    P v_r16_i_i_i38_i;
-    u64 v_r19_i_i_i39_i;
-    u8 v_r29_i40_i;
+    u1 v_r39_i_i714_i;
+    P v_r16_i_i_i717_i;
+    u64 v_r19_i_i_i718_i;
+    u8 v_r29_i719_i;
     u1 v_r51_i63_i_i;
     u32 v_r56_i74_i_i;
     u1 v_r68_i65_i_i;
     u1 v_r87_i_i_i;
     u8 v_r106_i_i_i;
     u64 v_r3_i25_i_i304;
-    u1 v_r39_i80_i;
-    P v_r16_i_i82_i;
-    u64 v_r19_i_i83_i;
-    u8 v_r36_i103_i;
-    u1 v_r38_i_i322;
-    u8 v_r28_i_i305;
-    u1 v_r30_i101_i;
+    u1 v_r39_i762_i;
+    P v_r16_i_i764_i;
+    u64 v_r19_i_i765_i;
+    u8 v_r36_i788_i;
+    u1 v_r38_i789_i;
+    u8 v_r28_i785_i;
+    u1 v_r30_i786_i;
     u32 v_r71_i_i_i;
     u1 v_r74_i84_i_i;
     P v_r81_i108_i_i;
@@ -11204,57 +11204,57 @@ static void f_pkcs1_view_RsaPrivateKeyViewTryFromRefSliceU8_try_(P v_a0, P v_a1,
     u8 v_r177_i_i_i;
     u32 v_r179_i_i_i;
     u32 v_r182_i_i_i;
-    P v_r13_sroa_0_0_copyload_i_i183_i;
-    u64 v_r36_i_i180_i;
+    P v_r13_sroa_0_0_copyload_i_i870_i;
+    u64 v_r36_i_i867_i;
     u32 v_r12_sroa_10_0_i_i;
     u64 v_r3_i25_i_i_i;
-    u1 v_r39_i_i181_i;
-    P v_r16_i_i_i184_i;
-    u64 v_r19_i_i_i185_i;
+    u1 v_r39_i_i868_i;
+    P v_r16_i_i_i871_i;
+    u64 v_r19_i_i_i872_i;
     u1 v_r7_i_i_i_i_i;
-    u8 v_r60_i_i_i_i;
-    u1 v_r62_i_i_i_i;
-    u1 v_r74_i_i_i_i;
+    u8 v_r60_i_i_i907_i;
+    u1 v_r62_i_i_i908_i;
+    u1 v_r74_i_i_i909_i;
     u1 v_cond_i_i_i_i;
     u1 v_or_cond_i_i_i_i;
-    P v_r84_i_i_i_i;
-    u8 v_r87_i_i_i_i;
-    u1 v_r89_i_i_i_i;
+    P v_r84_i_i_i918_i;
+    u8 v_r87_i_i_i919_i;
+    u1 v_r89_i_i_i920_i;
     u8 v_spec_select_i;
-    u1 v_r42_i_i221_i;
+    u1 v_r42_i_i911_i;
     u1 v_switch_i;
     u1 v_or_cond_i;
-    u1 v_r39_i_i2918_i_i;
-    P v_r16_i_i_i_i_i;
-    u8 v_r29_i2920_i_i;
+    u1 v_r39_i_i954_i;
+    P v_r16_i_i_i957_i;
+    u8 v_r29_i959_i;
     u1 v_r8_i22_i_i_i;
-    u8 v_r9_i2929_i_i;
-    u1 v_r11_i2930_i_i;
+    u8 v_r9_i981_i;
+    u1 v_r11_i982_i;
     u8 v_4;
     u1 v_5;
-    u1 v_r2_0_in_i_not_i_i;
-    u1 v_r39_i_i2941_i_i;
-    P v_r16_i_i_i2944_i_i;
-    u64 v_r19_i_i_i2945_i_i;
-    u8 v_r29_i2946_i_i;
+    u1 v_r2_0_in_i983_not_i;
+    u1 v_r39_i_i1002_i;
+    P v_r16_i_i_i1005_i;
+    u64 v_r19_i_i_i1006_i;
+    u8 v_r29_i1007_i;
     u1 v_r51_i62_i_i_i;
     u32 v_r56_i73_i_i_i;
     u1 v_r68_i64_i_i_i;
-    u1 v_r87_i_i_i254_i;
+    u1 v_r87_i_i_i_i;
     u8 v_r106_i_i_i_i;
-    u64 v_r3_i25_i_i256_i;
-    u1 v_r39_i2986_i_i;
-    P v_r16_i_i2988_i_i;
-    u64 v_r19_i_i2989_i_i;
-    u8 v_r36_i3009_i_i;
-    u1 v_r38_i_i270_i;
-    u8 v_r28_i_i257_i;
-    u1 v_r30_i3007_i_i;
+    u64 v_r3_i25_i1049_i;
+    u1 v_r39_i1052_i;
+    P v_r16_i_i1056_i;
+    u64 v_r19_i_i1057_i;
+    u8 v_r36_i1094_i;
+    u1 v_r38_i1095_i;
+    u8 v_r28_i1090_i;
+    u1 v_r30_i1091_i;
     u32 v_r71_i_i_i_i;
     u1 v_r74_i83_i_i_i;
     P v_r81_i107_i_i_i;
     u32 v_r87_i109_i_i_i;
-    u32 v_r89_i_i_i271_i;
+    u32 v_r89_i_i_i_i;
     u8 v_r91_i_i_i_i;
     u32 v_r93_i110_i_i_i;
     u32 v_r96_i111_i_i_i;
@@ -11287,627 +11287,215 @@ static void f_pkcs1_view_RsaPrivateKeyViewTryFromRefSliceU8_try_(P v_a0, P v_a1,
     u8 v_r177_i_i_i_i;
     u32 v_r179_i_i_i_i;
     u32 v_r182_i_i_i_i;
-    P v_r13_sroa_0_0_copyload_i_i3090_i_i;
-    u64 v_r36_i_i3087_i_i;
-    u32 v_r12_sroa_10_0_i_i_i;
-    u64 v_r3_i25_i_i_i_i;
-    u1 v_r39_i_i3088_i_i;
-    P v_r16_i_i_i3091_i_i;
-    u64 v_r19_i_i_i3092_i_i;
-    u1 v_r7_i_i_i3131_i_i;
-    u8 v_r60_i_i3132_i_i;
-    u1 v_r62_i_i3133_i_i;
-    u1 v_r74_i_i3134_i_i;
-    u1 v_cond_i_i_i261_i;
-    u1 v_or_cond_i_i_i262_i;
-    P v_r84_i_i3139_i_i;
-    u8 v_r87_i_i3140_i_i;
-    u1 v_r89_i_i3141_i_i;
-    u64 v_r103_i_i3142_i_i;
-    u64 v_r12_sroa_10_i3170_sroa_5_0_ph_i_i;
-    P v_r12_sroa_10_i3170_sroa_3_0_ph_i_i;
-    u1 v_r39_i_i3188_i_i;
-    P v_r16_i_i_i3191_i_i;
-    u8 v_r29_i3193_i_i;
-    u1 v_r8_i22_i277_i_i;
-    u8 v_r9_i3215_i_i;
-    u1 v_r11_i3216_i_i;
+    P v_r13_sroa_0_0_copyload_i_i1185_i;
+    u64 v_r36_i_i1182_i;
+    u32 v_r12_sroa_10_0_i1120_i;
+    u64 v_r3_i25_i_i1180_i;
+    u1 v_r39_i_i1183_i;
+    P v_r16_i_i_i1186_i;
+    u64 v_r19_i_i_i1187_i;
+    u1 v_r7_i_i_i1231_i;
+    u8 v_r60_i_i1232_i;
+    u1 v_r62_i_i1233_i;
+    u1 v_r74_i_i1234_i;
+    u1 v_cond_i_i_i;
+    u1 v_or_cond_i_i_i;
+    P v_r84_i_i1240_i;
+    u8 v_r87_i_i1241_i;
+    u1 v_r89_i_i1242_i;
+    u64 v_r103_i_i1243_i;
+    P v_r12_sroa_10_i1273_sroa_3_0_ph_i;
+    u64 v_r12_sroa_10_i1273_sroa_5_0_ph_i;
+    u1 v_r39_i_i1291_i;
+    P v_r16_i_i_i1294_i;
+    u8 v_r29_i1296_i;
+    u1 v_r8_i22_i_i424_i;
+    u8 v_r9_i1318_i;
+    u1 v_r11_i1319_i;
     u8 v_6;
     u1 v_7;
-    u1 v_r2_0_in_i3217_not_i_i;
-    u1 v_r39_i_i3236_i_i;
-    P v_r16_i_i_i3239_i_i;
-    u64 v_r19_i_i_i3240_i_i;
-    u8 v_r29_i3241_i_i;
-    u1 v_r51_i62_i367_i_i;
-    u32 v_r56_i73_i496_i_i;
-    u1 v_r68_i64_i369_i_i;
-    u1 v_r87_i_i371_i_i;
-    u8 v_r106_i_i373_i_i;
-    u64 v_r3_i25_i3283_i_i;
-    u1 v_r39_i3286_i_i;
-    P v_r16_i_i3290_i_i;
-    u64 v_r19_i_i3291_i_i;
-    u8 v_r36_i3328_i_i;
-    u1 v_r38_i3329_i_i;
-    u8 v_r28_i3324_i_i;
-    u1 v_r30_i3325_i_i;
-    u32 v_r71_i_i399_i_i;
-    u1 v_r74_i83_i411_i_i;
-    P v_r81_i107_i449_i_i;
-    u32 v_r87_i109_i451_i_i;
-    u32 v_r89_i_i452_i_i;
-    u8 v_r91_i_i453_i_i;
-    u32 v_r93_i110_i454_i_i;
-    u32 v_r96_i111_i455_i_i;
-    u1 v_r99_i85_i413_i_i;
-    P v_r106_i96_i436_i_i;
-    P v_r108_i97_i437_i_i;
-    u32 v_r115_i99_i439_i_i;
-    u32 v_r117_i100_i440_i_i;
-    u8 v_r119_i101_i441_i_i;
-    u32 v_r121_i102_i442_i_i;
-    u32 v_r123_i103_i443_i_i;
-    u32 v_r126_i104_i444_i_i;
-    u8 v_r128_i_i445_i_i;
-    u32 v_r130_i105_i446_i_i;
-    u32 v_r133_i_i447_i_i;
-    u1 v_r136_i87_i415_i_i;
-    P v_r143_i88_i418_i_i;
-    P v_r145_i89_i419_i_i;
-    P v_r147_i90_i420_i_i;
-    u32 v_r155_i92_i422_i_i;
-    u32 v_r157_i93_i423_i_i;
-    u8 v_r159_i94_i424_i_i;
-    u32 v_r161_i_i425_i_i;
-    u32 v_r163_i_i426_i_i;
-    u32 v_r166_i_i427_i_i;
-    u8 v_r168_i_i428_i_i;
-    u32 v_r170_i_i429_i_i;
-    u32 v_r172_i_i430_i_i;
-    u32 v_r175_i_i431_i_i;
-    u8 v_r177_i_i432_i_i;
-    u32 v_r179_i_i433_i_i;
-    u32 v_r182_i_i434_i_i;
-    P v_r13_sroa_0_0_copyload_i_i3419_i_i;
-    u64 v_r36_i_i3416_i_i;
-    u32 v_r12_sroa_10_0_i3354_i_i;
-    u64 v_r3_i25_i_i3414_i_i;
-    u1 v_r39_i_i3417_i_i;
-    P v_r16_i_i_i3420_i_i;
-    u64 v_r19_i_i_i3421_i_i;
-    u1 v_r7_i_i_i3465_i_i;
-    u8 v_r60_i_i3467_i_i;
-    u1 v_r62_i_i3468_i_i;
-    u1 v_r74_i_i3470_i_i;
-    u1 v_cond_i_i3471_i_i;
-    u1 v_or_cond_i_i3472_i_i;
-    P v_r84_i_i3485_i_i;
-    u8 v_r87_i_i3486_i_i;
-    u1 v_r89_i_i3487_i_i;
-    u64 v_r103_i_i3489_i_i;
-    u64 v_r12_sroa_10_i3522_sroa_5_0_ph_i_i;
-    P v_r12_sroa_10_i3522_sroa_3_0_ph_i_i;
-    u1 v_r39_i_i3547_i_i;
-    P v_r16_i_i_i3550_i_i;
-    u8 v_r29_i3552_i_i;
-    u1 v_r8_i22_i678_i_i;
-    u8 v_r9_i3574_i_i;
-    u1 v_r11_i3575_i_i;
+    u1 v_r2_0_in_i1320_not_i;
+    u1 v_r39_i_i1339_i;
+    P v_r16_i_i_i1342_i;
+    u64 v_r19_i_i_i1343_i;
+    u8 v_r29_i1344_i;
+    u1 v_r51_i62_i_i514_i;
+    u32 v_r56_i73_i_i643_i;
+    u1 v_r68_i64_i_i516_i;
+    u1 v_r87_i_i_i518_i;
+    u8 v_r106_i_i_i520_i;
+    u64 v_r3_i25_i1386_i;
+    u1 v_r39_i1389_i;
+    P v_r16_i_i1393_i;
+    u64 v_r19_i_i1394_i;
+    u8 v_r36_i1431_i;
+    u1 v_r38_i1432_i;
+    u8 v_r28_i1427_i;
+    u1 v_r30_i1428_i;
+    u32 v_r71_i_i_i546_i;
+    u1 v_r74_i83_i_i558_i;
+    P v_r81_i107_i_i596_i;
+    u32 v_r87_i109_i_i598_i;
+    u32 v_r89_i_i_i599_i;
+    u8 v_r91_i_i_i600_i;
+    u32 v_r93_i110_i_i601_i;
+    u32 v_r96_i111_i_i602_i;
+    u1 v_r99_i85_i_i560_i;
+    P v_r106_i96_i_i583_i;
+    P v_r108_i97_i_i584_i;
+    u32 v_r115_i99_i_i586_i;
+    u32 v_r117_i100_i_i587_i;
+    u8 v_r119_i101_i_i588_i;
+    u32 v_r121_i102_i_i589_i;
+    u32 v_r123_i103_i_i590_i;
+    u32 v_r126_i104_i_i591_i;
+    u8 v_r128_i_i_i592_i;
+    u32 v_r130_i105_i_i593_i;
+    u32 v_r133_i_i_i594_i;
+    u1 v_r136_i87_i_i562_i;
+    P v_r143_i88_i_i565_i;
+    P v_r145_i89_i_i566_i;
+    P v_r147_i90_i_i567_i;
+    u32 v_r155_i92_i_i569_i;
+    u32 v_r157_i93_i_i570_i;
+    u8 v_r159_i94_i_i571_i;
+    u32 v_r161_i_i_i572_i;
+    u32 v_r163_i_i_i573_i;
+    u32 v_r166_i_i_i574_i;
+    u8 v_r168_i_i_i575_i;
+    u32 v_r170_i_i_i576_i;
+    u32 v_r172_i_i_i577_i;
+    u32 v_r175_i_i_i578_i;
+    u8 v_r177_i_i_i579_i;
+    u32 v_r179_i_i_i580_i;
+    u32 v_r182_i_i_i581_i;
+    P v_r13_sroa_0_0_copyload_i_i1522_i;
+    u64 v_r36_i_i1519_i;
+    u32 v_r12_sroa_10_0_i1457_i;
+    u64 v_r3_i25_i_i1517_i;
+    u1 v_r39_i_i1520_i;
+    P v_r16_i_i_i1523_i;
+    u64 v_r19_i_i_i1524_i;
+    u1 v_r7_i_i_i1568_i;
+    u8 v_r60_i_i1570_i;
+    u1 v_r62_i_i1571_i;
+    u1 v_r74_i_i1573_i;
+    u1 v_cond_i_i1574_i;
+    u1 v_or_cond_i_i1575_i;
+    P v_r84_i_i1588_i;
+    u8 v_r87_i_i1589_i;
+    u1 v_r89_i_i1590_i;
+    u64 v_r103_i_i1592_i;
+    P v_r12_sroa_10_i1625_sroa_3_0_ph_i;
+    u64 v_r12_sroa_10_i1625_sroa_5_0_ph_i;
+    u1 v_r39_i_i2009_i_i;
+    P v_r16_i_i_i2011_i_i;
+    u8 v_r29_i2013_i_i;
+    u1 v_r8_i22_i_i1639_i;
+    u8 v_r9_i2024_i_i;
+    u1 v_r11_i2025_i_i;
     u8 v_8;
     u1 v_9;
-    u1 v_r2_0_in_i3576_not_i_i;
-    u1 v_r39_i_i3595_i_i;
-    P v_r16_i_i_i3598_i_i;
-    u64 v_r19_i_i_i3599_i_i;
-    u8 v_r29_i3600_i_i;
-    u1 v_r51_i62_i768_i_i;
-    u32 v_r56_i73_i897_i_i;
-    u1 v_r68_i64_i770_i_i;
-    u1 v_r87_i_i772_i_i;
-    u8 v_r106_i_i774_i_i;
-    u64 v_r3_i25_i3642_i_i;
-    u1 v_r39_i3645_i_i;
-    P v_r16_i_i3649_i_i;
-    u64 v_r19_i_i3650_i_i;
-    u8 v_r36_i3687_i_i;
-    u1 v_r38_i3688_i_i;
-    u8 v_r28_i3683_i_i;
-    u1 v_r30_i3684_i_i;
-    u32 v_r71_i_i800_i_i;
-    u1 v_r74_i83_i812_i_i;
-    P v_r81_i107_i850_i_i;
-    u32 v_r87_i109_i852_i_i;
-    u32 v_r89_i_i853_i_i;
-    u8 v_r91_i_i854_i_i;
-    u32 v_r93_i110_i855_i_i;
-    u32 v_r96_i111_i856_i_i;
-    u1 v_r99_i85_i814_i_i;
-    P v_r106_i96_i837_i_i;
-    P v_r108_i97_i838_i_i;
-    u32 v_r115_i99_i840_i_i;
-    u32 v_r117_i100_i841_i_i;
-    u8 v_r119_i101_i842_i_i;
-    u32 v_r121_i102_i843_i_i;
-    u32 v_r123_i103_i844_i_i;
-    u32 v_r126_i104_i845_i_i;
-    u8 v_r128_i_i846_i_i;
-    u32 v_r130_i105_i847_i_i;
-    u32 v_r133_i_i848_i_i;
-    u1 v_r136_i87_i816_i_i;
-    P v_r143_i88_i819_i_i;
-    P v_r145_i89_i820_i_i;
-    P v_r147_i90_i821_i_i;
-    u32 v_r155_i92_i823_i_i;
-    u32 v_r157_i93_i824_i_i;
-    u8 v_r159_i94_i825_i_i;
-    u32 v_r161_i_i826_i_i;
-    u32 v_r163_i_i827_i_i;
-    u32 v_r166_i_i828_i_i;
-    u8 v_r168_i_i829_i_i;
-    u32 v_r170_i_i830_i_i;
-    u32 v_r172_i_i831_i_i;
-    u32 v_r175_i_i832_i_i;
-    u8 v_r177_i_i833_i_i;
-    u32 v_r179_i_i834_i_i;
-    u32 v_r182_i_i835_i_i;
-    P v_r13_sroa_0_0_copyload_i_i3778_i_i;
-    u64 v_r36_i_i3775_i_i;
-    u32 v_r12_sroa_10_0_i3713_i_i;
-    u64 v_r3_i25_i_i3773_i_i;
-    u1 v_r39_i_i3776_i_i;
-    P v_r16_i_i_i3779_i_i;
-    u64 v_r19_i_i_i3780_i_i;
-    u1 v_r7_i_i_i3824_i_i;
-    u8 v_r60_i_i3826_i_i;
-    u1 v_r62_i_i3827_i_i;
-    u1 v_r74_i_i3829_i_i;
-    u1 v_cond_i_i3830_i_i;
-    u1 v_or_cond_i_i3831_i_i;
-    P v_r84_i_i3844_i_i;
-    u8 v_r87_i_i3845_i_i;
-    u1 v_r89_i_i3846_i_i;
-    u64 v_r103_i_i3848_i_i;
-    u64 v_r12_sroa_10_i3881_sroa_5_0_ph_i_i;
-    P v_r12_sroa_10_i3881_sroa_3_0_ph_i_i;
-    u1 v_r39_i_i3906_i_i;
-    P v_r16_i_i_i3909_i_i;
-    u8 v_r29_i3911_i_i;
-    u1 v_r8_i22_i1079_i_i;
-    u8 v_r9_i3933_i_i;
-    u1 v_r11_i3934_i_i;
+    u1 v_r2_0_in_i_not_i_i;
+    u1 v_r39_i_i2041_i_i;
+    P v_r16_i_i_i2044_i_i;
+    u64 v_r19_i_i_i2045_i_i;
+    u8 v_r29_i2046_i_i;
+    u1 v_r51_i62_i_i1648_i;
+    u32 v_r56_i73_i_i1716_i;
+    u1 v_r68_i64_i_i1650_i;
+    u1 v_r87_i_i_i1652_i;
+    u8 v_r106_i_i_i1654_i;
+    u64 v_r3_i25_i_i1655_i;
+    u1 v_r39_i2088_i_i;
+    P v_r16_i_i2090_i_i;
+    u64 v_r19_i_i2091_i_i;
+    u8 v_r36_i2114_i_i;
+    u1 v_r38_i2115_i_i;
+    u8 v_r28_i2111_i_i;
+    u1 v_r30_i2112_i_i;
+    u32 v_r71_i_i_i1658_i;
+    u1 v_r74_i83_i_i1673_i;
+    P v_r81_i107_i_i1709_i;
+    u32 v_r87_i109_i_i1710_i;
+    u32 v_r89_i_i_i1711_i;
+    u8 v_r91_i_i_i1712_i;
+    u32 v_r93_i110_i_i1713_i;
+    u32 v_r96_i111_i_i1714_i;
+    u1 v_r99_i85_i_i1675_i;
+    P v_r106_i96_i_i1697_i;
+    P v_r108_i97_i_i1698_i;
+    u32 v_r115_i99_i_i1699_i;
+    u32 v_r117_i100_i_i1700_i;
+    u8 v_r119_i101_i_i1701_i;
+    u32 v_r121_i102_i_i1702_i;
+    u32 v_r123_i103_i_i1703_i;
+    u32 v_r126_i104_i_i1704_i;
+    u8 v_r128_i_i_i1705_i;
+    u32 v_r130_i105_i_i1706_i;
+    u32 v_r133_i_i_i1707_i;
+    u1 v_r136_i87_i_i1677_i;
+    P v_r143_i88_i_i1680_i;
+    P v_r145_i89_i_i1681_i;
+    P v_r147_i90_i_i1682_i;
+    u32 v_r155_i92_i_i1683_i;
+    u32 v_r157_i93_i_i1684_i;
+    u8 v_r159_i94_i_i1685_i;
+    u32 v_r161_i_i_i1686_i;
+    u32 v_r163_i_i_i1687_i;
+    u32 v_r166_i_i_i1688_i;
+    u8 v_r168_i_i_i1689_i;
+    u32 v_r170_i_i_i1690_i;
+    u32 v_r172_i_i_i1691_i;
+    u32 v_r175_i_i_i1692_i;
+    u8 v_r177_i_i_i1693_i;
+    u32 v_r179_i_i_i1694_i;
+    u32 v_r182_i_i_i1695_i;
+    P v_r13_sroa_0_0_copyload_i_i2197_i_i;
+    u64 v_r36_i_i2194_i_i;
+    u32 v_r12_sroa_10_0_i_i_i;
+    u64 v_r3_i25_i_i_i_i;
+    u1 v_r39_i_i2195_i_i;
+    P v_r16_i_i_i2198_i_i;
+    u64 v_r19_i_i_i2199_i_i;
+    u1 v_r7_i_i_i2238_i_i;
+    u8 v_r60_i_i2239_i_i;
+    u1 v_r62_i_i2240_i_i;
+    u1 v_r74_i_i2241_i_i;
+    u1 v_cond_i_i_i1662_i;
+    u1 v_or_cond_i_i_i1663_i;
+    P v_r84_i_i2246_i_i;
+    u8 v_r87_i_i2247_i_i;
+    u1 v_r89_i_i2248_i_i;
+    u64 v_r103_i_i2249_i_i;
+    P v_r12_sroa_10_i2279_sroa_3_0_ph_i_i;
+    u64 v_r12_sroa_10_i2279_sroa_5_0_ph_i_i;
+    u1 v_r39_i_i2297_i_i;
+    P v_r16_i_i_i2300_i_i;
+    u8 v_r29_i2302_i_i;
+    u1 v_r8_i22_i_i_i_i;
+    u8 v_r9_i2324_i_i;
+    u1 v_r11_i2325_i_i;
     u8 v_10;
     u1 v_11;
-    u1 v_r2_0_in_i3935_not_i_i;
-    u1 v_r39_i_i3954_i_i;
-    P v_r16_i_i_i3957_i_i;
-    u64 v_r19_i_i_i3958_i_i;
-    u8 v_r29_i3959_i_i;
-    u1 v_r51_i62_i1169_i_i;
-    u32 v_r56_i73_i1298_i_i;
-    u1 v_r68_i64_i1171_i_i;
-    u1 v_r87_i_i1173_i_i;
-    u8 v_r106_i_i1175_i_i;
-    u64 v_r3_i25_i4001_i_i;
-    u1 v_r39_i4004_i_i;
-    P v_r16_i_i4008_i_i;
-    u64 v_r19_i_i4009_i_i;
-    u8 v_r36_i4046_i_i;
-    u1 v_r38_i4047_i_i;
-    u8 v_r28_i4042_i_i;
-    u1 v_r30_i4043_i_i;
-    u32 v_r71_i_i1201_i_i;
-    u1 v_r74_i83_i1213_i_i;
-    P v_r81_i107_i1251_i_i;
-    u32 v_r87_i109_i1253_i_i;
-    u32 v_r89_i_i1254_i_i;
-    u8 v_r91_i_i1255_i_i;
-    u32 v_r93_i110_i1256_i_i;
-    u32 v_r96_i111_i1257_i_i;
-    u1 v_r99_i85_i1215_i_i;
-    P v_r106_i96_i1238_i_i;
-    P v_r108_i97_i1239_i_i;
-    u32 v_r115_i99_i1241_i_i;
-    u32 v_r117_i100_i1242_i_i;
-    u8 v_r119_i101_i1243_i_i;
-    u32 v_r121_i102_i1244_i_i;
-    u32 v_r123_i103_i1245_i_i;
-    u32 v_r126_i104_i1246_i_i;
-    u8 v_r128_i_i1247_i_i;
-    u32 v_r130_i105_i1248_i_i;
-    u32 v_r133_i_i1249_i_i;
-    u1 v_r136_i87_i1217_i_i;
-    P v_r143_i88_i1220_i_i;
-    P v_r145_i89_i1221_i_i;
-    P v_r147_i90_i1222_i_i;
-    u32 v_r155_i92_i1224_i_i;
-    u32 v_r157_i93_i1225_i_i;
-    u8 v_r159_i94_i1226_i_i;
-    u32 v_r161_i_i1227_i_i;
-    u32 v_r163_i_i1228_i_i;
-    u32 v_r166_i_i1229_i_i;
-    u8 v_r168_i_i1230_i_i;
-    u32 v_r170_i_i1231_i_i;
-    u32 v_r172_i_i1232_i_i;
-    u32 v_r175_i_i1233_i_i;
-    u8 v_r177_i_i1234_i_i;
-    u32 v_r179_i_i1235_i_i;
-    u32 v_r182_i_i1236_i_i;
-    P v_r13_sroa_0_0_copyload_i_i4137_i_i;
-    u64 v_r36_i_i4134_i_i;
-    u32 v_r12_sroa_10_0_i4072_i_i;
-    u64 v_r3_i25_i_i4132_i_i;
-    u1 v_r39_i_i4135_i_i;
-    P v_r16_i_i_i4138_i_i;
-    u64 v_r19_i_i_i4139_i_i;
-    u1 v_r7_i_i_i4183_i_i;
-    u8 v_r60_i_i4185_i_i;
-    u1 v_r62_i_i4186_i_i;
-    u1 v_r74_i_i4188_i_i;
-    u1 v_cond_i_i4189_i_i;
-    u1 v_or_cond_i_i4190_i_i;
-    P v_r84_i_i4203_i_i;
-    u8 v_r87_i_i4204_i_i;
-    u1 v_r89_i_i4205_i_i;
-    u64 v_r103_i_i4207_i_i;
-    u64 v_r12_sroa_10_i4240_sroa_5_0_ph_i_i;
-    P v_r12_sroa_10_i4240_sroa_3_0_ph_i_i;
-    u1 v_r39_i_i4265_i_i;
-    P v_r16_i_i_i4268_i_i;
-    u8 v_r29_i4270_i_i;
-    u1 v_r8_i22_i1480_i_i;
-    u8 v_r9_i4292_i_i;
-    u1 v_r11_i4293_i_i;
-    u8 v_12;
-    u1 v_13;
-    u1 v_r2_0_in_i4294_not_i_i;
-    u1 v_r39_i_i4313_i_i;
-    P v_r16_i_i_i4316_i_i;
-    u64 v_r19_i_i_i4317_i_i;
-    u8 v_r29_i4318_i_i;
-    u1 v_r51_i62_i1570_i_i;
-    u32 v_r56_i73_i1699_i_i;
-    u1 v_r68_i64_i1572_i_i;
-    u1 v_r87_i_i1574_i_i;
-    u8 v_r106_i_i1576_i_i;
-    u64 v_r3_i25_i4360_i_i;
-    u1 v_r39_i4363_i_i;
-    P v_r16_i_i4367_i_i;
-    u64 v_r19_i_i4368_i_i;
-    u8 v_r36_i4405_i_i;
-    u1 v_r38_i4406_i_i;
-    u8 v_r28_i4401_i_i;
-    u1 v_r30_i4402_i_i;
-    u32 v_r71_i_i1602_i_i;
-    u1 v_r74_i83_i1614_i_i;
-    P v_r81_i107_i1652_i_i;
-    u32 v_r87_i109_i1654_i_i;
-    u32 v_r89_i_i1655_i_i;
-    u8 v_r91_i_i1656_i_i;
-    u32 v_r93_i110_i1657_i_i;
-    u32 v_r96_i111_i1658_i_i;
-    u1 v_r99_i85_i1616_i_i;
-    P v_r106_i96_i1639_i_i;
-    P v_r108_i97_i1640_i_i;
-    u32 v_r115_i99_i1642_i_i;
-    u32 v_r117_i100_i1643_i_i;
-    u8 v_r119_i101_i1644_i_i;
-    u32 v_r121_i102_i1645_i_i;
-    u32 v_r123_i103_i1646_i_i;
-    u32 v_r126_i104_i1647_i_i;
-    u8 v_r128_i_i1648_i_i;
-    u32 v_r130_i105_i1649_i_i;
-    u32 v_r133_i_i1650_i_i;
-    u1 v_r136_i87_i1618_i_i;
-    P v_r143_i88_i1621_i_i;
-    P v_r145_i89_i1622_i_i;
-    P v_r147_i90_i1623_i_i;
-    u32 v_r155_i92_i1625_i_i;
-    u32 v_r157_i93_i1626_i_i;
-    u8 v_r159_i94_i1627_i_i;
-    u32 v_r161_i_i1628_i_i;
-    u32 v_r163_i_i1629_i_i;
-    u32 v_r166_i_i1630_i_i;
-    u8 v_r168_i_i1631_i_i;
-    u32 v_r170_i_i1632_i_i;
-    u32 v_r172_i_i1633_i_i;
-    u32 v_r175_i_i1634_i_i;
-    u8 v_r177_i_i1635_i_i;
-    u32 v_r179_i_i1636_i_i;
-    u32 v_r182_i_i1637_i_i;
-    P v_r13_sroa_0_0_copyload_i_i4496_i_i;
-    u64 v_r36_i_i4493_i_i;
-    u32 v_r12_sroa_10_0_i4431_i_i;
-    u64 v_r3_i25_i_i4491_i_i;
-    u1 v_r39_i_i4494_i_i;
-    P v_r16_i_i_i4497_i_i;
-    u64 v_r19_i_i_i4498_i_i;
-    u1 v_r7_i_i_i4542_i_i;
-    u8 v_r60_i_i4544_i_i;
-    u1 v_r62_i_i4545_i_i;
-    u1 v_r74_i_i4547_i_i;
-    u1 v_cond_i_i4548_i_i;
-    u1 v_or_cond_i_i4549_i_i;
-    P v_r84_i_i4562_i_i;
-    u8 v_r87_i_i4563_i_i;
-    u1 v_r89_i_i4564_i_i;
-    u64 v_r103_i_i4566_i_i;
-    u64 v_r12_sroa_10_i4599_sroa_5_0_ph_i_i;
-    P v_r12_sroa_10_i4599_sroa_3_0_ph_i_i;
-    u1 v_r39_i_i4624_i_i;
-    P v_r16_i_i_i4627_i_i;
-    u8 v_r29_i4629_i_i;
-    u1 v_r8_i22_i1881_i_i;
-    u8 v_r9_i4651_i_i;
-    u1 v_r11_i4652_i_i;
-    u8 v_14;
-    u1 v_15;
-    u1 v_r2_0_in_i4653_not_i_i;
-    u1 v_r39_i_i4672_i_i;
-    P v_r16_i_i_i4675_i_i;
-    u64 v_r19_i_i_i4676_i_i;
-    u8 v_r29_i4677_i_i;
-    u1 v_r51_i62_i1971_i_i;
-    u32 v_r56_i73_i2100_i_i;
-    u1 v_r68_i64_i1973_i_i;
-    u1 v_r87_i_i1975_i_i;
-    u8 v_r106_i_i1977_i_i;
-    u64 v_r3_i25_i4719_i_i;
-    u1 v_r39_i4722_i_i;
-    P v_r16_i_i4726_i_i;
-    u64 v_r19_i_i4727_i_i;
-    u8 v_r36_i4764_i_i;
-    u1 v_r38_i4765_i_i;
-    u8 v_r28_i4760_i_i;
-    u1 v_r30_i4761_i_i;
-    u32 v_r71_i_i2003_i_i;
-    u1 v_r74_i83_i2015_i_i;
-    P v_r81_i107_i2053_i_i;
-    u32 v_r87_i109_i2055_i_i;
-    u32 v_r89_i_i2056_i_i;
-    u8 v_r91_i_i2057_i_i;
-    u32 v_r93_i110_i2058_i_i;
-    u32 v_r96_i111_i2059_i_i;
-    u1 v_r99_i85_i2017_i_i;
-    P v_r106_i96_i2040_i_i;
-    P v_r108_i97_i2041_i_i;
-    u32 v_r115_i99_i2043_i_i;
-    u32 v_r117_i100_i2044_i_i;
-    u8 v_r119_i101_i2045_i_i;
-    u32 v_r121_i102_i2046_i_i;
-    u32 v_r123_i103_i2047_i_i;
-    u32 v_r126_i104_i2048_i_i;
-    u8 v_r128_i_i2049_i_i;
-    u32 v_r130_i105_i2050_i_i;
-    u32 v_r133_i_i2051_i_i;
-    u1 v_r136_i87_i2019_i_i;
-    P v_r143_i88_i2022_i_i;
-    P v_r145_i89_i2023_i_i;
-    P v_r147_i90_i2024_i_i;
-    u32 v_r155_i92_i2026_i_i;
-    u32 v_r157_i93_i2027_i_i;
-    u8 v_r159_i94_i2028_i_i;
-    u32 v_r161_i_i2029_i_i;
-    u32 v_r163_i_i2030_i_i;
-    u32 v_r166_i_i2031_i_i;
-    u8 v_r168_i_i2032_i_i;
-    u32 v_r170_i_i2033_i_i;
-    u32 v_r172_i_i2034_i_i;
-    u32 v_r175_i_i2035_i_i;
-    u8 v_r177_i_i2036_i_i;
-    u32 v_r179_i_i2037_i_i;
-    u32 v_r182_i_i2038_i_i;
-    P v_r13_sroa_0_0_copyload_i_i4855_i_i;
-    u64 v_r36_i_i4852_i_i;
-    u32 v_r12_sroa_10_0_i4790_i_i;
-    u64 v_r3_i25_i_i4850_i_i;
-    u1 v_r39_i_i4853_i_i;
-    P v_r16_i_i_i4856_i_i;
-    u64 v_r19_i_i_i4857_i_i;
-    u1 v_r7_i_i_i4901_i_i;
-    u8 v_r60_i_i4903_i_i;
-    u1 v_r62_i_i4904_i_i;
-    u1 v_r74_i_i4906_i_i;
-    u1 v_cond_i_i4907_i_i;
-    u1 v_or_cond_i_i4908_i_i;
-    P v_r84_i_i4921_i_i;
-    u8 v_r87_i_i4922_i_i;
-    u1 v_r89_i_i4923_i_i;
-    u64 v_r103_i_i4925_i_i;
-    u64 v_r12_sroa_10_i4958_sroa_5_0_ph_i_i;
-    P v_r12_sroa_10_i4958_sroa_3_0_ph_i_i;
-    u1 v_r39_i_i4983_i_i;
-    P v_r16_i_i_i4986_i_i;
-    u8 v_r29_i4988_i_i;
-    u1 v_r8_i22_i2282_i_i;
-    u8 v_r9_i5010_i_i;
-    u1 v_r11_i5011_i_i;
-    u8 v_16;
-    u1 v_17;
-    u1 v_r2_0_in_i5012_not_i_i;
-    u1 v_r39_i_i5031_i_i;
-    P v_r16_i_i_i5034_i_i;
-    u64 v_r19_i_i_i5035_i_i;
-    u8 v_r29_i5036_i_i;
-    u1 v_r51_i62_i2372_i_i;
-    u32 v_r56_i73_i2501_i_i;
-    u1 v_r68_i64_i2374_i_i;
-    u1 v_r87_i_i2376_i_i;
-    u8 v_r106_i_i2378_i_i;
-    u64 v_r3_i25_i5078_i_i;
-    u1 v_r39_i5081_i_i;
-    P v_r16_i_i5085_i_i;
-    u64 v_r19_i_i5086_i_i;
-    u8 v_r36_i5123_i_i;
-    u1 v_r38_i5124_i_i;
-    u8 v_r28_i5119_i_i;
-    u1 v_r30_i5120_i_i;
-    u32 v_r71_i_i2404_i_i;
-    u1 v_r74_i83_i2416_i_i;
-    P v_r81_i107_i2454_i_i;
-    u32 v_r87_i109_i2456_i_i;
-    u32 v_r89_i_i2457_i_i;
-    u8 v_r91_i_i2458_i_i;
-    u32 v_r93_i110_i2459_i_i;
-    u32 v_r96_i111_i2460_i_i;
-    u1 v_r99_i85_i2418_i_i;
-    P v_r106_i96_i2441_i_i;
-    P v_r108_i97_i2442_i_i;
-    u32 v_r115_i99_i2444_i_i;
-    u32 v_r117_i100_i2445_i_i;
-    u8 v_r119_i101_i2446_i_i;
-    u32 v_r121_i102_i2447_i_i;
-    u32 v_r123_i103_i2448_i_i;
-    u32 v_r126_i104_i2449_i_i;
-    u8 v_r128_i_i2450_i_i;
-    u32 v_r130_i105_i2451_i_i;
-    u32 v_r133_i_i2452_i_i;
-    u1 v_r136_i87_i2420_i_i;
-    P v_r143_i88_i2423_i_i;
-    P v_r145_i89_i2424_i_i;
-    P v_r147_i90_i2425_i_i;
-    u32 v_r155_i92_i2427_i_i;
-    u32 v_r157_i93_i2428_i_i;
-    u8 v_r159_i94_i2429_i_i;
-    u32 v_r161_i_i2430_i_i;
-    u32 v_r163_i_i2431_i_i;
-    u32 v_r166_i_i2432_i_i;
-    u8 v_r168_i_i2433_i_i;
-    u32 v_r170_i_i2434_i_i;
-    u32 v_r172_i_i2435_i_i;
-    u32 v_r175_i_i2436_i_i;
-    u8 v_r177_i_i2437_i_i;
-    u32 v_r179_i_i2438_i_i;
-    u32 v_r182_i_i2439_i_i;
-    P v_r13_sroa_0_0_copyload_i_i5214_i_i;
-    u64 v_r36_i_i5211_i_i;
-    u32 v_r12_sroa_10_0_i5149_i_i;
-    u64 v_r3_i25_i_i5209_i_i;
-    u1 v_r39_i_i5212_i_i;
-    P v_r16_i_i_i5215_i_i;
-    u64 v_r19_i_i_i5216_i_i;
-    u1 v_r7_i_i_i5260_i_i;
-    u8 v_r60_i_i5262_i_i;
-    u1 v_r62_i_i5263_i_i;
-    u1 v_r74_i_i5265_i_i;
-    u1 v_cond_i_i5266_i_i;
-    u1 v_or_cond_i_i5267_i_i;
-    P v_r84_i_i5280_i_i;
-    u8 v_r87_i_i5281_i_i;
-    u1 v_r89_i_i5282_i_i;
-    u64 v_r103_i_i5284_i_i;
-    u64 v_r12_sroa_10_i5317_sroa_5_0_ph_i_i;
-    P v_r12_sroa_10_i5317_sroa_3_0_ph_i_i;
-    u1 v_r39_i_i5342_i_i;
-    P v_r16_i_i_i5345_i_i;
-    u8 v_r29_i5347_i_i;
-    u1 v_r8_i22_i2683_i_i;
-    u8 v_r9_i5369_i_i;
-    u1 v_r11_i5370_i_i;
-    u8 v_18;
-    u1 v_19;
-    u1 v_r2_0_in_i5371_not_i_i;
-    u1 v_r39_i_i5390_i_i;
-    P v_r16_i_i_i5393_i_i;
-    u64 v_r19_i_i_i5394_i_i;
-    u8 v_r29_i5395_i_i;
-    u1 v_r51_i62_i2773_i_i;
-    u32 v_r56_i73_i2902_i_i;
-    u1 v_r68_i64_i2775_i_i;
-    u1 v_r87_i_i2777_i_i;
-    u8 v_r106_i_i2779_i_i;
-    u64 v_r3_i25_i5437_i_i;
-    u1 v_r39_i5440_i_i;
-    P v_r16_i_i5444_i_i;
-    u64 v_r19_i_i5445_i_i;
-    u8 v_r36_i5482_i_i;
-    u1 v_r38_i5483_i_i;
-    u8 v_r28_i5478_i_i;
-    u1 v_r30_i5479_i_i;
-    u32 v_r71_i_i2805_i_i;
-    u1 v_r74_i83_i2817_i_i;
-    P v_r81_i107_i2855_i_i;
-    u32 v_r87_i109_i2857_i_i;
-    u32 v_r89_i_i2858_i_i;
-    u8 v_r91_i_i2859_i_i;
-    u32 v_r93_i110_i2860_i_i;
-    u32 v_r96_i111_i2861_i_i;
-    u1 v_r99_i85_i2819_i_i;
-    P v_r106_i96_i2842_i_i;
-    P v_r108_i97_i2843_i_i;
-    u32 v_r115_i99_i2845_i_i;
-    u32 v_r117_i100_i2846_i_i;
-    u8 v_r119_i101_i2847_i_i;
-    u32 v_r121_i102_i2848_i_i;
-    u32 v_r123_i103_i2849_i_i;
-    u32 v_r126_i104_i2850_i_i;
-    u8 v_r128_i_i2851_i_i;
-    u32 v_r130_i105_i2852_i_i;
-    u32 v_r133_i_i2853_i_i;
-    u1 v_r136_i87_i2821_i_i;
-    P v_r143_i88_i2824_i_i;
-    P v_r145_i89_i2825_i_i;
-    P v_r147_i90_i2826_i_i;
-    u32 v_r155_i92_i2828_i_i;
-    u32 v_r157_i93_i2829_i_i;
-    u8 v_r159_i94_i2830_i_i;
-    u32 v_r161_i_i2831_i_i;
-    u32 v_r163_i_i2832_i_i;
-    u32 v_r166_i_i2833_i_i;
-    u8 v_r168_i_i2834_i_i;
-    u32 v_r170_i_i2835_i_i;
-    u32 v_r172_i_i2836_i_i;
-    u32 v_r175_i_i2837_i_i;
-    u8 v_r177_i_i2838_i_i;
-    u32 v_r179_i_i2839_i_i;
-    u32 v_r182_i_i2840_i_i;
-    P v_r13_sroa_0_0_copyload_i_i5573_i_i;
-    u64 v_r36_i_i5570_i_i;
-    u32 v_r12_sroa_10_0_i5508_i_i;
-    u64 v_r3_i25_i_i5568_i_i;
-    u1 v_r39_i_i5571_i_i;
-    P v_r16_i_i_i5574_i_i;
-    u64 v_r19_i_i_i5575_i_i;
-    u1 v_r7_i_i_i5619_i_i;
-    u8 v_r60_i_i5621_i_i;
-    u1 v_r62_i_i5622_i_i;
-    u1 v_r74_i_i5624_i_i;
-    u1 v_cond_i_i5625_i_i;
-    u1 v_or_cond_i_i5626_i_i;
-    P v_r84_i_i5639_i_i;
-    u8 v_r87_i_i5640_i_i;
-    u1 v_r89_i_i5641_i_i;
-    u64 v_r103_i_i5643_i_i;
-    u64 v_r12_sroa_10_i5676_sroa_5_0_ph_i_i;
-    P v_r12_sroa_10_i5676_sroa_3_0_ph_i_i;
-    u1 v_r12_not_i_i_i_not_i_i_i_i;
-    u8 v_r18_i_i99_i_i_i;
-    u1 v_r7_i_i103_i_i_i;
-    P v_r16_i_i_i_i_i_i;
-    u8 v_r29_i132_i_i_i;
-    u1 v_r8_i22_i_i_i_i;
-    u8 v_r9_i148_i_i_i;
-    u1 v_r11_i149_i_i_i;
-    u8 v_20;
-    u1 v_21;
-    u1 v_r2_0_in_i_not_i_i_i;
-    u1 v_r39_i_i164_i_i_i;
-    P v_r16_i_i_i167_i_i_i;
-    u64 v_r19_i_i_i168_i_i_i;
-    u8 v_r29_i169_i_i_i;
+    u1 v_r2_0_in_i2326_not_i_i;
+    u1 v_r39_i_i2345_i_i;
+    P v_r16_i_i_i2348_i_i;
+    u64 v_r19_i_i_i2349_i_i;
+    u8 v_r29_i2350_i_i;
     u1 v_r51_i62_i_i_i_i;
     u32 v_r56_i73_i_i_i_i;
     u1 v_r68_i64_i_i_i_i;
     u1 v_r87_i_i_i_i_i;
     u8 v_r106_i_i_i_i_i;
-    u64 v_r3_i25_i_i_i325_i;
-    u1 v_r39_i213_i_i_i;
-    P v_r16_i_i216_i_i_i;
-    u64 v_r19_i_i217_i_i_i;
-    u8 v_r36_i251_i_i_i;
-    u1 v_r38_i_i_i_i;
-    u8 v_r28_i249_i_i_i;
-    u1 v_r30_i_i_i_i;
+    u64 v_r3_i25_i2392_i_i;
+    u1 v_r39_i2395_i_i;
+    P v_r16_i_i2399_i_i;
+    u64 v_r19_i_i2400_i_i;
+    u8 v_r36_i2437_i_i;
+    u1 v_r38_i2438_i_i;
+    u8 v_r28_i2433_i_i;
+    u1 v_r30_i2434_i_i;
     u32 v_r71_i_i_i_i_i;
     u1 v_r74_i83_i_i_i_i;
     P v_r81_i107_i_i_i_i;
@@ -11945,6 +11533,418 @@ static void f_pkcs1_view_RsaPrivateKeyViewTryFromRefSliceU8_try_(P v_a0, P v_a1,
     u8 v_r177_i_i_i_i_i;
     u32 v_r179_i_i_i_i_i;
     u32 v_r182_i_i_i_i_i;
+    P v_r13_sroa_0_0_copyload_i_i2528_i_i;
+    u64 v_r36_i_i2525_i_i;
+    u32 v_r12_sroa_10_0_i2463_i_i;
+    u64 v_r3_i25_i_i2523_i_i;
+    u1 v_r39_i_i2526_i_i;
+    P v_r16_i_i_i2529_i_i;
+    u64 v_r19_i_i_i2530_i_i;
+    u1 v_r7_i_i_i2574_i_i;
+    u8 v_r60_i_i2576_i_i;
+    u1 v_r62_i_i2577_i_i;
+    u1 v_r74_i_i2579_i_i;
+    u1 v_cond_i_i2580_i_i;
+    u1 v_or_cond_i_i2581_i_i;
+    P v_r84_i_i2594_i_i;
+    u8 v_r87_i_i2595_i_i;
+    u1 v_r89_i_i2596_i_i;
+    u64 v_r103_i_i2598_i_i;
+    P v_r12_sroa_10_i2631_sroa_3_0_ph_i_i;
+    u64 v_r12_sroa_10_i2631_sroa_5_0_ph_i_i;
+    u1 v_r39_i_i2650_i_i;
+    P v_r16_i_i_i2653_i_i;
+    u8 v_r29_i2655_i_i;
+    u1 v_r8_i22_i_i377_i_i;
+    u8 v_r9_i2677_i_i;
+    u1 v_r11_i2678_i_i;
+    u8 v_12;
+    u1 v_13;
+    u1 v_r2_0_in_i2679_not_i_i;
+    u1 v_r39_i_i2698_i_i;
+    P v_r16_i_i_i2701_i_i;
+    u64 v_r19_i_i_i2702_i_i;
+    u8 v_r29_i2703_i_i;
+    u1 v_r51_i62_i_i467_i_i;
+    u32 v_r56_i73_i_i596_i_i;
+    u1 v_r68_i64_i_i469_i_i;
+    u1 v_r87_i_i_i471_i_i;
+    u8 v_r106_i_i_i473_i_i;
+    u64 v_r3_i25_i2745_i_i;
+    u1 v_r39_i2748_i_i;
+    P v_r16_i_i2752_i_i;
+    u64 v_r19_i_i2753_i_i;
+    u8 v_r36_i2790_i_i;
+    u1 v_r38_i2791_i_i;
+    u8 v_r28_i2786_i_i;
+    u1 v_r30_i2787_i_i;
+    u32 v_r71_i_i_i499_i_i;
+    u1 v_r74_i83_i_i511_i_i;
+    P v_r81_i107_i_i549_i_i;
+    u32 v_r87_i109_i_i551_i_i;
+    u32 v_r89_i_i_i552_i_i;
+    u8 v_r91_i_i_i553_i_i;
+    u32 v_r93_i110_i_i554_i_i;
+    u32 v_r96_i111_i_i555_i_i;
+    u1 v_r99_i85_i_i513_i_i;
+    P v_r106_i96_i_i536_i_i;
+    P v_r108_i97_i_i537_i_i;
+    u32 v_r115_i99_i_i539_i_i;
+    u32 v_r117_i100_i_i540_i_i;
+    u8 v_r119_i101_i_i541_i_i;
+    u32 v_r121_i102_i_i542_i_i;
+    u32 v_r123_i103_i_i543_i_i;
+    u32 v_r126_i104_i_i544_i_i;
+    u8 v_r128_i_i_i545_i_i;
+    u32 v_r130_i105_i_i546_i_i;
+    u32 v_r133_i_i_i547_i_i;
+    u1 v_r136_i87_i_i515_i_i;
+    P v_r143_i88_i_i518_i_i;
+    P v_r145_i89_i_i519_i_i;
+    P v_r147_i90_i_i520_i_i;
+    u32 v_r155_i92_i_i522_i_i;
+    u32 v_r157_i93_i_i523_i_i;
+    u8 v_r159_i94_i_i524_i_i;
+    u32 v_r161_i_i_i525_i_i;
+    u32 v_r163_i_i_i526_i_i;
+    u32 v_r166_i_i_i527_i_i;
+    u8 v_r168_i_i_i528_i_i;
+    u32 v_r170_i_i_i529_i_i;
+    u32 v_r172_i_i_i530_i_i;
+    u32 v_r175_i_i_i531_i_i;
+    u8 v_r177_i_i_i532_i_i;
+    u32 v_r179_i_i_i533_i_i;
+    u32 v_r182_i_i_i534_i_i;
+    P v_r13_sroa_0_0_copyload_i_i2881_i_i;
+    u64 v_r36_i_i2878_i_i;
+    u32 v_r12_sroa_10_0_i2816_i_i;
+    u64 v_r3_i25_i_i2876_i_i;
+    u1 v_r39_i_i2879_i_i;
+    P v_r16_i_i_i2882_i_i;
+    u64 v_r19_i_i_i2883_i_i;
+    u1 v_r7_i_i_i2927_i_i;
+    u8 v_r60_i_i2929_i_i;
+    u1 v_r62_i_i2930_i_i;
+    u1 v_r74_i_i2932_i_i;
+    u1 v_cond_i_i2933_i_i;
+    u1 v_or_cond_i_i2934_i_i;
+    P v_r84_i_i2947_i_i;
+    u8 v_r87_i_i2948_i_i;
+    u1 v_r89_i_i2949_i_i;
+    u64 v_r103_i_i2951_i_i;
+    P v_r12_sroa_10_i2984_sroa_3_0_ph_i_i;
+    u64 v_r12_sroa_10_i2984_sroa_5_0_ph_i_i;
+    u1 v_r39_i_i3003_i_i;
+    P v_r16_i_i_i3006_i_i;
+    u8 v_r29_i3008_i_i;
+    u1 v_r8_i22_i_i846_i_i;
+    u8 v_r9_i3030_i_i;
+    u1 v_r11_i3031_i_i;
+    u8 v_14;
+    u1 v_15;
+    u1 v_r2_0_in_i3032_not_i_i;
+    u1 v_r39_i_i3051_i_i;
+    P v_r16_i_i_i3054_i_i;
+    u64 v_r19_i_i_i3055_i_i;
+    u8 v_r29_i3056_i_i;
+    u1 v_r51_i62_i_i936_i_i;
+    u32 v_r56_i73_i_i1065_i_i;
+    u1 v_r68_i64_i_i938_i_i;
+    u1 v_r87_i_i_i940_i_i;
+    u8 v_r106_i_i_i942_i_i;
+    u64 v_r3_i25_i3098_i_i;
+    u1 v_r39_i3101_i_i;
+    P v_r16_i_i3105_i_i;
+    u64 v_r19_i_i3106_i_i;
+    u8 v_r36_i3143_i_i;
+    u1 v_r38_i3144_i_i;
+    u8 v_r28_i3139_i_i;
+    u1 v_r30_i3140_i_i;
+    u32 v_r71_i_i_i968_i_i;
+    u1 v_r74_i83_i_i980_i_i;
+    P v_r81_i107_i_i1018_i_i;
+    u32 v_r87_i109_i_i1020_i_i;
+    u32 v_r89_i_i_i1021_i_i;
+    u8 v_r91_i_i_i1022_i_i;
+    u32 v_r93_i110_i_i1023_i_i;
+    u32 v_r96_i111_i_i1024_i_i;
+    u1 v_r99_i85_i_i982_i_i;
+    P v_r106_i96_i_i1005_i_i;
+    P v_r108_i97_i_i1006_i_i;
+    u32 v_r115_i99_i_i1008_i_i;
+    u32 v_r117_i100_i_i1009_i_i;
+    u8 v_r119_i101_i_i1010_i_i;
+    u32 v_r121_i102_i_i1011_i_i;
+    u32 v_r123_i103_i_i1012_i_i;
+    u32 v_r126_i104_i_i1013_i_i;
+    u8 v_r128_i_i_i1014_i_i;
+    u32 v_r130_i105_i_i1015_i_i;
+    u32 v_r133_i_i_i1016_i_i;
+    u1 v_r136_i87_i_i984_i_i;
+    P v_r143_i88_i_i987_i_i;
+    P v_r145_i89_i_i988_i_i;
+    P v_r147_i90_i_i989_i_i;
+    u32 v_r155_i92_i_i991_i_i;
+    u32 v_r157_i93_i_i992_i_i;
+    u8 v_r159_i94_i_i993_i_i;
+    u32 v_r161_i_i_i994_i_i;
+    u32 v_r163_i_i_i995_i_i;
+    u32 v_r166_i_i_i996_i_i;
+    u8 v_r168_i_i_i997_i_i;
+    u32 v_r170_i_i_i998_i_i;
+    u32 v_r172_i_i_i999_i_i;
+    u32 v_r175_i_i_i1000_i_i;
+    u8 v_r177_i_i_i1001_i_i;
+    u32 v_r179_i_i_i1002_i_i;
+    u32 v_r182_i_i_i1003_i_i;
+    P v_r13_sroa_0_0_copyload_i_i3234_i_i;
+    u64 v_r36_i_i3231_i_i;
+    u32 v_r12_sroa_10_0_i3169_i_i;
+    u64 v_r3_i25_i_i3229_i_i;
+    u1 v_r39_i_i3232_i_i;
+    P v_r16_i_i_i3235_i_i;
+    u64 v_r19_i_i_i3236_i_i;
+    u1 v_r7_i_i_i3280_i_i;
+    u8 v_r60_i_i3282_i_i;
+    u1 v_r62_i_i3283_i_i;
+    u1 v_r74_i_i3285_i_i;
+    u1 v_cond_i_i3286_i_i;
+    u1 v_or_cond_i_i3287_i_i;
+    P v_r84_i_i3300_i_i;
+    u8 v_r87_i_i3301_i_i;
+    u1 v_r89_i_i3302_i_i;
+    u64 v_r103_i_i3304_i_i;
+    P v_r12_sroa_10_i3337_sroa_3_0_ph_i_i;
+    u64 v_r12_sroa_10_i3337_sroa_5_0_ph_i_i;
+    u1 v_r39_i_i3356_i_i;
+    P v_r16_i_i_i3359_i_i;
+    u8 v_r29_i3361_i_i;
+    u1 v_r8_i22_i_i1315_i_i;
+    u8 v_r9_i3383_i_i;
+    u1 v_r11_i3384_i_i;
+    u8 v_16;
+    u1 v_17;
+    u1 v_r2_0_in_i3385_not_i_i;
+    u1 v_r39_i_i3404_i_i;
+    P v_r16_i_i_i3407_i_i;
+    u64 v_r19_i_i_i3408_i_i;
+    u8 v_r29_i3409_i_i;
+    u1 v_r51_i62_i_i1405_i_i;
+    u32 v_r56_i73_i_i1534_i_i;
+    u1 v_r68_i64_i_i1407_i_i;
+    u1 v_r87_i_i_i1409_i_i;
+    u8 v_r106_i_i_i1411_i_i;
+    u64 v_r3_i25_i3451_i_i;
+    u1 v_r39_i3454_i_i;
+    P v_r16_i_i3458_i_i;
+    u64 v_r19_i_i3459_i_i;
+    u8 v_r36_i3496_i_i;
+    u1 v_r38_i3497_i_i;
+    u8 v_r28_i3492_i_i;
+    u1 v_r30_i3493_i_i;
+    u32 v_r71_i_i_i1437_i_i;
+    u1 v_r74_i83_i_i1449_i_i;
+    P v_r81_i107_i_i1487_i_i;
+    u32 v_r87_i109_i_i1489_i_i;
+    u32 v_r89_i_i_i1490_i_i;
+    u8 v_r91_i_i_i1491_i_i;
+    u32 v_r93_i110_i_i1492_i_i;
+    u32 v_r96_i111_i_i1493_i_i;
+    u1 v_r99_i85_i_i1451_i_i;
+    P v_r106_i96_i_i1474_i_i;
+    P v_r108_i97_i_i1475_i_i;
+    u32 v_r115_i99_i_i1477_i_i;
+    u32 v_r117_i100_i_i1478_i_i;
+    u8 v_r119_i101_i_i1479_i_i;
+    u32 v_r121_i102_i_i1480_i_i;
+    u32 v_r123_i103_i_i1481_i_i;
+    u32 v_r126_i104_i_i1482_i_i;
+    u8 v_r128_i_i_i1483_i_i;
+    u32 v_r130_i105_i_i1484_i_i;
+    u32 v_r133_i_i_i1485_i_i;
+    u1 v_r136_i87_i_i1453_i_i;
+    P v_r143_i88_i_i1456_i_i;
+    P v_r145_i89_i_i1457_i_i;
+    P v_r147_i90_i_i1458_i_i;
+    u32 v_r155_i92_i_i1460_i_i;
+    u32 v_r157_i93_i_i1461_i_i;
+    u8 v_r159_i94_i_i1462_i_i;
+    u32 v_r161_i_i_i1463_i_i;
+    u32 v_r163_i_i_i1464_i_i;
+    u32 v_r166_i_i_i1465_i_i;
+    u8 v_r168_i_i_i1466_i_i;
+    u32 v_r170_i_i_i1467_i_i;
+    u32 v_r172_i_i_i1468_i_i;
+    u32 v_r175_i_i_i1469_i_i;
+    u8 v_r177_i_i_i1470_i_i;
+    u32 v_r179_i_i_i1471_i_i;
+    u32 v_r182_i_i_i1472_i_i;
+    P v_r13_sroa_0_0_copyload_i_i3587_i_i;
+    u64 v_r36_i_i3584_i_i;
+    u32 v_r12_sroa_10_0_i3522_i_i;
+    u64 v_r3_i25_i_i3582_i_i;
+    u1 v_r39_i_i3585_i_i;
+    P v_r16_i_i_i3588_i_i;
+    u64 v_r19_i_i_i3589_i_i;
+    u1 v_r7_i_i_i3633_i_i;
+    u8 v_r60_i_i3635_i_i;
+    u1 v_r62_i_i3636_i_i;
+    u1 v_r74_i_i3638_i_i;
+    u1 v_cond_i_i3639_i_i;
+    u1 v_or_cond_i_i3640_i_i;
+    P v_r84_i_i3653_i_i;
+    u8 v_r87_i_i3654_i_i;
+    u1 v_r89_i_i3655_i_i;
+    u64 v_r103_i_i3657_i_i;
+    P v_r12_sroa_10_i3690_sroa_3_0_ph_i_i;
+    u64 v_r12_sroa_10_i3690_sroa_5_0_ph_i_i;
+    u1 v_r39_i_i3709_i_i;
+    P v_r16_i_i_i3712_i_i;
+    u8 v_r29_i3714_i_i;
+    u1 v_r8_i22_i_i1772_i_i;
+    u8 v_r9_i3736_i_i;
+    u1 v_r11_i3737_i_i;
+    u8 v_18;
+    u1 v_19;
+    u1 v_r2_0_in_i3738_not_i_i;
+    u1 v_r39_i_i3757_i_i;
+    P v_r16_i_i_i3760_i_i;
+    u64 v_r19_i_i_i3761_i_i;
+    u8 v_r29_i3762_i_i;
+    u1 v_r51_i62_i_i1862_i_i;
+    u32 v_r56_i73_i_i1991_i_i;
+    u1 v_r68_i64_i_i1864_i_i;
+    u1 v_r87_i_i_i1866_i_i;
+    u8 v_r106_i_i_i1868_i_i;
+    u64 v_r3_i25_i3804_i_i;
+    u1 v_r39_i3807_i_i;
+    P v_r16_i_i3811_i_i;
+    u64 v_r19_i_i3812_i_i;
+    u8 v_r36_i3849_i_i;
+    u1 v_r38_i3850_i_i;
+    u8 v_r28_i3845_i_i;
+    u1 v_r30_i3846_i_i;
+    u32 v_r71_i_i_i1894_i_i;
+    u1 v_r74_i83_i_i1906_i_i;
+    P v_r81_i107_i_i1944_i_i;
+    u32 v_r87_i109_i_i1946_i_i;
+    u32 v_r89_i_i_i1947_i_i;
+    u8 v_r91_i_i_i1948_i_i;
+    u32 v_r93_i110_i_i1949_i_i;
+    u32 v_r96_i111_i_i1950_i_i;
+    u1 v_r99_i85_i_i1908_i_i;
+    P v_r106_i96_i_i1931_i_i;
+    P v_r108_i97_i_i1932_i_i;
+    u32 v_r115_i99_i_i1934_i_i;
+    u32 v_r117_i100_i_i1935_i_i;
+    u8 v_r119_i101_i_i1936_i_i;
+    u32 v_r121_i102_i_i1937_i_i;
+    u32 v_r123_i103_i_i1938_i_i;
+    u32 v_r126_i104_i_i1939_i_i;
+    u8 v_r128_i_i_i1940_i_i;
+    u32 v_r130_i105_i_i1941_i_i;
+    u32 v_r133_i_i_i1942_i_i;
+    u1 v_r136_i87_i_i1910_i_i;
+    P v_r143_i88_i_i1913_i_i;
+    P v_r145_i89_i_i1914_i_i;
+    P v_r147_i90_i_i1915_i_i;
+    u32 v_r155_i92_i_i1917_i_i;
+    u32 v_r157_i93_i_i1918_i_i;
+    u8 v_r159_i94_i_i1919_i_i;
+    u32 v_r161_i_i_i1920_i_i;
+    u32 v_r163_i_i_i1921_i_i;
+    u32 v_r166_i_i_i1922_i_i;
+    u8 v_r168_i_i_i1923_i_i;
+    u32 v_r170_i_i_i1924_i_i;
+    u32 v_r172_i_i_i1925_i_i;
+    u32 v_r175_i_i_i1926_i_i;
+    u8 v_r177_i_i_i1927_i_i;
+    u32 v_r179_i_i_i1928_i_i;
+    u32 v_r182_i_i_i1929_i_i;
+    P v_r13_sroa_0_0_copyload_i_i3940_i_i;
+    u64 v_r36_i_i3937_i_i;
+    u32 v_r12_sroa_10_0_i3875_i_i;
+    u64 v_r3_i25_i_i3935_i_i;
+    u1 v_r39_i_i3938_i_i;
+    P v_r16_i_i_i3941_i_i;
+    u64 v_r19_i_i_i3942_i_i;
+    u1 v_r7_i_i_i3986_i_i;
+    u8 v_r60_i_i3988_i_i;
+    u1 v_r62_i_i3989_i_i;
+    u1 v_r74_i_i3991_i_i;
+    u1 v_cond_i_i3992_i_i;
+    u1 v_or_cond_i_i3993_i_i;
+    P v_r84_i_i4006_i_i;
+    u8 v_r87_i_i4007_i_i;
+    u1 v_r89_i_i4008_i_i;
+    u64 v_r103_i_i4010_i_i;
+    P v_r12_sroa_10_i1786_sroa_18_0_ph_i;
+    u64 v_r12_sroa_10_i1786_sroa_19_0_ph_i;
+    u1 v_r12_not_i_i_i_not_i_i_i_i;
+    u8 v_r18_i_i99_i_i_i;
+    u1 v_r7_i_i103_i_i_i;
+    P v_r16_i_i_i_i_i_i;
+    u8 v_r29_i132_i_i_i;
+    u1 v_r8_i22_i_i_i1854_i;
+    u8 v_r9_i148_i_i_i;
+    u1 v_r11_i149_i_i_i;
+    u8 v_20;
+    u1 v_21;
+    u1 v_r2_0_in_i_not_i_i_i;
+    u1 v_r39_i_i164_i_i_i;
+    P v_r16_i_i_i167_i_i_i;
+    u64 v_r19_i_i_i168_i_i_i;
+    u8 v_r29_i169_i_i_i;
+    u1 v_r51_i62_i_i_i1863_i;
+    u32 v_r56_i73_i_i_i1925_i;
+    u1 v_r68_i64_i_i_i1865_i;
+    u1 v_r87_i_i_i_i1867_i;
+    u8 v_r106_i_i_i_i1868_i;
+    u64 v_r3_i25_i_i_i1869_i;
+    u1 v_r39_i213_i_i_i;
+    P v_r16_i_i216_i_i_i;
+    u64 v_r19_i_i217_i_i_i;
+    u8 v_r36_i251_i_i_i;
+    u1 v_r38_i_i_i1880_i;
+    u8 v_r28_i249_i_i_i;
+    u1 v_r30_i_i_i1871_i;
+    u32 v_r71_i_i_i_i1873_i;
+    u1 v_r74_i83_i_i_i1882_i;
+    P v_r81_i107_i_i_i1918_i;
+    u32 v_r87_i109_i_i_i1919_i;
+    u32 v_r89_i_i_i_i1920_i;
+    u8 v_r91_i_i_i_i1921_i;
+    u32 v_r93_i110_i_i_i1922_i;
+    u32 v_r96_i111_i_i_i1923_i;
+    u1 v_r99_i85_i_i_i1884_i;
+    P v_r106_i96_i_i_i1906_i;
+    P v_r108_i97_i_i_i1907_i;
+    u32 v_r115_i99_i_i_i1908_i;
+    u32 v_r117_i100_i_i_i1909_i;
+    u8 v_r119_i101_i_i_i1910_i;
+    u32 v_r121_i102_i_i_i1911_i;
+    u32 v_r123_i103_i_i_i1912_i;
+    u32 v_r126_i104_i_i_i1913_i;
+    u8 v_r128_i_i_i_i1914_i;
+    u32 v_r130_i105_i_i_i1915_i;
+    u32 v_r133_i_i_i_i1916_i;
+    u1 v_r136_i87_i_i_i1886_i;
+    P v_r143_i88_i_i_i1889_i;
+    P v_r145_i89_i_i_i1890_i;
+    P v_r147_i90_i_i_i1891_i;
+    u32 v_r155_i92_i_i_i1892_i;
+    u32 v_r157_i93_i_i_i1893_i;
+    u8 v_r159_i94_i_i_i1894_i;
+    u32 v_r161_i_i_i_i1895_i;
+    u32 v_r163_i_i_i_i1896_i;
+    u32 v_r166_i_i_i_i1897_i;
+    u8 v_r168_i_i_i_i1898_i;
+    u32 v_r170_i_i_i_i1899_i;
+    u32 v_r172_i_i_i_i1900_i;
+    u32 v_r175_i_i_i_i1901_i;
+    u8 v_r177_i_i_i_i1902_i;
+    u32 v_r179_i_i_i_i1903_i;
+    u32 v_r182_i_i_i_i1904_i;
     P v_r13_sroa_0_0_copyload_i_i333_i_i_i;
     u64 v_r36_i_i330_i_i_i;
     u32 v_r12_sroa_10_0_i_i_i_i;
@@ -11954,40 +11954,40 @@ static void f_pkcs1_view_RsaPrivateKeyViewTryFromRefSliceU8_try_(P v_a0, P v_a1,
     P v_r29_i38_sroa_6_0_r6_i26_sroa_idx_i_i_i;
     u8 v_r105_i_i_i_i;
     u1 v_22;
-    P v_r124_i_i_i_i;
+    P v_r124_i_i_i1875_i;
     u8 v_23;
-    P v_r126_i_i_i_i;
+    P v_r126_i_i_i1876_i;
     u8 v_24;
-    P v_r128_i_i_i326_i;
+    P v_r128_i_i_i1877_i;
     u8 v_25;
     u64 v_r19_i_i_i335_i_i_i;
-    P v_r106_i_i_i328_i;
+    P v_r106_i_i_i1879_i;
     P v_r0_i19_sroa_27_i_i_sroa_0_4_r122_i_sroa_idx_i;
-    P v_r0_i19_sroa_27_i_i_sroa_6_4_r106_i_i_i328_sroa_idx;
+    P v_r0_i19_sroa_27_i_i_sroa_6_4_r106_i_i_i1879_sroa_id;
     u64 v_r0_i19_sroa_27_i_i_sroa_6_4_copyload_i;
     P v_r17_sroa_9_i_sroa_0_4_r10_i22_sroa_idx_i_i;
     u64 v_r4_sroa_3_0_copyload_i_i_i;
     u1 v_26;
     u8 v_r7_sroa_1534_sroa_0_0_ph_i_i;
     u64 v_r7_sroa_20_sroa_6_0_ph_i_i;
-    u1 v_r71_i300_not_i;
+    u1 v_r71_i1834_not_i;
     u8 v_r0_i19_sroa_9_0_ph_i_i_i;
     u8 v_r0_i19_sroa_15_0_ph_i_i_i;
     u8 v_r0_i19_sroa_21_0_ph_i_i_i;
     u1 v_r9_i11_i_i;
     u1 v_spec_select_i_i_i;
-    u1 v_r7_i_i_i303_i;
-    u8 v_r21_sroa_0_sroa_7_0_ph_i;
-    u8 v_r21_sroa_0_sroa_12_0_ph_i;
-    u8 v_r21_sroa_0_sroa_17_0_ph_i;
-    u8 v_r30_i23_sroa_0_sroa_8_0_ph;
-    u8 v_r30_i23_sroa_0_sroa_12_0_ph;
-    u8 v_r30_i23_sroa_0_sroa_16_0_ph;
-    u1 v_r7_i_i367;
+    u1 v_r7_i_i_i1837_i;
+    u8 v_r17_sroa_0_sroa_7_0_ph_i;
+    u8 v_r17_sroa_0_sroa_12_0_ph_i;
+    u8 v_r17_sroa_0_sroa_17_0_ph_i;
+    u8 v_r30_i23_sroa_0_sroa_7_0_ph;
+    u8 v_r30_i23_sroa_0_sroa_10_0_ph;
+    u8 v_r30_i23_sroa_0_sroa_13_0_ph;
+    u1 v_r7_i_i359;
     u8 v_r0_i1_sroa_9_0_ph;
     u8 v_r0_i1_sroa_15_0_ph;
     u8 v_r0_i1_sroa_21_0_ph;
-    u64 v_r62_i319;
+    u64 v_r45_i312;
     P v_r42;
     P v_r0_sroa_21_8_r42_sroa_idx;
     P v_r0_sroa_22_8_r42_sroa_idx;
@@ -12022,8 +12022,8 @@ static void f_pkcs1_view_RsaPrivateKeyViewTryFromRefSliceU8_try_(P v_a0, P v_a1,
     v_r0_i19_sroa_27_i_i_sroa_0_i = m_v_r0_i19_sroa_27_i_i_sroa_0_i;
     v_r17_sroa_9_i_sroa_0_i_i = m_v_r17_sroa_9_i_sroa_0_i_i;
     v_r7_sroa_20_sroa_0_i_i = m_v_r7_sroa_20_sroa_0_i_i;
-    v_r21_sroa_28_i = m_v_r21_sroa_28_i;
-    v_r30_i23_sroa_41 = m_v_r30_i23_sroa_41;
+    v_r17_sroa_28_i = m_v_r17_sroa_28_i;
+    v_r30_i23_sroa_36 = m_v_r30_i23_sroa_36;
     v_r0_i1_sroa_27_sroa_89 = m_v_r0_i1_sroa_27_sroa_89;
     v_r15_i_sroa_11_sroa_21 = m_v_r15_i_sroa_11_sroa_21;
     v_r7_sroa_21_sroa_70 = m_v_r7_sroa_21_sroa_70;
@@ -12033,23 +12033,23 @@ static void f_pkcs1_view_RsaPrivateKeyViewTryFromRefSliceU8_try_(P v_a0, P v_a1,
     if (v_r16_i) { goto L_join_3_i_i; } else { p_v_r7_sroa_6_0_ph = 7u; p_v_r7_sroa_11_0_ph = 0u; p_v_r7_sroa_16_0_ph = 0u; goto L_arm_2; }
 L_join_3_i_i:;
     fill(v_r0_i1_sroa_27_sroa_89, 0u, 16u);
-    fill(v_r30_i23_sroa_41, 0u, 16u);
+    fill(v_r30_i23_sroa_36, 0u, 16u);
     v_r39_i_i73 = v_a2 == 0u;
     if (v_r39_i_i73) { p_v_r0_i1_sroa_9_0_ph = 1u; p_v_r0_i1_sroa_15_0_ph = 0u; p_v_r0_i1_sroa_21_0_ph = 0u; goto L_arm_6_i; } else { goto L_arm_1_i_i; }
 L_arm_1_i_i:;
     v_r16_i_i_i = v_a1 + 1;
     v_r29_i75 = get_u8(v_a1);
     v_r8_i22_i = v_r29_i75 == 48u;
-    if (v_r8_i22_i) { p_v_r4_i20_i_sroa_6_01002 = 48u; goto L_join_3_i_i101; } else { goto L_der_core_header_tag_of_exit_i; }
+    if (v_r8_i22_i) { p_v_r4_i20_i_sroa_6_0976 = 48u; goto L_join_3_i_i101; } else { goto L_der_core_header_tag_of_exit_i; }
 L_der_core_header_tag_of_exit_i:;
     v_r9_i88 = (u8)((u32)(v_r29_i75) & (u32)(31u));
     v_r11_i89 = v_r9_i88 != 31u;
     v_0 = (u8)((u32)(v_r29_i75) & (u32)(223u));
     v_1 = v_0 != 0u;
     v_r2_0_in_i_not = (u1)(((u32)(v_r11_i89) & (u32)(v_1)) & 1);
-    if (v_r2_0_in_i_not) { p_v_r4_i20_i_sroa_6_01002 = v_r29_i75; goto L_join_3_i_i101; } else { p_v_r0_i1_sroa_9_0_ph = 11u; p_v_r0_i1_sroa_15_0_ph = v_r29_i75; p_v_r0_i1_sroa_21_0_ph = 0u; goto L_arm_6_i; }
+    if (v_r2_0_in_i_not) { p_v_r4_i20_i_sroa_6_0976 = v_r29_i75; goto L_join_3_i_i101; } else { p_v_r0_i1_sroa_9_0_ph = 11u; p_v_r0_i1_sroa_15_0_ph = v_r29_i75; p_v_r0_i1_sroa_21_0_ph = 0u; goto L_arm_6_i; }
 L_join_3_i_i101:;
-    v_r4_i20_i_sroa_6_01002 = p_v_r4_i20_i_sroa_6_01002;
+    v_r4_i20_i_sroa_6_0976 = p_v_r4_i20_i_sroa_6_0976;
     v_r39_i_i104 = v_a2 == 1u;
     if (v_r39_i_i104) { p_v_r0_i1_sroa_9_0_ph = 1u; p_v_r0_i1_sroa_15_0_ph = 0u; p_v_r0_i1_sroa_21_0_ph = 0u; goto L_arm_6_i; } else { goto L_arm_1_i59_i; }
 L_arm_1_i59_i:;
@@ -12060,7 +12060,7 @@ L_arm_1_i59_i:;
     if (v_r51_i62_i) { goto L_then_5_i_i; } else { goto L_join_7_i63_i; }
 L_then_5_i_i:;
     v_r56_i73_i = (u64)v_r29_i109;
-    { p_v_r4_i_sroa_12_21058 = v_r19_i_i_i108; p_v_r4_i_sroa_0_21056 = v_r16_i_i_i107; p_v_r12_sroa_10_0_i = v_r56_i73_i; goto L_arm_1_i42; }
+    { p_v_r4_i_sroa_12_21032 = v_r19_i_i_i108; p_v_r4_i_sroa_0_21030 = v_r16_i_i_i107; p_v_r12_sroa_10_0_i = v_r56_i73_i; goto L_arm_1_i42; }
 L_join_7_i63_i:;
     v_r68_i64_i = v_r29_i109 == 128u;
     if (v_r68_i64_i) { p_v_r0_i1_sroa_9_0_ph = 2u; p_v_r0_i1_sroa_15_0_ph = 0u; p_v_r0_i1_sroa_21_0_ph = 0u; goto L_arm_6_i; } else { goto L_join_10_i_i; }
@@ -12090,7 +12090,7 @@ L_der_core_length_is_overlong_exit:;
     if (v_r30_i184) { p_v_r0_i1_sroa_9_0_ph = 8u; p_v_r0_i1_sroa_15_0_ph = 0u; p_v_r0_i1_sroa_21_0_ph = 0u; goto L_arm_6_i; } else { goto L_then_5_i80_i; }
 L_then_5_i80_i:;
     v_r71_i_i = (u64)v_r28_i183;
-    { p_v_r4_i_sroa_12_21058 = v_r19_i_i155; p_v_r4_i_sroa_0_21056 = v_r16_i_i154; p_v_r12_sroa_10_0_i = v_r71_i_i; goto L_arm_1_i42; }
+    { p_v_r4_i_sroa_12_21032 = v_r19_i_i155; p_v_r4_i_sroa_0_21030 = v_r16_i_i154; p_v_r12_sroa_10_0_i = v_r71_i_i; goto L_arm_1_i42; }
 L_join_7_i82_i:;
     v_r74_i83_i = v_r106_i_i < 3u;
     if (v_r74_i83_i) { goto L_then_8_i106_i; } else { goto L_join_10_i84_i; }
@@ -12101,7 +12101,7 @@ L_then_8_i106_i:;
     v_r91_i_i = get_u8(v_r81_i107_i);
     v_r93_i110_i = (u64)v_r91_i_i;
     v_r96_i111_i = (u64)((u64)(v_r89_i_i) | (u64)(v_r93_i110_i));
-    { p_v_r4_i_sroa_12_21058 = v_r19_i_i155; p_v_r4_i_sroa_0_21056 = v_r16_i_i154; p_v_r12_sroa_10_0_i = v_r96_i111_i; goto L_arm_1_i42; }
+    { p_v_r4_i_sroa_12_21032 = v_r19_i_i155; p_v_r4_i_sroa_0_21030 = v_r16_i_i154; p_v_r12_sroa_10_0_i = v_r96_i111_i; goto L_arm_1_i42; }
 L_join_10_i84_i:;
     v_r99_i85_i = v_r106_i_i == 3u;
     if (v_r99_i85_i) { goto L_then_11_i95_i; } else { goto L_join_13_i86_i; }
@@ -12117,7 +12117,7 @@ L_then_11_i95_i:;
     v_r128_i_i = get_u8(v_r108_i97_i);
     v_r130_i105_i = (u64)v_r128_i_i;
     v_r133_i_i = (u64)((u64)(v_r126_i104_i) | (u64)(v_r130_i105_i));
-    { p_v_r4_i_sroa_12_21058 = v_r19_i_i155; p_v_r4_i_sroa_0_21056 = v_r16_i_i154; p_v_r12_sroa_10_0_i = v_r133_i_i; goto L_arm_1_i42; }
+    { p_v_r4_i_sroa_12_21032 = v_r19_i_i155; p_v_r4_i_sroa_0_21030 = v_r16_i_i154; p_v_r12_sroa_10_0_i = v_r133_i_i; goto L_arm_1_i42; }
 L_join_13_i86_i:;
     v_r136_i87_i = v_r106_i_i < 5u;
     if (v_r136_i87_i) { goto L_then_14_i_i; } else { goto L_join_16_i_i; }
@@ -12138,95 +12138,95 @@ L_then_14_i_i:;
     v_r177_i_i = get_u8(v_r147_i90_i);
     v_r179_i_i = (u64)v_r177_i_i;
     v_r182_i_i = (u64)((u64)(v_r175_i_i) | (u64)(v_r179_i_i));
-    { p_v_r4_i_sroa_12_21058 = v_r19_i_i155; p_v_r4_i_sroa_0_21056 = v_r16_i_i154; p_v_r12_sroa_10_0_i = v_r182_i_i; goto L_arm_1_i42; }
+    { p_v_r4_i_sroa_12_21032 = v_r19_i_i155; p_v_r4_i_sroa_0_21030 = v_r16_i_i154; p_v_r12_sroa_10_0_i = v_r182_i_i; goto L_arm_1_i42; }
 L_join_16_i_i:;
     __builtin_trap();
     __builtin_trap();
 L_arm_1_i42:;
-    v_r4_i_sroa_12_21058 = p_v_r4_i_sroa_12_21058;
-    v_r4_i_sroa_0_21056 = p_v_r4_i_sroa_0_21056;
+    v_r4_i_sroa_12_21032 = p_v_r4_i_sroa_12_21032;
+    v_r4_i_sroa_0_21030 = p_v_r4_i_sroa_0_21030;
     v_r12_sroa_10_0_i = p_v_r12_sroa_10_0_i;
-    v_r7_i_i_i_not = v_r4_i20_i_sroa_6_01002 == 48u;
-    if (v_r7_i_i_i_not) { goto L_join_3_i_i263; } else { p_v_r0_i1_sroa_9_0_ph = 10u; p_v_r0_i1_sroa_15_0_ph = 48u; p_v_r0_i1_sroa_21_0_ph = v_r4_i20_i_sroa_6_01002; goto L_arm_6_i; }
+    v_r7_i_i_i_not = v_r4_i20_i_sroa_6_0976 == 48u;
+    if (v_r7_i_i_i_not) { goto L_join_3_i_i263; } else { p_v_r0_i1_sroa_9_0_ph = 10u; p_v_r0_i1_sroa_15_0_ph = 48u; p_v_r0_i1_sroa_21_0_ph = v_r4_i20_i_sroa_6_0976; goto L_arm_6_i; }
 L_join_3_i_i263:;
-    v_r39_i_i266 = v_r4_i_sroa_12_21058 < v_r12_sroa_10_0_i;
+    v_r39_i_i266 = v_r4_i_sroa_12_21032 < v_r12_sroa_10_0_i;
     if (v_r39_i_i266) { p_v_r0_i1_sroa_9_0_ph = 1u; p_v_r0_i1_sroa_15_0_ph = 0u; p_v_r0_i1_sroa_21_0_ph = 0u; goto L_arm_6_i; } else { goto L_join_3_i_i_i; }
 L_join_3_i_i_i:;
-    fill(v_r21_sroa_28_i, 0u, 16u);
-    v_r39_i_i13_i = v_r12_sroa_10_0_i == 0u;
-    if (v_r39_i_i13_i) { p_v_r30_i23_sroa_0_sroa_8_0_ph = 1u; p_v_r30_i23_sroa_0_sroa_12_0_ph = 0u; p_v_r30_i23_sroa_0_sroa_16_0_ph = 0u; goto L_arm_12_i; } else { goto L_arm_1_i_i_i; }
+    fill(v_r17_sroa_28_i, 0u, 16u);
+    v_r39_i_i682_i = v_r12_sroa_10_0_i == 0u;
+    if (v_r39_i_i682_i) { p_v_r30_i23_sroa_0_sroa_7_0_ph = 1u; p_v_r30_i23_sroa_0_sroa_10_0_ph = 0u; p_v_r30_i23_sroa_0_sroa_13_0_ph = 0u; goto L_arm_12_i; } else { goto L_arm_1_i_i_i; }
 L_arm_1_i_i_i:;
-    v_r16_i_i_i_i = v_r4_i_sroa_0_21056 + 1;
-    v_r29_i15_i = get_u8(v_r4_i_sroa_0_21056);
-    v_r8_i23_i_i = v_r29_i15_i == 2u;
-    if (v_r8_i23_i_i) { goto L_join_3_i_i32_i; } else { goto L_der_core_header_tag_of_exit_i_i; }
+    v_r16_i_i_i684_i = v_r4_i_sroa_0_21030 + 1;
+    v_r29_i686_i = get_u8(v_r4_i_sroa_0_21030);
+    v_r8_i23_i_i = v_r29_i686_i == 2u;
+    if (v_r8_i23_i_i) { goto L_join_3_i_i711_i; } else { goto L_der_core_header_tag_of_exit_i_i; }
 L_der_core_header_tag_of_exit_i_i:;
-    v_r9_i23_i = (u8)((u32)(v_r29_i15_i) & (u32)(31u));
-    v_r11_i24_i = v_r9_i23_i != 31u;
-    v_2 = (u8)((u32)(v_r29_i15_i) & (u32)(223u));
+    v_r9_i697_i = (u8)((u32)(v_r29_i686_i) & (u32)(31u));
+    v_r11_i698_i = v_r9_i697_i != 31u;
+    v_2 = (u8)((u32)(v_r29_i686_i) & (u32)(223u));
     v_3 = v_2 != 0u;
-    v_r2_0_in_i_not_i = (u1)(((u32)(v_r11_i24_i) & (u32)(v_3)) & 1);
-    if (v_r2_0_in_i_not_i) { goto L_join_3_i_i32_i; } else { p_v_r30_i23_sroa_0_sroa_8_0_ph = 11u; p_v_r30_i23_sroa_0_sroa_12_0_ph = v_r29_i15_i; p_v_r30_i23_sroa_0_sroa_16_0_ph = 0u; goto L_arm_12_i; }
-L_join_3_i_i32_i:;
-    v_r39_i_i35_i = v_r12_sroa_10_0_i == 1u;
-    if (v_r39_i_i35_i) { p_v_r30_i23_sroa_0_sroa_8_0_ph = 1u; p_v_r30_i23_sroa_0_sroa_12_0_ph = 0u; p_v_r30_i23_sroa_0_sroa_16_0_ph = 0u; goto L_arm_12_i; } else { goto L_arm_1_i60_i_i; }
+    v_r2_0_in_i_not_i = (u1)(((u32)(v_r11_i698_i) & (u32)(v_3)) & 1);
+    if (v_r2_0_in_i_not_i) { goto L_join_3_i_i711_i; } else { p_v_r30_i23_sroa_0_sroa_7_0_ph = 11u; p_v_r30_i23_sroa_0_sroa_10_0_ph = v_r29_i686_i; p_v_r30_i23_sroa_0_sroa_13_0_ph = 0u; goto L_arm_12_i; }
+L_join_3_i_i711_i:;
+    v_r39_i_i714_i = v_r12_sroa_10_0_i == 1u;
+    if (v_r39_i_i714_i) { p_v_r30_i23_sroa_0_sroa_7_0_ph = 1u; p_v_r30_i23_sroa_0_sroa_10_0_ph = 0u; p_v_r30_i23_sroa_0_sroa_13_0_ph = 0u; goto L_arm_12_i; } else { goto L_arm_1_i60_i_i; }
 L_arm_1_i60_i_i:;
-    v_r16_i_i_i38_i = v_r4_i_sroa_0_21056 + 2;
-    v_r19_i_i_i39_i = (u64)((u64)(v_r12_sroa_10_0_i) + (u64)(18446744073709551614ull));
-    v_r29_i40_i = get_u8(v_r16_i_i_i_i);
-    v_r51_i63_i_i = (u8)(v_r29_i40_i ^ ((u8)1 << 7)) > (u8)(255u ^ ((u8)1 << 7));
+    v_r16_i_i_i717_i = v_r4_i_sroa_0_21030 + 2;
+    v_r19_i_i_i718_i = (u64)((u64)(v_r12_sroa_10_0_i) + (u64)(18446744073709551614ull));
+    v_r29_i719_i = get_u8(v_r16_i_i_i684_i);
+    v_r51_i63_i_i = (u8)(v_r29_i719_i ^ ((u8)1 << 7)) > (u8)(255u ^ ((u8)1 << 7));
     if (v_r51_i63_i_i) { goto L_then_5_i_i_i; } else { goto L_join_7_i64_i_i; }
 L_then_5_i_i_i:;
-    v_r56_i74_i_i = (u32)v_r29_i40_i;
-    { p_v_r13_sroa_0_0_copyload_i_i183_i = v_r16_i_i_i38_i; p_v_r36_i_i180_i = v_r19_i_i_i39_i; p_v_r12_sroa_10_0_i_i = v_r56_i74_i_i; goto L_arm_1_i_i306; }
+    v_r56_i74_i_i = (u32)v_r29_i719_i;
+    { p_v_r13_sroa_0_0_copyload_i_i870_i = v_r16_i_i_i717_i; p_v_r36_i_i867_i = v_r19_i_i_i718_i; p_v_r12_sroa_10_0_i_i = v_r56_i74_i_i; goto L_arm_1_i37_i; }
 L_join_7_i64_i_i:;
-    v_r68_i65_i_i = v_r29_i40_i == 128u;
-    if (v_r68_i65_i_i) { p_v_r30_i23_sroa_0_sroa_8_0_ph = 2u; p_v_r30_i23_sroa_0_sroa_12_0_ph = 0u; p_v_r30_i23_sroa_0_sroa_16_0_ph = 0u; goto L_arm_12_i; } else { goto L_join_10_i_i_i; }
+    v_r68_i65_i_i = v_r29_i719_i == 128u;
+    if (v_r68_i65_i_i) { p_v_r30_i23_sroa_0_sroa_7_0_ph = 2u; p_v_r30_i23_sroa_0_sroa_10_0_ph = 0u; p_v_r30_i23_sroa_0_sroa_13_0_ph = 0u; goto L_arm_12_i; } else { goto L_join_10_i_i_i; }
 L_join_10_i_i_i:;
-    v_r87_i_i_i = v_r29_i40_i > 132u;
-    if (v_r87_i_i_i) { p_v_r30_i23_sroa_0_sroa_8_0_ph = 7u; p_v_r30_i23_sroa_0_sroa_12_0_ph = 0u; p_v_r30_i23_sroa_0_sroa_16_0_ph = 0u; goto L_arm_12_i; } else { goto L_join_3_i_i303; }
+    v_r87_i_i_i = v_r29_i719_i > 132u;
+    if (v_r87_i_i_i) { p_v_r30_i23_sroa_0_sroa_7_0_ph = 7u; p_v_r30_i23_sroa_0_sroa_10_0_ph = 0u; p_v_r30_i23_sroa_0_sroa_13_0_ph = 0u; goto L_arm_12_i; } else { goto L_join_3_i_i303; }
 L_join_3_i_i303:;
-    v_r106_i_i_i = (u8)((u32)(v_r29_i40_i) & (u32)(127u));
+    v_r106_i_i_i = (u8)((u32)(v_r29_i719_i) & (u32)(127u));
     v_r3_i25_i_i304 = (u64)v_r106_i_i_i;
-    v_r39_i80_i = v_r19_i_i_i39_i < v_r3_i25_i_i304;
-    if (v_r39_i80_i) { p_v_r30_i23_sroa_0_sroa_8_0_ph = 1u; p_v_r30_i23_sroa_0_sroa_12_0_ph = 0u; p_v_r30_i23_sroa_0_sroa_16_0_ph = 0u; goto L_arm_12_i; } else { goto L_arm_14_i_i_i; }
+    v_r39_i762_i = v_r19_i_i_i718_i < v_r3_i25_i_i304;
+    if (v_r39_i762_i) { p_v_r30_i23_sroa_0_sroa_7_0_ph = 1u; p_v_r30_i23_sroa_0_sroa_10_0_ph = 0u; p_v_r30_i23_sroa_0_sroa_13_0_ph = 0u; goto L_arm_12_i; } else { goto L_arm_14_i_i_i; }
 L_arm_14_i_i_i:;
-    v_r16_i_i82_i = (P)((uintptr_t)v_r16_i_i_i38_i + (u64)(v_r3_i25_i_i304));
-    v_r19_i_i83_i = (u64)((u64)(v_r19_i_i_i39_i) - (u64)(v_r3_i25_i_i304));
+    v_r16_i_i764_i = (P)((uintptr_t)v_r16_i_i_i717_i + (u64)(v_r3_i25_i_i304));
+    v_r19_i_i765_i = (u64)((u64)(v_r19_i_i_i718_i) - (u64)(v_r3_i25_i_i304));
     switch (v_r106_i_i_i) {
-    case 0u: { p_v_r30_i23_sroa_0_sroa_8_0_ph = 8u; p_v_r30_i23_sroa_0_sroa_12_0_ph = v_r106_i_i_i; p_v_r30_i23_sroa_0_sroa_16_0_ph = v_r106_i_i_i; goto L_arm_12_i; }
+    case 0u: { p_v_r30_i23_sroa_0_sroa_7_0_ph = 8u; p_v_r30_i23_sroa_0_sroa_10_0_ph = v_r106_i_i_i; p_v_r30_i23_sroa_0_sroa_13_0_ph = v_r106_i_i_i; goto L_arm_12_i; }
     case 1u: { goto L_der_core_length_is_overlong_exit_i; }
-    default: { goto L_join_7_i102_i; }
+    default: { goto L_join_7_i787_i; }
     }
-L_join_7_i102_i:;
-    v_r36_i103_i = get_u8(v_r16_i_i_i38_i);
-    v_r38_i_i322 = v_r36_i103_i == 0u;
-    if (v_r38_i_i322) { p_v_r30_i23_sroa_0_sroa_8_0_ph = 8u; p_v_r30_i23_sroa_0_sroa_12_0_ph = 0u; p_v_r30_i23_sroa_0_sroa_16_0_ph = 0u; goto L_arm_12_i; } else { goto L_join_7_i83_i_i; }
+L_join_7_i787_i:;
+    v_r36_i788_i = get_u8(v_r16_i_i_i717_i);
+    v_r38_i789_i = v_r36_i788_i == 0u;
+    if (v_r38_i789_i) { p_v_r30_i23_sroa_0_sroa_7_0_ph = 8u; p_v_r30_i23_sroa_0_sroa_10_0_ph = 0u; p_v_r30_i23_sroa_0_sroa_13_0_ph = 0u; goto L_arm_12_i; } else { goto L_join_7_i83_i_i; }
 L_der_core_length_is_overlong_exit_i:;
-    v_r28_i_i305 = get_u8(v_r16_i_i_i38_i);
-    v_r30_i101_i = (u8)(v_r28_i_i305 ^ ((u8)1 << 7)) > (u8)(255u ^ ((u8)1 << 7));
-    if (v_r30_i101_i) { p_v_r30_i23_sroa_0_sroa_8_0_ph = 8u; p_v_r30_i23_sroa_0_sroa_12_0_ph = 0u; p_v_r30_i23_sroa_0_sroa_16_0_ph = 0u; goto L_arm_12_i; } else { goto L_then_5_i81_i_i; }
+    v_r28_i785_i = get_u8(v_r16_i_i_i717_i);
+    v_r30_i786_i = (u8)(v_r28_i785_i ^ ((u8)1 << 7)) > (u8)(255u ^ ((u8)1 << 7));
+    if (v_r30_i786_i) { p_v_r30_i23_sroa_0_sroa_7_0_ph = 8u; p_v_r30_i23_sroa_0_sroa_10_0_ph = 0u; p_v_r30_i23_sroa_0_sroa_13_0_ph = 0u; goto L_arm_12_i; } else { goto L_then_5_i81_i_i; }
 L_then_5_i81_i_i:;
-    v_r71_i_i_i = (u32)v_r28_i_i305;
-    { p_v_r13_sroa_0_0_copyload_i_i183_i = v_r16_i_i82_i; p_v_r36_i_i180_i = v_r19_i_i83_i; p_v_r12_sroa_10_0_i_i = v_r71_i_i_i; goto L_arm_1_i_i306; }
+    v_r71_i_i_i = (u32)v_r28_i785_i;
+    { p_v_r13_sroa_0_0_copyload_i_i870_i = v_r16_i_i764_i; p_v_r36_i_i867_i = v_r19_i_i765_i; p_v_r12_sroa_10_0_i_i = v_r71_i_i_i; goto L_arm_1_i37_i; }
 L_join_7_i83_i_i:;
     v_r74_i84_i_i = v_r106_i_i_i < 3u;
     if (v_r74_i84_i_i) { goto L_then_8_i107_i_i; } else { goto L_join_10_i85_i_i; }
 L_then_8_i107_i_i:;
-    v_r81_i108_i_i = v_r4_i_sroa_0_21056 + 3;
-    v_r87_i110_i_i = (u32)v_r36_i103_i;
+    v_r81_i108_i_i = v_r4_i_sroa_0_21030 + 3;
+    v_r87_i110_i_i = (u32)v_r36_i788_i;
     v_r89_i_i_i = (u32)((u32)(v_r87_i110_i_i) << (u32)((8u & 31)));
     v_r91_i_i_i = get_u8(v_r81_i108_i_i);
     v_r93_i111_i_i = (u32)v_r91_i_i_i;
     v_r96_i112_i_i = (u32)((u32)(v_r89_i_i_i) | (u32)(v_r93_i111_i_i));
-    { p_v_r13_sroa_0_0_copyload_i_i183_i = v_r16_i_i82_i; p_v_r36_i_i180_i = v_r19_i_i83_i; p_v_r12_sroa_10_0_i_i = v_r96_i112_i_i; goto L_arm_1_i_i306; }
+    { p_v_r13_sroa_0_0_copyload_i_i870_i = v_r16_i_i764_i; p_v_r36_i_i867_i = v_r19_i_i765_i; p_v_r12_sroa_10_0_i_i = v_r96_i112_i_i; goto L_arm_1_i37_i; }
 L_join_10_i85_i_i:;
     v_r99_i86_i_i = v_r106_i_i_i == 3u;
     if (v_r99_i86_i_i) { goto L_then_11_i96_i_i; } else { goto L_join_13_i87_i_i; }
 L_then_11_i96_i_i:;
-    v_r106_i97_i_i = v_r4_i_sroa_0_21056 + 3;
-    v_r108_i98_i_i = v_r4_i_sroa_0_21056 + 4;
-    v_r115_i100_i_i = (u32)v_r36_i103_i;
+    v_r106_i97_i_i = v_r4_i_sroa_0_21030 + 3;
+    v_r108_i98_i_i = v_r4_i_sroa_0_21030 + 4;
+    v_r115_i100_i_i = (u32)v_r36_i788_i;
     v_r117_i101_i_i = (u32)((u32)(v_r115_i100_i_i) << (u32)((16u & 31)));
     v_r119_i102_i_i = get_u8(v_r106_i97_i_i);
     v_r121_i103_i_i = (u32)v_r119_i102_i_i;
@@ -12235,15 +12235,15 @@ L_then_11_i96_i_i:;
     v_r128_i_i_i = get_u8(v_r108_i98_i_i);
     v_r130_i106_i_i = (u32)v_r128_i_i_i;
     v_r133_i_i_i = (u32)((u32)(v_r126_i105_i_i) | (u32)(v_r130_i106_i_i));
-    { p_v_r13_sroa_0_0_copyload_i_i183_i = v_r16_i_i82_i; p_v_r36_i_i180_i = v_r19_i_i83_i; p_v_r12_sroa_10_0_i_i = v_r133_i_i_i; goto L_arm_1_i_i306; }
+    { p_v_r13_sroa_0_0_copyload_i_i870_i = v_r16_i_i764_i; p_v_r36_i_i867_i = v_r19_i_i765_i; p_v_r12_sroa_10_0_i_i = v_r133_i_i_i; goto L_arm_1_i37_i; }
 L_join_13_i87_i_i:;
     v_r136_i88_i_i = v_r106_i_i_i < 5u;
     if (v_r136_i88_i_i) { goto L_then_14_i_i_i; } else { goto L_join_16_i_i_i; }
 L_then_14_i_i_i:;
-    v_r143_i89_i_i = v_r4_i_sroa_0_21056 + 3;
-    v_r145_i90_i_i = v_r4_i_sroa_0_21056 + 4;
-    v_r147_i91_i_i = v_r4_i_sroa_0_21056 + 5;
-    v_r155_i93_i_i = (u32)v_r36_i103_i;
+    v_r143_i89_i_i = v_r4_i_sroa_0_21030 + 3;
+    v_r145_i90_i_i = v_r4_i_sroa_0_21030 + 4;
+    v_r147_i91_i_i = v_r4_i_sroa_0_21030 + 5;
+    v_r155_i93_i_i = (u32)v_r36_i788_i;
     v_r157_i94_i_i = (u32)((u32)(v_r155_i93_i_i) << (u32)((24u & 31)));
     v_r159_i95_i_i = get_u8(v_r143_i89_i_i);
     v_r161_i_i_i = (u32)v_r159_i95_i_i;
@@ -12256,119 +12256,119 @@ L_then_14_i_i_i:;
     v_r177_i_i_i = get_u8(v_r147_i91_i_i);
     v_r179_i_i_i = (u32)v_r177_i_i_i;
     v_r182_i_i_i = (u32)((u32)(v_r175_i_i_i) | (u32)(v_r179_i_i_i));
-    { p_v_r13_sroa_0_0_copyload_i_i183_i = v_r16_i_i82_i; p_v_r36_i_i180_i = v_r19_i_i83_i; p_v_r12_sroa_10_0_i_i = v_r182_i_i_i; goto L_arm_1_i_i306; }
+    { p_v_r13_sroa_0_0_copyload_i_i870_i = v_r16_i_i764_i; p_v_r36_i_i867_i = v_r19_i_i765_i; p_v_r12_sroa_10_0_i_i = v_r182_i_i_i; goto L_arm_1_i37_i; }
 L_join_16_i_i_i:;
     __builtin_trap();
     __builtin_trap();
-L_arm_1_i_i306:;
-    v_r13_sroa_0_0_copyload_i_i183_i = p_v_r13_sroa_0_0_copyload_i_i183_i;
-    v_r36_i_i180_i = p_v_r36_i_i180_i;
+L_arm_1_i37_i:;
+    v_r13_sroa_0_0_copyload_i_i870_i = p_v_r13_sroa_0_0_copyload_i_i870_i;
+    v_r36_i_i867_i = p_v_r36_i_i867_i;
     v_r12_sroa_10_0_i_i = p_v_r12_sroa_10_0_i_i;
-    if (v_r8_i23_i_i) { goto L_join_3_i_i178_i; } else { p_v_r30_i23_sroa_0_sroa_8_0_ph = 10u; p_v_r30_i23_sroa_0_sroa_12_0_ph = 2u; p_v_r30_i23_sroa_0_sroa_16_0_ph = v_r29_i15_i; goto L_arm_12_i; }
-L_join_3_i_i178_i:;
+    if (v_r8_i23_i_i) { goto L_join_3_i_i865_i; } else { p_v_r30_i23_sroa_0_sroa_7_0_ph = 10u; p_v_r30_i23_sroa_0_sroa_10_0_ph = 2u; p_v_r30_i23_sroa_0_sroa_13_0_ph = v_r29_i686_i; goto L_arm_12_i; }
+L_join_3_i_i865_i:;
     v_r3_i25_i_i_i = (u64)v_r12_sroa_10_0_i_i;
-    v_r39_i_i181_i = v_r36_i_i180_i < v_r3_i25_i_i_i;
-    if (v_r39_i_i181_i) { p_v_r30_i23_sroa_0_sroa_8_0_ph = 1u; p_v_r30_i23_sroa_0_sroa_12_0_ph = 0u; p_v_r30_i23_sroa_0_sroa_16_0_ph = 0u; goto L_arm_12_i; } else { goto L_join_3_i_i213_i; }
-L_join_3_i_i213_i:;
-    v_r16_i_i_i184_i = (P)((uintptr_t)v_r13_sroa_0_0_copyload_i_i183_i + (u64)(v_r3_i25_i_i_i));
-    v_r19_i_i_i185_i = (u64)((u64)(v_r36_i_i180_i) - (u64)(v_r3_i25_i_i_i));
+    v_r39_i_i868_i = v_r36_i_i867_i < v_r3_i25_i_i_i;
+    if (v_r39_i_i868_i) { p_v_r30_i23_sroa_0_sroa_7_0_ph = 1u; p_v_r30_i23_sroa_0_sroa_10_0_ph = 0u; p_v_r30_i23_sroa_0_sroa_13_0_ph = 0u; goto L_arm_12_i; } else { goto L_join_3_i_i900_i; }
+L_join_3_i_i900_i:;
+    v_r16_i_i_i871_i = (P)((uintptr_t)v_r13_sroa_0_0_copyload_i_i870_i + (u64)(v_r3_i25_i_i_i));
+    v_r19_i_i_i872_i = (u64)((u64)(v_r36_i_i867_i) - (u64)(v_r3_i25_i_i_i));
     v_r7_i_i_i_i_i = v_r12_sroa_10_0_i_i == 0u;
-    if (v_r7_i_i_i_i_i) { p_v_r30_i23_sroa_0_sroa_8_0_ph = 3u; p_v_r30_i23_sroa_0_sroa_12_0_ph = 2u; p_v_r30_i23_sroa_0_sroa_16_0_ph = 0u; goto L_arm_12_i; } else { goto L_join_8_i_i_i_i; }
+    if (v_r7_i_i_i_i_i) { p_v_r30_i23_sroa_0_sroa_7_0_ph = 3u; p_v_r30_i23_sroa_0_sroa_10_0_ph = 2u; p_v_r30_i23_sroa_0_sroa_13_0_ph = 0u; goto L_arm_12_i; } else { goto L_join_8_i_i_i_i; }
 L_join_8_i_i_i_i:;
-    v_r60_i_i_i_i = get_u8(v_r13_sroa_0_0_copyload_i_i183_i);
-    v_r62_i_i_i_i = (u8)(v_r60_i_i_i_i ^ ((u8)1 << 7)) < (u8)(0u ^ ((u8)1 << 7));
-    if (v_r62_i_i_i_i) { p_v_r30_i23_sroa_0_sroa_8_0_ph = 13u; p_v_r30_i23_sroa_0_sroa_12_0_ph = 2u; p_v_r30_i23_sroa_0_sroa_16_0_ph = 0u; goto L_arm_12_i; } else { goto L_join_11_i_i_i_i; }
+    v_r60_i_i_i907_i = get_u8(v_r13_sroa_0_0_copyload_i_i870_i);
+    v_r62_i_i_i908_i = (u8)(v_r60_i_i_i907_i ^ ((u8)1 << 7)) < (u8)(0u ^ ((u8)1 << 7));
+    if (v_r62_i_i_i908_i) { p_v_r30_i23_sroa_0_sroa_7_0_ph = 13u; p_v_r30_i23_sroa_0_sroa_10_0_ph = 2u; p_v_r30_i23_sroa_0_sroa_13_0_ph = 0u; goto L_arm_12_i; } else { goto L_join_11_i_i_i_i; }
 L_join_11_i_i_i_i:;
-    v_r74_i_i_i_i = v_r12_sroa_10_0_i_i != 1u;
-    v_cond_i_i_i_i = v_r60_i_i_i_i == 0u;
-    v_or_cond_i_i_i_i = (u1)(((u32)(v_r74_i_i_i_i) & (u32)(v_cond_i_i_i_i)) & 1);
-    if (v_or_cond_i_i_i_i) { goto L_arm_15_i_i_i_i; } else { goto L_arm_1_i22_i_i; }
-L_arm_15_i_i_i_i:;
-    v_r84_i_i_i_i = v_r13_sroa_0_0_copyload_i_i183_i + 1;
-    v_r87_i_i_i_i = get_u8(v_r84_i_i_i_i);
-    v_r89_i_i_i_i = (u8)(v_r87_i_i_i_i ^ ((u8)1 << 7)) > (u8)(255u ^ ((u8)1 << 7));
-    v_spec_select_i = v_r89_i_i_i_i ? 4u : 13u;
-    { p_v_r30_i23_sroa_0_sroa_8_0_ph = v_spec_select_i; p_v_r30_i23_sroa_0_sroa_12_0_ph = 2u; p_v_r30_i23_sroa_0_sroa_16_0_ph = 0u; goto L_arm_12_i; }
+    v_r74_i_i_i909_i = v_r12_sroa_10_0_i_i != 1u;
+    v_cond_i_i_i_i = v_r60_i_i_i907_i == 0u;
+    v_or_cond_i_i_i_i = (u1)(((u32)(v_r74_i_i_i909_i) & (u32)(v_cond_i_i_i_i)) & 1);
+    if (v_or_cond_i_i_i_i) { goto L_arm_15_i_i_i917_i; } else { goto L_arm_1_i22_i_i; }
+L_arm_15_i_i_i917_i:;
+    v_r84_i_i_i918_i = v_r13_sroa_0_0_copyload_i_i870_i + 1;
+    v_r87_i_i_i919_i = get_u8(v_r84_i_i_i918_i);
+    v_r89_i_i_i920_i = (u8)(v_r87_i_i_i919_i ^ ((u8)1 << 7)) > (u8)(255u ^ ((u8)1 << 7));
+    v_spec_select_i = v_r89_i_i_i920_i ? 4u : 13u;
+    { p_v_r30_i23_sroa_0_sroa_7_0_ph = v_spec_select_i; p_v_r30_i23_sroa_0_sroa_10_0_ph = 2u; p_v_r30_i23_sroa_0_sroa_13_0_ph = 0u; goto L_arm_12_i; }
 L_arm_1_i22_i_i:;
-    v_r42_i_i221_i = v_r12_sroa_10_0_i_i == 1u;
-    v_switch_i = v_r60_i_i_i_i < 2u;
-    v_or_cond_i = (u1)(((u32)(v_r42_i_i221_i) & (u32)(v_switch_i)) & 1);
-    if (v_or_cond_i) { goto L_join_3_i_i_i_i; } else { p_v_r30_i23_sroa_0_sroa_8_0_ph = 13u; p_v_r30_i23_sroa_0_sroa_12_0_ph = 2u; p_v_r30_i23_sroa_0_sroa_16_0_ph = 0u; goto L_arm_12_i; }
-L_join_3_i_i_i_i:;
-    v_r39_i_i2918_i_i = v_r36_i_i180_i == v_r3_i25_i_i_i;
-    if (v_r39_i_i2918_i_i) { p_v_r30_i23_sroa_0_sroa_8_0_ph = 1u; p_v_r30_i23_sroa_0_sroa_12_0_ph = 0u; p_v_r30_i23_sroa_0_sroa_16_0_ph = 0u; goto L_arm_12_i; } else { goto L_arm_1_i_i_i_i; }
+    v_r42_i_i911_i = v_r12_sroa_10_0_i_i == 1u;
+    v_switch_i = v_r60_i_i_i907_i < 2u;
+    v_or_cond_i = (u1)(((u32)(v_r42_i_i911_i) & (u32)(v_switch_i)) & 1);
+    if (v_or_cond_i) { goto L_join_3_i_i951_i; } else { p_v_r30_i23_sroa_0_sroa_7_0_ph = 13u; p_v_r30_i23_sroa_0_sroa_10_0_ph = 2u; p_v_r30_i23_sroa_0_sroa_13_0_ph = 0u; goto L_arm_12_i; }
+L_join_3_i_i951_i:;
+    v_r39_i_i954_i = v_r36_i_i867_i == v_r3_i25_i_i_i;
+    if (v_r39_i_i954_i) { p_v_r30_i23_sroa_0_sroa_7_0_ph = 1u; p_v_r30_i23_sroa_0_sroa_10_0_ph = 0u; p_v_r30_i23_sroa_0_sroa_13_0_ph = 0u; goto L_arm_12_i; } else { goto L_arm_1_i_i_i_i; }
 L_arm_1_i_i_i_i:;
-    v_r16_i_i_i_i_i = v_r16_i_i_i184_i + 1;
-    v_r29_i2920_i_i = get_u8(v_r16_i_i_i184_i);
-    v_r8_i22_i_i_i = v_r29_i2920_i_i == 2u;
-    if (v_r8_i22_i_i_i) { goto L_join_3_i_i2938_i_i; } else { goto L_der_core_header_tag_of_exit_i_i_i; }
+    v_r16_i_i_i957_i = v_r16_i_i_i871_i + 1;
+    v_r29_i959_i = get_u8(v_r16_i_i_i871_i);
+    v_r8_i22_i_i_i = v_r29_i959_i == 2u;
+    if (v_r8_i22_i_i_i) { goto L_join_3_i_i999_i; } else { goto L_der_core_header_tag_of_exit_i_i_i; }
 L_der_core_header_tag_of_exit_i_i_i:;
-    v_r9_i2929_i_i = (u8)((u32)(v_r29_i2920_i_i) & (u32)(31u));
-    v_r11_i2930_i_i = v_r9_i2929_i_i != 31u;
-    v_4 = (u8)((u32)(v_r29_i2920_i_i) & (u32)(223u));
+    v_r9_i981_i = (u8)((u32)(v_r29_i959_i) & (u32)(31u));
+    v_r11_i982_i = v_r9_i981_i != 31u;
+    v_4 = (u8)((u32)(v_r29_i959_i) & (u32)(223u));
     v_5 = v_4 != 0u;
-    v_r2_0_in_i_not_i_i = (u1)(((u32)(v_r11_i2930_i_i) & (u32)(v_5)) & 1);
-    if (v_r2_0_in_i_not_i_i) { goto L_join_3_i_i2938_i_i; } else { p_v_r30_i23_sroa_0_sroa_8_0_ph = 11u; p_v_r30_i23_sroa_0_sroa_12_0_ph = v_r29_i2920_i_i; p_v_r30_i23_sroa_0_sroa_16_0_ph = 0u; goto L_arm_12_i; }
-L_join_3_i_i2938_i_i:;
-    v_r39_i_i2941_i_i = v_r19_i_i_i185_i == 1u;
-    if (v_r39_i_i2941_i_i) { p_v_r30_i23_sroa_0_sroa_8_0_ph = 1u; p_v_r30_i23_sroa_0_sroa_12_0_ph = 0u; p_v_r30_i23_sroa_0_sroa_16_0_ph = 0u; goto L_arm_12_i; } else { goto L_arm_1_i59_i_i_i; }
+    v_r2_0_in_i983_not_i = (u1)(((u32)(v_r11_i982_i) & (u32)(v_5)) & 1);
+    if (v_r2_0_in_i983_not_i) { goto L_join_3_i_i999_i; } else { p_v_r30_i23_sroa_0_sroa_7_0_ph = 11u; p_v_r30_i23_sroa_0_sroa_10_0_ph = v_r29_i959_i; p_v_r30_i23_sroa_0_sroa_13_0_ph = 0u; goto L_arm_12_i; }
+L_join_3_i_i999_i:;
+    v_r39_i_i1002_i = v_r19_i_i_i872_i == 1u;
+    if (v_r39_i_i1002_i) { p_v_r30_i23_sroa_0_sroa_7_0_ph = 1u; p_v_r30_i23_sroa_0_sroa_10_0_ph = 0u; p_v_r30_i23_sroa_0_sroa_13_0_ph = 0u; goto L_arm_12_i; } else { goto L_arm_1_i59_i_i_i; }
 L_arm_1_i59_i_i_i:;
-    v_r16_i_i_i2944_i_i = v_r16_i_i_i184_i + 2;
-    v_r19_i_i_i2945_i_i = (u64)((u64)(v_r19_i_i_i185_i) + (u64)(18446744073709551614ull));
-    v_r29_i2946_i_i = get_u8(v_r16_i_i_i_i_i);
-    v_r51_i62_i_i_i = (u8)(v_r29_i2946_i_i ^ ((u8)1 << 7)) > (u8)(255u ^ ((u8)1 << 7));
+    v_r16_i_i_i1005_i = v_r16_i_i_i871_i + 2;
+    v_r19_i_i_i1006_i = (u64)((u64)(v_r19_i_i_i872_i) + (u64)(18446744073709551614ull));
+    v_r29_i1007_i = get_u8(v_r16_i_i_i957_i);
+    v_r51_i62_i_i_i = (u8)(v_r29_i1007_i ^ ((u8)1 << 7)) > (u8)(255u ^ ((u8)1 << 7));
     if (v_r51_i62_i_i_i) { goto L_then_5_i_i_i_i; } else { goto L_join_7_i63_i_i_i; }
 L_then_5_i_i_i_i:;
-    v_r56_i73_i_i_i = (u32)v_r29_i2946_i_i;
-    { p_v_r13_sroa_0_0_copyload_i_i3090_i_i = v_r16_i_i_i2944_i_i; p_v_r36_i_i3087_i_i = v_r19_i_i_i2945_i_i; p_v_r12_sroa_10_0_i_i_i = v_r56_i73_i_i_i; goto L_arm_1_i_i258_i; }
+    v_r56_i73_i_i_i = (u32)v_r29_i1007_i;
+    { p_v_r13_sroa_0_0_copyload_i_i1185_i = v_r16_i_i_i1005_i; p_v_r36_i_i1182_i = v_r19_i_i_i1006_i; p_v_r12_sroa_10_0_i1120_i = v_r56_i73_i_i_i; goto L_arm_1_i_i129_i; }
 L_join_7_i63_i_i_i:;
-    v_r68_i64_i_i_i = v_r29_i2946_i_i == 128u;
-    if (v_r68_i64_i_i_i) { p_v_r30_i23_sroa_0_sroa_8_0_ph = 2u; p_v_r30_i23_sroa_0_sroa_12_0_ph = 0u; p_v_r30_i23_sroa_0_sroa_16_0_ph = 0u; goto L_arm_12_i; } else { goto L_join_10_i_i_i_i; }
+    v_r68_i64_i_i_i = v_r29_i1007_i == 128u;
+    if (v_r68_i64_i_i_i) { p_v_r30_i23_sroa_0_sroa_7_0_ph = 2u; p_v_r30_i23_sroa_0_sroa_10_0_ph = 0u; p_v_r30_i23_sroa_0_sroa_13_0_ph = 0u; goto L_arm_12_i; } else { goto L_join_10_i_i_i_i; }
 L_join_10_i_i_i_i:;
-    v_r87_i_i_i254_i = v_r29_i2946_i_i > 132u;
-    if (v_r87_i_i_i254_i) { p_v_r30_i23_sroa_0_sroa_8_0_ph = 7u; p_v_r30_i23_sroa_0_sroa_12_0_ph = 0u; p_v_r30_i23_sroa_0_sroa_16_0_ph = 0u; goto L_arm_12_i; } else { goto L_join_3_i_i255_i; }
-L_join_3_i_i255_i:;
-    v_r106_i_i_i_i = (u8)((u32)(v_r29_i2946_i_i) & (u32)(127u));
-    v_r3_i25_i_i256_i = (u64)v_r106_i_i_i_i;
-    v_r39_i2986_i_i = v_r19_i_i_i2945_i_i < v_r3_i25_i_i256_i;
-    if (v_r39_i2986_i_i) { p_v_r30_i23_sroa_0_sroa_8_0_ph = 1u; p_v_r30_i23_sroa_0_sroa_12_0_ph = 0u; p_v_r30_i23_sroa_0_sroa_16_0_ph = 0u; goto L_arm_12_i; } else { goto L_arm_14_i_i_i_i; }
+    v_r87_i_i_i_i = v_r29_i1007_i > 132u;
+    if (v_r87_i_i_i_i) { p_v_r30_i23_sroa_0_sroa_7_0_ph = 7u; p_v_r30_i23_sroa_0_sroa_10_0_ph = 0u; p_v_r30_i23_sroa_0_sroa_13_0_ph = 0u; goto L_arm_12_i; } else { goto L_join_3_i1048_i; }
+L_join_3_i1048_i:;
+    v_r106_i_i_i_i = (u8)((u32)(v_r29_i1007_i) & (u32)(127u));
+    v_r3_i25_i1049_i = (u64)v_r106_i_i_i_i;
+    v_r39_i1052_i = v_r19_i_i_i1006_i < v_r3_i25_i1049_i;
+    if (v_r39_i1052_i) { p_v_r30_i23_sroa_0_sroa_7_0_ph = 1u; p_v_r30_i23_sroa_0_sroa_10_0_ph = 0u; p_v_r30_i23_sroa_0_sroa_13_0_ph = 0u; goto L_arm_12_i; } else { goto L_arm_14_i_i_i_i; }
 L_arm_14_i_i_i_i:;
-    v_r16_i_i2988_i_i = (P)((uintptr_t)v_r16_i_i_i2944_i_i + (u64)(v_r3_i25_i_i256_i));
-    v_r19_i_i2989_i_i = (u64)((u64)(v_r19_i_i_i2945_i_i) - (u64)(v_r3_i25_i_i256_i));
+    v_r16_i_i1056_i = (P)((uintptr_t)v_r16_i_i_i1005_i + (u64)(v_r3_i25_i1049_i));
+    v_r19_i_i1057_i = (u64)((u64)(v_r19_i_i_i1006_i) - (u64)(v_r3_i25_i1049_i));
     switch (v_r106_i_i_i_i) {
-    case 0u: { p_v_r30_i23_sroa_0_sroa_8_0_ph = 8u; p_v_r30_i23_sroa_0_sroa_12_0_ph = v_r106_i_i_i_i; p_v_r30_i23_sroa_0_sroa_16_0_ph = v_r106_i_i_i_i; goto L_arm_12_i; }
-    case 1u: { goto L_der_core_length_is_overlong_exit_i_i; }
-    default: { goto L_join_7_i3008_i_i; }
+    case 0u: { p_v_r30_i23_sroa_0_sroa_7_0_ph = 8u; p_v_r30_i23_sroa_0_sroa_10_0_ph = v_r106_i_i_i_i; p_v_r30_i23_sroa_0_sroa_13_0_ph = v_r106_i_i_i_i; goto L_arm_12_i; }
+    case 1u: { goto L_der_core_length_is_overlong_exit1096_i; }
+    default: { goto L_join_7_i1093_i; }
     }
-L_join_7_i3008_i_i:;
-    v_r36_i3009_i_i = get_u8(v_r16_i_i_i2944_i_i);
-    v_r38_i_i270_i = v_r36_i3009_i_i == 0u;
-    if (v_r38_i_i270_i) { p_v_r30_i23_sroa_0_sroa_8_0_ph = 8u; p_v_r30_i23_sroa_0_sroa_12_0_ph = 0u; p_v_r30_i23_sroa_0_sroa_16_0_ph = 0u; goto L_arm_12_i; } else { goto L_join_7_i82_i_i_i; }
-L_der_core_length_is_overlong_exit_i_i:;
-    v_r28_i_i257_i = get_u8(v_r16_i_i_i2944_i_i);
-    v_r30_i3007_i_i = (u8)(v_r28_i_i257_i ^ ((u8)1 << 7)) > (u8)(255u ^ ((u8)1 << 7));
-    if (v_r30_i3007_i_i) { p_v_r30_i23_sroa_0_sroa_8_0_ph = 8u; p_v_r30_i23_sroa_0_sroa_12_0_ph = 0u; p_v_r30_i23_sroa_0_sroa_16_0_ph = 0u; goto L_arm_12_i; } else { goto L_then_5_i80_i_i_i; }
+L_join_7_i1093_i:;
+    v_r36_i1094_i = get_u8(v_r16_i_i_i1005_i);
+    v_r38_i1095_i = v_r36_i1094_i == 0u;
+    if (v_r38_i1095_i) { p_v_r30_i23_sroa_0_sroa_7_0_ph = 8u; p_v_r30_i23_sroa_0_sroa_10_0_ph = 0u; p_v_r30_i23_sroa_0_sroa_13_0_ph = 0u; goto L_arm_12_i; } else { goto L_join_7_i82_i_i_i; }
+L_der_core_length_is_overlong_exit1096_i:;
+    v_r28_i1090_i = get_u8(v_r16_i_i_i1005_i);
+    v_r30_i1091_i = (u8)(v_r28_i1090_i ^ ((u8)1 << 7)) > (u8)(255u ^ ((u8)1 << 7));
+    if (v_r30_i1091_i) { p_v_r30_i23_sroa_0_sroa_7_0_ph = 8u; p_v_r30_i23_sroa_0_sroa_10_0_ph = 0u; p_v_r30_i23_sroa_0_sroa_13_0_ph = 0u; goto L_arm_12_i; } else { goto L_then_5_i80_i_i_i; }
 L_then_5_i80_i_i_i:;
-    v_r71_i_i_i_i = (u32)v_r28_i_i257_i;
-    { p_v_r13_sroa_0_0_copyload_i_i3090_i_i = v_r16_i_i2988_i_i; p_v_r36_i_i3087_i_i = v_r19_i_i2989_i_i; p_v_r12_sroa_10_0_i_i_i = v_r71_i_i_i_i; goto L_arm_1_i_i258_i; }
+    v_r71_i_i_i_i = (u32)v_r28_i1090_i;
+    { p_v_r13_sroa_0_0_copyload_i_i1185_i = v_r16_i_i1056_i; p_v_r36_i_i1182_i = v_r19_i_i1057_i; p_v_r12_sroa_10_0_i1120_i = v_r71_i_i_i_i; goto L_arm_1_i_i129_i; }
 L_join_7_i82_i_i_i:;
     v_r74_i83_i_i_i = v_r106_i_i_i_i < 3u;
     if (v_r74_i83_i_i_i) { goto L_then_8_i106_i_i_i; } else { goto L_join_10_i84_i_i_i; }
 L_then_8_i106_i_i_i:;
-    v_r81_i107_i_i_i = v_r16_i_i_i184_i + 3;
-    v_r87_i109_i_i_i = (u32)v_r36_i3009_i_i;
-    v_r89_i_i_i271_i = (u32)((u32)(v_r87_i109_i_i_i) << (u32)((8u & 31)));
+    v_r81_i107_i_i_i = v_r16_i_i_i871_i + 3;
+    v_r87_i109_i_i_i = (u32)v_r36_i1094_i;
+    v_r89_i_i_i_i = (u32)((u32)(v_r87_i109_i_i_i) << (u32)((8u & 31)));
     v_r91_i_i_i_i = get_u8(v_r81_i107_i_i_i);
     v_r93_i110_i_i_i = (u32)v_r91_i_i_i_i;
-    v_r96_i111_i_i_i = (u32)((u32)(v_r89_i_i_i271_i) | (u32)(v_r93_i110_i_i_i));
-    { p_v_r13_sroa_0_0_copyload_i_i3090_i_i = v_r16_i_i2988_i_i; p_v_r36_i_i3087_i_i = v_r19_i_i2989_i_i; p_v_r12_sroa_10_0_i_i_i = v_r96_i111_i_i_i; goto L_arm_1_i_i258_i; }
+    v_r96_i111_i_i_i = (u32)((u32)(v_r89_i_i_i_i) | (u32)(v_r93_i110_i_i_i));
+    { p_v_r13_sroa_0_0_copyload_i_i1185_i = v_r16_i_i1056_i; p_v_r36_i_i1182_i = v_r19_i_i1057_i; p_v_r12_sroa_10_0_i1120_i = v_r96_i111_i_i_i; goto L_arm_1_i_i129_i; }
 L_join_10_i84_i_i_i:;
     v_r99_i85_i_i_i = v_r106_i_i_i_i == 3u;
     if (v_r99_i85_i_i_i) { goto L_then_11_i95_i_i_i; } else { goto L_join_13_i86_i_i_i; }
 L_then_11_i95_i_i_i:;
-    v_r106_i96_i_i_i = v_r16_i_i_i184_i + 3;
-    v_r108_i97_i_i_i = v_r16_i_i_i184_i + 4;
-    v_r115_i99_i_i_i = (u32)v_r36_i3009_i_i;
+    v_r106_i96_i_i_i = v_r16_i_i_i871_i + 3;
+    v_r108_i97_i_i_i = v_r16_i_i_i871_i + 4;
+    v_r115_i99_i_i_i = (u32)v_r36_i1094_i;
     v_r117_i100_i_i_i = (u32)((u32)(v_r115_i99_i_i_i) << (u32)((16u & 31)));
     v_r119_i101_i_i_i = get_u8(v_r106_i96_i_i_i);
     v_r121_i102_i_i_i = (u32)v_r119_i101_i_i_i;
@@ -12377,15 +12377,15 @@ L_then_11_i95_i_i_i:;
     v_r128_i_i_i_i = get_u8(v_r108_i97_i_i_i);
     v_r130_i105_i_i_i = (u32)v_r128_i_i_i_i;
     v_r133_i_i_i_i = (u32)((u32)(v_r126_i104_i_i_i) | (u32)(v_r130_i105_i_i_i));
-    { p_v_r13_sroa_0_0_copyload_i_i3090_i_i = v_r16_i_i2988_i_i; p_v_r36_i_i3087_i_i = v_r19_i_i2989_i_i; p_v_r12_sroa_10_0_i_i_i = v_r133_i_i_i_i; goto L_arm_1_i_i258_i; }
+    { p_v_r13_sroa_0_0_copyload_i_i1185_i = v_r16_i_i1056_i; p_v_r36_i_i1182_i = v_r19_i_i1057_i; p_v_r12_sroa_10_0_i1120_i = v_r133_i_i_i_i; goto L_arm_1_i_i129_i; }
 L_join_13_i86_i_i_i:;
     v_r136_i87_i_i_i = v_r106_i_i_i_i < 5u;
     if (v_r136_i87_i_i_i) { goto L_then_14_i_i_i_i; } else { goto L_join_16_i_i_i_i; }
 L_then_14_i_i_i_i:;
-    v_r143_i88_i_i_i = v_r16_i_i_i184_i + 3;
-    v_r145_i89_i_i_i = v_r16_i_i_i184_i + 4;
-    v_r147_i90_i_i_i = v_r16_i_i_i184_i + 5;
-    v_r155_i92_i_i_i = (u32)v_r36_i3009_i_i;
+    v_r143_i88_i_i_i = v_r16_i_i_i871_i + 3;
+    v_r145_i89_i_i_i = v_r16_i_i_i871_i + 4;
+    v_r147_i90_i_i_i = v_r16_i_i_i871_i + 5;
+    v_r155_i92_i_i_i = (u32)v_r36_i1094_i;
     v_r157_i93_i_i_i = (u32)((u32)(v_r155_i92_i_i_i) << (u32)((24u & 31)));
     v_r159_i94_i_i_i = get_u8(v_r143_i88_i_i_i);
     v_r161_i_i_i_i = (u32)v_r159_i94_i_i_i;
@@ -12398,1113 +12398,400 @@ L_then_14_i_i_i_i:;
     v_r177_i_i_i_i = get_u8(v_r147_i90_i_i_i);
     v_r179_i_i_i_i = (u32)v_r177_i_i_i_i;
     v_r182_i_i_i_i = (u32)((u32)(v_r175_i_i_i_i) | (u32)(v_r179_i_i_i_i));
-    { p_v_r13_sroa_0_0_copyload_i_i3090_i_i = v_r16_i_i2988_i_i; p_v_r36_i_i3087_i_i = v_r19_i_i2989_i_i; p_v_r12_sroa_10_0_i_i_i = v_r182_i_i_i_i; goto L_arm_1_i_i258_i; }
+    { p_v_r13_sroa_0_0_copyload_i_i1185_i = v_r16_i_i1056_i; p_v_r36_i_i1182_i = v_r19_i_i1057_i; p_v_r12_sroa_10_0_i1120_i = v_r182_i_i_i_i; goto L_arm_1_i_i129_i; }
 L_join_16_i_i_i_i:;
     __builtin_trap();
     __builtin_trap();
-L_arm_1_i_i258_i:;
-    v_r13_sroa_0_0_copyload_i_i3090_i_i = p_v_r13_sroa_0_0_copyload_i_i3090_i_i;
-    v_r36_i_i3087_i_i = p_v_r36_i_i3087_i_i;
-    v_r12_sroa_10_0_i_i_i = p_v_r12_sroa_10_0_i_i_i;
-    if (v_r8_i22_i_i_i) { goto L_join_3_i_i3085_i_i; } else { p_v_r30_i23_sroa_0_sroa_8_0_ph = 10u; p_v_r30_i23_sroa_0_sroa_12_0_ph = 2u; p_v_r30_i23_sroa_0_sroa_16_0_ph = v_r29_i2920_i_i; goto L_arm_12_i; }
-L_join_3_i_i3085_i_i:;
-    v_r3_i25_i_i_i_i = (u64)v_r12_sroa_10_0_i_i_i;
-    v_r39_i_i3088_i_i = v_r36_i_i3087_i_i < v_r3_i25_i_i_i_i;
-    if (v_r39_i_i3088_i_i) { p_v_r30_i23_sroa_0_sroa_8_0_ph = 1u; p_v_r30_i23_sroa_0_sroa_12_0_ph = 0u; p_v_r30_i23_sroa_0_sroa_16_0_ph = 0u; goto L_arm_12_i; } else { goto L_join_3_i_i3122_i_i; }
-L_join_3_i_i3122_i_i:;
-    v_r16_i_i_i3091_i_i = (P)((uintptr_t)v_r13_sroa_0_0_copyload_i_i3090_i_i + (u64)(v_r3_i25_i_i_i_i));
-    v_r19_i_i_i3092_i_i = (u64)((u64)(v_r36_i_i3087_i_i) - (u64)(v_r3_i25_i_i_i_i));
-    v_r7_i_i_i3131_i_i = v_r12_sroa_10_0_i_i_i == 0u;
-    if (v_r7_i_i_i3131_i_i) { p_v_r30_i23_sroa_0_sroa_8_0_ph = 3u; p_v_r30_i23_sroa_0_sroa_12_0_ph = 2u; p_v_r30_i23_sroa_0_sroa_16_0_ph = 0u; goto L_arm_12_i; } else { goto L_join_8_i_i_i259_i; }
-L_join_8_i_i_i259_i:;
-    v_r60_i_i3132_i_i = get_u8(v_r13_sroa_0_0_copyload_i_i3090_i_i);
-    v_r62_i_i3133_i_i = (u8)(v_r60_i_i3132_i_i ^ ((u8)1 << 7)) < (u8)(0u ^ ((u8)1 << 7));
-    if (v_r62_i_i3133_i_i) { p_v_r30_i23_sroa_0_sroa_8_0_ph = 13u; p_v_r30_i23_sroa_0_sroa_12_0_ph = 2u; p_v_r30_i23_sroa_0_sroa_16_0_ph = 0u; goto L_arm_12_i; } else { goto L_join_11_i_i_i260_i; }
-L_join_11_i_i_i260_i:;
-    v_r74_i_i3134_i_i = v_r12_sroa_10_0_i_i_i != 1u;
-    v_cond_i_i_i261_i = v_r60_i_i3132_i_i == 0u;
-    v_or_cond_i_i_i262_i = (u1)(((u32)(v_r74_i_i3134_i_i) & (u32)(v_cond_i_i_i261_i)) & 1);
-    if (v_or_cond_i_i_i262_i) { goto L_arm_15_i_i3138_i_i; } else { p_v_r12_sroa_10_i3170_sroa_5_0_ph_i_i = v_r3_i25_i_i_i_i; p_v_r12_sroa_10_i3170_sroa_3_0_ph_i_i = v_r13_sroa_0_0_copyload_i_i3090_i_i; goto L_join_3_i_i3185_i_i; }
-L_arm_15_i_i3138_i_i:;
-    v_r84_i_i3139_i_i = v_r13_sroa_0_0_copyload_i_i3090_i_i + 1;
-    v_r87_i_i3140_i_i = get_u8(v_r84_i_i3139_i_i);
-    v_r89_i_i3141_i_i = (u8)(v_r87_i_i3140_i_i ^ ((u8)1 << 7)) > (u8)(255u ^ ((u8)1 << 7));
-    if (v_r89_i_i3141_i_i) { p_v_r30_i23_sroa_0_sroa_8_0_ph = 4u; p_v_r30_i23_sroa_0_sroa_12_0_ph = 2u; p_v_r30_i23_sroa_0_sroa_16_0_ph = 0u; goto L_arm_12_i; } else { goto L_join_20_i_i_i269_i; }
-L_join_20_i_i_i269_i:;
-    v_r103_i_i3142_i_i = (u64)((u64)(v_r3_i25_i_i_i_i) + (u64)(18446744073709551615ull));
-    { p_v_r12_sroa_10_i3170_sroa_5_0_ph_i_i = v_r103_i_i3142_i_i; p_v_r12_sroa_10_i3170_sroa_3_0_ph_i_i = v_r84_i_i3139_i_i; goto L_join_3_i_i3185_i_i; }
-L_join_3_i_i3185_i_i:;
-    v_r12_sroa_10_i3170_sroa_5_0_ph_i_i = p_v_r12_sroa_10_i3170_sroa_5_0_ph_i_i;
-    v_r12_sroa_10_i3170_sroa_3_0_ph_i_i = p_v_r12_sroa_10_i3170_sroa_3_0_ph_i_i;
-    v_r39_i_i3188_i_i = v_r36_i_i3087_i_i == v_r3_i25_i_i_i_i;
-    if (v_r39_i_i3188_i_i) { p_v_r30_i23_sroa_0_sroa_8_0_ph = 1u; p_v_r30_i23_sroa_0_sroa_12_0_ph = 0u; p_v_r30_i23_sroa_0_sroa_16_0_ph = 0u; goto L_arm_12_i; } else { goto L_arm_1_i_i273_i_i; }
-L_arm_1_i_i273_i_i:;
-    v_r16_i_i_i3191_i_i = v_r16_i_i_i3091_i_i + 1;
-    v_r29_i3193_i_i = get_u8(v_r16_i_i_i3091_i_i);
-    v_r8_i22_i277_i_i = v_r29_i3193_i_i == 2u;
-    if (v_r8_i22_i277_i_i) { goto L_join_3_i_i3233_i_i; } else { goto L_der_core_header_tag_of_exit_i279_i_i; }
-L_der_core_header_tag_of_exit_i279_i_i:;
-    v_r9_i3215_i_i = (u8)((u32)(v_r29_i3193_i_i) & (u32)(31u));
-    v_r11_i3216_i_i = v_r9_i3215_i_i != 31u;
-    v_6 = (u8)((u32)(v_r29_i3193_i_i) & (u32)(223u));
+L_arm_1_i_i129_i:;
+    v_r13_sroa_0_0_copyload_i_i1185_i = p_v_r13_sroa_0_0_copyload_i_i1185_i;
+    v_r36_i_i1182_i = p_v_r36_i_i1182_i;
+    v_r12_sroa_10_0_i1120_i = p_v_r12_sroa_10_0_i1120_i;
+    if (v_r8_i22_i_i_i) { goto L_join_3_i_i1179_i; } else { p_v_r30_i23_sroa_0_sroa_7_0_ph = 10u; p_v_r30_i23_sroa_0_sroa_10_0_ph = 2u; p_v_r30_i23_sroa_0_sroa_13_0_ph = v_r29_i959_i; goto L_arm_12_i; }
+L_join_3_i_i1179_i:;
+    v_r3_i25_i_i1180_i = (u64)v_r12_sroa_10_0_i1120_i;
+    v_r39_i_i1183_i = v_r36_i_i1182_i < v_r3_i25_i_i1180_i;
+    if (v_r39_i_i1183_i) { p_v_r30_i23_sroa_0_sroa_7_0_ph = 1u; p_v_r30_i23_sroa_0_sroa_10_0_ph = 0u; p_v_r30_i23_sroa_0_sroa_13_0_ph = 0u; goto L_arm_12_i; } else { goto L_join_3_i_i1222_i; }
+L_join_3_i_i1222_i:;
+    v_r16_i_i_i1186_i = (P)((uintptr_t)v_r13_sroa_0_0_copyload_i_i1185_i + (u64)(v_r3_i25_i_i1180_i));
+    v_r19_i_i_i1187_i = (u64)((u64)(v_r36_i_i1182_i) - (u64)(v_r3_i25_i_i1180_i));
+    v_r7_i_i_i1231_i = v_r12_sroa_10_0_i1120_i == 0u;
+    if (v_r7_i_i_i1231_i) { p_v_r30_i23_sroa_0_sroa_7_0_ph = 3u; p_v_r30_i23_sroa_0_sroa_10_0_ph = 2u; p_v_r30_i23_sroa_0_sroa_13_0_ph = 0u; goto L_arm_12_i; } else { goto L_join_8_i_i_i; }
+L_join_8_i_i_i:;
+    v_r60_i_i1232_i = get_u8(v_r13_sroa_0_0_copyload_i_i1185_i);
+    v_r62_i_i1233_i = (u8)(v_r60_i_i1232_i ^ ((u8)1 << 7)) < (u8)(0u ^ ((u8)1 << 7));
+    if (v_r62_i_i1233_i) { p_v_r30_i23_sroa_0_sroa_7_0_ph = 13u; p_v_r30_i23_sroa_0_sroa_10_0_ph = 2u; p_v_r30_i23_sroa_0_sroa_13_0_ph = 0u; goto L_arm_12_i; } else { goto L_join_11_i_i_i; }
+L_join_11_i_i_i:;
+    v_r74_i_i1234_i = v_r12_sroa_10_0_i1120_i != 1u;
+    v_cond_i_i_i = v_r60_i_i1232_i == 0u;
+    v_or_cond_i_i_i = (u1)(((u32)(v_r74_i_i1234_i) & (u32)(v_cond_i_i_i)) & 1);
+    if (v_or_cond_i_i_i) { goto L_arm_15_i_i1239_i; } else { p_v_r12_sroa_10_i1273_sroa_3_0_ph_i = v_r13_sroa_0_0_copyload_i_i1185_i; p_v_r12_sroa_10_i1273_sroa_5_0_ph_i = v_r3_i25_i_i1180_i; goto L_join_3_i_i1288_i; }
+L_arm_15_i_i1239_i:;
+    v_r84_i_i1240_i = v_r13_sroa_0_0_copyload_i_i1185_i + 1;
+    v_r87_i_i1241_i = get_u8(v_r84_i_i1240_i);
+    v_r89_i_i1242_i = (u8)(v_r87_i_i1241_i ^ ((u8)1 << 7)) > (u8)(255u ^ ((u8)1 << 7));
+    if (v_r89_i_i1242_i) { p_v_r30_i23_sroa_0_sroa_7_0_ph = 4u; p_v_r30_i23_sroa_0_sroa_10_0_ph = 2u; p_v_r30_i23_sroa_0_sroa_13_0_ph = 0u; goto L_arm_12_i; } else { goto L_join_20_i_i_i; }
+L_join_20_i_i_i:;
+    v_r103_i_i1243_i = (u64)((u64)(v_r3_i25_i_i1180_i) + (u64)(18446744073709551615ull));
+    { p_v_r12_sroa_10_i1273_sroa_3_0_ph_i = v_r84_i_i1240_i; p_v_r12_sroa_10_i1273_sroa_5_0_ph_i = v_r103_i_i1243_i; goto L_join_3_i_i1288_i; }
+L_join_3_i_i1288_i:;
+    v_r12_sroa_10_i1273_sroa_3_0_ph_i = p_v_r12_sroa_10_i1273_sroa_3_0_ph_i;
+    v_r12_sroa_10_i1273_sroa_5_0_ph_i = p_v_r12_sroa_10_i1273_sroa_5_0_ph_i;
+    v_r39_i_i1291_i = v_r36_i_i1182_i == v_r3_i25_i_i1180_i;
+    if (v_r39_i_i1291_i) { p_v_r30_i23_sroa_0_sroa_7_0_ph = 1u; p_v_r30_i23_sroa_0_sroa_10_0_ph = 0u; p_v_r30_i23_sroa_0_sroa_13_0_ph = 0u; goto L_arm_12_i; } else { goto L_arm_1_i_i_i420_i; }
+L_arm_1_i_i_i420_i:;
+    v_r16_i_i_i1294_i = v_r16_i_i_i1186_i + 1;
+    v_r29_i1296_i = get_u8(v_r16_i_i_i1186_i);
+    v_r8_i22_i_i424_i = v_r29_i1296_i == 2u;
+    if (v_r8_i22_i_i424_i) { goto L_join_3_i_i1336_i; } else { goto L_der_core_header_tag_of_exit_i_i426_i; }
+L_der_core_header_tag_of_exit_i_i426_i:;
+    v_r9_i1318_i = (u8)((u32)(v_r29_i1296_i) & (u32)(31u));
+    v_r11_i1319_i = v_r9_i1318_i != 31u;
+    v_6 = (u8)((u32)(v_r29_i1296_i) & (u32)(223u));
     v_7 = v_6 != 0u;
-    v_r2_0_in_i3217_not_i_i = (u1)(((u32)(v_r11_i3216_i_i) & (u32)(v_7)) & 1);
-    if (v_r2_0_in_i3217_not_i_i) { goto L_join_3_i_i3233_i_i; } else { p_v_r30_i23_sroa_0_sroa_8_0_ph = 11u; p_v_r30_i23_sroa_0_sroa_12_0_ph = v_r29_i3193_i_i; p_v_r30_i23_sroa_0_sroa_16_0_ph = 0u; goto L_arm_12_i; }
-L_join_3_i_i3233_i_i:;
-    v_r39_i_i3236_i_i = v_r19_i_i_i3092_i_i == 1u;
-    if (v_r39_i_i3236_i_i) { p_v_r30_i23_sroa_0_sroa_8_0_ph = 1u; p_v_r30_i23_sroa_0_sroa_12_0_ph = 0u; p_v_r30_i23_sroa_0_sroa_16_0_ph = 0u; goto L_arm_12_i; } else { goto L_arm_1_i59_i364_i_i; }
-L_arm_1_i59_i364_i_i:;
-    v_r16_i_i_i3239_i_i = v_r16_i_i_i3091_i_i + 2;
-    v_r19_i_i_i3240_i_i = (u64)((u64)(v_r19_i_i_i3092_i_i) + (u64)(18446744073709551614ull));
-    v_r29_i3241_i_i = get_u8(v_r16_i_i_i3191_i_i);
-    v_r51_i62_i367_i_i = (u8)(v_r29_i3241_i_i ^ ((u8)1 << 7)) > (u8)(255u ^ ((u8)1 << 7));
-    if (v_r51_i62_i367_i_i) { goto L_then_5_i_i495_i_i; } else { goto L_join_7_i63_i368_i_i; }
-L_then_5_i_i495_i_i:;
-    v_r56_i73_i496_i_i = (u32)v_r29_i3241_i_i;
-    { p_v_r13_sroa_0_0_copyload_i_i3419_i_i = v_r16_i_i_i3239_i_i; p_v_r36_i_i3416_i_i = v_r19_i_i_i3240_i_i; p_v_r12_sroa_10_0_i3354_i_i = v_r56_i73_i496_i_i; goto L_arm_1_i197_i_i; }
-L_join_7_i63_i368_i_i:;
-    v_r68_i64_i369_i_i = v_r29_i3241_i_i == 128u;
-    if (v_r68_i64_i369_i_i) { p_v_r30_i23_sroa_0_sroa_8_0_ph = 2u; p_v_r30_i23_sroa_0_sroa_12_0_ph = 0u; p_v_r30_i23_sroa_0_sroa_16_0_ph = 0u; goto L_arm_12_i; } else { goto L_join_10_i_i370_i_i; }
-L_join_10_i_i370_i_i:;
-    v_r87_i_i371_i_i = v_r29_i3241_i_i > 132u;
-    if (v_r87_i_i371_i_i) { p_v_r30_i23_sroa_0_sroa_8_0_ph = 7u; p_v_r30_i23_sroa_0_sroa_12_0_ph = 0u; p_v_r30_i23_sroa_0_sroa_16_0_ph = 0u; goto L_arm_12_i; } else { goto L_join_3_i3282_i_i; }
-L_join_3_i3282_i_i:;
-    v_r106_i_i373_i_i = (u8)((u32)(v_r29_i3241_i_i) & (u32)(127u));
-    v_r3_i25_i3283_i_i = (u64)v_r106_i_i373_i_i;
-    v_r39_i3286_i_i = v_r19_i_i_i3240_i_i < v_r3_i25_i3283_i_i;
-    if (v_r39_i3286_i_i) { p_v_r30_i23_sroa_0_sroa_8_0_ph = 1u; p_v_r30_i23_sroa_0_sroa_12_0_ph = 0u; p_v_r30_i23_sroa_0_sroa_16_0_ph = 0u; goto L_arm_12_i; } else { goto L_arm_14_i_i390_i_i; }
-L_arm_14_i_i390_i_i:;
-    v_r16_i_i3290_i_i = (P)((uintptr_t)v_r16_i_i_i3239_i_i + (u64)(v_r3_i25_i3283_i_i));
-    v_r19_i_i3291_i_i = (u64)((u64)(v_r19_i_i_i3240_i_i) - (u64)(v_r3_i25_i3283_i_i));
-    switch (v_r106_i_i373_i_i) {
-    case 0u: { p_v_r30_i23_sroa_0_sroa_8_0_ph = 8u; p_v_r30_i23_sroa_0_sroa_12_0_ph = v_r106_i_i373_i_i; p_v_r30_i23_sroa_0_sroa_16_0_ph = v_r106_i_i373_i_i; goto L_arm_12_i; }
-    case 1u: { goto L_der_core_length_is_overlong_exit3330_i_i; }
-    default: { goto L_join_7_i3327_i_i; }
+    v_r2_0_in_i1320_not_i = (u1)(((u32)(v_r11_i1319_i) & (u32)(v_7)) & 1);
+    if (v_r2_0_in_i1320_not_i) { goto L_join_3_i_i1336_i; } else { p_v_r30_i23_sroa_0_sroa_7_0_ph = 11u; p_v_r30_i23_sroa_0_sroa_10_0_ph = v_r29_i1296_i; p_v_r30_i23_sroa_0_sroa_13_0_ph = 0u; goto L_arm_12_i; }
+L_join_3_i_i1336_i:;
+    v_r39_i_i1339_i = v_r19_i_i_i1187_i == 1u;
+    if (v_r39_i_i1339_i) { p_v_r30_i23_sroa_0_sroa_7_0_ph = 1u; p_v_r30_i23_sroa_0_sroa_10_0_ph = 0u; p_v_r30_i23_sroa_0_sroa_13_0_ph = 0u; goto L_arm_12_i; } else { goto L_arm_1_i59_i_i511_i; }
+L_arm_1_i59_i_i511_i:;
+    v_r16_i_i_i1342_i = v_r16_i_i_i1186_i + 2;
+    v_r19_i_i_i1343_i = (u64)((u64)(v_r19_i_i_i1187_i) + (u64)(18446744073709551614ull));
+    v_r29_i1344_i = get_u8(v_r16_i_i_i1294_i);
+    v_r51_i62_i_i514_i = (u8)(v_r29_i1344_i ^ ((u8)1 << 7)) > (u8)(255u ^ ((u8)1 << 7));
+    if (v_r51_i62_i_i514_i) { goto L_then_5_i_i_i642_i; } else { goto L_join_7_i63_i_i515_i; }
+L_then_5_i_i_i642_i:;
+    v_r56_i73_i_i643_i = (u32)v_r29_i1344_i;
+    { p_v_r13_sroa_0_0_copyload_i_i1522_i = v_r16_i_i_i1342_i; p_v_r36_i_i1519_i = v_r19_i_i_i1343_i; p_v_r12_sroa_10_0_i1457_i = v_r56_i73_i_i643_i; goto L_arm_1_i_i344_i; }
+L_join_7_i63_i_i515_i:;
+    v_r68_i64_i_i516_i = v_r29_i1344_i == 128u;
+    if (v_r68_i64_i_i516_i) { p_v_r30_i23_sroa_0_sroa_7_0_ph = 2u; p_v_r30_i23_sroa_0_sroa_10_0_ph = 0u; p_v_r30_i23_sroa_0_sroa_13_0_ph = 0u; goto L_arm_12_i; } else { goto L_join_10_i_i_i517_i; }
+L_join_10_i_i_i517_i:;
+    v_r87_i_i_i518_i = v_r29_i1344_i > 132u;
+    if (v_r87_i_i_i518_i) { p_v_r30_i23_sroa_0_sroa_7_0_ph = 7u; p_v_r30_i23_sroa_0_sroa_10_0_ph = 0u; p_v_r30_i23_sroa_0_sroa_13_0_ph = 0u; goto L_arm_12_i; } else { goto L_join_3_i1385_i; }
+L_join_3_i1385_i:;
+    v_r106_i_i_i520_i = (u8)((u32)(v_r29_i1344_i) & (u32)(127u));
+    v_r3_i25_i1386_i = (u64)v_r106_i_i_i520_i;
+    v_r39_i1389_i = v_r19_i_i_i1343_i < v_r3_i25_i1386_i;
+    if (v_r39_i1389_i) { p_v_r30_i23_sroa_0_sroa_7_0_ph = 1u; p_v_r30_i23_sroa_0_sroa_10_0_ph = 0u; p_v_r30_i23_sroa_0_sroa_13_0_ph = 0u; goto L_arm_12_i; } else { goto L_arm_14_i_i_i537_i; }
+L_arm_14_i_i_i537_i:;
+    v_r16_i_i1393_i = (P)((uintptr_t)v_r16_i_i_i1342_i + (u64)(v_r3_i25_i1386_i));
+    v_r19_i_i1394_i = (u64)((u64)(v_r19_i_i_i1343_i) - (u64)(v_r3_i25_i1386_i));
+    switch (v_r106_i_i_i520_i) {
+    case 0u: { p_v_r30_i23_sroa_0_sroa_7_0_ph = 8u; p_v_r30_i23_sroa_0_sroa_10_0_ph = v_r106_i_i_i520_i; p_v_r30_i23_sroa_0_sroa_13_0_ph = v_r106_i_i_i520_i; goto L_arm_12_i; }
+    case 1u: { goto L_der_core_length_is_overlong_exit1433_i; }
+    default: { goto L_join_7_i1430_i; }
     }
-L_join_7_i3327_i_i:;
-    v_r36_i3328_i_i = get_u8(v_r16_i_i_i3239_i_i);
-    v_r38_i3329_i_i = v_r36_i3328_i_i == 0u;
-    if (v_r38_i3329_i_i) { p_v_r30_i23_sroa_0_sroa_8_0_ph = 8u; p_v_r30_i23_sroa_0_sroa_12_0_ph = 0u; p_v_r30_i23_sroa_0_sroa_16_0_ph = 0u; goto L_arm_12_i; } else { goto L_join_7_i82_i410_i_i; }
-L_der_core_length_is_overlong_exit3330_i_i:;
-    v_r28_i3324_i_i = get_u8(v_r16_i_i_i3239_i_i);
-    v_r30_i3325_i_i = (u8)(v_r28_i3324_i_i ^ ((u8)1 << 7)) > (u8)(255u ^ ((u8)1 << 7));
-    if (v_r30_i3325_i_i) { p_v_r30_i23_sroa_0_sroa_8_0_ph = 8u; p_v_r30_i23_sroa_0_sroa_12_0_ph = 0u; p_v_r30_i23_sroa_0_sroa_16_0_ph = 0u; goto L_arm_12_i; } else { goto L_then_5_i80_i397_i_i; }
-L_then_5_i80_i397_i_i:;
-    v_r71_i_i399_i_i = (u32)v_r28_i3324_i_i;
-    { p_v_r13_sroa_0_0_copyload_i_i3419_i_i = v_r16_i_i3290_i_i; p_v_r36_i_i3416_i_i = v_r19_i_i3291_i_i; p_v_r12_sroa_10_0_i3354_i_i = v_r71_i_i399_i_i; goto L_arm_1_i197_i_i; }
-L_join_7_i82_i410_i_i:;
-    v_r74_i83_i411_i_i = v_r106_i_i373_i_i < 3u;
-    if (v_r74_i83_i411_i_i) { goto L_then_8_i106_i448_i_i; } else { goto L_join_10_i84_i412_i_i; }
-L_then_8_i106_i448_i_i:;
-    v_r81_i107_i449_i_i = v_r16_i_i_i3091_i_i + 3;
-    v_r87_i109_i451_i_i = (u32)v_r36_i3328_i_i;
-    v_r89_i_i452_i_i = (u32)((u32)(v_r87_i109_i451_i_i) << (u32)((8u & 31)));
-    v_r91_i_i453_i_i = get_u8(v_r81_i107_i449_i_i);
-    v_r93_i110_i454_i_i = (u32)v_r91_i_i453_i_i;
-    v_r96_i111_i455_i_i = (u32)((u32)(v_r89_i_i452_i_i) | (u32)(v_r93_i110_i454_i_i));
-    { p_v_r13_sroa_0_0_copyload_i_i3419_i_i = v_r16_i_i3290_i_i; p_v_r36_i_i3416_i_i = v_r19_i_i3291_i_i; p_v_r12_sroa_10_0_i3354_i_i = v_r96_i111_i455_i_i; goto L_arm_1_i197_i_i; }
-L_join_10_i84_i412_i_i:;
-    v_r99_i85_i413_i_i = v_r106_i_i373_i_i == 3u;
-    if (v_r99_i85_i413_i_i) { goto L_then_11_i95_i435_i_i; } else { goto L_join_13_i86_i414_i_i; }
-L_then_11_i95_i435_i_i:;
-    v_r106_i96_i436_i_i = v_r16_i_i_i3091_i_i + 3;
-    v_r108_i97_i437_i_i = v_r16_i_i_i3091_i_i + 4;
-    v_r115_i99_i439_i_i = (u32)v_r36_i3328_i_i;
-    v_r117_i100_i440_i_i = (u32)((u32)(v_r115_i99_i439_i_i) << (u32)((16u & 31)));
-    v_r119_i101_i441_i_i = get_u8(v_r106_i96_i436_i_i);
-    v_r121_i102_i442_i_i = (u32)v_r119_i101_i441_i_i;
-    v_r123_i103_i443_i_i = (u32)((u32)(v_r121_i102_i442_i_i) << (u32)((8u & 31)));
-    v_r126_i104_i444_i_i = (u32)((u32)(v_r123_i103_i443_i_i) | (u32)(v_r117_i100_i440_i_i));
-    v_r128_i_i445_i_i = get_u8(v_r108_i97_i437_i_i);
-    v_r130_i105_i446_i_i = (u32)v_r128_i_i445_i_i;
-    v_r133_i_i447_i_i = (u32)((u32)(v_r126_i104_i444_i_i) | (u32)(v_r130_i105_i446_i_i));
-    { p_v_r13_sroa_0_0_copyload_i_i3419_i_i = v_r16_i_i3290_i_i; p_v_r36_i_i3416_i_i = v_r19_i_i3291_i_i; p_v_r12_sroa_10_0_i3354_i_i = v_r133_i_i447_i_i; goto L_arm_1_i197_i_i; }
-L_join_13_i86_i414_i_i:;
-    v_r136_i87_i415_i_i = v_r106_i_i373_i_i < 5u;
-    if (v_r136_i87_i415_i_i) { goto L_then_14_i_i417_i_i; } else { goto L_join_16_i_i416_i_i; }
-L_then_14_i_i417_i_i:;
-    v_r143_i88_i418_i_i = v_r16_i_i_i3091_i_i + 3;
-    v_r145_i89_i419_i_i = v_r16_i_i_i3091_i_i + 4;
-    v_r147_i90_i420_i_i = v_r16_i_i_i3091_i_i + 5;
-    v_r155_i92_i422_i_i = (u32)v_r36_i3328_i_i;
-    v_r157_i93_i423_i_i = (u32)((u32)(v_r155_i92_i422_i_i) << (u32)((24u & 31)));
-    v_r159_i94_i424_i_i = get_u8(v_r143_i88_i418_i_i);
-    v_r161_i_i425_i_i = (u32)v_r159_i94_i424_i_i;
-    v_r163_i_i426_i_i = (u32)((u32)(v_r161_i_i425_i_i) << (u32)((16u & 31)));
-    v_r166_i_i427_i_i = (u32)((u32)(v_r163_i_i426_i_i) | (u32)(v_r157_i93_i423_i_i));
-    v_r168_i_i428_i_i = get_u8(v_r145_i89_i419_i_i);
-    v_r170_i_i429_i_i = (u32)v_r168_i_i428_i_i;
-    v_r172_i_i430_i_i = (u32)((u32)(v_r170_i_i429_i_i) << (u32)((8u & 31)));
-    v_r175_i_i431_i_i = (u32)((u32)(v_r166_i_i427_i_i) | (u32)(v_r172_i_i430_i_i));
-    v_r177_i_i432_i_i = get_u8(v_r147_i90_i420_i_i);
-    v_r179_i_i433_i_i = (u32)v_r177_i_i432_i_i;
-    v_r182_i_i434_i_i = (u32)((u32)(v_r175_i_i431_i_i) | (u32)(v_r179_i_i433_i_i));
-    { p_v_r13_sroa_0_0_copyload_i_i3419_i_i = v_r16_i_i3290_i_i; p_v_r36_i_i3416_i_i = v_r19_i_i3291_i_i; p_v_r12_sroa_10_0_i3354_i_i = v_r182_i_i434_i_i; goto L_arm_1_i197_i_i; }
-L_join_16_i_i416_i_i:;
+L_join_7_i1430_i:;
+    v_r36_i1431_i = get_u8(v_r16_i_i_i1342_i);
+    v_r38_i1432_i = v_r36_i1431_i == 0u;
+    if (v_r38_i1432_i) { p_v_r30_i23_sroa_0_sroa_7_0_ph = 8u; p_v_r30_i23_sroa_0_sroa_10_0_ph = 0u; p_v_r30_i23_sroa_0_sroa_13_0_ph = 0u; goto L_arm_12_i; } else { goto L_join_7_i82_i_i557_i; }
+L_der_core_length_is_overlong_exit1433_i:;
+    v_r28_i1427_i = get_u8(v_r16_i_i_i1342_i);
+    v_r30_i1428_i = (u8)(v_r28_i1427_i ^ ((u8)1 << 7)) > (u8)(255u ^ ((u8)1 << 7));
+    if (v_r30_i1428_i) { p_v_r30_i23_sroa_0_sroa_7_0_ph = 8u; p_v_r30_i23_sroa_0_sroa_10_0_ph = 0u; p_v_r30_i23_sroa_0_sroa_13_0_ph = 0u; goto L_arm_12_i; } else { goto L_then_5_i80_i_i544_i; }
+L_then_5_i80_i_i544_i:;
+    v_r71_i_i_i546_i = (u32)v_r28_i1427_i;
+    { p_v_r13_sroa_0_0_copyload_i_i1522_i = v_r16_i_i1393_i; p_v_r36_i_i1519_i = v_r19_i_i1394_i; p_v_r12_sroa_10_0_i1457_i = v_r71_i_i_i546_i; goto L_arm_1_i_i344_i; }
+L_join_7_i82_i_i557_i:;
+    v_r74_i83_i_i558_i = v_r106_i_i_i520_i < 3u;
+    if (v_r74_i83_i_i558_i) { goto L_then_8_i106_i_i595_i; } else { goto L_join_10_i84_i_i559_i; }
+L_then_8_i106_i_i595_i:;
+    v_r81_i107_i_i596_i = v_r16_i_i_i1186_i + 3;
+    v_r87_i109_i_i598_i = (u32)v_r36_i1431_i;
+    v_r89_i_i_i599_i = (u32)((u32)(v_r87_i109_i_i598_i) << (u32)((8u & 31)));
+    v_r91_i_i_i600_i = get_u8(v_r81_i107_i_i596_i);
+    v_r93_i110_i_i601_i = (u32)v_r91_i_i_i600_i;
+    v_r96_i111_i_i602_i = (u32)((u32)(v_r89_i_i_i599_i) | (u32)(v_r93_i110_i_i601_i));
+    { p_v_r13_sroa_0_0_copyload_i_i1522_i = v_r16_i_i1393_i; p_v_r36_i_i1519_i = v_r19_i_i1394_i; p_v_r12_sroa_10_0_i1457_i = v_r96_i111_i_i602_i; goto L_arm_1_i_i344_i; }
+L_join_10_i84_i_i559_i:;
+    v_r99_i85_i_i560_i = v_r106_i_i_i520_i == 3u;
+    if (v_r99_i85_i_i560_i) { goto L_then_11_i95_i_i582_i; } else { goto L_join_13_i86_i_i561_i; }
+L_then_11_i95_i_i582_i:;
+    v_r106_i96_i_i583_i = v_r16_i_i_i1186_i + 3;
+    v_r108_i97_i_i584_i = v_r16_i_i_i1186_i + 4;
+    v_r115_i99_i_i586_i = (u32)v_r36_i1431_i;
+    v_r117_i100_i_i587_i = (u32)((u32)(v_r115_i99_i_i586_i) << (u32)((16u & 31)));
+    v_r119_i101_i_i588_i = get_u8(v_r106_i96_i_i583_i);
+    v_r121_i102_i_i589_i = (u32)v_r119_i101_i_i588_i;
+    v_r123_i103_i_i590_i = (u32)((u32)(v_r121_i102_i_i589_i) << (u32)((8u & 31)));
+    v_r126_i104_i_i591_i = (u32)((u32)(v_r123_i103_i_i590_i) | (u32)(v_r117_i100_i_i587_i));
+    v_r128_i_i_i592_i = get_u8(v_r108_i97_i_i584_i);
+    v_r130_i105_i_i593_i = (u32)v_r128_i_i_i592_i;
+    v_r133_i_i_i594_i = (u32)((u32)(v_r126_i104_i_i591_i) | (u32)(v_r130_i105_i_i593_i));
+    { p_v_r13_sroa_0_0_copyload_i_i1522_i = v_r16_i_i1393_i; p_v_r36_i_i1519_i = v_r19_i_i1394_i; p_v_r12_sroa_10_0_i1457_i = v_r133_i_i_i594_i; goto L_arm_1_i_i344_i; }
+L_join_13_i86_i_i561_i:;
+    v_r136_i87_i_i562_i = v_r106_i_i_i520_i < 5u;
+    if (v_r136_i87_i_i562_i) { goto L_then_14_i_i_i564_i; } else { goto L_join_16_i_i_i563_i; }
+L_then_14_i_i_i564_i:;
+    v_r143_i88_i_i565_i = v_r16_i_i_i1186_i + 3;
+    v_r145_i89_i_i566_i = v_r16_i_i_i1186_i + 4;
+    v_r147_i90_i_i567_i = v_r16_i_i_i1186_i + 5;
+    v_r155_i92_i_i569_i = (u32)v_r36_i1431_i;
+    v_r157_i93_i_i570_i = (u32)((u32)(v_r155_i92_i_i569_i) << (u32)((24u & 31)));
+    v_r159_i94_i_i571_i = get_u8(v_r143_i88_i_i565_i);
+    v_r161_i_i_i572_i = (u32)v_r159_i94_i_i571_i;
+    v_r163_i_i_i573_i = (u32)((u32)(v_r161_i_i_i572_i) << (u32)((16u & 31)));
+    v_r166_i_i_i574_i = (u32)((u32)(v_r163_i_i_i573_i) | (u32)(v_r157_i93_i_i570_i));
+    v_r168_i_i_i575_i = get_u8(v_r145_i89_i_i566_i);
+    v_r170_i_i_i576_i = (u32)v_r168_i_i_i575_i;
+    v_r172_i_i_i577_i = (u32)((u32)(v_r170_i_i_i576_i) << (u32)((8u & 31)));
+    v_r175_i_i_i578_i = (u32)((u32)(v_r166_i_i_i574_i) | (u32)(v_r172_i_i_i577_i));
+    v_r177_i_i_i579_i = get_u8(v_r147_i90_i_i567_i);
+    v_r179_i_i_i580_i = (u32)v_r177_i_i_i579_i;
+    v_r182_i_i_i581_i = (u32)((u32)(v_r175_i_i_i578_i) | (u32)(v_r179_i_i_i580_i));
+    { p_v_r13_sroa_0_0_copyload_i_i1522_i = v_r16_i_i1393_i; p_v_r36_i_i1519_i = v_r19_i_i1394_i; p_v_r12_sroa_10_0_i1457_i = v_r182_i_i_i581_i; goto L_arm_1_i_i344_i; }
+L_join_16_i_i_i563_i:;
     __builtin_trap();
     __builtin_trap();
-L_arm_1_i197_i_i:;
-    v_r13_sroa_0_0_copyload_i_i3419_i_i = p_v_r13_sroa_0_0_copyload_i_i3419_i_i;
-    v_r36_i_i3416_i_i = p_v_r36_i_i3416_i_i;
-    v_r12_sroa_10_0_i3354_i_i = p_v_r12_sroa_10_0_i3354_i_i;
-    if (v_r8_i22_i277_i_i) { goto L_join_3_i_i3413_i_i; } else { p_v_r30_i23_sroa_0_sroa_8_0_ph = 10u; p_v_r30_i23_sroa_0_sroa_12_0_ph = 2u; p_v_r30_i23_sroa_0_sroa_16_0_ph = v_r29_i3193_i_i; goto L_arm_12_i; }
-L_join_3_i_i3413_i_i:;
-    v_r3_i25_i_i3414_i_i = (u64)v_r12_sroa_10_0_i3354_i_i;
-    v_r39_i_i3417_i_i = v_r36_i_i3416_i_i < v_r3_i25_i_i3414_i_i;
-    if (v_r39_i_i3417_i_i) { p_v_r30_i23_sroa_0_sroa_8_0_ph = 1u; p_v_r30_i23_sroa_0_sroa_12_0_ph = 0u; p_v_r30_i23_sroa_0_sroa_16_0_ph = 0u; goto L_arm_12_i; } else { goto L_join_3_i_i3456_i_i; }
-L_join_3_i_i3456_i_i:;
-    v_r16_i_i_i3420_i_i = (P)((uintptr_t)v_r13_sroa_0_0_copyload_i_i3419_i_i + (u64)(v_r3_i25_i_i3414_i_i));
-    v_r19_i_i_i3421_i_i = (u64)((u64)(v_r36_i_i3416_i_i) - (u64)(v_r3_i25_i_i3414_i_i));
-    v_r7_i_i_i3465_i_i = v_r12_sroa_10_0_i3354_i_i == 0u;
-    if (v_r7_i_i_i3465_i_i) { p_v_r30_i23_sroa_0_sroa_8_0_ph = 3u; p_v_r30_i23_sroa_0_sroa_12_0_ph = 2u; p_v_r30_i23_sroa_0_sroa_16_0_ph = 0u; goto L_arm_12_i; } else { goto L_join_8_i_i3466_i_i; }
-L_join_8_i_i3466_i_i:;
-    v_r60_i_i3467_i_i = get_u8(v_r13_sroa_0_0_copyload_i_i3419_i_i);
-    v_r62_i_i3468_i_i = (u8)(v_r60_i_i3467_i_i ^ ((u8)1 << 7)) < (u8)(0u ^ ((u8)1 << 7));
-    if (v_r62_i_i3468_i_i) { p_v_r30_i23_sroa_0_sroa_8_0_ph = 13u; p_v_r30_i23_sroa_0_sroa_12_0_ph = 2u; p_v_r30_i23_sroa_0_sroa_16_0_ph = 0u; goto L_arm_12_i; } else { goto L_join_11_i_i3469_i_i; }
-L_join_11_i_i3469_i_i:;
-    v_r74_i_i3470_i_i = v_r12_sroa_10_0_i3354_i_i != 1u;
-    v_cond_i_i3471_i_i = v_r60_i_i3467_i_i == 0u;
-    v_or_cond_i_i3472_i_i = (u1)(((u32)(v_r74_i_i3470_i_i) & (u32)(v_cond_i_i3471_i_i)) & 1);
-    if (v_or_cond_i_i3472_i_i) { goto L_arm_15_i_i3484_i_i; } else { p_v_r12_sroa_10_i3522_sroa_5_0_ph_i_i = v_r3_i25_i_i3414_i_i; p_v_r12_sroa_10_i3522_sroa_3_0_ph_i_i = v_r13_sroa_0_0_copyload_i_i3419_i_i; goto L_join_3_i_i3544_i_i; }
-L_arm_15_i_i3484_i_i:;
-    v_r84_i_i3485_i_i = v_r13_sroa_0_0_copyload_i_i3419_i_i + 1;
-    v_r87_i_i3486_i_i = get_u8(v_r84_i_i3485_i_i);
-    v_r89_i_i3487_i_i = (u8)(v_r87_i_i3486_i_i ^ ((u8)1 << 7)) > (u8)(255u ^ ((u8)1 << 7));
-    if (v_r89_i_i3487_i_i) { p_v_r30_i23_sroa_0_sroa_8_0_ph = 4u; p_v_r30_i23_sroa_0_sroa_12_0_ph = 2u; p_v_r30_i23_sroa_0_sroa_16_0_ph = 0u; goto L_arm_12_i; } else { goto L_join_20_i_i3488_i_i; }
-L_join_20_i_i3488_i_i:;
-    v_r103_i_i3489_i_i = (u64)((u64)(v_r3_i25_i_i3414_i_i) + (u64)(18446744073709551615ull));
-    { p_v_r12_sroa_10_i3522_sroa_5_0_ph_i_i = v_r103_i_i3489_i_i; p_v_r12_sroa_10_i3522_sroa_3_0_ph_i_i = v_r84_i_i3485_i_i; goto L_join_3_i_i3544_i_i; }
-L_join_3_i_i3544_i_i:;
-    v_r12_sroa_10_i3522_sroa_5_0_ph_i_i = p_v_r12_sroa_10_i3522_sroa_5_0_ph_i_i;
-    v_r12_sroa_10_i3522_sroa_3_0_ph_i_i = p_v_r12_sroa_10_i3522_sroa_3_0_ph_i_i;
-    v_r39_i_i3547_i_i = v_r36_i_i3416_i_i == v_r3_i25_i_i3414_i_i;
-    if (v_r39_i_i3547_i_i) { p_v_r30_i23_sroa_0_sroa_8_0_ph = 1u; p_v_r30_i23_sroa_0_sroa_12_0_ph = 0u; p_v_r30_i23_sroa_0_sroa_16_0_ph = 0u; goto L_arm_12_i; } else { goto L_arm_1_i_i674_i_i; }
-L_arm_1_i_i674_i_i:;
-    v_r16_i_i_i3550_i_i = v_r16_i_i_i3420_i_i + 1;
-    v_r29_i3552_i_i = get_u8(v_r16_i_i_i3420_i_i);
-    v_r8_i22_i678_i_i = v_r29_i3552_i_i == 2u;
-    if (v_r8_i22_i678_i_i) { goto L_join_3_i_i3592_i_i; } else { goto L_der_core_header_tag_of_exit_i680_i_i; }
-L_der_core_header_tag_of_exit_i680_i_i:;
-    v_r9_i3574_i_i = (u8)((u32)(v_r29_i3552_i_i) & (u32)(31u));
-    v_r11_i3575_i_i = v_r9_i3574_i_i != 31u;
-    v_8 = (u8)((u32)(v_r29_i3552_i_i) & (u32)(223u));
+L_arm_1_i_i344_i:;
+    v_r13_sroa_0_0_copyload_i_i1522_i = p_v_r13_sroa_0_0_copyload_i_i1522_i;
+    v_r36_i_i1519_i = p_v_r36_i_i1519_i;
+    v_r12_sroa_10_0_i1457_i = p_v_r12_sroa_10_0_i1457_i;
+    if (v_r8_i22_i_i424_i) { goto L_join_3_i_i1516_i; } else { p_v_r30_i23_sroa_0_sroa_7_0_ph = 10u; p_v_r30_i23_sroa_0_sroa_10_0_ph = 2u; p_v_r30_i23_sroa_0_sroa_13_0_ph = v_r29_i1296_i; goto L_arm_12_i; }
+L_join_3_i_i1516_i:;
+    v_r3_i25_i_i1517_i = (u64)v_r12_sroa_10_0_i1457_i;
+    v_r39_i_i1520_i = v_r36_i_i1519_i < v_r3_i25_i_i1517_i;
+    if (v_r39_i_i1520_i) { p_v_r30_i23_sroa_0_sroa_7_0_ph = 1u; p_v_r30_i23_sroa_0_sroa_10_0_ph = 0u; p_v_r30_i23_sroa_0_sroa_13_0_ph = 0u; goto L_arm_12_i; } else { goto L_join_3_i_i1559_i; }
+L_join_3_i_i1559_i:;
+    v_r16_i_i_i1523_i = (P)((uintptr_t)v_r13_sroa_0_0_copyload_i_i1522_i + (u64)(v_r3_i25_i_i1517_i));
+    v_r19_i_i_i1524_i = (u64)((u64)(v_r36_i_i1519_i) - (u64)(v_r3_i25_i_i1517_i));
+    v_r7_i_i_i1568_i = v_r12_sroa_10_0_i1457_i == 0u;
+    if (v_r7_i_i_i1568_i) { p_v_r30_i23_sroa_0_sroa_7_0_ph = 3u; p_v_r30_i23_sroa_0_sroa_10_0_ph = 2u; p_v_r30_i23_sroa_0_sroa_13_0_ph = 0u; goto L_arm_12_i; } else { goto L_join_8_i_i1569_i; }
+L_join_8_i_i1569_i:;
+    v_r60_i_i1570_i = get_u8(v_r13_sroa_0_0_copyload_i_i1522_i);
+    v_r62_i_i1571_i = (u8)(v_r60_i_i1570_i ^ ((u8)1 << 7)) < (u8)(0u ^ ((u8)1 << 7));
+    if (v_r62_i_i1571_i) { p_v_r30_i23_sroa_0_sroa_7_0_ph = 13u; p_v_r30_i23_sroa_0_sroa_10_0_ph = 2u; p_v_r30_i23_sroa_0_sroa_13_0_ph = 0u; goto L_arm_12_i; } else { goto L_join_11_i_i1572_i; }
+L_join_11_i_i1572_i:;
+    v_r74_i_i1573_i = v_r12_sroa_10_0_i1457_i != 1u;
+    v_cond_i_i1574_i = v_r60_i_i1570_i == 0u;
+    v_or_cond_i_i1575_i = (u1)(((u32)(v_r74_i_i1573_i) & (u32)(v_cond_i_i1574_i)) & 1);
+    if (v_or_cond_i_i1575_i) { goto L_arm_15_i_i1587_i; } else { p_v_r12_sroa_10_i1625_sroa_3_0_ph_i = v_r13_sroa_0_0_copyload_i_i1522_i; p_v_r12_sroa_10_i1625_sroa_5_0_ph_i = v_r3_i25_i_i1517_i; goto L_join_3_i_i_i_i; }
+L_arm_15_i_i1587_i:;
+    v_r84_i_i1588_i = v_r13_sroa_0_0_copyload_i_i1522_i + 1;
+    v_r87_i_i1589_i = get_u8(v_r84_i_i1588_i);
+    v_r89_i_i1590_i = (u8)(v_r87_i_i1589_i ^ ((u8)1 << 7)) > (u8)(255u ^ ((u8)1 << 7));
+    if (v_r89_i_i1590_i) { p_v_r30_i23_sroa_0_sroa_7_0_ph = 4u; p_v_r30_i23_sroa_0_sroa_10_0_ph = 2u; p_v_r30_i23_sroa_0_sroa_13_0_ph = 0u; goto L_arm_12_i; } else { goto L_join_20_i_i1591_i; }
+L_join_20_i_i1591_i:;
+    v_r103_i_i1592_i = (u64)((u64)(v_r3_i25_i_i1517_i) + (u64)(18446744073709551615ull));
+    { p_v_r12_sroa_10_i1625_sroa_3_0_ph_i = v_r84_i_i1588_i; p_v_r12_sroa_10_i1625_sroa_5_0_ph_i = v_r103_i_i1592_i; goto L_join_3_i_i_i_i; }
+L_join_3_i_i_i_i:;
+    v_r12_sroa_10_i1625_sroa_3_0_ph_i = p_v_r12_sroa_10_i1625_sroa_3_0_ph_i;
+    v_r12_sroa_10_i1625_sroa_5_0_ph_i = p_v_r12_sroa_10_i1625_sroa_5_0_ph_i;
+    v_r39_i_i2009_i_i = v_r36_i_i1519_i == v_r3_i25_i_i1517_i;
+    if (v_r39_i_i2009_i_i) { p_v_r30_i23_sroa_0_sroa_7_0_ph = 1u; p_v_r30_i23_sroa_0_sroa_10_0_ph = 0u; p_v_r30_i23_sroa_0_sroa_13_0_ph = 0u; goto L_arm_12_i; } else { goto L_arm_1_i_i_i1638_i; }
+L_arm_1_i_i_i1638_i:;
+    v_r16_i_i_i2011_i_i = v_r16_i_i_i1523_i + 1;
+    v_r29_i2013_i_i = get_u8(v_r16_i_i_i1523_i);
+    v_r8_i22_i_i1639_i = v_r29_i2013_i_i == 2u;
+    if (v_r8_i22_i_i1639_i) { goto L_join_3_i_i2038_i_i; } else { goto L_der_core_header_tag_of_exit_i_i1640_i; }
+L_der_core_header_tag_of_exit_i_i1640_i:;
+    v_r9_i2024_i_i = (u8)((u32)(v_r29_i2013_i_i) & (u32)(31u));
+    v_r11_i2025_i_i = v_r9_i2024_i_i != 31u;
+    v_8 = (u8)((u32)(v_r29_i2013_i_i) & (u32)(223u));
     v_9 = v_8 != 0u;
-    v_r2_0_in_i3576_not_i_i = (u1)(((u32)(v_r11_i3575_i_i) & (u32)(v_9)) & 1);
-    if (v_r2_0_in_i3576_not_i_i) { goto L_join_3_i_i3592_i_i; } else { p_v_r30_i23_sroa_0_sroa_8_0_ph = 11u; p_v_r30_i23_sroa_0_sroa_12_0_ph = v_r29_i3552_i_i; p_v_r30_i23_sroa_0_sroa_16_0_ph = 0u; goto L_arm_12_i; }
-L_join_3_i_i3592_i_i:;
-    v_r39_i_i3595_i_i = v_r19_i_i_i3421_i_i == 1u;
-    if (v_r39_i_i3595_i_i) { p_v_r30_i23_sroa_0_sroa_8_0_ph = 1u; p_v_r30_i23_sroa_0_sroa_12_0_ph = 0u; p_v_r30_i23_sroa_0_sroa_16_0_ph = 0u; goto L_arm_12_i; } else { goto L_arm_1_i59_i765_i_i; }
-L_arm_1_i59_i765_i_i:;
-    v_r16_i_i_i3598_i_i = v_r16_i_i_i3420_i_i + 2;
-    v_r19_i_i_i3599_i_i = (u64)((u64)(v_r19_i_i_i3421_i_i) + (u64)(18446744073709551614ull));
-    v_r29_i3600_i_i = get_u8(v_r16_i_i_i3550_i_i);
-    v_r51_i62_i768_i_i = (u8)(v_r29_i3600_i_i ^ ((u8)1 << 7)) > (u8)(255u ^ ((u8)1 << 7));
-    if (v_r51_i62_i768_i_i) { goto L_then_5_i_i896_i_i; } else { goto L_join_7_i63_i769_i_i; }
-L_then_5_i_i896_i_i:;
-    v_r56_i73_i897_i_i = (u32)v_r29_i3600_i_i;
-    { p_v_r13_sroa_0_0_copyload_i_i3778_i_i = v_r16_i_i_i3598_i_i; p_v_r36_i_i3775_i_i = v_r19_i_i_i3599_i_i; p_v_r12_sroa_10_0_i3713_i_i = v_r56_i73_i897_i_i; goto L_arm_1_i598_i_i; }
-L_join_7_i63_i769_i_i:;
-    v_r68_i64_i770_i_i = v_r29_i3600_i_i == 128u;
-    if (v_r68_i64_i770_i_i) { p_v_r30_i23_sroa_0_sroa_8_0_ph = 2u; p_v_r30_i23_sroa_0_sroa_12_0_ph = 0u; p_v_r30_i23_sroa_0_sroa_16_0_ph = 0u; goto L_arm_12_i; } else { goto L_join_10_i_i771_i_i; }
-L_join_10_i_i771_i_i:;
-    v_r87_i_i772_i_i = v_r29_i3600_i_i > 132u;
-    if (v_r87_i_i772_i_i) { p_v_r30_i23_sroa_0_sroa_8_0_ph = 7u; p_v_r30_i23_sroa_0_sroa_12_0_ph = 0u; p_v_r30_i23_sroa_0_sroa_16_0_ph = 0u; goto L_arm_12_i; } else { goto L_join_3_i3641_i_i; }
-L_join_3_i3641_i_i:;
-    v_r106_i_i774_i_i = (u8)((u32)(v_r29_i3600_i_i) & (u32)(127u));
-    v_r3_i25_i3642_i_i = (u64)v_r106_i_i774_i_i;
-    v_r39_i3645_i_i = v_r19_i_i_i3599_i_i < v_r3_i25_i3642_i_i;
-    if (v_r39_i3645_i_i) { p_v_r30_i23_sroa_0_sroa_8_0_ph = 1u; p_v_r30_i23_sroa_0_sroa_12_0_ph = 0u; p_v_r30_i23_sroa_0_sroa_16_0_ph = 0u; goto L_arm_12_i; } else { goto L_arm_14_i_i791_i_i; }
-L_arm_14_i_i791_i_i:;
-    v_r16_i_i3649_i_i = (P)((uintptr_t)v_r16_i_i_i3598_i_i + (u64)(v_r3_i25_i3642_i_i));
-    v_r19_i_i3650_i_i = (u64)((u64)(v_r19_i_i_i3599_i_i) - (u64)(v_r3_i25_i3642_i_i));
-    switch (v_r106_i_i774_i_i) {
-    case 0u: { p_v_r30_i23_sroa_0_sroa_8_0_ph = 8u; p_v_r30_i23_sroa_0_sroa_12_0_ph = v_r106_i_i774_i_i; p_v_r30_i23_sroa_0_sroa_16_0_ph = v_r106_i_i774_i_i; goto L_arm_12_i; }
-    case 1u: { goto L_der_core_length_is_overlong_exit3689_i_i; }
-    default: { goto L_join_7_i3686_i_i; }
+    v_r2_0_in_i_not_i_i = (u1)(((u32)(v_r11_i2025_i_i) & (u32)(v_9)) & 1);
+    if (v_r2_0_in_i_not_i_i) { goto L_join_3_i_i2038_i_i; } else { p_v_r30_i23_sroa_0_sroa_7_0_ph = 11u; p_v_r30_i23_sroa_0_sroa_10_0_ph = v_r29_i2013_i_i; p_v_r30_i23_sroa_0_sroa_13_0_ph = 0u; goto L_arm_12_i; }
+L_join_3_i_i2038_i_i:;
+    v_r39_i_i2041_i_i = v_r19_i_i_i1524_i == 1u;
+    if (v_r39_i_i2041_i_i) { p_v_r30_i23_sroa_0_sroa_7_0_ph = 1u; p_v_r30_i23_sroa_0_sroa_10_0_ph = 0u; p_v_r30_i23_sroa_0_sroa_13_0_ph = 0u; goto L_arm_12_i; } else { goto L_arm_1_i59_i_i1647_i; }
+L_arm_1_i59_i_i1647_i:;
+    v_r16_i_i_i2044_i_i = v_r16_i_i_i1523_i + 2;
+    v_r19_i_i_i2045_i_i = (u64)((u64)(v_r19_i_i_i1524_i) + (u64)(18446744073709551614ull));
+    v_r29_i2046_i_i = get_u8(v_r16_i_i_i2011_i_i);
+    v_r51_i62_i_i1648_i = (u8)(v_r29_i2046_i_i ^ ((u8)1 << 7)) > (u8)(255u ^ ((u8)1 << 7));
+    if (v_r51_i62_i_i1648_i) { goto L_then_5_i_i_i1715_i; } else { goto L_join_7_i63_i_i1649_i; }
+L_then_5_i_i_i1715_i:;
+    v_r56_i73_i_i1716_i = (u32)v_r29_i2046_i_i;
+    { p_v_r13_sroa_0_0_copyload_i_i2197_i_i = v_r16_i_i_i2044_i_i; p_v_r36_i_i2194_i_i = v_r19_i_i_i2045_i_i; p_v_r12_sroa_10_0_i_i_i = v_r56_i73_i_i1716_i; goto L_arm_1_i_i1659_i; }
+L_join_7_i63_i_i1649_i:;
+    v_r68_i64_i_i1650_i = v_r29_i2046_i_i == 128u;
+    if (v_r68_i64_i_i1650_i) { p_v_r30_i23_sroa_0_sroa_7_0_ph = 2u; p_v_r30_i23_sroa_0_sroa_10_0_ph = 0u; p_v_r30_i23_sroa_0_sroa_13_0_ph = 0u; goto L_arm_12_i; } else { goto L_join_10_i_i_i1651_i; }
+L_join_10_i_i_i1651_i:;
+    v_r87_i_i_i1652_i = v_r29_i2046_i_i > 132u;
+    if (v_r87_i_i_i1652_i) { p_v_r30_i23_sroa_0_sroa_7_0_ph = 7u; p_v_r30_i23_sroa_0_sroa_10_0_ph = 0u; p_v_r30_i23_sroa_0_sroa_13_0_ph = 0u; goto L_arm_12_i; } else { goto L_join_3_i_i1653_i; }
+L_join_3_i_i1653_i:;
+    v_r106_i_i_i1654_i = (u8)((u32)(v_r29_i2046_i_i) & (u32)(127u));
+    v_r3_i25_i_i1655_i = (u64)v_r106_i_i_i1654_i;
+    v_r39_i2088_i_i = v_r19_i_i_i2045_i_i < v_r3_i25_i_i1655_i;
+    if (v_r39_i2088_i_i) { p_v_r30_i23_sroa_0_sroa_7_0_ph = 1u; p_v_r30_i23_sroa_0_sroa_10_0_ph = 0u; p_v_r30_i23_sroa_0_sroa_13_0_ph = 0u; goto L_arm_12_i; } else { goto L_arm_14_i_i_i1656_i; }
+L_arm_14_i_i_i1656_i:;
+    v_r16_i_i2090_i_i = (P)((uintptr_t)v_r16_i_i_i2044_i_i + (u64)(v_r3_i25_i_i1655_i));
+    v_r19_i_i2091_i_i = (u64)((u64)(v_r19_i_i_i2045_i_i) - (u64)(v_r3_i25_i_i1655_i));
+    switch (v_r106_i_i_i1654_i) {
+    case 0u: { p_v_r30_i23_sroa_0_sroa_7_0_ph = 8u; p_v_r30_i23_sroa_0_sroa_10_0_ph = v_r106_i_i_i1654_i; p_v_r30_i23_sroa_0_sroa_13_0_ph = v_r106_i_i_i1654_i; goto L_arm_12_i; }
+    case 1u: { goto L_der_core_length_is_overlong_exit_i_i; }
+    default: { goto L_join_7_i2113_i_i; }
     }
-L_join_7_i3686_i_i:;
-    v_r36_i3687_i_i = get_u8(v_r16_i_i_i3598_i_i);
-    v_r38_i3688_i_i = v_r36_i3687_i_i == 0u;
-    if (v_r38_i3688_i_i) { p_v_r30_i23_sroa_0_sroa_8_0_ph = 8u; p_v_r30_i23_sroa_0_sroa_12_0_ph = 0u; p_v_r30_i23_sroa_0_sroa_16_0_ph = 0u; goto L_arm_12_i; } else { goto L_join_7_i82_i811_i_i; }
-L_der_core_length_is_overlong_exit3689_i_i:;
-    v_r28_i3683_i_i = get_u8(v_r16_i_i_i3598_i_i);
-    v_r30_i3684_i_i = (u8)(v_r28_i3683_i_i ^ ((u8)1 << 7)) > (u8)(255u ^ ((u8)1 << 7));
-    if (v_r30_i3684_i_i) { p_v_r30_i23_sroa_0_sroa_8_0_ph = 8u; p_v_r30_i23_sroa_0_sroa_12_0_ph = 0u; p_v_r30_i23_sroa_0_sroa_16_0_ph = 0u; goto L_arm_12_i; } else { goto L_then_5_i80_i798_i_i; }
-L_then_5_i80_i798_i_i:;
-    v_r71_i_i800_i_i = (u32)v_r28_i3683_i_i;
-    { p_v_r13_sroa_0_0_copyload_i_i3778_i_i = v_r16_i_i3649_i_i; p_v_r36_i_i3775_i_i = v_r19_i_i3650_i_i; p_v_r12_sroa_10_0_i3713_i_i = v_r71_i_i800_i_i; goto L_arm_1_i598_i_i; }
-L_join_7_i82_i811_i_i:;
-    v_r74_i83_i812_i_i = v_r106_i_i774_i_i < 3u;
-    if (v_r74_i83_i812_i_i) { goto L_then_8_i106_i849_i_i; } else { goto L_join_10_i84_i813_i_i; }
-L_then_8_i106_i849_i_i:;
-    v_r81_i107_i850_i_i = v_r16_i_i_i3420_i_i + 3;
-    v_r87_i109_i852_i_i = (u32)v_r36_i3687_i_i;
-    v_r89_i_i853_i_i = (u32)((u32)(v_r87_i109_i852_i_i) << (u32)((8u & 31)));
-    v_r91_i_i854_i_i = get_u8(v_r81_i107_i850_i_i);
-    v_r93_i110_i855_i_i = (u32)v_r91_i_i854_i_i;
-    v_r96_i111_i856_i_i = (u32)((u32)(v_r89_i_i853_i_i) | (u32)(v_r93_i110_i855_i_i));
-    { p_v_r13_sroa_0_0_copyload_i_i3778_i_i = v_r16_i_i3649_i_i; p_v_r36_i_i3775_i_i = v_r19_i_i3650_i_i; p_v_r12_sroa_10_0_i3713_i_i = v_r96_i111_i856_i_i; goto L_arm_1_i598_i_i; }
-L_join_10_i84_i813_i_i:;
-    v_r99_i85_i814_i_i = v_r106_i_i774_i_i == 3u;
-    if (v_r99_i85_i814_i_i) { goto L_then_11_i95_i836_i_i; } else { goto L_join_13_i86_i815_i_i; }
-L_then_11_i95_i836_i_i:;
-    v_r106_i96_i837_i_i = v_r16_i_i_i3420_i_i + 3;
-    v_r108_i97_i838_i_i = v_r16_i_i_i3420_i_i + 4;
-    v_r115_i99_i840_i_i = (u32)v_r36_i3687_i_i;
-    v_r117_i100_i841_i_i = (u32)((u32)(v_r115_i99_i840_i_i) << (u32)((16u & 31)));
-    v_r119_i101_i842_i_i = get_u8(v_r106_i96_i837_i_i);
-    v_r121_i102_i843_i_i = (u32)v_r119_i101_i842_i_i;
-    v_r123_i103_i844_i_i = (u32)((u32)(v_r121_i102_i843_i_i) << (u32)((8u & 31)));
-    v_r126_i104_i845_i_i = (u32)((u32)(v_r123_i103_i844_i_i) | (u32)(v_r117_i100_i841_i_i));
-    v_r128_i_i846_i_i = get_u8(v_r108_i97_i838_i_i);
-    v_r130_i105_i847_i_i = (u32)v_r128_i_i846_i_i;
-    v_r133_i_i848_i_i = (u32)((u32)(v_r126_i104_i845_i_i) | (u32)(v_r130_i105_i847_i_i));
-    { p_v_r13_sroa_0_0_copyload_i_i3778_i_i = v_r16_i_i3649_i_i; p_v_r36_i_i3775_i_i = v_r19_i_i3650_i_i; p_v_r12_sroa_10_0_i3713_i_i = v_r133_i_i848_i_i; goto L_arm_1_i598_i_i; }
-L_join_13_i86_i815_i_i:;
-    v_r136_i87_i816_i_i = v_r106_i_i774_i_i < 5u;
-    if (v_r136_i87_i816_i_i) { goto L_then_14_i_i818_i_i; } else { goto L_join_16_i_i817_i_i; }
-L_then_14_i_i818_i_i:;
-    v_r143_i88_i819_i_i = v_r16_i_i_i3420_i_i + 3;
-    v_r145_i89_i820_i_i = v_r16_i_i_i3420_i_i + 4;
-    v_r147_i90_i821_i_i = v_r16_i_i_i3420_i_i + 5;
-    v_r155_i92_i823_i_i = (u32)v_r36_i3687_i_i;
-    v_r157_i93_i824_i_i = (u32)((u32)(v_r155_i92_i823_i_i) << (u32)((24u & 31)));
-    v_r159_i94_i825_i_i = get_u8(v_r143_i88_i819_i_i);
-    v_r161_i_i826_i_i = (u32)v_r159_i94_i825_i_i;
-    v_r163_i_i827_i_i = (u32)((u32)(v_r161_i_i826_i_i) << (u32)((16u & 31)));
-    v_r166_i_i828_i_i = (u32)((u32)(v_r163_i_i827_i_i) | (u32)(v_r157_i93_i824_i_i));
-    v_r168_i_i829_i_i = get_u8(v_r145_i89_i820_i_i);
-    v_r170_i_i830_i_i = (u32)v_r168_i_i829_i_i;
-    v_r172_i_i831_i_i = (u32)((u32)(v_r170_i_i830_i_i) << (u32)((8u & 31)));
-    v_r175_i_i832_i_i = (u32)((u32)(v_r166_i_i828_i_i) | (u32)(v_r172_i_i831_i_i));
-    v_r177_i_i833_i_i = get_u8(v_r147_i90_i821_i_i);
-    v_r179_i_i834_i_i = (u32)v_r177_i_i833_i_i;
-    v_r182_i_i835_i_i = (u32)((u32)(v_r175_i_i832_i_i) | (u32)(v_r179_i_i834_i_i));
-    { p_v_r13_sroa_0_0_copyload_i_i3778_i_i = v_r16_i_i3649_i_i; p_v_r36_i_i3775_i_i = v_r19_i_i3650_i_i; p_v_r12_sroa_10_0_i3713_i_i = v_r182_i_i835_i_i; goto L_arm_1_i598_i_i; }
-L_join_16_i_i817_i_i:;
+L_join_7_i2113_i_i:;
+    v_r36_i2114_i_i = get_u8(v_r16_i_i_i2044_i_i);
+    v_r38_i2115_i_i = v_r36_i2114_i_i == 0u;
+    if (v_r38_i2115_i_i) { p_v_r30_i23_sroa_0_sroa_7_0_ph = 8u; p_v_r30_i23_sroa_0_sroa_10_0_ph = 0u; p_v_r30_i23_sroa_0_sroa_13_0_ph = 0u; goto L_arm_12_i; } else { goto L_join_7_i82_i_i1672_i; }
+L_der_core_length_is_overlong_exit_i_i:;
+    v_r28_i2111_i_i = get_u8(v_r16_i_i_i2044_i_i);
+    v_r30_i2112_i_i = (u8)(v_r28_i2111_i_i ^ ((u8)1 << 7)) > (u8)(255u ^ ((u8)1 << 7));
+    if (v_r30_i2112_i_i) { p_v_r30_i23_sroa_0_sroa_7_0_ph = 8u; p_v_r30_i23_sroa_0_sroa_10_0_ph = 0u; p_v_r30_i23_sroa_0_sroa_13_0_ph = 0u; goto L_arm_12_i; } else { goto L_then_5_i80_i_i1657_i; }
+L_then_5_i80_i_i1657_i:;
+    v_r71_i_i_i1658_i = (u32)v_r28_i2111_i_i;
+    { p_v_r13_sroa_0_0_copyload_i_i2197_i_i = v_r16_i_i2090_i_i; p_v_r36_i_i2194_i_i = v_r19_i_i2091_i_i; p_v_r12_sroa_10_0_i_i_i = v_r71_i_i_i1658_i; goto L_arm_1_i_i1659_i; }
+L_join_7_i82_i_i1672_i:;
+    v_r74_i83_i_i1673_i = v_r106_i_i_i1654_i < 3u;
+    if (v_r74_i83_i_i1673_i) { goto L_then_8_i106_i_i1708_i; } else { goto L_join_10_i84_i_i1674_i; }
+L_then_8_i106_i_i1708_i:;
+    v_r81_i107_i_i1709_i = v_r16_i_i_i1523_i + 3;
+    v_r87_i109_i_i1710_i = (u32)v_r36_i2114_i_i;
+    v_r89_i_i_i1711_i = (u32)((u32)(v_r87_i109_i_i1710_i) << (u32)((8u & 31)));
+    v_r91_i_i_i1712_i = get_u8(v_r81_i107_i_i1709_i);
+    v_r93_i110_i_i1713_i = (u32)v_r91_i_i_i1712_i;
+    v_r96_i111_i_i1714_i = (u32)((u32)(v_r89_i_i_i1711_i) | (u32)(v_r93_i110_i_i1713_i));
+    { p_v_r13_sroa_0_0_copyload_i_i2197_i_i = v_r16_i_i2090_i_i; p_v_r36_i_i2194_i_i = v_r19_i_i2091_i_i; p_v_r12_sroa_10_0_i_i_i = v_r96_i111_i_i1714_i; goto L_arm_1_i_i1659_i; }
+L_join_10_i84_i_i1674_i:;
+    v_r99_i85_i_i1675_i = v_r106_i_i_i1654_i == 3u;
+    if (v_r99_i85_i_i1675_i) { goto L_then_11_i95_i_i1696_i; } else { goto L_join_13_i86_i_i1676_i; }
+L_then_11_i95_i_i1696_i:;
+    v_r106_i96_i_i1697_i = v_r16_i_i_i1523_i + 3;
+    v_r108_i97_i_i1698_i = v_r16_i_i_i1523_i + 4;
+    v_r115_i99_i_i1699_i = (u32)v_r36_i2114_i_i;
+    v_r117_i100_i_i1700_i = (u32)((u32)(v_r115_i99_i_i1699_i) << (u32)((16u & 31)));
+    v_r119_i101_i_i1701_i = get_u8(v_r106_i96_i_i1697_i);
+    v_r121_i102_i_i1702_i = (u32)v_r119_i101_i_i1701_i;
+    v_r123_i103_i_i1703_i = (u32)((u32)(v_r121_i102_i_i1702_i) << (u32)((8u & 31)));
+    v_r126_i104_i_i1704_i = (u32)((u32)(v_r123_i103_i_i1703_i) | (u32)(v_r117_i100_i_i1700_i));
+    v_r128_i_i_i1705_i = get_u8(v_r108_i97_i_i1698_i);
+    v_r130_i105_i_i1706_i = (u32)v_r128_i_i_i1705_i;
+    v_r133_i_i_i1707_i = (u32)((u32)(v_r126_i104_i_i1704_i) | (u32)(v_r130_i105_i_i1706_i));
+    { p_v_r13_sroa_0_0_copyload_i_i2197_i_i = v_r16_i_i2090_i_i; p_v_r36_i_i2194_i_i = v_r19_i_i2091_i_i; p_v_r12_sroa_10_0_i_i_i = v_r133_i_i_i1707_i; goto L_arm_1_i_i1659_i; }
+L_join_13_i86_i_i1676_i:;
+    v_r136_i87_i_i1677_i = v_r106_i_i_i1654_i < 5u;
+    if (v_r136_i87_i_i1677_i) { goto L_then_14_i_i_i1679_i; } else { goto L_join_16_i_i_i1678_i; }
+L_then_14_i_i_i1679_i:;
+    v_r143_i88_i_i1680_i = v_r16_i_i_i1523_i + 3;
+    v_r145_i89_i_i1681_i = v_r16_i_i_i1523_i + 4;
+    v_r147_i90_i_i1682_i = v_r16_i_i_i1523_i + 5;
+    v_r155_i92_i_i1683_i = (u32)v_r36_i2114_i_i;
+    v_r157_i93_i_i1684_i = (u32)((u32)(v_r155_i92_i_i1683_i) << (u32)((24u & 31)));
+    v_r159_i94_i_i1685_i = get_u8(v_r143_i88_i_i1680_i);
+    v_r161_i_i_i1686_i = (u32)v_r159_i94_i_i1685_i;
+    v_r163_i_i_i1687_i = (u32)((u32)(v_r161_i_i_i1686_i) << (u32)((16u & 31)));
+    v_r166_i_i_i1688_i = (u32)((u32)(v_r163_i_i_i1687_i) | (u32)(v_r157_i93_i_i1684_i));
+    v_r168_i_i_i1689_i = get_u8(v_r145_i89_i_i1681_i);
+    v_r170_i_i_i1690_i = (u32)v_r168_i_i_i1689_i;
+    v_r172_i_i_i1691_i = (u32)((u32)(v_r170_i_i_i1690_i) << (u32)((8u & 31)));
+    v_r175_i_i_i1692_i = (u32)((u32)(v_r166_i_i_i1688_i) | (u32)(v_r172_i_i_i1691_i));
+    v_r177_i_i_i1693_i = get_u8(v_r147_i90_i_i1682_i);
+    v_r179_i_i_i1694_i = (u32)v_r177_i_i_i1693_i;
+    v_r182_i_i_i1695_i = (u32)((u32)(v_r175_i_i_i1692_i) | (u32)(v_r179_i_i_i1694_i));
+    { p_v_r13_sroa_0_0_copyload_i_i2197_i_i = v_r16_i_i2090_i_i; p_v_r36_i_i2194_i_i = v_r19_i_i2091_i_i; p_v_r12_sroa_10_0_i_i_i = v_r182_i_i_i1695_i; goto L_arm_1_i_i1659_i; }
+L_join_16_i_i_i1678_i:;
     __builtin_trap();
     __builtin_trap();
-L_arm_1_i598_i_i:;
-    v_r13_sroa_0_0_copyload_i_i3778_i_i = p_v_r13_sroa_0_0_copyload_i_i3778_i_i;
-    v_r36_i_i3775_i_i = p_v_r36_i_i3775_i_i;
-    v_r12_sroa_10_0_i3713_i_i = p_v_r12_sroa_10_0_i3713_i_i;
-    if (v_r8_i22_i678_i_i) { goto L_join_3_i_i3772_i_i; } else { p_v_r30_i23_sroa_0_sroa_8_0_ph = 10u; p_v_r30_i23_sroa_0_sroa_12_0_ph = 2u; p_v_r30_i23_sroa_0_sroa_16_0_ph = v_r29_i3552_i_i; goto L_arm_12_i; }
-L_join_3_i_i3772_i_i:;
-    v_r3_i25_i_i3773_i_i = (u64)v_r12_sroa_10_0_i3713_i_i;
-    v_r39_i_i3776_i_i = v_r36_i_i3775_i_i < v_r3_i25_i_i3773_i_i;
-    if (v_r39_i_i3776_i_i) { p_v_r30_i23_sroa_0_sroa_8_0_ph = 1u; p_v_r30_i23_sroa_0_sroa_12_0_ph = 0u; p_v_r30_i23_sroa_0_sroa_16_0_ph = 0u; goto L_arm_12_i; } else { goto L_join_3_i_i3815_i_i; }
-L_join_3_i_i3815_i_i:;
-    v_r16_i_i_i3779_i_i = (P)((uintptr_t)v_r13_sroa_0_0_copyload_i_i3778_i_i + (u64)(v_r3_i25_i_i3773_i_i));
-    v_r19_i_i_i3780_i_i = (u64)((u64)(v_r36_i_i3775_i_i) - (u64)(v_r3_i25_i_i3773_i_i));
-    v_r7_i_i_i3824_i_i = v_r12_sroa_10_0_i3713_i_i == 0u;
-    if (v_r7_i_i_i3824_i_i) { p_v_r30_i23_sroa_0_sroa_8_0_ph = 3u; p_v_r30_i23_sroa_0_sroa_12_0_ph = 2u; p_v_r30_i23_sroa_0_sroa_16_0_ph = 0u; goto L_arm_12_i; } else { goto L_join_8_i_i3825_i_i; }
-L_join_8_i_i3825_i_i:;
-    v_r60_i_i3826_i_i = get_u8(v_r13_sroa_0_0_copyload_i_i3778_i_i);
-    v_r62_i_i3827_i_i = (u8)(v_r60_i_i3826_i_i ^ ((u8)1 << 7)) < (u8)(0u ^ ((u8)1 << 7));
-    if (v_r62_i_i3827_i_i) { p_v_r30_i23_sroa_0_sroa_8_0_ph = 13u; p_v_r30_i23_sroa_0_sroa_12_0_ph = 2u; p_v_r30_i23_sroa_0_sroa_16_0_ph = 0u; goto L_arm_12_i; } else { goto L_join_11_i_i3828_i_i; }
-L_join_11_i_i3828_i_i:;
-    v_r74_i_i3829_i_i = v_r12_sroa_10_0_i3713_i_i != 1u;
-    v_cond_i_i3830_i_i = v_r60_i_i3826_i_i == 0u;
-    v_or_cond_i_i3831_i_i = (u1)(((u32)(v_r74_i_i3829_i_i) & (u32)(v_cond_i_i3830_i_i)) & 1);
-    if (v_or_cond_i_i3831_i_i) { goto L_arm_15_i_i3843_i_i; } else { p_v_r12_sroa_10_i3881_sroa_5_0_ph_i_i = v_r3_i25_i_i3773_i_i; p_v_r12_sroa_10_i3881_sroa_3_0_ph_i_i = v_r13_sroa_0_0_copyload_i_i3778_i_i; goto L_join_3_i_i3903_i_i; }
-L_arm_15_i_i3843_i_i:;
-    v_r84_i_i3844_i_i = v_r13_sroa_0_0_copyload_i_i3778_i_i + 1;
-    v_r87_i_i3845_i_i = get_u8(v_r84_i_i3844_i_i);
-    v_r89_i_i3846_i_i = (u8)(v_r87_i_i3845_i_i ^ ((u8)1 << 7)) > (u8)(255u ^ ((u8)1 << 7));
-    if (v_r89_i_i3846_i_i) { p_v_r30_i23_sroa_0_sroa_8_0_ph = 4u; p_v_r30_i23_sroa_0_sroa_12_0_ph = 2u; p_v_r30_i23_sroa_0_sroa_16_0_ph = 0u; goto L_arm_12_i; } else { goto L_join_20_i_i3847_i_i; }
-L_join_20_i_i3847_i_i:;
-    v_r103_i_i3848_i_i = (u64)((u64)(v_r3_i25_i_i3773_i_i) + (u64)(18446744073709551615ull));
-    { p_v_r12_sroa_10_i3881_sroa_5_0_ph_i_i = v_r103_i_i3848_i_i; p_v_r12_sroa_10_i3881_sroa_3_0_ph_i_i = v_r84_i_i3844_i_i; goto L_join_3_i_i3903_i_i; }
-L_join_3_i_i3903_i_i:;
-    v_r12_sroa_10_i3881_sroa_5_0_ph_i_i = p_v_r12_sroa_10_i3881_sroa_5_0_ph_i_i;
-    v_r12_sroa_10_i3881_sroa_3_0_ph_i_i = p_v_r12_sroa_10_i3881_sroa_3_0_ph_i_i;
-    v_r39_i_i3906_i_i = v_r36_i_i3775_i_i == v_r3_i25_i_i3773_i_i;
-    if (v_r39_i_i3906_i_i) { p_v_r30_i23_sroa_0_sroa_8_0_ph = 1u; p_v_r30_i23_sroa_0_sroa_12_0_ph = 0u; p_v_r30_i23_sroa_0_sroa_16_0_ph = 0u; goto L_arm_12_i; } else { goto L_arm_1_i_i1075_i_i; }
-L_arm_1_i_i1075_i_i:;
-    v_r16_i_i_i3909_i_i = v_r16_i_i_i3779_i_i + 1;
-    v_r29_i3911_i_i = get_u8(v_r16_i_i_i3779_i_i);
-    v_r8_i22_i1079_i_i = v_r29_i3911_i_i == 2u;
-    if (v_r8_i22_i1079_i_i) { goto L_join_3_i_i3951_i_i; } else { goto L_der_core_header_tag_of_exit_i1081_i_i; }
-L_der_core_header_tag_of_exit_i1081_i_i:;
-    v_r9_i3933_i_i = (u8)((u32)(v_r29_i3911_i_i) & (u32)(31u));
-    v_r11_i3934_i_i = v_r9_i3933_i_i != 31u;
-    v_10 = (u8)((u32)(v_r29_i3911_i_i) & (u32)(223u));
-    v_11 = v_10 != 0u;
-    v_r2_0_in_i3935_not_i_i = (u1)(((u32)(v_r11_i3934_i_i) & (u32)(v_11)) & 1);
-    if (v_r2_0_in_i3935_not_i_i) { goto L_join_3_i_i3951_i_i; } else { p_v_r30_i23_sroa_0_sroa_8_0_ph = 11u; p_v_r30_i23_sroa_0_sroa_12_0_ph = v_r29_i3911_i_i; p_v_r30_i23_sroa_0_sroa_16_0_ph = 0u; goto L_arm_12_i; }
-L_join_3_i_i3951_i_i:;
-    v_r39_i_i3954_i_i = v_r19_i_i_i3780_i_i == 1u;
-    if (v_r39_i_i3954_i_i) { p_v_r30_i23_sroa_0_sroa_8_0_ph = 1u; p_v_r30_i23_sroa_0_sroa_12_0_ph = 0u; p_v_r30_i23_sroa_0_sroa_16_0_ph = 0u; goto L_arm_12_i; } else { goto L_arm_1_i59_i1166_i_i; }
-L_arm_1_i59_i1166_i_i:;
-    v_r16_i_i_i3957_i_i = v_r16_i_i_i3779_i_i + 2;
-    v_r19_i_i_i3958_i_i = (u64)((u64)(v_r19_i_i_i3780_i_i) + (u64)(18446744073709551614ull));
-    v_r29_i3959_i_i = get_u8(v_r16_i_i_i3909_i_i);
-    v_r51_i62_i1169_i_i = (u8)(v_r29_i3959_i_i ^ ((u8)1 << 7)) > (u8)(255u ^ ((u8)1 << 7));
-    if (v_r51_i62_i1169_i_i) { goto L_then_5_i_i1297_i_i; } else { goto L_join_7_i63_i1170_i_i; }
-L_then_5_i_i1297_i_i:;
-    v_r56_i73_i1298_i_i = (u32)v_r29_i3959_i_i;
-    { p_v_r13_sroa_0_0_copyload_i_i4137_i_i = v_r16_i_i_i3957_i_i; p_v_r36_i_i4134_i_i = v_r19_i_i_i3958_i_i; p_v_r12_sroa_10_0_i4072_i_i = v_r56_i73_i1298_i_i; goto L_arm_1_i999_i_i; }
-L_join_7_i63_i1170_i_i:;
-    v_r68_i64_i1171_i_i = v_r29_i3959_i_i == 128u;
-    if (v_r68_i64_i1171_i_i) { p_v_r30_i23_sroa_0_sroa_8_0_ph = 2u; p_v_r30_i23_sroa_0_sroa_12_0_ph = 0u; p_v_r30_i23_sroa_0_sroa_16_0_ph = 0u; goto L_arm_12_i; } else { goto L_join_10_i_i1172_i_i; }
-L_join_10_i_i1172_i_i:;
-    v_r87_i_i1173_i_i = v_r29_i3959_i_i > 132u;
-    if (v_r87_i_i1173_i_i) { p_v_r30_i23_sroa_0_sroa_8_0_ph = 7u; p_v_r30_i23_sroa_0_sroa_12_0_ph = 0u; p_v_r30_i23_sroa_0_sroa_16_0_ph = 0u; goto L_arm_12_i; } else { goto L_join_3_i4000_i_i; }
-L_join_3_i4000_i_i:;
-    v_r106_i_i1175_i_i = (u8)((u32)(v_r29_i3959_i_i) & (u32)(127u));
-    v_r3_i25_i4001_i_i = (u64)v_r106_i_i1175_i_i;
-    v_r39_i4004_i_i = v_r19_i_i_i3958_i_i < v_r3_i25_i4001_i_i;
-    if (v_r39_i4004_i_i) { p_v_r30_i23_sroa_0_sroa_8_0_ph = 1u; p_v_r30_i23_sroa_0_sroa_12_0_ph = 0u; p_v_r30_i23_sroa_0_sroa_16_0_ph = 0u; goto L_arm_12_i; } else { goto L_arm_14_i_i1192_i_i; }
-L_arm_14_i_i1192_i_i:;
-    v_r16_i_i4008_i_i = (P)((uintptr_t)v_r16_i_i_i3957_i_i + (u64)(v_r3_i25_i4001_i_i));
-    v_r19_i_i4009_i_i = (u64)((u64)(v_r19_i_i_i3958_i_i) - (u64)(v_r3_i25_i4001_i_i));
-    switch (v_r106_i_i1175_i_i) {
-    case 0u: { p_v_r30_i23_sroa_0_sroa_8_0_ph = 8u; p_v_r30_i23_sroa_0_sroa_12_0_ph = v_r106_i_i1175_i_i; p_v_r30_i23_sroa_0_sroa_16_0_ph = v_r106_i_i1175_i_i; goto L_arm_12_i; }
-    case 1u: { goto L_der_core_length_is_overlong_exit4048_i_i; }
-    default: { goto L_join_7_i4045_i_i; }
-    }
-L_join_7_i4045_i_i:;
-    v_r36_i4046_i_i = get_u8(v_r16_i_i_i3957_i_i);
-    v_r38_i4047_i_i = v_r36_i4046_i_i == 0u;
-    if (v_r38_i4047_i_i) { p_v_r30_i23_sroa_0_sroa_8_0_ph = 8u; p_v_r30_i23_sroa_0_sroa_12_0_ph = 0u; p_v_r30_i23_sroa_0_sroa_16_0_ph = 0u; goto L_arm_12_i; } else { goto L_join_7_i82_i1212_i_i; }
-L_der_core_length_is_overlong_exit4048_i_i:;
-    v_r28_i4042_i_i = get_u8(v_r16_i_i_i3957_i_i);
-    v_r30_i4043_i_i = (u8)(v_r28_i4042_i_i ^ ((u8)1 << 7)) > (u8)(255u ^ ((u8)1 << 7));
-    if (v_r30_i4043_i_i) { p_v_r30_i23_sroa_0_sroa_8_0_ph = 8u; p_v_r30_i23_sroa_0_sroa_12_0_ph = 0u; p_v_r30_i23_sroa_0_sroa_16_0_ph = 0u; goto L_arm_12_i; } else { goto L_then_5_i80_i1199_i_i; }
-L_then_5_i80_i1199_i_i:;
-    v_r71_i_i1201_i_i = (u32)v_r28_i4042_i_i;
-    { p_v_r13_sroa_0_0_copyload_i_i4137_i_i = v_r16_i_i4008_i_i; p_v_r36_i_i4134_i_i = v_r19_i_i4009_i_i; p_v_r12_sroa_10_0_i4072_i_i = v_r71_i_i1201_i_i; goto L_arm_1_i999_i_i; }
-L_join_7_i82_i1212_i_i:;
-    v_r74_i83_i1213_i_i = v_r106_i_i1175_i_i < 3u;
-    if (v_r74_i83_i1213_i_i) { goto L_then_8_i106_i1250_i_i; } else { goto L_join_10_i84_i1214_i_i; }
-L_then_8_i106_i1250_i_i:;
-    v_r81_i107_i1251_i_i = v_r16_i_i_i3779_i_i + 3;
-    v_r87_i109_i1253_i_i = (u32)v_r36_i4046_i_i;
-    v_r89_i_i1254_i_i = (u32)((u32)(v_r87_i109_i1253_i_i) << (u32)((8u & 31)));
-    v_r91_i_i1255_i_i = get_u8(v_r81_i107_i1251_i_i);
-    v_r93_i110_i1256_i_i = (u32)v_r91_i_i1255_i_i;
-    v_r96_i111_i1257_i_i = (u32)((u32)(v_r89_i_i1254_i_i) | (u32)(v_r93_i110_i1256_i_i));
-    { p_v_r13_sroa_0_0_copyload_i_i4137_i_i = v_r16_i_i4008_i_i; p_v_r36_i_i4134_i_i = v_r19_i_i4009_i_i; p_v_r12_sroa_10_0_i4072_i_i = v_r96_i111_i1257_i_i; goto L_arm_1_i999_i_i; }
-L_join_10_i84_i1214_i_i:;
-    v_r99_i85_i1215_i_i = v_r106_i_i1175_i_i == 3u;
-    if (v_r99_i85_i1215_i_i) { goto L_then_11_i95_i1237_i_i; } else { goto L_join_13_i86_i1216_i_i; }
-L_then_11_i95_i1237_i_i:;
-    v_r106_i96_i1238_i_i = v_r16_i_i_i3779_i_i + 3;
-    v_r108_i97_i1239_i_i = v_r16_i_i_i3779_i_i + 4;
-    v_r115_i99_i1241_i_i = (u32)v_r36_i4046_i_i;
-    v_r117_i100_i1242_i_i = (u32)((u32)(v_r115_i99_i1241_i_i) << (u32)((16u & 31)));
-    v_r119_i101_i1243_i_i = get_u8(v_r106_i96_i1238_i_i);
-    v_r121_i102_i1244_i_i = (u32)v_r119_i101_i1243_i_i;
-    v_r123_i103_i1245_i_i = (u32)((u32)(v_r121_i102_i1244_i_i) << (u32)((8u & 31)));
-    v_r126_i104_i1246_i_i = (u32)((u32)(v_r123_i103_i1245_i_i) | (u32)(v_r117_i100_i1242_i_i));
-    v_r128_i_i1247_i_i = get_u8(v_r108_i97_i1239_i_i);
-    v_r130_i105_i1248_i_i = (u32)v_r128_i_i1247_i_i;
-    v_r133_i_i1249_i_i = (u32)((u32)(v_r126_i104_i1246_i_i) | (u32)(v_r130_i105_i1248_i_i));
-    { p_v_r13_sroa_0_0_copyload_i_i4137_i_i = v_r16_i_i4008_i_i; p_v_r36_i_i4134_i_i = v_r19_i_i4009_i_i; p_v_r12_sroa_10_0_i4072_i_i = v_r133_i_i1249_i_i; goto L_arm_1_i999_i_i; }
-L_join_13_i86_i1216_i_i:;
-    v_r136_i87_i1217_i_i = v_r106_i_i1175_i_i < 5u;
-    if (v_r136_i87_i1217_i_i) { goto L_then_14_i_i1219_i_i; } else { goto L_join_16_i_i1218_i_i; }
-L_then_14_i_i1219_i_i:;
-    v_r143_i88_i1220_i_i = v_r16_i_i_i3779_i_i + 3;
-    v_r145_i89_i1221_i_i = v_r16_i_i_i3779_i_i + 4;
-    v_r147_i90_i1222_i_i = v_r16_i_i_i3779_i_i + 5;
-    v_r155_i92_i1224_i_i = (u32)v_r36_i4046_i_i;
-    v_r157_i93_i1225_i_i = (u32)((u32)(v_r155_i92_i1224_i_i) << (u32)((24u & 31)));
-    v_r159_i94_i1226_i_i = get_u8(v_r143_i88_i1220_i_i);
-    v_r161_i_i1227_i_i = (u32)v_r159_i94_i1226_i_i;
-    v_r163_i_i1228_i_i = (u32)((u32)(v_r161_i_i1227_i_i) << (u32)((16u & 31)));
-    v_r166_i_i1229_i_i = (u32)((u32)(v_r163_i_i1228_i_i) | (u32)(v_r157_i93_i1225_i_i));
-    v_r168_i_i1230_i_i = get_u8(v_r145_i89_i1221_i_i);
-    v_r170_i_i1231_i_i = (u32)v_r168_i_i1230_i_i;
-    v_r172_i_i1232_i_i = (u32)((u32)(v_r170_i_i1231_i_i) << (u32)((8u & 31)));
-    v_r175_i_i1233_i_i = (u32)((u32)(v_r166_i_i1229_i_i) | (u32)(v_r172_i_i1232_i_i));
-    v_r177_i_i1234_i_i = get_u8(v_r147_i90_i1222_i_i);
-    v_r179_i_i1235_i_i = (u32)v_r177_i_i1234_i_i;
-    v_r182_i_i1236_i_i = (u32)((u32)(v_r175_i_i1233_i_i) | (u32)(v_r179_i_i1235_i_i));
-    { p_v_r13_sroa_0_0_copyload_i_i4137_i_i = v_r16_i_i4008_i_i; p_v_r36_i_i4134_i_i = v_r19_i_i4009_i_i; p_v_r12_sroa_10_0_i4072_i_i = v_r182_i_i1236_i_i; goto L_arm_1_i999_i_i; }
-L_join_16_i_i1218_i_i:;
-    __builtin_trap();
-    __builtin_trap();
-L_arm_1_i999_i_i:;
-    v_r13_sroa_0_0_copyload_i_i4137_i_i = p_v_r13_sroa_0_0_copyload_i_i4137_i_i;
-    v_r36_i_i4134_i_i = p_v_r36_i_i4134_i_i;
-    v_r12_sroa_10_0_i4072_i_i = p_v_r12_sroa_10_0_i4072_i_i;
-    if (v_r8_i22_i1079_i_i) { goto L_join_3_i_i4131_i_i; } else { p_v_r30_i23_sroa_0_sroa_8_0_ph = 10u; p_v_r30_i23_sroa_0_sroa_12_0_ph = 2u; p_v_r30_i23_sroa_0_sroa_16_0_ph = v_r29_i3911_i_i; goto L_arm_12_i; }
-L_join_3_i_i4131_i_i:;
-    v_r3_i25_i_i4132_i_i = (u64)v_r12_sroa_10_0_i4072_i_i;
-    v_r39_i_i4135_i_i = v_r36_i_i4134_i_i < v_r3_i25_i_i4132_i_i;
-    if (v_r39_i_i4135_i_i) { p_v_r30_i23_sroa_0_sroa_8_0_ph = 1u; p_v_r30_i23_sroa_0_sroa_12_0_ph = 0u; p_v_r30_i23_sroa_0_sroa_16_0_ph = 0u; goto L_arm_12_i; } else { goto L_join_3_i_i4174_i_i; }
-L_join_3_i_i4174_i_i:;
-    v_r16_i_i_i4138_i_i = (P)((uintptr_t)v_r13_sroa_0_0_copyload_i_i4137_i_i + (u64)(v_r3_i25_i_i4132_i_i));
-    v_r19_i_i_i4139_i_i = (u64)((u64)(v_r36_i_i4134_i_i) - (u64)(v_r3_i25_i_i4132_i_i));
-    v_r7_i_i_i4183_i_i = v_r12_sroa_10_0_i4072_i_i == 0u;
-    if (v_r7_i_i_i4183_i_i) { p_v_r30_i23_sroa_0_sroa_8_0_ph = 3u; p_v_r30_i23_sroa_0_sroa_12_0_ph = 2u; p_v_r30_i23_sroa_0_sroa_16_0_ph = 0u; goto L_arm_12_i; } else { goto L_join_8_i_i4184_i_i; }
-L_join_8_i_i4184_i_i:;
-    v_r60_i_i4185_i_i = get_u8(v_r13_sroa_0_0_copyload_i_i4137_i_i);
-    v_r62_i_i4186_i_i = (u8)(v_r60_i_i4185_i_i ^ ((u8)1 << 7)) < (u8)(0u ^ ((u8)1 << 7));
-    if (v_r62_i_i4186_i_i) { p_v_r30_i23_sroa_0_sroa_8_0_ph = 13u; p_v_r30_i23_sroa_0_sroa_12_0_ph = 2u; p_v_r30_i23_sroa_0_sroa_16_0_ph = 0u; goto L_arm_12_i; } else { goto L_join_11_i_i4187_i_i; }
-L_join_11_i_i4187_i_i:;
-    v_r74_i_i4188_i_i = v_r12_sroa_10_0_i4072_i_i != 1u;
-    v_cond_i_i4189_i_i = v_r60_i_i4185_i_i == 0u;
-    v_or_cond_i_i4190_i_i = (u1)(((u32)(v_r74_i_i4188_i_i) & (u32)(v_cond_i_i4189_i_i)) & 1);
-    if (v_or_cond_i_i4190_i_i) { goto L_arm_15_i_i4202_i_i; } else { p_v_r12_sroa_10_i4240_sroa_5_0_ph_i_i = v_r3_i25_i_i4132_i_i; p_v_r12_sroa_10_i4240_sroa_3_0_ph_i_i = v_r13_sroa_0_0_copyload_i_i4137_i_i; goto L_join_3_i_i4262_i_i; }
-L_arm_15_i_i4202_i_i:;
-    v_r84_i_i4203_i_i = v_r13_sroa_0_0_copyload_i_i4137_i_i + 1;
-    v_r87_i_i4204_i_i = get_u8(v_r84_i_i4203_i_i);
-    v_r89_i_i4205_i_i = (u8)(v_r87_i_i4204_i_i ^ ((u8)1 << 7)) > (u8)(255u ^ ((u8)1 << 7));
-    if (v_r89_i_i4205_i_i) { p_v_r30_i23_sroa_0_sroa_8_0_ph = 4u; p_v_r30_i23_sroa_0_sroa_12_0_ph = 2u; p_v_r30_i23_sroa_0_sroa_16_0_ph = 0u; goto L_arm_12_i; } else { goto L_join_20_i_i4206_i_i; }
-L_join_20_i_i4206_i_i:;
-    v_r103_i_i4207_i_i = (u64)((u64)(v_r3_i25_i_i4132_i_i) + (u64)(18446744073709551615ull));
-    { p_v_r12_sroa_10_i4240_sroa_5_0_ph_i_i = v_r103_i_i4207_i_i; p_v_r12_sroa_10_i4240_sroa_3_0_ph_i_i = v_r84_i_i4203_i_i; goto L_join_3_i_i4262_i_i; }
-L_join_3_i_i4262_i_i:;
-    v_r12_sroa_10_i4240_sroa_5_0_ph_i_i = p_v_r12_sroa_10_i4240_sroa_5_0_ph_i_i;
-    v_r12_sroa_10_i4240_sroa_3_0_ph_i_i = p_v_r12_sroa_10_i4240_sroa_3_0_ph_i_i;
-    v_r39_i_i4265_i_i = v_r36_i_i4134_i_i == v_r3_i25_i_i4132_i_i;
-    if (v_r39_i_i4265_i_i) { p_v_r30_i23_sroa_0_sroa_8_0_ph = 1u; p_v_r30_i23_sroa_0_sroa_12_0_ph = 0u; p_v_r30_i23_sroa_0_sroa_16_0_ph = 0u; goto L_arm_12_i; } else { goto L_arm_1_i_i1476_i_i; }
-L_arm_1_i_i1476_i_i:;
-    v_r16_i_i_i4268_i_i = v_r16_i_i_i4138_i_i + 1;
-    v_r29_i4270_i_i = get_u8(v_r16_i_i_i4138_i_i);
-    v_r8_i22_i1480_i_i = v_r29_i4270_i_i == 2u;
-    if (v_r8_i22_i1480_i_i) { goto L_join_3_i_i4310_i_i; } else { goto L_der_core_header_tag_of_exit_i1482_i_i; }
-L_der_core_header_tag_of_exit_i1482_i_i:;
-    v_r9_i4292_i_i = (u8)((u32)(v_r29_i4270_i_i) & (u32)(31u));
-    v_r11_i4293_i_i = v_r9_i4292_i_i != 31u;
-    v_12 = (u8)((u32)(v_r29_i4270_i_i) & (u32)(223u));
-    v_13 = v_12 != 0u;
-    v_r2_0_in_i4294_not_i_i = (u1)(((u32)(v_r11_i4293_i_i) & (u32)(v_13)) & 1);
-    if (v_r2_0_in_i4294_not_i_i) { goto L_join_3_i_i4310_i_i; } else { p_v_r30_i23_sroa_0_sroa_8_0_ph = 11u; p_v_r30_i23_sroa_0_sroa_12_0_ph = v_r29_i4270_i_i; p_v_r30_i23_sroa_0_sroa_16_0_ph = 0u; goto L_arm_12_i; }
-L_join_3_i_i4310_i_i:;
-    v_r39_i_i4313_i_i = v_r19_i_i_i4139_i_i == 1u;
-    if (v_r39_i_i4313_i_i) { p_v_r30_i23_sroa_0_sroa_8_0_ph = 1u; p_v_r30_i23_sroa_0_sroa_12_0_ph = 0u; p_v_r30_i23_sroa_0_sroa_16_0_ph = 0u; goto L_arm_12_i; } else { goto L_arm_1_i59_i1567_i_i; }
-L_arm_1_i59_i1567_i_i:;
-    v_r16_i_i_i4316_i_i = v_r16_i_i_i4138_i_i + 2;
-    v_r19_i_i_i4317_i_i = (u64)((u64)(v_r19_i_i_i4139_i_i) + (u64)(18446744073709551614ull));
-    v_r29_i4318_i_i = get_u8(v_r16_i_i_i4268_i_i);
-    v_r51_i62_i1570_i_i = (u8)(v_r29_i4318_i_i ^ ((u8)1 << 7)) > (u8)(255u ^ ((u8)1 << 7));
-    if (v_r51_i62_i1570_i_i) { goto L_then_5_i_i1698_i_i; } else { goto L_join_7_i63_i1571_i_i; }
-L_then_5_i_i1698_i_i:;
-    v_r56_i73_i1699_i_i = (u32)v_r29_i4318_i_i;
-    { p_v_r13_sroa_0_0_copyload_i_i4496_i_i = v_r16_i_i_i4316_i_i; p_v_r36_i_i4493_i_i = v_r19_i_i_i4317_i_i; p_v_r12_sroa_10_0_i4431_i_i = v_r56_i73_i1699_i_i; goto L_arm_1_i1400_i_i; }
-L_join_7_i63_i1571_i_i:;
-    v_r68_i64_i1572_i_i = v_r29_i4318_i_i == 128u;
-    if (v_r68_i64_i1572_i_i) { p_v_r30_i23_sroa_0_sroa_8_0_ph = 2u; p_v_r30_i23_sroa_0_sroa_12_0_ph = 0u; p_v_r30_i23_sroa_0_sroa_16_0_ph = 0u; goto L_arm_12_i; } else { goto L_join_10_i_i1573_i_i; }
-L_join_10_i_i1573_i_i:;
-    v_r87_i_i1574_i_i = v_r29_i4318_i_i > 132u;
-    if (v_r87_i_i1574_i_i) { p_v_r30_i23_sroa_0_sroa_8_0_ph = 7u; p_v_r30_i23_sroa_0_sroa_12_0_ph = 0u; p_v_r30_i23_sroa_0_sroa_16_0_ph = 0u; goto L_arm_12_i; } else { goto L_join_3_i4359_i_i; }
-L_join_3_i4359_i_i:;
-    v_r106_i_i1576_i_i = (u8)((u32)(v_r29_i4318_i_i) & (u32)(127u));
-    v_r3_i25_i4360_i_i = (u64)v_r106_i_i1576_i_i;
-    v_r39_i4363_i_i = v_r19_i_i_i4317_i_i < v_r3_i25_i4360_i_i;
-    if (v_r39_i4363_i_i) { p_v_r30_i23_sroa_0_sroa_8_0_ph = 1u; p_v_r30_i23_sroa_0_sroa_12_0_ph = 0u; p_v_r30_i23_sroa_0_sroa_16_0_ph = 0u; goto L_arm_12_i; } else { goto L_arm_14_i_i1593_i_i; }
-L_arm_14_i_i1593_i_i:;
-    v_r16_i_i4367_i_i = (P)((uintptr_t)v_r16_i_i_i4316_i_i + (u64)(v_r3_i25_i4360_i_i));
-    v_r19_i_i4368_i_i = (u64)((u64)(v_r19_i_i_i4317_i_i) - (u64)(v_r3_i25_i4360_i_i));
-    switch (v_r106_i_i1576_i_i) {
-    case 0u: { p_v_r30_i23_sroa_0_sroa_8_0_ph = 8u; p_v_r30_i23_sroa_0_sroa_12_0_ph = v_r106_i_i1576_i_i; p_v_r30_i23_sroa_0_sroa_16_0_ph = v_r106_i_i1576_i_i; goto L_arm_12_i; }
-    case 1u: { goto L_der_core_length_is_overlong_exit4407_i_i; }
-    default: { goto L_join_7_i4404_i_i; }
-    }
-L_join_7_i4404_i_i:;
-    v_r36_i4405_i_i = get_u8(v_r16_i_i_i4316_i_i);
-    v_r38_i4406_i_i = v_r36_i4405_i_i == 0u;
-    if (v_r38_i4406_i_i) { p_v_r30_i23_sroa_0_sroa_8_0_ph = 8u; p_v_r30_i23_sroa_0_sroa_12_0_ph = 0u; p_v_r30_i23_sroa_0_sroa_16_0_ph = 0u; goto L_arm_12_i; } else { goto L_join_7_i82_i1613_i_i; }
-L_der_core_length_is_overlong_exit4407_i_i:;
-    v_r28_i4401_i_i = get_u8(v_r16_i_i_i4316_i_i);
-    v_r30_i4402_i_i = (u8)(v_r28_i4401_i_i ^ ((u8)1 << 7)) > (u8)(255u ^ ((u8)1 << 7));
-    if (v_r30_i4402_i_i) { p_v_r30_i23_sroa_0_sroa_8_0_ph = 8u; p_v_r30_i23_sroa_0_sroa_12_0_ph = 0u; p_v_r30_i23_sroa_0_sroa_16_0_ph = 0u; goto L_arm_12_i; } else { goto L_then_5_i80_i1600_i_i; }
-L_then_5_i80_i1600_i_i:;
-    v_r71_i_i1602_i_i = (u32)v_r28_i4401_i_i;
-    { p_v_r13_sroa_0_0_copyload_i_i4496_i_i = v_r16_i_i4367_i_i; p_v_r36_i_i4493_i_i = v_r19_i_i4368_i_i; p_v_r12_sroa_10_0_i4431_i_i = v_r71_i_i1602_i_i; goto L_arm_1_i1400_i_i; }
-L_join_7_i82_i1613_i_i:;
-    v_r74_i83_i1614_i_i = v_r106_i_i1576_i_i < 3u;
-    if (v_r74_i83_i1614_i_i) { goto L_then_8_i106_i1651_i_i; } else { goto L_join_10_i84_i1615_i_i; }
-L_then_8_i106_i1651_i_i:;
-    v_r81_i107_i1652_i_i = v_r16_i_i_i4138_i_i + 3;
-    v_r87_i109_i1654_i_i = (u32)v_r36_i4405_i_i;
-    v_r89_i_i1655_i_i = (u32)((u32)(v_r87_i109_i1654_i_i) << (u32)((8u & 31)));
-    v_r91_i_i1656_i_i = get_u8(v_r81_i107_i1652_i_i);
-    v_r93_i110_i1657_i_i = (u32)v_r91_i_i1656_i_i;
-    v_r96_i111_i1658_i_i = (u32)((u32)(v_r89_i_i1655_i_i) | (u32)(v_r93_i110_i1657_i_i));
-    { p_v_r13_sroa_0_0_copyload_i_i4496_i_i = v_r16_i_i4367_i_i; p_v_r36_i_i4493_i_i = v_r19_i_i4368_i_i; p_v_r12_sroa_10_0_i4431_i_i = v_r96_i111_i1658_i_i; goto L_arm_1_i1400_i_i; }
-L_join_10_i84_i1615_i_i:;
-    v_r99_i85_i1616_i_i = v_r106_i_i1576_i_i == 3u;
-    if (v_r99_i85_i1616_i_i) { goto L_then_11_i95_i1638_i_i; } else { goto L_join_13_i86_i1617_i_i; }
-L_then_11_i95_i1638_i_i:;
-    v_r106_i96_i1639_i_i = v_r16_i_i_i4138_i_i + 3;
-    v_r108_i97_i1640_i_i = v_r16_i_i_i4138_i_i + 4;
-    v_r115_i99_i1642_i_i = (u32)v_r36_i4405_i_i;
-    v_r117_i100_i1643_i_i = (u32)((u32)(v_r115_i99_i1642_i_i) << (u32)((16u & 31)));
-    v_r119_i101_i1644_i_i = get_u8(v_r106_i96_i1639_i_i);
-    v_r121_i102_i1645_i_i = (u32)v_r119_i101_i1644_i_i;
-    v_r123_i103_i1646_i_i = (u32)((u32)(v_r121_i102_i1645_i_i) << (u32)((8u & 31)));
-    v_r126_i104_i1647_i_i = (u32)((u32)(v_r123_i103_i1646_i_i) | (u32)(v_r117_i100_i1643_i_i));
-    v_r128_i_i1648_i_i = get_u8(v_r108_i97_i1640_i_i);
-    v_r130_i105_i1649_i_i = (u32)v_r128_i_i1648_i_i;
-    v_r133_i_i1650_i_i = (u32)((u32)(v_r126_i104_i1647_i_i) | (u32)(v_r130_i105_i1649_i_i));
-    { p_v_r13_sroa_0_0_copyload_i_i4496_i_i = v_r16_i_i4367_i_i; p_v_r36_i_i4493_i_i = v_r19_i_i4368_i_i; p_v_r12_sroa_10_0_i4431_i_i = v_r133_i_i1650_i_i; goto L_arm_1_i1400_i_i; }
-L_join_13_i86_i1617_i_i:;
-    v_r136_i87_i1618_i_i = v_r106_i_i1576_i_i < 5u;
-    if (v_r136_i87_i1618_i_i) { goto L_then_14_i_i1620_i_i; } else { goto L_join_16_i_i1619_i_i; }
-L_then_14_i_i1620_i_i:;
-    v_r143_i88_i1621_i_i = v_r16_i_i_i4138_i_i + 3;
-    v_r145_i89_i1622_i_i = v_r16_i_i_i4138_i_i + 4;
-    v_r147_i90_i1623_i_i = v_r16_i_i_i4138_i_i + 5;
-    v_r155_i92_i1625_i_i = (u32)v_r36_i4405_i_i;
-    v_r157_i93_i1626_i_i = (u32)((u32)(v_r155_i92_i1625_i_i) << (u32)((24u & 31)));
-    v_r159_i94_i1627_i_i = get_u8(v_r143_i88_i1621_i_i);
-    v_r161_i_i1628_i_i = (u32)v_r159_i94_i1627_i_i;
-    v_r163_i_i1629_i_i = (u32)((u32)(v_r161_i_i1628_i_i) << (u32)((16u & 31)));
-    v_r166_i_i1630_i_i = (u32)((u32)(v_r163_i_i1629_i_i) | (u32)(v_r157_i93_i1626_i_i));
-    v_r168_i_i1631_i_i = get_u8(v_r145_i89_i1622_i_i);
-    v_r170_i_i1632_i_i = (u32)v_r168_i_i1631_i_i;
-    v_r172_i_i1633_i_i = (u32)((u32)(v_r170_i_i1632_i_i) << (u32)((8u & 31)));
-    v_r175_i_i1634_i_i = (u32)((u32)(v_r166_i_i1630_i_i) | (u32)(v_r172_i_i1633_i_i));
-    v_r177_i_i1635_i_i = get_u8(v_r147_i90_i1623_i_i);
-    v_r179_i_i1636_i_i = (u32)v_r177_i_i1635_i_i;
-    v_r182_i_i1637_i_i = (u32)((u32)(v_r175_i_i1634_i_i) | (u32)(v_r179_i_i1636_i_i));
-    { p_v_r13_sroa_0_0_copyload_i_i4496_i_i = v_r16_i_i4367_i_i; p_v_r36_i_i4493_i_i = v_r19_i_i4368_i_i; p_v_r12_sroa_10_0_i4431_i_i = v_r182_i_i1637_i_i; goto L_arm_1_i1400_i_i; }
-L_join_16_i_i1619_i_i:;
-    __builtin_trap();
-    __builtin_trap();
-L_arm_1_i1400_i_i:;
-    v_r13_sroa_0_0_copyload_i_i4496_i_i = p_v_r13_sroa_0_0_copyload_i_i4496_i_i;
-    v_r36_i_i4493_i_i = p_v_r36_i_i4493_i_i;
-    v_r12_sroa_10_0_i4431_i_i = p_v_r12_sroa_10_0_i4431_i_i;
-    if (v_r8_i22_i1480_i_i) { goto L_join_3_i_i4490_i_i; } else { p_v_r30_i23_sroa_0_sroa_8_0_ph = 10u; p_v_r30_i23_sroa_0_sroa_12_0_ph = 2u; p_v_r30_i23_sroa_0_sroa_16_0_ph = v_r29_i4270_i_i; goto L_arm_12_i; }
-L_join_3_i_i4490_i_i:;
-    v_r3_i25_i_i4491_i_i = (u64)v_r12_sroa_10_0_i4431_i_i;
-    v_r39_i_i4494_i_i = v_r36_i_i4493_i_i < v_r3_i25_i_i4491_i_i;
-    if (v_r39_i_i4494_i_i) { p_v_r30_i23_sroa_0_sroa_8_0_ph = 1u; p_v_r30_i23_sroa_0_sroa_12_0_ph = 0u; p_v_r30_i23_sroa_0_sroa_16_0_ph = 0u; goto L_arm_12_i; } else { goto L_join_3_i_i4533_i_i; }
-L_join_3_i_i4533_i_i:;
-    v_r16_i_i_i4497_i_i = (P)((uintptr_t)v_r13_sroa_0_0_copyload_i_i4496_i_i + (u64)(v_r3_i25_i_i4491_i_i));
-    v_r19_i_i_i4498_i_i = (u64)((u64)(v_r36_i_i4493_i_i) - (u64)(v_r3_i25_i_i4491_i_i));
-    v_r7_i_i_i4542_i_i = v_r12_sroa_10_0_i4431_i_i == 0u;
-    if (v_r7_i_i_i4542_i_i) { p_v_r30_i23_sroa_0_sroa_8_0_ph = 3u; p_v_r30_i23_sroa_0_sroa_12_0_ph = 2u; p_v_r30_i23_sroa_0_sroa_16_0_ph = 0u; goto L_arm_12_i; } else { goto L_join_8_i_i4543_i_i; }
-L_join_8_i_i4543_i_i:;
-    v_r60_i_i4544_i_i = get_u8(v_r13_sroa_0_0_copyload_i_i4496_i_i);
-    v_r62_i_i4545_i_i = (u8)(v_r60_i_i4544_i_i ^ ((u8)1 << 7)) < (u8)(0u ^ ((u8)1 << 7));
-    if (v_r62_i_i4545_i_i) { p_v_r30_i23_sroa_0_sroa_8_0_ph = 13u; p_v_r30_i23_sroa_0_sroa_12_0_ph = 2u; p_v_r30_i23_sroa_0_sroa_16_0_ph = 0u; goto L_arm_12_i; } else { goto L_join_11_i_i4546_i_i; }
-L_join_11_i_i4546_i_i:;
-    v_r74_i_i4547_i_i = v_r12_sroa_10_0_i4431_i_i != 1u;
-    v_cond_i_i4548_i_i = v_r60_i_i4544_i_i == 0u;
-    v_or_cond_i_i4549_i_i = (u1)(((u32)(v_r74_i_i4547_i_i) & (u32)(v_cond_i_i4548_i_i)) & 1);
-    if (v_or_cond_i_i4549_i_i) { goto L_arm_15_i_i4561_i_i; } else { p_v_r12_sroa_10_i4599_sroa_5_0_ph_i_i = v_r3_i25_i_i4491_i_i; p_v_r12_sroa_10_i4599_sroa_3_0_ph_i_i = v_r13_sroa_0_0_copyload_i_i4496_i_i; goto L_join_3_i_i4621_i_i; }
-L_arm_15_i_i4561_i_i:;
-    v_r84_i_i4562_i_i = v_r13_sroa_0_0_copyload_i_i4496_i_i + 1;
-    v_r87_i_i4563_i_i = get_u8(v_r84_i_i4562_i_i);
-    v_r89_i_i4564_i_i = (u8)(v_r87_i_i4563_i_i ^ ((u8)1 << 7)) > (u8)(255u ^ ((u8)1 << 7));
-    if (v_r89_i_i4564_i_i) { p_v_r30_i23_sroa_0_sroa_8_0_ph = 4u; p_v_r30_i23_sroa_0_sroa_12_0_ph = 2u; p_v_r30_i23_sroa_0_sroa_16_0_ph = 0u; goto L_arm_12_i; } else { goto L_join_20_i_i4565_i_i; }
-L_join_20_i_i4565_i_i:;
-    v_r103_i_i4566_i_i = (u64)((u64)(v_r3_i25_i_i4491_i_i) + (u64)(18446744073709551615ull));
-    { p_v_r12_sroa_10_i4599_sroa_5_0_ph_i_i = v_r103_i_i4566_i_i; p_v_r12_sroa_10_i4599_sroa_3_0_ph_i_i = v_r84_i_i4562_i_i; goto L_join_3_i_i4621_i_i; }
-L_join_3_i_i4621_i_i:;
-    v_r12_sroa_10_i4599_sroa_5_0_ph_i_i = p_v_r12_sroa_10_i4599_sroa_5_0_ph_i_i;
-    v_r12_sroa_10_i4599_sroa_3_0_ph_i_i = p_v_r12_sroa_10_i4599_sroa_3_0_ph_i_i;
-    v_r39_i_i4624_i_i = v_r36_i_i4493_i_i == v_r3_i25_i_i4491_i_i;
-    if (v_r39_i_i4624_i_i) { p_v_r30_i23_sroa_0_sroa_8_0_ph = 1u; p_v_r30_i23_sroa_0_sroa_12_0_ph = 0u; p_v_r30_i23_sroa_0_sroa_16_0_ph = 0u; goto L_arm_12_i; } else { goto L_arm_1_i_i1877_i_i; }
-L_arm_1_i_i1877_i_i:;
-    v_r16_i_i_i4627_i_i = v_r16_i_i_i4497_i_i + 1;
-    v_r29_i4629_i_i = get_u8(v_r16_i_i_i4497_i_i);
-    v_r8_i22_i1881_i_i = v_r29_i4629_i_i == 2u;
-    if (v_r8_i22_i1881_i_i) { goto L_join_3_i_i4669_i_i; } else { goto L_der_core_header_tag_of_exit_i1883_i_i; }
-L_der_core_header_tag_of_exit_i1883_i_i:;
-    v_r9_i4651_i_i = (u8)((u32)(v_r29_i4629_i_i) & (u32)(31u));
-    v_r11_i4652_i_i = v_r9_i4651_i_i != 31u;
-    v_14 = (u8)((u32)(v_r29_i4629_i_i) & (u32)(223u));
-    v_15 = v_14 != 0u;
-    v_r2_0_in_i4653_not_i_i = (u1)(((u32)(v_r11_i4652_i_i) & (u32)(v_15)) & 1);
-    if (v_r2_0_in_i4653_not_i_i) { goto L_join_3_i_i4669_i_i; } else { p_v_r30_i23_sroa_0_sroa_8_0_ph = 11u; p_v_r30_i23_sroa_0_sroa_12_0_ph = v_r29_i4629_i_i; p_v_r30_i23_sroa_0_sroa_16_0_ph = 0u; goto L_arm_12_i; }
-L_join_3_i_i4669_i_i:;
-    v_r39_i_i4672_i_i = v_r19_i_i_i4498_i_i == 1u;
-    if (v_r39_i_i4672_i_i) { p_v_r30_i23_sroa_0_sroa_8_0_ph = 1u; p_v_r30_i23_sroa_0_sroa_12_0_ph = 0u; p_v_r30_i23_sroa_0_sroa_16_0_ph = 0u; goto L_arm_12_i; } else { goto L_arm_1_i59_i1968_i_i; }
-L_arm_1_i59_i1968_i_i:;
-    v_r16_i_i_i4675_i_i = v_r16_i_i_i4497_i_i + 2;
-    v_r19_i_i_i4676_i_i = (u64)((u64)(v_r19_i_i_i4498_i_i) + (u64)(18446744073709551614ull));
-    v_r29_i4677_i_i = get_u8(v_r16_i_i_i4627_i_i);
-    v_r51_i62_i1971_i_i = (u8)(v_r29_i4677_i_i ^ ((u8)1 << 7)) > (u8)(255u ^ ((u8)1 << 7));
-    if (v_r51_i62_i1971_i_i) { goto L_then_5_i_i2099_i_i; } else { goto L_join_7_i63_i1972_i_i; }
-L_then_5_i_i2099_i_i:;
-    v_r56_i73_i2100_i_i = (u32)v_r29_i4677_i_i;
-    { p_v_r13_sroa_0_0_copyload_i_i4855_i_i = v_r16_i_i_i4675_i_i; p_v_r36_i_i4852_i_i = v_r19_i_i_i4676_i_i; p_v_r12_sroa_10_0_i4790_i_i = v_r56_i73_i2100_i_i; goto L_arm_1_i1801_i_i; }
-L_join_7_i63_i1972_i_i:;
-    v_r68_i64_i1973_i_i = v_r29_i4677_i_i == 128u;
-    if (v_r68_i64_i1973_i_i) { p_v_r30_i23_sroa_0_sroa_8_0_ph = 2u; p_v_r30_i23_sroa_0_sroa_12_0_ph = 0u; p_v_r30_i23_sroa_0_sroa_16_0_ph = 0u; goto L_arm_12_i; } else { goto L_join_10_i_i1974_i_i; }
-L_join_10_i_i1974_i_i:;
-    v_r87_i_i1975_i_i = v_r29_i4677_i_i > 132u;
-    if (v_r87_i_i1975_i_i) { p_v_r30_i23_sroa_0_sroa_8_0_ph = 7u; p_v_r30_i23_sroa_0_sroa_12_0_ph = 0u; p_v_r30_i23_sroa_0_sroa_16_0_ph = 0u; goto L_arm_12_i; } else { goto L_join_3_i4718_i_i; }
-L_join_3_i4718_i_i:;
-    v_r106_i_i1977_i_i = (u8)((u32)(v_r29_i4677_i_i) & (u32)(127u));
-    v_r3_i25_i4719_i_i = (u64)v_r106_i_i1977_i_i;
-    v_r39_i4722_i_i = v_r19_i_i_i4676_i_i < v_r3_i25_i4719_i_i;
-    if (v_r39_i4722_i_i) { p_v_r30_i23_sroa_0_sroa_8_0_ph = 1u; p_v_r30_i23_sroa_0_sroa_12_0_ph = 0u; p_v_r30_i23_sroa_0_sroa_16_0_ph = 0u; goto L_arm_12_i; } else { goto L_arm_14_i_i1994_i_i; }
-L_arm_14_i_i1994_i_i:;
-    v_r16_i_i4726_i_i = (P)((uintptr_t)v_r16_i_i_i4675_i_i + (u64)(v_r3_i25_i4719_i_i));
-    v_r19_i_i4727_i_i = (u64)((u64)(v_r19_i_i_i4676_i_i) - (u64)(v_r3_i25_i4719_i_i));
-    switch (v_r106_i_i1977_i_i) {
-    case 0u: { p_v_r30_i23_sroa_0_sroa_8_0_ph = 8u; p_v_r30_i23_sroa_0_sroa_12_0_ph = v_r106_i_i1977_i_i; p_v_r30_i23_sroa_0_sroa_16_0_ph = v_r106_i_i1977_i_i; goto L_arm_12_i; }
-    case 1u: { goto L_der_core_length_is_overlong_exit4766_i_i; }
-    default: { goto L_join_7_i4763_i_i; }
-    }
-L_join_7_i4763_i_i:;
-    v_r36_i4764_i_i = get_u8(v_r16_i_i_i4675_i_i);
-    v_r38_i4765_i_i = v_r36_i4764_i_i == 0u;
-    if (v_r38_i4765_i_i) { p_v_r30_i23_sroa_0_sroa_8_0_ph = 8u; p_v_r30_i23_sroa_0_sroa_12_0_ph = 0u; p_v_r30_i23_sroa_0_sroa_16_0_ph = 0u; goto L_arm_12_i; } else { goto L_join_7_i82_i2014_i_i; }
-L_der_core_length_is_overlong_exit4766_i_i:;
-    v_r28_i4760_i_i = get_u8(v_r16_i_i_i4675_i_i);
-    v_r30_i4761_i_i = (u8)(v_r28_i4760_i_i ^ ((u8)1 << 7)) > (u8)(255u ^ ((u8)1 << 7));
-    if (v_r30_i4761_i_i) { p_v_r30_i23_sroa_0_sroa_8_0_ph = 8u; p_v_r30_i23_sroa_0_sroa_12_0_ph = 0u; p_v_r30_i23_sroa_0_sroa_16_0_ph = 0u; goto L_arm_12_i; } else { goto L_then_5_i80_i2001_i_i; }
-L_then_5_i80_i2001_i_i:;
-    v_r71_i_i2003_i_i = (u32)v_r28_i4760_i_i;
-    { p_v_r13_sroa_0_0_copyload_i_i4855_i_i = v_r16_i_i4726_i_i; p_v_r36_i_i4852_i_i = v_r19_i_i4727_i_i; p_v_r12_sroa_10_0_i4790_i_i = v_r71_i_i2003_i_i; goto L_arm_1_i1801_i_i; }
-L_join_7_i82_i2014_i_i:;
-    v_r74_i83_i2015_i_i = v_r106_i_i1977_i_i < 3u;
-    if (v_r74_i83_i2015_i_i) { goto L_then_8_i106_i2052_i_i; } else { goto L_join_10_i84_i2016_i_i; }
-L_then_8_i106_i2052_i_i:;
-    v_r81_i107_i2053_i_i = v_r16_i_i_i4497_i_i + 3;
-    v_r87_i109_i2055_i_i = (u32)v_r36_i4764_i_i;
-    v_r89_i_i2056_i_i = (u32)((u32)(v_r87_i109_i2055_i_i) << (u32)((8u & 31)));
-    v_r91_i_i2057_i_i = get_u8(v_r81_i107_i2053_i_i);
-    v_r93_i110_i2058_i_i = (u32)v_r91_i_i2057_i_i;
-    v_r96_i111_i2059_i_i = (u32)((u32)(v_r89_i_i2056_i_i) | (u32)(v_r93_i110_i2058_i_i));
-    { p_v_r13_sroa_0_0_copyload_i_i4855_i_i = v_r16_i_i4726_i_i; p_v_r36_i_i4852_i_i = v_r19_i_i4727_i_i; p_v_r12_sroa_10_0_i4790_i_i = v_r96_i111_i2059_i_i; goto L_arm_1_i1801_i_i; }
-L_join_10_i84_i2016_i_i:;
-    v_r99_i85_i2017_i_i = v_r106_i_i1977_i_i == 3u;
-    if (v_r99_i85_i2017_i_i) { goto L_then_11_i95_i2039_i_i; } else { goto L_join_13_i86_i2018_i_i; }
-L_then_11_i95_i2039_i_i:;
-    v_r106_i96_i2040_i_i = v_r16_i_i_i4497_i_i + 3;
-    v_r108_i97_i2041_i_i = v_r16_i_i_i4497_i_i + 4;
-    v_r115_i99_i2043_i_i = (u32)v_r36_i4764_i_i;
-    v_r117_i100_i2044_i_i = (u32)((u32)(v_r115_i99_i2043_i_i) << (u32)((16u & 31)));
-    v_r119_i101_i2045_i_i = get_u8(v_r106_i96_i2040_i_i);
-    v_r121_i102_i2046_i_i = (u32)v_r119_i101_i2045_i_i;
-    v_r123_i103_i2047_i_i = (u32)((u32)(v_r121_i102_i2046_i_i) << (u32)((8u & 31)));
-    v_r126_i104_i2048_i_i = (u32)((u32)(v_r123_i103_i2047_i_i) | (u32)(v_r117_i100_i2044_i_i));
-    v_r128_i_i2049_i_i = get_u8(v_r108_i97_i2041_i_i);
-    v_r130_i105_i2050_i_i = (u32)v_r128_i_i2049_i_i;
-    v_r133_i_i2051_i_i = (u32)((u32)(v_r126_i104_i2048_i_i) | (u32)(v_r130_i105_i2050_i_i));
-    { p_v_r13_sroa_0_0_copyload_i_i4855_i_i = v_r16_i_i4726_i_i; p_v_r36_i_i4852_i_i = v_r19_i_i4727_i_i; p_v_r12_sroa_10_0_i4790_i_i = v_r133_i_i2051_i_i; goto L_arm_1_i1801_i_i; }
-L_join_13_i86_i2018_i_i:;
-    v_r136_i87_i2019_i_i = v_r106_i_i1977_i_i < 5u;
-    if (v_r136_i87_i2019_i_i) { goto L_then_14_i_i2021_i_i; } else { goto L_join_16_i_i2020_i_i; }
-L_then_14_i_i2021_i_i:;
-    v_r143_i88_i2022_i_i = v_r16_i_i_i4497_i_i + 3;
-    v_r145_i89_i2023_i_i = v_r16_i_i_i4497_i_i + 4;
-    v_r147_i90_i2024_i_i = v_r16_i_i_i4497_i_i + 5;
-    v_r155_i92_i2026_i_i = (u32)v_r36_i4764_i_i;
-    v_r157_i93_i2027_i_i = (u32)((u32)(v_r155_i92_i2026_i_i) << (u32)((24u & 31)));
-    v_r159_i94_i2028_i_i = get_u8(v_r143_i88_i2022_i_i);
-    v_r161_i_i2029_i_i = (u32)v_r159_i94_i2028_i_i;
-    v_r163_i_i2030_i_i = (u32)((u32)(v_r161_i_i2029_i_i) << (u32)((16u & 31)));
-    v_r166_i_i2031_i_i = (u32)((u32)(v_r163_i_i2030_i_i) | (u32)(v_r157_i93_i2027_i_i));
-    v_r168_i_i2032_i_i = get_u8(v_r145_i89_i2023_i_i);
-    v_r170_i_i2033_i_i = (u32)v_r168_i_i2032_i_i;
-    v_r172_i_i2034_i_i = (u32)((u32)(v_r170_i_i2033_i_i) << (u32)((8u & 31)));
-    v_r175_i_i2035_i_i = (u32)((u32)(v_r166_i_i2031_i_i) | (u32)(v_r172_i_i2034_i_i));
-    v_r177_i_i2036_i_i = get_u8(v_r147_i90_i2024_i_i);
-    v_r179_i_i2037_i_i = (u32)v_r177_i_i2036_i_i;
-    v_r182_i_i2038_i_i = (u32)((u32)(v_r175_i_i2035_i_i) | (u32)(v_r179_i_i2037_i_i));
-    { p_v_r13_sroa_0_0_copyload_i_i4855_i_i = v_r16_i_i4726_i_i; p_v_r36_i_i4852_i_i = v_r19_i_i4727_i_i; p_v_r12_sroa_10_0_i4790_i_i = v_r182_i_i2038_i_i; goto L_arm_1_i1801_i_i; }
-L_join_16_i_i2020_i_i:;
-    __builtin_trap();
-    __builtin_trap();
-L_arm_1_i1801_i_i:;
-    v_r13_sroa_0_0_copyload_i_i4855_i_i = p_v_r13_sroa_0_0_copyload_i_i4855_i_i;
-    v_r36_i_i4852_i_i = p_v_r36_i_i4852_i_i;
-    v_r12_sroa_10_0_i4790_i_i = p_v_r12_sroa_10_0_i4790_i_i;
-    if (v_r8_i22_i1881_i_i) { goto L_join_3_i_i4849_i_i; } else { p_v_r30_i23_sroa_0_sroa_8_0_ph = 10u; p_v_r30_i23_sroa_0_sroa_12_0_ph = 2u; p_v_r30_i23_sroa_0_sroa_16_0_ph = v_r29_i4629_i_i; goto L_arm_12_i; }
-L_join_3_i_i4849_i_i:;
-    v_r3_i25_i_i4850_i_i = (u64)v_r12_sroa_10_0_i4790_i_i;
-    v_r39_i_i4853_i_i = v_r36_i_i4852_i_i < v_r3_i25_i_i4850_i_i;
-    if (v_r39_i_i4853_i_i) { p_v_r30_i23_sroa_0_sroa_8_0_ph = 1u; p_v_r30_i23_sroa_0_sroa_12_0_ph = 0u; p_v_r30_i23_sroa_0_sroa_16_0_ph = 0u; goto L_arm_12_i; } else { goto L_join_3_i_i4892_i_i; }
-L_join_3_i_i4892_i_i:;
-    v_r16_i_i_i4856_i_i = (P)((uintptr_t)v_r13_sroa_0_0_copyload_i_i4855_i_i + (u64)(v_r3_i25_i_i4850_i_i));
-    v_r19_i_i_i4857_i_i = (u64)((u64)(v_r36_i_i4852_i_i) - (u64)(v_r3_i25_i_i4850_i_i));
-    v_r7_i_i_i4901_i_i = v_r12_sroa_10_0_i4790_i_i == 0u;
-    if (v_r7_i_i_i4901_i_i) { p_v_r30_i23_sroa_0_sroa_8_0_ph = 3u; p_v_r30_i23_sroa_0_sroa_12_0_ph = 2u; p_v_r30_i23_sroa_0_sroa_16_0_ph = 0u; goto L_arm_12_i; } else { goto L_join_8_i_i4902_i_i; }
-L_join_8_i_i4902_i_i:;
-    v_r60_i_i4903_i_i = get_u8(v_r13_sroa_0_0_copyload_i_i4855_i_i);
-    v_r62_i_i4904_i_i = (u8)(v_r60_i_i4903_i_i ^ ((u8)1 << 7)) < (u8)(0u ^ ((u8)1 << 7));
-    if (v_r62_i_i4904_i_i) { p_v_r30_i23_sroa_0_sroa_8_0_ph = 13u; p_v_r30_i23_sroa_0_sroa_12_0_ph = 2u; p_v_r30_i23_sroa_0_sroa_16_0_ph = 0u; goto L_arm_12_i; } else { goto L_join_11_i_i4905_i_i; }
-L_join_11_i_i4905_i_i:;
-    v_r74_i_i4906_i_i = v_r12_sroa_10_0_i4790_i_i != 1u;
-    v_cond_i_i4907_i_i = v_r60_i_i4903_i_i == 0u;
-    v_or_cond_i_i4908_i_i = (u1)(((u32)(v_r74_i_i4906_i_i) & (u32)(v_cond_i_i4907_i_i)) & 1);
-    if (v_or_cond_i_i4908_i_i) { goto L_arm_15_i_i4920_i_i; } else { p_v_r12_sroa_10_i4958_sroa_5_0_ph_i_i = v_r3_i25_i_i4850_i_i; p_v_r12_sroa_10_i4958_sroa_3_0_ph_i_i = v_r13_sroa_0_0_copyload_i_i4855_i_i; goto L_join_3_i_i4980_i_i; }
-L_arm_15_i_i4920_i_i:;
-    v_r84_i_i4921_i_i = v_r13_sroa_0_0_copyload_i_i4855_i_i + 1;
-    v_r87_i_i4922_i_i = get_u8(v_r84_i_i4921_i_i);
-    v_r89_i_i4923_i_i = (u8)(v_r87_i_i4922_i_i ^ ((u8)1 << 7)) > (u8)(255u ^ ((u8)1 << 7));
-    if (v_r89_i_i4923_i_i) { p_v_r30_i23_sroa_0_sroa_8_0_ph = 4u; p_v_r30_i23_sroa_0_sroa_12_0_ph = 2u; p_v_r30_i23_sroa_0_sroa_16_0_ph = 0u; goto L_arm_12_i; } else { goto L_join_20_i_i4924_i_i; }
-L_join_20_i_i4924_i_i:;
-    v_r103_i_i4925_i_i = (u64)((u64)(v_r3_i25_i_i4850_i_i) + (u64)(18446744073709551615ull));
-    { p_v_r12_sroa_10_i4958_sroa_5_0_ph_i_i = v_r103_i_i4925_i_i; p_v_r12_sroa_10_i4958_sroa_3_0_ph_i_i = v_r84_i_i4921_i_i; goto L_join_3_i_i4980_i_i; }
-L_join_3_i_i4980_i_i:;
-    v_r12_sroa_10_i4958_sroa_5_0_ph_i_i = p_v_r12_sroa_10_i4958_sroa_5_0_ph_i_i;
-    v_r12_sroa_10_i4958_sroa_3_0_ph_i_i = p_v_r12_sroa_10_i4958_sroa_3_0_ph_i_i;
-    v_r39_i_i4983_i_i = v_r36_i_i4852_i_i == v_r3_i25_i_i4850_i_i;
-    if (v_r39_i_i4983_i_i) { p_v_r30_i23_sroa_0_sroa_8_0_ph = 1u; p_v_r30_i23_sroa_0_sroa_12_0_ph = 0u; p_v_r30_i23_sroa_0_sroa_16_0_ph = 0u; goto L_arm_12_i; } else { goto L_arm_1_i_i2278_i_i; }
-L_arm_1_i_i2278_i_i:;
-    v_r16_i_i_i4986_i_i = v_r16_i_i_i4856_i_i + 1;
-    v_r29_i4988_i_i = get_u8(v_r16_i_i_i4856_i_i);
-    v_r8_i22_i2282_i_i = v_r29_i4988_i_i == 2u;
-    if (v_r8_i22_i2282_i_i) { goto L_join_3_i_i5028_i_i; } else { goto L_der_core_header_tag_of_exit_i2284_i_i; }
-L_der_core_header_tag_of_exit_i2284_i_i:;
-    v_r9_i5010_i_i = (u8)((u32)(v_r29_i4988_i_i) & (u32)(31u));
-    v_r11_i5011_i_i = v_r9_i5010_i_i != 31u;
-    v_16 = (u8)((u32)(v_r29_i4988_i_i) & (u32)(223u));
-    v_17 = v_16 != 0u;
-    v_r2_0_in_i5012_not_i_i = (u1)(((u32)(v_r11_i5011_i_i) & (u32)(v_17)) & 1);
-    if (v_r2_0_in_i5012_not_i_i) { goto L_join_3_i_i5028_i_i; } else { p_v_r30_i23_sroa_0_sroa_8_0_ph = 11u; p_v_r30_i23_sroa_0_sroa_12_0_ph = v_r29_i4988_i_i; p_v_r30_i23_sroa_0_sroa_16_0_ph = 0u; goto L_arm_12_i; }
-L_join_3_i_i5028_i_i:;
-    v_r39_i_i5031_i_i = v_r19_i_i_i4857_i_i == 1u;
-    if (v_r39_i_i5031_i_i) { p_v_r30_i23_sroa_0_sroa_8_0_ph = 1u; p_v_r30_i23_sroa_0_sroa_12_0_ph = 0u; p_v_r30_i23_sroa_0_sroa_16_0_ph = 0u; goto L_arm_12_i; } else { goto L_arm_1_i59_i2369_i_i; }
-L_arm_1_i59_i2369_i_i:;
-    v_r16_i_i_i5034_i_i = v_r16_i_i_i4856_i_i + 2;
-    v_r19_i_i_i5035_i_i = (u64)((u64)(v_r19_i_i_i4857_i_i) + (u64)(18446744073709551614ull));
-    v_r29_i5036_i_i = get_u8(v_r16_i_i_i4986_i_i);
-    v_r51_i62_i2372_i_i = (u8)(v_r29_i5036_i_i ^ ((u8)1 << 7)) > (u8)(255u ^ ((u8)1 << 7));
-    if (v_r51_i62_i2372_i_i) { goto L_then_5_i_i2500_i_i; } else { goto L_join_7_i63_i2373_i_i; }
-L_then_5_i_i2500_i_i:;
-    v_r56_i73_i2501_i_i = (u32)v_r29_i5036_i_i;
-    { p_v_r13_sroa_0_0_copyload_i_i5214_i_i = v_r16_i_i_i5034_i_i; p_v_r36_i_i5211_i_i = v_r19_i_i_i5035_i_i; p_v_r12_sroa_10_0_i5149_i_i = v_r56_i73_i2501_i_i; goto L_arm_1_i2202_i_i; }
-L_join_7_i63_i2373_i_i:;
-    v_r68_i64_i2374_i_i = v_r29_i5036_i_i == 128u;
-    if (v_r68_i64_i2374_i_i) { p_v_r30_i23_sroa_0_sroa_8_0_ph = 2u; p_v_r30_i23_sroa_0_sroa_12_0_ph = 0u; p_v_r30_i23_sroa_0_sroa_16_0_ph = 0u; goto L_arm_12_i; } else { goto L_join_10_i_i2375_i_i; }
-L_join_10_i_i2375_i_i:;
-    v_r87_i_i2376_i_i = v_r29_i5036_i_i > 132u;
-    if (v_r87_i_i2376_i_i) { p_v_r30_i23_sroa_0_sroa_8_0_ph = 7u; p_v_r30_i23_sroa_0_sroa_12_0_ph = 0u; p_v_r30_i23_sroa_0_sroa_16_0_ph = 0u; goto L_arm_12_i; } else { goto L_join_3_i5077_i_i; }
-L_join_3_i5077_i_i:;
-    v_r106_i_i2378_i_i = (u8)((u32)(v_r29_i5036_i_i) & (u32)(127u));
-    v_r3_i25_i5078_i_i = (u64)v_r106_i_i2378_i_i;
-    v_r39_i5081_i_i = v_r19_i_i_i5035_i_i < v_r3_i25_i5078_i_i;
-    if (v_r39_i5081_i_i) { p_v_r30_i23_sroa_0_sroa_8_0_ph = 1u; p_v_r30_i23_sroa_0_sroa_12_0_ph = 0u; p_v_r30_i23_sroa_0_sroa_16_0_ph = 0u; goto L_arm_12_i; } else { goto L_arm_14_i_i2395_i_i; }
-L_arm_14_i_i2395_i_i:;
-    v_r16_i_i5085_i_i = (P)((uintptr_t)v_r16_i_i_i5034_i_i + (u64)(v_r3_i25_i5078_i_i));
-    v_r19_i_i5086_i_i = (u64)((u64)(v_r19_i_i_i5035_i_i) - (u64)(v_r3_i25_i5078_i_i));
-    switch (v_r106_i_i2378_i_i) {
-    case 0u: { p_v_r30_i23_sroa_0_sroa_8_0_ph = 8u; p_v_r30_i23_sroa_0_sroa_12_0_ph = v_r106_i_i2378_i_i; p_v_r30_i23_sroa_0_sroa_16_0_ph = v_r106_i_i2378_i_i; goto L_arm_12_i; }
-    case 1u: { goto L_der_core_length_is_overlong_exit5125_i_i; }
-    default: { goto L_join_7_i5122_i_i; }
-    }
-L_join_7_i5122_i_i:;
-    v_r36_i5123_i_i = get_u8(v_r16_i_i_i5034_i_i);
-    v_r38_i5124_i_i = v_r36_i5123_i_i == 0u;
-    if (v_r38_i5124_i_i) { p_v_r30_i23_sroa_0_sroa_8_0_ph = 8u; p_v_r30_i23_sroa_0_sroa_12_0_ph = 0u; p_v_r30_i23_sroa_0_sroa_16_0_ph = 0u; goto L_arm_12_i; } else { goto L_join_7_i82_i2415_i_i; }
-L_der_core_length_is_overlong_exit5125_i_i:;
-    v_r28_i5119_i_i = get_u8(v_r16_i_i_i5034_i_i);
-    v_r30_i5120_i_i = (u8)(v_r28_i5119_i_i ^ ((u8)1 << 7)) > (u8)(255u ^ ((u8)1 << 7));
-    if (v_r30_i5120_i_i) { p_v_r30_i23_sroa_0_sroa_8_0_ph = 8u; p_v_r30_i23_sroa_0_sroa_12_0_ph = 0u; p_v_r30_i23_sroa_0_sroa_16_0_ph = 0u; goto L_arm_12_i; } else { goto L_then_5_i80_i2402_i_i; }
-L_then_5_i80_i2402_i_i:;
-    v_r71_i_i2404_i_i = (u32)v_r28_i5119_i_i;
-    { p_v_r13_sroa_0_0_copyload_i_i5214_i_i = v_r16_i_i5085_i_i; p_v_r36_i_i5211_i_i = v_r19_i_i5086_i_i; p_v_r12_sroa_10_0_i5149_i_i = v_r71_i_i2404_i_i; goto L_arm_1_i2202_i_i; }
-L_join_7_i82_i2415_i_i:;
-    v_r74_i83_i2416_i_i = v_r106_i_i2378_i_i < 3u;
-    if (v_r74_i83_i2416_i_i) { goto L_then_8_i106_i2453_i_i; } else { goto L_join_10_i84_i2417_i_i; }
-L_then_8_i106_i2453_i_i:;
-    v_r81_i107_i2454_i_i = v_r16_i_i_i4856_i_i + 3;
-    v_r87_i109_i2456_i_i = (u32)v_r36_i5123_i_i;
-    v_r89_i_i2457_i_i = (u32)((u32)(v_r87_i109_i2456_i_i) << (u32)((8u & 31)));
-    v_r91_i_i2458_i_i = get_u8(v_r81_i107_i2454_i_i);
-    v_r93_i110_i2459_i_i = (u32)v_r91_i_i2458_i_i;
-    v_r96_i111_i2460_i_i = (u32)((u32)(v_r89_i_i2457_i_i) | (u32)(v_r93_i110_i2459_i_i));
-    { p_v_r13_sroa_0_0_copyload_i_i5214_i_i = v_r16_i_i5085_i_i; p_v_r36_i_i5211_i_i = v_r19_i_i5086_i_i; p_v_r12_sroa_10_0_i5149_i_i = v_r96_i111_i2460_i_i; goto L_arm_1_i2202_i_i; }
-L_join_10_i84_i2417_i_i:;
-    v_r99_i85_i2418_i_i = v_r106_i_i2378_i_i == 3u;
-    if (v_r99_i85_i2418_i_i) { goto L_then_11_i95_i2440_i_i; } else { goto L_join_13_i86_i2419_i_i; }
-L_then_11_i95_i2440_i_i:;
-    v_r106_i96_i2441_i_i = v_r16_i_i_i4856_i_i + 3;
-    v_r108_i97_i2442_i_i = v_r16_i_i_i4856_i_i + 4;
-    v_r115_i99_i2444_i_i = (u32)v_r36_i5123_i_i;
-    v_r117_i100_i2445_i_i = (u32)((u32)(v_r115_i99_i2444_i_i) << (u32)((16u & 31)));
-    v_r119_i101_i2446_i_i = get_u8(v_r106_i96_i2441_i_i);
-    v_r121_i102_i2447_i_i = (u32)v_r119_i101_i2446_i_i;
-    v_r123_i103_i2448_i_i = (u32)((u32)(v_r121_i102_i2447_i_i) << (u32)((8u & 31)));
-    v_r126_i104_i2449_i_i = (u32)((u32)(v_r123_i103_i2448_i_i) | (u32)(v_r117_i100_i2445_i_i));
-    v_r128_i_i2450_i_i = get_u8(v_r108_i97_i2442_i_i);
-    v_r130_i105_i2451_i_i = (u32)v_r128_i_i2450_i_i;
-    v_r133_i_i2452_i_i = (u32)((u32)(v_r126_i104_i2449_i_i) | (u32)(v_r130_i105_i2451_i_i));
-    { p_v_r13_sroa_0_0_copyload_i_i5214_i_i = v_r16_i_i5085_i_i; p_v_r36_i_i5211_i_i = v_r19_i_i5086_i_i; p_v_r12_sroa_10_0_i5149_i_i = v_r133_i_i2452_i_i; goto L_arm_1_i2202_i_i; }
-L_join_13_i86_i2419_i_i:;
-    v_r136_i87_i2420_i_i = v_r106_i_i2378_i_i < 5u;
-    if (v_r136_i87_i2420_i_i) { goto L_then_14_i_i2422_i_i; } else { goto L_join_16_i_i2421_i_i; }
-L_then_14_i_i2422_i_i:;
-    v_r143_i88_i2423_i_i = v_r16_i_i_i4856_i_i + 3;
-    v_r145_i89_i2424_i_i = v_r16_i_i_i4856_i_i + 4;
-    v_r147_i90_i2425_i_i = v_r16_i_i_i4856_i_i + 5;
-    v_r155_i92_i2427_i_i = (u32)v_r36_i5123_i_i;
-    v_r157_i93_i2428_i_i = (u32)((u32)(v_r155_i92_i2427_i_i) << (u32)((24u & 31)));
-    v_r159_i94_i2429_i_i = get_u8(v_r143_i88_i2423_i_i);
-    v_r161_i_i2430_i_i = (u32)v_r159_i94_i2429_i_i;
-    v_r163_i_i2431_i_i = (u32)((u32)(v_r161_i_i2430_i_i) << (u32)((16u & 31)));
-    v_r166_i_i2432_i_i = (u32)((u32)(v_r163_i_i2431_i_i) | (u32)(v_r157_i93_i2428_i_i));
-    v_r168_i_i2433_i_i = get_u8(v_r145_i89_i2424_i_i);
-    v_r170_i_i2434_i_i = (u32)v_r168_i_i2433_i_i;
-    v_r172_i_i2435_i_i = (u32)((u32)(v_r170_i_i2434_i_i) << (u32)((8u & 31)));
-    v_r175_i_i2436_i_i = (u32)((u32)(v_r166_i_i2432_i_i) | (u32)(v_r172_i_i2435_i_i));
-    v_r177_i_i2437_i_i = get_u8(v_r147_i90_i2425_i_i);
-    v_r179_i_i2438_i_i = (u32)v_r177_i_i2437_i_i;
-    v_r182_i_i2439_i_i = (u32)((u32)(v_r175_i_i2436_i_i) | (u32)(v_r179_i_i2438_i_i));
-    { p_v_r13_sroa_0_0_copyload_i_i5214_i_i = v_r16_i_i5085_i_i; p_v_r36_i_i5211_i_i = v_r19_i_i5086_i_i; p_v_r12_sroa_10_0_i5149_i_i = v_r182_i_i2439_i_i; goto L_arm_1_i2202_i_i; }
-L_join_16_i_i2421_i_i:;
-    __builtin_trap();
-    __builtin_trap();
-L_arm_1_i2202_i_i:;
-    v_r13_sroa_0_0_copyload_i_i5214_i_i = p_v_r13_sroa_0_0_copyload_i_i5214_i_i;
-    v_r36_i_i5211_i_i = p_v_r36_i_i5211_i_i;
-    v_r12_sroa_10_0_i5149_i_i = p_v_r12_sroa_10_0_i5149_i_i;
-    if (v_r8_i22_i2282_i_i) { goto L_join_3_i_i5208_i_i; } else { p_v_r30_i23_sroa_0_sroa_8_0_ph = 10u; p_v_r30_i23_sroa_0_sroa_12_0_ph = 2u; p_v_r30_i23_sroa_0_sroa_16_0_ph = v_r29_i4988_i_i; goto L_arm_12_i; }
-L_join_3_i_i5208_i_i:;
-    v_r3_i25_i_i5209_i_i = (u64)v_r12_sroa_10_0_i5149_i_i;
-    v_r39_i_i5212_i_i = v_r36_i_i5211_i_i < v_r3_i25_i_i5209_i_i;
-    if (v_r39_i_i5212_i_i) { p_v_r30_i23_sroa_0_sroa_8_0_ph = 1u; p_v_r30_i23_sroa_0_sroa_12_0_ph = 0u; p_v_r30_i23_sroa_0_sroa_16_0_ph = 0u; goto L_arm_12_i; } else { goto L_join_3_i_i5251_i_i; }
-L_join_3_i_i5251_i_i:;
-    v_r16_i_i_i5215_i_i = (P)((uintptr_t)v_r13_sroa_0_0_copyload_i_i5214_i_i + (u64)(v_r3_i25_i_i5209_i_i));
-    v_r19_i_i_i5216_i_i = (u64)((u64)(v_r36_i_i5211_i_i) - (u64)(v_r3_i25_i_i5209_i_i));
-    v_r7_i_i_i5260_i_i = v_r12_sroa_10_0_i5149_i_i == 0u;
-    if (v_r7_i_i_i5260_i_i) { p_v_r30_i23_sroa_0_sroa_8_0_ph = 3u; p_v_r30_i23_sroa_0_sroa_12_0_ph = 2u; p_v_r30_i23_sroa_0_sroa_16_0_ph = 0u; goto L_arm_12_i; } else { goto L_join_8_i_i5261_i_i; }
-L_join_8_i_i5261_i_i:;
-    v_r60_i_i5262_i_i = get_u8(v_r13_sroa_0_0_copyload_i_i5214_i_i);
-    v_r62_i_i5263_i_i = (u8)(v_r60_i_i5262_i_i ^ ((u8)1 << 7)) < (u8)(0u ^ ((u8)1 << 7));
-    if (v_r62_i_i5263_i_i) { p_v_r30_i23_sroa_0_sroa_8_0_ph = 13u; p_v_r30_i23_sroa_0_sroa_12_0_ph = 2u; p_v_r30_i23_sroa_0_sroa_16_0_ph = 0u; goto L_arm_12_i; } else { goto L_join_11_i_i5264_i_i; }
-L_join_11_i_i5264_i_i:;
-    v_r74_i_i5265_i_i = v_r12_sroa_10_0_i5149_i_i != 1u;
-    v_cond_i_i5266_i_i = v_r60_i_i5262_i_i == 0u;
-    v_or_cond_i_i5267_i_i = (u1)(((u32)(v_r74_i_i5265_i_i) & (u32)(v_cond_i_i5266_i_i)) & 1);
-    if (v_or_cond_i_i5267_i_i) { goto L_arm_15_i_i5279_i_i; } else { p_v_r12_sroa_10_i5317_sroa_5_0_ph_i_i = v_r3_i25_i_i5209_i_i; p_v_r12_sroa_10_i5317_sroa_3_0_ph_i_i = v_r13_sroa_0_0_copyload_i_i5214_i_i; goto L_join_3_i_i5339_i_i; }
-L_arm_15_i_i5279_i_i:;
-    v_r84_i_i5280_i_i = v_r13_sroa_0_0_copyload_i_i5214_i_i + 1;
-    v_r87_i_i5281_i_i = get_u8(v_r84_i_i5280_i_i);
-    v_r89_i_i5282_i_i = (u8)(v_r87_i_i5281_i_i ^ ((u8)1 << 7)) > (u8)(255u ^ ((u8)1 << 7));
-    if (v_r89_i_i5282_i_i) { p_v_r30_i23_sroa_0_sroa_8_0_ph = 4u; p_v_r30_i23_sroa_0_sroa_12_0_ph = 2u; p_v_r30_i23_sroa_0_sroa_16_0_ph = 0u; goto L_arm_12_i; } else { goto L_join_20_i_i5283_i_i; }
-L_join_20_i_i5283_i_i:;
-    v_r103_i_i5284_i_i = (u64)((u64)(v_r3_i25_i_i5209_i_i) + (u64)(18446744073709551615ull));
-    { p_v_r12_sroa_10_i5317_sroa_5_0_ph_i_i = v_r103_i_i5284_i_i; p_v_r12_sroa_10_i5317_sroa_3_0_ph_i_i = v_r84_i_i5280_i_i; goto L_join_3_i_i5339_i_i; }
-L_join_3_i_i5339_i_i:;
-    v_r12_sroa_10_i5317_sroa_5_0_ph_i_i = p_v_r12_sroa_10_i5317_sroa_5_0_ph_i_i;
-    v_r12_sroa_10_i5317_sroa_3_0_ph_i_i = p_v_r12_sroa_10_i5317_sroa_3_0_ph_i_i;
-    v_r39_i_i5342_i_i = v_r36_i_i5211_i_i == v_r3_i25_i_i5209_i_i;
-    if (v_r39_i_i5342_i_i) { p_v_r30_i23_sroa_0_sroa_8_0_ph = 1u; p_v_r30_i23_sroa_0_sroa_12_0_ph = 0u; p_v_r30_i23_sroa_0_sroa_16_0_ph = 0u; goto L_arm_12_i; } else { goto L_arm_1_i_i2679_i_i; }
-L_arm_1_i_i2679_i_i:;
-    v_r16_i_i_i5345_i_i = v_r16_i_i_i5215_i_i + 1;
-    v_r29_i5347_i_i = get_u8(v_r16_i_i_i5215_i_i);
-    v_r8_i22_i2683_i_i = v_r29_i5347_i_i == 2u;
-    if (v_r8_i22_i2683_i_i) { goto L_join_3_i_i5387_i_i; } else { goto L_der_core_header_tag_of_exit_i2685_i_i; }
-L_der_core_header_tag_of_exit_i2685_i_i:;
-    v_r9_i5369_i_i = (u8)((u32)(v_r29_i5347_i_i) & (u32)(31u));
-    v_r11_i5370_i_i = v_r9_i5369_i_i != 31u;
-    v_18 = (u8)((u32)(v_r29_i5347_i_i) & (u32)(223u));
-    v_19 = v_18 != 0u;
-    v_r2_0_in_i5371_not_i_i = (u1)(((u32)(v_r11_i5370_i_i) & (u32)(v_19)) & 1);
-    if (v_r2_0_in_i5371_not_i_i) { goto L_join_3_i_i5387_i_i; } else { p_v_r30_i23_sroa_0_sroa_8_0_ph = 11u; p_v_r30_i23_sroa_0_sroa_12_0_ph = v_r29_i5347_i_i; p_v_r30_i23_sroa_0_sroa_16_0_ph = 0u; goto L_arm_12_i; }
-L_join_3_i_i5387_i_i:;
-    v_r39_i_i5390_i_i = v_r19_i_i_i5216_i_i == 1u;
-    if (v_r39_i_i5390_i_i) { p_v_r30_i23_sroa_0_sroa_8_0_ph = 1u; p_v_r30_i23_sroa_0_sroa_12_0_ph = 0u; p_v_r30_i23_sroa_0_sroa_16_0_ph = 0u; goto L_arm_12_i; } else { goto L_arm_1_i59_i2770_i_i; }
-L_arm_1_i59_i2770_i_i:;
-    v_r16_i_i_i5393_i_i = v_r16_i_i_i5215_i_i + 2;
-    v_r19_i_i_i5394_i_i = (u64)((u64)(v_r19_i_i_i5216_i_i) + (u64)(18446744073709551614ull));
-    v_r29_i5395_i_i = get_u8(v_r16_i_i_i5345_i_i);
-    v_r51_i62_i2773_i_i = (u8)(v_r29_i5395_i_i ^ ((u8)1 << 7)) > (u8)(255u ^ ((u8)1 << 7));
-    if (v_r51_i62_i2773_i_i) { goto L_then_5_i_i2901_i_i; } else { goto L_join_7_i63_i2774_i_i; }
-L_then_5_i_i2901_i_i:;
-    v_r56_i73_i2902_i_i = (u32)v_r29_i5395_i_i;
-    { p_v_r13_sroa_0_0_copyload_i_i5573_i_i = v_r16_i_i_i5393_i_i; p_v_r36_i_i5570_i_i = v_r19_i_i_i5394_i_i; p_v_r12_sroa_10_0_i5508_i_i = v_r56_i73_i2902_i_i; goto L_arm_1_i2603_i_i; }
-L_join_7_i63_i2774_i_i:;
-    v_r68_i64_i2775_i_i = v_r29_i5395_i_i == 128u;
-    if (v_r68_i64_i2775_i_i) { p_v_r30_i23_sroa_0_sroa_8_0_ph = 2u; p_v_r30_i23_sroa_0_sroa_12_0_ph = 0u; p_v_r30_i23_sroa_0_sroa_16_0_ph = 0u; goto L_arm_12_i; } else { goto L_join_10_i_i2776_i_i; }
-L_join_10_i_i2776_i_i:;
-    v_r87_i_i2777_i_i = v_r29_i5395_i_i > 132u;
-    if (v_r87_i_i2777_i_i) { p_v_r30_i23_sroa_0_sroa_8_0_ph = 7u; p_v_r30_i23_sroa_0_sroa_12_0_ph = 0u; p_v_r30_i23_sroa_0_sroa_16_0_ph = 0u; goto L_arm_12_i; } else { goto L_join_3_i5436_i_i; }
-L_join_3_i5436_i_i:;
-    v_r106_i_i2779_i_i = (u8)((u32)(v_r29_i5395_i_i) & (u32)(127u));
-    v_r3_i25_i5437_i_i = (u64)v_r106_i_i2779_i_i;
-    v_r39_i5440_i_i = v_r19_i_i_i5394_i_i < v_r3_i25_i5437_i_i;
-    if (v_r39_i5440_i_i) { p_v_r30_i23_sroa_0_sroa_8_0_ph = 1u; p_v_r30_i23_sroa_0_sroa_12_0_ph = 0u; p_v_r30_i23_sroa_0_sroa_16_0_ph = 0u; goto L_arm_12_i; } else { goto L_arm_14_i_i2796_i_i; }
-L_arm_14_i_i2796_i_i:;
-    v_r16_i_i5444_i_i = (P)((uintptr_t)v_r16_i_i_i5393_i_i + (u64)(v_r3_i25_i5437_i_i));
-    v_r19_i_i5445_i_i = (u64)((u64)(v_r19_i_i_i5394_i_i) - (u64)(v_r3_i25_i5437_i_i));
-    switch (v_r106_i_i2779_i_i) {
-    case 0u: { p_v_r30_i23_sroa_0_sroa_8_0_ph = 8u; p_v_r30_i23_sroa_0_sroa_12_0_ph = v_r106_i_i2779_i_i; p_v_r30_i23_sroa_0_sroa_16_0_ph = v_r106_i_i2779_i_i; goto L_arm_12_i; }
-    case 1u: { goto L_der_core_length_is_overlong_exit5484_i_i; }
-    default: { goto L_join_7_i5481_i_i; }
-    }
-L_join_7_i5481_i_i:;
-    v_r36_i5482_i_i = get_u8(v_r16_i_i_i5393_i_i);
-    v_r38_i5483_i_i = v_r36_i5482_i_i == 0u;
-    if (v_r38_i5483_i_i) { p_v_r30_i23_sroa_0_sroa_8_0_ph = 8u; p_v_r30_i23_sroa_0_sroa_12_0_ph = 0u; p_v_r30_i23_sroa_0_sroa_16_0_ph = 0u; goto L_arm_12_i; } else { goto L_join_7_i82_i2816_i_i; }
-L_der_core_length_is_overlong_exit5484_i_i:;
-    v_r28_i5478_i_i = get_u8(v_r16_i_i_i5393_i_i);
-    v_r30_i5479_i_i = (u8)(v_r28_i5478_i_i ^ ((u8)1 << 7)) > (u8)(255u ^ ((u8)1 << 7));
-    if (v_r30_i5479_i_i) { p_v_r30_i23_sroa_0_sroa_8_0_ph = 8u; p_v_r30_i23_sroa_0_sroa_12_0_ph = 0u; p_v_r30_i23_sroa_0_sroa_16_0_ph = 0u; goto L_arm_12_i; } else { goto L_then_5_i80_i2803_i_i; }
-L_then_5_i80_i2803_i_i:;
-    v_r71_i_i2805_i_i = (u32)v_r28_i5478_i_i;
-    { p_v_r13_sroa_0_0_copyload_i_i5573_i_i = v_r16_i_i5444_i_i; p_v_r36_i_i5570_i_i = v_r19_i_i5445_i_i; p_v_r12_sroa_10_0_i5508_i_i = v_r71_i_i2805_i_i; goto L_arm_1_i2603_i_i; }
-L_join_7_i82_i2816_i_i:;
-    v_r74_i83_i2817_i_i = v_r106_i_i2779_i_i < 3u;
-    if (v_r74_i83_i2817_i_i) { goto L_then_8_i106_i2854_i_i; } else { goto L_join_10_i84_i2818_i_i; }
-L_then_8_i106_i2854_i_i:;
-    v_r81_i107_i2855_i_i = v_r16_i_i_i5215_i_i + 3;
-    v_r87_i109_i2857_i_i = (u32)v_r36_i5482_i_i;
-    v_r89_i_i2858_i_i = (u32)((u32)(v_r87_i109_i2857_i_i) << (u32)((8u & 31)));
-    v_r91_i_i2859_i_i = get_u8(v_r81_i107_i2855_i_i);
-    v_r93_i110_i2860_i_i = (u32)v_r91_i_i2859_i_i;
-    v_r96_i111_i2861_i_i = (u32)((u32)(v_r89_i_i2858_i_i) | (u32)(v_r93_i110_i2860_i_i));
-    { p_v_r13_sroa_0_0_copyload_i_i5573_i_i = v_r16_i_i5444_i_i; p_v_r36_i_i5570_i_i = v_r19_i_i5445_i_i; p_v_r12_sroa_10_0_i5508_i_i = v_r96_i111_i2861_i_i; goto L_arm_1_i2603_i_i; }
-L_join_10_i84_i2818_i_i:;
-    v_r99_i85_i2819_i_i = v_r106_i_i2779_i_i == 3u;
-    if (v_r99_i85_i2819_i_i) { goto L_then_11_i95_i2841_i_i; } else { goto L_join_13_i86_i2820_i_i; }
-L_then_11_i95_i2841_i_i:;
-    v_r106_i96_i2842_i_i = v_r16_i_i_i5215_i_i + 3;
-    v_r108_i97_i2843_i_i = v_r16_i_i_i5215_i_i + 4;
-    v_r115_i99_i2845_i_i = (u32)v_r36_i5482_i_i;
-    v_r117_i100_i2846_i_i = (u32)((u32)(v_r115_i99_i2845_i_i) << (u32)((16u & 31)));
-    v_r119_i101_i2847_i_i = get_u8(v_r106_i96_i2842_i_i);
-    v_r121_i102_i2848_i_i = (u32)v_r119_i101_i2847_i_i;
-    v_r123_i103_i2849_i_i = (u32)((u32)(v_r121_i102_i2848_i_i) << (u32)((8u & 31)));
-    v_r126_i104_i2850_i_i = (u32)((u32)(v_r123_i103_i2849_i_i) | (u32)(v_r117_i100_i2846_i_i));
-    v_r128_i_i2851_i_i = get_u8(v_r108_i97_i2843_i_i);
-    v_r130_i105_i2852_i_i = (u32)v_r128_i_i2851_i_i;
-    v_r133_i_i2853_i_i = (u32)((u32)(v_r126_i104_i2850_i_i) | (u32)(v_r130_i105_i2852_i_i));
-    { p_v_r13_sroa_0_0_copyload_i_i5573_i_i = v_r16_i_i5444_i_i; p_v_r36_i_i5570_i_i = v_r19_i_i5445_i_i; p_v_r12_sroa_10_0_i5508_i_i = v_r133_i_i2853_i_i; goto L_arm_1_i2603_i_i; }
-L_join_13_i86_i2820_i_i:;
-    v_r136_i87_i2821_i_i = v_r106_i_i2779_i_i < 5u;
-    if (v_r136_i87_i2821_i_i) { goto L_then_14_i_i2823_i_i; } else { goto L_join_16_i_i2822_i_i; }
-L_then_14_i_i2823_i_i:;
-    v_r143_i88_i2824_i_i = v_r16_i_i_i5215_i_i + 3;
-    v_r145_i89_i2825_i_i = v_r16_i_i_i5215_i_i + 4;
-    v_r147_i90_i2826_i_i = v_r16_i_i_i5215_i_i + 5;
-    v_r155_i92_i2828_i_i = (u32)v_r36_i5482_i_i;
-    v_r157_i93_i2829_i_i = (u32)((u32)(v_r155_i92_i2828_i_i) << (u32)((24u & 31)));
-    v_r159_i94_i2830_i_i = get_u8(v_r143_i88_i2824_i_i);
-    v_r161_i_i2831_i_i = (u32)v_r159_i94_i2830_i_i;
-    v_r163_i_i2832_i_i = (u32)((u32)(v_r161_i_i2831_i_i) << (u32)((16u & 31)));
-    v_r166_i_i2833_i_i = (u32)((u32)(v_r163_i_i2832_i_i) | (u32)(v_r157_i93_i2829_i_i));
-    v_r168_i_i2834_i_i = get_u8(v_r145_i89_i2825_i_i);
-    v_r170_i_i2835_i_i = (u32)v_r168_i_i2834_i_i;
-    v_r172_i_i2836_i_i = (u32)((u32)(v_r170_i_i2835_i_i) << (u32)((8u & 31)));
-    v_r175_i_i2837_i_i = (u32)((u32)(v_r166_i_i2833_i_i) | (u32)(v_r172_i_i2836_i_i));
-    v_r177_i_i2838_i_i = get_u8(v_r147_i90_i2826_i_i);
-    v_r179_i_i2839_i_i = (u32)v_r177_i_i2838_i_i;
-    v_r182_i_i2840_i_i = (u32)((u32)(v_r175_i_i2837_i_i) | (u32)(v_r179_i_i2839_i_i));
-    { p_v_r13_sroa_0_0_copyload_i_i5573_i_i = v_r16_i_i5444_i_i; p_v_r36_i_i5570_i_i = v_r19_i_i5445_i_i; p_v_r12_sroa_10_0_i5508_i_i = v_r182_i_i2840_i_i; goto L_arm_1_i2603_i_i; }
-L_join_16_i_i2822_i_i:;
-    __builtin_trap();
-    __builtin_trap();
-L_arm_1_i2603_i_i:;
-    v_r13_sroa_0_0_copyload_i_i5573_i_i = p_v_r13_sroa_0_0_copyload_i_i5573_i_i;
-    v_r36_i_i5570_i_i = p_v_r36_i_i5570_i_i;
-    v_r12_sroa_10_0_i5508_i_i = p_v_r12_sroa_10_0_i5508_i_i;
-    if (v_r8_i22_i2683_i_i) { goto L_join_3_i_i5567_i_i; } else { p_v_r30_i23_sroa_0_sroa_8_0_ph = 10u; p_v_r30_i23_sroa_0_sroa_12_0_ph = 2u; p_v_r30_i23_sroa_0_sroa_16_0_ph = v_r29_i5347_i_i; goto L_arm_12_i; }
-L_join_3_i_i5567_i_i:;
-    v_r3_i25_i_i5568_i_i = (u64)v_r12_sroa_10_0_i5508_i_i;
-    v_r39_i_i5571_i_i = v_r36_i_i5570_i_i < v_r3_i25_i_i5568_i_i;
-    if (v_r39_i_i5571_i_i) { p_v_r30_i23_sroa_0_sroa_8_0_ph = 1u; p_v_r30_i23_sroa_0_sroa_12_0_ph = 0u; p_v_r30_i23_sroa_0_sroa_16_0_ph = 0u; goto L_arm_12_i; } else { goto L_join_3_i_i5610_i_i; }
-L_join_3_i_i5610_i_i:;
-    v_r16_i_i_i5574_i_i = (P)((uintptr_t)v_r13_sroa_0_0_copyload_i_i5573_i_i + (u64)(v_r3_i25_i_i5568_i_i));
-    v_r19_i_i_i5575_i_i = (u64)((u64)(v_r36_i_i5570_i_i) - (u64)(v_r3_i25_i_i5568_i_i));
-    v_r7_i_i_i5619_i_i = v_r12_sroa_10_0_i5508_i_i == 0u;
-    if (v_r7_i_i_i5619_i_i) { p_v_r30_i23_sroa_0_sroa_8_0_ph = 3u; p_v_r30_i23_sroa_0_sroa_12_0_ph = 2u; p_v_r30_i23_sroa_0_sroa_16_0_ph = 0u; goto L_arm_12_i; } else { goto L_join_8_i_i5620_i_i; }
-L_join_8_i_i5620_i_i:;
-    v_r60_i_i5621_i_i = get_u8(v_r13_sroa_0_0_copyload_i_i5573_i_i);
-    v_r62_i_i5622_i_i = (u8)(v_r60_i_i5621_i_i ^ ((u8)1 << 7)) < (u8)(0u ^ ((u8)1 << 7));
-    if (v_r62_i_i5622_i_i) { p_v_r30_i23_sroa_0_sroa_8_0_ph = 13u; p_v_r30_i23_sroa_0_sroa_12_0_ph = 2u; p_v_r30_i23_sroa_0_sroa_16_0_ph = 0u; goto L_arm_12_i; } else { goto L_join_11_i_i5623_i_i; }
-L_join_11_i_i5623_i_i:;
-    v_r74_i_i5624_i_i = v_r12_sroa_10_0_i5508_i_i != 1u;
-    v_cond_i_i5625_i_i = v_r60_i_i5621_i_i == 0u;
-    v_or_cond_i_i5626_i_i = (u1)(((u32)(v_r74_i_i5624_i_i) & (u32)(v_cond_i_i5625_i_i)) & 1);
-    if (v_or_cond_i_i5626_i_i) { goto L_arm_15_i_i5638_i_i; } else { p_v_r12_sroa_10_i5676_sroa_5_0_ph_i_i = v_r3_i25_i_i5568_i_i; p_v_r12_sroa_10_i5676_sroa_3_0_ph_i_i = v_r13_sroa_0_0_copyload_i_i5573_i_i; goto L_else_2_i_i_i_i; }
-L_arm_15_i_i5638_i_i:;
-    v_r84_i_i5639_i_i = v_r13_sroa_0_0_copyload_i_i5573_i_i + 1;
-    v_r87_i_i5640_i_i = get_u8(v_r84_i_i5639_i_i);
-    v_r89_i_i5641_i_i = (u8)(v_r87_i_i5640_i_i ^ ((u8)1 << 7)) > (u8)(255u ^ ((u8)1 << 7));
-    if (v_r89_i_i5641_i_i) { p_v_r30_i23_sroa_0_sroa_8_0_ph = 4u; p_v_r30_i23_sroa_0_sroa_12_0_ph = 2u; p_v_r30_i23_sroa_0_sroa_16_0_ph = 0u; goto L_arm_12_i; } else { goto L_join_20_i_i5642_i_i; }
-L_join_20_i_i5642_i_i:;
-    v_r103_i_i5643_i_i = (u64)((u64)(v_r3_i25_i_i5568_i_i) + (u64)(18446744073709551615ull));
-    { p_v_r12_sroa_10_i5676_sroa_5_0_ph_i_i = v_r103_i_i5643_i_i; p_v_r12_sroa_10_i5676_sroa_3_0_ph_i_i = v_r84_i_i5639_i_i; goto L_else_2_i_i_i_i; }
-L_else_2_i_i_i_i:;
-    v_r12_sroa_10_i5676_sroa_5_0_ph_i_i = p_v_r12_sroa_10_i5676_sroa_5_0_ph_i_i;
-    v_r12_sroa_10_i5676_sroa_3_0_ph_i_i = p_v_r12_sroa_10_i5676_sroa_3_0_ph_i_i;
-    v_r12_not_i_i_i_not_i_i_i_i = v_r19_i_i_i5575_i_i == 0u;
-    if (v_r12_not_i_i_i_not_i_i_i_i) { goto L_then_5_i_i298_i; } else { goto L_arm_1_i_i297_i; }
-L_arm_1_i_i297_i:;
-    v_r18_i_i99_i_i_i = get_u8(v_r16_i_i_i5574_i_i);
-    v_r7_i_i103_i_i_i = v_r18_i_i99_i_i_i == 48u;
-    if (v_r7_i_i103_i_i_i) { goto L_arm_1_i_i_i_i_i; } else { goto L_then_5_i_i298_i; }
-L_then_5_i_i298_i:;
-    fill(v_r7_sroa_20_sroa_0_i_i, 0u, 16u);
-    { p_v_r4_sroa_3_0_copyload_i_i_i = v_r19_i_i_i5575_i_i; p_v_26 = 0u; p_v_r7_sroa_1534_sroa_0_0_ph_i_i = 0u; p_v_r7_sroa_20_sroa_6_0_ph_i_i = 0u; goto L_arm_1_i299_i; }
+L_arm_1_i_i1659_i:;
+    v_r13_sroa_0_0_copyload_i_i2197_i_i = p_v_r13_sroa_0_0_copyload_i_i2197_i_i;
+    v_r36_i_i2194_i_i = p_v_r36_i_i2194_i_i;
+    v_r12_sroa_10_0_i_i_i = p_v_r12_sroa_10_0_i_i_i;
+    if (v_r8_i22_i_i1639_i) { goto L_join_3_i_i2192_i_i; } else { p_v_r30_i23_sroa_0_sroa_7_0_ph = 10u; p_v_r30_i23_sroa_0_sroa_10_0_ph = 2u; p_v_r30_i23_sroa_0_sroa_13_0_ph = v_r29_i2013_i_i; goto L_arm_12_i; }
+L_join_3_i_i2192_i_i:;
+    v_r3_i25_i_i_i_i = (u64)v_r12_sroa_10_0_i_i_i;
+    v_r39_i_i2195_i_i = v_r36_i_i2194_i_i < v_r3_i25_i_i_i_i;
+    if (v_r39_i_i2195_i_i) { p_v_r30_i23_sroa_0_sroa_7_0_ph = 1u; p_v_r30_i23_sroa_0_sroa_10_0_ph = 0u; p_v_r30_i23_sroa_0_sroa_13_0_ph = 0u; goto L_arm_12_i; } else { goto L_join_3_i_i2229_i_i; }
+L_join_3_i_i2229_i_i:;
+    v_r16_i_i_i2198_i_i = (P)((uintptr_t)v_r13_sroa_0_0_copyload_i_i2197_i_i + (u64)(v_r3_i25_i_i_i_i));
+    v_r19_i_i_i2199_i_i = (u64)((u64)(v_r36_i_i2194_i_i) - (u64)(v_r3_i25_i_i_i_i));
+    v_r7_i_i_i2238_i_i = v_r12_sroa_10_0_i_i_i == 0u;
+    if (v_r7_i_i_i2238_i_i) { p_v_r30_i23_sroa_0_sroa_7_0_ph = 3u; p_v_r30_i23_sroa_0_sroa_10_0_ph = 2u; p_v_r30_i23_sroa_0_sroa_13_0_ph = 0u; goto L_arm_12_i; } else { goto L_join_8_i_i_i1660_i; }
+L_join_8_i_i_i1660_i:;
+    v_r60_i_i2239_i_i = get_u8(v_r13_sroa_0_0_copyload_i_i2197_i_i);
+    v_r62_i_i2240_i_i = (u8)(v_r60_i_i2239_i_i ^ ((u8)1 << 7)) < (u8)(0u ^ ((u8)1 << 7));
+    if (v_r62_i_i2240_i_i) { p_v_r30_i23_sroa_0_sroa_7_0_ph = 13u; p_v_r30_i23_sroa_0_sroa_10_0_ph = 2u; p_v_r30_i23_sroa_0_sroa_13_0_ph = 0u; goto L_arm_12_i; } else { goto L_join_11_i_i_i1661_i; }
+L_join_11_i_i_i1661_i:;
+    v_r74_i_i2241_i_i = v_r12_sroa_10_0_i_i_i != 1u;
+    v_cond_i_i_i1662_i = v_r60_i_i2239_i_i == 0u;
+    v_or_cond_i_i_i1663_i = (u1)(((u32)(v_r74_i_i2241_i_i) & (u32)(v_cond_i_i_i1662_i)) & 1);
+    if (v_or_cond_i_i_i1663_i) { goto L_arm_15_i_i2245_i_i; } else { p_v_r12_sroa_10_i2279_sroa_3_0_ph_i_i = v_r13_sroa_0_0_copyload_i_i2197_i_i; p_v_r12_sroa_10_i2279_sroa_5_0_ph_i_i = v_r3_i25_i_i_i_i; goto L_join_3_i_i2294_i_i; }
+L_arm_15_i_i2245_i_i:;
+    v_r84_i_i2246_i_i = v_r13_sroa_0_0_copyload_i_i2197_i_i + 1;
+    v_r87_i_i2247_i_i = get_u8(v_r84_i_i2246_i_i);
+    v_r89_i_i2248_i_i = (u8)(v_r87_i_i2247_i_i ^ ((u8)1 << 7)) > (u8)(255u ^ ((u8)1 << 7));
+    if (v_r89_i_i2248_i_i) { p_v_r30_i23_sroa_0_sroa_7_0_ph = 4u; p_v_r30_i23_sroa_0_sroa_10_0_ph = 2u; p_v_r30_i23_sroa_0_sroa_13_0_ph = 0u; goto L_arm_12_i; } else { goto L_join_20_i_i_i1671_i; }
+L_join_20_i_i_i1671_i:;
+    v_r103_i_i2249_i_i = (u64)((u64)(v_r3_i25_i_i_i_i) + (u64)(18446744073709551615ull));
+    { p_v_r12_sroa_10_i2279_sroa_3_0_ph_i_i = v_r84_i_i2246_i_i; p_v_r12_sroa_10_i2279_sroa_5_0_ph_i_i = v_r103_i_i2249_i_i; goto L_join_3_i_i2294_i_i; }
+L_join_3_i_i2294_i_i:;
+    v_r12_sroa_10_i2279_sroa_3_0_ph_i_i = p_v_r12_sroa_10_i2279_sroa_3_0_ph_i_i;
+    v_r12_sroa_10_i2279_sroa_5_0_ph_i_i = p_v_r12_sroa_10_i2279_sroa_5_0_ph_i_i;
+    v_r39_i_i2297_i_i = v_r36_i_i2194_i_i == v_r3_i25_i_i_i_i;
+    if (v_r39_i_i2297_i_i) { p_v_r30_i23_sroa_0_sroa_7_0_ph = 1u; p_v_r30_i23_sroa_0_sroa_10_0_ph = 0u; p_v_r30_i23_sroa_0_sroa_13_0_ph = 0u; goto L_arm_12_i; } else { goto L_arm_1_i_i_i_i_i; }
 L_arm_1_i_i_i_i_i:;
-    fill(v_r30_i39_i_i_i, 0u, 32u);
-    v_r16_i_i_i_i_i_i = v_r16_i_i_i5574_i_i + 1;
-    v_r29_i132_i_i_i = get_u8(v_r16_i_i_i5574_i_i);
-    v_r8_i22_i_i_i_i = v_r29_i132_i_i_i == 48u;
-    if (v_r8_i22_i_i_i_i) { goto L_join_3_i_i161_i_i_i; } else { goto L_der_core_header_tag_of_exit_i_i_i_i; }
+    v_r16_i_i_i2300_i_i = v_r16_i_i_i2198_i_i + 1;
+    v_r29_i2302_i_i = get_u8(v_r16_i_i_i2198_i_i);
+    v_r8_i22_i_i_i_i = v_r29_i2302_i_i == 2u;
+    if (v_r8_i22_i_i_i_i) { goto L_join_3_i_i2342_i_i; } else { goto L_der_core_header_tag_of_exit_i_i_i_i; }
 L_der_core_header_tag_of_exit_i_i_i_i:;
-    v_r9_i148_i_i_i = (u8)((u32)(v_r29_i132_i_i_i) & (u32)(31u));
-    v_r11_i149_i_i_i = v_r9_i148_i_i_i != 31u;
-    v_20 = (u8)((u32)(v_r29_i132_i_i_i) & (u32)(223u));
-    v_21 = v_20 != 0u;
-    v_r2_0_in_i_not_i_i_i = (u1)(((u32)(v_r11_i149_i_i_i) & (u32)(v_21)) & 1);
-    if (v_r2_0_in_i_not_i_i_i) { goto L_join_3_i_i161_i_i_i; } else { p_v_r0_i19_sroa_9_0_ph_i_i_i = 11u; p_v_r0_i19_sroa_15_0_ph_i_i_i = v_r29_i132_i_i_i; p_v_r0_i19_sroa_21_0_ph_i_i_i = 0u; goto L_arm_2_i320_i; }
-L_join_3_i_i161_i_i_i:;
-    v_r39_i_i164_i_i_i = v_r19_i_i_i5575_i_i == 1u;
-    if (v_r39_i_i164_i_i_i) { p_v_r0_i19_sroa_9_0_ph_i_i_i = 1u; p_v_r0_i19_sroa_15_0_ph_i_i_i = 0u; p_v_r0_i19_sroa_21_0_ph_i_i_i = 0u; goto L_arm_2_i320_i; } else { goto L_arm_1_i59_i_i_i_i; }
+    v_r9_i2324_i_i = (u8)((u32)(v_r29_i2302_i_i) & (u32)(31u));
+    v_r11_i2325_i_i = v_r9_i2324_i_i != 31u;
+    v_10 = (u8)((u32)(v_r29_i2302_i_i) & (u32)(223u));
+    v_11 = v_10 != 0u;
+    v_r2_0_in_i2326_not_i_i = (u1)(((u32)(v_r11_i2325_i_i) & (u32)(v_11)) & 1);
+    if (v_r2_0_in_i2326_not_i_i) { goto L_join_3_i_i2342_i_i; } else { p_v_r30_i23_sroa_0_sroa_7_0_ph = 11u; p_v_r30_i23_sroa_0_sroa_10_0_ph = v_r29_i2302_i_i; p_v_r30_i23_sroa_0_sroa_13_0_ph = 0u; goto L_arm_12_i; }
+L_join_3_i_i2342_i_i:;
+    v_r39_i_i2345_i_i = v_r19_i_i_i2199_i_i == 1u;
+    if (v_r39_i_i2345_i_i) { p_v_r30_i23_sroa_0_sroa_7_0_ph = 1u; p_v_r30_i23_sroa_0_sroa_10_0_ph = 0u; p_v_r30_i23_sroa_0_sroa_13_0_ph = 0u; goto L_arm_12_i; } else { goto L_arm_1_i59_i_i_i_i; }
 L_arm_1_i59_i_i_i_i:;
-    v_r16_i_i_i167_i_i_i = v_r16_i_i_i5574_i_i + 2;
-    v_r19_i_i_i168_i_i_i = (u64)((u64)(v_r19_i_i_i5575_i_i) + (u64)(18446744073709551614ull));
-    v_r29_i169_i_i_i = get_u8(v_r16_i_i_i_i_i_i);
-    v_r51_i62_i_i_i_i = (u8)(v_r29_i169_i_i_i ^ ((u8)1 << 7)) > (u8)(255u ^ ((u8)1 << 7));
+    v_r16_i_i_i2348_i_i = v_r16_i_i_i2198_i_i + 2;
+    v_r19_i_i_i2349_i_i = (u64)((u64)(v_r19_i_i_i2199_i_i) + (u64)(18446744073709551614ull));
+    v_r29_i2350_i_i = get_u8(v_r16_i_i_i2300_i_i);
+    v_r51_i62_i_i_i_i = (u8)(v_r29_i2350_i_i ^ ((u8)1 << 7)) > (u8)(255u ^ ((u8)1 << 7));
     if (v_r51_i62_i_i_i_i) { goto L_then_5_i_i_i_i_i; } else { goto L_join_7_i63_i_i_i_i; }
 L_then_5_i_i_i_i_i:;
-    v_r56_i73_i_i_i_i = (u32)v_r29_i169_i_i_i;
-    { p_v_r13_sroa_0_0_copyload_i_i333_i_i_i = v_r16_i_i_i167_i_i_i; p_v_r36_i_i330_i_i_i = v_r19_i_i_i168_i_i_i; p_v_r12_sroa_10_0_i_i_i_i = v_r56_i73_i_i_i_i; goto L_arm_1_i51_i_i_i; }
+    v_r56_i73_i_i_i_i = (u32)v_r29_i2350_i_i;
+    { p_v_r13_sroa_0_0_copyload_i_i2528_i_i = v_r16_i_i_i2348_i_i; p_v_r36_i_i2525_i_i = v_r19_i_i_i2349_i_i; p_v_r12_sroa_10_0_i2463_i_i = v_r56_i73_i_i_i_i; goto L_arm_1_i_i82_i_i; }
 L_join_7_i63_i_i_i_i:;
-    v_r68_i64_i_i_i_i = v_r29_i169_i_i_i == 128u;
-    if (v_r68_i64_i_i_i_i) { p_v_r0_i19_sroa_9_0_ph_i_i_i = 2u; p_v_r0_i19_sroa_15_0_ph_i_i_i = 0u; p_v_r0_i19_sroa_21_0_ph_i_i_i = 0u; goto L_arm_2_i320_i; } else { goto L_join_10_i_i_i_i_i; }
+    v_r68_i64_i_i_i_i = v_r29_i2350_i_i == 128u;
+    if (v_r68_i64_i_i_i_i) { p_v_r30_i23_sroa_0_sroa_7_0_ph = 2u; p_v_r30_i23_sroa_0_sroa_10_0_ph = 0u; p_v_r30_i23_sroa_0_sroa_13_0_ph = 0u; goto L_arm_12_i; } else { goto L_join_10_i_i_i_i_i; }
 L_join_10_i_i_i_i_i:;
-    v_r87_i_i_i_i_i = v_r29_i169_i_i_i > 132u;
-    if (v_r87_i_i_i_i_i) { p_v_r0_i19_sroa_9_0_ph_i_i_i = 7u; p_v_r0_i19_sroa_15_0_ph_i_i_i = 0u; p_v_r0_i19_sroa_21_0_ph_i_i_i = 0u; goto L_arm_2_i320_i; } else { goto L_join_3_i210_i_i_i; }
-L_join_3_i210_i_i_i:;
-    v_r106_i_i_i_i_i = (u8)((u32)(v_r29_i169_i_i_i) & (u32)(127u));
-    v_r3_i25_i_i_i325_i = (u64)v_r106_i_i_i_i_i;
-    v_r39_i213_i_i_i = v_r19_i_i_i168_i_i_i < v_r3_i25_i_i_i325_i;
-    if (v_r39_i213_i_i_i) { p_v_r0_i19_sroa_9_0_ph_i_i_i = 1u; p_v_r0_i19_sroa_15_0_ph_i_i_i = 0u; p_v_r0_i19_sroa_21_0_ph_i_i_i = 0u; goto L_arm_2_i320_i; } else { goto L_arm_14_i_i_i_i_i; }
+    v_r87_i_i_i_i_i = v_r29_i2350_i_i > 132u;
+    if (v_r87_i_i_i_i_i) { p_v_r30_i23_sroa_0_sroa_7_0_ph = 7u; p_v_r30_i23_sroa_0_sroa_10_0_ph = 0u; p_v_r30_i23_sroa_0_sroa_13_0_ph = 0u; goto L_arm_12_i; } else { goto L_join_3_i2391_i_i; }
+L_join_3_i2391_i_i:;
+    v_r106_i_i_i_i_i = (u8)((u32)(v_r29_i2350_i_i) & (u32)(127u));
+    v_r3_i25_i2392_i_i = (u64)v_r106_i_i_i_i_i;
+    v_r39_i2395_i_i = v_r19_i_i_i2349_i_i < v_r3_i25_i2392_i_i;
+    if (v_r39_i2395_i_i) { p_v_r30_i23_sroa_0_sroa_7_0_ph = 1u; p_v_r30_i23_sroa_0_sroa_10_0_ph = 0u; p_v_r30_i23_sroa_0_sroa_13_0_ph = 0u; goto L_arm_12_i; } else { goto L_arm_14_i_i_i_i_i; }
 L_arm_14_i_i_i_i_i:;
-    v_r16_i_i216_i_i_i = (P)((uintptr_t)v_r16_i_i_i167_i_i_i + (u64)(v_r3_i25_i_i_i325_i));
-    v_r19_i_i217_i_i_i = (u64)((u64)(v_r19_i_i_i168_i_i_i) - (u64)(v_r3_i25_i_i_i325_i));
+    v_r16_i_i2399_i_i = (P)((uintptr_t)v_r16_i_i_i2348_i_i + (u64)(v_r3_i25_i2392_i_i));
+    v_r19_i_i2400_i_i = (u64)((u64)(v_r19_i_i_i2349_i_i) - (u64)(v_r3_i25_i2392_i_i));
     switch (v_r106_i_i_i_i_i) {
-    case 0u: { p_v_r0_i19_sroa_9_0_ph_i_i_i = 8u; p_v_r0_i19_sroa_15_0_ph_i_i_i = v_r106_i_i_i_i_i; p_v_r0_i19_sroa_21_0_ph_i_i_i = v_r106_i_i_i_i_i; goto L_arm_2_i320_i; }
-    case 1u: { goto L_der_core_length_is_overlong_exit_i_i_i; }
-    default: { goto L_join_7_i250_i_i_i; }
+    case 0u: { p_v_r30_i23_sroa_0_sroa_7_0_ph = 8u; p_v_r30_i23_sroa_0_sroa_10_0_ph = v_r106_i_i_i_i_i; p_v_r30_i23_sroa_0_sroa_13_0_ph = v_r106_i_i_i_i_i; goto L_arm_12_i; }
+    case 1u: { goto L_der_core_length_is_overlong_exit2439_i_i; }
+    default: { goto L_join_7_i2436_i_i; }
     }
-L_join_7_i250_i_i_i:;
-    v_r36_i251_i_i_i = get_u8(v_r16_i_i_i167_i_i_i);
-    v_r38_i_i_i_i = v_r36_i251_i_i_i == 0u;
-    if (v_r38_i_i_i_i) { p_v_r0_i19_sroa_9_0_ph_i_i_i = 8u; p_v_r0_i19_sroa_15_0_ph_i_i_i = 0u; p_v_r0_i19_sroa_21_0_ph_i_i_i = 0u; goto L_arm_2_i320_i; } else { goto L_join_7_i82_i_i_i_i; }
-L_der_core_length_is_overlong_exit_i_i_i:;
-    v_r28_i249_i_i_i = get_u8(v_r16_i_i_i167_i_i_i);
-    v_r30_i_i_i_i = (u8)(v_r28_i249_i_i_i ^ ((u8)1 << 7)) > (u8)(255u ^ ((u8)1 << 7));
-    if (v_r30_i_i_i_i) { p_v_r0_i19_sroa_9_0_ph_i_i_i = 8u; p_v_r0_i19_sroa_15_0_ph_i_i_i = 0u; p_v_r0_i19_sroa_21_0_ph_i_i_i = 0u; goto L_arm_2_i320_i; } else { goto L_then_5_i80_i_i_i_i; }
+L_join_7_i2436_i_i:;
+    v_r36_i2437_i_i = get_u8(v_r16_i_i_i2348_i_i);
+    v_r38_i2438_i_i = v_r36_i2437_i_i == 0u;
+    if (v_r38_i2438_i_i) { p_v_r30_i23_sroa_0_sroa_7_0_ph = 8u; p_v_r30_i23_sroa_0_sroa_10_0_ph = 0u; p_v_r30_i23_sroa_0_sroa_13_0_ph = 0u; goto L_arm_12_i; } else { goto L_join_7_i82_i_i_i_i; }
+L_der_core_length_is_overlong_exit2439_i_i:;
+    v_r28_i2433_i_i = get_u8(v_r16_i_i_i2348_i_i);
+    v_r30_i2434_i_i = (u8)(v_r28_i2433_i_i ^ ((u8)1 << 7)) > (u8)(255u ^ ((u8)1 << 7));
+    if (v_r30_i2434_i_i) { p_v_r30_i23_sroa_0_sroa_7_0_ph = 8u; p_v_r30_i23_sroa_0_sroa_10_0_ph = 0u; p_v_r30_i23_sroa_0_sroa_13_0_ph = 0u; goto L_arm_12_i; } else { goto L_then_5_i80_i_i_i_i; }
 L_then_5_i80_i_i_i_i:;
-    v_r71_i_i_i_i_i = (u32)v_r28_i249_i_i_i;
-    { p_v_r13_sroa_0_0_copyload_i_i333_i_i_i = v_r16_i_i216_i_i_i; p_v_r36_i_i330_i_i_i = v_r19_i_i217_i_i_i; p_v_r12_sroa_10_0_i_i_i_i = v_r71_i_i_i_i_i; goto L_arm_1_i51_i_i_i; }
+    v_r71_i_i_i_i_i = (u32)v_r28_i2433_i_i;
+    { p_v_r13_sroa_0_0_copyload_i_i2528_i_i = v_r16_i_i2399_i_i; p_v_r36_i_i2525_i_i = v_r19_i_i2400_i_i; p_v_r12_sroa_10_0_i2463_i_i = v_r71_i_i_i_i_i; goto L_arm_1_i_i82_i_i; }
 L_join_7_i82_i_i_i_i:;
     v_r74_i83_i_i_i_i = v_r106_i_i_i_i_i < 3u;
     if (v_r74_i83_i_i_i_i) { goto L_then_8_i106_i_i_i_i; } else { goto L_join_10_i84_i_i_i_i; }
 L_then_8_i106_i_i_i_i:;
-    v_r81_i107_i_i_i_i = v_r16_i_i_i5574_i_i + 3;
-    v_r87_i109_i_i_i_i = (u32)v_r36_i251_i_i_i;
+    v_r81_i107_i_i_i_i = v_r16_i_i_i2198_i_i + 3;
+    v_r87_i109_i_i_i_i = (u32)v_r36_i2437_i_i;
     v_r89_i_i_i_i_i = (u32)((u32)(v_r87_i109_i_i_i_i) << (u32)((8u & 31)));
     v_r91_i_i_i_i_i = get_u8(v_r81_i107_i_i_i_i);
     v_r93_i110_i_i_i_i = (u32)v_r91_i_i_i_i_i;
     v_r96_i111_i_i_i_i = (u32)((u32)(v_r89_i_i_i_i_i) | (u32)(v_r93_i110_i_i_i_i));
-    { p_v_r13_sroa_0_0_copyload_i_i333_i_i_i = v_r16_i_i216_i_i_i; p_v_r36_i_i330_i_i_i = v_r19_i_i217_i_i_i; p_v_r12_sroa_10_0_i_i_i_i = v_r96_i111_i_i_i_i; goto L_arm_1_i51_i_i_i; }
+    { p_v_r13_sroa_0_0_copyload_i_i2528_i_i = v_r16_i_i2399_i_i; p_v_r36_i_i2525_i_i = v_r19_i_i2400_i_i; p_v_r12_sroa_10_0_i2463_i_i = v_r96_i111_i_i_i_i; goto L_arm_1_i_i82_i_i; }
 L_join_10_i84_i_i_i_i:;
     v_r99_i85_i_i_i_i = v_r106_i_i_i_i_i == 3u;
     if (v_r99_i85_i_i_i_i) { goto L_then_11_i95_i_i_i_i; } else { goto L_join_13_i86_i_i_i_i; }
 L_then_11_i95_i_i_i_i:;
-    v_r106_i96_i_i_i_i = v_r16_i_i_i5574_i_i + 3;
-    v_r108_i97_i_i_i_i = v_r16_i_i_i5574_i_i + 4;
-    v_r115_i99_i_i_i_i = (u32)v_r36_i251_i_i_i;
+    v_r106_i96_i_i_i_i = v_r16_i_i_i2198_i_i + 3;
+    v_r108_i97_i_i_i_i = v_r16_i_i_i2198_i_i + 4;
+    v_r115_i99_i_i_i_i = (u32)v_r36_i2437_i_i;
     v_r117_i100_i_i_i_i = (u32)((u32)(v_r115_i99_i_i_i_i) << (u32)((16u & 31)));
     v_r119_i101_i_i_i_i = get_u8(v_r106_i96_i_i_i_i);
     v_r121_i102_i_i_i_i = (u32)v_r119_i101_i_i_i_i;
@@ -13513,15 +12800,15 @@ L_then_11_i95_i_i_i_i:;
     v_r128_i_i_i_i_i = get_u8(v_r108_i97_i_i_i_i);
     v_r130_i105_i_i_i_i = (u32)v_r128_i_i_i_i_i;
     v_r133_i_i_i_i_i = (u32)((u32)(v_r126_i104_i_i_i_i) | (u32)(v_r130_i105_i_i_i_i));
-    { p_v_r13_sroa_0_0_copyload_i_i333_i_i_i = v_r16_i_i216_i_i_i; p_v_r36_i_i330_i_i_i = v_r19_i_i217_i_i_i; p_v_r12_sroa_10_0_i_i_i_i = v_r133_i_i_i_i_i; goto L_arm_1_i51_i_i_i; }
+    { p_v_r13_sroa_0_0_copyload_i_i2528_i_i = v_r16_i_i2399_i_i; p_v_r36_i_i2525_i_i = v_r19_i_i2400_i_i; p_v_r12_sroa_10_0_i2463_i_i = v_r133_i_i_i_i_i; goto L_arm_1_i_i82_i_i; }
 L_join_13_i86_i_i_i_i:;
     v_r136_i87_i_i_i_i = v_r106_i_i_i_i_i < 5u;
     if (v_r136_i87_i_i_i_i) { goto L_then_14_i_i_i_i_i; } else { goto L_join_16_i_i_i_i_i; }
 L_then_14_i_i_i_i_i:;
-    v_r143_i88_i_i_i_i = v_r16_i_i_i5574_i_i + 3;
-    v_r145_i89_i_i_i_i = v_r16_i_i_i5574_i_i + 4;
-    v_r147_i90_i_i_i_i = v_r16_i_i_i5574_i_i + 5;
-    v_r155_i92_i_i_i_i = (u32)v_r36_i251_i_i_i;
+    v_r143_i88_i_i_i_i = v_r16_i_i_i2198_i_i + 3;
+    v_r145_i89_i_i_i_i = v_r16_i_i_i2198_i_i + 4;
+    v_r147_i90_i_i_i_i = v_r16_i_i_i2198_i_i + 5;
+    v_r155_i92_i_i_i_i = (u32)v_r36_i2437_i_i;
     v_r157_i93_i_i_i_i = (u32)((u32)(v_r155_i92_i_i_i_i) << (u32)((24u & 31)));
     v_r159_i94_i_i_i_i = get_u8(v_r143_i88_i_i_i_i);
     v_r161_i_i_i_i_i = (u32)v_r159_i94_i_i_i_i;
@@ -13534,20 +12821,733 @@ L_then_14_i_i_i_i_i:;
     v_r177_i_i_i_i_i = get_u8(v_r147_i90_i_i_i_i);
     v_r179_i_i_i_i_i = (u32)v_r177_i_i_i_i_i;
     v_r182_i_i_i_i_i = (u32)((u32)(v_r175_i_i_i_i_i) | (u32)(v_r179_i_i_i_i_i));
-    { p_v_r13_sroa_0_0_copyload_i_i333_i_i_i = v_r16_i_i216_i_i_i; p_v_r36_i_i330_i_i_i = v_r19_i_i217_i_i_i; p_v_r12_sroa_10_0_i_i_i_i = v_r182_i_i_i_i_i; goto L_arm_1_i51_i_i_i; }
+    { p_v_r13_sroa_0_0_copyload_i_i2528_i_i = v_r16_i_i2399_i_i; p_v_r36_i_i2525_i_i = v_r19_i_i2400_i_i; p_v_r12_sroa_10_0_i2463_i_i = v_r182_i_i_i_i_i; goto L_arm_1_i_i82_i_i; }
 L_join_16_i_i_i_i_i:;
+    __builtin_trap();
+    __builtin_trap();
+L_arm_1_i_i82_i_i:;
+    v_r13_sroa_0_0_copyload_i_i2528_i_i = p_v_r13_sroa_0_0_copyload_i_i2528_i_i;
+    v_r36_i_i2525_i_i = p_v_r36_i_i2525_i_i;
+    v_r12_sroa_10_0_i2463_i_i = p_v_r12_sroa_10_0_i2463_i_i;
+    if (v_r8_i22_i_i_i_i) { goto L_join_3_i_i2522_i_i; } else { p_v_r30_i23_sroa_0_sroa_7_0_ph = 10u; p_v_r30_i23_sroa_0_sroa_10_0_ph = 2u; p_v_r30_i23_sroa_0_sroa_13_0_ph = v_r29_i2302_i_i; goto L_arm_12_i; }
+L_join_3_i_i2522_i_i:;
+    v_r3_i25_i_i2523_i_i = (u64)v_r12_sroa_10_0_i2463_i_i;
+    v_r39_i_i2526_i_i = v_r36_i_i2525_i_i < v_r3_i25_i_i2523_i_i;
+    if (v_r39_i_i2526_i_i) { p_v_r30_i23_sroa_0_sroa_7_0_ph = 1u; p_v_r30_i23_sroa_0_sroa_10_0_ph = 0u; p_v_r30_i23_sroa_0_sroa_13_0_ph = 0u; goto L_arm_12_i; } else { goto L_join_3_i_i2565_i_i; }
+L_join_3_i_i2565_i_i:;
+    v_r16_i_i_i2529_i_i = (P)((uintptr_t)v_r13_sroa_0_0_copyload_i_i2528_i_i + (u64)(v_r3_i25_i_i2523_i_i));
+    v_r19_i_i_i2530_i_i = (u64)((u64)(v_r36_i_i2525_i_i) - (u64)(v_r3_i25_i_i2523_i_i));
+    v_r7_i_i_i2574_i_i = v_r12_sroa_10_0_i2463_i_i == 0u;
+    if (v_r7_i_i_i2574_i_i) { p_v_r30_i23_sroa_0_sroa_7_0_ph = 3u; p_v_r30_i23_sroa_0_sroa_10_0_ph = 2u; p_v_r30_i23_sroa_0_sroa_13_0_ph = 0u; goto L_arm_12_i; } else { goto L_join_8_i_i2575_i_i; }
+L_join_8_i_i2575_i_i:;
+    v_r60_i_i2576_i_i = get_u8(v_r13_sroa_0_0_copyload_i_i2528_i_i);
+    v_r62_i_i2577_i_i = (u8)(v_r60_i_i2576_i_i ^ ((u8)1 << 7)) < (u8)(0u ^ ((u8)1 << 7));
+    if (v_r62_i_i2577_i_i) { p_v_r30_i23_sroa_0_sroa_7_0_ph = 13u; p_v_r30_i23_sroa_0_sroa_10_0_ph = 2u; p_v_r30_i23_sroa_0_sroa_13_0_ph = 0u; goto L_arm_12_i; } else { goto L_join_11_i_i2578_i_i; }
+L_join_11_i_i2578_i_i:;
+    v_r74_i_i2579_i_i = v_r12_sroa_10_0_i2463_i_i != 1u;
+    v_cond_i_i2580_i_i = v_r60_i_i2576_i_i == 0u;
+    v_or_cond_i_i2581_i_i = (u1)(((u32)(v_r74_i_i2579_i_i) & (u32)(v_cond_i_i2580_i_i)) & 1);
+    if (v_or_cond_i_i2581_i_i) { goto L_arm_15_i_i2593_i_i; } else { p_v_r12_sroa_10_i2631_sroa_3_0_ph_i_i = v_r13_sroa_0_0_copyload_i_i2528_i_i; p_v_r12_sroa_10_i2631_sroa_5_0_ph_i_i = v_r3_i25_i_i2523_i_i; goto L_join_3_i_i2647_i_i; }
+L_arm_15_i_i2593_i_i:;
+    v_r84_i_i2594_i_i = v_r13_sroa_0_0_copyload_i_i2528_i_i + 1;
+    v_r87_i_i2595_i_i = get_u8(v_r84_i_i2594_i_i);
+    v_r89_i_i2596_i_i = (u8)(v_r87_i_i2595_i_i ^ ((u8)1 << 7)) > (u8)(255u ^ ((u8)1 << 7));
+    if (v_r89_i_i2596_i_i) { p_v_r30_i23_sroa_0_sroa_7_0_ph = 4u; p_v_r30_i23_sroa_0_sroa_10_0_ph = 2u; p_v_r30_i23_sroa_0_sroa_13_0_ph = 0u; goto L_arm_12_i; } else { goto L_join_20_i_i2597_i_i; }
+L_join_20_i_i2597_i_i:;
+    v_r103_i_i2598_i_i = (u64)((u64)(v_r3_i25_i_i2523_i_i) + (u64)(18446744073709551615ull));
+    { p_v_r12_sroa_10_i2631_sroa_3_0_ph_i_i = v_r84_i_i2594_i_i; p_v_r12_sroa_10_i2631_sroa_5_0_ph_i_i = v_r103_i_i2598_i_i; goto L_join_3_i_i2647_i_i; }
+L_join_3_i_i2647_i_i:;
+    v_r12_sroa_10_i2631_sroa_3_0_ph_i_i = p_v_r12_sroa_10_i2631_sroa_3_0_ph_i_i;
+    v_r12_sroa_10_i2631_sroa_5_0_ph_i_i = p_v_r12_sroa_10_i2631_sroa_5_0_ph_i_i;
+    v_r39_i_i2650_i_i = v_r36_i_i2525_i_i == v_r3_i25_i_i2523_i_i;
+    if (v_r39_i_i2650_i_i) { p_v_r30_i23_sroa_0_sroa_7_0_ph = 1u; p_v_r30_i23_sroa_0_sroa_10_0_ph = 0u; p_v_r30_i23_sroa_0_sroa_13_0_ph = 0u; goto L_arm_12_i; } else { goto L_arm_1_i_i_i373_i_i; }
+L_arm_1_i_i_i373_i_i:;
+    v_r16_i_i_i2653_i_i = v_r16_i_i_i2529_i_i + 1;
+    v_r29_i2655_i_i = get_u8(v_r16_i_i_i2529_i_i);
+    v_r8_i22_i_i377_i_i = v_r29_i2655_i_i == 2u;
+    if (v_r8_i22_i_i377_i_i) { goto L_join_3_i_i2695_i_i; } else { goto L_der_core_header_tag_of_exit_i_i379_i_i; }
+L_der_core_header_tag_of_exit_i_i379_i_i:;
+    v_r9_i2677_i_i = (u8)((u32)(v_r29_i2655_i_i) & (u32)(31u));
+    v_r11_i2678_i_i = v_r9_i2677_i_i != 31u;
+    v_12 = (u8)((u32)(v_r29_i2655_i_i) & (u32)(223u));
+    v_13 = v_12 != 0u;
+    v_r2_0_in_i2679_not_i_i = (u1)(((u32)(v_r11_i2678_i_i) & (u32)(v_13)) & 1);
+    if (v_r2_0_in_i2679_not_i_i) { goto L_join_3_i_i2695_i_i; } else { p_v_r30_i23_sroa_0_sroa_7_0_ph = 11u; p_v_r30_i23_sroa_0_sroa_10_0_ph = v_r29_i2655_i_i; p_v_r30_i23_sroa_0_sroa_13_0_ph = 0u; goto L_arm_12_i; }
+L_join_3_i_i2695_i_i:;
+    v_r39_i_i2698_i_i = v_r19_i_i_i2530_i_i == 1u;
+    if (v_r39_i_i2698_i_i) { p_v_r30_i23_sroa_0_sroa_7_0_ph = 1u; p_v_r30_i23_sroa_0_sroa_10_0_ph = 0u; p_v_r30_i23_sroa_0_sroa_13_0_ph = 0u; goto L_arm_12_i; } else { goto L_arm_1_i59_i_i464_i_i; }
+L_arm_1_i59_i_i464_i_i:;
+    v_r16_i_i_i2701_i_i = v_r16_i_i_i2529_i_i + 2;
+    v_r19_i_i_i2702_i_i = (u64)((u64)(v_r19_i_i_i2530_i_i) + (u64)(18446744073709551614ull));
+    v_r29_i2703_i_i = get_u8(v_r16_i_i_i2653_i_i);
+    v_r51_i62_i_i467_i_i = (u8)(v_r29_i2703_i_i ^ ((u8)1 << 7)) > (u8)(255u ^ ((u8)1 << 7));
+    if (v_r51_i62_i_i467_i_i) { goto L_then_5_i_i_i595_i_i; } else { goto L_join_7_i63_i_i468_i_i; }
+L_then_5_i_i_i595_i_i:;
+    v_r56_i73_i_i596_i_i = (u32)v_r29_i2703_i_i;
+    { p_v_r13_sroa_0_0_copyload_i_i2881_i_i = v_r16_i_i_i2701_i_i; p_v_r36_i_i2878_i_i = v_r19_i_i_i2702_i_i; p_v_r12_sroa_10_0_i2816_i_i = v_r56_i73_i_i596_i_i; goto L_arm_1_i_i297_i_i; }
+L_join_7_i63_i_i468_i_i:;
+    v_r68_i64_i_i469_i_i = v_r29_i2703_i_i == 128u;
+    if (v_r68_i64_i_i469_i_i) { p_v_r30_i23_sroa_0_sroa_7_0_ph = 2u; p_v_r30_i23_sroa_0_sroa_10_0_ph = 0u; p_v_r30_i23_sroa_0_sroa_13_0_ph = 0u; goto L_arm_12_i; } else { goto L_join_10_i_i_i470_i_i; }
+L_join_10_i_i_i470_i_i:;
+    v_r87_i_i_i471_i_i = v_r29_i2703_i_i > 132u;
+    if (v_r87_i_i_i471_i_i) { p_v_r30_i23_sroa_0_sroa_7_0_ph = 7u; p_v_r30_i23_sroa_0_sroa_10_0_ph = 0u; p_v_r30_i23_sroa_0_sroa_13_0_ph = 0u; goto L_arm_12_i; } else { goto L_join_3_i2744_i_i; }
+L_join_3_i2744_i_i:;
+    v_r106_i_i_i473_i_i = (u8)((u32)(v_r29_i2703_i_i) & (u32)(127u));
+    v_r3_i25_i2745_i_i = (u64)v_r106_i_i_i473_i_i;
+    v_r39_i2748_i_i = v_r19_i_i_i2702_i_i < v_r3_i25_i2745_i_i;
+    if (v_r39_i2748_i_i) { p_v_r30_i23_sroa_0_sroa_7_0_ph = 1u; p_v_r30_i23_sroa_0_sroa_10_0_ph = 0u; p_v_r30_i23_sroa_0_sroa_13_0_ph = 0u; goto L_arm_12_i; } else { goto L_arm_14_i_i_i490_i_i; }
+L_arm_14_i_i_i490_i_i:;
+    v_r16_i_i2752_i_i = (P)((uintptr_t)v_r16_i_i_i2701_i_i + (u64)(v_r3_i25_i2745_i_i));
+    v_r19_i_i2753_i_i = (u64)((u64)(v_r19_i_i_i2702_i_i) - (u64)(v_r3_i25_i2745_i_i));
+    switch (v_r106_i_i_i473_i_i) {
+    case 0u: { p_v_r30_i23_sroa_0_sroa_7_0_ph = 8u; p_v_r30_i23_sroa_0_sroa_10_0_ph = v_r106_i_i_i473_i_i; p_v_r30_i23_sroa_0_sroa_13_0_ph = v_r106_i_i_i473_i_i; goto L_arm_12_i; }
+    case 1u: { goto L_der_core_length_is_overlong_exit2792_i_i; }
+    default: { goto L_join_7_i2789_i_i; }
+    }
+L_join_7_i2789_i_i:;
+    v_r36_i2790_i_i = get_u8(v_r16_i_i_i2701_i_i);
+    v_r38_i2791_i_i = v_r36_i2790_i_i == 0u;
+    if (v_r38_i2791_i_i) { p_v_r30_i23_sroa_0_sroa_7_0_ph = 8u; p_v_r30_i23_sroa_0_sroa_10_0_ph = 0u; p_v_r30_i23_sroa_0_sroa_13_0_ph = 0u; goto L_arm_12_i; } else { goto L_join_7_i82_i_i510_i_i; }
+L_der_core_length_is_overlong_exit2792_i_i:;
+    v_r28_i2786_i_i = get_u8(v_r16_i_i_i2701_i_i);
+    v_r30_i2787_i_i = (u8)(v_r28_i2786_i_i ^ ((u8)1 << 7)) > (u8)(255u ^ ((u8)1 << 7));
+    if (v_r30_i2787_i_i) { p_v_r30_i23_sroa_0_sroa_7_0_ph = 8u; p_v_r30_i23_sroa_0_sroa_10_0_ph = 0u; p_v_r30_i23_sroa_0_sroa_13_0_ph = 0u; goto L_arm_12_i; } else { goto L_then_5_i80_i_i497_i_i; }
+L_then_5_i80_i_i497_i_i:;
+    v_r71_i_i_i499_i_i = (u32)v_r28_i2786_i_i;
+    { p_v_r13_sroa_0_0_copyload_i_i2881_i_i = v_r16_i_i2752_i_i; p_v_r36_i_i2878_i_i = v_r19_i_i2753_i_i; p_v_r12_sroa_10_0_i2816_i_i = v_r71_i_i_i499_i_i; goto L_arm_1_i_i297_i_i; }
+L_join_7_i82_i_i510_i_i:;
+    v_r74_i83_i_i511_i_i = v_r106_i_i_i473_i_i < 3u;
+    if (v_r74_i83_i_i511_i_i) { goto L_then_8_i106_i_i548_i_i; } else { goto L_join_10_i84_i_i512_i_i; }
+L_then_8_i106_i_i548_i_i:;
+    v_r81_i107_i_i549_i_i = v_r16_i_i_i2529_i_i + 3;
+    v_r87_i109_i_i551_i_i = (u32)v_r36_i2790_i_i;
+    v_r89_i_i_i552_i_i = (u32)((u32)(v_r87_i109_i_i551_i_i) << (u32)((8u & 31)));
+    v_r91_i_i_i553_i_i = get_u8(v_r81_i107_i_i549_i_i);
+    v_r93_i110_i_i554_i_i = (u32)v_r91_i_i_i553_i_i;
+    v_r96_i111_i_i555_i_i = (u32)((u32)(v_r89_i_i_i552_i_i) | (u32)(v_r93_i110_i_i554_i_i));
+    { p_v_r13_sroa_0_0_copyload_i_i2881_i_i = v_r16_i_i2752_i_i; p_v_r36_i_i2878_i_i = v_r19_i_i2753_i_i; p_v_r12_sroa_10_0_i2816_i_i = v_r96_i111_i_i555_i_i; goto L_arm_1_i_i297_i_i; }
+L_join_10_i84_i_i512_i_i:;
+    v_r99_i85_i_i513_i_i = v_r106_i_i_i473_i_i == 3u;
+    if (v_r99_i85_i_i513_i_i) { goto L_then_11_i95_i_i535_i_i; } else { goto L_join_13_i86_i_i514_i_i; }
+L_then_11_i95_i_i535_i_i:;
+    v_r106_i96_i_i536_i_i = v_r16_i_i_i2529_i_i + 3;
+    v_r108_i97_i_i537_i_i = v_r16_i_i_i2529_i_i + 4;
+    v_r115_i99_i_i539_i_i = (u32)v_r36_i2790_i_i;
+    v_r117_i100_i_i540_i_i = (u32)((u32)(v_r115_i99_i_i539_i_i) << (u32)((16u & 31)));
+    v_r119_i101_i_i541_i_i = get_u8(v_r106_i96_i_i536_i_i);
+    v_r121_i102_i_i542_i_i = (u32)v_r119_i101_i_i541_i_i;
+    v_r123_i103_i_i543_i_i = (u32)((u32)(v_r121_i102_i_i542_i_i) << (u32)((8u & 31)));
+    v_r126_i104_i_i544_i_i = (u32)((u32)(v_r123_i103_i_i543_i_i) | (u32)(v_r117_i100_i_i540_i_i));
+    v_r128_i_i_i545_i_i = get_u8(v_r108_i97_i_i537_i_i);
+    v_r130_i105_i_i546_i_i = (u32)v_r128_i_i_i545_i_i;
+    v_r133_i_i_i547_i_i = (u32)((u32)(v_r126_i104_i_i544_i_i) | (u32)(v_r130_i105_i_i546_i_i));
+    { p_v_r13_sroa_0_0_copyload_i_i2881_i_i = v_r16_i_i2752_i_i; p_v_r36_i_i2878_i_i = v_r19_i_i2753_i_i; p_v_r12_sroa_10_0_i2816_i_i = v_r133_i_i_i547_i_i; goto L_arm_1_i_i297_i_i; }
+L_join_13_i86_i_i514_i_i:;
+    v_r136_i87_i_i515_i_i = v_r106_i_i_i473_i_i < 5u;
+    if (v_r136_i87_i_i515_i_i) { goto L_then_14_i_i_i517_i_i; } else { goto L_join_16_i_i_i516_i_i; }
+L_then_14_i_i_i517_i_i:;
+    v_r143_i88_i_i518_i_i = v_r16_i_i_i2529_i_i + 3;
+    v_r145_i89_i_i519_i_i = v_r16_i_i_i2529_i_i + 4;
+    v_r147_i90_i_i520_i_i = v_r16_i_i_i2529_i_i + 5;
+    v_r155_i92_i_i522_i_i = (u32)v_r36_i2790_i_i;
+    v_r157_i93_i_i523_i_i = (u32)((u32)(v_r155_i92_i_i522_i_i) << (u32)((24u & 31)));
+    v_r159_i94_i_i524_i_i = get_u8(v_r143_i88_i_i518_i_i);
+    v_r161_i_i_i525_i_i = (u32)v_r159_i94_i_i524_i_i;
+    v_r163_i_i_i526_i_i = (u32)((u32)(v_r161_i_i_i525_i_i) << (u32)((16u & 31)));
+    v_r166_i_i_i527_i_i = (u32)((u32)(v_r163_i_i_i526_i_i) | (u32)(v_r157_i93_i_i523_i_i));
+    v_r168_i_i_i528_i_i = get_u8(v_r145_i89_i_i519_i_i);
+    v_r170_i_i_i529_i_i = (u32)v_r168_i_i_i528_i_i;
+    v_r172_i_i_i530_i_i = (u32)((u32)(v_r170_i_i_i529_i_i) << (u32)((8u & 31)));
+    v_r175_i_i_i531_i_i = (u32)((u32)(v_r166_i_i_i527_i_i) | (u32)(v_r172_i_i_i530_i_i));
+    v_r177_i_i_i532_i_i = get_u8(v_r147_i90_i_i520_i_i);
+    v_r179_i_i_i533_i_i = (u32)v_r177_i_i_i532_i_i;
+    v_r182_i_i_i534_i_i = (u32)((u32)(v_r175_i_i_i531_i_i) | (u32)(v_r179_i_i_i533_i_i));
+    { p_v_r13_sroa_0_0_copyload_i_i2881_i_i = v_r16_i_i2752_i_i; p_v_r36_i_i2878_i_i = v_r19_i_i2753_i_i; p_v_r12_sroa_10_0_i2816_i_i = v_r182_i_i_i534_i_i; goto L_arm_1_i_i297_i_i; }
+L_join_16_i_i_i516_i_i:;
+    __builtin_trap();
+    __builtin_trap();
+L_arm_1_i_i297_i_i:;
+    v_r13_sroa_0_0_copyload_i_i2881_i_i = p_v_r13_sroa_0_0_copyload_i_i2881_i_i;
+    v_r36_i_i2878_i_i = p_v_r36_i_i2878_i_i;
+    v_r12_sroa_10_0_i2816_i_i = p_v_r12_sroa_10_0_i2816_i_i;
+    if (v_r8_i22_i_i377_i_i) { goto L_join_3_i_i2875_i_i; } else { p_v_r30_i23_sroa_0_sroa_7_0_ph = 10u; p_v_r30_i23_sroa_0_sroa_10_0_ph = 2u; p_v_r30_i23_sroa_0_sroa_13_0_ph = v_r29_i2655_i_i; goto L_arm_12_i; }
+L_join_3_i_i2875_i_i:;
+    v_r3_i25_i_i2876_i_i = (u64)v_r12_sroa_10_0_i2816_i_i;
+    v_r39_i_i2879_i_i = v_r36_i_i2878_i_i < v_r3_i25_i_i2876_i_i;
+    if (v_r39_i_i2879_i_i) { p_v_r30_i23_sroa_0_sroa_7_0_ph = 1u; p_v_r30_i23_sroa_0_sroa_10_0_ph = 0u; p_v_r30_i23_sroa_0_sroa_13_0_ph = 0u; goto L_arm_12_i; } else { goto L_join_3_i_i2918_i_i; }
+L_join_3_i_i2918_i_i:;
+    v_r16_i_i_i2882_i_i = (P)((uintptr_t)v_r13_sroa_0_0_copyload_i_i2881_i_i + (u64)(v_r3_i25_i_i2876_i_i));
+    v_r19_i_i_i2883_i_i = (u64)((u64)(v_r36_i_i2878_i_i) - (u64)(v_r3_i25_i_i2876_i_i));
+    v_r7_i_i_i2927_i_i = v_r12_sroa_10_0_i2816_i_i == 0u;
+    if (v_r7_i_i_i2927_i_i) { p_v_r30_i23_sroa_0_sroa_7_0_ph = 3u; p_v_r30_i23_sroa_0_sroa_10_0_ph = 2u; p_v_r30_i23_sroa_0_sroa_13_0_ph = 0u; goto L_arm_12_i; } else { goto L_join_8_i_i2928_i_i; }
+L_join_8_i_i2928_i_i:;
+    v_r60_i_i2929_i_i = get_u8(v_r13_sroa_0_0_copyload_i_i2881_i_i);
+    v_r62_i_i2930_i_i = (u8)(v_r60_i_i2929_i_i ^ ((u8)1 << 7)) < (u8)(0u ^ ((u8)1 << 7));
+    if (v_r62_i_i2930_i_i) { p_v_r30_i23_sroa_0_sroa_7_0_ph = 13u; p_v_r30_i23_sroa_0_sroa_10_0_ph = 2u; p_v_r30_i23_sroa_0_sroa_13_0_ph = 0u; goto L_arm_12_i; } else { goto L_join_11_i_i2931_i_i; }
+L_join_11_i_i2931_i_i:;
+    v_r74_i_i2932_i_i = v_r12_sroa_10_0_i2816_i_i != 1u;
+    v_cond_i_i2933_i_i = v_r60_i_i2929_i_i == 0u;
+    v_or_cond_i_i2934_i_i = (u1)(((u32)(v_r74_i_i2932_i_i) & (u32)(v_cond_i_i2933_i_i)) & 1);
+    if (v_or_cond_i_i2934_i_i) { goto L_arm_15_i_i2946_i_i; } else { p_v_r12_sroa_10_i2984_sroa_3_0_ph_i_i = v_r13_sroa_0_0_copyload_i_i2881_i_i; p_v_r12_sroa_10_i2984_sroa_5_0_ph_i_i = v_r3_i25_i_i2876_i_i; goto L_join_3_i_i3000_i_i; }
+L_arm_15_i_i2946_i_i:;
+    v_r84_i_i2947_i_i = v_r13_sroa_0_0_copyload_i_i2881_i_i + 1;
+    v_r87_i_i2948_i_i = get_u8(v_r84_i_i2947_i_i);
+    v_r89_i_i2949_i_i = (u8)(v_r87_i_i2948_i_i ^ ((u8)1 << 7)) > (u8)(255u ^ ((u8)1 << 7));
+    if (v_r89_i_i2949_i_i) { p_v_r30_i23_sroa_0_sroa_7_0_ph = 4u; p_v_r30_i23_sroa_0_sroa_10_0_ph = 2u; p_v_r30_i23_sroa_0_sroa_13_0_ph = 0u; goto L_arm_12_i; } else { goto L_join_20_i_i2950_i_i; }
+L_join_20_i_i2950_i_i:;
+    v_r103_i_i2951_i_i = (u64)((u64)(v_r3_i25_i_i2876_i_i) + (u64)(18446744073709551615ull));
+    { p_v_r12_sroa_10_i2984_sroa_3_0_ph_i_i = v_r84_i_i2947_i_i; p_v_r12_sroa_10_i2984_sroa_5_0_ph_i_i = v_r103_i_i2951_i_i; goto L_join_3_i_i3000_i_i; }
+L_join_3_i_i3000_i_i:;
+    v_r12_sroa_10_i2984_sroa_3_0_ph_i_i = p_v_r12_sroa_10_i2984_sroa_3_0_ph_i_i;
+    v_r12_sroa_10_i2984_sroa_5_0_ph_i_i = p_v_r12_sroa_10_i2984_sroa_5_0_ph_i_i;
+    v_r39_i_i3003_i_i = v_r36_i_i2878_i_i == v_r3_i25_i_i2876_i_i;
+    if (v_r39_i_i3003_i_i) { p_v_r30_i23_sroa_0_sroa_7_0_ph = 1u; p_v_r30_i23_sroa_0_sroa_10_0_ph = 0u; p_v_r30_i23_sroa_0_sroa_13_0_ph = 0u; goto L_arm_12_i; } else { goto L_arm_1_i_i_i842_i_i; }
+L_arm_1_i_i_i842_i_i:;
+    v_r16_i_i_i3006_i_i = v_r16_i_i_i2882_i_i + 1;
+    v_r29_i3008_i_i = get_u8(v_r16_i_i_i2882_i_i);
+    v_r8_i22_i_i846_i_i = v_r29_i3008_i_i == 2u;
+    if (v_r8_i22_i_i846_i_i) { goto L_join_3_i_i3048_i_i; } else { goto L_der_core_header_tag_of_exit_i_i848_i_i; }
+L_der_core_header_tag_of_exit_i_i848_i_i:;
+    v_r9_i3030_i_i = (u8)((u32)(v_r29_i3008_i_i) & (u32)(31u));
+    v_r11_i3031_i_i = v_r9_i3030_i_i != 31u;
+    v_14 = (u8)((u32)(v_r29_i3008_i_i) & (u32)(223u));
+    v_15 = v_14 != 0u;
+    v_r2_0_in_i3032_not_i_i = (u1)(((u32)(v_r11_i3031_i_i) & (u32)(v_15)) & 1);
+    if (v_r2_0_in_i3032_not_i_i) { goto L_join_3_i_i3048_i_i; } else { p_v_r30_i23_sroa_0_sroa_7_0_ph = 11u; p_v_r30_i23_sroa_0_sroa_10_0_ph = v_r29_i3008_i_i; p_v_r30_i23_sroa_0_sroa_13_0_ph = 0u; goto L_arm_12_i; }
+L_join_3_i_i3048_i_i:;
+    v_r39_i_i3051_i_i = v_r19_i_i_i2883_i_i == 1u;
+    if (v_r39_i_i3051_i_i) { p_v_r30_i23_sroa_0_sroa_7_0_ph = 1u; p_v_r30_i23_sroa_0_sroa_10_0_ph = 0u; p_v_r30_i23_sroa_0_sroa_13_0_ph = 0u; goto L_arm_12_i; } else { goto L_arm_1_i59_i_i933_i_i; }
+L_arm_1_i59_i_i933_i_i:;
+    v_r16_i_i_i3054_i_i = v_r16_i_i_i2882_i_i + 2;
+    v_r19_i_i_i3055_i_i = (u64)((u64)(v_r19_i_i_i2883_i_i) + (u64)(18446744073709551614ull));
+    v_r29_i3056_i_i = get_u8(v_r16_i_i_i3006_i_i);
+    v_r51_i62_i_i936_i_i = (u8)(v_r29_i3056_i_i ^ ((u8)1 << 7)) > (u8)(255u ^ ((u8)1 << 7));
+    if (v_r51_i62_i_i936_i_i) { goto L_then_5_i_i_i1064_i_i; } else { goto L_join_7_i63_i_i937_i_i; }
+L_then_5_i_i_i1064_i_i:;
+    v_r56_i73_i_i1065_i_i = (u32)v_r29_i3056_i_i;
+    { p_v_r13_sroa_0_0_copyload_i_i3234_i_i = v_r16_i_i_i3054_i_i; p_v_r36_i_i3231_i_i = v_r19_i_i_i3055_i_i; p_v_r12_sroa_10_0_i3169_i_i = v_r56_i73_i_i1065_i_i; goto L_arm_1_i_i766_i_i; }
+L_join_7_i63_i_i937_i_i:;
+    v_r68_i64_i_i938_i_i = v_r29_i3056_i_i == 128u;
+    if (v_r68_i64_i_i938_i_i) { p_v_r30_i23_sroa_0_sroa_7_0_ph = 2u; p_v_r30_i23_sroa_0_sroa_10_0_ph = 0u; p_v_r30_i23_sroa_0_sroa_13_0_ph = 0u; goto L_arm_12_i; } else { goto L_join_10_i_i_i939_i_i; }
+L_join_10_i_i_i939_i_i:;
+    v_r87_i_i_i940_i_i = v_r29_i3056_i_i > 132u;
+    if (v_r87_i_i_i940_i_i) { p_v_r30_i23_sroa_0_sroa_7_0_ph = 7u; p_v_r30_i23_sroa_0_sroa_10_0_ph = 0u; p_v_r30_i23_sroa_0_sroa_13_0_ph = 0u; goto L_arm_12_i; } else { goto L_join_3_i3097_i_i; }
+L_join_3_i3097_i_i:;
+    v_r106_i_i_i942_i_i = (u8)((u32)(v_r29_i3056_i_i) & (u32)(127u));
+    v_r3_i25_i3098_i_i = (u64)v_r106_i_i_i942_i_i;
+    v_r39_i3101_i_i = v_r19_i_i_i3055_i_i < v_r3_i25_i3098_i_i;
+    if (v_r39_i3101_i_i) { p_v_r30_i23_sroa_0_sroa_7_0_ph = 1u; p_v_r30_i23_sroa_0_sroa_10_0_ph = 0u; p_v_r30_i23_sroa_0_sroa_13_0_ph = 0u; goto L_arm_12_i; } else { goto L_arm_14_i_i_i959_i_i; }
+L_arm_14_i_i_i959_i_i:;
+    v_r16_i_i3105_i_i = (P)((uintptr_t)v_r16_i_i_i3054_i_i + (u64)(v_r3_i25_i3098_i_i));
+    v_r19_i_i3106_i_i = (u64)((u64)(v_r19_i_i_i3055_i_i) - (u64)(v_r3_i25_i3098_i_i));
+    switch (v_r106_i_i_i942_i_i) {
+    case 0u: { p_v_r30_i23_sroa_0_sroa_7_0_ph = 8u; p_v_r30_i23_sroa_0_sroa_10_0_ph = v_r106_i_i_i942_i_i; p_v_r30_i23_sroa_0_sroa_13_0_ph = v_r106_i_i_i942_i_i; goto L_arm_12_i; }
+    case 1u: { goto L_der_core_length_is_overlong_exit3145_i_i; }
+    default: { goto L_join_7_i3142_i_i; }
+    }
+L_join_7_i3142_i_i:;
+    v_r36_i3143_i_i = get_u8(v_r16_i_i_i3054_i_i);
+    v_r38_i3144_i_i = v_r36_i3143_i_i == 0u;
+    if (v_r38_i3144_i_i) { p_v_r30_i23_sroa_0_sroa_7_0_ph = 8u; p_v_r30_i23_sroa_0_sroa_10_0_ph = 0u; p_v_r30_i23_sroa_0_sroa_13_0_ph = 0u; goto L_arm_12_i; } else { goto L_join_7_i82_i_i979_i_i; }
+L_der_core_length_is_overlong_exit3145_i_i:;
+    v_r28_i3139_i_i = get_u8(v_r16_i_i_i3054_i_i);
+    v_r30_i3140_i_i = (u8)(v_r28_i3139_i_i ^ ((u8)1 << 7)) > (u8)(255u ^ ((u8)1 << 7));
+    if (v_r30_i3140_i_i) { p_v_r30_i23_sroa_0_sroa_7_0_ph = 8u; p_v_r30_i23_sroa_0_sroa_10_0_ph = 0u; p_v_r30_i23_sroa_0_sroa_13_0_ph = 0u; goto L_arm_12_i; } else { goto L_then_5_i80_i_i966_i_i; }
+L_then_5_i80_i_i966_i_i:;
+    v_r71_i_i_i968_i_i = (u32)v_r28_i3139_i_i;
+    { p_v_r13_sroa_0_0_copyload_i_i3234_i_i = v_r16_i_i3105_i_i; p_v_r36_i_i3231_i_i = v_r19_i_i3106_i_i; p_v_r12_sroa_10_0_i3169_i_i = v_r71_i_i_i968_i_i; goto L_arm_1_i_i766_i_i; }
+L_join_7_i82_i_i979_i_i:;
+    v_r74_i83_i_i980_i_i = v_r106_i_i_i942_i_i < 3u;
+    if (v_r74_i83_i_i980_i_i) { goto L_then_8_i106_i_i1017_i_i; } else { goto L_join_10_i84_i_i981_i_i; }
+L_then_8_i106_i_i1017_i_i:;
+    v_r81_i107_i_i1018_i_i = v_r16_i_i_i2882_i_i + 3;
+    v_r87_i109_i_i1020_i_i = (u32)v_r36_i3143_i_i;
+    v_r89_i_i_i1021_i_i = (u32)((u32)(v_r87_i109_i_i1020_i_i) << (u32)((8u & 31)));
+    v_r91_i_i_i1022_i_i = get_u8(v_r81_i107_i_i1018_i_i);
+    v_r93_i110_i_i1023_i_i = (u32)v_r91_i_i_i1022_i_i;
+    v_r96_i111_i_i1024_i_i = (u32)((u32)(v_r89_i_i_i1021_i_i) | (u32)(v_r93_i110_i_i1023_i_i));
+    { p_v_r13_sroa_0_0_copyload_i_i3234_i_i = v_r16_i_i3105_i_i; p_v_r36_i_i3231_i_i = v_r19_i_i3106_i_i; p_v_r12_sroa_10_0_i3169_i_i = v_r96_i111_i_i1024_i_i; goto L_arm_1_i_i766_i_i; }
+L_join_10_i84_i_i981_i_i:;
+    v_r99_i85_i_i982_i_i = v_r106_i_i_i942_i_i == 3u;
+    if (v_r99_i85_i_i982_i_i) { goto L_then_11_i95_i_i1004_i_i; } else { goto L_join_13_i86_i_i983_i_i; }
+L_then_11_i95_i_i1004_i_i:;
+    v_r106_i96_i_i1005_i_i = v_r16_i_i_i2882_i_i + 3;
+    v_r108_i97_i_i1006_i_i = v_r16_i_i_i2882_i_i + 4;
+    v_r115_i99_i_i1008_i_i = (u32)v_r36_i3143_i_i;
+    v_r117_i100_i_i1009_i_i = (u32)((u32)(v_r115_i99_i_i1008_i_i) << (u32)((16u & 31)));
+    v_r119_i101_i_i1010_i_i = get_u8(v_r106_i96_i_i1005_i_i);
+    v_r121_i102_i_i1011_i_i = (u32)v_r119_i101_i_i1010_i_i;
+    v_r123_i103_i_i1012_i_i = (u32)((u32)(v_r121_i102_i_i1011_i_i) << (u32)((8u & 31)));
+    v_r126_i104_i_i1013_i_i = (u32)((u32)(v_r123_i103_i_i1012_i_i) | (u32)(v_r117_i100_i_i1009_i_i));
+    v_r128_i_i_i1014_i_i = get_u8(v_r108_i97_i_i1006_i_i);
+    v_r130_i105_i_i1015_i_i = (u32)v_r128_i_i_i1014_i_i;
+    v_r133_i_i_i1016_i_i = (u32)((u32)(v_r126_i104_i_i1013_i_i) | (u32)(v_r130_i105_i_i1015_i_i));
+    { p_v_r13_sroa_0_0_copyload_i_i3234_i_i = v_r16_i_i3105_i_i; p_v_r36_i_i3231_i_i = v_r19_i_i3106_i_i; p_v_r12_sroa_10_0_i3169_i_i = v_r133_i_i_i1016_i_i; goto L_arm_1_i_i766_i_i; }
+L_join_13_i86_i_i983_i_i:;
+    v_r136_i87_i_i984_i_i = v_r106_i_i_i942_i_i < 5u;
+    if (v_r136_i87_i_i984_i_i) { goto L_then_14_i_i_i986_i_i; } else { goto L_join_16_i_i_i985_i_i; }
+L_then_14_i_i_i986_i_i:;
+    v_r143_i88_i_i987_i_i = v_r16_i_i_i2882_i_i + 3;
+    v_r145_i89_i_i988_i_i = v_r16_i_i_i2882_i_i + 4;
+    v_r147_i90_i_i989_i_i = v_r16_i_i_i2882_i_i + 5;
+    v_r155_i92_i_i991_i_i = (u32)v_r36_i3143_i_i;
+    v_r157_i93_i_i992_i_i = (u32)((u32)(v_r155_i92_i_i991_i_i) << (u32)((24u & 31)));
+    v_r159_i94_i_i993_i_i = get_u8(v_r143_i88_i_i987_i_i);
+    v_r161_i_i_i994_i_i = (u32)v_r159_i94_i_i993_i_i;
+    v_r163_i_i_i995_i_i = (u32)((u32)(v_r161_i_i_i994_i_i) << (u32)((16u & 31)));
+    v_r166_i_i_i996_i_i = (u32)((u32)(v_r163_i_i_i995_i_i) | (u32)(v_r157_i93_i_i992_i_i));
+    v_r168_i_i_i997_i_i = get_u8(v_r145_i89_i_i988_i_i);
+    v_r170_i_i_i998_i_i = (u32)v_r168_i_i_i997_i_i;
+    v_r172_i_i_i999_i_i = (u32)((u32)(v_r170_i_i_i998_i_i) << (u32)((8u & 31)));
+    v_r175_i_i_i1000_i_i = (u32)((u32)(v_r166_i_i_i996_i_i) | (u32)(v_r172_i_i_i999_i_i));
+    v_r177_i_i_i1001_i_i = get_u8(v_r147_i90_i_i989_i_i);
+    v_r179_i_i_i1002_i_i = (u32)v_r177_i_i_i1001_i_i;
+    v_r182_i_i_i1003_i_i = (u32)((u32)(v_r175_i_i_i1000_i_i) | (u32)(v_r179_i_i_i1002_i_i));
+    { p_v_r13_sroa_0_0_copyload_i_i3234_i_i = v_r16_i_i3105_i_i; p_v_r36_i_i3231_i_i = v_r19_i_i3106_i_i; p_v_r12_sroa_10_0_i3169_i_i = v_r182_i_i_i1003_i_i; goto L_arm_1_i_i766_i_i; }
+L_join_16_i_i_i985_i_i:;
+    __builtin_trap();
+    __builtin_trap();
+L_arm_1_i_i766_i_i:;
+    v_r13_sroa_0_0_copyload_i_i3234_i_i = p_v_r13_sroa_0_0_copyload_i_i3234_i_i;
+    v_r36_i_i3231_i_i = p_v_r36_i_i3231_i_i;
+    v_r12_sroa_10_0_i3169_i_i = p_v_r12_sroa_10_0_i3169_i_i;
+    if (v_r8_i22_i_i846_i_i) { goto L_join_3_i_i3228_i_i; } else { p_v_r30_i23_sroa_0_sroa_7_0_ph = 10u; p_v_r30_i23_sroa_0_sroa_10_0_ph = 2u; p_v_r30_i23_sroa_0_sroa_13_0_ph = v_r29_i3008_i_i; goto L_arm_12_i; }
+L_join_3_i_i3228_i_i:;
+    v_r3_i25_i_i3229_i_i = (u64)v_r12_sroa_10_0_i3169_i_i;
+    v_r39_i_i3232_i_i = v_r36_i_i3231_i_i < v_r3_i25_i_i3229_i_i;
+    if (v_r39_i_i3232_i_i) { p_v_r30_i23_sroa_0_sroa_7_0_ph = 1u; p_v_r30_i23_sroa_0_sroa_10_0_ph = 0u; p_v_r30_i23_sroa_0_sroa_13_0_ph = 0u; goto L_arm_12_i; } else { goto L_join_3_i_i3271_i_i; }
+L_join_3_i_i3271_i_i:;
+    v_r16_i_i_i3235_i_i = (P)((uintptr_t)v_r13_sroa_0_0_copyload_i_i3234_i_i + (u64)(v_r3_i25_i_i3229_i_i));
+    v_r19_i_i_i3236_i_i = (u64)((u64)(v_r36_i_i3231_i_i) - (u64)(v_r3_i25_i_i3229_i_i));
+    v_r7_i_i_i3280_i_i = v_r12_sroa_10_0_i3169_i_i == 0u;
+    if (v_r7_i_i_i3280_i_i) { p_v_r30_i23_sroa_0_sroa_7_0_ph = 3u; p_v_r30_i23_sroa_0_sroa_10_0_ph = 2u; p_v_r30_i23_sroa_0_sroa_13_0_ph = 0u; goto L_arm_12_i; } else { goto L_join_8_i_i3281_i_i; }
+L_join_8_i_i3281_i_i:;
+    v_r60_i_i3282_i_i = get_u8(v_r13_sroa_0_0_copyload_i_i3234_i_i);
+    v_r62_i_i3283_i_i = (u8)(v_r60_i_i3282_i_i ^ ((u8)1 << 7)) < (u8)(0u ^ ((u8)1 << 7));
+    if (v_r62_i_i3283_i_i) { p_v_r30_i23_sroa_0_sroa_7_0_ph = 13u; p_v_r30_i23_sroa_0_sroa_10_0_ph = 2u; p_v_r30_i23_sroa_0_sroa_13_0_ph = 0u; goto L_arm_12_i; } else { goto L_join_11_i_i3284_i_i; }
+L_join_11_i_i3284_i_i:;
+    v_r74_i_i3285_i_i = v_r12_sroa_10_0_i3169_i_i != 1u;
+    v_cond_i_i3286_i_i = v_r60_i_i3282_i_i == 0u;
+    v_or_cond_i_i3287_i_i = (u1)(((u32)(v_r74_i_i3285_i_i) & (u32)(v_cond_i_i3286_i_i)) & 1);
+    if (v_or_cond_i_i3287_i_i) { goto L_arm_15_i_i3299_i_i; } else { p_v_r12_sroa_10_i3337_sroa_3_0_ph_i_i = v_r13_sroa_0_0_copyload_i_i3234_i_i; p_v_r12_sroa_10_i3337_sroa_5_0_ph_i_i = v_r3_i25_i_i3229_i_i; goto L_join_3_i_i3353_i_i; }
+L_arm_15_i_i3299_i_i:;
+    v_r84_i_i3300_i_i = v_r13_sroa_0_0_copyload_i_i3234_i_i + 1;
+    v_r87_i_i3301_i_i = get_u8(v_r84_i_i3300_i_i);
+    v_r89_i_i3302_i_i = (u8)(v_r87_i_i3301_i_i ^ ((u8)1 << 7)) > (u8)(255u ^ ((u8)1 << 7));
+    if (v_r89_i_i3302_i_i) { p_v_r30_i23_sroa_0_sroa_7_0_ph = 4u; p_v_r30_i23_sroa_0_sroa_10_0_ph = 2u; p_v_r30_i23_sroa_0_sroa_13_0_ph = 0u; goto L_arm_12_i; } else { goto L_join_20_i_i3303_i_i; }
+L_join_20_i_i3303_i_i:;
+    v_r103_i_i3304_i_i = (u64)((u64)(v_r3_i25_i_i3229_i_i) + (u64)(18446744073709551615ull));
+    { p_v_r12_sroa_10_i3337_sroa_3_0_ph_i_i = v_r84_i_i3300_i_i; p_v_r12_sroa_10_i3337_sroa_5_0_ph_i_i = v_r103_i_i3304_i_i; goto L_join_3_i_i3353_i_i; }
+L_join_3_i_i3353_i_i:;
+    v_r12_sroa_10_i3337_sroa_3_0_ph_i_i = p_v_r12_sroa_10_i3337_sroa_3_0_ph_i_i;
+    v_r12_sroa_10_i3337_sroa_5_0_ph_i_i = p_v_r12_sroa_10_i3337_sroa_5_0_ph_i_i;
+    v_r39_i_i3356_i_i = v_r36_i_i3231_i_i == v_r3_i25_i_i3229_i_i;
+    if (v_r39_i_i3356_i_i) { p_v_r30_i23_sroa_0_sroa_7_0_ph = 1u; p_v_r30_i23_sroa_0_sroa_10_0_ph = 0u; p_v_r30_i23_sroa_0_sroa_13_0_ph = 0u; goto L_arm_12_i; } else { goto L_arm_1_i_i_i1311_i_i; }
+L_arm_1_i_i_i1311_i_i:;
+    v_r16_i_i_i3359_i_i = v_r16_i_i_i3235_i_i + 1;
+    v_r29_i3361_i_i = get_u8(v_r16_i_i_i3235_i_i);
+    v_r8_i22_i_i1315_i_i = v_r29_i3361_i_i == 2u;
+    if (v_r8_i22_i_i1315_i_i) { goto L_join_3_i_i3401_i_i; } else { goto L_der_core_header_tag_of_exit_i_i1317_i_i; }
+L_der_core_header_tag_of_exit_i_i1317_i_i:;
+    v_r9_i3383_i_i = (u8)((u32)(v_r29_i3361_i_i) & (u32)(31u));
+    v_r11_i3384_i_i = v_r9_i3383_i_i != 31u;
+    v_16 = (u8)((u32)(v_r29_i3361_i_i) & (u32)(223u));
+    v_17 = v_16 != 0u;
+    v_r2_0_in_i3385_not_i_i = (u1)(((u32)(v_r11_i3384_i_i) & (u32)(v_17)) & 1);
+    if (v_r2_0_in_i3385_not_i_i) { goto L_join_3_i_i3401_i_i; } else { p_v_r30_i23_sroa_0_sroa_7_0_ph = 11u; p_v_r30_i23_sroa_0_sroa_10_0_ph = v_r29_i3361_i_i; p_v_r30_i23_sroa_0_sroa_13_0_ph = 0u; goto L_arm_12_i; }
+L_join_3_i_i3401_i_i:;
+    v_r39_i_i3404_i_i = v_r19_i_i_i3236_i_i == 1u;
+    if (v_r39_i_i3404_i_i) { p_v_r30_i23_sroa_0_sroa_7_0_ph = 1u; p_v_r30_i23_sroa_0_sroa_10_0_ph = 0u; p_v_r30_i23_sroa_0_sroa_13_0_ph = 0u; goto L_arm_12_i; } else { goto L_arm_1_i59_i_i1402_i_i; }
+L_arm_1_i59_i_i1402_i_i:;
+    v_r16_i_i_i3407_i_i = v_r16_i_i_i3235_i_i + 2;
+    v_r19_i_i_i3408_i_i = (u64)((u64)(v_r19_i_i_i3236_i_i) + (u64)(18446744073709551614ull));
+    v_r29_i3409_i_i = get_u8(v_r16_i_i_i3359_i_i);
+    v_r51_i62_i_i1405_i_i = (u8)(v_r29_i3409_i_i ^ ((u8)1 << 7)) > (u8)(255u ^ ((u8)1 << 7));
+    if (v_r51_i62_i_i1405_i_i) { goto L_then_5_i_i_i1533_i_i; } else { goto L_join_7_i63_i_i1406_i_i; }
+L_then_5_i_i_i1533_i_i:;
+    v_r56_i73_i_i1534_i_i = (u32)v_r29_i3409_i_i;
+    { p_v_r13_sroa_0_0_copyload_i_i3587_i_i = v_r16_i_i_i3407_i_i; p_v_r36_i_i3584_i_i = v_r19_i_i_i3408_i_i; p_v_r12_sroa_10_0_i3522_i_i = v_r56_i73_i_i1534_i_i; goto L_arm_1_i_i1235_i_i; }
+L_join_7_i63_i_i1406_i_i:;
+    v_r68_i64_i_i1407_i_i = v_r29_i3409_i_i == 128u;
+    if (v_r68_i64_i_i1407_i_i) { p_v_r30_i23_sroa_0_sroa_7_0_ph = 2u; p_v_r30_i23_sroa_0_sroa_10_0_ph = 0u; p_v_r30_i23_sroa_0_sroa_13_0_ph = 0u; goto L_arm_12_i; } else { goto L_join_10_i_i_i1408_i_i; }
+L_join_10_i_i_i1408_i_i:;
+    v_r87_i_i_i1409_i_i = v_r29_i3409_i_i > 132u;
+    if (v_r87_i_i_i1409_i_i) { p_v_r30_i23_sroa_0_sroa_7_0_ph = 7u; p_v_r30_i23_sroa_0_sroa_10_0_ph = 0u; p_v_r30_i23_sroa_0_sroa_13_0_ph = 0u; goto L_arm_12_i; } else { goto L_join_3_i3450_i_i; }
+L_join_3_i3450_i_i:;
+    v_r106_i_i_i1411_i_i = (u8)((u32)(v_r29_i3409_i_i) & (u32)(127u));
+    v_r3_i25_i3451_i_i = (u64)v_r106_i_i_i1411_i_i;
+    v_r39_i3454_i_i = v_r19_i_i_i3408_i_i < v_r3_i25_i3451_i_i;
+    if (v_r39_i3454_i_i) { p_v_r30_i23_sroa_0_sroa_7_0_ph = 1u; p_v_r30_i23_sroa_0_sroa_10_0_ph = 0u; p_v_r30_i23_sroa_0_sroa_13_0_ph = 0u; goto L_arm_12_i; } else { goto L_arm_14_i_i_i1428_i_i; }
+L_arm_14_i_i_i1428_i_i:;
+    v_r16_i_i3458_i_i = (P)((uintptr_t)v_r16_i_i_i3407_i_i + (u64)(v_r3_i25_i3451_i_i));
+    v_r19_i_i3459_i_i = (u64)((u64)(v_r19_i_i_i3408_i_i) - (u64)(v_r3_i25_i3451_i_i));
+    switch (v_r106_i_i_i1411_i_i) {
+    case 0u: { p_v_r30_i23_sroa_0_sroa_7_0_ph = 8u; p_v_r30_i23_sroa_0_sroa_10_0_ph = v_r106_i_i_i1411_i_i; p_v_r30_i23_sroa_0_sroa_13_0_ph = v_r106_i_i_i1411_i_i; goto L_arm_12_i; }
+    case 1u: { goto L_der_core_length_is_overlong_exit3498_i_i; }
+    default: { goto L_join_7_i3495_i_i; }
+    }
+L_join_7_i3495_i_i:;
+    v_r36_i3496_i_i = get_u8(v_r16_i_i_i3407_i_i);
+    v_r38_i3497_i_i = v_r36_i3496_i_i == 0u;
+    if (v_r38_i3497_i_i) { p_v_r30_i23_sroa_0_sroa_7_0_ph = 8u; p_v_r30_i23_sroa_0_sroa_10_0_ph = 0u; p_v_r30_i23_sroa_0_sroa_13_0_ph = 0u; goto L_arm_12_i; } else { goto L_join_7_i82_i_i1448_i_i; }
+L_der_core_length_is_overlong_exit3498_i_i:;
+    v_r28_i3492_i_i = get_u8(v_r16_i_i_i3407_i_i);
+    v_r30_i3493_i_i = (u8)(v_r28_i3492_i_i ^ ((u8)1 << 7)) > (u8)(255u ^ ((u8)1 << 7));
+    if (v_r30_i3493_i_i) { p_v_r30_i23_sroa_0_sroa_7_0_ph = 8u; p_v_r30_i23_sroa_0_sroa_10_0_ph = 0u; p_v_r30_i23_sroa_0_sroa_13_0_ph = 0u; goto L_arm_12_i; } else { goto L_then_5_i80_i_i1435_i_i; }
+L_then_5_i80_i_i1435_i_i:;
+    v_r71_i_i_i1437_i_i = (u32)v_r28_i3492_i_i;
+    { p_v_r13_sroa_0_0_copyload_i_i3587_i_i = v_r16_i_i3458_i_i; p_v_r36_i_i3584_i_i = v_r19_i_i3459_i_i; p_v_r12_sroa_10_0_i3522_i_i = v_r71_i_i_i1437_i_i; goto L_arm_1_i_i1235_i_i; }
+L_join_7_i82_i_i1448_i_i:;
+    v_r74_i83_i_i1449_i_i = v_r106_i_i_i1411_i_i < 3u;
+    if (v_r74_i83_i_i1449_i_i) { goto L_then_8_i106_i_i1486_i_i; } else { goto L_join_10_i84_i_i1450_i_i; }
+L_then_8_i106_i_i1486_i_i:;
+    v_r81_i107_i_i1487_i_i = v_r16_i_i_i3235_i_i + 3;
+    v_r87_i109_i_i1489_i_i = (u32)v_r36_i3496_i_i;
+    v_r89_i_i_i1490_i_i = (u32)((u32)(v_r87_i109_i_i1489_i_i) << (u32)((8u & 31)));
+    v_r91_i_i_i1491_i_i = get_u8(v_r81_i107_i_i1487_i_i);
+    v_r93_i110_i_i1492_i_i = (u32)v_r91_i_i_i1491_i_i;
+    v_r96_i111_i_i1493_i_i = (u32)((u32)(v_r89_i_i_i1490_i_i) | (u32)(v_r93_i110_i_i1492_i_i));
+    { p_v_r13_sroa_0_0_copyload_i_i3587_i_i = v_r16_i_i3458_i_i; p_v_r36_i_i3584_i_i = v_r19_i_i3459_i_i; p_v_r12_sroa_10_0_i3522_i_i = v_r96_i111_i_i1493_i_i; goto L_arm_1_i_i1235_i_i; }
+L_join_10_i84_i_i1450_i_i:;
+    v_r99_i85_i_i1451_i_i = v_r106_i_i_i1411_i_i == 3u;
+    if (v_r99_i85_i_i1451_i_i) { goto L_then_11_i95_i_i1473_i_i; } else { goto L_join_13_i86_i_i1452_i_i; }
+L_then_11_i95_i_i1473_i_i:;
+    v_r106_i96_i_i1474_i_i = v_r16_i_i_i3235_i_i + 3;
+    v_r108_i97_i_i1475_i_i = v_r16_i_i_i3235_i_i + 4;
+    v_r115_i99_i_i1477_i_i = (u32)v_r36_i3496_i_i;
+    v_r117_i100_i_i1478_i_i = (u32)((u32)(v_r115_i99_i_i1477_i_i) << (u32)((16u & 31)));
+    v_r119_i101_i_i1479_i_i = get_u8(v_r106_i96_i_i1474_i_i);
+    v_r121_i102_i_i1480_i_i = (u32)v_r119_i101_i_i1479_i_i;
+    v_r123_i103_i_i1481_i_i = (u32)((u32)(v_r121_i102_i_i1480_i_i) << (u32)((8u & 31)));
+    v_r126_i104_i_i1482_i_i = (u32)((u32)(v_r123_i103_i_i1481_i_i) | (u32)(v_r117_i100_i_i1478_i_i));
+    v_r128_i_i_i1483_i_i = get_u8(v_r108_i97_i_i1475_i_i);
+    v_r130_i105_i_i1484_i_i = (u32)v_r128_i_i_i1483_i_i;
+    v_r133_i_i_i1485_i_i = (u32)((u32)(v_r126_i104_i_i1482_i_i) | (u32)(v_r130_i105_i_i1484_i_i));
+    { p_v_r13_sroa_0_0_copyload_i_i3587_i_i = v_r16_i_i3458_i_i; p_v_r36_i_i3584_i_i = v_r19_i_i3459_i_i; p_v_r12_sroa_10_0_i3522_i_i = v_r133_i_i_i1485_i_i; goto L_arm_1_i_i1235_i_i; }
+L_join_13_i86_i_i1452_i_i:;
+    v_r136_i87_i_i1453_i_i = v_r106_i_i_i1411_i_i < 5u;
+    if (v_r136_i87_i_i1453_i_i) { goto L_then_14_i_i_i1455_i_i; } else { goto L_join_16_i_i_i1454_i_i; }
+L_then_14_i_i_i1455_i_i:;
+    v_r143_i88_i_i1456_i_i = v_r16_i_i_i3235_i_i + 3;
+    v_r145_i89_i_i1457_i_i = v_r16_i_i_i3235_i_i + 4;
+    v_r147_i90_i_i1458_i_i = v_r16_i_i_i3235_i_i + 5;
+    v_r155_i92_i_i1460_i_i = (u32)v_r36_i3496_i_i;
+    v_r157_i93_i_i1461_i_i = (u32)((u32)(v_r155_i92_i_i1460_i_i) << (u32)((24u & 31)));
+    v_r159_i94_i_i1462_i_i = get_u8(v_r143_i88_i_i1456_i_i);
+    v_r161_i_i_i1463_i_i = (u32)v_r159_i94_i_i1462_i_i;
+    v_r163_i_i_i1464_i_i = (u32)((u32)(v_r161_i_i_i1463_i_i) << (u32)((16u & 31)));
+    v_r166_i_i_i1465_i_i = (u32)((u32)(v_r163_i_i_i1464_i_i) | (u32)(v_r157_i93_i_i1461_i_i));
+    v_r168_i_i_i1466_i_i = get_u8(v_r145_i89_i_i1457_i_i);
+    v_r170_i_i_i1467_i_i = (u32)v_r168_i_i_i1466_i_i;
+    v_r172_i_i_i1468_i_i = (u32)((u32)(v_r170_i_i_i1467_i_i) << (u32)((8u & 31)));
+    v_r175_i_i_i1469_i_i = (u32)((u32)(v_r166_i_i_i1465_i_i) | (u32)(v_r172_i_i_i1468_i_i));
+    v_r177_i_i_i1470_i_i = get_u8(v_r147_i90_i_i1458_i_i);
+    v_r179_i_i_i1471_i_i = (u32)v_r177_i_i_i1470_i_i;
+    v_r182_i_i_i1472_i_i = (u32)((u32)(v_r175_i_i_i1469_i_i) | (u32)(v_r179_i_i_i1471_i_i));
+    { p_v_r13_sroa_0_0_copyload_i_i3587_i_i = v_r16_i_i3458_i_i; p_v_r36_i_i3584_i_i = v_r19_i_i3459_i_i; p_v_r12_sroa_10_0_i3522_i_i = v_r182_i_i_i1472_i_i; goto L_arm_1_i_i1235_i_i; }
+L_join_16_i_i_i1454_i_i:;
+    __builtin_trap();
+    __builtin_trap();
+L_arm_1_i_i1235_i_i:;
+    v_r13_sroa_0_0_copyload_i_i3587_i_i = p_v_r13_sroa_0_0_copyload_i_i3587_i_i;
+    v_r36_i_i3584_i_i = p_v_r36_i_i3584_i_i;
+    v_r12_sroa_10_0_i3522_i_i = p_v_r12_sroa_10_0_i3522_i_i;
+    if (v_r8_i22_i_i1315_i_i) { goto L_join_3_i_i3581_i_i; } else { p_v_r30_i23_sroa_0_sroa_7_0_ph = 10u; p_v_r30_i23_sroa_0_sroa_10_0_ph = 2u; p_v_r30_i23_sroa_0_sroa_13_0_ph = v_r29_i3361_i_i; goto L_arm_12_i; }
+L_join_3_i_i3581_i_i:;
+    v_r3_i25_i_i3582_i_i = (u64)v_r12_sroa_10_0_i3522_i_i;
+    v_r39_i_i3585_i_i = v_r36_i_i3584_i_i < v_r3_i25_i_i3582_i_i;
+    if (v_r39_i_i3585_i_i) { p_v_r30_i23_sroa_0_sroa_7_0_ph = 1u; p_v_r30_i23_sroa_0_sroa_10_0_ph = 0u; p_v_r30_i23_sroa_0_sroa_13_0_ph = 0u; goto L_arm_12_i; } else { goto L_join_3_i_i3624_i_i; }
+L_join_3_i_i3624_i_i:;
+    v_r16_i_i_i3588_i_i = (P)((uintptr_t)v_r13_sroa_0_0_copyload_i_i3587_i_i + (u64)(v_r3_i25_i_i3582_i_i));
+    v_r19_i_i_i3589_i_i = (u64)((u64)(v_r36_i_i3584_i_i) - (u64)(v_r3_i25_i_i3582_i_i));
+    v_r7_i_i_i3633_i_i = v_r12_sroa_10_0_i3522_i_i == 0u;
+    if (v_r7_i_i_i3633_i_i) { p_v_r30_i23_sroa_0_sroa_7_0_ph = 3u; p_v_r30_i23_sroa_0_sroa_10_0_ph = 2u; p_v_r30_i23_sroa_0_sroa_13_0_ph = 0u; goto L_arm_12_i; } else { goto L_join_8_i_i3634_i_i; }
+L_join_8_i_i3634_i_i:;
+    v_r60_i_i3635_i_i = get_u8(v_r13_sroa_0_0_copyload_i_i3587_i_i);
+    v_r62_i_i3636_i_i = (u8)(v_r60_i_i3635_i_i ^ ((u8)1 << 7)) < (u8)(0u ^ ((u8)1 << 7));
+    if (v_r62_i_i3636_i_i) { p_v_r30_i23_sroa_0_sroa_7_0_ph = 13u; p_v_r30_i23_sroa_0_sroa_10_0_ph = 2u; p_v_r30_i23_sroa_0_sroa_13_0_ph = 0u; goto L_arm_12_i; } else { goto L_join_11_i_i3637_i_i; }
+L_join_11_i_i3637_i_i:;
+    v_r74_i_i3638_i_i = v_r12_sroa_10_0_i3522_i_i != 1u;
+    v_cond_i_i3639_i_i = v_r60_i_i3635_i_i == 0u;
+    v_or_cond_i_i3640_i_i = (u1)(((u32)(v_r74_i_i3638_i_i) & (u32)(v_cond_i_i3639_i_i)) & 1);
+    if (v_or_cond_i_i3640_i_i) { goto L_arm_15_i_i3652_i_i; } else { p_v_r12_sroa_10_i3690_sroa_3_0_ph_i_i = v_r13_sroa_0_0_copyload_i_i3587_i_i; p_v_r12_sroa_10_i3690_sroa_5_0_ph_i_i = v_r3_i25_i_i3582_i_i; goto L_join_3_i_i3706_i_i; }
+L_arm_15_i_i3652_i_i:;
+    v_r84_i_i3653_i_i = v_r13_sroa_0_0_copyload_i_i3587_i_i + 1;
+    v_r87_i_i3654_i_i = get_u8(v_r84_i_i3653_i_i);
+    v_r89_i_i3655_i_i = (u8)(v_r87_i_i3654_i_i ^ ((u8)1 << 7)) > (u8)(255u ^ ((u8)1 << 7));
+    if (v_r89_i_i3655_i_i) { p_v_r30_i23_sroa_0_sroa_7_0_ph = 4u; p_v_r30_i23_sroa_0_sroa_10_0_ph = 2u; p_v_r30_i23_sroa_0_sroa_13_0_ph = 0u; goto L_arm_12_i; } else { goto L_join_20_i_i3656_i_i; }
+L_join_20_i_i3656_i_i:;
+    v_r103_i_i3657_i_i = (u64)((u64)(v_r3_i25_i_i3582_i_i) + (u64)(18446744073709551615ull));
+    { p_v_r12_sroa_10_i3690_sroa_3_0_ph_i_i = v_r84_i_i3653_i_i; p_v_r12_sroa_10_i3690_sroa_5_0_ph_i_i = v_r103_i_i3657_i_i; goto L_join_3_i_i3706_i_i; }
+L_join_3_i_i3706_i_i:;
+    v_r12_sroa_10_i3690_sroa_3_0_ph_i_i = p_v_r12_sroa_10_i3690_sroa_3_0_ph_i_i;
+    v_r12_sroa_10_i3690_sroa_5_0_ph_i_i = p_v_r12_sroa_10_i3690_sroa_5_0_ph_i_i;
+    v_r39_i_i3709_i_i = v_r36_i_i3584_i_i == v_r3_i25_i_i3582_i_i;
+    if (v_r39_i_i3709_i_i) { p_v_r30_i23_sroa_0_sroa_7_0_ph = 1u; p_v_r30_i23_sroa_0_sroa_10_0_ph = 0u; p_v_r30_i23_sroa_0_sroa_13_0_ph = 0u; goto L_arm_12_i; } else { goto L_arm_1_i_i_i1768_i_i; }
+L_arm_1_i_i_i1768_i_i:;
+    v_r16_i_i_i3712_i_i = v_r16_i_i_i3588_i_i + 1;
+    v_r29_i3714_i_i = get_u8(v_r16_i_i_i3588_i_i);
+    v_r8_i22_i_i1772_i_i = v_r29_i3714_i_i == 2u;
+    if (v_r8_i22_i_i1772_i_i) { goto L_join_3_i_i3754_i_i; } else { goto L_der_core_header_tag_of_exit_i_i1774_i_i; }
+L_der_core_header_tag_of_exit_i_i1774_i_i:;
+    v_r9_i3736_i_i = (u8)((u32)(v_r29_i3714_i_i) & (u32)(31u));
+    v_r11_i3737_i_i = v_r9_i3736_i_i != 31u;
+    v_18 = (u8)((u32)(v_r29_i3714_i_i) & (u32)(223u));
+    v_19 = v_18 != 0u;
+    v_r2_0_in_i3738_not_i_i = (u1)(((u32)(v_r11_i3737_i_i) & (u32)(v_19)) & 1);
+    if (v_r2_0_in_i3738_not_i_i) { goto L_join_3_i_i3754_i_i; } else { p_v_r30_i23_sroa_0_sroa_7_0_ph = 11u; p_v_r30_i23_sroa_0_sroa_10_0_ph = v_r29_i3714_i_i; p_v_r30_i23_sroa_0_sroa_13_0_ph = 0u; goto L_arm_12_i; }
+L_join_3_i_i3754_i_i:;
+    v_r39_i_i3757_i_i = v_r19_i_i_i3589_i_i == 1u;
+    if (v_r39_i_i3757_i_i) { p_v_r30_i23_sroa_0_sroa_7_0_ph = 1u; p_v_r30_i23_sroa_0_sroa_10_0_ph = 0u; p_v_r30_i23_sroa_0_sroa_13_0_ph = 0u; goto L_arm_12_i; } else { goto L_arm_1_i59_i_i1859_i_i; }
+L_arm_1_i59_i_i1859_i_i:;
+    v_r16_i_i_i3760_i_i = v_r16_i_i_i3588_i_i + 2;
+    v_r19_i_i_i3761_i_i = (u64)((u64)(v_r19_i_i_i3589_i_i) + (u64)(18446744073709551614ull));
+    v_r29_i3762_i_i = get_u8(v_r16_i_i_i3712_i_i);
+    v_r51_i62_i_i1862_i_i = (u8)(v_r29_i3762_i_i ^ ((u8)1 << 7)) > (u8)(255u ^ ((u8)1 << 7));
+    if (v_r51_i62_i_i1862_i_i) { goto L_then_5_i_i_i1990_i_i; } else { goto L_join_7_i63_i_i1863_i_i; }
+L_then_5_i_i_i1990_i_i:;
+    v_r56_i73_i_i1991_i_i = (u32)v_r29_i3762_i_i;
+    { p_v_r13_sroa_0_0_copyload_i_i3940_i_i = v_r16_i_i_i3760_i_i; p_v_r36_i_i3937_i_i = v_r19_i_i_i3761_i_i; p_v_r12_sroa_10_0_i3875_i_i = v_r56_i73_i_i1991_i_i; goto L_arm_1_i_i1692_i_i; }
+L_join_7_i63_i_i1863_i_i:;
+    v_r68_i64_i_i1864_i_i = v_r29_i3762_i_i == 128u;
+    if (v_r68_i64_i_i1864_i_i) { p_v_r30_i23_sroa_0_sroa_7_0_ph = 2u; p_v_r30_i23_sroa_0_sroa_10_0_ph = 0u; p_v_r30_i23_sroa_0_sroa_13_0_ph = 0u; goto L_arm_12_i; } else { goto L_join_10_i_i_i1865_i_i; }
+L_join_10_i_i_i1865_i_i:;
+    v_r87_i_i_i1866_i_i = v_r29_i3762_i_i > 132u;
+    if (v_r87_i_i_i1866_i_i) { p_v_r30_i23_sroa_0_sroa_7_0_ph = 7u; p_v_r30_i23_sroa_0_sroa_10_0_ph = 0u; p_v_r30_i23_sroa_0_sroa_13_0_ph = 0u; goto L_arm_12_i; } else { goto L_join_3_i3803_i_i; }
+L_join_3_i3803_i_i:;
+    v_r106_i_i_i1868_i_i = (u8)((u32)(v_r29_i3762_i_i) & (u32)(127u));
+    v_r3_i25_i3804_i_i = (u64)v_r106_i_i_i1868_i_i;
+    v_r39_i3807_i_i = v_r19_i_i_i3761_i_i < v_r3_i25_i3804_i_i;
+    if (v_r39_i3807_i_i) { p_v_r30_i23_sroa_0_sroa_7_0_ph = 1u; p_v_r30_i23_sroa_0_sroa_10_0_ph = 0u; p_v_r30_i23_sroa_0_sroa_13_0_ph = 0u; goto L_arm_12_i; } else { goto L_arm_14_i_i_i1885_i_i; }
+L_arm_14_i_i_i1885_i_i:;
+    v_r16_i_i3811_i_i = (P)((uintptr_t)v_r16_i_i_i3760_i_i + (u64)(v_r3_i25_i3804_i_i));
+    v_r19_i_i3812_i_i = (u64)((u64)(v_r19_i_i_i3761_i_i) - (u64)(v_r3_i25_i3804_i_i));
+    switch (v_r106_i_i_i1868_i_i) {
+    case 0u: { p_v_r30_i23_sroa_0_sroa_7_0_ph = 8u; p_v_r30_i23_sroa_0_sroa_10_0_ph = v_r106_i_i_i1868_i_i; p_v_r30_i23_sroa_0_sroa_13_0_ph = v_r106_i_i_i1868_i_i; goto L_arm_12_i; }
+    case 1u: { goto L_der_core_length_is_overlong_exit3851_i_i; }
+    default: { goto L_join_7_i3848_i_i; }
+    }
+L_join_7_i3848_i_i:;
+    v_r36_i3849_i_i = get_u8(v_r16_i_i_i3760_i_i);
+    v_r38_i3850_i_i = v_r36_i3849_i_i == 0u;
+    if (v_r38_i3850_i_i) { p_v_r30_i23_sroa_0_sroa_7_0_ph = 8u; p_v_r30_i23_sroa_0_sroa_10_0_ph = 0u; p_v_r30_i23_sroa_0_sroa_13_0_ph = 0u; goto L_arm_12_i; } else { goto L_join_7_i82_i_i1905_i_i; }
+L_der_core_length_is_overlong_exit3851_i_i:;
+    v_r28_i3845_i_i = get_u8(v_r16_i_i_i3760_i_i);
+    v_r30_i3846_i_i = (u8)(v_r28_i3845_i_i ^ ((u8)1 << 7)) > (u8)(255u ^ ((u8)1 << 7));
+    if (v_r30_i3846_i_i) { p_v_r30_i23_sroa_0_sroa_7_0_ph = 8u; p_v_r30_i23_sroa_0_sroa_10_0_ph = 0u; p_v_r30_i23_sroa_0_sroa_13_0_ph = 0u; goto L_arm_12_i; } else { goto L_then_5_i80_i_i1892_i_i; }
+L_then_5_i80_i_i1892_i_i:;
+    v_r71_i_i_i1894_i_i = (u32)v_r28_i3845_i_i;
+    { p_v_r13_sroa_0_0_copyload_i_i3940_i_i = v_r16_i_i3811_i_i; p_v_r36_i_i3937_i_i = v_r19_i_i3812_i_i; p_v_r12_sroa_10_0_i3875_i_i = v_r71_i_i_i1894_i_i; goto L_arm_1_i_i1692_i_i; }
+L_join_7_i82_i_i1905_i_i:;
+    v_r74_i83_i_i1906_i_i = v_r106_i_i_i1868_i_i < 3u;
+    if (v_r74_i83_i_i1906_i_i) { goto L_then_8_i106_i_i1943_i_i; } else { goto L_join_10_i84_i_i1907_i_i; }
+L_then_8_i106_i_i1943_i_i:;
+    v_r81_i107_i_i1944_i_i = v_r16_i_i_i3588_i_i + 3;
+    v_r87_i109_i_i1946_i_i = (u32)v_r36_i3849_i_i;
+    v_r89_i_i_i1947_i_i = (u32)((u32)(v_r87_i109_i_i1946_i_i) << (u32)((8u & 31)));
+    v_r91_i_i_i1948_i_i = get_u8(v_r81_i107_i_i1944_i_i);
+    v_r93_i110_i_i1949_i_i = (u32)v_r91_i_i_i1948_i_i;
+    v_r96_i111_i_i1950_i_i = (u32)((u32)(v_r89_i_i_i1947_i_i) | (u32)(v_r93_i110_i_i1949_i_i));
+    { p_v_r13_sroa_0_0_copyload_i_i3940_i_i = v_r16_i_i3811_i_i; p_v_r36_i_i3937_i_i = v_r19_i_i3812_i_i; p_v_r12_sroa_10_0_i3875_i_i = v_r96_i111_i_i1950_i_i; goto L_arm_1_i_i1692_i_i; }
+L_join_10_i84_i_i1907_i_i:;
+    v_r99_i85_i_i1908_i_i = v_r106_i_i_i1868_i_i == 3u;
+    if (v_r99_i85_i_i1908_i_i) { goto L_then_11_i95_i_i1930_i_i; } else { goto L_join_13_i86_i_i1909_i_i; }
+L_then_11_i95_i_i1930_i_i:;
+    v_r106_i96_i_i1931_i_i = v_r16_i_i_i3588_i_i + 3;
+    v_r108_i97_i_i1932_i_i = v_r16_i_i_i3588_i_i + 4;
+    v_r115_i99_i_i1934_i_i = (u32)v_r36_i3849_i_i;
+    v_r117_i100_i_i1935_i_i = (u32)((u32)(v_r115_i99_i_i1934_i_i) << (u32)((16u & 31)));
+    v_r119_i101_i_i1936_i_i = get_u8(v_r106_i96_i_i1931_i_i);
+    v_r121_i102_i_i1937_i_i = (u32)v_r119_i101_i_i1936_i_i;
+    v_r123_i103_i_i1938_i_i = (u32)((u32)(v_r121_i102_i_i1937_i_i) << (u32)((8u & 31)));
+    v_r126_i104_i_i1939_i_i = (u32)((u32)(v_r123_i103_i_i1938_i_i) | (u32)(v_r117_i100_i_i1935_i_i));
+    v_r128_i_i_i1940_i_i = get_u8(v_r108_i97_i_i1932_i_i);
+    v_r130_i105_i_i1941_i_i = (u32)v_r128_i_i_i1940_i_i;
+    v_r133_i_i_i1942_i_i = (u32)((u32)(v_r126_i104_i_i1939_i_i) | (u32)(v_r130_i105_i_i1941_i_i));
+    { p_v_r13_sroa_0_0_copyload_i_i3940_i_i = v_r16_i_i3811_i_i; p_v_r36_i_i3937_i_i = v_r19_i_i3812_i_i; p_v_r12_sroa_10_0_i3875_i_i = v_r133_i_i_i1942_i_i; goto L_arm_1_i_i1692_i_i; }
+L_join_13_i86_i_i1909_i_i:;
+    v_r136_i87_i_i1910_i_i = v_r106_i_i_i1868_i_i < 5u;
+    if (v_r136_i87_i_i1910_i_i) { goto L_then_14_i_i_i1912_i_i; } else { goto L_join_16_i_i_i1911_i_i; }
+L_then_14_i_i_i1912_i_i:;
+    v_r143_i88_i_i1913_i_i = v_r16_i_i_i3588_i_i + 3;
+    v_r145_i89_i_i1914_i_i = v_r16_i_i_i3588_i_i + 4;
+    v_r147_i90_i_i1915_i_i = v_r16_i_i_i3588_i_i + 5;
+    v_r155_i92_i_i1917_i_i = (u32)v_r36_i3849_i_i;
+    v_r157_i93_i_i1918_i_i = (u32)((u32)(v_r155_i92_i_i1917_i_i) << (u32)((24u & 31)));
+    v_r159_i94_i_i1919_i_i = get_u8(v_r143_i88_i_i1913_i_i);
+    v_r161_i_i_i1920_i_i = (u32)v_r159_i94_i_i1919_i_i;
+    v_r163_i_i_i1921_i_i = (u32)((u32)(v_r161_i_i_i1920_i_i) << (u32)((16u & 31)));
+    v_r166_i_i_i1922_i_i = (u32)((u32)(v_r163_i_i_i1921_i_i) | (u32)(v_r157_i93_i_i1918_i_i));
+    v_r168_i_i_i1923_i_i = get_u8(v_r145_i89_i_i1914_i_i);
+    v_r170_i_i_i1924_i_i = (u32)v_r168_i_i_i1923_i_i;
+    v_r172_i_i_i1925_i_i = (u32)((u32)(v_r170_i_i_i1924_i_i) << (u32)((8u & 31)));
+    v_r175_i_i_i1926_i_i = (u32)((u32)(v_r166_i_i_i1922_i_i) | (u32)(v_r172_i_i_i1925_i_i));
+    v_r177_i_i_i1927_i_i = get_u8(v_r147_i90_i_i1915_i_i);
+    v_r179_i_i_i1928_i_i = (u32)v_r177_i_i_i1927_i_i;
+    v_r182_i_i_i1929_i_i = (u32)((u32)(v_r175_i_i_i1926_i_i) | (u32)(v_r179_i_i_i1928_i_i));
+    { p_v_r13_sroa_0_0_copyload_i_i3940_i_i = v_r16_i_i3811_i_i; p_v_r36_i_i3937_i_i = v_r19_i_i3812_i_i; p_v_r12_sroa_10_0_i3875_i_i = v_r182_i_i_i1929_i_i; goto L_arm_1_i_i1692_i_i; }
+L_join_16_i_i_i1911_i_i:;
+    __builtin_trap();
+    __builtin_trap();
+L_arm_1_i_i1692_i_i:;
+    v_r13_sroa_0_0_copyload_i_i3940_i_i = p_v_r13_sroa_0_0_copyload_i_i3940_i_i;
+    v_r36_i_i3937_i_i = p_v_r36_i_i3937_i_i;
+    v_r12_sroa_10_0_i3875_i_i = p_v_r12_sroa_10_0_i3875_i_i;
+    if (v_r8_i22_i_i1772_i_i) { goto L_join_3_i_i3934_i_i; } else { p_v_r30_i23_sroa_0_sroa_7_0_ph = 10u; p_v_r30_i23_sroa_0_sroa_10_0_ph = 2u; p_v_r30_i23_sroa_0_sroa_13_0_ph = v_r29_i3714_i_i; goto L_arm_12_i; }
+L_join_3_i_i3934_i_i:;
+    v_r3_i25_i_i3935_i_i = (u64)v_r12_sroa_10_0_i3875_i_i;
+    v_r39_i_i3938_i_i = v_r36_i_i3937_i_i < v_r3_i25_i_i3935_i_i;
+    if (v_r39_i_i3938_i_i) { p_v_r30_i23_sroa_0_sroa_7_0_ph = 1u; p_v_r30_i23_sroa_0_sroa_10_0_ph = 0u; p_v_r30_i23_sroa_0_sroa_13_0_ph = 0u; goto L_arm_12_i; } else { goto L_join_3_i_i3977_i_i; }
+L_join_3_i_i3977_i_i:;
+    v_r16_i_i_i3941_i_i = (P)((uintptr_t)v_r13_sroa_0_0_copyload_i_i3940_i_i + (u64)(v_r3_i25_i_i3935_i_i));
+    v_r19_i_i_i3942_i_i = (u64)((u64)(v_r36_i_i3937_i_i) - (u64)(v_r3_i25_i_i3935_i_i));
+    v_r7_i_i_i3986_i_i = v_r12_sroa_10_0_i3875_i_i == 0u;
+    if (v_r7_i_i_i3986_i_i) { p_v_r30_i23_sroa_0_sroa_7_0_ph = 3u; p_v_r30_i23_sroa_0_sroa_10_0_ph = 2u; p_v_r30_i23_sroa_0_sroa_13_0_ph = 0u; goto L_arm_12_i; } else { goto L_join_8_i_i3987_i_i; }
+L_join_8_i_i3987_i_i:;
+    v_r60_i_i3988_i_i = get_u8(v_r13_sroa_0_0_copyload_i_i3940_i_i);
+    v_r62_i_i3989_i_i = (u8)(v_r60_i_i3988_i_i ^ ((u8)1 << 7)) < (u8)(0u ^ ((u8)1 << 7));
+    if (v_r62_i_i3989_i_i) { p_v_r30_i23_sroa_0_sroa_7_0_ph = 13u; p_v_r30_i23_sroa_0_sroa_10_0_ph = 2u; p_v_r30_i23_sroa_0_sroa_13_0_ph = 0u; goto L_arm_12_i; } else { goto L_join_11_i_i3990_i_i; }
+L_join_11_i_i3990_i_i:;
+    v_r74_i_i3991_i_i = v_r12_sroa_10_0_i3875_i_i != 1u;
+    v_cond_i_i3992_i_i = v_r60_i_i3988_i_i == 0u;
+    v_or_cond_i_i3993_i_i = (u1)(((u32)(v_r74_i_i3991_i_i) & (u32)(v_cond_i_i3992_i_i)) & 1);
+    if (v_or_cond_i_i3993_i_i) { goto L_arm_15_i_i4005_i_i; } else { p_v_r12_sroa_10_i1786_sroa_18_0_ph_i = v_r13_sroa_0_0_copyload_i_i3940_i_i; p_v_r12_sroa_10_i1786_sroa_19_0_ph_i = v_r3_i25_i_i3935_i_i; goto L_else_2_i_i_i1829_i; }
+L_arm_15_i_i4005_i_i:;
+    v_r84_i_i4006_i_i = v_r13_sroa_0_0_copyload_i_i3940_i_i + 1;
+    v_r87_i_i4007_i_i = get_u8(v_r84_i_i4006_i_i);
+    v_r89_i_i4008_i_i = (u8)(v_r87_i_i4007_i_i ^ ((u8)1 << 7)) > (u8)(255u ^ ((u8)1 << 7));
+    if (v_r89_i_i4008_i_i) { p_v_r30_i23_sroa_0_sroa_7_0_ph = 4u; p_v_r30_i23_sroa_0_sroa_10_0_ph = 2u; p_v_r30_i23_sroa_0_sroa_13_0_ph = 0u; goto L_arm_12_i; } else { goto L_join_20_i_i4009_i_i; }
+L_join_20_i_i4009_i_i:;
+    v_r103_i_i4010_i_i = (u64)((u64)(v_r3_i25_i_i3935_i_i) + (u64)(18446744073709551615ull));
+    { p_v_r12_sroa_10_i1786_sroa_18_0_ph_i = v_r84_i_i4006_i_i; p_v_r12_sroa_10_i1786_sroa_19_0_ph_i = v_r103_i_i4010_i_i; goto L_else_2_i_i_i1829_i; }
+L_else_2_i_i_i1829_i:;
+    v_r12_sroa_10_i1786_sroa_18_0_ph_i = p_v_r12_sroa_10_i1786_sroa_18_0_ph_i;
+    v_r12_sroa_10_i1786_sroa_19_0_ph_i = p_v_r12_sroa_10_i1786_sroa_19_0_ph_i;
+    v_r12_not_i_i_i_not_i_i_i_i = v_r19_i_i_i3942_i_i == 0u;
+    if (v_r12_not_i_i_i_not_i_i_i_i) { goto L_then_5_i_i1831_i; } else { goto L_arm_1_i_i1830_i; }
+L_arm_1_i_i1830_i:;
+    v_r18_i_i99_i_i_i = get_u8(v_r16_i_i_i3941_i_i);
+    v_r7_i_i103_i_i_i = v_r18_i_i99_i_i_i == 48u;
+    if (v_r7_i_i103_i_i_i) { goto L_arm_1_i_i_i_i1853_i; } else { goto L_then_5_i_i1831_i; }
+L_then_5_i_i1831_i:;
+    fill(v_r7_sroa_20_sroa_0_i_i, 0u, 16u);
+    { p_v_r4_sroa_3_0_copyload_i_i_i = v_r19_i_i_i3942_i_i; p_v_26 = 0u; p_v_r7_sroa_1534_sroa_0_0_ph_i_i = 0u; p_v_r7_sroa_20_sroa_6_0_ph_i_i = 0u; goto L_arm_1_i1832_i; }
+L_arm_1_i_i_i_i1853_i:;
+    fill(v_r30_i39_i_i_i, 0u, 32u);
+    v_r16_i_i_i_i_i_i = v_r16_i_i_i3941_i_i + 1;
+    v_r29_i132_i_i_i = get_u8(v_r16_i_i_i3941_i_i);
+    v_r8_i22_i_i_i1854_i = v_r29_i132_i_i_i == 48u;
+    if (v_r8_i22_i_i_i1854_i) { goto L_join_3_i_i161_i_i_i; } else { goto L_der_core_header_tag_of_exit_i_i_i1855_i; }
+L_der_core_header_tag_of_exit_i_i_i1855_i:;
+    v_r9_i148_i_i_i = (u8)((u32)(v_r29_i132_i_i_i) & (u32)(31u));
+    v_r11_i149_i_i_i = v_r9_i148_i_i_i != 31u;
+    v_20 = (u8)((u32)(v_r29_i132_i_i_i) & (u32)(223u));
+    v_21 = v_20 != 0u;
+    v_r2_0_in_i_not_i_i_i = (u1)(((u32)(v_r11_i149_i_i_i) & (u32)(v_21)) & 1);
+    if (v_r2_0_in_i_not_i_i_i) { goto L_join_3_i_i161_i_i_i; } else { p_v_r0_i19_sroa_9_0_ph_i_i_i = 11u; p_v_r0_i19_sroa_15_0_ph_i_i_i = v_r29_i132_i_i_i; p_v_r0_i19_sroa_21_0_ph_i_i_i = 0u; goto L_arm_2_i1857_i; }
+L_join_3_i_i161_i_i_i:;
+    v_r39_i_i164_i_i_i = v_r19_i_i_i3942_i_i == 1u;
+    if (v_r39_i_i164_i_i_i) { p_v_r0_i19_sroa_9_0_ph_i_i_i = 1u; p_v_r0_i19_sroa_15_0_ph_i_i_i = 0u; p_v_r0_i19_sroa_21_0_ph_i_i_i = 0u; goto L_arm_2_i1857_i; } else { goto L_arm_1_i59_i_i_i1862_i; }
+L_arm_1_i59_i_i_i1862_i:;
+    v_r16_i_i_i167_i_i_i = v_r16_i_i_i3941_i_i + 2;
+    v_r19_i_i_i168_i_i_i = (u64)((u64)(v_r19_i_i_i3942_i_i) + (u64)(18446744073709551614ull));
+    v_r29_i169_i_i_i = get_u8(v_r16_i_i_i_i_i_i);
+    v_r51_i62_i_i_i1863_i = (u8)(v_r29_i169_i_i_i ^ ((u8)1 << 7)) > (u8)(255u ^ ((u8)1 << 7));
+    if (v_r51_i62_i_i_i1863_i) { goto L_then_5_i_i_i_i1924_i; } else { goto L_join_7_i63_i_i_i1864_i; }
+L_then_5_i_i_i_i1924_i:;
+    v_r56_i73_i_i_i1925_i = (u32)v_r29_i169_i_i_i;
+    { p_v_r13_sroa_0_0_copyload_i_i333_i_i_i = v_r16_i_i_i167_i_i_i; p_v_r36_i_i330_i_i_i = v_r19_i_i_i168_i_i_i; p_v_r12_sroa_10_0_i_i_i_i = v_r56_i73_i_i_i1925_i; goto L_arm_1_i51_i_i_i; }
+L_join_7_i63_i_i_i1864_i:;
+    v_r68_i64_i_i_i1865_i = v_r29_i169_i_i_i == 128u;
+    if (v_r68_i64_i_i_i1865_i) { p_v_r0_i19_sroa_9_0_ph_i_i_i = 2u; p_v_r0_i19_sroa_15_0_ph_i_i_i = 0u; p_v_r0_i19_sroa_21_0_ph_i_i_i = 0u; goto L_arm_2_i1857_i; } else { goto L_join_10_i_i_i_i1866_i; }
+L_join_10_i_i_i_i1866_i:;
+    v_r87_i_i_i_i1867_i = v_r29_i169_i_i_i > 132u;
+    if (v_r87_i_i_i_i1867_i) { p_v_r0_i19_sroa_9_0_ph_i_i_i = 7u; p_v_r0_i19_sroa_15_0_ph_i_i_i = 0u; p_v_r0_i19_sroa_21_0_ph_i_i_i = 0u; goto L_arm_2_i1857_i; } else { goto L_join_3_i210_i_i_i; }
+L_join_3_i210_i_i_i:;
+    v_r106_i_i_i_i1868_i = (u8)((u32)(v_r29_i169_i_i_i) & (u32)(127u));
+    v_r3_i25_i_i_i1869_i = (u64)v_r106_i_i_i_i1868_i;
+    v_r39_i213_i_i_i = v_r19_i_i_i168_i_i_i < v_r3_i25_i_i_i1869_i;
+    if (v_r39_i213_i_i_i) { p_v_r0_i19_sroa_9_0_ph_i_i_i = 1u; p_v_r0_i19_sroa_15_0_ph_i_i_i = 0u; p_v_r0_i19_sroa_21_0_ph_i_i_i = 0u; goto L_arm_2_i1857_i; } else { goto L_arm_14_i_i_i_i1870_i; }
+L_arm_14_i_i_i_i1870_i:;
+    v_r16_i_i216_i_i_i = (P)((uintptr_t)v_r16_i_i_i167_i_i_i + (u64)(v_r3_i25_i_i_i1869_i));
+    v_r19_i_i217_i_i_i = (u64)((u64)(v_r19_i_i_i168_i_i_i) - (u64)(v_r3_i25_i_i_i1869_i));
+    switch (v_r106_i_i_i_i1868_i) {
+    case 0u: { p_v_r0_i19_sroa_9_0_ph_i_i_i = 8u; p_v_r0_i19_sroa_15_0_ph_i_i_i = v_r106_i_i_i_i1868_i; p_v_r0_i19_sroa_21_0_ph_i_i_i = v_r106_i_i_i_i1868_i; goto L_arm_2_i1857_i; }
+    case 1u: { goto L_der_core_length_is_overlong_exit_i_i_i; }
+    default: { goto L_join_7_i250_i_i_i; }
+    }
+L_join_7_i250_i_i_i:;
+    v_r36_i251_i_i_i = get_u8(v_r16_i_i_i167_i_i_i);
+    v_r38_i_i_i1880_i = v_r36_i251_i_i_i == 0u;
+    if (v_r38_i_i_i1880_i) { p_v_r0_i19_sroa_9_0_ph_i_i_i = 8u; p_v_r0_i19_sroa_15_0_ph_i_i_i = 0u; p_v_r0_i19_sroa_21_0_ph_i_i_i = 0u; goto L_arm_2_i1857_i; } else { goto L_join_7_i82_i_i_i1881_i; }
+L_der_core_length_is_overlong_exit_i_i_i:;
+    v_r28_i249_i_i_i = get_u8(v_r16_i_i_i167_i_i_i);
+    v_r30_i_i_i1871_i = (u8)(v_r28_i249_i_i_i ^ ((u8)1 << 7)) > (u8)(255u ^ ((u8)1 << 7));
+    if (v_r30_i_i_i1871_i) { p_v_r0_i19_sroa_9_0_ph_i_i_i = 8u; p_v_r0_i19_sroa_15_0_ph_i_i_i = 0u; p_v_r0_i19_sroa_21_0_ph_i_i_i = 0u; goto L_arm_2_i1857_i; } else { goto L_then_5_i80_i_i_i1872_i; }
+L_then_5_i80_i_i_i1872_i:;
+    v_r71_i_i_i_i1873_i = (u32)v_r28_i249_i_i_i;
+    { p_v_r13_sroa_0_0_copyload_i_i333_i_i_i = v_r16_i_i216_i_i_i; p_v_r36_i_i330_i_i_i = v_r19_i_i217_i_i_i; p_v_r12_sroa_10_0_i_i_i_i = v_r71_i_i_i_i1873_i; goto L_arm_1_i51_i_i_i; }
+L_join_7_i82_i_i_i1881_i:;
+    v_r74_i83_i_i_i1882_i = v_r106_i_i_i_i1868_i < 3u;
+    if (v_r74_i83_i_i_i1882_i) { goto L_then_8_i106_i_i_i1917_i; } else { goto L_join_10_i84_i_i_i1883_i; }
+L_then_8_i106_i_i_i1917_i:;
+    v_r81_i107_i_i_i1918_i = v_r16_i_i_i3941_i_i + 3;
+    v_r87_i109_i_i_i1919_i = (u32)v_r36_i251_i_i_i;
+    v_r89_i_i_i_i1920_i = (u32)((u32)(v_r87_i109_i_i_i1919_i) << (u32)((8u & 31)));
+    v_r91_i_i_i_i1921_i = get_u8(v_r81_i107_i_i_i1918_i);
+    v_r93_i110_i_i_i1922_i = (u32)v_r91_i_i_i_i1921_i;
+    v_r96_i111_i_i_i1923_i = (u32)((u32)(v_r89_i_i_i_i1920_i) | (u32)(v_r93_i110_i_i_i1922_i));
+    { p_v_r13_sroa_0_0_copyload_i_i333_i_i_i = v_r16_i_i216_i_i_i; p_v_r36_i_i330_i_i_i = v_r19_i_i217_i_i_i; p_v_r12_sroa_10_0_i_i_i_i = v_r96_i111_i_i_i1923_i; goto L_arm_1_i51_i_i_i; }
+L_join_10_i84_i_i_i1883_i:;
+    v_r99_i85_i_i_i1884_i = v_r106_i_i_i_i1868_i == 3u;
+    if (v_r99_i85_i_i_i1884_i) { goto L_then_11_i95_i_i_i1905_i; } else { goto L_join_13_i86_i_i_i1885_i; }
+L_then_11_i95_i_i_i1905_i:;
+    v_r106_i96_i_i_i1906_i = v_r16_i_i_i3941_i_i + 3;
+    v_r108_i97_i_i_i1907_i = v_r16_i_i_i3941_i_i + 4;
+    v_r115_i99_i_i_i1908_i = (u32)v_r36_i251_i_i_i;
+    v_r117_i100_i_i_i1909_i = (u32)((u32)(v_r115_i99_i_i_i1908_i) << (u32)((16u & 31)));
+    v_r119_i101_i_i_i1910_i = get_u8(v_r106_i96_i_i_i1906_i);
+    v_r121_i102_i_i_i1911_i = (u32)v_r119_i101_i_i_i1910_i;
+    v_r123_i103_i_i_i1912_i = (u32)((u32)(v_r121_i102_i_i_i1911_i) << (u32)((8u & 31)));
+    v_r126_i104_i_i_i1913_i = (u32)((u32)(v_r123_i103_i_i_i1912_i) | (u32)(v_r117_i100_i_i_i1909_i));
+    v_r128_i_i_i_i1914_i = get_u8(v_r108_i97_i_i_i1907_i);
+    v_r130_i105_i_i_i1915_i = (u32)v_r128_i_i_i_i1914_i;
+    v_r133_i_i_i_i1916_i = (u32)((u32)(v_r126_i104_i_i_i1913_i) | (u32)(v_r130_i105_i_i_i1915_i));
+    { p_v_r13_sroa_0_0_copyload_i_i333_i_i_i = v_r16_i_i216_i_i_i; p_v_r36_i_i330_i_i_i = v_r19_i_i217_i_i_i; p_v_r12_sroa_10_0_i_i_i_i = v_r133_i_i_i_i1916_i; goto L_arm_1_i51_i_i_i; }
+L_join_13_i86_i_i_i1885_i:;
+    v_r136_i87_i_i_i1886_i = v_r106_i_i_i_i1868_i < 5u;
+    if (v_r136_i87_i_i_i1886_i) { goto L_then_14_i_i_i_i1888_i; } else { goto L_join_16_i_i_i_i1887_i; }
+L_then_14_i_i_i_i1888_i:;
+    v_r143_i88_i_i_i1889_i = v_r16_i_i_i3941_i_i + 3;
+    v_r145_i89_i_i_i1890_i = v_r16_i_i_i3941_i_i + 4;
+    v_r147_i90_i_i_i1891_i = v_r16_i_i_i3941_i_i + 5;
+    v_r155_i92_i_i_i1892_i = (u32)v_r36_i251_i_i_i;
+    v_r157_i93_i_i_i1893_i = (u32)((u32)(v_r155_i92_i_i_i1892_i) << (u32)((24u & 31)));
+    v_r159_i94_i_i_i1894_i = get_u8(v_r143_i88_i_i_i1889_i);
+    v_r161_i_i_i_i1895_i = (u32)v_r159_i94_i_i_i1894_i;
+    v_r163_i_i_i_i1896_i = (u32)((u32)(v_r161_i_i_i_i1895_i) << (u32)((16u & 31)));
+    v_r166_i_i_i_i1897_i = (u32)((u32)(v_r163_i_i_i_i1896_i) | (u32)(v_r157_i93_i_i_i1893_i));
+    v_r168_i_i_i_i1898_i = get_u8(v_r145_i89_i_i_i1890_i);
+    v_r170_i_i_i_i1899_i = (u32)v_r168_i_i_i_i1898_i;
+    v_r172_i_i_i_i1900_i = (u32)((u32)(v_r170_i_i_i_i1899_i) << (u32)((8u & 31)));
+    v_r175_i_i_i_i1901_i = (u32)((u32)(v_r166_i_i_i_i1897_i) | (u32)(v_r172_i_i_i_i1900_i));
+    v_r177_i_i_i_i1902_i = get_u8(v_r147_i90_i_i_i1891_i);
+    v_r179_i_i_i_i1903_i = (u32)v_r177_i_i_i_i1902_i;
+    v_r182_i_i_i_i1904_i = (u32)((u32)(v_r175_i_i_i_i1901_i) | (u32)(v_r179_i_i_i_i1903_i));
+    { p_v_r13_sroa_0_0_copyload_i_i333_i_i_i = v_r16_i_i216_i_i_i; p_v_r36_i_i330_i_i_i = v_r19_i_i217_i_i_i; p_v_r12_sroa_10_0_i_i_i_i = v_r182_i_i_i_i1904_i; goto L_arm_1_i51_i_i_i; }
+L_join_16_i_i_i_i1887_i:;
     __builtin_trap();
     __builtin_trap();
 L_arm_1_i51_i_i_i:;
     v_r13_sroa_0_0_copyload_i_i333_i_i_i = p_v_r13_sroa_0_0_copyload_i_i333_i_i_i;
     v_r36_i_i330_i_i_i = p_v_r36_i_i330_i_i_i;
     v_r12_sroa_10_0_i_i_i_i = p_v_r12_sroa_10_0_i_i_i_i;
-    if (v_r8_i22_i_i_i_i) { goto L_join_3_i_i328_i_i_i; } else { p_v_r0_i19_sroa_9_0_ph_i_i_i = 10u; p_v_r0_i19_sroa_15_0_ph_i_i_i = 48u; p_v_r0_i19_sroa_21_0_ph_i_i_i = v_r29_i132_i_i_i; goto L_arm_2_i320_i; }
+    if (v_r8_i22_i_i_i1854_i) { goto L_join_3_i_i328_i_i_i; } else { p_v_r0_i19_sroa_9_0_ph_i_i_i = 10u; p_v_r0_i19_sroa_15_0_ph_i_i_i = 48u; p_v_r0_i19_sroa_21_0_ph_i_i_i = v_r29_i132_i_i_i; goto L_arm_2_i1857_i; }
 L_join_3_i_i328_i_i_i:;
     v_r3_i25_i_i_i_i_i = (u64)v_r12_sroa_10_0_i_i_i_i;
     v_r39_i_i331_i_i_i = v_r36_i_i330_i_i_i < v_r3_i25_i_i_i_i_i;
-    if (v_r39_i_i331_i_i_i) { p_v_r0_i19_sroa_9_0_ph_i_i_i = 1u; p_v_r0_i19_sroa_15_0_ph_i_i_i = 0u; p_v_r0_i19_sroa_21_0_ph_i_i_i = 0u; goto L_arm_2_i320_i; } else { goto L_arm_8_i_i_i_i; }
-L_arm_8_i_i_i_i:;
+    if (v_r39_i_i331_i_i_i) { p_v_r0_i19_sroa_9_0_ph_i_i_i = 1u; p_v_r0_i19_sroa_15_0_ph_i_i_i = 0u; p_v_r0_i19_sroa_21_0_ph_i_i_i = 0u; goto L_arm_2_i1857_i; } else { goto L_arm_8_i_i_i1874_i; }
+L_arm_8_i_i_i1874_i:;
     put_P(v_r6_i26_i_i_i, v_r13_sroa_0_0_copyload_i_i333_i_i_i);
     v_r29_i38_sroa_5_0_r6_i26_sroa_idx_i_i_i = v_r6_i26_i_i_i + 8;
     put_u64(v_r29_i38_sroa_5_0_r6_i26_sroa_idx_i_i_i, v_r3_i25_i_i_i_i_i);
@@ -13556,69 +13556,69 @@ L_arm_8_i_i_i_i:;
     f_pkcs1_other_primes_OtherPrimesDecodeValueRefSliceU(v_r30_i39_i_i_i, v_r6_i26_i_i_i, v_r12_sroa_10_0_i_i_i_i);
     v_r105_i_i_i_i = get_u8(v_r30_i39_i_i_i);
     v_22 = v_r105_i_i_i_i == 0u;
-    if (v_22) { goto L_arm_8_i_i327_i; } else { goto L_arm_12_i_i_i_i; }
+    if (v_22) { goto L_arm_8_i_i1878_i; } else { goto L_arm_12_i_i_i_i; }
 L_arm_12_i_i_i_i:;
-    v_r124_i_i_i_i = v_r30_i39_i_i_i + 1;
-    v_23 = get_u8(v_r124_i_i_i_i);
-    v_r126_i_i_i_i = v_r30_i39_i_i_i + 2;
-    v_24 = get_u8(v_r126_i_i_i_i);
-    v_r128_i_i_i326_i = v_r30_i39_i_i_i + 3;
-    v_25 = get_u8(v_r128_i_i_i326_i);
-    { p_v_r0_i19_sroa_9_0_ph_i_i_i = v_23; p_v_r0_i19_sroa_15_0_ph_i_i_i = v_24; p_v_r0_i19_sroa_21_0_ph_i_i_i = v_25; goto L_arm_2_i320_i; }
-L_arm_8_i_i327_i:;
+    v_r124_i_i_i1875_i = v_r30_i39_i_i_i + 1;
+    v_23 = get_u8(v_r124_i_i_i1875_i);
+    v_r126_i_i_i1876_i = v_r30_i39_i_i_i + 2;
+    v_24 = get_u8(v_r126_i_i_i1876_i);
+    v_r128_i_i_i1877_i = v_r30_i39_i_i_i + 3;
+    v_25 = get_u8(v_r128_i_i_i1877_i);
+    { p_v_r0_i19_sroa_9_0_ph_i_i_i = v_23; p_v_r0_i19_sroa_15_0_ph_i_i_i = v_24; p_v_r0_i19_sroa_21_0_ph_i_i_i = v_25; goto L_arm_2_i1857_i; }
+L_arm_8_i_i1878_i:;
     v_r19_i_i_i335_i_i_i = (u64)((u64)(v_r36_i_i330_i_i_i) - (u64)(v_r3_i25_i_i_i_i_i));
-    v_r106_i_i_i328_i = v_r30_i39_i_i_i + 8;
+    v_r106_i_i_i1879_i = v_r30_i39_i_i_i + 8;
     v_r0_i19_sroa_27_i_i_sroa_0_4_r122_i_sroa_idx_i = v_r0_i19_sroa_27_i_i_sroa_0_i + 4;
-    copy(v_r0_i19_sroa_27_i_i_sroa_0_4_r122_i_sroa_idx_i, v_r106_i_i_i328_i, 16u);
-    v_r0_i19_sroa_27_i_i_sroa_6_4_r106_i_i_i328_sroa_idx = v_r30_i39_i_i_i + 24;
-    v_r0_i19_sroa_27_i_i_sroa_6_4_copyload_i = get_u64(v_r0_i19_sroa_27_i_i_sroa_6_4_r106_i_i_i328_sroa_idx);
+    copy(v_r0_i19_sroa_27_i_i_sroa_0_4_r122_i_sroa_idx_i, v_r106_i_i_i1879_i, 16u);
+    v_r0_i19_sroa_27_i_i_sroa_6_4_r106_i_i_i1879_sroa_id = v_r30_i39_i_i_i + 24;
+    v_r0_i19_sroa_27_i_i_sroa_6_4_copyload_i = get_u64(v_r0_i19_sroa_27_i_i_sroa_6_4_r106_i_i_i1879_sroa_id);
     v_r17_sroa_9_i_sroa_0_4_r10_i22_sroa_idx_i_i = v_r17_sroa_9_i_sroa_0_i_i + 4;
     copy(v_r17_sroa_9_i_sroa_0_4_r10_i22_sroa_idx_i_i, v_r0_i19_sroa_27_i_i_sroa_0_4_r122_i_sroa_idx_i, 16u);
     copy(v_r7_sroa_20_sroa_0_i_i, v_r17_sroa_9_i_sroa_0_4_r10_i22_sroa_idx_i_i, 16u);
-    { p_v_r4_sroa_3_0_copyload_i_i_i = v_r19_i_i_i335_i_i_i; p_v_26 = 1u; p_v_r7_sroa_1534_sroa_0_0_ph_i_i = 1u; p_v_r7_sroa_20_sroa_6_0_ph_i_i = v_r0_i19_sroa_27_i_i_sroa_6_4_copyload_i; goto L_arm_1_i299_i; }
-L_arm_1_i299_i:;
+    { p_v_r4_sroa_3_0_copyload_i_i_i = v_r19_i_i_i335_i_i_i; p_v_26 = 1u; p_v_r7_sroa_1534_sroa_0_0_ph_i_i = 1u; p_v_r7_sroa_20_sroa_6_0_ph_i_i = v_r0_i19_sroa_27_i_i_sroa_6_4_copyload_i; goto L_arm_1_i1832_i; }
+L_arm_1_i1832_i:;
     v_r4_sroa_3_0_copyload_i_i_i = p_v_r4_sroa_3_0_copyload_i_i_i;
     v_26 = p_v_26;
     v_r7_sroa_1534_sroa_0_0_ph_i_i = p_v_r7_sroa_1534_sroa_0_0_ph_i_i;
     v_r7_sroa_20_sroa_6_0_ph_i_i = p_v_r7_sroa_20_sroa_6_0_ph_i_i;
-    v_r71_i300_not_i = v_r7_sroa_1534_sroa_0_0_ph_i_i == v_r60_i_i_i_i;
-    if (v_r71_i300_not_i) { goto L_join_7_i301_i; } else { p_v_r21_sroa_0_sroa_7_0_ph_i = 13u; p_v_r21_sroa_0_sroa_12_0_ph_i = 2u; p_v_r21_sroa_0_sroa_17_0_ph_i = 0u; goto L_arm_9_i313; }
-L_arm_2_i320_i:;
+    v_r71_i1834_not_i = v_r7_sroa_1534_sroa_0_0_ph_i_i == v_r60_i_i_i907_i;
+    if (v_r71_i1834_not_i) { goto L_join_7_i1835_i; } else { p_v_r17_sroa_0_sroa_7_0_ph_i = 13u; p_v_r17_sroa_0_sroa_12_0_ph_i = 2u; p_v_r17_sroa_0_sroa_17_0_ph_i = 0u; goto L_arm_6_i306; }
+L_arm_2_i1857_i:;
     v_r0_i19_sroa_9_0_ph_i_i_i = p_v_r0_i19_sroa_9_0_ph_i_i_i;
     v_r0_i19_sroa_15_0_ph_i_i_i = p_v_r0_i19_sroa_15_0_ph_i_i_i;
     v_r0_i19_sroa_21_0_ph_i_i_i = p_v_r0_i19_sroa_21_0_ph_i_i_i;
-    { p_v_r21_sroa_0_sroa_7_0_ph_i = v_r0_i19_sroa_9_0_ph_i_i_i; p_v_r21_sroa_0_sroa_12_0_ph_i = v_r0_i19_sroa_15_0_ph_i_i_i; p_v_r21_sroa_0_sroa_17_0_ph_i = v_r0_i19_sroa_21_0_ph_i_i_i; goto L_arm_9_i313; }
-L_join_7_i301_i:;
+    { p_v_r17_sroa_0_sroa_7_0_ph_i = v_r0_i19_sroa_9_0_ph_i_i_i; p_v_r17_sroa_0_sroa_12_0_ph_i = v_r0_i19_sroa_15_0_ph_i_i_i; p_v_r17_sroa_0_sroa_17_0_ph_i = v_r0_i19_sroa_21_0_ph_i_i_i; goto L_arm_6_i306; }
+L_join_7_i1835_i:;
     v_r9_i11_i_i = v_r7_sroa_20_sroa_6_0_ph_i_i == 0u;
     v_spec_select_i_i_i = v_26 ? v_r9_i11_i_i : 0u;
-    if (v_spec_select_i_i_i) { p_v_r21_sroa_0_sroa_7_0_ph_i = 13u; p_v_r21_sroa_0_sroa_12_0_ph_i = 48u; p_v_r21_sroa_0_sroa_17_0_ph_i = 0u; goto L_arm_9_i313; } else { goto L_join_3_i_i302_i; }
-L_join_3_i_i302_i:;
-    v_r7_i_i_i303_i = v_r4_sroa_3_0_copyload_i_i_i == 0u;
-    if (v_r7_i_i_i303_i) { goto L_arm_5_i; } else { p_v_r21_sroa_0_sroa_7_0_ph_i = 12u; p_v_r21_sroa_0_sroa_12_0_ph_i = 0u; p_v_r21_sroa_0_sroa_17_0_ph_i = 0u; goto L_arm_9_i313; }
-L_arm_9_i313:;
-    v_r21_sroa_0_sroa_7_0_ph_i = p_v_r21_sroa_0_sroa_7_0_ph_i;
-    v_r21_sroa_0_sroa_12_0_ph_i = p_v_r21_sroa_0_sroa_12_0_ph_i;
-    v_r21_sroa_0_sroa_17_0_ph_i = p_v_r21_sroa_0_sroa_17_0_ph_i;
-    { p_v_r30_i23_sroa_0_sroa_8_0_ph = v_r21_sroa_0_sroa_7_0_ph_i; p_v_r30_i23_sroa_0_sroa_12_0_ph = v_r21_sroa_0_sroa_12_0_ph_i; p_v_r30_i23_sroa_0_sroa_16_0_ph = v_r21_sroa_0_sroa_17_0_ph_i; goto L_arm_12_i; }
+    if (v_spec_select_i_i_i) { p_v_r17_sroa_0_sroa_7_0_ph_i = 13u; p_v_r17_sroa_0_sroa_12_0_ph_i = 48u; p_v_r17_sroa_0_sroa_17_0_ph_i = 0u; goto L_arm_6_i306; } else { goto L_join_3_i_i1836_i; }
+L_join_3_i_i1836_i:;
+    v_r7_i_i_i1837_i = v_r4_sroa_3_0_copyload_i_i_i == 0u;
+    if (v_r7_i_i_i1837_i) { goto L_arm_5_i; } else { p_v_r17_sroa_0_sroa_7_0_ph_i = 12u; p_v_r17_sroa_0_sroa_12_0_ph_i = 0u; p_v_r17_sroa_0_sroa_17_0_ph_i = 0u; goto L_arm_6_i306; }
+L_arm_6_i306:;
+    v_r17_sroa_0_sroa_7_0_ph_i = p_v_r17_sroa_0_sroa_7_0_ph_i;
+    v_r17_sroa_0_sroa_12_0_ph_i = p_v_r17_sroa_0_sroa_12_0_ph_i;
+    v_r17_sroa_0_sroa_17_0_ph_i = p_v_r17_sroa_0_sroa_17_0_ph_i;
+    { p_v_r30_i23_sroa_0_sroa_7_0_ph = v_r17_sroa_0_sroa_7_0_ph_i; p_v_r30_i23_sroa_0_sroa_10_0_ph = v_r17_sroa_0_sroa_12_0_ph_i; p_v_r30_i23_sroa_0_sroa_13_0_ph = v_r17_sroa_0_sroa_17_0_ph_i; goto L_arm_12_i; }
 L_arm_12_i:;
-    v_r30_i23_sroa_0_sroa_8_0_ph = p_v_r30_i23_sroa_0_sroa_8_0_ph;
-    v_r30_i23_sroa_0_sroa_12_0_ph = p_v_r30_i23_sroa_0_sroa_12_0_ph;
-    v_r30_i23_sroa_0_sroa_16_0_ph = p_v_r30_i23_sroa_0_sroa_16_0_ph;
-    { p_v_r0_i1_sroa_9_0_ph = v_r30_i23_sroa_0_sroa_8_0_ph; p_v_r0_i1_sroa_15_0_ph = v_r30_i23_sroa_0_sroa_12_0_ph; p_v_r0_i1_sroa_21_0_ph = v_r30_i23_sroa_0_sroa_16_0_ph; goto L_arm_6_i; }
+    v_r30_i23_sroa_0_sroa_7_0_ph = p_v_r30_i23_sroa_0_sroa_7_0_ph;
+    v_r30_i23_sroa_0_sroa_10_0_ph = p_v_r30_i23_sroa_0_sroa_10_0_ph;
+    v_r30_i23_sroa_0_sroa_13_0_ph = p_v_r30_i23_sroa_0_sroa_13_0_ph;
+    { p_v_r0_i1_sroa_9_0_ph = v_r30_i23_sroa_0_sroa_7_0_ph; p_v_r0_i1_sroa_15_0_ph = v_r30_i23_sroa_0_sroa_10_0_ph; p_v_r0_i1_sroa_21_0_ph = v_r30_i23_sroa_0_sroa_13_0_ph; goto L_arm_6_i; }
 L_arm_5_i:;
-    copy(v_r21_sroa_28_i, v_r7_sroa_20_sroa_0_i_i, 16u);
-    copy(v_r30_i23_sroa_41, v_r21_sroa_28_i, 16u);
-    copy(v_r0_i1_sroa_27_sroa_89, v_r30_i23_sroa_41, 16u);
+    copy(v_r17_sroa_28_i, v_r7_sroa_20_sroa_0_i_i, 16u);
+    copy(v_r30_i23_sroa_36, v_r17_sroa_28_i, 16u);
+    copy(v_r0_i1_sroa_27_sroa_89, v_r30_i23_sroa_36, 16u);
     copy(v_r15_i_sroa_11_sroa_21, v_r0_i1_sroa_27_sroa_89, 16u);
-    v_r7_i_i367 = v_r4_i_sroa_12_21058 == v_r12_sroa_10_0_i;
-    if (v_r7_i_i367) { goto L_arm_1; } else { p_v_r7_sroa_6_0_ph = 12u; p_v_r7_sroa_11_0_ph = 0u; p_v_r7_sroa_16_0_ph = 0u; goto L_arm_2; }
+    v_r7_i_i359 = v_r4_i_sroa_12_21032 == v_r12_sroa_10_0_i;
+    if (v_r7_i_i359) { goto L_arm_1; } else { p_v_r7_sroa_6_0_ph = 12u; p_v_r7_sroa_11_0_ph = 0u; p_v_r7_sroa_16_0_ph = 0u; goto L_arm_2; }
 L_arm_6_i:;
     v_r0_i1_sroa_9_0_ph = p_v_r0_i1_sroa_9_0_ph;
     v_r0_i1_sroa_15_0_ph = p_v_r0_i1_sroa_15_0_ph;
     v_r0_i1_sroa_21_0_ph = p_v_r0_i1_sroa_21_0_ph;
     { p_v_r7_sroa_6_0_ph = v_r0_i1_sroa_9_0_ph; p_v_r7_sroa_11_0_ph = v_r0_i1_sroa_15_0_ph; p_v_r7_sroa_16_0_ph = v_r0_i1_sroa_21_0_ph; goto L_arm_2; }
 L_arm_1:;
-    v_r62_i319 = (u64)v_r60_i_i_i_i;
+    v_r45_i312 = (u64)v_r60_i_i_i907_i;
     copy(v_r7_sroa_21_sroa_70, v_r15_i_sroa_11_sroa_21, 16u);
     v_r42 = v_a0 + 8;
     fill(v_a0, 0u, 5u);
@@ -13626,39 +13626,39 @@ L_arm_1:;
     v_r0_sroa_21_8_r42_sroa_idx = v_a0 + 16;
     put_u64(v_r0_sroa_21_8_r42_sroa_idx, v_a2);
     v_r0_sroa_22_8_r42_sroa_idx = v_a0 + 24;
-    put_P(v_r0_sroa_22_8_r42_sroa_idx, v_r12_sroa_10_i3170_sroa_3_0_ph_i_i);
+    put_P(v_r0_sroa_22_8_r42_sroa_idx, v_r12_sroa_10_i1273_sroa_3_0_ph_i);
     v_r0_sroa_22_sroa_5_0_r0_sroa_22_8_r42_sroa_idx_sroa = v_a0 + 32;
-    put_u64(v_r0_sroa_22_sroa_5_0_r0_sroa_22_8_r42_sroa_idx_sroa, v_r12_sroa_10_i3170_sroa_5_0_ph_i_i);
+    put_u64(v_r0_sroa_22_sroa_5_0_r0_sroa_22_8_r42_sroa_idx_sroa, v_r12_sroa_10_i1273_sroa_5_0_ph_i);
     v_r0_sroa_22_sroa_6_0_r0_sroa_22_8_r42_sroa_idx_sroa = v_a0 + 40;
-    put_P(v_r0_sroa_22_sroa_6_0_r0_sroa_22_8_r42_sroa_idx_sroa, v_r12_sroa_10_i3522_sroa_3_0_ph_i_i);
+    put_P(v_r0_sroa_22_sroa_6_0_r0_sroa_22_8_r42_sroa_idx_sroa, v_r12_sroa_10_i1625_sroa_3_0_ph_i);
     v_r0_sroa_22_sroa_7_0_r0_sroa_22_8_r42_sroa_idx_sroa = v_a0 + 48;
-    put_u64(v_r0_sroa_22_sroa_7_0_r0_sroa_22_8_r42_sroa_idx_sroa, v_r12_sroa_10_i3522_sroa_5_0_ph_i_i);
+    put_u64(v_r0_sroa_22_sroa_7_0_r0_sroa_22_8_r42_sroa_idx_sroa, v_r12_sroa_10_i1625_sroa_5_0_ph_i);
     v_r0_sroa_22_sroa_8_0_r0_sroa_22_8_r42_sroa_idx_sroa = v_a0 + 56;
-    put_P(v_r0_sroa_22_sroa_8_0_r0_sroa_22_8_r42_sroa_idx_sroa, v_r12_sroa_10_i3881_sroa_3_0_ph_i_i);
+    put_P(v_r0_sroa_22_sroa_8_0_r0_sroa_22_8_r42_sroa_idx_sroa, v_r12_sroa_10_i2279_sroa_3_0_ph_i_i);
     v_r0_sroa_22_sroa_9_0_r0_sroa_22_8_r42_sroa_idx_sroa = v_a0 + 64;
-    put_u64(v_r0_sroa_22_sroa_9_0_r0_sroa_22_8_r42_sroa_idx_sroa, v_r12_sroa_10_i3881_sroa_5_0_ph_i_i);
+    put_u64(v_r0_sroa_22_sroa_9_0_r0_sroa_22_8_r42_sroa_idx_sroa, v_r12_sroa_10_i2279_sroa_5_0_ph_i_i);
     v_r0_sroa_22_sroa_10_0_r0_sroa_22_8_r42_sroa_idx_sro = v_a0 + 72;
-    put_P(v_r0_sroa_22_sroa_10_0_r0_sroa_22_8_r42_sroa_idx_sro, v_r12_sroa_10_i4240_sroa_3_0_ph_i_i);
+    put_P(v_r0_sroa_22_sroa_10_0_r0_sroa_22_8_r42_sroa_idx_sro, v_r12_sroa_10_i2631_sroa_3_0_ph_i_i);
     v_r0_sroa_22_sroa_11_0_r0_sroa_22_8_r42_sroa_idx_sro = v_a0 + 80;
-    put_u64(v_r0_sroa_22_sroa_11_0_r0_sroa_22_8_r42_sroa_idx_sro, v_r12_sroa_10_i4240_sroa_5_0_ph_i_i);
+    put_u64(v_r0_sroa_22_sroa_11_0_r0_sroa_22_8_r42_sroa_idx_sro, v_r12_sroa_10_i2631_sroa_5_0_ph_i_i);
     v_r0_sroa_22_sroa_12_0_r0_sroa_22_8_r42_sroa_idx_sro = v_a0 + 88;
-    put_P(v_r0_sroa_22_sroa_12_0_r0_sroa_22_8_r42_sroa_idx_sro, v_r12_sroa_10_i4599_sroa_3_0_ph_i_i);
+    put_P(v_r0_sroa_22_sroa_12_0_r0_sroa_22_8_r42_sroa_idx_sro, v_r12_sroa_10_i2984_sroa_3_0_ph_i_i);
     v_r0_sroa_22_sroa_13_0_r0_sroa_22_8_r42_sroa_idx_sro = v_a0 + 96;
-    put_u64(v_r0_sroa_22_sroa_13_0_r0_sroa_22_8_r42_sroa_idx_sro, v_r12_sroa_10_i4599_sroa_5_0_ph_i_i);
+    put_u64(v_r0_sroa_22_sroa_13_0_r0_sroa_22_8_r42_sroa_idx_sro, v_r12_sroa_10_i2984_sroa_5_0_ph_i_i);
     v_r0_sroa_22_sroa_14_0_r0_sroa_22_8_r42_sroa_idx_sro = v_a0 + 104;
-    put_P(v_r0_sroa_22_sroa_14_0_r0_sroa_22_8_r42_sroa_idx_sro, v_r12_sroa_10_i4958_sroa_3_0_ph_i_i);
+    put_P(v_r0_sroa_22_sroa_14_0_r0_sroa_22_8_r42_sroa_idx_sro, v_r12_sroa_10_i3337_sroa_3_0_ph_i_i);
     v_r0_sroa_22_sroa_15_0_r0_sroa_22_8_r42_sroa_idx_sro = v_a0 + 112;
-    put_u64(v_r0_sroa_22_sroa_15_0_r0_sroa_22_8_r42_sroa_idx_sro, v_r12_sroa_10_i4958_sroa_5_0_ph_i_i);
+    put_u64(v_r0_sroa_22_sroa_15_0_r0_sroa_22_8_r42_sroa_idx_sro, v_r12_sroa_10_i3337_sroa_5_0_ph_i_i);
     v_r0_sroa_22_sroa_16_0_r0_sroa_22_8_r42_sroa_idx_sro = v_a0 + 120;
-    put_P(v_r0_sroa_22_sroa_16_0_r0_sroa_22_8_r42_sroa_idx_sro, v_r12_sroa_10_i5317_sroa_3_0_ph_i_i);
+    put_P(v_r0_sroa_22_sroa_16_0_r0_sroa_22_8_r42_sroa_idx_sro, v_r12_sroa_10_i3690_sroa_3_0_ph_i_i);
     v_r0_sroa_22_sroa_17_0_r0_sroa_22_8_r42_sroa_idx_sro = v_a0 + 128;
-    put_u64(v_r0_sroa_22_sroa_17_0_r0_sroa_22_8_r42_sroa_idx_sro, v_r12_sroa_10_i5317_sroa_5_0_ph_i_i);
+    put_u64(v_r0_sroa_22_sroa_17_0_r0_sroa_22_8_r42_sroa_idx_sro, v_r12_sroa_10_i3690_sroa_5_0_ph_i_i);
     v_r0_sroa_22_sroa_18_0_r0_sroa_22_8_r42_sroa_idx_sro = v_a0 + 136;
-    put_P(v_r0_sroa_22_sroa_18_0_r0_sroa_22_8_r42_sroa_idx_sro, v_r12_sroa_10_i5676_sroa_3_0_ph_i_i);
+    put_P(v_r0_sroa_22_sroa_18_0_r0_sroa_22_8_r42_sroa_idx_sro, v_r12_sroa_10_i1786_sroa_18_0_ph_i);
     v_r0_sroa_22_sroa_19_0_r0_sroa_22_8_r42_sroa_idx_sro = v_a0 + 144;
-    put_u64(v_r0_sroa_22_sroa_19_0_r0_sroa_22_8_r42_sroa_idx_sro, v_r12_sroa_10_i5676_sroa_5_0_ph_i_i);
+    put_u64(v_r0_sroa_22_sroa_19_0_r0_sroa_22_8_r42_sroa_idx_sro, v_r12_sroa_10_i1786_sroa_19_0_ph_i);
     v_r0_sroa_22_sroa_20_0_r0_sroa_22_8_r42_sroa_idx_sro = v_a0 + 152;
-    put_u64(v_r0_sroa_22_sroa_20_0_r0_sroa_22_8_r42_sroa_idx_sro, v_r62_i319);
+    put_u64(v_r0_sroa_22_sroa_20_0_r0_sroa_22_8_r42_sroa_idx_sro, v_r45_i312);
     v_r0_sroa_22_sroa_21_0_r0_sroa_22_8_r42_sroa_idx_sro = v_a0 + 160;
     copy(v_r0_sroa_22_sroa_21_0_r0_sroa_22_8_r42_sroa_idx_sro, v_r7_sroa_21_sroa_70, 16u);
     v_r0_sroa_22_sroa_22_0_r0_sroa_22_8_r42_sroa_idx_sro = v_a0 + 176;
@@ -22152,79 +22152,226 @@ L_arm_5_i:;
     { p_v_common_ret_op = 1u; goto L_common_ret; }
 }
 static void f_der_core_encode_AnyEncode_encoded_len_3a3c98235cfe(P v_a0, P v_a1) {
-    u32 p_v_r4_0_i_i_i_i_i_i_i_i;
-    u1 p_v_4;
-    u8 p_v_r24_sroa_4_0_sink_i_i_i_i;
-    u32 p_v_r24_sroa_13_0_sink_i_i_i_i;
-    u32 p_v_r4_0_i_i_i_i_i_1_i_i_i;
-    u1 p_v_r24_sroa_0_0_sink_i_1_i_i_i;
-    u8 p_v_r24_sroa_4_0_sink_i_1_i_i_i;
-    u32 p_v_r24_sroa_13_0_sink_i_1_i_i_i;
-    u32 p_v_r4_0_i_i_i_i_i_2_i_i_i;
-    u1 p_v_r24_sroa_0_0_sink_i_2_i_i_i;
-    u8 p_v_r24_sroa_4_0_sink_i_2_i_i_i;
-    u32 p_v_r24_sroa_13_0_sink_i_2_i_i_i;
-    u32 p_v_r4_0_i_i_i_i_i_3_i_i_i;
-    u1 p_v_r24_sroa_0_0_sink_i_3_i_i_i;
-    u8 p_v_r24_sroa_4_0_sink_i_3_i_i_i;
-    u32 p_v_r24_sroa_13_0_sink_i_3_i_i_i;
-    u32 p_v_r4_0_i_i_i_i_i_4_i_i_i;
-    u1 p_v_r24_sroa_0_0_sink_i_4_i_i_i;
-    u8 p_v_r24_sroa_4_0_sink_i_4_i_i_i;
-    u32 p_v_r24_sroa_13_0_sink_i_4_i_i_i;
-    u32 p_v_r4_0_i_i_i_i_i_5_i_i_i;
-    u1 p_v_r24_sroa_0_0_sink_i_5_i_i_i;
-    u8 p_v_r24_sroa_4_0_sink_i_5_i_i_i;
-    u32 p_v_r24_sroa_13_0_sink_i_5_i_i_i;
-    u32 p_v_r4_0_i_i_i_i_i_6_i_i_i;
-    u1 p_v_r24_sroa_0_0_sink_i_6_i_i_i;
-    u8 p_v_r24_sroa_4_0_sink_i_6_i_i_i;
-    u32 p_v_r24_sroa_13_0_sink_i_6_i_i_i;
-    u32 p_v_r4_0_i_i_i_i_i_7_i_i_i;
-    u1 p_v_r24_sroa_0_0_sink_i_7_i_i_i;
-    u8 p_v_r24_sroa_4_0_sink_i_7_i_i_i;
-    u32 p_v_r24_sroa_13_0_sink_i_7_i_i_i;
-    u64 p_v_r4_010_i_i_i_i_i_i_i;
-    u8 p_v_r3_sroa_0_09_i_i_i_i_i_i_i;
-    u8 p_v_r3_sroa_5_08_i_i_i_i_i_i_i;
-    u32 p_v_r3_sroa_14_07_i_i_i_i_i_i_i;
-    u32 p_v_r4_0_i_i_i_i_i_i_i_i_i_i_i_i_i_i_i;
-    u1 p_v_r5_sroa_0_0_i_i_sink_i_i_i_i_i_i_i_i_i_i_i_i_i;
-    u8 p_v_r5_sroa_4_0_i_i_sink_i_i_i_i_i_i_i_i_i_i_i_i_i;
-    u32 p_v_r5_sroa_10_0_i_i_sink_i_i_i_i_i_i_i_i_i_i_i_i_i;
-    u32 p_v_r4_0_i_i_i_i_i56_i_i_i_i_i_i_i_i_i_i;
-    u1 p_v_r5_sroa_0_0_i_i_sink_i_i_i39_i_i_i_i_i_i_i_i_i_i;
-    u8 p_v_r5_sroa_4_0_i_i_sink_i_i_i40_i_i_i_i_i_i_i_i_i_i;
-    u32 p_v_r5_sroa_10_0_i_i_sink_i_i_i41_i_i_i_i_i_i_i_i_i_i;
-    u32 p_v_r4_0_i_i_i_i_i85_i_i_i_i_i_i_i_i_i_i;
-    u1 p_v_r24_sroa_0_0_sink_i119_i_i_i_i_i_i_i_i_i_i;
-    u8 p_v_r24_sroa_4_0_sink_i120_i_i_i_i_i_i_i_i_i_i;
-    u32 p_v_r24_sroa_13_0_sink_i123_i_i_i_i_i_i_i_i_i_i;
-    u32 p_v_r4_0_i_i_i_i_i_i_i_i_i_i_i;
-    u1 p_v_r5_sroa_0_0_i_i_sink_i_i_i_i_i_i_i_i_i;
-    u8 p_v_r5_sroa_4_0_i_i_sink_i_i_i_i_i_i_i_i_i;
-    u32 p_v_r5_sroa_10_0_i_i_sink_i_i_i_i_i_i_i_i_i;
-    u8 p_v_r24_sroa_0_0_sink_i_i_i_i_i_i_i_i;
-    u8 p_v_r24_sroa_4_0_sink_i_i_i_i_i_i_i_i;
-    u32 p_v_r24_sroa_13_0_sink_i_i_i_i_i_i_i_i;
-    u32 p_v_r12_sroa_10_0_i_ph15_i_i_i_i_i;
     u32 p_v_r4_0_i_i_i_i_i_i_i;
-    u32 p_v_r2_sroa_10_0_i114120_i_i;
+    u1 p_v_r5_sroa_0_0_i_i_sink_i_i_i_i_i;
+    u8 p_v_r5_sroa_4_0_i_i_sink_i_i_i_i_i;
+    u32 p_v_r5_sroa_10_0_i_i_sink_i_i_i_i_i;
+    u32 p_v_r4_0_i_i_i_i_i97_i_i;
+    u1 p_v_r5_sroa_0_0_i_i_sink_i_i_i80_i_i;
+    u8 p_v_r5_sroa_4_0_i_i_sink_i_i_i81_i_i;
+    u32 p_v_r5_sroa_10_0_i_i_sink_i_i_i82_i_i;
+    u32 p_v_r4_0_i_i_i_i_i126_i_i;
+    u1 p_v_r5_sroa_0_0_i_i_sink_i_i_i109_i_i;
+    u8 p_v_r5_sroa_4_0_i_i_sink_i_i_i110_i_i;
+    u32 p_v_r5_sroa_10_0_i_i_sink_i_i_i111_i_i;
+    u32 p_v_r4_0_i_i_i_i_i155_i_i;
+    u1 p_v_r5_sroa_0_0_i_i_sink_i_i_i138_i_i;
+    u8 p_v_r5_sroa_4_0_i_i_sink_i_i_i139_i_i;
+    u32 p_v_r5_sroa_10_0_i_i_sink_i_i_i140_i_i;
+    u32 p_v_r4_0_i_i_i_i_i184_i_i;
+    u1 p_v_r5_sroa_0_0_i_i_sink_i_i_i167_i_i;
+    u8 p_v_r5_sroa_4_0_i_i_sink_i_i_i168_i_i;
+    u32 p_v_r5_sroa_10_0_i_i_sink_i_i_i169_i_i;
+    u32 p_v_r4_0_i_i_i_i_i_i_i_i;
+    u1 p_v_r5_sroa_0_0_i_i_sink_i_i_i_i_i_i;
+    u8 p_v_r5_sroa_4_0_i_i_sink_i_i_i_i_i_i;
+    u32 p_v_r5_sroa_10_0_i_i_sink_i_i_i_i_i_i;
+    u32 p_v_r4_0_i_i_i_i_i53_i_i_i;
+    u1 p_v_r5_sroa_0_0_i_i_sink_i_i_i36_i_i_i;
+    u8 p_v_r5_sroa_4_0_i_i_sink_i_i_i37_i_i_i;
+    u32 p_v_r5_sroa_10_0_i_i_sink_i_i_i38_i_i_i;
+    u32 p_v_r4_0_i_i_i_i_i82_i_i_i;
+    u32 p_v_r5_sroa_10_0_i_i_sink_i_i_i6731_i_i_i;
+    u8 p_v_r5_sroa_4_0_i_i_sink_i_i_i6628_i_i_i;
+    u1 p_v_r5_sroa_0_0_i_i_sink_i_i_i6524_i_i_i;
+    u64 p_v_r4_010_i_i_i_i_i_i_i_i_i;
+    u8 p_v_r3_sroa_0_09_i_i_i_i_i_i_i_i_i;
+    u8 p_v_r3_sroa_5_08_i_i_i_i_i_i_i_i_i;
+    u32 p_v_r3_sroa_14_07_i_i_i_i_i_i_i_i_i;
+    u32 p_v_r4_0_i_i_i_i_i_i_i_i_i_i_i_i_i_i_i_i_i;
+    u1 p_v_r5_sroa_0_0_i_i_sink_i_i_i_i_i_i_i_i_i_i_i_i_i_i_i;
+    u8 p_v_r5_sroa_4_0_i_i_sink_i_i_i_i_i_i_i_i_i_i_i_i_i_i_i;
+    u32 p_v_r5_sroa_10_0_i_i_sink_i_i_i_i_i_i_i_i_i_i_i_i_i_i_;
+    u32 p_v_r4_0_i_i_i_i_i56_i_i_i_i_i_i_i_i_i_i_i_i;
+    u1 p_v_r5_sroa_0_0_i_i_sink_i_i_i39_i_i_i_i_i_i_i_i_i_i_i;
+    u8 p_v_r5_sroa_4_0_i_i_sink_i_i_i40_i_i_i_i_i_i_i_i_i_i_i;
+    u32 p_v_r5_sroa_10_0_i_i_sink_i_i_i41_i_i_i_i_i_i_i_i_i_i_;
+    u32 p_v_r4_0_i_i_i_i_i85_i_i_i_i_i_i_i_i_i_i_i_i;
+    u1 p_v_r24_sroa_0_0_sink_i119_i_i_i_i_i_i_i_i_i_i_i_i;
+    u8 p_v_r24_sroa_4_0_sink_i120_i_i_i_i_i_i_i_i_i_i_i_i;
+    u32 p_v_r24_sroa_13_0_sink_i123_i_i_i_i_i_i_i_i_i_i_i_i;
+    u32 p_v_r4_0_i_i_i_i_i_i_i_i_i_i_i_i_i;
+    u1 p_v_r5_sroa_0_0_i_i_sink_i_i_i_i_i_i_i_i_i_i_i;
+    u8 p_v_r5_sroa_4_0_i_i_sink_i_i_i_i_i_i_i_i_i_i_i;
+    u32 p_v_r5_sroa_10_0_i_i_sink_i_i_i_i_i_i_i_i_i_i_i;
+    u8 p_v_r24_sroa_0_0_sink_i_i_i_i_i_i_i_i_i_i;
+    u8 p_v_r24_sroa_4_0_sink_i_i_i_i_i_i_i_i_i_i;
+    u32 p_v_r24_sroa_13_0_sink_i_i_i_i_i_i_i_i_i_i;
+    u32 p_v_r4_0_i_i_i_i_i_i_i_i_i;
+    u1 p_v_r3_i_sroa_0_0_sink_i_i_i_i;
+    u8 p_v_r3_i_sroa_6_0_sink_i_i_i_i;
+    u8 p_v_sink_i_i_i_i;
+    u32 p_v_r3_i_sroa_12_0_sink_i_i_i_i;
+    u32 p_v_r5_sroa_10_0_i_i_sink_i_i_i6729_i_i_i;
+    u32 p_v_r3_i_sroa_12_0_sink_i1116_i_i_i;
+    u1 p_v_r24_sroa_0_0_sink_i_i_i_i;
+    u8 p_v_r24_sroa_4_0_sink_i_i_i_i;
+    u8 p_v_r24_sroa_7_0_sink_i_i_i_i;
+    u32 p_v_r24_sroa_13_0_sink_i_i_i_i;
+    u1 p_v_r24_sroa_0_0_sink_i115_i_i_i;
+    u8 p_v_r24_sroa_4_0_sink_i116_i_i_i;
+    u8 p_v_r24_sroa_7_0_sink_i117_i_i_i;
+    u32 p_v_r24_sroa_13_0_sink_i119_i_i_i;
+    u1 p_v_r24_sroa_0_0_sink_i154_i_i_i;
+    u8 p_v_r24_sroa_4_0_sink_i155_i_i_i;
+    u8 p_v_r24_sroa_7_0_sink_i156_i_i_i;
+    u32 p_v_r24_sroa_13_0_sink_i158_i_i_i;
+    u1 p_v_r24_sroa_0_0_sink_i_i_i;
+    u8 p_v_r24_sroa_4_0_sink_i_i_i;
+    u8 p_v_r24_sroa_7_0_sink_i_i_i;
+    u32 p_v_r24_sroa_13_0_sink_i_i_i;
+    u1 p_v_r24_sroa_0_0_sink_i219_i_i;
+    u8 p_v_r24_sroa_4_0_sink_i220_i_i;
+    u8 p_v_r24_sroa_7_0_sink_i221_i_i;
+    u32 p_v_r24_sroa_13_0_sink_i223_i_i;
+    u1 p_v_r24_sroa_0_0_sink_i258_i_i;
+    u8 p_v_r24_sroa_4_0_sink_i259_i_i;
+    u8 p_v_r24_sroa_7_0_sink_i260_i_i;
+    u32 p_v_r24_sroa_13_0_sink_i262_i_i;
+    u1 p_v_r24_sroa_0_0_sink_i297_i_i;
+    u8 p_v_r24_sroa_4_0_sink_i298_i_i;
+    u8 p_v_r24_sroa_7_0_sink_i299_i_i;
+    u32 p_v_r24_sroa_13_0_sink_i301_i_i;
     u32 p_v_r4_0_i_i_i;
     u8 p_v_r5_sroa_0_0_i_i_sink_i;
     u8 p_v_r5_sroa_4_0_i_i_sink_i;
     u8 p_v_sink_i;
     u32 p_v_r5_sroa_10_0_i_i_sink_i;
-    P v_r19_i_i;
-    u8 v_r3_i29_i_i;
+    P v_r25_i_i;
+    u8 v_r3_i69_i_i;
     u1 v_0;
     P v_1;
     u64 v_r4_val_i_i_i;
     u1 v_r5_i_i_i_i;
     P v_2;
-    u64 v_r25_val_val_i_i_i;
+    u64 v_r6_i_val_val_i_i;
     P v_3;
-    u64 v_r25_val_val3_i_i_i;
+    u64 v_r6_i_val_val64_i_i;
+    u64 v_r10_i_i_i_i_i_i;
+    u1 v_r12_not_i_i_i_i_i_i_i;
+    u64 v_r4_sroa_10_0_i_i9_i_i_i_i_i;
+    u32 v_r4_sroa_10_0_i_i_i_i_i_i_i;
+    u1 v_r12_i_i_i_i_i_i_i;
+    u1 v_r17_i_i_i_i_i_i_i;
+    u1 v_r22_i_i_i_i_i_i_i;
+    u1 v_r27_i_i_i_i_i_i_i;
+    u32 v_i_i_i_i_i_i_i;
+    u32 v_r8_0_i_i_i_i_i_i_i;
+    u32 v_r4_0_i_i_i_i_i_i_i;
+    u32 v_r5_i_i_i_i_i_i_i_i;
+    u1 v_r7_i_not_i_i_i_i_i_i_i;
+    u32 v_r11_i_i_i_i_i_i_i_i;
+    u8 v_r5_sroa_4_0_i_i_i_i_i_i_i;
+    u32 v_r5_sroa_10_0_i_i_i_i_i_i_i;
+    u1 v_r5_sroa_0_0_i_i_sink_i_i_i_i_i;
+    u8 v_r5_sroa_4_0_i_i_sink_i_i_i_i_i;
+    u32 v_r5_sroa_10_0_i_i_sink_i_i_i_i_i;
+    P v_4;
+    u64 v_r6_i7_val_val_i_i;
+    P v_5;
+    u64 v_r6_i7_val_val65_i_i;
+    u64 v_r10_i_i_i_i76_i_i;
+    u1 v_r12_not_i_i_i_i_i77_i_i;
+    u64 v_r4_sroa_10_0_i_i9_i_i_i78_i_i;
+    u32 v_r4_sroa_10_0_i_i_i_i_i79_i_i;
+    u1 v_r12_i_i_i_i_i88_i_i;
+    u1 v_r17_i_i_i_i_i90_i_i;
+    u1 v_r22_i_i_i_i_i92_i_i;
+    u1 v_r27_i_i_i_i_i93_i_i;
+    u32 v_i_i_i_i_i94_i_i;
+    u32 v_r8_0_i_i_i_i_i95_i_i;
+    u32 v_r4_0_i_i_i_i_i97_i_i;
+    u32 v_r5_i_i_i_i_i_i98_i_i;
+    u1 v_r7_i_not_i_i_i_i_i99_i_i;
+    u32 v_r11_i_i_i_i_i_i100_i_i;
+    u8 v_r5_sroa_4_0_i_i_i_i_i102_i_i;
+    u32 v_r5_sroa_10_0_i_i_i_i_i103_i_i;
+    u1 v_r5_sroa_0_0_i_i_sink_i_i_i80_i_i;
+    u8 v_r5_sroa_4_0_i_i_sink_i_i_i81_i_i;
+    u32 v_r5_sroa_10_0_i_i_sink_i_i_i82_i_i;
+    P v_6;
+    u64 v_r6_i19_val_val_i_i;
+    P v_7;
+    u64 v_r6_i19_val_val66_i_i;
+    u64 v_r10_i_i_i_i105_i_i;
+    u1 v_r12_not_i_i_i_i_i106_i_i;
+    u64 v_r4_sroa_10_0_i_i9_i_i_i107_i_i;
+    u32 v_r4_sroa_10_0_i_i_i_i_i108_i_i;
+    u1 v_r12_i_i_i_i_i117_i_i;
+    u1 v_r17_i_i_i_i_i119_i_i;
+    u1 v_r22_i_i_i_i_i121_i_i;
+    u1 v_r27_i_i_i_i_i122_i_i;
+    u32 v_i_i_i_i_i123_i_i;
+    u32 v_r8_0_i_i_i_i_i124_i_i;
+    u32 v_r4_0_i_i_i_i_i126_i_i;
+    u32 v_r5_i_i_i_i_i_i127_i_i;
+    u1 v_r7_i_not_i_i_i_i_i128_i_i;
+    u32 v_r11_i_i_i_i_i_i129_i_i;
+    u8 v_r5_sroa_4_0_i_i_i_i_i131_i_i;
+    u32 v_r5_sroa_10_0_i_i_i_i_i132_i_i;
+    u1 v_r5_sroa_0_0_i_i_sink_i_i_i109_i_i;
+    u8 v_r5_sroa_4_0_i_i_sink_i_i_i110_i_i;
+    u32 v_r5_sroa_10_0_i_i_sink_i_i_i111_i_i;
+    P v_8;
+    u64 v_r6_i31_val_val_i_i;
+    P v_9;
+    u64 v_r6_i31_val_val67_i_i;
+    u64 v_r10_i_i_i_i134_i_i;
+    u1 v_r12_not_i_i_i_i_i135_i_i;
+    u64 v_r4_sroa_10_0_i_i9_i_i_i136_i_i;
+    u32 v_r4_sroa_10_0_i_i_i_i_i137_i_i;
+    u1 v_r12_i_i_i_i_i146_i_i;
+    u1 v_r17_i_i_i_i_i148_i_i;
+    u1 v_r22_i_i_i_i_i150_i_i;
+    u1 v_r27_i_i_i_i_i151_i_i;
+    u32 v_i_i_i_i_i152_i_i;
+    u32 v_r8_0_i_i_i_i_i153_i_i;
+    u32 v_r4_0_i_i_i_i_i155_i_i;
+    u32 v_r5_i_i_i_i_i_i156_i_i;
+    u1 v_r7_i_not_i_i_i_i_i157_i_i;
+    u32 v_r11_i_i_i_i_i_i158_i_i;
+    u8 v_r5_sroa_4_0_i_i_i_i_i160_i_i;
+    u32 v_r5_sroa_10_0_i_i_i_i_i161_i_i;
+    u1 v_r5_sroa_0_0_i_i_sink_i_i_i138_i_i;
+    u8 v_r5_sroa_4_0_i_i_sink_i_i_i139_i_i;
+    u32 v_r5_sroa_10_0_i_i_sink_i_i_i140_i_i;
+    P v_10;
+    u64 v_r6_i43_val_val_i_i;
+    P v_11;
+    u64 v_r6_i43_val_val68_i_i;
+    u64 v_r10_i_i_i_i163_i_i;
+    u1 v_r12_not_i_i_i_i_i164_i_i;
+    u64 v_r4_sroa_10_0_i_i9_i_i_i165_i_i;
+    u32 v_r4_sroa_10_0_i_i_i_i_i166_i_i;
+    u1 v_r12_i_i_i_i_i175_i_i;
+    u1 v_r17_i_i_i_i_i177_i_i;
+    u1 v_r22_i_i_i_i_i179_i_i;
+    u1 v_r27_i_i_i_i_i180_i_i;
+    u32 v_i_i_i_i_i181_i_i;
+    u32 v_r8_0_i_i_i_i_i182_i_i;
+    u32 v_r4_0_i_i_i_i_i184_i_i;
+    u32 v_r5_i_i_i_i_i_i185_i_i;
+    u1 v_r7_i_not_i_i_i_i_i186_i_i;
+    u32 v_r11_i_i_i_i_i_i187_i_i;
+    u8 v_r5_sroa_4_0_i_i_i_i_i189_i_i;
+    u32 v_r5_sroa_10_0_i_i_i_i_i190_i_i;
+    u1 v_r5_sroa_0_0_i_i_sink_i_i_i167_i_i;
+    u8 v_r5_sroa_4_0_i_i_sink_i_i_i168_i_i;
+    u32 v_r5_sroa_10_0_i_i_sink_i_i_i169_i_i;
+    P v_12;
+    u64 v_r13_val_val_i_i_i;
+    P v_13;
+    u64 v_r13_val_val26_i_i_i;
     u64 v_r10_i_i_i_i_i_i_i;
     u1 v_r12_not_i_i_i_i_i_i_i_i;
     u64 v_r4_sroa_10_0_i_i9_i_i_i_i_i_i;
@@ -22237,338 +22384,280 @@ static void f_der_core_encode_AnyEncode_encoded_len_3a3c98235cfe(P v_a0, P v_a1)
     u32 v_r8_0_i_i_i_i_i_i_i_i;
     u32 v_r4_0_i_i_i_i_i_i_i_i;
     u32 v_r5_i_i_i_i_i_i_i_i_i;
-    u1 v_r7_i_not_i_i_i_i_i_not_i_i_i;
+    u1 v_r7_i_not_i_i_i_i_i_i_i_i;
     u32 v_r11_i_i_i_i_i_i_i_i_i;
-    u1 v_4;
-    u8 v_r24_sroa_4_0_sink_i_i_i_i;
-    u32 v_r24_sroa_13_0_sink_i_i_i_i;
-    P v_5;
-    u64 v_r25_val_val_1_i_i_i;
-    P v_6;
-    u64 v_r25_val_val3_1_i_i_i;
-    u64 v_r10_i_i_i_i_1_i_i_i;
-    u1 v_r12_not_i_i_i_i_i_1_i_i_i;
-    u64 v_r4_sroa_10_0_i_i9_i_i_i_1_i_i_i;
-    u32 v_r4_sroa_10_0_i_i_i_i_i_1_i_i_i;
-    u1 v_r12_i_i_i_i_i_1_i_i_i;
-    u1 v_r17_i_i_i_i_i_1_i_i_i;
-    u1 v_r22_i_i_i_i_i_1_i_i_i;
-    u1 v_r27_i_i_i_i_i_1_i_i_i;
-    u32 v_i_i_i_i_i_1_i_i_i;
-    u32 v_r8_0_i_i_i_i_i_1_i_i_i;
-    u32 v_r4_0_i_i_i_i_i_1_i_i_i;
-    u32 v_r5_i_i_i_i_i_i_1_i_i_i;
-    u1 v_r7_i_not_i_i_i_i_i_1_not_i_i_i;
-    u32 v_r11_i_i_i_i_i_i_1_i_i_i;
-    u8 v_spec_select_i_i_i;
-    u32 v_r5_i_i_i_1_i_i_i;
-    u1 v_r7_i_not_i_i_1_i_i_i;
-    u32 v_r11_i_i_i_1_i_i_i;
-    u8 v_r5_sroa_4_0_i_i_1_i_i_i;
-    u32 v_r5_sroa_10_0_i_i_1_i_i_i;
-    u1 v_r24_sroa_0_0_sink_i_1_i_i_i;
-    u8 v_r24_sroa_4_0_sink_i_1_i_i_i;
-    u32 v_r24_sroa_13_0_sink_i_1_i_i_i;
-    P v_7;
-    u64 v_r25_val_val_2_i_i_i;
-    P v_8;
-    u64 v_r25_val_val3_2_i_i_i;
-    u64 v_r10_i_i_i_i_2_i_i_i;
-    u1 v_r12_not_i_i_i_i_i_2_i_i_i;
-    u64 v_r4_sroa_10_0_i_i9_i_i_i_2_i_i_i;
-    u32 v_r4_sroa_10_0_i_i_i_i_i_2_i_i_i;
-    u1 v_r12_i_i_i_i_i_2_i_i_i;
-    u1 v_r17_i_i_i_i_i_2_i_i_i;
-    u1 v_r22_i_i_i_i_i_2_i_i_i;
-    u1 v_r27_i_i_i_i_i_2_i_i_i;
-    u32 v_i_i_i_i_i_2_i_i_i;
-    u32 v_r8_0_i_i_i_i_i_2_i_i_i;
-    u32 v_r4_0_i_i_i_i_i_2_i_i_i;
-    u32 v_r5_i_i_i_i_i_i_2_i_i_i;
-    u1 v_r7_i_not_i_i_i_i_i_2_not_i_i_i;
-    u32 v_r11_i_i_i_i_i_i_2_i_i_i;
-    u8 v_spec_select46_i_i_i;
-    u32 v_r5_i_i_i_2_i_i_i;
-    u1 v_r7_i_not_i_i_2_i_i_i;
-    u32 v_r11_i_i_i_2_i_i_i;
-    u8 v_r5_sroa_4_0_i_i_2_i_i_i;
-    u32 v_r5_sroa_10_0_i_i_2_i_i_i;
-    u1 v_r24_sroa_0_0_sink_i_2_i_i_i;
-    u8 v_r24_sroa_4_0_sink_i_2_i_i_i;
-    u32 v_r24_sroa_13_0_sink_i_2_i_i_i;
-    P v_9;
-    u64 v_r25_val_val_3_i_i_i;
-    P v_10;
-    u64 v_r25_val_val3_3_i_i_i;
-    u64 v_r10_i_i_i_i_3_i_i_i;
-    u1 v_r12_not_i_i_i_i_i_3_i_i_i;
-    u64 v_r4_sroa_10_0_i_i9_i_i_i_3_i_i_i;
-    u32 v_r4_sroa_10_0_i_i_i_i_i_3_i_i_i;
-    u1 v_r12_i_i_i_i_i_3_i_i_i;
-    u1 v_r17_i_i_i_i_i_3_i_i_i;
-    u1 v_r22_i_i_i_i_i_3_i_i_i;
-    u1 v_r27_i_i_i_i_i_3_i_i_i;
-    u32 v_i_i_i_i_i_3_i_i_i;
-    u32 v_r8_0_i_i_i_i_i_3_i_i_i;
-    u32 v_r4_0_i_i_i_i_i_3_i_i_i;
-    u32 v_r5_i_i_i_i_i_i_3_i_i_i;
-    u1 v_r7_i_not_i_i_i_i_i_3_not_i_i_i;
-    u32 v_r11_i_i_i_i_i_i_3_i_i_i;
-    u8 v_spec_select47_i_i_i;
-    u32 v_r5_i_i_i_3_i_i_i;
-    u1 v_r7_i_not_i_i_3_i_i_i;
-    u32 v_r11_i_i_i_3_i_i_i;
-    u8 v_r5_sroa_4_0_i_i_3_i_i_i;
-    u32 v_r5_sroa_10_0_i_i_3_i_i_i;
-    u1 v_r24_sroa_0_0_sink_i_3_i_i_i;
-    u8 v_r24_sroa_4_0_sink_i_3_i_i_i;
-    u32 v_r24_sroa_13_0_sink_i_3_i_i_i;
-    P v_11;
-    u64 v_r25_val_val_4_i_i_i;
-    P v_12;
-    u64 v_r25_val_val3_4_i_i_i;
-    u64 v_r10_i_i_i_i_4_i_i_i;
-    u1 v_r12_not_i_i_i_i_i_4_i_i_i;
-    u64 v_r4_sroa_10_0_i_i9_i_i_i_4_i_i_i;
-    u32 v_r4_sroa_10_0_i_i_i_i_i_4_i_i_i;
-    u1 v_r12_i_i_i_i_i_4_i_i_i;
-    u1 v_r17_i_i_i_i_i_4_i_i_i;
-    u1 v_r22_i_i_i_i_i_4_i_i_i;
-    u1 v_r27_i_i_i_i_i_4_i_i_i;
-    u32 v_i_i_i_i_i_4_i_i_i;
-    u32 v_r8_0_i_i_i_i_i_4_i_i_i;
-    u32 v_r4_0_i_i_i_i_i_4_i_i_i;
-    u32 v_r5_i_i_i_i_i_i_4_i_i_i;
-    u1 v_r7_i_not_i_i_i_i_i_4_not_i_i_i;
-    u32 v_r11_i_i_i_i_i_i_4_i_i_i;
-    u8 v_spec_select48_i_i_i;
-    u32 v_r5_i_i_i_4_i_i_i;
-    u1 v_r7_i_not_i_i_4_i_i_i;
-    u32 v_r11_i_i_i_4_i_i_i;
-    u8 v_r5_sroa_4_0_i_i_4_i_i_i;
-    u32 v_r5_sroa_10_0_i_i_4_i_i_i;
-    u1 v_r24_sroa_0_0_sink_i_4_i_i_i;
-    u8 v_r24_sroa_4_0_sink_i_4_i_i_i;
-    u32 v_r24_sroa_13_0_sink_i_4_i_i_i;
-    P v_13;
-    u64 v_r25_val_val_5_i_i_i;
+    u8 v_r5_sroa_4_0_i_i_i_i_i_i_i_i;
+    u32 v_r5_sroa_10_0_i_i_i_i_i_i_i_i;
+    u1 v_r5_sroa_0_0_i_i_sink_i_i_i_i_i_i;
+    u8 v_r5_sroa_4_0_i_i_sink_i_i_i_i_i_i;
+    u32 v_r5_sroa_10_0_i_i_sink_i_i_i_i_i_i;
     P v_14;
-    u64 v_r25_val_val3_5_i_i_i;
-    u64 v_r10_i_i_i_i_5_i_i_i;
-    u1 v_r12_not_i_i_i_i_i_5_i_i_i;
-    u64 v_r4_sroa_10_0_i_i9_i_i_i_5_i_i_i;
-    u32 v_r4_sroa_10_0_i_i_i_i_i_5_i_i_i;
-    u1 v_r12_i_i_i_i_i_5_i_i_i;
-    u1 v_r17_i_i_i_i_i_5_i_i_i;
-    u1 v_r22_i_i_i_i_i_5_i_i_i;
-    u1 v_r27_i_i_i_i_i_5_i_i_i;
-    u32 v_i_i_i_i_i_5_i_i_i;
-    u32 v_r8_0_i_i_i_i_i_5_i_i_i;
-    u32 v_r4_0_i_i_i_i_i_5_i_i_i;
-    u32 v_r5_i_i_i_i_i_i_5_i_i_i;
-    u1 v_r7_i_not_i_i_i_i_i_5_not_i_i_i;
-    u32 v_r11_i_i_i_i_i_i_5_i_i_i;
-    u8 v_spec_select49_i_i_i;
-    u32 v_r5_i_i_i_5_i_i_i;
-    u1 v_r7_i_not_i_i_5_i_i_i;
-    u32 v_r11_i_i_i_5_i_i_i;
-    u8 v_r5_sroa_4_0_i_i_5_i_i_i;
-    u32 v_r5_sroa_10_0_i_i_5_i_i_i;
-    u1 v_r24_sroa_0_0_sink_i_5_i_i_i;
-    u8 v_r24_sroa_4_0_sink_i_5_i_i_i;
-    u32 v_r24_sroa_13_0_sink_i_5_i_i_i;
+    u64 v_r6_i_val_val_i_i_i;
     P v_15;
-    u64 v_r25_val_val_6_i_i_i;
+    u64 v_r6_i_val_val27_i_i_i;
+    u64 v_r10_i_i_i_i32_i_i_i;
+    u1 v_r12_not_i_i_i_i_i33_i_i_i;
+    u64 v_r4_sroa_10_0_i_i9_i_i_i34_i_i_i;
+    u32 v_r4_sroa_10_0_i_i_i_i_i35_i_i_i;
+    u1 v_r12_i_i_i_i_i44_i_i_i;
+    u1 v_r17_i_i_i_i_i46_i_i_i;
+    u1 v_r22_i_i_i_i_i48_i_i_i;
+    u1 v_r27_i_i_i_i_i49_i_i_i;
+    u32 v_i_i_i_i_i50_i_i_i;
+    u32 v_r8_0_i_i_i_i_i51_i_i_i;
+    u32 v_r4_0_i_i_i_i_i53_i_i_i;
+    u32 v_r5_i_i_i_i_i_i54_i_i_i;
+    u1 v_r7_i_not_i_i_i_i_i55_i_i_i;
+    u32 v_r11_i_i_i_i_i_i56_i_i_i;
+    u8 v_r5_sroa_4_0_i_i_i_i_i58_i_i_i;
+    u32 v_r5_sroa_10_0_i_i_i_i_i59_i_i_i;
+    u1 v_r5_sroa_0_0_i_i_sink_i_i_i36_i_i_i;
+    u8 v_r5_sroa_4_0_i_i_sink_i_i_i37_i_i_i;
+    u32 v_r5_sroa_10_0_i_i_sink_i_i_i38_i_i_i;
     P v_16;
-    u64 v_r25_val_val3_6_i_i_i;
-    u64 v_r10_i_i_i_i_6_i_i_i;
-    u1 v_r12_not_i_i_i_i_i_6_i_i_i;
-    u64 v_r4_sroa_10_0_i_i9_i_i_i_6_i_i_i;
-    u32 v_r4_sroa_10_0_i_i_i_i_i_6_i_i_i;
-    u1 v_r12_i_i_i_i_i_6_i_i_i;
-    u1 v_r17_i_i_i_i_i_6_i_i_i;
-    u1 v_r22_i_i_i_i_i_6_i_i_i;
-    u1 v_r27_i_i_i_i_i_6_i_i_i;
-    u32 v_i_i_i_i_i_6_i_i_i;
-    u32 v_r8_0_i_i_i_i_i_6_i_i_i;
-    u32 v_r4_0_i_i_i_i_i_6_i_i_i;
-    u32 v_r5_i_i_i_i_i_i_6_i_i_i;
-    u1 v_r7_i_not_i_i_i_i_i_6_not_i_i_i;
-    u32 v_r11_i_i_i_i_i_i_6_i_i_i;
-    u8 v_spec_select50_i_i_i;
-    u32 v_r5_i_i_i_6_i_i_i;
-    u1 v_r7_i_not_i_i_6_i_i_i;
-    u32 v_r11_i_i_i_6_i_i_i;
-    u8 v_r5_sroa_4_0_i_i_6_i_i_i;
-    u32 v_r5_sroa_10_0_i_i_6_i_i_i;
-    u1 v_r24_sroa_0_0_sink_i_6_i_i_i;
-    u8 v_r24_sroa_4_0_sink_i_6_i_i_i;
-    u32 v_r24_sroa_13_0_sink_i_6_i_i_i;
+    u64 v_r6_i5_val_val_i_i_i;
     P v_17;
-    u64 v_r25_val_val_7_i_i_i;
+    u64 v_r6_i5_val_val28_i_i_i;
+    u64 v_r10_i_i_i_i61_i_i_i;
+    u1 v_r12_not_i_i_i_i_i62_i_i_i;
+    u64 v_r4_sroa_10_0_i_i9_i_i_i63_i_i_i;
+    u32 v_r4_sroa_10_0_i_i_i_i_i64_i_i_i;
+    u1 v_r12_i_i_i_i_i73_i_i_i;
+    u1 v_r17_i_i_i_i_i75_i_i_i;
+    u1 v_r22_i_i_i_i_i77_i_i_i;
+    u1 v_r27_i_i_i_i_i78_i_i_i;
+    u32 v_i_i_i_i_i79_i_i_i;
+    u32 v_r8_0_i_i_i_i_i80_i_i_i;
+    u32 v_r4_0_i_i_i_i_i82_i_i_i;
+    u32 v_r5_i_i_i_i_i_i83_i_i_i;
+    u1 v_r7_i_not_i_i_i_i_i84_i_i_i;
+    u32 v_r11_i_i_i_i_i_i85_i_i_i;
+    u8 v_r5_sroa_4_0_i_i_i_i_i87_i_i_i;
+    u32 v_r5_sroa_10_0_i_i_i_i_i88_i_i_i;
+    u32 v_r5_sroa_10_0_i_i_sink_i_i_i6731_i_i_i;
+    u8 v_r5_sroa_4_0_i_i_sink_i_i_i6628_i_i_i;
+    u1 v_r5_sroa_0_0_i_i_sink_i_i_i6524_i_i_i;
     P v_18;
-    u64 v_r25_val_val3_7_i_i_i;
-    u64 v_r10_i_i_i_i_7_i_i_i;
-    u1 v_r12_not_i_i_i_i_i_7_i_i_i;
-    u64 v_r4_sroa_10_0_i_i9_i_i_i_7_i_i_i;
-    u32 v_r4_sroa_10_0_i_i_i_i_i_7_i_i_i;
-    u1 v_r12_i_i_i_i_i_7_i_i_i;
-    u1 v_r17_i_i_i_i_i_7_i_i_i;
-    u1 v_r22_i_i_i_i_i_7_i_i_i;
-    u1 v_r27_i_i_i_i_i_7_i_i_i;
-    u32 v_i_i_i_i_i_7_i_i_i;
-    u32 v_r8_0_i_i_i_i_i_7_i_i_i;
-    u32 v_r4_0_i_i_i_i_i_7_i_i_i;
-    u32 v_r5_i_i_i_i_i_i_7_i_i_i;
-    u1 v_r7_i_not_i_i_i_i_i_7_not_i_i_i;
-    u32 v_r11_i_i_i_i_i_i_7_i_i_i;
-    u8 v_spec_select51_i_i_i;
-    u32 v_r5_i_i_i_7_i_i_i;
-    u1 v_r7_i_not_i_i_7_i_i_i;
-    u32 v_r11_i_i_i_7_i_i_i;
-    u8 v_r5_sroa_4_0_i_i_7_i_i_i;
-    u32 v_r5_sroa_10_0_i_i_7_i_i_i;
-    u1 v_r24_sroa_0_0_sink_i_7_i_i_i;
-    u8 v_r24_sroa_4_0_sink_i_7_i_i_i;
-    u32 v_r24_sroa_13_0_sink_i_7_i_i_i;
-    P v_r5_i41_i_i;
-    P v_r5_val_i_i_i;
+    u64 v_r4_val_i_i_i_i_i;
+    u1 v_r5_i_i_i_i_i_i;
+    P v_r7_i7_i_i_i_i;
+    P v_r8_i_val_val_i_i_i_i;
+    u64 v_r4_010_i_i_i_i_i_i_i_i_i;
+    u8 v_r3_sroa_0_09_i_i_i_i_i_i_i_i_i;
+    u8 v_r3_sroa_5_08_i_i_i_i_i_i_i_i_i;
+    u32 v_r3_sroa_14_07_i_i_i_i_i_i_i_i_i;
+    u64 v_r22_i_i_i_i_i_i_i_i_i;
+    P v_r25_i_i_i_i_i_i_i_i_i;
     P v_19;
-    u64 v_r5_val1_i_i_i;
-    u1 v_r176_not_i_i_i_i_i_i_i;
-    u64 v_r4_010_i_i_i_i_i_i_i;
-    u8 v_r3_sroa_0_09_i_i_i_i_i_i_i;
-    u8 v_r3_sroa_5_08_i_i_i_i_i_i_i;
-    u32 v_r3_sroa_14_07_i_i_i_i_i_i_i;
-    u64 v_r22_i_i_i_i_i_i_i;
-    P v_r25_i_i_i_i_i_i_i;
+    u64 v_r10_val_val_i_i_i_i_i_i_i_i_i_i_i_i;
     P v_20;
-    u64 v_r10_val_val_i_i_i_i_i_i_i_i_i_i;
+    u64 v_r10_val_val29_i_i_i_i_i_i_i_i_i_i_i_i;
+    u64 v_r10_i_i_i_i_i_i_i_i_i_i_i_i_i_i_i_i;
+    u1 v_r12_not_i_i_i_i_i_i_i_i_i_i_i_i_i_i_i_i_i;
+    u64 v_r4_sroa_10_0_i_i9_i_i_i_i_i_i_i_i_i_i_i_i_i_i_i;
+    u32 v_r4_sroa_10_0_i_i_i_i_i_i_i_i_i_i_i_i_i_i_i_i_i;
+    u1 v_r12_i_i_i_i_i_i_i_i_i_i_i_i_i_i_i_i_i;
+    u1 v_r17_i_i_i_i_i_i_i_i_i_i_i_i_i_i_i_i_i;
+    u1 v_r22_i_i_i_i_i_i_i_i_i_i_i_i_i_i_i_i_i;
+    u1 v_r27_i_i_i_i_i_i_i_i_i_i_i_i_i_i_i_i_i;
+    u32 v_i_i_i_i_i_i_i_i_i_i_i_i_i_i_i_i_i;
+    u32 v_r8_0_i_i_i_i_i_i_i_i_i_i_i_i_i_i_i_i_i;
+    u32 v_r4_0_i_i_i_i_i_i_i_i_i_i_i_i_i_i_i_i_i;
+    u32 v_r5_i_i_i_i_i_i_i_i_i_i_i_i_i_i_i_i_i_i;
+    u1 v_r7_i_not_i_i_i_i_i_i_i_i_i_i_i_i_i_i_i_i_i;
+    u32 v_r11_i_i_i_i_i_i_i_i_i_i_i_i_i_i_i_i_i_i;
+    u8 v_r5_sroa_4_0_i_i_i_i_i_i_i_i_i_i_i_i_i_i_i_i_i;
+    u32 v_r5_sroa_10_0_i_i_i_i_i_i_i_i_i_i_i_i_i_i_i_i_i;
+    u1 v_r5_sroa_0_0_i_i_sink_i_i_i_i_i_i_i_i_i_i_i_i_i_i_i;
+    u8 v_r5_sroa_4_0_i_i_sink_i_i_i_i_i_i_i_i_i_i_i_i_i_i_i;
+    u32 v_r5_sroa_10_0_i_i_sink_i_i_i_i_i_i_i_i_i_i_i_i_i_i_;
     P v_21;
-    u64 v_r10_val_val29_i_i_i_i_i_i_i_i_i_i;
-    u64 v_r10_i_i_i_i_i_i_i_i_i_i_i_i_i_i;
-    u1 v_r12_not_i_i_i_i_i_i_i_i_i_i_i_i_i_i_i;
-    u64 v_r4_sroa_10_0_i_i9_i_i_i_i_i_i_i_i_i_i_i_i_i;
-    u32 v_r4_sroa_10_0_i_i_i_i_i_i_i_i_i_i_i_i_i_i_i;
-    u1 v_r12_i_i_i_i_i_i_i_i_i_i_i_i_i_i_i;
-    u1 v_r17_i_i_i_i_i_i_i_i_i_i_i_i_i_i_i;
-    u1 v_r22_i_i_i_i_i_i_i_i_i_i_i_i_i_i_i;
-    u1 v_r27_i_i_i_i_i_i_i_i_i_i_i_i_i_i_i;
-    u32 v_i_i_i_i_i_i_i_i_i_i_i_i_i_i_i;
-    u32 v_r8_0_i_i_i_i_i_i_i_i_i_i_i_i_i_i_i;
-    u32 v_r4_0_i_i_i_i_i_i_i_i_i_i_i_i_i_i_i;
-    u32 v_r5_i_i_i_i_i_i_i_i_i_i_i_i_i_i_i_i;
-    u1 v_r7_i_not_i_i_i_i_i_i_i_i_i_i_i_i_i_i_i;
-    u32 v_r11_i_i_i_i_i_i_i_i_i_i_i_i_i_i_i_i;
-    u8 v_r5_sroa_4_0_i_i_i_i_i_i_i_i_i_i_i_i_i_i_i;
-    u32 v_r5_sroa_10_0_i_i_i_i_i_i_i_i_i_i_i_i_i_i_i;
-    u1 v_r5_sroa_0_0_i_i_sink_i_i_i_i_i_i_i_i_i_i_i_i_i;
-    u8 v_r5_sroa_4_0_i_i_sink_i_i_i_i_i_i_i_i_i_i_i_i_i;
-    u32 v_r5_sroa_10_0_i_i_sink_i_i_i_i_i_i_i_i_i_i_i_i_i;
+    u64 v_r6_i_val_val_i_i_i_i_i_i_i_i_i_i_i_i;
     P v_22;
-    u64 v_r6_i_val_val_i_i_i_i_i_i_i_i_i_i;
+    u64 v_r6_i_val_val30_i_i_i_i_i_i_i_i_i_i_i_i;
+    u64 v_r10_i_i_i_i35_i_i_i_i_i_i_i_i_i_i_i_i;
+    u1 v_r12_not_i_i_i_i_i36_i_i_i_i_i_i_i_i_i_i_i_i;
+    u64 v_r4_sroa_10_0_i_i9_i_i_i37_i_i_i_i_i_i_i_i_i_i_i_i;
+    u32 v_r4_sroa_10_0_i_i_i_i_i38_i_i_i_i_i_i_i_i_i_i_i_i;
+    u1 v_r12_i_i_i_i_i47_i_i_i_i_i_i_i_i_i_i_i_i;
+    u1 v_r17_i_i_i_i_i49_i_i_i_i_i_i_i_i_i_i_i_i;
+    u1 v_r22_i_i_i_i_i51_i_i_i_i_i_i_i_i_i_i_i_i;
+    u1 v_r27_i_i_i_i_i52_i_i_i_i_i_i_i_i_i_i_i_i;
+    u32 v_i_i_i_i_i53_i_i_i_i_i_i_i_i_i_i_i_i;
+    u32 v_r8_0_i_i_i_i_i54_i_i_i_i_i_i_i_i_i_i_i_i;
+    u32 v_r4_0_i_i_i_i_i56_i_i_i_i_i_i_i_i_i_i_i_i;
+    u32 v_r5_i_i_i_i_i_i57_i_i_i_i_i_i_i_i_i_i_i_i;
+    u1 v_r7_i_not_i_i_i_i_i58_i_i_i_i_i_i_i_i_i_i_i_i;
+    u32 v_r11_i_i_i_i_i_i59_i_i_i_i_i_i_i_i_i_i_i_i;
+    u8 v_r5_sroa_4_0_i_i_i_i_i61_i_i_i_i_i_i_i_i_i_i_i_i;
+    u32 v_r5_sroa_10_0_i_i_i_i_i62_i_i_i_i_i_i_i_i_i_i_i_i;
+    u1 v_r5_sroa_0_0_i_i_sink_i_i_i39_i_i_i_i_i_i_i_i_i_i_i;
+    u8 v_r5_sroa_4_0_i_i_sink_i_i_i40_i_i_i_i_i_i_i_i_i_i_i;
+    u32 v_r5_sroa_10_0_i_i_sink_i_i_i41_i_i_i_i_i_i_i_i_i_i_;
     P v_23;
-    u64 v_r6_i_val_val30_i_i_i_i_i_i_i_i_i_i;
-    u64 v_r10_i_i_i_i35_i_i_i_i_i_i_i_i_i_i;
-    u1 v_r12_not_i_i_i_i_i36_i_i_i_i_i_i_i_i_i_i;
-    u64 v_r4_sroa_10_0_i_i9_i_i_i37_i_i_i_i_i_i_i_i_i_i;
-    u32 v_r4_sroa_10_0_i_i_i_i_i38_i_i_i_i_i_i_i_i_i_i;
-    u1 v_r12_i_i_i_i_i47_i_i_i_i_i_i_i_i_i_i;
-    u1 v_r17_i_i_i_i_i49_i_i_i_i_i_i_i_i_i_i;
-    u1 v_r22_i_i_i_i_i51_i_i_i_i_i_i_i_i_i_i;
-    u1 v_r27_i_i_i_i_i52_i_i_i_i_i_i_i_i_i_i;
-    u32 v_i_i_i_i_i53_i_i_i_i_i_i_i_i_i_i;
-    u32 v_r8_0_i_i_i_i_i54_i_i_i_i_i_i_i_i_i_i;
-    u32 v_r4_0_i_i_i_i_i56_i_i_i_i_i_i_i_i_i_i;
-    u32 v_r5_i_i_i_i_i_i57_i_i_i_i_i_i_i_i_i_i;
-    u1 v_r7_i_not_i_i_i_i_i58_i_i_i_i_i_i_i_i_i_i;
-    u32 v_r11_i_i_i_i_i_i59_i_i_i_i_i_i_i_i_i_i;
-    u8 v_r5_sroa_4_0_i_i_i_i_i61_i_i_i_i_i_i_i_i_i_i;
-    u32 v_r5_sroa_10_0_i_i_i_i_i62_i_i_i_i_i_i_i_i_i_i;
-    u1 v_r5_sroa_0_0_i_i_sink_i_i_i39_i_i_i_i_i_i_i_i_i_i;
-    u8 v_r5_sroa_4_0_i_i_sink_i_i_i40_i_i_i_i_i_i_i_i_i_i;
-    u32 v_r5_sroa_10_0_i_i_sink_i_i_i41_i_i_i_i_i_i_i_i_i_i;
+    u64 v_r6_i6_val_val_i_i_i_i_i_i_i_i_i_i_i_i;
     P v_24;
-    u64 v_r6_i6_val_val_i_i_i_i_i_i_i_i_i_i;
-    P v_25;
-    u64 v_r6_i6_val_val31_i_i_i_i_i_i_i_i_i_i;
-    u64 v_r10_i_i_i_i64_i_i_i_i_i_i_i_i_i_i;
-    u1 v_r12_not_i_i_i_i_i65_i_i_i_i_i_i_i_i_i_i;
-    u64 v_r4_sroa_10_0_i_i9_i_i_i66_i_i_i_i_i_i_i_i_i_i;
-    u32 v_r4_sroa_10_0_i_i_i_i_i67_i_i_i_i_i_i_i_i_i_i;
-    u1 v_r12_i_i_i_i_i76_i_i_i_i_i_i_i_i_i_i;
-    u1 v_r17_i_i_i_i_i78_i_i_i_i_i_i_i_i_i_i;
-    u1 v_r22_i_i_i_i_i80_i_i_i_i_i_i_i_i_i_i;
-    u1 v_r27_i_i_i_i_i81_i_i_i_i_i_i_i_i_i_i;
-    u32 v_i_i_i_i_i82_i_i_i_i_i_i_i_i_i_i;
-    u32 v_r8_0_i_i_i_i_i83_i_i_i_i_i_i_i_i_i_i;
-    u32 v_r4_0_i_i_i_i_i85_i_i_i_i_i_i_i_i_i_i;
-    u32 v_r5_i_i_i_i_i_i86_i_i_i_i_i_i_i_i_i_i;
-    u1 v_r7_i_not_i_i_i_i_i87_not_i_i_i_i_i_i_i_i_i_i;
-    u1 v_brmerge_i_i_i_i_i_i_i_i_i_i;
-    u8 v_r5_sroa_4_0_i_i_i_i_i90_mux_i_i_i_i_i_i_i_i_i_i;
-    u32 v_r11_i_i_i_i_i_i88_i_i_i_i_i_i_i_i_i_i;
-    u32 v_r5_i_i_i131_i_i_i_i_i_i_i_i_i_i;
-    u1 v_r7_i_not_i_i132_i_i_i_i_i_i_i_i_i_i;
-    u32 v_r11_i_i_i133_i_i_i_i_i_i_i_i_i_i;
-    u8 v_r5_sroa_4_0_i_i135_i_i_i_i_i_i_i_i_i_i;
-    u32 v_r5_sroa_10_0_i_i136_i_i_i_i_i_i_i_i_i_i;
-    u1 v_r24_sroa_0_0_sink_i119_i_i_i_i_i_i_i_i_i_i;
-    u8 v_r24_sroa_4_0_sink_i120_i_i_i_i_i_i_i_i_i_i;
-    u32 v_r24_sroa_13_0_sink_i123_i_i_i_i_i_i_i_i_i_i;
-    u8 v_spec_select_i_i_i_i_i_i_i_i_i_i;
-    u32 v_r5_i_i_i170_i_i_i_i_i_i_i_i_i_i;
-    u1 v_r7_i_not_i_i171_i_not_i_i_i_i_i_i_i_i_i;
-    u32 v_r11_i_i_i172_i_i_i_i_i_i_i_i_i_i;
-    u1 v_r12_i_i_i_i_i_i_i_i_i_i_i;
-    u1 v_r17_i_i_i_i_i_i_i_i_i_i_i;
-    u1 v_r22_i_i_i_i_i_i_i_i_i_i_i;
-    u1 v_r27_i_i_i_i_i_i_i_i_i_i_i;
-    u32 v_i_i_i_i_i_i_i_i_i_i_i;
-    u32 v_r8_0_i_i_i_i_i_i_i_i_i_i_i;
-    u32 v_r4_0_i_i_i_i_i_i_i_i_i_i_i;
+    u64 v_r6_i6_val_val31_i_i_i_i_i_i_i_i_i_i_i_i;
+    u64 v_r10_i_i_i_i64_i_i_i_i_i_i_i_i_i_i_i_i;
+    u1 v_r12_not_i_i_i_i_i65_i_i_i_i_i_i_i_i_i_i_i_i;
+    u64 v_r4_sroa_10_0_i_i9_i_i_i66_i_i_i_i_i_i_i_i_i_i_i_i;
+    u32 v_r4_sroa_10_0_i_i_i_i_i67_i_i_i_i_i_i_i_i_i_i_i_i;
+    u1 v_r12_i_i_i_i_i76_i_i_i_i_i_i_i_i_i_i_i_i;
+    u1 v_r17_i_i_i_i_i78_i_i_i_i_i_i_i_i_i_i_i_i;
+    u1 v_r22_i_i_i_i_i80_i_i_i_i_i_i_i_i_i_i_i_i;
+    u1 v_r27_i_i_i_i_i81_i_i_i_i_i_i_i_i_i_i_i_i;
+    u32 v_i_i_i_i_i82_i_i_i_i_i_i_i_i_i_i_i_i;
+    u32 v_r8_0_i_i_i_i_i83_i_i_i_i_i_i_i_i_i_i_i_i;
+    u32 v_r4_0_i_i_i_i_i85_i_i_i_i_i_i_i_i_i_i_i_i;
+    u32 v_r5_i_i_i_i_i_i86_i_i_i_i_i_i_i_i_i_i_i_i;
+    u1 v_r7_i_not_i_i_i_i_i87_not_i_i_i_i_i_i_i_i_i_i_i_i;
+    u1 v_brmerge_i_i_i_i_i_i_i_i_i_i_i_i;
+    u8 v_r5_sroa_4_0_i_i_i_i_i90_mux_i_i_i_i_i_i_i_i_i_i_i_;
+    u32 v_r11_i_i_i_i_i_i88_i_i_i_i_i_i_i_i_i_i_i_i;
+    u32 v_r5_i_i_i131_i_i_i_i_i_i_i_i_i_i_i_i;
+    u1 v_r7_i_not_i_i132_i_i_i_i_i_i_i_i_i_i_i_i;
+    u32 v_r11_i_i_i133_i_i_i_i_i_i_i_i_i_i_i_i;
+    u8 v_r5_sroa_4_0_i_i135_i_i_i_i_i_i_i_i_i_i_i_i;
+    u32 v_r5_sroa_10_0_i_i136_i_i_i_i_i_i_i_i_i_i_i_i;
+    u1 v_r24_sroa_0_0_sink_i119_i_i_i_i_i_i_i_i_i_i_i_i;
+    u8 v_r24_sroa_4_0_sink_i120_i_i_i_i_i_i_i_i_i_i_i_i;
+    u32 v_r24_sroa_13_0_sink_i123_i_i_i_i_i_i_i_i_i_i_i_i;
+    u8 v_spec_select_i_i_i_i_i_i_i_i_i_i_i_i;
+    u32 v_r5_i_i_i170_i_i_i_i_i_i_i_i_i_i_i_i;
+    u1 v_r7_i_not_i_i171_i_not_i_i_i_i_i_i_i_i_i_i_i;
+    u32 v_r11_i_i_i172_i_i_i_i_i_i_i_i_i_i_i_i;
+    u1 v_r12_i_i_i_i_i_i_i_i_i_i_i_i_i;
+    u1 v_r17_i_i_i_i_i_i_i_i_i_i_i_i_i;
+    u1 v_r22_i_i_i_i_i_i_i_i_i_i_i_i_i;
+    u1 v_r27_i_i_i_i_i_i_i_i_i_i_i_i_i;
+    u32 v_i_i_i_i_i_i_i_i_i_i_i_i_i;
+    u32 v_r8_0_i_i_i_i_i_i_i_i_i_i_i_i_i;
+    u32 v_r4_0_i_i_i_i_i_i_i_i_i_i_i_i_i;
+    u32 v_r5_i_i_i_i_i_i_i_i_i_i_i_i_i_i;
+    u1 v_r7_i_not_i_i_i_i_i_i_i_i_i_i_i_i_i;
+    u32 v_r11_i_i_i_i_i_i_i_i_i_i_i_i_i_i;
+    u8 v_r5_sroa_4_0_i_i_i_i_i_i_i_i_i_i_i_i_i;
+    u32 v_r5_sroa_10_0_i_i_i_i_i_i_i_i_i_i_i_i_i;
+    u1 v_r5_sroa_0_0_i_i_sink_i_i_i_i_i_i_i_i_i_i_i;
+    u8 v_r5_sroa_4_0_i_i_sink_i_i_i_i_i_i_i_i_i_i_i;
+    u32 v_r5_sroa_10_0_i_i_sink_i_i_i_i_i_i_i_i_i_i_i;
+    u1 v_25;
     u32 v_r5_i_i_i_i_i_i_i_i_i_i_i_i;
     u1 v_r7_i_not_i_i_i_i_i_i_i_i_i_i_i;
     u32 v_r11_i_i_i_i_i_i_i_i_i_i_i_i;
+    u8 v_r5_sroa_0_0_i_i_i_i_i_i_i_i_i_i_i;
     u8 v_r5_sroa_4_0_i_i_i_i_i_i_i_i_i_i_i;
     u32 v_r5_sroa_10_0_i_i_i_i_i_i_i_i_i_i_i;
-    u1 v_r5_sroa_0_0_i_i_sink_i_i_i_i_i_i_i_i_i;
-    u8 v_r5_sroa_4_0_i_i_sink_i_i_i_i_i_i_i_i_i;
-    u32 v_r5_sroa_10_0_i_i_sink_i_i_i_i_i_i_i_i_i;
+    u8 v_spec_select_i_i_i_i_i_i_i_i_i;
+    u8 v_r24_sroa_0_0_sink_i_i_i_i_i_i_i_i_i_i;
+    u8 v_r24_sroa_4_0_sink_i_i_i_i_i_i_i_i_i_i;
+    u32 v_r24_sroa_13_0_sink_i_i_i_i_i_i_i_i_i_i;
+    u64 v_r29_i_i_i_i_i_i_i_i_i;
+    u1 v_exitcond_not_i_i_i_i_i_i_i_i_i;
     u1 v_26;
+    u1 v_r12_i_i_i_i_i_i_i_i_i;
+    u1 v_r17_i_i_i_i_i_i_i_i_i;
+    u1 v_r22_i_i4_i_i_i_i_i_i_i;
+    u1 v_r27_i_i_i_i_i_i_i_i_i;
+    u32 v_i_i_i_i_i_i_i_i_i;
+    u32 v_r8_0_i_i_i_i_i_i_i_i_i;
+    u32 v_r4_0_i_i_i_i_i_i_i_i_i;
     u32 v_r5_i_i_i_i_i_i_i_i_i_i;
     u1 v_r7_i_not_i_i_i_i_i_i_i_i_i;
     u32 v_r11_i_i_i_i_i_i_i_i_i_i;
-    u8 v_r5_sroa_0_0_i_i_i_i_i_i_i_i_i;
     u8 v_r5_sroa_4_0_i_i_i_i_i_i_i_i_i;
     u32 v_r5_sroa_10_0_i_i_i_i_i_i_i_i_i;
-    u8 v_spec_select_i_i_i_i_i_i_i;
-    u8 v_r24_sroa_0_0_sink_i_i_i_i_i_i_i_i;
-    u8 v_r24_sroa_4_0_sink_i_i_i_i_i_i_i_i;
-    u32 v_r24_sroa_13_0_sink_i_i_i_i_i_i_i_i;
-    u64 v_r29_i_i_i_i_i_i_i;
-    u1 v_exitcond_not_i_i_i_i_i_i_i;
-    u1 v_27;
-    u1 v_r12_i_i_i_i_i_i_i;
-    u1 v_r17_i_i_i_i_i_i_i;
-    u1 v_r22_i_i4_i_i_i_i_i;
-    u1 v_r27_i_i_i_i_i_i_i;
-    u32 v_i_i_i_i_i_i_i;
-    u32 v_r8_0_i_i_i_i_i_i_i;
-    u32 v_r12_sroa_10_0_i_ph15_i_i_i_i_i;
-    u32 v_r4_0_i_i_i_i_i_i_i;
-    u32 v_r5_i_i_i_i_i_i_i_i;
-    u1 v_r7_i_not_i_i_i_i_i_i_i;
-    u1 v_cond_fr_i_i;
-    u32 v_r11_i_i_i_i_i_i_i_i;
-    u8 v_spec_select_i_i;
-    u32 v_r2_sroa_10_0_i114120_i_i;
+    u1 v_r3_i_sroa_0_0_sink_i_i_i_i;
+    u8 v_r3_i_sroa_6_0_sink_i_i_i_i;
+    u8 v_sink_i_i_i_i;
+    u32 v_r3_i_sroa_12_0_sink_i_i_i_i;
+    u32 v_r5_sroa_10_0_i_i_sink_i_i_i6729_i_i_i;
+    u32 v_r3_i_sroa_12_0_sink_i1116_i_i_i;
+    u32 v_r5_i_i_i94_i_i_i;
+    u1 v_r7_i_not_i_i_i_i_i;
+    u32 v_r11_i_i_i_i_i_i;
+    u8 v_r5_sroa_4_0_i_i_i_i_i;
+    u32 v_r5_sroa_10_0_i_i_i_i_i;
+    u8 v_spec_select_i_i_i;
+    u8 v_spec_select36_i_i_i;
+    u1 v_r24_sroa_0_0_sink_i_i_i_i;
+    u8 v_r24_sroa_4_0_sink_i_i_i_i;
+    u8 v_r24_sroa_7_0_sink_i_i_i_i;
+    u32 v_r24_sroa_13_0_sink_i_i_i_i;
+    u32 v_r5_i_i_i127_i_i_i;
+    u1 v_r7_i_not_i_i128_i_i_i;
+    u32 v_r11_i_i_i129_i_i_i;
+    u8 v_r5_sroa_4_0_i_i131_i_i_i;
+    u32 v_r5_sroa_10_0_i_i132_i_i_i;
+    u8 v_spec_select37_i_i_i;
+    u8 v_spec_select38_i_i_i;
+    u1 v_r24_sroa_0_0_sink_i115_i_i_i;
+    u8 v_r24_sroa_4_0_sink_i116_i_i_i;
+    u8 v_r24_sroa_7_0_sink_i117_i_i_i;
+    u32 v_r24_sroa_13_0_sink_i119_i_i_i;
+    u32 v_r5_i_i_i166_i_i_i;
+    u1 v_r7_i_not_i_i167_i_i_i;
+    u32 v_r11_i_i_i168_i_i_i;
+    u8 v_r5_sroa_4_0_i_i170_i_i_i;
+    u32 v_r5_sroa_10_0_i_i171_i_i_i;
+    u8 v_spec_select39_i_i_i;
+    u8 v_spec_select40_i_i_i;
+    u1 v_r24_sroa_0_0_sink_i154_i_i_i;
+    u8 v_r24_sroa_4_0_sink_i155_i_i_i;
+    u8 v_r24_sroa_7_0_sink_i156_i_i_i;
+    u32 v_r24_sroa_13_0_sink_i158_i_i_i;
     u32 v_r5_i_i_i_i_i;
-    u1 v_r7_i_not_i_i_not_i_i;
+    u1 v_r7_i_not_i_i_i_i;
     u32 v_r11_i_i_i_i_i;
-    u1 v_r7_i_not_i_i84_i_i;
-    u32 v_28;
-    u32 v_r5_sroa_10_0_i_i88_i_i;
+    u8 v_r5_sroa_4_0_i_i_i_i;
+    u32 v_r5_sroa_10_0_i_i_i_i;
+    u8 v_spec_select_i_i;
+    u8 v_spec_select404_i_i;
+    u1 v_r24_sroa_0_0_sink_i_i_i;
+    u8 v_r24_sroa_4_0_sink_i_i_i;
+    u8 v_r24_sroa_7_0_sink_i_i_i;
+    u32 v_r24_sroa_13_0_sink_i_i_i;
+    u32 v_r5_i_i_i231_i_i;
+    u1 v_r7_i_not_i_i232_i_i;
+    u32 v_r11_i_i_i233_i_i;
+    u8 v_r5_sroa_4_0_i_i235_i_i;
+    u32 v_r5_sroa_10_0_i_i236_i_i;
+    u8 v_spec_select405_i_i;
+    u8 v_spec_select406_i_i;
+    u1 v_r24_sroa_0_0_sink_i219_i_i;
+    u8 v_r24_sroa_4_0_sink_i220_i_i;
+    u8 v_r24_sroa_7_0_sink_i221_i_i;
+    u32 v_r24_sroa_13_0_sink_i223_i_i;
+    u32 v_r5_i_i_i270_i_i;
+    u1 v_r7_i_not_i_i271_i_i;
+    u32 v_r11_i_i_i272_i_i;
+    u8 v_r5_sroa_4_0_i_i274_i_i;
+    u32 v_r5_sroa_10_0_i_i275_i_i;
+    u8 v_spec_select407_i_i;
+    u8 v_spec_select408_i_i;
+    u1 v_r24_sroa_0_0_sink_i258_i_i;
+    u8 v_r24_sroa_4_0_sink_i259_i_i;
+    u8 v_r24_sroa_7_0_sink_i260_i_i;
+    u32 v_r24_sroa_13_0_sink_i262_i_i;
+    u32 v_r5_i_i_i309_i_i;
+    u1 v_r7_i_not_i_i310_i_i;
+    u32 v_r11_i_i_i311_i_i;
+    u8 v_r5_sroa_4_0_i_i313_i_i;
+    u32 v_r5_sroa_10_0_i_i314_i_i;
+    u8 v_spec_select409_i_i;
+    u8 v_spec_select410_i_i;
+    u1 v_r24_sroa_0_0_sink_i297_i_i;
+    u8 v_r24_sroa_4_0_sink_i298_i_i;
+    u8 v_r24_sroa_7_0_sink_i299_i_i;
+    u32 v_r24_sroa_13_0_sink_i301_i_i;
+    u8 v_spec_select411_i_i;
+    u8 v_spec_select412_i_i;
+    u32 v_r5_i_i_i348_i_i;
+    u1 v_r7_i_not_i_i349_not_i_i;
+    u32 v_r11_i_i_i350_i_i;
+    u1 v_r7_i_not_i_i388_i_i;
+    u32 v_27;
+    u32 v_r5_sroa_10_0_i_i392_i_i;
     u1 v_r12_i_i_i;
     u1 v_r17_i_i_i;
     u1 v_r22_i_i_i;
@@ -22590,9 +22679,9 @@ static void f_der_core_encode_AnyEncode_encoded_len_3a3c98235cfe(P v_a0, P v_a1)
     P v_r3;
     P v_r5;
     P v_r7;
-    v_r19_i_i = v_a1 + 192;
-    v_r3_i29_i_i = get_u8(v_r19_i_i);
-    v_0 = v_r3_i29_i_i == 1u;
+    v_r25_i_i = v_a1 + 192;
+    v_r3_i69_i_i = get_u8(v_r25_i_i);
+    v_0 = v_r3_i69_i_i == 1u;
     if (v_0) { goto L_pkcs1_private_key_other_prime_info_lists_none_29_p; } else { goto L_join_3_i_i; }
 L_pkcs1_private_key_other_prime_info_lists_none_29_p:;
     v_1 = v_a1 + 208;
@@ -22601,575 +22690,648 @@ L_pkcs1_private_key_other_prime_info_lists_none_29_p:;
     if (v_r5_i_i_i_i) { p_v_r5_sroa_0_0_i_i_sink_i = 1u; p_v_r5_sroa_4_0_i_i_sink_i = 13u; p_v_sink_i = 48u; p_v_r5_sroa_10_0_i_i_sink_i = 0u; goto L_der_core_encode_encoding_len_3a3c98235cfe5b88_exit; } else { goto L_join_3_i_i; }
 L_join_3_i_i:;
     v_2 = v_a1 + 8;
-    v_r25_val_val_i_i_i = get_u64(v_2);
+    v_r6_i_val_val_i_i = get_u64(v_2);
     v_3 = v_a1 + 16;
-    v_r25_val_val3_i_i_i = get_u64(v_3);
-    v_r10_i_i_i_i_i_i_i = (u64)((u64)(v_r25_val_val3_i_i_i) + (u64)(v_r25_val_val_i_i_i));
+    v_r6_i_val_val64_i_i = get_u64(v_3);
+    v_r10_i_i_i_i_i_i = (u64)((u64)(v_r6_i_val_val64_i_i) + (u64)(v_r6_i_val_val_i_i));
+    v_r12_not_i_i_i_i_i_i_i = v_r10_i_i_i_i_i_i < 4294967296ull;
+    v_r4_sroa_10_0_i_i9_i_i_i_i_i = v_r10_i_i_i_i_i_i < 4294967296ull ? v_r10_i_i_i_i_i_i : 4294967296ull;
+    v_r4_sroa_10_0_i_i_i_i_i_i_i = (u32)(v_r4_sroa_10_0_i_i9_i_i_i_i_i);
+    if (v_r12_not_i_i_i_i_i_i_i) { goto L_arm_1_i_i_i_i_i; } else { p_v_r5_sroa_0_0_i_i_sink_i_i_i_i_i = 0u; p_v_r5_sroa_4_0_i_i_sink_i_i_i_i_i = 7u; p_v_r5_sroa_10_0_i_i_sink_i_i_i_i_i = 0u; goto L_der_core_borrowed_BorrowedEncode_encoded_len_25cd3; }
+L_arm_1_i_i_i_i_i:;
+    v_r12_i_i_i_i_i_i_i = v_r4_sroa_10_0_i_i_i_i_i_i_i < 128u;
+    if (v_r12_i_i_i_i_i_i_i) { p_v_r4_0_i_i_i_i_i_i_i = 2u; goto L_der_core_length_Length_for_tlv_exit_i_i_i_i_i; } else { goto L_else_2_i_i_i_i_i_i_i; }
+L_else_2_i_i_i_i_i_i_i:;
+    v_r17_i_i_i_i_i_i_i = v_r4_sroa_10_0_i_i_i_i_i_i_i < 256u;
+    if (v_r17_i_i_i_i_i_i_i) { p_v_r4_0_i_i_i_i_i_i_i = 3u; goto L_der_core_length_Length_for_tlv_exit_i_i_i_i_i; } else { goto L_else_5_i_i_i_i_i_i_i; }
+L_else_5_i_i_i_i_i_i_i:;
+    v_r22_i_i_i_i_i_i_i = v_r4_sroa_10_0_i_i_i_i_i_i_i < 65536u;
+    v_r27_i_i_i_i_i_i_i = v_r4_sroa_10_0_i_i_i_i_i_i_i < 16777216u;
+    v_i_i_i_i_i_i_i = v_r27_i_i_i_i_i_i_i ? 5u : 6u;
+    v_r8_0_i_i_i_i_i_i_i = v_r22_i_i_i_i_i_i_i ? 4u : v_i_i_i_i_i_i_i;
+    { p_v_r4_0_i_i_i_i_i_i_i = v_r8_0_i_i_i_i_i_i_i; goto L_der_core_length_Length_for_tlv_exit_i_i_i_i_i; }
+L_der_core_length_Length_for_tlv_exit_i_i_i_i_i:;
+    v_r4_0_i_i_i_i_i_i_i = p_v_r4_0_i_i_i_i_i_i_i;
+    v_r5_i_i_i_i_i_i_i_i = (u32)((u32)(v_r4_sroa_10_0_i_i_i_i_i_i_i) ^ (u32)(4294967295ull));
+    v_r7_i_not_i_i_i_i_i_i_i = v_r4_0_i_i_i_i_i_i_i <= v_r5_i_i_i_i_i_i_i_i;
+    v_r11_i_i_i_i_i_i_i_i = (u32)((u32)(v_r4_0_i_i_i_i_i_i_i) + (u32)(v_r4_sroa_10_0_i_i_i_i_i_i_i));
+    v_r5_sroa_4_0_i_i_i_i_i_i_i = v_r7_i_not_i_i_i_i_i_i_i ? 0u : 7u;
+    v_r5_sroa_10_0_i_i_i_i_i_i_i = v_r7_i_not_i_i_i_i_i_i_i ? v_r11_i_i_i_i_i_i_i_i : 0u;
+    { p_v_r5_sroa_0_0_i_i_sink_i_i_i_i_i = v_r7_i_not_i_i_i_i_i_i_i; p_v_r5_sroa_4_0_i_i_sink_i_i_i_i_i = v_r5_sroa_4_0_i_i_i_i_i_i_i; p_v_r5_sroa_10_0_i_i_sink_i_i_i_i_i = v_r5_sroa_10_0_i_i_i_i_i_i_i; goto L_der_core_borrowed_BorrowedEncode_encoded_len_25cd3; }
+L_der_core_borrowed_BorrowedEncode_encoded_len_25cd3:;
+    v_r5_sroa_0_0_i_i_sink_i_i_i_i_i = p_v_r5_sroa_0_0_i_i_sink_i_i_i_i_i;
+    v_r5_sroa_4_0_i_i_sink_i_i_i_i_i = p_v_r5_sroa_4_0_i_i_sink_i_i_i_i_i;
+    v_r5_sroa_10_0_i_i_sink_i_i_i_i_i = p_v_r5_sroa_10_0_i_i_sink_i_i_i_i_i;
+    v_4 = v_a1 + 32;
+    v_r6_i7_val_val_i_i = get_u64(v_4);
+    v_5 = v_a1 + 40;
+    v_r6_i7_val_val65_i_i = get_u64(v_5);
+    v_r10_i_i_i_i76_i_i = (u64)((u64)(v_r6_i7_val_val65_i_i) + (u64)(v_r6_i7_val_val_i_i));
+    v_r12_not_i_i_i_i_i77_i_i = v_r10_i_i_i_i76_i_i < 4294967296ull;
+    v_r4_sroa_10_0_i_i9_i_i_i78_i_i = v_r10_i_i_i_i76_i_i < 4294967296ull ? v_r10_i_i_i_i76_i_i : 4294967296ull;
+    v_r4_sroa_10_0_i_i_i_i_i79_i_i = (u32)(v_r4_sroa_10_0_i_i9_i_i_i78_i_i);
+    if (v_r12_not_i_i_i_i_i77_i_i) { goto L_arm_1_i_i_i87_i_i; } else { p_v_r5_sroa_0_0_i_i_sink_i_i_i80_i_i = 0u; p_v_r5_sroa_4_0_i_i_sink_i_i_i81_i_i = 7u; p_v_r5_sroa_10_0_i_i_sink_i_i_i82_i_i = 0u; goto L_der_core_borrowed_BorrowedEncode_encoded_len_25cd3__2; }
+L_arm_1_i_i_i87_i_i:;
+    v_r12_i_i_i_i_i88_i_i = v_r4_sroa_10_0_i_i_i_i_i79_i_i < 128u;
+    if (v_r12_i_i_i_i_i88_i_i) { p_v_r4_0_i_i_i_i_i97_i_i = 2u; goto L_der_core_length_Length_for_tlv_exit_i_i_i96_i_i; } else { goto L_else_2_i_i_i_i_i89_i_i; }
+L_else_2_i_i_i_i_i89_i_i:;
+    v_r17_i_i_i_i_i90_i_i = v_r4_sroa_10_0_i_i_i_i_i79_i_i < 256u;
+    if (v_r17_i_i_i_i_i90_i_i) { p_v_r4_0_i_i_i_i_i97_i_i = 3u; goto L_der_core_length_Length_for_tlv_exit_i_i_i96_i_i; } else { goto L_else_5_i_i_i_i_i91_i_i; }
+L_else_5_i_i_i_i_i91_i_i:;
+    v_r22_i_i_i_i_i92_i_i = v_r4_sroa_10_0_i_i_i_i_i79_i_i < 65536u;
+    v_r27_i_i_i_i_i93_i_i = v_r4_sroa_10_0_i_i_i_i_i79_i_i < 16777216u;
+    v_i_i_i_i_i94_i_i = v_r27_i_i_i_i_i93_i_i ? 5u : 6u;
+    v_r8_0_i_i_i_i_i95_i_i = v_r22_i_i_i_i_i92_i_i ? 4u : v_i_i_i_i_i94_i_i;
+    { p_v_r4_0_i_i_i_i_i97_i_i = v_r8_0_i_i_i_i_i95_i_i; goto L_der_core_length_Length_for_tlv_exit_i_i_i96_i_i; }
+L_der_core_length_Length_for_tlv_exit_i_i_i96_i_i:;
+    v_r4_0_i_i_i_i_i97_i_i = p_v_r4_0_i_i_i_i_i97_i_i;
+    v_r5_i_i_i_i_i_i98_i_i = (u32)((u32)(v_r4_sroa_10_0_i_i_i_i_i79_i_i) ^ (u32)(4294967295ull));
+    v_r7_i_not_i_i_i_i_i99_i_i = v_r4_0_i_i_i_i_i97_i_i <= v_r5_i_i_i_i_i_i98_i_i;
+    v_r11_i_i_i_i_i_i100_i_i = (u32)((u32)(v_r4_0_i_i_i_i_i97_i_i) + (u32)(v_r4_sroa_10_0_i_i_i_i_i79_i_i));
+    v_r5_sroa_4_0_i_i_i_i_i102_i_i = v_r7_i_not_i_i_i_i_i99_i_i ? 0u : 7u;
+    v_r5_sroa_10_0_i_i_i_i_i103_i_i = v_r7_i_not_i_i_i_i_i99_i_i ? v_r11_i_i_i_i_i_i100_i_i : 0u;
+    { p_v_r5_sroa_0_0_i_i_sink_i_i_i80_i_i = v_r7_i_not_i_i_i_i_i99_i_i; p_v_r5_sroa_4_0_i_i_sink_i_i_i81_i_i = v_r5_sroa_4_0_i_i_i_i_i102_i_i; p_v_r5_sroa_10_0_i_i_sink_i_i_i82_i_i = v_r5_sroa_10_0_i_i_i_i_i103_i_i; goto L_der_core_borrowed_BorrowedEncode_encoded_len_25cd3__2; }
+L_der_core_borrowed_BorrowedEncode_encoded_len_25cd3__2:;
+    v_r5_sroa_0_0_i_i_sink_i_i_i80_i_i = p_v_r5_sroa_0_0_i_i_sink_i_i_i80_i_i;
+    v_r5_sroa_4_0_i_i_sink_i_i_i81_i_i = p_v_r5_sroa_4_0_i_i_sink_i_i_i81_i_i;
+    v_r5_sroa_10_0_i_i_sink_i_i_i82_i_i = p_v_r5_sroa_10_0_i_i_sink_i_i_i82_i_i;
+    v_6 = v_a1 + 56;
+    v_r6_i19_val_val_i_i = get_u64(v_6);
+    v_7 = v_a1 + 64;
+    v_r6_i19_val_val66_i_i = get_u64(v_7);
+    v_r10_i_i_i_i105_i_i = (u64)((u64)(v_r6_i19_val_val66_i_i) + (u64)(v_r6_i19_val_val_i_i));
+    v_r12_not_i_i_i_i_i106_i_i = v_r10_i_i_i_i105_i_i < 4294967296ull;
+    v_r4_sroa_10_0_i_i9_i_i_i107_i_i = v_r10_i_i_i_i105_i_i < 4294967296ull ? v_r10_i_i_i_i105_i_i : 4294967296ull;
+    v_r4_sroa_10_0_i_i_i_i_i108_i_i = (u32)(v_r4_sroa_10_0_i_i9_i_i_i107_i_i);
+    if (v_r12_not_i_i_i_i_i106_i_i) { goto L_arm_1_i_i_i116_i_i; } else { p_v_r5_sroa_0_0_i_i_sink_i_i_i109_i_i = 0u; p_v_r5_sroa_4_0_i_i_sink_i_i_i110_i_i = 7u; p_v_r5_sroa_10_0_i_i_sink_i_i_i111_i_i = 0u; goto L_der_core_borrowed_BorrowedEncode_encoded_len_25cd3__3; }
+L_arm_1_i_i_i116_i_i:;
+    v_r12_i_i_i_i_i117_i_i = v_r4_sroa_10_0_i_i_i_i_i108_i_i < 128u;
+    if (v_r12_i_i_i_i_i117_i_i) { p_v_r4_0_i_i_i_i_i126_i_i = 2u; goto L_der_core_length_Length_for_tlv_exit_i_i_i125_i_i; } else { goto L_else_2_i_i_i_i_i118_i_i; }
+L_else_2_i_i_i_i_i118_i_i:;
+    v_r17_i_i_i_i_i119_i_i = v_r4_sroa_10_0_i_i_i_i_i108_i_i < 256u;
+    if (v_r17_i_i_i_i_i119_i_i) { p_v_r4_0_i_i_i_i_i126_i_i = 3u; goto L_der_core_length_Length_for_tlv_exit_i_i_i125_i_i; } else { goto L_else_5_i_i_i_i_i120_i_i; }
+L_else_5_i_i_i_i_i120_i_i:;
+    v_r22_i_i_i_i_i121_i_i = v_r4_sroa_10_0_i_i_i_i_i108_i_i < 65536u;
+    v_r27_i_i_i_i_i122_i_i = v_r4_sroa_10_0_i_i_i_i_i108_i_i < 16777216u;
+    v_i_i_i_i_i123_i_i = v_r27_i_i_i_i_i122_i_i ? 5u : 6u;
+    v_r8_0_i_i_i_i_i124_i_i = v_r22_i_i_i_i_i121_i_i ? 4u : v_i_i_i_i_i123_i_i;
+    { p_v_r4_0_i_i_i_i_i126_i_i = v_r8_0_i_i_i_i_i124_i_i; goto L_der_core_length_Length_for_tlv_exit_i_i_i125_i_i; }
+L_der_core_length_Length_for_tlv_exit_i_i_i125_i_i:;
+    v_r4_0_i_i_i_i_i126_i_i = p_v_r4_0_i_i_i_i_i126_i_i;
+    v_r5_i_i_i_i_i_i127_i_i = (u32)((u32)(v_r4_sroa_10_0_i_i_i_i_i108_i_i) ^ (u32)(4294967295ull));
+    v_r7_i_not_i_i_i_i_i128_i_i = v_r4_0_i_i_i_i_i126_i_i <= v_r5_i_i_i_i_i_i127_i_i;
+    v_r11_i_i_i_i_i_i129_i_i = (u32)((u32)(v_r4_0_i_i_i_i_i126_i_i) + (u32)(v_r4_sroa_10_0_i_i_i_i_i108_i_i));
+    v_r5_sroa_4_0_i_i_i_i_i131_i_i = v_r7_i_not_i_i_i_i_i128_i_i ? 0u : 7u;
+    v_r5_sroa_10_0_i_i_i_i_i132_i_i = v_r7_i_not_i_i_i_i_i128_i_i ? v_r11_i_i_i_i_i_i129_i_i : 0u;
+    { p_v_r5_sroa_0_0_i_i_sink_i_i_i109_i_i = v_r7_i_not_i_i_i_i_i128_i_i; p_v_r5_sroa_4_0_i_i_sink_i_i_i110_i_i = v_r5_sroa_4_0_i_i_i_i_i131_i_i; p_v_r5_sroa_10_0_i_i_sink_i_i_i111_i_i = v_r5_sroa_10_0_i_i_i_i_i132_i_i; goto L_der_core_borrowed_BorrowedEncode_encoded_len_25cd3__3; }
+L_der_core_borrowed_BorrowedEncode_encoded_len_25cd3__3:;
+    v_r5_sroa_0_0_i_i_sink_i_i_i109_i_i = p_v_r5_sroa_0_0_i_i_sink_i_i_i109_i_i;
+    v_r5_sroa_4_0_i_i_sink_i_i_i110_i_i = p_v_r5_sroa_4_0_i_i_sink_i_i_i110_i_i;
+    v_r5_sroa_10_0_i_i_sink_i_i_i111_i_i = p_v_r5_sroa_10_0_i_i_sink_i_i_i111_i_i;
+    v_8 = v_a1 + 80;
+    v_r6_i31_val_val_i_i = get_u64(v_8);
+    v_9 = v_a1 + 88;
+    v_r6_i31_val_val67_i_i = get_u64(v_9);
+    v_r10_i_i_i_i134_i_i = (u64)((u64)(v_r6_i31_val_val67_i_i) + (u64)(v_r6_i31_val_val_i_i));
+    v_r12_not_i_i_i_i_i135_i_i = v_r10_i_i_i_i134_i_i < 4294967296ull;
+    v_r4_sroa_10_0_i_i9_i_i_i136_i_i = v_r10_i_i_i_i134_i_i < 4294967296ull ? v_r10_i_i_i_i134_i_i : 4294967296ull;
+    v_r4_sroa_10_0_i_i_i_i_i137_i_i = (u32)(v_r4_sroa_10_0_i_i9_i_i_i136_i_i);
+    if (v_r12_not_i_i_i_i_i135_i_i) { goto L_arm_1_i_i_i145_i_i; } else { p_v_r5_sroa_0_0_i_i_sink_i_i_i138_i_i = 0u; p_v_r5_sroa_4_0_i_i_sink_i_i_i139_i_i = 7u; p_v_r5_sroa_10_0_i_i_sink_i_i_i140_i_i = 0u; goto L_der_core_borrowed_BorrowedEncode_encoded_len_25cd3__4; }
+L_arm_1_i_i_i145_i_i:;
+    v_r12_i_i_i_i_i146_i_i = v_r4_sroa_10_0_i_i_i_i_i137_i_i < 128u;
+    if (v_r12_i_i_i_i_i146_i_i) { p_v_r4_0_i_i_i_i_i155_i_i = 2u; goto L_der_core_length_Length_for_tlv_exit_i_i_i154_i_i; } else { goto L_else_2_i_i_i_i_i147_i_i; }
+L_else_2_i_i_i_i_i147_i_i:;
+    v_r17_i_i_i_i_i148_i_i = v_r4_sroa_10_0_i_i_i_i_i137_i_i < 256u;
+    if (v_r17_i_i_i_i_i148_i_i) { p_v_r4_0_i_i_i_i_i155_i_i = 3u; goto L_der_core_length_Length_for_tlv_exit_i_i_i154_i_i; } else { goto L_else_5_i_i_i_i_i149_i_i; }
+L_else_5_i_i_i_i_i149_i_i:;
+    v_r22_i_i_i_i_i150_i_i = v_r4_sroa_10_0_i_i_i_i_i137_i_i < 65536u;
+    v_r27_i_i_i_i_i151_i_i = v_r4_sroa_10_0_i_i_i_i_i137_i_i < 16777216u;
+    v_i_i_i_i_i152_i_i = v_r27_i_i_i_i_i151_i_i ? 5u : 6u;
+    v_r8_0_i_i_i_i_i153_i_i = v_r22_i_i_i_i_i150_i_i ? 4u : v_i_i_i_i_i152_i_i;
+    { p_v_r4_0_i_i_i_i_i155_i_i = v_r8_0_i_i_i_i_i153_i_i; goto L_der_core_length_Length_for_tlv_exit_i_i_i154_i_i; }
+L_der_core_length_Length_for_tlv_exit_i_i_i154_i_i:;
+    v_r4_0_i_i_i_i_i155_i_i = p_v_r4_0_i_i_i_i_i155_i_i;
+    v_r5_i_i_i_i_i_i156_i_i = (u32)((u32)(v_r4_sroa_10_0_i_i_i_i_i137_i_i) ^ (u32)(4294967295ull));
+    v_r7_i_not_i_i_i_i_i157_i_i = v_r4_0_i_i_i_i_i155_i_i <= v_r5_i_i_i_i_i_i156_i_i;
+    v_r11_i_i_i_i_i_i158_i_i = (u32)((u32)(v_r4_0_i_i_i_i_i155_i_i) + (u32)(v_r4_sroa_10_0_i_i_i_i_i137_i_i));
+    v_r5_sroa_4_0_i_i_i_i_i160_i_i = v_r7_i_not_i_i_i_i_i157_i_i ? 0u : 7u;
+    v_r5_sroa_10_0_i_i_i_i_i161_i_i = v_r7_i_not_i_i_i_i_i157_i_i ? v_r11_i_i_i_i_i_i158_i_i : 0u;
+    { p_v_r5_sroa_0_0_i_i_sink_i_i_i138_i_i = v_r7_i_not_i_i_i_i_i157_i_i; p_v_r5_sroa_4_0_i_i_sink_i_i_i139_i_i = v_r5_sroa_4_0_i_i_i_i_i160_i_i; p_v_r5_sroa_10_0_i_i_sink_i_i_i140_i_i = v_r5_sroa_10_0_i_i_i_i_i161_i_i; goto L_der_core_borrowed_BorrowedEncode_encoded_len_25cd3__4; }
+L_der_core_borrowed_BorrowedEncode_encoded_len_25cd3__4:;
+    v_r5_sroa_0_0_i_i_sink_i_i_i138_i_i = p_v_r5_sroa_0_0_i_i_sink_i_i_i138_i_i;
+    v_r5_sroa_4_0_i_i_sink_i_i_i139_i_i = p_v_r5_sroa_4_0_i_i_sink_i_i_i139_i_i;
+    v_r5_sroa_10_0_i_i_sink_i_i_i140_i_i = p_v_r5_sroa_10_0_i_i_sink_i_i_i140_i_i;
+    v_10 = v_a1 + 104;
+    v_r6_i43_val_val_i_i = get_u64(v_10);
+    v_11 = v_a1 + 112;
+    v_r6_i43_val_val68_i_i = get_u64(v_11);
+    v_r10_i_i_i_i163_i_i = (u64)((u64)(v_r6_i43_val_val68_i_i) + (u64)(v_r6_i43_val_val_i_i));
+    v_r12_not_i_i_i_i_i164_i_i = v_r10_i_i_i_i163_i_i < 4294967296ull;
+    v_r4_sroa_10_0_i_i9_i_i_i165_i_i = v_r10_i_i_i_i163_i_i < 4294967296ull ? v_r10_i_i_i_i163_i_i : 4294967296ull;
+    v_r4_sroa_10_0_i_i_i_i_i166_i_i = (u32)(v_r4_sroa_10_0_i_i9_i_i_i165_i_i);
+    if (v_r12_not_i_i_i_i_i164_i_i) { goto L_arm_1_i_i_i174_i_i; } else { p_v_r5_sroa_0_0_i_i_sink_i_i_i167_i_i = 0u; p_v_r5_sroa_4_0_i_i_sink_i_i_i168_i_i = 7u; p_v_r5_sroa_10_0_i_i_sink_i_i_i169_i_i = 0u; goto L_der_core_borrowed_BorrowedEncode_encoded_len_25cd3__5; }
+L_arm_1_i_i_i174_i_i:;
+    v_r12_i_i_i_i_i175_i_i = v_r4_sroa_10_0_i_i_i_i_i166_i_i < 128u;
+    if (v_r12_i_i_i_i_i175_i_i) { p_v_r4_0_i_i_i_i_i184_i_i = 2u; goto L_der_core_length_Length_for_tlv_exit_i_i_i183_i_i; } else { goto L_else_2_i_i_i_i_i176_i_i; }
+L_else_2_i_i_i_i_i176_i_i:;
+    v_r17_i_i_i_i_i177_i_i = v_r4_sroa_10_0_i_i_i_i_i166_i_i < 256u;
+    if (v_r17_i_i_i_i_i177_i_i) { p_v_r4_0_i_i_i_i_i184_i_i = 3u; goto L_der_core_length_Length_for_tlv_exit_i_i_i183_i_i; } else { goto L_else_5_i_i_i_i_i178_i_i; }
+L_else_5_i_i_i_i_i178_i_i:;
+    v_r22_i_i_i_i_i179_i_i = v_r4_sroa_10_0_i_i_i_i_i166_i_i < 65536u;
+    v_r27_i_i_i_i_i180_i_i = v_r4_sroa_10_0_i_i_i_i_i166_i_i < 16777216u;
+    v_i_i_i_i_i181_i_i = v_r27_i_i_i_i_i180_i_i ? 5u : 6u;
+    v_r8_0_i_i_i_i_i182_i_i = v_r22_i_i_i_i_i179_i_i ? 4u : v_i_i_i_i_i181_i_i;
+    { p_v_r4_0_i_i_i_i_i184_i_i = v_r8_0_i_i_i_i_i182_i_i; goto L_der_core_length_Length_for_tlv_exit_i_i_i183_i_i; }
+L_der_core_length_Length_for_tlv_exit_i_i_i183_i_i:;
+    v_r4_0_i_i_i_i_i184_i_i = p_v_r4_0_i_i_i_i_i184_i_i;
+    v_r5_i_i_i_i_i_i185_i_i = (u32)((u32)(v_r4_sroa_10_0_i_i_i_i_i166_i_i) ^ (u32)(4294967295ull));
+    v_r7_i_not_i_i_i_i_i186_i_i = v_r4_0_i_i_i_i_i184_i_i <= v_r5_i_i_i_i_i_i185_i_i;
+    v_r11_i_i_i_i_i_i187_i_i = (u32)((u32)(v_r4_0_i_i_i_i_i184_i_i) + (u32)(v_r4_sroa_10_0_i_i_i_i_i166_i_i));
+    v_r5_sroa_4_0_i_i_i_i_i189_i_i = v_r7_i_not_i_i_i_i_i186_i_i ? 0u : 7u;
+    v_r5_sroa_10_0_i_i_i_i_i190_i_i = v_r7_i_not_i_i_i_i_i186_i_i ? v_r11_i_i_i_i_i_i187_i_i : 0u;
+    { p_v_r5_sroa_0_0_i_i_sink_i_i_i167_i_i = v_r7_i_not_i_i_i_i_i186_i_i; p_v_r5_sroa_4_0_i_i_sink_i_i_i168_i_i = v_r5_sroa_4_0_i_i_i_i_i189_i_i; p_v_r5_sroa_10_0_i_i_sink_i_i_i169_i_i = v_r5_sroa_10_0_i_i_i_i_i190_i_i; goto L_der_core_borrowed_BorrowedEncode_encoded_len_25cd3__5; }
+L_der_core_borrowed_BorrowedEncode_encoded_len_25cd3__5:;
+    v_r5_sroa_0_0_i_i_sink_i_i_i167_i_i = p_v_r5_sroa_0_0_i_i_sink_i_i_i167_i_i;
+    v_r5_sroa_4_0_i_i_sink_i_i_i168_i_i = p_v_r5_sroa_4_0_i_i_sink_i_i_i168_i_i;
+    v_r5_sroa_10_0_i_i_sink_i_i_i169_i_i = p_v_r5_sroa_10_0_i_i_sink_i_i_i169_i_i;
+    v_12 = v_a1 + 128;
+    v_r13_val_val_i_i_i = get_u64(v_12);
+    v_13 = v_a1 + 136;
+    v_r13_val_val26_i_i_i = get_u64(v_13);
+    v_r10_i_i_i_i_i_i_i = (u64)((u64)(v_r13_val_val26_i_i_i) + (u64)(v_r13_val_val_i_i_i));
     v_r12_not_i_i_i_i_i_i_i_i = v_r10_i_i_i_i_i_i_i < 4294967296ull;
     v_r4_sroa_10_0_i_i9_i_i_i_i_i_i = v_r10_i_i_i_i_i_i_i < 4294967296ull ? v_r10_i_i_i_i_i_i_i : 4294967296ull;
     v_r4_sroa_10_0_i_i_i_i_i_i_i_i = (u32)(v_r4_sroa_10_0_i_i9_i_i_i_i_i_i);
-    if (v_r12_not_i_i_i_i_i_i_i_i) { goto L_arm_1_i_i_i_i_i_i; } else { p_v_4 = 0u; p_v_r24_sroa_4_0_sink_i_i_i_i = 7u; p_v_r24_sroa_13_0_sink_i_i_i_i = 0u; goto L_der_core_encode_joined_len_exit_i_i_i; }
+    if (v_r12_not_i_i_i_i_i_i_i_i) { goto L_arm_1_i_i_i_i_i_i; } else { p_v_r5_sroa_0_0_i_i_sink_i_i_i_i_i_i = 0u; p_v_r5_sroa_4_0_i_i_sink_i_i_i_i_i_i = 7u; p_v_r5_sroa_10_0_i_i_sink_i_i_i_i_i_i = 0u; goto L_der_core_borrowed_BorrowedEncode_encoded_len_25cd3__6; }
 L_arm_1_i_i_i_i_i_i:;
     v_r12_i_i_i_i_i_i_i_i = v_r4_sroa_10_0_i_i_i_i_i_i_i_i < 128u;
-    if (v_r12_i_i_i_i_i_i_i_i) { p_v_r4_0_i_i_i_i_i_i_i_i = 2u; goto L_arm_1_i_i_i_i; } else { goto L_else_2_i_i_i_i_i_i_i_i; }
+    if (v_r12_i_i_i_i_i_i_i_i) { p_v_r4_0_i_i_i_i_i_i_i_i = 2u; goto L_der_core_length_Length_for_tlv_exit_i_i_i_i_i_i; } else { goto L_else_2_i_i_i_i_i_i_i_i; }
 L_else_2_i_i_i_i_i_i_i_i:;
     v_r17_i_i_i_i_i_i_i_i = v_r4_sroa_10_0_i_i_i_i_i_i_i_i < 256u;
-    if (v_r17_i_i_i_i_i_i_i_i) { p_v_r4_0_i_i_i_i_i_i_i_i = 3u; goto L_arm_1_i_i_i_i; } else { goto L_else_5_i_i_i_i_i_i_i_i; }
+    if (v_r17_i_i_i_i_i_i_i_i) { p_v_r4_0_i_i_i_i_i_i_i_i = 3u; goto L_der_core_length_Length_for_tlv_exit_i_i_i_i_i_i; } else { goto L_else_5_i_i_i_i_i_i_i_i; }
 L_else_5_i_i_i_i_i_i_i_i:;
     v_r22_i_i_i_i_i_i_i_i = v_r4_sroa_10_0_i_i_i_i_i_i_i_i < 65536u;
     v_r27_i_i_i_i_i_i_i_i = v_r4_sroa_10_0_i_i_i_i_i_i_i_i < 16777216u;
     v_i_i_i_i_i_i_i_i = v_r27_i_i_i_i_i_i_i_i ? 5u : 6u;
     v_r8_0_i_i_i_i_i_i_i_i = v_r22_i_i_i_i_i_i_i_i ? 4u : v_i_i_i_i_i_i_i_i;
-    { p_v_r4_0_i_i_i_i_i_i_i_i = v_r8_0_i_i_i_i_i_i_i_i; goto L_arm_1_i_i_i_i; }
-L_arm_1_i_i_i_i:;
+    { p_v_r4_0_i_i_i_i_i_i_i_i = v_r8_0_i_i_i_i_i_i_i_i; goto L_der_core_length_Length_for_tlv_exit_i_i_i_i_i_i; }
+L_der_core_length_Length_for_tlv_exit_i_i_i_i_i_i:;
     v_r4_0_i_i_i_i_i_i_i_i = p_v_r4_0_i_i_i_i_i_i_i_i;
     v_r5_i_i_i_i_i_i_i_i_i = (u32)((u32)(v_r4_sroa_10_0_i_i_i_i_i_i_i_i) ^ (u32)(4294967295ull));
-    v_r7_i_not_i_i_i_i_i_not_i_i_i = v_r4_0_i_i_i_i_i_i_i_i > v_r5_i_i_i_i_i_i_i_i_i;
-    if (v_r7_i_not_i_i_i_i_i_not_i_i_i) { p_v_4 = 0u; p_v_r24_sroa_4_0_sink_i_i_i_i = 7u; p_v_r24_sroa_13_0_sink_i_i_i_i = 0u; goto L_der_core_encode_joined_len_exit_i_i_i; } else { goto L_arm_5_i_i_i_i; }
-L_arm_5_i_i_i_i:;
+    v_r7_i_not_i_i_i_i_i_i_i_i = v_r4_0_i_i_i_i_i_i_i_i <= v_r5_i_i_i_i_i_i_i_i_i;
     v_r11_i_i_i_i_i_i_i_i_i = (u32)((u32)(v_r4_0_i_i_i_i_i_i_i_i) + (u32)(v_r4_sroa_10_0_i_i_i_i_i_i_i_i));
-    { p_v_4 = 1u; p_v_r24_sroa_4_0_sink_i_i_i_i = 0u; p_v_r24_sroa_13_0_sink_i_i_i_i = v_r11_i_i_i_i_i_i_i_i_i; goto L_der_core_encode_joined_len_exit_i_i_i; }
-L_der_core_encode_joined_len_exit_i_i_i:;
-    v_4 = p_v_4;
-    v_r24_sroa_4_0_sink_i_i_i_i = p_v_r24_sroa_4_0_sink_i_i_i_i;
-    v_r24_sroa_13_0_sink_i_i_i_i = p_v_r24_sroa_13_0_sink_i_i_i_i;
-    v_5 = v_a1 + 32;
-    v_r25_val_val_1_i_i_i = get_u64(v_5);
-    v_6 = v_a1 + 40;
-    v_r25_val_val3_1_i_i_i = get_u64(v_6);
-    v_r10_i_i_i_i_1_i_i_i = (u64)((u64)(v_r25_val_val3_1_i_i_i) + (u64)(v_r25_val_val_1_i_i_i));
-    v_r12_not_i_i_i_i_i_1_i_i_i = v_r10_i_i_i_i_1_i_i_i < 4294967296ull;
-    v_r4_sroa_10_0_i_i9_i_i_i_1_i_i_i = v_r10_i_i_i_i_1_i_i_i < 4294967296ull ? v_r10_i_i_i_i_1_i_i_i : 4294967296ull;
-    v_r4_sroa_10_0_i_i_i_i_i_1_i_i_i = (u32)(v_r4_sroa_10_0_i_i9_i_i_i_1_i_i_i);
-    if (v_r12_not_i_i_i_i_i_1_i_i_i) { goto L_arm_1_i_i_i_1_i_i_i; } else { p_v_r24_sroa_0_0_sink_i_1_i_i_i = 0u; p_v_r24_sroa_4_0_sink_i_1_i_i_i = 7u; p_v_r24_sroa_13_0_sink_i_1_i_i_i = 0u; goto L_der_core_encode_joined_len_exit_1_i_i_i; }
-L_arm_1_i_i_i_1_i_i_i:;
-    v_r12_i_i_i_i_i_1_i_i_i = v_r4_sroa_10_0_i_i_i_i_i_1_i_i_i < 128u;
-    if (v_r12_i_i_i_i_i_1_i_i_i) { p_v_r4_0_i_i_i_i_i_1_i_i_i = 2u; goto L_der_core_borrowed_BorrowedEncode_encoded_len_25cd3; } else { goto L_else_2_i_i_i_i_i_1_i_i_i; }
-L_else_2_i_i_i_i_i_1_i_i_i:;
-    v_r17_i_i_i_i_i_1_i_i_i = v_r4_sroa_10_0_i_i_i_i_i_1_i_i_i < 256u;
-    if (v_r17_i_i_i_i_i_1_i_i_i) { p_v_r4_0_i_i_i_i_i_1_i_i_i = 3u; goto L_der_core_borrowed_BorrowedEncode_encoded_len_25cd3; } else { goto L_else_5_i_i_i_i_i_1_i_i_i; }
-L_else_5_i_i_i_i_i_1_i_i_i:;
-    v_r22_i_i_i_i_i_1_i_i_i = v_r4_sroa_10_0_i_i_i_i_i_1_i_i_i < 65536u;
-    v_r27_i_i_i_i_i_1_i_i_i = v_r4_sroa_10_0_i_i_i_i_i_1_i_i_i < 16777216u;
-    v_i_i_i_i_i_1_i_i_i = v_r27_i_i_i_i_i_1_i_i_i ? 5u : 6u;
-    v_r8_0_i_i_i_i_i_1_i_i_i = v_r22_i_i_i_i_i_1_i_i_i ? 4u : v_i_i_i_i_i_1_i_i_i;
-    { p_v_r4_0_i_i_i_i_i_1_i_i_i = v_r8_0_i_i_i_i_i_1_i_i_i; goto L_der_core_borrowed_BorrowedEncode_encoded_len_25cd3; }
-L_der_core_borrowed_BorrowedEncode_encoded_len_25cd3:;
-    v_r4_0_i_i_i_i_i_1_i_i_i = p_v_r4_0_i_i_i_i_i_1_i_i_i;
-    v_r5_i_i_i_i_i_i_1_i_i_i = (u32)((u32)(v_r4_sroa_10_0_i_i_i_i_i_1_i_i_i) ^ (u32)(4294967295ull));
-    v_r7_i_not_i_i_i_i_i_1_not_i_i_i = v_r4_0_i_i_i_i_i_1_i_i_i > v_r5_i_i_i_i_i_i_1_i_i_i;
-    v_r11_i_i_i_i_i_i_1_i_i_i = (u32)((u32)(v_r4_0_i_i_i_i_i_1_i_i_i) + (u32)(v_r4_sroa_10_0_i_i_i_i_i_1_i_i_i));
-    if (v_4) { goto L_arm_1_i_1_i_i_i; } else { goto L_arm_2_i_1_i_i_i; }
-L_arm_2_i_1_i_i_i:;
-    v_spec_select_i_i_i = v_r7_i_not_i_i_i_i_i_1_not_i_i_i ? 7u : v_r24_sroa_4_0_sink_i_i_i_i;
-    { p_v_r24_sroa_0_0_sink_i_1_i_i_i = 0u; p_v_r24_sroa_4_0_sink_i_1_i_i_i = v_spec_select_i_i_i; p_v_r24_sroa_13_0_sink_i_1_i_i_i = 0u; goto L_der_core_encode_joined_len_exit_1_i_i_i; }
-L_arm_1_i_1_i_i_i:;
-    if (v_r7_i_not_i_i_i_i_i_1_not_i_i_i) { p_v_r24_sroa_0_0_sink_i_1_i_i_i = 0u; p_v_r24_sroa_4_0_sink_i_1_i_i_i = 7u; p_v_r24_sroa_13_0_sink_i_1_i_i_i = 0u; goto L_der_core_encode_joined_len_exit_1_i_i_i; } else { goto L_arm_5_i_1_i_i_i; }
-L_arm_5_i_1_i_i_i:;
-    v_r5_i_i_i_1_i_i_i = (u32)((u32)(v_r11_i_i_i_i_i_i_1_i_i_i) ^ (u32)(4294967295ull));
-    v_r7_i_not_i_i_1_i_i_i = v_r24_sroa_13_0_sink_i_i_i_i <= v_r5_i_i_i_1_i_i_i;
-    v_r11_i_i_i_1_i_i_i = (u32)((u32)(v_r11_i_i_i_i_i_i_1_i_i_i) + (u32)(v_r24_sroa_13_0_sink_i_i_i_i));
-    v_r5_sroa_4_0_i_i_1_i_i_i = v_r7_i_not_i_i_1_i_i_i ? 0u : 7u;
-    v_r5_sroa_10_0_i_i_1_i_i_i = v_r7_i_not_i_i_1_i_i_i ? v_r11_i_i_i_1_i_i_i : 0u;
-    { p_v_r24_sroa_0_0_sink_i_1_i_i_i = v_r7_i_not_i_i_1_i_i_i; p_v_r24_sroa_4_0_sink_i_1_i_i_i = v_r5_sroa_4_0_i_i_1_i_i_i; p_v_r24_sroa_13_0_sink_i_1_i_i_i = v_r5_sroa_10_0_i_i_1_i_i_i; goto L_der_core_encode_joined_len_exit_1_i_i_i; }
-L_der_core_encode_joined_len_exit_1_i_i_i:;
-    v_r24_sroa_0_0_sink_i_1_i_i_i = p_v_r24_sroa_0_0_sink_i_1_i_i_i;
-    v_r24_sroa_4_0_sink_i_1_i_i_i = p_v_r24_sroa_4_0_sink_i_1_i_i_i;
-    v_r24_sroa_13_0_sink_i_1_i_i_i = p_v_r24_sroa_13_0_sink_i_1_i_i_i;
-    v_7 = v_a1 + 56;
-    v_r25_val_val_2_i_i_i = get_u64(v_7);
-    v_8 = v_a1 + 64;
-    v_r25_val_val3_2_i_i_i = get_u64(v_8);
-    v_r10_i_i_i_i_2_i_i_i = (u64)((u64)(v_r25_val_val3_2_i_i_i) + (u64)(v_r25_val_val_2_i_i_i));
-    v_r12_not_i_i_i_i_i_2_i_i_i = v_r10_i_i_i_i_2_i_i_i < 4294967296ull;
-    v_r4_sroa_10_0_i_i9_i_i_i_2_i_i_i = v_r10_i_i_i_i_2_i_i_i < 4294967296ull ? v_r10_i_i_i_i_2_i_i_i : 4294967296ull;
-    v_r4_sroa_10_0_i_i_i_i_i_2_i_i_i = (u32)(v_r4_sroa_10_0_i_i9_i_i_i_2_i_i_i);
-    if (v_r12_not_i_i_i_i_i_2_i_i_i) { goto L_arm_1_i_i_i_2_i_i_i; } else { p_v_r24_sroa_0_0_sink_i_2_i_i_i = 0u; p_v_r24_sroa_4_0_sink_i_2_i_i_i = 7u; p_v_r24_sroa_13_0_sink_i_2_i_i_i = 0u; goto L_der_core_encode_joined_len_exit_2_i_i_i; }
-L_arm_1_i_i_i_2_i_i_i:;
-    v_r12_i_i_i_i_i_2_i_i_i = v_r4_sroa_10_0_i_i_i_i_i_2_i_i_i < 128u;
-    if (v_r12_i_i_i_i_i_2_i_i_i) { p_v_r4_0_i_i_i_i_i_2_i_i_i = 2u; goto L_der_core_borrowed_BorrowedEncode_encoded_len_25cd3__2; } else { goto L_else_2_i_i_i_i_i_2_i_i_i; }
-L_else_2_i_i_i_i_i_2_i_i_i:;
-    v_r17_i_i_i_i_i_2_i_i_i = v_r4_sroa_10_0_i_i_i_i_i_2_i_i_i < 256u;
-    if (v_r17_i_i_i_i_i_2_i_i_i) { p_v_r4_0_i_i_i_i_i_2_i_i_i = 3u; goto L_der_core_borrowed_BorrowedEncode_encoded_len_25cd3__2; } else { goto L_else_5_i_i_i_i_i_2_i_i_i; }
-L_else_5_i_i_i_i_i_2_i_i_i:;
-    v_r22_i_i_i_i_i_2_i_i_i = v_r4_sroa_10_0_i_i_i_i_i_2_i_i_i < 65536u;
-    v_r27_i_i_i_i_i_2_i_i_i = v_r4_sroa_10_0_i_i_i_i_i_2_i_i_i < 16777216u;
-    v_i_i_i_i_i_2_i_i_i = v_r27_i_i_i_i_i_2_i_i_i ? 5u : 6u;
-    v_r8_0_i_i_i_i_i_2_i_i_i = v_r22_i_i_i_i_i_2_i_i_i ? 4u : v_i_i_i_i_i_2_i_i_i;
-    { p_v_r4_0_i_i_i_i_i_2_i_i_i = v_r8_0_i_i_i_i_i_2_i_i_i; goto L_der_core_borrowed_BorrowedEncode_encoded_len_25cd3__2; }
-L_der_core_borrowed_BorrowedEncode_encoded_len_25cd3__2:;
-    v_r4_0_i_i_i_i_i_2_i_i_i = p_v_r4_0_i_i_i_i_i_2_i_i_i;
-    v_r5_i_i_i_i_i_i_2_i_i_i = (u32)((u32)(v_r4_sroa_10_0_i_i_i_i_i_2_i_i_i) ^ (u32)(4294967295ull));
-    v_r7_i_not_i_i_i_i_i_2_not_i_i_i = v_r4_0_i_i_i_i_i_2_i_i_i > v_r5_i_i_i_i_i_i_2_i_i_i;
-    v_r11_i_i_i_i_i_i_2_i_i_i = (u32)((u32)(v_r4_0_i_i_i_i_i_2_i_i_i) + (u32)(v_r4_sroa_10_0_i_i_i_i_i_2_i_i_i));
-    if (v_r24_sroa_0_0_sink_i_1_i_i_i) { goto L_arm_1_i_2_i_i_i; } else { goto L_arm_2_i_2_i_i_i; }
-L_arm_2_i_2_i_i_i:;
-    v_spec_select46_i_i_i = v_r7_i_not_i_i_i_i_i_2_not_i_i_i ? 7u : v_r24_sroa_4_0_sink_i_1_i_i_i;
-    { p_v_r24_sroa_0_0_sink_i_2_i_i_i = 0u; p_v_r24_sroa_4_0_sink_i_2_i_i_i = v_spec_select46_i_i_i; p_v_r24_sroa_13_0_sink_i_2_i_i_i = 0u; goto L_der_core_encode_joined_len_exit_2_i_i_i; }
-L_arm_1_i_2_i_i_i:;
-    if (v_r7_i_not_i_i_i_i_i_2_not_i_i_i) { p_v_r24_sroa_0_0_sink_i_2_i_i_i = 0u; p_v_r24_sroa_4_0_sink_i_2_i_i_i = 7u; p_v_r24_sroa_13_0_sink_i_2_i_i_i = 0u; goto L_der_core_encode_joined_len_exit_2_i_i_i; } else { goto L_arm_5_i_2_i_i_i; }
-L_arm_5_i_2_i_i_i:;
-    v_r5_i_i_i_2_i_i_i = (u32)((u32)(v_r11_i_i_i_i_i_i_2_i_i_i) ^ (u32)(4294967295ull));
-    v_r7_i_not_i_i_2_i_i_i = v_r24_sroa_13_0_sink_i_1_i_i_i <= v_r5_i_i_i_2_i_i_i;
-    v_r11_i_i_i_2_i_i_i = (u32)((u32)(v_r11_i_i_i_i_i_i_2_i_i_i) + (u32)(v_r24_sroa_13_0_sink_i_1_i_i_i));
-    v_r5_sroa_4_0_i_i_2_i_i_i = v_r7_i_not_i_i_2_i_i_i ? 0u : 7u;
-    v_r5_sroa_10_0_i_i_2_i_i_i = v_r7_i_not_i_i_2_i_i_i ? v_r11_i_i_i_2_i_i_i : 0u;
-    { p_v_r24_sroa_0_0_sink_i_2_i_i_i = v_r7_i_not_i_i_2_i_i_i; p_v_r24_sroa_4_0_sink_i_2_i_i_i = v_r5_sroa_4_0_i_i_2_i_i_i; p_v_r24_sroa_13_0_sink_i_2_i_i_i = v_r5_sroa_10_0_i_i_2_i_i_i; goto L_der_core_encode_joined_len_exit_2_i_i_i; }
-L_der_core_encode_joined_len_exit_2_i_i_i:;
-    v_r24_sroa_0_0_sink_i_2_i_i_i = p_v_r24_sroa_0_0_sink_i_2_i_i_i;
-    v_r24_sroa_4_0_sink_i_2_i_i_i = p_v_r24_sroa_4_0_sink_i_2_i_i_i;
-    v_r24_sroa_13_0_sink_i_2_i_i_i = p_v_r24_sroa_13_0_sink_i_2_i_i_i;
-    v_9 = v_a1 + 80;
-    v_r25_val_val_3_i_i_i = get_u64(v_9);
-    v_10 = v_a1 + 88;
-    v_r25_val_val3_3_i_i_i = get_u64(v_10);
-    v_r10_i_i_i_i_3_i_i_i = (u64)((u64)(v_r25_val_val3_3_i_i_i) + (u64)(v_r25_val_val_3_i_i_i));
-    v_r12_not_i_i_i_i_i_3_i_i_i = v_r10_i_i_i_i_3_i_i_i < 4294967296ull;
-    v_r4_sroa_10_0_i_i9_i_i_i_3_i_i_i = v_r10_i_i_i_i_3_i_i_i < 4294967296ull ? v_r10_i_i_i_i_3_i_i_i : 4294967296ull;
-    v_r4_sroa_10_0_i_i_i_i_i_3_i_i_i = (u32)(v_r4_sroa_10_0_i_i9_i_i_i_3_i_i_i);
-    if (v_r12_not_i_i_i_i_i_3_i_i_i) { goto L_arm_1_i_i_i_3_i_i_i; } else { p_v_r24_sroa_0_0_sink_i_3_i_i_i = 0u; p_v_r24_sroa_4_0_sink_i_3_i_i_i = 7u; p_v_r24_sroa_13_0_sink_i_3_i_i_i = 0u; goto L_der_core_encode_joined_len_exit_3_i_i_i; }
-L_arm_1_i_i_i_3_i_i_i:;
-    v_r12_i_i_i_i_i_3_i_i_i = v_r4_sroa_10_0_i_i_i_i_i_3_i_i_i < 128u;
-    if (v_r12_i_i_i_i_i_3_i_i_i) { p_v_r4_0_i_i_i_i_i_3_i_i_i = 2u; goto L_der_core_borrowed_BorrowedEncode_encoded_len_25cd3__3; } else { goto L_else_2_i_i_i_i_i_3_i_i_i; }
-L_else_2_i_i_i_i_i_3_i_i_i:;
-    v_r17_i_i_i_i_i_3_i_i_i = v_r4_sroa_10_0_i_i_i_i_i_3_i_i_i < 256u;
-    if (v_r17_i_i_i_i_i_3_i_i_i) { p_v_r4_0_i_i_i_i_i_3_i_i_i = 3u; goto L_der_core_borrowed_BorrowedEncode_encoded_len_25cd3__3; } else { goto L_else_5_i_i_i_i_i_3_i_i_i; }
-L_else_5_i_i_i_i_i_3_i_i_i:;
-    v_r22_i_i_i_i_i_3_i_i_i = v_r4_sroa_10_0_i_i_i_i_i_3_i_i_i < 65536u;
-    v_r27_i_i_i_i_i_3_i_i_i = v_r4_sroa_10_0_i_i_i_i_i_3_i_i_i < 16777216u;
-    v_i_i_i_i_i_3_i_i_i = v_r27_i_i_i_i_i_3_i_i_i ? 5u : 6u;
-    v_r8_0_i_i_i_i_i_3_i_i_i = v_r22_i_i_i_i_i_3_i_i_i ? 4u : v_i_i_i_i_i_3_i_i_i;
-    { p_v_r4_0_i_i_i_i_i_3_i_i_i = v_r8_0_i_i_i_i_i_3_i_i_i; goto L_der_core_borrowed_BorrowedEncode_encoded_len_25cd3__3; }
-L_der_core_borrowed_BorrowedEncode_encoded_len_25cd3__3:;
-    v_r4_0_i_i_i_i_i_3_i_i_i = p_v_r4_0_i_i_i_i_i_3_i_i_i;
-    v_r5_i_i_i_i_i_i_3_i_i_i = (u32)((u32)(v_r4_sroa_10_0_i_i_i_i_i_3_i_i_i) ^ (u32)(4294967295ull));
-    v_r7_i_not_i_i_i_i_i_3_not_i_i_i = v_r4_0_i_i_i_i_i_3_i_i_i > v_r5_i_i_i_i_i_i_3_i_i_i;
-    v_r11_i_i_i_i_i_i_3_i_i_i = (u32)((u32)(v_r4_0_i_i_i_i_i_3_i_i_i) + (u32)(v_r4_sroa_10_0_i_i_i_i_i_3_i_i_i));
-    if (v_r24_sroa_0_0_sink_i_2_i_i_i) { goto L_arm_1_i_3_i_i_i; } else { goto L_arm_2_i_3_i_i_i; }
-L_arm_2_i_3_i_i_i:;
-    v_spec_select47_i_i_i = v_r7_i_not_i_i_i_i_i_3_not_i_i_i ? 7u : v_r24_sroa_4_0_sink_i_2_i_i_i;
-    { p_v_r24_sroa_0_0_sink_i_3_i_i_i = 0u; p_v_r24_sroa_4_0_sink_i_3_i_i_i = v_spec_select47_i_i_i; p_v_r24_sroa_13_0_sink_i_3_i_i_i = 0u; goto L_der_core_encode_joined_len_exit_3_i_i_i; }
-L_arm_1_i_3_i_i_i:;
-    if (v_r7_i_not_i_i_i_i_i_3_not_i_i_i) { p_v_r24_sroa_0_0_sink_i_3_i_i_i = 0u; p_v_r24_sroa_4_0_sink_i_3_i_i_i = 7u; p_v_r24_sroa_13_0_sink_i_3_i_i_i = 0u; goto L_der_core_encode_joined_len_exit_3_i_i_i; } else { goto L_arm_5_i_3_i_i_i; }
-L_arm_5_i_3_i_i_i:;
-    v_r5_i_i_i_3_i_i_i = (u32)((u32)(v_r11_i_i_i_i_i_i_3_i_i_i) ^ (u32)(4294967295ull));
-    v_r7_i_not_i_i_3_i_i_i = v_r24_sroa_13_0_sink_i_2_i_i_i <= v_r5_i_i_i_3_i_i_i;
-    v_r11_i_i_i_3_i_i_i = (u32)((u32)(v_r11_i_i_i_i_i_i_3_i_i_i) + (u32)(v_r24_sroa_13_0_sink_i_2_i_i_i));
-    v_r5_sroa_4_0_i_i_3_i_i_i = v_r7_i_not_i_i_3_i_i_i ? 0u : 7u;
-    v_r5_sroa_10_0_i_i_3_i_i_i = v_r7_i_not_i_i_3_i_i_i ? v_r11_i_i_i_3_i_i_i : 0u;
-    { p_v_r24_sroa_0_0_sink_i_3_i_i_i = v_r7_i_not_i_i_3_i_i_i; p_v_r24_sroa_4_0_sink_i_3_i_i_i = v_r5_sroa_4_0_i_i_3_i_i_i; p_v_r24_sroa_13_0_sink_i_3_i_i_i = v_r5_sroa_10_0_i_i_3_i_i_i; goto L_der_core_encode_joined_len_exit_3_i_i_i; }
-L_der_core_encode_joined_len_exit_3_i_i_i:;
-    v_r24_sroa_0_0_sink_i_3_i_i_i = p_v_r24_sroa_0_0_sink_i_3_i_i_i;
-    v_r24_sroa_4_0_sink_i_3_i_i_i = p_v_r24_sroa_4_0_sink_i_3_i_i_i;
-    v_r24_sroa_13_0_sink_i_3_i_i_i = p_v_r24_sroa_13_0_sink_i_3_i_i_i;
-    v_11 = v_a1 + 104;
-    v_r25_val_val_4_i_i_i = get_u64(v_11);
-    v_12 = v_a1 + 112;
-    v_r25_val_val3_4_i_i_i = get_u64(v_12);
-    v_r10_i_i_i_i_4_i_i_i = (u64)((u64)(v_r25_val_val3_4_i_i_i) + (u64)(v_r25_val_val_4_i_i_i));
-    v_r12_not_i_i_i_i_i_4_i_i_i = v_r10_i_i_i_i_4_i_i_i < 4294967296ull;
-    v_r4_sroa_10_0_i_i9_i_i_i_4_i_i_i = v_r10_i_i_i_i_4_i_i_i < 4294967296ull ? v_r10_i_i_i_i_4_i_i_i : 4294967296ull;
-    v_r4_sroa_10_0_i_i_i_i_i_4_i_i_i = (u32)(v_r4_sroa_10_0_i_i9_i_i_i_4_i_i_i);
-    if (v_r12_not_i_i_i_i_i_4_i_i_i) { goto L_arm_1_i_i_i_4_i_i_i; } else { p_v_r24_sroa_0_0_sink_i_4_i_i_i = 0u; p_v_r24_sroa_4_0_sink_i_4_i_i_i = 7u; p_v_r24_sroa_13_0_sink_i_4_i_i_i = 0u; goto L_der_core_encode_joined_len_exit_4_i_i_i; }
-L_arm_1_i_i_i_4_i_i_i:;
-    v_r12_i_i_i_i_i_4_i_i_i = v_r4_sroa_10_0_i_i_i_i_i_4_i_i_i < 128u;
-    if (v_r12_i_i_i_i_i_4_i_i_i) { p_v_r4_0_i_i_i_i_i_4_i_i_i = 2u; goto L_der_core_borrowed_BorrowedEncode_encoded_len_25cd3__4; } else { goto L_else_2_i_i_i_i_i_4_i_i_i; }
-L_else_2_i_i_i_i_i_4_i_i_i:;
-    v_r17_i_i_i_i_i_4_i_i_i = v_r4_sroa_10_0_i_i_i_i_i_4_i_i_i < 256u;
-    if (v_r17_i_i_i_i_i_4_i_i_i) { p_v_r4_0_i_i_i_i_i_4_i_i_i = 3u; goto L_der_core_borrowed_BorrowedEncode_encoded_len_25cd3__4; } else { goto L_else_5_i_i_i_i_i_4_i_i_i; }
-L_else_5_i_i_i_i_i_4_i_i_i:;
-    v_r22_i_i_i_i_i_4_i_i_i = v_r4_sroa_10_0_i_i_i_i_i_4_i_i_i < 65536u;
-    v_r27_i_i_i_i_i_4_i_i_i = v_r4_sroa_10_0_i_i_i_i_i_4_i_i_i < 16777216u;
-    v_i_i_i_i_i_4_i_i_i = v_r27_i_i_i_i_i_4_i_i_i ? 5u : 6u;
-    v_r8_0_i_i_i_i_i_4_i_i_i = v_r22_i_i_i_i_i_4_i_i_i ? 4u : v_i_i_i_i_i_4_i_i_i;
-    { p_v_r4_0_i_i_i_i_i_4_i_i_i = v_r8_0_i_i_i_i_i_4_i_i_i; goto L_der_core_borrowed_BorrowedEncode_encoded_len_25cd3__4; }
-L_der_core_borrowed_BorrowedEncode_encoded_len_25cd3__4:;
-    v_r4_0_i_i_i_i_i_4_i_i_i = p_v_r4_0_i_i_i_i_i_4_i_i_i;
-    v_r5_i_i_i_i_i_i_4_i_i_i = (u32)((u32)(v_r4_sroa_10_0_i_i_i_i_i_4_i_i_i) ^ (u32)(4294967295ull));
-    v_r7_i_not_i_i_i_i_i_4_not_i_i_i = v_r4_0_i_i_i_i_i_4_i_i_i > v_r5_i_i_i_i_i_i_4_i_i_i;
-    v_r11_i_i_i_i_i_i_4_i_i_i = (u32)((u32)(v_r4_0_i_i_i_i_i_4_i_i_i) + (u32)(v_r4_sroa_10_0_i_i_i_i_i_4_i_i_i));
-    if (v_r24_sroa_0_0_sink_i_3_i_i_i) { goto L_arm_1_i_4_i_i_i; } else { goto L_arm_2_i_4_i_i_i; }
-L_arm_2_i_4_i_i_i:;
-    v_spec_select48_i_i_i = v_r7_i_not_i_i_i_i_i_4_not_i_i_i ? 7u : v_r24_sroa_4_0_sink_i_3_i_i_i;
-    { p_v_r24_sroa_0_0_sink_i_4_i_i_i = 0u; p_v_r24_sroa_4_0_sink_i_4_i_i_i = v_spec_select48_i_i_i; p_v_r24_sroa_13_0_sink_i_4_i_i_i = 0u; goto L_der_core_encode_joined_len_exit_4_i_i_i; }
-L_arm_1_i_4_i_i_i:;
-    if (v_r7_i_not_i_i_i_i_i_4_not_i_i_i) { p_v_r24_sroa_0_0_sink_i_4_i_i_i = 0u; p_v_r24_sroa_4_0_sink_i_4_i_i_i = 7u; p_v_r24_sroa_13_0_sink_i_4_i_i_i = 0u; goto L_der_core_encode_joined_len_exit_4_i_i_i; } else { goto L_arm_5_i_4_i_i_i; }
-L_arm_5_i_4_i_i_i:;
-    v_r5_i_i_i_4_i_i_i = (u32)((u32)(v_r11_i_i_i_i_i_i_4_i_i_i) ^ (u32)(4294967295ull));
-    v_r7_i_not_i_i_4_i_i_i = v_r24_sroa_13_0_sink_i_3_i_i_i <= v_r5_i_i_i_4_i_i_i;
-    v_r11_i_i_i_4_i_i_i = (u32)((u32)(v_r11_i_i_i_i_i_i_4_i_i_i) + (u32)(v_r24_sroa_13_0_sink_i_3_i_i_i));
-    v_r5_sroa_4_0_i_i_4_i_i_i = v_r7_i_not_i_i_4_i_i_i ? 0u : 7u;
-    v_r5_sroa_10_0_i_i_4_i_i_i = v_r7_i_not_i_i_4_i_i_i ? v_r11_i_i_i_4_i_i_i : 0u;
-    { p_v_r24_sroa_0_0_sink_i_4_i_i_i = v_r7_i_not_i_i_4_i_i_i; p_v_r24_sroa_4_0_sink_i_4_i_i_i = v_r5_sroa_4_0_i_i_4_i_i_i; p_v_r24_sroa_13_0_sink_i_4_i_i_i = v_r5_sroa_10_0_i_i_4_i_i_i; goto L_der_core_encode_joined_len_exit_4_i_i_i; }
-L_der_core_encode_joined_len_exit_4_i_i_i:;
-    v_r24_sroa_0_0_sink_i_4_i_i_i = p_v_r24_sroa_0_0_sink_i_4_i_i_i;
-    v_r24_sroa_4_0_sink_i_4_i_i_i = p_v_r24_sroa_4_0_sink_i_4_i_i_i;
-    v_r24_sroa_13_0_sink_i_4_i_i_i = p_v_r24_sroa_13_0_sink_i_4_i_i_i;
-    v_13 = v_a1 + 128;
-    v_r25_val_val_5_i_i_i = get_u64(v_13);
-    v_14 = v_a1 + 136;
-    v_r25_val_val3_5_i_i_i = get_u64(v_14);
-    v_r10_i_i_i_i_5_i_i_i = (u64)((u64)(v_r25_val_val3_5_i_i_i) + (u64)(v_r25_val_val_5_i_i_i));
-    v_r12_not_i_i_i_i_i_5_i_i_i = v_r10_i_i_i_i_5_i_i_i < 4294967296ull;
-    v_r4_sroa_10_0_i_i9_i_i_i_5_i_i_i = v_r10_i_i_i_i_5_i_i_i < 4294967296ull ? v_r10_i_i_i_i_5_i_i_i : 4294967296ull;
-    v_r4_sroa_10_0_i_i_i_i_i_5_i_i_i = (u32)(v_r4_sroa_10_0_i_i9_i_i_i_5_i_i_i);
-    if (v_r12_not_i_i_i_i_i_5_i_i_i) { goto L_arm_1_i_i_i_5_i_i_i; } else { p_v_r24_sroa_0_0_sink_i_5_i_i_i = 0u; p_v_r24_sroa_4_0_sink_i_5_i_i_i = 7u; p_v_r24_sroa_13_0_sink_i_5_i_i_i = 0u; goto L_der_core_encode_joined_len_exit_5_i_i_i; }
-L_arm_1_i_i_i_5_i_i_i:;
-    v_r12_i_i_i_i_i_5_i_i_i = v_r4_sroa_10_0_i_i_i_i_i_5_i_i_i < 128u;
-    if (v_r12_i_i_i_i_i_5_i_i_i) { p_v_r4_0_i_i_i_i_i_5_i_i_i = 2u; goto L_der_core_borrowed_BorrowedEncode_encoded_len_25cd3__5; } else { goto L_else_2_i_i_i_i_i_5_i_i_i; }
-L_else_2_i_i_i_i_i_5_i_i_i:;
-    v_r17_i_i_i_i_i_5_i_i_i = v_r4_sroa_10_0_i_i_i_i_i_5_i_i_i < 256u;
-    if (v_r17_i_i_i_i_i_5_i_i_i) { p_v_r4_0_i_i_i_i_i_5_i_i_i = 3u; goto L_der_core_borrowed_BorrowedEncode_encoded_len_25cd3__5; } else { goto L_else_5_i_i_i_i_i_5_i_i_i; }
-L_else_5_i_i_i_i_i_5_i_i_i:;
-    v_r22_i_i_i_i_i_5_i_i_i = v_r4_sroa_10_0_i_i_i_i_i_5_i_i_i < 65536u;
-    v_r27_i_i_i_i_i_5_i_i_i = v_r4_sroa_10_0_i_i_i_i_i_5_i_i_i < 16777216u;
-    v_i_i_i_i_i_5_i_i_i = v_r27_i_i_i_i_i_5_i_i_i ? 5u : 6u;
-    v_r8_0_i_i_i_i_i_5_i_i_i = v_r22_i_i_i_i_i_5_i_i_i ? 4u : v_i_i_i_i_i_5_i_i_i;
-    { p_v_r4_0_i_i_i_i_i_5_i_i_i = v_r8_0_i_i_i_i_i_5_i_i_i; goto L_der_core_borrowed_BorrowedEncode_encoded_len_25cd3__5; }
-L_der_core_borrowed_BorrowedEncode_encoded_len_25cd3__5:;
-    v_r4_0_i_i_i_i_i_5_i_i_i = p_v_r4_0_i_i_i_i_i_5_i_i_i;
-    v_r5_i_i_i_i_i_i_5_i_i_i = (u32)((u32)(v_r4_sroa_10_0_i_i_i_i_i_5_i_i_i) ^ (u32)(4294967295ull));
-    v_r7_i_not_i_i_i_i_i_5_not_i_i_i = v_r4_0_i_i_i_i_i_5_i_i_i > v_r5_i_i_i_i_i_i_5_i_i_i;
-    v_r11_i_i_i_i_i_i_5_i_i_i = (u32)((u32)(v_r4_0_i_i_i_i_i_5_i_i_i) + (u32)(v_r4_sroa_10_0_i_i_i_i_i_5_i_i_i));
-    if (v_r24_sroa_0_0_sink_i_4_i_i_i) { goto L_arm_1_i_5_i_i_i; } else { goto L_arm_2_i_5_i_i_i; }
-L_arm_2_i_5_i_i_i:;
-    v_spec_select49_i_i_i = v_r7_i_not_i_i_i_i_i_5_not_i_i_i ? 7u : v_r24_sroa_4_0_sink_i_4_i_i_i;
-    { p_v_r24_sroa_0_0_sink_i_5_i_i_i = 0u; p_v_r24_sroa_4_0_sink_i_5_i_i_i = v_spec_select49_i_i_i; p_v_r24_sroa_13_0_sink_i_5_i_i_i = 0u; goto L_der_core_encode_joined_len_exit_5_i_i_i; }
-L_arm_1_i_5_i_i_i:;
-    if (v_r7_i_not_i_i_i_i_i_5_not_i_i_i) { p_v_r24_sroa_0_0_sink_i_5_i_i_i = 0u; p_v_r24_sroa_4_0_sink_i_5_i_i_i = 7u; p_v_r24_sroa_13_0_sink_i_5_i_i_i = 0u; goto L_der_core_encode_joined_len_exit_5_i_i_i; } else { goto L_arm_5_i_5_i_i_i; }
-L_arm_5_i_5_i_i_i:;
-    v_r5_i_i_i_5_i_i_i = (u32)((u32)(v_r11_i_i_i_i_i_i_5_i_i_i) ^ (u32)(4294967295ull));
-    v_r7_i_not_i_i_5_i_i_i = v_r24_sroa_13_0_sink_i_4_i_i_i <= v_r5_i_i_i_5_i_i_i;
-    v_r11_i_i_i_5_i_i_i = (u32)((u32)(v_r11_i_i_i_i_i_i_5_i_i_i) + (u32)(v_r24_sroa_13_0_sink_i_4_i_i_i));
-    v_r5_sroa_4_0_i_i_5_i_i_i = v_r7_i_not_i_i_5_i_i_i ? 0u : 7u;
-    v_r5_sroa_10_0_i_i_5_i_i_i = v_r7_i_not_i_i_5_i_i_i ? v_r11_i_i_i_5_i_i_i : 0u;
-    { p_v_r24_sroa_0_0_sink_i_5_i_i_i = v_r7_i_not_i_i_5_i_i_i; p_v_r24_sroa_4_0_sink_i_5_i_i_i = v_r5_sroa_4_0_i_i_5_i_i_i; p_v_r24_sroa_13_0_sink_i_5_i_i_i = v_r5_sroa_10_0_i_i_5_i_i_i; goto L_der_core_encode_joined_len_exit_5_i_i_i; }
-L_der_core_encode_joined_len_exit_5_i_i_i:;
-    v_r24_sroa_0_0_sink_i_5_i_i_i = p_v_r24_sroa_0_0_sink_i_5_i_i_i;
-    v_r24_sroa_4_0_sink_i_5_i_i_i = p_v_r24_sroa_4_0_sink_i_5_i_i_i;
-    v_r24_sroa_13_0_sink_i_5_i_i_i = p_v_r24_sroa_13_0_sink_i_5_i_i_i;
-    v_15 = v_a1 + 152;
-    v_r25_val_val_6_i_i_i = get_u64(v_15);
-    v_16 = v_a1 + 160;
-    v_r25_val_val3_6_i_i_i = get_u64(v_16);
-    v_r10_i_i_i_i_6_i_i_i = (u64)((u64)(v_r25_val_val3_6_i_i_i) + (u64)(v_r25_val_val_6_i_i_i));
-    v_r12_not_i_i_i_i_i_6_i_i_i = v_r10_i_i_i_i_6_i_i_i < 4294967296ull;
-    v_r4_sroa_10_0_i_i9_i_i_i_6_i_i_i = v_r10_i_i_i_i_6_i_i_i < 4294967296ull ? v_r10_i_i_i_i_6_i_i_i : 4294967296ull;
-    v_r4_sroa_10_0_i_i_i_i_i_6_i_i_i = (u32)(v_r4_sroa_10_0_i_i9_i_i_i_6_i_i_i);
-    if (v_r12_not_i_i_i_i_i_6_i_i_i) { goto L_arm_1_i_i_i_6_i_i_i; } else { p_v_r24_sroa_0_0_sink_i_6_i_i_i = 0u; p_v_r24_sroa_4_0_sink_i_6_i_i_i = 7u; p_v_r24_sroa_13_0_sink_i_6_i_i_i = 0u; goto L_der_core_encode_joined_len_exit_6_i_i_i; }
-L_arm_1_i_i_i_6_i_i_i:;
-    v_r12_i_i_i_i_i_6_i_i_i = v_r4_sroa_10_0_i_i_i_i_i_6_i_i_i < 128u;
-    if (v_r12_i_i_i_i_i_6_i_i_i) { p_v_r4_0_i_i_i_i_i_6_i_i_i = 2u; goto L_der_core_borrowed_BorrowedEncode_encoded_len_25cd3__6; } else { goto L_else_2_i_i_i_i_i_6_i_i_i; }
-L_else_2_i_i_i_i_i_6_i_i_i:;
-    v_r17_i_i_i_i_i_6_i_i_i = v_r4_sroa_10_0_i_i_i_i_i_6_i_i_i < 256u;
-    if (v_r17_i_i_i_i_i_6_i_i_i) { p_v_r4_0_i_i_i_i_i_6_i_i_i = 3u; goto L_der_core_borrowed_BorrowedEncode_encoded_len_25cd3__6; } else { goto L_else_5_i_i_i_i_i_6_i_i_i; }
-L_else_5_i_i_i_i_i_6_i_i_i:;
-    v_r22_i_i_i_i_i_6_i_i_i = v_r4_sroa_10_0_i_i_i_i_i_6_i_i_i < 65536u;
-    v_r27_i_i_i_i_i_6_i_i_i = v_r4_sroa_10_0_i_i_i_i_i_6_i_i_i < 16777216u;
-    v_i_i_i_i_i_6_i_i_i = v_r27_i_i_i_i_i_6_i_i_i ? 5u : 6u;
-    v_r8_0_i_i_i_i_i_6_i_i_i = v_r22_i_i_i_i_i_6_i_i_i ? 4u : v_i_i_i_i_i_6_i_i_i;
-    { p_v_r4_0_i_i_i_i_i_6_i_i_i = v_r8_0_i_i_i_i_i_6_i_i_i; goto L_der_core_borrowed_BorrowedEncode_encoded_len_25cd3__6; }
+    v_r5_sroa_4_0_i_i_i_i_i_i_i_i = v_r7_i_not_i_i_i_i_i_i_i_i ? 0u : 7u;
+    v_r5_sroa_10_0_i_i_i_i_i_i_i_i = v_r7_i_not_i_i_i_i_i_i_i_i ? v_r11_i_i_i_i_i_i_i_i_i : 0u;
+    { p_v_r5_sroa_0_0_i_i_sink_i_i_i_i_i_i = v_r7_i_not_i_i_i_i_i_i_i_i; p_v_r5_sroa_4_0_i_i_sink_i_i_i_i_i_i = v_r5_sroa_4_0_i_i_i_i_i_i_i_i; p_v_r5_sroa_10_0_i_i_sink_i_i_i_i_i_i = v_r5_sroa_10_0_i_i_i_i_i_i_i_i; goto L_der_core_borrowed_BorrowedEncode_encoded_len_25cd3__6; }
 L_der_core_borrowed_BorrowedEncode_encoded_len_25cd3__6:;
-    v_r4_0_i_i_i_i_i_6_i_i_i = p_v_r4_0_i_i_i_i_i_6_i_i_i;
-    v_r5_i_i_i_i_i_i_6_i_i_i = (u32)((u32)(v_r4_sroa_10_0_i_i_i_i_i_6_i_i_i) ^ (u32)(4294967295ull));
-    v_r7_i_not_i_i_i_i_i_6_not_i_i_i = v_r4_0_i_i_i_i_i_6_i_i_i > v_r5_i_i_i_i_i_i_6_i_i_i;
-    v_r11_i_i_i_i_i_i_6_i_i_i = (u32)((u32)(v_r4_0_i_i_i_i_i_6_i_i_i) + (u32)(v_r4_sroa_10_0_i_i_i_i_i_6_i_i_i));
-    if (v_r24_sroa_0_0_sink_i_5_i_i_i) { goto L_arm_1_i_6_i_i_i; } else { goto L_arm_2_i_6_i_i_i; }
-L_arm_2_i_6_i_i_i:;
-    v_spec_select50_i_i_i = v_r7_i_not_i_i_i_i_i_6_not_i_i_i ? 7u : v_r24_sroa_4_0_sink_i_5_i_i_i;
-    { p_v_r24_sroa_0_0_sink_i_6_i_i_i = 0u; p_v_r24_sroa_4_0_sink_i_6_i_i_i = v_spec_select50_i_i_i; p_v_r24_sroa_13_0_sink_i_6_i_i_i = 0u; goto L_der_core_encode_joined_len_exit_6_i_i_i; }
-L_arm_1_i_6_i_i_i:;
-    if (v_r7_i_not_i_i_i_i_i_6_not_i_i_i) { p_v_r24_sroa_0_0_sink_i_6_i_i_i = 0u; p_v_r24_sroa_4_0_sink_i_6_i_i_i = 7u; p_v_r24_sroa_13_0_sink_i_6_i_i_i = 0u; goto L_der_core_encode_joined_len_exit_6_i_i_i; } else { goto L_arm_5_i_6_i_i_i; }
-L_arm_5_i_6_i_i_i:;
-    v_r5_i_i_i_6_i_i_i = (u32)((u32)(v_r11_i_i_i_i_i_i_6_i_i_i) ^ (u32)(4294967295ull));
-    v_r7_i_not_i_i_6_i_i_i = v_r24_sroa_13_0_sink_i_5_i_i_i <= v_r5_i_i_i_6_i_i_i;
-    v_r11_i_i_i_6_i_i_i = (u32)((u32)(v_r11_i_i_i_i_i_i_6_i_i_i) + (u32)(v_r24_sroa_13_0_sink_i_5_i_i_i));
-    v_r5_sroa_4_0_i_i_6_i_i_i = v_r7_i_not_i_i_6_i_i_i ? 0u : 7u;
-    v_r5_sroa_10_0_i_i_6_i_i_i = v_r7_i_not_i_i_6_i_i_i ? v_r11_i_i_i_6_i_i_i : 0u;
-    { p_v_r24_sroa_0_0_sink_i_6_i_i_i = v_r7_i_not_i_i_6_i_i_i; p_v_r24_sroa_4_0_sink_i_6_i_i_i = v_r5_sroa_4_0_i_i_6_i_i_i; p_v_r24_sroa_13_0_sink_i_6_i_i_i = v_r5_sroa_10_0_i_i_6_i_i_i; goto L_der_core_encode_joined_len_exit_6_i_i_i; }
-L_der_core_encode_joined_len_exit_6_i_i_i:;
-    v_r24_sroa_0_0_sink_i_6_i_i_i = p_v_r24_sroa_0_0_sink_i_6_i_i_i;
-    v_r24_sroa_4_0_sink_i_6_i_i_i = p_v_r24_sroa_4_0_sink_i_6_i_i_i;
-    v_r24_sroa_13_0_sink_i_6_i_i_i = p_v_r24_sroa_13_0_sink_i_6_i_i_i;
-    v_17 = v_a1 + 176;
-    v_r25_val_val_7_i_i_i = get_u64(v_17);
-    v_18 = v_a1 + 184;
-    v_r25_val_val3_7_i_i_i = get_u64(v_18);
-    v_r10_i_i_i_i_7_i_i_i = (u64)((u64)(v_r25_val_val3_7_i_i_i) + (u64)(v_r25_val_val_7_i_i_i));
-    v_r12_not_i_i_i_i_i_7_i_i_i = v_r10_i_i_i_i_7_i_i_i < 4294967296ull;
-    v_r4_sroa_10_0_i_i9_i_i_i_7_i_i_i = v_r10_i_i_i_i_7_i_i_i < 4294967296ull ? v_r10_i_i_i_i_7_i_i_i : 4294967296ull;
-    v_r4_sroa_10_0_i_i_i_i_i_7_i_i_i = (u32)(v_r4_sroa_10_0_i_i9_i_i_i_7_i_i_i);
-    if (v_r12_not_i_i_i_i_i_7_i_i_i) { goto L_arm_1_i_i_i_7_i_i_i; } else { p_v_r24_sroa_0_0_sink_i_7_i_i_i = 0u; p_v_r24_sroa_4_0_sink_i_7_i_i_i = 7u; p_v_r24_sroa_13_0_sink_i_7_i_i_i = 0u; goto L_der_core_sequence_of_items_len_5bb88a1de8cb80fd_ex; }
-L_arm_1_i_i_i_7_i_i_i:;
-    v_r12_i_i_i_i_i_7_i_i_i = v_r4_sroa_10_0_i_i_i_i_i_7_i_i_i < 128u;
-    if (v_r12_i_i_i_i_i_7_i_i_i) { p_v_r4_0_i_i_i_i_i_7_i_i_i = 2u; goto L_der_core_borrowed_BorrowedEncode_encoded_len_25cd3__7; } else { goto L_else_2_i_i_i_i_i_7_i_i_i; }
-L_else_2_i_i_i_i_i_7_i_i_i:;
-    v_r17_i_i_i_i_i_7_i_i_i = v_r4_sroa_10_0_i_i_i_i_i_7_i_i_i < 256u;
-    if (v_r17_i_i_i_i_i_7_i_i_i) { p_v_r4_0_i_i_i_i_i_7_i_i_i = 3u; goto L_der_core_borrowed_BorrowedEncode_encoded_len_25cd3__7; } else { goto L_else_5_i_i_i_i_i_7_i_i_i; }
-L_else_5_i_i_i_i_i_7_i_i_i:;
-    v_r22_i_i_i_i_i_7_i_i_i = v_r4_sroa_10_0_i_i_i_i_i_7_i_i_i < 65536u;
-    v_r27_i_i_i_i_i_7_i_i_i = v_r4_sroa_10_0_i_i_i_i_i_7_i_i_i < 16777216u;
-    v_i_i_i_i_i_7_i_i_i = v_r27_i_i_i_i_i_7_i_i_i ? 5u : 6u;
-    v_r8_0_i_i_i_i_i_7_i_i_i = v_r22_i_i_i_i_i_7_i_i_i ? 4u : v_i_i_i_i_i_7_i_i_i;
-    { p_v_r4_0_i_i_i_i_i_7_i_i_i = v_r8_0_i_i_i_i_i_7_i_i_i; goto L_der_core_borrowed_BorrowedEncode_encoded_len_25cd3__7; }
+    v_r5_sroa_0_0_i_i_sink_i_i_i_i_i_i = p_v_r5_sroa_0_0_i_i_sink_i_i_i_i_i_i;
+    v_r5_sroa_4_0_i_i_sink_i_i_i_i_i_i = p_v_r5_sroa_4_0_i_i_sink_i_i_i_i_i_i;
+    v_r5_sroa_10_0_i_i_sink_i_i_i_i_i_i = p_v_r5_sroa_10_0_i_i_sink_i_i_i_i_i_i;
+    v_14 = v_a1 + 152;
+    v_r6_i_val_val_i_i_i = get_u64(v_14);
+    v_15 = v_a1 + 160;
+    v_r6_i_val_val27_i_i_i = get_u64(v_15);
+    v_r10_i_i_i_i32_i_i_i = (u64)((u64)(v_r6_i_val_val27_i_i_i) + (u64)(v_r6_i_val_val_i_i_i));
+    v_r12_not_i_i_i_i_i33_i_i_i = v_r10_i_i_i_i32_i_i_i < 4294967296ull;
+    v_r4_sroa_10_0_i_i9_i_i_i34_i_i_i = v_r10_i_i_i_i32_i_i_i < 4294967296ull ? v_r10_i_i_i_i32_i_i_i : 4294967296ull;
+    v_r4_sroa_10_0_i_i_i_i_i35_i_i_i = (u32)(v_r4_sroa_10_0_i_i9_i_i_i34_i_i_i);
+    if (v_r12_not_i_i_i_i_i33_i_i_i) { goto L_arm_1_i_i_i43_i_i_i; } else { p_v_r5_sroa_0_0_i_i_sink_i_i_i36_i_i_i = 0u; p_v_r5_sroa_4_0_i_i_sink_i_i_i37_i_i_i = 7u; p_v_r5_sroa_10_0_i_i_sink_i_i_i38_i_i_i = 0u; goto L_der_core_borrowed_BorrowedEncode_encoded_len_25cd3__7; }
+L_arm_1_i_i_i43_i_i_i:;
+    v_r12_i_i_i_i_i44_i_i_i = v_r4_sroa_10_0_i_i_i_i_i35_i_i_i < 128u;
+    if (v_r12_i_i_i_i_i44_i_i_i) { p_v_r4_0_i_i_i_i_i53_i_i_i = 2u; goto L_der_core_length_Length_for_tlv_exit_i_i_i52_i_i_i; } else { goto L_else_2_i_i_i_i_i45_i_i_i; }
+L_else_2_i_i_i_i_i45_i_i_i:;
+    v_r17_i_i_i_i_i46_i_i_i = v_r4_sroa_10_0_i_i_i_i_i35_i_i_i < 256u;
+    if (v_r17_i_i_i_i_i46_i_i_i) { p_v_r4_0_i_i_i_i_i53_i_i_i = 3u; goto L_der_core_length_Length_for_tlv_exit_i_i_i52_i_i_i; } else { goto L_else_5_i_i_i_i_i47_i_i_i; }
+L_else_5_i_i_i_i_i47_i_i_i:;
+    v_r22_i_i_i_i_i48_i_i_i = v_r4_sroa_10_0_i_i_i_i_i35_i_i_i < 65536u;
+    v_r27_i_i_i_i_i49_i_i_i = v_r4_sroa_10_0_i_i_i_i_i35_i_i_i < 16777216u;
+    v_i_i_i_i_i50_i_i_i = v_r27_i_i_i_i_i49_i_i_i ? 5u : 6u;
+    v_r8_0_i_i_i_i_i51_i_i_i = v_r22_i_i_i_i_i48_i_i_i ? 4u : v_i_i_i_i_i50_i_i_i;
+    { p_v_r4_0_i_i_i_i_i53_i_i_i = v_r8_0_i_i_i_i_i51_i_i_i; goto L_der_core_length_Length_for_tlv_exit_i_i_i52_i_i_i; }
+L_der_core_length_Length_for_tlv_exit_i_i_i52_i_i_i:;
+    v_r4_0_i_i_i_i_i53_i_i_i = p_v_r4_0_i_i_i_i_i53_i_i_i;
+    v_r5_i_i_i_i_i_i54_i_i_i = (u32)((u32)(v_r4_sroa_10_0_i_i_i_i_i35_i_i_i) ^ (u32)(4294967295ull));
+    v_r7_i_not_i_i_i_i_i55_i_i_i = v_r4_0_i_i_i_i_i53_i_i_i <= v_r5_i_i_i_i_i_i54_i_i_i;
+    v_r11_i_i_i_i_i_i56_i_i_i = (u32)((u32)(v_r4_0_i_i_i_i_i53_i_i_i) + (u32)(v_r4_sroa_10_0_i_i_i_i_i35_i_i_i));
+    v_r5_sroa_4_0_i_i_i_i_i58_i_i_i = v_r7_i_not_i_i_i_i_i55_i_i_i ? 0u : 7u;
+    v_r5_sroa_10_0_i_i_i_i_i59_i_i_i = v_r7_i_not_i_i_i_i_i55_i_i_i ? v_r11_i_i_i_i_i_i56_i_i_i : 0u;
+    { p_v_r5_sroa_0_0_i_i_sink_i_i_i36_i_i_i = v_r7_i_not_i_i_i_i_i55_i_i_i; p_v_r5_sroa_4_0_i_i_sink_i_i_i37_i_i_i = v_r5_sroa_4_0_i_i_i_i_i58_i_i_i; p_v_r5_sroa_10_0_i_i_sink_i_i_i38_i_i_i = v_r5_sroa_10_0_i_i_i_i_i59_i_i_i; goto L_der_core_borrowed_BorrowedEncode_encoded_len_25cd3__7; }
 L_der_core_borrowed_BorrowedEncode_encoded_len_25cd3__7:;
-    v_r4_0_i_i_i_i_i_7_i_i_i = p_v_r4_0_i_i_i_i_i_7_i_i_i;
-    v_r5_i_i_i_i_i_i_7_i_i_i = (u32)((u32)(v_r4_sroa_10_0_i_i_i_i_i_7_i_i_i) ^ (u32)(4294967295ull));
-    v_r7_i_not_i_i_i_i_i_7_not_i_i_i = v_r4_0_i_i_i_i_i_7_i_i_i > v_r5_i_i_i_i_i_i_7_i_i_i;
-    v_r11_i_i_i_i_i_i_7_i_i_i = (u32)((u32)(v_r4_0_i_i_i_i_i_7_i_i_i) + (u32)(v_r4_sroa_10_0_i_i_i_i_i_7_i_i_i));
-    if (v_r24_sroa_0_0_sink_i_6_i_i_i) { goto L_arm_1_i_7_i_i_i; } else { goto L_arm_2_i_7_i_i_i; }
-L_arm_2_i_7_i_i_i:;
-    v_spec_select51_i_i_i = v_r7_i_not_i_i_i_i_i_7_not_i_i_i ? 7u : v_r24_sroa_4_0_sink_i_6_i_i_i;
-    { p_v_r24_sroa_0_0_sink_i_7_i_i_i = 0u; p_v_r24_sroa_4_0_sink_i_7_i_i_i = v_spec_select51_i_i_i; p_v_r24_sroa_13_0_sink_i_7_i_i_i = 0u; goto L_der_core_sequence_of_items_len_5bb88a1de8cb80fd_ex; }
-L_arm_1_i_7_i_i_i:;
-    if (v_r7_i_not_i_i_i_i_i_7_not_i_i_i) { p_v_r24_sroa_0_0_sink_i_7_i_i_i = 0u; p_v_r24_sroa_4_0_sink_i_7_i_i_i = 7u; p_v_r24_sroa_13_0_sink_i_7_i_i_i = 0u; goto L_der_core_sequence_of_items_len_5bb88a1de8cb80fd_ex; } else { goto L_arm_5_i_7_i_i_i; }
-L_arm_5_i_7_i_i_i:;
-    v_r5_i_i_i_7_i_i_i = (u32)((u32)(v_r11_i_i_i_i_i_i_7_i_i_i) ^ (u32)(4294967295ull));
-    v_r7_i_not_i_i_7_i_i_i = v_r24_sroa_13_0_sink_i_6_i_i_i <= v_r5_i_i_i_7_i_i_i;
-    v_r11_i_i_i_7_i_i_i = (u32)((u32)(v_r11_i_i_i_i_i_i_7_i_i_i) + (u32)(v_r24_sroa_13_0_sink_i_6_i_i_i));
-    v_r5_sroa_4_0_i_i_7_i_i_i = v_r7_i_not_i_i_7_i_i_i ? 0u : 7u;
-    v_r5_sroa_10_0_i_i_7_i_i_i = v_r7_i_not_i_i_7_i_i_i ? v_r11_i_i_i_7_i_i_i : 0u;
-    { p_v_r24_sroa_0_0_sink_i_7_i_i_i = v_r7_i_not_i_i_7_i_i_i; p_v_r24_sroa_4_0_sink_i_7_i_i_i = v_r5_sroa_4_0_i_i_7_i_i_i; p_v_r24_sroa_13_0_sink_i_7_i_i_i = v_r5_sroa_10_0_i_i_7_i_i_i; goto L_der_core_sequence_of_items_len_5bb88a1de8cb80fd_ex; }
-L_der_core_sequence_of_items_len_5bb88a1de8cb80fd_ex:;
-    v_r24_sroa_0_0_sink_i_7_i_i_i = p_v_r24_sroa_0_0_sink_i_7_i_i_i;
-    v_r24_sroa_4_0_sink_i_7_i_i_i = p_v_r24_sroa_4_0_sink_i_7_i_i_i;
-    v_r24_sroa_13_0_sink_i_7_i_i_i = p_v_r24_sroa_13_0_sink_i_7_i_i_i;
-    if (v_0) { goto L_arm_1_i40_i_i; } else { goto L_der_core_part_OptionPart_part_len_b85dcb4e1722644d; }
-L_arm_1_i40_i_i:;
-    v_r5_i41_i_i = v_a1 + 200;
-    v_r5_val_i_i_i = get_P(v_r5_i41_i_i);
-    v_19 = v_a1 + 208;
-    v_r5_val1_i_i_i = get_u64(v_19);
-    v_r176_not_i_i_i_i_i_i_i = v_r5_val1_i_i_i == 0u;
-    if (v_r176_not_i_i_i_i_i_i_i) { p_v_r12_sroa_10_0_i_ph15_i_i_i_i_i = 0u; p_v_r4_0_i_i_i_i_i_i_i = 2u; goto L_der_core_part_OptionPart_part_len_b85dcb4e1722644d__2; } else { p_v_r4_010_i_i_i_i_i_i_i = 0u; p_v_r3_sroa_0_09_i_i_i_i_i_i_i = 0u; p_v_r3_sroa_5_08_i_i_i_i_i_i_i = 0u; p_v_r3_sroa_14_07_i_i_i_i_i_i_i = 0u; goto L_join_6_i_i_i_i_i_i_i; }
-L_join_6_i_i_i_i_i_i_i:;
-    v_r4_010_i_i_i_i_i_i_i = p_v_r4_010_i_i_i_i_i_i_i;
-    v_r3_sroa_0_09_i_i_i_i_i_i_i = p_v_r3_sroa_0_09_i_i_i_i_i_i_i;
-    v_r3_sroa_5_08_i_i_i_i_i_i_i = p_v_r3_sroa_5_08_i_i_i_i_i_i_i;
-    v_r3_sroa_14_07_i_i_i_i_i_i_i = p_v_r3_sroa_14_07_i_i_i_i_i_i_i;
-    v_r22_i_i_i_i_i_i_i = (u64)((u64)(v_r4_010_i_i_i_i_i_i_i) * (u64)(72u));
-    v_r25_i_i_i_i_i_i_i = (P)((uintptr_t)v_r5_val_i_i_i + (u64)(v_r22_i_i_i_i_i_i_i));
-    v_20 = v_r25_i_i_i_i_i_i_i + 8;
-    v_r10_val_val_i_i_i_i_i_i_i_i_i_i = get_u64(v_20);
-    v_21 = v_r25_i_i_i_i_i_i_i + 16;
-    v_r10_val_val29_i_i_i_i_i_i_i_i_i_i = get_u64(v_21);
-    v_r10_i_i_i_i_i_i_i_i_i_i_i_i_i_i = (u64)((u64)(v_r10_val_val29_i_i_i_i_i_i_i_i_i_i) + (u64)(v_r10_val_val_i_i_i_i_i_i_i_i_i_i));
-    v_r12_not_i_i_i_i_i_i_i_i_i_i_i_i_i_i_i = v_r10_i_i_i_i_i_i_i_i_i_i_i_i_i_i < 4294967296ull;
-    v_r4_sroa_10_0_i_i9_i_i_i_i_i_i_i_i_i_i_i_i_i = v_r10_i_i_i_i_i_i_i_i_i_i_i_i_i_i < 4294967296ull ? v_r10_i_i_i_i_i_i_i_i_i_i_i_i_i_i : 4294967296ull;
-    v_r4_sroa_10_0_i_i_i_i_i_i_i_i_i_i_i_i_i_i_i = (u32)(v_r4_sroa_10_0_i_i9_i_i_i_i_i_i_i_i_i_i_i_i_i);
-    if (v_r12_not_i_i_i_i_i_i_i_i_i_i_i_i_i_i_i) { goto L_arm_1_i_i_i_i_i_i_i_i_i_i_i_i_i; } else { p_v_r5_sroa_0_0_i_i_sink_i_i_i_i_i_i_i_i_i_i_i_i_i = 0u; p_v_r5_sroa_4_0_i_i_sink_i_i_i_i_i_i_i_i_i_i_i_i_i = 7u; p_v_r5_sroa_10_0_i_i_sink_i_i_i_i_i_i_i_i_i_i_i_i_i = 0u; goto L_der_core_borrowed_BorrowedEncode_encoded_len_25cd3__8; }
-L_arm_1_i_i_i_i_i_i_i_i_i_i_i_i_i:;
-    v_r12_i_i_i_i_i_i_i_i_i_i_i_i_i_i_i = v_r4_sroa_10_0_i_i_i_i_i_i_i_i_i_i_i_i_i_i_i < 128u;
-    if (v_r12_i_i_i_i_i_i_i_i_i_i_i_i_i_i_i) { p_v_r4_0_i_i_i_i_i_i_i_i_i_i_i_i_i_i_i = 2u; goto L_der_core_length_Length_for_tlv_exit_i_i_i_i_i_i_i_; } else { goto L_else_2_i_i_i_i_i_i_i_i_i_i_i_i_i_i_i; }
-L_else_2_i_i_i_i_i_i_i_i_i_i_i_i_i_i_i:;
-    v_r17_i_i_i_i_i_i_i_i_i_i_i_i_i_i_i = v_r4_sroa_10_0_i_i_i_i_i_i_i_i_i_i_i_i_i_i_i < 256u;
-    if (v_r17_i_i_i_i_i_i_i_i_i_i_i_i_i_i_i) { p_v_r4_0_i_i_i_i_i_i_i_i_i_i_i_i_i_i_i = 3u; goto L_der_core_length_Length_for_tlv_exit_i_i_i_i_i_i_i_; } else { goto L_else_5_i_i_i_i_i_i_i_i_i_i_i_i_i_i_i; }
-L_else_5_i_i_i_i_i_i_i_i_i_i_i_i_i_i_i:;
-    v_r22_i_i_i_i_i_i_i_i_i_i_i_i_i_i_i = v_r4_sroa_10_0_i_i_i_i_i_i_i_i_i_i_i_i_i_i_i < 65536u;
-    v_r27_i_i_i_i_i_i_i_i_i_i_i_i_i_i_i = v_r4_sroa_10_0_i_i_i_i_i_i_i_i_i_i_i_i_i_i_i < 16777216u;
-    v_i_i_i_i_i_i_i_i_i_i_i_i_i_i_i = v_r27_i_i_i_i_i_i_i_i_i_i_i_i_i_i_i ? 5u : 6u;
-    v_r8_0_i_i_i_i_i_i_i_i_i_i_i_i_i_i_i = v_r22_i_i_i_i_i_i_i_i_i_i_i_i_i_i_i ? 4u : v_i_i_i_i_i_i_i_i_i_i_i_i_i_i_i;
-    { p_v_r4_0_i_i_i_i_i_i_i_i_i_i_i_i_i_i_i = v_r8_0_i_i_i_i_i_i_i_i_i_i_i_i_i_i_i; goto L_der_core_length_Length_for_tlv_exit_i_i_i_i_i_i_i_; }
-L_der_core_length_Length_for_tlv_exit_i_i_i_i_i_i_i_:;
-    v_r4_0_i_i_i_i_i_i_i_i_i_i_i_i_i_i_i = p_v_r4_0_i_i_i_i_i_i_i_i_i_i_i_i_i_i_i;
-    v_r5_i_i_i_i_i_i_i_i_i_i_i_i_i_i_i_i = (u32)((u32)(v_r4_sroa_10_0_i_i_i_i_i_i_i_i_i_i_i_i_i_i_i) ^ (u32)(4294967295ull));
-    v_r7_i_not_i_i_i_i_i_i_i_i_i_i_i_i_i_i_i = v_r4_0_i_i_i_i_i_i_i_i_i_i_i_i_i_i_i <= v_r5_i_i_i_i_i_i_i_i_i_i_i_i_i_i_i_i;
-    v_r11_i_i_i_i_i_i_i_i_i_i_i_i_i_i_i_i = (u32)((u32)(v_r4_0_i_i_i_i_i_i_i_i_i_i_i_i_i_i_i) + (u32)(v_r4_sroa_10_0_i_i_i_i_i_i_i_i_i_i_i_i_i_i_i));
-    v_r5_sroa_4_0_i_i_i_i_i_i_i_i_i_i_i_i_i_i_i = v_r7_i_not_i_i_i_i_i_i_i_i_i_i_i_i_i_i_i ? 0u : 7u;
-    v_r5_sroa_10_0_i_i_i_i_i_i_i_i_i_i_i_i_i_i_i = v_r7_i_not_i_i_i_i_i_i_i_i_i_i_i_i_i_i_i ? v_r11_i_i_i_i_i_i_i_i_i_i_i_i_i_i_i_i : 0u;
-    { p_v_r5_sroa_0_0_i_i_sink_i_i_i_i_i_i_i_i_i_i_i_i_i = v_r7_i_not_i_i_i_i_i_i_i_i_i_i_i_i_i_i_i; p_v_r5_sroa_4_0_i_i_sink_i_i_i_i_i_i_i_i_i_i_i_i_i = v_r5_sroa_4_0_i_i_i_i_i_i_i_i_i_i_i_i_i_i_i; p_v_r5_sroa_10_0_i_i_sink_i_i_i_i_i_i_i_i_i_i_i_i_i = v_r5_sroa_10_0_i_i_i_i_i_i_i_i_i_i_i_i_i_i_i; goto L_der_core_borrowed_BorrowedEncode_encoded_len_25cd3__8; }
-L_der_core_borrowed_BorrowedEncode_encoded_len_25cd3__8:;
-    v_r5_sroa_0_0_i_i_sink_i_i_i_i_i_i_i_i_i_i_i_i_i = p_v_r5_sroa_0_0_i_i_sink_i_i_i_i_i_i_i_i_i_i_i_i_i;
-    v_r5_sroa_4_0_i_i_sink_i_i_i_i_i_i_i_i_i_i_i_i_i = p_v_r5_sroa_4_0_i_i_sink_i_i_i_i_i_i_i_i_i_i_i_i_i;
-    v_r5_sroa_10_0_i_i_sink_i_i_i_i_i_i_i_i_i_i_i_i_i = p_v_r5_sroa_10_0_i_i_sink_i_i_i_i_i_i_i_i_i_i_i_i_i;
-    v_22 = v_r25_i_i_i_i_i_i_i + 32;
-    v_r6_i_val_val_i_i_i_i_i_i_i_i_i_i = get_u64(v_22);
-    v_23 = v_r25_i_i_i_i_i_i_i + 40;
-    v_r6_i_val_val30_i_i_i_i_i_i_i_i_i_i = get_u64(v_23);
-    v_r10_i_i_i_i35_i_i_i_i_i_i_i_i_i_i = (u64)((u64)(v_r6_i_val_val30_i_i_i_i_i_i_i_i_i_i) + (u64)(v_r6_i_val_val_i_i_i_i_i_i_i_i_i_i));
-    v_r12_not_i_i_i_i_i36_i_i_i_i_i_i_i_i_i_i = v_r10_i_i_i_i35_i_i_i_i_i_i_i_i_i_i < 4294967296ull;
-    v_r4_sroa_10_0_i_i9_i_i_i37_i_i_i_i_i_i_i_i_i_i = v_r10_i_i_i_i35_i_i_i_i_i_i_i_i_i_i < 4294967296ull ? v_r10_i_i_i_i35_i_i_i_i_i_i_i_i_i_i : 4294967296ull;
-    v_r4_sroa_10_0_i_i_i_i_i38_i_i_i_i_i_i_i_i_i_i = (u32)(v_r4_sroa_10_0_i_i9_i_i_i37_i_i_i_i_i_i_i_i_i_i);
-    if (v_r12_not_i_i_i_i_i36_i_i_i_i_i_i_i_i_i_i) { goto L_arm_1_i_i_i46_i_i_i_i_i_i_i_i_i_i; } else { p_v_r5_sroa_0_0_i_i_sink_i_i_i39_i_i_i_i_i_i_i_i_i_i = 1u; p_v_r5_sroa_4_0_i_i_sink_i_i_i40_i_i_i_i_i_i_i_i_i_i = 7u; p_v_r5_sroa_10_0_i_i_sink_i_i_i41_i_i_i_i_i_i_i_i_i_i = 0u; goto L_der_core_borrowed_BorrowedEncode_encoded_len_25cd3__9; }
-L_arm_1_i_i_i46_i_i_i_i_i_i_i_i_i_i:;
-    v_r12_i_i_i_i_i47_i_i_i_i_i_i_i_i_i_i = v_r4_sroa_10_0_i_i_i_i_i38_i_i_i_i_i_i_i_i_i_i < 128u;
-    if (v_r12_i_i_i_i_i47_i_i_i_i_i_i_i_i_i_i) { p_v_r4_0_i_i_i_i_i56_i_i_i_i_i_i_i_i_i_i = 2u; goto L_der_core_length_Length_for_tlv_exit_i_i_i55_i_i_i_; } else { goto L_else_2_i_i_i_i_i48_i_i_i_i_i_i_i_i_i_i; }
-L_else_2_i_i_i_i_i48_i_i_i_i_i_i_i_i_i_i:;
-    v_r17_i_i_i_i_i49_i_i_i_i_i_i_i_i_i_i = v_r4_sroa_10_0_i_i_i_i_i38_i_i_i_i_i_i_i_i_i_i < 256u;
-    if (v_r17_i_i_i_i_i49_i_i_i_i_i_i_i_i_i_i) { p_v_r4_0_i_i_i_i_i56_i_i_i_i_i_i_i_i_i_i = 3u; goto L_der_core_length_Length_for_tlv_exit_i_i_i55_i_i_i_; } else { goto L_else_5_i_i_i_i_i50_i_i_i_i_i_i_i_i_i_i; }
-L_else_5_i_i_i_i_i50_i_i_i_i_i_i_i_i_i_i:;
-    v_r22_i_i_i_i_i51_i_i_i_i_i_i_i_i_i_i = v_r4_sroa_10_0_i_i_i_i_i38_i_i_i_i_i_i_i_i_i_i < 65536u;
-    v_r27_i_i_i_i_i52_i_i_i_i_i_i_i_i_i_i = v_r4_sroa_10_0_i_i_i_i_i38_i_i_i_i_i_i_i_i_i_i < 16777216u;
-    v_i_i_i_i_i53_i_i_i_i_i_i_i_i_i_i = v_r27_i_i_i_i_i52_i_i_i_i_i_i_i_i_i_i ? 5u : 6u;
-    v_r8_0_i_i_i_i_i54_i_i_i_i_i_i_i_i_i_i = v_r22_i_i_i_i_i51_i_i_i_i_i_i_i_i_i_i ? 4u : v_i_i_i_i_i53_i_i_i_i_i_i_i_i_i_i;
-    { p_v_r4_0_i_i_i_i_i56_i_i_i_i_i_i_i_i_i_i = v_r8_0_i_i_i_i_i54_i_i_i_i_i_i_i_i_i_i; goto L_der_core_length_Length_for_tlv_exit_i_i_i55_i_i_i_; }
-L_der_core_length_Length_for_tlv_exit_i_i_i55_i_i_i_:;
-    v_r4_0_i_i_i_i_i56_i_i_i_i_i_i_i_i_i_i = p_v_r4_0_i_i_i_i_i56_i_i_i_i_i_i_i_i_i_i;
-    v_r5_i_i_i_i_i_i57_i_i_i_i_i_i_i_i_i_i = (u32)((u32)(v_r4_sroa_10_0_i_i_i_i_i38_i_i_i_i_i_i_i_i_i_i) ^ (u32)(4294967295ull));
-    v_r7_i_not_i_i_i_i_i58_i_i_i_i_i_i_i_i_i_i = v_r4_0_i_i_i_i_i56_i_i_i_i_i_i_i_i_i_i > v_r5_i_i_i_i_i_i57_i_i_i_i_i_i_i_i_i_i;
-    v_r11_i_i_i_i_i_i59_i_i_i_i_i_i_i_i_i_i = (u32)((u32)(v_r4_0_i_i_i_i_i56_i_i_i_i_i_i_i_i_i_i) + (u32)(v_r4_sroa_10_0_i_i_i_i_i38_i_i_i_i_i_i_i_i_i_i));
-    v_r5_sroa_4_0_i_i_i_i_i61_i_i_i_i_i_i_i_i_i_i = v_r7_i_not_i_i_i_i_i58_i_i_i_i_i_i_i_i_i_i ? 7u : 0u;
-    v_r5_sroa_10_0_i_i_i_i_i62_i_i_i_i_i_i_i_i_i_i = v_r7_i_not_i_i_i_i_i58_i_i_i_i_i_i_i_i_i_i ? 0u : v_r11_i_i_i_i_i_i59_i_i_i_i_i_i_i_i_i_i;
-    { p_v_r5_sroa_0_0_i_i_sink_i_i_i39_i_i_i_i_i_i_i_i_i_i = v_r7_i_not_i_i_i_i_i58_i_i_i_i_i_i_i_i_i_i; p_v_r5_sroa_4_0_i_i_sink_i_i_i40_i_i_i_i_i_i_i_i_i_i = v_r5_sroa_4_0_i_i_i_i_i61_i_i_i_i_i_i_i_i_i_i; p_v_r5_sroa_10_0_i_i_sink_i_i_i41_i_i_i_i_i_i_i_i_i_i = v_r5_sroa_10_0_i_i_i_i_i62_i_i_i_i_i_i_i_i_i_i; goto L_der_core_borrowed_BorrowedEncode_encoded_len_25cd3__9; }
+    v_r5_sroa_0_0_i_i_sink_i_i_i36_i_i_i = p_v_r5_sroa_0_0_i_i_sink_i_i_i36_i_i_i;
+    v_r5_sroa_4_0_i_i_sink_i_i_i37_i_i_i = p_v_r5_sroa_4_0_i_i_sink_i_i_i37_i_i_i;
+    v_r5_sroa_10_0_i_i_sink_i_i_i38_i_i_i = p_v_r5_sroa_10_0_i_i_sink_i_i_i38_i_i_i;
+    v_16 = v_a1 + 176;
+    v_r6_i5_val_val_i_i_i = get_u64(v_16);
+    v_17 = v_a1 + 184;
+    v_r6_i5_val_val28_i_i_i = get_u64(v_17);
+    v_r10_i_i_i_i61_i_i_i = (u64)((u64)(v_r6_i5_val_val28_i_i_i) + (u64)(v_r6_i5_val_val_i_i_i));
+    v_r12_not_i_i_i_i_i62_i_i_i = v_r10_i_i_i_i61_i_i_i < 4294967296ull;
+    v_r4_sroa_10_0_i_i9_i_i_i63_i_i_i = v_r10_i_i_i_i61_i_i_i < 4294967296ull ? v_r10_i_i_i_i61_i_i_i : 4294967296ull;
+    v_r4_sroa_10_0_i_i_i_i_i64_i_i_i = (u32)(v_r4_sroa_10_0_i_i9_i_i_i63_i_i_i);
+    if (v_r12_not_i_i_i_i_i62_i_i_i) { goto L_arm_1_i_i_i72_i_i_i; } else { goto L_der_core_borrowed_BorrowedEncode_encoded_len_25cd3__8; }
+L_arm_1_i_i_i72_i_i_i:;
+    v_r12_i_i_i_i_i73_i_i_i = v_r4_sroa_10_0_i_i_i_i_i64_i_i_i < 128u;
+    if (v_r12_i_i_i_i_i73_i_i_i) { p_v_r4_0_i_i_i_i_i82_i_i_i = 2u; goto L_der_core_borrowed_BorrowedEncode_encoded_len_25cd3__9; } else { goto L_else_2_i_i_i_i_i74_i_i_i; }
+L_else_2_i_i_i_i_i74_i_i_i:;
+    v_r17_i_i_i_i_i75_i_i_i = v_r4_sroa_10_0_i_i_i_i_i64_i_i_i < 256u;
+    if (v_r17_i_i_i_i_i75_i_i_i) { p_v_r4_0_i_i_i_i_i82_i_i_i = 3u; goto L_der_core_borrowed_BorrowedEncode_encoded_len_25cd3__9; } else { goto L_else_5_i_i_i_i_i76_i_i_i; }
+L_else_5_i_i_i_i_i76_i_i_i:;
+    v_r22_i_i_i_i_i77_i_i_i = v_r4_sroa_10_0_i_i_i_i_i64_i_i_i < 65536u;
+    v_r27_i_i_i_i_i78_i_i_i = v_r4_sroa_10_0_i_i_i_i_i64_i_i_i < 16777216u;
+    v_i_i_i_i_i79_i_i_i = v_r27_i_i_i_i_i78_i_i_i ? 5u : 6u;
+    v_r8_0_i_i_i_i_i80_i_i_i = v_r22_i_i_i_i_i77_i_i_i ? 4u : v_i_i_i_i_i79_i_i_i;
+    { p_v_r4_0_i_i_i_i_i82_i_i_i = v_r8_0_i_i_i_i_i80_i_i_i; goto L_der_core_borrowed_BorrowedEncode_encoded_len_25cd3__9; }
 L_der_core_borrowed_BorrowedEncode_encoded_len_25cd3__9:;
-    v_r5_sroa_0_0_i_i_sink_i_i_i39_i_i_i_i_i_i_i_i_i_i = p_v_r5_sroa_0_0_i_i_sink_i_i_i39_i_i_i_i_i_i_i_i_i_i;
-    v_r5_sroa_4_0_i_i_sink_i_i_i40_i_i_i_i_i_i_i_i_i_i = p_v_r5_sroa_4_0_i_i_sink_i_i_i40_i_i_i_i_i_i_i_i_i_i;
-    v_r5_sroa_10_0_i_i_sink_i_i_i41_i_i_i_i_i_i_i_i_i_i = p_v_r5_sroa_10_0_i_i_sink_i_i_i41_i_i_i_i_i_i_i_i_i_i;
-    v_24 = v_r25_i_i_i_i_i_i_i + 56;
-    v_r6_i6_val_val_i_i_i_i_i_i_i_i_i_i = get_u64(v_24);
-    v_25 = v_r25_i_i_i_i_i_i_i + 64;
-    v_r6_i6_val_val31_i_i_i_i_i_i_i_i_i_i = get_u64(v_25);
-    v_r10_i_i_i_i64_i_i_i_i_i_i_i_i_i_i = (u64)((u64)(v_r6_i6_val_val31_i_i_i_i_i_i_i_i_i_i) + (u64)(v_r6_i6_val_val_i_i_i_i_i_i_i_i_i_i));
-    v_r12_not_i_i_i_i_i65_i_i_i_i_i_i_i_i_i_i = v_r10_i_i_i_i64_i_i_i_i_i_i_i_i_i_i < 4294967296ull;
-    v_r4_sroa_10_0_i_i9_i_i_i66_i_i_i_i_i_i_i_i_i_i = v_r10_i_i_i_i64_i_i_i_i_i_i_i_i_i_i < 4294967296ull ? v_r10_i_i_i_i64_i_i_i_i_i_i_i_i_i_i : 4294967296ull;
-    v_r4_sroa_10_0_i_i_i_i_i67_i_i_i_i_i_i_i_i_i_i = (u32)(v_r4_sroa_10_0_i_i9_i_i_i66_i_i_i_i_i_i_i_i_i_i);
-    if (v_r12_not_i_i_i_i_i65_i_i_i_i_i_i_i_i_i_i) { goto L_arm_1_i_i_i75_i_i_i_i_i_i_i_i_i_i; } else { p_v_r24_sroa_0_0_sink_i119_i_i_i_i_i_i_i_i_i_i = 0u; p_v_r24_sroa_4_0_sink_i120_i_i_i_i_i_i_i_i_i_i = 7u; p_v_r24_sroa_13_0_sink_i123_i_i_i_i_i_i_i_i_i_i = 0u; goto L_der_core_encode_joined_len_exit137_i_i_i_i_i_i_i_i; }
-L_arm_1_i_i_i75_i_i_i_i_i_i_i_i_i_i:;
-    v_r12_i_i_i_i_i76_i_i_i_i_i_i_i_i_i_i = v_r4_sroa_10_0_i_i_i_i_i67_i_i_i_i_i_i_i_i_i_i < 128u;
-    if (v_r12_i_i_i_i_i76_i_i_i_i_i_i_i_i_i_i) { p_v_r4_0_i_i_i_i_i85_i_i_i_i_i_i_i_i_i_i = 2u; goto L_der_core_borrowed_BorrowedEncode_encoded_len_25cd3__10; } else { goto L_else_2_i_i_i_i_i77_i_i_i_i_i_i_i_i_i_i; }
-L_else_2_i_i_i_i_i77_i_i_i_i_i_i_i_i_i_i:;
-    v_r17_i_i_i_i_i78_i_i_i_i_i_i_i_i_i_i = v_r4_sroa_10_0_i_i_i_i_i67_i_i_i_i_i_i_i_i_i_i < 256u;
-    if (v_r17_i_i_i_i_i78_i_i_i_i_i_i_i_i_i_i) { p_v_r4_0_i_i_i_i_i85_i_i_i_i_i_i_i_i_i_i = 3u; goto L_der_core_borrowed_BorrowedEncode_encoded_len_25cd3__10; } else { goto L_else_5_i_i_i_i_i79_i_i_i_i_i_i_i_i_i_i; }
-L_else_5_i_i_i_i_i79_i_i_i_i_i_i_i_i_i_i:;
-    v_r22_i_i_i_i_i80_i_i_i_i_i_i_i_i_i_i = v_r4_sroa_10_0_i_i_i_i_i67_i_i_i_i_i_i_i_i_i_i < 65536u;
-    v_r27_i_i_i_i_i81_i_i_i_i_i_i_i_i_i_i = v_r4_sroa_10_0_i_i_i_i_i67_i_i_i_i_i_i_i_i_i_i < 16777216u;
-    v_i_i_i_i_i82_i_i_i_i_i_i_i_i_i_i = v_r27_i_i_i_i_i81_i_i_i_i_i_i_i_i_i_i ? 5u : 6u;
-    v_r8_0_i_i_i_i_i83_i_i_i_i_i_i_i_i_i_i = v_r22_i_i_i_i_i80_i_i_i_i_i_i_i_i_i_i ? 4u : v_i_i_i_i_i82_i_i_i_i_i_i_i_i_i_i;
-    { p_v_r4_0_i_i_i_i_i85_i_i_i_i_i_i_i_i_i_i = v_r8_0_i_i_i_i_i83_i_i_i_i_i_i_i_i_i_i; goto L_der_core_borrowed_BorrowedEncode_encoded_len_25cd3__10; }
+    v_r4_0_i_i_i_i_i82_i_i_i = p_v_r4_0_i_i_i_i_i82_i_i_i;
+    v_r5_i_i_i_i_i_i83_i_i_i = (u32)((u32)(v_r4_sroa_10_0_i_i_i_i_i64_i_i_i) ^ (u32)(4294967295ull));
+    v_r7_i_not_i_i_i_i_i84_i_i_i = v_r4_0_i_i_i_i_i82_i_i_i <= v_r5_i_i_i_i_i_i83_i_i_i;
+    v_r11_i_i_i_i_i_i85_i_i_i = (u32)((u32)(v_r4_0_i_i_i_i_i82_i_i_i) + (u32)(v_r4_sroa_10_0_i_i_i_i_i64_i_i_i));
+    v_r5_sroa_4_0_i_i_i_i_i87_i_i_i = v_r7_i_not_i_i_i_i_i84_i_i_i ? 0u : 7u;
+    v_r5_sroa_10_0_i_i_i_i_i88_i_i_i = v_r7_i_not_i_i_i_i_i84_i_i_i ? v_r11_i_i_i_i_i_i85_i_i_i : 0u;
+    if (v_0) { p_v_r5_sroa_10_0_i_i_sink_i_i_i6731_i_i_i = v_r5_sroa_10_0_i_i_i_i_i88_i_i_i; p_v_r5_sroa_4_0_i_i_sink_i_i_i6628_i_i_i = v_r5_sroa_4_0_i_i_i_i_i87_i_i_i; p_v_r5_sroa_0_0_i_i_sink_i_i_i6524_i_i_i = v_r7_i_not_i_i_i_i_i84_i_i_i; goto L_pkcs1_private_key_other_prime_info_lists_none_29_p__2; } else { goto L_pkcs1_private_key_written_OthersPartEncodeValue_va; }
+L_der_core_borrowed_BorrowedEncode_encoded_len_25cd3__8:;
+    if (v_0) { p_v_r5_sroa_10_0_i_i_sink_i_i_i6731_i_i_i = 0u; p_v_r5_sroa_4_0_i_i_sink_i_i_i6628_i_i_i = 7u; p_v_r5_sroa_0_0_i_i_sink_i_i_i6524_i_i_i = 0u; goto L_pkcs1_private_key_other_prime_info_lists_none_29_p__2; } else { p_v_r24_sroa_0_0_sink_i_i_i_i = 0u; p_v_r24_sroa_4_0_sink_i_i_i_i = 7u; p_v_r24_sroa_7_0_sink_i_i_i_i = 0u; p_v_r24_sroa_13_0_sink_i_i_i_i = 0u; goto L_der_core_encode_joined_len_exit_i_i_i; }
+L_pkcs1_private_key_other_prime_info_lists_none_29_p__2:;
+    v_r5_sroa_10_0_i_i_sink_i_i_i6731_i_i_i = p_v_r5_sroa_10_0_i_i_sink_i_i_i6731_i_i_i;
+    v_r5_sroa_4_0_i_i_sink_i_i_i6628_i_i_i = p_v_r5_sroa_4_0_i_i_sink_i_i_i6628_i_i_i;
+    v_r5_sroa_0_0_i_i_sink_i_i_i6524_i_i_i = p_v_r5_sroa_0_0_i_i_sink_i_i_i6524_i_i_i;
+    v_18 = v_a1 + 208;
+    v_r4_val_i_i_i_i_i = get_u64(v_18);
+    v_r5_i_i_i_i_i_i = v_r4_val_i_i_i_i_i == 0u;
+    if (v_r5_i_i_i_i_i_i) { p_v_r3_i_sroa_0_0_sink_i_i_i_i = 0u; p_v_r3_i_sroa_6_0_sink_i_i_i_i = 13u; p_v_sink_i_i_i_i = 48u; p_v_r3_i_sroa_12_0_sink_i_i_i_i = 0u; goto L_pkcs1_private_key_written_OthersPartEncodeValue_va__2; } else { goto L_join_6_i_i_i_i_i_preheader_i_i_i_i; }
+L_join_6_i_i_i_i_i_preheader_i_i_i_i:;
+    v_r7_i7_i_i_i_i = v_a1 + 200;
+    v_r8_i_val_val_i_i_i_i = get_P(v_r7_i7_i_i_i_i);
+    { p_v_r4_010_i_i_i_i_i_i_i_i_i = 0u; p_v_r3_sroa_0_09_i_i_i_i_i_i_i_i_i = 0u; p_v_r3_sroa_5_08_i_i_i_i_i_i_i_i_i = 0u; p_v_r3_sroa_14_07_i_i_i_i_i_i_i_i_i = 0u; goto L_join_6_i_i_i_i_i_i_i_i_i; }
+L_join_6_i_i_i_i_i_i_i_i_i:;
+    v_r4_010_i_i_i_i_i_i_i_i_i = p_v_r4_010_i_i_i_i_i_i_i_i_i;
+    v_r3_sroa_0_09_i_i_i_i_i_i_i_i_i = p_v_r3_sroa_0_09_i_i_i_i_i_i_i_i_i;
+    v_r3_sroa_5_08_i_i_i_i_i_i_i_i_i = p_v_r3_sroa_5_08_i_i_i_i_i_i_i_i_i;
+    v_r3_sroa_14_07_i_i_i_i_i_i_i_i_i = p_v_r3_sroa_14_07_i_i_i_i_i_i_i_i_i;
+    v_r22_i_i_i_i_i_i_i_i_i = (u64)((u64)(v_r4_010_i_i_i_i_i_i_i_i_i) * (u64)(72u));
+    v_r25_i_i_i_i_i_i_i_i_i = (P)((uintptr_t)v_r8_i_val_val_i_i_i_i + (u64)(v_r22_i_i_i_i_i_i_i_i_i));
+    v_19 = v_r25_i_i_i_i_i_i_i_i_i + 8;
+    v_r10_val_val_i_i_i_i_i_i_i_i_i_i_i_i = get_u64(v_19);
+    v_20 = v_r25_i_i_i_i_i_i_i_i_i + 16;
+    v_r10_val_val29_i_i_i_i_i_i_i_i_i_i_i_i = get_u64(v_20);
+    v_r10_i_i_i_i_i_i_i_i_i_i_i_i_i_i_i_i = (u64)((u64)(v_r10_val_val29_i_i_i_i_i_i_i_i_i_i_i_i) + (u64)(v_r10_val_val_i_i_i_i_i_i_i_i_i_i_i_i));
+    v_r12_not_i_i_i_i_i_i_i_i_i_i_i_i_i_i_i_i_i = v_r10_i_i_i_i_i_i_i_i_i_i_i_i_i_i_i_i < 4294967296ull;
+    v_r4_sroa_10_0_i_i9_i_i_i_i_i_i_i_i_i_i_i_i_i_i_i = v_r10_i_i_i_i_i_i_i_i_i_i_i_i_i_i_i_i < 4294967296ull ? v_r10_i_i_i_i_i_i_i_i_i_i_i_i_i_i_i_i : 4294967296ull;
+    v_r4_sroa_10_0_i_i_i_i_i_i_i_i_i_i_i_i_i_i_i_i_i = (u32)(v_r4_sroa_10_0_i_i9_i_i_i_i_i_i_i_i_i_i_i_i_i_i_i);
+    if (v_r12_not_i_i_i_i_i_i_i_i_i_i_i_i_i_i_i_i_i) { goto L_arm_1_i_i_i_i_i_i_i_i_i_i_i_i_i_i_i; } else { p_v_r5_sroa_0_0_i_i_sink_i_i_i_i_i_i_i_i_i_i_i_i_i_i_i = 0u; p_v_r5_sroa_4_0_i_i_sink_i_i_i_i_i_i_i_i_i_i_i_i_i_i_i = 7u; p_v_r5_sroa_10_0_i_i_sink_i_i_i_i_i_i_i_i_i_i_i_i_i_i_ = 0u; goto L_der_core_borrowed_BorrowedEncode_encoded_len_25cd3__10; }
+L_arm_1_i_i_i_i_i_i_i_i_i_i_i_i_i_i_i:;
+    v_r12_i_i_i_i_i_i_i_i_i_i_i_i_i_i_i_i_i = v_r4_sroa_10_0_i_i_i_i_i_i_i_i_i_i_i_i_i_i_i_i_i < 128u;
+    if (v_r12_i_i_i_i_i_i_i_i_i_i_i_i_i_i_i_i_i) { p_v_r4_0_i_i_i_i_i_i_i_i_i_i_i_i_i_i_i_i_i = 2u; goto L_der_core_length_Length_for_tlv_exit_i_i_i_i_i_i_i_; } else { goto L_else_2_i_i_i_i_i_i_i_i_i_i_i_i_i_i_i_i_i; }
+L_else_2_i_i_i_i_i_i_i_i_i_i_i_i_i_i_i_i_i:;
+    v_r17_i_i_i_i_i_i_i_i_i_i_i_i_i_i_i_i_i = v_r4_sroa_10_0_i_i_i_i_i_i_i_i_i_i_i_i_i_i_i_i_i < 256u;
+    if (v_r17_i_i_i_i_i_i_i_i_i_i_i_i_i_i_i_i_i) { p_v_r4_0_i_i_i_i_i_i_i_i_i_i_i_i_i_i_i_i_i = 3u; goto L_der_core_length_Length_for_tlv_exit_i_i_i_i_i_i_i_; } else { goto L_else_5_i_i_i_i_i_i_i_i_i_i_i_i_i_i_i_i_i; }
+L_else_5_i_i_i_i_i_i_i_i_i_i_i_i_i_i_i_i_i:;
+    v_r22_i_i_i_i_i_i_i_i_i_i_i_i_i_i_i_i_i = v_r4_sroa_10_0_i_i_i_i_i_i_i_i_i_i_i_i_i_i_i_i_i < 65536u;
+    v_r27_i_i_i_i_i_i_i_i_i_i_i_i_i_i_i_i_i = v_r4_sroa_10_0_i_i_i_i_i_i_i_i_i_i_i_i_i_i_i_i_i < 16777216u;
+    v_i_i_i_i_i_i_i_i_i_i_i_i_i_i_i_i_i = v_r27_i_i_i_i_i_i_i_i_i_i_i_i_i_i_i_i_i ? 5u : 6u;
+    v_r8_0_i_i_i_i_i_i_i_i_i_i_i_i_i_i_i_i_i = v_r22_i_i_i_i_i_i_i_i_i_i_i_i_i_i_i_i_i ? 4u : v_i_i_i_i_i_i_i_i_i_i_i_i_i_i_i_i_i;
+    { p_v_r4_0_i_i_i_i_i_i_i_i_i_i_i_i_i_i_i_i_i = v_r8_0_i_i_i_i_i_i_i_i_i_i_i_i_i_i_i_i_i; goto L_der_core_length_Length_for_tlv_exit_i_i_i_i_i_i_i_; }
+L_der_core_length_Length_for_tlv_exit_i_i_i_i_i_i_i_:;
+    v_r4_0_i_i_i_i_i_i_i_i_i_i_i_i_i_i_i_i_i = p_v_r4_0_i_i_i_i_i_i_i_i_i_i_i_i_i_i_i_i_i;
+    v_r5_i_i_i_i_i_i_i_i_i_i_i_i_i_i_i_i_i_i = (u32)((u32)(v_r4_sroa_10_0_i_i_i_i_i_i_i_i_i_i_i_i_i_i_i_i_i) ^ (u32)(4294967295ull));
+    v_r7_i_not_i_i_i_i_i_i_i_i_i_i_i_i_i_i_i_i_i = v_r4_0_i_i_i_i_i_i_i_i_i_i_i_i_i_i_i_i_i <= v_r5_i_i_i_i_i_i_i_i_i_i_i_i_i_i_i_i_i_i;
+    v_r11_i_i_i_i_i_i_i_i_i_i_i_i_i_i_i_i_i_i = (u32)((u32)(v_r4_0_i_i_i_i_i_i_i_i_i_i_i_i_i_i_i_i_i) + (u32)(v_r4_sroa_10_0_i_i_i_i_i_i_i_i_i_i_i_i_i_i_i_i_i));
+    v_r5_sroa_4_0_i_i_i_i_i_i_i_i_i_i_i_i_i_i_i_i_i = v_r7_i_not_i_i_i_i_i_i_i_i_i_i_i_i_i_i_i_i_i ? 0u : 7u;
+    v_r5_sroa_10_0_i_i_i_i_i_i_i_i_i_i_i_i_i_i_i_i_i = v_r7_i_not_i_i_i_i_i_i_i_i_i_i_i_i_i_i_i_i_i ? v_r11_i_i_i_i_i_i_i_i_i_i_i_i_i_i_i_i_i_i : 0u;
+    { p_v_r5_sroa_0_0_i_i_sink_i_i_i_i_i_i_i_i_i_i_i_i_i_i_i = v_r7_i_not_i_i_i_i_i_i_i_i_i_i_i_i_i_i_i_i_i; p_v_r5_sroa_4_0_i_i_sink_i_i_i_i_i_i_i_i_i_i_i_i_i_i_i = v_r5_sroa_4_0_i_i_i_i_i_i_i_i_i_i_i_i_i_i_i_i_i; p_v_r5_sroa_10_0_i_i_sink_i_i_i_i_i_i_i_i_i_i_i_i_i_i_ = v_r5_sroa_10_0_i_i_i_i_i_i_i_i_i_i_i_i_i_i_i_i_i; goto L_der_core_borrowed_BorrowedEncode_encoded_len_25cd3__10; }
 L_der_core_borrowed_BorrowedEncode_encoded_len_25cd3__10:;
-    v_r4_0_i_i_i_i_i85_i_i_i_i_i_i_i_i_i_i = p_v_r4_0_i_i_i_i_i85_i_i_i_i_i_i_i_i_i_i;
-    v_r5_i_i_i_i_i_i86_i_i_i_i_i_i_i_i_i_i = (u32)((u32)(v_r4_sroa_10_0_i_i_i_i_i67_i_i_i_i_i_i_i_i_i_i) ^ (u32)(4294967295ull));
-    v_r7_i_not_i_i_i_i_i87_not_i_i_i_i_i_i_i_i_i_i = v_r4_0_i_i_i_i_i85_i_i_i_i_i_i_i_i_i_i > v_r5_i_i_i_i_i_i86_i_i_i_i_i_i_i_i_i_i;
-    v_brmerge_i_i_i_i_i_i_i_i_i_i = v_r7_i_not_i_i_i_i_i87_not_i_i_i_i_i_i_i_i_i_i ? 1u : v_r5_sroa_0_0_i_i_sink_i_i_i39_i_i_i_i_i_i_i_i_i_i;
-    v_r5_sroa_4_0_i_i_i_i_i90_mux_i_i_i_i_i_i_i_i_i_i = v_r7_i_not_i_i_i_i_i87_not_i_i_i_i_i_i_i_i_i_i ? 7u : v_r5_sroa_4_0_i_i_sink_i_i_i40_i_i_i_i_i_i_i_i_i_i;
-    if (v_brmerge_i_i_i_i_i_i_i_i_i_i) { p_v_r24_sroa_0_0_sink_i119_i_i_i_i_i_i_i_i_i_i = 0u; p_v_r24_sroa_4_0_sink_i120_i_i_i_i_i_i_i_i_i_i = v_r5_sroa_4_0_i_i_i_i_i90_mux_i_i_i_i_i_i_i_i_i_i; p_v_r24_sroa_13_0_sink_i123_i_i_i_i_i_i_i_i_i_i = 0u; goto L_der_core_encode_joined_len_exit137_i_i_i_i_i_i_i_i; } else { goto L_arm_5_i130_i_i_i_i_i_i_i_i_i_i; }
-L_arm_5_i130_i_i_i_i_i_i_i_i_i_i:;
-    v_r11_i_i_i_i_i_i88_i_i_i_i_i_i_i_i_i_i = (u32)((u32)(v_r4_0_i_i_i_i_i85_i_i_i_i_i_i_i_i_i_i) + (u32)(v_r4_sroa_10_0_i_i_i_i_i67_i_i_i_i_i_i_i_i_i_i));
-    v_r5_i_i_i131_i_i_i_i_i_i_i_i_i_i = (u32)((u32)(v_r11_i_i_i_i_i_i88_i_i_i_i_i_i_i_i_i_i) ^ (u32)(4294967295ull));
-    v_r7_i_not_i_i132_i_i_i_i_i_i_i_i_i_i = v_r5_sroa_10_0_i_i_sink_i_i_i41_i_i_i_i_i_i_i_i_i_i <= v_r5_i_i_i131_i_i_i_i_i_i_i_i_i_i;
-    v_r11_i_i_i133_i_i_i_i_i_i_i_i_i_i = (u32)((u32)(v_r11_i_i_i_i_i_i88_i_i_i_i_i_i_i_i_i_i) + (u32)(v_r5_sroa_10_0_i_i_sink_i_i_i41_i_i_i_i_i_i_i_i_i_i));
-    v_r5_sroa_4_0_i_i135_i_i_i_i_i_i_i_i_i_i = v_r7_i_not_i_i132_i_i_i_i_i_i_i_i_i_i ? 0u : 7u;
-    v_r5_sroa_10_0_i_i136_i_i_i_i_i_i_i_i_i_i = v_r7_i_not_i_i132_i_i_i_i_i_i_i_i_i_i ? v_r11_i_i_i133_i_i_i_i_i_i_i_i_i_i : 0u;
-    { p_v_r24_sroa_0_0_sink_i119_i_i_i_i_i_i_i_i_i_i = v_r7_i_not_i_i132_i_i_i_i_i_i_i_i_i_i; p_v_r24_sroa_4_0_sink_i120_i_i_i_i_i_i_i_i_i_i = v_r5_sroa_4_0_i_i135_i_i_i_i_i_i_i_i_i_i; p_v_r24_sroa_13_0_sink_i123_i_i_i_i_i_i_i_i_i_i = v_r5_sroa_10_0_i_i136_i_i_i_i_i_i_i_i_i_i; goto L_der_core_encode_joined_len_exit137_i_i_i_i_i_i_i_i; }
+    v_r5_sroa_0_0_i_i_sink_i_i_i_i_i_i_i_i_i_i_i_i_i_i_i = p_v_r5_sroa_0_0_i_i_sink_i_i_i_i_i_i_i_i_i_i_i_i_i_i_i;
+    v_r5_sroa_4_0_i_i_sink_i_i_i_i_i_i_i_i_i_i_i_i_i_i_i = p_v_r5_sroa_4_0_i_i_sink_i_i_i_i_i_i_i_i_i_i_i_i_i_i_i;
+    v_r5_sroa_10_0_i_i_sink_i_i_i_i_i_i_i_i_i_i_i_i_i_i_ = p_v_r5_sroa_10_0_i_i_sink_i_i_i_i_i_i_i_i_i_i_i_i_i_i_;
+    v_21 = v_r25_i_i_i_i_i_i_i_i_i + 32;
+    v_r6_i_val_val_i_i_i_i_i_i_i_i_i_i_i_i = get_u64(v_21);
+    v_22 = v_r25_i_i_i_i_i_i_i_i_i + 40;
+    v_r6_i_val_val30_i_i_i_i_i_i_i_i_i_i_i_i = get_u64(v_22);
+    v_r10_i_i_i_i35_i_i_i_i_i_i_i_i_i_i_i_i = (u64)((u64)(v_r6_i_val_val30_i_i_i_i_i_i_i_i_i_i_i_i) + (u64)(v_r6_i_val_val_i_i_i_i_i_i_i_i_i_i_i_i));
+    v_r12_not_i_i_i_i_i36_i_i_i_i_i_i_i_i_i_i_i_i = v_r10_i_i_i_i35_i_i_i_i_i_i_i_i_i_i_i_i < 4294967296ull;
+    v_r4_sroa_10_0_i_i9_i_i_i37_i_i_i_i_i_i_i_i_i_i_i_i = v_r10_i_i_i_i35_i_i_i_i_i_i_i_i_i_i_i_i < 4294967296ull ? v_r10_i_i_i_i35_i_i_i_i_i_i_i_i_i_i_i_i : 4294967296ull;
+    v_r4_sroa_10_0_i_i_i_i_i38_i_i_i_i_i_i_i_i_i_i_i_i = (u32)(v_r4_sroa_10_0_i_i9_i_i_i37_i_i_i_i_i_i_i_i_i_i_i_i);
+    if (v_r12_not_i_i_i_i_i36_i_i_i_i_i_i_i_i_i_i_i_i) { goto L_arm_1_i_i_i46_i_i_i_i_i_i_i_i_i_i_i_i; } else { p_v_r5_sroa_0_0_i_i_sink_i_i_i39_i_i_i_i_i_i_i_i_i_i_i = 1u; p_v_r5_sroa_4_0_i_i_sink_i_i_i40_i_i_i_i_i_i_i_i_i_i_i = 7u; p_v_r5_sroa_10_0_i_i_sink_i_i_i41_i_i_i_i_i_i_i_i_i_i_ = 0u; goto L_der_core_borrowed_BorrowedEncode_encoded_len_25cd3__11; }
+L_arm_1_i_i_i46_i_i_i_i_i_i_i_i_i_i_i_i:;
+    v_r12_i_i_i_i_i47_i_i_i_i_i_i_i_i_i_i_i_i = v_r4_sroa_10_0_i_i_i_i_i38_i_i_i_i_i_i_i_i_i_i_i_i < 128u;
+    if (v_r12_i_i_i_i_i47_i_i_i_i_i_i_i_i_i_i_i_i) { p_v_r4_0_i_i_i_i_i56_i_i_i_i_i_i_i_i_i_i_i_i = 2u; goto L_der_core_length_Length_for_tlv_exit_i_i_i55_i_i_i_; } else { goto L_else_2_i_i_i_i_i48_i_i_i_i_i_i_i_i_i_i_i_i; }
+L_else_2_i_i_i_i_i48_i_i_i_i_i_i_i_i_i_i_i_i:;
+    v_r17_i_i_i_i_i49_i_i_i_i_i_i_i_i_i_i_i_i = v_r4_sroa_10_0_i_i_i_i_i38_i_i_i_i_i_i_i_i_i_i_i_i < 256u;
+    if (v_r17_i_i_i_i_i49_i_i_i_i_i_i_i_i_i_i_i_i) { p_v_r4_0_i_i_i_i_i56_i_i_i_i_i_i_i_i_i_i_i_i = 3u; goto L_der_core_length_Length_for_tlv_exit_i_i_i55_i_i_i_; } else { goto L_else_5_i_i_i_i_i50_i_i_i_i_i_i_i_i_i_i_i_i; }
+L_else_5_i_i_i_i_i50_i_i_i_i_i_i_i_i_i_i_i_i:;
+    v_r22_i_i_i_i_i51_i_i_i_i_i_i_i_i_i_i_i_i = v_r4_sroa_10_0_i_i_i_i_i38_i_i_i_i_i_i_i_i_i_i_i_i < 65536u;
+    v_r27_i_i_i_i_i52_i_i_i_i_i_i_i_i_i_i_i_i = v_r4_sroa_10_0_i_i_i_i_i38_i_i_i_i_i_i_i_i_i_i_i_i < 16777216u;
+    v_i_i_i_i_i53_i_i_i_i_i_i_i_i_i_i_i_i = v_r27_i_i_i_i_i52_i_i_i_i_i_i_i_i_i_i_i_i ? 5u : 6u;
+    v_r8_0_i_i_i_i_i54_i_i_i_i_i_i_i_i_i_i_i_i = v_r22_i_i_i_i_i51_i_i_i_i_i_i_i_i_i_i_i_i ? 4u : v_i_i_i_i_i53_i_i_i_i_i_i_i_i_i_i_i_i;
+    { p_v_r4_0_i_i_i_i_i56_i_i_i_i_i_i_i_i_i_i_i_i = v_r8_0_i_i_i_i_i54_i_i_i_i_i_i_i_i_i_i_i_i; goto L_der_core_length_Length_for_tlv_exit_i_i_i55_i_i_i_; }
+L_der_core_length_Length_for_tlv_exit_i_i_i55_i_i_i_:;
+    v_r4_0_i_i_i_i_i56_i_i_i_i_i_i_i_i_i_i_i_i = p_v_r4_0_i_i_i_i_i56_i_i_i_i_i_i_i_i_i_i_i_i;
+    v_r5_i_i_i_i_i_i57_i_i_i_i_i_i_i_i_i_i_i_i = (u32)((u32)(v_r4_sroa_10_0_i_i_i_i_i38_i_i_i_i_i_i_i_i_i_i_i_i) ^ (u32)(4294967295ull));
+    v_r7_i_not_i_i_i_i_i58_i_i_i_i_i_i_i_i_i_i_i_i = v_r4_0_i_i_i_i_i56_i_i_i_i_i_i_i_i_i_i_i_i > v_r5_i_i_i_i_i_i57_i_i_i_i_i_i_i_i_i_i_i_i;
+    v_r11_i_i_i_i_i_i59_i_i_i_i_i_i_i_i_i_i_i_i = (u32)((u32)(v_r4_0_i_i_i_i_i56_i_i_i_i_i_i_i_i_i_i_i_i) + (u32)(v_r4_sroa_10_0_i_i_i_i_i38_i_i_i_i_i_i_i_i_i_i_i_i));
+    v_r5_sroa_4_0_i_i_i_i_i61_i_i_i_i_i_i_i_i_i_i_i_i = v_r7_i_not_i_i_i_i_i58_i_i_i_i_i_i_i_i_i_i_i_i ? 7u : 0u;
+    v_r5_sroa_10_0_i_i_i_i_i62_i_i_i_i_i_i_i_i_i_i_i_i = v_r7_i_not_i_i_i_i_i58_i_i_i_i_i_i_i_i_i_i_i_i ? 0u : v_r11_i_i_i_i_i_i59_i_i_i_i_i_i_i_i_i_i_i_i;
+    { p_v_r5_sroa_0_0_i_i_sink_i_i_i39_i_i_i_i_i_i_i_i_i_i_i = v_r7_i_not_i_i_i_i_i58_i_i_i_i_i_i_i_i_i_i_i_i; p_v_r5_sroa_4_0_i_i_sink_i_i_i40_i_i_i_i_i_i_i_i_i_i_i = v_r5_sroa_4_0_i_i_i_i_i61_i_i_i_i_i_i_i_i_i_i_i_i; p_v_r5_sroa_10_0_i_i_sink_i_i_i41_i_i_i_i_i_i_i_i_i_i_ = v_r5_sroa_10_0_i_i_i_i_i62_i_i_i_i_i_i_i_i_i_i_i_i; goto L_der_core_borrowed_BorrowedEncode_encoded_len_25cd3__11; }
+L_der_core_borrowed_BorrowedEncode_encoded_len_25cd3__11:;
+    v_r5_sroa_0_0_i_i_sink_i_i_i39_i_i_i_i_i_i_i_i_i_i_i = p_v_r5_sroa_0_0_i_i_sink_i_i_i39_i_i_i_i_i_i_i_i_i_i_i;
+    v_r5_sroa_4_0_i_i_sink_i_i_i40_i_i_i_i_i_i_i_i_i_i_i = p_v_r5_sroa_4_0_i_i_sink_i_i_i40_i_i_i_i_i_i_i_i_i_i_i;
+    v_r5_sroa_10_0_i_i_sink_i_i_i41_i_i_i_i_i_i_i_i_i_i_ = p_v_r5_sroa_10_0_i_i_sink_i_i_i41_i_i_i_i_i_i_i_i_i_i_;
+    v_23 = v_r25_i_i_i_i_i_i_i_i_i + 56;
+    v_r6_i6_val_val_i_i_i_i_i_i_i_i_i_i_i_i = get_u64(v_23);
+    v_24 = v_r25_i_i_i_i_i_i_i_i_i + 64;
+    v_r6_i6_val_val31_i_i_i_i_i_i_i_i_i_i_i_i = get_u64(v_24);
+    v_r10_i_i_i_i64_i_i_i_i_i_i_i_i_i_i_i_i = (u64)((u64)(v_r6_i6_val_val31_i_i_i_i_i_i_i_i_i_i_i_i) + (u64)(v_r6_i6_val_val_i_i_i_i_i_i_i_i_i_i_i_i));
+    v_r12_not_i_i_i_i_i65_i_i_i_i_i_i_i_i_i_i_i_i = v_r10_i_i_i_i64_i_i_i_i_i_i_i_i_i_i_i_i < 4294967296ull;
+    v_r4_sroa_10_0_i_i9_i_i_i66_i_i_i_i_i_i_i_i_i_i_i_i = v_r10_i_i_i_i64_i_i_i_i_i_i_i_i_i_i_i_i < 4294967296ull ? v_r10_i_i_i_i64_i_i_i_i_i_i_i_i_i_i_i_i : 4294967296ull;
+    v_r4_sroa_10_0_i_i_i_i_i67_i_i_i_i_i_i_i_i_i_i_i_i = (u32)(v_r4_sroa_10_0_i_i9_i_i_i66_i_i_i_i_i_i_i_i_i_i_i_i);
+    if (v_r12_not_i_i_i_i_i65_i_i_i_i_i_i_i_i_i_i_i_i) { goto L_arm_1_i_i_i75_i_i_i_i_i_i_i_i_i_i_i_i; } else { p_v_r24_sroa_0_0_sink_i119_i_i_i_i_i_i_i_i_i_i_i_i = 0u; p_v_r24_sroa_4_0_sink_i120_i_i_i_i_i_i_i_i_i_i_i_i = 7u; p_v_r24_sroa_13_0_sink_i123_i_i_i_i_i_i_i_i_i_i_i_i = 0u; goto L_der_core_encode_joined_len_exit137_i_i_i_i_i_i_i_i; }
+L_arm_1_i_i_i75_i_i_i_i_i_i_i_i_i_i_i_i:;
+    v_r12_i_i_i_i_i76_i_i_i_i_i_i_i_i_i_i_i_i = v_r4_sroa_10_0_i_i_i_i_i67_i_i_i_i_i_i_i_i_i_i_i_i < 128u;
+    if (v_r12_i_i_i_i_i76_i_i_i_i_i_i_i_i_i_i_i_i) { p_v_r4_0_i_i_i_i_i85_i_i_i_i_i_i_i_i_i_i_i_i = 2u; goto L_der_core_borrowed_BorrowedEncode_encoded_len_25cd3__12; } else { goto L_else_2_i_i_i_i_i77_i_i_i_i_i_i_i_i_i_i_i_i; }
+L_else_2_i_i_i_i_i77_i_i_i_i_i_i_i_i_i_i_i_i:;
+    v_r17_i_i_i_i_i78_i_i_i_i_i_i_i_i_i_i_i_i = v_r4_sroa_10_0_i_i_i_i_i67_i_i_i_i_i_i_i_i_i_i_i_i < 256u;
+    if (v_r17_i_i_i_i_i78_i_i_i_i_i_i_i_i_i_i_i_i) { p_v_r4_0_i_i_i_i_i85_i_i_i_i_i_i_i_i_i_i_i_i = 3u; goto L_der_core_borrowed_BorrowedEncode_encoded_len_25cd3__12; } else { goto L_else_5_i_i_i_i_i79_i_i_i_i_i_i_i_i_i_i_i_i; }
+L_else_5_i_i_i_i_i79_i_i_i_i_i_i_i_i_i_i_i_i:;
+    v_r22_i_i_i_i_i80_i_i_i_i_i_i_i_i_i_i_i_i = v_r4_sroa_10_0_i_i_i_i_i67_i_i_i_i_i_i_i_i_i_i_i_i < 65536u;
+    v_r27_i_i_i_i_i81_i_i_i_i_i_i_i_i_i_i_i_i = v_r4_sroa_10_0_i_i_i_i_i67_i_i_i_i_i_i_i_i_i_i_i_i < 16777216u;
+    v_i_i_i_i_i82_i_i_i_i_i_i_i_i_i_i_i_i = v_r27_i_i_i_i_i81_i_i_i_i_i_i_i_i_i_i_i_i ? 5u : 6u;
+    v_r8_0_i_i_i_i_i83_i_i_i_i_i_i_i_i_i_i_i_i = v_r22_i_i_i_i_i80_i_i_i_i_i_i_i_i_i_i_i_i ? 4u : v_i_i_i_i_i82_i_i_i_i_i_i_i_i_i_i_i_i;
+    { p_v_r4_0_i_i_i_i_i85_i_i_i_i_i_i_i_i_i_i_i_i = v_r8_0_i_i_i_i_i83_i_i_i_i_i_i_i_i_i_i_i_i; goto L_der_core_borrowed_BorrowedEncode_encoded_len_25cd3__12; }
+L_der_core_borrowed_BorrowedEncode_encoded_len_25cd3__12:;
+    v_r4_0_i_i_i_i_i85_i_i_i_i_i_i_i_i_i_i_i_i = p_v_r4_0_i_i_i_i_i85_i_i_i_i_i_i_i_i_i_i_i_i;
+    v_r5_i_i_i_i_i_i86_i_i_i_i_i_i_i_i_i_i_i_i = (u32)((u32)(v_r4_sroa_10_0_i_i_i_i_i67_i_i_i_i_i_i_i_i_i_i_i_i) ^ (u32)(4294967295ull));
+    v_r7_i_not_i_i_i_i_i87_not_i_i_i_i_i_i_i_i_i_i_i_i = v_r4_0_i_i_i_i_i85_i_i_i_i_i_i_i_i_i_i_i_i > v_r5_i_i_i_i_i_i86_i_i_i_i_i_i_i_i_i_i_i_i;
+    v_brmerge_i_i_i_i_i_i_i_i_i_i_i_i = v_r7_i_not_i_i_i_i_i87_not_i_i_i_i_i_i_i_i_i_i_i_i ? 1u : v_r5_sroa_0_0_i_i_sink_i_i_i39_i_i_i_i_i_i_i_i_i_i_i;
+    v_r5_sroa_4_0_i_i_i_i_i90_mux_i_i_i_i_i_i_i_i_i_i_i_ = v_r7_i_not_i_i_i_i_i87_not_i_i_i_i_i_i_i_i_i_i_i_i ? 7u : v_r5_sroa_4_0_i_i_sink_i_i_i40_i_i_i_i_i_i_i_i_i_i_i;
+    if (v_brmerge_i_i_i_i_i_i_i_i_i_i_i_i) { p_v_r24_sroa_0_0_sink_i119_i_i_i_i_i_i_i_i_i_i_i_i = 0u; p_v_r24_sroa_4_0_sink_i120_i_i_i_i_i_i_i_i_i_i_i_i = v_r5_sroa_4_0_i_i_i_i_i90_mux_i_i_i_i_i_i_i_i_i_i_i_; p_v_r24_sroa_13_0_sink_i123_i_i_i_i_i_i_i_i_i_i_i_i = 0u; goto L_der_core_encode_joined_len_exit137_i_i_i_i_i_i_i_i; } else { goto L_arm_5_i130_i_i_i_i_i_i_i_i_i_i_i_i; }
+L_arm_5_i130_i_i_i_i_i_i_i_i_i_i_i_i:;
+    v_r11_i_i_i_i_i_i88_i_i_i_i_i_i_i_i_i_i_i_i = (u32)((u32)(v_r4_0_i_i_i_i_i85_i_i_i_i_i_i_i_i_i_i_i_i) + (u32)(v_r4_sroa_10_0_i_i_i_i_i67_i_i_i_i_i_i_i_i_i_i_i_i));
+    v_r5_i_i_i131_i_i_i_i_i_i_i_i_i_i_i_i = (u32)((u32)(v_r11_i_i_i_i_i_i88_i_i_i_i_i_i_i_i_i_i_i_i) ^ (u32)(4294967295ull));
+    v_r7_i_not_i_i132_i_i_i_i_i_i_i_i_i_i_i_i = v_r5_sroa_10_0_i_i_sink_i_i_i41_i_i_i_i_i_i_i_i_i_i_ <= v_r5_i_i_i131_i_i_i_i_i_i_i_i_i_i_i_i;
+    v_r11_i_i_i133_i_i_i_i_i_i_i_i_i_i_i_i = (u32)((u32)(v_r11_i_i_i_i_i_i88_i_i_i_i_i_i_i_i_i_i_i_i) + (u32)(v_r5_sroa_10_0_i_i_sink_i_i_i41_i_i_i_i_i_i_i_i_i_i_));
+    v_r5_sroa_4_0_i_i135_i_i_i_i_i_i_i_i_i_i_i_i = v_r7_i_not_i_i132_i_i_i_i_i_i_i_i_i_i_i_i ? 0u : 7u;
+    v_r5_sroa_10_0_i_i136_i_i_i_i_i_i_i_i_i_i_i_i = v_r7_i_not_i_i132_i_i_i_i_i_i_i_i_i_i_i_i ? v_r11_i_i_i133_i_i_i_i_i_i_i_i_i_i_i_i : 0u;
+    { p_v_r24_sroa_0_0_sink_i119_i_i_i_i_i_i_i_i_i_i_i_i = v_r7_i_not_i_i132_i_i_i_i_i_i_i_i_i_i_i_i; p_v_r24_sroa_4_0_sink_i120_i_i_i_i_i_i_i_i_i_i_i_i = v_r5_sroa_4_0_i_i135_i_i_i_i_i_i_i_i_i_i_i_i; p_v_r24_sroa_13_0_sink_i123_i_i_i_i_i_i_i_i_i_i_i_i = v_r5_sroa_10_0_i_i136_i_i_i_i_i_i_i_i_i_i_i_i; goto L_der_core_encode_joined_len_exit137_i_i_i_i_i_i_i_i; }
 L_der_core_encode_joined_len_exit137_i_i_i_i_i_i_i_i:;
-    v_r24_sroa_0_0_sink_i119_i_i_i_i_i_i_i_i_i_i = p_v_r24_sroa_0_0_sink_i119_i_i_i_i_i_i_i_i_i_i;
-    v_r24_sroa_4_0_sink_i120_i_i_i_i_i_i_i_i_i_i = p_v_r24_sroa_4_0_sink_i120_i_i_i_i_i_i_i_i_i_i;
-    v_r24_sroa_13_0_sink_i123_i_i_i_i_i_i_i_i_i_i = p_v_r24_sroa_13_0_sink_i123_i_i_i_i_i_i_i_i_i_i;
-    if (v_r5_sroa_0_0_i_i_sink_i_i_i_i_i_i_i_i_i_i_i_i_i) { goto L_arm_1_i168_i_i_i_i_i_i_i_i_i_i; } else { goto L_arm_2_i156_i_i_i_i_i_i_i_i_i_i; }
-L_arm_1_i168_i_i_i_i_i_i_i_i_i_i:;
-    if (v_r24_sroa_0_0_sink_i119_i_i_i_i_i_i_i_i_i_i) { goto L_pkcs1_private_key_other_prime_info_OtherPrimeInfoE; } else { p_v_r5_sroa_0_0_i_i_sink_i_i_i_i_i_i_i_i_i = 0u; p_v_r5_sroa_4_0_i_i_sink_i_i_i_i_i_i_i_i_i = v_r24_sroa_4_0_sink_i120_i_i_i_i_i_i_i_i_i_i; p_v_r5_sroa_10_0_i_i_sink_i_i_i_i_i_i_i_i_i = 0u; goto L_der_core_encode_AnyEncode_encoded_len_4d978079444c; }
-L_arm_2_i156_i_i_i_i_i_i_i_i_i_i:;
-    v_spec_select_i_i_i_i_i_i_i_i_i_i = v_r24_sroa_0_0_sink_i119_i_i_i_i_i_i_i_i_i_i ? v_r5_sroa_4_0_i_i_sink_i_i_i_i_i_i_i_i_i_i_i_i_i : v_r24_sroa_4_0_sink_i120_i_i_i_i_i_i_i_i_i_i;
-    { p_v_r5_sroa_0_0_i_i_sink_i_i_i_i_i_i_i_i_i = 0u; p_v_r5_sroa_4_0_i_i_sink_i_i_i_i_i_i_i_i_i = v_spec_select_i_i_i_i_i_i_i_i_i_i; p_v_r5_sroa_10_0_i_i_sink_i_i_i_i_i_i_i_i_i = 0u; goto L_der_core_encode_AnyEncode_encoded_len_4d978079444c; }
+    v_r24_sroa_0_0_sink_i119_i_i_i_i_i_i_i_i_i_i_i_i = p_v_r24_sroa_0_0_sink_i119_i_i_i_i_i_i_i_i_i_i_i_i;
+    v_r24_sroa_4_0_sink_i120_i_i_i_i_i_i_i_i_i_i_i_i = p_v_r24_sroa_4_0_sink_i120_i_i_i_i_i_i_i_i_i_i_i_i;
+    v_r24_sroa_13_0_sink_i123_i_i_i_i_i_i_i_i_i_i_i_i = p_v_r24_sroa_13_0_sink_i123_i_i_i_i_i_i_i_i_i_i_i_i;
+    if (v_r5_sroa_0_0_i_i_sink_i_i_i_i_i_i_i_i_i_i_i_i_i_i_i) { goto L_arm_1_i168_i_i_i_i_i_i_i_i_i_i_i_i; } else { goto L_arm_2_i156_i_i_i_i_i_i_i_i_i_i_i_i; }
+L_arm_1_i168_i_i_i_i_i_i_i_i_i_i_i_i:;
+    if (v_r24_sroa_0_0_sink_i119_i_i_i_i_i_i_i_i_i_i_i_i) { goto L_pkcs1_private_key_other_prime_info_OtherPrimeInfoE; } else { p_v_r5_sroa_0_0_i_i_sink_i_i_i_i_i_i_i_i_i_i_i = 0u; p_v_r5_sroa_4_0_i_i_sink_i_i_i_i_i_i_i_i_i_i_i = v_r24_sroa_4_0_sink_i120_i_i_i_i_i_i_i_i_i_i_i_i; p_v_r5_sroa_10_0_i_i_sink_i_i_i_i_i_i_i_i_i_i_i = 0u; goto L_der_core_encode_AnyEncode_encoded_len_4d978079444c; }
+L_arm_2_i156_i_i_i_i_i_i_i_i_i_i_i_i:;
+    v_spec_select_i_i_i_i_i_i_i_i_i_i_i_i = v_r24_sroa_0_0_sink_i119_i_i_i_i_i_i_i_i_i_i_i_i ? v_r5_sroa_4_0_i_i_sink_i_i_i_i_i_i_i_i_i_i_i_i_i_i_i : v_r24_sroa_4_0_sink_i120_i_i_i_i_i_i_i_i_i_i_i_i;
+    { p_v_r5_sroa_0_0_i_i_sink_i_i_i_i_i_i_i_i_i_i_i = 0u; p_v_r5_sroa_4_0_i_i_sink_i_i_i_i_i_i_i_i_i_i_i = v_spec_select_i_i_i_i_i_i_i_i_i_i_i_i; p_v_r5_sroa_10_0_i_i_sink_i_i_i_i_i_i_i_i_i_i_i = 0u; goto L_der_core_encode_AnyEncode_encoded_len_4d978079444c; }
 L_pkcs1_private_key_other_prime_info_OtherPrimeInfoE:;
-    v_r5_i_i_i170_i_i_i_i_i_i_i_i_i_i = (u32)((u32)(v_r24_sroa_13_0_sink_i123_i_i_i_i_i_i_i_i_i_i) ^ (u32)(4294967295ull));
-    v_r7_i_not_i_i171_i_not_i_i_i_i_i_i_i_i_i = v_r5_sroa_10_0_i_i_sink_i_i_i_i_i_i_i_i_i_i_i_i_i > v_r5_i_i_i170_i_i_i_i_i_i_i_i_i_i;
-    v_r11_i_i_i172_i_i_i_i_i_i_i_i_i_i = (u32)((u32)(v_r24_sroa_13_0_sink_i123_i_i_i_i_i_i_i_i_i_i) + (u32)(v_r5_sroa_10_0_i_i_sink_i_i_i_i_i_i_i_i_i_i_i_i_i));
-    if (v_r7_i_not_i_i171_i_not_i_i_i_i_i_i_i_i_i) { p_v_r5_sroa_0_0_i_i_sink_i_i_i_i_i_i_i_i_i = 0u; p_v_r5_sroa_4_0_i_i_sink_i_i_i_i_i_i_i_i_i = 7u; p_v_r5_sroa_10_0_i_i_sink_i_i_i_i_i_i_i_i_i = 0u; goto L_der_core_encode_AnyEncode_encoded_len_4d978079444c; } else { goto L_arm_1_i_i_i_i_i_i_i_i_i; }
-L_arm_1_i_i_i_i_i_i_i_i_i:;
-    v_r12_i_i_i_i_i_i_i_i_i_i_i = v_r11_i_i_i172_i_i_i_i_i_i_i_i_i_i < 128u;
-    if (v_r12_i_i_i_i_i_i_i_i_i_i_i) { p_v_r4_0_i_i_i_i_i_i_i_i_i_i_i = 2u; goto L_der_core_length_Length_for_tlv_exit_i_i_i_i_i_i_i___2; } else { goto L_else_2_i_i_i_i_i_i_i_i_i_i_i; }
-L_else_2_i_i_i_i_i_i_i_i_i_i_i:;
-    v_r17_i_i_i_i_i_i_i_i_i_i_i = v_r11_i_i_i172_i_i_i_i_i_i_i_i_i_i < 256u;
-    if (v_r17_i_i_i_i_i_i_i_i_i_i_i) { p_v_r4_0_i_i_i_i_i_i_i_i_i_i_i = 3u; goto L_der_core_length_Length_for_tlv_exit_i_i_i_i_i_i_i___2; } else { goto L_else_5_i_i_i_i_i_i_i_i_i_i_i; }
-L_else_5_i_i_i_i_i_i_i_i_i_i_i:;
-    v_r22_i_i_i_i_i_i_i_i_i_i_i = v_r11_i_i_i172_i_i_i_i_i_i_i_i_i_i < 65536u;
-    v_r27_i_i_i_i_i_i_i_i_i_i_i = v_r11_i_i_i172_i_i_i_i_i_i_i_i_i_i < 16777216u;
-    v_i_i_i_i_i_i_i_i_i_i_i = v_r27_i_i_i_i_i_i_i_i_i_i_i ? 5u : 6u;
-    v_r8_0_i_i_i_i_i_i_i_i_i_i_i = v_r22_i_i_i_i_i_i_i_i_i_i_i ? 4u : v_i_i_i_i_i_i_i_i_i_i_i;
-    { p_v_r4_0_i_i_i_i_i_i_i_i_i_i_i = v_r8_0_i_i_i_i_i_i_i_i_i_i_i; goto L_der_core_length_Length_for_tlv_exit_i_i_i_i_i_i_i___2; }
+    v_r5_i_i_i170_i_i_i_i_i_i_i_i_i_i_i_i = (u32)((u32)(v_r24_sroa_13_0_sink_i123_i_i_i_i_i_i_i_i_i_i_i_i) ^ (u32)(4294967295ull));
+    v_r7_i_not_i_i171_i_not_i_i_i_i_i_i_i_i_i_i_i = v_r5_sroa_10_0_i_i_sink_i_i_i_i_i_i_i_i_i_i_i_i_i_i_ > v_r5_i_i_i170_i_i_i_i_i_i_i_i_i_i_i_i;
+    v_r11_i_i_i172_i_i_i_i_i_i_i_i_i_i_i_i = (u32)((u32)(v_r24_sroa_13_0_sink_i123_i_i_i_i_i_i_i_i_i_i_i_i) + (u32)(v_r5_sroa_10_0_i_i_sink_i_i_i_i_i_i_i_i_i_i_i_i_i_i_));
+    if (v_r7_i_not_i_i171_i_not_i_i_i_i_i_i_i_i_i_i_i) { p_v_r5_sroa_0_0_i_i_sink_i_i_i_i_i_i_i_i_i_i_i = 0u; p_v_r5_sroa_4_0_i_i_sink_i_i_i_i_i_i_i_i_i_i_i = 7u; p_v_r5_sroa_10_0_i_i_sink_i_i_i_i_i_i_i_i_i_i_i = 0u; goto L_der_core_encode_AnyEncode_encoded_len_4d978079444c; } else { goto L_arm_1_i_i_i_i_i_i_i_i_i_i_i; }
+L_arm_1_i_i_i_i_i_i_i_i_i_i_i:;
+    v_r12_i_i_i_i_i_i_i_i_i_i_i_i_i = v_r11_i_i_i172_i_i_i_i_i_i_i_i_i_i_i_i < 128u;
+    if (v_r12_i_i_i_i_i_i_i_i_i_i_i_i_i) { p_v_r4_0_i_i_i_i_i_i_i_i_i_i_i_i_i = 2u; goto L_der_core_length_Length_for_tlv_exit_i_i_i_i_i_i_i___2; } else { goto L_else_2_i_i_i_i_i_i_i_i_i_i_i_i_i; }
+L_else_2_i_i_i_i_i_i_i_i_i_i_i_i_i:;
+    v_r17_i_i_i_i_i_i_i_i_i_i_i_i_i = v_r11_i_i_i172_i_i_i_i_i_i_i_i_i_i_i_i < 256u;
+    if (v_r17_i_i_i_i_i_i_i_i_i_i_i_i_i) { p_v_r4_0_i_i_i_i_i_i_i_i_i_i_i_i_i = 3u; goto L_der_core_length_Length_for_tlv_exit_i_i_i_i_i_i_i___2; } else { goto L_else_5_i_i_i_i_i_i_i_i_i_i_i_i_i; }
+L_else_5_i_i_i_i_i_i_i_i_i_i_i_i_i:;
+    v_r22_i_i_i_i_i_i_i_i_i_i_i_i_i = v_r11_i_i_i172_i_i_i_i_i_i_i_i_i_i_i_i < 65536u;
+    v_r27_i_i_i_i_i_i_i_i_i_i_i_i_i = v_r11_i_i_i172_i_i_i_i_i_i_i_i_i_i_i_i < 16777216u;
+    v_i_i_i_i_i_i_i_i_i_i_i_i_i = v_r27_i_i_i_i_i_i_i_i_i_i_i_i_i ? 5u : 6u;
+    v_r8_0_i_i_i_i_i_i_i_i_i_i_i_i_i = v_r22_i_i_i_i_i_i_i_i_i_i_i_i_i ? 4u : v_i_i_i_i_i_i_i_i_i_i_i_i_i;
+    { p_v_r4_0_i_i_i_i_i_i_i_i_i_i_i_i_i = v_r8_0_i_i_i_i_i_i_i_i_i_i_i_i_i; goto L_der_core_length_Length_for_tlv_exit_i_i_i_i_i_i_i___2; }
 L_der_core_length_Length_for_tlv_exit_i_i_i_i_i_i_i___2:;
-    v_r4_0_i_i_i_i_i_i_i_i_i_i_i = p_v_r4_0_i_i_i_i_i_i_i_i_i_i_i;
-    v_r5_i_i_i_i_i_i_i_i_i_i_i_i = (u32)((u32)(v_r11_i_i_i172_i_i_i_i_i_i_i_i_i_i) ^ (u32)(4294967295ull));
-    v_r7_i_not_i_i_i_i_i_i_i_i_i_i_i = v_r4_0_i_i_i_i_i_i_i_i_i_i_i <= v_r5_i_i_i_i_i_i_i_i_i_i_i_i;
-    v_r11_i_i_i_i_i_i_i_i_i_i_i_i = (u32)((u32)(v_r4_0_i_i_i_i_i_i_i_i_i_i_i) + (u32)(v_r11_i_i_i172_i_i_i_i_i_i_i_i_i_i));
-    v_r5_sroa_4_0_i_i_i_i_i_i_i_i_i_i_i = v_r7_i_not_i_i_i_i_i_i_i_i_i_i_i ? 0u : 7u;
-    v_r5_sroa_10_0_i_i_i_i_i_i_i_i_i_i_i = v_r7_i_not_i_i_i_i_i_i_i_i_i_i_i ? v_r11_i_i_i_i_i_i_i_i_i_i_i_i : 0u;
-    { p_v_r5_sroa_0_0_i_i_sink_i_i_i_i_i_i_i_i_i = v_r7_i_not_i_i_i_i_i_i_i_i_i_i_i; p_v_r5_sroa_4_0_i_i_sink_i_i_i_i_i_i_i_i_i = v_r5_sroa_4_0_i_i_i_i_i_i_i_i_i_i_i; p_v_r5_sroa_10_0_i_i_sink_i_i_i_i_i_i_i_i_i = v_r5_sroa_10_0_i_i_i_i_i_i_i_i_i_i_i; goto L_der_core_encode_AnyEncode_encoded_len_4d978079444c; }
+    v_r4_0_i_i_i_i_i_i_i_i_i_i_i_i_i = p_v_r4_0_i_i_i_i_i_i_i_i_i_i_i_i_i;
+    v_r5_i_i_i_i_i_i_i_i_i_i_i_i_i_i = (u32)((u32)(v_r11_i_i_i172_i_i_i_i_i_i_i_i_i_i_i_i) ^ (u32)(4294967295ull));
+    v_r7_i_not_i_i_i_i_i_i_i_i_i_i_i_i_i = v_r4_0_i_i_i_i_i_i_i_i_i_i_i_i_i <= v_r5_i_i_i_i_i_i_i_i_i_i_i_i_i_i;
+    v_r11_i_i_i_i_i_i_i_i_i_i_i_i_i_i = (u32)((u32)(v_r4_0_i_i_i_i_i_i_i_i_i_i_i_i_i) + (u32)(v_r11_i_i_i172_i_i_i_i_i_i_i_i_i_i_i_i));
+    v_r5_sroa_4_0_i_i_i_i_i_i_i_i_i_i_i_i_i = v_r7_i_not_i_i_i_i_i_i_i_i_i_i_i_i_i ? 0u : 7u;
+    v_r5_sroa_10_0_i_i_i_i_i_i_i_i_i_i_i_i_i = v_r7_i_not_i_i_i_i_i_i_i_i_i_i_i_i_i ? v_r11_i_i_i_i_i_i_i_i_i_i_i_i_i_i : 0u;
+    { p_v_r5_sroa_0_0_i_i_sink_i_i_i_i_i_i_i_i_i_i_i = v_r7_i_not_i_i_i_i_i_i_i_i_i_i_i_i_i; p_v_r5_sroa_4_0_i_i_sink_i_i_i_i_i_i_i_i_i_i_i = v_r5_sroa_4_0_i_i_i_i_i_i_i_i_i_i_i_i_i; p_v_r5_sroa_10_0_i_i_sink_i_i_i_i_i_i_i_i_i_i_i = v_r5_sroa_10_0_i_i_i_i_i_i_i_i_i_i_i_i_i; goto L_der_core_encode_AnyEncode_encoded_len_4d978079444c; }
 L_der_core_encode_AnyEncode_encoded_len_4d978079444c:;
-    v_r5_sroa_0_0_i_i_sink_i_i_i_i_i_i_i_i_i = p_v_r5_sroa_0_0_i_i_sink_i_i_i_i_i_i_i_i_i;
-    v_r5_sroa_4_0_i_i_sink_i_i_i_i_i_i_i_i_i = p_v_r5_sroa_4_0_i_i_sink_i_i_i_i_i_i_i_i_i;
-    v_r5_sroa_10_0_i_i_sink_i_i_i_i_i_i_i_i_i = p_v_r5_sroa_10_0_i_i_sink_i_i_i_i_i_i_i_i_i;
-    v_26 = v_r3_sroa_0_09_i_i_i_i_i_i_i == 0u;
-    if (v_26) { goto L_arm_1_i_i_i_i_i_i_i_i; } else { goto L_arm_2_i_i_i_i_i_i_i_i; }
-L_arm_1_i_i_i_i_i_i_i_i:;
-    if (v_r5_sroa_0_0_i_i_sink_i_i_i_i_i_i_i_i_i) { goto L_arm_5_i_i_i_i_i_i_i_i; } else { p_v_r24_sroa_0_0_sink_i_i_i_i_i_i_i_i = 1u; p_v_r24_sroa_4_0_sink_i_i_i_i_i_i_i_i = v_r5_sroa_4_0_i_i_sink_i_i_i_i_i_i_i_i_i; p_v_r24_sroa_13_0_sink_i_i_i_i_i_i_i_i = 0u; goto L_der_core_encode_joined_len_exit_i_i_i_i_i_i_i; }
-L_arm_5_i_i_i_i_i_i_i_i:;
-    v_r5_i_i_i_i_i_i_i_i_i_i = (u32)((u32)(v_r5_sroa_10_0_i_i_sink_i_i_i_i_i_i_i_i_i) ^ (u32)(4294967295ull));
-    v_r7_i_not_i_i_i_i_i_i_i_i_i = v_r3_sroa_14_07_i_i_i_i_i_i_i > v_r5_i_i_i_i_i_i_i_i_i_i;
-    v_r11_i_i_i_i_i_i_i_i_i_i = (u32)((u32)(v_r5_sroa_10_0_i_i_sink_i_i_i_i_i_i_i_i_i) + (u32)(v_r3_sroa_14_07_i_i_i_i_i_i_i));
-    v_r5_sroa_0_0_i_i_i_i_i_i_i_i_i = (u8)v_r7_i_not_i_i_i_i_i_i_i_i_i;
-    v_r5_sroa_4_0_i_i_i_i_i_i_i_i_i = v_r7_i_not_i_i_i_i_i_i_i_i_i ? 7u : 0u;
-    v_r5_sroa_10_0_i_i_i_i_i_i_i_i_i = v_r7_i_not_i_i_i_i_i_i_i_i_i ? 0u : v_r11_i_i_i_i_i_i_i_i_i_i;
-    { p_v_r24_sroa_0_0_sink_i_i_i_i_i_i_i_i = v_r5_sroa_0_0_i_i_i_i_i_i_i_i_i; p_v_r24_sroa_4_0_sink_i_i_i_i_i_i_i_i = v_r5_sroa_4_0_i_i_i_i_i_i_i_i_i; p_v_r24_sroa_13_0_sink_i_i_i_i_i_i_i_i = v_r5_sroa_10_0_i_i_i_i_i_i_i_i_i; goto L_der_core_encode_joined_len_exit_i_i_i_i_i_i_i; }
-L_arm_2_i_i_i_i_i_i_i_i:;
-    v_spec_select_i_i_i_i_i_i_i = v_r5_sroa_0_0_i_i_sink_i_i_i_i_i_i_i_i_i ? v_r3_sroa_5_08_i_i_i_i_i_i_i : v_r5_sroa_4_0_i_i_sink_i_i_i_i_i_i_i_i_i;
-    { p_v_r24_sroa_0_0_sink_i_i_i_i_i_i_i_i = 1u; p_v_r24_sroa_4_0_sink_i_i_i_i_i_i_i_i = v_spec_select_i_i_i_i_i_i_i; p_v_r24_sroa_13_0_sink_i_i_i_i_i_i_i_i = 0u; goto L_der_core_encode_joined_len_exit_i_i_i_i_i_i_i; }
-L_der_core_encode_joined_len_exit_i_i_i_i_i_i_i:;
-    v_r24_sroa_0_0_sink_i_i_i_i_i_i_i_i = p_v_r24_sroa_0_0_sink_i_i_i_i_i_i_i_i;
-    v_r24_sroa_4_0_sink_i_i_i_i_i_i_i_i = p_v_r24_sroa_4_0_sink_i_i_i_i_i_i_i_i;
-    v_r24_sroa_13_0_sink_i_i_i_i_i_i_i_i = p_v_r24_sroa_13_0_sink_i_i_i_i_i_i_i_i;
-    v_r29_i_i_i_i_i_i_i = (u64)((u64)(v_r4_010_i_i_i_i_i_i_i) + (u64)(1u));
-    v_exitcond_not_i_i_i_i_i_i_i = v_r29_i_i_i_i_i_i_i == v_r5_val1_i_i_i;
-    if (v_exitcond_not_i_i_i_i_i_i_i) { goto L_der_core_sequence_of_VecEncodeValue_value_len_4646; } else { p_v_r4_010_i_i_i_i_i_i_i = v_r29_i_i_i_i_i_i_i; p_v_r3_sroa_0_09_i_i_i_i_i_i_i = v_r24_sroa_0_0_sink_i_i_i_i_i_i_i_i; p_v_r3_sroa_5_08_i_i_i_i_i_i_i = v_r24_sroa_4_0_sink_i_i_i_i_i_i_i_i; p_v_r3_sroa_14_07_i_i_i_i_i_i_i = v_r24_sroa_13_0_sink_i_i_i_i_i_i_i_i; goto L_join_6_i_i_i_i_i_i_i; }
+    v_r5_sroa_0_0_i_i_sink_i_i_i_i_i_i_i_i_i_i_i = p_v_r5_sroa_0_0_i_i_sink_i_i_i_i_i_i_i_i_i_i_i;
+    v_r5_sroa_4_0_i_i_sink_i_i_i_i_i_i_i_i_i_i_i = p_v_r5_sroa_4_0_i_i_sink_i_i_i_i_i_i_i_i_i_i_i;
+    v_r5_sroa_10_0_i_i_sink_i_i_i_i_i_i_i_i_i_i_i = p_v_r5_sroa_10_0_i_i_sink_i_i_i_i_i_i_i_i_i_i_i;
+    v_25 = v_r3_sroa_0_09_i_i_i_i_i_i_i_i_i == 0u;
+    if (v_25) { goto L_arm_1_i_i_i_i_i_i_i_i_i_i; } else { goto L_arm_2_i_i_i_i_i_i_i_i_i_i; }
+L_arm_1_i_i_i_i_i_i_i_i_i_i:;
+    if (v_r5_sroa_0_0_i_i_sink_i_i_i_i_i_i_i_i_i_i_i) { goto L_arm_5_i_i_i_i_i_i_i_i_i_i; } else { p_v_r24_sroa_0_0_sink_i_i_i_i_i_i_i_i_i_i = 1u; p_v_r24_sroa_4_0_sink_i_i_i_i_i_i_i_i_i_i = v_r5_sroa_4_0_i_i_sink_i_i_i_i_i_i_i_i_i_i_i; p_v_r24_sroa_13_0_sink_i_i_i_i_i_i_i_i_i_i = 0u; goto L_der_core_encode_joined_len_exit_i_i_i_i_i_i_i_i_i; }
+L_arm_5_i_i_i_i_i_i_i_i_i_i:;
+    v_r5_i_i_i_i_i_i_i_i_i_i_i_i = (u32)((u32)(v_r5_sroa_10_0_i_i_sink_i_i_i_i_i_i_i_i_i_i_i) ^ (u32)(4294967295ull));
+    v_r7_i_not_i_i_i_i_i_i_i_i_i_i_i = v_r3_sroa_14_07_i_i_i_i_i_i_i_i_i > v_r5_i_i_i_i_i_i_i_i_i_i_i_i;
+    v_r11_i_i_i_i_i_i_i_i_i_i_i_i = (u32)((u32)(v_r5_sroa_10_0_i_i_sink_i_i_i_i_i_i_i_i_i_i_i) + (u32)(v_r3_sroa_14_07_i_i_i_i_i_i_i_i_i));
+    v_r5_sroa_0_0_i_i_i_i_i_i_i_i_i_i_i = (u8)v_r7_i_not_i_i_i_i_i_i_i_i_i_i_i;
+    v_r5_sroa_4_0_i_i_i_i_i_i_i_i_i_i_i = v_r7_i_not_i_i_i_i_i_i_i_i_i_i_i ? 7u : 0u;
+    v_r5_sroa_10_0_i_i_i_i_i_i_i_i_i_i_i = v_r7_i_not_i_i_i_i_i_i_i_i_i_i_i ? 0u : v_r11_i_i_i_i_i_i_i_i_i_i_i_i;
+    { p_v_r24_sroa_0_0_sink_i_i_i_i_i_i_i_i_i_i = v_r5_sroa_0_0_i_i_i_i_i_i_i_i_i_i_i; p_v_r24_sroa_4_0_sink_i_i_i_i_i_i_i_i_i_i = v_r5_sroa_4_0_i_i_i_i_i_i_i_i_i_i_i; p_v_r24_sroa_13_0_sink_i_i_i_i_i_i_i_i_i_i = v_r5_sroa_10_0_i_i_i_i_i_i_i_i_i_i_i; goto L_der_core_encode_joined_len_exit_i_i_i_i_i_i_i_i_i; }
+L_arm_2_i_i_i_i_i_i_i_i_i_i:;
+    v_spec_select_i_i_i_i_i_i_i_i_i = v_r5_sroa_0_0_i_i_sink_i_i_i_i_i_i_i_i_i_i_i ? v_r3_sroa_5_08_i_i_i_i_i_i_i_i_i : v_r5_sroa_4_0_i_i_sink_i_i_i_i_i_i_i_i_i_i_i;
+    { p_v_r24_sroa_0_0_sink_i_i_i_i_i_i_i_i_i_i = 1u; p_v_r24_sroa_4_0_sink_i_i_i_i_i_i_i_i_i_i = v_spec_select_i_i_i_i_i_i_i_i_i; p_v_r24_sroa_13_0_sink_i_i_i_i_i_i_i_i_i_i = 0u; goto L_der_core_encode_joined_len_exit_i_i_i_i_i_i_i_i_i; }
+L_der_core_encode_joined_len_exit_i_i_i_i_i_i_i_i_i:;
+    v_r24_sroa_0_0_sink_i_i_i_i_i_i_i_i_i_i = p_v_r24_sroa_0_0_sink_i_i_i_i_i_i_i_i_i_i;
+    v_r24_sroa_4_0_sink_i_i_i_i_i_i_i_i_i_i = p_v_r24_sroa_4_0_sink_i_i_i_i_i_i_i_i_i_i;
+    v_r24_sroa_13_0_sink_i_i_i_i_i_i_i_i_i_i = p_v_r24_sroa_13_0_sink_i_i_i_i_i_i_i_i_i_i;
+    v_r29_i_i_i_i_i_i_i_i_i = (u64)((u64)(v_r4_010_i_i_i_i_i_i_i_i_i) + (u64)(1u));
+    v_exitcond_not_i_i_i_i_i_i_i_i_i = v_r29_i_i_i_i_i_i_i_i_i == v_r4_val_i_i_i_i_i;
+    if (v_exitcond_not_i_i_i_i_i_i_i_i_i) { goto L_der_core_sequence_of_VecEncodeValue_value_len_4646; } else { p_v_r4_010_i_i_i_i_i_i_i_i_i = v_r29_i_i_i_i_i_i_i_i_i; p_v_r3_sroa_0_09_i_i_i_i_i_i_i_i_i = v_r24_sroa_0_0_sink_i_i_i_i_i_i_i_i_i_i; p_v_r3_sroa_5_08_i_i_i_i_i_i_i_i_i = v_r24_sroa_4_0_sink_i_i_i_i_i_i_i_i_i_i; p_v_r3_sroa_14_07_i_i_i_i_i_i_i_i_i = v_r24_sroa_13_0_sink_i_i_i_i_i_i_i_i_i_i; goto L_join_6_i_i_i_i_i_i_i_i_i; }
 L_der_core_sequence_of_VecEncodeValue_value_len_4646:;
-    v_27 = v_r24_sroa_0_0_sink_i_i_i_i_i_i_i_i == 0u;
-    if (v_27) { goto L_arm_1_i_i_i_i_i; } else { p_v_r5_sroa_0_0_i_i_sink_i = 1u; p_v_r5_sroa_4_0_i_i_sink_i = v_r24_sroa_4_0_sink_i_i_i_i_i_i_i_i; p_v_sink_i = 0u; p_v_r5_sroa_10_0_i_i_sink_i = 0u; goto L_der_core_encode_encoding_len_3a3c98235cfe5b88_exit; }
-L_arm_1_i_i_i_i_i:;
-    v_r12_i_i_i_i_i_i_i = v_r24_sroa_13_0_sink_i_i_i_i_i_i_i_i < 128u;
-    if (v_r12_i_i_i_i_i_i_i) { p_v_r12_sroa_10_0_i_ph15_i_i_i_i_i = v_r24_sroa_13_0_sink_i_i_i_i_i_i_i_i; p_v_r4_0_i_i_i_i_i_i_i = 2u; goto L_der_core_part_OptionPart_part_len_b85dcb4e1722644d__2; } else { goto L_else_2_i_i_i_i_i_i_i; }
-L_else_2_i_i_i_i_i_i_i:;
-    v_r17_i_i_i_i_i_i_i = v_r24_sroa_13_0_sink_i_i_i_i_i_i_i_i < 256u;
-    if (v_r17_i_i_i_i_i_i_i) { p_v_r12_sroa_10_0_i_ph15_i_i_i_i_i = v_r24_sroa_13_0_sink_i_i_i_i_i_i_i_i; p_v_r4_0_i_i_i_i_i_i_i = 3u; goto L_der_core_part_OptionPart_part_len_b85dcb4e1722644d__2; } else { goto L_else_5_i_i_i_i_i_i_i; }
-L_else_5_i_i_i_i_i_i_i:;
-    v_r22_i_i4_i_i_i_i_i = v_r24_sroa_13_0_sink_i_i_i_i_i_i_i_i < 65536u;
-    v_r27_i_i_i_i_i_i_i = v_r24_sroa_13_0_sink_i_i_i_i_i_i_i_i < 16777216u;
-    v_i_i_i_i_i_i_i = v_r27_i_i_i_i_i_i_i ? 5u : 6u;
-    v_r8_0_i_i_i_i_i_i_i = v_r22_i_i4_i_i_i_i_i ? 4u : v_i_i_i_i_i_i_i;
-    { p_v_r12_sroa_10_0_i_ph15_i_i_i_i_i = v_r24_sroa_13_0_sink_i_i_i_i_i_i_i_i; p_v_r4_0_i_i_i_i_i_i_i = v_r8_0_i_i_i_i_i_i_i; goto L_der_core_part_OptionPart_part_len_b85dcb4e1722644d__2; }
-L_der_core_part_OptionPart_part_len_b85dcb4e1722644d__2:;
-    v_r12_sroa_10_0_i_ph15_i_i_i_i_i = p_v_r12_sroa_10_0_i_ph15_i_i_i_i_i;
-    v_r4_0_i_i_i_i_i_i_i = p_v_r4_0_i_i_i_i_i_i_i;
-    v_r5_i_i_i_i_i_i_i_i = (u32)((u32)(v_r12_sroa_10_0_i_ph15_i_i_i_i_i) ^ (u32)(4294967295ull));
-    v_r7_i_not_i_i_i_i_i_i_i = v_r4_0_i_i_i_i_i_i_i > v_r5_i_i_i_i_i_i_i_i;
-    v_cond_fr_i_i = v_r7_i_not_i_i_i_i_i_i_i;
-    if (v_r24_sroa_0_0_sink_i_7_i_i_i) { goto L_arm_1_i50_i_i; } else { goto L_arm_2_i_i_i; }
-L_der_core_part_OptionPart_part_len_b85dcb4e1722644d:;
-    if (v_r24_sroa_0_0_sink_i_7_i_i_i) { p_v_r2_sroa_10_0_i114120_i_i = 0u; goto L_arm_1_i81_i_i; } else { p_v_r5_sroa_0_0_i_i_sink_i = 1u; p_v_r5_sroa_4_0_i_i_sink_i = v_r24_sroa_4_0_sink_i_7_i_i_i; p_v_sink_i = 0u; p_v_r5_sroa_10_0_i_i_sink_i = 0u; goto L_der_core_encode_encoding_len_3a3c98235cfe5b88_exit; }
-L_arm_1_i50_i_i:;
-    v_r11_i_i_i_i_i_i_i_i = (u32)((u32)(v_r4_0_i_i_i_i_i_i_i) + (u32)(v_r12_sroa_10_0_i_ph15_i_i_i_i_i));
-    if (v_cond_fr_i_i) { p_v_r5_sroa_0_0_i_i_sink_i = 1u; p_v_r5_sroa_4_0_i_i_sink_i = 7u; p_v_sink_i = 0u; p_v_r5_sroa_10_0_i_i_sink_i = 0u; goto L_der_core_encode_encoding_len_3a3c98235cfe5b88_exit; } else { p_v_r2_sroa_10_0_i114120_i_i = v_r11_i_i_i_i_i_i_i_i; goto L_arm_1_i81_i_i; }
+    v_26 = v_r24_sroa_0_0_sink_i_i_i_i_i_i_i_i_i_i == 0u;
+    if (v_26) { goto L_arm_1_i_i_i_i_i_i_i; } else { p_v_r3_i_sroa_0_0_sink_i_i_i_i = 0u; p_v_r3_i_sroa_6_0_sink_i_i_i_i = v_r24_sroa_4_0_sink_i_i_i_i_i_i_i_i_i_i; p_v_sink_i_i_i_i = 0u; p_v_r3_i_sroa_12_0_sink_i_i_i_i = 0u; goto L_pkcs1_private_key_written_OthersPartEncodeValue_va__2; }
+L_arm_1_i_i_i_i_i_i_i:;
+    v_r12_i_i_i_i_i_i_i_i_i = v_r24_sroa_13_0_sink_i_i_i_i_i_i_i_i_i_i < 128u;
+    if (v_r12_i_i_i_i_i_i_i_i_i) { p_v_r4_0_i_i_i_i_i_i_i_i_i = 2u; goto L_der_core_length_Length_for_tlv_exit_i_i_i_i_i_i_i; } else { goto L_else_2_i_i_i_i_i_i_i_i_i; }
+L_else_2_i_i_i_i_i_i_i_i_i:;
+    v_r17_i_i_i_i_i_i_i_i_i = v_r24_sroa_13_0_sink_i_i_i_i_i_i_i_i_i_i < 256u;
+    if (v_r17_i_i_i_i_i_i_i_i_i) { p_v_r4_0_i_i_i_i_i_i_i_i_i = 3u; goto L_der_core_length_Length_for_tlv_exit_i_i_i_i_i_i_i; } else { goto L_else_5_i_i_i_i_i_i_i_i_i; }
+L_else_5_i_i_i_i_i_i_i_i_i:;
+    v_r22_i_i4_i_i_i_i_i_i_i = v_r24_sroa_13_0_sink_i_i_i_i_i_i_i_i_i_i < 65536u;
+    v_r27_i_i_i_i_i_i_i_i_i = v_r24_sroa_13_0_sink_i_i_i_i_i_i_i_i_i_i < 16777216u;
+    v_i_i_i_i_i_i_i_i_i = v_r27_i_i_i_i_i_i_i_i_i ? 5u : 6u;
+    v_r8_0_i_i_i_i_i_i_i_i_i = v_r22_i_i4_i_i_i_i_i_i_i ? 4u : v_i_i_i_i_i_i_i_i_i;
+    { p_v_r4_0_i_i_i_i_i_i_i_i_i = v_r8_0_i_i_i_i_i_i_i_i_i; goto L_der_core_length_Length_for_tlv_exit_i_i_i_i_i_i_i; }
+L_der_core_length_Length_for_tlv_exit_i_i_i_i_i_i_i:;
+    v_r4_0_i_i_i_i_i_i_i_i_i = p_v_r4_0_i_i_i_i_i_i_i_i_i;
+    v_r5_i_i_i_i_i_i_i_i_i_i = (u32)((u32)(v_r24_sroa_13_0_sink_i_i_i_i_i_i_i_i_i_i) ^ (u32)(4294967295ull));
+    v_r7_i_not_i_i_i_i_i_i_i_i_i = v_r4_0_i_i_i_i_i_i_i_i_i <= v_r5_i_i_i_i_i_i_i_i_i_i;
+    v_r11_i_i_i_i_i_i_i_i_i_i = (u32)((u32)(v_r4_0_i_i_i_i_i_i_i_i_i) + (u32)(v_r24_sroa_13_0_sink_i_i_i_i_i_i_i_i_i_i));
+    v_r5_sroa_4_0_i_i_i_i_i_i_i_i_i = v_r7_i_not_i_i_i_i_i_i_i_i_i ? 0u : 7u;
+    v_r5_sroa_10_0_i_i_i_i_i_i_i_i_i = v_r7_i_not_i_i_i_i_i_i_i_i_i ? v_r11_i_i_i_i_i_i_i_i_i_i : 0u;
+    { p_v_r3_i_sroa_0_0_sink_i_i_i_i = v_r7_i_not_i_i_i_i_i_i_i_i_i; p_v_r3_i_sroa_6_0_sink_i_i_i_i = v_r5_sroa_4_0_i_i_i_i_i_i_i_i_i; p_v_sink_i_i_i_i = 0u; p_v_r3_i_sroa_12_0_sink_i_i_i_i = v_r5_sroa_10_0_i_i_i_i_i_i_i_i_i; goto L_pkcs1_private_key_written_OthersPartEncodeValue_va__2; }
+L_pkcs1_private_key_written_OthersPartEncodeValue_va__2:;
+    v_r3_i_sroa_0_0_sink_i_i_i_i = p_v_r3_i_sroa_0_0_sink_i_i_i_i;
+    v_r3_i_sroa_6_0_sink_i_i_i_i = p_v_r3_i_sroa_6_0_sink_i_i_i_i;
+    v_sink_i_i_i_i = p_v_sink_i_i_i_i;
+    v_r3_i_sroa_12_0_sink_i_i_i_i = p_v_r3_i_sroa_12_0_sink_i_i_i_i;
+    if (v_r5_sroa_0_0_i_i_sink_i_i_i6524_i_i_i) { goto L_arm_1_i_i_i_i; } else { goto L_arm_2_i_i_i_i; }
+L_pkcs1_private_key_written_OthersPartEncodeValue_va:;
+    if (v_r7_i_not_i_i_i_i_i84_i_i_i) { p_v_r5_sroa_10_0_i_i_sink_i_i_i6729_i_i_i = v_r11_i_i_i_i_i_i85_i_i_i; p_v_r3_i_sroa_12_0_sink_i1116_i_i_i = 0u; goto L_arm_5_i_i_i_i; } else { p_v_r24_sroa_0_0_sink_i_i_i_i = 0u; p_v_r24_sroa_4_0_sink_i_i_i_i = 7u; p_v_r24_sroa_7_0_sink_i_i_i_i = 0u; p_v_r24_sroa_13_0_sink_i_i_i_i = 0u; goto L_der_core_encode_joined_len_exit_i_i_i; }
+L_arm_1_i_i_i_i:;
+    if (v_r3_i_sroa_0_0_sink_i_i_i_i) { p_v_r5_sroa_10_0_i_i_sink_i_i_i6729_i_i_i = v_r5_sroa_10_0_i_i_sink_i_i_i6731_i_i_i; p_v_r3_i_sroa_12_0_sink_i1116_i_i_i = v_r3_i_sroa_12_0_sink_i_i_i_i; goto L_arm_5_i_i_i_i; } else { p_v_r24_sroa_0_0_sink_i_i_i_i = 0u; p_v_r24_sroa_4_0_sink_i_i_i_i = v_r3_i_sroa_6_0_sink_i_i_i_i; p_v_r24_sroa_7_0_sink_i_i_i_i = v_sink_i_i_i_i; p_v_r24_sroa_13_0_sink_i_i_i_i = 0u; goto L_der_core_encode_joined_len_exit_i_i_i; }
+L_arm_5_i_i_i_i:;
+    v_r5_sroa_10_0_i_i_sink_i_i_i6729_i_i_i = p_v_r5_sroa_10_0_i_i_sink_i_i_i6729_i_i_i;
+    v_r3_i_sroa_12_0_sink_i1116_i_i_i = p_v_r3_i_sroa_12_0_sink_i1116_i_i_i;
+    v_r5_i_i_i94_i_i_i = (u32)((u32)(v_r3_i_sroa_12_0_sink_i1116_i_i_i) ^ (u32)(4294967295ull));
+    v_r7_i_not_i_i_i_i_i = v_r5_sroa_10_0_i_i_sink_i_i_i6729_i_i_i <= v_r5_i_i_i94_i_i_i;
+    v_r11_i_i_i_i_i_i = (u32)((u32)(v_r3_i_sroa_12_0_sink_i1116_i_i_i) + (u32)(v_r5_sroa_10_0_i_i_sink_i_i_i6729_i_i_i));
+    v_r5_sroa_4_0_i_i_i_i_i = v_r7_i_not_i_i_i_i_i ? 0u : 7u;
+    v_r5_sroa_10_0_i_i_i_i_i = v_r7_i_not_i_i_i_i_i ? v_r11_i_i_i_i_i_i : 0u;
+    { p_v_r24_sroa_0_0_sink_i_i_i_i = v_r7_i_not_i_i_i_i_i; p_v_r24_sroa_4_0_sink_i_i_i_i = v_r5_sroa_4_0_i_i_i_i_i; p_v_r24_sroa_7_0_sink_i_i_i_i = 0u; p_v_r24_sroa_13_0_sink_i_i_i_i = v_r5_sroa_10_0_i_i_i_i_i; goto L_der_core_encode_joined_len_exit_i_i_i; }
+L_arm_2_i_i_i_i:;
+    v_spec_select_i_i_i = v_r3_i_sroa_0_0_sink_i_i_i_i ? v_r5_sroa_4_0_i_i_sink_i_i_i6628_i_i_i : v_r3_i_sroa_6_0_sink_i_i_i_i;
+    v_spec_select36_i_i_i = v_r3_i_sroa_0_0_sink_i_i_i_i ? 0u : v_sink_i_i_i_i;
+    { p_v_r24_sroa_0_0_sink_i_i_i_i = 0u; p_v_r24_sroa_4_0_sink_i_i_i_i = v_spec_select_i_i_i; p_v_r24_sroa_7_0_sink_i_i_i_i = v_spec_select36_i_i_i; p_v_r24_sroa_13_0_sink_i_i_i_i = 0u; goto L_der_core_encode_joined_len_exit_i_i_i; }
+L_der_core_encode_joined_len_exit_i_i_i:;
+    v_r24_sroa_0_0_sink_i_i_i_i = p_v_r24_sroa_0_0_sink_i_i_i_i;
+    v_r24_sroa_4_0_sink_i_i_i_i = p_v_r24_sroa_4_0_sink_i_i_i_i;
+    v_r24_sroa_7_0_sink_i_i_i_i = p_v_r24_sroa_7_0_sink_i_i_i_i;
+    v_r24_sroa_13_0_sink_i_i_i_i = p_v_r24_sroa_13_0_sink_i_i_i_i;
+    if (v_r5_sroa_0_0_i_i_sink_i_i_i36_i_i_i) { goto L_arm_1_i125_i_i_i; } else { goto L_arm_2_i113_i_i_i; }
+L_arm_1_i125_i_i_i:;
+    if (v_r24_sroa_0_0_sink_i_i_i_i) { goto L_arm_5_i126_i_i_i; } else { p_v_r24_sroa_0_0_sink_i115_i_i_i = 0u; p_v_r24_sroa_4_0_sink_i116_i_i_i = v_r24_sroa_4_0_sink_i_i_i_i; p_v_r24_sroa_7_0_sink_i117_i_i_i = v_r24_sroa_7_0_sink_i_i_i_i; p_v_r24_sroa_13_0_sink_i119_i_i_i = 0u; goto L_der_core_encode_joined_len_exit133_i_i_i; }
+L_arm_5_i126_i_i_i:;
+    v_r5_i_i_i127_i_i_i = (u32)((u32)(v_r24_sroa_13_0_sink_i_i_i_i) ^ (u32)(4294967295ull));
+    v_r7_i_not_i_i128_i_i_i = v_r5_sroa_10_0_i_i_sink_i_i_i38_i_i_i <= v_r5_i_i_i127_i_i_i;
+    v_r11_i_i_i129_i_i_i = (u32)((u32)(v_r24_sroa_13_0_sink_i_i_i_i) + (u32)(v_r5_sroa_10_0_i_i_sink_i_i_i38_i_i_i));
+    v_r5_sroa_4_0_i_i131_i_i_i = v_r7_i_not_i_i128_i_i_i ? 0u : 7u;
+    v_r5_sroa_10_0_i_i132_i_i_i = v_r7_i_not_i_i128_i_i_i ? v_r11_i_i_i129_i_i_i : 0u;
+    { p_v_r24_sroa_0_0_sink_i115_i_i_i = v_r7_i_not_i_i128_i_i_i; p_v_r24_sroa_4_0_sink_i116_i_i_i = v_r5_sroa_4_0_i_i131_i_i_i; p_v_r24_sroa_7_0_sink_i117_i_i_i = 0u; p_v_r24_sroa_13_0_sink_i119_i_i_i = v_r5_sroa_10_0_i_i132_i_i_i; goto L_der_core_encode_joined_len_exit133_i_i_i; }
+L_arm_2_i113_i_i_i:;
+    v_spec_select37_i_i_i = v_r24_sroa_0_0_sink_i_i_i_i ? v_r5_sroa_4_0_i_i_sink_i_i_i37_i_i_i : v_r24_sroa_4_0_sink_i_i_i_i;
+    v_spec_select38_i_i_i = v_r24_sroa_0_0_sink_i_i_i_i ? 0u : v_r24_sroa_7_0_sink_i_i_i_i;
+    { p_v_r24_sroa_0_0_sink_i115_i_i_i = 0u; p_v_r24_sroa_4_0_sink_i116_i_i_i = v_spec_select37_i_i_i; p_v_r24_sroa_7_0_sink_i117_i_i_i = v_spec_select38_i_i_i; p_v_r24_sroa_13_0_sink_i119_i_i_i = 0u; goto L_der_core_encode_joined_len_exit133_i_i_i; }
+L_der_core_encode_joined_len_exit133_i_i_i:;
+    v_r24_sroa_0_0_sink_i115_i_i_i = p_v_r24_sroa_0_0_sink_i115_i_i_i;
+    v_r24_sroa_4_0_sink_i116_i_i_i = p_v_r24_sroa_4_0_sink_i116_i_i_i;
+    v_r24_sroa_7_0_sink_i117_i_i_i = p_v_r24_sroa_7_0_sink_i117_i_i_i;
+    v_r24_sroa_13_0_sink_i119_i_i_i = p_v_r24_sroa_13_0_sink_i119_i_i_i;
+    if (v_r5_sroa_0_0_i_i_sink_i_i_i_i_i_i) { goto L_arm_1_i164_i_i_i; } else { goto L_arm_2_i152_i_i_i; }
+L_arm_1_i164_i_i_i:;
+    if (v_r24_sroa_0_0_sink_i115_i_i_i) { goto L_arm_5_i165_i_i_i; } else { p_v_r24_sroa_0_0_sink_i154_i_i_i = 0u; p_v_r24_sroa_4_0_sink_i155_i_i_i = v_r24_sroa_4_0_sink_i116_i_i_i; p_v_r24_sroa_7_0_sink_i156_i_i_i = v_r24_sroa_7_0_sink_i117_i_i_i; p_v_r24_sroa_13_0_sink_i158_i_i_i = 0u; goto L_pkcs1_private_key_written_CrtPartsEncodeValue_valu; }
+L_arm_5_i165_i_i_i:;
+    v_r5_i_i_i166_i_i_i = (u32)((u32)(v_r24_sroa_13_0_sink_i119_i_i_i) ^ (u32)(4294967295ull));
+    v_r7_i_not_i_i167_i_i_i = v_r5_sroa_10_0_i_i_sink_i_i_i_i_i_i <= v_r5_i_i_i166_i_i_i;
+    v_r11_i_i_i168_i_i_i = (u32)((u32)(v_r24_sroa_13_0_sink_i119_i_i_i) + (u32)(v_r5_sroa_10_0_i_i_sink_i_i_i_i_i_i));
+    v_r5_sroa_4_0_i_i170_i_i_i = v_r7_i_not_i_i167_i_i_i ? 0u : 7u;
+    v_r5_sroa_10_0_i_i171_i_i_i = v_r7_i_not_i_i167_i_i_i ? v_r11_i_i_i168_i_i_i : 0u;
+    { p_v_r24_sroa_0_0_sink_i154_i_i_i = v_r7_i_not_i_i167_i_i_i; p_v_r24_sroa_4_0_sink_i155_i_i_i = v_r5_sroa_4_0_i_i170_i_i_i; p_v_r24_sroa_7_0_sink_i156_i_i_i = 0u; p_v_r24_sroa_13_0_sink_i158_i_i_i = v_r5_sroa_10_0_i_i171_i_i_i; goto L_pkcs1_private_key_written_CrtPartsEncodeValue_valu; }
+L_arm_2_i152_i_i_i:;
+    v_spec_select39_i_i_i = v_r24_sroa_0_0_sink_i115_i_i_i ? v_r5_sroa_4_0_i_i_sink_i_i_i_i_i_i : v_r24_sroa_4_0_sink_i116_i_i_i;
+    v_spec_select40_i_i_i = v_r24_sroa_0_0_sink_i115_i_i_i ? 0u : v_r24_sroa_7_0_sink_i117_i_i_i;
+    { p_v_r24_sroa_0_0_sink_i154_i_i_i = 0u; p_v_r24_sroa_4_0_sink_i155_i_i_i = v_spec_select39_i_i_i; p_v_r24_sroa_7_0_sink_i156_i_i_i = v_spec_select40_i_i_i; p_v_r24_sroa_13_0_sink_i158_i_i_i = 0u; goto L_pkcs1_private_key_written_CrtPartsEncodeValue_valu; }
+L_pkcs1_private_key_written_CrtPartsEncodeValue_valu:;
+    v_r24_sroa_0_0_sink_i154_i_i_i = p_v_r24_sroa_0_0_sink_i154_i_i_i;
+    v_r24_sroa_4_0_sink_i155_i_i_i = p_v_r24_sroa_4_0_sink_i155_i_i_i;
+    v_r24_sroa_7_0_sink_i156_i_i_i = p_v_r24_sroa_7_0_sink_i156_i_i_i;
+    v_r24_sroa_13_0_sink_i158_i_i_i = p_v_r24_sroa_13_0_sink_i158_i_i_i;
+    if (v_r5_sroa_0_0_i_i_sink_i_i_i167_i_i) { goto L_arm_1_i198_i_i; } else { goto L_arm_2_i_i_i; }
+L_arm_1_i198_i_i:;
+    if (v_r24_sroa_0_0_sink_i154_i_i_i) { goto L_arm_5_i_i_i; } else { p_v_r24_sroa_0_0_sink_i_i_i = 0u; p_v_r24_sroa_4_0_sink_i_i_i = v_r24_sroa_4_0_sink_i155_i_i_i; p_v_r24_sroa_7_0_sink_i_i_i = v_r24_sroa_7_0_sink_i156_i_i_i; p_v_r24_sroa_13_0_sink_i_i_i = 0u; goto L_der_core_encode_joined_len_exit_i_i; }
+L_arm_5_i_i_i:;
+    v_r5_i_i_i_i_i = (u32)((u32)(v_r24_sroa_13_0_sink_i158_i_i_i) ^ (u32)(4294967295ull));
+    v_r7_i_not_i_i_i_i = v_r5_sroa_10_0_i_i_sink_i_i_i169_i_i <= v_r5_i_i_i_i_i;
+    v_r11_i_i_i_i_i = (u32)((u32)(v_r24_sroa_13_0_sink_i158_i_i_i) + (u32)(v_r5_sroa_10_0_i_i_sink_i_i_i169_i_i));
+    v_r5_sroa_4_0_i_i_i_i = v_r7_i_not_i_i_i_i ? 0u : 7u;
+    v_r5_sroa_10_0_i_i_i_i = v_r7_i_not_i_i_i_i ? v_r11_i_i_i_i_i : 0u;
+    { p_v_r24_sroa_0_0_sink_i_i_i = v_r7_i_not_i_i_i_i; p_v_r24_sroa_4_0_sink_i_i_i = v_r5_sroa_4_0_i_i_i_i; p_v_r24_sroa_7_0_sink_i_i_i = 0u; p_v_r24_sroa_13_0_sink_i_i_i = v_r5_sroa_10_0_i_i_i_i; goto L_der_core_encode_joined_len_exit_i_i; }
 L_arm_2_i_i_i:;
-    v_spec_select_i_i = v_cond_fr_i_i ? 7u : v_r24_sroa_4_0_sink_i_7_i_i_i;
-    { p_v_r5_sroa_0_0_i_i_sink_i = 1u; p_v_r5_sroa_4_0_i_i_sink_i = v_spec_select_i_i; p_v_sink_i = 0u; p_v_r5_sroa_10_0_i_i_sink_i = 0u; goto L_der_core_encode_encoding_len_3a3c98235cfe5b88_exit; }
-L_arm_1_i81_i_i:;
-    v_r2_sroa_10_0_i114120_i_i = p_v_r2_sroa_10_0_i114120_i_i;
-    v_r5_i_i_i_i_i = (u32)((u32)(v_r2_sroa_10_0_i114120_i_i) ^ (u32)(4294967295ull));
-    v_r7_i_not_i_i_not_i_i = v_r24_sroa_13_0_sink_i_7_i_i_i > v_r5_i_i_i_i_i;
-    if (v_r7_i_not_i_i_not_i_i) { p_v_r5_sroa_0_0_i_i_sink_i = 1u; p_v_r5_sroa_4_0_i_i_sink_i = 7u; p_v_sink_i = 0u; p_v_r5_sroa_10_0_i_i_sink_i = 0u; goto L_der_core_encode_encoding_len_3a3c98235cfe5b88_exit; } else { goto L_pkcs1_private_key_RsaPrivateKeyEncodeValue_value_l; }
+    v_spec_select_i_i = v_r24_sroa_0_0_sink_i154_i_i_i ? v_r5_sroa_4_0_i_i_sink_i_i_i168_i_i : v_r24_sroa_4_0_sink_i155_i_i_i;
+    v_spec_select404_i_i = v_r24_sroa_0_0_sink_i154_i_i_i ? 0u : v_r24_sroa_7_0_sink_i156_i_i_i;
+    { p_v_r24_sroa_0_0_sink_i_i_i = 0u; p_v_r24_sroa_4_0_sink_i_i_i = v_spec_select_i_i; p_v_r24_sroa_7_0_sink_i_i_i = v_spec_select404_i_i; p_v_r24_sroa_13_0_sink_i_i_i = 0u; goto L_der_core_encode_joined_len_exit_i_i; }
+L_der_core_encode_joined_len_exit_i_i:;
+    v_r24_sroa_0_0_sink_i_i_i = p_v_r24_sroa_0_0_sink_i_i_i;
+    v_r24_sroa_4_0_sink_i_i_i = p_v_r24_sroa_4_0_sink_i_i_i;
+    v_r24_sroa_7_0_sink_i_i_i = p_v_r24_sroa_7_0_sink_i_i_i;
+    v_r24_sroa_13_0_sink_i_i_i = p_v_r24_sroa_13_0_sink_i_i_i;
+    if (v_r5_sroa_0_0_i_i_sink_i_i_i138_i_i) { goto L_arm_1_i229_i_i; } else { goto L_arm_2_i217_i_i; }
+L_arm_1_i229_i_i:;
+    if (v_r24_sroa_0_0_sink_i_i_i) { goto L_arm_5_i230_i_i; } else { p_v_r24_sroa_0_0_sink_i219_i_i = 0u; p_v_r24_sroa_4_0_sink_i220_i_i = v_r24_sroa_4_0_sink_i_i_i; p_v_r24_sroa_7_0_sink_i221_i_i = v_r24_sroa_7_0_sink_i_i_i; p_v_r24_sroa_13_0_sink_i223_i_i = 0u; goto L_der_core_encode_joined_len_exit237_i_i; }
+L_arm_5_i230_i_i:;
+    v_r5_i_i_i231_i_i = (u32)((u32)(v_r24_sroa_13_0_sink_i_i_i) ^ (u32)(4294967295ull));
+    v_r7_i_not_i_i232_i_i = v_r5_sroa_10_0_i_i_sink_i_i_i140_i_i <= v_r5_i_i_i231_i_i;
+    v_r11_i_i_i233_i_i = (u32)((u32)(v_r24_sroa_13_0_sink_i_i_i) + (u32)(v_r5_sroa_10_0_i_i_sink_i_i_i140_i_i));
+    v_r5_sroa_4_0_i_i235_i_i = v_r7_i_not_i_i232_i_i ? 0u : 7u;
+    v_r5_sroa_10_0_i_i236_i_i = v_r7_i_not_i_i232_i_i ? v_r11_i_i_i233_i_i : 0u;
+    { p_v_r24_sroa_0_0_sink_i219_i_i = v_r7_i_not_i_i232_i_i; p_v_r24_sroa_4_0_sink_i220_i_i = v_r5_sroa_4_0_i_i235_i_i; p_v_r24_sroa_7_0_sink_i221_i_i = 0u; p_v_r24_sroa_13_0_sink_i223_i_i = v_r5_sroa_10_0_i_i236_i_i; goto L_der_core_encode_joined_len_exit237_i_i; }
+L_arm_2_i217_i_i:;
+    v_spec_select405_i_i = v_r24_sroa_0_0_sink_i_i_i ? v_r5_sroa_4_0_i_i_sink_i_i_i139_i_i : v_r24_sroa_4_0_sink_i_i_i;
+    v_spec_select406_i_i = v_r24_sroa_0_0_sink_i_i_i ? 0u : v_r24_sroa_7_0_sink_i_i_i;
+    { p_v_r24_sroa_0_0_sink_i219_i_i = 0u; p_v_r24_sroa_4_0_sink_i220_i_i = v_spec_select405_i_i; p_v_r24_sroa_7_0_sink_i221_i_i = v_spec_select406_i_i; p_v_r24_sroa_13_0_sink_i223_i_i = 0u; goto L_der_core_encode_joined_len_exit237_i_i; }
+L_der_core_encode_joined_len_exit237_i_i:;
+    v_r24_sroa_0_0_sink_i219_i_i = p_v_r24_sroa_0_0_sink_i219_i_i;
+    v_r24_sroa_4_0_sink_i220_i_i = p_v_r24_sroa_4_0_sink_i220_i_i;
+    v_r24_sroa_7_0_sink_i221_i_i = p_v_r24_sroa_7_0_sink_i221_i_i;
+    v_r24_sroa_13_0_sink_i223_i_i = p_v_r24_sroa_13_0_sink_i223_i_i;
+    if (v_r5_sroa_0_0_i_i_sink_i_i_i109_i_i) { goto L_arm_1_i268_i_i; } else { goto L_arm_2_i256_i_i; }
+L_arm_1_i268_i_i:;
+    if (v_r24_sroa_0_0_sink_i219_i_i) { goto L_arm_5_i269_i_i; } else { p_v_r24_sroa_0_0_sink_i258_i_i = 0u; p_v_r24_sroa_4_0_sink_i259_i_i = v_r24_sroa_4_0_sink_i220_i_i; p_v_r24_sroa_7_0_sink_i260_i_i = v_r24_sroa_7_0_sink_i221_i_i; p_v_r24_sroa_13_0_sink_i262_i_i = 0u; goto L_der_core_encode_joined_len_exit276_i_i; }
+L_arm_5_i269_i_i:;
+    v_r5_i_i_i270_i_i = (u32)((u32)(v_r24_sroa_13_0_sink_i223_i_i) ^ (u32)(4294967295ull));
+    v_r7_i_not_i_i271_i_i = v_r5_sroa_10_0_i_i_sink_i_i_i111_i_i <= v_r5_i_i_i270_i_i;
+    v_r11_i_i_i272_i_i = (u32)((u32)(v_r24_sroa_13_0_sink_i223_i_i) + (u32)(v_r5_sroa_10_0_i_i_sink_i_i_i111_i_i));
+    v_r5_sroa_4_0_i_i274_i_i = v_r7_i_not_i_i271_i_i ? 0u : 7u;
+    v_r5_sroa_10_0_i_i275_i_i = v_r7_i_not_i_i271_i_i ? v_r11_i_i_i272_i_i : 0u;
+    { p_v_r24_sroa_0_0_sink_i258_i_i = v_r7_i_not_i_i271_i_i; p_v_r24_sroa_4_0_sink_i259_i_i = v_r5_sroa_4_0_i_i274_i_i; p_v_r24_sroa_7_0_sink_i260_i_i = 0u; p_v_r24_sroa_13_0_sink_i262_i_i = v_r5_sroa_10_0_i_i275_i_i; goto L_der_core_encode_joined_len_exit276_i_i; }
+L_arm_2_i256_i_i:;
+    v_spec_select407_i_i = v_r24_sroa_0_0_sink_i219_i_i ? v_r5_sroa_4_0_i_i_sink_i_i_i110_i_i : v_r24_sroa_4_0_sink_i220_i_i;
+    v_spec_select408_i_i = v_r24_sroa_0_0_sink_i219_i_i ? 0u : v_r24_sroa_7_0_sink_i221_i_i;
+    { p_v_r24_sroa_0_0_sink_i258_i_i = 0u; p_v_r24_sroa_4_0_sink_i259_i_i = v_spec_select407_i_i; p_v_r24_sroa_7_0_sink_i260_i_i = v_spec_select408_i_i; p_v_r24_sroa_13_0_sink_i262_i_i = 0u; goto L_der_core_encode_joined_len_exit276_i_i; }
+L_der_core_encode_joined_len_exit276_i_i:;
+    v_r24_sroa_0_0_sink_i258_i_i = p_v_r24_sroa_0_0_sink_i258_i_i;
+    v_r24_sroa_4_0_sink_i259_i_i = p_v_r24_sroa_4_0_sink_i259_i_i;
+    v_r24_sroa_7_0_sink_i260_i_i = p_v_r24_sroa_7_0_sink_i260_i_i;
+    v_r24_sroa_13_0_sink_i262_i_i = p_v_r24_sroa_13_0_sink_i262_i_i;
+    if (v_r5_sroa_0_0_i_i_sink_i_i_i80_i_i) { goto L_arm_1_i307_i_i; } else { goto L_arm_2_i295_i_i; }
+L_arm_1_i307_i_i:;
+    if (v_r24_sroa_0_0_sink_i258_i_i) { goto L_arm_5_i308_i_i; } else { p_v_r24_sroa_0_0_sink_i297_i_i = 0u; p_v_r24_sroa_4_0_sink_i298_i_i = v_r24_sroa_4_0_sink_i259_i_i; p_v_r24_sroa_7_0_sink_i299_i_i = v_r24_sroa_7_0_sink_i260_i_i; p_v_r24_sroa_13_0_sink_i301_i_i = 0u; goto L_der_core_encode_joined_len_exit315_i_i; }
+L_arm_5_i308_i_i:;
+    v_r5_i_i_i309_i_i = (u32)((u32)(v_r24_sroa_13_0_sink_i262_i_i) ^ (u32)(4294967295ull));
+    v_r7_i_not_i_i310_i_i = v_r5_sroa_10_0_i_i_sink_i_i_i82_i_i <= v_r5_i_i_i309_i_i;
+    v_r11_i_i_i311_i_i = (u32)((u32)(v_r24_sroa_13_0_sink_i262_i_i) + (u32)(v_r5_sroa_10_0_i_i_sink_i_i_i82_i_i));
+    v_r5_sroa_4_0_i_i313_i_i = v_r7_i_not_i_i310_i_i ? 0u : 7u;
+    v_r5_sroa_10_0_i_i314_i_i = v_r7_i_not_i_i310_i_i ? v_r11_i_i_i311_i_i : 0u;
+    { p_v_r24_sroa_0_0_sink_i297_i_i = v_r7_i_not_i_i310_i_i; p_v_r24_sroa_4_0_sink_i298_i_i = v_r5_sroa_4_0_i_i313_i_i; p_v_r24_sroa_7_0_sink_i299_i_i = 0u; p_v_r24_sroa_13_0_sink_i301_i_i = v_r5_sroa_10_0_i_i314_i_i; goto L_der_core_encode_joined_len_exit315_i_i; }
+L_arm_2_i295_i_i:;
+    v_spec_select409_i_i = v_r24_sroa_0_0_sink_i258_i_i ? v_r5_sroa_4_0_i_i_sink_i_i_i81_i_i : v_r24_sroa_4_0_sink_i259_i_i;
+    v_spec_select410_i_i = v_r24_sroa_0_0_sink_i258_i_i ? 0u : v_r24_sroa_7_0_sink_i260_i_i;
+    { p_v_r24_sroa_0_0_sink_i297_i_i = 0u; p_v_r24_sroa_4_0_sink_i298_i_i = v_spec_select409_i_i; p_v_r24_sroa_7_0_sink_i299_i_i = v_spec_select410_i_i; p_v_r24_sroa_13_0_sink_i301_i_i = 0u; goto L_der_core_encode_joined_len_exit315_i_i; }
+L_der_core_encode_joined_len_exit315_i_i:;
+    v_r24_sroa_0_0_sink_i297_i_i = p_v_r24_sroa_0_0_sink_i297_i_i;
+    v_r24_sroa_4_0_sink_i298_i_i = p_v_r24_sroa_4_0_sink_i298_i_i;
+    v_r24_sroa_7_0_sink_i299_i_i = p_v_r24_sroa_7_0_sink_i299_i_i;
+    v_r24_sroa_13_0_sink_i301_i_i = p_v_r24_sroa_13_0_sink_i301_i_i;
+    if (v_r5_sroa_0_0_i_i_sink_i_i_i_i_i) { goto L_arm_1_i346_i_i; } else { goto L_arm_2_i334_i_i; }
+L_arm_1_i346_i_i:;
+    if (v_r24_sroa_0_0_sink_i297_i_i) { goto L_arm_1_i385_i_i; } else { p_v_r5_sroa_0_0_i_i_sink_i = 1u; p_v_r5_sroa_4_0_i_i_sink_i = v_r24_sroa_4_0_sink_i298_i_i; p_v_sink_i = v_r24_sroa_7_0_sink_i299_i_i; p_v_r5_sroa_10_0_i_i_sink_i = 0u; goto L_der_core_encode_encoding_len_3a3c98235cfe5b88_exit; }
+L_arm_2_i334_i_i:;
+    v_spec_select411_i_i = v_r24_sroa_0_0_sink_i297_i_i ? v_r5_sroa_4_0_i_i_sink_i_i_i_i_i : v_r24_sroa_4_0_sink_i298_i_i;
+    v_spec_select412_i_i = v_r24_sroa_0_0_sink_i297_i_i ? 0u : v_r24_sroa_7_0_sink_i299_i_i;
+    { p_v_r5_sroa_0_0_i_i_sink_i = 1u; p_v_r5_sroa_4_0_i_i_sink_i = v_spec_select411_i_i; p_v_sink_i = v_spec_select412_i_i; p_v_r5_sroa_10_0_i_i_sink_i = 0u; goto L_der_core_encode_encoding_len_3a3c98235cfe5b88_exit; }
+L_arm_1_i385_i_i:;
+    v_r5_i_i_i348_i_i = (u32)((u32)(v_r24_sroa_13_0_sink_i301_i_i) ^ (u32)(4294967295ull));
+    v_r7_i_not_i_i349_not_i_i = v_r5_sroa_10_0_i_i_sink_i_i_i_i_i > v_r5_i_i_i348_i_i;
+    if (v_r7_i_not_i_i349_not_i_i) { p_v_r5_sroa_0_0_i_i_sink_i = 1u; p_v_r5_sroa_4_0_i_i_sink_i = 7u; p_v_sink_i = 0u; p_v_r5_sroa_10_0_i_i_sink_i = 0u; goto L_der_core_encode_encoding_len_3a3c98235cfe5b88_exit; } else { goto L_pkcs1_private_key_RsaPrivateKeyEncodeValue_value_l; }
 L_pkcs1_private_key_RsaPrivateKeyEncodeValue_value_l:;
-    v_r11_i_i_i_i_i = (u32)((u32)(v_r2_sroa_10_0_i114120_i_i) + (u32)(v_r24_sroa_13_0_sink_i_7_i_i_i));
-    v_r7_i_not_i_i84_i_i = v_r11_i_i_i_i_i < 4294967293ull;
-    v_28 = v_r11_i_i_i_i_i < 4294967293ull ? v_r11_i_i_i_i_i : 4294967293ull;
-    v_r5_sroa_10_0_i_i88_i_i = (u32)((u32)(v_28) + (u32)(3u));
-    if (v_r7_i_not_i_i84_i_i) { goto L_arm_1_i; } else { p_v_r5_sroa_0_0_i_i_sink_i = 1u; p_v_r5_sroa_4_0_i_i_sink_i = 7u; p_v_sink_i = 0u; p_v_r5_sroa_10_0_i_i_sink_i = 0u; goto L_der_core_encode_encoding_len_3a3c98235cfe5b88_exit; }
+    v_r11_i_i_i350_i_i = (u32)((u32)(v_r24_sroa_13_0_sink_i301_i_i) + (u32)(v_r5_sroa_10_0_i_i_sink_i_i_i_i_i));
+    v_r7_i_not_i_i388_i_i = v_r11_i_i_i350_i_i < 4294967293ull;
+    v_27 = v_r11_i_i_i350_i_i < 4294967293ull ? v_r11_i_i_i350_i_i : 4294967293ull;
+    v_r5_sroa_10_0_i_i392_i_i = (u32)((u32)(v_27) + (u32)(3u));
+    if (v_r7_i_not_i_i388_i_i) { goto L_arm_1_i; } else { p_v_r5_sroa_0_0_i_i_sink_i = 1u; p_v_r5_sroa_4_0_i_i_sink_i = 7u; p_v_sink_i = 0u; p_v_r5_sroa_10_0_i_i_sink_i = 0u; goto L_der_core_encode_encoding_len_3a3c98235cfe5b88_exit; }
 L_arm_1_i:;
-    v_r12_i_i_i = v_r5_sroa_10_0_i_i88_i_i < 128u;
+    v_r12_i_i_i = v_r5_sroa_10_0_i_i392_i_i < 128u;
     if (v_r12_i_i_i) { p_v_r4_0_i_i_i = 2u; goto L_der_core_length_Length_for_tlv_exit_i; } else { goto L_else_2_i_i_i; }
 L_else_2_i_i_i:;
-    v_r17_i_i_i = v_r5_sroa_10_0_i_i88_i_i < 256u;
+    v_r17_i_i_i = v_r5_sroa_10_0_i_i392_i_i < 256u;
     if (v_r17_i_i_i) { p_v_r4_0_i_i_i = 3u; goto L_der_core_length_Length_for_tlv_exit_i; } else { goto L_else_5_i_i_i; }
 L_else_5_i_i_i:;
-    v_r22_i_i_i = v_r5_sroa_10_0_i_i88_i_i < 65536u;
-    v_r27_i_i_i = v_r5_sroa_10_0_i_i88_i_i < 16777216u;
+    v_r22_i_i_i = v_r5_sroa_10_0_i_i392_i_i < 65536u;
+    v_r27_i_i_i = v_r5_sroa_10_0_i_i392_i_i < 16777216u;
     v_i_i_i = v_r27_i_i_i ? 5u : 6u;
     v_r8_0_i_i_i = v_r22_i_i_i ? 4u : v_i_i_i;
     { p_v_r4_0_i_i_i = v_r8_0_i_i_i; goto L_der_core_length_Length_for_tlv_exit_i; }
 L_der_core_length_Length_for_tlv_exit_i:;
     v_r4_0_i_i_i = p_v_r4_0_i_i_i;
-    v_r5_i_i_i2_i = (u32)((u32)(4294967292ull) - (u32)(v_28));
+    v_r5_i_i_i2_i = (u32)((u32)(4294967292ull) - (u32)(v_27));
     v_r7_i_not_i_i_i = v_r4_0_i_i_i > v_r5_i_i_i2_i;
-    v_r11_i_i_i_i = (u32)((u32)(v_r4_0_i_i_i) + (u32)(v_r5_sroa_10_0_i_i88_i_i));
+    v_r11_i_i_i_i = (u32)((u32)(v_r4_0_i_i_i) + (u32)(v_r5_sroa_10_0_i_i392_i_i));
     v_r5_sroa_0_0_i_i_i = (u8)v_r7_i_not_i_i_i;
     v_r5_sroa_4_0_i_i_i = v_r7_i_not_i_i_i ? 7u : 0u;
     v_r5_sroa_10_0_i_i_i = v_r7_i_not_i_i_i ? 0u : v_r11_i_i_i_i;
@@ -26969,7 +27131,7 @@ L_switch_lookup:;
     v_switch_gep = (P)f_switch_table_pkcs1_c_status_text + (int64_t)(v_1 * 8);
     v_switch_load = get_u64(v_switch_gep);
     v_2 = (u64)v_a0;
-    v_switch_gep1 = (P)f_switch_table_pkcs1_c_status_text_177 + (int64_t)(v_2 * 8);
+    v_switch_gep1 = (P)f_switch_table_pkcs1_c_status_text_181 + (int64_t)(v_2 * 8);
     v_switch_load2 = get_P(v_switch_gep1);
     { p_v_r1_sroa_22_0_i_i = v_switch_load; p_v_r1_sroa_0_0_i_i = v_switch_load2; goto L_pkcs1_c_status_pkcs1_c_status_text_exit; }
 L_pkcs1_c_status_pkcs1_c_status_text_exit:;
@@ -32610,7 +32772,6 @@ u1 pkcs1_c_pss_is(P v_a0, P v_a1, u64 v_a2) {
 u32 pkcs1_c_private_key_encode(P v_a0, P v_a1, u64 v_a2, P v_a3, u64 v_a4, P v_a5) {
     ALIGNED(8) unsigned char m_v_r2_i_i_i[1];
     ALIGNED(8) unsigned char m_v_r1_i_i_i[8];
-    ALIGNED(8) unsigned char m_v_r4_i_i_i_i_i[64];
     ALIGNED(8) unsigned char m_v_r10_i_i_i[8];
     ALIGNED(8) unsigned char m_v_r4_i362_i_i[24];
     ALIGNED(8) unsigned char m_v_r72_sroa_31_i_i[24];
@@ -32618,39 +32779,55 @@ u32 pkcs1_c_private_key_encode(P v_a0, P v_a1, u64 v_a2, P v_a3, u64 v_a4, P v_a
     ALIGNED(8) unsigned char m_v_r11_sroa_87_i[24];
     P p_v_r3_sroa_0_08_i_i_i_i;
     u64 p_v_r3_sroa_6_07_i_i_i_i;
-    P p_v_r12_sroa_10_i_sroa_3_0_ph_i_i;
-    u64 p_v_r12_sroa_10_i_sroa_5_0_ph_i_i;
+    P p_v_r1_sroa_0_0_copyload_i_i_i111_i_i_i_i_ph_i;
+    u8 p_v_r20_i288_i_i;
+    P p_v_r1_sroa_0_0_copyload_i_i_i111_i_i_i_i_i;
+    u64 p_v_r1_sroa_3_0_copyload_i_i_i113_i_i_i_i_i;
     P p_v_r3_sroa_0_08_i_i442_i_i;
     u64 p_v_r3_sroa_6_07_i_i443_i_i;
-    P p_v_r12_sroa_10_i465_sroa_3_0_ph_i_i;
-    u64 p_v_r12_sroa_10_i465_sroa_5_0_ph_i_i;
+    P p_v_r1_sroa_0_0_copyload_i_i_i78_i_i_i_i_ph_i;
+    u8 p_v_r20_i295_i_i;
+    P p_v_r1_sroa_0_0_copyload_i_i_i78_i_i_i_i_i;
+    u64 p_v_r1_sroa_3_0_copyload_i_i_i80_i_i_i_i_i;
     P p_v_r3_sroa_0_08_i_i536_i_i;
     u64 p_v_r3_sroa_6_07_i_i537_i_i;
-    P p_v_r12_sroa_10_i559_sroa_3_0_ph_i_i;
-    u64 p_v_r12_sroa_10_i559_sroa_5_0_ph_i_i;
+    P p_v_r1_sroa_0_0_copyload_i_i_i45_i_i_i_i_ph_i;
+    u8 p_v_r20_i305_i_i;
+    P p_v_r1_sroa_0_0_copyload_i_i_i45_i_i_i_i_i;
+    u64 p_v_r1_sroa_3_0_copyload_i_i_i47_i_i_i_i_i;
     P p_v_r3_sroa_0_08_i_i633_i_i;
     u64 p_v_r3_sroa_6_07_i_i634_i_i;
-    P p_v_r12_sroa_10_i656_sroa_3_0_ph_i_i;
-    u64 p_v_r12_sroa_10_i656_sroa_5_0_ph_i_i;
+    P p_v_r1_sroa_0_0_copyload_i_i_i12_i_i_i_i_ph_i;
+    u8 p_v_r20_i315_i_i;
+    P p_v_r1_sroa_0_0_copyload_i_i_i12_i_i_i_i_i;
+    u64 p_v_r1_sroa_3_0_copyload_i_i_i14_i_i_i_i_i;
     P p_v_r3_sroa_0_08_i_i730_i_i;
     u64 p_v_r3_sroa_6_07_i_i731_i_i;
-    P p_v_r12_sroa_10_i753_sroa_3_0_ph_i_i;
-    u64 p_v_r12_sroa_10_i753_sroa_5_0_ph_i_i;
+    P p_v_r1_sroa_0_0_copyload_i_i_i_i_i_i_i_ph_i;
+    u8 p_v_r20_i325_i_i;
+    P p_v_r1_sroa_0_0_copyload_i_i_i_i_i_i_i_i;
+    u64 p_v_r1_sroa_3_0_copyload_i_i_i_i_i_i_i_i;
     P p_v_r3_sroa_0_08_i_i827_i_i;
     u64 p_v_r3_sroa_6_07_i_i828_i_i;
-    P p_v_r12_sroa_10_i850_sroa_3_0_ph_i_i;
-    u64 p_v_r12_sroa_10_i850_sroa_5_0_ph_i_i;
+    P p_v_r1_sroa_0_0_copyload_i_i_i39_i_i_i_i_i_ph_i;
+    u8 p_v_r20_i335_i_i;
+    P p_v_r1_sroa_0_0_copyload_i_i_i39_i_i_i_i_i_i;
+    u64 p_v_r1_sroa_3_0_copyload_i_i_i41_i_i_i_i_i_i;
     P p_v_r3_sroa_0_08_i_i924_i_i;
     u64 p_v_r3_sroa_6_07_i_i925_i_i;
-    P p_v_r12_sroa_10_i947_sroa_3_0_ph_i_i;
-    u64 p_v_r12_sroa_10_i947_sroa_5_0_ph_i_i;
+    P p_v_r1_sroa_0_0_copyload_i_i_i6_i_i_i_i_i_ph_i;
+    u8 p_v_r20_i345_i_i;
+    P p_v_r1_sroa_0_0_copyload_i_i_i6_i_i_i_i_i_i;
+    u64 p_v_r1_sroa_3_0_copyload_i_i_i8_i_i_i_i_i_i;
     P p_v_r3_sroa_0_08_i_i1021_i_i;
     u64 p_v_r3_sroa_6_07_i_i1022_i_i;
+    P p_v_r12_sroa_10_i1044_sroa_3_0_ph_i_ph_i;
+    u8 p_v_r20_i355_i_i;
     u64 p_v_r12_sroa_10_i1044_sroa_5_0_ph_i_i;
     P p_v_r12_sroa_10_i1044_sroa_3_0_ph_i_i;
     P p_v_r9_i_i_i9_i;
     u64 p_v_r8_i_i_i_i;
-    P p_v_r9_i_i_i9399_i;
+    P p_v_r9_i_i_i9406_i;
     u64 p_v_a0_val2_i_i_i_i;
     u64 p_v_r5_0_i2297_i_i;
     P p_v_r3_sroa_0_08_i_i_i29_i;
@@ -32670,48 +32847,95 @@ u32 pkcs1_c_private_key_encode(P v_a0, P v_a1, u64 v_a2, P v_a3, u64 v_a4, P v_a
     u8 p_v_r72_sroa_11_0_ph_i_i;
     u8 p_v_r72_sroa_11_0_i_i;
     u64 p_v_r72_sroa_261213_sroa_0_0_ph_i_i;
-    u64 p_v_r7_sroa_66_3_i_i_i;
-    u64 p_v_r2_07_i_i_i_i_i_i_i_i_i;
-    u64 p_v_r0_04_i_i_i_i_i_i_i_i_i_i_i_i_i_i_i_i_i_i_i_i_i;
+    u64 p_v_r7_sroa_129_7_i_i_i;
+    u64 p_v_r2_07_i_i_i_i_i_i_i_i_i_i_i;
+    u64 p_v_r0_04_i_i_i_i_i_i_i_i_i_i_i_i_i_i_i_i_i_i_i_i_i_i___2;
     u64 p_v_niter;
-    u64 p_v_r0_04_i_i_i_i_i_i_i_i_i_i_i_i_i_i_i_i_i_i_i_i_i_ep;
-    u64 p_v_r0_04_i_i_i_i_i_i_i_i_i_i_i_i_i_i_i_i_i_i_i_i_i_ep__2;
+    u64 p_v_r0_04_i_i_i_i_i_i_i_i_i_i_i_i_i_i_i_i_i_i_i_i_i_i_;
+    u64 p_v_r0_04_i_i_i_i_i_i_i_i_i_i_i_i_i_i_i_i_i_i_i_i_i_i___3;
     u64 p_v_epil_iter;
-    u64 p_v_r7_sroa_66_4_i_i_i;
-    u64 p_v_r7_sroa_66_14_i_i_i;
-    u64 p_v_r0_04_i_i_i_i_i_i_i_i_i_i31_i_i_i_i_i_i_i_i_i_i_i;
-    u64 p_v_niter130;
-    u64 p_v_r0_04_i_i_i_i_i_i_i_i_i_i31_i_i_i_i_i_i_i_i_i_i_i_;
+    u64 p_v_r7_sroa_129_8_i_i_i;
+    u64 p_v_r7_sroa_129_26_i_i_i;
     u64 p_v_r0_04_i_i_i_i_i_i_i_i_i_i31_i_i_i_i_i_i_i_i_i_i_i___2;
-    u64 p_v_epil_iter126;
-    u64 p_v_r7_sroa_66_5_i_i_i;
-    u64 p_v_r7_sroa_66_13_i_i_i;
-    u64 p_v_r0_04_i_i_i_i_i_i_i_i_i_i64_i_i_i_i_i_i_i_i_i_i_i;
-    u64 p_v_niter136;
-    u64 p_v_r0_04_i_i_i_i_i_i_i_i_i_i64_i_i_i_i_i_i_i_i_i_i_i_;
+    u64 p_v_niter177;
+    u64 p_v_r0_04_i_i_i_i_i_i_i_i_i_i31_i_i_i_i_i_i_i_i_i_i_i_;
+    u64 p_v_r0_04_i_i_i_i_i_i_i_i_i_i31_i_i_i_i_i_i_i_i_i_i_i___3;
+    u64 p_v_epil_iter173;
+    u64 p_v_r7_sroa_129_9_i_i_i;
+    u64 p_v_r7_sroa_129_25_i_i_i;
     u64 p_v_r0_04_i_i_i_i_i_i_i_i_i_i64_i_i_i_i_i_i_i_i_i_i_i___2;
-    u64 p_v_epil_iter132;
-    u64 p_v_r7_sroa_66_6_i_i_i;
-    u64 p_v_r7_sroa_66_12_i_i_i;
-    u64 p_v_r7_sroa_66_11_i_i_i;
-    u64 p_v_r7_sroa_66_7_i_i_i;
-    u64 p_v_r7_sroa_66_1_i_i_i_ph;
-    u64 p_v_r7_sroa_66_1_i_i_i;
-    u64 p_v_r2_03_i_i_i_i_i_i;
+    u64 p_v_niter183;
+    u64 p_v_r0_04_i_i_i_i_i_i_i_i_i_i64_i_i_i_i_i_i_i_i_i_i_i_;
+    u64 p_v_r0_04_i_i_i_i_i_i_i_i_i_i64_i_i_i_i_i_i_i_i_i_i_i___3;
+    u64 p_v_epil_iter179;
+    u64 p_v_r7_sroa_129_10_i_i_i;
+    u64 p_v_r7_sroa_129_24_i_i_i;
+    u64 p_v_r7_sroa_129_23_i_i_i;
+    u64 p_v_r7_sroa_129_11_i_i_i;
+    u64 p_v_a1_val4_i_i_i_i_i_i_i_i;
     u64 p_v_r0_04_i_i_i_i_i_i_i_i_i_i_i_i_i_i_i_i;
-    u64 p_v_niter142;
+    u64 p_v_niter189;
     u64 p_v_r0_04_i_i_i_i_i_i_i_i_i_i_i_i_i_i_i_i_epil_init;
     u64 p_v_r0_04_i_i_i_i_i_i_i_i_i_i_i_i_i_i_i_i_epil;
-    u64 p_v_epil_iter138;
-    u64 p_v_r7_sroa_66_2_i_i_i;
-    u64 p_v_r7_sroa_66_9_i_i_i;
+    u64 p_v_epil_iter185;
+    u64 p_v_r7_sroa_129_0_i_i_i;
+    u64 p_v_r7_sroa_129_21_i_i_i;
+    u64 p_v_r0_04_i_i_i_i_i_i_i_i_i_i30_i_i_i_i_i_i;
+    u64 p_v_niter195;
+    u64 p_v_r0_04_i_i_i_i_i_i_i_i_i_i30_i_i_i_i_i_i_epil_init;
+    u64 p_v_r0_04_i_i_i_i_i_i_i_i_i_i30_i_i_i_i_i_i_epil;
+    u64 p_v_epil_iter191;
+    u64 p_v_r7_sroa_129_1_i_i_i;
+    u64 p_v_r7_sroa_129_20_i_i_i;
+    u64 p_v_r0_04_i_i_i_i_i_i_i_i_i_i63_i_i_i_i_i_i;
+    u64 p_v_niter201;
+    u64 p_v_r0_04_i_i_i_i_i_i_i_i_i_i63_i_i_i_i_i_i_epil_init;
+    u64 p_v_r0_04_i_i_i_i_i_i_i_i_i_i63_i_i_i_i_i_i_epil;
+    u64 p_v_epil_iter197;
+    u64 p_v_r7_sroa_129_2_i_i_i;
+    u64 p_v_r7_sroa_129_19_i_i_i;
+    u64 p_v_r0_04_i_i_i_i_i_i_i_i_i_i_i_i_i_i_i;
+    u64 p_v_niter207;
+    u64 p_v_r0_04_i_i_i_i_i_i_i_i_i_i_i_i_i_i_i_epil_init;
+    u64 p_v_r0_04_i_i_i_i_i_i_i_i_i_i_i_i_i_i_i_epil;
+    u64 p_v_epil_iter203;
+    u64 p_v_r7_sroa_129_3_i_i_i;
+    u64 p_v_r7_sroa_129_18_i_i_i;
+    u64 p_v_r0_04_i_i_i_i_i_i_i_i_i_i36_i_i_i_i_i;
+    u64 p_v_niter213;
+    u64 p_v_r0_04_i_i_i_i_i_i_i_i_i_i36_i_i_i_i_i_epil_init;
+    u64 p_v_r0_04_i_i_i_i_i_i_i_i_i_i36_i_i_i_i_i_epil;
+    u64 p_v_epil_iter209;
+    u64 p_v_r7_sroa_129_4_i_i_i;
+    u64 p_v_r7_sroa_129_17_i_i_i;
+    u64 p_v_r0_04_i_i_i_i_i_i_i_i_i_i69_i_i_i_i_i;
+    u64 p_v_niter219;
+    u64 p_v_r0_04_i_i_i_i_i_i_i_i_i_i69_i_i_i_i_i_epil_init;
+    u64 p_v_r0_04_i_i_i_i_i_i_i_i_i_i69_i_i_i_i_i_epil;
+    u64 p_v_epil_iter215;
+    u64 p_v_r7_sroa_129_5_i_i_i;
+    u64 p_v_r7_sroa_129_16_i_i_i;
+    u64 p_v_r0_04_i_i_i_i_i_i_i_i_i_i102_i_i_i_i_i;
+    u64 p_v_niter225;
+    u64 p_v_r0_04_i_i_i_i_i_i_i_i_i_i102_i_i_i_i_i_epil_init;
+    u64 p_v_r0_04_i_i_i_i_i_i_i_i_i_i102_i_i_i_i_i_epil;
+    u64 p_v_epil_iter221;
+    u64 p_v_r7_sroa_129_6_i_i_i;
+    u64 p_v_r7_sroa_129_15_i_i_i;
+    u64 p_v_r0_04_i_i_i_i_i_i_i_i_i_i135_i_i_i_i_i;
+    u64 p_v_niter231;
+    u64 p_v_r0_04_i_i_i_i_i_i_i_i_i_i135_i_i_i_i_i_epil_init;
+    u64 p_v_r0_04_i_i_i_i_i_i_i_i_i_i135_i_i_i_i_i_epil;
+    u64 p_v_epil_iter227;
+    u64 p_v_r7_sroa_129_12_i_i_i;
+    u64 p_v_r7_sroa_129_14_i_i_i;
     u32 p_v_r5_sroa_0_sroa_5_0_i_i;
+    u8 p_v_r48_i;
     u32 p_v_r8_0_i_i;
     u32 p_v_r11_sroa_22_0_ph_i;
     u32 p_v_common_ret_op_i;
     P v_r2_i_i_i;
     P v_r1_i_i_i;
-    P v_r4_i_i_i_i_i;
     P v_r10_i_i_i;
     P v_r4_i362_i_i;
     P v_r72_sroa_31_i_i;
@@ -32741,9 +32965,11 @@ u32 pkcs1_c_private_key_encode(P v_a0, P v_a1, u64 v_a2, P v_a3, u64 v_a4, P v_a
     u1 v_r14_i_i_i_i;
     u1 v_r7_i_i_i_i;
     u1 v_r49_i398_i_i;
-    P v_r12_sroa_10_i_sroa_3_0_ph_i_i;
-    u64 v_r12_sroa_10_i_sroa_5_0_ph_i_i;
+    P v_r1_sroa_0_0_copyload_i_i_i111_i_i_i_i_ph_i;
+    u8 v_r20_i288_i_pr_i;
     u8 v_r20_i288_i_i;
+    P v_r1_sroa_0_0_copyload_i_i_i111_i_i_i_i_i;
+    u64 v_r1_sroa_3_0_copyload_i_i_i113_i_i_i_i_i;
     u8 v_r20_i288_lobit_i_i;
     u64 v_i_i_i;
     P v_r106_i_i;
@@ -32762,9 +32988,11 @@ u32 pkcs1_c_private_key_encode(P v_a0, P v_a1, u64 v_a2, P v_a3, u64 v_a4, P v_a
     u1 v_r14_i_i456_i_i;
     u1 v_r7_i_i428_i_i;
     u1 v_r49_i447_i_i;
-    P v_r12_sroa_10_i465_sroa_3_0_ph_i_i;
-    u64 v_r12_sroa_10_i465_sroa_5_0_ph_i_i;
+    P v_r1_sroa_0_0_copyload_i_i_i78_i_i_i_i_ph_i;
+    u8 v_r20_i295_i_pr_i;
     u8 v_r20_i295_i_i;
+    P v_r1_sroa_0_0_copyload_i_i_i78_i_i_i_i_i;
+    u64 v_r1_sroa_3_0_copyload_i_i_i80_i_i_i_i_i;
     u8 v_r20_i295_lobit_i_i;
     u64 v_i297_i_i;
     P v_r135_i_i;
@@ -32783,9 +33011,11 @@ u32 pkcs1_c_private_key_encode(P v_a0, P v_a1, u64 v_a2, P v_a3, u64 v_a4, P v_a
     u1 v_r14_i_i550_i_i;
     u1 v_r7_i_i522_i_i;
     u1 v_r49_i541_i_i;
-    P v_r12_sroa_10_i559_sroa_3_0_ph_i_i;
-    u64 v_r12_sroa_10_i559_sroa_5_0_ph_i_i;
+    P v_r1_sroa_0_0_copyload_i_i_i45_i_i_i_i_ph_i;
+    u8 v_r20_i305_i_pr_i;
     u8 v_r20_i305_i_i;
+    P v_r1_sroa_0_0_copyload_i_i_i45_i_i_i_i_i;
+    u64 v_r1_sroa_3_0_copyload_i_i_i47_i_i_i_i_i;
     u8 v_r20_i305_lobit_i_i;
     u64 v_i307_i_i;
     P v_r164_i_i;
@@ -32804,9 +33034,11 @@ u32 pkcs1_c_private_key_encode(P v_a0, P v_a1, u64 v_a2, P v_a3, u64 v_a4, P v_a
     u1 v_r14_i_i647_i_i;
     u1 v_r7_i_i619_i_i;
     u1 v_r49_i638_i_i;
-    P v_r12_sroa_10_i656_sroa_3_0_ph_i_i;
-    u64 v_r12_sroa_10_i656_sroa_5_0_ph_i_i;
+    P v_r1_sroa_0_0_copyload_i_i_i12_i_i_i_i_ph_i;
+    u8 v_r20_i315_i_pr_i;
     u8 v_r20_i315_i_i;
+    P v_r1_sroa_0_0_copyload_i_i_i12_i_i_i_i_i;
+    u64 v_r1_sroa_3_0_copyload_i_i_i14_i_i_i_i_i;
     u8 v_r20_i315_lobit_i_i;
     u64 v_i317_i_i;
     P v_r193_i_i;
@@ -32825,9 +33057,11 @@ u32 pkcs1_c_private_key_encode(P v_a0, P v_a1, u64 v_a2, P v_a3, u64 v_a4, P v_a
     u1 v_r14_i_i744_i_i;
     u1 v_r7_i_i716_i_i;
     u1 v_r49_i735_i_i;
-    P v_r12_sroa_10_i753_sroa_3_0_ph_i_i;
-    u64 v_r12_sroa_10_i753_sroa_5_0_ph_i_i;
+    P v_r1_sroa_0_0_copyload_i_i_i_i_i_i_i_ph_i;
+    u8 v_r20_i325_i_pr_i;
     u8 v_r20_i325_i_i;
+    P v_r1_sroa_0_0_copyload_i_i_i_i_i_i_i_i;
+    u64 v_r1_sroa_3_0_copyload_i_i_i_i_i_i_i_i;
     u8 v_r20_i325_lobit_i_i;
     u64 v_i327_i_i;
     P v_r222_i_i;
@@ -32846,9 +33080,11 @@ u32 pkcs1_c_private_key_encode(P v_a0, P v_a1, u64 v_a2, P v_a3, u64 v_a4, P v_a
     u1 v_r14_i_i841_i_i;
     u1 v_r7_i_i813_i_i;
     u1 v_r49_i832_i_i;
-    P v_r12_sroa_10_i850_sroa_3_0_ph_i_i;
-    u64 v_r12_sroa_10_i850_sroa_5_0_ph_i_i;
+    P v_r1_sroa_0_0_copyload_i_i_i39_i_i_i_i_i_ph_i;
+    u8 v_r20_i335_i_pr_i;
     u8 v_r20_i335_i_i;
+    P v_r1_sroa_0_0_copyload_i_i_i39_i_i_i_i_i_i;
+    u64 v_r1_sroa_3_0_copyload_i_i_i41_i_i_i_i_i_i;
     u8 v_r20_i335_lobit_i_i;
     u64 v_i337_i_i;
     P v_r251_i_i;
@@ -32867,9 +33103,11 @@ u32 pkcs1_c_private_key_encode(P v_a0, P v_a1, u64 v_a2, P v_a3, u64 v_a4, P v_a
     u1 v_r14_i_i938_i_i;
     u1 v_r7_i_i910_i_i;
     u1 v_r49_i929_i_i;
-    P v_r12_sroa_10_i947_sroa_3_0_ph_i_i;
-    u64 v_r12_sroa_10_i947_sroa_5_0_ph_i_i;
+    P v_r1_sroa_0_0_copyload_i_i_i6_i_i_i_i_i_ph_i;
+    u8 v_r20_i345_i_pr_i;
     u8 v_r20_i345_i_i;
+    P v_r1_sroa_0_0_copyload_i_i_i6_i_i_i_i_i_i;
+    u64 v_r1_sroa_3_0_copyload_i_i_i8_i_i_i_i_i_i;
     u8 v_r20_i345_lobit_i_i;
     u64 v_i347_i_i;
     P v_r280_i_i;
@@ -32888,9 +33126,11 @@ u32 pkcs1_c_private_key_encode(P v_a0, P v_a1, u64 v_a2, P v_a3, u64 v_a4, P v_a
     u1 v_r14_i_i1035_i_i;
     u1 v_r7_i_i1007_i_i;
     u1 v_r49_i1026_i_i;
+    P v_r12_sroa_10_i1044_sroa_3_0_ph_i_ph_i;
+    u8 v_r20_i355_i_pr_i;
+    u8 v_r20_i355_i_i;
     u64 v_r12_sroa_10_i1044_sroa_5_0_ph_i_i;
     P v_r12_sroa_10_i1044_sroa_3_0_ph_i_i;
-    u8 v_r20_i355_i_i;
     u8 v_r20_i355_lobit_i_i;
     u64 v_i357_i_i;
     u1 v_r7_i1102_i_i;
@@ -32911,7 +33151,7 @@ u32 pkcs1_c_private_key_encode(P v_a0, P v_a1, u64 v_a2, P v_a3, u64 v_a4, P v_a
     u64 v_r17_i_i_i_i;
     u64 v_r118_i_i_i;
     u1 v_exitcond_not_i_i;
-    P v_r9_i_i_i9399_i;
+    P v_r9_i_i_i9406_i;
     u64 v_a0_val2_i_i_i_i;
     u64 v_r5_0_i2297_i_i;
     u64 v_r64_i_i_i;
@@ -33031,426 +33271,410 @@ u32 pkcs1_c_private_key_encode(P v_a0, P v_a1, u64 v_a2, P v_a3, u64 v_a4, P v_a
     u8 v_r1_sroa_3_1_copyload_i_i_i_i;
     u32 v_16;
     u32 v_17;
-    P v_r3_sroa_3_0_r4_sroa_idx_i_i_i_i_i;
-    P v_r3_sroa_4_0_r4_sroa_idx_i_i_i_i_i;
-    P v_r3_sroa_5_0_r4_sroa_idx_i_i_i_i_i;
-    P v_r3_sroa_6_0_r4_sroa_idx_i_i_i_i_i;
-    P v_r3_sroa_7_0_r4_sroa_idx_i_i_i_i_i;
-    P v_r3_sroa_8_0_r4_sroa_idx_i_i_i_i_i;
-    P v_r3_sroa_9_0_r4_sroa_idx_i_i_i_i_i;
-    P v_r3_val_i_i_i_i_i_i;
+    P v_r6_i1_val_val_i_i_i_i_i_i_i;
     P v_18;
-    u64 v_r3_val1_i_i_i_i_i_i;
-    u1 v_r11_not6_i_i_i_i_i_i_i_i_i;
-    u64 v_r7_sroa_66_3_i_i_i;
-    u64 v_r2_07_i_i_i_i_i_i_i_i_i;
-    u64 v_r16_i_i_i_i_i_i_i_i_i;
-    u64 v_r18_i_i_i_i_i_i_i_i_i;
-    P v_r21_i_i_i_i_i_i_i_i_i;
-    P v_r12_i_i_i_i_i_i_i_i_i_i_i;
-    P v_r16_i_i_i_i_i_i_i_i_i_i_i;
-    P v_r1_sroa_0_0_copyload_i_i_i_i_i_i_i_i_i_i_i_i_i_i;
+    u64 v_r6_i1_val_val2_i_i_i_i_i_i_i;
+    u1 v_r11_not6_i_i_i_i_i_i_i_i_i_i_i;
+    u64 v_r7_sroa_129_7_i_i_i;
+    u64 v_r2_07_i_i_i_i_i_i_i_i_i_i_i;
+    u64 v_r16_i_i_i_i_i_i_i_i_i_i_i;
+    u64 v_r18_i_i_i_i_i_i_i_i_i_i_i;
+    P v_r21_i_i_i_i_i_i_i_i_i_i_i;
+    P v_r12_i_i_i_i_i_i_i_i_i_i_i_i_i;
+    P v_r16_i_i_i_i_i_i_i_i_i_i_i_i_i;
+    P v_r1_sroa_0_0_copyload_i_i_i_i_i_i_i_i_i_i_i_i_i_i_i;
     P v_r1_sroa_3_0_a0_sroa_idx_i_i_i_i_i_i_i_i_i_i_i_i_i_;
-    u64 v_r1_sroa_3_0_copyload_i_i_i_i_i_i_i_i_i_i_i_i_i_i;
-    u64 v_r17_i_i_i_i_i_i_i_i_i_i_i_i_i_i_i;
-    P v_r26_i_i_i_i_i_i_i_i_i_i_i_i_i_i_i;
-    u64 v_r8_i_i_i_i_i_i_i_i_i_i_i_i_i_i_i_i_i_i_i_i_i;
-    u64 v_r9_i_i_i_i_i_i_i_i_i_i_i_i_i_i_i_i_i_i_i_i_i;
-    u64 v_r10_i_i_i_i_i_i_i_i_i_i_i_i_i_i_i_i_i_i_i_i_i;
-    u1 v_r11_i_i_i_i_i_i_i_i_i_i_i_i_i_i_i_i_i_i_i_i_i;
+    u64 v_r1_sroa_3_0_copyload_i_i_i_i_i_i_i_i_i_i_i_i_i_i_i;
+    u64 v_r17_i_i_i_i_i_i_i_i_i_i_i_i_i_i_i_i_i;
+    P v_r26_i_i_i_i_i_i_i_i_i_i_i_i_i_i_i_i_i;
+    u64 v_r8_i_i_i_i_i_i_i_i_i_i_i_i_i_i_i_i_i_i_i_i_i_i_i;
+    u64 v_r9_i_i_i_i_i_i_i_i_i_i_i_i_i_i_i_i_i_i_i_i_i_i_i;
+    u64 v_r10_i_i_i_i_i_i_i_i_i_i_i_i_i_i_i_i_i_i_i_i_i_i_i;
+    u1 v_r11_i_i_i_i_i_i_i_i_i_i_i_i_i_i_i_i_i_i_i_i_i_i_i;
     u64 v_xtraiter;
     u1 v_19;
     u64 v_unroll_iter;
-    u64 v_r0_04_i_i_i_i_i_i_i_i_i_i_i_i_i_i_i_i_i_i_i_i_i;
+    u64 v_r0_04_i_i_i_i_i_i_i_i_i_i_i_i_i_i_i_i_i_i_i_i_i_i___2;
     u64 v_niter;
-    P v_r20_i_i_i_i_i_i_i_i_i_i_i_i_i_i_i_i_i_i_i_i_i;
-    P v_r24_i_i_i_i_i_i_i_i_i_i_i_i_i_i_i_i_i_i_i_i_i;
-    u8 v_r26_i_i_i_i_i_i_i_i_i_i_i_i_i_i_i_i_i_i_i_i_i;
-    u64 v_r30_i_i_i_i_i_i_i_i_i_i_i_i_i_i_i_i_i_i_i_i_i;
-    P v_r20_i_i_i_i_i_i_i_i_i_i_i_i_i_i_i_i_i_i_i_i_i_1;
-    P v_r24_i_i_i_i_i_i_i_i_i_i_i_i_i_i_i_i_i_i_i_i_i_1;
-    u8 v_r26_i_i_i_i_i_i_i_i_i_i_i_i_i_i_i_i_i_i_i_i_i_1;
-    u64 v_r30_i_i_i_i_i_i_i_i_i_i_i_i_i_i_i_i_i_i_i_i_i_1;
-    P v_r20_i_i_i_i_i_i_i_i_i_i_i_i_i_i_i_i_i_i_i_i_i_2;
-    P v_r24_i_i_i_i_i_i_i_i_i_i_i_i_i_i_i_i_i_i_i_i_i_2;
-    u8 v_r26_i_i_i_i_i_i_i_i_i_i_i_i_i_i_i_i_i_i_i_i_i_2;
-    u64 v_r30_i_i_i_i_i_i_i_i_i_i_i_i_i_i_i_i_i_i_i_i_i_2;
-    P v_r20_i_i_i_i_i_i_i_i_i_i_i_i_i_i_i_i_i_i_i_i_i_3;
-    P v_r24_i_i_i_i_i_i_i_i_i_i_i_i_i_i_i_i_i_i_i_i_i_3;
-    u8 v_r26_i_i_i_i_i_i_i_i_i_i_i_i_i_i_i_i_i_i_i_i_i_3;
-    u64 v_r30_i_i_i_i_i_i_i_i_i_i_i_i_i_i_i_i_i_i_i_i_i_3;
+    P v_r20_i_i_i_i_i_i_i_i_i_i_i_i_i_i_i_i_i_i_i_i_i_i_i;
+    P v_r24_i_i_i_i_i_i_i_i_i_i_i_i_i_i_i_i_i_i_i_i_i_i_i;
+    u8 v_r26_i_i_i_i_i_i_i_i_i_i_i_i_i_i_i_i_i_i_i_i_i_i_i;
+    u64 v_r30_i_i_i_i_i_i_i_i_i_i_i_i_i_i_i_i_i_i_i_i_i_i_i;
+    P v_r20_i_i_i_i_i_i_i_i_i_i_i_i_i_i_i_i_i_i_i_i_i_i_i_;
+    P v_r24_i_i_i_i_i_i_i_i_i_i_i_i_i_i_i_i_i_i_i_i_i_i_i_;
+    u8 v_r26_i_i_i_i_i_i_i_i_i_i_i_i_i_i_i_i_i_i_i_i_i_i_i_;
+    u64 v_r30_i_i_i_i_i_i_i_i_i_i_i_i_i_i_i_i_i_i_i_i_i_i_i_;
+    P v_r20_i_i_i_i_i_i_i_i_i_i_i_i_i_i_i_i_i_i_i_i_i_i_i___2;
+    P v_r24_i_i_i_i_i_i_i_i_i_i_i_i_i_i_i_i_i_i_i_i_i_i_i___2;
+    u8 v_r26_i_i_i_i_i_i_i_i_i_i_i_i_i_i_i_i_i_i_i_i_i_i_i___2;
+    u64 v_r30_i_i_i_i_i_i_i_i_i_i_i_i_i_i_i_i_i_i_i_i_i_i_i___2;
+    P v_r20_i_i_i_i_i_i_i_i_i_i_i_i_i_i_i_i_i_i_i_i_i_i_i___3;
+    P v_r24_i_i_i_i_i_i_i_i_i_i_i_i_i_i_i_i_i_i_i_i_i_i_i___3;
+    u8 v_r26_i_i_i_i_i_i_i_i_i_i_i_i_i_i_i_i_i_i_i_i_i_i_i___3;
+    u64 v_r30_i_i_i_i_i_i_i_i_i_i_i_i_i_i_i_i_i_i_i_i_i_i_i___3;
     u64 v_niter_next_3;
     u1 v_niter_ncmp_3;
     u1 v_lcmp_mod_not;
-    u64 v_r0_04_i_i_i_i_i_i_i_i_i_i_i_i_i_i_i_i_i_i_i_i_i_ep;
-    u64 v_r0_04_i_i_i_i_i_i_i_i_i_i_i_i_i_i_i_i_i_i_i_i_i_ep__2;
+    u64 v_r0_04_i_i_i_i_i_i_i_i_i_i_i_i_i_i_i_i_i_i_i_i_i_i_;
+    u64 v_r0_04_i_i_i_i_i_i_i_i_i_i_i_i_i_i_i_i_i_i_i_i_i_i___3;
     u64 v_epil_iter;
-    P v_r20_i_i_i_i_i_i_i_i_i_i_i_i_i_i_i_i_i_i_i_i_i_epil;
-    P v_r24_i_i_i_i_i_i_i_i_i_i_i_i_i_i_i_i_i_i_i_i_i_epil;
-    u8 v_r26_i_i_i_i_i_i_i_i_i_i_i_i_i_i_i_i_i_i_i_i_i_epil;
-    u64 v_r30_i_i_i_i_i_i_i_i_i_i_i_i_i_i_i_i_i_i_i_i_i_epil;
+    P v_r20_i_i_i_i_i_i_i_i_i_i_i_i_i_i_i_i_i_i_i_i_i_i_i___4;
+    P v_r24_i_i_i_i_i_i_i_i_i_i_i_i_i_i_i_i_i_i_i_i_i_i_i___4;
+    u8 v_r26_i_i_i_i_i_i_i_i_i_i_i_i_i_i_i_i_i_i_i_i_i_i_i___4;
+    u64 v_r30_i_i_i_i_i_i_i_i_i_i_i_i_i_i_i_i_i_i_i_i_i_i_i___4;
     u64 v_epil_iter_next;
     u1 v_epil_iter_cmp_not;
-    P v_r12_i_i_i_i_i_i_i_i_i_i_i_i_i_i;
-    u64 v_r13_i_i_i_i_i_i_i_i_i_i_i_i_i_i;
-    u1 v_r15_not_i_i_i_i_i_i_i_i_i_i_i_i_i_i;
-    u64 v_r17_i3_i_i_i_i_i_i_i_i_i_i_i_i_i_i;
-    P v_r26_i5_i_i_i_i_i_i_i_i_i_i_i_i_i_i;
-    u64 v_r7_sroa_66_4_i_i_i;
+    P v_r12_i_i_i_i_i_i_i_i_i_i_i_i_i_i_i_i;
+    u64 v_r13_i_i_i_i_i_i_i_i_i_i_i_i_i_i_i_i;
+    u1 v_r15_not_i_i_i_i_i_i_i_i_i_i_i_i_i_i_i_i;
+    u64 v_r17_i3_i_i_i_i_i_i_i_i_i_i_i_i_i_i_i_i;
+    P v_r26_i5_i_i_i_i_i_i_i_i_i_i_i_i_i_i_i_i;
+    u64 v_r7_sroa_129_8_i_i_i;
     u64 v_20;
     u64 v_21;
     u32 v_22;
-    u32 v_r2_i_i_i_i_i_i_i_i_i_i_i_i_i_i;
-    u1 v_r59_i474_i_i_i;
-    u16 v_r64_i536_i_i_i;
-    u64 v_r17_i_i540_i_i_i;
-    P v_r26_i_i542_i_i_i;
-    u16 v_r8_i469_sroa_4_0_insert_shift_i_i_i;
-    u16 v_r8_i469_sroa_0_0_insert_insert_i_i_i;
-    u1 v_r75_i476_i_i_i;
-    u8 v_r80_i527_i_i_i;
-    u64 v_r17_i28_i532_i_i_i;
-    P v_r26_i30_i534_i_i_i;
-    P v_r14_i470_sroa_4_0_r26_i30_i534_sroa_idx_i_i_i;
-    P v_r14_i470_sroa_5_0_r26_i30_i534_sroa_idx_i_i_i;
-    u1 v_r92_i478_i_i_i;
-    u64 v_r17_i46_i522_i_i_i;
-    P v_r26_i48_i524_i_i_i;
+    u32 v_r2_i_i_i_i_i_i_i_i_i_i_i_i_i_i_i_i;
+    u1 v_r59_i1008_i_i_i;
+    u16 v_r64_i1070_i_i_i;
+    u64 v_r17_i_i1074_i_i_i;
+    P v_r26_i_i1076_i_i_i;
+    u16 v_r8_i1003_sroa_4_0_insert_shift_i_i_i;
+    u16 v_r8_i1003_sroa_0_0_insert_insert_i_i_i;
+    u1 v_r75_i1010_i_i_i;
+    u8 v_r80_i1061_i_i_i;
+    u64 v_r17_i28_i1066_i_i_i;
+    P v_r26_i30_i1068_i_i_i;
+    P v_r14_i1004_sroa_4_0_r26_i30_i1068_sroa_idx_i_i_i;
+    P v_r14_i1004_sroa_5_0_r26_i30_i1068_sroa_idx_i_i_i;
+    u1 v_r92_i1012_i_i_i;
+    u64 v_r17_i46_i1056_i_i_i;
+    P v_r26_i48_i1058_i_i_i;
     u32 v_23;
-    u32 v_r20_i471_sroa_0_0_insert_insert_i_i_i;
-    u1 v_r117_i480_i_i_i;
-    u32 v_r12223_i500_i_i_i;
-    u8 v_r124_i501_i_i_i;
-    u32 v_r12624_i502_i_i_i;
-    u8 v_r130_i503_i_i_i;
-    u8 v_r134_i504_i_i_i;
-    u64 v_r17_i64_i511_i_i_i;
-    P v_r26_i66_i513_i_i_i;
-    P v_r29_i472_sroa_4_0_r26_i66_i513_sroa_idx_i_i_i;
-    P v_r29_i472_sroa_5_0_r26_i66_i513_sroa_idx_i_i_i;
-    P v_r29_i472_sroa_6_0_r26_i66_i513_sroa_idx_i_i_i;
-    P v_r29_i472_sroa_7_0_r26_i66_i513_sroa_idx_i_i_i;
-    u32 v_r15020_i482_i_i_i;
-    u8 v_r152_i483_i_i_i;
-    u32 v_r15421_i484_i_i_i;
-    u8 v_r158_i485_i_i_i;
-    u32 v_r16022_i486_i_i_i;
-    u8 v_r164_i487_i_i_i;
-    u8 v_r168_i488_i_i_i;
-    u64 v_r17_i82_i496_i_i_i;
-    P v_r26_i84_i498_i_i_i;
-    P v_r40_i473_sroa_4_0_r26_i84_i498_sroa_idx_i_i_i;
-    P v_r40_i473_sroa_5_0_r26_i84_i498_sroa_idx_i_i_i;
-    P v_r40_i473_sroa_6_0_r26_i84_i498_sroa_idx_i_i_i;
-    P v_r40_i473_sroa_7_0_r26_i84_i498_sroa_idx_i_i_i;
-    P v_r40_i473_sroa_8_0_r26_i84_i498_sroa_idx_i_i_i;
-    u64 v_r7_sroa_66_14_i_i_i;
-    P v_r1_sroa_0_0_copyload_i_i_i7_i_i_i_i_i_i_i_i_i_i_i;
+    u32 v_r20_i1005_sroa_0_0_insert_insert_i_i_i;
+    u1 v_r117_i1014_i_i_i;
+    u32 v_r12223_i1034_i_i_i;
+    u8 v_r124_i1035_i_i_i;
+    u32 v_r12624_i1036_i_i_i;
+    u8 v_r130_i1037_i_i_i;
+    u8 v_r134_i1038_i_i_i;
+    u64 v_r17_i64_i1045_i_i_i;
+    P v_r26_i66_i1047_i_i_i;
+    P v_r29_i1006_sroa_4_0_r26_i66_i1047_sroa_idx_i_i_i;
+    P v_r29_i1006_sroa_5_0_r26_i66_i1047_sroa_idx_i_i_i;
+    P v_r29_i1006_sroa_6_0_r26_i66_i1047_sroa_idx_i_i_i;
+    P v_r29_i1006_sroa_7_0_r26_i66_i1047_sroa_idx_i_i_i;
+    u32 v_r15020_i1016_i_i_i;
+    u8 v_r152_i1017_i_i_i;
+    u32 v_r15421_i1018_i_i_i;
+    u8 v_r158_i1019_i_i_i;
+    u32 v_r16022_i1020_i_i_i;
+    u8 v_r164_i1021_i_i_i;
+    u8 v_r168_i1022_i_i_i;
+    u64 v_r17_i82_i1030_i_i_i;
+    P v_r26_i84_i1032_i_i_i;
+    P v_r40_i1007_sroa_4_0_r26_i84_i1032_sroa_idx_i_i_i;
+    P v_r40_i1007_sroa_5_0_r26_i84_i1032_sroa_idx_i_i_i;
+    P v_r40_i1007_sroa_6_0_r26_i84_i1032_sroa_idx_i_i_i;
+    P v_r40_i1007_sroa_7_0_r26_i84_i1032_sroa_idx_i_i_i;
+    P v_r40_i1007_sroa_8_0_r26_i84_i1032_sroa_idx_i_i_i;
+    u64 v_r7_sroa_129_26_i_i_i;
+    P v_r1_sroa_0_0_copyload_i_i_i7_i_i_i_i_i_i_i_i_i_i_i_;
     P v_r1_sroa_3_0_a0_sroa_idx_i_i_i8_i_i_i_i_i_i_i_i_i_i;
-    u64 v_r1_sroa_3_0_copyload_i_i_i9_i_i_i_i_i_i_i_i_i_i_i;
-    u64 v_r17_i_i_i_i10_i_i_i_i_i_i_i_i_i_i_i;
-    P v_r26_i_i_i_i12_i_i_i_i_i_i_i_i_i_i_i;
-    u64 v_r8_i_i_i_i_i_i_i_i_i_i13_i_i_i_i_i_i_i_i_i_i_i;
-    u64 v_r9_i_i_i_i_i_i_i_i_i_i14_i_i_i_i_i_i_i_i_i_i_i;
-    u64 v_r10_i_i_i_i_i_i_i_i_i_i15_i_i_i_i_i_i_i_i_i_i_i;
-    u1 v_r11_i_i_i_i_i_i_i_i_i_i16_i_i_i_i_i_i_i_i_i_i_i;
-    u64 v_xtraiter125;
+    u64 v_r1_sroa_3_0_copyload_i_i_i9_i_i_i_i_i_i_i_i_i_i_i_;
+    u64 v_r17_i_i_i_i10_i_i_i_i_i_i_i_i_i_i_i_i_i;
+    P v_r26_i_i_i_i12_i_i_i_i_i_i_i_i_i_i_i_i_i;
+    u64 v_r8_i_i_i_i_i_i_i_i_i_i13_i_i_i_i_i_i_i_i_i_i_i_i_i;
+    u64 v_r9_i_i_i_i_i_i_i_i_i_i14_i_i_i_i_i_i_i_i_i_i_i_i_i;
+    u64 v_r10_i_i_i_i_i_i_i_i_i_i15_i_i_i_i_i_i_i_i_i_i_i_i_;
+    u1 v_r11_i_i_i_i_i_i_i_i_i_i16_i_i_i_i_i_i_i_i_i_i_i_i_;
+    u64 v_xtraiter172;
     u1 v_24;
-    u64 v_unroll_iter129;
-    u64 v_r0_04_i_i_i_i_i_i_i_i_i_i31_i_i_i_i_i_i_i_i_i_i_i;
-    u64 v_niter130;
-    P v_r20_i_i_i_i_i_i_i_i_i_i32_i_i_i_i_i_i_i_i_i_i_i;
-    P v_r24_i_i_i_i_i_i_i_i_i_i33_i_i_i_i_i_i_i_i_i_i_i;
-    u8 v_r26_i_i_i_i_i_i_i_i_i_i34_i_i_i_i_i_i_i_i_i_i_i;
-    u64 v_r30_i_i_i_i_i_i_i_i_i_i35_i_i_i_i_i_i_i_i_i_i_i;
-    P v_r20_i_i_i_i_i_i_i_i_i_i32_i_i_i_i_i_i_i_i_i_i_i_1;
-    P v_r24_i_i_i_i_i_i_i_i_i_i33_i_i_i_i_i_i_i_i_i_i_i_1;
-    u8 v_r26_i_i_i_i_i_i_i_i_i_i34_i_i_i_i_i_i_i_i_i_i_i_1;
-    u64 v_r30_i_i_i_i_i_i_i_i_i_i35_i_i_i_i_i_i_i_i_i_i_i_1;
-    P v_r20_i_i_i_i_i_i_i_i_i_i32_i_i_i_i_i_i_i_i_i_i_i_2;
-    P v_r24_i_i_i_i_i_i_i_i_i_i33_i_i_i_i_i_i_i_i_i_i_i_2;
-    u8 v_r26_i_i_i_i_i_i_i_i_i_i34_i_i_i_i_i_i_i_i_i_i_i_2;
-    u64 v_r30_i_i_i_i_i_i_i_i_i_i35_i_i_i_i_i_i_i_i_i_i_i_2;
-    P v_r20_i_i_i_i_i_i_i_i_i_i32_i_i_i_i_i_i_i_i_i_i_i_3;
-    P v_r24_i_i_i_i_i_i_i_i_i_i33_i_i_i_i_i_i_i_i_i_i_i_3;
-    u8 v_r26_i_i_i_i_i_i_i_i_i_i34_i_i_i_i_i_i_i_i_i_i_i_3;
-    u64 v_r30_i_i_i_i_i_i_i_i_i_i35_i_i_i_i_i_i_i_i_i_i_i_3;
-    u64 v_niter130_next_3;
-    u1 v_niter130_ncmp_3;
-    u1 v_lcmp_mod127_not;
-    u64 v_r0_04_i_i_i_i_i_i_i_i_i_i31_i_i_i_i_i_i_i_i_i_i_i_;
+    u64 v_unroll_iter176;
     u64 v_r0_04_i_i_i_i_i_i_i_i_i_i31_i_i_i_i_i_i_i_i_i_i_i___2;
-    u64 v_epil_iter126;
-    P v_r20_i_i_i_i_i_i_i_i_i_i32_i_i_i_i_i_i_i_i_i_i_i_ep;
-    P v_r24_i_i_i_i_i_i_i_i_i_i33_i_i_i_i_i_i_i_i_i_i_i_ep;
-    u8 v_r26_i_i_i_i_i_i_i_i_i_i34_i_i_i_i_i_i_i_i_i_i_i_ep;
-    u64 v_r30_i_i_i_i_i_i_i_i_i_i35_i_i_i_i_i_i_i_i_i_i_i_ep;
-    u64 v_epil_iter126_next;
-    u1 v_epil_iter126_cmp_not;
-    P v_r12_i_i_i19_i_i_i_i_i_i_i_i_i_i_i;
-    u64 v_r13_i_i_i20_i_i_i_i_i_i_i_i_i_i_i;
-    u1 v_r15_not_i_i_i21_i_i_i_i_i_i_i_i_i_i_i;
-    u64 v_r17_i3_i_i_i23_i_i_i_i_i_i_i_i_i_i_i;
-    P v_r26_i5_i_i_i25_i_i_i_i_i_i_i_i_i_i_i;
-    u64 v_r7_sroa_66_5_i_i_i;
+    u64 v_niter177;
+    P v_r20_i_i_i_i_i_i_i_i_i_i32_i_i_i_i_i_i_i_i_i_i_i_i_;
+    P v_r24_i_i_i_i_i_i_i_i_i_i33_i_i_i_i_i_i_i_i_i_i_i_i_;
+    u8 v_r26_i_i_i_i_i_i_i_i_i_i34_i_i_i_i_i_i_i_i_i_i_i_i_;
+    u64 v_r30_i_i_i_i_i_i_i_i_i_i35_i_i_i_i_i_i_i_i_i_i_i_i_;
+    P v_r20_i_i_i_i_i_i_i_i_i_i32_i_i_i_i_i_i_i_i_i_i_i_i___2;
+    P v_r24_i_i_i_i_i_i_i_i_i_i33_i_i_i_i_i_i_i_i_i_i_i_i___2;
+    u8 v_r26_i_i_i_i_i_i_i_i_i_i34_i_i_i_i_i_i_i_i_i_i_i_i___2;
+    u64 v_r30_i_i_i_i_i_i_i_i_i_i35_i_i_i_i_i_i_i_i_i_i_i_i___2;
+    P v_r20_i_i_i_i_i_i_i_i_i_i32_i_i_i_i_i_i_i_i_i_i_i_i___3;
+    P v_r24_i_i_i_i_i_i_i_i_i_i33_i_i_i_i_i_i_i_i_i_i_i_i___3;
+    u8 v_r26_i_i_i_i_i_i_i_i_i_i34_i_i_i_i_i_i_i_i_i_i_i_i___3;
+    u64 v_r30_i_i_i_i_i_i_i_i_i_i35_i_i_i_i_i_i_i_i_i_i_i_i___3;
+    P v_r20_i_i_i_i_i_i_i_i_i_i32_i_i_i_i_i_i_i_i_i_i_i_i___4;
+    P v_r24_i_i_i_i_i_i_i_i_i_i33_i_i_i_i_i_i_i_i_i_i_i_i___4;
+    u8 v_r26_i_i_i_i_i_i_i_i_i_i34_i_i_i_i_i_i_i_i_i_i_i_i___4;
+    u64 v_r30_i_i_i_i_i_i_i_i_i_i35_i_i_i_i_i_i_i_i_i_i_i_i___4;
+    u64 v_niter177_next_3;
+    u1 v_niter177_ncmp_3;
+    u1 v_lcmp_mod174_not;
+    u64 v_r0_04_i_i_i_i_i_i_i_i_i_i31_i_i_i_i_i_i_i_i_i_i_i_;
+    u64 v_r0_04_i_i_i_i_i_i_i_i_i_i31_i_i_i_i_i_i_i_i_i_i_i___3;
+    u64 v_epil_iter173;
+    P v_r20_i_i_i_i_i_i_i_i_i_i32_i_i_i_i_i_i_i_i_i_i_i_i___5;
+    P v_r24_i_i_i_i_i_i_i_i_i_i33_i_i_i_i_i_i_i_i_i_i_i_i___5;
+    u8 v_r26_i_i_i_i_i_i_i_i_i_i34_i_i_i_i_i_i_i_i_i_i_i_i___5;
+    u64 v_r30_i_i_i_i_i_i_i_i_i_i35_i_i_i_i_i_i_i_i_i_i_i_i___5;
+    u64 v_epil_iter173_next;
+    u1 v_epil_iter173_cmp_not;
+    P v_r12_i_i_i19_i_i_i_i_i_i_i_i_i_i_i_i_i;
+    u64 v_r13_i_i_i20_i_i_i_i_i_i_i_i_i_i_i_i_i;
+    u1 v_r15_not_i_i_i21_i_i_i_i_i_i_i_i_i_i_i_i_i;
+    u64 v_r17_i3_i_i_i23_i_i_i_i_i_i_i_i_i_i_i_i_i;
+    P v_r26_i5_i_i_i25_i_i_i_i_i_i_i_i_i_i_i_i_i;
+    u64 v_r7_sroa_129_9_i_i_i;
     u64 v_25;
     u64 v_26;
     u32 v_27;
-    u32 v_r2_i_i_i29_i_i_i_i_i_i_i_i_i_i_i;
-    u1 v_r59_i398_i_i_i;
-    u16 v_r64_i460_i_i_i;
-    u64 v_r17_i_i464_i_i_i;
-    P v_r26_i_i466_i_i_i;
-    u16 v_r8_i393_sroa_4_0_insert_shift_i_i_i;
-    u16 v_r8_i393_sroa_0_0_insert_insert_i_i_i;
-    u1 v_r75_i400_i_i_i;
-    u8 v_r80_i451_i_i_i;
-    u64 v_r17_i28_i456_i_i_i;
-    P v_r26_i30_i458_i_i_i;
-    P v_r14_i394_sroa_4_0_r26_i30_i458_sroa_idx_i_i_i;
-    P v_r14_i394_sroa_5_0_r26_i30_i458_sroa_idx_i_i_i;
-    u1 v_r92_i402_i_i_i;
-    u64 v_r17_i46_i446_i_i_i;
-    P v_r26_i48_i448_i_i_i;
+    u32 v_r2_i_i_i29_i_i_i_i_i_i_i_i_i_i_i_i_i;
+    u1 v_r59_i932_i_i_i;
+    u16 v_r64_i994_i_i_i;
+    u64 v_r17_i_i998_i_i_i;
+    P v_r26_i_i1000_i_i_i;
+    u16 v_r8_i927_sroa_4_0_insert_shift_i_i_i;
+    u16 v_r8_i927_sroa_0_0_insert_insert_i_i_i;
+    u1 v_r75_i934_i_i_i;
+    u8 v_r80_i985_i_i_i;
+    u64 v_r17_i28_i990_i_i_i;
+    P v_r26_i30_i992_i_i_i;
+    P v_r14_i928_sroa_4_0_r26_i30_i992_sroa_idx_i_i_i;
+    P v_r14_i928_sroa_5_0_r26_i30_i992_sroa_idx_i_i_i;
+    u1 v_r92_i936_i_i_i;
+    u64 v_r17_i46_i980_i_i_i;
+    P v_r26_i48_i982_i_i_i;
     u32 v_28;
-    u32 v_r20_i395_sroa_0_0_insert_insert_i_i_i;
-    u1 v_r117_i404_i_i_i;
-    u32 v_r12223_i424_i_i_i;
-    u8 v_r124_i425_i_i_i;
-    u32 v_r12624_i426_i_i_i;
-    u8 v_r130_i427_i_i_i;
-    u8 v_r134_i428_i_i_i;
-    u64 v_r17_i64_i435_i_i_i;
-    P v_r26_i66_i437_i_i_i;
-    P v_r29_i396_sroa_4_0_r26_i66_i437_sroa_idx_i_i_i;
-    P v_r29_i396_sroa_5_0_r26_i66_i437_sroa_idx_i_i_i;
-    P v_r29_i396_sroa_6_0_r26_i66_i437_sroa_idx_i_i_i;
-    P v_r29_i396_sroa_7_0_r26_i66_i437_sroa_idx_i_i_i;
-    u32 v_r15020_i406_i_i_i;
-    u8 v_r152_i407_i_i_i;
-    u32 v_r15421_i408_i_i_i;
-    u8 v_r158_i409_i_i_i;
-    u32 v_r16022_i410_i_i_i;
-    u8 v_r164_i411_i_i_i;
-    u8 v_r168_i412_i_i_i;
-    u64 v_r17_i82_i420_i_i_i;
-    P v_r26_i84_i422_i_i_i;
-    P v_r40_i397_sroa_4_0_r26_i84_i422_sroa_idx_i_i_i;
-    P v_r40_i397_sroa_5_0_r26_i84_i422_sroa_idx_i_i_i;
-    P v_r40_i397_sroa_6_0_r26_i84_i422_sroa_idx_i_i_i;
-    P v_r40_i397_sroa_7_0_r26_i84_i422_sroa_idx_i_i_i;
-    P v_r40_i397_sroa_8_0_r26_i84_i422_sroa_idx_i_i_i;
-    u64 v_r7_sroa_66_13_i_i_i;
+    u32 v_r20_i929_sroa_0_0_insert_insert_i_i_i;
+    u1 v_r117_i938_i_i_i;
+    u32 v_r12223_i958_i_i_i;
+    u8 v_r124_i959_i_i_i;
+    u32 v_r12624_i960_i_i_i;
+    u8 v_r130_i961_i_i_i;
+    u8 v_r134_i962_i_i_i;
+    u64 v_r17_i64_i969_i_i_i;
+    P v_r26_i66_i971_i_i_i;
+    P v_r29_i930_sroa_4_0_r26_i66_i971_sroa_idx_i_i_i;
+    P v_r29_i930_sroa_5_0_r26_i66_i971_sroa_idx_i_i_i;
+    P v_r29_i930_sroa_6_0_r26_i66_i971_sroa_idx_i_i_i;
+    P v_r29_i930_sroa_7_0_r26_i66_i971_sroa_idx_i_i_i;
+    u32 v_r15020_i940_i_i_i;
+    u8 v_r152_i941_i_i_i;
+    u32 v_r15421_i942_i_i_i;
+    u8 v_r158_i943_i_i_i;
+    u32 v_r16022_i944_i_i_i;
+    u8 v_r164_i945_i_i_i;
+    u8 v_r168_i946_i_i_i;
+    u64 v_r17_i82_i954_i_i_i;
+    P v_r26_i84_i956_i_i_i;
+    P v_r40_i931_sroa_4_0_r26_i84_i956_sroa_idx_i_i_i;
+    P v_r40_i931_sroa_5_0_r26_i84_i956_sroa_idx_i_i_i;
+    P v_r40_i931_sroa_6_0_r26_i84_i956_sroa_idx_i_i_i;
+    P v_r40_i931_sroa_7_0_r26_i84_i956_sroa_idx_i_i_i;
+    P v_r40_i931_sroa_8_0_r26_i84_i956_sroa_idx_i_i_i;
+    u64 v_r7_sroa_129_25_i_i_i;
     P v_r1_sroa_0_0_copyload_i_i_i40_i_i_i_i_i_i_i_i_i_i_i;
     P v_r1_sroa_3_0_a0_sroa_idx_i_i_i41_i_i_i_i_i_i_i_i_i_;
     u64 v_r1_sroa_3_0_copyload_i_i_i42_i_i_i_i_i_i_i_i_i_i_i;
-    u64 v_r17_i_i_i_i43_i_i_i_i_i_i_i_i_i_i_i;
-    P v_r26_i_i_i_i45_i_i_i_i_i_i_i_i_i_i_i;
-    u64 v_r8_i_i_i_i_i_i_i_i_i_i46_i_i_i_i_i_i_i_i_i_i_i;
-    u64 v_r9_i_i_i_i_i_i_i_i_i_i47_i_i_i_i_i_i_i_i_i_i_i;
-    u64 v_r10_i_i_i_i_i_i_i_i_i_i48_i_i_i_i_i_i_i_i_i_i_i;
-    u1 v_r11_i_i_i_i_i_i_i_i_i_i49_i_i_i_i_i_i_i_i_i_i_i;
-    u64 v_xtraiter131;
+    u64 v_r17_i_i_i_i43_i_i_i_i_i_i_i_i_i_i_i_i_i;
+    P v_r26_i_i_i_i45_i_i_i_i_i_i_i_i_i_i_i_i_i;
+    u64 v_r8_i_i_i_i_i_i_i_i_i_i46_i_i_i_i_i_i_i_i_i_i_i_i_i;
+    u64 v_r9_i_i_i_i_i_i_i_i_i_i47_i_i_i_i_i_i_i_i_i_i_i_i_i;
+    u64 v_r10_i_i_i_i_i_i_i_i_i_i48_i_i_i_i_i_i_i_i_i_i_i_i_;
+    u1 v_r11_i_i_i_i_i_i_i_i_i_i49_i_i_i_i_i_i_i_i_i_i_i_i_;
+    u64 v_xtraiter178;
     u1 v_29;
-    u64 v_unroll_iter135;
-    u64 v_r0_04_i_i_i_i_i_i_i_i_i_i64_i_i_i_i_i_i_i_i_i_i_i;
-    u64 v_niter136;
-    P v_r20_i_i_i_i_i_i_i_i_i_i65_i_i_i_i_i_i_i_i_i_i_i;
-    P v_r24_i_i_i_i_i_i_i_i_i_i66_i_i_i_i_i_i_i_i_i_i_i;
-    u8 v_r26_i_i_i_i_i_i_i_i_i_i67_i_i_i_i_i_i_i_i_i_i_i;
-    u64 v_r30_i_i_i_i_i_i_i_i_i_i68_i_i_i_i_i_i_i_i_i_i_i;
-    P v_r20_i_i_i_i_i_i_i_i_i_i65_i_i_i_i_i_i_i_i_i_i_i_1;
-    P v_r24_i_i_i_i_i_i_i_i_i_i66_i_i_i_i_i_i_i_i_i_i_i_1;
-    u8 v_r26_i_i_i_i_i_i_i_i_i_i67_i_i_i_i_i_i_i_i_i_i_i_1;
-    u64 v_r30_i_i_i_i_i_i_i_i_i_i68_i_i_i_i_i_i_i_i_i_i_i_1;
-    P v_r20_i_i_i_i_i_i_i_i_i_i65_i_i_i_i_i_i_i_i_i_i_i_2;
-    P v_r24_i_i_i_i_i_i_i_i_i_i66_i_i_i_i_i_i_i_i_i_i_i_2;
-    u8 v_r26_i_i_i_i_i_i_i_i_i_i67_i_i_i_i_i_i_i_i_i_i_i_2;
-    u64 v_r30_i_i_i_i_i_i_i_i_i_i68_i_i_i_i_i_i_i_i_i_i_i_2;
-    P v_r20_i_i_i_i_i_i_i_i_i_i65_i_i_i_i_i_i_i_i_i_i_i_3;
-    P v_r24_i_i_i_i_i_i_i_i_i_i66_i_i_i_i_i_i_i_i_i_i_i_3;
-    u8 v_r26_i_i_i_i_i_i_i_i_i_i67_i_i_i_i_i_i_i_i_i_i_i_3;
-    u64 v_r30_i_i_i_i_i_i_i_i_i_i68_i_i_i_i_i_i_i_i_i_i_i_3;
-    u64 v_niter136_next_3;
-    u1 v_niter136_ncmp_3;
-    u1 v_lcmp_mod133_not;
-    u64 v_r0_04_i_i_i_i_i_i_i_i_i_i64_i_i_i_i_i_i_i_i_i_i_i_;
+    u64 v_unroll_iter182;
     u64 v_r0_04_i_i_i_i_i_i_i_i_i_i64_i_i_i_i_i_i_i_i_i_i_i___2;
-    u64 v_epil_iter132;
-    P v_r20_i_i_i_i_i_i_i_i_i_i65_i_i_i_i_i_i_i_i_i_i_i_ep;
-    P v_r24_i_i_i_i_i_i_i_i_i_i66_i_i_i_i_i_i_i_i_i_i_i_ep;
-    u8 v_r26_i_i_i_i_i_i_i_i_i_i67_i_i_i_i_i_i_i_i_i_i_i_ep;
-    u64 v_r30_i_i_i_i_i_i_i_i_i_i68_i_i_i_i_i_i_i_i_i_i_i_ep;
-    u64 v_epil_iter132_next;
-    u1 v_epil_iter132_cmp_not;
-    P v_r12_i_i_i52_i_i_i_i_i_i_i_i_i_i_i;
-    u64 v_r13_i_i_i53_i_i_i_i_i_i_i_i_i_i_i;
-    u1 v_r15_not_i_i_i54_i_i_i_i_i_i_i_i_i_i_i;
-    u64 v_r17_i3_i_i_i56_i_i_i_i_i_i_i_i_i_i_i;
-    P v_r26_i5_i_i_i58_i_i_i_i_i_i_i_i_i_i_i;
-    u64 v_r7_sroa_66_6_i_i_i;
+    u64 v_niter183;
+    P v_r20_i_i_i_i_i_i_i_i_i_i65_i_i_i_i_i_i_i_i_i_i_i_i_;
+    P v_r24_i_i_i_i_i_i_i_i_i_i66_i_i_i_i_i_i_i_i_i_i_i_i_;
+    u8 v_r26_i_i_i_i_i_i_i_i_i_i67_i_i_i_i_i_i_i_i_i_i_i_i_;
+    u64 v_r30_i_i_i_i_i_i_i_i_i_i68_i_i_i_i_i_i_i_i_i_i_i_i_;
+    P v_r20_i_i_i_i_i_i_i_i_i_i65_i_i_i_i_i_i_i_i_i_i_i_i___2;
+    P v_r24_i_i_i_i_i_i_i_i_i_i66_i_i_i_i_i_i_i_i_i_i_i_i___2;
+    u8 v_r26_i_i_i_i_i_i_i_i_i_i67_i_i_i_i_i_i_i_i_i_i_i_i___2;
+    u64 v_r30_i_i_i_i_i_i_i_i_i_i68_i_i_i_i_i_i_i_i_i_i_i_i___2;
+    P v_r20_i_i_i_i_i_i_i_i_i_i65_i_i_i_i_i_i_i_i_i_i_i_i___3;
+    P v_r24_i_i_i_i_i_i_i_i_i_i66_i_i_i_i_i_i_i_i_i_i_i_i___3;
+    u8 v_r26_i_i_i_i_i_i_i_i_i_i67_i_i_i_i_i_i_i_i_i_i_i_i___3;
+    u64 v_r30_i_i_i_i_i_i_i_i_i_i68_i_i_i_i_i_i_i_i_i_i_i_i___3;
+    P v_r20_i_i_i_i_i_i_i_i_i_i65_i_i_i_i_i_i_i_i_i_i_i_i___4;
+    P v_r24_i_i_i_i_i_i_i_i_i_i66_i_i_i_i_i_i_i_i_i_i_i_i___4;
+    u8 v_r26_i_i_i_i_i_i_i_i_i_i67_i_i_i_i_i_i_i_i_i_i_i_i___4;
+    u64 v_r30_i_i_i_i_i_i_i_i_i_i68_i_i_i_i_i_i_i_i_i_i_i_i___4;
+    u64 v_niter183_next_3;
+    u1 v_niter183_ncmp_3;
+    u1 v_lcmp_mod180_not;
+    u64 v_r0_04_i_i_i_i_i_i_i_i_i_i64_i_i_i_i_i_i_i_i_i_i_i_;
+    u64 v_r0_04_i_i_i_i_i_i_i_i_i_i64_i_i_i_i_i_i_i_i_i_i_i___3;
+    u64 v_epil_iter179;
+    P v_r20_i_i_i_i_i_i_i_i_i_i65_i_i_i_i_i_i_i_i_i_i_i_i___5;
+    P v_r24_i_i_i_i_i_i_i_i_i_i66_i_i_i_i_i_i_i_i_i_i_i_i___5;
+    u8 v_r26_i_i_i_i_i_i_i_i_i_i67_i_i_i_i_i_i_i_i_i_i_i_i___5;
+    u64 v_r30_i_i_i_i_i_i_i_i_i_i68_i_i_i_i_i_i_i_i_i_i_i_i___5;
+    u64 v_epil_iter179_next;
+    u1 v_epil_iter179_cmp_not;
+    P v_r12_i_i_i52_i_i_i_i_i_i_i_i_i_i_i_i_i;
+    u64 v_r13_i_i_i53_i_i_i_i_i_i_i_i_i_i_i_i_i;
+    u1 v_r15_not_i_i_i54_i_i_i_i_i_i_i_i_i_i_i_i_i;
+    u64 v_r17_i3_i_i_i56_i_i_i_i_i_i_i_i_i_i_i_i_i;
+    P v_r26_i5_i_i_i58_i_i_i_i_i_i_i_i_i_i_i_i_i;
+    u64 v_r7_sroa_129_10_i_i_i;
     u64 v_30;
     u64 v_31;
     u32 v_32;
-    u32 v_r2_i_i_i62_i_i_i_i_i_i_i_i_i_i_i;
-    u1 v_r59_i322_i_i_i;
-    u16 v_r64_i384_i_i_i;
-    u64 v_r17_i_i388_i_i_i;
-    P v_r26_i_i390_i_i_i;
-    u16 v_r8_i317_sroa_4_0_insert_shift_i_i_i;
-    u16 v_r8_i317_sroa_0_0_insert_insert_i_i_i;
-    u1 v_r75_i324_i_i_i;
-    u8 v_r80_i375_i_i_i;
-    u64 v_r17_i28_i380_i_i_i;
-    P v_r26_i30_i382_i_i_i;
-    P v_r14_i318_sroa_4_0_r26_i30_i382_sroa_idx_i_i_i;
-    P v_r14_i318_sroa_5_0_r26_i30_i382_sroa_idx_i_i_i;
-    u1 v_r92_i326_i_i_i;
-    u64 v_r17_i46_i370_i_i_i;
-    P v_r26_i48_i372_i_i_i;
+    u32 v_r2_i_i_i62_i_i_i_i_i_i_i_i_i_i_i_i_i;
+    u1 v_r59_i856_i_i_i;
+    u16 v_r64_i918_i_i_i;
+    u64 v_r17_i_i922_i_i_i;
+    P v_r26_i_i924_i_i_i;
+    u16 v_r8_i851_sroa_4_0_insert_shift_i_i_i;
+    u16 v_r8_i851_sroa_0_0_insert_insert_i_i_i;
+    u1 v_r75_i858_i_i_i;
+    u8 v_r80_i909_i_i_i;
+    u64 v_r17_i28_i914_i_i_i;
+    P v_r26_i30_i916_i_i_i;
+    P v_r14_i852_sroa_4_0_r26_i30_i916_sroa_idx_i_i_i;
+    P v_r14_i852_sroa_5_0_r26_i30_i916_sroa_idx_i_i_i;
+    u1 v_r92_i860_i_i_i;
+    u64 v_r17_i46_i904_i_i_i;
+    P v_r26_i48_i906_i_i_i;
     u32 v_33;
-    u32 v_r20_i319_sroa_0_0_insert_insert_i_i_i;
-    u1 v_r117_i328_i_i_i;
-    u32 v_r12223_i348_i_i_i;
-    u8 v_r124_i349_i_i_i;
-    u32 v_r12624_i350_i_i_i;
-    u8 v_r130_i351_i_i_i;
-    u8 v_r134_i352_i_i_i;
-    u64 v_r17_i64_i359_i_i_i;
-    P v_r26_i66_i361_i_i_i;
-    P v_r29_i320_sroa_4_0_r26_i66_i361_sroa_idx_i_i_i;
-    P v_r29_i320_sroa_5_0_r26_i66_i361_sroa_idx_i_i_i;
-    P v_r29_i320_sroa_6_0_r26_i66_i361_sroa_idx_i_i_i;
-    P v_r29_i320_sroa_7_0_r26_i66_i361_sroa_idx_i_i_i;
-    u32 v_r15020_i330_i_i_i;
-    u8 v_r152_i331_i_i_i;
-    u32 v_r15421_i332_i_i_i;
-    u8 v_r158_i333_i_i_i;
-    u32 v_r16022_i334_i_i_i;
-    u8 v_r164_i335_i_i_i;
-    u8 v_r168_i336_i_i_i;
-    u64 v_r17_i82_i344_i_i_i;
-    P v_r26_i84_i346_i_i_i;
-    P v_r40_i321_sroa_4_0_r26_i84_i346_sroa_idx_i_i_i;
-    P v_r40_i321_sroa_5_0_r26_i84_i346_sroa_idx_i_i_i;
-    P v_r40_i321_sroa_6_0_r26_i84_i346_sroa_idx_i_i_i;
-    P v_r40_i321_sroa_7_0_r26_i84_i346_sroa_idx_i_i_i;
-    P v_r40_i321_sroa_8_0_r26_i84_i346_sroa_idx_i_i_i;
-    u64 v_r7_sroa_66_12_i_i_i;
-    u64 v_r17_i_i_i_i_i_i_i_i_i_i;
-    u32 v_r2_i_i_i_i_i_i_i_i_i_i_i;
-    u1 v_r59_i246_i_i_i;
-    u16 v_r64_i308_i_i_i;
-    u64 v_r17_i_i312_i_i_i;
-    P v_r26_i_i314_i_i_i;
-    u16 v_r8_i241_sroa_4_0_insert_shift_i_i_i;
-    u16 v_r8_i241_sroa_0_0_insert_insert_i_i_i;
-    u1 v_r75_i248_i_i_i;
-    u8 v_r80_i299_i_i_i;
-    u64 v_r17_i28_i304_i_i_i;
-    P v_r26_i30_i306_i_i_i;
-    P v_r14_i242_sroa_4_0_r26_i30_i306_sroa_idx_i_i_i;
-    P v_r14_i242_sroa_5_0_r26_i30_i306_sroa_idx_i_i_i;
-    u1 v_r92_i250_i_i_i;
-    u64 v_r17_i46_i294_i_i_i;
-    P v_r26_i48_i296_i_i_i;
+    u32 v_r20_i853_sroa_0_0_insert_insert_i_i_i;
+    u1 v_r117_i862_i_i_i;
+    u32 v_r12223_i882_i_i_i;
+    u8 v_r124_i883_i_i_i;
+    u32 v_r12624_i884_i_i_i;
+    u8 v_r130_i885_i_i_i;
+    u8 v_r134_i886_i_i_i;
+    u64 v_r17_i64_i893_i_i_i;
+    P v_r26_i66_i895_i_i_i;
+    P v_r29_i854_sroa_4_0_r26_i66_i895_sroa_idx_i_i_i;
+    P v_r29_i854_sroa_5_0_r26_i66_i895_sroa_idx_i_i_i;
+    P v_r29_i854_sroa_6_0_r26_i66_i895_sroa_idx_i_i_i;
+    P v_r29_i854_sroa_7_0_r26_i66_i895_sroa_idx_i_i_i;
+    u32 v_r15020_i864_i_i_i;
+    u8 v_r152_i865_i_i_i;
+    u32 v_r15421_i866_i_i_i;
+    u8 v_r158_i867_i_i_i;
+    u32 v_r16022_i868_i_i_i;
+    u8 v_r164_i869_i_i_i;
+    u8 v_r168_i870_i_i_i;
+    u64 v_r17_i82_i878_i_i_i;
+    P v_r26_i84_i880_i_i_i;
+    P v_r40_i855_sroa_4_0_r26_i84_i880_sroa_idx_i_i_i;
+    P v_r40_i855_sroa_5_0_r26_i84_i880_sroa_idx_i_i_i;
+    P v_r40_i855_sroa_6_0_r26_i84_i880_sroa_idx_i_i_i;
+    P v_r40_i855_sroa_7_0_r26_i84_i880_sroa_idx_i_i_i;
+    P v_r40_i855_sroa_8_0_r26_i84_i880_sroa_idx_i_i_i;
+    u64 v_r7_sroa_129_24_i_i_i;
+    u64 v_r17_i_i_i_i_i_i_i_i_i_i_i_i;
+    u32 v_r2_i_i_i_i_i_i_i_i_i_i_i_i_i;
+    u1 v_r59_i780_i_i_i;
+    u16 v_r64_i842_i_i_i;
+    u64 v_r17_i_i846_i_i_i;
+    P v_r26_i_i848_i_i_i;
+    u16 v_r8_i775_sroa_4_0_insert_shift_i_i_i;
+    u16 v_r8_i775_sroa_0_0_insert_insert_i_i_i;
+    u1 v_r75_i782_i_i_i;
+    u8 v_r80_i833_i_i_i;
+    u64 v_r17_i28_i838_i_i_i;
+    P v_r26_i30_i840_i_i_i;
+    P v_r14_i776_sroa_4_0_r26_i30_i840_sroa_idx_i_i_i;
+    P v_r14_i776_sroa_5_0_r26_i30_i840_sroa_idx_i_i_i;
+    u1 v_r92_i784_i_i_i;
+    u64 v_r17_i46_i828_i_i_i;
+    P v_r26_i48_i830_i_i_i;
     u32 v_34;
-    u32 v_r20_i243_sroa_0_0_insert_insert_i_i_i;
-    u1 v_r117_i252_i_i_i;
-    u64 v_r12223_i272639_i_i_i;
-    u8 v_r124_i273_i_i_i;
-    u64 v_r12624_i274640_i_i_i;
-    u8 v_r130_i275_i_i_i;
-    u8 v_r134_i276_i_i_i;
-    u64 v_r17_i64_i283_i_i_i;
-    P v_r26_i66_i285_i_i_i;
-    P v_r29_i244_sroa_4_0_r26_i66_i285_sroa_idx_i_i_i;
-    P v_r29_i244_sroa_5_0_r26_i66_i285_sroa_idx_i_i_i;
-    P v_r29_i244_sroa_6_0_r26_i66_i285_sroa_idx_i_i_i;
-    P v_r29_i244_sroa_7_0_r26_i66_i285_sroa_idx_i_i_i;
-    u64 v_r15020_i254636_i_i_i;
-    u8 v_r152_i255_i_i_i;
-    u64 v_r15421_i256637_i_i_i;
-    u8 v_r158_i257_i_i_i;
-    u64 v_r16022_i258638_i_i_i;
-    u8 v_r164_i259_i_i_i;
-    u8 v_r168_i260_i_i_i;
-    u64 v_r17_i82_i268_i_i_i;
-    P v_r26_i84_i270_i_i_i;
-    P v_r40_i245_sroa_4_0_r26_i84_i270_sroa_idx_i_i_i;
-    P v_r40_i245_sroa_5_0_r26_i84_i270_sroa_idx_i_i_i;
-    P v_r40_i245_sroa_6_0_r26_i84_i270_sroa_idx_i_i_i;
-    P v_r40_i245_sroa_7_0_r26_i84_i270_sroa_idx_i_i_i;
-    P v_r40_i245_sroa_8_0_r26_i84_i270_sroa_idx_i_i_i;
-    u64 v_r7_sroa_66_11_i_i_i;
-    u1 v_r11_not_i_i_i_i_i_i_i_i_i;
-    u64 v_r7_sroa_66_7_i_i_i;
+    u32 v_r20_i777_sroa_0_0_insert_insert_i_i_i;
+    u1 v_r117_i786_i_i_i;
+    u64 v_r12223_i8061236_i_i_i;
+    u8 v_r124_i807_i_i_i;
+    u64 v_r12624_i8081237_i_i_i;
+    u8 v_r130_i809_i_i_i;
+    u8 v_r134_i810_i_i_i;
+    u64 v_r17_i64_i817_i_i_i;
+    P v_r26_i66_i819_i_i_i;
+    P v_r29_i778_sroa_4_0_r26_i66_i819_sroa_idx_i_i_i;
+    P v_r29_i778_sroa_5_0_r26_i66_i819_sroa_idx_i_i_i;
+    P v_r29_i778_sroa_6_0_r26_i66_i819_sroa_idx_i_i_i;
+    P v_r29_i778_sroa_7_0_r26_i66_i819_sroa_idx_i_i_i;
+    u64 v_r15020_i7881233_i_i_i;
+    u8 v_r152_i789_i_i_i;
+    u64 v_r15421_i7901234_i_i_i;
+    u8 v_r158_i791_i_i_i;
+    u64 v_r16022_i7921235_i_i_i;
+    u8 v_r164_i793_i_i_i;
+    u8 v_r168_i794_i_i_i;
+    u64 v_r17_i82_i802_i_i_i;
+    P v_r26_i84_i804_i_i_i;
+    P v_r40_i779_sroa_4_0_r26_i84_i804_sroa_idx_i_i_i;
+    P v_r40_i779_sroa_5_0_r26_i84_i804_sroa_idx_i_i_i;
+    P v_r40_i779_sroa_6_0_r26_i84_i804_sroa_idx_i_i_i;
+    P v_r40_i779_sroa_7_0_r26_i84_i804_sroa_idx_i_i_i;
+    P v_r40_i779_sroa_8_0_r26_i84_i804_sroa_idx_i_i_i;
+    u64 v_r7_sroa_129_23_i_i_i;
+    u1 v_r11_not_i_i_i_i_i_i_i_i_i_i_i;
+    u64 v_r7_sroa_129_11_i_i_i;
     u32 v_35;
-    u32 v_r2_i_i_i_i_i_i_i_i;
-    u1 v_r59_i170_i_i_i;
-    u16 v_r64_i232_i_i_i;
-    u64 v_r17_i_i236_i_i_i;
-    P v_r26_i_i238_i_i_i;
-    u16 v_r8_i165_sroa_4_0_insert_shift_i_i_i;
-    u16 v_r8_i165_sroa_0_0_insert_insert_i_i_i;
-    u1 v_r75_i172_i_i_i;
-    u8 v_r80_i223_i_i_i;
-    u64 v_r17_i28_i228_i_i_i;
-    P v_r26_i30_i230_i_i_i;
-    P v_r14_i166_sroa_4_0_r26_i30_i230_sroa_idx_i_i_i;
-    P v_r14_i166_sroa_5_0_r26_i30_i230_sroa_idx_i_i_i;
-    u1 v_r92_i174_i_i_i;
-    u64 v_r17_i46_i218_i_i_i;
-    P v_r26_i48_i220_i_i_i;
+    u32 v_r2_i_i_i_i_i_i_i_i_i_i;
+    u1 v_r59_i704_i_i_i;
+    u16 v_r64_i766_i_i_i;
+    u64 v_r17_i_i770_i_i_i;
+    P v_r26_i_i772_i_i_i;
+    u16 v_r8_i699_sroa_4_0_insert_shift_i_i_i;
+    u16 v_r8_i699_sroa_0_0_insert_insert_i_i_i;
+    u1 v_r75_i706_i_i_i;
+    u8 v_r80_i757_i_i_i;
+    u64 v_r17_i28_i762_i_i_i;
+    P v_r26_i30_i764_i_i_i;
+    P v_r14_i700_sroa_4_0_r26_i30_i764_sroa_idx_i_i_i;
+    P v_r14_i700_sroa_5_0_r26_i30_i764_sroa_idx_i_i_i;
+    u1 v_r92_i708_i_i_i;
+    u64 v_r17_i46_i752_i_i_i;
+    P v_r26_i48_i754_i_i_i;
     u32 v_36;
-    u32 v_r20_i167_sroa_0_0_insert_insert_i_i_i;
-    u1 v_r117_i176_i_i_i;
-    u32 v_r12223_i196_i_i_i;
-    u8 v_r124_i197_i_i_i;
-    u32 v_r12624_i198_i_i_i;
-    u8 v_r130_i199_i_i_i;
-    u8 v_r134_i200_i_i_i;
-    u64 v_r17_i64_i207_i_i_i;
-    P v_r26_i66_i209_i_i_i;
-    P v_r29_i168_sroa_4_0_r26_i66_i209_sroa_idx_i_i_i;
-    P v_r29_i168_sroa_5_0_r26_i66_i209_sroa_idx_i_i_i;
-    P v_r29_i168_sroa_6_0_r26_i66_i209_sroa_idx_i_i_i;
-    P v_r29_i168_sroa_7_0_r26_i66_i209_sroa_idx_i_i_i;
-    u32 v_r15020_i178_i_i_i;
-    u8 v_r152_i179_i_i_i;
-    u32 v_r15421_i180_i_i_i;
-    u8 v_r158_i181_i_i_i;
-    u32 v_r16022_i182_i_i_i;
-    u8 v_r164_i183_i_i_i;
-    u8 v_r168_i184_i_i_i;
-    u64 v_r17_i82_i192_i_i_i;
-    P v_r26_i84_i194_i_i_i;
-    P v_r40_i169_sroa_4_0_r26_i84_i194_sroa_idx_i_i_i;
-    P v_r40_i169_sroa_5_0_r26_i84_i194_sroa_idx_i_i_i;
-    P v_r40_i169_sroa_6_0_r26_i84_i194_sroa_idx_i_i_i;
-    P v_r40_i169_sroa_7_0_r26_i84_i194_sroa_idx_i_i_i;
-    P v_r40_i169_sroa_8_0_r26_i84_i194_sroa_idx_i_i_i;
-    u64 v_r7_sroa_66_1_i_i_i_ph;
-    u64 v_r7_sroa_66_1_i_i_i;
-    u64 v_r2_03_i_i_i_i_i_i;
-    u64 v_r16_i_i_i_i_i_i;
-    u64 v_r18_i4_i_i_i_i_i;
-    P v_r21_i_i_i_i_i_i;
-    P v_r21_val_i_i_i_i_i_i;
-    P v_r1_sroa_0_0_copyload_i_i_i_i_i_i_i_i_i;
-    P v_r1_sroa_3_0_a0_sroa_idx_i_i_i_i_i_i_i_i_i;
-    u64 v_r1_sroa_3_0_copyload_i_i_i_i_i_i_i_i_i;
-    u64 v_r17_i_i_i_i_i5_i_i_i_i_i;
+    u32 v_r20_i701_sroa_0_0_insert_insert_i_i_i;
+    u1 v_r117_i710_i_i_i;
+    u32 v_r12223_i730_i_i_i;
+    u8 v_r124_i731_i_i_i;
+    u32 v_r12624_i732_i_i_i;
+    u8 v_r130_i733_i_i_i;
+    u8 v_r134_i734_i_i_i;
+    u64 v_r17_i64_i741_i_i_i;
+    P v_r26_i66_i743_i_i_i;
+    P v_r29_i702_sroa_4_0_r26_i66_i743_sroa_idx_i_i_i;
+    P v_r29_i702_sroa_5_0_r26_i66_i743_sroa_idx_i_i_i;
+    P v_r29_i702_sroa_6_0_r26_i66_i743_sroa_idx_i_i_i;
+    P v_r29_i702_sroa_7_0_r26_i66_i743_sroa_idx_i_i_i;
+    u32 v_r15020_i712_i_i_i;
+    u8 v_r152_i713_i_i_i;
+    u32 v_r15421_i714_i_i_i;
+    u8 v_r158_i715_i_i_i;
+    u32 v_r16022_i716_i_i_i;
+    u8 v_r164_i717_i_i_i;
+    u8 v_r168_i718_i_i_i;
+    u64 v_r17_i82_i726_i_i_i;
+    P v_r26_i84_i728_i_i_i;
+    P v_r40_i703_sroa_4_0_r26_i84_i728_sroa_idx_i_i_i;
+    P v_r40_i703_sroa_5_0_r26_i84_i728_sroa_idx_i_i_i;
+    P v_r40_i703_sroa_6_0_r26_i84_i728_sroa_idx_i_i_i;
+    P v_r40_i703_sroa_7_0_r26_i84_i728_sroa_idx_i_i_i;
+    P v_r40_i703_sroa_8_0_r26_i84_i728_sroa_idx_i_i_i;
+    u64 v_a1_val4_i_i_i_i_i_i_i_i;
+    u64 v_r17_i_i_i_i_i_i_i_i_i_i;
     P v_r26_i_i_i_i_i_i_i_i_i_i;
     u64 v_r8_i_i_i_i_i_i_i_i_i_i_i_i_i_i_i_i;
     u64 v_r9_i_i_i_i_i_i_i_i_i_i_i_i_i_i_i_i;
     u64 v_r10_i_i_i_i_i_i_i_i_i_i_i_i_i_i_i_i;
     u1 v_r11_i_i_i_i_i_i_i_i_i_i_i_i_i_i_i_i;
-    u64 v_xtraiter137;
+    u64 v_xtraiter184;
     u1 v_37;
-    u64 v_unroll_iter141;
+    u64 v_unroll_iter188;
     u64 v_r0_04_i_i_i_i_i_i_i_i_i_i_i_i_i_i_i_i;
-    u64 v_niter142;
+    u64 v_niter189;
     P v_r20_i_i_i_i_i_i_i_i_i_i_i_i_i_i_i_i;
     P v_r24_i_i_i_i_i_i_i_i_i_i_i_i_i_i_i_i;
     u8 v_r26_i_i_i_i_i_i_i_i_i_i_i_i_i_i_i_i;
@@ -33467,82 +33691,716 @@ u32 pkcs1_c_private_key_encode(P v_a0, P v_a1, u64 v_a2, P v_a3, u64 v_a4, P v_a
     P v_r24_i_i_i_i_i_i_i_i_i_i_i_i_i_i_i_i_3;
     u8 v_r26_i_i_i_i_i_i_i_i_i_i_i_i_i_i_i_i_3;
     u64 v_r30_i_i_i_i_i_i_i_i_i_i_i_i_i_i_i_i_3;
-    u64 v_niter142_next_3;
-    u1 v_niter142_ncmp_3;
-    u1 v_lcmp_mod139_not;
+    u64 v_niter189_next_3;
+    u1 v_niter189_ncmp_3;
+    u1 v_lcmp_mod186_not;
     u64 v_r0_04_i_i_i_i_i_i_i_i_i_i_i_i_i_i_i_i_epil_init;
     u64 v_r0_04_i_i_i_i_i_i_i_i_i_i_i_i_i_i_i_i_epil;
-    u64 v_epil_iter138;
+    u64 v_epil_iter185;
     P v_r20_i_i_i_i_i_i_i_i_i_i_i_i_i_i_i_i_epil;
     P v_r24_i_i_i_i_i_i_i_i_i_i_i_i_i_i_i_i_epil;
     u8 v_r26_i_i_i_i_i_i_i_i_i_i_i_i_i_i_i_i_epil;
     u64 v_r30_i_i_i_i_i_i_i_i_i_i_i_i_i_i_i_i_epil;
-    u64 v_epil_iter138_next;
-    u1 v_epil_iter138_cmp_not;
-    P v_r12_i_i_i_i_i_i_i_i_i;
-    u64 v_r13_i_i_i_i_i_i_i_i_i;
+    u64 v_epil_iter185_next;
+    u1 v_epil_iter185_cmp_not;
     u1 v_r15_not_i_i_i_i_i_i_i_i_i;
     u64 v_r17_i3_i_i_i_i_i_i_i_i_i;
     P v_r26_i5_i_i_i_i_i_i_i_i_i;
-    u64 v_r7_sroa_66_2_i_i_i;
+    u64 v_r7_sroa_129_0_i_i_i;
     u64 v_38;
     u64 v_39;
     u32 v_40;
     u32 v_r2_i_i_i_i_i_i_i_i_i;
-    u1 v_r59_i94_i_i_i;
-    u16 v_r64_i156_i_i_i;
-    u64 v_r17_i_i160_i_i_i;
-    P v_r26_i_i162_i_i_i;
-    u16 v_r8_i89_sroa_4_0_insert_shift_i_i_i;
-    u16 v_r8_i89_sroa_0_0_insert_insert_i_i_i;
-    u1 v_r75_i96_i_i_i;
-    u8 v_r80_i147_i_i_i;
-    u64 v_r17_i28_i152_i_i_i;
-    P v_r26_i30_i154_i_i_i;
-    P v_r14_i90_sroa_4_0_r26_i30_i154_sroa_idx_i_i_i;
-    P v_r14_i90_sroa_5_0_r26_i30_i154_sroa_idx_i_i_i;
-    u1 v_r92_i98_i_i_i;
-    u64 v_r17_i46_i142_i_i_i;
-    P v_r26_i48_i144_i_i_i;
+    u1 v_r59_i628_i_i_i;
+    u16 v_r64_i690_i_i_i;
+    u64 v_r17_i_i694_i_i_i;
+    P v_r26_i_i696_i_i_i;
+    u16 v_r8_i623_sroa_4_0_insert_shift_i_i_i;
+    u16 v_r8_i623_sroa_0_0_insert_insert_i_i_i;
+    u1 v_r75_i630_i_i_i;
+    u8 v_r80_i681_i_i_i;
+    u64 v_r17_i28_i686_i_i_i;
+    P v_r26_i30_i688_i_i_i;
+    P v_r14_i624_sroa_4_0_r26_i30_i688_sroa_idx_i_i_i;
+    P v_r14_i624_sroa_5_0_r26_i30_i688_sroa_idx_i_i_i;
+    u1 v_r92_i632_i_i_i;
+    u64 v_r17_i46_i676_i_i_i;
+    P v_r26_i48_i678_i_i_i;
     u32 v_41;
-    u32 v_r20_i91_sroa_0_0_insert_insert_i_i_i;
-    u1 v_r117_i100_i_i_i;
-    u32 v_r12223_i120_i_i_i;
-    u8 v_r124_i121_i_i_i;
-    u32 v_r12624_i122_i_i_i;
-    u8 v_r130_i123_i_i_i;
-    u8 v_r134_i124_i_i_i;
-    u64 v_r17_i64_i131_i_i_i;
-    P v_r26_i66_i133_i_i_i;
-    P v_r29_i92_sroa_4_0_r26_i66_i133_sroa_idx_i_i_i;
-    P v_r29_i92_sroa_5_0_r26_i66_i133_sroa_idx_i_i_i;
-    P v_r29_i92_sroa_6_0_r26_i66_i133_sroa_idx_i_i_i;
-    P v_r29_i92_sroa_7_0_r26_i66_i133_sroa_idx_i_i_i;
-    u32 v_r15020_i102_i_i_i;
-    u8 v_r152_i103_i_i_i;
-    u32 v_r15421_i104_i_i_i;
-    u8 v_r158_i105_i_i_i;
-    u32 v_r16022_i106_i_i_i;
-    u8 v_r164_i107_i_i_i;
-    u8 v_r168_i108_i_i_i;
-    u64 v_r17_i82_i116_i_i_i;
-    P v_r26_i84_i118_i_i_i;
-    P v_r40_i93_sroa_4_0_r26_i84_i118_sroa_idx_i_i_i;
-    P v_r40_i93_sroa_5_0_r26_i84_i118_sroa_idx_i_i_i;
-    P v_r40_i93_sroa_6_0_r26_i84_i118_sroa_idx_i_i_i;
-    P v_r40_i93_sroa_7_0_r26_i84_i118_sroa_idx_i_i_i;
-    P v_r40_i93_sroa_8_0_r26_i84_i118_sroa_idx_i_i_i;
-    u64 v_r7_sroa_66_9_i_i_i;
-    u1 v_r11_not_i_i_i_i_i_i;
-    P v_42;
+    u32 v_r20_i625_sroa_0_0_insert_insert_i_i_i;
+    u1 v_r117_i634_i_i_i;
+    u32 v_r12223_i654_i_i_i;
+    u8 v_r124_i655_i_i_i;
+    u32 v_r12624_i656_i_i_i;
+    u8 v_r130_i657_i_i_i;
+    u8 v_r134_i658_i_i_i;
+    u64 v_r17_i64_i665_i_i_i;
+    P v_r26_i66_i667_i_i_i;
+    P v_r29_i626_sroa_4_0_r26_i66_i667_sroa_idx_i_i_i;
+    P v_r29_i626_sroa_5_0_r26_i66_i667_sroa_idx_i_i_i;
+    P v_r29_i626_sroa_6_0_r26_i66_i667_sroa_idx_i_i_i;
+    P v_r29_i626_sroa_7_0_r26_i66_i667_sroa_idx_i_i_i;
+    u32 v_r15020_i636_i_i_i;
+    u8 v_r152_i637_i_i_i;
+    u32 v_r15421_i638_i_i_i;
+    u8 v_r158_i639_i_i_i;
+    u32 v_r16022_i640_i_i_i;
+    u8 v_r164_i641_i_i_i;
+    u8 v_r168_i642_i_i_i;
+    u64 v_r17_i82_i650_i_i_i;
+    P v_r26_i84_i652_i_i_i;
+    P v_r40_i627_sroa_4_0_r26_i84_i652_sroa_idx_i_i_i;
+    P v_r40_i627_sroa_5_0_r26_i84_i652_sroa_idx_i_i_i;
+    P v_r40_i627_sroa_6_0_r26_i84_i652_sroa_idx_i_i_i;
+    P v_r40_i627_sroa_7_0_r26_i84_i652_sroa_idx_i_i_i;
+    P v_r40_i627_sroa_8_0_r26_i84_i652_sroa_idx_i_i_i;
+    u64 v_r7_sroa_129_21_i_i_i;
+    u64 v_r17_i_i_i_i9_i_i_i_i_i_i;
+    P v_r26_i_i_i_i11_i_i_i_i_i_i;
+    u64 v_r8_i_i_i_i_i_i_i_i_i_i12_i_i_i_i_i_i;
+    u64 v_r9_i_i_i_i_i_i_i_i_i_i13_i_i_i_i_i_i;
+    u64 v_r10_i_i_i_i_i_i_i_i_i_i14_i_i_i_i_i_i;
+    u1 v_r11_i_i_i_i_i_i_i_i_i_i15_i_i_i_i_i_i;
+    u64 v_xtraiter190;
+    u1 v_42;
+    u64 v_unroll_iter194;
+    u64 v_r0_04_i_i_i_i_i_i_i_i_i_i30_i_i_i_i_i_i;
+    u64 v_niter195;
+    P v_r20_i_i_i_i_i_i_i_i_i_i31_i_i_i_i_i_i;
+    P v_r24_i_i_i_i_i_i_i_i_i_i32_i_i_i_i_i_i;
+    u8 v_r26_i_i_i_i_i_i_i_i_i_i33_i_i_i_i_i_i;
+    u64 v_r30_i_i_i_i_i_i_i_i_i_i34_i_i_i_i_i_i;
+    P v_r20_i_i_i_i_i_i_i_i_i_i31_i_i_i_i_i_i_1;
+    P v_r24_i_i_i_i_i_i_i_i_i_i32_i_i_i_i_i_i_1;
+    u8 v_r26_i_i_i_i_i_i_i_i_i_i33_i_i_i_i_i_i_1;
+    u64 v_r30_i_i_i_i_i_i_i_i_i_i34_i_i_i_i_i_i_1;
+    P v_r20_i_i_i_i_i_i_i_i_i_i31_i_i_i_i_i_i_2;
+    P v_r24_i_i_i_i_i_i_i_i_i_i32_i_i_i_i_i_i_2;
+    u8 v_r26_i_i_i_i_i_i_i_i_i_i33_i_i_i_i_i_i_2;
+    u64 v_r30_i_i_i_i_i_i_i_i_i_i34_i_i_i_i_i_i_2;
+    P v_r20_i_i_i_i_i_i_i_i_i_i31_i_i_i_i_i_i_3;
+    P v_r24_i_i_i_i_i_i_i_i_i_i32_i_i_i_i_i_i_3;
+    u8 v_r26_i_i_i_i_i_i_i_i_i_i33_i_i_i_i_i_i_3;
+    u64 v_r30_i_i_i_i_i_i_i_i_i_i34_i_i_i_i_i_i_3;
+    u64 v_niter195_next_3;
+    u1 v_niter195_ncmp_3;
+    u1 v_lcmp_mod192_not;
+    u64 v_r0_04_i_i_i_i_i_i_i_i_i_i30_i_i_i_i_i_i_epil_init;
+    u64 v_r0_04_i_i_i_i_i_i_i_i_i_i30_i_i_i_i_i_i_epil;
+    u64 v_epil_iter191;
+    P v_r20_i_i_i_i_i_i_i_i_i_i31_i_i_i_i_i_i_epil;
+    P v_r24_i_i_i_i_i_i_i_i_i_i32_i_i_i_i_i_i_epil;
+    u8 v_r26_i_i_i_i_i_i_i_i_i_i33_i_i_i_i_i_i_epil;
+    u64 v_r30_i_i_i_i_i_i_i_i_i_i34_i_i_i_i_i_i_epil;
+    u64 v_epil_iter191_next;
+    u1 v_epil_iter191_cmp_not;
+    u1 v_r15_not_i_i_i20_i_i_i_i_i_i;
+    u64 v_r17_i3_i_i_i22_i_i_i_i_i_i;
+    P v_r26_i5_i_i_i24_i_i_i_i_i_i;
+    u64 v_r7_sroa_129_1_i_i_i;
+    u64 v_43;
+    u64 v_44;
+    u32 v_45;
+    u32 v_r2_i_i_i28_i_i_i_i_i_i;
+    u1 v_r59_i552_i_i_i;
+    u16 v_r64_i614_i_i_i;
+    u64 v_r17_i_i618_i_i_i;
+    P v_r26_i_i620_i_i_i;
+    u16 v_r8_i547_sroa_4_0_insert_shift_i_i_i;
+    u16 v_r8_i547_sroa_0_0_insert_insert_i_i_i;
+    u1 v_r75_i554_i_i_i;
+    u8 v_r80_i605_i_i_i;
+    u64 v_r17_i28_i610_i_i_i;
+    P v_r26_i30_i612_i_i_i;
+    P v_r14_i548_sroa_4_0_r26_i30_i612_sroa_idx_i_i_i;
+    P v_r14_i548_sroa_5_0_r26_i30_i612_sroa_idx_i_i_i;
+    u1 v_r92_i556_i_i_i;
+    u64 v_r17_i46_i600_i_i_i;
+    P v_r26_i48_i602_i_i_i;
+    u32 v_46;
+    u32 v_r20_i549_sroa_0_0_insert_insert_i_i_i;
+    u1 v_r117_i558_i_i_i;
+    u32 v_r12223_i578_i_i_i;
+    u8 v_r124_i579_i_i_i;
+    u32 v_r12624_i580_i_i_i;
+    u8 v_r130_i581_i_i_i;
+    u8 v_r134_i582_i_i_i;
+    u64 v_r17_i64_i589_i_i_i;
+    P v_r26_i66_i591_i_i_i;
+    P v_r29_i550_sroa_4_0_r26_i66_i591_sroa_idx_i_i_i;
+    P v_r29_i550_sroa_5_0_r26_i66_i591_sroa_idx_i_i_i;
+    P v_r29_i550_sroa_6_0_r26_i66_i591_sroa_idx_i_i_i;
+    P v_r29_i550_sroa_7_0_r26_i66_i591_sroa_idx_i_i_i;
+    u32 v_r15020_i560_i_i_i;
+    u8 v_r152_i561_i_i_i;
+    u32 v_r15421_i562_i_i_i;
+    u8 v_r158_i563_i_i_i;
+    u32 v_r16022_i564_i_i_i;
+    u8 v_r164_i565_i_i_i;
+    u8 v_r168_i566_i_i_i;
+    u64 v_r17_i82_i574_i_i_i;
+    P v_r26_i84_i576_i_i_i;
+    P v_r40_i551_sroa_4_0_r26_i84_i576_sroa_idx_i_i_i;
+    P v_r40_i551_sroa_5_0_r26_i84_i576_sroa_idx_i_i_i;
+    P v_r40_i551_sroa_6_0_r26_i84_i576_sroa_idx_i_i_i;
+    P v_r40_i551_sroa_7_0_r26_i84_i576_sroa_idx_i_i_i;
+    P v_r40_i551_sroa_8_0_r26_i84_i576_sroa_idx_i_i_i;
+    u64 v_r7_sroa_129_20_i_i_i;
+    u64 v_r17_i_i_i_i42_i_i_i_i_i_i;
+    P v_r26_i_i_i_i44_i_i_i_i_i_i;
+    u64 v_r8_i_i_i_i_i_i_i_i_i_i45_i_i_i_i_i_i;
+    u64 v_r9_i_i_i_i_i_i_i_i_i_i46_i_i_i_i_i_i;
+    u64 v_r10_i_i_i_i_i_i_i_i_i_i47_i_i_i_i_i_i;
+    u1 v_r11_i_i_i_i_i_i_i_i_i_i48_i_i_i_i_i_i;
+    u64 v_xtraiter196;
+    u1 v_47;
+    u64 v_unroll_iter200;
+    u64 v_r0_04_i_i_i_i_i_i_i_i_i_i63_i_i_i_i_i_i;
+    u64 v_niter201;
+    P v_r20_i_i_i_i_i_i_i_i_i_i64_i_i_i_i_i_i;
+    P v_r24_i_i_i_i_i_i_i_i_i_i65_i_i_i_i_i_i;
+    u8 v_r26_i_i_i_i_i_i_i_i_i_i66_i_i_i_i_i_i;
+    u64 v_r30_i_i_i_i_i_i_i_i_i_i67_i_i_i_i_i_i;
+    P v_r20_i_i_i_i_i_i_i_i_i_i64_i_i_i_i_i_i_1;
+    P v_r24_i_i_i_i_i_i_i_i_i_i65_i_i_i_i_i_i_1;
+    u8 v_r26_i_i_i_i_i_i_i_i_i_i66_i_i_i_i_i_i_1;
+    u64 v_r30_i_i_i_i_i_i_i_i_i_i67_i_i_i_i_i_i_1;
+    P v_r20_i_i_i_i_i_i_i_i_i_i64_i_i_i_i_i_i_2;
+    P v_r24_i_i_i_i_i_i_i_i_i_i65_i_i_i_i_i_i_2;
+    u8 v_r26_i_i_i_i_i_i_i_i_i_i66_i_i_i_i_i_i_2;
+    u64 v_r30_i_i_i_i_i_i_i_i_i_i67_i_i_i_i_i_i_2;
+    P v_r20_i_i_i_i_i_i_i_i_i_i64_i_i_i_i_i_i_3;
+    P v_r24_i_i_i_i_i_i_i_i_i_i65_i_i_i_i_i_i_3;
+    u8 v_r26_i_i_i_i_i_i_i_i_i_i66_i_i_i_i_i_i_3;
+    u64 v_r30_i_i_i_i_i_i_i_i_i_i67_i_i_i_i_i_i_3;
+    u64 v_niter201_next_3;
+    u1 v_niter201_ncmp_3;
+    u1 v_lcmp_mod198_not;
+    u64 v_r0_04_i_i_i_i_i_i_i_i_i_i63_i_i_i_i_i_i_epil_init;
+    u64 v_r0_04_i_i_i_i_i_i_i_i_i_i63_i_i_i_i_i_i_epil;
+    u64 v_epil_iter197;
+    P v_r20_i_i_i_i_i_i_i_i_i_i64_i_i_i_i_i_i_epil;
+    P v_r24_i_i_i_i_i_i_i_i_i_i65_i_i_i_i_i_i_epil;
+    u8 v_r26_i_i_i_i_i_i_i_i_i_i66_i_i_i_i_i_i_epil;
+    u64 v_r30_i_i_i_i_i_i_i_i_i_i67_i_i_i_i_i_i_epil;
+    u64 v_epil_iter197_next;
+    u1 v_epil_iter197_cmp_not;
+    u1 v_r15_not_i_i_i53_i_i_i_i_i_i;
+    u64 v_r17_i3_i_i_i55_i_i_i_i_i_i;
+    P v_r26_i5_i_i_i57_i_i_i_i_i_i;
+    u64 v_r7_sroa_129_2_i_i_i;
+    u64 v_48;
+    u64 v_49;
+    u32 v_50;
+    u32 v_r2_i_i_i61_i_i_i_i_i_i;
+    u1 v_r59_i476_i_i_i;
+    u16 v_r64_i538_i_i_i;
+    u64 v_r17_i_i542_i_i_i;
+    P v_r26_i_i544_i_i_i;
+    u16 v_r8_i471_sroa_4_0_insert_shift_i_i_i;
+    u16 v_r8_i471_sroa_0_0_insert_insert_i_i_i;
+    u1 v_r75_i478_i_i_i;
+    u8 v_r80_i529_i_i_i;
+    u64 v_r17_i28_i534_i_i_i;
+    P v_r26_i30_i536_i_i_i;
+    P v_r14_i472_sroa_4_0_r26_i30_i536_sroa_idx_i_i_i;
+    P v_r14_i472_sroa_5_0_r26_i30_i536_sroa_idx_i_i_i;
+    u1 v_r92_i480_i_i_i;
+    u64 v_r17_i46_i524_i_i_i;
+    P v_r26_i48_i526_i_i_i;
+    u32 v_51;
+    u32 v_r20_i473_sroa_0_0_insert_insert_i_i_i;
+    u1 v_r117_i482_i_i_i;
+    u32 v_r12223_i502_i_i_i;
+    u8 v_r124_i503_i_i_i;
+    u32 v_r12624_i504_i_i_i;
+    u8 v_r130_i505_i_i_i;
+    u8 v_r134_i506_i_i_i;
+    u64 v_r17_i64_i513_i_i_i;
+    P v_r26_i66_i515_i_i_i;
+    P v_r29_i474_sroa_4_0_r26_i66_i515_sroa_idx_i_i_i;
+    P v_r29_i474_sroa_5_0_r26_i66_i515_sroa_idx_i_i_i;
+    P v_r29_i474_sroa_6_0_r26_i66_i515_sroa_idx_i_i_i;
+    P v_r29_i474_sroa_7_0_r26_i66_i515_sroa_idx_i_i_i;
+    u32 v_r15020_i484_i_i_i;
+    u8 v_r152_i485_i_i_i;
+    u32 v_r15421_i486_i_i_i;
+    u8 v_r158_i487_i_i_i;
+    u32 v_r16022_i488_i_i_i;
+    u8 v_r164_i489_i_i_i;
+    u8 v_r168_i490_i_i_i;
+    u64 v_r17_i82_i498_i_i_i;
+    P v_r26_i84_i500_i_i_i;
+    P v_r40_i475_sroa_4_0_r26_i84_i500_sroa_idx_i_i_i;
+    P v_r40_i475_sroa_5_0_r26_i84_i500_sroa_idx_i_i_i;
+    P v_r40_i475_sroa_6_0_r26_i84_i500_sroa_idx_i_i_i;
+    P v_r40_i475_sroa_7_0_r26_i84_i500_sroa_idx_i_i_i;
+    P v_r40_i475_sroa_8_0_r26_i84_i500_sroa_idx_i_i_i;
+    u64 v_r7_sroa_129_19_i_i_i;
+    u64 v_r17_i_i_i_i9_i_i_i_i_i;
     P v_r26_i_i_i_i_i_i_i_i_i;
-    P v_r26_i_i86_i_i_i;
+    u64 v_r8_i_i_i_i_i_i_i_i_i_i_i_i_i_i_i;
+    u64 v_r9_i_i_i_i_i_i_i_i_i_i_i_i_i_i_i;
+    u64 v_r10_i_i_i_i_i_i_i_i_i_i_i_i_i_i_i;
+    u1 v_r11_i_i_i_i_i_i_i_i_i_i_i_i_i_i_i;
+    u64 v_xtraiter202;
+    u1 v_52;
+    u64 v_unroll_iter206;
+    u64 v_r0_04_i_i_i_i_i_i_i_i_i_i_i_i_i_i_i;
+    u64 v_niter207;
+    P v_r20_i_i_i_i_i_i_i_i_i_i_i_i_i_i_i;
+    P v_r24_i_i_i_i_i_i_i_i_i_i_i_i_i_i_i;
+    u8 v_r26_i_i_i_i_i_i_i_i_i_i_i_i_i_i_i;
+    u64 v_r30_i_i_i_i_i_i_i_i_i_i_i_i_i_i_i;
+    P v_r20_i_i_i_i_i_i_i_i_i_i_i_i_i_i_i_1;
+    P v_r24_i_i_i_i_i_i_i_i_i_i_i_i_i_i_i_1;
+    u8 v_r26_i_i_i_i_i_i_i_i_i_i_i_i_i_i_i_1;
+    u64 v_r30_i_i_i_i_i_i_i_i_i_i_i_i_i_i_i_1;
+    P v_r20_i_i_i_i_i_i_i_i_i_i_i_i_i_i_i_2;
+    P v_r24_i_i_i_i_i_i_i_i_i_i_i_i_i_i_i_2;
+    u8 v_r26_i_i_i_i_i_i_i_i_i_i_i_i_i_i_i_2;
+    u64 v_r30_i_i_i_i_i_i_i_i_i_i_i_i_i_i_i_2;
+    P v_r20_i_i_i_i_i_i_i_i_i_i_i_i_i_i_i_3;
+    P v_r24_i_i_i_i_i_i_i_i_i_i_i_i_i_i_i_3;
+    u8 v_r26_i_i_i_i_i_i_i_i_i_i_i_i_i_i_i_3;
+    u64 v_r30_i_i_i_i_i_i_i_i_i_i_i_i_i_i_i_3;
+    u64 v_niter207_next_3;
+    u1 v_niter207_ncmp_3;
+    u1 v_lcmp_mod204_not;
+    u64 v_r0_04_i_i_i_i_i_i_i_i_i_i_i_i_i_i_i_epil_init;
+    u64 v_r0_04_i_i_i_i_i_i_i_i_i_i_i_i_i_i_i_epil;
+    u64 v_epil_iter203;
+    P v_r20_i_i_i_i_i_i_i_i_i_i_i_i_i_i_i_epil;
+    P v_r24_i_i_i_i_i_i_i_i_i_i_i_i_i_i_i_epil;
+    u8 v_r26_i_i_i_i_i_i_i_i_i_i_i_i_i_i_i_epil;
+    u64 v_r30_i_i_i_i_i_i_i_i_i_i_i_i_i_i_i_epil;
+    u64 v_epil_iter203_next;
+    u1 v_epil_iter203_cmp_not;
+    u1 v_r15_not_i_i_i_i_i_i_i_i;
+    u64 v_r17_i3_i_i_i_i_i_i_i_i;
+    P v_r26_i5_i_i_i_i_i_i_i_i;
+    u64 v_r7_sroa_129_3_i_i_i;
+    u64 v_53;
+    u64 v_54;
+    u32 v_55;
+    u32 v_r2_i_i_i_i_i_i_i_i;
+    u1 v_r59_i400_i_i_i;
+    u16 v_r64_i462_i_i_i;
+    u64 v_r17_i_i466_i_i_i;
+    P v_r26_i_i468_i_i_i;
+    u16 v_r8_i395_sroa_4_0_insert_shift_i_i_i;
+    u16 v_r8_i395_sroa_0_0_insert_insert_i_i_i;
+    u1 v_r75_i402_i_i_i;
+    u8 v_r80_i453_i_i_i;
+    u64 v_r17_i28_i458_i_i_i;
+    P v_r26_i30_i460_i_i_i;
+    P v_r14_i396_sroa_4_0_r26_i30_i460_sroa_idx_i_i_i;
+    P v_r14_i396_sroa_5_0_r26_i30_i460_sroa_idx_i_i_i;
+    u1 v_r92_i404_i_i_i;
+    u64 v_r17_i46_i448_i_i_i;
+    P v_r26_i48_i450_i_i_i;
+    u32 v_56;
+    u32 v_r20_i397_sroa_0_0_insert_insert_i_i_i;
+    u1 v_r117_i406_i_i_i;
+    u32 v_r12223_i426_i_i_i;
+    u8 v_r124_i427_i_i_i;
+    u32 v_r12624_i428_i_i_i;
+    u8 v_r130_i429_i_i_i;
+    u8 v_r134_i430_i_i_i;
+    u64 v_r17_i64_i437_i_i_i;
+    P v_r26_i66_i439_i_i_i;
+    P v_r29_i398_sroa_4_0_r26_i66_i439_sroa_idx_i_i_i;
+    P v_r29_i398_sroa_5_0_r26_i66_i439_sroa_idx_i_i_i;
+    P v_r29_i398_sroa_6_0_r26_i66_i439_sroa_idx_i_i_i;
+    P v_r29_i398_sroa_7_0_r26_i66_i439_sroa_idx_i_i_i;
+    u32 v_r15020_i408_i_i_i;
+    u8 v_r152_i409_i_i_i;
+    u32 v_r15421_i410_i_i_i;
+    u8 v_r158_i411_i_i_i;
+    u32 v_r16022_i412_i_i_i;
+    u8 v_r164_i413_i_i_i;
+    u8 v_r168_i414_i_i_i;
+    u64 v_r17_i82_i422_i_i_i;
+    P v_r26_i84_i424_i_i_i;
+    P v_r40_i399_sroa_4_0_r26_i84_i424_sroa_idx_i_i_i;
+    P v_r40_i399_sroa_5_0_r26_i84_i424_sroa_idx_i_i_i;
+    P v_r40_i399_sroa_6_0_r26_i84_i424_sroa_idx_i_i_i;
+    P v_r40_i399_sroa_7_0_r26_i84_i424_sroa_idx_i_i_i;
+    P v_r40_i399_sroa_8_0_r26_i84_i424_sroa_idx_i_i_i;
+    u64 v_r7_sroa_129_18_i_i_i;
+    u64 v_r17_i_i_i_i15_i_i_i_i_i;
+    P v_r26_i_i_i_i17_i_i_i_i_i;
+    u64 v_r8_i_i_i_i_i_i_i_i_i_i18_i_i_i_i_i;
+    u64 v_r9_i_i_i_i_i_i_i_i_i_i19_i_i_i_i_i;
+    u64 v_r10_i_i_i_i_i_i_i_i_i_i20_i_i_i_i_i;
+    u1 v_r11_i_i_i_i_i_i_i_i_i_i21_i_i_i_i_i;
+    u64 v_xtraiter208;
+    u1 v_57;
+    u64 v_unroll_iter212;
+    u64 v_r0_04_i_i_i_i_i_i_i_i_i_i36_i_i_i_i_i;
+    u64 v_niter213;
+    P v_r20_i_i_i_i_i_i_i_i_i_i37_i_i_i_i_i;
+    P v_r24_i_i_i_i_i_i_i_i_i_i38_i_i_i_i_i;
+    u8 v_r26_i_i_i_i_i_i_i_i_i_i39_i_i_i_i_i;
+    u64 v_r30_i_i_i_i_i_i_i_i_i_i40_i_i_i_i_i;
+    P v_r20_i_i_i_i_i_i_i_i_i_i37_i_i_i_i_i_1;
+    P v_r24_i_i_i_i_i_i_i_i_i_i38_i_i_i_i_i_1;
+    u8 v_r26_i_i_i_i_i_i_i_i_i_i39_i_i_i_i_i_1;
+    u64 v_r30_i_i_i_i_i_i_i_i_i_i40_i_i_i_i_i_1;
+    P v_r20_i_i_i_i_i_i_i_i_i_i37_i_i_i_i_i_2;
+    P v_r24_i_i_i_i_i_i_i_i_i_i38_i_i_i_i_i_2;
+    u8 v_r26_i_i_i_i_i_i_i_i_i_i39_i_i_i_i_i_2;
+    u64 v_r30_i_i_i_i_i_i_i_i_i_i40_i_i_i_i_i_2;
+    P v_r20_i_i_i_i_i_i_i_i_i_i37_i_i_i_i_i_3;
+    P v_r24_i_i_i_i_i_i_i_i_i_i38_i_i_i_i_i_3;
+    u8 v_r26_i_i_i_i_i_i_i_i_i_i39_i_i_i_i_i_3;
+    u64 v_r30_i_i_i_i_i_i_i_i_i_i40_i_i_i_i_i_3;
+    u64 v_niter213_next_3;
+    u1 v_niter213_ncmp_3;
+    u1 v_lcmp_mod210_not;
+    u64 v_r0_04_i_i_i_i_i_i_i_i_i_i36_i_i_i_i_i_epil_init;
+    u64 v_r0_04_i_i_i_i_i_i_i_i_i_i36_i_i_i_i_i_epil;
+    u64 v_epil_iter209;
+    P v_r20_i_i_i_i_i_i_i_i_i_i37_i_i_i_i_i_epil;
+    P v_r24_i_i_i_i_i_i_i_i_i_i38_i_i_i_i_i_epil;
+    u8 v_r26_i_i_i_i_i_i_i_i_i_i39_i_i_i_i_i_epil;
+    u64 v_r30_i_i_i_i_i_i_i_i_i_i40_i_i_i_i_i_epil;
+    u64 v_epil_iter209_next;
+    u1 v_epil_iter209_cmp_not;
+    u1 v_r15_not_i_i_i26_i_i_i_i_i;
+    u64 v_r17_i3_i_i_i28_i_i_i_i_i;
+    P v_r26_i5_i_i_i30_i_i_i_i_i;
+    u64 v_r7_sroa_129_4_i_i_i;
+    u64 v_58;
+    u64 v_59;
+    u32 v_60;
+    u32 v_r2_i_i_i34_i_i_i_i_i;
+    u1 v_r59_i324_i_i_i;
+    u16 v_r64_i386_i_i_i;
+    u64 v_r17_i_i390_i_i_i;
+    P v_r26_i_i392_i_i_i;
+    u16 v_r8_i319_sroa_4_0_insert_shift_i_i_i;
+    u16 v_r8_i319_sroa_0_0_insert_insert_i_i_i;
+    u1 v_r75_i326_i_i_i;
+    u8 v_r80_i377_i_i_i;
+    u64 v_r17_i28_i382_i_i_i;
+    P v_r26_i30_i384_i_i_i;
+    P v_r14_i320_sroa_4_0_r26_i30_i384_sroa_idx_i_i_i;
+    P v_r14_i320_sroa_5_0_r26_i30_i384_sroa_idx_i_i_i;
+    u1 v_r92_i328_i_i_i;
+    u64 v_r17_i46_i372_i_i_i;
+    P v_r26_i48_i374_i_i_i;
+    u32 v_61;
+    u32 v_r20_i321_sroa_0_0_insert_insert_i_i_i;
+    u1 v_r117_i330_i_i_i;
+    u32 v_r12223_i350_i_i_i;
+    u8 v_r124_i351_i_i_i;
+    u32 v_r12624_i352_i_i_i;
+    u8 v_r130_i353_i_i_i;
+    u8 v_r134_i354_i_i_i;
+    u64 v_r17_i64_i361_i_i_i;
+    P v_r26_i66_i363_i_i_i;
+    P v_r29_i322_sroa_4_0_r26_i66_i363_sroa_idx_i_i_i;
+    P v_r29_i322_sroa_5_0_r26_i66_i363_sroa_idx_i_i_i;
+    P v_r29_i322_sroa_6_0_r26_i66_i363_sroa_idx_i_i_i;
+    P v_r29_i322_sroa_7_0_r26_i66_i363_sroa_idx_i_i_i;
+    u32 v_r15020_i332_i_i_i;
+    u8 v_r152_i333_i_i_i;
+    u32 v_r15421_i334_i_i_i;
+    u8 v_r158_i335_i_i_i;
+    u32 v_r16022_i336_i_i_i;
+    u8 v_r164_i337_i_i_i;
+    u8 v_r168_i338_i_i_i;
+    u64 v_r17_i82_i346_i_i_i;
+    P v_r26_i84_i348_i_i_i;
+    P v_r40_i323_sroa_4_0_r26_i84_i348_sroa_idx_i_i_i;
+    P v_r40_i323_sroa_5_0_r26_i84_i348_sroa_idx_i_i_i;
+    P v_r40_i323_sroa_6_0_r26_i84_i348_sroa_idx_i_i_i;
+    P v_r40_i323_sroa_7_0_r26_i84_i348_sroa_idx_i_i_i;
+    P v_r40_i323_sroa_8_0_r26_i84_i348_sroa_idx_i_i_i;
+    u64 v_r7_sroa_129_17_i_i_i;
+    u64 v_r17_i_i_i_i48_i_i_i_i_i;
+    P v_r26_i_i_i_i50_i_i_i_i_i;
+    u64 v_r8_i_i_i_i_i_i_i_i_i_i51_i_i_i_i_i;
+    u64 v_r9_i_i_i_i_i_i_i_i_i_i52_i_i_i_i_i;
+    u64 v_r10_i_i_i_i_i_i_i_i_i_i53_i_i_i_i_i;
+    u1 v_r11_i_i_i_i_i_i_i_i_i_i54_i_i_i_i_i;
+    u64 v_xtraiter214;
+    u1 v_62;
+    u64 v_unroll_iter218;
+    u64 v_r0_04_i_i_i_i_i_i_i_i_i_i69_i_i_i_i_i;
+    u64 v_niter219;
+    P v_r20_i_i_i_i_i_i_i_i_i_i70_i_i_i_i_i;
+    P v_r24_i_i_i_i_i_i_i_i_i_i71_i_i_i_i_i;
+    u8 v_r26_i_i_i_i_i_i_i_i_i_i72_i_i_i_i_i;
+    u64 v_r30_i_i_i_i_i_i_i_i_i_i73_i_i_i_i_i;
+    P v_r20_i_i_i_i_i_i_i_i_i_i70_i_i_i_i_i_1;
+    P v_r24_i_i_i_i_i_i_i_i_i_i71_i_i_i_i_i_1;
+    u8 v_r26_i_i_i_i_i_i_i_i_i_i72_i_i_i_i_i_1;
+    u64 v_r30_i_i_i_i_i_i_i_i_i_i73_i_i_i_i_i_1;
+    P v_r20_i_i_i_i_i_i_i_i_i_i70_i_i_i_i_i_2;
+    P v_r24_i_i_i_i_i_i_i_i_i_i71_i_i_i_i_i_2;
+    u8 v_r26_i_i_i_i_i_i_i_i_i_i72_i_i_i_i_i_2;
+    u64 v_r30_i_i_i_i_i_i_i_i_i_i73_i_i_i_i_i_2;
+    P v_r20_i_i_i_i_i_i_i_i_i_i70_i_i_i_i_i_3;
+    P v_r24_i_i_i_i_i_i_i_i_i_i71_i_i_i_i_i_3;
+    u8 v_r26_i_i_i_i_i_i_i_i_i_i72_i_i_i_i_i_3;
+    u64 v_r30_i_i_i_i_i_i_i_i_i_i73_i_i_i_i_i_3;
+    u64 v_niter219_next_3;
+    u1 v_niter219_ncmp_3;
+    u1 v_lcmp_mod216_not;
+    u64 v_r0_04_i_i_i_i_i_i_i_i_i_i69_i_i_i_i_i_epil_init;
+    u64 v_r0_04_i_i_i_i_i_i_i_i_i_i69_i_i_i_i_i_epil;
+    u64 v_epil_iter215;
+    P v_r20_i_i_i_i_i_i_i_i_i_i70_i_i_i_i_i_epil;
+    P v_r24_i_i_i_i_i_i_i_i_i_i71_i_i_i_i_i_epil;
+    u8 v_r26_i_i_i_i_i_i_i_i_i_i72_i_i_i_i_i_epil;
+    u64 v_r30_i_i_i_i_i_i_i_i_i_i73_i_i_i_i_i_epil;
+    u64 v_epil_iter215_next;
+    u1 v_epil_iter215_cmp_not;
+    u1 v_r15_not_i_i_i59_i_i_i_i_i;
+    u64 v_r17_i3_i_i_i61_i_i_i_i_i;
+    P v_r26_i5_i_i_i63_i_i_i_i_i;
+    u64 v_r7_sroa_129_5_i_i_i;
+    u64 v_63;
+    u64 v_64;
+    u32 v_65;
+    u32 v_r2_i_i_i67_i_i_i_i_i;
+    u1 v_r59_i248_i_i_i;
+    u16 v_r64_i310_i_i_i;
+    u64 v_r17_i_i314_i_i_i;
+    P v_r26_i_i316_i_i_i;
+    u16 v_r8_i243_sroa_4_0_insert_shift_i_i_i;
+    u16 v_r8_i243_sroa_0_0_insert_insert_i_i_i;
+    u1 v_r75_i250_i_i_i;
+    u8 v_r80_i301_i_i_i;
+    u64 v_r17_i28_i306_i_i_i;
+    P v_r26_i30_i308_i_i_i;
+    P v_r14_i244_sroa_4_0_r26_i30_i308_sroa_idx_i_i_i;
+    P v_r14_i244_sroa_5_0_r26_i30_i308_sroa_idx_i_i_i;
+    u1 v_r92_i252_i_i_i;
+    u64 v_r17_i46_i296_i_i_i;
+    P v_r26_i48_i298_i_i_i;
+    u32 v_66;
+    u32 v_r20_i245_sroa_0_0_insert_insert_i_i_i;
+    u1 v_r117_i254_i_i_i;
+    u32 v_r12223_i274_i_i_i;
+    u8 v_r124_i275_i_i_i;
+    u32 v_r12624_i276_i_i_i;
+    u8 v_r130_i277_i_i_i;
+    u8 v_r134_i278_i_i_i;
+    u64 v_r17_i64_i285_i_i_i;
+    P v_r26_i66_i287_i_i_i;
+    P v_r29_i246_sroa_4_0_r26_i66_i287_sroa_idx_i_i_i;
+    P v_r29_i246_sroa_5_0_r26_i66_i287_sroa_idx_i_i_i;
+    P v_r29_i246_sroa_6_0_r26_i66_i287_sroa_idx_i_i_i;
+    P v_r29_i246_sroa_7_0_r26_i66_i287_sroa_idx_i_i_i;
+    u32 v_r15020_i256_i_i_i;
+    u8 v_r152_i257_i_i_i;
+    u32 v_r15421_i258_i_i_i;
+    u8 v_r158_i259_i_i_i;
+    u32 v_r16022_i260_i_i_i;
+    u8 v_r164_i261_i_i_i;
+    u8 v_r168_i262_i_i_i;
+    u64 v_r17_i82_i270_i_i_i;
+    P v_r26_i84_i272_i_i_i;
+    P v_r40_i247_sroa_4_0_r26_i84_i272_sroa_idx_i_i_i;
+    P v_r40_i247_sroa_5_0_r26_i84_i272_sroa_idx_i_i_i;
+    P v_r40_i247_sroa_6_0_r26_i84_i272_sroa_idx_i_i_i;
+    P v_r40_i247_sroa_7_0_r26_i84_i272_sroa_idx_i_i_i;
+    P v_r40_i247_sroa_8_0_r26_i84_i272_sroa_idx_i_i_i;
+    u64 v_r7_sroa_129_16_i_i_i;
+    u64 v_r17_i_i_i_i81_i_i_i_i_i;
+    P v_r26_i_i_i_i83_i_i_i_i_i;
+    u64 v_r8_i_i_i_i_i_i_i_i_i_i84_i_i_i_i_i;
+    u64 v_r9_i_i_i_i_i_i_i_i_i_i85_i_i_i_i_i;
+    u64 v_r10_i_i_i_i_i_i_i_i_i_i86_i_i_i_i_i;
+    u1 v_r11_i_i_i_i_i_i_i_i_i_i87_i_i_i_i_i;
+    u64 v_xtraiter220;
+    u1 v_67;
+    u64 v_unroll_iter224;
+    u64 v_r0_04_i_i_i_i_i_i_i_i_i_i102_i_i_i_i_i;
+    u64 v_niter225;
+    P v_r20_i_i_i_i_i_i_i_i_i_i103_i_i_i_i_i;
+    P v_r24_i_i_i_i_i_i_i_i_i_i104_i_i_i_i_i;
+    u8 v_r26_i_i_i_i_i_i_i_i_i_i105_i_i_i_i_i;
+    u64 v_r30_i_i_i_i_i_i_i_i_i_i106_i_i_i_i_i;
+    P v_r20_i_i_i_i_i_i_i_i_i_i103_i_i_i_i_i_1;
+    P v_r24_i_i_i_i_i_i_i_i_i_i104_i_i_i_i_i_1;
+    u8 v_r26_i_i_i_i_i_i_i_i_i_i105_i_i_i_i_i_1;
+    u64 v_r30_i_i_i_i_i_i_i_i_i_i106_i_i_i_i_i_1;
+    P v_r20_i_i_i_i_i_i_i_i_i_i103_i_i_i_i_i_2;
+    P v_r24_i_i_i_i_i_i_i_i_i_i104_i_i_i_i_i_2;
+    u8 v_r26_i_i_i_i_i_i_i_i_i_i105_i_i_i_i_i_2;
+    u64 v_r30_i_i_i_i_i_i_i_i_i_i106_i_i_i_i_i_2;
+    P v_r20_i_i_i_i_i_i_i_i_i_i103_i_i_i_i_i_3;
+    P v_r24_i_i_i_i_i_i_i_i_i_i104_i_i_i_i_i_3;
+    u8 v_r26_i_i_i_i_i_i_i_i_i_i105_i_i_i_i_i_3;
+    u64 v_r30_i_i_i_i_i_i_i_i_i_i106_i_i_i_i_i_3;
+    u64 v_niter225_next_3;
+    u1 v_niter225_ncmp_3;
+    u1 v_lcmp_mod222_not;
+    u64 v_r0_04_i_i_i_i_i_i_i_i_i_i102_i_i_i_i_i_epil_init;
+    u64 v_r0_04_i_i_i_i_i_i_i_i_i_i102_i_i_i_i_i_epil;
+    u64 v_epil_iter221;
+    P v_r20_i_i_i_i_i_i_i_i_i_i103_i_i_i_i_i_epil;
+    P v_r24_i_i_i_i_i_i_i_i_i_i104_i_i_i_i_i_epil;
+    u8 v_r26_i_i_i_i_i_i_i_i_i_i105_i_i_i_i_i_epil;
+    u64 v_r30_i_i_i_i_i_i_i_i_i_i106_i_i_i_i_i_epil;
+    u64 v_epil_iter221_next;
+    u1 v_epil_iter221_cmp_not;
+    u1 v_r15_not_i_i_i92_i_i_i_i_i;
+    u64 v_r17_i3_i_i_i94_i_i_i_i_i;
+    P v_r26_i5_i_i_i96_i_i_i_i_i;
+    u64 v_r7_sroa_129_6_i_i_i;
+    u64 v_68;
+    u64 v_69;
+    u32 v_70;
+    u32 v_r2_i_i_i100_i_i_i_i_i;
+    u1 v_r59_i172_i_i_i;
+    u16 v_r64_i234_i_i_i;
+    u64 v_r17_i_i238_i_i_i;
+    P v_r26_i_i240_i_i_i;
+    u16 v_r8_i167_sroa_4_0_insert_shift_i_i_i;
+    u16 v_r8_i167_sroa_0_0_insert_insert_i_i_i;
+    u1 v_r75_i174_i_i_i;
+    u8 v_r80_i225_i_i_i;
+    u64 v_r17_i28_i230_i_i_i;
+    P v_r26_i30_i232_i_i_i;
+    P v_r14_i168_sroa_4_0_r26_i30_i232_sroa_idx_i_i_i;
+    P v_r14_i168_sroa_5_0_r26_i30_i232_sroa_idx_i_i_i;
+    u1 v_r92_i176_i_i_i;
+    u64 v_r17_i46_i220_i_i_i;
+    P v_r26_i48_i222_i_i_i;
+    u32 v_71;
+    u32 v_r20_i169_sroa_0_0_insert_insert_i_i_i;
+    u1 v_r117_i178_i_i_i;
+    u32 v_r12223_i198_i_i_i;
+    u8 v_r124_i199_i_i_i;
+    u32 v_r12624_i200_i_i_i;
+    u8 v_r130_i201_i_i_i;
+    u8 v_r134_i202_i_i_i;
+    u64 v_r17_i64_i209_i_i_i;
+    P v_r26_i66_i211_i_i_i;
+    P v_r29_i170_sroa_4_0_r26_i66_i211_sroa_idx_i_i_i;
+    P v_r29_i170_sroa_5_0_r26_i66_i211_sroa_idx_i_i_i;
+    P v_r29_i170_sroa_6_0_r26_i66_i211_sroa_idx_i_i_i;
+    P v_r29_i170_sroa_7_0_r26_i66_i211_sroa_idx_i_i_i;
+    u32 v_r15020_i180_i_i_i;
+    u8 v_r152_i181_i_i_i;
+    u32 v_r15421_i182_i_i_i;
+    u8 v_r158_i183_i_i_i;
+    u32 v_r16022_i184_i_i_i;
+    u8 v_r164_i185_i_i_i;
+    u8 v_r168_i186_i_i_i;
+    u64 v_r17_i82_i194_i_i_i;
+    P v_r26_i84_i196_i_i_i;
+    P v_r40_i171_sroa_4_0_r26_i84_i196_sroa_idx_i_i_i;
+    P v_r40_i171_sroa_5_0_r26_i84_i196_sroa_idx_i_i_i;
+    P v_r40_i171_sroa_6_0_r26_i84_i196_sroa_idx_i_i_i;
+    P v_r40_i171_sroa_7_0_r26_i84_i196_sroa_idx_i_i_i;
+    P v_r40_i171_sroa_8_0_r26_i84_i196_sroa_idx_i_i_i;
+    u64 v_r7_sroa_129_15_i_i_i;
+    u64 v_r17_i_i_i_i114_i_i_i_i_i;
+    P v_r26_i_i_i_i116_i_i_i_i_i;
+    u64 v_r8_i_i_i_i_i_i_i_i_i_i117_i_i_i_i_i;
+    u64 v_r9_i_i_i_i_i_i_i_i_i_i118_i_i_i_i_i;
+    u64 v_r10_i_i_i_i_i_i_i_i_i_i119_i_i_i_i_i;
+    u1 v_r11_i_i_i_i_i_i_i_i_i_i120_i_i_i_i_i;
+    u64 v_xtraiter226;
+    u1 v_72;
+    u64 v_unroll_iter230;
+    u64 v_r0_04_i_i_i_i_i_i_i_i_i_i135_i_i_i_i_i;
+    u64 v_niter231;
+    P v_r20_i_i_i_i_i_i_i_i_i_i136_i_i_i_i_i;
+    P v_r24_i_i_i_i_i_i_i_i_i_i137_i_i_i_i_i;
+    u8 v_r26_i_i_i_i_i_i_i_i_i_i138_i_i_i_i_i;
+    u64 v_r30_i_i_i_i_i_i_i_i_i_i139_i_i_i_i_i;
+    P v_r20_i_i_i_i_i_i_i_i_i_i136_i_i_i_i_i_1;
+    P v_r24_i_i_i_i_i_i_i_i_i_i137_i_i_i_i_i_1;
+    u8 v_r26_i_i_i_i_i_i_i_i_i_i138_i_i_i_i_i_1;
+    u64 v_r30_i_i_i_i_i_i_i_i_i_i139_i_i_i_i_i_1;
+    P v_r20_i_i_i_i_i_i_i_i_i_i136_i_i_i_i_i_2;
+    P v_r24_i_i_i_i_i_i_i_i_i_i137_i_i_i_i_i_2;
+    u8 v_r26_i_i_i_i_i_i_i_i_i_i138_i_i_i_i_i_2;
+    u64 v_r30_i_i_i_i_i_i_i_i_i_i139_i_i_i_i_i_2;
+    P v_r20_i_i_i_i_i_i_i_i_i_i136_i_i_i_i_i_3;
+    P v_r24_i_i_i_i_i_i_i_i_i_i137_i_i_i_i_i_3;
+    u8 v_r26_i_i_i_i_i_i_i_i_i_i138_i_i_i_i_i_3;
+    u64 v_r30_i_i_i_i_i_i_i_i_i_i139_i_i_i_i_i_3;
+    u64 v_niter231_next_3;
+    u1 v_niter231_ncmp_3;
+    u1 v_lcmp_mod228_not;
+    u64 v_r0_04_i_i_i_i_i_i_i_i_i_i135_i_i_i_i_i_epil_init;
+    u64 v_r0_04_i_i_i_i_i_i_i_i_i_i135_i_i_i_i_i_epil;
+    u64 v_epil_iter227;
+    P v_r20_i_i_i_i_i_i_i_i_i_i136_i_i_i_i_i_epil;
+    P v_r24_i_i_i_i_i_i_i_i_i_i137_i_i_i_i_i_epil;
+    u8 v_r26_i_i_i_i_i_i_i_i_i_i138_i_i_i_i_i_epil;
+    u64 v_r30_i_i_i_i_i_i_i_i_i_i139_i_i_i_i_i_epil;
+    u64 v_epil_iter227_next;
+    u1 v_epil_iter227_cmp_not;
+    u1 v_r15_not_i_i_i125_i_i_i_i_i;
+    u64 v_r17_i3_i_i_i127_i_i_i_i_i;
+    P v_r26_i5_i_i_i129_i_i_i_i_i;
+    u64 v_r7_sroa_129_12_i_i_i;
+    u64 v_73;
+    u64 v_74;
+    u32 v_75;
+    u32 v_r2_i_i_i133_i_i_i_i_i;
+    u1 v_r59_i96_i_i_i;
+    u16 v_r64_i158_i_i_i;
+    u64 v_r17_i_i162_i_i_i;
+    P v_r26_i_i164_i_i_i;
+    u16 v_r8_i91_sroa_4_0_insert_shift_i_i_i;
+    u16 v_r8_i91_sroa_0_0_insert_insert_i_i_i;
+    u1 v_r75_i98_i_i_i;
+    u8 v_r80_i149_i_i_i;
+    u64 v_r17_i28_i154_i_i_i;
+    P v_r26_i30_i156_i_i_i;
+    P v_r14_i92_sroa_4_0_r26_i30_i156_sroa_idx_i_i_i;
+    P v_r14_i92_sroa_5_0_r26_i30_i156_sroa_idx_i_i_i;
+    u1 v_r92_i100_i_i_i;
+    u64 v_r17_i46_i144_i_i_i;
+    P v_r26_i48_i146_i_i_i;
+    u32 v_76;
+    u32 v_r20_i93_sroa_0_0_insert_insert_i_i_i;
+    u1 v_r117_i102_i_i_i;
+    u32 v_r12223_i122_i_i_i;
+    u8 v_r124_i123_i_i_i;
+    u32 v_r12624_i124_i_i_i;
+    u8 v_r130_i125_i_i_i;
+    u8 v_r134_i126_i_i_i;
+    u64 v_r17_i64_i133_i_i_i;
+    P v_r26_i66_i135_i_i_i;
+    P v_r29_i94_sroa_4_0_r26_i66_i135_sroa_idx_i_i_i;
+    P v_r29_i94_sroa_5_0_r26_i66_i135_sroa_idx_i_i_i;
+    P v_r29_i94_sroa_6_0_r26_i66_i135_sroa_idx_i_i_i;
+    P v_r29_i94_sroa_7_0_r26_i66_i135_sroa_idx_i_i_i;
+    u32 v_r15020_i104_i_i_i;
+    u8 v_r152_i105_i_i_i;
+    u32 v_r15421_i106_i_i_i;
+    u8 v_r158_i107_i_i_i;
+    u32 v_r16022_i108_i_i_i;
+    u8 v_r164_i109_i_i_i;
+    u8 v_r168_i110_i_i_i;
+    u64 v_r17_i82_i118_i_i_i;
+    P v_r26_i84_i120_i_i_i;
+    P v_r40_i95_sroa_4_0_r26_i84_i120_sroa_idx_i_i_i;
+    P v_r40_i95_sroa_5_0_r26_i84_i120_sroa_idx_i_i_i;
+    P v_r40_i95_sroa_6_0_r26_i84_i120_sroa_idx_i_i_i;
+    P v_r40_i95_sroa_7_0_r26_i84_i120_sroa_idx_i_i_i;
+    P v_r40_i95_sroa_8_0_r26_i84_i120_sroa_idx_i_i_i;
+    u64 v_r7_sroa_129_14_i_i_i;
+    P v_77;
+    P v_r26_i_i_i_i_i_i_i_i;
+    P v_r26_i_i88_i_i_i;
     u64 v_reass_sub_i_i_i;
     u64 v_r17_i12_i_i_i;
     u32 v_r2_i_i_i_i_i;
     u1 v_r59_i_i_i_i;
     u16 v_r64_i_i_i_i;
-    P v_r26_i_i_i_i_i;
+    P v_r26_i_i14_i_i_i;
     u16 v_r8_i_sroa_4_0_insert_shift_i_i_i;
     u16 v_r8_i_sroa_0_0_insert_insert_i_i_i;
     u1 v_r75_i_i_i_i;
@@ -33552,12 +34410,12 @@ u32 pkcs1_c_private_key_encode(P v_a0, P v_a1, u64 v_a2, P v_a3, u64 v_a4, P v_a
     P v_r14_i_sroa_5_0_r26_i30_i_sroa_idx_i_i_i;
     u1 v_r92_i_i_i_i;
     P v_r26_i48_i_i_i_i;
-    u32 v_43;
+    u32 v_78;
     u32 v_r20_i_sroa_0_0_insert_insert_i_i_i;
     u1 v_r117_i_i_i_i;
-    u64 v_r12223_i645_i_i_i;
+    u64 v_r12223_i1242_i_i_i;
     u8 v_r124_i_i_i_i;
-    u64 v_r12624_i646_i_i_i;
+    u64 v_r12624_i1243_i_i_i;
     u8 v_r130_i_i_i_i;
     u8 v_r134_i_i_i_i;
     P v_r26_i66_i_i_i_i;
@@ -33565,11 +34423,11 @@ u32 pkcs1_c_private_key_encode(P v_a0, P v_a1, u64 v_a2, P v_a3, u64 v_a4, P v_a
     P v_r29_i_sroa_5_0_r26_i66_i_sroa_idx_i_i_i;
     P v_r29_i_sroa_6_0_r26_i66_i_sroa_idx_i_i_i;
     P v_r29_i_sroa_7_0_r26_i66_i_sroa_idx_i_i_i;
-    u64 v_r15020_i642_i_i_i;
+    u64 v_r15020_i1239_i_i_i;
     u8 v_r152_i_i_i_i;
-    u64 v_r15421_i643_i_i_i;
+    u64 v_r15421_i1240_i_i_i;
     u8 v_r158_i_i_i_i;
-    u64 v_r16022_i644_i_i_i;
+    u64 v_r16022_i1241_i_i_i;
     u8 v_r164_i_i_i_i;
     u8 v_r168_i_i_i_i;
     P v_r26_i84_i_i_i_i;
@@ -33578,15 +34436,18 @@ u32 pkcs1_c_private_key_encode(P v_a0, P v_a1, u64 v_a2, P v_a3, u64 v_a4, P v_a
     P v_r40_i_sroa_6_0_r26_i84_i_sroa_idx_i_i_i;
     P v_r40_i_sroa_7_0_r26_i84_i_sroa_idx_i_i_i;
     P v_r40_i_sroa_8_0_r26_i84_i_sroa_idx_i_i_i;
+    u8 v_r48_pre_i;
     u32 v_r5_sroa_0_sroa_5_0_i_i;
     u8 v_r3_i_i_i;
-    u1 v_44;
+    u1 v_79;
     P v_r4_i_i_i;
     u32 v_r0_sroa_0_0_copyload_i_i_i;
     u64 v_r3_i_i2_i_i;
+    u8 v_r48_i;
     u32 v_r8_0_i_i;
     P v_r18_sroa_3_sroa_4_0_r51_sroa_idx_i;
     u64 v_r18_sroa_3_sroa_4_0_copyload_i;
+    u1 v_80;
     u1 v_r14_not_i_i_i_i;
     u1 v_or_cond_i;
     P v_r18_sroa_3_sroa_0_0_copyload_i;
@@ -33594,7 +34455,6 @@ u32 pkcs1_c_private_key_encode(P v_a0, P v_a1, u64 v_a2, P v_a3, u64 v_a4, P v_a
     u32 v_common_ret_op_i;
     v_r2_i_i_i = m_v_r2_i_i_i;
     v_r1_i_i_i = m_v_r1_i_i_i;
-    v_r4_i_i_i_i_i = m_v_r4_i_i_i_i_i;
     v_r10_i_i_i = m_v_r10_i_i_i;
     v_r4_i362_i_i = m_v_r4_i362_i_i;
     v_r72_sroa_31_i_i = m_v_r72_sroa_31_i_i;
@@ -33633,17 +34493,21 @@ L_join_5_i_i_i_i:;
     v_r31_i_i_i_i = v_r3_sroa_0_08_i_i_i_i + 1;
     v_r34_i_i_i_i = (u64)((u64)(v_r3_sroa_6_07_i_i_i_i) + (u64)(18446744073709551615ull));
     v_r14_i_i_i_i = v_r34_i_i_i_i > 1u;
-    if (v_r14_i_i_i_i) { p_v_r3_sroa_0_08_i_i_i_i = v_r31_i_i_i_i; p_v_r3_sroa_6_07_i_i_i_i = v_r34_i_i_i_i; goto L_then_3_i_i_i_i; } else { p_v_r12_sroa_10_i_sroa_3_0_ph_i_i = v_scevgep_i_i_i_i; p_v_r12_sroa_10_i_sroa_5_0_ph_i_i = 1u; goto L_arm_1_i_i; }
+    if (v_r14_i_i_i_i) { p_v_r3_sroa_0_08_i_i_i_i = v_r31_i_i_i_i; p_v_r3_sroa_6_07_i_i_i_i = v_r34_i_i_i_i; goto L_then_3_i_i_i_i; } else { p_v_r1_sroa_0_0_copyload_i_i_i111_i_i_i_i_ph_i = v_scevgep_i_i_i_i; goto L_arm_1_ithread_pre_split_i; }
 L_der_core_integer_uint_strip_exit_i_i_i:;
     v_r7_i_i_i_i = v_r25_sroa_3_0_copyload_i_i == 0u;
-    if (v_r7_i_i_i_i) { p_v_r11_sroa_22_0_ph_i = 4u; goto L_pkcs1_c_status_status_exit_i; } else { p_v_r12_sroa_10_i_sroa_3_0_ph_i_i = v_r25_sroa_0_0_copyload_i_i; p_v_r12_sroa_10_i_sroa_5_0_ph_i_i = 1u; goto L_arm_1_i_i; }
+    if (v_r7_i_i_i_i) { p_v_r11_sroa_22_0_ph_i = 4u; goto L_pkcs1_c_status_status_exit_i; } else { p_v_r1_sroa_0_0_copyload_i_i_i111_i_i_i_i_ph_i = v_r25_sroa_0_0_copyload_i_i; goto L_arm_1_ithread_pre_split_i; }
 L_join_3_i397_i_i:;
     v_r49_i398_i_i = v_r3_sroa_6_07_i_i_i_i > 4294967295ull;
-    if (v_r49_i398_i_i) { p_v_r11_sroa_22_0_ph_i = 8u; goto L_pkcs1_c_status_status_exit_i; } else { p_v_r12_sroa_10_i_sroa_3_0_ph_i_i = v_r3_sroa_0_08_i_i_i_i; p_v_r12_sroa_10_i_sroa_5_0_ph_i_i = v_r3_sroa_6_07_i_i_i_i; goto L_arm_1_i_i; }
+    if (v_r49_i398_i_i) { p_v_r11_sroa_22_0_ph_i = 8u; goto L_pkcs1_c_status_status_exit_i; } else { p_v_r20_i288_i_i = v_r21_i_i_i_i; p_v_r1_sroa_0_0_copyload_i_i_i111_i_i_i_i_i = v_r3_sroa_0_08_i_i_i_i; p_v_r1_sroa_3_0_copyload_i_i_i113_i_i_i_i_i = v_r3_sroa_6_07_i_i_i_i; goto L_arm_1_i_i; }
+L_arm_1_ithread_pre_split_i:;
+    v_r1_sroa_0_0_copyload_i_i_i111_i_i_i_i_ph_i = p_v_r1_sroa_0_0_copyload_i_i_i111_i_i_i_i_ph_i;
+    v_r20_i288_i_pr_i = get_u8(v_r1_sroa_0_0_copyload_i_i_i111_i_i_i_i_ph_i);
+    { p_v_r20_i288_i_i = v_r20_i288_i_pr_i; p_v_r1_sroa_0_0_copyload_i_i_i111_i_i_i_i_i = v_r1_sroa_0_0_copyload_i_i_i111_i_i_i_i_ph_i; p_v_r1_sroa_3_0_copyload_i_i_i113_i_i_i_i_i = 1u; goto L_arm_1_i_i; }
 L_arm_1_i_i:;
-    v_r12_sroa_10_i_sroa_3_0_ph_i_i = p_v_r12_sroa_10_i_sroa_3_0_ph_i_i;
-    v_r12_sroa_10_i_sroa_5_0_ph_i_i = p_v_r12_sroa_10_i_sroa_5_0_ph_i_i;
-    v_r20_i288_i_i = get_u8(v_r12_sroa_10_i_sroa_3_0_ph_i_i);
+    v_r20_i288_i_i = p_v_r20_i288_i_i;
+    v_r1_sroa_0_0_copyload_i_i_i111_i_i_i_i_i = p_v_r1_sroa_0_0_copyload_i_i_i111_i_i_i_i_i;
+    v_r1_sroa_3_0_copyload_i_i_i113_i_i_i_i_i = p_v_r1_sroa_3_0_copyload_i_i_i113_i_i_i_i_i;
     v_r20_i288_lobit_i_i = (u8)((u32)(v_r20_i288_i_i) >> (u32)((7u & 31)));
     v_i_i_i = (u64)v_r20_i288_lobit_i_i;
     v_r106_i_i = v_a0 + 16;
@@ -33666,17 +34530,21 @@ L_join_5_i_i453_i_i:;
     v_r31_i_i454_i_i = v_r3_sroa_0_08_i_i442_i_i + 1;
     v_r34_i_i455_i_i = (u64)((u64)(v_r3_sroa_6_07_i_i443_i_i) + (u64)(18446744073709551615ull));
     v_r14_i_i456_i_i = v_r34_i_i455_i_i > 1u;
-    if (v_r14_i_i456_i_i) { p_v_r3_sroa_0_08_i_i442_i_i = v_r31_i_i454_i_i; p_v_r3_sroa_6_07_i_i443_i_i = v_r34_i_i455_i_i; goto L_then_3_i_i441_i_i; } else { p_v_r12_sroa_10_i465_sroa_3_0_ph_i_i = v_scevgep_i_i440_i_i; p_v_r12_sroa_10_i465_sroa_5_0_ph_i_i = 1u; goto L_arm_5_i_i; }
+    if (v_r14_i_i456_i_i) { p_v_r3_sroa_0_08_i_i442_i_i = v_r31_i_i454_i_i; p_v_r3_sroa_6_07_i_i443_i_i = v_r34_i_i455_i_i; goto L_then_3_i_i441_i_i; } else { p_v_r1_sroa_0_0_copyload_i_i_i78_i_i_i_i_ph_i = v_scevgep_i_i440_i_i; goto L_arm_5_ithread_pre_split_i; }
 L_der_core_integer_uint_strip_exit_i427_i_i:;
     v_r7_i_i428_i_i = v_r31_sroa_3_0_copyload_i_i == 0u;
-    if (v_r7_i_i428_i_i) { p_v_r11_sroa_22_0_ph_i = 4u; goto L_pkcs1_c_status_status_exit_i; } else { p_v_r12_sroa_10_i465_sroa_3_0_ph_i_i = v_r31_sroa_0_0_copyload_i_i; p_v_r12_sroa_10_i465_sroa_5_0_ph_i_i = 1u; goto L_arm_5_i_i; }
+    if (v_r7_i_i428_i_i) { p_v_r11_sroa_22_0_ph_i = 4u; goto L_pkcs1_c_status_status_exit_i; } else { p_v_r1_sroa_0_0_copyload_i_i_i78_i_i_i_i_ph_i = v_r31_sroa_0_0_copyload_i_i; goto L_arm_5_ithread_pre_split_i; }
 L_join_3_i446_i_i:;
     v_r49_i447_i_i = v_r3_sroa_6_07_i_i443_i_i > 4294967295ull;
-    if (v_r49_i447_i_i) { p_v_r11_sroa_22_0_ph_i = 8u; goto L_pkcs1_c_status_status_exit_i; } else { p_v_r12_sroa_10_i465_sroa_3_0_ph_i_i = v_r3_sroa_0_08_i_i442_i_i; p_v_r12_sroa_10_i465_sroa_5_0_ph_i_i = v_r3_sroa_6_07_i_i443_i_i; goto L_arm_5_i_i; }
+    if (v_r49_i447_i_i) { p_v_r11_sroa_22_0_ph_i = 8u; goto L_pkcs1_c_status_status_exit_i; } else { p_v_r20_i295_i_i = v_r21_i_i444_i_i; p_v_r1_sroa_0_0_copyload_i_i_i78_i_i_i_i_i = v_r3_sroa_0_08_i_i442_i_i; p_v_r1_sroa_3_0_copyload_i_i_i80_i_i_i_i_i = v_r3_sroa_6_07_i_i443_i_i; goto L_arm_5_i_i; }
+L_arm_5_ithread_pre_split_i:;
+    v_r1_sroa_0_0_copyload_i_i_i78_i_i_i_i_ph_i = p_v_r1_sroa_0_0_copyload_i_i_i78_i_i_i_i_ph_i;
+    v_r20_i295_i_pr_i = get_u8(v_r1_sroa_0_0_copyload_i_i_i78_i_i_i_i_ph_i);
+    { p_v_r20_i295_i_i = v_r20_i295_i_pr_i; p_v_r1_sroa_0_0_copyload_i_i_i78_i_i_i_i_i = v_r1_sroa_0_0_copyload_i_i_i78_i_i_i_i_ph_i; p_v_r1_sroa_3_0_copyload_i_i_i80_i_i_i_i_i = 1u; goto L_arm_5_i_i; }
 L_arm_5_i_i:;
-    v_r12_sroa_10_i465_sroa_3_0_ph_i_i = p_v_r12_sroa_10_i465_sroa_3_0_ph_i_i;
-    v_r12_sroa_10_i465_sroa_5_0_ph_i_i = p_v_r12_sroa_10_i465_sroa_5_0_ph_i_i;
-    v_r20_i295_i_i = get_u8(v_r12_sroa_10_i465_sroa_3_0_ph_i_i);
+    v_r20_i295_i_i = p_v_r20_i295_i_i;
+    v_r1_sroa_0_0_copyload_i_i_i78_i_i_i_i_i = p_v_r1_sroa_0_0_copyload_i_i_i78_i_i_i_i_i;
+    v_r1_sroa_3_0_copyload_i_i_i80_i_i_i_i_i = p_v_r1_sroa_3_0_copyload_i_i_i80_i_i_i_i_i;
     v_r20_i295_lobit_i_i = (u8)((u32)(v_r20_i295_i_i) >> (u32)((7u & 31)));
     v_i297_i_i = (u64)v_r20_i295_lobit_i_i;
     v_r135_i_i = v_a0 + 32;
@@ -33699,17 +34567,21 @@ L_join_5_i_i547_i_i:;
     v_r31_i_i548_i_i = v_r3_sroa_0_08_i_i536_i_i + 1;
     v_r34_i_i549_i_i = (u64)((u64)(v_r3_sroa_6_07_i_i537_i_i) + (u64)(18446744073709551615ull));
     v_r14_i_i550_i_i = v_r34_i_i549_i_i > 1u;
-    if (v_r14_i_i550_i_i) { p_v_r3_sroa_0_08_i_i536_i_i = v_r31_i_i548_i_i; p_v_r3_sroa_6_07_i_i537_i_i = v_r34_i_i549_i_i; goto L_then_3_i_i535_i_i; } else { p_v_r12_sroa_10_i559_sroa_3_0_ph_i_i = v_scevgep_i_i534_i_i; p_v_r12_sroa_10_i559_sroa_5_0_ph_i_i = 1u; goto L_arm_8_i_i; }
+    if (v_r14_i_i550_i_i) { p_v_r3_sroa_0_08_i_i536_i_i = v_r31_i_i548_i_i; p_v_r3_sroa_6_07_i_i537_i_i = v_r34_i_i549_i_i; goto L_then_3_i_i535_i_i; } else { p_v_r1_sroa_0_0_copyload_i_i_i45_i_i_i_i_ph_i = v_scevgep_i_i534_i_i; goto L_arm_8_ithread_pre_split_i; }
 L_der_core_integer_uint_strip_exit_i521_i_i:;
     v_r7_i_i522_i_i = v_r37_sroa_3_0_copyload_i_i == 0u;
-    if (v_r7_i_i522_i_i) { p_v_r11_sroa_22_0_ph_i = 4u; goto L_pkcs1_c_status_status_exit_i; } else { p_v_r12_sroa_10_i559_sroa_3_0_ph_i_i = v_r37_sroa_0_0_copyload_i_i; p_v_r12_sroa_10_i559_sroa_5_0_ph_i_i = 1u; goto L_arm_8_i_i; }
+    if (v_r7_i_i522_i_i) { p_v_r11_sroa_22_0_ph_i = 4u; goto L_pkcs1_c_status_status_exit_i; } else { p_v_r1_sroa_0_0_copyload_i_i_i45_i_i_i_i_ph_i = v_r37_sroa_0_0_copyload_i_i; goto L_arm_8_ithread_pre_split_i; }
 L_join_3_i540_i_i:;
     v_r49_i541_i_i = v_r3_sroa_6_07_i_i537_i_i > 4294967295ull;
-    if (v_r49_i541_i_i) { p_v_r11_sroa_22_0_ph_i = 8u; goto L_pkcs1_c_status_status_exit_i; } else { p_v_r12_sroa_10_i559_sroa_3_0_ph_i_i = v_r3_sroa_0_08_i_i536_i_i; p_v_r12_sroa_10_i559_sroa_5_0_ph_i_i = v_r3_sroa_6_07_i_i537_i_i; goto L_arm_8_i_i; }
+    if (v_r49_i541_i_i) { p_v_r11_sroa_22_0_ph_i = 8u; goto L_pkcs1_c_status_status_exit_i; } else { p_v_r20_i305_i_i = v_r21_i_i538_i_i; p_v_r1_sroa_0_0_copyload_i_i_i45_i_i_i_i_i = v_r3_sroa_0_08_i_i536_i_i; p_v_r1_sroa_3_0_copyload_i_i_i47_i_i_i_i_i = v_r3_sroa_6_07_i_i537_i_i; goto L_arm_8_i_i; }
+L_arm_8_ithread_pre_split_i:;
+    v_r1_sroa_0_0_copyload_i_i_i45_i_i_i_i_ph_i = p_v_r1_sroa_0_0_copyload_i_i_i45_i_i_i_i_ph_i;
+    v_r20_i305_i_pr_i = get_u8(v_r1_sroa_0_0_copyload_i_i_i45_i_i_i_i_ph_i);
+    { p_v_r20_i305_i_i = v_r20_i305_i_pr_i; p_v_r1_sroa_0_0_copyload_i_i_i45_i_i_i_i_i = v_r1_sroa_0_0_copyload_i_i_i45_i_i_i_i_ph_i; p_v_r1_sroa_3_0_copyload_i_i_i47_i_i_i_i_i = 1u; goto L_arm_8_i_i; }
 L_arm_8_i_i:;
-    v_r12_sroa_10_i559_sroa_3_0_ph_i_i = p_v_r12_sroa_10_i559_sroa_3_0_ph_i_i;
-    v_r12_sroa_10_i559_sroa_5_0_ph_i_i = p_v_r12_sroa_10_i559_sroa_5_0_ph_i_i;
-    v_r20_i305_i_i = get_u8(v_r12_sroa_10_i559_sroa_3_0_ph_i_i);
+    v_r20_i305_i_i = p_v_r20_i305_i_i;
+    v_r1_sroa_0_0_copyload_i_i_i45_i_i_i_i_i = p_v_r1_sroa_0_0_copyload_i_i_i45_i_i_i_i_i;
+    v_r1_sroa_3_0_copyload_i_i_i47_i_i_i_i_i = p_v_r1_sroa_3_0_copyload_i_i_i47_i_i_i_i_i;
     v_r20_i305_lobit_i_i = (u8)((u32)(v_r20_i305_i_i) >> (u32)((7u & 31)));
     v_i307_i_i = (u64)v_r20_i305_lobit_i_i;
     v_r164_i_i = v_a0 + 48;
@@ -33732,17 +34604,21 @@ L_join_5_i_i644_i_i:;
     v_r31_i_i645_i_i = v_r3_sroa_0_08_i_i633_i_i + 1;
     v_r34_i_i646_i_i = (u64)((u64)(v_r3_sroa_6_07_i_i634_i_i) + (u64)(18446744073709551615ull));
     v_r14_i_i647_i_i = v_r34_i_i646_i_i > 1u;
-    if (v_r14_i_i647_i_i) { p_v_r3_sroa_0_08_i_i633_i_i = v_r31_i_i645_i_i; p_v_r3_sroa_6_07_i_i634_i_i = v_r34_i_i646_i_i; goto L_then_3_i_i632_i_i; } else { p_v_r12_sroa_10_i656_sroa_3_0_ph_i_i = v_scevgep_i_i631_i_i; p_v_r12_sroa_10_i656_sroa_5_0_ph_i_i = 1u; goto L_arm_11_i_i; }
+    if (v_r14_i_i647_i_i) { p_v_r3_sroa_0_08_i_i633_i_i = v_r31_i_i645_i_i; p_v_r3_sroa_6_07_i_i634_i_i = v_r34_i_i646_i_i; goto L_then_3_i_i632_i_i; } else { p_v_r1_sroa_0_0_copyload_i_i_i12_i_i_i_i_ph_i = v_scevgep_i_i631_i_i; goto L_arm_11_ithread_pre_split_i; }
 L_der_core_integer_uint_strip_exit_i618_i_i:;
     v_r7_i_i619_i_i = v_r43_sroa_3_0_copyload_i_i == 0u;
-    if (v_r7_i_i619_i_i) { p_v_r11_sroa_22_0_ph_i = 4u; goto L_pkcs1_c_status_status_exit_i; } else { p_v_r12_sroa_10_i656_sroa_3_0_ph_i_i = v_r43_sroa_0_0_copyload_i_i; p_v_r12_sroa_10_i656_sroa_5_0_ph_i_i = 1u; goto L_arm_11_i_i; }
+    if (v_r7_i_i619_i_i) { p_v_r11_sroa_22_0_ph_i = 4u; goto L_pkcs1_c_status_status_exit_i; } else { p_v_r1_sroa_0_0_copyload_i_i_i12_i_i_i_i_ph_i = v_r43_sroa_0_0_copyload_i_i; goto L_arm_11_ithread_pre_split_i; }
 L_join_3_i637_i_i:;
     v_r49_i638_i_i = v_r3_sroa_6_07_i_i634_i_i > 4294967295ull;
-    if (v_r49_i638_i_i) { p_v_r11_sroa_22_0_ph_i = 8u; goto L_pkcs1_c_status_status_exit_i; } else { p_v_r12_sroa_10_i656_sroa_3_0_ph_i_i = v_r3_sroa_0_08_i_i633_i_i; p_v_r12_sroa_10_i656_sroa_5_0_ph_i_i = v_r3_sroa_6_07_i_i634_i_i; goto L_arm_11_i_i; }
+    if (v_r49_i638_i_i) { p_v_r11_sroa_22_0_ph_i = 8u; goto L_pkcs1_c_status_status_exit_i; } else { p_v_r20_i315_i_i = v_r21_i_i635_i_i; p_v_r1_sroa_0_0_copyload_i_i_i12_i_i_i_i_i = v_r3_sroa_0_08_i_i633_i_i; p_v_r1_sroa_3_0_copyload_i_i_i14_i_i_i_i_i = v_r3_sroa_6_07_i_i634_i_i; goto L_arm_11_i_i; }
+L_arm_11_ithread_pre_split_i:;
+    v_r1_sroa_0_0_copyload_i_i_i12_i_i_i_i_ph_i = p_v_r1_sroa_0_0_copyload_i_i_i12_i_i_i_i_ph_i;
+    v_r20_i315_i_pr_i = get_u8(v_r1_sroa_0_0_copyload_i_i_i12_i_i_i_i_ph_i);
+    { p_v_r20_i315_i_i = v_r20_i315_i_pr_i; p_v_r1_sroa_0_0_copyload_i_i_i12_i_i_i_i_i = v_r1_sroa_0_0_copyload_i_i_i12_i_i_i_i_ph_i; p_v_r1_sroa_3_0_copyload_i_i_i14_i_i_i_i_i = 1u; goto L_arm_11_i_i; }
 L_arm_11_i_i:;
-    v_r12_sroa_10_i656_sroa_3_0_ph_i_i = p_v_r12_sroa_10_i656_sroa_3_0_ph_i_i;
-    v_r12_sroa_10_i656_sroa_5_0_ph_i_i = p_v_r12_sroa_10_i656_sroa_5_0_ph_i_i;
-    v_r20_i315_i_i = get_u8(v_r12_sroa_10_i656_sroa_3_0_ph_i_i);
+    v_r20_i315_i_i = p_v_r20_i315_i_i;
+    v_r1_sroa_0_0_copyload_i_i_i12_i_i_i_i_i = p_v_r1_sroa_0_0_copyload_i_i_i12_i_i_i_i_i;
+    v_r1_sroa_3_0_copyload_i_i_i14_i_i_i_i_i = p_v_r1_sroa_3_0_copyload_i_i_i14_i_i_i_i_i;
     v_r20_i315_lobit_i_i = (u8)((u32)(v_r20_i315_i_i) >> (u32)((7u & 31)));
     v_i317_i_i = (u64)v_r20_i315_lobit_i_i;
     v_r193_i_i = v_a0 + 64;
@@ -33765,17 +34641,21 @@ L_join_5_i_i741_i_i:;
     v_r31_i_i742_i_i = v_r3_sroa_0_08_i_i730_i_i + 1;
     v_r34_i_i743_i_i = (u64)((u64)(v_r3_sroa_6_07_i_i731_i_i) + (u64)(18446744073709551615ull));
     v_r14_i_i744_i_i = v_r34_i_i743_i_i > 1u;
-    if (v_r14_i_i744_i_i) { p_v_r3_sroa_0_08_i_i730_i_i = v_r31_i_i742_i_i; p_v_r3_sroa_6_07_i_i731_i_i = v_r34_i_i743_i_i; goto L_then_3_i_i729_i_i; } else { p_v_r12_sroa_10_i753_sroa_3_0_ph_i_i = v_scevgep_i_i728_i_i; p_v_r12_sroa_10_i753_sroa_5_0_ph_i_i = 1u; goto L_arm_14_i_i; }
+    if (v_r14_i_i744_i_i) { p_v_r3_sroa_0_08_i_i730_i_i = v_r31_i_i742_i_i; p_v_r3_sroa_6_07_i_i731_i_i = v_r34_i_i743_i_i; goto L_then_3_i_i729_i_i; } else { p_v_r1_sroa_0_0_copyload_i_i_i_i_i_i_i_ph_i = v_scevgep_i_i728_i_i; goto L_arm_14_ithread_pre_split_i; }
 L_der_core_integer_uint_strip_exit_i715_i_i:;
     v_r7_i_i716_i_i = v_r49_sroa_3_0_copyload_i_i == 0u;
-    if (v_r7_i_i716_i_i) { p_v_r11_sroa_22_0_ph_i = 4u; goto L_pkcs1_c_status_status_exit_i; } else { p_v_r12_sroa_10_i753_sroa_3_0_ph_i_i = v_r49_sroa_0_0_copyload_i_i; p_v_r12_sroa_10_i753_sroa_5_0_ph_i_i = 1u; goto L_arm_14_i_i; }
+    if (v_r7_i_i716_i_i) { p_v_r11_sroa_22_0_ph_i = 4u; goto L_pkcs1_c_status_status_exit_i; } else { p_v_r1_sroa_0_0_copyload_i_i_i_i_i_i_i_ph_i = v_r49_sroa_0_0_copyload_i_i; goto L_arm_14_ithread_pre_split_i; }
 L_join_3_i734_i_i:;
     v_r49_i735_i_i = v_r3_sroa_6_07_i_i731_i_i > 4294967295ull;
-    if (v_r49_i735_i_i) { p_v_r11_sroa_22_0_ph_i = 8u; goto L_pkcs1_c_status_status_exit_i; } else { p_v_r12_sroa_10_i753_sroa_3_0_ph_i_i = v_r3_sroa_0_08_i_i730_i_i; p_v_r12_sroa_10_i753_sroa_5_0_ph_i_i = v_r3_sroa_6_07_i_i731_i_i; goto L_arm_14_i_i; }
+    if (v_r49_i735_i_i) { p_v_r11_sroa_22_0_ph_i = 8u; goto L_pkcs1_c_status_status_exit_i; } else { p_v_r20_i325_i_i = v_r21_i_i732_i_i; p_v_r1_sroa_0_0_copyload_i_i_i_i_i_i_i_i = v_r3_sroa_0_08_i_i730_i_i; p_v_r1_sroa_3_0_copyload_i_i_i_i_i_i_i_i = v_r3_sroa_6_07_i_i731_i_i; goto L_arm_14_i_i; }
+L_arm_14_ithread_pre_split_i:;
+    v_r1_sroa_0_0_copyload_i_i_i_i_i_i_i_ph_i = p_v_r1_sroa_0_0_copyload_i_i_i_i_i_i_i_ph_i;
+    v_r20_i325_i_pr_i = get_u8(v_r1_sroa_0_0_copyload_i_i_i_i_i_i_i_ph_i);
+    { p_v_r20_i325_i_i = v_r20_i325_i_pr_i; p_v_r1_sroa_0_0_copyload_i_i_i_i_i_i_i_i = v_r1_sroa_0_0_copyload_i_i_i_i_i_i_i_ph_i; p_v_r1_sroa_3_0_copyload_i_i_i_i_i_i_i_i = 1u; goto L_arm_14_i_i; }
 L_arm_14_i_i:;
-    v_r12_sroa_10_i753_sroa_3_0_ph_i_i = p_v_r12_sroa_10_i753_sroa_3_0_ph_i_i;
-    v_r12_sroa_10_i753_sroa_5_0_ph_i_i = p_v_r12_sroa_10_i753_sroa_5_0_ph_i_i;
-    v_r20_i325_i_i = get_u8(v_r12_sroa_10_i753_sroa_3_0_ph_i_i);
+    v_r20_i325_i_i = p_v_r20_i325_i_i;
+    v_r1_sroa_0_0_copyload_i_i_i_i_i_i_i_i = p_v_r1_sroa_0_0_copyload_i_i_i_i_i_i_i_i;
+    v_r1_sroa_3_0_copyload_i_i_i_i_i_i_i_i = p_v_r1_sroa_3_0_copyload_i_i_i_i_i_i_i_i;
     v_r20_i325_lobit_i_i = (u8)((u32)(v_r20_i325_i_i) >> (u32)((7u & 31)));
     v_i327_i_i = (u64)v_r20_i325_lobit_i_i;
     v_r222_i_i = v_a0 + 80;
@@ -33798,17 +34678,21 @@ L_join_5_i_i838_i_i:;
     v_r31_i_i839_i_i = v_r3_sroa_0_08_i_i827_i_i + 1;
     v_r34_i_i840_i_i = (u64)((u64)(v_r3_sroa_6_07_i_i828_i_i) + (u64)(18446744073709551615ull));
     v_r14_i_i841_i_i = v_r34_i_i840_i_i > 1u;
-    if (v_r14_i_i841_i_i) { p_v_r3_sroa_0_08_i_i827_i_i = v_r31_i_i839_i_i; p_v_r3_sroa_6_07_i_i828_i_i = v_r34_i_i840_i_i; goto L_then_3_i_i826_i_i; } else { p_v_r12_sroa_10_i850_sroa_3_0_ph_i_i = v_scevgep_i_i825_i_i; p_v_r12_sroa_10_i850_sroa_5_0_ph_i_i = 1u; goto L_arm_17_i_i; }
+    if (v_r14_i_i841_i_i) { p_v_r3_sroa_0_08_i_i827_i_i = v_r31_i_i839_i_i; p_v_r3_sroa_6_07_i_i828_i_i = v_r34_i_i840_i_i; goto L_then_3_i_i826_i_i; } else { p_v_r1_sroa_0_0_copyload_i_i_i39_i_i_i_i_i_ph_i = v_scevgep_i_i825_i_i; goto L_arm_17_ithread_pre_split_i; }
 L_der_core_integer_uint_strip_exit_i812_i_i:;
     v_r7_i_i813_i_i = v_r55_sroa_3_0_copyload_i_i == 0u;
-    if (v_r7_i_i813_i_i) { p_v_r11_sroa_22_0_ph_i = 4u; goto L_pkcs1_c_status_status_exit_i; } else { p_v_r12_sroa_10_i850_sroa_3_0_ph_i_i = v_r55_sroa_0_0_copyload_i_i; p_v_r12_sroa_10_i850_sroa_5_0_ph_i_i = 1u; goto L_arm_17_i_i; }
+    if (v_r7_i_i813_i_i) { p_v_r11_sroa_22_0_ph_i = 4u; goto L_pkcs1_c_status_status_exit_i; } else { p_v_r1_sroa_0_0_copyload_i_i_i39_i_i_i_i_i_ph_i = v_r55_sroa_0_0_copyload_i_i; goto L_arm_17_ithread_pre_split_i; }
 L_join_3_i831_i_i:;
     v_r49_i832_i_i = v_r3_sroa_6_07_i_i828_i_i > 4294967295ull;
-    if (v_r49_i832_i_i) { p_v_r11_sroa_22_0_ph_i = 8u; goto L_pkcs1_c_status_status_exit_i; } else { p_v_r12_sroa_10_i850_sroa_3_0_ph_i_i = v_r3_sroa_0_08_i_i827_i_i; p_v_r12_sroa_10_i850_sroa_5_0_ph_i_i = v_r3_sroa_6_07_i_i828_i_i; goto L_arm_17_i_i; }
+    if (v_r49_i832_i_i) { p_v_r11_sroa_22_0_ph_i = 8u; goto L_pkcs1_c_status_status_exit_i; } else { p_v_r20_i335_i_i = v_r21_i_i829_i_i; p_v_r1_sroa_0_0_copyload_i_i_i39_i_i_i_i_i_i = v_r3_sroa_0_08_i_i827_i_i; p_v_r1_sroa_3_0_copyload_i_i_i41_i_i_i_i_i_i = v_r3_sroa_6_07_i_i828_i_i; goto L_arm_17_i_i; }
+L_arm_17_ithread_pre_split_i:;
+    v_r1_sroa_0_0_copyload_i_i_i39_i_i_i_i_i_ph_i = p_v_r1_sroa_0_0_copyload_i_i_i39_i_i_i_i_i_ph_i;
+    v_r20_i335_i_pr_i = get_u8(v_r1_sroa_0_0_copyload_i_i_i39_i_i_i_i_i_ph_i);
+    { p_v_r20_i335_i_i = v_r20_i335_i_pr_i; p_v_r1_sroa_0_0_copyload_i_i_i39_i_i_i_i_i_i = v_r1_sroa_0_0_copyload_i_i_i39_i_i_i_i_i_ph_i; p_v_r1_sroa_3_0_copyload_i_i_i41_i_i_i_i_i_i = 1u; goto L_arm_17_i_i; }
 L_arm_17_i_i:;
-    v_r12_sroa_10_i850_sroa_3_0_ph_i_i = p_v_r12_sroa_10_i850_sroa_3_0_ph_i_i;
-    v_r12_sroa_10_i850_sroa_5_0_ph_i_i = p_v_r12_sroa_10_i850_sroa_5_0_ph_i_i;
-    v_r20_i335_i_i = get_u8(v_r12_sroa_10_i850_sroa_3_0_ph_i_i);
+    v_r20_i335_i_i = p_v_r20_i335_i_i;
+    v_r1_sroa_0_0_copyload_i_i_i39_i_i_i_i_i_i = p_v_r1_sroa_0_0_copyload_i_i_i39_i_i_i_i_i_i;
+    v_r1_sroa_3_0_copyload_i_i_i41_i_i_i_i_i_i = p_v_r1_sroa_3_0_copyload_i_i_i41_i_i_i_i_i_i;
     v_r20_i335_lobit_i_i = (u8)((u32)(v_r20_i335_i_i) >> (u32)((7u & 31)));
     v_i337_i_i = (u64)v_r20_i335_lobit_i_i;
     v_r251_i_i = v_a0 + 96;
@@ -33831,17 +34715,21 @@ L_join_5_i_i935_i_i:;
     v_r31_i_i936_i_i = v_r3_sroa_0_08_i_i924_i_i + 1;
     v_r34_i_i937_i_i = (u64)((u64)(v_r3_sroa_6_07_i_i925_i_i) + (u64)(18446744073709551615ull));
     v_r14_i_i938_i_i = v_r34_i_i937_i_i > 1u;
-    if (v_r14_i_i938_i_i) { p_v_r3_sroa_0_08_i_i924_i_i = v_r31_i_i936_i_i; p_v_r3_sroa_6_07_i_i925_i_i = v_r34_i_i937_i_i; goto L_then_3_i_i923_i_i; } else { p_v_r12_sroa_10_i947_sroa_3_0_ph_i_i = v_scevgep_i_i922_i_i; p_v_r12_sroa_10_i947_sroa_5_0_ph_i_i = 1u; goto L_arm_20_i_i; }
+    if (v_r14_i_i938_i_i) { p_v_r3_sroa_0_08_i_i924_i_i = v_r31_i_i936_i_i; p_v_r3_sroa_6_07_i_i925_i_i = v_r34_i_i937_i_i; goto L_then_3_i_i923_i_i; } else { p_v_r1_sroa_0_0_copyload_i_i_i6_i_i_i_i_i_ph_i = v_scevgep_i_i922_i_i; goto L_arm_20_ithread_pre_split_i; }
 L_der_core_integer_uint_strip_exit_i909_i_i:;
     v_r7_i_i910_i_i = v_r61_sroa_3_0_copyload_i_i == 0u;
-    if (v_r7_i_i910_i_i) { p_v_r11_sroa_22_0_ph_i = 4u; goto L_pkcs1_c_status_status_exit_i; } else { p_v_r12_sroa_10_i947_sroa_3_0_ph_i_i = v_r61_sroa_0_0_copyload_i_i; p_v_r12_sroa_10_i947_sroa_5_0_ph_i_i = 1u; goto L_arm_20_i_i; }
+    if (v_r7_i_i910_i_i) { p_v_r11_sroa_22_0_ph_i = 4u; goto L_pkcs1_c_status_status_exit_i; } else { p_v_r1_sroa_0_0_copyload_i_i_i6_i_i_i_i_i_ph_i = v_r61_sroa_0_0_copyload_i_i; goto L_arm_20_ithread_pre_split_i; }
 L_join_3_i928_i_i:;
     v_r49_i929_i_i = v_r3_sroa_6_07_i_i925_i_i > 4294967295ull;
-    if (v_r49_i929_i_i) { p_v_r11_sroa_22_0_ph_i = 8u; goto L_pkcs1_c_status_status_exit_i; } else { p_v_r12_sroa_10_i947_sroa_3_0_ph_i_i = v_r3_sroa_0_08_i_i924_i_i; p_v_r12_sroa_10_i947_sroa_5_0_ph_i_i = v_r3_sroa_6_07_i_i925_i_i; goto L_arm_20_i_i; }
+    if (v_r49_i929_i_i) { p_v_r11_sroa_22_0_ph_i = 8u; goto L_pkcs1_c_status_status_exit_i; } else { p_v_r20_i345_i_i = v_r21_i_i926_i_i; p_v_r1_sroa_0_0_copyload_i_i_i6_i_i_i_i_i_i = v_r3_sroa_0_08_i_i924_i_i; p_v_r1_sroa_3_0_copyload_i_i_i8_i_i_i_i_i_i = v_r3_sroa_6_07_i_i925_i_i; goto L_arm_20_i_i; }
+L_arm_20_ithread_pre_split_i:;
+    v_r1_sroa_0_0_copyload_i_i_i6_i_i_i_i_i_ph_i = p_v_r1_sroa_0_0_copyload_i_i_i6_i_i_i_i_i_ph_i;
+    v_r20_i345_i_pr_i = get_u8(v_r1_sroa_0_0_copyload_i_i_i6_i_i_i_i_i_ph_i);
+    { p_v_r20_i345_i_i = v_r20_i345_i_pr_i; p_v_r1_sroa_0_0_copyload_i_i_i6_i_i_i_i_i_i = v_r1_sroa_0_0_copyload_i_i_i6_i_i_i_i_i_ph_i; p_v_r1_sroa_3_0_copyload_i_i_i8_i_i_i_i_i_i = 1u; goto L_arm_20_i_i; }
 L_arm_20_i_i:;
-    v_r12_sroa_10_i947_sroa_3_0_ph_i_i = p_v_r12_sroa_10_i947_sroa_3_0_ph_i_i;
-    v_r12_sroa_10_i947_sroa_5_0_ph_i_i = p_v_r12_sroa_10_i947_sroa_5_0_ph_i_i;
-    v_r20_i345_i_i = get_u8(v_r12_sroa_10_i947_sroa_3_0_ph_i_i);
+    v_r20_i345_i_i = p_v_r20_i345_i_i;
+    v_r1_sroa_0_0_copyload_i_i_i6_i_i_i_i_i_i = p_v_r1_sroa_0_0_copyload_i_i_i6_i_i_i_i_i_i;
+    v_r1_sroa_3_0_copyload_i_i_i8_i_i_i_i_i_i = p_v_r1_sroa_3_0_copyload_i_i_i8_i_i_i_i_i_i;
     v_r20_i345_lobit_i_i = (u8)((u32)(v_r20_i345_i_i) >> (u32)((7u & 31)));
     v_i347_i_i = (u64)v_r20_i345_lobit_i_i;
     v_r280_i_i = v_a0 + 112;
@@ -33864,17 +34752,21 @@ L_join_5_i_i1032_i_i:;
     v_r31_i_i1033_i_i = v_r3_sroa_0_08_i_i1021_i_i + 1;
     v_r34_i_i1034_i_i = (u64)((u64)(v_r3_sroa_6_07_i_i1022_i_i) + (u64)(18446744073709551615ull));
     v_r14_i_i1035_i_i = v_r34_i_i1034_i_i > 1u;
-    if (v_r14_i_i1035_i_i) { p_v_r3_sroa_0_08_i_i1021_i_i = v_r31_i_i1033_i_i; p_v_r3_sroa_6_07_i_i1022_i_i = v_r34_i_i1034_i_i; goto L_then_3_i_i1020_i_i; } else { p_v_r12_sroa_10_i1044_sroa_5_0_ph_i_i = 1u; p_v_r12_sroa_10_i1044_sroa_3_0_ph_i_i = v_scevgep_i_i1019_i_i; goto L_arm_23_i_i; }
+    if (v_r14_i_i1035_i_i) { p_v_r3_sroa_0_08_i_i1021_i_i = v_r31_i_i1033_i_i; p_v_r3_sroa_6_07_i_i1022_i_i = v_r34_i_i1034_i_i; goto L_then_3_i_i1020_i_i; } else { p_v_r12_sroa_10_i1044_sroa_3_0_ph_i_ph_i = v_scevgep_i_i1019_i_i; goto L_arm_23_ithread_pre_split_i; }
 L_der_core_integer_uint_strip_exit_i1006_i_i:;
     v_r7_i_i1007_i_i = v_r67_sroa_3_0_copyload_i_i == 0u;
-    if (v_r7_i_i1007_i_i) { p_v_r11_sroa_22_0_ph_i = 4u; goto L_pkcs1_c_status_status_exit_i; } else { p_v_r12_sroa_10_i1044_sroa_5_0_ph_i_i = 1u; p_v_r12_sroa_10_i1044_sroa_3_0_ph_i_i = v_r67_sroa_0_0_copyload_i_i; goto L_arm_23_i_i; }
+    if (v_r7_i_i1007_i_i) { p_v_r11_sroa_22_0_ph_i = 4u; goto L_pkcs1_c_status_status_exit_i; } else { p_v_r12_sroa_10_i1044_sroa_3_0_ph_i_ph_i = v_r67_sroa_0_0_copyload_i_i; goto L_arm_23_ithread_pre_split_i; }
 L_join_3_i1025_i_i:;
     v_r49_i1026_i_i = v_r3_sroa_6_07_i_i1022_i_i > 4294967295ull;
-    if (v_r49_i1026_i_i) { p_v_r11_sroa_22_0_ph_i = 8u; goto L_pkcs1_c_status_status_exit_i; } else { p_v_r12_sroa_10_i1044_sroa_5_0_ph_i_i = v_r3_sroa_6_07_i_i1022_i_i; p_v_r12_sroa_10_i1044_sroa_3_0_ph_i_i = v_r3_sroa_0_08_i_i1021_i_i; goto L_arm_23_i_i; }
+    if (v_r49_i1026_i_i) { p_v_r11_sroa_22_0_ph_i = 8u; goto L_pkcs1_c_status_status_exit_i; } else { p_v_r20_i355_i_i = v_r21_i_i1023_i_i; p_v_r12_sroa_10_i1044_sroa_5_0_ph_i_i = v_r3_sroa_6_07_i_i1022_i_i; p_v_r12_sroa_10_i1044_sroa_3_0_ph_i_i = v_r3_sroa_0_08_i_i1021_i_i; goto L_arm_23_i_i; }
+L_arm_23_ithread_pre_split_i:;
+    v_r12_sroa_10_i1044_sroa_3_0_ph_i_ph_i = p_v_r12_sroa_10_i1044_sroa_3_0_ph_i_ph_i;
+    v_r20_i355_i_pr_i = get_u8(v_r12_sroa_10_i1044_sroa_3_0_ph_i_ph_i);
+    { p_v_r20_i355_i_i = v_r20_i355_i_pr_i; p_v_r12_sroa_10_i1044_sroa_5_0_ph_i_i = 1u; p_v_r12_sroa_10_i1044_sroa_3_0_ph_i_i = v_r12_sroa_10_i1044_sroa_3_0_ph_i_ph_i; goto L_arm_23_i_i; }
 L_arm_23_i_i:;
+    v_r20_i355_i_i = p_v_r20_i355_i_i;
     v_r12_sroa_10_i1044_sroa_5_0_ph_i_i = p_v_r12_sroa_10_i1044_sroa_5_0_ph_i_i;
     v_r12_sroa_10_i1044_sroa_3_0_ph_i_i = p_v_r12_sroa_10_i1044_sroa_3_0_ph_i_i;
-    v_r20_i355_i_i = get_u8(v_r12_sroa_10_i1044_sroa_3_0_ph_i_i);
     v_r20_i355_lobit_i_i = (u8)((u32)(v_r20_i355_i_i) >> (u32)((7u & 31)));
     v_i357_i_i = (u64)v_r20_i355_lobit_i_i;
     v_r7_i1102_i_i = v_a2 == 0u;
@@ -33887,7 +34779,7 @@ L_join_3_i_i_i:;
     v_r13_i365_sroa_5_0_r4_i362_sroa_idx_i_i = v_r4_i362_i_i + 8;
     fill(v_r13_i365_sroa_5_0_r4_i362_sroa_idx_i_i, 0u, 16u);
     v_8 = v_r4_i362_i_i + 16;
-    { p_v_r9_i_i_i9399_i = v_r2_i_i_i; p_v_a0_val2_i_i_i_i = 0u; p_v_r5_0_i2297_i_i = 0u; goto L_join_9_i_i_i; }
+    { p_v_r9_i_i_i9406_i = v_r2_i_i_i; p_v_a0_val2_i_i_i_i = 0u; p_v_r5_0_i2297_i_i = 0u; goto L_join_9_i_i_i; }
 L_loop_6_i_i_i:;
     v_r9_i_i_i9_i = p_v_r9_i_i_i9_i;
     v_r8_i_i_i_i = p_v_r8_i_i_i_i;
@@ -33914,9 +34806,9 @@ L_loop_6_i_i_i:;
     put_u64(v_r13_i365_sroa_5_0_r4_i362_sroa_idx_i_i, v_r17_i_i_i_i);
     v_r118_i_i_i = (u64)((u64)(v_r5_0_i2297_i_i) + (u64)(1u));
     v_exitcond_not_i_i = v_r118_i_i_i == v_a2;
-    if (v_exitcond_not_i_i) { goto L_after_4_i_i_i; } else { p_v_r9_i_i_i9399_i = v_r9_i_i_i9_i; p_v_a0_val2_i_i_i_i = v_r17_i_i_i_i; p_v_r5_0_i2297_i_i = v_r118_i_i_i; goto L_join_9_i_i_i; }
+    if (v_exitcond_not_i_i) { goto L_after_4_i_i_i; } else { p_v_r9_i_i_i9406_i = v_r9_i_i_i9_i; p_v_a0_val2_i_i_i_i = v_r17_i_i_i_i; p_v_r5_0_i2297_i_i = v_r118_i_i_i; goto L_join_9_i_i_i; }
 L_join_9_i_i_i:;
-    v_r9_i_i_i9399_i = p_v_r9_i_i_i9399_i;
+    v_r9_i_i_i9406_i = p_v_r9_i_i_i9406_i;
     v_a0_val2_i_i_i_i = p_v_a0_val2_i_i_i_i;
     v_r5_0_i2297_i_i = p_v_r5_0_i2297_i_i;
     v_r64_i_i_i = (u64)((u64)(v_r5_0_i2297_i_i) * (u64)(48u));
@@ -34021,7 +34913,7 @@ L_arm_11_i_i_i:;
     v_i102_i_i = (u64)v_r20_i100_lobit_i_i;
     v_a0_val_i_i_i_i = get_u64(v_8);
     v_r16_not_i_i_i_i = v_a0_val_i_i_i_i == v_a0_val2_i_i_i_i;
-    if (v_r16_not_i_i_i_i) { goto L_std_alloc_vec_Vec_grow_45941bf0da1f2930_exit_i_i_i; } else { p_v_r9_i_i_i9_i = v_r9_i_i_i9399_i; p_v_r8_i_i_i_i = v_a0_val2_i_i_i_i; goto L_loop_6_i_i_i; }
+    if (v_r16_not_i_i_i_i) { goto L_std_alloc_vec_Vec_grow_45941bf0da1f2930_exit_i_i_i; } else { p_v_r9_i_i_i9_i = v_r9_i_i_i9406_i; p_v_r8_i_i_i_i = v_a0_val2_i_i_i_i; goto L_loop_6_i_i_i; }
 L_std_alloc_vec_Vec_grow_45941bf0da1f2930_exit_i_i_i:;
     v_r24_i_i_i_i = f_std_alloc_vec_Vec_grow_amortized_45941bf0da1f2930(v_r4_i362_i_i);
     if (v_r24_i_i_i_i) { goto L_std_alloc_vec_Vec_grow_45941bf0da1f2930_exit_join_; } else { goto L_arm_16_i_i_i; }
@@ -34033,7 +34925,7 @@ L_arm_12_i_i_i:;
     v_r19_i367_i_sroa_13_1_ph_i = p_v_r19_i367_i_sroa_13_1_ph_i;
     v_r27_i372_sroa_51503_0_copyload_i_i = get_u64(v_8);
     v_r14_not_i_i_i_i_i = v_r27_i372_sroa_51503_0_copyload_i_i == 0u;
-    if (v_r14_not_i_i_i_i_i) { p_v_r72_sroa_11_0_i_i = v_r19_i367_i_sroa_13_1_ph_i; goto L_arm_27_i_i; } else { p_v_r28_i373_sroa_0_0_copyload_i_i = v_r9_i_i_i9399_i; p_v_r72_sroa_11_0_ph_i_i = v_r19_i367_i_sroa_13_1_ph_i; goto L_arm_27_sink_split_i_i; }
+    if (v_r14_not_i_i_i_i_i) { p_v_r72_sroa_11_0_i_i = v_r19_i367_i_sroa_13_1_ph_i; goto L_arm_27_i_i; } else { p_v_r28_i373_sroa_0_0_copyload_i_i = v_r9_i_i_i9406_i; p_v_r72_sroa_11_0_ph_i_i = v_r19_i367_i_sroa_13_1_ph_i; goto L_arm_27_sink_split_i_i; }
 L_arm_16_i_i_i:;
     v_r28_i373_sroa_51502_0_copyload_i_i = get_u64(v_8);
     v_r14_not_i_i_i1167_i_i = v_r28_i373_sroa_51502_0_copyload_i_i == 0u;
@@ -34057,45 +34949,45 @@ L_arm_27_i_i:;
 L_arm_4_i:;
     v_r72_sroa_261213_sroa_0_0_ph_i_i = p_v_r72_sroa_261213_sroa_0_0_ph_i_i;
     copy(v_r11_sroa_87_i, v_r72_sroa_31_i_i, 24u);
-    put_P(v_r6_i, v_r12_sroa_10_i_sroa_3_0_ph_i_i);
+    put_P(v_r6_i, v_r1_sroa_0_0_copyload_i_i_i111_i_i_i_i_i);
     v_r11_sroa_63_8_r6_sroa_idx_i = v_r6_i + 8;
-    put_u64(v_r11_sroa_63_8_r6_sroa_idx_i, v_r12_sroa_10_i_sroa_5_0_ph_i_i);
+    put_u64(v_r11_sroa_63_8_r6_sroa_idx_i, v_r1_sroa_3_0_copyload_i_i_i113_i_i_i_i_i);
     v_r11_sroa_64_8_r6_sroa_idx_i = v_r6_i + 16;
     put_u64(v_r11_sroa_64_8_r6_sroa_idx_i, v_i_i_i);
     v_r11_sroa_65_8_r6_sroa_idx_i = v_r6_i + 24;
-    put_P(v_r11_sroa_65_8_r6_sroa_idx_i, v_r12_sroa_10_i465_sroa_3_0_ph_i_i);
+    put_P(v_r11_sroa_65_8_r6_sroa_idx_i, v_r1_sroa_0_0_copyload_i_i_i78_i_i_i_i_i);
     v_r11_sroa_66_8_r6_sroa_idx_i = v_r6_i + 32;
-    put_u64(v_r11_sroa_66_8_r6_sroa_idx_i, v_r12_sroa_10_i465_sroa_5_0_ph_i_i);
+    put_u64(v_r11_sroa_66_8_r6_sroa_idx_i, v_r1_sroa_3_0_copyload_i_i_i80_i_i_i_i_i);
     v_r11_sroa_67_8_r6_sroa_idx_i = v_r6_i + 40;
     put_u64(v_r11_sroa_67_8_r6_sroa_idx_i, v_i297_i_i);
     v_r11_sroa_68_8_r6_sroa_idx_i = v_r6_i + 48;
-    put_P(v_r11_sroa_68_8_r6_sroa_idx_i, v_r12_sroa_10_i559_sroa_3_0_ph_i_i);
+    put_P(v_r11_sroa_68_8_r6_sroa_idx_i, v_r1_sroa_0_0_copyload_i_i_i45_i_i_i_i_i);
     v_r11_sroa_69_8_r6_sroa_idx_i = v_r6_i + 56;
-    put_u64(v_r11_sroa_69_8_r6_sroa_idx_i, v_r12_sroa_10_i559_sroa_5_0_ph_i_i);
+    put_u64(v_r11_sroa_69_8_r6_sroa_idx_i, v_r1_sroa_3_0_copyload_i_i_i47_i_i_i_i_i);
     v_r11_sroa_70_8_r6_sroa_idx_i = v_r6_i + 64;
     put_u64(v_r11_sroa_70_8_r6_sroa_idx_i, v_i307_i_i);
     v_r11_sroa_71_8_r6_sroa_idx_i = v_r6_i + 72;
-    put_P(v_r11_sroa_71_8_r6_sroa_idx_i, v_r12_sroa_10_i656_sroa_3_0_ph_i_i);
+    put_P(v_r11_sroa_71_8_r6_sroa_idx_i, v_r1_sroa_0_0_copyload_i_i_i12_i_i_i_i_i);
     v_r11_sroa_72_8_r6_sroa_idx_i = v_r6_i + 80;
-    put_u64(v_r11_sroa_72_8_r6_sroa_idx_i, v_r12_sroa_10_i656_sroa_5_0_ph_i_i);
+    put_u64(v_r11_sroa_72_8_r6_sroa_idx_i, v_r1_sroa_3_0_copyload_i_i_i14_i_i_i_i_i);
     v_r11_sroa_73_8_r6_sroa_idx_i = v_r6_i + 88;
     put_u64(v_r11_sroa_73_8_r6_sroa_idx_i, v_i317_i_i);
     v_r11_sroa_74_8_r6_sroa_idx_i = v_r6_i + 96;
-    put_P(v_r11_sroa_74_8_r6_sroa_idx_i, v_r12_sroa_10_i753_sroa_3_0_ph_i_i);
+    put_P(v_r11_sroa_74_8_r6_sroa_idx_i, v_r1_sroa_0_0_copyload_i_i_i_i_i_i_i_i);
     v_r11_sroa_75_8_r6_sroa_idx_i = v_r6_i + 104;
-    put_u64(v_r11_sroa_75_8_r6_sroa_idx_i, v_r12_sroa_10_i753_sroa_5_0_ph_i_i);
+    put_u64(v_r11_sroa_75_8_r6_sroa_idx_i, v_r1_sroa_3_0_copyload_i_i_i_i_i_i_i_i);
     v_r11_sroa_76_8_r6_sroa_idx_i = v_r6_i + 112;
     put_u64(v_r11_sroa_76_8_r6_sroa_idx_i, v_i327_i_i);
     v_r11_sroa_77_8_r6_sroa_idx_i = v_r6_i + 120;
-    put_P(v_r11_sroa_77_8_r6_sroa_idx_i, v_r12_sroa_10_i850_sroa_3_0_ph_i_i);
+    put_P(v_r11_sroa_77_8_r6_sroa_idx_i, v_r1_sroa_0_0_copyload_i_i_i39_i_i_i_i_i_i);
     v_r11_sroa_78_8_r6_sroa_idx_i = v_r6_i + 128;
-    put_u64(v_r11_sroa_78_8_r6_sroa_idx_i, v_r12_sroa_10_i850_sroa_5_0_ph_i_i);
+    put_u64(v_r11_sroa_78_8_r6_sroa_idx_i, v_r1_sroa_3_0_copyload_i_i_i41_i_i_i_i_i_i);
     v_r11_sroa_79_8_r6_sroa_idx_i = v_r6_i + 136;
     put_u64(v_r11_sroa_79_8_r6_sroa_idx_i, v_i337_i_i);
     v_r11_sroa_80_8_r6_sroa_idx_i = v_r6_i + 144;
-    put_P(v_r11_sroa_80_8_r6_sroa_idx_i, v_r12_sroa_10_i947_sroa_3_0_ph_i_i);
+    put_P(v_r11_sroa_80_8_r6_sroa_idx_i, v_r1_sroa_0_0_copyload_i_i_i6_i_i_i_i_i_i);
     v_r11_sroa_81_8_r6_sroa_idx_i = v_r6_i + 152;
-    put_u64(v_r11_sroa_81_8_r6_sroa_idx_i, v_r12_sroa_10_i947_sroa_5_0_ph_i_i);
+    put_u64(v_r11_sroa_81_8_r6_sroa_idx_i, v_r1_sroa_3_0_copyload_i_i_i8_i_i_i_i_i_i);
     v_r11_sroa_82_8_r6_sroa_idx_i = v_r6_i + 160;
     put_u64(v_r11_sroa_82_8_r6_sroa_idx_i, v_i347_i_i);
     v_r11_sroa_83_8_r6_sroa_idx_i = v_r6_i + 168;
@@ -34127,928 +35019,1962 @@ L_arm_2_i_i_i:;
     v_17 = (u32)((u32)(v_16) + (u32)(1u));
     { p_v_r5_sroa_0_sroa_5_0_i_i = v_17; goto L_arm_2_i4_i; }
 L_join_7_i_i_i:;
-    put_P(v_r4_i_i_i_i_i, v_r6_i);
-    v_r3_sroa_3_0_r4_sroa_idx_i_i_i_i_i = v_r4_i_i_i_i_i + 8;
-    put_P(v_r3_sroa_3_0_r4_sroa_idx_i_i_i_i_i, v_r11_sroa_65_8_r6_sroa_idx_i);
-    v_r3_sroa_4_0_r4_sroa_idx_i_i_i_i_i = v_r4_i_i_i_i_i + 16;
-    put_P(v_r3_sroa_4_0_r4_sroa_idx_i_i_i_i_i, v_r11_sroa_68_8_r6_sroa_idx_i);
-    v_r3_sroa_5_0_r4_sroa_idx_i_i_i_i_i = v_r4_i_i_i_i_i + 24;
-    put_P(v_r3_sroa_5_0_r4_sroa_idx_i_i_i_i_i, v_r11_sroa_71_8_r6_sroa_idx_i);
-    v_r3_sroa_6_0_r4_sroa_idx_i_i_i_i_i = v_r4_i_i_i_i_i + 32;
-    put_P(v_r3_sroa_6_0_r4_sroa_idx_i_i_i_i_i, v_r11_sroa_74_8_r6_sroa_idx_i);
-    v_r3_sroa_7_0_r4_sroa_idx_i_i_i_i_i = v_r4_i_i_i_i_i + 40;
-    put_P(v_r3_sroa_7_0_r4_sroa_idx_i_i_i_i_i, v_r11_sroa_77_8_r6_sroa_idx_i);
-    v_r3_sroa_8_0_r4_sroa_idx_i_i_i_i_i = v_r4_i_i_i_i_i + 48;
-    put_P(v_r3_sroa_8_0_r4_sroa_idx_i_i_i_i_i, v_r11_sroa_80_8_r6_sroa_idx_i);
-    v_r3_sroa_9_0_r4_sroa_idx_i_i_i_i_i = v_r4_i_i_i_i_i + 56;
-    put_P(v_r3_sroa_9_0_r4_sroa_idx_i_i_i_i_i, v_r11_sroa_83_8_r6_sroa_idx_i);
-    if (v_r7_i1102_i_i) { p_v_r7_sroa_66_1_i_i_i_ph = v_r3_i5_i_i_i; goto L_join_5_i_i_i_i_i_i_preheader; } else { goto L_arm_1_i_i_i_i_i_i; }
-L_arm_1_i_i_i_i_i_i:;
-    v_r3_val_i_i_i_i_i_i = get_P(v_r11_sroa_87_8_r6_sroa_idx_i);
+    if (v_r7_i1102_i_i) { p_v_a1_val4_i_i_i_i_i_i_i_i = v_r3_i5_i_i_i; goto L_pkcs1_private_key_written_OthersPartEncodeValue_pr; } else { goto L_arm_1_i_i_i_i_i_i_i_i; }
+L_arm_1_i_i_i_i_i_i_i_i:;
+    v_r6_i1_val_val_i_i_i_i_i_i_i = get_P(v_r11_sroa_87_8_r6_sroa_idx_i);
     v_18 = v_r6_i + 208;
-    v_r3_val1_i_i_i_i_i_i = get_u64(v_18);
-    v_r11_not6_i_i_i_i_i_i_i_i_i = v_r3_val1_i_i_i_i_i_i == 0u;
-    if (v_r11_not6_i_i_i_i_i_i_i_i_i) { p_v_r7_sroa_66_7_i_i_i = v_r3_i5_i_i_i; goto L_der_core_encode_AnyEncode_prepend_8c8a8111fb6f022a; } else { p_v_r7_sroa_66_3_i_i_i = v_r3_i5_i_i_i; p_v_r2_07_i_i_i_i_i_i_i_i_i = v_r3_val1_i_i_i_i_i_i; goto L_join_5_i_i_i_i_i_i_i_i_i; }
-L_join_5_i_i_i_i_i_i_i_i_i:;
-    v_r7_sroa_66_3_i_i_i = p_v_r7_sroa_66_3_i_i_i;
-    v_r2_07_i_i_i_i_i_i_i_i_i = p_v_r2_07_i_i_i_i_i_i_i_i_i;
-    v_r16_i_i_i_i_i_i_i_i_i = (u64)((u64)(v_r2_07_i_i_i_i_i_i_i_i_i) + (u64)(18446744073709551615ull));
-    v_r18_i_i_i_i_i_i_i_i_i = (u64)((u64)(v_r16_i_i_i_i_i_i_i_i_i) * (u64)(72u));
-    v_r21_i_i_i_i_i_i_i_i_i = (P)((uintptr_t)v_r3_val_i_i_i_i_i_i + (u64)(v_r18_i_i_i_i_i_i_i_i_i));
-    v_r12_i_i_i_i_i_i_i_i_i_i_i = v_r21_i_i_i_i_i_i_i_i_i + 48;
-    v_r16_i_i_i_i_i_i_i_i_i_i_i = v_r21_i_i_i_i_i_i_i_i_i + 24;
-    v_r1_sroa_0_0_copyload_i_i_i_i_i_i_i_i_i_i_i_i_i_i = get_P(v_r12_i_i_i_i_i_i_i_i_i_i_i);
-    v_r1_sroa_3_0_a0_sroa_idx_i_i_i_i_i_i_i_i_i_i_i_i_i_ = v_r21_i_i_i_i_i_i_i_i_i + 56;
-    v_r1_sroa_3_0_copyload_i_i_i_i_i_i_i_i_i_i_i_i_i_i = get_u64(v_r1_sroa_3_0_a0_sroa_idx_i_i_i_i_i_i_i_i_i_i_i_i_i_);
-    v_r17_i_i_i_i_i_i_i_i_i_i_i_i_i_i_i = (u64)((u64)(v_r7_sroa_66_3_i_i_i) - (u64)(v_r1_sroa_3_0_copyload_i_i_i_i_i_i_i_i_i_i_i_i_i_i));
-    v_r26_i_i_i_i_i_i_i_i_i_i_i_i_i_i_i = (P)((uintptr_t)v_r14 + (u64)(v_r17_i_i_i_i_i_i_i_i_i_i_i_i_i_i_i));
-    v_r8_i_i_i_i_i_i_i_i_i_i_i_i_i_i_i_i_i_i_i_i_i = (u64)((uintptr_t)v_r26_i_i_i_i_i_i_i_i_i_i_i_i_i_i_i);
-    v_r9_i_i_i_i_i_i_i_i_i_i_i_i_i_i_i_i_i_i_i_i_i = (u64)((uintptr_t)v_r1_sroa_0_0_copyload_i_i_i_i_i_i_i_i_i_i_i_i_i_i);
-    v_r10_i_i_i_i_i_i_i_i_i_i_i_i_i_i_i_i_i_i_i_i_i = (u64)((u64)(v_r8_i_i_i_i_i_i_i_i_i_i_i_i_i_i_i_i_i_i_i_i_i) - (u64)(v_r9_i_i_i_i_i_i_i_i_i_i_i_i_i_i_i_i_i_i_i_i_i));
-    v_r11_i_i_i_i_i_i_i_i_i_i_i_i_i_i_i_i_i_i_i_i_i = v_r10_i_i_i_i_i_i_i_i_i_i_i_i_i_i_i_i_i_i_i_i_i < v_r1_sroa_3_0_copyload_i_i_i_i_i_i_i_i_i_i_i_i_i_i;
-    if (v_r11_i_i_i_i_i_i_i_i_i_i_i_i_i_i_i_i_i_i_i_i_i) { goto L_join_7_i_i_i_i_i_i_i_i_i_i_i_i_i_i_i_i_i_i_i_i_i_p; } else { goto L_apart_2_i_i_i_i_i_i_i_i_i_i_i_i_i_i_i_i_i_i_i_i_i; }
-L_join_7_i_i_i_i_i_i_i_i_i_i_i_i_i_i_i_i_i_i_i_i_i_p:;
-    v_xtraiter = (u64)((u64)(v_r1_sroa_3_0_copyload_i_i_i_i_i_i_i_i_i_i_i_i_i_i) & (u64)(3u));
-    v_19 = v_r1_sroa_3_0_copyload_i_i_i_i_i_i_i_i_i_i_i_i_i_i < 4u;
-    if (v_19) { p_v_r0_04_i_i_i_i_i_i_i_i_i_i_i_i_i_i_i_i_i_i_i_i_i_ep = 0u; goto L_join_7_i_i_i_i_i_i_i_i_i_i_i_i_i_i_i_i_i_i_i_i_i_e; } else { goto L_join_7_i_i_i_i_i_i_i_i_i_i_i_i_i_i_i_i_i_i_i_i_i_p__2; }
-L_join_7_i_i_i_i_i_i_i_i_i_i_i_i_i_i_i_i_i_i_i_i_i_p__2:;
-    v_unroll_iter = (u64)((u64)(v_r1_sroa_3_0_copyload_i_i_i_i_i_i_i_i_i_i_i_i_i_i) & (u64)(18446744073709551612ull));
-    { p_v_r0_04_i_i_i_i_i_i_i_i_i_i_i_i_i_i_i_i_i_i_i_i_i = 0u; p_v_niter = 0u; goto L_join_7_i_i_i_i_i_i_i_i_i_i_i_i_i_i_i_i_i_i_i_i_i; }
-L_apart_2_i_i_i_i_i_i_i_i_i_i_i_i_i_i_i_i_i_i_i_i_i:;
-    move(v_r26_i_i_i_i_i_i_i_i_i_i_i_i_i_i_i, v_r1_sroa_0_0_copyload_i_i_i_i_i_i_i_i_i_i_i_i_i_i, v_r1_sroa_3_0_copyload_i_i_i_i_i_i_i_i_i_i_i_i_i_i);
+    v_r6_i1_val_val2_i_i_i_i_i_i_i = get_u64(v_18);
+    v_r11_not6_i_i_i_i_i_i_i_i_i_i_i = v_r6_i1_val_val2_i_i_i_i_i_i_i == 0u;
+    if (v_r11_not6_i_i_i_i_i_i_i_i_i_i_i) { p_v_r7_sroa_129_11_i_i_i = v_r3_i5_i_i_i; goto L_der_core_borrowed_BorrowedEncode_prepend_b85dcb4e1; } else { p_v_r7_sroa_129_7_i_i_i = v_r3_i5_i_i_i; p_v_r2_07_i_i_i_i_i_i_i_i_i_i_i = v_r6_i1_val_val2_i_i_i_i_i_i_i; goto L_join_5_i_i_i_i_i_i_i_i_i_i_i; }
+L_join_5_i_i_i_i_i_i_i_i_i_i_i:;
+    v_r7_sroa_129_7_i_i_i = p_v_r7_sroa_129_7_i_i_i;
+    v_r2_07_i_i_i_i_i_i_i_i_i_i_i = p_v_r2_07_i_i_i_i_i_i_i_i_i_i_i;
+    v_r16_i_i_i_i_i_i_i_i_i_i_i = (u64)((u64)(v_r2_07_i_i_i_i_i_i_i_i_i_i_i) + (u64)(18446744073709551615ull));
+    v_r18_i_i_i_i_i_i_i_i_i_i_i = (u64)((u64)(v_r16_i_i_i_i_i_i_i_i_i_i_i) * (u64)(72u));
+    v_r21_i_i_i_i_i_i_i_i_i_i_i = (P)((uintptr_t)v_r6_i1_val_val_i_i_i_i_i_i_i + (u64)(v_r18_i_i_i_i_i_i_i_i_i_i_i));
+    v_r12_i_i_i_i_i_i_i_i_i_i_i_i_i = v_r21_i_i_i_i_i_i_i_i_i_i_i + 48;
+    v_r16_i_i_i_i_i_i_i_i_i_i_i_i_i = v_r21_i_i_i_i_i_i_i_i_i_i_i + 24;
+    v_r1_sroa_0_0_copyload_i_i_i_i_i_i_i_i_i_i_i_i_i_i_i = get_P(v_r12_i_i_i_i_i_i_i_i_i_i_i_i_i);
+    v_r1_sroa_3_0_a0_sroa_idx_i_i_i_i_i_i_i_i_i_i_i_i_i_ = v_r21_i_i_i_i_i_i_i_i_i_i_i + 56;
+    v_r1_sroa_3_0_copyload_i_i_i_i_i_i_i_i_i_i_i_i_i_i_i = get_u64(v_r1_sroa_3_0_a0_sroa_idx_i_i_i_i_i_i_i_i_i_i_i_i_i_);
+    v_r17_i_i_i_i_i_i_i_i_i_i_i_i_i_i_i_i_i = (u64)((u64)(v_r7_sroa_129_7_i_i_i) - (u64)(v_r1_sroa_3_0_copyload_i_i_i_i_i_i_i_i_i_i_i_i_i_i_i));
+    v_r26_i_i_i_i_i_i_i_i_i_i_i_i_i_i_i_i_i = (P)((uintptr_t)v_r14 + (u64)(v_r17_i_i_i_i_i_i_i_i_i_i_i_i_i_i_i_i_i));
+    v_r8_i_i_i_i_i_i_i_i_i_i_i_i_i_i_i_i_i_i_i_i_i_i_i = (u64)((uintptr_t)v_r26_i_i_i_i_i_i_i_i_i_i_i_i_i_i_i_i_i);
+    v_r9_i_i_i_i_i_i_i_i_i_i_i_i_i_i_i_i_i_i_i_i_i_i_i = (u64)((uintptr_t)v_r1_sroa_0_0_copyload_i_i_i_i_i_i_i_i_i_i_i_i_i_i_i);
+    v_r10_i_i_i_i_i_i_i_i_i_i_i_i_i_i_i_i_i_i_i_i_i_i_i = (u64)((u64)(v_r8_i_i_i_i_i_i_i_i_i_i_i_i_i_i_i_i_i_i_i_i_i_i_i) - (u64)(v_r9_i_i_i_i_i_i_i_i_i_i_i_i_i_i_i_i_i_i_i_i_i_i_i));
+    v_r11_i_i_i_i_i_i_i_i_i_i_i_i_i_i_i_i_i_i_i_i_i_i_i = v_r10_i_i_i_i_i_i_i_i_i_i_i_i_i_i_i_i_i_i_i_i_i_i_i < v_r1_sroa_3_0_copyload_i_i_i_i_i_i_i_i_i_i_i_i_i_i_i;
+    if (v_r11_i_i_i_i_i_i_i_i_i_i_i_i_i_i_i_i_i_i_i_i_i_i_i) { goto L_join_7_i_i_i_i_i_i_i_i_i_i_i_i_i_i_i_i_i_i_i_i_i_i; } else { goto L_apart_2_i_i_i_i_i_i_i_i_i_i_i_i_i_i_i_i_i_i_i_i_i_; }
+L_join_7_i_i_i_i_i_i_i_i_i_i_i_i_i_i_i_i_i_i_i_i_i_i:;
+    v_xtraiter = (u64)((u64)(v_r1_sroa_3_0_copyload_i_i_i_i_i_i_i_i_i_i_i_i_i_i_i) & (u64)(3u));
+    v_19 = v_r1_sroa_3_0_copyload_i_i_i_i_i_i_i_i_i_i_i_i_i_i_i < 4u;
+    if (v_19) { p_v_r0_04_i_i_i_i_i_i_i_i_i_i_i_i_i_i_i_i_i_i_i_i_i_i_ = 0u; goto L_join_7_i_i_i_i_i_i_i_i_i_i_i_i_i_i_i_i_i_i_i_i_i_i__2; } else { goto L_join_7_i_i_i_i_i_i_i_i_i_i_i_i_i_i_i_i_i_i_i_i_i_i__3; }
+L_join_7_i_i_i_i_i_i_i_i_i_i_i_i_i_i_i_i_i_i_i_i_i_i__3:;
+    v_unroll_iter = (u64)((u64)(v_r1_sroa_3_0_copyload_i_i_i_i_i_i_i_i_i_i_i_i_i_i_i) & (u64)(18446744073709551612ull));
+    { p_v_r0_04_i_i_i_i_i_i_i_i_i_i_i_i_i_i_i_i_i_i_i_i_i_i___2 = 0u; p_v_niter = 0u; goto L_join_7_i_i_i_i_i_i_i_i_i_i_i_i_i_i_i_i_i_i_i_i_i_i__4; }
+L_apart_2_i_i_i_i_i_i_i_i_i_i_i_i_i_i_i_i_i_i_i_i_i_:;
+    move(v_r26_i_i_i_i_i_i_i_i_i_i_i_i_i_i_i_i_i, v_r1_sroa_0_0_copyload_i_i_i_i_i_i_i_i_i_i_i_i_i_i_i, v_r1_sroa_3_0_copyload_i_i_i_i_i_i_i_i_i_i_i_i_i_i_i);
     { goto L_der_core_back_writer_BackWriter_prepend_exit_i_i_i; }
-L_join_7_i_i_i_i_i_i_i_i_i_i_i_i_i_i_i_i_i_i_i_i_i:;
-    v_r0_04_i_i_i_i_i_i_i_i_i_i_i_i_i_i_i_i_i_i_i_i_i = p_v_r0_04_i_i_i_i_i_i_i_i_i_i_i_i_i_i_i_i_i_i_i_i_i;
+L_join_7_i_i_i_i_i_i_i_i_i_i_i_i_i_i_i_i_i_i_i_i_i_i__4:;
+    v_r0_04_i_i_i_i_i_i_i_i_i_i_i_i_i_i_i_i_i_i_i_i_i_i___2 = p_v_r0_04_i_i_i_i_i_i_i_i_i_i_i_i_i_i_i_i_i_i_i_i_i_i___2;
     v_niter = p_v_niter;
-    v_r20_i_i_i_i_i_i_i_i_i_i_i_i_i_i_i_i_i_i_i_i_i = v_r26_i_i_i_i_i_i_i_i_i_i_i_i_i_i_i + (int64_t)(v_r0_04_i_i_i_i_i_i_i_i_i_i_i_i_i_i_i_i_i_i_i_i_i);
-    v_r24_i_i_i_i_i_i_i_i_i_i_i_i_i_i_i_i_i_i_i_i_i = v_r1_sroa_0_0_copyload_i_i_i_i_i_i_i_i_i_i_i_i_i_i + (int64_t)(v_r0_04_i_i_i_i_i_i_i_i_i_i_i_i_i_i_i_i_i_i_i_i_i);
-    v_r26_i_i_i_i_i_i_i_i_i_i_i_i_i_i_i_i_i_i_i_i_i = get_u8(v_r24_i_i_i_i_i_i_i_i_i_i_i_i_i_i_i_i_i_i_i_i_i);
-    put_u8(v_r20_i_i_i_i_i_i_i_i_i_i_i_i_i_i_i_i_i_i_i_i_i, v_r26_i_i_i_i_i_i_i_i_i_i_i_i_i_i_i_i_i_i_i_i_i);
-    v_r30_i_i_i_i_i_i_i_i_i_i_i_i_i_i_i_i_i_i_i_i_i = (u64)((u64)(v_r0_04_i_i_i_i_i_i_i_i_i_i_i_i_i_i_i_i_i_i_i_i_i) | (u64)(1u));
-    v_r20_i_i_i_i_i_i_i_i_i_i_i_i_i_i_i_i_i_i_i_i_i_1 = v_r26_i_i_i_i_i_i_i_i_i_i_i_i_i_i_i + (int64_t)(v_r30_i_i_i_i_i_i_i_i_i_i_i_i_i_i_i_i_i_i_i_i_i);
-    v_r24_i_i_i_i_i_i_i_i_i_i_i_i_i_i_i_i_i_i_i_i_i_1 = v_r1_sroa_0_0_copyload_i_i_i_i_i_i_i_i_i_i_i_i_i_i + (int64_t)(v_r30_i_i_i_i_i_i_i_i_i_i_i_i_i_i_i_i_i_i_i_i_i);
-    v_r26_i_i_i_i_i_i_i_i_i_i_i_i_i_i_i_i_i_i_i_i_i_1 = get_u8(v_r24_i_i_i_i_i_i_i_i_i_i_i_i_i_i_i_i_i_i_i_i_i_1);
-    put_u8(v_r20_i_i_i_i_i_i_i_i_i_i_i_i_i_i_i_i_i_i_i_i_i_1, v_r26_i_i_i_i_i_i_i_i_i_i_i_i_i_i_i_i_i_i_i_i_i_1);
-    v_r30_i_i_i_i_i_i_i_i_i_i_i_i_i_i_i_i_i_i_i_i_i_1 = (u64)((u64)(v_r0_04_i_i_i_i_i_i_i_i_i_i_i_i_i_i_i_i_i_i_i_i_i) | (u64)(2u));
-    v_r20_i_i_i_i_i_i_i_i_i_i_i_i_i_i_i_i_i_i_i_i_i_2 = v_r26_i_i_i_i_i_i_i_i_i_i_i_i_i_i_i + (int64_t)(v_r30_i_i_i_i_i_i_i_i_i_i_i_i_i_i_i_i_i_i_i_i_i_1);
-    v_r24_i_i_i_i_i_i_i_i_i_i_i_i_i_i_i_i_i_i_i_i_i_2 = v_r1_sroa_0_0_copyload_i_i_i_i_i_i_i_i_i_i_i_i_i_i + (int64_t)(v_r30_i_i_i_i_i_i_i_i_i_i_i_i_i_i_i_i_i_i_i_i_i_1);
-    v_r26_i_i_i_i_i_i_i_i_i_i_i_i_i_i_i_i_i_i_i_i_i_2 = get_u8(v_r24_i_i_i_i_i_i_i_i_i_i_i_i_i_i_i_i_i_i_i_i_i_2);
-    put_u8(v_r20_i_i_i_i_i_i_i_i_i_i_i_i_i_i_i_i_i_i_i_i_i_2, v_r26_i_i_i_i_i_i_i_i_i_i_i_i_i_i_i_i_i_i_i_i_i_2);
-    v_r30_i_i_i_i_i_i_i_i_i_i_i_i_i_i_i_i_i_i_i_i_i_2 = (u64)((u64)(v_r0_04_i_i_i_i_i_i_i_i_i_i_i_i_i_i_i_i_i_i_i_i_i) | (u64)(3u));
-    v_r20_i_i_i_i_i_i_i_i_i_i_i_i_i_i_i_i_i_i_i_i_i_3 = v_r26_i_i_i_i_i_i_i_i_i_i_i_i_i_i_i + (int64_t)(v_r30_i_i_i_i_i_i_i_i_i_i_i_i_i_i_i_i_i_i_i_i_i_2);
-    v_r24_i_i_i_i_i_i_i_i_i_i_i_i_i_i_i_i_i_i_i_i_i_3 = v_r1_sroa_0_0_copyload_i_i_i_i_i_i_i_i_i_i_i_i_i_i + (int64_t)(v_r30_i_i_i_i_i_i_i_i_i_i_i_i_i_i_i_i_i_i_i_i_i_2);
-    v_r26_i_i_i_i_i_i_i_i_i_i_i_i_i_i_i_i_i_i_i_i_i_3 = get_u8(v_r24_i_i_i_i_i_i_i_i_i_i_i_i_i_i_i_i_i_i_i_i_i_3);
-    put_u8(v_r20_i_i_i_i_i_i_i_i_i_i_i_i_i_i_i_i_i_i_i_i_i_3, v_r26_i_i_i_i_i_i_i_i_i_i_i_i_i_i_i_i_i_i_i_i_i_3);
-    v_r30_i_i_i_i_i_i_i_i_i_i_i_i_i_i_i_i_i_i_i_i_i_3 = (u64)((u64)(v_r0_04_i_i_i_i_i_i_i_i_i_i_i_i_i_i_i_i_i_i_i_i_i) + (u64)(4u));
+    v_r20_i_i_i_i_i_i_i_i_i_i_i_i_i_i_i_i_i_i_i_i_i_i_i = v_r26_i_i_i_i_i_i_i_i_i_i_i_i_i_i_i_i_i + (int64_t)(v_r0_04_i_i_i_i_i_i_i_i_i_i_i_i_i_i_i_i_i_i_i_i_i_i___2);
+    v_r24_i_i_i_i_i_i_i_i_i_i_i_i_i_i_i_i_i_i_i_i_i_i_i = v_r1_sroa_0_0_copyload_i_i_i_i_i_i_i_i_i_i_i_i_i_i_i + (int64_t)(v_r0_04_i_i_i_i_i_i_i_i_i_i_i_i_i_i_i_i_i_i_i_i_i_i___2);
+    v_r26_i_i_i_i_i_i_i_i_i_i_i_i_i_i_i_i_i_i_i_i_i_i_i = get_u8(v_r24_i_i_i_i_i_i_i_i_i_i_i_i_i_i_i_i_i_i_i_i_i_i_i);
+    put_u8(v_r20_i_i_i_i_i_i_i_i_i_i_i_i_i_i_i_i_i_i_i_i_i_i_i, v_r26_i_i_i_i_i_i_i_i_i_i_i_i_i_i_i_i_i_i_i_i_i_i_i);
+    v_r30_i_i_i_i_i_i_i_i_i_i_i_i_i_i_i_i_i_i_i_i_i_i_i = (u64)((u64)(v_r0_04_i_i_i_i_i_i_i_i_i_i_i_i_i_i_i_i_i_i_i_i_i_i___2) | (u64)(1u));
+    v_r20_i_i_i_i_i_i_i_i_i_i_i_i_i_i_i_i_i_i_i_i_i_i_i_ = v_r26_i_i_i_i_i_i_i_i_i_i_i_i_i_i_i_i_i + (int64_t)(v_r30_i_i_i_i_i_i_i_i_i_i_i_i_i_i_i_i_i_i_i_i_i_i_i);
+    v_r24_i_i_i_i_i_i_i_i_i_i_i_i_i_i_i_i_i_i_i_i_i_i_i_ = v_r1_sroa_0_0_copyload_i_i_i_i_i_i_i_i_i_i_i_i_i_i_i + (int64_t)(v_r30_i_i_i_i_i_i_i_i_i_i_i_i_i_i_i_i_i_i_i_i_i_i_i);
+    v_r26_i_i_i_i_i_i_i_i_i_i_i_i_i_i_i_i_i_i_i_i_i_i_i_ = get_u8(v_r24_i_i_i_i_i_i_i_i_i_i_i_i_i_i_i_i_i_i_i_i_i_i_i_);
+    put_u8(v_r20_i_i_i_i_i_i_i_i_i_i_i_i_i_i_i_i_i_i_i_i_i_i_i_, v_r26_i_i_i_i_i_i_i_i_i_i_i_i_i_i_i_i_i_i_i_i_i_i_i_);
+    v_r30_i_i_i_i_i_i_i_i_i_i_i_i_i_i_i_i_i_i_i_i_i_i_i_ = (u64)((u64)(v_r0_04_i_i_i_i_i_i_i_i_i_i_i_i_i_i_i_i_i_i_i_i_i_i___2) | (u64)(2u));
+    v_r20_i_i_i_i_i_i_i_i_i_i_i_i_i_i_i_i_i_i_i_i_i_i_i___2 = v_r26_i_i_i_i_i_i_i_i_i_i_i_i_i_i_i_i_i + (int64_t)(v_r30_i_i_i_i_i_i_i_i_i_i_i_i_i_i_i_i_i_i_i_i_i_i_i_);
+    v_r24_i_i_i_i_i_i_i_i_i_i_i_i_i_i_i_i_i_i_i_i_i_i_i___2 = v_r1_sroa_0_0_copyload_i_i_i_i_i_i_i_i_i_i_i_i_i_i_i + (int64_t)(v_r30_i_i_i_i_i_i_i_i_i_i_i_i_i_i_i_i_i_i_i_i_i_i_i_);
+    v_r26_i_i_i_i_i_i_i_i_i_i_i_i_i_i_i_i_i_i_i_i_i_i_i___2 = get_u8(v_r24_i_i_i_i_i_i_i_i_i_i_i_i_i_i_i_i_i_i_i_i_i_i_i___2);
+    put_u8(v_r20_i_i_i_i_i_i_i_i_i_i_i_i_i_i_i_i_i_i_i_i_i_i_i___2, v_r26_i_i_i_i_i_i_i_i_i_i_i_i_i_i_i_i_i_i_i_i_i_i_i___2);
+    v_r30_i_i_i_i_i_i_i_i_i_i_i_i_i_i_i_i_i_i_i_i_i_i_i___2 = (u64)((u64)(v_r0_04_i_i_i_i_i_i_i_i_i_i_i_i_i_i_i_i_i_i_i_i_i_i___2) | (u64)(3u));
+    v_r20_i_i_i_i_i_i_i_i_i_i_i_i_i_i_i_i_i_i_i_i_i_i_i___3 = v_r26_i_i_i_i_i_i_i_i_i_i_i_i_i_i_i_i_i + (int64_t)(v_r30_i_i_i_i_i_i_i_i_i_i_i_i_i_i_i_i_i_i_i_i_i_i_i___2);
+    v_r24_i_i_i_i_i_i_i_i_i_i_i_i_i_i_i_i_i_i_i_i_i_i_i___3 = v_r1_sroa_0_0_copyload_i_i_i_i_i_i_i_i_i_i_i_i_i_i_i + (int64_t)(v_r30_i_i_i_i_i_i_i_i_i_i_i_i_i_i_i_i_i_i_i_i_i_i_i___2);
+    v_r26_i_i_i_i_i_i_i_i_i_i_i_i_i_i_i_i_i_i_i_i_i_i_i___3 = get_u8(v_r24_i_i_i_i_i_i_i_i_i_i_i_i_i_i_i_i_i_i_i_i_i_i_i___3);
+    put_u8(v_r20_i_i_i_i_i_i_i_i_i_i_i_i_i_i_i_i_i_i_i_i_i_i_i___3, v_r26_i_i_i_i_i_i_i_i_i_i_i_i_i_i_i_i_i_i_i_i_i_i_i___3);
+    v_r30_i_i_i_i_i_i_i_i_i_i_i_i_i_i_i_i_i_i_i_i_i_i_i___3 = (u64)((u64)(v_r0_04_i_i_i_i_i_i_i_i_i_i_i_i_i_i_i_i_i_i_i_i_i_i___2) + (u64)(4u));
     v_niter_next_3 = (u64)((u64)(v_niter) + (u64)(4u));
     v_niter_ncmp_3 = v_niter_next_3 == v_unroll_iter;
-    if (v_niter_ncmp_3) { goto L_der_core_back_writer_BackWriter_prepend_exit_i_i_i__2; } else { p_v_r0_04_i_i_i_i_i_i_i_i_i_i_i_i_i_i_i_i_i_i_i_i_i = v_r30_i_i_i_i_i_i_i_i_i_i_i_i_i_i_i_i_i_i_i_i_i_3; p_v_niter = v_niter_next_3; goto L_join_7_i_i_i_i_i_i_i_i_i_i_i_i_i_i_i_i_i_i_i_i_i; }
+    if (v_niter_ncmp_3) { goto L_der_core_back_writer_BackWriter_prepend_exit_i_i_i__2; } else { p_v_r0_04_i_i_i_i_i_i_i_i_i_i_i_i_i_i_i_i_i_i_i_i_i_i___2 = v_r30_i_i_i_i_i_i_i_i_i_i_i_i_i_i_i_i_i_i_i_i_i_i_i___3; p_v_niter = v_niter_next_3; goto L_join_7_i_i_i_i_i_i_i_i_i_i_i_i_i_i_i_i_i_i_i_i_i_i__4; }
 L_der_core_back_writer_BackWriter_prepend_exit_i_i_i__2:;
     v_lcmp_mod_not = v_xtraiter == 0u;
-    if (v_lcmp_mod_not) { goto L_der_core_back_writer_BackWriter_prepend_exit_i_i_i; } else { p_v_r0_04_i_i_i_i_i_i_i_i_i_i_i_i_i_i_i_i_i_i_i_i_i_ep = v_r30_i_i_i_i_i_i_i_i_i_i_i_i_i_i_i_i_i_i_i_i_i_3; goto L_join_7_i_i_i_i_i_i_i_i_i_i_i_i_i_i_i_i_i_i_i_i_i_e; }
-L_join_7_i_i_i_i_i_i_i_i_i_i_i_i_i_i_i_i_i_i_i_i_i_e:;
-    v_r0_04_i_i_i_i_i_i_i_i_i_i_i_i_i_i_i_i_i_i_i_i_i_ep = p_v_r0_04_i_i_i_i_i_i_i_i_i_i_i_i_i_i_i_i_i_i_i_i_i_ep;
-    { p_v_r0_04_i_i_i_i_i_i_i_i_i_i_i_i_i_i_i_i_i_i_i_i_i_ep__2 = v_r0_04_i_i_i_i_i_i_i_i_i_i_i_i_i_i_i_i_i_i_i_i_i_ep; p_v_epil_iter = 0u; goto L_join_7_i_i_i_i_i_i_i_i_i_i_i_i_i_i_i_i_i_i_i_i_i_e__2; }
-L_join_7_i_i_i_i_i_i_i_i_i_i_i_i_i_i_i_i_i_i_i_i_i_e__2:;
-    v_r0_04_i_i_i_i_i_i_i_i_i_i_i_i_i_i_i_i_i_i_i_i_i_ep__2 = p_v_r0_04_i_i_i_i_i_i_i_i_i_i_i_i_i_i_i_i_i_i_i_i_i_ep__2;
+    if (v_lcmp_mod_not) { goto L_der_core_back_writer_BackWriter_prepend_exit_i_i_i; } else { p_v_r0_04_i_i_i_i_i_i_i_i_i_i_i_i_i_i_i_i_i_i_i_i_i_i_ = v_r30_i_i_i_i_i_i_i_i_i_i_i_i_i_i_i_i_i_i_i_i_i_i_i___3; goto L_join_7_i_i_i_i_i_i_i_i_i_i_i_i_i_i_i_i_i_i_i_i_i_i__2; }
+L_join_7_i_i_i_i_i_i_i_i_i_i_i_i_i_i_i_i_i_i_i_i_i_i__2:;
+    v_r0_04_i_i_i_i_i_i_i_i_i_i_i_i_i_i_i_i_i_i_i_i_i_i_ = p_v_r0_04_i_i_i_i_i_i_i_i_i_i_i_i_i_i_i_i_i_i_i_i_i_i_;
+    { p_v_r0_04_i_i_i_i_i_i_i_i_i_i_i_i_i_i_i_i_i_i_i_i_i_i___3 = v_r0_04_i_i_i_i_i_i_i_i_i_i_i_i_i_i_i_i_i_i_i_i_i_i_; p_v_epil_iter = 0u; goto L_join_7_i_i_i_i_i_i_i_i_i_i_i_i_i_i_i_i_i_i_i_i_i_i__5; }
+L_join_7_i_i_i_i_i_i_i_i_i_i_i_i_i_i_i_i_i_i_i_i_i_i__5:;
+    v_r0_04_i_i_i_i_i_i_i_i_i_i_i_i_i_i_i_i_i_i_i_i_i_i___3 = p_v_r0_04_i_i_i_i_i_i_i_i_i_i_i_i_i_i_i_i_i_i_i_i_i_i___3;
     v_epil_iter = p_v_epil_iter;
-    v_r20_i_i_i_i_i_i_i_i_i_i_i_i_i_i_i_i_i_i_i_i_i_epil = v_r26_i_i_i_i_i_i_i_i_i_i_i_i_i_i_i + (int64_t)(v_r0_04_i_i_i_i_i_i_i_i_i_i_i_i_i_i_i_i_i_i_i_i_i_ep__2);
-    v_r24_i_i_i_i_i_i_i_i_i_i_i_i_i_i_i_i_i_i_i_i_i_epil = v_r1_sroa_0_0_copyload_i_i_i_i_i_i_i_i_i_i_i_i_i_i + (int64_t)(v_r0_04_i_i_i_i_i_i_i_i_i_i_i_i_i_i_i_i_i_i_i_i_i_ep__2);
-    v_r26_i_i_i_i_i_i_i_i_i_i_i_i_i_i_i_i_i_i_i_i_i_epil = get_u8(v_r24_i_i_i_i_i_i_i_i_i_i_i_i_i_i_i_i_i_i_i_i_i_epil);
-    put_u8(v_r20_i_i_i_i_i_i_i_i_i_i_i_i_i_i_i_i_i_i_i_i_i_epil, v_r26_i_i_i_i_i_i_i_i_i_i_i_i_i_i_i_i_i_i_i_i_i_epil);
-    v_r30_i_i_i_i_i_i_i_i_i_i_i_i_i_i_i_i_i_i_i_i_i_epil = (u64)((u64)(v_r0_04_i_i_i_i_i_i_i_i_i_i_i_i_i_i_i_i_i_i_i_i_i_ep__2) + (u64)(1u));
+    v_r20_i_i_i_i_i_i_i_i_i_i_i_i_i_i_i_i_i_i_i_i_i_i_i___4 = v_r26_i_i_i_i_i_i_i_i_i_i_i_i_i_i_i_i_i + (int64_t)(v_r0_04_i_i_i_i_i_i_i_i_i_i_i_i_i_i_i_i_i_i_i_i_i_i___3);
+    v_r24_i_i_i_i_i_i_i_i_i_i_i_i_i_i_i_i_i_i_i_i_i_i_i___4 = v_r1_sroa_0_0_copyload_i_i_i_i_i_i_i_i_i_i_i_i_i_i_i + (int64_t)(v_r0_04_i_i_i_i_i_i_i_i_i_i_i_i_i_i_i_i_i_i_i_i_i_i___3);
+    v_r26_i_i_i_i_i_i_i_i_i_i_i_i_i_i_i_i_i_i_i_i_i_i_i___4 = get_u8(v_r24_i_i_i_i_i_i_i_i_i_i_i_i_i_i_i_i_i_i_i_i_i_i_i___4);
+    put_u8(v_r20_i_i_i_i_i_i_i_i_i_i_i_i_i_i_i_i_i_i_i_i_i_i_i___4, v_r26_i_i_i_i_i_i_i_i_i_i_i_i_i_i_i_i_i_i_i_i_i_i_i___4);
+    v_r30_i_i_i_i_i_i_i_i_i_i_i_i_i_i_i_i_i_i_i_i_i_i_i___4 = (u64)((u64)(v_r0_04_i_i_i_i_i_i_i_i_i_i_i_i_i_i_i_i_i_i_i_i_i_i___3) + (u64)(1u));
     v_epil_iter_next = (u64)((u64)(v_epil_iter) + (u64)(1u));
     v_epil_iter_cmp_not = v_epil_iter_next == v_xtraiter;
-    if (v_epil_iter_cmp_not) { goto L_der_core_back_writer_BackWriter_prepend_exit_i_i_i; } else { p_v_r0_04_i_i_i_i_i_i_i_i_i_i_i_i_i_i_i_i_i_i_i_i_i_ep__2 = v_r30_i_i_i_i_i_i_i_i_i_i_i_i_i_i_i_i_i_i_i_i_i_epil; p_v_epil_iter = v_epil_iter_next; goto L_join_7_i_i_i_i_i_i_i_i_i_i_i_i_i_i_i_i_i_i_i_i_i_e__2; }
+    if (v_epil_iter_cmp_not) { goto L_der_core_back_writer_BackWriter_prepend_exit_i_i_i; } else { p_v_r0_04_i_i_i_i_i_i_i_i_i_i_i_i_i_i_i_i_i_i_i_i_i_i___3 = v_r30_i_i_i_i_i_i_i_i_i_i_i_i_i_i_i_i_i_i_i_i_i_i_i___4; p_v_epil_iter = v_epil_iter_next; goto L_join_7_i_i_i_i_i_i_i_i_i_i_i_i_i_i_i_i_i_i_i_i_i_i__5; }
 L_der_core_back_writer_BackWriter_prepend_exit_i_i_i:;
-    v_r12_i_i_i_i_i_i_i_i_i_i_i_i_i_i = v_r21_i_i_i_i_i_i_i_i_i + 64;
-    v_r13_i_i_i_i_i_i_i_i_i_i_i_i_i_i = get_u64(v_r12_i_i_i_i_i_i_i_i_i_i_i_i_i_i);
-    v_r15_not_i_i_i_i_i_i_i_i_i_i_i_i_i_i = v_r13_i_i_i_i_i_i_i_i_i_i_i_i_i_i == 0u;
-    if (v_r15_not_i_i_i_i_i_i_i_i_i_i_i_i_i_i) { p_v_r7_sroa_66_4_i_i_i = v_r17_i_i_i_i_i_i_i_i_i_i_i_i_i_i_i; goto L_der_core_borrowed_BorrowedEncode_prepend_25cd36d81; } else { goto L_then_1_i_i_i_i_i_i_i_i_i_i_i_i_i_i; }
-L_then_1_i_i_i_i_i_i_i_i_i_i_i_i_i_i:;
-    v_r17_i3_i_i_i_i_i_i_i_i_i_i_i_i_i_i = (u64)((u64)(v_r17_i_i_i_i_i_i_i_i_i_i_i_i_i_i_i) + (u64)(18446744073709551615ull));
-    v_r26_i5_i_i_i_i_i_i_i_i_i_i_i_i_i_i = (P)((uintptr_t)v_r14 + (u64)(v_r17_i3_i_i_i_i_i_i_i_i_i_i_i_i_i_i));
-    put_u8(v_r26_i5_i_i_i_i_i_i_i_i_i_i_i_i_i_i, 0u);
-    { p_v_r7_sroa_66_4_i_i_i = v_r17_i3_i_i_i_i_i_i_i_i_i_i_i_i_i_i; goto L_der_core_borrowed_BorrowedEncode_prepend_25cd36d81; }
+    v_r12_i_i_i_i_i_i_i_i_i_i_i_i_i_i_i_i = v_r21_i_i_i_i_i_i_i_i_i_i_i + 64;
+    v_r13_i_i_i_i_i_i_i_i_i_i_i_i_i_i_i_i = get_u64(v_r12_i_i_i_i_i_i_i_i_i_i_i_i_i_i_i_i);
+    v_r15_not_i_i_i_i_i_i_i_i_i_i_i_i_i_i_i_i = v_r13_i_i_i_i_i_i_i_i_i_i_i_i_i_i_i_i == 0u;
+    if (v_r15_not_i_i_i_i_i_i_i_i_i_i_i_i_i_i_i_i) { p_v_r7_sroa_129_8_i_i_i = v_r17_i_i_i_i_i_i_i_i_i_i_i_i_i_i_i_i_i; goto L_der_core_borrowed_BorrowedEncode_prepend_25cd36d81; } else { goto L_then_1_i_i_i_i_i_i_i_i_i_i_i_i_i_i_i_i; }
+L_then_1_i_i_i_i_i_i_i_i_i_i_i_i_i_i_i_i:;
+    v_r17_i3_i_i_i_i_i_i_i_i_i_i_i_i_i_i_i_i = (u64)((u64)(v_r17_i_i_i_i_i_i_i_i_i_i_i_i_i_i_i_i_i) + (u64)(18446744073709551615ull));
+    v_r26_i5_i_i_i_i_i_i_i_i_i_i_i_i_i_i_i_i = (P)((uintptr_t)v_r14 + (u64)(v_r17_i3_i_i_i_i_i_i_i_i_i_i_i_i_i_i_i_i));
+    put_u8(v_r26_i5_i_i_i_i_i_i_i_i_i_i_i_i_i_i_i_i, 0u);
+    { p_v_r7_sroa_129_8_i_i_i = v_r17_i3_i_i_i_i_i_i_i_i_i_i_i_i_i_i_i_i; goto L_der_core_borrowed_BorrowedEncode_prepend_25cd36d81; }
 L_der_core_borrowed_BorrowedEncode_prepend_25cd36d81:;
-    v_r7_sroa_66_4_i_i_i = p_v_r7_sroa_66_4_i_i_i;
-    v_20 = (u64)((u64)(v_r7_sroa_66_4_i_i_i) + (u64)(v_r3_i5_i_i_i));
-    v_21 = (u64)((u64)(v_r7_sroa_66_3_i_i_i) - (u64)(v_20));
+    v_r7_sroa_129_8_i_i_i = p_v_r7_sroa_129_8_i_i_i;
+    v_20 = (u64)((u64)(v_r7_sroa_129_8_i_i_i) + (u64)(v_r3_i5_i_i_i));
+    v_21 = (u64)((u64)(v_r7_sroa_129_7_i_i_i) - (u64)(v_20));
     v_22 = (u32)(v_21);
-    v_r2_i_i_i_i_i_i_i_i_i_i_i_i_i_i = (u32)((u32)(v_r1_sroa_9_4_copyload_i_i_i_i) + (u32)(v_22));
-    v_r59_i474_i_i_i = v_r2_i_i_i_i_i_i_i_i_i_i_i_i_i_i < 128u;
-    if (v_r59_i474_i_i_i) { goto L_then_1_i535_i_i_i; } else { goto L_else_2_i475_i_i_i; }
-L_then_1_i535_i_i_i:;
-    v_r64_i536_i_i_i = (u16)(v_r2_i_i_i_i_i_i_i_i_i_i_i_i_i_i);
-    v_r17_i_i540_i_i_i = (u64)((u64)(v_r7_sroa_66_4_i_i_i) + (u64)(18446744073709551614ull));
-    v_r26_i_i542_i_i_i = (P)((uintptr_t)v_r14 + (u64)(v_r17_i_i540_i_i_i));
-    v_r8_i469_sroa_4_0_insert_shift_i_i_i = (u16)((u32)(v_r64_i536_i_i_i) << (u32)((8u & 31)));
-    v_r8_i469_sroa_0_0_insert_insert_i_i_i = (u16)((u32)(v_r8_i469_sroa_4_0_insert_shift_i_i_i) | (u32)(2u));
-    put_u16(v_r26_i_i542_i_i_i, v_r8_i469_sroa_0_0_insert_insert_i_i_i);
-    { p_v_r7_sroa_66_14_i_i_i = v_r17_i_i540_i_i_i; goto L_der_core_back_writer_BackWriter_prepend_header_exi; }
-L_else_2_i475_i_i_i:;
-    v_r75_i476_i_i_i = v_r2_i_i_i_i_i_i_i_i_i_i_i_i_i_i < 256u;
-    if (v_r75_i476_i_i_i) { goto L_then_4_i526_i_i_i; } else { goto L_else_5_i477_i_i_i; }
-L_then_4_i526_i_i_i:;
-    v_r80_i527_i_i_i = (u8)(v_r2_i_i_i_i_i_i_i_i_i_i_i_i_i_i);
-    v_r17_i28_i532_i_i_i = (u64)((u64)(v_r7_sroa_66_4_i_i_i) + (u64)(18446744073709551613ull));
-    v_r26_i30_i534_i_i_i = (P)((uintptr_t)v_r14 + (u64)(v_r17_i28_i532_i_i_i));
-    put_u8(v_r26_i30_i534_i_i_i, 2u);
-    v_r14_i470_sroa_4_0_r26_i30_i534_sroa_idx_i_i_i = v_r26_i30_i534_i_i_i + 1;
-    put_u8(v_r14_i470_sroa_4_0_r26_i30_i534_sroa_idx_i_i_i, 129u);
-    v_r14_i470_sroa_5_0_r26_i30_i534_sroa_idx_i_i_i = v_r26_i30_i534_i_i_i + 2;
-    put_u8(v_r14_i470_sroa_5_0_r26_i30_i534_sroa_idx_i_i_i, v_r80_i527_i_i_i);
-    { p_v_r7_sroa_66_14_i_i_i = v_r17_i28_i532_i_i_i; goto L_der_core_back_writer_BackWriter_prepend_header_exi; }
-L_else_5_i477_i_i_i:;
-    v_r92_i478_i_i_i = v_r2_i_i_i_i_i_i_i_i_i_i_i_i_i_i < 65536u;
-    if (v_r92_i478_i_i_i) { goto L_then_7_i514_i_i_i; } else { goto L_else_8_i479_i_i_i; }
-L_then_7_i514_i_i_i:;
-    v_r17_i46_i522_i_i_i = (u64)((u64)(v_r7_sroa_66_4_i_i_i) + (u64)(18446744073709551612ull));
-    v_r26_i48_i524_i_i_i = (P)((uintptr_t)v_r14 + (u64)(v_r17_i46_i522_i_i_i));
-    v_23 = (u32)((u32)(v_r2_i_i_i_i_i_i_i_i_i_i_i_i_i_i) | (u32)(42074112u));
-    v_r20_i471_sroa_0_0_insert_insert_i_i_i = __builtin_bswap32(v_23);
-    put_u32(v_r26_i48_i524_i_i_i, v_r20_i471_sroa_0_0_insert_insert_i_i_i);
-    { p_v_r7_sroa_66_14_i_i_i = v_r17_i46_i522_i_i_i; goto L_der_core_back_writer_BackWriter_prepend_header_exi; }
-L_else_8_i479_i_i_i:;
-    v_r117_i480_i_i_i = v_r2_i_i_i_i_i_i_i_i_i_i_i_i_i_i < 16777216u;
-    if (v_r117_i480_i_i_i) { goto L_then_10_i499_i_i_i; } else { goto L_else_11_i481_i_i_i; }
-L_then_10_i499_i_i_i:;
-    v_r12223_i500_i_i_i = (u32)((u32)(v_r2_i_i_i_i_i_i_i_i_i_i_i_i_i_i) >> (u32)((16u & 31)));
-    v_r124_i501_i_i_i = (u8)(v_r12223_i500_i_i_i);
-    v_r12624_i502_i_i_i = (u32)((u32)(v_r2_i_i_i_i_i_i_i_i_i_i_i_i_i_i) >> (u32)((8u & 31)));
-    v_r130_i503_i_i_i = (u8)(v_r12624_i502_i_i_i);
-    v_r134_i504_i_i_i = (u8)(v_r2_i_i_i_i_i_i_i_i_i_i_i_i_i_i);
-    v_r17_i64_i511_i_i_i = (u64)((u64)(v_r7_sroa_66_4_i_i_i) + (u64)(18446744073709551611ull));
-    v_r26_i66_i513_i_i_i = (P)((uintptr_t)v_r14 + (u64)(v_r17_i64_i511_i_i_i));
-    put_u8(v_r26_i66_i513_i_i_i, 2u);
-    v_r29_i472_sroa_4_0_r26_i66_i513_sroa_idx_i_i_i = v_r26_i66_i513_i_i_i + 1;
-    put_u8(v_r29_i472_sroa_4_0_r26_i66_i513_sroa_idx_i_i_i, 131u);
-    v_r29_i472_sroa_5_0_r26_i66_i513_sroa_idx_i_i_i = v_r26_i66_i513_i_i_i + 2;
-    put_u8(v_r29_i472_sroa_5_0_r26_i66_i513_sroa_idx_i_i_i, v_r124_i501_i_i_i);
-    v_r29_i472_sroa_6_0_r26_i66_i513_sroa_idx_i_i_i = v_r26_i66_i513_i_i_i + 3;
-    put_u8(v_r29_i472_sroa_6_0_r26_i66_i513_sroa_idx_i_i_i, v_r130_i503_i_i_i);
-    v_r29_i472_sroa_7_0_r26_i66_i513_sroa_idx_i_i_i = v_r26_i66_i513_i_i_i + 4;
-    put_u8(v_r29_i472_sroa_7_0_r26_i66_i513_sroa_idx_i_i_i, v_r134_i504_i_i_i);
-    { p_v_r7_sroa_66_14_i_i_i = v_r17_i64_i511_i_i_i; goto L_der_core_back_writer_BackWriter_prepend_header_exi; }
-L_else_11_i481_i_i_i:;
-    v_r15020_i482_i_i_i = (u32)((u32)(v_r2_i_i_i_i_i_i_i_i_i_i_i_i_i_i) >> (u32)((24u & 31)));
-    v_r152_i483_i_i_i = (u8)(v_r15020_i482_i_i_i);
-    v_r15421_i484_i_i_i = (u32)((u32)(v_r2_i_i_i_i_i_i_i_i_i_i_i_i_i_i) >> (u32)((16u & 31)));
-    v_r158_i485_i_i_i = (u8)(v_r15421_i484_i_i_i);
-    v_r16022_i486_i_i_i = (u32)((u32)(v_r2_i_i_i_i_i_i_i_i_i_i_i_i_i_i) >> (u32)((8u & 31)));
-    v_r164_i487_i_i_i = (u8)(v_r16022_i486_i_i_i);
-    v_r168_i488_i_i_i = (u8)(v_r2_i_i_i_i_i_i_i_i_i_i_i_i_i_i);
-    v_r17_i82_i496_i_i_i = (u64)((u64)(v_r7_sroa_66_4_i_i_i) + (u64)(18446744073709551610ull));
-    v_r26_i84_i498_i_i_i = (P)((uintptr_t)v_r14 + (u64)(v_r17_i82_i496_i_i_i));
-    put_u8(v_r26_i84_i498_i_i_i, 2u);
-    v_r40_i473_sroa_4_0_r26_i84_i498_sroa_idx_i_i_i = v_r26_i84_i498_i_i_i + 1;
-    put_u8(v_r40_i473_sroa_4_0_r26_i84_i498_sroa_idx_i_i_i, 132u);
-    v_r40_i473_sroa_5_0_r26_i84_i498_sroa_idx_i_i_i = v_r26_i84_i498_i_i_i + 2;
-    put_u8(v_r40_i473_sroa_5_0_r26_i84_i498_sroa_idx_i_i_i, v_r152_i483_i_i_i);
-    v_r40_i473_sroa_6_0_r26_i84_i498_sroa_idx_i_i_i = v_r26_i84_i498_i_i_i + 3;
-    put_u8(v_r40_i473_sroa_6_0_r26_i84_i498_sroa_idx_i_i_i, v_r158_i485_i_i_i);
-    v_r40_i473_sroa_7_0_r26_i84_i498_sroa_idx_i_i_i = v_r26_i84_i498_i_i_i + 4;
-    put_u8(v_r40_i473_sroa_7_0_r26_i84_i498_sroa_idx_i_i_i, v_r164_i487_i_i_i);
-    v_r40_i473_sroa_8_0_r26_i84_i498_sroa_idx_i_i_i = v_r26_i84_i498_i_i_i + 5;
-    put_u8(v_r40_i473_sroa_8_0_r26_i84_i498_sroa_idx_i_i_i, v_r168_i488_i_i_i);
-    { p_v_r7_sroa_66_14_i_i_i = v_r17_i82_i496_i_i_i; goto L_der_core_back_writer_BackWriter_prepend_header_exi; }
+    v_r2_i_i_i_i_i_i_i_i_i_i_i_i_i_i_i_i = (u32)((u32)(v_r1_sroa_9_4_copyload_i_i_i_i) + (u32)(v_22));
+    v_r59_i1008_i_i_i = v_r2_i_i_i_i_i_i_i_i_i_i_i_i_i_i_i_i < 128u;
+    if (v_r59_i1008_i_i_i) { goto L_then_1_i1069_i_i_i; } else { goto L_else_2_i1009_i_i_i; }
+L_then_1_i1069_i_i_i:;
+    v_r64_i1070_i_i_i = (u16)(v_r2_i_i_i_i_i_i_i_i_i_i_i_i_i_i_i_i);
+    v_r17_i_i1074_i_i_i = (u64)((u64)(v_r7_sroa_129_8_i_i_i) + (u64)(18446744073709551614ull));
+    v_r26_i_i1076_i_i_i = (P)((uintptr_t)v_r14 + (u64)(v_r17_i_i1074_i_i_i));
+    v_r8_i1003_sroa_4_0_insert_shift_i_i_i = (u16)((u32)(v_r64_i1070_i_i_i) << (u32)((8u & 31)));
+    v_r8_i1003_sroa_0_0_insert_insert_i_i_i = (u16)((u32)(v_r8_i1003_sroa_4_0_insert_shift_i_i_i) | (u32)(2u));
+    put_u16(v_r26_i_i1076_i_i_i, v_r8_i1003_sroa_0_0_insert_insert_i_i_i);
+    { p_v_r7_sroa_129_26_i_i_i = v_r17_i_i1074_i_i_i; goto L_der_core_back_writer_BackWriter_prepend_header_exi; }
+L_else_2_i1009_i_i_i:;
+    v_r75_i1010_i_i_i = v_r2_i_i_i_i_i_i_i_i_i_i_i_i_i_i_i_i < 256u;
+    if (v_r75_i1010_i_i_i) { goto L_then_4_i1060_i_i_i; } else { goto L_else_5_i1011_i_i_i; }
+L_then_4_i1060_i_i_i:;
+    v_r80_i1061_i_i_i = (u8)(v_r2_i_i_i_i_i_i_i_i_i_i_i_i_i_i_i_i);
+    v_r17_i28_i1066_i_i_i = (u64)((u64)(v_r7_sroa_129_8_i_i_i) + (u64)(18446744073709551613ull));
+    v_r26_i30_i1068_i_i_i = (P)((uintptr_t)v_r14 + (u64)(v_r17_i28_i1066_i_i_i));
+    put_u8(v_r26_i30_i1068_i_i_i, 2u);
+    v_r14_i1004_sroa_4_0_r26_i30_i1068_sroa_idx_i_i_i = v_r26_i30_i1068_i_i_i + 1;
+    put_u8(v_r14_i1004_sroa_4_0_r26_i30_i1068_sroa_idx_i_i_i, 129u);
+    v_r14_i1004_sroa_5_0_r26_i30_i1068_sroa_idx_i_i_i = v_r26_i30_i1068_i_i_i + 2;
+    put_u8(v_r14_i1004_sroa_5_0_r26_i30_i1068_sroa_idx_i_i_i, v_r80_i1061_i_i_i);
+    { p_v_r7_sroa_129_26_i_i_i = v_r17_i28_i1066_i_i_i; goto L_der_core_back_writer_BackWriter_prepend_header_exi; }
+L_else_5_i1011_i_i_i:;
+    v_r92_i1012_i_i_i = v_r2_i_i_i_i_i_i_i_i_i_i_i_i_i_i_i_i < 65536u;
+    if (v_r92_i1012_i_i_i) { goto L_then_7_i1048_i_i_i; } else { goto L_else_8_i1013_i_i_i; }
+L_then_7_i1048_i_i_i:;
+    v_r17_i46_i1056_i_i_i = (u64)((u64)(v_r7_sroa_129_8_i_i_i) + (u64)(18446744073709551612ull));
+    v_r26_i48_i1058_i_i_i = (P)((uintptr_t)v_r14 + (u64)(v_r17_i46_i1056_i_i_i));
+    v_23 = (u32)((u32)(v_r2_i_i_i_i_i_i_i_i_i_i_i_i_i_i_i_i) | (u32)(42074112u));
+    v_r20_i1005_sroa_0_0_insert_insert_i_i_i = __builtin_bswap32(v_23);
+    put_u32(v_r26_i48_i1058_i_i_i, v_r20_i1005_sroa_0_0_insert_insert_i_i_i);
+    { p_v_r7_sroa_129_26_i_i_i = v_r17_i46_i1056_i_i_i; goto L_der_core_back_writer_BackWriter_prepend_header_exi; }
+L_else_8_i1013_i_i_i:;
+    v_r117_i1014_i_i_i = v_r2_i_i_i_i_i_i_i_i_i_i_i_i_i_i_i_i < 16777216u;
+    if (v_r117_i1014_i_i_i) { goto L_then_10_i1033_i_i_i; } else { goto L_else_11_i1015_i_i_i; }
+L_then_10_i1033_i_i_i:;
+    v_r12223_i1034_i_i_i = (u32)((u32)(v_r2_i_i_i_i_i_i_i_i_i_i_i_i_i_i_i_i) >> (u32)((16u & 31)));
+    v_r124_i1035_i_i_i = (u8)(v_r12223_i1034_i_i_i);
+    v_r12624_i1036_i_i_i = (u32)((u32)(v_r2_i_i_i_i_i_i_i_i_i_i_i_i_i_i_i_i) >> (u32)((8u & 31)));
+    v_r130_i1037_i_i_i = (u8)(v_r12624_i1036_i_i_i);
+    v_r134_i1038_i_i_i = (u8)(v_r2_i_i_i_i_i_i_i_i_i_i_i_i_i_i_i_i);
+    v_r17_i64_i1045_i_i_i = (u64)((u64)(v_r7_sroa_129_8_i_i_i) + (u64)(18446744073709551611ull));
+    v_r26_i66_i1047_i_i_i = (P)((uintptr_t)v_r14 + (u64)(v_r17_i64_i1045_i_i_i));
+    put_u8(v_r26_i66_i1047_i_i_i, 2u);
+    v_r29_i1006_sroa_4_0_r26_i66_i1047_sroa_idx_i_i_i = v_r26_i66_i1047_i_i_i + 1;
+    put_u8(v_r29_i1006_sroa_4_0_r26_i66_i1047_sroa_idx_i_i_i, 131u);
+    v_r29_i1006_sroa_5_0_r26_i66_i1047_sroa_idx_i_i_i = v_r26_i66_i1047_i_i_i + 2;
+    put_u8(v_r29_i1006_sroa_5_0_r26_i66_i1047_sroa_idx_i_i_i, v_r124_i1035_i_i_i);
+    v_r29_i1006_sroa_6_0_r26_i66_i1047_sroa_idx_i_i_i = v_r26_i66_i1047_i_i_i + 3;
+    put_u8(v_r29_i1006_sroa_6_0_r26_i66_i1047_sroa_idx_i_i_i, v_r130_i1037_i_i_i);
+    v_r29_i1006_sroa_7_0_r26_i66_i1047_sroa_idx_i_i_i = v_r26_i66_i1047_i_i_i + 4;
+    put_u8(v_r29_i1006_sroa_7_0_r26_i66_i1047_sroa_idx_i_i_i, v_r134_i1038_i_i_i);
+    { p_v_r7_sroa_129_26_i_i_i = v_r17_i64_i1045_i_i_i; goto L_der_core_back_writer_BackWriter_prepend_header_exi; }
+L_else_11_i1015_i_i_i:;
+    v_r15020_i1016_i_i_i = (u32)((u32)(v_r2_i_i_i_i_i_i_i_i_i_i_i_i_i_i_i_i) >> (u32)((24u & 31)));
+    v_r152_i1017_i_i_i = (u8)(v_r15020_i1016_i_i_i);
+    v_r15421_i1018_i_i_i = (u32)((u32)(v_r2_i_i_i_i_i_i_i_i_i_i_i_i_i_i_i_i) >> (u32)((16u & 31)));
+    v_r158_i1019_i_i_i = (u8)(v_r15421_i1018_i_i_i);
+    v_r16022_i1020_i_i_i = (u32)((u32)(v_r2_i_i_i_i_i_i_i_i_i_i_i_i_i_i_i_i) >> (u32)((8u & 31)));
+    v_r164_i1021_i_i_i = (u8)(v_r16022_i1020_i_i_i);
+    v_r168_i1022_i_i_i = (u8)(v_r2_i_i_i_i_i_i_i_i_i_i_i_i_i_i_i_i);
+    v_r17_i82_i1030_i_i_i = (u64)((u64)(v_r7_sroa_129_8_i_i_i) + (u64)(18446744073709551610ull));
+    v_r26_i84_i1032_i_i_i = (P)((uintptr_t)v_r14 + (u64)(v_r17_i82_i1030_i_i_i));
+    put_u8(v_r26_i84_i1032_i_i_i, 2u);
+    v_r40_i1007_sroa_4_0_r26_i84_i1032_sroa_idx_i_i_i = v_r26_i84_i1032_i_i_i + 1;
+    put_u8(v_r40_i1007_sroa_4_0_r26_i84_i1032_sroa_idx_i_i_i, 132u);
+    v_r40_i1007_sroa_5_0_r26_i84_i1032_sroa_idx_i_i_i = v_r26_i84_i1032_i_i_i + 2;
+    put_u8(v_r40_i1007_sroa_5_0_r26_i84_i1032_sroa_idx_i_i_i, v_r152_i1017_i_i_i);
+    v_r40_i1007_sroa_6_0_r26_i84_i1032_sroa_idx_i_i_i = v_r26_i84_i1032_i_i_i + 3;
+    put_u8(v_r40_i1007_sroa_6_0_r26_i84_i1032_sroa_idx_i_i_i, v_r158_i1019_i_i_i);
+    v_r40_i1007_sroa_7_0_r26_i84_i1032_sroa_idx_i_i_i = v_r26_i84_i1032_i_i_i + 4;
+    put_u8(v_r40_i1007_sroa_7_0_r26_i84_i1032_sroa_idx_i_i_i, v_r164_i1021_i_i_i);
+    v_r40_i1007_sroa_8_0_r26_i84_i1032_sroa_idx_i_i_i = v_r26_i84_i1032_i_i_i + 5;
+    put_u8(v_r40_i1007_sroa_8_0_r26_i84_i1032_sroa_idx_i_i_i, v_r168_i1022_i_i_i);
+    { p_v_r7_sroa_129_26_i_i_i = v_r17_i82_i1030_i_i_i; goto L_der_core_back_writer_BackWriter_prepend_header_exi; }
 L_der_core_back_writer_BackWriter_prepend_header_exi:;
-    v_r7_sroa_66_14_i_i_i = p_v_r7_sroa_66_14_i_i_i;
-    v_r1_sroa_0_0_copyload_i_i_i7_i_i_i_i_i_i_i_i_i_i_i = get_P(v_r16_i_i_i_i_i_i_i_i_i_i_i);
-    v_r1_sroa_3_0_a0_sroa_idx_i_i_i8_i_i_i_i_i_i_i_i_i_i = v_r21_i_i_i_i_i_i_i_i_i + 32;
-    v_r1_sroa_3_0_copyload_i_i_i9_i_i_i_i_i_i_i_i_i_i_i = get_u64(v_r1_sroa_3_0_a0_sroa_idx_i_i_i8_i_i_i_i_i_i_i_i_i_i);
-    v_r17_i_i_i_i10_i_i_i_i_i_i_i_i_i_i_i = (u64)((u64)(v_r7_sroa_66_14_i_i_i) - (u64)(v_r1_sroa_3_0_copyload_i_i_i9_i_i_i_i_i_i_i_i_i_i_i));
-    v_r26_i_i_i_i12_i_i_i_i_i_i_i_i_i_i_i = (P)((uintptr_t)v_r14 + (u64)(v_r17_i_i_i_i10_i_i_i_i_i_i_i_i_i_i_i));
-    v_r8_i_i_i_i_i_i_i_i_i_i13_i_i_i_i_i_i_i_i_i_i_i = (u64)((uintptr_t)v_r26_i_i_i_i12_i_i_i_i_i_i_i_i_i_i_i);
-    v_r9_i_i_i_i_i_i_i_i_i_i14_i_i_i_i_i_i_i_i_i_i_i = (u64)((uintptr_t)v_r1_sroa_0_0_copyload_i_i_i7_i_i_i_i_i_i_i_i_i_i_i);
-    v_r10_i_i_i_i_i_i_i_i_i_i15_i_i_i_i_i_i_i_i_i_i_i = (u64)((u64)(v_r8_i_i_i_i_i_i_i_i_i_i13_i_i_i_i_i_i_i_i_i_i_i) - (u64)(v_r9_i_i_i_i_i_i_i_i_i_i14_i_i_i_i_i_i_i_i_i_i_i));
-    v_r11_i_i_i_i_i_i_i_i_i_i16_i_i_i_i_i_i_i_i_i_i_i = v_r10_i_i_i_i_i_i_i_i_i_i15_i_i_i_i_i_i_i_i_i_i_i < v_r1_sroa_3_0_copyload_i_i_i9_i_i_i_i_i_i_i_i_i_i_i;
-    if (v_r11_i_i_i_i_i_i_i_i_i_i16_i_i_i_i_i_i_i_i_i_i_i) { goto L_join_7_i_i_i_i_i_i_i_i_i_i30_i_i_i_i_i_i_i_i_i_i_i; } else { goto L_apart_2_i_i_i_i_i_i_i_i_i_i17_i_i_i_i_i_i_i_i_i_i_; }
+    v_r7_sroa_129_26_i_i_i = p_v_r7_sroa_129_26_i_i_i;
+    v_r1_sroa_0_0_copyload_i_i_i7_i_i_i_i_i_i_i_i_i_i_i_ = get_P(v_r16_i_i_i_i_i_i_i_i_i_i_i_i_i);
+    v_r1_sroa_3_0_a0_sroa_idx_i_i_i8_i_i_i_i_i_i_i_i_i_i = v_r21_i_i_i_i_i_i_i_i_i_i_i + 32;
+    v_r1_sroa_3_0_copyload_i_i_i9_i_i_i_i_i_i_i_i_i_i_i_ = get_u64(v_r1_sroa_3_0_a0_sroa_idx_i_i_i8_i_i_i_i_i_i_i_i_i_i);
+    v_r17_i_i_i_i10_i_i_i_i_i_i_i_i_i_i_i_i_i = (u64)((u64)(v_r7_sroa_129_26_i_i_i) - (u64)(v_r1_sroa_3_0_copyload_i_i_i9_i_i_i_i_i_i_i_i_i_i_i_));
+    v_r26_i_i_i_i12_i_i_i_i_i_i_i_i_i_i_i_i_i = (P)((uintptr_t)v_r14 + (u64)(v_r17_i_i_i_i10_i_i_i_i_i_i_i_i_i_i_i_i_i));
+    v_r8_i_i_i_i_i_i_i_i_i_i13_i_i_i_i_i_i_i_i_i_i_i_i_i = (u64)((uintptr_t)v_r26_i_i_i_i12_i_i_i_i_i_i_i_i_i_i_i_i_i);
+    v_r9_i_i_i_i_i_i_i_i_i_i14_i_i_i_i_i_i_i_i_i_i_i_i_i = (u64)((uintptr_t)v_r1_sroa_0_0_copyload_i_i_i7_i_i_i_i_i_i_i_i_i_i_i_);
+    v_r10_i_i_i_i_i_i_i_i_i_i15_i_i_i_i_i_i_i_i_i_i_i_i_ = (u64)((u64)(v_r8_i_i_i_i_i_i_i_i_i_i13_i_i_i_i_i_i_i_i_i_i_i_i_i) - (u64)(v_r9_i_i_i_i_i_i_i_i_i_i14_i_i_i_i_i_i_i_i_i_i_i_i_i));
+    v_r11_i_i_i_i_i_i_i_i_i_i16_i_i_i_i_i_i_i_i_i_i_i_i_ = v_r10_i_i_i_i_i_i_i_i_i_i15_i_i_i_i_i_i_i_i_i_i_i_i_ < v_r1_sroa_3_0_copyload_i_i_i9_i_i_i_i_i_i_i_i_i_i_i_;
+    if (v_r11_i_i_i_i_i_i_i_i_i_i16_i_i_i_i_i_i_i_i_i_i_i_i_) { goto L_join_7_i_i_i_i_i_i_i_i_i_i30_i_i_i_i_i_i_i_i_i_i_i; } else { goto L_apart_2_i_i_i_i_i_i_i_i_i_i17_i_i_i_i_i_i_i_i_i_i_; }
 L_join_7_i_i_i_i_i_i_i_i_i_i30_i_i_i_i_i_i_i_i_i_i_i:;
-    v_xtraiter125 = (u64)((u64)(v_r1_sroa_3_0_copyload_i_i_i9_i_i_i_i_i_i_i_i_i_i_i) & (u64)(3u));
-    v_24 = v_r1_sroa_3_0_copyload_i_i_i9_i_i_i_i_i_i_i_i_i_i_i < 4u;
+    v_xtraiter172 = (u64)((u64)(v_r1_sroa_3_0_copyload_i_i_i9_i_i_i_i_i_i_i_i_i_i_i_) & (u64)(3u));
+    v_24 = v_r1_sroa_3_0_copyload_i_i_i9_i_i_i_i_i_i_i_i_i_i_i_ < 4u;
     if (v_24) { p_v_r0_04_i_i_i_i_i_i_i_i_i_i31_i_i_i_i_i_i_i_i_i_i_i_ = 0u; goto L_join_7_i_i_i_i_i_i_i_i_i_i30_i_i_i_i_i_i_i_i_i_i_i__2; } else { goto L_join_7_i_i_i_i_i_i_i_i_i_i30_i_i_i_i_i_i_i_i_i_i_i__3; }
 L_join_7_i_i_i_i_i_i_i_i_i_i30_i_i_i_i_i_i_i_i_i_i_i__3:;
-    v_unroll_iter129 = (u64)((u64)(v_r1_sroa_3_0_copyload_i_i_i9_i_i_i_i_i_i_i_i_i_i_i) & (u64)(18446744073709551612ull));
-    { p_v_r0_04_i_i_i_i_i_i_i_i_i_i31_i_i_i_i_i_i_i_i_i_i_i = 0u; p_v_niter130 = 0u; goto L_join_7_i_i_i_i_i_i_i_i_i_i30_i_i_i_i_i_i_i_i_i_i_i__4; }
+    v_unroll_iter176 = (u64)((u64)(v_r1_sroa_3_0_copyload_i_i_i9_i_i_i_i_i_i_i_i_i_i_i_) & (u64)(18446744073709551612ull));
+    { p_v_r0_04_i_i_i_i_i_i_i_i_i_i31_i_i_i_i_i_i_i_i_i_i_i___2 = 0u; p_v_niter177 = 0u; goto L_join_7_i_i_i_i_i_i_i_i_i_i30_i_i_i_i_i_i_i_i_i_i_i__4; }
 L_apart_2_i_i_i_i_i_i_i_i_i_i17_i_i_i_i_i_i_i_i_i_i_:;
-    move(v_r26_i_i_i_i12_i_i_i_i_i_i_i_i_i_i_i, v_r1_sroa_0_0_copyload_i_i_i7_i_i_i_i_i_i_i_i_i_i_i, v_r1_sroa_3_0_copyload_i_i_i9_i_i_i_i_i_i_i_i_i_i_i);
+    move(v_r26_i_i_i_i12_i_i_i_i_i_i_i_i_i_i_i_i_i, v_r1_sroa_0_0_copyload_i_i_i7_i_i_i_i_i_i_i_i_i_i_i_, v_r1_sroa_3_0_copyload_i_i_i9_i_i_i_i_i_i_i_i_i_i_i_);
     { goto L_der_core_back_writer_BackWriter_prepend_exit_i_i_i__3; }
 L_join_7_i_i_i_i_i_i_i_i_i_i30_i_i_i_i_i_i_i_i_i_i_i__4:;
-    v_r0_04_i_i_i_i_i_i_i_i_i_i31_i_i_i_i_i_i_i_i_i_i_i = p_v_r0_04_i_i_i_i_i_i_i_i_i_i31_i_i_i_i_i_i_i_i_i_i_i;
-    v_niter130 = p_v_niter130;
-    v_r20_i_i_i_i_i_i_i_i_i_i32_i_i_i_i_i_i_i_i_i_i_i = v_r26_i_i_i_i12_i_i_i_i_i_i_i_i_i_i_i + (int64_t)(v_r0_04_i_i_i_i_i_i_i_i_i_i31_i_i_i_i_i_i_i_i_i_i_i);
-    v_r24_i_i_i_i_i_i_i_i_i_i33_i_i_i_i_i_i_i_i_i_i_i = v_r1_sroa_0_0_copyload_i_i_i7_i_i_i_i_i_i_i_i_i_i_i + (int64_t)(v_r0_04_i_i_i_i_i_i_i_i_i_i31_i_i_i_i_i_i_i_i_i_i_i);
-    v_r26_i_i_i_i_i_i_i_i_i_i34_i_i_i_i_i_i_i_i_i_i_i = get_u8(v_r24_i_i_i_i_i_i_i_i_i_i33_i_i_i_i_i_i_i_i_i_i_i);
-    put_u8(v_r20_i_i_i_i_i_i_i_i_i_i32_i_i_i_i_i_i_i_i_i_i_i, v_r26_i_i_i_i_i_i_i_i_i_i34_i_i_i_i_i_i_i_i_i_i_i);
-    v_r30_i_i_i_i_i_i_i_i_i_i35_i_i_i_i_i_i_i_i_i_i_i = (u64)((u64)(v_r0_04_i_i_i_i_i_i_i_i_i_i31_i_i_i_i_i_i_i_i_i_i_i) | (u64)(1u));
-    v_r20_i_i_i_i_i_i_i_i_i_i32_i_i_i_i_i_i_i_i_i_i_i_1 = v_r26_i_i_i_i12_i_i_i_i_i_i_i_i_i_i_i + (int64_t)(v_r30_i_i_i_i_i_i_i_i_i_i35_i_i_i_i_i_i_i_i_i_i_i);
-    v_r24_i_i_i_i_i_i_i_i_i_i33_i_i_i_i_i_i_i_i_i_i_i_1 = v_r1_sroa_0_0_copyload_i_i_i7_i_i_i_i_i_i_i_i_i_i_i + (int64_t)(v_r30_i_i_i_i_i_i_i_i_i_i35_i_i_i_i_i_i_i_i_i_i_i);
-    v_r26_i_i_i_i_i_i_i_i_i_i34_i_i_i_i_i_i_i_i_i_i_i_1 = get_u8(v_r24_i_i_i_i_i_i_i_i_i_i33_i_i_i_i_i_i_i_i_i_i_i_1);
-    put_u8(v_r20_i_i_i_i_i_i_i_i_i_i32_i_i_i_i_i_i_i_i_i_i_i_1, v_r26_i_i_i_i_i_i_i_i_i_i34_i_i_i_i_i_i_i_i_i_i_i_1);
-    v_r30_i_i_i_i_i_i_i_i_i_i35_i_i_i_i_i_i_i_i_i_i_i_1 = (u64)((u64)(v_r0_04_i_i_i_i_i_i_i_i_i_i31_i_i_i_i_i_i_i_i_i_i_i) | (u64)(2u));
-    v_r20_i_i_i_i_i_i_i_i_i_i32_i_i_i_i_i_i_i_i_i_i_i_2 = v_r26_i_i_i_i12_i_i_i_i_i_i_i_i_i_i_i + (int64_t)(v_r30_i_i_i_i_i_i_i_i_i_i35_i_i_i_i_i_i_i_i_i_i_i_1);
-    v_r24_i_i_i_i_i_i_i_i_i_i33_i_i_i_i_i_i_i_i_i_i_i_2 = v_r1_sroa_0_0_copyload_i_i_i7_i_i_i_i_i_i_i_i_i_i_i + (int64_t)(v_r30_i_i_i_i_i_i_i_i_i_i35_i_i_i_i_i_i_i_i_i_i_i_1);
-    v_r26_i_i_i_i_i_i_i_i_i_i34_i_i_i_i_i_i_i_i_i_i_i_2 = get_u8(v_r24_i_i_i_i_i_i_i_i_i_i33_i_i_i_i_i_i_i_i_i_i_i_2);
-    put_u8(v_r20_i_i_i_i_i_i_i_i_i_i32_i_i_i_i_i_i_i_i_i_i_i_2, v_r26_i_i_i_i_i_i_i_i_i_i34_i_i_i_i_i_i_i_i_i_i_i_2);
-    v_r30_i_i_i_i_i_i_i_i_i_i35_i_i_i_i_i_i_i_i_i_i_i_2 = (u64)((u64)(v_r0_04_i_i_i_i_i_i_i_i_i_i31_i_i_i_i_i_i_i_i_i_i_i) | (u64)(3u));
-    v_r20_i_i_i_i_i_i_i_i_i_i32_i_i_i_i_i_i_i_i_i_i_i_3 = v_r26_i_i_i_i12_i_i_i_i_i_i_i_i_i_i_i + (int64_t)(v_r30_i_i_i_i_i_i_i_i_i_i35_i_i_i_i_i_i_i_i_i_i_i_2);
-    v_r24_i_i_i_i_i_i_i_i_i_i33_i_i_i_i_i_i_i_i_i_i_i_3 = v_r1_sroa_0_0_copyload_i_i_i7_i_i_i_i_i_i_i_i_i_i_i + (int64_t)(v_r30_i_i_i_i_i_i_i_i_i_i35_i_i_i_i_i_i_i_i_i_i_i_2);
-    v_r26_i_i_i_i_i_i_i_i_i_i34_i_i_i_i_i_i_i_i_i_i_i_3 = get_u8(v_r24_i_i_i_i_i_i_i_i_i_i33_i_i_i_i_i_i_i_i_i_i_i_3);
-    put_u8(v_r20_i_i_i_i_i_i_i_i_i_i32_i_i_i_i_i_i_i_i_i_i_i_3, v_r26_i_i_i_i_i_i_i_i_i_i34_i_i_i_i_i_i_i_i_i_i_i_3);
-    v_r30_i_i_i_i_i_i_i_i_i_i35_i_i_i_i_i_i_i_i_i_i_i_3 = (u64)((u64)(v_r0_04_i_i_i_i_i_i_i_i_i_i31_i_i_i_i_i_i_i_i_i_i_i) + (u64)(4u));
-    v_niter130_next_3 = (u64)((u64)(v_niter130) + (u64)(4u));
-    v_niter130_ncmp_3 = v_niter130_next_3 == v_unroll_iter129;
-    if (v_niter130_ncmp_3) { goto L_der_core_back_writer_BackWriter_prepend_exit_i_i_i__4; } else { p_v_r0_04_i_i_i_i_i_i_i_i_i_i31_i_i_i_i_i_i_i_i_i_i_i = v_r30_i_i_i_i_i_i_i_i_i_i35_i_i_i_i_i_i_i_i_i_i_i_3; p_v_niter130 = v_niter130_next_3; goto L_join_7_i_i_i_i_i_i_i_i_i_i30_i_i_i_i_i_i_i_i_i_i_i__4; }
+    v_r0_04_i_i_i_i_i_i_i_i_i_i31_i_i_i_i_i_i_i_i_i_i_i___2 = p_v_r0_04_i_i_i_i_i_i_i_i_i_i31_i_i_i_i_i_i_i_i_i_i_i___2;
+    v_niter177 = p_v_niter177;
+    v_r20_i_i_i_i_i_i_i_i_i_i32_i_i_i_i_i_i_i_i_i_i_i_i_ = v_r26_i_i_i_i12_i_i_i_i_i_i_i_i_i_i_i_i_i + (int64_t)(v_r0_04_i_i_i_i_i_i_i_i_i_i31_i_i_i_i_i_i_i_i_i_i_i___2);
+    v_r24_i_i_i_i_i_i_i_i_i_i33_i_i_i_i_i_i_i_i_i_i_i_i_ = v_r1_sroa_0_0_copyload_i_i_i7_i_i_i_i_i_i_i_i_i_i_i_ + (int64_t)(v_r0_04_i_i_i_i_i_i_i_i_i_i31_i_i_i_i_i_i_i_i_i_i_i___2);
+    v_r26_i_i_i_i_i_i_i_i_i_i34_i_i_i_i_i_i_i_i_i_i_i_i_ = get_u8(v_r24_i_i_i_i_i_i_i_i_i_i33_i_i_i_i_i_i_i_i_i_i_i_i_);
+    put_u8(v_r20_i_i_i_i_i_i_i_i_i_i32_i_i_i_i_i_i_i_i_i_i_i_i_, v_r26_i_i_i_i_i_i_i_i_i_i34_i_i_i_i_i_i_i_i_i_i_i_i_);
+    v_r30_i_i_i_i_i_i_i_i_i_i35_i_i_i_i_i_i_i_i_i_i_i_i_ = (u64)((u64)(v_r0_04_i_i_i_i_i_i_i_i_i_i31_i_i_i_i_i_i_i_i_i_i_i___2) | (u64)(1u));
+    v_r20_i_i_i_i_i_i_i_i_i_i32_i_i_i_i_i_i_i_i_i_i_i_i___2 = v_r26_i_i_i_i12_i_i_i_i_i_i_i_i_i_i_i_i_i + (int64_t)(v_r30_i_i_i_i_i_i_i_i_i_i35_i_i_i_i_i_i_i_i_i_i_i_i_);
+    v_r24_i_i_i_i_i_i_i_i_i_i33_i_i_i_i_i_i_i_i_i_i_i_i___2 = v_r1_sroa_0_0_copyload_i_i_i7_i_i_i_i_i_i_i_i_i_i_i_ + (int64_t)(v_r30_i_i_i_i_i_i_i_i_i_i35_i_i_i_i_i_i_i_i_i_i_i_i_);
+    v_r26_i_i_i_i_i_i_i_i_i_i34_i_i_i_i_i_i_i_i_i_i_i_i___2 = get_u8(v_r24_i_i_i_i_i_i_i_i_i_i33_i_i_i_i_i_i_i_i_i_i_i_i___2);
+    put_u8(v_r20_i_i_i_i_i_i_i_i_i_i32_i_i_i_i_i_i_i_i_i_i_i_i___2, v_r26_i_i_i_i_i_i_i_i_i_i34_i_i_i_i_i_i_i_i_i_i_i_i___2);
+    v_r30_i_i_i_i_i_i_i_i_i_i35_i_i_i_i_i_i_i_i_i_i_i_i___2 = (u64)((u64)(v_r0_04_i_i_i_i_i_i_i_i_i_i31_i_i_i_i_i_i_i_i_i_i_i___2) | (u64)(2u));
+    v_r20_i_i_i_i_i_i_i_i_i_i32_i_i_i_i_i_i_i_i_i_i_i_i___3 = v_r26_i_i_i_i12_i_i_i_i_i_i_i_i_i_i_i_i_i + (int64_t)(v_r30_i_i_i_i_i_i_i_i_i_i35_i_i_i_i_i_i_i_i_i_i_i_i___2);
+    v_r24_i_i_i_i_i_i_i_i_i_i33_i_i_i_i_i_i_i_i_i_i_i_i___3 = v_r1_sroa_0_0_copyload_i_i_i7_i_i_i_i_i_i_i_i_i_i_i_ + (int64_t)(v_r30_i_i_i_i_i_i_i_i_i_i35_i_i_i_i_i_i_i_i_i_i_i_i___2);
+    v_r26_i_i_i_i_i_i_i_i_i_i34_i_i_i_i_i_i_i_i_i_i_i_i___3 = get_u8(v_r24_i_i_i_i_i_i_i_i_i_i33_i_i_i_i_i_i_i_i_i_i_i_i___3);
+    put_u8(v_r20_i_i_i_i_i_i_i_i_i_i32_i_i_i_i_i_i_i_i_i_i_i_i___3, v_r26_i_i_i_i_i_i_i_i_i_i34_i_i_i_i_i_i_i_i_i_i_i_i___3);
+    v_r30_i_i_i_i_i_i_i_i_i_i35_i_i_i_i_i_i_i_i_i_i_i_i___3 = (u64)((u64)(v_r0_04_i_i_i_i_i_i_i_i_i_i31_i_i_i_i_i_i_i_i_i_i_i___2) | (u64)(3u));
+    v_r20_i_i_i_i_i_i_i_i_i_i32_i_i_i_i_i_i_i_i_i_i_i_i___4 = v_r26_i_i_i_i12_i_i_i_i_i_i_i_i_i_i_i_i_i + (int64_t)(v_r30_i_i_i_i_i_i_i_i_i_i35_i_i_i_i_i_i_i_i_i_i_i_i___3);
+    v_r24_i_i_i_i_i_i_i_i_i_i33_i_i_i_i_i_i_i_i_i_i_i_i___4 = v_r1_sroa_0_0_copyload_i_i_i7_i_i_i_i_i_i_i_i_i_i_i_ + (int64_t)(v_r30_i_i_i_i_i_i_i_i_i_i35_i_i_i_i_i_i_i_i_i_i_i_i___3);
+    v_r26_i_i_i_i_i_i_i_i_i_i34_i_i_i_i_i_i_i_i_i_i_i_i___4 = get_u8(v_r24_i_i_i_i_i_i_i_i_i_i33_i_i_i_i_i_i_i_i_i_i_i_i___4);
+    put_u8(v_r20_i_i_i_i_i_i_i_i_i_i32_i_i_i_i_i_i_i_i_i_i_i_i___4, v_r26_i_i_i_i_i_i_i_i_i_i34_i_i_i_i_i_i_i_i_i_i_i_i___4);
+    v_r30_i_i_i_i_i_i_i_i_i_i35_i_i_i_i_i_i_i_i_i_i_i_i___4 = (u64)((u64)(v_r0_04_i_i_i_i_i_i_i_i_i_i31_i_i_i_i_i_i_i_i_i_i_i___2) + (u64)(4u));
+    v_niter177_next_3 = (u64)((u64)(v_niter177) + (u64)(4u));
+    v_niter177_ncmp_3 = v_niter177_next_3 == v_unroll_iter176;
+    if (v_niter177_ncmp_3) { goto L_der_core_back_writer_BackWriter_prepend_exit_i_i_i__4; } else { p_v_r0_04_i_i_i_i_i_i_i_i_i_i31_i_i_i_i_i_i_i_i_i_i_i___2 = v_r30_i_i_i_i_i_i_i_i_i_i35_i_i_i_i_i_i_i_i_i_i_i_i___4; p_v_niter177 = v_niter177_next_3; goto L_join_7_i_i_i_i_i_i_i_i_i_i30_i_i_i_i_i_i_i_i_i_i_i__4; }
 L_der_core_back_writer_BackWriter_prepend_exit_i_i_i__4:;
-    v_lcmp_mod127_not = v_xtraiter125 == 0u;
-    if (v_lcmp_mod127_not) { goto L_der_core_back_writer_BackWriter_prepend_exit_i_i_i__3; } else { p_v_r0_04_i_i_i_i_i_i_i_i_i_i31_i_i_i_i_i_i_i_i_i_i_i_ = v_r30_i_i_i_i_i_i_i_i_i_i35_i_i_i_i_i_i_i_i_i_i_i_3; goto L_join_7_i_i_i_i_i_i_i_i_i_i30_i_i_i_i_i_i_i_i_i_i_i__2; }
+    v_lcmp_mod174_not = v_xtraiter172 == 0u;
+    if (v_lcmp_mod174_not) { goto L_der_core_back_writer_BackWriter_prepend_exit_i_i_i__3; } else { p_v_r0_04_i_i_i_i_i_i_i_i_i_i31_i_i_i_i_i_i_i_i_i_i_i_ = v_r30_i_i_i_i_i_i_i_i_i_i35_i_i_i_i_i_i_i_i_i_i_i_i___4; goto L_join_7_i_i_i_i_i_i_i_i_i_i30_i_i_i_i_i_i_i_i_i_i_i__2; }
 L_join_7_i_i_i_i_i_i_i_i_i_i30_i_i_i_i_i_i_i_i_i_i_i__2:;
     v_r0_04_i_i_i_i_i_i_i_i_i_i31_i_i_i_i_i_i_i_i_i_i_i_ = p_v_r0_04_i_i_i_i_i_i_i_i_i_i31_i_i_i_i_i_i_i_i_i_i_i_;
-    { p_v_r0_04_i_i_i_i_i_i_i_i_i_i31_i_i_i_i_i_i_i_i_i_i_i___2 = v_r0_04_i_i_i_i_i_i_i_i_i_i31_i_i_i_i_i_i_i_i_i_i_i_; p_v_epil_iter126 = 0u; goto L_join_7_i_i_i_i_i_i_i_i_i_i30_i_i_i_i_i_i_i_i_i_i_i__5; }
+    { p_v_r0_04_i_i_i_i_i_i_i_i_i_i31_i_i_i_i_i_i_i_i_i_i_i___3 = v_r0_04_i_i_i_i_i_i_i_i_i_i31_i_i_i_i_i_i_i_i_i_i_i_; p_v_epil_iter173 = 0u; goto L_join_7_i_i_i_i_i_i_i_i_i_i30_i_i_i_i_i_i_i_i_i_i_i__5; }
 L_join_7_i_i_i_i_i_i_i_i_i_i30_i_i_i_i_i_i_i_i_i_i_i__5:;
-    v_r0_04_i_i_i_i_i_i_i_i_i_i31_i_i_i_i_i_i_i_i_i_i_i___2 = p_v_r0_04_i_i_i_i_i_i_i_i_i_i31_i_i_i_i_i_i_i_i_i_i_i___2;
-    v_epil_iter126 = p_v_epil_iter126;
-    v_r20_i_i_i_i_i_i_i_i_i_i32_i_i_i_i_i_i_i_i_i_i_i_ep = v_r26_i_i_i_i12_i_i_i_i_i_i_i_i_i_i_i + (int64_t)(v_r0_04_i_i_i_i_i_i_i_i_i_i31_i_i_i_i_i_i_i_i_i_i_i___2);
-    v_r24_i_i_i_i_i_i_i_i_i_i33_i_i_i_i_i_i_i_i_i_i_i_ep = v_r1_sroa_0_0_copyload_i_i_i7_i_i_i_i_i_i_i_i_i_i_i + (int64_t)(v_r0_04_i_i_i_i_i_i_i_i_i_i31_i_i_i_i_i_i_i_i_i_i_i___2);
-    v_r26_i_i_i_i_i_i_i_i_i_i34_i_i_i_i_i_i_i_i_i_i_i_ep = get_u8(v_r24_i_i_i_i_i_i_i_i_i_i33_i_i_i_i_i_i_i_i_i_i_i_ep);
-    put_u8(v_r20_i_i_i_i_i_i_i_i_i_i32_i_i_i_i_i_i_i_i_i_i_i_ep, v_r26_i_i_i_i_i_i_i_i_i_i34_i_i_i_i_i_i_i_i_i_i_i_ep);
-    v_r30_i_i_i_i_i_i_i_i_i_i35_i_i_i_i_i_i_i_i_i_i_i_ep = (u64)((u64)(v_r0_04_i_i_i_i_i_i_i_i_i_i31_i_i_i_i_i_i_i_i_i_i_i___2) + (u64)(1u));
-    v_epil_iter126_next = (u64)((u64)(v_epil_iter126) + (u64)(1u));
-    v_epil_iter126_cmp_not = v_epil_iter126_next == v_xtraiter125;
-    if (v_epil_iter126_cmp_not) { goto L_der_core_back_writer_BackWriter_prepend_exit_i_i_i__3; } else { p_v_r0_04_i_i_i_i_i_i_i_i_i_i31_i_i_i_i_i_i_i_i_i_i_i___2 = v_r30_i_i_i_i_i_i_i_i_i_i35_i_i_i_i_i_i_i_i_i_i_i_ep; p_v_epil_iter126 = v_epil_iter126_next; goto L_join_7_i_i_i_i_i_i_i_i_i_i30_i_i_i_i_i_i_i_i_i_i_i__5; }
+    v_r0_04_i_i_i_i_i_i_i_i_i_i31_i_i_i_i_i_i_i_i_i_i_i___3 = p_v_r0_04_i_i_i_i_i_i_i_i_i_i31_i_i_i_i_i_i_i_i_i_i_i___3;
+    v_epil_iter173 = p_v_epil_iter173;
+    v_r20_i_i_i_i_i_i_i_i_i_i32_i_i_i_i_i_i_i_i_i_i_i_i___5 = v_r26_i_i_i_i12_i_i_i_i_i_i_i_i_i_i_i_i_i + (int64_t)(v_r0_04_i_i_i_i_i_i_i_i_i_i31_i_i_i_i_i_i_i_i_i_i_i___3);
+    v_r24_i_i_i_i_i_i_i_i_i_i33_i_i_i_i_i_i_i_i_i_i_i_i___5 = v_r1_sroa_0_0_copyload_i_i_i7_i_i_i_i_i_i_i_i_i_i_i_ + (int64_t)(v_r0_04_i_i_i_i_i_i_i_i_i_i31_i_i_i_i_i_i_i_i_i_i_i___3);
+    v_r26_i_i_i_i_i_i_i_i_i_i34_i_i_i_i_i_i_i_i_i_i_i_i___5 = get_u8(v_r24_i_i_i_i_i_i_i_i_i_i33_i_i_i_i_i_i_i_i_i_i_i_i___5);
+    put_u8(v_r20_i_i_i_i_i_i_i_i_i_i32_i_i_i_i_i_i_i_i_i_i_i_i___5, v_r26_i_i_i_i_i_i_i_i_i_i34_i_i_i_i_i_i_i_i_i_i_i_i___5);
+    v_r30_i_i_i_i_i_i_i_i_i_i35_i_i_i_i_i_i_i_i_i_i_i_i___5 = (u64)((u64)(v_r0_04_i_i_i_i_i_i_i_i_i_i31_i_i_i_i_i_i_i_i_i_i_i___3) + (u64)(1u));
+    v_epil_iter173_next = (u64)((u64)(v_epil_iter173) + (u64)(1u));
+    v_epil_iter173_cmp_not = v_epil_iter173_next == v_xtraiter172;
+    if (v_epil_iter173_cmp_not) { goto L_der_core_back_writer_BackWriter_prepend_exit_i_i_i__3; } else { p_v_r0_04_i_i_i_i_i_i_i_i_i_i31_i_i_i_i_i_i_i_i_i_i_i___3 = v_r30_i_i_i_i_i_i_i_i_i_i35_i_i_i_i_i_i_i_i_i_i_i_i___5; p_v_epil_iter173 = v_epil_iter173_next; goto L_join_7_i_i_i_i_i_i_i_i_i_i30_i_i_i_i_i_i_i_i_i_i_i__5; }
 L_der_core_back_writer_BackWriter_prepend_exit_i_i_i__3:;
-    v_r12_i_i_i19_i_i_i_i_i_i_i_i_i_i_i = v_r21_i_i_i_i_i_i_i_i_i + 40;
-    v_r13_i_i_i20_i_i_i_i_i_i_i_i_i_i_i = get_u64(v_r12_i_i_i19_i_i_i_i_i_i_i_i_i_i_i);
-    v_r15_not_i_i_i21_i_i_i_i_i_i_i_i_i_i_i = v_r13_i_i_i20_i_i_i_i_i_i_i_i_i_i_i == 0u;
-    if (v_r15_not_i_i_i21_i_i_i_i_i_i_i_i_i_i_i) { p_v_r7_sroa_66_5_i_i_i = v_r17_i_i_i_i10_i_i_i_i_i_i_i_i_i_i_i; goto L_der_core_borrowed_BorrowedEncode_prepend_25cd36d81__2; } else { goto L_then_1_i_i_i22_i_i_i_i_i_i_i_i_i_i_i; }
-L_then_1_i_i_i22_i_i_i_i_i_i_i_i_i_i_i:;
-    v_r17_i3_i_i_i23_i_i_i_i_i_i_i_i_i_i_i = (u64)((u64)(v_r17_i_i_i_i10_i_i_i_i_i_i_i_i_i_i_i) + (u64)(18446744073709551615ull));
-    v_r26_i5_i_i_i25_i_i_i_i_i_i_i_i_i_i_i = (P)((uintptr_t)v_r14 + (u64)(v_r17_i3_i_i_i23_i_i_i_i_i_i_i_i_i_i_i));
-    put_u8(v_r26_i5_i_i_i25_i_i_i_i_i_i_i_i_i_i_i, 0u);
-    { p_v_r7_sroa_66_5_i_i_i = v_r17_i3_i_i_i23_i_i_i_i_i_i_i_i_i_i_i; goto L_der_core_borrowed_BorrowedEncode_prepend_25cd36d81__2; }
+    v_r12_i_i_i19_i_i_i_i_i_i_i_i_i_i_i_i_i = v_r21_i_i_i_i_i_i_i_i_i_i_i + 40;
+    v_r13_i_i_i20_i_i_i_i_i_i_i_i_i_i_i_i_i = get_u64(v_r12_i_i_i19_i_i_i_i_i_i_i_i_i_i_i_i_i);
+    v_r15_not_i_i_i21_i_i_i_i_i_i_i_i_i_i_i_i_i = v_r13_i_i_i20_i_i_i_i_i_i_i_i_i_i_i_i_i == 0u;
+    if (v_r15_not_i_i_i21_i_i_i_i_i_i_i_i_i_i_i_i_i) { p_v_r7_sroa_129_9_i_i_i = v_r17_i_i_i_i10_i_i_i_i_i_i_i_i_i_i_i_i_i; goto L_der_core_borrowed_BorrowedEncode_prepend_25cd36d81__2; } else { goto L_then_1_i_i_i22_i_i_i_i_i_i_i_i_i_i_i_i_i; }
+L_then_1_i_i_i22_i_i_i_i_i_i_i_i_i_i_i_i_i:;
+    v_r17_i3_i_i_i23_i_i_i_i_i_i_i_i_i_i_i_i_i = (u64)((u64)(v_r17_i_i_i_i10_i_i_i_i_i_i_i_i_i_i_i_i_i) + (u64)(18446744073709551615ull));
+    v_r26_i5_i_i_i25_i_i_i_i_i_i_i_i_i_i_i_i_i = (P)((uintptr_t)v_r14 + (u64)(v_r17_i3_i_i_i23_i_i_i_i_i_i_i_i_i_i_i_i_i));
+    put_u8(v_r26_i5_i_i_i25_i_i_i_i_i_i_i_i_i_i_i_i_i, 0u);
+    { p_v_r7_sroa_129_9_i_i_i = v_r17_i3_i_i_i23_i_i_i_i_i_i_i_i_i_i_i_i_i; goto L_der_core_borrowed_BorrowedEncode_prepend_25cd36d81__2; }
 L_der_core_borrowed_BorrowedEncode_prepend_25cd36d81__2:;
-    v_r7_sroa_66_5_i_i_i = p_v_r7_sroa_66_5_i_i_i;
-    v_25 = (u64)((u64)(v_r7_sroa_66_5_i_i_i) + (u64)(v_r3_i5_i_i_i));
-    v_26 = (u64)((u64)(v_r7_sroa_66_14_i_i_i) - (u64)(v_25));
+    v_r7_sroa_129_9_i_i_i = p_v_r7_sroa_129_9_i_i_i;
+    v_25 = (u64)((u64)(v_r7_sroa_129_9_i_i_i) + (u64)(v_r3_i5_i_i_i));
+    v_26 = (u64)((u64)(v_r7_sroa_129_26_i_i_i) - (u64)(v_25));
     v_27 = (u32)(v_26);
-    v_r2_i_i_i29_i_i_i_i_i_i_i_i_i_i_i = (u32)((u32)(v_r1_sroa_9_4_copyload_i_i_i_i) + (u32)(v_27));
-    v_r59_i398_i_i_i = v_r2_i_i_i29_i_i_i_i_i_i_i_i_i_i_i < 128u;
-    if (v_r59_i398_i_i_i) { goto L_then_1_i459_i_i_i; } else { goto L_else_2_i399_i_i_i; }
-L_then_1_i459_i_i_i:;
-    v_r64_i460_i_i_i = (u16)(v_r2_i_i_i29_i_i_i_i_i_i_i_i_i_i_i);
-    v_r17_i_i464_i_i_i = (u64)((u64)(v_r7_sroa_66_5_i_i_i) + (u64)(18446744073709551614ull));
-    v_r26_i_i466_i_i_i = (P)((uintptr_t)v_r14 + (u64)(v_r17_i_i464_i_i_i));
-    v_r8_i393_sroa_4_0_insert_shift_i_i_i = (u16)((u32)(v_r64_i460_i_i_i) << (u32)((8u & 31)));
-    v_r8_i393_sroa_0_0_insert_insert_i_i_i = (u16)((u32)(v_r8_i393_sroa_4_0_insert_shift_i_i_i) | (u32)(2u));
-    put_u16(v_r26_i_i466_i_i_i, v_r8_i393_sroa_0_0_insert_insert_i_i_i);
-    { p_v_r7_sroa_66_13_i_i_i = v_r17_i_i464_i_i_i; goto L_der_core_back_writer_BackWriter_prepend_header_exi__2; }
-L_else_2_i399_i_i_i:;
-    v_r75_i400_i_i_i = v_r2_i_i_i29_i_i_i_i_i_i_i_i_i_i_i < 256u;
-    if (v_r75_i400_i_i_i) { goto L_then_4_i450_i_i_i; } else { goto L_else_5_i401_i_i_i; }
-L_then_4_i450_i_i_i:;
-    v_r80_i451_i_i_i = (u8)(v_r2_i_i_i29_i_i_i_i_i_i_i_i_i_i_i);
-    v_r17_i28_i456_i_i_i = (u64)((u64)(v_r7_sroa_66_5_i_i_i) + (u64)(18446744073709551613ull));
-    v_r26_i30_i458_i_i_i = (P)((uintptr_t)v_r14 + (u64)(v_r17_i28_i456_i_i_i));
-    put_u8(v_r26_i30_i458_i_i_i, 2u);
-    v_r14_i394_sroa_4_0_r26_i30_i458_sroa_idx_i_i_i = v_r26_i30_i458_i_i_i + 1;
-    put_u8(v_r14_i394_sroa_4_0_r26_i30_i458_sroa_idx_i_i_i, 129u);
-    v_r14_i394_sroa_5_0_r26_i30_i458_sroa_idx_i_i_i = v_r26_i30_i458_i_i_i + 2;
-    put_u8(v_r14_i394_sroa_5_0_r26_i30_i458_sroa_idx_i_i_i, v_r80_i451_i_i_i);
-    { p_v_r7_sroa_66_13_i_i_i = v_r17_i28_i456_i_i_i; goto L_der_core_back_writer_BackWriter_prepend_header_exi__2; }
-L_else_5_i401_i_i_i:;
-    v_r92_i402_i_i_i = v_r2_i_i_i29_i_i_i_i_i_i_i_i_i_i_i < 65536u;
-    if (v_r92_i402_i_i_i) { goto L_then_7_i438_i_i_i; } else { goto L_else_8_i403_i_i_i; }
-L_then_7_i438_i_i_i:;
-    v_r17_i46_i446_i_i_i = (u64)((u64)(v_r7_sroa_66_5_i_i_i) + (u64)(18446744073709551612ull));
-    v_r26_i48_i448_i_i_i = (P)((uintptr_t)v_r14 + (u64)(v_r17_i46_i446_i_i_i));
-    v_28 = (u32)((u32)(v_r2_i_i_i29_i_i_i_i_i_i_i_i_i_i_i) | (u32)(42074112u));
-    v_r20_i395_sroa_0_0_insert_insert_i_i_i = __builtin_bswap32(v_28);
-    put_u32(v_r26_i48_i448_i_i_i, v_r20_i395_sroa_0_0_insert_insert_i_i_i);
-    { p_v_r7_sroa_66_13_i_i_i = v_r17_i46_i446_i_i_i; goto L_der_core_back_writer_BackWriter_prepend_header_exi__2; }
-L_else_8_i403_i_i_i:;
-    v_r117_i404_i_i_i = v_r2_i_i_i29_i_i_i_i_i_i_i_i_i_i_i < 16777216u;
-    if (v_r117_i404_i_i_i) { goto L_then_10_i423_i_i_i; } else { goto L_else_11_i405_i_i_i; }
-L_then_10_i423_i_i_i:;
-    v_r12223_i424_i_i_i = (u32)((u32)(v_r2_i_i_i29_i_i_i_i_i_i_i_i_i_i_i) >> (u32)((16u & 31)));
-    v_r124_i425_i_i_i = (u8)(v_r12223_i424_i_i_i);
-    v_r12624_i426_i_i_i = (u32)((u32)(v_r2_i_i_i29_i_i_i_i_i_i_i_i_i_i_i) >> (u32)((8u & 31)));
-    v_r130_i427_i_i_i = (u8)(v_r12624_i426_i_i_i);
-    v_r134_i428_i_i_i = (u8)(v_r2_i_i_i29_i_i_i_i_i_i_i_i_i_i_i);
-    v_r17_i64_i435_i_i_i = (u64)((u64)(v_r7_sroa_66_5_i_i_i) + (u64)(18446744073709551611ull));
-    v_r26_i66_i437_i_i_i = (P)((uintptr_t)v_r14 + (u64)(v_r17_i64_i435_i_i_i));
-    put_u8(v_r26_i66_i437_i_i_i, 2u);
-    v_r29_i396_sroa_4_0_r26_i66_i437_sroa_idx_i_i_i = v_r26_i66_i437_i_i_i + 1;
-    put_u8(v_r29_i396_sroa_4_0_r26_i66_i437_sroa_idx_i_i_i, 131u);
-    v_r29_i396_sroa_5_0_r26_i66_i437_sroa_idx_i_i_i = v_r26_i66_i437_i_i_i + 2;
-    put_u8(v_r29_i396_sroa_5_0_r26_i66_i437_sroa_idx_i_i_i, v_r124_i425_i_i_i);
-    v_r29_i396_sroa_6_0_r26_i66_i437_sroa_idx_i_i_i = v_r26_i66_i437_i_i_i + 3;
-    put_u8(v_r29_i396_sroa_6_0_r26_i66_i437_sroa_idx_i_i_i, v_r130_i427_i_i_i);
-    v_r29_i396_sroa_7_0_r26_i66_i437_sroa_idx_i_i_i = v_r26_i66_i437_i_i_i + 4;
-    put_u8(v_r29_i396_sroa_7_0_r26_i66_i437_sroa_idx_i_i_i, v_r134_i428_i_i_i);
-    { p_v_r7_sroa_66_13_i_i_i = v_r17_i64_i435_i_i_i; goto L_der_core_back_writer_BackWriter_prepend_header_exi__2; }
-L_else_11_i405_i_i_i:;
-    v_r15020_i406_i_i_i = (u32)((u32)(v_r2_i_i_i29_i_i_i_i_i_i_i_i_i_i_i) >> (u32)((24u & 31)));
-    v_r152_i407_i_i_i = (u8)(v_r15020_i406_i_i_i);
-    v_r15421_i408_i_i_i = (u32)((u32)(v_r2_i_i_i29_i_i_i_i_i_i_i_i_i_i_i) >> (u32)((16u & 31)));
-    v_r158_i409_i_i_i = (u8)(v_r15421_i408_i_i_i);
-    v_r16022_i410_i_i_i = (u32)((u32)(v_r2_i_i_i29_i_i_i_i_i_i_i_i_i_i_i) >> (u32)((8u & 31)));
-    v_r164_i411_i_i_i = (u8)(v_r16022_i410_i_i_i);
-    v_r168_i412_i_i_i = (u8)(v_r2_i_i_i29_i_i_i_i_i_i_i_i_i_i_i);
-    v_r17_i82_i420_i_i_i = (u64)((u64)(v_r7_sroa_66_5_i_i_i) + (u64)(18446744073709551610ull));
-    v_r26_i84_i422_i_i_i = (P)((uintptr_t)v_r14 + (u64)(v_r17_i82_i420_i_i_i));
-    put_u8(v_r26_i84_i422_i_i_i, 2u);
-    v_r40_i397_sroa_4_0_r26_i84_i422_sroa_idx_i_i_i = v_r26_i84_i422_i_i_i + 1;
-    put_u8(v_r40_i397_sroa_4_0_r26_i84_i422_sroa_idx_i_i_i, 132u);
-    v_r40_i397_sroa_5_0_r26_i84_i422_sroa_idx_i_i_i = v_r26_i84_i422_i_i_i + 2;
-    put_u8(v_r40_i397_sroa_5_0_r26_i84_i422_sroa_idx_i_i_i, v_r152_i407_i_i_i);
-    v_r40_i397_sroa_6_0_r26_i84_i422_sroa_idx_i_i_i = v_r26_i84_i422_i_i_i + 3;
-    put_u8(v_r40_i397_sroa_6_0_r26_i84_i422_sroa_idx_i_i_i, v_r158_i409_i_i_i);
-    v_r40_i397_sroa_7_0_r26_i84_i422_sroa_idx_i_i_i = v_r26_i84_i422_i_i_i + 4;
-    put_u8(v_r40_i397_sroa_7_0_r26_i84_i422_sroa_idx_i_i_i, v_r164_i411_i_i_i);
-    v_r40_i397_sroa_8_0_r26_i84_i422_sroa_idx_i_i_i = v_r26_i84_i422_i_i_i + 5;
-    put_u8(v_r40_i397_sroa_8_0_r26_i84_i422_sroa_idx_i_i_i, v_r168_i412_i_i_i);
-    { p_v_r7_sroa_66_13_i_i_i = v_r17_i82_i420_i_i_i; goto L_der_core_back_writer_BackWriter_prepend_header_exi__2; }
+    v_r2_i_i_i29_i_i_i_i_i_i_i_i_i_i_i_i_i = (u32)((u32)(v_r1_sroa_9_4_copyload_i_i_i_i) + (u32)(v_27));
+    v_r59_i932_i_i_i = v_r2_i_i_i29_i_i_i_i_i_i_i_i_i_i_i_i_i < 128u;
+    if (v_r59_i932_i_i_i) { goto L_then_1_i993_i_i_i; } else { goto L_else_2_i933_i_i_i; }
+L_then_1_i993_i_i_i:;
+    v_r64_i994_i_i_i = (u16)(v_r2_i_i_i29_i_i_i_i_i_i_i_i_i_i_i_i_i);
+    v_r17_i_i998_i_i_i = (u64)((u64)(v_r7_sroa_129_9_i_i_i) + (u64)(18446744073709551614ull));
+    v_r26_i_i1000_i_i_i = (P)((uintptr_t)v_r14 + (u64)(v_r17_i_i998_i_i_i));
+    v_r8_i927_sroa_4_0_insert_shift_i_i_i = (u16)((u32)(v_r64_i994_i_i_i) << (u32)((8u & 31)));
+    v_r8_i927_sroa_0_0_insert_insert_i_i_i = (u16)((u32)(v_r8_i927_sroa_4_0_insert_shift_i_i_i) | (u32)(2u));
+    put_u16(v_r26_i_i1000_i_i_i, v_r8_i927_sroa_0_0_insert_insert_i_i_i);
+    { p_v_r7_sroa_129_25_i_i_i = v_r17_i_i998_i_i_i; goto L_der_core_back_writer_BackWriter_prepend_header_exi__2; }
+L_else_2_i933_i_i_i:;
+    v_r75_i934_i_i_i = v_r2_i_i_i29_i_i_i_i_i_i_i_i_i_i_i_i_i < 256u;
+    if (v_r75_i934_i_i_i) { goto L_then_4_i984_i_i_i; } else { goto L_else_5_i935_i_i_i; }
+L_then_4_i984_i_i_i:;
+    v_r80_i985_i_i_i = (u8)(v_r2_i_i_i29_i_i_i_i_i_i_i_i_i_i_i_i_i);
+    v_r17_i28_i990_i_i_i = (u64)((u64)(v_r7_sroa_129_9_i_i_i) + (u64)(18446744073709551613ull));
+    v_r26_i30_i992_i_i_i = (P)((uintptr_t)v_r14 + (u64)(v_r17_i28_i990_i_i_i));
+    put_u8(v_r26_i30_i992_i_i_i, 2u);
+    v_r14_i928_sroa_4_0_r26_i30_i992_sroa_idx_i_i_i = v_r26_i30_i992_i_i_i + 1;
+    put_u8(v_r14_i928_sroa_4_0_r26_i30_i992_sroa_idx_i_i_i, 129u);
+    v_r14_i928_sroa_5_0_r26_i30_i992_sroa_idx_i_i_i = v_r26_i30_i992_i_i_i + 2;
+    put_u8(v_r14_i928_sroa_5_0_r26_i30_i992_sroa_idx_i_i_i, v_r80_i985_i_i_i);
+    { p_v_r7_sroa_129_25_i_i_i = v_r17_i28_i990_i_i_i; goto L_der_core_back_writer_BackWriter_prepend_header_exi__2; }
+L_else_5_i935_i_i_i:;
+    v_r92_i936_i_i_i = v_r2_i_i_i29_i_i_i_i_i_i_i_i_i_i_i_i_i < 65536u;
+    if (v_r92_i936_i_i_i) { goto L_then_7_i972_i_i_i; } else { goto L_else_8_i937_i_i_i; }
+L_then_7_i972_i_i_i:;
+    v_r17_i46_i980_i_i_i = (u64)((u64)(v_r7_sroa_129_9_i_i_i) + (u64)(18446744073709551612ull));
+    v_r26_i48_i982_i_i_i = (P)((uintptr_t)v_r14 + (u64)(v_r17_i46_i980_i_i_i));
+    v_28 = (u32)((u32)(v_r2_i_i_i29_i_i_i_i_i_i_i_i_i_i_i_i_i) | (u32)(42074112u));
+    v_r20_i929_sroa_0_0_insert_insert_i_i_i = __builtin_bswap32(v_28);
+    put_u32(v_r26_i48_i982_i_i_i, v_r20_i929_sroa_0_0_insert_insert_i_i_i);
+    { p_v_r7_sroa_129_25_i_i_i = v_r17_i46_i980_i_i_i; goto L_der_core_back_writer_BackWriter_prepend_header_exi__2; }
+L_else_8_i937_i_i_i:;
+    v_r117_i938_i_i_i = v_r2_i_i_i29_i_i_i_i_i_i_i_i_i_i_i_i_i < 16777216u;
+    if (v_r117_i938_i_i_i) { goto L_then_10_i957_i_i_i; } else { goto L_else_11_i939_i_i_i; }
+L_then_10_i957_i_i_i:;
+    v_r12223_i958_i_i_i = (u32)((u32)(v_r2_i_i_i29_i_i_i_i_i_i_i_i_i_i_i_i_i) >> (u32)((16u & 31)));
+    v_r124_i959_i_i_i = (u8)(v_r12223_i958_i_i_i);
+    v_r12624_i960_i_i_i = (u32)((u32)(v_r2_i_i_i29_i_i_i_i_i_i_i_i_i_i_i_i_i) >> (u32)((8u & 31)));
+    v_r130_i961_i_i_i = (u8)(v_r12624_i960_i_i_i);
+    v_r134_i962_i_i_i = (u8)(v_r2_i_i_i29_i_i_i_i_i_i_i_i_i_i_i_i_i);
+    v_r17_i64_i969_i_i_i = (u64)((u64)(v_r7_sroa_129_9_i_i_i) + (u64)(18446744073709551611ull));
+    v_r26_i66_i971_i_i_i = (P)((uintptr_t)v_r14 + (u64)(v_r17_i64_i969_i_i_i));
+    put_u8(v_r26_i66_i971_i_i_i, 2u);
+    v_r29_i930_sroa_4_0_r26_i66_i971_sroa_idx_i_i_i = v_r26_i66_i971_i_i_i + 1;
+    put_u8(v_r29_i930_sroa_4_0_r26_i66_i971_sroa_idx_i_i_i, 131u);
+    v_r29_i930_sroa_5_0_r26_i66_i971_sroa_idx_i_i_i = v_r26_i66_i971_i_i_i + 2;
+    put_u8(v_r29_i930_sroa_5_0_r26_i66_i971_sroa_idx_i_i_i, v_r124_i959_i_i_i);
+    v_r29_i930_sroa_6_0_r26_i66_i971_sroa_idx_i_i_i = v_r26_i66_i971_i_i_i + 3;
+    put_u8(v_r29_i930_sroa_6_0_r26_i66_i971_sroa_idx_i_i_i, v_r130_i961_i_i_i);
+    v_r29_i930_sroa_7_0_r26_i66_i971_sroa_idx_i_i_i = v_r26_i66_i971_i_i_i + 4;
+    put_u8(v_r29_i930_sroa_7_0_r26_i66_i971_sroa_idx_i_i_i, v_r134_i962_i_i_i);
+    { p_v_r7_sroa_129_25_i_i_i = v_r17_i64_i969_i_i_i; goto L_der_core_back_writer_BackWriter_prepend_header_exi__2; }
+L_else_11_i939_i_i_i:;
+    v_r15020_i940_i_i_i = (u32)((u32)(v_r2_i_i_i29_i_i_i_i_i_i_i_i_i_i_i_i_i) >> (u32)((24u & 31)));
+    v_r152_i941_i_i_i = (u8)(v_r15020_i940_i_i_i);
+    v_r15421_i942_i_i_i = (u32)((u32)(v_r2_i_i_i29_i_i_i_i_i_i_i_i_i_i_i_i_i) >> (u32)((16u & 31)));
+    v_r158_i943_i_i_i = (u8)(v_r15421_i942_i_i_i);
+    v_r16022_i944_i_i_i = (u32)((u32)(v_r2_i_i_i29_i_i_i_i_i_i_i_i_i_i_i_i_i) >> (u32)((8u & 31)));
+    v_r164_i945_i_i_i = (u8)(v_r16022_i944_i_i_i);
+    v_r168_i946_i_i_i = (u8)(v_r2_i_i_i29_i_i_i_i_i_i_i_i_i_i_i_i_i);
+    v_r17_i82_i954_i_i_i = (u64)((u64)(v_r7_sroa_129_9_i_i_i) + (u64)(18446744073709551610ull));
+    v_r26_i84_i956_i_i_i = (P)((uintptr_t)v_r14 + (u64)(v_r17_i82_i954_i_i_i));
+    put_u8(v_r26_i84_i956_i_i_i, 2u);
+    v_r40_i931_sroa_4_0_r26_i84_i956_sroa_idx_i_i_i = v_r26_i84_i956_i_i_i + 1;
+    put_u8(v_r40_i931_sroa_4_0_r26_i84_i956_sroa_idx_i_i_i, 132u);
+    v_r40_i931_sroa_5_0_r26_i84_i956_sroa_idx_i_i_i = v_r26_i84_i956_i_i_i + 2;
+    put_u8(v_r40_i931_sroa_5_0_r26_i84_i956_sroa_idx_i_i_i, v_r152_i941_i_i_i);
+    v_r40_i931_sroa_6_0_r26_i84_i956_sroa_idx_i_i_i = v_r26_i84_i956_i_i_i + 3;
+    put_u8(v_r40_i931_sroa_6_0_r26_i84_i956_sroa_idx_i_i_i, v_r158_i943_i_i_i);
+    v_r40_i931_sroa_7_0_r26_i84_i956_sroa_idx_i_i_i = v_r26_i84_i956_i_i_i + 4;
+    put_u8(v_r40_i931_sroa_7_0_r26_i84_i956_sroa_idx_i_i_i, v_r164_i945_i_i_i);
+    v_r40_i931_sroa_8_0_r26_i84_i956_sroa_idx_i_i_i = v_r26_i84_i956_i_i_i + 5;
+    put_u8(v_r40_i931_sroa_8_0_r26_i84_i956_sroa_idx_i_i_i, v_r168_i946_i_i_i);
+    { p_v_r7_sroa_129_25_i_i_i = v_r17_i82_i954_i_i_i; goto L_der_core_back_writer_BackWriter_prepend_header_exi__2; }
 L_der_core_back_writer_BackWriter_prepend_header_exi__2:;
-    v_r7_sroa_66_13_i_i_i = p_v_r7_sroa_66_13_i_i_i;
-    v_r1_sroa_0_0_copyload_i_i_i40_i_i_i_i_i_i_i_i_i_i_i = get_P(v_r21_i_i_i_i_i_i_i_i_i);
-    v_r1_sroa_3_0_a0_sroa_idx_i_i_i41_i_i_i_i_i_i_i_i_i_ = v_r21_i_i_i_i_i_i_i_i_i + 8;
+    v_r7_sroa_129_25_i_i_i = p_v_r7_sroa_129_25_i_i_i;
+    v_r1_sroa_0_0_copyload_i_i_i40_i_i_i_i_i_i_i_i_i_i_i = get_P(v_r21_i_i_i_i_i_i_i_i_i_i_i);
+    v_r1_sroa_3_0_a0_sroa_idx_i_i_i41_i_i_i_i_i_i_i_i_i_ = v_r21_i_i_i_i_i_i_i_i_i_i_i + 8;
     v_r1_sroa_3_0_copyload_i_i_i42_i_i_i_i_i_i_i_i_i_i_i = get_u64(v_r1_sroa_3_0_a0_sroa_idx_i_i_i41_i_i_i_i_i_i_i_i_i_);
-    v_r17_i_i_i_i43_i_i_i_i_i_i_i_i_i_i_i = (u64)((u64)(v_r7_sroa_66_13_i_i_i) - (u64)(v_r1_sroa_3_0_copyload_i_i_i42_i_i_i_i_i_i_i_i_i_i_i));
-    v_r26_i_i_i_i45_i_i_i_i_i_i_i_i_i_i_i = (P)((uintptr_t)v_r14 + (u64)(v_r17_i_i_i_i43_i_i_i_i_i_i_i_i_i_i_i));
-    v_r8_i_i_i_i_i_i_i_i_i_i46_i_i_i_i_i_i_i_i_i_i_i = (u64)((uintptr_t)v_r26_i_i_i_i45_i_i_i_i_i_i_i_i_i_i_i);
-    v_r9_i_i_i_i_i_i_i_i_i_i47_i_i_i_i_i_i_i_i_i_i_i = (u64)((uintptr_t)v_r1_sroa_0_0_copyload_i_i_i40_i_i_i_i_i_i_i_i_i_i_i);
-    v_r10_i_i_i_i_i_i_i_i_i_i48_i_i_i_i_i_i_i_i_i_i_i = (u64)((u64)(v_r8_i_i_i_i_i_i_i_i_i_i46_i_i_i_i_i_i_i_i_i_i_i) - (u64)(v_r9_i_i_i_i_i_i_i_i_i_i47_i_i_i_i_i_i_i_i_i_i_i));
-    v_r11_i_i_i_i_i_i_i_i_i_i49_i_i_i_i_i_i_i_i_i_i_i = v_r10_i_i_i_i_i_i_i_i_i_i48_i_i_i_i_i_i_i_i_i_i_i < v_r1_sroa_3_0_copyload_i_i_i42_i_i_i_i_i_i_i_i_i_i_i;
-    if (v_r11_i_i_i_i_i_i_i_i_i_i49_i_i_i_i_i_i_i_i_i_i_i) { goto L_join_7_i_i_i_i_i_i_i_i_i_i63_i_i_i_i_i_i_i_i_i_i_i; } else { goto L_apart_2_i_i_i_i_i_i_i_i_i_i50_i_i_i_i_i_i_i_i_i_i_; }
+    v_r17_i_i_i_i43_i_i_i_i_i_i_i_i_i_i_i_i_i = (u64)((u64)(v_r7_sroa_129_25_i_i_i) - (u64)(v_r1_sroa_3_0_copyload_i_i_i42_i_i_i_i_i_i_i_i_i_i_i));
+    v_r26_i_i_i_i45_i_i_i_i_i_i_i_i_i_i_i_i_i = (P)((uintptr_t)v_r14 + (u64)(v_r17_i_i_i_i43_i_i_i_i_i_i_i_i_i_i_i_i_i));
+    v_r8_i_i_i_i_i_i_i_i_i_i46_i_i_i_i_i_i_i_i_i_i_i_i_i = (u64)((uintptr_t)v_r26_i_i_i_i45_i_i_i_i_i_i_i_i_i_i_i_i_i);
+    v_r9_i_i_i_i_i_i_i_i_i_i47_i_i_i_i_i_i_i_i_i_i_i_i_i = (u64)((uintptr_t)v_r1_sroa_0_0_copyload_i_i_i40_i_i_i_i_i_i_i_i_i_i_i);
+    v_r10_i_i_i_i_i_i_i_i_i_i48_i_i_i_i_i_i_i_i_i_i_i_i_ = (u64)((u64)(v_r8_i_i_i_i_i_i_i_i_i_i46_i_i_i_i_i_i_i_i_i_i_i_i_i) - (u64)(v_r9_i_i_i_i_i_i_i_i_i_i47_i_i_i_i_i_i_i_i_i_i_i_i_i));
+    v_r11_i_i_i_i_i_i_i_i_i_i49_i_i_i_i_i_i_i_i_i_i_i_i_ = v_r10_i_i_i_i_i_i_i_i_i_i48_i_i_i_i_i_i_i_i_i_i_i_i_ < v_r1_sroa_3_0_copyload_i_i_i42_i_i_i_i_i_i_i_i_i_i_i;
+    if (v_r11_i_i_i_i_i_i_i_i_i_i49_i_i_i_i_i_i_i_i_i_i_i_i_) { goto L_join_7_i_i_i_i_i_i_i_i_i_i63_i_i_i_i_i_i_i_i_i_i_i; } else { goto L_apart_2_i_i_i_i_i_i_i_i_i_i50_i_i_i_i_i_i_i_i_i_i_; }
 L_join_7_i_i_i_i_i_i_i_i_i_i63_i_i_i_i_i_i_i_i_i_i_i:;
-    v_xtraiter131 = (u64)((u64)(v_r1_sroa_3_0_copyload_i_i_i42_i_i_i_i_i_i_i_i_i_i_i) & (u64)(3u));
+    v_xtraiter178 = (u64)((u64)(v_r1_sroa_3_0_copyload_i_i_i42_i_i_i_i_i_i_i_i_i_i_i) & (u64)(3u));
     v_29 = v_r1_sroa_3_0_copyload_i_i_i42_i_i_i_i_i_i_i_i_i_i_i < 4u;
     if (v_29) { p_v_r0_04_i_i_i_i_i_i_i_i_i_i64_i_i_i_i_i_i_i_i_i_i_i_ = 0u; goto L_join_7_i_i_i_i_i_i_i_i_i_i63_i_i_i_i_i_i_i_i_i_i_i__2; } else { goto L_join_7_i_i_i_i_i_i_i_i_i_i63_i_i_i_i_i_i_i_i_i_i_i__3; }
 L_join_7_i_i_i_i_i_i_i_i_i_i63_i_i_i_i_i_i_i_i_i_i_i__3:;
-    v_unroll_iter135 = (u64)((u64)(v_r1_sroa_3_0_copyload_i_i_i42_i_i_i_i_i_i_i_i_i_i_i) & (u64)(18446744073709551612ull));
-    { p_v_r0_04_i_i_i_i_i_i_i_i_i_i64_i_i_i_i_i_i_i_i_i_i_i = 0u; p_v_niter136 = 0u; goto L_join_7_i_i_i_i_i_i_i_i_i_i63_i_i_i_i_i_i_i_i_i_i_i__4; }
+    v_unroll_iter182 = (u64)((u64)(v_r1_sroa_3_0_copyload_i_i_i42_i_i_i_i_i_i_i_i_i_i_i) & (u64)(18446744073709551612ull));
+    { p_v_r0_04_i_i_i_i_i_i_i_i_i_i64_i_i_i_i_i_i_i_i_i_i_i___2 = 0u; p_v_niter183 = 0u; goto L_join_7_i_i_i_i_i_i_i_i_i_i63_i_i_i_i_i_i_i_i_i_i_i__4; }
 L_apart_2_i_i_i_i_i_i_i_i_i_i50_i_i_i_i_i_i_i_i_i_i_:;
-    move(v_r26_i_i_i_i45_i_i_i_i_i_i_i_i_i_i_i, v_r1_sroa_0_0_copyload_i_i_i40_i_i_i_i_i_i_i_i_i_i_i, v_r1_sroa_3_0_copyload_i_i_i42_i_i_i_i_i_i_i_i_i_i_i);
+    move(v_r26_i_i_i_i45_i_i_i_i_i_i_i_i_i_i_i_i_i, v_r1_sroa_0_0_copyload_i_i_i40_i_i_i_i_i_i_i_i_i_i_i, v_r1_sroa_3_0_copyload_i_i_i42_i_i_i_i_i_i_i_i_i_i_i);
     { goto L_der_core_back_writer_BackWriter_prepend_exit_i_i_i__5; }
 L_join_7_i_i_i_i_i_i_i_i_i_i63_i_i_i_i_i_i_i_i_i_i_i__4:;
-    v_r0_04_i_i_i_i_i_i_i_i_i_i64_i_i_i_i_i_i_i_i_i_i_i = p_v_r0_04_i_i_i_i_i_i_i_i_i_i64_i_i_i_i_i_i_i_i_i_i_i;
-    v_niter136 = p_v_niter136;
-    v_r20_i_i_i_i_i_i_i_i_i_i65_i_i_i_i_i_i_i_i_i_i_i = v_r26_i_i_i_i45_i_i_i_i_i_i_i_i_i_i_i + (int64_t)(v_r0_04_i_i_i_i_i_i_i_i_i_i64_i_i_i_i_i_i_i_i_i_i_i);
-    v_r24_i_i_i_i_i_i_i_i_i_i66_i_i_i_i_i_i_i_i_i_i_i = v_r1_sroa_0_0_copyload_i_i_i40_i_i_i_i_i_i_i_i_i_i_i + (int64_t)(v_r0_04_i_i_i_i_i_i_i_i_i_i64_i_i_i_i_i_i_i_i_i_i_i);
-    v_r26_i_i_i_i_i_i_i_i_i_i67_i_i_i_i_i_i_i_i_i_i_i = get_u8(v_r24_i_i_i_i_i_i_i_i_i_i66_i_i_i_i_i_i_i_i_i_i_i);
-    put_u8(v_r20_i_i_i_i_i_i_i_i_i_i65_i_i_i_i_i_i_i_i_i_i_i, v_r26_i_i_i_i_i_i_i_i_i_i67_i_i_i_i_i_i_i_i_i_i_i);
-    v_r30_i_i_i_i_i_i_i_i_i_i68_i_i_i_i_i_i_i_i_i_i_i = (u64)((u64)(v_r0_04_i_i_i_i_i_i_i_i_i_i64_i_i_i_i_i_i_i_i_i_i_i) | (u64)(1u));
-    v_r20_i_i_i_i_i_i_i_i_i_i65_i_i_i_i_i_i_i_i_i_i_i_1 = v_r26_i_i_i_i45_i_i_i_i_i_i_i_i_i_i_i + (int64_t)(v_r30_i_i_i_i_i_i_i_i_i_i68_i_i_i_i_i_i_i_i_i_i_i);
-    v_r24_i_i_i_i_i_i_i_i_i_i66_i_i_i_i_i_i_i_i_i_i_i_1 = v_r1_sroa_0_0_copyload_i_i_i40_i_i_i_i_i_i_i_i_i_i_i + (int64_t)(v_r30_i_i_i_i_i_i_i_i_i_i68_i_i_i_i_i_i_i_i_i_i_i);
-    v_r26_i_i_i_i_i_i_i_i_i_i67_i_i_i_i_i_i_i_i_i_i_i_1 = get_u8(v_r24_i_i_i_i_i_i_i_i_i_i66_i_i_i_i_i_i_i_i_i_i_i_1);
-    put_u8(v_r20_i_i_i_i_i_i_i_i_i_i65_i_i_i_i_i_i_i_i_i_i_i_1, v_r26_i_i_i_i_i_i_i_i_i_i67_i_i_i_i_i_i_i_i_i_i_i_1);
-    v_r30_i_i_i_i_i_i_i_i_i_i68_i_i_i_i_i_i_i_i_i_i_i_1 = (u64)((u64)(v_r0_04_i_i_i_i_i_i_i_i_i_i64_i_i_i_i_i_i_i_i_i_i_i) | (u64)(2u));
-    v_r20_i_i_i_i_i_i_i_i_i_i65_i_i_i_i_i_i_i_i_i_i_i_2 = v_r26_i_i_i_i45_i_i_i_i_i_i_i_i_i_i_i + (int64_t)(v_r30_i_i_i_i_i_i_i_i_i_i68_i_i_i_i_i_i_i_i_i_i_i_1);
-    v_r24_i_i_i_i_i_i_i_i_i_i66_i_i_i_i_i_i_i_i_i_i_i_2 = v_r1_sroa_0_0_copyload_i_i_i40_i_i_i_i_i_i_i_i_i_i_i + (int64_t)(v_r30_i_i_i_i_i_i_i_i_i_i68_i_i_i_i_i_i_i_i_i_i_i_1);
-    v_r26_i_i_i_i_i_i_i_i_i_i67_i_i_i_i_i_i_i_i_i_i_i_2 = get_u8(v_r24_i_i_i_i_i_i_i_i_i_i66_i_i_i_i_i_i_i_i_i_i_i_2);
-    put_u8(v_r20_i_i_i_i_i_i_i_i_i_i65_i_i_i_i_i_i_i_i_i_i_i_2, v_r26_i_i_i_i_i_i_i_i_i_i67_i_i_i_i_i_i_i_i_i_i_i_2);
-    v_r30_i_i_i_i_i_i_i_i_i_i68_i_i_i_i_i_i_i_i_i_i_i_2 = (u64)((u64)(v_r0_04_i_i_i_i_i_i_i_i_i_i64_i_i_i_i_i_i_i_i_i_i_i) | (u64)(3u));
-    v_r20_i_i_i_i_i_i_i_i_i_i65_i_i_i_i_i_i_i_i_i_i_i_3 = v_r26_i_i_i_i45_i_i_i_i_i_i_i_i_i_i_i + (int64_t)(v_r30_i_i_i_i_i_i_i_i_i_i68_i_i_i_i_i_i_i_i_i_i_i_2);
-    v_r24_i_i_i_i_i_i_i_i_i_i66_i_i_i_i_i_i_i_i_i_i_i_3 = v_r1_sroa_0_0_copyload_i_i_i40_i_i_i_i_i_i_i_i_i_i_i + (int64_t)(v_r30_i_i_i_i_i_i_i_i_i_i68_i_i_i_i_i_i_i_i_i_i_i_2);
-    v_r26_i_i_i_i_i_i_i_i_i_i67_i_i_i_i_i_i_i_i_i_i_i_3 = get_u8(v_r24_i_i_i_i_i_i_i_i_i_i66_i_i_i_i_i_i_i_i_i_i_i_3);
-    put_u8(v_r20_i_i_i_i_i_i_i_i_i_i65_i_i_i_i_i_i_i_i_i_i_i_3, v_r26_i_i_i_i_i_i_i_i_i_i67_i_i_i_i_i_i_i_i_i_i_i_3);
-    v_r30_i_i_i_i_i_i_i_i_i_i68_i_i_i_i_i_i_i_i_i_i_i_3 = (u64)((u64)(v_r0_04_i_i_i_i_i_i_i_i_i_i64_i_i_i_i_i_i_i_i_i_i_i) + (u64)(4u));
-    v_niter136_next_3 = (u64)((u64)(v_niter136) + (u64)(4u));
-    v_niter136_ncmp_3 = v_niter136_next_3 == v_unroll_iter135;
-    if (v_niter136_ncmp_3) { goto L_der_core_back_writer_BackWriter_prepend_exit_i_i_i__6; } else { p_v_r0_04_i_i_i_i_i_i_i_i_i_i64_i_i_i_i_i_i_i_i_i_i_i = v_r30_i_i_i_i_i_i_i_i_i_i68_i_i_i_i_i_i_i_i_i_i_i_3; p_v_niter136 = v_niter136_next_3; goto L_join_7_i_i_i_i_i_i_i_i_i_i63_i_i_i_i_i_i_i_i_i_i_i__4; }
+    v_r0_04_i_i_i_i_i_i_i_i_i_i64_i_i_i_i_i_i_i_i_i_i_i___2 = p_v_r0_04_i_i_i_i_i_i_i_i_i_i64_i_i_i_i_i_i_i_i_i_i_i___2;
+    v_niter183 = p_v_niter183;
+    v_r20_i_i_i_i_i_i_i_i_i_i65_i_i_i_i_i_i_i_i_i_i_i_i_ = v_r26_i_i_i_i45_i_i_i_i_i_i_i_i_i_i_i_i_i + (int64_t)(v_r0_04_i_i_i_i_i_i_i_i_i_i64_i_i_i_i_i_i_i_i_i_i_i___2);
+    v_r24_i_i_i_i_i_i_i_i_i_i66_i_i_i_i_i_i_i_i_i_i_i_i_ = v_r1_sroa_0_0_copyload_i_i_i40_i_i_i_i_i_i_i_i_i_i_i + (int64_t)(v_r0_04_i_i_i_i_i_i_i_i_i_i64_i_i_i_i_i_i_i_i_i_i_i___2);
+    v_r26_i_i_i_i_i_i_i_i_i_i67_i_i_i_i_i_i_i_i_i_i_i_i_ = get_u8(v_r24_i_i_i_i_i_i_i_i_i_i66_i_i_i_i_i_i_i_i_i_i_i_i_);
+    put_u8(v_r20_i_i_i_i_i_i_i_i_i_i65_i_i_i_i_i_i_i_i_i_i_i_i_, v_r26_i_i_i_i_i_i_i_i_i_i67_i_i_i_i_i_i_i_i_i_i_i_i_);
+    v_r30_i_i_i_i_i_i_i_i_i_i68_i_i_i_i_i_i_i_i_i_i_i_i_ = (u64)((u64)(v_r0_04_i_i_i_i_i_i_i_i_i_i64_i_i_i_i_i_i_i_i_i_i_i___2) | (u64)(1u));
+    v_r20_i_i_i_i_i_i_i_i_i_i65_i_i_i_i_i_i_i_i_i_i_i_i___2 = v_r26_i_i_i_i45_i_i_i_i_i_i_i_i_i_i_i_i_i + (int64_t)(v_r30_i_i_i_i_i_i_i_i_i_i68_i_i_i_i_i_i_i_i_i_i_i_i_);
+    v_r24_i_i_i_i_i_i_i_i_i_i66_i_i_i_i_i_i_i_i_i_i_i_i___2 = v_r1_sroa_0_0_copyload_i_i_i40_i_i_i_i_i_i_i_i_i_i_i + (int64_t)(v_r30_i_i_i_i_i_i_i_i_i_i68_i_i_i_i_i_i_i_i_i_i_i_i_);
+    v_r26_i_i_i_i_i_i_i_i_i_i67_i_i_i_i_i_i_i_i_i_i_i_i___2 = get_u8(v_r24_i_i_i_i_i_i_i_i_i_i66_i_i_i_i_i_i_i_i_i_i_i_i___2);
+    put_u8(v_r20_i_i_i_i_i_i_i_i_i_i65_i_i_i_i_i_i_i_i_i_i_i_i___2, v_r26_i_i_i_i_i_i_i_i_i_i67_i_i_i_i_i_i_i_i_i_i_i_i___2);
+    v_r30_i_i_i_i_i_i_i_i_i_i68_i_i_i_i_i_i_i_i_i_i_i_i___2 = (u64)((u64)(v_r0_04_i_i_i_i_i_i_i_i_i_i64_i_i_i_i_i_i_i_i_i_i_i___2) | (u64)(2u));
+    v_r20_i_i_i_i_i_i_i_i_i_i65_i_i_i_i_i_i_i_i_i_i_i_i___3 = v_r26_i_i_i_i45_i_i_i_i_i_i_i_i_i_i_i_i_i + (int64_t)(v_r30_i_i_i_i_i_i_i_i_i_i68_i_i_i_i_i_i_i_i_i_i_i_i___2);
+    v_r24_i_i_i_i_i_i_i_i_i_i66_i_i_i_i_i_i_i_i_i_i_i_i___3 = v_r1_sroa_0_0_copyload_i_i_i40_i_i_i_i_i_i_i_i_i_i_i + (int64_t)(v_r30_i_i_i_i_i_i_i_i_i_i68_i_i_i_i_i_i_i_i_i_i_i_i___2);
+    v_r26_i_i_i_i_i_i_i_i_i_i67_i_i_i_i_i_i_i_i_i_i_i_i___3 = get_u8(v_r24_i_i_i_i_i_i_i_i_i_i66_i_i_i_i_i_i_i_i_i_i_i_i___3);
+    put_u8(v_r20_i_i_i_i_i_i_i_i_i_i65_i_i_i_i_i_i_i_i_i_i_i_i___3, v_r26_i_i_i_i_i_i_i_i_i_i67_i_i_i_i_i_i_i_i_i_i_i_i___3);
+    v_r30_i_i_i_i_i_i_i_i_i_i68_i_i_i_i_i_i_i_i_i_i_i_i___3 = (u64)((u64)(v_r0_04_i_i_i_i_i_i_i_i_i_i64_i_i_i_i_i_i_i_i_i_i_i___2) | (u64)(3u));
+    v_r20_i_i_i_i_i_i_i_i_i_i65_i_i_i_i_i_i_i_i_i_i_i_i___4 = v_r26_i_i_i_i45_i_i_i_i_i_i_i_i_i_i_i_i_i + (int64_t)(v_r30_i_i_i_i_i_i_i_i_i_i68_i_i_i_i_i_i_i_i_i_i_i_i___3);
+    v_r24_i_i_i_i_i_i_i_i_i_i66_i_i_i_i_i_i_i_i_i_i_i_i___4 = v_r1_sroa_0_0_copyload_i_i_i40_i_i_i_i_i_i_i_i_i_i_i + (int64_t)(v_r30_i_i_i_i_i_i_i_i_i_i68_i_i_i_i_i_i_i_i_i_i_i_i___3);
+    v_r26_i_i_i_i_i_i_i_i_i_i67_i_i_i_i_i_i_i_i_i_i_i_i___4 = get_u8(v_r24_i_i_i_i_i_i_i_i_i_i66_i_i_i_i_i_i_i_i_i_i_i_i___4);
+    put_u8(v_r20_i_i_i_i_i_i_i_i_i_i65_i_i_i_i_i_i_i_i_i_i_i_i___4, v_r26_i_i_i_i_i_i_i_i_i_i67_i_i_i_i_i_i_i_i_i_i_i_i___4);
+    v_r30_i_i_i_i_i_i_i_i_i_i68_i_i_i_i_i_i_i_i_i_i_i_i___4 = (u64)((u64)(v_r0_04_i_i_i_i_i_i_i_i_i_i64_i_i_i_i_i_i_i_i_i_i_i___2) + (u64)(4u));
+    v_niter183_next_3 = (u64)((u64)(v_niter183) + (u64)(4u));
+    v_niter183_ncmp_3 = v_niter183_next_3 == v_unroll_iter182;
+    if (v_niter183_ncmp_3) { goto L_der_core_back_writer_BackWriter_prepend_exit_i_i_i__6; } else { p_v_r0_04_i_i_i_i_i_i_i_i_i_i64_i_i_i_i_i_i_i_i_i_i_i___2 = v_r30_i_i_i_i_i_i_i_i_i_i68_i_i_i_i_i_i_i_i_i_i_i_i___4; p_v_niter183 = v_niter183_next_3; goto L_join_7_i_i_i_i_i_i_i_i_i_i63_i_i_i_i_i_i_i_i_i_i_i__4; }
 L_der_core_back_writer_BackWriter_prepend_exit_i_i_i__6:;
-    v_lcmp_mod133_not = v_xtraiter131 == 0u;
-    if (v_lcmp_mod133_not) { goto L_der_core_back_writer_BackWriter_prepend_exit_i_i_i__5; } else { p_v_r0_04_i_i_i_i_i_i_i_i_i_i64_i_i_i_i_i_i_i_i_i_i_i_ = v_r30_i_i_i_i_i_i_i_i_i_i68_i_i_i_i_i_i_i_i_i_i_i_3; goto L_join_7_i_i_i_i_i_i_i_i_i_i63_i_i_i_i_i_i_i_i_i_i_i__2; }
+    v_lcmp_mod180_not = v_xtraiter178 == 0u;
+    if (v_lcmp_mod180_not) { goto L_der_core_back_writer_BackWriter_prepend_exit_i_i_i__5; } else { p_v_r0_04_i_i_i_i_i_i_i_i_i_i64_i_i_i_i_i_i_i_i_i_i_i_ = v_r30_i_i_i_i_i_i_i_i_i_i68_i_i_i_i_i_i_i_i_i_i_i_i___4; goto L_join_7_i_i_i_i_i_i_i_i_i_i63_i_i_i_i_i_i_i_i_i_i_i__2; }
 L_join_7_i_i_i_i_i_i_i_i_i_i63_i_i_i_i_i_i_i_i_i_i_i__2:;
     v_r0_04_i_i_i_i_i_i_i_i_i_i64_i_i_i_i_i_i_i_i_i_i_i_ = p_v_r0_04_i_i_i_i_i_i_i_i_i_i64_i_i_i_i_i_i_i_i_i_i_i_;
-    { p_v_r0_04_i_i_i_i_i_i_i_i_i_i64_i_i_i_i_i_i_i_i_i_i_i___2 = v_r0_04_i_i_i_i_i_i_i_i_i_i64_i_i_i_i_i_i_i_i_i_i_i_; p_v_epil_iter132 = 0u; goto L_join_7_i_i_i_i_i_i_i_i_i_i63_i_i_i_i_i_i_i_i_i_i_i__5; }
+    { p_v_r0_04_i_i_i_i_i_i_i_i_i_i64_i_i_i_i_i_i_i_i_i_i_i___3 = v_r0_04_i_i_i_i_i_i_i_i_i_i64_i_i_i_i_i_i_i_i_i_i_i_; p_v_epil_iter179 = 0u; goto L_join_7_i_i_i_i_i_i_i_i_i_i63_i_i_i_i_i_i_i_i_i_i_i__5; }
 L_join_7_i_i_i_i_i_i_i_i_i_i63_i_i_i_i_i_i_i_i_i_i_i__5:;
-    v_r0_04_i_i_i_i_i_i_i_i_i_i64_i_i_i_i_i_i_i_i_i_i_i___2 = p_v_r0_04_i_i_i_i_i_i_i_i_i_i64_i_i_i_i_i_i_i_i_i_i_i___2;
-    v_epil_iter132 = p_v_epil_iter132;
-    v_r20_i_i_i_i_i_i_i_i_i_i65_i_i_i_i_i_i_i_i_i_i_i_ep = v_r26_i_i_i_i45_i_i_i_i_i_i_i_i_i_i_i + (int64_t)(v_r0_04_i_i_i_i_i_i_i_i_i_i64_i_i_i_i_i_i_i_i_i_i_i___2);
-    v_r24_i_i_i_i_i_i_i_i_i_i66_i_i_i_i_i_i_i_i_i_i_i_ep = v_r1_sroa_0_0_copyload_i_i_i40_i_i_i_i_i_i_i_i_i_i_i + (int64_t)(v_r0_04_i_i_i_i_i_i_i_i_i_i64_i_i_i_i_i_i_i_i_i_i_i___2);
-    v_r26_i_i_i_i_i_i_i_i_i_i67_i_i_i_i_i_i_i_i_i_i_i_ep = get_u8(v_r24_i_i_i_i_i_i_i_i_i_i66_i_i_i_i_i_i_i_i_i_i_i_ep);
-    put_u8(v_r20_i_i_i_i_i_i_i_i_i_i65_i_i_i_i_i_i_i_i_i_i_i_ep, v_r26_i_i_i_i_i_i_i_i_i_i67_i_i_i_i_i_i_i_i_i_i_i_ep);
-    v_r30_i_i_i_i_i_i_i_i_i_i68_i_i_i_i_i_i_i_i_i_i_i_ep = (u64)((u64)(v_r0_04_i_i_i_i_i_i_i_i_i_i64_i_i_i_i_i_i_i_i_i_i_i___2) + (u64)(1u));
-    v_epil_iter132_next = (u64)((u64)(v_epil_iter132) + (u64)(1u));
-    v_epil_iter132_cmp_not = v_epil_iter132_next == v_xtraiter131;
-    if (v_epil_iter132_cmp_not) { goto L_der_core_back_writer_BackWriter_prepend_exit_i_i_i__5; } else { p_v_r0_04_i_i_i_i_i_i_i_i_i_i64_i_i_i_i_i_i_i_i_i_i_i___2 = v_r30_i_i_i_i_i_i_i_i_i_i68_i_i_i_i_i_i_i_i_i_i_i_ep; p_v_epil_iter132 = v_epil_iter132_next; goto L_join_7_i_i_i_i_i_i_i_i_i_i63_i_i_i_i_i_i_i_i_i_i_i__5; }
+    v_r0_04_i_i_i_i_i_i_i_i_i_i64_i_i_i_i_i_i_i_i_i_i_i___3 = p_v_r0_04_i_i_i_i_i_i_i_i_i_i64_i_i_i_i_i_i_i_i_i_i_i___3;
+    v_epil_iter179 = p_v_epil_iter179;
+    v_r20_i_i_i_i_i_i_i_i_i_i65_i_i_i_i_i_i_i_i_i_i_i_i___5 = v_r26_i_i_i_i45_i_i_i_i_i_i_i_i_i_i_i_i_i + (int64_t)(v_r0_04_i_i_i_i_i_i_i_i_i_i64_i_i_i_i_i_i_i_i_i_i_i___3);
+    v_r24_i_i_i_i_i_i_i_i_i_i66_i_i_i_i_i_i_i_i_i_i_i_i___5 = v_r1_sroa_0_0_copyload_i_i_i40_i_i_i_i_i_i_i_i_i_i_i + (int64_t)(v_r0_04_i_i_i_i_i_i_i_i_i_i64_i_i_i_i_i_i_i_i_i_i_i___3);
+    v_r26_i_i_i_i_i_i_i_i_i_i67_i_i_i_i_i_i_i_i_i_i_i_i___5 = get_u8(v_r24_i_i_i_i_i_i_i_i_i_i66_i_i_i_i_i_i_i_i_i_i_i_i___5);
+    put_u8(v_r20_i_i_i_i_i_i_i_i_i_i65_i_i_i_i_i_i_i_i_i_i_i_i___5, v_r26_i_i_i_i_i_i_i_i_i_i67_i_i_i_i_i_i_i_i_i_i_i_i___5);
+    v_r30_i_i_i_i_i_i_i_i_i_i68_i_i_i_i_i_i_i_i_i_i_i_i___5 = (u64)((u64)(v_r0_04_i_i_i_i_i_i_i_i_i_i64_i_i_i_i_i_i_i_i_i_i_i___3) + (u64)(1u));
+    v_epil_iter179_next = (u64)((u64)(v_epil_iter179) + (u64)(1u));
+    v_epil_iter179_cmp_not = v_epil_iter179_next == v_xtraiter178;
+    if (v_epil_iter179_cmp_not) { goto L_der_core_back_writer_BackWriter_prepend_exit_i_i_i__5; } else { p_v_r0_04_i_i_i_i_i_i_i_i_i_i64_i_i_i_i_i_i_i_i_i_i_i___3 = v_r30_i_i_i_i_i_i_i_i_i_i68_i_i_i_i_i_i_i_i_i_i_i_i___5; p_v_epil_iter179 = v_epil_iter179_next; goto L_join_7_i_i_i_i_i_i_i_i_i_i63_i_i_i_i_i_i_i_i_i_i_i__5; }
 L_der_core_back_writer_BackWriter_prepend_exit_i_i_i__5:;
-    v_r12_i_i_i52_i_i_i_i_i_i_i_i_i_i_i = v_r21_i_i_i_i_i_i_i_i_i + 16;
-    v_r13_i_i_i53_i_i_i_i_i_i_i_i_i_i_i = get_u64(v_r12_i_i_i52_i_i_i_i_i_i_i_i_i_i_i);
-    v_r15_not_i_i_i54_i_i_i_i_i_i_i_i_i_i_i = v_r13_i_i_i53_i_i_i_i_i_i_i_i_i_i_i == 0u;
-    if (v_r15_not_i_i_i54_i_i_i_i_i_i_i_i_i_i_i) { p_v_r7_sroa_66_6_i_i_i = v_r17_i_i_i_i43_i_i_i_i_i_i_i_i_i_i_i; goto L_der_core_encode_AnyEncode_prepend_4d978079444c4cc3; } else { goto L_then_1_i_i_i55_i_i_i_i_i_i_i_i_i_i_i; }
-L_then_1_i_i_i55_i_i_i_i_i_i_i_i_i_i_i:;
-    v_r17_i3_i_i_i56_i_i_i_i_i_i_i_i_i_i_i = (u64)((u64)(v_r17_i_i_i_i43_i_i_i_i_i_i_i_i_i_i_i) + (u64)(18446744073709551615ull));
-    v_r26_i5_i_i_i58_i_i_i_i_i_i_i_i_i_i_i = (P)((uintptr_t)v_r14 + (u64)(v_r17_i3_i_i_i56_i_i_i_i_i_i_i_i_i_i_i));
-    put_u8(v_r26_i5_i_i_i58_i_i_i_i_i_i_i_i_i_i_i, 0u);
-    { p_v_r7_sroa_66_6_i_i_i = v_r17_i3_i_i_i56_i_i_i_i_i_i_i_i_i_i_i; goto L_der_core_encode_AnyEncode_prepend_4d978079444c4cc3; }
+    v_r12_i_i_i52_i_i_i_i_i_i_i_i_i_i_i_i_i = v_r21_i_i_i_i_i_i_i_i_i_i_i + 16;
+    v_r13_i_i_i53_i_i_i_i_i_i_i_i_i_i_i_i_i = get_u64(v_r12_i_i_i52_i_i_i_i_i_i_i_i_i_i_i_i_i);
+    v_r15_not_i_i_i54_i_i_i_i_i_i_i_i_i_i_i_i_i = v_r13_i_i_i53_i_i_i_i_i_i_i_i_i_i_i_i_i == 0u;
+    if (v_r15_not_i_i_i54_i_i_i_i_i_i_i_i_i_i_i_i_i) { p_v_r7_sroa_129_10_i_i_i = v_r17_i_i_i_i43_i_i_i_i_i_i_i_i_i_i_i_i_i; goto L_der_core_encode_AnyEncode_prepend_4d978079444c4cc3; } else { goto L_then_1_i_i_i55_i_i_i_i_i_i_i_i_i_i_i_i_i; }
+L_then_1_i_i_i55_i_i_i_i_i_i_i_i_i_i_i_i_i:;
+    v_r17_i3_i_i_i56_i_i_i_i_i_i_i_i_i_i_i_i_i = (u64)((u64)(v_r17_i_i_i_i43_i_i_i_i_i_i_i_i_i_i_i_i_i) + (u64)(18446744073709551615ull));
+    v_r26_i5_i_i_i58_i_i_i_i_i_i_i_i_i_i_i_i_i = (P)((uintptr_t)v_r14 + (u64)(v_r17_i3_i_i_i56_i_i_i_i_i_i_i_i_i_i_i_i_i));
+    put_u8(v_r26_i5_i_i_i58_i_i_i_i_i_i_i_i_i_i_i_i_i, 0u);
+    { p_v_r7_sroa_129_10_i_i_i = v_r17_i3_i_i_i56_i_i_i_i_i_i_i_i_i_i_i_i_i; goto L_der_core_encode_AnyEncode_prepend_4d978079444c4cc3; }
 L_der_core_encode_AnyEncode_prepend_4d978079444c4cc3:;
-    v_r7_sroa_66_6_i_i_i = p_v_r7_sroa_66_6_i_i_i;
-    v_30 = (u64)((u64)(v_r7_sroa_66_6_i_i_i) + (u64)(v_r3_i5_i_i_i));
-    v_31 = (u64)((u64)(v_r7_sroa_66_13_i_i_i) - (u64)(v_30));
+    v_r7_sroa_129_10_i_i_i = p_v_r7_sroa_129_10_i_i_i;
+    v_30 = (u64)((u64)(v_r7_sroa_129_10_i_i_i) + (u64)(v_r3_i5_i_i_i));
+    v_31 = (u64)((u64)(v_r7_sroa_129_25_i_i_i) - (u64)(v_30));
     v_32 = (u32)(v_31);
-    v_r2_i_i_i62_i_i_i_i_i_i_i_i_i_i_i = (u32)((u32)(v_r1_sroa_9_4_copyload_i_i_i_i) + (u32)(v_32));
-    v_r59_i322_i_i_i = v_r2_i_i_i62_i_i_i_i_i_i_i_i_i_i_i < 128u;
-    if (v_r59_i322_i_i_i) { goto L_then_1_i383_i_i_i; } else { goto L_else_2_i323_i_i_i; }
-L_then_1_i383_i_i_i:;
-    v_r64_i384_i_i_i = (u16)(v_r2_i_i_i62_i_i_i_i_i_i_i_i_i_i_i);
-    v_r17_i_i388_i_i_i = (u64)((u64)(v_r7_sroa_66_6_i_i_i) + (u64)(18446744073709551614ull));
-    v_r26_i_i390_i_i_i = (P)((uintptr_t)v_r14 + (u64)(v_r17_i_i388_i_i_i));
-    v_r8_i317_sroa_4_0_insert_shift_i_i_i = (u16)((u32)(v_r64_i384_i_i_i) << (u32)((8u & 31)));
-    v_r8_i317_sroa_0_0_insert_insert_i_i_i = (u16)((u32)(v_r8_i317_sroa_4_0_insert_shift_i_i_i) | (u32)(2u));
-    put_u16(v_r26_i_i390_i_i_i, v_r8_i317_sroa_0_0_insert_insert_i_i_i);
-    { p_v_r7_sroa_66_12_i_i_i = v_r17_i_i388_i_i_i; goto L_der_core_back_writer_BackWriter_prepend_header_exi__3; }
-L_else_2_i323_i_i_i:;
-    v_r75_i324_i_i_i = v_r2_i_i_i62_i_i_i_i_i_i_i_i_i_i_i < 256u;
-    if (v_r75_i324_i_i_i) { goto L_then_4_i374_i_i_i; } else { goto L_else_5_i325_i_i_i; }
-L_then_4_i374_i_i_i:;
-    v_r80_i375_i_i_i = (u8)(v_r2_i_i_i62_i_i_i_i_i_i_i_i_i_i_i);
-    v_r17_i28_i380_i_i_i = (u64)((u64)(v_r7_sroa_66_6_i_i_i) + (u64)(18446744073709551613ull));
-    v_r26_i30_i382_i_i_i = (P)((uintptr_t)v_r14 + (u64)(v_r17_i28_i380_i_i_i));
-    put_u8(v_r26_i30_i382_i_i_i, 2u);
-    v_r14_i318_sroa_4_0_r26_i30_i382_sroa_idx_i_i_i = v_r26_i30_i382_i_i_i + 1;
-    put_u8(v_r14_i318_sroa_4_0_r26_i30_i382_sroa_idx_i_i_i, 129u);
-    v_r14_i318_sroa_5_0_r26_i30_i382_sroa_idx_i_i_i = v_r26_i30_i382_i_i_i + 2;
-    put_u8(v_r14_i318_sroa_5_0_r26_i30_i382_sroa_idx_i_i_i, v_r80_i375_i_i_i);
-    { p_v_r7_sroa_66_12_i_i_i = v_r17_i28_i380_i_i_i; goto L_der_core_back_writer_BackWriter_prepend_header_exi__3; }
-L_else_5_i325_i_i_i:;
-    v_r92_i326_i_i_i = v_r2_i_i_i62_i_i_i_i_i_i_i_i_i_i_i < 65536u;
-    if (v_r92_i326_i_i_i) { goto L_then_7_i362_i_i_i; } else { goto L_else_8_i327_i_i_i; }
-L_then_7_i362_i_i_i:;
-    v_r17_i46_i370_i_i_i = (u64)((u64)(v_r7_sroa_66_6_i_i_i) + (u64)(18446744073709551612ull));
-    v_r26_i48_i372_i_i_i = (P)((uintptr_t)v_r14 + (u64)(v_r17_i46_i370_i_i_i));
-    v_33 = (u32)((u32)(v_r2_i_i_i62_i_i_i_i_i_i_i_i_i_i_i) | (u32)(42074112u));
-    v_r20_i319_sroa_0_0_insert_insert_i_i_i = __builtin_bswap32(v_33);
-    put_u32(v_r26_i48_i372_i_i_i, v_r20_i319_sroa_0_0_insert_insert_i_i_i);
-    { p_v_r7_sroa_66_12_i_i_i = v_r17_i46_i370_i_i_i; goto L_der_core_back_writer_BackWriter_prepend_header_exi__3; }
-L_else_8_i327_i_i_i:;
-    v_r117_i328_i_i_i = v_r2_i_i_i62_i_i_i_i_i_i_i_i_i_i_i < 16777216u;
-    if (v_r117_i328_i_i_i) { goto L_then_10_i347_i_i_i; } else { goto L_else_11_i329_i_i_i; }
-L_then_10_i347_i_i_i:;
-    v_r12223_i348_i_i_i = (u32)((u32)(v_r2_i_i_i62_i_i_i_i_i_i_i_i_i_i_i) >> (u32)((16u & 31)));
-    v_r124_i349_i_i_i = (u8)(v_r12223_i348_i_i_i);
-    v_r12624_i350_i_i_i = (u32)((u32)(v_r2_i_i_i62_i_i_i_i_i_i_i_i_i_i_i) >> (u32)((8u & 31)));
-    v_r130_i351_i_i_i = (u8)(v_r12624_i350_i_i_i);
-    v_r134_i352_i_i_i = (u8)(v_r2_i_i_i62_i_i_i_i_i_i_i_i_i_i_i);
-    v_r17_i64_i359_i_i_i = (u64)((u64)(v_r7_sroa_66_6_i_i_i) + (u64)(18446744073709551611ull));
-    v_r26_i66_i361_i_i_i = (P)((uintptr_t)v_r14 + (u64)(v_r17_i64_i359_i_i_i));
-    put_u8(v_r26_i66_i361_i_i_i, 2u);
-    v_r29_i320_sroa_4_0_r26_i66_i361_sroa_idx_i_i_i = v_r26_i66_i361_i_i_i + 1;
-    put_u8(v_r29_i320_sroa_4_0_r26_i66_i361_sroa_idx_i_i_i, 131u);
-    v_r29_i320_sroa_5_0_r26_i66_i361_sroa_idx_i_i_i = v_r26_i66_i361_i_i_i + 2;
-    put_u8(v_r29_i320_sroa_5_0_r26_i66_i361_sroa_idx_i_i_i, v_r124_i349_i_i_i);
-    v_r29_i320_sroa_6_0_r26_i66_i361_sroa_idx_i_i_i = v_r26_i66_i361_i_i_i + 3;
-    put_u8(v_r29_i320_sroa_6_0_r26_i66_i361_sroa_idx_i_i_i, v_r130_i351_i_i_i);
-    v_r29_i320_sroa_7_0_r26_i66_i361_sroa_idx_i_i_i = v_r26_i66_i361_i_i_i + 4;
-    put_u8(v_r29_i320_sroa_7_0_r26_i66_i361_sroa_idx_i_i_i, v_r134_i352_i_i_i);
-    { p_v_r7_sroa_66_12_i_i_i = v_r17_i64_i359_i_i_i; goto L_der_core_back_writer_BackWriter_prepend_header_exi__3; }
-L_else_11_i329_i_i_i:;
-    v_r15020_i330_i_i_i = (u32)((u32)(v_r2_i_i_i62_i_i_i_i_i_i_i_i_i_i_i) >> (u32)((24u & 31)));
-    v_r152_i331_i_i_i = (u8)(v_r15020_i330_i_i_i);
-    v_r15421_i332_i_i_i = (u32)((u32)(v_r2_i_i_i62_i_i_i_i_i_i_i_i_i_i_i) >> (u32)((16u & 31)));
-    v_r158_i333_i_i_i = (u8)(v_r15421_i332_i_i_i);
-    v_r16022_i334_i_i_i = (u32)((u32)(v_r2_i_i_i62_i_i_i_i_i_i_i_i_i_i_i) >> (u32)((8u & 31)));
-    v_r164_i335_i_i_i = (u8)(v_r16022_i334_i_i_i);
-    v_r168_i336_i_i_i = (u8)(v_r2_i_i_i62_i_i_i_i_i_i_i_i_i_i_i);
-    v_r17_i82_i344_i_i_i = (u64)((u64)(v_r7_sroa_66_6_i_i_i) + (u64)(18446744073709551610ull));
-    v_r26_i84_i346_i_i_i = (P)((uintptr_t)v_r14 + (u64)(v_r17_i82_i344_i_i_i));
-    put_u8(v_r26_i84_i346_i_i_i, 2u);
-    v_r40_i321_sroa_4_0_r26_i84_i346_sroa_idx_i_i_i = v_r26_i84_i346_i_i_i + 1;
-    put_u8(v_r40_i321_sroa_4_0_r26_i84_i346_sroa_idx_i_i_i, 132u);
-    v_r40_i321_sroa_5_0_r26_i84_i346_sroa_idx_i_i_i = v_r26_i84_i346_i_i_i + 2;
-    put_u8(v_r40_i321_sroa_5_0_r26_i84_i346_sroa_idx_i_i_i, v_r152_i331_i_i_i);
-    v_r40_i321_sroa_6_0_r26_i84_i346_sroa_idx_i_i_i = v_r26_i84_i346_i_i_i + 3;
-    put_u8(v_r40_i321_sroa_6_0_r26_i84_i346_sroa_idx_i_i_i, v_r158_i333_i_i_i);
-    v_r40_i321_sroa_7_0_r26_i84_i346_sroa_idx_i_i_i = v_r26_i84_i346_i_i_i + 4;
-    put_u8(v_r40_i321_sroa_7_0_r26_i84_i346_sroa_idx_i_i_i, v_r164_i335_i_i_i);
-    v_r40_i321_sroa_8_0_r26_i84_i346_sroa_idx_i_i_i = v_r26_i84_i346_i_i_i + 5;
-    put_u8(v_r40_i321_sroa_8_0_r26_i84_i346_sroa_idx_i_i_i, v_r168_i336_i_i_i);
-    { p_v_r7_sroa_66_12_i_i_i = v_r17_i82_i344_i_i_i; goto L_der_core_back_writer_BackWriter_prepend_header_exi__3; }
+    v_r2_i_i_i62_i_i_i_i_i_i_i_i_i_i_i_i_i = (u32)((u32)(v_r1_sroa_9_4_copyload_i_i_i_i) + (u32)(v_32));
+    v_r59_i856_i_i_i = v_r2_i_i_i62_i_i_i_i_i_i_i_i_i_i_i_i_i < 128u;
+    if (v_r59_i856_i_i_i) { goto L_then_1_i917_i_i_i; } else { goto L_else_2_i857_i_i_i; }
+L_then_1_i917_i_i_i:;
+    v_r64_i918_i_i_i = (u16)(v_r2_i_i_i62_i_i_i_i_i_i_i_i_i_i_i_i_i);
+    v_r17_i_i922_i_i_i = (u64)((u64)(v_r7_sroa_129_10_i_i_i) + (u64)(18446744073709551614ull));
+    v_r26_i_i924_i_i_i = (P)((uintptr_t)v_r14 + (u64)(v_r17_i_i922_i_i_i));
+    v_r8_i851_sroa_4_0_insert_shift_i_i_i = (u16)((u32)(v_r64_i918_i_i_i) << (u32)((8u & 31)));
+    v_r8_i851_sroa_0_0_insert_insert_i_i_i = (u16)((u32)(v_r8_i851_sroa_4_0_insert_shift_i_i_i) | (u32)(2u));
+    put_u16(v_r26_i_i924_i_i_i, v_r8_i851_sroa_0_0_insert_insert_i_i_i);
+    { p_v_r7_sroa_129_24_i_i_i = v_r17_i_i922_i_i_i; goto L_der_core_back_writer_BackWriter_prepend_header_exi__3; }
+L_else_2_i857_i_i_i:;
+    v_r75_i858_i_i_i = v_r2_i_i_i62_i_i_i_i_i_i_i_i_i_i_i_i_i < 256u;
+    if (v_r75_i858_i_i_i) { goto L_then_4_i908_i_i_i; } else { goto L_else_5_i859_i_i_i; }
+L_then_4_i908_i_i_i:;
+    v_r80_i909_i_i_i = (u8)(v_r2_i_i_i62_i_i_i_i_i_i_i_i_i_i_i_i_i);
+    v_r17_i28_i914_i_i_i = (u64)((u64)(v_r7_sroa_129_10_i_i_i) + (u64)(18446744073709551613ull));
+    v_r26_i30_i916_i_i_i = (P)((uintptr_t)v_r14 + (u64)(v_r17_i28_i914_i_i_i));
+    put_u8(v_r26_i30_i916_i_i_i, 2u);
+    v_r14_i852_sroa_4_0_r26_i30_i916_sroa_idx_i_i_i = v_r26_i30_i916_i_i_i + 1;
+    put_u8(v_r14_i852_sroa_4_0_r26_i30_i916_sroa_idx_i_i_i, 129u);
+    v_r14_i852_sroa_5_0_r26_i30_i916_sroa_idx_i_i_i = v_r26_i30_i916_i_i_i + 2;
+    put_u8(v_r14_i852_sroa_5_0_r26_i30_i916_sroa_idx_i_i_i, v_r80_i909_i_i_i);
+    { p_v_r7_sroa_129_24_i_i_i = v_r17_i28_i914_i_i_i; goto L_der_core_back_writer_BackWriter_prepend_header_exi__3; }
+L_else_5_i859_i_i_i:;
+    v_r92_i860_i_i_i = v_r2_i_i_i62_i_i_i_i_i_i_i_i_i_i_i_i_i < 65536u;
+    if (v_r92_i860_i_i_i) { goto L_then_7_i896_i_i_i; } else { goto L_else_8_i861_i_i_i; }
+L_then_7_i896_i_i_i:;
+    v_r17_i46_i904_i_i_i = (u64)((u64)(v_r7_sroa_129_10_i_i_i) + (u64)(18446744073709551612ull));
+    v_r26_i48_i906_i_i_i = (P)((uintptr_t)v_r14 + (u64)(v_r17_i46_i904_i_i_i));
+    v_33 = (u32)((u32)(v_r2_i_i_i62_i_i_i_i_i_i_i_i_i_i_i_i_i) | (u32)(42074112u));
+    v_r20_i853_sroa_0_0_insert_insert_i_i_i = __builtin_bswap32(v_33);
+    put_u32(v_r26_i48_i906_i_i_i, v_r20_i853_sroa_0_0_insert_insert_i_i_i);
+    { p_v_r7_sroa_129_24_i_i_i = v_r17_i46_i904_i_i_i; goto L_der_core_back_writer_BackWriter_prepend_header_exi__3; }
+L_else_8_i861_i_i_i:;
+    v_r117_i862_i_i_i = v_r2_i_i_i62_i_i_i_i_i_i_i_i_i_i_i_i_i < 16777216u;
+    if (v_r117_i862_i_i_i) { goto L_then_10_i881_i_i_i; } else { goto L_else_11_i863_i_i_i; }
+L_then_10_i881_i_i_i:;
+    v_r12223_i882_i_i_i = (u32)((u32)(v_r2_i_i_i62_i_i_i_i_i_i_i_i_i_i_i_i_i) >> (u32)((16u & 31)));
+    v_r124_i883_i_i_i = (u8)(v_r12223_i882_i_i_i);
+    v_r12624_i884_i_i_i = (u32)((u32)(v_r2_i_i_i62_i_i_i_i_i_i_i_i_i_i_i_i_i) >> (u32)((8u & 31)));
+    v_r130_i885_i_i_i = (u8)(v_r12624_i884_i_i_i);
+    v_r134_i886_i_i_i = (u8)(v_r2_i_i_i62_i_i_i_i_i_i_i_i_i_i_i_i_i);
+    v_r17_i64_i893_i_i_i = (u64)((u64)(v_r7_sroa_129_10_i_i_i) + (u64)(18446744073709551611ull));
+    v_r26_i66_i895_i_i_i = (P)((uintptr_t)v_r14 + (u64)(v_r17_i64_i893_i_i_i));
+    put_u8(v_r26_i66_i895_i_i_i, 2u);
+    v_r29_i854_sroa_4_0_r26_i66_i895_sroa_idx_i_i_i = v_r26_i66_i895_i_i_i + 1;
+    put_u8(v_r29_i854_sroa_4_0_r26_i66_i895_sroa_idx_i_i_i, 131u);
+    v_r29_i854_sroa_5_0_r26_i66_i895_sroa_idx_i_i_i = v_r26_i66_i895_i_i_i + 2;
+    put_u8(v_r29_i854_sroa_5_0_r26_i66_i895_sroa_idx_i_i_i, v_r124_i883_i_i_i);
+    v_r29_i854_sroa_6_0_r26_i66_i895_sroa_idx_i_i_i = v_r26_i66_i895_i_i_i + 3;
+    put_u8(v_r29_i854_sroa_6_0_r26_i66_i895_sroa_idx_i_i_i, v_r130_i885_i_i_i);
+    v_r29_i854_sroa_7_0_r26_i66_i895_sroa_idx_i_i_i = v_r26_i66_i895_i_i_i + 4;
+    put_u8(v_r29_i854_sroa_7_0_r26_i66_i895_sroa_idx_i_i_i, v_r134_i886_i_i_i);
+    { p_v_r7_sroa_129_24_i_i_i = v_r17_i64_i893_i_i_i; goto L_der_core_back_writer_BackWriter_prepend_header_exi__3; }
+L_else_11_i863_i_i_i:;
+    v_r15020_i864_i_i_i = (u32)((u32)(v_r2_i_i_i62_i_i_i_i_i_i_i_i_i_i_i_i_i) >> (u32)((24u & 31)));
+    v_r152_i865_i_i_i = (u8)(v_r15020_i864_i_i_i);
+    v_r15421_i866_i_i_i = (u32)((u32)(v_r2_i_i_i62_i_i_i_i_i_i_i_i_i_i_i_i_i) >> (u32)((16u & 31)));
+    v_r158_i867_i_i_i = (u8)(v_r15421_i866_i_i_i);
+    v_r16022_i868_i_i_i = (u32)((u32)(v_r2_i_i_i62_i_i_i_i_i_i_i_i_i_i_i_i_i) >> (u32)((8u & 31)));
+    v_r164_i869_i_i_i = (u8)(v_r16022_i868_i_i_i);
+    v_r168_i870_i_i_i = (u8)(v_r2_i_i_i62_i_i_i_i_i_i_i_i_i_i_i_i_i);
+    v_r17_i82_i878_i_i_i = (u64)((u64)(v_r7_sroa_129_10_i_i_i) + (u64)(18446744073709551610ull));
+    v_r26_i84_i880_i_i_i = (P)((uintptr_t)v_r14 + (u64)(v_r17_i82_i878_i_i_i));
+    put_u8(v_r26_i84_i880_i_i_i, 2u);
+    v_r40_i855_sroa_4_0_r26_i84_i880_sroa_idx_i_i_i = v_r26_i84_i880_i_i_i + 1;
+    put_u8(v_r40_i855_sroa_4_0_r26_i84_i880_sroa_idx_i_i_i, 132u);
+    v_r40_i855_sroa_5_0_r26_i84_i880_sroa_idx_i_i_i = v_r26_i84_i880_i_i_i + 2;
+    put_u8(v_r40_i855_sroa_5_0_r26_i84_i880_sroa_idx_i_i_i, v_r152_i865_i_i_i);
+    v_r40_i855_sroa_6_0_r26_i84_i880_sroa_idx_i_i_i = v_r26_i84_i880_i_i_i + 3;
+    put_u8(v_r40_i855_sroa_6_0_r26_i84_i880_sroa_idx_i_i_i, v_r158_i867_i_i_i);
+    v_r40_i855_sroa_7_0_r26_i84_i880_sroa_idx_i_i_i = v_r26_i84_i880_i_i_i + 4;
+    put_u8(v_r40_i855_sroa_7_0_r26_i84_i880_sroa_idx_i_i_i, v_r164_i869_i_i_i);
+    v_r40_i855_sroa_8_0_r26_i84_i880_sroa_idx_i_i_i = v_r26_i84_i880_i_i_i + 5;
+    put_u8(v_r40_i855_sroa_8_0_r26_i84_i880_sroa_idx_i_i_i, v_r168_i870_i_i_i);
+    { p_v_r7_sroa_129_24_i_i_i = v_r17_i82_i878_i_i_i; goto L_der_core_back_writer_BackWriter_prepend_header_exi__3; }
 L_der_core_back_writer_BackWriter_prepend_header_exi__3:;
-    v_r7_sroa_66_12_i_i_i = p_v_r7_sroa_66_12_i_i_i;
-    v_r17_i_i_i_i_i_i_i_i_i_i = (u64)((u64)(v_r7_sroa_66_3_i_i_i) - (u64)(v_r7_sroa_66_12_i_i_i));
-    v_r2_i_i_i_i_i_i_i_i_i_i_i = (u32)(v_r17_i_i_i_i_i_i_i_i_i_i);
-    v_r59_i246_i_i_i = v_r2_i_i_i_i_i_i_i_i_i_i_i < 128u;
-    if (v_r59_i246_i_i_i) { goto L_then_1_i307_i_i_i; } else { goto L_else_2_i247_i_i_i; }
-L_then_1_i307_i_i_i:;
-    v_r64_i308_i_i_i = (u16)(v_r17_i_i_i_i_i_i_i_i_i_i);
-    v_r17_i_i312_i_i_i = (u64)((u64)(v_r7_sroa_66_12_i_i_i) + (u64)(18446744073709551614ull));
-    v_r26_i_i314_i_i_i = (P)((uintptr_t)v_r14 + (u64)(v_r17_i_i312_i_i_i));
-    v_r8_i241_sroa_4_0_insert_shift_i_i_i = (u16)((u32)(v_r64_i308_i_i_i) << (u32)((8u & 31)));
-    v_r8_i241_sroa_0_0_insert_insert_i_i_i = (u16)((u32)(v_r8_i241_sroa_4_0_insert_shift_i_i_i) | (u32)(48u));
-    put_u16(v_r26_i_i314_i_i_i, v_r8_i241_sroa_0_0_insert_insert_i_i_i);
-    { p_v_r7_sroa_66_11_i_i_i = v_r17_i_i312_i_i_i; goto L_der_core_back_writer_BackWriter_prepend_header_exi__4; }
-L_else_2_i247_i_i_i:;
-    v_r75_i248_i_i_i = v_r2_i_i_i_i_i_i_i_i_i_i_i < 256u;
-    if (v_r75_i248_i_i_i) { goto L_then_4_i298_i_i_i; } else { goto L_else_5_i249_i_i_i; }
-L_then_4_i298_i_i_i:;
-    v_r80_i299_i_i_i = (u8)(v_r17_i_i_i_i_i_i_i_i_i_i);
-    v_r17_i28_i304_i_i_i = (u64)((u64)(v_r7_sroa_66_12_i_i_i) + (u64)(18446744073709551613ull));
-    v_r26_i30_i306_i_i_i = (P)((uintptr_t)v_r14 + (u64)(v_r17_i28_i304_i_i_i));
-    put_u8(v_r26_i30_i306_i_i_i, 48u);
-    v_r14_i242_sroa_4_0_r26_i30_i306_sroa_idx_i_i_i = v_r26_i30_i306_i_i_i + 1;
-    put_u8(v_r14_i242_sroa_4_0_r26_i30_i306_sroa_idx_i_i_i, 129u);
-    v_r14_i242_sroa_5_0_r26_i30_i306_sroa_idx_i_i_i = v_r26_i30_i306_i_i_i + 2;
-    put_u8(v_r14_i242_sroa_5_0_r26_i30_i306_sroa_idx_i_i_i, v_r80_i299_i_i_i);
-    { p_v_r7_sroa_66_11_i_i_i = v_r17_i28_i304_i_i_i; goto L_der_core_back_writer_BackWriter_prepend_header_exi__4; }
-L_else_5_i249_i_i_i:;
-    v_r92_i250_i_i_i = v_r2_i_i_i_i_i_i_i_i_i_i_i < 65536u;
-    if (v_r92_i250_i_i_i) { goto L_then_7_i286_i_i_i; } else { goto L_else_8_i251_i_i_i; }
-L_then_7_i286_i_i_i:;
-    v_r17_i46_i294_i_i_i = (u64)((u64)(v_r7_sroa_66_12_i_i_i) + (u64)(18446744073709551612ull));
-    v_r26_i48_i296_i_i_i = (P)((uintptr_t)v_r14 + (u64)(v_r17_i46_i294_i_i_i));
-    v_34 = (u32)((u32)(v_r2_i_i_i_i_i_i_i_i_i_i_i) | (u32)(813826048u));
-    v_r20_i243_sroa_0_0_insert_insert_i_i_i = __builtin_bswap32(v_34);
-    put_u32(v_r26_i48_i296_i_i_i, v_r20_i243_sroa_0_0_insert_insert_i_i_i);
-    { p_v_r7_sroa_66_11_i_i_i = v_r17_i46_i294_i_i_i; goto L_der_core_back_writer_BackWriter_prepend_header_exi__4; }
-L_else_8_i251_i_i_i:;
-    v_r117_i252_i_i_i = v_r2_i_i_i_i_i_i_i_i_i_i_i < 16777216u;
-    if (v_r117_i252_i_i_i) { goto L_then_10_i271_i_i_i; } else { goto L_else_11_i253_i_i_i; }
-L_then_10_i271_i_i_i:;
-    v_r12223_i272639_i_i_i = (u64)((u64)(v_r17_i_i_i_i_i_i_i_i_i_i) >> (u64)((16u & 63)));
-    v_r124_i273_i_i_i = (u8)(v_r12223_i272639_i_i_i);
-    v_r12624_i274640_i_i_i = (u64)((u64)(v_r17_i_i_i_i_i_i_i_i_i_i) >> (u64)((8u & 63)));
-    v_r130_i275_i_i_i = (u8)(v_r12624_i274640_i_i_i);
-    v_r134_i276_i_i_i = (u8)(v_r17_i_i_i_i_i_i_i_i_i_i);
-    v_r17_i64_i283_i_i_i = (u64)((u64)(v_r7_sroa_66_12_i_i_i) + (u64)(18446744073709551611ull));
-    v_r26_i66_i285_i_i_i = (P)((uintptr_t)v_r14 + (u64)(v_r17_i64_i283_i_i_i));
-    put_u8(v_r26_i66_i285_i_i_i, 48u);
-    v_r29_i244_sroa_4_0_r26_i66_i285_sroa_idx_i_i_i = v_r26_i66_i285_i_i_i + 1;
-    put_u8(v_r29_i244_sroa_4_0_r26_i66_i285_sroa_idx_i_i_i, 131u);
-    v_r29_i244_sroa_5_0_r26_i66_i285_sroa_idx_i_i_i = v_r26_i66_i285_i_i_i + 2;
-    put_u8(v_r29_i244_sroa_5_0_r26_i66_i285_sroa_idx_i_i_i, v_r124_i273_i_i_i);
-    v_r29_i244_sroa_6_0_r26_i66_i285_sroa_idx_i_i_i = v_r26_i66_i285_i_i_i + 3;
-    put_u8(v_r29_i244_sroa_6_0_r26_i66_i285_sroa_idx_i_i_i, v_r130_i275_i_i_i);
-    v_r29_i244_sroa_7_0_r26_i66_i285_sroa_idx_i_i_i = v_r26_i66_i285_i_i_i + 4;
-    put_u8(v_r29_i244_sroa_7_0_r26_i66_i285_sroa_idx_i_i_i, v_r134_i276_i_i_i);
-    { p_v_r7_sroa_66_11_i_i_i = v_r17_i64_i283_i_i_i; goto L_der_core_back_writer_BackWriter_prepend_header_exi__4; }
-L_else_11_i253_i_i_i:;
-    v_r15020_i254636_i_i_i = (u64)((u64)(v_r17_i_i_i_i_i_i_i_i_i_i) >> (u64)((24u & 63)));
-    v_r152_i255_i_i_i = (u8)(v_r15020_i254636_i_i_i);
-    v_r15421_i256637_i_i_i = (u64)((u64)(v_r17_i_i_i_i_i_i_i_i_i_i) >> (u64)((16u & 63)));
-    v_r158_i257_i_i_i = (u8)(v_r15421_i256637_i_i_i);
-    v_r16022_i258638_i_i_i = (u64)((u64)(v_r17_i_i_i_i_i_i_i_i_i_i) >> (u64)((8u & 63)));
-    v_r164_i259_i_i_i = (u8)(v_r16022_i258638_i_i_i);
-    v_r168_i260_i_i_i = (u8)(v_r17_i_i_i_i_i_i_i_i_i_i);
-    v_r17_i82_i268_i_i_i = (u64)((u64)(v_r7_sroa_66_12_i_i_i) + (u64)(18446744073709551610ull));
-    v_r26_i84_i270_i_i_i = (P)((uintptr_t)v_r14 + (u64)(v_r17_i82_i268_i_i_i));
-    put_u8(v_r26_i84_i270_i_i_i, 48u);
-    v_r40_i245_sroa_4_0_r26_i84_i270_sroa_idx_i_i_i = v_r26_i84_i270_i_i_i + 1;
-    put_u8(v_r40_i245_sroa_4_0_r26_i84_i270_sroa_idx_i_i_i, 132u);
-    v_r40_i245_sroa_5_0_r26_i84_i270_sroa_idx_i_i_i = v_r26_i84_i270_i_i_i + 2;
-    put_u8(v_r40_i245_sroa_5_0_r26_i84_i270_sroa_idx_i_i_i, v_r152_i255_i_i_i);
-    v_r40_i245_sroa_6_0_r26_i84_i270_sroa_idx_i_i_i = v_r26_i84_i270_i_i_i + 3;
-    put_u8(v_r40_i245_sroa_6_0_r26_i84_i270_sroa_idx_i_i_i, v_r158_i257_i_i_i);
-    v_r40_i245_sroa_7_0_r26_i84_i270_sroa_idx_i_i_i = v_r26_i84_i270_i_i_i + 4;
-    put_u8(v_r40_i245_sroa_7_0_r26_i84_i270_sroa_idx_i_i_i, v_r164_i259_i_i_i);
-    v_r40_i245_sroa_8_0_r26_i84_i270_sroa_idx_i_i_i = v_r26_i84_i270_i_i_i + 5;
-    put_u8(v_r40_i245_sroa_8_0_r26_i84_i270_sroa_idx_i_i_i, v_r168_i260_i_i_i);
-    { p_v_r7_sroa_66_11_i_i_i = v_r17_i82_i268_i_i_i; goto L_der_core_back_writer_BackWriter_prepend_header_exi__4; }
+    v_r7_sroa_129_24_i_i_i = p_v_r7_sroa_129_24_i_i_i;
+    v_r17_i_i_i_i_i_i_i_i_i_i_i_i = (u64)((u64)(v_r7_sroa_129_7_i_i_i) - (u64)(v_r7_sroa_129_24_i_i_i));
+    v_r2_i_i_i_i_i_i_i_i_i_i_i_i_i = (u32)(v_r17_i_i_i_i_i_i_i_i_i_i_i_i);
+    v_r59_i780_i_i_i = v_r2_i_i_i_i_i_i_i_i_i_i_i_i_i < 128u;
+    if (v_r59_i780_i_i_i) { goto L_then_1_i841_i_i_i; } else { goto L_else_2_i781_i_i_i; }
+L_then_1_i841_i_i_i:;
+    v_r64_i842_i_i_i = (u16)(v_r17_i_i_i_i_i_i_i_i_i_i_i_i);
+    v_r17_i_i846_i_i_i = (u64)((u64)(v_r7_sroa_129_24_i_i_i) + (u64)(18446744073709551614ull));
+    v_r26_i_i848_i_i_i = (P)((uintptr_t)v_r14 + (u64)(v_r17_i_i846_i_i_i));
+    v_r8_i775_sroa_4_0_insert_shift_i_i_i = (u16)((u32)(v_r64_i842_i_i_i) << (u32)((8u & 31)));
+    v_r8_i775_sroa_0_0_insert_insert_i_i_i = (u16)((u32)(v_r8_i775_sroa_4_0_insert_shift_i_i_i) | (u32)(48u));
+    put_u16(v_r26_i_i848_i_i_i, v_r8_i775_sroa_0_0_insert_insert_i_i_i);
+    { p_v_r7_sroa_129_23_i_i_i = v_r17_i_i846_i_i_i; goto L_der_core_back_writer_BackWriter_prepend_header_exi__4; }
+L_else_2_i781_i_i_i:;
+    v_r75_i782_i_i_i = v_r2_i_i_i_i_i_i_i_i_i_i_i_i_i < 256u;
+    if (v_r75_i782_i_i_i) { goto L_then_4_i832_i_i_i; } else { goto L_else_5_i783_i_i_i; }
+L_then_4_i832_i_i_i:;
+    v_r80_i833_i_i_i = (u8)(v_r17_i_i_i_i_i_i_i_i_i_i_i_i);
+    v_r17_i28_i838_i_i_i = (u64)((u64)(v_r7_sroa_129_24_i_i_i) + (u64)(18446744073709551613ull));
+    v_r26_i30_i840_i_i_i = (P)((uintptr_t)v_r14 + (u64)(v_r17_i28_i838_i_i_i));
+    put_u8(v_r26_i30_i840_i_i_i, 48u);
+    v_r14_i776_sroa_4_0_r26_i30_i840_sroa_idx_i_i_i = v_r26_i30_i840_i_i_i + 1;
+    put_u8(v_r14_i776_sroa_4_0_r26_i30_i840_sroa_idx_i_i_i, 129u);
+    v_r14_i776_sroa_5_0_r26_i30_i840_sroa_idx_i_i_i = v_r26_i30_i840_i_i_i + 2;
+    put_u8(v_r14_i776_sroa_5_0_r26_i30_i840_sroa_idx_i_i_i, v_r80_i833_i_i_i);
+    { p_v_r7_sroa_129_23_i_i_i = v_r17_i28_i838_i_i_i; goto L_der_core_back_writer_BackWriter_prepend_header_exi__4; }
+L_else_5_i783_i_i_i:;
+    v_r92_i784_i_i_i = v_r2_i_i_i_i_i_i_i_i_i_i_i_i_i < 65536u;
+    if (v_r92_i784_i_i_i) { goto L_then_7_i820_i_i_i; } else { goto L_else_8_i785_i_i_i; }
+L_then_7_i820_i_i_i:;
+    v_r17_i46_i828_i_i_i = (u64)((u64)(v_r7_sroa_129_24_i_i_i) + (u64)(18446744073709551612ull));
+    v_r26_i48_i830_i_i_i = (P)((uintptr_t)v_r14 + (u64)(v_r17_i46_i828_i_i_i));
+    v_34 = (u32)((u32)(v_r2_i_i_i_i_i_i_i_i_i_i_i_i_i) | (u32)(813826048u));
+    v_r20_i777_sroa_0_0_insert_insert_i_i_i = __builtin_bswap32(v_34);
+    put_u32(v_r26_i48_i830_i_i_i, v_r20_i777_sroa_0_0_insert_insert_i_i_i);
+    { p_v_r7_sroa_129_23_i_i_i = v_r17_i46_i828_i_i_i; goto L_der_core_back_writer_BackWriter_prepend_header_exi__4; }
+L_else_8_i785_i_i_i:;
+    v_r117_i786_i_i_i = v_r2_i_i_i_i_i_i_i_i_i_i_i_i_i < 16777216u;
+    if (v_r117_i786_i_i_i) { goto L_then_10_i805_i_i_i; } else { goto L_else_11_i787_i_i_i; }
+L_then_10_i805_i_i_i:;
+    v_r12223_i8061236_i_i_i = (u64)((u64)(v_r17_i_i_i_i_i_i_i_i_i_i_i_i) >> (u64)((16u & 63)));
+    v_r124_i807_i_i_i = (u8)(v_r12223_i8061236_i_i_i);
+    v_r12624_i8081237_i_i_i = (u64)((u64)(v_r17_i_i_i_i_i_i_i_i_i_i_i_i) >> (u64)((8u & 63)));
+    v_r130_i809_i_i_i = (u8)(v_r12624_i8081237_i_i_i);
+    v_r134_i810_i_i_i = (u8)(v_r17_i_i_i_i_i_i_i_i_i_i_i_i);
+    v_r17_i64_i817_i_i_i = (u64)((u64)(v_r7_sroa_129_24_i_i_i) + (u64)(18446744073709551611ull));
+    v_r26_i66_i819_i_i_i = (P)((uintptr_t)v_r14 + (u64)(v_r17_i64_i817_i_i_i));
+    put_u8(v_r26_i66_i819_i_i_i, 48u);
+    v_r29_i778_sroa_4_0_r26_i66_i819_sroa_idx_i_i_i = v_r26_i66_i819_i_i_i + 1;
+    put_u8(v_r29_i778_sroa_4_0_r26_i66_i819_sroa_idx_i_i_i, 131u);
+    v_r29_i778_sroa_5_0_r26_i66_i819_sroa_idx_i_i_i = v_r26_i66_i819_i_i_i + 2;
+    put_u8(v_r29_i778_sroa_5_0_r26_i66_i819_sroa_idx_i_i_i, v_r124_i807_i_i_i);
+    v_r29_i778_sroa_6_0_r26_i66_i819_sroa_idx_i_i_i = v_r26_i66_i819_i_i_i + 3;
+    put_u8(v_r29_i778_sroa_6_0_r26_i66_i819_sroa_idx_i_i_i, v_r130_i809_i_i_i);
+    v_r29_i778_sroa_7_0_r26_i66_i819_sroa_idx_i_i_i = v_r26_i66_i819_i_i_i + 4;
+    put_u8(v_r29_i778_sroa_7_0_r26_i66_i819_sroa_idx_i_i_i, v_r134_i810_i_i_i);
+    { p_v_r7_sroa_129_23_i_i_i = v_r17_i64_i817_i_i_i; goto L_der_core_back_writer_BackWriter_prepend_header_exi__4; }
+L_else_11_i787_i_i_i:;
+    v_r15020_i7881233_i_i_i = (u64)((u64)(v_r17_i_i_i_i_i_i_i_i_i_i_i_i) >> (u64)((24u & 63)));
+    v_r152_i789_i_i_i = (u8)(v_r15020_i7881233_i_i_i);
+    v_r15421_i7901234_i_i_i = (u64)((u64)(v_r17_i_i_i_i_i_i_i_i_i_i_i_i) >> (u64)((16u & 63)));
+    v_r158_i791_i_i_i = (u8)(v_r15421_i7901234_i_i_i);
+    v_r16022_i7921235_i_i_i = (u64)((u64)(v_r17_i_i_i_i_i_i_i_i_i_i_i_i) >> (u64)((8u & 63)));
+    v_r164_i793_i_i_i = (u8)(v_r16022_i7921235_i_i_i);
+    v_r168_i794_i_i_i = (u8)(v_r17_i_i_i_i_i_i_i_i_i_i_i_i);
+    v_r17_i82_i802_i_i_i = (u64)((u64)(v_r7_sroa_129_24_i_i_i) + (u64)(18446744073709551610ull));
+    v_r26_i84_i804_i_i_i = (P)((uintptr_t)v_r14 + (u64)(v_r17_i82_i802_i_i_i));
+    put_u8(v_r26_i84_i804_i_i_i, 48u);
+    v_r40_i779_sroa_4_0_r26_i84_i804_sroa_idx_i_i_i = v_r26_i84_i804_i_i_i + 1;
+    put_u8(v_r40_i779_sroa_4_0_r26_i84_i804_sroa_idx_i_i_i, 132u);
+    v_r40_i779_sroa_5_0_r26_i84_i804_sroa_idx_i_i_i = v_r26_i84_i804_i_i_i + 2;
+    put_u8(v_r40_i779_sroa_5_0_r26_i84_i804_sroa_idx_i_i_i, v_r152_i789_i_i_i);
+    v_r40_i779_sroa_6_0_r26_i84_i804_sroa_idx_i_i_i = v_r26_i84_i804_i_i_i + 3;
+    put_u8(v_r40_i779_sroa_6_0_r26_i84_i804_sroa_idx_i_i_i, v_r158_i791_i_i_i);
+    v_r40_i779_sroa_7_0_r26_i84_i804_sroa_idx_i_i_i = v_r26_i84_i804_i_i_i + 4;
+    put_u8(v_r40_i779_sroa_7_0_r26_i84_i804_sroa_idx_i_i_i, v_r164_i793_i_i_i);
+    v_r40_i779_sroa_8_0_r26_i84_i804_sroa_idx_i_i_i = v_r26_i84_i804_i_i_i + 5;
+    put_u8(v_r40_i779_sroa_8_0_r26_i84_i804_sroa_idx_i_i_i, v_r168_i794_i_i_i);
+    { p_v_r7_sroa_129_23_i_i_i = v_r17_i82_i802_i_i_i; goto L_der_core_back_writer_BackWriter_prepend_header_exi__4; }
 L_der_core_back_writer_BackWriter_prepend_header_exi__4:;
-    v_r7_sroa_66_11_i_i_i = p_v_r7_sroa_66_11_i_i_i;
-    v_r11_not_i_i_i_i_i_i_i_i_i = v_r16_i_i_i_i_i_i_i_i_i == 0u;
-    if (v_r11_not_i_i_i_i_i_i_i_i_i) { p_v_r7_sroa_66_7_i_i_i = v_r7_sroa_66_11_i_i_i; goto L_der_core_encode_AnyEncode_prepend_8c8a8111fb6f022a; } else { p_v_r7_sroa_66_3_i_i_i = v_r7_sroa_66_11_i_i_i; p_v_r2_07_i_i_i_i_i_i_i_i_i = v_r16_i_i_i_i_i_i_i_i_i; goto L_join_5_i_i_i_i_i_i_i_i_i; }
-L_der_core_encode_AnyEncode_prepend_8c8a8111fb6f022a:;
-    v_r7_sroa_66_7_i_i_i = p_v_r7_sroa_66_7_i_i_i;
-    v_35 = (u32)(v_r7_sroa_66_7_i_i_i);
-    v_r2_i_i_i_i_i_i_i_i = (u32)((u32)(v_r1_sroa_9_4_copyload_i_i_i_i) - (u32)(v_35));
-    v_r59_i170_i_i_i = v_r2_i_i_i_i_i_i_i_i < 128u;
-    if (v_r59_i170_i_i_i) { goto L_then_1_i231_i_i_i; } else { goto L_else_2_i171_i_i_i; }
-L_then_1_i231_i_i_i:;
-    v_r64_i232_i_i_i = (u16)(v_r2_i_i_i_i_i_i_i_i);
-    v_r17_i_i236_i_i_i = (u64)((u64)(v_r7_sroa_66_7_i_i_i) + (u64)(18446744073709551614ull));
-    v_r26_i_i238_i_i_i = (P)((uintptr_t)v_r14 + (u64)(v_r17_i_i236_i_i_i));
-    v_r8_i165_sroa_4_0_insert_shift_i_i_i = (u16)((u32)(v_r64_i232_i_i_i) << (u32)((8u & 31)));
-    v_r8_i165_sroa_0_0_insert_insert_i_i_i = (u16)((u32)(v_r8_i165_sroa_4_0_insert_shift_i_i_i) | (u32)(48u));
-    put_u16(v_r26_i_i238_i_i_i, v_r8_i165_sroa_0_0_insert_insert_i_i_i);
-    { p_v_r7_sroa_66_1_i_i_i_ph = v_r17_i_i236_i_i_i; goto L_join_5_i_i_i_i_i_i_preheader; }
-L_else_2_i171_i_i_i:;
-    v_r75_i172_i_i_i = v_r2_i_i_i_i_i_i_i_i < 256u;
-    if (v_r75_i172_i_i_i) { goto L_then_4_i222_i_i_i; } else { goto L_else_5_i173_i_i_i; }
-L_then_4_i222_i_i_i:;
-    v_r80_i223_i_i_i = (u8)(v_r2_i_i_i_i_i_i_i_i);
-    v_r17_i28_i228_i_i_i = (u64)((u64)(v_r7_sroa_66_7_i_i_i) + (u64)(18446744073709551613ull));
-    v_r26_i30_i230_i_i_i = (P)((uintptr_t)v_r14 + (u64)(v_r17_i28_i228_i_i_i));
-    put_u8(v_r26_i30_i230_i_i_i, 48u);
-    v_r14_i166_sroa_4_0_r26_i30_i230_sroa_idx_i_i_i = v_r26_i30_i230_i_i_i + 1;
-    put_u8(v_r14_i166_sroa_4_0_r26_i30_i230_sroa_idx_i_i_i, 129u);
-    v_r14_i166_sroa_5_0_r26_i30_i230_sroa_idx_i_i_i = v_r26_i30_i230_i_i_i + 2;
-    put_u8(v_r14_i166_sroa_5_0_r26_i30_i230_sroa_idx_i_i_i, v_r80_i223_i_i_i);
-    { p_v_r7_sroa_66_1_i_i_i_ph = v_r17_i28_i228_i_i_i; goto L_join_5_i_i_i_i_i_i_preheader; }
-L_else_5_i173_i_i_i:;
-    v_r92_i174_i_i_i = v_r2_i_i_i_i_i_i_i_i < 65536u;
-    if (v_r92_i174_i_i_i) { goto L_then_7_i210_i_i_i; } else { goto L_else_8_i175_i_i_i; }
-L_then_7_i210_i_i_i:;
-    v_r17_i46_i218_i_i_i = (u64)((u64)(v_r7_sroa_66_7_i_i_i) + (u64)(18446744073709551612ull));
-    v_r26_i48_i220_i_i_i = (P)((uintptr_t)v_r14 + (u64)(v_r17_i46_i218_i_i_i));
-    v_36 = (u32)((u32)(v_r2_i_i_i_i_i_i_i_i) | (u32)(813826048u));
-    v_r20_i167_sroa_0_0_insert_insert_i_i_i = __builtin_bswap32(v_36);
-    put_u32(v_r26_i48_i220_i_i_i, v_r20_i167_sroa_0_0_insert_insert_i_i_i);
-    { p_v_r7_sroa_66_1_i_i_i_ph = v_r17_i46_i218_i_i_i; goto L_join_5_i_i_i_i_i_i_preheader; }
-L_else_8_i175_i_i_i:;
-    v_r117_i176_i_i_i = v_r2_i_i_i_i_i_i_i_i < 16777216u;
-    if (v_r117_i176_i_i_i) { goto L_then_10_i195_i_i_i; } else { goto L_else_11_i177_i_i_i; }
-L_then_10_i195_i_i_i:;
-    v_r12223_i196_i_i_i = (u32)((u32)(v_r2_i_i_i_i_i_i_i_i) >> (u32)((16u & 31)));
-    v_r124_i197_i_i_i = (u8)(v_r12223_i196_i_i_i);
-    v_r12624_i198_i_i_i = (u32)((u32)(v_r2_i_i_i_i_i_i_i_i) >> (u32)((8u & 31)));
-    v_r130_i199_i_i_i = (u8)(v_r12624_i198_i_i_i);
-    v_r134_i200_i_i_i = (u8)(v_r2_i_i_i_i_i_i_i_i);
-    v_r17_i64_i207_i_i_i = (u64)((u64)(v_r7_sroa_66_7_i_i_i) + (u64)(18446744073709551611ull));
-    v_r26_i66_i209_i_i_i = (P)((uintptr_t)v_r14 + (u64)(v_r17_i64_i207_i_i_i));
-    put_u8(v_r26_i66_i209_i_i_i, 48u);
-    v_r29_i168_sroa_4_0_r26_i66_i209_sroa_idx_i_i_i = v_r26_i66_i209_i_i_i + 1;
-    put_u8(v_r29_i168_sroa_4_0_r26_i66_i209_sroa_idx_i_i_i, 131u);
-    v_r29_i168_sroa_5_0_r26_i66_i209_sroa_idx_i_i_i = v_r26_i66_i209_i_i_i + 2;
-    put_u8(v_r29_i168_sroa_5_0_r26_i66_i209_sroa_idx_i_i_i, v_r124_i197_i_i_i);
-    v_r29_i168_sroa_6_0_r26_i66_i209_sroa_idx_i_i_i = v_r26_i66_i209_i_i_i + 3;
-    put_u8(v_r29_i168_sroa_6_0_r26_i66_i209_sroa_idx_i_i_i, v_r130_i199_i_i_i);
-    v_r29_i168_sroa_7_0_r26_i66_i209_sroa_idx_i_i_i = v_r26_i66_i209_i_i_i + 4;
-    put_u8(v_r29_i168_sroa_7_0_r26_i66_i209_sroa_idx_i_i_i, v_r134_i200_i_i_i);
-    { p_v_r7_sroa_66_1_i_i_i_ph = v_r17_i64_i207_i_i_i; goto L_join_5_i_i_i_i_i_i_preheader; }
-L_else_11_i177_i_i_i:;
-    v_r15020_i178_i_i_i = (u32)((u32)(v_r2_i_i_i_i_i_i_i_i) >> (u32)((24u & 31)));
-    v_r152_i179_i_i_i = (u8)(v_r15020_i178_i_i_i);
-    v_r15421_i180_i_i_i = (u32)((u32)(v_r2_i_i_i_i_i_i_i_i) >> (u32)((16u & 31)));
-    v_r158_i181_i_i_i = (u8)(v_r15421_i180_i_i_i);
-    v_r16022_i182_i_i_i = (u32)((u32)(v_r2_i_i_i_i_i_i_i_i) >> (u32)((8u & 31)));
-    v_r164_i183_i_i_i = (u8)(v_r16022_i182_i_i_i);
-    v_r168_i184_i_i_i = (u8)(v_r2_i_i_i_i_i_i_i_i);
-    v_r17_i82_i192_i_i_i = (u64)((u64)(v_r7_sroa_66_7_i_i_i) + (u64)(18446744073709551610ull));
-    v_r26_i84_i194_i_i_i = (P)((uintptr_t)v_r14 + (u64)(v_r17_i82_i192_i_i_i));
-    put_u8(v_r26_i84_i194_i_i_i, 48u);
-    v_r40_i169_sroa_4_0_r26_i84_i194_sroa_idx_i_i_i = v_r26_i84_i194_i_i_i + 1;
-    put_u8(v_r40_i169_sroa_4_0_r26_i84_i194_sroa_idx_i_i_i, 132u);
-    v_r40_i169_sroa_5_0_r26_i84_i194_sroa_idx_i_i_i = v_r26_i84_i194_i_i_i + 2;
-    put_u8(v_r40_i169_sroa_5_0_r26_i84_i194_sroa_idx_i_i_i, v_r152_i179_i_i_i);
-    v_r40_i169_sroa_6_0_r26_i84_i194_sroa_idx_i_i_i = v_r26_i84_i194_i_i_i + 3;
-    put_u8(v_r40_i169_sroa_6_0_r26_i84_i194_sroa_idx_i_i_i, v_r158_i181_i_i_i);
-    v_r40_i169_sroa_7_0_r26_i84_i194_sroa_idx_i_i_i = v_r26_i84_i194_i_i_i + 4;
-    put_u8(v_r40_i169_sroa_7_0_r26_i84_i194_sroa_idx_i_i_i, v_r164_i183_i_i_i);
-    v_r40_i169_sroa_8_0_r26_i84_i194_sroa_idx_i_i_i = v_r26_i84_i194_i_i_i + 5;
-    put_u8(v_r40_i169_sroa_8_0_r26_i84_i194_sroa_idx_i_i_i, v_r168_i184_i_i_i);
-    { p_v_r7_sroa_66_1_i_i_i_ph = v_r17_i82_i192_i_i_i; goto L_join_5_i_i_i_i_i_i_preheader; }
-L_join_5_i_i_i_i_i_i_preheader:;
-    v_r7_sroa_66_1_i_i_i_ph = p_v_r7_sroa_66_1_i_i_i_ph;
-    { p_v_r7_sroa_66_1_i_i_i = v_r7_sroa_66_1_i_i_i_ph; p_v_r2_03_i_i_i_i_i_i = 8u; goto L_join_5_i_i_i_i_i_i; }
-L_join_5_i_i_i_i_i_i:;
-    v_r7_sroa_66_1_i_i_i = p_v_r7_sroa_66_1_i_i_i;
-    v_r2_03_i_i_i_i_i_i = p_v_r2_03_i_i_i_i_i_i;
-    v_r16_i_i_i_i_i_i = (u64)((u64)(v_r2_03_i_i_i_i_i_i) + (u64)(18446744073709551615ull));
-    v_r18_i4_i_i_i_i_i = (u64)((u64)(v_r16_i_i_i_i_i_i) << (u64)((3u & 63)));
-    v_r21_i_i_i_i_i_i = (P)((uintptr_t)v_r4_i_i_i_i_i + (u64)(v_r18_i4_i_i_i_i_i));
-    v_r21_val_i_i_i_i_i_i = get_P(v_r21_i_i_i_i_i_i);
-    v_r1_sroa_0_0_copyload_i_i_i_i_i_i_i_i_i = get_P(v_r21_val_i_i_i_i_i_i);
-    v_r1_sroa_3_0_a0_sroa_idx_i_i_i_i_i_i_i_i_i = v_r21_val_i_i_i_i_i_i + 8;
-    v_r1_sroa_3_0_copyload_i_i_i_i_i_i_i_i_i = get_u64(v_r1_sroa_3_0_a0_sroa_idx_i_i_i_i_i_i_i_i_i);
-    v_r17_i_i_i_i_i5_i_i_i_i_i = (u64)((u64)(v_r7_sroa_66_1_i_i_i) - (u64)(v_r1_sroa_3_0_copyload_i_i_i_i_i_i_i_i_i));
-    v_r26_i_i_i_i_i_i_i_i_i_i = (P)((uintptr_t)v_r14 + (u64)(v_r17_i_i_i_i_i5_i_i_i_i_i));
+    v_r7_sroa_129_23_i_i_i = p_v_r7_sroa_129_23_i_i_i;
+    v_r11_not_i_i_i_i_i_i_i_i_i_i_i = v_r16_i_i_i_i_i_i_i_i_i_i_i == 0u;
+    if (v_r11_not_i_i_i_i_i_i_i_i_i_i_i) { p_v_r7_sroa_129_11_i_i_i = v_r7_sroa_129_23_i_i_i; goto L_der_core_borrowed_BorrowedEncode_prepend_b85dcb4e1; } else { p_v_r7_sroa_129_7_i_i_i = v_r7_sroa_129_23_i_i_i; p_v_r2_07_i_i_i_i_i_i_i_i_i_i_i = v_r16_i_i_i_i_i_i_i_i_i_i_i; goto L_join_5_i_i_i_i_i_i_i_i_i_i_i; }
+L_der_core_borrowed_BorrowedEncode_prepend_b85dcb4e1:;
+    v_r7_sroa_129_11_i_i_i = p_v_r7_sroa_129_11_i_i_i;
+    v_35 = (u32)(v_r7_sroa_129_11_i_i_i);
+    v_r2_i_i_i_i_i_i_i_i_i_i = (u32)((u32)(v_r1_sroa_9_4_copyload_i_i_i_i) - (u32)(v_35));
+    v_r59_i704_i_i_i = v_r2_i_i_i_i_i_i_i_i_i_i < 128u;
+    if (v_r59_i704_i_i_i) { goto L_then_1_i765_i_i_i; } else { goto L_else_2_i705_i_i_i; }
+L_then_1_i765_i_i_i:;
+    v_r64_i766_i_i_i = (u16)(v_r2_i_i_i_i_i_i_i_i_i_i);
+    v_r17_i_i770_i_i_i = (u64)((u64)(v_r7_sroa_129_11_i_i_i) + (u64)(18446744073709551614ull));
+    v_r26_i_i772_i_i_i = (P)((uintptr_t)v_r14 + (u64)(v_r17_i_i770_i_i_i));
+    v_r8_i699_sroa_4_0_insert_shift_i_i_i = (u16)((u32)(v_r64_i766_i_i_i) << (u32)((8u & 31)));
+    v_r8_i699_sroa_0_0_insert_insert_i_i_i = (u16)((u32)(v_r8_i699_sroa_4_0_insert_shift_i_i_i) | (u32)(48u));
+    put_u16(v_r26_i_i772_i_i_i, v_r8_i699_sroa_0_0_insert_insert_i_i_i);
+    { p_v_a1_val4_i_i_i_i_i_i_i_i = v_r17_i_i770_i_i_i; goto L_pkcs1_private_key_written_OthersPartEncodeValue_pr; }
+L_else_2_i705_i_i_i:;
+    v_r75_i706_i_i_i = v_r2_i_i_i_i_i_i_i_i_i_i < 256u;
+    if (v_r75_i706_i_i_i) { goto L_then_4_i756_i_i_i; } else { goto L_else_5_i707_i_i_i; }
+L_then_4_i756_i_i_i:;
+    v_r80_i757_i_i_i = (u8)(v_r2_i_i_i_i_i_i_i_i_i_i);
+    v_r17_i28_i762_i_i_i = (u64)((u64)(v_r7_sroa_129_11_i_i_i) + (u64)(18446744073709551613ull));
+    v_r26_i30_i764_i_i_i = (P)((uintptr_t)v_r14 + (u64)(v_r17_i28_i762_i_i_i));
+    put_u8(v_r26_i30_i764_i_i_i, 48u);
+    v_r14_i700_sroa_4_0_r26_i30_i764_sroa_idx_i_i_i = v_r26_i30_i764_i_i_i + 1;
+    put_u8(v_r14_i700_sroa_4_0_r26_i30_i764_sroa_idx_i_i_i, 129u);
+    v_r14_i700_sroa_5_0_r26_i30_i764_sroa_idx_i_i_i = v_r26_i30_i764_i_i_i + 2;
+    put_u8(v_r14_i700_sroa_5_0_r26_i30_i764_sroa_idx_i_i_i, v_r80_i757_i_i_i);
+    { p_v_a1_val4_i_i_i_i_i_i_i_i = v_r17_i28_i762_i_i_i; goto L_pkcs1_private_key_written_OthersPartEncodeValue_pr; }
+L_else_5_i707_i_i_i:;
+    v_r92_i708_i_i_i = v_r2_i_i_i_i_i_i_i_i_i_i < 65536u;
+    if (v_r92_i708_i_i_i) { goto L_then_7_i744_i_i_i; } else { goto L_else_8_i709_i_i_i; }
+L_then_7_i744_i_i_i:;
+    v_r17_i46_i752_i_i_i = (u64)((u64)(v_r7_sroa_129_11_i_i_i) + (u64)(18446744073709551612ull));
+    v_r26_i48_i754_i_i_i = (P)((uintptr_t)v_r14 + (u64)(v_r17_i46_i752_i_i_i));
+    v_36 = (u32)((u32)(v_r2_i_i_i_i_i_i_i_i_i_i) | (u32)(813826048u));
+    v_r20_i701_sroa_0_0_insert_insert_i_i_i = __builtin_bswap32(v_36);
+    put_u32(v_r26_i48_i754_i_i_i, v_r20_i701_sroa_0_0_insert_insert_i_i_i);
+    { p_v_a1_val4_i_i_i_i_i_i_i_i = v_r17_i46_i752_i_i_i; goto L_pkcs1_private_key_written_OthersPartEncodeValue_pr; }
+L_else_8_i709_i_i_i:;
+    v_r117_i710_i_i_i = v_r2_i_i_i_i_i_i_i_i_i_i < 16777216u;
+    if (v_r117_i710_i_i_i) { goto L_then_10_i729_i_i_i; } else { goto L_else_11_i711_i_i_i; }
+L_then_10_i729_i_i_i:;
+    v_r12223_i730_i_i_i = (u32)((u32)(v_r2_i_i_i_i_i_i_i_i_i_i) >> (u32)((16u & 31)));
+    v_r124_i731_i_i_i = (u8)(v_r12223_i730_i_i_i);
+    v_r12624_i732_i_i_i = (u32)((u32)(v_r2_i_i_i_i_i_i_i_i_i_i) >> (u32)((8u & 31)));
+    v_r130_i733_i_i_i = (u8)(v_r12624_i732_i_i_i);
+    v_r134_i734_i_i_i = (u8)(v_r2_i_i_i_i_i_i_i_i_i_i);
+    v_r17_i64_i741_i_i_i = (u64)((u64)(v_r7_sroa_129_11_i_i_i) + (u64)(18446744073709551611ull));
+    v_r26_i66_i743_i_i_i = (P)((uintptr_t)v_r14 + (u64)(v_r17_i64_i741_i_i_i));
+    put_u8(v_r26_i66_i743_i_i_i, 48u);
+    v_r29_i702_sroa_4_0_r26_i66_i743_sroa_idx_i_i_i = v_r26_i66_i743_i_i_i + 1;
+    put_u8(v_r29_i702_sroa_4_0_r26_i66_i743_sroa_idx_i_i_i, 131u);
+    v_r29_i702_sroa_5_0_r26_i66_i743_sroa_idx_i_i_i = v_r26_i66_i743_i_i_i + 2;
+    put_u8(v_r29_i702_sroa_5_0_r26_i66_i743_sroa_idx_i_i_i, v_r124_i731_i_i_i);
+    v_r29_i702_sroa_6_0_r26_i66_i743_sroa_idx_i_i_i = v_r26_i66_i743_i_i_i + 3;
+    put_u8(v_r29_i702_sroa_6_0_r26_i66_i743_sroa_idx_i_i_i, v_r130_i733_i_i_i);
+    v_r29_i702_sroa_7_0_r26_i66_i743_sroa_idx_i_i_i = v_r26_i66_i743_i_i_i + 4;
+    put_u8(v_r29_i702_sroa_7_0_r26_i66_i743_sroa_idx_i_i_i, v_r134_i734_i_i_i);
+    { p_v_a1_val4_i_i_i_i_i_i_i_i = v_r17_i64_i741_i_i_i; goto L_pkcs1_private_key_written_OthersPartEncodeValue_pr; }
+L_else_11_i711_i_i_i:;
+    v_r15020_i712_i_i_i = (u32)((u32)(v_r2_i_i_i_i_i_i_i_i_i_i) >> (u32)((24u & 31)));
+    v_r152_i713_i_i_i = (u8)(v_r15020_i712_i_i_i);
+    v_r15421_i714_i_i_i = (u32)((u32)(v_r2_i_i_i_i_i_i_i_i_i_i) >> (u32)((16u & 31)));
+    v_r158_i715_i_i_i = (u8)(v_r15421_i714_i_i_i);
+    v_r16022_i716_i_i_i = (u32)((u32)(v_r2_i_i_i_i_i_i_i_i_i_i) >> (u32)((8u & 31)));
+    v_r164_i717_i_i_i = (u8)(v_r16022_i716_i_i_i);
+    v_r168_i718_i_i_i = (u8)(v_r2_i_i_i_i_i_i_i_i_i_i);
+    v_r17_i82_i726_i_i_i = (u64)((u64)(v_r7_sroa_129_11_i_i_i) + (u64)(18446744073709551610ull));
+    v_r26_i84_i728_i_i_i = (P)((uintptr_t)v_r14 + (u64)(v_r17_i82_i726_i_i_i));
+    put_u8(v_r26_i84_i728_i_i_i, 48u);
+    v_r40_i703_sroa_4_0_r26_i84_i728_sroa_idx_i_i_i = v_r26_i84_i728_i_i_i + 1;
+    put_u8(v_r40_i703_sroa_4_0_r26_i84_i728_sroa_idx_i_i_i, 132u);
+    v_r40_i703_sroa_5_0_r26_i84_i728_sroa_idx_i_i_i = v_r26_i84_i728_i_i_i + 2;
+    put_u8(v_r40_i703_sroa_5_0_r26_i84_i728_sroa_idx_i_i_i, v_r152_i713_i_i_i);
+    v_r40_i703_sroa_6_0_r26_i84_i728_sroa_idx_i_i_i = v_r26_i84_i728_i_i_i + 3;
+    put_u8(v_r40_i703_sroa_6_0_r26_i84_i728_sroa_idx_i_i_i, v_r158_i715_i_i_i);
+    v_r40_i703_sroa_7_0_r26_i84_i728_sroa_idx_i_i_i = v_r26_i84_i728_i_i_i + 4;
+    put_u8(v_r40_i703_sroa_7_0_r26_i84_i728_sroa_idx_i_i_i, v_r164_i717_i_i_i);
+    v_r40_i703_sroa_8_0_r26_i84_i728_sroa_idx_i_i_i = v_r26_i84_i728_i_i_i + 5;
+    put_u8(v_r40_i703_sroa_8_0_r26_i84_i728_sroa_idx_i_i_i, v_r168_i718_i_i_i);
+    { p_v_a1_val4_i_i_i_i_i_i_i_i = v_r17_i82_i726_i_i_i; goto L_pkcs1_private_key_written_OthersPartEncodeValue_pr; }
+L_pkcs1_private_key_written_OthersPartEncodeValue_pr:;
+    v_a1_val4_i_i_i_i_i_i_i_i = p_v_a1_val4_i_i_i_i_i_i_i_i;
+    v_r17_i_i_i_i_i_i_i_i_i_i = (u64)((u64)(v_a1_val4_i_i_i_i_i_i_i_i) - (u64)(v_r12_sroa_10_i1044_sroa_5_0_ph_i_i));
+    v_r26_i_i_i_i_i_i_i_i_i_i = (P)((uintptr_t)v_r14 + (u64)(v_r17_i_i_i_i_i_i_i_i_i_i));
     v_r8_i_i_i_i_i_i_i_i_i_i_i_i_i_i_i_i = (u64)((uintptr_t)v_r26_i_i_i_i_i_i_i_i_i_i);
-    v_r9_i_i_i_i_i_i_i_i_i_i_i_i_i_i_i_i = (u64)((uintptr_t)v_r1_sroa_0_0_copyload_i_i_i_i_i_i_i_i_i);
+    v_r9_i_i_i_i_i_i_i_i_i_i_i_i_i_i_i_i = (u64)((uintptr_t)v_r12_sroa_10_i1044_sroa_3_0_ph_i_i);
     v_r10_i_i_i_i_i_i_i_i_i_i_i_i_i_i_i_i = (u64)((u64)(v_r8_i_i_i_i_i_i_i_i_i_i_i_i_i_i_i_i) - (u64)(v_r9_i_i_i_i_i_i_i_i_i_i_i_i_i_i_i_i));
-    v_r11_i_i_i_i_i_i_i_i_i_i_i_i_i_i_i_i = v_r10_i_i_i_i_i_i_i_i_i_i_i_i_i_i_i_i < v_r1_sroa_3_0_copyload_i_i_i_i_i_i_i_i_i;
+    v_r11_i_i_i_i_i_i_i_i_i_i_i_i_i_i_i_i = v_r10_i_i_i_i_i_i_i_i_i_i_i_i_i_i_i_i < v_r12_sroa_10_i1044_sroa_5_0_ph_i_i;
     if (v_r11_i_i_i_i_i_i_i_i_i_i_i_i_i_i_i_i) { goto L_join_7_i_i_i_i_i_i_i_i_i_i_i_i_i_i_i_i_preheader; } else { goto L_apart_2_i_i_i_i_i_i_i_i_i_i_i_i_i_i_i_i; }
 L_join_7_i_i_i_i_i_i_i_i_i_i_i_i_i_i_i_i_preheader:;
-    v_xtraiter137 = (u64)((u64)(v_r1_sroa_3_0_copyload_i_i_i_i_i_i_i_i_i) & (u64)(3u));
-    v_37 = v_r1_sroa_3_0_copyload_i_i_i_i_i_i_i_i_i < 4u;
+    v_xtraiter184 = (u64)((u64)(v_r12_sroa_10_i1044_sroa_5_0_ph_i_i) & (u64)(3u));
+    v_37 = v_r12_sroa_10_i1044_sroa_5_0_ph_i_i < 4u;
     if (v_37) { p_v_r0_04_i_i_i_i_i_i_i_i_i_i_i_i_i_i_i_i_epil_init = 0u; goto L_join_7_i_i_i_i_i_i_i_i_i_i_i_i_i_i_i_i_epil_prehea; } else { goto L_join_7_i_i_i_i_i_i_i_i_i_i_i_i_i_i_i_i_preheader_n; }
 L_join_7_i_i_i_i_i_i_i_i_i_i_i_i_i_i_i_i_preheader_n:;
-    v_unroll_iter141 = (u64)((u64)(v_r1_sroa_3_0_copyload_i_i_i_i_i_i_i_i_i) & (u64)(18446744073709551612ull));
-    { p_v_r0_04_i_i_i_i_i_i_i_i_i_i_i_i_i_i_i_i = 0u; p_v_niter142 = 0u; goto L_join_7_i_i_i_i_i_i_i_i_i_i_i_i_i_i_i_i; }
+    v_unroll_iter188 = (u64)((u64)(v_r12_sroa_10_i1044_sroa_5_0_ph_i_i) & (u64)(4294967292ull));
+    { p_v_r0_04_i_i_i_i_i_i_i_i_i_i_i_i_i_i_i_i = 0u; p_v_niter189 = 0u; goto L_join_7_i_i_i_i_i_i_i_i_i_i_i_i_i_i_i_i; }
 L_apart_2_i_i_i_i_i_i_i_i_i_i_i_i_i_i_i_i:;
-    move(v_r26_i_i_i_i_i_i_i_i_i_i, v_r1_sroa_0_0_copyload_i_i_i_i_i_i_i_i_i, v_r1_sroa_3_0_copyload_i_i_i_i_i_i_i_i_i);
+    move(v_r26_i_i_i_i_i_i_i_i_i_i, v_r12_sroa_10_i1044_sroa_3_0_ph_i_i, v_r12_sroa_10_i1044_sroa_5_0_ph_i_i);
     { goto L_der_core_back_writer_BackWriter_prepend_exit_i_i_i__7; }
 L_join_7_i_i_i_i_i_i_i_i_i_i_i_i_i_i_i_i:;
     v_r0_04_i_i_i_i_i_i_i_i_i_i_i_i_i_i_i_i = p_v_r0_04_i_i_i_i_i_i_i_i_i_i_i_i_i_i_i_i;
-    v_niter142 = p_v_niter142;
+    v_niter189 = p_v_niter189;
     v_r20_i_i_i_i_i_i_i_i_i_i_i_i_i_i_i_i = v_r26_i_i_i_i_i_i_i_i_i_i + (int64_t)(v_r0_04_i_i_i_i_i_i_i_i_i_i_i_i_i_i_i_i);
-    v_r24_i_i_i_i_i_i_i_i_i_i_i_i_i_i_i_i = v_r1_sroa_0_0_copyload_i_i_i_i_i_i_i_i_i + (int64_t)(v_r0_04_i_i_i_i_i_i_i_i_i_i_i_i_i_i_i_i);
+    v_r24_i_i_i_i_i_i_i_i_i_i_i_i_i_i_i_i = v_r12_sroa_10_i1044_sroa_3_0_ph_i_i + (int64_t)(v_r0_04_i_i_i_i_i_i_i_i_i_i_i_i_i_i_i_i);
     v_r26_i_i_i_i_i_i_i_i_i_i_i_i_i_i_i_i = get_u8(v_r24_i_i_i_i_i_i_i_i_i_i_i_i_i_i_i_i);
     put_u8(v_r20_i_i_i_i_i_i_i_i_i_i_i_i_i_i_i_i, v_r26_i_i_i_i_i_i_i_i_i_i_i_i_i_i_i_i);
     v_r30_i_i_i_i_i_i_i_i_i_i_i_i_i_i_i_i = (u64)((u64)(v_r0_04_i_i_i_i_i_i_i_i_i_i_i_i_i_i_i_i) | (u64)(1u));
     v_r20_i_i_i_i_i_i_i_i_i_i_i_i_i_i_i_i_1 = v_r26_i_i_i_i_i_i_i_i_i_i + (int64_t)(v_r30_i_i_i_i_i_i_i_i_i_i_i_i_i_i_i_i);
-    v_r24_i_i_i_i_i_i_i_i_i_i_i_i_i_i_i_i_1 = v_r1_sroa_0_0_copyload_i_i_i_i_i_i_i_i_i + (int64_t)(v_r30_i_i_i_i_i_i_i_i_i_i_i_i_i_i_i_i);
+    v_r24_i_i_i_i_i_i_i_i_i_i_i_i_i_i_i_i_1 = v_r12_sroa_10_i1044_sroa_3_0_ph_i_i + (int64_t)(v_r30_i_i_i_i_i_i_i_i_i_i_i_i_i_i_i_i);
     v_r26_i_i_i_i_i_i_i_i_i_i_i_i_i_i_i_i_1 = get_u8(v_r24_i_i_i_i_i_i_i_i_i_i_i_i_i_i_i_i_1);
     put_u8(v_r20_i_i_i_i_i_i_i_i_i_i_i_i_i_i_i_i_1, v_r26_i_i_i_i_i_i_i_i_i_i_i_i_i_i_i_i_1);
     v_r30_i_i_i_i_i_i_i_i_i_i_i_i_i_i_i_i_1 = (u64)((u64)(v_r0_04_i_i_i_i_i_i_i_i_i_i_i_i_i_i_i_i) | (u64)(2u));
     v_r20_i_i_i_i_i_i_i_i_i_i_i_i_i_i_i_i_2 = v_r26_i_i_i_i_i_i_i_i_i_i + (int64_t)(v_r30_i_i_i_i_i_i_i_i_i_i_i_i_i_i_i_i_1);
-    v_r24_i_i_i_i_i_i_i_i_i_i_i_i_i_i_i_i_2 = v_r1_sroa_0_0_copyload_i_i_i_i_i_i_i_i_i + (int64_t)(v_r30_i_i_i_i_i_i_i_i_i_i_i_i_i_i_i_i_1);
+    v_r24_i_i_i_i_i_i_i_i_i_i_i_i_i_i_i_i_2 = v_r12_sroa_10_i1044_sroa_3_0_ph_i_i + (int64_t)(v_r30_i_i_i_i_i_i_i_i_i_i_i_i_i_i_i_i_1);
     v_r26_i_i_i_i_i_i_i_i_i_i_i_i_i_i_i_i_2 = get_u8(v_r24_i_i_i_i_i_i_i_i_i_i_i_i_i_i_i_i_2);
     put_u8(v_r20_i_i_i_i_i_i_i_i_i_i_i_i_i_i_i_i_2, v_r26_i_i_i_i_i_i_i_i_i_i_i_i_i_i_i_i_2);
     v_r30_i_i_i_i_i_i_i_i_i_i_i_i_i_i_i_i_2 = (u64)((u64)(v_r0_04_i_i_i_i_i_i_i_i_i_i_i_i_i_i_i_i) | (u64)(3u));
     v_r20_i_i_i_i_i_i_i_i_i_i_i_i_i_i_i_i_3 = v_r26_i_i_i_i_i_i_i_i_i_i + (int64_t)(v_r30_i_i_i_i_i_i_i_i_i_i_i_i_i_i_i_i_2);
-    v_r24_i_i_i_i_i_i_i_i_i_i_i_i_i_i_i_i_3 = v_r1_sroa_0_0_copyload_i_i_i_i_i_i_i_i_i + (int64_t)(v_r30_i_i_i_i_i_i_i_i_i_i_i_i_i_i_i_i_2);
+    v_r24_i_i_i_i_i_i_i_i_i_i_i_i_i_i_i_i_3 = v_r12_sroa_10_i1044_sroa_3_0_ph_i_i + (int64_t)(v_r30_i_i_i_i_i_i_i_i_i_i_i_i_i_i_i_i_2);
     v_r26_i_i_i_i_i_i_i_i_i_i_i_i_i_i_i_i_3 = get_u8(v_r24_i_i_i_i_i_i_i_i_i_i_i_i_i_i_i_i_3);
     put_u8(v_r20_i_i_i_i_i_i_i_i_i_i_i_i_i_i_i_i_3, v_r26_i_i_i_i_i_i_i_i_i_i_i_i_i_i_i_i_3);
     v_r30_i_i_i_i_i_i_i_i_i_i_i_i_i_i_i_i_3 = (u64)((u64)(v_r0_04_i_i_i_i_i_i_i_i_i_i_i_i_i_i_i_i) + (u64)(4u));
-    v_niter142_next_3 = (u64)((u64)(v_niter142) + (u64)(4u));
-    v_niter142_ncmp_3 = v_niter142_next_3 == v_unroll_iter141;
-    if (v_niter142_ncmp_3) { goto L_der_core_back_writer_BackWriter_prepend_exit_i_i_i__8; } else { p_v_r0_04_i_i_i_i_i_i_i_i_i_i_i_i_i_i_i_i = v_r30_i_i_i_i_i_i_i_i_i_i_i_i_i_i_i_i_3; p_v_niter142 = v_niter142_next_3; goto L_join_7_i_i_i_i_i_i_i_i_i_i_i_i_i_i_i_i; }
+    v_niter189_next_3 = (u64)((u64)(v_niter189) + (u64)(4u));
+    v_niter189_ncmp_3 = v_niter189_next_3 == v_unroll_iter188;
+    if (v_niter189_ncmp_3) { goto L_der_core_back_writer_BackWriter_prepend_exit_i_i_i__8; } else { p_v_r0_04_i_i_i_i_i_i_i_i_i_i_i_i_i_i_i_i = v_r30_i_i_i_i_i_i_i_i_i_i_i_i_i_i_i_i_3; p_v_niter189 = v_niter189_next_3; goto L_join_7_i_i_i_i_i_i_i_i_i_i_i_i_i_i_i_i; }
 L_der_core_back_writer_BackWriter_prepend_exit_i_i_i__8:;
-    v_lcmp_mod139_not = v_xtraiter137 == 0u;
-    if (v_lcmp_mod139_not) { goto L_der_core_back_writer_BackWriter_prepend_exit_i_i_i__7; } else { p_v_r0_04_i_i_i_i_i_i_i_i_i_i_i_i_i_i_i_i_epil_init = v_r30_i_i_i_i_i_i_i_i_i_i_i_i_i_i_i_i_3; goto L_join_7_i_i_i_i_i_i_i_i_i_i_i_i_i_i_i_i_epil_prehea; }
+    v_lcmp_mod186_not = v_xtraiter184 == 0u;
+    if (v_lcmp_mod186_not) { goto L_der_core_back_writer_BackWriter_prepend_exit_i_i_i__7; } else { p_v_r0_04_i_i_i_i_i_i_i_i_i_i_i_i_i_i_i_i_epil_init = v_r30_i_i_i_i_i_i_i_i_i_i_i_i_i_i_i_i_3; goto L_join_7_i_i_i_i_i_i_i_i_i_i_i_i_i_i_i_i_epil_prehea; }
 L_join_7_i_i_i_i_i_i_i_i_i_i_i_i_i_i_i_i_epil_prehea:;
     v_r0_04_i_i_i_i_i_i_i_i_i_i_i_i_i_i_i_i_epil_init = p_v_r0_04_i_i_i_i_i_i_i_i_i_i_i_i_i_i_i_i_epil_init;
-    { p_v_r0_04_i_i_i_i_i_i_i_i_i_i_i_i_i_i_i_i_epil = v_r0_04_i_i_i_i_i_i_i_i_i_i_i_i_i_i_i_i_epil_init; p_v_epil_iter138 = 0u; goto L_join_7_i_i_i_i_i_i_i_i_i_i_i_i_i_i_i_i_epil; }
+    { p_v_r0_04_i_i_i_i_i_i_i_i_i_i_i_i_i_i_i_i_epil = v_r0_04_i_i_i_i_i_i_i_i_i_i_i_i_i_i_i_i_epil_init; p_v_epil_iter185 = 0u; goto L_join_7_i_i_i_i_i_i_i_i_i_i_i_i_i_i_i_i_epil; }
 L_join_7_i_i_i_i_i_i_i_i_i_i_i_i_i_i_i_i_epil:;
     v_r0_04_i_i_i_i_i_i_i_i_i_i_i_i_i_i_i_i_epil = p_v_r0_04_i_i_i_i_i_i_i_i_i_i_i_i_i_i_i_i_epil;
-    v_epil_iter138 = p_v_epil_iter138;
+    v_epil_iter185 = p_v_epil_iter185;
     v_r20_i_i_i_i_i_i_i_i_i_i_i_i_i_i_i_i_epil = v_r26_i_i_i_i_i_i_i_i_i_i + (int64_t)(v_r0_04_i_i_i_i_i_i_i_i_i_i_i_i_i_i_i_i_epil);
-    v_r24_i_i_i_i_i_i_i_i_i_i_i_i_i_i_i_i_epil = v_r1_sroa_0_0_copyload_i_i_i_i_i_i_i_i_i + (int64_t)(v_r0_04_i_i_i_i_i_i_i_i_i_i_i_i_i_i_i_i_epil);
+    v_r24_i_i_i_i_i_i_i_i_i_i_i_i_i_i_i_i_epil = v_r12_sroa_10_i1044_sroa_3_0_ph_i_i + (int64_t)(v_r0_04_i_i_i_i_i_i_i_i_i_i_i_i_i_i_i_i_epil);
     v_r26_i_i_i_i_i_i_i_i_i_i_i_i_i_i_i_i_epil = get_u8(v_r24_i_i_i_i_i_i_i_i_i_i_i_i_i_i_i_i_epil);
     put_u8(v_r20_i_i_i_i_i_i_i_i_i_i_i_i_i_i_i_i_epil, v_r26_i_i_i_i_i_i_i_i_i_i_i_i_i_i_i_i_epil);
     v_r30_i_i_i_i_i_i_i_i_i_i_i_i_i_i_i_i_epil = (u64)((u64)(v_r0_04_i_i_i_i_i_i_i_i_i_i_i_i_i_i_i_i_epil) + (u64)(1u));
-    v_epil_iter138_next = (u64)((u64)(v_epil_iter138) + (u64)(1u));
-    v_epil_iter138_cmp_not = v_epil_iter138_next == v_xtraiter137;
-    if (v_epil_iter138_cmp_not) { goto L_der_core_back_writer_BackWriter_prepend_exit_i_i_i__7; } else { p_v_r0_04_i_i_i_i_i_i_i_i_i_i_i_i_i_i_i_i_epil = v_r30_i_i_i_i_i_i_i_i_i_i_i_i_i_i_i_i_epil; p_v_epil_iter138 = v_epil_iter138_next; goto L_join_7_i_i_i_i_i_i_i_i_i_i_i_i_i_i_i_i_epil; }
+    v_epil_iter185_next = (u64)((u64)(v_epil_iter185) + (u64)(1u));
+    v_epil_iter185_cmp_not = v_epil_iter185_next == v_xtraiter184;
+    if (v_epil_iter185_cmp_not) { goto L_der_core_back_writer_BackWriter_prepend_exit_i_i_i__7; } else { p_v_r0_04_i_i_i_i_i_i_i_i_i_i_i_i_i_i_i_i_epil = v_r30_i_i_i_i_i_i_i_i_i_i_i_i_i_i_i_i_epil; p_v_epil_iter185 = v_epil_iter185_next; goto L_join_7_i_i_i_i_i_i_i_i_i_i_i_i_i_i_i_i_epil; }
 L_der_core_back_writer_BackWriter_prepend_exit_i_i_i__7:;
-    v_r12_i_i_i_i_i_i_i_i_i = v_r21_val_i_i_i_i_i_i + 16;
-    v_r13_i_i_i_i_i_i_i_i_i = get_u64(v_r12_i_i_i_i_i_i_i_i_i);
-    v_r15_not_i_i_i_i_i_i_i_i_i = v_r13_i_i_i_i_i_i_i_i_i == 0u;
-    if (v_r15_not_i_i_i_i_i_i_i_i_i) { p_v_r7_sroa_66_2_i_i_i = v_r17_i_i_i_i_i5_i_i_i_i_i; goto L_der_core_borrowed_BorrowedEncode_prepend_25cd36d81__3; } else { goto L_then_1_i_i_i_i_i_i_i_i_i; }
+    v_r15_not_i_i_i_i_i_i_i_i_i = (u8)(v_r20_i355_i_i ^ ((u8)1 << 7)) > (u8)(255u ^ ((u8)1 << 7));
+    if (v_r15_not_i_i_i_i_i_i_i_i_i) { p_v_r7_sroa_129_0_i_i_i = v_r17_i_i_i_i_i_i_i_i_i_i; goto L_der_core_borrowed_BorrowedEncode_prepend_25cd36d81__3; } else { goto L_then_1_i_i_i_i_i_i_i_i_i; }
 L_then_1_i_i_i_i_i_i_i_i_i:;
-    v_r17_i3_i_i_i_i_i_i_i_i_i = (u64)((u64)(v_r17_i_i_i_i_i5_i_i_i_i_i) + (u64)(18446744073709551615ull));
+    v_r17_i3_i_i_i_i_i_i_i_i_i = (u64)((u64)(v_r17_i_i_i_i_i_i_i_i_i_i) + (u64)(18446744073709551615ull));
     v_r26_i5_i_i_i_i_i_i_i_i_i = (P)((uintptr_t)v_r14 + (u64)(v_r17_i3_i_i_i_i_i_i_i_i_i));
     put_u8(v_r26_i5_i_i_i_i_i_i_i_i_i, 0u);
-    { p_v_r7_sroa_66_2_i_i_i = v_r17_i3_i_i_i_i_i_i_i_i_i; goto L_der_core_borrowed_BorrowedEncode_prepend_25cd36d81__3; }
+    { p_v_r7_sroa_129_0_i_i_i = v_r17_i3_i_i_i_i_i_i_i_i_i; goto L_der_core_borrowed_BorrowedEncode_prepend_25cd36d81__3; }
 L_der_core_borrowed_BorrowedEncode_prepend_25cd36d81__3:;
-    v_r7_sroa_66_2_i_i_i = p_v_r7_sroa_66_2_i_i_i;
-    v_38 = (u64)((u64)(v_r7_sroa_66_2_i_i_i) + (u64)(v_r3_i5_i_i_i));
-    v_39 = (u64)((u64)(v_r7_sroa_66_1_i_i_i) - (u64)(v_38));
+    v_r7_sroa_129_0_i_i_i = p_v_r7_sroa_129_0_i_i_i;
+    v_38 = (u64)((u64)(v_r7_sroa_129_0_i_i_i) + (u64)(v_r3_i5_i_i_i));
+    v_39 = (u64)((u64)(v_a1_val4_i_i_i_i_i_i_i_i) - (u64)(v_38));
     v_40 = (u32)(v_39);
     v_r2_i_i_i_i_i_i_i_i_i = (u32)((u32)(v_r1_sroa_9_4_copyload_i_i_i_i) + (u32)(v_40));
-    v_r59_i94_i_i_i = v_r2_i_i_i_i_i_i_i_i_i < 128u;
-    if (v_r59_i94_i_i_i) { goto L_then_1_i155_i_i_i; } else { goto L_else_2_i95_i_i_i; }
-L_then_1_i155_i_i_i:;
-    v_r64_i156_i_i_i = (u16)(v_r2_i_i_i_i_i_i_i_i_i);
-    v_r17_i_i160_i_i_i = (u64)((u64)(v_r7_sroa_66_2_i_i_i) + (u64)(18446744073709551614ull));
-    v_r26_i_i162_i_i_i = (P)((uintptr_t)v_r14 + (u64)(v_r17_i_i160_i_i_i));
-    v_r8_i89_sroa_4_0_insert_shift_i_i_i = (u16)((u32)(v_r64_i156_i_i_i) << (u32)((8u & 31)));
-    v_r8_i89_sroa_0_0_insert_insert_i_i_i = (u16)((u32)(v_r8_i89_sroa_4_0_insert_shift_i_i_i) | (u32)(2u));
-    put_u16(v_r26_i_i162_i_i_i, v_r8_i89_sroa_0_0_insert_insert_i_i_i);
-    { p_v_r7_sroa_66_9_i_i_i = v_r17_i_i160_i_i_i; goto L_der_core_back_writer_BackWriter_prepend_header_exi__5; }
-L_else_2_i95_i_i_i:;
-    v_r75_i96_i_i_i = v_r2_i_i_i_i_i_i_i_i_i < 256u;
-    if (v_r75_i96_i_i_i) { goto L_then_4_i146_i_i_i; } else { goto L_else_5_i97_i_i_i; }
-L_then_4_i146_i_i_i:;
-    v_r80_i147_i_i_i = (u8)(v_r2_i_i_i_i_i_i_i_i_i);
-    v_r17_i28_i152_i_i_i = (u64)((u64)(v_r7_sroa_66_2_i_i_i) + (u64)(18446744073709551613ull));
-    v_r26_i30_i154_i_i_i = (P)((uintptr_t)v_r14 + (u64)(v_r17_i28_i152_i_i_i));
-    put_u8(v_r26_i30_i154_i_i_i, 2u);
-    v_r14_i90_sroa_4_0_r26_i30_i154_sroa_idx_i_i_i = v_r26_i30_i154_i_i_i + 1;
-    put_u8(v_r14_i90_sroa_4_0_r26_i30_i154_sroa_idx_i_i_i, 129u);
-    v_r14_i90_sroa_5_0_r26_i30_i154_sroa_idx_i_i_i = v_r26_i30_i154_i_i_i + 2;
-    put_u8(v_r14_i90_sroa_5_0_r26_i30_i154_sroa_idx_i_i_i, v_r80_i147_i_i_i);
-    { p_v_r7_sroa_66_9_i_i_i = v_r17_i28_i152_i_i_i; goto L_der_core_back_writer_BackWriter_prepend_header_exi__5; }
-L_else_5_i97_i_i_i:;
-    v_r92_i98_i_i_i = v_r2_i_i_i_i_i_i_i_i_i < 65536u;
-    if (v_r92_i98_i_i_i) { goto L_then_7_i134_i_i_i; } else { goto L_else_8_i99_i_i_i; }
-L_then_7_i134_i_i_i:;
-    v_r17_i46_i142_i_i_i = (u64)((u64)(v_r7_sroa_66_2_i_i_i) + (u64)(18446744073709551612ull));
-    v_r26_i48_i144_i_i_i = (P)((uintptr_t)v_r14 + (u64)(v_r17_i46_i142_i_i_i));
+    v_r59_i628_i_i_i = v_r2_i_i_i_i_i_i_i_i_i < 128u;
+    if (v_r59_i628_i_i_i) { goto L_then_1_i689_i_i_i; } else { goto L_else_2_i629_i_i_i; }
+L_then_1_i689_i_i_i:;
+    v_r64_i690_i_i_i = (u16)(v_r2_i_i_i_i_i_i_i_i_i);
+    v_r17_i_i694_i_i_i = (u64)((u64)(v_r7_sroa_129_0_i_i_i) + (u64)(18446744073709551614ull));
+    v_r26_i_i696_i_i_i = (P)((uintptr_t)v_r14 + (u64)(v_r17_i_i694_i_i_i));
+    v_r8_i623_sroa_4_0_insert_shift_i_i_i = (u16)((u32)(v_r64_i690_i_i_i) << (u32)((8u & 31)));
+    v_r8_i623_sroa_0_0_insert_insert_i_i_i = (u16)((u32)(v_r8_i623_sroa_4_0_insert_shift_i_i_i) | (u32)(2u));
+    put_u16(v_r26_i_i696_i_i_i, v_r8_i623_sroa_0_0_insert_insert_i_i_i);
+    { p_v_r7_sroa_129_21_i_i_i = v_r17_i_i694_i_i_i; goto L_der_core_back_writer_BackWriter_prepend_header_exi__5; }
+L_else_2_i629_i_i_i:;
+    v_r75_i630_i_i_i = v_r2_i_i_i_i_i_i_i_i_i < 256u;
+    if (v_r75_i630_i_i_i) { goto L_then_4_i680_i_i_i; } else { goto L_else_5_i631_i_i_i; }
+L_then_4_i680_i_i_i:;
+    v_r80_i681_i_i_i = (u8)(v_r2_i_i_i_i_i_i_i_i_i);
+    v_r17_i28_i686_i_i_i = (u64)((u64)(v_r7_sroa_129_0_i_i_i) + (u64)(18446744073709551613ull));
+    v_r26_i30_i688_i_i_i = (P)((uintptr_t)v_r14 + (u64)(v_r17_i28_i686_i_i_i));
+    put_u8(v_r26_i30_i688_i_i_i, 2u);
+    v_r14_i624_sroa_4_0_r26_i30_i688_sroa_idx_i_i_i = v_r26_i30_i688_i_i_i + 1;
+    put_u8(v_r14_i624_sroa_4_0_r26_i30_i688_sroa_idx_i_i_i, 129u);
+    v_r14_i624_sroa_5_0_r26_i30_i688_sroa_idx_i_i_i = v_r26_i30_i688_i_i_i + 2;
+    put_u8(v_r14_i624_sroa_5_0_r26_i30_i688_sroa_idx_i_i_i, v_r80_i681_i_i_i);
+    { p_v_r7_sroa_129_21_i_i_i = v_r17_i28_i686_i_i_i; goto L_der_core_back_writer_BackWriter_prepend_header_exi__5; }
+L_else_5_i631_i_i_i:;
+    v_r92_i632_i_i_i = v_r2_i_i_i_i_i_i_i_i_i < 65536u;
+    if (v_r92_i632_i_i_i) { goto L_then_7_i668_i_i_i; } else { goto L_else_8_i633_i_i_i; }
+L_then_7_i668_i_i_i:;
+    v_r17_i46_i676_i_i_i = (u64)((u64)(v_r7_sroa_129_0_i_i_i) + (u64)(18446744073709551612ull));
+    v_r26_i48_i678_i_i_i = (P)((uintptr_t)v_r14 + (u64)(v_r17_i46_i676_i_i_i));
     v_41 = (u32)((u32)(v_r2_i_i_i_i_i_i_i_i_i) | (u32)(42074112u));
-    v_r20_i91_sroa_0_0_insert_insert_i_i_i = __builtin_bswap32(v_41);
-    put_u32(v_r26_i48_i144_i_i_i, v_r20_i91_sroa_0_0_insert_insert_i_i_i);
-    { p_v_r7_sroa_66_9_i_i_i = v_r17_i46_i142_i_i_i; goto L_der_core_back_writer_BackWriter_prepend_header_exi__5; }
-L_else_8_i99_i_i_i:;
-    v_r117_i100_i_i_i = v_r2_i_i_i_i_i_i_i_i_i < 16777216u;
-    if (v_r117_i100_i_i_i) { goto L_then_10_i119_i_i_i; } else { goto L_else_11_i101_i_i_i; }
-L_then_10_i119_i_i_i:;
-    v_r12223_i120_i_i_i = (u32)((u32)(v_r2_i_i_i_i_i_i_i_i_i) >> (u32)((16u & 31)));
-    v_r124_i121_i_i_i = (u8)(v_r12223_i120_i_i_i);
-    v_r12624_i122_i_i_i = (u32)((u32)(v_r2_i_i_i_i_i_i_i_i_i) >> (u32)((8u & 31)));
-    v_r130_i123_i_i_i = (u8)(v_r12624_i122_i_i_i);
-    v_r134_i124_i_i_i = (u8)(v_r2_i_i_i_i_i_i_i_i_i);
-    v_r17_i64_i131_i_i_i = (u64)((u64)(v_r7_sroa_66_2_i_i_i) + (u64)(18446744073709551611ull));
-    v_r26_i66_i133_i_i_i = (P)((uintptr_t)v_r14 + (u64)(v_r17_i64_i131_i_i_i));
-    put_u8(v_r26_i66_i133_i_i_i, 2u);
-    v_r29_i92_sroa_4_0_r26_i66_i133_sroa_idx_i_i_i = v_r26_i66_i133_i_i_i + 1;
-    put_u8(v_r29_i92_sroa_4_0_r26_i66_i133_sroa_idx_i_i_i, 131u);
-    v_r29_i92_sroa_5_0_r26_i66_i133_sroa_idx_i_i_i = v_r26_i66_i133_i_i_i + 2;
-    put_u8(v_r29_i92_sroa_5_0_r26_i66_i133_sroa_idx_i_i_i, v_r124_i121_i_i_i);
-    v_r29_i92_sroa_6_0_r26_i66_i133_sroa_idx_i_i_i = v_r26_i66_i133_i_i_i + 3;
-    put_u8(v_r29_i92_sroa_6_0_r26_i66_i133_sroa_idx_i_i_i, v_r130_i123_i_i_i);
-    v_r29_i92_sroa_7_0_r26_i66_i133_sroa_idx_i_i_i = v_r26_i66_i133_i_i_i + 4;
-    put_u8(v_r29_i92_sroa_7_0_r26_i66_i133_sroa_idx_i_i_i, v_r134_i124_i_i_i);
-    { p_v_r7_sroa_66_9_i_i_i = v_r17_i64_i131_i_i_i; goto L_der_core_back_writer_BackWriter_prepend_header_exi__5; }
-L_else_11_i101_i_i_i:;
-    v_r15020_i102_i_i_i = (u32)((u32)(v_r2_i_i_i_i_i_i_i_i_i) >> (u32)((24u & 31)));
-    v_r152_i103_i_i_i = (u8)(v_r15020_i102_i_i_i);
-    v_r15421_i104_i_i_i = (u32)((u32)(v_r2_i_i_i_i_i_i_i_i_i) >> (u32)((16u & 31)));
-    v_r158_i105_i_i_i = (u8)(v_r15421_i104_i_i_i);
-    v_r16022_i106_i_i_i = (u32)((u32)(v_r2_i_i_i_i_i_i_i_i_i) >> (u32)((8u & 31)));
-    v_r164_i107_i_i_i = (u8)(v_r16022_i106_i_i_i);
-    v_r168_i108_i_i_i = (u8)(v_r2_i_i_i_i_i_i_i_i_i);
-    v_r17_i82_i116_i_i_i = (u64)((u64)(v_r7_sroa_66_2_i_i_i) + (u64)(18446744073709551610ull));
-    v_r26_i84_i118_i_i_i = (P)((uintptr_t)v_r14 + (u64)(v_r17_i82_i116_i_i_i));
-    put_u8(v_r26_i84_i118_i_i_i, 2u);
-    v_r40_i93_sroa_4_0_r26_i84_i118_sroa_idx_i_i_i = v_r26_i84_i118_i_i_i + 1;
-    put_u8(v_r40_i93_sroa_4_0_r26_i84_i118_sroa_idx_i_i_i, 132u);
-    v_r40_i93_sroa_5_0_r26_i84_i118_sroa_idx_i_i_i = v_r26_i84_i118_i_i_i + 2;
-    put_u8(v_r40_i93_sroa_5_0_r26_i84_i118_sroa_idx_i_i_i, v_r152_i103_i_i_i);
-    v_r40_i93_sroa_6_0_r26_i84_i118_sroa_idx_i_i_i = v_r26_i84_i118_i_i_i + 3;
-    put_u8(v_r40_i93_sroa_6_0_r26_i84_i118_sroa_idx_i_i_i, v_r158_i105_i_i_i);
-    v_r40_i93_sroa_7_0_r26_i84_i118_sroa_idx_i_i_i = v_r26_i84_i118_i_i_i + 4;
-    put_u8(v_r40_i93_sroa_7_0_r26_i84_i118_sroa_idx_i_i_i, v_r164_i107_i_i_i);
-    v_r40_i93_sroa_8_0_r26_i84_i118_sroa_idx_i_i_i = v_r26_i84_i118_i_i_i + 5;
-    put_u8(v_r40_i93_sroa_8_0_r26_i84_i118_sroa_idx_i_i_i, v_r168_i108_i_i_i);
-    { p_v_r7_sroa_66_9_i_i_i = v_r17_i82_i116_i_i_i; goto L_der_core_back_writer_BackWriter_prepend_header_exi__5; }
+    v_r20_i625_sroa_0_0_insert_insert_i_i_i = __builtin_bswap32(v_41);
+    put_u32(v_r26_i48_i678_i_i_i, v_r20_i625_sroa_0_0_insert_insert_i_i_i);
+    { p_v_r7_sroa_129_21_i_i_i = v_r17_i46_i676_i_i_i; goto L_der_core_back_writer_BackWriter_prepend_header_exi__5; }
+L_else_8_i633_i_i_i:;
+    v_r117_i634_i_i_i = v_r2_i_i_i_i_i_i_i_i_i < 16777216u;
+    if (v_r117_i634_i_i_i) { goto L_then_10_i653_i_i_i; } else { goto L_else_11_i635_i_i_i; }
+L_then_10_i653_i_i_i:;
+    v_r12223_i654_i_i_i = (u32)((u32)(v_r2_i_i_i_i_i_i_i_i_i) >> (u32)((16u & 31)));
+    v_r124_i655_i_i_i = (u8)(v_r12223_i654_i_i_i);
+    v_r12624_i656_i_i_i = (u32)((u32)(v_r2_i_i_i_i_i_i_i_i_i) >> (u32)((8u & 31)));
+    v_r130_i657_i_i_i = (u8)(v_r12624_i656_i_i_i);
+    v_r134_i658_i_i_i = (u8)(v_r2_i_i_i_i_i_i_i_i_i);
+    v_r17_i64_i665_i_i_i = (u64)((u64)(v_r7_sroa_129_0_i_i_i) + (u64)(18446744073709551611ull));
+    v_r26_i66_i667_i_i_i = (P)((uintptr_t)v_r14 + (u64)(v_r17_i64_i665_i_i_i));
+    put_u8(v_r26_i66_i667_i_i_i, 2u);
+    v_r29_i626_sroa_4_0_r26_i66_i667_sroa_idx_i_i_i = v_r26_i66_i667_i_i_i + 1;
+    put_u8(v_r29_i626_sroa_4_0_r26_i66_i667_sroa_idx_i_i_i, 131u);
+    v_r29_i626_sroa_5_0_r26_i66_i667_sroa_idx_i_i_i = v_r26_i66_i667_i_i_i + 2;
+    put_u8(v_r29_i626_sroa_5_0_r26_i66_i667_sroa_idx_i_i_i, v_r124_i655_i_i_i);
+    v_r29_i626_sroa_6_0_r26_i66_i667_sroa_idx_i_i_i = v_r26_i66_i667_i_i_i + 3;
+    put_u8(v_r29_i626_sroa_6_0_r26_i66_i667_sroa_idx_i_i_i, v_r130_i657_i_i_i);
+    v_r29_i626_sroa_7_0_r26_i66_i667_sroa_idx_i_i_i = v_r26_i66_i667_i_i_i + 4;
+    put_u8(v_r29_i626_sroa_7_0_r26_i66_i667_sroa_idx_i_i_i, v_r134_i658_i_i_i);
+    { p_v_r7_sroa_129_21_i_i_i = v_r17_i64_i665_i_i_i; goto L_der_core_back_writer_BackWriter_prepend_header_exi__5; }
+L_else_11_i635_i_i_i:;
+    v_r15020_i636_i_i_i = (u32)((u32)(v_r2_i_i_i_i_i_i_i_i_i) >> (u32)((24u & 31)));
+    v_r152_i637_i_i_i = (u8)(v_r15020_i636_i_i_i);
+    v_r15421_i638_i_i_i = (u32)((u32)(v_r2_i_i_i_i_i_i_i_i_i) >> (u32)((16u & 31)));
+    v_r158_i639_i_i_i = (u8)(v_r15421_i638_i_i_i);
+    v_r16022_i640_i_i_i = (u32)((u32)(v_r2_i_i_i_i_i_i_i_i_i) >> (u32)((8u & 31)));
+    v_r164_i641_i_i_i = (u8)(v_r16022_i640_i_i_i);
+    v_r168_i642_i_i_i = (u8)(v_r2_i_i_i_i_i_i_i_i_i);
+    v_r17_i82_i650_i_i_i = (u64)((u64)(v_r7_sroa_129_0_i_i_i) + (u64)(18446744073709551610ull));
+    v_r26_i84_i652_i_i_i = (P)((uintptr_t)v_r14 + (u64)(v_r17_i82_i650_i_i_i));
+    put_u8(v_r26_i84_i652_i_i_i, 2u);
+    v_r40_i627_sroa_4_0_r26_i84_i652_sroa_idx_i_i_i = v_r26_i84_i652_i_i_i + 1;
+    put_u8(v_r40_i627_sroa_4_0_r26_i84_i652_sroa_idx_i_i_i, 132u);
+    v_r40_i627_sroa_5_0_r26_i84_i652_sroa_idx_i_i_i = v_r26_i84_i652_i_i_i + 2;
+    put_u8(v_r40_i627_sroa_5_0_r26_i84_i652_sroa_idx_i_i_i, v_r152_i637_i_i_i);
+    v_r40_i627_sroa_6_0_r26_i84_i652_sroa_idx_i_i_i = v_r26_i84_i652_i_i_i + 3;
+    put_u8(v_r40_i627_sroa_6_0_r26_i84_i652_sroa_idx_i_i_i, v_r158_i639_i_i_i);
+    v_r40_i627_sroa_7_0_r26_i84_i652_sroa_idx_i_i_i = v_r26_i84_i652_i_i_i + 4;
+    put_u8(v_r40_i627_sroa_7_0_r26_i84_i652_sroa_idx_i_i_i, v_r164_i641_i_i_i);
+    v_r40_i627_sroa_8_0_r26_i84_i652_sroa_idx_i_i_i = v_r26_i84_i652_i_i_i + 5;
+    put_u8(v_r40_i627_sroa_8_0_r26_i84_i652_sroa_idx_i_i_i, v_r168_i642_i_i_i);
+    { p_v_r7_sroa_129_21_i_i_i = v_r17_i82_i650_i_i_i; goto L_der_core_back_writer_BackWriter_prepend_header_exi__5; }
 L_der_core_back_writer_BackWriter_prepend_header_exi__5:;
-    v_r7_sroa_66_9_i_i_i = p_v_r7_sroa_66_9_i_i_i;
-    v_r11_not_i_i_i_i_i_i = v_r16_i_i_i_i_i_i == 0u;
-    if (v_r11_not_i_i_i_i_i_i) { goto L_der_core_back_writer_BackWriter_prepend_header_exi__6; } else { p_v_r7_sroa_66_1_i_i_i = v_r7_sroa_66_9_i_i_i; p_v_r2_03_i_i_i_i_i_i = v_r16_i_i_i_i_i_i; goto L_join_5_i_i_i_i_i_i; }
+    v_r7_sroa_129_21_i_i_i = p_v_r7_sroa_129_21_i_i_i;
+    v_r17_i_i_i_i9_i_i_i_i_i_i = (u64)((u64)(v_r7_sroa_129_21_i_i_i) - (u64)(v_r1_sroa_3_0_copyload_i_i_i8_i_i_i_i_i_i));
+    v_r26_i_i_i_i11_i_i_i_i_i_i = (P)((uintptr_t)v_r14 + (u64)(v_r17_i_i_i_i9_i_i_i_i_i_i));
+    v_r8_i_i_i_i_i_i_i_i_i_i12_i_i_i_i_i_i = (u64)((uintptr_t)v_r26_i_i_i_i11_i_i_i_i_i_i);
+    v_r9_i_i_i_i_i_i_i_i_i_i13_i_i_i_i_i_i = (u64)((uintptr_t)v_r1_sroa_0_0_copyload_i_i_i6_i_i_i_i_i_i);
+    v_r10_i_i_i_i_i_i_i_i_i_i14_i_i_i_i_i_i = (u64)((u64)(v_r8_i_i_i_i_i_i_i_i_i_i12_i_i_i_i_i_i) - (u64)(v_r9_i_i_i_i_i_i_i_i_i_i13_i_i_i_i_i_i));
+    v_r11_i_i_i_i_i_i_i_i_i_i15_i_i_i_i_i_i = v_r10_i_i_i_i_i_i_i_i_i_i14_i_i_i_i_i_i < v_r1_sroa_3_0_copyload_i_i_i8_i_i_i_i_i_i;
+    if (v_r11_i_i_i_i_i_i_i_i_i_i15_i_i_i_i_i_i) { goto L_join_7_i_i_i_i_i_i_i_i_i_i29_i_i_i_i_i_i_preheader; } else { goto L_apart_2_i_i_i_i_i_i_i_i_i_i16_i_i_i_i_i_i; }
+L_join_7_i_i_i_i_i_i_i_i_i_i29_i_i_i_i_i_i_preheader:;
+    v_xtraiter190 = (u64)((u64)(v_r1_sroa_3_0_copyload_i_i_i8_i_i_i_i_i_i) & (u64)(3u));
+    v_42 = v_r1_sroa_3_0_copyload_i_i_i8_i_i_i_i_i_i < 4u;
+    if (v_42) { p_v_r0_04_i_i_i_i_i_i_i_i_i_i30_i_i_i_i_i_i_epil_init = 0u; goto L_join_7_i_i_i_i_i_i_i_i_i_i29_i_i_i_i_i_i_epil_preh; } else { goto L_join_7_i_i_i_i_i_i_i_i_i_i29_i_i_i_i_i_i_preheader__2; }
+L_join_7_i_i_i_i_i_i_i_i_i_i29_i_i_i_i_i_i_preheader__2:;
+    v_unroll_iter194 = (u64)((u64)(v_r1_sroa_3_0_copyload_i_i_i8_i_i_i_i_i_i) & (u64)(4294967292ull));
+    { p_v_r0_04_i_i_i_i_i_i_i_i_i_i30_i_i_i_i_i_i = 0u; p_v_niter195 = 0u; goto L_join_7_i_i_i_i_i_i_i_i_i_i29_i_i_i_i_i_i; }
+L_apart_2_i_i_i_i_i_i_i_i_i_i16_i_i_i_i_i_i:;
+    move(v_r26_i_i_i_i11_i_i_i_i_i_i, v_r1_sroa_0_0_copyload_i_i_i6_i_i_i_i_i_i, v_r1_sroa_3_0_copyload_i_i_i8_i_i_i_i_i_i);
+    { goto L_der_core_back_writer_BackWriter_prepend_exit_i_i_i__9; }
+L_join_7_i_i_i_i_i_i_i_i_i_i29_i_i_i_i_i_i:;
+    v_r0_04_i_i_i_i_i_i_i_i_i_i30_i_i_i_i_i_i = p_v_r0_04_i_i_i_i_i_i_i_i_i_i30_i_i_i_i_i_i;
+    v_niter195 = p_v_niter195;
+    v_r20_i_i_i_i_i_i_i_i_i_i31_i_i_i_i_i_i = v_r26_i_i_i_i11_i_i_i_i_i_i + (int64_t)(v_r0_04_i_i_i_i_i_i_i_i_i_i30_i_i_i_i_i_i);
+    v_r24_i_i_i_i_i_i_i_i_i_i32_i_i_i_i_i_i = v_r1_sroa_0_0_copyload_i_i_i6_i_i_i_i_i_i + (int64_t)(v_r0_04_i_i_i_i_i_i_i_i_i_i30_i_i_i_i_i_i);
+    v_r26_i_i_i_i_i_i_i_i_i_i33_i_i_i_i_i_i = get_u8(v_r24_i_i_i_i_i_i_i_i_i_i32_i_i_i_i_i_i);
+    put_u8(v_r20_i_i_i_i_i_i_i_i_i_i31_i_i_i_i_i_i, v_r26_i_i_i_i_i_i_i_i_i_i33_i_i_i_i_i_i);
+    v_r30_i_i_i_i_i_i_i_i_i_i34_i_i_i_i_i_i = (u64)((u64)(v_r0_04_i_i_i_i_i_i_i_i_i_i30_i_i_i_i_i_i) | (u64)(1u));
+    v_r20_i_i_i_i_i_i_i_i_i_i31_i_i_i_i_i_i_1 = v_r26_i_i_i_i11_i_i_i_i_i_i + (int64_t)(v_r30_i_i_i_i_i_i_i_i_i_i34_i_i_i_i_i_i);
+    v_r24_i_i_i_i_i_i_i_i_i_i32_i_i_i_i_i_i_1 = v_r1_sroa_0_0_copyload_i_i_i6_i_i_i_i_i_i + (int64_t)(v_r30_i_i_i_i_i_i_i_i_i_i34_i_i_i_i_i_i);
+    v_r26_i_i_i_i_i_i_i_i_i_i33_i_i_i_i_i_i_1 = get_u8(v_r24_i_i_i_i_i_i_i_i_i_i32_i_i_i_i_i_i_1);
+    put_u8(v_r20_i_i_i_i_i_i_i_i_i_i31_i_i_i_i_i_i_1, v_r26_i_i_i_i_i_i_i_i_i_i33_i_i_i_i_i_i_1);
+    v_r30_i_i_i_i_i_i_i_i_i_i34_i_i_i_i_i_i_1 = (u64)((u64)(v_r0_04_i_i_i_i_i_i_i_i_i_i30_i_i_i_i_i_i) | (u64)(2u));
+    v_r20_i_i_i_i_i_i_i_i_i_i31_i_i_i_i_i_i_2 = v_r26_i_i_i_i11_i_i_i_i_i_i + (int64_t)(v_r30_i_i_i_i_i_i_i_i_i_i34_i_i_i_i_i_i_1);
+    v_r24_i_i_i_i_i_i_i_i_i_i32_i_i_i_i_i_i_2 = v_r1_sroa_0_0_copyload_i_i_i6_i_i_i_i_i_i + (int64_t)(v_r30_i_i_i_i_i_i_i_i_i_i34_i_i_i_i_i_i_1);
+    v_r26_i_i_i_i_i_i_i_i_i_i33_i_i_i_i_i_i_2 = get_u8(v_r24_i_i_i_i_i_i_i_i_i_i32_i_i_i_i_i_i_2);
+    put_u8(v_r20_i_i_i_i_i_i_i_i_i_i31_i_i_i_i_i_i_2, v_r26_i_i_i_i_i_i_i_i_i_i33_i_i_i_i_i_i_2);
+    v_r30_i_i_i_i_i_i_i_i_i_i34_i_i_i_i_i_i_2 = (u64)((u64)(v_r0_04_i_i_i_i_i_i_i_i_i_i30_i_i_i_i_i_i) | (u64)(3u));
+    v_r20_i_i_i_i_i_i_i_i_i_i31_i_i_i_i_i_i_3 = v_r26_i_i_i_i11_i_i_i_i_i_i + (int64_t)(v_r30_i_i_i_i_i_i_i_i_i_i34_i_i_i_i_i_i_2);
+    v_r24_i_i_i_i_i_i_i_i_i_i32_i_i_i_i_i_i_3 = v_r1_sroa_0_0_copyload_i_i_i6_i_i_i_i_i_i + (int64_t)(v_r30_i_i_i_i_i_i_i_i_i_i34_i_i_i_i_i_i_2);
+    v_r26_i_i_i_i_i_i_i_i_i_i33_i_i_i_i_i_i_3 = get_u8(v_r24_i_i_i_i_i_i_i_i_i_i32_i_i_i_i_i_i_3);
+    put_u8(v_r20_i_i_i_i_i_i_i_i_i_i31_i_i_i_i_i_i_3, v_r26_i_i_i_i_i_i_i_i_i_i33_i_i_i_i_i_i_3);
+    v_r30_i_i_i_i_i_i_i_i_i_i34_i_i_i_i_i_i_3 = (u64)((u64)(v_r0_04_i_i_i_i_i_i_i_i_i_i30_i_i_i_i_i_i) + (u64)(4u));
+    v_niter195_next_3 = (u64)((u64)(v_niter195) + (u64)(4u));
+    v_niter195_ncmp_3 = v_niter195_next_3 == v_unroll_iter194;
+    if (v_niter195_ncmp_3) { goto L_der_core_back_writer_BackWriter_prepend_exit_i_i_i__10; } else { p_v_r0_04_i_i_i_i_i_i_i_i_i_i30_i_i_i_i_i_i = v_r30_i_i_i_i_i_i_i_i_i_i34_i_i_i_i_i_i_3; p_v_niter195 = v_niter195_next_3; goto L_join_7_i_i_i_i_i_i_i_i_i_i29_i_i_i_i_i_i; }
+L_der_core_back_writer_BackWriter_prepend_exit_i_i_i__10:;
+    v_lcmp_mod192_not = v_xtraiter190 == 0u;
+    if (v_lcmp_mod192_not) { goto L_der_core_back_writer_BackWriter_prepend_exit_i_i_i__9; } else { p_v_r0_04_i_i_i_i_i_i_i_i_i_i30_i_i_i_i_i_i_epil_init = v_r30_i_i_i_i_i_i_i_i_i_i34_i_i_i_i_i_i_3; goto L_join_7_i_i_i_i_i_i_i_i_i_i29_i_i_i_i_i_i_epil_preh; }
+L_join_7_i_i_i_i_i_i_i_i_i_i29_i_i_i_i_i_i_epil_preh:;
+    v_r0_04_i_i_i_i_i_i_i_i_i_i30_i_i_i_i_i_i_epil_init = p_v_r0_04_i_i_i_i_i_i_i_i_i_i30_i_i_i_i_i_i_epil_init;
+    { p_v_r0_04_i_i_i_i_i_i_i_i_i_i30_i_i_i_i_i_i_epil = v_r0_04_i_i_i_i_i_i_i_i_i_i30_i_i_i_i_i_i_epil_init; p_v_epil_iter191 = 0u; goto L_join_7_i_i_i_i_i_i_i_i_i_i29_i_i_i_i_i_i_epil; }
+L_join_7_i_i_i_i_i_i_i_i_i_i29_i_i_i_i_i_i_epil:;
+    v_r0_04_i_i_i_i_i_i_i_i_i_i30_i_i_i_i_i_i_epil = p_v_r0_04_i_i_i_i_i_i_i_i_i_i30_i_i_i_i_i_i_epil;
+    v_epil_iter191 = p_v_epil_iter191;
+    v_r20_i_i_i_i_i_i_i_i_i_i31_i_i_i_i_i_i_epil = v_r26_i_i_i_i11_i_i_i_i_i_i + (int64_t)(v_r0_04_i_i_i_i_i_i_i_i_i_i30_i_i_i_i_i_i_epil);
+    v_r24_i_i_i_i_i_i_i_i_i_i32_i_i_i_i_i_i_epil = v_r1_sroa_0_0_copyload_i_i_i6_i_i_i_i_i_i + (int64_t)(v_r0_04_i_i_i_i_i_i_i_i_i_i30_i_i_i_i_i_i_epil);
+    v_r26_i_i_i_i_i_i_i_i_i_i33_i_i_i_i_i_i_epil = get_u8(v_r24_i_i_i_i_i_i_i_i_i_i32_i_i_i_i_i_i_epil);
+    put_u8(v_r20_i_i_i_i_i_i_i_i_i_i31_i_i_i_i_i_i_epil, v_r26_i_i_i_i_i_i_i_i_i_i33_i_i_i_i_i_i_epil);
+    v_r30_i_i_i_i_i_i_i_i_i_i34_i_i_i_i_i_i_epil = (u64)((u64)(v_r0_04_i_i_i_i_i_i_i_i_i_i30_i_i_i_i_i_i_epil) + (u64)(1u));
+    v_epil_iter191_next = (u64)((u64)(v_epil_iter191) + (u64)(1u));
+    v_epil_iter191_cmp_not = v_epil_iter191_next == v_xtraiter190;
+    if (v_epil_iter191_cmp_not) { goto L_der_core_back_writer_BackWriter_prepend_exit_i_i_i__9; } else { p_v_r0_04_i_i_i_i_i_i_i_i_i_i30_i_i_i_i_i_i_epil = v_r30_i_i_i_i_i_i_i_i_i_i34_i_i_i_i_i_i_epil; p_v_epil_iter191 = v_epil_iter191_next; goto L_join_7_i_i_i_i_i_i_i_i_i_i29_i_i_i_i_i_i_epil; }
+L_der_core_back_writer_BackWriter_prepend_exit_i_i_i__9:;
+    v_r15_not_i_i_i20_i_i_i_i_i_i = (u8)(v_r20_i345_i_i ^ ((u8)1 << 7)) > (u8)(255u ^ ((u8)1 << 7));
+    if (v_r15_not_i_i_i20_i_i_i_i_i_i) { p_v_r7_sroa_129_1_i_i_i = v_r17_i_i_i_i9_i_i_i_i_i_i; goto L_der_core_borrowed_BorrowedEncode_prepend_25cd36d81__4; } else { goto L_then_1_i_i_i21_i_i_i_i_i_i; }
+L_then_1_i_i_i21_i_i_i_i_i_i:;
+    v_r17_i3_i_i_i22_i_i_i_i_i_i = (u64)((u64)(v_r17_i_i_i_i9_i_i_i_i_i_i) + (u64)(18446744073709551615ull));
+    v_r26_i5_i_i_i24_i_i_i_i_i_i = (P)((uintptr_t)v_r14 + (u64)(v_r17_i3_i_i_i22_i_i_i_i_i_i));
+    put_u8(v_r26_i5_i_i_i24_i_i_i_i_i_i, 0u);
+    { p_v_r7_sroa_129_1_i_i_i = v_r17_i3_i_i_i22_i_i_i_i_i_i; goto L_der_core_borrowed_BorrowedEncode_prepend_25cd36d81__4; }
+L_der_core_borrowed_BorrowedEncode_prepend_25cd36d81__4:;
+    v_r7_sroa_129_1_i_i_i = p_v_r7_sroa_129_1_i_i_i;
+    v_43 = (u64)((u64)(v_r7_sroa_129_1_i_i_i) + (u64)(v_r3_i5_i_i_i));
+    v_44 = (u64)((u64)(v_r7_sroa_129_21_i_i_i) - (u64)(v_43));
+    v_45 = (u32)(v_44);
+    v_r2_i_i_i28_i_i_i_i_i_i = (u32)((u32)(v_r1_sroa_9_4_copyload_i_i_i_i) + (u32)(v_45));
+    v_r59_i552_i_i_i = v_r2_i_i_i28_i_i_i_i_i_i < 128u;
+    if (v_r59_i552_i_i_i) { goto L_then_1_i613_i_i_i; } else { goto L_else_2_i553_i_i_i; }
+L_then_1_i613_i_i_i:;
+    v_r64_i614_i_i_i = (u16)(v_r2_i_i_i28_i_i_i_i_i_i);
+    v_r17_i_i618_i_i_i = (u64)((u64)(v_r7_sroa_129_1_i_i_i) + (u64)(18446744073709551614ull));
+    v_r26_i_i620_i_i_i = (P)((uintptr_t)v_r14 + (u64)(v_r17_i_i618_i_i_i));
+    v_r8_i547_sroa_4_0_insert_shift_i_i_i = (u16)((u32)(v_r64_i614_i_i_i) << (u32)((8u & 31)));
+    v_r8_i547_sroa_0_0_insert_insert_i_i_i = (u16)((u32)(v_r8_i547_sroa_4_0_insert_shift_i_i_i) | (u32)(2u));
+    put_u16(v_r26_i_i620_i_i_i, v_r8_i547_sroa_0_0_insert_insert_i_i_i);
+    { p_v_r7_sroa_129_20_i_i_i = v_r17_i_i618_i_i_i; goto L_der_core_back_writer_BackWriter_prepend_header_exi__6; }
+L_else_2_i553_i_i_i:;
+    v_r75_i554_i_i_i = v_r2_i_i_i28_i_i_i_i_i_i < 256u;
+    if (v_r75_i554_i_i_i) { goto L_then_4_i604_i_i_i; } else { goto L_else_5_i555_i_i_i; }
+L_then_4_i604_i_i_i:;
+    v_r80_i605_i_i_i = (u8)(v_r2_i_i_i28_i_i_i_i_i_i);
+    v_r17_i28_i610_i_i_i = (u64)((u64)(v_r7_sroa_129_1_i_i_i) + (u64)(18446744073709551613ull));
+    v_r26_i30_i612_i_i_i = (P)((uintptr_t)v_r14 + (u64)(v_r17_i28_i610_i_i_i));
+    put_u8(v_r26_i30_i612_i_i_i, 2u);
+    v_r14_i548_sroa_4_0_r26_i30_i612_sroa_idx_i_i_i = v_r26_i30_i612_i_i_i + 1;
+    put_u8(v_r14_i548_sroa_4_0_r26_i30_i612_sroa_idx_i_i_i, 129u);
+    v_r14_i548_sroa_5_0_r26_i30_i612_sroa_idx_i_i_i = v_r26_i30_i612_i_i_i + 2;
+    put_u8(v_r14_i548_sroa_5_0_r26_i30_i612_sroa_idx_i_i_i, v_r80_i605_i_i_i);
+    { p_v_r7_sroa_129_20_i_i_i = v_r17_i28_i610_i_i_i; goto L_der_core_back_writer_BackWriter_prepend_header_exi__6; }
+L_else_5_i555_i_i_i:;
+    v_r92_i556_i_i_i = v_r2_i_i_i28_i_i_i_i_i_i < 65536u;
+    if (v_r92_i556_i_i_i) { goto L_then_7_i592_i_i_i; } else { goto L_else_8_i557_i_i_i; }
+L_then_7_i592_i_i_i:;
+    v_r17_i46_i600_i_i_i = (u64)((u64)(v_r7_sroa_129_1_i_i_i) + (u64)(18446744073709551612ull));
+    v_r26_i48_i602_i_i_i = (P)((uintptr_t)v_r14 + (u64)(v_r17_i46_i600_i_i_i));
+    v_46 = (u32)((u32)(v_r2_i_i_i28_i_i_i_i_i_i) | (u32)(42074112u));
+    v_r20_i549_sroa_0_0_insert_insert_i_i_i = __builtin_bswap32(v_46);
+    put_u32(v_r26_i48_i602_i_i_i, v_r20_i549_sroa_0_0_insert_insert_i_i_i);
+    { p_v_r7_sroa_129_20_i_i_i = v_r17_i46_i600_i_i_i; goto L_der_core_back_writer_BackWriter_prepend_header_exi__6; }
+L_else_8_i557_i_i_i:;
+    v_r117_i558_i_i_i = v_r2_i_i_i28_i_i_i_i_i_i < 16777216u;
+    if (v_r117_i558_i_i_i) { goto L_then_10_i577_i_i_i; } else { goto L_else_11_i559_i_i_i; }
+L_then_10_i577_i_i_i:;
+    v_r12223_i578_i_i_i = (u32)((u32)(v_r2_i_i_i28_i_i_i_i_i_i) >> (u32)((16u & 31)));
+    v_r124_i579_i_i_i = (u8)(v_r12223_i578_i_i_i);
+    v_r12624_i580_i_i_i = (u32)((u32)(v_r2_i_i_i28_i_i_i_i_i_i) >> (u32)((8u & 31)));
+    v_r130_i581_i_i_i = (u8)(v_r12624_i580_i_i_i);
+    v_r134_i582_i_i_i = (u8)(v_r2_i_i_i28_i_i_i_i_i_i);
+    v_r17_i64_i589_i_i_i = (u64)((u64)(v_r7_sroa_129_1_i_i_i) + (u64)(18446744073709551611ull));
+    v_r26_i66_i591_i_i_i = (P)((uintptr_t)v_r14 + (u64)(v_r17_i64_i589_i_i_i));
+    put_u8(v_r26_i66_i591_i_i_i, 2u);
+    v_r29_i550_sroa_4_0_r26_i66_i591_sroa_idx_i_i_i = v_r26_i66_i591_i_i_i + 1;
+    put_u8(v_r29_i550_sroa_4_0_r26_i66_i591_sroa_idx_i_i_i, 131u);
+    v_r29_i550_sroa_5_0_r26_i66_i591_sroa_idx_i_i_i = v_r26_i66_i591_i_i_i + 2;
+    put_u8(v_r29_i550_sroa_5_0_r26_i66_i591_sroa_idx_i_i_i, v_r124_i579_i_i_i);
+    v_r29_i550_sroa_6_0_r26_i66_i591_sroa_idx_i_i_i = v_r26_i66_i591_i_i_i + 3;
+    put_u8(v_r29_i550_sroa_6_0_r26_i66_i591_sroa_idx_i_i_i, v_r130_i581_i_i_i);
+    v_r29_i550_sroa_7_0_r26_i66_i591_sroa_idx_i_i_i = v_r26_i66_i591_i_i_i + 4;
+    put_u8(v_r29_i550_sroa_7_0_r26_i66_i591_sroa_idx_i_i_i, v_r134_i582_i_i_i);
+    { p_v_r7_sroa_129_20_i_i_i = v_r17_i64_i589_i_i_i; goto L_der_core_back_writer_BackWriter_prepend_header_exi__6; }
+L_else_11_i559_i_i_i:;
+    v_r15020_i560_i_i_i = (u32)((u32)(v_r2_i_i_i28_i_i_i_i_i_i) >> (u32)((24u & 31)));
+    v_r152_i561_i_i_i = (u8)(v_r15020_i560_i_i_i);
+    v_r15421_i562_i_i_i = (u32)((u32)(v_r2_i_i_i28_i_i_i_i_i_i) >> (u32)((16u & 31)));
+    v_r158_i563_i_i_i = (u8)(v_r15421_i562_i_i_i);
+    v_r16022_i564_i_i_i = (u32)((u32)(v_r2_i_i_i28_i_i_i_i_i_i) >> (u32)((8u & 31)));
+    v_r164_i565_i_i_i = (u8)(v_r16022_i564_i_i_i);
+    v_r168_i566_i_i_i = (u8)(v_r2_i_i_i28_i_i_i_i_i_i);
+    v_r17_i82_i574_i_i_i = (u64)((u64)(v_r7_sroa_129_1_i_i_i) + (u64)(18446744073709551610ull));
+    v_r26_i84_i576_i_i_i = (P)((uintptr_t)v_r14 + (u64)(v_r17_i82_i574_i_i_i));
+    put_u8(v_r26_i84_i576_i_i_i, 2u);
+    v_r40_i551_sroa_4_0_r26_i84_i576_sroa_idx_i_i_i = v_r26_i84_i576_i_i_i + 1;
+    put_u8(v_r40_i551_sroa_4_0_r26_i84_i576_sroa_idx_i_i_i, 132u);
+    v_r40_i551_sroa_5_0_r26_i84_i576_sroa_idx_i_i_i = v_r26_i84_i576_i_i_i + 2;
+    put_u8(v_r40_i551_sroa_5_0_r26_i84_i576_sroa_idx_i_i_i, v_r152_i561_i_i_i);
+    v_r40_i551_sroa_6_0_r26_i84_i576_sroa_idx_i_i_i = v_r26_i84_i576_i_i_i + 3;
+    put_u8(v_r40_i551_sroa_6_0_r26_i84_i576_sroa_idx_i_i_i, v_r158_i563_i_i_i);
+    v_r40_i551_sroa_7_0_r26_i84_i576_sroa_idx_i_i_i = v_r26_i84_i576_i_i_i + 4;
+    put_u8(v_r40_i551_sroa_7_0_r26_i84_i576_sroa_idx_i_i_i, v_r164_i565_i_i_i);
+    v_r40_i551_sroa_8_0_r26_i84_i576_sroa_idx_i_i_i = v_r26_i84_i576_i_i_i + 5;
+    put_u8(v_r40_i551_sroa_8_0_r26_i84_i576_sroa_idx_i_i_i, v_r168_i566_i_i_i);
+    { p_v_r7_sroa_129_20_i_i_i = v_r17_i82_i574_i_i_i; goto L_der_core_back_writer_BackWriter_prepend_header_exi__6; }
 L_der_core_back_writer_BackWriter_prepend_header_exi__6:;
-    v_42 = (P)((uintptr_t)v_r14 + (u64)(v_r7_sroa_66_9_i_i_i));
-    v_r26_i_i_i_i_i_i_i_i_i = (P)((uintptr_t)v_42 + (u64)(-1));
-    put_u8(v_r26_i_i_i_i_i_i_i_i_i, v_15);
-    v_r26_i_i86_i_i_i = (P)((uintptr_t)v_42 + (u64)(-3));
-    put_u16(v_r26_i_i86_i_i_i, 258u);
-    v_reass_sub_i_i_i = (u64)((u64)(v_r3_i5_i_i_i) - (u64)(v_r7_sroa_66_9_i_i_i));
+    v_r7_sroa_129_20_i_i_i = p_v_r7_sroa_129_20_i_i_i;
+    v_r17_i_i_i_i42_i_i_i_i_i_i = (u64)((u64)(v_r7_sroa_129_20_i_i_i) - (u64)(v_r1_sroa_3_0_copyload_i_i_i41_i_i_i_i_i_i));
+    v_r26_i_i_i_i44_i_i_i_i_i_i = (P)((uintptr_t)v_r14 + (u64)(v_r17_i_i_i_i42_i_i_i_i_i_i));
+    v_r8_i_i_i_i_i_i_i_i_i_i45_i_i_i_i_i_i = (u64)((uintptr_t)v_r26_i_i_i_i44_i_i_i_i_i_i);
+    v_r9_i_i_i_i_i_i_i_i_i_i46_i_i_i_i_i_i = (u64)((uintptr_t)v_r1_sroa_0_0_copyload_i_i_i39_i_i_i_i_i_i);
+    v_r10_i_i_i_i_i_i_i_i_i_i47_i_i_i_i_i_i = (u64)((u64)(v_r8_i_i_i_i_i_i_i_i_i_i45_i_i_i_i_i_i) - (u64)(v_r9_i_i_i_i_i_i_i_i_i_i46_i_i_i_i_i_i));
+    v_r11_i_i_i_i_i_i_i_i_i_i48_i_i_i_i_i_i = v_r10_i_i_i_i_i_i_i_i_i_i47_i_i_i_i_i_i < v_r1_sroa_3_0_copyload_i_i_i41_i_i_i_i_i_i;
+    if (v_r11_i_i_i_i_i_i_i_i_i_i48_i_i_i_i_i_i) { goto L_join_7_i_i_i_i_i_i_i_i_i_i62_i_i_i_i_i_i_preheader; } else { goto L_apart_2_i_i_i_i_i_i_i_i_i_i49_i_i_i_i_i_i; }
+L_join_7_i_i_i_i_i_i_i_i_i_i62_i_i_i_i_i_i_preheader:;
+    v_xtraiter196 = (u64)((u64)(v_r1_sroa_3_0_copyload_i_i_i41_i_i_i_i_i_i) & (u64)(3u));
+    v_47 = v_r1_sroa_3_0_copyload_i_i_i41_i_i_i_i_i_i < 4u;
+    if (v_47) { p_v_r0_04_i_i_i_i_i_i_i_i_i_i63_i_i_i_i_i_i_epil_init = 0u; goto L_join_7_i_i_i_i_i_i_i_i_i_i62_i_i_i_i_i_i_epil_preh; } else { goto L_join_7_i_i_i_i_i_i_i_i_i_i62_i_i_i_i_i_i_preheader__2; }
+L_join_7_i_i_i_i_i_i_i_i_i_i62_i_i_i_i_i_i_preheader__2:;
+    v_unroll_iter200 = (u64)((u64)(v_r1_sroa_3_0_copyload_i_i_i41_i_i_i_i_i_i) & (u64)(4294967292ull));
+    { p_v_r0_04_i_i_i_i_i_i_i_i_i_i63_i_i_i_i_i_i = 0u; p_v_niter201 = 0u; goto L_join_7_i_i_i_i_i_i_i_i_i_i62_i_i_i_i_i_i; }
+L_apart_2_i_i_i_i_i_i_i_i_i_i49_i_i_i_i_i_i:;
+    move(v_r26_i_i_i_i44_i_i_i_i_i_i, v_r1_sroa_0_0_copyload_i_i_i39_i_i_i_i_i_i, v_r1_sroa_3_0_copyload_i_i_i41_i_i_i_i_i_i);
+    { goto L_der_core_back_writer_BackWriter_prepend_exit_i_i_i__11; }
+L_join_7_i_i_i_i_i_i_i_i_i_i62_i_i_i_i_i_i:;
+    v_r0_04_i_i_i_i_i_i_i_i_i_i63_i_i_i_i_i_i = p_v_r0_04_i_i_i_i_i_i_i_i_i_i63_i_i_i_i_i_i;
+    v_niter201 = p_v_niter201;
+    v_r20_i_i_i_i_i_i_i_i_i_i64_i_i_i_i_i_i = v_r26_i_i_i_i44_i_i_i_i_i_i + (int64_t)(v_r0_04_i_i_i_i_i_i_i_i_i_i63_i_i_i_i_i_i);
+    v_r24_i_i_i_i_i_i_i_i_i_i65_i_i_i_i_i_i = v_r1_sroa_0_0_copyload_i_i_i39_i_i_i_i_i_i + (int64_t)(v_r0_04_i_i_i_i_i_i_i_i_i_i63_i_i_i_i_i_i);
+    v_r26_i_i_i_i_i_i_i_i_i_i66_i_i_i_i_i_i = get_u8(v_r24_i_i_i_i_i_i_i_i_i_i65_i_i_i_i_i_i);
+    put_u8(v_r20_i_i_i_i_i_i_i_i_i_i64_i_i_i_i_i_i, v_r26_i_i_i_i_i_i_i_i_i_i66_i_i_i_i_i_i);
+    v_r30_i_i_i_i_i_i_i_i_i_i67_i_i_i_i_i_i = (u64)((u64)(v_r0_04_i_i_i_i_i_i_i_i_i_i63_i_i_i_i_i_i) | (u64)(1u));
+    v_r20_i_i_i_i_i_i_i_i_i_i64_i_i_i_i_i_i_1 = v_r26_i_i_i_i44_i_i_i_i_i_i + (int64_t)(v_r30_i_i_i_i_i_i_i_i_i_i67_i_i_i_i_i_i);
+    v_r24_i_i_i_i_i_i_i_i_i_i65_i_i_i_i_i_i_1 = v_r1_sroa_0_0_copyload_i_i_i39_i_i_i_i_i_i + (int64_t)(v_r30_i_i_i_i_i_i_i_i_i_i67_i_i_i_i_i_i);
+    v_r26_i_i_i_i_i_i_i_i_i_i66_i_i_i_i_i_i_1 = get_u8(v_r24_i_i_i_i_i_i_i_i_i_i65_i_i_i_i_i_i_1);
+    put_u8(v_r20_i_i_i_i_i_i_i_i_i_i64_i_i_i_i_i_i_1, v_r26_i_i_i_i_i_i_i_i_i_i66_i_i_i_i_i_i_1);
+    v_r30_i_i_i_i_i_i_i_i_i_i67_i_i_i_i_i_i_1 = (u64)((u64)(v_r0_04_i_i_i_i_i_i_i_i_i_i63_i_i_i_i_i_i) | (u64)(2u));
+    v_r20_i_i_i_i_i_i_i_i_i_i64_i_i_i_i_i_i_2 = v_r26_i_i_i_i44_i_i_i_i_i_i + (int64_t)(v_r30_i_i_i_i_i_i_i_i_i_i67_i_i_i_i_i_i_1);
+    v_r24_i_i_i_i_i_i_i_i_i_i65_i_i_i_i_i_i_2 = v_r1_sroa_0_0_copyload_i_i_i39_i_i_i_i_i_i + (int64_t)(v_r30_i_i_i_i_i_i_i_i_i_i67_i_i_i_i_i_i_1);
+    v_r26_i_i_i_i_i_i_i_i_i_i66_i_i_i_i_i_i_2 = get_u8(v_r24_i_i_i_i_i_i_i_i_i_i65_i_i_i_i_i_i_2);
+    put_u8(v_r20_i_i_i_i_i_i_i_i_i_i64_i_i_i_i_i_i_2, v_r26_i_i_i_i_i_i_i_i_i_i66_i_i_i_i_i_i_2);
+    v_r30_i_i_i_i_i_i_i_i_i_i67_i_i_i_i_i_i_2 = (u64)((u64)(v_r0_04_i_i_i_i_i_i_i_i_i_i63_i_i_i_i_i_i) | (u64)(3u));
+    v_r20_i_i_i_i_i_i_i_i_i_i64_i_i_i_i_i_i_3 = v_r26_i_i_i_i44_i_i_i_i_i_i + (int64_t)(v_r30_i_i_i_i_i_i_i_i_i_i67_i_i_i_i_i_i_2);
+    v_r24_i_i_i_i_i_i_i_i_i_i65_i_i_i_i_i_i_3 = v_r1_sroa_0_0_copyload_i_i_i39_i_i_i_i_i_i + (int64_t)(v_r30_i_i_i_i_i_i_i_i_i_i67_i_i_i_i_i_i_2);
+    v_r26_i_i_i_i_i_i_i_i_i_i66_i_i_i_i_i_i_3 = get_u8(v_r24_i_i_i_i_i_i_i_i_i_i65_i_i_i_i_i_i_3);
+    put_u8(v_r20_i_i_i_i_i_i_i_i_i_i64_i_i_i_i_i_i_3, v_r26_i_i_i_i_i_i_i_i_i_i66_i_i_i_i_i_i_3);
+    v_r30_i_i_i_i_i_i_i_i_i_i67_i_i_i_i_i_i_3 = (u64)((u64)(v_r0_04_i_i_i_i_i_i_i_i_i_i63_i_i_i_i_i_i) + (u64)(4u));
+    v_niter201_next_3 = (u64)((u64)(v_niter201) + (u64)(4u));
+    v_niter201_ncmp_3 = v_niter201_next_3 == v_unroll_iter200;
+    if (v_niter201_ncmp_3) { goto L_der_core_back_writer_BackWriter_prepend_exit_i_i_i__12; } else { p_v_r0_04_i_i_i_i_i_i_i_i_i_i63_i_i_i_i_i_i = v_r30_i_i_i_i_i_i_i_i_i_i67_i_i_i_i_i_i_3; p_v_niter201 = v_niter201_next_3; goto L_join_7_i_i_i_i_i_i_i_i_i_i62_i_i_i_i_i_i; }
+L_der_core_back_writer_BackWriter_prepend_exit_i_i_i__12:;
+    v_lcmp_mod198_not = v_xtraiter196 == 0u;
+    if (v_lcmp_mod198_not) { goto L_der_core_back_writer_BackWriter_prepend_exit_i_i_i__11; } else { p_v_r0_04_i_i_i_i_i_i_i_i_i_i63_i_i_i_i_i_i_epil_init = v_r30_i_i_i_i_i_i_i_i_i_i67_i_i_i_i_i_i_3; goto L_join_7_i_i_i_i_i_i_i_i_i_i62_i_i_i_i_i_i_epil_preh; }
+L_join_7_i_i_i_i_i_i_i_i_i_i62_i_i_i_i_i_i_epil_preh:;
+    v_r0_04_i_i_i_i_i_i_i_i_i_i63_i_i_i_i_i_i_epil_init = p_v_r0_04_i_i_i_i_i_i_i_i_i_i63_i_i_i_i_i_i_epil_init;
+    { p_v_r0_04_i_i_i_i_i_i_i_i_i_i63_i_i_i_i_i_i_epil = v_r0_04_i_i_i_i_i_i_i_i_i_i63_i_i_i_i_i_i_epil_init; p_v_epil_iter197 = 0u; goto L_join_7_i_i_i_i_i_i_i_i_i_i62_i_i_i_i_i_i_epil; }
+L_join_7_i_i_i_i_i_i_i_i_i_i62_i_i_i_i_i_i_epil:;
+    v_r0_04_i_i_i_i_i_i_i_i_i_i63_i_i_i_i_i_i_epil = p_v_r0_04_i_i_i_i_i_i_i_i_i_i63_i_i_i_i_i_i_epil;
+    v_epil_iter197 = p_v_epil_iter197;
+    v_r20_i_i_i_i_i_i_i_i_i_i64_i_i_i_i_i_i_epil = v_r26_i_i_i_i44_i_i_i_i_i_i + (int64_t)(v_r0_04_i_i_i_i_i_i_i_i_i_i63_i_i_i_i_i_i_epil);
+    v_r24_i_i_i_i_i_i_i_i_i_i65_i_i_i_i_i_i_epil = v_r1_sroa_0_0_copyload_i_i_i39_i_i_i_i_i_i + (int64_t)(v_r0_04_i_i_i_i_i_i_i_i_i_i63_i_i_i_i_i_i_epil);
+    v_r26_i_i_i_i_i_i_i_i_i_i66_i_i_i_i_i_i_epil = get_u8(v_r24_i_i_i_i_i_i_i_i_i_i65_i_i_i_i_i_i_epil);
+    put_u8(v_r20_i_i_i_i_i_i_i_i_i_i64_i_i_i_i_i_i_epil, v_r26_i_i_i_i_i_i_i_i_i_i66_i_i_i_i_i_i_epil);
+    v_r30_i_i_i_i_i_i_i_i_i_i67_i_i_i_i_i_i_epil = (u64)((u64)(v_r0_04_i_i_i_i_i_i_i_i_i_i63_i_i_i_i_i_i_epil) + (u64)(1u));
+    v_epil_iter197_next = (u64)((u64)(v_epil_iter197) + (u64)(1u));
+    v_epil_iter197_cmp_not = v_epil_iter197_next == v_xtraiter196;
+    if (v_epil_iter197_cmp_not) { goto L_der_core_back_writer_BackWriter_prepend_exit_i_i_i__11; } else { p_v_r0_04_i_i_i_i_i_i_i_i_i_i63_i_i_i_i_i_i_epil = v_r30_i_i_i_i_i_i_i_i_i_i67_i_i_i_i_i_i_epil; p_v_epil_iter197 = v_epil_iter197_next; goto L_join_7_i_i_i_i_i_i_i_i_i_i62_i_i_i_i_i_i_epil; }
+L_der_core_back_writer_BackWriter_prepend_exit_i_i_i__11:;
+    v_r15_not_i_i_i53_i_i_i_i_i_i = (u8)(v_r20_i335_i_i ^ ((u8)1 << 7)) > (u8)(255u ^ ((u8)1 << 7));
+    if (v_r15_not_i_i_i53_i_i_i_i_i_i) { p_v_r7_sroa_129_2_i_i_i = v_r17_i_i_i_i42_i_i_i_i_i_i; goto L_pkcs1_private_key_written_CrtPartsEncodeValue_prep; } else { goto L_then_1_i_i_i54_i_i_i_i_i_i; }
+L_then_1_i_i_i54_i_i_i_i_i_i:;
+    v_r17_i3_i_i_i55_i_i_i_i_i_i = (u64)((u64)(v_r17_i_i_i_i42_i_i_i_i_i_i) + (u64)(18446744073709551615ull));
+    v_r26_i5_i_i_i57_i_i_i_i_i_i = (P)((uintptr_t)v_r14 + (u64)(v_r17_i3_i_i_i55_i_i_i_i_i_i));
+    put_u8(v_r26_i5_i_i_i57_i_i_i_i_i_i, 0u);
+    { p_v_r7_sroa_129_2_i_i_i = v_r17_i3_i_i_i55_i_i_i_i_i_i; goto L_pkcs1_private_key_written_CrtPartsEncodeValue_prep; }
+L_pkcs1_private_key_written_CrtPartsEncodeValue_prep:;
+    v_r7_sroa_129_2_i_i_i = p_v_r7_sroa_129_2_i_i_i;
+    v_48 = (u64)((u64)(v_r7_sroa_129_2_i_i_i) + (u64)(v_r3_i5_i_i_i));
+    v_49 = (u64)((u64)(v_r7_sroa_129_20_i_i_i) - (u64)(v_48));
+    v_50 = (u32)(v_49);
+    v_r2_i_i_i61_i_i_i_i_i_i = (u32)((u32)(v_r1_sroa_9_4_copyload_i_i_i_i) + (u32)(v_50));
+    v_r59_i476_i_i_i = v_r2_i_i_i61_i_i_i_i_i_i < 128u;
+    if (v_r59_i476_i_i_i) { goto L_then_1_i537_i_i_i; } else { goto L_else_2_i477_i_i_i; }
+L_then_1_i537_i_i_i:;
+    v_r64_i538_i_i_i = (u16)(v_r2_i_i_i61_i_i_i_i_i_i);
+    v_r17_i_i542_i_i_i = (u64)((u64)(v_r7_sroa_129_2_i_i_i) + (u64)(18446744073709551614ull));
+    v_r26_i_i544_i_i_i = (P)((uintptr_t)v_r14 + (u64)(v_r17_i_i542_i_i_i));
+    v_r8_i471_sroa_4_0_insert_shift_i_i_i = (u16)((u32)(v_r64_i538_i_i_i) << (u32)((8u & 31)));
+    v_r8_i471_sroa_0_0_insert_insert_i_i_i = (u16)((u32)(v_r8_i471_sroa_4_0_insert_shift_i_i_i) | (u32)(2u));
+    put_u16(v_r26_i_i544_i_i_i, v_r8_i471_sroa_0_0_insert_insert_i_i_i);
+    { p_v_r7_sroa_129_19_i_i_i = v_r17_i_i542_i_i_i; goto L_der_core_back_writer_BackWriter_prepend_header_exi__7; }
+L_else_2_i477_i_i_i:;
+    v_r75_i478_i_i_i = v_r2_i_i_i61_i_i_i_i_i_i < 256u;
+    if (v_r75_i478_i_i_i) { goto L_then_4_i528_i_i_i; } else { goto L_else_5_i479_i_i_i; }
+L_then_4_i528_i_i_i:;
+    v_r80_i529_i_i_i = (u8)(v_r2_i_i_i61_i_i_i_i_i_i);
+    v_r17_i28_i534_i_i_i = (u64)((u64)(v_r7_sroa_129_2_i_i_i) + (u64)(18446744073709551613ull));
+    v_r26_i30_i536_i_i_i = (P)((uintptr_t)v_r14 + (u64)(v_r17_i28_i534_i_i_i));
+    put_u8(v_r26_i30_i536_i_i_i, 2u);
+    v_r14_i472_sroa_4_0_r26_i30_i536_sroa_idx_i_i_i = v_r26_i30_i536_i_i_i + 1;
+    put_u8(v_r14_i472_sroa_4_0_r26_i30_i536_sroa_idx_i_i_i, 129u);
+    v_r14_i472_sroa_5_0_r26_i30_i536_sroa_idx_i_i_i = v_r26_i30_i536_i_i_i + 2;
+    put_u8(v_r14_i472_sroa_5_0_r26_i30_i536_sroa_idx_i_i_i, v_r80_i529_i_i_i);
+    { p_v_r7_sroa_129_19_i_i_i = v_r17_i28_i534_i_i_i; goto L_der_core_back_writer_BackWriter_prepend_header_exi__7; }
+L_else_5_i479_i_i_i:;
+    v_r92_i480_i_i_i = v_r2_i_i_i61_i_i_i_i_i_i < 65536u;
+    if (v_r92_i480_i_i_i) { goto L_then_7_i516_i_i_i; } else { goto L_else_8_i481_i_i_i; }
+L_then_7_i516_i_i_i:;
+    v_r17_i46_i524_i_i_i = (u64)((u64)(v_r7_sroa_129_2_i_i_i) + (u64)(18446744073709551612ull));
+    v_r26_i48_i526_i_i_i = (P)((uintptr_t)v_r14 + (u64)(v_r17_i46_i524_i_i_i));
+    v_51 = (u32)((u32)(v_r2_i_i_i61_i_i_i_i_i_i) | (u32)(42074112u));
+    v_r20_i473_sroa_0_0_insert_insert_i_i_i = __builtin_bswap32(v_51);
+    put_u32(v_r26_i48_i526_i_i_i, v_r20_i473_sroa_0_0_insert_insert_i_i_i);
+    { p_v_r7_sroa_129_19_i_i_i = v_r17_i46_i524_i_i_i; goto L_der_core_back_writer_BackWriter_prepend_header_exi__7; }
+L_else_8_i481_i_i_i:;
+    v_r117_i482_i_i_i = v_r2_i_i_i61_i_i_i_i_i_i < 16777216u;
+    if (v_r117_i482_i_i_i) { goto L_then_10_i501_i_i_i; } else { goto L_else_11_i483_i_i_i; }
+L_then_10_i501_i_i_i:;
+    v_r12223_i502_i_i_i = (u32)((u32)(v_r2_i_i_i61_i_i_i_i_i_i) >> (u32)((16u & 31)));
+    v_r124_i503_i_i_i = (u8)(v_r12223_i502_i_i_i);
+    v_r12624_i504_i_i_i = (u32)((u32)(v_r2_i_i_i61_i_i_i_i_i_i) >> (u32)((8u & 31)));
+    v_r130_i505_i_i_i = (u8)(v_r12624_i504_i_i_i);
+    v_r134_i506_i_i_i = (u8)(v_r2_i_i_i61_i_i_i_i_i_i);
+    v_r17_i64_i513_i_i_i = (u64)((u64)(v_r7_sroa_129_2_i_i_i) + (u64)(18446744073709551611ull));
+    v_r26_i66_i515_i_i_i = (P)((uintptr_t)v_r14 + (u64)(v_r17_i64_i513_i_i_i));
+    put_u8(v_r26_i66_i515_i_i_i, 2u);
+    v_r29_i474_sroa_4_0_r26_i66_i515_sroa_idx_i_i_i = v_r26_i66_i515_i_i_i + 1;
+    put_u8(v_r29_i474_sroa_4_0_r26_i66_i515_sroa_idx_i_i_i, 131u);
+    v_r29_i474_sroa_5_0_r26_i66_i515_sroa_idx_i_i_i = v_r26_i66_i515_i_i_i + 2;
+    put_u8(v_r29_i474_sroa_5_0_r26_i66_i515_sroa_idx_i_i_i, v_r124_i503_i_i_i);
+    v_r29_i474_sroa_6_0_r26_i66_i515_sroa_idx_i_i_i = v_r26_i66_i515_i_i_i + 3;
+    put_u8(v_r29_i474_sroa_6_0_r26_i66_i515_sroa_idx_i_i_i, v_r130_i505_i_i_i);
+    v_r29_i474_sroa_7_0_r26_i66_i515_sroa_idx_i_i_i = v_r26_i66_i515_i_i_i + 4;
+    put_u8(v_r29_i474_sroa_7_0_r26_i66_i515_sroa_idx_i_i_i, v_r134_i506_i_i_i);
+    { p_v_r7_sroa_129_19_i_i_i = v_r17_i64_i513_i_i_i; goto L_der_core_back_writer_BackWriter_prepend_header_exi__7; }
+L_else_11_i483_i_i_i:;
+    v_r15020_i484_i_i_i = (u32)((u32)(v_r2_i_i_i61_i_i_i_i_i_i) >> (u32)((24u & 31)));
+    v_r152_i485_i_i_i = (u8)(v_r15020_i484_i_i_i);
+    v_r15421_i486_i_i_i = (u32)((u32)(v_r2_i_i_i61_i_i_i_i_i_i) >> (u32)((16u & 31)));
+    v_r158_i487_i_i_i = (u8)(v_r15421_i486_i_i_i);
+    v_r16022_i488_i_i_i = (u32)((u32)(v_r2_i_i_i61_i_i_i_i_i_i) >> (u32)((8u & 31)));
+    v_r164_i489_i_i_i = (u8)(v_r16022_i488_i_i_i);
+    v_r168_i490_i_i_i = (u8)(v_r2_i_i_i61_i_i_i_i_i_i);
+    v_r17_i82_i498_i_i_i = (u64)((u64)(v_r7_sroa_129_2_i_i_i) + (u64)(18446744073709551610ull));
+    v_r26_i84_i500_i_i_i = (P)((uintptr_t)v_r14 + (u64)(v_r17_i82_i498_i_i_i));
+    put_u8(v_r26_i84_i500_i_i_i, 2u);
+    v_r40_i475_sroa_4_0_r26_i84_i500_sroa_idx_i_i_i = v_r26_i84_i500_i_i_i + 1;
+    put_u8(v_r40_i475_sroa_4_0_r26_i84_i500_sroa_idx_i_i_i, 132u);
+    v_r40_i475_sroa_5_0_r26_i84_i500_sroa_idx_i_i_i = v_r26_i84_i500_i_i_i + 2;
+    put_u8(v_r40_i475_sroa_5_0_r26_i84_i500_sroa_idx_i_i_i, v_r152_i485_i_i_i);
+    v_r40_i475_sroa_6_0_r26_i84_i500_sroa_idx_i_i_i = v_r26_i84_i500_i_i_i + 3;
+    put_u8(v_r40_i475_sroa_6_0_r26_i84_i500_sroa_idx_i_i_i, v_r158_i487_i_i_i);
+    v_r40_i475_sroa_7_0_r26_i84_i500_sroa_idx_i_i_i = v_r26_i84_i500_i_i_i + 4;
+    put_u8(v_r40_i475_sroa_7_0_r26_i84_i500_sroa_idx_i_i_i, v_r164_i489_i_i_i);
+    v_r40_i475_sroa_8_0_r26_i84_i500_sroa_idx_i_i_i = v_r26_i84_i500_i_i_i + 5;
+    put_u8(v_r40_i475_sroa_8_0_r26_i84_i500_sroa_idx_i_i_i, v_r168_i490_i_i_i);
+    { p_v_r7_sroa_129_19_i_i_i = v_r17_i82_i498_i_i_i; goto L_der_core_back_writer_BackWriter_prepend_header_exi__7; }
+L_der_core_back_writer_BackWriter_prepend_header_exi__7:;
+    v_r7_sroa_129_19_i_i_i = p_v_r7_sroa_129_19_i_i_i;
+    v_r17_i_i_i_i9_i_i_i_i_i = (u64)((u64)(v_r7_sroa_129_19_i_i_i) - (u64)(v_r1_sroa_3_0_copyload_i_i_i_i_i_i_i_i));
+    v_r26_i_i_i_i_i_i_i_i_i = (P)((uintptr_t)v_r14 + (u64)(v_r17_i_i_i_i9_i_i_i_i_i));
+    v_r8_i_i_i_i_i_i_i_i_i_i_i_i_i_i_i = (u64)((uintptr_t)v_r26_i_i_i_i_i_i_i_i_i);
+    v_r9_i_i_i_i_i_i_i_i_i_i_i_i_i_i_i = (u64)((uintptr_t)v_r1_sroa_0_0_copyload_i_i_i_i_i_i_i_i);
+    v_r10_i_i_i_i_i_i_i_i_i_i_i_i_i_i_i = (u64)((u64)(v_r8_i_i_i_i_i_i_i_i_i_i_i_i_i_i_i) - (u64)(v_r9_i_i_i_i_i_i_i_i_i_i_i_i_i_i_i));
+    v_r11_i_i_i_i_i_i_i_i_i_i_i_i_i_i_i = v_r10_i_i_i_i_i_i_i_i_i_i_i_i_i_i_i < v_r1_sroa_3_0_copyload_i_i_i_i_i_i_i_i;
+    if (v_r11_i_i_i_i_i_i_i_i_i_i_i_i_i_i_i) { goto L_join_7_i_i_i_i_i_i_i_i_i_i_i_i_i_i_i_preheader; } else { goto L_apart_2_i_i_i_i_i_i_i_i_i_i_i_i_i_i_i; }
+L_join_7_i_i_i_i_i_i_i_i_i_i_i_i_i_i_i_preheader:;
+    v_xtraiter202 = (u64)((u64)(v_r1_sroa_3_0_copyload_i_i_i_i_i_i_i_i) & (u64)(3u));
+    v_52 = v_r1_sroa_3_0_copyload_i_i_i_i_i_i_i_i < 4u;
+    if (v_52) { p_v_r0_04_i_i_i_i_i_i_i_i_i_i_i_i_i_i_i_epil_init = 0u; goto L_join_7_i_i_i_i_i_i_i_i_i_i_i_i_i_i_i_epil_preheade; } else { goto L_join_7_i_i_i_i_i_i_i_i_i_i_i_i_i_i_i_preheader_new; }
+L_join_7_i_i_i_i_i_i_i_i_i_i_i_i_i_i_i_preheader_new:;
+    v_unroll_iter206 = (u64)((u64)(v_r1_sroa_3_0_copyload_i_i_i_i_i_i_i_i) & (u64)(4294967292ull));
+    { p_v_r0_04_i_i_i_i_i_i_i_i_i_i_i_i_i_i_i = 0u; p_v_niter207 = 0u; goto L_join_7_i_i_i_i_i_i_i_i_i_i_i_i_i_i_i; }
+L_apart_2_i_i_i_i_i_i_i_i_i_i_i_i_i_i_i:;
+    move(v_r26_i_i_i_i_i_i_i_i_i, v_r1_sroa_0_0_copyload_i_i_i_i_i_i_i_i, v_r1_sroa_3_0_copyload_i_i_i_i_i_i_i_i);
+    { goto L_der_core_back_writer_BackWriter_prepend_exit_i_i_i__13; }
+L_join_7_i_i_i_i_i_i_i_i_i_i_i_i_i_i_i:;
+    v_r0_04_i_i_i_i_i_i_i_i_i_i_i_i_i_i_i = p_v_r0_04_i_i_i_i_i_i_i_i_i_i_i_i_i_i_i;
+    v_niter207 = p_v_niter207;
+    v_r20_i_i_i_i_i_i_i_i_i_i_i_i_i_i_i = v_r26_i_i_i_i_i_i_i_i_i + (int64_t)(v_r0_04_i_i_i_i_i_i_i_i_i_i_i_i_i_i_i);
+    v_r24_i_i_i_i_i_i_i_i_i_i_i_i_i_i_i = v_r1_sroa_0_0_copyload_i_i_i_i_i_i_i_i + (int64_t)(v_r0_04_i_i_i_i_i_i_i_i_i_i_i_i_i_i_i);
+    v_r26_i_i_i_i_i_i_i_i_i_i_i_i_i_i_i = get_u8(v_r24_i_i_i_i_i_i_i_i_i_i_i_i_i_i_i);
+    put_u8(v_r20_i_i_i_i_i_i_i_i_i_i_i_i_i_i_i, v_r26_i_i_i_i_i_i_i_i_i_i_i_i_i_i_i);
+    v_r30_i_i_i_i_i_i_i_i_i_i_i_i_i_i_i = (u64)((u64)(v_r0_04_i_i_i_i_i_i_i_i_i_i_i_i_i_i_i) | (u64)(1u));
+    v_r20_i_i_i_i_i_i_i_i_i_i_i_i_i_i_i_1 = v_r26_i_i_i_i_i_i_i_i_i + (int64_t)(v_r30_i_i_i_i_i_i_i_i_i_i_i_i_i_i_i);
+    v_r24_i_i_i_i_i_i_i_i_i_i_i_i_i_i_i_1 = v_r1_sroa_0_0_copyload_i_i_i_i_i_i_i_i + (int64_t)(v_r30_i_i_i_i_i_i_i_i_i_i_i_i_i_i_i);
+    v_r26_i_i_i_i_i_i_i_i_i_i_i_i_i_i_i_1 = get_u8(v_r24_i_i_i_i_i_i_i_i_i_i_i_i_i_i_i_1);
+    put_u8(v_r20_i_i_i_i_i_i_i_i_i_i_i_i_i_i_i_1, v_r26_i_i_i_i_i_i_i_i_i_i_i_i_i_i_i_1);
+    v_r30_i_i_i_i_i_i_i_i_i_i_i_i_i_i_i_1 = (u64)((u64)(v_r0_04_i_i_i_i_i_i_i_i_i_i_i_i_i_i_i) | (u64)(2u));
+    v_r20_i_i_i_i_i_i_i_i_i_i_i_i_i_i_i_2 = v_r26_i_i_i_i_i_i_i_i_i + (int64_t)(v_r30_i_i_i_i_i_i_i_i_i_i_i_i_i_i_i_1);
+    v_r24_i_i_i_i_i_i_i_i_i_i_i_i_i_i_i_2 = v_r1_sroa_0_0_copyload_i_i_i_i_i_i_i_i + (int64_t)(v_r30_i_i_i_i_i_i_i_i_i_i_i_i_i_i_i_1);
+    v_r26_i_i_i_i_i_i_i_i_i_i_i_i_i_i_i_2 = get_u8(v_r24_i_i_i_i_i_i_i_i_i_i_i_i_i_i_i_2);
+    put_u8(v_r20_i_i_i_i_i_i_i_i_i_i_i_i_i_i_i_2, v_r26_i_i_i_i_i_i_i_i_i_i_i_i_i_i_i_2);
+    v_r30_i_i_i_i_i_i_i_i_i_i_i_i_i_i_i_2 = (u64)((u64)(v_r0_04_i_i_i_i_i_i_i_i_i_i_i_i_i_i_i) | (u64)(3u));
+    v_r20_i_i_i_i_i_i_i_i_i_i_i_i_i_i_i_3 = v_r26_i_i_i_i_i_i_i_i_i + (int64_t)(v_r30_i_i_i_i_i_i_i_i_i_i_i_i_i_i_i_2);
+    v_r24_i_i_i_i_i_i_i_i_i_i_i_i_i_i_i_3 = v_r1_sroa_0_0_copyload_i_i_i_i_i_i_i_i + (int64_t)(v_r30_i_i_i_i_i_i_i_i_i_i_i_i_i_i_i_2);
+    v_r26_i_i_i_i_i_i_i_i_i_i_i_i_i_i_i_3 = get_u8(v_r24_i_i_i_i_i_i_i_i_i_i_i_i_i_i_i_3);
+    put_u8(v_r20_i_i_i_i_i_i_i_i_i_i_i_i_i_i_i_3, v_r26_i_i_i_i_i_i_i_i_i_i_i_i_i_i_i_3);
+    v_r30_i_i_i_i_i_i_i_i_i_i_i_i_i_i_i_3 = (u64)((u64)(v_r0_04_i_i_i_i_i_i_i_i_i_i_i_i_i_i_i) + (u64)(4u));
+    v_niter207_next_3 = (u64)((u64)(v_niter207) + (u64)(4u));
+    v_niter207_ncmp_3 = v_niter207_next_3 == v_unroll_iter206;
+    if (v_niter207_ncmp_3) { goto L_der_core_back_writer_BackWriter_prepend_exit_i_i_i__14; } else { p_v_r0_04_i_i_i_i_i_i_i_i_i_i_i_i_i_i_i = v_r30_i_i_i_i_i_i_i_i_i_i_i_i_i_i_i_3; p_v_niter207 = v_niter207_next_3; goto L_join_7_i_i_i_i_i_i_i_i_i_i_i_i_i_i_i; }
+L_der_core_back_writer_BackWriter_prepend_exit_i_i_i__14:;
+    v_lcmp_mod204_not = v_xtraiter202 == 0u;
+    if (v_lcmp_mod204_not) { goto L_der_core_back_writer_BackWriter_prepend_exit_i_i_i__13; } else { p_v_r0_04_i_i_i_i_i_i_i_i_i_i_i_i_i_i_i_epil_init = v_r30_i_i_i_i_i_i_i_i_i_i_i_i_i_i_i_3; goto L_join_7_i_i_i_i_i_i_i_i_i_i_i_i_i_i_i_epil_preheade; }
+L_join_7_i_i_i_i_i_i_i_i_i_i_i_i_i_i_i_epil_preheade:;
+    v_r0_04_i_i_i_i_i_i_i_i_i_i_i_i_i_i_i_epil_init = p_v_r0_04_i_i_i_i_i_i_i_i_i_i_i_i_i_i_i_epil_init;
+    { p_v_r0_04_i_i_i_i_i_i_i_i_i_i_i_i_i_i_i_epil = v_r0_04_i_i_i_i_i_i_i_i_i_i_i_i_i_i_i_epil_init; p_v_epil_iter203 = 0u; goto L_join_7_i_i_i_i_i_i_i_i_i_i_i_i_i_i_i_epil; }
+L_join_7_i_i_i_i_i_i_i_i_i_i_i_i_i_i_i_epil:;
+    v_r0_04_i_i_i_i_i_i_i_i_i_i_i_i_i_i_i_epil = p_v_r0_04_i_i_i_i_i_i_i_i_i_i_i_i_i_i_i_epil;
+    v_epil_iter203 = p_v_epil_iter203;
+    v_r20_i_i_i_i_i_i_i_i_i_i_i_i_i_i_i_epil = v_r26_i_i_i_i_i_i_i_i_i + (int64_t)(v_r0_04_i_i_i_i_i_i_i_i_i_i_i_i_i_i_i_epil);
+    v_r24_i_i_i_i_i_i_i_i_i_i_i_i_i_i_i_epil = v_r1_sroa_0_0_copyload_i_i_i_i_i_i_i_i + (int64_t)(v_r0_04_i_i_i_i_i_i_i_i_i_i_i_i_i_i_i_epil);
+    v_r26_i_i_i_i_i_i_i_i_i_i_i_i_i_i_i_epil = get_u8(v_r24_i_i_i_i_i_i_i_i_i_i_i_i_i_i_i_epil);
+    put_u8(v_r20_i_i_i_i_i_i_i_i_i_i_i_i_i_i_i_epil, v_r26_i_i_i_i_i_i_i_i_i_i_i_i_i_i_i_epil);
+    v_r30_i_i_i_i_i_i_i_i_i_i_i_i_i_i_i_epil = (u64)((u64)(v_r0_04_i_i_i_i_i_i_i_i_i_i_i_i_i_i_i_epil) + (u64)(1u));
+    v_epil_iter203_next = (u64)((u64)(v_epil_iter203) + (u64)(1u));
+    v_epil_iter203_cmp_not = v_epil_iter203_next == v_xtraiter202;
+    if (v_epil_iter203_cmp_not) { goto L_der_core_back_writer_BackWriter_prepend_exit_i_i_i__13; } else { p_v_r0_04_i_i_i_i_i_i_i_i_i_i_i_i_i_i_i_epil = v_r30_i_i_i_i_i_i_i_i_i_i_i_i_i_i_i_epil; p_v_epil_iter203 = v_epil_iter203_next; goto L_join_7_i_i_i_i_i_i_i_i_i_i_i_i_i_i_i_epil; }
+L_der_core_back_writer_BackWriter_prepend_exit_i_i_i__13:;
+    v_r15_not_i_i_i_i_i_i_i_i = (u8)(v_r20_i325_i_i ^ ((u8)1 << 7)) > (u8)(255u ^ ((u8)1 << 7));
+    if (v_r15_not_i_i_i_i_i_i_i_i) { p_v_r7_sroa_129_3_i_i_i = v_r17_i_i_i_i9_i_i_i_i_i; goto L_der_core_borrowed_BorrowedEncode_prepend_25cd36d81__5; } else { goto L_then_1_i_i_i_i_i_i_i_i; }
+L_then_1_i_i_i_i_i_i_i_i:;
+    v_r17_i3_i_i_i_i_i_i_i_i = (u64)((u64)(v_r17_i_i_i_i9_i_i_i_i_i) + (u64)(18446744073709551615ull));
+    v_r26_i5_i_i_i_i_i_i_i_i = (P)((uintptr_t)v_r14 + (u64)(v_r17_i3_i_i_i_i_i_i_i_i));
+    put_u8(v_r26_i5_i_i_i_i_i_i_i_i, 0u);
+    { p_v_r7_sroa_129_3_i_i_i = v_r17_i3_i_i_i_i_i_i_i_i; goto L_der_core_borrowed_BorrowedEncode_prepend_25cd36d81__5; }
+L_der_core_borrowed_BorrowedEncode_prepend_25cd36d81__5:;
+    v_r7_sroa_129_3_i_i_i = p_v_r7_sroa_129_3_i_i_i;
+    v_53 = (u64)((u64)(v_r7_sroa_129_3_i_i_i) + (u64)(v_r3_i5_i_i_i));
+    v_54 = (u64)((u64)(v_r7_sroa_129_19_i_i_i) - (u64)(v_53));
+    v_55 = (u32)(v_54);
+    v_r2_i_i_i_i_i_i_i_i = (u32)((u32)(v_r1_sroa_9_4_copyload_i_i_i_i) + (u32)(v_55));
+    v_r59_i400_i_i_i = v_r2_i_i_i_i_i_i_i_i < 128u;
+    if (v_r59_i400_i_i_i) { goto L_then_1_i461_i_i_i; } else { goto L_else_2_i401_i_i_i; }
+L_then_1_i461_i_i_i:;
+    v_r64_i462_i_i_i = (u16)(v_r2_i_i_i_i_i_i_i_i);
+    v_r17_i_i466_i_i_i = (u64)((u64)(v_r7_sroa_129_3_i_i_i) + (u64)(18446744073709551614ull));
+    v_r26_i_i468_i_i_i = (P)((uintptr_t)v_r14 + (u64)(v_r17_i_i466_i_i_i));
+    v_r8_i395_sroa_4_0_insert_shift_i_i_i = (u16)((u32)(v_r64_i462_i_i_i) << (u32)((8u & 31)));
+    v_r8_i395_sroa_0_0_insert_insert_i_i_i = (u16)((u32)(v_r8_i395_sroa_4_0_insert_shift_i_i_i) | (u32)(2u));
+    put_u16(v_r26_i_i468_i_i_i, v_r8_i395_sroa_0_0_insert_insert_i_i_i);
+    { p_v_r7_sroa_129_18_i_i_i = v_r17_i_i466_i_i_i; goto L_der_core_back_writer_BackWriter_prepend_header_exi__8; }
+L_else_2_i401_i_i_i:;
+    v_r75_i402_i_i_i = v_r2_i_i_i_i_i_i_i_i < 256u;
+    if (v_r75_i402_i_i_i) { goto L_then_4_i452_i_i_i; } else { goto L_else_5_i403_i_i_i; }
+L_then_4_i452_i_i_i:;
+    v_r80_i453_i_i_i = (u8)(v_r2_i_i_i_i_i_i_i_i);
+    v_r17_i28_i458_i_i_i = (u64)((u64)(v_r7_sroa_129_3_i_i_i) + (u64)(18446744073709551613ull));
+    v_r26_i30_i460_i_i_i = (P)((uintptr_t)v_r14 + (u64)(v_r17_i28_i458_i_i_i));
+    put_u8(v_r26_i30_i460_i_i_i, 2u);
+    v_r14_i396_sroa_4_0_r26_i30_i460_sroa_idx_i_i_i = v_r26_i30_i460_i_i_i + 1;
+    put_u8(v_r14_i396_sroa_4_0_r26_i30_i460_sroa_idx_i_i_i, 129u);
+    v_r14_i396_sroa_5_0_r26_i30_i460_sroa_idx_i_i_i = v_r26_i30_i460_i_i_i + 2;
+    put_u8(v_r14_i396_sroa_5_0_r26_i30_i460_sroa_idx_i_i_i, v_r80_i453_i_i_i);
+    { p_v_r7_sroa_129_18_i_i_i = v_r17_i28_i458_i_i_i; goto L_der_core_back_writer_BackWriter_prepend_header_exi__8; }
+L_else_5_i403_i_i_i:;
+    v_r92_i404_i_i_i = v_r2_i_i_i_i_i_i_i_i < 65536u;
+    if (v_r92_i404_i_i_i) { goto L_then_7_i440_i_i_i; } else { goto L_else_8_i405_i_i_i; }
+L_then_7_i440_i_i_i:;
+    v_r17_i46_i448_i_i_i = (u64)((u64)(v_r7_sroa_129_3_i_i_i) + (u64)(18446744073709551612ull));
+    v_r26_i48_i450_i_i_i = (P)((uintptr_t)v_r14 + (u64)(v_r17_i46_i448_i_i_i));
+    v_56 = (u32)((u32)(v_r2_i_i_i_i_i_i_i_i) | (u32)(42074112u));
+    v_r20_i397_sroa_0_0_insert_insert_i_i_i = __builtin_bswap32(v_56);
+    put_u32(v_r26_i48_i450_i_i_i, v_r20_i397_sroa_0_0_insert_insert_i_i_i);
+    { p_v_r7_sroa_129_18_i_i_i = v_r17_i46_i448_i_i_i; goto L_der_core_back_writer_BackWriter_prepend_header_exi__8; }
+L_else_8_i405_i_i_i:;
+    v_r117_i406_i_i_i = v_r2_i_i_i_i_i_i_i_i < 16777216u;
+    if (v_r117_i406_i_i_i) { goto L_then_10_i425_i_i_i; } else { goto L_else_11_i407_i_i_i; }
+L_then_10_i425_i_i_i:;
+    v_r12223_i426_i_i_i = (u32)((u32)(v_r2_i_i_i_i_i_i_i_i) >> (u32)((16u & 31)));
+    v_r124_i427_i_i_i = (u8)(v_r12223_i426_i_i_i);
+    v_r12624_i428_i_i_i = (u32)((u32)(v_r2_i_i_i_i_i_i_i_i) >> (u32)((8u & 31)));
+    v_r130_i429_i_i_i = (u8)(v_r12624_i428_i_i_i);
+    v_r134_i430_i_i_i = (u8)(v_r2_i_i_i_i_i_i_i_i);
+    v_r17_i64_i437_i_i_i = (u64)((u64)(v_r7_sroa_129_3_i_i_i) + (u64)(18446744073709551611ull));
+    v_r26_i66_i439_i_i_i = (P)((uintptr_t)v_r14 + (u64)(v_r17_i64_i437_i_i_i));
+    put_u8(v_r26_i66_i439_i_i_i, 2u);
+    v_r29_i398_sroa_4_0_r26_i66_i439_sroa_idx_i_i_i = v_r26_i66_i439_i_i_i + 1;
+    put_u8(v_r29_i398_sroa_4_0_r26_i66_i439_sroa_idx_i_i_i, 131u);
+    v_r29_i398_sroa_5_0_r26_i66_i439_sroa_idx_i_i_i = v_r26_i66_i439_i_i_i + 2;
+    put_u8(v_r29_i398_sroa_5_0_r26_i66_i439_sroa_idx_i_i_i, v_r124_i427_i_i_i);
+    v_r29_i398_sroa_6_0_r26_i66_i439_sroa_idx_i_i_i = v_r26_i66_i439_i_i_i + 3;
+    put_u8(v_r29_i398_sroa_6_0_r26_i66_i439_sroa_idx_i_i_i, v_r130_i429_i_i_i);
+    v_r29_i398_sroa_7_0_r26_i66_i439_sroa_idx_i_i_i = v_r26_i66_i439_i_i_i + 4;
+    put_u8(v_r29_i398_sroa_7_0_r26_i66_i439_sroa_idx_i_i_i, v_r134_i430_i_i_i);
+    { p_v_r7_sroa_129_18_i_i_i = v_r17_i64_i437_i_i_i; goto L_der_core_back_writer_BackWriter_prepend_header_exi__8; }
+L_else_11_i407_i_i_i:;
+    v_r15020_i408_i_i_i = (u32)((u32)(v_r2_i_i_i_i_i_i_i_i) >> (u32)((24u & 31)));
+    v_r152_i409_i_i_i = (u8)(v_r15020_i408_i_i_i);
+    v_r15421_i410_i_i_i = (u32)((u32)(v_r2_i_i_i_i_i_i_i_i) >> (u32)((16u & 31)));
+    v_r158_i411_i_i_i = (u8)(v_r15421_i410_i_i_i);
+    v_r16022_i412_i_i_i = (u32)((u32)(v_r2_i_i_i_i_i_i_i_i) >> (u32)((8u & 31)));
+    v_r164_i413_i_i_i = (u8)(v_r16022_i412_i_i_i);
+    v_r168_i414_i_i_i = (u8)(v_r2_i_i_i_i_i_i_i_i);
+    v_r17_i82_i422_i_i_i = (u64)((u64)(v_r7_sroa_129_3_i_i_i) + (u64)(18446744073709551610ull));
+    v_r26_i84_i424_i_i_i = (P)((uintptr_t)v_r14 + (u64)(v_r17_i82_i422_i_i_i));
+    put_u8(v_r26_i84_i424_i_i_i, 2u);
+    v_r40_i399_sroa_4_0_r26_i84_i424_sroa_idx_i_i_i = v_r26_i84_i424_i_i_i + 1;
+    put_u8(v_r40_i399_sroa_4_0_r26_i84_i424_sroa_idx_i_i_i, 132u);
+    v_r40_i399_sroa_5_0_r26_i84_i424_sroa_idx_i_i_i = v_r26_i84_i424_i_i_i + 2;
+    put_u8(v_r40_i399_sroa_5_0_r26_i84_i424_sroa_idx_i_i_i, v_r152_i409_i_i_i);
+    v_r40_i399_sroa_6_0_r26_i84_i424_sroa_idx_i_i_i = v_r26_i84_i424_i_i_i + 3;
+    put_u8(v_r40_i399_sroa_6_0_r26_i84_i424_sroa_idx_i_i_i, v_r158_i411_i_i_i);
+    v_r40_i399_sroa_7_0_r26_i84_i424_sroa_idx_i_i_i = v_r26_i84_i424_i_i_i + 4;
+    put_u8(v_r40_i399_sroa_7_0_r26_i84_i424_sroa_idx_i_i_i, v_r164_i413_i_i_i);
+    v_r40_i399_sroa_8_0_r26_i84_i424_sroa_idx_i_i_i = v_r26_i84_i424_i_i_i + 5;
+    put_u8(v_r40_i399_sroa_8_0_r26_i84_i424_sroa_idx_i_i_i, v_r168_i414_i_i_i);
+    { p_v_r7_sroa_129_18_i_i_i = v_r17_i82_i422_i_i_i; goto L_der_core_back_writer_BackWriter_prepend_header_exi__8; }
+L_der_core_back_writer_BackWriter_prepend_header_exi__8:;
+    v_r7_sroa_129_18_i_i_i = p_v_r7_sroa_129_18_i_i_i;
+    v_r17_i_i_i_i15_i_i_i_i_i = (u64)((u64)(v_r7_sroa_129_18_i_i_i) - (u64)(v_r1_sroa_3_0_copyload_i_i_i14_i_i_i_i_i));
+    v_r26_i_i_i_i17_i_i_i_i_i = (P)((uintptr_t)v_r14 + (u64)(v_r17_i_i_i_i15_i_i_i_i_i));
+    v_r8_i_i_i_i_i_i_i_i_i_i18_i_i_i_i_i = (u64)((uintptr_t)v_r26_i_i_i_i17_i_i_i_i_i);
+    v_r9_i_i_i_i_i_i_i_i_i_i19_i_i_i_i_i = (u64)((uintptr_t)v_r1_sroa_0_0_copyload_i_i_i12_i_i_i_i_i);
+    v_r10_i_i_i_i_i_i_i_i_i_i20_i_i_i_i_i = (u64)((u64)(v_r8_i_i_i_i_i_i_i_i_i_i18_i_i_i_i_i) - (u64)(v_r9_i_i_i_i_i_i_i_i_i_i19_i_i_i_i_i));
+    v_r11_i_i_i_i_i_i_i_i_i_i21_i_i_i_i_i = v_r10_i_i_i_i_i_i_i_i_i_i20_i_i_i_i_i < v_r1_sroa_3_0_copyload_i_i_i14_i_i_i_i_i;
+    if (v_r11_i_i_i_i_i_i_i_i_i_i21_i_i_i_i_i) { goto L_join_7_i_i_i_i_i_i_i_i_i_i35_i_i_i_i_i_preheader; } else { goto L_apart_2_i_i_i_i_i_i_i_i_i_i22_i_i_i_i_i; }
+L_join_7_i_i_i_i_i_i_i_i_i_i35_i_i_i_i_i_preheader:;
+    v_xtraiter208 = (u64)((u64)(v_r1_sroa_3_0_copyload_i_i_i14_i_i_i_i_i) & (u64)(3u));
+    v_57 = v_r1_sroa_3_0_copyload_i_i_i14_i_i_i_i_i < 4u;
+    if (v_57) { p_v_r0_04_i_i_i_i_i_i_i_i_i_i36_i_i_i_i_i_epil_init = 0u; goto L_join_7_i_i_i_i_i_i_i_i_i_i35_i_i_i_i_i_epil_prehea; } else { goto L_join_7_i_i_i_i_i_i_i_i_i_i35_i_i_i_i_i_preheader_n; }
+L_join_7_i_i_i_i_i_i_i_i_i_i35_i_i_i_i_i_preheader_n:;
+    v_unroll_iter212 = (u64)((u64)(v_r1_sroa_3_0_copyload_i_i_i14_i_i_i_i_i) & (u64)(4294967292ull));
+    { p_v_r0_04_i_i_i_i_i_i_i_i_i_i36_i_i_i_i_i = 0u; p_v_niter213 = 0u; goto L_join_7_i_i_i_i_i_i_i_i_i_i35_i_i_i_i_i; }
+L_apart_2_i_i_i_i_i_i_i_i_i_i22_i_i_i_i_i:;
+    move(v_r26_i_i_i_i17_i_i_i_i_i, v_r1_sroa_0_0_copyload_i_i_i12_i_i_i_i_i, v_r1_sroa_3_0_copyload_i_i_i14_i_i_i_i_i);
+    { goto L_der_core_back_writer_BackWriter_prepend_exit_i_i_i__15; }
+L_join_7_i_i_i_i_i_i_i_i_i_i35_i_i_i_i_i:;
+    v_r0_04_i_i_i_i_i_i_i_i_i_i36_i_i_i_i_i = p_v_r0_04_i_i_i_i_i_i_i_i_i_i36_i_i_i_i_i;
+    v_niter213 = p_v_niter213;
+    v_r20_i_i_i_i_i_i_i_i_i_i37_i_i_i_i_i = v_r26_i_i_i_i17_i_i_i_i_i + (int64_t)(v_r0_04_i_i_i_i_i_i_i_i_i_i36_i_i_i_i_i);
+    v_r24_i_i_i_i_i_i_i_i_i_i38_i_i_i_i_i = v_r1_sroa_0_0_copyload_i_i_i12_i_i_i_i_i + (int64_t)(v_r0_04_i_i_i_i_i_i_i_i_i_i36_i_i_i_i_i);
+    v_r26_i_i_i_i_i_i_i_i_i_i39_i_i_i_i_i = get_u8(v_r24_i_i_i_i_i_i_i_i_i_i38_i_i_i_i_i);
+    put_u8(v_r20_i_i_i_i_i_i_i_i_i_i37_i_i_i_i_i, v_r26_i_i_i_i_i_i_i_i_i_i39_i_i_i_i_i);
+    v_r30_i_i_i_i_i_i_i_i_i_i40_i_i_i_i_i = (u64)((u64)(v_r0_04_i_i_i_i_i_i_i_i_i_i36_i_i_i_i_i) | (u64)(1u));
+    v_r20_i_i_i_i_i_i_i_i_i_i37_i_i_i_i_i_1 = v_r26_i_i_i_i17_i_i_i_i_i + (int64_t)(v_r30_i_i_i_i_i_i_i_i_i_i40_i_i_i_i_i);
+    v_r24_i_i_i_i_i_i_i_i_i_i38_i_i_i_i_i_1 = v_r1_sroa_0_0_copyload_i_i_i12_i_i_i_i_i + (int64_t)(v_r30_i_i_i_i_i_i_i_i_i_i40_i_i_i_i_i);
+    v_r26_i_i_i_i_i_i_i_i_i_i39_i_i_i_i_i_1 = get_u8(v_r24_i_i_i_i_i_i_i_i_i_i38_i_i_i_i_i_1);
+    put_u8(v_r20_i_i_i_i_i_i_i_i_i_i37_i_i_i_i_i_1, v_r26_i_i_i_i_i_i_i_i_i_i39_i_i_i_i_i_1);
+    v_r30_i_i_i_i_i_i_i_i_i_i40_i_i_i_i_i_1 = (u64)((u64)(v_r0_04_i_i_i_i_i_i_i_i_i_i36_i_i_i_i_i) | (u64)(2u));
+    v_r20_i_i_i_i_i_i_i_i_i_i37_i_i_i_i_i_2 = v_r26_i_i_i_i17_i_i_i_i_i + (int64_t)(v_r30_i_i_i_i_i_i_i_i_i_i40_i_i_i_i_i_1);
+    v_r24_i_i_i_i_i_i_i_i_i_i38_i_i_i_i_i_2 = v_r1_sroa_0_0_copyload_i_i_i12_i_i_i_i_i + (int64_t)(v_r30_i_i_i_i_i_i_i_i_i_i40_i_i_i_i_i_1);
+    v_r26_i_i_i_i_i_i_i_i_i_i39_i_i_i_i_i_2 = get_u8(v_r24_i_i_i_i_i_i_i_i_i_i38_i_i_i_i_i_2);
+    put_u8(v_r20_i_i_i_i_i_i_i_i_i_i37_i_i_i_i_i_2, v_r26_i_i_i_i_i_i_i_i_i_i39_i_i_i_i_i_2);
+    v_r30_i_i_i_i_i_i_i_i_i_i40_i_i_i_i_i_2 = (u64)((u64)(v_r0_04_i_i_i_i_i_i_i_i_i_i36_i_i_i_i_i) | (u64)(3u));
+    v_r20_i_i_i_i_i_i_i_i_i_i37_i_i_i_i_i_3 = v_r26_i_i_i_i17_i_i_i_i_i + (int64_t)(v_r30_i_i_i_i_i_i_i_i_i_i40_i_i_i_i_i_2);
+    v_r24_i_i_i_i_i_i_i_i_i_i38_i_i_i_i_i_3 = v_r1_sroa_0_0_copyload_i_i_i12_i_i_i_i_i + (int64_t)(v_r30_i_i_i_i_i_i_i_i_i_i40_i_i_i_i_i_2);
+    v_r26_i_i_i_i_i_i_i_i_i_i39_i_i_i_i_i_3 = get_u8(v_r24_i_i_i_i_i_i_i_i_i_i38_i_i_i_i_i_3);
+    put_u8(v_r20_i_i_i_i_i_i_i_i_i_i37_i_i_i_i_i_3, v_r26_i_i_i_i_i_i_i_i_i_i39_i_i_i_i_i_3);
+    v_r30_i_i_i_i_i_i_i_i_i_i40_i_i_i_i_i_3 = (u64)((u64)(v_r0_04_i_i_i_i_i_i_i_i_i_i36_i_i_i_i_i) + (u64)(4u));
+    v_niter213_next_3 = (u64)((u64)(v_niter213) + (u64)(4u));
+    v_niter213_ncmp_3 = v_niter213_next_3 == v_unroll_iter212;
+    if (v_niter213_ncmp_3) { goto L_der_core_back_writer_BackWriter_prepend_exit_i_i_i__16; } else { p_v_r0_04_i_i_i_i_i_i_i_i_i_i36_i_i_i_i_i = v_r30_i_i_i_i_i_i_i_i_i_i40_i_i_i_i_i_3; p_v_niter213 = v_niter213_next_3; goto L_join_7_i_i_i_i_i_i_i_i_i_i35_i_i_i_i_i; }
+L_der_core_back_writer_BackWriter_prepend_exit_i_i_i__16:;
+    v_lcmp_mod210_not = v_xtraiter208 == 0u;
+    if (v_lcmp_mod210_not) { goto L_der_core_back_writer_BackWriter_prepend_exit_i_i_i__15; } else { p_v_r0_04_i_i_i_i_i_i_i_i_i_i36_i_i_i_i_i_epil_init = v_r30_i_i_i_i_i_i_i_i_i_i40_i_i_i_i_i_3; goto L_join_7_i_i_i_i_i_i_i_i_i_i35_i_i_i_i_i_epil_prehea; }
+L_join_7_i_i_i_i_i_i_i_i_i_i35_i_i_i_i_i_epil_prehea:;
+    v_r0_04_i_i_i_i_i_i_i_i_i_i36_i_i_i_i_i_epil_init = p_v_r0_04_i_i_i_i_i_i_i_i_i_i36_i_i_i_i_i_epil_init;
+    { p_v_r0_04_i_i_i_i_i_i_i_i_i_i36_i_i_i_i_i_epil = v_r0_04_i_i_i_i_i_i_i_i_i_i36_i_i_i_i_i_epil_init; p_v_epil_iter209 = 0u; goto L_join_7_i_i_i_i_i_i_i_i_i_i35_i_i_i_i_i_epil; }
+L_join_7_i_i_i_i_i_i_i_i_i_i35_i_i_i_i_i_epil:;
+    v_r0_04_i_i_i_i_i_i_i_i_i_i36_i_i_i_i_i_epil = p_v_r0_04_i_i_i_i_i_i_i_i_i_i36_i_i_i_i_i_epil;
+    v_epil_iter209 = p_v_epil_iter209;
+    v_r20_i_i_i_i_i_i_i_i_i_i37_i_i_i_i_i_epil = v_r26_i_i_i_i17_i_i_i_i_i + (int64_t)(v_r0_04_i_i_i_i_i_i_i_i_i_i36_i_i_i_i_i_epil);
+    v_r24_i_i_i_i_i_i_i_i_i_i38_i_i_i_i_i_epil = v_r1_sroa_0_0_copyload_i_i_i12_i_i_i_i_i + (int64_t)(v_r0_04_i_i_i_i_i_i_i_i_i_i36_i_i_i_i_i_epil);
+    v_r26_i_i_i_i_i_i_i_i_i_i39_i_i_i_i_i_epil = get_u8(v_r24_i_i_i_i_i_i_i_i_i_i38_i_i_i_i_i_epil);
+    put_u8(v_r20_i_i_i_i_i_i_i_i_i_i37_i_i_i_i_i_epil, v_r26_i_i_i_i_i_i_i_i_i_i39_i_i_i_i_i_epil);
+    v_r30_i_i_i_i_i_i_i_i_i_i40_i_i_i_i_i_epil = (u64)((u64)(v_r0_04_i_i_i_i_i_i_i_i_i_i36_i_i_i_i_i_epil) + (u64)(1u));
+    v_epil_iter209_next = (u64)((u64)(v_epil_iter209) + (u64)(1u));
+    v_epil_iter209_cmp_not = v_epil_iter209_next == v_xtraiter208;
+    if (v_epil_iter209_cmp_not) { goto L_der_core_back_writer_BackWriter_prepend_exit_i_i_i__15; } else { p_v_r0_04_i_i_i_i_i_i_i_i_i_i36_i_i_i_i_i_epil = v_r30_i_i_i_i_i_i_i_i_i_i40_i_i_i_i_i_epil; p_v_epil_iter209 = v_epil_iter209_next; goto L_join_7_i_i_i_i_i_i_i_i_i_i35_i_i_i_i_i_epil; }
+L_der_core_back_writer_BackWriter_prepend_exit_i_i_i__15:;
+    v_r15_not_i_i_i26_i_i_i_i_i = (u8)(v_r20_i315_i_i ^ ((u8)1 << 7)) > (u8)(255u ^ ((u8)1 << 7));
+    if (v_r15_not_i_i_i26_i_i_i_i_i) { p_v_r7_sroa_129_4_i_i_i = v_r17_i_i_i_i15_i_i_i_i_i; goto L_der_core_borrowed_BorrowedEncode_prepend_25cd36d81__6; } else { goto L_then_1_i_i_i27_i_i_i_i_i; }
+L_then_1_i_i_i27_i_i_i_i_i:;
+    v_r17_i3_i_i_i28_i_i_i_i_i = (u64)((u64)(v_r17_i_i_i_i15_i_i_i_i_i) + (u64)(18446744073709551615ull));
+    v_r26_i5_i_i_i30_i_i_i_i_i = (P)((uintptr_t)v_r14 + (u64)(v_r17_i3_i_i_i28_i_i_i_i_i));
+    put_u8(v_r26_i5_i_i_i30_i_i_i_i_i, 0u);
+    { p_v_r7_sroa_129_4_i_i_i = v_r17_i3_i_i_i28_i_i_i_i_i; goto L_der_core_borrowed_BorrowedEncode_prepend_25cd36d81__6; }
+L_der_core_borrowed_BorrowedEncode_prepend_25cd36d81__6:;
+    v_r7_sroa_129_4_i_i_i = p_v_r7_sroa_129_4_i_i_i;
+    v_58 = (u64)((u64)(v_r7_sroa_129_4_i_i_i) + (u64)(v_r3_i5_i_i_i));
+    v_59 = (u64)((u64)(v_r7_sroa_129_18_i_i_i) - (u64)(v_58));
+    v_60 = (u32)(v_59);
+    v_r2_i_i_i34_i_i_i_i_i = (u32)((u32)(v_r1_sroa_9_4_copyload_i_i_i_i) + (u32)(v_60));
+    v_r59_i324_i_i_i = v_r2_i_i_i34_i_i_i_i_i < 128u;
+    if (v_r59_i324_i_i_i) { goto L_then_1_i385_i_i_i; } else { goto L_else_2_i325_i_i_i; }
+L_then_1_i385_i_i_i:;
+    v_r64_i386_i_i_i = (u16)(v_r2_i_i_i34_i_i_i_i_i);
+    v_r17_i_i390_i_i_i = (u64)((u64)(v_r7_sroa_129_4_i_i_i) + (u64)(18446744073709551614ull));
+    v_r26_i_i392_i_i_i = (P)((uintptr_t)v_r14 + (u64)(v_r17_i_i390_i_i_i));
+    v_r8_i319_sroa_4_0_insert_shift_i_i_i = (u16)((u32)(v_r64_i386_i_i_i) << (u32)((8u & 31)));
+    v_r8_i319_sroa_0_0_insert_insert_i_i_i = (u16)((u32)(v_r8_i319_sroa_4_0_insert_shift_i_i_i) | (u32)(2u));
+    put_u16(v_r26_i_i392_i_i_i, v_r8_i319_sroa_0_0_insert_insert_i_i_i);
+    { p_v_r7_sroa_129_17_i_i_i = v_r17_i_i390_i_i_i; goto L_der_core_back_writer_BackWriter_prepend_header_exi__9; }
+L_else_2_i325_i_i_i:;
+    v_r75_i326_i_i_i = v_r2_i_i_i34_i_i_i_i_i < 256u;
+    if (v_r75_i326_i_i_i) { goto L_then_4_i376_i_i_i; } else { goto L_else_5_i327_i_i_i; }
+L_then_4_i376_i_i_i:;
+    v_r80_i377_i_i_i = (u8)(v_r2_i_i_i34_i_i_i_i_i);
+    v_r17_i28_i382_i_i_i = (u64)((u64)(v_r7_sroa_129_4_i_i_i) + (u64)(18446744073709551613ull));
+    v_r26_i30_i384_i_i_i = (P)((uintptr_t)v_r14 + (u64)(v_r17_i28_i382_i_i_i));
+    put_u8(v_r26_i30_i384_i_i_i, 2u);
+    v_r14_i320_sroa_4_0_r26_i30_i384_sroa_idx_i_i_i = v_r26_i30_i384_i_i_i + 1;
+    put_u8(v_r14_i320_sroa_4_0_r26_i30_i384_sroa_idx_i_i_i, 129u);
+    v_r14_i320_sroa_5_0_r26_i30_i384_sroa_idx_i_i_i = v_r26_i30_i384_i_i_i + 2;
+    put_u8(v_r14_i320_sroa_5_0_r26_i30_i384_sroa_idx_i_i_i, v_r80_i377_i_i_i);
+    { p_v_r7_sroa_129_17_i_i_i = v_r17_i28_i382_i_i_i; goto L_der_core_back_writer_BackWriter_prepend_header_exi__9; }
+L_else_5_i327_i_i_i:;
+    v_r92_i328_i_i_i = v_r2_i_i_i34_i_i_i_i_i < 65536u;
+    if (v_r92_i328_i_i_i) { goto L_then_7_i364_i_i_i; } else { goto L_else_8_i329_i_i_i; }
+L_then_7_i364_i_i_i:;
+    v_r17_i46_i372_i_i_i = (u64)((u64)(v_r7_sroa_129_4_i_i_i) + (u64)(18446744073709551612ull));
+    v_r26_i48_i374_i_i_i = (P)((uintptr_t)v_r14 + (u64)(v_r17_i46_i372_i_i_i));
+    v_61 = (u32)((u32)(v_r2_i_i_i34_i_i_i_i_i) | (u32)(42074112u));
+    v_r20_i321_sroa_0_0_insert_insert_i_i_i = __builtin_bswap32(v_61);
+    put_u32(v_r26_i48_i374_i_i_i, v_r20_i321_sroa_0_0_insert_insert_i_i_i);
+    { p_v_r7_sroa_129_17_i_i_i = v_r17_i46_i372_i_i_i; goto L_der_core_back_writer_BackWriter_prepend_header_exi__9; }
+L_else_8_i329_i_i_i:;
+    v_r117_i330_i_i_i = v_r2_i_i_i34_i_i_i_i_i < 16777216u;
+    if (v_r117_i330_i_i_i) { goto L_then_10_i349_i_i_i; } else { goto L_else_11_i331_i_i_i; }
+L_then_10_i349_i_i_i:;
+    v_r12223_i350_i_i_i = (u32)((u32)(v_r2_i_i_i34_i_i_i_i_i) >> (u32)((16u & 31)));
+    v_r124_i351_i_i_i = (u8)(v_r12223_i350_i_i_i);
+    v_r12624_i352_i_i_i = (u32)((u32)(v_r2_i_i_i34_i_i_i_i_i) >> (u32)((8u & 31)));
+    v_r130_i353_i_i_i = (u8)(v_r12624_i352_i_i_i);
+    v_r134_i354_i_i_i = (u8)(v_r2_i_i_i34_i_i_i_i_i);
+    v_r17_i64_i361_i_i_i = (u64)((u64)(v_r7_sroa_129_4_i_i_i) + (u64)(18446744073709551611ull));
+    v_r26_i66_i363_i_i_i = (P)((uintptr_t)v_r14 + (u64)(v_r17_i64_i361_i_i_i));
+    put_u8(v_r26_i66_i363_i_i_i, 2u);
+    v_r29_i322_sroa_4_0_r26_i66_i363_sroa_idx_i_i_i = v_r26_i66_i363_i_i_i + 1;
+    put_u8(v_r29_i322_sroa_4_0_r26_i66_i363_sroa_idx_i_i_i, 131u);
+    v_r29_i322_sroa_5_0_r26_i66_i363_sroa_idx_i_i_i = v_r26_i66_i363_i_i_i + 2;
+    put_u8(v_r29_i322_sroa_5_0_r26_i66_i363_sroa_idx_i_i_i, v_r124_i351_i_i_i);
+    v_r29_i322_sroa_6_0_r26_i66_i363_sroa_idx_i_i_i = v_r26_i66_i363_i_i_i + 3;
+    put_u8(v_r29_i322_sroa_6_0_r26_i66_i363_sroa_idx_i_i_i, v_r130_i353_i_i_i);
+    v_r29_i322_sroa_7_0_r26_i66_i363_sroa_idx_i_i_i = v_r26_i66_i363_i_i_i + 4;
+    put_u8(v_r29_i322_sroa_7_0_r26_i66_i363_sroa_idx_i_i_i, v_r134_i354_i_i_i);
+    { p_v_r7_sroa_129_17_i_i_i = v_r17_i64_i361_i_i_i; goto L_der_core_back_writer_BackWriter_prepend_header_exi__9; }
+L_else_11_i331_i_i_i:;
+    v_r15020_i332_i_i_i = (u32)((u32)(v_r2_i_i_i34_i_i_i_i_i) >> (u32)((24u & 31)));
+    v_r152_i333_i_i_i = (u8)(v_r15020_i332_i_i_i);
+    v_r15421_i334_i_i_i = (u32)((u32)(v_r2_i_i_i34_i_i_i_i_i) >> (u32)((16u & 31)));
+    v_r158_i335_i_i_i = (u8)(v_r15421_i334_i_i_i);
+    v_r16022_i336_i_i_i = (u32)((u32)(v_r2_i_i_i34_i_i_i_i_i) >> (u32)((8u & 31)));
+    v_r164_i337_i_i_i = (u8)(v_r16022_i336_i_i_i);
+    v_r168_i338_i_i_i = (u8)(v_r2_i_i_i34_i_i_i_i_i);
+    v_r17_i82_i346_i_i_i = (u64)((u64)(v_r7_sroa_129_4_i_i_i) + (u64)(18446744073709551610ull));
+    v_r26_i84_i348_i_i_i = (P)((uintptr_t)v_r14 + (u64)(v_r17_i82_i346_i_i_i));
+    put_u8(v_r26_i84_i348_i_i_i, 2u);
+    v_r40_i323_sroa_4_0_r26_i84_i348_sroa_idx_i_i_i = v_r26_i84_i348_i_i_i + 1;
+    put_u8(v_r40_i323_sroa_4_0_r26_i84_i348_sroa_idx_i_i_i, 132u);
+    v_r40_i323_sroa_5_0_r26_i84_i348_sroa_idx_i_i_i = v_r26_i84_i348_i_i_i + 2;
+    put_u8(v_r40_i323_sroa_5_0_r26_i84_i348_sroa_idx_i_i_i, v_r152_i333_i_i_i);
+    v_r40_i323_sroa_6_0_r26_i84_i348_sroa_idx_i_i_i = v_r26_i84_i348_i_i_i + 3;
+    put_u8(v_r40_i323_sroa_6_0_r26_i84_i348_sroa_idx_i_i_i, v_r158_i335_i_i_i);
+    v_r40_i323_sroa_7_0_r26_i84_i348_sroa_idx_i_i_i = v_r26_i84_i348_i_i_i + 4;
+    put_u8(v_r40_i323_sroa_7_0_r26_i84_i348_sroa_idx_i_i_i, v_r164_i337_i_i_i);
+    v_r40_i323_sroa_8_0_r26_i84_i348_sroa_idx_i_i_i = v_r26_i84_i348_i_i_i + 5;
+    put_u8(v_r40_i323_sroa_8_0_r26_i84_i348_sroa_idx_i_i_i, v_r168_i338_i_i_i);
+    { p_v_r7_sroa_129_17_i_i_i = v_r17_i82_i346_i_i_i; goto L_der_core_back_writer_BackWriter_prepend_header_exi__9; }
+L_der_core_back_writer_BackWriter_prepend_header_exi__9:;
+    v_r7_sroa_129_17_i_i_i = p_v_r7_sroa_129_17_i_i_i;
+    v_r17_i_i_i_i48_i_i_i_i_i = (u64)((u64)(v_r7_sroa_129_17_i_i_i) - (u64)(v_r1_sroa_3_0_copyload_i_i_i47_i_i_i_i_i));
+    v_r26_i_i_i_i50_i_i_i_i_i = (P)((uintptr_t)v_r14 + (u64)(v_r17_i_i_i_i48_i_i_i_i_i));
+    v_r8_i_i_i_i_i_i_i_i_i_i51_i_i_i_i_i = (u64)((uintptr_t)v_r26_i_i_i_i50_i_i_i_i_i);
+    v_r9_i_i_i_i_i_i_i_i_i_i52_i_i_i_i_i = (u64)((uintptr_t)v_r1_sroa_0_0_copyload_i_i_i45_i_i_i_i_i);
+    v_r10_i_i_i_i_i_i_i_i_i_i53_i_i_i_i_i = (u64)((u64)(v_r8_i_i_i_i_i_i_i_i_i_i51_i_i_i_i_i) - (u64)(v_r9_i_i_i_i_i_i_i_i_i_i52_i_i_i_i_i));
+    v_r11_i_i_i_i_i_i_i_i_i_i54_i_i_i_i_i = v_r10_i_i_i_i_i_i_i_i_i_i53_i_i_i_i_i < v_r1_sroa_3_0_copyload_i_i_i47_i_i_i_i_i;
+    if (v_r11_i_i_i_i_i_i_i_i_i_i54_i_i_i_i_i) { goto L_join_7_i_i_i_i_i_i_i_i_i_i68_i_i_i_i_i_preheader; } else { goto L_apart_2_i_i_i_i_i_i_i_i_i_i55_i_i_i_i_i; }
+L_join_7_i_i_i_i_i_i_i_i_i_i68_i_i_i_i_i_preheader:;
+    v_xtraiter214 = (u64)((u64)(v_r1_sroa_3_0_copyload_i_i_i47_i_i_i_i_i) & (u64)(3u));
+    v_62 = v_r1_sroa_3_0_copyload_i_i_i47_i_i_i_i_i < 4u;
+    if (v_62) { p_v_r0_04_i_i_i_i_i_i_i_i_i_i69_i_i_i_i_i_epil_init = 0u; goto L_join_7_i_i_i_i_i_i_i_i_i_i68_i_i_i_i_i_epil_prehea; } else { goto L_join_7_i_i_i_i_i_i_i_i_i_i68_i_i_i_i_i_preheader_n; }
+L_join_7_i_i_i_i_i_i_i_i_i_i68_i_i_i_i_i_preheader_n:;
+    v_unroll_iter218 = (u64)((u64)(v_r1_sroa_3_0_copyload_i_i_i47_i_i_i_i_i) & (u64)(4294967292ull));
+    { p_v_r0_04_i_i_i_i_i_i_i_i_i_i69_i_i_i_i_i = 0u; p_v_niter219 = 0u; goto L_join_7_i_i_i_i_i_i_i_i_i_i68_i_i_i_i_i; }
+L_apart_2_i_i_i_i_i_i_i_i_i_i55_i_i_i_i_i:;
+    move(v_r26_i_i_i_i50_i_i_i_i_i, v_r1_sroa_0_0_copyload_i_i_i45_i_i_i_i_i, v_r1_sroa_3_0_copyload_i_i_i47_i_i_i_i_i);
+    { goto L_der_core_back_writer_BackWriter_prepend_exit_i_i_i__17; }
+L_join_7_i_i_i_i_i_i_i_i_i_i68_i_i_i_i_i:;
+    v_r0_04_i_i_i_i_i_i_i_i_i_i69_i_i_i_i_i = p_v_r0_04_i_i_i_i_i_i_i_i_i_i69_i_i_i_i_i;
+    v_niter219 = p_v_niter219;
+    v_r20_i_i_i_i_i_i_i_i_i_i70_i_i_i_i_i = v_r26_i_i_i_i50_i_i_i_i_i + (int64_t)(v_r0_04_i_i_i_i_i_i_i_i_i_i69_i_i_i_i_i);
+    v_r24_i_i_i_i_i_i_i_i_i_i71_i_i_i_i_i = v_r1_sroa_0_0_copyload_i_i_i45_i_i_i_i_i + (int64_t)(v_r0_04_i_i_i_i_i_i_i_i_i_i69_i_i_i_i_i);
+    v_r26_i_i_i_i_i_i_i_i_i_i72_i_i_i_i_i = get_u8(v_r24_i_i_i_i_i_i_i_i_i_i71_i_i_i_i_i);
+    put_u8(v_r20_i_i_i_i_i_i_i_i_i_i70_i_i_i_i_i, v_r26_i_i_i_i_i_i_i_i_i_i72_i_i_i_i_i);
+    v_r30_i_i_i_i_i_i_i_i_i_i73_i_i_i_i_i = (u64)((u64)(v_r0_04_i_i_i_i_i_i_i_i_i_i69_i_i_i_i_i) | (u64)(1u));
+    v_r20_i_i_i_i_i_i_i_i_i_i70_i_i_i_i_i_1 = v_r26_i_i_i_i50_i_i_i_i_i + (int64_t)(v_r30_i_i_i_i_i_i_i_i_i_i73_i_i_i_i_i);
+    v_r24_i_i_i_i_i_i_i_i_i_i71_i_i_i_i_i_1 = v_r1_sroa_0_0_copyload_i_i_i45_i_i_i_i_i + (int64_t)(v_r30_i_i_i_i_i_i_i_i_i_i73_i_i_i_i_i);
+    v_r26_i_i_i_i_i_i_i_i_i_i72_i_i_i_i_i_1 = get_u8(v_r24_i_i_i_i_i_i_i_i_i_i71_i_i_i_i_i_1);
+    put_u8(v_r20_i_i_i_i_i_i_i_i_i_i70_i_i_i_i_i_1, v_r26_i_i_i_i_i_i_i_i_i_i72_i_i_i_i_i_1);
+    v_r30_i_i_i_i_i_i_i_i_i_i73_i_i_i_i_i_1 = (u64)((u64)(v_r0_04_i_i_i_i_i_i_i_i_i_i69_i_i_i_i_i) | (u64)(2u));
+    v_r20_i_i_i_i_i_i_i_i_i_i70_i_i_i_i_i_2 = v_r26_i_i_i_i50_i_i_i_i_i + (int64_t)(v_r30_i_i_i_i_i_i_i_i_i_i73_i_i_i_i_i_1);
+    v_r24_i_i_i_i_i_i_i_i_i_i71_i_i_i_i_i_2 = v_r1_sroa_0_0_copyload_i_i_i45_i_i_i_i_i + (int64_t)(v_r30_i_i_i_i_i_i_i_i_i_i73_i_i_i_i_i_1);
+    v_r26_i_i_i_i_i_i_i_i_i_i72_i_i_i_i_i_2 = get_u8(v_r24_i_i_i_i_i_i_i_i_i_i71_i_i_i_i_i_2);
+    put_u8(v_r20_i_i_i_i_i_i_i_i_i_i70_i_i_i_i_i_2, v_r26_i_i_i_i_i_i_i_i_i_i72_i_i_i_i_i_2);
+    v_r30_i_i_i_i_i_i_i_i_i_i73_i_i_i_i_i_2 = (u64)((u64)(v_r0_04_i_i_i_i_i_i_i_i_i_i69_i_i_i_i_i) | (u64)(3u));
+    v_r20_i_i_i_i_i_i_i_i_i_i70_i_i_i_i_i_3 = v_r26_i_i_i_i50_i_i_i_i_i + (int64_t)(v_r30_i_i_i_i_i_i_i_i_i_i73_i_i_i_i_i_2);
+    v_r24_i_i_i_i_i_i_i_i_i_i71_i_i_i_i_i_3 = v_r1_sroa_0_0_copyload_i_i_i45_i_i_i_i_i + (int64_t)(v_r30_i_i_i_i_i_i_i_i_i_i73_i_i_i_i_i_2);
+    v_r26_i_i_i_i_i_i_i_i_i_i72_i_i_i_i_i_3 = get_u8(v_r24_i_i_i_i_i_i_i_i_i_i71_i_i_i_i_i_3);
+    put_u8(v_r20_i_i_i_i_i_i_i_i_i_i70_i_i_i_i_i_3, v_r26_i_i_i_i_i_i_i_i_i_i72_i_i_i_i_i_3);
+    v_r30_i_i_i_i_i_i_i_i_i_i73_i_i_i_i_i_3 = (u64)((u64)(v_r0_04_i_i_i_i_i_i_i_i_i_i69_i_i_i_i_i) + (u64)(4u));
+    v_niter219_next_3 = (u64)((u64)(v_niter219) + (u64)(4u));
+    v_niter219_ncmp_3 = v_niter219_next_3 == v_unroll_iter218;
+    if (v_niter219_ncmp_3) { goto L_der_core_back_writer_BackWriter_prepend_exit_i_i_i__18; } else { p_v_r0_04_i_i_i_i_i_i_i_i_i_i69_i_i_i_i_i = v_r30_i_i_i_i_i_i_i_i_i_i73_i_i_i_i_i_3; p_v_niter219 = v_niter219_next_3; goto L_join_7_i_i_i_i_i_i_i_i_i_i68_i_i_i_i_i; }
+L_der_core_back_writer_BackWriter_prepend_exit_i_i_i__18:;
+    v_lcmp_mod216_not = v_xtraiter214 == 0u;
+    if (v_lcmp_mod216_not) { goto L_der_core_back_writer_BackWriter_prepend_exit_i_i_i__17; } else { p_v_r0_04_i_i_i_i_i_i_i_i_i_i69_i_i_i_i_i_epil_init = v_r30_i_i_i_i_i_i_i_i_i_i73_i_i_i_i_i_3; goto L_join_7_i_i_i_i_i_i_i_i_i_i68_i_i_i_i_i_epil_prehea; }
+L_join_7_i_i_i_i_i_i_i_i_i_i68_i_i_i_i_i_epil_prehea:;
+    v_r0_04_i_i_i_i_i_i_i_i_i_i69_i_i_i_i_i_epil_init = p_v_r0_04_i_i_i_i_i_i_i_i_i_i69_i_i_i_i_i_epil_init;
+    { p_v_r0_04_i_i_i_i_i_i_i_i_i_i69_i_i_i_i_i_epil = v_r0_04_i_i_i_i_i_i_i_i_i_i69_i_i_i_i_i_epil_init; p_v_epil_iter215 = 0u; goto L_join_7_i_i_i_i_i_i_i_i_i_i68_i_i_i_i_i_epil; }
+L_join_7_i_i_i_i_i_i_i_i_i_i68_i_i_i_i_i_epil:;
+    v_r0_04_i_i_i_i_i_i_i_i_i_i69_i_i_i_i_i_epil = p_v_r0_04_i_i_i_i_i_i_i_i_i_i69_i_i_i_i_i_epil;
+    v_epil_iter215 = p_v_epil_iter215;
+    v_r20_i_i_i_i_i_i_i_i_i_i70_i_i_i_i_i_epil = v_r26_i_i_i_i50_i_i_i_i_i + (int64_t)(v_r0_04_i_i_i_i_i_i_i_i_i_i69_i_i_i_i_i_epil);
+    v_r24_i_i_i_i_i_i_i_i_i_i71_i_i_i_i_i_epil = v_r1_sroa_0_0_copyload_i_i_i45_i_i_i_i_i + (int64_t)(v_r0_04_i_i_i_i_i_i_i_i_i_i69_i_i_i_i_i_epil);
+    v_r26_i_i_i_i_i_i_i_i_i_i72_i_i_i_i_i_epil = get_u8(v_r24_i_i_i_i_i_i_i_i_i_i71_i_i_i_i_i_epil);
+    put_u8(v_r20_i_i_i_i_i_i_i_i_i_i70_i_i_i_i_i_epil, v_r26_i_i_i_i_i_i_i_i_i_i72_i_i_i_i_i_epil);
+    v_r30_i_i_i_i_i_i_i_i_i_i73_i_i_i_i_i_epil = (u64)((u64)(v_r0_04_i_i_i_i_i_i_i_i_i_i69_i_i_i_i_i_epil) + (u64)(1u));
+    v_epil_iter215_next = (u64)((u64)(v_epil_iter215) + (u64)(1u));
+    v_epil_iter215_cmp_not = v_epil_iter215_next == v_xtraiter214;
+    if (v_epil_iter215_cmp_not) { goto L_der_core_back_writer_BackWriter_prepend_exit_i_i_i__17; } else { p_v_r0_04_i_i_i_i_i_i_i_i_i_i69_i_i_i_i_i_epil = v_r30_i_i_i_i_i_i_i_i_i_i73_i_i_i_i_i_epil; p_v_epil_iter215 = v_epil_iter215_next; goto L_join_7_i_i_i_i_i_i_i_i_i_i68_i_i_i_i_i_epil; }
+L_der_core_back_writer_BackWriter_prepend_exit_i_i_i__17:;
+    v_r15_not_i_i_i59_i_i_i_i_i = (u8)(v_r20_i305_i_i ^ ((u8)1 << 7)) > (u8)(255u ^ ((u8)1 << 7));
+    if (v_r15_not_i_i_i59_i_i_i_i_i) { p_v_r7_sroa_129_5_i_i_i = v_r17_i_i_i_i48_i_i_i_i_i; goto L_der_core_borrowed_BorrowedEncode_prepend_25cd36d81__7; } else { goto L_then_1_i_i_i60_i_i_i_i_i; }
+L_then_1_i_i_i60_i_i_i_i_i:;
+    v_r17_i3_i_i_i61_i_i_i_i_i = (u64)((u64)(v_r17_i_i_i_i48_i_i_i_i_i) + (u64)(18446744073709551615ull));
+    v_r26_i5_i_i_i63_i_i_i_i_i = (P)((uintptr_t)v_r14 + (u64)(v_r17_i3_i_i_i61_i_i_i_i_i));
+    put_u8(v_r26_i5_i_i_i63_i_i_i_i_i, 0u);
+    { p_v_r7_sroa_129_5_i_i_i = v_r17_i3_i_i_i61_i_i_i_i_i; goto L_der_core_borrowed_BorrowedEncode_prepend_25cd36d81__7; }
+L_der_core_borrowed_BorrowedEncode_prepend_25cd36d81__7:;
+    v_r7_sroa_129_5_i_i_i = p_v_r7_sroa_129_5_i_i_i;
+    v_63 = (u64)((u64)(v_r7_sroa_129_5_i_i_i) + (u64)(v_r3_i5_i_i_i));
+    v_64 = (u64)((u64)(v_r7_sroa_129_17_i_i_i) - (u64)(v_63));
+    v_65 = (u32)(v_64);
+    v_r2_i_i_i67_i_i_i_i_i = (u32)((u32)(v_r1_sroa_9_4_copyload_i_i_i_i) + (u32)(v_65));
+    v_r59_i248_i_i_i = v_r2_i_i_i67_i_i_i_i_i < 128u;
+    if (v_r59_i248_i_i_i) { goto L_then_1_i309_i_i_i; } else { goto L_else_2_i249_i_i_i; }
+L_then_1_i309_i_i_i:;
+    v_r64_i310_i_i_i = (u16)(v_r2_i_i_i67_i_i_i_i_i);
+    v_r17_i_i314_i_i_i = (u64)((u64)(v_r7_sroa_129_5_i_i_i) + (u64)(18446744073709551614ull));
+    v_r26_i_i316_i_i_i = (P)((uintptr_t)v_r14 + (u64)(v_r17_i_i314_i_i_i));
+    v_r8_i243_sroa_4_0_insert_shift_i_i_i = (u16)((u32)(v_r64_i310_i_i_i) << (u32)((8u & 31)));
+    v_r8_i243_sroa_0_0_insert_insert_i_i_i = (u16)((u32)(v_r8_i243_sroa_4_0_insert_shift_i_i_i) | (u32)(2u));
+    put_u16(v_r26_i_i316_i_i_i, v_r8_i243_sroa_0_0_insert_insert_i_i_i);
+    { p_v_r7_sroa_129_16_i_i_i = v_r17_i_i314_i_i_i; goto L_der_core_back_writer_BackWriter_prepend_header_exi__10; }
+L_else_2_i249_i_i_i:;
+    v_r75_i250_i_i_i = v_r2_i_i_i67_i_i_i_i_i < 256u;
+    if (v_r75_i250_i_i_i) { goto L_then_4_i300_i_i_i; } else { goto L_else_5_i251_i_i_i; }
+L_then_4_i300_i_i_i:;
+    v_r80_i301_i_i_i = (u8)(v_r2_i_i_i67_i_i_i_i_i);
+    v_r17_i28_i306_i_i_i = (u64)((u64)(v_r7_sroa_129_5_i_i_i) + (u64)(18446744073709551613ull));
+    v_r26_i30_i308_i_i_i = (P)((uintptr_t)v_r14 + (u64)(v_r17_i28_i306_i_i_i));
+    put_u8(v_r26_i30_i308_i_i_i, 2u);
+    v_r14_i244_sroa_4_0_r26_i30_i308_sroa_idx_i_i_i = v_r26_i30_i308_i_i_i + 1;
+    put_u8(v_r14_i244_sroa_4_0_r26_i30_i308_sroa_idx_i_i_i, 129u);
+    v_r14_i244_sroa_5_0_r26_i30_i308_sroa_idx_i_i_i = v_r26_i30_i308_i_i_i + 2;
+    put_u8(v_r14_i244_sroa_5_0_r26_i30_i308_sroa_idx_i_i_i, v_r80_i301_i_i_i);
+    { p_v_r7_sroa_129_16_i_i_i = v_r17_i28_i306_i_i_i; goto L_der_core_back_writer_BackWriter_prepend_header_exi__10; }
+L_else_5_i251_i_i_i:;
+    v_r92_i252_i_i_i = v_r2_i_i_i67_i_i_i_i_i < 65536u;
+    if (v_r92_i252_i_i_i) { goto L_then_7_i288_i_i_i; } else { goto L_else_8_i253_i_i_i; }
+L_then_7_i288_i_i_i:;
+    v_r17_i46_i296_i_i_i = (u64)((u64)(v_r7_sroa_129_5_i_i_i) + (u64)(18446744073709551612ull));
+    v_r26_i48_i298_i_i_i = (P)((uintptr_t)v_r14 + (u64)(v_r17_i46_i296_i_i_i));
+    v_66 = (u32)((u32)(v_r2_i_i_i67_i_i_i_i_i) | (u32)(42074112u));
+    v_r20_i245_sroa_0_0_insert_insert_i_i_i = __builtin_bswap32(v_66);
+    put_u32(v_r26_i48_i298_i_i_i, v_r20_i245_sroa_0_0_insert_insert_i_i_i);
+    { p_v_r7_sroa_129_16_i_i_i = v_r17_i46_i296_i_i_i; goto L_der_core_back_writer_BackWriter_prepend_header_exi__10; }
+L_else_8_i253_i_i_i:;
+    v_r117_i254_i_i_i = v_r2_i_i_i67_i_i_i_i_i < 16777216u;
+    if (v_r117_i254_i_i_i) { goto L_then_10_i273_i_i_i; } else { goto L_else_11_i255_i_i_i; }
+L_then_10_i273_i_i_i:;
+    v_r12223_i274_i_i_i = (u32)((u32)(v_r2_i_i_i67_i_i_i_i_i) >> (u32)((16u & 31)));
+    v_r124_i275_i_i_i = (u8)(v_r12223_i274_i_i_i);
+    v_r12624_i276_i_i_i = (u32)((u32)(v_r2_i_i_i67_i_i_i_i_i) >> (u32)((8u & 31)));
+    v_r130_i277_i_i_i = (u8)(v_r12624_i276_i_i_i);
+    v_r134_i278_i_i_i = (u8)(v_r2_i_i_i67_i_i_i_i_i);
+    v_r17_i64_i285_i_i_i = (u64)((u64)(v_r7_sroa_129_5_i_i_i) + (u64)(18446744073709551611ull));
+    v_r26_i66_i287_i_i_i = (P)((uintptr_t)v_r14 + (u64)(v_r17_i64_i285_i_i_i));
+    put_u8(v_r26_i66_i287_i_i_i, 2u);
+    v_r29_i246_sroa_4_0_r26_i66_i287_sroa_idx_i_i_i = v_r26_i66_i287_i_i_i + 1;
+    put_u8(v_r29_i246_sroa_4_0_r26_i66_i287_sroa_idx_i_i_i, 131u);
+    v_r29_i246_sroa_5_0_r26_i66_i287_sroa_idx_i_i_i = v_r26_i66_i287_i_i_i + 2;
+    put_u8(v_r29_i246_sroa_5_0_r26_i66_i287_sroa_idx_i_i_i, v_r124_i275_i_i_i);
+    v_r29_i246_sroa_6_0_r26_i66_i287_sroa_idx_i_i_i = v_r26_i66_i287_i_i_i + 3;
+    put_u8(v_r29_i246_sroa_6_0_r26_i66_i287_sroa_idx_i_i_i, v_r130_i277_i_i_i);
+    v_r29_i246_sroa_7_0_r26_i66_i287_sroa_idx_i_i_i = v_r26_i66_i287_i_i_i + 4;
+    put_u8(v_r29_i246_sroa_7_0_r26_i66_i287_sroa_idx_i_i_i, v_r134_i278_i_i_i);
+    { p_v_r7_sroa_129_16_i_i_i = v_r17_i64_i285_i_i_i; goto L_der_core_back_writer_BackWriter_prepend_header_exi__10; }
+L_else_11_i255_i_i_i:;
+    v_r15020_i256_i_i_i = (u32)((u32)(v_r2_i_i_i67_i_i_i_i_i) >> (u32)((24u & 31)));
+    v_r152_i257_i_i_i = (u8)(v_r15020_i256_i_i_i);
+    v_r15421_i258_i_i_i = (u32)((u32)(v_r2_i_i_i67_i_i_i_i_i) >> (u32)((16u & 31)));
+    v_r158_i259_i_i_i = (u8)(v_r15421_i258_i_i_i);
+    v_r16022_i260_i_i_i = (u32)((u32)(v_r2_i_i_i67_i_i_i_i_i) >> (u32)((8u & 31)));
+    v_r164_i261_i_i_i = (u8)(v_r16022_i260_i_i_i);
+    v_r168_i262_i_i_i = (u8)(v_r2_i_i_i67_i_i_i_i_i);
+    v_r17_i82_i270_i_i_i = (u64)((u64)(v_r7_sroa_129_5_i_i_i) + (u64)(18446744073709551610ull));
+    v_r26_i84_i272_i_i_i = (P)((uintptr_t)v_r14 + (u64)(v_r17_i82_i270_i_i_i));
+    put_u8(v_r26_i84_i272_i_i_i, 2u);
+    v_r40_i247_sroa_4_0_r26_i84_i272_sroa_idx_i_i_i = v_r26_i84_i272_i_i_i + 1;
+    put_u8(v_r40_i247_sroa_4_0_r26_i84_i272_sroa_idx_i_i_i, 132u);
+    v_r40_i247_sroa_5_0_r26_i84_i272_sroa_idx_i_i_i = v_r26_i84_i272_i_i_i + 2;
+    put_u8(v_r40_i247_sroa_5_0_r26_i84_i272_sroa_idx_i_i_i, v_r152_i257_i_i_i);
+    v_r40_i247_sroa_6_0_r26_i84_i272_sroa_idx_i_i_i = v_r26_i84_i272_i_i_i + 3;
+    put_u8(v_r40_i247_sroa_6_0_r26_i84_i272_sroa_idx_i_i_i, v_r158_i259_i_i_i);
+    v_r40_i247_sroa_7_0_r26_i84_i272_sroa_idx_i_i_i = v_r26_i84_i272_i_i_i + 4;
+    put_u8(v_r40_i247_sroa_7_0_r26_i84_i272_sroa_idx_i_i_i, v_r164_i261_i_i_i);
+    v_r40_i247_sroa_8_0_r26_i84_i272_sroa_idx_i_i_i = v_r26_i84_i272_i_i_i + 5;
+    put_u8(v_r40_i247_sroa_8_0_r26_i84_i272_sroa_idx_i_i_i, v_r168_i262_i_i_i);
+    { p_v_r7_sroa_129_16_i_i_i = v_r17_i82_i270_i_i_i; goto L_der_core_back_writer_BackWriter_prepend_header_exi__10; }
+L_der_core_back_writer_BackWriter_prepend_header_exi__10:;
+    v_r7_sroa_129_16_i_i_i = p_v_r7_sroa_129_16_i_i_i;
+    v_r17_i_i_i_i81_i_i_i_i_i = (u64)((u64)(v_r7_sroa_129_16_i_i_i) - (u64)(v_r1_sroa_3_0_copyload_i_i_i80_i_i_i_i_i));
+    v_r26_i_i_i_i83_i_i_i_i_i = (P)((uintptr_t)v_r14 + (u64)(v_r17_i_i_i_i81_i_i_i_i_i));
+    v_r8_i_i_i_i_i_i_i_i_i_i84_i_i_i_i_i = (u64)((uintptr_t)v_r26_i_i_i_i83_i_i_i_i_i);
+    v_r9_i_i_i_i_i_i_i_i_i_i85_i_i_i_i_i = (u64)((uintptr_t)v_r1_sroa_0_0_copyload_i_i_i78_i_i_i_i_i);
+    v_r10_i_i_i_i_i_i_i_i_i_i86_i_i_i_i_i = (u64)((u64)(v_r8_i_i_i_i_i_i_i_i_i_i84_i_i_i_i_i) - (u64)(v_r9_i_i_i_i_i_i_i_i_i_i85_i_i_i_i_i));
+    v_r11_i_i_i_i_i_i_i_i_i_i87_i_i_i_i_i = v_r10_i_i_i_i_i_i_i_i_i_i86_i_i_i_i_i < v_r1_sroa_3_0_copyload_i_i_i80_i_i_i_i_i;
+    if (v_r11_i_i_i_i_i_i_i_i_i_i87_i_i_i_i_i) { goto L_join_7_i_i_i_i_i_i_i_i_i_i101_i_i_i_i_i_preheader; } else { goto L_apart_2_i_i_i_i_i_i_i_i_i_i88_i_i_i_i_i; }
+L_join_7_i_i_i_i_i_i_i_i_i_i101_i_i_i_i_i_preheader:;
+    v_xtraiter220 = (u64)((u64)(v_r1_sroa_3_0_copyload_i_i_i80_i_i_i_i_i) & (u64)(3u));
+    v_67 = v_r1_sroa_3_0_copyload_i_i_i80_i_i_i_i_i < 4u;
+    if (v_67) { p_v_r0_04_i_i_i_i_i_i_i_i_i_i102_i_i_i_i_i_epil_init = 0u; goto L_join_7_i_i_i_i_i_i_i_i_i_i101_i_i_i_i_i_epil_prehe; } else { goto L_join_7_i_i_i_i_i_i_i_i_i_i101_i_i_i_i_i_preheader_; }
+L_join_7_i_i_i_i_i_i_i_i_i_i101_i_i_i_i_i_preheader_:;
+    v_unroll_iter224 = (u64)((u64)(v_r1_sroa_3_0_copyload_i_i_i80_i_i_i_i_i) & (u64)(4294967292ull));
+    { p_v_r0_04_i_i_i_i_i_i_i_i_i_i102_i_i_i_i_i = 0u; p_v_niter225 = 0u; goto L_join_7_i_i_i_i_i_i_i_i_i_i101_i_i_i_i_i; }
+L_apart_2_i_i_i_i_i_i_i_i_i_i88_i_i_i_i_i:;
+    move(v_r26_i_i_i_i83_i_i_i_i_i, v_r1_sroa_0_0_copyload_i_i_i78_i_i_i_i_i, v_r1_sroa_3_0_copyload_i_i_i80_i_i_i_i_i);
+    { goto L_der_core_back_writer_BackWriter_prepend_exit_i_i_i__19; }
+L_join_7_i_i_i_i_i_i_i_i_i_i101_i_i_i_i_i:;
+    v_r0_04_i_i_i_i_i_i_i_i_i_i102_i_i_i_i_i = p_v_r0_04_i_i_i_i_i_i_i_i_i_i102_i_i_i_i_i;
+    v_niter225 = p_v_niter225;
+    v_r20_i_i_i_i_i_i_i_i_i_i103_i_i_i_i_i = v_r26_i_i_i_i83_i_i_i_i_i + (int64_t)(v_r0_04_i_i_i_i_i_i_i_i_i_i102_i_i_i_i_i);
+    v_r24_i_i_i_i_i_i_i_i_i_i104_i_i_i_i_i = v_r1_sroa_0_0_copyload_i_i_i78_i_i_i_i_i + (int64_t)(v_r0_04_i_i_i_i_i_i_i_i_i_i102_i_i_i_i_i);
+    v_r26_i_i_i_i_i_i_i_i_i_i105_i_i_i_i_i = get_u8(v_r24_i_i_i_i_i_i_i_i_i_i104_i_i_i_i_i);
+    put_u8(v_r20_i_i_i_i_i_i_i_i_i_i103_i_i_i_i_i, v_r26_i_i_i_i_i_i_i_i_i_i105_i_i_i_i_i);
+    v_r30_i_i_i_i_i_i_i_i_i_i106_i_i_i_i_i = (u64)((u64)(v_r0_04_i_i_i_i_i_i_i_i_i_i102_i_i_i_i_i) | (u64)(1u));
+    v_r20_i_i_i_i_i_i_i_i_i_i103_i_i_i_i_i_1 = v_r26_i_i_i_i83_i_i_i_i_i + (int64_t)(v_r30_i_i_i_i_i_i_i_i_i_i106_i_i_i_i_i);
+    v_r24_i_i_i_i_i_i_i_i_i_i104_i_i_i_i_i_1 = v_r1_sroa_0_0_copyload_i_i_i78_i_i_i_i_i + (int64_t)(v_r30_i_i_i_i_i_i_i_i_i_i106_i_i_i_i_i);
+    v_r26_i_i_i_i_i_i_i_i_i_i105_i_i_i_i_i_1 = get_u8(v_r24_i_i_i_i_i_i_i_i_i_i104_i_i_i_i_i_1);
+    put_u8(v_r20_i_i_i_i_i_i_i_i_i_i103_i_i_i_i_i_1, v_r26_i_i_i_i_i_i_i_i_i_i105_i_i_i_i_i_1);
+    v_r30_i_i_i_i_i_i_i_i_i_i106_i_i_i_i_i_1 = (u64)((u64)(v_r0_04_i_i_i_i_i_i_i_i_i_i102_i_i_i_i_i) | (u64)(2u));
+    v_r20_i_i_i_i_i_i_i_i_i_i103_i_i_i_i_i_2 = v_r26_i_i_i_i83_i_i_i_i_i + (int64_t)(v_r30_i_i_i_i_i_i_i_i_i_i106_i_i_i_i_i_1);
+    v_r24_i_i_i_i_i_i_i_i_i_i104_i_i_i_i_i_2 = v_r1_sroa_0_0_copyload_i_i_i78_i_i_i_i_i + (int64_t)(v_r30_i_i_i_i_i_i_i_i_i_i106_i_i_i_i_i_1);
+    v_r26_i_i_i_i_i_i_i_i_i_i105_i_i_i_i_i_2 = get_u8(v_r24_i_i_i_i_i_i_i_i_i_i104_i_i_i_i_i_2);
+    put_u8(v_r20_i_i_i_i_i_i_i_i_i_i103_i_i_i_i_i_2, v_r26_i_i_i_i_i_i_i_i_i_i105_i_i_i_i_i_2);
+    v_r30_i_i_i_i_i_i_i_i_i_i106_i_i_i_i_i_2 = (u64)((u64)(v_r0_04_i_i_i_i_i_i_i_i_i_i102_i_i_i_i_i) | (u64)(3u));
+    v_r20_i_i_i_i_i_i_i_i_i_i103_i_i_i_i_i_3 = v_r26_i_i_i_i83_i_i_i_i_i + (int64_t)(v_r30_i_i_i_i_i_i_i_i_i_i106_i_i_i_i_i_2);
+    v_r24_i_i_i_i_i_i_i_i_i_i104_i_i_i_i_i_3 = v_r1_sroa_0_0_copyload_i_i_i78_i_i_i_i_i + (int64_t)(v_r30_i_i_i_i_i_i_i_i_i_i106_i_i_i_i_i_2);
+    v_r26_i_i_i_i_i_i_i_i_i_i105_i_i_i_i_i_3 = get_u8(v_r24_i_i_i_i_i_i_i_i_i_i104_i_i_i_i_i_3);
+    put_u8(v_r20_i_i_i_i_i_i_i_i_i_i103_i_i_i_i_i_3, v_r26_i_i_i_i_i_i_i_i_i_i105_i_i_i_i_i_3);
+    v_r30_i_i_i_i_i_i_i_i_i_i106_i_i_i_i_i_3 = (u64)((u64)(v_r0_04_i_i_i_i_i_i_i_i_i_i102_i_i_i_i_i) + (u64)(4u));
+    v_niter225_next_3 = (u64)((u64)(v_niter225) + (u64)(4u));
+    v_niter225_ncmp_3 = v_niter225_next_3 == v_unroll_iter224;
+    if (v_niter225_ncmp_3) { goto L_der_core_back_writer_BackWriter_prepend_exit_i_i_i__20; } else { p_v_r0_04_i_i_i_i_i_i_i_i_i_i102_i_i_i_i_i = v_r30_i_i_i_i_i_i_i_i_i_i106_i_i_i_i_i_3; p_v_niter225 = v_niter225_next_3; goto L_join_7_i_i_i_i_i_i_i_i_i_i101_i_i_i_i_i; }
+L_der_core_back_writer_BackWriter_prepend_exit_i_i_i__20:;
+    v_lcmp_mod222_not = v_xtraiter220 == 0u;
+    if (v_lcmp_mod222_not) { goto L_der_core_back_writer_BackWriter_prepend_exit_i_i_i__19; } else { p_v_r0_04_i_i_i_i_i_i_i_i_i_i102_i_i_i_i_i_epil_init = v_r30_i_i_i_i_i_i_i_i_i_i106_i_i_i_i_i_3; goto L_join_7_i_i_i_i_i_i_i_i_i_i101_i_i_i_i_i_epil_prehe; }
+L_join_7_i_i_i_i_i_i_i_i_i_i101_i_i_i_i_i_epil_prehe:;
+    v_r0_04_i_i_i_i_i_i_i_i_i_i102_i_i_i_i_i_epil_init = p_v_r0_04_i_i_i_i_i_i_i_i_i_i102_i_i_i_i_i_epil_init;
+    { p_v_r0_04_i_i_i_i_i_i_i_i_i_i102_i_i_i_i_i_epil = v_r0_04_i_i_i_i_i_i_i_i_i_i102_i_i_i_i_i_epil_init; p_v_epil_iter221 = 0u; goto L_join_7_i_i_i_i_i_i_i_i_i_i101_i_i_i_i_i_epil; }
+L_join_7_i_i_i_i_i_i_i_i_i_i101_i_i_i_i_i_epil:;
+    v_r0_04_i_i_i_i_i_i_i_i_i_i102_i_i_i_i_i_epil = p_v_r0_04_i_i_i_i_i_i_i_i_i_i102_i_i_i_i_i_epil;
+    v_epil_iter221 = p_v_epil_iter221;
+    v_r20_i_i_i_i_i_i_i_i_i_i103_i_i_i_i_i_epil = v_r26_i_i_i_i83_i_i_i_i_i + (int64_t)(v_r0_04_i_i_i_i_i_i_i_i_i_i102_i_i_i_i_i_epil);
+    v_r24_i_i_i_i_i_i_i_i_i_i104_i_i_i_i_i_epil = v_r1_sroa_0_0_copyload_i_i_i78_i_i_i_i_i + (int64_t)(v_r0_04_i_i_i_i_i_i_i_i_i_i102_i_i_i_i_i_epil);
+    v_r26_i_i_i_i_i_i_i_i_i_i105_i_i_i_i_i_epil = get_u8(v_r24_i_i_i_i_i_i_i_i_i_i104_i_i_i_i_i_epil);
+    put_u8(v_r20_i_i_i_i_i_i_i_i_i_i103_i_i_i_i_i_epil, v_r26_i_i_i_i_i_i_i_i_i_i105_i_i_i_i_i_epil);
+    v_r30_i_i_i_i_i_i_i_i_i_i106_i_i_i_i_i_epil = (u64)((u64)(v_r0_04_i_i_i_i_i_i_i_i_i_i102_i_i_i_i_i_epil) + (u64)(1u));
+    v_epil_iter221_next = (u64)((u64)(v_epil_iter221) + (u64)(1u));
+    v_epil_iter221_cmp_not = v_epil_iter221_next == v_xtraiter220;
+    if (v_epil_iter221_cmp_not) { goto L_der_core_back_writer_BackWriter_prepend_exit_i_i_i__19; } else { p_v_r0_04_i_i_i_i_i_i_i_i_i_i102_i_i_i_i_i_epil = v_r30_i_i_i_i_i_i_i_i_i_i106_i_i_i_i_i_epil; p_v_epil_iter221 = v_epil_iter221_next; goto L_join_7_i_i_i_i_i_i_i_i_i_i101_i_i_i_i_i_epil; }
+L_der_core_back_writer_BackWriter_prepend_exit_i_i_i__19:;
+    v_r15_not_i_i_i92_i_i_i_i_i = (u8)(v_r20_i295_i_i ^ ((u8)1 << 7)) > (u8)(255u ^ ((u8)1 << 7));
+    if (v_r15_not_i_i_i92_i_i_i_i_i) { p_v_r7_sroa_129_6_i_i_i = v_r17_i_i_i_i81_i_i_i_i_i; goto L_der_core_borrowed_BorrowedEncode_prepend_25cd36d81__8; } else { goto L_then_1_i_i_i93_i_i_i_i_i; }
+L_then_1_i_i_i93_i_i_i_i_i:;
+    v_r17_i3_i_i_i94_i_i_i_i_i = (u64)((u64)(v_r17_i_i_i_i81_i_i_i_i_i) + (u64)(18446744073709551615ull));
+    v_r26_i5_i_i_i96_i_i_i_i_i = (P)((uintptr_t)v_r14 + (u64)(v_r17_i3_i_i_i94_i_i_i_i_i));
+    put_u8(v_r26_i5_i_i_i96_i_i_i_i_i, 0u);
+    { p_v_r7_sroa_129_6_i_i_i = v_r17_i3_i_i_i94_i_i_i_i_i; goto L_der_core_borrowed_BorrowedEncode_prepend_25cd36d81__8; }
+L_der_core_borrowed_BorrowedEncode_prepend_25cd36d81__8:;
+    v_r7_sroa_129_6_i_i_i = p_v_r7_sroa_129_6_i_i_i;
+    v_68 = (u64)((u64)(v_r7_sroa_129_6_i_i_i) + (u64)(v_r3_i5_i_i_i));
+    v_69 = (u64)((u64)(v_r7_sroa_129_16_i_i_i) - (u64)(v_68));
+    v_70 = (u32)(v_69);
+    v_r2_i_i_i100_i_i_i_i_i = (u32)((u32)(v_r1_sroa_9_4_copyload_i_i_i_i) + (u32)(v_70));
+    v_r59_i172_i_i_i = v_r2_i_i_i100_i_i_i_i_i < 128u;
+    if (v_r59_i172_i_i_i) { goto L_then_1_i233_i_i_i; } else { goto L_else_2_i173_i_i_i; }
+L_then_1_i233_i_i_i:;
+    v_r64_i234_i_i_i = (u16)(v_r2_i_i_i100_i_i_i_i_i);
+    v_r17_i_i238_i_i_i = (u64)((u64)(v_r7_sroa_129_6_i_i_i) + (u64)(18446744073709551614ull));
+    v_r26_i_i240_i_i_i = (P)((uintptr_t)v_r14 + (u64)(v_r17_i_i238_i_i_i));
+    v_r8_i167_sroa_4_0_insert_shift_i_i_i = (u16)((u32)(v_r64_i234_i_i_i) << (u32)((8u & 31)));
+    v_r8_i167_sroa_0_0_insert_insert_i_i_i = (u16)((u32)(v_r8_i167_sroa_4_0_insert_shift_i_i_i) | (u32)(2u));
+    put_u16(v_r26_i_i240_i_i_i, v_r8_i167_sroa_0_0_insert_insert_i_i_i);
+    { p_v_r7_sroa_129_15_i_i_i = v_r17_i_i238_i_i_i; goto L_der_core_back_writer_BackWriter_prepend_header_exi__11; }
+L_else_2_i173_i_i_i:;
+    v_r75_i174_i_i_i = v_r2_i_i_i100_i_i_i_i_i < 256u;
+    if (v_r75_i174_i_i_i) { goto L_then_4_i224_i_i_i; } else { goto L_else_5_i175_i_i_i; }
+L_then_4_i224_i_i_i:;
+    v_r80_i225_i_i_i = (u8)(v_r2_i_i_i100_i_i_i_i_i);
+    v_r17_i28_i230_i_i_i = (u64)((u64)(v_r7_sroa_129_6_i_i_i) + (u64)(18446744073709551613ull));
+    v_r26_i30_i232_i_i_i = (P)((uintptr_t)v_r14 + (u64)(v_r17_i28_i230_i_i_i));
+    put_u8(v_r26_i30_i232_i_i_i, 2u);
+    v_r14_i168_sroa_4_0_r26_i30_i232_sroa_idx_i_i_i = v_r26_i30_i232_i_i_i + 1;
+    put_u8(v_r14_i168_sroa_4_0_r26_i30_i232_sroa_idx_i_i_i, 129u);
+    v_r14_i168_sroa_5_0_r26_i30_i232_sroa_idx_i_i_i = v_r26_i30_i232_i_i_i + 2;
+    put_u8(v_r14_i168_sroa_5_0_r26_i30_i232_sroa_idx_i_i_i, v_r80_i225_i_i_i);
+    { p_v_r7_sroa_129_15_i_i_i = v_r17_i28_i230_i_i_i; goto L_der_core_back_writer_BackWriter_prepend_header_exi__11; }
+L_else_5_i175_i_i_i:;
+    v_r92_i176_i_i_i = v_r2_i_i_i100_i_i_i_i_i < 65536u;
+    if (v_r92_i176_i_i_i) { goto L_then_7_i212_i_i_i; } else { goto L_else_8_i177_i_i_i; }
+L_then_7_i212_i_i_i:;
+    v_r17_i46_i220_i_i_i = (u64)((u64)(v_r7_sroa_129_6_i_i_i) + (u64)(18446744073709551612ull));
+    v_r26_i48_i222_i_i_i = (P)((uintptr_t)v_r14 + (u64)(v_r17_i46_i220_i_i_i));
+    v_71 = (u32)((u32)(v_r2_i_i_i100_i_i_i_i_i) | (u32)(42074112u));
+    v_r20_i169_sroa_0_0_insert_insert_i_i_i = __builtin_bswap32(v_71);
+    put_u32(v_r26_i48_i222_i_i_i, v_r20_i169_sroa_0_0_insert_insert_i_i_i);
+    { p_v_r7_sroa_129_15_i_i_i = v_r17_i46_i220_i_i_i; goto L_der_core_back_writer_BackWriter_prepend_header_exi__11; }
+L_else_8_i177_i_i_i:;
+    v_r117_i178_i_i_i = v_r2_i_i_i100_i_i_i_i_i < 16777216u;
+    if (v_r117_i178_i_i_i) { goto L_then_10_i197_i_i_i; } else { goto L_else_11_i179_i_i_i; }
+L_then_10_i197_i_i_i:;
+    v_r12223_i198_i_i_i = (u32)((u32)(v_r2_i_i_i100_i_i_i_i_i) >> (u32)((16u & 31)));
+    v_r124_i199_i_i_i = (u8)(v_r12223_i198_i_i_i);
+    v_r12624_i200_i_i_i = (u32)((u32)(v_r2_i_i_i100_i_i_i_i_i) >> (u32)((8u & 31)));
+    v_r130_i201_i_i_i = (u8)(v_r12624_i200_i_i_i);
+    v_r134_i202_i_i_i = (u8)(v_r2_i_i_i100_i_i_i_i_i);
+    v_r17_i64_i209_i_i_i = (u64)((u64)(v_r7_sroa_129_6_i_i_i) + (u64)(18446744073709551611ull));
+    v_r26_i66_i211_i_i_i = (P)((uintptr_t)v_r14 + (u64)(v_r17_i64_i209_i_i_i));
+    put_u8(v_r26_i66_i211_i_i_i, 2u);
+    v_r29_i170_sroa_4_0_r26_i66_i211_sroa_idx_i_i_i = v_r26_i66_i211_i_i_i + 1;
+    put_u8(v_r29_i170_sroa_4_0_r26_i66_i211_sroa_idx_i_i_i, 131u);
+    v_r29_i170_sroa_5_0_r26_i66_i211_sroa_idx_i_i_i = v_r26_i66_i211_i_i_i + 2;
+    put_u8(v_r29_i170_sroa_5_0_r26_i66_i211_sroa_idx_i_i_i, v_r124_i199_i_i_i);
+    v_r29_i170_sroa_6_0_r26_i66_i211_sroa_idx_i_i_i = v_r26_i66_i211_i_i_i + 3;
+    put_u8(v_r29_i170_sroa_6_0_r26_i66_i211_sroa_idx_i_i_i, v_r130_i201_i_i_i);
+    v_r29_i170_sroa_7_0_r26_i66_i211_sroa_idx_i_i_i = v_r26_i66_i211_i_i_i + 4;
+    put_u8(v_r29_i170_sroa_7_0_r26_i66_i211_sroa_idx_i_i_i, v_r134_i202_i_i_i);
+    { p_v_r7_sroa_129_15_i_i_i = v_r17_i64_i209_i_i_i; goto L_der_core_back_writer_BackWriter_prepend_header_exi__11; }
+L_else_11_i179_i_i_i:;
+    v_r15020_i180_i_i_i = (u32)((u32)(v_r2_i_i_i100_i_i_i_i_i) >> (u32)((24u & 31)));
+    v_r152_i181_i_i_i = (u8)(v_r15020_i180_i_i_i);
+    v_r15421_i182_i_i_i = (u32)((u32)(v_r2_i_i_i100_i_i_i_i_i) >> (u32)((16u & 31)));
+    v_r158_i183_i_i_i = (u8)(v_r15421_i182_i_i_i);
+    v_r16022_i184_i_i_i = (u32)((u32)(v_r2_i_i_i100_i_i_i_i_i) >> (u32)((8u & 31)));
+    v_r164_i185_i_i_i = (u8)(v_r16022_i184_i_i_i);
+    v_r168_i186_i_i_i = (u8)(v_r2_i_i_i100_i_i_i_i_i);
+    v_r17_i82_i194_i_i_i = (u64)((u64)(v_r7_sroa_129_6_i_i_i) + (u64)(18446744073709551610ull));
+    v_r26_i84_i196_i_i_i = (P)((uintptr_t)v_r14 + (u64)(v_r17_i82_i194_i_i_i));
+    put_u8(v_r26_i84_i196_i_i_i, 2u);
+    v_r40_i171_sroa_4_0_r26_i84_i196_sroa_idx_i_i_i = v_r26_i84_i196_i_i_i + 1;
+    put_u8(v_r40_i171_sroa_4_0_r26_i84_i196_sroa_idx_i_i_i, 132u);
+    v_r40_i171_sroa_5_0_r26_i84_i196_sroa_idx_i_i_i = v_r26_i84_i196_i_i_i + 2;
+    put_u8(v_r40_i171_sroa_5_0_r26_i84_i196_sroa_idx_i_i_i, v_r152_i181_i_i_i);
+    v_r40_i171_sroa_6_0_r26_i84_i196_sroa_idx_i_i_i = v_r26_i84_i196_i_i_i + 3;
+    put_u8(v_r40_i171_sroa_6_0_r26_i84_i196_sroa_idx_i_i_i, v_r158_i183_i_i_i);
+    v_r40_i171_sroa_7_0_r26_i84_i196_sroa_idx_i_i_i = v_r26_i84_i196_i_i_i + 4;
+    put_u8(v_r40_i171_sroa_7_0_r26_i84_i196_sroa_idx_i_i_i, v_r164_i185_i_i_i);
+    v_r40_i171_sroa_8_0_r26_i84_i196_sroa_idx_i_i_i = v_r26_i84_i196_i_i_i + 5;
+    put_u8(v_r40_i171_sroa_8_0_r26_i84_i196_sroa_idx_i_i_i, v_r168_i186_i_i_i);
+    { p_v_r7_sroa_129_15_i_i_i = v_r17_i82_i194_i_i_i; goto L_der_core_back_writer_BackWriter_prepend_header_exi__11; }
+L_der_core_back_writer_BackWriter_prepend_header_exi__11:;
+    v_r7_sroa_129_15_i_i_i = p_v_r7_sroa_129_15_i_i_i;
+    v_r17_i_i_i_i114_i_i_i_i_i = (u64)((u64)(v_r7_sroa_129_15_i_i_i) - (u64)(v_r1_sroa_3_0_copyload_i_i_i113_i_i_i_i_i));
+    v_r26_i_i_i_i116_i_i_i_i_i = (P)((uintptr_t)v_r14 + (u64)(v_r17_i_i_i_i114_i_i_i_i_i));
+    v_r8_i_i_i_i_i_i_i_i_i_i117_i_i_i_i_i = (u64)((uintptr_t)v_r26_i_i_i_i116_i_i_i_i_i);
+    v_r9_i_i_i_i_i_i_i_i_i_i118_i_i_i_i_i = (u64)((uintptr_t)v_r1_sroa_0_0_copyload_i_i_i111_i_i_i_i_i);
+    v_r10_i_i_i_i_i_i_i_i_i_i119_i_i_i_i_i = (u64)((u64)(v_r8_i_i_i_i_i_i_i_i_i_i117_i_i_i_i_i) - (u64)(v_r9_i_i_i_i_i_i_i_i_i_i118_i_i_i_i_i));
+    v_r11_i_i_i_i_i_i_i_i_i_i120_i_i_i_i_i = v_r10_i_i_i_i_i_i_i_i_i_i119_i_i_i_i_i < v_r1_sroa_3_0_copyload_i_i_i113_i_i_i_i_i;
+    if (v_r11_i_i_i_i_i_i_i_i_i_i120_i_i_i_i_i) { goto L_join_7_i_i_i_i_i_i_i_i_i_i134_i_i_i_i_i_preheader; } else { goto L_apart_2_i_i_i_i_i_i_i_i_i_i121_i_i_i_i_i; }
+L_join_7_i_i_i_i_i_i_i_i_i_i134_i_i_i_i_i_preheader:;
+    v_xtraiter226 = (u64)((u64)(v_r1_sroa_3_0_copyload_i_i_i113_i_i_i_i_i) & (u64)(3u));
+    v_72 = v_r1_sroa_3_0_copyload_i_i_i113_i_i_i_i_i < 4u;
+    if (v_72) { p_v_r0_04_i_i_i_i_i_i_i_i_i_i135_i_i_i_i_i_epil_init = 0u; goto L_join_7_i_i_i_i_i_i_i_i_i_i134_i_i_i_i_i_epil_prehe; } else { goto L_join_7_i_i_i_i_i_i_i_i_i_i134_i_i_i_i_i_preheader_; }
+L_join_7_i_i_i_i_i_i_i_i_i_i134_i_i_i_i_i_preheader_:;
+    v_unroll_iter230 = (u64)((u64)(v_r1_sroa_3_0_copyload_i_i_i113_i_i_i_i_i) & (u64)(4294967292ull));
+    { p_v_r0_04_i_i_i_i_i_i_i_i_i_i135_i_i_i_i_i = 0u; p_v_niter231 = 0u; goto L_join_7_i_i_i_i_i_i_i_i_i_i134_i_i_i_i_i; }
+L_apart_2_i_i_i_i_i_i_i_i_i_i121_i_i_i_i_i:;
+    move(v_r26_i_i_i_i116_i_i_i_i_i, v_r1_sroa_0_0_copyload_i_i_i111_i_i_i_i_i, v_r1_sroa_3_0_copyload_i_i_i113_i_i_i_i_i);
+    { goto L_der_core_back_writer_BackWriter_prepend_exit_i_i_i__21; }
+L_join_7_i_i_i_i_i_i_i_i_i_i134_i_i_i_i_i:;
+    v_r0_04_i_i_i_i_i_i_i_i_i_i135_i_i_i_i_i = p_v_r0_04_i_i_i_i_i_i_i_i_i_i135_i_i_i_i_i;
+    v_niter231 = p_v_niter231;
+    v_r20_i_i_i_i_i_i_i_i_i_i136_i_i_i_i_i = v_r26_i_i_i_i116_i_i_i_i_i + (int64_t)(v_r0_04_i_i_i_i_i_i_i_i_i_i135_i_i_i_i_i);
+    v_r24_i_i_i_i_i_i_i_i_i_i137_i_i_i_i_i = v_r1_sroa_0_0_copyload_i_i_i111_i_i_i_i_i + (int64_t)(v_r0_04_i_i_i_i_i_i_i_i_i_i135_i_i_i_i_i);
+    v_r26_i_i_i_i_i_i_i_i_i_i138_i_i_i_i_i = get_u8(v_r24_i_i_i_i_i_i_i_i_i_i137_i_i_i_i_i);
+    put_u8(v_r20_i_i_i_i_i_i_i_i_i_i136_i_i_i_i_i, v_r26_i_i_i_i_i_i_i_i_i_i138_i_i_i_i_i);
+    v_r30_i_i_i_i_i_i_i_i_i_i139_i_i_i_i_i = (u64)((u64)(v_r0_04_i_i_i_i_i_i_i_i_i_i135_i_i_i_i_i) | (u64)(1u));
+    v_r20_i_i_i_i_i_i_i_i_i_i136_i_i_i_i_i_1 = v_r26_i_i_i_i116_i_i_i_i_i + (int64_t)(v_r30_i_i_i_i_i_i_i_i_i_i139_i_i_i_i_i);
+    v_r24_i_i_i_i_i_i_i_i_i_i137_i_i_i_i_i_1 = v_r1_sroa_0_0_copyload_i_i_i111_i_i_i_i_i + (int64_t)(v_r30_i_i_i_i_i_i_i_i_i_i139_i_i_i_i_i);
+    v_r26_i_i_i_i_i_i_i_i_i_i138_i_i_i_i_i_1 = get_u8(v_r24_i_i_i_i_i_i_i_i_i_i137_i_i_i_i_i_1);
+    put_u8(v_r20_i_i_i_i_i_i_i_i_i_i136_i_i_i_i_i_1, v_r26_i_i_i_i_i_i_i_i_i_i138_i_i_i_i_i_1);
+    v_r30_i_i_i_i_i_i_i_i_i_i139_i_i_i_i_i_1 = (u64)((u64)(v_r0_04_i_i_i_i_i_i_i_i_i_i135_i_i_i_i_i) | (u64)(2u));
+    v_r20_i_i_i_i_i_i_i_i_i_i136_i_i_i_i_i_2 = v_r26_i_i_i_i116_i_i_i_i_i + (int64_t)(v_r30_i_i_i_i_i_i_i_i_i_i139_i_i_i_i_i_1);
+    v_r24_i_i_i_i_i_i_i_i_i_i137_i_i_i_i_i_2 = v_r1_sroa_0_0_copyload_i_i_i111_i_i_i_i_i + (int64_t)(v_r30_i_i_i_i_i_i_i_i_i_i139_i_i_i_i_i_1);
+    v_r26_i_i_i_i_i_i_i_i_i_i138_i_i_i_i_i_2 = get_u8(v_r24_i_i_i_i_i_i_i_i_i_i137_i_i_i_i_i_2);
+    put_u8(v_r20_i_i_i_i_i_i_i_i_i_i136_i_i_i_i_i_2, v_r26_i_i_i_i_i_i_i_i_i_i138_i_i_i_i_i_2);
+    v_r30_i_i_i_i_i_i_i_i_i_i139_i_i_i_i_i_2 = (u64)((u64)(v_r0_04_i_i_i_i_i_i_i_i_i_i135_i_i_i_i_i) | (u64)(3u));
+    v_r20_i_i_i_i_i_i_i_i_i_i136_i_i_i_i_i_3 = v_r26_i_i_i_i116_i_i_i_i_i + (int64_t)(v_r30_i_i_i_i_i_i_i_i_i_i139_i_i_i_i_i_2);
+    v_r24_i_i_i_i_i_i_i_i_i_i137_i_i_i_i_i_3 = v_r1_sroa_0_0_copyload_i_i_i111_i_i_i_i_i + (int64_t)(v_r30_i_i_i_i_i_i_i_i_i_i139_i_i_i_i_i_2);
+    v_r26_i_i_i_i_i_i_i_i_i_i138_i_i_i_i_i_3 = get_u8(v_r24_i_i_i_i_i_i_i_i_i_i137_i_i_i_i_i_3);
+    put_u8(v_r20_i_i_i_i_i_i_i_i_i_i136_i_i_i_i_i_3, v_r26_i_i_i_i_i_i_i_i_i_i138_i_i_i_i_i_3);
+    v_r30_i_i_i_i_i_i_i_i_i_i139_i_i_i_i_i_3 = (u64)((u64)(v_r0_04_i_i_i_i_i_i_i_i_i_i135_i_i_i_i_i) + (u64)(4u));
+    v_niter231_next_3 = (u64)((u64)(v_niter231) + (u64)(4u));
+    v_niter231_ncmp_3 = v_niter231_next_3 == v_unroll_iter230;
+    if (v_niter231_ncmp_3) { goto L_der_core_back_writer_BackWriter_prepend_exit_i_i_i__22; } else { p_v_r0_04_i_i_i_i_i_i_i_i_i_i135_i_i_i_i_i = v_r30_i_i_i_i_i_i_i_i_i_i139_i_i_i_i_i_3; p_v_niter231 = v_niter231_next_3; goto L_join_7_i_i_i_i_i_i_i_i_i_i134_i_i_i_i_i; }
+L_der_core_back_writer_BackWriter_prepend_exit_i_i_i__22:;
+    v_lcmp_mod228_not = v_xtraiter226 == 0u;
+    if (v_lcmp_mod228_not) { goto L_der_core_back_writer_BackWriter_prepend_exit_i_i_i__21; } else { p_v_r0_04_i_i_i_i_i_i_i_i_i_i135_i_i_i_i_i_epil_init = v_r30_i_i_i_i_i_i_i_i_i_i139_i_i_i_i_i_3; goto L_join_7_i_i_i_i_i_i_i_i_i_i134_i_i_i_i_i_epil_prehe; }
+L_join_7_i_i_i_i_i_i_i_i_i_i134_i_i_i_i_i_epil_prehe:;
+    v_r0_04_i_i_i_i_i_i_i_i_i_i135_i_i_i_i_i_epil_init = p_v_r0_04_i_i_i_i_i_i_i_i_i_i135_i_i_i_i_i_epil_init;
+    { p_v_r0_04_i_i_i_i_i_i_i_i_i_i135_i_i_i_i_i_epil = v_r0_04_i_i_i_i_i_i_i_i_i_i135_i_i_i_i_i_epil_init; p_v_epil_iter227 = 0u; goto L_join_7_i_i_i_i_i_i_i_i_i_i134_i_i_i_i_i_epil; }
+L_join_7_i_i_i_i_i_i_i_i_i_i134_i_i_i_i_i_epil:;
+    v_r0_04_i_i_i_i_i_i_i_i_i_i135_i_i_i_i_i_epil = p_v_r0_04_i_i_i_i_i_i_i_i_i_i135_i_i_i_i_i_epil;
+    v_epil_iter227 = p_v_epil_iter227;
+    v_r20_i_i_i_i_i_i_i_i_i_i136_i_i_i_i_i_epil = v_r26_i_i_i_i116_i_i_i_i_i + (int64_t)(v_r0_04_i_i_i_i_i_i_i_i_i_i135_i_i_i_i_i_epil);
+    v_r24_i_i_i_i_i_i_i_i_i_i137_i_i_i_i_i_epil = v_r1_sroa_0_0_copyload_i_i_i111_i_i_i_i_i + (int64_t)(v_r0_04_i_i_i_i_i_i_i_i_i_i135_i_i_i_i_i_epil);
+    v_r26_i_i_i_i_i_i_i_i_i_i138_i_i_i_i_i_epil = get_u8(v_r24_i_i_i_i_i_i_i_i_i_i137_i_i_i_i_i_epil);
+    put_u8(v_r20_i_i_i_i_i_i_i_i_i_i136_i_i_i_i_i_epil, v_r26_i_i_i_i_i_i_i_i_i_i138_i_i_i_i_i_epil);
+    v_r30_i_i_i_i_i_i_i_i_i_i139_i_i_i_i_i_epil = (u64)((u64)(v_r0_04_i_i_i_i_i_i_i_i_i_i135_i_i_i_i_i_epil) + (u64)(1u));
+    v_epil_iter227_next = (u64)((u64)(v_epil_iter227) + (u64)(1u));
+    v_epil_iter227_cmp_not = v_epil_iter227_next == v_xtraiter226;
+    if (v_epil_iter227_cmp_not) { goto L_der_core_back_writer_BackWriter_prepend_exit_i_i_i__21; } else { p_v_r0_04_i_i_i_i_i_i_i_i_i_i135_i_i_i_i_i_epil = v_r30_i_i_i_i_i_i_i_i_i_i139_i_i_i_i_i_epil; p_v_epil_iter227 = v_epil_iter227_next; goto L_join_7_i_i_i_i_i_i_i_i_i_i134_i_i_i_i_i_epil; }
+L_der_core_back_writer_BackWriter_prepend_exit_i_i_i__21:;
+    v_r15_not_i_i_i125_i_i_i_i_i = (u8)(v_r20_i288_i_i ^ ((u8)1 << 7)) > (u8)(255u ^ ((u8)1 << 7));
+    if (v_r15_not_i_i_i125_i_i_i_i_i) { p_v_r7_sroa_129_12_i_i_i = v_r17_i_i_i_i114_i_i_i_i_i; goto L_der_core_encode_AnyEncode_prepend_3a3c98235cfe5b88; } else { goto L_then_1_i_i_i126_i_i_i_i_i; }
+L_then_1_i_i_i126_i_i_i_i_i:;
+    v_r17_i3_i_i_i127_i_i_i_i_i = (u64)((u64)(v_r17_i_i_i_i114_i_i_i_i_i) + (u64)(18446744073709551615ull));
+    v_r26_i5_i_i_i129_i_i_i_i_i = (P)((uintptr_t)v_r14 + (u64)(v_r17_i3_i_i_i127_i_i_i_i_i));
+    put_u8(v_r26_i5_i_i_i129_i_i_i_i_i, 0u);
+    { p_v_r7_sroa_129_12_i_i_i = v_r17_i3_i_i_i127_i_i_i_i_i; goto L_der_core_encode_AnyEncode_prepend_3a3c98235cfe5b88; }
+L_der_core_encode_AnyEncode_prepend_3a3c98235cfe5b88:;
+    v_r7_sroa_129_12_i_i_i = p_v_r7_sroa_129_12_i_i_i;
+    v_73 = (u64)((u64)(v_r7_sroa_129_12_i_i_i) + (u64)(v_r3_i5_i_i_i));
+    v_74 = (u64)((u64)(v_r7_sroa_129_15_i_i_i) - (u64)(v_73));
+    v_75 = (u32)(v_74);
+    v_r2_i_i_i133_i_i_i_i_i = (u32)((u32)(v_r1_sroa_9_4_copyload_i_i_i_i) + (u32)(v_75));
+    v_r59_i96_i_i_i = v_r2_i_i_i133_i_i_i_i_i < 128u;
+    if (v_r59_i96_i_i_i) { goto L_then_1_i157_i_i_i; } else { goto L_else_2_i97_i_i_i; }
+L_then_1_i157_i_i_i:;
+    v_r64_i158_i_i_i = (u16)(v_r2_i_i_i133_i_i_i_i_i);
+    v_r17_i_i162_i_i_i = (u64)((u64)(v_r7_sroa_129_12_i_i_i) + (u64)(18446744073709551614ull));
+    v_r26_i_i164_i_i_i = (P)((uintptr_t)v_r14 + (u64)(v_r17_i_i162_i_i_i));
+    v_r8_i91_sroa_4_0_insert_shift_i_i_i = (u16)((u32)(v_r64_i158_i_i_i) << (u32)((8u & 31)));
+    v_r8_i91_sroa_0_0_insert_insert_i_i_i = (u16)((u32)(v_r8_i91_sroa_4_0_insert_shift_i_i_i) | (u32)(2u));
+    put_u16(v_r26_i_i164_i_i_i, v_r8_i91_sroa_0_0_insert_insert_i_i_i);
+    { p_v_r7_sroa_129_14_i_i_i = v_r17_i_i162_i_i_i; goto L_der_core_back_writer_BackWriter_prepend_header_exi__12; }
+L_else_2_i97_i_i_i:;
+    v_r75_i98_i_i_i = v_r2_i_i_i133_i_i_i_i_i < 256u;
+    if (v_r75_i98_i_i_i) { goto L_then_4_i148_i_i_i; } else { goto L_else_5_i99_i_i_i; }
+L_then_4_i148_i_i_i:;
+    v_r80_i149_i_i_i = (u8)(v_r2_i_i_i133_i_i_i_i_i);
+    v_r17_i28_i154_i_i_i = (u64)((u64)(v_r7_sroa_129_12_i_i_i) + (u64)(18446744073709551613ull));
+    v_r26_i30_i156_i_i_i = (P)((uintptr_t)v_r14 + (u64)(v_r17_i28_i154_i_i_i));
+    put_u8(v_r26_i30_i156_i_i_i, 2u);
+    v_r14_i92_sroa_4_0_r26_i30_i156_sroa_idx_i_i_i = v_r26_i30_i156_i_i_i + 1;
+    put_u8(v_r14_i92_sroa_4_0_r26_i30_i156_sroa_idx_i_i_i, 129u);
+    v_r14_i92_sroa_5_0_r26_i30_i156_sroa_idx_i_i_i = v_r26_i30_i156_i_i_i + 2;
+    put_u8(v_r14_i92_sroa_5_0_r26_i30_i156_sroa_idx_i_i_i, v_r80_i149_i_i_i);
+    { p_v_r7_sroa_129_14_i_i_i = v_r17_i28_i154_i_i_i; goto L_der_core_back_writer_BackWriter_prepend_header_exi__12; }
+L_else_5_i99_i_i_i:;
+    v_r92_i100_i_i_i = v_r2_i_i_i133_i_i_i_i_i < 65536u;
+    if (v_r92_i100_i_i_i) { goto L_then_7_i136_i_i_i; } else { goto L_else_8_i101_i_i_i; }
+L_then_7_i136_i_i_i:;
+    v_r17_i46_i144_i_i_i = (u64)((u64)(v_r7_sroa_129_12_i_i_i) + (u64)(18446744073709551612ull));
+    v_r26_i48_i146_i_i_i = (P)((uintptr_t)v_r14 + (u64)(v_r17_i46_i144_i_i_i));
+    v_76 = (u32)((u32)(v_r2_i_i_i133_i_i_i_i_i) | (u32)(42074112u));
+    v_r20_i93_sroa_0_0_insert_insert_i_i_i = __builtin_bswap32(v_76);
+    put_u32(v_r26_i48_i146_i_i_i, v_r20_i93_sroa_0_0_insert_insert_i_i_i);
+    { p_v_r7_sroa_129_14_i_i_i = v_r17_i46_i144_i_i_i; goto L_der_core_back_writer_BackWriter_prepend_header_exi__12; }
+L_else_8_i101_i_i_i:;
+    v_r117_i102_i_i_i = v_r2_i_i_i133_i_i_i_i_i < 16777216u;
+    if (v_r117_i102_i_i_i) { goto L_then_10_i121_i_i_i; } else { goto L_else_11_i103_i_i_i; }
+L_then_10_i121_i_i_i:;
+    v_r12223_i122_i_i_i = (u32)((u32)(v_r2_i_i_i133_i_i_i_i_i) >> (u32)((16u & 31)));
+    v_r124_i123_i_i_i = (u8)(v_r12223_i122_i_i_i);
+    v_r12624_i124_i_i_i = (u32)((u32)(v_r2_i_i_i133_i_i_i_i_i) >> (u32)((8u & 31)));
+    v_r130_i125_i_i_i = (u8)(v_r12624_i124_i_i_i);
+    v_r134_i126_i_i_i = (u8)(v_r2_i_i_i133_i_i_i_i_i);
+    v_r17_i64_i133_i_i_i = (u64)((u64)(v_r7_sroa_129_12_i_i_i) + (u64)(18446744073709551611ull));
+    v_r26_i66_i135_i_i_i = (P)((uintptr_t)v_r14 + (u64)(v_r17_i64_i133_i_i_i));
+    put_u8(v_r26_i66_i135_i_i_i, 2u);
+    v_r29_i94_sroa_4_0_r26_i66_i135_sroa_idx_i_i_i = v_r26_i66_i135_i_i_i + 1;
+    put_u8(v_r29_i94_sroa_4_0_r26_i66_i135_sroa_idx_i_i_i, 131u);
+    v_r29_i94_sroa_5_0_r26_i66_i135_sroa_idx_i_i_i = v_r26_i66_i135_i_i_i + 2;
+    put_u8(v_r29_i94_sroa_5_0_r26_i66_i135_sroa_idx_i_i_i, v_r124_i123_i_i_i);
+    v_r29_i94_sroa_6_0_r26_i66_i135_sroa_idx_i_i_i = v_r26_i66_i135_i_i_i + 3;
+    put_u8(v_r29_i94_sroa_6_0_r26_i66_i135_sroa_idx_i_i_i, v_r130_i125_i_i_i);
+    v_r29_i94_sroa_7_0_r26_i66_i135_sroa_idx_i_i_i = v_r26_i66_i135_i_i_i + 4;
+    put_u8(v_r29_i94_sroa_7_0_r26_i66_i135_sroa_idx_i_i_i, v_r134_i126_i_i_i);
+    { p_v_r7_sroa_129_14_i_i_i = v_r17_i64_i133_i_i_i; goto L_der_core_back_writer_BackWriter_prepend_header_exi__12; }
+L_else_11_i103_i_i_i:;
+    v_r15020_i104_i_i_i = (u32)((u32)(v_r2_i_i_i133_i_i_i_i_i) >> (u32)((24u & 31)));
+    v_r152_i105_i_i_i = (u8)(v_r15020_i104_i_i_i);
+    v_r15421_i106_i_i_i = (u32)((u32)(v_r2_i_i_i133_i_i_i_i_i) >> (u32)((16u & 31)));
+    v_r158_i107_i_i_i = (u8)(v_r15421_i106_i_i_i);
+    v_r16022_i108_i_i_i = (u32)((u32)(v_r2_i_i_i133_i_i_i_i_i) >> (u32)((8u & 31)));
+    v_r164_i109_i_i_i = (u8)(v_r16022_i108_i_i_i);
+    v_r168_i110_i_i_i = (u8)(v_r2_i_i_i133_i_i_i_i_i);
+    v_r17_i82_i118_i_i_i = (u64)((u64)(v_r7_sroa_129_12_i_i_i) + (u64)(18446744073709551610ull));
+    v_r26_i84_i120_i_i_i = (P)((uintptr_t)v_r14 + (u64)(v_r17_i82_i118_i_i_i));
+    put_u8(v_r26_i84_i120_i_i_i, 2u);
+    v_r40_i95_sroa_4_0_r26_i84_i120_sroa_idx_i_i_i = v_r26_i84_i120_i_i_i + 1;
+    put_u8(v_r40_i95_sroa_4_0_r26_i84_i120_sroa_idx_i_i_i, 132u);
+    v_r40_i95_sroa_5_0_r26_i84_i120_sroa_idx_i_i_i = v_r26_i84_i120_i_i_i + 2;
+    put_u8(v_r40_i95_sroa_5_0_r26_i84_i120_sroa_idx_i_i_i, v_r152_i105_i_i_i);
+    v_r40_i95_sroa_6_0_r26_i84_i120_sroa_idx_i_i_i = v_r26_i84_i120_i_i_i + 3;
+    put_u8(v_r40_i95_sroa_6_0_r26_i84_i120_sroa_idx_i_i_i, v_r158_i107_i_i_i);
+    v_r40_i95_sroa_7_0_r26_i84_i120_sroa_idx_i_i_i = v_r26_i84_i120_i_i_i + 4;
+    put_u8(v_r40_i95_sroa_7_0_r26_i84_i120_sroa_idx_i_i_i, v_r164_i109_i_i_i);
+    v_r40_i95_sroa_8_0_r26_i84_i120_sroa_idx_i_i_i = v_r26_i84_i120_i_i_i + 5;
+    put_u8(v_r40_i95_sroa_8_0_r26_i84_i120_sroa_idx_i_i_i, v_r168_i110_i_i_i);
+    { p_v_r7_sroa_129_14_i_i_i = v_r17_i82_i118_i_i_i; goto L_der_core_back_writer_BackWriter_prepend_header_exi__12; }
+L_der_core_back_writer_BackWriter_prepend_header_exi__12:;
+    v_r7_sroa_129_14_i_i_i = p_v_r7_sroa_129_14_i_i_i;
+    v_77 = (P)((uintptr_t)v_r14 + (u64)(v_r7_sroa_129_14_i_i_i));
+    v_r26_i_i_i_i_i_i_i_i = (P)((uintptr_t)v_77 + (u64)(-1));
+    put_u8(v_r26_i_i_i_i_i_i_i_i, v_15);
+    v_r26_i_i88_i_i_i = (P)((uintptr_t)v_77 + (u64)(-3));
+    put_u16(v_r26_i_i88_i_i_i, 258u);
+    v_reass_sub_i_i_i = (u64)((u64)(v_r3_i5_i_i_i) - (u64)(v_r7_sroa_129_14_i_i_i));
     v_r17_i12_i_i_i = (u64)((u64)(v_reass_sub_i_i_i) + (u64)(3u));
     v_r2_i_i_i_i_i = (u32)(v_r17_i12_i_i_i);
     v_r59_i_i_i_i = v_r2_i_i_i_i_i < 128u;
     if (v_r59_i_i_i_i) { goto L_then_1_i_i_i_i; } else { goto L_else_2_i_i_i_i; }
 L_then_1_i_i_i_i:;
     v_r64_i_i_i_i = (u16)(v_r17_i12_i_i_i);
-    v_r26_i_i_i_i_i = (P)((uintptr_t)v_42 + (u64)(-5));
+    v_r26_i_i14_i_i_i = (P)((uintptr_t)v_77 + (u64)(-5));
     v_r8_i_sroa_4_0_insert_shift_i_i_i = (u16)((u32)(v_r64_i_i_i_i) << (u32)((8u & 31)));
     v_r8_i_sroa_0_0_insert_insert_i_i_i = (u16)((u32)(v_r8_i_sroa_4_0_insert_shift_i_i_i) | (u32)(48u));
-    put_u16(v_r26_i_i_i_i_i, v_r8_i_sroa_0_0_insert_insert_i_i_i);
+    put_u16(v_r26_i_i14_i_i_i, v_r8_i_sroa_0_0_insert_insert_i_i_i);
     { goto L_arm_1_i5_i; }
 L_else_2_i_i_i_i:;
     v_r75_i_i_i_i = v_r2_i_i_i_i_i < 256u;
     if (v_r75_i_i_i_i) { goto L_then_4_i_i_i_i; } else { goto L_else_5_i_i_i_i; }
 L_then_4_i_i_i_i:;
     v_r80_i_i_i_i = (u8)(v_r17_i12_i_i_i);
-    v_r26_i30_i_i_i_i = (P)((uintptr_t)v_42 + (u64)(-6));
+    v_r26_i30_i_i_i_i = (P)((uintptr_t)v_77 + (u64)(-6));
     put_u8(v_r26_i30_i_i_i_i, 48u);
-    v_r14_i_sroa_4_0_r26_i30_i_sroa_idx_i_i_i = (P)((uintptr_t)v_42 + (u64)(-5));
+    v_r14_i_sroa_4_0_r26_i30_i_sroa_idx_i_i_i = (P)((uintptr_t)v_77 + (u64)(-5));
     put_u8(v_r14_i_sroa_4_0_r26_i30_i_sroa_idx_i_i_i, 129u);
-    v_r14_i_sroa_5_0_r26_i30_i_sroa_idx_i_i_i = (P)((uintptr_t)v_42 + (u64)(-4));
+    v_r14_i_sroa_5_0_r26_i30_i_sroa_idx_i_i_i = (P)((uintptr_t)v_77 + (u64)(-4));
     put_u8(v_r14_i_sroa_5_0_r26_i30_i_sroa_idx_i_i_i, v_r80_i_i_i_i);
     { goto L_arm_1_i5_i; }
 L_else_5_i_i_i_i:;
     v_r92_i_i_i_i = v_r2_i_i_i_i_i < 65536u;
     if (v_r92_i_i_i_i) { goto L_then_7_i_i_i_i; } else { goto L_else_8_i_i_i_i; }
 L_then_7_i_i_i_i:;
-    v_r26_i48_i_i_i_i = (P)((uintptr_t)v_42 + (u64)(-7));
-    v_43 = (u32)((u32)(v_r2_i_i_i_i_i) | (u32)(813826048u));
-    v_r20_i_sroa_0_0_insert_insert_i_i_i = __builtin_bswap32(v_43);
+    v_r26_i48_i_i_i_i = (P)((uintptr_t)v_77 + (u64)(-7));
+    v_78 = (u32)((u32)(v_r2_i_i_i_i_i) | (u32)(813826048u));
+    v_r20_i_sroa_0_0_insert_insert_i_i_i = __builtin_bswap32(v_78);
     put_u32(v_r26_i48_i_i_i_i, v_r20_i_sroa_0_0_insert_insert_i_i_i);
     { goto L_arm_1_i5_i; }
 L_else_8_i_i_i_i:;
     v_r117_i_i_i_i = v_r2_i_i_i_i_i < 16777216u;
     if (v_r117_i_i_i_i) { goto L_then_10_i_i_i_i; } else { goto L_else_11_i_i_i_i; }
 L_then_10_i_i_i_i:;
-    v_r12223_i645_i_i_i = (u64)((u64)(v_r17_i12_i_i_i) >> (u64)((16u & 63)));
-    v_r124_i_i_i_i = (u8)(v_r12223_i645_i_i_i);
-    v_r12624_i646_i_i_i = (u64)((u64)(v_r17_i12_i_i_i) >> (u64)((8u & 63)));
-    v_r130_i_i_i_i = (u8)(v_r12624_i646_i_i_i);
+    v_r12223_i1242_i_i_i = (u64)((u64)(v_r17_i12_i_i_i) >> (u64)((16u & 63)));
+    v_r124_i_i_i_i = (u8)(v_r12223_i1242_i_i_i);
+    v_r12624_i1243_i_i_i = (u64)((u64)(v_r17_i12_i_i_i) >> (u64)((8u & 63)));
+    v_r130_i_i_i_i = (u8)(v_r12624_i1243_i_i_i);
     v_r134_i_i_i_i = (u8)(v_r17_i12_i_i_i);
-    v_r26_i66_i_i_i_i = (P)((uintptr_t)v_42 + (u64)(-8));
+    v_r26_i66_i_i_i_i = (P)((uintptr_t)v_77 + (u64)(-8));
     put_u8(v_r26_i66_i_i_i_i, 48u);
-    v_r29_i_sroa_4_0_r26_i66_i_sroa_idx_i_i_i = (P)((uintptr_t)v_42 + (u64)(-7));
+    v_r29_i_sroa_4_0_r26_i66_i_sroa_idx_i_i_i = (P)((uintptr_t)v_77 + (u64)(-7));
     put_u8(v_r29_i_sroa_4_0_r26_i66_i_sroa_idx_i_i_i, 131u);
-    v_r29_i_sroa_5_0_r26_i66_i_sroa_idx_i_i_i = (P)((uintptr_t)v_42 + (u64)(-6));
+    v_r29_i_sroa_5_0_r26_i66_i_sroa_idx_i_i_i = (P)((uintptr_t)v_77 + (u64)(-6));
     put_u8(v_r29_i_sroa_5_0_r26_i66_i_sroa_idx_i_i_i, v_r124_i_i_i_i);
-    v_r29_i_sroa_6_0_r26_i66_i_sroa_idx_i_i_i = (P)((uintptr_t)v_42 + (u64)(-5));
+    v_r29_i_sroa_6_0_r26_i66_i_sroa_idx_i_i_i = (P)((uintptr_t)v_77 + (u64)(-5));
     put_u8(v_r29_i_sroa_6_0_r26_i66_i_sroa_idx_i_i_i, v_r130_i_i_i_i);
-    v_r29_i_sroa_7_0_r26_i66_i_sroa_idx_i_i_i = (P)((uintptr_t)v_42 + (u64)(-4));
+    v_r29_i_sroa_7_0_r26_i66_i_sroa_idx_i_i_i = (P)((uintptr_t)v_77 + (u64)(-4));
     put_u8(v_r29_i_sroa_7_0_r26_i66_i_sroa_idx_i_i_i, v_r134_i_i_i_i);
     { goto L_arm_1_i5_i; }
 L_else_11_i_i_i_i:;
-    v_r15020_i642_i_i_i = (u64)((u64)(v_r17_i12_i_i_i) >> (u64)((24u & 63)));
-    v_r152_i_i_i_i = (u8)(v_r15020_i642_i_i_i);
-    v_r15421_i643_i_i_i = (u64)((u64)(v_r17_i12_i_i_i) >> (u64)((16u & 63)));
-    v_r158_i_i_i_i = (u8)(v_r15421_i643_i_i_i);
-    v_r16022_i644_i_i_i = (u64)((u64)(v_r17_i12_i_i_i) >> (u64)((8u & 63)));
-    v_r164_i_i_i_i = (u8)(v_r16022_i644_i_i_i);
+    v_r15020_i1239_i_i_i = (u64)((u64)(v_r17_i12_i_i_i) >> (u64)((24u & 63)));
+    v_r152_i_i_i_i = (u8)(v_r15020_i1239_i_i_i);
+    v_r15421_i1240_i_i_i = (u64)((u64)(v_r17_i12_i_i_i) >> (u64)((16u & 63)));
+    v_r158_i_i_i_i = (u8)(v_r15421_i1240_i_i_i);
+    v_r16022_i1241_i_i_i = (u64)((u64)(v_r17_i12_i_i_i) >> (u64)((8u & 63)));
+    v_r164_i_i_i_i = (u8)(v_r16022_i1241_i_i_i);
     v_r168_i_i_i_i = (u8)(v_r17_i12_i_i_i);
-    v_r26_i84_i_i_i_i = (P)((uintptr_t)v_42 + (u64)(-9));
+    v_r26_i84_i_i_i_i = (P)((uintptr_t)v_77 + (u64)(-9));
     put_u8(v_r26_i84_i_i_i_i, 48u);
-    v_r40_i_sroa_4_0_r26_i84_i_sroa_idx_i_i_i = (P)((uintptr_t)v_42 + (u64)(-8));
+    v_r40_i_sroa_4_0_r26_i84_i_sroa_idx_i_i_i = (P)((uintptr_t)v_77 + (u64)(-8));
     put_u8(v_r40_i_sroa_4_0_r26_i84_i_sroa_idx_i_i_i, 132u);
-    v_r40_i_sroa_5_0_r26_i84_i_sroa_idx_i_i_i = (P)((uintptr_t)v_42 + (u64)(-7));
+    v_r40_i_sroa_5_0_r26_i84_i_sroa_idx_i_i_i = (P)((uintptr_t)v_77 + (u64)(-7));
     put_u8(v_r40_i_sroa_5_0_r26_i84_i_sroa_idx_i_i_i, v_r152_i_i_i_i);
-    v_r40_i_sroa_6_0_r26_i84_i_sroa_idx_i_i_i = (P)((uintptr_t)v_42 + (u64)(-6));
+    v_r40_i_sroa_6_0_r26_i84_i_sroa_idx_i_i_i = (P)((uintptr_t)v_77 + (u64)(-6));
     put_u8(v_r40_i_sroa_6_0_r26_i84_i_sroa_idx_i_i_i, v_r158_i_i_i_i);
-    v_r40_i_sroa_7_0_r26_i84_i_sroa_idx_i_i_i = (P)((uintptr_t)v_42 + (u64)(-5));
+    v_r40_i_sroa_7_0_r26_i84_i_sroa_idx_i_i_i = (P)((uintptr_t)v_77 + (u64)(-5));
     put_u8(v_r40_i_sroa_7_0_r26_i84_i_sroa_idx_i_i_i, v_r164_i_i_i_i);
-    v_r40_i_sroa_8_0_r26_i84_i_sroa_idx_i_i_i = (P)((uintptr_t)v_42 + (u64)(-4));
+    v_r40_i_sroa_8_0_r26_i84_i_sroa_idx_i_i_i = (P)((uintptr_t)v_77 + (u64)(-4));
     put_u8(v_r40_i_sroa_8_0_r26_i84_i_sroa_idx_i_i_i, v_r168_i_i_i_i);
     { goto L_arm_1_i5_i; }
 L_arm_1_i5_i:;
     put_u64(v_a5, v_r3_i5_i_i_i);
-    { p_v_r8_0_i_i = 0u; goto L_pkcs1_c_written_write_encoding_51a1d28ce8be2b9f_ex; }
+    v_r48_pre_i = get_u8(v_r11_sroa_86_8_r6_sroa_idx_i);
+    { p_v_r48_i = v_r48_pre_i; p_v_r8_0_i_i = 0u; goto L_pkcs1_c_written_write_encoding_51a1d28ce8be2b9f_ex; }
 L_arm_2_i4_i:;
     v_r5_sroa_0_sroa_5_0_i_i = p_v_r5_sroa_0_sroa_5_0_i_i;
     put_u64(v_r1_i_i_i, 0u);
     f_der_core_encode_AnyEncode_encoded_len_3a3c98235cfe(v_r1_i_i_i, v_r6_i);
     v_r3_i_i_i = get_u8(v_r1_i_i_i);
-    v_44 = v_r3_i_i_i == 0u;
-    if (v_44) { goto L_arm_1_i1_i_i; } else { goto L_pkcs1_c_written_set_needed_51a1d28ce8be2b9f_exit_i; }
+    v_79 = v_r3_i_i_i == 0u;
+    if (v_79) { goto L_arm_1_i1_i_i; } else { goto L_pkcs1_c_written_set_needed_51a1d28ce8be2b9f_exit_i; }
 L_arm_1_i1_i_i:;
     v_r4_i_i_i = v_r1_i_i_i + 4;
     v_r0_sroa_0_0_copyload_i_i_i = get_u32(v_r4_i_i_i);
@@ -35056,13 +36982,15 @@ L_arm_1_i1_i_i:;
     put_u64(v_a5, v_r3_i_i2_i_i);
     { goto L_pkcs1_c_written_set_needed_51a1d28ce8be2b9f_exit_i; }
 L_pkcs1_c_written_set_needed_51a1d28ce8be2b9f_exit_i:;
-    { p_v_r8_0_i_i = v_r5_sroa_0_sroa_5_0_i_i; goto L_pkcs1_c_written_write_encoding_51a1d28ce8be2b9f_ex; }
+    { p_v_r48_i = v_15; p_v_r8_0_i_i = v_r5_sroa_0_sroa_5_0_i_i; goto L_pkcs1_c_written_write_encoding_51a1d28ce8be2b9f_ex; }
 L_pkcs1_c_written_write_encoding_51a1d28ce8be2b9f_ex:;
+    v_r48_i = p_v_r48_i;
     v_r8_0_i_i = p_v_r8_0_i_i;
     v_r18_sroa_3_sroa_4_0_r51_sroa_idx_i = v_r6_i + 216;
     v_r18_sroa_3_sroa_4_0_copyload_i = get_u64(v_r18_sroa_3_sroa_4_0_r51_sroa_idx_i);
+    v_80 = v_r48_i != 1u;
     v_r14_not_i_i_i_i = v_r18_sroa_3_sroa_4_0_copyload_i == 0u;
-    v_or_cond_i = v_r7_i1102_i_i ? 1u : v_r14_not_i_i_i_i;
+    v_or_cond_i = v_80 ? 1u : v_r14_not_i_i_i_i;
     if (v_or_cond_i) { p_v_common_ret_op_i = v_r8_0_i_i; goto L_pkcs1_c_private_key_pkcs1_c_private_key_encode_exi; } else { goto L_then_1_i_i_i6_i; }
 L_then_1_i_i_i6_i:;
     v_r18_sroa_3_sroa_0_0_copyload_i = get_P(v_r11_sroa_87_8_r6_sroa_idx_i);

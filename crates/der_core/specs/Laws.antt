@@ -26,6 +26,7 @@ pub mod Optional
 pub mod OptionalReads
 pub mod Parts
 pub mod NotWritten
+pub mod Rows
 pub mod SequenceOf
 pub mod Sequences
 pub mod ShortEncodings

@@ -30,6 +30,11 @@ abbrev pub AllocatesInParts : {A : Type 0} → (A → List ℕ → Type 0) → (
     → Type 0
 AllocatesInParts First first rest c = AllocatesIn first c ⊎ AllocatesBehind First rest c
 
+-- A row may need memory; or it is there, and what follows may.
+abbrev pub AllocatesInFront : {A : Type 0} → (A → List ℕ → Type 0) → (List ℕ → Type 0) → (List ℕ → Type 0) → List ℕ
+    → Type 0
+AllocatesInFront Row asked later c = asked c ⊎ AllocatesBehind Row later c
+
 -- A last part that is there or not.
 abbrev pub LastContents : {V : Type 0} → (V → List ℕ → Type 0) → Option V → List ℕ → Type 0
 LastContents Grammar v c = Joins (Optional Grammar v ∷ []) c

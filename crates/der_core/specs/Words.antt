@@ -20,8 +20,8 @@ pub use Rattle.der_core.specs.Length.{IsLength, length_octets, limit, tlv_len}
 pub use Rattle.der_core.specs.OctetString.{OctetContents}
 pub use Rattle.der_core.specs.OctetStringRefValue.{octets_of}
 pub use Rattle.der_core.specs.Optional.{HasOptional, Optional, written_optional}
-pub use Rattle.der_core.specs.Parts.{AllocatesInParts, HaveParts, IsToldApart, LastContents, NoParts, PartsContents}
-pub use Rattle.der_core.specs.Parts.{PartsFault, written_parts}
+pub use Rattle.der_core.specs.Parts.{AllocatesInFront, AllocatesInParts, HaveParts, IsToldApart, LastContents, NoParts}
+pub use Rattle.der_core.specs.Parts.{PartsContents, PartsFault, written_parts}
 pub use Rattle.der_core.specs.Reading.{AllocatesForItems, AllocatesIn, AllocatesLast, HoldsBytes, NoneHas, NoneIn}
 pub use Rattle.der_core.specs.Reading.{ReadsAll, ReadsEncoding, ReadsFront, ReadsOptional, ReadsOrFaults, ReadsRow}
 pub use Rattle.der_core.specs.Reading.{ReadsWhole, Rejects, TellsNext}
@@ -56,6 +56,7 @@ pub use Rattle.der_core.specs.Laws.Parts.{last_part_relates, last_part_shortest,
 pub use Rattle.der_core.specs.Laws.Parts.{no_parts_mean_one, no_parts_of_bytes, no_parts_relate, no_parts_shortest}
 pub use Rattle.der_core.specs.Laws.Parts.{parts_ask_none, parts_at_most_one, parts_fault_first, parts_fault_none}
 pub use Rattle.der_core.specs.Laws.Parts.{parts_mean_one, parts_of_bytes, parts_relate, parts_shortest}
+pub use Rattle.der_core.specs.Laws.Rows.{as_written}
 pub use Rattle.der_core.specs.Laws.SequenceOf.{items_of_bytes, items_relate, items_shortest}
 pub use Rattle.der_core.specs.Laws.Sequences.{ContentsFaulty, EncodingGives}
 pub use Rattle.der_core.specs.Laws.SmallNumbers.{small_relates, small_shortest}

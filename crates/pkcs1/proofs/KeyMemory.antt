@@ -1,26 +1,37 @@
 -- Which encodings of keys need memory: none of two primes, where its numbers need none; and what borrowed and owned
 -- numbers make of it.
-use Rattle.std.proofs.Common.{ℕ, List, [], ◌∷◌, ◌++◌, ◌≡◌, length, map, sym, ap, ◌∙◌, arith, append_assoc}
+use Rattle.std.proofs.Common.{ℕ, List, [], ◌∷◌, ◌++◌, ◌≡◌, length, sym, ap, ◌∙◌, arith, append_assoc}
 use Rattle.std.proofs.Common.{length-append, inl, inr, ⊎_elim, Option, Some, None}
 use Rattle.std.specs.Prelude.{refl}
 use Rattle.der_core.specs.Tlv.{Tlv}
-use Rattle.der_core.specs.Encodings.{Joins, IsDelimited}
+use Rattle.der_core.specs.Encodings.{IsDelimited}
 use Rattle.der_core.specs.Laws.Lists.{same_fronts}
 use Rattle.der_core.specs.Laws.Encodings.{tlv_split, tlv_not_empty, joins_last}
 use Rattle.der_core.specs.Laws.Growing.{tlv_recast}
 use Rattle.der_core.specs.Document.{Means}
 use Rattle.der_core.specs.Faults.{Faulty}
 use Rattle.der_core.specs.Integer.{Integer, IntegerContents}
-use Rattle.der_core.specs.Laws.Integer.{small_delimited}
 use Rattle.der_core.specs.Reading.{AllocatesBehind, AllocatesIn, Begins, Rejects}
 use Rattle.der_core.specs.declared.error.ErrorKind.{ErrorKind}
-use Rattle.pkcs1.specs.Allocating.{AllocatesCounted, AllocatesForKey, AllocatesInOthers, BehindNumbers, OthersFollow}
-use Rattle.pkcs1.specs.Allocating.{VersionEncoding, AllocatesInOther}
+use Rattle.pkcs1.specs.Allocating.{AllocatesForKey, AllocatesInKey, AllocatesInNumbers, AllocatesInOther}
+use Rattle.pkcs1.specs.Allocating.{AllocatesInOthers, OthersFollow}
+use Rattle.pkcs1.specs.Versions.{VersionEncoding}
 use Rattle.der_core.specs.Parts.{AllocatesInParts}
-use Rattle.pkcs1.specs.Keys.{OtherPrime, OtherPrimeInfo, OtherPrimeInfos, version_of, PrivateKey, PrivateKeyContents}
-use Rattle.pkcs1.specs.Writing.{key_numbers}
-use Rattle.pkcs1.proofs.NumberReads.{as_many}
-use Rattle.pkcs1.proofs.KeyReads.{as_small}
+use Rattle.pkcs1.specs.Keys.{FrontContents, OtherPrime, OtherPrimeInfo, OtherPrimeInfos, PrivateKey}
+use Rattle.pkcs1.specs.Keys.{PrivateKeyContents, front_parts}
+use Rattle.pkcs1.specs.Laws.KeyFaults.{front_is_delimited}
+use Rattle.pkcs1.specs.Laws.PrivateKey.{in_front}
+use Rattle.der_core.specs.Laws.Parts.{parts_ask_none}
+
+-- Numbers that need no memory are read without.
+pub numbers_ask_none : {V : Type 0} {encoding : V → List ℕ → Type 0} {may : List ℕ → Type 0}
+    → ((b : List ℕ) → may b → ⊥) → (c : List ℕ) → AllocatesInNumbers encoding may c → ⊥
+numbers_ask_none {V} {encoding} {may} none =
+    parts_ask_none VersionEncoding (λ b t. t.holds) (next (next (next (next (next (next (next (next (λ c w. w)))))))))
+  where
+    next : {rest : List ℕ → Type 0} → ((c : List ℕ) → rest c → ⊥) → (c : List ℕ)
+        → AllocatesInParts encoding may rest c → ⊥
+    next rest = parts_ask_none encoding none rest
 
 module _ {V : Type 0} {encoding : V → List ℕ → Type 0} (d : IsDelimited encoding) (key : PrivateKey V)
     (two : key.other_prime_infos ≡ None) where
@@ -30,19 +41,14 @@ module _ {V : Type 0} {encoding : V → List ℕ → Type 0} (d : IsDelimited en
   none_follow (Some others) rest e p b = cc
 
   no_others : {Listed : List ℕ → Type 0} (c : List ℕ) → PrivateKeyContents encoding key c
-      → BehindNumbers encoding (AllocatesIn (Tlv 48 Listed)) c → ⊥
-  no_others c p (n, vs, front, rest, l, (a, b, small, joined, f), begins, whole) =
-      let e : a ++ (b ++ rest) ≡ p.0 ++ p.1 =
-      sym (append_assoc a b rest) ∙ ap (λ r. r ++ rest) (sym f) ∙ sym whole ∙ p.4 in
-      let one =
-      small_delimited.one n (version_of key.other_prime_infos) a (b ++ rest) p.0 p.1 (as_small n a small) p.2 e in
-      let tails = same_fronts a (b ++ rest) p.0 p.1 (ap length one.0) e in
-      let numbers : Joins (map encoding (key_numbers key) ++ OtherPrimeInfos encoding key.other_prime_infos ∷ []) p.1 =
-      p.3 in
-      let s =
-      as_many encoding d vs (key_numbers key) (OtherPrimeInfos encoding key.other_prime_infos ∷ []) b rest p.1
-      joined l (sym tails.1) numbers in
-      none_follow key.other_prime_infos rest two (joins_last rest s.1) begins
+      → AllocatesBehind (FrontContents encoding) (AllocatesIn (Tlv 48 Listed)) c → ⊥
+  no_others c p (front, (x, y, t, begins, is)) =
+      let f = in_front encoding key c p in
+      let whole : x ++ y ≡ f.0 ++ f.1 = sym is ∙ f.4 in
+      let one = (front_is_delimited d).one front (front_parts key) x y f.0 f.1 t f.2 whole in
+      let tails = same_fronts x y f.0 f.1 (ap length one.0) whole in
+      let mine : OtherPrimeInfos encoding key.other_prime_infos y = rw tails.1 (joins_last f.1 f.3) in
+      none_follow key.other_prime_infos y two mine begins
 
   pub two_primes_ask : (may_allocate : List ℕ → Type 0) → ((b : List ℕ) → may_allocate b → ⊥) → (whole : List ℕ)
       → Tlv 48 (PrivateKeyContents encoding key) whole
@@ -57,7 +63,7 @@ module _ {V : Type 0} {encoding : V → List ℕ → Type 0} (d : IsDelimited en
       ends (x ∷ l) = ap (λ r. x ∷ r) (ends l)
 
       asked : (c : List ℕ) → PrivateKeyContents encoding key c → AllocatesForKey encoding may_allocate c → ⊥
-      asked c h (inl w) = let numbers = w.1.3 in let one = numbers.2.3 in none one.0 one.3
+      asked c h (inl w) = numbers_ask_none none c w
       asked c h (inr w) = no_others c h w
 
   -- So such an encoding isn't rejected.
@@ -90,9 +96,6 @@ Borrowed = Tlv 2 (λ _. ⊥)
 pub borrowed_ask : (b : List ℕ) → Borrowed b → ⊥
 borrowed_ask b t = t.holds
 
-none_counted : (n : ℕ) (c : List ℕ) → AllocatesCounted n Integer Borrowed c → ⊥
-none_counted n c (vs, l, (a, b, p, w, f)) = borrowed_ask w.0 w.3
-
 none_in_parts : {rest : List ℕ → Type 0} → ((c : List ℕ) → rest c → ⊥) → (c : List ℕ)
     → AllocatesInParts Integer Borrowed rest c → ⊥
 none_in_parts none c (inl w) = borrowed_ask w.0 w.3
@@ -109,9 +112,13 @@ others_begin : (c : List ℕ) → AllocatesInOthers Integer Borrowed c
 others_begin = asks_as (λ c. ⊎_elim (λ w. w) (λ w. let t = w.3 in absurd (none_in_other t.contents t.holds)))
 
 pub borrowed_key_asks : (c : List ℕ) → AllocatesForKey Integer Borrowed c → OthersFollow c
-borrowed_key_asks c (inl (n, (x, y, t, w, is))) = absurd (none_counted 8 y w)
-borrowed_key_asks c (inr (n, vs, front, rest, l, joined, others, is)) =
-    (n, vs, front, rest, l, joined, others_begin rest others, is)
+borrowed_key_asks c (inl w) = absurd (numbers_ask_none borrowed_ask c w)
+borrowed_key_asks c (inr (front, (x, y, t, others, is))) = (front, (x, y, t, others_begin y others, is))
+
+-- A view asks for none at all.
+pub view_asks_none : (c : List ℕ) → AllocatesInKey Integer Borrowed (λ _. ⊥) c → ⊥
+view_asks_none c (inl w) = numbers_ask_none borrowed_ask c w
+view_asks_none c (inr (front, (x, y, t, w, is))) = w
 
 -- A number that is owned is copied, so an owned key needs memory as soon as its first number is there.
 abbrev Copied : List ℕ → Type 0
@@ -120,31 +127,22 @@ Copied = Tlv 2 (λ c. (bytes : List ℕ) × IntegerContents bytes c)
 begins_copied : (c : List ℕ) → AllocatesIn Copied c → Begins Integer c
 begins_copied c (b, rest, e, t) = (b, rest, e, (t.holds.0, tlv_recast b t t.holds.1))
 
-begins_first : (v : List ℕ) (vs : List (List ℕ)) (front rest c : List ℕ) → Joins (map Integer (v ∷ vs)) front
-    → c ≡ front ++ rest → Begins Integer c
-begins_first v vs front rest c (a, b, t, p, e) is =
-    (a, b ++ rest, is ∙ ap (λ l. l ++ rest) e ∙ append_assoc a b rest, (v, t))
-
 pub owned_parts_ask : {rest : List ℕ → Type 0} (c : List ℕ) → AllocatesInParts Integer Copied rest c → Begins Integer c
 owned_parts_ask c (inl w) = begins_copied c w
 owned_parts_ask c (inr (v, (x, y, t, w, is))) = (x, y, is, (v, t))
 
-owned_numbers_ask : (n : ℕ) (c : List ℕ) → AllocatesCounted n Integer Copied c → Begins Integer c
-owned_numbers_ask n c ([], l, (a, b, p, w, is)) = begins_copied c (w.0, w.1, is ∙ ap (λ r. r ++ b) p ∙ w.2, w.3)
-owned_numbers_ask n c (v ∷ vs, l, (a, b, p, w, is)) = begins_first v vs a b c p is
-
 pub owned_key_asks : (c : List ℕ) → AllocatesForKey Integer Copied c
     → AllocatesBehind VersionEncoding (Begins Integer) c
-owned_key_asks c (inl (n, (x, y, t, w, is))) = (n, (x, y, t, owned_numbers_ask 8 y w, is))
-owned_key_asks c (inr (n, [], front, rest, l, joined, others, is)) = absurd (omega (arith, l))
-owned_key_asks c (inr (n, v ∷ vs, front, rest, l, (a, b, t, joined, f), others, is)) = (
-  n,
+owned_key_asks c (inl (inl w)) = absurd w.3.holds
+owned_key_asks c (inl (inr (n, (x, y, t, w, is)))) = (n, (x, y, t, owned_parts_ask y w, is))
+owned_key_asks c (inr (front, (x, y, (a, b, t, (m, more, number, rest, e), f), others, is))) = (
+  front.0,
   (
     a,
-    b ++ rest,
+    b ++ y,
     t,
-    begins_first v vs b rest (b ++ rest) joined refl,
-    is ∙ ap (λ r. r ++ rest) f
-        ∙ append_assoc a b rest,
+    (m, more ++ y, ap (λ l. l ++ y) e ∙ append_assoc m more y, (front.1.0, number)),
+    is ∙ ap (λ l. l ++ y) f
+        ∙ append_assoc a b y,
   ),
 )

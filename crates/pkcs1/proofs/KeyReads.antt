@@ -1,109 +1,57 @@
--- Reading a private key: the version, the eight numbers and the other primes, whatever holds these and whatever memory
--- they ask for.
-use Rattle.std.proofs.Common.{◌≡◌, ℕ, List, [], ◌∷◌, ◌++◌, map, refl, sym, ap, ◌∙◌, append_assoc, inl, inr, ⊎_elim}
-use Rattle.std.proofs.Common.{Some}
-use Rattle.der_core.specs.Tlv.{Tlv}
-use Rattle.der_core.specs.Encodings.{Joins}
-use Rattle.der_core.specs.Laws.Encodings.{last_holds}
-use Rattle.der_core.specs.Integer.{Small}
+-- Reading a private key: what is in front of its other primes, and these.
+use Rattle.std.proofs.Common.{◌≡◌, ℕ, List, sym, subst, Some, None}
 use Rattle.der_core.specs.declared.error.ErrorKind.{ErrorKind}
+use Rattle.der_core.specs.Encodings.{Then}
 use Rattle.der_core.specs.Input.{Input}
-use Rattle.der_core.specs.Reading.{AllocatesBehind, AllocatesIn, FailsBy}
-use Rattle.der_core.specs.Laws.Sequences.{some_same, first_faults, rest_faults, EncodingGives, ContentsGive}
-use Rattle.der_core.specs.Laws.Sequences.{ContentsFaulty}
-use Rattle.der_core.specs.Faults.{EncodingFault, ThenFault}
-use Rattle.der_core.specs.Tags.{integer}
-use Rattle.pkcs1.specs.KeyFaults.{Counted, VersionFault, CountedFault, OthersFault, PrivateKeyFault}
-use Rattle.pkcs1.specs.Allocating.{AllocatesCounted, AllocatesInKey, VersionEncoding}
-use Rattle.pkcs1.specs.Keys.{OtherPrimeInfos, OthersOf, version_of, PrivateKey, PrivateKeyContents}
-use Rattle.pkcs1.specs.Writing.{key_numbers}
-use Rattle.pkcs1.specs.Laws.PrivateKey.{joins_put}
-use Rattle.pkcs1.proofs.NumberReads.{first_part}
+use Rattle.der_core.specs.Laws.Encodings.{last_holds}
+use Rattle.der_core.specs.Laws.Rows.{all_gives, front_faults, later_faults}
+use Rattle.der_core.specs.Laws.Sequences.{ContentsFaulty, ContentsGive}
+use Rattle.pkcs1.specs.Allocating.{AllocatesInKey, AllocatesInNumbers}
+use Rattle.pkcs1.specs.KeyFaults.{FrontFault, OthersFault, PrivateKeyFault}
+use Rattle.pkcs1.specs.Keys.{Eight, FrontContents, OthersOf, PrivateKey, PrivateKeyContents, eight_numbers}
+use Rattle.pkcs1.specs.Laws.PrivateKey.{of_front}
+use Rattle.pkcs1.specs.Versions.{number_of}
+use Rattle.pkcs1.specs.declared.version.Version.{Version}
 
-pub as_small : (n : ℕ) (encoding : List ℕ) → VersionEncoding n encoding → Small n encoding
-as_small n encoding p =
-    record { octets = p.octets; contents = p.contents; counted = p.counted; holds = p.holds.1; written = p.written }
+-- What a version and eight numbers mean.
+abbrev pub front_of : {U V : Type 0} → (U → V) → Version → Eight U (Unit {0}) → ℕ × Eight V (Unit {0})
+front_of value v (a, (b, (c, (d, (e, (f, (g, (h, _)))))))) = (
+  number_of v,
+  (value a, (value b, (value c, (value d, (value e, (value f, (value g, (value h, tt)))))))),
+)
 
 module _ {V : Type 0} (encoding : V → List ℕ → Type 0) where
-  -- The first fault of a key.
+  -- The version and the eight numbers were in front of what is left now.
+  abbrev pub FrontGives : ℕ × Eight V (Unit {0}) → Input → Input → Type 0
+  FrontGives front before after =
+      (before ≡ None → after ≡ None)
+      × ((i : List ℕ) → before ≡ Some i → Then (FrontContents encoding front) (λ rest. after ≡ Some rest) i)
+
+  pub key_given : {n : ℕ} {before mid after : Input} (key : PrivateKey V)
+      → FrontGives (n, eight_numbers key tt) before mid
+      → ContentsGive (OthersOf encoding n key.other_prime_infos) mid after
+      → ContentsGive (PrivateKeyContents encoding key) before after
+  key_given {n} {before} key gives others =
+      let all = all_gives before gives others in
+      let p = all.3 in
+      let front = subst (λ v. FrontContents encoding (v, eight_numbers key tt) p.0) (sym p.3.0) p.2 in
+      (all.0, all.1, all.2, of_front encoding key all.0 (p.0, p.1, front, last_holds p.1 p.3.1, p.4))
+
   module _ (Fault : ErrorKind → List ℕ → Type 0) (may_allocate others_ask : List ℕ → Type 0) where
     abbrev pub KeyFaulty : ErrorKind → Input → Input → Type 0
     KeyFaulty = ContentsFaulty (PrivateKeyFault encoding Fault) (AllocatesInKey encoding may_allocate others_ask)
 
-    abbrev Behind : ℕ → ErrorKind → List ℕ → Type 0
-    Behind n = ThenFault (Counted 8 encoding) (CountedFault 8 encoding Fault) (λ _. OthersFault encoding Fault n)
-
-    pub version_faults : {before after : Input} {e : ErrorKind}
-        → FailsBy (EncodingFault integer VersionFault) (AllocatesIn (Tlv 2 (λ _. ⊥))) e before after
+    pub key_front_faults : {e : ErrorKind} {before after : Input}
+        → ContentsFaulty (FrontFault encoding Fault) (AllocatesInNumbers encoding may_allocate) e before after
         → KeyFaulty e before after
-    version_faults =
-        first_faults VersionEncoding (EncodingFault integer VersionFault) Behind
-        (AllocatesInKey encoding may_allocate others_ask) (λ c w. absurd w.3.holds) _ _ _
+    key_front_faults fails =
+        front_faults (FrontContents encoding) (FrontFault encoding Fault)
+        (λ front. OthersFault encoding Fault front.0) (AllocatesInNumbers encoding may_allocate) others_ask fails
 
-    behind_faults : {n : ℕ} {before one after : Input} {e : ErrorKind} {later : List ℕ → Type 0}
-        → ((c : List ℕ) → AllocatesBehind VersionEncoding later c → AllocatesInKey encoding may_allocate others_ask c)
-        → EncodingGives VersionEncoding n before one → ContentsFaulty (Behind n) later e one after
+    pub key_others_faults : (front : ℕ × Eight V (Unit {0})) {e : ErrorKind} {before mid after : Input}
+        → FrontGives front before mid → ContentsFaulty (OthersFault encoding Fault front.0) others_ask e mid after
         → KeyFaulty e before after
-    behind_faults asked =
-        rest_faults VersionEncoding (EncodingFault integer VersionFault) Behind
-        (AllocatesInKey encoding may_allocate others_ask) asked _ _ _ _ _
-
-    pub key_numbers_faults : {n : ℕ} {before one after : Input} {e : ErrorKind}
-        → EncodingGives VersionEncoding n before one
-        → ContentsFaulty (CountedFault 8 encoding Fault) (AllocatesCounted 8 encoding may_allocate) e one after
-        → KeyFaulty e before after
-    key_numbers_faults gives fails =
-        behind_faults (λ c w. inl w) gives
-        (first_part (Counted 8 encoding) (CountedFault 8 encoding Fault) (λ _. OthersFault encoding Fault _) _ fails)
-
-    others_asked : (c : List ℕ) → AllocatesBehind VersionEncoding (AllocatesBehind (Counted 8 encoding) others_ask) c
-        → AllocatesInKey encoding may_allocate others_ask c
-    others_asked c (n, (x, y, version, (vs, (read, rest, counted, asks, same)), is)) =
-        inr (
-          n,
-          vs,
-          x ++ read,
-          rest,
-          counted.0,
-          (x, read, version, counted.1, refl),
-          asks,
-          is ∙ ap (λ r. x ++ r) same
-              ∙ sym (append_assoc x read rest),
-        )
-
-    pub key_others_faults : {n : ℕ} (vs : List V) {before one mid after : Input} {e : ErrorKind}
-        → EncodingGives VersionEncoding n before one → EncodingGives (Counted 8 encoding) vs one mid
-        → ContentsFaulty (OthersFault encoding Fault n) others_ask e mid after → KeyFaulty e before after
-    key_others_faults {n} vs gives numbers fails =
-        behind_faults others_asked gives
-        (rest_faults (Counted 8 encoding) (CountedFault 8 encoding Fault) (λ _. OthersFault encoding Fault n)
-        (AllocatesBehind (Counted 8 encoding) others_ask) (λ c w. w) _ _ _ _ _ numbers fails)
-
-  pub key_given : {n : ℕ} {before one mid after : Input} (key : PrivateKey V)
-      → EncodingGives VersionEncoding n before one → EncodingGives (Counted 8 encoding) (key_numbers key) one mid
-      → ContentsGive (OthersOf encoding n key.other_prime_infos) mid after
-      → ContentsGive (PrivateKeyContents encoding key) before after
-  key_given {n} key gives numbers others =
-      let same : gives.1 ≡ numbers.0 ++ numbers.1 =
-      some_same gives.1 (numbers.0 ++ numbers.1) (sym gives.3 ∙ numbers.2) in
-      let rest : numbers.1 ≡ others.0 = some_same numbers.1 others.0 (sym numbers.3 ∙ others.1) in
-      let parts = OtherPrimeInfos encoding key.other_prime_infos ∷ [] in
-      let all : Joins (map encoding (key_numbers key) ++ parts) (numbers.0 ++ others.0) =
-      joins_put (map encoding (key_numbers key)) parts numbers.0 others.0 numbers.4.1
-      (last_holds others.0 others.3.1) in
-      let version : Small (version_of key.other_prime_infos) gives.0 = rw others.3.0 (as_small n gives.0 gives.4) in (
-        gives.0 ++ (numbers.0 ++ others.0),
-        gives.2 ∙ ap (λ r. Some (gives.0 ++ r)) (same ∙ ap (λ r. numbers.0 ++ r) rest),
-        others.2,
-        (gives.0, numbers.0 ++ others.0, version, all, refl),
-      )
-
--- Where neither the numbers nor the other primes ask for memory, the key doesn't.
-pub no_asking : {V : Type 0} (encoding : V → List ℕ → Type 0) (Fault : ErrorKind → List ℕ → Type 0) {e : ErrorKind}
-    {before after : Input} → KeyFaulty encoding Fault (Tlv 2 (λ _. ⊥)) (λ _. ⊥) e before after
-    → ContentsFaulty (PrivateKeyFault encoding Fault) (λ _. ⊥) e before after
-no_asking encoding Fault fails = (
-  fails.0,
-  λ c is. ⊎_elim (λ w. ⊎_elim (λ a. let w = a.1.3.2.3 in absurd w.3.holds) (λ b. absurd b.6) w.1)
-      (λ w. inr w) (fails.1 c is),
-)
+    key_others_faults front gives fails =
+        later_faults (FrontContents encoding) (FrontFault encoding Fault)
+        (λ row. OthersFault encoding Fault row.0) (AllocatesInNumbers encoding may_allocate) others_ask front gives.1
+        fails

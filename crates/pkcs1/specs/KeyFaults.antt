@@ -1,16 +1,17 @@
 -- The first fault of bytes that don't encode a key (RFC 8017 A.1.1, A.1.2).
-use Rattle.std.specs.Prelude.{ℕ, List, ◌≡◌, ◌≢◌, ◌<◌, ◌≤◌, ◌⊎◌, length, map, slice_get, Some}
+use Rattle.std.specs.Prelude.{ℕ, List, ◌≡◌, ◌≢◌, ◌<◌, ◌≤◌, ◌⊎◌, length, slice_get, Some}
 use Rattle.der_core.specs.declared.error.ErrorKind.{ErrorKind}
 use Rattle.der_core.specs.declared.error.ErrorKind.TheVariants.{Value}
-use Rattle.der_core.specs.Faults.{EncodingFault, ThenFault, EndFault, ItemsFault, WholeFault, IntegerFault, SmallFault}
+use Rattle.der_core.specs.Faults.{EncodingFault, ThenFault, EndFault, ItemsFault, NoFault, WholeFault, IntegerFault}
+use Rattle.der_core.specs.Faults.{SmallFault}
 use Rattle.der_core.specs.Integer.{Integer, SmallContents}
 use Rattle.der_core.specs.SequenceOf.{ItemsContents}
-use Rattle.der_core.specs.Tag.{integer_tag, sequence_tag}
+use Rattle.der_core.specs.Tag.{sequence_tag}
 use Rattle.der_core.specs.Tags.{integer, sequence}
-use Rattle.der_core.specs.Encodings.{Then, Joins}
+use Rattle.der_core.specs.Parts.{PartsFault}
 use Rattle.der_core.specs.Tlv.{Tlv}
-use Rattle.pkcs1.specs.Keys.{RsaPublicKey, PrivateKeyEncoding, OtherPrime, OtherPrimeInfo}
-use Rattle.pkcs1.specs.Versions.{VersionContents}
+use Rattle.pkcs1.specs.Keys.{FrontContents, RsaPublicKey, PrivateKeyEncoding, OtherPrime, OtherPrimeInfo}
+use Rattle.pkcs1.specs.Versions.{VersionEncoding}
 
 -- A fault of the modulus, or else of the public exponent, or bytes after it.
 abbrev pub PublicKeyFault : {Number : Type 0} → (Number → List ℕ → Type 0) → (ErrorKind → List ℕ → Type 0) → ErrorKind
@@ -23,14 +24,18 @@ abbrev pub RsaPublicKeyFault : ErrorKind → List ℕ → Type 0
 RsaPublicKeyFault =
     WholeFault RsaPublicKey (EncodingFault sequence (PublicKeyFault Integer (EncodingFault integer IntegerFault)))
 
--- n numbers in a row. The fault: fewer of them, and then a fault of the next.
-abbrev pub Counted : {Number : Type 0} → ℕ → (Number → List ℕ → Type 0) → List Number → List ℕ → Type 0
-Counted n NumberEncoding numbers encodings = (length numbers ≡ n) × Joins (map NumberEncoding numbers) encodings
+-- Not a number from 0 to 255, or one that is no version.
+abbrev pub VersionFault : ErrorKind → List ℕ → Type 0
+VersionFault kind contents =
+    SmallFault kind contents ⊎ ((n : ℕ) × SmallContents n contents × (2 ≤ n) × (kind ≡ Value integer))
 
-abbrev pub CountedFault : {Number : Type 0} → ℕ → (Number → List ℕ → Type 0) → (ErrorKind → List ℕ → Type 0) → ErrorKind
+-- A fault of the version, or else of one of the eight numbers.
+abbrev pub FrontFault : {Number : Type 0} → (Number → List ℕ → Type 0) → (ErrorKind → List ℕ → Type 0) → ErrorKind
     → List ℕ → Type 0
-CountedFault {Number} n NumberEncoding NumberFault kind bytes =
-    (numbers : List Number) × (length numbers < n) × Then (Joins (map NumberEncoding numbers)) (NumberFault kind) bytes
+FrontFault N F =
+    PartsFault VersionEncoding (EncodingFault integer VersionFault)
+    (PartsFault N F (PartsFault N F (PartsFault N F (PartsFault N F (PartsFault N F (PartsFault N F
+    (PartsFault N F (PartsFault N F NoFault))))))))
 
 -- A fault of one of the three numbers, or bytes after them.
 abbrev pub OtherPrimeFault : {Number : Type 0} → (Number → List ℕ → Type 0) → (ErrorKind → List ℕ → Type 0) → ErrorKind
@@ -38,11 +43,6 @@ abbrev pub OtherPrimeFault : {Number : Type 0} → (Number → List ℕ → Type
 OtherPrimeFault NumberEncoding NumberFault =
     ThenFault NumberEncoding NumberFault (λ _. ThenFault NumberEncoding NumberFault (λ _.
     ThenFault NumberEncoding NumberFault (λ _. EndFault)))
-
--- Not a number from 0 to 255, or one that is no version.
-abbrev pub VersionFault : ErrorKind → List ℕ → Type 0
-VersionFault kind contents =
-    SmallFault kind contents ⊎ ((n : ℕ) × SmallContents n contents × (2 ≤ n) × (kind ≡ Value integer))
 
 -- After the other primes: they don't agree with the version, or the list is empty, or bytes follow it.
 abbrev pub ListedFault : {Number : Type 0} → ℕ → List (OtherPrime Number) → ErrorKind → List ℕ → Type 0
@@ -63,13 +63,12 @@ OthersFault NumberEncoding NumberFault version kind rest =
     ⊎ ((slice_get rest 0 ≢ Some sequence_tag)
     × (((version ≡ 1) × (kind ≡ Value integer)) ⊎ ((version ≢ 1) × EndFault kind rest)))
 
--- A fault of the version, or else of one of the eight numbers, or of what follows them.
+-- A fault of what is in front of the other primes, or else of what follows.
 abbrev pub PrivateKeyFault : {Number : Type 0} → (Number → List ℕ → Type 0) → (ErrorKind → List ℕ → Type 0) → ErrorKind
     → List ℕ → Type 0
 PrivateKeyFault NumberEncoding NumberFault =
-    ThenFault (λ n. Tlv integer_tag (VersionContents n)) (EncodingFault integer VersionFault)
-    (λ version. ThenFault (Counted 8 NumberEncoding) (CountedFault 8 NumberEncoding NumberFault)
-    (λ _. OthersFault NumberEncoding NumberFault version))
+    ThenFault (FrontContents NumberEncoding) (FrontFault NumberEncoding NumberFault)
+    (λ front. OthersFault NumberEncoding NumberFault front.0)
 
 -- The faults of an INTEGER, of an OtherPrimeInfo.
 abbrev pub NumberFault : ErrorKind → List ℕ → Type 0

@@ -1,29 +1,30 @@
 -- The words that contracts cite, from all files of specs.
-pub use Rattle.pkcs1.specs.Allocating.{AllocatesCounted, AllocatesForKey, AllocatesInOther, AllocatesInOthers}
+pub use Rattle.pkcs1.specs.Allocating.{AllocatesForKey, AllocatesInOther, AllocatesInOthers}
 pub use Rattle.pkcs1.specs.Allocating.{MayAllocate}
 pub use Rattle.pkcs1.specs.Allocating.{OwnedKeyAllocates, OwnedPublicKeyAllocates}
 pub use Rattle.pkcs1.specs.Forms.{SameEncodings}
 pub use Rattle.pkcs1.specs.KeyEncodings.{IsDocumentError, IsOnlyEncoding, IsReadingError, IsSentence, WhyNoDocument}
-pub use Rattle.pkcs1.specs.KeyFaults.{Counted, CountedFault, NumberFault, OtherPrimeFault, OthersFault}
+pub use Rattle.pkcs1.specs.KeyFaults.{NumberFault, OtherPrimeFault, OthersFault}
 pub use Rattle.pkcs1.specs.KeyFaults.{PrivateKeyEncodingFault, PrivateKeyFault, PublicKeyFault, RsaPrivateKeyFault}
 pub use Rattle.pkcs1.specs.KeyFaults.{RsaPublicKeyFault, VersionFault}
-pub use Rattle.pkcs1.specs.Keys.{OtherPrime, OtherPrimeContents, OthersOf, PrivateKey, PrivateKeyContents}
+pub use Rattle.pkcs1.specs.Keys.{OtherPrime, OtherPrimeContents, OtherPrimeList, OthersOf, PrivateKey, PrivateKeyContents}
 pub use Rattle.pkcs1.specs.Keys.{PrivateKeyEncoding, PublicKey, PublicKeyContents, RsaPrivateKey, RsaPublicKey}
-pub use Rattle.pkcs1.specs.Keys.{other_parts, public_part, public_parts}
+pub use Rattle.pkcs1.specs.Keys.{CrtContents, CrtRow, crt_parts, other_parts, public_part, public_parts, version_of}
 pub use Rattle.pkcs1.specs.OtherPrimesLeft.{HoldsNone, others_left}
-pub use Rattle.pkcs1.specs.PrivateKeyValue.{ListsNone, key_with, numbers_of, other_of, others_of, private_key_of}
+pub use Rattle.pkcs1.specs.PrivateKeyValue.{ListsNone, key_with, other_of, others_of, private_key_of}
 pub use Rattle.pkcs1.specs.PrivateKeyValue.{private_key_with, public_in}
 pub use Rattle.pkcs1.specs.PublicKeyValue.{public_key_of, public_key_with}
 pub use Rattle.pkcs1.specs.Versions.{IsVersionOf, VersionContents, number_of}
 pub use Rattle.pkcs1.specs.ViewParts.{listed_others, view_of, viewed_encoding}
-pub use Rattle.pkcs1.specs.Writing.{HasOther, HasPrivateKey, HasPublicKey, key_numbers, other_numbers, written_other}
-pub use Rattle.pkcs1.specs.Writing.{written_private_key, written_public_key}
+pub use Rattle.pkcs1.specs.Writing.{HasCrt, HasOther, HasOthers, HasPrivateKey, HasPublicKey, other_numbers, written_other}
+pub use Rattle.pkcs1.specs.Writing.{written_crt, written_others, written_private_key, written_public_key}
 pub use Rattle.pkcs1.specs.Laws.KeyFaults.{private_integers_first}
 pub use Rattle.pkcs1.specs.Laws.KeyFaults.{private_integers_none, private_key_fault_first, private_key_fault_none}
 pub use Rattle.pkcs1.specs.Laws.KeyFaults.{version_fault_first}
 pub use Rattle.pkcs1.specs.Laws.KeyFaults.{version_fault_none}
 pub use Rattle.pkcs1.specs.Laws.OtherPrimesHeld.{keys_are_bytes}
-pub use Rattle.pkcs1.specs.Laws.PrivateKey.{other_means_one}
-pub use Rattle.pkcs1.specs.Laws.PrivateKey.{private_means_one, private_of_bytes, private_relates, private_shortest}
+pub use Rattle.pkcs1.specs.Laws.PrivateKey.{crt, crt_means_one, crt_of_bytes, other_means_one, others_mean_one}
+pub use Rattle.pkcs1.specs.Laws.PrivateKey.{others_of_bytes, others_part}
+pub use Rattle.pkcs1.specs.Laws.PrivateKey.{private_means_one, private_of_bytes, whole_key}
 pub use Rattle.pkcs1.specs.Laws.PublicKey.{public_key_decides, public_key_means_one}
 pub use Rattle.pkcs1.specs.Laws.Versions.{version_means_one, version_of_bytes, version_relates, version_shortest}

@@ -1,31 +1,36 @@
-//! The eight numbers of private keys: decoding and copying them.
+//! The version and the eight numbers of private keys, as a row of parts; copying private keys.
 ghost use Rattle.std.specs.Prelude.{◌≡◌, IfOk, IfErr, IsOk};
-ghost use Rattle.pkcs1.specs.Words.{Counted, CountedFault, AllocatesCounted, numbers_of};
-ghost use Rattle.der_core.specs.Words.{EncodingGives, ContentsFaulty};
 
-use crate::private_key::PrivateKeyOf;
-use der_core::{Decode, ErrorKind, Memory, Reader, Result, TryClone};
+use crate::private_key::other_prime_info::clone_other_primes;
+use crate::private_key::{PrivateKeyOf, RsaPrivateKey};
+use crate::version::Version;
+use der_core::{ErrorKind, Result, TryClone};
 use std::alloc::Global;
 
-/// Decodes the eight numbers, in order, into a key that has no other primes yet.
-pub(crate) fn read_key_numbers<'a, M: Memory, U: Decode<&'a [u8], M>, O, R: Reader<&'a [u8]>>(
-    memory: M,
-    reader: &mut R,
-) -> Result<PrivateKeyOf<U, O>>
-    ensures ok { IfOk result (λ key.
-        EncodingGives (Counted 8 U.encoding) (numbers_of U.value key) (R.left reader.old) (R.left reader.new)) }
-    ensures err { IfErr result (λ e. ContentsFaulty (CountedFault 8 U.encoding U.Decode.fault)
-        (AllocatesCounted 8 U.encoding U.Decode.may_allocate) e.kind (R.left reader.old) (R.left reader.new)) }
+/// The eight numbers, in the order of the encoding.
+pub(crate) type KeyNumbers<U> = (U, (U, (U, (U, (U, (U, (U, (U, ()))))))));
+
+/// What is in front of the other primes.
+pub(crate) type KeyFront<U> = (Version, KeyNumbers<U>);
+
+/// The private key of these numbers and other primes.
+#[inline(always)]
+pub(crate) fn key_of<U, O>(numbers: KeyNumbers<U>, others: Option<O>) -> PrivateKeyOf<U, O>
+    ensures { result ≡ record {
+      modulus = numbers.0;
+      public_exponent = numbers.1.0;
+      private_exponent = numbers.1.1.0;
+      prime1 = numbers.1.1.1.0;
+      prime2 = numbers.1.1.1.1.0;
+      exponent1 = numbers.1.1.1.1.1.0;
+      exponent2 = numbers.1.1.1.1.1.1.0;
+      coefficient = numbers.1.1.1.1.1.1.1.0;
+      other_prime_infos = others;
+    } }
 {
-    let modulus = U::decode(memory, reader)?;
-    let public_exponent = U::decode(memory, reader)?;
-    let private_exponent = U::decode(memory, reader)?;
-    let prime1 = U::decode(memory, reader)?;
-    let prime2 = U::decode(memory, reader)?;
-    let exponent1 = U::decode(memory, reader)?;
-    let exponent2 = U::decode(memory, reader)?;
-    let coefficient = U::decode(memory, reader)?;
-    Ok(PrivateKeyOf {
+    let (modulus, (public_exponent, (private_exponent, (prime1, (prime2, rest))))) = numbers;
+    let (exponent1, (exponent2, (coefficient, ()))) = rest;
+    PrivateKeyOf {
         modulus,
         public_exponent,
         private_exponent,
@@ -34,18 +39,12 @@ pub(crate) fn read_key_numbers<'a, M: Memory, U: Decode<&'a [u8], M>, O, R: Read
         exponent1,
         exponent2,
         coefficient,
-        other_prime_infos: None,
-    })
+        other_prime_infos: others,
+    }
 }
 
 /// Copies four numbers.
-pub(crate) fn clone_four<U: TryClone>(
-    a: &U,
-    b: &U,
-    c: &U,
-    d: &U,
-    alloc: Global,
-) -> Result<(U, U, U, U)>
+fn clone_four<U: TryClone>(a: &U, b: &U, c: &U, d: &U, alloc: Global) -> Result<(U, U, U, U)>
     ensures ok { IfOk result (λ copies. (U.value copies.0 ≡ U.value a.now) × (U.value copies.1 ≡ U.value b.now)
         × (U.value copies.2 ≡ U.value c.now) × (U.value copies.3 ≡ U.value d.now)) }
     ensures err { IfErr result (λ e. e.kind ≡ ErrorKind.OutOfMemory) }
@@ -58,4 +57,42 @@ pub(crate) fn clone_four<U: TryClone>(
         c.try_clone(alloc)?,
         d.try_clone(alloc)?,
     ))
+}
+
+impl<U: TryClone> TryClone for RsaPrivateKey<U> {
+    ghost use Rattle.std.specs.Prelude.{None};
+
+    ghost allocates_nothing = { λ key. U.allocates_nothing key.modulus × U.allocates_nothing key.public_exponent
+        × U.allocates_nothing key.private_exponent × U.allocates_nothing key.prime1 × U.allocates_nothing key.prime2
+        × U.allocates_nothing key.exponent1 × U.allocates_nothing key.exponent2 × U.allocates_nothing key.coefficient
+        × (key.other_prime_infos ≡ None) };
+
+    fn try_clone(&self, alloc: Global) -> Result<RsaPrivateKey<U>> {
+        let key = self;
+        let (modulus, public_exponent, private_exponent, prime1) = clone_four(
+            &key.modulus,
+            &key.public_exponent,
+            &key.private_exponent,
+            &key.prime1,
+            alloc,
+        )?;
+        let (prime2, exponent1, exponent2, coefficient) = clone_four(
+            &key.prime2,
+            &key.exponent1,
+            &key.exponent2,
+            &key.coefficient,
+            alloc,
+        )?;
+        Ok(RsaPrivateKey {
+            modulus,
+            public_exponent,
+            private_exponent,
+            prime1,
+            prime2,
+            exponent1,
+            exponent2,
+            coefficient,
+            other_prime_infos: clone_other_primes(&key.other_prime_infos, alloc)?,
+        })
+    }
 }

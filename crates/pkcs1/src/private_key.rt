@@ -1,25 +1,27 @@
 //! RSA private keys.
-ghost use Rattle.std.specs.Prelude.{◌≡◌, ◌↔◌, ⊤, map, IsSome, IsErrAnd, refl};
-ghost use Rattle.der_core.specs.Words.{sequence, Counts, Appends};
+ghost use Rattle.std.specs.Prelude.{◌≡◌, ◌↔◌, ⊤, IsSome, IsErrAnd, refl};
+ghost use Rattle.der_core.specs.Words.{sequence, Counts, Appends, as_written};
 ghost use Rattle.pkcs1.specs.Words.{AllocatesForKey, PrivateKey, PrivateKeyContents, HasPrivateKey};
-ghost use Rattle.pkcs1.specs.Words.{written_private_key, key_numbers, private_means_one, private_of_bytes};
-ghost use Rattle.pkcs1.specs.Words.{private_relates, private_shortest, public_key_of, private_key_with, public_in};
+ghost use Rattle.pkcs1.specs.Words.{written_private_key, private_means_one, private_of_bytes, public_key_of};
+ghost use Rattle.pkcs1.specs.Words.{private_key_with, public_in, version_of, whole_key};
 ghost use Rattle.pkcs1.specs.Words.{ListsNone};
 
 mod der;
 pub(crate) mod other_prime_info;
+mod written;
 
-use crate::key_numbers::{clone_four, read_key_numbers};
+use crate::key_numbers::{KeyFront, key_of};
 use crate::public_key::{RsaPublicKey, RsaPublicKeyRef};
 use crate::version::Version;
 use der_core::{
-    AsUintRef, BackWriter, Borrowed, Contents, Decode, DecodeValue, Encode, EncodeValue, Encoding,
-    ErrorKind, Header, Length, Part, Reader, Result, Sequence, SequenceTag, Tag, TaggedBy,
-    TryClone, Uint, UintRef, Writer,
+    AsUintRef, BackWriter, Borrowed, Contents, Decode, DecodeFront, DecodeValue, Encode,
+    EncodeValue, Encoding, ErrorKind, Header, Length, Reader, Result, Sequence, SequenceTag, Tag,
+    TaggedBy, Uint, UintRef, Writer,
 };
-use other_prime_info::{OtherPrimeInfos, clone_other_primes, lists_none, read_other_primes};
+use other_prime_info::{OtherPrimeInfos, lists_none, read_other_primes};
 use std::alloc::{AllocError, Global};
 use std::fmt;
+use written::CrtParts;
 
 /// An RSA private key (RFC 8017 A.1.2). A U holds a number, an O the other primes, if there are any. No relation
 /// between the numbers is checked. The version isn't stored: it is `Multi` exactly if `other_prime_infos` is `Some`.
@@ -106,20 +108,11 @@ impl<U: AsUintRef> RsaPrivateKey<U> {
 }
 
 impl<U: Encoding> RsaPrivateKey<U> {
-    /// The eight numbers, in the order of the encoding.
-    fn numbers(&self) -> [Borrowed<'_, U>; 8]
-        ensures { map (λ n. U.value n.0.now) result ≡ key_numbers (private_key_with U.value self.now) }
+    /// The number of the version.
+    fn version_number(&self) -> u8
+        ensures { result ≡ version_of (private_key_with U.value self.now).other_prime_infos }
     {
-        [
-            Borrowed(&self.modulus),
-            Borrowed(&self.public_exponent),
-            Borrowed(&self.private_exponent),
-            Borrowed(&self.prime1),
-            Borrowed(&self.prime2),
-            Borrowed(&self.exponent1),
-            Borrowed(&self.exponent2),
-            Borrowed(&self.coefficient),
-        ]
+        self.version().into()
     }
 }
 
@@ -168,10 +161,9 @@ impl<'a, U: Decode<&'a [u8], Global>> DecodeValue<&'a [u8], Global> for RsaPriva
         reader: &mut R,
         _header: Header,
     ) -> Result<RsaPrivateKey<U>> {
-        let version = Version::decode(memory, reader)?;
-        let mut key = read_key_numbers(memory, reader)?;
-        key.other_prime_infos = read_other_primes(memory, reader, version)?;
-        Ok(key)
+        let (version, numbers) = KeyFront::<U>::decode_front(memory, reader)?;
+        let others = read_other_primes(memory, reader, version)?;
+        Ok(key_of(numbers, others))
     }
 
     ghost fault_none = { private_key_fault_none U.encoding U.Decode.fault U.delimited U.Decode.fault_none };
@@ -190,11 +182,35 @@ impl<U: Encode> EncodeValue for RsaPrivateKey<U> {
         if lists_none(&self.other_prime_infos) {
             return Err(der_core::Error::new(ErrorKind::Value { tag: Tag::SEQUENCE }));
         }
-        (&self.version(), &(&self.numbers(), &self.other_prime_infos)).part_len()
+        let prime1 = (
+            Borrowed(&self.prime1),
+            (Borrowed(&self.prime2), CrtParts(self)),
+        );
+        let public_exponent = (
+            Borrowed(&self.public_exponent),
+            (Borrowed(&self.private_exponent), prime1),
+        );
+        (
+            self.version_number(),
+            (Borrowed(&self.modulus), public_exponent),
+        )
+            .value_len()
     }
 
     fn append_value<W: Writer>(&self, writer: &mut W) -> Result<()> {
-        (&self.version(), &(&self.numbers(), &self.other_prime_infos)).append_part(writer)
+        let prime1 = (
+            Borrowed(&self.prime1),
+            (Borrowed(&self.prime2), CrtParts(self)),
+        );
+        let public_exponent = (
+            Borrowed(&self.public_exponent),
+            (Borrowed(&self.private_exponent), prime1),
+        );
+        (
+            self.version_number(),
+            (Borrowed(&self.modulus), public_exponent),
+        )
+            .append_value(writer)
     }
 
     fn encode_value<W: Writer>(&self, writer: &mut W) -> Result<()>
@@ -210,50 +226,26 @@ impl<U: Encode> EncodeValue for RsaPrivateKey<U> {
     }
 
     fn prepend_value(&self, writer: &mut BackWriter<'_>) {
-        (&self.version(), &(&self.numbers(), &self.other_prime_infos)).prepend_part(writer);
+        let prime1 = (
+            Borrowed(&self.prime1),
+            (Borrowed(&self.prime2), CrtParts(self)),
+        );
+        let public_exponent = (
+            Borrowed(&self.public_exponent),
+            (Borrowed(&self.private_exponent), prime1),
+        );
+        (
+            self.version_number(),
+            (Borrowed(&self.modulus), public_exponent),
+        )
+            .prepend_value(writer);
     }
 
-    ghost contents_relate = { private_relates U.encoding U.has_encoding U.written_encoding U.encoding_relates };
+    ghost contents_relate = { let number = as_written U.encoding U.has_encoding U.written_encoding U.encoding_relates
+        U.encoding_shortest in (whole_key number).relate };
 
-    ghost contents_shortest = { private_shortest U.encoding U.has_encoding U.written_encoding U.encoding_shortest };
-}
-
-impl<U: TryClone> TryClone for RsaPrivateKey<U> {
-    ghost use Rattle.std.specs.Prelude.{None};
-
-    ghost allocates_nothing = { λ key. U.allocates_nothing key.modulus × U.allocates_nothing key.public_exponent
-        × U.allocates_nothing key.private_exponent × U.allocates_nothing key.prime1 × U.allocates_nothing key.prime2
-        × U.allocates_nothing key.exponent1 × U.allocates_nothing key.exponent2 × U.allocates_nothing key.coefficient
-        × (key.other_prime_infos ≡ None) };
-
-    fn try_clone(&self, alloc: Global) -> Result<RsaPrivateKey<U>> {
-        let key = self;
-        let (modulus, public_exponent, private_exponent, prime1) = clone_four(
-            &key.modulus,
-            &key.public_exponent,
-            &key.private_exponent,
-            &key.prime1,
-            alloc,
-        )?;
-        let (prime2, exponent1, exponent2, coefficient) = clone_four(
-            &key.prime2,
-            &key.exponent1,
-            &key.exponent2,
-            &key.coefficient,
-            alloc,
-        )?;
-        Ok(RsaPrivateKey {
-            modulus,
-            public_exponent,
-            private_exponent,
-            prime1,
-            prime2,
-            exponent1,
-            exponent2,
-            coefficient,
-            other_prime_infos: clone_other_primes(&key.other_prime_infos, alloc)?,
-        })
-    }
+    ghost contents_shortest = { let number = as_written U.encoding U.has_encoding U.written_encoding U.encoding_relates
+        U.encoding_shortest in (whole_key number).least };
 }
 
 impl<U: fmt::Debug, O> PrivateKeyOf<U, O> {

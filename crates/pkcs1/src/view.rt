@@ -10,14 +10,14 @@ ghost use Rattle.pkcs1.specs.Words.{viewed_encoding, listed_others, HasPrivateKe
 ghost use Rattle.pkcs1.specs.Keys as grammar;
 ghost use Rattle.pkcs1_params.specs.Words.{ErrsExactly, IsNoSentence, IsTheMeaning};
 
-use crate::key_numbers::read_key_numbers;
+use crate::key_numbers::{KeyFront, key_of};
 use crate::other_primes::OtherPrimes;
 use crate::private_key::PrivateKeyOf;
 use crate::public_key::{RsaPublicKey, RsaPublicKeyRef};
 use crate::version::Version;
 use der_core::{
-    Contents, Decode, DecodeValue, ErrorKind, Header, NoMemory, Reader, Result, Tag, UintRef,
-    decode_optional,
+    Contents, Decode, DecodeFront, DecodeValue, ErrorKind, Header, NoMemory, Reader, Result, Tag,
+    UintRef, decode_optional,
 };
 use pkcs1_params::Error;
 use std::fmt;
@@ -83,10 +83,9 @@ impl<'a> DecodeValue<&'a [u8], NoMemory> for ViewedKey<'a> {
         reader: &mut R,
         _header: Header,
     ) -> Result<ViewedKey<'a>> {
-        let version = Version::decode(memory, reader)?;
-        let mut key = read_key_numbers(memory, reader)?;
-        key.other_prime_infos = read_listed(reader, version)?;
-        Ok(key)
+        let (version, numbers) = KeyFront::<UintRef<'a>>::decode_front(memory, reader)?;
+        let others = read_listed(reader, version)?;
+        Ok(key_of(numbers, others))
     }
 
     ghost fault_none = { private_integers_none };

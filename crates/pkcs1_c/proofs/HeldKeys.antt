@@ -11,13 +11,13 @@ use Rattle.der_core.specs.Laws.Integer.{holds_canonical}
 use Rattle.der_core.specs.Laws.Growing.{contents_shorter}
 use Rattle.pkcs1.specs.KeyEncodings.{IsOnlyEncoding}
 use Rattle.pkcs1.specs.Keys.{PublicKey, RsaPublicKey, PrivateKey, RsaPrivateKey, OtherPrime, OtherPrimeInfo}
-use Rattle.pkcs1.specs.Keys.{OtherPrimeInfos, version_of}
+use Rattle.pkcs1.specs.Keys.{OtherPrimeInfos}
 use Rattle.pkcs1.specs.PrivateKeyValue.{Listed, other_of, others_of, private_key_with}
 use Rattle.pkcs1.specs.PublicKeyValue.{public_key_with}
 use Rattle.pkcs1.specs.Writing.{key_numbers, other_numbers, HasOther, HasOthers}
 use Rattle.pkcs1.specs.declared.private_key.other_prime_info.OtherPrimeInfo as declared_other
 use Rattle.pkcs1.specs.declared.public_key.RsaPublicKey as declared_public
-use Rattle.pkcs1.specs.Laws.HeldKeys.{held_has_encoding}
+use Rattle.pkcs1.specs.Laws.HeldKeys.{others_held_encoding}
 use Rattle.pkcs1.specs.Laws.PrivateKeys.{IsHeld}
 use Rattle.pkcs1.specs.Laws.PublicKeys.{public_made}
 use Rattle.pkcs1_c.specs.declared.private_key.PrivateKey as c
@@ -160,18 +160,12 @@ pub items_none : (given : List (OtherPrime (List ℕ))) (items : List (declared_
 items_none given items are =
     others_none given (map (other_of number_of) items) are (items_have IsWithin (λ number. number.bounded) items)
 
-version_small : (infos : Option (List (OtherPrime (List ℕ)))) → version_of infos < 2
-version_small None = omega arith
-version_small (Some others) = omega arith
-
 pub private_some : (key : Listed Number) (given : List (OtherPrime (List ℕ)))
-    → AreOtherNumbers (others_of number_of key.other_prime_infos) given → HasEncoding RsaPrivateKey (private_key_with number_of key)
+    → AreOtherNumbers (others_of number_of key.other_prime_infos) given
+    → HasEncoding RsaPrivateKey (private_key_with number_of key)
 private_some key given are =
     let canonical : (number : Number) → IsCanonical (number_of number) = λ number. (number_held number).0 in
-    held_has_encoding number_of number_held key (
-      version_small (others_of number_of key.other_prime_infos),
-      (key_has IsCanonical canonical key, infos_have IsCanonical canonical key.other_prime_infos given are),
-    )
+    others_held_encoding number_of number_held key (infos_have IsCanonical canonical key.other_prime_infos given are)
 
 -- A key that is given.
 module _ (key : c.PrivateKey) (others : List c_other.OtherPrime) where

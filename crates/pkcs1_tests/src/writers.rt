@@ -1,8 +1,8 @@
 //! Writers: what they append, prepend and leave unchanged.
 use crate::checks::{equal, holds};
 use der_core::{
-    BackWriter, Encode, Error, ErrorKind, Header, Length, Part, SliceWriter, Tag, TagNumber,
-    UintRef, Writer,
+    BackWriter, Encode, EncodeValue, Error, ErrorKind, Header, Last, Length, SliceWriter, Tag,
+    TagNumber, UintRef, Writer,
 };
 use pkcs1::RsaPublicKey;
 use spki_core::{encode_field, field_len, prepend_field};
@@ -56,17 +56,18 @@ fn regions_are_filled_from_their_end(rt: HostRuntime) {
 #[test]
 fn an_optional_part_is_written_where_it_is_there(rt: HostRuntime) -> Result<(), Fail> {
     let encoding = [0x02, 0x01, 0x14];
-    equal(&rt, Some(20_u8).part_len()?.to_usize(), 3);
-    equal(&rt, None::<u8>.part_len()?, Length::ZERO);
+    let (there, absent) = (Last(Some(20_u8)), Last(None::<u8>));
+    equal(&rt, there.value_len()?.to_usize(), 3);
+    equal(&rt, absent.value_len()?, Length::ZERO);
     let mut slice = [0; 8];
     let mut writer = SliceWriter::new(&mut slice);
-    None::<u8>.append_part(&mut writer)?;
-    Some(20_u8).append_part(&mut writer)?;
+    absent.append_value(&mut writer)?;
+    there.append_value(&mut writer)?;
     equal(&rt, writer.finish(), encoding.as_slice());
     let mut slice = [0; 8];
     let mut writer = BackWriter::new(&mut slice);
-    None::<u8>.prepend_part(&mut writer);
-    Some(20_u8).prepend_part(&mut writer);
+    absent.prepend_value(&mut writer);
+    there.prepend_value(&mut writer);
     equal(&rt, writer.finish(), encoding.as_slice());
     Ok(())
 }

@@ -27,7 +27,7 @@ use Rattle.statement.proofs.Readings.{such_err, tagged_reads, then_takes, then_r
 use Rattle.statement.proofs.PublicKeys as public
 use Rattle.statement.proofs.ReadingsNumbers.{integer_reads, small_takes, small_rejects}
 use Rattle.statement.proofs.ReadingsLists.{next_is, next_octet, other_octet, absent, present_ok, present_err}
-use Rattle.statement.proofs.ReadingsLists.{items_takes, items_rejects, counted_rejects, counted_done}
+use Rattle.statement.proofs.ReadingsLists.{items_takes, items_rejects, row_rejects, ended_rejects}
 
 -- RSAPublicKey
 public_takes : (key : PublicKey (List ℕ)) → Takes (PublicKeyContents Integer key) public_key_in (public.numbers key)
@@ -222,13 +222,12 @@ private_takes key =
 
 private_rejects : Rejects (PrivateKeyFault Integer NumberFault) private_key_in
 private_rejects =
-    then_rejects version_reads _ (λ v x p.
-    counted_rejects integer_reads 7 _
-    (λ _. counted_rejects integer_reads 6 _ (λ _. counted_rejects integer_reads 5 _ (λ _.
-    counted_rejects integer_reads 4 _
-    (λ _. counted_rejects integer_reads 3 _ (λ _. counted_rejects integer_reads 2 _ (λ _.
-    counted_rejects integer_reads 1 _ (λ _. counted_rejects integer_reads 0 _ (λ _.
-    counted_done integer_reads _ (others_rejects _ v p.holds.0 (λ _. end_rejects _)))))))))))
+    row_rejects version_reads _ _ _ _ (λ v x p.
+    row_rejects integer_reads _ _ _ _ (λ _ _ _. row_rejects integer_reads _ _ _ _ (λ _ _ _.
+    row_rejects integer_reads _ _ _ _ (λ _ _ _. row_rejects integer_reads _ _ _ _ (λ _ _ _.
+    row_rejects integer_reads _ _ _ _ (λ _ _ _. row_rejects integer_reads _ _ _ _ (λ _ _ _.
+    row_rejects integer_reads _ _ _ _ (λ _ _ _. row_rejects integer_reads _ _ _ _ (λ _ _ _.
+    ended_rejects _ _ (others_rejects _ v p.holds.0 (λ _. end_rejects _)))))))))))
 
 pub private_reads : Reads RsaPrivateKey (EncodingFault tags.sequence (PrivateKeyFault Integer NumberFault)) numbers
     (tagged tags.sequence private_key_in)

@@ -6,16 +6,16 @@ use Rattle.std.proofs.lemmas.Bool.Decides.{nat_tests}
 use Rattle.std.specs.Prelude.{nat_lt, slice_get}
 use Rattle.std.specs.Option.{option_map}
 use Rattle.der_core.specs.Encodings.{Then}
-use Rattle.der_core.specs.Faults.{ThenFault, EndFault, ItemsFault, LastFault, TaggedLastFault}
+use Rattle.der_core.specs.Faults.{ThenFault, EndFault, ItemsFault, LastFault, NoFault, TaggedLastFault}
 use Rattle.der_core.specs.Optional.{Optional}
+use Rattle.der_core.specs.Parts.{NoParts, PartsContents, PartsFault}
 use Rattle.der_core.specs.SequenceOf.{ItemsContents}
 use Rattle.der_core.specs.Tlv.{Tlv}
 use Rattle.der_core.specs.declared.error.ErrorKind.{ErrorKind}
 use Rattle.der_core.specs.declared.tag.Tag.{Tag}
-use Rattle.pkcs1.specs.KeyFaults.{Counted, CountedFault}
 use Rattle.statement.specs.Reading.{Reading, ◌>>=◌, chain, ended, present, items_within, items, tagged, optional, last}
 use Rattle.statement.specs.Reading.{is_next}
-use Rattle.statement.proofs.Readings.{Slice, behind, Takes, Rejects, Reads, chain_ok, chain_err, end_ok}
+use Rattle.statement.proofs.Readings.{Slice, behind, Takes, Rejects, Reads, chain_ok, chain_err, end_ok, then_rejects}
 
 -- The tag that is next.
 pub next_is : (t : ℕ) {P : List ℕ → Type 0} (x c rest : List ℕ) → Tlv t P x → c ≡ x ++ rest → is_next t c ≡ true
@@ -174,34 +174,40 @@ module _ {V W : Type 0} {Encoding : V → List ℕ → Type 0} {Fault : ErrorKin
           chain_ok (last at) later (present_ok (nat_lt 0 (length c)) at yes (law.takes v x c rest s p is))
           ∙ (more (Some (value v))).rejects k rest (behind x rest is s) f
 
-  -- n numbers in a row, and what follows them.
-  abbrev pub CountedThen : ℕ → (ErrorKind → List ℕ → Type 0) → ErrorKind → List ℕ → Type 0
-  CountedThen n Rest = ThenFault (Counted n Encoding) (CountedFault n Encoding Fault) (λ _. Rest)
-
-  pub counted_rejects : (n : ℕ) {Rest : ErrorKind → List ℕ → Type 0} {X : Type 0} (later : W → Reading X)
-      → ((w : W) → Rejects (CountedThen n Rest) (later w)) → Rejects (CountedThen (suc n) Rest) (chain at later)
-  counted_rejects n {Rest} later more = record { rejects = go }
+  -- A part more in front of a row, and what depends on both.
+  pub row_rejects : {B X : Type 0} (Row : B → List ℕ → Type 0) (RowFault : ErrorKind → List ℕ → Type 0)
+      (Behind : V × B → ErrorKind → List ℕ → Type 0) (later : W → Reading X)
+      → ((v : V) (x : List ℕ) → Encoding v x
+      → Rejects (ThenFault Row RowFault (λ b. Behind (v, b))) (later (value v)))
+      → Rejects (ThenFault (PartsContents Encoding Row) (PartsFault Encoding Fault RowFault) Behind) (chain at later)
+  row_rejects {B} Row RowFault Behind later more = record { rejects = λ k c s f. all.rejects k c s (nested k c f) }
     where
-      go : (k : ErrorKind) (c : List ℕ) → Slice c → CountedThen (suc n) Rest k c → chain at later c ≡ Err k
-      go k c s (inl ([], less, (x, rest, p, f, is))) =
-          chain_err at later (law.rejects k c s (rw (is ∙ ap (λ y. y ++ rest) p) f))
-      go k c s (inl (v ∷ vs, less, (x, rest, (a, b, p, q, e), f, is))) =
-          let split : c ≡ a ++ (b ++ rest) = is ∙ ap (λ y. y ++ rest) e ∙ append_assoc a b rest in
-          chain_ok at later (law.takes v a c (b ++ rest) s p split)
-          ∙ (more (value v)).rejects k (b ++ rest) (behind a (b ++ rest) split s)
-          (inl (vs, omega (arith, less), (b, rest, q, f, refl)))
-      go k c s (inr ([], (x, rest, (count, p), f, is))) = absurd (omega (arith, count))
-      go k c s (inr (v ∷ vs, (x, rest, (count, (a, b, p, q, e)), f, is))) =
-          let split : c ≡ a ++ (b ++ rest) = is ∙ ap (λ y. y ++ rest) e ∙ append_assoc a b rest in
-          chain_ok at later (law.takes v a c (b ++ rest) s p split)
-          ∙ (more (value v)).rejects k (b ++ rest) (behind a (b ++ rest) split s)
-          (inr (vs, (b, rest, (omega (arith, count), q), f, refl)))
+      all : Rejects (ThenFault Encoding Fault (λ v. ThenFault Row RowFault (λ b. Behind (v, b)))) (chain at later)
+      all = then_rejects law later more
 
-  pub counted_done : {Rest : ErrorKind → List ℕ → Type 0} {X : Type 0} (read : Reading X) → Rejects Rest read
-      → Rejects (CountedThen 0 Rest) read
-  counted_done {Rest} read more = record { rejects = go }
-    where
-      go : (k : ErrorKind) (c : List ℕ) → Slice c → CountedThen 0 Rest k c → read c ≡ Err k
-      go k c s (inl (vs, less, f)) = absurd (omega (arith, less))
-      go k c s (inr ([], (x, rest, (count, p), f, is))) = more.rejects k c s (rw (is ∙ ap (λ y. y ++ rest) p) f)
-      go k c s (inr (v ∷ vs, (x, rest, (count, p), f, is))) = absurd (omega (arith, count))
+      nested : (k : ErrorKind) (c : List ℕ)
+          → ThenFault (PartsContents Encoding Row) (PartsFault Encoding Fault RowFault) Behind k c
+          → ThenFault Encoding Fault (λ v. ThenFault Row RowFault (λ b. Behind (v, b))) k c
+      nested k c (inl (inl f)) = inl f
+      nested k c (inl (inr (v, (x, rest, p, f, is)))) = inr (v, (x, rest, p, inl f, is))
+      nested k c (inr ((v, b), (x, rest, (y, z, p, q, e), f, is))) =
+          inr (
+            v,
+            (
+              y,
+              z ++ rest,
+              p,
+              inr (b, (z, rest, q, f, refl)),
+              is ∙ ap (λ l. l ++ rest) e
+                  ∙ append_assoc y z rest,
+            ),
+          )
+
+-- What is behind a row that has ended.
+pub ended_rejects : {X : Type 0} (Behind : Unit {0} → ErrorKind → List ℕ → Type 0) (read : Reading X)
+    → Rejects (Behind tt) read → Rejects (ThenFault NoParts NoFault Behind) read
+ended_rejects Behind read more = record { rejects = go }
+  where
+    go : (k : ErrorKind) (c : List ℕ) → Slice c → ThenFault NoParts NoFault Behind k c → read c ≡ Err k
+    go k c s (inl f) = absurd f
+    go k c s (inr (end, (x, rest, p, f, is))) = more.rejects k c s (rw (is ∙ ap (λ y. y ++ rest) p) f)

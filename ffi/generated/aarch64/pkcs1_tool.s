@@ -6302,11 +6302,11 @@
 	ldrsb	w13, [x10]
 	tbnz	w13, #31, .LBB11_68
 	cmp	w8, #1
-	mov	x23, x11
 	mov	x22, x10
+	mov	x23, x11
 	b.eq	.LBB11_110
-	mov	x23, x11
 	mov	x22, x10
+	mov	x23, x11
 	cbnz	w13, .LBB11_110
 	mov	x22, x10
 	ldrsb	w8, [x22, #1]!
@@ -6423,11 +6423,11 @@
 	ldrsb	w11, [x10]
 	tbnz	w11, #31, .LBB11_68
 	cmp	w13, #1
-	mov	x25, x8
 	mov	x24, x10
+	mov	x25, x8
 	b.eq	.LBB11_124
-	mov	x25, x8
 	mov	x24, x10
+	mov	x25, x8
 	cbnz	w11, .LBB11_124
 	mov	x24, x10
 	ldrsb	w11, [x24, #1]!
@@ -6464,11 +6464,11 @@
 	ldrsb	w11, [x10]
 	tbnz	w11, #31, .LBB11_68
 	cmp	w13, #1
-	mov	x27, x8
 	mov	x26, x10
+	mov	x27, x8
 	b.eq	.LBB11_138
-	mov	x27, x8
 	mov	x26, x10
+	mov	x27, x8
 	cbnz	w11, .LBB11_138
 	mov	x26, x10
 	ldrsb	w11, [x26, #1]!

@@ -6201,12 +6201,12 @@
 	movzbl	(%rsi), %r10d
 	testb	%r10b, %r10b
 	js	.LBB10_68
-	movq	%rdi, %rbp
-	movq	%rsi, 120(%rsp)
+	movq	%rsi, %rbp
+	movq	%rdi, 120(%rsp)
 	cmpl	$1, %ecx
 	je	.LBB10_110
-	movq	%rdi, %rbp
-	movq	%rsi, 120(%rsp)
+	movq	%rsi, %rbp
+	movq	%rdi, 120(%rsp)
 	testb	%r10b, %r10b
 	jne	.LBB10_110
 	cmpb	$0, 1(%rsi)
@@ -6297,9 +6297,9 @@
 	movzbl	3(%r8), %ecx
 	jmp	.LBB10_182
 .LBB10_109:
-	leaq	1(%rsi), %rcx
+	leaq	1(%rsi), %rbp
+	leaq	-1(%rdi), %rcx
 	movq	%rcx, 120(%rsp)
-	leaq	-1(%rdi), %rbp
 .LBB10_110:
 	cmpq	%rdi, %r9
 	je	.LBB10_21
@@ -6336,20 +6336,20 @@
 	movzbl	(%rdi), %r10d
 	testb	%r10b, %r10b
 	js	.LBB10_68
-	movq	%rsi, 112(%rsp)
-	movq	%rdi, 104(%rsp)
+	movq	%rdi, 112(%rsp)
+	movq	%rsi, 104(%rsp)
 	cmpl	$1, %ecx
 	je	.LBB10_124
-	movq	%rsi, 112(%rsp)
-	movq	%rdi, 104(%rsp)
+	movq	%rdi, 112(%rsp)
+	movq	%rsi, 104(%rsp)
 	testb	%r10b, %r10b
 	jne	.LBB10_124
 	cmpb	$0, 1(%rdi)
 	jns	.LBB10_84
 	leaq	1(%rdi), %rcx
-	movq	%rcx, 104(%rsp)
-	leaq	-1(%rsi), %rcx
 	movq	%rcx, 112(%rsp)
+	leaq	-1(%rsi), %rcx
+	movq	%rcx, 104(%rsp)
 .LBB10_124:
 	cmpq	%rsi, %r8
 	je	.LBB10_21
@@ -6386,20 +6386,20 @@
 	movzbl	(%rsi), %r10d
 	testb	%r10b, %r10b
 	js	.LBB10_68
-	movq	%rdi, 96(%rsp)
-	movq	%rsi, 88(%rsp)
+	movq	%rsi, 96(%rsp)
+	movq	%rdi, 88(%rsp)
 	cmpl	$1, %ecx
 	je	.LBB10_138
-	movq	%rdi, 96(%rsp)
-	movq	%rsi, 88(%rsp)
+	movq	%rsi, 96(%rsp)
+	movq	%rdi, 88(%rsp)
 	testb	%r10b, %r10b
 	jne	.LBB10_138
 	cmpb	$0, 1(%rsi)
 	jns	.LBB10_84
 	leaq	1(%rsi), %rcx
-	movq	%rcx, 88(%rsp)
-	leaq	-1(%rdi), %rcx
 	movq	%rcx, 96(%rsp)
+	leaq	-1(%rdi), %rcx
+	movq	%rcx, 88(%rsp)
 .LBB10_138:
 	cmpq	%rdi, %r9
 	je	.LBB10_21
@@ -6436,20 +6436,20 @@
 	movzbl	(%rdi), %r10d
 	testb	%r10b, %r10b
 	js	.LBB10_68
-	movq	%rsi, 80(%rsp)
-	movq	%rdi, 72(%rsp)
+	movq	%rdi, 80(%rsp)
+	movq	%rsi, 72(%rsp)
 	cmpl	$1, %ecx
 	je	.LBB10_152
-	movq	%rsi, 80(%rsp)
-	movq	%rdi, 72(%rsp)
+	movq	%rdi, 80(%rsp)
+	movq	%rsi, 72(%rsp)
 	testb	%r10b, %r10b
 	jne	.LBB10_152
 	cmpb	$0, 1(%rdi)
 	jns	.LBB10_84
 	leaq	1(%rdi), %rcx
-	movq	%rcx, 72(%rsp)
-	leaq	-1(%rsi), %rcx
 	movq	%rcx, 80(%rsp)
+	leaq	-1(%rsi), %rcx
+	movq	%rcx, 72(%rsp)
 .LBB10_152:
 	cmpq	%rsi, %r8
 	je	.LBB10_21
@@ -6486,20 +6486,20 @@
 	movzbl	(%rsi), %r10d
 	testb	%r10b, %r10b
 	js	.LBB10_68
-	movq	%rdi, 64(%rsp)
-	movq	%rsi, 56(%rsp)
+	movq	%rsi, 64(%rsp)
+	movq	%rdi, 56(%rsp)
 	cmpl	$1, %ecx
 	je	.LBB10_166
-	movq	%rdi, 64(%rsp)
-	movq	%rsi, 56(%rsp)
+	movq	%rsi, 64(%rsp)
+	movq	%rdi, 56(%rsp)
 	testb	%r10b, %r10b
 	jne	.LBB10_166
 	cmpb	$0, 1(%rsi)
 	jns	.LBB10_84
 	leaq	1(%rsi), %rcx
-	movq	%rcx, 56(%rsp)
-	leaq	-1(%rdi), %rcx
 	movq	%rcx, 64(%rsp)
+	leaq	-1(%rdi), %rcx
+	movq	%rcx, 56(%rsp)
 .LBB10_166:
 	cmpq	%rdi, %r9
 	je	.LBB10_21
@@ -6834,20 +6834,20 @@
 	movzbl	(%rdi), %r10d
 	testb	%r10b, %r10b
 	js	.LBB10_68
-	movq	%r9, 48(%rsp)
-	movq	%rdi, 40(%rsp)
+	movq	%rdi, 48(%rsp)
+	movq	%r9, 40(%rsp)
 	cmpl	$1, %ecx
 	je	.LBB10_257
-	movq	%r9, 48(%rsp)
-	movq	%rdi, 40(%rsp)
+	movq	%rdi, 48(%rsp)
+	movq	%r9, 40(%rsp)
 	testb	%r10b, %r10b
 	jne	.LBB10_257
 	cmpb	$0, 1(%rdi)
 	jns	.LBB10_84
 	leaq	1(%rdi), %rcx
-	movq	%rcx, 40(%rsp)
-	leaq	-1(%r9), %rcx
 	movq	%rcx, 48(%rsp)
+	leaq	-1(%r9), %rcx
+	movq	%rcx, 40(%rsp)
 .LBB10_257:
 	cmpq	%r9, %r8
 	je	.LBB10_21
@@ -6943,20 +6943,20 @@
 	movzbl	(%r8), %r9d
 	testb	%r9b, %r9b
 	js	.LBB10_68
-	movq	%rdi, 32(%rsp)
-	movq	%r8, 24(%rsp)
+	movq	%r8, 32(%rsp)
+	movq	%rdi, 24(%rsp)
 	cmpl	$1, %ecx
 	je	.LBB10_286
-	movq	%rdi, 32(%rsp)
-	movq	%r8, 24(%rsp)
+	movq	%r8, 32(%rsp)
+	movq	%rdi, 24(%rsp)
 	testb	%r9b, %r9b
 	jne	.LBB10_286
 	cmpb	$0, 1(%r8)
 	jns	.LBB10_84
 	leaq	1(%r8), %rcx
-	movq	%rcx, 24(%rsp)
-	leaq	-1(%rdi), %rcx
 	movq	%rcx, 32(%rsp)
+	leaq	-1(%rdi), %rcx
+	movq	%rcx, 24(%rsp)
 .LBB10_286:
 	cmpq	%rdi, %rsi
 	je	.LBB10_21
@@ -7058,20 +7058,20 @@
 	movzbl	(%rsi), %eax
 	testb	%al, %al
 	js	.LBB10_68
-	movq	%rdi, 16(%rsp)
-	movq	%rsi, 8(%rsp)
+	movq	%rsi, 16(%rsp)
+	movq	%rdi, 8(%rsp)
 	cmpl	$1, %ecx
 	je	.LBB10_317
-	movq	%rdi, 16(%rsp)
-	movq	%rsi, 8(%rsp)
+	movq	%rsi, 16(%rsp)
+	movq	%rdi, 8(%rsp)
 	testb	%al, %al
 	jne	.LBB10_317
 	cmpb	$0, 1(%rsi)
 	jns	.LBB10_84
 	leaq	1(%rsi), %rax
-	movq	%rax, 8(%rsp)
-	leaq	-1(%rdi), %rax
 	movq	%rax, 16(%rsp)
+	leaq	-1(%rdi), %rax
+	movq	%rax, 8(%rsp)
 .LBB10_317:
 	cmpq	$0, (%rsp)
 	je	.LBB10_325
@@ -7226,36 +7226,36 @@
 	movq	168(%rsp), %rax
 	movq	%rax, 8(%rbx)
 	movq	%r14, 16(%rbx)
+	movq	%rbp, 24(%rbx)
 	movq	120(%rsp), %rax
-	movq	%rax, 24(%rbx)
-	movq	%rbp, 32(%rbx)
-	movq	104(%rsp), %rax
-	movq	%rax, 40(%rbx)
+	movq	%rax, 32(%rbx)
 	movq	112(%rsp), %rax
+	movq	%rax, 40(%rbx)
+	movq	104(%rsp), %rax
 	movq	%rax, 48(%rbx)
-	movq	88(%rsp), %rax
-	movq	%rax, 56(%rbx)
 	movq	96(%rsp), %rax
+	movq	%rax, 56(%rbx)
+	movq	88(%rsp), %rax
 	movq	%rax, 64(%rbx)
-	movq	72(%rsp), %rax
-	movq	%rax, 72(%rbx)
 	movq	80(%rsp), %rax
+	movq	%rax, 72(%rbx)
+	movq	72(%rsp), %rax
 	movq	%rax, 80(%rbx)
-	movq	56(%rsp), %rax
-	movq	%rax, 88(%rbx)
 	movq	64(%rsp), %rax
+	movq	%rax, 88(%rbx)
+	movq	56(%rsp), %rax
 	movq	%rax, 96(%rbx)
-	movq	40(%rsp), %rax
-	movq	%rax, 104(%rbx)
 	movq	48(%rsp), %rax
+	movq	%rax, 104(%rbx)
+	movq	40(%rsp), %rax
 	movq	%rax, 112(%rbx)
-	movq	24(%rsp), %rax
-	movq	%rax, 120(%rbx)
 	movq	32(%rsp), %rax
+	movq	%rax, 120(%rbx)
+	movq	24(%rsp), %rax
 	movq	%rax, 128(%rbx)
-	movq	8(%rsp), %rax
-	movq	%rax, 136(%rbx)
 	movq	16(%rsp), %rax
+	movq	%rax, 136(%rbx)
+	movq	8(%rsp), %rax
 	movq	%rax, 144(%rbx)
 	movq	%r13, 152(%rbx)
 	movaps	176(%rsp), %xmm0

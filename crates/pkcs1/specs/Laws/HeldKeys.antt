@@ -17,7 +17,7 @@ use Rattle.der_core.specs.Laws.NotWritten.{rejected_by}
 use Rattle.pkcs1_params.specs.declared.error.Error.{Error}
 use Rattle.pkcs1_params.specs.declared.error.Error.TheVariants as error
 use Rattle.pkcs1.specs.declared.private_key.other_prime_info.OtherPrimeInfo.{OtherPrimeInfo}
-use Rattle.pkcs1.specs.Keys.{RsaPrivateKey}
+use Rattle.pkcs1.specs.Keys.{PrivateKey, RsaPrivateKey}
 use Rattle.pkcs1.specs.PrivateKeyValue.{Listed, other_of, others_of, private_key_with}
 use Rattle.pkcs1_params.specs.Errors.{IsAsn1}
 use Rattle.pkcs1.specs.Writing.{HasOthers, HasPrivateKey, other_numbers, key_numbers}
@@ -28,6 +28,11 @@ borrowed_held u = (holds_canonical (bytes_of u) u.canonical, u.bounded)
 
 pub own_held : (u : Uint) → IsHeld (own_bytes_of u)
 own_held u = (holds_canonical (own_bytes_of u) u.canonical, u.bounded)
+
+-- Of a key that can be written the other primes can.
+pub others_have : {V : Type 0} (has : V → Type 0) (key : PrivateKey V) → HasPrivateKey has key
+    → HasOthers has key.other_prime_infos
+others_have has key (version, (n, (e, (d, (p, (q, (x, (y, (z, others))))))))) = others
 
 module _ {U : Type 0} (number : U → List ℕ) (held : (u : U) → IsHeld (number u)) where
   other_held : (other : OtherPrimeInfo U) → AllHave IsHeld (other_numbers (other_of number other))
@@ -56,11 +61,15 @@ module _ {U : Type 0} (number : U → List ℕ) (held : (u : U) → IsHeld (numb
     ),
   )
 
-  -- So a key that can be written has an encoding.
+  -- So a key has an encoding, unless its list of other primes is empty.
+  pub others_held_encoding : (key : Listed U) → HasOthers IsCanonical (others_of number key.other_prime_infos)
+      → HasEncoding RsaPrivateKey (private_key_with number key)
+  others_held_encoding key others =
+      private_made (private_key_with number key) (numbers_held key) (others_held key.other_prime_infos others)
+
   pub held_has_encoding : (key : Listed U) → HasPrivateKey IsCanonical (private_key_with number key)
       → HasEncoding RsaPrivateKey (private_key_with number key)
-  held_has_encoding key has =
-      private_made (private_key_with number key) (numbers_held key) (others_held key.other_prime_infos has.1.1)
+  held_has_encoding key has = others_held_encoding key (others_have IsCanonical (private_key_with number key) has)
 
   pub rejected_held : (key : Listed U) (room : ℕ) (result : Result ℕ Error)
       → IfErr result (IsAsn1 (λ e. WhyNotWritten (HasPrivateKey IsCanonical (private_key_with number key)) RsaPrivateKey

@@ -1,38 +1,38 @@
 -- Bytes with a fault encode no key, and have only one first fault.
-use Rattle.std.proofs.Common.{◌≡◌, ◌≢◌, ℕ, ◌<◌, ◌≤◌, List, [], ◌∷◌, ◌++◌, length, map, refl, sym, ap, ◌∙◌, arith}
-use Rattle.std.proofs.Common.{length-append, append_assoc, append-nil, inl, inr, Option, Some, None}
+use Rattle.std.proofs.Common.{◌≡◌, ◌≢◌, ℕ, ◌<◌, List, [], ◌++◌, length, refl, sym, ap, ◌∙◌, arith}
+use Rattle.std.proofs.Common.{append-nil, inl, inr, Option, Some, None}
 use Rattle.std.specs.Prelude.{slice_get}
 use Rattle.der_core.specs.declared.error.ErrorKind.{ErrorKind}
-use Rattle.der_core.specs.Faults.{EncodingFault, ThenFault, EndFault, ItemsFault, IntegerFault, AreNone, AreFirst}
+use Rattle.der_core.specs.Faults.{EncodingFault, EndFault, ItemsFault, IntegerFault, AreNone, AreFirst}
 use Rattle.der_core.specs.Laws.Faults.{small_fault_none, small_fault_first, items_fault_none, items_fault_first}
 use Rattle.der_core.specs.Laws.Faults.{integer_fault_none, integer_fault_first, encoding_fault_none}
 use Rattle.der_core.specs.Laws.Faults.{encoding_fault_first, then_fault_none, then_fault_first, end_fault_none}
-use Rattle.der_core.specs.Laws.Faults.{end_fault_first}
+use Rattle.der_core.specs.Laws.Faults.{end_fault_first, no_fault_first}
+use Rattle.der_core.specs.Laws.FrontParts.{front_delimited, front_none, no_parts_none_in, no_parts_told_apart}
+use Rattle.der_core.specs.Laws.FrontParts.{parts_told_apart}
 use Rattle.der_core.specs.Laws.Parts.{parts_fault_none, parts_fault_first}
-use Rattle.der_core.specs.Parts.{PartsContents, NoParts, PartsFault}
-use Rattle.der_core.specs.Integer.{Integer, IntegerContents, Small}
+use Rattle.der_core.specs.Parts.{IsToldApart, LastContents, PartsContents, NoParts, PartsFault}
+use Rattle.der_core.specs.Integer.{Integer, IntegerContents}
 use Rattle.der_core.specs.Laws.Integer.{integer_delimited, small_means_one}
-use Rattle.der_core.specs.Length.{limit}
-use Rattle.der_core.specs.Laws.Lists.{same_fronts, cons_path}
+use Rattle.der_core.specs.Laws.Lists.{same_fronts}
 use Rattle.der_core.specs.SequenceOf.{ItemsContents}
 use Rattle.der_core.specs.Laws.Tells.{is_value, is_trailing}
 use Rattle.der_core.specs.Tlv.{Tlv}
 use Rattle.der_core.specs.Reading.{NoneHas, NoneIn, TellsOfBytes}
 use Rattle.der_core.specs.Tags.{integer, sequence}
 use Rattle.der_core.specs.Laws.Encodings.{tlv_delimited, joins_map, joins_last}
-use Rattle.der_core.specs.Encodings.{IsDelimited, Joins}
-use Rattle.pkcs1.specs.KeyFaults.{PublicKeyFault, RsaPublicKeyFault, Counted, CountedFault, OtherPrimeFault}
+use Rattle.der_core.specs.Encodings.{IsDelimited}
+use Rattle.pkcs1.specs.KeyFaults.{FrontFault, PublicKeyFault, RsaPublicKeyFault, OtherPrimeFault}
 use Rattle.pkcs1.specs.KeyFaults.{VersionFault, ListedFault, OthersFault, PrivateKeyFault, NumberFault, OneOtherFault}
 use Rattle.pkcs1.specs.KeyFaults.{PrivateKeyEncodingFault, RsaPrivateKeyFault}
-use Rattle.pkcs1.specs.Keys.{PublicKey, PublicKeyContents, RsaPublicKey, RsaPrivateKey, OtherPrime, OtherPrimeContents}
-use Rattle.pkcs1.specs.Keys.{OtherPrimeInfo, OtherPrimeInfos, PrivateKey, PrivateKeyContents, PrivateKeyEncoding}
-use Rattle.pkcs1.specs.Keys.{version_of, public_parts, other_parts}
+use Rattle.pkcs1.specs.Keys.{FrontContents, PublicKeyContents, RsaPublicKey, RsaPrivateKey, OtherPrime}
+use Rattle.pkcs1.specs.Keys.{OtherPrimeContents, OtherPrimeInfo, OtherPrimeInfos, OtherPrimeList}
+use Rattle.pkcs1.specs.Keys.{PrivateKeyContents, PrivateKeyEncoding, front_parts, other_parts, public_parts, version_of}
 use Rattle.der_core.specs.Laws.Whole.{AreTold, tagged_told}
-use Rattle.pkcs1.specs.Laws.PrivateKey.{other_delimited, joins_take, version_small, private_means_one}
+use Rattle.pkcs1.specs.Laws.PrivateKey.{in_front, other_delimited, private_means_one}
 use Rattle.pkcs1.specs.Laws.PublicKey.{public_key_means_one}
 use Rattle.pkcs1.specs.Laws.Versions.{version_means_one}
-use Rattle.pkcs1.specs.Versions.{VersionContents}
-use Rattle.pkcs1.specs.Writing.{key_numbers}
+use Rattle.pkcs1.specs.Versions.{VersionContents, VersionEncoding}
 
 -- Numbers in a row: the first has a fault, or what follows it.
 module _ {N : Type 0} (encoding : N → List ℕ → Type 0) (Fault : ErrorKind → List ℕ → Type 0) (d : IsDelimited encoding)
@@ -77,77 +77,55 @@ public_key_told =
     (public_key_fault_none Integer NumberFault integer_delimited number_none)
     (public_key_fault_first Integer NumberFault integer_delimited number_none number_first)
 
--- n numbers in a row.
+-- Versions.
+pub version_fault_none : AreNone (NoneHas VersionContents) VersionFault
+version_fault_none k c within (inl f) = let told = small_fault_none k c within f in (told.0, λ n p. told.1 n p.1)
+version_fault_none k c within (inr (m, is, big, e)) =
+    (is_value e, λ n p. let same : m ≡ n = small_means_one m n c is p.1 in omega (arith, big, same, p.0))
+
+pub version_fault_first : AreFirst VersionFault
+version_fault_first j k c within (inl f) (inl g) = small_fault_first j k c within f g
+version_fault_first j k c within (inl f) (inr (m, is, big, e)) = absurd ((small_fault_none j c within f).1 m is)
+version_fault_first j k c within (inr (m, is, big, e)) (inl g) = absurd ((small_fault_none k c within g).1 m is)
+version_fault_first j k c within (inr (m, is, big, e)) (inr (n, are, more, f)) = e ∙ sym f
+
+version_none : AreNone (NoneIn VersionEncoding) (EncodingFault integer VersionFault)
+version_none = encoding_fault_none integer VersionFault VersionContents version_fault_none
+
+version_delimited : IsDelimited VersionEncoding
+version_delimited = tlv_delimited 2 VersionContents version_means_one
+
+pub front_is_delimited : {V : Type 0} {encoding : V → List ℕ → Type 0} → IsDelimited encoding
+    → IsDelimited (FrontContents encoding)
+front_is_delimited {V} {encoding} d =
+    front_delimited VersionEncoding _ version_delimited
+    (next (next (next (next (next (next (next (next no_parts_told_apart))))))))
+  where
+    next : {R : Type 0} {Rest : R → List ℕ → Type 0} → IsToldApart Rest → IsToldApart (PartsContents encoding Rest)
+    next {R} {Rest} rest = parts_told_apart encoding Rest d rest
+
+-- What is in front of the other primes, and their list.
 module _ {V : Type 0} (encoding : V → List ℕ → Type 0) (Fault : ErrorKind → List ℕ → Type 0) (d : IsDelimited encoding)
     (none : AreNone (NoneIn encoding) Fault) where
-  -- fewer are at the front, and what follows begins with none
-  few_none : (vs ws : List V) (x y z w : List ℕ) → Joins (map encoding vs) x → length vs < length ws → NoneIn encoding y
-      → x ++ y ≡ z ++ w → Joins (map encoding ws) z → ⊥
-  few_none vs [] x y z w p l nothing e q = omega (arith, l)
-  few_none [] (u ∷ us) x y z w p l nothing e q =
-      nothing u q.0 (q.1 ++ w) (ap (λ r. r ++ y) (sym p) ∙ e ∙ ap (λ r. r ++ w) q.4 ∙ append_assoc q.0 q.1 w) q.2
-  few_none (v ∷ vs) (u ∷ us) x y z w p l nothing e q =
-      let f : p.0 ++ (p.1 ++ y) ≡ q.0 ++ (q.1 ++ w) =
-      sym (append_assoc p.0 p.1 y) ∙ ap (λ r. r ++ y) (sym p.4) ∙ e ∙ ap (λ r. r ++ w) q.4
-      ∙ append_assoc q.0 q.1 w in
-      let one = d.one v u p.0 (p.1 ++ y) q.0 (q.1 ++ w) p.2 q.2 f in
-      let tails = same_fronts p.0 (p.1 ++ y) q.0 (q.1 ++ w) (ap length one.0) f in
-      few_none vs us p.1 y q.1 w p.3 (omega arith) nothing tails.1 q.3
+  front_fault_none : AreNone (NoneIn (FrontContents encoding)) (FrontFault encoding Fault)
+  front_fault_none =
+      front_none VersionEncoding _ (EncodingFault integer VersionFault) _ version_delimited version_none
+      (next (next (next (next (next (next (next (next no_parts_none_in))))))))
+    where
+      next : {R : Type 0} {Rest : R → List ℕ → Type 0} {RestFault : ErrorKind → List ℕ → Type 0}
+          → AreNone (NoneIn Rest) RestFault
+          → AreNone (NoneIn (PartsContents encoding Rest)) (PartsFault encoding Fault RestFault)
+      next {R} {Rest} {RestFault} rest = front_none encoding Rest Fault RestFault d none rest
 
-  pub counted_fault_none : (n : ℕ) → AreNone (NoneIn (Counted n encoding)) (CountedFault n encoding Fault)
-  counted_fault_none n k c within (vs, l, (x, y, p, fault, is)) =
-      let few : length y ≤ limit = omega (arith, within, ap length is, length-append x y) in
-      let told = none k y few fault in (
-        told.0,
-        λ ws b rest split has. few_none vs ws x y b rest p (omega (arith, l, has.0)) told.1 (sym is ∙ split)
-            has.1,
-      )
-
-  counted_one : AreFirst Fault → (vs ws : List V) (j k : ErrorKind) (c x y z w : List ℕ) → length c ≤ limit
-      → Joins (map encoding vs) x → c ≡ x ++ y → Fault j y → Joins (map encoding ws) z → c ≡ z ++ w → Fault k w → j ≡ k
-  counted_one first [] [] j k c x y z w within p is f q are g =
-      first j k c within (rw (is ∙ ap (λ r. r ++ y) p) f) (rw (are ∙ ap (λ r. r ++ w) q) g)
-  counted_one first [] (u ∷ us) j k c x y z w within p is f q are g =
-      absurd ((none j c within (rw (is ∙ ap (λ r. r ++ y) p) f)).1 u q.0 (q.1 ++ w)
-      (are ∙ ap (λ r. r ++ w) q.4 ∙ append_assoc q.0 q.1 w) q.2)
-  counted_one first (v ∷ vs) [] j k c x y z w within p is f q are g =
-      absurd ((none k c within (rw (are ∙ ap (λ r. r ++ w) q) g)).1 v p.0 (p.1 ++ y)
-      (is ∙ ap (λ r. r ++ y) p.4 ∙ append_assoc p.0 p.1 y) p.2)
-  counted_one first (v ∷ vs) (u ∷ us) j k c x y z w within p is f q are g =
-      let a : c ≡ p.0 ++ (p.1 ++ y) = is ∙ ap (λ r. r ++ y) p.4 ∙ append_assoc p.0 p.1 y in
-      let b : c ≡ q.0 ++ (q.1 ++ w) = are ∙ ap (λ r. r ++ w) q.4 ∙ append_assoc q.0 q.1 w in
-      let one = d.one v u p.0 (p.1 ++ y) q.0 (q.1 ++ w) p.2 q.2 (sym a ∙ b) in
-      let tails = same_fronts p.0 (p.1 ++ y) q.0 (q.1 ++ w) (ap length one.0) (sym a ∙ b) in
-      let few : length (p.1 ++ y) ≤ limit = omega (arith, within, ap length a, length-append p.0 (p.1 ++ y)) in
-      counted_one first vs us j k (p.1 ++ y) p.1 y q.1 w few p.3 refl f q.3 tails.1 g
-
-  pub counted_fault_first : (n : ℕ) → AreFirst Fault → AreFirst (CountedFault n encoding Fault)
-  counted_fault_first n first j k c within (vs, l, (x, y, p, f, is)) (ws, m, (z, w, q, g, are)) =
-      counted_one first vs ws j k c x y z w within p is f q are g
-
-  counted_same : (vs ws : List V) (x y z w : List ℕ) → length vs ≡ length ws → Joins (map encoding vs) x
-      → Joins (map encoding ws) z → x ++ y ≡ z ++ w → (x ≡ z) × (vs ≡ ws)
-  counted_same [] [] x y z w l p q e = (p ∙ sym q, refl)
-  counted_same [] (u ∷ us) x y z w l p q e = absurd (omega (arith, l))
-  counted_same (v ∷ vs) [] x y z w l p q e = absurd (omega (arith, l))
-  counted_same (v ∷ vs) (u ∷ us) x y z w l p q e =
-      let f : p.0 ++ (p.1 ++ y) ≡ q.0 ++ (q.1 ++ w) =
-      sym (append_assoc p.0 p.1 y) ∙ ap (λ r. r ++ y) (sym p.4) ∙ e ∙ ap (λ r. r ++ w) q.4
-      ∙ append_assoc q.0 q.1 w in
-      let one = d.one v u p.0 (p.1 ++ y) q.0 (q.1 ++ w) p.2 q.2 f in
-      let tails = same_fronts p.0 (p.1 ++ y) q.0 (q.1 ++ w) (ap length one.0) f in
-      let more = counted_same vs us p.1 y q.1 w (omega (arith, l)) p.3 q.3 tails.1 in
-      (p.4 ∙ ap (λ r. r ++ p.1) one.0 ∙ ap (λ r. q.0 ++ r) more.0 ∙ sym q.4, cons_path one.1 more.1)
-
-  some_encoding : (vs : List V) (x : List ℕ) → 0 < length vs → Joins (map encoding vs) x → 0 < length x
-  some_encoding [] x l p = absurd (omega (arith, l))
-  some_encoding (v ∷ vs) x l p = omega (arith, d.not_empty v p.0 p.2, ap length p.4, length-append p.0 p.1)
-
-  pub counted_delimited : (n : ℕ) → 0 < n → IsDelimited (Counted n encoding)
-  counted_delimited n some = record {
-    not_empty = λ vs x p. some_encoding vs x (omega (arith, some, p.0)) p.1;
-    one = λ vs ws x y z w p q e. counted_same vs ws x y z w (p.0 ∙ sym q.0) p.1 q.1 e;
-  }
+  front_fault_first : AreFirst Fault → AreFirst (FrontFault encoding Fault)
+  front_fault_first first =
+      then_fault_first VersionEncoding (EncodingFault integer VersionFault) _ version_delimited version_none
+      (encoding_fault_first integer VersionFault version_fault_first)
+      (λ _. next (next (next (next (next (next (next (next no_fault_first))))))))
+    where
+      next : {RestFault : ErrorKind → List ℕ → Type 0} → AreFirst RestFault
+          → AreFirst (PartsFault encoding Fault RestFault)
+      next {RestFault} rest = then_fault_first encoding Fault (λ _. RestFault) d none first (λ _. rest)
 
   -- their list
   abbrev Listed : List (OtherPrime V) → List ℕ → Type 0
@@ -244,85 +222,25 @@ module _ {V : Type 0} (encoding : V → List ℕ → Type 0) (Fault : ErrorKind 
   others_fault_first first n j k c within (inr (f, inr p)) (inr (g, inl q)) = absurd (p.0 q.0)
   others_fault_first first n j k c within (inr (f, inr p)) (inr (g, inr q)) = p.1.1 ∙ sym q.1.1
 
--- Versions.
-pub version_fault_none : AreNone (NoneHas VersionContents) VersionFault
-version_fault_none k c within (inl f) = let told = small_fault_none k c within f in (told.0, λ n p. told.1 n p.1)
-version_fault_none k c within (inr (m, is, big, e)) =
-    (is_value e, λ n p. let same : m ≡ n = small_means_one m n c is p.1 in omega (arith, big, same, p.0))
-
-pub version_fault_first : AreFirst VersionFault
-version_fault_first j k c within (inl f) (inl g) = small_fault_first j k c within f g
-version_fault_first j k c within (inl f) (inr (m, is, big, e)) = absurd ((small_fault_none j c within f).1 m is)
-version_fault_first j k c within (inr (m, is, big, e)) (inl g) = absurd ((small_fault_none k c within g).1 m is)
-version_fault_first j k c within (inr (m, is, big, e)) (inr (n, are, more, f)) = e ∙ sym f
-
-abbrev VersionEncoding : ℕ → List ℕ → Type 0
-VersionEncoding n encoding = Tlv 2 (VersionContents n) encoding
-
-version_none : AreNone (NoneIn VersionEncoding) (EncodingFault integer VersionFault)
-version_none = encoding_fault_none integer VersionFault VersionContents version_fault_none
-
-version_delimited : IsDelimited VersionEncoding
-version_delimited = tlv_delimited 2 VersionContents version_means_one
-
-as_version : (n : ℕ) (encoding : List ℕ) → n < 2 → Small n encoding → VersionEncoding n encoding
-as_version n encoding l p =
-    record { octets = p.octets; contents = p.contents; counted = p.counted; holds = (l, p.holds); written = p.written }
-
 -- Private keys.
 module _ {V : Type 0} (encoding : V → List ℕ → Type 0) (Fault : ErrorKind → List ℕ → Type 0) (d : IsDelimited encoding)
     (none : AreNone (NoneIn encoding) Fault) where
-  abbrev OfVersion : ℕ → Type 0
-  OfVersion n = (key : PrivateKey V) × (version_of key.other_prime_infos ≡ n)
-
-  abbrev others_of : PrivateKey V → List ℕ → Type 0
-  others_of key c = Joins (OtherPrimeInfos encoding key.other_prime_infos ∷ []) c
-
-  behind_version : (n : ℕ) → AreNone
-      (λ c. (key : PrivateKey V) → version_of key.other_prime_infos ≡ n
-      → Joins (map encoding (key_numbers key) ++ OtherPrimeInfos encoding key.other_prime_infos ∷ []) c → ⊥)
-      (ThenFault (Counted 8 encoding) (CountedFault 8 encoding Fault) (λ _. OthersFault encoding Fault n))
-  behind_version n k c within fault =
-      let told =
-      then_fault_none (Counted 8 encoding) (CountedFault 8 encoding Fault) (λ _. OthersFault encoding Fault n)
-      (counted_delimited encoding Fault d none 8 (omega arith)) (counted_fault_none encoding Fault d none 8)
-      (λ (v : OfVersion n). key_numbers v.0) (λ v. others_of v.0)
-      (λ numbers j b few f. let t = others_fault_none encoding Fault d none n j b few f in
-      (t.0, λ v _ p. t.1 v.0.other_prime_infos v.1 (joins_last b p))) k c within fault in (
-        told.0,
-        λ key agree p. let s = joins_take (map encoding (key_numbers key))
-            (OtherPrimeInfos encoding key.other_prime_infos ∷ []) c p in
-            told.1 (key, agree) (s.0, s.1, (refl, s.2), s.3, s.4),
-      )
-
   pub private_key_fault_none : AreNone (NoneHas (PrivateKeyContents encoding)) (PrivateKeyFault encoding Fault)
   private_key_fault_none k c within fault =
       let told =
-      then_fault_none VersionEncoding (EncodingFault integer VersionFault)
-      (λ n. ThenFault (Counted 8 encoding) (CountedFault 8 encoding Fault) (λ _. OthersFault encoding Fault n))
-      version_delimited version_none
-      (λ (key : PrivateKey V). version_of key.other_prime_infos)
-      (λ key b. Joins (map encoding (key_numbers key) ++ OtherPrimeInfos encoding key.other_prime_infos ∷ []) b)
-      (λ n j b few f. let t = behind_version n j b few f in (t.0, λ key agree p. t.1 key agree p)) k c within fault in (
-        told.0,
-        λ key p. told.1 key (
-          p.0,
-          p.1,
-          as_version (version_of key.other_prime_infos) p.0 (version_small key.other_prime_infos) p.2,
-          p.3,
-          p.4,
-        ),
-      )
+      then_fault_none (FrontContents encoding) (FrontFault encoding Fault)
+      (λ front. OthersFault encoding Fault front.0) (front_is_delimited d)
+      (front_fault_none encoding Fault d none) front_parts (λ key b. LastContents (OtherPrimeList encoding) key.other_prime_infos b)
+      (λ front j b few f. let t = others_fault_none encoding Fault d none front.0 j b few f in
+      (t.0, λ key same p. t.1 key.other_prime_infos (ap (λ parts. parts.0) same) (joins_last b p))) k c within fault in
+      (told.0, λ key p. told.1 key (in_front encoding key c p))
 
   pub private_key_fault_first : AreFirst Fault → AreFirst (PrivateKeyFault encoding Fault)
   private_key_fault_first first =
-      then_fault_first VersionEncoding (EncodingFault integer VersionFault)
-      (λ n. ThenFault (Counted 8 encoding) (CountedFault 8 encoding Fault) (λ _. OthersFault encoding Fault n))
-      version_delimited version_none
-      (encoding_fault_first integer VersionFault version_fault_first)
-      (λ n. then_fault_first (Counted 8 encoding) (CountedFault 8 encoding Fault) (λ _. OthersFault encoding Fault n)
-      (counted_delimited encoding Fault d none 8 (omega arith)) (counted_fault_none encoding Fault d none 8)
-      (counted_fault_first encoding Fault d none 8 first) (λ _. others_fault_first encoding Fault d none first n))
+      then_fault_first (FrontContents encoding) (FrontFault encoding Fault)
+      (λ front. OthersFault encoding Fault front.0) (front_is_delimited d)
+      (front_fault_none encoding Fault d none) (front_fault_first encoding Fault d none first)
+      (λ front. others_fault_first encoding Fault d none first front.0)
 
   pub private_told : AreFirst Fault → AreTold (PrivateKeyEncoding encoding) (PrivateKeyEncodingFault encoding Fault)
   private_told first =

@@ -1,31 +1,24 @@
 use Rattle.std.proofs.lemmas.Result.{err_from_is_err_and}
 use Rattle.der_core.specs.Integer.{Integer}
-use Rattle.der_core.specs.Tlv.{Tlv}
+use Rattle.der_core.specs.Laws.Rows.{faults_asking}
+use Rattle.pkcs1.specs.KeyFaults.{NumberFault, PrivateKeyFault}
+use Rattle.pkcs1.proofs.KeyMemory.{Borrowed, view_asks_none}
+use Rattle.pkcs1.proofs.KeyReads.{front_of, key_front_faults, key_given, key_others_faults}
 use Rattle.der_core.specs.UintRefValue.{bytes_of}
-use Rattle.pkcs1.specs.PrivateKeyValue.{numbers_of}
-use Rattle.pkcs1.proofs.KeyReads.{version_faults, key_numbers_faults, key_others_faults, key_given, no_asking}
-use Rattle.pkcs1.specs.KeyFaults.{NumberFault}
 use Rattle.pkcs1.proofs.view.ViewedKeyDecodeValueRefSliceU8NoMemory.decode_value.Goals as goal
 
 pub returns-in_err-version : goal.returns-in_err-version
 returns-in_err-version g c =
     let p = err_from_is_err_and c.from_residual.result c.from_residual.ensures.1 in
-    rw (p.1, p.2) (no_asking Integer NumberFault
-    (version_faults Integer NumberFault (Tlv 2 (λ _. ⊥)) (λ _. ⊥) c.in_err-version.ensures))
+    rw (p.1, p.2) (faults_asking (PrivateKeyFault Integer NumberFault) view_asks_none
+    (key_front_faults Integer NumberFault Borrowed (λ _. ⊥) c.in_err-version.ensures))
 
-pub returns-in_err-key : goal.returns-in_err-key
-returns-in_err-key g c =
-    let p = err_from_is_err_and c.from_residual-in_err-key.result c.from_residual-in_err-key.ensures.1 in
-    rw (p.1, p.2) (no_asking Integer NumberFault
-    (key_numbers_faults Integer NumberFault (Tlv 2 (λ _. ⊥)) (λ _. ⊥) c.in_ok-version.ensures
-    c.in_err-key.ensures.err))
-
-pub returns-in_err-key-2 : goal.returns-in_err-key-2
-returns-in_err-key-2 g c =
-    let p = err_from_is_err_and c.from_residual-in_err-key-2.result c.from_residual-in_err-key-2.ensures.1 in
-    rw (p.1, p.2) (no_asking Integer NumberFault
-    (key_others_faults Integer NumberFault (Tlv 2 (λ _. ⊥)) (λ _. ⊥) (numbers_of bytes_of c.in_ok-key.key)
-    c.in_ok-version.ensures c.in_ok-key.ensures.ok c.in_err-key-2.ensures))
+pub returns-in_err-others : goal.returns-in_err-others
+returns-in_err-others g c =
+    let p = err_from_is_err_and c.from_residual-in_err-others.result c.from_residual-in_err-others.ensures.1 in
+    let front = front_of bytes_of c.in_ok-version.version c.in_ok-version.numbers in
+    rw (p.1, p.2) (faults_asking (PrivateKeyFault Integer NumberFault) view_asks_none
+    (key_others_faults Integer NumberFault Borrowed (λ _. ⊥) front c.in_ok-version.ensures c.in_err-others.ensures))
 
 pub returns : goal.returns
-returns g c = key_given Integer _ c.in_ok-version.ensures c.in_ok-key.ensures.ok c.in_ok-key-2.ensures
+returns g c = rw c.key_of.ensures (key_given Integer _ c.in_ok-version.ensures c.in_ok-others.ensures)

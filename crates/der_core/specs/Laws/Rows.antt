@@ -1,0 +1,159 @@
+-- Rows of parts with what is written of them, put together part by part; and contents that are a row in front of others
+-- that depend on it.
+use Rattle.std.proofs.Common.{ℕ, List, [], ◌++◌, ◌≡◌, refl, sym, ap, ◌∙◌, append_assoc, inl, inr, ⊎_elim, Option, Some}
+use Rattle.std.proofs.Common.{None}
+use Rattle.std.specs.Prelude.{◌⊎◌}
+use Rattle.der_core.specs.declared.error.ErrorKind.{ErrorKind}
+use Rattle.der_core.specs.Encodings.{Then}
+use Rattle.der_core.specs.Faults.{ThenFault}
+use Rattle.der_core.specs.Input.{Input}
+use Rattle.der_core.specs.Optional.{HasOptional, written_optional}
+use Rattle.der_core.specs.Parts.{AllocatesInFront, HaveParts, LastContents, NoParts, PartsContents, written_parts}
+use Rattle.der_core.specs.Reading.{AllocatesBehind}
+use Rattle.der_core.specs.SequenceOf.{AllHave, ItemsContents, all_encodings}
+use Rattle.der_core.specs.Tlv.{Tlv, tlv}
+use Rattle.der_core.specs.Writing.{WritesEncodings, WritesLeast}
+use Rattle.der_core.specs.Laws.Encodings.{tlv_relates, tlv_shortest}
+use Rattle.der_core.specs.Laws.Parts.{last_part_relates, last_part_shortest, no_parts_relate, no_parts_shortest}
+use Rattle.der_core.specs.Laws.Parts.{parts_relate, parts_shortest}
+use Rattle.der_core.specs.Laws.SequenceOf.{items_relate, items_shortest}
+use Rattle.der_core.specs.Laws.Sequences.{ContentsFaulty, ContentsGive, some_same}
+
+-- Contents, which values have some, what is written of these, and that it is their shortest.
+pub record Written (V : Type 0) : Type 1 where
+  pub contents : V → List ℕ → Type 0
+  pub has : V → Type 0
+  pub write : V → List ℕ
+  pub relate : WritesEncodings contents has write
+  pub least : WritesLeast contents has write
+
+-- The same of these, by their order.
+abbrev pub as_written : {V : Type 0} (contents : V → List ℕ → Type 0) (has : V → Type 0) (write : V → List ℕ)
+    → WritesEncodings contents has write → WritesLeast contents has write → Written V
+as_written contents has write relates shortest =
+    record { contents = contents; has = has; write = write; relate = relates; least = shortest }
+
+-- A part in front of a row.
+abbrev pub put : {A B : Type 0} → Written A → Written B → Written (A × B)
+put first rest = record {
+  contents = PartsContents first.contents rest.contents;
+  has = HaveParts first.has rest.has;
+  write = written_parts first.write rest.write;
+  relate =
+      parts_relate first.contents rest.contents first.has rest.has first.write rest.write first.relate rest.relate;
+  least =
+      parts_shortest first.contents rest.contents first.has rest.has first.write rest.write first.least rest.least;
+}
+
+-- Behind the last part.
+abbrev pub nothing : Written (Unit {0})
+nothing = record {
+  contents = NoParts;
+  has = λ _. Unit {0};
+  write = λ _. [];
+  relate = no_parts_relate;
+  least = no_parts_shortest;
+}
+
+-- A last part that is there or not.
+abbrev pub last_part : {V : Type 0} → Written V → Written (Option V)
+last_part part = record {
+  contents = LastContents part.contents;
+  has = HasOptional part.has;
+  write = written_optional part.write;
+  relate = last_part_relates part.contents part.has part.write part.relate;
+  least = last_part_shortest part.contents part.has part.write part.least;
+}
+
+-- Contents with a tag in front; encodings in a row; only some of the values; values that mean others.
+abbrev pub tagged : {V : Type 0} → ℕ → Written V → Written V
+tagged tag w = record {
+  contents = λ v. Tlv tag (w.contents v);
+  has = w.has;
+  write = λ v. tlv tag (w.write v);
+  relate = λ v has. tlv_relates tag w.contents w.write v (w.relate v has);
+  least = tlv_shortest tag w.contents w.write w.has w.least;
+}
+
+abbrev pub items : {V : Type 0} → Written V → Written (List V)
+items w = record {
+  contents = ItemsContents w.contents;
+  has = AllHave w.has;
+  write = all_encodings w.write;
+  relate = items_relate w.contents w.has w.write w.relate;
+  least = items_shortest w.contents w.has w.write w.least;
+}
+
+abbrev pub some_of : {V : Type 0} → (V → Type 0) → Written V → Written V
+some_of Wanted w = record {
+  contents = λ v c. Wanted v × w.contents v c;
+  has = λ v. Wanted v × w.has v;
+  write = w.write;
+  relate = λ v has fits. (has.0, w.relate v has.1 fits);
+  least = λ v c p. let s = w.least v c p.1 in ((p.0, s.0), s.1, s.2);
+}
+
+abbrev pub meaning : {V W : Type 0} → (V → W) → Written W → Written V
+meaning of w = record {
+  contents = λ v. w.contents (of v);
+  has = λ v. w.has (of v);
+  write = λ v. w.write (of v);
+  relate = λ v. w.relate (of v);
+  least = λ v. w.least (of v);
+}
+
+-- A part and a row are in front of a rest: so is the longer row.
+pub row_behind : {A P Q T : List ℕ → Type 0} → ((c : List ℕ) → Q c → Then P T c) → (c : List ℕ) → Then A Q c
+    → Then (Then A P) T c
+row_behind split c (a, b, p, q, is) =
+    let s = split b q in
+    (a ++ s.0, s.1, (a, s.0, p, s.2, refl), s.3, is ∙ ap (λ l. a ++ l) s.4 ∙ sym (append_assoc a s.0 s.1))
+
+pub row_before : {A P Q T : List ℕ → Type 0} → ((c : List ℕ) → Then P T c → Q c) → (c : List ℕ) → Then (Then A P) T c
+    → Then A Q c
+row_before join c (x, y, (a, b, p, q, e), t, is) =
+    (a, b ++ y, p, join (b ++ y) (b, y, q, t, refl), is ∙ ap (λ l. l ++ y) e ∙ append_assoc a b y)
+
+-- Nothing is in front of it.
+pub nothing_before : {T : List ℕ → Type 0} (c : List ℕ) → T c → Then (λ b. b ≡ []) T c
+nothing_before c t = ([], c, refl, t, refl)
+
+pub behind_nothing : {T : List ℕ → Type 0} (c : List ℕ) → Then (λ b. b ≡ []) T c → T c
+behind_nothing c (a, b, e, t, is) = rw (is ∙ ap (λ l. l ++ b) e) t
+
+-- Reading a row, and then what depends on it.
+module _ {A : Type 0} (Row : A → List ℕ → Type 0) (RowFault : ErrorKind → List ℕ → Type 0)
+    (Behind : A → ErrorKind → List ℕ → Type 0) (asked later : List ℕ → Type 0) where
+  pub front_faults : {e : ErrorKind} {before after : Input} → ContentsFaulty RowFault asked e before after
+      → ContentsFaulty (ThenFault Row RowFault Behind) (AllocatesInFront Row asked later) e before after
+  front_faults fails = (fails.0, λ c is. ⊎_elim (λ w. inl (w.0, inl w.1)) (λ f. inr (inl f)) (fails.1 c is))
+
+  pub later_faults : {e : ErrorKind} {before mid after : Input} (x : A)
+      → ((i : List ℕ) → before ≡ Some i → Then (Row x) (λ rest. mid ≡ Some rest) i)
+      → ContentsFaulty (Behind x) later e mid after
+      → ContentsFaulty (ThenFault Row RowFault Behind) (AllocatesInFront Row asked later) e before after
+  later_faults x gives fails = (
+    fails.0,
+    λ c is.
+        let g = gives c is in
+        ⊎_elim
+        (λ w. inl (w.0, inr (x, (g.0, g.1, g.2, w.1, g.4))))
+        (λ f. inr (inr (x, (g.0, g.1, g.2, f, g.4))))
+        (fails.1 g.1 g.3),
+  )
+
+-- The same, with more said of the bytes that need memory.
+pub faults_asking : (Fault : ErrorKind → List ℕ → Type 0) {asked wanted : List ℕ → Type 0} {e : ErrorKind}
+    {before after : Input} → ((c : List ℕ) → asked c → wanted c) → ContentsFaulty Fault asked e before after
+    → ContentsFaulty Fault wanted e before after
+faults_asking Fault told fails = (fails.0, λ c is. ⊎_elim (λ w. inl (w.0, told c w.1)) inr (fails.1 c is))
+
+-- The row and what depends on it were all that was left.
+pub all_gives : {Row Rest : List ℕ → Type 0} {mid after : Input} (before : Input)
+    → (before ≡ None → mid ≡ None) × ((i : List ℕ) → before ≡ Some i → Then Row (λ rest. mid ≡ Some rest) i)
+    → ContentsGive Rest mid after → ContentsGive (Then Row Rest) before after
+all_gives None gives more = let no : ◌≡◌ {A = Input} None (Some more.0) = sym (gives.0 refl) ∙ more.1 in cc
+all_gives (Some i) gives more =
+    let g = gives.1 i refl in
+    let same : g.1 ≡ more.0 = some_same g.1 more.0 (sym g.3 ∙ more.1) in
+    (i, refl, more.2, (g.0, g.1, g.2, rw same more.3, g.4))
