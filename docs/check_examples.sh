@@ -5,7 +5,7 @@ cd "$(dirname "$0")/.."
 exec python3 - <<'END'
 import glob, re, sys
 
-CODE = {'rattle': 'crates/*/src/*.rt', 'antt': 'crates/uses/[ps]*/**/*.antt', 'c': 'ffi/c/*.c',
+CODE = {'rattle': 'crates/*/src/*.rt', 'antt': 'crates/*/[ps]*/**/*.antt', 'c': 'ffi/c/*.c',
         'rust': 'ffi/rust/examples/*.rs'}
 examples = re.findall(r'^```(\w+)\n(.*?)^```$', open('docs/USING.md').read(), re.M | re.S)
 missing = [text for language, text in examples

@@ -1,6 +1,6 @@
 #!/usr/bin/env bash
-# The shape of src/: no line of a clause has more than 120 columns, and no file of code more than 300 lines. And no crate
-# cites another's proofs/. Each place that breaks this is named.
+# The shape of src/: no line of a clause has more than 120 columns, and no file of code more than 300 lines. And src/ cites
+# no proofs/ of any crate here: what contracts and ghost members name stands in specs/. Each place that breaks this is named.
 set -eu
 cd "$(dirname "$0")/.."
 export LC_ALL=C.UTF-8
@@ -34,8 +34,8 @@ find crates -name out -prune -o -path '*/src/*' -name '*.rt' -print | sort | per
   exit $wrong;
 '
 for crate in $(ls crates); do
-    if grep -rn "Rattle\.$crate\.proofs\." crates --include='*.antt' --include='*.rt' --exclude-dir=out | grep -v "^crates/$crate/"; then
-        echo "proofs/ of $crate is its own: crates above cite specs/Laws/" >&2
+    if grep -rnE "Rattle\.$crate\.proofs\b" crates/*/src --include='*.rt'; then
+        echo "src/ (contracts and ghost members) cites no proofs/ of any crate: what it names stands in specs/" >&2
         exit 1
     fi
 done

@@ -67,7 +67,7 @@ static const unsigned char f_static_25[9] = {42, 134, 72, 134, 247, 13, 1, 1, 8}
 static const unsigned char f_static_26[9] = {42, 134, 72, 134, 247, 13, 1, 1, 1};
 static const unsigned char f_static_27[9] = {42, 134, 72, 134, 247, 13, 1, 1, 10};
 static const u64 f_switch_table_pkcs1_c_status_text[22] = {9u, 23u, 72u, 47u, 57u, 98u, 92u, 102u, 47u, 52u, 101u, 90u, 70u, 102u, 99u, 42u, 25u, 20u, 14u, 14u, 14u, 49u};
-static const P f_switch_table_pkcs1_c_status_text_181[22] = {(P)f_static_2, (P)f_static_3, (P)f_static_4, (P)f_static_5, (P)f_static_6, (P)f_static_7, (P)f_static_8, (P)f_static_9, (P)f_static_10, (P)f_static_11, (P)f_static_12, (P)f_static_13, (P)f_static_14, (P)f_static_15, (P)f_static_16, (P)f_static_17, (P)f_static_18, (P)f_static_19, (P)f_static_21, (P)f_static_21, (P)f_static_21, (P)f_static_20};
+static const P f_switch_table_pkcs1_c_status_text_177[22] = {(P)f_static_2, (P)f_static_3, (P)f_static_4, (P)f_static_5, (P)f_static_6, (P)f_static_7, (P)f_static_8, (P)f_static_9, (P)f_static_10, (P)f_static_11, (P)f_static_12, (P)f_static_13, (P)f_static_14, (P)f_static_15, (P)f_static_16, (P)f_static_17, (P)f_static_18, (P)f_static_19, (P)f_static_21, (P)f_static_21, (P)f_static_21, (P)f_static_20};
 static u1 f_core_cmp_slices_groups_equal_i8_31_core_cmp_number(P v_a0, u64 v_a1, P v_a2);
 static void f_pkcs1_params_algorithm_AnyFromAlgorithm_from_algor(P v_a0, P v_a1, u64 v_a2);
 static u1 f_spki_core_object_identifier_is_identifier(P v_a0, u64 v_a1);
@@ -22156,99 +22156,99 @@ static void f_der_core_encode_AnyEncode_encoded_len_3a3c98235cfe(P v_a0, P v_a1)
     u1 p_v_r5_sroa_0_0_i_i_sink_i_i_i_i_i;
     u8 p_v_r5_sroa_4_0_i_i_sink_i_i_i_i_i;
     u32 p_v_r5_sroa_10_0_i_i_sink_i_i_i_i_i;
-    u32 p_v_r4_0_i_i_i_i_i97_i_i;
-    u1 p_v_r5_sroa_0_0_i_i_sink_i_i_i80_i_i;
-    u8 p_v_r5_sroa_4_0_i_i_sink_i_i_i81_i_i;
-    u32 p_v_r5_sroa_10_0_i_i_sink_i_i_i82_i_i;
-    u32 p_v_r4_0_i_i_i_i_i126_i_i;
-    u1 p_v_r5_sroa_0_0_i_i_sink_i_i_i109_i_i;
-    u8 p_v_r5_sroa_4_0_i_i_sink_i_i_i110_i_i;
-    u32 p_v_r5_sroa_10_0_i_i_sink_i_i_i111_i_i;
-    u32 p_v_r4_0_i_i_i_i_i155_i_i;
-    u1 p_v_r5_sroa_0_0_i_i_sink_i_i_i138_i_i;
-    u8 p_v_r5_sroa_4_0_i_i_sink_i_i_i139_i_i;
-    u32 p_v_r5_sroa_10_0_i_i_sink_i_i_i140_i_i;
-    u32 p_v_r4_0_i_i_i_i_i184_i_i;
-    u1 p_v_r5_sroa_0_0_i_i_sink_i_i_i167_i_i;
-    u8 p_v_r5_sroa_4_0_i_i_sink_i_i_i168_i_i;
-    u32 p_v_r5_sroa_10_0_i_i_sink_i_i_i169_i_i;
-    u32 p_v_r4_0_i_i_i_i_i_i_i_i;
-    u1 p_v_r5_sroa_0_0_i_i_sink_i_i_i_i_i_i;
-    u8 p_v_r5_sroa_4_0_i_i_sink_i_i_i_i_i_i;
-    u32 p_v_r5_sroa_10_0_i_i_sink_i_i_i_i_i_i;
-    u32 p_v_r4_0_i_i_i_i_i53_i_i_i;
-    u1 p_v_r5_sroa_0_0_i_i_sink_i_i_i36_i_i_i;
-    u8 p_v_r5_sroa_4_0_i_i_sink_i_i_i37_i_i_i;
-    u32 p_v_r5_sroa_10_0_i_i_sink_i_i_i38_i_i_i;
-    u32 p_v_r4_0_i_i_i_i_i82_i_i_i;
-    u32 p_v_r5_sroa_10_0_i_i_sink_i_i_i6731_i_i_i;
-    u8 p_v_r5_sroa_4_0_i_i_sink_i_i_i6628_i_i_i;
-    u1 p_v_r5_sroa_0_0_i_i_sink_i_i_i6524_i_i_i;
-    u64 p_v_r4_010_i_i_i_i_i_i_i_i_i;
-    u8 p_v_r3_sroa_0_09_i_i_i_i_i_i_i_i_i;
-    u8 p_v_r3_sroa_5_08_i_i_i_i_i_i_i_i_i;
-    u32 p_v_r3_sroa_14_07_i_i_i_i_i_i_i_i_i;
-    u32 p_v_r4_0_i_i_i_i_i_i_i_i_i_i_i_i_i_i_i_i_i;
-    u1 p_v_r5_sroa_0_0_i_i_sink_i_i_i_i_i_i_i_i_i_i_i_i_i_i_i;
-    u8 p_v_r5_sroa_4_0_i_i_sink_i_i_i_i_i_i_i_i_i_i_i_i_i_i_i;
-    u32 p_v_r5_sroa_10_0_i_i_sink_i_i_i_i_i_i_i_i_i_i_i_i_i_i_;
-    u32 p_v_r4_0_i_i_i_i_i56_i_i_i_i_i_i_i_i_i_i_i_i;
-    u1 p_v_r5_sroa_0_0_i_i_sink_i_i_i39_i_i_i_i_i_i_i_i_i_i_i;
-    u8 p_v_r5_sroa_4_0_i_i_sink_i_i_i40_i_i_i_i_i_i_i_i_i_i_i;
-    u32 p_v_r5_sroa_10_0_i_i_sink_i_i_i41_i_i_i_i_i_i_i_i_i_i_;
-    u32 p_v_r4_0_i_i_i_i_i85_i_i_i_i_i_i_i_i_i_i_i_i;
-    u1 p_v_r24_sroa_0_0_sink_i119_i_i_i_i_i_i_i_i_i_i_i_i;
-    u8 p_v_r24_sroa_4_0_sink_i120_i_i_i_i_i_i_i_i_i_i_i_i;
-    u32 p_v_r24_sroa_13_0_sink_i123_i_i_i_i_i_i_i_i_i_i_i_i;
-    u32 p_v_r4_0_i_i_i_i_i_i_i_i_i_i_i_i_i;
-    u1 p_v_r5_sroa_0_0_i_i_sink_i_i_i_i_i_i_i_i_i_i_i;
-    u8 p_v_r5_sroa_4_0_i_i_sink_i_i_i_i_i_i_i_i_i_i_i;
-    u32 p_v_r5_sroa_10_0_i_i_sink_i_i_i_i_i_i_i_i_i_i_i;
-    u8 p_v_r24_sroa_0_0_sink_i_i_i_i_i_i_i_i_i_i;
-    u8 p_v_r24_sroa_4_0_sink_i_i_i_i_i_i_i_i_i_i;
-    u32 p_v_r24_sroa_13_0_sink_i_i_i_i_i_i_i_i_i_i;
-    u32 p_v_r4_0_i_i_i_i_i_i_i_i_i;
-    u1 p_v_r3_i_sroa_0_0_sink_i_i_i_i;
-    u8 p_v_r3_i_sroa_6_0_sink_i_i_i_i;
-    u8 p_v_sink_i_i_i_i;
-    u32 p_v_r3_i_sroa_12_0_sink_i_i_i_i;
-    u32 p_v_r5_sroa_10_0_i_i_sink_i_i_i6729_i_i_i;
-    u32 p_v_r3_i_sroa_12_0_sink_i1116_i_i_i;
-    u1 p_v_r24_sroa_0_0_sink_i_i_i_i;
-    u8 p_v_r24_sroa_4_0_sink_i_i_i_i;
-    u8 p_v_r24_sroa_7_0_sink_i_i_i_i;
-    u32 p_v_r24_sroa_13_0_sink_i_i_i_i;
-    u1 p_v_r24_sroa_0_0_sink_i115_i_i_i;
-    u8 p_v_r24_sroa_4_0_sink_i116_i_i_i;
-    u8 p_v_r24_sroa_7_0_sink_i117_i_i_i;
-    u32 p_v_r24_sroa_13_0_sink_i119_i_i_i;
-    u1 p_v_r24_sroa_0_0_sink_i154_i_i_i;
-    u8 p_v_r24_sroa_4_0_sink_i155_i_i_i;
-    u8 p_v_r24_sroa_7_0_sink_i156_i_i_i;
-    u32 p_v_r24_sroa_13_0_sink_i158_i_i_i;
+    u32 p_v_r4_0_i_i_i_i_i170_i_i;
+    u1 p_v_r5_sroa_0_0_i_i_sink_i_i_i153_i_i;
+    u8 p_v_r5_sroa_4_0_i_i_sink_i_i_i154_i_i;
+    u32 p_v_r5_sroa_10_0_i_i_sink_i_i_i155_i_i;
+    u32 p_v_r4_0_i_i_i_i_i199_i_i;
+    u1 p_v_r5_sroa_0_0_i_i_sink_i_i_i182_i_i;
+    u8 p_v_r5_sroa_4_0_i_i_sink_i_i_i183_i_i;
+    u32 p_v_r5_sroa_10_0_i_i_sink_i_i_i184_i_i;
+    u32 p_v_r4_0_i_i_i_i_i228_i_i;
+    u1 p_v_r5_sroa_0_0_i_i_sink_i_i_i211_i_i;
+    u8 p_v_r5_sroa_4_0_i_i_sink_i_i_i212_i_i;
+    u32 p_v_r5_sroa_10_0_i_i_sink_i_i_i213_i_i;
+    u32 p_v_r4_0_i_i_i_i_i257_i_i;
+    u1 p_v_r5_sroa_0_0_i_i_sink_i_i_i240_i_i;
+    u8 p_v_r5_sroa_4_0_i_i_sink_i_i_i241_i_i;
+    u32 p_v_r5_sroa_10_0_i_i_sink_i_i_i242_i_i;
+    u32 p_v_r4_0_i_i_i_i_i286_i_i;
+    u1 p_v_r5_sroa_0_0_i_i_sink_i_i_i269_i_i;
+    u8 p_v_r5_sroa_4_0_i_i_sink_i_i_i270_i_i;
+    u32 p_v_r5_sroa_10_0_i_i_sink_i_i_i271_i_i;
+    u32 p_v_r4_0_i_i_i_i_i315_i_i;
+    u1 p_v_r5_sroa_0_0_i_i_sink_i_i_i298_i_i;
+    u8 p_v_r5_sroa_4_0_i_i_sink_i_i_i299_i_i;
+    u32 p_v_r5_sroa_10_0_i_i_sink_i_i_i300_i_i;
+    u32 p_v_r4_0_i_i_i_i_i344_i_i;
+    u32 p_v_r5_sroa_10_0_i_i_sink_i_i_i329760_i_i;
+    u8 p_v_r5_sroa_4_0_i_i_sink_i_i_i328757_i_i;
+    u1 p_v_r5_sroa_0_0_i_i_sink_i_i_i327753_i_i;
+    u64 p_v_r4_010_i_i_i_i_i_i_i;
+    u8 p_v_r3_sroa_0_09_i_i_i_i_i_i_i;
+    u8 p_v_r3_sroa_5_08_i_i_i_i_i_i_i;
+    u32 p_v_r3_sroa_14_07_i_i_i_i_i_i_i;
+    u32 p_v_r4_0_i_i_i_i_i_i_i_i_i_i_i_i_i_i_i;
+    u1 p_v_r5_sroa_0_0_i_i_sink_i_i_i_i_i_i_i_i_i_i_i_i_i;
+    u8 p_v_r5_sroa_4_0_i_i_sink_i_i_i_i_i_i_i_i_i_i_i_i_i;
+    u32 p_v_r5_sroa_10_0_i_i_sink_i_i_i_i_i_i_i_i_i_i_i_i_i;
+    u32 p_v_r4_0_i_i_i_i_i56_i_i_i_i_i_i_i_i_i_i;
+    u1 p_v_r5_sroa_0_0_i_i_sink_i_i_i39_i_i_i_i_i_i_i_i_i_i;
+    u8 p_v_r5_sroa_4_0_i_i_sink_i_i_i40_i_i_i_i_i_i_i_i_i_i;
+    u32 p_v_r5_sroa_10_0_i_i_sink_i_i_i41_i_i_i_i_i_i_i_i_i_i;
+    u32 p_v_r4_0_i_i_i_i_i85_i_i_i_i_i_i_i_i_i_i;
+    u1 p_v_r24_sroa_0_0_sink_i119_i_i_i_i_i_i_i_i_i_i;
+    u8 p_v_r24_sroa_4_0_sink_i120_i_i_i_i_i_i_i_i_i_i;
+    u32 p_v_r24_sroa_13_0_sink_i123_i_i_i_i_i_i_i_i_i_i;
+    u32 p_v_r4_0_i_i_i_i_i_i_i_i_i_i_i;
+    u1 p_v_r5_sroa_0_0_i_i_sink_i_i_i_i_i_i_i_i_i;
+    u8 p_v_r5_sroa_4_0_i_i_sink_i_i_i_i_i_i_i_i_i;
+    u32 p_v_r5_sroa_10_0_i_i_sink_i_i_i_i_i_i_i_i_i;
+    u8 p_v_r24_sroa_0_0_sink_i_i_i_i_i_i_i_i;
+    u8 p_v_r24_sroa_4_0_sink_i_i_i_i_i_i_i_i;
+    u32 p_v_r24_sroa_13_0_sink_i_i_i_i_i_i_i_i;
+    u32 p_v_r4_0_i_i_i_i_i379_i_i;
+    u32 p_v_r3_i93_sroa_15_0_i_i;
+    u8 p_v_r3_i93_sroa_9_0_i_i;
+    u8 p_v_r3_i93_sroa_6_0_i_i;
+    u1 p_v_r3_i93_sroa_0_0_i_i;
+    u32 p_v_r5_sroa_10_0_i_i_sink_i_i_i329758_i_i;
+    u32 p_v_r3_i93_sroa_15_0731742_i_i;
     u1 p_v_r24_sroa_0_0_sink_i_i_i;
     u8 p_v_r24_sroa_4_0_sink_i_i_i;
     u8 p_v_r24_sroa_7_0_sink_i_i_i;
     u32 p_v_r24_sroa_13_0_sink_i_i_i;
-    u1 p_v_r24_sroa_0_0_sink_i219_i_i;
-    u8 p_v_r24_sroa_4_0_sink_i220_i_i;
-    u8 p_v_r24_sroa_7_0_sink_i221_i_i;
-    u32 p_v_r24_sroa_13_0_sink_i223_i_i;
-    u1 p_v_r24_sroa_0_0_sink_i258_i_i;
-    u8 p_v_r24_sroa_4_0_sink_i259_i_i;
-    u8 p_v_r24_sroa_7_0_sink_i260_i_i;
-    u32 p_v_r24_sroa_13_0_sink_i262_i_i;
-    u1 p_v_r24_sroa_0_0_sink_i297_i_i;
-    u8 p_v_r24_sroa_4_0_sink_i298_i_i;
-    u8 p_v_r24_sroa_7_0_sink_i299_i_i;
-    u32 p_v_r24_sroa_13_0_sink_i301_i_i;
+    u1 p_v_r24_sroa_0_0_sink_i416_i_i;
+    u8 p_v_r24_sroa_4_0_sink_i417_i_i;
+    u8 p_v_r24_sroa_7_0_sink_i418_i_i;
+    u32 p_v_r24_sroa_13_0_sink_i420_i_i;
+    u1 p_v_r24_sroa_0_0_sink_i455_i_i;
+    u8 p_v_r24_sroa_4_0_sink_i456_i_i;
+    u8 p_v_r24_sroa_7_0_sink_i457_i_i;
+    u32 p_v_r24_sroa_13_0_sink_i459_i_i;
+    u1 p_v_r24_sroa_0_0_sink_i494_i_i;
+    u8 p_v_r24_sroa_4_0_sink_i495_i_i;
+    u8 p_v_r24_sroa_7_0_sink_i496_i_i;
+    u32 p_v_r24_sroa_13_0_sink_i498_i_i;
+    u1 p_v_r24_sroa_0_0_sink_i533_i_i;
+    u8 p_v_r24_sroa_4_0_sink_i534_i_i;
+    u8 p_v_r24_sroa_7_0_sink_i535_i_i;
+    u32 p_v_r24_sroa_13_0_sink_i537_i_i;
+    u1 p_v_r24_sroa_0_0_sink_i572_i_i;
+    u8 p_v_r24_sroa_4_0_sink_i573_i_i;
+    u8 p_v_r24_sroa_7_0_sink_i574_i_i;
+    u32 p_v_r24_sroa_13_0_sink_i576_i_i;
+    u1 p_v_r24_sroa_0_0_sink_i611_i_i;
+    u8 p_v_r24_sroa_4_0_sink_i612_i_i;
+    u8 p_v_r24_sroa_7_0_sink_i613_i_i;
+    u32 p_v_r24_sroa_13_0_sink_i615_i_i;
     u32 p_v_r4_0_i_i_i;
     u8 p_v_r5_sroa_0_0_i_i_sink_i;
     u8 p_v_r5_sroa_4_0_i_i_sink_i;
     u8 p_v_sink_i;
     u32 p_v_r5_sroa_10_0_i_i_sink_i;
     P v_r25_i_i;
-    u8 v_r3_i69_i_i;
+    u8 v_r3_i139_i_i;
     u1 v_0;
     P v_1;
     u64 v_r4_val_i_i_i;
@@ -22256,7 +22256,7 @@ static void f_der_core_encode_AnyEncode_encoded_len_3a3c98235cfe(P v_a0, P v_a1)
     P v_2;
     u64 v_r6_i_val_val_i_i;
     P v_3;
-    u64 v_r6_i_val_val64_i_i;
+    u64 v_r6_i_val_val130_i_i;
     u64 v_r10_i_i_i_i_i_i;
     u1 v_r12_not_i_i_i_i_i_i_i;
     u64 v_r4_sroa_10_0_i_i9_i_i_i_i_i;
@@ -22279,385 +22279,385 @@ static void f_der_core_encode_AnyEncode_encoded_len_3a3c98235cfe(P v_a0, P v_a1)
     P v_4;
     u64 v_r6_i7_val_val_i_i;
     P v_5;
-    u64 v_r6_i7_val_val65_i_i;
-    u64 v_r10_i_i_i_i76_i_i;
-    u1 v_r12_not_i_i_i_i_i77_i_i;
-    u64 v_r4_sroa_10_0_i_i9_i_i_i78_i_i;
-    u32 v_r4_sroa_10_0_i_i_i_i_i79_i_i;
-    u1 v_r12_i_i_i_i_i88_i_i;
-    u1 v_r17_i_i_i_i_i90_i_i;
-    u1 v_r22_i_i_i_i_i92_i_i;
-    u1 v_r27_i_i_i_i_i93_i_i;
-    u32 v_i_i_i_i_i94_i_i;
-    u32 v_r8_0_i_i_i_i_i95_i_i;
-    u32 v_r4_0_i_i_i_i_i97_i_i;
-    u32 v_r5_i_i_i_i_i_i98_i_i;
-    u1 v_r7_i_not_i_i_i_i_i99_i_i;
-    u32 v_r11_i_i_i_i_i_i100_i_i;
-    u8 v_r5_sroa_4_0_i_i_i_i_i102_i_i;
-    u32 v_r5_sroa_10_0_i_i_i_i_i103_i_i;
-    u1 v_r5_sroa_0_0_i_i_sink_i_i_i80_i_i;
-    u8 v_r5_sroa_4_0_i_i_sink_i_i_i81_i_i;
-    u32 v_r5_sroa_10_0_i_i_sink_i_i_i82_i_i;
+    u64 v_r6_i7_val_val131_i_i;
+    u64 v_r10_i_i_i_i149_i_i;
+    u1 v_r12_not_i_i_i_i_i150_i_i;
+    u64 v_r4_sroa_10_0_i_i9_i_i_i151_i_i;
+    u32 v_r4_sroa_10_0_i_i_i_i_i152_i_i;
+    u1 v_r12_i_i_i_i_i161_i_i;
+    u1 v_r17_i_i_i_i_i163_i_i;
+    u1 v_r22_i_i_i_i_i165_i_i;
+    u1 v_r27_i_i_i_i_i166_i_i;
+    u32 v_i_i_i_i_i167_i_i;
+    u32 v_r8_0_i_i_i_i_i168_i_i;
+    u32 v_r4_0_i_i_i_i_i170_i_i;
+    u32 v_r5_i_i_i_i_i_i171_i_i;
+    u1 v_r7_i_not_i_i_i_i_i172_i_i;
+    u32 v_r11_i_i_i_i_i_i173_i_i;
+    u8 v_r5_sroa_4_0_i_i_i_i_i175_i_i;
+    u32 v_r5_sroa_10_0_i_i_i_i_i176_i_i;
+    u1 v_r5_sroa_0_0_i_i_sink_i_i_i153_i_i;
+    u8 v_r5_sroa_4_0_i_i_sink_i_i_i154_i_i;
+    u32 v_r5_sroa_10_0_i_i_sink_i_i_i155_i_i;
     P v_6;
     u64 v_r6_i19_val_val_i_i;
     P v_7;
-    u64 v_r6_i19_val_val66_i_i;
-    u64 v_r10_i_i_i_i105_i_i;
-    u1 v_r12_not_i_i_i_i_i106_i_i;
-    u64 v_r4_sroa_10_0_i_i9_i_i_i107_i_i;
-    u32 v_r4_sroa_10_0_i_i_i_i_i108_i_i;
-    u1 v_r12_i_i_i_i_i117_i_i;
-    u1 v_r17_i_i_i_i_i119_i_i;
-    u1 v_r22_i_i_i_i_i121_i_i;
-    u1 v_r27_i_i_i_i_i122_i_i;
-    u32 v_i_i_i_i_i123_i_i;
-    u32 v_r8_0_i_i_i_i_i124_i_i;
-    u32 v_r4_0_i_i_i_i_i126_i_i;
-    u32 v_r5_i_i_i_i_i_i127_i_i;
-    u1 v_r7_i_not_i_i_i_i_i128_i_i;
-    u32 v_r11_i_i_i_i_i_i129_i_i;
-    u8 v_r5_sroa_4_0_i_i_i_i_i131_i_i;
-    u32 v_r5_sroa_10_0_i_i_i_i_i132_i_i;
-    u1 v_r5_sroa_0_0_i_i_sink_i_i_i109_i_i;
-    u8 v_r5_sroa_4_0_i_i_sink_i_i_i110_i_i;
-    u32 v_r5_sroa_10_0_i_i_sink_i_i_i111_i_i;
+    u64 v_r6_i19_val_val132_i_i;
+    u64 v_r10_i_i_i_i178_i_i;
+    u1 v_r12_not_i_i_i_i_i179_i_i;
+    u64 v_r4_sroa_10_0_i_i9_i_i_i180_i_i;
+    u32 v_r4_sroa_10_0_i_i_i_i_i181_i_i;
+    u1 v_r12_i_i_i_i_i190_i_i;
+    u1 v_r17_i_i_i_i_i192_i_i;
+    u1 v_r22_i_i_i_i_i194_i_i;
+    u1 v_r27_i_i_i_i_i195_i_i;
+    u32 v_i_i_i_i_i196_i_i;
+    u32 v_r8_0_i_i_i_i_i197_i_i;
+    u32 v_r4_0_i_i_i_i_i199_i_i;
+    u32 v_r5_i_i_i_i_i_i200_i_i;
+    u1 v_r7_i_not_i_i_i_i_i201_i_i;
+    u32 v_r11_i_i_i_i_i_i202_i_i;
+    u8 v_r5_sroa_4_0_i_i_i_i_i204_i_i;
+    u32 v_r5_sroa_10_0_i_i_i_i_i205_i_i;
+    u1 v_r5_sroa_0_0_i_i_sink_i_i_i182_i_i;
+    u8 v_r5_sroa_4_0_i_i_sink_i_i_i183_i_i;
+    u32 v_r5_sroa_10_0_i_i_sink_i_i_i184_i_i;
     P v_8;
     u64 v_r6_i31_val_val_i_i;
     P v_9;
-    u64 v_r6_i31_val_val67_i_i;
-    u64 v_r10_i_i_i_i134_i_i;
-    u1 v_r12_not_i_i_i_i_i135_i_i;
-    u64 v_r4_sroa_10_0_i_i9_i_i_i136_i_i;
-    u32 v_r4_sroa_10_0_i_i_i_i_i137_i_i;
-    u1 v_r12_i_i_i_i_i146_i_i;
-    u1 v_r17_i_i_i_i_i148_i_i;
-    u1 v_r22_i_i_i_i_i150_i_i;
-    u1 v_r27_i_i_i_i_i151_i_i;
-    u32 v_i_i_i_i_i152_i_i;
-    u32 v_r8_0_i_i_i_i_i153_i_i;
-    u32 v_r4_0_i_i_i_i_i155_i_i;
-    u32 v_r5_i_i_i_i_i_i156_i_i;
-    u1 v_r7_i_not_i_i_i_i_i157_i_i;
-    u32 v_r11_i_i_i_i_i_i158_i_i;
-    u8 v_r5_sroa_4_0_i_i_i_i_i160_i_i;
-    u32 v_r5_sroa_10_0_i_i_i_i_i161_i_i;
-    u1 v_r5_sroa_0_0_i_i_sink_i_i_i138_i_i;
-    u8 v_r5_sroa_4_0_i_i_sink_i_i_i139_i_i;
-    u32 v_r5_sroa_10_0_i_i_sink_i_i_i140_i_i;
+    u64 v_r6_i31_val_val133_i_i;
+    u64 v_r10_i_i_i_i207_i_i;
+    u1 v_r12_not_i_i_i_i_i208_i_i;
+    u64 v_r4_sroa_10_0_i_i9_i_i_i209_i_i;
+    u32 v_r4_sroa_10_0_i_i_i_i_i210_i_i;
+    u1 v_r12_i_i_i_i_i219_i_i;
+    u1 v_r17_i_i_i_i_i221_i_i;
+    u1 v_r22_i_i_i_i_i223_i_i;
+    u1 v_r27_i_i_i_i_i224_i_i;
+    u32 v_i_i_i_i_i225_i_i;
+    u32 v_r8_0_i_i_i_i_i226_i_i;
+    u32 v_r4_0_i_i_i_i_i228_i_i;
+    u32 v_r5_i_i_i_i_i_i229_i_i;
+    u1 v_r7_i_not_i_i_i_i_i230_i_i;
+    u32 v_r11_i_i_i_i_i_i231_i_i;
+    u8 v_r5_sroa_4_0_i_i_i_i_i233_i_i;
+    u32 v_r5_sroa_10_0_i_i_i_i_i234_i_i;
+    u1 v_r5_sroa_0_0_i_i_sink_i_i_i211_i_i;
+    u8 v_r5_sroa_4_0_i_i_sink_i_i_i212_i_i;
+    u32 v_r5_sroa_10_0_i_i_sink_i_i_i213_i_i;
     P v_10;
     u64 v_r6_i43_val_val_i_i;
     P v_11;
-    u64 v_r6_i43_val_val68_i_i;
-    u64 v_r10_i_i_i_i163_i_i;
-    u1 v_r12_not_i_i_i_i_i164_i_i;
-    u64 v_r4_sroa_10_0_i_i9_i_i_i165_i_i;
-    u32 v_r4_sroa_10_0_i_i_i_i_i166_i_i;
-    u1 v_r12_i_i_i_i_i175_i_i;
-    u1 v_r17_i_i_i_i_i177_i_i;
-    u1 v_r22_i_i_i_i_i179_i_i;
-    u1 v_r27_i_i_i_i_i180_i_i;
-    u32 v_i_i_i_i_i181_i_i;
-    u32 v_r8_0_i_i_i_i_i182_i_i;
-    u32 v_r4_0_i_i_i_i_i184_i_i;
-    u32 v_r5_i_i_i_i_i_i185_i_i;
-    u1 v_r7_i_not_i_i_i_i_i186_i_i;
-    u32 v_r11_i_i_i_i_i_i187_i_i;
-    u8 v_r5_sroa_4_0_i_i_i_i_i189_i_i;
-    u32 v_r5_sroa_10_0_i_i_i_i_i190_i_i;
-    u1 v_r5_sroa_0_0_i_i_sink_i_i_i167_i_i;
-    u8 v_r5_sroa_4_0_i_i_sink_i_i_i168_i_i;
-    u32 v_r5_sroa_10_0_i_i_sink_i_i_i169_i_i;
+    u64 v_r6_i43_val_val134_i_i;
+    u64 v_r10_i_i_i_i236_i_i;
+    u1 v_r12_not_i_i_i_i_i237_i_i;
+    u64 v_r4_sroa_10_0_i_i9_i_i_i238_i_i;
+    u32 v_r4_sroa_10_0_i_i_i_i_i239_i_i;
+    u1 v_r12_i_i_i_i_i248_i_i;
+    u1 v_r17_i_i_i_i_i250_i_i;
+    u1 v_r22_i_i_i_i_i252_i_i;
+    u1 v_r27_i_i_i_i_i253_i_i;
+    u32 v_i_i_i_i_i254_i_i;
+    u32 v_r8_0_i_i_i_i_i255_i_i;
+    u32 v_r4_0_i_i_i_i_i257_i_i;
+    u32 v_r5_i_i_i_i_i_i258_i_i;
+    u1 v_r7_i_not_i_i_i_i_i259_i_i;
+    u32 v_r11_i_i_i_i_i_i260_i_i;
+    u8 v_r5_sroa_4_0_i_i_i_i_i262_i_i;
+    u32 v_r5_sroa_10_0_i_i_i_i_i263_i_i;
+    u1 v_r5_sroa_0_0_i_i_sink_i_i_i240_i_i;
+    u8 v_r5_sroa_4_0_i_i_sink_i_i_i241_i_i;
+    u32 v_r5_sroa_10_0_i_i_sink_i_i_i242_i_i;
     P v_12;
-    u64 v_r13_val_val_i_i_i;
+    u64 v_r13_i65_val_val_i_i;
     P v_13;
-    u64 v_r13_val_val26_i_i_i;
-    u64 v_r10_i_i_i_i_i_i_i;
-    u1 v_r12_not_i_i_i_i_i_i_i_i;
-    u64 v_r4_sroa_10_0_i_i9_i_i_i_i_i_i;
-    u32 v_r4_sroa_10_0_i_i_i_i_i_i_i_i;
-    u1 v_r12_i_i_i_i_i_i_i_i;
-    u1 v_r17_i_i_i_i_i_i_i_i;
-    u1 v_r22_i_i_i_i_i_i_i_i;
-    u1 v_r27_i_i_i_i_i_i_i_i;
-    u32 v_i_i_i_i_i_i_i_i;
-    u32 v_r8_0_i_i_i_i_i_i_i_i;
-    u32 v_r4_0_i_i_i_i_i_i_i_i;
-    u32 v_r5_i_i_i_i_i_i_i_i_i;
-    u1 v_r7_i_not_i_i_i_i_i_i_i_i;
-    u32 v_r11_i_i_i_i_i_i_i_i_i;
-    u8 v_r5_sroa_4_0_i_i_i_i_i_i_i_i;
-    u32 v_r5_sroa_10_0_i_i_i_i_i_i_i_i;
-    u1 v_r5_sroa_0_0_i_i_sink_i_i_i_i_i_i;
-    u8 v_r5_sroa_4_0_i_i_sink_i_i_i_i_i_i;
-    u32 v_r5_sroa_10_0_i_i_sink_i_i_i_i_i_i;
+    u64 v_r13_i65_val_val135_i_i;
+    u64 v_r10_i_i_i_i265_i_i;
+    u1 v_r12_not_i_i_i_i_i266_i_i;
+    u64 v_r4_sroa_10_0_i_i9_i_i_i267_i_i;
+    u32 v_r4_sroa_10_0_i_i_i_i_i268_i_i;
+    u1 v_r12_i_i_i_i_i277_i_i;
+    u1 v_r17_i_i_i_i_i279_i_i;
+    u1 v_r22_i_i_i_i_i281_i_i;
+    u1 v_r27_i_i_i_i_i282_i_i;
+    u32 v_i_i_i_i_i283_i_i;
+    u32 v_r8_0_i_i_i_i_i284_i_i;
+    u32 v_r4_0_i_i_i_i_i286_i_i;
+    u32 v_r5_i_i_i_i_i_i287_i_i;
+    u1 v_r7_i_not_i_i_i_i_i288_i_i;
+    u32 v_r11_i_i_i_i_i_i289_i_i;
+    u8 v_r5_sroa_4_0_i_i_i_i_i291_i_i;
+    u32 v_r5_sroa_10_0_i_i_i_i_i292_i_i;
+    u1 v_r5_sroa_0_0_i_i_sink_i_i_i269_i_i;
+    u8 v_r5_sroa_4_0_i_i_sink_i_i_i270_i_i;
+    u32 v_r5_sroa_10_0_i_i_sink_i_i_i271_i_i;
     P v_14;
-    u64 v_r6_i_val_val_i_i_i;
+    u64 v_r6_i70_val_val_i_i;
     P v_15;
-    u64 v_r6_i_val_val27_i_i_i;
-    u64 v_r10_i_i_i_i32_i_i_i;
-    u1 v_r12_not_i_i_i_i_i33_i_i_i;
-    u64 v_r4_sroa_10_0_i_i9_i_i_i34_i_i_i;
-    u32 v_r4_sroa_10_0_i_i_i_i_i35_i_i_i;
-    u1 v_r12_i_i_i_i_i44_i_i_i;
-    u1 v_r17_i_i_i_i_i46_i_i_i;
-    u1 v_r22_i_i_i_i_i48_i_i_i;
-    u1 v_r27_i_i_i_i_i49_i_i_i;
-    u32 v_i_i_i_i_i50_i_i_i;
-    u32 v_r8_0_i_i_i_i_i51_i_i_i;
-    u32 v_r4_0_i_i_i_i_i53_i_i_i;
-    u32 v_r5_i_i_i_i_i_i54_i_i_i;
-    u1 v_r7_i_not_i_i_i_i_i55_i_i_i;
-    u32 v_r11_i_i_i_i_i_i56_i_i_i;
-    u8 v_r5_sroa_4_0_i_i_i_i_i58_i_i_i;
-    u32 v_r5_sroa_10_0_i_i_i_i_i59_i_i_i;
-    u1 v_r5_sroa_0_0_i_i_sink_i_i_i36_i_i_i;
-    u8 v_r5_sroa_4_0_i_i_sink_i_i_i37_i_i_i;
-    u32 v_r5_sroa_10_0_i_i_sink_i_i_i38_i_i_i;
+    u64 v_r6_i70_val_val136_i_i;
+    u64 v_r10_i_i_i_i294_i_i;
+    u1 v_r12_not_i_i_i_i_i295_i_i;
+    u64 v_r4_sroa_10_0_i_i9_i_i_i296_i_i;
+    u32 v_r4_sroa_10_0_i_i_i_i_i297_i_i;
+    u1 v_r12_i_i_i_i_i306_i_i;
+    u1 v_r17_i_i_i_i_i308_i_i;
+    u1 v_r22_i_i_i_i_i310_i_i;
+    u1 v_r27_i_i_i_i_i311_i_i;
+    u32 v_i_i_i_i_i312_i_i;
+    u32 v_r8_0_i_i_i_i_i313_i_i;
+    u32 v_r4_0_i_i_i_i_i315_i_i;
+    u32 v_r5_i_i_i_i_i_i316_i_i;
+    u1 v_r7_i_not_i_i_i_i_i317_i_i;
+    u32 v_r11_i_i_i_i_i_i318_i_i;
+    u8 v_r5_sroa_4_0_i_i_i_i_i320_i_i;
+    u32 v_r5_sroa_10_0_i_i_i_i_i321_i_i;
+    u1 v_r5_sroa_0_0_i_i_sink_i_i_i298_i_i;
+    u8 v_r5_sroa_4_0_i_i_sink_i_i_i299_i_i;
+    u32 v_r5_sroa_10_0_i_i_sink_i_i_i300_i_i;
     P v_16;
-    u64 v_r6_i5_val_val_i_i_i;
+    u64 v_r6_i82_val_val_i_i;
     P v_17;
-    u64 v_r6_i5_val_val28_i_i_i;
-    u64 v_r10_i_i_i_i61_i_i_i;
-    u1 v_r12_not_i_i_i_i_i62_i_i_i;
-    u64 v_r4_sroa_10_0_i_i9_i_i_i63_i_i_i;
-    u32 v_r4_sroa_10_0_i_i_i_i_i64_i_i_i;
-    u1 v_r12_i_i_i_i_i73_i_i_i;
-    u1 v_r17_i_i_i_i_i75_i_i_i;
-    u1 v_r22_i_i_i_i_i77_i_i_i;
-    u1 v_r27_i_i_i_i_i78_i_i_i;
-    u32 v_i_i_i_i_i79_i_i_i;
-    u32 v_r8_0_i_i_i_i_i80_i_i_i;
-    u32 v_r4_0_i_i_i_i_i82_i_i_i;
-    u32 v_r5_i_i_i_i_i_i83_i_i_i;
-    u1 v_r7_i_not_i_i_i_i_i84_i_i_i;
-    u32 v_r11_i_i_i_i_i_i85_i_i_i;
-    u8 v_r5_sroa_4_0_i_i_i_i_i87_i_i_i;
-    u32 v_r5_sroa_10_0_i_i_i_i_i88_i_i_i;
-    u32 v_r5_sroa_10_0_i_i_sink_i_i_i6731_i_i_i;
-    u8 v_r5_sroa_4_0_i_i_sink_i_i_i6628_i_i_i;
-    u1 v_r5_sroa_0_0_i_i_sink_i_i_i6524_i_i_i;
+    u64 v_r6_i82_val_val137_i_i;
+    u64 v_r10_i_i_i_i323_i_i;
+    u1 v_r12_not_i_i_i_i_i324_i_i;
+    u64 v_r4_sroa_10_0_i_i9_i_i_i325_i_i;
+    u32 v_r4_sroa_10_0_i_i_i_i_i326_i_i;
+    u1 v_r12_i_i_i_i_i335_i_i;
+    u1 v_r17_i_i_i_i_i337_i_i;
+    u1 v_r22_i_i_i_i_i339_i_i;
+    u1 v_r27_i_i_i_i_i340_i_i;
+    u32 v_i_i_i_i_i341_i_i;
+    u32 v_r8_0_i_i_i_i_i342_i_i;
+    u32 v_r4_0_i_i_i_i_i344_i_i;
+    u32 v_r5_i_i_i_i_i_i345_i_i;
+    u1 v_r7_i_not_i_i_i_i_i346_i_i;
+    u32 v_r11_i_i_i_i_i_i347_i_i;
+    u8 v_r5_sroa_4_0_i_i_i_i_i349_i_i;
+    u32 v_r5_sroa_10_0_i_i_i_i_i350_i_i;
+    u32 v_r5_sroa_10_0_i_i_sink_i_i_i329760_i_i;
+    u8 v_r5_sroa_4_0_i_i_sink_i_i_i328757_i_i;
+    u1 v_r5_sroa_0_0_i_i_sink_i_i_i327753_i_i;
     P v_18;
-    u64 v_r4_val_i_i_i_i_i;
-    u1 v_r5_i_i_i_i_i_i;
-    P v_r7_i7_i_i_i_i;
-    P v_r8_i_val_val_i_i_i_i;
-    u64 v_r4_010_i_i_i_i_i_i_i_i_i;
-    u8 v_r3_sroa_0_09_i_i_i_i_i_i_i_i_i;
-    u8 v_r3_sroa_5_08_i_i_i_i_i_i_i_i_i;
-    u32 v_r3_sroa_14_07_i_i_i_i_i_i_i_i_i;
-    u64 v_r22_i_i_i_i_i_i_i_i_i;
-    P v_r25_i_i_i_i_i_i_i_i_i;
+    u64 v_r4_val_i355_i_i;
+    u1 v_r5_i_i356_i_i;
+    P v_r7_i117720_i_i;
+    P v_r8_i129_val_val_i_i;
+    u64 v_r4_010_i_i_i_i_i_i_i;
+    u8 v_r3_sroa_0_09_i_i_i_i_i_i_i;
+    u8 v_r3_sroa_5_08_i_i_i_i_i_i_i;
+    u32 v_r3_sroa_14_07_i_i_i_i_i_i_i;
+    u64 v_r22_i_i_i_i_i362_i_i;
+    P v_r25_i_i_i_i_i_i_i;
     P v_19;
-    u64 v_r10_val_val_i_i_i_i_i_i_i_i_i_i_i_i;
+    u64 v_r10_val_val_i_i_i_i_i_i_i_i_i_i;
     P v_20;
-    u64 v_r10_val_val29_i_i_i_i_i_i_i_i_i_i_i_i;
-    u64 v_r10_i_i_i_i_i_i_i_i_i_i_i_i_i_i_i_i;
-    u1 v_r12_not_i_i_i_i_i_i_i_i_i_i_i_i_i_i_i_i_i;
-    u64 v_r4_sroa_10_0_i_i9_i_i_i_i_i_i_i_i_i_i_i_i_i_i_i;
-    u32 v_r4_sroa_10_0_i_i_i_i_i_i_i_i_i_i_i_i_i_i_i_i_i;
-    u1 v_r12_i_i_i_i_i_i_i_i_i_i_i_i_i_i_i_i_i;
-    u1 v_r17_i_i_i_i_i_i_i_i_i_i_i_i_i_i_i_i_i;
-    u1 v_r22_i_i_i_i_i_i_i_i_i_i_i_i_i_i_i_i_i;
-    u1 v_r27_i_i_i_i_i_i_i_i_i_i_i_i_i_i_i_i_i;
-    u32 v_i_i_i_i_i_i_i_i_i_i_i_i_i_i_i_i_i;
-    u32 v_r8_0_i_i_i_i_i_i_i_i_i_i_i_i_i_i_i_i_i;
-    u32 v_r4_0_i_i_i_i_i_i_i_i_i_i_i_i_i_i_i_i_i;
-    u32 v_r5_i_i_i_i_i_i_i_i_i_i_i_i_i_i_i_i_i_i;
-    u1 v_r7_i_not_i_i_i_i_i_i_i_i_i_i_i_i_i_i_i_i_i;
-    u32 v_r11_i_i_i_i_i_i_i_i_i_i_i_i_i_i_i_i_i_i;
-    u8 v_r5_sroa_4_0_i_i_i_i_i_i_i_i_i_i_i_i_i_i_i_i_i;
-    u32 v_r5_sroa_10_0_i_i_i_i_i_i_i_i_i_i_i_i_i_i_i_i_i;
-    u1 v_r5_sroa_0_0_i_i_sink_i_i_i_i_i_i_i_i_i_i_i_i_i_i_i;
-    u8 v_r5_sroa_4_0_i_i_sink_i_i_i_i_i_i_i_i_i_i_i_i_i_i_i;
-    u32 v_r5_sroa_10_0_i_i_sink_i_i_i_i_i_i_i_i_i_i_i_i_i_i_;
+    u64 v_r10_val_val29_i_i_i_i_i_i_i_i_i_i;
+    u64 v_r10_i_i_i_i_i_i_i_i_i_i_i_i_i_i;
+    u1 v_r12_not_i_i_i_i_i_i_i_i_i_i_i_i_i_i_i;
+    u64 v_r4_sroa_10_0_i_i9_i_i_i_i_i_i_i_i_i_i_i_i_i;
+    u32 v_r4_sroa_10_0_i_i_i_i_i_i_i_i_i_i_i_i_i_i_i;
+    u1 v_r12_i_i_i_i_i_i_i_i_i_i_i_i_i_i_i;
+    u1 v_r17_i_i_i_i_i_i_i_i_i_i_i_i_i_i_i;
+    u1 v_r22_i_i_i_i_i_i_i_i_i_i_i_i_i_i_i;
+    u1 v_r27_i_i_i_i_i_i_i_i_i_i_i_i_i_i_i;
+    u32 v_i_i_i_i_i_i_i_i_i_i_i_i_i_i_i;
+    u32 v_r8_0_i_i_i_i_i_i_i_i_i_i_i_i_i_i_i;
+    u32 v_r4_0_i_i_i_i_i_i_i_i_i_i_i_i_i_i_i;
+    u32 v_r5_i_i_i_i_i_i_i_i_i_i_i_i_i_i_i_i;
+    u1 v_r7_i_not_i_i_i_i_i_i_i_i_i_i_i_i_i_i_i;
+    u32 v_r11_i_i_i_i_i_i_i_i_i_i_i_i_i_i_i_i;
+    u8 v_r5_sroa_4_0_i_i_i_i_i_i_i_i_i_i_i_i_i_i_i;
+    u32 v_r5_sroa_10_0_i_i_i_i_i_i_i_i_i_i_i_i_i_i_i;
+    u1 v_r5_sroa_0_0_i_i_sink_i_i_i_i_i_i_i_i_i_i_i_i_i;
+    u8 v_r5_sroa_4_0_i_i_sink_i_i_i_i_i_i_i_i_i_i_i_i_i;
+    u32 v_r5_sroa_10_0_i_i_sink_i_i_i_i_i_i_i_i_i_i_i_i_i;
     P v_21;
-    u64 v_r6_i_val_val_i_i_i_i_i_i_i_i_i_i_i_i;
+    u64 v_r6_i_val_val_i_i_i_i_i_i_i_i_i_i;
     P v_22;
-    u64 v_r6_i_val_val30_i_i_i_i_i_i_i_i_i_i_i_i;
-    u64 v_r10_i_i_i_i35_i_i_i_i_i_i_i_i_i_i_i_i;
-    u1 v_r12_not_i_i_i_i_i36_i_i_i_i_i_i_i_i_i_i_i_i;
-    u64 v_r4_sroa_10_0_i_i9_i_i_i37_i_i_i_i_i_i_i_i_i_i_i_i;
-    u32 v_r4_sroa_10_0_i_i_i_i_i38_i_i_i_i_i_i_i_i_i_i_i_i;
-    u1 v_r12_i_i_i_i_i47_i_i_i_i_i_i_i_i_i_i_i_i;
-    u1 v_r17_i_i_i_i_i49_i_i_i_i_i_i_i_i_i_i_i_i;
-    u1 v_r22_i_i_i_i_i51_i_i_i_i_i_i_i_i_i_i_i_i;
-    u1 v_r27_i_i_i_i_i52_i_i_i_i_i_i_i_i_i_i_i_i;
-    u32 v_i_i_i_i_i53_i_i_i_i_i_i_i_i_i_i_i_i;
-    u32 v_r8_0_i_i_i_i_i54_i_i_i_i_i_i_i_i_i_i_i_i;
-    u32 v_r4_0_i_i_i_i_i56_i_i_i_i_i_i_i_i_i_i_i_i;
-    u32 v_r5_i_i_i_i_i_i57_i_i_i_i_i_i_i_i_i_i_i_i;
-    u1 v_r7_i_not_i_i_i_i_i58_i_i_i_i_i_i_i_i_i_i_i_i;
-    u32 v_r11_i_i_i_i_i_i59_i_i_i_i_i_i_i_i_i_i_i_i;
-    u8 v_r5_sroa_4_0_i_i_i_i_i61_i_i_i_i_i_i_i_i_i_i_i_i;
-    u32 v_r5_sroa_10_0_i_i_i_i_i62_i_i_i_i_i_i_i_i_i_i_i_i;
-    u1 v_r5_sroa_0_0_i_i_sink_i_i_i39_i_i_i_i_i_i_i_i_i_i_i;
-    u8 v_r5_sroa_4_0_i_i_sink_i_i_i40_i_i_i_i_i_i_i_i_i_i_i;
-    u32 v_r5_sroa_10_0_i_i_sink_i_i_i41_i_i_i_i_i_i_i_i_i_i_;
+    u64 v_r6_i_val_val30_i_i_i_i_i_i_i_i_i_i;
+    u64 v_r10_i_i_i_i35_i_i_i_i_i_i_i_i_i_i;
+    u1 v_r12_not_i_i_i_i_i36_i_i_i_i_i_i_i_i_i_i;
+    u64 v_r4_sroa_10_0_i_i9_i_i_i37_i_i_i_i_i_i_i_i_i_i;
+    u32 v_r4_sroa_10_0_i_i_i_i_i38_i_i_i_i_i_i_i_i_i_i;
+    u1 v_r12_i_i_i_i_i47_i_i_i_i_i_i_i_i_i_i;
+    u1 v_r17_i_i_i_i_i49_i_i_i_i_i_i_i_i_i_i;
+    u1 v_r22_i_i_i_i_i51_i_i_i_i_i_i_i_i_i_i;
+    u1 v_r27_i_i_i_i_i52_i_i_i_i_i_i_i_i_i_i;
+    u32 v_i_i_i_i_i53_i_i_i_i_i_i_i_i_i_i;
+    u32 v_r8_0_i_i_i_i_i54_i_i_i_i_i_i_i_i_i_i;
+    u32 v_r4_0_i_i_i_i_i56_i_i_i_i_i_i_i_i_i_i;
+    u32 v_r5_i_i_i_i_i_i57_i_i_i_i_i_i_i_i_i_i;
+    u1 v_r7_i_not_i_i_i_i_i58_i_i_i_i_i_i_i_i_i_i;
+    u32 v_r11_i_i_i_i_i_i59_i_i_i_i_i_i_i_i_i_i;
+    u8 v_r5_sroa_4_0_i_i_i_i_i61_i_i_i_i_i_i_i_i_i_i;
+    u32 v_r5_sroa_10_0_i_i_i_i_i62_i_i_i_i_i_i_i_i_i_i;
+    u1 v_r5_sroa_0_0_i_i_sink_i_i_i39_i_i_i_i_i_i_i_i_i_i;
+    u8 v_r5_sroa_4_0_i_i_sink_i_i_i40_i_i_i_i_i_i_i_i_i_i;
+    u32 v_r5_sroa_10_0_i_i_sink_i_i_i41_i_i_i_i_i_i_i_i_i_i;
     P v_23;
-    u64 v_r6_i6_val_val_i_i_i_i_i_i_i_i_i_i_i_i;
+    u64 v_r6_i6_val_val_i_i_i_i_i_i_i_i_i_i;
     P v_24;
-    u64 v_r6_i6_val_val31_i_i_i_i_i_i_i_i_i_i_i_i;
-    u64 v_r10_i_i_i_i64_i_i_i_i_i_i_i_i_i_i_i_i;
-    u1 v_r12_not_i_i_i_i_i65_i_i_i_i_i_i_i_i_i_i_i_i;
-    u64 v_r4_sroa_10_0_i_i9_i_i_i66_i_i_i_i_i_i_i_i_i_i_i_i;
-    u32 v_r4_sroa_10_0_i_i_i_i_i67_i_i_i_i_i_i_i_i_i_i_i_i;
-    u1 v_r12_i_i_i_i_i76_i_i_i_i_i_i_i_i_i_i_i_i;
-    u1 v_r17_i_i_i_i_i78_i_i_i_i_i_i_i_i_i_i_i_i;
-    u1 v_r22_i_i_i_i_i80_i_i_i_i_i_i_i_i_i_i_i_i;
-    u1 v_r27_i_i_i_i_i81_i_i_i_i_i_i_i_i_i_i_i_i;
-    u32 v_i_i_i_i_i82_i_i_i_i_i_i_i_i_i_i_i_i;
-    u32 v_r8_0_i_i_i_i_i83_i_i_i_i_i_i_i_i_i_i_i_i;
-    u32 v_r4_0_i_i_i_i_i85_i_i_i_i_i_i_i_i_i_i_i_i;
-    u32 v_r5_i_i_i_i_i_i86_i_i_i_i_i_i_i_i_i_i_i_i;
-    u1 v_r7_i_not_i_i_i_i_i87_not_i_i_i_i_i_i_i_i_i_i_i_i;
-    u1 v_brmerge_i_i_i_i_i_i_i_i_i_i_i_i;
-    u8 v_r5_sroa_4_0_i_i_i_i_i90_mux_i_i_i_i_i_i_i_i_i_i_i_;
-    u32 v_r11_i_i_i_i_i_i88_i_i_i_i_i_i_i_i_i_i_i_i;
-    u32 v_r5_i_i_i131_i_i_i_i_i_i_i_i_i_i_i_i;
-    u1 v_r7_i_not_i_i132_i_i_i_i_i_i_i_i_i_i_i_i;
-    u32 v_r11_i_i_i133_i_i_i_i_i_i_i_i_i_i_i_i;
-    u8 v_r5_sroa_4_0_i_i135_i_i_i_i_i_i_i_i_i_i_i_i;
-    u32 v_r5_sroa_10_0_i_i136_i_i_i_i_i_i_i_i_i_i_i_i;
-    u1 v_r24_sroa_0_0_sink_i119_i_i_i_i_i_i_i_i_i_i_i_i;
-    u8 v_r24_sroa_4_0_sink_i120_i_i_i_i_i_i_i_i_i_i_i_i;
-    u32 v_r24_sroa_13_0_sink_i123_i_i_i_i_i_i_i_i_i_i_i_i;
-    u8 v_spec_select_i_i_i_i_i_i_i_i_i_i_i_i;
-    u32 v_r5_i_i_i170_i_i_i_i_i_i_i_i_i_i_i_i;
-    u1 v_r7_i_not_i_i171_i_not_i_i_i_i_i_i_i_i_i_i_i;
-    u32 v_r11_i_i_i172_i_i_i_i_i_i_i_i_i_i_i_i;
-    u1 v_r12_i_i_i_i_i_i_i_i_i_i_i_i_i;
-    u1 v_r17_i_i_i_i_i_i_i_i_i_i_i_i_i;
-    u1 v_r22_i_i_i_i_i_i_i_i_i_i_i_i_i;
-    u1 v_r27_i_i_i_i_i_i_i_i_i_i_i_i_i;
-    u32 v_i_i_i_i_i_i_i_i_i_i_i_i_i;
-    u32 v_r8_0_i_i_i_i_i_i_i_i_i_i_i_i_i;
-    u32 v_r4_0_i_i_i_i_i_i_i_i_i_i_i_i_i;
-    u32 v_r5_i_i_i_i_i_i_i_i_i_i_i_i_i_i;
-    u1 v_r7_i_not_i_i_i_i_i_i_i_i_i_i_i_i_i;
-    u32 v_r11_i_i_i_i_i_i_i_i_i_i_i_i_i_i;
-    u8 v_r5_sroa_4_0_i_i_i_i_i_i_i_i_i_i_i_i_i;
-    u32 v_r5_sroa_10_0_i_i_i_i_i_i_i_i_i_i_i_i_i;
-    u1 v_r5_sroa_0_0_i_i_sink_i_i_i_i_i_i_i_i_i_i_i;
-    u8 v_r5_sroa_4_0_i_i_sink_i_i_i_i_i_i_i_i_i_i_i;
-    u32 v_r5_sroa_10_0_i_i_sink_i_i_i_i_i_i_i_i_i_i_i;
-    u1 v_25;
+    u64 v_r6_i6_val_val31_i_i_i_i_i_i_i_i_i_i;
+    u64 v_r10_i_i_i_i64_i_i_i_i_i_i_i_i_i_i;
+    u1 v_r12_not_i_i_i_i_i65_i_i_i_i_i_i_i_i_i_i;
+    u64 v_r4_sroa_10_0_i_i9_i_i_i66_i_i_i_i_i_i_i_i_i_i;
+    u32 v_r4_sroa_10_0_i_i_i_i_i67_i_i_i_i_i_i_i_i_i_i;
+    u1 v_r12_i_i_i_i_i76_i_i_i_i_i_i_i_i_i_i;
+    u1 v_r17_i_i_i_i_i78_i_i_i_i_i_i_i_i_i_i;
+    u1 v_r22_i_i_i_i_i80_i_i_i_i_i_i_i_i_i_i;
+    u1 v_r27_i_i_i_i_i81_i_i_i_i_i_i_i_i_i_i;
+    u32 v_i_i_i_i_i82_i_i_i_i_i_i_i_i_i_i;
+    u32 v_r8_0_i_i_i_i_i83_i_i_i_i_i_i_i_i_i_i;
+    u32 v_r4_0_i_i_i_i_i85_i_i_i_i_i_i_i_i_i_i;
+    u32 v_r5_i_i_i_i_i_i86_i_i_i_i_i_i_i_i_i_i;
+    u1 v_r7_i_not_i_i_i_i_i87_not_i_i_i_i_i_i_i_i_i_i;
+    u1 v_brmerge_i_i_i_i_i_i_i_i_i_i;
+    u8 v_r5_sroa_4_0_i_i_i_i_i90_mux_i_i_i_i_i_i_i_i_i_i;
+    u32 v_r11_i_i_i_i_i_i88_i_i_i_i_i_i_i_i_i_i;
+    u32 v_r5_i_i_i131_i_i_i_i_i_i_i_i_i_i;
+    u1 v_r7_i_not_i_i132_i_i_i_i_i_i_i_i_i_i;
+    u32 v_r11_i_i_i133_i_i_i_i_i_i_i_i_i_i;
+    u8 v_r5_sroa_4_0_i_i135_i_i_i_i_i_i_i_i_i_i;
+    u32 v_r5_sroa_10_0_i_i136_i_i_i_i_i_i_i_i_i_i;
+    u1 v_r24_sroa_0_0_sink_i119_i_i_i_i_i_i_i_i_i_i;
+    u8 v_r24_sroa_4_0_sink_i120_i_i_i_i_i_i_i_i_i_i;
+    u32 v_r24_sroa_13_0_sink_i123_i_i_i_i_i_i_i_i_i_i;
+    u8 v_spec_select_i_i_i_i_i_i_i_i_i_i;
+    u32 v_r5_i_i_i170_i_i_i_i_i_i_i_i_i_i;
+    u1 v_r7_i_not_i_i171_i_not_i_i_i_i_i_i_i_i_i;
+    u32 v_r11_i_i_i172_i_i_i_i_i_i_i_i_i_i;
+    u1 v_r12_i_i_i_i_i_i_i_i_i_i_i;
+    u1 v_r17_i_i_i_i_i_i_i_i_i_i_i;
+    u1 v_r22_i_i_i_i_i_i_i_i_i_i_i;
+    u1 v_r27_i_i_i_i_i_i_i_i_i_i_i;
+    u32 v_i_i_i_i_i_i_i_i_i_i_i;
+    u32 v_r8_0_i_i_i_i_i_i_i_i_i_i_i;
+    u32 v_r4_0_i_i_i_i_i_i_i_i_i_i_i;
     u32 v_r5_i_i_i_i_i_i_i_i_i_i_i_i;
     u1 v_r7_i_not_i_i_i_i_i_i_i_i_i_i_i;
     u32 v_r11_i_i_i_i_i_i_i_i_i_i_i_i;
-    u8 v_r5_sroa_0_0_i_i_i_i_i_i_i_i_i_i_i;
     u8 v_r5_sroa_4_0_i_i_i_i_i_i_i_i_i_i_i;
     u32 v_r5_sroa_10_0_i_i_i_i_i_i_i_i_i_i_i;
-    u8 v_spec_select_i_i_i_i_i_i_i_i_i;
-    u8 v_r24_sroa_0_0_sink_i_i_i_i_i_i_i_i_i_i;
-    u8 v_r24_sroa_4_0_sink_i_i_i_i_i_i_i_i_i_i;
-    u32 v_r24_sroa_13_0_sink_i_i_i_i_i_i_i_i_i_i;
-    u64 v_r29_i_i_i_i_i_i_i_i_i;
-    u1 v_exitcond_not_i_i_i_i_i_i_i_i_i;
-    u1 v_26;
-    u1 v_r12_i_i_i_i_i_i_i_i_i;
-    u1 v_r17_i_i_i_i_i_i_i_i_i;
-    u1 v_r22_i_i4_i_i_i_i_i_i_i;
-    u1 v_r27_i_i_i_i_i_i_i_i_i;
-    u32 v_i_i_i_i_i_i_i_i_i;
-    u32 v_r8_0_i_i_i_i_i_i_i_i_i;
-    u32 v_r4_0_i_i_i_i_i_i_i_i_i;
+    u1 v_r5_sroa_0_0_i_i_sink_i_i_i_i_i_i_i_i_i;
+    u8 v_r5_sroa_4_0_i_i_sink_i_i_i_i_i_i_i_i_i;
+    u32 v_r5_sroa_10_0_i_i_sink_i_i_i_i_i_i_i_i_i;
+    u1 v_25;
     u32 v_r5_i_i_i_i_i_i_i_i_i_i;
     u1 v_r7_i_not_i_i_i_i_i_i_i_i_i;
     u32 v_r11_i_i_i_i_i_i_i_i_i_i;
+    u8 v_r5_sroa_0_0_i_i_i_i_i_i_i_i_i;
     u8 v_r5_sroa_4_0_i_i_i_i_i_i_i_i_i;
     u32 v_r5_sroa_10_0_i_i_i_i_i_i_i_i_i;
-    u1 v_r3_i_sroa_0_0_sink_i_i_i_i;
-    u8 v_r3_i_sroa_6_0_sink_i_i_i_i;
-    u8 v_sink_i_i_i_i;
-    u32 v_r3_i_sroa_12_0_sink_i_i_i_i;
-    u32 v_r5_sroa_10_0_i_i_sink_i_i_i6729_i_i_i;
-    u32 v_r3_i_sroa_12_0_sink_i1116_i_i_i;
-    u32 v_r5_i_i_i94_i_i_i;
-    u1 v_r7_i_not_i_i_i_i_i;
-    u32 v_r11_i_i_i_i_i_i;
-    u8 v_r5_sroa_4_0_i_i_i_i_i;
-    u32 v_r5_sroa_10_0_i_i_i_i_i;
-    u8 v_spec_select_i_i_i;
-    u8 v_spec_select36_i_i_i;
-    u1 v_r24_sroa_0_0_sink_i_i_i_i;
-    u8 v_r24_sroa_4_0_sink_i_i_i_i;
-    u8 v_r24_sroa_7_0_sink_i_i_i_i;
-    u32 v_r24_sroa_13_0_sink_i_i_i_i;
-    u32 v_r5_i_i_i127_i_i_i;
-    u1 v_r7_i_not_i_i128_i_i_i;
-    u32 v_r11_i_i_i129_i_i_i;
-    u8 v_r5_sroa_4_0_i_i131_i_i_i;
-    u32 v_r5_sroa_10_0_i_i132_i_i_i;
-    u8 v_spec_select37_i_i_i;
-    u8 v_spec_select38_i_i_i;
-    u1 v_r24_sroa_0_0_sink_i115_i_i_i;
-    u8 v_r24_sroa_4_0_sink_i116_i_i_i;
-    u8 v_r24_sroa_7_0_sink_i117_i_i_i;
-    u32 v_r24_sroa_13_0_sink_i119_i_i_i;
-    u32 v_r5_i_i_i166_i_i_i;
-    u1 v_r7_i_not_i_i167_i_i_i;
-    u32 v_r11_i_i_i168_i_i_i;
-    u8 v_r5_sroa_4_0_i_i170_i_i_i;
-    u32 v_r5_sroa_10_0_i_i171_i_i_i;
-    u8 v_spec_select39_i_i_i;
-    u8 v_spec_select40_i_i_i;
-    u1 v_r24_sroa_0_0_sink_i154_i_i_i;
-    u8 v_r24_sroa_4_0_sink_i155_i_i_i;
-    u8 v_r24_sroa_7_0_sink_i156_i_i_i;
-    u32 v_r24_sroa_13_0_sink_i158_i_i_i;
+    u8 v_spec_select_i_i_i_i_i_i_i;
+    u8 v_r24_sroa_0_0_sink_i_i_i_i_i_i_i_i;
+    u8 v_r24_sroa_4_0_sink_i_i_i_i_i_i_i_i;
+    u32 v_r24_sroa_13_0_sink_i_i_i_i_i_i_i_i;
+    u64 v_r29_i_i_i_i_i_i_i;
+    u1 v_exitcond_not_i_i_i_i_i_i_i;
+    u1 v_26;
+    u1 v_r12_i_i_i_i_i371_i_i;
+    u1 v_r17_i_i_i_i_i373_i_i;
+    u1 v_r22_i_i4_i_i_i_i_i;
+    u1 v_r27_i_i_i_i_i375_i_i;
+    u32 v_i_i_i_i_i376_i_i;
+    u32 v_r8_0_i_i_i_i_i377_i_i;
+    u32 v_r4_0_i_i_i_i_i379_i_i;
+    u32 v_r5_i_i_i_i_i_i380_i_i;
+    u1 v_r7_i_not_i_i_i_i_i381_i_i;
+    u32 v_r11_i_i_i_i_i_i382_i_i;
+    u8 v_r5_sroa_4_0_i_i_i_i_i384_i_i;
+    u32 v_r5_sroa_10_0_i_i_i_i_i385_i_i;
+    u32 v_r3_i93_sroa_15_0_i_i;
+    u8 v_r3_i93_sroa_9_0_i_i;
+    u8 v_r3_i93_sroa_6_0_i_i;
+    u1 v_r3_i93_sroa_0_0_i_i;
+    u32 v_r5_sroa_10_0_i_i_sink_i_i_i329758_i_i;
+    u32 v_r3_i93_sroa_15_0731742_i_i;
     u32 v_r5_i_i_i_i_i;
     u1 v_r7_i_not_i_i_i_i;
     u32 v_r11_i_i_i_i_i;
     u8 v_r5_sroa_4_0_i_i_i_i;
     u32 v_r5_sroa_10_0_i_i_i_i;
     u8 v_spec_select_i_i;
-    u8 v_spec_select404_i_i;
+    u8 v_spec_select771_i_i;
     u1 v_r24_sroa_0_0_sink_i_i_i;
     u8 v_r24_sroa_4_0_sink_i_i_i;
     u8 v_r24_sroa_7_0_sink_i_i_i;
     u32 v_r24_sroa_13_0_sink_i_i_i;
-    u32 v_r5_i_i_i231_i_i;
-    u1 v_r7_i_not_i_i232_i_i;
-    u32 v_r11_i_i_i233_i_i;
-    u8 v_r5_sroa_4_0_i_i235_i_i;
-    u32 v_r5_sroa_10_0_i_i236_i_i;
-    u8 v_spec_select405_i_i;
-    u8 v_spec_select406_i_i;
-    u1 v_r24_sroa_0_0_sink_i219_i_i;
-    u8 v_r24_sroa_4_0_sink_i220_i_i;
-    u8 v_r24_sroa_7_0_sink_i221_i_i;
-    u32 v_r24_sroa_13_0_sink_i223_i_i;
-    u32 v_r5_i_i_i270_i_i;
-    u1 v_r7_i_not_i_i271_i_i;
-    u32 v_r11_i_i_i272_i_i;
-    u8 v_r5_sroa_4_0_i_i274_i_i;
-    u32 v_r5_sroa_10_0_i_i275_i_i;
-    u8 v_spec_select407_i_i;
-    u8 v_spec_select408_i_i;
-    u1 v_r24_sroa_0_0_sink_i258_i_i;
-    u8 v_r24_sroa_4_0_sink_i259_i_i;
-    u8 v_r24_sroa_7_0_sink_i260_i_i;
-    u32 v_r24_sroa_13_0_sink_i262_i_i;
-    u32 v_r5_i_i_i309_i_i;
-    u1 v_r7_i_not_i_i310_i_i;
-    u32 v_r11_i_i_i311_i_i;
-    u8 v_r5_sroa_4_0_i_i313_i_i;
-    u32 v_r5_sroa_10_0_i_i314_i_i;
-    u8 v_spec_select409_i_i;
-    u8 v_spec_select410_i_i;
-    u1 v_r24_sroa_0_0_sink_i297_i_i;
-    u8 v_r24_sroa_4_0_sink_i298_i_i;
-    u8 v_r24_sroa_7_0_sink_i299_i_i;
-    u32 v_r24_sroa_13_0_sink_i301_i_i;
-    u8 v_spec_select411_i_i;
-    u8 v_spec_select412_i_i;
-    u32 v_r5_i_i_i348_i_i;
-    u1 v_r7_i_not_i_i349_not_i_i;
-    u32 v_r11_i_i_i350_i_i;
-    u1 v_r7_i_not_i_i388_i_i;
+    u32 v_r5_i_i_i428_i_i;
+    u1 v_r7_i_not_i_i429_i_i;
+    u32 v_r11_i_i_i430_i_i;
+    u8 v_r5_sroa_4_0_i_i432_i_i;
+    u32 v_r5_sroa_10_0_i_i433_i_i;
+    u8 v_spec_select772_i_i;
+    u8 v_spec_select773_i_i;
+    u1 v_r24_sroa_0_0_sink_i416_i_i;
+    u8 v_r24_sroa_4_0_sink_i417_i_i;
+    u8 v_r24_sroa_7_0_sink_i418_i_i;
+    u32 v_r24_sroa_13_0_sink_i420_i_i;
+    u32 v_r5_i_i_i467_i_i;
+    u1 v_r7_i_not_i_i468_i_i;
+    u32 v_r11_i_i_i469_i_i;
+    u8 v_r5_sroa_4_0_i_i471_i_i;
+    u32 v_r5_sroa_10_0_i_i472_i_i;
+    u8 v_spec_select774_i_i;
+    u8 v_spec_select775_i_i;
+    u1 v_r24_sroa_0_0_sink_i455_i_i;
+    u8 v_r24_sroa_4_0_sink_i456_i_i;
+    u8 v_r24_sroa_7_0_sink_i457_i_i;
+    u32 v_r24_sroa_13_0_sink_i459_i_i;
+    u32 v_r5_i_i_i506_i_i;
+    u1 v_r7_i_not_i_i507_i_i;
+    u32 v_r11_i_i_i508_i_i;
+    u8 v_r5_sroa_4_0_i_i510_i_i;
+    u32 v_r5_sroa_10_0_i_i511_i_i;
+    u8 v_spec_select776_i_i;
+    u8 v_spec_select777_i_i;
+    u1 v_r24_sroa_0_0_sink_i494_i_i;
+    u8 v_r24_sroa_4_0_sink_i495_i_i;
+    u8 v_r24_sroa_7_0_sink_i496_i_i;
+    u32 v_r24_sroa_13_0_sink_i498_i_i;
+    u32 v_r5_i_i_i545_i_i;
+    u1 v_r7_i_not_i_i546_i_i;
+    u32 v_r11_i_i_i547_i_i;
+    u8 v_r5_sroa_4_0_i_i549_i_i;
+    u32 v_r5_sroa_10_0_i_i550_i_i;
+    u8 v_spec_select778_i_i;
+    u8 v_spec_select779_i_i;
+    u1 v_r24_sroa_0_0_sink_i533_i_i;
+    u8 v_r24_sroa_4_0_sink_i534_i_i;
+    u8 v_r24_sroa_7_0_sink_i535_i_i;
+    u32 v_r24_sroa_13_0_sink_i537_i_i;
+    u32 v_r5_i_i_i584_i_i;
+    u1 v_r7_i_not_i_i585_i_i;
+    u32 v_r11_i_i_i586_i_i;
+    u8 v_r5_sroa_4_0_i_i588_i_i;
+    u32 v_r5_sroa_10_0_i_i589_i_i;
+    u8 v_spec_select780_i_i;
+    u8 v_spec_select781_i_i;
+    u1 v_r24_sroa_0_0_sink_i572_i_i;
+    u8 v_r24_sroa_4_0_sink_i573_i_i;
+    u8 v_r24_sroa_7_0_sink_i574_i_i;
+    u32 v_r24_sroa_13_0_sink_i576_i_i;
+    u32 v_r5_i_i_i623_i_i;
+    u1 v_r7_i_not_i_i624_i_i;
+    u32 v_r11_i_i_i625_i_i;
+    u8 v_r5_sroa_4_0_i_i627_i_i;
+    u32 v_r5_sroa_10_0_i_i628_i_i;
+    u8 v_spec_select782_i_i;
+    u8 v_spec_select783_i_i;
+    u1 v_r24_sroa_0_0_sink_i611_i_i;
+    u8 v_r24_sroa_4_0_sink_i612_i_i;
+    u8 v_r24_sroa_7_0_sink_i613_i_i;
+    u32 v_r24_sroa_13_0_sink_i615_i_i;
+    u8 v_spec_select784_i_i;
+    u8 v_spec_select785_i_i;
+    u32 v_r5_i_i_i662_i_i;
+    u1 v_r7_i_not_i_i663_not_i_i;
+    u32 v_r11_i_i_i664_i_i;
+    u1 v_r7_i_not_i_i702_i_i;
     u32 v_27;
-    u32 v_r5_sroa_10_0_i_i392_i_i;
+    u32 v_r5_sroa_10_0_i_i706_i_i;
     u1 v_r12_i_i_i;
     u1 v_r17_i_i_i;
     u1 v_r22_i_i_i;
@@ -22680,8 +22680,8 @@ static void f_der_core_encode_AnyEncode_encoded_len_3a3c98235cfe(P v_a0, P v_a1)
     P v_r5;
     P v_r7;
     v_r25_i_i = v_a1 + 192;
-    v_r3_i69_i_i = get_u8(v_r25_i_i);
-    v_0 = v_r3_i69_i_i == 1u;
+    v_r3_i139_i_i = get_u8(v_r25_i_i);
+    v_0 = v_r3_i139_i_i == 1u;
     if (v_0) { goto L_pkcs1_private_key_other_prime_info_lists_none_29_p; } else { goto L_join_3_i_i; }
 L_pkcs1_private_key_other_prime_info_lists_none_29_p:;
     v_1 = v_a1 + 208;
@@ -22692,8 +22692,8 @@ L_join_3_i_i:;
     v_2 = v_a1 + 8;
     v_r6_i_val_val_i_i = get_u64(v_2);
     v_3 = v_a1 + 16;
-    v_r6_i_val_val64_i_i = get_u64(v_3);
-    v_r10_i_i_i_i_i_i = (u64)((u64)(v_r6_i_val_val64_i_i) + (u64)(v_r6_i_val_val_i_i));
+    v_r6_i_val_val130_i_i = get_u64(v_3);
+    v_r10_i_i_i_i_i_i = (u64)((u64)(v_r6_i_val_val130_i_i) + (u64)(v_r6_i_val_val_i_i));
     v_r12_not_i_i_i_i_i_i_i = v_r10_i_i_i_i_i_i < 4294967296ull;
     v_r4_sroa_10_0_i_i9_i_i_i_i_i = v_r10_i_i_i_i_i_i < 4294967296ull ? v_r10_i_i_i_i_i_i : 4294967296ull;
     v_r4_sroa_10_0_i_i_i_i_i_i_i = (u32)(v_r4_sroa_10_0_i_i9_i_i_i_i_i);
@@ -22725,605 +22725,605 @@ L_der_core_borrowed_BorrowedEncode_encoded_len_25cd3:;
     v_4 = v_a1 + 32;
     v_r6_i7_val_val_i_i = get_u64(v_4);
     v_5 = v_a1 + 40;
-    v_r6_i7_val_val65_i_i = get_u64(v_5);
-    v_r10_i_i_i_i76_i_i = (u64)((u64)(v_r6_i7_val_val65_i_i) + (u64)(v_r6_i7_val_val_i_i));
-    v_r12_not_i_i_i_i_i77_i_i = v_r10_i_i_i_i76_i_i < 4294967296ull;
-    v_r4_sroa_10_0_i_i9_i_i_i78_i_i = v_r10_i_i_i_i76_i_i < 4294967296ull ? v_r10_i_i_i_i76_i_i : 4294967296ull;
-    v_r4_sroa_10_0_i_i_i_i_i79_i_i = (u32)(v_r4_sroa_10_0_i_i9_i_i_i78_i_i);
-    if (v_r12_not_i_i_i_i_i77_i_i) { goto L_arm_1_i_i_i87_i_i; } else { p_v_r5_sroa_0_0_i_i_sink_i_i_i80_i_i = 0u; p_v_r5_sroa_4_0_i_i_sink_i_i_i81_i_i = 7u; p_v_r5_sroa_10_0_i_i_sink_i_i_i82_i_i = 0u; goto L_der_core_borrowed_BorrowedEncode_encoded_len_25cd3__2; }
-L_arm_1_i_i_i87_i_i:;
-    v_r12_i_i_i_i_i88_i_i = v_r4_sroa_10_0_i_i_i_i_i79_i_i < 128u;
-    if (v_r12_i_i_i_i_i88_i_i) { p_v_r4_0_i_i_i_i_i97_i_i = 2u; goto L_der_core_length_Length_for_tlv_exit_i_i_i96_i_i; } else { goto L_else_2_i_i_i_i_i89_i_i; }
-L_else_2_i_i_i_i_i89_i_i:;
-    v_r17_i_i_i_i_i90_i_i = v_r4_sroa_10_0_i_i_i_i_i79_i_i < 256u;
-    if (v_r17_i_i_i_i_i90_i_i) { p_v_r4_0_i_i_i_i_i97_i_i = 3u; goto L_der_core_length_Length_for_tlv_exit_i_i_i96_i_i; } else { goto L_else_5_i_i_i_i_i91_i_i; }
-L_else_5_i_i_i_i_i91_i_i:;
-    v_r22_i_i_i_i_i92_i_i = v_r4_sroa_10_0_i_i_i_i_i79_i_i < 65536u;
-    v_r27_i_i_i_i_i93_i_i = v_r4_sroa_10_0_i_i_i_i_i79_i_i < 16777216u;
-    v_i_i_i_i_i94_i_i = v_r27_i_i_i_i_i93_i_i ? 5u : 6u;
-    v_r8_0_i_i_i_i_i95_i_i = v_r22_i_i_i_i_i92_i_i ? 4u : v_i_i_i_i_i94_i_i;
-    { p_v_r4_0_i_i_i_i_i97_i_i = v_r8_0_i_i_i_i_i95_i_i; goto L_der_core_length_Length_for_tlv_exit_i_i_i96_i_i; }
-L_der_core_length_Length_for_tlv_exit_i_i_i96_i_i:;
-    v_r4_0_i_i_i_i_i97_i_i = p_v_r4_0_i_i_i_i_i97_i_i;
-    v_r5_i_i_i_i_i_i98_i_i = (u32)((u32)(v_r4_sroa_10_0_i_i_i_i_i79_i_i) ^ (u32)(4294967295ull));
-    v_r7_i_not_i_i_i_i_i99_i_i = v_r4_0_i_i_i_i_i97_i_i <= v_r5_i_i_i_i_i_i98_i_i;
-    v_r11_i_i_i_i_i_i100_i_i = (u32)((u32)(v_r4_0_i_i_i_i_i97_i_i) + (u32)(v_r4_sroa_10_0_i_i_i_i_i79_i_i));
-    v_r5_sroa_4_0_i_i_i_i_i102_i_i = v_r7_i_not_i_i_i_i_i99_i_i ? 0u : 7u;
-    v_r5_sroa_10_0_i_i_i_i_i103_i_i = v_r7_i_not_i_i_i_i_i99_i_i ? v_r11_i_i_i_i_i_i100_i_i : 0u;
-    { p_v_r5_sroa_0_0_i_i_sink_i_i_i80_i_i = v_r7_i_not_i_i_i_i_i99_i_i; p_v_r5_sroa_4_0_i_i_sink_i_i_i81_i_i = v_r5_sroa_4_0_i_i_i_i_i102_i_i; p_v_r5_sroa_10_0_i_i_sink_i_i_i82_i_i = v_r5_sroa_10_0_i_i_i_i_i103_i_i; goto L_der_core_borrowed_BorrowedEncode_encoded_len_25cd3__2; }
+    v_r6_i7_val_val131_i_i = get_u64(v_5);
+    v_r10_i_i_i_i149_i_i = (u64)((u64)(v_r6_i7_val_val131_i_i) + (u64)(v_r6_i7_val_val_i_i));
+    v_r12_not_i_i_i_i_i150_i_i = v_r10_i_i_i_i149_i_i < 4294967296ull;
+    v_r4_sroa_10_0_i_i9_i_i_i151_i_i = v_r10_i_i_i_i149_i_i < 4294967296ull ? v_r10_i_i_i_i149_i_i : 4294967296ull;
+    v_r4_sroa_10_0_i_i_i_i_i152_i_i = (u32)(v_r4_sroa_10_0_i_i9_i_i_i151_i_i);
+    if (v_r12_not_i_i_i_i_i150_i_i) { goto L_arm_1_i_i_i160_i_i; } else { p_v_r5_sroa_0_0_i_i_sink_i_i_i153_i_i = 0u; p_v_r5_sroa_4_0_i_i_sink_i_i_i154_i_i = 7u; p_v_r5_sroa_10_0_i_i_sink_i_i_i155_i_i = 0u; goto L_der_core_borrowed_BorrowedEncode_encoded_len_25cd3__2; }
+L_arm_1_i_i_i160_i_i:;
+    v_r12_i_i_i_i_i161_i_i = v_r4_sroa_10_0_i_i_i_i_i152_i_i < 128u;
+    if (v_r12_i_i_i_i_i161_i_i) { p_v_r4_0_i_i_i_i_i170_i_i = 2u; goto L_der_core_length_Length_for_tlv_exit_i_i_i169_i_i; } else { goto L_else_2_i_i_i_i_i162_i_i; }
+L_else_2_i_i_i_i_i162_i_i:;
+    v_r17_i_i_i_i_i163_i_i = v_r4_sroa_10_0_i_i_i_i_i152_i_i < 256u;
+    if (v_r17_i_i_i_i_i163_i_i) { p_v_r4_0_i_i_i_i_i170_i_i = 3u; goto L_der_core_length_Length_for_tlv_exit_i_i_i169_i_i; } else { goto L_else_5_i_i_i_i_i164_i_i; }
+L_else_5_i_i_i_i_i164_i_i:;
+    v_r22_i_i_i_i_i165_i_i = v_r4_sroa_10_0_i_i_i_i_i152_i_i < 65536u;
+    v_r27_i_i_i_i_i166_i_i = v_r4_sroa_10_0_i_i_i_i_i152_i_i < 16777216u;
+    v_i_i_i_i_i167_i_i = v_r27_i_i_i_i_i166_i_i ? 5u : 6u;
+    v_r8_0_i_i_i_i_i168_i_i = v_r22_i_i_i_i_i165_i_i ? 4u : v_i_i_i_i_i167_i_i;
+    { p_v_r4_0_i_i_i_i_i170_i_i = v_r8_0_i_i_i_i_i168_i_i; goto L_der_core_length_Length_for_tlv_exit_i_i_i169_i_i; }
+L_der_core_length_Length_for_tlv_exit_i_i_i169_i_i:;
+    v_r4_0_i_i_i_i_i170_i_i = p_v_r4_0_i_i_i_i_i170_i_i;
+    v_r5_i_i_i_i_i_i171_i_i = (u32)((u32)(v_r4_sroa_10_0_i_i_i_i_i152_i_i) ^ (u32)(4294967295ull));
+    v_r7_i_not_i_i_i_i_i172_i_i = v_r4_0_i_i_i_i_i170_i_i <= v_r5_i_i_i_i_i_i171_i_i;
+    v_r11_i_i_i_i_i_i173_i_i = (u32)((u32)(v_r4_0_i_i_i_i_i170_i_i) + (u32)(v_r4_sroa_10_0_i_i_i_i_i152_i_i));
+    v_r5_sroa_4_0_i_i_i_i_i175_i_i = v_r7_i_not_i_i_i_i_i172_i_i ? 0u : 7u;
+    v_r5_sroa_10_0_i_i_i_i_i176_i_i = v_r7_i_not_i_i_i_i_i172_i_i ? v_r11_i_i_i_i_i_i173_i_i : 0u;
+    { p_v_r5_sroa_0_0_i_i_sink_i_i_i153_i_i = v_r7_i_not_i_i_i_i_i172_i_i; p_v_r5_sroa_4_0_i_i_sink_i_i_i154_i_i = v_r5_sroa_4_0_i_i_i_i_i175_i_i; p_v_r5_sroa_10_0_i_i_sink_i_i_i155_i_i = v_r5_sroa_10_0_i_i_i_i_i176_i_i; goto L_der_core_borrowed_BorrowedEncode_encoded_len_25cd3__2; }
 L_der_core_borrowed_BorrowedEncode_encoded_len_25cd3__2:;
-    v_r5_sroa_0_0_i_i_sink_i_i_i80_i_i = p_v_r5_sroa_0_0_i_i_sink_i_i_i80_i_i;
-    v_r5_sroa_4_0_i_i_sink_i_i_i81_i_i = p_v_r5_sroa_4_0_i_i_sink_i_i_i81_i_i;
-    v_r5_sroa_10_0_i_i_sink_i_i_i82_i_i = p_v_r5_sroa_10_0_i_i_sink_i_i_i82_i_i;
+    v_r5_sroa_0_0_i_i_sink_i_i_i153_i_i = p_v_r5_sroa_0_0_i_i_sink_i_i_i153_i_i;
+    v_r5_sroa_4_0_i_i_sink_i_i_i154_i_i = p_v_r5_sroa_4_0_i_i_sink_i_i_i154_i_i;
+    v_r5_sroa_10_0_i_i_sink_i_i_i155_i_i = p_v_r5_sroa_10_0_i_i_sink_i_i_i155_i_i;
     v_6 = v_a1 + 56;
     v_r6_i19_val_val_i_i = get_u64(v_6);
     v_7 = v_a1 + 64;
-    v_r6_i19_val_val66_i_i = get_u64(v_7);
-    v_r10_i_i_i_i105_i_i = (u64)((u64)(v_r6_i19_val_val66_i_i) + (u64)(v_r6_i19_val_val_i_i));
-    v_r12_not_i_i_i_i_i106_i_i = v_r10_i_i_i_i105_i_i < 4294967296ull;
-    v_r4_sroa_10_0_i_i9_i_i_i107_i_i = v_r10_i_i_i_i105_i_i < 4294967296ull ? v_r10_i_i_i_i105_i_i : 4294967296ull;
-    v_r4_sroa_10_0_i_i_i_i_i108_i_i = (u32)(v_r4_sroa_10_0_i_i9_i_i_i107_i_i);
-    if (v_r12_not_i_i_i_i_i106_i_i) { goto L_arm_1_i_i_i116_i_i; } else { p_v_r5_sroa_0_0_i_i_sink_i_i_i109_i_i = 0u; p_v_r5_sroa_4_0_i_i_sink_i_i_i110_i_i = 7u; p_v_r5_sroa_10_0_i_i_sink_i_i_i111_i_i = 0u; goto L_der_core_borrowed_BorrowedEncode_encoded_len_25cd3__3; }
-L_arm_1_i_i_i116_i_i:;
-    v_r12_i_i_i_i_i117_i_i = v_r4_sroa_10_0_i_i_i_i_i108_i_i < 128u;
-    if (v_r12_i_i_i_i_i117_i_i) { p_v_r4_0_i_i_i_i_i126_i_i = 2u; goto L_der_core_length_Length_for_tlv_exit_i_i_i125_i_i; } else { goto L_else_2_i_i_i_i_i118_i_i; }
-L_else_2_i_i_i_i_i118_i_i:;
-    v_r17_i_i_i_i_i119_i_i = v_r4_sroa_10_0_i_i_i_i_i108_i_i < 256u;
-    if (v_r17_i_i_i_i_i119_i_i) { p_v_r4_0_i_i_i_i_i126_i_i = 3u; goto L_der_core_length_Length_for_tlv_exit_i_i_i125_i_i; } else { goto L_else_5_i_i_i_i_i120_i_i; }
-L_else_5_i_i_i_i_i120_i_i:;
-    v_r22_i_i_i_i_i121_i_i = v_r4_sroa_10_0_i_i_i_i_i108_i_i < 65536u;
-    v_r27_i_i_i_i_i122_i_i = v_r4_sroa_10_0_i_i_i_i_i108_i_i < 16777216u;
-    v_i_i_i_i_i123_i_i = v_r27_i_i_i_i_i122_i_i ? 5u : 6u;
-    v_r8_0_i_i_i_i_i124_i_i = v_r22_i_i_i_i_i121_i_i ? 4u : v_i_i_i_i_i123_i_i;
-    { p_v_r4_0_i_i_i_i_i126_i_i = v_r8_0_i_i_i_i_i124_i_i; goto L_der_core_length_Length_for_tlv_exit_i_i_i125_i_i; }
-L_der_core_length_Length_for_tlv_exit_i_i_i125_i_i:;
-    v_r4_0_i_i_i_i_i126_i_i = p_v_r4_0_i_i_i_i_i126_i_i;
-    v_r5_i_i_i_i_i_i127_i_i = (u32)((u32)(v_r4_sroa_10_0_i_i_i_i_i108_i_i) ^ (u32)(4294967295ull));
-    v_r7_i_not_i_i_i_i_i128_i_i = v_r4_0_i_i_i_i_i126_i_i <= v_r5_i_i_i_i_i_i127_i_i;
-    v_r11_i_i_i_i_i_i129_i_i = (u32)((u32)(v_r4_0_i_i_i_i_i126_i_i) + (u32)(v_r4_sroa_10_0_i_i_i_i_i108_i_i));
-    v_r5_sroa_4_0_i_i_i_i_i131_i_i = v_r7_i_not_i_i_i_i_i128_i_i ? 0u : 7u;
-    v_r5_sroa_10_0_i_i_i_i_i132_i_i = v_r7_i_not_i_i_i_i_i128_i_i ? v_r11_i_i_i_i_i_i129_i_i : 0u;
-    { p_v_r5_sroa_0_0_i_i_sink_i_i_i109_i_i = v_r7_i_not_i_i_i_i_i128_i_i; p_v_r5_sroa_4_0_i_i_sink_i_i_i110_i_i = v_r5_sroa_4_0_i_i_i_i_i131_i_i; p_v_r5_sroa_10_0_i_i_sink_i_i_i111_i_i = v_r5_sroa_10_0_i_i_i_i_i132_i_i; goto L_der_core_borrowed_BorrowedEncode_encoded_len_25cd3__3; }
+    v_r6_i19_val_val132_i_i = get_u64(v_7);
+    v_r10_i_i_i_i178_i_i = (u64)((u64)(v_r6_i19_val_val132_i_i) + (u64)(v_r6_i19_val_val_i_i));
+    v_r12_not_i_i_i_i_i179_i_i = v_r10_i_i_i_i178_i_i < 4294967296ull;
+    v_r4_sroa_10_0_i_i9_i_i_i180_i_i = v_r10_i_i_i_i178_i_i < 4294967296ull ? v_r10_i_i_i_i178_i_i : 4294967296ull;
+    v_r4_sroa_10_0_i_i_i_i_i181_i_i = (u32)(v_r4_sroa_10_0_i_i9_i_i_i180_i_i);
+    if (v_r12_not_i_i_i_i_i179_i_i) { goto L_arm_1_i_i_i189_i_i; } else { p_v_r5_sroa_0_0_i_i_sink_i_i_i182_i_i = 0u; p_v_r5_sroa_4_0_i_i_sink_i_i_i183_i_i = 7u; p_v_r5_sroa_10_0_i_i_sink_i_i_i184_i_i = 0u; goto L_der_core_borrowed_BorrowedEncode_encoded_len_25cd3__3; }
+L_arm_1_i_i_i189_i_i:;
+    v_r12_i_i_i_i_i190_i_i = v_r4_sroa_10_0_i_i_i_i_i181_i_i < 128u;
+    if (v_r12_i_i_i_i_i190_i_i) { p_v_r4_0_i_i_i_i_i199_i_i = 2u; goto L_der_core_length_Length_for_tlv_exit_i_i_i198_i_i; } else { goto L_else_2_i_i_i_i_i191_i_i; }
+L_else_2_i_i_i_i_i191_i_i:;
+    v_r17_i_i_i_i_i192_i_i = v_r4_sroa_10_0_i_i_i_i_i181_i_i < 256u;
+    if (v_r17_i_i_i_i_i192_i_i) { p_v_r4_0_i_i_i_i_i199_i_i = 3u; goto L_der_core_length_Length_for_tlv_exit_i_i_i198_i_i; } else { goto L_else_5_i_i_i_i_i193_i_i; }
+L_else_5_i_i_i_i_i193_i_i:;
+    v_r22_i_i_i_i_i194_i_i = v_r4_sroa_10_0_i_i_i_i_i181_i_i < 65536u;
+    v_r27_i_i_i_i_i195_i_i = v_r4_sroa_10_0_i_i_i_i_i181_i_i < 16777216u;
+    v_i_i_i_i_i196_i_i = v_r27_i_i_i_i_i195_i_i ? 5u : 6u;
+    v_r8_0_i_i_i_i_i197_i_i = v_r22_i_i_i_i_i194_i_i ? 4u : v_i_i_i_i_i196_i_i;
+    { p_v_r4_0_i_i_i_i_i199_i_i = v_r8_0_i_i_i_i_i197_i_i; goto L_der_core_length_Length_for_tlv_exit_i_i_i198_i_i; }
+L_der_core_length_Length_for_tlv_exit_i_i_i198_i_i:;
+    v_r4_0_i_i_i_i_i199_i_i = p_v_r4_0_i_i_i_i_i199_i_i;
+    v_r5_i_i_i_i_i_i200_i_i = (u32)((u32)(v_r4_sroa_10_0_i_i_i_i_i181_i_i) ^ (u32)(4294967295ull));
+    v_r7_i_not_i_i_i_i_i201_i_i = v_r4_0_i_i_i_i_i199_i_i <= v_r5_i_i_i_i_i_i200_i_i;
+    v_r11_i_i_i_i_i_i202_i_i = (u32)((u32)(v_r4_0_i_i_i_i_i199_i_i) + (u32)(v_r4_sroa_10_0_i_i_i_i_i181_i_i));
+    v_r5_sroa_4_0_i_i_i_i_i204_i_i = v_r7_i_not_i_i_i_i_i201_i_i ? 0u : 7u;
+    v_r5_sroa_10_0_i_i_i_i_i205_i_i = v_r7_i_not_i_i_i_i_i201_i_i ? v_r11_i_i_i_i_i_i202_i_i : 0u;
+    { p_v_r5_sroa_0_0_i_i_sink_i_i_i182_i_i = v_r7_i_not_i_i_i_i_i201_i_i; p_v_r5_sroa_4_0_i_i_sink_i_i_i183_i_i = v_r5_sroa_4_0_i_i_i_i_i204_i_i; p_v_r5_sroa_10_0_i_i_sink_i_i_i184_i_i = v_r5_sroa_10_0_i_i_i_i_i205_i_i; goto L_der_core_borrowed_BorrowedEncode_encoded_len_25cd3__3; }
 L_der_core_borrowed_BorrowedEncode_encoded_len_25cd3__3:;
-    v_r5_sroa_0_0_i_i_sink_i_i_i109_i_i = p_v_r5_sroa_0_0_i_i_sink_i_i_i109_i_i;
-    v_r5_sroa_4_0_i_i_sink_i_i_i110_i_i = p_v_r5_sroa_4_0_i_i_sink_i_i_i110_i_i;
-    v_r5_sroa_10_0_i_i_sink_i_i_i111_i_i = p_v_r5_sroa_10_0_i_i_sink_i_i_i111_i_i;
+    v_r5_sroa_0_0_i_i_sink_i_i_i182_i_i = p_v_r5_sroa_0_0_i_i_sink_i_i_i182_i_i;
+    v_r5_sroa_4_0_i_i_sink_i_i_i183_i_i = p_v_r5_sroa_4_0_i_i_sink_i_i_i183_i_i;
+    v_r5_sroa_10_0_i_i_sink_i_i_i184_i_i = p_v_r5_sroa_10_0_i_i_sink_i_i_i184_i_i;
     v_8 = v_a1 + 80;
     v_r6_i31_val_val_i_i = get_u64(v_8);
     v_9 = v_a1 + 88;
-    v_r6_i31_val_val67_i_i = get_u64(v_9);
-    v_r10_i_i_i_i134_i_i = (u64)((u64)(v_r6_i31_val_val67_i_i) + (u64)(v_r6_i31_val_val_i_i));
-    v_r12_not_i_i_i_i_i135_i_i = v_r10_i_i_i_i134_i_i < 4294967296ull;
-    v_r4_sroa_10_0_i_i9_i_i_i136_i_i = v_r10_i_i_i_i134_i_i < 4294967296ull ? v_r10_i_i_i_i134_i_i : 4294967296ull;
-    v_r4_sroa_10_0_i_i_i_i_i137_i_i = (u32)(v_r4_sroa_10_0_i_i9_i_i_i136_i_i);
-    if (v_r12_not_i_i_i_i_i135_i_i) { goto L_arm_1_i_i_i145_i_i; } else { p_v_r5_sroa_0_0_i_i_sink_i_i_i138_i_i = 0u; p_v_r5_sroa_4_0_i_i_sink_i_i_i139_i_i = 7u; p_v_r5_sroa_10_0_i_i_sink_i_i_i140_i_i = 0u; goto L_der_core_borrowed_BorrowedEncode_encoded_len_25cd3__4; }
-L_arm_1_i_i_i145_i_i:;
-    v_r12_i_i_i_i_i146_i_i = v_r4_sroa_10_0_i_i_i_i_i137_i_i < 128u;
-    if (v_r12_i_i_i_i_i146_i_i) { p_v_r4_0_i_i_i_i_i155_i_i = 2u; goto L_der_core_length_Length_for_tlv_exit_i_i_i154_i_i; } else { goto L_else_2_i_i_i_i_i147_i_i; }
-L_else_2_i_i_i_i_i147_i_i:;
-    v_r17_i_i_i_i_i148_i_i = v_r4_sroa_10_0_i_i_i_i_i137_i_i < 256u;
-    if (v_r17_i_i_i_i_i148_i_i) { p_v_r4_0_i_i_i_i_i155_i_i = 3u; goto L_der_core_length_Length_for_tlv_exit_i_i_i154_i_i; } else { goto L_else_5_i_i_i_i_i149_i_i; }
-L_else_5_i_i_i_i_i149_i_i:;
-    v_r22_i_i_i_i_i150_i_i = v_r4_sroa_10_0_i_i_i_i_i137_i_i < 65536u;
-    v_r27_i_i_i_i_i151_i_i = v_r4_sroa_10_0_i_i_i_i_i137_i_i < 16777216u;
-    v_i_i_i_i_i152_i_i = v_r27_i_i_i_i_i151_i_i ? 5u : 6u;
-    v_r8_0_i_i_i_i_i153_i_i = v_r22_i_i_i_i_i150_i_i ? 4u : v_i_i_i_i_i152_i_i;
-    { p_v_r4_0_i_i_i_i_i155_i_i = v_r8_0_i_i_i_i_i153_i_i; goto L_der_core_length_Length_for_tlv_exit_i_i_i154_i_i; }
-L_der_core_length_Length_for_tlv_exit_i_i_i154_i_i:;
-    v_r4_0_i_i_i_i_i155_i_i = p_v_r4_0_i_i_i_i_i155_i_i;
-    v_r5_i_i_i_i_i_i156_i_i = (u32)((u32)(v_r4_sroa_10_0_i_i_i_i_i137_i_i) ^ (u32)(4294967295ull));
-    v_r7_i_not_i_i_i_i_i157_i_i = v_r4_0_i_i_i_i_i155_i_i <= v_r5_i_i_i_i_i_i156_i_i;
-    v_r11_i_i_i_i_i_i158_i_i = (u32)((u32)(v_r4_0_i_i_i_i_i155_i_i) + (u32)(v_r4_sroa_10_0_i_i_i_i_i137_i_i));
-    v_r5_sroa_4_0_i_i_i_i_i160_i_i = v_r7_i_not_i_i_i_i_i157_i_i ? 0u : 7u;
-    v_r5_sroa_10_0_i_i_i_i_i161_i_i = v_r7_i_not_i_i_i_i_i157_i_i ? v_r11_i_i_i_i_i_i158_i_i : 0u;
-    { p_v_r5_sroa_0_0_i_i_sink_i_i_i138_i_i = v_r7_i_not_i_i_i_i_i157_i_i; p_v_r5_sroa_4_0_i_i_sink_i_i_i139_i_i = v_r5_sroa_4_0_i_i_i_i_i160_i_i; p_v_r5_sroa_10_0_i_i_sink_i_i_i140_i_i = v_r5_sroa_10_0_i_i_i_i_i161_i_i; goto L_der_core_borrowed_BorrowedEncode_encoded_len_25cd3__4; }
+    v_r6_i31_val_val133_i_i = get_u64(v_9);
+    v_r10_i_i_i_i207_i_i = (u64)((u64)(v_r6_i31_val_val133_i_i) + (u64)(v_r6_i31_val_val_i_i));
+    v_r12_not_i_i_i_i_i208_i_i = v_r10_i_i_i_i207_i_i < 4294967296ull;
+    v_r4_sroa_10_0_i_i9_i_i_i209_i_i = v_r10_i_i_i_i207_i_i < 4294967296ull ? v_r10_i_i_i_i207_i_i : 4294967296ull;
+    v_r4_sroa_10_0_i_i_i_i_i210_i_i = (u32)(v_r4_sroa_10_0_i_i9_i_i_i209_i_i);
+    if (v_r12_not_i_i_i_i_i208_i_i) { goto L_arm_1_i_i_i218_i_i; } else { p_v_r5_sroa_0_0_i_i_sink_i_i_i211_i_i = 0u; p_v_r5_sroa_4_0_i_i_sink_i_i_i212_i_i = 7u; p_v_r5_sroa_10_0_i_i_sink_i_i_i213_i_i = 0u; goto L_der_core_borrowed_BorrowedEncode_encoded_len_25cd3__4; }
+L_arm_1_i_i_i218_i_i:;
+    v_r12_i_i_i_i_i219_i_i = v_r4_sroa_10_0_i_i_i_i_i210_i_i < 128u;
+    if (v_r12_i_i_i_i_i219_i_i) { p_v_r4_0_i_i_i_i_i228_i_i = 2u; goto L_der_core_length_Length_for_tlv_exit_i_i_i227_i_i; } else { goto L_else_2_i_i_i_i_i220_i_i; }
+L_else_2_i_i_i_i_i220_i_i:;
+    v_r17_i_i_i_i_i221_i_i = v_r4_sroa_10_0_i_i_i_i_i210_i_i < 256u;
+    if (v_r17_i_i_i_i_i221_i_i) { p_v_r4_0_i_i_i_i_i228_i_i = 3u; goto L_der_core_length_Length_for_tlv_exit_i_i_i227_i_i; } else { goto L_else_5_i_i_i_i_i222_i_i; }
+L_else_5_i_i_i_i_i222_i_i:;
+    v_r22_i_i_i_i_i223_i_i = v_r4_sroa_10_0_i_i_i_i_i210_i_i < 65536u;
+    v_r27_i_i_i_i_i224_i_i = v_r4_sroa_10_0_i_i_i_i_i210_i_i < 16777216u;
+    v_i_i_i_i_i225_i_i = v_r27_i_i_i_i_i224_i_i ? 5u : 6u;
+    v_r8_0_i_i_i_i_i226_i_i = v_r22_i_i_i_i_i223_i_i ? 4u : v_i_i_i_i_i225_i_i;
+    { p_v_r4_0_i_i_i_i_i228_i_i = v_r8_0_i_i_i_i_i226_i_i; goto L_der_core_length_Length_for_tlv_exit_i_i_i227_i_i; }
+L_der_core_length_Length_for_tlv_exit_i_i_i227_i_i:;
+    v_r4_0_i_i_i_i_i228_i_i = p_v_r4_0_i_i_i_i_i228_i_i;
+    v_r5_i_i_i_i_i_i229_i_i = (u32)((u32)(v_r4_sroa_10_0_i_i_i_i_i210_i_i) ^ (u32)(4294967295ull));
+    v_r7_i_not_i_i_i_i_i230_i_i = v_r4_0_i_i_i_i_i228_i_i <= v_r5_i_i_i_i_i_i229_i_i;
+    v_r11_i_i_i_i_i_i231_i_i = (u32)((u32)(v_r4_0_i_i_i_i_i228_i_i) + (u32)(v_r4_sroa_10_0_i_i_i_i_i210_i_i));
+    v_r5_sroa_4_0_i_i_i_i_i233_i_i = v_r7_i_not_i_i_i_i_i230_i_i ? 0u : 7u;
+    v_r5_sroa_10_0_i_i_i_i_i234_i_i = v_r7_i_not_i_i_i_i_i230_i_i ? v_r11_i_i_i_i_i_i231_i_i : 0u;
+    { p_v_r5_sroa_0_0_i_i_sink_i_i_i211_i_i = v_r7_i_not_i_i_i_i_i230_i_i; p_v_r5_sroa_4_0_i_i_sink_i_i_i212_i_i = v_r5_sroa_4_0_i_i_i_i_i233_i_i; p_v_r5_sroa_10_0_i_i_sink_i_i_i213_i_i = v_r5_sroa_10_0_i_i_i_i_i234_i_i; goto L_der_core_borrowed_BorrowedEncode_encoded_len_25cd3__4; }
 L_der_core_borrowed_BorrowedEncode_encoded_len_25cd3__4:;
-    v_r5_sroa_0_0_i_i_sink_i_i_i138_i_i = p_v_r5_sroa_0_0_i_i_sink_i_i_i138_i_i;
-    v_r5_sroa_4_0_i_i_sink_i_i_i139_i_i = p_v_r5_sroa_4_0_i_i_sink_i_i_i139_i_i;
-    v_r5_sroa_10_0_i_i_sink_i_i_i140_i_i = p_v_r5_sroa_10_0_i_i_sink_i_i_i140_i_i;
+    v_r5_sroa_0_0_i_i_sink_i_i_i211_i_i = p_v_r5_sroa_0_0_i_i_sink_i_i_i211_i_i;
+    v_r5_sroa_4_0_i_i_sink_i_i_i212_i_i = p_v_r5_sroa_4_0_i_i_sink_i_i_i212_i_i;
+    v_r5_sroa_10_0_i_i_sink_i_i_i213_i_i = p_v_r5_sroa_10_0_i_i_sink_i_i_i213_i_i;
     v_10 = v_a1 + 104;
     v_r6_i43_val_val_i_i = get_u64(v_10);
     v_11 = v_a1 + 112;
-    v_r6_i43_val_val68_i_i = get_u64(v_11);
-    v_r10_i_i_i_i163_i_i = (u64)((u64)(v_r6_i43_val_val68_i_i) + (u64)(v_r6_i43_val_val_i_i));
-    v_r12_not_i_i_i_i_i164_i_i = v_r10_i_i_i_i163_i_i < 4294967296ull;
-    v_r4_sroa_10_0_i_i9_i_i_i165_i_i = v_r10_i_i_i_i163_i_i < 4294967296ull ? v_r10_i_i_i_i163_i_i : 4294967296ull;
-    v_r4_sroa_10_0_i_i_i_i_i166_i_i = (u32)(v_r4_sroa_10_0_i_i9_i_i_i165_i_i);
-    if (v_r12_not_i_i_i_i_i164_i_i) { goto L_arm_1_i_i_i174_i_i; } else { p_v_r5_sroa_0_0_i_i_sink_i_i_i167_i_i = 0u; p_v_r5_sroa_4_0_i_i_sink_i_i_i168_i_i = 7u; p_v_r5_sroa_10_0_i_i_sink_i_i_i169_i_i = 0u; goto L_der_core_borrowed_BorrowedEncode_encoded_len_25cd3__5; }
-L_arm_1_i_i_i174_i_i:;
-    v_r12_i_i_i_i_i175_i_i = v_r4_sroa_10_0_i_i_i_i_i166_i_i < 128u;
-    if (v_r12_i_i_i_i_i175_i_i) { p_v_r4_0_i_i_i_i_i184_i_i = 2u; goto L_der_core_length_Length_for_tlv_exit_i_i_i183_i_i; } else { goto L_else_2_i_i_i_i_i176_i_i; }
-L_else_2_i_i_i_i_i176_i_i:;
-    v_r17_i_i_i_i_i177_i_i = v_r4_sroa_10_0_i_i_i_i_i166_i_i < 256u;
-    if (v_r17_i_i_i_i_i177_i_i) { p_v_r4_0_i_i_i_i_i184_i_i = 3u; goto L_der_core_length_Length_for_tlv_exit_i_i_i183_i_i; } else { goto L_else_5_i_i_i_i_i178_i_i; }
-L_else_5_i_i_i_i_i178_i_i:;
-    v_r22_i_i_i_i_i179_i_i = v_r4_sroa_10_0_i_i_i_i_i166_i_i < 65536u;
-    v_r27_i_i_i_i_i180_i_i = v_r4_sroa_10_0_i_i_i_i_i166_i_i < 16777216u;
-    v_i_i_i_i_i181_i_i = v_r27_i_i_i_i_i180_i_i ? 5u : 6u;
-    v_r8_0_i_i_i_i_i182_i_i = v_r22_i_i_i_i_i179_i_i ? 4u : v_i_i_i_i_i181_i_i;
-    { p_v_r4_0_i_i_i_i_i184_i_i = v_r8_0_i_i_i_i_i182_i_i; goto L_der_core_length_Length_for_tlv_exit_i_i_i183_i_i; }
-L_der_core_length_Length_for_tlv_exit_i_i_i183_i_i:;
-    v_r4_0_i_i_i_i_i184_i_i = p_v_r4_0_i_i_i_i_i184_i_i;
-    v_r5_i_i_i_i_i_i185_i_i = (u32)((u32)(v_r4_sroa_10_0_i_i_i_i_i166_i_i) ^ (u32)(4294967295ull));
-    v_r7_i_not_i_i_i_i_i186_i_i = v_r4_0_i_i_i_i_i184_i_i <= v_r5_i_i_i_i_i_i185_i_i;
-    v_r11_i_i_i_i_i_i187_i_i = (u32)((u32)(v_r4_0_i_i_i_i_i184_i_i) + (u32)(v_r4_sroa_10_0_i_i_i_i_i166_i_i));
-    v_r5_sroa_4_0_i_i_i_i_i189_i_i = v_r7_i_not_i_i_i_i_i186_i_i ? 0u : 7u;
-    v_r5_sroa_10_0_i_i_i_i_i190_i_i = v_r7_i_not_i_i_i_i_i186_i_i ? v_r11_i_i_i_i_i_i187_i_i : 0u;
-    { p_v_r5_sroa_0_0_i_i_sink_i_i_i167_i_i = v_r7_i_not_i_i_i_i_i186_i_i; p_v_r5_sroa_4_0_i_i_sink_i_i_i168_i_i = v_r5_sroa_4_0_i_i_i_i_i189_i_i; p_v_r5_sroa_10_0_i_i_sink_i_i_i169_i_i = v_r5_sroa_10_0_i_i_i_i_i190_i_i; goto L_der_core_borrowed_BorrowedEncode_encoded_len_25cd3__5; }
+    v_r6_i43_val_val134_i_i = get_u64(v_11);
+    v_r10_i_i_i_i236_i_i = (u64)((u64)(v_r6_i43_val_val134_i_i) + (u64)(v_r6_i43_val_val_i_i));
+    v_r12_not_i_i_i_i_i237_i_i = v_r10_i_i_i_i236_i_i < 4294967296ull;
+    v_r4_sroa_10_0_i_i9_i_i_i238_i_i = v_r10_i_i_i_i236_i_i < 4294967296ull ? v_r10_i_i_i_i236_i_i : 4294967296ull;
+    v_r4_sroa_10_0_i_i_i_i_i239_i_i = (u32)(v_r4_sroa_10_0_i_i9_i_i_i238_i_i);
+    if (v_r12_not_i_i_i_i_i237_i_i) { goto L_arm_1_i_i_i247_i_i; } else { p_v_r5_sroa_0_0_i_i_sink_i_i_i240_i_i = 0u; p_v_r5_sroa_4_0_i_i_sink_i_i_i241_i_i = 7u; p_v_r5_sroa_10_0_i_i_sink_i_i_i242_i_i = 0u; goto L_der_core_borrowed_BorrowedEncode_encoded_len_25cd3__5; }
+L_arm_1_i_i_i247_i_i:;
+    v_r12_i_i_i_i_i248_i_i = v_r4_sroa_10_0_i_i_i_i_i239_i_i < 128u;
+    if (v_r12_i_i_i_i_i248_i_i) { p_v_r4_0_i_i_i_i_i257_i_i = 2u; goto L_der_core_length_Length_for_tlv_exit_i_i_i256_i_i; } else { goto L_else_2_i_i_i_i_i249_i_i; }
+L_else_2_i_i_i_i_i249_i_i:;
+    v_r17_i_i_i_i_i250_i_i = v_r4_sroa_10_0_i_i_i_i_i239_i_i < 256u;
+    if (v_r17_i_i_i_i_i250_i_i) { p_v_r4_0_i_i_i_i_i257_i_i = 3u; goto L_der_core_length_Length_for_tlv_exit_i_i_i256_i_i; } else { goto L_else_5_i_i_i_i_i251_i_i; }
+L_else_5_i_i_i_i_i251_i_i:;
+    v_r22_i_i_i_i_i252_i_i = v_r4_sroa_10_0_i_i_i_i_i239_i_i < 65536u;
+    v_r27_i_i_i_i_i253_i_i = v_r4_sroa_10_0_i_i_i_i_i239_i_i < 16777216u;
+    v_i_i_i_i_i254_i_i = v_r27_i_i_i_i_i253_i_i ? 5u : 6u;
+    v_r8_0_i_i_i_i_i255_i_i = v_r22_i_i_i_i_i252_i_i ? 4u : v_i_i_i_i_i254_i_i;
+    { p_v_r4_0_i_i_i_i_i257_i_i = v_r8_0_i_i_i_i_i255_i_i; goto L_der_core_length_Length_for_tlv_exit_i_i_i256_i_i; }
+L_der_core_length_Length_for_tlv_exit_i_i_i256_i_i:;
+    v_r4_0_i_i_i_i_i257_i_i = p_v_r4_0_i_i_i_i_i257_i_i;
+    v_r5_i_i_i_i_i_i258_i_i = (u32)((u32)(v_r4_sroa_10_0_i_i_i_i_i239_i_i) ^ (u32)(4294967295ull));
+    v_r7_i_not_i_i_i_i_i259_i_i = v_r4_0_i_i_i_i_i257_i_i <= v_r5_i_i_i_i_i_i258_i_i;
+    v_r11_i_i_i_i_i_i260_i_i = (u32)((u32)(v_r4_0_i_i_i_i_i257_i_i) + (u32)(v_r4_sroa_10_0_i_i_i_i_i239_i_i));
+    v_r5_sroa_4_0_i_i_i_i_i262_i_i = v_r7_i_not_i_i_i_i_i259_i_i ? 0u : 7u;
+    v_r5_sroa_10_0_i_i_i_i_i263_i_i = v_r7_i_not_i_i_i_i_i259_i_i ? v_r11_i_i_i_i_i_i260_i_i : 0u;
+    { p_v_r5_sroa_0_0_i_i_sink_i_i_i240_i_i = v_r7_i_not_i_i_i_i_i259_i_i; p_v_r5_sroa_4_0_i_i_sink_i_i_i241_i_i = v_r5_sroa_4_0_i_i_i_i_i262_i_i; p_v_r5_sroa_10_0_i_i_sink_i_i_i242_i_i = v_r5_sroa_10_0_i_i_i_i_i263_i_i; goto L_der_core_borrowed_BorrowedEncode_encoded_len_25cd3__5; }
 L_der_core_borrowed_BorrowedEncode_encoded_len_25cd3__5:;
-    v_r5_sroa_0_0_i_i_sink_i_i_i167_i_i = p_v_r5_sroa_0_0_i_i_sink_i_i_i167_i_i;
-    v_r5_sroa_4_0_i_i_sink_i_i_i168_i_i = p_v_r5_sroa_4_0_i_i_sink_i_i_i168_i_i;
-    v_r5_sroa_10_0_i_i_sink_i_i_i169_i_i = p_v_r5_sroa_10_0_i_i_sink_i_i_i169_i_i;
+    v_r5_sroa_0_0_i_i_sink_i_i_i240_i_i = p_v_r5_sroa_0_0_i_i_sink_i_i_i240_i_i;
+    v_r5_sroa_4_0_i_i_sink_i_i_i241_i_i = p_v_r5_sroa_4_0_i_i_sink_i_i_i241_i_i;
+    v_r5_sroa_10_0_i_i_sink_i_i_i242_i_i = p_v_r5_sroa_10_0_i_i_sink_i_i_i242_i_i;
     v_12 = v_a1 + 128;
-    v_r13_val_val_i_i_i = get_u64(v_12);
+    v_r13_i65_val_val_i_i = get_u64(v_12);
     v_13 = v_a1 + 136;
-    v_r13_val_val26_i_i_i = get_u64(v_13);
-    v_r10_i_i_i_i_i_i_i = (u64)((u64)(v_r13_val_val26_i_i_i) + (u64)(v_r13_val_val_i_i_i));
-    v_r12_not_i_i_i_i_i_i_i_i = v_r10_i_i_i_i_i_i_i < 4294967296ull;
-    v_r4_sroa_10_0_i_i9_i_i_i_i_i_i = v_r10_i_i_i_i_i_i_i < 4294967296ull ? v_r10_i_i_i_i_i_i_i : 4294967296ull;
-    v_r4_sroa_10_0_i_i_i_i_i_i_i_i = (u32)(v_r4_sroa_10_0_i_i9_i_i_i_i_i_i);
-    if (v_r12_not_i_i_i_i_i_i_i_i) { goto L_arm_1_i_i_i_i_i_i; } else { p_v_r5_sroa_0_0_i_i_sink_i_i_i_i_i_i = 0u; p_v_r5_sroa_4_0_i_i_sink_i_i_i_i_i_i = 7u; p_v_r5_sroa_10_0_i_i_sink_i_i_i_i_i_i = 0u; goto L_der_core_borrowed_BorrowedEncode_encoded_len_25cd3__6; }
-L_arm_1_i_i_i_i_i_i:;
-    v_r12_i_i_i_i_i_i_i_i = v_r4_sroa_10_0_i_i_i_i_i_i_i_i < 128u;
-    if (v_r12_i_i_i_i_i_i_i_i) { p_v_r4_0_i_i_i_i_i_i_i_i = 2u; goto L_der_core_length_Length_for_tlv_exit_i_i_i_i_i_i; } else { goto L_else_2_i_i_i_i_i_i_i_i; }
-L_else_2_i_i_i_i_i_i_i_i:;
-    v_r17_i_i_i_i_i_i_i_i = v_r4_sroa_10_0_i_i_i_i_i_i_i_i < 256u;
-    if (v_r17_i_i_i_i_i_i_i_i) { p_v_r4_0_i_i_i_i_i_i_i_i = 3u; goto L_der_core_length_Length_for_tlv_exit_i_i_i_i_i_i; } else { goto L_else_5_i_i_i_i_i_i_i_i; }
-L_else_5_i_i_i_i_i_i_i_i:;
-    v_r22_i_i_i_i_i_i_i_i = v_r4_sroa_10_0_i_i_i_i_i_i_i_i < 65536u;
-    v_r27_i_i_i_i_i_i_i_i = v_r4_sroa_10_0_i_i_i_i_i_i_i_i < 16777216u;
-    v_i_i_i_i_i_i_i_i = v_r27_i_i_i_i_i_i_i_i ? 5u : 6u;
-    v_r8_0_i_i_i_i_i_i_i_i = v_r22_i_i_i_i_i_i_i_i ? 4u : v_i_i_i_i_i_i_i_i;
-    { p_v_r4_0_i_i_i_i_i_i_i_i = v_r8_0_i_i_i_i_i_i_i_i; goto L_der_core_length_Length_for_tlv_exit_i_i_i_i_i_i; }
-L_der_core_length_Length_for_tlv_exit_i_i_i_i_i_i:;
-    v_r4_0_i_i_i_i_i_i_i_i = p_v_r4_0_i_i_i_i_i_i_i_i;
-    v_r5_i_i_i_i_i_i_i_i_i = (u32)((u32)(v_r4_sroa_10_0_i_i_i_i_i_i_i_i) ^ (u32)(4294967295ull));
-    v_r7_i_not_i_i_i_i_i_i_i_i = v_r4_0_i_i_i_i_i_i_i_i <= v_r5_i_i_i_i_i_i_i_i_i;
-    v_r11_i_i_i_i_i_i_i_i_i = (u32)((u32)(v_r4_0_i_i_i_i_i_i_i_i) + (u32)(v_r4_sroa_10_0_i_i_i_i_i_i_i_i));
-    v_r5_sroa_4_0_i_i_i_i_i_i_i_i = v_r7_i_not_i_i_i_i_i_i_i_i ? 0u : 7u;
-    v_r5_sroa_10_0_i_i_i_i_i_i_i_i = v_r7_i_not_i_i_i_i_i_i_i_i ? v_r11_i_i_i_i_i_i_i_i_i : 0u;
-    { p_v_r5_sroa_0_0_i_i_sink_i_i_i_i_i_i = v_r7_i_not_i_i_i_i_i_i_i_i; p_v_r5_sroa_4_0_i_i_sink_i_i_i_i_i_i = v_r5_sroa_4_0_i_i_i_i_i_i_i_i; p_v_r5_sroa_10_0_i_i_sink_i_i_i_i_i_i = v_r5_sroa_10_0_i_i_i_i_i_i_i_i; goto L_der_core_borrowed_BorrowedEncode_encoded_len_25cd3__6; }
+    v_r13_i65_val_val135_i_i = get_u64(v_13);
+    v_r10_i_i_i_i265_i_i = (u64)((u64)(v_r13_i65_val_val135_i_i) + (u64)(v_r13_i65_val_val_i_i));
+    v_r12_not_i_i_i_i_i266_i_i = v_r10_i_i_i_i265_i_i < 4294967296ull;
+    v_r4_sroa_10_0_i_i9_i_i_i267_i_i = v_r10_i_i_i_i265_i_i < 4294967296ull ? v_r10_i_i_i_i265_i_i : 4294967296ull;
+    v_r4_sroa_10_0_i_i_i_i_i268_i_i = (u32)(v_r4_sroa_10_0_i_i9_i_i_i267_i_i);
+    if (v_r12_not_i_i_i_i_i266_i_i) { goto L_arm_1_i_i_i276_i_i; } else { p_v_r5_sroa_0_0_i_i_sink_i_i_i269_i_i = 0u; p_v_r5_sroa_4_0_i_i_sink_i_i_i270_i_i = 7u; p_v_r5_sroa_10_0_i_i_sink_i_i_i271_i_i = 0u; goto L_der_core_borrowed_BorrowedEncode_encoded_len_25cd3__6; }
+L_arm_1_i_i_i276_i_i:;
+    v_r12_i_i_i_i_i277_i_i = v_r4_sroa_10_0_i_i_i_i_i268_i_i < 128u;
+    if (v_r12_i_i_i_i_i277_i_i) { p_v_r4_0_i_i_i_i_i286_i_i = 2u; goto L_der_core_length_Length_for_tlv_exit_i_i_i285_i_i; } else { goto L_else_2_i_i_i_i_i278_i_i; }
+L_else_2_i_i_i_i_i278_i_i:;
+    v_r17_i_i_i_i_i279_i_i = v_r4_sroa_10_0_i_i_i_i_i268_i_i < 256u;
+    if (v_r17_i_i_i_i_i279_i_i) { p_v_r4_0_i_i_i_i_i286_i_i = 3u; goto L_der_core_length_Length_for_tlv_exit_i_i_i285_i_i; } else { goto L_else_5_i_i_i_i_i280_i_i; }
+L_else_5_i_i_i_i_i280_i_i:;
+    v_r22_i_i_i_i_i281_i_i = v_r4_sroa_10_0_i_i_i_i_i268_i_i < 65536u;
+    v_r27_i_i_i_i_i282_i_i = v_r4_sroa_10_0_i_i_i_i_i268_i_i < 16777216u;
+    v_i_i_i_i_i283_i_i = v_r27_i_i_i_i_i282_i_i ? 5u : 6u;
+    v_r8_0_i_i_i_i_i284_i_i = v_r22_i_i_i_i_i281_i_i ? 4u : v_i_i_i_i_i283_i_i;
+    { p_v_r4_0_i_i_i_i_i286_i_i = v_r8_0_i_i_i_i_i284_i_i; goto L_der_core_length_Length_for_tlv_exit_i_i_i285_i_i; }
+L_der_core_length_Length_for_tlv_exit_i_i_i285_i_i:;
+    v_r4_0_i_i_i_i_i286_i_i = p_v_r4_0_i_i_i_i_i286_i_i;
+    v_r5_i_i_i_i_i_i287_i_i = (u32)((u32)(v_r4_sroa_10_0_i_i_i_i_i268_i_i) ^ (u32)(4294967295ull));
+    v_r7_i_not_i_i_i_i_i288_i_i = v_r4_0_i_i_i_i_i286_i_i <= v_r5_i_i_i_i_i_i287_i_i;
+    v_r11_i_i_i_i_i_i289_i_i = (u32)((u32)(v_r4_0_i_i_i_i_i286_i_i) + (u32)(v_r4_sroa_10_0_i_i_i_i_i268_i_i));
+    v_r5_sroa_4_0_i_i_i_i_i291_i_i = v_r7_i_not_i_i_i_i_i288_i_i ? 0u : 7u;
+    v_r5_sroa_10_0_i_i_i_i_i292_i_i = v_r7_i_not_i_i_i_i_i288_i_i ? v_r11_i_i_i_i_i_i289_i_i : 0u;
+    { p_v_r5_sroa_0_0_i_i_sink_i_i_i269_i_i = v_r7_i_not_i_i_i_i_i288_i_i; p_v_r5_sroa_4_0_i_i_sink_i_i_i270_i_i = v_r5_sroa_4_0_i_i_i_i_i291_i_i; p_v_r5_sroa_10_0_i_i_sink_i_i_i271_i_i = v_r5_sroa_10_0_i_i_i_i_i292_i_i; goto L_der_core_borrowed_BorrowedEncode_encoded_len_25cd3__6; }
 L_der_core_borrowed_BorrowedEncode_encoded_len_25cd3__6:;
-    v_r5_sroa_0_0_i_i_sink_i_i_i_i_i_i = p_v_r5_sroa_0_0_i_i_sink_i_i_i_i_i_i;
-    v_r5_sroa_4_0_i_i_sink_i_i_i_i_i_i = p_v_r5_sroa_4_0_i_i_sink_i_i_i_i_i_i;
-    v_r5_sroa_10_0_i_i_sink_i_i_i_i_i_i = p_v_r5_sroa_10_0_i_i_sink_i_i_i_i_i_i;
+    v_r5_sroa_0_0_i_i_sink_i_i_i269_i_i = p_v_r5_sroa_0_0_i_i_sink_i_i_i269_i_i;
+    v_r5_sroa_4_0_i_i_sink_i_i_i270_i_i = p_v_r5_sroa_4_0_i_i_sink_i_i_i270_i_i;
+    v_r5_sroa_10_0_i_i_sink_i_i_i271_i_i = p_v_r5_sroa_10_0_i_i_sink_i_i_i271_i_i;
     v_14 = v_a1 + 152;
-    v_r6_i_val_val_i_i_i = get_u64(v_14);
+    v_r6_i70_val_val_i_i = get_u64(v_14);
     v_15 = v_a1 + 160;
-    v_r6_i_val_val27_i_i_i = get_u64(v_15);
-    v_r10_i_i_i_i32_i_i_i = (u64)((u64)(v_r6_i_val_val27_i_i_i) + (u64)(v_r6_i_val_val_i_i_i));
-    v_r12_not_i_i_i_i_i33_i_i_i = v_r10_i_i_i_i32_i_i_i < 4294967296ull;
-    v_r4_sroa_10_0_i_i9_i_i_i34_i_i_i = v_r10_i_i_i_i32_i_i_i < 4294967296ull ? v_r10_i_i_i_i32_i_i_i : 4294967296ull;
-    v_r4_sroa_10_0_i_i_i_i_i35_i_i_i = (u32)(v_r4_sroa_10_0_i_i9_i_i_i34_i_i_i);
-    if (v_r12_not_i_i_i_i_i33_i_i_i) { goto L_arm_1_i_i_i43_i_i_i; } else { p_v_r5_sroa_0_0_i_i_sink_i_i_i36_i_i_i = 0u; p_v_r5_sroa_4_0_i_i_sink_i_i_i37_i_i_i = 7u; p_v_r5_sroa_10_0_i_i_sink_i_i_i38_i_i_i = 0u; goto L_der_core_borrowed_BorrowedEncode_encoded_len_25cd3__7; }
-L_arm_1_i_i_i43_i_i_i:;
-    v_r12_i_i_i_i_i44_i_i_i = v_r4_sroa_10_0_i_i_i_i_i35_i_i_i < 128u;
-    if (v_r12_i_i_i_i_i44_i_i_i) { p_v_r4_0_i_i_i_i_i53_i_i_i = 2u; goto L_der_core_length_Length_for_tlv_exit_i_i_i52_i_i_i; } else { goto L_else_2_i_i_i_i_i45_i_i_i; }
-L_else_2_i_i_i_i_i45_i_i_i:;
-    v_r17_i_i_i_i_i46_i_i_i = v_r4_sroa_10_0_i_i_i_i_i35_i_i_i < 256u;
-    if (v_r17_i_i_i_i_i46_i_i_i) { p_v_r4_0_i_i_i_i_i53_i_i_i = 3u; goto L_der_core_length_Length_for_tlv_exit_i_i_i52_i_i_i; } else { goto L_else_5_i_i_i_i_i47_i_i_i; }
-L_else_5_i_i_i_i_i47_i_i_i:;
-    v_r22_i_i_i_i_i48_i_i_i = v_r4_sroa_10_0_i_i_i_i_i35_i_i_i < 65536u;
-    v_r27_i_i_i_i_i49_i_i_i = v_r4_sroa_10_0_i_i_i_i_i35_i_i_i < 16777216u;
-    v_i_i_i_i_i50_i_i_i = v_r27_i_i_i_i_i49_i_i_i ? 5u : 6u;
-    v_r8_0_i_i_i_i_i51_i_i_i = v_r22_i_i_i_i_i48_i_i_i ? 4u : v_i_i_i_i_i50_i_i_i;
-    { p_v_r4_0_i_i_i_i_i53_i_i_i = v_r8_0_i_i_i_i_i51_i_i_i; goto L_der_core_length_Length_for_tlv_exit_i_i_i52_i_i_i; }
-L_der_core_length_Length_for_tlv_exit_i_i_i52_i_i_i:;
-    v_r4_0_i_i_i_i_i53_i_i_i = p_v_r4_0_i_i_i_i_i53_i_i_i;
-    v_r5_i_i_i_i_i_i54_i_i_i = (u32)((u32)(v_r4_sroa_10_0_i_i_i_i_i35_i_i_i) ^ (u32)(4294967295ull));
-    v_r7_i_not_i_i_i_i_i55_i_i_i = v_r4_0_i_i_i_i_i53_i_i_i <= v_r5_i_i_i_i_i_i54_i_i_i;
-    v_r11_i_i_i_i_i_i56_i_i_i = (u32)((u32)(v_r4_0_i_i_i_i_i53_i_i_i) + (u32)(v_r4_sroa_10_0_i_i_i_i_i35_i_i_i));
-    v_r5_sroa_4_0_i_i_i_i_i58_i_i_i = v_r7_i_not_i_i_i_i_i55_i_i_i ? 0u : 7u;
-    v_r5_sroa_10_0_i_i_i_i_i59_i_i_i = v_r7_i_not_i_i_i_i_i55_i_i_i ? v_r11_i_i_i_i_i_i56_i_i_i : 0u;
-    { p_v_r5_sroa_0_0_i_i_sink_i_i_i36_i_i_i = v_r7_i_not_i_i_i_i_i55_i_i_i; p_v_r5_sroa_4_0_i_i_sink_i_i_i37_i_i_i = v_r5_sroa_4_0_i_i_i_i_i58_i_i_i; p_v_r5_sroa_10_0_i_i_sink_i_i_i38_i_i_i = v_r5_sroa_10_0_i_i_i_i_i59_i_i_i; goto L_der_core_borrowed_BorrowedEncode_encoded_len_25cd3__7; }
+    v_r6_i70_val_val136_i_i = get_u64(v_15);
+    v_r10_i_i_i_i294_i_i = (u64)((u64)(v_r6_i70_val_val136_i_i) + (u64)(v_r6_i70_val_val_i_i));
+    v_r12_not_i_i_i_i_i295_i_i = v_r10_i_i_i_i294_i_i < 4294967296ull;
+    v_r4_sroa_10_0_i_i9_i_i_i296_i_i = v_r10_i_i_i_i294_i_i < 4294967296ull ? v_r10_i_i_i_i294_i_i : 4294967296ull;
+    v_r4_sroa_10_0_i_i_i_i_i297_i_i = (u32)(v_r4_sroa_10_0_i_i9_i_i_i296_i_i);
+    if (v_r12_not_i_i_i_i_i295_i_i) { goto L_arm_1_i_i_i305_i_i; } else { p_v_r5_sroa_0_0_i_i_sink_i_i_i298_i_i = 0u; p_v_r5_sroa_4_0_i_i_sink_i_i_i299_i_i = 7u; p_v_r5_sroa_10_0_i_i_sink_i_i_i300_i_i = 0u; goto L_der_core_borrowed_BorrowedEncode_encoded_len_25cd3__7; }
+L_arm_1_i_i_i305_i_i:;
+    v_r12_i_i_i_i_i306_i_i = v_r4_sroa_10_0_i_i_i_i_i297_i_i < 128u;
+    if (v_r12_i_i_i_i_i306_i_i) { p_v_r4_0_i_i_i_i_i315_i_i = 2u; goto L_der_core_length_Length_for_tlv_exit_i_i_i314_i_i; } else { goto L_else_2_i_i_i_i_i307_i_i; }
+L_else_2_i_i_i_i_i307_i_i:;
+    v_r17_i_i_i_i_i308_i_i = v_r4_sroa_10_0_i_i_i_i_i297_i_i < 256u;
+    if (v_r17_i_i_i_i_i308_i_i) { p_v_r4_0_i_i_i_i_i315_i_i = 3u; goto L_der_core_length_Length_for_tlv_exit_i_i_i314_i_i; } else { goto L_else_5_i_i_i_i_i309_i_i; }
+L_else_5_i_i_i_i_i309_i_i:;
+    v_r22_i_i_i_i_i310_i_i = v_r4_sroa_10_0_i_i_i_i_i297_i_i < 65536u;
+    v_r27_i_i_i_i_i311_i_i = v_r4_sroa_10_0_i_i_i_i_i297_i_i < 16777216u;
+    v_i_i_i_i_i312_i_i = v_r27_i_i_i_i_i311_i_i ? 5u : 6u;
+    v_r8_0_i_i_i_i_i313_i_i = v_r22_i_i_i_i_i310_i_i ? 4u : v_i_i_i_i_i312_i_i;
+    { p_v_r4_0_i_i_i_i_i315_i_i = v_r8_0_i_i_i_i_i313_i_i; goto L_der_core_length_Length_for_tlv_exit_i_i_i314_i_i; }
+L_der_core_length_Length_for_tlv_exit_i_i_i314_i_i:;
+    v_r4_0_i_i_i_i_i315_i_i = p_v_r4_0_i_i_i_i_i315_i_i;
+    v_r5_i_i_i_i_i_i316_i_i = (u32)((u32)(v_r4_sroa_10_0_i_i_i_i_i297_i_i) ^ (u32)(4294967295ull));
+    v_r7_i_not_i_i_i_i_i317_i_i = v_r4_0_i_i_i_i_i315_i_i <= v_r5_i_i_i_i_i_i316_i_i;
+    v_r11_i_i_i_i_i_i318_i_i = (u32)((u32)(v_r4_0_i_i_i_i_i315_i_i) + (u32)(v_r4_sroa_10_0_i_i_i_i_i297_i_i));
+    v_r5_sroa_4_0_i_i_i_i_i320_i_i = v_r7_i_not_i_i_i_i_i317_i_i ? 0u : 7u;
+    v_r5_sroa_10_0_i_i_i_i_i321_i_i = v_r7_i_not_i_i_i_i_i317_i_i ? v_r11_i_i_i_i_i_i318_i_i : 0u;
+    { p_v_r5_sroa_0_0_i_i_sink_i_i_i298_i_i = v_r7_i_not_i_i_i_i_i317_i_i; p_v_r5_sroa_4_0_i_i_sink_i_i_i299_i_i = v_r5_sroa_4_0_i_i_i_i_i320_i_i; p_v_r5_sroa_10_0_i_i_sink_i_i_i300_i_i = v_r5_sroa_10_0_i_i_i_i_i321_i_i; goto L_der_core_borrowed_BorrowedEncode_encoded_len_25cd3__7; }
 L_der_core_borrowed_BorrowedEncode_encoded_len_25cd3__7:;
-    v_r5_sroa_0_0_i_i_sink_i_i_i36_i_i_i = p_v_r5_sroa_0_0_i_i_sink_i_i_i36_i_i_i;
-    v_r5_sroa_4_0_i_i_sink_i_i_i37_i_i_i = p_v_r5_sroa_4_0_i_i_sink_i_i_i37_i_i_i;
-    v_r5_sroa_10_0_i_i_sink_i_i_i38_i_i_i = p_v_r5_sroa_10_0_i_i_sink_i_i_i38_i_i_i;
+    v_r5_sroa_0_0_i_i_sink_i_i_i298_i_i = p_v_r5_sroa_0_0_i_i_sink_i_i_i298_i_i;
+    v_r5_sroa_4_0_i_i_sink_i_i_i299_i_i = p_v_r5_sroa_4_0_i_i_sink_i_i_i299_i_i;
+    v_r5_sroa_10_0_i_i_sink_i_i_i300_i_i = p_v_r5_sroa_10_0_i_i_sink_i_i_i300_i_i;
     v_16 = v_a1 + 176;
-    v_r6_i5_val_val_i_i_i = get_u64(v_16);
+    v_r6_i82_val_val_i_i = get_u64(v_16);
     v_17 = v_a1 + 184;
-    v_r6_i5_val_val28_i_i_i = get_u64(v_17);
-    v_r10_i_i_i_i61_i_i_i = (u64)((u64)(v_r6_i5_val_val28_i_i_i) + (u64)(v_r6_i5_val_val_i_i_i));
-    v_r12_not_i_i_i_i_i62_i_i_i = v_r10_i_i_i_i61_i_i_i < 4294967296ull;
-    v_r4_sroa_10_0_i_i9_i_i_i63_i_i_i = v_r10_i_i_i_i61_i_i_i < 4294967296ull ? v_r10_i_i_i_i61_i_i_i : 4294967296ull;
-    v_r4_sroa_10_0_i_i_i_i_i64_i_i_i = (u32)(v_r4_sroa_10_0_i_i9_i_i_i63_i_i_i);
-    if (v_r12_not_i_i_i_i_i62_i_i_i) { goto L_arm_1_i_i_i72_i_i_i; } else { goto L_der_core_borrowed_BorrowedEncode_encoded_len_25cd3__8; }
-L_arm_1_i_i_i72_i_i_i:;
-    v_r12_i_i_i_i_i73_i_i_i = v_r4_sroa_10_0_i_i_i_i_i64_i_i_i < 128u;
-    if (v_r12_i_i_i_i_i73_i_i_i) { p_v_r4_0_i_i_i_i_i82_i_i_i = 2u; goto L_der_core_borrowed_BorrowedEncode_encoded_len_25cd3__9; } else { goto L_else_2_i_i_i_i_i74_i_i_i; }
-L_else_2_i_i_i_i_i74_i_i_i:;
-    v_r17_i_i_i_i_i75_i_i_i = v_r4_sroa_10_0_i_i_i_i_i64_i_i_i < 256u;
-    if (v_r17_i_i_i_i_i75_i_i_i) { p_v_r4_0_i_i_i_i_i82_i_i_i = 3u; goto L_der_core_borrowed_BorrowedEncode_encoded_len_25cd3__9; } else { goto L_else_5_i_i_i_i_i76_i_i_i; }
-L_else_5_i_i_i_i_i76_i_i_i:;
-    v_r22_i_i_i_i_i77_i_i_i = v_r4_sroa_10_0_i_i_i_i_i64_i_i_i < 65536u;
-    v_r27_i_i_i_i_i78_i_i_i = v_r4_sroa_10_0_i_i_i_i_i64_i_i_i < 16777216u;
-    v_i_i_i_i_i79_i_i_i = v_r27_i_i_i_i_i78_i_i_i ? 5u : 6u;
-    v_r8_0_i_i_i_i_i80_i_i_i = v_r22_i_i_i_i_i77_i_i_i ? 4u : v_i_i_i_i_i79_i_i_i;
-    { p_v_r4_0_i_i_i_i_i82_i_i_i = v_r8_0_i_i_i_i_i80_i_i_i; goto L_der_core_borrowed_BorrowedEncode_encoded_len_25cd3__9; }
+    v_r6_i82_val_val137_i_i = get_u64(v_17);
+    v_r10_i_i_i_i323_i_i = (u64)((u64)(v_r6_i82_val_val137_i_i) + (u64)(v_r6_i82_val_val_i_i));
+    v_r12_not_i_i_i_i_i324_i_i = v_r10_i_i_i_i323_i_i < 4294967296ull;
+    v_r4_sroa_10_0_i_i9_i_i_i325_i_i = v_r10_i_i_i_i323_i_i < 4294967296ull ? v_r10_i_i_i_i323_i_i : 4294967296ull;
+    v_r4_sroa_10_0_i_i_i_i_i326_i_i = (u32)(v_r4_sroa_10_0_i_i9_i_i_i325_i_i);
+    if (v_r12_not_i_i_i_i_i324_i_i) { goto L_arm_1_i_i_i334_i_i; } else { goto L_der_core_borrowed_BorrowedEncode_encoded_len_25cd3__8; }
+L_arm_1_i_i_i334_i_i:;
+    v_r12_i_i_i_i_i335_i_i = v_r4_sroa_10_0_i_i_i_i_i326_i_i < 128u;
+    if (v_r12_i_i_i_i_i335_i_i) { p_v_r4_0_i_i_i_i_i344_i_i = 2u; goto L_der_core_borrowed_BorrowedEncode_encoded_len_25cd3__9; } else { goto L_else_2_i_i_i_i_i336_i_i; }
+L_else_2_i_i_i_i_i336_i_i:;
+    v_r17_i_i_i_i_i337_i_i = v_r4_sroa_10_0_i_i_i_i_i326_i_i < 256u;
+    if (v_r17_i_i_i_i_i337_i_i) { p_v_r4_0_i_i_i_i_i344_i_i = 3u; goto L_der_core_borrowed_BorrowedEncode_encoded_len_25cd3__9; } else { goto L_else_5_i_i_i_i_i338_i_i; }
+L_else_5_i_i_i_i_i338_i_i:;
+    v_r22_i_i_i_i_i339_i_i = v_r4_sroa_10_0_i_i_i_i_i326_i_i < 65536u;
+    v_r27_i_i_i_i_i340_i_i = v_r4_sroa_10_0_i_i_i_i_i326_i_i < 16777216u;
+    v_i_i_i_i_i341_i_i = v_r27_i_i_i_i_i340_i_i ? 5u : 6u;
+    v_r8_0_i_i_i_i_i342_i_i = v_r22_i_i_i_i_i339_i_i ? 4u : v_i_i_i_i_i341_i_i;
+    { p_v_r4_0_i_i_i_i_i344_i_i = v_r8_0_i_i_i_i_i342_i_i; goto L_der_core_borrowed_BorrowedEncode_encoded_len_25cd3__9; }
 L_der_core_borrowed_BorrowedEncode_encoded_len_25cd3__9:;
-    v_r4_0_i_i_i_i_i82_i_i_i = p_v_r4_0_i_i_i_i_i82_i_i_i;
-    v_r5_i_i_i_i_i_i83_i_i_i = (u32)((u32)(v_r4_sroa_10_0_i_i_i_i_i64_i_i_i) ^ (u32)(4294967295ull));
-    v_r7_i_not_i_i_i_i_i84_i_i_i = v_r4_0_i_i_i_i_i82_i_i_i <= v_r5_i_i_i_i_i_i83_i_i_i;
-    v_r11_i_i_i_i_i_i85_i_i_i = (u32)((u32)(v_r4_0_i_i_i_i_i82_i_i_i) + (u32)(v_r4_sroa_10_0_i_i_i_i_i64_i_i_i));
-    v_r5_sroa_4_0_i_i_i_i_i87_i_i_i = v_r7_i_not_i_i_i_i_i84_i_i_i ? 0u : 7u;
-    v_r5_sroa_10_0_i_i_i_i_i88_i_i_i = v_r7_i_not_i_i_i_i_i84_i_i_i ? v_r11_i_i_i_i_i_i85_i_i_i : 0u;
-    if (v_0) { p_v_r5_sroa_10_0_i_i_sink_i_i_i6731_i_i_i = v_r5_sroa_10_0_i_i_i_i_i88_i_i_i; p_v_r5_sroa_4_0_i_i_sink_i_i_i6628_i_i_i = v_r5_sroa_4_0_i_i_i_i_i87_i_i_i; p_v_r5_sroa_0_0_i_i_sink_i_i_i6524_i_i_i = v_r7_i_not_i_i_i_i_i84_i_i_i; goto L_pkcs1_private_key_other_prime_info_lists_none_29_p__2; } else { goto L_pkcs1_private_key_written_OthersPartEncodeValue_va; }
+    v_r4_0_i_i_i_i_i344_i_i = p_v_r4_0_i_i_i_i_i344_i_i;
+    v_r5_i_i_i_i_i_i345_i_i = (u32)((u32)(v_r4_sroa_10_0_i_i_i_i_i326_i_i) ^ (u32)(4294967295ull));
+    v_r7_i_not_i_i_i_i_i346_i_i = v_r4_0_i_i_i_i_i344_i_i <= v_r5_i_i_i_i_i_i345_i_i;
+    v_r11_i_i_i_i_i_i347_i_i = (u32)((u32)(v_r4_0_i_i_i_i_i344_i_i) + (u32)(v_r4_sroa_10_0_i_i_i_i_i326_i_i));
+    v_r5_sroa_4_0_i_i_i_i_i349_i_i = v_r7_i_not_i_i_i_i_i346_i_i ? 0u : 7u;
+    v_r5_sroa_10_0_i_i_i_i_i350_i_i = v_r7_i_not_i_i_i_i_i346_i_i ? v_r11_i_i_i_i_i_i347_i_i : 0u;
+    if (v_0) { p_v_r5_sroa_10_0_i_i_sink_i_i_i329760_i_i = v_r5_sroa_10_0_i_i_i_i_i350_i_i; p_v_r5_sroa_4_0_i_i_sink_i_i_i328757_i_i = v_r5_sroa_4_0_i_i_i_i_i349_i_i; p_v_r5_sroa_0_0_i_i_sink_i_i_i327753_i_i = v_r7_i_not_i_i_i_i_i346_i_i; goto L_pkcs1_private_key_other_prime_info_lists_none_29_p__2; } else { goto L_pkcs1_private_key_written_OthersPartEncodeValue_va; }
 L_der_core_borrowed_BorrowedEncode_encoded_len_25cd3__8:;
-    if (v_0) { p_v_r5_sroa_10_0_i_i_sink_i_i_i6731_i_i_i = 0u; p_v_r5_sroa_4_0_i_i_sink_i_i_i6628_i_i_i = 7u; p_v_r5_sroa_0_0_i_i_sink_i_i_i6524_i_i_i = 0u; goto L_pkcs1_private_key_other_prime_info_lists_none_29_p__2; } else { p_v_r24_sroa_0_0_sink_i_i_i_i = 0u; p_v_r24_sroa_4_0_sink_i_i_i_i = 7u; p_v_r24_sroa_7_0_sink_i_i_i_i = 0u; p_v_r24_sroa_13_0_sink_i_i_i_i = 0u; goto L_der_core_encode_joined_len_exit_i_i_i; }
+    if (v_0) { p_v_r5_sroa_10_0_i_i_sink_i_i_i329760_i_i = 0u; p_v_r5_sroa_4_0_i_i_sink_i_i_i328757_i_i = 7u; p_v_r5_sroa_0_0_i_i_sink_i_i_i327753_i_i = 0u; goto L_pkcs1_private_key_other_prime_info_lists_none_29_p__2; } else { p_v_r24_sroa_0_0_sink_i_i_i = 0u; p_v_r24_sroa_4_0_sink_i_i_i = 7u; p_v_r24_sroa_7_0_sink_i_i_i = 0u; p_v_r24_sroa_13_0_sink_i_i_i = 0u; goto L_der_core_encode_joined_len_exit_i_i; }
 L_pkcs1_private_key_other_prime_info_lists_none_29_p__2:;
-    v_r5_sroa_10_0_i_i_sink_i_i_i6731_i_i_i = p_v_r5_sroa_10_0_i_i_sink_i_i_i6731_i_i_i;
-    v_r5_sroa_4_0_i_i_sink_i_i_i6628_i_i_i = p_v_r5_sroa_4_0_i_i_sink_i_i_i6628_i_i_i;
-    v_r5_sroa_0_0_i_i_sink_i_i_i6524_i_i_i = p_v_r5_sroa_0_0_i_i_sink_i_i_i6524_i_i_i;
+    v_r5_sroa_10_0_i_i_sink_i_i_i329760_i_i = p_v_r5_sroa_10_0_i_i_sink_i_i_i329760_i_i;
+    v_r5_sroa_4_0_i_i_sink_i_i_i328757_i_i = p_v_r5_sroa_4_0_i_i_sink_i_i_i328757_i_i;
+    v_r5_sroa_0_0_i_i_sink_i_i_i327753_i_i = p_v_r5_sroa_0_0_i_i_sink_i_i_i327753_i_i;
     v_18 = v_a1 + 208;
-    v_r4_val_i_i_i_i_i = get_u64(v_18);
-    v_r5_i_i_i_i_i_i = v_r4_val_i_i_i_i_i == 0u;
-    if (v_r5_i_i_i_i_i_i) { p_v_r3_i_sroa_0_0_sink_i_i_i_i = 0u; p_v_r3_i_sroa_6_0_sink_i_i_i_i = 13u; p_v_sink_i_i_i_i = 48u; p_v_r3_i_sroa_12_0_sink_i_i_i_i = 0u; goto L_pkcs1_private_key_written_OthersPartEncodeValue_va__2; } else { goto L_join_6_i_i_i_i_i_preheader_i_i_i_i; }
-L_join_6_i_i_i_i_i_preheader_i_i_i_i:;
-    v_r7_i7_i_i_i_i = v_a1 + 200;
-    v_r8_i_val_val_i_i_i_i = get_P(v_r7_i7_i_i_i_i);
-    { p_v_r4_010_i_i_i_i_i_i_i_i_i = 0u; p_v_r3_sroa_0_09_i_i_i_i_i_i_i_i_i = 0u; p_v_r3_sroa_5_08_i_i_i_i_i_i_i_i_i = 0u; p_v_r3_sroa_14_07_i_i_i_i_i_i_i_i_i = 0u; goto L_join_6_i_i_i_i_i_i_i_i_i; }
-L_join_6_i_i_i_i_i_i_i_i_i:;
-    v_r4_010_i_i_i_i_i_i_i_i_i = p_v_r4_010_i_i_i_i_i_i_i_i_i;
-    v_r3_sroa_0_09_i_i_i_i_i_i_i_i_i = p_v_r3_sroa_0_09_i_i_i_i_i_i_i_i_i;
-    v_r3_sroa_5_08_i_i_i_i_i_i_i_i_i = p_v_r3_sroa_5_08_i_i_i_i_i_i_i_i_i;
-    v_r3_sroa_14_07_i_i_i_i_i_i_i_i_i = p_v_r3_sroa_14_07_i_i_i_i_i_i_i_i_i;
-    v_r22_i_i_i_i_i_i_i_i_i = (u64)((u64)(v_r4_010_i_i_i_i_i_i_i_i_i) * (u64)(72u));
-    v_r25_i_i_i_i_i_i_i_i_i = (P)((uintptr_t)v_r8_i_val_val_i_i_i_i + (u64)(v_r22_i_i_i_i_i_i_i_i_i));
-    v_19 = v_r25_i_i_i_i_i_i_i_i_i + 8;
-    v_r10_val_val_i_i_i_i_i_i_i_i_i_i_i_i = get_u64(v_19);
-    v_20 = v_r25_i_i_i_i_i_i_i_i_i + 16;
-    v_r10_val_val29_i_i_i_i_i_i_i_i_i_i_i_i = get_u64(v_20);
-    v_r10_i_i_i_i_i_i_i_i_i_i_i_i_i_i_i_i = (u64)((u64)(v_r10_val_val29_i_i_i_i_i_i_i_i_i_i_i_i) + (u64)(v_r10_val_val_i_i_i_i_i_i_i_i_i_i_i_i));
-    v_r12_not_i_i_i_i_i_i_i_i_i_i_i_i_i_i_i_i_i = v_r10_i_i_i_i_i_i_i_i_i_i_i_i_i_i_i_i < 4294967296ull;
-    v_r4_sroa_10_0_i_i9_i_i_i_i_i_i_i_i_i_i_i_i_i_i_i = v_r10_i_i_i_i_i_i_i_i_i_i_i_i_i_i_i_i < 4294967296ull ? v_r10_i_i_i_i_i_i_i_i_i_i_i_i_i_i_i_i : 4294967296ull;
-    v_r4_sroa_10_0_i_i_i_i_i_i_i_i_i_i_i_i_i_i_i_i_i = (u32)(v_r4_sroa_10_0_i_i9_i_i_i_i_i_i_i_i_i_i_i_i_i_i_i);
-    if (v_r12_not_i_i_i_i_i_i_i_i_i_i_i_i_i_i_i_i_i) { goto L_arm_1_i_i_i_i_i_i_i_i_i_i_i_i_i_i_i; } else { p_v_r5_sroa_0_0_i_i_sink_i_i_i_i_i_i_i_i_i_i_i_i_i_i_i = 0u; p_v_r5_sroa_4_0_i_i_sink_i_i_i_i_i_i_i_i_i_i_i_i_i_i_i = 7u; p_v_r5_sroa_10_0_i_i_sink_i_i_i_i_i_i_i_i_i_i_i_i_i_i_ = 0u; goto L_der_core_borrowed_BorrowedEncode_encoded_len_25cd3__10; }
-L_arm_1_i_i_i_i_i_i_i_i_i_i_i_i_i_i_i:;
-    v_r12_i_i_i_i_i_i_i_i_i_i_i_i_i_i_i_i_i = v_r4_sroa_10_0_i_i_i_i_i_i_i_i_i_i_i_i_i_i_i_i_i < 128u;
-    if (v_r12_i_i_i_i_i_i_i_i_i_i_i_i_i_i_i_i_i) { p_v_r4_0_i_i_i_i_i_i_i_i_i_i_i_i_i_i_i_i_i = 2u; goto L_der_core_length_Length_for_tlv_exit_i_i_i_i_i_i_i_; } else { goto L_else_2_i_i_i_i_i_i_i_i_i_i_i_i_i_i_i_i_i; }
-L_else_2_i_i_i_i_i_i_i_i_i_i_i_i_i_i_i_i_i:;
-    v_r17_i_i_i_i_i_i_i_i_i_i_i_i_i_i_i_i_i = v_r4_sroa_10_0_i_i_i_i_i_i_i_i_i_i_i_i_i_i_i_i_i < 256u;
-    if (v_r17_i_i_i_i_i_i_i_i_i_i_i_i_i_i_i_i_i) { p_v_r4_0_i_i_i_i_i_i_i_i_i_i_i_i_i_i_i_i_i = 3u; goto L_der_core_length_Length_for_tlv_exit_i_i_i_i_i_i_i_; } else { goto L_else_5_i_i_i_i_i_i_i_i_i_i_i_i_i_i_i_i_i; }
-L_else_5_i_i_i_i_i_i_i_i_i_i_i_i_i_i_i_i_i:;
-    v_r22_i_i_i_i_i_i_i_i_i_i_i_i_i_i_i_i_i = v_r4_sroa_10_0_i_i_i_i_i_i_i_i_i_i_i_i_i_i_i_i_i < 65536u;
-    v_r27_i_i_i_i_i_i_i_i_i_i_i_i_i_i_i_i_i = v_r4_sroa_10_0_i_i_i_i_i_i_i_i_i_i_i_i_i_i_i_i_i < 16777216u;
-    v_i_i_i_i_i_i_i_i_i_i_i_i_i_i_i_i_i = v_r27_i_i_i_i_i_i_i_i_i_i_i_i_i_i_i_i_i ? 5u : 6u;
-    v_r8_0_i_i_i_i_i_i_i_i_i_i_i_i_i_i_i_i_i = v_r22_i_i_i_i_i_i_i_i_i_i_i_i_i_i_i_i_i ? 4u : v_i_i_i_i_i_i_i_i_i_i_i_i_i_i_i_i_i;
-    { p_v_r4_0_i_i_i_i_i_i_i_i_i_i_i_i_i_i_i_i_i = v_r8_0_i_i_i_i_i_i_i_i_i_i_i_i_i_i_i_i_i; goto L_der_core_length_Length_for_tlv_exit_i_i_i_i_i_i_i_; }
+    v_r4_val_i355_i_i = get_u64(v_18);
+    v_r5_i_i356_i_i = v_r4_val_i355_i_i == 0u;
+    if (v_r5_i_i356_i_i) { p_v_r3_i93_sroa_15_0_i_i = 0u; p_v_r3_i93_sroa_9_0_i_i = 48u; p_v_r3_i93_sroa_6_0_i_i = 13u; p_v_r3_i93_sroa_0_0_i_i = 0u; goto L_pkcs1_private_key_written_OthersPartEncodeValue_va__2; } else { goto L_join_6_i_i_i_i_i_preheader_i_i; }
+L_join_6_i_i_i_i_i_preheader_i_i:;
+    v_r7_i117720_i_i = v_a1 + 200;
+    v_r8_i129_val_val_i_i = get_P(v_r7_i117720_i_i);
+    { p_v_r4_010_i_i_i_i_i_i_i = 0u; p_v_r3_sroa_0_09_i_i_i_i_i_i_i = 0u; p_v_r3_sroa_5_08_i_i_i_i_i_i_i = 0u; p_v_r3_sroa_14_07_i_i_i_i_i_i_i = 0u; goto L_join_6_i_i_i_i_i_i_i; }
+L_join_6_i_i_i_i_i_i_i:;
+    v_r4_010_i_i_i_i_i_i_i = p_v_r4_010_i_i_i_i_i_i_i;
+    v_r3_sroa_0_09_i_i_i_i_i_i_i = p_v_r3_sroa_0_09_i_i_i_i_i_i_i;
+    v_r3_sroa_5_08_i_i_i_i_i_i_i = p_v_r3_sroa_5_08_i_i_i_i_i_i_i;
+    v_r3_sroa_14_07_i_i_i_i_i_i_i = p_v_r3_sroa_14_07_i_i_i_i_i_i_i;
+    v_r22_i_i_i_i_i362_i_i = (u64)((u64)(v_r4_010_i_i_i_i_i_i_i) * (u64)(72u));
+    v_r25_i_i_i_i_i_i_i = (P)((uintptr_t)v_r8_i129_val_val_i_i + (u64)(v_r22_i_i_i_i_i362_i_i));
+    v_19 = v_r25_i_i_i_i_i_i_i + 8;
+    v_r10_val_val_i_i_i_i_i_i_i_i_i_i = get_u64(v_19);
+    v_20 = v_r25_i_i_i_i_i_i_i + 16;
+    v_r10_val_val29_i_i_i_i_i_i_i_i_i_i = get_u64(v_20);
+    v_r10_i_i_i_i_i_i_i_i_i_i_i_i_i_i = (u64)((u64)(v_r10_val_val29_i_i_i_i_i_i_i_i_i_i) + (u64)(v_r10_val_val_i_i_i_i_i_i_i_i_i_i));
+    v_r12_not_i_i_i_i_i_i_i_i_i_i_i_i_i_i_i = v_r10_i_i_i_i_i_i_i_i_i_i_i_i_i_i < 4294967296ull;
+    v_r4_sroa_10_0_i_i9_i_i_i_i_i_i_i_i_i_i_i_i_i = v_r10_i_i_i_i_i_i_i_i_i_i_i_i_i_i < 4294967296ull ? v_r10_i_i_i_i_i_i_i_i_i_i_i_i_i_i : 4294967296ull;
+    v_r4_sroa_10_0_i_i_i_i_i_i_i_i_i_i_i_i_i_i_i = (u32)(v_r4_sroa_10_0_i_i9_i_i_i_i_i_i_i_i_i_i_i_i_i);
+    if (v_r12_not_i_i_i_i_i_i_i_i_i_i_i_i_i_i_i) { goto L_arm_1_i_i_i_i_i_i_i_i_i_i_i_i_i; } else { p_v_r5_sroa_0_0_i_i_sink_i_i_i_i_i_i_i_i_i_i_i_i_i = 0u; p_v_r5_sroa_4_0_i_i_sink_i_i_i_i_i_i_i_i_i_i_i_i_i = 7u; p_v_r5_sroa_10_0_i_i_sink_i_i_i_i_i_i_i_i_i_i_i_i_i = 0u; goto L_der_core_borrowed_BorrowedEncode_encoded_len_25cd3__10; }
+L_arm_1_i_i_i_i_i_i_i_i_i_i_i_i_i:;
+    v_r12_i_i_i_i_i_i_i_i_i_i_i_i_i_i_i = v_r4_sroa_10_0_i_i_i_i_i_i_i_i_i_i_i_i_i_i_i < 128u;
+    if (v_r12_i_i_i_i_i_i_i_i_i_i_i_i_i_i_i) { p_v_r4_0_i_i_i_i_i_i_i_i_i_i_i_i_i_i_i = 2u; goto L_der_core_length_Length_for_tlv_exit_i_i_i_i_i_i_i_; } else { goto L_else_2_i_i_i_i_i_i_i_i_i_i_i_i_i_i_i; }
+L_else_2_i_i_i_i_i_i_i_i_i_i_i_i_i_i_i:;
+    v_r17_i_i_i_i_i_i_i_i_i_i_i_i_i_i_i = v_r4_sroa_10_0_i_i_i_i_i_i_i_i_i_i_i_i_i_i_i < 256u;
+    if (v_r17_i_i_i_i_i_i_i_i_i_i_i_i_i_i_i) { p_v_r4_0_i_i_i_i_i_i_i_i_i_i_i_i_i_i_i = 3u; goto L_der_core_length_Length_for_tlv_exit_i_i_i_i_i_i_i_; } else { goto L_else_5_i_i_i_i_i_i_i_i_i_i_i_i_i_i_i; }
+L_else_5_i_i_i_i_i_i_i_i_i_i_i_i_i_i_i:;
+    v_r22_i_i_i_i_i_i_i_i_i_i_i_i_i_i_i = v_r4_sroa_10_0_i_i_i_i_i_i_i_i_i_i_i_i_i_i_i < 65536u;
+    v_r27_i_i_i_i_i_i_i_i_i_i_i_i_i_i_i = v_r4_sroa_10_0_i_i_i_i_i_i_i_i_i_i_i_i_i_i_i < 16777216u;
+    v_i_i_i_i_i_i_i_i_i_i_i_i_i_i_i = v_r27_i_i_i_i_i_i_i_i_i_i_i_i_i_i_i ? 5u : 6u;
+    v_r8_0_i_i_i_i_i_i_i_i_i_i_i_i_i_i_i = v_r22_i_i_i_i_i_i_i_i_i_i_i_i_i_i_i ? 4u : v_i_i_i_i_i_i_i_i_i_i_i_i_i_i_i;
+    { p_v_r4_0_i_i_i_i_i_i_i_i_i_i_i_i_i_i_i = v_r8_0_i_i_i_i_i_i_i_i_i_i_i_i_i_i_i; goto L_der_core_length_Length_for_tlv_exit_i_i_i_i_i_i_i_; }
 L_der_core_length_Length_for_tlv_exit_i_i_i_i_i_i_i_:;
-    v_r4_0_i_i_i_i_i_i_i_i_i_i_i_i_i_i_i_i_i = p_v_r4_0_i_i_i_i_i_i_i_i_i_i_i_i_i_i_i_i_i;
-    v_r5_i_i_i_i_i_i_i_i_i_i_i_i_i_i_i_i_i_i = (u32)((u32)(v_r4_sroa_10_0_i_i_i_i_i_i_i_i_i_i_i_i_i_i_i_i_i) ^ (u32)(4294967295ull));
-    v_r7_i_not_i_i_i_i_i_i_i_i_i_i_i_i_i_i_i_i_i = v_r4_0_i_i_i_i_i_i_i_i_i_i_i_i_i_i_i_i_i <= v_r5_i_i_i_i_i_i_i_i_i_i_i_i_i_i_i_i_i_i;
-    v_r11_i_i_i_i_i_i_i_i_i_i_i_i_i_i_i_i_i_i = (u32)((u32)(v_r4_0_i_i_i_i_i_i_i_i_i_i_i_i_i_i_i_i_i) + (u32)(v_r4_sroa_10_0_i_i_i_i_i_i_i_i_i_i_i_i_i_i_i_i_i));
-    v_r5_sroa_4_0_i_i_i_i_i_i_i_i_i_i_i_i_i_i_i_i_i = v_r7_i_not_i_i_i_i_i_i_i_i_i_i_i_i_i_i_i_i_i ? 0u : 7u;
-    v_r5_sroa_10_0_i_i_i_i_i_i_i_i_i_i_i_i_i_i_i_i_i = v_r7_i_not_i_i_i_i_i_i_i_i_i_i_i_i_i_i_i_i_i ? v_r11_i_i_i_i_i_i_i_i_i_i_i_i_i_i_i_i_i_i : 0u;
-    { p_v_r5_sroa_0_0_i_i_sink_i_i_i_i_i_i_i_i_i_i_i_i_i_i_i = v_r7_i_not_i_i_i_i_i_i_i_i_i_i_i_i_i_i_i_i_i; p_v_r5_sroa_4_0_i_i_sink_i_i_i_i_i_i_i_i_i_i_i_i_i_i_i = v_r5_sroa_4_0_i_i_i_i_i_i_i_i_i_i_i_i_i_i_i_i_i; p_v_r5_sroa_10_0_i_i_sink_i_i_i_i_i_i_i_i_i_i_i_i_i_i_ = v_r5_sroa_10_0_i_i_i_i_i_i_i_i_i_i_i_i_i_i_i_i_i; goto L_der_core_borrowed_BorrowedEncode_encoded_len_25cd3__10; }
+    v_r4_0_i_i_i_i_i_i_i_i_i_i_i_i_i_i_i = p_v_r4_0_i_i_i_i_i_i_i_i_i_i_i_i_i_i_i;
+    v_r5_i_i_i_i_i_i_i_i_i_i_i_i_i_i_i_i = (u32)((u32)(v_r4_sroa_10_0_i_i_i_i_i_i_i_i_i_i_i_i_i_i_i) ^ (u32)(4294967295ull));
+    v_r7_i_not_i_i_i_i_i_i_i_i_i_i_i_i_i_i_i = v_r4_0_i_i_i_i_i_i_i_i_i_i_i_i_i_i_i <= v_r5_i_i_i_i_i_i_i_i_i_i_i_i_i_i_i_i;
+    v_r11_i_i_i_i_i_i_i_i_i_i_i_i_i_i_i_i = (u32)((u32)(v_r4_0_i_i_i_i_i_i_i_i_i_i_i_i_i_i_i) + (u32)(v_r4_sroa_10_0_i_i_i_i_i_i_i_i_i_i_i_i_i_i_i));
+    v_r5_sroa_4_0_i_i_i_i_i_i_i_i_i_i_i_i_i_i_i = v_r7_i_not_i_i_i_i_i_i_i_i_i_i_i_i_i_i_i ? 0u : 7u;
+    v_r5_sroa_10_0_i_i_i_i_i_i_i_i_i_i_i_i_i_i_i = v_r7_i_not_i_i_i_i_i_i_i_i_i_i_i_i_i_i_i ? v_r11_i_i_i_i_i_i_i_i_i_i_i_i_i_i_i_i : 0u;
+    { p_v_r5_sroa_0_0_i_i_sink_i_i_i_i_i_i_i_i_i_i_i_i_i = v_r7_i_not_i_i_i_i_i_i_i_i_i_i_i_i_i_i_i; p_v_r5_sroa_4_0_i_i_sink_i_i_i_i_i_i_i_i_i_i_i_i_i = v_r5_sroa_4_0_i_i_i_i_i_i_i_i_i_i_i_i_i_i_i; p_v_r5_sroa_10_0_i_i_sink_i_i_i_i_i_i_i_i_i_i_i_i_i = v_r5_sroa_10_0_i_i_i_i_i_i_i_i_i_i_i_i_i_i_i; goto L_der_core_borrowed_BorrowedEncode_encoded_len_25cd3__10; }
 L_der_core_borrowed_BorrowedEncode_encoded_len_25cd3__10:;
-    v_r5_sroa_0_0_i_i_sink_i_i_i_i_i_i_i_i_i_i_i_i_i_i_i = p_v_r5_sroa_0_0_i_i_sink_i_i_i_i_i_i_i_i_i_i_i_i_i_i_i;
-    v_r5_sroa_4_0_i_i_sink_i_i_i_i_i_i_i_i_i_i_i_i_i_i_i = p_v_r5_sroa_4_0_i_i_sink_i_i_i_i_i_i_i_i_i_i_i_i_i_i_i;
-    v_r5_sroa_10_0_i_i_sink_i_i_i_i_i_i_i_i_i_i_i_i_i_i_ = p_v_r5_sroa_10_0_i_i_sink_i_i_i_i_i_i_i_i_i_i_i_i_i_i_;
-    v_21 = v_r25_i_i_i_i_i_i_i_i_i + 32;
-    v_r6_i_val_val_i_i_i_i_i_i_i_i_i_i_i_i = get_u64(v_21);
-    v_22 = v_r25_i_i_i_i_i_i_i_i_i + 40;
-    v_r6_i_val_val30_i_i_i_i_i_i_i_i_i_i_i_i = get_u64(v_22);
-    v_r10_i_i_i_i35_i_i_i_i_i_i_i_i_i_i_i_i = (u64)((u64)(v_r6_i_val_val30_i_i_i_i_i_i_i_i_i_i_i_i) + (u64)(v_r6_i_val_val_i_i_i_i_i_i_i_i_i_i_i_i));
-    v_r12_not_i_i_i_i_i36_i_i_i_i_i_i_i_i_i_i_i_i = v_r10_i_i_i_i35_i_i_i_i_i_i_i_i_i_i_i_i < 4294967296ull;
-    v_r4_sroa_10_0_i_i9_i_i_i37_i_i_i_i_i_i_i_i_i_i_i_i = v_r10_i_i_i_i35_i_i_i_i_i_i_i_i_i_i_i_i < 4294967296ull ? v_r10_i_i_i_i35_i_i_i_i_i_i_i_i_i_i_i_i : 4294967296ull;
-    v_r4_sroa_10_0_i_i_i_i_i38_i_i_i_i_i_i_i_i_i_i_i_i = (u32)(v_r4_sroa_10_0_i_i9_i_i_i37_i_i_i_i_i_i_i_i_i_i_i_i);
-    if (v_r12_not_i_i_i_i_i36_i_i_i_i_i_i_i_i_i_i_i_i) { goto L_arm_1_i_i_i46_i_i_i_i_i_i_i_i_i_i_i_i; } else { p_v_r5_sroa_0_0_i_i_sink_i_i_i39_i_i_i_i_i_i_i_i_i_i_i = 1u; p_v_r5_sroa_4_0_i_i_sink_i_i_i40_i_i_i_i_i_i_i_i_i_i_i = 7u; p_v_r5_sroa_10_0_i_i_sink_i_i_i41_i_i_i_i_i_i_i_i_i_i_ = 0u; goto L_der_core_borrowed_BorrowedEncode_encoded_len_25cd3__11; }
-L_arm_1_i_i_i46_i_i_i_i_i_i_i_i_i_i_i_i:;
-    v_r12_i_i_i_i_i47_i_i_i_i_i_i_i_i_i_i_i_i = v_r4_sroa_10_0_i_i_i_i_i38_i_i_i_i_i_i_i_i_i_i_i_i < 128u;
-    if (v_r12_i_i_i_i_i47_i_i_i_i_i_i_i_i_i_i_i_i) { p_v_r4_0_i_i_i_i_i56_i_i_i_i_i_i_i_i_i_i_i_i = 2u; goto L_der_core_length_Length_for_tlv_exit_i_i_i55_i_i_i_; } else { goto L_else_2_i_i_i_i_i48_i_i_i_i_i_i_i_i_i_i_i_i; }
-L_else_2_i_i_i_i_i48_i_i_i_i_i_i_i_i_i_i_i_i:;
-    v_r17_i_i_i_i_i49_i_i_i_i_i_i_i_i_i_i_i_i = v_r4_sroa_10_0_i_i_i_i_i38_i_i_i_i_i_i_i_i_i_i_i_i < 256u;
-    if (v_r17_i_i_i_i_i49_i_i_i_i_i_i_i_i_i_i_i_i) { p_v_r4_0_i_i_i_i_i56_i_i_i_i_i_i_i_i_i_i_i_i = 3u; goto L_der_core_length_Length_for_tlv_exit_i_i_i55_i_i_i_; } else { goto L_else_5_i_i_i_i_i50_i_i_i_i_i_i_i_i_i_i_i_i; }
-L_else_5_i_i_i_i_i50_i_i_i_i_i_i_i_i_i_i_i_i:;
-    v_r22_i_i_i_i_i51_i_i_i_i_i_i_i_i_i_i_i_i = v_r4_sroa_10_0_i_i_i_i_i38_i_i_i_i_i_i_i_i_i_i_i_i < 65536u;
-    v_r27_i_i_i_i_i52_i_i_i_i_i_i_i_i_i_i_i_i = v_r4_sroa_10_0_i_i_i_i_i38_i_i_i_i_i_i_i_i_i_i_i_i < 16777216u;
-    v_i_i_i_i_i53_i_i_i_i_i_i_i_i_i_i_i_i = v_r27_i_i_i_i_i52_i_i_i_i_i_i_i_i_i_i_i_i ? 5u : 6u;
-    v_r8_0_i_i_i_i_i54_i_i_i_i_i_i_i_i_i_i_i_i = v_r22_i_i_i_i_i51_i_i_i_i_i_i_i_i_i_i_i_i ? 4u : v_i_i_i_i_i53_i_i_i_i_i_i_i_i_i_i_i_i;
-    { p_v_r4_0_i_i_i_i_i56_i_i_i_i_i_i_i_i_i_i_i_i = v_r8_0_i_i_i_i_i54_i_i_i_i_i_i_i_i_i_i_i_i; goto L_der_core_length_Length_for_tlv_exit_i_i_i55_i_i_i_; }
+    v_r5_sroa_0_0_i_i_sink_i_i_i_i_i_i_i_i_i_i_i_i_i = p_v_r5_sroa_0_0_i_i_sink_i_i_i_i_i_i_i_i_i_i_i_i_i;
+    v_r5_sroa_4_0_i_i_sink_i_i_i_i_i_i_i_i_i_i_i_i_i = p_v_r5_sroa_4_0_i_i_sink_i_i_i_i_i_i_i_i_i_i_i_i_i;
+    v_r5_sroa_10_0_i_i_sink_i_i_i_i_i_i_i_i_i_i_i_i_i = p_v_r5_sroa_10_0_i_i_sink_i_i_i_i_i_i_i_i_i_i_i_i_i;
+    v_21 = v_r25_i_i_i_i_i_i_i + 32;
+    v_r6_i_val_val_i_i_i_i_i_i_i_i_i_i = get_u64(v_21);
+    v_22 = v_r25_i_i_i_i_i_i_i + 40;
+    v_r6_i_val_val30_i_i_i_i_i_i_i_i_i_i = get_u64(v_22);
+    v_r10_i_i_i_i35_i_i_i_i_i_i_i_i_i_i = (u64)((u64)(v_r6_i_val_val30_i_i_i_i_i_i_i_i_i_i) + (u64)(v_r6_i_val_val_i_i_i_i_i_i_i_i_i_i));
+    v_r12_not_i_i_i_i_i36_i_i_i_i_i_i_i_i_i_i = v_r10_i_i_i_i35_i_i_i_i_i_i_i_i_i_i < 4294967296ull;
+    v_r4_sroa_10_0_i_i9_i_i_i37_i_i_i_i_i_i_i_i_i_i = v_r10_i_i_i_i35_i_i_i_i_i_i_i_i_i_i < 4294967296ull ? v_r10_i_i_i_i35_i_i_i_i_i_i_i_i_i_i : 4294967296ull;
+    v_r4_sroa_10_0_i_i_i_i_i38_i_i_i_i_i_i_i_i_i_i = (u32)(v_r4_sroa_10_0_i_i9_i_i_i37_i_i_i_i_i_i_i_i_i_i);
+    if (v_r12_not_i_i_i_i_i36_i_i_i_i_i_i_i_i_i_i) { goto L_arm_1_i_i_i46_i_i_i_i_i_i_i_i_i_i; } else { p_v_r5_sroa_0_0_i_i_sink_i_i_i39_i_i_i_i_i_i_i_i_i_i = 1u; p_v_r5_sroa_4_0_i_i_sink_i_i_i40_i_i_i_i_i_i_i_i_i_i = 7u; p_v_r5_sroa_10_0_i_i_sink_i_i_i41_i_i_i_i_i_i_i_i_i_i = 0u; goto L_der_core_borrowed_BorrowedEncode_encoded_len_25cd3__11; }
+L_arm_1_i_i_i46_i_i_i_i_i_i_i_i_i_i:;
+    v_r12_i_i_i_i_i47_i_i_i_i_i_i_i_i_i_i = v_r4_sroa_10_0_i_i_i_i_i38_i_i_i_i_i_i_i_i_i_i < 128u;
+    if (v_r12_i_i_i_i_i47_i_i_i_i_i_i_i_i_i_i) { p_v_r4_0_i_i_i_i_i56_i_i_i_i_i_i_i_i_i_i = 2u; goto L_der_core_length_Length_for_tlv_exit_i_i_i55_i_i_i_; } else { goto L_else_2_i_i_i_i_i48_i_i_i_i_i_i_i_i_i_i; }
+L_else_2_i_i_i_i_i48_i_i_i_i_i_i_i_i_i_i:;
+    v_r17_i_i_i_i_i49_i_i_i_i_i_i_i_i_i_i = v_r4_sroa_10_0_i_i_i_i_i38_i_i_i_i_i_i_i_i_i_i < 256u;
+    if (v_r17_i_i_i_i_i49_i_i_i_i_i_i_i_i_i_i) { p_v_r4_0_i_i_i_i_i56_i_i_i_i_i_i_i_i_i_i = 3u; goto L_der_core_length_Length_for_tlv_exit_i_i_i55_i_i_i_; } else { goto L_else_5_i_i_i_i_i50_i_i_i_i_i_i_i_i_i_i; }
+L_else_5_i_i_i_i_i50_i_i_i_i_i_i_i_i_i_i:;
+    v_r22_i_i_i_i_i51_i_i_i_i_i_i_i_i_i_i = v_r4_sroa_10_0_i_i_i_i_i38_i_i_i_i_i_i_i_i_i_i < 65536u;
+    v_r27_i_i_i_i_i52_i_i_i_i_i_i_i_i_i_i = v_r4_sroa_10_0_i_i_i_i_i38_i_i_i_i_i_i_i_i_i_i < 16777216u;
+    v_i_i_i_i_i53_i_i_i_i_i_i_i_i_i_i = v_r27_i_i_i_i_i52_i_i_i_i_i_i_i_i_i_i ? 5u : 6u;
+    v_r8_0_i_i_i_i_i54_i_i_i_i_i_i_i_i_i_i = v_r22_i_i_i_i_i51_i_i_i_i_i_i_i_i_i_i ? 4u : v_i_i_i_i_i53_i_i_i_i_i_i_i_i_i_i;
+    { p_v_r4_0_i_i_i_i_i56_i_i_i_i_i_i_i_i_i_i = v_r8_0_i_i_i_i_i54_i_i_i_i_i_i_i_i_i_i; goto L_der_core_length_Length_for_tlv_exit_i_i_i55_i_i_i_; }
 L_der_core_length_Length_for_tlv_exit_i_i_i55_i_i_i_:;
-    v_r4_0_i_i_i_i_i56_i_i_i_i_i_i_i_i_i_i_i_i = p_v_r4_0_i_i_i_i_i56_i_i_i_i_i_i_i_i_i_i_i_i;
-    v_r5_i_i_i_i_i_i57_i_i_i_i_i_i_i_i_i_i_i_i = (u32)((u32)(v_r4_sroa_10_0_i_i_i_i_i38_i_i_i_i_i_i_i_i_i_i_i_i) ^ (u32)(4294967295ull));
-    v_r7_i_not_i_i_i_i_i58_i_i_i_i_i_i_i_i_i_i_i_i = v_r4_0_i_i_i_i_i56_i_i_i_i_i_i_i_i_i_i_i_i > v_r5_i_i_i_i_i_i57_i_i_i_i_i_i_i_i_i_i_i_i;
-    v_r11_i_i_i_i_i_i59_i_i_i_i_i_i_i_i_i_i_i_i = (u32)((u32)(v_r4_0_i_i_i_i_i56_i_i_i_i_i_i_i_i_i_i_i_i) + (u32)(v_r4_sroa_10_0_i_i_i_i_i38_i_i_i_i_i_i_i_i_i_i_i_i));
-    v_r5_sroa_4_0_i_i_i_i_i61_i_i_i_i_i_i_i_i_i_i_i_i = v_r7_i_not_i_i_i_i_i58_i_i_i_i_i_i_i_i_i_i_i_i ? 7u : 0u;
-    v_r5_sroa_10_0_i_i_i_i_i62_i_i_i_i_i_i_i_i_i_i_i_i = v_r7_i_not_i_i_i_i_i58_i_i_i_i_i_i_i_i_i_i_i_i ? 0u : v_r11_i_i_i_i_i_i59_i_i_i_i_i_i_i_i_i_i_i_i;
-    { p_v_r5_sroa_0_0_i_i_sink_i_i_i39_i_i_i_i_i_i_i_i_i_i_i = v_r7_i_not_i_i_i_i_i58_i_i_i_i_i_i_i_i_i_i_i_i; p_v_r5_sroa_4_0_i_i_sink_i_i_i40_i_i_i_i_i_i_i_i_i_i_i = v_r5_sroa_4_0_i_i_i_i_i61_i_i_i_i_i_i_i_i_i_i_i_i; p_v_r5_sroa_10_0_i_i_sink_i_i_i41_i_i_i_i_i_i_i_i_i_i_ = v_r5_sroa_10_0_i_i_i_i_i62_i_i_i_i_i_i_i_i_i_i_i_i; goto L_der_core_borrowed_BorrowedEncode_encoded_len_25cd3__11; }
+    v_r4_0_i_i_i_i_i56_i_i_i_i_i_i_i_i_i_i = p_v_r4_0_i_i_i_i_i56_i_i_i_i_i_i_i_i_i_i;
+    v_r5_i_i_i_i_i_i57_i_i_i_i_i_i_i_i_i_i = (u32)((u32)(v_r4_sroa_10_0_i_i_i_i_i38_i_i_i_i_i_i_i_i_i_i) ^ (u32)(4294967295ull));
+    v_r7_i_not_i_i_i_i_i58_i_i_i_i_i_i_i_i_i_i = v_r4_0_i_i_i_i_i56_i_i_i_i_i_i_i_i_i_i > v_r5_i_i_i_i_i_i57_i_i_i_i_i_i_i_i_i_i;
+    v_r11_i_i_i_i_i_i59_i_i_i_i_i_i_i_i_i_i = (u32)((u32)(v_r4_0_i_i_i_i_i56_i_i_i_i_i_i_i_i_i_i) + (u32)(v_r4_sroa_10_0_i_i_i_i_i38_i_i_i_i_i_i_i_i_i_i));
+    v_r5_sroa_4_0_i_i_i_i_i61_i_i_i_i_i_i_i_i_i_i = v_r7_i_not_i_i_i_i_i58_i_i_i_i_i_i_i_i_i_i ? 7u : 0u;
+    v_r5_sroa_10_0_i_i_i_i_i62_i_i_i_i_i_i_i_i_i_i = v_r7_i_not_i_i_i_i_i58_i_i_i_i_i_i_i_i_i_i ? 0u : v_r11_i_i_i_i_i_i59_i_i_i_i_i_i_i_i_i_i;
+    { p_v_r5_sroa_0_0_i_i_sink_i_i_i39_i_i_i_i_i_i_i_i_i_i = v_r7_i_not_i_i_i_i_i58_i_i_i_i_i_i_i_i_i_i; p_v_r5_sroa_4_0_i_i_sink_i_i_i40_i_i_i_i_i_i_i_i_i_i = v_r5_sroa_4_0_i_i_i_i_i61_i_i_i_i_i_i_i_i_i_i; p_v_r5_sroa_10_0_i_i_sink_i_i_i41_i_i_i_i_i_i_i_i_i_i = v_r5_sroa_10_0_i_i_i_i_i62_i_i_i_i_i_i_i_i_i_i; goto L_der_core_borrowed_BorrowedEncode_encoded_len_25cd3__11; }
 L_der_core_borrowed_BorrowedEncode_encoded_len_25cd3__11:;
-    v_r5_sroa_0_0_i_i_sink_i_i_i39_i_i_i_i_i_i_i_i_i_i_i = p_v_r5_sroa_0_0_i_i_sink_i_i_i39_i_i_i_i_i_i_i_i_i_i_i;
-    v_r5_sroa_4_0_i_i_sink_i_i_i40_i_i_i_i_i_i_i_i_i_i_i = p_v_r5_sroa_4_0_i_i_sink_i_i_i40_i_i_i_i_i_i_i_i_i_i_i;
-    v_r5_sroa_10_0_i_i_sink_i_i_i41_i_i_i_i_i_i_i_i_i_i_ = p_v_r5_sroa_10_0_i_i_sink_i_i_i41_i_i_i_i_i_i_i_i_i_i_;
-    v_23 = v_r25_i_i_i_i_i_i_i_i_i + 56;
-    v_r6_i6_val_val_i_i_i_i_i_i_i_i_i_i_i_i = get_u64(v_23);
-    v_24 = v_r25_i_i_i_i_i_i_i_i_i + 64;
-    v_r6_i6_val_val31_i_i_i_i_i_i_i_i_i_i_i_i = get_u64(v_24);
-    v_r10_i_i_i_i64_i_i_i_i_i_i_i_i_i_i_i_i = (u64)((u64)(v_r6_i6_val_val31_i_i_i_i_i_i_i_i_i_i_i_i) + (u64)(v_r6_i6_val_val_i_i_i_i_i_i_i_i_i_i_i_i));
-    v_r12_not_i_i_i_i_i65_i_i_i_i_i_i_i_i_i_i_i_i = v_r10_i_i_i_i64_i_i_i_i_i_i_i_i_i_i_i_i < 4294967296ull;
-    v_r4_sroa_10_0_i_i9_i_i_i66_i_i_i_i_i_i_i_i_i_i_i_i = v_r10_i_i_i_i64_i_i_i_i_i_i_i_i_i_i_i_i < 4294967296ull ? v_r10_i_i_i_i64_i_i_i_i_i_i_i_i_i_i_i_i : 4294967296ull;
-    v_r4_sroa_10_0_i_i_i_i_i67_i_i_i_i_i_i_i_i_i_i_i_i = (u32)(v_r4_sroa_10_0_i_i9_i_i_i66_i_i_i_i_i_i_i_i_i_i_i_i);
-    if (v_r12_not_i_i_i_i_i65_i_i_i_i_i_i_i_i_i_i_i_i) { goto L_arm_1_i_i_i75_i_i_i_i_i_i_i_i_i_i_i_i; } else { p_v_r24_sroa_0_0_sink_i119_i_i_i_i_i_i_i_i_i_i_i_i = 0u; p_v_r24_sroa_4_0_sink_i120_i_i_i_i_i_i_i_i_i_i_i_i = 7u; p_v_r24_sroa_13_0_sink_i123_i_i_i_i_i_i_i_i_i_i_i_i = 0u; goto L_der_core_encode_joined_len_exit137_i_i_i_i_i_i_i_i; }
-L_arm_1_i_i_i75_i_i_i_i_i_i_i_i_i_i_i_i:;
-    v_r12_i_i_i_i_i76_i_i_i_i_i_i_i_i_i_i_i_i = v_r4_sroa_10_0_i_i_i_i_i67_i_i_i_i_i_i_i_i_i_i_i_i < 128u;
-    if (v_r12_i_i_i_i_i76_i_i_i_i_i_i_i_i_i_i_i_i) { p_v_r4_0_i_i_i_i_i85_i_i_i_i_i_i_i_i_i_i_i_i = 2u; goto L_der_core_borrowed_BorrowedEncode_encoded_len_25cd3__12; } else { goto L_else_2_i_i_i_i_i77_i_i_i_i_i_i_i_i_i_i_i_i; }
-L_else_2_i_i_i_i_i77_i_i_i_i_i_i_i_i_i_i_i_i:;
-    v_r17_i_i_i_i_i78_i_i_i_i_i_i_i_i_i_i_i_i = v_r4_sroa_10_0_i_i_i_i_i67_i_i_i_i_i_i_i_i_i_i_i_i < 256u;
-    if (v_r17_i_i_i_i_i78_i_i_i_i_i_i_i_i_i_i_i_i) { p_v_r4_0_i_i_i_i_i85_i_i_i_i_i_i_i_i_i_i_i_i = 3u; goto L_der_core_borrowed_BorrowedEncode_encoded_len_25cd3__12; } else { goto L_else_5_i_i_i_i_i79_i_i_i_i_i_i_i_i_i_i_i_i; }
-L_else_5_i_i_i_i_i79_i_i_i_i_i_i_i_i_i_i_i_i:;
-    v_r22_i_i_i_i_i80_i_i_i_i_i_i_i_i_i_i_i_i = v_r4_sroa_10_0_i_i_i_i_i67_i_i_i_i_i_i_i_i_i_i_i_i < 65536u;
-    v_r27_i_i_i_i_i81_i_i_i_i_i_i_i_i_i_i_i_i = v_r4_sroa_10_0_i_i_i_i_i67_i_i_i_i_i_i_i_i_i_i_i_i < 16777216u;
-    v_i_i_i_i_i82_i_i_i_i_i_i_i_i_i_i_i_i = v_r27_i_i_i_i_i81_i_i_i_i_i_i_i_i_i_i_i_i ? 5u : 6u;
-    v_r8_0_i_i_i_i_i83_i_i_i_i_i_i_i_i_i_i_i_i = v_r22_i_i_i_i_i80_i_i_i_i_i_i_i_i_i_i_i_i ? 4u : v_i_i_i_i_i82_i_i_i_i_i_i_i_i_i_i_i_i;
-    { p_v_r4_0_i_i_i_i_i85_i_i_i_i_i_i_i_i_i_i_i_i = v_r8_0_i_i_i_i_i83_i_i_i_i_i_i_i_i_i_i_i_i; goto L_der_core_borrowed_BorrowedEncode_encoded_len_25cd3__12; }
+    v_r5_sroa_0_0_i_i_sink_i_i_i39_i_i_i_i_i_i_i_i_i_i = p_v_r5_sroa_0_0_i_i_sink_i_i_i39_i_i_i_i_i_i_i_i_i_i;
+    v_r5_sroa_4_0_i_i_sink_i_i_i40_i_i_i_i_i_i_i_i_i_i = p_v_r5_sroa_4_0_i_i_sink_i_i_i40_i_i_i_i_i_i_i_i_i_i;
+    v_r5_sroa_10_0_i_i_sink_i_i_i41_i_i_i_i_i_i_i_i_i_i = p_v_r5_sroa_10_0_i_i_sink_i_i_i41_i_i_i_i_i_i_i_i_i_i;
+    v_23 = v_r25_i_i_i_i_i_i_i + 56;
+    v_r6_i6_val_val_i_i_i_i_i_i_i_i_i_i = get_u64(v_23);
+    v_24 = v_r25_i_i_i_i_i_i_i + 64;
+    v_r6_i6_val_val31_i_i_i_i_i_i_i_i_i_i = get_u64(v_24);
+    v_r10_i_i_i_i64_i_i_i_i_i_i_i_i_i_i = (u64)((u64)(v_r6_i6_val_val31_i_i_i_i_i_i_i_i_i_i) + (u64)(v_r6_i6_val_val_i_i_i_i_i_i_i_i_i_i));
+    v_r12_not_i_i_i_i_i65_i_i_i_i_i_i_i_i_i_i = v_r10_i_i_i_i64_i_i_i_i_i_i_i_i_i_i < 4294967296ull;
+    v_r4_sroa_10_0_i_i9_i_i_i66_i_i_i_i_i_i_i_i_i_i = v_r10_i_i_i_i64_i_i_i_i_i_i_i_i_i_i < 4294967296ull ? v_r10_i_i_i_i64_i_i_i_i_i_i_i_i_i_i : 4294967296ull;
+    v_r4_sroa_10_0_i_i_i_i_i67_i_i_i_i_i_i_i_i_i_i = (u32)(v_r4_sroa_10_0_i_i9_i_i_i66_i_i_i_i_i_i_i_i_i_i);
+    if (v_r12_not_i_i_i_i_i65_i_i_i_i_i_i_i_i_i_i) { goto L_arm_1_i_i_i75_i_i_i_i_i_i_i_i_i_i; } else { p_v_r24_sroa_0_0_sink_i119_i_i_i_i_i_i_i_i_i_i = 0u; p_v_r24_sroa_4_0_sink_i120_i_i_i_i_i_i_i_i_i_i = 7u; p_v_r24_sroa_13_0_sink_i123_i_i_i_i_i_i_i_i_i_i = 0u; goto L_der_core_encode_joined_len_exit137_i_i_i_i_i_i_i_i; }
+L_arm_1_i_i_i75_i_i_i_i_i_i_i_i_i_i:;
+    v_r12_i_i_i_i_i76_i_i_i_i_i_i_i_i_i_i = v_r4_sroa_10_0_i_i_i_i_i67_i_i_i_i_i_i_i_i_i_i < 128u;
+    if (v_r12_i_i_i_i_i76_i_i_i_i_i_i_i_i_i_i) { p_v_r4_0_i_i_i_i_i85_i_i_i_i_i_i_i_i_i_i = 2u; goto L_der_core_borrowed_BorrowedEncode_encoded_len_25cd3__12; } else { goto L_else_2_i_i_i_i_i77_i_i_i_i_i_i_i_i_i_i; }
+L_else_2_i_i_i_i_i77_i_i_i_i_i_i_i_i_i_i:;
+    v_r17_i_i_i_i_i78_i_i_i_i_i_i_i_i_i_i = v_r4_sroa_10_0_i_i_i_i_i67_i_i_i_i_i_i_i_i_i_i < 256u;
+    if (v_r17_i_i_i_i_i78_i_i_i_i_i_i_i_i_i_i) { p_v_r4_0_i_i_i_i_i85_i_i_i_i_i_i_i_i_i_i = 3u; goto L_der_core_borrowed_BorrowedEncode_encoded_len_25cd3__12; } else { goto L_else_5_i_i_i_i_i79_i_i_i_i_i_i_i_i_i_i; }
+L_else_5_i_i_i_i_i79_i_i_i_i_i_i_i_i_i_i:;
+    v_r22_i_i_i_i_i80_i_i_i_i_i_i_i_i_i_i = v_r4_sroa_10_0_i_i_i_i_i67_i_i_i_i_i_i_i_i_i_i < 65536u;
+    v_r27_i_i_i_i_i81_i_i_i_i_i_i_i_i_i_i = v_r4_sroa_10_0_i_i_i_i_i67_i_i_i_i_i_i_i_i_i_i < 16777216u;
+    v_i_i_i_i_i82_i_i_i_i_i_i_i_i_i_i = v_r27_i_i_i_i_i81_i_i_i_i_i_i_i_i_i_i ? 5u : 6u;
+    v_r8_0_i_i_i_i_i83_i_i_i_i_i_i_i_i_i_i = v_r22_i_i_i_i_i80_i_i_i_i_i_i_i_i_i_i ? 4u : v_i_i_i_i_i82_i_i_i_i_i_i_i_i_i_i;
+    { p_v_r4_0_i_i_i_i_i85_i_i_i_i_i_i_i_i_i_i = v_r8_0_i_i_i_i_i83_i_i_i_i_i_i_i_i_i_i; goto L_der_core_borrowed_BorrowedEncode_encoded_len_25cd3__12; }
 L_der_core_borrowed_BorrowedEncode_encoded_len_25cd3__12:;
-    v_r4_0_i_i_i_i_i85_i_i_i_i_i_i_i_i_i_i_i_i = p_v_r4_0_i_i_i_i_i85_i_i_i_i_i_i_i_i_i_i_i_i;
-    v_r5_i_i_i_i_i_i86_i_i_i_i_i_i_i_i_i_i_i_i = (u32)((u32)(v_r4_sroa_10_0_i_i_i_i_i67_i_i_i_i_i_i_i_i_i_i_i_i) ^ (u32)(4294967295ull));
-    v_r7_i_not_i_i_i_i_i87_not_i_i_i_i_i_i_i_i_i_i_i_i = v_r4_0_i_i_i_i_i85_i_i_i_i_i_i_i_i_i_i_i_i > v_r5_i_i_i_i_i_i86_i_i_i_i_i_i_i_i_i_i_i_i;
-    v_brmerge_i_i_i_i_i_i_i_i_i_i_i_i = v_r7_i_not_i_i_i_i_i87_not_i_i_i_i_i_i_i_i_i_i_i_i ? 1u : v_r5_sroa_0_0_i_i_sink_i_i_i39_i_i_i_i_i_i_i_i_i_i_i;
-    v_r5_sroa_4_0_i_i_i_i_i90_mux_i_i_i_i_i_i_i_i_i_i_i_ = v_r7_i_not_i_i_i_i_i87_not_i_i_i_i_i_i_i_i_i_i_i_i ? 7u : v_r5_sroa_4_0_i_i_sink_i_i_i40_i_i_i_i_i_i_i_i_i_i_i;
-    if (v_brmerge_i_i_i_i_i_i_i_i_i_i_i_i) { p_v_r24_sroa_0_0_sink_i119_i_i_i_i_i_i_i_i_i_i_i_i = 0u; p_v_r24_sroa_4_0_sink_i120_i_i_i_i_i_i_i_i_i_i_i_i = v_r5_sroa_4_0_i_i_i_i_i90_mux_i_i_i_i_i_i_i_i_i_i_i_; p_v_r24_sroa_13_0_sink_i123_i_i_i_i_i_i_i_i_i_i_i_i = 0u; goto L_der_core_encode_joined_len_exit137_i_i_i_i_i_i_i_i; } else { goto L_arm_5_i130_i_i_i_i_i_i_i_i_i_i_i_i; }
-L_arm_5_i130_i_i_i_i_i_i_i_i_i_i_i_i:;
-    v_r11_i_i_i_i_i_i88_i_i_i_i_i_i_i_i_i_i_i_i = (u32)((u32)(v_r4_0_i_i_i_i_i85_i_i_i_i_i_i_i_i_i_i_i_i) + (u32)(v_r4_sroa_10_0_i_i_i_i_i67_i_i_i_i_i_i_i_i_i_i_i_i));
-    v_r5_i_i_i131_i_i_i_i_i_i_i_i_i_i_i_i = (u32)((u32)(v_r11_i_i_i_i_i_i88_i_i_i_i_i_i_i_i_i_i_i_i) ^ (u32)(4294967295ull));
-    v_r7_i_not_i_i132_i_i_i_i_i_i_i_i_i_i_i_i = v_r5_sroa_10_0_i_i_sink_i_i_i41_i_i_i_i_i_i_i_i_i_i_ <= v_r5_i_i_i131_i_i_i_i_i_i_i_i_i_i_i_i;
-    v_r11_i_i_i133_i_i_i_i_i_i_i_i_i_i_i_i = (u32)((u32)(v_r11_i_i_i_i_i_i88_i_i_i_i_i_i_i_i_i_i_i_i) + (u32)(v_r5_sroa_10_0_i_i_sink_i_i_i41_i_i_i_i_i_i_i_i_i_i_));
-    v_r5_sroa_4_0_i_i135_i_i_i_i_i_i_i_i_i_i_i_i = v_r7_i_not_i_i132_i_i_i_i_i_i_i_i_i_i_i_i ? 0u : 7u;
-    v_r5_sroa_10_0_i_i136_i_i_i_i_i_i_i_i_i_i_i_i = v_r7_i_not_i_i132_i_i_i_i_i_i_i_i_i_i_i_i ? v_r11_i_i_i133_i_i_i_i_i_i_i_i_i_i_i_i : 0u;
-    { p_v_r24_sroa_0_0_sink_i119_i_i_i_i_i_i_i_i_i_i_i_i = v_r7_i_not_i_i132_i_i_i_i_i_i_i_i_i_i_i_i; p_v_r24_sroa_4_0_sink_i120_i_i_i_i_i_i_i_i_i_i_i_i = v_r5_sroa_4_0_i_i135_i_i_i_i_i_i_i_i_i_i_i_i; p_v_r24_sroa_13_0_sink_i123_i_i_i_i_i_i_i_i_i_i_i_i = v_r5_sroa_10_0_i_i136_i_i_i_i_i_i_i_i_i_i_i_i; goto L_der_core_encode_joined_len_exit137_i_i_i_i_i_i_i_i; }
+    v_r4_0_i_i_i_i_i85_i_i_i_i_i_i_i_i_i_i = p_v_r4_0_i_i_i_i_i85_i_i_i_i_i_i_i_i_i_i;
+    v_r5_i_i_i_i_i_i86_i_i_i_i_i_i_i_i_i_i = (u32)((u32)(v_r4_sroa_10_0_i_i_i_i_i67_i_i_i_i_i_i_i_i_i_i) ^ (u32)(4294967295ull));
+    v_r7_i_not_i_i_i_i_i87_not_i_i_i_i_i_i_i_i_i_i = v_r4_0_i_i_i_i_i85_i_i_i_i_i_i_i_i_i_i > v_r5_i_i_i_i_i_i86_i_i_i_i_i_i_i_i_i_i;
+    v_brmerge_i_i_i_i_i_i_i_i_i_i = v_r7_i_not_i_i_i_i_i87_not_i_i_i_i_i_i_i_i_i_i ? 1u : v_r5_sroa_0_0_i_i_sink_i_i_i39_i_i_i_i_i_i_i_i_i_i;
+    v_r5_sroa_4_0_i_i_i_i_i90_mux_i_i_i_i_i_i_i_i_i_i = v_r7_i_not_i_i_i_i_i87_not_i_i_i_i_i_i_i_i_i_i ? 7u : v_r5_sroa_4_0_i_i_sink_i_i_i40_i_i_i_i_i_i_i_i_i_i;
+    if (v_brmerge_i_i_i_i_i_i_i_i_i_i) { p_v_r24_sroa_0_0_sink_i119_i_i_i_i_i_i_i_i_i_i = 0u; p_v_r24_sroa_4_0_sink_i120_i_i_i_i_i_i_i_i_i_i = v_r5_sroa_4_0_i_i_i_i_i90_mux_i_i_i_i_i_i_i_i_i_i; p_v_r24_sroa_13_0_sink_i123_i_i_i_i_i_i_i_i_i_i = 0u; goto L_der_core_encode_joined_len_exit137_i_i_i_i_i_i_i_i; } else { goto L_arm_5_i130_i_i_i_i_i_i_i_i_i_i; }
+L_arm_5_i130_i_i_i_i_i_i_i_i_i_i:;
+    v_r11_i_i_i_i_i_i88_i_i_i_i_i_i_i_i_i_i = (u32)((u32)(v_r4_0_i_i_i_i_i85_i_i_i_i_i_i_i_i_i_i) + (u32)(v_r4_sroa_10_0_i_i_i_i_i67_i_i_i_i_i_i_i_i_i_i));
+    v_r5_i_i_i131_i_i_i_i_i_i_i_i_i_i = (u32)((u32)(v_r11_i_i_i_i_i_i88_i_i_i_i_i_i_i_i_i_i) ^ (u32)(4294967295ull));
+    v_r7_i_not_i_i132_i_i_i_i_i_i_i_i_i_i = v_r5_sroa_10_0_i_i_sink_i_i_i41_i_i_i_i_i_i_i_i_i_i <= v_r5_i_i_i131_i_i_i_i_i_i_i_i_i_i;
+    v_r11_i_i_i133_i_i_i_i_i_i_i_i_i_i = (u32)((u32)(v_r11_i_i_i_i_i_i88_i_i_i_i_i_i_i_i_i_i) + (u32)(v_r5_sroa_10_0_i_i_sink_i_i_i41_i_i_i_i_i_i_i_i_i_i));
+    v_r5_sroa_4_0_i_i135_i_i_i_i_i_i_i_i_i_i = v_r7_i_not_i_i132_i_i_i_i_i_i_i_i_i_i ? 0u : 7u;
+    v_r5_sroa_10_0_i_i136_i_i_i_i_i_i_i_i_i_i = v_r7_i_not_i_i132_i_i_i_i_i_i_i_i_i_i ? v_r11_i_i_i133_i_i_i_i_i_i_i_i_i_i : 0u;
+    { p_v_r24_sroa_0_0_sink_i119_i_i_i_i_i_i_i_i_i_i = v_r7_i_not_i_i132_i_i_i_i_i_i_i_i_i_i; p_v_r24_sroa_4_0_sink_i120_i_i_i_i_i_i_i_i_i_i = v_r5_sroa_4_0_i_i135_i_i_i_i_i_i_i_i_i_i; p_v_r24_sroa_13_0_sink_i123_i_i_i_i_i_i_i_i_i_i = v_r5_sroa_10_0_i_i136_i_i_i_i_i_i_i_i_i_i; goto L_der_core_encode_joined_len_exit137_i_i_i_i_i_i_i_i; }
 L_der_core_encode_joined_len_exit137_i_i_i_i_i_i_i_i:;
-    v_r24_sroa_0_0_sink_i119_i_i_i_i_i_i_i_i_i_i_i_i = p_v_r24_sroa_0_0_sink_i119_i_i_i_i_i_i_i_i_i_i_i_i;
-    v_r24_sroa_4_0_sink_i120_i_i_i_i_i_i_i_i_i_i_i_i = p_v_r24_sroa_4_0_sink_i120_i_i_i_i_i_i_i_i_i_i_i_i;
-    v_r24_sroa_13_0_sink_i123_i_i_i_i_i_i_i_i_i_i_i_i = p_v_r24_sroa_13_0_sink_i123_i_i_i_i_i_i_i_i_i_i_i_i;
-    if (v_r5_sroa_0_0_i_i_sink_i_i_i_i_i_i_i_i_i_i_i_i_i_i_i) { goto L_arm_1_i168_i_i_i_i_i_i_i_i_i_i_i_i; } else { goto L_arm_2_i156_i_i_i_i_i_i_i_i_i_i_i_i; }
-L_arm_1_i168_i_i_i_i_i_i_i_i_i_i_i_i:;
-    if (v_r24_sroa_0_0_sink_i119_i_i_i_i_i_i_i_i_i_i_i_i) { goto L_pkcs1_private_key_other_prime_info_OtherPrimeInfoE; } else { p_v_r5_sroa_0_0_i_i_sink_i_i_i_i_i_i_i_i_i_i_i = 0u; p_v_r5_sroa_4_0_i_i_sink_i_i_i_i_i_i_i_i_i_i_i = v_r24_sroa_4_0_sink_i120_i_i_i_i_i_i_i_i_i_i_i_i; p_v_r5_sroa_10_0_i_i_sink_i_i_i_i_i_i_i_i_i_i_i = 0u; goto L_der_core_encode_AnyEncode_encoded_len_4d978079444c; }
-L_arm_2_i156_i_i_i_i_i_i_i_i_i_i_i_i:;
-    v_spec_select_i_i_i_i_i_i_i_i_i_i_i_i = v_r24_sroa_0_0_sink_i119_i_i_i_i_i_i_i_i_i_i_i_i ? v_r5_sroa_4_0_i_i_sink_i_i_i_i_i_i_i_i_i_i_i_i_i_i_i : v_r24_sroa_4_0_sink_i120_i_i_i_i_i_i_i_i_i_i_i_i;
-    { p_v_r5_sroa_0_0_i_i_sink_i_i_i_i_i_i_i_i_i_i_i = 0u; p_v_r5_sroa_4_0_i_i_sink_i_i_i_i_i_i_i_i_i_i_i = v_spec_select_i_i_i_i_i_i_i_i_i_i_i_i; p_v_r5_sroa_10_0_i_i_sink_i_i_i_i_i_i_i_i_i_i_i = 0u; goto L_der_core_encode_AnyEncode_encoded_len_4d978079444c; }
+    v_r24_sroa_0_0_sink_i119_i_i_i_i_i_i_i_i_i_i = p_v_r24_sroa_0_0_sink_i119_i_i_i_i_i_i_i_i_i_i;
+    v_r24_sroa_4_0_sink_i120_i_i_i_i_i_i_i_i_i_i = p_v_r24_sroa_4_0_sink_i120_i_i_i_i_i_i_i_i_i_i;
+    v_r24_sroa_13_0_sink_i123_i_i_i_i_i_i_i_i_i_i = p_v_r24_sroa_13_0_sink_i123_i_i_i_i_i_i_i_i_i_i;
+    if (v_r5_sroa_0_0_i_i_sink_i_i_i_i_i_i_i_i_i_i_i_i_i) { goto L_arm_1_i168_i_i_i_i_i_i_i_i_i_i; } else { goto L_arm_2_i156_i_i_i_i_i_i_i_i_i_i; }
+L_arm_1_i168_i_i_i_i_i_i_i_i_i_i:;
+    if (v_r24_sroa_0_0_sink_i119_i_i_i_i_i_i_i_i_i_i) { goto L_pkcs1_private_key_other_prime_info_OtherPrimeInfoE; } else { p_v_r5_sroa_0_0_i_i_sink_i_i_i_i_i_i_i_i_i = 0u; p_v_r5_sroa_4_0_i_i_sink_i_i_i_i_i_i_i_i_i = v_r24_sroa_4_0_sink_i120_i_i_i_i_i_i_i_i_i_i; p_v_r5_sroa_10_0_i_i_sink_i_i_i_i_i_i_i_i_i = 0u; goto L_der_core_encode_AnyEncode_encoded_len_4d978079444c; }
+L_arm_2_i156_i_i_i_i_i_i_i_i_i_i:;
+    v_spec_select_i_i_i_i_i_i_i_i_i_i = v_r24_sroa_0_0_sink_i119_i_i_i_i_i_i_i_i_i_i ? v_r5_sroa_4_0_i_i_sink_i_i_i_i_i_i_i_i_i_i_i_i_i : v_r24_sroa_4_0_sink_i120_i_i_i_i_i_i_i_i_i_i;
+    { p_v_r5_sroa_0_0_i_i_sink_i_i_i_i_i_i_i_i_i = 0u; p_v_r5_sroa_4_0_i_i_sink_i_i_i_i_i_i_i_i_i = v_spec_select_i_i_i_i_i_i_i_i_i_i; p_v_r5_sroa_10_0_i_i_sink_i_i_i_i_i_i_i_i_i = 0u; goto L_der_core_encode_AnyEncode_encoded_len_4d978079444c; }
 L_pkcs1_private_key_other_prime_info_OtherPrimeInfoE:;
-    v_r5_i_i_i170_i_i_i_i_i_i_i_i_i_i_i_i = (u32)((u32)(v_r24_sroa_13_0_sink_i123_i_i_i_i_i_i_i_i_i_i_i_i) ^ (u32)(4294967295ull));
-    v_r7_i_not_i_i171_i_not_i_i_i_i_i_i_i_i_i_i_i = v_r5_sroa_10_0_i_i_sink_i_i_i_i_i_i_i_i_i_i_i_i_i_i_ > v_r5_i_i_i170_i_i_i_i_i_i_i_i_i_i_i_i;
-    v_r11_i_i_i172_i_i_i_i_i_i_i_i_i_i_i_i = (u32)((u32)(v_r24_sroa_13_0_sink_i123_i_i_i_i_i_i_i_i_i_i_i_i) + (u32)(v_r5_sroa_10_0_i_i_sink_i_i_i_i_i_i_i_i_i_i_i_i_i_i_));
-    if (v_r7_i_not_i_i171_i_not_i_i_i_i_i_i_i_i_i_i_i) { p_v_r5_sroa_0_0_i_i_sink_i_i_i_i_i_i_i_i_i_i_i = 0u; p_v_r5_sroa_4_0_i_i_sink_i_i_i_i_i_i_i_i_i_i_i = 7u; p_v_r5_sroa_10_0_i_i_sink_i_i_i_i_i_i_i_i_i_i_i = 0u; goto L_der_core_encode_AnyEncode_encoded_len_4d978079444c; } else { goto L_arm_1_i_i_i_i_i_i_i_i_i_i_i; }
-L_arm_1_i_i_i_i_i_i_i_i_i_i_i:;
-    v_r12_i_i_i_i_i_i_i_i_i_i_i_i_i = v_r11_i_i_i172_i_i_i_i_i_i_i_i_i_i_i_i < 128u;
-    if (v_r12_i_i_i_i_i_i_i_i_i_i_i_i_i) { p_v_r4_0_i_i_i_i_i_i_i_i_i_i_i_i_i = 2u; goto L_der_core_length_Length_for_tlv_exit_i_i_i_i_i_i_i___2; } else { goto L_else_2_i_i_i_i_i_i_i_i_i_i_i_i_i; }
-L_else_2_i_i_i_i_i_i_i_i_i_i_i_i_i:;
-    v_r17_i_i_i_i_i_i_i_i_i_i_i_i_i = v_r11_i_i_i172_i_i_i_i_i_i_i_i_i_i_i_i < 256u;
-    if (v_r17_i_i_i_i_i_i_i_i_i_i_i_i_i) { p_v_r4_0_i_i_i_i_i_i_i_i_i_i_i_i_i = 3u; goto L_der_core_length_Length_for_tlv_exit_i_i_i_i_i_i_i___2; } else { goto L_else_5_i_i_i_i_i_i_i_i_i_i_i_i_i; }
-L_else_5_i_i_i_i_i_i_i_i_i_i_i_i_i:;
-    v_r22_i_i_i_i_i_i_i_i_i_i_i_i_i = v_r11_i_i_i172_i_i_i_i_i_i_i_i_i_i_i_i < 65536u;
-    v_r27_i_i_i_i_i_i_i_i_i_i_i_i_i = v_r11_i_i_i172_i_i_i_i_i_i_i_i_i_i_i_i < 16777216u;
-    v_i_i_i_i_i_i_i_i_i_i_i_i_i = v_r27_i_i_i_i_i_i_i_i_i_i_i_i_i ? 5u : 6u;
-    v_r8_0_i_i_i_i_i_i_i_i_i_i_i_i_i = v_r22_i_i_i_i_i_i_i_i_i_i_i_i_i ? 4u : v_i_i_i_i_i_i_i_i_i_i_i_i_i;
-    { p_v_r4_0_i_i_i_i_i_i_i_i_i_i_i_i_i = v_r8_0_i_i_i_i_i_i_i_i_i_i_i_i_i; goto L_der_core_length_Length_for_tlv_exit_i_i_i_i_i_i_i___2; }
+    v_r5_i_i_i170_i_i_i_i_i_i_i_i_i_i = (u32)((u32)(v_r24_sroa_13_0_sink_i123_i_i_i_i_i_i_i_i_i_i) ^ (u32)(4294967295ull));
+    v_r7_i_not_i_i171_i_not_i_i_i_i_i_i_i_i_i = v_r5_sroa_10_0_i_i_sink_i_i_i_i_i_i_i_i_i_i_i_i_i > v_r5_i_i_i170_i_i_i_i_i_i_i_i_i_i;
+    v_r11_i_i_i172_i_i_i_i_i_i_i_i_i_i = (u32)((u32)(v_r24_sroa_13_0_sink_i123_i_i_i_i_i_i_i_i_i_i) + (u32)(v_r5_sroa_10_0_i_i_sink_i_i_i_i_i_i_i_i_i_i_i_i_i));
+    if (v_r7_i_not_i_i171_i_not_i_i_i_i_i_i_i_i_i) { p_v_r5_sroa_0_0_i_i_sink_i_i_i_i_i_i_i_i_i = 0u; p_v_r5_sroa_4_0_i_i_sink_i_i_i_i_i_i_i_i_i = 7u; p_v_r5_sroa_10_0_i_i_sink_i_i_i_i_i_i_i_i_i = 0u; goto L_der_core_encode_AnyEncode_encoded_len_4d978079444c; } else { goto L_arm_1_i_i_i_i_i_i_i_i_i; }
+L_arm_1_i_i_i_i_i_i_i_i_i:;
+    v_r12_i_i_i_i_i_i_i_i_i_i_i = v_r11_i_i_i172_i_i_i_i_i_i_i_i_i_i < 128u;
+    if (v_r12_i_i_i_i_i_i_i_i_i_i_i) { p_v_r4_0_i_i_i_i_i_i_i_i_i_i_i = 2u; goto L_der_core_length_Length_for_tlv_exit_i_i_i_i_i_i_i___2; } else { goto L_else_2_i_i_i_i_i_i_i_i_i_i_i; }
+L_else_2_i_i_i_i_i_i_i_i_i_i_i:;
+    v_r17_i_i_i_i_i_i_i_i_i_i_i = v_r11_i_i_i172_i_i_i_i_i_i_i_i_i_i < 256u;
+    if (v_r17_i_i_i_i_i_i_i_i_i_i_i) { p_v_r4_0_i_i_i_i_i_i_i_i_i_i_i = 3u; goto L_der_core_length_Length_for_tlv_exit_i_i_i_i_i_i_i___2; } else { goto L_else_5_i_i_i_i_i_i_i_i_i_i_i; }
+L_else_5_i_i_i_i_i_i_i_i_i_i_i:;
+    v_r22_i_i_i_i_i_i_i_i_i_i_i = v_r11_i_i_i172_i_i_i_i_i_i_i_i_i_i < 65536u;
+    v_r27_i_i_i_i_i_i_i_i_i_i_i = v_r11_i_i_i172_i_i_i_i_i_i_i_i_i_i < 16777216u;
+    v_i_i_i_i_i_i_i_i_i_i_i = v_r27_i_i_i_i_i_i_i_i_i_i_i ? 5u : 6u;
+    v_r8_0_i_i_i_i_i_i_i_i_i_i_i = v_r22_i_i_i_i_i_i_i_i_i_i_i ? 4u : v_i_i_i_i_i_i_i_i_i_i_i;
+    { p_v_r4_0_i_i_i_i_i_i_i_i_i_i_i = v_r8_0_i_i_i_i_i_i_i_i_i_i_i; goto L_der_core_length_Length_for_tlv_exit_i_i_i_i_i_i_i___2; }
 L_der_core_length_Length_for_tlv_exit_i_i_i_i_i_i_i___2:;
-    v_r4_0_i_i_i_i_i_i_i_i_i_i_i_i_i = p_v_r4_0_i_i_i_i_i_i_i_i_i_i_i_i_i;
-    v_r5_i_i_i_i_i_i_i_i_i_i_i_i_i_i = (u32)((u32)(v_r11_i_i_i172_i_i_i_i_i_i_i_i_i_i_i_i) ^ (u32)(4294967295ull));
-    v_r7_i_not_i_i_i_i_i_i_i_i_i_i_i_i_i = v_r4_0_i_i_i_i_i_i_i_i_i_i_i_i_i <= v_r5_i_i_i_i_i_i_i_i_i_i_i_i_i_i;
-    v_r11_i_i_i_i_i_i_i_i_i_i_i_i_i_i = (u32)((u32)(v_r4_0_i_i_i_i_i_i_i_i_i_i_i_i_i) + (u32)(v_r11_i_i_i172_i_i_i_i_i_i_i_i_i_i_i_i));
-    v_r5_sroa_4_0_i_i_i_i_i_i_i_i_i_i_i_i_i = v_r7_i_not_i_i_i_i_i_i_i_i_i_i_i_i_i ? 0u : 7u;
-    v_r5_sroa_10_0_i_i_i_i_i_i_i_i_i_i_i_i_i = v_r7_i_not_i_i_i_i_i_i_i_i_i_i_i_i_i ? v_r11_i_i_i_i_i_i_i_i_i_i_i_i_i_i : 0u;
-    { p_v_r5_sroa_0_0_i_i_sink_i_i_i_i_i_i_i_i_i_i_i = v_r7_i_not_i_i_i_i_i_i_i_i_i_i_i_i_i; p_v_r5_sroa_4_0_i_i_sink_i_i_i_i_i_i_i_i_i_i_i = v_r5_sroa_4_0_i_i_i_i_i_i_i_i_i_i_i_i_i; p_v_r5_sroa_10_0_i_i_sink_i_i_i_i_i_i_i_i_i_i_i = v_r5_sroa_10_0_i_i_i_i_i_i_i_i_i_i_i_i_i; goto L_der_core_encode_AnyEncode_encoded_len_4d978079444c; }
+    v_r4_0_i_i_i_i_i_i_i_i_i_i_i = p_v_r4_0_i_i_i_i_i_i_i_i_i_i_i;
+    v_r5_i_i_i_i_i_i_i_i_i_i_i_i = (u32)((u32)(v_r11_i_i_i172_i_i_i_i_i_i_i_i_i_i) ^ (u32)(4294967295ull));
+    v_r7_i_not_i_i_i_i_i_i_i_i_i_i_i = v_r4_0_i_i_i_i_i_i_i_i_i_i_i <= v_r5_i_i_i_i_i_i_i_i_i_i_i_i;
+    v_r11_i_i_i_i_i_i_i_i_i_i_i_i = (u32)((u32)(v_r4_0_i_i_i_i_i_i_i_i_i_i_i) + (u32)(v_r11_i_i_i172_i_i_i_i_i_i_i_i_i_i));
+    v_r5_sroa_4_0_i_i_i_i_i_i_i_i_i_i_i = v_r7_i_not_i_i_i_i_i_i_i_i_i_i_i ? 0u : 7u;
+    v_r5_sroa_10_0_i_i_i_i_i_i_i_i_i_i_i = v_r7_i_not_i_i_i_i_i_i_i_i_i_i_i ? v_r11_i_i_i_i_i_i_i_i_i_i_i_i : 0u;
+    { p_v_r5_sroa_0_0_i_i_sink_i_i_i_i_i_i_i_i_i = v_r7_i_not_i_i_i_i_i_i_i_i_i_i_i; p_v_r5_sroa_4_0_i_i_sink_i_i_i_i_i_i_i_i_i = v_r5_sroa_4_0_i_i_i_i_i_i_i_i_i_i_i; p_v_r5_sroa_10_0_i_i_sink_i_i_i_i_i_i_i_i_i = v_r5_sroa_10_0_i_i_i_i_i_i_i_i_i_i_i; goto L_der_core_encode_AnyEncode_encoded_len_4d978079444c; }
 L_der_core_encode_AnyEncode_encoded_len_4d978079444c:;
-    v_r5_sroa_0_0_i_i_sink_i_i_i_i_i_i_i_i_i_i_i = p_v_r5_sroa_0_0_i_i_sink_i_i_i_i_i_i_i_i_i_i_i;
-    v_r5_sroa_4_0_i_i_sink_i_i_i_i_i_i_i_i_i_i_i = p_v_r5_sroa_4_0_i_i_sink_i_i_i_i_i_i_i_i_i_i_i;
-    v_r5_sroa_10_0_i_i_sink_i_i_i_i_i_i_i_i_i_i_i = p_v_r5_sroa_10_0_i_i_sink_i_i_i_i_i_i_i_i_i_i_i;
-    v_25 = v_r3_sroa_0_09_i_i_i_i_i_i_i_i_i == 0u;
-    if (v_25) { goto L_arm_1_i_i_i_i_i_i_i_i_i_i; } else { goto L_arm_2_i_i_i_i_i_i_i_i_i_i; }
-L_arm_1_i_i_i_i_i_i_i_i_i_i:;
-    if (v_r5_sroa_0_0_i_i_sink_i_i_i_i_i_i_i_i_i_i_i) { goto L_arm_5_i_i_i_i_i_i_i_i_i_i; } else { p_v_r24_sroa_0_0_sink_i_i_i_i_i_i_i_i_i_i = 1u; p_v_r24_sroa_4_0_sink_i_i_i_i_i_i_i_i_i_i = v_r5_sroa_4_0_i_i_sink_i_i_i_i_i_i_i_i_i_i_i; p_v_r24_sroa_13_0_sink_i_i_i_i_i_i_i_i_i_i = 0u; goto L_der_core_encode_joined_len_exit_i_i_i_i_i_i_i_i_i; }
-L_arm_5_i_i_i_i_i_i_i_i_i_i:;
-    v_r5_i_i_i_i_i_i_i_i_i_i_i_i = (u32)((u32)(v_r5_sroa_10_0_i_i_sink_i_i_i_i_i_i_i_i_i_i_i) ^ (u32)(4294967295ull));
-    v_r7_i_not_i_i_i_i_i_i_i_i_i_i_i = v_r3_sroa_14_07_i_i_i_i_i_i_i_i_i > v_r5_i_i_i_i_i_i_i_i_i_i_i_i;
-    v_r11_i_i_i_i_i_i_i_i_i_i_i_i = (u32)((u32)(v_r5_sroa_10_0_i_i_sink_i_i_i_i_i_i_i_i_i_i_i) + (u32)(v_r3_sroa_14_07_i_i_i_i_i_i_i_i_i));
-    v_r5_sroa_0_0_i_i_i_i_i_i_i_i_i_i_i = (u8)v_r7_i_not_i_i_i_i_i_i_i_i_i_i_i;
-    v_r5_sroa_4_0_i_i_i_i_i_i_i_i_i_i_i = v_r7_i_not_i_i_i_i_i_i_i_i_i_i_i ? 7u : 0u;
-    v_r5_sroa_10_0_i_i_i_i_i_i_i_i_i_i_i = v_r7_i_not_i_i_i_i_i_i_i_i_i_i_i ? 0u : v_r11_i_i_i_i_i_i_i_i_i_i_i_i;
-    { p_v_r24_sroa_0_0_sink_i_i_i_i_i_i_i_i_i_i = v_r5_sroa_0_0_i_i_i_i_i_i_i_i_i_i_i; p_v_r24_sroa_4_0_sink_i_i_i_i_i_i_i_i_i_i = v_r5_sroa_4_0_i_i_i_i_i_i_i_i_i_i_i; p_v_r24_sroa_13_0_sink_i_i_i_i_i_i_i_i_i_i = v_r5_sroa_10_0_i_i_i_i_i_i_i_i_i_i_i; goto L_der_core_encode_joined_len_exit_i_i_i_i_i_i_i_i_i; }
-L_arm_2_i_i_i_i_i_i_i_i_i_i:;
-    v_spec_select_i_i_i_i_i_i_i_i_i = v_r5_sroa_0_0_i_i_sink_i_i_i_i_i_i_i_i_i_i_i ? v_r3_sroa_5_08_i_i_i_i_i_i_i_i_i : v_r5_sroa_4_0_i_i_sink_i_i_i_i_i_i_i_i_i_i_i;
-    { p_v_r24_sroa_0_0_sink_i_i_i_i_i_i_i_i_i_i = 1u; p_v_r24_sroa_4_0_sink_i_i_i_i_i_i_i_i_i_i = v_spec_select_i_i_i_i_i_i_i_i_i; p_v_r24_sroa_13_0_sink_i_i_i_i_i_i_i_i_i_i = 0u; goto L_der_core_encode_joined_len_exit_i_i_i_i_i_i_i_i_i; }
-L_der_core_encode_joined_len_exit_i_i_i_i_i_i_i_i_i:;
-    v_r24_sroa_0_0_sink_i_i_i_i_i_i_i_i_i_i = p_v_r24_sroa_0_0_sink_i_i_i_i_i_i_i_i_i_i;
-    v_r24_sroa_4_0_sink_i_i_i_i_i_i_i_i_i_i = p_v_r24_sroa_4_0_sink_i_i_i_i_i_i_i_i_i_i;
-    v_r24_sroa_13_0_sink_i_i_i_i_i_i_i_i_i_i = p_v_r24_sroa_13_0_sink_i_i_i_i_i_i_i_i_i_i;
-    v_r29_i_i_i_i_i_i_i_i_i = (u64)((u64)(v_r4_010_i_i_i_i_i_i_i_i_i) + (u64)(1u));
-    v_exitcond_not_i_i_i_i_i_i_i_i_i = v_r29_i_i_i_i_i_i_i_i_i == v_r4_val_i_i_i_i_i;
-    if (v_exitcond_not_i_i_i_i_i_i_i_i_i) { goto L_der_core_sequence_of_VecEncodeValue_value_len_4646; } else { p_v_r4_010_i_i_i_i_i_i_i_i_i = v_r29_i_i_i_i_i_i_i_i_i; p_v_r3_sroa_0_09_i_i_i_i_i_i_i_i_i = v_r24_sroa_0_0_sink_i_i_i_i_i_i_i_i_i_i; p_v_r3_sroa_5_08_i_i_i_i_i_i_i_i_i = v_r24_sroa_4_0_sink_i_i_i_i_i_i_i_i_i_i; p_v_r3_sroa_14_07_i_i_i_i_i_i_i_i_i = v_r24_sroa_13_0_sink_i_i_i_i_i_i_i_i_i_i; goto L_join_6_i_i_i_i_i_i_i_i_i; }
+    v_r5_sroa_0_0_i_i_sink_i_i_i_i_i_i_i_i_i = p_v_r5_sroa_0_0_i_i_sink_i_i_i_i_i_i_i_i_i;
+    v_r5_sroa_4_0_i_i_sink_i_i_i_i_i_i_i_i_i = p_v_r5_sroa_4_0_i_i_sink_i_i_i_i_i_i_i_i_i;
+    v_r5_sroa_10_0_i_i_sink_i_i_i_i_i_i_i_i_i = p_v_r5_sroa_10_0_i_i_sink_i_i_i_i_i_i_i_i_i;
+    v_25 = v_r3_sroa_0_09_i_i_i_i_i_i_i == 0u;
+    if (v_25) { goto L_arm_1_i_i_i_i_i_i_i_i; } else { goto L_arm_2_i_i_i_i_i_i_i_i; }
+L_arm_1_i_i_i_i_i_i_i_i:;
+    if (v_r5_sroa_0_0_i_i_sink_i_i_i_i_i_i_i_i_i) { goto L_arm_5_i_i_i_i_i_i_i_i; } else { p_v_r24_sroa_0_0_sink_i_i_i_i_i_i_i_i = 1u; p_v_r24_sroa_4_0_sink_i_i_i_i_i_i_i_i = v_r5_sroa_4_0_i_i_sink_i_i_i_i_i_i_i_i_i; p_v_r24_sroa_13_0_sink_i_i_i_i_i_i_i_i = 0u; goto L_der_core_encode_joined_len_exit_i_i_i_i_i_i_i; }
+L_arm_5_i_i_i_i_i_i_i_i:;
+    v_r5_i_i_i_i_i_i_i_i_i_i = (u32)((u32)(v_r5_sroa_10_0_i_i_sink_i_i_i_i_i_i_i_i_i) ^ (u32)(4294967295ull));
+    v_r7_i_not_i_i_i_i_i_i_i_i_i = v_r3_sroa_14_07_i_i_i_i_i_i_i > v_r5_i_i_i_i_i_i_i_i_i_i;
+    v_r11_i_i_i_i_i_i_i_i_i_i = (u32)((u32)(v_r5_sroa_10_0_i_i_sink_i_i_i_i_i_i_i_i_i) + (u32)(v_r3_sroa_14_07_i_i_i_i_i_i_i));
+    v_r5_sroa_0_0_i_i_i_i_i_i_i_i_i = (u8)v_r7_i_not_i_i_i_i_i_i_i_i_i;
+    v_r5_sroa_4_0_i_i_i_i_i_i_i_i_i = v_r7_i_not_i_i_i_i_i_i_i_i_i ? 7u : 0u;
+    v_r5_sroa_10_0_i_i_i_i_i_i_i_i_i = v_r7_i_not_i_i_i_i_i_i_i_i_i ? 0u : v_r11_i_i_i_i_i_i_i_i_i_i;
+    { p_v_r24_sroa_0_0_sink_i_i_i_i_i_i_i_i = v_r5_sroa_0_0_i_i_i_i_i_i_i_i_i; p_v_r24_sroa_4_0_sink_i_i_i_i_i_i_i_i = v_r5_sroa_4_0_i_i_i_i_i_i_i_i_i; p_v_r24_sroa_13_0_sink_i_i_i_i_i_i_i_i = v_r5_sroa_10_0_i_i_i_i_i_i_i_i_i; goto L_der_core_encode_joined_len_exit_i_i_i_i_i_i_i; }
+L_arm_2_i_i_i_i_i_i_i_i:;
+    v_spec_select_i_i_i_i_i_i_i = v_r5_sroa_0_0_i_i_sink_i_i_i_i_i_i_i_i_i ? v_r3_sroa_5_08_i_i_i_i_i_i_i : v_r5_sroa_4_0_i_i_sink_i_i_i_i_i_i_i_i_i;
+    { p_v_r24_sroa_0_0_sink_i_i_i_i_i_i_i_i = 1u; p_v_r24_sroa_4_0_sink_i_i_i_i_i_i_i_i = v_spec_select_i_i_i_i_i_i_i; p_v_r24_sroa_13_0_sink_i_i_i_i_i_i_i_i = 0u; goto L_der_core_encode_joined_len_exit_i_i_i_i_i_i_i; }
+L_der_core_encode_joined_len_exit_i_i_i_i_i_i_i:;
+    v_r24_sroa_0_0_sink_i_i_i_i_i_i_i_i = p_v_r24_sroa_0_0_sink_i_i_i_i_i_i_i_i;
+    v_r24_sroa_4_0_sink_i_i_i_i_i_i_i_i = p_v_r24_sroa_4_0_sink_i_i_i_i_i_i_i_i;
+    v_r24_sroa_13_0_sink_i_i_i_i_i_i_i_i = p_v_r24_sroa_13_0_sink_i_i_i_i_i_i_i_i;
+    v_r29_i_i_i_i_i_i_i = (u64)((u64)(v_r4_010_i_i_i_i_i_i_i) + (u64)(1u));
+    v_exitcond_not_i_i_i_i_i_i_i = v_r29_i_i_i_i_i_i_i == v_r4_val_i355_i_i;
+    if (v_exitcond_not_i_i_i_i_i_i_i) { goto L_der_core_sequence_of_VecEncodeValue_value_len_4646; } else { p_v_r4_010_i_i_i_i_i_i_i = v_r29_i_i_i_i_i_i_i; p_v_r3_sroa_0_09_i_i_i_i_i_i_i = v_r24_sroa_0_0_sink_i_i_i_i_i_i_i_i; p_v_r3_sroa_5_08_i_i_i_i_i_i_i = v_r24_sroa_4_0_sink_i_i_i_i_i_i_i_i; p_v_r3_sroa_14_07_i_i_i_i_i_i_i = v_r24_sroa_13_0_sink_i_i_i_i_i_i_i_i; goto L_join_6_i_i_i_i_i_i_i; }
 L_der_core_sequence_of_VecEncodeValue_value_len_4646:;
-    v_26 = v_r24_sroa_0_0_sink_i_i_i_i_i_i_i_i_i_i == 0u;
-    if (v_26) { goto L_arm_1_i_i_i_i_i_i_i; } else { p_v_r3_i_sroa_0_0_sink_i_i_i_i = 0u; p_v_r3_i_sroa_6_0_sink_i_i_i_i = v_r24_sroa_4_0_sink_i_i_i_i_i_i_i_i_i_i; p_v_sink_i_i_i_i = 0u; p_v_r3_i_sroa_12_0_sink_i_i_i_i = 0u; goto L_pkcs1_private_key_written_OthersPartEncodeValue_va__2; }
-L_arm_1_i_i_i_i_i_i_i:;
-    v_r12_i_i_i_i_i_i_i_i_i = v_r24_sroa_13_0_sink_i_i_i_i_i_i_i_i_i_i < 128u;
-    if (v_r12_i_i_i_i_i_i_i_i_i) { p_v_r4_0_i_i_i_i_i_i_i_i_i = 2u; goto L_der_core_length_Length_for_tlv_exit_i_i_i_i_i_i_i; } else { goto L_else_2_i_i_i_i_i_i_i_i_i; }
-L_else_2_i_i_i_i_i_i_i_i_i:;
-    v_r17_i_i_i_i_i_i_i_i_i = v_r24_sroa_13_0_sink_i_i_i_i_i_i_i_i_i_i < 256u;
-    if (v_r17_i_i_i_i_i_i_i_i_i) { p_v_r4_0_i_i_i_i_i_i_i_i_i = 3u; goto L_der_core_length_Length_for_tlv_exit_i_i_i_i_i_i_i; } else { goto L_else_5_i_i_i_i_i_i_i_i_i; }
-L_else_5_i_i_i_i_i_i_i_i_i:;
-    v_r22_i_i4_i_i_i_i_i_i_i = v_r24_sroa_13_0_sink_i_i_i_i_i_i_i_i_i_i < 65536u;
-    v_r27_i_i_i_i_i_i_i_i_i = v_r24_sroa_13_0_sink_i_i_i_i_i_i_i_i_i_i < 16777216u;
-    v_i_i_i_i_i_i_i_i_i = v_r27_i_i_i_i_i_i_i_i_i ? 5u : 6u;
-    v_r8_0_i_i_i_i_i_i_i_i_i = v_r22_i_i4_i_i_i_i_i_i_i ? 4u : v_i_i_i_i_i_i_i_i_i;
-    { p_v_r4_0_i_i_i_i_i_i_i_i_i = v_r8_0_i_i_i_i_i_i_i_i_i; goto L_der_core_length_Length_for_tlv_exit_i_i_i_i_i_i_i; }
-L_der_core_length_Length_for_tlv_exit_i_i_i_i_i_i_i:;
-    v_r4_0_i_i_i_i_i_i_i_i_i = p_v_r4_0_i_i_i_i_i_i_i_i_i;
-    v_r5_i_i_i_i_i_i_i_i_i_i = (u32)((u32)(v_r24_sroa_13_0_sink_i_i_i_i_i_i_i_i_i_i) ^ (u32)(4294967295ull));
-    v_r7_i_not_i_i_i_i_i_i_i_i_i = v_r4_0_i_i_i_i_i_i_i_i_i <= v_r5_i_i_i_i_i_i_i_i_i_i;
-    v_r11_i_i_i_i_i_i_i_i_i_i = (u32)((u32)(v_r4_0_i_i_i_i_i_i_i_i_i) + (u32)(v_r24_sroa_13_0_sink_i_i_i_i_i_i_i_i_i_i));
-    v_r5_sroa_4_0_i_i_i_i_i_i_i_i_i = v_r7_i_not_i_i_i_i_i_i_i_i_i ? 0u : 7u;
-    v_r5_sroa_10_0_i_i_i_i_i_i_i_i_i = v_r7_i_not_i_i_i_i_i_i_i_i_i ? v_r11_i_i_i_i_i_i_i_i_i_i : 0u;
-    { p_v_r3_i_sroa_0_0_sink_i_i_i_i = v_r7_i_not_i_i_i_i_i_i_i_i_i; p_v_r3_i_sroa_6_0_sink_i_i_i_i = v_r5_sroa_4_0_i_i_i_i_i_i_i_i_i; p_v_sink_i_i_i_i = 0u; p_v_r3_i_sroa_12_0_sink_i_i_i_i = v_r5_sroa_10_0_i_i_i_i_i_i_i_i_i; goto L_pkcs1_private_key_written_OthersPartEncodeValue_va__2; }
+    v_26 = v_r24_sroa_0_0_sink_i_i_i_i_i_i_i_i == 0u;
+    if (v_26) { goto L_arm_1_i_i_i370_i_i; } else { p_v_r3_i93_sroa_15_0_i_i = 0u; p_v_r3_i93_sroa_9_0_i_i = 0u; p_v_r3_i93_sroa_6_0_i_i = v_r24_sroa_4_0_sink_i_i_i_i_i_i_i_i; p_v_r3_i93_sroa_0_0_i_i = 0u; goto L_pkcs1_private_key_written_OthersPartEncodeValue_va__2; }
+L_arm_1_i_i_i370_i_i:;
+    v_r12_i_i_i_i_i371_i_i = v_r24_sroa_13_0_sink_i_i_i_i_i_i_i_i < 128u;
+    if (v_r12_i_i_i_i_i371_i_i) { p_v_r4_0_i_i_i_i_i379_i_i = 2u; goto L_der_core_length_Length_for_tlv_exit_i_i_i378_i_i; } else { goto L_else_2_i_i_i_i_i372_i_i; }
+L_else_2_i_i_i_i_i372_i_i:;
+    v_r17_i_i_i_i_i373_i_i = v_r24_sroa_13_0_sink_i_i_i_i_i_i_i_i < 256u;
+    if (v_r17_i_i_i_i_i373_i_i) { p_v_r4_0_i_i_i_i_i379_i_i = 3u; goto L_der_core_length_Length_for_tlv_exit_i_i_i378_i_i; } else { goto L_else_5_i_i_i_i_i374_i_i; }
+L_else_5_i_i_i_i_i374_i_i:;
+    v_r22_i_i4_i_i_i_i_i = v_r24_sroa_13_0_sink_i_i_i_i_i_i_i_i < 65536u;
+    v_r27_i_i_i_i_i375_i_i = v_r24_sroa_13_0_sink_i_i_i_i_i_i_i_i < 16777216u;
+    v_i_i_i_i_i376_i_i = v_r27_i_i_i_i_i375_i_i ? 5u : 6u;
+    v_r8_0_i_i_i_i_i377_i_i = v_r22_i_i4_i_i_i_i_i ? 4u : v_i_i_i_i_i376_i_i;
+    { p_v_r4_0_i_i_i_i_i379_i_i = v_r8_0_i_i_i_i_i377_i_i; goto L_der_core_length_Length_for_tlv_exit_i_i_i378_i_i; }
+L_der_core_length_Length_for_tlv_exit_i_i_i378_i_i:;
+    v_r4_0_i_i_i_i_i379_i_i = p_v_r4_0_i_i_i_i_i379_i_i;
+    v_r5_i_i_i_i_i_i380_i_i = (u32)((u32)(v_r24_sroa_13_0_sink_i_i_i_i_i_i_i_i) ^ (u32)(4294967295ull));
+    v_r7_i_not_i_i_i_i_i381_i_i = v_r4_0_i_i_i_i_i379_i_i <= v_r5_i_i_i_i_i_i380_i_i;
+    v_r11_i_i_i_i_i_i382_i_i = (u32)((u32)(v_r4_0_i_i_i_i_i379_i_i) + (u32)(v_r24_sroa_13_0_sink_i_i_i_i_i_i_i_i));
+    v_r5_sroa_4_0_i_i_i_i_i384_i_i = v_r7_i_not_i_i_i_i_i381_i_i ? 0u : 7u;
+    v_r5_sroa_10_0_i_i_i_i_i385_i_i = v_r7_i_not_i_i_i_i_i381_i_i ? v_r11_i_i_i_i_i_i382_i_i : 0u;
+    { p_v_r3_i93_sroa_15_0_i_i = v_r5_sroa_10_0_i_i_i_i_i385_i_i; p_v_r3_i93_sroa_9_0_i_i = 0u; p_v_r3_i93_sroa_6_0_i_i = v_r5_sroa_4_0_i_i_i_i_i384_i_i; p_v_r3_i93_sroa_0_0_i_i = v_r7_i_not_i_i_i_i_i381_i_i; goto L_pkcs1_private_key_written_OthersPartEncodeValue_va__2; }
 L_pkcs1_private_key_written_OthersPartEncodeValue_va__2:;
-    v_r3_i_sroa_0_0_sink_i_i_i_i = p_v_r3_i_sroa_0_0_sink_i_i_i_i;
-    v_r3_i_sroa_6_0_sink_i_i_i_i = p_v_r3_i_sroa_6_0_sink_i_i_i_i;
-    v_sink_i_i_i_i = p_v_sink_i_i_i_i;
-    v_r3_i_sroa_12_0_sink_i_i_i_i = p_v_r3_i_sroa_12_0_sink_i_i_i_i;
-    if (v_r5_sroa_0_0_i_i_sink_i_i_i6524_i_i_i) { goto L_arm_1_i_i_i_i; } else { goto L_arm_2_i_i_i_i; }
+    v_r3_i93_sroa_15_0_i_i = p_v_r3_i93_sroa_15_0_i_i;
+    v_r3_i93_sroa_9_0_i_i = p_v_r3_i93_sroa_9_0_i_i;
+    v_r3_i93_sroa_6_0_i_i = p_v_r3_i93_sroa_6_0_i_i;
+    v_r3_i93_sroa_0_0_i_i = p_v_r3_i93_sroa_0_0_i_i;
+    if (v_r5_sroa_0_0_i_i_sink_i_i_i327753_i_i) { goto L_arm_1_i395_i_i; } else { goto L_arm_2_i394_i_i; }
 L_pkcs1_private_key_written_OthersPartEncodeValue_va:;
-    if (v_r7_i_not_i_i_i_i_i84_i_i_i) { p_v_r5_sroa_10_0_i_i_sink_i_i_i6729_i_i_i = v_r11_i_i_i_i_i_i85_i_i_i; p_v_r3_i_sroa_12_0_sink_i1116_i_i_i = 0u; goto L_arm_5_i_i_i_i; } else { p_v_r24_sroa_0_0_sink_i_i_i_i = 0u; p_v_r24_sroa_4_0_sink_i_i_i_i = 7u; p_v_r24_sroa_7_0_sink_i_i_i_i = 0u; p_v_r24_sroa_13_0_sink_i_i_i_i = 0u; goto L_der_core_encode_joined_len_exit_i_i_i; }
-L_arm_1_i_i_i_i:;
-    if (v_r3_i_sroa_0_0_sink_i_i_i_i) { p_v_r5_sroa_10_0_i_i_sink_i_i_i6729_i_i_i = v_r5_sroa_10_0_i_i_sink_i_i_i6731_i_i_i; p_v_r3_i_sroa_12_0_sink_i1116_i_i_i = v_r3_i_sroa_12_0_sink_i_i_i_i; goto L_arm_5_i_i_i_i; } else { p_v_r24_sroa_0_0_sink_i_i_i_i = 0u; p_v_r24_sroa_4_0_sink_i_i_i_i = v_r3_i_sroa_6_0_sink_i_i_i_i; p_v_r24_sroa_7_0_sink_i_i_i_i = v_sink_i_i_i_i; p_v_r24_sroa_13_0_sink_i_i_i_i = 0u; goto L_der_core_encode_joined_len_exit_i_i_i; }
-L_arm_5_i_i_i_i:;
-    v_r5_sroa_10_0_i_i_sink_i_i_i6729_i_i_i = p_v_r5_sroa_10_0_i_i_sink_i_i_i6729_i_i_i;
-    v_r3_i_sroa_12_0_sink_i1116_i_i_i = p_v_r3_i_sroa_12_0_sink_i1116_i_i_i;
-    v_r5_i_i_i94_i_i_i = (u32)((u32)(v_r3_i_sroa_12_0_sink_i1116_i_i_i) ^ (u32)(4294967295ull));
-    v_r7_i_not_i_i_i_i_i = v_r5_sroa_10_0_i_i_sink_i_i_i6729_i_i_i <= v_r5_i_i_i94_i_i_i;
-    v_r11_i_i_i_i_i_i = (u32)((u32)(v_r3_i_sroa_12_0_sink_i1116_i_i_i) + (u32)(v_r5_sroa_10_0_i_i_sink_i_i_i6729_i_i_i));
-    v_r5_sroa_4_0_i_i_i_i_i = v_r7_i_not_i_i_i_i_i ? 0u : 7u;
-    v_r5_sroa_10_0_i_i_i_i_i = v_r7_i_not_i_i_i_i_i ? v_r11_i_i_i_i_i_i : 0u;
-    { p_v_r24_sroa_0_0_sink_i_i_i_i = v_r7_i_not_i_i_i_i_i; p_v_r24_sroa_4_0_sink_i_i_i_i = v_r5_sroa_4_0_i_i_i_i_i; p_v_r24_sroa_7_0_sink_i_i_i_i = 0u; p_v_r24_sroa_13_0_sink_i_i_i_i = v_r5_sroa_10_0_i_i_i_i_i; goto L_der_core_encode_joined_len_exit_i_i_i; }
-L_arm_2_i_i_i_i:;
-    v_spec_select_i_i_i = v_r3_i_sroa_0_0_sink_i_i_i_i ? v_r5_sroa_4_0_i_i_sink_i_i_i6628_i_i_i : v_r3_i_sroa_6_0_sink_i_i_i_i;
-    v_spec_select36_i_i_i = v_r3_i_sroa_0_0_sink_i_i_i_i ? 0u : v_sink_i_i_i_i;
-    { p_v_r24_sroa_0_0_sink_i_i_i_i = 0u; p_v_r24_sroa_4_0_sink_i_i_i_i = v_spec_select_i_i_i; p_v_r24_sroa_7_0_sink_i_i_i_i = v_spec_select36_i_i_i; p_v_r24_sroa_13_0_sink_i_i_i_i = 0u; goto L_der_core_encode_joined_len_exit_i_i_i; }
-L_der_core_encode_joined_len_exit_i_i_i:;
-    v_r24_sroa_0_0_sink_i_i_i_i = p_v_r24_sroa_0_0_sink_i_i_i_i;
-    v_r24_sroa_4_0_sink_i_i_i_i = p_v_r24_sroa_4_0_sink_i_i_i_i;
-    v_r24_sroa_7_0_sink_i_i_i_i = p_v_r24_sroa_7_0_sink_i_i_i_i;
-    v_r24_sroa_13_0_sink_i_i_i_i = p_v_r24_sroa_13_0_sink_i_i_i_i;
-    if (v_r5_sroa_0_0_i_i_sink_i_i_i36_i_i_i) { goto L_arm_1_i125_i_i_i; } else { goto L_arm_2_i113_i_i_i; }
-L_arm_1_i125_i_i_i:;
-    if (v_r24_sroa_0_0_sink_i_i_i_i) { goto L_arm_5_i126_i_i_i; } else { p_v_r24_sroa_0_0_sink_i115_i_i_i = 0u; p_v_r24_sroa_4_0_sink_i116_i_i_i = v_r24_sroa_4_0_sink_i_i_i_i; p_v_r24_sroa_7_0_sink_i117_i_i_i = v_r24_sroa_7_0_sink_i_i_i_i; p_v_r24_sroa_13_0_sink_i119_i_i_i = 0u; goto L_der_core_encode_joined_len_exit133_i_i_i; }
-L_arm_5_i126_i_i_i:;
-    v_r5_i_i_i127_i_i_i = (u32)((u32)(v_r24_sroa_13_0_sink_i_i_i_i) ^ (u32)(4294967295ull));
-    v_r7_i_not_i_i128_i_i_i = v_r5_sroa_10_0_i_i_sink_i_i_i38_i_i_i <= v_r5_i_i_i127_i_i_i;
-    v_r11_i_i_i129_i_i_i = (u32)((u32)(v_r24_sroa_13_0_sink_i_i_i_i) + (u32)(v_r5_sroa_10_0_i_i_sink_i_i_i38_i_i_i));
-    v_r5_sroa_4_0_i_i131_i_i_i = v_r7_i_not_i_i128_i_i_i ? 0u : 7u;
-    v_r5_sroa_10_0_i_i132_i_i_i = v_r7_i_not_i_i128_i_i_i ? v_r11_i_i_i129_i_i_i : 0u;
-    { p_v_r24_sroa_0_0_sink_i115_i_i_i = v_r7_i_not_i_i128_i_i_i; p_v_r24_sroa_4_0_sink_i116_i_i_i = v_r5_sroa_4_0_i_i131_i_i_i; p_v_r24_sroa_7_0_sink_i117_i_i_i = 0u; p_v_r24_sroa_13_0_sink_i119_i_i_i = v_r5_sroa_10_0_i_i132_i_i_i; goto L_der_core_encode_joined_len_exit133_i_i_i; }
-L_arm_2_i113_i_i_i:;
-    v_spec_select37_i_i_i = v_r24_sroa_0_0_sink_i_i_i_i ? v_r5_sroa_4_0_i_i_sink_i_i_i37_i_i_i : v_r24_sroa_4_0_sink_i_i_i_i;
-    v_spec_select38_i_i_i = v_r24_sroa_0_0_sink_i_i_i_i ? 0u : v_r24_sroa_7_0_sink_i_i_i_i;
-    { p_v_r24_sroa_0_0_sink_i115_i_i_i = 0u; p_v_r24_sroa_4_0_sink_i116_i_i_i = v_spec_select37_i_i_i; p_v_r24_sroa_7_0_sink_i117_i_i_i = v_spec_select38_i_i_i; p_v_r24_sroa_13_0_sink_i119_i_i_i = 0u; goto L_der_core_encode_joined_len_exit133_i_i_i; }
-L_der_core_encode_joined_len_exit133_i_i_i:;
-    v_r24_sroa_0_0_sink_i115_i_i_i = p_v_r24_sroa_0_0_sink_i115_i_i_i;
-    v_r24_sroa_4_0_sink_i116_i_i_i = p_v_r24_sroa_4_0_sink_i116_i_i_i;
-    v_r24_sroa_7_0_sink_i117_i_i_i = p_v_r24_sroa_7_0_sink_i117_i_i_i;
-    v_r24_sroa_13_0_sink_i119_i_i_i = p_v_r24_sroa_13_0_sink_i119_i_i_i;
-    if (v_r5_sroa_0_0_i_i_sink_i_i_i_i_i_i) { goto L_arm_1_i164_i_i_i; } else { goto L_arm_2_i152_i_i_i; }
-L_arm_1_i164_i_i_i:;
-    if (v_r24_sroa_0_0_sink_i115_i_i_i) { goto L_arm_5_i165_i_i_i; } else { p_v_r24_sroa_0_0_sink_i154_i_i_i = 0u; p_v_r24_sroa_4_0_sink_i155_i_i_i = v_r24_sroa_4_0_sink_i116_i_i_i; p_v_r24_sroa_7_0_sink_i156_i_i_i = v_r24_sroa_7_0_sink_i117_i_i_i; p_v_r24_sroa_13_0_sink_i158_i_i_i = 0u; goto L_pkcs1_private_key_written_CrtPartsEncodeValue_valu; }
-L_arm_5_i165_i_i_i:;
-    v_r5_i_i_i166_i_i_i = (u32)((u32)(v_r24_sroa_13_0_sink_i119_i_i_i) ^ (u32)(4294967295ull));
-    v_r7_i_not_i_i167_i_i_i = v_r5_sroa_10_0_i_i_sink_i_i_i_i_i_i <= v_r5_i_i_i166_i_i_i;
-    v_r11_i_i_i168_i_i_i = (u32)((u32)(v_r24_sroa_13_0_sink_i119_i_i_i) + (u32)(v_r5_sroa_10_0_i_i_sink_i_i_i_i_i_i));
-    v_r5_sroa_4_0_i_i170_i_i_i = v_r7_i_not_i_i167_i_i_i ? 0u : 7u;
-    v_r5_sroa_10_0_i_i171_i_i_i = v_r7_i_not_i_i167_i_i_i ? v_r11_i_i_i168_i_i_i : 0u;
-    { p_v_r24_sroa_0_0_sink_i154_i_i_i = v_r7_i_not_i_i167_i_i_i; p_v_r24_sroa_4_0_sink_i155_i_i_i = v_r5_sroa_4_0_i_i170_i_i_i; p_v_r24_sroa_7_0_sink_i156_i_i_i = 0u; p_v_r24_sroa_13_0_sink_i158_i_i_i = v_r5_sroa_10_0_i_i171_i_i_i; goto L_pkcs1_private_key_written_CrtPartsEncodeValue_valu; }
-L_arm_2_i152_i_i_i:;
-    v_spec_select39_i_i_i = v_r24_sroa_0_0_sink_i115_i_i_i ? v_r5_sroa_4_0_i_i_sink_i_i_i_i_i_i : v_r24_sroa_4_0_sink_i116_i_i_i;
-    v_spec_select40_i_i_i = v_r24_sroa_0_0_sink_i115_i_i_i ? 0u : v_r24_sroa_7_0_sink_i117_i_i_i;
-    { p_v_r24_sroa_0_0_sink_i154_i_i_i = 0u; p_v_r24_sroa_4_0_sink_i155_i_i_i = v_spec_select39_i_i_i; p_v_r24_sroa_7_0_sink_i156_i_i_i = v_spec_select40_i_i_i; p_v_r24_sroa_13_0_sink_i158_i_i_i = 0u; goto L_pkcs1_private_key_written_CrtPartsEncodeValue_valu; }
-L_pkcs1_private_key_written_CrtPartsEncodeValue_valu:;
-    v_r24_sroa_0_0_sink_i154_i_i_i = p_v_r24_sroa_0_0_sink_i154_i_i_i;
-    v_r24_sroa_4_0_sink_i155_i_i_i = p_v_r24_sroa_4_0_sink_i155_i_i_i;
-    v_r24_sroa_7_0_sink_i156_i_i_i = p_v_r24_sroa_7_0_sink_i156_i_i_i;
-    v_r24_sroa_13_0_sink_i158_i_i_i = p_v_r24_sroa_13_0_sink_i158_i_i_i;
-    if (v_r5_sroa_0_0_i_i_sink_i_i_i167_i_i) { goto L_arm_1_i198_i_i; } else { goto L_arm_2_i_i_i; }
-L_arm_1_i198_i_i:;
-    if (v_r24_sroa_0_0_sink_i154_i_i_i) { goto L_arm_5_i_i_i; } else { p_v_r24_sroa_0_0_sink_i_i_i = 0u; p_v_r24_sroa_4_0_sink_i_i_i = v_r24_sroa_4_0_sink_i155_i_i_i; p_v_r24_sroa_7_0_sink_i_i_i = v_r24_sroa_7_0_sink_i156_i_i_i; p_v_r24_sroa_13_0_sink_i_i_i = 0u; goto L_der_core_encode_joined_len_exit_i_i; }
+    if (v_r7_i_not_i_i_i_i_i346_i_i) { p_v_r5_sroa_10_0_i_i_sink_i_i_i329758_i_i = v_r11_i_i_i_i_i_i347_i_i; p_v_r3_i93_sroa_15_0731742_i_i = 0u; goto L_arm_5_i_i_i; } else { p_v_r24_sroa_0_0_sink_i_i_i = 0u; p_v_r24_sroa_4_0_sink_i_i_i = 7u; p_v_r24_sroa_7_0_sink_i_i_i = 0u; p_v_r24_sroa_13_0_sink_i_i_i = 0u; goto L_der_core_encode_joined_len_exit_i_i; }
+L_arm_1_i395_i_i:;
+    if (v_r3_i93_sroa_0_0_i_i) { p_v_r5_sroa_10_0_i_i_sink_i_i_i329758_i_i = v_r5_sroa_10_0_i_i_sink_i_i_i329760_i_i; p_v_r3_i93_sroa_15_0731742_i_i = v_r3_i93_sroa_15_0_i_i; goto L_arm_5_i_i_i; } else { p_v_r24_sroa_0_0_sink_i_i_i = 0u; p_v_r24_sroa_4_0_sink_i_i_i = v_r3_i93_sroa_6_0_i_i; p_v_r24_sroa_7_0_sink_i_i_i = v_r3_i93_sroa_9_0_i_i; p_v_r24_sroa_13_0_sink_i_i_i = 0u; goto L_der_core_encode_joined_len_exit_i_i; }
 L_arm_5_i_i_i:;
-    v_r5_i_i_i_i_i = (u32)((u32)(v_r24_sroa_13_0_sink_i158_i_i_i) ^ (u32)(4294967295ull));
-    v_r7_i_not_i_i_i_i = v_r5_sroa_10_0_i_i_sink_i_i_i169_i_i <= v_r5_i_i_i_i_i;
-    v_r11_i_i_i_i_i = (u32)((u32)(v_r24_sroa_13_0_sink_i158_i_i_i) + (u32)(v_r5_sroa_10_0_i_i_sink_i_i_i169_i_i));
+    v_r5_sroa_10_0_i_i_sink_i_i_i329758_i_i = p_v_r5_sroa_10_0_i_i_sink_i_i_i329758_i_i;
+    v_r3_i93_sroa_15_0731742_i_i = p_v_r3_i93_sroa_15_0731742_i_i;
+    v_r5_i_i_i_i_i = (u32)((u32)(v_r3_i93_sroa_15_0731742_i_i) ^ (u32)(4294967295ull));
+    v_r7_i_not_i_i_i_i = v_r5_sroa_10_0_i_i_sink_i_i_i329758_i_i <= v_r5_i_i_i_i_i;
+    v_r11_i_i_i_i_i = (u32)((u32)(v_r3_i93_sroa_15_0731742_i_i) + (u32)(v_r5_sroa_10_0_i_i_sink_i_i_i329758_i_i));
     v_r5_sroa_4_0_i_i_i_i = v_r7_i_not_i_i_i_i ? 0u : 7u;
     v_r5_sroa_10_0_i_i_i_i = v_r7_i_not_i_i_i_i ? v_r11_i_i_i_i_i : 0u;
     { p_v_r24_sroa_0_0_sink_i_i_i = v_r7_i_not_i_i_i_i; p_v_r24_sroa_4_0_sink_i_i_i = v_r5_sroa_4_0_i_i_i_i; p_v_r24_sroa_7_0_sink_i_i_i = 0u; p_v_r24_sroa_13_0_sink_i_i_i = v_r5_sroa_10_0_i_i_i_i; goto L_der_core_encode_joined_len_exit_i_i; }
-L_arm_2_i_i_i:;
-    v_spec_select_i_i = v_r24_sroa_0_0_sink_i154_i_i_i ? v_r5_sroa_4_0_i_i_sink_i_i_i168_i_i : v_r24_sroa_4_0_sink_i155_i_i_i;
-    v_spec_select404_i_i = v_r24_sroa_0_0_sink_i154_i_i_i ? 0u : v_r24_sroa_7_0_sink_i156_i_i_i;
-    { p_v_r24_sroa_0_0_sink_i_i_i = 0u; p_v_r24_sroa_4_0_sink_i_i_i = v_spec_select_i_i; p_v_r24_sroa_7_0_sink_i_i_i = v_spec_select404_i_i; p_v_r24_sroa_13_0_sink_i_i_i = 0u; goto L_der_core_encode_joined_len_exit_i_i; }
+L_arm_2_i394_i_i:;
+    v_spec_select_i_i = v_r3_i93_sroa_0_0_i_i ? v_r5_sroa_4_0_i_i_sink_i_i_i328757_i_i : v_r3_i93_sroa_6_0_i_i;
+    v_spec_select771_i_i = v_r3_i93_sroa_0_0_i_i ? 0u : v_r3_i93_sroa_9_0_i_i;
+    { p_v_r24_sroa_0_0_sink_i_i_i = 0u; p_v_r24_sroa_4_0_sink_i_i_i = v_spec_select_i_i; p_v_r24_sroa_7_0_sink_i_i_i = v_spec_select771_i_i; p_v_r24_sroa_13_0_sink_i_i_i = 0u; goto L_der_core_encode_joined_len_exit_i_i; }
 L_der_core_encode_joined_len_exit_i_i:;
     v_r24_sroa_0_0_sink_i_i_i = p_v_r24_sroa_0_0_sink_i_i_i;
     v_r24_sroa_4_0_sink_i_i_i = p_v_r24_sroa_4_0_sink_i_i_i;
     v_r24_sroa_7_0_sink_i_i_i = p_v_r24_sroa_7_0_sink_i_i_i;
     v_r24_sroa_13_0_sink_i_i_i = p_v_r24_sroa_13_0_sink_i_i_i;
-    if (v_r5_sroa_0_0_i_i_sink_i_i_i138_i_i) { goto L_arm_1_i229_i_i; } else { goto L_arm_2_i217_i_i; }
-L_arm_1_i229_i_i:;
-    if (v_r24_sroa_0_0_sink_i_i_i) { goto L_arm_5_i230_i_i; } else { p_v_r24_sroa_0_0_sink_i219_i_i = 0u; p_v_r24_sroa_4_0_sink_i220_i_i = v_r24_sroa_4_0_sink_i_i_i; p_v_r24_sroa_7_0_sink_i221_i_i = v_r24_sroa_7_0_sink_i_i_i; p_v_r24_sroa_13_0_sink_i223_i_i = 0u; goto L_der_core_encode_joined_len_exit237_i_i; }
-L_arm_5_i230_i_i:;
-    v_r5_i_i_i231_i_i = (u32)((u32)(v_r24_sroa_13_0_sink_i_i_i) ^ (u32)(4294967295ull));
-    v_r7_i_not_i_i232_i_i = v_r5_sroa_10_0_i_i_sink_i_i_i140_i_i <= v_r5_i_i_i231_i_i;
-    v_r11_i_i_i233_i_i = (u32)((u32)(v_r24_sroa_13_0_sink_i_i_i) + (u32)(v_r5_sroa_10_0_i_i_sink_i_i_i140_i_i));
-    v_r5_sroa_4_0_i_i235_i_i = v_r7_i_not_i_i232_i_i ? 0u : 7u;
-    v_r5_sroa_10_0_i_i236_i_i = v_r7_i_not_i_i232_i_i ? v_r11_i_i_i233_i_i : 0u;
-    { p_v_r24_sroa_0_0_sink_i219_i_i = v_r7_i_not_i_i232_i_i; p_v_r24_sroa_4_0_sink_i220_i_i = v_r5_sroa_4_0_i_i235_i_i; p_v_r24_sroa_7_0_sink_i221_i_i = 0u; p_v_r24_sroa_13_0_sink_i223_i_i = v_r5_sroa_10_0_i_i236_i_i; goto L_der_core_encode_joined_len_exit237_i_i; }
-L_arm_2_i217_i_i:;
-    v_spec_select405_i_i = v_r24_sroa_0_0_sink_i_i_i ? v_r5_sroa_4_0_i_i_sink_i_i_i139_i_i : v_r24_sroa_4_0_sink_i_i_i;
-    v_spec_select406_i_i = v_r24_sroa_0_0_sink_i_i_i ? 0u : v_r24_sroa_7_0_sink_i_i_i;
-    { p_v_r24_sroa_0_0_sink_i219_i_i = 0u; p_v_r24_sroa_4_0_sink_i220_i_i = v_spec_select405_i_i; p_v_r24_sroa_7_0_sink_i221_i_i = v_spec_select406_i_i; p_v_r24_sroa_13_0_sink_i223_i_i = 0u; goto L_der_core_encode_joined_len_exit237_i_i; }
-L_der_core_encode_joined_len_exit237_i_i:;
-    v_r24_sroa_0_0_sink_i219_i_i = p_v_r24_sroa_0_0_sink_i219_i_i;
-    v_r24_sroa_4_0_sink_i220_i_i = p_v_r24_sroa_4_0_sink_i220_i_i;
-    v_r24_sroa_7_0_sink_i221_i_i = p_v_r24_sroa_7_0_sink_i221_i_i;
-    v_r24_sroa_13_0_sink_i223_i_i = p_v_r24_sroa_13_0_sink_i223_i_i;
-    if (v_r5_sroa_0_0_i_i_sink_i_i_i109_i_i) { goto L_arm_1_i268_i_i; } else { goto L_arm_2_i256_i_i; }
-L_arm_1_i268_i_i:;
-    if (v_r24_sroa_0_0_sink_i219_i_i) { goto L_arm_5_i269_i_i; } else { p_v_r24_sroa_0_0_sink_i258_i_i = 0u; p_v_r24_sroa_4_0_sink_i259_i_i = v_r24_sroa_4_0_sink_i220_i_i; p_v_r24_sroa_7_0_sink_i260_i_i = v_r24_sroa_7_0_sink_i221_i_i; p_v_r24_sroa_13_0_sink_i262_i_i = 0u; goto L_der_core_encode_joined_len_exit276_i_i; }
-L_arm_5_i269_i_i:;
-    v_r5_i_i_i270_i_i = (u32)((u32)(v_r24_sroa_13_0_sink_i223_i_i) ^ (u32)(4294967295ull));
-    v_r7_i_not_i_i271_i_i = v_r5_sroa_10_0_i_i_sink_i_i_i111_i_i <= v_r5_i_i_i270_i_i;
-    v_r11_i_i_i272_i_i = (u32)((u32)(v_r24_sroa_13_0_sink_i223_i_i) + (u32)(v_r5_sroa_10_0_i_i_sink_i_i_i111_i_i));
-    v_r5_sroa_4_0_i_i274_i_i = v_r7_i_not_i_i271_i_i ? 0u : 7u;
-    v_r5_sroa_10_0_i_i275_i_i = v_r7_i_not_i_i271_i_i ? v_r11_i_i_i272_i_i : 0u;
-    { p_v_r24_sroa_0_0_sink_i258_i_i = v_r7_i_not_i_i271_i_i; p_v_r24_sroa_4_0_sink_i259_i_i = v_r5_sroa_4_0_i_i274_i_i; p_v_r24_sroa_7_0_sink_i260_i_i = 0u; p_v_r24_sroa_13_0_sink_i262_i_i = v_r5_sroa_10_0_i_i275_i_i; goto L_der_core_encode_joined_len_exit276_i_i; }
-L_arm_2_i256_i_i:;
-    v_spec_select407_i_i = v_r24_sroa_0_0_sink_i219_i_i ? v_r5_sroa_4_0_i_i_sink_i_i_i110_i_i : v_r24_sroa_4_0_sink_i220_i_i;
-    v_spec_select408_i_i = v_r24_sroa_0_0_sink_i219_i_i ? 0u : v_r24_sroa_7_0_sink_i221_i_i;
-    { p_v_r24_sroa_0_0_sink_i258_i_i = 0u; p_v_r24_sroa_4_0_sink_i259_i_i = v_spec_select407_i_i; p_v_r24_sroa_7_0_sink_i260_i_i = v_spec_select408_i_i; p_v_r24_sroa_13_0_sink_i262_i_i = 0u; goto L_der_core_encode_joined_len_exit276_i_i; }
-L_der_core_encode_joined_len_exit276_i_i:;
-    v_r24_sroa_0_0_sink_i258_i_i = p_v_r24_sroa_0_0_sink_i258_i_i;
-    v_r24_sroa_4_0_sink_i259_i_i = p_v_r24_sroa_4_0_sink_i259_i_i;
-    v_r24_sroa_7_0_sink_i260_i_i = p_v_r24_sroa_7_0_sink_i260_i_i;
-    v_r24_sroa_13_0_sink_i262_i_i = p_v_r24_sroa_13_0_sink_i262_i_i;
-    if (v_r5_sroa_0_0_i_i_sink_i_i_i80_i_i) { goto L_arm_1_i307_i_i; } else { goto L_arm_2_i295_i_i; }
-L_arm_1_i307_i_i:;
-    if (v_r24_sroa_0_0_sink_i258_i_i) { goto L_arm_5_i308_i_i; } else { p_v_r24_sroa_0_0_sink_i297_i_i = 0u; p_v_r24_sroa_4_0_sink_i298_i_i = v_r24_sroa_4_0_sink_i259_i_i; p_v_r24_sroa_7_0_sink_i299_i_i = v_r24_sroa_7_0_sink_i260_i_i; p_v_r24_sroa_13_0_sink_i301_i_i = 0u; goto L_der_core_encode_joined_len_exit315_i_i; }
-L_arm_5_i308_i_i:;
-    v_r5_i_i_i309_i_i = (u32)((u32)(v_r24_sroa_13_0_sink_i262_i_i) ^ (u32)(4294967295ull));
-    v_r7_i_not_i_i310_i_i = v_r5_sroa_10_0_i_i_sink_i_i_i82_i_i <= v_r5_i_i_i309_i_i;
-    v_r11_i_i_i311_i_i = (u32)((u32)(v_r24_sroa_13_0_sink_i262_i_i) + (u32)(v_r5_sroa_10_0_i_i_sink_i_i_i82_i_i));
-    v_r5_sroa_4_0_i_i313_i_i = v_r7_i_not_i_i310_i_i ? 0u : 7u;
-    v_r5_sroa_10_0_i_i314_i_i = v_r7_i_not_i_i310_i_i ? v_r11_i_i_i311_i_i : 0u;
-    { p_v_r24_sroa_0_0_sink_i297_i_i = v_r7_i_not_i_i310_i_i; p_v_r24_sroa_4_0_sink_i298_i_i = v_r5_sroa_4_0_i_i313_i_i; p_v_r24_sroa_7_0_sink_i299_i_i = 0u; p_v_r24_sroa_13_0_sink_i301_i_i = v_r5_sroa_10_0_i_i314_i_i; goto L_der_core_encode_joined_len_exit315_i_i; }
-L_arm_2_i295_i_i:;
-    v_spec_select409_i_i = v_r24_sroa_0_0_sink_i258_i_i ? v_r5_sroa_4_0_i_i_sink_i_i_i81_i_i : v_r24_sroa_4_0_sink_i259_i_i;
-    v_spec_select410_i_i = v_r24_sroa_0_0_sink_i258_i_i ? 0u : v_r24_sroa_7_0_sink_i260_i_i;
-    { p_v_r24_sroa_0_0_sink_i297_i_i = 0u; p_v_r24_sroa_4_0_sink_i298_i_i = v_spec_select409_i_i; p_v_r24_sroa_7_0_sink_i299_i_i = v_spec_select410_i_i; p_v_r24_sroa_13_0_sink_i301_i_i = 0u; goto L_der_core_encode_joined_len_exit315_i_i; }
-L_der_core_encode_joined_len_exit315_i_i:;
-    v_r24_sroa_0_0_sink_i297_i_i = p_v_r24_sroa_0_0_sink_i297_i_i;
-    v_r24_sroa_4_0_sink_i298_i_i = p_v_r24_sroa_4_0_sink_i298_i_i;
-    v_r24_sroa_7_0_sink_i299_i_i = p_v_r24_sroa_7_0_sink_i299_i_i;
-    v_r24_sroa_13_0_sink_i301_i_i = p_v_r24_sroa_13_0_sink_i301_i_i;
-    if (v_r5_sroa_0_0_i_i_sink_i_i_i_i_i) { goto L_arm_1_i346_i_i; } else { goto L_arm_2_i334_i_i; }
-L_arm_1_i346_i_i:;
-    if (v_r24_sroa_0_0_sink_i297_i_i) { goto L_arm_1_i385_i_i; } else { p_v_r5_sroa_0_0_i_i_sink_i = 1u; p_v_r5_sroa_4_0_i_i_sink_i = v_r24_sroa_4_0_sink_i298_i_i; p_v_sink_i = v_r24_sroa_7_0_sink_i299_i_i; p_v_r5_sroa_10_0_i_i_sink_i = 0u; goto L_der_core_encode_encoding_len_3a3c98235cfe5b88_exit; }
-L_arm_2_i334_i_i:;
-    v_spec_select411_i_i = v_r24_sroa_0_0_sink_i297_i_i ? v_r5_sroa_4_0_i_i_sink_i_i_i_i_i : v_r24_sroa_4_0_sink_i298_i_i;
-    v_spec_select412_i_i = v_r24_sroa_0_0_sink_i297_i_i ? 0u : v_r24_sroa_7_0_sink_i299_i_i;
-    { p_v_r5_sroa_0_0_i_i_sink_i = 1u; p_v_r5_sroa_4_0_i_i_sink_i = v_spec_select411_i_i; p_v_sink_i = v_spec_select412_i_i; p_v_r5_sroa_10_0_i_i_sink_i = 0u; goto L_der_core_encode_encoding_len_3a3c98235cfe5b88_exit; }
-L_arm_1_i385_i_i:;
-    v_r5_i_i_i348_i_i = (u32)((u32)(v_r24_sroa_13_0_sink_i301_i_i) ^ (u32)(4294967295ull));
-    v_r7_i_not_i_i349_not_i_i = v_r5_sroa_10_0_i_i_sink_i_i_i_i_i > v_r5_i_i_i348_i_i;
-    if (v_r7_i_not_i_i349_not_i_i) { p_v_r5_sroa_0_0_i_i_sink_i = 1u; p_v_r5_sroa_4_0_i_i_sink_i = 7u; p_v_sink_i = 0u; p_v_r5_sroa_10_0_i_i_sink_i = 0u; goto L_der_core_encode_encoding_len_3a3c98235cfe5b88_exit; } else { goto L_pkcs1_private_key_RsaPrivateKeyEncodeValue_value_l; }
+    if (v_r5_sroa_0_0_i_i_sink_i_i_i298_i_i) { goto L_arm_1_i426_i_i; } else { goto L_arm_2_i414_i_i; }
+L_arm_1_i426_i_i:;
+    if (v_r24_sroa_0_0_sink_i_i_i) { goto L_arm_5_i427_i_i; } else { p_v_r24_sroa_0_0_sink_i416_i_i = 0u; p_v_r24_sroa_4_0_sink_i417_i_i = v_r24_sroa_4_0_sink_i_i_i; p_v_r24_sroa_7_0_sink_i418_i_i = v_r24_sroa_7_0_sink_i_i_i; p_v_r24_sroa_13_0_sink_i420_i_i = 0u; goto L_der_core_encode_joined_len_exit434_i_i; }
+L_arm_5_i427_i_i:;
+    v_r5_i_i_i428_i_i = (u32)((u32)(v_r24_sroa_13_0_sink_i_i_i) ^ (u32)(4294967295ull));
+    v_r7_i_not_i_i429_i_i = v_r5_sroa_10_0_i_i_sink_i_i_i300_i_i <= v_r5_i_i_i428_i_i;
+    v_r11_i_i_i430_i_i = (u32)((u32)(v_r24_sroa_13_0_sink_i_i_i) + (u32)(v_r5_sroa_10_0_i_i_sink_i_i_i300_i_i));
+    v_r5_sroa_4_0_i_i432_i_i = v_r7_i_not_i_i429_i_i ? 0u : 7u;
+    v_r5_sroa_10_0_i_i433_i_i = v_r7_i_not_i_i429_i_i ? v_r11_i_i_i430_i_i : 0u;
+    { p_v_r24_sroa_0_0_sink_i416_i_i = v_r7_i_not_i_i429_i_i; p_v_r24_sroa_4_0_sink_i417_i_i = v_r5_sroa_4_0_i_i432_i_i; p_v_r24_sroa_7_0_sink_i418_i_i = 0u; p_v_r24_sroa_13_0_sink_i420_i_i = v_r5_sroa_10_0_i_i433_i_i; goto L_der_core_encode_joined_len_exit434_i_i; }
+L_arm_2_i414_i_i:;
+    v_spec_select772_i_i = v_r24_sroa_0_0_sink_i_i_i ? v_r5_sroa_4_0_i_i_sink_i_i_i299_i_i : v_r24_sroa_4_0_sink_i_i_i;
+    v_spec_select773_i_i = v_r24_sroa_0_0_sink_i_i_i ? 0u : v_r24_sroa_7_0_sink_i_i_i;
+    { p_v_r24_sroa_0_0_sink_i416_i_i = 0u; p_v_r24_sroa_4_0_sink_i417_i_i = v_spec_select772_i_i; p_v_r24_sroa_7_0_sink_i418_i_i = v_spec_select773_i_i; p_v_r24_sroa_13_0_sink_i420_i_i = 0u; goto L_der_core_encode_joined_len_exit434_i_i; }
+L_der_core_encode_joined_len_exit434_i_i:;
+    v_r24_sroa_0_0_sink_i416_i_i = p_v_r24_sroa_0_0_sink_i416_i_i;
+    v_r24_sroa_4_0_sink_i417_i_i = p_v_r24_sroa_4_0_sink_i417_i_i;
+    v_r24_sroa_7_0_sink_i418_i_i = p_v_r24_sroa_7_0_sink_i418_i_i;
+    v_r24_sroa_13_0_sink_i420_i_i = p_v_r24_sroa_13_0_sink_i420_i_i;
+    if (v_r5_sroa_0_0_i_i_sink_i_i_i269_i_i) { goto L_arm_1_i465_i_i; } else { goto L_arm_2_i453_i_i; }
+L_arm_1_i465_i_i:;
+    if (v_r24_sroa_0_0_sink_i416_i_i) { goto L_arm_5_i466_i_i; } else { p_v_r24_sroa_0_0_sink_i455_i_i = 0u; p_v_r24_sroa_4_0_sink_i456_i_i = v_r24_sroa_4_0_sink_i417_i_i; p_v_r24_sroa_7_0_sink_i457_i_i = v_r24_sroa_7_0_sink_i418_i_i; p_v_r24_sroa_13_0_sink_i459_i_i = 0u; goto L_der_core_encode_joined_len_exit473_i_i; }
+L_arm_5_i466_i_i:;
+    v_r5_i_i_i467_i_i = (u32)((u32)(v_r24_sroa_13_0_sink_i420_i_i) ^ (u32)(4294967295ull));
+    v_r7_i_not_i_i468_i_i = v_r5_sroa_10_0_i_i_sink_i_i_i271_i_i <= v_r5_i_i_i467_i_i;
+    v_r11_i_i_i469_i_i = (u32)((u32)(v_r24_sroa_13_0_sink_i420_i_i) + (u32)(v_r5_sroa_10_0_i_i_sink_i_i_i271_i_i));
+    v_r5_sroa_4_0_i_i471_i_i = v_r7_i_not_i_i468_i_i ? 0u : 7u;
+    v_r5_sroa_10_0_i_i472_i_i = v_r7_i_not_i_i468_i_i ? v_r11_i_i_i469_i_i : 0u;
+    { p_v_r24_sroa_0_0_sink_i455_i_i = v_r7_i_not_i_i468_i_i; p_v_r24_sroa_4_0_sink_i456_i_i = v_r5_sroa_4_0_i_i471_i_i; p_v_r24_sroa_7_0_sink_i457_i_i = 0u; p_v_r24_sroa_13_0_sink_i459_i_i = v_r5_sroa_10_0_i_i472_i_i; goto L_der_core_encode_joined_len_exit473_i_i; }
+L_arm_2_i453_i_i:;
+    v_spec_select774_i_i = v_r24_sroa_0_0_sink_i416_i_i ? v_r5_sroa_4_0_i_i_sink_i_i_i270_i_i : v_r24_sroa_4_0_sink_i417_i_i;
+    v_spec_select775_i_i = v_r24_sroa_0_0_sink_i416_i_i ? 0u : v_r24_sroa_7_0_sink_i418_i_i;
+    { p_v_r24_sroa_0_0_sink_i455_i_i = 0u; p_v_r24_sroa_4_0_sink_i456_i_i = v_spec_select774_i_i; p_v_r24_sroa_7_0_sink_i457_i_i = v_spec_select775_i_i; p_v_r24_sroa_13_0_sink_i459_i_i = 0u; goto L_der_core_encode_joined_len_exit473_i_i; }
+L_der_core_encode_joined_len_exit473_i_i:;
+    v_r24_sroa_0_0_sink_i455_i_i = p_v_r24_sroa_0_0_sink_i455_i_i;
+    v_r24_sroa_4_0_sink_i456_i_i = p_v_r24_sroa_4_0_sink_i456_i_i;
+    v_r24_sroa_7_0_sink_i457_i_i = p_v_r24_sroa_7_0_sink_i457_i_i;
+    v_r24_sroa_13_0_sink_i459_i_i = p_v_r24_sroa_13_0_sink_i459_i_i;
+    if (v_r5_sroa_0_0_i_i_sink_i_i_i240_i_i) { goto L_arm_1_i504_i_i; } else { goto L_arm_2_i492_i_i; }
+L_arm_1_i504_i_i:;
+    if (v_r24_sroa_0_0_sink_i455_i_i) { goto L_arm_5_i505_i_i; } else { p_v_r24_sroa_0_0_sink_i494_i_i = 0u; p_v_r24_sroa_4_0_sink_i495_i_i = v_r24_sroa_4_0_sink_i456_i_i; p_v_r24_sroa_7_0_sink_i496_i_i = v_r24_sroa_7_0_sink_i457_i_i; p_v_r24_sroa_13_0_sink_i498_i_i = 0u; goto L_der_core_encode_joined_len_exit512_i_i; }
+L_arm_5_i505_i_i:;
+    v_r5_i_i_i506_i_i = (u32)((u32)(v_r24_sroa_13_0_sink_i459_i_i) ^ (u32)(4294967295ull));
+    v_r7_i_not_i_i507_i_i = v_r5_sroa_10_0_i_i_sink_i_i_i242_i_i <= v_r5_i_i_i506_i_i;
+    v_r11_i_i_i508_i_i = (u32)((u32)(v_r24_sroa_13_0_sink_i459_i_i) + (u32)(v_r5_sroa_10_0_i_i_sink_i_i_i242_i_i));
+    v_r5_sroa_4_0_i_i510_i_i = v_r7_i_not_i_i507_i_i ? 0u : 7u;
+    v_r5_sroa_10_0_i_i511_i_i = v_r7_i_not_i_i507_i_i ? v_r11_i_i_i508_i_i : 0u;
+    { p_v_r24_sroa_0_0_sink_i494_i_i = v_r7_i_not_i_i507_i_i; p_v_r24_sroa_4_0_sink_i495_i_i = v_r5_sroa_4_0_i_i510_i_i; p_v_r24_sroa_7_0_sink_i496_i_i = 0u; p_v_r24_sroa_13_0_sink_i498_i_i = v_r5_sroa_10_0_i_i511_i_i; goto L_der_core_encode_joined_len_exit512_i_i; }
+L_arm_2_i492_i_i:;
+    v_spec_select776_i_i = v_r24_sroa_0_0_sink_i455_i_i ? v_r5_sroa_4_0_i_i_sink_i_i_i241_i_i : v_r24_sroa_4_0_sink_i456_i_i;
+    v_spec_select777_i_i = v_r24_sroa_0_0_sink_i455_i_i ? 0u : v_r24_sroa_7_0_sink_i457_i_i;
+    { p_v_r24_sroa_0_0_sink_i494_i_i = 0u; p_v_r24_sroa_4_0_sink_i495_i_i = v_spec_select776_i_i; p_v_r24_sroa_7_0_sink_i496_i_i = v_spec_select777_i_i; p_v_r24_sroa_13_0_sink_i498_i_i = 0u; goto L_der_core_encode_joined_len_exit512_i_i; }
+L_der_core_encode_joined_len_exit512_i_i:;
+    v_r24_sroa_0_0_sink_i494_i_i = p_v_r24_sroa_0_0_sink_i494_i_i;
+    v_r24_sroa_4_0_sink_i495_i_i = p_v_r24_sroa_4_0_sink_i495_i_i;
+    v_r24_sroa_7_0_sink_i496_i_i = p_v_r24_sroa_7_0_sink_i496_i_i;
+    v_r24_sroa_13_0_sink_i498_i_i = p_v_r24_sroa_13_0_sink_i498_i_i;
+    if (v_r5_sroa_0_0_i_i_sink_i_i_i211_i_i) { goto L_arm_1_i543_i_i; } else { goto L_arm_2_i531_i_i; }
+L_arm_1_i543_i_i:;
+    if (v_r24_sroa_0_0_sink_i494_i_i) { goto L_arm_5_i544_i_i; } else { p_v_r24_sroa_0_0_sink_i533_i_i = 0u; p_v_r24_sroa_4_0_sink_i534_i_i = v_r24_sroa_4_0_sink_i495_i_i; p_v_r24_sroa_7_0_sink_i535_i_i = v_r24_sroa_7_0_sink_i496_i_i; p_v_r24_sroa_13_0_sink_i537_i_i = 0u; goto L_der_core_encode_joined_len_exit551_i_i; }
+L_arm_5_i544_i_i:;
+    v_r5_i_i_i545_i_i = (u32)((u32)(v_r24_sroa_13_0_sink_i498_i_i) ^ (u32)(4294967295ull));
+    v_r7_i_not_i_i546_i_i = v_r5_sroa_10_0_i_i_sink_i_i_i213_i_i <= v_r5_i_i_i545_i_i;
+    v_r11_i_i_i547_i_i = (u32)((u32)(v_r24_sroa_13_0_sink_i498_i_i) + (u32)(v_r5_sroa_10_0_i_i_sink_i_i_i213_i_i));
+    v_r5_sroa_4_0_i_i549_i_i = v_r7_i_not_i_i546_i_i ? 0u : 7u;
+    v_r5_sroa_10_0_i_i550_i_i = v_r7_i_not_i_i546_i_i ? v_r11_i_i_i547_i_i : 0u;
+    { p_v_r24_sroa_0_0_sink_i533_i_i = v_r7_i_not_i_i546_i_i; p_v_r24_sroa_4_0_sink_i534_i_i = v_r5_sroa_4_0_i_i549_i_i; p_v_r24_sroa_7_0_sink_i535_i_i = 0u; p_v_r24_sroa_13_0_sink_i537_i_i = v_r5_sroa_10_0_i_i550_i_i; goto L_der_core_encode_joined_len_exit551_i_i; }
+L_arm_2_i531_i_i:;
+    v_spec_select778_i_i = v_r24_sroa_0_0_sink_i494_i_i ? v_r5_sroa_4_0_i_i_sink_i_i_i212_i_i : v_r24_sroa_4_0_sink_i495_i_i;
+    v_spec_select779_i_i = v_r24_sroa_0_0_sink_i494_i_i ? 0u : v_r24_sroa_7_0_sink_i496_i_i;
+    { p_v_r24_sroa_0_0_sink_i533_i_i = 0u; p_v_r24_sroa_4_0_sink_i534_i_i = v_spec_select778_i_i; p_v_r24_sroa_7_0_sink_i535_i_i = v_spec_select779_i_i; p_v_r24_sroa_13_0_sink_i537_i_i = 0u; goto L_der_core_encode_joined_len_exit551_i_i; }
+L_der_core_encode_joined_len_exit551_i_i:;
+    v_r24_sroa_0_0_sink_i533_i_i = p_v_r24_sroa_0_0_sink_i533_i_i;
+    v_r24_sroa_4_0_sink_i534_i_i = p_v_r24_sroa_4_0_sink_i534_i_i;
+    v_r24_sroa_7_0_sink_i535_i_i = p_v_r24_sroa_7_0_sink_i535_i_i;
+    v_r24_sroa_13_0_sink_i537_i_i = p_v_r24_sroa_13_0_sink_i537_i_i;
+    if (v_r5_sroa_0_0_i_i_sink_i_i_i182_i_i) { goto L_arm_1_i582_i_i; } else { goto L_arm_2_i570_i_i; }
+L_arm_1_i582_i_i:;
+    if (v_r24_sroa_0_0_sink_i533_i_i) { goto L_arm_5_i583_i_i; } else { p_v_r24_sroa_0_0_sink_i572_i_i = 0u; p_v_r24_sroa_4_0_sink_i573_i_i = v_r24_sroa_4_0_sink_i534_i_i; p_v_r24_sroa_7_0_sink_i574_i_i = v_r24_sroa_7_0_sink_i535_i_i; p_v_r24_sroa_13_0_sink_i576_i_i = 0u; goto L_der_core_encode_joined_len_exit590_i_i; }
+L_arm_5_i583_i_i:;
+    v_r5_i_i_i584_i_i = (u32)((u32)(v_r24_sroa_13_0_sink_i537_i_i) ^ (u32)(4294967295ull));
+    v_r7_i_not_i_i585_i_i = v_r5_sroa_10_0_i_i_sink_i_i_i184_i_i <= v_r5_i_i_i584_i_i;
+    v_r11_i_i_i586_i_i = (u32)((u32)(v_r24_sroa_13_0_sink_i537_i_i) + (u32)(v_r5_sroa_10_0_i_i_sink_i_i_i184_i_i));
+    v_r5_sroa_4_0_i_i588_i_i = v_r7_i_not_i_i585_i_i ? 0u : 7u;
+    v_r5_sroa_10_0_i_i589_i_i = v_r7_i_not_i_i585_i_i ? v_r11_i_i_i586_i_i : 0u;
+    { p_v_r24_sroa_0_0_sink_i572_i_i = v_r7_i_not_i_i585_i_i; p_v_r24_sroa_4_0_sink_i573_i_i = v_r5_sroa_4_0_i_i588_i_i; p_v_r24_sroa_7_0_sink_i574_i_i = 0u; p_v_r24_sroa_13_0_sink_i576_i_i = v_r5_sroa_10_0_i_i589_i_i; goto L_der_core_encode_joined_len_exit590_i_i; }
+L_arm_2_i570_i_i:;
+    v_spec_select780_i_i = v_r24_sroa_0_0_sink_i533_i_i ? v_r5_sroa_4_0_i_i_sink_i_i_i183_i_i : v_r24_sroa_4_0_sink_i534_i_i;
+    v_spec_select781_i_i = v_r24_sroa_0_0_sink_i533_i_i ? 0u : v_r24_sroa_7_0_sink_i535_i_i;
+    { p_v_r24_sroa_0_0_sink_i572_i_i = 0u; p_v_r24_sroa_4_0_sink_i573_i_i = v_spec_select780_i_i; p_v_r24_sroa_7_0_sink_i574_i_i = v_spec_select781_i_i; p_v_r24_sroa_13_0_sink_i576_i_i = 0u; goto L_der_core_encode_joined_len_exit590_i_i; }
+L_der_core_encode_joined_len_exit590_i_i:;
+    v_r24_sroa_0_0_sink_i572_i_i = p_v_r24_sroa_0_0_sink_i572_i_i;
+    v_r24_sroa_4_0_sink_i573_i_i = p_v_r24_sroa_4_0_sink_i573_i_i;
+    v_r24_sroa_7_0_sink_i574_i_i = p_v_r24_sroa_7_0_sink_i574_i_i;
+    v_r24_sroa_13_0_sink_i576_i_i = p_v_r24_sroa_13_0_sink_i576_i_i;
+    if (v_r5_sroa_0_0_i_i_sink_i_i_i153_i_i) { goto L_arm_1_i621_i_i; } else { goto L_arm_2_i609_i_i; }
+L_arm_1_i621_i_i:;
+    if (v_r24_sroa_0_0_sink_i572_i_i) { goto L_arm_5_i622_i_i; } else { p_v_r24_sroa_0_0_sink_i611_i_i = 0u; p_v_r24_sroa_4_0_sink_i612_i_i = v_r24_sroa_4_0_sink_i573_i_i; p_v_r24_sroa_7_0_sink_i613_i_i = v_r24_sroa_7_0_sink_i574_i_i; p_v_r24_sroa_13_0_sink_i615_i_i = 0u; goto L_der_core_encode_joined_len_exit629_i_i; }
+L_arm_5_i622_i_i:;
+    v_r5_i_i_i623_i_i = (u32)((u32)(v_r24_sroa_13_0_sink_i576_i_i) ^ (u32)(4294967295ull));
+    v_r7_i_not_i_i624_i_i = v_r5_sroa_10_0_i_i_sink_i_i_i155_i_i <= v_r5_i_i_i623_i_i;
+    v_r11_i_i_i625_i_i = (u32)((u32)(v_r24_sroa_13_0_sink_i576_i_i) + (u32)(v_r5_sroa_10_0_i_i_sink_i_i_i155_i_i));
+    v_r5_sroa_4_0_i_i627_i_i = v_r7_i_not_i_i624_i_i ? 0u : 7u;
+    v_r5_sroa_10_0_i_i628_i_i = v_r7_i_not_i_i624_i_i ? v_r11_i_i_i625_i_i : 0u;
+    { p_v_r24_sroa_0_0_sink_i611_i_i = v_r7_i_not_i_i624_i_i; p_v_r24_sroa_4_0_sink_i612_i_i = v_r5_sroa_4_0_i_i627_i_i; p_v_r24_sroa_7_0_sink_i613_i_i = 0u; p_v_r24_sroa_13_0_sink_i615_i_i = v_r5_sroa_10_0_i_i628_i_i; goto L_der_core_encode_joined_len_exit629_i_i; }
+L_arm_2_i609_i_i:;
+    v_spec_select782_i_i = v_r24_sroa_0_0_sink_i572_i_i ? v_r5_sroa_4_0_i_i_sink_i_i_i154_i_i : v_r24_sroa_4_0_sink_i573_i_i;
+    v_spec_select783_i_i = v_r24_sroa_0_0_sink_i572_i_i ? 0u : v_r24_sroa_7_0_sink_i574_i_i;
+    { p_v_r24_sroa_0_0_sink_i611_i_i = 0u; p_v_r24_sroa_4_0_sink_i612_i_i = v_spec_select782_i_i; p_v_r24_sroa_7_0_sink_i613_i_i = v_spec_select783_i_i; p_v_r24_sroa_13_0_sink_i615_i_i = 0u; goto L_der_core_encode_joined_len_exit629_i_i; }
+L_der_core_encode_joined_len_exit629_i_i:;
+    v_r24_sroa_0_0_sink_i611_i_i = p_v_r24_sroa_0_0_sink_i611_i_i;
+    v_r24_sroa_4_0_sink_i612_i_i = p_v_r24_sroa_4_0_sink_i612_i_i;
+    v_r24_sroa_7_0_sink_i613_i_i = p_v_r24_sroa_7_0_sink_i613_i_i;
+    v_r24_sroa_13_0_sink_i615_i_i = p_v_r24_sroa_13_0_sink_i615_i_i;
+    if (v_r5_sroa_0_0_i_i_sink_i_i_i_i_i) { goto L_arm_1_i660_i_i; } else { goto L_arm_2_i648_i_i; }
+L_arm_1_i660_i_i:;
+    if (v_r24_sroa_0_0_sink_i611_i_i) { goto L_arm_1_i699_i_i; } else { p_v_r5_sroa_0_0_i_i_sink_i = 1u; p_v_r5_sroa_4_0_i_i_sink_i = v_r24_sroa_4_0_sink_i612_i_i; p_v_sink_i = v_r24_sroa_7_0_sink_i613_i_i; p_v_r5_sroa_10_0_i_i_sink_i = 0u; goto L_der_core_encode_encoding_len_3a3c98235cfe5b88_exit; }
+L_arm_2_i648_i_i:;
+    v_spec_select784_i_i = v_r24_sroa_0_0_sink_i611_i_i ? v_r5_sroa_4_0_i_i_sink_i_i_i_i_i : v_r24_sroa_4_0_sink_i612_i_i;
+    v_spec_select785_i_i = v_r24_sroa_0_0_sink_i611_i_i ? 0u : v_r24_sroa_7_0_sink_i613_i_i;
+    { p_v_r5_sroa_0_0_i_i_sink_i = 1u; p_v_r5_sroa_4_0_i_i_sink_i = v_spec_select784_i_i; p_v_sink_i = v_spec_select785_i_i; p_v_r5_sroa_10_0_i_i_sink_i = 0u; goto L_der_core_encode_encoding_len_3a3c98235cfe5b88_exit; }
+L_arm_1_i699_i_i:;
+    v_r5_i_i_i662_i_i = (u32)((u32)(v_r24_sroa_13_0_sink_i615_i_i) ^ (u32)(4294967295ull));
+    v_r7_i_not_i_i663_not_i_i = v_r5_sroa_10_0_i_i_sink_i_i_i_i_i > v_r5_i_i_i662_i_i;
+    if (v_r7_i_not_i_i663_not_i_i) { p_v_r5_sroa_0_0_i_i_sink_i = 1u; p_v_r5_sroa_4_0_i_i_sink_i = 7u; p_v_sink_i = 0u; p_v_r5_sroa_10_0_i_i_sink_i = 0u; goto L_der_core_encode_encoding_len_3a3c98235cfe5b88_exit; } else { goto L_pkcs1_private_key_RsaPrivateKeyEncodeValue_value_l; }
 L_pkcs1_private_key_RsaPrivateKeyEncodeValue_value_l:;
-    v_r11_i_i_i350_i_i = (u32)((u32)(v_r24_sroa_13_0_sink_i301_i_i) + (u32)(v_r5_sroa_10_0_i_i_sink_i_i_i_i_i));
-    v_r7_i_not_i_i388_i_i = v_r11_i_i_i350_i_i < 4294967293ull;
-    v_27 = v_r11_i_i_i350_i_i < 4294967293ull ? v_r11_i_i_i350_i_i : 4294967293ull;
-    v_r5_sroa_10_0_i_i392_i_i = (u32)((u32)(v_27) + (u32)(3u));
-    if (v_r7_i_not_i_i388_i_i) { goto L_arm_1_i; } else { p_v_r5_sroa_0_0_i_i_sink_i = 1u; p_v_r5_sroa_4_0_i_i_sink_i = 7u; p_v_sink_i = 0u; p_v_r5_sroa_10_0_i_i_sink_i = 0u; goto L_der_core_encode_encoding_len_3a3c98235cfe5b88_exit; }
+    v_r11_i_i_i664_i_i = (u32)((u32)(v_r24_sroa_13_0_sink_i615_i_i) + (u32)(v_r5_sroa_10_0_i_i_sink_i_i_i_i_i));
+    v_r7_i_not_i_i702_i_i = v_r11_i_i_i664_i_i < 4294967293ull;
+    v_27 = v_r11_i_i_i664_i_i < 4294967293ull ? v_r11_i_i_i664_i_i : 4294967293ull;
+    v_r5_sroa_10_0_i_i706_i_i = (u32)((u32)(v_27) + (u32)(3u));
+    if (v_r7_i_not_i_i702_i_i) { goto L_arm_1_i; } else { p_v_r5_sroa_0_0_i_i_sink_i = 1u; p_v_r5_sroa_4_0_i_i_sink_i = 7u; p_v_sink_i = 0u; p_v_r5_sroa_10_0_i_i_sink_i = 0u; goto L_der_core_encode_encoding_len_3a3c98235cfe5b88_exit; }
 L_arm_1_i:;
-    v_r12_i_i_i = v_r5_sroa_10_0_i_i392_i_i < 128u;
+    v_r12_i_i_i = v_r5_sroa_10_0_i_i706_i_i < 128u;
     if (v_r12_i_i_i) { p_v_r4_0_i_i_i = 2u; goto L_der_core_length_Length_for_tlv_exit_i; } else { goto L_else_2_i_i_i; }
 L_else_2_i_i_i:;
-    v_r17_i_i_i = v_r5_sroa_10_0_i_i392_i_i < 256u;
+    v_r17_i_i_i = v_r5_sroa_10_0_i_i706_i_i < 256u;
     if (v_r17_i_i_i) { p_v_r4_0_i_i_i = 3u; goto L_der_core_length_Length_for_tlv_exit_i; } else { goto L_else_5_i_i_i; }
 L_else_5_i_i_i:;
-    v_r22_i_i_i = v_r5_sroa_10_0_i_i392_i_i < 65536u;
-    v_r27_i_i_i = v_r5_sroa_10_0_i_i392_i_i < 16777216u;
+    v_r22_i_i_i = v_r5_sroa_10_0_i_i706_i_i < 65536u;
+    v_r27_i_i_i = v_r5_sroa_10_0_i_i706_i_i < 16777216u;
     v_i_i_i = v_r27_i_i_i ? 5u : 6u;
     v_r8_0_i_i_i = v_r22_i_i_i ? 4u : v_i_i_i;
     { p_v_r4_0_i_i_i = v_r8_0_i_i_i; goto L_der_core_length_Length_for_tlv_exit_i; }
@@ -23331,7 +23331,7 @@ L_der_core_length_Length_for_tlv_exit_i:;
     v_r4_0_i_i_i = p_v_r4_0_i_i_i;
     v_r5_i_i_i2_i = (u32)((u32)(4294967292ull) - (u32)(v_27));
     v_r7_i_not_i_i_i = v_r4_0_i_i_i > v_r5_i_i_i2_i;
-    v_r11_i_i_i_i = (u32)((u32)(v_r4_0_i_i_i) + (u32)(v_r5_sroa_10_0_i_i392_i_i));
+    v_r11_i_i_i_i = (u32)((u32)(v_r4_0_i_i_i) + (u32)(v_r5_sroa_10_0_i_i706_i_i));
     v_r5_sroa_0_0_i_i_i = (u8)v_r7_i_not_i_i_i;
     v_r5_sroa_4_0_i_i_i = v_r7_i_not_i_i_i ? 7u : 0u;
     v_r5_sroa_10_0_i_i_i = v_r7_i_not_i_i_i ? 0u : v_r11_i_i_i_i;
@@ -27131,7 +27131,7 @@ L_switch_lookup:;
     v_switch_gep = (P)f_switch_table_pkcs1_c_status_text + (int64_t)(v_1 * 8);
     v_switch_load = get_u64(v_switch_gep);
     v_2 = (u64)v_a0;
-    v_switch_gep1 = (P)f_switch_table_pkcs1_c_status_text_181 + (int64_t)(v_2 * 8);
+    v_switch_gep1 = (P)f_switch_table_pkcs1_c_status_text_177 + (int64_t)(v_2 * 8);
     v_switch_load2 = get_P(v_switch_gep1);
     { p_v_r1_sroa_22_0_i_i = v_switch_load; p_v_r1_sroa_0_0_i_i = v_switch_load2; goto L_pkcs1_c_status_pkcs1_c_status_text_exit; }
 L_pkcs1_c_status_pkcs1_c_status_text_exit:;
@@ -32779,46 +32779,46 @@ u32 pkcs1_c_private_key_encode(P v_a0, P v_a1, u64 v_a2, P v_a3, u64 v_a4, P v_a
     ALIGNED(8) unsigned char m_v_r11_sroa_87_i[24];
     P p_v_r3_sroa_0_08_i_i_i_i;
     u64 p_v_r3_sroa_6_07_i_i_i_i;
-    P p_v_r1_sroa_0_0_copyload_i_i_i111_i_i_i_i_ph_i;
+    P p_v_r1_sroa_0_0_copyload_i_i_i222_i_i_i_i_ph_i;
     u8 p_v_r20_i288_i_i;
-    P p_v_r1_sroa_0_0_copyload_i_i_i111_i_i_i_i_i;
-    u64 p_v_r1_sroa_3_0_copyload_i_i_i113_i_i_i_i_i;
+    P p_v_r1_sroa_0_0_copyload_i_i_i222_i_i_i_i_i;
+    u64 p_v_r1_sroa_3_0_copyload_i_i_i224_i_i_i_i_i;
     P p_v_r3_sroa_0_08_i_i442_i_i;
     u64 p_v_r3_sroa_6_07_i_i443_i_i;
-    P p_v_r1_sroa_0_0_copyload_i_i_i78_i_i_i_i_ph_i;
+    P p_v_r1_sroa_0_0_copyload_i_i_i189_i_i_i_i_ph_i;
     u8 p_v_r20_i295_i_i;
-    P p_v_r1_sroa_0_0_copyload_i_i_i78_i_i_i_i_i;
-    u64 p_v_r1_sroa_3_0_copyload_i_i_i80_i_i_i_i_i;
+    P p_v_r1_sroa_0_0_copyload_i_i_i189_i_i_i_i_i;
+    u64 p_v_r1_sroa_3_0_copyload_i_i_i191_i_i_i_i_i;
     P p_v_r3_sroa_0_08_i_i536_i_i;
     u64 p_v_r3_sroa_6_07_i_i537_i_i;
-    P p_v_r1_sroa_0_0_copyload_i_i_i45_i_i_i_i_ph_i;
+    P p_v_r1_sroa_0_0_copyload_i_i_i156_i_i_i_i_ph_i;
     u8 p_v_r20_i305_i_i;
-    P p_v_r1_sroa_0_0_copyload_i_i_i45_i_i_i_i_i;
-    u64 p_v_r1_sroa_3_0_copyload_i_i_i47_i_i_i_i_i;
+    P p_v_r1_sroa_0_0_copyload_i_i_i156_i_i_i_i_i;
+    u64 p_v_r1_sroa_3_0_copyload_i_i_i158_i_i_i_i_i;
     P p_v_r3_sroa_0_08_i_i633_i_i;
     u64 p_v_r3_sroa_6_07_i_i634_i_i;
-    P p_v_r1_sroa_0_0_copyload_i_i_i12_i_i_i_i_ph_i;
+    P p_v_r1_sroa_0_0_copyload_i_i_i123_i_i_i_i_ph_i;
     u8 p_v_r20_i315_i_i;
-    P p_v_r1_sroa_0_0_copyload_i_i_i12_i_i_i_i_i;
-    u64 p_v_r1_sroa_3_0_copyload_i_i_i14_i_i_i_i_i;
+    P p_v_r1_sroa_0_0_copyload_i_i_i123_i_i_i_i_i;
+    u64 p_v_r1_sroa_3_0_copyload_i_i_i125_i_i_i_i_i;
     P p_v_r3_sroa_0_08_i_i730_i_i;
     u64 p_v_r3_sroa_6_07_i_i731_i_i;
-    P p_v_r1_sroa_0_0_copyload_i_i_i_i_i_i_i_ph_i;
+    P p_v_r1_sroa_0_0_copyload_i_i_i90_i_i_i_i_ph_i;
     u8 p_v_r20_i325_i_i;
-    P p_v_r1_sroa_0_0_copyload_i_i_i_i_i_i_i_i;
-    u64 p_v_r1_sroa_3_0_copyload_i_i_i_i_i_i_i_i;
+    P p_v_r1_sroa_0_0_copyload_i_i_i90_i_i_i_i_i;
+    u64 p_v_r1_sroa_3_0_copyload_i_i_i92_i_i_i_i_i;
     P p_v_r3_sroa_0_08_i_i827_i_i;
     u64 p_v_r3_sroa_6_07_i_i828_i_i;
-    P p_v_r1_sroa_0_0_copyload_i_i_i39_i_i_i_i_i_ph_i;
+    P p_v_r1_sroa_0_0_copyload_i_i_i57_i_i_i_i_ph_i;
     u8 p_v_r20_i335_i_i;
-    P p_v_r1_sroa_0_0_copyload_i_i_i39_i_i_i_i_i_i;
-    u64 p_v_r1_sroa_3_0_copyload_i_i_i41_i_i_i_i_i_i;
+    P p_v_r1_sroa_0_0_copyload_i_i_i57_i_i_i_i_i;
+    u64 p_v_r1_sroa_3_0_copyload_i_i_i59_i_i_i_i_i;
     P p_v_r3_sroa_0_08_i_i924_i_i;
     u64 p_v_r3_sroa_6_07_i_i925_i_i;
-    P p_v_r1_sroa_0_0_copyload_i_i_i6_i_i_i_i_i_ph_i;
+    P p_v_r1_sroa_0_0_copyload_i_i_i24_i_i_i_i_ph_i;
     u8 p_v_r20_i345_i_i;
-    P p_v_r1_sroa_0_0_copyload_i_i_i6_i_i_i_i_i_i;
-    u64 p_v_r1_sroa_3_0_copyload_i_i_i8_i_i_i_i_i_i;
+    P p_v_r1_sroa_0_0_copyload_i_i_i24_i_i_i_i_i;
+    u64 p_v_r1_sroa_3_0_copyload_i_i_i26_i_i_i_i_i;
     P p_v_r3_sroa_0_08_i_i1021_i_i;
     u64 p_v_r3_sroa_6_07_i_i1022_i_i;
     P p_v_r12_sroa_10_i1044_sroa_3_0_ph_i_ph_i;
@@ -32848,84 +32848,84 @@ u32 pkcs1_c_private_key_encode(P v_a0, P v_a1, u64 v_a2, P v_a3, u64 v_a4, P v_a
     u8 p_v_r72_sroa_11_0_i_i;
     u64 p_v_r72_sroa_261213_sroa_0_0_ph_i_i;
     u64 p_v_r7_sroa_129_7_i_i_i;
-    u64 p_v_r2_07_i_i_i_i_i_i_i_i_i_i_i;
-    u64 p_v_r0_04_i_i_i_i_i_i_i_i_i_i_i_i_i_i_i_i_i_i_i_i_i_i___2;
+    u64 p_v_r2_07_i_i_i_i_i_i_i_i_i;
+    u64 p_v_r0_04_i_i_i_i_i_i_i_i_i_i_i_i_i_i_i_i_i_i_i_i_i;
     u64 p_v_niter;
-    u64 p_v_r0_04_i_i_i_i_i_i_i_i_i_i_i_i_i_i_i_i_i_i_i_i_i_i_;
-    u64 p_v_r0_04_i_i_i_i_i_i_i_i_i_i_i_i_i_i_i_i_i_i_i_i_i_i___3;
+    u64 p_v_r0_04_i_i_i_i_i_i_i_i_i_i_i_i_i_i_i_i_i_i_i_i_i_ep;
+    u64 p_v_r0_04_i_i_i_i_i_i_i_i_i_i_i_i_i_i_i_i_i_i_i_i_i_ep__2;
     u64 p_v_epil_iter;
     u64 p_v_r7_sroa_129_8_i_i_i;
     u64 p_v_r7_sroa_129_26_i_i_i;
-    u64 p_v_r0_04_i_i_i_i_i_i_i_i_i_i31_i_i_i_i_i_i_i_i_i_i_i___2;
+    u64 p_v_r0_04_i_i_i_i_i_i_i_i_i_i31_i_i_i_i_i_i_i_i_i_i_i;
     u64 p_v_niter177;
     u64 p_v_r0_04_i_i_i_i_i_i_i_i_i_i31_i_i_i_i_i_i_i_i_i_i_i_;
-    u64 p_v_r0_04_i_i_i_i_i_i_i_i_i_i31_i_i_i_i_i_i_i_i_i_i_i___3;
+    u64 p_v_r0_04_i_i_i_i_i_i_i_i_i_i31_i_i_i_i_i_i_i_i_i_i_i___2;
     u64 p_v_epil_iter173;
     u64 p_v_r7_sroa_129_9_i_i_i;
     u64 p_v_r7_sroa_129_25_i_i_i;
-    u64 p_v_r0_04_i_i_i_i_i_i_i_i_i_i64_i_i_i_i_i_i_i_i_i_i_i___2;
+    u64 p_v_r0_04_i_i_i_i_i_i_i_i_i_i64_i_i_i_i_i_i_i_i_i_i_i;
     u64 p_v_niter183;
     u64 p_v_r0_04_i_i_i_i_i_i_i_i_i_i64_i_i_i_i_i_i_i_i_i_i_i_;
-    u64 p_v_r0_04_i_i_i_i_i_i_i_i_i_i64_i_i_i_i_i_i_i_i_i_i_i___3;
+    u64 p_v_r0_04_i_i_i_i_i_i_i_i_i_i64_i_i_i_i_i_i_i_i_i_i_i___2;
     u64 p_v_epil_iter179;
     u64 p_v_r7_sroa_129_10_i_i_i;
     u64 p_v_r7_sroa_129_24_i_i_i;
     u64 p_v_r7_sroa_129_23_i_i_i;
     u64 p_v_r7_sroa_129_11_i_i_i;
-    u64 p_v_a1_val4_i_i_i_i_i_i_i_i;
-    u64 p_v_r0_04_i_i_i_i_i_i_i_i_i_i_i_i_i_i_i_i;
+    u64 p_v_a1_val4_i_i15_i_i_i_i_i;
+    u64 p_v_r0_04_i_i_i_i_i_i_i_i_i_i_i_i_i_i_i;
     u64 p_v_niter189;
-    u64 p_v_r0_04_i_i_i_i_i_i_i_i_i_i_i_i_i_i_i_i_epil_init;
-    u64 p_v_r0_04_i_i_i_i_i_i_i_i_i_i_i_i_i_i_i_i_epil;
+    u64 p_v_r0_04_i_i_i_i_i_i_i_i_i_i_i_i_i_i_i_epil_init;
+    u64 p_v_r0_04_i_i_i_i_i_i_i_i_i_i_i_i_i_i_i_epil;
     u64 p_v_epil_iter185;
     u64 p_v_r7_sroa_129_0_i_i_i;
     u64 p_v_r7_sroa_129_21_i_i_i;
-    u64 p_v_r0_04_i_i_i_i_i_i_i_i_i_i30_i_i_i_i_i_i;
+    u64 p_v_r0_04_i_i_i_i_i_i_i_i_i_i48_i_i_i_i_i;
     u64 p_v_niter195;
-    u64 p_v_r0_04_i_i_i_i_i_i_i_i_i_i30_i_i_i_i_i_i_epil_init;
-    u64 p_v_r0_04_i_i_i_i_i_i_i_i_i_i30_i_i_i_i_i_i_epil;
+    u64 p_v_r0_04_i_i_i_i_i_i_i_i_i_i48_i_i_i_i_i_epil_init;
+    u64 p_v_r0_04_i_i_i_i_i_i_i_i_i_i48_i_i_i_i_i_epil;
     u64 p_v_epil_iter191;
     u64 p_v_r7_sroa_129_1_i_i_i;
     u64 p_v_r7_sroa_129_20_i_i_i;
-    u64 p_v_r0_04_i_i_i_i_i_i_i_i_i_i63_i_i_i_i_i_i;
+    u64 p_v_r0_04_i_i_i_i_i_i_i_i_i_i81_i_i_i_i_i;
     u64 p_v_niter201;
-    u64 p_v_r0_04_i_i_i_i_i_i_i_i_i_i63_i_i_i_i_i_i_epil_init;
-    u64 p_v_r0_04_i_i_i_i_i_i_i_i_i_i63_i_i_i_i_i_i_epil;
+    u64 p_v_r0_04_i_i_i_i_i_i_i_i_i_i81_i_i_i_i_i_epil_init;
+    u64 p_v_r0_04_i_i_i_i_i_i_i_i_i_i81_i_i_i_i_i_epil;
     u64 p_v_epil_iter197;
     u64 p_v_r7_sroa_129_2_i_i_i;
     u64 p_v_r7_sroa_129_19_i_i_i;
-    u64 p_v_r0_04_i_i_i_i_i_i_i_i_i_i_i_i_i_i_i;
+    u64 p_v_r0_04_i_i_i_i_i_i_i_i_i_i114_i_i_i_i_i;
     u64 p_v_niter207;
-    u64 p_v_r0_04_i_i_i_i_i_i_i_i_i_i_i_i_i_i_i_epil_init;
-    u64 p_v_r0_04_i_i_i_i_i_i_i_i_i_i_i_i_i_i_i_epil;
+    u64 p_v_r0_04_i_i_i_i_i_i_i_i_i_i114_i_i_i_i_i_epil_init;
+    u64 p_v_r0_04_i_i_i_i_i_i_i_i_i_i114_i_i_i_i_i_epil;
     u64 p_v_epil_iter203;
     u64 p_v_r7_sroa_129_3_i_i_i;
     u64 p_v_r7_sroa_129_18_i_i_i;
-    u64 p_v_r0_04_i_i_i_i_i_i_i_i_i_i36_i_i_i_i_i;
+    u64 p_v_r0_04_i_i_i_i_i_i_i_i_i_i147_i_i_i_i_i;
     u64 p_v_niter213;
-    u64 p_v_r0_04_i_i_i_i_i_i_i_i_i_i36_i_i_i_i_i_epil_init;
-    u64 p_v_r0_04_i_i_i_i_i_i_i_i_i_i36_i_i_i_i_i_epil;
+    u64 p_v_r0_04_i_i_i_i_i_i_i_i_i_i147_i_i_i_i_i_epil_init;
+    u64 p_v_r0_04_i_i_i_i_i_i_i_i_i_i147_i_i_i_i_i_epil;
     u64 p_v_epil_iter209;
     u64 p_v_r7_sroa_129_4_i_i_i;
     u64 p_v_r7_sroa_129_17_i_i_i;
-    u64 p_v_r0_04_i_i_i_i_i_i_i_i_i_i69_i_i_i_i_i;
+    u64 p_v_r0_04_i_i_i_i_i_i_i_i_i_i180_i_i_i_i_i;
     u64 p_v_niter219;
-    u64 p_v_r0_04_i_i_i_i_i_i_i_i_i_i69_i_i_i_i_i_epil_init;
-    u64 p_v_r0_04_i_i_i_i_i_i_i_i_i_i69_i_i_i_i_i_epil;
+    u64 p_v_r0_04_i_i_i_i_i_i_i_i_i_i180_i_i_i_i_i_epil_init;
+    u64 p_v_r0_04_i_i_i_i_i_i_i_i_i_i180_i_i_i_i_i_epil;
     u64 p_v_epil_iter215;
     u64 p_v_r7_sroa_129_5_i_i_i;
     u64 p_v_r7_sroa_129_16_i_i_i;
-    u64 p_v_r0_04_i_i_i_i_i_i_i_i_i_i102_i_i_i_i_i;
+    u64 p_v_r0_04_i_i_i_i_i_i_i_i_i_i213_i_i_i_i_i;
     u64 p_v_niter225;
-    u64 p_v_r0_04_i_i_i_i_i_i_i_i_i_i102_i_i_i_i_i_epil_init;
-    u64 p_v_r0_04_i_i_i_i_i_i_i_i_i_i102_i_i_i_i_i_epil;
+    u64 p_v_r0_04_i_i_i_i_i_i_i_i_i_i213_i_i_i_i_i_epil_init;
+    u64 p_v_r0_04_i_i_i_i_i_i_i_i_i_i213_i_i_i_i_i_epil;
     u64 p_v_epil_iter221;
     u64 p_v_r7_sroa_129_6_i_i_i;
     u64 p_v_r7_sroa_129_15_i_i_i;
-    u64 p_v_r0_04_i_i_i_i_i_i_i_i_i_i135_i_i_i_i_i;
+    u64 p_v_r0_04_i_i_i_i_i_i_i_i_i_i246_i_i_i_i_i;
     u64 p_v_niter231;
-    u64 p_v_r0_04_i_i_i_i_i_i_i_i_i_i135_i_i_i_i_i_epil_init;
-    u64 p_v_r0_04_i_i_i_i_i_i_i_i_i_i135_i_i_i_i_i_epil;
+    u64 p_v_r0_04_i_i_i_i_i_i_i_i_i_i246_i_i_i_i_i_epil_init;
+    u64 p_v_r0_04_i_i_i_i_i_i_i_i_i_i246_i_i_i_i_i_epil;
     u64 p_v_epil_iter227;
     u64 p_v_r7_sroa_129_12_i_i_i;
     u64 p_v_r7_sroa_129_14_i_i_i;
@@ -32965,11 +32965,11 @@ u32 pkcs1_c_private_key_encode(P v_a0, P v_a1, u64 v_a2, P v_a3, u64 v_a4, P v_a
     u1 v_r14_i_i_i_i;
     u1 v_r7_i_i_i_i;
     u1 v_r49_i398_i_i;
-    P v_r1_sroa_0_0_copyload_i_i_i111_i_i_i_i_ph_i;
+    P v_r1_sroa_0_0_copyload_i_i_i222_i_i_i_i_ph_i;
     u8 v_r20_i288_i_pr_i;
     u8 v_r20_i288_i_i;
-    P v_r1_sroa_0_0_copyload_i_i_i111_i_i_i_i_i;
-    u64 v_r1_sroa_3_0_copyload_i_i_i113_i_i_i_i_i;
+    P v_r1_sroa_0_0_copyload_i_i_i222_i_i_i_i_i;
+    u64 v_r1_sroa_3_0_copyload_i_i_i224_i_i_i_i_i;
     u8 v_r20_i288_lobit_i_i;
     u64 v_i_i_i;
     P v_r106_i_i;
@@ -32988,11 +32988,11 @@ u32 pkcs1_c_private_key_encode(P v_a0, P v_a1, u64 v_a2, P v_a3, u64 v_a4, P v_a
     u1 v_r14_i_i456_i_i;
     u1 v_r7_i_i428_i_i;
     u1 v_r49_i447_i_i;
-    P v_r1_sroa_0_0_copyload_i_i_i78_i_i_i_i_ph_i;
+    P v_r1_sroa_0_0_copyload_i_i_i189_i_i_i_i_ph_i;
     u8 v_r20_i295_i_pr_i;
     u8 v_r20_i295_i_i;
-    P v_r1_sroa_0_0_copyload_i_i_i78_i_i_i_i_i;
-    u64 v_r1_sroa_3_0_copyload_i_i_i80_i_i_i_i_i;
+    P v_r1_sroa_0_0_copyload_i_i_i189_i_i_i_i_i;
+    u64 v_r1_sroa_3_0_copyload_i_i_i191_i_i_i_i_i;
     u8 v_r20_i295_lobit_i_i;
     u64 v_i297_i_i;
     P v_r135_i_i;
@@ -33011,11 +33011,11 @@ u32 pkcs1_c_private_key_encode(P v_a0, P v_a1, u64 v_a2, P v_a3, u64 v_a4, P v_a
     u1 v_r14_i_i550_i_i;
     u1 v_r7_i_i522_i_i;
     u1 v_r49_i541_i_i;
-    P v_r1_sroa_0_0_copyload_i_i_i45_i_i_i_i_ph_i;
+    P v_r1_sroa_0_0_copyload_i_i_i156_i_i_i_i_ph_i;
     u8 v_r20_i305_i_pr_i;
     u8 v_r20_i305_i_i;
-    P v_r1_sroa_0_0_copyload_i_i_i45_i_i_i_i_i;
-    u64 v_r1_sroa_3_0_copyload_i_i_i47_i_i_i_i_i;
+    P v_r1_sroa_0_0_copyload_i_i_i156_i_i_i_i_i;
+    u64 v_r1_sroa_3_0_copyload_i_i_i158_i_i_i_i_i;
     u8 v_r20_i305_lobit_i_i;
     u64 v_i307_i_i;
     P v_r164_i_i;
@@ -33034,11 +33034,11 @@ u32 pkcs1_c_private_key_encode(P v_a0, P v_a1, u64 v_a2, P v_a3, u64 v_a4, P v_a
     u1 v_r14_i_i647_i_i;
     u1 v_r7_i_i619_i_i;
     u1 v_r49_i638_i_i;
-    P v_r1_sroa_0_0_copyload_i_i_i12_i_i_i_i_ph_i;
+    P v_r1_sroa_0_0_copyload_i_i_i123_i_i_i_i_ph_i;
     u8 v_r20_i315_i_pr_i;
     u8 v_r20_i315_i_i;
-    P v_r1_sroa_0_0_copyload_i_i_i12_i_i_i_i_i;
-    u64 v_r1_sroa_3_0_copyload_i_i_i14_i_i_i_i_i;
+    P v_r1_sroa_0_0_copyload_i_i_i123_i_i_i_i_i;
+    u64 v_r1_sroa_3_0_copyload_i_i_i125_i_i_i_i_i;
     u8 v_r20_i315_lobit_i_i;
     u64 v_i317_i_i;
     P v_r193_i_i;
@@ -33057,11 +33057,11 @@ u32 pkcs1_c_private_key_encode(P v_a0, P v_a1, u64 v_a2, P v_a3, u64 v_a4, P v_a
     u1 v_r14_i_i744_i_i;
     u1 v_r7_i_i716_i_i;
     u1 v_r49_i735_i_i;
-    P v_r1_sroa_0_0_copyload_i_i_i_i_i_i_i_ph_i;
+    P v_r1_sroa_0_0_copyload_i_i_i90_i_i_i_i_ph_i;
     u8 v_r20_i325_i_pr_i;
     u8 v_r20_i325_i_i;
-    P v_r1_sroa_0_0_copyload_i_i_i_i_i_i_i_i;
-    u64 v_r1_sroa_3_0_copyload_i_i_i_i_i_i_i_i;
+    P v_r1_sroa_0_0_copyload_i_i_i90_i_i_i_i_i;
+    u64 v_r1_sroa_3_0_copyload_i_i_i92_i_i_i_i_i;
     u8 v_r20_i325_lobit_i_i;
     u64 v_i327_i_i;
     P v_r222_i_i;
@@ -33080,11 +33080,11 @@ u32 pkcs1_c_private_key_encode(P v_a0, P v_a1, u64 v_a2, P v_a3, u64 v_a4, P v_a
     u1 v_r14_i_i841_i_i;
     u1 v_r7_i_i813_i_i;
     u1 v_r49_i832_i_i;
-    P v_r1_sroa_0_0_copyload_i_i_i39_i_i_i_i_i_ph_i;
+    P v_r1_sroa_0_0_copyload_i_i_i57_i_i_i_i_ph_i;
     u8 v_r20_i335_i_pr_i;
     u8 v_r20_i335_i_i;
-    P v_r1_sroa_0_0_copyload_i_i_i39_i_i_i_i_i_i;
-    u64 v_r1_sroa_3_0_copyload_i_i_i41_i_i_i_i_i_i;
+    P v_r1_sroa_0_0_copyload_i_i_i57_i_i_i_i_i;
+    u64 v_r1_sroa_3_0_copyload_i_i_i59_i_i_i_i_i;
     u8 v_r20_i335_lobit_i_i;
     u64 v_i337_i_i;
     P v_r251_i_i;
@@ -33103,11 +33103,11 @@ u32 pkcs1_c_private_key_encode(P v_a0, P v_a1, u64 v_a2, P v_a3, u64 v_a4, P v_a
     u1 v_r14_i_i938_i_i;
     u1 v_r7_i_i910_i_i;
     u1 v_r49_i929_i_i;
-    P v_r1_sroa_0_0_copyload_i_i_i6_i_i_i_i_i_ph_i;
+    P v_r1_sroa_0_0_copyload_i_i_i24_i_i_i_i_ph_i;
     u8 v_r20_i345_i_pr_i;
     u8 v_r20_i345_i_i;
-    P v_r1_sroa_0_0_copyload_i_i_i6_i_i_i_i_i_i;
-    u64 v_r1_sroa_3_0_copyload_i_i_i8_i_i_i_i_i_i;
+    P v_r1_sroa_0_0_copyload_i_i_i24_i_i_i_i_i;
+    u64 v_r1_sroa_3_0_copyload_i_i_i26_i_i_i_i_i;
     u8 v_r20_i345_lobit_i_i;
     u64 v_i347_i_i;
     P v_r280_i_i;
@@ -33271,69 +33271,69 @@ u32 pkcs1_c_private_key_encode(P v_a0, P v_a1, u64 v_a2, P v_a3, u64 v_a4, P v_a
     u8 v_r1_sroa_3_1_copyload_i_i_i_i;
     u32 v_16;
     u32 v_17;
-    P v_r6_i1_val_val_i_i_i_i_i_i_i;
+    P v_r6_i_val_val_i_i_i_i_i;
     P v_18;
-    u64 v_r6_i1_val_val2_i_i_i_i_i_i_i;
-    u1 v_r11_not6_i_i_i_i_i_i_i_i_i_i_i;
+    u64 v_r6_i_val_val13_i_i_i_i_i;
+    u1 v_r11_not6_i_i_i_i_i_i_i_i_i;
     u64 v_r7_sroa_129_7_i_i_i;
-    u64 v_r2_07_i_i_i_i_i_i_i_i_i_i_i;
-    u64 v_r16_i_i_i_i_i_i_i_i_i_i_i;
-    u64 v_r18_i_i_i_i_i_i_i_i_i_i_i;
-    P v_r21_i_i_i_i_i_i_i_i_i_i_i;
-    P v_r12_i_i_i_i_i_i_i_i_i_i_i_i_i;
-    P v_r16_i_i_i_i_i_i_i_i_i_i_i_i_i;
-    P v_r1_sroa_0_0_copyload_i_i_i_i_i_i_i_i_i_i_i_i_i_i_i;
+    u64 v_r2_07_i_i_i_i_i_i_i_i_i;
+    u64 v_r16_i_i_i_i_i_i_i_i_i;
+    u64 v_r18_i_i_i_i_i_i_i_i_i;
+    P v_r21_i_i_i_i_i_i_i_i_i;
+    P v_r12_i_i_i_i_i_i_i_i_i_i_i;
+    P v_r16_i_i_i_i_i_i_i_i_i_i_i;
+    P v_r1_sroa_0_0_copyload_i_i_i_i_i_i_i_i_i_i_i_i_i_i;
     P v_r1_sroa_3_0_a0_sroa_idx_i_i_i_i_i_i_i_i_i_i_i_i_i_;
-    u64 v_r1_sroa_3_0_copyload_i_i_i_i_i_i_i_i_i_i_i_i_i_i_i;
-    u64 v_r17_i_i_i_i_i_i_i_i_i_i_i_i_i_i_i_i_i;
-    P v_r26_i_i_i_i_i_i_i_i_i_i_i_i_i_i_i_i_i;
-    u64 v_r8_i_i_i_i_i_i_i_i_i_i_i_i_i_i_i_i_i_i_i_i_i_i_i;
-    u64 v_r9_i_i_i_i_i_i_i_i_i_i_i_i_i_i_i_i_i_i_i_i_i_i_i;
-    u64 v_r10_i_i_i_i_i_i_i_i_i_i_i_i_i_i_i_i_i_i_i_i_i_i_i;
-    u1 v_r11_i_i_i_i_i_i_i_i_i_i_i_i_i_i_i_i_i_i_i_i_i_i_i;
+    u64 v_r1_sroa_3_0_copyload_i_i_i_i_i_i_i_i_i_i_i_i_i_i;
+    u64 v_r17_i_i_i_i_i_i_i_i_i_i_i_i_i_i_i;
+    P v_r26_i_i_i_i_i_i_i_i_i_i_i_i_i_i_i;
+    u64 v_r8_i_i_i_i_i_i_i_i_i_i_i_i_i_i_i_i_i_i_i_i_i;
+    u64 v_r9_i_i_i_i_i_i_i_i_i_i_i_i_i_i_i_i_i_i_i_i_i;
+    u64 v_r10_i_i_i_i_i_i_i_i_i_i_i_i_i_i_i_i_i_i_i_i_i;
+    u1 v_r11_i_i_i_i_i_i_i_i_i_i_i_i_i_i_i_i_i_i_i_i_i;
     u64 v_xtraiter;
     u1 v_19;
     u64 v_unroll_iter;
-    u64 v_r0_04_i_i_i_i_i_i_i_i_i_i_i_i_i_i_i_i_i_i_i_i_i_i___2;
+    u64 v_r0_04_i_i_i_i_i_i_i_i_i_i_i_i_i_i_i_i_i_i_i_i_i;
     u64 v_niter;
-    P v_r20_i_i_i_i_i_i_i_i_i_i_i_i_i_i_i_i_i_i_i_i_i_i_i;
-    P v_r24_i_i_i_i_i_i_i_i_i_i_i_i_i_i_i_i_i_i_i_i_i_i_i;
-    u8 v_r26_i_i_i_i_i_i_i_i_i_i_i_i_i_i_i_i_i_i_i_i_i_i_i;
-    u64 v_r30_i_i_i_i_i_i_i_i_i_i_i_i_i_i_i_i_i_i_i_i_i_i_i;
-    P v_r20_i_i_i_i_i_i_i_i_i_i_i_i_i_i_i_i_i_i_i_i_i_i_i_;
-    P v_r24_i_i_i_i_i_i_i_i_i_i_i_i_i_i_i_i_i_i_i_i_i_i_i_;
-    u8 v_r26_i_i_i_i_i_i_i_i_i_i_i_i_i_i_i_i_i_i_i_i_i_i_i_;
-    u64 v_r30_i_i_i_i_i_i_i_i_i_i_i_i_i_i_i_i_i_i_i_i_i_i_i_;
-    P v_r20_i_i_i_i_i_i_i_i_i_i_i_i_i_i_i_i_i_i_i_i_i_i_i___2;
-    P v_r24_i_i_i_i_i_i_i_i_i_i_i_i_i_i_i_i_i_i_i_i_i_i_i___2;
-    u8 v_r26_i_i_i_i_i_i_i_i_i_i_i_i_i_i_i_i_i_i_i_i_i_i_i___2;
-    u64 v_r30_i_i_i_i_i_i_i_i_i_i_i_i_i_i_i_i_i_i_i_i_i_i_i___2;
-    P v_r20_i_i_i_i_i_i_i_i_i_i_i_i_i_i_i_i_i_i_i_i_i_i_i___3;
-    P v_r24_i_i_i_i_i_i_i_i_i_i_i_i_i_i_i_i_i_i_i_i_i_i_i___3;
-    u8 v_r26_i_i_i_i_i_i_i_i_i_i_i_i_i_i_i_i_i_i_i_i_i_i_i___3;
-    u64 v_r30_i_i_i_i_i_i_i_i_i_i_i_i_i_i_i_i_i_i_i_i_i_i_i___3;
+    P v_r20_i_i_i_i_i_i_i_i_i_i_i_i_i_i_i_i_i_i_i_i_i;
+    P v_r24_i_i_i_i_i_i_i_i_i_i_i_i_i_i_i_i_i_i_i_i_i;
+    u8 v_r26_i_i_i_i_i_i_i_i_i_i_i_i_i_i_i_i_i_i_i_i_i;
+    u64 v_r30_i_i_i_i_i_i_i_i_i_i_i_i_i_i_i_i_i_i_i_i_i;
+    P v_r20_i_i_i_i_i_i_i_i_i_i_i_i_i_i_i_i_i_i_i_i_i_1;
+    P v_r24_i_i_i_i_i_i_i_i_i_i_i_i_i_i_i_i_i_i_i_i_i_1;
+    u8 v_r26_i_i_i_i_i_i_i_i_i_i_i_i_i_i_i_i_i_i_i_i_i_1;
+    u64 v_r30_i_i_i_i_i_i_i_i_i_i_i_i_i_i_i_i_i_i_i_i_i_1;
+    P v_r20_i_i_i_i_i_i_i_i_i_i_i_i_i_i_i_i_i_i_i_i_i_2;
+    P v_r24_i_i_i_i_i_i_i_i_i_i_i_i_i_i_i_i_i_i_i_i_i_2;
+    u8 v_r26_i_i_i_i_i_i_i_i_i_i_i_i_i_i_i_i_i_i_i_i_i_2;
+    u64 v_r30_i_i_i_i_i_i_i_i_i_i_i_i_i_i_i_i_i_i_i_i_i_2;
+    P v_r20_i_i_i_i_i_i_i_i_i_i_i_i_i_i_i_i_i_i_i_i_i_3;
+    P v_r24_i_i_i_i_i_i_i_i_i_i_i_i_i_i_i_i_i_i_i_i_i_3;
+    u8 v_r26_i_i_i_i_i_i_i_i_i_i_i_i_i_i_i_i_i_i_i_i_i_3;
+    u64 v_r30_i_i_i_i_i_i_i_i_i_i_i_i_i_i_i_i_i_i_i_i_i_3;
     u64 v_niter_next_3;
     u1 v_niter_ncmp_3;
     u1 v_lcmp_mod_not;
-    u64 v_r0_04_i_i_i_i_i_i_i_i_i_i_i_i_i_i_i_i_i_i_i_i_i_i_;
-    u64 v_r0_04_i_i_i_i_i_i_i_i_i_i_i_i_i_i_i_i_i_i_i_i_i_i___3;
+    u64 v_r0_04_i_i_i_i_i_i_i_i_i_i_i_i_i_i_i_i_i_i_i_i_i_ep;
+    u64 v_r0_04_i_i_i_i_i_i_i_i_i_i_i_i_i_i_i_i_i_i_i_i_i_ep__2;
     u64 v_epil_iter;
-    P v_r20_i_i_i_i_i_i_i_i_i_i_i_i_i_i_i_i_i_i_i_i_i_i_i___4;
-    P v_r24_i_i_i_i_i_i_i_i_i_i_i_i_i_i_i_i_i_i_i_i_i_i_i___4;
-    u8 v_r26_i_i_i_i_i_i_i_i_i_i_i_i_i_i_i_i_i_i_i_i_i_i_i___4;
-    u64 v_r30_i_i_i_i_i_i_i_i_i_i_i_i_i_i_i_i_i_i_i_i_i_i_i___4;
+    P v_r20_i_i_i_i_i_i_i_i_i_i_i_i_i_i_i_i_i_i_i_i_i_epil;
+    P v_r24_i_i_i_i_i_i_i_i_i_i_i_i_i_i_i_i_i_i_i_i_i_epil;
+    u8 v_r26_i_i_i_i_i_i_i_i_i_i_i_i_i_i_i_i_i_i_i_i_i_epil;
+    u64 v_r30_i_i_i_i_i_i_i_i_i_i_i_i_i_i_i_i_i_i_i_i_i_epil;
     u64 v_epil_iter_next;
     u1 v_epil_iter_cmp_not;
-    P v_r12_i_i_i_i_i_i_i_i_i_i_i_i_i_i_i_i;
-    u64 v_r13_i_i_i_i_i_i_i_i_i_i_i_i_i_i_i_i;
-    u1 v_r15_not_i_i_i_i_i_i_i_i_i_i_i_i_i_i_i_i;
-    u64 v_r17_i3_i_i_i_i_i_i_i_i_i_i_i_i_i_i_i_i;
-    P v_r26_i5_i_i_i_i_i_i_i_i_i_i_i_i_i_i_i_i;
+    P v_r12_i_i_i_i_i_i_i_i_i_i_i_i_i_i;
+    u64 v_r13_i_i_i_i_i_i_i_i_i_i_i_i_i_i;
+    u1 v_r15_not_i_i_i_i_i_i_i_i_i_i_i_i_i_i;
+    u64 v_r17_i3_i_i_i_i_i_i_i_i_i_i_i_i_i_i;
+    P v_r26_i5_i_i_i_i_i_i_i_i_i_i_i_i_i_i;
     u64 v_r7_sroa_129_8_i_i_i;
     u64 v_20;
     u64 v_21;
     u32 v_22;
-    u32 v_r2_i_i_i_i_i_i_i_i_i_i_i_i_i_i_i_i;
+    u32 v_r2_i_i_i_i_i_i_i_i_i_i_i_i_i_i;
     u1 v_r59_i1008_i_i_i;
     u16 v_r64_i1070_i_i_i;
     u64 v_r17_i_i1074_i_i_i;
@@ -33378,58 +33378,58 @@ u32 pkcs1_c_private_key_encode(P v_a0, P v_a1, u64 v_a2, P v_a3, u64 v_a4, P v_a
     P v_r40_i1007_sroa_7_0_r26_i84_i1032_sroa_idx_i_i_i;
     P v_r40_i1007_sroa_8_0_r26_i84_i1032_sroa_idx_i_i_i;
     u64 v_r7_sroa_129_26_i_i_i;
-    P v_r1_sroa_0_0_copyload_i_i_i7_i_i_i_i_i_i_i_i_i_i_i_;
+    P v_r1_sroa_0_0_copyload_i_i_i7_i_i_i_i_i_i_i_i_i_i_i;
     P v_r1_sroa_3_0_a0_sroa_idx_i_i_i8_i_i_i_i_i_i_i_i_i_i;
-    u64 v_r1_sroa_3_0_copyload_i_i_i9_i_i_i_i_i_i_i_i_i_i_i_;
-    u64 v_r17_i_i_i_i10_i_i_i_i_i_i_i_i_i_i_i_i_i;
-    P v_r26_i_i_i_i12_i_i_i_i_i_i_i_i_i_i_i_i_i;
-    u64 v_r8_i_i_i_i_i_i_i_i_i_i13_i_i_i_i_i_i_i_i_i_i_i_i_i;
-    u64 v_r9_i_i_i_i_i_i_i_i_i_i14_i_i_i_i_i_i_i_i_i_i_i_i_i;
-    u64 v_r10_i_i_i_i_i_i_i_i_i_i15_i_i_i_i_i_i_i_i_i_i_i_i_;
-    u1 v_r11_i_i_i_i_i_i_i_i_i_i16_i_i_i_i_i_i_i_i_i_i_i_i_;
+    u64 v_r1_sroa_3_0_copyload_i_i_i9_i_i_i_i_i_i_i_i_i_i_i;
+    u64 v_r17_i_i_i_i10_i_i_i_i_i_i_i_i_i_i_i;
+    P v_r26_i_i_i_i12_i_i_i_i_i_i_i_i_i_i_i;
+    u64 v_r8_i_i_i_i_i_i_i_i_i_i13_i_i_i_i_i_i_i_i_i_i_i;
+    u64 v_r9_i_i_i_i_i_i_i_i_i_i14_i_i_i_i_i_i_i_i_i_i_i;
+    u64 v_r10_i_i_i_i_i_i_i_i_i_i15_i_i_i_i_i_i_i_i_i_i_i;
+    u1 v_r11_i_i_i_i_i_i_i_i_i_i16_i_i_i_i_i_i_i_i_i_i_i;
     u64 v_xtraiter172;
     u1 v_24;
     u64 v_unroll_iter176;
-    u64 v_r0_04_i_i_i_i_i_i_i_i_i_i31_i_i_i_i_i_i_i_i_i_i_i___2;
+    u64 v_r0_04_i_i_i_i_i_i_i_i_i_i31_i_i_i_i_i_i_i_i_i_i_i;
     u64 v_niter177;
-    P v_r20_i_i_i_i_i_i_i_i_i_i32_i_i_i_i_i_i_i_i_i_i_i_i_;
-    P v_r24_i_i_i_i_i_i_i_i_i_i33_i_i_i_i_i_i_i_i_i_i_i_i_;
-    u8 v_r26_i_i_i_i_i_i_i_i_i_i34_i_i_i_i_i_i_i_i_i_i_i_i_;
-    u64 v_r30_i_i_i_i_i_i_i_i_i_i35_i_i_i_i_i_i_i_i_i_i_i_i_;
-    P v_r20_i_i_i_i_i_i_i_i_i_i32_i_i_i_i_i_i_i_i_i_i_i_i___2;
-    P v_r24_i_i_i_i_i_i_i_i_i_i33_i_i_i_i_i_i_i_i_i_i_i_i___2;
-    u8 v_r26_i_i_i_i_i_i_i_i_i_i34_i_i_i_i_i_i_i_i_i_i_i_i___2;
-    u64 v_r30_i_i_i_i_i_i_i_i_i_i35_i_i_i_i_i_i_i_i_i_i_i_i___2;
-    P v_r20_i_i_i_i_i_i_i_i_i_i32_i_i_i_i_i_i_i_i_i_i_i_i___3;
-    P v_r24_i_i_i_i_i_i_i_i_i_i33_i_i_i_i_i_i_i_i_i_i_i_i___3;
-    u8 v_r26_i_i_i_i_i_i_i_i_i_i34_i_i_i_i_i_i_i_i_i_i_i_i___3;
-    u64 v_r30_i_i_i_i_i_i_i_i_i_i35_i_i_i_i_i_i_i_i_i_i_i_i___3;
-    P v_r20_i_i_i_i_i_i_i_i_i_i32_i_i_i_i_i_i_i_i_i_i_i_i___4;
-    P v_r24_i_i_i_i_i_i_i_i_i_i33_i_i_i_i_i_i_i_i_i_i_i_i___4;
-    u8 v_r26_i_i_i_i_i_i_i_i_i_i34_i_i_i_i_i_i_i_i_i_i_i_i___4;
-    u64 v_r30_i_i_i_i_i_i_i_i_i_i35_i_i_i_i_i_i_i_i_i_i_i_i___4;
+    P v_r20_i_i_i_i_i_i_i_i_i_i32_i_i_i_i_i_i_i_i_i_i_i;
+    P v_r24_i_i_i_i_i_i_i_i_i_i33_i_i_i_i_i_i_i_i_i_i_i;
+    u8 v_r26_i_i_i_i_i_i_i_i_i_i34_i_i_i_i_i_i_i_i_i_i_i;
+    u64 v_r30_i_i_i_i_i_i_i_i_i_i35_i_i_i_i_i_i_i_i_i_i_i;
+    P v_r20_i_i_i_i_i_i_i_i_i_i32_i_i_i_i_i_i_i_i_i_i_i_1;
+    P v_r24_i_i_i_i_i_i_i_i_i_i33_i_i_i_i_i_i_i_i_i_i_i_1;
+    u8 v_r26_i_i_i_i_i_i_i_i_i_i34_i_i_i_i_i_i_i_i_i_i_i_1;
+    u64 v_r30_i_i_i_i_i_i_i_i_i_i35_i_i_i_i_i_i_i_i_i_i_i_1;
+    P v_r20_i_i_i_i_i_i_i_i_i_i32_i_i_i_i_i_i_i_i_i_i_i_2;
+    P v_r24_i_i_i_i_i_i_i_i_i_i33_i_i_i_i_i_i_i_i_i_i_i_2;
+    u8 v_r26_i_i_i_i_i_i_i_i_i_i34_i_i_i_i_i_i_i_i_i_i_i_2;
+    u64 v_r30_i_i_i_i_i_i_i_i_i_i35_i_i_i_i_i_i_i_i_i_i_i_2;
+    P v_r20_i_i_i_i_i_i_i_i_i_i32_i_i_i_i_i_i_i_i_i_i_i_3;
+    P v_r24_i_i_i_i_i_i_i_i_i_i33_i_i_i_i_i_i_i_i_i_i_i_3;
+    u8 v_r26_i_i_i_i_i_i_i_i_i_i34_i_i_i_i_i_i_i_i_i_i_i_3;
+    u64 v_r30_i_i_i_i_i_i_i_i_i_i35_i_i_i_i_i_i_i_i_i_i_i_3;
     u64 v_niter177_next_3;
     u1 v_niter177_ncmp_3;
     u1 v_lcmp_mod174_not;
     u64 v_r0_04_i_i_i_i_i_i_i_i_i_i31_i_i_i_i_i_i_i_i_i_i_i_;
-    u64 v_r0_04_i_i_i_i_i_i_i_i_i_i31_i_i_i_i_i_i_i_i_i_i_i___3;
+    u64 v_r0_04_i_i_i_i_i_i_i_i_i_i31_i_i_i_i_i_i_i_i_i_i_i___2;
     u64 v_epil_iter173;
-    P v_r20_i_i_i_i_i_i_i_i_i_i32_i_i_i_i_i_i_i_i_i_i_i_i___5;
-    P v_r24_i_i_i_i_i_i_i_i_i_i33_i_i_i_i_i_i_i_i_i_i_i_i___5;
-    u8 v_r26_i_i_i_i_i_i_i_i_i_i34_i_i_i_i_i_i_i_i_i_i_i_i___5;
-    u64 v_r30_i_i_i_i_i_i_i_i_i_i35_i_i_i_i_i_i_i_i_i_i_i_i___5;
+    P v_r20_i_i_i_i_i_i_i_i_i_i32_i_i_i_i_i_i_i_i_i_i_i_ep;
+    P v_r24_i_i_i_i_i_i_i_i_i_i33_i_i_i_i_i_i_i_i_i_i_i_ep;
+    u8 v_r26_i_i_i_i_i_i_i_i_i_i34_i_i_i_i_i_i_i_i_i_i_i_ep;
+    u64 v_r30_i_i_i_i_i_i_i_i_i_i35_i_i_i_i_i_i_i_i_i_i_i_ep;
     u64 v_epil_iter173_next;
     u1 v_epil_iter173_cmp_not;
-    P v_r12_i_i_i19_i_i_i_i_i_i_i_i_i_i_i_i_i;
-    u64 v_r13_i_i_i20_i_i_i_i_i_i_i_i_i_i_i_i_i;
-    u1 v_r15_not_i_i_i21_i_i_i_i_i_i_i_i_i_i_i_i_i;
-    u64 v_r17_i3_i_i_i23_i_i_i_i_i_i_i_i_i_i_i_i_i;
-    P v_r26_i5_i_i_i25_i_i_i_i_i_i_i_i_i_i_i_i_i;
+    P v_r12_i_i_i19_i_i_i_i_i_i_i_i_i_i_i;
+    u64 v_r13_i_i_i20_i_i_i_i_i_i_i_i_i_i_i;
+    u1 v_r15_not_i_i_i21_i_i_i_i_i_i_i_i_i_i_i;
+    u64 v_r17_i3_i_i_i23_i_i_i_i_i_i_i_i_i_i_i;
+    P v_r26_i5_i_i_i25_i_i_i_i_i_i_i_i_i_i_i;
     u64 v_r7_sroa_129_9_i_i_i;
     u64 v_25;
     u64 v_26;
     u32 v_27;
-    u32 v_r2_i_i_i29_i_i_i_i_i_i_i_i_i_i_i_i_i;
+    u32 v_r2_i_i_i29_i_i_i_i_i_i_i_i_i_i_i;
     u1 v_r59_i932_i_i_i;
     u16 v_r64_i994_i_i_i;
     u64 v_r17_i_i998_i_i_i;
@@ -33477,55 +33477,55 @@ u32 pkcs1_c_private_key_encode(P v_a0, P v_a1, u64 v_a2, P v_a3, u64 v_a4, P v_a
     P v_r1_sroa_0_0_copyload_i_i_i40_i_i_i_i_i_i_i_i_i_i_i;
     P v_r1_sroa_3_0_a0_sroa_idx_i_i_i41_i_i_i_i_i_i_i_i_i_;
     u64 v_r1_sroa_3_0_copyload_i_i_i42_i_i_i_i_i_i_i_i_i_i_i;
-    u64 v_r17_i_i_i_i43_i_i_i_i_i_i_i_i_i_i_i_i_i;
-    P v_r26_i_i_i_i45_i_i_i_i_i_i_i_i_i_i_i_i_i;
-    u64 v_r8_i_i_i_i_i_i_i_i_i_i46_i_i_i_i_i_i_i_i_i_i_i_i_i;
-    u64 v_r9_i_i_i_i_i_i_i_i_i_i47_i_i_i_i_i_i_i_i_i_i_i_i_i;
-    u64 v_r10_i_i_i_i_i_i_i_i_i_i48_i_i_i_i_i_i_i_i_i_i_i_i_;
-    u1 v_r11_i_i_i_i_i_i_i_i_i_i49_i_i_i_i_i_i_i_i_i_i_i_i_;
+    u64 v_r17_i_i_i_i43_i_i_i_i_i_i_i_i_i_i_i;
+    P v_r26_i_i_i_i45_i_i_i_i_i_i_i_i_i_i_i;
+    u64 v_r8_i_i_i_i_i_i_i_i_i_i46_i_i_i_i_i_i_i_i_i_i_i;
+    u64 v_r9_i_i_i_i_i_i_i_i_i_i47_i_i_i_i_i_i_i_i_i_i_i;
+    u64 v_r10_i_i_i_i_i_i_i_i_i_i48_i_i_i_i_i_i_i_i_i_i_i;
+    u1 v_r11_i_i_i_i_i_i_i_i_i_i49_i_i_i_i_i_i_i_i_i_i_i;
     u64 v_xtraiter178;
     u1 v_29;
     u64 v_unroll_iter182;
-    u64 v_r0_04_i_i_i_i_i_i_i_i_i_i64_i_i_i_i_i_i_i_i_i_i_i___2;
+    u64 v_r0_04_i_i_i_i_i_i_i_i_i_i64_i_i_i_i_i_i_i_i_i_i_i;
     u64 v_niter183;
-    P v_r20_i_i_i_i_i_i_i_i_i_i65_i_i_i_i_i_i_i_i_i_i_i_i_;
-    P v_r24_i_i_i_i_i_i_i_i_i_i66_i_i_i_i_i_i_i_i_i_i_i_i_;
-    u8 v_r26_i_i_i_i_i_i_i_i_i_i67_i_i_i_i_i_i_i_i_i_i_i_i_;
-    u64 v_r30_i_i_i_i_i_i_i_i_i_i68_i_i_i_i_i_i_i_i_i_i_i_i_;
-    P v_r20_i_i_i_i_i_i_i_i_i_i65_i_i_i_i_i_i_i_i_i_i_i_i___2;
-    P v_r24_i_i_i_i_i_i_i_i_i_i66_i_i_i_i_i_i_i_i_i_i_i_i___2;
-    u8 v_r26_i_i_i_i_i_i_i_i_i_i67_i_i_i_i_i_i_i_i_i_i_i_i___2;
-    u64 v_r30_i_i_i_i_i_i_i_i_i_i68_i_i_i_i_i_i_i_i_i_i_i_i___2;
-    P v_r20_i_i_i_i_i_i_i_i_i_i65_i_i_i_i_i_i_i_i_i_i_i_i___3;
-    P v_r24_i_i_i_i_i_i_i_i_i_i66_i_i_i_i_i_i_i_i_i_i_i_i___3;
-    u8 v_r26_i_i_i_i_i_i_i_i_i_i67_i_i_i_i_i_i_i_i_i_i_i_i___3;
-    u64 v_r30_i_i_i_i_i_i_i_i_i_i68_i_i_i_i_i_i_i_i_i_i_i_i___3;
-    P v_r20_i_i_i_i_i_i_i_i_i_i65_i_i_i_i_i_i_i_i_i_i_i_i___4;
-    P v_r24_i_i_i_i_i_i_i_i_i_i66_i_i_i_i_i_i_i_i_i_i_i_i___4;
-    u8 v_r26_i_i_i_i_i_i_i_i_i_i67_i_i_i_i_i_i_i_i_i_i_i_i___4;
-    u64 v_r30_i_i_i_i_i_i_i_i_i_i68_i_i_i_i_i_i_i_i_i_i_i_i___4;
+    P v_r20_i_i_i_i_i_i_i_i_i_i65_i_i_i_i_i_i_i_i_i_i_i;
+    P v_r24_i_i_i_i_i_i_i_i_i_i66_i_i_i_i_i_i_i_i_i_i_i;
+    u8 v_r26_i_i_i_i_i_i_i_i_i_i67_i_i_i_i_i_i_i_i_i_i_i;
+    u64 v_r30_i_i_i_i_i_i_i_i_i_i68_i_i_i_i_i_i_i_i_i_i_i;
+    P v_r20_i_i_i_i_i_i_i_i_i_i65_i_i_i_i_i_i_i_i_i_i_i_1;
+    P v_r24_i_i_i_i_i_i_i_i_i_i66_i_i_i_i_i_i_i_i_i_i_i_1;
+    u8 v_r26_i_i_i_i_i_i_i_i_i_i67_i_i_i_i_i_i_i_i_i_i_i_1;
+    u64 v_r30_i_i_i_i_i_i_i_i_i_i68_i_i_i_i_i_i_i_i_i_i_i_1;
+    P v_r20_i_i_i_i_i_i_i_i_i_i65_i_i_i_i_i_i_i_i_i_i_i_2;
+    P v_r24_i_i_i_i_i_i_i_i_i_i66_i_i_i_i_i_i_i_i_i_i_i_2;
+    u8 v_r26_i_i_i_i_i_i_i_i_i_i67_i_i_i_i_i_i_i_i_i_i_i_2;
+    u64 v_r30_i_i_i_i_i_i_i_i_i_i68_i_i_i_i_i_i_i_i_i_i_i_2;
+    P v_r20_i_i_i_i_i_i_i_i_i_i65_i_i_i_i_i_i_i_i_i_i_i_3;
+    P v_r24_i_i_i_i_i_i_i_i_i_i66_i_i_i_i_i_i_i_i_i_i_i_3;
+    u8 v_r26_i_i_i_i_i_i_i_i_i_i67_i_i_i_i_i_i_i_i_i_i_i_3;
+    u64 v_r30_i_i_i_i_i_i_i_i_i_i68_i_i_i_i_i_i_i_i_i_i_i_3;
     u64 v_niter183_next_3;
     u1 v_niter183_ncmp_3;
     u1 v_lcmp_mod180_not;
     u64 v_r0_04_i_i_i_i_i_i_i_i_i_i64_i_i_i_i_i_i_i_i_i_i_i_;
-    u64 v_r0_04_i_i_i_i_i_i_i_i_i_i64_i_i_i_i_i_i_i_i_i_i_i___3;
+    u64 v_r0_04_i_i_i_i_i_i_i_i_i_i64_i_i_i_i_i_i_i_i_i_i_i___2;
     u64 v_epil_iter179;
-    P v_r20_i_i_i_i_i_i_i_i_i_i65_i_i_i_i_i_i_i_i_i_i_i_i___5;
-    P v_r24_i_i_i_i_i_i_i_i_i_i66_i_i_i_i_i_i_i_i_i_i_i_i___5;
-    u8 v_r26_i_i_i_i_i_i_i_i_i_i67_i_i_i_i_i_i_i_i_i_i_i_i___5;
-    u64 v_r30_i_i_i_i_i_i_i_i_i_i68_i_i_i_i_i_i_i_i_i_i_i_i___5;
+    P v_r20_i_i_i_i_i_i_i_i_i_i65_i_i_i_i_i_i_i_i_i_i_i_ep;
+    P v_r24_i_i_i_i_i_i_i_i_i_i66_i_i_i_i_i_i_i_i_i_i_i_ep;
+    u8 v_r26_i_i_i_i_i_i_i_i_i_i67_i_i_i_i_i_i_i_i_i_i_i_ep;
+    u64 v_r30_i_i_i_i_i_i_i_i_i_i68_i_i_i_i_i_i_i_i_i_i_i_ep;
     u64 v_epil_iter179_next;
     u1 v_epil_iter179_cmp_not;
-    P v_r12_i_i_i52_i_i_i_i_i_i_i_i_i_i_i_i_i;
-    u64 v_r13_i_i_i53_i_i_i_i_i_i_i_i_i_i_i_i_i;
-    u1 v_r15_not_i_i_i54_i_i_i_i_i_i_i_i_i_i_i_i_i;
-    u64 v_r17_i3_i_i_i56_i_i_i_i_i_i_i_i_i_i_i_i_i;
-    P v_r26_i5_i_i_i58_i_i_i_i_i_i_i_i_i_i_i_i_i;
+    P v_r12_i_i_i52_i_i_i_i_i_i_i_i_i_i_i;
+    u64 v_r13_i_i_i53_i_i_i_i_i_i_i_i_i_i_i;
+    u1 v_r15_not_i_i_i54_i_i_i_i_i_i_i_i_i_i_i;
+    u64 v_r17_i3_i_i_i56_i_i_i_i_i_i_i_i_i_i_i;
+    P v_r26_i5_i_i_i58_i_i_i_i_i_i_i_i_i_i_i;
     u64 v_r7_sroa_129_10_i_i_i;
     u64 v_30;
     u64 v_31;
     u32 v_32;
-    u32 v_r2_i_i_i62_i_i_i_i_i_i_i_i_i_i_i_i_i;
+    u32 v_r2_i_i_i62_i_i_i_i_i_i_i_i_i_i_i;
     u1 v_r59_i856_i_i_i;
     u16 v_r64_i918_i_i_i;
     u64 v_r17_i_i922_i_i_i;
@@ -33570,8 +33570,8 @@ u32 pkcs1_c_private_key_encode(P v_a0, P v_a1, u64 v_a2, P v_a3, u64 v_a4, P v_a
     P v_r40_i855_sroa_7_0_r26_i84_i880_sroa_idx_i_i_i;
     P v_r40_i855_sroa_8_0_r26_i84_i880_sroa_idx_i_i_i;
     u64 v_r7_sroa_129_24_i_i_i;
-    u64 v_r17_i_i_i_i_i_i_i_i_i_i_i_i;
-    u32 v_r2_i_i_i_i_i_i_i_i_i_i_i_i_i;
+    u64 v_r17_i_i_i_i_i_i_i_i_i_i;
+    u32 v_r2_i_i_i_i_i_i_i_i_i_i_i;
     u1 v_r59_i780_i_i_i;
     u16 v_r64_i842_i_i_i;
     u64 v_r17_i_i846_i_i_i;
@@ -33616,10 +33616,10 @@ u32 pkcs1_c_private_key_encode(P v_a0, P v_a1, u64 v_a2, P v_a3, u64 v_a4, P v_a
     P v_r40_i779_sroa_7_0_r26_i84_i804_sroa_idx_i_i_i;
     P v_r40_i779_sroa_8_0_r26_i84_i804_sroa_idx_i_i_i;
     u64 v_r7_sroa_129_23_i_i_i;
-    u1 v_r11_not_i_i_i_i_i_i_i_i_i_i_i;
+    u1 v_r11_not_i_i_i_i_i_i_i_i_i;
     u64 v_r7_sroa_129_11_i_i_i;
     u32 v_35;
-    u32 v_r2_i_i_i_i_i_i_i_i_i_i;
+    u32 v_r2_i_i_i_i_i_i_i_i;
     u1 v_r59_i704_i_i_i;
     u16 v_r64_i766_i_i_i;
     u64 v_r17_i_i770_i_i_i;
@@ -33663,54 +33663,54 @@ u32 pkcs1_c_private_key_encode(P v_a0, P v_a1, u64 v_a2, P v_a3, u64 v_a4, P v_a
     P v_r40_i703_sroa_6_0_r26_i84_i728_sroa_idx_i_i_i;
     P v_r40_i703_sroa_7_0_r26_i84_i728_sroa_idx_i_i_i;
     P v_r40_i703_sroa_8_0_r26_i84_i728_sroa_idx_i_i_i;
-    u64 v_a1_val4_i_i_i_i_i_i_i_i;
-    u64 v_r17_i_i_i_i_i_i_i_i_i_i;
-    P v_r26_i_i_i_i_i_i_i_i_i_i;
-    u64 v_r8_i_i_i_i_i_i_i_i_i_i_i_i_i_i_i_i;
-    u64 v_r9_i_i_i_i_i_i_i_i_i_i_i_i_i_i_i_i;
-    u64 v_r10_i_i_i_i_i_i_i_i_i_i_i_i_i_i_i_i;
-    u1 v_r11_i_i_i_i_i_i_i_i_i_i_i_i_i_i_i_i;
+    u64 v_a1_val4_i_i15_i_i_i_i_i;
+    u64 v_r17_i_i_i_i_i_i_i_i_i;
+    P v_r26_i_i_i_i_i_i_i_i_i;
+    u64 v_r8_i_i_i_i_i_i_i_i_i_i_i_i_i_i_i;
+    u64 v_r9_i_i_i_i_i_i_i_i_i_i_i_i_i_i_i;
+    u64 v_r10_i_i_i_i_i_i_i_i_i_i_i_i_i_i_i;
+    u1 v_r11_i_i_i_i_i_i_i_i_i_i_i_i_i_i_i;
     u64 v_xtraiter184;
     u1 v_37;
     u64 v_unroll_iter188;
-    u64 v_r0_04_i_i_i_i_i_i_i_i_i_i_i_i_i_i_i_i;
+    u64 v_r0_04_i_i_i_i_i_i_i_i_i_i_i_i_i_i_i;
     u64 v_niter189;
-    P v_r20_i_i_i_i_i_i_i_i_i_i_i_i_i_i_i_i;
-    P v_r24_i_i_i_i_i_i_i_i_i_i_i_i_i_i_i_i;
-    u8 v_r26_i_i_i_i_i_i_i_i_i_i_i_i_i_i_i_i;
-    u64 v_r30_i_i_i_i_i_i_i_i_i_i_i_i_i_i_i_i;
-    P v_r20_i_i_i_i_i_i_i_i_i_i_i_i_i_i_i_i_1;
-    P v_r24_i_i_i_i_i_i_i_i_i_i_i_i_i_i_i_i_1;
-    u8 v_r26_i_i_i_i_i_i_i_i_i_i_i_i_i_i_i_i_1;
-    u64 v_r30_i_i_i_i_i_i_i_i_i_i_i_i_i_i_i_i_1;
-    P v_r20_i_i_i_i_i_i_i_i_i_i_i_i_i_i_i_i_2;
-    P v_r24_i_i_i_i_i_i_i_i_i_i_i_i_i_i_i_i_2;
-    u8 v_r26_i_i_i_i_i_i_i_i_i_i_i_i_i_i_i_i_2;
-    u64 v_r30_i_i_i_i_i_i_i_i_i_i_i_i_i_i_i_i_2;
-    P v_r20_i_i_i_i_i_i_i_i_i_i_i_i_i_i_i_i_3;
-    P v_r24_i_i_i_i_i_i_i_i_i_i_i_i_i_i_i_i_3;
-    u8 v_r26_i_i_i_i_i_i_i_i_i_i_i_i_i_i_i_i_3;
-    u64 v_r30_i_i_i_i_i_i_i_i_i_i_i_i_i_i_i_i_3;
+    P v_r20_i_i_i_i_i_i_i_i_i_i20_i_i_i_i_i;
+    P v_r24_i_i_i_i_i_i_i_i_i_i_i_i_i_i_i;
+    u8 v_r26_i_i_i_i_i_i_i_i_i_i21_i_i_i_i_i;
+    u64 v_r30_i_i_i_i_i_i_i_i_i_i_i_i_i_i_i;
+    P v_r20_i_i_i_i_i_i_i_i_i_i20_i_i_i_i_i_1;
+    P v_r24_i_i_i_i_i_i_i_i_i_i_i_i_i_i_i_1;
+    u8 v_r26_i_i_i_i_i_i_i_i_i_i21_i_i_i_i_i_1;
+    u64 v_r30_i_i_i_i_i_i_i_i_i_i_i_i_i_i_i_1;
+    P v_r20_i_i_i_i_i_i_i_i_i_i20_i_i_i_i_i_2;
+    P v_r24_i_i_i_i_i_i_i_i_i_i_i_i_i_i_i_2;
+    u8 v_r26_i_i_i_i_i_i_i_i_i_i21_i_i_i_i_i_2;
+    u64 v_r30_i_i_i_i_i_i_i_i_i_i_i_i_i_i_i_2;
+    P v_r20_i_i_i_i_i_i_i_i_i_i20_i_i_i_i_i_3;
+    P v_r24_i_i_i_i_i_i_i_i_i_i_i_i_i_i_i_3;
+    u8 v_r26_i_i_i_i_i_i_i_i_i_i21_i_i_i_i_i_3;
+    u64 v_r30_i_i_i_i_i_i_i_i_i_i_i_i_i_i_i_3;
     u64 v_niter189_next_3;
     u1 v_niter189_ncmp_3;
     u1 v_lcmp_mod186_not;
-    u64 v_r0_04_i_i_i_i_i_i_i_i_i_i_i_i_i_i_i_i_epil_init;
-    u64 v_r0_04_i_i_i_i_i_i_i_i_i_i_i_i_i_i_i_i_epil;
+    u64 v_r0_04_i_i_i_i_i_i_i_i_i_i_i_i_i_i_i_epil_init;
+    u64 v_r0_04_i_i_i_i_i_i_i_i_i_i_i_i_i_i_i_epil;
     u64 v_epil_iter185;
-    P v_r20_i_i_i_i_i_i_i_i_i_i_i_i_i_i_i_i_epil;
-    P v_r24_i_i_i_i_i_i_i_i_i_i_i_i_i_i_i_i_epil;
-    u8 v_r26_i_i_i_i_i_i_i_i_i_i_i_i_i_i_i_i_epil;
-    u64 v_r30_i_i_i_i_i_i_i_i_i_i_i_i_i_i_i_i_epil;
+    P v_r20_i_i_i_i_i_i_i_i_i_i20_i_i_i_i_i_epil;
+    P v_r24_i_i_i_i_i_i_i_i_i_i_i_i_i_i_i_epil;
+    u8 v_r26_i_i_i_i_i_i_i_i_i_i21_i_i_i_i_i_epil;
+    u64 v_r30_i_i_i_i_i_i_i_i_i_i_i_i_i_i_i_epil;
     u64 v_epil_iter185_next;
     u1 v_epil_iter185_cmp_not;
-    u1 v_r15_not_i_i_i_i_i_i_i_i_i;
-    u64 v_r17_i3_i_i_i_i_i_i_i_i_i;
-    P v_r26_i5_i_i_i_i_i_i_i_i_i;
+    u1 v_r15_not_i_i_i_i_i_i_i_i;
+    u64 v_r17_i3_i_i_i_i_i_i_i_i;
+    P v_r26_i5_i_i_i_i_i_i_i_i;
     u64 v_r7_sroa_129_0_i_i_i;
     u64 v_38;
     u64 v_39;
     u32 v_40;
-    u32 v_r2_i_i_i_i_i_i_i_i_i;
+    u32 v_r2_i_i_i19_i_i_i_i_i;
     u1 v_r59_i628_i_i_i;
     u16 v_r64_i690_i_i_i;
     u64 v_r17_i_i694_i_i_i;
@@ -33755,53 +33755,53 @@ u32 pkcs1_c_private_key_encode(P v_a0, P v_a1, u64 v_a2, P v_a3, u64 v_a4, P v_a
     P v_r40_i627_sroa_7_0_r26_i84_i652_sroa_idx_i_i_i;
     P v_r40_i627_sroa_8_0_r26_i84_i652_sroa_idx_i_i_i;
     u64 v_r7_sroa_129_21_i_i_i;
-    u64 v_r17_i_i_i_i9_i_i_i_i_i_i;
-    P v_r26_i_i_i_i11_i_i_i_i_i_i;
-    u64 v_r8_i_i_i_i_i_i_i_i_i_i12_i_i_i_i_i_i;
-    u64 v_r9_i_i_i_i_i_i_i_i_i_i13_i_i_i_i_i_i;
-    u64 v_r10_i_i_i_i_i_i_i_i_i_i14_i_i_i_i_i_i;
-    u1 v_r11_i_i_i_i_i_i_i_i_i_i15_i_i_i_i_i_i;
+    u64 v_r17_i_i_i_i27_i_i_i_i_i;
+    P v_r26_i_i_i_i29_i_i_i_i_i;
+    u64 v_r8_i_i_i_i_i_i_i_i_i_i30_i_i_i_i_i;
+    u64 v_r9_i_i_i_i_i_i_i_i_i_i31_i_i_i_i_i;
+    u64 v_r10_i_i_i_i_i_i_i_i_i_i32_i_i_i_i_i;
+    u1 v_r11_i_i_i_i_i_i_i_i_i_i33_i_i_i_i_i;
     u64 v_xtraiter190;
     u1 v_42;
     u64 v_unroll_iter194;
-    u64 v_r0_04_i_i_i_i_i_i_i_i_i_i30_i_i_i_i_i_i;
+    u64 v_r0_04_i_i_i_i_i_i_i_i_i_i48_i_i_i_i_i;
     u64 v_niter195;
-    P v_r20_i_i_i_i_i_i_i_i_i_i31_i_i_i_i_i_i;
-    P v_r24_i_i_i_i_i_i_i_i_i_i32_i_i_i_i_i_i;
-    u8 v_r26_i_i_i_i_i_i_i_i_i_i33_i_i_i_i_i_i;
-    u64 v_r30_i_i_i_i_i_i_i_i_i_i34_i_i_i_i_i_i;
-    P v_r20_i_i_i_i_i_i_i_i_i_i31_i_i_i_i_i_i_1;
-    P v_r24_i_i_i_i_i_i_i_i_i_i32_i_i_i_i_i_i_1;
-    u8 v_r26_i_i_i_i_i_i_i_i_i_i33_i_i_i_i_i_i_1;
-    u64 v_r30_i_i_i_i_i_i_i_i_i_i34_i_i_i_i_i_i_1;
-    P v_r20_i_i_i_i_i_i_i_i_i_i31_i_i_i_i_i_i_2;
-    P v_r24_i_i_i_i_i_i_i_i_i_i32_i_i_i_i_i_i_2;
-    u8 v_r26_i_i_i_i_i_i_i_i_i_i33_i_i_i_i_i_i_2;
-    u64 v_r30_i_i_i_i_i_i_i_i_i_i34_i_i_i_i_i_i_2;
-    P v_r20_i_i_i_i_i_i_i_i_i_i31_i_i_i_i_i_i_3;
-    P v_r24_i_i_i_i_i_i_i_i_i_i32_i_i_i_i_i_i_3;
-    u8 v_r26_i_i_i_i_i_i_i_i_i_i33_i_i_i_i_i_i_3;
-    u64 v_r30_i_i_i_i_i_i_i_i_i_i34_i_i_i_i_i_i_3;
+    P v_r20_i_i_i_i_i_i_i_i_i_i49_i_i_i_i_i;
+    P v_r24_i_i_i_i_i_i_i_i_i_i50_i_i_i_i_i;
+    u8 v_r26_i_i_i_i_i_i_i_i_i_i51_i_i_i_i_i;
+    u64 v_r30_i_i_i_i_i_i_i_i_i_i52_i_i_i_i_i;
+    P v_r20_i_i_i_i_i_i_i_i_i_i49_i_i_i_i_i_1;
+    P v_r24_i_i_i_i_i_i_i_i_i_i50_i_i_i_i_i_1;
+    u8 v_r26_i_i_i_i_i_i_i_i_i_i51_i_i_i_i_i_1;
+    u64 v_r30_i_i_i_i_i_i_i_i_i_i52_i_i_i_i_i_1;
+    P v_r20_i_i_i_i_i_i_i_i_i_i49_i_i_i_i_i_2;
+    P v_r24_i_i_i_i_i_i_i_i_i_i50_i_i_i_i_i_2;
+    u8 v_r26_i_i_i_i_i_i_i_i_i_i51_i_i_i_i_i_2;
+    u64 v_r30_i_i_i_i_i_i_i_i_i_i52_i_i_i_i_i_2;
+    P v_r20_i_i_i_i_i_i_i_i_i_i49_i_i_i_i_i_3;
+    P v_r24_i_i_i_i_i_i_i_i_i_i50_i_i_i_i_i_3;
+    u8 v_r26_i_i_i_i_i_i_i_i_i_i51_i_i_i_i_i_3;
+    u64 v_r30_i_i_i_i_i_i_i_i_i_i52_i_i_i_i_i_3;
     u64 v_niter195_next_3;
     u1 v_niter195_ncmp_3;
     u1 v_lcmp_mod192_not;
-    u64 v_r0_04_i_i_i_i_i_i_i_i_i_i30_i_i_i_i_i_i_epil_init;
-    u64 v_r0_04_i_i_i_i_i_i_i_i_i_i30_i_i_i_i_i_i_epil;
+    u64 v_r0_04_i_i_i_i_i_i_i_i_i_i48_i_i_i_i_i_epil_init;
+    u64 v_r0_04_i_i_i_i_i_i_i_i_i_i48_i_i_i_i_i_epil;
     u64 v_epil_iter191;
-    P v_r20_i_i_i_i_i_i_i_i_i_i31_i_i_i_i_i_i_epil;
-    P v_r24_i_i_i_i_i_i_i_i_i_i32_i_i_i_i_i_i_epil;
-    u8 v_r26_i_i_i_i_i_i_i_i_i_i33_i_i_i_i_i_i_epil;
-    u64 v_r30_i_i_i_i_i_i_i_i_i_i34_i_i_i_i_i_i_epil;
+    P v_r20_i_i_i_i_i_i_i_i_i_i49_i_i_i_i_i_epil;
+    P v_r24_i_i_i_i_i_i_i_i_i_i50_i_i_i_i_i_epil;
+    u8 v_r26_i_i_i_i_i_i_i_i_i_i51_i_i_i_i_i_epil;
+    u64 v_r30_i_i_i_i_i_i_i_i_i_i52_i_i_i_i_i_epil;
     u64 v_epil_iter191_next;
     u1 v_epil_iter191_cmp_not;
-    u1 v_r15_not_i_i_i20_i_i_i_i_i_i;
-    u64 v_r17_i3_i_i_i22_i_i_i_i_i_i;
-    P v_r26_i5_i_i_i24_i_i_i_i_i_i;
+    u1 v_r15_not_i_i_i38_i_i_i_i_i;
+    u64 v_r17_i3_i_i_i40_i_i_i_i_i;
+    P v_r26_i5_i_i_i42_i_i_i_i_i;
     u64 v_r7_sroa_129_1_i_i_i;
     u64 v_43;
     u64 v_44;
     u32 v_45;
-    u32 v_r2_i_i_i28_i_i_i_i_i_i;
+    u32 v_r2_i_i_i46_i_i_i_i_i;
     u1 v_r59_i552_i_i_i;
     u16 v_r64_i614_i_i_i;
     u64 v_r17_i_i618_i_i_i;
@@ -33846,53 +33846,53 @@ u32 pkcs1_c_private_key_encode(P v_a0, P v_a1, u64 v_a2, P v_a3, u64 v_a4, P v_a
     P v_r40_i551_sroa_7_0_r26_i84_i576_sroa_idx_i_i_i;
     P v_r40_i551_sroa_8_0_r26_i84_i576_sroa_idx_i_i_i;
     u64 v_r7_sroa_129_20_i_i_i;
-    u64 v_r17_i_i_i_i42_i_i_i_i_i_i;
-    P v_r26_i_i_i_i44_i_i_i_i_i_i;
-    u64 v_r8_i_i_i_i_i_i_i_i_i_i45_i_i_i_i_i_i;
-    u64 v_r9_i_i_i_i_i_i_i_i_i_i46_i_i_i_i_i_i;
-    u64 v_r10_i_i_i_i_i_i_i_i_i_i47_i_i_i_i_i_i;
-    u1 v_r11_i_i_i_i_i_i_i_i_i_i48_i_i_i_i_i_i;
+    u64 v_r17_i_i_i_i60_i_i_i_i_i;
+    P v_r26_i_i_i_i62_i_i_i_i_i;
+    u64 v_r8_i_i_i_i_i_i_i_i_i_i63_i_i_i_i_i;
+    u64 v_r9_i_i_i_i_i_i_i_i_i_i64_i_i_i_i_i;
+    u64 v_r10_i_i_i_i_i_i_i_i_i_i65_i_i_i_i_i;
+    u1 v_r11_i_i_i_i_i_i_i_i_i_i66_i_i_i_i_i;
     u64 v_xtraiter196;
     u1 v_47;
     u64 v_unroll_iter200;
-    u64 v_r0_04_i_i_i_i_i_i_i_i_i_i63_i_i_i_i_i_i;
+    u64 v_r0_04_i_i_i_i_i_i_i_i_i_i81_i_i_i_i_i;
     u64 v_niter201;
-    P v_r20_i_i_i_i_i_i_i_i_i_i64_i_i_i_i_i_i;
-    P v_r24_i_i_i_i_i_i_i_i_i_i65_i_i_i_i_i_i;
-    u8 v_r26_i_i_i_i_i_i_i_i_i_i66_i_i_i_i_i_i;
-    u64 v_r30_i_i_i_i_i_i_i_i_i_i67_i_i_i_i_i_i;
-    P v_r20_i_i_i_i_i_i_i_i_i_i64_i_i_i_i_i_i_1;
-    P v_r24_i_i_i_i_i_i_i_i_i_i65_i_i_i_i_i_i_1;
-    u8 v_r26_i_i_i_i_i_i_i_i_i_i66_i_i_i_i_i_i_1;
-    u64 v_r30_i_i_i_i_i_i_i_i_i_i67_i_i_i_i_i_i_1;
-    P v_r20_i_i_i_i_i_i_i_i_i_i64_i_i_i_i_i_i_2;
-    P v_r24_i_i_i_i_i_i_i_i_i_i65_i_i_i_i_i_i_2;
-    u8 v_r26_i_i_i_i_i_i_i_i_i_i66_i_i_i_i_i_i_2;
-    u64 v_r30_i_i_i_i_i_i_i_i_i_i67_i_i_i_i_i_i_2;
-    P v_r20_i_i_i_i_i_i_i_i_i_i64_i_i_i_i_i_i_3;
-    P v_r24_i_i_i_i_i_i_i_i_i_i65_i_i_i_i_i_i_3;
-    u8 v_r26_i_i_i_i_i_i_i_i_i_i66_i_i_i_i_i_i_3;
-    u64 v_r30_i_i_i_i_i_i_i_i_i_i67_i_i_i_i_i_i_3;
+    P v_r20_i_i_i_i_i_i_i_i_i_i82_i_i_i_i_i;
+    P v_r24_i_i_i_i_i_i_i_i_i_i83_i_i_i_i_i;
+    u8 v_r26_i_i_i_i_i_i_i_i_i_i84_i_i_i_i_i;
+    u64 v_r30_i_i_i_i_i_i_i_i_i_i85_i_i_i_i_i;
+    P v_r20_i_i_i_i_i_i_i_i_i_i82_i_i_i_i_i_1;
+    P v_r24_i_i_i_i_i_i_i_i_i_i83_i_i_i_i_i_1;
+    u8 v_r26_i_i_i_i_i_i_i_i_i_i84_i_i_i_i_i_1;
+    u64 v_r30_i_i_i_i_i_i_i_i_i_i85_i_i_i_i_i_1;
+    P v_r20_i_i_i_i_i_i_i_i_i_i82_i_i_i_i_i_2;
+    P v_r24_i_i_i_i_i_i_i_i_i_i83_i_i_i_i_i_2;
+    u8 v_r26_i_i_i_i_i_i_i_i_i_i84_i_i_i_i_i_2;
+    u64 v_r30_i_i_i_i_i_i_i_i_i_i85_i_i_i_i_i_2;
+    P v_r20_i_i_i_i_i_i_i_i_i_i82_i_i_i_i_i_3;
+    P v_r24_i_i_i_i_i_i_i_i_i_i83_i_i_i_i_i_3;
+    u8 v_r26_i_i_i_i_i_i_i_i_i_i84_i_i_i_i_i_3;
+    u64 v_r30_i_i_i_i_i_i_i_i_i_i85_i_i_i_i_i_3;
     u64 v_niter201_next_3;
     u1 v_niter201_ncmp_3;
     u1 v_lcmp_mod198_not;
-    u64 v_r0_04_i_i_i_i_i_i_i_i_i_i63_i_i_i_i_i_i_epil_init;
-    u64 v_r0_04_i_i_i_i_i_i_i_i_i_i63_i_i_i_i_i_i_epil;
+    u64 v_r0_04_i_i_i_i_i_i_i_i_i_i81_i_i_i_i_i_epil_init;
+    u64 v_r0_04_i_i_i_i_i_i_i_i_i_i81_i_i_i_i_i_epil;
     u64 v_epil_iter197;
-    P v_r20_i_i_i_i_i_i_i_i_i_i64_i_i_i_i_i_i_epil;
-    P v_r24_i_i_i_i_i_i_i_i_i_i65_i_i_i_i_i_i_epil;
-    u8 v_r26_i_i_i_i_i_i_i_i_i_i66_i_i_i_i_i_i_epil;
-    u64 v_r30_i_i_i_i_i_i_i_i_i_i67_i_i_i_i_i_i_epil;
+    P v_r20_i_i_i_i_i_i_i_i_i_i82_i_i_i_i_i_epil;
+    P v_r24_i_i_i_i_i_i_i_i_i_i83_i_i_i_i_i_epil;
+    u8 v_r26_i_i_i_i_i_i_i_i_i_i84_i_i_i_i_i_epil;
+    u64 v_r30_i_i_i_i_i_i_i_i_i_i85_i_i_i_i_i_epil;
     u64 v_epil_iter197_next;
     u1 v_epil_iter197_cmp_not;
-    u1 v_r15_not_i_i_i53_i_i_i_i_i_i;
-    u64 v_r17_i3_i_i_i55_i_i_i_i_i_i;
-    P v_r26_i5_i_i_i57_i_i_i_i_i_i;
+    u1 v_r15_not_i_i_i71_i_i_i_i_i;
+    u64 v_r17_i3_i_i_i73_i_i_i_i_i;
+    P v_r26_i5_i_i_i75_i_i_i_i_i;
     u64 v_r7_sroa_129_2_i_i_i;
     u64 v_48;
     u64 v_49;
     u32 v_50;
-    u32 v_r2_i_i_i61_i_i_i_i_i_i;
+    u32 v_r2_i_i_i79_i_i_i_i_i;
     u1 v_r59_i476_i_i_i;
     u16 v_r64_i538_i_i_i;
     u64 v_r17_i_i542_i_i_i;
@@ -33937,53 +33937,53 @@ u32 pkcs1_c_private_key_encode(P v_a0, P v_a1, u64 v_a2, P v_a3, u64 v_a4, P v_a
     P v_r40_i475_sroa_7_0_r26_i84_i500_sroa_idx_i_i_i;
     P v_r40_i475_sroa_8_0_r26_i84_i500_sroa_idx_i_i_i;
     u64 v_r7_sroa_129_19_i_i_i;
-    u64 v_r17_i_i_i_i9_i_i_i_i_i;
-    P v_r26_i_i_i_i_i_i_i_i_i;
-    u64 v_r8_i_i_i_i_i_i_i_i_i_i_i_i_i_i_i;
-    u64 v_r9_i_i_i_i_i_i_i_i_i_i_i_i_i_i_i;
-    u64 v_r10_i_i_i_i_i_i_i_i_i_i_i_i_i_i_i;
-    u1 v_r11_i_i_i_i_i_i_i_i_i_i_i_i_i_i_i;
+    u64 v_r17_i_i_i_i93_i_i_i_i_i;
+    P v_r26_i_i_i_i95_i_i_i_i_i;
+    u64 v_r8_i_i_i_i_i_i_i_i_i_i96_i_i_i_i_i;
+    u64 v_r9_i_i_i_i_i_i_i_i_i_i97_i_i_i_i_i;
+    u64 v_r10_i_i_i_i_i_i_i_i_i_i98_i_i_i_i_i;
+    u1 v_r11_i_i_i_i_i_i_i_i_i_i99_i_i_i_i_i;
     u64 v_xtraiter202;
     u1 v_52;
     u64 v_unroll_iter206;
-    u64 v_r0_04_i_i_i_i_i_i_i_i_i_i_i_i_i_i_i;
+    u64 v_r0_04_i_i_i_i_i_i_i_i_i_i114_i_i_i_i_i;
     u64 v_niter207;
-    P v_r20_i_i_i_i_i_i_i_i_i_i_i_i_i_i_i;
-    P v_r24_i_i_i_i_i_i_i_i_i_i_i_i_i_i_i;
-    u8 v_r26_i_i_i_i_i_i_i_i_i_i_i_i_i_i_i;
-    u64 v_r30_i_i_i_i_i_i_i_i_i_i_i_i_i_i_i;
-    P v_r20_i_i_i_i_i_i_i_i_i_i_i_i_i_i_i_1;
-    P v_r24_i_i_i_i_i_i_i_i_i_i_i_i_i_i_i_1;
-    u8 v_r26_i_i_i_i_i_i_i_i_i_i_i_i_i_i_i_1;
-    u64 v_r30_i_i_i_i_i_i_i_i_i_i_i_i_i_i_i_1;
-    P v_r20_i_i_i_i_i_i_i_i_i_i_i_i_i_i_i_2;
-    P v_r24_i_i_i_i_i_i_i_i_i_i_i_i_i_i_i_2;
-    u8 v_r26_i_i_i_i_i_i_i_i_i_i_i_i_i_i_i_2;
-    u64 v_r30_i_i_i_i_i_i_i_i_i_i_i_i_i_i_i_2;
-    P v_r20_i_i_i_i_i_i_i_i_i_i_i_i_i_i_i_3;
-    P v_r24_i_i_i_i_i_i_i_i_i_i_i_i_i_i_i_3;
-    u8 v_r26_i_i_i_i_i_i_i_i_i_i_i_i_i_i_i_3;
-    u64 v_r30_i_i_i_i_i_i_i_i_i_i_i_i_i_i_i_3;
+    P v_r20_i_i_i_i_i_i_i_i_i_i115_i_i_i_i_i;
+    P v_r24_i_i_i_i_i_i_i_i_i_i116_i_i_i_i_i;
+    u8 v_r26_i_i_i_i_i_i_i_i_i_i117_i_i_i_i_i;
+    u64 v_r30_i_i_i_i_i_i_i_i_i_i118_i_i_i_i_i;
+    P v_r20_i_i_i_i_i_i_i_i_i_i115_i_i_i_i_i_1;
+    P v_r24_i_i_i_i_i_i_i_i_i_i116_i_i_i_i_i_1;
+    u8 v_r26_i_i_i_i_i_i_i_i_i_i117_i_i_i_i_i_1;
+    u64 v_r30_i_i_i_i_i_i_i_i_i_i118_i_i_i_i_i_1;
+    P v_r20_i_i_i_i_i_i_i_i_i_i115_i_i_i_i_i_2;
+    P v_r24_i_i_i_i_i_i_i_i_i_i116_i_i_i_i_i_2;
+    u8 v_r26_i_i_i_i_i_i_i_i_i_i117_i_i_i_i_i_2;
+    u64 v_r30_i_i_i_i_i_i_i_i_i_i118_i_i_i_i_i_2;
+    P v_r20_i_i_i_i_i_i_i_i_i_i115_i_i_i_i_i_3;
+    P v_r24_i_i_i_i_i_i_i_i_i_i116_i_i_i_i_i_3;
+    u8 v_r26_i_i_i_i_i_i_i_i_i_i117_i_i_i_i_i_3;
+    u64 v_r30_i_i_i_i_i_i_i_i_i_i118_i_i_i_i_i_3;
     u64 v_niter207_next_3;
     u1 v_niter207_ncmp_3;
     u1 v_lcmp_mod204_not;
-    u64 v_r0_04_i_i_i_i_i_i_i_i_i_i_i_i_i_i_i_epil_init;
-    u64 v_r0_04_i_i_i_i_i_i_i_i_i_i_i_i_i_i_i_epil;
+    u64 v_r0_04_i_i_i_i_i_i_i_i_i_i114_i_i_i_i_i_epil_init;
+    u64 v_r0_04_i_i_i_i_i_i_i_i_i_i114_i_i_i_i_i_epil;
     u64 v_epil_iter203;
-    P v_r20_i_i_i_i_i_i_i_i_i_i_i_i_i_i_i_epil;
-    P v_r24_i_i_i_i_i_i_i_i_i_i_i_i_i_i_i_epil;
-    u8 v_r26_i_i_i_i_i_i_i_i_i_i_i_i_i_i_i_epil;
-    u64 v_r30_i_i_i_i_i_i_i_i_i_i_i_i_i_i_i_epil;
+    P v_r20_i_i_i_i_i_i_i_i_i_i115_i_i_i_i_i_epil;
+    P v_r24_i_i_i_i_i_i_i_i_i_i116_i_i_i_i_i_epil;
+    u8 v_r26_i_i_i_i_i_i_i_i_i_i117_i_i_i_i_i_epil;
+    u64 v_r30_i_i_i_i_i_i_i_i_i_i118_i_i_i_i_i_epil;
     u64 v_epil_iter203_next;
     u1 v_epil_iter203_cmp_not;
-    u1 v_r15_not_i_i_i_i_i_i_i_i;
-    u64 v_r17_i3_i_i_i_i_i_i_i_i;
-    P v_r26_i5_i_i_i_i_i_i_i_i;
+    u1 v_r15_not_i_i_i104_i_i_i_i_i;
+    u64 v_r17_i3_i_i_i106_i_i_i_i_i;
+    P v_r26_i5_i_i_i108_i_i_i_i_i;
     u64 v_r7_sroa_129_3_i_i_i;
     u64 v_53;
     u64 v_54;
     u32 v_55;
-    u32 v_r2_i_i_i_i_i_i_i_i;
+    u32 v_r2_i_i_i112_i_i_i_i_i;
     u1 v_r59_i400_i_i_i;
     u16 v_r64_i462_i_i_i;
     u64 v_r17_i_i466_i_i_i;
@@ -34028,53 +34028,53 @@ u32 pkcs1_c_private_key_encode(P v_a0, P v_a1, u64 v_a2, P v_a3, u64 v_a4, P v_a
     P v_r40_i399_sroa_7_0_r26_i84_i424_sroa_idx_i_i_i;
     P v_r40_i399_sroa_8_0_r26_i84_i424_sroa_idx_i_i_i;
     u64 v_r7_sroa_129_18_i_i_i;
-    u64 v_r17_i_i_i_i15_i_i_i_i_i;
-    P v_r26_i_i_i_i17_i_i_i_i_i;
-    u64 v_r8_i_i_i_i_i_i_i_i_i_i18_i_i_i_i_i;
-    u64 v_r9_i_i_i_i_i_i_i_i_i_i19_i_i_i_i_i;
-    u64 v_r10_i_i_i_i_i_i_i_i_i_i20_i_i_i_i_i;
-    u1 v_r11_i_i_i_i_i_i_i_i_i_i21_i_i_i_i_i;
+    u64 v_r17_i_i_i_i126_i_i_i_i_i;
+    P v_r26_i_i_i_i128_i_i_i_i_i;
+    u64 v_r8_i_i_i_i_i_i_i_i_i_i129_i_i_i_i_i;
+    u64 v_r9_i_i_i_i_i_i_i_i_i_i130_i_i_i_i_i;
+    u64 v_r10_i_i_i_i_i_i_i_i_i_i131_i_i_i_i_i;
+    u1 v_r11_i_i_i_i_i_i_i_i_i_i132_i_i_i_i_i;
     u64 v_xtraiter208;
     u1 v_57;
     u64 v_unroll_iter212;
-    u64 v_r0_04_i_i_i_i_i_i_i_i_i_i36_i_i_i_i_i;
+    u64 v_r0_04_i_i_i_i_i_i_i_i_i_i147_i_i_i_i_i;
     u64 v_niter213;
-    P v_r20_i_i_i_i_i_i_i_i_i_i37_i_i_i_i_i;
-    P v_r24_i_i_i_i_i_i_i_i_i_i38_i_i_i_i_i;
-    u8 v_r26_i_i_i_i_i_i_i_i_i_i39_i_i_i_i_i;
-    u64 v_r30_i_i_i_i_i_i_i_i_i_i40_i_i_i_i_i;
-    P v_r20_i_i_i_i_i_i_i_i_i_i37_i_i_i_i_i_1;
-    P v_r24_i_i_i_i_i_i_i_i_i_i38_i_i_i_i_i_1;
-    u8 v_r26_i_i_i_i_i_i_i_i_i_i39_i_i_i_i_i_1;
-    u64 v_r30_i_i_i_i_i_i_i_i_i_i40_i_i_i_i_i_1;
-    P v_r20_i_i_i_i_i_i_i_i_i_i37_i_i_i_i_i_2;
-    P v_r24_i_i_i_i_i_i_i_i_i_i38_i_i_i_i_i_2;
-    u8 v_r26_i_i_i_i_i_i_i_i_i_i39_i_i_i_i_i_2;
-    u64 v_r30_i_i_i_i_i_i_i_i_i_i40_i_i_i_i_i_2;
-    P v_r20_i_i_i_i_i_i_i_i_i_i37_i_i_i_i_i_3;
-    P v_r24_i_i_i_i_i_i_i_i_i_i38_i_i_i_i_i_3;
-    u8 v_r26_i_i_i_i_i_i_i_i_i_i39_i_i_i_i_i_3;
-    u64 v_r30_i_i_i_i_i_i_i_i_i_i40_i_i_i_i_i_3;
+    P v_r20_i_i_i_i_i_i_i_i_i_i148_i_i_i_i_i;
+    P v_r24_i_i_i_i_i_i_i_i_i_i149_i_i_i_i_i;
+    u8 v_r26_i_i_i_i_i_i_i_i_i_i150_i_i_i_i_i;
+    u64 v_r30_i_i_i_i_i_i_i_i_i_i151_i_i_i_i_i;
+    P v_r20_i_i_i_i_i_i_i_i_i_i148_i_i_i_i_i_1;
+    P v_r24_i_i_i_i_i_i_i_i_i_i149_i_i_i_i_i_1;
+    u8 v_r26_i_i_i_i_i_i_i_i_i_i150_i_i_i_i_i_1;
+    u64 v_r30_i_i_i_i_i_i_i_i_i_i151_i_i_i_i_i_1;
+    P v_r20_i_i_i_i_i_i_i_i_i_i148_i_i_i_i_i_2;
+    P v_r24_i_i_i_i_i_i_i_i_i_i149_i_i_i_i_i_2;
+    u8 v_r26_i_i_i_i_i_i_i_i_i_i150_i_i_i_i_i_2;
+    u64 v_r30_i_i_i_i_i_i_i_i_i_i151_i_i_i_i_i_2;
+    P v_r20_i_i_i_i_i_i_i_i_i_i148_i_i_i_i_i_3;
+    P v_r24_i_i_i_i_i_i_i_i_i_i149_i_i_i_i_i_3;
+    u8 v_r26_i_i_i_i_i_i_i_i_i_i150_i_i_i_i_i_3;
+    u64 v_r30_i_i_i_i_i_i_i_i_i_i151_i_i_i_i_i_3;
     u64 v_niter213_next_3;
     u1 v_niter213_ncmp_3;
     u1 v_lcmp_mod210_not;
-    u64 v_r0_04_i_i_i_i_i_i_i_i_i_i36_i_i_i_i_i_epil_init;
-    u64 v_r0_04_i_i_i_i_i_i_i_i_i_i36_i_i_i_i_i_epil;
+    u64 v_r0_04_i_i_i_i_i_i_i_i_i_i147_i_i_i_i_i_epil_init;
+    u64 v_r0_04_i_i_i_i_i_i_i_i_i_i147_i_i_i_i_i_epil;
     u64 v_epil_iter209;
-    P v_r20_i_i_i_i_i_i_i_i_i_i37_i_i_i_i_i_epil;
-    P v_r24_i_i_i_i_i_i_i_i_i_i38_i_i_i_i_i_epil;
-    u8 v_r26_i_i_i_i_i_i_i_i_i_i39_i_i_i_i_i_epil;
-    u64 v_r30_i_i_i_i_i_i_i_i_i_i40_i_i_i_i_i_epil;
+    P v_r20_i_i_i_i_i_i_i_i_i_i148_i_i_i_i_i_epil;
+    P v_r24_i_i_i_i_i_i_i_i_i_i149_i_i_i_i_i_epil;
+    u8 v_r26_i_i_i_i_i_i_i_i_i_i150_i_i_i_i_i_epil;
+    u64 v_r30_i_i_i_i_i_i_i_i_i_i151_i_i_i_i_i_epil;
     u64 v_epil_iter209_next;
     u1 v_epil_iter209_cmp_not;
-    u1 v_r15_not_i_i_i26_i_i_i_i_i;
-    u64 v_r17_i3_i_i_i28_i_i_i_i_i;
-    P v_r26_i5_i_i_i30_i_i_i_i_i;
+    u1 v_r15_not_i_i_i137_i_i_i_i_i;
+    u64 v_r17_i3_i_i_i139_i_i_i_i_i;
+    P v_r26_i5_i_i_i141_i_i_i_i_i;
     u64 v_r7_sroa_129_4_i_i_i;
     u64 v_58;
     u64 v_59;
     u32 v_60;
-    u32 v_r2_i_i_i34_i_i_i_i_i;
+    u32 v_r2_i_i_i145_i_i_i_i_i;
     u1 v_r59_i324_i_i_i;
     u16 v_r64_i386_i_i_i;
     u64 v_r17_i_i390_i_i_i;
@@ -34119,53 +34119,53 @@ u32 pkcs1_c_private_key_encode(P v_a0, P v_a1, u64 v_a2, P v_a3, u64 v_a4, P v_a
     P v_r40_i323_sroa_7_0_r26_i84_i348_sroa_idx_i_i_i;
     P v_r40_i323_sroa_8_0_r26_i84_i348_sroa_idx_i_i_i;
     u64 v_r7_sroa_129_17_i_i_i;
-    u64 v_r17_i_i_i_i48_i_i_i_i_i;
-    P v_r26_i_i_i_i50_i_i_i_i_i;
-    u64 v_r8_i_i_i_i_i_i_i_i_i_i51_i_i_i_i_i;
-    u64 v_r9_i_i_i_i_i_i_i_i_i_i52_i_i_i_i_i;
-    u64 v_r10_i_i_i_i_i_i_i_i_i_i53_i_i_i_i_i;
-    u1 v_r11_i_i_i_i_i_i_i_i_i_i54_i_i_i_i_i;
+    u64 v_r17_i_i_i_i159_i_i_i_i_i;
+    P v_r26_i_i_i_i161_i_i_i_i_i;
+    u64 v_r8_i_i_i_i_i_i_i_i_i_i162_i_i_i_i_i;
+    u64 v_r9_i_i_i_i_i_i_i_i_i_i163_i_i_i_i_i;
+    u64 v_r10_i_i_i_i_i_i_i_i_i_i164_i_i_i_i_i;
+    u1 v_r11_i_i_i_i_i_i_i_i_i_i165_i_i_i_i_i;
     u64 v_xtraiter214;
     u1 v_62;
     u64 v_unroll_iter218;
-    u64 v_r0_04_i_i_i_i_i_i_i_i_i_i69_i_i_i_i_i;
+    u64 v_r0_04_i_i_i_i_i_i_i_i_i_i180_i_i_i_i_i;
     u64 v_niter219;
-    P v_r20_i_i_i_i_i_i_i_i_i_i70_i_i_i_i_i;
-    P v_r24_i_i_i_i_i_i_i_i_i_i71_i_i_i_i_i;
-    u8 v_r26_i_i_i_i_i_i_i_i_i_i72_i_i_i_i_i;
-    u64 v_r30_i_i_i_i_i_i_i_i_i_i73_i_i_i_i_i;
-    P v_r20_i_i_i_i_i_i_i_i_i_i70_i_i_i_i_i_1;
-    P v_r24_i_i_i_i_i_i_i_i_i_i71_i_i_i_i_i_1;
-    u8 v_r26_i_i_i_i_i_i_i_i_i_i72_i_i_i_i_i_1;
-    u64 v_r30_i_i_i_i_i_i_i_i_i_i73_i_i_i_i_i_1;
-    P v_r20_i_i_i_i_i_i_i_i_i_i70_i_i_i_i_i_2;
-    P v_r24_i_i_i_i_i_i_i_i_i_i71_i_i_i_i_i_2;
-    u8 v_r26_i_i_i_i_i_i_i_i_i_i72_i_i_i_i_i_2;
-    u64 v_r30_i_i_i_i_i_i_i_i_i_i73_i_i_i_i_i_2;
-    P v_r20_i_i_i_i_i_i_i_i_i_i70_i_i_i_i_i_3;
-    P v_r24_i_i_i_i_i_i_i_i_i_i71_i_i_i_i_i_3;
-    u8 v_r26_i_i_i_i_i_i_i_i_i_i72_i_i_i_i_i_3;
-    u64 v_r30_i_i_i_i_i_i_i_i_i_i73_i_i_i_i_i_3;
+    P v_r20_i_i_i_i_i_i_i_i_i_i181_i_i_i_i_i;
+    P v_r24_i_i_i_i_i_i_i_i_i_i182_i_i_i_i_i;
+    u8 v_r26_i_i_i_i_i_i_i_i_i_i183_i_i_i_i_i;
+    u64 v_r30_i_i_i_i_i_i_i_i_i_i184_i_i_i_i_i;
+    P v_r20_i_i_i_i_i_i_i_i_i_i181_i_i_i_i_i_1;
+    P v_r24_i_i_i_i_i_i_i_i_i_i182_i_i_i_i_i_1;
+    u8 v_r26_i_i_i_i_i_i_i_i_i_i183_i_i_i_i_i_1;
+    u64 v_r30_i_i_i_i_i_i_i_i_i_i184_i_i_i_i_i_1;
+    P v_r20_i_i_i_i_i_i_i_i_i_i181_i_i_i_i_i_2;
+    P v_r24_i_i_i_i_i_i_i_i_i_i182_i_i_i_i_i_2;
+    u8 v_r26_i_i_i_i_i_i_i_i_i_i183_i_i_i_i_i_2;
+    u64 v_r30_i_i_i_i_i_i_i_i_i_i184_i_i_i_i_i_2;
+    P v_r20_i_i_i_i_i_i_i_i_i_i181_i_i_i_i_i_3;
+    P v_r24_i_i_i_i_i_i_i_i_i_i182_i_i_i_i_i_3;
+    u8 v_r26_i_i_i_i_i_i_i_i_i_i183_i_i_i_i_i_3;
+    u64 v_r30_i_i_i_i_i_i_i_i_i_i184_i_i_i_i_i_3;
     u64 v_niter219_next_3;
     u1 v_niter219_ncmp_3;
     u1 v_lcmp_mod216_not;
-    u64 v_r0_04_i_i_i_i_i_i_i_i_i_i69_i_i_i_i_i_epil_init;
-    u64 v_r0_04_i_i_i_i_i_i_i_i_i_i69_i_i_i_i_i_epil;
+    u64 v_r0_04_i_i_i_i_i_i_i_i_i_i180_i_i_i_i_i_epil_init;
+    u64 v_r0_04_i_i_i_i_i_i_i_i_i_i180_i_i_i_i_i_epil;
     u64 v_epil_iter215;
-    P v_r20_i_i_i_i_i_i_i_i_i_i70_i_i_i_i_i_epil;
-    P v_r24_i_i_i_i_i_i_i_i_i_i71_i_i_i_i_i_epil;
-    u8 v_r26_i_i_i_i_i_i_i_i_i_i72_i_i_i_i_i_epil;
-    u64 v_r30_i_i_i_i_i_i_i_i_i_i73_i_i_i_i_i_epil;
+    P v_r20_i_i_i_i_i_i_i_i_i_i181_i_i_i_i_i_epil;
+    P v_r24_i_i_i_i_i_i_i_i_i_i182_i_i_i_i_i_epil;
+    u8 v_r26_i_i_i_i_i_i_i_i_i_i183_i_i_i_i_i_epil;
+    u64 v_r30_i_i_i_i_i_i_i_i_i_i184_i_i_i_i_i_epil;
     u64 v_epil_iter215_next;
     u1 v_epil_iter215_cmp_not;
-    u1 v_r15_not_i_i_i59_i_i_i_i_i;
-    u64 v_r17_i3_i_i_i61_i_i_i_i_i;
-    P v_r26_i5_i_i_i63_i_i_i_i_i;
+    u1 v_r15_not_i_i_i170_i_i_i_i_i;
+    u64 v_r17_i3_i_i_i172_i_i_i_i_i;
+    P v_r26_i5_i_i_i174_i_i_i_i_i;
     u64 v_r7_sroa_129_5_i_i_i;
     u64 v_63;
     u64 v_64;
     u32 v_65;
-    u32 v_r2_i_i_i67_i_i_i_i_i;
+    u32 v_r2_i_i_i178_i_i_i_i_i;
     u1 v_r59_i248_i_i_i;
     u16 v_r64_i310_i_i_i;
     u64 v_r17_i_i314_i_i_i;
@@ -34210,53 +34210,53 @@ u32 pkcs1_c_private_key_encode(P v_a0, P v_a1, u64 v_a2, P v_a3, u64 v_a4, P v_a
     P v_r40_i247_sroa_7_0_r26_i84_i272_sroa_idx_i_i_i;
     P v_r40_i247_sroa_8_0_r26_i84_i272_sroa_idx_i_i_i;
     u64 v_r7_sroa_129_16_i_i_i;
-    u64 v_r17_i_i_i_i81_i_i_i_i_i;
-    P v_r26_i_i_i_i83_i_i_i_i_i;
-    u64 v_r8_i_i_i_i_i_i_i_i_i_i84_i_i_i_i_i;
-    u64 v_r9_i_i_i_i_i_i_i_i_i_i85_i_i_i_i_i;
-    u64 v_r10_i_i_i_i_i_i_i_i_i_i86_i_i_i_i_i;
-    u1 v_r11_i_i_i_i_i_i_i_i_i_i87_i_i_i_i_i;
+    u64 v_r17_i_i_i_i192_i_i_i_i_i;
+    P v_r26_i_i_i_i194_i_i_i_i_i;
+    u64 v_r8_i_i_i_i_i_i_i_i_i_i195_i_i_i_i_i;
+    u64 v_r9_i_i_i_i_i_i_i_i_i_i196_i_i_i_i_i;
+    u64 v_r10_i_i_i_i_i_i_i_i_i_i197_i_i_i_i_i;
+    u1 v_r11_i_i_i_i_i_i_i_i_i_i198_i_i_i_i_i;
     u64 v_xtraiter220;
     u1 v_67;
     u64 v_unroll_iter224;
-    u64 v_r0_04_i_i_i_i_i_i_i_i_i_i102_i_i_i_i_i;
+    u64 v_r0_04_i_i_i_i_i_i_i_i_i_i213_i_i_i_i_i;
     u64 v_niter225;
-    P v_r20_i_i_i_i_i_i_i_i_i_i103_i_i_i_i_i;
-    P v_r24_i_i_i_i_i_i_i_i_i_i104_i_i_i_i_i;
-    u8 v_r26_i_i_i_i_i_i_i_i_i_i105_i_i_i_i_i;
-    u64 v_r30_i_i_i_i_i_i_i_i_i_i106_i_i_i_i_i;
-    P v_r20_i_i_i_i_i_i_i_i_i_i103_i_i_i_i_i_1;
-    P v_r24_i_i_i_i_i_i_i_i_i_i104_i_i_i_i_i_1;
-    u8 v_r26_i_i_i_i_i_i_i_i_i_i105_i_i_i_i_i_1;
-    u64 v_r30_i_i_i_i_i_i_i_i_i_i106_i_i_i_i_i_1;
-    P v_r20_i_i_i_i_i_i_i_i_i_i103_i_i_i_i_i_2;
-    P v_r24_i_i_i_i_i_i_i_i_i_i104_i_i_i_i_i_2;
-    u8 v_r26_i_i_i_i_i_i_i_i_i_i105_i_i_i_i_i_2;
-    u64 v_r30_i_i_i_i_i_i_i_i_i_i106_i_i_i_i_i_2;
-    P v_r20_i_i_i_i_i_i_i_i_i_i103_i_i_i_i_i_3;
-    P v_r24_i_i_i_i_i_i_i_i_i_i104_i_i_i_i_i_3;
-    u8 v_r26_i_i_i_i_i_i_i_i_i_i105_i_i_i_i_i_3;
-    u64 v_r30_i_i_i_i_i_i_i_i_i_i106_i_i_i_i_i_3;
+    P v_r20_i_i_i_i_i_i_i_i_i_i214_i_i_i_i_i;
+    P v_r24_i_i_i_i_i_i_i_i_i_i215_i_i_i_i_i;
+    u8 v_r26_i_i_i_i_i_i_i_i_i_i216_i_i_i_i_i;
+    u64 v_r30_i_i_i_i_i_i_i_i_i_i217_i_i_i_i_i;
+    P v_r20_i_i_i_i_i_i_i_i_i_i214_i_i_i_i_i_1;
+    P v_r24_i_i_i_i_i_i_i_i_i_i215_i_i_i_i_i_1;
+    u8 v_r26_i_i_i_i_i_i_i_i_i_i216_i_i_i_i_i_1;
+    u64 v_r30_i_i_i_i_i_i_i_i_i_i217_i_i_i_i_i_1;
+    P v_r20_i_i_i_i_i_i_i_i_i_i214_i_i_i_i_i_2;
+    P v_r24_i_i_i_i_i_i_i_i_i_i215_i_i_i_i_i_2;
+    u8 v_r26_i_i_i_i_i_i_i_i_i_i216_i_i_i_i_i_2;
+    u64 v_r30_i_i_i_i_i_i_i_i_i_i217_i_i_i_i_i_2;
+    P v_r20_i_i_i_i_i_i_i_i_i_i214_i_i_i_i_i_3;
+    P v_r24_i_i_i_i_i_i_i_i_i_i215_i_i_i_i_i_3;
+    u8 v_r26_i_i_i_i_i_i_i_i_i_i216_i_i_i_i_i_3;
+    u64 v_r30_i_i_i_i_i_i_i_i_i_i217_i_i_i_i_i_3;
     u64 v_niter225_next_3;
     u1 v_niter225_ncmp_3;
     u1 v_lcmp_mod222_not;
-    u64 v_r0_04_i_i_i_i_i_i_i_i_i_i102_i_i_i_i_i_epil_init;
-    u64 v_r0_04_i_i_i_i_i_i_i_i_i_i102_i_i_i_i_i_epil;
+    u64 v_r0_04_i_i_i_i_i_i_i_i_i_i213_i_i_i_i_i_epil_init;
+    u64 v_r0_04_i_i_i_i_i_i_i_i_i_i213_i_i_i_i_i_epil;
     u64 v_epil_iter221;
-    P v_r20_i_i_i_i_i_i_i_i_i_i103_i_i_i_i_i_epil;
-    P v_r24_i_i_i_i_i_i_i_i_i_i104_i_i_i_i_i_epil;
-    u8 v_r26_i_i_i_i_i_i_i_i_i_i105_i_i_i_i_i_epil;
-    u64 v_r30_i_i_i_i_i_i_i_i_i_i106_i_i_i_i_i_epil;
+    P v_r20_i_i_i_i_i_i_i_i_i_i214_i_i_i_i_i_epil;
+    P v_r24_i_i_i_i_i_i_i_i_i_i215_i_i_i_i_i_epil;
+    u8 v_r26_i_i_i_i_i_i_i_i_i_i216_i_i_i_i_i_epil;
+    u64 v_r30_i_i_i_i_i_i_i_i_i_i217_i_i_i_i_i_epil;
     u64 v_epil_iter221_next;
     u1 v_epil_iter221_cmp_not;
-    u1 v_r15_not_i_i_i92_i_i_i_i_i;
-    u64 v_r17_i3_i_i_i94_i_i_i_i_i;
-    P v_r26_i5_i_i_i96_i_i_i_i_i;
+    u1 v_r15_not_i_i_i203_i_i_i_i_i;
+    u64 v_r17_i3_i_i_i205_i_i_i_i_i;
+    P v_r26_i5_i_i_i207_i_i_i_i_i;
     u64 v_r7_sroa_129_6_i_i_i;
     u64 v_68;
     u64 v_69;
     u32 v_70;
-    u32 v_r2_i_i_i100_i_i_i_i_i;
+    u32 v_r2_i_i_i211_i_i_i_i_i;
     u1 v_r59_i172_i_i_i;
     u16 v_r64_i234_i_i_i;
     u64 v_r17_i_i238_i_i_i;
@@ -34301,53 +34301,53 @@ u32 pkcs1_c_private_key_encode(P v_a0, P v_a1, u64 v_a2, P v_a3, u64 v_a4, P v_a
     P v_r40_i171_sroa_7_0_r26_i84_i196_sroa_idx_i_i_i;
     P v_r40_i171_sroa_8_0_r26_i84_i196_sroa_idx_i_i_i;
     u64 v_r7_sroa_129_15_i_i_i;
-    u64 v_r17_i_i_i_i114_i_i_i_i_i;
-    P v_r26_i_i_i_i116_i_i_i_i_i;
-    u64 v_r8_i_i_i_i_i_i_i_i_i_i117_i_i_i_i_i;
-    u64 v_r9_i_i_i_i_i_i_i_i_i_i118_i_i_i_i_i;
-    u64 v_r10_i_i_i_i_i_i_i_i_i_i119_i_i_i_i_i;
-    u1 v_r11_i_i_i_i_i_i_i_i_i_i120_i_i_i_i_i;
+    u64 v_r17_i_i_i_i225_i_i_i_i_i;
+    P v_r26_i_i_i_i227_i_i_i_i_i;
+    u64 v_r8_i_i_i_i_i_i_i_i_i_i228_i_i_i_i_i;
+    u64 v_r9_i_i_i_i_i_i_i_i_i_i229_i_i_i_i_i;
+    u64 v_r10_i_i_i_i_i_i_i_i_i_i230_i_i_i_i_i;
+    u1 v_r11_i_i_i_i_i_i_i_i_i_i231_i_i_i_i_i;
     u64 v_xtraiter226;
     u1 v_72;
     u64 v_unroll_iter230;
-    u64 v_r0_04_i_i_i_i_i_i_i_i_i_i135_i_i_i_i_i;
+    u64 v_r0_04_i_i_i_i_i_i_i_i_i_i246_i_i_i_i_i;
     u64 v_niter231;
-    P v_r20_i_i_i_i_i_i_i_i_i_i136_i_i_i_i_i;
-    P v_r24_i_i_i_i_i_i_i_i_i_i137_i_i_i_i_i;
-    u8 v_r26_i_i_i_i_i_i_i_i_i_i138_i_i_i_i_i;
-    u64 v_r30_i_i_i_i_i_i_i_i_i_i139_i_i_i_i_i;
-    P v_r20_i_i_i_i_i_i_i_i_i_i136_i_i_i_i_i_1;
-    P v_r24_i_i_i_i_i_i_i_i_i_i137_i_i_i_i_i_1;
-    u8 v_r26_i_i_i_i_i_i_i_i_i_i138_i_i_i_i_i_1;
-    u64 v_r30_i_i_i_i_i_i_i_i_i_i139_i_i_i_i_i_1;
-    P v_r20_i_i_i_i_i_i_i_i_i_i136_i_i_i_i_i_2;
-    P v_r24_i_i_i_i_i_i_i_i_i_i137_i_i_i_i_i_2;
-    u8 v_r26_i_i_i_i_i_i_i_i_i_i138_i_i_i_i_i_2;
-    u64 v_r30_i_i_i_i_i_i_i_i_i_i139_i_i_i_i_i_2;
-    P v_r20_i_i_i_i_i_i_i_i_i_i136_i_i_i_i_i_3;
-    P v_r24_i_i_i_i_i_i_i_i_i_i137_i_i_i_i_i_3;
-    u8 v_r26_i_i_i_i_i_i_i_i_i_i138_i_i_i_i_i_3;
-    u64 v_r30_i_i_i_i_i_i_i_i_i_i139_i_i_i_i_i_3;
+    P v_r20_i_i_i_i_i_i_i_i_i_i247_i_i_i_i_i;
+    P v_r24_i_i_i_i_i_i_i_i_i_i248_i_i_i_i_i;
+    u8 v_r26_i_i_i_i_i_i_i_i_i_i249_i_i_i_i_i;
+    u64 v_r30_i_i_i_i_i_i_i_i_i_i250_i_i_i_i_i;
+    P v_r20_i_i_i_i_i_i_i_i_i_i247_i_i_i_i_i_1;
+    P v_r24_i_i_i_i_i_i_i_i_i_i248_i_i_i_i_i_1;
+    u8 v_r26_i_i_i_i_i_i_i_i_i_i249_i_i_i_i_i_1;
+    u64 v_r30_i_i_i_i_i_i_i_i_i_i250_i_i_i_i_i_1;
+    P v_r20_i_i_i_i_i_i_i_i_i_i247_i_i_i_i_i_2;
+    P v_r24_i_i_i_i_i_i_i_i_i_i248_i_i_i_i_i_2;
+    u8 v_r26_i_i_i_i_i_i_i_i_i_i249_i_i_i_i_i_2;
+    u64 v_r30_i_i_i_i_i_i_i_i_i_i250_i_i_i_i_i_2;
+    P v_r20_i_i_i_i_i_i_i_i_i_i247_i_i_i_i_i_3;
+    P v_r24_i_i_i_i_i_i_i_i_i_i248_i_i_i_i_i_3;
+    u8 v_r26_i_i_i_i_i_i_i_i_i_i249_i_i_i_i_i_3;
+    u64 v_r30_i_i_i_i_i_i_i_i_i_i250_i_i_i_i_i_3;
     u64 v_niter231_next_3;
     u1 v_niter231_ncmp_3;
     u1 v_lcmp_mod228_not;
-    u64 v_r0_04_i_i_i_i_i_i_i_i_i_i135_i_i_i_i_i_epil_init;
-    u64 v_r0_04_i_i_i_i_i_i_i_i_i_i135_i_i_i_i_i_epil;
+    u64 v_r0_04_i_i_i_i_i_i_i_i_i_i246_i_i_i_i_i_epil_init;
+    u64 v_r0_04_i_i_i_i_i_i_i_i_i_i246_i_i_i_i_i_epil;
     u64 v_epil_iter227;
-    P v_r20_i_i_i_i_i_i_i_i_i_i136_i_i_i_i_i_epil;
-    P v_r24_i_i_i_i_i_i_i_i_i_i137_i_i_i_i_i_epil;
-    u8 v_r26_i_i_i_i_i_i_i_i_i_i138_i_i_i_i_i_epil;
-    u64 v_r30_i_i_i_i_i_i_i_i_i_i139_i_i_i_i_i_epil;
+    P v_r20_i_i_i_i_i_i_i_i_i_i247_i_i_i_i_i_epil;
+    P v_r24_i_i_i_i_i_i_i_i_i_i248_i_i_i_i_i_epil;
+    u8 v_r26_i_i_i_i_i_i_i_i_i_i249_i_i_i_i_i_epil;
+    u64 v_r30_i_i_i_i_i_i_i_i_i_i250_i_i_i_i_i_epil;
     u64 v_epil_iter227_next;
     u1 v_epil_iter227_cmp_not;
-    u1 v_r15_not_i_i_i125_i_i_i_i_i;
-    u64 v_r17_i3_i_i_i127_i_i_i_i_i;
-    P v_r26_i5_i_i_i129_i_i_i_i_i;
+    u1 v_r15_not_i_i_i236_i_i_i_i_i;
+    u64 v_r17_i3_i_i_i238_i_i_i_i_i;
+    P v_r26_i5_i_i_i240_i_i_i_i_i;
     u64 v_r7_sroa_129_12_i_i_i;
     u64 v_73;
     u64 v_74;
     u32 v_75;
-    u32 v_r2_i_i_i133_i_i_i_i_i;
+    u32 v_r2_i_i_i244_i_i_i_i_i;
     u1 v_r59_i96_i_i_i;
     u16 v_r64_i158_i_i_i;
     u64 v_r17_i_i162_i_i_i;
@@ -34493,21 +34493,21 @@ L_join_5_i_i_i_i:;
     v_r31_i_i_i_i = v_r3_sroa_0_08_i_i_i_i + 1;
     v_r34_i_i_i_i = (u64)((u64)(v_r3_sroa_6_07_i_i_i_i) + (u64)(18446744073709551615ull));
     v_r14_i_i_i_i = v_r34_i_i_i_i > 1u;
-    if (v_r14_i_i_i_i) { p_v_r3_sroa_0_08_i_i_i_i = v_r31_i_i_i_i; p_v_r3_sroa_6_07_i_i_i_i = v_r34_i_i_i_i; goto L_then_3_i_i_i_i; } else { p_v_r1_sroa_0_0_copyload_i_i_i111_i_i_i_i_ph_i = v_scevgep_i_i_i_i; goto L_arm_1_ithread_pre_split_i; }
+    if (v_r14_i_i_i_i) { p_v_r3_sroa_0_08_i_i_i_i = v_r31_i_i_i_i; p_v_r3_sroa_6_07_i_i_i_i = v_r34_i_i_i_i; goto L_then_3_i_i_i_i; } else { p_v_r1_sroa_0_0_copyload_i_i_i222_i_i_i_i_ph_i = v_scevgep_i_i_i_i; goto L_arm_1_ithread_pre_split_i; }
 L_der_core_integer_uint_strip_exit_i_i_i:;
     v_r7_i_i_i_i = v_r25_sroa_3_0_copyload_i_i == 0u;
-    if (v_r7_i_i_i_i) { p_v_r11_sroa_22_0_ph_i = 4u; goto L_pkcs1_c_status_status_exit_i; } else { p_v_r1_sroa_0_0_copyload_i_i_i111_i_i_i_i_ph_i = v_r25_sroa_0_0_copyload_i_i; goto L_arm_1_ithread_pre_split_i; }
+    if (v_r7_i_i_i_i) { p_v_r11_sroa_22_0_ph_i = 4u; goto L_pkcs1_c_status_status_exit_i; } else { p_v_r1_sroa_0_0_copyload_i_i_i222_i_i_i_i_ph_i = v_r25_sroa_0_0_copyload_i_i; goto L_arm_1_ithread_pre_split_i; }
 L_join_3_i397_i_i:;
     v_r49_i398_i_i = v_r3_sroa_6_07_i_i_i_i > 4294967295ull;
-    if (v_r49_i398_i_i) { p_v_r11_sroa_22_0_ph_i = 8u; goto L_pkcs1_c_status_status_exit_i; } else { p_v_r20_i288_i_i = v_r21_i_i_i_i; p_v_r1_sroa_0_0_copyload_i_i_i111_i_i_i_i_i = v_r3_sroa_0_08_i_i_i_i; p_v_r1_sroa_3_0_copyload_i_i_i113_i_i_i_i_i = v_r3_sroa_6_07_i_i_i_i; goto L_arm_1_i_i; }
+    if (v_r49_i398_i_i) { p_v_r11_sroa_22_0_ph_i = 8u; goto L_pkcs1_c_status_status_exit_i; } else { p_v_r20_i288_i_i = v_r21_i_i_i_i; p_v_r1_sroa_0_0_copyload_i_i_i222_i_i_i_i_i = v_r3_sroa_0_08_i_i_i_i; p_v_r1_sroa_3_0_copyload_i_i_i224_i_i_i_i_i = v_r3_sroa_6_07_i_i_i_i; goto L_arm_1_i_i; }
 L_arm_1_ithread_pre_split_i:;
-    v_r1_sroa_0_0_copyload_i_i_i111_i_i_i_i_ph_i = p_v_r1_sroa_0_0_copyload_i_i_i111_i_i_i_i_ph_i;
-    v_r20_i288_i_pr_i = get_u8(v_r1_sroa_0_0_copyload_i_i_i111_i_i_i_i_ph_i);
-    { p_v_r20_i288_i_i = v_r20_i288_i_pr_i; p_v_r1_sroa_0_0_copyload_i_i_i111_i_i_i_i_i = v_r1_sroa_0_0_copyload_i_i_i111_i_i_i_i_ph_i; p_v_r1_sroa_3_0_copyload_i_i_i113_i_i_i_i_i = 1u; goto L_arm_1_i_i; }
+    v_r1_sroa_0_0_copyload_i_i_i222_i_i_i_i_ph_i = p_v_r1_sroa_0_0_copyload_i_i_i222_i_i_i_i_ph_i;
+    v_r20_i288_i_pr_i = get_u8(v_r1_sroa_0_0_copyload_i_i_i222_i_i_i_i_ph_i);
+    { p_v_r20_i288_i_i = v_r20_i288_i_pr_i; p_v_r1_sroa_0_0_copyload_i_i_i222_i_i_i_i_i = v_r1_sroa_0_0_copyload_i_i_i222_i_i_i_i_ph_i; p_v_r1_sroa_3_0_copyload_i_i_i224_i_i_i_i_i = 1u; goto L_arm_1_i_i; }
 L_arm_1_i_i:;
     v_r20_i288_i_i = p_v_r20_i288_i_i;
-    v_r1_sroa_0_0_copyload_i_i_i111_i_i_i_i_i = p_v_r1_sroa_0_0_copyload_i_i_i111_i_i_i_i_i;
-    v_r1_sroa_3_0_copyload_i_i_i113_i_i_i_i_i = p_v_r1_sroa_3_0_copyload_i_i_i113_i_i_i_i_i;
+    v_r1_sroa_0_0_copyload_i_i_i222_i_i_i_i_i = p_v_r1_sroa_0_0_copyload_i_i_i222_i_i_i_i_i;
+    v_r1_sroa_3_0_copyload_i_i_i224_i_i_i_i_i = p_v_r1_sroa_3_0_copyload_i_i_i224_i_i_i_i_i;
     v_r20_i288_lobit_i_i = (u8)((u32)(v_r20_i288_i_i) >> (u32)((7u & 31)));
     v_i_i_i = (u64)v_r20_i288_lobit_i_i;
     v_r106_i_i = v_a0 + 16;
@@ -34530,21 +34530,21 @@ L_join_5_i_i453_i_i:;
     v_r31_i_i454_i_i = v_r3_sroa_0_08_i_i442_i_i + 1;
     v_r34_i_i455_i_i = (u64)((u64)(v_r3_sroa_6_07_i_i443_i_i) + (u64)(18446744073709551615ull));
     v_r14_i_i456_i_i = v_r34_i_i455_i_i > 1u;
-    if (v_r14_i_i456_i_i) { p_v_r3_sroa_0_08_i_i442_i_i = v_r31_i_i454_i_i; p_v_r3_sroa_6_07_i_i443_i_i = v_r34_i_i455_i_i; goto L_then_3_i_i441_i_i; } else { p_v_r1_sroa_0_0_copyload_i_i_i78_i_i_i_i_ph_i = v_scevgep_i_i440_i_i; goto L_arm_5_ithread_pre_split_i; }
+    if (v_r14_i_i456_i_i) { p_v_r3_sroa_0_08_i_i442_i_i = v_r31_i_i454_i_i; p_v_r3_sroa_6_07_i_i443_i_i = v_r34_i_i455_i_i; goto L_then_3_i_i441_i_i; } else { p_v_r1_sroa_0_0_copyload_i_i_i189_i_i_i_i_ph_i = v_scevgep_i_i440_i_i; goto L_arm_5_ithread_pre_split_i; }
 L_der_core_integer_uint_strip_exit_i427_i_i:;
     v_r7_i_i428_i_i = v_r31_sroa_3_0_copyload_i_i == 0u;
-    if (v_r7_i_i428_i_i) { p_v_r11_sroa_22_0_ph_i = 4u; goto L_pkcs1_c_status_status_exit_i; } else { p_v_r1_sroa_0_0_copyload_i_i_i78_i_i_i_i_ph_i = v_r31_sroa_0_0_copyload_i_i; goto L_arm_5_ithread_pre_split_i; }
+    if (v_r7_i_i428_i_i) { p_v_r11_sroa_22_0_ph_i = 4u; goto L_pkcs1_c_status_status_exit_i; } else { p_v_r1_sroa_0_0_copyload_i_i_i189_i_i_i_i_ph_i = v_r31_sroa_0_0_copyload_i_i; goto L_arm_5_ithread_pre_split_i; }
 L_join_3_i446_i_i:;
     v_r49_i447_i_i = v_r3_sroa_6_07_i_i443_i_i > 4294967295ull;
-    if (v_r49_i447_i_i) { p_v_r11_sroa_22_0_ph_i = 8u; goto L_pkcs1_c_status_status_exit_i; } else { p_v_r20_i295_i_i = v_r21_i_i444_i_i; p_v_r1_sroa_0_0_copyload_i_i_i78_i_i_i_i_i = v_r3_sroa_0_08_i_i442_i_i; p_v_r1_sroa_3_0_copyload_i_i_i80_i_i_i_i_i = v_r3_sroa_6_07_i_i443_i_i; goto L_arm_5_i_i; }
+    if (v_r49_i447_i_i) { p_v_r11_sroa_22_0_ph_i = 8u; goto L_pkcs1_c_status_status_exit_i; } else { p_v_r20_i295_i_i = v_r21_i_i444_i_i; p_v_r1_sroa_0_0_copyload_i_i_i189_i_i_i_i_i = v_r3_sroa_0_08_i_i442_i_i; p_v_r1_sroa_3_0_copyload_i_i_i191_i_i_i_i_i = v_r3_sroa_6_07_i_i443_i_i; goto L_arm_5_i_i; }
 L_arm_5_ithread_pre_split_i:;
-    v_r1_sroa_0_0_copyload_i_i_i78_i_i_i_i_ph_i = p_v_r1_sroa_0_0_copyload_i_i_i78_i_i_i_i_ph_i;
-    v_r20_i295_i_pr_i = get_u8(v_r1_sroa_0_0_copyload_i_i_i78_i_i_i_i_ph_i);
-    { p_v_r20_i295_i_i = v_r20_i295_i_pr_i; p_v_r1_sroa_0_0_copyload_i_i_i78_i_i_i_i_i = v_r1_sroa_0_0_copyload_i_i_i78_i_i_i_i_ph_i; p_v_r1_sroa_3_0_copyload_i_i_i80_i_i_i_i_i = 1u; goto L_arm_5_i_i; }
+    v_r1_sroa_0_0_copyload_i_i_i189_i_i_i_i_ph_i = p_v_r1_sroa_0_0_copyload_i_i_i189_i_i_i_i_ph_i;
+    v_r20_i295_i_pr_i = get_u8(v_r1_sroa_0_0_copyload_i_i_i189_i_i_i_i_ph_i);
+    { p_v_r20_i295_i_i = v_r20_i295_i_pr_i; p_v_r1_sroa_0_0_copyload_i_i_i189_i_i_i_i_i = v_r1_sroa_0_0_copyload_i_i_i189_i_i_i_i_ph_i; p_v_r1_sroa_3_0_copyload_i_i_i191_i_i_i_i_i = 1u; goto L_arm_5_i_i; }
 L_arm_5_i_i:;
     v_r20_i295_i_i = p_v_r20_i295_i_i;
-    v_r1_sroa_0_0_copyload_i_i_i78_i_i_i_i_i = p_v_r1_sroa_0_0_copyload_i_i_i78_i_i_i_i_i;
-    v_r1_sroa_3_0_copyload_i_i_i80_i_i_i_i_i = p_v_r1_sroa_3_0_copyload_i_i_i80_i_i_i_i_i;
+    v_r1_sroa_0_0_copyload_i_i_i189_i_i_i_i_i = p_v_r1_sroa_0_0_copyload_i_i_i189_i_i_i_i_i;
+    v_r1_sroa_3_0_copyload_i_i_i191_i_i_i_i_i = p_v_r1_sroa_3_0_copyload_i_i_i191_i_i_i_i_i;
     v_r20_i295_lobit_i_i = (u8)((u32)(v_r20_i295_i_i) >> (u32)((7u & 31)));
     v_i297_i_i = (u64)v_r20_i295_lobit_i_i;
     v_r135_i_i = v_a0 + 32;
@@ -34567,21 +34567,21 @@ L_join_5_i_i547_i_i:;
     v_r31_i_i548_i_i = v_r3_sroa_0_08_i_i536_i_i + 1;
     v_r34_i_i549_i_i = (u64)((u64)(v_r3_sroa_6_07_i_i537_i_i) + (u64)(18446744073709551615ull));
     v_r14_i_i550_i_i = v_r34_i_i549_i_i > 1u;
-    if (v_r14_i_i550_i_i) { p_v_r3_sroa_0_08_i_i536_i_i = v_r31_i_i548_i_i; p_v_r3_sroa_6_07_i_i537_i_i = v_r34_i_i549_i_i; goto L_then_3_i_i535_i_i; } else { p_v_r1_sroa_0_0_copyload_i_i_i45_i_i_i_i_ph_i = v_scevgep_i_i534_i_i; goto L_arm_8_ithread_pre_split_i; }
+    if (v_r14_i_i550_i_i) { p_v_r3_sroa_0_08_i_i536_i_i = v_r31_i_i548_i_i; p_v_r3_sroa_6_07_i_i537_i_i = v_r34_i_i549_i_i; goto L_then_3_i_i535_i_i; } else { p_v_r1_sroa_0_0_copyload_i_i_i156_i_i_i_i_ph_i = v_scevgep_i_i534_i_i; goto L_arm_8_ithread_pre_split_i; }
 L_der_core_integer_uint_strip_exit_i521_i_i:;
     v_r7_i_i522_i_i = v_r37_sroa_3_0_copyload_i_i == 0u;
-    if (v_r7_i_i522_i_i) { p_v_r11_sroa_22_0_ph_i = 4u; goto L_pkcs1_c_status_status_exit_i; } else { p_v_r1_sroa_0_0_copyload_i_i_i45_i_i_i_i_ph_i = v_r37_sroa_0_0_copyload_i_i; goto L_arm_8_ithread_pre_split_i; }
+    if (v_r7_i_i522_i_i) { p_v_r11_sroa_22_0_ph_i = 4u; goto L_pkcs1_c_status_status_exit_i; } else { p_v_r1_sroa_0_0_copyload_i_i_i156_i_i_i_i_ph_i = v_r37_sroa_0_0_copyload_i_i; goto L_arm_8_ithread_pre_split_i; }
 L_join_3_i540_i_i:;
     v_r49_i541_i_i = v_r3_sroa_6_07_i_i537_i_i > 4294967295ull;
-    if (v_r49_i541_i_i) { p_v_r11_sroa_22_0_ph_i = 8u; goto L_pkcs1_c_status_status_exit_i; } else { p_v_r20_i305_i_i = v_r21_i_i538_i_i; p_v_r1_sroa_0_0_copyload_i_i_i45_i_i_i_i_i = v_r3_sroa_0_08_i_i536_i_i; p_v_r1_sroa_3_0_copyload_i_i_i47_i_i_i_i_i = v_r3_sroa_6_07_i_i537_i_i; goto L_arm_8_i_i; }
+    if (v_r49_i541_i_i) { p_v_r11_sroa_22_0_ph_i = 8u; goto L_pkcs1_c_status_status_exit_i; } else { p_v_r20_i305_i_i = v_r21_i_i538_i_i; p_v_r1_sroa_0_0_copyload_i_i_i156_i_i_i_i_i = v_r3_sroa_0_08_i_i536_i_i; p_v_r1_sroa_3_0_copyload_i_i_i158_i_i_i_i_i = v_r3_sroa_6_07_i_i537_i_i; goto L_arm_8_i_i; }
 L_arm_8_ithread_pre_split_i:;
-    v_r1_sroa_0_0_copyload_i_i_i45_i_i_i_i_ph_i = p_v_r1_sroa_0_0_copyload_i_i_i45_i_i_i_i_ph_i;
-    v_r20_i305_i_pr_i = get_u8(v_r1_sroa_0_0_copyload_i_i_i45_i_i_i_i_ph_i);
-    { p_v_r20_i305_i_i = v_r20_i305_i_pr_i; p_v_r1_sroa_0_0_copyload_i_i_i45_i_i_i_i_i = v_r1_sroa_0_0_copyload_i_i_i45_i_i_i_i_ph_i; p_v_r1_sroa_3_0_copyload_i_i_i47_i_i_i_i_i = 1u; goto L_arm_8_i_i; }
+    v_r1_sroa_0_0_copyload_i_i_i156_i_i_i_i_ph_i = p_v_r1_sroa_0_0_copyload_i_i_i156_i_i_i_i_ph_i;
+    v_r20_i305_i_pr_i = get_u8(v_r1_sroa_0_0_copyload_i_i_i156_i_i_i_i_ph_i);
+    { p_v_r20_i305_i_i = v_r20_i305_i_pr_i; p_v_r1_sroa_0_0_copyload_i_i_i156_i_i_i_i_i = v_r1_sroa_0_0_copyload_i_i_i156_i_i_i_i_ph_i; p_v_r1_sroa_3_0_copyload_i_i_i158_i_i_i_i_i = 1u; goto L_arm_8_i_i; }
 L_arm_8_i_i:;
     v_r20_i305_i_i = p_v_r20_i305_i_i;
-    v_r1_sroa_0_0_copyload_i_i_i45_i_i_i_i_i = p_v_r1_sroa_0_0_copyload_i_i_i45_i_i_i_i_i;
-    v_r1_sroa_3_0_copyload_i_i_i47_i_i_i_i_i = p_v_r1_sroa_3_0_copyload_i_i_i47_i_i_i_i_i;
+    v_r1_sroa_0_0_copyload_i_i_i156_i_i_i_i_i = p_v_r1_sroa_0_0_copyload_i_i_i156_i_i_i_i_i;
+    v_r1_sroa_3_0_copyload_i_i_i158_i_i_i_i_i = p_v_r1_sroa_3_0_copyload_i_i_i158_i_i_i_i_i;
     v_r20_i305_lobit_i_i = (u8)((u32)(v_r20_i305_i_i) >> (u32)((7u & 31)));
     v_i307_i_i = (u64)v_r20_i305_lobit_i_i;
     v_r164_i_i = v_a0 + 48;
@@ -34604,21 +34604,21 @@ L_join_5_i_i644_i_i:;
     v_r31_i_i645_i_i = v_r3_sroa_0_08_i_i633_i_i + 1;
     v_r34_i_i646_i_i = (u64)((u64)(v_r3_sroa_6_07_i_i634_i_i) + (u64)(18446744073709551615ull));
     v_r14_i_i647_i_i = v_r34_i_i646_i_i > 1u;
-    if (v_r14_i_i647_i_i) { p_v_r3_sroa_0_08_i_i633_i_i = v_r31_i_i645_i_i; p_v_r3_sroa_6_07_i_i634_i_i = v_r34_i_i646_i_i; goto L_then_3_i_i632_i_i; } else { p_v_r1_sroa_0_0_copyload_i_i_i12_i_i_i_i_ph_i = v_scevgep_i_i631_i_i; goto L_arm_11_ithread_pre_split_i; }
+    if (v_r14_i_i647_i_i) { p_v_r3_sroa_0_08_i_i633_i_i = v_r31_i_i645_i_i; p_v_r3_sroa_6_07_i_i634_i_i = v_r34_i_i646_i_i; goto L_then_3_i_i632_i_i; } else { p_v_r1_sroa_0_0_copyload_i_i_i123_i_i_i_i_ph_i = v_scevgep_i_i631_i_i; goto L_arm_11_ithread_pre_split_i; }
 L_der_core_integer_uint_strip_exit_i618_i_i:;
     v_r7_i_i619_i_i = v_r43_sroa_3_0_copyload_i_i == 0u;
-    if (v_r7_i_i619_i_i) { p_v_r11_sroa_22_0_ph_i = 4u; goto L_pkcs1_c_status_status_exit_i; } else { p_v_r1_sroa_0_0_copyload_i_i_i12_i_i_i_i_ph_i = v_r43_sroa_0_0_copyload_i_i; goto L_arm_11_ithread_pre_split_i; }
+    if (v_r7_i_i619_i_i) { p_v_r11_sroa_22_0_ph_i = 4u; goto L_pkcs1_c_status_status_exit_i; } else { p_v_r1_sroa_0_0_copyload_i_i_i123_i_i_i_i_ph_i = v_r43_sroa_0_0_copyload_i_i; goto L_arm_11_ithread_pre_split_i; }
 L_join_3_i637_i_i:;
     v_r49_i638_i_i = v_r3_sroa_6_07_i_i634_i_i > 4294967295ull;
-    if (v_r49_i638_i_i) { p_v_r11_sroa_22_0_ph_i = 8u; goto L_pkcs1_c_status_status_exit_i; } else { p_v_r20_i315_i_i = v_r21_i_i635_i_i; p_v_r1_sroa_0_0_copyload_i_i_i12_i_i_i_i_i = v_r3_sroa_0_08_i_i633_i_i; p_v_r1_sroa_3_0_copyload_i_i_i14_i_i_i_i_i = v_r3_sroa_6_07_i_i634_i_i; goto L_arm_11_i_i; }
+    if (v_r49_i638_i_i) { p_v_r11_sroa_22_0_ph_i = 8u; goto L_pkcs1_c_status_status_exit_i; } else { p_v_r20_i315_i_i = v_r21_i_i635_i_i; p_v_r1_sroa_0_0_copyload_i_i_i123_i_i_i_i_i = v_r3_sroa_0_08_i_i633_i_i; p_v_r1_sroa_3_0_copyload_i_i_i125_i_i_i_i_i = v_r3_sroa_6_07_i_i634_i_i; goto L_arm_11_i_i; }
 L_arm_11_ithread_pre_split_i:;
-    v_r1_sroa_0_0_copyload_i_i_i12_i_i_i_i_ph_i = p_v_r1_sroa_0_0_copyload_i_i_i12_i_i_i_i_ph_i;
-    v_r20_i315_i_pr_i = get_u8(v_r1_sroa_0_0_copyload_i_i_i12_i_i_i_i_ph_i);
-    { p_v_r20_i315_i_i = v_r20_i315_i_pr_i; p_v_r1_sroa_0_0_copyload_i_i_i12_i_i_i_i_i = v_r1_sroa_0_0_copyload_i_i_i12_i_i_i_i_ph_i; p_v_r1_sroa_3_0_copyload_i_i_i14_i_i_i_i_i = 1u; goto L_arm_11_i_i; }
+    v_r1_sroa_0_0_copyload_i_i_i123_i_i_i_i_ph_i = p_v_r1_sroa_0_0_copyload_i_i_i123_i_i_i_i_ph_i;
+    v_r20_i315_i_pr_i = get_u8(v_r1_sroa_0_0_copyload_i_i_i123_i_i_i_i_ph_i);
+    { p_v_r20_i315_i_i = v_r20_i315_i_pr_i; p_v_r1_sroa_0_0_copyload_i_i_i123_i_i_i_i_i = v_r1_sroa_0_0_copyload_i_i_i123_i_i_i_i_ph_i; p_v_r1_sroa_3_0_copyload_i_i_i125_i_i_i_i_i = 1u; goto L_arm_11_i_i; }
 L_arm_11_i_i:;
     v_r20_i315_i_i = p_v_r20_i315_i_i;
-    v_r1_sroa_0_0_copyload_i_i_i12_i_i_i_i_i = p_v_r1_sroa_0_0_copyload_i_i_i12_i_i_i_i_i;
-    v_r1_sroa_3_0_copyload_i_i_i14_i_i_i_i_i = p_v_r1_sroa_3_0_copyload_i_i_i14_i_i_i_i_i;
+    v_r1_sroa_0_0_copyload_i_i_i123_i_i_i_i_i = p_v_r1_sroa_0_0_copyload_i_i_i123_i_i_i_i_i;
+    v_r1_sroa_3_0_copyload_i_i_i125_i_i_i_i_i = p_v_r1_sroa_3_0_copyload_i_i_i125_i_i_i_i_i;
     v_r20_i315_lobit_i_i = (u8)((u32)(v_r20_i315_i_i) >> (u32)((7u & 31)));
     v_i317_i_i = (u64)v_r20_i315_lobit_i_i;
     v_r193_i_i = v_a0 + 64;
@@ -34641,21 +34641,21 @@ L_join_5_i_i741_i_i:;
     v_r31_i_i742_i_i = v_r3_sroa_0_08_i_i730_i_i + 1;
     v_r34_i_i743_i_i = (u64)((u64)(v_r3_sroa_6_07_i_i731_i_i) + (u64)(18446744073709551615ull));
     v_r14_i_i744_i_i = v_r34_i_i743_i_i > 1u;
-    if (v_r14_i_i744_i_i) { p_v_r3_sroa_0_08_i_i730_i_i = v_r31_i_i742_i_i; p_v_r3_sroa_6_07_i_i731_i_i = v_r34_i_i743_i_i; goto L_then_3_i_i729_i_i; } else { p_v_r1_sroa_0_0_copyload_i_i_i_i_i_i_i_ph_i = v_scevgep_i_i728_i_i; goto L_arm_14_ithread_pre_split_i; }
+    if (v_r14_i_i744_i_i) { p_v_r3_sroa_0_08_i_i730_i_i = v_r31_i_i742_i_i; p_v_r3_sroa_6_07_i_i731_i_i = v_r34_i_i743_i_i; goto L_then_3_i_i729_i_i; } else { p_v_r1_sroa_0_0_copyload_i_i_i90_i_i_i_i_ph_i = v_scevgep_i_i728_i_i; goto L_arm_14_ithread_pre_split_i; }
 L_der_core_integer_uint_strip_exit_i715_i_i:;
     v_r7_i_i716_i_i = v_r49_sroa_3_0_copyload_i_i == 0u;
-    if (v_r7_i_i716_i_i) { p_v_r11_sroa_22_0_ph_i = 4u; goto L_pkcs1_c_status_status_exit_i; } else { p_v_r1_sroa_0_0_copyload_i_i_i_i_i_i_i_ph_i = v_r49_sroa_0_0_copyload_i_i; goto L_arm_14_ithread_pre_split_i; }
+    if (v_r7_i_i716_i_i) { p_v_r11_sroa_22_0_ph_i = 4u; goto L_pkcs1_c_status_status_exit_i; } else { p_v_r1_sroa_0_0_copyload_i_i_i90_i_i_i_i_ph_i = v_r49_sroa_0_0_copyload_i_i; goto L_arm_14_ithread_pre_split_i; }
 L_join_3_i734_i_i:;
     v_r49_i735_i_i = v_r3_sroa_6_07_i_i731_i_i > 4294967295ull;
-    if (v_r49_i735_i_i) { p_v_r11_sroa_22_0_ph_i = 8u; goto L_pkcs1_c_status_status_exit_i; } else { p_v_r20_i325_i_i = v_r21_i_i732_i_i; p_v_r1_sroa_0_0_copyload_i_i_i_i_i_i_i_i = v_r3_sroa_0_08_i_i730_i_i; p_v_r1_sroa_3_0_copyload_i_i_i_i_i_i_i_i = v_r3_sroa_6_07_i_i731_i_i; goto L_arm_14_i_i; }
+    if (v_r49_i735_i_i) { p_v_r11_sroa_22_0_ph_i = 8u; goto L_pkcs1_c_status_status_exit_i; } else { p_v_r20_i325_i_i = v_r21_i_i732_i_i; p_v_r1_sroa_0_0_copyload_i_i_i90_i_i_i_i_i = v_r3_sroa_0_08_i_i730_i_i; p_v_r1_sroa_3_0_copyload_i_i_i92_i_i_i_i_i = v_r3_sroa_6_07_i_i731_i_i; goto L_arm_14_i_i; }
 L_arm_14_ithread_pre_split_i:;
-    v_r1_sroa_0_0_copyload_i_i_i_i_i_i_i_ph_i = p_v_r1_sroa_0_0_copyload_i_i_i_i_i_i_i_ph_i;
-    v_r20_i325_i_pr_i = get_u8(v_r1_sroa_0_0_copyload_i_i_i_i_i_i_i_ph_i);
-    { p_v_r20_i325_i_i = v_r20_i325_i_pr_i; p_v_r1_sroa_0_0_copyload_i_i_i_i_i_i_i_i = v_r1_sroa_0_0_copyload_i_i_i_i_i_i_i_ph_i; p_v_r1_sroa_3_0_copyload_i_i_i_i_i_i_i_i = 1u; goto L_arm_14_i_i; }
+    v_r1_sroa_0_0_copyload_i_i_i90_i_i_i_i_ph_i = p_v_r1_sroa_0_0_copyload_i_i_i90_i_i_i_i_ph_i;
+    v_r20_i325_i_pr_i = get_u8(v_r1_sroa_0_0_copyload_i_i_i90_i_i_i_i_ph_i);
+    { p_v_r20_i325_i_i = v_r20_i325_i_pr_i; p_v_r1_sroa_0_0_copyload_i_i_i90_i_i_i_i_i = v_r1_sroa_0_0_copyload_i_i_i90_i_i_i_i_ph_i; p_v_r1_sroa_3_0_copyload_i_i_i92_i_i_i_i_i = 1u; goto L_arm_14_i_i; }
 L_arm_14_i_i:;
     v_r20_i325_i_i = p_v_r20_i325_i_i;
-    v_r1_sroa_0_0_copyload_i_i_i_i_i_i_i_i = p_v_r1_sroa_0_0_copyload_i_i_i_i_i_i_i_i;
-    v_r1_sroa_3_0_copyload_i_i_i_i_i_i_i_i = p_v_r1_sroa_3_0_copyload_i_i_i_i_i_i_i_i;
+    v_r1_sroa_0_0_copyload_i_i_i90_i_i_i_i_i = p_v_r1_sroa_0_0_copyload_i_i_i90_i_i_i_i_i;
+    v_r1_sroa_3_0_copyload_i_i_i92_i_i_i_i_i = p_v_r1_sroa_3_0_copyload_i_i_i92_i_i_i_i_i;
     v_r20_i325_lobit_i_i = (u8)((u32)(v_r20_i325_i_i) >> (u32)((7u & 31)));
     v_i327_i_i = (u64)v_r20_i325_lobit_i_i;
     v_r222_i_i = v_a0 + 80;
@@ -34678,21 +34678,21 @@ L_join_5_i_i838_i_i:;
     v_r31_i_i839_i_i = v_r3_sroa_0_08_i_i827_i_i + 1;
     v_r34_i_i840_i_i = (u64)((u64)(v_r3_sroa_6_07_i_i828_i_i) + (u64)(18446744073709551615ull));
     v_r14_i_i841_i_i = v_r34_i_i840_i_i > 1u;
-    if (v_r14_i_i841_i_i) { p_v_r3_sroa_0_08_i_i827_i_i = v_r31_i_i839_i_i; p_v_r3_sroa_6_07_i_i828_i_i = v_r34_i_i840_i_i; goto L_then_3_i_i826_i_i; } else { p_v_r1_sroa_0_0_copyload_i_i_i39_i_i_i_i_i_ph_i = v_scevgep_i_i825_i_i; goto L_arm_17_ithread_pre_split_i; }
+    if (v_r14_i_i841_i_i) { p_v_r3_sroa_0_08_i_i827_i_i = v_r31_i_i839_i_i; p_v_r3_sroa_6_07_i_i828_i_i = v_r34_i_i840_i_i; goto L_then_3_i_i826_i_i; } else { p_v_r1_sroa_0_0_copyload_i_i_i57_i_i_i_i_ph_i = v_scevgep_i_i825_i_i; goto L_arm_17_ithread_pre_split_i; }
 L_der_core_integer_uint_strip_exit_i812_i_i:;
     v_r7_i_i813_i_i = v_r55_sroa_3_0_copyload_i_i == 0u;
-    if (v_r7_i_i813_i_i) { p_v_r11_sroa_22_0_ph_i = 4u; goto L_pkcs1_c_status_status_exit_i; } else { p_v_r1_sroa_0_0_copyload_i_i_i39_i_i_i_i_i_ph_i = v_r55_sroa_0_0_copyload_i_i; goto L_arm_17_ithread_pre_split_i; }
+    if (v_r7_i_i813_i_i) { p_v_r11_sroa_22_0_ph_i = 4u; goto L_pkcs1_c_status_status_exit_i; } else { p_v_r1_sroa_0_0_copyload_i_i_i57_i_i_i_i_ph_i = v_r55_sroa_0_0_copyload_i_i; goto L_arm_17_ithread_pre_split_i; }
 L_join_3_i831_i_i:;
     v_r49_i832_i_i = v_r3_sroa_6_07_i_i828_i_i > 4294967295ull;
-    if (v_r49_i832_i_i) { p_v_r11_sroa_22_0_ph_i = 8u; goto L_pkcs1_c_status_status_exit_i; } else { p_v_r20_i335_i_i = v_r21_i_i829_i_i; p_v_r1_sroa_0_0_copyload_i_i_i39_i_i_i_i_i_i = v_r3_sroa_0_08_i_i827_i_i; p_v_r1_sroa_3_0_copyload_i_i_i41_i_i_i_i_i_i = v_r3_sroa_6_07_i_i828_i_i; goto L_arm_17_i_i; }
+    if (v_r49_i832_i_i) { p_v_r11_sroa_22_0_ph_i = 8u; goto L_pkcs1_c_status_status_exit_i; } else { p_v_r20_i335_i_i = v_r21_i_i829_i_i; p_v_r1_sroa_0_0_copyload_i_i_i57_i_i_i_i_i = v_r3_sroa_0_08_i_i827_i_i; p_v_r1_sroa_3_0_copyload_i_i_i59_i_i_i_i_i = v_r3_sroa_6_07_i_i828_i_i; goto L_arm_17_i_i; }
 L_arm_17_ithread_pre_split_i:;
-    v_r1_sroa_0_0_copyload_i_i_i39_i_i_i_i_i_ph_i = p_v_r1_sroa_0_0_copyload_i_i_i39_i_i_i_i_i_ph_i;
-    v_r20_i335_i_pr_i = get_u8(v_r1_sroa_0_0_copyload_i_i_i39_i_i_i_i_i_ph_i);
-    { p_v_r20_i335_i_i = v_r20_i335_i_pr_i; p_v_r1_sroa_0_0_copyload_i_i_i39_i_i_i_i_i_i = v_r1_sroa_0_0_copyload_i_i_i39_i_i_i_i_i_ph_i; p_v_r1_sroa_3_0_copyload_i_i_i41_i_i_i_i_i_i = 1u; goto L_arm_17_i_i; }
+    v_r1_sroa_0_0_copyload_i_i_i57_i_i_i_i_ph_i = p_v_r1_sroa_0_0_copyload_i_i_i57_i_i_i_i_ph_i;
+    v_r20_i335_i_pr_i = get_u8(v_r1_sroa_0_0_copyload_i_i_i57_i_i_i_i_ph_i);
+    { p_v_r20_i335_i_i = v_r20_i335_i_pr_i; p_v_r1_sroa_0_0_copyload_i_i_i57_i_i_i_i_i = v_r1_sroa_0_0_copyload_i_i_i57_i_i_i_i_ph_i; p_v_r1_sroa_3_0_copyload_i_i_i59_i_i_i_i_i = 1u; goto L_arm_17_i_i; }
 L_arm_17_i_i:;
     v_r20_i335_i_i = p_v_r20_i335_i_i;
-    v_r1_sroa_0_0_copyload_i_i_i39_i_i_i_i_i_i = p_v_r1_sroa_0_0_copyload_i_i_i39_i_i_i_i_i_i;
-    v_r1_sroa_3_0_copyload_i_i_i41_i_i_i_i_i_i = p_v_r1_sroa_3_0_copyload_i_i_i41_i_i_i_i_i_i;
+    v_r1_sroa_0_0_copyload_i_i_i57_i_i_i_i_i = p_v_r1_sroa_0_0_copyload_i_i_i57_i_i_i_i_i;
+    v_r1_sroa_3_0_copyload_i_i_i59_i_i_i_i_i = p_v_r1_sroa_3_0_copyload_i_i_i59_i_i_i_i_i;
     v_r20_i335_lobit_i_i = (u8)((u32)(v_r20_i335_i_i) >> (u32)((7u & 31)));
     v_i337_i_i = (u64)v_r20_i335_lobit_i_i;
     v_r251_i_i = v_a0 + 96;
@@ -34715,21 +34715,21 @@ L_join_5_i_i935_i_i:;
     v_r31_i_i936_i_i = v_r3_sroa_0_08_i_i924_i_i + 1;
     v_r34_i_i937_i_i = (u64)((u64)(v_r3_sroa_6_07_i_i925_i_i) + (u64)(18446744073709551615ull));
     v_r14_i_i938_i_i = v_r34_i_i937_i_i > 1u;
-    if (v_r14_i_i938_i_i) { p_v_r3_sroa_0_08_i_i924_i_i = v_r31_i_i936_i_i; p_v_r3_sroa_6_07_i_i925_i_i = v_r34_i_i937_i_i; goto L_then_3_i_i923_i_i; } else { p_v_r1_sroa_0_0_copyload_i_i_i6_i_i_i_i_i_ph_i = v_scevgep_i_i922_i_i; goto L_arm_20_ithread_pre_split_i; }
+    if (v_r14_i_i938_i_i) { p_v_r3_sroa_0_08_i_i924_i_i = v_r31_i_i936_i_i; p_v_r3_sroa_6_07_i_i925_i_i = v_r34_i_i937_i_i; goto L_then_3_i_i923_i_i; } else { p_v_r1_sroa_0_0_copyload_i_i_i24_i_i_i_i_ph_i = v_scevgep_i_i922_i_i; goto L_arm_20_ithread_pre_split_i; }
 L_der_core_integer_uint_strip_exit_i909_i_i:;
     v_r7_i_i910_i_i = v_r61_sroa_3_0_copyload_i_i == 0u;
-    if (v_r7_i_i910_i_i) { p_v_r11_sroa_22_0_ph_i = 4u; goto L_pkcs1_c_status_status_exit_i; } else { p_v_r1_sroa_0_0_copyload_i_i_i6_i_i_i_i_i_ph_i = v_r61_sroa_0_0_copyload_i_i; goto L_arm_20_ithread_pre_split_i; }
+    if (v_r7_i_i910_i_i) { p_v_r11_sroa_22_0_ph_i = 4u; goto L_pkcs1_c_status_status_exit_i; } else { p_v_r1_sroa_0_0_copyload_i_i_i24_i_i_i_i_ph_i = v_r61_sroa_0_0_copyload_i_i; goto L_arm_20_ithread_pre_split_i; }
 L_join_3_i928_i_i:;
     v_r49_i929_i_i = v_r3_sroa_6_07_i_i925_i_i > 4294967295ull;
-    if (v_r49_i929_i_i) { p_v_r11_sroa_22_0_ph_i = 8u; goto L_pkcs1_c_status_status_exit_i; } else { p_v_r20_i345_i_i = v_r21_i_i926_i_i; p_v_r1_sroa_0_0_copyload_i_i_i6_i_i_i_i_i_i = v_r3_sroa_0_08_i_i924_i_i; p_v_r1_sroa_3_0_copyload_i_i_i8_i_i_i_i_i_i = v_r3_sroa_6_07_i_i925_i_i; goto L_arm_20_i_i; }
+    if (v_r49_i929_i_i) { p_v_r11_sroa_22_0_ph_i = 8u; goto L_pkcs1_c_status_status_exit_i; } else { p_v_r20_i345_i_i = v_r21_i_i926_i_i; p_v_r1_sroa_0_0_copyload_i_i_i24_i_i_i_i_i = v_r3_sroa_0_08_i_i924_i_i; p_v_r1_sroa_3_0_copyload_i_i_i26_i_i_i_i_i = v_r3_sroa_6_07_i_i925_i_i; goto L_arm_20_i_i; }
 L_arm_20_ithread_pre_split_i:;
-    v_r1_sroa_0_0_copyload_i_i_i6_i_i_i_i_i_ph_i = p_v_r1_sroa_0_0_copyload_i_i_i6_i_i_i_i_i_ph_i;
-    v_r20_i345_i_pr_i = get_u8(v_r1_sroa_0_0_copyload_i_i_i6_i_i_i_i_i_ph_i);
-    { p_v_r20_i345_i_i = v_r20_i345_i_pr_i; p_v_r1_sroa_0_0_copyload_i_i_i6_i_i_i_i_i_i = v_r1_sroa_0_0_copyload_i_i_i6_i_i_i_i_i_ph_i; p_v_r1_sroa_3_0_copyload_i_i_i8_i_i_i_i_i_i = 1u; goto L_arm_20_i_i; }
+    v_r1_sroa_0_0_copyload_i_i_i24_i_i_i_i_ph_i = p_v_r1_sroa_0_0_copyload_i_i_i24_i_i_i_i_ph_i;
+    v_r20_i345_i_pr_i = get_u8(v_r1_sroa_0_0_copyload_i_i_i24_i_i_i_i_ph_i);
+    { p_v_r20_i345_i_i = v_r20_i345_i_pr_i; p_v_r1_sroa_0_0_copyload_i_i_i24_i_i_i_i_i = v_r1_sroa_0_0_copyload_i_i_i24_i_i_i_i_ph_i; p_v_r1_sroa_3_0_copyload_i_i_i26_i_i_i_i_i = 1u; goto L_arm_20_i_i; }
 L_arm_20_i_i:;
     v_r20_i345_i_i = p_v_r20_i345_i_i;
-    v_r1_sroa_0_0_copyload_i_i_i6_i_i_i_i_i_i = p_v_r1_sroa_0_0_copyload_i_i_i6_i_i_i_i_i_i;
-    v_r1_sroa_3_0_copyload_i_i_i8_i_i_i_i_i_i = p_v_r1_sroa_3_0_copyload_i_i_i8_i_i_i_i_i_i;
+    v_r1_sroa_0_0_copyload_i_i_i24_i_i_i_i_i = p_v_r1_sroa_0_0_copyload_i_i_i24_i_i_i_i_i;
+    v_r1_sroa_3_0_copyload_i_i_i26_i_i_i_i_i = p_v_r1_sroa_3_0_copyload_i_i_i26_i_i_i_i_i;
     v_r20_i345_lobit_i_i = (u8)((u32)(v_r20_i345_i_i) >> (u32)((7u & 31)));
     v_i347_i_i = (u64)v_r20_i345_lobit_i_i;
     v_r280_i_i = v_a0 + 112;
@@ -34949,45 +34949,45 @@ L_arm_27_i_i:;
 L_arm_4_i:;
     v_r72_sroa_261213_sroa_0_0_ph_i_i = p_v_r72_sroa_261213_sroa_0_0_ph_i_i;
     copy(v_r11_sroa_87_i, v_r72_sroa_31_i_i, 24u);
-    put_P(v_r6_i, v_r1_sroa_0_0_copyload_i_i_i111_i_i_i_i_i);
+    put_P(v_r6_i, v_r1_sroa_0_0_copyload_i_i_i222_i_i_i_i_i);
     v_r11_sroa_63_8_r6_sroa_idx_i = v_r6_i + 8;
-    put_u64(v_r11_sroa_63_8_r6_sroa_idx_i, v_r1_sroa_3_0_copyload_i_i_i113_i_i_i_i_i);
+    put_u64(v_r11_sroa_63_8_r6_sroa_idx_i, v_r1_sroa_3_0_copyload_i_i_i224_i_i_i_i_i);
     v_r11_sroa_64_8_r6_sroa_idx_i = v_r6_i + 16;
     put_u64(v_r11_sroa_64_8_r6_sroa_idx_i, v_i_i_i);
     v_r11_sroa_65_8_r6_sroa_idx_i = v_r6_i + 24;
-    put_P(v_r11_sroa_65_8_r6_sroa_idx_i, v_r1_sroa_0_0_copyload_i_i_i78_i_i_i_i_i);
+    put_P(v_r11_sroa_65_8_r6_sroa_idx_i, v_r1_sroa_0_0_copyload_i_i_i189_i_i_i_i_i);
     v_r11_sroa_66_8_r6_sroa_idx_i = v_r6_i + 32;
-    put_u64(v_r11_sroa_66_8_r6_sroa_idx_i, v_r1_sroa_3_0_copyload_i_i_i80_i_i_i_i_i);
+    put_u64(v_r11_sroa_66_8_r6_sroa_idx_i, v_r1_sroa_3_0_copyload_i_i_i191_i_i_i_i_i);
     v_r11_sroa_67_8_r6_sroa_idx_i = v_r6_i + 40;
     put_u64(v_r11_sroa_67_8_r6_sroa_idx_i, v_i297_i_i);
     v_r11_sroa_68_8_r6_sroa_idx_i = v_r6_i + 48;
-    put_P(v_r11_sroa_68_8_r6_sroa_idx_i, v_r1_sroa_0_0_copyload_i_i_i45_i_i_i_i_i);
+    put_P(v_r11_sroa_68_8_r6_sroa_idx_i, v_r1_sroa_0_0_copyload_i_i_i156_i_i_i_i_i);
     v_r11_sroa_69_8_r6_sroa_idx_i = v_r6_i + 56;
-    put_u64(v_r11_sroa_69_8_r6_sroa_idx_i, v_r1_sroa_3_0_copyload_i_i_i47_i_i_i_i_i);
+    put_u64(v_r11_sroa_69_8_r6_sroa_idx_i, v_r1_sroa_3_0_copyload_i_i_i158_i_i_i_i_i);
     v_r11_sroa_70_8_r6_sroa_idx_i = v_r6_i + 64;
     put_u64(v_r11_sroa_70_8_r6_sroa_idx_i, v_i307_i_i);
     v_r11_sroa_71_8_r6_sroa_idx_i = v_r6_i + 72;
-    put_P(v_r11_sroa_71_8_r6_sroa_idx_i, v_r1_sroa_0_0_copyload_i_i_i12_i_i_i_i_i);
+    put_P(v_r11_sroa_71_8_r6_sroa_idx_i, v_r1_sroa_0_0_copyload_i_i_i123_i_i_i_i_i);
     v_r11_sroa_72_8_r6_sroa_idx_i = v_r6_i + 80;
-    put_u64(v_r11_sroa_72_8_r6_sroa_idx_i, v_r1_sroa_3_0_copyload_i_i_i14_i_i_i_i_i);
+    put_u64(v_r11_sroa_72_8_r6_sroa_idx_i, v_r1_sroa_3_0_copyload_i_i_i125_i_i_i_i_i);
     v_r11_sroa_73_8_r6_sroa_idx_i = v_r6_i + 88;
     put_u64(v_r11_sroa_73_8_r6_sroa_idx_i, v_i317_i_i);
     v_r11_sroa_74_8_r6_sroa_idx_i = v_r6_i + 96;
-    put_P(v_r11_sroa_74_8_r6_sroa_idx_i, v_r1_sroa_0_0_copyload_i_i_i_i_i_i_i_i);
+    put_P(v_r11_sroa_74_8_r6_sroa_idx_i, v_r1_sroa_0_0_copyload_i_i_i90_i_i_i_i_i);
     v_r11_sroa_75_8_r6_sroa_idx_i = v_r6_i + 104;
-    put_u64(v_r11_sroa_75_8_r6_sroa_idx_i, v_r1_sroa_3_0_copyload_i_i_i_i_i_i_i_i);
+    put_u64(v_r11_sroa_75_8_r6_sroa_idx_i, v_r1_sroa_3_0_copyload_i_i_i92_i_i_i_i_i);
     v_r11_sroa_76_8_r6_sroa_idx_i = v_r6_i + 112;
     put_u64(v_r11_sroa_76_8_r6_sroa_idx_i, v_i327_i_i);
     v_r11_sroa_77_8_r6_sroa_idx_i = v_r6_i + 120;
-    put_P(v_r11_sroa_77_8_r6_sroa_idx_i, v_r1_sroa_0_0_copyload_i_i_i39_i_i_i_i_i_i);
+    put_P(v_r11_sroa_77_8_r6_sroa_idx_i, v_r1_sroa_0_0_copyload_i_i_i57_i_i_i_i_i);
     v_r11_sroa_78_8_r6_sroa_idx_i = v_r6_i + 128;
-    put_u64(v_r11_sroa_78_8_r6_sroa_idx_i, v_r1_sroa_3_0_copyload_i_i_i41_i_i_i_i_i_i);
+    put_u64(v_r11_sroa_78_8_r6_sroa_idx_i, v_r1_sroa_3_0_copyload_i_i_i59_i_i_i_i_i);
     v_r11_sroa_79_8_r6_sroa_idx_i = v_r6_i + 136;
     put_u64(v_r11_sroa_79_8_r6_sroa_idx_i, v_i337_i_i);
     v_r11_sroa_80_8_r6_sroa_idx_i = v_r6_i + 144;
-    put_P(v_r11_sroa_80_8_r6_sroa_idx_i, v_r1_sroa_0_0_copyload_i_i_i6_i_i_i_i_i_i);
+    put_P(v_r11_sroa_80_8_r6_sroa_idx_i, v_r1_sroa_0_0_copyload_i_i_i24_i_i_i_i_i);
     v_r11_sroa_81_8_r6_sroa_idx_i = v_r6_i + 152;
-    put_u64(v_r11_sroa_81_8_r6_sroa_idx_i, v_r1_sroa_3_0_copyload_i_i_i8_i_i_i_i_i_i);
+    put_u64(v_r11_sroa_81_8_r6_sroa_idx_i, v_r1_sroa_3_0_copyload_i_i_i26_i_i_i_i_i);
     v_r11_sroa_82_8_r6_sroa_idx_i = v_r6_i + 160;
     put_u64(v_r11_sroa_82_8_r6_sroa_idx_i, v_i347_i_i);
     v_r11_sroa_83_8_r6_sroa_idx_i = v_r6_i + 168;
@@ -35019,104 +35019,104 @@ L_arm_2_i_i_i:;
     v_17 = (u32)((u32)(v_16) + (u32)(1u));
     { p_v_r5_sroa_0_sroa_5_0_i_i = v_17; goto L_arm_2_i4_i; }
 L_join_7_i_i_i:;
-    if (v_r7_i1102_i_i) { p_v_a1_val4_i_i_i_i_i_i_i_i = v_r3_i5_i_i_i; goto L_pkcs1_private_key_written_OthersPartEncodeValue_pr; } else { goto L_arm_1_i_i_i_i_i_i_i_i; }
-L_arm_1_i_i_i_i_i_i_i_i:;
-    v_r6_i1_val_val_i_i_i_i_i_i_i = get_P(v_r11_sroa_87_8_r6_sroa_idx_i);
+    if (v_r7_i1102_i_i) { p_v_a1_val4_i_i15_i_i_i_i_i = v_r3_i5_i_i_i; goto L_der_core_last_part_LastEncodeValue_prepend_value_c; } else { goto L_arm_1_i_i_i_i_i_i; }
+L_arm_1_i_i_i_i_i_i:;
+    v_r6_i_val_val_i_i_i_i_i = get_P(v_r11_sroa_87_8_r6_sroa_idx_i);
     v_18 = v_r6_i + 208;
-    v_r6_i1_val_val2_i_i_i_i_i_i_i = get_u64(v_18);
-    v_r11_not6_i_i_i_i_i_i_i_i_i_i_i = v_r6_i1_val_val2_i_i_i_i_i_i_i == 0u;
-    if (v_r11_not6_i_i_i_i_i_i_i_i_i_i_i) { p_v_r7_sroa_129_11_i_i_i = v_r3_i5_i_i_i; goto L_der_core_borrowed_BorrowedEncode_prepend_b85dcb4e1; } else { p_v_r7_sroa_129_7_i_i_i = v_r3_i5_i_i_i; p_v_r2_07_i_i_i_i_i_i_i_i_i_i_i = v_r6_i1_val_val2_i_i_i_i_i_i_i; goto L_join_5_i_i_i_i_i_i_i_i_i_i_i; }
-L_join_5_i_i_i_i_i_i_i_i_i_i_i:;
+    v_r6_i_val_val13_i_i_i_i_i = get_u64(v_18);
+    v_r11_not6_i_i_i_i_i_i_i_i_i = v_r6_i_val_val13_i_i_i_i_i == 0u;
+    if (v_r11_not6_i_i_i_i_i_i_i_i_i) { p_v_r7_sroa_129_11_i_i_i = v_r3_i5_i_i_i; goto L_der_core_borrowed_BorrowedEncode_prepend_b85dcb4e1; } else { p_v_r7_sroa_129_7_i_i_i = v_r3_i5_i_i_i; p_v_r2_07_i_i_i_i_i_i_i_i_i = v_r6_i_val_val13_i_i_i_i_i; goto L_join_5_i_i_i_i_i_i_i_i_i; }
+L_join_5_i_i_i_i_i_i_i_i_i:;
     v_r7_sroa_129_7_i_i_i = p_v_r7_sroa_129_7_i_i_i;
-    v_r2_07_i_i_i_i_i_i_i_i_i_i_i = p_v_r2_07_i_i_i_i_i_i_i_i_i_i_i;
-    v_r16_i_i_i_i_i_i_i_i_i_i_i = (u64)((u64)(v_r2_07_i_i_i_i_i_i_i_i_i_i_i) + (u64)(18446744073709551615ull));
-    v_r18_i_i_i_i_i_i_i_i_i_i_i = (u64)((u64)(v_r16_i_i_i_i_i_i_i_i_i_i_i) * (u64)(72u));
-    v_r21_i_i_i_i_i_i_i_i_i_i_i = (P)((uintptr_t)v_r6_i1_val_val_i_i_i_i_i_i_i + (u64)(v_r18_i_i_i_i_i_i_i_i_i_i_i));
-    v_r12_i_i_i_i_i_i_i_i_i_i_i_i_i = v_r21_i_i_i_i_i_i_i_i_i_i_i + 48;
-    v_r16_i_i_i_i_i_i_i_i_i_i_i_i_i = v_r21_i_i_i_i_i_i_i_i_i_i_i + 24;
-    v_r1_sroa_0_0_copyload_i_i_i_i_i_i_i_i_i_i_i_i_i_i_i = get_P(v_r12_i_i_i_i_i_i_i_i_i_i_i_i_i);
-    v_r1_sroa_3_0_a0_sroa_idx_i_i_i_i_i_i_i_i_i_i_i_i_i_ = v_r21_i_i_i_i_i_i_i_i_i_i_i + 56;
-    v_r1_sroa_3_0_copyload_i_i_i_i_i_i_i_i_i_i_i_i_i_i_i = get_u64(v_r1_sroa_3_0_a0_sroa_idx_i_i_i_i_i_i_i_i_i_i_i_i_i_);
-    v_r17_i_i_i_i_i_i_i_i_i_i_i_i_i_i_i_i_i = (u64)((u64)(v_r7_sroa_129_7_i_i_i) - (u64)(v_r1_sroa_3_0_copyload_i_i_i_i_i_i_i_i_i_i_i_i_i_i_i));
-    v_r26_i_i_i_i_i_i_i_i_i_i_i_i_i_i_i_i_i = (P)((uintptr_t)v_r14 + (u64)(v_r17_i_i_i_i_i_i_i_i_i_i_i_i_i_i_i_i_i));
-    v_r8_i_i_i_i_i_i_i_i_i_i_i_i_i_i_i_i_i_i_i_i_i_i_i = (u64)((uintptr_t)v_r26_i_i_i_i_i_i_i_i_i_i_i_i_i_i_i_i_i);
-    v_r9_i_i_i_i_i_i_i_i_i_i_i_i_i_i_i_i_i_i_i_i_i_i_i = (u64)((uintptr_t)v_r1_sroa_0_0_copyload_i_i_i_i_i_i_i_i_i_i_i_i_i_i_i);
-    v_r10_i_i_i_i_i_i_i_i_i_i_i_i_i_i_i_i_i_i_i_i_i_i_i = (u64)((u64)(v_r8_i_i_i_i_i_i_i_i_i_i_i_i_i_i_i_i_i_i_i_i_i_i_i) - (u64)(v_r9_i_i_i_i_i_i_i_i_i_i_i_i_i_i_i_i_i_i_i_i_i_i_i));
-    v_r11_i_i_i_i_i_i_i_i_i_i_i_i_i_i_i_i_i_i_i_i_i_i_i = v_r10_i_i_i_i_i_i_i_i_i_i_i_i_i_i_i_i_i_i_i_i_i_i_i < v_r1_sroa_3_0_copyload_i_i_i_i_i_i_i_i_i_i_i_i_i_i_i;
-    if (v_r11_i_i_i_i_i_i_i_i_i_i_i_i_i_i_i_i_i_i_i_i_i_i_i) { goto L_join_7_i_i_i_i_i_i_i_i_i_i_i_i_i_i_i_i_i_i_i_i_i_i; } else { goto L_apart_2_i_i_i_i_i_i_i_i_i_i_i_i_i_i_i_i_i_i_i_i_i_; }
-L_join_7_i_i_i_i_i_i_i_i_i_i_i_i_i_i_i_i_i_i_i_i_i_i:;
-    v_xtraiter = (u64)((u64)(v_r1_sroa_3_0_copyload_i_i_i_i_i_i_i_i_i_i_i_i_i_i_i) & (u64)(3u));
-    v_19 = v_r1_sroa_3_0_copyload_i_i_i_i_i_i_i_i_i_i_i_i_i_i_i < 4u;
-    if (v_19) { p_v_r0_04_i_i_i_i_i_i_i_i_i_i_i_i_i_i_i_i_i_i_i_i_i_i_ = 0u; goto L_join_7_i_i_i_i_i_i_i_i_i_i_i_i_i_i_i_i_i_i_i_i_i_i__2; } else { goto L_join_7_i_i_i_i_i_i_i_i_i_i_i_i_i_i_i_i_i_i_i_i_i_i__3; }
-L_join_7_i_i_i_i_i_i_i_i_i_i_i_i_i_i_i_i_i_i_i_i_i_i__3:;
-    v_unroll_iter = (u64)((u64)(v_r1_sroa_3_0_copyload_i_i_i_i_i_i_i_i_i_i_i_i_i_i_i) & (u64)(18446744073709551612ull));
-    { p_v_r0_04_i_i_i_i_i_i_i_i_i_i_i_i_i_i_i_i_i_i_i_i_i_i___2 = 0u; p_v_niter = 0u; goto L_join_7_i_i_i_i_i_i_i_i_i_i_i_i_i_i_i_i_i_i_i_i_i_i__4; }
-L_apart_2_i_i_i_i_i_i_i_i_i_i_i_i_i_i_i_i_i_i_i_i_i_:;
-    move(v_r26_i_i_i_i_i_i_i_i_i_i_i_i_i_i_i_i_i, v_r1_sroa_0_0_copyload_i_i_i_i_i_i_i_i_i_i_i_i_i_i_i, v_r1_sroa_3_0_copyload_i_i_i_i_i_i_i_i_i_i_i_i_i_i_i);
+    v_r2_07_i_i_i_i_i_i_i_i_i = p_v_r2_07_i_i_i_i_i_i_i_i_i;
+    v_r16_i_i_i_i_i_i_i_i_i = (u64)((u64)(v_r2_07_i_i_i_i_i_i_i_i_i) + (u64)(18446744073709551615ull));
+    v_r18_i_i_i_i_i_i_i_i_i = (u64)((u64)(v_r16_i_i_i_i_i_i_i_i_i) * (u64)(72u));
+    v_r21_i_i_i_i_i_i_i_i_i = (P)((uintptr_t)v_r6_i_val_val_i_i_i_i_i + (u64)(v_r18_i_i_i_i_i_i_i_i_i));
+    v_r12_i_i_i_i_i_i_i_i_i_i_i = v_r21_i_i_i_i_i_i_i_i_i + 48;
+    v_r16_i_i_i_i_i_i_i_i_i_i_i = v_r21_i_i_i_i_i_i_i_i_i + 24;
+    v_r1_sroa_0_0_copyload_i_i_i_i_i_i_i_i_i_i_i_i_i_i = get_P(v_r12_i_i_i_i_i_i_i_i_i_i_i);
+    v_r1_sroa_3_0_a0_sroa_idx_i_i_i_i_i_i_i_i_i_i_i_i_i_ = v_r21_i_i_i_i_i_i_i_i_i + 56;
+    v_r1_sroa_3_0_copyload_i_i_i_i_i_i_i_i_i_i_i_i_i_i = get_u64(v_r1_sroa_3_0_a0_sroa_idx_i_i_i_i_i_i_i_i_i_i_i_i_i_);
+    v_r17_i_i_i_i_i_i_i_i_i_i_i_i_i_i_i = (u64)((u64)(v_r7_sroa_129_7_i_i_i) - (u64)(v_r1_sroa_3_0_copyload_i_i_i_i_i_i_i_i_i_i_i_i_i_i));
+    v_r26_i_i_i_i_i_i_i_i_i_i_i_i_i_i_i = (P)((uintptr_t)v_r14 + (u64)(v_r17_i_i_i_i_i_i_i_i_i_i_i_i_i_i_i));
+    v_r8_i_i_i_i_i_i_i_i_i_i_i_i_i_i_i_i_i_i_i_i_i = (u64)((uintptr_t)v_r26_i_i_i_i_i_i_i_i_i_i_i_i_i_i_i);
+    v_r9_i_i_i_i_i_i_i_i_i_i_i_i_i_i_i_i_i_i_i_i_i = (u64)((uintptr_t)v_r1_sroa_0_0_copyload_i_i_i_i_i_i_i_i_i_i_i_i_i_i);
+    v_r10_i_i_i_i_i_i_i_i_i_i_i_i_i_i_i_i_i_i_i_i_i = (u64)((u64)(v_r8_i_i_i_i_i_i_i_i_i_i_i_i_i_i_i_i_i_i_i_i_i) - (u64)(v_r9_i_i_i_i_i_i_i_i_i_i_i_i_i_i_i_i_i_i_i_i_i));
+    v_r11_i_i_i_i_i_i_i_i_i_i_i_i_i_i_i_i_i_i_i_i_i = v_r10_i_i_i_i_i_i_i_i_i_i_i_i_i_i_i_i_i_i_i_i_i < v_r1_sroa_3_0_copyload_i_i_i_i_i_i_i_i_i_i_i_i_i_i;
+    if (v_r11_i_i_i_i_i_i_i_i_i_i_i_i_i_i_i_i_i_i_i_i_i) { goto L_join_7_i_i_i_i_i_i_i_i_i_i_i_i_i_i_i_i_i_i_i_i_i_p; } else { goto L_apart_2_i_i_i_i_i_i_i_i_i_i_i_i_i_i_i_i_i_i_i_i_i; }
+L_join_7_i_i_i_i_i_i_i_i_i_i_i_i_i_i_i_i_i_i_i_i_i_p:;
+    v_xtraiter = (u64)((u64)(v_r1_sroa_3_0_copyload_i_i_i_i_i_i_i_i_i_i_i_i_i_i) & (u64)(3u));
+    v_19 = v_r1_sroa_3_0_copyload_i_i_i_i_i_i_i_i_i_i_i_i_i_i < 4u;
+    if (v_19) { p_v_r0_04_i_i_i_i_i_i_i_i_i_i_i_i_i_i_i_i_i_i_i_i_i_ep = 0u; goto L_join_7_i_i_i_i_i_i_i_i_i_i_i_i_i_i_i_i_i_i_i_i_i_e; } else { goto L_join_7_i_i_i_i_i_i_i_i_i_i_i_i_i_i_i_i_i_i_i_i_i_p__2; }
+L_join_7_i_i_i_i_i_i_i_i_i_i_i_i_i_i_i_i_i_i_i_i_i_p__2:;
+    v_unroll_iter = (u64)((u64)(v_r1_sroa_3_0_copyload_i_i_i_i_i_i_i_i_i_i_i_i_i_i) & (u64)(18446744073709551612ull));
+    { p_v_r0_04_i_i_i_i_i_i_i_i_i_i_i_i_i_i_i_i_i_i_i_i_i = 0u; p_v_niter = 0u; goto L_join_7_i_i_i_i_i_i_i_i_i_i_i_i_i_i_i_i_i_i_i_i_i; }
+L_apart_2_i_i_i_i_i_i_i_i_i_i_i_i_i_i_i_i_i_i_i_i_i:;
+    move(v_r26_i_i_i_i_i_i_i_i_i_i_i_i_i_i_i, v_r1_sroa_0_0_copyload_i_i_i_i_i_i_i_i_i_i_i_i_i_i, v_r1_sroa_3_0_copyload_i_i_i_i_i_i_i_i_i_i_i_i_i_i);
     { goto L_der_core_back_writer_BackWriter_prepend_exit_i_i_i; }
-L_join_7_i_i_i_i_i_i_i_i_i_i_i_i_i_i_i_i_i_i_i_i_i_i__4:;
-    v_r0_04_i_i_i_i_i_i_i_i_i_i_i_i_i_i_i_i_i_i_i_i_i_i___2 = p_v_r0_04_i_i_i_i_i_i_i_i_i_i_i_i_i_i_i_i_i_i_i_i_i_i___2;
+L_join_7_i_i_i_i_i_i_i_i_i_i_i_i_i_i_i_i_i_i_i_i_i:;
+    v_r0_04_i_i_i_i_i_i_i_i_i_i_i_i_i_i_i_i_i_i_i_i_i = p_v_r0_04_i_i_i_i_i_i_i_i_i_i_i_i_i_i_i_i_i_i_i_i_i;
     v_niter = p_v_niter;
-    v_r20_i_i_i_i_i_i_i_i_i_i_i_i_i_i_i_i_i_i_i_i_i_i_i = v_r26_i_i_i_i_i_i_i_i_i_i_i_i_i_i_i_i_i + (int64_t)(v_r0_04_i_i_i_i_i_i_i_i_i_i_i_i_i_i_i_i_i_i_i_i_i_i___2);
-    v_r24_i_i_i_i_i_i_i_i_i_i_i_i_i_i_i_i_i_i_i_i_i_i_i = v_r1_sroa_0_0_copyload_i_i_i_i_i_i_i_i_i_i_i_i_i_i_i + (int64_t)(v_r0_04_i_i_i_i_i_i_i_i_i_i_i_i_i_i_i_i_i_i_i_i_i_i___2);
-    v_r26_i_i_i_i_i_i_i_i_i_i_i_i_i_i_i_i_i_i_i_i_i_i_i = get_u8(v_r24_i_i_i_i_i_i_i_i_i_i_i_i_i_i_i_i_i_i_i_i_i_i_i);
-    put_u8(v_r20_i_i_i_i_i_i_i_i_i_i_i_i_i_i_i_i_i_i_i_i_i_i_i, v_r26_i_i_i_i_i_i_i_i_i_i_i_i_i_i_i_i_i_i_i_i_i_i_i);
-    v_r30_i_i_i_i_i_i_i_i_i_i_i_i_i_i_i_i_i_i_i_i_i_i_i = (u64)((u64)(v_r0_04_i_i_i_i_i_i_i_i_i_i_i_i_i_i_i_i_i_i_i_i_i_i___2) | (u64)(1u));
-    v_r20_i_i_i_i_i_i_i_i_i_i_i_i_i_i_i_i_i_i_i_i_i_i_i_ = v_r26_i_i_i_i_i_i_i_i_i_i_i_i_i_i_i_i_i + (int64_t)(v_r30_i_i_i_i_i_i_i_i_i_i_i_i_i_i_i_i_i_i_i_i_i_i_i);
-    v_r24_i_i_i_i_i_i_i_i_i_i_i_i_i_i_i_i_i_i_i_i_i_i_i_ = v_r1_sroa_0_0_copyload_i_i_i_i_i_i_i_i_i_i_i_i_i_i_i + (int64_t)(v_r30_i_i_i_i_i_i_i_i_i_i_i_i_i_i_i_i_i_i_i_i_i_i_i);
-    v_r26_i_i_i_i_i_i_i_i_i_i_i_i_i_i_i_i_i_i_i_i_i_i_i_ = get_u8(v_r24_i_i_i_i_i_i_i_i_i_i_i_i_i_i_i_i_i_i_i_i_i_i_i_);
-    put_u8(v_r20_i_i_i_i_i_i_i_i_i_i_i_i_i_i_i_i_i_i_i_i_i_i_i_, v_r26_i_i_i_i_i_i_i_i_i_i_i_i_i_i_i_i_i_i_i_i_i_i_i_);
-    v_r30_i_i_i_i_i_i_i_i_i_i_i_i_i_i_i_i_i_i_i_i_i_i_i_ = (u64)((u64)(v_r0_04_i_i_i_i_i_i_i_i_i_i_i_i_i_i_i_i_i_i_i_i_i_i___2) | (u64)(2u));
-    v_r20_i_i_i_i_i_i_i_i_i_i_i_i_i_i_i_i_i_i_i_i_i_i_i___2 = v_r26_i_i_i_i_i_i_i_i_i_i_i_i_i_i_i_i_i + (int64_t)(v_r30_i_i_i_i_i_i_i_i_i_i_i_i_i_i_i_i_i_i_i_i_i_i_i_);
-    v_r24_i_i_i_i_i_i_i_i_i_i_i_i_i_i_i_i_i_i_i_i_i_i_i___2 = v_r1_sroa_0_0_copyload_i_i_i_i_i_i_i_i_i_i_i_i_i_i_i + (int64_t)(v_r30_i_i_i_i_i_i_i_i_i_i_i_i_i_i_i_i_i_i_i_i_i_i_i_);
-    v_r26_i_i_i_i_i_i_i_i_i_i_i_i_i_i_i_i_i_i_i_i_i_i_i___2 = get_u8(v_r24_i_i_i_i_i_i_i_i_i_i_i_i_i_i_i_i_i_i_i_i_i_i_i___2);
-    put_u8(v_r20_i_i_i_i_i_i_i_i_i_i_i_i_i_i_i_i_i_i_i_i_i_i_i___2, v_r26_i_i_i_i_i_i_i_i_i_i_i_i_i_i_i_i_i_i_i_i_i_i_i___2);
-    v_r30_i_i_i_i_i_i_i_i_i_i_i_i_i_i_i_i_i_i_i_i_i_i_i___2 = (u64)((u64)(v_r0_04_i_i_i_i_i_i_i_i_i_i_i_i_i_i_i_i_i_i_i_i_i_i___2) | (u64)(3u));
-    v_r20_i_i_i_i_i_i_i_i_i_i_i_i_i_i_i_i_i_i_i_i_i_i_i___3 = v_r26_i_i_i_i_i_i_i_i_i_i_i_i_i_i_i_i_i + (int64_t)(v_r30_i_i_i_i_i_i_i_i_i_i_i_i_i_i_i_i_i_i_i_i_i_i_i___2);
-    v_r24_i_i_i_i_i_i_i_i_i_i_i_i_i_i_i_i_i_i_i_i_i_i_i___3 = v_r1_sroa_0_0_copyload_i_i_i_i_i_i_i_i_i_i_i_i_i_i_i + (int64_t)(v_r30_i_i_i_i_i_i_i_i_i_i_i_i_i_i_i_i_i_i_i_i_i_i_i___2);
-    v_r26_i_i_i_i_i_i_i_i_i_i_i_i_i_i_i_i_i_i_i_i_i_i_i___3 = get_u8(v_r24_i_i_i_i_i_i_i_i_i_i_i_i_i_i_i_i_i_i_i_i_i_i_i___3);
-    put_u8(v_r20_i_i_i_i_i_i_i_i_i_i_i_i_i_i_i_i_i_i_i_i_i_i_i___3, v_r26_i_i_i_i_i_i_i_i_i_i_i_i_i_i_i_i_i_i_i_i_i_i_i___3);
-    v_r30_i_i_i_i_i_i_i_i_i_i_i_i_i_i_i_i_i_i_i_i_i_i_i___3 = (u64)((u64)(v_r0_04_i_i_i_i_i_i_i_i_i_i_i_i_i_i_i_i_i_i_i_i_i_i___2) + (u64)(4u));
+    v_r20_i_i_i_i_i_i_i_i_i_i_i_i_i_i_i_i_i_i_i_i_i = v_r26_i_i_i_i_i_i_i_i_i_i_i_i_i_i_i + (int64_t)(v_r0_04_i_i_i_i_i_i_i_i_i_i_i_i_i_i_i_i_i_i_i_i_i);
+    v_r24_i_i_i_i_i_i_i_i_i_i_i_i_i_i_i_i_i_i_i_i_i = v_r1_sroa_0_0_copyload_i_i_i_i_i_i_i_i_i_i_i_i_i_i + (int64_t)(v_r0_04_i_i_i_i_i_i_i_i_i_i_i_i_i_i_i_i_i_i_i_i_i);
+    v_r26_i_i_i_i_i_i_i_i_i_i_i_i_i_i_i_i_i_i_i_i_i = get_u8(v_r24_i_i_i_i_i_i_i_i_i_i_i_i_i_i_i_i_i_i_i_i_i);
+    put_u8(v_r20_i_i_i_i_i_i_i_i_i_i_i_i_i_i_i_i_i_i_i_i_i, v_r26_i_i_i_i_i_i_i_i_i_i_i_i_i_i_i_i_i_i_i_i_i);
+    v_r30_i_i_i_i_i_i_i_i_i_i_i_i_i_i_i_i_i_i_i_i_i = (u64)((u64)(v_r0_04_i_i_i_i_i_i_i_i_i_i_i_i_i_i_i_i_i_i_i_i_i) | (u64)(1u));
+    v_r20_i_i_i_i_i_i_i_i_i_i_i_i_i_i_i_i_i_i_i_i_i_1 = v_r26_i_i_i_i_i_i_i_i_i_i_i_i_i_i_i + (int64_t)(v_r30_i_i_i_i_i_i_i_i_i_i_i_i_i_i_i_i_i_i_i_i_i);
+    v_r24_i_i_i_i_i_i_i_i_i_i_i_i_i_i_i_i_i_i_i_i_i_1 = v_r1_sroa_0_0_copyload_i_i_i_i_i_i_i_i_i_i_i_i_i_i + (int64_t)(v_r30_i_i_i_i_i_i_i_i_i_i_i_i_i_i_i_i_i_i_i_i_i);
+    v_r26_i_i_i_i_i_i_i_i_i_i_i_i_i_i_i_i_i_i_i_i_i_1 = get_u8(v_r24_i_i_i_i_i_i_i_i_i_i_i_i_i_i_i_i_i_i_i_i_i_1);
+    put_u8(v_r20_i_i_i_i_i_i_i_i_i_i_i_i_i_i_i_i_i_i_i_i_i_1, v_r26_i_i_i_i_i_i_i_i_i_i_i_i_i_i_i_i_i_i_i_i_i_1);
+    v_r30_i_i_i_i_i_i_i_i_i_i_i_i_i_i_i_i_i_i_i_i_i_1 = (u64)((u64)(v_r0_04_i_i_i_i_i_i_i_i_i_i_i_i_i_i_i_i_i_i_i_i_i) | (u64)(2u));
+    v_r20_i_i_i_i_i_i_i_i_i_i_i_i_i_i_i_i_i_i_i_i_i_2 = v_r26_i_i_i_i_i_i_i_i_i_i_i_i_i_i_i + (int64_t)(v_r30_i_i_i_i_i_i_i_i_i_i_i_i_i_i_i_i_i_i_i_i_i_1);
+    v_r24_i_i_i_i_i_i_i_i_i_i_i_i_i_i_i_i_i_i_i_i_i_2 = v_r1_sroa_0_0_copyload_i_i_i_i_i_i_i_i_i_i_i_i_i_i + (int64_t)(v_r30_i_i_i_i_i_i_i_i_i_i_i_i_i_i_i_i_i_i_i_i_i_1);
+    v_r26_i_i_i_i_i_i_i_i_i_i_i_i_i_i_i_i_i_i_i_i_i_2 = get_u8(v_r24_i_i_i_i_i_i_i_i_i_i_i_i_i_i_i_i_i_i_i_i_i_2);
+    put_u8(v_r20_i_i_i_i_i_i_i_i_i_i_i_i_i_i_i_i_i_i_i_i_i_2, v_r26_i_i_i_i_i_i_i_i_i_i_i_i_i_i_i_i_i_i_i_i_i_2);
+    v_r30_i_i_i_i_i_i_i_i_i_i_i_i_i_i_i_i_i_i_i_i_i_2 = (u64)((u64)(v_r0_04_i_i_i_i_i_i_i_i_i_i_i_i_i_i_i_i_i_i_i_i_i) | (u64)(3u));
+    v_r20_i_i_i_i_i_i_i_i_i_i_i_i_i_i_i_i_i_i_i_i_i_3 = v_r26_i_i_i_i_i_i_i_i_i_i_i_i_i_i_i + (int64_t)(v_r30_i_i_i_i_i_i_i_i_i_i_i_i_i_i_i_i_i_i_i_i_i_2);
+    v_r24_i_i_i_i_i_i_i_i_i_i_i_i_i_i_i_i_i_i_i_i_i_3 = v_r1_sroa_0_0_copyload_i_i_i_i_i_i_i_i_i_i_i_i_i_i + (int64_t)(v_r30_i_i_i_i_i_i_i_i_i_i_i_i_i_i_i_i_i_i_i_i_i_2);
+    v_r26_i_i_i_i_i_i_i_i_i_i_i_i_i_i_i_i_i_i_i_i_i_3 = get_u8(v_r24_i_i_i_i_i_i_i_i_i_i_i_i_i_i_i_i_i_i_i_i_i_3);
+    put_u8(v_r20_i_i_i_i_i_i_i_i_i_i_i_i_i_i_i_i_i_i_i_i_i_3, v_r26_i_i_i_i_i_i_i_i_i_i_i_i_i_i_i_i_i_i_i_i_i_3);
+    v_r30_i_i_i_i_i_i_i_i_i_i_i_i_i_i_i_i_i_i_i_i_i_3 = (u64)((u64)(v_r0_04_i_i_i_i_i_i_i_i_i_i_i_i_i_i_i_i_i_i_i_i_i) + (u64)(4u));
     v_niter_next_3 = (u64)((u64)(v_niter) + (u64)(4u));
     v_niter_ncmp_3 = v_niter_next_3 == v_unroll_iter;
-    if (v_niter_ncmp_3) { goto L_der_core_back_writer_BackWriter_prepend_exit_i_i_i__2; } else { p_v_r0_04_i_i_i_i_i_i_i_i_i_i_i_i_i_i_i_i_i_i_i_i_i_i___2 = v_r30_i_i_i_i_i_i_i_i_i_i_i_i_i_i_i_i_i_i_i_i_i_i_i___3; p_v_niter = v_niter_next_3; goto L_join_7_i_i_i_i_i_i_i_i_i_i_i_i_i_i_i_i_i_i_i_i_i_i__4; }
+    if (v_niter_ncmp_3) { goto L_der_core_back_writer_BackWriter_prepend_exit_i_i_i__2; } else { p_v_r0_04_i_i_i_i_i_i_i_i_i_i_i_i_i_i_i_i_i_i_i_i_i = v_r30_i_i_i_i_i_i_i_i_i_i_i_i_i_i_i_i_i_i_i_i_i_3; p_v_niter = v_niter_next_3; goto L_join_7_i_i_i_i_i_i_i_i_i_i_i_i_i_i_i_i_i_i_i_i_i; }
 L_der_core_back_writer_BackWriter_prepend_exit_i_i_i__2:;
     v_lcmp_mod_not = v_xtraiter == 0u;
-    if (v_lcmp_mod_not) { goto L_der_core_back_writer_BackWriter_prepend_exit_i_i_i; } else { p_v_r0_04_i_i_i_i_i_i_i_i_i_i_i_i_i_i_i_i_i_i_i_i_i_i_ = v_r30_i_i_i_i_i_i_i_i_i_i_i_i_i_i_i_i_i_i_i_i_i_i_i___3; goto L_join_7_i_i_i_i_i_i_i_i_i_i_i_i_i_i_i_i_i_i_i_i_i_i__2; }
-L_join_7_i_i_i_i_i_i_i_i_i_i_i_i_i_i_i_i_i_i_i_i_i_i__2:;
-    v_r0_04_i_i_i_i_i_i_i_i_i_i_i_i_i_i_i_i_i_i_i_i_i_i_ = p_v_r0_04_i_i_i_i_i_i_i_i_i_i_i_i_i_i_i_i_i_i_i_i_i_i_;
-    { p_v_r0_04_i_i_i_i_i_i_i_i_i_i_i_i_i_i_i_i_i_i_i_i_i_i___3 = v_r0_04_i_i_i_i_i_i_i_i_i_i_i_i_i_i_i_i_i_i_i_i_i_i_; p_v_epil_iter = 0u; goto L_join_7_i_i_i_i_i_i_i_i_i_i_i_i_i_i_i_i_i_i_i_i_i_i__5; }
-L_join_7_i_i_i_i_i_i_i_i_i_i_i_i_i_i_i_i_i_i_i_i_i_i__5:;
-    v_r0_04_i_i_i_i_i_i_i_i_i_i_i_i_i_i_i_i_i_i_i_i_i_i___3 = p_v_r0_04_i_i_i_i_i_i_i_i_i_i_i_i_i_i_i_i_i_i_i_i_i_i___3;
+    if (v_lcmp_mod_not) { goto L_der_core_back_writer_BackWriter_prepend_exit_i_i_i; } else { p_v_r0_04_i_i_i_i_i_i_i_i_i_i_i_i_i_i_i_i_i_i_i_i_i_ep = v_r30_i_i_i_i_i_i_i_i_i_i_i_i_i_i_i_i_i_i_i_i_i_3; goto L_join_7_i_i_i_i_i_i_i_i_i_i_i_i_i_i_i_i_i_i_i_i_i_e; }
+L_join_7_i_i_i_i_i_i_i_i_i_i_i_i_i_i_i_i_i_i_i_i_i_e:;
+    v_r0_04_i_i_i_i_i_i_i_i_i_i_i_i_i_i_i_i_i_i_i_i_i_ep = p_v_r0_04_i_i_i_i_i_i_i_i_i_i_i_i_i_i_i_i_i_i_i_i_i_ep;
+    { p_v_r0_04_i_i_i_i_i_i_i_i_i_i_i_i_i_i_i_i_i_i_i_i_i_ep__2 = v_r0_04_i_i_i_i_i_i_i_i_i_i_i_i_i_i_i_i_i_i_i_i_i_ep; p_v_epil_iter = 0u; goto L_join_7_i_i_i_i_i_i_i_i_i_i_i_i_i_i_i_i_i_i_i_i_i_e__2; }
+L_join_7_i_i_i_i_i_i_i_i_i_i_i_i_i_i_i_i_i_i_i_i_i_e__2:;
+    v_r0_04_i_i_i_i_i_i_i_i_i_i_i_i_i_i_i_i_i_i_i_i_i_ep__2 = p_v_r0_04_i_i_i_i_i_i_i_i_i_i_i_i_i_i_i_i_i_i_i_i_i_ep__2;
     v_epil_iter = p_v_epil_iter;
-    v_r20_i_i_i_i_i_i_i_i_i_i_i_i_i_i_i_i_i_i_i_i_i_i_i___4 = v_r26_i_i_i_i_i_i_i_i_i_i_i_i_i_i_i_i_i + (int64_t)(v_r0_04_i_i_i_i_i_i_i_i_i_i_i_i_i_i_i_i_i_i_i_i_i_i___3);
-    v_r24_i_i_i_i_i_i_i_i_i_i_i_i_i_i_i_i_i_i_i_i_i_i_i___4 = v_r1_sroa_0_0_copyload_i_i_i_i_i_i_i_i_i_i_i_i_i_i_i + (int64_t)(v_r0_04_i_i_i_i_i_i_i_i_i_i_i_i_i_i_i_i_i_i_i_i_i_i___3);
-    v_r26_i_i_i_i_i_i_i_i_i_i_i_i_i_i_i_i_i_i_i_i_i_i_i___4 = get_u8(v_r24_i_i_i_i_i_i_i_i_i_i_i_i_i_i_i_i_i_i_i_i_i_i_i___4);
-    put_u8(v_r20_i_i_i_i_i_i_i_i_i_i_i_i_i_i_i_i_i_i_i_i_i_i_i___4, v_r26_i_i_i_i_i_i_i_i_i_i_i_i_i_i_i_i_i_i_i_i_i_i_i___4);
-    v_r30_i_i_i_i_i_i_i_i_i_i_i_i_i_i_i_i_i_i_i_i_i_i_i___4 = (u64)((u64)(v_r0_04_i_i_i_i_i_i_i_i_i_i_i_i_i_i_i_i_i_i_i_i_i_i___3) + (u64)(1u));
+    v_r20_i_i_i_i_i_i_i_i_i_i_i_i_i_i_i_i_i_i_i_i_i_epil = v_r26_i_i_i_i_i_i_i_i_i_i_i_i_i_i_i + (int64_t)(v_r0_04_i_i_i_i_i_i_i_i_i_i_i_i_i_i_i_i_i_i_i_i_i_ep__2);
+    v_r24_i_i_i_i_i_i_i_i_i_i_i_i_i_i_i_i_i_i_i_i_i_epil = v_r1_sroa_0_0_copyload_i_i_i_i_i_i_i_i_i_i_i_i_i_i + (int64_t)(v_r0_04_i_i_i_i_i_i_i_i_i_i_i_i_i_i_i_i_i_i_i_i_i_ep__2);
+    v_r26_i_i_i_i_i_i_i_i_i_i_i_i_i_i_i_i_i_i_i_i_i_epil = get_u8(v_r24_i_i_i_i_i_i_i_i_i_i_i_i_i_i_i_i_i_i_i_i_i_epil);
+    put_u8(v_r20_i_i_i_i_i_i_i_i_i_i_i_i_i_i_i_i_i_i_i_i_i_epil, v_r26_i_i_i_i_i_i_i_i_i_i_i_i_i_i_i_i_i_i_i_i_i_epil);
+    v_r30_i_i_i_i_i_i_i_i_i_i_i_i_i_i_i_i_i_i_i_i_i_epil = (u64)((u64)(v_r0_04_i_i_i_i_i_i_i_i_i_i_i_i_i_i_i_i_i_i_i_i_i_ep__2) + (u64)(1u));
     v_epil_iter_next = (u64)((u64)(v_epil_iter) + (u64)(1u));
     v_epil_iter_cmp_not = v_epil_iter_next == v_xtraiter;
-    if (v_epil_iter_cmp_not) { goto L_der_core_back_writer_BackWriter_prepend_exit_i_i_i; } else { p_v_r0_04_i_i_i_i_i_i_i_i_i_i_i_i_i_i_i_i_i_i_i_i_i_i___3 = v_r30_i_i_i_i_i_i_i_i_i_i_i_i_i_i_i_i_i_i_i_i_i_i_i___4; p_v_epil_iter = v_epil_iter_next; goto L_join_7_i_i_i_i_i_i_i_i_i_i_i_i_i_i_i_i_i_i_i_i_i_i__5; }
+    if (v_epil_iter_cmp_not) { goto L_der_core_back_writer_BackWriter_prepend_exit_i_i_i; } else { p_v_r0_04_i_i_i_i_i_i_i_i_i_i_i_i_i_i_i_i_i_i_i_i_i_ep__2 = v_r30_i_i_i_i_i_i_i_i_i_i_i_i_i_i_i_i_i_i_i_i_i_epil; p_v_epil_iter = v_epil_iter_next; goto L_join_7_i_i_i_i_i_i_i_i_i_i_i_i_i_i_i_i_i_i_i_i_i_e__2; }
 L_der_core_back_writer_BackWriter_prepend_exit_i_i_i:;
-    v_r12_i_i_i_i_i_i_i_i_i_i_i_i_i_i_i_i = v_r21_i_i_i_i_i_i_i_i_i_i_i + 64;
-    v_r13_i_i_i_i_i_i_i_i_i_i_i_i_i_i_i_i = get_u64(v_r12_i_i_i_i_i_i_i_i_i_i_i_i_i_i_i_i);
-    v_r15_not_i_i_i_i_i_i_i_i_i_i_i_i_i_i_i_i = v_r13_i_i_i_i_i_i_i_i_i_i_i_i_i_i_i_i == 0u;
-    if (v_r15_not_i_i_i_i_i_i_i_i_i_i_i_i_i_i_i_i) { p_v_r7_sroa_129_8_i_i_i = v_r17_i_i_i_i_i_i_i_i_i_i_i_i_i_i_i_i_i; goto L_der_core_borrowed_BorrowedEncode_prepend_25cd36d81; } else { goto L_then_1_i_i_i_i_i_i_i_i_i_i_i_i_i_i_i_i; }
-L_then_1_i_i_i_i_i_i_i_i_i_i_i_i_i_i_i_i:;
-    v_r17_i3_i_i_i_i_i_i_i_i_i_i_i_i_i_i_i_i = (u64)((u64)(v_r17_i_i_i_i_i_i_i_i_i_i_i_i_i_i_i_i_i) + (u64)(18446744073709551615ull));
-    v_r26_i5_i_i_i_i_i_i_i_i_i_i_i_i_i_i_i_i = (P)((uintptr_t)v_r14 + (u64)(v_r17_i3_i_i_i_i_i_i_i_i_i_i_i_i_i_i_i_i));
-    put_u8(v_r26_i5_i_i_i_i_i_i_i_i_i_i_i_i_i_i_i_i, 0u);
-    { p_v_r7_sroa_129_8_i_i_i = v_r17_i3_i_i_i_i_i_i_i_i_i_i_i_i_i_i_i_i; goto L_der_core_borrowed_BorrowedEncode_prepend_25cd36d81; }
+    v_r12_i_i_i_i_i_i_i_i_i_i_i_i_i_i = v_r21_i_i_i_i_i_i_i_i_i + 64;
+    v_r13_i_i_i_i_i_i_i_i_i_i_i_i_i_i = get_u64(v_r12_i_i_i_i_i_i_i_i_i_i_i_i_i_i);
+    v_r15_not_i_i_i_i_i_i_i_i_i_i_i_i_i_i = v_r13_i_i_i_i_i_i_i_i_i_i_i_i_i_i == 0u;
+    if (v_r15_not_i_i_i_i_i_i_i_i_i_i_i_i_i_i) { p_v_r7_sroa_129_8_i_i_i = v_r17_i_i_i_i_i_i_i_i_i_i_i_i_i_i_i; goto L_der_core_borrowed_BorrowedEncode_prepend_25cd36d81; } else { goto L_then_1_i_i_i_i_i_i_i_i_i_i_i_i_i_i; }
+L_then_1_i_i_i_i_i_i_i_i_i_i_i_i_i_i:;
+    v_r17_i3_i_i_i_i_i_i_i_i_i_i_i_i_i_i = (u64)((u64)(v_r17_i_i_i_i_i_i_i_i_i_i_i_i_i_i_i) + (u64)(18446744073709551615ull));
+    v_r26_i5_i_i_i_i_i_i_i_i_i_i_i_i_i_i = (P)((uintptr_t)v_r14 + (u64)(v_r17_i3_i_i_i_i_i_i_i_i_i_i_i_i_i_i));
+    put_u8(v_r26_i5_i_i_i_i_i_i_i_i_i_i_i_i_i_i, 0u);
+    { p_v_r7_sroa_129_8_i_i_i = v_r17_i3_i_i_i_i_i_i_i_i_i_i_i_i_i_i; goto L_der_core_borrowed_BorrowedEncode_prepend_25cd36d81; }
 L_der_core_borrowed_BorrowedEncode_prepend_25cd36d81:;
     v_r7_sroa_129_8_i_i_i = p_v_r7_sroa_129_8_i_i_i;
     v_20 = (u64)((u64)(v_r7_sroa_129_8_i_i_i) + (u64)(v_r3_i5_i_i_i));
     v_21 = (u64)((u64)(v_r7_sroa_129_7_i_i_i) - (u64)(v_20));
     v_22 = (u32)(v_21);
-    v_r2_i_i_i_i_i_i_i_i_i_i_i_i_i_i_i_i = (u32)((u32)(v_r1_sroa_9_4_copyload_i_i_i_i) + (u32)(v_22));
-    v_r59_i1008_i_i_i = v_r2_i_i_i_i_i_i_i_i_i_i_i_i_i_i_i_i < 128u;
+    v_r2_i_i_i_i_i_i_i_i_i_i_i_i_i_i = (u32)((u32)(v_r1_sroa_9_4_copyload_i_i_i_i) + (u32)(v_22));
+    v_r59_i1008_i_i_i = v_r2_i_i_i_i_i_i_i_i_i_i_i_i_i_i < 128u;
     if (v_r59_i1008_i_i_i) { goto L_then_1_i1069_i_i_i; } else { goto L_else_2_i1009_i_i_i; }
 L_then_1_i1069_i_i_i:;
-    v_r64_i1070_i_i_i = (u16)(v_r2_i_i_i_i_i_i_i_i_i_i_i_i_i_i_i_i);
+    v_r64_i1070_i_i_i = (u16)(v_r2_i_i_i_i_i_i_i_i_i_i_i_i_i_i);
     v_r17_i_i1074_i_i_i = (u64)((u64)(v_r7_sroa_129_8_i_i_i) + (u64)(18446744073709551614ull));
     v_r26_i_i1076_i_i_i = (P)((uintptr_t)v_r14 + (u64)(v_r17_i_i1074_i_i_i));
     v_r8_i1003_sroa_4_0_insert_shift_i_i_i = (u16)((u32)(v_r64_i1070_i_i_i) << (u32)((8u & 31)));
@@ -35124,10 +35124,10 @@ L_then_1_i1069_i_i_i:;
     put_u16(v_r26_i_i1076_i_i_i, v_r8_i1003_sroa_0_0_insert_insert_i_i_i);
     { p_v_r7_sroa_129_26_i_i_i = v_r17_i_i1074_i_i_i; goto L_der_core_back_writer_BackWriter_prepend_header_exi; }
 L_else_2_i1009_i_i_i:;
-    v_r75_i1010_i_i_i = v_r2_i_i_i_i_i_i_i_i_i_i_i_i_i_i_i_i < 256u;
+    v_r75_i1010_i_i_i = v_r2_i_i_i_i_i_i_i_i_i_i_i_i_i_i < 256u;
     if (v_r75_i1010_i_i_i) { goto L_then_4_i1060_i_i_i; } else { goto L_else_5_i1011_i_i_i; }
 L_then_4_i1060_i_i_i:;
-    v_r80_i1061_i_i_i = (u8)(v_r2_i_i_i_i_i_i_i_i_i_i_i_i_i_i_i_i);
+    v_r80_i1061_i_i_i = (u8)(v_r2_i_i_i_i_i_i_i_i_i_i_i_i_i_i);
     v_r17_i28_i1066_i_i_i = (u64)((u64)(v_r7_sroa_129_8_i_i_i) + (u64)(18446744073709551613ull));
     v_r26_i30_i1068_i_i_i = (P)((uintptr_t)v_r14 + (u64)(v_r17_i28_i1066_i_i_i));
     put_u8(v_r26_i30_i1068_i_i_i, 2u);
@@ -35137,24 +35137,24 @@ L_then_4_i1060_i_i_i:;
     put_u8(v_r14_i1004_sroa_5_0_r26_i30_i1068_sroa_idx_i_i_i, v_r80_i1061_i_i_i);
     { p_v_r7_sroa_129_26_i_i_i = v_r17_i28_i1066_i_i_i; goto L_der_core_back_writer_BackWriter_prepend_header_exi; }
 L_else_5_i1011_i_i_i:;
-    v_r92_i1012_i_i_i = v_r2_i_i_i_i_i_i_i_i_i_i_i_i_i_i_i_i < 65536u;
+    v_r92_i1012_i_i_i = v_r2_i_i_i_i_i_i_i_i_i_i_i_i_i_i < 65536u;
     if (v_r92_i1012_i_i_i) { goto L_then_7_i1048_i_i_i; } else { goto L_else_8_i1013_i_i_i; }
 L_then_7_i1048_i_i_i:;
     v_r17_i46_i1056_i_i_i = (u64)((u64)(v_r7_sroa_129_8_i_i_i) + (u64)(18446744073709551612ull));
     v_r26_i48_i1058_i_i_i = (P)((uintptr_t)v_r14 + (u64)(v_r17_i46_i1056_i_i_i));
-    v_23 = (u32)((u32)(v_r2_i_i_i_i_i_i_i_i_i_i_i_i_i_i_i_i) | (u32)(42074112u));
+    v_23 = (u32)((u32)(v_r2_i_i_i_i_i_i_i_i_i_i_i_i_i_i) | (u32)(42074112u));
     v_r20_i1005_sroa_0_0_insert_insert_i_i_i = __builtin_bswap32(v_23);
     put_u32(v_r26_i48_i1058_i_i_i, v_r20_i1005_sroa_0_0_insert_insert_i_i_i);
     { p_v_r7_sroa_129_26_i_i_i = v_r17_i46_i1056_i_i_i; goto L_der_core_back_writer_BackWriter_prepend_header_exi; }
 L_else_8_i1013_i_i_i:;
-    v_r117_i1014_i_i_i = v_r2_i_i_i_i_i_i_i_i_i_i_i_i_i_i_i_i < 16777216u;
+    v_r117_i1014_i_i_i = v_r2_i_i_i_i_i_i_i_i_i_i_i_i_i_i < 16777216u;
     if (v_r117_i1014_i_i_i) { goto L_then_10_i1033_i_i_i; } else { goto L_else_11_i1015_i_i_i; }
 L_then_10_i1033_i_i_i:;
-    v_r12223_i1034_i_i_i = (u32)((u32)(v_r2_i_i_i_i_i_i_i_i_i_i_i_i_i_i_i_i) >> (u32)((16u & 31)));
+    v_r12223_i1034_i_i_i = (u32)((u32)(v_r2_i_i_i_i_i_i_i_i_i_i_i_i_i_i) >> (u32)((16u & 31)));
     v_r124_i1035_i_i_i = (u8)(v_r12223_i1034_i_i_i);
-    v_r12624_i1036_i_i_i = (u32)((u32)(v_r2_i_i_i_i_i_i_i_i_i_i_i_i_i_i_i_i) >> (u32)((8u & 31)));
+    v_r12624_i1036_i_i_i = (u32)((u32)(v_r2_i_i_i_i_i_i_i_i_i_i_i_i_i_i) >> (u32)((8u & 31)));
     v_r130_i1037_i_i_i = (u8)(v_r12624_i1036_i_i_i);
-    v_r134_i1038_i_i_i = (u8)(v_r2_i_i_i_i_i_i_i_i_i_i_i_i_i_i_i_i);
+    v_r134_i1038_i_i_i = (u8)(v_r2_i_i_i_i_i_i_i_i_i_i_i_i_i_i);
     v_r17_i64_i1045_i_i_i = (u64)((u64)(v_r7_sroa_129_8_i_i_i) + (u64)(18446744073709551611ull));
     v_r26_i66_i1047_i_i_i = (P)((uintptr_t)v_r14 + (u64)(v_r17_i64_i1045_i_i_i));
     put_u8(v_r26_i66_i1047_i_i_i, 2u);
@@ -35168,13 +35168,13 @@ L_then_10_i1033_i_i_i:;
     put_u8(v_r29_i1006_sroa_7_0_r26_i66_i1047_sroa_idx_i_i_i, v_r134_i1038_i_i_i);
     { p_v_r7_sroa_129_26_i_i_i = v_r17_i64_i1045_i_i_i; goto L_der_core_back_writer_BackWriter_prepend_header_exi; }
 L_else_11_i1015_i_i_i:;
-    v_r15020_i1016_i_i_i = (u32)((u32)(v_r2_i_i_i_i_i_i_i_i_i_i_i_i_i_i_i_i) >> (u32)((24u & 31)));
+    v_r15020_i1016_i_i_i = (u32)((u32)(v_r2_i_i_i_i_i_i_i_i_i_i_i_i_i_i) >> (u32)((24u & 31)));
     v_r152_i1017_i_i_i = (u8)(v_r15020_i1016_i_i_i);
-    v_r15421_i1018_i_i_i = (u32)((u32)(v_r2_i_i_i_i_i_i_i_i_i_i_i_i_i_i_i_i) >> (u32)((16u & 31)));
+    v_r15421_i1018_i_i_i = (u32)((u32)(v_r2_i_i_i_i_i_i_i_i_i_i_i_i_i_i) >> (u32)((16u & 31)));
     v_r158_i1019_i_i_i = (u8)(v_r15421_i1018_i_i_i);
-    v_r16022_i1020_i_i_i = (u32)((u32)(v_r2_i_i_i_i_i_i_i_i_i_i_i_i_i_i_i_i) >> (u32)((8u & 31)));
+    v_r16022_i1020_i_i_i = (u32)((u32)(v_r2_i_i_i_i_i_i_i_i_i_i_i_i_i_i) >> (u32)((8u & 31)));
     v_r164_i1021_i_i_i = (u8)(v_r16022_i1020_i_i_i);
-    v_r168_i1022_i_i_i = (u8)(v_r2_i_i_i_i_i_i_i_i_i_i_i_i_i_i_i_i);
+    v_r168_i1022_i_i_i = (u8)(v_r2_i_i_i_i_i_i_i_i_i_i_i_i_i_i);
     v_r17_i82_i1030_i_i_i = (u64)((u64)(v_r7_sroa_129_8_i_i_i) + (u64)(18446744073709551610ull));
     v_r26_i84_i1032_i_i_i = (P)((uintptr_t)v_r14 + (u64)(v_r17_i82_i1030_i_i_i));
     put_u8(v_r26_i84_i1032_i_i_i, 2u);
@@ -35191,89 +35191,89 @@ L_else_11_i1015_i_i_i:;
     { p_v_r7_sroa_129_26_i_i_i = v_r17_i82_i1030_i_i_i; goto L_der_core_back_writer_BackWriter_prepend_header_exi; }
 L_der_core_back_writer_BackWriter_prepend_header_exi:;
     v_r7_sroa_129_26_i_i_i = p_v_r7_sroa_129_26_i_i_i;
-    v_r1_sroa_0_0_copyload_i_i_i7_i_i_i_i_i_i_i_i_i_i_i_ = get_P(v_r16_i_i_i_i_i_i_i_i_i_i_i_i_i);
-    v_r1_sroa_3_0_a0_sroa_idx_i_i_i8_i_i_i_i_i_i_i_i_i_i = v_r21_i_i_i_i_i_i_i_i_i_i_i + 32;
-    v_r1_sroa_3_0_copyload_i_i_i9_i_i_i_i_i_i_i_i_i_i_i_ = get_u64(v_r1_sroa_3_0_a0_sroa_idx_i_i_i8_i_i_i_i_i_i_i_i_i_i);
-    v_r17_i_i_i_i10_i_i_i_i_i_i_i_i_i_i_i_i_i = (u64)((u64)(v_r7_sroa_129_26_i_i_i) - (u64)(v_r1_sroa_3_0_copyload_i_i_i9_i_i_i_i_i_i_i_i_i_i_i_));
-    v_r26_i_i_i_i12_i_i_i_i_i_i_i_i_i_i_i_i_i = (P)((uintptr_t)v_r14 + (u64)(v_r17_i_i_i_i10_i_i_i_i_i_i_i_i_i_i_i_i_i));
-    v_r8_i_i_i_i_i_i_i_i_i_i13_i_i_i_i_i_i_i_i_i_i_i_i_i = (u64)((uintptr_t)v_r26_i_i_i_i12_i_i_i_i_i_i_i_i_i_i_i_i_i);
-    v_r9_i_i_i_i_i_i_i_i_i_i14_i_i_i_i_i_i_i_i_i_i_i_i_i = (u64)((uintptr_t)v_r1_sroa_0_0_copyload_i_i_i7_i_i_i_i_i_i_i_i_i_i_i_);
-    v_r10_i_i_i_i_i_i_i_i_i_i15_i_i_i_i_i_i_i_i_i_i_i_i_ = (u64)((u64)(v_r8_i_i_i_i_i_i_i_i_i_i13_i_i_i_i_i_i_i_i_i_i_i_i_i) - (u64)(v_r9_i_i_i_i_i_i_i_i_i_i14_i_i_i_i_i_i_i_i_i_i_i_i_i));
-    v_r11_i_i_i_i_i_i_i_i_i_i16_i_i_i_i_i_i_i_i_i_i_i_i_ = v_r10_i_i_i_i_i_i_i_i_i_i15_i_i_i_i_i_i_i_i_i_i_i_i_ < v_r1_sroa_3_0_copyload_i_i_i9_i_i_i_i_i_i_i_i_i_i_i_;
-    if (v_r11_i_i_i_i_i_i_i_i_i_i16_i_i_i_i_i_i_i_i_i_i_i_i_) { goto L_join_7_i_i_i_i_i_i_i_i_i_i30_i_i_i_i_i_i_i_i_i_i_i; } else { goto L_apart_2_i_i_i_i_i_i_i_i_i_i17_i_i_i_i_i_i_i_i_i_i_; }
+    v_r1_sroa_0_0_copyload_i_i_i7_i_i_i_i_i_i_i_i_i_i_i = get_P(v_r16_i_i_i_i_i_i_i_i_i_i_i);
+    v_r1_sroa_3_0_a0_sroa_idx_i_i_i8_i_i_i_i_i_i_i_i_i_i = v_r21_i_i_i_i_i_i_i_i_i + 32;
+    v_r1_sroa_3_0_copyload_i_i_i9_i_i_i_i_i_i_i_i_i_i_i = get_u64(v_r1_sroa_3_0_a0_sroa_idx_i_i_i8_i_i_i_i_i_i_i_i_i_i);
+    v_r17_i_i_i_i10_i_i_i_i_i_i_i_i_i_i_i = (u64)((u64)(v_r7_sroa_129_26_i_i_i) - (u64)(v_r1_sroa_3_0_copyload_i_i_i9_i_i_i_i_i_i_i_i_i_i_i));
+    v_r26_i_i_i_i12_i_i_i_i_i_i_i_i_i_i_i = (P)((uintptr_t)v_r14 + (u64)(v_r17_i_i_i_i10_i_i_i_i_i_i_i_i_i_i_i));
+    v_r8_i_i_i_i_i_i_i_i_i_i13_i_i_i_i_i_i_i_i_i_i_i = (u64)((uintptr_t)v_r26_i_i_i_i12_i_i_i_i_i_i_i_i_i_i_i);
+    v_r9_i_i_i_i_i_i_i_i_i_i14_i_i_i_i_i_i_i_i_i_i_i = (u64)((uintptr_t)v_r1_sroa_0_0_copyload_i_i_i7_i_i_i_i_i_i_i_i_i_i_i);
+    v_r10_i_i_i_i_i_i_i_i_i_i15_i_i_i_i_i_i_i_i_i_i_i = (u64)((u64)(v_r8_i_i_i_i_i_i_i_i_i_i13_i_i_i_i_i_i_i_i_i_i_i) - (u64)(v_r9_i_i_i_i_i_i_i_i_i_i14_i_i_i_i_i_i_i_i_i_i_i));
+    v_r11_i_i_i_i_i_i_i_i_i_i16_i_i_i_i_i_i_i_i_i_i_i = v_r10_i_i_i_i_i_i_i_i_i_i15_i_i_i_i_i_i_i_i_i_i_i < v_r1_sroa_3_0_copyload_i_i_i9_i_i_i_i_i_i_i_i_i_i_i;
+    if (v_r11_i_i_i_i_i_i_i_i_i_i16_i_i_i_i_i_i_i_i_i_i_i) { goto L_join_7_i_i_i_i_i_i_i_i_i_i30_i_i_i_i_i_i_i_i_i_i_i; } else { goto L_apart_2_i_i_i_i_i_i_i_i_i_i17_i_i_i_i_i_i_i_i_i_i_; }
 L_join_7_i_i_i_i_i_i_i_i_i_i30_i_i_i_i_i_i_i_i_i_i_i:;
-    v_xtraiter172 = (u64)((u64)(v_r1_sroa_3_0_copyload_i_i_i9_i_i_i_i_i_i_i_i_i_i_i_) & (u64)(3u));
-    v_24 = v_r1_sroa_3_0_copyload_i_i_i9_i_i_i_i_i_i_i_i_i_i_i_ < 4u;
+    v_xtraiter172 = (u64)((u64)(v_r1_sroa_3_0_copyload_i_i_i9_i_i_i_i_i_i_i_i_i_i_i) & (u64)(3u));
+    v_24 = v_r1_sroa_3_0_copyload_i_i_i9_i_i_i_i_i_i_i_i_i_i_i < 4u;
     if (v_24) { p_v_r0_04_i_i_i_i_i_i_i_i_i_i31_i_i_i_i_i_i_i_i_i_i_i_ = 0u; goto L_join_7_i_i_i_i_i_i_i_i_i_i30_i_i_i_i_i_i_i_i_i_i_i__2; } else { goto L_join_7_i_i_i_i_i_i_i_i_i_i30_i_i_i_i_i_i_i_i_i_i_i__3; }
 L_join_7_i_i_i_i_i_i_i_i_i_i30_i_i_i_i_i_i_i_i_i_i_i__3:;
-    v_unroll_iter176 = (u64)((u64)(v_r1_sroa_3_0_copyload_i_i_i9_i_i_i_i_i_i_i_i_i_i_i_) & (u64)(18446744073709551612ull));
-    { p_v_r0_04_i_i_i_i_i_i_i_i_i_i31_i_i_i_i_i_i_i_i_i_i_i___2 = 0u; p_v_niter177 = 0u; goto L_join_7_i_i_i_i_i_i_i_i_i_i30_i_i_i_i_i_i_i_i_i_i_i__4; }
+    v_unroll_iter176 = (u64)((u64)(v_r1_sroa_3_0_copyload_i_i_i9_i_i_i_i_i_i_i_i_i_i_i) & (u64)(18446744073709551612ull));
+    { p_v_r0_04_i_i_i_i_i_i_i_i_i_i31_i_i_i_i_i_i_i_i_i_i_i = 0u; p_v_niter177 = 0u; goto L_join_7_i_i_i_i_i_i_i_i_i_i30_i_i_i_i_i_i_i_i_i_i_i__4; }
 L_apart_2_i_i_i_i_i_i_i_i_i_i17_i_i_i_i_i_i_i_i_i_i_:;
-    move(v_r26_i_i_i_i12_i_i_i_i_i_i_i_i_i_i_i_i_i, v_r1_sroa_0_0_copyload_i_i_i7_i_i_i_i_i_i_i_i_i_i_i_, v_r1_sroa_3_0_copyload_i_i_i9_i_i_i_i_i_i_i_i_i_i_i_);
+    move(v_r26_i_i_i_i12_i_i_i_i_i_i_i_i_i_i_i, v_r1_sroa_0_0_copyload_i_i_i7_i_i_i_i_i_i_i_i_i_i_i, v_r1_sroa_3_0_copyload_i_i_i9_i_i_i_i_i_i_i_i_i_i_i);
     { goto L_der_core_back_writer_BackWriter_prepend_exit_i_i_i__3; }
 L_join_7_i_i_i_i_i_i_i_i_i_i30_i_i_i_i_i_i_i_i_i_i_i__4:;
-    v_r0_04_i_i_i_i_i_i_i_i_i_i31_i_i_i_i_i_i_i_i_i_i_i___2 = p_v_r0_04_i_i_i_i_i_i_i_i_i_i31_i_i_i_i_i_i_i_i_i_i_i___2;
+    v_r0_04_i_i_i_i_i_i_i_i_i_i31_i_i_i_i_i_i_i_i_i_i_i = p_v_r0_04_i_i_i_i_i_i_i_i_i_i31_i_i_i_i_i_i_i_i_i_i_i;
     v_niter177 = p_v_niter177;
-    v_r20_i_i_i_i_i_i_i_i_i_i32_i_i_i_i_i_i_i_i_i_i_i_i_ = v_r26_i_i_i_i12_i_i_i_i_i_i_i_i_i_i_i_i_i + (int64_t)(v_r0_04_i_i_i_i_i_i_i_i_i_i31_i_i_i_i_i_i_i_i_i_i_i___2);
-    v_r24_i_i_i_i_i_i_i_i_i_i33_i_i_i_i_i_i_i_i_i_i_i_i_ = v_r1_sroa_0_0_copyload_i_i_i7_i_i_i_i_i_i_i_i_i_i_i_ + (int64_t)(v_r0_04_i_i_i_i_i_i_i_i_i_i31_i_i_i_i_i_i_i_i_i_i_i___2);
-    v_r26_i_i_i_i_i_i_i_i_i_i34_i_i_i_i_i_i_i_i_i_i_i_i_ = get_u8(v_r24_i_i_i_i_i_i_i_i_i_i33_i_i_i_i_i_i_i_i_i_i_i_i_);
-    put_u8(v_r20_i_i_i_i_i_i_i_i_i_i32_i_i_i_i_i_i_i_i_i_i_i_i_, v_r26_i_i_i_i_i_i_i_i_i_i34_i_i_i_i_i_i_i_i_i_i_i_i_);
-    v_r30_i_i_i_i_i_i_i_i_i_i35_i_i_i_i_i_i_i_i_i_i_i_i_ = (u64)((u64)(v_r0_04_i_i_i_i_i_i_i_i_i_i31_i_i_i_i_i_i_i_i_i_i_i___2) | (u64)(1u));
-    v_r20_i_i_i_i_i_i_i_i_i_i32_i_i_i_i_i_i_i_i_i_i_i_i___2 = v_r26_i_i_i_i12_i_i_i_i_i_i_i_i_i_i_i_i_i + (int64_t)(v_r30_i_i_i_i_i_i_i_i_i_i35_i_i_i_i_i_i_i_i_i_i_i_i_);
-    v_r24_i_i_i_i_i_i_i_i_i_i33_i_i_i_i_i_i_i_i_i_i_i_i___2 = v_r1_sroa_0_0_copyload_i_i_i7_i_i_i_i_i_i_i_i_i_i_i_ + (int64_t)(v_r30_i_i_i_i_i_i_i_i_i_i35_i_i_i_i_i_i_i_i_i_i_i_i_);
-    v_r26_i_i_i_i_i_i_i_i_i_i34_i_i_i_i_i_i_i_i_i_i_i_i___2 = get_u8(v_r24_i_i_i_i_i_i_i_i_i_i33_i_i_i_i_i_i_i_i_i_i_i_i___2);
-    put_u8(v_r20_i_i_i_i_i_i_i_i_i_i32_i_i_i_i_i_i_i_i_i_i_i_i___2, v_r26_i_i_i_i_i_i_i_i_i_i34_i_i_i_i_i_i_i_i_i_i_i_i___2);
-    v_r30_i_i_i_i_i_i_i_i_i_i35_i_i_i_i_i_i_i_i_i_i_i_i___2 = (u64)((u64)(v_r0_04_i_i_i_i_i_i_i_i_i_i31_i_i_i_i_i_i_i_i_i_i_i___2) | (u64)(2u));
-    v_r20_i_i_i_i_i_i_i_i_i_i32_i_i_i_i_i_i_i_i_i_i_i_i___3 = v_r26_i_i_i_i12_i_i_i_i_i_i_i_i_i_i_i_i_i + (int64_t)(v_r30_i_i_i_i_i_i_i_i_i_i35_i_i_i_i_i_i_i_i_i_i_i_i___2);
-    v_r24_i_i_i_i_i_i_i_i_i_i33_i_i_i_i_i_i_i_i_i_i_i_i___3 = v_r1_sroa_0_0_copyload_i_i_i7_i_i_i_i_i_i_i_i_i_i_i_ + (int64_t)(v_r30_i_i_i_i_i_i_i_i_i_i35_i_i_i_i_i_i_i_i_i_i_i_i___2);
-    v_r26_i_i_i_i_i_i_i_i_i_i34_i_i_i_i_i_i_i_i_i_i_i_i___3 = get_u8(v_r24_i_i_i_i_i_i_i_i_i_i33_i_i_i_i_i_i_i_i_i_i_i_i___3);
-    put_u8(v_r20_i_i_i_i_i_i_i_i_i_i32_i_i_i_i_i_i_i_i_i_i_i_i___3, v_r26_i_i_i_i_i_i_i_i_i_i34_i_i_i_i_i_i_i_i_i_i_i_i___3);
-    v_r30_i_i_i_i_i_i_i_i_i_i35_i_i_i_i_i_i_i_i_i_i_i_i___3 = (u64)((u64)(v_r0_04_i_i_i_i_i_i_i_i_i_i31_i_i_i_i_i_i_i_i_i_i_i___2) | (u64)(3u));
-    v_r20_i_i_i_i_i_i_i_i_i_i32_i_i_i_i_i_i_i_i_i_i_i_i___4 = v_r26_i_i_i_i12_i_i_i_i_i_i_i_i_i_i_i_i_i + (int64_t)(v_r30_i_i_i_i_i_i_i_i_i_i35_i_i_i_i_i_i_i_i_i_i_i_i___3);
-    v_r24_i_i_i_i_i_i_i_i_i_i33_i_i_i_i_i_i_i_i_i_i_i_i___4 = v_r1_sroa_0_0_copyload_i_i_i7_i_i_i_i_i_i_i_i_i_i_i_ + (int64_t)(v_r30_i_i_i_i_i_i_i_i_i_i35_i_i_i_i_i_i_i_i_i_i_i_i___3);
-    v_r26_i_i_i_i_i_i_i_i_i_i34_i_i_i_i_i_i_i_i_i_i_i_i___4 = get_u8(v_r24_i_i_i_i_i_i_i_i_i_i33_i_i_i_i_i_i_i_i_i_i_i_i___4);
-    put_u8(v_r20_i_i_i_i_i_i_i_i_i_i32_i_i_i_i_i_i_i_i_i_i_i_i___4, v_r26_i_i_i_i_i_i_i_i_i_i34_i_i_i_i_i_i_i_i_i_i_i_i___4);
-    v_r30_i_i_i_i_i_i_i_i_i_i35_i_i_i_i_i_i_i_i_i_i_i_i___4 = (u64)((u64)(v_r0_04_i_i_i_i_i_i_i_i_i_i31_i_i_i_i_i_i_i_i_i_i_i___2) + (u64)(4u));
+    v_r20_i_i_i_i_i_i_i_i_i_i32_i_i_i_i_i_i_i_i_i_i_i = v_r26_i_i_i_i12_i_i_i_i_i_i_i_i_i_i_i + (int64_t)(v_r0_04_i_i_i_i_i_i_i_i_i_i31_i_i_i_i_i_i_i_i_i_i_i);
+    v_r24_i_i_i_i_i_i_i_i_i_i33_i_i_i_i_i_i_i_i_i_i_i = v_r1_sroa_0_0_copyload_i_i_i7_i_i_i_i_i_i_i_i_i_i_i + (int64_t)(v_r0_04_i_i_i_i_i_i_i_i_i_i31_i_i_i_i_i_i_i_i_i_i_i);
+    v_r26_i_i_i_i_i_i_i_i_i_i34_i_i_i_i_i_i_i_i_i_i_i = get_u8(v_r24_i_i_i_i_i_i_i_i_i_i33_i_i_i_i_i_i_i_i_i_i_i);
+    put_u8(v_r20_i_i_i_i_i_i_i_i_i_i32_i_i_i_i_i_i_i_i_i_i_i, v_r26_i_i_i_i_i_i_i_i_i_i34_i_i_i_i_i_i_i_i_i_i_i);
+    v_r30_i_i_i_i_i_i_i_i_i_i35_i_i_i_i_i_i_i_i_i_i_i = (u64)((u64)(v_r0_04_i_i_i_i_i_i_i_i_i_i31_i_i_i_i_i_i_i_i_i_i_i) | (u64)(1u));
+    v_r20_i_i_i_i_i_i_i_i_i_i32_i_i_i_i_i_i_i_i_i_i_i_1 = v_r26_i_i_i_i12_i_i_i_i_i_i_i_i_i_i_i + (int64_t)(v_r30_i_i_i_i_i_i_i_i_i_i35_i_i_i_i_i_i_i_i_i_i_i);
+    v_r24_i_i_i_i_i_i_i_i_i_i33_i_i_i_i_i_i_i_i_i_i_i_1 = v_r1_sroa_0_0_copyload_i_i_i7_i_i_i_i_i_i_i_i_i_i_i + (int64_t)(v_r30_i_i_i_i_i_i_i_i_i_i35_i_i_i_i_i_i_i_i_i_i_i);
+    v_r26_i_i_i_i_i_i_i_i_i_i34_i_i_i_i_i_i_i_i_i_i_i_1 = get_u8(v_r24_i_i_i_i_i_i_i_i_i_i33_i_i_i_i_i_i_i_i_i_i_i_1);
+    put_u8(v_r20_i_i_i_i_i_i_i_i_i_i32_i_i_i_i_i_i_i_i_i_i_i_1, v_r26_i_i_i_i_i_i_i_i_i_i34_i_i_i_i_i_i_i_i_i_i_i_1);
+    v_r30_i_i_i_i_i_i_i_i_i_i35_i_i_i_i_i_i_i_i_i_i_i_1 = (u64)((u64)(v_r0_04_i_i_i_i_i_i_i_i_i_i31_i_i_i_i_i_i_i_i_i_i_i) | (u64)(2u));
+    v_r20_i_i_i_i_i_i_i_i_i_i32_i_i_i_i_i_i_i_i_i_i_i_2 = v_r26_i_i_i_i12_i_i_i_i_i_i_i_i_i_i_i + (int64_t)(v_r30_i_i_i_i_i_i_i_i_i_i35_i_i_i_i_i_i_i_i_i_i_i_1);
+    v_r24_i_i_i_i_i_i_i_i_i_i33_i_i_i_i_i_i_i_i_i_i_i_2 = v_r1_sroa_0_0_copyload_i_i_i7_i_i_i_i_i_i_i_i_i_i_i + (int64_t)(v_r30_i_i_i_i_i_i_i_i_i_i35_i_i_i_i_i_i_i_i_i_i_i_1);
+    v_r26_i_i_i_i_i_i_i_i_i_i34_i_i_i_i_i_i_i_i_i_i_i_2 = get_u8(v_r24_i_i_i_i_i_i_i_i_i_i33_i_i_i_i_i_i_i_i_i_i_i_2);
+    put_u8(v_r20_i_i_i_i_i_i_i_i_i_i32_i_i_i_i_i_i_i_i_i_i_i_2, v_r26_i_i_i_i_i_i_i_i_i_i34_i_i_i_i_i_i_i_i_i_i_i_2);
+    v_r30_i_i_i_i_i_i_i_i_i_i35_i_i_i_i_i_i_i_i_i_i_i_2 = (u64)((u64)(v_r0_04_i_i_i_i_i_i_i_i_i_i31_i_i_i_i_i_i_i_i_i_i_i) | (u64)(3u));
+    v_r20_i_i_i_i_i_i_i_i_i_i32_i_i_i_i_i_i_i_i_i_i_i_3 = v_r26_i_i_i_i12_i_i_i_i_i_i_i_i_i_i_i + (int64_t)(v_r30_i_i_i_i_i_i_i_i_i_i35_i_i_i_i_i_i_i_i_i_i_i_2);
+    v_r24_i_i_i_i_i_i_i_i_i_i33_i_i_i_i_i_i_i_i_i_i_i_3 = v_r1_sroa_0_0_copyload_i_i_i7_i_i_i_i_i_i_i_i_i_i_i + (int64_t)(v_r30_i_i_i_i_i_i_i_i_i_i35_i_i_i_i_i_i_i_i_i_i_i_2);
+    v_r26_i_i_i_i_i_i_i_i_i_i34_i_i_i_i_i_i_i_i_i_i_i_3 = get_u8(v_r24_i_i_i_i_i_i_i_i_i_i33_i_i_i_i_i_i_i_i_i_i_i_3);
+    put_u8(v_r20_i_i_i_i_i_i_i_i_i_i32_i_i_i_i_i_i_i_i_i_i_i_3, v_r26_i_i_i_i_i_i_i_i_i_i34_i_i_i_i_i_i_i_i_i_i_i_3);
+    v_r30_i_i_i_i_i_i_i_i_i_i35_i_i_i_i_i_i_i_i_i_i_i_3 = (u64)((u64)(v_r0_04_i_i_i_i_i_i_i_i_i_i31_i_i_i_i_i_i_i_i_i_i_i) + (u64)(4u));
     v_niter177_next_3 = (u64)((u64)(v_niter177) + (u64)(4u));
     v_niter177_ncmp_3 = v_niter177_next_3 == v_unroll_iter176;
-    if (v_niter177_ncmp_3) { goto L_der_core_back_writer_BackWriter_prepend_exit_i_i_i__4; } else { p_v_r0_04_i_i_i_i_i_i_i_i_i_i31_i_i_i_i_i_i_i_i_i_i_i___2 = v_r30_i_i_i_i_i_i_i_i_i_i35_i_i_i_i_i_i_i_i_i_i_i_i___4; p_v_niter177 = v_niter177_next_3; goto L_join_7_i_i_i_i_i_i_i_i_i_i30_i_i_i_i_i_i_i_i_i_i_i__4; }
+    if (v_niter177_ncmp_3) { goto L_der_core_back_writer_BackWriter_prepend_exit_i_i_i__4; } else { p_v_r0_04_i_i_i_i_i_i_i_i_i_i31_i_i_i_i_i_i_i_i_i_i_i = v_r30_i_i_i_i_i_i_i_i_i_i35_i_i_i_i_i_i_i_i_i_i_i_3; p_v_niter177 = v_niter177_next_3; goto L_join_7_i_i_i_i_i_i_i_i_i_i30_i_i_i_i_i_i_i_i_i_i_i__4; }
 L_der_core_back_writer_BackWriter_prepend_exit_i_i_i__4:;
     v_lcmp_mod174_not = v_xtraiter172 == 0u;
-    if (v_lcmp_mod174_not) { goto L_der_core_back_writer_BackWriter_prepend_exit_i_i_i__3; } else { p_v_r0_04_i_i_i_i_i_i_i_i_i_i31_i_i_i_i_i_i_i_i_i_i_i_ = v_r30_i_i_i_i_i_i_i_i_i_i35_i_i_i_i_i_i_i_i_i_i_i_i___4; goto L_join_7_i_i_i_i_i_i_i_i_i_i30_i_i_i_i_i_i_i_i_i_i_i__2; }
+    if (v_lcmp_mod174_not) { goto L_der_core_back_writer_BackWriter_prepend_exit_i_i_i__3; } else { p_v_r0_04_i_i_i_i_i_i_i_i_i_i31_i_i_i_i_i_i_i_i_i_i_i_ = v_r30_i_i_i_i_i_i_i_i_i_i35_i_i_i_i_i_i_i_i_i_i_i_3; goto L_join_7_i_i_i_i_i_i_i_i_i_i30_i_i_i_i_i_i_i_i_i_i_i__2; }
 L_join_7_i_i_i_i_i_i_i_i_i_i30_i_i_i_i_i_i_i_i_i_i_i__2:;
     v_r0_04_i_i_i_i_i_i_i_i_i_i31_i_i_i_i_i_i_i_i_i_i_i_ = p_v_r0_04_i_i_i_i_i_i_i_i_i_i31_i_i_i_i_i_i_i_i_i_i_i_;
-    { p_v_r0_04_i_i_i_i_i_i_i_i_i_i31_i_i_i_i_i_i_i_i_i_i_i___3 = v_r0_04_i_i_i_i_i_i_i_i_i_i31_i_i_i_i_i_i_i_i_i_i_i_; p_v_epil_iter173 = 0u; goto L_join_7_i_i_i_i_i_i_i_i_i_i30_i_i_i_i_i_i_i_i_i_i_i__5; }
+    { p_v_r0_04_i_i_i_i_i_i_i_i_i_i31_i_i_i_i_i_i_i_i_i_i_i___2 = v_r0_04_i_i_i_i_i_i_i_i_i_i31_i_i_i_i_i_i_i_i_i_i_i_; p_v_epil_iter173 = 0u; goto L_join_7_i_i_i_i_i_i_i_i_i_i30_i_i_i_i_i_i_i_i_i_i_i__5; }
 L_join_7_i_i_i_i_i_i_i_i_i_i30_i_i_i_i_i_i_i_i_i_i_i__5:;
-    v_r0_04_i_i_i_i_i_i_i_i_i_i31_i_i_i_i_i_i_i_i_i_i_i___3 = p_v_r0_04_i_i_i_i_i_i_i_i_i_i31_i_i_i_i_i_i_i_i_i_i_i___3;
+    v_r0_04_i_i_i_i_i_i_i_i_i_i31_i_i_i_i_i_i_i_i_i_i_i___2 = p_v_r0_04_i_i_i_i_i_i_i_i_i_i31_i_i_i_i_i_i_i_i_i_i_i___2;
     v_epil_iter173 = p_v_epil_iter173;
-    v_r20_i_i_i_i_i_i_i_i_i_i32_i_i_i_i_i_i_i_i_i_i_i_i___5 = v_r26_i_i_i_i12_i_i_i_i_i_i_i_i_i_i_i_i_i + (int64_t)(v_r0_04_i_i_i_i_i_i_i_i_i_i31_i_i_i_i_i_i_i_i_i_i_i___3);
-    v_r24_i_i_i_i_i_i_i_i_i_i33_i_i_i_i_i_i_i_i_i_i_i_i___5 = v_r1_sroa_0_0_copyload_i_i_i7_i_i_i_i_i_i_i_i_i_i_i_ + (int64_t)(v_r0_04_i_i_i_i_i_i_i_i_i_i31_i_i_i_i_i_i_i_i_i_i_i___3);
-    v_r26_i_i_i_i_i_i_i_i_i_i34_i_i_i_i_i_i_i_i_i_i_i_i___5 = get_u8(v_r24_i_i_i_i_i_i_i_i_i_i33_i_i_i_i_i_i_i_i_i_i_i_i___5);
-    put_u8(v_r20_i_i_i_i_i_i_i_i_i_i32_i_i_i_i_i_i_i_i_i_i_i_i___5, v_r26_i_i_i_i_i_i_i_i_i_i34_i_i_i_i_i_i_i_i_i_i_i_i___5);
-    v_r30_i_i_i_i_i_i_i_i_i_i35_i_i_i_i_i_i_i_i_i_i_i_i___5 = (u64)((u64)(v_r0_04_i_i_i_i_i_i_i_i_i_i31_i_i_i_i_i_i_i_i_i_i_i___3) + (u64)(1u));
+    v_r20_i_i_i_i_i_i_i_i_i_i32_i_i_i_i_i_i_i_i_i_i_i_ep = v_r26_i_i_i_i12_i_i_i_i_i_i_i_i_i_i_i + (int64_t)(v_r0_04_i_i_i_i_i_i_i_i_i_i31_i_i_i_i_i_i_i_i_i_i_i___2);
+    v_r24_i_i_i_i_i_i_i_i_i_i33_i_i_i_i_i_i_i_i_i_i_i_ep = v_r1_sroa_0_0_copyload_i_i_i7_i_i_i_i_i_i_i_i_i_i_i + (int64_t)(v_r0_04_i_i_i_i_i_i_i_i_i_i31_i_i_i_i_i_i_i_i_i_i_i___2);
+    v_r26_i_i_i_i_i_i_i_i_i_i34_i_i_i_i_i_i_i_i_i_i_i_ep = get_u8(v_r24_i_i_i_i_i_i_i_i_i_i33_i_i_i_i_i_i_i_i_i_i_i_ep);
+    put_u8(v_r20_i_i_i_i_i_i_i_i_i_i32_i_i_i_i_i_i_i_i_i_i_i_ep, v_r26_i_i_i_i_i_i_i_i_i_i34_i_i_i_i_i_i_i_i_i_i_i_ep);
+    v_r30_i_i_i_i_i_i_i_i_i_i35_i_i_i_i_i_i_i_i_i_i_i_ep = (u64)((u64)(v_r0_04_i_i_i_i_i_i_i_i_i_i31_i_i_i_i_i_i_i_i_i_i_i___2) + (u64)(1u));
     v_epil_iter173_next = (u64)((u64)(v_epil_iter173) + (u64)(1u));
     v_epil_iter173_cmp_not = v_epil_iter173_next == v_xtraiter172;
-    if (v_epil_iter173_cmp_not) { goto L_der_core_back_writer_BackWriter_prepend_exit_i_i_i__3; } else { p_v_r0_04_i_i_i_i_i_i_i_i_i_i31_i_i_i_i_i_i_i_i_i_i_i___3 = v_r30_i_i_i_i_i_i_i_i_i_i35_i_i_i_i_i_i_i_i_i_i_i_i___5; p_v_epil_iter173 = v_epil_iter173_next; goto L_join_7_i_i_i_i_i_i_i_i_i_i30_i_i_i_i_i_i_i_i_i_i_i__5; }
+    if (v_epil_iter173_cmp_not) { goto L_der_core_back_writer_BackWriter_prepend_exit_i_i_i__3; } else { p_v_r0_04_i_i_i_i_i_i_i_i_i_i31_i_i_i_i_i_i_i_i_i_i_i___2 = v_r30_i_i_i_i_i_i_i_i_i_i35_i_i_i_i_i_i_i_i_i_i_i_ep; p_v_epil_iter173 = v_epil_iter173_next; goto L_join_7_i_i_i_i_i_i_i_i_i_i30_i_i_i_i_i_i_i_i_i_i_i__5; }
 L_der_core_back_writer_BackWriter_prepend_exit_i_i_i__3:;
-    v_r12_i_i_i19_i_i_i_i_i_i_i_i_i_i_i_i_i = v_r21_i_i_i_i_i_i_i_i_i_i_i + 40;
-    v_r13_i_i_i20_i_i_i_i_i_i_i_i_i_i_i_i_i = get_u64(v_r12_i_i_i19_i_i_i_i_i_i_i_i_i_i_i_i_i);
-    v_r15_not_i_i_i21_i_i_i_i_i_i_i_i_i_i_i_i_i = v_r13_i_i_i20_i_i_i_i_i_i_i_i_i_i_i_i_i == 0u;
-    if (v_r15_not_i_i_i21_i_i_i_i_i_i_i_i_i_i_i_i_i) { p_v_r7_sroa_129_9_i_i_i = v_r17_i_i_i_i10_i_i_i_i_i_i_i_i_i_i_i_i_i; goto L_der_core_borrowed_BorrowedEncode_prepend_25cd36d81__2; } else { goto L_then_1_i_i_i22_i_i_i_i_i_i_i_i_i_i_i_i_i; }
-L_then_1_i_i_i22_i_i_i_i_i_i_i_i_i_i_i_i_i:;
-    v_r17_i3_i_i_i23_i_i_i_i_i_i_i_i_i_i_i_i_i = (u64)((u64)(v_r17_i_i_i_i10_i_i_i_i_i_i_i_i_i_i_i_i_i) + (u64)(18446744073709551615ull));
-    v_r26_i5_i_i_i25_i_i_i_i_i_i_i_i_i_i_i_i_i = (P)((uintptr_t)v_r14 + (u64)(v_r17_i3_i_i_i23_i_i_i_i_i_i_i_i_i_i_i_i_i));
-    put_u8(v_r26_i5_i_i_i25_i_i_i_i_i_i_i_i_i_i_i_i_i, 0u);
-    { p_v_r7_sroa_129_9_i_i_i = v_r17_i3_i_i_i23_i_i_i_i_i_i_i_i_i_i_i_i_i; goto L_der_core_borrowed_BorrowedEncode_prepend_25cd36d81__2; }
+    v_r12_i_i_i19_i_i_i_i_i_i_i_i_i_i_i = v_r21_i_i_i_i_i_i_i_i_i + 40;
+    v_r13_i_i_i20_i_i_i_i_i_i_i_i_i_i_i = get_u64(v_r12_i_i_i19_i_i_i_i_i_i_i_i_i_i_i);
+    v_r15_not_i_i_i21_i_i_i_i_i_i_i_i_i_i_i = v_r13_i_i_i20_i_i_i_i_i_i_i_i_i_i_i == 0u;
+    if (v_r15_not_i_i_i21_i_i_i_i_i_i_i_i_i_i_i) { p_v_r7_sroa_129_9_i_i_i = v_r17_i_i_i_i10_i_i_i_i_i_i_i_i_i_i_i; goto L_der_core_borrowed_BorrowedEncode_prepend_25cd36d81__2; } else { goto L_then_1_i_i_i22_i_i_i_i_i_i_i_i_i_i_i; }
+L_then_1_i_i_i22_i_i_i_i_i_i_i_i_i_i_i:;
+    v_r17_i3_i_i_i23_i_i_i_i_i_i_i_i_i_i_i = (u64)((u64)(v_r17_i_i_i_i10_i_i_i_i_i_i_i_i_i_i_i) + (u64)(18446744073709551615ull));
+    v_r26_i5_i_i_i25_i_i_i_i_i_i_i_i_i_i_i = (P)((uintptr_t)v_r14 + (u64)(v_r17_i3_i_i_i23_i_i_i_i_i_i_i_i_i_i_i));
+    put_u8(v_r26_i5_i_i_i25_i_i_i_i_i_i_i_i_i_i_i, 0u);
+    { p_v_r7_sroa_129_9_i_i_i = v_r17_i3_i_i_i23_i_i_i_i_i_i_i_i_i_i_i; goto L_der_core_borrowed_BorrowedEncode_prepend_25cd36d81__2; }
 L_der_core_borrowed_BorrowedEncode_prepend_25cd36d81__2:;
     v_r7_sroa_129_9_i_i_i = p_v_r7_sroa_129_9_i_i_i;
     v_25 = (u64)((u64)(v_r7_sroa_129_9_i_i_i) + (u64)(v_r3_i5_i_i_i));
     v_26 = (u64)((u64)(v_r7_sroa_129_26_i_i_i) - (u64)(v_25));
     v_27 = (u32)(v_26);
-    v_r2_i_i_i29_i_i_i_i_i_i_i_i_i_i_i_i_i = (u32)((u32)(v_r1_sroa_9_4_copyload_i_i_i_i) + (u32)(v_27));
-    v_r59_i932_i_i_i = v_r2_i_i_i29_i_i_i_i_i_i_i_i_i_i_i_i_i < 128u;
+    v_r2_i_i_i29_i_i_i_i_i_i_i_i_i_i_i = (u32)((u32)(v_r1_sroa_9_4_copyload_i_i_i_i) + (u32)(v_27));
+    v_r59_i932_i_i_i = v_r2_i_i_i29_i_i_i_i_i_i_i_i_i_i_i < 128u;
     if (v_r59_i932_i_i_i) { goto L_then_1_i993_i_i_i; } else { goto L_else_2_i933_i_i_i; }
 L_then_1_i993_i_i_i:;
-    v_r64_i994_i_i_i = (u16)(v_r2_i_i_i29_i_i_i_i_i_i_i_i_i_i_i_i_i);
+    v_r64_i994_i_i_i = (u16)(v_r2_i_i_i29_i_i_i_i_i_i_i_i_i_i_i);
     v_r17_i_i998_i_i_i = (u64)((u64)(v_r7_sroa_129_9_i_i_i) + (u64)(18446744073709551614ull));
     v_r26_i_i1000_i_i_i = (P)((uintptr_t)v_r14 + (u64)(v_r17_i_i998_i_i_i));
     v_r8_i927_sroa_4_0_insert_shift_i_i_i = (u16)((u32)(v_r64_i994_i_i_i) << (u32)((8u & 31)));
@@ -35281,10 +35281,10 @@ L_then_1_i993_i_i_i:;
     put_u16(v_r26_i_i1000_i_i_i, v_r8_i927_sroa_0_0_insert_insert_i_i_i);
     { p_v_r7_sroa_129_25_i_i_i = v_r17_i_i998_i_i_i; goto L_der_core_back_writer_BackWriter_prepend_header_exi__2; }
 L_else_2_i933_i_i_i:;
-    v_r75_i934_i_i_i = v_r2_i_i_i29_i_i_i_i_i_i_i_i_i_i_i_i_i < 256u;
+    v_r75_i934_i_i_i = v_r2_i_i_i29_i_i_i_i_i_i_i_i_i_i_i < 256u;
     if (v_r75_i934_i_i_i) { goto L_then_4_i984_i_i_i; } else { goto L_else_5_i935_i_i_i; }
 L_then_4_i984_i_i_i:;
-    v_r80_i985_i_i_i = (u8)(v_r2_i_i_i29_i_i_i_i_i_i_i_i_i_i_i_i_i);
+    v_r80_i985_i_i_i = (u8)(v_r2_i_i_i29_i_i_i_i_i_i_i_i_i_i_i);
     v_r17_i28_i990_i_i_i = (u64)((u64)(v_r7_sroa_129_9_i_i_i) + (u64)(18446744073709551613ull));
     v_r26_i30_i992_i_i_i = (P)((uintptr_t)v_r14 + (u64)(v_r17_i28_i990_i_i_i));
     put_u8(v_r26_i30_i992_i_i_i, 2u);
@@ -35294,24 +35294,24 @@ L_then_4_i984_i_i_i:;
     put_u8(v_r14_i928_sroa_5_0_r26_i30_i992_sroa_idx_i_i_i, v_r80_i985_i_i_i);
     { p_v_r7_sroa_129_25_i_i_i = v_r17_i28_i990_i_i_i; goto L_der_core_back_writer_BackWriter_prepend_header_exi__2; }
 L_else_5_i935_i_i_i:;
-    v_r92_i936_i_i_i = v_r2_i_i_i29_i_i_i_i_i_i_i_i_i_i_i_i_i < 65536u;
+    v_r92_i936_i_i_i = v_r2_i_i_i29_i_i_i_i_i_i_i_i_i_i_i < 65536u;
     if (v_r92_i936_i_i_i) { goto L_then_7_i972_i_i_i; } else { goto L_else_8_i937_i_i_i; }
 L_then_7_i972_i_i_i:;
     v_r17_i46_i980_i_i_i = (u64)((u64)(v_r7_sroa_129_9_i_i_i) + (u64)(18446744073709551612ull));
     v_r26_i48_i982_i_i_i = (P)((uintptr_t)v_r14 + (u64)(v_r17_i46_i980_i_i_i));
-    v_28 = (u32)((u32)(v_r2_i_i_i29_i_i_i_i_i_i_i_i_i_i_i_i_i) | (u32)(42074112u));
+    v_28 = (u32)((u32)(v_r2_i_i_i29_i_i_i_i_i_i_i_i_i_i_i) | (u32)(42074112u));
     v_r20_i929_sroa_0_0_insert_insert_i_i_i = __builtin_bswap32(v_28);
     put_u32(v_r26_i48_i982_i_i_i, v_r20_i929_sroa_0_0_insert_insert_i_i_i);
     { p_v_r7_sroa_129_25_i_i_i = v_r17_i46_i980_i_i_i; goto L_der_core_back_writer_BackWriter_prepend_header_exi__2; }
 L_else_8_i937_i_i_i:;
-    v_r117_i938_i_i_i = v_r2_i_i_i29_i_i_i_i_i_i_i_i_i_i_i_i_i < 16777216u;
+    v_r117_i938_i_i_i = v_r2_i_i_i29_i_i_i_i_i_i_i_i_i_i_i < 16777216u;
     if (v_r117_i938_i_i_i) { goto L_then_10_i957_i_i_i; } else { goto L_else_11_i939_i_i_i; }
 L_then_10_i957_i_i_i:;
-    v_r12223_i958_i_i_i = (u32)((u32)(v_r2_i_i_i29_i_i_i_i_i_i_i_i_i_i_i_i_i) >> (u32)((16u & 31)));
+    v_r12223_i958_i_i_i = (u32)((u32)(v_r2_i_i_i29_i_i_i_i_i_i_i_i_i_i_i) >> (u32)((16u & 31)));
     v_r124_i959_i_i_i = (u8)(v_r12223_i958_i_i_i);
-    v_r12624_i960_i_i_i = (u32)((u32)(v_r2_i_i_i29_i_i_i_i_i_i_i_i_i_i_i_i_i) >> (u32)((8u & 31)));
+    v_r12624_i960_i_i_i = (u32)((u32)(v_r2_i_i_i29_i_i_i_i_i_i_i_i_i_i_i) >> (u32)((8u & 31)));
     v_r130_i961_i_i_i = (u8)(v_r12624_i960_i_i_i);
-    v_r134_i962_i_i_i = (u8)(v_r2_i_i_i29_i_i_i_i_i_i_i_i_i_i_i_i_i);
+    v_r134_i962_i_i_i = (u8)(v_r2_i_i_i29_i_i_i_i_i_i_i_i_i_i_i);
     v_r17_i64_i969_i_i_i = (u64)((u64)(v_r7_sroa_129_9_i_i_i) + (u64)(18446744073709551611ull));
     v_r26_i66_i971_i_i_i = (P)((uintptr_t)v_r14 + (u64)(v_r17_i64_i969_i_i_i));
     put_u8(v_r26_i66_i971_i_i_i, 2u);
@@ -35325,13 +35325,13 @@ L_then_10_i957_i_i_i:;
     put_u8(v_r29_i930_sroa_7_0_r26_i66_i971_sroa_idx_i_i_i, v_r134_i962_i_i_i);
     { p_v_r7_sroa_129_25_i_i_i = v_r17_i64_i969_i_i_i; goto L_der_core_back_writer_BackWriter_prepend_header_exi__2; }
 L_else_11_i939_i_i_i:;
-    v_r15020_i940_i_i_i = (u32)((u32)(v_r2_i_i_i29_i_i_i_i_i_i_i_i_i_i_i_i_i) >> (u32)((24u & 31)));
+    v_r15020_i940_i_i_i = (u32)((u32)(v_r2_i_i_i29_i_i_i_i_i_i_i_i_i_i_i) >> (u32)((24u & 31)));
     v_r152_i941_i_i_i = (u8)(v_r15020_i940_i_i_i);
-    v_r15421_i942_i_i_i = (u32)((u32)(v_r2_i_i_i29_i_i_i_i_i_i_i_i_i_i_i_i_i) >> (u32)((16u & 31)));
+    v_r15421_i942_i_i_i = (u32)((u32)(v_r2_i_i_i29_i_i_i_i_i_i_i_i_i_i_i) >> (u32)((16u & 31)));
     v_r158_i943_i_i_i = (u8)(v_r15421_i942_i_i_i);
-    v_r16022_i944_i_i_i = (u32)((u32)(v_r2_i_i_i29_i_i_i_i_i_i_i_i_i_i_i_i_i) >> (u32)((8u & 31)));
+    v_r16022_i944_i_i_i = (u32)((u32)(v_r2_i_i_i29_i_i_i_i_i_i_i_i_i_i_i) >> (u32)((8u & 31)));
     v_r164_i945_i_i_i = (u8)(v_r16022_i944_i_i_i);
-    v_r168_i946_i_i_i = (u8)(v_r2_i_i_i29_i_i_i_i_i_i_i_i_i_i_i_i_i);
+    v_r168_i946_i_i_i = (u8)(v_r2_i_i_i29_i_i_i_i_i_i_i_i_i_i_i);
     v_r17_i82_i954_i_i_i = (u64)((u64)(v_r7_sroa_129_9_i_i_i) + (u64)(18446744073709551610ull));
     v_r26_i84_i956_i_i_i = (P)((uintptr_t)v_r14 + (u64)(v_r17_i82_i954_i_i_i));
     put_u8(v_r26_i84_i956_i_i_i, 2u);
@@ -35348,89 +35348,89 @@ L_else_11_i939_i_i_i:;
     { p_v_r7_sroa_129_25_i_i_i = v_r17_i82_i954_i_i_i; goto L_der_core_back_writer_BackWriter_prepend_header_exi__2; }
 L_der_core_back_writer_BackWriter_prepend_header_exi__2:;
     v_r7_sroa_129_25_i_i_i = p_v_r7_sroa_129_25_i_i_i;
-    v_r1_sroa_0_0_copyload_i_i_i40_i_i_i_i_i_i_i_i_i_i_i = get_P(v_r21_i_i_i_i_i_i_i_i_i_i_i);
-    v_r1_sroa_3_0_a0_sroa_idx_i_i_i41_i_i_i_i_i_i_i_i_i_ = v_r21_i_i_i_i_i_i_i_i_i_i_i + 8;
+    v_r1_sroa_0_0_copyload_i_i_i40_i_i_i_i_i_i_i_i_i_i_i = get_P(v_r21_i_i_i_i_i_i_i_i_i);
+    v_r1_sroa_3_0_a0_sroa_idx_i_i_i41_i_i_i_i_i_i_i_i_i_ = v_r21_i_i_i_i_i_i_i_i_i + 8;
     v_r1_sroa_3_0_copyload_i_i_i42_i_i_i_i_i_i_i_i_i_i_i = get_u64(v_r1_sroa_3_0_a0_sroa_idx_i_i_i41_i_i_i_i_i_i_i_i_i_);
-    v_r17_i_i_i_i43_i_i_i_i_i_i_i_i_i_i_i_i_i = (u64)((u64)(v_r7_sroa_129_25_i_i_i) - (u64)(v_r1_sroa_3_0_copyload_i_i_i42_i_i_i_i_i_i_i_i_i_i_i));
-    v_r26_i_i_i_i45_i_i_i_i_i_i_i_i_i_i_i_i_i = (P)((uintptr_t)v_r14 + (u64)(v_r17_i_i_i_i43_i_i_i_i_i_i_i_i_i_i_i_i_i));
-    v_r8_i_i_i_i_i_i_i_i_i_i46_i_i_i_i_i_i_i_i_i_i_i_i_i = (u64)((uintptr_t)v_r26_i_i_i_i45_i_i_i_i_i_i_i_i_i_i_i_i_i);
-    v_r9_i_i_i_i_i_i_i_i_i_i47_i_i_i_i_i_i_i_i_i_i_i_i_i = (u64)((uintptr_t)v_r1_sroa_0_0_copyload_i_i_i40_i_i_i_i_i_i_i_i_i_i_i);
-    v_r10_i_i_i_i_i_i_i_i_i_i48_i_i_i_i_i_i_i_i_i_i_i_i_ = (u64)((u64)(v_r8_i_i_i_i_i_i_i_i_i_i46_i_i_i_i_i_i_i_i_i_i_i_i_i) - (u64)(v_r9_i_i_i_i_i_i_i_i_i_i47_i_i_i_i_i_i_i_i_i_i_i_i_i));
-    v_r11_i_i_i_i_i_i_i_i_i_i49_i_i_i_i_i_i_i_i_i_i_i_i_ = v_r10_i_i_i_i_i_i_i_i_i_i48_i_i_i_i_i_i_i_i_i_i_i_i_ < v_r1_sroa_3_0_copyload_i_i_i42_i_i_i_i_i_i_i_i_i_i_i;
-    if (v_r11_i_i_i_i_i_i_i_i_i_i49_i_i_i_i_i_i_i_i_i_i_i_i_) { goto L_join_7_i_i_i_i_i_i_i_i_i_i63_i_i_i_i_i_i_i_i_i_i_i; } else { goto L_apart_2_i_i_i_i_i_i_i_i_i_i50_i_i_i_i_i_i_i_i_i_i_; }
+    v_r17_i_i_i_i43_i_i_i_i_i_i_i_i_i_i_i = (u64)((u64)(v_r7_sroa_129_25_i_i_i) - (u64)(v_r1_sroa_3_0_copyload_i_i_i42_i_i_i_i_i_i_i_i_i_i_i));
+    v_r26_i_i_i_i45_i_i_i_i_i_i_i_i_i_i_i = (P)((uintptr_t)v_r14 + (u64)(v_r17_i_i_i_i43_i_i_i_i_i_i_i_i_i_i_i));
+    v_r8_i_i_i_i_i_i_i_i_i_i46_i_i_i_i_i_i_i_i_i_i_i = (u64)((uintptr_t)v_r26_i_i_i_i45_i_i_i_i_i_i_i_i_i_i_i);
+    v_r9_i_i_i_i_i_i_i_i_i_i47_i_i_i_i_i_i_i_i_i_i_i = (u64)((uintptr_t)v_r1_sroa_0_0_copyload_i_i_i40_i_i_i_i_i_i_i_i_i_i_i);
+    v_r10_i_i_i_i_i_i_i_i_i_i48_i_i_i_i_i_i_i_i_i_i_i = (u64)((u64)(v_r8_i_i_i_i_i_i_i_i_i_i46_i_i_i_i_i_i_i_i_i_i_i) - (u64)(v_r9_i_i_i_i_i_i_i_i_i_i47_i_i_i_i_i_i_i_i_i_i_i));
+    v_r11_i_i_i_i_i_i_i_i_i_i49_i_i_i_i_i_i_i_i_i_i_i = v_r10_i_i_i_i_i_i_i_i_i_i48_i_i_i_i_i_i_i_i_i_i_i < v_r1_sroa_3_0_copyload_i_i_i42_i_i_i_i_i_i_i_i_i_i_i;
+    if (v_r11_i_i_i_i_i_i_i_i_i_i49_i_i_i_i_i_i_i_i_i_i_i) { goto L_join_7_i_i_i_i_i_i_i_i_i_i63_i_i_i_i_i_i_i_i_i_i_i; } else { goto L_apart_2_i_i_i_i_i_i_i_i_i_i50_i_i_i_i_i_i_i_i_i_i_; }
 L_join_7_i_i_i_i_i_i_i_i_i_i63_i_i_i_i_i_i_i_i_i_i_i:;
     v_xtraiter178 = (u64)((u64)(v_r1_sroa_3_0_copyload_i_i_i42_i_i_i_i_i_i_i_i_i_i_i) & (u64)(3u));
     v_29 = v_r1_sroa_3_0_copyload_i_i_i42_i_i_i_i_i_i_i_i_i_i_i < 4u;
     if (v_29) { p_v_r0_04_i_i_i_i_i_i_i_i_i_i64_i_i_i_i_i_i_i_i_i_i_i_ = 0u; goto L_join_7_i_i_i_i_i_i_i_i_i_i63_i_i_i_i_i_i_i_i_i_i_i__2; } else { goto L_join_7_i_i_i_i_i_i_i_i_i_i63_i_i_i_i_i_i_i_i_i_i_i__3; }
 L_join_7_i_i_i_i_i_i_i_i_i_i63_i_i_i_i_i_i_i_i_i_i_i__3:;
     v_unroll_iter182 = (u64)((u64)(v_r1_sroa_3_0_copyload_i_i_i42_i_i_i_i_i_i_i_i_i_i_i) & (u64)(18446744073709551612ull));
-    { p_v_r0_04_i_i_i_i_i_i_i_i_i_i64_i_i_i_i_i_i_i_i_i_i_i___2 = 0u; p_v_niter183 = 0u; goto L_join_7_i_i_i_i_i_i_i_i_i_i63_i_i_i_i_i_i_i_i_i_i_i__4; }
+    { p_v_r0_04_i_i_i_i_i_i_i_i_i_i64_i_i_i_i_i_i_i_i_i_i_i = 0u; p_v_niter183 = 0u; goto L_join_7_i_i_i_i_i_i_i_i_i_i63_i_i_i_i_i_i_i_i_i_i_i__4; }
 L_apart_2_i_i_i_i_i_i_i_i_i_i50_i_i_i_i_i_i_i_i_i_i_:;
-    move(v_r26_i_i_i_i45_i_i_i_i_i_i_i_i_i_i_i_i_i, v_r1_sroa_0_0_copyload_i_i_i40_i_i_i_i_i_i_i_i_i_i_i, v_r1_sroa_3_0_copyload_i_i_i42_i_i_i_i_i_i_i_i_i_i_i);
+    move(v_r26_i_i_i_i45_i_i_i_i_i_i_i_i_i_i_i, v_r1_sroa_0_0_copyload_i_i_i40_i_i_i_i_i_i_i_i_i_i_i, v_r1_sroa_3_0_copyload_i_i_i42_i_i_i_i_i_i_i_i_i_i_i);
     { goto L_der_core_back_writer_BackWriter_prepend_exit_i_i_i__5; }
 L_join_7_i_i_i_i_i_i_i_i_i_i63_i_i_i_i_i_i_i_i_i_i_i__4:;
-    v_r0_04_i_i_i_i_i_i_i_i_i_i64_i_i_i_i_i_i_i_i_i_i_i___2 = p_v_r0_04_i_i_i_i_i_i_i_i_i_i64_i_i_i_i_i_i_i_i_i_i_i___2;
+    v_r0_04_i_i_i_i_i_i_i_i_i_i64_i_i_i_i_i_i_i_i_i_i_i = p_v_r0_04_i_i_i_i_i_i_i_i_i_i64_i_i_i_i_i_i_i_i_i_i_i;
     v_niter183 = p_v_niter183;
-    v_r20_i_i_i_i_i_i_i_i_i_i65_i_i_i_i_i_i_i_i_i_i_i_i_ = v_r26_i_i_i_i45_i_i_i_i_i_i_i_i_i_i_i_i_i + (int64_t)(v_r0_04_i_i_i_i_i_i_i_i_i_i64_i_i_i_i_i_i_i_i_i_i_i___2);
-    v_r24_i_i_i_i_i_i_i_i_i_i66_i_i_i_i_i_i_i_i_i_i_i_i_ = v_r1_sroa_0_0_copyload_i_i_i40_i_i_i_i_i_i_i_i_i_i_i + (int64_t)(v_r0_04_i_i_i_i_i_i_i_i_i_i64_i_i_i_i_i_i_i_i_i_i_i___2);
-    v_r26_i_i_i_i_i_i_i_i_i_i67_i_i_i_i_i_i_i_i_i_i_i_i_ = get_u8(v_r24_i_i_i_i_i_i_i_i_i_i66_i_i_i_i_i_i_i_i_i_i_i_i_);
-    put_u8(v_r20_i_i_i_i_i_i_i_i_i_i65_i_i_i_i_i_i_i_i_i_i_i_i_, v_r26_i_i_i_i_i_i_i_i_i_i67_i_i_i_i_i_i_i_i_i_i_i_i_);
-    v_r30_i_i_i_i_i_i_i_i_i_i68_i_i_i_i_i_i_i_i_i_i_i_i_ = (u64)((u64)(v_r0_04_i_i_i_i_i_i_i_i_i_i64_i_i_i_i_i_i_i_i_i_i_i___2) | (u64)(1u));
-    v_r20_i_i_i_i_i_i_i_i_i_i65_i_i_i_i_i_i_i_i_i_i_i_i___2 = v_r26_i_i_i_i45_i_i_i_i_i_i_i_i_i_i_i_i_i + (int64_t)(v_r30_i_i_i_i_i_i_i_i_i_i68_i_i_i_i_i_i_i_i_i_i_i_i_);
-    v_r24_i_i_i_i_i_i_i_i_i_i66_i_i_i_i_i_i_i_i_i_i_i_i___2 = v_r1_sroa_0_0_copyload_i_i_i40_i_i_i_i_i_i_i_i_i_i_i + (int64_t)(v_r30_i_i_i_i_i_i_i_i_i_i68_i_i_i_i_i_i_i_i_i_i_i_i_);
-    v_r26_i_i_i_i_i_i_i_i_i_i67_i_i_i_i_i_i_i_i_i_i_i_i___2 = get_u8(v_r24_i_i_i_i_i_i_i_i_i_i66_i_i_i_i_i_i_i_i_i_i_i_i___2);
-    put_u8(v_r20_i_i_i_i_i_i_i_i_i_i65_i_i_i_i_i_i_i_i_i_i_i_i___2, v_r26_i_i_i_i_i_i_i_i_i_i67_i_i_i_i_i_i_i_i_i_i_i_i___2);
-    v_r30_i_i_i_i_i_i_i_i_i_i68_i_i_i_i_i_i_i_i_i_i_i_i___2 = (u64)((u64)(v_r0_04_i_i_i_i_i_i_i_i_i_i64_i_i_i_i_i_i_i_i_i_i_i___2) | (u64)(2u));
-    v_r20_i_i_i_i_i_i_i_i_i_i65_i_i_i_i_i_i_i_i_i_i_i_i___3 = v_r26_i_i_i_i45_i_i_i_i_i_i_i_i_i_i_i_i_i + (int64_t)(v_r30_i_i_i_i_i_i_i_i_i_i68_i_i_i_i_i_i_i_i_i_i_i_i___2);
-    v_r24_i_i_i_i_i_i_i_i_i_i66_i_i_i_i_i_i_i_i_i_i_i_i___3 = v_r1_sroa_0_0_copyload_i_i_i40_i_i_i_i_i_i_i_i_i_i_i + (int64_t)(v_r30_i_i_i_i_i_i_i_i_i_i68_i_i_i_i_i_i_i_i_i_i_i_i___2);
-    v_r26_i_i_i_i_i_i_i_i_i_i67_i_i_i_i_i_i_i_i_i_i_i_i___3 = get_u8(v_r24_i_i_i_i_i_i_i_i_i_i66_i_i_i_i_i_i_i_i_i_i_i_i___3);
-    put_u8(v_r20_i_i_i_i_i_i_i_i_i_i65_i_i_i_i_i_i_i_i_i_i_i_i___3, v_r26_i_i_i_i_i_i_i_i_i_i67_i_i_i_i_i_i_i_i_i_i_i_i___3);
-    v_r30_i_i_i_i_i_i_i_i_i_i68_i_i_i_i_i_i_i_i_i_i_i_i___3 = (u64)((u64)(v_r0_04_i_i_i_i_i_i_i_i_i_i64_i_i_i_i_i_i_i_i_i_i_i___2) | (u64)(3u));
-    v_r20_i_i_i_i_i_i_i_i_i_i65_i_i_i_i_i_i_i_i_i_i_i_i___4 = v_r26_i_i_i_i45_i_i_i_i_i_i_i_i_i_i_i_i_i + (int64_t)(v_r30_i_i_i_i_i_i_i_i_i_i68_i_i_i_i_i_i_i_i_i_i_i_i___3);
-    v_r24_i_i_i_i_i_i_i_i_i_i66_i_i_i_i_i_i_i_i_i_i_i_i___4 = v_r1_sroa_0_0_copyload_i_i_i40_i_i_i_i_i_i_i_i_i_i_i + (int64_t)(v_r30_i_i_i_i_i_i_i_i_i_i68_i_i_i_i_i_i_i_i_i_i_i_i___3);
-    v_r26_i_i_i_i_i_i_i_i_i_i67_i_i_i_i_i_i_i_i_i_i_i_i___4 = get_u8(v_r24_i_i_i_i_i_i_i_i_i_i66_i_i_i_i_i_i_i_i_i_i_i_i___4);
-    put_u8(v_r20_i_i_i_i_i_i_i_i_i_i65_i_i_i_i_i_i_i_i_i_i_i_i___4, v_r26_i_i_i_i_i_i_i_i_i_i67_i_i_i_i_i_i_i_i_i_i_i_i___4);
-    v_r30_i_i_i_i_i_i_i_i_i_i68_i_i_i_i_i_i_i_i_i_i_i_i___4 = (u64)((u64)(v_r0_04_i_i_i_i_i_i_i_i_i_i64_i_i_i_i_i_i_i_i_i_i_i___2) + (u64)(4u));
+    v_r20_i_i_i_i_i_i_i_i_i_i65_i_i_i_i_i_i_i_i_i_i_i = v_r26_i_i_i_i45_i_i_i_i_i_i_i_i_i_i_i + (int64_t)(v_r0_04_i_i_i_i_i_i_i_i_i_i64_i_i_i_i_i_i_i_i_i_i_i);
+    v_r24_i_i_i_i_i_i_i_i_i_i66_i_i_i_i_i_i_i_i_i_i_i = v_r1_sroa_0_0_copyload_i_i_i40_i_i_i_i_i_i_i_i_i_i_i + (int64_t)(v_r0_04_i_i_i_i_i_i_i_i_i_i64_i_i_i_i_i_i_i_i_i_i_i);
+    v_r26_i_i_i_i_i_i_i_i_i_i67_i_i_i_i_i_i_i_i_i_i_i = get_u8(v_r24_i_i_i_i_i_i_i_i_i_i66_i_i_i_i_i_i_i_i_i_i_i);
+    put_u8(v_r20_i_i_i_i_i_i_i_i_i_i65_i_i_i_i_i_i_i_i_i_i_i, v_r26_i_i_i_i_i_i_i_i_i_i67_i_i_i_i_i_i_i_i_i_i_i);
+    v_r30_i_i_i_i_i_i_i_i_i_i68_i_i_i_i_i_i_i_i_i_i_i = (u64)((u64)(v_r0_04_i_i_i_i_i_i_i_i_i_i64_i_i_i_i_i_i_i_i_i_i_i) | (u64)(1u));
+    v_r20_i_i_i_i_i_i_i_i_i_i65_i_i_i_i_i_i_i_i_i_i_i_1 = v_r26_i_i_i_i45_i_i_i_i_i_i_i_i_i_i_i + (int64_t)(v_r30_i_i_i_i_i_i_i_i_i_i68_i_i_i_i_i_i_i_i_i_i_i);
+    v_r24_i_i_i_i_i_i_i_i_i_i66_i_i_i_i_i_i_i_i_i_i_i_1 = v_r1_sroa_0_0_copyload_i_i_i40_i_i_i_i_i_i_i_i_i_i_i + (int64_t)(v_r30_i_i_i_i_i_i_i_i_i_i68_i_i_i_i_i_i_i_i_i_i_i);
+    v_r26_i_i_i_i_i_i_i_i_i_i67_i_i_i_i_i_i_i_i_i_i_i_1 = get_u8(v_r24_i_i_i_i_i_i_i_i_i_i66_i_i_i_i_i_i_i_i_i_i_i_1);
+    put_u8(v_r20_i_i_i_i_i_i_i_i_i_i65_i_i_i_i_i_i_i_i_i_i_i_1, v_r26_i_i_i_i_i_i_i_i_i_i67_i_i_i_i_i_i_i_i_i_i_i_1);
+    v_r30_i_i_i_i_i_i_i_i_i_i68_i_i_i_i_i_i_i_i_i_i_i_1 = (u64)((u64)(v_r0_04_i_i_i_i_i_i_i_i_i_i64_i_i_i_i_i_i_i_i_i_i_i) | (u64)(2u));
+    v_r20_i_i_i_i_i_i_i_i_i_i65_i_i_i_i_i_i_i_i_i_i_i_2 = v_r26_i_i_i_i45_i_i_i_i_i_i_i_i_i_i_i + (int64_t)(v_r30_i_i_i_i_i_i_i_i_i_i68_i_i_i_i_i_i_i_i_i_i_i_1);
+    v_r24_i_i_i_i_i_i_i_i_i_i66_i_i_i_i_i_i_i_i_i_i_i_2 = v_r1_sroa_0_0_copyload_i_i_i40_i_i_i_i_i_i_i_i_i_i_i + (int64_t)(v_r30_i_i_i_i_i_i_i_i_i_i68_i_i_i_i_i_i_i_i_i_i_i_1);
+    v_r26_i_i_i_i_i_i_i_i_i_i67_i_i_i_i_i_i_i_i_i_i_i_2 = get_u8(v_r24_i_i_i_i_i_i_i_i_i_i66_i_i_i_i_i_i_i_i_i_i_i_2);
+    put_u8(v_r20_i_i_i_i_i_i_i_i_i_i65_i_i_i_i_i_i_i_i_i_i_i_2, v_r26_i_i_i_i_i_i_i_i_i_i67_i_i_i_i_i_i_i_i_i_i_i_2);
+    v_r30_i_i_i_i_i_i_i_i_i_i68_i_i_i_i_i_i_i_i_i_i_i_2 = (u64)((u64)(v_r0_04_i_i_i_i_i_i_i_i_i_i64_i_i_i_i_i_i_i_i_i_i_i) | (u64)(3u));
+    v_r20_i_i_i_i_i_i_i_i_i_i65_i_i_i_i_i_i_i_i_i_i_i_3 = v_r26_i_i_i_i45_i_i_i_i_i_i_i_i_i_i_i + (int64_t)(v_r30_i_i_i_i_i_i_i_i_i_i68_i_i_i_i_i_i_i_i_i_i_i_2);
+    v_r24_i_i_i_i_i_i_i_i_i_i66_i_i_i_i_i_i_i_i_i_i_i_3 = v_r1_sroa_0_0_copyload_i_i_i40_i_i_i_i_i_i_i_i_i_i_i + (int64_t)(v_r30_i_i_i_i_i_i_i_i_i_i68_i_i_i_i_i_i_i_i_i_i_i_2);
+    v_r26_i_i_i_i_i_i_i_i_i_i67_i_i_i_i_i_i_i_i_i_i_i_3 = get_u8(v_r24_i_i_i_i_i_i_i_i_i_i66_i_i_i_i_i_i_i_i_i_i_i_3);
+    put_u8(v_r20_i_i_i_i_i_i_i_i_i_i65_i_i_i_i_i_i_i_i_i_i_i_3, v_r26_i_i_i_i_i_i_i_i_i_i67_i_i_i_i_i_i_i_i_i_i_i_3);
+    v_r30_i_i_i_i_i_i_i_i_i_i68_i_i_i_i_i_i_i_i_i_i_i_3 = (u64)((u64)(v_r0_04_i_i_i_i_i_i_i_i_i_i64_i_i_i_i_i_i_i_i_i_i_i) + (u64)(4u));
     v_niter183_next_3 = (u64)((u64)(v_niter183) + (u64)(4u));
     v_niter183_ncmp_3 = v_niter183_next_3 == v_unroll_iter182;
-    if (v_niter183_ncmp_3) { goto L_der_core_back_writer_BackWriter_prepend_exit_i_i_i__6; } else { p_v_r0_04_i_i_i_i_i_i_i_i_i_i64_i_i_i_i_i_i_i_i_i_i_i___2 = v_r30_i_i_i_i_i_i_i_i_i_i68_i_i_i_i_i_i_i_i_i_i_i_i___4; p_v_niter183 = v_niter183_next_3; goto L_join_7_i_i_i_i_i_i_i_i_i_i63_i_i_i_i_i_i_i_i_i_i_i__4; }
+    if (v_niter183_ncmp_3) { goto L_der_core_back_writer_BackWriter_prepend_exit_i_i_i__6; } else { p_v_r0_04_i_i_i_i_i_i_i_i_i_i64_i_i_i_i_i_i_i_i_i_i_i = v_r30_i_i_i_i_i_i_i_i_i_i68_i_i_i_i_i_i_i_i_i_i_i_3; p_v_niter183 = v_niter183_next_3; goto L_join_7_i_i_i_i_i_i_i_i_i_i63_i_i_i_i_i_i_i_i_i_i_i__4; }
 L_der_core_back_writer_BackWriter_prepend_exit_i_i_i__6:;
     v_lcmp_mod180_not = v_xtraiter178 == 0u;
-    if (v_lcmp_mod180_not) { goto L_der_core_back_writer_BackWriter_prepend_exit_i_i_i__5; } else { p_v_r0_04_i_i_i_i_i_i_i_i_i_i64_i_i_i_i_i_i_i_i_i_i_i_ = v_r30_i_i_i_i_i_i_i_i_i_i68_i_i_i_i_i_i_i_i_i_i_i_i___4; goto L_join_7_i_i_i_i_i_i_i_i_i_i63_i_i_i_i_i_i_i_i_i_i_i__2; }
+    if (v_lcmp_mod180_not) { goto L_der_core_back_writer_BackWriter_prepend_exit_i_i_i__5; } else { p_v_r0_04_i_i_i_i_i_i_i_i_i_i64_i_i_i_i_i_i_i_i_i_i_i_ = v_r30_i_i_i_i_i_i_i_i_i_i68_i_i_i_i_i_i_i_i_i_i_i_3; goto L_join_7_i_i_i_i_i_i_i_i_i_i63_i_i_i_i_i_i_i_i_i_i_i__2; }
 L_join_7_i_i_i_i_i_i_i_i_i_i63_i_i_i_i_i_i_i_i_i_i_i__2:;
     v_r0_04_i_i_i_i_i_i_i_i_i_i64_i_i_i_i_i_i_i_i_i_i_i_ = p_v_r0_04_i_i_i_i_i_i_i_i_i_i64_i_i_i_i_i_i_i_i_i_i_i_;
-    { p_v_r0_04_i_i_i_i_i_i_i_i_i_i64_i_i_i_i_i_i_i_i_i_i_i___3 = v_r0_04_i_i_i_i_i_i_i_i_i_i64_i_i_i_i_i_i_i_i_i_i_i_; p_v_epil_iter179 = 0u; goto L_join_7_i_i_i_i_i_i_i_i_i_i63_i_i_i_i_i_i_i_i_i_i_i__5; }
+    { p_v_r0_04_i_i_i_i_i_i_i_i_i_i64_i_i_i_i_i_i_i_i_i_i_i___2 = v_r0_04_i_i_i_i_i_i_i_i_i_i64_i_i_i_i_i_i_i_i_i_i_i_; p_v_epil_iter179 = 0u; goto L_join_7_i_i_i_i_i_i_i_i_i_i63_i_i_i_i_i_i_i_i_i_i_i__5; }
 L_join_7_i_i_i_i_i_i_i_i_i_i63_i_i_i_i_i_i_i_i_i_i_i__5:;
-    v_r0_04_i_i_i_i_i_i_i_i_i_i64_i_i_i_i_i_i_i_i_i_i_i___3 = p_v_r0_04_i_i_i_i_i_i_i_i_i_i64_i_i_i_i_i_i_i_i_i_i_i___3;
+    v_r0_04_i_i_i_i_i_i_i_i_i_i64_i_i_i_i_i_i_i_i_i_i_i___2 = p_v_r0_04_i_i_i_i_i_i_i_i_i_i64_i_i_i_i_i_i_i_i_i_i_i___2;
     v_epil_iter179 = p_v_epil_iter179;
-    v_r20_i_i_i_i_i_i_i_i_i_i65_i_i_i_i_i_i_i_i_i_i_i_i___5 = v_r26_i_i_i_i45_i_i_i_i_i_i_i_i_i_i_i_i_i + (int64_t)(v_r0_04_i_i_i_i_i_i_i_i_i_i64_i_i_i_i_i_i_i_i_i_i_i___3);
-    v_r24_i_i_i_i_i_i_i_i_i_i66_i_i_i_i_i_i_i_i_i_i_i_i___5 = v_r1_sroa_0_0_copyload_i_i_i40_i_i_i_i_i_i_i_i_i_i_i + (int64_t)(v_r0_04_i_i_i_i_i_i_i_i_i_i64_i_i_i_i_i_i_i_i_i_i_i___3);
-    v_r26_i_i_i_i_i_i_i_i_i_i67_i_i_i_i_i_i_i_i_i_i_i_i___5 = get_u8(v_r24_i_i_i_i_i_i_i_i_i_i66_i_i_i_i_i_i_i_i_i_i_i_i___5);
-    put_u8(v_r20_i_i_i_i_i_i_i_i_i_i65_i_i_i_i_i_i_i_i_i_i_i_i___5, v_r26_i_i_i_i_i_i_i_i_i_i67_i_i_i_i_i_i_i_i_i_i_i_i___5);
-    v_r30_i_i_i_i_i_i_i_i_i_i68_i_i_i_i_i_i_i_i_i_i_i_i___5 = (u64)((u64)(v_r0_04_i_i_i_i_i_i_i_i_i_i64_i_i_i_i_i_i_i_i_i_i_i___3) + (u64)(1u));
+    v_r20_i_i_i_i_i_i_i_i_i_i65_i_i_i_i_i_i_i_i_i_i_i_ep = v_r26_i_i_i_i45_i_i_i_i_i_i_i_i_i_i_i + (int64_t)(v_r0_04_i_i_i_i_i_i_i_i_i_i64_i_i_i_i_i_i_i_i_i_i_i___2);
+    v_r24_i_i_i_i_i_i_i_i_i_i66_i_i_i_i_i_i_i_i_i_i_i_ep = v_r1_sroa_0_0_copyload_i_i_i40_i_i_i_i_i_i_i_i_i_i_i + (int64_t)(v_r0_04_i_i_i_i_i_i_i_i_i_i64_i_i_i_i_i_i_i_i_i_i_i___2);
+    v_r26_i_i_i_i_i_i_i_i_i_i67_i_i_i_i_i_i_i_i_i_i_i_ep = get_u8(v_r24_i_i_i_i_i_i_i_i_i_i66_i_i_i_i_i_i_i_i_i_i_i_ep);
+    put_u8(v_r20_i_i_i_i_i_i_i_i_i_i65_i_i_i_i_i_i_i_i_i_i_i_ep, v_r26_i_i_i_i_i_i_i_i_i_i67_i_i_i_i_i_i_i_i_i_i_i_ep);
+    v_r30_i_i_i_i_i_i_i_i_i_i68_i_i_i_i_i_i_i_i_i_i_i_ep = (u64)((u64)(v_r0_04_i_i_i_i_i_i_i_i_i_i64_i_i_i_i_i_i_i_i_i_i_i___2) + (u64)(1u));
     v_epil_iter179_next = (u64)((u64)(v_epil_iter179) + (u64)(1u));
     v_epil_iter179_cmp_not = v_epil_iter179_next == v_xtraiter178;
-    if (v_epil_iter179_cmp_not) { goto L_der_core_back_writer_BackWriter_prepend_exit_i_i_i__5; } else { p_v_r0_04_i_i_i_i_i_i_i_i_i_i64_i_i_i_i_i_i_i_i_i_i_i___3 = v_r30_i_i_i_i_i_i_i_i_i_i68_i_i_i_i_i_i_i_i_i_i_i_i___5; p_v_epil_iter179 = v_epil_iter179_next; goto L_join_7_i_i_i_i_i_i_i_i_i_i63_i_i_i_i_i_i_i_i_i_i_i__5; }
+    if (v_epil_iter179_cmp_not) { goto L_der_core_back_writer_BackWriter_prepend_exit_i_i_i__5; } else { p_v_r0_04_i_i_i_i_i_i_i_i_i_i64_i_i_i_i_i_i_i_i_i_i_i___2 = v_r30_i_i_i_i_i_i_i_i_i_i68_i_i_i_i_i_i_i_i_i_i_i_ep; p_v_epil_iter179 = v_epil_iter179_next; goto L_join_7_i_i_i_i_i_i_i_i_i_i63_i_i_i_i_i_i_i_i_i_i_i__5; }
 L_der_core_back_writer_BackWriter_prepend_exit_i_i_i__5:;
-    v_r12_i_i_i52_i_i_i_i_i_i_i_i_i_i_i_i_i = v_r21_i_i_i_i_i_i_i_i_i_i_i + 16;
-    v_r13_i_i_i53_i_i_i_i_i_i_i_i_i_i_i_i_i = get_u64(v_r12_i_i_i52_i_i_i_i_i_i_i_i_i_i_i_i_i);
-    v_r15_not_i_i_i54_i_i_i_i_i_i_i_i_i_i_i_i_i = v_r13_i_i_i53_i_i_i_i_i_i_i_i_i_i_i_i_i == 0u;
-    if (v_r15_not_i_i_i54_i_i_i_i_i_i_i_i_i_i_i_i_i) { p_v_r7_sroa_129_10_i_i_i = v_r17_i_i_i_i43_i_i_i_i_i_i_i_i_i_i_i_i_i; goto L_der_core_encode_AnyEncode_prepend_4d978079444c4cc3; } else { goto L_then_1_i_i_i55_i_i_i_i_i_i_i_i_i_i_i_i_i; }
-L_then_1_i_i_i55_i_i_i_i_i_i_i_i_i_i_i_i_i:;
-    v_r17_i3_i_i_i56_i_i_i_i_i_i_i_i_i_i_i_i_i = (u64)((u64)(v_r17_i_i_i_i43_i_i_i_i_i_i_i_i_i_i_i_i_i) + (u64)(18446744073709551615ull));
-    v_r26_i5_i_i_i58_i_i_i_i_i_i_i_i_i_i_i_i_i = (P)((uintptr_t)v_r14 + (u64)(v_r17_i3_i_i_i56_i_i_i_i_i_i_i_i_i_i_i_i_i));
-    put_u8(v_r26_i5_i_i_i58_i_i_i_i_i_i_i_i_i_i_i_i_i, 0u);
-    { p_v_r7_sroa_129_10_i_i_i = v_r17_i3_i_i_i56_i_i_i_i_i_i_i_i_i_i_i_i_i; goto L_der_core_encode_AnyEncode_prepend_4d978079444c4cc3; }
+    v_r12_i_i_i52_i_i_i_i_i_i_i_i_i_i_i = v_r21_i_i_i_i_i_i_i_i_i + 16;
+    v_r13_i_i_i53_i_i_i_i_i_i_i_i_i_i_i = get_u64(v_r12_i_i_i52_i_i_i_i_i_i_i_i_i_i_i);
+    v_r15_not_i_i_i54_i_i_i_i_i_i_i_i_i_i_i = v_r13_i_i_i53_i_i_i_i_i_i_i_i_i_i_i == 0u;
+    if (v_r15_not_i_i_i54_i_i_i_i_i_i_i_i_i_i_i) { p_v_r7_sroa_129_10_i_i_i = v_r17_i_i_i_i43_i_i_i_i_i_i_i_i_i_i_i; goto L_der_core_encode_AnyEncode_prepend_4d978079444c4cc3; } else { goto L_then_1_i_i_i55_i_i_i_i_i_i_i_i_i_i_i; }
+L_then_1_i_i_i55_i_i_i_i_i_i_i_i_i_i_i:;
+    v_r17_i3_i_i_i56_i_i_i_i_i_i_i_i_i_i_i = (u64)((u64)(v_r17_i_i_i_i43_i_i_i_i_i_i_i_i_i_i_i) + (u64)(18446744073709551615ull));
+    v_r26_i5_i_i_i58_i_i_i_i_i_i_i_i_i_i_i = (P)((uintptr_t)v_r14 + (u64)(v_r17_i3_i_i_i56_i_i_i_i_i_i_i_i_i_i_i));
+    put_u8(v_r26_i5_i_i_i58_i_i_i_i_i_i_i_i_i_i_i, 0u);
+    { p_v_r7_sroa_129_10_i_i_i = v_r17_i3_i_i_i56_i_i_i_i_i_i_i_i_i_i_i; goto L_der_core_encode_AnyEncode_prepend_4d978079444c4cc3; }
 L_der_core_encode_AnyEncode_prepend_4d978079444c4cc3:;
     v_r7_sroa_129_10_i_i_i = p_v_r7_sroa_129_10_i_i_i;
     v_30 = (u64)((u64)(v_r7_sroa_129_10_i_i_i) + (u64)(v_r3_i5_i_i_i));
     v_31 = (u64)((u64)(v_r7_sroa_129_25_i_i_i) - (u64)(v_30));
     v_32 = (u32)(v_31);
-    v_r2_i_i_i62_i_i_i_i_i_i_i_i_i_i_i_i_i = (u32)((u32)(v_r1_sroa_9_4_copyload_i_i_i_i) + (u32)(v_32));
-    v_r59_i856_i_i_i = v_r2_i_i_i62_i_i_i_i_i_i_i_i_i_i_i_i_i < 128u;
+    v_r2_i_i_i62_i_i_i_i_i_i_i_i_i_i_i = (u32)((u32)(v_r1_sroa_9_4_copyload_i_i_i_i) + (u32)(v_32));
+    v_r59_i856_i_i_i = v_r2_i_i_i62_i_i_i_i_i_i_i_i_i_i_i < 128u;
     if (v_r59_i856_i_i_i) { goto L_then_1_i917_i_i_i; } else { goto L_else_2_i857_i_i_i; }
 L_then_1_i917_i_i_i:;
-    v_r64_i918_i_i_i = (u16)(v_r2_i_i_i62_i_i_i_i_i_i_i_i_i_i_i_i_i);
+    v_r64_i918_i_i_i = (u16)(v_r2_i_i_i62_i_i_i_i_i_i_i_i_i_i_i);
     v_r17_i_i922_i_i_i = (u64)((u64)(v_r7_sroa_129_10_i_i_i) + (u64)(18446744073709551614ull));
     v_r26_i_i924_i_i_i = (P)((uintptr_t)v_r14 + (u64)(v_r17_i_i922_i_i_i));
     v_r8_i851_sroa_4_0_insert_shift_i_i_i = (u16)((u32)(v_r64_i918_i_i_i) << (u32)((8u & 31)));
@@ -35438,10 +35438,10 @@ L_then_1_i917_i_i_i:;
     put_u16(v_r26_i_i924_i_i_i, v_r8_i851_sroa_0_0_insert_insert_i_i_i);
     { p_v_r7_sroa_129_24_i_i_i = v_r17_i_i922_i_i_i; goto L_der_core_back_writer_BackWriter_prepend_header_exi__3; }
 L_else_2_i857_i_i_i:;
-    v_r75_i858_i_i_i = v_r2_i_i_i62_i_i_i_i_i_i_i_i_i_i_i_i_i < 256u;
+    v_r75_i858_i_i_i = v_r2_i_i_i62_i_i_i_i_i_i_i_i_i_i_i < 256u;
     if (v_r75_i858_i_i_i) { goto L_then_4_i908_i_i_i; } else { goto L_else_5_i859_i_i_i; }
 L_then_4_i908_i_i_i:;
-    v_r80_i909_i_i_i = (u8)(v_r2_i_i_i62_i_i_i_i_i_i_i_i_i_i_i_i_i);
+    v_r80_i909_i_i_i = (u8)(v_r2_i_i_i62_i_i_i_i_i_i_i_i_i_i_i);
     v_r17_i28_i914_i_i_i = (u64)((u64)(v_r7_sroa_129_10_i_i_i) + (u64)(18446744073709551613ull));
     v_r26_i30_i916_i_i_i = (P)((uintptr_t)v_r14 + (u64)(v_r17_i28_i914_i_i_i));
     put_u8(v_r26_i30_i916_i_i_i, 2u);
@@ -35451,24 +35451,24 @@ L_then_4_i908_i_i_i:;
     put_u8(v_r14_i852_sroa_5_0_r26_i30_i916_sroa_idx_i_i_i, v_r80_i909_i_i_i);
     { p_v_r7_sroa_129_24_i_i_i = v_r17_i28_i914_i_i_i; goto L_der_core_back_writer_BackWriter_prepend_header_exi__3; }
 L_else_5_i859_i_i_i:;
-    v_r92_i860_i_i_i = v_r2_i_i_i62_i_i_i_i_i_i_i_i_i_i_i_i_i < 65536u;
+    v_r92_i860_i_i_i = v_r2_i_i_i62_i_i_i_i_i_i_i_i_i_i_i < 65536u;
     if (v_r92_i860_i_i_i) { goto L_then_7_i896_i_i_i; } else { goto L_else_8_i861_i_i_i; }
 L_then_7_i896_i_i_i:;
     v_r17_i46_i904_i_i_i = (u64)((u64)(v_r7_sroa_129_10_i_i_i) + (u64)(18446744073709551612ull));
     v_r26_i48_i906_i_i_i = (P)((uintptr_t)v_r14 + (u64)(v_r17_i46_i904_i_i_i));
-    v_33 = (u32)((u32)(v_r2_i_i_i62_i_i_i_i_i_i_i_i_i_i_i_i_i) | (u32)(42074112u));
+    v_33 = (u32)((u32)(v_r2_i_i_i62_i_i_i_i_i_i_i_i_i_i_i) | (u32)(42074112u));
     v_r20_i853_sroa_0_0_insert_insert_i_i_i = __builtin_bswap32(v_33);
     put_u32(v_r26_i48_i906_i_i_i, v_r20_i853_sroa_0_0_insert_insert_i_i_i);
     { p_v_r7_sroa_129_24_i_i_i = v_r17_i46_i904_i_i_i; goto L_der_core_back_writer_BackWriter_prepend_header_exi__3; }
 L_else_8_i861_i_i_i:;
-    v_r117_i862_i_i_i = v_r2_i_i_i62_i_i_i_i_i_i_i_i_i_i_i_i_i < 16777216u;
+    v_r117_i862_i_i_i = v_r2_i_i_i62_i_i_i_i_i_i_i_i_i_i_i < 16777216u;
     if (v_r117_i862_i_i_i) { goto L_then_10_i881_i_i_i; } else { goto L_else_11_i863_i_i_i; }
 L_then_10_i881_i_i_i:;
-    v_r12223_i882_i_i_i = (u32)((u32)(v_r2_i_i_i62_i_i_i_i_i_i_i_i_i_i_i_i_i) >> (u32)((16u & 31)));
+    v_r12223_i882_i_i_i = (u32)((u32)(v_r2_i_i_i62_i_i_i_i_i_i_i_i_i_i_i) >> (u32)((16u & 31)));
     v_r124_i883_i_i_i = (u8)(v_r12223_i882_i_i_i);
-    v_r12624_i884_i_i_i = (u32)((u32)(v_r2_i_i_i62_i_i_i_i_i_i_i_i_i_i_i_i_i) >> (u32)((8u & 31)));
+    v_r12624_i884_i_i_i = (u32)((u32)(v_r2_i_i_i62_i_i_i_i_i_i_i_i_i_i_i) >> (u32)((8u & 31)));
     v_r130_i885_i_i_i = (u8)(v_r12624_i884_i_i_i);
-    v_r134_i886_i_i_i = (u8)(v_r2_i_i_i62_i_i_i_i_i_i_i_i_i_i_i_i_i);
+    v_r134_i886_i_i_i = (u8)(v_r2_i_i_i62_i_i_i_i_i_i_i_i_i_i_i);
     v_r17_i64_i893_i_i_i = (u64)((u64)(v_r7_sroa_129_10_i_i_i) + (u64)(18446744073709551611ull));
     v_r26_i66_i895_i_i_i = (P)((uintptr_t)v_r14 + (u64)(v_r17_i64_i893_i_i_i));
     put_u8(v_r26_i66_i895_i_i_i, 2u);
@@ -35482,13 +35482,13 @@ L_then_10_i881_i_i_i:;
     put_u8(v_r29_i854_sroa_7_0_r26_i66_i895_sroa_idx_i_i_i, v_r134_i886_i_i_i);
     { p_v_r7_sroa_129_24_i_i_i = v_r17_i64_i893_i_i_i; goto L_der_core_back_writer_BackWriter_prepend_header_exi__3; }
 L_else_11_i863_i_i_i:;
-    v_r15020_i864_i_i_i = (u32)((u32)(v_r2_i_i_i62_i_i_i_i_i_i_i_i_i_i_i_i_i) >> (u32)((24u & 31)));
+    v_r15020_i864_i_i_i = (u32)((u32)(v_r2_i_i_i62_i_i_i_i_i_i_i_i_i_i_i) >> (u32)((24u & 31)));
     v_r152_i865_i_i_i = (u8)(v_r15020_i864_i_i_i);
-    v_r15421_i866_i_i_i = (u32)((u32)(v_r2_i_i_i62_i_i_i_i_i_i_i_i_i_i_i_i_i) >> (u32)((16u & 31)));
+    v_r15421_i866_i_i_i = (u32)((u32)(v_r2_i_i_i62_i_i_i_i_i_i_i_i_i_i_i) >> (u32)((16u & 31)));
     v_r158_i867_i_i_i = (u8)(v_r15421_i866_i_i_i);
-    v_r16022_i868_i_i_i = (u32)((u32)(v_r2_i_i_i62_i_i_i_i_i_i_i_i_i_i_i_i_i) >> (u32)((8u & 31)));
+    v_r16022_i868_i_i_i = (u32)((u32)(v_r2_i_i_i62_i_i_i_i_i_i_i_i_i_i_i) >> (u32)((8u & 31)));
     v_r164_i869_i_i_i = (u8)(v_r16022_i868_i_i_i);
-    v_r168_i870_i_i_i = (u8)(v_r2_i_i_i62_i_i_i_i_i_i_i_i_i_i_i_i_i);
+    v_r168_i870_i_i_i = (u8)(v_r2_i_i_i62_i_i_i_i_i_i_i_i_i_i_i);
     v_r17_i82_i878_i_i_i = (u64)((u64)(v_r7_sroa_129_10_i_i_i) + (u64)(18446744073709551610ull));
     v_r26_i84_i880_i_i_i = (P)((uintptr_t)v_r14 + (u64)(v_r17_i82_i878_i_i_i));
     put_u8(v_r26_i84_i880_i_i_i, 2u);
@@ -35505,12 +35505,12 @@ L_else_11_i863_i_i_i:;
     { p_v_r7_sroa_129_24_i_i_i = v_r17_i82_i878_i_i_i; goto L_der_core_back_writer_BackWriter_prepend_header_exi__3; }
 L_der_core_back_writer_BackWriter_prepend_header_exi__3:;
     v_r7_sroa_129_24_i_i_i = p_v_r7_sroa_129_24_i_i_i;
-    v_r17_i_i_i_i_i_i_i_i_i_i_i_i = (u64)((u64)(v_r7_sroa_129_7_i_i_i) - (u64)(v_r7_sroa_129_24_i_i_i));
-    v_r2_i_i_i_i_i_i_i_i_i_i_i_i_i = (u32)(v_r17_i_i_i_i_i_i_i_i_i_i_i_i);
-    v_r59_i780_i_i_i = v_r2_i_i_i_i_i_i_i_i_i_i_i_i_i < 128u;
+    v_r17_i_i_i_i_i_i_i_i_i_i = (u64)((u64)(v_r7_sroa_129_7_i_i_i) - (u64)(v_r7_sroa_129_24_i_i_i));
+    v_r2_i_i_i_i_i_i_i_i_i_i_i = (u32)(v_r17_i_i_i_i_i_i_i_i_i_i);
+    v_r59_i780_i_i_i = v_r2_i_i_i_i_i_i_i_i_i_i_i < 128u;
     if (v_r59_i780_i_i_i) { goto L_then_1_i841_i_i_i; } else { goto L_else_2_i781_i_i_i; }
 L_then_1_i841_i_i_i:;
-    v_r64_i842_i_i_i = (u16)(v_r17_i_i_i_i_i_i_i_i_i_i_i_i);
+    v_r64_i842_i_i_i = (u16)(v_r17_i_i_i_i_i_i_i_i_i_i);
     v_r17_i_i846_i_i_i = (u64)((u64)(v_r7_sroa_129_24_i_i_i) + (u64)(18446744073709551614ull));
     v_r26_i_i848_i_i_i = (P)((uintptr_t)v_r14 + (u64)(v_r17_i_i846_i_i_i));
     v_r8_i775_sroa_4_0_insert_shift_i_i_i = (u16)((u32)(v_r64_i842_i_i_i) << (u32)((8u & 31)));
@@ -35518,10 +35518,10 @@ L_then_1_i841_i_i_i:;
     put_u16(v_r26_i_i848_i_i_i, v_r8_i775_sroa_0_0_insert_insert_i_i_i);
     { p_v_r7_sroa_129_23_i_i_i = v_r17_i_i846_i_i_i; goto L_der_core_back_writer_BackWriter_prepend_header_exi__4; }
 L_else_2_i781_i_i_i:;
-    v_r75_i782_i_i_i = v_r2_i_i_i_i_i_i_i_i_i_i_i_i_i < 256u;
+    v_r75_i782_i_i_i = v_r2_i_i_i_i_i_i_i_i_i_i_i < 256u;
     if (v_r75_i782_i_i_i) { goto L_then_4_i832_i_i_i; } else { goto L_else_5_i783_i_i_i; }
 L_then_4_i832_i_i_i:;
-    v_r80_i833_i_i_i = (u8)(v_r17_i_i_i_i_i_i_i_i_i_i_i_i);
+    v_r80_i833_i_i_i = (u8)(v_r17_i_i_i_i_i_i_i_i_i_i);
     v_r17_i28_i838_i_i_i = (u64)((u64)(v_r7_sroa_129_24_i_i_i) + (u64)(18446744073709551613ull));
     v_r26_i30_i840_i_i_i = (P)((uintptr_t)v_r14 + (u64)(v_r17_i28_i838_i_i_i));
     put_u8(v_r26_i30_i840_i_i_i, 48u);
@@ -35531,24 +35531,24 @@ L_then_4_i832_i_i_i:;
     put_u8(v_r14_i776_sroa_5_0_r26_i30_i840_sroa_idx_i_i_i, v_r80_i833_i_i_i);
     { p_v_r7_sroa_129_23_i_i_i = v_r17_i28_i838_i_i_i; goto L_der_core_back_writer_BackWriter_prepend_header_exi__4; }
 L_else_5_i783_i_i_i:;
-    v_r92_i784_i_i_i = v_r2_i_i_i_i_i_i_i_i_i_i_i_i_i < 65536u;
+    v_r92_i784_i_i_i = v_r2_i_i_i_i_i_i_i_i_i_i_i < 65536u;
     if (v_r92_i784_i_i_i) { goto L_then_7_i820_i_i_i; } else { goto L_else_8_i785_i_i_i; }
 L_then_7_i820_i_i_i:;
     v_r17_i46_i828_i_i_i = (u64)((u64)(v_r7_sroa_129_24_i_i_i) + (u64)(18446744073709551612ull));
     v_r26_i48_i830_i_i_i = (P)((uintptr_t)v_r14 + (u64)(v_r17_i46_i828_i_i_i));
-    v_34 = (u32)((u32)(v_r2_i_i_i_i_i_i_i_i_i_i_i_i_i) | (u32)(813826048u));
+    v_34 = (u32)((u32)(v_r2_i_i_i_i_i_i_i_i_i_i_i) | (u32)(813826048u));
     v_r20_i777_sroa_0_0_insert_insert_i_i_i = __builtin_bswap32(v_34);
     put_u32(v_r26_i48_i830_i_i_i, v_r20_i777_sroa_0_0_insert_insert_i_i_i);
     { p_v_r7_sroa_129_23_i_i_i = v_r17_i46_i828_i_i_i; goto L_der_core_back_writer_BackWriter_prepend_header_exi__4; }
 L_else_8_i785_i_i_i:;
-    v_r117_i786_i_i_i = v_r2_i_i_i_i_i_i_i_i_i_i_i_i_i < 16777216u;
+    v_r117_i786_i_i_i = v_r2_i_i_i_i_i_i_i_i_i_i_i < 16777216u;
     if (v_r117_i786_i_i_i) { goto L_then_10_i805_i_i_i; } else { goto L_else_11_i787_i_i_i; }
 L_then_10_i805_i_i_i:;
-    v_r12223_i8061236_i_i_i = (u64)((u64)(v_r17_i_i_i_i_i_i_i_i_i_i_i_i) >> (u64)((16u & 63)));
+    v_r12223_i8061236_i_i_i = (u64)((u64)(v_r17_i_i_i_i_i_i_i_i_i_i) >> (u64)((16u & 63)));
     v_r124_i807_i_i_i = (u8)(v_r12223_i8061236_i_i_i);
-    v_r12624_i8081237_i_i_i = (u64)((u64)(v_r17_i_i_i_i_i_i_i_i_i_i_i_i) >> (u64)((8u & 63)));
+    v_r12624_i8081237_i_i_i = (u64)((u64)(v_r17_i_i_i_i_i_i_i_i_i_i) >> (u64)((8u & 63)));
     v_r130_i809_i_i_i = (u8)(v_r12624_i8081237_i_i_i);
-    v_r134_i810_i_i_i = (u8)(v_r17_i_i_i_i_i_i_i_i_i_i_i_i);
+    v_r134_i810_i_i_i = (u8)(v_r17_i_i_i_i_i_i_i_i_i_i);
     v_r17_i64_i817_i_i_i = (u64)((u64)(v_r7_sroa_129_24_i_i_i) + (u64)(18446744073709551611ull));
     v_r26_i66_i819_i_i_i = (P)((uintptr_t)v_r14 + (u64)(v_r17_i64_i817_i_i_i));
     put_u8(v_r26_i66_i819_i_i_i, 48u);
@@ -35562,13 +35562,13 @@ L_then_10_i805_i_i_i:;
     put_u8(v_r29_i778_sroa_7_0_r26_i66_i819_sroa_idx_i_i_i, v_r134_i810_i_i_i);
     { p_v_r7_sroa_129_23_i_i_i = v_r17_i64_i817_i_i_i; goto L_der_core_back_writer_BackWriter_prepend_header_exi__4; }
 L_else_11_i787_i_i_i:;
-    v_r15020_i7881233_i_i_i = (u64)((u64)(v_r17_i_i_i_i_i_i_i_i_i_i_i_i) >> (u64)((24u & 63)));
+    v_r15020_i7881233_i_i_i = (u64)((u64)(v_r17_i_i_i_i_i_i_i_i_i_i) >> (u64)((24u & 63)));
     v_r152_i789_i_i_i = (u8)(v_r15020_i7881233_i_i_i);
-    v_r15421_i7901234_i_i_i = (u64)((u64)(v_r17_i_i_i_i_i_i_i_i_i_i_i_i) >> (u64)((16u & 63)));
+    v_r15421_i7901234_i_i_i = (u64)((u64)(v_r17_i_i_i_i_i_i_i_i_i_i) >> (u64)((16u & 63)));
     v_r158_i791_i_i_i = (u8)(v_r15421_i7901234_i_i_i);
-    v_r16022_i7921235_i_i_i = (u64)((u64)(v_r17_i_i_i_i_i_i_i_i_i_i_i_i) >> (u64)((8u & 63)));
+    v_r16022_i7921235_i_i_i = (u64)((u64)(v_r17_i_i_i_i_i_i_i_i_i_i) >> (u64)((8u & 63)));
     v_r164_i793_i_i_i = (u8)(v_r16022_i7921235_i_i_i);
-    v_r168_i794_i_i_i = (u8)(v_r17_i_i_i_i_i_i_i_i_i_i_i_i);
+    v_r168_i794_i_i_i = (u8)(v_r17_i_i_i_i_i_i_i_i_i_i);
     v_r17_i82_i802_i_i_i = (u64)((u64)(v_r7_sroa_129_24_i_i_i) + (u64)(18446744073709551610ull));
     v_r26_i84_i804_i_i_i = (P)((uintptr_t)v_r14 + (u64)(v_r17_i82_i802_i_i_i));
     put_u8(v_r26_i84_i804_i_i_i, 48u);
@@ -35585,27 +35585,27 @@ L_else_11_i787_i_i_i:;
     { p_v_r7_sroa_129_23_i_i_i = v_r17_i82_i802_i_i_i; goto L_der_core_back_writer_BackWriter_prepend_header_exi__4; }
 L_der_core_back_writer_BackWriter_prepend_header_exi__4:;
     v_r7_sroa_129_23_i_i_i = p_v_r7_sroa_129_23_i_i_i;
-    v_r11_not_i_i_i_i_i_i_i_i_i_i_i = v_r16_i_i_i_i_i_i_i_i_i_i_i == 0u;
-    if (v_r11_not_i_i_i_i_i_i_i_i_i_i_i) { p_v_r7_sroa_129_11_i_i_i = v_r7_sroa_129_23_i_i_i; goto L_der_core_borrowed_BorrowedEncode_prepend_b85dcb4e1; } else { p_v_r7_sroa_129_7_i_i_i = v_r7_sroa_129_23_i_i_i; p_v_r2_07_i_i_i_i_i_i_i_i_i_i_i = v_r16_i_i_i_i_i_i_i_i_i_i_i; goto L_join_5_i_i_i_i_i_i_i_i_i_i_i; }
+    v_r11_not_i_i_i_i_i_i_i_i_i = v_r16_i_i_i_i_i_i_i_i_i == 0u;
+    if (v_r11_not_i_i_i_i_i_i_i_i_i) { p_v_r7_sroa_129_11_i_i_i = v_r7_sroa_129_23_i_i_i; goto L_der_core_borrowed_BorrowedEncode_prepend_b85dcb4e1; } else { p_v_r7_sroa_129_7_i_i_i = v_r7_sroa_129_23_i_i_i; p_v_r2_07_i_i_i_i_i_i_i_i_i = v_r16_i_i_i_i_i_i_i_i_i; goto L_join_5_i_i_i_i_i_i_i_i_i; }
 L_der_core_borrowed_BorrowedEncode_prepend_b85dcb4e1:;
     v_r7_sroa_129_11_i_i_i = p_v_r7_sroa_129_11_i_i_i;
     v_35 = (u32)(v_r7_sroa_129_11_i_i_i);
-    v_r2_i_i_i_i_i_i_i_i_i_i = (u32)((u32)(v_r1_sroa_9_4_copyload_i_i_i_i) - (u32)(v_35));
-    v_r59_i704_i_i_i = v_r2_i_i_i_i_i_i_i_i_i_i < 128u;
+    v_r2_i_i_i_i_i_i_i_i = (u32)((u32)(v_r1_sroa_9_4_copyload_i_i_i_i) - (u32)(v_35));
+    v_r59_i704_i_i_i = v_r2_i_i_i_i_i_i_i_i < 128u;
     if (v_r59_i704_i_i_i) { goto L_then_1_i765_i_i_i; } else { goto L_else_2_i705_i_i_i; }
 L_then_1_i765_i_i_i:;
-    v_r64_i766_i_i_i = (u16)(v_r2_i_i_i_i_i_i_i_i_i_i);
+    v_r64_i766_i_i_i = (u16)(v_r2_i_i_i_i_i_i_i_i);
     v_r17_i_i770_i_i_i = (u64)((u64)(v_r7_sroa_129_11_i_i_i) + (u64)(18446744073709551614ull));
     v_r26_i_i772_i_i_i = (P)((uintptr_t)v_r14 + (u64)(v_r17_i_i770_i_i_i));
     v_r8_i699_sroa_4_0_insert_shift_i_i_i = (u16)((u32)(v_r64_i766_i_i_i) << (u32)((8u & 31)));
     v_r8_i699_sroa_0_0_insert_insert_i_i_i = (u16)((u32)(v_r8_i699_sroa_4_0_insert_shift_i_i_i) | (u32)(48u));
     put_u16(v_r26_i_i772_i_i_i, v_r8_i699_sroa_0_0_insert_insert_i_i_i);
-    { p_v_a1_val4_i_i_i_i_i_i_i_i = v_r17_i_i770_i_i_i; goto L_pkcs1_private_key_written_OthersPartEncodeValue_pr; }
+    { p_v_a1_val4_i_i15_i_i_i_i_i = v_r17_i_i770_i_i_i; goto L_der_core_last_part_LastEncodeValue_prepend_value_c; }
 L_else_2_i705_i_i_i:;
-    v_r75_i706_i_i_i = v_r2_i_i_i_i_i_i_i_i_i_i < 256u;
+    v_r75_i706_i_i_i = v_r2_i_i_i_i_i_i_i_i < 256u;
     if (v_r75_i706_i_i_i) { goto L_then_4_i756_i_i_i; } else { goto L_else_5_i707_i_i_i; }
 L_then_4_i756_i_i_i:;
-    v_r80_i757_i_i_i = (u8)(v_r2_i_i_i_i_i_i_i_i_i_i);
+    v_r80_i757_i_i_i = (u8)(v_r2_i_i_i_i_i_i_i_i);
     v_r17_i28_i762_i_i_i = (u64)((u64)(v_r7_sroa_129_11_i_i_i) + (u64)(18446744073709551613ull));
     v_r26_i30_i764_i_i_i = (P)((uintptr_t)v_r14 + (u64)(v_r17_i28_i762_i_i_i));
     put_u8(v_r26_i30_i764_i_i_i, 48u);
@@ -35613,26 +35613,26 @@ L_then_4_i756_i_i_i:;
     put_u8(v_r14_i700_sroa_4_0_r26_i30_i764_sroa_idx_i_i_i, 129u);
     v_r14_i700_sroa_5_0_r26_i30_i764_sroa_idx_i_i_i = v_r26_i30_i764_i_i_i + 2;
     put_u8(v_r14_i700_sroa_5_0_r26_i30_i764_sroa_idx_i_i_i, v_r80_i757_i_i_i);
-    { p_v_a1_val4_i_i_i_i_i_i_i_i = v_r17_i28_i762_i_i_i; goto L_pkcs1_private_key_written_OthersPartEncodeValue_pr; }
+    { p_v_a1_val4_i_i15_i_i_i_i_i = v_r17_i28_i762_i_i_i; goto L_der_core_last_part_LastEncodeValue_prepend_value_c; }
 L_else_5_i707_i_i_i:;
-    v_r92_i708_i_i_i = v_r2_i_i_i_i_i_i_i_i_i_i < 65536u;
+    v_r92_i708_i_i_i = v_r2_i_i_i_i_i_i_i_i < 65536u;
     if (v_r92_i708_i_i_i) { goto L_then_7_i744_i_i_i; } else { goto L_else_8_i709_i_i_i; }
 L_then_7_i744_i_i_i:;
     v_r17_i46_i752_i_i_i = (u64)((u64)(v_r7_sroa_129_11_i_i_i) + (u64)(18446744073709551612ull));
     v_r26_i48_i754_i_i_i = (P)((uintptr_t)v_r14 + (u64)(v_r17_i46_i752_i_i_i));
-    v_36 = (u32)((u32)(v_r2_i_i_i_i_i_i_i_i_i_i) | (u32)(813826048u));
+    v_36 = (u32)((u32)(v_r2_i_i_i_i_i_i_i_i) | (u32)(813826048u));
     v_r20_i701_sroa_0_0_insert_insert_i_i_i = __builtin_bswap32(v_36);
     put_u32(v_r26_i48_i754_i_i_i, v_r20_i701_sroa_0_0_insert_insert_i_i_i);
-    { p_v_a1_val4_i_i_i_i_i_i_i_i = v_r17_i46_i752_i_i_i; goto L_pkcs1_private_key_written_OthersPartEncodeValue_pr; }
+    { p_v_a1_val4_i_i15_i_i_i_i_i = v_r17_i46_i752_i_i_i; goto L_der_core_last_part_LastEncodeValue_prepend_value_c; }
 L_else_8_i709_i_i_i:;
-    v_r117_i710_i_i_i = v_r2_i_i_i_i_i_i_i_i_i_i < 16777216u;
+    v_r117_i710_i_i_i = v_r2_i_i_i_i_i_i_i_i < 16777216u;
     if (v_r117_i710_i_i_i) { goto L_then_10_i729_i_i_i; } else { goto L_else_11_i711_i_i_i; }
 L_then_10_i729_i_i_i:;
-    v_r12223_i730_i_i_i = (u32)((u32)(v_r2_i_i_i_i_i_i_i_i_i_i) >> (u32)((16u & 31)));
+    v_r12223_i730_i_i_i = (u32)((u32)(v_r2_i_i_i_i_i_i_i_i) >> (u32)((16u & 31)));
     v_r124_i731_i_i_i = (u8)(v_r12223_i730_i_i_i);
-    v_r12624_i732_i_i_i = (u32)((u32)(v_r2_i_i_i_i_i_i_i_i_i_i) >> (u32)((8u & 31)));
+    v_r12624_i732_i_i_i = (u32)((u32)(v_r2_i_i_i_i_i_i_i_i) >> (u32)((8u & 31)));
     v_r130_i733_i_i_i = (u8)(v_r12624_i732_i_i_i);
-    v_r134_i734_i_i_i = (u8)(v_r2_i_i_i_i_i_i_i_i_i_i);
+    v_r134_i734_i_i_i = (u8)(v_r2_i_i_i_i_i_i_i_i);
     v_r17_i64_i741_i_i_i = (u64)((u64)(v_r7_sroa_129_11_i_i_i) + (u64)(18446744073709551611ull));
     v_r26_i66_i743_i_i_i = (P)((uintptr_t)v_r14 + (u64)(v_r17_i64_i741_i_i_i));
     put_u8(v_r26_i66_i743_i_i_i, 48u);
@@ -35644,15 +35644,15 @@ L_then_10_i729_i_i_i:;
     put_u8(v_r29_i702_sroa_6_0_r26_i66_i743_sroa_idx_i_i_i, v_r130_i733_i_i_i);
     v_r29_i702_sroa_7_0_r26_i66_i743_sroa_idx_i_i_i = v_r26_i66_i743_i_i_i + 4;
     put_u8(v_r29_i702_sroa_7_0_r26_i66_i743_sroa_idx_i_i_i, v_r134_i734_i_i_i);
-    { p_v_a1_val4_i_i_i_i_i_i_i_i = v_r17_i64_i741_i_i_i; goto L_pkcs1_private_key_written_OthersPartEncodeValue_pr; }
+    { p_v_a1_val4_i_i15_i_i_i_i_i = v_r17_i64_i741_i_i_i; goto L_der_core_last_part_LastEncodeValue_prepend_value_c; }
 L_else_11_i711_i_i_i:;
-    v_r15020_i712_i_i_i = (u32)((u32)(v_r2_i_i_i_i_i_i_i_i_i_i) >> (u32)((24u & 31)));
+    v_r15020_i712_i_i_i = (u32)((u32)(v_r2_i_i_i_i_i_i_i_i) >> (u32)((24u & 31)));
     v_r152_i713_i_i_i = (u8)(v_r15020_i712_i_i_i);
-    v_r15421_i714_i_i_i = (u32)((u32)(v_r2_i_i_i_i_i_i_i_i_i_i) >> (u32)((16u & 31)));
+    v_r15421_i714_i_i_i = (u32)((u32)(v_r2_i_i_i_i_i_i_i_i) >> (u32)((16u & 31)));
     v_r158_i715_i_i_i = (u8)(v_r15421_i714_i_i_i);
-    v_r16022_i716_i_i_i = (u32)((u32)(v_r2_i_i_i_i_i_i_i_i_i_i) >> (u32)((8u & 31)));
+    v_r16022_i716_i_i_i = (u32)((u32)(v_r2_i_i_i_i_i_i_i_i) >> (u32)((8u & 31)));
     v_r164_i717_i_i_i = (u8)(v_r16022_i716_i_i_i);
-    v_r168_i718_i_i_i = (u8)(v_r2_i_i_i_i_i_i_i_i_i_i);
+    v_r168_i718_i_i_i = (u8)(v_r2_i_i_i_i_i_i_i_i);
     v_r17_i82_i726_i_i_i = (u64)((u64)(v_r7_sroa_129_11_i_i_i) + (u64)(18446744073709551610ull));
     v_r26_i84_i728_i_i_i = (P)((uintptr_t)v_r14 + (u64)(v_r17_i82_i726_i_i_i));
     put_u8(v_r26_i84_i728_i_i_i, 48u);
@@ -35666,87 +35666,87 @@ L_else_11_i711_i_i_i:;
     put_u8(v_r40_i703_sroa_7_0_r26_i84_i728_sroa_idx_i_i_i, v_r164_i717_i_i_i);
     v_r40_i703_sroa_8_0_r26_i84_i728_sroa_idx_i_i_i = v_r26_i84_i728_i_i_i + 5;
     put_u8(v_r40_i703_sroa_8_0_r26_i84_i728_sroa_idx_i_i_i, v_r168_i718_i_i_i);
-    { p_v_a1_val4_i_i_i_i_i_i_i_i = v_r17_i82_i726_i_i_i; goto L_pkcs1_private_key_written_OthersPartEncodeValue_pr; }
-L_pkcs1_private_key_written_OthersPartEncodeValue_pr:;
-    v_a1_val4_i_i_i_i_i_i_i_i = p_v_a1_val4_i_i_i_i_i_i_i_i;
-    v_r17_i_i_i_i_i_i_i_i_i_i = (u64)((u64)(v_a1_val4_i_i_i_i_i_i_i_i) - (u64)(v_r12_sroa_10_i1044_sroa_5_0_ph_i_i));
-    v_r26_i_i_i_i_i_i_i_i_i_i = (P)((uintptr_t)v_r14 + (u64)(v_r17_i_i_i_i_i_i_i_i_i_i));
-    v_r8_i_i_i_i_i_i_i_i_i_i_i_i_i_i_i_i = (u64)((uintptr_t)v_r26_i_i_i_i_i_i_i_i_i_i);
-    v_r9_i_i_i_i_i_i_i_i_i_i_i_i_i_i_i_i = (u64)((uintptr_t)v_r12_sroa_10_i1044_sroa_3_0_ph_i_i);
-    v_r10_i_i_i_i_i_i_i_i_i_i_i_i_i_i_i_i = (u64)((u64)(v_r8_i_i_i_i_i_i_i_i_i_i_i_i_i_i_i_i) - (u64)(v_r9_i_i_i_i_i_i_i_i_i_i_i_i_i_i_i_i));
-    v_r11_i_i_i_i_i_i_i_i_i_i_i_i_i_i_i_i = v_r10_i_i_i_i_i_i_i_i_i_i_i_i_i_i_i_i < v_r12_sroa_10_i1044_sroa_5_0_ph_i_i;
-    if (v_r11_i_i_i_i_i_i_i_i_i_i_i_i_i_i_i_i) { goto L_join_7_i_i_i_i_i_i_i_i_i_i_i_i_i_i_i_i_preheader; } else { goto L_apart_2_i_i_i_i_i_i_i_i_i_i_i_i_i_i_i_i; }
-L_join_7_i_i_i_i_i_i_i_i_i_i_i_i_i_i_i_i_preheader:;
+    { p_v_a1_val4_i_i15_i_i_i_i_i = v_r17_i82_i726_i_i_i; goto L_der_core_last_part_LastEncodeValue_prepend_value_c; }
+L_der_core_last_part_LastEncodeValue_prepend_value_c:;
+    v_a1_val4_i_i15_i_i_i_i_i = p_v_a1_val4_i_i15_i_i_i_i_i;
+    v_r17_i_i_i_i_i_i_i_i_i = (u64)((u64)(v_a1_val4_i_i15_i_i_i_i_i) - (u64)(v_r12_sroa_10_i1044_sroa_5_0_ph_i_i));
+    v_r26_i_i_i_i_i_i_i_i_i = (P)((uintptr_t)v_r14 + (u64)(v_r17_i_i_i_i_i_i_i_i_i));
+    v_r8_i_i_i_i_i_i_i_i_i_i_i_i_i_i_i = (u64)((uintptr_t)v_r26_i_i_i_i_i_i_i_i_i);
+    v_r9_i_i_i_i_i_i_i_i_i_i_i_i_i_i_i = (u64)((uintptr_t)v_r12_sroa_10_i1044_sroa_3_0_ph_i_i);
+    v_r10_i_i_i_i_i_i_i_i_i_i_i_i_i_i_i = (u64)((u64)(v_r8_i_i_i_i_i_i_i_i_i_i_i_i_i_i_i) - (u64)(v_r9_i_i_i_i_i_i_i_i_i_i_i_i_i_i_i));
+    v_r11_i_i_i_i_i_i_i_i_i_i_i_i_i_i_i = v_r10_i_i_i_i_i_i_i_i_i_i_i_i_i_i_i < v_r12_sroa_10_i1044_sroa_5_0_ph_i_i;
+    if (v_r11_i_i_i_i_i_i_i_i_i_i_i_i_i_i_i) { goto L_join_7_i_i_i_i_i_i_i_i_i_i_i_i_i_i_i_preheader; } else { goto L_apart_2_i_i_i_i_i_i_i_i_i_i_i_i_i_i_i; }
+L_join_7_i_i_i_i_i_i_i_i_i_i_i_i_i_i_i_preheader:;
     v_xtraiter184 = (u64)((u64)(v_r12_sroa_10_i1044_sroa_5_0_ph_i_i) & (u64)(3u));
     v_37 = v_r12_sroa_10_i1044_sroa_5_0_ph_i_i < 4u;
-    if (v_37) { p_v_r0_04_i_i_i_i_i_i_i_i_i_i_i_i_i_i_i_i_epil_init = 0u; goto L_join_7_i_i_i_i_i_i_i_i_i_i_i_i_i_i_i_i_epil_prehea; } else { goto L_join_7_i_i_i_i_i_i_i_i_i_i_i_i_i_i_i_i_preheader_n; }
-L_join_7_i_i_i_i_i_i_i_i_i_i_i_i_i_i_i_i_preheader_n:;
+    if (v_37) { p_v_r0_04_i_i_i_i_i_i_i_i_i_i_i_i_i_i_i_epil_init = 0u; goto L_join_7_i_i_i_i_i_i_i_i_i_i_i_i_i_i_i_epil_preheade; } else { goto L_join_7_i_i_i_i_i_i_i_i_i_i_i_i_i_i_i_preheader_new; }
+L_join_7_i_i_i_i_i_i_i_i_i_i_i_i_i_i_i_preheader_new:;
     v_unroll_iter188 = (u64)((u64)(v_r12_sroa_10_i1044_sroa_5_0_ph_i_i) & (u64)(4294967292ull));
-    { p_v_r0_04_i_i_i_i_i_i_i_i_i_i_i_i_i_i_i_i = 0u; p_v_niter189 = 0u; goto L_join_7_i_i_i_i_i_i_i_i_i_i_i_i_i_i_i_i; }
-L_apart_2_i_i_i_i_i_i_i_i_i_i_i_i_i_i_i_i:;
-    move(v_r26_i_i_i_i_i_i_i_i_i_i, v_r12_sroa_10_i1044_sroa_3_0_ph_i_i, v_r12_sroa_10_i1044_sroa_5_0_ph_i_i);
+    { p_v_r0_04_i_i_i_i_i_i_i_i_i_i_i_i_i_i_i = 0u; p_v_niter189 = 0u; goto L_join_7_i_i_i_i_i_i_i_i_i_i_i_i_i_i_i; }
+L_apart_2_i_i_i_i_i_i_i_i_i_i_i_i_i_i_i:;
+    move(v_r26_i_i_i_i_i_i_i_i_i, v_r12_sroa_10_i1044_sroa_3_0_ph_i_i, v_r12_sroa_10_i1044_sroa_5_0_ph_i_i);
     { goto L_der_core_back_writer_BackWriter_prepend_exit_i_i_i__7; }
-L_join_7_i_i_i_i_i_i_i_i_i_i_i_i_i_i_i_i:;
-    v_r0_04_i_i_i_i_i_i_i_i_i_i_i_i_i_i_i_i = p_v_r0_04_i_i_i_i_i_i_i_i_i_i_i_i_i_i_i_i;
+L_join_7_i_i_i_i_i_i_i_i_i_i_i_i_i_i_i:;
+    v_r0_04_i_i_i_i_i_i_i_i_i_i_i_i_i_i_i = p_v_r0_04_i_i_i_i_i_i_i_i_i_i_i_i_i_i_i;
     v_niter189 = p_v_niter189;
-    v_r20_i_i_i_i_i_i_i_i_i_i_i_i_i_i_i_i = v_r26_i_i_i_i_i_i_i_i_i_i + (int64_t)(v_r0_04_i_i_i_i_i_i_i_i_i_i_i_i_i_i_i_i);
-    v_r24_i_i_i_i_i_i_i_i_i_i_i_i_i_i_i_i = v_r12_sroa_10_i1044_sroa_3_0_ph_i_i + (int64_t)(v_r0_04_i_i_i_i_i_i_i_i_i_i_i_i_i_i_i_i);
-    v_r26_i_i_i_i_i_i_i_i_i_i_i_i_i_i_i_i = get_u8(v_r24_i_i_i_i_i_i_i_i_i_i_i_i_i_i_i_i);
-    put_u8(v_r20_i_i_i_i_i_i_i_i_i_i_i_i_i_i_i_i, v_r26_i_i_i_i_i_i_i_i_i_i_i_i_i_i_i_i);
-    v_r30_i_i_i_i_i_i_i_i_i_i_i_i_i_i_i_i = (u64)((u64)(v_r0_04_i_i_i_i_i_i_i_i_i_i_i_i_i_i_i_i) | (u64)(1u));
-    v_r20_i_i_i_i_i_i_i_i_i_i_i_i_i_i_i_i_1 = v_r26_i_i_i_i_i_i_i_i_i_i + (int64_t)(v_r30_i_i_i_i_i_i_i_i_i_i_i_i_i_i_i_i);
-    v_r24_i_i_i_i_i_i_i_i_i_i_i_i_i_i_i_i_1 = v_r12_sroa_10_i1044_sroa_3_0_ph_i_i + (int64_t)(v_r30_i_i_i_i_i_i_i_i_i_i_i_i_i_i_i_i);
-    v_r26_i_i_i_i_i_i_i_i_i_i_i_i_i_i_i_i_1 = get_u8(v_r24_i_i_i_i_i_i_i_i_i_i_i_i_i_i_i_i_1);
-    put_u8(v_r20_i_i_i_i_i_i_i_i_i_i_i_i_i_i_i_i_1, v_r26_i_i_i_i_i_i_i_i_i_i_i_i_i_i_i_i_1);
-    v_r30_i_i_i_i_i_i_i_i_i_i_i_i_i_i_i_i_1 = (u64)((u64)(v_r0_04_i_i_i_i_i_i_i_i_i_i_i_i_i_i_i_i) | (u64)(2u));
-    v_r20_i_i_i_i_i_i_i_i_i_i_i_i_i_i_i_i_2 = v_r26_i_i_i_i_i_i_i_i_i_i + (int64_t)(v_r30_i_i_i_i_i_i_i_i_i_i_i_i_i_i_i_i_1);
-    v_r24_i_i_i_i_i_i_i_i_i_i_i_i_i_i_i_i_2 = v_r12_sroa_10_i1044_sroa_3_0_ph_i_i + (int64_t)(v_r30_i_i_i_i_i_i_i_i_i_i_i_i_i_i_i_i_1);
-    v_r26_i_i_i_i_i_i_i_i_i_i_i_i_i_i_i_i_2 = get_u8(v_r24_i_i_i_i_i_i_i_i_i_i_i_i_i_i_i_i_2);
-    put_u8(v_r20_i_i_i_i_i_i_i_i_i_i_i_i_i_i_i_i_2, v_r26_i_i_i_i_i_i_i_i_i_i_i_i_i_i_i_i_2);
-    v_r30_i_i_i_i_i_i_i_i_i_i_i_i_i_i_i_i_2 = (u64)((u64)(v_r0_04_i_i_i_i_i_i_i_i_i_i_i_i_i_i_i_i) | (u64)(3u));
-    v_r20_i_i_i_i_i_i_i_i_i_i_i_i_i_i_i_i_3 = v_r26_i_i_i_i_i_i_i_i_i_i + (int64_t)(v_r30_i_i_i_i_i_i_i_i_i_i_i_i_i_i_i_i_2);
-    v_r24_i_i_i_i_i_i_i_i_i_i_i_i_i_i_i_i_3 = v_r12_sroa_10_i1044_sroa_3_0_ph_i_i + (int64_t)(v_r30_i_i_i_i_i_i_i_i_i_i_i_i_i_i_i_i_2);
-    v_r26_i_i_i_i_i_i_i_i_i_i_i_i_i_i_i_i_3 = get_u8(v_r24_i_i_i_i_i_i_i_i_i_i_i_i_i_i_i_i_3);
-    put_u8(v_r20_i_i_i_i_i_i_i_i_i_i_i_i_i_i_i_i_3, v_r26_i_i_i_i_i_i_i_i_i_i_i_i_i_i_i_i_3);
-    v_r30_i_i_i_i_i_i_i_i_i_i_i_i_i_i_i_i_3 = (u64)((u64)(v_r0_04_i_i_i_i_i_i_i_i_i_i_i_i_i_i_i_i) + (u64)(4u));
+    v_r20_i_i_i_i_i_i_i_i_i_i20_i_i_i_i_i = v_r26_i_i_i_i_i_i_i_i_i + (int64_t)(v_r0_04_i_i_i_i_i_i_i_i_i_i_i_i_i_i_i);
+    v_r24_i_i_i_i_i_i_i_i_i_i_i_i_i_i_i = v_r12_sroa_10_i1044_sroa_3_0_ph_i_i + (int64_t)(v_r0_04_i_i_i_i_i_i_i_i_i_i_i_i_i_i_i);
+    v_r26_i_i_i_i_i_i_i_i_i_i21_i_i_i_i_i = get_u8(v_r24_i_i_i_i_i_i_i_i_i_i_i_i_i_i_i);
+    put_u8(v_r20_i_i_i_i_i_i_i_i_i_i20_i_i_i_i_i, v_r26_i_i_i_i_i_i_i_i_i_i21_i_i_i_i_i);
+    v_r30_i_i_i_i_i_i_i_i_i_i_i_i_i_i_i = (u64)((u64)(v_r0_04_i_i_i_i_i_i_i_i_i_i_i_i_i_i_i) | (u64)(1u));
+    v_r20_i_i_i_i_i_i_i_i_i_i20_i_i_i_i_i_1 = v_r26_i_i_i_i_i_i_i_i_i + (int64_t)(v_r30_i_i_i_i_i_i_i_i_i_i_i_i_i_i_i);
+    v_r24_i_i_i_i_i_i_i_i_i_i_i_i_i_i_i_1 = v_r12_sroa_10_i1044_sroa_3_0_ph_i_i + (int64_t)(v_r30_i_i_i_i_i_i_i_i_i_i_i_i_i_i_i);
+    v_r26_i_i_i_i_i_i_i_i_i_i21_i_i_i_i_i_1 = get_u8(v_r24_i_i_i_i_i_i_i_i_i_i_i_i_i_i_i_1);
+    put_u8(v_r20_i_i_i_i_i_i_i_i_i_i20_i_i_i_i_i_1, v_r26_i_i_i_i_i_i_i_i_i_i21_i_i_i_i_i_1);
+    v_r30_i_i_i_i_i_i_i_i_i_i_i_i_i_i_i_1 = (u64)((u64)(v_r0_04_i_i_i_i_i_i_i_i_i_i_i_i_i_i_i) | (u64)(2u));
+    v_r20_i_i_i_i_i_i_i_i_i_i20_i_i_i_i_i_2 = v_r26_i_i_i_i_i_i_i_i_i + (int64_t)(v_r30_i_i_i_i_i_i_i_i_i_i_i_i_i_i_i_1);
+    v_r24_i_i_i_i_i_i_i_i_i_i_i_i_i_i_i_2 = v_r12_sroa_10_i1044_sroa_3_0_ph_i_i + (int64_t)(v_r30_i_i_i_i_i_i_i_i_i_i_i_i_i_i_i_1);
+    v_r26_i_i_i_i_i_i_i_i_i_i21_i_i_i_i_i_2 = get_u8(v_r24_i_i_i_i_i_i_i_i_i_i_i_i_i_i_i_2);
+    put_u8(v_r20_i_i_i_i_i_i_i_i_i_i20_i_i_i_i_i_2, v_r26_i_i_i_i_i_i_i_i_i_i21_i_i_i_i_i_2);
+    v_r30_i_i_i_i_i_i_i_i_i_i_i_i_i_i_i_2 = (u64)((u64)(v_r0_04_i_i_i_i_i_i_i_i_i_i_i_i_i_i_i) | (u64)(3u));
+    v_r20_i_i_i_i_i_i_i_i_i_i20_i_i_i_i_i_3 = v_r26_i_i_i_i_i_i_i_i_i + (int64_t)(v_r30_i_i_i_i_i_i_i_i_i_i_i_i_i_i_i_2);
+    v_r24_i_i_i_i_i_i_i_i_i_i_i_i_i_i_i_3 = v_r12_sroa_10_i1044_sroa_3_0_ph_i_i + (int64_t)(v_r30_i_i_i_i_i_i_i_i_i_i_i_i_i_i_i_2);
+    v_r26_i_i_i_i_i_i_i_i_i_i21_i_i_i_i_i_3 = get_u8(v_r24_i_i_i_i_i_i_i_i_i_i_i_i_i_i_i_3);
+    put_u8(v_r20_i_i_i_i_i_i_i_i_i_i20_i_i_i_i_i_3, v_r26_i_i_i_i_i_i_i_i_i_i21_i_i_i_i_i_3);
+    v_r30_i_i_i_i_i_i_i_i_i_i_i_i_i_i_i_3 = (u64)((u64)(v_r0_04_i_i_i_i_i_i_i_i_i_i_i_i_i_i_i) + (u64)(4u));
     v_niter189_next_3 = (u64)((u64)(v_niter189) + (u64)(4u));
     v_niter189_ncmp_3 = v_niter189_next_3 == v_unroll_iter188;
-    if (v_niter189_ncmp_3) { goto L_der_core_back_writer_BackWriter_prepend_exit_i_i_i__8; } else { p_v_r0_04_i_i_i_i_i_i_i_i_i_i_i_i_i_i_i_i = v_r30_i_i_i_i_i_i_i_i_i_i_i_i_i_i_i_i_3; p_v_niter189 = v_niter189_next_3; goto L_join_7_i_i_i_i_i_i_i_i_i_i_i_i_i_i_i_i; }
+    if (v_niter189_ncmp_3) { goto L_der_core_back_writer_BackWriter_prepend_exit_i_i_i__8; } else { p_v_r0_04_i_i_i_i_i_i_i_i_i_i_i_i_i_i_i = v_r30_i_i_i_i_i_i_i_i_i_i_i_i_i_i_i_3; p_v_niter189 = v_niter189_next_3; goto L_join_7_i_i_i_i_i_i_i_i_i_i_i_i_i_i_i; }
 L_der_core_back_writer_BackWriter_prepend_exit_i_i_i__8:;
     v_lcmp_mod186_not = v_xtraiter184 == 0u;
-    if (v_lcmp_mod186_not) { goto L_der_core_back_writer_BackWriter_prepend_exit_i_i_i__7; } else { p_v_r0_04_i_i_i_i_i_i_i_i_i_i_i_i_i_i_i_i_epil_init = v_r30_i_i_i_i_i_i_i_i_i_i_i_i_i_i_i_i_3; goto L_join_7_i_i_i_i_i_i_i_i_i_i_i_i_i_i_i_i_epil_prehea; }
-L_join_7_i_i_i_i_i_i_i_i_i_i_i_i_i_i_i_i_epil_prehea:;
-    v_r0_04_i_i_i_i_i_i_i_i_i_i_i_i_i_i_i_i_epil_init = p_v_r0_04_i_i_i_i_i_i_i_i_i_i_i_i_i_i_i_i_epil_init;
-    { p_v_r0_04_i_i_i_i_i_i_i_i_i_i_i_i_i_i_i_i_epil = v_r0_04_i_i_i_i_i_i_i_i_i_i_i_i_i_i_i_i_epil_init; p_v_epil_iter185 = 0u; goto L_join_7_i_i_i_i_i_i_i_i_i_i_i_i_i_i_i_i_epil; }
-L_join_7_i_i_i_i_i_i_i_i_i_i_i_i_i_i_i_i_epil:;
-    v_r0_04_i_i_i_i_i_i_i_i_i_i_i_i_i_i_i_i_epil = p_v_r0_04_i_i_i_i_i_i_i_i_i_i_i_i_i_i_i_i_epil;
+    if (v_lcmp_mod186_not) { goto L_der_core_back_writer_BackWriter_prepend_exit_i_i_i__7; } else { p_v_r0_04_i_i_i_i_i_i_i_i_i_i_i_i_i_i_i_epil_init = v_r30_i_i_i_i_i_i_i_i_i_i_i_i_i_i_i_3; goto L_join_7_i_i_i_i_i_i_i_i_i_i_i_i_i_i_i_epil_preheade; }
+L_join_7_i_i_i_i_i_i_i_i_i_i_i_i_i_i_i_epil_preheade:;
+    v_r0_04_i_i_i_i_i_i_i_i_i_i_i_i_i_i_i_epil_init = p_v_r0_04_i_i_i_i_i_i_i_i_i_i_i_i_i_i_i_epil_init;
+    { p_v_r0_04_i_i_i_i_i_i_i_i_i_i_i_i_i_i_i_epil = v_r0_04_i_i_i_i_i_i_i_i_i_i_i_i_i_i_i_epil_init; p_v_epil_iter185 = 0u; goto L_join_7_i_i_i_i_i_i_i_i_i_i_i_i_i_i_i_epil; }
+L_join_7_i_i_i_i_i_i_i_i_i_i_i_i_i_i_i_epil:;
+    v_r0_04_i_i_i_i_i_i_i_i_i_i_i_i_i_i_i_epil = p_v_r0_04_i_i_i_i_i_i_i_i_i_i_i_i_i_i_i_epil;
     v_epil_iter185 = p_v_epil_iter185;
-    v_r20_i_i_i_i_i_i_i_i_i_i_i_i_i_i_i_i_epil = v_r26_i_i_i_i_i_i_i_i_i_i + (int64_t)(v_r0_04_i_i_i_i_i_i_i_i_i_i_i_i_i_i_i_i_epil);
-    v_r24_i_i_i_i_i_i_i_i_i_i_i_i_i_i_i_i_epil = v_r12_sroa_10_i1044_sroa_3_0_ph_i_i + (int64_t)(v_r0_04_i_i_i_i_i_i_i_i_i_i_i_i_i_i_i_i_epil);
-    v_r26_i_i_i_i_i_i_i_i_i_i_i_i_i_i_i_i_epil = get_u8(v_r24_i_i_i_i_i_i_i_i_i_i_i_i_i_i_i_i_epil);
-    put_u8(v_r20_i_i_i_i_i_i_i_i_i_i_i_i_i_i_i_i_epil, v_r26_i_i_i_i_i_i_i_i_i_i_i_i_i_i_i_i_epil);
-    v_r30_i_i_i_i_i_i_i_i_i_i_i_i_i_i_i_i_epil = (u64)((u64)(v_r0_04_i_i_i_i_i_i_i_i_i_i_i_i_i_i_i_i_epil) + (u64)(1u));
+    v_r20_i_i_i_i_i_i_i_i_i_i20_i_i_i_i_i_epil = v_r26_i_i_i_i_i_i_i_i_i + (int64_t)(v_r0_04_i_i_i_i_i_i_i_i_i_i_i_i_i_i_i_epil);
+    v_r24_i_i_i_i_i_i_i_i_i_i_i_i_i_i_i_epil = v_r12_sroa_10_i1044_sroa_3_0_ph_i_i + (int64_t)(v_r0_04_i_i_i_i_i_i_i_i_i_i_i_i_i_i_i_epil);
+    v_r26_i_i_i_i_i_i_i_i_i_i21_i_i_i_i_i_epil = get_u8(v_r24_i_i_i_i_i_i_i_i_i_i_i_i_i_i_i_epil);
+    put_u8(v_r20_i_i_i_i_i_i_i_i_i_i20_i_i_i_i_i_epil, v_r26_i_i_i_i_i_i_i_i_i_i21_i_i_i_i_i_epil);
+    v_r30_i_i_i_i_i_i_i_i_i_i_i_i_i_i_i_epil = (u64)((u64)(v_r0_04_i_i_i_i_i_i_i_i_i_i_i_i_i_i_i_epil) + (u64)(1u));
     v_epil_iter185_next = (u64)((u64)(v_epil_iter185) + (u64)(1u));
     v_epil_iter185_cmp_not = v_epil_iter185_next == v_xtraiter184;
-    if (v_epil_iter185_cmp_not) { goto L_der_core_back_writer_BackWriter_prepend_exit_i_i_i__7; } else { p_v_r0_04_i_i_i_i_i_i_i_i_i_i_i_i_i_i_i_i_epil = v_r30_i_i_i_i_i_i_i_i_i_i_i_i_i_i_i_i_epil; p_v_epil_iter185 = v_epil_iter185_next; goto L_join_7_i_i_i_i_i_i_i_i_i_i_i_i_i_i_i_i_epil; }
+    if (v_epil_iter185_cmp_not) { goto L_der_core_back_writer_BackWriter_prepend_exit_i_i_i__7; } else { p_v_r0_04_i_i_i_i_i_i_i_i_i_i_i_i_i_i_i_epil = v_r30_i_i_i_i_i_i_i_i_i_i_i_i_i_i_i_epil; p_v_epil_iter185 = v_epil_iter185_next; goto L_join_7_i_i_i_i_i_i_i_i_i_i_i_i_i_i_i_epil; }
 L_der_core_back_writer_BackWriter_prepend_exit_i_i_i__7:;
-    v_r15_not_i_i_i_i_i_i_i_i_i = (u8)(v_r20_i355_i_i ^ ((u8)1 << 7)) > (u8)(255u ^ ((u8)1 << 7));
-    if (v_r15_not_i_i_i_i_i_i_i_i_i) { p_v_r7_sroa_129_0_i_i_i = v_r17_i_i_i_i_i_i_i_i_i_i; goto L_der_core_borrowed_BorrowedEncode_prepend_25cd36d81__3; } else { goto L_then_1_i_i_i_i_i_i_i_i_i; }
-L_then_1_i_i_i_i_i_i_i_i_i:;
-    v_r17_i3_i_i_i_i_i_i_i_i_i = (u64)((u64)(v_r17_i_i_i_i_i_i_i_i_i_i) + (u64)(18446744073709551615ull));
-    v_r26_i5_i_i_i_i_i_i_i_i_i = (P)((uintptr_t)v_r14 + (u64)(v_r17_i3_i_i_i_i_i_i_i_i_i));
-    put_u8(v_r26_i5_i_i_i_i_i_i_i_i_i, 0u);
-    { p_v_r7_sroa_129_0_i_i_i = v_r17_i3_i_i_i_i_i_i_i_i_i; goto L_der_core_borrowed_BorrowedEncode_prepend_25cd36d81__3; }
+    v_r15_not_i_i_i_i_i_i_i_i = (u8)(v_r20_i355_i_i ^ ((u8)1 << 7)) > (u8)(255u ^ ((u8)1 << 7));
+    if (v_r15_not_i_i_i_i_i_i_i_i) { p_v_r7_sroa_129_0_i_i_i = v_r17_i_i_i_i_i_i_i_i_i; goto L_der_core_borrowed_BorrowedEncode_prepend_25cd36d81__3; } else { goto L_then_1_i_i_i_i_i_i_i_i; }
+L_then_1_i_i_i_i_i_i_i_i:;
+    v_r17_i3_i_i_i_i_i_i_i_i = (u64)((u64)(v_r17_i_i_i_i_i_i_i_i_i) + (u64)(18446744073709551615ull));
+    v_r26_i5_i_i_i_i_i_i_i_i = (P)((uintptr_t)v_r14 + (u64)(v_r17_i3_i_i_i_i_i_i_i_i));
+    put_u8(v_r26_i5_i_i_i_i_i_i_i_i, 0u);
+    { p_v_r7_sroa_129_0_i_i_i = v_r17_i3_i_i_i_i_i_i_i_i; goto L_der_core_borrowed_BorrowedEncode_prepend_25cd36d81__3; }
 L_der_core_borrowed_BorrowedEncode_prepend_25cd36d81__3:;
     v_r7_sroa_129_0_i_i_i = p_v_r7_sroa_129_0_i_i_i;
     v_38 = (u64)((u64)(v_r7_sroa_129_0_i_i_i) + (u64)(v_r3_i5_i_i_i));
-    v_39 = (u64)((u64)(v_a1_val4_i_i_i_i_i_i_i_i) - (u64)(v_38));
+    v_39 = (u64)((u64)(v_a1_val4_i_i15_i_i_i_i_i) - (u64)(v_38));
     v_40 = (u32)(v_39);
-    v_r2_i_i_i_i_i_i_i_i_i = (u32)((u32)(v_r1_sroa_9_4_copyload_i_i_i_i) + (u32)(v_40));
-    v_r59_i628_i_i_i = v_r2_i_i_i_i_i_i_i_i_i < 128u;
+    v_r2_i_i_i19_i_i_i_i_i = (u32)((u32)(v_r1_sroa_9_4_copyload_i_i_i_i) + (u32)(v_40));
+    v_r59_i628_i_i_i = v_r2_i_i_i19_i_i_i_i_i < 128u;
     if (v_r59_i628_i_i_i) { goto L_then_1_i689_i_i_i; } else { goto L_else_2_i629_i_i_i; }
 L_then_1_i689_i_i_i:;
-    v_r64_i690_i_i_i = (u16)(v_r2_i_i_i_i_i_i_i_i_i);
+    v_r64_i690_i_i_i = (u16)(v_r2_i_i_i19_i_i_i_i_i);
     v_r17_i_i694_i_i_i = (u64)((u64)(v_r7_sroa_129_0_i_i_i) + (u64)(18446744073709551614ull));
     v_r26_i_i696_i_i_i = (P)((uintptr_t)v_r14 + (u64)(v_r17_i_i694_i_i_i));
     v_r8_i623_sroa_4_0_insert_shift_i_i_i = (u16)((u32)(v_r64_i690_i_i_i) << (u32)((8u & 31)));
@@ -35754,10 +35754,10 @@ L_then_1_i689_i_i_i:;
     put_u16(v_r26_i_i696_i_i_i, v_r8_i623_sroa_0_0_insert_insert_i_i_i);
     { p_v_r7_sroa_129_21_i_i_i = v_r17_i_i694_i_i_i; goto L_der_core_back_writer_BackWriter_prepend_header_exi__5; }
 L_else_2_i629_i_i_i:;
-    v_r75_i630_i_i_i = v_r2_i_i_i_i_i_i_i_i_i < 256u;
+    v_r75_i630_i_i_i = v_r2_i_i_i19_i_i_i_i_i < 256u;
     if (v_r75_i630_i_i_i) { goto L_then_4_i680_i_i_i; } else { goto L_else_5_i631_i_i_i; }
 L_then_4_i680_i_i_i:;
-    v_r80_i681_i_i_i = (u8)(v_r2_i_i_i_i_i_i_i_i_i);
+    v_r80_i681_i_i_i = (u8)(v_r2_i_i_i19_i_i_i_i_i);
     v_r17_i28_i686_i_i_i = (u64)((u64)(v_r7_sroa_129_0_i_i_i) + (u64)(18446744073709551613ull));
     v_r26_i30_i688_i_i_i = (P)((uintptr_t)v_r14 + (u64)(v_r17_i28_i686_i_i_i));
     put_u8(v_r26_i30_i688_i_i_i, 2u);
@@ -35767,24 +35767,24 @@ L_then_4_i680_i_i_i:;
     put_u8(v_r14_i624_sroa_5_0_r26_i30_i688_sroa_idx_i_i_i, v_r80_i681_i_i_i);
     { p_v_r7_sroa_129_21_i_i_i = v_r17_i28_i686_i_i_i; goto L_der_core_back_writer_BackWriter_prepend_header_exi__5; }
 L_else_5_i631_i_i_i:;
-    v_r92_i632_i_i_i = v_r2_i_i_i_i_i_i_i_i_i < 65536u;
+    v_r92_i632_i_i_i = v_r2_i_i_i19_i_i_i_i_i < 65536u;
     if (v_r92_i632_i_i_i) { goto L_then_7_i668_i_i_i; } else { goto L_else_8_i633_i_i_i; }
 L_then_7_i668_i_i_i:;
     v_r17_i46_i676_i_i_i = (u64)((u64)(v_r7_sroa_129_0_i_i_i) + (u64)(18446744073709551612ull));
     v_r26_i48_i678_i_i_i = (P)((uintptr_t)v_r14 + (u64)(v_r17_i46_i676_i_i_i));
-    v_41 = (u32)((u32)(v_r2_i_i_i_i_i_i_i_i_i) | (u32)(42074112u));
+    v_41 = (u32)((u32)(v_r2_i_i_i19_i_i_i_i_i) | (u32)(42074112u));
     v_r20_i625_sroa_0_0_insert_insert_i_i_i = __builtin_bswap32(v_41);
     put_u32(v_r26_i48_i678_i_i_i, v_r20_i625_sroa_0_0_insert_insert_i_i_i);
     { p_v_r7_sroa_129_21_i_i_i = v_r17_i46_i676_i_i_i; goto L_der_core_back_writer_BackWriter_prepend_header_exi__5; }
 L_else_8_i633_i_i_i:;
-    v_r117_i634_i_i_i = v_r2_i_i_i_i_i_i_i_i_i < 16777216u;
+    v_r117_i634_i_i_i = v_r2_i_i_i19_i_i_i_i_i < 16777216u;
     if (v_r117_i634_i_i_i) { goto L_then_10_i653_i_i_i; } else { goto L_else_11_i635_i_i_i; }
 L_then_10_i653_i_i_i:;
-    v_r12223_i654_i_i_i = (u32)((u32)(v_r2_i_i_i_i_i_i_i_i_i) >> (u32)((16u & 31)));
+    v_r12223_i654_i_i_i = (u32)((u32)(v_r2_i_i_i19_i_i_i_i_i) >> (u32)((16u & 31)));
     v_r124_i655_i_i_i = (u8)(v_r12223_i654_i_i_i);
-    v_r12624_i656_i_i_i = (u32)((u32)(v_r2_i_i_i_i_i_i_i_i_i) >> (u32)((8u & 31)));
+    v_r12624_i656_i_i_i = (u32)((u32)(v_r2_i_i_i19_i_i_i_i_i) >> (u32)((8u & 31)));
     v_r130_i657_i_i_i = (u8)(v_r12624_i656_i_i_i);
-    v_r134_i658_i_i_i = (u8)(v_r2_i_i_i_i_i_i_i_i_i);
+    v_r134_i658_i_i_i = (u8)(v_r2_i_i_i19_i_i_i_i_i);
     v_r17_i64_i665_i_i_i = (u64)((u64)(v_r7_sroa_129_0_i_i_i) + (u64)(18446744073709551611ull));
     v_r26_i66_i667_i_i_i = (P)((uintptr_t)v_r14 + (u64)(v_r17_i64_i665_i_i_i));
     put_u8(v_r26_i66_i667_i_i_i, 2u);
@@ -35798,13 +35798,13 @@ L_then_10_i653_i_i_i:;
     put_u8(v_r29_i626_sroa_7_0_r26_i66_i667_sroa_idx_i_i_i, v_r134_i658_i_i_i);
     { p_v_r7_sroa_129_21_i_i_i = v_r17_i64_i665_i_i_i; goto L_der_core_back_writer_BackWriter_prepend_header_exi__5; }
 L_else_11_i635_i_i_i:;
-    v_r15020_i636_i_i_i = (u32)((u32)(v_r2_i_i_i_i_i_i_i_i_i) >> (u32)((24u & 31)));
+    v_r15020_i636_i_i_i = (u32)((u32)(v_r2_i_i_i19_i_i_i_i_i) >> (u32)((24u & 31)));
     v_r152_i637_i_i_i = (u8)(v_r15020_i636_i_i_i);
-    v_r15421_i638_i_i_i = (u32)((u32)(v_r2_i_i_i_i_i_i_i_i_i) >> (u32)((16u & 31)));
+    v_r15421_i638_i_i_i = (u32)((u32)(v_r2_i_i_i19_i_i_i_i_i) >> (u32)((16u & 31)));
     v_r158_i639_i_i_i = (u8)(v_r15421_i638_i_i_i);
-    v_r16022_i640_i_i_i = (u32)((u32)(v_r2_i_i_i_i_i_i_i_i_i) >> (u32)((8u & 31)));
+    v_r16022_i640_i_i_i = (u32)((u32)(v_r2_i_i_i19_i_i_i_i_i) >> (u32)((8u & 31)));
     v_r164_i641_i_i_i = (u8)(v_r16022_i640_i_i_i);
-    v_r168_i642_i_i_i = (u8)(v_r2_i_i_i_i_i_i_i_i_i);
+    v_r168_i642_i_i_i = (u8)(v_r2_i_i_i19_i_i_i_i_i);
     v_r17_i82_i650_i_i_i = (u64)((u64)(v_r7_sroa_129_0_i_i_i) + (u64)(18446744073709551610ull));
     v_r26_i84_i652_i_i_i = (P)((uintptr_t)v_r14 + (u64)(v_r17_i82_i650_i_i_i));
     put_u8(v_r26_i84_i652_i_i_i, 2u);
@@ -35821,84 +35821,84 @@ L_else_11_i635_i_i_i:;
     { p_v_r7_sroa_129_21_i_i_i = v_r17_i82_i650_i_i_i; goto L_der_core_back_writer_BackWriter_prepend_header_exi__5; }
 L_der_core_back_writer_BackWriter_prepend_header_exi__5:;
     v_r7_sroa_129_21_i_i_i = p_v_r7_sroa_129_21_i_i_i;
-    v_r17_i_i_i_i9_i_i_i_i_i_i = (u64)((u64)(v_r7_sroa_129_21_i_i_i) - (u64)(v_r1_sroa_3_0_copyload_i_i_i8_i_i_i_i_i_i));
-    v_r26_i_i_i_i11_i_i_i_i_i_i = (P)((uintptr_t)v_r14 + (u64)(v_r17_i_i_i_i9_i_i_i_i_i_i));
-    v_r8_i_i_i_i_i_i_i_i_i_i12_i_i_i_i_i_i = (u64)((uintptr_t)v_r26_i_i_i_i11_i_i_i_i_i_i);
-    v_r9_i_i_i_i_i_i_i_i_i_i13_i_i_i_i_i_i = (u64)((uintptr_t)v_r1_sroa_0_0_copyload_i_i_i6_i_i_i_i_i_i);
-    v_r10_i_i_i_i_i_i_i_i_i_i14_i_i_i_i_i_i = (u64)((u64)(v_r8_i_i_i_i_i_i_i_i_i_i12_i_i_i_i_i_i) - (u64)(v_r9_i_i_i_i_i_i_i_i_i_i13_i_i_i_i_i_i));
-    v_r11_i_i_i_i_i_i_i_i_i_i15_i_i_i_i_i_i = v_r10_i_i_i_i_i_i_i_i_i_i14_i_i_i_i_i_i < v_r1_sroa_3_0_copyload_i_i_i8_i_i_i_i_i_i;
-    if (v_r11_i_i_i_i_i_i_i_i_i_i15_i_i_i_i_i_i) { goto L_join_7_i_i_i_i_i_i_i_i_i_i29_i_i_i_i_i_i_preheader; } else { goto L_apart_2_i_i_i_i_i_i_i_i_i_i16_i_i_i_i_i_i; }
-L_join_7_i_i_i_i_i_i_i_i_i_i29_i_i_i_i_i_i_preheader:;
-    v_xtraiter190 = (u64)((u64)(v_r1_sroa_3_0_copyload_i_i_i8_i_i_i_i_i_i) & (u64)(3u));
-    v_42 = v_r1_sroa_3_0_copyload_i_i_i8_i_i_i_i_i_i < 4u;
-    if (v_42) { p_v_r0_04_i_i_i_i_i_i_i_i_i_i30_i_i_i_i_i_i_epil_init = 0u; goto L_join_7_i_i_i_i_i_i_i_i_i_i29_i_i_i_i_i_i_epil_preh; } else { goto L_join_7_i_i_i_i_i_i_i_i_i_i29_i_i_i_i_i_i_preheader__2; }
-L_join_7_i_i_i_i_i_i_i_i_i_i29_i_i_i_i_i_i_preheader__2:;
-    v_unroll_iter194 = (u64)((u64)(v_r1_sroa_3_0_copyload_i_i_i8_i_i_i_i_i_i) & (u64)(4294967292ull));
-    { p_v_r0_04_i_i_i_i_i_i_i_i_i_i30_i_i_i_i_i_i = 0u; p_v_niter195 = 0u; goto L_join_7_i_i_i_i_i_i_i_i_i_i29_i_i_i_i_i_i; }
-L_apart_2_i_i_i_i_i_i_i_i_i_i16_i_i_i_i_i_i:;
-    move(v_r26_i_i_i_i11_i_i_i_i_i_i, v_r1_sroa_0_0_copyload_i_i_i6_i_i_i_i_i_i, v_r1_sroa_3_0_copyload_i_i_i8_i_i_i_i_i_i);
+    v_r17_i_i_i_i27_i_i_i_i_i = (u64)((u64)(v_r7_sroa_129_21_i_i_i) - (u64)(v_r1_sroa_3_0_copyload_i_i_i26_i_i_i_i_i));
+    v_r26_i_i_i_i29_i_i_i_i_i = (P)((uintptr_t)v_r14 + (u64)(v_r17_i_i_i_i27_i_i_i_i_i));
+    v_r8_i_i_i_i_i_i_i_i_i_i30_i_i_i_i_i = (u64)((uintptr_t)v_r26_i_i_i_i29_i_i_i_i_i);
+    v_r9_i_i_i_i_i_i_i_i_i_i31_i_i_i_i_i = (u64)((uintptr_t)v_r1_sroa_0_0_copyload_i_i_i24_i_i_i_i_i);
+    v_r10_i_i_i_i_i_i_i_i_i_i32_i_i_i_i_i = (u64)((u64)(v_r8_i_i_i_i_i_i_i_i_i_i30_i_i_i_i_i) - (u64)(v_r9_i_i_i_i_i_i_i_i_i_i31_i_i_i_i_i));
+    v_r11_i_i_i_i_i_i_i_i_i_i33_i_i_i_i_i = v_r10_i_i_i_i_i_i_i_i_i_i32_i_i_i_i_i < v_r1_sroa_3_0_copyload_i_i_i26_i_i_i_i_i;
+    if (v_r11_i_i_i_i_i_i_i_i_i_i33_i_i_i_i_i) { goto L_join_7_i_i_i_i_i_i_i_i_i_i47_i_i_i_i_i_preheader; } else { goto L_apart_2_i_i_i_i_i_i_i_i_i_i34_i_i_i_i_i; }
+L_join_7_i_i_i_i_i_i_i_i_i_i47_i_i_i_i_i_preheader:;
+    v_xtraiter190 = (u64)((u64)(v_r1_sroa_3_0_copyload_i_i_i26_i_i_i_i_i) & (u64)(3u));
+    v_42 = v_r1_sroa_3_0_copyload_i_i_i26_i_i_i_i_i < 4u;
+    if (v_42) { p_v_r0_04_i_i_i_i_i_i_i_i_i_i48_i_i_i_i_i_epil_init = 0u; goto L_join_7_i_i_i_i_i_i_i_i_i_i47_i_i_i_i_i_epil_prehea; } else { goto L_join_7_i_i_i_i_i_i_i_i_i_i47_i_i_i_i_i_preheader_n; }
+L_join_7_i_i_i_i_i_i_i_i_i_i47_i_i_i_i_i_preheader_n:;
+    v_unroll_iter194 = (u64)((u64)(v_r1_sroa_3_0_copyload_i_i_i26_i_i_i_i_i) & (u64)(4294967292ull));
+    { p_v_r0_04_i_i_i_i_i_i_i_i_i_i48_i_i_i_i_i = 0u; p_v_niter195 = 0u; goto L_join_7_i_i_i_i_i_i_i_i_i_i47_i_i_i_i_i; }
+L_apart_2_i_i_i_i_i_i_i_i_i_i34_i_i_i_i_i:;
+    move(v_r26_i_i_i_i29_i_i_i_i_i, v_r1_sroa_0_0_copyload_i_i_i24_i_i_i_i_i, v_r1_sroa_3_0_copyload_i_i_i26_i_i_i_i_i);
     { goto L_der_core_back_writer_BackWriter_prepend_exit_i_i_i__9; }
-L_join_7_i_i_i_i_i_i_i_i_i_i29_i_i_i_i_i_i:;
-    v_r0_04_i_i_i_i_i_i_i_i_i_i30_i_i_i_i_i_i = p_v_r0_04_i_i_i_i_i_i_i_i_i_i30_i_i_i_i_i_i;
+L_join_7_i_i_i_i_i_i_i_i_i_i47_i_i_i_i_i:;
+    v_r0_04_i_i_i_i_i_i_i_i_i_i48_i_i_i_i_i = p_v_r0_04_i_i_i_i_i_i_i_i_i_i48_i_i_i_i_i;
     v_niter195 = p_v_niter195;
-    v_r20_i_i_i_i_i_i_i_i_i_i31_i_i_i_i_i_i = v_r26_i_i_i_i11_i_i_i_i_i_i + (int64_t)(v_r0_04_i_i_i_i_i_i_i_i_i_i30_i_i_i_i_i_i);
-    v_r24_i_i_i_i_i_i_i_i_i_i32_i_i_i_i_i_i = v_r1_sroa_0_0_copyload_i_i_i6_i_i_i_i_i_i + (int64_t)(v_r0_04_i_i_i_i_i_i_i_i_i_i30_i_i_i_i_i_i);
-    v_r26_i_i_i_i_i_i_i_i_i_i33_i_i_i_i_i_i = get_u8(v_r24_i_i_i_i_i_i_i_i_i_i32_i_i_i_i_i_i);
-    put_u8(v_r20_i_i_i_i_i_i_i_i_i_i31_i_i_i_i_i_i, v_r26_i_i_i_i_i_i_i_i_i_i33_i_i_i_i_i_i);
-    v_r30_i_i_i_i_i_i_i_i_i_i34_i_i_i_i_i_i = (u64)((u64)(v_r0_04_i_i_i_i_i_i_i_i_i_i30_i_i_i_i_i_i) | (u64)(1u));
-    v_r20_i_i_i_i_i_i_i_i_i_i31_i_i_i_i_i_i_1 = v_r26_i_i_i_i11_i_i_i_i_i_i + (int64_t)(v_r30_i_i_i_i_i_i_i_i_i_i34_i_i_i_i_i_i);
-    v_r24_i_i_i_i_i_i_i_i_i_i32_i_i_i_i_i_i_1 = v_r1_sroa_0_0_copyload_i_i_i6_i_i_i_i_i_i + (int64_t)(v_r30_i_i_i_i_i_i_i_i_i_i34_i_i_i_i_i_i);
-    v_r26_i_i_i_i_i_i_i_i_i_i33_i_i_i_i_i_i_1 = get_u8(v_r24_i_i_i_i_i_i_i_i_i_i32_i_i_i_i_i_i_1);
-    put_u8(v_r20_i_i_i_i_i_i_i_i_i_i31_i_i_i_i_i_i_1, v_r26_i_i_i_i_i_i_i_i_i_i33_i_i_i_i_i_i_1);
-    v_r30_i_i_i_i_i_i_i_i_i_i34_i_i_i_i_i_i_1 = (u64)((u64)(v_r0_04_i_i_i_i_i_i_i_i_i_i30_i_i_i_i_i_i) | (u64)(2u));
-    v_r20_i_i_i_i_i_i_i_i_i_i31_i_i_i_i_i_i_2 = v_r26_i_i_i_i11_i_i_i_i_i_i + (int64_t)(v_r30_i_i_i_i_i_i_i_i_i_i34_i_i_i_i_i_i_1);
-    v_r24_i_i_i_i_i_i_i_i_i_i32_i_i_i_i_i_i_2 = v_r1_sroa_0_0_copyload_i_i_i6_i_i_i_i_i_i + (int64_t)(v_r30_i_i_i_i_i_i_i_i_i_i34_i_i_i_i_i_i_1);
-    v_r26_i_i_i_i_i_i_i_i_i_i33_i_i_i_i_i_i_2 = get_u8(v_r24_i_i_i_i_i_i_i_i_i_i32_i_i_i_i_i_i_2);
-    put_u8(v_r20_i_i_i_i_i_i_i_i_i_i31_i_i_i_i_i_i_2, v_r26_i_i_i_i_i_i_i_i_i_i33_i_i_i_i_i_i_2);
-    v_r30_i_i_i_i_i_i_i_i_i_i34_i_i_i_i_i_i_2 = (u64)((u64)(v_r0_04_i_i_i_i_i_i_i_i_i_i30_i_i_i_i_i_i) | (u64)(3u));
-    v_r20_i_i_i_i_i_i_i_i_i_i31_i_i_i_i_i_i_3 = v_r26_i_i_i_i11_i_i_i_i_i_i + (int64_t)(v_r30_i_i_i_i_i_i_i_i_i_i34_i_i_i_i_i_i_2);
-    v_r24_i_i_i_i_i_i_i_i_i_i32_i_i_i_i_i_i_3 = v_r1_sroa_0_0_copyload_i_i_i6_i_i_i_i_i_i + (int64_t)(v_r30_i_i_i_i_i_i_i_i_i_i34_i_i_i_i_i_i_2);
-    v_r26_i_i_i_i_i_i_i_i_i_i33_i_i_i_i_i_i_3 = get_u8(v_r24_i_i_i_i_i_i_i_i_i_i32_i_i_i_i_i_i_3);
-    put_u8(v_r20_i_i_i_i_i_i_i_i_i_i31_i_i_i_i_i_i_3, v_r26_i_i_i_i_i_i_i_i_i_i33_i_i_i_i_i_i_3);
-    v_r30_i_i_i_i_i_i_i_i_i_i34_i_i_i_i_i_i_3 = (u64)((u64)(v_r0_04_i_i_i_i_i_i_i_i_i_i30_i_i_i_i_i_i) + (u64)(4u));
+    v_r20_i_i_i_i_i_i_i_i_i_i49_i_i_i_i_i = v_r26_i_i_i_i29_i_i_i_i_i + (int64_t)(v_r0_04_i_i_i_i_i_i_i_i_i_i48_i_i_i_i_i);
+    v_r24_i_i_i_i_i_i_i_i_i_i50_i_i_i_i_i = v_r1_sroa_0_0_copyload_i_i_i24_i_i_i_i_i + (int64_t)(v_r0_04_i_i_i_i_i_i_i_i_i_i48_i_i_i_i_i);
+    v_r26_i_i_i_i_i_i_i_i_i_i51_i_i_i_i_i = get_u8(v_r24_i_i_i_i_i_i_i_i_i_i50_i_i_i_i_i);
+    put_u8(v_r20_i_i_i_i_i_i_i_i_i_i49_i_i_i_i_i, v_r26_i_i_i_i_i_i_i_i_i_i51_i_i_i_i_i);
+    v_r30_i_i_i_i_i_i_i_i_i_i52_i_i_i_i_i = (u64)((u64)(v_r0_04_i_i_i_i_i_i_i_i_i_i48_i_i_i_i_i) | (u64)(1u));
+    v_r20_i_i_i_i_i_i_i_i_i_i49_i_i_i_i_i_1 = v_r26_i_i_i_i29_i_i_i_i_i + (int64_t)(v_r30_i_i_i_i_i_i_i_i_i_i52_i_i_i_i_i);
+    v_r24_i_i_i_i_i_i_i_i_i_i50_i_i_i_i_i_1 = v_r1_sroa_0_0_copyload_i_i_i24_i_i_i_i_i + (int64_t)(v_r30_i_i_i_i_i_i_i_i_i_i52_i_i_i_i_i);
+    v_r26_i_i_i_i_i_i_i_i_i_i51_i_i_i_i_i_1 = get_u8(v_r24_i_i_i_i_i_i_i_i_i_i50_i_i_i_i_i_1);
+    put_u8(v_r20_i_i_i_i_i_i_i_i_i_i49_i_i_i_i_i_1, v_r26_i_i_i_i_i_i_i_i_i_i51_i_i_i_i_i_1);
+    v_r30_i_i_i_i_i_i_i_i_i_i52_i_i_i_i_i_1 = (u64)((u64)(v_r0_04_i_i_i_i_i_i_i_i_i_i48_i_i_i_i_i) | (u64)(2u));
+    v_r20_i_i_i_i_i_i_i_i_i_i49_i_i_i_i_i_2 = v_r26_i_i_i_i29_i_i_i_i_i + (int64_t)(v_r30_i_i_i_i_i_i_i_i_i_i52_i_i_i_i_i_1);
+    v_r24_i_i_i_i_i_i_i_i_i_i50_i_i_i_i_i_2 = v_r1_sroa_0_0_copyload_i_i_i24_i_i_i_i_i + (int64_t)(v_r30_i_i_i_i_i_i_i_i_i_i52_i_i_i_i_i_1);
+    v_r26_i_i_i_i_i_i_i_i_i_i51_i_i_i_i_i_2 = get_u8(v_r24_i_i_i_i_i_i_i_i_i_i50_i_i_i_i_i_2);
+    put_u8(v_r20_i_i_i_i_i_i_i_i_i_i49_i_i_i_i_i_2, v_r26_i_i_i_i_i_i_i_i_i_i51_i_i_i_i_i_2);
+    v_r30_i_i_i_i_i_i_i_i_i_i52_i_i_i_i_i_2 = (u64)((u64)(v_r0_04_i_i_i_i_i_i_i_i_i_i48_i_i_i_i_i) | (u64)(3u));
+    v_r20_i_i_i_i_i_i_i_i_i_i49_i_i_i_i_i_3 = v_r26_i_i_i_i29_i_i_i_i_i + (int64_t)(v_r30_i_i_i_i_i_i_i_i_i_i52_i_i_i_i_i_2);
+    v_r24_i_i_i_i_i_i_i_i_i_i50_i_i_i_i_i_3 = v_r1_sroa_0_0_copyload_i_i_i24_i_i_i_i_i + (int64_t)(v_r30_i_i_i_i_i_i_i_i_i_i52_i_i_i_i_i_2);
+    v_r26_i_i_i_i_i_i_i_i_i_i51_i_i_i_i_i_3 = get_u8(v_r24_i_i_i_i_i_i_i_i_i_i50_i_i_i_i_i_3);
+    put_u8(v_r20_i_i_i_i_i_i_i_i_i_i49_i_i_i_i_i_3, v_r26_i_i_i_i_i_i_i_i_i_i51_i_i_i_i_i_3);
+    v_r30_i_i_i_i_i_i_i_i_i_i52_i_i_i_i_i_3 = (u64)((u64)(v_r0_04_i_i_i_i_i_i_i_i_i_i48_i_i_i_i_i) + (u64)(4u));
     v_niter195_next_3 = (u64)((u64)(v_niter195) + (u64)(4u));
     v_niter195_ncmp_3 = v_niter195_next_3 == v_unroll_iter194;
-    if (v_niter195_ncmp_3) { goto L_der_core_back_writer_BackWriter_prepend_exit_i_i_i__10; } else { p_v_r0_04_i_i_i_i_i_i_i_i_i_i30_i_i_i_i_i_i = v_r30_i_i_i_i_i_i_i_i_i_i34_i_i_i_i_i_i_3; p_v_niter195 = v_niter195_next_3; goto L_join_7_i_i_i_i_i_i_i_i_i_i29_i_i_i_i_i_i; }
+    if (v_niter195_ncmp_3) { goto L_der_core_back_writer_BackWriter_prepend_exit_i_i_i__10; } else { p_v_r0_04_i_i_i_i_i_i_i_i_i_i48_i_i_i_i_i = v_r30_i_i_i_i_i_i_i_i_i_i52_i_i_i_i_i_3; p_v_niter195 = v_niter195_next_3; goto L_join_7_i_i_i_i_i_i_i_i_i_i47_i_i_i_i_i; }
 L_der_core_back_writer_BackWriter_prepend_exit_i_i_i__10:;
     v_lcmp_mod192_not = v_xtraiter190 == 0u;
-    if (v_lcmp_mod192_not) { goto L_der_core_back_writer_BackWriter_prepend_exit_i_i_i__9; } else { p_v_r0_04_i_i_i_i_i_i_i_i_i_i30_i_i_i_i_i_i_epil_init = v_r30_i_i_i_i_i_i_i_i_i_i34_i_i_i_i_i_i_3; goto L_join_7_i_i_i_i_i_i_i_i_i_i29_i_i_i_i_i_i_epil_preh; }
-L_join_7_i_i_i_i_i_i_i_i_i_i29_i_i_i_i_i_i_epil_preh:;
-    v_r0_04_i_i_i_i_i_i_i_i_i_i30_i_i_i_i_i_i_epil_init = p_v_r0_04_i_i_i_i_i_i_i_i_i_i30_i_i_i_i_i_i_epil_init;
-    { p_v_r0_04_i_i_i_i_i_i_i_i_i_i30_i_i_i_i_i_i_epil = v_r0_04_i_i_i_i_i_i_i_i_i_i30_i_i_i_i_i_i_epil_init; p_v_epil_iter191 = 0u; goto L_join_7_i_i_i_i_i_i_i_i_i_i29_i_i_i_i_i_i_epil; }
-L_join_7_i_i_i_i_i_i_i_i_i_i29_i_i_i_i_i_i_epil:;
-    v_r0_04_i_i_i_i_i_i_i_i_i_i30_i_i_i_i_i_i_epil = p_v_r0_04_i_i_i_i_i_i_i_i_i_i30_i_i_i_i_i_i_epil;
+    if (v_lcmp_mod192_not) { goto L_der_core_back_writer_BackWriter_prepend_exit_i_i_i__9; } else { p_v_r0_04_i_i_i_i_i_i_i_i_i_i48_i_i_i_i_i_epil_init = v_r30_i_i_i_i_i_i_i_i_i_i52_i_i_i_i_i_3; goto L_join_7_i_i_i_i_i_i_i_i_i_i47_i_i_i_i_i_epil_prehea; }
+L_join_7_i_i_i_i_i_i_i_i_i_i47_i_i_i_i_i_epil_prehea:;
+    v_r0_04_i_i_i_i_i_i_i_i_i_i48_i_i_i_i_i_epil_init = p_v_r0_04_i_i_i_i_i_i_i_i_i_i48_i_i_i_i_i_epil_init;
+    { p_v_r0_04_i_i_i_i_i_i_i_i_i_i48_i_i_i_i_i_epil = v_r0_04_i_i_i_i_i_i_i_i_i_i48_i_i_i_i_i_epil_init; p_v_epil_iter191 = 0u; goto L_join_7_i_i_i_i_i_i_i_i_i_i47_i_i_i_i_i_epil; }
+L_join_7_i_i_i_i_i_i_i_i_i_i47_i_i_i_i_i_epil:;
+    v_r0_04_i_i_i_i_i_i_i_i_i_i48_i_i_i_i_i_epil = p_v_r0_04_i_i_i_i_i_i_i_i_i_i48_i_i_i_i_i_epil;
     v_epil_iter191 = p_v_epil_iter191;
-    v_r20_i_i_i_i_i_i_i_i_i_i31_i_i_i_i_i_i_epil = v_r26_i_i_i_i11_i_i_i_i_i_i + (int64_t)(v_r0_04_i_i_i_i_i_i_i_i_i_i30_i_i_i_i_i_i_epil);
-    v_r24_i_i_i_i_i_i_i_i_i_i32_i_i_i_i_i_i_epil = v_r1_sroa_0_0_copyload_i_i_i6_i_i_i_i_i_i + (int64_t)(v_r0_04_i_i_i_i_i_i_i_i_i_i30_i_i_i_i_i_i_epil);
-    v_r26_i_i_i_i_i_i_i_i_i_i33_i_i_i_i_i_i_epil = get_u8(v_r24_i_i_i_i_i_i_i_i_i_i32_i_i_i_i_i_i_epil);
-    put_u8(v_r20_i_i_i_i_i_i_i_i_i_i31_i_i_i_i_i_i_epil, v_r26_i_i_i_i_i_i_i_i_i_i33_i_i_i_i_i_i_epil);
-    v_r30_i_i_i_i_i_i_i_i_i_i34_i_i_i_i_i_i_epil = (u64)((u64)(v_r0_04_i_i_i_i_i_i_i_i_i_i30_i_i_i_i_i_i_epil) + (u64)(1u));
+    v_r20_i_i_i_i_i_i_i_i_i_i49_i_i_i_i_i_epil = v_r26_i_i_i_i29_i_i_i_i_i + (int64_t)(v_r0_04_i_i_i_i_i_i_i_i_i_i48_i_i_i_i_i_epil);
+    v_r24_i_i_i_i_i_i_i_i_i_i50_i_i_i_i_i_epil = v_r1_sroa_0_0_copyload_i_i_i24_i_i_i_i_i + (int64_t)(v_r0_04_i_i_i_i_i_i_i_i_i_i48_i_i_i_i_i_epil);
+    v_r26_i_i_i_i_i_i_i_i_i_i51_i_i_i_i_i_epil = get_u8(v_r24_i_i_i_i_i_i_i_i_i_i50_i_i_i_i_i_epil);
+    put_u8(v_r20_i_i_i_i_i_i_i_i_i_i49_i_i_i_i_i_epil, v_r26_i_i_i_i_i_i_i_i_i_i51_i_i_i_i_i_epil);
+    v_r30_i_i_i_i_i_i_i_i_i_i52_i_i_i_i_i_epil = (u64)((u64)(v_r0_04_i_i_i_i_i_i_i_i_i_i48_i_i_i_i_i_epil) + (u64)(1u));
     v_epil_iter191_next = (u64)((u64)(v_epil_iter191) + (u64)(1u));
     v_epil_iter191_cmp_not = v_epil_iter191_next == v_xtraiter190;
-    if (v_epil_iter191_cmp_not) { goto L_der_core_back_writer_BackWriter_prepend_exit_i_i_i__9; } else { p_v_r0_04_i_i_i_i_i_i_i_i_i_i30_i_i_i_i_i_i_epil = v_r30_i_i_i_i_i_i_i_i_i_i34_i_i_i_i_i_i_epil; p_v_epil_iter191 = v_epil_iter191_next; goto L_join_7_i_i_i_i_i_i_i_i_i_i29_i_i_i_i_i_i_epil; }
+    if (v_epil_iter191_cmp_not) { goto L_der_core_back_writer_BackWriter_prepend_exit_i_i_i__9; } else { p_v_r0_04_i_i_i_i_i_i_i_i_i_i48_i_i_i_i_i_epil = v_r30_i_i_i_i_i_i_i_i_i_i52_i_i_i_i_i_epil; p_v_epil_iter191 = v_epil_iter191_next; goto L_join_7_i_i_i_i_i_i_i_i_i_i47_i_i_i_i_i_epil; }
 L_der_core_back_writer_BackWriter_prepend_exit_i_i_i__9:;
-    v_r15_not_i_i_i20_i_i_i_i_i_i = (u8)(v_r20_i345_i_i ^ ((u8)1 << 7)) > (u8)(255u ^ ((u8)1 << 7));
-    if (v_r15_not_i_i_i20_i_i_i_i_i_i) { p_v_r7_sroa_129_1_i_i_i = v_r17_i_i_i_i9_i_i_i_i_i_i; goto L_der_core_borrowed_BorrowedEncode_prepend_25cd36d81__4; } else { goto L_then_1_i_i_i21_i_i_i_i_i_i; }
-L_then_1_i_i_i21_i_i_i_i_i_i:;
-    v_r17_i3_i_i_i22_i_i_i_i_i_i = (u64)((u64)(v_r17_i_i_i_i9_i_i_i_i_i_i) + (u64)(18446744073709551615ull));
-    v_r26_i5_i_i_i24_i_i_i_i_i_i = (P)((uintptr_t)v_r14 + (u64)(v_r17_i3_i_i_i22_i_i_i_i_i_i));
-    put_u8(v_r26_i5_i_i_i24_i_i_i_i_i_i, 0u);
-    { p_v_r7_sroa_129_1_i_i_i = v_r17_i3_i_i_i22_i_i_i_i_i_i; goto L_der_core_borrowed_BorrowedEncode_prepend_25cd36d81__4; }
+    v_r15_not_i_i_i38_i_i_i_i_i = (u8)(v_r20_i345_i_i ^ ((u8)1 << 7)) > (u8)(255u ^ ((u8)1 << 7));
+    if (v_r15_not_i_i_i38_i_i_i_i_i) { p_v_r7_sroa_129_1_i_i_i = v_r17_i_i_i_i27_i_i_i_i_i; goto L_der_core_borrowed_BorrowedEncode_prepend_25cd36d81__4; } else { goto L_then_1_i_i_i39_i_i_i_i_i; }
+L_then_1_i_i_i39_i_i_i_i_i:;
+    v_r17_i3_i_i_i40_i_i_i_i_i = (u64)((u64)(v_r17_i_i_i_i27_i_i_i_i_i) + (u64)(18446744073709551615ull));
+    v_r26_i5_i_i_i42_i_i_i_i_i = (P)((uintptr_t)v_r14 + (u64)(v_r17_i3_i_i_i40_i_i_i_i_i));
+    put_u8(v_r26_i5_i_i_i42_i_i_i_i_i, 0u);
+    { p_v_r7_sroa_129_1_i_i_i = v_r17_i3_i_i_i40_i_i_i_i_i; goto L_der_core_borrowed_BorrowedEncode_prepend_25cd36d81__4; }
 L_der_core_borrowed_BorrowedEncode_prepend_25cd36d81__4:;
     v_r7_sroa_129_1_i_i_i = p_v_r7_sroa_129_1_i_i_i;
     v_43 = (u64)((u64)(v_r7_sroa_129_1_i_i_i) + (u64)(v_r3_i5_i_i_i));
     v_44 = (u64)((u64)(v_r7_sroa_129_21_i_i_i) - (u64)(v_43));
     v_45 = (u32)(v_44);
-    v_r2_i_i_i28_i_i_i_i_i_i = (u32)((u32)(v_r1_sroa_9_4_copyload_i_i_i_i) + (u32)(v_45));
-    v_r59_i552_i_i_i = v_r2_i_i_i28_i_i_i_i_i_i < 128u;
+    v_r2_i_i_i46_i_i_i_i_i = (u32)((u32)(v_r1_sroa_9_4_copyload_i_i_i_i) + (u32)(v_45));
+    v_r59_i552_i_i_i = v_r2_i_i_i46_i_i_i_i_i < 128u;
     if (v_r59_i552_i_i_i) { goto L_then_1_i613_i_i_i; } else { goto L_else_2_i553_i_i_i; }
 L_then_1_i613_i_i_i:;
-    v_r64_i614_i_i_i = (u16)(v_r2_i_i_i28_i_i_i_i_i_i);
+    v_r64_i614_i_i_i = (u16)(v_r2_i_i_i46_i_i_i_i_i);
     v_r17_i_i618_i_i_i = (u64)((u64)(v_r7_sroa_129_1_i_i_i) + (u64)(18446744073709551614ull));
     v_r26_i_i620_i_i_i = (P)((uintptr_t)v_r14 + (u64)(v_r17_i_i618_i_i_i));
     v_r8_i547_sroa_4_0_insert_shift_i_i_i = (u16)((u32)(v_r64_i614_i_i_i) << (u32)((8u & 31)));
@@ -35906,10 +35906,10 @@ L_then_1_i613_i_i_i:;
     put_u16(v_r26_i_i620_i_i_i, v_r8_i547_sroa_0_0_insert_insert_i_i_i);
     { p_v_r7_sroa_129_20_i_i_i = v_r17_i_i618_i_i_i; goto L_der_core_back_writer_BackWriter_prepend_header_exi__6; }
 L_else_2_i553_i_i_i:;
-    v_r75_i554_i_i_i = v_r2_i_i_i28_i_i_i_i_i_i < 256u;
+    v_r75_i554_i_i_i = v_r2_i_i_i46_i_i_i_i_i < 256u;
     if (v_r75_i554_i_i_i) { goto L_then_4_i604_i_i_i; } else { goto L_else_5_i555_i_i_i; }
 L_then_4_i604_i_i_i:;
-    v_r80_i605_i_i_i = (u8)(v_r2_i_i_i28_i_i_i_i_i_i);
+    v_r80_i605_i_i_i = (u8)(v_r2_i_i_i46_i_i_i_i_i);
     v_r17_i28_i610_i_i_i = (u64)((u64)(v_r7_sroa_129_1_i_i_i) + (u64)(18446744073709551613ull));
     v_r26_i30_i612_i_i_i = (P)((uintptr_t)v_r14 + (u64)(v_r17_i28_i610_i_i_i));
     put_u8(v_r26_i30_i612_i_i_i, 2u);
@@ -35919,24 +35919,24 @@ L_then_4_i604_i_i_i:;
     put_u8(v_r14_i548_sroa_5_0_r26_i30_i612_sroa_idx_i_i_i, v_r80_i605_i_i_i);
     { p_v_r7_sroa_129_20_i_i_i = v_r17_i28_i610_i_i_i; goto L_der_core_back_writer_BackWriter_prepend_header_exi__6; }
 L_else_5_i555_i_i_i:;
-    v_r92_i556_i_i_i = v_r2_i_i_i28_i_i_i_i_i_i < 65536u;
+    v_r92_i556_i_i_i = v_r2_i_i_i46_i_i_i_i_i < 65536u;
     if (v_r92_i556_i_i_i) { goto L_then_7_i592_i_i_i; } else { goto L_else_8_i557_i_i_i; }
 L_then_7_i592_i_i_i:;
     v_r17_i46_i600_i_i_i = (u64)((u64)(v_r7_sroa_129_1_i_i_i) + (u64)(18446744073709551612ull));
     v_r26_i48_i602_i_i_i = (P)((uintptr_t)v_r14 + (u64)(v_r17_i46_i600_i_i_i));
-    v_46 = (u32)((u32)(v_r2_i_i_i28_i_i_i_i_i_i) | (u32)(42074112u));
+    v_46 = (u32)((u32)(v_r2_i_i_i46_i_i_i_i_i) | (u32)(42074112u));
     v_r20_i549_sroa_0_0_insert_insert_i_i_i = __builtin_bswap32(v_46);
     put_u32(v_r26_i48_i602_i_i_i, v_r20_i549_sroa_0_0_insert_insert_i_i_i);
     { p_v_r7_sroa_129_20_i_i_i = v_r17_i46_i600_i_i_i; goto L_der_core_back_writer_BackWriter_prepend_header_exi__6; }
 L_else_8_i557_i_i_i:;
-    v_r117_i558_i_i_i = v_r2_i_i_i28_i_i_i_i_i_i < 16777216u;
+    v_r117_i558_i_i_i = v_r2_i_i_i46_i_i_i_i_i < 16777216u;
     if (v_r117_i558_i_i_i) { goto L_then_10_i577_i_i_i; } else { goto L_else_11_i559_i_i_i; }
 L_then_10_i577_i_i_i:;
-    v_r12223_i578_i_i_i = (u32)((u32)(v_r2_i_i_i28_i_i_i_i_i_i) >> (u32)((16u & 31)));
+    v_r12223_i578_i_i_i = (u32)((u32)(v_r2_i_i_i46_i_i_i_i_i) >> (u32)((16u & 31)));
     v_r124_i579_i_i_i = (u8)(v_r12223_i578_i_i_i);
-    v_r12624_i580_i_i_i = (u32)((u32)(v_r2_i_i_i28_i_i_i_i_i_i) >> (u32)((8u & 31)));
+    v_r12624_i580_i_i_i = (u32)((u32)(v_r2_i_i_i46_i_i_i_i_i) >> (u32)((8u & 31)));
     v_r130_i581_i_i_i = (u8)(v_r12624_i580_i_i_i);
-    v_r134_i582_i_i_i = (u8)(v_r2_i_i_i28_i_i_i_i_i_i);
+    v_r134_i582_i_i_i = (u8)(v_r2_i_i_i46_i_i_i_i_i);
     v_r17_i64_i589_i_i_i = (u64)((u64)(v_r7_sroa_129_1_i_i_i) + (u64)(18446744073709551611ull));
     v_r26_i66_i591_i_i_i = (P)((uintptr_t)v_r14 + (u64)(v_r17_i64_i589_i_i_i));
     put_u8(v_r26_i66_i591_i_i_i, 2u);
@@ -35950,13 +35950,13 @@ L_then_10_i577_i_i_i:;
     put_u8(v_r29_i550_sroa_7_0_r26_i66_i591_sroa_idx_i_i_i, v_r134_i582_i_i_i);
     { p_v_r7_sroa_129_20_i_i_i = v_r17_i64_i589_i_i_i; goto L_der_core_back_writer_BackWriter_prepend_header_exi__6; }
 L_else_11_i559_i_i_i:;
-    v_r15020_i560_i_i_i = (u32)((u32)(v_r2_i_i_i28_i_i_i_i_i_i) >> (u32)((24u & 31)));
+    v_r15020_i560_i_i_i = (u32)((u32)(v_r2_i_i_i46_i_i_i_i_i) >> (u32)((24u & 31)));
     v_r152_i561_i_i_i = (u8)(v_r15020_i560_i_i_i);
-    v_r15421_i562_i_i_i = (u32)((u32)(v_r2_i_i_i28_i_i_i_i_i_i) >> (u32)((16u & 31)));
+    v_r15421_i562_i_i_i = (u32)((u32)(v_r2_i_i_i46_i_i_i_i_i) >> (u32)((16u & 31)));
     v_r158_i563_i_i_i = (u8)(v_r15421_i562_i_i_i);
-    v_r16022_i564_i_i_i = (u32)((u32)(v_r2_i_i_i28_i_i_i_i_i_i) >> (u32)((8u & 31)));
+    v_r16022_i564_i_i_i = (u32)((u32)(v_r2_i_i_i46_i_i_i_i_i) >> (u32)((8u & 31)));
     v_r164_i565_i_i_i = (u8)(v_r16022_i564_i_i_i);
-    v_r168_i566_i_i_i = (u8)(v_r2_i_i_i28_i_i_i_i_i_i);
+    v_r168_i566_i_i_i = (u8)(v_r2_i_i_i46_i_i_i_i_i);
     v_r17_i82_i574_i_i_i = (u64)((u64)(v_r7_sroa_129_1_i_i_i) + (u64)(18446744073709551610ull));
     v_r26_i84_i576_i_i_i = (P)((uintptr_t)v_r14 + (u64)(v_r17_i82_i574_i_i_i));
     put_u8(v_r26_i84_i576_i_i_i, 2u);
@@ -35973,84 +35973,84 @@ L_else_11_i559_i_i_i:;
     { p_v_r7_sroa_129_20_i_i_i = v_r17_i82_i574_i_i_i; goto L_der_core_back_writer_BackWriter_prepend_header_exi__6; }
 L_der_core_back_writer_BackWriter_prepend_header_exi__6:;
     v_r7_sroa_129_20_i_i_i = p_v_r7_sroa_129_20_i_i_i;
-    v_r17_i_i_i_i42_i_i_i_i_i_i = (u64)((u64)(v_r7_sroa_129_20_i_i_i) - (u64)(v_r1_sroa_3_0_copyload_i_i_i41_i_i_i_i_i_i));
-    v_r26_i_i_i_i44_i_i_i_i_i_i = (P)((uintptr_t)v_r14 + (u64)(v_r17_i_i_i_i42_i_i_i_i_i_i));
-    v_r8_i_i_i_i_i_i_i_i_i_i45_i_i_i_i_i_i = (u64)((uintptr_t)v_r26_i_i_i_i44_i_i_i_i_i_i);
-    v_r9_i_i_i_i_i_i_i_i_i_i46_i_i_i_i_i_i = (u64)((uintptr_t)v_r1_sroa_0_0_copyload_i_i_i39_i_i_i_i_i_i);
-    v_r10_i_i_i_i_i_i_i_i_i_i47_i_i_i_i_i_i = (u64)((u64)(v_r8_i_i_i_i_i_i_i_i_i_i45_i_i_i_i_i_i) - (u64)(v_r9_i_i_i_i_i_i_i_i_i_i46_i_i_i_i_i_i));
-    v_r11_i_i_i_i_i_i_i_i_i_i48_i_i_i_i_i_i = v_r10_i_i_i_i_i_i_i_i_i_i47_i_i_i_i_i_i < v_r1_sroa_3_0_copyload_i_i_i41_i_i_i_i_i_i;
-    if (v_r11_i_i_i_i_i_i_i_i_i_i48_i_i_i_i_i_i) { goto L_join_7_i_i_i_i_i_i_i_i_i_i62_i_i_i_i_i_i_preheader; } else { goto L_apart_2_i_i_i_i_i_i_i_i_i_i49_i_i_i_i_i_i; }
-L_join_7_i_i_i_i_i_i_i_i_i_i62_i_i_i_i_i_i_preheader:;
-    v_xtraiter196 = (u64)((u64)(v_r1_sroa_3_0_copyload_i_i_i41_i_i_i_i_i_i) & (u64)(3u));
-    v_47 = v_r1_sroa_3_0_copyload_i_i_i41_i_i_i_i_i_i < 4u;
-    if (v_47) { p_v_r0_04_i_i_i_i_i_i_i_i_i_i63_i_i_i_i_i_i_epil_init = 0u; goto L_join_7_i_i_i_i_i_i_i_i_i_i62_i_i_i_i_i_i_epil_preh; } else { goto L_join_7_i_i_i_i_i_i_i_i_i_i62_i_i_i_i_i_i_preheader__2; }
-L_join_7_i_i_i_i_i_i_i_i_i_i62_i_i_i_i_i_i_preheader__2:;
-    v_unroll_iter200 = (u64)((u64)(v_r1_sroa_3_0_copyload_i_i_i41_i_i_i_i_i_i) & (u64)(4294967292ull));
-    { p_v_r0_04_i_i_i_i_i_i_i_i_i_i63_i_i_i_i_i_i = 0u; p_v_niter201 = 0u; goto L_join_7_i_i_i_i_i_i_i_i_i_i62_i_i_i_i_i_i; }
-L_apart_2_i_i_i_i_i_i_i_i_i_i49_i_i_i_i_i_i:;
-    move(v_r26_i_i_i_i44_i_i_i_i_i_i, v_r1_sroa_0_0_copyload_i_i_i39_i_i_i_i_i_i, v_r1_sroa_3_0_copyload_i_i_i41_i_i_i_i_i_i);
+    v_r17_i_i_i_i60_i_i_i_i_i = (u64)((u64)(v_r7_sroa_129_20_i_i_i) - (u64)(v_r1_sroa_3_0_copyload_i_i_i59_i_i_i_i_i));
+    v_r26_i_i_i_i62_i_i_i_i_i = (P)((uintptr_t)v_r14 + (u64)(v_r17_i_i_i_i60_i_i_i_i_i));
+    v_r8_i_i_i_i_i_i_i_i_i_i63_i_i_i_i_i = (u64)((uintptr_t)v_r26_i_i_i_i62_i_i_i_i_i);
+    v_r9_i_i_i_i_i_i_i_i_i_i64_i_i_i_i_i = (u64)((uintptr_t)v_r1_sroa_0_0_copyload_i_i_i57_i_i_i_i_i);
+    v_r10_i_i_i_i_i_i_i_i_i_i65_i_i_i_i_i = (u64)((u64)(v_r8_i_i_i_i_i_i_i_i_i_i63_i_i_i_i_i) - (u64)(v_r9_i_i_i_i_i_i_i_i_i_i64_i_i_i_i_i));
+    v_r11_i_i_i_i_i_i_i_i_i_i66_i_i_i_i_i = v_r10_i_i_i_i_i_i_i_i_i_i65_i_i_i_i_i < v_r1_sroa_3_0_copyload_i_i_i59_i_i_i_i_i;
+    if (v_r11_i_i_i_i_i_i_i_i_i_i66_i_i_i_i_i) { goto L_join_7_i_i_i_i_i_i_i_i_i_i80_i_i_i_i_i_preheader; } else { goto L_apart_2_i_i_i_i_i_i_i_i_i_i67_i_i_i_i_i; }
+L_join_7_i_i_i_i_i_i_i_i_i_i80_i_i_i_i_i_preheader:;
+    v_xtraiter196 = (u64)((u64)(v_r1_sroa_3_0_copyload_i_i_i59_i_i_i_i_i) & (u64)(3u));
+    v_47 = v_r1_sroa_3_0_copyload_i_i_i59_i_i_i_i_i < 4u;
+    if (v_47) { p_v_r0_04_i_i_i_i_i_i_i_i_i_i81_i_i_i_i_i_epil_init = 0u; goto L_join_7_i_i_i_i_i_i_i_i_i_i80_i_i_i_i_i_epil_prehea; } else { goto L_join_7_i_i_i_i_i_i_i_i_i_i80_i_i_i_i_i_preheader_n; }
+L_join_7_i_i_i_i_i_i_i_i_i_i80_i_i_i_i_i_preheader_n:;
+    v_unroll_iter200 = (u64)((u64)(v_r1_sroa_3_0_copyload_i_i_i59_i_i_i_i_i) & (u64)(4294967292ull));
+    { p_v_r0_04_i_i_i_i_i_i_i_i_i_i81_i_i_i_i_i = 0u; p_v_niter201 = 0u; goto L_join_7_i_i_i_i_i_i_i_i_i_i80_i_i_i_i_i; }
+L_apart_2_i_i_i_i_i_i_i_i_i_i67_i_i_i_i_i:;
+    move(v_r26_i_i_i_i62_i_i_i_i_i, v_r1_sroa_0_0_copyload_i_i_i57_i_i_i_i_i, v_r1_sroa_3_0_copyload_i_i_i59_i_i_i_i_i);
     { goto L_der_core_back_writer_BackWriter_prepend_exit_i_i_i__11; }
-L_join_7_i_i_i_i_i_i_i_i_i_i62_i_i_i_i_i_i:;
-    v_r0_04_i_i_i_i_i_i_i_i_i_i63_i_i_i_i_i_i = p_v_r0_04_i_i_i_i_i_i_i_i_i_i63_i_i_i_i_i_i;
+L_join_7_i_i_i_i_i_i_i_i_i_i80_i_i_i_i_i:;
+    v_r0_04_i_i_i_i_i_i_i_i_i_i81_i_i_i_i_i = p_v_r0_04_i_i_i_i_i_i_i_i_i_i81_i_i_i_i_i;
     v_niter201 = p_v_niter201;
-    v_r20_i_i_i_i_i_i_i_i_i_i64_i_i_i_i_i_i = v_r26_i_i_i_i44_i_i_i_i_i_i + (int64_t)(v_r0_04_i_i_i_i_i_i_i_i_i_i63_i_i_i_i_i_i);
-    v_r24_i_i_i_i_i_i_i_i_i_i65_i_i_i_i_i_i = v_r1_sroa_0_0_copyload_i_i_i39_i_i_i_i_i_i + (int64_t)(v_r0_04_i_i_i_i_i_i_i_i_i_i63_i_i_i_i_i_i);
-    v_r26_i_i_i_i_i_i_i_i_i_i66_i_i_i_i_i_i = get_u8(v_r24_i_i_i_i_i_i_i_i_i_i65_i_i_i_i_i_i);
-    put_u8(v_r20_i_i_i_i_i_i_i_i_i_i64_i_i_i_i_i_i, v_r26_i_i_i_i_i_i_i_i_i_i66_i_i_i_i_i_i);
-    v_r30_i_i_i_i_i_i_i_i_i_i67_i_i_i_i_i_i = (u64)((u64)(v_r0_04_i_i_i_i_i_i_i_i_i_i63_i_i_i_i_i_i) | (u64)(1u));
-    v_r20_i_i_i_i_i_i_i_i_i_i64_i_i_i_i_i_i_1 = v_r26_i_i_i_i44_i_i_i_i_i_i + (int64_t)(v_r30_i_i_i_i_i_i_i_i_i_i67_i_i_i_i_i_i);
-    v_r24_i_i_i_i_i_i_i_i_i_i65_i_i_i_i_i_i_1 = v_r1_sroa_0_0_copyload_i_i_i39_i_i_i_i_i_i + (int64_t)(v_r30_i_i_i_i_i_i_i_i_i_i67_i_i_i_i_i_i);
-    v_r26_i_i_i_i_i_i_i_i_i_i66_i_i_i_i_i_i_1 = get_u8(v_r24_i_i_i_i_i_i_i_i_i_i65_i_i_i_i_i_i_1);
-    put_u8(v_r20_i_i_i_i_i_i_i_i_i_i64_i_i_i_i_i_i_1, v_r26_i_i_i_i_i_i_i_i_i_i66_i_i_i_i_i_i_1);
-    v_r30_i_i_i_i_i_i_i_i_i_i67_i_i_i_i_i_i_1 = (u64)((u64)(v_r0_04_i_i_i_i_i_i_i_i_i_i63_i_i_i_i_i_i) | (u64)(2u));
-    v_r20_i_i_i_i_i_i_i_i_i_i64_i_i_i_i_i_i_2 = v_r26_i_i_i_i44_i_i_i_i_i_i + (int64_t)(v_r30_i_i_i_i_i_i_i_i_i_i67_i_i_i_i_i_i_1);
-    v_r24_i_i_i_i_i_i_i_i_i_i65_i_i_i_i_i_i_2 = v_r1_sroa_0_0_copyload_i_i_i39_i_i_i_i_i_i + (int64_t)(v_r30_i_i_i_i_i_i_i_i_i_i67_i_i_i_i_i_i_1);
-    v_r26_i_i_i_i_i_i_i_i_i_i66_i_i_i_i_i_i_2 = get_u8(v_r24_i_i_i_i_i_i_i_i_i_i65_i_i_i_i_i_i_2);
-    put_u8(v_r20_i_i_i_i_i_i_i_i_i_i64_i_i_i_i_i_i_2, v_r26_i_i_i_i_i_i_i_i_i_i66_i_i_i_i_i_i_2);
-    v_r30_i_i_i_i_i_i_i_i_i_i67_i_i_i_i_i_i_2 = (u64)((u64)(v_r0_04_i_i_i_i_i_i_i_i_i_i63_i_i_i_i_i_i) | (u64)(3u));
-    v_r20_i_i_i_i_i_i_i_i_i_i64_i_i_i_i_i_i_3 = v_r26_i_i_i_i44_i_i_i_i_i_i + (int64_t)(v_r30_i_i_i_i_i_i_i_i_i_i67_i_i_i_i_i_i_2);
-    v_r24_i_i_i_i_i_i_i_i_i_i65_i_i_i_i_i_i_3 = v_r1_sroa_0_0_copyload_i_i_i39_i_i_i_i_i_i + (int64_t)(v_r30_i_i_i_i_i_i_i_i_i_i67_i_i_i_i_i_i_2);
-    v_r26_i_i_i_i_i_i_i_i_i_i66_i_i_i_i_i_i_3 = get_u8(v_r24_i_i_i_i_i_i_i_i_i_i65_i_i_i_i_i_i_3);
-    put_u8(v_r20_i_i_i_i_i_i_i_i_i_i64_i_i_i_i_i_i_3, v_r26_i_i_i_i_i_i_i_i_i_i66_i_i_i_i_i_i_3);
-    v_r30_i_i_i_i_i_i_i_i_i_i67_i_i_i_i_i_i_3 = (u64)((u64)(v_r0_04_i_i_i_i_i_i_i_i_i_i63_i_i_i_i_i_i) + (u64)(4u));
+    v_r20_i_i_i_i_i_i_i_i_i_i82_i_i_i_i_i = v_r26_i_i_i_i62_i_i_i_i_i + (int64_t)(v_r0_04_i_i_i_i_i_i_i_i_i_i81_i_i_i_i_i);
+    v_r24_i_i_i_i_i_i_i_i_i_i83_i_i_i_i_i = v_r1_sroa_0_0_copyload_i_i_i57_i_i_i_i_i + (int64_t)(v_r0_04_i_i_i_i_i_i_i_i_i_i81_i_i_i_i_i);
+    v_r26_i_i_i_i_i_i_i_i_i_i84_i_i_i_i_i = get_u8(v_r24_i_i_i_i_i_i_i_i_i_i83_i_i_i_i_i);
+    put_u8(v_r20_i_i_i_i_i_i_i_i_i_i82_i_i_i_i_i, v_r26_i_i_i_i_i_i_i_i_i_i84_i_i_i_i_i);
+    v_r30_i_i_i_i_i_i_i_i_i_i85_i_i_i_i_i = (u64)((u64)(v_r0_04_i_i_i_i_i_i_i_i_i_i81_i_i_i_i_i) | (u64)(1u));
+    v_r20_i_i_i_i_i_i_i_i_i_i82_i_i_i_i_i_1 = v_r26_i_i_i_i62_i_i_i_i_i + (int64_t)(v_r30_i_i_i_i_i_i_i_i_i_i85_i_i_i_i_i);
+    v_r24_i_i_i_i_i_i_i_i_i_i83_i_i_i_i_i_1 = v_r1_sroa_0_0_copyload_i_i_i57_i_i_i_i_i + (int64_t)(v_r30_i_i_i_i_i_i_i_i_i_i85_i_i_i_i_i);
+    v_r26_i_i_i_i_i_i_i_i_i_i84_i_i_i_i_i_1 = get_u8(v_r24_i_i_i_i_i_i_i_i_i_i83_i_i_i_i_i_1);
+    put_u8(v_r20_i_i_i_i_i_i_i_i_i_i82_i_i_i_i_i_1, v_r26_i_i_i_i_i_i_i_i_i_i84_i_i_i_i_i_1);
+    v_r30_i_i_i_i_i_i_i_i_i_i85_i_i_i_i_i_1 = (u64)((u64)(v_r0_04_i_i_i_i_i_i_i_i_i_i81_i_i_i_i_i) | (u64)(2u));
+    v_r20_i_i_i_i_i_i_i_i_i_i82_i_i_i_i_i_2 = v_r26_i_i_i_i62_i_i_i_i_i + (int64_t)(v_r30_i_i_i_i_i_i_i_i_i_i85_i_i_i_i_i_1);
+    v_r24_i_i_i_i_i_i_i_i_i_i83_i_i_i_i_i_2 = v_r1_sroa_0_0_copyload_i_i_i57_i_i_i_i_i + (int64_t)(v_r30_i_i_i_i_i_i_i_i_i_i85_i_i_i_i_i_1);
+    v_r26_i_i_i_i_i_i_i_i_i_i84_i_i_i_i_i_2 = get_u8(v_r24_i_i_i_i_i_i_i_i_i_i83_i_i_i_i_i_2);
+    put_u8(v_r20_i_i_i_i_i_i_i_i_i_i82_i_i_i_i_i_2, v_r26_i_i_i_i_i_i_i_i_i_i84_i_i_i_i_i_2);
+    v_r30_i_i_i_i_i_i_i_i_i_i85_i_i_i_i_i_2 = (u64)((u64)(v_r0_04_i_i_i_i_i_i_i_i_i_i81_i_i_i_i_i) | (u64)(3u));
+    v_r20_i_i_i_i_i_i_i_i_i_i82_i_i_i_i_i_3 = v_r26_i_i_i_i62_i_i_i_i_i + (int64_t)(v_r30_i_i_i_i_i_i_i_i_i_i85_i_i_i_i_i_2);
+    v_r24_i_i_i_i_i_i_i_i_i_i83_i_i_i_i_i_3 = v_r1_sroa_0_0_copyload_i_i_i57_i_i_i_i_i + (int64_t)(v_r30_i_i_i_i_i_i_i_i_i_i85_i_i_i_i_i_2);
+    v_r26_i_i_i_i_i_i_i_i_i_i84_i_i_i_i_i_3 = get_u8(v_r24_i_i_i_i_i_i_i_i_i_i83_i_i_i_i_i_3);
+    put_u8(v_r20_i_i_i_i_i_i_i_i_i_i82_i_i_i_i_i_3, v_r26_i_i_i_i_i_i_i_i_i_i84_i_i_i_i_i_3);
+    v_r30_i_i_i_i_i_i_i_i_i_i85_i_i_i_i_i_3 = (u64)((u64)(v_r0_04_i_i_i_i_i_i_i_i_i_i81_i_i_i_i_i) + (u64)(4u));
     v_niter201_next_3 = (u64)((u64)(v_niter201) + (u64)(4u));
     v_niter201_ncmp_3 = v_niter201_next_3 == v_unroll_iter200;
-    if (v_niter201_ncmp_3) { goto L_der_core_back_writer_BackWriter_prepend_exit_i_i_i__12; } else { p_v_r0_04_i_i_i_i_i_i_i_i_i_i63_i_i_i_i_i_i = v_r30_i_i_i_i_i_i_i_i_i_i67_i_i_i_i_i_i_3; p_v_niter201 = v_niter201_next_3; goto L_join_7_i_i_i_i_i_i_i_i_i_i62_i_i_i_i_i_i; }
+    if (v_niter201_ncmp_3) { goto L_der_core_back_writer_BackWriter_prepend_exit_i_i_i__12; } else { p_v_r0_04_i_i_i_i_i_i_i_i_i_i81_i_i_i_i_i = v_r30_i_i_i_i_i_i_i_i_i_i85_i_i_i_i_i_3; p_v_niter201 = v_niter201_next_3; goto L_join_7_i_i_i_i_i_i_i_i_i_i80_i_i_i_i_i; }
 L_der_core_back_writer_BackWriter_prepend_exit_i_i_i__12:;
     v_lcmp_mod198_not = v_xtraiter196 == 0u;
-    if (v_lcmp_mod198_not) { goto L_der_core_back_writer_BackWriter_prepend_exit_i_i_i__11; } else { p_v_r0_04_i_i_i_i_i_i_i_i_i_i63_i_i_i_i_i_i_epil_init = v_r30_i_i_i_i_i_i_i_i_i_i67_i_i_i_i_i_i_3; goto L_join_7_i_i_i_i_i_i_i_i_i_i62_i_i_i_i_i_i_epil_preh; }
-L_join_7_i_i_i_i_i_i_i_i_i_i62_i_i_i_i_i_i_epil_preh:;
-    v_r0_04_i_i_i_i_i_i_i_i_i_i63_i_i_i_i_i_i_epil_init = p_v_r0_04_i_i_i_i_i_i_i_i_i_i63_i_i_i_i_i_i_epil_init;
-    { p_v_r0_04_i_i_i_i_i_i_i_i_i_i63_i_i_i_i_i_i_epil = v_r0_04_i_i_i_i_i_i_i_i_i_i63_i_i_i_i_i_i_epil_init; p_v_epil_iter197 = 0u; goto L_join_7_i_i_i_i_i_i_i_i_i_i62_i_i_i_i_i_i_epil; }
-L_join_7_i_i_i_i_i_i_i_i_i_i62_i_i_i_i_i_i_epil:;
-    v_r0_04_i_i_i_i_i_i_i_i_i_i63_i_i_i_i_i_i_epil = p_v_r0_04_i_i_i_i_i_i_i_i_i_i63_i_i_i_i_i_i_epil;
+    if (v_lcmp_mod198_not) { goto L_der_core_back_writer_BackWriter_prepend_exit_i_i_i__11; } else { p_v_r0_04_i_i_i_i_i_i_i_i_i_i81_i_i_i_i_i_epil_init = v_r30_i_i_i_i_i_i_i_i_i_i85_i_i_i_i_i_3; goto L_join_7_i_i_i_i_i_i_i_i_i_i80_i_i_i_i_i_epil_prehea; }
+L_join_7_i_i_i_i_i_i_i_i_i_i80_i_i_i_i_i_epil_prehea:;
+    v_r0_04_i_i_i_i_i_i_i_i_i_i81_i_i_i_i_i_epil_init = p_v_r0_04_i_i_i_i_i_i_i_i_i_i81_i_i_i_i_i_epil_init;
+    { p_v_r0_04_i_i_i_i_i_i_i_i_i_i81_i_i_i_i_i_epil = v_r0_04_i_i_i_i_i_i_i_i_i_i81_i_i_i_i_i_epil_init; p_v_epil_iter197 = 0u; goto L_join_7_i_i_i_i_i_i_i_i_i_i80_i_i_i_i_i_epil; }
+L_join_7_i_i_i_i_i_i_i_i_i_i80_i_i_i_i_i_epil:;
+    v_r0_04_i_i_i_i_i_i_i_i_i_i81_i_i_i_i_i_epil = p_v_r0_04_i_i_i_i_i_i_i_i_i_i81_i_i_i_i_i_epil;
     v_epil_iter197 = p_v_epil_iter197;
-    v_r20_i_i_i_i_i_i_i_i_i_i64_i_i_i_i_i_i_epil = v_r26_i_i_i_i44_i_i_i_i_i_i + (int64_t)(v_r0_04_i_i_i_i_i_i_i_i_i_i63_i_i_i_i_i_i_epil);
-    v_r24_i_i_i_i_i_i_i_i_i_i65_i_i_i_i_i_i_epil = v_r1_sroa_0_0_copyload_i_i_i39_i_i_i_i_i_i + (int64_t)(v_r0_04_i_i_i_i_i_i_i_i_i_i63_i_i_i_i_i_i_epil);
-    v_r26_i_i_i_i_i_i_i_i_i_i66_i_i_i_i_i_i_epil = get_u8(v_r24_i_i_i_i_i_i_i_i_i_i65_i_i_i_i_i_i_epil);
-    put_u8(v_r20_i_i_i_i_i_i_i_i_i_i64_i_i_i_i_i_i_epil, v_r26_i_i_i_i_i_i_i_i_i_i66_i_i_i_i_i_i_epil);
-    v_r30_i_i_i_i_i_i_i_i_i_i67_i_i_i_i_i_i_epil = (u64)((u64)(v_r0_04_i_i_i_i_i_i_i_i_i_i63_i_i_i_i_i_i_epil) + (u64)(1u));
+    v_r20_i_i_i_i_i_i_i_i_i_i82_i_i_i_i_i_epil = v_r26_i_i_i_i62_i_i_i_i_i + (int64_t)(v_r0_04_i_i_i_i_i_i_i_i_i_i81_i_i_i_i_i_epil);
+    v_r24_i_i_i_i_i_i_i_i_i_i83_i_i_i_i_i_epil = v_r1_sroa_0_0_copyload_i_i_i57_i_i_i_i_i + (int64_t)(v_r0_04_i_i_i_i_i_i_i_i_i_i81_i_i_i_i_i_epil);
+    v_r26_i_i_i_i_i_i_i_i_i_i84_i_i_i_i_i_epil = get_u8(v_r24_i_i_i_i_i_i_i_i_i_i83_i_i_i_i_i_epil);
+    put_u8(v_r20_i_i_i_i_i_i_i_i_i_i82_i_i_i_i_i_epil, v_r26_i_i_i_i_i_i_i_i_i_i84_i_i_i_i_i_epil);
+    v_r30_i_i_i_i_i_i_i_i_i_i85_i_i_i_i_i_epil = (u64)((u64)(v_r0_04_i_i_i_i_i_i_i_i_i_i81_i_i_i_i_i_epil) + (u64)(1u));
     v_epil_iter197_next = (u64)((u64)(v_epil_iter197) + (u64)(1u));
     v_epil_iter197_cmp_not = v_epil_iter197_next == v_xtraiter196;
-    if (v_epil_iter197_cmp_not) { goto L_der_core_back_writer_BackWriter_prepend_exit_i_i_i__11; } else { p_v_r0_04_i_i_i_i_i_i_i_i_i_i63_i_i_i_i_i_i_epil = v_r30_i_i_i_i_i_i_i_i_i_i67_i_i_i_i_i_i_epil; p_v_epil_iter197 = v_epil_iter197_next; goto L_join_7_i_i_i_i_i_i_i_i_i_i62_i_i_i_i_i_i_epil; }
+    if (v_epil_iter197_cmp_not) { goto L_der_core_back_writer_BackWriter_prepend_exit_i_i_i__11; } else { p_v_r0_04_i_i_i_i_i_i_i_i_i_i81_i_i_i_i_i_epil = v_r30_i_i_i_i_i_i_i_i_i_i85_i_i_i_i_i_epil; p_v_epil_iter197 = v_epil_iter197_next; goto L_join_7_i_i_i_i_i_i_i_i_i_i80_i_i_i_i_i_epil; }
 L_der_core_back_writer_BackWriter_prepend_exit_i_i_i__11:;
-    v_r15_not_i_i_i53_i_i_i_i_i_i = (u8)(v_r20_i335_i_i ^ ((u8)1 << 7)) > (u8)(255u ^ ((u8)1 << 7));
-    if (v_r15_not_i_i_i53_i_i_i_i_i_i) { p_v_r7_sroa_129_2_i_i_i = v_r17_i_i_i_i42_i_i_i_i_i_i; goto L_pkcs1_private_key_written_CrtPartsEncodeValue_prep; } else { goto L_then_1_i_i_i54_i_i_i_i_i_i; }
-L_then_1_i_i_i54_i_i_i_i_i_i:;
-    v_r17_i3_i_i_i55_i_i_i_i_i_i = (u64)((u64)(v_r17_i_i_i_i42_i_i_i_i_i_i) + (u64)(18446744073709551615ull));
-    v_r26_i5_i_i_i57_i_i_i_i_i_i = (P)((uintptr_t)v_r14 + (u64)(v_r17_i3_i_i_i55_i_i_i_i_i_i));
-    put_u8(v_r26_i5_i_i_i57_i_i_i_i_i_i, 0u);
-    { p_v_r7_sroa_129_2_i_i_i = v_r17_i3_i_i_i55_i_i_i_i_i_i; goto L_pkcs1_private_key_written_CrtPartsEncodeValue_prep; }
-L_pkcs1_private_key_written_CrtPartsEncodeValue_prep:;
+    v_r15_not_i_i_i71_i_i_i_i_i = (u8)(v_r20_i335_i_i ^ ((u8)1 << 7)) > (u8)(255u ^ ((u8)1 << 7));
+    if (v_r15_not_i_i_i71_i_i_i_i_i) { p_v_r7_sroa_129_2_i_i_i = v_r17_i_i_i_i60_i_i_i_i_i; goto L_der_core_borrowed_BorrowedEncode_prepend_25cd36d81__5; } else { goto L_then_1_i_i_i72_i_i_i_i_i; }
+L_then_1_i_i_i72_i_i_i_i_i:;
+    v_r17_i3_i_i_i73_i_i_i_i_i = (u64)((u64)(v_r17_i_i_i_i60_i_i_i_i_i) + (u64)(18446744073709551615ull));
+    v_r26_i5_i_i_i75_i_i_i_i_i = (P)((uintptr_t)v_r14 + (u64)(v_r17_i3_i_i_i73_i_i_i_i_i));
+    put_u8(v_r26_i5_i_i_i75_i_i_i_i_i, 0u);
+    { p_v_r7_sroa_129_2_i_i_i = v_r17_i3_i_i_i73_i_i_i_i_i; goto L_der_core_borrowed_BorrowedEncode_prepend_25cd36d81__5; }
+L_der_core_borrowed_BorrowedEncode_prepend_25cd36d81__5:;
     v_r7_sroa_129_2_i_i_i = p_v_r7_sroa_129_2_i_i_i;
     v_48 = (u64)((u64)(v_r7_sroa_129_2_i_i_i) + (u64)(v_r3_i5_i_i_i));
     v_49 = (u64)((u64)(v_r7_sroa_129_20_i_i_i) - (u64)(v_48));
     v_50 = (u32)(v_49);
-    v_r2_i_i_i61_i_i_i_i_i_i = (u32)((u32)(v_r1_sroa_9_4_copyload_i_i_i_i) + (u32)(v_50));
-    v_r59_i476_i_i_i = v_r2_i_i_i61_i_i_i_i_i_i < 128u;
+    v_r2_i_i_i79_i_i_i_i_i = (u32)((u32)(v_r1_sroa_9_4_copyload_i_i_i_i) + (u32)(v_50));
+    v_r59_i476_i_i_i = v_r2_i_i_i79_i_i_i_i_i < 128u;
     if (v_r59_i476_i_i_i) { goto L_then_1_i537_i_i_i; } else { goto L_else_2_i477_i_i_i; }
 L_then_1_i537_i_i_i:;
-    v_r64_i538_i_i_i = (u16)(v_r2_i_i_i61_i_i_i_i_i_i);
+    v_r64_i538_i_i_i = (u16)(v_r2_i_i_i79_i_i_i_i_i);
     v_r17_i_i542_i_i_i = (u64)((u64)(v_r7_sroa_129_2_i_i_i) + (u64)(18446744073709551614ull));
     v_r26_i_i544_i_i_i = (P)((uintptr_t)v_r14 + (u64)(v_r17_i_i542_i_i_i));
     v_r8_i471_sroa_4_0_insert_shift_i_i_i = (u16)((u32)(v_r64_i538_i_i_i) << (u32)((8u & 31)));
@@ -36058,10 +36058,10 @@ L_then_1_i537_i_i_i:;
     put_u16(v_r26_i_i544_i_i_i, v_r8_i471_sroa_0_0_insert_insert_i_i_i);
     { p_v_r7_sroa_129_19_i_i_i = v_r17_i_i542_i_i_i; goto L_der_core_back_writer_BackWriter_prepend_header_exi__7; }
 L_else_2_i477_i_i_i:;
-    v_r75_i478_i_i_i = v_r2_i_i_i61_i_i_i_i_i_i < 256u;
+    v_r75_i478_i_i_i = v_r2_i_i_i79_i_i_i_i_i < 256u;
     if (v_r75_i478_i_i_i) { goto L_then_4_i528_i_i_i; } else { goto L_else_5_i479_i_i_i; }
 L_then_4_i528_i_i_i:;
-    v_r80_i529_i_i_i = (u8)(v_r2_i_i_i61_i_i_i_i_i_i);
+    v_r80_i529_i_i_i = (u8)(v_r2_i_i_i79_i_i_i_i_i);
     v_r17_i28_i534_i_i_i = (u64)((u64)(v_r7_sroa_129_2_i_i_i) + (u64)(18446744073709551613ull));
     v_r26_i30_i536_i_i_i = (P)((uintptr_t)v_r14 + (u64)(v_r17_i28_i534_i_i_i));
     put_u8(v_r26_i30_i536_i_i_i, 2u);
@@ -36071,24 +36071,24 @@ L_then_4_i528_i_i_i:;
     put_u8(v_r14_i472_sroa_5_0_r26_i30_i536_sroa_idx_i_i_i, v_r80_i529_i_i_i);
     { p_v_r7_sroa_129_19_i_i_i = v_r17_i28_i534_i_i_i; goto L_der_core_back_writer_BackWriter_prepend_header_exi__7; }
 L_else_5_i479_i_i_i:;
-    v_r92_i480_i_i_i = v_r2_i_i_i61_i_i_i_i_i_i < 65536u;
+    v_r92_i480_i_i_i = v_r2_i_i_i79_i_i_i_i_i < 65536u;
     if (v_r92_i480_i_i_i) { goto L_then_7_i516_i_i_i; } else { goto L_else_8_i481_i_i_i; }
 L_then_7_i516_i_i_i:;
     v_r17_i46_i524_i_i_i = (u64)((u64)(v_r7_sroa_129_2_i_i_i) + (u64)(18446744073709551612ull));
     v_r26_i48_i526_i_i_i = (P)((uintptr_t)v_r14 + (u64)(v_r17_i46_i524_i_i_i));
-    v_51 = (u32)((u32)(v_r2_i_i_i61_i_i_i_i_i_i) | (u32)(42074112u));
+    v_51 = (u32)((u32)(v_r2_i_i_i79_i_i_i_i_i) | (u32)(42074112u));
     v_r20_i473_sroa_0_0_insert_insert_i_i_i = __builtin_bswap32(v_51);
     put_u32(v_r26_i48_i526_i_i_i, v_r20_i473_sroa_0_0_insert_insert_i_i_i);
     { p_v_r7_sroa_129_19_i_i_i = v_r17_i46_i524_i_i_i; goto L_der_core_back_writer_BackWriter_prepend_header_exi__7; }
 L_else_8_i481_i_i_i:;
-    v_r117_i482_i_i_i = v_r2_i_i_i61_i_i_i_i_i_i < 16777216u;
+    v_r117_i482_i_i_i = v_r2_i_i_i79_i_i_i_i_i < 16777216u;
     if (v_r117_i482_i_i_i) { goto L_then_10_i501_i_i_i; } else { goto L_else_11_i483_i_i_i; }
 L_then_10_i501_i_i_i:;
-    v_r12223_i502_i_i_i = (u32)((u32)(v_r2_i_i_i61_i_i_i_i_i_i) >> (u32)((16u & 31)));
+    v_r12223_i502_i_i_i = (u32)((u32)(v_r2_i_i_i79_i_i_i_i_i) >> (u32)((16u & 31)));
     v_r124_i503_i_i_i = (u8)(v_r12223_i502_i_i_i);
-    v_r12624_i504_i_i_i = (u32)((u32)(v_r2_i_i_i61_i_i_i_i_i_i) >> (u32)((8u & 31)));
+    v_r12624_i504_i_i_i = (u32)((u32)(v_r2_i_i_i79_i_i_i_i_i) >> (u32)((8u & 31)));
     v_r130_i505_i_i_i = (u8)(v_r12624_i504_i_i_i);
-    v_r134_i506_i_i_i = (u8)(v_r2_i_i_i61_i_i_i_i_i_i);
+    v_r134_i506_i_i_i = (u8)(v_r2_i_i_i79_i_i_i_i_i);
     v_r17_i64_i513_i_i_i = (u64)((u64)(v_r7_sroa_129_2_i_i_i) + (u64)(18446744073709551611ull));
     v_r26_i66_i515_i_i_i = (P)((uintptr_t)v_r14 + (u64)(v_r17_i64_i513_i_i_i));
     put_u8(v_r26_i66_i515_i_i_i, 2u);
@@ -36102,13 +36102,13 @@ L_then_10_i501_i_i_i:;
     put_u8(v_r29_i474_sroa_7_0_r26_i66_i515_sroa_idx_i_i_i, v_r134_i506_i_i_i);
     { p_v_r7_sroa_129_19_i_i_i = v_r17_i64_i513_i_i_i; goto L_der_core_back_writer_BackWriter_prepend_header_exi__7; }
 L_else_11_i483_i_i_i:;
-    v_r15020_i484_i_i_i = (u32)((u32)(v_r2_i_i_i61_i_i_i_i_i_i) >> (u32)((24u & 31)));
+    v_r15020_i484_i_i_i = (u32)((u32)(v_r2_i_i_i79_i_i_i_i_i) >> (u32)((24u & 31)));
     v_r152_i485_i_i_i = (u8)(v_r15020_i484_i_i_i);
-    v_r15421_i486_i_i_i = (u32)((u32)(v_r2_i_i_i61_i_i_i_i_i_i) >> (u32)((16u & 31)));
+    v_r15421_i486_i_i_i = (u32)((u32)(v_r2_i_i_i79_i_i_i_i_i) >> (u32)((16u & 31)));
     v_r158_i487_i_i_i = (u8)(v_r15421_i486_i_i_i);
-    v_r16022_i488_i_i_i = (u32)((u32)(v_r2_i_i_i61_i_i_i_i_i_i) >> (u32)((8u & 31)));
+    v_r16022_i488_i_i_i = (u32)((u32)(v_r2_i_i_i79_i_i_i_i_i) >> (u32)((8u & 31)));
     v_r164_i489_i_i_i = (u8)(v_r16022_i488_i_i_i);
-    v_r168_i490_i_i_i = (u8)(v_r2_i_i_i61_i_i_i_i_i_i);
+    v_r168_i490_i_i_i = (u8)(v_r2_i_i_i79_i_i_i_i_i);
     v_r17_i82_i498_i_i_i = (u64)((u64)(v_r7_sroa_129_2_i_i_i) + (u64)(18446744073709551610ull));
     v_r26_i84_i500_i_i_i = (P)((uintptr_t)v_r14 + (u64)(v_r17_i82_i498_i_i_i));
     put_u8(v_r26_i84_i500_i_i_i, 2u);
@@ -36125,84 +36125,84 @@ L_else_11_i483_i_i_i:;
     { p_v_r7_sroa_129_19_i_i_i = v_r17_i82_i498_i_i_i; goto L_der_core_back_writer_BackWriter_prepend_header_exi__7; }
 L_der_core_back_writer_BackWriter_prepend_header_exi__7:;
     v_r7_sroa_129_19_i_i_i = p_v_r7_sroa_129_19_i_i_i;
-    v_r17_i_i_i_i9_i_i_i_i_i = (u64)((u64)(v_r7_sroa_129_19_i_i_i) - (u64)(v_r1_sroa_3_0_copyload_i_i_i_i_i_i_i_i));
-    v_r26_i_i_i_i_i_i_i_i_i = (P)((uintptr_t)v_r14 + (u64)(v_r17_i_i_i_i9_i_i_i_i_i));
-    v_r8_i_i_i_i_i_i_i_i_i_i_i_i_i_i_i = (u64)((uintptr_t)v_r26_i_i_i_i_i_i_i_i_i);
-    v_r9_i_i_i_i_i_i_i_i_i_i_i_i_i_i_i = (u64)((uintptr_t)v_r1_sroa_0_0_copyload_i_i_i_i_i_i_i_i);
-    v_r10_i_i_i_i_i_i_i_i_i_i_i_i_i_i_i = (u64)((u64)(v_r8_i_i_i_i_i_i_i_i_i_i_i_i_i_i_i) - (u64)(v_r9_i_i_i_i_i_i_i_i_i_i_i_i_i_i_i));
-    v_r11_i_i_i_i_i_i_i_i_i_i_i_i_i_i_i = v_r10_i_i_i_i_i_i_i_i_i_i_i_i_i_i_i < v_r1_sroa_3_0_copyload_i_i_i_i_i_i_i_i;
-    if (v_r11_i_i_i_i_i_i_i_i_i_i_i_i_i_i_i) { goto L_join_7_i_i_i_i_i_i_i_i_i_i_i_i_i_i_i_preheader; } else { goto L_apart_2_i_i_i_i_i_i_i_i_i_i_i_i_i_i_i; }
-L_join_7_i_i_i_i_i_i_i_i_i_i_i_i_i_i_i_preheader:;
-    v_xtraiter202 = (u64)((u64)(v_r1_sroa_3_0_copyload_i_i_i_i_i_i_i_i) & (u64)(3u));
-    v_52 = v_r1_sroa_3_0_copyload_i_i_i_i_i_i_i_i < 4u;
-    if (v_52) { p_v_r0_04_i_i_i_i_i_i_i_i_i_i_i_i_i_i_i_epil_init = 0u; goto L_join_7_i_i_i_i_i_i_i_i_i_i_i_i_i_i_i_epil_preheade; } else { goto L_join_7_i_i_i_i_i_i_i_i_i_i_i_i_i_i_i_preheader_new; }
-L_join_7_i_i_i_i_i_i_i_i_i_i_i_i_i_i_i_preheader_new:;
-    v_unroll_iter206 = (u64)((u64)(v_r1_sroa_3_0_copyload_i_i_i_i_i_i_i_i) & (u64)(4294967292ull));
-    { p_v_r0_04_i_i_i_i_i_i_i_i_i_i_i_i_i_i_i = 0u; p_v_niter207 = 0u; goto L_join_7_i_i_i_i_i_i_i_i_i_i_i_i_i_i_i; }
-L_apart_2_i_i_i_i_i_i_i_i_i_i_i_i_i_i_i:;
-    move(v_r26_i_i_i_i_i_i_i_i_i, v_r1_sroa_0_0_copyload_i_i_i_i_i_i_i_i, v_r1_sroa_3_0_copyload_i_i_i_i_i_i_i_i);
+    v_r17_i_i_i_i93_i_i_i_i_i = (u64)((u64)(v_r7_sroa_129_19_i_i_i) - (u64)(v_r1_sroa_3_0_copyload_i_i_i92_i_i_i_i_i));
+    v_r26_i_i_i_i95_i_i_i_i_i = (P)((uintptr_t)v_r14 + (u64)(v_r17_i_i_i_i93_i_i_i_i_i));
+    v_r8_i_i_i_i_i_i_i_i_i_i96_i_i_i_i_i = (u64)((uintptr_t)v_r26_i_i_i_i95_i_i_i_i_i);
+    v_r9_i_i_i_i_i_i_i_i_i_i97_i_i_i_i_i = (u64)((uintptr_t)v_r1_sroa_0_0_copyload_i_i_i90_i_i_i_i_i);
+    v_r10_i_i_i_i_i_i_i_i_i_i98_i_i_i_i_i = (u64)((u64)(v_r8_i_i_i_i_i_i_i_i_i_i96_i_i_i_i_i) - (u64)(v_r9_i_i_i_i_i_i_i_i_i_i97_i_i_i_i_i));
+    v_r11_i_i_i_i_i_i_i_i_i_i99_i_i_i_i_i = v_r10_i_i_i_i_i_i_i_i_i_i98_i_i_i_i_i < v_r1_sroa_3_0_copyload_i_i_i92_i_i_i_i_i;
+    if (v_r11_i_i_i_i_i_i_i_i_i_i99_i_i_i_i_i) { goto L_join_7_i_i_i_i_i_i_i_i_i_i113_i_i_i_i_i_preheader; } else { goto L_apart_2_i_i_i_i_i_i_i_i_i_i100_i_i_i_i_i; }
+L_join_7_i_i_i_i_i_i_i_i_i_i113_i_i_i_i_i_preheader:;
+    v_xtraiter202 = (u64)((u64)(v_r1_sroa_3_0_copyload_i_i_i92_i_i_i_i_i) & (u64)(3u));
+    v_52 = v_r1_sroa_3_0_copyload_i_i_i92_i_i_i_i_i < 4u;
+    if (v_52) { p_v_r0_04_i_i_i_i_i_i_i_i_i_i114_i_i_i_i_i_epil_init = 0u; goto L_join_7_i_i_i_i_i_i_i_i_i_i113_i_i_i_i_i_epil_prehe; } else { goto L_join_7_i_i_i_i_i_i_i_i_i_i113_i_i_i_i_i_preheader_; }
+L_join_7_i_i_i_i_i_i_i_i_i_i113_i_i_i_i_i_preheader_:;
+    v_unroll_iter206 = (u64)((u64)(v_r1_sroa_3_0_copyload_i_i_i92_i_i_i_i_i) & (u64)(4294967292ull));
+    { p_v_r0_04_i_i_i_i_i_i_i_i_i_i114_i_i_i_i_i = 0u; p_v_niter207 = 0u; goto L_join_7_i_i_i_i_i_i_i_i_i_i113_i_i_i_i_i; }
+L_apart_2_i_i_i_i_i_i_i_i_i_i100_i_i_i_i_i:;
+    move(v_r26_i_i_i_i95_i_i_i_i_i, v_r1_sroa_0_0_copyload_i_i_i90_i_i_i_i_i, v_r1_sroa_3_0_copyload_i_i_i92_i_i_i_i_i);
     { goto L_der_core_back_writer_BackWriter_prepend_exit_i_i_i__13; }
-L_join_7_i_i_i_i_i_i_i_i_i_i_i_i_i_i_i:;
-    v_r0_04_i_i_i_i_i_i_i_i_i_i_i_i_i_i_i = p_v_r0_04_i_i_i_i_i_i_i_i_i_i_i_i_i_i_i;
+L_join_7_i_i_i_i_i_i_i_i_i_i113_i_i_i_i_i:;
+    v_r0_04_i_i_i_i_i_i_i_i_i_i114_i_i_i_i_i = p_v_r0_04_i_i_i_i_i_i_i_i_i_i114_i_i_i_i_i;
     v_niter207 = p_v_niter207;
-    v_r20_i_i_i_i_i_i_i_i_i_i_i_i_i_i_i = v_r26_i_i_i_i_i_i_i_i_i + (int64_t)(v_r0_04_i_i_i_i_i_i_i_i_i_i_i_i_i_i_i);
-    v_r24_i_i_i_i_i_i_i_i_i_i_i_i_i_i_i = v_r1_sroa_0_0_copyload_i_i_i_i_i_i_i_i + (int64_t)(v_r0_04_i_i_i_i_i_i_i_i_i_i_i_i_i_i_i);
-    v_r26_i_i_i_i_i_i_i_i_i_i_i_i_i_i_i = get_u8(v_r24_i_i_i_i_i_i_i_i_i_i_i_i_i_i_i);
-    put_u8(v_r20_i_i_i_i_i_i_i_i_i_i_i_i_i_i_i, v_r26_i_i_i_i_i_i_i_i_i_i_i_i_i_i_i);
-    v_r30_i_i_i_i_i_i_i_i_i_i_i_i_i_i_i = (u64)((u64)(v_r0_04_i_i_i_i_i_i_i_i_i_i_i_i_i_i_i) | (u64)(1u));
-    v_r20_i_i_i_i_i_i_i_i_i_i_i_i_i_i_i_1 = v_r26_i_i_i_i_i_i_i_i_i + (int64_t)(v_r30_i_i_i_i_i_i_i_i_i_i_i_i_i_i_i);
-    v_r24_i_i_i_i_i_i_i_i_i_i_i_i_i_i_i_1 = v_r1_sroa_0_0_copyload_i_i_i_i_i_i_i_i + (int64_t)(v_r30_i_i_i_i_i_i_i_i_i_i_i_i_i_i_i);
-    v_r26_i_i_i_i_i_i_i_i_i_i_i_i_i_i_i_1 = get_u8(v_r24_i_i_i_i_i_i_i_i_i_i_i_i_i_i_i_1);
-    put_u8(v_r20_i_i_i_i_i_i_i_i_i_i_i_i_i_i_i_1, v_r26_i_i_i_i_i_i_i_i_i_i_i_i_i_i_i_1);
-    v_r30_i_i_i_i_i_i_i_i_i_i_i_i_i_i_i_1 = (u64)((u64)(v_r0_04_i_i_i_i_i_i_i_i_i_i_i_i_i_i_i) | (u64)(2u));
-    v_r20_i_i_i_i_i_i_i_i_i_i_i_i_i_i_i_2 = v_r26_i_i_i_i_i_i_i_i_i + (int64_t)(v_r30_i_i_i_i_i_i_i_i_i_i_i_i_i_i_i_1);
-    v_r24_i_i_i_i_i_i_i_i_i_i_i_i_i_i_i_2 = v_r1_sroa_0_0_copyload_i_i_i_i_i_i_i_i + (int64_t)(v_r30_i_i_i_i_i_i_i_i_i_i_i_i_i_i_i_1);
-    v_r26_i_i_i_i_i_i_i_i_i_i_i_i_i_i_i_2 = get_u8(v_r24_i_i_i_i_i_i_i_i_i_i_i_i_i_i_i_2);
-    put_u8(v_r20_i_i_i_i_i_i_i_i_i_i_i_i_i_i_i_2, v_r26_i_i_i_i_i_i_i_i_i_i_i_i_i_i_i_2);
-    v_r30_i_i_i_i_i_i_i_i_i_i_i_i_i_i_i_2 = (u64)((u64)(v_r0_04_i_i_i_i_i_i_i_i_i_i_i_i_i_i_i) | (u64)(3u));
-    v_r20_i_i_i_i_i_i_i_i_i_i_i_i_i_i_i_3 = v_r26_i_i_i_i_i_i_i_i_i + (int64_t)(v_r30_i_i_i_i_i_i_i_i_i_i_i_i_i_i_i_2);
-    v_r24_i_i_i_i_i_i_i_i_i_i_i_i_i_i_i_3 = v_r1_sroa_0_0_copyload_i_i_i_i_i_i_i_i + (int64_t)(v_r30_i_i_i_i_i_i_i_i_i_i_i_i_i_i_i_2);
-    v_r26_i_i_i_i_i_i_i_i_i_i_i_i_i_i_i_3 = get_u8(v_r24_i_i_i_i_i_i_i_i_i_i_i_i_i_i_i_3);
-    put_u8(v_r20_i_i_i_i_i_i_i_i_i_i_i_i_i_i_i_3, v_r26_i_i_i_i_i_i_i_i_i_i_i_i_i_i_i_3);
-    v_r30_i_i_i_i_i_i_i_i_i_i_i_i_i_i_i_3 = (u64)((u64)(v_r0_04_i_i_i_i_i_i_i_i_i_i_i_i_i_i_i) + (u64)(4u));
+    v_r20_i_i_i_i_i_i_i_i_i_i115_i_i_i_i_i = v_r26_i_i_i_i95_i_i_i_i_i + (int64_t)(v_r0_04_i_i_i_i_i_i_i_i_i_i114_i_i_i_i_i);
+    v_r24_i_i_i_i_i_i_i_i_i_i116_i_i_i_i_i = v_r1_sroa_0_0_copyload_i_i_i90_i_i_i_i_i + (int64_t)(v_r0_04_i_i_i_i_i_i_i_i_i_i114_i_i_i_i_i);
+    v_r26_i_i_i_i_i_i_i_i_i_i117_i_i_i_i_i = get_u8(v_r24_i_i_i_i_i_i_i_i_i_i116_i_i_i_i_i);
+    put_u8(v_r20_i_i_i_i_i_i_i_i_i_i115_i_i_i_i_i, v_r26_i_i_i_i_i_i_i_i_i_i117_i_i_i_i_i);
+    v_r30_i_i_i_i_i_i_i_i_i_i118_i_i_i_i_i = (u64)((u64)(v_r0_04_i_i_i_i_i_i_i_i_i_i114_i_i_i_i_i) | (u64)(1u));
+    v_r20_i_i_i_i_i_i_i_i_i_i115_i_i_i_i_i_1 = v_r26_i_i_i_i95_i_i_i_i_i + (int64_t)(v_r30_i_i_i_i_i_i_i_i_i_i118_i_i_i_i_i);
+    v_r24_i_i_i_i_i_i_i_i_i_i116_i_i_i_i_i_1 = v_r1_sroa_0_0_copyload_i_i_i90_i_i_i_i_i + (int64_t)(v_r30_i_i_i_i_i_i_i_i_i_i118_i_i_i_i_i);
+    v_r26_i_i_i_i_i_i_i_i_i_i117_i_i_i_i_i_1 = get_u8(v_r24_i_i_i_i_i_i_i_i_i_i116_i_i_i_i_i_1);
+    put_u8(v_r20_i_i_i_i_i_i_i_i_i_i115_i_i_i_i_i_1, v_r26_i_i_i_i_i_i_i_i_i_i117_i_i_i_i_i_1);
+    v_r30_i_i_i_i_i_i_i_i_i_i118_i_i_i_i_i_1 = (u64)((u64)(v_r0_04_i_i_i_i_i_i_i_i_i_i114_i_i_i_i_i) | (u64)(2u));
+    v_r20_i_i_i_i_i_i_i_i_i_i115_i_i_i_i_i_2 = v_r26_i_i_i_i95_i_i_i_i_i + (int64_t)(v_r30_i_i_i_i_i_i_i_i_i_i118_i_i_i_i_i_1);
+    v_r24_i_i_i_i_i_i_i_i_i_i116_i_i_i_i_i_2 = v_r1_sroa_0_0_copyload_i_i_i90_i_i_i_i_i + (int64_t)(v_r30_i_i_i_i_i_i_i_i_i_i118_i_i_i_i_i_1);
+    v_r26_i_i_i_i_i_i_i_i_i_i117_i_i_i_i_i_2 = get_u8(v_r24_i_i_i_i_i_i_i_i_i_i116_i_i_i_i_i_2);
+    put_u8(v_r20_i_i_i_i_i_i_i_i_i_i115_i_i_i_i_i_2, v_r26_i_i_i_i_i_i_i_i_i_i117_i_i_i_i_i_2);
+    v_r30_i_i_i_i_i_i_i_i_i_i118_i_i_i_i_i_2 = (u64)((u64)(v_r0_04_i_i_i_i_i_i_i_i_i_i114_i_i_i_i_i) | (u64)(3u));
+    v_r20_i_i_i_i_i_i_i_i_i_i115_i_i_i_i_i_3 = v_r26_i_i_i_i95_i_i_i_i_i + (int64_t)(v_r30_i_i_i_i_i_i_i_i_i_i118_i_i_i_i_i_2);
+    v_r24_i_i_i_i_i_i_i_i_i_i116_i_i_i_i_i_3 = v_r1_sroa_0_0_copyload_i_i_i90_i_i_i_i_i + (int64_t)(v_r30_i_i_i_i_i_i_i_i_i_i118_i_i_i_i_i_2);
+    v_r26_i_i_i_i_i_i_i_i_i_i117_i_i_i_i_i_3 = get_u8(v_r24_i_i_i_i_i_i_i_i_i_i116_i_i_i_i_i_3);
+    put_u8(v_r20_i_i_i_i_i_i_i_i_i_i115_i_i_i_i_i_3, v_r26_i_i_i_i_i_i_i_i_i_i117_i_i_i_i_i_3);
+    v_r30_i_i_i_i_i_i_i_i_i_i118_i_i_i_i_i_3 = (u64)((u64)(v_r0_04_i_i_i_i_i_i_i_i_i_i114_i_i_i_i_i) + (u64)(4u));
     v_niter207_next_3 = (u64)((u64)(v_niter207) + (u64)(4u));
     v_niter207_ncmp_3 = v_niter207_next_3 == v_unroll_iter206;
-    if (v_niter207_ncmp_3) { goto L_der_core_back_writer_BackWriter_prepend_exit_i_i_i__14; } else { p_v_r0_04_i_i_i_i_i_i_i_i_i_i_i_i_i_i_i = v_r30_i_i_i_i_i_i_i_i_i_i_i_i_i_i_i_3; p_v_niter207 = v_niter207_next_3; goto L_join_7_i_i_i_i_i_i_i_i_i_i_i_i_i_i_i; }
+    if (v_niter207_ncmp_3) { goto L_der_core_back_writer_BackWriter_prepend_exit_i_i_i__14; } else { p_v_r0_04_i_i_i_i_i_i_i_i_i_i114_i_i_i_i_i = v_r30_i_i_i_i_i_i_i_i_i_i118_i_i_i_i_i_3; p_v_niter207 = v_niter207_next_3; goto L_join_7_i_i_i_i_i_i_i_i_i_i113_i_i_i_i_i; }
 L_der_core_back_writer_BackWriter_prepend_exit_i_i_i__14:;
     v_lcmp_mod204_not = v_xtraiter202 == 0u;
-    if (v_lcmp_mod204_not) { goto L_der_core_back_writer_BackWriter_prepend_exit_i_i_i__13; } else { p_v_r0_04_i_i_i_i_i_i_i_i_i_i_i_i_i_i_i_epil_init = v_r30_i_i_i_i_i_i_i_i_i_i_i_i_i_i_i_3; goto L_join_7_i_i_i_i_i_i_i_i_i_i_i_i_i_i_i_epil_preheade; }
-L_join_7_i_i_i_i_i_i_i_i_i_i_i_i_i_i_i_epil_preheade:;
-    v_r0_04_i_i_i_i_i_i_i_i_i_i_i_i_i_i_i_epil_init = p_v_r0_04_i_i_i_i_i_i_i_i_i_i_i_i_i_i_i_epil_init;
-    { p_v_r0_04_i_i_i_i_i_i_i_i_i_i_i_i_i_i_i_epil = v_r0_04_i_i_i_i_i_i_i_i_i_i_i_i_i_i_i_epil_init; p_v_epil_iter203 = 0u; goto L_join_7_i_i_i_i_i_i_i_i_i_i_i_i_i_i_i_epil; }
-L_join_7_i_i_i_i_i_i_i_i_i_i_i_i_i_i_i_epil:;
-    v_r0_04_i_i_i_i_i_i_i_i_i_i_i_i_i_i_i_epil = p_v_r0_04_i_i_i_i_i_i_i_i_i_i_i_i_i_i_i_epil;
+    if (v_lcmp_mod204_not) { goto L_der_core_back_writer_BackWriter_prepend_exit_i_i_i__13; } else { p_v_r0_04_i_i_i_i_i_i_i_i_i_i114_i_i_i_i_i_epil_init = v_r30_i_i_i_i_i_i_i_i_i_i118_i_i_i_i_i_3; goto L_join_7_i_i_i_i_i_i_i_i_i_i113_i_i_i_i_i_epil_prehe; }
+L_join_7_i_i_i_i_i_i_i_i_i_i113_i_i_i_i_i_epil_prehe:;
+    v_r0_04_i_i_i_i_i_i_i_i_i_i114_i_i_i_i_i_epil_init = p_v_r0_04_i_i_i_i_i_i_i_i_i_i114_i_i_i_i_i_epil_init;
+    { p_v_r0_04_i_i_i_i_i_i_i_i_i_i114_i_i_i_i_i_epil = v_r0_04_i_i_i_i_i_i_i_i_i_i114_i_i_i_i_i_epil_init; p_v_epil_iter203 = 0u; goto L_join_7_i_i_i_i_i_i_i_i_i_i113_i_i_i_i_i_epil; }
+L_join_7_i_i_i_i_i_i_i_i_i_i113_i_i_i_i_i_epil:;
+    v_r0_04_i_i_i_i_i_i_i_i_i_i114_i_i_i_i_i_epil = p_v_r0_04_i_i_i_i_i_i_i_i_i_i114_i_i_i_i_i_epil;
     v_epil_iter203 = p_v_epil_iter203;
-    v_r20_i_i_i_i_i_i_i_i_i_i_i_i_i_i_i_epil = v_r26_i_i_i_i_i_i_i_i_i + (int64_t)(v_r0_04_i_i_i_i_i_i_i_i_i_i_i_i_i_i_i_epil);
-    v_r24_i_i_i_i_i_i_i_i_i_i_i_i_i_i_i_epil = v_r1_sroa_0_0_copyload_i_i_i_i_i_i_i_i + (int64_t)(v_r0_04_i_i_i_i_i_i_i_i_i_i_i_i_i_i_i_epil);
-    v_r26_i_i_i_i_i_i_i_i_i_i_i_i_i_i_i_epil = get_u8(v_r24_i_i_i_i_i_i_i_i_i_i_i_i_i_i_i_epil);
-    put_u8(v_r20_i_i_i_i_i_i_i_i_i_i_i_i_i_i_i_epil, v_r26_i_i_i_i_i_i_i_i_i_i_i_i_i_i_i_epil);
-    v_r30_i_i_i_i_i_i_i_i_i_i_i_i_i_i_i_epil = (u64)((u64)(v_r0_04_i_i_i_i_i_i_i_i_i_i_i_i_i_i_i_epil) + (u64)(1u));
+    v_r20_i_i_i_i_i_i_i_i_i_i115_i_i_i_i_i_epil = v_r26_i_i_i_i95_i_i_i_i_i + (int64_t)(v_r0_04_i_i_i_i_i_i_i_i_i_i114_i_i_i_i_i_epil);
+    v_r24_i_i_i_i_i_i_i_i_i_i116_i_i_i_i_i_epil = v_r1_sroa_0_0_copyload_i_i_i90_i_i_i_i_i + (int64_t)(v_r0_04_i_i_i_i_i_i_i_i_i_i114_i_i_i_i_i_epil);
+    v_r26_i_i_i_i_i_i_i_i_i_i117_i_i_i_i_i_epil = get_u8(v_r24_i_i_i_i_i_i_i_i_i_i116_i_i_i_i_i_epil);
+    put_u8(v_r20_i_i_i_i_i_i_i_i_i_i115_i_i_i_i_i_epil, v_r26_i_i_i_i_i_i_i_i_i_i117_i_i_i_i_i_epil);
+    v_r30_i_i_i_i_i_i_i_i_i_i118_i_i_i_i_i_epil = (u64)((u64)(v_r0_04_i_i_i_i_i_i_i_i_i_i114_i_i_i_i_i_epil) + (u64)(1u));
     v_epil_iter203_next = (u64)((u64)(v_epil_iter203) + (u64)(1u));
     v_epil_iter203_cmp_not = v_epil_iter203_next == v_xtraiter202;
-    if (v_epil_iter203_cmp_not) { goto L_der_core_back_writer_BackWriter_prepend_exit_i_i_i__13; } else { p_v_r0_04_i_i_i_i_i_i_i_i_i_i_i_i_i_i_i_epil = v_r30_i_i_i_i_i_i_i_i_i_i_i_i_i_i_i_epil; p_v_epil_iter203 = v_epil_iter203_next; goto L_join_7_i_i_i_i_i_i_i_i_i_i_i_i_i_i_i_epil; }
+    if (v_epil_iter203_cmp_not) { goto L_der_core_back_writer_BackWriter_prepend_exit_i_i_i__13; } else { p_v_r0_04_i_i_i_i_i_i_i_i_i_i114_i_i_i_i_i_epil = v_r30_i_i_i_i_i_i_i_i_i_i118_i_i_i_i_i_epil; p_v_epil_iter203 = v_epil_iter203_next; goto L_join_7_i_i_i_i_i_i_i_i_i_i113_i_i_i_i_i_epil; }
 L_der_core_back_writer_BackWriter_prepend_exit_i_i_i__13:;
-    v_r15_not_i_i_i_i_i_i_i_i = (u8)(v_r20_i325_i_i ^ ((u8)1 << 7)) > (u8)(255u ^ ((u8)1 << 7));
-    if (v_r15_not_i_i_i_i_i_i_i_i) { p_v_r7_sroa_129_3_i_i_i = v_r17_i_i_i_i9_i_i_i_i_i; goto L_der_core_borrowed_BorrowedEncode_prepend_25cd36d81__5; } else { goto L_then_1_i_i_i_i_i_i_i_i; }
-L_then_1_i_i_i_i_i_i_i_i:;
-    v_r17_i3_i_i_i_i_i_i_i_i = (u64)((u64)(v_r17_i_i_i_i9_i_i_i_i_i) + (u64)(18446744073709551615ull));
-    v_r26_i5_i_i_i_i_i_i_i_i = (P)((uintptr_t)v_r14 + (u64)(v_r17_i3_i_i_i_i_i_i_i_i));
-    put_u8(v_r26_i5_i_i_i_i_i_i_i_i, 0u);
-    { p_v_r7_sroa_129_3_i_i_i = v_r17_i3_i_i_i_i_i_i_i_i; goto L_der_core_borrowed_BorrowedEncode_prepend_25cd36d81__5; }
-L_der_core_borrowed_BorrowedEncode_prepend_25cd36d81__5:;
+    v_r15_not_i_i_i104_i_i_i_i_i = (u8)(v_r20_i325_i_i ^ ((u8)1 << 7)) > (u8)(255u ^ ((u8)1 << 7));
+    if (v_r15_not_i_i_i104_i_i_i_i_i) { p_v_r7_sroa_129_3_i_i_i = v_r17_i_i_i_i93_i_i_i_i_i; goto L_der_core_borrowed_BorrowedEncode_prepend_25cd36d81__6; } else { goto L_then_1_i_i_i105_i_i_i_i_i; }
+L_then_1_i_i_i105_i_i_i_i_i:;
+    v_r17_i3_i_i_i106_i_i_i_i_i = (u64)((u64)(v_r17_i_i_i_i93_i_i_i_i_i) + (u64)(18446744073709551615ull));
+    v_r26_i5_i_i_i108_i_i_i_i_i = (P)((uintptr_t)v_r14 + (u64)(v_r17_i3_i_i_i106_i_i_i_i_i));
+    put_u8(v_r26_i5_i_i_i108_i_i_i_i_i, 0u);
+    { p_v_r7_sroa_129_3_i_i_i = v_r17_i3_i_i_i106_i_i_i_i_i; goto L_der_core_borrowed_BorrowedEncode_prepend_25cd36d81__6; }
+L_der_core_borrowed_BorrowedEncode_prepend_25cd36d81__6:;
     v_r7_sroa_129_3_i_i_i = p_v_r7_sroa_129_3_i_i_i;
     v_53 = (u64)((u64)(v_r7_sroa_129_3_i_i_i) + (u64)(v_r3_i5_i_i_i));
     v_54 = (u64)((u64)(v_r7_sroa_129_19_i_i_i) - (u64)(v_53));
     v_55 = (u32)(v_54);
-    v_r2_i_i_i_i_i_i_i_i = (u32)((u32)(v_r1_sroa_9_4_copyload_i_i_i_i) + (u32)(v_55));
-    v_r59_i400_i_i_i = v_r2_i_i_i_i_i_i_i_i < 128u;
+    v_r2_i_i_i112_i_i_i_i_i = (u32)((u32)(v_r1_sroa_9_4_copyload_i_i_i_i) + (u32)(v_55));
+    v_r59_i400_i_i_i = v_r2_i_i_i112_i_i_i_i_i < 128u;
     if (v_r59_i400_i_i_i) { goto L_then_1_i461_i_i_i; } else { goto L_else_2_i401_i_i_i; }
 L_then_1_i461_i_i_i:;
-    v_r64_i462_i_i_i = (u16)(v_r2_i_i_i_i_i_i_i_i);
+    v_r64_i462_i_i_i = (u16)(v_r2_i_i_i112_i_i_i_i_i);
     v_r17_i_i466_i_i_i = (u64)((u64)(v_r7_sroa_129_3_i_i_i) + (u64)(18446744073709551614ull));
     v_r26_i_i468_i_i_i = (P)((uintptr_t)v_r14 + (u64)(v_r17_i_i466_i_i_i));
     v_r8_i395_sroa_4_0_insert_shift_i_i_i = (u16)((u32)(v_r64_i462_i_i_i) << (u32)((8u & 31)));
@@ -36210,10 +36210,10 @@ L_then_1_i461_i_i_i:;
     put_u16(v_r26_i_i468_i_i_i, v_r8_i395_sroa_0_0_insert_insert_i_i_i);
     { p_v_r7_sroa_129_18_i_i_i = v_r17_i_i466_i_i_i; goto L_der_core_back_writer_BackWriter_prepend_header_exi__8; }
 L_else_2_i401_i_i_i:;
-    v_r75_i402_i_i_i = v_r2_i_i_i_i_i_i_i_i < 256u;
+    v_r75_i402_i_i_i = v_r2_i_i_i112_i_i_i_i_i < 256u;
     if (v_r75_i402_i_i_i) { goto L_then_4_i452_i_i_i; } else { goto L_else_5_i403_i_i_i; }
 L_then_4_i452_i_i_i:;
-    v_r80_i453_i_i_i = (u8)(v_r2_i_i_i_i_i_i_i_i);
+    v_r80_i453_i_i_i = (u8)(v_r2_i_i_i112_i_i_i_i_i);
     v_r17_i28_i458_i_i_i = (u64)((u64)(v_r7_sroa_129_3_i_i_i) + (u64)(18446744073709551613ull));
     v_r26_i30_i460_i_i_i = (P)((uintptr_t)v_r14 + (u64)(v_r17_i28_i458_i_i_i));
     put_u8(v_r26_i30_i460_i_i_i, 2u);
@@ -36223,24 +36223,24 @@ L_then_4_i452_i_i_i:;
     put_u8(v_r14_i396_sroa_5_0_r26_i30_i460_sroa_idx_i_i_i, v_r80_i453_i_i_i);
     { p_v_r7_sroa_129_18_i_i_i = v_r17_i28_i458_i_i_i; goto L_der_core_back_writer_BackWriter_prepend_header_exi__8; }
 L_else_5_i403_i_i_i:;
-    v_r92_i404_i_i_i = v_r2_i_i_i_i_i_i_i_i < 65536u;
+    v_r92_i404_i_i_i = v_r2_i_i_i112_i_i_i_i_i < 65536u;
     if (v_r92_i404_i_i_i) { goto L_then_7_i440_i_i_i; } else { goto L_else_8_i405_i_i_i; }
 L_then_7_i440_i_i_i:;
     v_r17_i46_i448_i_i_i = (u64)((u64)(v_r7_sroa_129_3_i_i_i) + (u64)(18446744073709551612ull));
     v_r26_i48_i450_i_i_i = (P)((uintptr_t)v_r14 + (u64)(v_r17_i46_i448_i_i_i));
-    v_56 = (u32)((u32)(v_r2_i_i_i_i_i_i_i_i) | (u32)(42074112u));
+    v_56 = (u32)((u32)(v_r2_i_i_i112_i_i_i_i_i) | (u32)(42074112u));
     v_r20_i397_sroa_0_0_insert_insert_i_i_i = __builtin_bswap32(v_56);
     put_u32(v_r26_i48_i450_i_i_i, v_r20_i397_sroa_0_0_insert_insert_i_i_i);
     { p_v_r7_sroa_129_18_i_i_i = v_r17_i46_i448_i_i_i; goto L_der_core_back_writer_BackWriter_prepend_header_exi__8; }
 L_else_8_i405_i_i_i:;
-    v_r117_i406_i_i_i = v_r2_i_i_i_i_i_i_i_i < 16777216u;
+    v_r117_i406_i_i_i = v_r2_i_i_i112_i_i_i_i_i < 16777216u;
     if (v_r117_i406_i_i_i) { goto L_then_10_i425_i_i_i; } else { goto L_else_11_i407_i_i_i; }
 L_then_10_i425_i_i_i:;
-    v_r12223_i426_i_i_i = (u32)((u32)(v_r2_i_i_i_i_i_i_i_i) >> (u32)((16u & 31)));
+    v_r12223_i426_i_i_i = (u32)((u32)(v_r2_i_i_i112_i_i_i_i_i) >> (u32)((16u & 31)));
     v_r124_i427_i_i_i = (u8)(v_r12223_i426_i_i_i);
-    v_r12624_i428_i_i_i = (u32)((u32)(v_r2_i_i_i_i_i_i_i_i) >> (u32)((8u & 31)));
+    v_r12624_i428_i_i_i = (u32)((u32)(v_r2_i_i_i112_i_i_i_i_i) >> (u32)((8u & 31)));
     v_r130_i429_i_i_i = (u8)(v_r12624_i428_i_i_i);
-    v_r134_i430_i_i_i = (u8)(v_r2_i_i_i_i_i_i_i_i);
+    v_r134_i430_i_i_i = (u8)(v_r2_i_i_i112_i_i_i_i_i);
     v_r17_i64_i437_i_i_i = (u64)((u64)(v_r7_sroa_129_3_i_i_i) + (u64)(18446744073709551611ull));
     v_r26_i66_i439_i_i_i = (P)((uintptr_t)v_r14 + (u64)(v_r17_i64_i437_i_i_i));
     put_u8(v_r26_i66_i439_i_i_i, 2u);
@@ -36254,13 +36254,13 @@ L_then_10_i425_i_i_i:;
     put_u8(v_r29_i398_sroa_7_0_r26_i66_i439_sroa_idx_i_i_i, v_r134_i430_i_i_i);
     { p_v_r7_sroa_129_18_i_i_i = v_r17_i64_i437_i_i_i; goto L_der_core_back_writer_BackWriter_prepend_header_exi__8; }
 L_else_11_i407_i_i_i:;
-    v_r15020_i408_i_i_i = (u32)((u32)(v_r2_i_i_i_i_i_i_i_i) >> (u32)((24u & 31)));
+    v_r15020_i408_i_i_i = (u32)((u32)(v_r2_i_i_i112_i_i_i_i_i) >> (u32)((24u & 31)));
     v_r152_i409_i_i_i = (u8)(v_r15020_i408_i_i_i);
-    v_r15421_i410_i_i_i = (u32)((u32)(v_r2_i_i_i_i_i_i_i_i) >> (u32)((16u & 31)));
+    v_r15421_i410_i_i_i = (u32)((u32)(v_r2_i_i_i112_i_i_i_i_i) >> (u32)((16u & 31)));
     v_r158_i411_i_i_i = (u8)(v_r15421_i410_i_i_i);
-    v_r16022_i412_i_i_i = (u32)((u32)(v_r2_i_i_i_i_i_i_i_i) >> (u32)((8u & 31)));
+    v_r16022_i412_i_i_i = (u32)((u32)(v_r2_i_i_i112_i_i_i_i_i) >> (u32)((8u & 31)));
     v_r164_i413_i_i_i = (u8)(v_r16022_i412_i_i_i);
-    v_r168_i414_i_i_i = (u8)(v_r2_i_i_i_i_i_i_i_i);
+    v_r168_i414_i_i_i = (u8)(v_r2_i_i_i112_i_i_i_i_i);
     v_r17_i82_i422_i_i_i = (u64)((u64)(v_r7_sroa_129_3_i_i_i) + (u64)(18446744073709551610ull));
     v_r26_i84_i424_i_i_i = (P)((uintptr_t)v_r14 + (u64)(v_r17_i82_i422_i_i_i));
     put_u8(v_r26_i84_i424_i_i_i, 2u);
@@ -36277,84 +36277,84 @@ L_else_11_i407_i_i_i:;
     { p_v_r7_sroa_129_18_i_i_i = v_r17_i82_i422_i_i_i; goto L_der_core_back_writer_BackWriter_prepend_header_exi__8; }
 L_der_core_back_writer_BackWriter_prepend_header_exi__8:;
     v_r7_sroa_129_18_i_i_i = p_v_r7_sroa_129_18_i_i_i;
-    v_r17_i_i_i_i15_i_i_i_i_i = (u64)((u64)(v_r7_sroa_129_18_i_i_i) - (u64)(v_r1_sroa_3_0_copyload_i_i_i14_i_i_i_i_i));
-    v_r26_i_i_i_i17_i_i_i_i_i = (P)((uintptr_t)v_r14 + (u64)(v_r17_i_i_i_i15_i_i_i_i_i));
-    v_r8_i_i_i_i_i_i_i_i_i_i18_i_i_i_i_i = (u64)((uintptr_t)v_r26_i_i_i_i17_i_i_i_i_i);
-    v_r9_i_i_i_i_i_i_i_i_i_i19_i_i_i_i_i = (u64)((uintptr_t)v_r1_sroa_0_0_copyload_i_i_i12_i_i_i_i_i);
-    v_r10_i_i_i_i_i_i_i_i_i_i20_i_i_i_i_i = (u64)((u64)(v_r8_i_i_i_i_i_i_i_i_i_i18_i_i_i_i_i) - (u64)(v_r9_i_i_i_i_i_i_i_i_i_i19_i_i_i_i_i));
-    v_r11_i_i_i_i_i_i_i_i_i_i21_i_i_i_i_i = v_r10_i_i_i_i_i_i_i_i_i_i20_i_i_i_i_i < v_r1_sroa_3_0_copyload_i_i_i14_i_i_i_i_i;
-    if (v_r11_i_i_i_i_i_i_i_i_i_i21_i_i_i_i_i) { goto L_join_7_i_i_i_i_i_i_i_i_i_i35_i_i_i_i_i_preheader; } else { goto L_apart_2_i_i_i_i_i_i_i_i_i_i22_i_i_i_i_i; }
-L_join_7_i_i_i_i_i_i_i_i_i_i35_i_i_i_i_i_preheader:;
-    v_xtraiter208 = (u64)((u64)(v_r1_sroa_3_0_copyload_i_i_i14_i_i_i_i_i) & (u64)(3u));
-    v_57 = v_r1_sroa_3_0_copyload_i_i_i14_i_i_i_i_i < 4u;
-    if (v_57) { p_v_r0_04_i_i_i_i_i_i_i_i_i_i36_i_i_i_i_i_epil_init = 0u; goto L_join_7_i_i_i_i_i_i_i_i_i_i35_i_i_i_i_i_epil_prehea; } else { goto L_join_7_i_i_i_i_i_i_i_i_i_i35_i_i_i_i_i_preheader_n; }
-L_join_7_i_i_i_i_i_i_i_i_i_i35_i_i_i_i_i_preheader_n:;
-    v_unroll_iter212 = (u64)((u64)(v_r1_sroa_3_0_copyload_i_i_i14_i_i_i_i_i) & (u64)(4294967292ull));
-    { p_v_r0_04_i_i_i_i_i_i_i_i_i_i36_i_i_i_i_i = 0u; p_v_niter213 = 0u; goto L_join_7_i_i_i_i_i_i_i_i_i_i35_i_i_i_i_i; }
-L_apart_2_i_i_i_i_i_i_i_i_i_i22_i_i_i_i_i:;
-    move(v_r26_i_i_i_i17_i_i_i_i_i, v_r1_sroa_0_0_copyload_i_i_i12_i_i_i_i_i, v_r1_sroa_3_0_copyload_i_i_i14_i_i_i_i_i);
+    v_r17_i_i_i_i126_i_i_i_i_i = (u64)((u64)(v_r7_sroa_129_18_i_i_i) - (u64)(v_r1_sroa_3_0_copyload_i_i_i125_i_i_i_i_i));
+    v_r26_i_i_i_i128_i_i_i_i_i = (P)((uintptr_t)v_r14 + (u64)(v_r17_i_i_i_i126_i_i_i_i_i));
+    v_r8_i_i_i_i_i_i_i_i_i_i129_i_i_i_i_i = (u64)((uintptr_t)v_r26_i_i_i_i128_i_i_i_i_i);
+    v_r9_i_i_i_i_i_i_i_i_i_i130_i_i_i_i_i = (u64)((uintptr_t)v_r1_sroa_0_0_copyload_i_i_i123_i_i_i_i_i);
+    v_r10_i_i_i_i_i_i_i_i_i_i131_i_i_i_i_i = (u64)((u64)(v_r8_i_i_i_i_i_i_i_i_i_i129_i_i_i_i_i) - (u64)(v_r9_i_i_i_i_i_i_i_i_i_i130_i_i_i_i_i));
+    v_r11_i_i_i_i_i_i_i_i_i_i132_i_i_i_i_i = v_r10_i_i_i_i_i_i_i_i_i_i131_i_i_i_i_i < v_r1_sroa_3_0_copyload_i_i_i125_i_i_i_i_i;
+    if (v_r11_i_i_i_i_i_i_i_i_i_i132_i_i_i_i_i) { goto L_join_7_i_i_i_i_i_i_i_i_i_i146_i_i_i_i_i_preheader; } else { goto L_apart_2_i_i_i_i_i_i_i_i_i_i133_i_i_i_i_i; }
+L_join_7_i_i_i_i_i_i_i_i_i_i146_i_i_i_i_i_preheader:;
+    v_xtraiter208 = (u64)((u64)(v_r1_sroa_3_0_copyload_i_i_i125_i_i_i_i_i) & (u64)(3u));
+    v_57 = v_r1_sroa_3_0_copyload_i_i_i125_i_i_i_i_i < 4u;
+    if (v_57) { p_v_r0_04_i_i_i_i_i_i_i_i_i_i147_i_i_i_i_i_epil_init = 0u; goto L_join_7_i_i_i_i_i_i_i_i_i_i146_i_i_i_i_i_epil_prehe; } else { goto L_join_7_i_i_i_i_i_i_i_i_i_i146_i_i_i_i_i_preheader_; }
+L_join_7_i_i_i_i_i_i_i_i_i_i146_i_i_i_i_i_preheader_:;
+    v_unroll_iter212 = (u64)((u64)(v_r1_sroa_3_0_copyload_i_i_i125_i_i_i_i_i) & (u64)(4294967292ull));
+    { p_v_r0_04_i_i_i_i_i_i_i_i_i_i147_i_i_i_i_i = 0u; p_v_niter213 = 0u; goto L_join_7_i_i_i_i_i_i_i_i_i_i146_i_i_i_i_i; }
+L_apart_2_i_i_i_i_i_i_i_i_i_i133_i_i_i_i_i:;
+    move(v_r26_i_i_i_i128_i_i_i_i_i, v_r1_sroa_0_0_copyload_i_i_i123_i_i_i_i_i, v_r1_sroa_3_0_copyload_i_i_i125_i_i_i_i_i);
     { goto L_der_core_back_writer_BackWriter_prepend_exit_i_i_i__15; }
-L_join_7_i_i_i_i_i_i_i_i_i_i35_i_i_i_i_i:;
-    v_r0_04_i_i_i_i_i_i_i_i_i_i36_i_i_i_i_i = p_v_r0_04_i_i_i_i_i_i_i_i_i_i36_i_i_i_i_i;
+L_join_7_i_i_i_i_i_i_i_i_i_i146_i_i_i_i_i:;
+    v_r0_04_i_i_i_i_i_i_i_i_i_i147_i_i_i_i_i = p_v_r0_04_i_i_i_i_i_i_i_i_i_i147_i_i_i_i_i;
     v_niter213 = p_v_niter213;
-    v_r20_i_i_i_i_i_i_i_i_i_i37_i_i_i_i_i = v_r26_i_i_i_i17_i_i_i_i_i + (int64_t)(v_r0_04_i_i_i_i_i_i_i_i_i_i36_i_i_i_i_i);
-    v_r24_i_i_i_i_i_i_i_i_i_i38_i_i_i_i_i = v_r1_sroa_0_0_copyload_i_i_i12_i_i_i_i_i + (int64_t)(v_r0_04_i_i_i_i_i_i_i_i_i_i36_i_i_i_i_i);
-    v_r26_i_i_i_i_i_i_i_i_i_i39_i_i_i_i_i = get_u8(v_r24_i_i_i_i_i_i_i_i_i_i38_i_i_i_i_i);
-    put_u8(v_r20_i_i_i_i_i_i_i_i_i_i37_i_i_i_i_i, v_r26_i_i_i_i_i_i_i_i_i_i39_i_i_i_i_i);
-    v_r30_i_i_i_i_i_i_i_i_i_i40_i_i_i_i_i = (u64)((u64)(v_r0_04_i_i_i_i_i_i_i_i_i_i36_i_i_i_i_i) | (u64)(1u));
-    v_r20_i_i_i_i_i_i_i_i_i_i37_i_i_i_i_i_1 = v_r26_i_i_i_i17_i_i_i_i_i + (int64_t)(v_r30_i_i_i_i_i_i_i_i_i_i40_i_i_i_i_i);
-    v_r24_i_i_i_i_i_i_i_i_i_i38_i_i_i_i_i_1 = v_r1_sroa_0_0_copyload_i_i_i12_i_i_i_i_i + (int64_t)(v_r30_i_i_i_i_i_i_i_i_i_i40_i_i_i_i_i);
-    v_r26_i_i_i_i_i_i_i_i_i_i39_i_i_i_i_i_1 = get_u8(v_r24_i_i_i_i_i_i_i_i_i_i38_i_i_i_i_i_1);
-    put_u8(v_r20_i_i_i_i_i_i_i_i_i_i37_i_i_i_i_i_1, v_r26_i_i_i_i_i_i_i_i_i_i39_i_i_i_i_i_1);
-    v_r30_i_i_i_i_i_i_i_i_i_i40_i_i_i_i_i_1 = (u64)((u64)(v_r0_04_i_i_i_i_i_i_i_i_i_i36_i_i_i_i_i) | (u64)(2u));
-    v_r20_i_i_i_i_i_i_i_i_i_i37_i_i_i_i_i_2 = v_r26_i_i_i_i17_i_i_i_i_i + (int64_t)(v_r30_i_i_i_i_i_i_i_i_i_i40_i_i_i_i_i_1);
-    v_r24_i_i_i_i_i_i_i_i_i_i38_i_i_i_i_i_2 = v_r1_sroa_0_0_copyload_i_i_i12_i_i_i_i_i + (int64_t)(v_r30_i_i_i_i_i_i_i_i_i_i40_i_i_i_i_i_1);
-    v_r26_i_i_i_i_i_i_i_i_i_i39_i_i_i_i_i_2 = get_u8(v_r24_i_i_i_i_i_i_i_i_i_i38_i_i_i_i_i_2);
-    put_u8(v_r20_i_i_i_i_i_i_i_i_i_i37_i_i_i_i_i_2, v_r26_i_i_i_i_i_i_i_i_i_i39_i_i_i_i_i_2);
-    v_r30_i_i_i_i_i_i_i_i_i_i40_i_i_i_i_i_2 = (u64)((u64)(v_r0_04_i_i_i_i_i_i_i_i_i_i36_i_i_i_i_i) | (u64)(3u));
-    v_r20_i_i_i_i_i_i_i_i_i_i37_i_i_i_i_i_3 = v_r26_i_i_i_i17_i_i_i_i_i + (int64_t)(v_r30_i_i_i_i_i_i_i_i_i_i40_i_i_i_i_i_2);
-    v_r24_i_i_i_i_i_i_i_i_i_i38_i_i_i_i_i_3 = v_r1_sroa_0_0_copyload_i_i_i12_i_i_i_i_i + (int64_t)(v_r30_i_i_i_i_i_i_i_i_i_i40_i_i_i_i_i_2);
-    v_r26_i_i_i_i_i_i_i_i_i_i39_i_i_i_i_i_3 = get_u8(v_r24_i_i_i_i_i_i_i_i_i_i38_i_i_i_i_i_3);
-    put_u8(v_r20_i_i_i_i_i_i_i_i_i_i37_i_i_i_i_i_3, v_r26_i_i_i_i_i_i_i_i_i_i39_i_i_i_i_i_3);
-    v_r30_i_i_i_i_i_i_i_i_i_i40_i_i_i_i_i_3 = (u64)((u64)(v_r0_04_i_i_i_i_i_i_i_i_i_i36_i_i_i_i_i) + (u64)(4u));
+    v_r20_i_i_i_i_i_i_i_i_i_i148_i_i_i_i_i = v_r26_i_i_i_i128_i_i_i_i_i + (int64_t)(v_r0_04_i_i_i_i_i_i_i_i_i_i147_i_i_i_i_i);
+    v_r24_i_i_i_i_i_i_i_i_i_i149_i_i_i_i_i = v_r1_sroa_0_0_copyload_i_i_i123_i_i_i_i_i + (int64_t)(v_r0_04_i_i_i_i_i_i_i_i_i_i147_i_i_i_i_i);
+    v_r26_i_i_i_i_i_i_i_i_i_i150_i_i_i_i_i = get_u8(v_r24_i_i_i_i_i_i_i_i_i_i149_i_i_i_i_i);
+    put_u8(v_r20_i_i_i_i_i_i_i_i_i_i148_i_i_i_i_i, v_r26_i_i_i_i_i_i_i_i_i_i150_i_i_i_i_i);
+    v_r30_i_i_i_i_i_i_i_i_i_i151_i_i_i_i_i = (u64)((u64)(v_r0_04_i_i_i_i_i_i_i_i_i_i147_i_i_i_i_i) | (u64)(1u));
+    v_r20_i_i_i_i_i_i_i_i_i_i148_i_i_i_i_i_1 = v_r26_i_i_i_i128_i_i_i_i_i + (int64_t)(v_r30_i_i_i_i_i_i_i_i_i_i151_i_i_i_i_i);
+    v_r24_i_i_i_i_i_i_i_i_i_i149_i_i_i_i_i_1 = v_r1_sroa_0_0_copyload_i_i_i123_i_i_i_i_i + (int64_t)(v_r30_i_i_i_i_i_i_i_i_i_i151_i_i_i_i_i);
+    v_r26_i_i_i_i_i_i_i_i_i_i150_i_i_i_i_i_1 = get_u8(v_r24_i_i_i_i_i_i_i_i_i_i149_i_i_i_i_i_1);
+    put_u8(v_r20_i_i_i_i_i_i_i_i_i_i148_i_i_i_i_i_1, v_r26_i_i_i_i_i_i_i_i_i_i150_i_i_i_i_i_1);
+    v_r30_i_i_i_i_i_i_i_i_i_i151_i_i_i_i_i_1 = (u64)((u64)(v_r0_04_i_i_i_i_i_i_i_i_i_i147_i_i_i_i_i) | (u64)(2u));
+    v_r20_i_i_i_i_i_i_i_i_i_i148_i_i_i_i_i_2 = v_r26_i_i_i_i128_i_i_i_i_i + (int64_t)(v_r30_i_i_i_i_i_i_i_i_i_i151_i_i_i_i_i_1);
+    v_r24_i_i_i_i_i_i_i_i_i_i149_i_i_i_i_i_2 = v_r1_sroa_0_0_copyload_i_i_i123_i_i_i_i_i + (int64_t)(v_r30_i_i_i_i_i_i_i_i_i_i151_i_i_i_i_i_1);
+    v_r26_i_i_i_i_i_i_i_i_i_i150_i_i_i_i_i_2 = get_u8(v_r24_i_i_i_i_i_i_i_i_i_i149_i_i_i_i_i_2);
+    put_u8(v_r20_i_i_i_i_i_i_i_i_i_i148_i_i_i_i_i_2, v_r26_i_i_i_i_i_i_i_i_i_i150_i_i_i_i_i_2);
+    v_r30_i_i_i_i_i_i_i_i_i_i151_i_i_i_i_i_2 = (u64)((u64)(v_r0_04_i_i_i_i_i_i_i_i_i_i147_i_i_i_i_i) | (u64)(3u));
+    v_r20_i_i_i_i_i_i_i_i_i_i148_i_i_i_i_i_3 = v_r26_i_i_i_i128_i_i_i_i_i + (int64_t)(v_r30_i_i_i_i_i_i_i_i_i_i151_i_i_i_i_i_2);
+    v_r24_i_i_i_i_i_i_i_i_i_i149_i_i_i_i_i_3 = v_r1_sroa_0_0_copyload_i_i_i123_i_i_i_i_i + (int64_t)(v_r30_i_i_i_i_i_i_i_i_i_i151_i_i_i_i_i_2);
+    v_r26_i_i_i_i_i_i_i_i_i_i150_i_i_i_i_i_3 = get_u8(v_r24_i_i_i_i_i_i_i_i_i_i149_i_i_i_i_i_3);
+    put_u8(v_r20_i_i_i_i_i_i_i_i_i_i148_i_i_i_i_i_3, v_r26_i_i_i_i_i_i_i_i_i_i150_i_i_i_i_i_3);
+    v_r30_i_i_i_i_i_i_i_i_i_i151_i_i_i_i_i_3 = (u64)((u64)(v_r0_04_i_i_i_i_i_i_i_i_i_i147_i_i_i_i_i) + (u64)(4u));
     v_niter213_next_3 = (u64)((u64)(v_niter213) + (u64)(4u));
     v_niter213_ncmp_3 = v_niter213_next_3 == v_unroll_iter212;
-    if (v_niter213_ncmp_3) { goto L_der_core_back_writer_BackWriter_prepend_exit_i_i_i__16; } else { p_v_r0_04_i_i_i_i_i_i_i_i_i_i36_i_i_i_i_i = v_r30_i_i_i_i_i_i_i_i_i_i40_i_i_i_i_i_3; p_v_niter213 = v_niter213_next_3; goto L_join_7_i_i_i_i_i_i_i_i_i_i35_i_i_i_i_i; }
+    if (v_niter213_ncmp_3) { goto L_der_core_back_writer_BackWriter_prepend_exit_i_i_i__16; } else { p_v_r0_04_i_i_i_i_i_i_i_i_i_i147_i_i_i_i_i = v_r30_i_i_i_i_i_i_i_i_i_i151_i_i_i_i_i_3; p_v_niter213 = v_niter213_next_3; goto L_join_7_i_i_i_i_i_i_i_i_i_i146_i_i_i_i_i; }
 L_der_core_back_writer_BackWriter_prepend_exit_i_i_i__16:;
     v_lcmp_mod210_not = v_xtraiter208 == 0u;
-    if (v_lcmp_mod210_not) { goto L_der_core_back_writer_BackWriter_prepend_exit_i_i_i__15; } else { p_v_r0_04_i_i_i_i_i_i_i_i_i_i36_i_i_i_i_i_epil_init = v_r30_i_i_i_i_i_i_i_i_i_i40_i_i_i_i_i_3; goto L_join_7_i_i_i_i_i_i_i_i_i_i35_i_i_i_i_i_epil_prehea; }
-L_join_7_i_i_i_i_i_i_i_i_i_i35_i_i_i_i_i_epil_prehea:;
-    v_r0_04_i_i_i_i_i_i_i_i_i_i36_i_i_i_i_i_epil_init = p_v_r0_04_i_i_i_i_i_i_i_i_i_i36_i_i_i_i_i_epil_init;
-    { p_v_r0_04_i_i_i_i_i_i_i_i_i_i36_i_i_i_i_i_epil = v_r0_04_i_i_i_i_i_i_i_i_i_i36_i_i_i_i_i_epil_init; p_v_epil_iter209 = 0u; goto L_join_7_i_i_i_i_i_i_i_i_i_i35_i_i_i_i_i_epil; }
-L_join_7_i_i_i_i_i_i_i_i_i_i35_i_i_i_i_i_epil:;
-    v_r0_04_i_i_i_i_i_i_i_i_i_i36_i_i_i_i_i_epil = p_v_r0_04_i_i_i_i_i_i_i_i_i_i36_i_i_i_i_i_epil;
+    if (v_lcmp_mod210_not) { goto L_der_core_back_writer_BackWriter_prepend_exit_i_i_i__15; } else { p_v_r0_04_i_i_i_i_i_i_i_i_i_i147_i_i_i_i_i_epil_init = v_r30_i_i_i_i_i_i_i_i_i_i151_i_i_i_i_i_3; goto L_join_7_i_i_i_i_i_i_i_i_i_i146_i_i_i_i_i_epil_prehe; }
+L_join_7_i_i_i_i_i_i_i_i_i_i146_i_i_i_i_i_epil_prehe:;
+    v_r0_04_i_i_i_i_i_i_i_i_i_i147_i_i_i_i_i_epil_init = p_v_r0_04_i_i_i_i_i_i_i_i_i_i147_i_i_i_i_i_epil_init;
+    { p_v_r0_04_i_i_i_i_i_i_i_i_i_i147_i_i_i_i_i_epil = v_r0_04_i_i_i_i_i_i_i_i_i_i147_i_i_i_i_i_epil_init; p_v_epil_iter209 = 0u; goto L_join_7_i_i_i_i_i_i_i_i_i_i146_i_i_i_i_i_epil; }
+L_join_7_i_i_i_i_i_i_i_i_i_i146_i_i_i_i_i_epil:;
+    v_r0_04_i_i_i_i_i_i_i_i_i_i147_i_i_i_i_i_epil = p_v_r0_04_i_i_i_i_i_i_i_i_i_i147_i_i_i_i_i_epil;
     v_epil_iter209 = p_v_epil_iter209;
-    v_r20_i_i_i_i_i_i_i_i_i_i37_i_i_i_i_i_epil = v_r26_i_i_i_i17_i_i_i_i_i + (int64_t)(v_r0_04_i_i_i_i_i_i_i_i_i_i36_i_i_i_i_i_epil);
-    v_r24_i_i_i_i_i_i_i_i_i_i38_i_i_i_i_i_epil = v_r1_sroa_0_0_copyload_i_i_i12_i_i_i_i_i + (int64_t)(v_r0_04_i_i_i_i_i_i_i_i_i_i36_i_i_i_i_i_epil);
-    v_r26_i_i_i_i_i_i_i_i_i_i39_i_i_i_i_i_epil = get_u8(v_r24_i_i_i_i_i_i_i_i_i_i38_i_i_i_i_i_epil);
-    put_u8(v_r20_i_i_i_i_i_i_i_i_i_i37_i_i_i_i_i_epil, v_r26_i_i_i_i_i_i_i_i_i_i39_i_i_i_i_i_epil);
-    v_r30_i_i_i_i_i_i_i_i_i_i40_i_i_i_i_i_epil = (u64)((u64)(v_r0_04_i_i_i_i_i_i_i_i_i_i36_i_i_i_i_i_epil) + (u64)(1u));
+    v_r20_i_i_i_i_i_i_i_i_i_i148_i_i_i_i_i_epil = v_r26_i_i_i_i128_i_i_i_i_i + (int64_t)(v_r0_04_i_i_i_i_i_i_i_i_i_i147_i_i_i_i_i_epil);
+    v_r24_i_i_i_i_i_i_i_i_i_i149_i_i_i_i_i_epil = v_r1_sroa_0_0_copyload_i_i_i123_i_i_i_i_i + (int64_t)(v_r0_04_i_i_i_i_i_i_i_i_i_i147_i_i_i_i_i_epil);
+    v_r26_i_i_i_i_i_i_i_i_i_i150_i_i_i_i_i_epil = get_u8(v_r24_i_i_i_i_i_i_i_i_i_i149_i_i_i_i_i_epil);
+    put_u8(v_r20_i_i_i_i_i_i_i_i_i_i148_i_i_i_i_i_epil, v_r26_i_i_i_i_i_i_i_i_i_i150_i_i_i_i_i_epil);
+    v_r30_i_i_i_i_i_i_i_i_i_i151_i_i_i_i_i_epil = (u64)((u64)(v_r0_04_i_i_i_i_i_i_i_i_i_i147_i_i_i_i_i_epil) + (u64)(1u));
     v_epil_iter209_next = (u64)((u64)(v_epil_iter209) + (u64)(1u));
     v_epil_iter209_cmp_not = v_epil_iter209_next == v_xtraiter208;
-    if (v_epil_iter209_cmp_not) { goto L_der_core_back_writer_BackWriter_prepend_exit_i_i_i__15; } else { p_v_r0_04_i_i_i_i_i_i_i_i_i_i36_i_i_i_i_i_epil = v_r30_i_i_i_i_i_i_i_i_i_i40_i_i_i_i_i_epil; p_v_epil_iter209 = v_epil_iter209_next; goto L_join_7_i_i_i_i_i_i_i_i_i_i35_i_i_i_i_i_epil; }
+    if (v_epil_iter209_cmp_not) { goto L_der_core_back_writer_BackWriter_prepend_exit_i_i_i__15; } else { p_v_r0_04_i_i_i_i_i_i_i_i_i_i147_i_i_i_i_i_epil = v_r30_i_i_i_i_i_i_i_i_i_i151_i_i_i_i_i_epil; p_v_epil_iter209 = v_epil_iter209_next; goto L_join_7_i_i_i_i_i_i_i_i_i_i146_i_i_i_i_i_epil; }
 L_der_core_back_writer_BackWriter_prepend_exit_i_i_i__15:;
-    v_r15_not_i_i_i26_i_i_i_i_i = (u8)(v_r20_i315_i_i ^ ((u8)1 << 7)) > (u8)(255u ^ ((u8)1 << 7));
-    if (v_r15_not_i_i_i26_i_i_i_i_i) { p_v_r7_sroa_129_4_i_i_i = v_r17_i_i_i_i15_i_i_i_i_i; goto L_der_core_borrowed_BorrowedEncode_prepend_25cd36d81__6; } else { goto L_then_1_i_i_i27_i_i_i_i_i; }
-L_then_1_i_i_i27_i_i_i_i_i:;
-    v_r17_i3_i_i_i28_i_i_i_i_i = (u64)((u64)(v_r17_i_i_i_i15_i_i_i_i_i) + (u64)(18446744073709551615ull));
-    v_r26_i5_i_i_i30_i_i_i_i_i = (P)((uintptr_t)v_r14 + (u64)(v_r17_i3_i_i_i28_i_i_i_i_i));
-    put_u8(v_r26_i5_i_i_i30_i_i_i_i_i, 0u);
-    { p_v_r7_sroa_129_4_i_i_i = v_r17_i3_i_i_i28_i_i_i_i_i; goto L_der_core_borrowed_BorrowedEncode_prepend_25cd36d81__6; }
-L_der_core_borrowed_BorrowedEncode_prepend_25cd36d81__6:;
+    v_r15_not_i_i_i137_i_i_i_i_i = (u8)(v_r20_i315_i_i ^ ((u8)1 << 7)) > (u8)(255u ^ ((u8)1 << 7));
+    if (v_r15_not_i_i_i137_i_i_i_i_i) { p_v_r7_sroa_129_4_i_i_i = v_r17_i_i_i_i126_i_i_i_i_i; goto L_der_core_borrowed_BorrowedEncode_prepend_25cd36d81__7; } else { goto L_then_1_i_i_i138_i_i_i_i_i; }
+L_then_1_i_i_i138_i_i_i_i_i:;
+    v_r17_i3_i_i_i139_i_i_i_i_i = (u64)((u64)(v_r17_i_i_i_i126_i_i_i_i_i) + (u64)(18446744073709551615ull));
+    v_r26_i5_i_i_i141_i_i_i_i_i = (P)((uintptr_t)v_r14 + (u64)(v_r17_i3_i_i_i139_i_i_i_i_i));
+    put_u8(v_r26_i5_i_i_i141_i_i_i_i_i, 0u);
+    { p_v_r7_sroa_129_4_i_i_i = v_r17_i3_i_i_i139_i_i_i_i_i; goto L_der_core_borrowed_BorrowedEncode_prepend_25cd36d81__7; }
+L_der_core_borrowed_BorrowedEncode_prepend_25cd36d81__7:;
     v_r7_sroa_129_4_i_i_i = p_v_r7_sroa_129_4_i_i_i;
     v_58 = (u64)((u64)(v_r7_sroa_129_4_i_i_i) + (u64)(v_r3_i5_i_i_i));
     v_59 = (u64)((u64)(v_r7_sroa_129_18_i_i_i) - (u64)(v_58));
     v_60 = (u32)(v_59);
-    v_r2_i_i_i34_i_i_i_i_i = (u32)((u32)(v_r1_sroa_9_4_copyload_i_i_i_i) + (u32)(v_60));
-    v_r59_i324_i_i_i = v_r2_i_i_i34_i_i_i_i_i < 128u;
+    v_r2_i_i_i145_i_i_i_i_i = (u32)((u32)(v_r1_sroa_9_4_copyload_i_i_i_i) + (u32)(v_60));
+    v_r59_i324_i_i_i = v_r2_i_i_i145_i_i_i_i_i < 128u;
     if (v_r59_i324_i_i_i) { goto L_then_1_i385_i_i_i; } else { goto L_else_2_i325_i_i_i; }
 L_then_1_i385_i_i_i:;
-    v_r64_i386_i_i_i = (u16)(v_r2_i_i_i34_i_i_i_i_i);
+    v_r64_i386_i_i_i = (u16)(v_r2_i_i_i145_i_i_i_i_i);
     v_r17_i_i390_i_i_i = (u64)((u64)(v_r7_sroa_129_4_i_i_i) + (u64)(18446744073709551614ull));
     v_r26_i_i392_i_i_i = (P)((uintptr_t)v_r14 + (u64)(v_r17_i_i390_i_i_i));
     v_r8_i319_sroa_4_0_insert_shift_i_i_i = (u16)((u32)(v_r64_i386_i_i_i) << (u32)((8u & 31)));
@@ -36362,10 +36362,10 @@ L_then_1_i385_i_i_i:;
     put_u16(v_r26_i_i392_i_i_i, v_r8_i319_sroa_0_0_insert_insert_i_i_i);
     { p_v_r7_sroa_129_17_i_i_i = v_r17_i_i390_i_i_i; goto L_der_core_back_writer_BackWriter_prepend_header_exi__9; }
 L_else_2_i325_i_i_i:;
-    v_r75_i326_i_i_i = v_r2_i_i_i34_i_i_i_i_i < 256u;
+    v_r75_i326_i_i_i = v_r2_i_i_i145_i_i_i_i_i < 256u;
     if (v_r75_i326_i_i_i) { goto L_then_4_i376_i_i_i; } else { goto L_else_5_i327_i_i_i; }
 L_then_4_i376_i_i_i:;
-    v_r80_i377_i_i_i = (u8)(v_r2_i_i_i34_i_i_i_i_i);
+    v_r80_i377_i_i_i = (u8)(v_r2_i_i_i145_i_i_i_i_i);
     v_r17_i28_i382_i_i_i = (u64)((u64)(v_r7_sroa_129_4_i_i_i) + (u64)(18446744073709551613ull));
     v_r26_i30_i384_i_i_i = (P)((uintptr_t)v_r14 + (u64)(v_r17_i28_i382_i_i_i));
     put_u8(v_r26_i30_i384_i_i_i, 2u);
@@ -36375,24 +36375,24 @@ L_then_4_i376_i_i_i:;
     put_u8(v_r14_i320_sroa_5_0_r26_i30_i384_sroa_idx_i_i_i, v_r80_i377_i_i_i);
     { p_v_r7_sroa_129_17_i_i_i = v_r17_i28_i382_i_i_i; goto L_der_core_back_writer_BackWriter_prepend_header_exi__9; }
 L_else_5_i327_i_i_i:;
-    v_r92_i328_i_i_i = v_r2_i_i_i34_i_i_i_i_i < 65536u;
+    v_r92_i328_i_i_i = v_r2_i_i_i145_i_i_i_i_i < 65536u;
     if (v_r92_i328_i_i_i) { goto L_then_7_i364_i_i_i; } else { goto L_else_8_i329_i_i_i; }
 L_then_7_i364_i_i_i:;
     v_r17_i46_i372_i_i_i = (u64)((u64)(v_r7_sroa_129_4_i_i_i) + (u64)(18446744073709551612ull));
     v_r26_i48_i374_i_i_i = (P)((uintptr_t)v_r14 + (u64)(v_r17_i46_i372_i_i_i));
-    v_61 = (u32)((u32)(v_r2_i_i_i34_i_i_i_i_i) | (u32)(42074112u));
+    v_61 = (u32)((u32)(v_r2_i_i_i145_i_i_i_i_i) | (u32)(42074112u));
     v_r20_i321_sroa_0_0_insert_insert_i_i_i = __builtin_bswap32(v_61);
     put_u32(v_r26_i48_i374_i_i_i, v_r20_i321_sroa_0_0_insert_insert_i_i_i);
     { p_v_r7_sroa_129_17_i_i_i = v_r17_i46_i372_i_i_i; goto L_der_core_back_writer_BackWriter_prepend_header_exi__9; }
 L_else_8_i329_i_i_i:;
-    v_r117_i330_i_i_i = v_r2_i_i_i34_i_i_i_i_i < 16777216u;
+    v_r117_i330_i_i_i = v_r2_i_i_i145_i_i_i_i_i < 16777216u;
     if (v_r117_i330_i_i_i) { goto L_then_10_i349_i_i_i; } else { goto L_else_11_i331_i_i_i; }
 L_then_10_i349_i_i_i:;
-    v_r12223_i350_i_i_i = (u32)((u32)(v_r2_i_i_i34_i_i_i_i_i) >> (u32)((16u & 31)));
+    v_r12223_i350_i_i_i = (u32)((u32)(v_r2_i_i_i145_i_i_i_i_i) >> (u32)((16u & 31)));
     v_r124_i351_i_i_i = (u8)(v_r12223_i350_i_i_i);
-    v_r12624_i352_i_i_i = (u32)((u32)(v_r2_i_i_i34_i_i_i_i_i) >> (u32)((8u & 31)));
+    v_r12624_i352_i_i_i = (u32)((u32)(v_r2_i_i_i145_i_i_i_i_i) >> (u32)((8u & 31)));
     v_r130_i353_i_i_i = (u8)(v_r12624_i352_i_i_i);
-    v_r134_i354_i_i_i = (u8)(v_r2_i_i_i34_i_i_i_i_i);
+    v_r134_i354_i_i_i = (u8)(v_r2_i_i_i145_i_i_i_i_i);
     v_r17_i64_i361_i_i_i = (u64)((u64)(v_r7_sroa_129_4_i_i_i) + (u64)(18446744073709551611ull));
     v_r26_i66_i363_i_i_i = (P)((uintptr_t)v_r14 + (u64)(v_r17_i64_i361_i_i_i));
     put_u8(v_r26_i66_i363_i_i_i, 2u);
@@ -36406,13 +36406,13 @@ L_then_10_i349_i_i_i:;
     put_u8(v_r29_i322_sroa_7_0_r26_i66_i363_sroa_idx_i_i_i, v_r134_i354_i_i_i);
     { p_v_r7_sroa_129_17_i_i_i = v_r17_i64_i361_i_i_i; goto L_der_core_back_writer_BackWriter_prepend_header_exi__9; }
 L_else_11_i331_i_i_i:;
-    v_r15020_i332_i_i_i = (u32)((u32)(v_r2_i_i_i34_i_i_i_i_i) >> (u32)((24u & 31)));
+    v_r15020_i332_i_i_i = (u32)((u32)(v_r2_i_i_i145_i_i_i_i_i) >> (u32)((24u & 31)));
     v_r152_i333_i_i_i = (u8)(v_r15020_i332_i_i_i);
-    v_r15421_i334_i_i_i = (u32)((u32)(v_r2_i_i_i34_i_i_i_i_i) >> (u32)((16u & 31)));
+    v_r15421_i334_i_i_i = (u32)((u32)(v_r2_i_i_i145_i_i_i_i_i) >> (u32)((16u & 31)));
     v_r158_i335_i_i_i = (u8)(v_r15421_i334_i_i_i);
-    v_r16022_i336_i_i_i = (u32)((u32)(v_r2_i_i_i34_i_i_i_i_i) >> (u32)((8u & 31)));
+    v_r16022_i336_i_i_i = (u32)((u32)(v_r2_i_i_i145_i_i_i_i_i) >> (u32)((8u & 31)));
     v_r164_i337_i_i_i = (u8)(v_r16022_i336_i_i_i);
-    v_r168_i338_i_i_i = (u8)(v_r2_i_i_i34_i_i_i_i_i);
+    v_r168_i338_i_i_i = (u8)(v_r2_i_i_i145_i_i_i_i_i);
     v_r17_i82_i346_i_i_i = (u64)((u64)(v_r7_sroa_129_4_i_i_i) + (u64)(18446744073709551610ull));
     v_r26_i84_i348_i_i_i = (P)((uintptr_t)v_r14 + (u64)(v_r17_i82_i346_i_i_i));
     put_u8(v_r26_i84_i348_i_i_i, 2u);
@@ -36429,84 +36429,84 @@ L_else_11_i331_i_i_i:;
     { p_v_r7_sroa_129_17_i_i_i = v_r17_i82_i346_i_i_i; goto L_der_core_back_writer_BackWriter_prepend_header_exi__9; }
 L_der_core_back_writer_BackWriter_prepend_header_exi__9:;
     v_r7_sroa_129_17_i_i_i = p_v_r7_sroa_129_17_i_i_i;
-    v_r17_i_i_i_i48_i_i_i_i_i = (u64)((u64)(v_r7_sroa_129_17_i_i_i) - (u64)(v_r1_sroa_3_0_copyload_i_i_i47_i_i_i_i_i));
-    v_r26_i_i_i_i50_i_i_i_i_i = (P)((uintptr_t)v_r14 + (u64)(v_r17_i_i_i_i48_i_i_i_i_i));
-    v_r8_i_i_i_i_i_i_i_i_i_i51_i_i_i_i_i = (u64)((uintptr_t)v_r26_i_i_i_i50_i_i_i_i_i);
-    v_r9_i_i_i_i_i_i_i_i_i_i52_i_i_i_i_i = (u64)((uintptr_t)v_r1_sroa_0_0_copyload_i_i_i45_i_i_i_i_i);
-    v_r10_i_i_i_i_i_i_i_i_i_i53_i_i_i_i_i = (u64)((u64)(v_r8_i_i_i_i_i_i_i_i_i_i51_i_i_i_i_i) - (u64)(v_r9_i_i_i_i_i_i_i_i_i_i52_i_i_i_i_i));
-    v_r11_i_i_i_i_i_i_i_i_i_i54_i_i_i_i_i = v_r10_i_i_i_i_i_i_i_i_i_i53_i_i_i_i_i < v_r1_sroa_3_0_copyload_i_i_i47_i_i_i_i_i;
-    if (v_r11_i_i_i_i_i_i_i_i_i_i54_i_i_i_i_i) { goto L_join_7_i_i_i_i_i_i_i_i_i_i68_i_i_i_i_i_preheader; } else { goto L_apart_2_i_i_i_i_i_i_i_i_i_i55_i_i_i_i_i; }
-L_join_7_i_i_i_i_i_i_i_i_i_i68_i_i_i_i_i_preheader:;
-    v_xtraiter214 = (u64)((u64)(v_r1_sroa_3_0_copyload_i_i_i47_i_i_i_i_i) & (u64)(3u));
-    v_62 = v_r1_sroa_3_0_copyload_i_i_i47_i_i_i_i_i < 4u;
-    if (v_62) { p_v_r0_04_i_i_i_i_i_i_i_i_i_i69_i_i_i_i_i_epil_init = 0u; goto L_join_7_i_i_i_i_i_i_i_i_i_i68_i_i_i_i_i_epil_prehea; } else { goto L_join_7_i_i_i_i_i_i_i_i_i_i68_i_i_i_i_i_preheader_n; }
-L_join_7_i_i_i_i_i_i_i_i_i_i68_i_i_i_i_i_preheader_n:;
-    v_unroll_iter218 = (u64)((u64)(v_r1_sroa_3_0_copyload_i_i_i47_i_i_i_i_i) & (u64)(4294967292ull));
-    { p_v_r0_04_i_i_i_i_i_i_i_i_i_i69_i_i_i_i_i = 0u; p_v_niter219 = 0u; goto L_join_7_i_i_i_i_i_i_i_i_i_i68_i_i_i_i_i; }
-L_apart_2_i_i_i_i_i_i_i_i_i_i55_i_i_i_i_i:;
-    move(v_r26_i_i_i_i50_i_i_i_i_i, v_r1_sroa_0_0_copyload_i_i_i45_i_i_i_i_i, v_r1_sroa_3_0_copyload_i_i_i47_i_i_i_i_i);
+    v_r17_i_i_i_i159_i_i_i_i_i = (u64)((u64)(v_r7_sroa_129_17_i_i_i) - (u64)(v_r1_sroa_3_0_copyload_i_i_i158_i_i_i_i_i));
+    v_r26_i_i_i_i161_i_i_i_i_i = (P)((uintptr_t)v_r14 + (u64)(v_r17_i_i_i_i159_i_i_i_i_i));
+    v_r8_i_i_i_i_i_i_i_i_i_i162_i_i_i_i_i = (u64)((uintptr_t)v_r26_i_i_i_i161_i_i_i_i_i);
+    v_r9_i_i_i_i_i_i_i_i_i_i163_i_i_i_i_i = (u64)((uintptr_t)v_r1_sroa_0_0_copyload_i_i_i156_i_i_i_i_i);
+    v_r10_i_i_i_i_i_i_i_i_i_i164_i_i_i_i_i = (u64)((u64)(v_r8_i_i_i_i_i_i_i_i_i_i162_i_i_i_i_i) - (u64)(v_r9_i_i_i_i_i_i_i_i_i_i163_i_i_i_i_i));
+    v_r11_i_i_i_i_i_i_i_i_i_i165_i_i_i_i_i = v_r10_i_i_i_i_i_i_i_i_i_i164_i_i_i_i_i < v_r1_sroa_3_0_copyload_i_i_i158_i_i_i_i_i;
+    if (v_r11_i_i_i_i_i_i_i_i_i_i165_i_i_i_i_i) { goto L_join_7_i_i_i_i_i_i_i_i_i_i179_i_i_i_i_i_preheader; } else { goto L_apart_2_i_i_i_i_i_i_i_i_i_i166_i_i_i_i_i; }
+L_join_7_i_i_i_i_i_i_i_i_i_i179_i_i_i_i_i_preheader:;
+    v_xtraiter214 = (u64)((u64)(v_r1_sroa_3_0_copyload_i_i_i158_i_i_i_i_i) & (u64)(3u));
+    v_62 = v_r1_sroa_3_0_copyload_i_i_i158_i_i_i_i_i < 4u;
+    if (v_62) { p_v_r0_04_i_i_i_i_i_i_i_i_i_i180_i_i_i_i_i_epil_init = 0u; goto L_join_7_i_i_i_i_i_i_i_i_i_i179_i_i_i_i_i_epil_prehe; } else { goto L_join_7_i_i_i_i_i_i_i_i_i_i179_i_i_i_i_i_preheader_; }
+L_join_7_i_i_i_i_i_i_i_i_i_i179_i_i_i_i_i_preheader_:;
+    v_unroll_iter218 = (u64)((u64)(v_r1_sroa_3_0_copyload_i_i_i158_i_i_i_i_i) & (u64)(4294967292ull));
+    { p_v_r0_04_i_i_i_i_i_i_i_i_i_i180_i_i_i_i_i = 0u; p_v_niter219 = 0u; goto L_join_7_i_i_i_i_i_i_i_i_i_i179_i_i_i_i_i; }
+L_apart_2_i_i_i_i_i_i_i_i_i_i166_i_i_i_i_i:;
+    move(v_r26_i_i_i_i161_i_i_i_i_i, v_r1_sroa_0_0_copyload_i_i_i156_i_i_i_i_i, v_r1_sroa_3_0_copyload_i_i_i158_i_i_i_i_i);
     { goto L_der_core_back_writer_BackWriter_prepend_exit_i_i_i__17; }
-L_join_7_i_i_i_i_i_i_i_i_i_i68_i_i_i_i_i:;
-    v_r0_04_i_i_i_i_i_i_i_i_i_i69_i_i_i_i_i = p_v_r0_04_i_i_i_i_i_i_i_i_i_i69_i_i_i_i_i;
+L_join_7_i_i_i_i_i_i_i_i_i_i179_i_i_i_i_i:;
+    v_r0_04_i_i_i_i_i_i_i_i_i_i180_i_i_i_i_i = p_v_r0_04_i_i_i_i_i_i_i_i_i_i180_i_i_i_i_i;
     v_niter219 = p_v_niter219;
-    v_r20_i_i_i_i_i_i_i_i_i_i70_i_i_i_i_i = v_r26_i_i_i_i50_i_i_i_i_i + (int64_t)(v_r0_04_i_i_i_i_i_i_i_i_i_i69_i_i_i_i_i);
-    v_r24_i_i_i_i_i_i_i_i_i_i71_i_i_i_i_i = v_r1_sroa_0_0_copyload_i_i_i45_i_i_i_i_i + (int64_t)(v_r0_04_i_i_i_i_i_i_i_i_i_i69_i_i_i_i_i);
-    v_r26_i_i_i_i_i_i_i_i_i_i72_i_i_i_i_i = get_u8(v_r24_i_i_i_i_i_i_i_i_i_i71_i_i_i_i_i);
-    put_u8(v_r20_i_i_i_i_i_i_i_i_i_i70_i_i_i_i_i, v_r26_i_i_i_i_i_i_i_i_i_i72_i_i_i_i_i);
-    v_r30_i_i_i_i_i_i_i_i_i_i73_i_i_i_i_i = (u64)((u64)(v_r0_04_i_i_i_i_i_i_i_i_i_i69_i_i_i_i_i) | (u64)(1u));
-    v_r20_i_i_i_i_i_i_i_i_i_i70_i_i_i_i_i_1 = v_r26_i_i_i_i50_i_i_i_i_i + (int64_t)(v_r30_i_i_i_i_i_i_i_i_i_i73_i_i_i_i_i);
-    v_r24_i_i_i_i_i_i_i_i_i_i71_i_i_i_i_i_1 = v_r1_sroa_0_0_copyload_i_i_i45_i_i_i_i_i + (int64_t)(v_r30_i_i_i_i_i_i_i_i_i_i73_i_i_i_i_i);
-    v_r26_i_i_i_i_i_i_i_i_i_i72_i_i_i_i_i_1 = get_u8(v_r24_i_i_i_i_i_i_i_i_i_i71_i_i_i_i_i_1);
-    put_u8(v_r20_i_i_i_i_i_i_i_i_i_i70_i_i_i_i_i_1, v_r26_i_i_i_i_i_i_i_i_i_i72_i_i_i_i_i_1);
-    v_r30_i_i_i_i_i_i_i_i_i_i73_i_i_i_i_i_1 = (u64)((u64)(v_r0_04_i_i_i_i_i_i_i_i_i_i69_i_i_i_i_i) | (u64)(2u));
-    v_r20_i_i_i_i_i_i_i_i_i_i70_i_i_i_i_i_2 = v_r26_i_i_i_i50_i_i_i_i_i + (int64_t)(v_r30_i_i_i_i_i_i_i_i_i_i73_i_i_i_i_i_1);
-    v_r24_i_i_i_i_i_i_i_i_i_i71_i_i_i_i_i_2 = v_r1_sroa_0_0_copyload_i_i_i45_i_i_i_i_i + (int64_t)(v_r30_i_i_i_i_i_i_i_i_i_i73_i_i_i_i_i_1);
-    v_r26_i_i_i_i_i_i_i_i_i_i72_i_i_i_i_i_2 = get_u8(v_r24_i_i_i_i_i_i_i_i_i_i71_i_i_i_i_i_2);
-    put_u8(v_r20_i_i_i_i_i_i_i_i_i_i70_i_i_i_i_i_2, v_r26_i_i_i_i_i_i_i_i_i_i72_i_i_i_i_i_2);
-    v_r30_i_i_i_i_i_i_i_i_i_i73_i_i_i_i_i_2 = (u64)((u64)(v_r0_04_i_i_i_i_i_i_i_i_i_i69_i_i_i_i_i) | (u64)(3u));
-    v_r20_i_i_i_i_i_i_i_i_i_i70_i_i_i_i_i_3 = v_r26_i_i_i_i50_i_i_i_i_i + (int64_t)(v_r30_i_i_i_i_i_i_i_i_i_i73_i_i_i_i_i_2);
-    v_r24_i_i_i_i_i_i_i_i_i_i71_i_i_i_i_i_3 = v_r1_sroa_0_0_copyload_i_i_i45_i_i_i_i_i + (int64_t)(v_r30_i_i_i_i_i_i_i_i_i_i73_i_i_i_i_i_2);
-    v_r26_i_i_i_i_i_i_i_i_i_i72_i_i_i_i_i_3 = get_u8(v_r24_i_i_i_i_i_i_i_i_i_i71_i_i_i_i_i_3);
-    put_u8(v_r20_i_i_i_i_i_i_i_i_i_i70_i_i_i_i_i_3, v_r26_i_i_i_i_i_i_i_i_i_i72_i_i_i_i_i_3);
-    v_r30_i_i_i_i_i_i_i_i_i_i73_i_i_i_i_i_3 = (u64)((u64)(v_r0_04_i_i_i_i_i_i_i_i_i_i69_i_i_i_i_i) + (u64)(4u));
+    v_r20_i_i_i_i_i_i_i_i_i_i181_i_i_i_i_i = v_r26_i_i_i_i161_i_i_i_i_i + (int64_t)(v_r0_04_i_i_i_i_i_i_i_i_i_i180_i_i_i_i_i);
+    v_r24_i_i_i_i_i_i_i_i_i_i182_i_i_i_i_i = v_r1_sroa_0_0_copyload_i_i_i156_i_i_i_i_i + (int64_t)(v_r0_04_i_i_i_i_i_i_i_i_i_i180_i_i_i_i_i);
+    v_r26_i_i_i_i_i_i_i_i_i_i183_i_i_i_i_i = get_u8(v_r24_i_i_i_i_i_i_i_i_i_i182_i_i_i_i_i);
+    put_u8(v_r20_i_i_i_i_i_i_i_i_i_i181_i_i_i_i_i, v_r26_i_i_i_i_i_i_i_i_i_i183_i_i_i_i_i);
+    v_r30_i_i_i_i_i_i_i_i_i_i184_i_i_i_i_i = (u64)((u64)(v_r0_04_i_i_i_i_i_i_i_i_i_i180_i_i_i_i_i) | (u64)(1u));
+    v_r20_i_i_i_i_i_i_i_i_i_i181_i_i_i_i_i_1 = v_r26_i_i_i_i161_i_i_i_i_i + (int64_t)(v_r30_i_i_i_i_i_i_i_i_i_i184_i_i_i_i_i);
+    v_r24_i_i_i_i_i_i_i_i_i_i182_i_i_i_i_i_1 = v_r1_sroa_0_0_copyload_i_i_i156_i_i_i_i_i + (int64_t)(v_r30_i_i_i_i_i_i_i_i_i_i184_i_i_i_i_i);
+    v_r26_i_i_i_i_i_i_i_i_i_i183_i_i_i_i_i_1 = get_u8(v_r24_i_i_i_i_i_i_i_i_i_i182_i_i_i_i_i_1);
+    put_u8(v_r20_i_i_i_i_i_i_i_i_i_i181_i_i_i_i_i_1, v_r26_i_i_i_i_i_i_i_i_i_i183_i_i_i_i_i_1);
+    v_r30_i_i_i_i_i_i_i_i_i_i184_i_i_i_i_i_1 = (u64)((u64)(v_r0_04_i_i_i_i_i_i_i_i_i_i180_i_i_i_i_i) | (u64)(2u));
+    v_r20_i_i_i_i_i_i_i_i_i_i181_i_i_i_i_i_2 = v_r26_i_i_i_i161_i_i_i_i_i + (int64_t)(v_r30_i_i_i_i_i_i_i_i_i_i184_i_i_i_i_i_1);
+    v_r24_i_i_i_i_i_i_i_i_i_i182_i_i_i_i_i_2 = v_r1_sroa_0_0_copyload_i_i_i156_i_i_i_i_i + (int64_t)(v_r30_i_i_i_i_i_i_i_i_i_i184_i_i_i_i_i_1);
+    v_r26_i_i_i_i_i_i_i_i_i_i183_i_i_i_i_i_2 = get_u8(v_r24_i_i_i_i_i_i_i_i_i_i182_i_i_i_i_i_2);
+    put_u8(v_r20_i_i_i_i_i_i_i_i_i_i181_i_i_i_i_i_2, v_r26_i_i_i_i_i_i_i_i_i_i183_i_i_i_i_i_2);
+    v_r30_i_i_i_i_i_i_i_i_i_i184_i_i_i_i_i_2 = (u64)((u64)(v_r0_04_i_i_i_i_i_i_i_i_i_i180_i_i_i_i_i) | (u64)(3u));
+    v_r20_i_i_i_i_i_i_i_i_i_i181_i_i_i_i_i_3 = v_r26_i_i_i_i161_i_i_i_i_i + (int64_t)(v_r30_i_i_i_i_i_i_i_i_i_i184_i_i_i_i_i_2);
+    v_r24_i_i_i_i_i_i_i_i_i_i182_i_i_i_i_i_3 = v_r1_sroa_0_0_copyload_i_i_i156_i_i_i_i_i + (int64_t)(v_r30_i_i_i_i_i_i_i_i_i_i184_i_i_i_i_i_2);
+    v_r26_i_i_i_i_i_i_i_i_i_i183_i_i_i_i_i_3 = get_u8(v_r24_i_i_i_i_i_i_i_i_i_i182_i_i_i_i_i_3);
+    put_u8(v_r20_i_i_i_i_i_i_i_i_i_i181_i_i_i_i_i_3, v_r26_i_i_i_i_i_i_i_i_i_i183_i_i_i_i_i_3);
+    v_r30_i_i_i_i_i_i_i_i_i_i184_i_i_i_i_i_3 = (u64)((u64)(v_r0_04_i_i_i_i_i_i_i_i_i_i180_i_i_i_i_i) + (u64)(4u));
     v_niter219_next_3 = (u64)((u64)(v_niter219) + (u64)(4u));
     v_niter219_ncmp_3 = v_niter219_next_3 == v_unroll_iter218;
-    if (v_niter219_ncmp_3) { goto L_der_core_back_writer_BackWriter_prepend_exit_i_i_i__18; } else { p_v_r0_04_i_i_i_i_i_i_i_i_i_i69_i_i_i_i_i = v_r30_i_i_i_i_i_i_i_i_i_i73_i_i_i_i_i_3; p_v_niter219 = v_niter219_next_3; goto L_join_7_i_i_i_i_i_i_i_i_i_i68_i_i_i_i_i; }
+    if (v_niter219_ncmp_3) { goto L_der_core_back_writer_BackWriter_prepend_exit_i_i_i__18; } else { p_v_r0_04_i_i_i_i_i_i_i_i_i_i180_i_i_i_i_i = v_r30_i_i_i_i_i_i_i_i_i_i184_i_i_i_i_i_3; p_v_niter219 = v_niter219_next_3; goto L_join_7_i_i_i_i_i_i_i_i_i_i179_i_i_i_i_i; }
 L_der_core_back_writer_BackWriter_prepend_exit_i_i_i__18:;
     v_lcmp_mod216_not = v_xtraiter214 == 0u;
-    if (v_lcmp_mod216_not) { goto L_der_core_back_writer_BackWriter_prepend_exit_i_i_i__17; } else { p_v_r0_04_i_i_i_i_i_i_i_i_i_i69_i_i_i_i_i_epil_init = v_r30_i_i_i_i_i_i_i_i_i_i73_i_i_i_i_i_3; goto L_join_7_i_i_i_i_i_i_i_i_i_i68_i_i_i_i_i_epil_prehea; }
-L_join_7_i_i_i_i_i_i_i_i_i_i68_i_i_i_i_i_epil_prehea:;
-    v_r0_04_i_i_i_i_i_i_i_i_i_i69_i_i_i_i_i_epil_init = p_v_r0_04_i_i_i_i_i_i_i_i_i_i69_i_i_i_i_i_epil_init;
-    { p_v_r0_04_i_i_i_i_i_i_i_i_i_i69_i_i_i_i_i_epil = v_r0_04_i_i_i_i_i_i_i_i_i_i69_i_i_i_i_i_epil_init; p_v_epil_iter215 = 0u; goto L_join_7_i_i_i_i_i_i_i_i_i_i68_i_i_i_i_i_epil; }
-L_join_7_i_i_i_i_i_i_i_i_i_i68_i_i_i_i_i_epil:;
-    v_r0_04_i_i_i_i_i_i_i_i_i_i69_i_i_i_i_i_epil = p_v_r0_04_i_i_i_i_i_i_i_i_i_i69_i_i_i_i_i_epil;
+    if (v_lcmp_mod216_not) { goto L_der_core_back_writer_BackWriter_prepend_exit_i_i_i__17; } else { p_v_r0_04_i_i_i_i_i_i_i_i_i_i180_i_i_i_i_i_epil_init = v_r30_i_i_i_i_i_i_i_i_i_i184_i_i_i_i_i_3; goto L_join_7_i_i_i_i_i_i_i_i_i_i179_i_i_i_i_i_epil_prehe; }
+L_join_7_i_i_i_i_i_i_i_i_i_i179_i_i_i_i_i_epil_prehe:;
+    v_r0_04_i_i_i_i_i_i_i_i_i_i180_i_i_i_i_i_epil_init = p_v_r0_04_i_i_i_i_i_i_i_i_i_i180_i_i_i_i_i_epil_init;
+    { p_v_r0_04_i_i_i_i_i_i_i_i_i_i180_i_i_i_i_i_epil = v_r0_04_i_i_i_i_i_i_i_i_i_i180_i_i_i_i_i_epil_init; p_v_epil_iter215 = 0u; goto L_join_7_i_i_i_i_i_i_i_i_i_i179_i_i_i_i_i_epil; }
+L_join_7_i_i_i_i_i_i_i_i_i_i179_i_i_i_i_i_epil:;
+    v_r0_04_i_i_i_i_i_i_i_i_i_i180_i_i_i_i_i_epil = p_v_r0_04_i_i_i_i_i_i_i_i_i_i180_i_i_i_i_i_epil;
     v_epil_iter215 = p_v_epil_iter215;
-    v_r20_i_i_i_i_i_i_i_i_i_i70_i_i_i_i_i_epil = v_r26_i_i_i_i50_i_i_i_i_i + (int64_t)(v_r0_04_i_i_i_i_i_i_i_i_i_i69_i_i_i_i_i_epil);
-    v_r24_i_i_i_i_i_i_i_i_i_i71_i_i_i_i_i_epil = v_r1_sroa_0_0_copyload_i_i_i45_i_i_i_i_i + (int64_t)(v_r0_04_i_i_i_i_i_i_i_i_i_i69_i_i_i_i_i_epil);
-    v_r26_i_i_i_i_i_i_i_i_i_i72_i_i_i_i_i_epil = get_u8(v_r24_i_i_i_i_i_i_i_i_i_i71_i_i_i_i_i_epil);
-    put_u8(v_r20_i_i_i_i_i_i_i_i_i_i70_i_i_i_i_i_epil, v_r26_i_i_i_i_i_i_i_i_i_i72_i_i_i_i_i_epil);
-    v_r30_i_i_i_i_i_i_i_i_i_i73_i_i_i_i_i_epil = (u64)((u64)(v_r0_04_i_i_i_i_i_i_i_i_i_i69_i_i_i_i_i_epil) + (u64)(1u));
+    v_r20_i_i_i_i_i_i_i_i_i_i181_i_i_i_i_i_epil = v_r26_i_i_i_i161_i_i_i_i_i + (int64_t)(v_r0_04_i_i_i_i_i_i_i_i_i_i180_i_i_i_i_i_epil);
+    v_r24_i_i_i_i_i_i_i_i_i_i182_i_i_i_i_i_epil = v_r1_sroa_0_0_copyload_i_i_i156_i_i_i_i_i + (int64_t)(v_r0_04_i_i_i_i_i_i_i_i_i_i180_i_i_i_i_i_epil);
+    v_r26_i_i_i_i_i_i_i_i_i_i183_i_i_i_i_i_epil = get_u8(v_r24_i_i_i_i_i_i_i_i_i_i182_i_i_i_i_i_epil);
+    put_u8(v_r20_i_i_i_i_i_i_i_i_i_i181_i_i_i_i_i_epil, v_r26_i_i_i_i_i_i_i_i_i_i183_i_i_i_i_i_epil);
+    v_r30_i_i_i_i_i_i_i_i_i_i184_i_i_i_i_i_epil = (u64)((u64)(v_r0_04_i_i_i_i_i_i_i_i_i_i180_i_i_i_i_i_epil) + (u64)(1u));
     v_epil_iter215_next = (u64)((u64)(v_epil_iter215) + (u64)(1u));
     v_epil_iter215_cmp_not = v_epil_iter215_next == v_xtraiter214;
-    if (v_epil_iter215_cmp_not) { goto L_der_core_back_writer_BackWriter_prepend_exit_i_i_i__17; } else { p_v_r0_04_i_i_i_i_i_i_i_i_i_i69_i_i_i_i_i_epil = v_r30_i_i_i_i_i_i_i_i_i_i73_i_i_i_i_i_epil; p_v_epil_iter215 = v_epil_iter215_next; goto L_join_7_i_i_i_i_i_i_i_i_i_i68_i_i_i_i_i_epil; }
+    if (v_epil_iter215_cmp_not) { goto L_der_core_back_writer_BackWriter_prepend_exit_i_i_i__17; } else { p_v_r0_04_i_i_i_i_i_i_i_i_i_i180_i_i_i_i_i_epil = v_r30_i_i_i_i_i_i_i_i_i_i184_i_i_i_i_i_epil; p_v_epil_iter215 = v_epil_iter215_next; goto L_join_7_i_i_i_i_i_i_i_i_i_i179_i_i_i_i_i_epil; }
 L_der_core_back_writer_BackWriter_prepend_exit_i_i_i__17:;
-    v_r15_not_i_i_i59_i_i_i_i_i = (u8)(v_r20_i305_i_i ^ ((u8)1 << 7)) > (u8)(255u ^ ((u8)1 << 7));
-    if (v_r15_not_i_i_i59_i_i_i_i_i) { p_v_r7_sroa_129_5_i_i_i = v_r17_i_i_i_i48_i_i_i_i_i; goto L_der_core_borrowed_BorrowedEncode_prepend_25cd36d81__7; } else { goto L_then_1_i_i_i60_i_i_i_i_i; }
-L_then_1_i_i_i60_i_i_i_i_i:;
-    v_r17_i3_i_i_i61_i_i_i_i_i = (u64)((u64)(v_r17_i_i_i_i48_i_i_i_i_i) + (u64)(18446744073709551615ull));
-    v_r26_i5_i_i_i63_i_i_i_i_i = (P)((uintptr_t)v_r14 + (u64)(v_r17_i3_i_i_i61_i_i_i_i_i));
-    put_u8(v_r26_i5_i_i_i63_i_i_i_i_i, 0u);
-    { p_v_r7_sroa_129_5_i_i_i = v_r17_i3_i_i_i61_i_i_i_i_i; goto L_der_core_borrowed_BorrowedEncode_prepend_25cd36d81__7; }
-L_der_core_borrowed_BorrowedEncode_prepend_25cd36d81__7:;
+    v_r15_not_i_i_i170_i_i_i_i_i = (u8)(v_r20_i305_i_i ^ ((u8)1 << 7)) > (u8)(255u ^ ((u8)1 << 7));
+    if (v_r15_not_i_i_i170_i_i_i_i_i) { p_v_r7_sroa_129_5_i_i_i = v_r17_i_i_i_i159_i_i_i_i_i; goto L_der_core_borrowed_BorrowedEncode_prepend_25cd36d81__8; } else { goto L_then_1_i_i_i171_i_i_i_i_i; }
+L_then_1_i_i_i171_i_i_i_i_i:;
+    v_r17_i3_i_i_i172_i_i_i_i_i = (u64)((u64)(v_r17_i_i_i_i159_i_i_i_i_i) + (u64)(18446744073709551615ull));
+    v_r26_i5_i_i_i174_i_i_i_i_i = (P)((uintptr_t)v_r14 + (u64)(v_r17_i3_i_i_i172_i_i_i_i_i));
+    put_u8(v_r26_i5_i_i_i174_i_i_i_i_i, 0u);
+    { p_v_r7_sroa_129_5_i_i_i = v_r17_i3_i_i_i172_i_i_i_i_i; goto L_der_core_borrowed_BorrowedEncode_prepend_25cd36d81__8; }
+L_der_core_borrowed_BorrowedEncode_prepend_25cd36d81__8:;
     v_r7_sroa_129_5_i_i_i = p_v_r7_sroa_129_5_i_i_i;
     v_63 = (u64)((u64)(v_r7_sroa_129_5_i_i_i) + (u64)(v_r3_i5_i_i_i));
     v_64 = (u64)((u64)(v_r7_sroa_129_17_i_i_i) - (u64)(v_63));
     v_65 = (u32)(v_64);
-    v_r2_i_i_i67_i_i_i_i_i = (u32)((u32)(v_r1_sroa_9_4_copyload_i_i_i_i) + (u32)(v_65));
-    v_r59_i248_i_i_i = v_r2_i_i_i67_i_i_i_i_i < 128u;
+    v_r2_i_i_i178_i_i_i_i_i = (u32)((u32)(v_r1_sroa_9_4_copyload_i_i_i_i) + (u32)(v_65));
+    v_r59_i248_i_i_i = v_r2_i_i_i178_i_i_i_i_i < 128u;
     if (v_r59_i248_i_i_i) { goto L_then_1_i309_i_i_i; } else { goto L_else_2_i249_i_i_i; }
 L_then_1_i309_i_i_i:;
-    v_r64_i310_i_i_i = (u16)(v_r2_i_i_i67_i_i_i_i_i);
+    v_r64_i310_i_i_i = (u16)(v_r2_i_i_i178_i_i_i_i_i);
     v_r17_i_i314_i_i_i = (u64)((u64)(v_r7_sroa_129_5_i_i_i) + (u64)(18446744073709551614ull));
     v_r26_i_i316_i_i_i = (P)((uintptr_t)v_r14 + (u64)(v_r17_i_i314_i_i_i));
     v_r8_i243_sroa_4_0_insert_shift_i_i_i = (u16)((u32)(v_r64_i310_i_i_i) << (u32)((8u & 31)));
@@ -36514,10 +36514,10 @@ L_then_1_i309_i_i_i:;
     put_u16(v_r26_i_i316_i_i_i, v_r8_i243_sroa_0_0_insert_insert_i_i_i);
     { p_v_r7_sroa_129_16_i_i_i = v_r17_i_i314_i_i_i; goto L_der_core_back_writer_BackWriter_prepend_header_exi__10; }
 L_else_2_i249_i_i_i:;
-    v_r75_i250_i_i_i = v_r2_i_i_i67_i_i_i_i_i < 256u;
+    v_r75_i250_i_i_i = v_r2_i_i_i178_i_i_i_i_i < 256u;
     if (v_r75_i250_i_i_i) { goto L_then_4_i300_i_i_i; } else { goto L_else_5_i251_i_i_i; }
 L_then_4_i300_i_i_i:;
-    v_r80_i301_i_i_i = (u8)(v_r2_i_i_i67_i_i_i_i_i);
+    v_r80_i301_i_i_i = (u8)(v_r2_i_i_i178_i_i_i_i_i);
     v_r17_i28_i306_i_i_i = (u64)((u64)(v_r7_sroa_129_5_i_i_i) + (u64)(18446744073709551613ull));
     v_r26_i30_i308_i_i_i = (P)((uintptr_t)v_r14 + (u64)(v_r17_i28_i306_i_i_i));
     put_u8(v_r26_i30_i308_i_i_i, 2u);
@@ -36527,24 +36527,24 @@ L_then_4_i300_i_i_i:;
     put_u8(v_r14_i244_sroa_5_0_r26_i30_i308_sroa_idx_i_i_i, v_r80_i301_i_i_i);
     { p_v_r7_sroa_129_16_i_i_i = v_r17_i28_i306_i_i_i; goto L_der_core_back_writer_BackWriter_prepend_header_exi__10; }
 L_else_5_i251_i_i_i:;
-    v_r92_i252_i_i_i = v_r2_i_i_i67_i_i_i_i_i < 65536u;
+    v_r92_i252_i_i_i = v_r2_i_i_i178_i_i_i_i_i < 65536u;
     if (v_r92_i252_i_i_i) { goto L_then_7_i288_i_i_i; } else { goto L_else_8_i253_i_i_i; }
 L_then_7_i288_i_i_i:;
     v_r17_i46_i296_i_i_i = (u64)((u64)(v_r7_sroa_129_5_i_i_i) + (u64)(18446744073709551612ull));
     v_r26_i48_i298_i_i_i = (P)((uintptr_t)v_r14 + (u64)(v_r17_i46_i296_i_i_i));
-    v_66 = (u32)((u32)(v_r2_i_i_i67_i_i_i_i_i) | (u32)(42074112u));
+    v_66 = (u32)((u32)(v_r2_i_i_i178_i_i_i_i_i) | (u32)(42074112u));
     v_r20_i245_sroa_0_0_insert_insert_i_i_i = __builtin_bswap32(v_66);
     put_u32(v_r26_i48_i298_i_i_i, v_r20_i245_sroa_0_0_insert_insert_i_i_i);
     { p_v_r7_sroa_129_16_i_i_i = v_r17_i46_i296_i_i_i; goto L_der_core_back_writer_BackWriter_prepend_header_exi__10; }
 L_else_8_i253_i_i_i:;
-    v_r117_i254_i_i_i = v_r2_i_i_i67_i_i_i_i_i < 16777216u;
+    v_r117_i254_i_i_i = v_r2_i_i_i178_i_i_i_i_i < 16777216u;
     if (v_r117_i254_i_i_i) { goto L_then_10_i273_i_i_i; } else { goto L_else_11_i255_i_i_i; }
 L_then_10_i273_i_i_i:;
-    v_r12223_i274_i_i_i = (u32)((u32)(v_r2_i_i_i67_i_i_i_i_i) >> (u32)((16u & 31)));
+    v_r12223_i274_i_i_i = (u32)((u32)(v_r2_i_i_i178_i_i_i_i_i) >> (u32)((16u & 31)));
     v_r124_i275_i_i_i = (u8)(v_r12223_i274_i_i_i);
-    v_r12624_i276_i_i_i = (u32)((u32)(v_r2_i_i_i67_i_i_i_i_i) >> (u32)((8u & 31)));
+    v_r12624_i276_i_i_i = (u32)((u32)(v_r2_i_i_i178_i_i_i_i_i) >> (u32)((8u & 31)));
     v_r130_i277_i_i_i = (u8)(v_r12624_i276_i_i_i);
-    v_r134_i278_i_i_i = (u8)(v_r2_i_i_i67_i_i_i_i_i);
+    v_r134_i278_i_i_i = (u8)(v_r2_i_i_i178_i_i_i_i_i);
     v_r17_i64_i285_i_i_i = (u64)((u64)(v_r7_sroa_129_5_i_i_i) + (u64)(18446744073709551611ull));
     v_r26_i66_i287_i_i_i = (P)((uintptr_t)v_r14 + (u64)(v_r17_i64_i285_i_i_i));
     put_u8(v_r26_i66_i287_i_i_i, 2u);
@@ -36558,13 +36558,13 @@ L_then_10_i273_i_i_i:;
     put_u8(v_r29_i246_sroa_7_0_r26_i66_i287_sroa_idx_i_i_i, v_r134_i278_i_i_i);
     { p_v_r7_sroa_129_16_i_i_i = v_r17_i64_i285_i_i_i; goto L_der_core_back_writer_BackWriter_prepend_header_exi__10; }
 L_else_11_i255_i_i_i:;
-    v_r15020_i256_i_i_i = (u32)((u32)(v_r2_i_i_i67_i_i_i_i_i) >> (u32)((24u & 31)));
+    v_r15020_i256_i_i_i = (u32)((u32)(v_r2_i_i_i178_i_i_i_i_i) >> (u32)((24u & 31)));
     v_r152_i257_i_i_i = (u8)(v_r15020_i256_i_i_i);
-    v_r15421_i258_i_i_i = (u32)((u32)(v_r2_i_i_i67_i_i_i_i_i) >> (u32)((16u & 31)));
+    v_r15421_i258_i_i_i = (u32)((u32)(v_r2_i_i_i178_i_i_i_i_i) >> (u32)((16u & 31)));
     v_r158_i259_i_i_i = (u8)(v_r15421_i258_i_i_i);
-    v_r16022_i260_i_i_i = (u32)((u32)(v_r2_i_i_i67_i_i_i_i_i) >> (u32)((8u & 31)));
+    v_r16022_i260_i_i_i = (u32)((u32)(v_r2_i_i_i178_i_i_i_i_i) >> (u32)((8u & 31)));
     v_r164_i261_i_i_i = (u8)(v_r16022_i260_i_i_i);
-    v_r168_i262_i_i_i = (u8)(v_r2_i_i_i67_i_i_i_i_i);
+    v_r168_i262_i_i_i = (u8)(v_r2_i_i_i178_i_i_i_i_i);
     v_r17_i82_i270_i_i_i = (u64)((u64)(v_r7_sroa_129_5_i_i_i) + (u64)(18446744073709551610ull));
     v_r26_i84_i272_i_i_i = (P)((uintptr_t)v_r14 + (u64)(v_r17_i82_i270_i_i_i));
     put_u8(v_r26_i84_i272_i_i_i, 2u);
@@ -36581,84 +36581,84 @@ L_else_11_i255_i_i_i:;
     { p_v_r7_sroa_129_16_i_i_i = v_r17_i82_i270_i_i_i; goto L_der_core_back_writer_BackWriter_prepend_header_exi__10; }
 L_der_core_back_writer_BackWriter_prepend_header_exi__10:;
     v_r7_sroa_129_16_i_i_i = p_v_r7_sroa_129_16_i_i_i;
-    v_r17_i_i_i_i81_i_i_i_i_i = (u64)((u64)(v_r7_sroa_129_16_i_i_i) - (u64)(v_r1_sroa_3_0_copyload_i_i_i80_i_i_i_i_i));
-    v_r26_i_i_i_i83_i_i_i_i_i = (P)((uintptr_t)v_r14 + (u64)(v_r17_i_i_i_i81_i_i_i_i_i));
-    v_r8_i_i_i_i_i_i_i_i_i_i84_i_i_i_i_i = (u64)((uintptr_t)v_r26_i_i_i_i83_i_i_i_i_i);
-    v_r9_i_i_i_i_i_i_i_i_i_i85_i_i_i_i_i = (u64)((uintptr_t)v_r1_sroa_0_0_copyload_i_i_i78_i_i_i_i_i);
-    v_r10_i_i_i_i_i_i_i_i_i_i86_i_i_i_i_i = (u64)((u64)(v_r8_i_i_i_i_i_i_i_i_i_i84_i_i_i_i_i) - (u64)(v_r9_i_i_i_i_i_i_i_i_i_i85_i_i_i_i_i));
-    v_r11_i_i_i_i_i_i_i_i_i_i87_i_i_i_i_i = v_r10_i_i_i_i_i_i_i_i_i_i86_i_i_i_i_i < v_r1_sroa_3_0_copyload_i_i_i80_i_i_i_i_i;
-    if (v_r11_i_i_i_i_i_i_i_i_i_i87_i_i_i_i_i) { goto L_join_7_i_i_i_i_i_i_i_i_i_i101_i_i_i_i_i_preheader; } else { goto L_apart_2_i_i_i_i_i_i_i_i_i_i88_i_i_i_i_i; }
-L_join_7_i_i_i_i_i_i_i_i_i_i101_i_i_i_i_i_preheader:;
-    v_xtraiter220 = (u64)((u64)(v_r1_sroa_3_0_copyload_i_i_i80_i_i_i_i_i) & (u64)(3u));
-    v_67 = v_r1_sroa_3_0_copyload_i_i_i80_i_i_i_i_i < 4u;
-    if (v_67) { p_v_r0_04_i_i_i_i_i_i_i_i_i_i102_i_i_i_i_i_epil_init = 0u; goto L_join_7_i_i_i_i_i_i_i_i_i_i101_i_i_i_i_i_epil_prehe; } else { goto L_join_7_i_i_i_i_i_i_i_i_i_i101_i_i_i_i_i_preheader_; }
-L_join_7_i_i_i_i_i_i_i_i_i_i101_i_i_i_i_i_preheader_:;
-    v_unroll_iter224 = (u64)((u64)(v_r1_sroa_3_0_copyload_i_i_i80_i_i_i_i_i) & (u64)(4294967292ull));
-    { p_v_r0_04_i_i_i_i_i_i_i_i_i_i102_i_i_i_i_i = 0u; p_v_niter225 = 0u; goto L_join_7_i_i_i_i_i_i_i_i_i_i101_i_i_i_i_i; }
-L_apart_2_i_i_i_i_i_i_i_i_i_i88_i_i_i_i_i:;
-    move(v_r26_i_i_i_i83_i_i_i_i_i, v_r1_sroa_0_0_copyload_i_i_i78_i_i_i_i_i, v_r1_sroa_3_0_copyload_i_i_i80_i_i_i_i_i);
+    v_r17_i_i_i_i192_i_i_i_i_i = (u64)((u64)(v_r7_sroa_129_16_i_i_i) - (u64)(v_r1_sroa_3_0_copyload_i_i_i191_i_i_i_i_i));
+    v_r26_i_i_i_i194_i_i_i_i_i = (P)((uintptr_t)v_r14 + (u64)(v_r17_i_i_i_i192_i_i_i_i_i));
+    v_r8_i_i_i_i_i_i_i_i_i_i195_i_i_i_i_i = (u64)((uintptr_t)v_r26_i_i_i_i194_i_i_i_i_i);
+    v_r9_i_i_i_i_i_i_i_i_i_i196_i_i_i_i_i = (u64)((uintptr_t)v_r1_sroa_0_0_copyload_i_i_i189_i_i_i_i_i);
+    v_r10_i_i_i_i_i_i_i_i_i_i197_i_i_i_i_i = (u64)((u64)(v_r8_i_i_i_i_i_i_i_i_i_i195_i_i_i_i_i) - (u64)(v_r9_i_i_i_i_i_i_i_i_i_i196_i_i_i_i_i));
+    v_r11_i_i_i_i_i_i_i_i_i_i198_i_i_i_i_i = v_r10_i_i_i_i_i_i_i_i_i_i197_i_i_i_i_i < v_r1_sroa_3_0_copyload_i_i_i191_i_i_i_i_i;
+    if (v_r11_i_i_i_i_i_i_i_i_i_i198_i_i_i_i_i) { goto L_join_7_i_i_i_i_i_i_i_i_i_i212_i_i_i_i_i_preheader; } else { goto L_apart_2_i_i_i_i_i_i_i_i_i_i199_i_i_i_i_i; }
+L_join_7_i_i_i_i_i_i_i_i_i_i212_i_i_i_i_i_preheader:;
+    v_xtraiter220 = (u64)((u64)(v_r1_sroa_3_0_copyload_i_i_i191_i_i_i_i_i) & (u64)(3u));
+    v_67 = v_r1_sroa_3_0_copyload_i_i_i191_i_i_i_i_i < 4u;
+    if (v_67) { p_v_r0_04_i_i_i_i_i_i_i_i_i_i213_i_i_i_i_i_epil_init = 0u; goto L_join_7_i_i_i_i_i_i_i_i_i_i212_i_i_i_i_i_epil_prehe; } else { goto L_join_7_i_i_i_i_i_i_i_i_i_i212_i_i_i_i_i_preheader_; }
+L_join_7_i_i_i_i_i_i_i_i_i_i212_i_i_i_i_i_preheader_:;
+    v_unroll_iter224 = (u64)((u64)(v_r1_sroa_3_0_copyload_i_i_i191_i_i_i_i_i) & (u64)(4294967292ull));
+    { p_v_r0_04_i_i_i_i_i_i_i_i_i_i213_i_i_i_i_i = 0u; p_v_niter225 = 0u; goto L_join_7_i_i_i_i_i_i_i_i_i_i212_i_i_i_i_i; }
+L_apart_2_i_i_i_i_i_i_i_i_i_i199_i_i_i_i_i:;
+    move(v_r26_i_i_i_i194_i_i_i_i_i, v_r1_sroa_0_0_copyload_i_i_i189_i_i_i_i_i, v_r1_sroa_3_0_copyload_i_i_i191_i_i_i_i_i);
     { goto L_der_core_back_writer_BackWriter_prepend_exit_i_i_i__19; }
-L_join_7_i_i_i_i_i_i_i_i_i_i101_i_i_i_i_i:;
-    v_r0_04_i_i_i_i_i_i_i_i_i_i102_i_i_i_i_i = p_v_r0_04_i_i_i_i_i_i_i_i_i_i102_i_i_i_i_i;
+L_join_7_i_i_i_i_i_i_i_i_i_i212_i_i_i_i_i:;
+    v_r0_04_i_i_i_i_i_i_i_i_i_i213_i_i_i_i_i = p_v_r0_04_i_i_i_i_i_i_i_i_i_i213_i_i_i_i_i;
     v_niter225 = p_v_niter225;
-    v_r20_i_i_i_i_i_i_i_i_i_i103_i_i_i_i_i = v_r26_i_i_i_i83_i_i_i_i_i + (int64_t)(v_r0_04_i_i_i_i_i_i_i_i_i_i102_i_i_i_i_i);
-    v_r24_i_i_i_i_i_i_i_i_i_i104_i_i_i_i_i = v_r1_sroa_0_0_copyload_i_i_i78_i_i_i_i_i + (int64_t)(v_r0_04_i_i_i_i_i_i_i_i_i_i102_i_i_i_i_i);
-    v_r26_i_i_i_i_i_i_i_i_i_i105_i_i_i_i_i = get_u8(v_r24_i_i_i_i_i_i_i_i_i_i104_i_i_i_i_i);
-    put_u8(v_r20_i_i_i_i_i_i_i_i_i_i103_i_i_i_i_i, v_r26_i_i_i_i_i_i_i_i_i_i105_i_i_i_i_i);
-    v_r30_i_i_i_i_i_i_i_i_i_i106_i_i_i_i_i = (u64)((u64)(v_r0_04_i_i_i_i_i_i_i_i_i_i102_i_i_i_i_i) | (u64)(1u));
-    v_r20_i_i_i_i_i_i_i_i_i_i103_i_i_i_i_i_1 = v_r26_i_i_i_i83_i_i_i_i_i + (int64_t)(v_r30_i_i_i_i_i_i_i_i_i_i106_i_i_i_i_i);
-    v_r24_i_i_i_i_i_i_i_i_i_i104_i_i_i_i_i_1 = v_r1_sroa_0_0_copyload_i_i_i78_i_i_i_i_i + (int64_t)(v_r30_i_i_i_i_i_i_i_i_i_i106_i_i_i_i_i);
-    v_r26_i_i_i_i_i_i_i_i_i_i105_i_i_i_i_i_1 = get_u8(v_r24_i_i_i_i_i_i_i_i_i_i104_i_i_i_i_i_1);
-    put_u8(v_r20_i_i_i_i_i_i_i_i_i_i103_i_i_i_i_i_1, v_r26_i_i_i_i_i_i_i_i_i_i105_i_i_i_i_i_1);
-    v_r30_i_i_i_i_i_i_i_i_i_i106_i_i_i_i_i_1 = (u64)((u64)(v_r0_04_i_i_i_i_i_i_i_i_i_i102_i_i_i_i_i) | (u64)(2u));
-    v_r20_i_i_i_i_i_i_i_i_i_i103_i_i_i_i_i_2 = v_r26_i_i_i_i83_i_i_i_i_i + (int64_t)(v_r30_i_i_i_i_i_i_i_i_i_i106_i_i_i_i_i_1);
-    v_r24_i_i_i_i_i_i_i_i_i_i104_i_i_i_i_i_2 = v_r1_sroa_0_0_copyload_i_i_i78_i_i_i_i_i + (int64_t)(v_r30_i_i_i_i_i_i_i_i_i_i106_i_i_i_i_i_1);
-    v_r26_i_i_i_i_i_i_i_i_i_i105_i_i_i_i_i_2 = get_u8(v_r24_i_i_i_i_i_i_i_i_i_i104_i_i_i_i_i_2);
-    put_u8(v_r20_i_i_i_i_i_i_i_i_i_i103_i_i_i_i_i_2, v_r26_i_i_i_i_i_i_i_i_i_i105_i_i_i_i_i_2);
-    v_r30_i_i_i_i_i_i_i_i_i_i106_i_i_i_i_i_2 = (u64)((u64)(v_r0_04_i_i_i_i_i_i_i_i_i_i102_i_i_i_i_i) | (u64)(3u));
-    v_r20_i_i_i_i_i_i_i_i_i_i103_i_i_i_i_i_3 = v_r26_i_i_i_i83_i_i_i_i_i + (int64_t)(v_r30_i_i_i_i_i_i_i_i_i_i106_i_i_i_i_i_2);
-    v_r24_i_i_i_i_i_i_i_i_i_i104_i_i_i_i_i_3 = v_r1_sroa_0_0_copyload_i_i_i78_i_i_i_i_i + (int64_t)(v_r30_i_i_i_i_i_i_i_i_i_i106_i_i_i_i_i_2);
-    v_r26_i_i_i_i_i_i_i_i_i_i105_i_i_i_i_i_3 = get_u8(v_r24_i_i_i_i_i_i_i_i_i_i104_i_i_i_i_i_3);
-    put_u8(v_r20_i_i_i_i_i_i_i_i_i_i103_i_i_i_i_i_3, v_r26_i_i_i_i_i_i_i_i_i_i105_i_i_i_i_i_3);
-    v_r30_i_i_i_i_i_i_i_i_i_i106_i_i_i_i_i_3 = (u64)((u64)(v_r0_04_i_i_i_i_i_i_i_i_i_i102_i_i_i_i_i) + (u64)(4u));
+    v_r20_i_i_i_i_i_i_i_i_i_i214_i_i_i_i_i = v_r26_i_i_i_i194_i_i_i_i_i + (int64_t)(v_r0_04_i_i_i_i_i_i_i_i_i_i213_i_i_i_i_i);
+    v_r24_i_i_i_i_i_i_i_i_i_i215_i_i_i_i_i = v_r1_sroa_0_0_copyload_i_i_i189_i_i_i_i_i + (int64_t)(v_r0_04_i_i_i_i_i_i_i_i_i_i213_i_i_i_i_i);
+    v_r26_i_i_i_i_i_i_i_i_i_i216_i_i_i_i_i = get_u8(v_r24_i_i_i_i_i_i_i_i_i_i215_i_i_i_i_i);
+    put_u8(v_r20_i_i_i_i_i_i_i_i_i_i214_i_i_i_i_i, v_r26_i_i_i_i_i_i_i_i_i_i216_i_i_i_i_i);
+    v_r30_i_i_i_i_i_i_i_i_i_i217_i_i_i_i_i = (u64)((u64)(v_r0_04_i_i_i_i_i_i_i_i_i_i213_i_i_i_i_i) | (u64)(1u));
+    v_r20_i_i_i_i_i_i_i_i_i_i214_i_i_i_i_i_1 = v_r26_i_i_i_i194_i_i_i_i_i + (int64_t)(v_r30_i_i_i_i_i_i_i_i_i_i217_i_i_i_i_i);
+    v_r24_i_i_i_i_i_i_i_i_i_i215_i_i_i_i_i_1 = v_r1_sroa_0_0_copyload_i_i_i189_i_i_i_i_i + (int64_t)(v_r30_i_i_i_i_i_i_i_i_i_i217_i_i_i_i_i);
+    v_r26_i_i_i_i_i_i_i_i_i_i216_i_i_i_i_i_1 = get_u8(v_r24_i_i_i_i_i_i_i_i_i_i215_i_i_i_i_i_1);
+    put_u8(v_r20_i_i_i_i_i_i_i_i_i_i214_i_i_i_i_i_1, v_r26_i_i_i_i_i_i_i_i_i_i216_i_i_i_i_i_1);
+    v_r30_i_i_i_i_i_i_i_i_i_i217_i_i_i_i_i_1 = (u64)((u64)(v_r0_04_i_i_i_i_i_i_i_i_i_i213_i_i_i_i_i) | (u64)(2u));
+    v_r20_i_i_i_i_i_i_i_i_i_i214_i_i_i_i_i_2 = v_r26_i_i_i_i194_i_i_i_i_i + (int64_t)(v_r30_i_i_i_i_i_i_i_i_i_i217_i_i_i_i_i_1);
+    v_r24_i_i_i_i_i_i_i_i_i_i215_i_i_i_i_i_2 = v_r1_sroa_0_0_copyload_i_i_i189_i_i_i_i_i + (int64_t)(v_r30_i_i_i_i_i_i_i_i_i_i217_i_i_i_i_i_1);
+    v_r26_i_i_i_i_i_i_i_i_i_i216_i_i_i_i_i_2 = get_u8(v_r24_i_i_i_i_i_i_i_i_i_i215_i_i_i_i_i_2);
+    put_u8(v_r20_i_i_i_i_i_i_i_i_i_i214_i_i_i_i_i_2, v_r26_i_i_i_i_i_i_i_i_i_i216_i_i_i_i_i_2);
+    v_r30_i_i_i_i_i_i_i_i_i_i217_i_i_i_i_i_2 = (u64)((u64)(v_r0_04_i_i_i_i_i_i_i_i_i_i213_i_i_i_i_i) | (u64)(3u));
+    v_r20_i_i_i_i_i_i_i_i_i_i214_i_i_i_i_i_3 = v_r26_i_i_i_i194_i_i_i_i_i + (int64_t)(v_r30_i_i_i_i_i_i_i_i_i_i217_i_i_i_i_i_2);
+    v_r24_i_i_i_i_i_i_i_i_i_i215_i_i_i_i_i_3 = v_r1_sroa_0_0_copyload_i_i_i189_i_i_i_i_i + (int64_t)(v_r30_i_i_i_i_i_i_i_i_i_i217_i_i_i_i_i_2);
+    v_r26_i_i_i_i_i_i_i_i_i_i216_i_i_i_i_i_3 = get_u8(v_r24_i_i_i_i_i_i_i_i_i_i215_i_i_i_i_i_3);
+    put_u8(v_r20_i_i_i_i_i_i_i_i_i_i214_i_i_i_i_i_3, v_r26_i_i_i_i_i_i_i_i_i_i216_i_i_i_i_i_3);
+    v_r30_i_i_i_i_i_i_i_i_i_i217_i_i_i_i_i_3 = (u64)((u64)(v_r0_04_i_i_i_i_i_i_i_i_i_i213_i_i_i_i_i) + (u64)(4u));
     v_niter225_next_3 = (u64)((u64)(v_niter225) + (u64)(4u));
     v_niter225_ncmp_3 = v_niter225_next_3 == v_unroll_iter224;
-    if (v_niter225_ncmp_3) { goto L_der_core_back_writer_BackWriter_prepend_exit_i_i_i__20; } else { p_v_r0_04_i_i_i_i_i_i_i_i_i_i102_i_i_i_i_i = v_r30_i_i_i_i_i_i_i_i_i_i106_i_i_i_i_i_3; p_v_niter225 = v_niter225_next_3; goto L_join_7_i_i_i_i_i_i_i_i_i_i101_i_i_i_i_i; }
+    if (v_niter225_ncmp_3) { goto L_der_core_back_writer_BackWriter_prepend_exit_i_i_i__20; } else { p_v_r0_04_i_i_i_i_i_i_i_i_i_i213_i_i_i_i_i = v_r30_i_i_i_i_i_i_i_i_i_i217_i_i_i_i_i_3; p_v_niter225 = v_niter225_next_3; goto L_join_7_i_i_i_i_i_i_i_i_i_i212_i_i_i_i_i; }
 L_der_core_back_writer_BackWriter_prepend_exit_i_i_i__20:;
     v_lcmp_mod222_not = v_xtraiter220 == 0u;
-    if (v_lcmp_mod222_not) { goto L_der_core_back_writer_BackWriter_prepend_exit_i_i_i__19; } else { p_v_r0_04_i_i_i_i_i_i_i_i_i_i102_i_i_i_i_i_epil_init = v_r30_i_i_i_i_i_i_i_i_i_i106_i_i_i_i_i_3; goto L_join_7_i_i_i_i_i_i_i_i_i_i101_i_i_i_i_i_epil_prehe; }
-L_join_7_i_i_i_i_i_i_i_i_i_i101_i_i_i_i_i_epil_prehe:;
-    v_r0_04_i_i_i_i_i_i_i_i_i_i102_i_i_i_i_i_epil_init = p_v_r0_04_i_i_i_i_i_i_i_i_i_i102_i_i_i_i_i_epil_init;
-    { p_v_r0_04_i_i_i_i_i_i_i_i_i_i102_i_i_i_i_i_epil = v_r0_04_i_i_i_i_i_i_i_i_i_i102_i_i_i_i_i_epil_init; p_v_epil_iter221 = 0u; goto L_join_7_i_i_i_i_i_i_i_i_i_i101_i_i_i_i_i_epil; }
-L_join_7_i_i_i_i_i_i_i_i_i_i101_i_i_i_i_i_epil:;
-    v_r0_04_i_i_i_i_i_i_i_i_i_i102_i_i_i_i_i_epil = p_v_r0_04_i_i_i_i_i_i_i_i_i_i102_i_i_i_i_i_epil;
+    if (v_lcmp_mod222_not) { goto L_der_core_back_writer_BackWriter_prepend_exit_i_i_i__19; } else { p_v_r0_04_i_i_i_i_i_i_i_i_i_i213_i_i_i_i_i_epil_init = v_r30_i_i_i_i_i_i_i_i_i_i217_i_i_i_i_i_3; goto L_join_7_i_i_i_i_i_i_i_i_i_i212_i_i_i_i_i_epil_prehe; }
+L_join_7_i_i_i_i_i_i_i_i_i_i212_i_i_i_i_i_epil_prehe:;
+    v_r0_04_i_i_i_i_i_i_i_i_i_i213_i_i_i_i_i_epil_init = p_v_r0_04_i_i_i_i_i_i_i_i_i_i213_i_i_i_i_i_epil_init;
+    { p_v_r0_04_i_i_i_i_i_i_i_i_i_i213_i_i_i_i_i_epil = v_r0_04_i_i_i_i_i_i_i_i_i_i213_i_i_i_i_i_epil_init; p_v_epil_iter221 = 0u; goto L_join_7_i_i_i_i_i_i_i_i_i_i212_i_i_i_i_i_epil; }
+L_join_7_i_i_i_i_i_i_i_i_i_i212_i_i_i_i_i_epil:;
+    v_r0_04_i_i_i_i_i_i_i_i_i_i213_i_i_i_i_i_epil = p_v_r0_04_i_i_i_i_i_i_i_i_i_i213_i_i_i_i_i_epil;
     v_epil_iter221 = p_v_epil_iter221;
-    v_r20_i_i_i_i_i_i_i_i_i_i103_i_i_i_i_i_epil = v_r26_i_i_i_i83_i_i_i_i_i + (int64_t)(v_r0_04_i_i_i_i_i_i_i_i_i_i102_i_i_i_i_i_epil);
-    v_r24_i_i_i_i_i_i_i_i_i_i104_i_i_i_i_i_epil = v_r1_sroa_0_0_copyload_i_i_i78_i_i_i_i_i + (int64_t)(v_r0_04_i_i_i_i_i_i_i_i_i_i102_i_i_i_i_i_epil);
-    v_r26_i_i_i_i_i_i_i_i_i_i105_i_i_i_i_i_epil = get_u8(v_r24_i_i_i_i_i_i_i_i_i_i104_i_i_i_i_i_epil);
-    put_u8(v_r20_i_i_i_i_i_i_i_i_i_i103_i_i_i_i_i_epil, v_r26_i_i_i_i_i_i_i_i_i_i105_i_i_i_i_i_epil);
-    v_r30_i_i_i_i_i_i_i_i_i_i106_i_i_i_i_i_epil = (u64)((u64)(v_r0_04_i_i_i_i_i_i_i_i_i_i102_i_i_i_i_i_epil) + (u64)(1u));
+    v_r20_i_i_i_i_i_i_i_i_i_i214_i_i_i_i_i_epil = v_r26_i_i_i_i194_i_i_i_i_i + (int64_t)(v_r0_04_i_i_i_i_i_i_i_i_i_i213_i_i_i_i_i_epil);
+    v_r24_i_i_i_i_i_i_i_i_i_i215_i_i_i_i_i_epil = v_r1_sroa_0_0_copyload_i_i_i189_i_i_i_i_i + (int64_t)(v_r0_04_i_i_i_i_i_i_i_i_i_i213_i_i_i_i_i_epil);
+    v_r26_i_i_i_i_i_i_i_i_i_i216_i_i_i_i_i_epil = get_u8(v_r24_i_i_i_i_i_i_i_i_i_i215_i_i_i_i_i_epil);
+    put_u8(v_r20_i_i_i_i_i_i_i_i_i_i214_i_i_i_i_i_epil, v_r26_i_i_i_i_i_i_i_i_i_i216_i_i_i_i_i_epil);
+    v_r30_i_i_i_i_i_i_i_i_i_i217_i_i_i_i_i_epil = (u64)((u64)(v_r0_04_i_i_i_i_i_i_i_i_i_i213_i_i_i_i_i_epil) + (u64)(1u));
     v_epil_iter221_next = (u64)((u64)(v_epil_iter221) + (u64)(1u));
     v_epil_iter221_cmp_not = v_epil_iter221_next == v_xtraiter220;
-    if (v_epil_iter221_cmp_not) { goto L_der_core_back_writer_BackWriter_prepend_exit_i_i_i__19; } else { p_v_r0_04_i_i_i_i_i_i_i_i_i_i102_i_i_i_i_i_epil = v_r30_i_i_i_i_i_i_i_i_i_i106_i_i_i_i_i_epil; p_v_epil_iter221 = v_epil_iter221_next; goto L_join_7_i_i_i_i_i_i_i_i_i_i101_i_i_i_i_i_epil; }
+    if (v_epil_iter221_cmp_not) { goto L_der_core_back_writer_BackWriter_prepend_exit_i_i_i__19; } else { p_v_r0_04_i_i_i_i_i_i_i_i_i_i213_i_i_i_i_i_epil = v_r30_i_i_i_i_i_i_i_i_i_i217_i_i_i_i_i_epil; p_v_epil_iter221 = v_epil_iter221_next; goto L_join_7_i_i_i_i_i_i_i_i_i_i212_i_i_i_i_i_epil; }
 L_der_core_back_writer_BackWriter_prepend_exit_i_i_i__19:;
-    v_r15_not_i_i_i92_i_i_i_i_i = (u8)(v_r20_i295_i_i ^ ((u8)1 << 7)) > (u8)(255u ^ ((u8)1 << 7));
-    if (v_r15_not_i_i_i92_i_i_i_i_i) { p_v_r7_sroa_129_6_i_i_i = v_r17_i_i_i_i81_i_i_i_i_i; goto L_der_core_borrowed_BorrowedEncode_prepend_25cd36d81__8; } else { goto L_then_1_i_i_i93_i_i_i_i_i; }
-L_then_1_i_i_i93_i_i_i_i_i:;
-    v_r17_i3_i_i_i94_i_i_i_i_i = (u64)((u64)(v_r17_i_i_i_i81_i_i_i_i_i) + (u64)(18446744073709551615ull));
-    v_r26_i5_i_i_i96_i_i_i_i_i = (P)((uintptr_t)v_r14 + (u64)(v_r17_i3_i_i_i94_i_i_i_i_i));
-    put_u8(v_r26_i5_i_i_i96_i_i_i_i_i, 0u);
-    { p_v_r7_sroa_129_6_i_i_i = v_r17_i3_i_i_i94_i_i_i_i_i; goto L_der_core_borrowed_BorrowedEncode_prepend_25cd36d81__8; }
-L_der_core_borrowed_BorrowedEncode_prepend_25cd36d81__8:;
+    v_r15_not_i_i_i203_i_i_i_i_i = (u8)(v_r20_i295_i_i ^ ((u8)1 << 7)) > (u8)(255u ^ ((u8)1 << 7));
+    if (v_r15_not_i_i_i203_i_i_i_i_i) { p_v_r7_sroa_129_6_i_i_i = v_r17_i_i_i_i192_i_i_i_i_i; goto L_der_core_borrowed_BorrowedEncode_prepend_25cd36d81__9; } else { goto L_then_1_i_i_i204_i_i_i_i_i; }
+L_then_1_i_i_i204_i_i_i_i_i:;
+    v_r17_i3_i_i_i205_i_i_i_i_i = (u64)((u64)(v_r17_i_i_i_i192_i_i_i_i_i) + (u64)(18446744073709551615ull));
+    v_r26_i5_i_i_i207_i_i_i_i_i = (P)((uintptr_t)v_r14 + (u64)(v_r17_i3_i_i_i205_i_i_i_i_i));
+    put_u8(v_r26_i5_i_i_i207_i_i_i_i_i, 0u);
+    { p_v_r7_sroa_129_6_i_i_i = v_r17_i3_i_i_i205_i_i_i_i_i; goto L_der_core_borrowed_BorrowedEncode_prepend_25cd36d81__9; }
+L_der_core_borrowed_BorrowedEncode_prepend_25cd36d81__9:;
     v_r7_sroa_129_6_i_i_i = p_v_r7_sroa_129_6_i_i_i;
     v_68 = (u64)((u64)(v_r7_sroa_129_6_i_i_i) + (u64)(v_r3_i5_i_i_i));
     v_69 = (u64)((u64)(v_r7_sroa_129_16_i_i_i) - (u64)(v_68));
     v_70 = (u32)(v_69);
-    v_r2_i_i_i100_i_i_i_i_i = (u32)((u32)(v_r1_sroa_9_4_copyload_i_i_i_i) + (u32)(v_70));
-    v_r59_i172_i_i_i = v_r2_i_i_i100_i_i_i_i_i < 128u;
+    v_r2_i_i_i211_i_i_i_i_i = (u32)((u32)(v_r1_sroa_9_4_copyload_i_i_i_i) + (u32)(v_70));
+    v_r59_i172_i_i_i = v_r2_i_i_i211_i_i_i_i_i < 128u;
     if (v_r59_i172_i_i_i) { goto L_then_1_i233_i_i_i; } else { goto L_else_2_i173_i_i_i; }
 L_then_1_i233_i_i_i:;
-    v_r64_i234_i_i_i = (u16)(v_r2_i_i_i100_i_i_i_i_i);
+    v_r64_i234_i_i_i = (u16)(v_r2_i_i_i211_i_i_i_i_i);
     v_r17_i_i238_i_i_i = (u64)((u64)(v_r7_sroa_129_6_i_i_i) + (u64)(18446744073709551614ull));
     v_r26_i_i240_i_i_i = (P)((uintptr_t)v_r14 + (u64)(v_r17_i_i238_i_i_i));
     v_r8_i167_sroa_4_0_insert_shift_i_i_i = (u16)((u32)(v_r64_i234_i_i_i) << (u32)((8u & 31)));
@@ -36666,10 +36666,10 @@ L_then_1_i233_i_i_i:;
     put_u16(v_r26_i_i240_i_i_i, v_r8_i167_sroa_0_0_insert_insert_i_i_i);
     { p_v_r7_sroa_129_15_i_i_i = v_r17_i_i238_i_i_i; goto L_der_core_back_writer_BackWriter_prepend_header_exi__11; }
 L_else_2_i173_i_i_i:;
-    v_r75_i174_i_i_i = v_r2_i_i_i100_i_i_i_i_i < 256u;
+    v_r75_i174_i_i_i = v_r2_i_i_i211_i_i_i_i_i < 256u;
     if (v_r75_i174_i_i_i) { goto L_then_4_i224_i_i_i; } else { goto L_else_5_i175_i_i_i; }
 L_then_4_i224_i_i_i:;
-    v_r80_i225_i_i_i = (u8)(v_r2_i_i_i100_i_i_i_i_i);
+    v_r80_i225_i_i_i = (u8)(v_r2_i_i_i211_i_i_i_i_i);
     v_r17_i28_i230_i_i_i = (u64)((u64)(v_r7_sroa_129_6_i_i_i) + (u64)(18446744073709551613ull));
     v_r26_i30_i232_i_i_i = (P)((uintptr_t)v_r14 + (u64)(v_r17_i28_i230_i_i_i));
     put_u8(v_r26_i30_i232_i_i_i, 2u);
@@ -36679,24 +36679,24 @@ L_then_4_i224_i_i_i:;
     put_u8(v_r14_i168_sroa_5_0_r26_i30_i232_sroa_idx_i_i_i, v_r80_i225_i_i_i);
     { p_v_r7_sroa_129_15_i_i_i = v_r17_i28_i230_i_i_i; goto L_der_core_back_writer_BackWriter_prepend_header_exi__11; }
 L_else_5_i175_i_i_i:;
-    v_r92_i176_i_i_i = v_r2_i_i_i100_i_i_i_i_i < 65536u;
+    v_r92_i176_i_i_i = v_r2_i_i_i211_i_i_i_i_i < 65536u;
     if (v_r92_i176_i_i_i) { goto L_then_7_i212_i_i_i; } else { goto L_else_8_i177_i_i_i; }
 L_then_7_i212_i_i_i:;
     v_r17_i46_i220_i_i_i = (u64)((u64)(v_r7_sroa_129_6_i_i_i) + (u64)(18446744073709551612ull));
     v_r26_i48_i222_i_i_i = (P)((uintptr_t)v_r14 + (u64)(v_r17_i46_i220_i_i_i));
-    v_71 = (u32)((u32)(v_r2_i_i_i100_i_i_i_i_i) | (u32)(42074112u));
+    v_71 = (u32)((u32)(v_r2_i_i_i211_i_i_i_i_i) | (u32)(42074112u));
     v_r20_i169_sroa_0_0_insert_insert_i_i_i = __builtin_bswap32(v_71);
     put_u32(v_r26_i48_i222_i_i_i, v_r20_i169_sroa_0_0_insert_insert_i_i_i);
     { p_v_r7_sroa_129_15_i_i_i = v_r17_i46_i220_i_i_i; goto L_der_core_back_writer_BackWriter_prepend_header_exi__11; }
 L_else_8_i177_i_i_i:;
-    v_r117_i178_i_i_i = v_r2_i_i_i100_i_i_i_i_i < 16777216u;
+    v_r117_i178_i_i_i = v_r2_i_i_i211_i_i_i_i_i < 16777216u;
     if (v_r117_i178_i_i_i) { goto L_then_10_i197_i_i_i; } else { goto L_else_11_i179_i_i_i; }
 L_then_10_i197_i_i_i:;
-    v_r12223_i198_i_i_i = (u32)((u32)(v_r2_i_i_i100_i_i_i_i_i) >> (u32)((16u & 31)));
+    v_r12223_i198_i_i_i = (u32)((u32)(v_r2_i_i_i211_i_i_i_i_i) >> (u32)((16u & 31)));
     v_r124_i199_i_i_i = (u8)(v_r12223_i198_i_i_i);
-    v_r12624_i200_i_i_i = (u32)((u32)(v_r2_i_i_i100_i_i_i_i_i) >> (u32)((8u & 31)));
+    v_r12624_i200_i_i_i = (u32)((u32)(v_r2_i_i_i211_i_i_i_i_i) >> (u32)((8u & 31)));
     v_r130_i201_i_i_i = (u8)(v_r12624_i200_i_i_i);
-    v_r134_i202_i_i_i = (u8)(v_r2_i_i_i100_i_i_i_i_i);
+    v_r134_i202_i_i_i = (u8)(v_r2_i_i_i211_i_i_i_i_i);
     v_r17_i64_i209_i_i_i = (u64)((u64)(v_r7_sroa_129_6_i_i_i) + (u64)(18446744073709551611ull));
     v_r26_i66_i211_i_i_i = (P)((uintptr_t)v_r14 + (u64)(v_r17_i64_i209_i_i_i));
     put_u8(v_r26_i66_i211_i_i_i, 2u);
@@ -36710,13 +36710,13 @@ L_then_10_i197_i_i_i:;
     put_u8(v_r29_i170_sroa_7_0_r26_i66_i211_sroa_idx_i_i_i, v_r134_i202_i_i_i);
     { p_v_r7_sroa_129_15_i_i_i = v_r17_i64_i209_i_i_i; goto L_der_core_back_writer_BackWriter_prepend_header_exi__11; }
 L_else_11_i179_i_i_i:;
-    v_r15020_i180_i_i_i = (u32)((u32)(v_r2_i_i_i100_i_i_i_i_i) >> (u32)((24u & 31)));
+    v_r15020_i180_i_i_i = (u32)((u32)(v_r2_i_i_i211_i_i_i_i_i) >> (u32)((24u & 31)));
     v_r152_i181_i_i_i = (u8)(v_r15020_i180_i_i_i);
-    v_r15421_i182_i_i_i = (u32)((u32)(v_r2_i_i_i100_i_i_i_i_i) >> (u32)((16u & 31)));
+    v_r15421_i182_i_i_i = (u32)((u32)(v_r2_i_i_i211_i_i_i_i_i) >> (u32)((16u & 31)));
     v_r158_i183_i_i_i = (u8)(v_r15421_i182_i_i_i);
-    v_r16022_i184_i_i_i = (u32)((u32)(v_r2_i_i_i100_i_i_i_i_i) >> (u32)((8u & 31)));
+    v_r16022_i184_i_i_i = (u32)((u32)(v_r2_i_i_i211_i_i_i_i_i) >> (u32)((8u & 31)));
     v_r164_i185_i_i_i = (u8)(v_r16022_i184_i_i_i);
-    v_r168_i186_i_i_i = (u8)(v_r2_i_i_i100_i_i_i_i_i);
+    v_r168_i186_i_i_i = (u8)(v_r2_i_i_i211_i_i_i_i_i);
     v_r17_i82_i194_i_i_i = (u64)((u64)(v_r7_sroa_129_6_i_i_i) + (u64)(18446744073709551610ull));
     v_r26_i84_i196_i_i_i = (P)((uintptr_t)v_r14 + (u64)(v_r17_i82_i194_i_i_i));
     put_u8(v_r26_i84_i196_i_i_i, 2u);
@@ -36733,84 +36733,84 @@ L_else_11_i179_i_i_i:;
     { p_v_r7_sroa_129_15_i_i_i = v_r17_i82_i194_i_i_i; goto L_der_core_back_writer_BackWriter_prepend_header_exi__11; }
 L_der_core_back_writer_BackWriter_prepend_header_exi__11:;
     v_r7_sroa_129_15_i_i_i = p_v_r7_sroa_129_15_i_i_i;
-    v_r17_i_i_i_i114_i_i_i_i_i = (u64)((u64)(v_r7_sroa_129_15_i_i_i) - (u64)(v_r1_sroa_3_0_copyload_i_i_i113_i_i_i_i_i));
-    v_r26_i_i_i_i116_i_i_i_i_i = (P)((uintptr_t)v_r14 + (u64)(v_r17_i_i_i_i114_i_i_i_i_i));
-    v_r8_i_i_i_i_i_i_i_i_i_i117_i_i_i_i_i = (u64)((uintptr_t)v_r26_i_i_i_i116_i_i_i_i_i);
-    v_r9_i_i_i_i_i_i_i_i_i_i118_i_i_i_i_i = (u64)((uintptr_t)v_r1_sroa_0_0_copyload_i_i_i111_i_i_i_i_i);
-    v_r10_i_i_i_i_i_i_i_i_i_i119_i_i_i_i_i = (u64)((u64)(v_r8_i_i_i_i_i_i_i_i_i_i117_i_i_i_i_i) - (u64)(v_r9_i_i_i_i_i_i_i_i_i_i118_i_i_i_i_i));
-    v_r11_i_i_i_i_i_i_i_i_i_i120_i_i_i_i_i = v_r10_i_i_i_i_i_i_i_i_i_i119_i_i_i_i_i < v_r1_sroa_3_0_copyload_i_i_i113_i_i_i_i_i;
-    if (v_r11_i_i_i_i_i_i_i_i_i_i120_i_i_i_i_i) { goto L_join_7_i_i_i_i_i_i_i_i_i_i134_i_i_i_i_i_preheader; } else { goto L_apart_2_i_i_i_i_i_i_i_i_i_i121_i_i_i_i_i; }
-L_join_7_i_i_i_i_i_i_i_i_i_i134_i_i_i_i_i_preheader:;
-    v_xtraiter226 = (u64)((u64)(v_r1_sroa_3_0_copyload_i_i_i113_i_i_i_i_i) & (u64)(3u));
-    v_72 = v_r1_sroa_3_0_copyload_i_i_i113_i_i_i_i_i < 4u;
-    if (v_72) { p_v_r0_04_i_i_i_i_i_i_i_i_i_i135_i_i_i_i_i_epil_init = 0u; goto L_join_7_i_i_i_i_i_i_i_i_i_i134_i_i_i_i_i_epil_prehe; } else { goto L_join_7_i_i_i_i_i_i_i_i_i_i134_i_i_i_i_i_preheader_; }
-L_join_7_i_i_i_i_i_i_i_i_i_i134_i_i_i_i_i_preheader_:;
-    v_unroll_iter230 = (u64)((u64)(v_r1_sroa_3_0_copyload_i_i_i113_i_i_i_i_i) & (u64)(4294967292ull));
-    { p_v_r0_04_i_i_i_i_i_i_i_i_i_i135_i_i_i_i_i = 0u; p_v_niter231 = 0u; goto L_join_7_i_i_i_i_i_i_i_i_i_i134_i_i_i_i_i; }
-L_apart_2_i_i_i_i_i_i_i_i_i_i121_i_i_i_i_i:;
-    move(v_r26_i_i_i_i116_i_i_i_i_i, v_r1_sroa_0_0_copyload_i_i_i111_i_i_i_i_i, v_r1_sroa_3_0_copyload_i_i_i113_i_i_i_i_i);
+    v_r17_i_i_i_i225_i_i_i_i_i = (u64)((u64)(v_r7_sroa_129_15_i_i_i) - (u64)(v_r1_sroa_3_0_copyload_i_i_i224_i_i_i_i_i));
+    v_r26_i_i_i_i227_i_i_i_i_i = (P)((uintptr_t)v_r14 + (u64)(v_r17_i_i_i_i225_i_i_i_i_i));
+    v_r8_i_i_i_i_i_i_i_i_i_i228_i_i_i_i_i = (u64)((uintptr_t)v_r26_i_i_i_i227_i_i_i_i_i);
+    v_r9_i_i_i_i_i_i_i_i_i_i229_i_i_i_i_i = (u64)((uintptr_t)v_r1_sroa_0_0_copyload_i_i_i222_i_i_i_i_i);
+    v_r10_i_i_i_i_i_i_i_i_i_i230_i_i_i_i_i = (u64)((u64)(v_r8_i_i_i_i_i_i_i_i_i_i228_i_i_i_i_i) - (u64)(v_r9_i_i_i_i_i_i_i_i_i_i229_i_i_i_i_i));
+    v_r11_i_i_i_i_i_i_i_i_i_i231_i_i_i_i_i = v_r10_i_i_i_i_i_i_i_i_i_i230_i_i_i_i_i < v_r1_sroa_3_0_copyload_i_i_i224_i_i_i_i_i;
+    if (v_r11_i_i_i_i_i_i_i_i_i_i231_i_i_i_i_i) { goto L_join_7_i_i_i_i_i_i_i_i_i_i245_i_i_i_i_i_preheader; } else { goto L_apart_2_i_i_i_i_i_i_i_i_i_i232_i_i_i_i_i; }
+L_join_7_i_i_i_i_i_i_i_i_i_i245_i_i_i_i_i_preheader:;
+    v_xtraiter226 = (u64)((u64)(v_r1_sroa_3_0_copyload_i_i_i224_i_i_i_i_i) & (u64)(3u));
+    v_72 = v_r1_sroa_3_0_copyload_i_i_i224_i_i_i_i_i < 4u;
+    if (v_72) { p_v_r0_04_i_i_i_i_i_i_i_i_i_i246_i_i_i_i_i_epil_init = 0u; goto L_join_7_i_i_i_i_i_i_i_i_i_i245_i_i_i_i_i_epil_prehe; } else { goto L_join_7_i_i_i_i_i_i_i_i_i_i245_i_i_i_i_i_preheader_; }
+L_join_7_i_i_i_i_i_i_i_i_i_i245_i_i_i_i_i_preheader_:;
+    v_unroll_iter230 = (u64)((u64)(v_r1_sroa_3_0_copyload_i_i_i224_i_i_i_i_i) & (u64)(4294967292ull));
+    { p_v_r0_04_i_i_i_i_i_i_i_i_i_i246_i_i_i_i_i = 0u; p_v_niter231 = 0u; goto L_join_7_i_i_i_i_i_i_i_i_i_i245_i_i_i_i_i; }
+L_apart_2_i_i_i_i_i_i_i_i_i_i232_i_i_i_i_i:;
+    move(v_r26_i_i_i_i227_i_i_i_i_i, v_r1_sroa_0_0_copyload_i_i_i222_i_i_i_i_i, v_r1_sroa_3_0_copyload_i_i_i224_i_i_i_i_i);
     { goto L_der_core_back_writer_BackWriter_prepend_exit_i_i_i__21; }
-L_join_7_i_i_i_i_i_i_i_i_i_i134_i_i_i_i_i:;
-    v_r0_04_i_i_i_i_i_i_i_i_i_i135_i_i_i_i_i = p_v_r0_04_i_i_i_i_i_i_i_i_i_i135_i_i_i_i_i;
+L_join_7_i_i_i_i_i_i_i_i_i_i245_i_i_i_i_i:;
+    v_r0_04_i_i_i_i_i_i_i_i_i_i246_i_i_i_i_i = p_v_r0_04_i_i_i_i_i_i_i_i_i_i246_i_i_i_i_i;
     v_niter231 = p_v_niter231;
-    v_r20_i_i_i_i_i_i_i_i_i_i136_i_i_i_i_i = v_r26_i_i_i_i116_i_i_i_i_i + (int64_t)(v_r0_04_i_i_i_i_i_i_i_i_i_i135_i_i_i_i_i);
-    v_r24_i_i_i_i_i_i_i_i_i_i137_i_i_i_i_i = v_r1_sroa_0_0_copyload_i_i_i111_i_i_i_i_i + (int64_t)(v_r0_04_i_i_i_i_i_i_i_i_i_i135_i_i_i_i_i);
-    v_r26_i_i_i_i_i_i_i_i_i_i138_i_i_i_i_i = get_u8(v_r24_i_i_i_i_i_i_i_i_i_i137_i_i_i_i_i);
-    put_u8(v_r20_i_i_i_i_i_i_i_i_i_i136_i_i_i_i_i, v_r26_i_i_i_i_i_i_i_i_i_i138_i_i_i_i_i);
-    v_r30_i_i_i_i_i_i_i_i_i_i139_i_i_i_i_i = (u64)((u64)(v_r0_04_i_i_i_i_i_i_i_i_i_i135_i_i_i_i_i) | (u64)(1u));
-    v_r20_i_i_i_i_i_i_i_i_i_i136_i_i_i_i_i_1 = v_r26_i_i_i_i116_i_i_i_i_i + (int64_t)(v_r30_i_i_i_i_i_i_i_i_i_i139_i_i_i_i_i);
-    v_r24_i_i_i_i_i_i_i_i_i_i137_i_i_i_i_i_1 = v_r1_sroa_0_0_copyload_i_i_i111_i_i_i_i_i + (int64_t)(v_r30_i_i_i_i_i_i_i_i_i_i139_i_i_i_i_i);
-    v_r26_i_i_i_i_i_i_i_i_i_i138_i_i_i_i_i_1 = get_u8(v_r24_i_i_i_i_i_i_i_i_i_i137_i_i_i_i_i_1);
-    put_u8(v_r20_i_i_i_i_i_i_i_i_i_i136_i_i_i_i_i_1, v_r26_i_i_i_i_i_i_i_i_i_i138_i_i_i_i_i_1);
-    v_r30_i_i_i_i_i_i_i_i_i_i139_i_i_i_i_i_1 = (u64)((u64)(v_r0_04_i_i_i_i_i_i_i_i_i_i135_i_i_i_i_i) | (u64)(2u));
-    v_r20_i_i_i_i_i_i_i_i_i_i136_i_i_i_i_i_2 = v_r26_i_i_i_i116_i_i_i_i_i + (int64_t)(v_r30_i_i_i_i_i_i_i_i_i_i139_i_i_i_i_i_1);
-    v_r24_i_i_i_i_i_i_i_i_i_i137_i_i_i_i_i_2 = v_r1_sroa_0_0_copyload_i_i_i111_i_i_i_i_i + (int64_t)(v_r30_i_i_i_i_i_i_i_i_i_i139_i_i_i_i_i_1);
-    v_r26_i_i_i_i_i_i_i_i_i_i138_i_i_i_i_i_2 = get_u8(v_r24_i_i_i_i_i_i_i_i_i_i137_i_i_i_i_i_2);
-    put_u8(v_r20_i_i_i_i_i_i_i_i_i_i136_i_i_i_i_i_2, v_r26_i_i_i_i_i_i_i_i_i_i138_i_i_i_i_i_2);
-    v_r30_i_i_i_i_i_i_i_i_i_i139_i_i_i_i_i_2 = (u64)((u64)(v_r0_04_i_i_i_i_i_i_i_i_i_i135_i_i_i_i_i) | (u64)(3u));
-    v_r20_i_i_i_i_i_i_i_i_i_i136_i_i_i_i_i_3 = v_r26_i_i_i_i116_i_i_i_i_i + (int64_t)(v_r30_i_i_i_i_i_i_i_i_i_i139_i_i_i_i_i_2);
-    v_r24_i_i_i_i_i_i_i_i_i_i137_i_i_i_i_i_3 = v_r1_sroa_0_0_copyload_i_i_i111_i_i_i_i_i + (int64_t)(v_r30_i_i_i_i_i_i_i_i_i_i139_i_i_i_i_i_2);
-    v_r26_i_i_i_i_i_i_i_i_i_i138_i_i_i_i_i_3 = get_u8(v_r24_i_i_i_i_i_i_i_i_i_i137_i_i_i_i_i_3);
-    put_u8(v_r20_i_i_i_i_i_i_i_i_i_i136_i_i_i_i_i_3, v_r26_i_i_i_i_i_i_i_i_i_i138_i_i_i_i_i_3);
-    v_r30_i_i_i_i_i_i_i_i_i_i139_i_i_i_i_i_3 = (u64)((u64)(v_r0_04_i_i_i_i_i_i_i_i_i_i135_i_i_i_i_i) + (u64)(4u));
+    v_r20_i_i_i_i_i_i_i_i_i_i247_i_i_i_i_i = v_r26_i_i_i_i227_i_i_i_i_i + (int64_t)(v_r0_04_i_i_i_i_i_i_i_i_i_i246_i_i_i_i_i);
+    v_r24_i_i_i_i_i_i_i_i_i_i248_i_i_i_i_i = v_r1_sroa_0_0_copyload_i_i_i222_i_i_i_i_i + (int64_t)(v_r0_04_i_i_i_i_i_i_i_i_i_i246_i_i_i_i_i);
+    v_r26_i_i_i_i_i_i_i_i_i_i249_i_i_i_i_i = get_u8(v_r24_i_i_i_i_i_i_i_i_i_i248_i_i_i_i_i);
+    put_u8(v_r20_i_i_i_i_i_i_i_i_i_i247_i_i_i_i_i, v_r26_i_i_i_i_i_i_i_i_i_i249_i_i_i_i_i);
+    v_r30_i_i_i_i_i_i_i_i_i_i250_i_i_i_i_i = (u64)((u64)(v_r0_04_i_i_i_i_i_i_i_i_i_i246_i_i_i_i_i) | (u64)(1u));
+    v_r20_i_i_i_i_i_i_i_i_i_i247_i_i_i_i_i_1 = v_r26_i_i_i_i227_i_i_i_i_i + (int64_t)(v_r30_i_i_i_i_i_i_i_i_i_i250_i_i_i_i_i);
+    v_r24_i_i_i_i_i_i_i_i_i_i248_i_i_i_i_i_1 = v_r1_sroa_0_0_copyload_i_i_i222_i_i_i_i_i + (int64_t)(v_r30_i_i_i_i_i_i_i_i_i_i250_i_i_i_i_i);
+    v_r26_i_i_i_i_i_i_i_i_i_i249_i_i_i_i_i_1 = get_u8(v_r24_i_i_i_i_i_i_i_i_i_i248_i_i_i_i_i_1);
+    put_u8(v_r20_i_i_i_i_i_i_i_i_i_i247_i_i_i_i_i_1, v_r26_i_i_i_i_i_i_i_i_i_i249_i_i_i_i_i_1);
+    v_r30_i_i_i_i_i_i_i_i_i_i250_i_i_i_i_i_1 = (u64)((u64)(v_r0_04_i_i_i_i_i_i_i_i_i_i246_i_i_i_i_i) | (u64)(2u));
+    v_r20_i_i_i_i_i_i_i_i_i_i247_i_i_i_i_i_2 = v_r26_i_i_i_i227_i_i_i_i_i + (int64_t)(v_r30_i_i_i_i_i_i_i_i_i_i250_i_i_i_i_i_1);
+    v_r24_i_i_i_i_i_i_i_i_i_i248_i_i_i_i_i_2 = v_r1_sroa_0_0_copyload_i_i_i222_i_i_i_i_i + (int64_t)(v_r30_i_i_i_i_i_i_i_i_i_i250_i_i_i_i_i_1);
+    v_r26_i_i_i_i_i_i_i_i_i_i249_i_i_i_i_i_2 = get_u8(v_r24_i_i_i_i_i_i_i_i_i_i248_i_i_i_i_i_2);
+    put_u8(v_r20_i_i_i_i_i_i_i_i_i_i247_i_i_i_i_i_2, v_r26_i_i_i_i_i_i_i_i_i_i249_i_i_i_i_i_2);
+    v_r30_i_i_i_i_i_i_i_i_i_i250_i_i_i_i_i_2 = (u64)((u64)(v_r0_04_i_i_i_i_i_i_i_i_i_i246_i_i_i_i_i) | (u64)(3u));
+    v_r20_i_i_i_i_i_i_i_i_i_i247_i_i_i_i_i_3 = v_r26_i_i_i_i227_i_i_i_i_i + (int64_t)(v_r30_i_i_i_i_i_i_i_i_i_i250_i_i_i_i_i_2);
+    v_r24_i_i_i_i_i_i_i_i_i_i248_i_i_i_i_i_3 = v_r1_sroa_0_0_copyload_i_i_i222_i_i_i_i_i + (int64_t)(v_r30_i_i_i_i_i_i_i_i_i_i250_i_i_i_i_i_2);
+    v_r26_i_i_i_i_i_i_i_i_i_i249_i_i_i_i_i_3 = get_u8(v_r24_i_i_i_i_i_i_i_i_i_i248_i_i_i_i_i_3);
+    put_u8(v_r20_i_i_i_i_i_i_i_i_i_i247_i_i_i_i_i_3, v_r26_i_i_i_i_i_i_i_i_i_i249_i_i_i_i_i_3);
+    v_r30_i_i_i_i_i_i_i_i_i_i250_i_i_i_i_i_3 = (u64)((u64)(v_r0_04_i_i_i_i_i_i_i_i_i_i246_i_i_i_i_i) + (u64)(4u));
     v_niter231_next_3 = (u64)((u64)(v_niter231) + (u64)(4u));
     v_niter231_ncmp_3 = v_niter231_next_3 == v_unroll_iter230;
-    if (v_niter231_ncmp_3) { goto L_der_core_back_writer_BackWriter_prepend_exit_i_i_i__22; } else { p_v_r0_04_i_i_i_i_i_i_i_i_i_i135_i_i_i_i_i = v_r30_i_i_i_i_i_i_i_i_i_i139_i_i_i_i_i_3; p_v_niter231 = v_niter231_next_3; goto L_join_7_i_i_i_i_i_i_i_i_i_i134_i_i_i_i_i; }
+    if (v_niter231_ncmp_3) { goto L_der_core_back_writer_BackWriter_prepend_exit_i_i_i__22; } else { p_v_r0_04_i_i_i_i_i_i_i_i_i_i246_i_i_i_i_i = v_r30_i_i_i_i_i_i_i_i_i_i250_i_i_i_i_i_3; p_v_niter231 = v_niter231_next_3; goto L_join_7_i_i_i_i_i_i_i_i_i_i245_i_i_i_i_i; }
 L_der_core_back_writer_BackWriter_prepend_exit_i_i_i__22:;
     v_lcmp_mod228_not = v_xtraiter226 == 0u;
-    if (v_lcmp_mod228_not) { goto L_der_core_back_writer_BackWriter_prepend_exit_i_i_i__21; } else { p_v_r0_04_i_i_i_i_i_i_i_i_i_i135_i_i_i_i_i_epil_init = v_r30_i_i_i_i_i_i_i_i_i_i139_i_i_i_i_i_3; goto L_join_7_i_i_i_i_i_i_i_i_i_i134_i_i_i_i_i_epil_prehe; }
-L_join_7_i_i_i_i_i_i_i_i_i_i134_i_i_i_i_i_epil_prehe:;
-    v_r0_04_i_i_i_i_i_i_i_i_i_i135_i_i_i_i_i_epil_init = p_v_r0_04_i_i_i_i_i_i_i_i_i_i135_i_i_i_i_i_epil_init;
-    { p_v_r0_04_i_i_i_i_i_i_i_i_i_i135_i_i_i_i_i_epil = v_r0_04_i_i_i_i_i_i_i_i_i_i135_i_i_i_i_i_epil_init; p_v_epil_iter227 = 0u; goto L_join_7_i_i_i_i_i_i_i_i_i_i134_i_i_i_i_i_epil; }
-L_join_7_i_i_i_i_i_i_i_i_i_i134_i_i_i_i_i_epil:;
-    v_r0_04_i_i_i_i_i_i_i_i_i_i135_i_i_i_i_i_epil = p_v_r0_04_i_i_i_i_i_i_i_i_i_i135_i_i_i_i_i_epil;
+    if (v_lcmp_mod228_not) { goto L_der_core_back_writer_BackWriter_prepend_exit_i_i_i__21; } else { p_v_r0_04_i_i_i_i_i_i_i_i_i_i246_i_i_i_i_i_epil_init = v_r30_i_i_i_i_i_i_i_i_i_i250_i_i_i_i_i_3; goto L_join_7_i_i_i_i_i_i_i_i_i_i245_i_i_i_i_i_epil_prehe; }
+L_join_7_i_i_i_i_i_i_i_i_i_i245_i_i_i_i_i_epil_prehe:;
+    v_r0_04_i_i_i_i_i_i_i_i_i_i246_i_i_i_i_i_epil_init = p_v_r0_04_i_i_i_i_i_i_i_i_i_i246_i_i_i_i_i_epil_init;
+    { p_v_r0_04_i_i_i_i_i_i_i_i_i_i246_i_i_i_i_i_epil = v_r0_04_i_i_i_i_i_i_i_i_i_i246_i_i_i_i_i_epil_init; p_v_epil_iter227 = 0u; goto L_join_7_i_i_i_i_i_i_i_i_i_i245_i_i_i_i_i_epil; }
+L_join_7_i_i_i_i_i_i_i_i_i_i245_i_i_i_i_i_epil:;
+    v_r0_04_i_i_i_i_i_i_i_i_i_i246_i_i_i_i_i_epil = p_v_r0_04_i_i_i_i_i_i_i_i_i_i246_i_i_i_i_i_epil;
     v_epil_iter227 = p_v_epil_iter227;
-    v_r20_i_i_i_i_i_i_i_i_i_i136_i_i_i_i_i_epil = v_r26_i_i_i_i116_i_i_i_i_i + (int64_t)(v_r0_04_i_i_i_i_i_i_i_i_i_i135_i_i_i_i_i_epil);
-    v_r24_i_i_i_i_i_i_i_i_i_i137_i_i_i_i_i_epil = v_r1_sroa_0_0_copyload_i_i_i111_i_i_i_i_i + (int64_t)(v_r0_04_i_i_i_i_i_i_i_i_i_i135_i_i_i_i_i_epil);
-    v_r26_i_i_i_i_i_i_i_i_i_i138_i_i_i_i_i_epil = get_u8(v_r24_i_i_i_i_i_i_i_i_i_i137_i_i_i_i_i_epil);
-    put_u8(v_r20_i_i_i_i_i_i_i_i_i_i136_i_i_i_i_i_epil, v_r26_i_i_i_i_i_i_i_i_i_i138_i_i_i_i_i_epil);
-    v_r30_i_i_i_i_i_i_i_i_i_i139_i_i_i_i_i_epil = (u64)((u64)(v_r0_04_i_i_i_i_i_i_i_i_i_i135_i_i_i_i_i_epil) + (u64)(1u));
+    v_r20_i_i_i_i_i_i_i_i_i_i247_i_i_i_i_i_epil = v_r26_i_i_i_i227_i_i_i_i_i + (int64_t)(v_r0_04_i_i_i_i_i_i_i_i_i_i246_i_i_i_i_i_epil);
+    v_r24_i_i_i_i_i_i_i_i_i_i248_i_i_i_i_i_epil = v_r1_sroa_0_0_copyload_i_i_i222_i_i_i_i_i + (int64_t)(v_r0_04_i_i_i_i_i_i_i_i_i_i246_i_i_i_i_i_epil);
+    v_r26_i_i_i_i_i_i_i_i_i_i249_i_i_i_i_i_epil = get_u8(v_r24_i_i_i_i_i_i_i_i_i_i248_i_i_i_i_i_epil);
+    put_u8(v_r20_i_i_i_i_i_i_i_i_i_i247_i_i_i_i_i_epil, v_r26_i_i_i_i_i_i_i_i_i_i249_i_i_i_i_i_epil);
+    v_r30_i_i_i_i_i_i_i_i_i_i250_i_i_i_i_i_epil = (u64)((u64)(v_r0_04_i_i_i_i_i_i_i_i_i_i246_i_i_i_i_i_epil) + (u64)(1u));
     v_epil_iter227_next = (u64)((u64)(v_epil_iter227) + (u64)(1u));
     v_epil_iter227_cmp_not = v_epil_iter227_next == v_xtraiter226;
-    if (v_epil_iter227_cmp_not) { goto L_der_core_back_writer_BackWriter_prepend_exit_i_i_i__21; } else { p_v_r0_04_i_i_i_i_i_i_i_i_i_i135_i_i_i_i_i_epil = v_r30_i_i_i_i_i_i_i_i_i_i139_i_i_i_i_i_epil; p_v_epil_iter227 = v_epil_iter227_next; goto L_join_7_i_i_i_i_i_i_i_i_i_i134_i_i_i_i_i_epil; }
+    if (v_epil_iter227_cmp_not) { goto L_der_core_back_writer_BackWriter_prepend_exit_i_i_i__21; } else { p_v_r0_04_i_i_i_i_i_i_i_i_i_i246_i_i_i_i_i_epil = v_r30_i_i_i_i_i_i_i_i_i_i250_i_i_i_i_i_epil; p_v_epil_iter227 = v_epil_iter227_next; goto L_join_7_i_i_i_i_i_i_i_i_i_i245_i_i_i_i_i_epil; }
 L_der_core_back_writer_BackWriter_prepend_exit_i_i_i__21:;
-    v_r15_not_i_i_i125_i_i_i_i_i = (u8)(v_r20_i288_i_i ^ ((u8)1 << 7)) > (u8)(255u ^ ((u8)1 << 7));
-    if (v_r15_not_i_i_i125_i_i_i_i_i) { p_v_r7_sroa_129_12_i_i_i = v_r17_i_i_i_i114_i_i_i_i_i; goto L_der_core_encode_AnyEncode_prepend_3a3c98235cfe5b88; } else { goto L_then_1_i_i_i126_i_i_i_i_i; }
-L_then_1_i_i_i126_i_i_i_i_i:;
-    v_r17_i3_i_i_i127_i_i_i_i_i = (u64)((u64)(v_r17_i_i_i_i114_i_i_i_i_i) + (u64)(18446744073709551615ull));
-    v_r26_i5_i_i_i129_i_i_i_i_i = (P)((uintptr_t)v_r14 + (u64)(v_r17_i3_i_i_i127_i_i_i_i_i));
-    put_u8(v_r26_i5_i_i_i129_i_i_i_i_i, 0u);
-    { p_v_r7_sroa_129_12_i_i_i = v_r17_i3_i_i_i127_i_i_i_i_i; goto L_der_core_encode_AnyEncode_prepend_3a3c98235cfe5b88; }
+    v_r15_not_i_i_i236_i_i_i_i_i = (u8)(v_r20_i288_i_i ^ ((u8)1 << 7)) > (u8)(255u ^ ((u8)1 << 7));
+    if (v_r15_not_i_i_i236_i_i_i_i_i) { p_v_r7_sroa_129_12_i_i_i = v_r17_i_i_i_i225_i_i_i_i_i; goto L_der_core_encode_AnyEncode_prepend_3a3c98235cfe5b88; } else { goto L_then_1_i_i_i237_i_i_i_i_i; }
+L_then_1_i_i_i237_i_i_i_i_i:;
+    v_r17_i3_i_i_i238_i_i_i_i_i = (u64)((u64)(v_r17_i_i_i_i225_i_i_i_i_i) + (u64)(18446744073709551615ull));
+    v_r26_i5_i_i_i240_i_i_i_i_i = (P)((uintptr_t)v_r14 + (u64)(v_r17_i3_i_i_i238_i_i_i_i_i));
+    put_u8(v_r26_i5_i_i_i240_i_i_i_i_i, 0u);
+    { p_v_r7_sroa_129_12_i_i_i = v_r17_i3_i_i_i238_i_i_i_i_i; goto L_der_core_encode_AnyEncode_prepend_3a3c98235cfe5b88; }
 L_der_core_encode_AnyEncode_prepend_3a3c98235cfe5b88:;
     v_r7_sroa_129_12_i_i_i = p_v_r7_sroa_129_12_i_i_i;
     v_73 = (u64)((u64)(v_r7_sroa_129_12_i_i_i) + (u64)(v_r3_i5_i_i_i));
     v_74 = (u64)((u64)(v_r7_sroa_129_15_i_i_i) - (u64)(v_73));
     v_75 = (u32)(v_74);
-    v_r2_i_i_i133_i_i_i_i_i = (u32)((u32)(v_r1_sroa_9_4_copyload_i_i_i_i) + (u32)(v_75));
-    v_r59_i96_i_i_i = v_r2_i_i_i133_i_i_i_i_i < 128u;
+    v_r2_i_i_i244_i_i_i_i_i = (u32)((u32)(v_r1_sroa_9_4_copyload_i_i_i_i) + (u32)(v_75));
+    v_r59_i96_i_i_i = v_r2_i_i_i244_i_i_i_i_i < 128u;
     if (v_r59_i96_i_i_i) { goto L_then_1_i157_i_i_i; } else { goto L_else_2_i97_i_i_i; }
 L_then_1_i157_i_i_i:;
-    v_r64_i158_i_i_i = (u16)(v_r2_i_i_i133_i_i_i_i_i);
+    v_r64_i158_i_i_i = (u16)(v_r2_i_i_i244_i_i_i_i_i);
     v_r17_i_i162_i_i_i = (u64)((u64)(v_r7_sroa_129_12_i_i_i) + (u64)(18446744073709551614ull));
     v_r26_i_i164_i_i_i = (P)((uintptr_t)v_r14 + (u64)(v_r17_i_i162_i_i_i));
     v_r8_i91_sroa_4_0_insert_shift_i_i_i = (u16)((u32)(v_r64_i158_i_i_i) << (u32)((8u & 31)));
@@ -36818,10 +36818,10 @@ L_then_1_i157_i_i_i:;
     put_u16(v_r26_i_i164_i_i_i, v_r8_i91_sroa_0_0_insert_insert_i_i_i);
     { p_v_r7_sroa_129_14_i_i_i = v_r17_i_i162_i_i_i; goto L_der_core_back_writer_BackWriter_prepend_header_exi__12; }
 L_else_2_i97_i_i_i:;
-    v_r75_i98_i_i_i = v_r2_i_i_i133_i_i_i_i_i < 256u;
+    v_r75_i98_i_i_i = v_r2_i_i_i244_i_i_i_i_i < 256u;
     if (v_r75_i98_i_i_i) { goto L_then_4_i148_i_i_i; } else { goto L_else_5_i99_i_i_i; }
 L_then_4_i148_i_i_i:;
-    v_r80_i149_i_i_i = (u8)(v_r2_i_i_i133_i_i_i_i_i);
+    v_r80_i149_i_i_i = (u8)(v_r2_i_i_i244_i_i_i_i_i);
     v_r17_i28_i154_i_i_i = (u64)((u64)(v_r7_sroa_129_12_i_i_i) + (u64)(18446744073709551613ull));
     v_r26_i30_i156_i_i_i = (P)((uintptr_t)v_r14 + (u64)(v_r17_i28_i154_i_i_i));
     put_u8(v_r26_i30_i156_i_i_i, 2u);
@@ -36831,24 +36831,24 @@ L_then_4_i148_i_i_i:;
     put_u8(v_r14_i92_sroa_5_0_r26_i30_i156_sroa_idx_i_i_i, v_r80_i149_i_i_i);
     { p_v_r7_sroa_129_14_i_i_i = v_r17_i28_i154_i_i_i; goto L_der_core_back_writer_BackWriter_prepend_header_exi__12; }
 L_else_5_i99_i_i_i:;
-    v_r92_i100_i_i_i = v_r2_i_i_i133_i_i_i_i_i < 65536u;
+    v_r92_i100_i_i_i = v_r2_i_i_i244_i_i_i_i_i < 65536u;
     if (v_r92_i100_i_i_i) { goto L_then_7_i136_i_i_i; } else { goto L_else_8_i101_i_i_i; }
 L_then_7_i136_i_i_i:;
     v_r17_i46_i144_i_i_i = (u64)((u64)(v_r7_sroa_129_12_i_i_i) + (u64)(18446744073709551612ull));
     v_r26_i48_i146_i_i_i = (P)((uintptr_t)v_r14 + (u64)(v_r17_i46_i144_i_i_i));
-    v_76 = (u32)((u32)(v_r2_i_i_i133_i_i_i_i_i) | (u32)(42074112u));
+    v_76 = (u32)((u32)(v_r2_i_i_i244_i_i_i_i_i) | (u32)(42074112u));
     v_r20_i93_sroa_0_0_insert_insert_i_i_i = __builtin_bswap32(v_76);
     put_u32(v_r26_i48_i146_i_i_i, v_r20_i93_sroa_0_0_insert_insert_i_i_i);
     { p_v_r7_sroa_129_14_i_i_i = v_r17_i46_i144_i_i_i; goto L_der_core_back_writer_BackWriter_prepend_header_exi__12; }
 L_else_8_i101_i_i_i:;
-    v_r117_i102_i_i_i = v_r2_i_i_i133_i_i_i_i_i < 16777216u;
+    v_r117_i102_i_i_i = v_r2_i_i_i244_i_i_i_i_i < 16777216u;
     if (v_r117_i102_i_i_i) { goto L_then_10_i121_i_i_i; } else { goto L_else_11_i103_i_i_i; }
 L_then_10_i121_i_i_i:;
-    v_r12223_i122_i_i_i = (u32)((u32)(v_r2_i_i_i133_i_i_i_i_i) >> (u32)((16u & 31)));
+    v_r12223_i122_i_i_i = (u32)((u32)(v_r2_i_i_i244_i_i_i_i_i) >> (u32)((16u & 31)));
     v_r124_i123_i_i_i = (u8)(v_r12223_i122_i_i_i);
-    v_r12624_i124_i_i_i = (u32)((u32)(v_r2_i_i_i133_i_i_i_i_i) >> (u32)((8u & 31)));
+    v_r12624_i124_i_i_i = (u32)((u32)(v_r2_i_i_i244_i_i_i_i_i) >> (u32)((8u & 31)));
     v_r130_i125_i_i_i = (u8)(v_r12624_i124_i_i_i);
-    v_r134_i126_i_i_i = (u8)(v_r2_i_i_i133_i_i_i_i_i);
+    v_r134_i126_i_i_i = (u8)(v_r2_i_i_i244_i_i_i_i_i);
     v_r17_i64_i133_i_i_i = (u64)((u64)(v_r7_sroa_129_12_i_i_i) + (u64)(18446744073709551611ull));
     v_r26_i66_i135_i_i_i = (P)((uintptr_t)v_r14 + (u64)(v_r17_i64_i133_i_i_i));
     put_u8(v_r26_i66_i135_i_i_i, 2u);
@@ -36862,13 +36862,13 @@ L_then_10_i121_i_i_i:;
     put_u8(v_r29_i94_sroa_7_0_r26_i66_i135_sroa_idx_i_i_i, v_r134_i126_i_i_i);
     { p_v_r7_sroa_129_14_i_i_i = v_r17_i64_i133_i_i_i; goto L_der_core_back_writer_BackWriter_prepend_header_exi__12; }
 L_else_11_i103_i_i_i:;
-    v_r15020_i104_i_i_i = (u32)((u32)(v_r2_i_i_i133_i_i_i_i_i) >> (u32)((24u & 31)));
+    v_r15020_i104_i_i_i = (u32)((u32)(v_r2_i_i_i244_i_i_i_i_i) >> (u32)((24u & 31)));
     v_r152_i105_i_i_i = (u8)(v_r15020_i104_i_i_i);
-    v_r15421_i106_i_i_i = (u32)((u32)(v_r2_i_i_i133_i_i_i_i_i) >> (u32)((16u & 31)));
+    v_r15421_i106_i_i_i = (u32)((u32)(v_r2_i_i_i244_i_i_i_i_i) >> (u32)((16u & 31)));
     v_r158_i107_i_i_i = (u8)(v_r15421_i106_i_i_i);
-    v_r16022_i108_i_i_i = (u32)((u32)(v_r2_i_i_i133_i_i_i_i_i) >> (u32)((8u & 31)));
+    v_r16022_i108_i_i_i = (u32)((u32)(v_r2_i_i_i244_i_i_i_i_i) >> (u32)((8u & 31)));
     v_r164_i109_i_i_i = (u8)(v_r16022_i108_i_i_i);
-    v_r168_i110_i_i_i = (u8)(v_r2_i_i_i133_i_i_i_i_i);
+    v_r168_i110_i_i_i = (u8)(v_r2_i_i_i244_i_i_i_i_i);
     v_r17_i82_i118_i_i_i = (u64)((u64)(v_r7_sroa_129_12_i_i_i) + (u64)(18446744073709551610ull));
     v_r26_i84_i120_i_i_i = (P)((uintptr_t)v_r14 + (u64)(v_r17_i82_i118_i_i_i));
     put_u8(v_r26_i84_i120_i_i_i, 2u);

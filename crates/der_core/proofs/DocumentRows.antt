@@ -2,7 +2,7 @@
 use Rattle.std.proofs.Common.{[], ◌∷◌, ap, length, refl, arith}
 use Rattle.der_core.specs.Encodings.{AreBytes}
 use Rattle.der_core.specs.Document.{IsDocument}
-use Rattle.der_core.specs.Laws.WrittenOut.{known_tlv, known_front, no_bytes_rejected, other_tag_rejected}
+use Rattle.der_core.proofs.WorkedLengths.{known_tlv, known_front, no_bytes_rejected, other_tag_rejected}
 
 empty_sequence : IsDocument (48 ∷ 0 ∷ [])
 empty_sequence = (omega arith, known_tlv 48 {P = AreBytes} [] tt (omega arith))

@@ -1,27 +1,30 @@
 -- Documents, as they are read and made.
-use Rattle.std.proofs.Common.{ℕ, List, ◌≡◌, ◌≤◌, ◌<◌, ◌^◌, length, take, ◌++◌, arith, subst, ⊎_elim, Option}
+use Rattle.std.proofs.Common.{ℕ, List, ◌≡◌, ◌≤◌, ◌<◌, ◌^◌, length, take, ◌++◌, arith, subst, ⊎_elim, Option, Err}
 use Rattle.std.proofs.Math.Seq.{take-append_seam}
 use Rattle.der_core.specs.Encodings.{AreBytes, IsOfBytes}
 use Rattle.der_core.specs.Tlv.{Tlv, tlv}
 use Rattle.der_core.specs.Length.{limit}
 use Rattle.der_core.specs.Document.{Means, IsDocument}
 use Rattle.der_core.specs.Carrying.{GivesNone}
-use Rattle.der_core.specs.Faults.{DocumentFault, IsTheFault}
+use Rattle.der_core.specs.Readings.{read_document}
 use Rattle.der_core.specs.SourcesSinks.{GivesAll}
-use Rattle.der_core.specs.Reading.{Rejects, AllocatesIn, TellsOfBytes}
+use Rattle.der_core.specs.Reading.{NoValueOrMemory, AllocatesIn, FaultOrMemory, TellsOfBytes}
 use Rattle.der_core.specs.declared.error.ErrorKind.{ErrorKind}
 use Rattle.der_core.specs.Laws.Encodings.{tlv_relates}
-use Rattle.der_core.specs.Laws.Growing.{tlv_recast}
+use Rattle.der_core.specs.Laws.ContentsShorter.{tlv_recast}
 
 -- Reading a SEQUENCE asks for no memory.
 pub no_document : (e : ErrorKind) (b : List ℕ)
-    → Rejects e (AllocatesIn (Tlv 48 (λ _. ⊥)) b) ((v : Unit {0}) → Means (λ _. Tlv 48 AreBytes) b v → ⊥)
+    → NoValueOrMemory e (AllocatesIn (Tlv 48 (λ _. ⊥)) b) ((v : Unit {0}) → Means (λ _. Tlv 48 AreBytes) b v → ⊥)
     → TellsOfBytes e × (IsDocument b → ⊥)
 no_document e b r = ⊎_elim (λ w. absurd w.1.3.holds) (λ w. (w.0, λ p. w.1 tt p)) r
 
+pub the_fault : {e : ErrorKind} {b : List ℕ} {fault : Type 0} → FaultOrMemory e (AllocatesIn (Tlv 48 (λ _. ⊥)) b) fault → fault
+the_fault faulty = ⊎_elim (λ w. absurd w.1.3.holds) (λ f. f) faulty
+
 -- What came is no document.
 pub none_given : (e : ErrorKind) (old new : Option (List ℕ)) (given seen : List ℕ) → seen ≡ given
-    → GivesAll old new given → (IsDocument seen → ⊥) → IsTheFault DocumentFault seen e → GivesNone e old new
+    → GivesAll old new given → (IsDocument seen → ⊥) → read_document seen ≡ Err e → GivesNone e old new
 none_given e old new given seen same gives none fault = (given, gives, (λ d. none (rw same d)), rw same at fault)
 
 -- The encoding of a message is a document.

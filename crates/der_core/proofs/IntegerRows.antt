@@ -1,7 +1,7 @@
 -- Contents octets of numbers at worked examples.
 use Rattle.std.proofs.Common.{ℕ, List, [], ◌∷◌, inl, inr, refl, arith}
 use Rattle.der_core.specs.Integer.{IntegerContents}
-use Rattle.der_core.specs.Laws.WrittenOut.{no_contents_rejected, negative_rejected, needless_zero_rejected}
+use Rattle.der_core.proofs.WorkedLengths.{no_contents_rejected, negative_rejected, needless_zero_rejected}
 
 -- 07
 seven : IntegerContents (0x07 ∷ []) (0x07 ∷ [])

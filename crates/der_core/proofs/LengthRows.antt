@@ -1,8 +1,8 @@
 -- Length octets at worked examples.
 use Rattle.std.proofs.Common.{ℕ, List, [], ◌∷◌, refl, arith}
 use Rattle.der_core.specs.Length.{IsLength, short}
-use Rattle.der_core.specs.Laws.WrittenOut.{known_long, no_octets_rejected, long_form, other_count_rejected}
-use Rattle.der_core.specs.Laws.WrittenOut.{needless_long_form_rejected, needless_octet_rejected}
+use Rattle.der_core.proofs.WorkedLengths.{known_long, no_octets_rejected, long_form, other_count_rejected}
+use Rattle.der_core.proofs.WorkedLengths.{needless_long_form_rejected, needless_octet_rejected}
 
 -- 7f
 length_127 : IsLength 127 (0x7f ∷ [])

@@ -6,17 +6,17 @@ use Rattle.der_core.specs.declared.error.ErrorKind.{ErrorKind}
 use Rattle.der_core.specs.declared.error.ErrorKind.TheVariants.{File, OutOfMemory, Overflow}
 use Rattle.der_core.specs.Length.{limit}
 use Rattle.der_core.specs.Document.{IsDocument}
-use Rattle.der_core.specs.Faults.{DocumentFault, IsTheFault}
+use Rattle.der_core.specs.Readings.{read_document}
 use Rattle.der_core.specs.SourcesSinks.{AppendsFront, GivesAll, GivesMore, GivesSome, OneFailed}
 
 -- how many bytes are read at once
 abbrev pub piece : ℕ
 piece = 65536
 
--- What came up to the end is no document, and this is its only fault.
+-- What came up to the end is no document, and this is its first fault.
 abbrev pub GivesNone : ErrorKind → Option (List ℕ) → Option (List ℕ) → Type 0
 GivesNone e old new =
-    (bytes : List ℕ) × GivesAll old new bytes × (IsDocument bytes → ⊥) × IsTheFault DocumentFault bytes e
+    (bytes : List ℕ) × GivesAll old new bytes × (IsDocument bytes → ⊥) × (read_document bytes ≡ Err e)
 
 -- Why reading stopped: one call of the source failed; or none did, and memory ran out for what came, or too many bytes
 -- came.

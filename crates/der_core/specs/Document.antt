@@ -53,21 +53,21 @@ pub data EncodeError : Type 0 where
   no_room : EncodeError
   another : EncodeError
 
--- Why the length of a value's encoding isn't counted: the value has none, or it has some (as Some says) and all of them
+-- Why the length of a value's encoding isn't counted: the value has none, or it has some (as Has says) and all of them
 -- pass the limit.
 abbrev pub WhyNotCounted : {V : Type 0} → Type 0 → (V → List ℕ → Type 0) → V → EncodeError → Type 0
-WhyNotCounted Some Grammar v no_encoding = (encoding : List ℕ) → Grammar v encoding → ⊥
-WhyNotCounted Some Grammar v too_long = Some × ((encoding : List ℕ) → Means Grammar encoding v → ⊥)
-WhyNotCounted Some Grammar v no_room = ⊥
-WhyNotCounted Some Grammar v another = ⊥
+WhyNotCounted Has Grammar v no_encoding = (encoding : List ℕ) → Grammar v encoding → ⊥
+WhyNotCounted Has Grammar v too_long = Has × ((encoding : List ℕ) → Means Grammar encoding v → ⊥)
+WhyNotCounted Has Grammar v no_room = ⊥
+WhyNotCounted Has Grammar v another = ⊥
 
 -- Why a value isn't written: the length isn't counted, or there is no room for the shortest encoding.
 abbrev pub WhyNotWritten : {V : Type 0} → Type 0 → (V → List ℕ → Type 0) → V → ℕ → EncodeError → Type 0
-WhyNotWritten Some Grammar v room no_encoding = (encoding : List ℕ) → Grammar v encoding → ⊥
-WhyNotWritten Some Grammar v room too_long = Some × ((encoding : List ℕ) → Means Grammar encoding v → ⊥)
-WhyNotWritten Some Grammar v room no_room =
+WhyNotWritten Has Grammar v room no_encoding = (encoding : List ℕ) → Grammar v encoding → ⊥
+WhyNotWritten Has Grammar v room too_long = Has × ((encoding : List ℕ) → Means Grammar encoding v → ⊥)
+WhyNotWritten Has Grammar v room no_room =
     (encoding : List ℕ) × IsShortest Grammar v encoding × (room < length encoding)
-WhyNotWritten Some Grammar v room another = ⊥
+WhyNotWritten Has Grammar v room another = ⊥
 
 -- The value has an encoding.
 abbrev pub HasEncoding : {V : Type 0} → (V → List ℕ → Type 0) → V → Type 0

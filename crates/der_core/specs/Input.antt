@@ -18,7 +18,7 @@ left_in None = []
 left_in (Some b) = b
 
 -- what a reading function returns for an input
-abbrev pub read_from : {Y : Type 0} → Input → (List ℕ → Result (Y × List ℕ) ErrorKind) → Result (Y × List ℕ) ErrorKind
+abbrev pub read_from : {Y : Type 0} → Input → (List ℕ → Result Y ErrorKind) → Result Y ErrorKind
 read_from None f = Err Failed
 read_from (Some b) f = f b
 

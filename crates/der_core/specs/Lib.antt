@@ -8,6 +8,7 @@ pub mod Tags
 pub mod Headers
 pub mod Input
 pub mod Reading
+pub mod Readings
 pub mod IntegerReading
 pub mod Writing
 pub mod SequenceOf
@@ -28,7 +29,6 @@ pub mod Optional
 pub mod OctetString
 pub mod OctetStringRefValue
 pub mod Members
-pub mod Faults
 pub mod Parts
 pub mod Laws
 pub mod Words

@@ -1,8 +1,6 @@
 -- Contents that are parts in a row: a first part, and the contents behind it.
 use Rattle.std.specs.Prelude.{ℕ, List, [], ◌∷◌, ◌++◌, ◌≡◌, ◌⊎◌, Option}
-use Rattle.der_core.specs.declared.error.ErrorKind.{ErrorKind}
 use Rattle.der_core.specs.Encodings.{Joins, Then}
-use Rattle.der_core.specs.Faults.{ThenFault}
 use Rattle.der_core.specs.Optional.{Optional}
 use Rattle.der_core.specs.Reading.{AllocatesIn, AllocatesBehind}
 
@@ -19,11 +17,6 @@ HaveParts first rest v = first v.0 × rest v.1
 
 abbrev pub written_parts : {A B : Type 0} → (A → List ℕ) → (B → List ℕ) → A × B → List ℕ
 written_parts first rest v = first v.0 ++ rest v.1
-
--- The first part has a fault; or it is there, and what follows has one.
-abbrev pub PartsFault : {A : Type 0} → (A → List ℕ → Type 0) → (ErrorKind → List ℕ → Type 0)
-    → (ErrorKind → List ℕ → Type 0) → ErrorKind → List ℕ → Type 0
-PartsFault First Fault RestFault = ThenFault First Fault (λ _. RestFault)
 
 -- The first part may need memory; or it is there, and what follows may.
 abbrev pub AllocatesInParts : {A : Type 0} → (A → List ℕ → Type 0) → (List ℕ → Type 0) → (List ℕ → Type 0) → List ℕ

@@ -8,23 +8,23 @@ pub use Rattle.der_core.specs.EncodeToSlice.{IsFront, LeavesRest}
 pub use Rattle.der_core.specs.Encodings.{AreBytes, AtMostOne, Is, IsDelimited, IsOfBytes, MeansOne}
 pub use Rattle.der_core.specs.ErrorKinds.{IsFile}
 pub use Rattle.der_core.specs.ErrorText.{kind_text}
-pub use Rattle.der_core.specs.Faults.{AloneFault, AreFirst, AreNone, EncodingFault, EndFault, ExpectedFault}
-pub use Rattle.der_core.specs.Faults.{FailsExactly, FailsOrAsks, Faulty, IsTheFault, ItemsFault, LastFault, NoFault}
-pub use Rattle.der_core.specs.Faults.{OnlyWhole, SmallFault, TaggedLastFault, WholeFault}
 pub use Rattle.der_core.specs.Files.{FileFault, FileGives, FileRefuses, FileTakes, Obtains}
 pub use Rattle.der_core.specs.Headers.{HeaderEncoding, LengthEncoding}
 pub use Rattle.der_core.specs.Input.{Input, Reads, end_of, front_of, header_at, inner_of, left_in, length_at, octet_at}
 pub use Rattle.der_core.specs.Integer.{Integer, IntegerContents, IsCanonical, SmallContents, integer_contents}
-pub use Rattle.der_core.specs.IntegerReading.{Answers, small_of}
+pub use Rattle.der_core.specs.IntegerReading.{Answers, integer_of, small_of}
 pub use Rattle.der_core.specs.Length.{IsLength, length_octets, limit, tlv_len}
 pub use Rattle.der_core.specs.OctetString.{OctetContents}
 pub use Rattle.der_core.specs.OctetStringRefValue.{octets_of}
 pub use Rattle.der_core.specs.Optional.{HasOptional, Optional, written_optional}
 pub use Rattle.der_core.specs.Parts.{AllocatesInFront, AllocatesInParts, HaveParts, IsToldApart, LastContents, NoParts}
-pub use Rattle.der_core.specs.Parts.{PartsContents, PartsFault, written_parts}
-pub use Rattle.der_core.specs.Reading.{AllocatesForItems, AllocatesIn, AllocatesLast, HoldsBytes, NoneHas, NoneIn}
-pub use Rattle.der_core.specs.Reading.{ReadsAll, ReadsEncoding, ReadsFront, ReadsOptional, ReadsOrFaults, ReadsRow}
-pub use Rattle.der_core.specs.Reading.{ReadsWhole, Rejects, TellsNext}
+pub use Rattle.der_core.specs.Parts.{PartsContents, written_parts}
+pub use Rattle.der_core.specs.Reading.{AllocatesForItems, AllocatesIn, AllocatesLast, FaultOrMemory, HoldsBytes, NoneIn}
+pub use Rattle.der_core.specs.Reading.{ReadsAll, ReadsEncoding, ReadsFront, ReadsRow, ReadsWhole, NoValueOrMemory, Returns}
+pub use Rattle.der_core.specs.Reading.{TellsNext, TellsOfBytes}
+pub use Rattle.der_core.specs.Readings.{FrontReading, Reading, ReadsContents, ReadsFronts, alone, expected, front_done}
+pub use Rattle.der_core.specs.Readings.{front_made, front_parts, items, last, made, no_parts, optional, parts, such}
+pub use Rattle.der_core.specs.Readings.{tagged, whole, ◌>>=◌}
 pub use Rattle.der_core.specs.SequenceOf.{AllHave, ItemsContents, all_encodings}
 pub use Rattle.der_core.specs.SliceReaders.{left_of}
 pub use Rattle.der_core.specs.SourcesSinks.{AppendsFront, CountsFailure, GivesAll, GivesMore, GivesSome, OneFailed}
@@ -39,25 +39,25 @@ pub use Rattle.der_core.specs.Writing.{joined}
 pub use Rattle.der_core.specs.Laws.Encodings.{joins_map, tlv_at_most_one, tlv_delimited, tlv_of_bytes, tlv_relates}
 pub use Rattle.der_core.specs.Laws.Encodings.{tlv_shortest}
 pub use Rattle.der_core.specs.Laws.Equality.{bytes_decide, number_decides}
-pub use Rattle.der_core.specs.Laws.Expected.{expected_fault_first, expected_fault_none}
-pub use Rattle.der_core.specs.Laws.Faults.{encoding_fault_first, encoding_fault_none, end_fault_first, end_fault_none}
-pub use Rattle.der_core.specs.Laws.Faults.{items_fault_first, items_fault_none, last_fault_first, no_fault_first}
-pub use Rattle.der_core.specs.Laws.Faults.{no_fault_none, small_fault_first, small_fault_none, tagged_last_first}
-pub use Rattle.der_core.specs.Laws.FrontParts.{front_none, no_parts_none_in, no_parts_told_apart, parts_told_apart}
+pub use Rattle.der_core.specs.Laws.FrontParts.{front_done_reads, front_parts_reads, no_parts_told_apart}
+pub use Rattle.der_core.specs.Laws.FrontParts.{parts_told_apart}
 pub use Rattle.der_core.specs.Laws.Integer.{contents_at_most_one, integer_delimited, small_contents_at_most_one}
 pub use Rattle.der_core.specs.Laws.Integer.{small_means_one, small_of_bytes}
 pub use Rattle.der_core.specs.Laws.OctetString.{octets_at_most_one, octets_mean_one, octets_of_bytes, octets_relate}
 pub use Rattle.der_core.specs.Laws.OctetString.{octets_shortest}
 pub use Rattle.der_core.specs.Laws.Optional.{optional_last}
-pub use Rattle.der_core.specs.Laws.Parts.{IsParts, as_parts, in_parts_at_most_one, in_parts_none, in_parts_relate}
-pub use Rattle.der_core.specs.Laws.Parts.{in_parts_shortest, last_by_tag_none, last_part_asks_none}
-pub use Rattle.der_core.specs.Laws.Parts.{last_part_at_most_one, last_part_none, last_part_of_bytes}
+pub use Rattle.der_core.specs.Laws.OptionalReadings.{last_by_tag_reads}
+pub use Rattle.der_core.specs.Laws.Parts.{IsParts, as_parts, in_parts_at_most_one, in_parts_relate, in_parts_shortest}
+pub use Rattle.der_core.specs.Laws.Parts.{last_part_asks_none, last_part_at_most_one, last_part_of_bytes}
 pub use Rattle.der_core.specs.Laws.Parts.{last_part_relates, last_part_shortest, no_parts_at_most_one}
 pub use Rattle.der_core.specs.Laws.Parts.{no_parts_mean_one, no_parts_of_bytes, no_parts_relate, no_parts_shortest}
-pub use Rattle.der_core.specs.Laws.Parts.{parts_ask_none, parts_at_most_one, parts_fault_first, parts_fault_none}
-pub use Rattle.der_core.specs.Laws.Parts.{parts_mean_one, parts_of_bytes, parts_relate, parts_shortest}
+pub use Rattle.der_core.specs.Laws.Parts.{parts_ask_none, parts_at_most_one, parts_mean_one, parts_of_bytes}
+pub use Rattle.der_core.specs.Laws.Parts.{parts_relate, parts_shortest}
+pub use Rattle.der_core.specs.Laws.Readings.{expected_reads, last_reads, made_errs, made_reads, no_parts_read}
+pub use Rattle.der_core.specs.Laws.Readings.{parts_read}
+pub use Rattle.der_core.specs.Laws.Readings.{small_reads}
 pub use Rattle.der_core.specs.Laws.Rows.{as_written}
 pub use Rattle.der_core.specs.Laws.SequenceOf.{items_of_bytes, items_relate, items_shortest}
-pub use Rattle.der_core.specs.Laws.Sequences.{ContentsFaulty, EncodingGives}
 pub use Rattle.der_core.specs.Laws.SmallNumbers.{small_relates, small_shortest}
+pub use Rattle.der_core.specs.Laws.TaggedReadings.{items_read, tagged_reads}
 pub use Rattle.der_core.specs.Laws.Tells.{is_value}

@@ -1,7 +1,6 @@
 //! Types that are read without memory.
 ghost use Rattle.std.specs.Prelude.{List, ℕ, IfOk, OnErr};
-ghost use Rattle.der_core.specs.Words.{FailsExactly, IsMeaning, Means, WholeFault, last_part_asks_none};
-ghost use Rattle.der_core.specs.Words.{parts_ask_none};
+ghost use Rattle.der_core.specs.Words.{Answers, IsMeaning, Means, last_part_asks_none, parts_ask_none, whole};
 
 use crate::decode::{Decode, DecodeValue};
 use crate::error::Result;
@@ -17,16 +16,19 @@ use crate::types::FixedTag;
 
 /// Contents that are read without memory.
 pub trait ContentsAskNone<B: Octets>: DecodeValue<B, NoMemory> {
+    /// No contents ask for memory.
     ghost contents_ask_none: { (c : List ℕ) → Self.DecodeValue.may_allocate c → ⊥ };
 }
 
 /// Parts that are read without memory.
 pub trait PartsAskNone<B: Octets>: DecodeParts<B, NoMemory> {
+    /// No parts ask for memory.
     ghost parts_ask_none: { (c : List ℕ) → Self.DecodeParts.may_allocate c → ⊥ };
 }
 
 /// Encodings that are read without memory.
 pub trait AsksNone<B: Octets>: Decode<B, NoMemory> {
+    /// No encoding asks for memory.
     ghost asks_none: { (b : List ℕ) → Self.Decode.may_allocate b → ⊥ };
 }
 
@@ -78,7 +80,7 @@ where
 pub fn read_borrowed<'a, T: AsksNone<&'a [u8]>>(bytes: &'a [u8]) -> Result<T>
     ensures ok { IfOk result (λ x. IsMeaning T.encoding bytes.now (T.value x)) }
     ensures err { OnErr result ((v : T.Value) → Means T.encoding bytes.now v → ⊥) }
-    ensures exact { FailsExactly (WholeFault T.encoding T.Decode.fault) bytes.now result }
+    ensures exact { Answers T.value result (whole T.read_front bytes.now) }
 {
     T::from_der(NoMemory, bytes)
 }

@@ -22,6 +22,10 @@ impl<'b, T: Encoding> Encoding for Borrowed<'b, T> {
 
     ghost written_encoding = { T.written_encoding };
 
+    ghost read_front = { T.read_front };
+
+    ghost reads_front = { T.reads_front };
+
     ghost delimited = { T.delimited };
 
     ghost encoding_of_bytes = { T.encoding_of_bytes };

@@ -1,9 +1,9 @@
 //! Reading of values.
 ghost use Rattle.std.specs.Prelude.{ℕ, List};
-ghost use Rattle.der_core.specs.Words.{Tlv, ReadsOrFaults, ReadsFront, ReadsAll, ReadsOptional, HoldsBytes, TellsNext};
-ghost use Rattle.der_core.specs.Words.{NoneHas, NoneIn, AllocatesIn, EncodingFault, WholeFault, FailsOrAsks, AreNone};
-ghost use Rattle.der_core.specs.Words.{AreFirst, encoding_fault_none, encoding_fault_first};
-ghost use Rattle.der_core.specs.declared.error.ErrorKind.{ErrorKind};
+ghost use Rattle.der_core.specs.Words.{Tlv, AllocatesIn, HoldsBytes, ReadsAll, ReadsFront, ReadsWhole, Returns};
+ghost use Rattle.der_core.specs.Words.{TellsNext};
+ghost use Rattle.der_core.specs.Words.{optional, tagged, whole};
+ghost use Rattle.std.specs.Option.{option_map};
 
 use crate::error::{ErrorKind, Result};
 use crate::header::Header;
@@ -18,18 +18,11 @@ pub trait DecodeValue<B: Octets, M: Memory>: Contents + Sized + Drop {
     /// The contents whose reading may allocate.
     ghost may_allocate: { List ℕ → Type 0 };
 
-    /// Contents that mean no value, with the kind of error of their first fault.
-    ghost fault: { ErrorKind → List ℕ → Type 0 };
-
     /// Reads all that is left as the contents octets of a value. Exactly `header.length` bytes are left.
     fn decode_value<R: Reader<B>>(memory: M, reader: &mut R, header: Header) -> Result<Self>
         requires { HoldsBytes (R.left reader.old) header.length }
         ensures { let before = R.left reader.old in
-            ReadsOrFaults Self.value Self.contents fault may_allocate result before (R.left reader.new) };
-
-    ghost fault_none: { AreNone (NoneHas Self.contents) fault };
-
-    ghost fault_first: { AreFirst fault };
+            ReadsWhole Self.value Self.read may_allocate result before (R.left reader.new) };
 }
 
 /// A type whose values are read from their encodings.
@@ -37,29 +30,20 @@ pub trait Decode<B: Octets, M: Memory>: Encoding + Sized + Drop {
     /// The encodings whose reading may allocate.
     ghost may_allocate: { List ℕ → Type 0 };
 
-    /// Bytes that begin with no encoding of a value, with the kind of error of their first fault.
-    ghost fault: { ErrorKind → List ℕ → Type 0 };
-
     /// Reads the encoding at the front of what is left.
     fn decode<R: Reader<B>>(memory: M, reader: &mut R) -> Result<Self>
         ensures { let before = R.left reader.old in
-            ReadsFront Self.value Self.encoding fault may_allocate result before (R.left reader.new) };
+            ReadsFront Self.value Self.read_front may_allocate result before (R.left reader.new) };
 
     /// Reads a whole slice: `Overflow` if it is longer than `Length::MAX`, `TrailingData` if bytes follow the encoding.
     fn from_der(memory: M, bytes: B) -> Result<Self>
         ensures encoding { ReadsAll Self.value Self.encoding may_allocate result (B.octets bytes) }
         ensures exact { let b = B.octets bytes in
-            FailsOrAsks (WholeFault Self.encoding fault) b (AllocatesIn may_allocate b) result };
-
-    ghost fault_none: { AreNone (NoneIn Self.encoding) fault };
-
-    ghost fault_first: { AreFirst fault };
+            Returns Self.value (whole Self.read_front b) (AllocatesIn may_allocate b) result };
 }
 
 impl<'a, M: Memory, T: DecodeValue<&'a [u8], M> + FixedTag> Decode<&'a [u8], M> for T {
     ghost may_allocate = { Tlv T.TAG.octet T.DecodeValue.may_allocate };
-
-    ghost fault = { EncodingFault T.TAG T.DecodeValue.fault };
 
     #[inline(always)]
     fn decode<R: Reader<&'a [u8]>>(memory: M, reader: &mut R) -> Result<T> {
@@ -73,10 +57,6 @@ impl<'a, M: Memory, T: DecodeValue<&'a [u8], M> + FixedTag> Decode<&'a [u8], M> 
         reader.finish()?;
         Ok(value)
     }
-
-    ghost fault_none = { encoding_fault_none T.TAG T.DecodeValue.fault T.contents T.DecodeValue.fault_none };
-
-    ghost fault_first = { encoding_fault_first T.TAG T.DecodeValue.fault T.DecodeValue.fault_first };
 }
 
 /// Reads the encoding at the front of what is left.
@@ -85,11 +65,8 @@ fn read_encoding<'a, T: DecodeValue<&'a [u8], M> + FixedTag, M: Memory, R: Reade
     memory: M,
     reader: &mut R,
 ) -> Result<T>
-    ensures { let tag = T.TAG.octet in
-        let may = Tlv tag T.DecodeValue.may_allocate in
-        let fault = EncodingFault T.TAG T.DecodeValue.fault in
-        let before = R.left reader.old in
-        ReadsFront T.value (λ v. Tlv tag (T.contents v)) fault may result before (R.left reader.new) }
+    ensures { let may = Tlv T.TAG.octet T.DecodeValue.may_allocate in
+        ReadsFront T.value (tagged T.TAG T.read) may result (R.left reader.old) (R.left reader.new) }
 {
     let tag = T::TAG;
     let header = Header::decode_likely(reader, tag)?;
@@ -121,11 +98,9 @@ pub fn decode_optional<'a, T: DecodeValue<&'a [u8], M> + FixedTag, M: Memory, R:
     memory: M,
     reader: &mut R,
 ) -> Result<Option<T>>
-    ensures { let tag = T.TAG.octet in
-        let may = Tlv tag T.DecodeValue.may_allocate in
-        let fault = EncodingFault T.TAG T.DecodeValue.fault in
-        let before = R.left reader.old in
-        ReadsOptional tag T.value (λ v. Tlv tag (T.contents v)) fault may result before (R.left reader.new) }
+    ensures { let may = Tlv T.TAG.octet T.DecodeValue.may_allocate in
+        let at = optional T.TAG.octet (tagged T.TAG T.read) in
+        ReadsFront (option_map T.value) at may result (R.left reader.old) (R.left reader.new) }
 {
     if !is_tag_next(reader, T::TAG)? {
         return Ok(None);

@@ -6,9 +6,10 @@ ghost use Rattle.der_core.specs.Files.{FileFault, FileGives, FileRefuses, FileTa
 ghost use Rattle.der_core.specs.Document.{IsDocument};
 ghost use Rattle.der_core.specs.Laws.Document.{IsDocument-prop};
 ghost use Rattle.der_core.specs.Length.{limit};
-ghost use Rattle.der_core.specs.Faults.{NoFault, DocumentFault, FailsOrAsks};
-ghost use Rattle.der_core.specs.Laws.Faults.{no_fault_none, no_fault_first};
-ghost use Rattle.der_core.specs.Reading.{Rejects};
+ghost use Rattle.der_core.specs.Laws.Readings.{any_read};
+ghost use Rattle.der_core.specs.Reading.{Returns};
+ghost use Rattle.der_core.specs.Readings.{any_contents, read_document};
+ghost use Rattle.der_core.specs.Reading.{NoValueOrMemory};
 ghost use Rattle.der_core.specs.ErrorKinds.{IsFile};
 ghost use Rattle.der_core.specs.Encodings.{AreBytes};
 ghost use Rattle.der_core.specs.Tlv.{Tlv, tlv};
@@ -45,6 +46,10 @@ impl Contents for AnySequence {
 
     ghost written_contents = { λ _. [] };
 
+    ghost read = { any_contents };
+
+    ghost reads = { any_read };
+
     ghost means_one = { λ v w contents p q. refl };
 
     ghost contents_of_bytes = { λ v contents p. p };
@@ -57,8 +62,6 @@ impl TaggedBy for AnySequence {
 impl<'a> DecodeValue<&'a [u8], NoMemory> for AnySequence {
     ghost may_allocate = { λ _. ⊥ };
 
-    ghost fault = { NoFault };
-
     fn decode_value<R: Reader<&'a [u8]>>(
         _memory: NoMemory,
         reader: &mut R,
@@ -67,10 +70,6 @@ impl<'a> DecodeValue<&'a [u8], NoMemory> for AnySequence {
         reader.read_slice(header.length)?;
         Ok(AnySequence)
     }
-
-    ghost fault_none = { no_fault_none _ };
-
-    ghost fault_first = { no_fault_first };
 }
 
 /// Writes the encoding of a message over a slice of exactly its length.
@@ -115,8 +114,8 @@ impl<S: Drop> DocumentOf<S> {
     /// Copies the bytes, if they are one SEQUENCE. `OutOfMemory` is returned only if they are.
     pub fn from_der(alloc: Global, bytes: &[u8]) -> Result<DocumentOf<S>>
         ensures ok { IfOk result (λ document. IsDocument bytes.now × (encoding_of document ≡ bytes.now)) }
-        ensures err { IfErr result (λ e. Rejects e.kind (IsDocument bytes.now) (IsDocument bytes.now → ⊥)) }
-        ensures exact { FailsOrAsks DocumentFault bytes.now (IsDocument bytes.now) result }
+        ensures err { IfErr result (λ e. NoValueOrMemory e.kind (IsDocument bytes.now) (IsDocument bytes.now → ⊥)) }
+        ensures exact { Returns (λ _. tt) (read_document bytes.now) (IsDocument bytes.now) result }
     {
         AnySequence::from_der(NoMemory, bytes)?;
         Ok(DocumentOf {

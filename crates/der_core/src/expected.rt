@@ -1,10 +1,7 @@
 //! An INTEGER that has to be one number, such as the version of a structure that has only one.
 ghost use Rattle.std.specs.Prelude.{◌<◌, ◌∷◌, [], refl};
-ghost use Rattle.der_core.specs.Words.{ExpectedFault, SmallContents, SmallFault, expected_fault_first};
-ghost use Rattle.der_core.specs.Words.{expected_fault_none, integer, integer_contents, is_value, small_fault_first};
-ghost use Rattle.der_core.specs.Words.{small_fault_none, small_means_one, small_of_bytes, small_relates};
-ghost use Rattle.der_core.specs.Words.{small_shortest};
-ghost use Rattle.der_core.specs.declared.error.ErrorKind.TheVariants as kind;
+ghost use Rattle.der_core.specs.Words.{SmallContents, expected, expected_reads, integer_contents, small_of_bytes};
+ghost use Rattle.der_core.specs.Words.{small_relates, small_shortest};
 
 use crate::back_writer::BackWriter;
 use crate::decode::DecodeValue;
@@ -33,6 +30,10 @@ impl<const N: u8> Contents for Expected<N> {
 
     ghost written_contents = { λ _. integer_contents (N ∷ []) };
 
+    ghost read = { expected N };
+
+    ghost reads = { expected_reads N };
+
     ghost means_one = { λ v w c p q. refl };
 
     ghost contents_of_bytes = { λ _. small_of_bytes N };
@@ -45,8 +46,6 @@ impl<const N: u8> TaggedBy for Expected<N> {
 impl<'a, M: Memory, const N: u8> DecodeValue<&'a [u8], M> for Expected<N> {
     ghost may_allocate = { λ _. ⊥ };
 
-    ghost fault = { ExpectedFault SmallContents SmallFault N (kind.Value integer) };
-
     fn decode_value<R: Reader<&'a [u8]>>(
         memory: M,
         reader: &mut R,
@@ -57,12 +56,6 @@ impl<'a, M: Memory, const N: u8> DecodeValue<&'a [u8], M> for Expected<N> {
         }
         Ok(Expected)
     }
-
-    ghost fault_none = { expected_fault_none SmallContents SmallFault N (kind.Value integer) small_means_one
-        small_fault_none (is_value refl) (Unit {0}) };
-
-    ghost fault_first = { expected_fault_first SmallContents SmallFault N (kind.Value integer) small_means_one
-        small_fault_none small_fault_first };
 }
 
 impl<const N: u8> EncodeValue for Expected<N> {

@@ -1,59 +1,88 @@
 //! Rows of parts at the front of contents whose rest depends on them.
 ghost use Rattle.std.specs.Prelude.{List, ℕ};
-ghost use Rattle.der_core.specs.declared.error.ErrorKind.{ErrorKind};
-ghost use Rattle.der_core.specs.Words.{AllocatesInParts, AreFirst, AreNone, IsToldApart, NoFault, NoneIn, PartsFault};
-ghost use Rattle.der_core.specs.Words.{ReadsRow, front_none, no_fault_first, no_parts_none_in, no_parts_told_apart};
-ghost use Rattle.der_core.specs.Words.{parts_fault_first, parts_told_apart};
+ghost use Rattle.der_core.specs.Words.{AllocatesInParts, FrontReading, IsToldApart, NoParts, PartsContents};
+ghost use Rattle.der_core.specs.Words.{ReadsFronts, ReadsRow, front_done, front_done_reads, front_parts};
+ghost use Rattle.der_core.specs.Words.{front_parts_reads};
+ghost use Rattle.der_core.specs.Words.{no_parts_told_apart, parts_told_apart};
 
 use crate::decode::Decode;
 use crate::error::Result;
 use crate::memory::Memory;
 use crate::reader::{Octets, Reader};
-use crate::types::Contents;
+use crate::types::Encoding;
 
-/// A row of parts, each of which is there, that is read at the front of what is left.
-pub trait DecodeFront<B: Octets, M: Memory>: Contents + Sized + Drop {
+/// A row of parts, each of which is there, at the front of contents that go on behind it.
+pub trait FrontRow {
+    /// What rows of the type mean.
+    ghost Value: { Type 0 };
+
+    /// What a row means.
+    ghost value: { Self → Value };
+
+    /// The value has a row of these octets.
+    ghost row_octets: { Value → List ℕ → Type 0 };
+
+    /// The value whose row is at the front, with the bytes behind it, or the kind of error of the first fault.
+    ghost read_row: { FrontReading Value };
+
+    /// The function reads the rows of the grammar and no others, and its faults are about the bytes.
+    ghost reads_row: { ReadsFronts row_octets read_row };
+
+    /// A row is no proper beginning of another one.
+    ghost told_apart: { IsToldApart row_octets };
+}
+
+/// A row that is read at the front of what is left.
+pub trait DecodeFront<B: Octets, M: Memory>: FrontRow + Sized + Drop {
     /// What may be left where reading the row may allocate.
     ghost may_allocate: { List ℕ → Type 0 };
-
-    /// Bytes that begin with no row, with the kind of error of their first fault.
-    ghost fault: { ErrorKind → List ℕ → Type 0 };
 
     /// Reads the row at the front of what is left.
     fn decode_front<R: Reader<B>>(memory: M, reader: &mut R) -> Result<Self>
         ensures { let before = R.left reader.old in
-            ReadsRow Self.value Self.contents fault may_allocate result before (R.left reader.new) };
+            ReadsRow Self.value Self.read_row may_allocate result before (R.left reader.new) };
+}
 
-    /// A row is no proper beginning of another one.
-    ghost told_apart: { IsToldApart Self.contents };
+impl FrontRow for () {
+    ghost Value = { Unit {0} };
 
-    ghost fault_none: { AreNone (NoneIn Self.contents) fault };
+    ghost value = { λ _. tt };
 
-    ghost fault_first: { AreFirst fault };
+    ghost row_octets = { NoParts };
+
+    ghost read_row = { front_done };
+
+    ghost reads_row = { front_done_reads };
+
+    ghost told_apart = { no_parts_told_apart };
+}
+
+impl<A: Encoding, B: FrontRow> FrontRow for (A, B) {
+    ghost Value = { A.Value × B.Value };
+
+    ghost value = { λ parts. (A.value parts.0, B.value parts.1) };
+
+    ghost row_octets = { PartsContents A.encoding B.row_octets };
+
+    ghost read_row = { front_parts A.read_front B.read_row };
+
+    ghost reads_row = { front_parts_reads A.reads_front B.reads_row };
+
+    ghost told_apart = { parts_told_apart A.encoding B.row_octets A.delimited B.told_apart };
 }
 
 impl<'a, M: Memory> DecodeFront<&'a [u8], M> for () {
     ghost may_allocate = { λ _. ⊥ };
 
-    ghost fault = { NoFault };
-
     #[inline(always)]
     fn decode_front<R: Reader<&'a [u8]>>(_memory: M, _reader: &mut R) -> Result<()> {
         Ok(())
     }
-
-    ghost told_apart = { no_parts_told_apart };
-
-    ghost fault_none = { no_parts_none_in };
-
-    ghost fault_first = { no_fault_first };
 }
 
 impl<'a, M: Memory, A: Decode<&'a [u8], M>, B: DecodeFront<&'a [u8], M>> DecodeFront<&'a [u8], M>
     for (A, B) {
     ghost may_allocate = { AllocatesInParts A.encoding A.Decode.may_allocate B.DecodeFront.may_allocate };
-
-    ghost fault = { PartsFault A.encoding A.Decode.fault B.DecodeFront.fault };
 
     #[inline(always)]
     fn decode_front<R: Reader<&'a [u8]>>(memory: M, reader: &mut R) -> Result<(A, B)> {
@@ -61,12 +90,4 @@ impl<'a, M: Memory, A: Decode<&'a [u8], M>, B: DecodeFront<&'a [u8], M>> DecodeF
         let rest = B::decode_front(memory, reader)?;
         Ok((first, rest))
     }
-
-    ghost told_apart = { parts_told_apart A.encoding B.contents A.delimited B.DecodeFront.told_apart };
-
-    ghost fault_none = { front_none A.encoding B.contents A.Decode.fault B.DecodeFront.fault A.delimited
-        A.Decode.fault_none B.DecodeFront.fault_none };
-
-    ghost fault_first = { parts_fault_first A.encoding B.contents A.Decode.fault B.DecodeFront.fault A.delimited
-        A.Decode.fault_none A.Decode.fault_first B.DecodeFront.fault_first };
 }

@@ -1,11 +1,10 @@
 //! The last part of some contents: one encoding, or an OPTIONAL one.
 ghost use Rattle.std.specs.Prelude.{◌≡◌, Option};
 ghost use Rattle.std.specs.Option.{option_map};
-ghost use Rattle.der_core.specs.Words.{AllocatesIn, AllocatesLast, AloneFault, HasOptional, LastContents, LastFault};
-ghost use Rattle.der_core.specs.Words.{Optional, ReadsWhole, TaggedLastFault, Tlv, EncodingFault, last_fault_first, last_part_none};
-ghost use Rattle.der_core.specs.Words.{last_part_of_bytes, last_part_relates, last_part_shortest, optional_last};
-ghost use Rattle.der_core.specs.Words.{last_by_tag_none, tagged_last_first, tlv_relates, tlv_shortest};
-ghost use Rattle.der_core.specs.Words.{written_optional};
+ghost use Rattle.der_core.specs.Words.{AllocatesIn, AllocatesLast, HasOptional, LastContents, ReadsWhole, Tlv, alone};
+ghost use Rattle.der_core.specs.Words.{last, last_by_tag_reads, last_part_of_bytes, last_part_relates};
+ghost use Rattle.der_core.specs.Words.{last_part_shortest, last_reads, optional, optional_last, tagged, tlv_relates};
+ghost use Rattle.der_core.specs.Words.{tlv_shortest, written_optional};
 
 use crate::back_writer::BackWriter;
 use crate::borrowed::Borrowed;
@@ -47,6 +46,10 @@ impl<T: Encoding> Contents for Last<T> {
 
     ghost written_contents = { written_optional T.written_encoding };
 
+    ghost read = { last T.read_front };
+
+    ghost reads = { last_reads T.reads_front T.delimited };
+
     ghost means_one = { optional_last T.encoding T.delimited };
 
     ghost contents_of_bytes = { last_part_of_bytes T.encoding T.encoding_of_bytes };
@@ -55,18 +58,11 @@ impl<T: Encoding> Contents for Last<T> {
 impl<'a, M: Memory, T: Decode<&'a [u8], M>> DecodeParts<&'a [u8], M> for Last<T> {
     ghost may_allocate = { AllocatesLast T.Decode.may_allocate };
 
-    ghost fault = { LastFault T.encoding T.Decode.fault };
-
     #[inline(always)]
     fn decode_parts<R: Reader<&'a [u8]>>(memory: M, reader: &mut R) -> Result<Last<T>> {
         let part = decode_last(memory, reader)?;
         Ok(Last(part))
     }
-
-    ghost fault_none = { last_part_none T.encoding T.Decode.fault T.delimited T.Decode.fault_none };
-
-    ghost fault_first = { last_fault_first T.encoding T.Decode.fault T.delimited T.Decode.fault_none
-        T.Decode.fault_first };
 }
 
 impl<T: Encode> EncodeValue for Last<T> {
@@ -113,6 +109,10 @@ impl<T: Contents + FixedTag> Contents for LastByTag<T> {
 
     ghost written_contents = { ⟦<Last<T> as Contents>⟧.written_contents };
 
+    ghost read = { alone (optional T.TAG.octet (tagged T.TAG T.read)) };
+
+    ghost reads = { last_by_tag_reads T.TAG T.reads };
+
     ghost means_one = { ⟦<Last<T> as Contents>⟧.means_one };
 
     ghost contents_of_bytes = { ⟦<Last<T> as Contents>⟧.contents_of_bytes };
@@ -122,20 +122,12 @@ impl<'a, M: Memory, T: DecodeValue<&'a [u8], M> + FixedTag> DecodeParts<&'a [u8]
     for LastByTag<T> {
     ghost may_allocate = { AllocatesIn (Tlv T.TAG.octet T.DecodeValue.may_allocate) };
 
-    ghost fault = { TaggedLastFault T.TAG (λ v. Tlv T.TAG.octet (T.contents v))
-        (EncodingFault T.TAG T.DecodeValue.fault) };
-
     #[inline(always)]
     fn decode_parts<R: Reader<&'a [u8]>>(memory: M, reader: &mut R) -> Result<LastByTag<T>> {
         let part = decode_optional(memory, reader)?;
         reader.finish()?;
         Ok(LastByTag(Last(part)))
     }
-
-    ghost fault_none = { last_by_tag_none T.TAG T.contents T.DecodeValue.fault T.means_one T.DecodeValue.fault_none };
-
-    ghost fault_first = { tagged_last_first T.TAG T.contents T.DecodeValue.fault T.means_one T.DecodeValue.fault_none
-        T.DecodeValue.fault_first };
 }
 
 impl<T: EncodeValue + FixedTag> EncodeValue for LastByTag<T> {
@@ -170,8 +162,7 @@ pub fn decode_whole<'a, T: Decode<&'a [u8], M>, M: Memory, R: Reader<&'a [u8]>>(
     reader: &mut R,
 ) -> Result<T>
     ensures { let may = AllocatesIn T.Decode.may_allocate in
-        let fault = AloneFault T.encoding T.Decode.fault in
-        ReadsWhole T.value T.encoding fault may result (R.left reader.old) (R.left reader.new) }
+        ReadsWhole T.value (alone T.read_front) may result (R.left reader.old) (R.left reader.new) }
 {
     let value = T::decode(memory, reader)?;
     reader.finish()?;
@@ -186,9 +177,8 @@ pub fn decode_last<'a, T: Decode<&'a [u8], M>, M: Memory, R: Reader<&'a [u8]>>(
     reader: &mut R,
 ) -> Result<Option<T>>
     ensures { let may = AllocatesLast T.Decode.may_allocate in
-        let fault = LastFault T.encoding T.Decode.fault in
         let before = R.left reader.old in
-        ReadsWhole (option_map T.value) (Optional T.encoding) fault may result before (R.left reader.new) }
+        ReadsWhole (option_map T.value) (last T.read_front) may result before (R.left reader.new) }
 {
     if reader.peek_octet().is_none() {
         reader.finish()?;

@@ -1,8 +1,8 @@
 //! Laws of comparing, copying and reading: functions that do nothing, each with a law as its contract.
-ghost use Rattle.std.specs.Prelude.{◌≡◌, ◌≤◌, ℕ, Result, length, true, false};
+ghost use Rattle.std.specs.Prelude.{◌≡◌, ℕ, true, false};
 ghost use Rattle.std.specs.Bool.{Decides};
 ghost use Rattle.std.specs.Ordering.{nat_cmp};
-ghost use Rattle.der_core.specs.Words.{encoding_of, OnlyWhole, Input, left_in, limit, ReadsOrFaults, octets_of};
+ghost use Rattle.der_core.specs.Words.{encoding_of, ReadsContents, ReadsFronts, octets_of};
 ghost use Rattle.der_core.specs.Words.{integer, sequence, bytes_of};
 ghost use Rattle.der_core.specs.declared.document.DocumentOf as documents;
 ghost use Rattle.der_core.specs.declared.document.Open as marks;
@@ -14,15 +14,14 @@ ghost use Rattle.der_core.specs.declared.octet_string.OctetStringRef as strings;
 ghost use Rattle.der_core.specs.declared.tag.Tag as octets;
 ghost use Rattle.der_core.specs.declared.tag.TagNumber as tags;
 
-use crate::decode::DecodeValue;
 use crate::document::{DocumentOf, Open};
 use crate::error::{Error, ErrorKind};
 use crate::header::Header;
 use crate::integer::UintRef;
 use crate::length::Length;
-use crate::memory::Memory;
 use crate::octet_string::OctetStringRef;
 use crate::tag::{Tag, TagNumber};
+use crate::types::{Contents, Encoding};
 
 /// Lengths compare as their numbers.
 pub fn lemma_lengths_compare_by_number()
@@ -64,11 +63,12 @@ pub fn lemma_clones_hold_the_same()
         → ⟦<OctetStringRef<'static> as Clone>⟧.is_clone a b → octets_of b ≡ octets_of a }
 {}
 
-/// For contents with a fault, `decode_value` of any type returns the error of that fault, or `OutOfMemory`. This
-/// follows from its contract in the trait.
-pub fn lemma_contents_are_rejected_by_their_fault<'a, T: DecodeValue<&'a [u8], M>, M: Memory>()
-    ensures { let may = T.DecodeValue.may_allocate in
-        (result : Result T errors.Error) (before after : Input) → length (left_in before) ≤ limit
-        → ReadsOrFaults T.value T.contents T.DecodeValue.fault may result before after
-        → OnlyWhole T.DecodeValue.fault may result before }
+/// A type's function reads the contents of its grammar and no others, and its faults are about the bytes.
+pub fn lemma_contents_are_read<T: Contents>()
+    ensures { ReadsContents T.contents T.read }
+{}
+
+/// A type's function reads the encodings of its grammar and no others, and its faults are about the bytes.
+pub fn lemma_encodings_are_read<T: Encoding>()
+    ensures { ReadsFronts T.encoding T.read_front }
 {}

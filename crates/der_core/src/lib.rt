@@ -49,13 +49,13 @@ pub use encode::{Encode, EncodeValue, joined_len};
 pub use error::{Error, ErrorKind, Result};
 pub use expected::Expected;
 pub use file_system::FileSystem;
-pub use front::DecodeFront;
+pub use front::{DecodeFront, FrontRow};
 pub use header::Header;
 pub use integer::{AsUintRef, Uint, UintRef};
 pub use last_part::{Last, LastByTag, decode_last, decode_whole};
 pub use laws::{
-    lemma_clones_hold_the_same, lemma_contents_are_rejected_by_their_fault,
-    lemma_documents_compare_by_bytes, lemma_headers_compare_by_value, lemma_kinds_are_told_apart,
+    lemma_clones_hold_the_same, lemma_contents_are_read, lemma_documents_compare_by_bytes,
+    lemma_encodings_are_read, lemma_headers_compare_by_value, lemma_kinds_are_told_apart,
     lemma_lengths_compare_by_number, lemma_tag_numbers_compare_by_number,
 };
 pub use length::Length;

@@ -2,8 +2,8 @@
 ghost use Rattle.std.specs.Prelude.{◌≡◌, ◌≤◌, ◌<◌, ◌↔◌, ℕ, List, IsTrue, length, slice_index, IfOk, IfErr};
 ghost use Rattle.der_core.specs.Length.{limit};
 ghost use Rattle.der_core.specs.OctetString.{OctetContents};
-ghost use Rattle.der_core.specs.Faults.{NoFault};
-ghost use Rattle.der_core.specs.Laws.Faults.{no_fault_none, no_fault_first};
+ghost use Rattle.der_core.specs.Readings.{octets_of_all};
+ghost use Rattle.der_core.specs.Laws.Readings.{octets_read};
 ghost use Rattle.der_core.specs.Laws.OctetString.{octets_mean_one, octets_of_bytes, octets_relate, octets_shortest};
 ghost use Rattle.der_core.specs.Tags.{octet_string};
 ghost use Rattle.der_core.specs.Encodings.{AreBytes};
@@ -87,6 +87,10 @@ impl Contents for OctetStringRef<'_> {
 
     ghost written_contents = { λ octets. octets };
 
+    ghost read = { octets_of_all };
+
+    ghost reads = { octets_read };
+
     ghost means_one = { octets_mean_one };
 
     ghost contents_of_bytes = { octets_of_bytes };
@@ -105,8 +109,6 @@ impl EqualByValue for OctetStringRef<'_> {
 impl<'a, M: Memory> DecodeValue<&'a [u8], M> for OctetStringRef<'a> {
     ghost may_allocate = { λ _. ⊥ };
 
-    ghost fault = { NoFault };
-
     fn decode_value<R: Reader<&'a [u8]>>(
         _memory: M,
         reader: &mut R,
@@ -115,10 +117,6 @@ impl<'a, M: Memory> DecodeValue<&'a [u8], M> for OctetStringRef<'a> {
         let bytes = reader.read_slice(header.length)?;
         Ok(OctetStringRef { bytes })
     }
-
-    ghost fault_none = { no_fault_none _ };
-
-    ghost fault_first = { no_fault_first };
 }
 
 impl EncodeValue for OctetStringRef<'_> {

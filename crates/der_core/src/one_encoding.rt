@@ -16,11 +16,13 @@ use crate::types::{Contents, Encoding, FixedTag};
 
 /// Contents of which each value has at most one.
 pub trait OneContents: Contents {
+    /// Two contents of a value are the same.
     ghost one_contents: { (v : Self.Value) → AtMostOne (Self.contents v) };
 }
 
 /// Encodings of which each value has at most one.
 pub trait OneEncoding: Encoding {
+    /// Two encodings of a value are the same.
     ghost one_encoding: { (v : Self.Value) → AtMostOne (Self.encoding v) };
 }
 

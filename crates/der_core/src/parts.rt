@@ -1,11 +1,9 @@
 //! Parts of contents in a row, as a type: a nested pair that ends with `()`, as `(A, (B, ()))`, or with an OPTIONAL last
 //! part, as `(A, Last<B>)`. A row is written as contents, `(Borrowed(&self.a), (Borrowed(&self.b), ())).value_len()`.
 ghost use Rattle.std.specs.Prelude.{List, [], ℕ};
-ghost use Rattle.der_core.specs.declared.error.ErrorKind.{ErrorKind};
-ghost use Rattle.der_core.specs.Words.{AllocatesInParts, AreFirst, AreNone, EndFault, HaveParts, NoneHas, NoParts};
-ghost use Rattle.der_core.specs.Words.{PartsContents, PartsFault, ReadsOrFaults, end_fault_first, end_fault_none};
-ghost use Rattle.der_core.specs.Words.{no_parts_mean_one, no_parts_of_bytes, no_parts_relate, no_parts_shortest};
-ghost use Rattle.der_core.specs.Words.{parts_fault_first, parts_fault_none, parts_mean_one, parts_of_bytes};
+ghost use Rattle.der_core.specs.Words.{AllocatesInParts, HaveParts, NoParts, PartsContents, ReadsWhole, no_parts};
+ghost use Rattle.der_core.specs.Words.{no_parts_mean_one, no_parts_of_bytes, no_parts_read, no_parts_relate};
+ghost use Rattle.der_core.specs.Words.{no_parts_shortest, parts, parts_mean_one, parts_of_bytes, parts_read};
 ghost use Rattle.der_core.specs.Words.{parts_relate, parts_shortest, written_parts};
 
 use crate::back_writer::BackWriter;
@@ -23,17 +21,10 @@ pub trait DecodeParts<B: Octets, M: Memory>: Contents + Sized + Drop {
     /// The contents whose reading may allocate.
     ghost may_allocate: { List ℕ → Type 0 };
 
-    /// Contents that mean no value, with the kind of error of their first fault.
-    ghost fault: { ErrorKind → List ℕ → Type 0 };
-
     /// Reads all that is left as the contents octets of a value.
     fn decode_parts<R: Reader<B>>(memory: M, reader: &mut R) -> Result<Self>
         ensures { let before = R.left reader.old in
-            ReadsOrFaults Self.value Self.contents fault may_allocate result before (R.left reader.new) };
-
-    ghost fault_none: { AreNone (NoneHas Self.contents) fault };
-
-    ghost fault_first: { AreFirst fault };
+            ReadsWhole Self.value Self.read may_allocate result before (R.left reader.new) };
 }
 
 impl Contents for () {
@@ -46,6 +37,10 @@ impl Contents for () {
     ghost has_contents = { λ _. Unit {0} };
 
     ghost written_contents = { λ _. [] };
+
+    ghost read = { no_parts };
+
+    ghost reads = { no_parts_read };
 
     ghost means_one = { no_parts_mean_one };
 
@@ -63,6 +58,10 @@ impl<A: Encoding, B: Contents> Contents for (A, B) {
 
     ghost written_contents = { written_parts A.written_encoding B.written_contents };
 
+    ghost read = { parts A.read_front B.read };
+
+    ghost reads = { parts_read A.reads_front B.reads };
+
     ghost means_one = { parts_mean_one A.encoding B.contents A.delimited B.means_one };
 
     ghost contents_of_bytes = { parts_of_bytes A.encoding B.contents A.encoding_of_bytes B.contents_of_bytes };
@@ -71,23 +70,15 @@ impl<A: Encoding, B: Contents> Contents for (A, B) {
 impl<'a, M: Memory> DecodeParts<&'a [u8], M> for () {
     ghost may_allocate = { λ _. ⊥ };
 
-    ghost fault = { EndFault };
-
     #[inline(always)]
     fn decode_parts<R: Reader<&'a [u8]>>(_memory: M, reader: &mut R) -> Result<()> {
         reader.finish()
     }
-
-    ghost fault_none = { end_fault_none };
-
-    ghost fault_first = { end_fault_first };
 }
 
 impl<'a, M: Memory, A: Decode<&'a [u8], M>, B: DecodeParts<&'a [u8], M>> DecodeParts<&'a [u8], M>
     for (A, B) {
     ghost may_allocate = { AllocatesInParts A.encoding A.Decode.may_allocate B.DecodeParts.may_allocate };
-
-    ghost fault = { PartsFault A.encoding A.Decode.fault B.DecodeParts.fault };
 
     #[inline(always)]
     fn decode_parts<R: Reader<&'a [u8]>>(memory: M, reader: &mut R) -> Result<(A, B)> {
@@ -95,12 +86,6 @@ impl<'a, M: Memory, A: Decode<&'a [u8], M>, B: DecodeParts<&'a [u8], M>> DecodeP
         let rest = B::decode_parts(memory, reader)?;
         Ok((first, rest))
     }
-
-    ghost fault_none = { parts_fault_none A.encoding B.contents A.Decode.fault B.DecodeParts.fault A.delimited
-        A.Decode.fault_none B.DecodeParts.fault_none };
-
-    ghost fault_first = { parts_fault_first A.encoding B.contents A.Decode.fault B.DecodeParts.fault A.delimited
-        A.Decode.fault_none A.Decode.fault_first B.DecodeParts.fault_first };
 }
 
 impl EncodeValue for () {

@@ -1,7 +1,8 @@
 //! SEQUENCEs as records of parts: a type that names its parts is read and written with no proof of its own.
-ghost use Rattle.std.specs.Prelude.{◌≡◌, ◌≤◌, List, ℕ, length, refl};
-ghost use Rattle.der_core.specs.Words.{Appends, Counts, IsParts, Prepends, as_parts, free_of, in_parts_none};
-ghost use Rattle.der_core.specs.Words.{in_parts_relate, in_parts_shortest, limit};
+ghost use Rattle.std.specs.Prelude.{◌≡◌, ◌≤◌, Err, List, ℕ, length, refl};
+ghost use Rattle.der_core.specs.declared.error.ErrorKind.{ErrorKind};
+ghost use Rattle.der_core.specs.Words.{Appends, Counts, IsParts, Prepends, as_parts, free_of, in_parts_relate};
+ghost use Rattle.der_core.specs.Words.{in_parts_shortest, limit};
 
 use crate::back_writer::BackWriter;
 use crate::decode::DecodeValue;
@@ -24,6 +25,9 @@ pub trait InParts: Contents + Sized {
     fn from_parts(parts: Self::Parts) -> Self
         ensures { (c : List ℕ) → Self.Parts.contents (Self.Parts.value parts) c → Self.contents (Self.value result) c };
 
+    /// A fault of the row is the value's fault.
+    ghost errs: { (k : ErrorKind) (c : List ℕ) → Self.Parts.read c ≡ Err k → Self.read c ≡ Err k };
+
     /// Each value has the contents of some parts.
     ghost is_parts: { (v : Self.Value) → IsParts (Self.contents v) (Self.has_contents v) (Self.written_contents v)
         Self.Parts.contents Self.Parts.has_contents Self.Parts.written_contents };
@@ -35,18 +39,11 @@ where
 {
     ghost may_allocate = { T.Parts.DecodeParts.may_allocate };
 
-    ghost fault = { T.Parts.DecodeParts.fault };
-
     #[inline(always)]
     fn decode_value<R: Reader<&'a [u8]>>(memory: M, reader: &mut R, _header: Header) -> Result<T> {
         let parts = T::Parts::decode_parts(memory, reader)?;
         Ok(T::from_parts(parts))
     }
-
-    ghost fault_none = { in_parts_none T.Parts.contents T.Parts.has_contents T.Parts.written_contents T.contents
-        T.has_contents T.written_contents T.is_parts T.Parts.DecodeParts.fault T.Parts.DecodeParts.fault_none };
-
-    ghost fault_first = { T.Parts.DecodeParts.fault_first };
 }
 
 /// A type whose contents are written as a row of parts.
@@ -121,6 +118,10 @@ impl<T: Record> Contents for T {
 
     ghost written_contents = { T.Fields.written_contents };
 
+    ghost read = { T.Fields.read };
+
+    ghost reads = { T.Fields.reads };
+
     ghost means_one = { T.Fields.means_one };
 
     ghost contents_of_bytes = { T.Fields.contents_of_bytes };
@@ -141,6 +142,8 @@ impl<T: Record> InParts for T {
     fn from_parts(parts: T::Fields) -> T {
         T::from_fields(parts)
     }
+
+    ghost errs = { λ k c e. e };
 
     ghost is_parts = { as_parts T.Fields.contents T.Fields.has_contents T.Fields.written_contents };
 }

@@ -1,7 +1,7 @@
 //! SEQUENCE OF (X.690 8.10), as a `Vec` of its items.
 ghost use Rattle.std.specs.Prelude.{◌≡◌, ◌≤◌, List, length, map};
-ghost use Rattle.der_core.specs.Words.{limit, free_of, Prepends, ItemsFault, AllocatesForItems, items_fault_none};
-ghost use Rattle.der_core.specs.Words.{items_fault_first, Counts, Appends, items_of_bytes, items_relate};
+ghost use Rattle.der_core.specs.Words.{limit, free_of, Prepends, AllocatesForItems, items, items_read};
+ghost use Rattle.der_core.specs.Words.{Counts, Appends, items_of_bytes, items_relate};
 ghost use Rattle.der_core.specs.Words.{items_shortest, ItemsContents, AllHave, all_encodings, joins_map};
 
 use crate::back_writer::BackWriter;
@@ -26,6 +26,10 @@ impl<T: Encoding> Contents for Vec<T> {
 
     ghost written_contents = { all_encodings T.written_encoding };
 
+    ghost read = { items T.read_front };
+
+    ghost reads = { items_read T.reads_front T.delimited };
+
     ghost means_one = { joins_map T.encoding T.delimited };
 
     ghost contents_of_bytes = { items_of_bytes T.encoding T.encoding_of_bytes };
@@ -37,8 +41,6 @@ impl<T> TaggedBy for Vec<T> {
 
 impl<'a, T: Decode<&'a [u8], Global>> DecodeValue<&'a [u8], Global> for Vec<T> {
     ghost may_allocate = { AllocatesForItems T.encoding T.Decode.may_allocate };
-
-    ghost fault = { ItemsFault T.encoding T.Decode.fault };
 
     fn decode_value<R: Reader<&'a [u8]>>(
         memory: Global,
@@ -54,11 +56,6 @@ impl<'a, T: Decode<&'a [u8], Global>> DecodeValue<&'a [u8], Global> for Vec<T> {
         }
         Ok(items)
     }
-
-    ghost fault_none = { items_fault_none T.encoding T.Decode.fault T.delimited T.Decode.fault_none };
-
-    ghost fault_first = { let none = T.Decode.fault_none in
-        items_fault_first T.encoding T.Decode.fault T.delimited none T.Decode.fault_first };
 }
 
 /// The total length of the encodings of the items.

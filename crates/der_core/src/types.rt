@@ -4,7 +4,8 @@
 //! or both.
 ghost use Rattle.std.specs.Prelude.{◌≡◌, ℕ, List};
 ghost use Rattle.der_core.specs.Words.{MeansOne, IsDelimited, IsOfBytes, Tlv, tlv, tlv_delimited, tlv_of_bytes};
-ghost use Rattle.der_core.specs.Words.{integer, sequence};
+ghost use Rattle.der_core.specs.Words.{integer, sequence, Reading, FrontReading, ReadsContents, ReadsFronts};
+ghost use Rattle.der_core.specs.Words.{tagged, tagged_reads};
 ghost use Rattle.der_core.specs.declared.tag.Tag.{Tag};
 ghost use Rattle.std.specs.Bool.{Decides};
 
@@ -15,6 +16,7 @@ pub trait Contents {
     /// What values of the type mean: the same for borrowed and owned types.
     ghost Value: { Type 0 };
 
+    /// What a value means.
     ghost value: { Self → Value };
 
     /// The value has these contents octets.
@@ -26,8 +28,16 @@ pub trait Contents {
     /// The contents that are written.
     ghost written_contents: { Value → List ℕ };
 
+    /// The value with these contents, or the kind of error of their first fault.
+    ghost read: { Reading Value };
+
+    /// The function reads the contents of the grammar and no others, and its faults are about the bytes.
+    ghost reads: { ReadsContents contents read };
+
+    /// Contents mean at most one value.
     ghost means_one: { MeansOne contents };
 
+    /// Contents are bytes.
     ghost contents_of_bytes: { IsOfBytes contents };
 }
 
@@ -36,6 +46,7 @@ pub trait Encoding {
     /// What values of the type mean: the same for borrowed and owned types.
     ghost Value: { Type 0 };
 
+    /// What a value means.
     ghost value: { Self → Value };
 
     /// The value has this encoding.
@@ -47,13 +58,22 @@ pub trait Encoding {
     /// The encoding that is written.
     ghost written_encoding: { Value → List ℕ };
 
+    /// The value whose encoding is at the front, with the bytes behind it, or the kind of error of the first fault.
+    ghost read_front: { FrontReading Value };
+
+    /// The function reads the encodings of the grammar and no others, and its faults are about the bytes.
+    ghost reads_front: { ReadsFronts encoding read_front };
+
+    /// No encoding is empty or a proper beginning of another, and each means one value.
     ghost delimited: { IsDelimited encoding };
 
+    /// Encodings are bytes.
     ghost encoding_of_bytes: { IsOfBytes encoding };
 }
 
 /// A type with an `==` that is true exactly if both sides mean the same value.
 pub trait EqualByValue: Encoding + PartialEq {
+    /// `==` is true exactly if both sides mean the same value.
     ghost decides: { (a b : Self) → Decides (Self.eq a b) (Self.value a ≡ Self.value b) };
 }
 
@@ -107,6 +127,7 @@ impl TagMarker for SequenceTag {
 
 /// A type whose encodings are SEQUENCEs.
 pub trait Sequence<'a>: FixedTag {
+    /// The tag is that of SEQUENCE.
     ghost is_sequence: { Self.TAG ≡ sequence };
 }
 
@@ -120,6 +141,10 @@ impl<T: Contents + FixedTag> Encoding for T {
     ghost has_encoding = { T.has_contents };
 
     ghost written_encoding = { λ v. tlv T.TAG.octet (T.written_contents v) };
+
+    ghost read_front = { tagged T.TAG T.read };
+
+    ghost reads_front = { tagged_reads T.TAG T.reads };
 
     ghost delimited = { tlv_delimited T.TAG.octet T.contents T.means_one };
 

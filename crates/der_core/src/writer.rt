@@ -22,8 +22,10 @@ pub trait Writer {
         ensures nothing { OnErr result ((written self.new ≡ written self.old) × (room self.new ≡ room self.old)) }
         ensures kept { keeps self.old self.new };
 
+    /// A writer that takes nothing keeps itself.
     ghost keeps_itself: { (w : Self) → keeps w w };
 
+    /// What is kept by two steps is kept by both together.
     ghost keeps_through: { (u v w : Self) → keeps u v → keeps v w → keeps u w };
 }
 

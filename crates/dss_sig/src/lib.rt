@@ -5,13 +5,12 @@ mod by_grammar;
 mod optional_salt;
 
 ghost use Rattle.std.specs.Prelude.{◌≡◌, IfErr, IfOk, OnErr, length};
-ghost use Rattle.der_core.specs.Words.{FailsExactly, IsMeaning, IsWrittenAlone, Means, WhyNotWritten, WholeFault};
-ghost use Rattle.der_core.specs.Words.{encode_error};
+ghost use Rattle.der_core.specs.Words.{Answers, IsMeaning, IsWrittenAlone, Means, WhyNotWritten, encode_error, whole};
 
 pub use by_grammar::{read_signature, write_signature};
 use der_core::{
-    BackWriter, Borrowed, Decode, Encode, EncodeInParts, EncodeValue, Encoding, Length, NoMemory,
-    Record, Result, UintRef, Writer, read_borrowed, write_only,
+    BackWriter, Borrowed, Encode, EncodeInParts, EncodeValue, Encoding, Length, Record, Result,
+    UintRef, Writer, read_borrowed, write_only,
 };
 pub use optional_salt::{OptionalSalt, OptionalSaltRef, read_optional_salt, write_optional_salt};
 
@@ -62,8 +61,8 @@ pub fn read<'a>(bytes: &'a [u8]) -> Result<DssSigValueRef<'a>>
         IfOk result (λ x. IsMeaning T.encoding bytes.now (T.value x)) }
     ensures err { let T = ⟦<DssSigValueRef<'a> as Encoding>⟧ in
         OnErr result ((v : T.Value) → Means T.encoding bytes.now v → ⊥) }
-    ensures exact { let fault = ⟦<DssSigValueRef<'a> as Decode<&'a [u8], NoMemory>>⟧.fault in
-        FailsExactly (WholeFault ⟦<DssSigValueRef<'a> as Encoding>⟧.encoding fault) bytes.now result }
+    ensures exact { let T = ⟦<DssSigValueRef<'a> as Encoding>⟧ in
+        Answers T.value result (whole T.read_front bytes.now) }
 {
     read_borrowed(bytes)
 }

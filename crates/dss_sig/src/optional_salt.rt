@@ -1,9 +1,7 @@
 //! A SEQUENCE with an OPTIONAL last part.
 ghost use Rattle.std.specs.Prelude.{◌≡◌, IfErr, IfOk, OnErr, length};
-ghost use Rattle.std.specs.Option.{option_map};
-ghost use Rattle.der_core.specs.Words.{FailsExactly, IsMeaning, IsWrittenAlone, Means, WholeFault, bytes_of, octets_of};
-ghost use Rattle.der_core.specs.Words.{WhyNotWritten, encode_error};
-ghost use Rattle.dss_sig.specs.Salt.{HasSalt, OptionalSaltFault, Salt};
+ghost use Rattle.der_core.specs.Words.{Answers, IsMeaning, IsWrittenAlone, Means, WhyNotWritten, encode_error, whole};
+ghost use Rattle.dss_sig.specs.Salt.{HasSalt, Salt, salt_front, salt_of};
 ghost use Rattle.dss_sig.specs.Salt as grammar;
 
 use der_core::{
@@ -54,19 +52,18 @@ impl<U: Encode, S: Encode> EncodeInParts for OptionalSalt<U, S> {
 
 /// What a slice encodes, read without memory; or the error of its first fault.
 pub fn read_optional_salt(bytes: &[u8]) -> Result<OptionalSaltRef<'_>>
-    ensures ok { IfOk result (λ it.
-        IsMeaning grammar.OptionalSalt bytes.now (bytes_of it.iterations, option_map octets_of it.salt)) }
+    ensures ok { IfOk result (λ it. IsMeaning grammar.OptionalSalt bytes.now (salt_of it)) }
     ensures err { OnErr result ((v : Salt) → Means grammar.OptionalSalt bytes.now v → ⊥) }
-    ensures exact { FailsExactly (WholeFault grammar.OptionalSalt OptionalSaltFault) bytes.now result }
+    ensures exact { Answers salt_of result (whole salt_front bytes.now) }
 {
     read_borrowed(bytes)
 }
 
 /// Writes the only encoding to the front of a slice and returns its length.
 pub fn write_optional_salt(it: &OptionalSaltRef<'_>, out: &mut [u8]) -> Result<usize>
-    ensures ok { let v : Salt = (bytes_of it.now.iterations, option_map octets_of it.now.salt) in
+    ensures ok { let v = salt_of it.now in
         IfOk result (IsWrittenAlone grammar.OptionalSalt v out.old out.new) }
-    ensures err { let v : Salt = (bytes_of it.now.iterations, option_map octets_of it.now.salt) in
+    ensures err { let v = salt_of it.now in
         IfErr result (λ e. WhyNotWritten (HasSalt v) grammar.OptionalSalt v (length out.old) (encode_error e.kind)) }
     ensures unchanged { OnErr result (out.new ≡ out.old) }
 {

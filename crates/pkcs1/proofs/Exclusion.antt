@@ -2,7 +2,7 @@
 use Rattle.der_core.specs.Document.{Excludes}
 use Rattle.pkcs1.specs.Keys.{RsaPublicKey, RsaPrivateKey}
 use Rattle.pkcs1_params.specs.Parameters.{RsaPssParams, pss_fields, RsaOaepParams, oaep_fields}
-use Rattle.pkcs1_params.specs.Laws.Parameters.{sequences_exclude}
+use Rattle.pkcs1_params.proofs.Parameters.{sequences_exclude}
 
 pub public_pss : Excludes RsaPublicKey RsaPssParams
 public_pss v w encoding p q = sequences_exclude (pss_fields w) encoding p q

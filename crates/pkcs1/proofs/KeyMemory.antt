@@ -6,21 +6,22 @@ use Rattle.std.specs.Prelude.{refl}
 use Rattle.der_core.specs.Tlv.{Tlv}
 use Rattle.der_core.specs.Encodings.{IsDelimited}
 use Rattle.der_core.specs.Laws.Lists.{same_fronts}
-use Rattle.der_core.specs.Laws.Encodings.{tlv_split, tlv_not_empty, joins_last}
-use Rattle.der_core.specs.Laws.Growing.{tlv_recast}
+use Rattle.der_core.specs.Laws.Encodings.{tlv_delimited, tlv_split, tlv_not_empty, joins_last}
+use Rattle.der_core.specs.Laws.ContentsShorter.{tlv_recast}
 use Rattle.der_core.specs.Document.{Means}
-use Rattle.der_core.specs.Faults.{Faulty}
 use Rattle.der_core.specs.Integer.{Integer, IntegerContents}
-use Rattle.der_core.specs.Reading.{AllocatesBehind, AllocatesIn, Begins, Rejects}
+use Rattle.der_core.specs.Reading.{AllocatesBehind, AllocatesIn, Begins, FaultOrMemory, NoValueOrMemory}
 use Rattle.der_core.specs.declared.error.ErrorKind.{ErrorKind}
-use Rattle.pkcs1.specs.Allocating.{AllocatesForKey, AllocatesInKey, AllocatesInNumbers, AllocatesInOther}
+use Rattle.pkcs1.specs.Allocating.{AllocatesForKey, AllocatesInNumbers, AllocatesInOther}
 use Rattle.pkcs1.specs.Allocating.{AllocatesInOthers, OthersFollow}
-use Rattle.pkcs1.specs.Versions.{VersionEncoding}
-use Rattle.der_core.specs.Parts.{AllocatesInParts}
+use Rattle.pkcs1.specs.Versions.{VersionContents, VersionEncoding}
+use Rattle.der_core.specs.Parts.{AllocatesInParts, IsToldApart, PartsContents}
+use Rattle.der_core.specs.Laws.FrontParts.{no_parts_told_apart, parts_told_apart}
+use Rattle.der_core.proofs.FrontParts.{front_delimited}
 use Rattle.pkcs1.specs.Keys.{FrontContents, OtherPrime, OtherPrimeInfo, OtherPrimeInfos, PrivateKey}
 use Rattle.pkcs1.specs.Keys.{PrivateKeyContents, front_parts}
-use Rattle.pkcs1.specs.Laws.KeyFaults.{front_is_delimited}
 use Rattle.pkcs1.specs.Laws.PrivateKey.{in_front}
+use Rattle.pkcs1.specs.Laws.Versions.{version_means_one}
 use Rattle.der_core.specs.Laws.Parts.{parts_ask_none}
 
 -- Numbers that need no memory are read without.
@@ -32,6 +33,16 @@ numbers_ask_none {V} {encoding} {may} none =
     next : {rest : List ℕ → Type 0} → ((c : List ℕ) → rest c → ⊥) → (c : List ℕ)
         → AllocatesInParts encoding may rest c → ⊥
     next rest = parts_ask_none encoding none rest
+
+-- What is in front of the other primes is told apart.
+front_is_delimited : {V : Type 0} {encoding : V → List ℕ → Type 0} → IsDelimited encoding
+    → IsDelimited (FrontContents encoding)
+front_is_delimited {V} {encoding} d =
+    front_delimited VersionEncoding _ (tlv_delimited 2 VersionContents version_means_one)
+    (next (next (next (next (next (next (next (next no_parts_told_apart))))))))
+  where
+    next : {R : Type 0} {Rest : R → List ℕ → Type 0} → IsToldApart Rest → IsToldApart (PartsContents encoding Rest)
+    next {R} {Rest} rest = parts_told_apart encoding Rest d rest
 
 module _ {V : Type 0} {encoding : V → List ℕ → Type 0} (d : IsDelimited encoding) (key : PrivateKey V)
     (two : key.other_prime_infos ≡ None) where
@@ -69,7 +80,7 @@ module _ {V : Type 0} {encoding : V → List ℕ → Type 0} (d : IsDelimited en
   -- So such an encoding isn't rejected.
   pub two_primes_rejected : (may_allocate : List ℕ → Type 0) → ((b : List ℕ) → may_allocate b → ⊥)
       → (whole : List ℕ) (kind : ErrorKind) → Means (λ v. Tlv 48 (PrivateKeyContents encoding v)) whole key
-      → Rejects kind (AllocatesIn (Tlv 48 (AllocatesForKey encoding may_allocate)) whole)
+      → NoValueOrMemory kind (AllocatesIn (Tlv 48 (AllocatesForKey encoding may_allocate)) whole)
       ((v : PrivateKey V) → Means (λ v. Tlv 48 (PrivateKeyContents encoding v)) whole v → ⊥) → ⊥
   two_primes_rejected may_allocate none whole kind means (inl w) = two_primes_ask may_allocate none whole means.1 w.1
   two_primes_rejected may_allocate none whole kind means (inr w) = w.1 key means
@@ -80,12 +91,12 @@ module _ {Asks Needs : List ℕ → Type 0} (told : (c : List ℕ) → Asks c �
   asks_as encoding (b, rest, e, p) = (b, rest, e, tlv_recast b p (told p.contents p.holds))
 
   pub rejects_as : (kind : ErrorKind) (encoding : List ℕ) {none : Type 0}
-      → Rejects kind (AllocatesIn (Tlv 48 Asks) encoding) none → Rejects kind (AllocatesIn (Tlv 48 Needs) encoding) none
+      → NoValueOrMemory kind (AllocatesIn (Tlv 48 Asks) encoding) none → NoValueOrMemory kind (AllocatesIn (Tlv 48 Needs) encoding) none
   rejects_as kind encoding (inl w) = inl (w.0, asks_as encoding w.1)
   rejects_as kind encoding (inr w) = inr w
 
   pub faulty_as : (kind : ErrorKind) (encoding : List ℕ) {fault : Type 0}
-      → Faulty kind (AllocatesIn (Tlv 48 Asks) encoding) fault → Faulty kind (AllocatesIn (Tlv 48 Needs) encoding) fault
+      → FaultOrMemory kind (AllocatesIn (Tlv 48 Asks) encoding) fault → FaultOrMemory kind (AllocatesIn (Tlv 48 Needs) encoding) fault
   faulty_as kind encoding (inl w) = inl (w.0, asks_as encoding w.1)
   faulty_as kind encoding (inr f) = inr f
 
@@ -114,11 +125,6 @@ others_begin = asks_as (λ c. ⊎_elim (λ w. w) (λ w. let t = w.3 in absurd (n
 pub borrowed_key_asks : (c : List ℕ) → AllocatesForKey Integer Borrowed c → OthersFollow c
 borrowed_key_asks c (inl w) = absurd (numbers_ask_none borrowed_ask c w)
 borrowed_key_asks c (inr (front, (x, y, t, others, is))) = (front, (x, y, t, others_begin y others, is))
-
--- A view asks for none at all.
-pub view_asks_none : (c : List ℕ) → AllocatesInKey Integer Borrowed (λ _. ⊥) c → ⊥
-view_asks_none c (inl w) = numbers_ask_none borrowed_ask c w
-view_asks_none c (inr (front, (x, y, t, w, is))) = w
 
 -- A number that is owned is copied, so an owned key needs memory as soon as its first number is there.
 abbrev Copied : List ℕ → Type 0

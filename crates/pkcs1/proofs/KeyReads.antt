@@ -1,15 +1,15 @@
 -- Reading a private key: what is in front of its other primes, and these.
-use Rattle.std.proofs.Common.{◌≡◌, ℕ, List, sym, subst, Some, None}
+use Rattle.std.proofs.Common.{◌≡◌, ℕ, List, [], refl, ap, ◌∙◌, inl, inr, ⊎_elim, Option, Some, None, Ok}
 use Rattle.der_core.specs.declared.error.ErrorKind.{ErrorKind}
-use Rattle.der_core.specs.Encodings.{Then}
-use Rattle.der_core.specs.Input.{Input}
-use Rattle.der_core.specs.Laws.Encodings.{last_holds}
-use Rattle.der_core.specs.Laws.Rows.{all_gives, front_faults, later_faults}
-use Rattle.der_core.specs.Laws.Sequences.{ContentsFaulty, ContentsGive}
-use Rattle.pkcs1.specs.Allocating.{AllocatesInKey, AllocatesInNumbers}
-use Rattle.pkcs1.specs.KeyFaults.{FrontFault, OthersFault, PrivateKeyFault}
-use Rattle.pkcs1.specs.Keys.{Eight, FrontContents, OthersOf, PrivateKey, PrivateKeyContents, eight_numbers}
-use Rattle.pkcs1.specs.Laws.PrivateKey.{of_front}
+use Rattle.der_core.specs.Encodings.{AreBytes, IsDelimited}
+use Rattle.der_core.specs.Input.{Input, left_in, read_from}
+use Rattle.der_core.specs.Reading.{HoldsBytes}
+use Rattle.der_core.specs.Readings.{FrontReading, ReadsFronts, ◌>>=◌, made}
+use Rattle.der_core.proofs.ReadSteps.{Fails}
+use Rattle.pkcs1.specs.Allocating.{AllocatesInKey}
+use Rattle.pkcs1.specs.KeyReadings.{front_read, key_from, others_read, private_key_read}
+use Rattle.pkcs1.specs.Keys.{Eight, OtherPrime}
+use Rattle.pkcs1.specs.Laws.KeyReadings.{front_reads}
 use Rattle.pkcs1.specs.Versions.{number_of}
 use Rattle.pkcs1.specs.declared.version.Version.{Version}
 
@@ -20,38 +20,42 @@ front_of value v (a, (b, (c, (d, (e, (f, (g, (h, _)))))))) = (
   (value a, (value b, (value c, (value d, (value e, (value f, (value g, (value h, tt)))))))),
 )
 
-module _ {V : Type 0} (encoding : V → List ℕ → Type 0) where
+module _ {V : Type 0} {encoding : V → List ℕ → Type 0} {at : FrontReading V} (law : ReadsFronts encoding at)
+    (d : IsDelimited encoding) where
   -- The version and the eight numbers were in front of what is left now.
   abbrev pub FrontGives : ℕ × Eight V (Unit {0}) → Input → Input → Type 0
   FrontGives front before after =
       (before ≡ None → after ≡ None)
-      × ((i : List ℕ) → before ≡ Some i → Then (FrontContents encoding front) (λ rest. after ≡ Some rest) i)
+      × ((i : List ℕ) → before ≡ Some i
+      → (rest : List ℕ) × (front_read at i ≡ Ok (front, rest)) × (after ≡ Some rest))
 
-  pub key_given : {n : ℕ} {before mid after : Input} (key : PrivateKey V)
-      → FrontGives (n, eight_numbers key tt) before mid
-      → ContentsGive (OthersOf encoding n key.other_prime_infos) mid after
-      → ContentsGive (PrivateKeyContents encoding key) before after
-  key_given {n} {before} key gives others =
-      let all = all_gives before gives others in
-      let p = all.3 in
-      let front = subst (λ v. FrontContents encoding (v, eight_numbers key tt) p.0) (sym p.3.0) p.2 in
-      (all.0, all.1, all.2, of_front encoding key all.0 (p.0, p.1, front, last_holds p.1 p.3.1, p.4))
+  pub key_gives : (front : ℕ × Eight V (Unit {0})) (primes : Option (List (OtherPrime V))) (before mid after : Input)
+      (n : ℕ) → HoldsBytes before n → FrontGives front before mid
+      → (read_from mid (others_read at front.0) ≡ Ok primes) × (after ≡ Some [])
+      → (read_from before (private_key_read at) ≡ Ok (key_from front.1 primes)) × (after ≡ Some [])
+  key_gives front primes None mid after n holds gives others = absurd holds
+  key_gives front primes (Some i) mid after n holds gives others =
+      let g = gives.1 i refl in (
+        ap (λ r. r >>= λ q. made (key_from q.0.1) (others_read at q.0.0) q.1) g.1
+            ∙ ap (λ r. r >>= λ o. Ok (key_from front.1 o)) (rw g.2 at others.0),
+        others.1,
+      )
 
-  module _ (Fault : ErrorKind → List ℕ → Type 0) (may_allocate others_ask : List ℕ → Type 0) where
-    abbrev pub KeyFaulty : ErrorKind → Input → Input → Type 0
-    KeyFaulty = ContentsFaulty (PrivateKeyFault encoding Fault) (AllocatesInKey encoding may_allocate others_ask)
+  module _ (may wants : List ℕ → Type 0) (e : ErrorKind) where
+    abbrev pub KeyFails : Input → Input → Type 0
+    KeyFails = Fails (private_key_read at) (AllocatesInKey encoding may wants) e
 
-    pub key_front_faults : {e : ErrorKind} {before after : Input}
-        → ContentsFaulty (FrontFault encoding Fault) (AllocatesInNumbers encoding may_allocate) e before after
-        → KeyFaulty e before after
-    key_front_faults fails =
-        front_faults (FrontContents encoding) (FrontFault encoding Fault)
-        (λ front. OthersFault encoding Fault front.0) (AllocatesInNumbers encoding may_allocate) others_ask fails
-
-    pub key_others_faults : (front : ℕ × Eight V (Unit {0})) {e : ErrorKind} {before mid after : Input}
-        → FrontGives front before mid → ContentsFaulty (OthersFault encoding Fault front.0) others_ask e mid after
-        → KeyFaulty e before after
-    key_others_faults front gives fails =
-        later_faults (FrontContents encoding) (FrontFault encoding Fault)
-        (λ row. OthersFault encoding Fault row.0) (AllocatesInNumbers encoding may_allocate) others_ask front gives.1
-        fails
+    pub key_others_fail : (front : ℕ × Eight V (Unit {0})) (before mid after : Input) (n : ℕ) → HoldsBytes before n
+        → AreBytes (left_in before) → FrontGives front before mid → Fails (others_read at front.0) wants e mid after
+        → KeyFails before after
+    key_others_fail front None mid after n holds bytes gives fails = absurd holds
+    key_others_fail front (Some i) mid after n holds bytes gives fails =
+        let g = gives.1 i refl in
+        let s = (front_reads law d).gives i g.0 front bytes g.1 in (
+          fails.0,
+          ⊎_elim (λ w. inl (w.0, inr (front, (s.0, g.0, s.2, rw g.2 at w.1, s.1))))
+              (λ f. inr
+              (ap (λ r. r >>= λ q. made (key_from q.0.1) (others_read at q.0.0) q.1) g.1
+              ∙ ap (λ r. r >>= λ o. Ok (key_from front.1 o)) (rw g.2 at f)))
+              fails.1,
+        )

@@ -21,9 +21,9 @@ use Rattle.pkcs1.specs.PrivateKeyValue.{Listed, private_key_with}
 use Rattle.der_core.specs.Laws.SequenceOf.{items_relate}
 use Rattle.pkcs1_params.specs.Errors.{IsAsn1}
 use Rattle.pkcs1.specs.Writing.{HasPublicKey, HasPrivateKey, public_numbers, written_public_key}
-use Rattle.pkcs1.specs.Laws.HeldKeys.{held_has_encoding}
-use Rattle.pkcs1.specs.Laws.KeyEncodings.{only_encoding}
-use Rattle.pkcs1.specs.Laws.PrivateKeys.{IsHeld, private_delimited, private_at_most_one}
+use Rattle.pkcs1.proofs.KeysHaveEncodings.{held_has_encoding}
+use Rattle.pkcs1.proofs.KeyEncodings.{only_encoding}
+use Rattle.pkcs1.proofs.PrivateKeys.{IsHeld, private_delimited, private_at_most_one}
 
 module _ {V : Type 0} (Grammar : V → List ℕ → Type 0) (v : V) {has some : Type 0} (has_some : has → some) where
   uncounted_by : (k : EncodeError) → WhyNotCounted has Grammar v k → WhyNotCounted some Grammar v k
@@ -52,7 +52,8 @@ public_written key has fits =
     → Integer n (tlv 2 (integer_contents n)) =
     λ n canonical few. tlv_relates 2 IntegerContents integer_contents n (λ _. integer_relates n canonical) few in
     tlv_relates 48 (PublicKeyContents Integer) (written_public_key (λ n. tlv 2 (integer_contents n))) key
-    (items_relate Integer IsCanonical (λ n. tlv 2 (integer_contents n)) number (public_numbers key) has) (omega (arith, fits))
+    (items_relate Integer IsCanonical (λ n. tlv 2 (integer_contents n)) number (public_numbers key) has)
+    (omega (arith, fits))
 
 -- A document of a private key holds its one encoding.
 pub document_only : (key : PrivateKey (List ℕ)) (result : Result (DocumentOf Secret) Error)

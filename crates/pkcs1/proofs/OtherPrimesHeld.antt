@@ -1,20 +1,24 @@
 -- The first of the other primes that bytes hold, and those behind it.
 use Rattle.std.proofs.Common.{◌≡◌, ℕ, ◌+◌, ◌-◌, ◌<◌, ◌≤◌, List, [], ◌∷◌, ◌++◌, length, map, refl, sym, ap, ◌∙◌, arith}
-use Rattle.std.proofs.Common.{append-nil, length-append, Some, Err, false}
+use Rattle.std.proofs.Common.{append-nil, drop, length-append, take, take_all, None, Some, Ok, Err, false}
 use Rattle.std.proofs.lemmas.List.{length-map}
-use Rattle.der_core.specs.Faults.{ItemsFault}
-use Rattle.pkcs1.specs.KeyFaults.{OneOtherFault}
 use Rattle.der_core.specs.SequenceOf.{ItemsContents}
 use Rattle.der_core.specs.Laws.Encodings.{tlv_not_empty}
 use Rattle.der_core.specs.UintRefValue.{bytes_of}
 use Rattle.der_core.specs.declared.integer.uint.UintRef.{UintRef}
 use Rattle.der_core.specs.declared.error.ErrorKind.{ErrorKind}
-use Rattle.der_core.specs.Laws.Sequences.{some_same}
-use Rattle.der_core.specs.Input.{front_of}
-use Rattle.der_core.specs.Laws.ContentsReads.{empty_is}
+use Rattle.der_core.proofs.ReadSteps.{some_same}
+use Rattle.der_core.specs.Input.{Input, front_of, read_from}
+use Rattle.der_core.specs.Laws.Input.{ok_pair}
+use Rattle.der_core.specs.Length.{limit}
+use Rattle.der_core.specs.Readings.{ReadsFronts, tagged}
+use Rattle.der_core.specs.Tags.{sequence}
+use Rattle.der_core.specs.Laws.TaggedReadings.{tagged_reads}
+use Rattle.der_core.proofs.TaggedReadings.{items_err}
+use Rattle.std.proofs.lemmas.Grind.{common_steps}
 use Rattle.std.specs.Prelude.{nat_lt}
 use Rattle.std.proofs.lemmas.Bool.Decides.{nat_tests}
-use Rattle.der_core.specs.Laws.ItemReads.{items_more}
+use Rattle.der_core.proofs.ItemReads.{items_more}
 use Rattle.pkcs1.specs.declared.private_key.other_prime_info.OtherPrimeInfo as declared
 use Rattle.pkcs1.specs.PrivateKeyValue.{other_of}
 use Rattle.std.proofs.Math.Logic.{∥∥₁_elim}
@@ -24,8 +28,10 @@ use Rattle.der_core.specs.Encodings.{Then, Joins}
 use Rattle.der_core.specs.Laws.Lists.{same_fronts}
 use Rattle.der_core.specs.Integer.{Integer}
 use Rattle.der_core.specs.Laws.Integer.{integer_delimited}
-use Rattle.der_core.specs.Reading.{NoneIn}
+use Rattle.der_core.specs.Reading.{HoldsBytes, NoneIn}
 use Rattle.pkcs1.specs.Keys.{OtherPrime, OtherPrimeInfo}
+use Rattle.pkcs1.specs.KeyReadings.{number, other_read, primes_read}
+use Rattle.pkcs1.specs.Laws.KeyReadings.{number_reads, other_reads, prime_integers_read}
 use Rattle.pkcs1.specs.Laws.PrivateKey.{other_delimited}
 use Rattle.pkcs1.specs.OtherPrimesHeld.{HoldsOthers}
 use Rattle.pkcs1.specs.Laws.OtherPrimesHeld.{one_list}
@@ -124,29 +130,45 @@ pub shorter_behind : (rest encoding behind : List ℕ) (other : OtherPrime (List
 shorter_behind rest encoding behind other is has =
     omega (arith, tlv_not_empty encoding has, ap length is, length-append encoding behind)
 
-pub counted : (bytes rest : List ℕ) (count : ℕ) → AreCounted bytes rest count → length rest ≡ 0
+pub counted : (bytes rest : List ℕ) (count : ℕ) → AreCounted bytes rest count → rest ≡ []
     → (others : List (OtherPrime (List ℕ))) × ItemsContents (OtherPrimeInfo Integer) others bytes
     × (length others ≡ count)
 counted bytes rest count i ends =
-    let nothing : rest ≡ [] = empty_is rest ends in
-    let all : bytes ≡ i.0 = i.2 ∙ ap (λ l. i.0 ++ l) nothing ∙ append-nil i.0 in
+    let all : bytes ≡ i.0 = i.2 ∙ ap (λ l. i.0 ++ l) ends ∙ append-nil i.0 in
     (map (other_of bytes_of) i.1, rw all i.3, omega (arith, i.4, length-map i.1 (other_of bytes_of)))
 
-pub fault_there : (bytes rest : List ℕ) (count : ℕ) (k : ErrorKind) → AreCounted bytes rest count → 0 < length rest
-    → OneOtherFault k rest → ItemsFault (OtherPrimeInfo Integer) OneOtherFault k bytes
-fault_there bytes rest count k i more fault = (map (other_of bytes_of) i.1, (i.0, rest, i.3, (more, fault), i.2))
+-- How one of them is read.
+pub one_reads : ReadsFronts (OtherPrimeInfo Integer) (tagged sequence (other_read number))
+one_reads = tagged_reads sequence (other_reads number_reads)
 
--- All that is left can be read.
-pub all_there : (left : List ℕ) (n : ℕ) (e : ErrorKind) → n ≡ length left → front_of n left ≡ Err e → ⊥
-all_there left n e same rejected =
-    let room : nat_lt (length left) n ≡ false = grind (arith, nat_tests, same) in
-    let no = rw room at rejected in
-    cc
+pub none_there : (bytes : List ℕ) (k : ErrorKind) → length bytes ≤ limit
+    → tagged sequence (other_read number) bytes ≡ Err k → NoneIn (OtherPrimeInfo Integer) bytes
+none_there bytes k within fault v b rest is has =
+    let no = sym fault ∙ one_reads.takes bytes b rest v within is has in cc
 
-pub list_given : (bytes : List ℕ) (primes : OtherPrimes) (others : List (OtherPrime (List ℕ)))
+pub fault_there : (bytes rest : List ℕ) (count : ℕ) (k : ErrorKind) → length bytes ≤ limit → AreCounted bytes rest count
+    → 0 < length rest → tagged sequence (other_read number) rest ≡ Err k → primes_read number bytes ≡ Err k
+fault_there bytes rest count k within i more fault =
+    items_err one_reads (other_delimited integer_delimited) (map (other_of bytes_of) i.1) (length bytes) k bytes i.0
+    rest (omega arith) within i.3 i.2 more fault
+
+pub all_taken : (before : Input) (n : ℕ) (bytes rest : List ℕ) → HoldsBytes before n
+    → read_from before (front_of n) ≡ Ok (bytes, rest) → (before ≡ Some bytes) × (rest ≡ [])
+all_taken None n bytes rest h r = absurd h
+all_taken (Some c) n bytes rest h r =
+    let room : nat_lt (length c) n ≡ false = grind (arith, nat_tests, h) in
+    let p = ok_pair (take n c) bytes (drop n c) rest (rw room at r) in
+    let none : length rest ≡ 0 = rw (← p.1) (grind (arith, common_steps, h)) in
+    (ap (λ l. Some l) (sym (take_all n c (omega (arith, h))) ∙ p.0), nothing rest none)
+  where
+    nothing : (l : List ℕ) → length l ≡ 0 → l ≡ []
+    nothing [] e = refl
+    nothing (x ∷ l) e = absurd (omega (arith, e))
+
+pub list_read : (bytes : List ℕ) (primes : OtherPrimes) (others : List (OtherPrime (List ℕ))) → length bytes ≤ limit
     → ItemsContents (OtherPrimeInfo Integer) others bytes → primes.bytes.now ≡ bytes
-    → ItemsContents (OtherPrimeInfo Integer) (others_left primes) bytes
-list_given bytes primes others has is =
+    → primes_read number bytes ≡ Ok (others_left primes)
+list_read bytes primes others within has is =
     let kept : ∥ ItemsContents (OtherPrimeInfo Integer) primes.held.0 bytes ∥₁ = rw is at primes.held.1 in
     let same : others ≡ primes.held.0 = one_list others primes.held.0 bytes ∣ has ∣₁ kept in
-    rw (others_left-is primes, ← same) has
+    prime_integers_read.takes bytes (others_left primes) within (rw (others_left-is primes, ← same) has)

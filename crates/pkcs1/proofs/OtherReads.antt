@@ -1,36 +1,40 @@
 -- Reading the other primes of a private key, whatever holds them.
-use Rattle.std.proofs.Common.{◌≡◌, ◌≢◌, ◌↔◌, ℕ, ◌<◌, List, [], ◌++◌, length, refl, sym, ap, ◌∙◌, arith, append-nil, inl}
-use Rattle.std.proofs.Common.{inr, ⊎_elim, Option, Some, None, Result, Ok, Err, Bool, true, false, IsTrue, is_some}
-use Rattle.std.specs.Prelude.{slice_get, not}
+use Rattle.std.proofs.Common.{◌≡◌, ◌↔◌, ℕ, ◌==◌, List, [], ◌∷◌, length, refl, sym, ap, ◌∙◌, arith, Option, inr}
+use Rattle.std.proofs.Common.{Some, None, Ok, Err, Bool, true, false, IsTrue, is_some}
+use Rattle.std.specs.Prelude.{not}
 use Rattle.std.specs.Option.{option_map}
 use mathlib.Core.Bool.{beq}
-use Rattle.der_core.specs.Tlv.{Tlv}
-use Rattle.der_core.specs.SequenceOf.{ItemsContents}
-use Rattle.der_core.specs.declared.error.Error.{Error}
 use Rattle.der_core.specs.declared.error.ErrorKind.{ErrorKind}
 use Rattle.der_core.specs.declared.error.ErrorKind.TheVariants as kind
 use Rattle.der_core.specs.Input.{Input, read_from, end_of}
-use Rattle.der_core.specs.Reading.{ReadsOptional, AllocatesIn}
-use Rattle.der_core.specs.Faults.{EncodingFault, ItemsFault}
+use Rattle.der_core.specs.Laws.Input.{ok_pair}
+use Rattle.der_core.specs.Readings.{FrontReading, ended, optional, tagged}
 use Rattle.der_core.specs.Tags.{integer, sequence}
-use Rattle.der_core.specs.Laws.Sequences.{some_same, end_gives, more_than_end, ContentsGive, ContentsFaulty}
+use Rattle.der_core.proofs.ReadSteps.{Fails, Gives, chain_from}
 use Rattle.pkcs1.specs.declared.version.Version.{Version}
 use Rattle.pkcs1.specs.declared.version.Version.TheVariants.{TwoPrime, Multi}
-use Rattle.pkcs1.specs.KeyFaults.{OtherPrimeFault, OthersFault}
-use Rattle.pkcs1.specs.Keys.{OtherPrime, OtherPrimeInfo, OthersOf, version_of}
+use Rattle.pkcs1.specs.KeyReadings.{agreed, lists_none, others_read, primes_read}
+use Rattle.pkcs1.specs.Keys.{OtherPrime, version_of}
 use Rattle.pkcs1.specs.Versions.{number_of}
 
-same_flags : (a b : Bool) → not (beq a b) ≡ false → a ≡ b
-same_flags true true e = refl
-same_flags false false e = refl
-same_flags true false e = cc
-same_flags false true e = cc
+is_not : (b : Bool) → not b ≡ true → b ≡ false
+is_not true e = cc
+is_not false e = refl
 
-other_flags : (a b : Bool) → not (beq a b) ≡ true → a ≡ not b
-other_flags true true e = cc
-other_flags true false e = refl
-other_flags false true e = refl
-other_flags false false e = cc
+is_so : (b : Bool) → not b ≡ false → b ≡ true
+is_so true e = refl
+is_so false e = cc
+
+-- The version, as whether there are other primes.
+abbrev flag : Version → Bool
+flag TwoPrime = false
+flag Multi = true
+
+flag_is : (multi : Bool) (v : Version) → IsTrue multi ↔ (v ≡ Multi) → multi ≡ flag v
+flag_is true TwoPrime h = let no : TwoPrime ≡ Multi = h.0 refl in cc
+flag_is false TwoPrime h = refl
+flag_is true Multi h = refl
+flag_is false Multi h = let no : false ≡ true = h.1 refl in cc
 
 -- What the code asks of the other primes that it found, of which `X` holds the list `items`, as many as `count` says.
 module _ {X V : Type 0} (items : X → List (OtherPrime V)) (count : X → ℕ)
@@ -39,114 +43,74 @@ module _ {X V : Type 0} (items : X → List (OtherPrime V)) (count : X → ℕ)
   CountsNone None = ⊥
   CountsNone (Some x) = count x ≡ 0
 
-  agreed : (multi some : Bool) (v : Version) (r : Option X) → IsTrue multi ↔ (v ≡ Multi) → some ≡ is_some r
-      → multi ≡ some → version_of (option_map items r) ≡ number_of v
-  agreed multi some TwoPrime None h e s = refl
-  agreed multi some Multi (Some x) h e s = refl
-  agreed multi some Multi None h e s = let t : multi ≡ true = h.1 refl in cc
-  agreed multi some TwoPrime (Some x) h e s = let t : multi ≡ true = s ∙ e in let no : TwoPrime ≡ Multi = h.0 t in cc
+  compared : (v : Version) (r : Option X)
+      → (number_of v == version_of (option_map items r)) ≡ beq (flag v) (is_some r)
+  compared TwoPrime None = refl
+  compared TwoPrime (Some x) = refl
+  compared Multi None = refl
+  compared Multi (Some x) = refl
 
-  -- The version agrees with them.
-  pub agree : {multi some : Bool} {v : Version} (r : Option X) → IsTrue multi ↔ (v ≡ Multi) → some ≡ is_some r
-      → not (beq multi some) ≡ false → version_of (option_map items r) ≡ number_of v
-  agree {multi} {some} {v} r h e s = agreed multi some v r h e (same_flags multi some s)
+  list_is : (primes : List (OtherPrime V)) (n : ℕ) (none : Bool) → length primes ≡ n → IsTrue none ↔ (n ≡ 0)
+      → lists_none (Some primes) ≡ none
+  list_is [] n true e h = refl
+  list_is [] n false e h = let no : false ≡ true = h.1 (sym e) in cc
+  list_is (x ∷ xs) n true e h = absurd (omega (arith, e, h.0 refl))
+  list_is (x ∷ xs) n false e h = refl
 
-  -- The list isn't empty.
-  listed : (x : X) {none : Bool} → IsTrue none ↔ (count x ≡ 0) → none ≡ false → 0 < length (items x)
-  listed x {none} h e =
-      let no : count x ≡ 0 → ⊥ = λ z. let t : none ≡ true = h.1 z in cc in
-      omega (arith, no, counts x)
+  lists_is : (r : Option X) (none : Bool) → IsTrue none ↔ CountsNone r → lists_none (option_map items r) ≡ none
+  lists_is None true h = absurd (h.0 refl)
+  lists_is None false h = refl
+  lists_is (Some x) none h = list_is (items x) (count x) none (counts x) h
 
-  module _ (encoding : V → List ℕ → Type 0) (Fault : ErrorKind → List ℕ → Type 0) (may_allocate asks : List ℕ → Type 0)
-    where
-      abbrev Listed : List (OtherPrime V) → List ℕ → Type 0
-      Listed os b = Tlv 48 (ItemsContents (OtherPrimeInfo encoding) os) b
+  module _ (at : FrontReading V) (v : Version) (asked : List ℕ → Type 0) (r : Option X) (before mid after : Input)
+      (found : Gives (optional 48 (tagged sequence (primes_read at))) (option_map items r) before mid) where
+    abbrev FailsThere : ErrorKind → Type 0
+    FailsThere e = Fails (others_read at (number_of v)) asked e before after
 
-      abbrev Found : Result (Option X) Error → Input → Input → Type 0
-      Found r before after =
-          ReadsOptional 48 items Listed
-          (EncodingFault sequence (ItemsFault (OtherPrimeInfo encoding)
-          (EncodingFault sequence (OtherPrimeFault encoding Fault)))) may_allocate r before after
+    there : read_from before (others_read at (number_of v)) ≡ agreed (number_of v) (option_map items r) found.0
+    there =
+        chain_from (optional 48 (tagged sequence (primes_read at))) (agreed (number_of v)) (option_map items r) before
+        mid found
+        ∙ rw found.2 refl
 
-      abbrev Fails : Version → ErrorKind → Input → Input → Type 0
-      Fails v = ContentsFaulty (OthersFault encoding Fault (number_of v)) asks
-
-      -- A fault inside them.
-      pub others_faults : (v : Version) {before after : Input} {e : Error}
-          → ((c : List ℕ) → AllocatesIn may_allocate c → asks c) → Found (Err e) before after
-          → Fails v e.kind before after
-      others_faults v asked f =
-          (f.0, λ c is. ⊎_elim (λ w. inl (w.0, asked c w.1)) (λ x. inr (inl (x.0, inl x.1))) (f.2 c is))
-
-      stands : (x : X) {before mid : Input} → Found (Ok (Some x)) before mid → (c : List ℕ) → before ≡ Some c
-          → (slice_get c 0 ≡ Some 48) × (b : List ℕ) × (rest : List ℕ) × (mid ≡ Some rest) × Listed (items x) b
-          × (c ≡ b ++ rest)
-      stands x f c is =
-          let same : c ≡ f.0 ++ f.1 = some_same c (f.0 ++ f.1) (sym is ∙ f.2) in
-          (ap (λ l. slice_get l 0) (same ∙ ap (λ l. l ++ f.1) f.4.written), f.0, f.1, f.3, f.4, same)
-
-      missing : {before mid : Input} → Found (Ok None) before mid → (c : List ℕ) → before ≡ Some c
-          → (slice_get c 0 ≢ Some 48) × (mid ≡ Some c)
-      missing f c is =
-          let same : f.0 ≡ c = some_same f.0 c (sym f.1 ∙ is) in (rw (← same) f.3, f.2 ∙ ap (λ l. Some l) same)
+    module _ {multi some : Bool} (h : IsTrue multi ↔ (v ≡ Multi)) (s : some ≡ is_some r) where
+      compares : (number_of v == version_of (option_map items r)) ≡ beq multi some
+      compares = rw (flag_is multi v h, s) (compared v r)
 
       -- The version doesn't agree with them.
-      pub disagree_faults : {multi some : Bool} (v : Version) (r : Option X) (mid : Input) {before after : Input}
-          {k : ErrorKind} → IsTrue multi ↔ (v ≡ Multi) → some ≡ is_some r → not (beq multi some) ≡ true
-          → Found (Ok r) before mid
-          → (after ≡ None) × (k ≡ kind.Value integer) → Fails v k before after
-      disagree_faults {multi} {some} TwoPrime None mid h e s f failed =
-          let t : multi ≡ true = other_flags multi some s ∙ ap not e in let no : TwoPrime ≡ Multi = h.0 t in cc
-      disagree_faults Multi None mid h e s f failed =
-          (failed.0, λ c at. inr (inr ((missing f c at).0, inl (refl, failed.1))))
-      disagree_faults TwoPrime (Some x) mid h e s f failed = (
-        failed.0,
-        λ c at. let t = stands x f c at in
-            inr (inl (t.0, inr (items x, (t.1, t.2, t.4, inl ((λ (no : 0 ≡ 1). omega (arith, no)), failed.1), t.5)))),
-      )
-      disagree_faults {multi} {some} Multi (Some x) mid h e s f failed =
-          let t : multi ≡ false = other_flags multi some s ∙ ap not e in let u : multi ≡ true = h.1 refl in cc
+      pub disagree_fails : (e : ErrorKind) → not (beq multi some) ≡ true → after ≡ None → e ≡ kind.Value integer
+          → FailsThere e
+      disagree_fails e differ failed told =
+          let isnt = compares ∙ is_not (beq multi some) differ in (failed, inr (there ∙ rw (isnt, told) refl))
 
-      -- There is a list of none.
-      pub empty_faults : {none : Bool} (v : Version) (r : Option X) (mid : Input) {before after : Input} {k : ErrorKind}
-          → IsTrue none ↔ CountsNone r → none ≡ true → Found (Ok r) before mid
-          → version_of (option_map items r) ≡ number_of v
-          → (after ≡ None) × (k ≡ kind.Value sequence) → Fails v k before after
-      empty_faults v None mid h e f agrees failed = absurd (h.0 e)
-      empty_faults v (Some x) mid h e f agrees failed = (
-        failed.0,
-        λ c at. let t = stands x f c at in
-            inr (inl (t.0, inr (items x, (t.1, t.2, t.4, inr (inl (sym agrees, counts x ∙ h.0 e, failed.1)), t.5)))),
-      )
+      module _ (alike : not (beq multi some) ≡ false) {none : Bool} (lists : IsTrue none ↔ CountsNone r) where
+        same : (number_of v == version_of (option_map items r)) ≡ true
+        same = compares ∙ is_so (beq multi some) alike
 
-      -- Bytes follow them.
-      pub more_faults : {none : Bool} (v : Version) (r : Option X) (mid : Input) {before after : Input} {k : ErrorKind}
-          → IsTrue none ↔ CountsNone r → none ≡ false → Found (Ok r) before mid
-          → version_of (option_map items r) ≡ number_of v
-          → (read_from mid end_of ≡ Err k) × (after ≡ None) → Fails v k before after
-      more_faults v None mid {k = k} h e f agrees ended =
-          let other : (number_of v ≡ 1) → ⊥ = λ no. omega (arith, no, agrees) in
-          (ended.1, λ c at. let m = missing f c at in inr (inr (m.0, inr (other, more_than_end mid c k m.1 ended.0))))
-      more_faults v (Some x) mid {k = k} h e f agrees ended = (
-        ended.1,
-        λ c at. let t = stands x f c at in
-            inr (inl (
-              t.0,
-              inr (
-                items x,
-                (t.1, t.2, t.4, inr (inr (sym agrees, listed x h e, more_than_end mid t.2 k t.3 ended.0)), t.5),
-              ),
-            )),
-      )
+        -- There is a list of none.
+        pub empty_fails : (e : ErrorKind) → none ≡ true → after ≡ None → e ≡ kind.Value sequence → FailsThere e
+        empty_fails e nothing failed told =
+            (failed, inr (there ∙ rw (same, lists_is r none lists ∙ nothing, told) refl))
 
-      pub others_given : {none : Bool} {n : ℕ} (r : Option X) (mid : Input) {before after : Input}
-          → IsTrue none ↔ CountsNone r → none ≡ false → Found (Ok r) before mid → version_of (option_map items r) ≡ n
-          → ((rest : List ℕ) × (read_from mid end_of ≡ Ok (tt, rest)) × (after ≡ Some rest))
-          → ContentsGive (OthersOf encoding n (option_map items r)) before after
-      others_given None mid {after = after} h e f agrees ended =
-          let g = end_gives mid after ended in
-          (f.0, f.1, g.2, (agrees, some_same f.0 g.0 (sym f.2 ∙ g.1) ∙ g.3))
-      others_given (Some x) mid {after = after} h e f agrees ended =
-          let g = end_gives mid after ended in
-          let rest : f.1 ≡ [] = some_same f.1 g.0 (sym f.3 ∙ g.1) ∙ g.3 in
-          (f.0, f.2 ∙ ap (λ l. Some l) (ap (λ l. f.0 ++ l) rest ∙ append-nil f.0), g.2, (agrees, (listed x h e, f.4)))
+        -- Bytes follow them, or nothing does.
+        pub more_fails : (e : ErrorKind) → none ≡ false → (read_from mid end_of ≡ Err e) × (after ≡ None) → FailsThere e
+        more_fails e some_there ends =
+            (ends.1, inr (there ∙ rw (same, lists_is r none lists ∙ some_there) (go found.0 (rw found.2 at ends.0))))
+          where
+            go : (rest : List ℕ) → end_of rest ≡ Err e → ended (option_map items r) rest ≡ Err e
+            go [] p = cc
+            go (x ∷ xs) p = let q = p in cc
+
+        pub others_give : none ≡ false
+            → ((rest : List ℕ) × (read_from mid end_of ≡ Ok (tt, rest)) × (after ≡ Some rest))
+            → (read_from before (others_read at (number_of v)) ≡ Ok (option_map items r)) × (after ≡ Some [])
+        others_give some_there ends =
+            let end = go found.0 (rw found.2 at ends.1) in (
+              there ∙ rw (same, lists_is r none lists ∙ some_there) end.0,
+              ends.2 ∙ ap (λ l. Some l) end.1,
+            )
+          where
+            go : (rest : List ℕ) → end_of rest ≡ Ok (tt, ends.0)
+                → (ended (option_map items r) rest ≡ Ok (option_map items r)) × (ends.0 ≡ [])
+            go [] p = let q = ok_pair tt tt [] ends.0 p in (refl, sym q.1)
+            go (x ∷ xs) p = cc

@@ -2,7 +2,7 @@
 use Rattle.std.proofs.Common.{ℕ, List, [], ◌∷◌, map, arith, Some}
 use Rattle.der_core.specs.Integer.{Integer}
 use Rattle.pkcs1.specs.Keys.{OtherPrimeInfos, PrivateKey, RsaPrivateKey}
-use Rattle.pkcs1.specs.Laws.PrivateKey.{joins_take}
+use Rattle.pkcs1.proofs.PrivateKey.{joins_take}
 use Rattle.pkcs1.specs.Writing.{key_numbers}
 
 no_primes_no_encoding : (key : PrivateKey (List ℕ)) (encoding : List ℕ)

@@ -1,10 +1,6 @@
--- Lemmas on the definitions, which proofs here and in the crates above may cite.
-pub mod HeldKeys
-pub mod KeyFaults
-pub mod KeyEncodings
+-- Laws that contracts and ghost members name, and what those rest on. Other lemmas are in proofs/.
+pub mod KeyReadings
 pub mod OtherPrimesHeld
 pub mod PrivateKey
-pub mod PrivateKeys
 pub mod PublicKey
-pub mod PublicKeys
 pub mod Versions

@@ -1,5 +1,5 @@
 pub mod Keys
-pub mod Forms
+pub mod SharedGrammars
 pub mod Versions
 pub mod Allocating
 pub mod Writing
@@ -9,6 +9,6 @@ pub mod PrivateKeyValue
 pub mod OtherPrimesHeld
 pub mod OtherPrimesLeft
 pub mod ViewParts
-pub mod KeyFaults
+pub mod KeyReadings
 pub mod Laws
 pub mod Words

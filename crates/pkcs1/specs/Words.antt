@@ -2,12 +2,14 @@
 pub use Rattle.pkcs1.specs.Allocating.{AllocatesForKey, AllocatesInOther, AllocatesInOthers}
 pub use Rattle.pkcs1.specs.Allocating.{MayAllocate}
 pub use Rattle.pkcs1.specs.Allocating.{OwnedKeyAllocates, OwnedPublicKeyAllocates}
-pub use Rattle.pkcs1.specs.Forms.{SameEncodings}
+pub use Rattle.pkcs1.specs.SharedGrammars.{SameEncodings}
 pub use Rattle.pkcs1.specs.KeyEncodings.{IsDocumentError, IsOnlyEncoding, IsReadingError, IsSentence, WhyNoDocument}
-pub use Rattle.pkcs1.specs.KeyFaults.{NumberFault, OtherPrimeFault, OthersFault}
-pub use Rattle.pkcs1.specs.KeyFaults.{PrivateKeyEncodingFault, PrivateKeyFault, PublicKeyFault, RsaPrivateKeyFault}
-pub use Rattle.pkcs1.specs.KeyFaults.{RsaPublicKeyFault, VersionFault}
-pub use Rattle.pkcs1.specs.Keys.{OtherPrime, OtherPrimeContents, OtherPrimeList, OthersOf, PrivateKey, PrivateKeyContents}
+pub use Rattle.pkcs1.specs.KeyReadings.{crt_read, kept, last_others, number, of_other_parts, of_public_parts}
+pub use Rattle.pkcs1.specs.KeyReadings.{other_read}
+pub use Rattle.pkcs1.specs.KeyReadings.{others_read, primes_read, private_key, private_key_read, public_key_read}
+pub use Rattle.pkcs1.specs.KeyReadings.{rsa_private_key, rsa_public_key, version_read}
+pub use Rattle.pkcs1.specs.Keys.{OtherPrime, OtherPrimeContents, OtherPrimeList, OthersOf, PrivateKey}
+pub use Rattle.pkcs1.specs.Keys.{PrivateKeyContents}
 pub use Rattle.pkcs1.specs.Keys.{PrivateKeyEncoding, PublicKey, PublicKeyContents, RsaPrivateKey, RsaPublicKey}
 pub use Rattle.pkcs1.specs.Keys.{CrtContents, CrtRow, crt_parts, other_parts, public_part, public_parts, version_of}
 pub use Rattle.pkcs1.specs.OtherPrimesLeft.{HoldsNone, others_left}
@@ -16,12 +18,11 @@ pub use Rattle.pkcs1.specs.PrivateKeyValue.{private_key_with, public_in}
 pub use Rattle.pkcs1.specs.PublicKeyValue.{public_key_of, public_key_with}
 pub use Rattle.pkcs1.specs.Versions.{IsVersionOf, VersionContents, number_of}
 pub use Rattle.pkcs1.specs.ViewParts.{listed_others, view_of, viewed_encoding}
-pub use Rattle.pkcs1.specs.Writing.{HasCrt, HasOther, HasOthers, HasPrivateKey, HasPublicKey, other_numbers, written_other}
+pub use Rattle.pkcs1.specs.Writing.{HasCrt, HasOther, HasOthers, HasPrivateKey, HasPublicKey, other_numbers}
+pub use Rattle.pkcs1.specs.Writing.{written_other}
 pub use Rattle.pkcs1.specs.Writing.{written_crt, written_others, written_private_key, written_public_key}
-pub use Rattle.pkcs1.specs.Laws.KeyFaults.{private_integers_first}
-pub use Rattle.pkcs1.specs.Laws.KeyFaults.{private_integers_none, private_key_fault_first, private_key_fault_none}
-pub use Rattle.pkcs1.specs.Laws.KeyFaults.{version_fault_first}
-pub use Rattle.pkcs1.specs.Laws.KeyFaults.{version_fault_none}
+pub use Rattle.pkcs1.specs.Laws.KeyReadings.{crt_reads, last_others_read, other_reads, private_integers_read}
+pub use Rattle.pkcs1.specs.Laws.KeyReadings.{private_key_reads, public_key_reads, version_reads}
 pub use Rattle.pkcs1.specs.Laws.OtherPrimesHeld.{keys_are_bytes}
 pub use Rattle.pkcs1.specs.Laws.PrivateKey.{crt, crt_means_one, crt_of_bytes, other_means_one, others_mean_one}
 pub use Rattle.pkcs1.specs.Laws.PrivateKey.{others_of_bytes, others_part}

@@ -1,7 +1,9 @@
 //! Laws of the grammars of keys and parameters: functions that do nothing, each with a law as its contract.
 ghost use Rattle.std.specs.Prelude.{◌≡◌, ℕ, List, true, false};
 ghost use Rattle.pkcs1.specs.Words.{SameEncodings, PublicKey, PrivateKey, others_left, public_key_of, view_of};
-ghost use Rattle.der_core.specs.Words.{AtMostOne, IsDelimited, MeansOne, Excludes, SameByShortest};
+ghost use Rattle.pkcs1.specs.Words.{rsa_private_key, rsa_public_key};
+ghost use Rattle.der_core.specs.Words.{AtMostOne, IsDelimited, Means, MeansOne, Excludes, ReadsContents};
+ghost use Rattle.der_core.specs.Words.{SameByShortest};
 ghost use Rattle.pkcs1.specs.Keys as keys;
 ghost use Rattle.pkcs1_params.specs.Parameters as parameters;
 ghost use Rattle.der_core.specs.declared.error.ErrorKind as kinds;
@@ -37,6 +39,13 @@ pub fn lemma_encodings_are_delimited()
 /// that the slice means.
 pub fn lemma_encodings_mean_one<T: Encoding>()
     ensures one { MeansOne T.encoding }
+{}
+
+/// The functions that tell the keys of whole slices, and the faults, read the grammars and nothing else; each fault is
+/// about the bytes.
+pub fn lemma_keys_are_read()
+    ensures public { ReadsContents (λ key encoding. Means keys.RsaPublicKey encoding key) rsa_public_key }
+    ensures private { ReadsContents (λ key encoding. Means keys.RsaPrivateKey encoding key) rsa_private_key }
 {}
 
 /// A key has at most one encoding.

@@ -1,13 +1,14 @@
 //! The other primes of a private key, as an iterator over the input.
-ghost use Rattle.std.specs.Prelude.{◌≡◌, [], ◌++◌, ◌<◌, ◌≤◌, List, ℕ, length, IfOk, IfErr, IfSome, OnOk, OnErr};
+ghost use Rattle.std.specs.Prelude.{◌≡◌, [], ◌++◌, ◌<◌, ◌≤◌, List, ℕ, length, Err, IfOk, IfErr, IfSome, OnErr};
 ghost use Rattle.std.specs.Iterator.{UpTo, YieldsFirstBy, item_count};
 ghost use Rattle.std.specs.Iterator.SizeHint.{IsWithinCount};
 ghost use Rattle.der_core.specs.Words.{integer_tag, sequence_tag, limit, Integer, IsCanonical, integer_contents};
-ghost use Rattle.der_core.specs.Words.{integer_delimited, joins_map, tlv, ItemsFault, NoneIn, ReadsFront};
+ghost use Rattle.der_core.specs.Words.{integer_delimited, joins_map, tlv, NoneIn, ReadsFront, sequence, tagged};
 ghost use Rattle.der_core.specs.Words.{ItemsContents, AllHave, all_encodings, left_of, bytes_of};
 ghost use Rattle.pkcs1.specs.Writing.{HasOther, written_other};
 ghost use Rattle.pkcs1.specs.Laws.PrivateKey.{other_delimited};
-ghost use Rattle.pkcs1.specs.KeyFaults.{OneOtherFault};
+ghost use Rattle.pkcs1.specs.KeyReadings.{number, other_read, primes_read};
+ghost use Rattle.pkcs1.specs.Laws.KeyReadings.{prime_integers_read};
 ghost use Rattle.pkcs1.specs.Keys as grammar;
 ghost use Rattle.pkcs1.specs.PrivateKeyValue.{other_of};
 ghost use Rattle.pkcs1.specs.OtherPrimesHeld.{HoldsOthers};
@@ -41,8 +42,8 @@ fn read_other<'a, M: Memory>(
     memory: M,
     reader: &mut SliceReader<'a>,
 ) -> Result<OtherPrimeInfo<UintRef<'a>>>
-    ensures { ReadsFront (other_of bytes_of) (grammar.OtherPrimeInfo Integer) OneOtherFault (λ _. ⊥) result
-        (left_of reader.old) (left_of reader.new) }
+    ensures { let at = tagged sequence (other_read number) in
+        ReadsFront (other_of bytes_of) at (λ _. ⊥) result (left_of reader.old) (left_of reader.new) }
 {
     let other = OtherPrimeInfo::decode(memory, reader)?;
     Ok(other)
@@ -66,7 +67,7 @@ fn count_others(bytes: &[u8]) -> Result<usize>
     requires { length bytes.now ≤ limit }
     ensures ok { IfOk result (λ count. (others : List (grammar.OtherPrime (List ℕ)))
         × ItemsContents (grammar.OtherPrimeInfo Integer) others bytes.now × (length others ≡ count)) }
-    ensures exact { IfErr result (λ e. ItemsFault (grammar.OtherPrimeInfo Integer) OneOtherFault e.kind bytes.now) }
+    ensures exact { IfErr result (λ e. primes_read number bytes.now ≡ Err e.kind) }
 {
     let mut reader = SliceReader::new(bytes)?;
     let mut count = 0;
@@ -112,7 +113,11 @@ impl Contents for OtherPrimes<'_> {
     ghost has_contents = { AllHave (HasOther IsCanonical) };
 
     ghost written_contents = { all_encodings (λ other.
-        tlv sequence_tag (written_other (λ number. tlv integer_tag (integer_contents number)) other)) };
+        tlv sequence_tag (written_other (λ bytes. tlv integer_tag (integer_contents bytes)) other)) };
+
+    ghost read = { primes_read number };
+
+    ghost reads = { prime_integers_read };
 
     ghost means_one = { joins_map (grammar.OtherPrimeInfo Integer) (other_delimited integer_delimited) };
 
@@ -124,11 +129,7 @@ impl TaggedBy for OtherPrimes<'_> {
 }
 
 impl<'a, M: Memory> DecodeValue<&'a [u8], M> for OtherPrimes<'a> {
-    ghost use Rattle.pkcs1.specs.Laws.KeyFaults.{listed_fault_none, listed_fault_first};
-
     ghost may_allocate = { λ _. ⊥ };
-
-    ghost fault = { ItemsFault (grammar.OtherPrimeInfo Integer) OneOtherFault };
 
     fn decode_value<R: Reader<&'a [u8]>>(
         _memory: M,
@@ -141,10 +142,6 @@ impl<'a, M: Memory> DecodeValue<&'a [u8], M> for OtherPrimes<'a> {
             Err(e) => Err(reader.error(e.kind())),
         }
     }
-
-    ghost fault_none = { listed_fault_none };
-
-    ghost fault_first = { listed_fault_first };
 }
 
 impl<'a> Iterator for OtherPrimes<'a> {

@@ -4,7 +4,7 @@ ghost use Rattle.der_core.specs.Words.{sequence, Counts, Appends, as_written};
 ghost use Rattle.pkcs1.specs.Words.{AllocatesForKey, PrivateKey, PrivateKeyContents, HasPrivateKey};
 ghost use Rattle.pkcs1.specs.Words.{written_private_key, private_means_one, private_of_bytes, public_key_of};
 ghost use Rattle.pkcs1.specs.Words.{private_key_with, public_in, version_of, whole_key};
-ghost use Rattle.pkcs1.specs.Words.{ListsNone};
+ghost use Rattle.pkcs1.specs.Words.{ListsNone, private_key_read, private_key_reads};
 
 mod der;
 pub(crate) mod other_prime_info;
@@ -136,6 +136,10 @@ impl<U: Encoding> Contents for RsaPrivateKey<U> {
 
     ghost written_contents = { written_private_key U.written_encoding };
 
+    ghost read = { private_key_read U.read_front };
+
+    ghost reads = { private_key_reads U.reads_front U.delimited };
+
     ghost means_one = { private_means_one U.delimited };
 
     ghost contents_of_bytes = { private_of_bytes U.encoding U.encoding_of_bytes };
@@ -150,11 +154,7 @@ impl<'a, U, O> Sequence<'a> for PrivateKeyOf<U, O> {
 }
 
 impl<'a, U: Decode<&'a [u8], Global>> DecodeValue<&'a [u8], Global> for RsaPrivateKey<U> {
-    ghost use Rattle.pkcs1.specs.Words.{PrivateKeyFault, private_key_fault_none, private_key_fault_first};
-
     ghost may_allocate = { AllocatesForKey U.encoding U.Decode.may_allocate };
-
-    ghost fault = { PrivateKeyFault U.encoding U.Decode.fault };
 
     fn decode_value<R: Reader<&'a [u8]>>(
         memory: Global,
@@ -165,11 +165,6 @@ impl<'a, U: Decode<&'a [u8], Global>> DecodeValue<&'a [u8], Global> for RsaPriva
         let others = read_other_primes(memory, reader, version)?;
         Ok(key_of(numbers, others))
     }
-
-    ghost fault_none = { private_key_fault_none U.encoding U.Decode.fault U.delimited U.Decode.fault_none };
-
-    ghost fault_first = { let none = U.Decode.fault_none in
-        private_key_fault_first U.encoding U.Decode.fault U.delimited none U.Decode.fault_first };
 }
 
 impl<U: Encode> EncodeValue for RsaPrivateKey<U> {

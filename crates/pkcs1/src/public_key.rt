@@ -1,8 +1,9 @@
 //! RSA public keys.
 ghost use Rattle.std.specs.Prelude.{refl};
-ghost use Rattle.der_core.specs.Words.{as_parts};
+ghost use Rattle.der_core.specs.Words.{as_parts, made_errs};
 ghost use Rattle.pkcs1.specs.Words.{PublicKey, PublicKeyContents, HasPublicKey, written_public_key, public_parts};
-ghost use Rattle.pkcs1.specs.Words.{public_key_with, public_key_of, public_key_means_one};
+ghost use Rattle.pkcs1.specs.Words.{of_public_parts, public_key_means_one, public_key_of, public_key_read};
+ghost use Rattle.pkcs1.specs.Words.{public_key_reads, public_key_with};
 
 use der_core::{
     AsUintRef, BackWriter, Borrowed, Contents, Decode, Encode, EncodeInParts, EncodeValue,
@@ -45,6 +46,10 @@ impl<U: Encoding> Contents for RsaPublicKey<U> {
 
     ghost written_contents = { written_public_key U.written_encoding };
 
+    ghost read = { public_key_read U.read_front };
+
+    ghost reads = { public_key_reads U.reads_front };
+
     ghost means_one = { public_key_means_one U.encoding U.delimited };
 
     ghost contents_of_bytes = { λ key. ⟦<(U, (U, ())) as Contents>⟧.contents_of_bytes (public_parts key) };
@@ -68,6 +73,8 @@ impl<U: Encoding> InParts for RsaPublicKey<U> {
             public_exponent,
         }
     }
+
+    ghost errs = { made_errs of_public_parts _ };
 
     ghost is_parts = { λ key. as_parts _ _ _ (public_parts key) };
 }
@@ -118,8 +125,8 @@ impl<U: TryClone> TryClone for RsaPublicKey<U> {
 
 impl<'a> TryFrom<&'a [u8]> for RsaPublicKey<UintRef<'a>> {
     ghost use Rattle.std.specs.Prelude.{IfOk, OnErr};
-    ghost use Rattle.pkcs1.specs.Words.{RsaPublicKeyFault};
-    ghost use Rattle.pkcs1_params.specs.Words.{ErrsExactly, IsNoSentence, IsTheMeaning};
+    ghost use Rattle.pkcs1.specs.Words.{rsa_public_key};
+    ghost use Rattle.pkcs1_params.specs.Words.{ErrsAs, IsNoSentence, IsTheMeaning};
     ghost use Rattle.pkcs1.specs.Keys as grammar;
 
     type Error = Error;
@@ -128,7 +135,7 @@ impl<'a> TryFrom<&'a [u8]> for RsaPublicKey<UintRef<'a>> {
     fn try_from(bytes: &'a [u8]) -> Result<RsaPublicKey<UintRef<'a>>>
         ensures ok { IfOk result (λ key. IsTheMeaning grammar.RsaPublicKey bytes.now (public_key_of key)) }
         ensures err { OnErr result (IsNoSentence grammar.RsaPublicKey bytes.now) }
-        ensures exact { ErrsExactly RsaPublicKeyFault bytes.now result }
+        ensures exact { ErrsAs public_key_of (rsa_public_key bytes.now) result }
     {
         Ok(RsaPublicKey::from_der(NoMemory, bytes)?)
     }

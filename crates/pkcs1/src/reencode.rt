@@ -1,6 +1,6 @@
 //! Keys that are decoded and encoded again.
 ghost use Rattle.std.specs.Prelude.{◌≡◌, ◌⊎◌, IfOk, IfErr};
-ghost use Rattle.pkcs1.specs.Words.{RsaPublicKeyFault, RsaPrivateKeyFault, OwnedKeyAllocates, OwnedPublicKeyAllocates};
+ghost use Rattle.pkcs1.specs.Words.{OwnedKeyAllocates, OwnedPublicKeyAllocates, kept, rsa_private_key, rsa_public_key};
 ghost use Rattle.pkcs1.specs.Words.{IsSentence, IsReadingError};
 ghost use Rattle.pkcs1_params.specs.Words.{ErrsOrAsks};
 ghost use Rattle.der_core.specs.Words.{encoding_of};
@@ -23,7 +23,7 @@ pub fn reencode_public_key(alloc: Global, bytes: &[u8]) -> Result<Document>
     ensures err { IfErr result (IsReadingError grammar.RsaPublicKey bytes.now
         (OwnedPublicKeyAllocates bytes.now ⊎ IsSentence grammar.RsaPublicKey bytes.now)) }
     ensures exact { let asked = OwnedPublicKeyAllocates bytes.now ⊎ IsSentence grammar.RsaPublicKey bytes.now in
-        ErrsOrAsks RsaPublicKeyFault bytes.now asked result }
+        ErrsOrAsks encoding_of (kept rsa_public_key bytes.now) asked result }
 {
     RsaPublicKeyOwned::from_pkcs1_der(alloc, bytes)?.to_pkcs1_der(alloc)
 }
@@ -36,7 +36,7 @@ pub fn reencode_private_key(alloc: Global, bytes: &[u8]) -> Result<SecretDocumen
     ensures err { IfErr result (IsReadingError grammar.RsaPrivateKey bytes.now
         (OwnedKeyAllocates bytes.now ⊎ IsSentence grammar.RsaPrivateKey bytes.now)) }
     ensures exact { let asked = OwnedKeyAllocates bytes.now ⊎ IsSentence grammar.RsaPrivateKey bytes.now in
-        ErrsOrAsks RsaPrivateKeyFault bytes.now asked result }
+        ErrsOrAsks encoding_of (kept rsa_private_key bytes.now) asked result }
 {
     RsaPrivateKeyOwned::from_pkcs1_der(alloc, bytes)?.to_pkcs1_der(alloc)
 }

@@ -1,9 +1,9 @@
 //! Traits for keys of any type: PKCS #1 encodings decoded and written, in memory and in files.
-ghost use Rattle.std.specs.Prelude.{◌≡◌, ◌⊎◌, List, ℕ, IfOk, IfErr, OnOk, IsErrAnd};
+ghost use Rattle.std.specs.Prelude.{◌≡◌, ◌⊎◌, List, ℕ, Err, IfOk, IfErr, OnOk, IsErrAnd};
 ghost use Rattle.std.specs.Path.{path_bytes};
 ghost use Rattle.der_core.specs.Words.{FileFault, FileGives, FileRefuses, FileTakes, IsDocument, Means, encoding_of};
-ghost use Rattle.der_core.specs.Words.{Faulty, IsTheFault, IsFile, sequence, bytes_of, own_bytes_of};
-ghost use Rattle.pkcs1.specs.Words.{OwnedKeyAllocates, OwnedPublicKeyAllocates, RsaPrivateKeyFault, RsaPublicKeyFault};
+ghost use Rattle.der_core.specs.Words.{FaultOrMemory, IsFile, sequence, bytes_of, own_bytes_of};
+ghost use Rattle.pkcs1.specs.Words.{OwnedKeyAllocates, OwnedPublicKeyAllocates, rsa_private_key, rsa_public_key};
 ghost use Rattle.pkcs1.specs.Words.{IsDocumentError, IsOnlyEncoding, IsReadingError, private_key_with, ListsNone};
 ghost use Rattle.pkcs1.specs.Words.{public_key_with};
 ghost use Rattle.pkcs1.specs.Keys as grammar;
@@ -148,14 +148,15 @@ pub trait EncodeRsaPublicKey {
 impl DecodeRsaPrivateKey for RsaPrivateKey<Uint> {
     ghost stands_for = { λ key bytes. Means grammar.RsaPrivateKey bytes (private_key_with own_bytes_of key) };
 
-    ghost rejected_by = { λ bytes e.
-        IsAsn1 (λ asn1. Faulty asn1.kind (OwnedKeyAllocates bytes) (IsTheFault RsaPrivateKeyFault bytes asn1.kind)) e };
+    ghost rejected_by = { λ bytes e. let asked = OwnedKeyAllocates bytes in
+        IsAsn1 (λ asn1. FaultOrMemory asn1.kind asked (rsa_private_key bytes ≡ Err asn1.kind)) e };
 
     fn from_pkcs1_der(alloc: Global, bytes: &[u8]) -> Result<RsaPrivateKey<Uint>>
         ensures ok { let is_meaning = IsTheMeaning grammar.RsaPrivateKey bytes.now in
             IfOk result (λ key. is_meaning (private_key_with own_bytes_of key)) }
         ensures err { IfErr result (IsReadingError grammar.RsaPrivateKey bytes.now (OwnedKeyAllocates bytes.now)) }
-        ensures exact { ErrsOrAsks RsaPrivateKeyFault bytes.now (OwnedKeyAllocates bytes.now) result }
+        ensures exact { let asked = OwnedKeyAllocates bytes.now in
+            ErrsOrAsks (private_key_with own_bytes_of) (rsa_private_key bytes.now) asked result }
     {
         RsaPrivateKey::<Uint>::decode_owned_key(alloc, bytes)
     }
@@ -164,14 +165,15 @@ impl DecodeRsaPrivateKey for RsaPrivateKey<Uint> {
 impl DecodeRsaPublicKey for RsaPublicKey<Uint> {
     ghost stands_for = { λ key bytes. Means grammar.RsaPublicKey bytes (public_key_with own_bytes_of key) };
 
-    ghost rejected_by = { λ bytes e. IsAsn1
-        (λ asn1. Faulty asn1.kind (OwnedPublicKeyAllocates bytes) (IsTheFault RsaPublicKeyFault bytes asn1.kind)) e };
+    ghost rejected_by = { λ bytes e. let asked = OwnedPublicKeyAllocates bytes in
+        IsAsn1 (λ asn1. FaultOrMemory asn1.kind asked (rsa_public_key bytes ≡ Err asn1.kind)) e };
 
     fn from_pkcs1_der(alloc: Global, bytes: &[u8]) -> Result<RsaPublicKey<Uint>>
         ensures ok { let is_meaning = IsTheMeaning grammar.RsaPublicKey bytes.now in
             IfOk result (λ key. is_meaning (public_key_with own_bytes_of key)) }
         ensures err { IfErr result (IsReadingError grammar.RsaPublicKey bytes.now (OwnedPublicKeyAllocates bytes.now)) }
-        ensures exact { ErrsOrAsks RsaPublicKeyFault bytes.now (OwnedPublicKeyAllocates bytes.now) result }
+        ensures exact { let asked = OwnedPublicKeyAllocates bytes.now in
+            ErrsOrAsks (public_key_with own_bytes_of) (rsa_public_key bytes.now) asked result }
     {
         Ok(RsaPublicKey::from_der(alloc, bytes)?)
     }

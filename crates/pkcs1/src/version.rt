@@ -6,7 +6,7 @@ ghost use Rattle.std.specs.Cmp.Rules.{comparing};
 ghost use Rattle.std.specs.Ordering.{on, nat_cmp, as_partial_cmp};
 ghost use Rattle.der_core.specs.Words.{integer_contents};
 ghost use Rattle.pkcs1.specs.Words.{number_of, IsVersionOf, VersionContents, version_means_one, version_of_bytes};
-ghost use Rattle.pkcs1.specs.Words.{version_relates, version_shortest};
+ghost use Rattle.pkcs1.specs.Words.{version_read, version_reads, version_relates, version_shortest};
 
 use der_core::{
     BackWriter, Contents, DecodeValue, EncodeValue, ErrorKind, Header, IntegerTag, Length, Memory,
@@ -113,6 +113,10 @@ impl Contents for Version {
 
     ghost written_contents = { λ n. integer_contents (n ∷ []) };
 
+    ghost read = { version_read };
+
+    ghost reads = { version_reads };
+
     ghost means_one = { version_means_one };
 
     ghost contents_of_bytes = { version_of_bytes };
@@ -123,11 +127,7 @@ impl TaggedBy for Version {
 }
 
 impl<'a, M: Memory> DecodeValue<&'a [u8], M> for Version {
-    ghost use Rattle.pkcs1.specs.Words.{VersionFault, version_fault_none, version_fault_first};
-
     ghost may_allocate = { λ _. ⊥ };
-
-    ghost fault = { VersionFault };
 
     fn decode_value<R: Reader<&'a [u8]>>(
         memory: M,
@@ -140,10 +140,6 @@ impl<'a, M: Memory> DecodeValue<&'a [u8], M> for Version {
             Err(_) => Err(reader.error(ErrorKind::Value { tag: Tag::INTEGER })),
         }
     }
-
-    ghost fault_none = { version_fault_none };
-
-    ghost fault_first = { version_fault_first };
 }
 
 impl EncodeValue for Version {

@@ -2,13 +2,13 @@
 ghost use Rattle.std.specs.Prelude.{◌≡◌, ℕ, List, IsTrue, IsSome, IfOk, OnErr, ◌↔◌, refl};
 ghost use Rattle.std.specs.Option.{option_map};
 ghost use Rattle.der_core.specs.Words.{integer_tag, Integer, IntegerContents, IsCanonical, integer_contents};
-ghost use Rattle.der_core.specs.Words.{integer_delimited, ReadsOrFaults, tlv, bytes_of};
-ghost use Rattle.pkcs1.specs.Words.{OthersFault, NumberFault, PrivateKeyFault, RsaPrivateKeyFault, OthersOf};
+ghost use Rattle.der_core.specs.Words.{integer_delimited, ReadsWhole, tlv, bytes_of};
+ghost use Rattle.pkcs1.specs.Words.{number, others_read, private_integers_read, private_key_read, rsa_private_key};
 ghost use Rattle.pkcs1.specs.Words.{PrivateKey, PrivateKeyContents, public_part, others_left, HoldsNone};
 ghost use Rattle.pkcs1.specs.Words.{private_means_one, keys_are_bytes, key_with, number_of, public_key_of, view_of};
 ghost use Rattle.pkcs1.specs.Words.{viewed_encoding, listed_others, HasPrivateKey, written_private_key};
 ghost use Rattle.pkcs1.specs.Keys as grammar;
-ghost use Rattle.pkcs1_params.specs.Words.{ErrsExactly, IsNoSentence, IsTheMeaning};
+ghost use Rattle.pkcs1_params.specs.Words.{ErrsAs, IsNoSentence, IsTheMeaning};
 
 use crate::key_numbers::{KeyFront, key_of};
 use crate::other_primes::OtherPrimes;
@@ -40,9 +40,8 @@ fn read_listed<'a, R: Reader<&'a [u8]>>(
     reader: &mut R,
     version: Version,
 ) -> Result<Option<OtherPrimes<'a>>>
-    ensures { let grammar = OthersOf Integer (number_of version) in
-        let fault = OthersFault Integer NumberFault (number_of version) in
-        ReadsOrFaults (option_map others_left) grammar fault (λ _. ⊥) result (R.left reader.old) (R.left reader.new) }
+    ensures { let read = others_read number (number_of version) in
+        ReadsWhole (option_map others_left) read (λ _. ⊥) result (R.left reader.old) (R.left reader.new) }
 {
     let others: Option<OtherPrimes<'a>> = decode_optional(NoMemory, reader)?;
     if version.is_multi() != others.is_some() {
@@ -64,7 +63,11 @@ impl Contents for ViewedKey<'_> {
 
     ghost has_contents = { HasPrivateKey IsCanonical };
 
-    ghost written_contents = { written_private_key (λ number. tlv integer_tag (integer_contents number)) };
+    ghost written_contents = { written_private_key (λ bytes. tlv integer_tag (integer_contents bytes)) };
+
+    ghost read = { private_key_read number };
+
+    ghost reads = { private_integers_read };
 
     ghost means_one = { private_means_one integer_delimited };
 
@@ -72,11 +75,7 @@ impl Contents for ViewedKey<'_> {
 }
 
 impl<'a> DecodeValue<&'a [u8], NoMemory> for ViewedKey<'a> {
-    ghost use Rattle.pkcs1.specs.Words.{private_integers_none, private_integers_first};
-
     ghost may_allocate = { λ _. ⊥ };
-
-    ghost fault = { PrivateKeyFault Integer NumberFault };
 
     fn decode_value<R: Reader<&'a [u8]>>(
         memory: NoMemory,
@@ -87,10 +86,6 @@ impl<'a> DecodeValue<&'a [u8], NoMemory> for ViewedKey<'a> {
         let others = read_listed(reader, version)?;
         Ok(key_of(numbers, others))
     }
-
-    ghost fault_none = { private_integers_none };
-
-    ghost fault_first = { private_integers_first };
 }
 
 /// An RSA private key (RFC 8017 A.1.2) over its encoding. It allocates nothing, however many primes there are. No
@@ -202,7 +197,7 @@ impl<'a> TryFrom<&'a [u8]> for RsaPrivateKeyView<'a> {
         ensures ok { IfOk result (λ view. IsTheMeaning grammar.RsaPrivateKey bytes.now (view_of view)) }
         ensures bytes { IfOk result (λ view. viewed_encoding view ≡ bytes.now) }
         ensures err { OnErr result (IsNoSentence grammar.RsaPrivateKey bytes.now) }
-        ensures exact { ErrsExactly RsaPrivateKeyFault bytes.now result }
+        ensures exact { ErrsAs view_of (rsa_private_key bytes.now) result }
     {
         let key = ViewedKey::from_der(NoMemory, bytes)?;
         Ok(RsaPrivateKeyView { bytes, key })

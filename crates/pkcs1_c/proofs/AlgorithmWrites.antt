@@ -3,7 +3,7 @@ use Rattle.std.proofs.Common.{ℕ, List, ◌≡◌, arith, inl, inr}
 use Rattle.der_core.specs.Document.{Means}
 use Rattle.spki_core.specs.AlgorithmIdentifier.{Algorithm, AlgorithmIdentifier}
 use Rattle.pkcs1_params.specs.Algorithms.{AlgorithmOf}
-use Rattle.pkcs1_params.specs.Laws.Algorithms.{parameters_in, parameters_shorter, shortest_of, shortest_as}
+use Rattle.pkcs1_params.proofs.AlgorithmsLaws.{parameters_in, parameters_shorter, shortest_of, shortest_as}
 use Rattle.pkcs1_params.specs.Parameters.{with_parameters}
 use Rattle.pkcs1_c.specs.StructErrors.{EncodingError}
 use Rattle.pkcs1_c.specs.Writes.{WritesValue}

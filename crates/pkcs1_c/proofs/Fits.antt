@@ -7,7 +7,7 @@ use Rattle.der_core.specs.Tag.{is_allowed}
 use Rattle.der_core.specs.Encodings.{Joins}
 use Rattle.der_core.specs.Optional.{Optional}
 use Rattle.der_core.specs.Integer.{Small}
-use Rattle.der_core.specs.Laws.Growing.{contents_shorter}
+use Rattle.der_core.proofs.ContentsShorter.{contents_shorter}
 use Rattle.spki_core.specs.Any.{TagAndContents, Any}
 use Rattle.spki_core.specs.AlgorithmIdentifier.{Algorithm, AlgorithmIdentifier, PlainAlgorithm, MaskAlgorithm}
 use Rattle.spki_core.specs.Explicit.{Field, field, Defaultable}

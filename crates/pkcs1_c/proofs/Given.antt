@@ -6,7 +6,7 @@ use Rattle.der_core.specs.Encodings.{Joins}
 use Rattle.der_core.specs.Integer.{Integer, IntegerContents}
 use Rattle.der_core.specs.Length.{limit}
 use Rattle.der_core.specs.SequenceOf.{AllHave}
-use Rattle.der_core.specs.Laws.Growing.{contents_shorter}
+use Rattle.der_core.proofs.ContentsShorter.{contents_shorter}
 use Rattle.der_core.specs.Laws.Integer.{canonical_same}
 use Rattle.pkcs1.specs.Keys.{PublicKey, PrivateKey, OtherPrime}
 use Rattle.pkcs1_c.specs.Numbers.{IsNumberOf, ArePublicNumbers, IsOtherOf, AreOthersOf, AreOtherNumbers}

@@ -6,7 +6,7 @@ use Rattle.spki_core.specs.Any.{TagAndContents}
 use Rattle.spki_core.specs.AlgorithmIdentifier.{Algorithm}
 use Rattle.spki_core.specs.AlgorithmValue.{viewed_with}
 use Rattle.spki_core.specs.AnyRefValue.{any_of}
-use Rattle.spki_core.specs.Laws.Held.{viewed_held}
+use Rattle.spki_core.specs.Laws.HaveEncodings.{viewed_held}
 use Rattle.spki_core.specs.ObjectIdentifier.{IsIdentifier}
 use Rattle.spki_core.specs.ObjectIdentifierValue.{octets_of}
 use Rattle.spki_core.specs.declared.algorithm_identifier.AlgorithmIdentifierOf.{AlgorithmIdentifierOf}

@@ -2,7 +2,7 @@ pub mod AlgorithmWrites
 pub mod Containers
 pub mod Fits
 pub mod Given
-pub mod HeldKeys
+pub mod GivenKeys
 pub mod HeldParameters
 pub mod Lists
 pub mod NotWritten

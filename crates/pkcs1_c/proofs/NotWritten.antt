@@ -1,5 +1,5 @@
 -- What the code of an error says.
-use Rattle.std.proofs.Common.{ℕ, zero, suc, List, ◌≡◌, ◌<◌, ◌∙◌, ap, arith, refl, sym, inl, inr}
+use Rattle.std.proofs.Common.{ℕ, zero, suc, List, ◌≡◌, ◌<◌, ◌∙◌, arith, refl, inl, inr, Result, Err}
 use Rattle.der_core.specs.Reading.{TellsOfBytes}
 use Rattle.der_core.specs.Document.{HasEncoding, WhyNotWritten}
 use Rattle.der_core.specs.Writing.{encode_error}
@@ -8,9 +8,8 @@ use Rattle.der_core.specs.declared.error.ErrorKind.TheVariants as kind
 use Rattle.pkcs1_params.specs.Errors.{IsAsn1}
 use Rattle.pkcs1_params.specs.declared.error.Error.{Error}
 use Rattle.pkcs1_params.specs.declared.error.Error.TheVariants as error
-use Rattle.der_core.specs.Faults.{IsTheFault}
 use Rattle.pkcs1_params.specs.Meanings.{IsWritingError}
-use Rattle.pkcs1_c.specs.Status.{kind_number, status_of, IsNumberOfFault, IsStatusOf}
+use Rattle.pkcs1_c.specs.Status.{kind_number, status_of, IsErrorNumber, IsStatusOf}
 use Rattle.pkcs1_c.specs.StructErrors.{EncodingError}
 
 -- An error that tells of bytes has a number, below that of lack of room.
@@ -34,26 +33,19 @@ tells_below kind.File t = absurd (t.1 refl)
 tells_below kind.OutOfMemory t = absurd (t.0 refl)
 
 -- What is known of an error, of its number.
-module _ {Read : Type 0} (Fault : ErrorKind → Read → Type 0) (read : Read) where
-  pub status_known : (e : Error) → IsAsn1 (λ a. IsTheFault Fault read a.kind) e
-      → ((0 < status_of e) × (status_of e < 15)) × IsNumberOfFault (λ kind. Fault kind read) (status_of e)
-  status_known (error.Asn1 a) p = (tells_below a.kind p.0, (a.kind, p.1, refl))
+module _ {V : Type 0} (given : Result V ErrorKind) (tells : (k : ErrorKind) → given ≡ Err k → TellsOfBytes k) where
+  pub status_known : (e : Error) → IsAsn1 (λ a. given ≡ Err a.kind) e
+      → ((0 < status_of e) × (status_of e < 15)) × IsErrorNumber given (status_of e)
+  status_known (error.Asn1 a) p = (tells_below a.kind (tells a.kind p), (a.kind, p, refl))
   status_known error.Crypto p = absurd p
   status_known error.KeyMalformed p = absurd p
   status_known error.Version p = absurd p
 
-  pub status_exact : (e : Error) (number : ℕ) → number ≡ status_of e → IsAsn1 (λ a. IsTheFault Fault read a.kind) e
-      → IsStatusOf Fault read number
-  status_exact (error.Asn1 a) zero is p = absurd (omega (arith, is, (tells_below a.kind p.0).0))
-  status_exact (error.Asn1 a) (suc n) is p = (
-    omega (arith, is, (tells_below a.kind p.0).1),
-    (a.kind, p.1, is),
-    λ kind fault. ap kind_number (p.2 kind fault)
-        ∙ sym is,
-  )
-  status_exact error.Crypto number is p = absurd p
-  status_exact error.KeyMalformed number is p = absurd p
-  status_exact error.Version number is p = absurd p
+  pub status_exact : (e : Error) (number : ℕ) → number ≡ status_of e → IsAsn1 (λ a. given ≡ Err a.kind) e
+      → IsStatusOf given number
+  status_exact e zero is p = absurd (omega (arith, is, (status_known e p).0.0))
+  status_exact e (suc n) is p =
+      let known = status_known e p in (omega (arith, is, known.0.1), (known.1.0, known.1.1, is ∙ known.1.2))
 
 -- What an error of writing says of a value that has an encoding.
 module _ {V : Type 0} (Some : Type 0) (Grammar : V → List ℕ → Type 0) (v : V) (room : ℕ) (has : HasEncoding Grammar v)

@@ -8,7 +8,7 @@ use Rattle.pkcs1_c.specs.Structs.{private_key_info, HasKey}
 use Rattle.pkcs1_c.proofs.StatedCalls.{Sides}
 use Rattle.pkcs1_c.proofs.StatedKeys.{PrivateSame, PrivateEach}
 use Rattle.statement.specs.Library as library
-use Rattle.statement.specs.Laws.Values.{container_from, container_back}
+use Rattle.statement.proofs.Values.{container_from, container_back}
 
 pub container : Sides private_key_info library.container info_seen
 container = record { from = container_from; back = container_back; is = λ info. refl }

@@ -14,7 +14,7 @@ use Rattle.pkcs1_c.specs.Structs.{algorithm, mask_gen, IsHash, UsesHash, HasLabe
 use Rattle.pkcs1_c.specs.StructValues.{algorithm_seen, mask_gen_seen}
 use Rattle.pkcs1_c.proofs.StatedParameters.{plain_is, mask_is}
 use Rattle.statement.specs.Library as library
-use Rattle.statement.specs.Laws.Values.{any_from, plain_from, plain_to, plain_back}
+use Rattle.statement.proofs.Values.{any_from, plain_from, plain_to, plain_back}
 use Rattle.statement.specs.Statement.{Algorithm, TagAndContents}
 
 -- What decides one of two statements that say the same decides the other.

@@ -11,13 +11,13 @@ use Rattle.der_core.specs.Document as documents
 use Rattle.der_core.specs.Document.{Means}
 use Rattle.der_core.specs.Laws.Shortest as laws
 use Rattle.pkcs1.specs.Keys as keys
-use Rattle.pkcs1.specs.Laws.PrivateKeys.{private_delimited}
+use Rattle.pkcs1.proofs.PrivateKeys.{private_delimited}
 use Rattle.pkcs1.specs.ViewParts.{listed_others}
 use Rattle.pkcs1_params.specs.Meanings.{IsTheMeaning}
 use Rattle.statement.specs.Library as library
-use Rattle.statement.specs.Laws.Octets.{octets_canonical, octets_number}
-use Rattle.statement.specs.Laws.Shortest.{shortest}
-use Rattle.statement.specs.Laws.Values.{public_key_from, public_key_back, private_key_from, private_key_back}
+use Rattle.statement.proofs.Octets.{octets_canonical, octets_number}
+use Rattle.statement.proofs.Shortest.{shortest}
+use Rattle.statement.proofs.Values.{public_key_from, public_key_back, private_key_from, private_key_back}
 use Rattle.statement.specs.Statement.{octets, PublicKey, PublicKeyEncoding, PrivateKey, PrivateKeyEncoding, OtherPrime}
 use Rattle.statement.specs.Statement.{IsShortest, Decodes}
 use Rattle.pkcs1_c.specs.declared.public_key.PublicKey as public_structs

@@ -5,7 +5,7 @@ use Rattle.std.specs.Prelude.{if◌then◌else◌}
 use Rattle.pkcs1_c.specs.declared.algorithm.Algorithm.{Algorithm}
 use Rattle.pkcs1_c.specs.declared.algorithm.MaskGen.{MaskGen}
 use Rattle.statement.specs.Library as library
-use Rattle.statement.specs.Laws.Values.{plain_to, mask_to, pss_from, pss_back, oaep_from, oaep_back}
+use Rattle.statement.proofs.Values.{plain_to, mask_to, pss_from, pss_back, oaep_from, oaep_back}
 use Rattle.pkcs1_c.specs.Structs.{algorithm, mask_gen, pss_params, oaep_params}
 use Rattle.pkcs1_c.specs.StructValues.{algorithm_seen, mask_gen_seen, pss_seen, oaep_seen}
 use Rattle.pkcs1_c.proofs.StatedCalls.{Sides}

@@ -1,8 +1,6 @@
 -- What the C struct of a container with an RSA key means.
 use Rattle.std.specs.Prelude.{ℕ, List, [], ◌≡◌, false, Some, None, if◌then◌else◌}
-use Rattle.der_core.specs.declared.error.ErrorKind.{ErrorKind}
 use Rattle.der_core.specs.Document.{Means}
-use Rattle.pkcs1.specs.KeyFaults.{RsaPrivateKeyFault}
 use Rattle.pkcs1.specs.Keys.{PrivateKey, RsaPrivateKey}
 use Rattle.pkcs8_core.specs.Container.{Info}
 use Rattle.pkcs8_core.specs.Rsa.{rsa_encryption}
@@ -26,7 +24,3 @@ HoldsKey info key = Means RsaPrivateKey info.private_key.now key
 
 abbrev pub HoldsSomeKey : PrivateKeyInfo → Type 0
 HoldsSomeKey info = (key : PrivateKey (List ℕ)) × HoldsKey info key
-
--- The first fault of octets that don't encode a private key.
-abbrev pub KeyFault : PrivateKeyInfo → ErrorKind → Type 0
-KeyFault info kind = RsaPrivateKeyFault kind info.private_key.now

@@ -1,5 +1,5 @@
 -- The number of each error, and the string that describes it.
-use Rattle.std.specs.Prelude.{ℕ, zero, suc, List, [], ◌∷◌, ◌≡◌, ◌<◌, codes, get_or}
+use Rattle.std.specs.Prelude.{ℕ, zero, suc, List, [], ◌∷◌, ◌≡◌, ◌<◌, codes, get_or, Result, Ok, Err}
 use Rattle.der_core.specs.declared.error.ErrorKind.{ErrorKind}
 use Rattle.der_core.specs.declared.error.ErrorKind.TheVariants as kind
 use Rattle.pkcs1_params.specs.declared.error.Error.{Error}
@@ -30,16 +30,14 @@ status_of error.Crypto = 18
 status_of error.KeyMalformed = 19
 status_of error.Version = 20
 
--- The number is that of a kind of which `Fault` holds.
-abbrev pub IsNumberOfFault : (ErrorKind → Type 0) → ℕ → Type 0
-IsNumberOfFault Fault number = (kind : ErrorKind) × Fault kind × (number ≡ kind_number kind)
+-- The function gives an error, and the number is that of its kind.
+abbrev pub IsErrorNumber : {V : Type 0} → Result V ErrorKind → ℕ → Type 0
+IsErrorNumber given number = (kind : ErrorKind) × (given ≡ Err kind) × (number ≡ kind_number kind)
 
--- The number is 0, and what is read has no fault; or it is that of the only fault, below the number of lack of room.
-abbrev pub IsStatusOf : {Read : Type 0} → (ErrorKind → Read → Type 0) → Read → ℕ → Type 0
-IsStatusOf Fault read zero = (kind : ErrorKind) → Fault kind read → ⊥
-IsStatusOf Fault read (suc n) =
-    (suc n < 15) × IsNumberOfFault (λ kind. Fault kind read) (suc n)
-    × ((kind : ErrorKind) → Fault kind read → kind_number kind ≡ suc n)
+-- The number is 0, and the function gives a value; or it is that of its error, below the number of lack of room.
+abbrev pub IsStatusOf : {V : Type 0} → Result V ErrorKind → ℕ → Type 0
+IsStatusOf {V} given zero = (v : V) × (given ≡ Ok v)
+IsStatusOf given (suc n) = (suc n < 15) × IsErrorNumber given (suc n)
 
 -- The strings, by number.
 abbrev pub status_texts : List (List ℕ)

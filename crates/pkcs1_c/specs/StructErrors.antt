@@ -5,6 +5,7 @@ use Rattle.std.specs.Prelude.{None}
 use Rattle.der_core.specs.Document.{IsShortest}
 use Rattle.der_core.specs.Length.{limit}
 use Rattle.der_core.specs.Tag.{is_allowed}
+use Rattle.pkcs1.specs.KeyReadings.{rsa_private_key}
 use Rattle.pkcs1.specs.Keys as keys
 use Rattle.pkcs1.specs.Writing.{key_numbers, other_numbers}
 use Rattle.pkcs1_params.specs.Parameters.{PssParameters, OaepParameters}
@@ -17,10 +18,10 @@ use Rattle.pkcs1_c.specs.declared.private_key.PrivateKey.{PrivateKey}
 use Rattle.pkcs1_c.specs.declared.private_key.OtherPrime.{OtherPrime}
 use Rattle.pkcs1_c.specs.declared.status.TheConstants.{LENGTH, OID_MALFORMED, OVERFLOW, TAG_UNKNOWN, VALUE, NO_ROOM}
 use Rattle.pkcs1_c.specs.declared.status.TheConstants.{OTHER_PRIMES}
-use Rattle.pkcs1_c.specs.Containers.{info_seen, HoldsSomeKey, KeyFault}
+use Rattle.pkcs1_c.specs.Containers.{info_seen, HoldsSomeKey}
 use Rattle.pkcs1_c.specs.Given.{IsGiven}
 use Rattle.pkcs1_c.specs.Numbers.{IsNumberOf, ArePublicNumbers}
-use Rattle.pkcs1_c.specs.Status.{IsNumberOfFault}
+use Rattle.pkcs1_c.specs.Status.{IsErrorNumber}
 use Rattle.pkcs1_c.specs.StructValues.{private_key_seen, other_prime_seen}
 use Rattle.pkcs1_c.specs.Writes.{IsTooLong, NoStatus, WritesValue}
 
@@ -83,7 +84,7 @@ MayRunOutOfMemory key others =
 -- The octets don't encode a private key (the status is that of their first fault); or the container isn't written.
 abbrev pub InfoError : PrivateKeyInfo → ℕ → ℕ → Type 0
 InfoError info room status =
-    IsNumberOfFault (KeyFault info) status
+    IsErrorNumber (rsa_private_key info.private_key.now) status
     ⊎ (HoldsSomeKey info × EncodingError container.PrivateKeyInfo (info_seen info) room status)
 
 -- Octets that are no object identifier.

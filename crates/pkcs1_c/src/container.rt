@@ -1,11 +1,11 @@
 //! RSA keys in PKCS #8 containers.
-ghost use Rattle.std.specs.Prelude.{◌≡◌, ◌≢◌, ℕ, List, Option, drop, IfOk, OnErr};
+ghost use Rattle.std.specs.Prelude.{◌≡◌, ◌≢◌, ℕ, List, Option, drop, IfErr, IfOk, OnErr};
 ghost use Rattle.der_core.specs.Words.{IsShortest, HasEncoding};
-ghost use Rattle.pkcs1.specs.Words.{RsaPrivateKeyFault, view_of, viewed_encoding};
+ghost use Rattle.pkcs1.specs.Words.{rsa_private_key, view_of, viewed_encoding};
 ghost use Rattle.pkcs1.specs.Keys.{OtherPrime as Prime, PrivateKey as Key};
 ghost use Rattle.pkcs8_core.specs.Container as container;
-ghost use Rattle.pkcs1_params.specs.Words.{ErrsExactly, IsNoSentence, IsTheMeaning, IsTheOnly};
-ghost use Rattle.pkcs8_core.specs.Words.{RsaPrivateKeyInfoFault, info_of, rsa_encryption, HoldsRsa, RsaPrivateKeyInfo};
+ghost use Rattle.pkcs1_params.specs.Words.{ErrsAs, IsAsn1, IsNoSentence, IsTheMeaning, IsTheOnly};
+ghost use Rattle.pkcs8_core.specs.Words.{rsa_private_key_info, info_of, rsa_encryption, HoldsRsa, RsaPrivateKeyInfo};
 ghost use Rattle.pkcs1_c.specs.Words.{info_seen, InfoIsTidy, HoldsKey, HoldsSomeKey, IsTooLong, Writes};
 ghost use Rattle.pkcs1_c.specs.Words.{private_key_seen, AreListed, IsStatusOf, InfoError};
 
@@ -35,7 +35,7 @@ fn read_container<'a>(
     ensures ok { IfOk result (λ read. IsTheMeaning container.PrivateKeyInfo encoding.now (info_of read.0)) }
     ensures key { IfOk result (λ read. IsTheOnly (HoldsRsa (info_of read.0)) (view_of read.1)) }
     ensures err { OnErr result (IsNoSentence RsaPrivateKeyInfo encoding.now) }
-    ensures exact { ErrsExactly RsaPrivateKeyInfoFault encoding.now result }
+    ensures exact { ErrsAs (λ read. view_of read.1) (rsa_private_key_info encoding.now) result }
 {
     let info = PrivateKeyInfoRef::try_from(encoding)?;
     let view = info.rsa_view()?;
@@ -79,7 +79,7 @@ pub extern "C" fn pkcs1_c_private_key_info_decode<'a>(
     ensures one_key { result ≡ OK → (other : Key (List ℕ)) → HoldsKey info.new other
         → other ≡ private_key_seen key.new other.other_prime_infos }
     ensures rejected { result ≢ OK → IsNoSentence RsaPrivateKeyInfo encoding.now }
-    ensures exact { IsStatusOf RsaPrivateKeyInfoFault encoding.now result }
+    ensures exact { IsStatusOf (rsa_private_key_info encoding.now) result }
     ensures tidy { result ≡ OK → InfoIsTidy info.new }
     ensures unchanged { result ≢ OK → (info.new ≡ info.old) × (key.new ≡ key.old) × (others.new ≡ others.old) }
 {
@@ -98,7 +98,7 @@ fn from_c_info<'a>(info: &PrivateKeyInfo<'a>) -> pkcs1::Result<PrivateKeyInfoRef
     ensures ok { IfOk result (λ made. info_of made ≡ info_seen info.now) }
     ensures key { IfOk result (λ made. HoldsSomeKey info.now) }
     ensures some { IfOk result (λ made. HasEncoding container.PrivateKeyInfo (info_of made)) }
-    ensures exact { ErrsExactly RsaPrivateKeyFault info.now.private_key.now result }
+    ensures exact { IfErr result (IsAsn1 (λ e. rsa_private_key info.now.private_key.now ≡ Err e.kind)) }
 {
     let _view = RsaPrivateKeyView::try_from(info.private_key)?;
     let private_key = OctetStringRef::new(info.private_key)?;

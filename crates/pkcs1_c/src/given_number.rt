@@ -1,9 +1,11 @@
 //! Numbers to be written.
 ghost use Rattle.std.specs.Prelude.{◌≡◌, ◌≤◌, ℕ, List, length, slice_index, nat_lt, if◌then◌else◌};
 ghost use Rattle.der_core.specs.Integer.{HoldsNumber, IntegerContents, IsCanonical, integer_contents};
+ghost use Rattle.der_core.specs.IntegerReading.{integer_of};
 ghost use Rattle.der_core.specs.Length.{limit};
 ghost use Rattle.der_core.specs.UintRefValue.{bytes_of};
 ghost use Rattle.der_core.specs.Laws.Integer.{integer_means_one, integer_of_bytes, integer_relates, integer_shortest};
+ghost use Rattle.der_core.specs.Laws.Readings.{integer_reads};
 
 use der_core::{
     BackWriter, Contents, EncodeValue, IntegerTag, Length, Result, TaggedBy, UintRef, Writer,
@@ -48,6 +50,10 @@ impl Contents for Number<'_> {
     ghost has_contents = { IsCanonical };
 
     ghost written_contents = { integer_contents };
+
+    ghost read = { integer_of };
+
+    ghost reads = { integer_reads };
 
     ghost means_one = { integer_means_one };
 

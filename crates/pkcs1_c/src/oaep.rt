@@ -3,7 +3,7 @@ ghost use Rattle.std.specs.Bool.{Decides};
 ghost use Rattle.std.specs.Prelude.{◌≡◌, ◌≢◌, IfOk, IfErr, Some, None, true, false};
 ghost use Rattle.der_core.specs.Words.{HasEncoding, IsShortest};
 ghost use Rattle.pkcs1_params.specs.Words.{IsNoSentence, IsNoShortest, IsTheMeaning, IsTheShortest, oaep_viewed};
-ghost use Rattle.pkcs1_params.specs.Words.{LabelOf, RsaOaepParamsFault, StrictOaepFault, UsesHash};
+ghost use Rattle.pkcs1_params.specs.Words.{LabelOf, rsa_oaep_params, strict_oaep_params, UsesHash};
 ghost use Rattle.pkcs1_params.specs.Parameters as grammar;
 ghost use Rattle.pkcs1_c.specs.Words.{IsStatusOf, status_of, oaep_seen, OaepIsTidy, EncodingError, OaepFieldError};
 ghost use Rattle.pkcs1_c.specs.Words.{WritesFields, WritesValue};
@@ -64,7 +64,7 @@ pub extern "C" fn pkcs1_c_oaep_params_decode<'a>(
 ) -> u32
     ensures ok { result ≡ OK → IsTheMeaning grammar.RsaOaepParams encoding.now (oaep_seen params.new) }
     ensures rejected { result ≢ OK → IsNoSentence grammar.RsaOaepParams encoding.now }
-    ensures exact { IsStatusOf RsaOaepParamsFault encoding.now result }
+    ensures exact { IsStatusOf (rsa_oaep_params encoding.now) result }
     ensures tidy { result ≡ OK → OaepIsTidy params.new }
     ensures unchanged { result ≢ OK → params.new ≡ params.old }
 {
@@ -80,7 +80,7 @@ pub extern "C" fn pkcs1_c_oaep_params_decode_strict<'a>(
 ) -> u32
     ensures ok { result ≡ OK → IsTheShortest grammar.RsaOaepParams encoding.now (oaep_seen params.new) }
     ensures rejected { result ≢ OK → IsNoShortest grammar.RsaOaepParams encoding.now }
-    ensures exact { IsStatusOf StrictOaepFault encoding.now result }
+    ensures exact { IsStatusOf (strict_oaep_params encoding.now) result }
     ensures tidy { result ≡ OK → OaepIsTidy params.new }
     ensures unchanged { result ≢ OK → params.new ≡ params.old }
 {

@@ -1,6 +1,6 @@
 //! The algorithm identifier of RSAES-OAEP with its parameters.
 ghost use Rattle.std.specs.Prelude.{◌≡◌, ◌≢◌};
-ghost use Rattle.pkcs1_params.specs.Words.{RsaOaepAlgorithm, RsaOaepAlgorithmFault, StrictOaepAlgorithmFault};
+ghost use Rattle.pkcs1_params.specs.Words.{RsaOaepAlgorithm, rsa_oaep_algorithm, strict_oaep_algorithm};
 ghost use Rattle.pkcs1_params.specs.Words.{IsNoSentence, IsNoShortest, IsTheMeaning, IsTheShortest};
 ghost use Rattle.pkcs1_c.specs.Words.{IsStatusOf, OaepFieldError, WritesFields, oaep_seen, OaepIsTidy};
 
@@ -19,7 +19,7 @@ pub extern "C" fn pkcs1_c_oaep_algorithm_decode<'a>(
 ) -> u32
     ensures ok { result ≡ OK → IsTheMeaning RsaOaepAlgorithm encoding.now (oaep_seen params.new) }
     ensures rejected { result ≢ OK → IsNoSentence RsaOaepAlgorithm encoding.now }
-    ensures exact { IsStatusOf RsaOaepAlgorithmFault encoding.now result }
+    ensures exact { IsStatusOf (rsa_oaep_algorithm encoding.now) result }
     ensures tidy { result ≡ OK → OaepIsTidy params.new }
     ensures unchanged { result ≢ OK → params.new ≡ params.old }
 {
@@ -39,7 +39,7 @@ pub extern "C" fn pkcs1_c_oaep_algorithm_decode_strict<'a>(
 ) -> u32
     ensures ok { result ≡ OK → IsTheShortest RsaOaepAlgorithm encoding.now (oaep_seen params.new) }
     ensures rejected { result ≢ OK → IsNoShortest RsaOaepAlgorithm encoding.now }
-    ensures exact { IsStatusOf StrictOaepAlgorithmFault encoding.now result }
+    ensures exact { IsStatusOf (strict_oaep_algorithm encoding.now) result }
     ensures tidy { result ≡ OK → OaepIsTidy params.new }
     ensures unchanged { result ≢ OK → params.new ≡ params.old }
 {

@@ -4,7 +4,7 @@ ghost use Rattle.std.specs.Prelude.{IfErr};
 ghost use Rattle.der_core.specs.Words.{Means, bytes_of};
 ghost use Rattle.pkcs1.specs.Keys as grammar;
 ghost use Rattle.pkcs1.specs.Words.{others_left, other_of, private_key_with, others_of, view_of, listed_others};
-ghost use Rattle.pkcs1.specs.Words.{RsaPrivateKeyFault, other_numbers};
+ghost use Rattle.pkcs1.specs.Words.{rsa_private_key, other_numbers};
 ghost use Rattle.pkcs1_c.specs.Words.{IsStatusOf, status_of, private_key_seen, other_prime_seen, ArePlaced, AreListed};
 ghost use Rattle.pkcs1_c.specs.Words.{IsGiven, IsOtherOf, AreOtherNumbers, WritesGiven, NumbersError, PrivateKeyError};
 ghost use Rattle.pkcs1_c.specs.Words.{MayRunOutOfMemory, number_of, given_numbers, others_numbers};
@@ -122,7 +122,7 @@ pub extern "C" fn pkcs1_c_private_key_decode<'a>(
         → other ≡ private_key_seen key.new other.other_prime_infos }
     ensures rest { result ≡ OK → drop key.new.other_primes others.new ≡ drop key.new.other_primes others.old }
     ensures rejected { result ≢ OK → IsNoSentence grammar.RsaPrivateKey encoding.now }
-    ensures exact { IsStatusOf RsaPrivateKeyFault encoding.now result }
+    ensures exact { IsStatusOf (rsa_private_key encoding.now) result }
     ensures unchanged { result ≢ OK → (key.new ≡ key.old) × (others.new ≡ others.old) }
 {
     match RsaPrivateKeyView::try_from(encoding) {

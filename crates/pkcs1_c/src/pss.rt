@@ -3,7 +3,7 @@ ghost use Rattle.std.specs.Bool.{Decides};
 ghost use Rattle.std.specs.Prelude.{◌≡◌, ◌≢◌, ◌<◌, IfOk, IfErr};
 ghost use Rattle.der_core.specs.Words.{HasEncoding, IsShortest};
 ghost use Rattle.pkcs1_params.specs.Words.{IsNoSentence, IsNoShortest, IsTheMeaning, IsTheShortest, pss_viewed};
-ghost use Rattle.pkcs1_params.specs.Words.{RsaPssParamsFault, StrictPssFault, UsesHash};
+ghost use Rattle.pkcs1_params.specs.Words.{rsa_pss_params, strict_pss_params, UsesHash};
 ghost use Rattle.pkcs1_params.specs.Parameters as grammar;
 ghost use Rattle.pkcs1_c.specs.Words.{IsStatusOf, status_of, pss_seen, PssIsTidy, EncodingError, PssFieldError};
 ghost use Rattle.pkcs1_c.specs.Words.{WritesFields, WritesValue};
@@ -72,7 +72,7 @@ pub extern "C" fn pkcs1_c_pss_params_decode<'a>(
 ) -> u32
     ensures ok { result ≡ OK → IsTheMeaning grammar.RsaPssParams encoding.now (pss_seen params.new) }
     ensures rejected { result ≢ OK → IsNoSentence grammar.RsaPssParams encoding.now }
-    ensures exact { IsStatusOf RsaPssParamsFault encoding.now result }
+    ensures exact { IsStatusOf (rsa_pss_params encoding.now) result }
     ensures tidy { result ≡ OK → PssIsTidy params.new }
     ensures unchanged { result ≢ OK → params.new ≡ params.old }
 {
@@ -88,7 +88,7 @@ pub extern "C" fn pkcs1_c_pss_params_decode_strict<'a>(
 ) -> u32
     ensures ok { result ≡ OK → IsTheShortest grammar.RsaPssParams encoding.now (pss_seen params.new) }
     ensures rejected { result ≢ OK → IsNoShortest grammar.RsaPssParams encoding.now }
-    ensures exact { IsStatusOf StrictPssFault encoding.now result }
+    ensures exact { IsStatusOf (strict_pss_params encoding.now) result }
     ensures tidy { result ≡ OK → PssIsTidy params.new }
     ensures unchanged { result ≢ OK → params.new ≡ params.old }
 {

@@ -1,6 +1,6 @@
 //! The algorithm identifier of RSASSA-PSS with its parameters.
 ghost use Rattle.std.specs.Prelude.{◌≡◌, ◌≢◌};
-ghost use Rattle.pkcs1_params.specs.Words.{RsaPssAlgorithm, RsaPssAlgorithmFault, StrictPssAlgorithmFault};
+ghost use Rattle.pkcs1_params.specs.Words.{RsaPssAlgorithm, rsa_pss_algorithm, strict_pss_algorithm};
 ghost use Rattle.pkcs1_params.specs.Words.{IsNoSentence, IsNoShortest, IsTheMeaning, IsTheShortest};
 ghost use Rattle.pkcs1_c.specs.Words.{IsStatusOf, PssFieldError, WritesFields, pss_seen, PssIsTidy};
 
@@ -19,7 +19,7 @@ pub extern "C" fn pkcs1_c_pss_algorithm_decode<'a>(
 ) -> u32
     ensures ok { result ≡ OK → IsTheMeaning RsaPssAlgorithm encoding.now (pss_seen params.new) }
     ensures rejected { result ≢ OK → IsNoSentence RsaPssAlgorithm encoding.now }
-    ensures exact { IsStatusOf RsaPssAlgorithmFault encoding.now result }
+    ensures exact { IsStatusOf (rsa_pss_algorithm encoding.now) result }
     ensures tidy { result ≡ OK → PssIsTidy params.new }
     ensures unchanged { result ≢ OK → params.new ≡ params.old }
 {
@@ -39,7 +39,7 @@ pub extern "C" fn pkcs1_c_pss_algorithm_decode_strict<'a>(
 ) -> u32
     ensures ok { result ≡ OK → IsTheShortest RsaPssAlgorithm encoding.now (pss_seen params.new) }
     ensures rejected { result ≢ OK → IsNoShortest RsaPssAlgorithm encoding.now }
-    ensures exact { IsStatusOf StrictPssAlgorithmFault encoding.now result }
+    ensures exact { IsStatusOf (strict_pss_algorithm encoding.now) result }
     ensures tidy { result ≡ OK → PssIsTidy params.new }
     ensures unchanged { result ≢ OK → params.new ≡ params.old }
 {

@@ -1,7 +1,7 @@
 //! Public keys.
 ghost use Rattle.std.specs.Prelude.{◌≡◌, ◌≢◌, IfOk, IfErr};
 ghost use Rattle.pkcs1.specs.Keys as grammar;
-ghost use Rattle.pkcs1.specs.Words.{public_key_with, RsaPublicKeyFault};
+ghost use Rattle.pkcs1.specs.Words.{public_key_with, rsa_public_key};
 ghost use Rattle.pkcs1_c.specs.Words.{ArePublicNumbers, WritesGiven, public_key_seen, NumbersError, PublicKeyError};
 ghost use Rattle.pkcs1_c.specs.Words.{two_numbers, number_of, status_of, IsStatusOf};
 ghost use Rattle.pkcs1_params.specs.Words.{IsNoSentence, IsTheMeaning};
@@ -27,7 +27,7 @@ pub struct PublicKey<'a> {
 pub extern "C" fn pkcs1_c_public_key_decode<'a>(encoding: &'a [u8], key: &mut PublicKey<'a>) -> u32
     ensures ok { result ≡ OK → IsTheMeaning grammar.RsaPublicKey encoding.now (public_key_seen key.new) }
     ensures rejected { result ≢ OK → IsNoSentence grammar.RsaPublicKey encoding.now }
-    ensures exact { IsStatusOf RsaPublicKeyFault encoding.now result }
+    ensures exact { IsStatusOf (rsa_public_key encoding.now) result }
     ensures unchanged { result ≢ OK → key.new ≡ key.old }
 {
     match RsaPublicKeyRef::try_from(encoding) {

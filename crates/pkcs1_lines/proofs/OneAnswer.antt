@@ -3,12 +3,13 @@ use Rattle.std.proofs.Common.{◌≡◌, ℕ, ◌^◌, ◌⊎◌, inl, inr, List
 use Rattle.std.specs.Prelude.{codes}
 use Rattle.der_core.specs.Encodings.{AtMostOne, MeansOne, IsDelimited}
 use Rattle.der_core.specs.Document.{IsShortest, MeanTheSame}
-use Rattle.der_core.specs.Laws.Shortest.{means_one, shortest_same}
+use Rattle.der_core.specs.Laws.Shortest.{means_one}
+use Rattle.der_core.proofs.Shortest.{shortest_same}
 use Rattle.spki_core.specs.Explicit.{Field, HaveDefaults}
 use Rattle.pkcs1.specs.Keys.{RsaPublicKey, RsaPrivateKey}
 use Rattle.pkcs1_params.specs.Parameters.{RsaPssParams, pss_fields, RsaOaepParams, oaep_fields}
 use Rattle.pkcs1_params.specs.Spellings.{AllFit, AreUnder, DefaultsAreCounted, EachMaskHasOne}
-use Rattle.pkcs8_core.specs.Laws.Container.{info_delimited}
+use Rattle.pkcs8_core.proofs.Container.{info_delimited}
 use Rattle.pkcs1_lines.specs.declared.request.Word.{Word}
 use Rattle.pkcs1_lines.specs.declared.request.Word.TheVariants as word
 use Rattle.pkcs1_lines.specs.declared.request.PairWord.{PairWord}

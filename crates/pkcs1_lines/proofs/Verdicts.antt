@@ -1,10 +1,13 @@
 -- Whether something is so.
 use Rattle.std.proofs.Common.{◌≡◌, ℕ, inl, inr, List, ◌++◌, Bool, true, false, refl, subst}
-use Rattle.std.specs.Prelude.{Result, OnOk, ◌↔◌, codes, if◌then◌else◌, IsTrue}
+use Rattle.std.specs.Prelude.{Result, Ok, Err, IfOk, OnErr, OnOk, ◌↔◌, codes, if◌then◌else◌, IsTrue}
+use Rattle.std.specs.Result.{is_ok}
 use Rattle.std.proofs.lemmas.Result.{on_ok_weaker}
 use Rattle.der_core.specs.Document.{Means, IsShortest, MeanTheSame}
-use Rattle.der_core.specs.Laws.Shortest.{means_one, same_by_shortest}
+use Rattle.der_core.specs.Laws.Shortest.{means_one}
+use Rattle.der_core.proofs.Shortest.{same_by_shortest}
 use Rattle.der_core.specs.Encodings.{IsDelimited}
+use Rattle.pkcs1_params.specs.Meanings.{IsNoShortest, IsTheShortest}
 use Rattle.pkcs1_lines.specs.Answer.{SaysWhether, TellsStrict, TellsSame}
 
 abbrev said : List ℕ → Bool → List ℕ
@@ -44,3 +47,10 @@ module _ {V T E : Type 0} (Grammar : V → List ℕ → Type 0) (splits : IsDeli
         inr ((v, p), (w, q), says word holds (MeanTheSame Grammar a b) own),
         put,
       )) put
+
+-- A strict reading returns Ok for the shortest encodings and for no other bytes.
+pub strict_is_ok : {X V E : Type 0} (value : X → V) (Grammar : V → List ℕ → Type 0) (bytes : List ℕ) (r : Result X E)
+    → IfOk r (λ x. IsTheShortest Grammar bytes (value x)) → OnErr r (IsNoShortest Grammar bytes)
+    → IsTrue (is_ok r) ↔ ((v : V) × IsShortest Grammar v bytes)
+strict_is_ok value Grammar bytes (Ok x) ok err = (λ so. (value x, ok.0), λ shortest. refl)
+strict_is_ok value Grammar bytes (Err e) ok err = (λ so. cc, λ shortest. absurd (err shortest.0 shortest.1))

@@ -1,22 +1,24 @@
 -- Algorithm identifiers with parameters of their own: reading and writing.
-use Rattle.std.proofs.Common.{ℕ, List, [], ◌++◌, ◌≡◌, ◌∙◌, ◌<◌, ◌≤◌, ◌+◌, ◌-◌, ◌^◌, length, take, drop, refl, sym, ap}
-use Rattle.std.proofs.Common.{inl, inr, Some, None, arith, length-append}
+use Rattle.std.proofs.Common.{ℕ, Bool, List, [], ◌++◌, ◌≡◌, ◌∙◌, ◌<◌, ◌≤◌, ◌+◌, ◌-◌, ◌^◌, length}
+use Rattle.std.proofs.Common.{take, drop, refl, sym, ap, Some, arith, length-append}
 use Rattle.std.proofs.Math.Seq.{drop-append_seam}
-use Rattle.std.specs.Prelude.{Result, Ok, Err, IfOk, IfErr, OnErr}
-use Rattle.der_core.specs.declared.error.Error as der
-use Rattle.der_core.specs.declared.error.ErrorKind.{ErrorKind}
+use Rattle.std.specs.Prelude.{Result, Ok, Err, IfOk, OnErr}
 use Rattle.der_core.specs.Document.{Means, HasEncoding, IsShortest, WhyNotWritten, EncodeError, no_encoding, too_long}
 use Rattle.der_core.specs.Document.{no_room, another}
-use Rattle.der_core.specs.Encodings.{Is, IsOfBytes, MeansOne}
-use Rattle.der_core.specs.Faults.{EncodingFault, WholeFault, IsTheFault}
-use Rattle.der_core.specs.Laws.Encodings.{tlv_of_bytes, tlv_split, joins_last, tlv_made, tlv_relates, tlv_length}
-use Rattle.der_core.specs.Laws.Fronts.{front_is}
-use Rattle.der_core.specs.Laws.Growing.{tlv_recast}
+use Rattle.der_core.specs.Encodings.{Is, IsOfBytes, MeansOne, Then}
+use Rattle.der_core.specs.Laws.Encodings.{tlv_of_bytes, tlv_split, joins_last, tlv_relates}
+use Rattle.der_core.proofs.Encodings.{tlv_made, tlv_length}
+use Rattle.der_core.proofs.FrontsAreUnique.{front_is}
+use Rattle.der_core.specs.Laws.ContentsShorter.{tlv_recast}
 use Rattle.der_core.specs.Laws.Length.{length_octets-short}
+use Rattle.der_core.specs.Laws.Readings.{chain_reads, ok_same}
+use Rattle.der_core.proofs.Readings.{whole_reads}
 use Rattle.der_core.specs.Laws.ShortEncodings.{tlv_short}
 use Rattle.der_core.specs.Laws.Shortest.{means_one}
+use Rattle.der_core.specs.Laws.TaggedReadings.{tagged_reads}
 use Rattle.der_core.specs.Length.{length_octets}
-use Rattle.der_core.specs.Reading.{AllocatesIn, Rejects}
+use Rattle.der_core.specs.Reading.{AllocatesIn}
+use Rattle.der_core.specs.Readings.{Reading, ReadsContents, ◌>>=◌, octets_of_all}
 use Rattle.der_core.specs.Tag.{sequence_tag}
 use Rattle.der_core.specs.Tags.{sequence}
 use Rattle.der_core.specs.Tlv.{Tlv, tlv}
@@ -25,24 +27,19 @@ use Rattle.spki_core.specs.AlgorithmIdentifier.{Algorithm, AlgorithmContents, Al
 use Rattle.spki_core.specs.AlgorithmIdentifier.{written_algorithm}
 use Rattle.spki_core.specs.Allocating.{AlgorithmAllocates}
 use Rattle.spki_core.specs.Any.{TagAndContents, Any}
-use Rattle.spki_core.specs.Explicit.{Field}
-use Rattle.spki_core.specs.Faults.{AnyFault, AlgorithmFault, OtherAnyFault}
-use Rattle.spki_core.specs.Laws.Algorithms.{plain_delimited, algorithm_means_one, algorithm_of_bytes, algorithm_relates}
-use Rattle.spki_core.specs.Laws.AnyEncodings.{any_delimited}
-use Rattle.spki_core.specs.Laws.Faults.{algorithm_fault_none, algorithm_fault_first, any_fault_none, any_fault_first}
+use Rattle.spki_core.specs.Laws.Algorithms.{plain_delimited, algorithm_of_bytes, algorithm_relates}
 use Rattle.spki_core.specs.Laws.FieldEncodings.{fields_of_bytes as joins_of_bytes}
-use Rattle.spki_core.specs.ObjectIdentifier.{IsIdentifier}
-use Rattle.spki_core.specs.StrictFields.{NamesDefault}
-use Rattle.pkcs1_params.specs.Algorithms.{AlgorithmOf, Identifies, NotIdentified, unknown, missing, faulty, StrictFault}
-use Rattle.pkcs1_params.specs.Errors.{IsAsn1}
-use Rattle.pkcs1_params.specs.Laws.Algorithms.{algorithm_of_plain, plain_of_algorithm, same_parameters}
-use Rattle.pkcs1_params.specs.Laws.Algorithms.{parameters_shorter, parameters_in, shortest_of}
-use Rattle.pkcs1_params.specs.Laws.Errors.{asn1_as}
-use Rattle.der_core.specs.Laws.Whole.{AreTold, tagged_told}
-use Rattle.pkcs1_params.specs.Laws.FaultsTold.{fault_before, errs_behind}
+use Rattle.spki_core.specs.Laws.Readings.{oid_reads}
+use Rattle.spki_core.specs.ObjectIdentifier.{IsIdentifier, ObjectIdentifier}
+use Rattle.spki_core.specs.StrictFields.{first_default, unless_found}
+use Rattle.pkcs1_params.specs.Algorithms.{AlgorithmOf, Identifies, encoded_parameters}
+use Rattle.pkcs1_params.specs.Algorithms.{strict_algorithm}
+use Rattle.pkcs1_params.proofs.AlgorithmsLaws.{algorithm_of_plain, plain_of_algorithm, same_parameters}
+use Rattle.pkcs1_params.proofs.AlgorithmsLaws.{parameters_shorter, parameters_in, shortest_of}
+use Rattle.pkcs1_params.proofs.FaultsTold.{errs_behind}
 use Rattle.pkcs1_params.specs.Laws.FieldValues.{fields_of_bytes}
 use Rattle.pkcs1_params.specs.MaskedValues.{FieldContents}
-use Rattle.pkcs1_params.specs.Meanings.{ErrsExactly, IsNoSentence, IsTheMeaning, IsTheOnly}
+use Rattle.pkcs1_params.specs.Meanings.{ErrsAs, IsNoSentence, IsTheMeaning, IsTheOnly}
 use Rattle.pkcs1_params.specs.Parameters.{with_parameters}
 use Rattle.pkcs1_params.specs.Parts.{FieldValue, Fielded, fields_with}
 use Rattle.pkcs1_params.specs.declared.error.Error.{Error}
@@ -51,14 +48,7 @@ use Rattle.pkcs1_params.specs.declared.error.Error.{Error}
 pub identifier_asks : (b : List ℕ) → AllocatesIn (AlgorithmAllocates (λ _. ⊥)) b → ⊥
 identifier_asks b w = let h = w.3.holds in let l = h.1.3 in l.1.3
 
--- What is never asked for memory tells that there is no value.
-pub told_none : {X : Type 0} {asked : Type 0} → (asked → ⊥) → (none : Type 0) (r : Result X der.Error)
-    → IfErr r (λ e. Rejects e.kind asked none) → OnErr r none
-told_none nothing none (Ok x) h = tt
-told_none nothing none (Err e) (inl h) = absurd (nothing h.1)
-told_none nothing none (Err e) (inr h) = h.1
-
--- The identifier agrees and has parameters, so the value and the fault are theirs.
+-- The identifier agrees and has parameters, so the value is theirs.
 module _ {oid : List ℕ} {a : Algorithm TagAndContents} {any : TagAndContents} (agrees : a.oid ≡ oid)
     (there : a.parameters ≡ Some any) where
   same_any : (other : TagAndContents) → a.parameters ≡ Some other → other ≡ any
@@ -71,26 +61,8 @@ module _ {oid : List ℕ} {a : Algorithm TagAndContents} {any : TagAndContents} 
     λ other (same, w, given, tag, holds). one other v any.contents (rw (same_any w given) at holds) h.1,
   )
 
-  module _ (Fault : ErrorKind → List ℕ → Type 0) where
-    pub faulty_here : (kind : ErrorKind) → NotIdentified oid Fault kind a → OtherAnyFault sequence Fault kind any
-    faulty_here kind (unknown e other) = absurd (other agrees)
-    faulty_here kind (missing e same none) = let no : None ≡ Some any = sym none ∙ there in absurd (cc)
-    faulty_here kind (faulty v same given fault) = rw (← same_any v given) fault
-
-    pub fault_identified : (kind : ErrorKind) → IsTheFault (OtherAnyFault sequence Fault) any kind
-        → IsTheFault (NotIdentified oid Fault) a kind
-    fault_identified kind fault =
-        (fault.0, faulty any agrees there fault.1, λ other f. fault.2 other (faulty_here other f))
-
 pub fields_are_bytes : {V : Type 0} (values : V → List FieldValue) → IsOfBytes (FieldContents values)
 fields_are_bytes values v = joins_of_bytes (fields_with values v) (fields_of_bytes (values v))
-
-pub plain_told : AreTold PlainAlgorithm
-    (WholeFault PlainAlgorithm (EncodingFault sequence (AlgorithmFault Any AnyFault)))
-plain_told =
-    tagged_told sequence (AlgorithmContents Any) (AlgorithmFault Any AnyFault) (algorithm_means_one Any any_delimited)
-    (algorithm_fault_none Any AnyFault any_delimited any_fault_none)
-    (algorithm_fault_first Any AnyFault any_delimited any_fault_none any_fault_first)
 
 -- A slice that is read as an identifier with parameters of any tag, which are then read.
 module _ {X V : Type 0} (value : X → V) (Contents : V → List ℕ → Type 0) (bytes : IsOfBytes Contents) (oid b : List ℕ)
@@ -162,29 +134,31 @@ inside Grammar oid v b y m t =
     let is : p.0 ≡ y = same_parameters oid p.0 y b p.2 t.1 in
     (omega (arith, m.0, parameters_shorter oid y b t.1), rw is at p.1)
 
+-- What follows the object identifier is the encoding of the parameters.
+all_read : ReadsContents (λ v c. Is v c) octets_of_all
+all_read = record { gives = λ c v b e. ok_same e; takes = λ c v w p. ap (λ o. Ok o) p; tells = λ c k e. cc }
+
+abbrev pub Behind : List ℕ → List ℕ → Type 0
+Behind v b = Tlv 48 (λ c. (oid : List ℕ) × Then (ObjectIdentifier oid) (Is v) c) b
+
+pub encoded_reads : ReadsContents (λ v b. Means Behind b v) encoded_parameters
+encoded_reads = whole_reads (tagged_reads sequence (chain_reads oid_reads (λ _. all_read)))
+
+pub encoded_is : (oid y b : List ℕ) → Means (AlgorithmOf oid Is) b y → encoded_parameters b ≡ Ok y
+encoded_is oid y b m =
+    let q = m.1.holds in
+    encoded_reads.takes b y m.0 (m.0, tlv_recast b m.1 (oid, (q.0, q.1, q.2, joins_last q.1 q.3, q.4)))
+
 -- Strict reading: a default may be written in the encoding of the parameters.
-module _ {V : Type 0} (Grammar : V → List ℕ → Type 0) (fields : V → List Field) (Fault : ErrorKind → List ℕ → Type 0)
-    (oid b : List ℕ) where
-  abbrev Default : ErrorKind → V → Type 0
-  Default kind v = (x : List ℕ) × Means (AlgorithmOf oid Is) b x × NamesDefault (fields v) kind x
-
-  pub strict_before : IsNoSentence (AlgorithmOf oid Grammar) b → (e : Error) → IsAsn1 (λ a. IsTheFault Fault b a.kind) e
-      → IsAsn1 (λ a. IsTheFault (StrictFault oid Grammar fields Fault) b a.kind) e
-  strict_before none = asn1_as (λ a. fault_before (AlgorithmOf oid Grammar) Fault b Default none a.kind)
-
-  module _ (v : V) (means : IsTheMeaning (AlgorithmOf oid Grammar) b v)
-      (unfaulty : (kind : ErrorKind) → Fault kind b → ⊥) (y : List ℕ) (there : Means (AlgorithmOf oid Is) b y) where
-    written : (kind : ErrorKind) → Default kind v → NamesDefault (fields v) kind y
-    written kind (x, m, names) = rw (same_parameters oid x y b m.1 there.1) at names
-
-    within : {X : Type 0} (r : Result X Error) → ErrsExactly (NamesDefault (fields v)) y r → ErrsExactly Default v r
-    within (Ok x) f = λ kind names. f kind (written kind names)
-    within (Err e) f =
-        asn1_as (λ a fault. (fault.0, (y, there, fault.1), λ other names. fault.2 other (written other names))) e f
-
-    pub strict_behind : {X : Type 0} (r : Result X Error) → ErrsExactly (NamesDefault (fields v)) y r
-        → ErrsExactly (StrictFault oid Grammar fields Fault) b r
-    strict_behind r f = errs_behind (AlgorithmOf oid Grammar) Fault b Default v means unfaulty r (within r f)
+pub strict_behind : {V X : Type 0} (marks : V → List Bool) (read : Reading V) (oid b y : List ℕ) (v : V)
+    → read b ≡ Ok v → Means (AlgorithmOf oid Is) b y → (r : Result X Error)
+    → ErrsAs (λ _. v) (unless_found (first_default (marks v) y) v) r
+    → ErrsAs (λ _. v) (strict_algorithm marks read b) r
+strict_behind marks read oid b y v is m r p =
+    errs_behind (λ _. v) (read b)
+    (λ v. encoded_parameters b >>= λ encoding. unless_found (first_default (marks v) encoding) v) v is r
+    (errs_behind (λ _. v) (encoded_parameters b) (λ encoding. unless_found (first_default (marks v) encoding) v) y
+    (encoded_is oid y b m) r p)
 
 -- Writing.
 module _ {V : Type 0} (tag : ℕ) (Contents : V → List ℕ → Type 0) (has : V → Type 0) (written : V → List ℕ)

@@ -11,13 +11,13 @@ use Rattle.der_core.specs.Tlv.{tlv}
 use Rattle.der_core.specs.Writing.{Counts, WhyOctetsNotCounted, encode_error, joined}
 use Rattle.der_core.specs.declared.error.Error.{Error}
 use Rattle.der_core.specs.declared.error.ErrorKind.TheVariants as kind
-use Rattle.der_core.specs.Laws.Counting.{counts_joined}
+use Rattle.der_core.proofs.Counting.{counts_joined}
 use Rattle.spki_core.specs.Laws.IdentifierTest.{is_identifier-sound}
 use Rattle.spki_core.specs.ObjectIdentifier.{IsIdentifier}
 use Rattle.pkcs1_params.specs.Laws.MaskedValues.{contents_relate, contents_least}
 use Rattle.pkcs1_params.specs.OaepValue.{labelled, LabelFits, NoLabelFits}
 use Rattle.pkcs1_params.specs.LabelWriting.{written_source, CountsLabelled}
-use Rattle.pkcs1_params.specs.Laws.Parts.{written_last, have_under}
+use Rattle.pkcs1_params.proofs.Parts.{written_last, have_under}
 use Rattle.pkcs1_params.specs.Parts.{hash_field, mask_gen_field, p_source_field, part_of, parts_of, oaep_values}
 use Rattle.pkcs1_params.specs.Parts.{HasFields, written_fields}
 use Rattle.pkcs1_params.specs.Parameters.{id_mgf1, id_p_specified, OaepParameters, OaepContents}

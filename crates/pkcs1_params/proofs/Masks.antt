@@ -15,17 +15,18 @@ use Rattle.der_core.specs.Writing.{encode_error}
 use Rattle.der_core.specs.Tlv.{Tlv}
 use Rattle.der_core.specs.declared.error.ErrorKind.{ErrorKind}
 use Rattle.der_core.specs.declared.error.ErrorKind.TheVariants.{OutOfMemory, Overflow}
-use Rattle.der_core.specs.Laws.Encodings.{tlv_made}
+use Rattle.der_core.proofs.Encodings.{tlv_made}
 use Rattle.spki_core.specs.Explicit.{Field, Defaultable, HaveDefaults, MaskedContents, Masked}
-use Rattle.spki_core.specs.Laws.Fields.{AreInOrder, defaults_same}
-use Rattle.spki_core.specs.Laws.Spellings.{one_mask, masked_fits, last_is_all, all_is_last, members_under, zero_fits}
-use Rattle.spki_core.specs.Laws.Spellings.{zero_shortest}
+use Rattle.spki_core.specs.Laws.Fields.{AreInOrder}
+use Rattle.spki_core.proofs.Fields.{defaults_same}
+use Rattle.spki_core.proofs.Spellings.{one_mask, masked_fits, last_is_all, all_is_last, members_under, zero_fits}
+use Rattle.spki_core.proofs.Spellings.{zero_shortest}
 use Rattle.pkcs1_params.specs.MaskedValues.{MaskedValue, InRange}
 use Rattle.pkcs1_params.specs.Spellings.{IsMask, AllFit, IsSpelling, HasNoSpelling, StandsUnder, WhyNoSpelling}
 use Rattle.pkcs1_params.specs.Spellings.{IsSpellingError, AreUnder, AreMasks, AreAllSpellings, encodings_in}
 use Rattle.pkcs1_params.specs.declared.error.Error.{Error}
 use Rattle.pkcs1_params.specs.declared.error.Error.TheVariants as error
-use Rattle.pkcs1_params.specs.Laws.FieldValues.{ordered}
+use Rattle.pkcs1_params.proofs.FieldValues.{ordered}
 use Rattle.pkcs1_params.specs.Meanings.{IsWritingError}
 use Rattle.pkcs1_params.specs.Laws.Parts.{parts_counted, parts_hold}
 use Rattle.pkcs1_params.specs.Parts.{FieldValue, AreNumbered, parts_of, fields_with, Fielded, HasFields, written_fields}

@@ -1,14 +1,15 @@
 -- Parameters of RSASSA-PSS and RSAES-OAEP whose fields are left out, and one written though it is a default.
-use Rattle.std.proofs.Common.{ℕ, List, [], ◌∷◌, ◌≡◌, refl, arith, inl, inr}
+use Rattle.std.proofs.Common.{ℕ, List, [], ◌∷◌, ◌≡◌, refl, arith, Err}
 use Rattle.der_core.specs.declared.error.ErrorKind.TheVariants.{Noncanonical}
 use Rattle.der_core.specs.Document.{Means}
+use Rattle.der_core.specs.Input.{header_at, length_at}
 use Rattle.der_core.specs.Integer.{Small}
-use Rattle.der_core.specs.Laws.WrittenOut.{known_tlv, small_byte}
+use Rattle.der_core.proofs.WorkedLengths.{known_tlv, small_byte}
 use Rattle.spki_core.specs.Any.{TagAndContents}
 use Rattle.spki_core.specs.AlgorithmIdentifier.{Algorithm, AlgorithmIdentifier, PlainAlgorithm}
 use Rattle.spki_core.specs.Explicit.{Field, field}
-use Rattle.spki_core.specs.Laws.KnownFields.{left_out_field, written_field}
-use Rattle.pkcs1_params.specs.ParameterFaults.{tag_2, StrictPssFault}
+use Rattle.spki_core.proofs.KnownFields.{left_out_field, written_field}
+use Rattle.pkcs1_params.specs.ParameterReadings.{strict_pss_params}
 use Rattle.pkcs1_params.specs.Parameters.{sha1, mgf1_sha1, empty_label, TrailerField}
 use Rattle.pkcs1_params.specs.Parameters.{PssParameters, RsaPssParams, OaepParameters, RsaOaepParams}
 
@@ -71,36 +72,7 @@ pub oaep_by_default : (b : List ℕ) (p : OaepParameters) → b ≡ 0x30 ∷ 0x0
 oaep_by_default b p empty is = rw (empty, is) (omega arith, oaep_all_left_out)
 
 -- 3005a203020114: the default salt length is written, so this is no shortest encoding
-default_salt : StrictPssFault (Noncanonical tag_2) (0x30 ∷ 0x05 ∷ 0xa2 ∷ 0x03 ∷ 0x02 ∷ 0x01 ∷ 0x14 ∷ [])
-default_salt =
-    inr (
-      pss_defaults,
-      (omega arith, pss_salt_written),
-      (
-        2,
-        (tag_2, refl, refl),
-        known_tlv 0x30 salt_bytes (inr (
-          [],
-          salt_bytes,
-          inl (refl, refl),
-          inr (
-            [],
-            salt_bytes,
-            inl (refl, refl),
-            inl (
-              refl,
-              refl,
-              (
-                salt_bytes,
-                [],
-                known_tlv 0xa2 (0x02 ∷ 0x01 ∷ 0x14 ∷ []) (small_byte 20 (omega arith)) (omega arith),
-                left_out_field (trailer_field 1) [] refl refl,
-                refl,
-              ),
-            ),
-            refl,
-          ),
-          refl,
-        )) (omega arith),
-      ),
-    )
+default_salt : strict_pss_params (0x30 ∷ 0x05 ∷ 0xa2 ∷ 0x03 ∷ 0x02 ∷ 0x01 ∷ 0x14 ∷ [])
+    ≡ Err (Noncanonical (record { octet = 162; allowed = refl }))
+unfolding header_at length_at
+default_salt = refl

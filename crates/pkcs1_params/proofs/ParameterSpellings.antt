@@ -2,8 +2,8 @@
 use Rattle.std.proofs.Common.{List, arith}
 use Rattle.spki_core.specs.Explicit.{Field}
 use Rattle.spki_core.specs.Laws.Fields.{AreInOrder}
-use Rattle.spki_core.specs.Laws.Spellings.{masked_spells, spelled_is_masked, one_mask, one_encoding, zero_shortest}
-use Rattle.spki_core.specs.Laws.Spellings.{shortest_zero, zero_fits, masks_are_members}
+use Rattle.spki_core.proofs.Spellings.{masked_spells, spelled_is_masked, one_mask, one_encoding, zero_shortest}
+use Rattle.spki_core.proofs.Spellings.{shortest_zero, zero_fits, masks_are_members}
 use Rattle.pkcs1_params.specs.Spellings.{EachHasOneMask, EachMaskHasOne, ShortestHasNoDefaults, AcceptedFits}
 use Rattle.pkcs1_params.specs.Spellings.{HasTwoToTheDefaults}
 

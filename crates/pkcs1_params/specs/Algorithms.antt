@@ -1,23 +1,26 @@
 -- Algorithm identifiers with parameters of their own: { id-RSASSA-PSS, RSASSA-PSS-params } and { id-RSAES-OAEP,
 -- RSAES-OAEP-params } (RFC 8017 A.2.3, A.2.1; RFC 4055 3.1, 4.1).
-use Rattle.std.specs.Prelude.{ℕ, List, [], ◌∷◌, ◌≡◌, ◌≢◌, ◌≤◌, ◌^◌, ◌⊎◌, Some, None, length}
+use Rattle.std.specs.Prelude.{ℕ, Bool, List, [], ◌∷◌, ◌≡◌, ◌≤◌, ◌^◌, Option, Some, None, Result, Err, length}
+use Rattle.std.specs.Prelude.{if◌then◌else◌}
+use Rattle.std.specs.Str.{bytes_eq}
 use Rattle.der_core.specs.declared.error.ErrorKind.{ErrorKind}
 use Rattle.der_core.specs.declared.error.ErrorKind.TheVariants.{OidUnknown, ParametersMissing}
-use Rattle.der_core.specs.Document.{Means, Spellings}
+use Rattle.der_core.specs.Document.{Spellings}
 use Rattle.der_core.specs.Encodings.{Is}
-use Rattle.der_core.specs.Faults.{EncodingFault, WholeFault}
 use Rattle.der_core.specs.Length.{limit}
 use Rattle.der_core.specs.Members.{HasMembers}
+use Rattle.der_core.specs.Readings.{Reading, ◌>>=◌, chain, octets_of_all, tagged, whole}
 use Rattle.der_core.specs.Tag.{sequence_tag}
-use Rattle.der_core.specs.Tags.{sequence}
-use Rattle.spki_core.specs.AlgorithmIdentifier.{Algorithm, AlgorithmIdentifier, PlainAlgorithm}
-use Rattle.spki_core.specs.Any.{TagAndContents, Any}
+use Rattle.der_core.specs.Tags.{object_identifier, sequence}
+use Rattle.spki_core.specs.AlgorithmIdentifier.{Algorithm, AlgorithmIdentifier}
+use Rattle.spki_core.specs.Any.{TagAndContents}
 use Rattle.spki_core.specs.Explicit.{Field, FieldSequence, HaveDefaults, AllExplicit}
-use Rattle.spki_core.specs.Faults.{AnyFault, AlgorithmFault, OtherAnyFault}
-use Rattle.spki_core.specs.StrictFields.{NamesDefault}
-use Rattle.pkcs1_params.specs.ParameterFaults.{PssFault, OaepFault}
-use Rattle.pkcs1_params.specs.Parameters.{with_parameters, PssParameters, RsaPssParams, pss_fields}
-use Rattle.pkcs1_params.specs.Parameters.{OaepParameters, RsaOaepParams, oaep_fields}
+use Rattle.spki_core.specs.Readings.{any_as, identifier_read}
+use Rattle.spki_core.specs.StrictFields.{first_default, unless_found}
+use Rattle.pkcs1_params.specs.ParameterReadings.{oaep_read, plain_front, pss_read}
+use Rattle.pkcs1_params.specs.Parameters.{with_parameters, PssParameters, RsaPssParams}
+use Rattle.pkcs1_params.specs.Parameters.{OaepParameters, RsaOaepParams}
+use Rattle.pkcs1_params.specs.Parts.{defaults_with, oaep_values, pss_values}
 
 abbrev pub id_rsassa_pss : List ℕ
 id_rsassa_pss = 0x2a ∷ 0x86 ∷ 0x48 ∷ 0x86 ∷ 0xf7 ∷ 0x0d ∷ 0x01 ∷ 0x01 ∷ 0x0a ∷ []
@@ -41,46 +44,39 @@ Identifies oid Contents a v =
     (a.oid ≡ oid) × (any : TagAndContents) × (a.parameters ≡ Some any) × (any.tag ≡ sequence_tag)
     × Contents v any.contents
 
--- Why it isn't so: another identifier, no parameters, or parameters with a fault.
-pub data NotIdentified (oid : List ℕ) (ContentsFault : ErrorKind → List ℕ → Type 0) (kind : ErrorKind)
-    (a : Algorithm TagAndContents) : Type 0 where
-  unknown : kind ≡ OidUnknown → a.oid ≢ oid → NotIdentified oid ContentsFault kind a
-  missing : kind ≡ ParametersMissing → a.oid ≡ oid → a.parameters ≡ None → NotIdentified oid ContentsFault kind a
-  faulty : (any : TagAndContents) → a.oid ≡ oid → a.parameters ≡ Some any
-      → OtherAnyFault sequence ContentsFault kind any → NotIdentified oid ContentsFault kind a
+-- The parameters in an algorithm identifier: another one is unknown, and none are missing.
+abbrev pub parameters_as : {V : Type 0} → Reading V → Option TagAndContents → Result V ErrorKind
+parameters_as read None = Err ParametersMissing
+parameters_as read (Some any) = any_as sequence read any
 
-abbrev pub NotPss : ErrorKind → Algorithm TagAndContents → Type 0
-NotPss = NotIdentified id_rsassa_pss (PssFault Any AnyFault)
+abbrev pub identified : {V : Type 0} → List ℕ → Reading V → Algorithm TagAndContents → Result V ErrorKind
+identified oid read a = if bytes_eq a.oid oid then parameters_as read a.parameters else Err OidUnknown
 
-abbrev pub NotOaep : ErrorKind → Algorithm TagAndContents → Type 0
-NotOaep = NotIdentified id_rsaes_oaep (OaepFault Any AnyFault)
+-- Whole slices that have to be an identifier of this algorithm, with parameters of these contents.
+abbrev pub whole_algorithm : {V : Type 0} → List ℕ → Reading V → Reading V
+whole_algorithm oid read bytes = whole plain_front bytes >>= identified oid read
 
--- The first fault of a whole slice: it is no algorithm identifier; or it is one, but not of this algorithm.
-abbrev pub AlgorithmOfFault : (ErrorKind → Algorithm TagAndContents → Type 0) → ErrorKind → List ℕ → Type 0
-AlgorithmOfFault Not kind bytes =
-    WholeFault PlainAlgorithm (EncodingFault sequence (AlgorithmFault Any AnyFault)) kind bytes
-    ⊎ ((a : Algorithm TagAndContents) × Means PlainAlgorithm bytes a × Not kind a)
+abbrev pub rsa_pss_algorithm : Reading PssParameters
+rsa_pss_algorithm = whole_algorithm id_rsassa_pss pss_read
 
-abbrev pub RsaPssAlgorithmFault : ErrorKind → List ℕ → Type 0
-RsaPssAlgorithmFault = AlgorithmOfFault NotPss
+abbrev pub rsa_oaep_algorithm : Reading OaepParameters
+rsa_oaep_algorithm = whole_algorithm id_rsaes_oaep oaep_read
 
-abbrev pub RsaOaepAlgorithmFault : ErrorKind → List ℕ → Type 0
-RsaOaepAlgorithmFault = AlgorithmOfFault NotOaep
+-- The encoding of the parameters in a whole slice: what follows the object identifier.
+abbrev pub encoded_parameters : Reading (List ℕ)
+encoded_parameters = whole (tagged sequence (chain (tagged object_identifier identifier_read) (λ _. octets_of_all)))
 
--- Whole slices that have to be the shortest encoding of an identifier: they have a fault as one; or they are one, and a
--- default is written in the encoding of its parameters.
-abbrev pub StrictFault : {V : Type 0} → List ℕ → (V → List ℕ → Type 0) → (V → List Field)
-    → (ErrorKind → List ℕ → Type 0) → ErrorKind → List ℕ → Type 0
-StrictFault {V} oid Grammar fields Fault kind bytes =
-    Fault kind bytes
-    ⊎ ((v : V) × Means (AlgorithmOf oid Grammar) bytes v
-    × ((encoding : List ℕ) × Means (AlgorithmOf oid Is) bytes encoding × NamesDefault (fields v) kind encoding))
+-- Whole slices that have to be the shortest encoding of an identifier: no default is written in the encoding of its
+-- parameters.
+abbrev pub strict_algorithm : {V : Type 0} → (V → List Bool) → Reading V → Reading V
+strict_algorithm marks read bytes =
+    read bytes >>= λ v. encoded_parameters bytes >>= λ encoding. unless_found (first_default (marks v) encoding) v
 
-abbrev pub StrictPssAlgorithmFault : ErrorKind → List ℕ → Type 0
-StrictPssAlgorithmFault = StrictFault id_rsassa_pss RsaPssParams pss_fields RsaPssAlgorithmFault
+abbrev pub strict_pss_algorithm : Reading PssParameters
+strict_pss_algorithm = strict_algorithm (defaults_with pss_values) rsa_pss_algorithm
 
-abbrev pub StrictOaepAlgorithmFault : ErrorKind → List ℕ → Type 0
-StrictOaepAlgorithmFault = StrictFault id_rsaes_oaep RsaOaepParams oaep_fields RsaOaepAlgorithmFault
+abbrev pub strict_oaep_algorithm : Reading OaepParameters
+strict_oaep_algorithm = strict_algorithm (defaults_with oaep_values) rsa_oaep_algorithm
 
 -- If the identifier whose parameters have every field written is within the limit, there are two to the k encodings of
 -- it: one for each encoding of the parameters.

@@ -1,14 +1,11 @@
--- Lemmas on the definitions, which proofs here and in the crates above may cite.
-pub mod Algorithms
+-- Laws that contracts and ghost members name, and what those rest on. Other lemmas are in proofs/.
 pub mod Equality
-pub mod Errors
-pub mod FaultsTold
+pub mod FieldReadings
 pub mod FieldValues
 pub mod HashFields
-pub mod HeldFields
 pub mod MaskedValues
 pub mod Oaep
-pub mod ParameterFaults
+pub mod ParameterReadings
 pub mod Parameters
 pub mod Parts
 pub mod Pss

@@ -12,7 +12,8 @@ pub mod Meanings
 pub mod Parts
 pub mod FieldRefs
 pub mod LabelWriting
-pub mod ParameterFaults
+pub mod FieldReadings
+pub mod ParameterReadings
 pub mod DefaultBits
 pub mod Algorithms
 pub mod Laws

@@ -1,8 +1,12 @@
 -- Values with a mask that says which defaults are written.
-use Rattle.std.specs.Prelude.{ℕ, List, ◌<◌, ◌^◌, map}
+use Rattle.std.specs.Prelude.{ℕ, List, Ok, Err, ◌<◌, ◌^◌, map, length, nat_lt, if◌then◌else◌}
+use Rattle.der_core.specs.declared.error.ErrorKind.TheVariants.{Overflow}
 use Rattle.der_core.specs.Encodings.{Joins}
+use Rattle.der_core.specs.Length.{limit}
+use Rattle.der_core.specs.Readings.{Reading, ◌>>=◌}
 use Rattle.spki_core.specs.Explicit.{Field, Defaultable, HaveDefaults, MaskedContents}
-use Rattle.pkcs1_params.specs.Parts.{FieldValue, fields_with, HasFields, written_fields}
+use Rattle.pkcs1_params.specs.FieldReadings.{mask_in}
+use Rattle.pkcs1_params.specs.Parts.{FieldValue, defaults_in, fields_with, HasFields, written_fields}
 
 pub record MaskedValue (V : Type 0) : Type 0 where
   pub value : V
@@ -24,3 +28,9 @@ module _ {V : Type 0} (values : V → List FieldValue) where
 
   abbrev pub written_masked : MaskedValue V → List ℕ
   written_masked v = written_fields (values v.value) v.mask
+
+  -- The value that is read, with the mask under which its fields stand.
+  abbrev pub masked_read : Reading V → Reading (MaskedValue V)
+  masked_read read contents =
+      if nat_lt limit (length contents) then Err Overflow
+      else read contents >>= λ v. Ok (record { value = v; mask = mask_in 0 (defaults_in (values v)) contents })

@@ -2,7 +2,8 @@
 use Rattle.std.specs.Prelude.{ℕ, List, ◌≡◌, Option, Some, None, Result, Ok, Err}
 use Rattle.der_core.specs.declared.error.ErrorKind.{ErrorKind}
 use Rattle.der_core.specs.Document.{Means, IsShortest, WhyNotWritten, HasEncoding}
-use Rattle.der_core.specs.Faults.{Faulty, IsTheFault}
+use Rattle.der_core.specs.Reading.{FaultOrMemory, TellsOfBytes}
+use Rattle.der_core.specs.Readings.{Reading}
 use Rattle.der_core.specs.Writing.{encode_error}
 use Rattle.pkcs1_params.specs.declared.error.Error.{Error}
 use Rattle.pkcs1_params.specs.Errors.{IsAsn1}
@@ -28,22 +29,25 @@ IsNoSentence {V} Grammar encoding = (v : V) → Means Grammar encoding v → ⊥
 abbrev pub IsNoShortest : {V : Type 0} → (V → List ℕ → Type 0) → List ℕ → Type 0
 IsNoShortest {V} Grammar encoding = (v : V) → IsShortest Grammar v encoding → ⊥
 
--- What is read has no fault; or the error, which holds one of der_core, is that of its only fault.
-abbrev pub ErrsExactly : {Read X : Type 0} → (ErrorKind → Read → Type 0) → Read → Result X Error → Type 0
-ErrsExactly Fault read (Ok x) = (kind : ErrorKind) → Fault kind read → ⊥
-ErrsExactly Fault read (Err e) = IsAsn1 (λ asn1. IsTheFault Fault read asn1.kind) e
+-- The call returned what the function gives. An error of this crate holds one of der_core.
+abbrev pub ErrsAs : {X V : Type 0} → (X → V) → Result V ErrorKind → Result X Error → Type 0
+ErrsAs value given (Ok x) = given ≡ Ok (value x)
+ErrsAs value given (Err e) = IsAsn1 (λ asn1. given ≡ Err asn1.kind) e
 
--- The same of a call that may ask for memory, where the error may be that there is none.
-abbrev pub ErrsOrAsks : {Read X : Type 0} → (ErrorKind → Read → Type 0) → Read → Type 0 → Result X Error → Type 0
-ErrsOrAsks Fault read asked (Ok x) = (kind : ErrorKind) → Fault kind read → ⊥
-ErrsOrAsks Fault read asked (Err e) = IsAsn1 (λ asn1. Faulty asn1.kind asked (IsTheFault Fault read asn1.kind)) e
+-- The same of a call that may ask for memory.
+abbrev pub ErrsOrAsks : {X V : Type 0} → (X → V) → Result V ErrorKind → Type 0 → Result X Error → Type 0
+ErrsOrAsks value given asked (Ok x) = given ≡ Ok (value x)
+ErrsOrAsks value given asked (Err e) = IsAsn1 (λ asn1. FaultOrMemory asn1.kind asked (given ≡ Err asn1.kind)) e
 
--- The bytes are a sentence and have no fault; or they are no sentence and have exactly this fault.
-abbrev pub TellsFault : {V : Type 0} → (V → List ℕ → Type 0) → (ErrorKind → List ℕ → Type 0) → List ℕ → Option ErrorKind
+-- The bytes are a sentence; or they are none, and the function gives this fault.
+abbrev pub TellsFault : {V : Type 0} → (V → List ℕ → Type 0) → (List ℕ → Result V ErrorKind) → List ℕ → Option ErrorKind
     → Type 0
-TellsFault {V} Grammar Fault encoding None =
-    ((v : V) × Means Grammar encoding v) × ((kind : ErrorKind) → Fault kind encoding → ⊥)
-TellsFault Grammar Fault encoding (Some kind) = IsNoSentence Grammar encoding × IsTheFault Fault encoding kind
+TellsFault {V} Grammar read encoding None = (v : V) × Means Grammar encoding v × (read encoding ≡ Ok v)
+TellsFault Grammar read encoding (Some kind) = IsNoSentence Grammar encoding × (read encoding ≡ Err kind)
+
+-- Each fault that the function gives is about the bytes.
+abbrev pub FaultsTell : {V : Type 0} → Reading V → Type 0
+FaultsTell read = (bytes : List ℕ) (kind : ErrorKind) → read bytes ≡ Err kind → TellsOfBytes kind
 
 -- Why a value isn't written to so many bytes: it has no encoding, none within the limit, or there is no room for the
 -- shortest.

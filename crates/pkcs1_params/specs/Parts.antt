@@ -96,6 +96,9 @@ Fielded values v encoding = FieldSequence (fields_with values v) encoding
 abbrev pub defaults_in : List FieldValue → List Bool
 defaults_in values = map (λ v. (part_of v).is_default) values
 
+abbrev pub defaults_with : {V : Type 0} → (V → List FieldValue) → V → List Bool
+defaults_with values v = defaults_in (values v)
+
 -- Their numbers are n and the following ones.
 abbrev pub AreNumbered : ℕ → List FieldValue → Type 0
 AreNumbered n [] = Unit {0}

@@ -1,8 +1,8 @@
 -- The words that contracts cite, from all files of specs.
-pub use Rattle.pkcs1_params.specs.Algorithms.{AlgorithmOf, AlgorithmOfFault, AreCountedIn, Identifies, NotIdentified}
-pub use Rattle.pkcs1_params.specs.Algorithms.{RsaOaepAlgorithm, RsaOaepAlgorithmFault, RsaPssAlgorithm}
-pub use Rattle.pkcs1_params.specs.Algorithms.{RsaPssAlgorithmFault, StrictFault, StrictOaepAlgorithmFault}
-pub use Rattle.pkcs1_params.specs.Algorithms.{StrictPssAlgorithmFault, id_rsaes_oaep, id_rsassa_pss}
+pub use Rattle.pkcs1_params.specs.Algorithms.{AlgorithmOf, AreCountedIn, Identifies, RsaOaepAlgorithm}
+pub use Rattle.pkcs1_params.specs.Algorithms.{RsaPssAlgorithm, id_rsaes_oaep, id_rsassa_pss, identified}
+pub use Rattle.pkcs1_params.specs.Algorithms.{rsa_oaep_algorithm, rsa_pss_algorithm, strict_algorithm}
+pub use Rattle.pkcs1_params.specs.Algorithms.{strict_oaep_algorithm, strict_pss_algorithm, whole_algorithm}
 pub use Rattle.pkcs1_params.specs.Allocating.{HasOctets, HasParameters, HashesHaveOctets, OaepAllocates}
 pub use Rattle.pkcs1_params.specs.Allocating.{OwnedOaepAllocates, OwnedPssAllocates, PssAllocates}
 pub use Rattle.pkcs1_params.specs.DefaultBits.{bit_of, bits_of}
@@ -14,26 +14,26 @@ pub use Rattle.pkcs1_params.specs.HashFunctions.{id_sha512_256}
 pub use Rattle.pkcs1_params.specs.Labels.{LabelOf}
 pub use Rattle.pkcs1_params.specs.LabelWriting.{CountsLabelled, written_source}
 pub use Rattle.pkcs1_params.specs.MaskedValues.{FieldContents}
-pub use Rattle.pkcs1_params.specs.Meanings.{ErrsExactly, ErrsOrAsks, IsNoSentence, IsNoShortest, IsTheMeaning}
-pub use Rattle.pkcs1_params.specs.Meanings.{IsTheOnly, IsTheShortest, IsWritingError, TellsFault}
+pub use Rattle.pkcs1_params.specs.Meanings.{ErrsAs, ErrsOrAsks, FaultsTell, IsNoSentence, IsNoShortest}
+pub use Rattle.pkcs1_params.specs.Meanings.{IsTheMeaning, IsTheOnly, IsTheShortest, IsWritingError, TellsFault}
 pub use Rattle.pkcs1_params.specs.OaepValue.{LabelFits, NoLabelFits, labelled}
 pub use Rattle.pkcs1_params.specs.OaepValue.{oaep_in, oaep_of, oaep_viewed, oaep_with}
-pub use Rattle.pkcs1_params.specs.ParameterFaults.{OaepFault, PssFault, RsaOaepParamsFault, RsaPssParamsFault}
-pub use Rattle.pkcs1_params.specs.ParameterFaults.{StrictOaepFault, StrictPssFault, TrailerFault}
+pub use Rattle.pkcs1_params.specs.ParameterReadings.{oaep_read, pss_read, rsa_oaep_params}
+pub use Rattle.pkcs1_params.specs.ParameterReadings.{rsa_pss_params, strict_oaep_params, strict_pss_params}
+pub use Rattle.pkcs1_params.specs.ParameterReadings.{trailer_read}
 pub use Rattle.pkcs1_params.specs.Parameters.{OaepContents, OaepParameters, PssContents, PssParameters, RsaOaepParams}
 pub use Rattle.pkcs1_params.specs.Parameters.{RsaPssParams, TrailerContents, empty_label, id_mgf1, id_p_specified}
 pub use Rattle.pkcs1_params.specs.Parameters.{id_rsa_encryption, id_sha1, mgf1_sha1, oaep_fields, octets_value}
 pub use Rattle.pkcs1_params.specs.Parameters.{pss_fields, sha1, with_parameters}
-pub use Rattle.pkcs1_params.specs.Parts.{FieldValue, Fielded, HasFields, defaults_in, fields_in, fields_with}
-pub use Rattle.pkcs1_params.specs.Parts.{oaep_values, pss_values, written_fields}
+pub use Rattle.pkcs1_params.specs.Parts.{FieldValue, Fielded, HasFields, defaults_in, defaults_with, fields_in}
+pub use Rattle.pkcs1_params.specs.Parts.{fields_with, oaep_values, pss_values, written_fields}
 pub use Rattle.pkcs1_params.specs.PssValue.{pss_in, pss_of, pss_viewed, pss_with}
 pub use Rattle.pkcs1_params.specs.Spellings.{AllFit, AreAllSpellings, HasTwoToTheDefaults, IsListingError, IsMask}
 pub use Rattle.pkcs1_params.specs.Spellings.{IsSpellingError, StandsUnder, encodings_in}
 pub use Rattle.pkcs1_params.specs.Laws.Equality.{mask_decides, oaep_decides, plain_decides, pss_decides}
 pub use Rattle.pkcs1_params.specs.Laws.MaskedValues.{contents_are_bytes, contents_least, contents_relate}
 pub use Rattle.pkcs1_params.specs.Laws.Oaep.{oaep_means_one}
-pub use Rattle.pkcs1_params.specs.Laws.ParameterFaults.{oaep_fault_first, oaep_fault_none, pss_fault_first}
-pub use Rattle.pkcs1_params.specs.Laws.ParameterFaults.{pss_fault_none, trailer_fault_first, trailer_fault_none}
+pub use Rattle.pkcs1_params.specs.Laws.ParameterReadings.{oaep_reads, pss_reads, trailer_reads}
 pub use Rattle.pkcs1_params.specs.Laws.Parameters.{oaep_delimited, oaep_numbered, pss_delimited, pss_numbered}
 pub use Rattle.pkcs1_params.specs.Laws.Parts.{oaep_defaults, pss_defaults}
 pub use Rattle.pkcs1_params.specs.Laws.Pss.{pss_means_one}
@@ -41,4 +41,4 @@ pub use Rattle.pkcs1_params.specs.Laws.SmallFields.{trailer_means_one, trailer_o
 pub use Rattle.pkcs1_params.specs.Laws.SmallFields.{trailer_shortest}
 pub use Rattle.spki_core.specs.Laws.WritesAs.{WritesAs, algorithm_writes}
 pub use Rattle.spki_core.specs.AlgorithmIdentifier.{HasMask, HasPlain, written_mask, written_plain}
-pub use Rattle.spki_core.specs.Laws.Held.{AreHeld, mask_held, plain_held}
+pub use Rattle.spki_core.specs.Laws.HaveEncodings.{AreHeld, mask_held, plain_held}

@@ -1,13 +1,12 @@
 //! Parameters in their algorithm identifier (RFC 8017 A.2.3, A.2.1; RFC 5280 4.1.1.2).
 ghost use Rattle.std.specs.Prelude.{◌≡◌, ◌≤◌, ◌<◌, ◌^◌, ℕ, List, length, take, drop, IfOk, IfErr, OnOk, OnErr};
-ghost use Rattle.der_core.specs.declared.error.ErrorKind as der;
 ghost use Rattle.der_core.specs.Words.{HasEncoding, IsShortest, Means, Is, MeansOne, sequence_tag, sequence, Tlv};
-ghost use Rattle.der_core.specs.Words.{FailsExactly};
-ghost use Rattle.spki_core.specs.Words.{algorithm_of, viewed_with, any_of, OtherAnyFault, NamesDefault};
-ghost use Rattle.pkcs1_params.specs.Words.{AlgorithmOf, AlgorithmOfFault, Identifies, NotIdentified, StrictFault};
-ghost use Rattle.pkcs1_params.specs.Words.{FieldContents, ErrsExactly, IsNoSentence, IsNoShortest, IsTheMeaning};
+ghost use Rattle.der_core.specs.Words.{Answers, Reading, ReadsContents};
+ghost use Rattle.spki_core.specs.Words.{algorithm_of, viewed_with, any_as, any_of, first_default, unless_found};
+ghost use Rattle.pkcs1_params.specs.Words.{AlgorithmOf, Identifies, identified, strict_algorithm, whole_algorithm};
+ghost use Rattle.pkcs1_params.specs.Words.{FieldContents, ErrsAs, IsNoSentence, IsNoShortest, IsTheMeaning};
 ghost use Rattle.pkcs1_params.specs.Words.{IsTheOnly, IsTheShortest, IsWritingError, with_parameters, FieldValue};
-ghost use Rattle.pkcs1_params.specs.Words.{Fielded, fields_with};
+ghost use Rattle.pkcs1_params.specs.Words.{Fielded, defaults_with};
 
 use crate::error::{Error, Result};
 use crate::shortest::Shortest;
@@ -33,8 +32,10 @@ pub trait AlgorithmParams<'a>: Sized + Drop {
 
     ghost fields_mean_one: { MeansOne (FieldContents values) };
 
-    /// Contents octets that mean no parameters, with the kind of error of their first fault.
-    ghost fault: { der.ErrorKind → List ℕ → Type 0 };
+    /// What reads their contents octets, and that it reads nothing else.
+    ghost read: { Reading Params };
+
+    ghost reads: { ReadsContents (FieldContents values) read };
 
     /// Reads the parameters of an algorithm: `TagUnexpected` if they are no SEQUENCE.
     fn from_any(any: AnyRef<'a>) -> der_core::Result<Self>
@@ -42,14 +43,15 @@ pub trait AlgorithmParams<'a>: Sized + Drop {
             IfOk result (λ p. (any.tag ≡ sequence_tag) × FieldContents values (params p) any.contents) }
         ensures err { let any = any_of any.entry in
             OnErr result ((v : Params) → any.tag ≡ sequence_tag → FieldContents values v any.contents → ⊥) }
-        ensures exact { FailsExactly (OtherAnyFault sequence fault) (any_of any.entry) result };
+        ensures exact { Answers params result (any_as sequence read (any_of any.entry)) };
 
-    /// Rejects an encoding of the parameters in which a default is written: `Noncanonical` with the tag of the first.
+    /// NoValueOrMemory an encoding of the parameters in which a default is written: `Noncanonical` with the tag of the first.
     fn reject_defaults(&self, encoding: &[u8]) -> Result<()>
         requires { Means (Fielded values) encoding.now (params self.now) }
         ensures ok { OnOk result (IsShortest (Fielded values) (params self.now) encoding.now) }
         ensures err { OnErr result (IsShortest (Fielded values) (params self.now) encoding.now → ⊥) }
-        ensures exact { ErrsExactly (NamesDefault (fields_with values (params self.now))) encoding.now result };
+        ensures exact { let v = params self.now in
+            ErrsAs (λ _. v) (unless_found (first_default (defaults_with values v) encoding.now) v) result };
 }
 
 /// Borrowed parameters that are read from the algorithm identifier that they stand in: `RsaPssParamsRef`,
@@ -62,7 +64,8 @@ pub trait FromAlgorithm<'a>: AlgorithmParams<'a> {
             IfOk result (λ p. IsTheOnly (Identifies Self.Oid.contents (FieldContents Self.values) a) (Self.params p)) }
         ensures err { let a = algorithm_of algorithm.now in
             OnErr result ((v : Self.Params) → Identifies Self.Oid.contents (FieldContents Self.values) a v → ⊥) }
-        ensures exact { ErrsExactly (NotIdentified Self.Oid.contents Self.fault) (algorithm_of algorithm.now) result };
+        ensures exact { let given = identified Self.Oid.contents Self.read (algorithm_of algorithm.now) in
+            ErrsAs Self.params given result };
 
     /// The parameters in a whole slice that is an algorithm identifier, as in a certificate's signatureAlgorithm. Once
     /// the slice is an algorithm identifier, errors are as of `from_algorithm`.
@@ -70,7 +73,7 @@ pub trait FromAlgorithm<'a>: AlgorithmParams<'a> {
         ensures ok { let Grammar = AlgorithmOf Self.Oid.contents (Fielded Self.values) in
             IfOk result (λ p. IsTheMeaning Grammar bytes.now (Self.params p)) }
         ensures err { OnErr result (IsNoSentence (AlgorithmOf Self.Oid.contents (Fielded Self.values)) bytes.now) }
-        ensures exact { ErrsExactly (AlgorithmOfFault (NotIdentified Self.Oid.contents Self.fault)) bytes.now result };
+        ensures exact { ErrsAs Self.params (whole_algorithm Self.Oid.contents Self.read bytes.now) result };
 
     /// Like `from_algorithm_der`, but rejects parameters in which a default is written: `Noncanonical` with the tag of
     /// the first such field. So what is read is the shortest encoding of the identifier.
@@ -78,9 +81,9 @@ pub trait FromAlgorithm<'a>: AlgorithmParams<'a> {
         ensures ok { let Grammar = AlgorithmOf Self.Oid.contents (Fielded Self.values) in
             IfOk result (λ p. IsTheShortest Grammar bytes.now (Self.params p)) }
         ensures err { OnErr result (IsNoShortest (AlgorithmOf Self.Oid.contents (Fielded Self.values)) bytes.now) }
-        ensures exact { let Fault = AlgorithmOfFault (NotIdentified Self.Oid.contents Self.fault) in
-            let Strict = StrictFault Self.Oid.contents (Fielded Self.values) (fields_with Self.values) Fault in
-            ErrsExactly Strict bytes.now result };
+        ensures exact { let lenient = whole_algorithm Self.Oid.contents Self.read in
+            let read = strict_algorithm (defaults_with Self.values) lenient in
+            ErrsAs Self.params (read bytes.now) result };
 }
 
 impl<'a, T: AlgorithmParams<'a>> FromAlgorithm<'a> for T {
@@ -135,7 +138,7 @@ pub(crate) fn decode_borrowed<'a, T: DecodeValue<&'a [u8], NoMemory> + FixedTag>
         IfOk result (λ v. (any.tag ≡ T.TAG.octet) × T.contents (T.value v) any.contents) }
     ensures err { let any = any_of any.entry in
         OnErr result ((v : T.Value) → any.tag ≡ T.TAG.octet → T.contents v any.contents → ⊥) }
-    ensures exact { FailsExactly (OtherAnyFault T.TAG T.DecodeValue.fault) (any_of any.entry) result }
+    ensures exact { Answers T.value result (any_as T.TAG T.read (any_of any.entry)) }
 {
     any.decode_as(NoMemory)
 }

@@ -2,7 +2,8 @@
 ghost use Rattle.der_core.specs.Words.{Excludes, SameByShortest, IsDelimited};
 ghost use Rattle.spki_core.specs.Words.{PlainAlgorithm};
 ghost use Rattle.pkcs1_params.specs.Words.{RsaPssAlgorithm, RsaOaepAlgorithm, id_rsassa_pss, id_rsaes_oaep};
-ghost use Rattle.pkcs1_params.specs.Words.{AreCountedIn, pss_fields, oaep_fields};
+ghost use Rattle.pkcs1_params.specs.Words.{AreCountedIn, pss_fields, oaep_fields, FaultsTell, strict_pss_params};
+ghost use Rattle.pkcs1_params.specs.Words.{strict_oaep_params, strict_pss_algorithm, strict_oaep_algorithm};
 ghost use Rattle.pkcs1_params.specs.Parameters as parameters;
 ghost use Rattle.pkcs1_params.specs.Spellings.{
   DefaultsAreCounted,
@@ -15,7 +16,7 @@ ghost use Rattle.pkcs1_params.specs.Spellings.{
 
 /// The encodings of PSS parameters within the limit are those under the masks, which say which defaults are written.
 /// The shortest is the one under mask 0. Two encodings mean the same parameters exactly if the shortest encodings of
-/// what they mean are equal.
+/// what they mean are equal. Each fault of bytes that aren't the shortest encoding of parameters is about the bytes.
 pub fn lemma_pss_spellings()
     ensures defaults { DefaultsAreCounted pss_fields }
     ensures mask { EachHasOneMask pss_fields }
@@ -24,11 +25,12 @@ pub fn lemma_pss_spellings()
     ensures fits { AcceptedFits pss_fields }
     ensures count { TwoToTheDefaults pss_fields }
     ensures same { SameByShortest parameters.RsaPssParams }
+    ensures faults { FaultsTell strict_pss_params }
 {}
 
 /// The encodings of OAEP parameters within the limit are those under the masks, which say which defaults are written.
 /// The shortest is the one under mask 0. Two encodings mean the same parameters exactly if the shortest encodings of
-/// what they mean are equal.
+/// what they mean are equal. Each fault of bytes that aren't the shortest encoding of parameters is about the bytes.
 pub fn lemma_oaep_spellings()
     ensures defaults { DefaultsAreCounted oaep_fields }
     ensures mask { EachHasOneMask oaep_fields }
@@ -37,11 +39,12 @@ pub fn lemma_oaep_spellings()
     ensures fits { AcceptedFits oaep_fields }
     ensures count { TwoToTheDefaults oaep_fields }
     ensures same { SameByShortest parameters.RsaOaepParams }
+    ensures faults { FaultsTell strict_oaep_params }
 {}
 
 /// Each encoding of an identifier with PSS or OAEP parameters means one value, and is no proper beginning of another;
 /// two mean the same exactly if the shortest encodings of what they mean are equal; of k default fields there are two
-/// to the k encodings.
+/// to the k encodings. Each fault of bytes that aren't the shortest encoding of such an identifier is about the bytes.
 pub fn lemma_algorithms()
     ensures pss { IsDelimited RsaPssAlgorithm }
     ensures oaep { IsDelimited RsaOaepAlgorithm }
@@ -49,6 +52,8 @@ pub fn lemma_algorithms()
     ensures same_oaep { SameByShortest RsaOaepAlgorithm }
     ensures count_pss { AreCountedIn id_rsassa_pss pss_fields }
     ensures count_oaep { AreCountedIn id_rsaes_oaep oaep_fields }
+    ensures faults_pss { FaultsTell strict_pss_algorithm }
+    ensures faults_oaep { FaultsTell strict_oaep_algorithm }
 {}
 
 /// No bytes encode identifiers of both algorithms, or an identifier and parameters alone.

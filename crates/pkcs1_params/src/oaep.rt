@@ -2,7 +2,8 @@
 ghost use Rattle.std.specs.Prelude.{◌≡◌, [], refl};
 ghost use Rattle.pkcs1_params.specs.Words.{OaepParameters, OaepContents, sha1, mgf1_sha1};
 ghost use Rattle.pkcs1_params.specs.Words.{empty_label, oaep_values, HasFields, written_fields, oaep_means_one};
-ghost use Rattle.pkcs1_params.specs.Words.{contents_are_bytes, contents_least, contents_relate, oaep_in};
+ghost use Rattle.pkcs1_params.specs.Words.{contents_are_bytes, contents_least, contents_relate, oaep_in, oaep_read};
+ghost use Rattle.pkcs1_params.specs.Words.{oaep_reads};
 
 use crate::contents::{append_contents, contents_len, prepend_contents};
 use crate::error::Result;
@@ -64,6 +65,10 @@ impl<O: IdentifierValue, P: AnyValue> Contents for OaepParamsOf<O, P> {
     ghost has_contents = { λ p. HasFields (oaep_values p) 0 };
 
     ghost written_contents = { λ p. written_fields (oaep_values p) 0 };
+
+    ghost read = { oaep_read };
+
+    ghost reads = { oaep_reads };
 
     ghost means_one = { oaep_means_one };
 

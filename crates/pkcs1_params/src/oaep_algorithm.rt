@@ -1,9 +1,10 @@
 //! The algorithm identifier id-RSAES-OAEP with its parameters (RFC 8017 A.2.1).
 ghost use Rattle.std.specs.Prelude.{◌≡◌, ◌≤◌, length, take, drop, refl, IfOk, IfErr, OnErr};
 ghost use Rattle.der_core.specs.Words.{HasEncoding};
-ghost use Rattle.spki_core.specs.Words.{viewed_with, any_of, Any, AnyFault, own_octets_of};
-ghost use Rattle.pkcs1_params.specs.Words.{id_rsaes_oaep, RsaOaepAlgorithm, RsaOaepAlgorithmFault, oaep_means_one};
-ghost use Rattle.pkcs1_params.specs.Words.{IsTheShortest, IsWritingError, TellsFault, OaepFault, OaepParameters};
+ghost use Rattle.spki_core.specs.Words.{viewed_with, any_of, own_octets_of};
+ghost use Rattle.pkcs1_params.specs.Words.{id_rsaes_oaep, RsaOaepAlgorithm, oaep_means_one, oaep_read, oaep_reads};
+ghost use Rattle.pkcs1_params.specs.Words.{rsa_oaep_algorithm};
+ghost use Rattle.pkcs1_params.specs.Words.{IsTheShortest, IsWritingError, TellsFault, OaepParameters};
 ghost use Rattle.pkcs1_params.specs.Words.{with_parameters, oaep_values, oaep_in};
 
 use crate::algorithm::{AlgorithmParams, FromAlgorithm, decode_borrowed, encode_identifier};
@@ -51,7 +52,9 @@ impl<'a, O: ReadParams<'a>> AlgorithmParams<'a> for OaepParamsOf<O, AnyRef<'a>> 
 
     ghost fields_mean_one = { oaep_means_one };
 
-    ghost fault = { OaepFault Any AnyFault };
+    ghost read = { oaep_read };
+
+    ghost reads = { oaep_reads };
 
     fn from_any(any: AnyRef<'a>) -> der_core::Result<OaepParamsOf<O, AnyRef<'a>>> {
         let view = decode_borrowed::<RsaOaepParamsView<'a>>(any)?;
@@ -95,7 +98,7 @@ impl<O: IdentifierValue, P: AnyValue> OaepParamsOf<O, P> {
 /// The first fault of bytes that aren't the algorithm identifier id-RSAES-OAEP with parameters, of which they have
 /// exactly one; `None` if they are.
 pub fn fault_of_oaep_algorithm(bytes: &[u8]) -> Option<ErrorKind>
-    ensures { TellsFault RsaOaepAlgorithm RsaOaepAlgorithmFault bytes.now result }
+    ensures { TellsFault RsaOaepAlgorithm rsa_oaep_algorithm bytes.now result }
 {
     match RsaOaepParamsView::from_algorithm_der(bytes) {
         Ok(_) => None,

@@ -1,6 +1,6 @@
 //! Reading of RSAES-OAEP parameters.
 ghost use Rattle.std.specs.Prelude.{◌≡◌};
-ghost use Rattle.pkcs1_params.specs.Words.{OaepAllocates, RsaOaepParamsFault, StrictOaepFault};
+ghost use Rattle.pkcs1_params.specs.Words.{OaepAllocates, rsa_oaep_params, strict_oaep_params};
 ghost use Rattle.pkcs1_params.specs.Words.{sha1, mgf1_sha1, empty_label};
 ghost use Rattle.pkcs1_params.specs.Words.{oaep_of};
 ghost use Rattle.pkcs1_params.specs.Words.{oaep_viewed};
@@ -31,7 +31,7 @@ impl<'a> RsaOaepParamsView<'a> {
 
 impl<'a, O: ReadParams<'a>> OaepParamsOf<O, AnyRef<'a>> {
     ghost use Rattle.std.specs.Prelude.{IfOk, OnErr};
-    ghost use Rattle.pkcs1_params.specs.Words.{ErrsExactly, IsNoShortest, IsTheShortest};
+    ghost use Rattle.pkcs1_params.specs.Words.{ErrsAs, IsNoShortest, IsTheShortest};
 
     /// Like `try_from`, but rejects an encoding in which a default is written: `Noncanonical` with the tag of the first
     /// such field. So what is read is the shortest encoding of its value.
@@ -39,7 +39,7 @@ impl<'a, O: ReadParams<'a>> OaepParamsOf<O, AnyRef<'a>> {
         ensures ok { let Grammar = grammar.RsaOaepParams in
             IfOk result (λ params. IsTheShortest Grammar bytes.now (oaep_in O.octets any_of params)) }
         ensures err { OnErr result (IsNoShortest grammar.RsaOaepParams bytes.now) }
-        ensures exact { ErrsExactly StrictOaepFault bytes.now result }
+        ensures exact { ErrsAs (oaep_in O.octets any_of) (strict_oaep_params bytes.now) result }
     {
         let view = RsaOaepParamsView::try_from(bytes)?;
         reject_defaults(&view, bytes)?;
@@ -60,7 +60,7 @@ impl<'a, O: IdentifierValue> Default for OaepParamsOf<O, AnyRef<'a>> {
 
 impl<'a, O: ReadParams<'a>> TryFrom<&'a [u8]> for OaepParamsOf<O, AnyRef<'a>> {
     ghost use Rattle.std.specs.Prelude.{IfOk, OnErr};
-    ghost use Rattle.pkcs1_params.specs.Words.{ErrsExactly, IsNoSentence, IsTheMeaning};
+    ghost use Rattle.pkcs1_params.specs.Words.{ErrsAs, IsNoSentence, IsTheMeaning};
 
     type Error = Error;
 
@@ -69,7 +69,7 @@ impl<'a, O: ReadParams<'a>> TryFrom<&'a [u8]> for OaepParamsOf<O, AnyRef<'a>> {
         ensures ok { let Grammar = grammar.RsaOaepParams in
             IfOk result (λ params. IsTheMeaning Grammar bytes.now (oaep_in O.octets any_of params)) }
         ensures err { OnErr result (IsNoSentence grammar.RsaOaepParams bytes.now) }
-        ensures exact { ErrsExactly RsaOaepParamsFault bytes.now result }
+        ensures exact { ErrsAs (oaep_in O.octets any_of) (rsa_oaep_params bytes.now) result }
     {
         if is_empty_sequence(bytes) {
             return Ok(OaepParamsOf::default());
@@ -80,13 +80,7 @@ impl<'a, O: ReadParams<'a>> TryFrom<&'a [u8]> for OaepParamsOf<O, AnyRef<'a>> {
 }
 
 impl<'a, M: Memory, O: ReadParams<'a>> DecodeValue<&'a [u8], M> for OaepParamsOf<O, AnyRef<'a>> {
-    ghost use Rattle.spki_core.specs.Words.{Any, any_delimited, holds_itself, AnyFault, any_fault_none};
-    ghost use Rattle.spki_core.specs.Words.{any_fault_first};
-    ghost use Rattle.pkcs1_params.specs.Words.{OaepFault, oaep_fault_none, oaep_fault_first};
-
     ghost may_allocate = { OaepAllocates (λ _. ⊥) };
-
-    ghost fault = { OaepFault Any AnyFault };
 
     #[inline(always)]
     fn decode_value<R: Reader<&'a [u8]>>(
@@ -119,9 +113,4 @@ impl<'a, M: Memory, O: ReadParams<'a>> DecodeValue<&'a [u8], M> for OaepParamsOf
             p_source,
         }))
     }
-
-    ghost fault_none = { oaep_fault_none Any AnyFault any_delimited any_fault_none (holds_itself any_of) };
-
-    ghost fault_first = { let none = any_fault_none in
-        oaep_fault_first Any AnyFault any_delimited none (holds_itself any_of) any_fault_first };
 }

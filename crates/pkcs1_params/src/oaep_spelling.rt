@@ -1,7 +1,8 @@
 //! The fields and the spellings of RSAES-OAEP parameters.
 ghost use Rattle.std.specs.Prelude.{length, OnOk, IfOk, IfErr};
 ghost use Rattle.spki_core.specs.Words.{HaveDefaults};
-ghost use Rattle.pkcs1_params.specs.Words.{oaep_means_one, oaep_in, oaep_numbered, OaepParameters};
+ghost use Rattle.pkcs1_params.specs.Words.{oaep_means_one, oaep_in, oaep_numbered, oaep_read, OaepParameters};
+ghost use Rattle.pkcs1_params.specs.Words.{oaep_reads};
 ghost use Rattle.pkcs1_params.specs.Words.{oaep_fields, oaep_values, IsMask, StandsUnder, IsSpellingError, AllFit};
 ghost use Rattle.pkcs1_params.specs.Words.{AreAllSpellings, IsListingError, encodings_in};
 
@@ -32,6 +33,10 @@ impl<'b, O: IdentifierValue, P: AnyValue> EncodeParams for &'b OaepParamsOf<O, P
     ghost numbered = { oaep_numbered };
 
     ghost fields_mean_one = { oaep_means_one };
+
+    ghost read = { oaep_read };
+
+    ghost reads = { oaep_reads };
 
     fn fields(self) -> OaepFields<'b, O, P> {
         FieldThen {

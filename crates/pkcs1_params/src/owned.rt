@@ -3,9 +3,7 @@ ghost use Rattle.std.specs.Prelude.{◌≡◌, ◌⊎◌, IfOk, IfErr};
 ghost use Rattle.der_core.specs.declared.error.ErrorKind.TheVariants.{OutOfMemory};
 ghost use Rattle.pkcs1_params.specs.Words.{OwnedPssAllocates, OwnedOaepAllocates, HasOctets, HasParameters};
 ghost use Rattle.pkcs1_params.specs.Words.{HashesHaveOctets, pss_with, pss_of, oaep_with, oaep_of};
-ghost use Rattle.spki_core.specs.Words.{algorithm_with, algorithm_of, mask_of, any_delimited, any_of, holds_itself};
-ghost use Rattle.spki_core.specs.Words.{AnyFault, any_fault_none, any_fault_first, own_any_of};
-ghost use Rattle.spki_core.specs.Any as grammar;
+ghost use Rattle.spki_core.specs.Words.{algorithm_with, algorithm_of, mask_of, any_of, own_any_of};
 
 use crate::hash_fields::{MaskGenOf, MaskGenRef};
 use crate::oaep::{RsaOaepParams, RsaOaepParamsOwned, RsaOaepParamsRef};
@@ -95,11 +93,7 @@ fn copy_oaep(alloc: Global, params: RsaOaepParamsRef<'_>) -> Result<RsaOaepParam
 }
 
 impl<'a> DecodeValue<&'a [u8], Global> for RsaPssParams<Any> {
-    ghost use Rattle.pkcs1_params.specs.Words.{PssFault, pss_fault_none, pss_fault_first};
-
     ghost may_allocate = { OwnedPssAllocates };
-
-    ghost fault = { PssFault grammar.Any AnyFault };
 
     fn decode_value<R: Reader<&'a [u8]>>(
         memory: Global,
@@ -112,19 +106,10 @@ impl<'a> DecodeValue<&'a [u8], Global> for RsaPssParams<Any> {
             Err(e) => Err(reader.error(e.kind())),
         }
     }
-
-    ghost fault_none = { pss_fault_none grammar.Any AnyFault any_delimited any_fault_none (holds_itself own_any_of) };
-
-    ghost fault_first = { let none = any_fault_none in
-        pss_fault_first grammar.Any AnyFault any_delimited none (holds_itself own_any_of) any_fault_first };
 }
 
 impl<'a> DecodeValue<&'a [u8], Global> for RsaOaepParams<Any> {
-    ghost use Rattle.pkcs1_params.specs.Words.{OaepFault, oaep_fault_none, oaep_fault_first};
-
     ghost may_allocate = { OwnedOaepAllocates };
-
-    ghost fault = { OaepFault grammar.Any AnyFault };
 
     fn decode_value<R: Reader<&'a [u8]>>(
         memory: Global,
@@ -137,9 +122,4 @@ impl<'a> DecodeValue<&'a [u8], Global> for RsaOaepParams<Any> {
             Err(e) => Err(reader.error(e.kind())),
         }
     }
-
-    ghost fault_none = { oaep_fault_none grammar.Any AnyFault any_delimited any_fault_none (holds_itself own_any_of) };
-
-    ghost fault_first = { let none = any_fault_none in
-        oaep_fault_first grammar.Any AnyFault any_delimited none (holds_itself own_any_of) any_fault_first };
 }

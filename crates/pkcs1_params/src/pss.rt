@@ -2,7 +2,7 @@
 ghost use Rattle.std.specs.Prelude.{◌≡◌, refl, length};
 ghost use Rattle.pkcs1_params.specs.Words.{PssParameters, PssContents};
 ghost use Rattle.pkcs1_params.specs.Words.{with_parameters, id_mgf1, sha1, mgf1_sha1, pss_values};
-ghost use Rattle.pkcs1_params.specs.Words.{HasFields, written_fields, pss_means_one};
+ghost use Rattle.pkcs1_params.specs.Words.{HasFields, written_fields, pss_means_one, pss_read, pss_reads};
 ghost use Rattle.pkcs1_params.specs.Words.{pss_of, pss_in, pss_with};
 ghost use Rattle.pkcs1_params.specs.Words.{contents_are_bytes, contents_least, contents_relate};
 ghost use Rattle.spki_core.specs.Words.{null_value};
@@ -70,6 +70,10 @@ impl<O: IdentifierValue, P: AnyValue> Contents for PssParamsOf<O, P> {
     ghost has_contents = { λ p. HasFields (pss_values p) 0 };
 
     ghost written_contents = { λ p. written_fields (pss_values p) 0 };
+
+    ghost read = { pss_read };
+
+    ghost reads = { pss_reads };
 
     ghost means_one = { pss_means_one };
 

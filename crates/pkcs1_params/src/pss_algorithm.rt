@@ -1,9 +1,10 @@
 //! The algorithm identifier id-RSASSA-PSS with its parameters (RFC 8017 A.2.3).
 ghost use Rattle.std.specs.Prelude.{◌≡◌, ◌≤◌, length, take, drop, refl, IfOk, IfErr, OnErr};
 ghost use Rattle.der_core.specs.Words.{HasEncoding};
-ghost use Rattle.spki_core.specs.Words.{viewed_with, any_of, Any, AnyFault, own_octets_of};
-ghost use Rattle.pkcs1_params.specs.Words.{id_rsassa_pss, RsaPssAlgorithm, RsaPssAlgorithmFault, pss_means_one};
-ghost use Rattle.pkcs1_params.specs.Words.{IsTheShortest, IsWritingError, TellsFault, PssFault, PssParameters};
+ghost use Rattle.spki_core.specs.Words.{viewed_with, any_of, own_octets_of};
+ghost use Rattle.pkcs1_params.specs.Words.{id_rsassa_pss, RsaPssAlgorithm, pss_means_one, pss_read, pss_reads};
+ghost use Rattle.pkcs1_params.specs.Words.{rsa_pss_algorithm};
+ghost use Rattle.pkcs1_params.specs.Words.{IsTheShortest, IsWritingError, TellsFault, PssParameters};
 ghost use Rattle.pkcs1_params.specs.Words.{with_parameters, pss_values, pss_in};
 
 use crate::algorithm::{AlgorithmParams, FromAlgorithm, decode_borrowed, encode_identifier};
@@ -51,7 +52,9 @@ impl<'a, O: ReadParams<'a>> AlgorithmParams<'a> for PssParamsOf<O, AnyRef<'a>> {
 
     ghost fields_mean_one = { pss_means_one };
 
-    ghost fault = { PssFault Any AnyFault };
+    ghost read = { pss_read };
+
+    ghost reads = { pss_reads };
 
     fn from_any(any: AnyRef<'a>) -> der_core::Result<PssParamsOf<O, AnyRef<'a>>> {
         let view = decode_borrowed::<RsaPssParamsView<'a>>(any)?;
@@ -95,7 +98,7 @@ impl<O: IdentifierValue, P: AnyValue> PssParamsOf<O, P> {
 /// The first fault of bytes that aren't the algorithm identifier id-RSASSA-PSS with parameters, of which they have
 /// exactly one; `None` if they are.
 pub fn fault_of_pss_algorithm(bytes: &[u8]) -> Option<ErrorKind>
-    ensures { TellsFault RsaPssAlgorithm RsaPssAlgorithmFault bytes.now result }
+    ensures { TellsFault RsaPssAlgorithm rsa_pss_algorithm bytes.now result }
 {
     match RsaPssParamsView::from_algorithm_der(bytes) {
         Ok(_) => None,

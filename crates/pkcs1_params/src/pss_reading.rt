@@ -1,6 +1,6 @@
 //! Reading of RSASSA-PSS parameters.
 ghost use Rattle.std.specs.Prelude.{◌≡◌};
-ghost use Rattle.pkcs1_params.specs.Words.{PssAllocates, RsaPssParamsFault, StrictPssFault};
+ghost use Rattle.pkcs1_params.specs.Words.{PssAllocates, rsa_pss_params, strict_pss_params};
 ghost use Rattle.pkcs1_params.specs.Words.{sha1, mgf1_sha1};
 ghost use Rattle.pkcs1_params.specs.Words.{pss_in, pss_of, pss_viewed};
 ghost use Rattle.spki_core.specs.Words.{any_of};
@@ -29,7 +29,7 @@ impl<'a> RsaPssParamsView<'a> {
 
 impl<'a, O: ReadParams<'a>> PssParamsOf<O, AnyRef<'a>> {
     ghost use Rattle.std.specs.Prelude.{IfOk, OnErr};
-    ghost use Rattle.pkcs1_params.specs.Words.{ErrsExactly, IsNoShortest, IsTheShortest};
+    ghost use Rattle.pkcs1_params.specs.Words.{ErrsAs, IsNoShortest, IsTheShortest};
 
     /// Like `try_from`, but rejects an encoding in which a default is written: `Noncanonical` with the tag of the first
     /// such field. So what is read is the shortest encoding of its value.
@@ -37,7 +37,7 @@ impl<'a, O: ReadParams<'a>> PssParamsOf<O, AnyRef<'a>> {
         ensures ok { let Grammar = grammar.RsaPssParams in
             IfOk result (λ params. IsTheShortest Grammar bytes.now (pss_in O.octets any_of params)) }
         ensures err { OnErr result (IsNoShortest grammar.RsaPssParams bytes.now) }
-        ensures exact { ErrsExactly StrictPssFault bytes.now result }
+        ensures exact { ErrsAs (pss_in O.octets any_of) (strict_pss_params bytes.now) result }
     {
         let view = RsaPssParamsView::try_from(bytes)?;
         reject_defaults(&view, bytes)?;
@@ -58,7 +58,7 @@ impl<'a, O: IdentifierValue> Default for PssParamsOf<O, AnyRef<'a>> {
 
 impl<'a, O: ReadParams<'a>> TryFrom<&'a [u8]> for PssParamsOf<O, AnyRef<'a>> {
     ghost use Rattle.std.specs.Prelude.{IfOk, OnErr};
-    ghost use Rattle.pkcs1_params.specs.Words.{ErrsExactly, IsNoSentence, IsTheMeaning};
+    ghost use Rattle.pkcs1_params.specs.Words.{ErrsAs, IsNoSentence, IsTheMeaning};
 
     type Error = Error;
 
@@ -67,7 +67,7 @@ impl<'a, O: ReadParams<'a>> TryFrom<&'a [u8]> for PssParamsOf<O, AnyRef<'a>> {
         ensures ok { let Grammar = grammar.RsaPssParams in
             IfOk result (λ params. IsTheMeaning Grammar bytes.now (pss_in O.octets any_of params)) }
         ensures err { OnErr result (IsNoSentence grammar.RsaPssParams bytes.now) }
-        ensures exact { ErrsExactly RsaPssParamsFault bytes.now result }
+        ensures exact { ErrsAs (pss_in O.octets any_of) (rsa_pss_params bytes.now) result }
     {
         if is_empty_sequence(bytes) {
             return Ok(PssParamsOf::default());
@@ -78,13 +78,7 @@ impl<'a, O: ReadParams<'a>> TryFrom<&'a [u8]> for PssParamsOf<O, AnyRef<'a>> {
 }
 
 impl<'a, M: Memory, O: ReadParams<'a>> DecodeValue<&'a [u8], M> for PssParamsOf<O, AnyRef<'a>> {
-    ghost use Rattle.spki_core.specs.Words.{Any, any_delimited, holds_itself, AnyFault, any_fault_none};
-    ghost use Rattle.spki_core.specs.Words.{any_fault_first};
-    ghost use Rattle.pkcs1_params.specs.Words.{PssFault, pss_fault_none, pss_fault_first};
-
     ghost may_allocate = { PssAllocates (λ _. ⊥) };
-
-    ghost fault = { PssFault Any AnyFault };
 
     #[inline(always)]
     fn decode_value<R: Reader<&'a [u8]>>(
@@ -119,9 +113,4 @@ impl<'a, M: Memory, O: ReadParams<'a>> DecodeValue<&'a [u8], M> for PssParamsOf<
             trailer_field,
         }))
     }
-
-    ghost fault_none = { pss_fault_none Any AnyFault any_delimited any_fault_none (holds_itself any_of) };
-
-    ghost fault_first = { let none = any_fault_none in
-        pss_fault_first Any AnyFault any_delimited none (holds_itself any_of) any_fault_first };
 }

@@ -1,7 +1,7 @@
 //! The fields and the spellings of RSASSA-PSS parameters.
 ghost use Rattle.std.specs.Prelude.{length, OnOk, IfOk, IfErr};
 ghost use Rattle.spki_core.specs.Words.{HaveDefaults};
-ghost use Rattle.pkcs1_params.specs.Words.{pss_means_one, pss_in, pss_numbered, PssParameters};
+ghost use Rattle.pkcs1_params.specs.Words.{pss_means_one, pss_in, pss_numbered, pss_read, pss_reads, PssParameters};
 ghost use Rattle.pkcs1_params.specs.Words.{pss_fields, pss_values, IsMask, StandsUnder, IsSpellingError, AllFit};
 ghost use Rattle.pkcs1_params.specs.Words.{AreAllSpellings, IsListingError, encodings_in};
 
@@ -33,6 +33,10 @@ impl<'b, O: IdentifierValue, P: AnyValue> EncodeParams for &'b PssParamsOf<O, P>
     ghost numbered = { pss_numbered };
 
     ghost fields_mean_one = { pss_means_one };
+
+    ghost read = { pss_read };
+
+    ghost reads = { pss_reads };
 
     fn fields(self) -> PssFields<'b, O, P> {
         FieldThen {

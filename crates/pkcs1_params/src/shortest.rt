@@ -64,6 +64,10 @@ impl<T: EncodeParams> Contents for Shortest<T> {
 
     ghost written_contents = { λ p. written_fields (T.values p) 0 };
 
+    ghost read = { T.read };
+
+    ghost reads = { T.reads };
+
     ghost means_one = { T.fields_mean_one };
 
     ghost contents_of_bytes = { contents_are_bytes T.values };

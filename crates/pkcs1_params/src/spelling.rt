@@ -1,9 +1,9 @@
 //! Spellings of parameters: a mask says which of their defaults are written.
 ghost use Rattle.std.specs.Prelude.{◌≡◌, ◌≤◌, ◌<◌, ◌+◌, ◌^◌, ℕ, List, length, take, drop, OnOk, OnErr, IfOk};
 ghost use Rattle.std.specs.Prelude.{IfErr};
-ghost use Rattle.der_core.specs.Words.{sequence_tag, MeansOne, HasEncoding};
+ghost use Rattle.der_core.specs.Words.{sequence_tag, MeansOne, HasEncoding, Reading, ReadsContents};
 ghost use Rattle.std.specs.Option.{option_map};
-ghost use Rattle.spki_core.specs.Words.{HaveDefaults, Masked, WalksOver, number_in};
+ghost use Rattle.spki_core.specs.Words.{HaveDefaults, Masked, first_default, number_in};
 ghost use Rattle.der_core.specs.declared.error.ErrorKind.{ErrorKind};
 ghost use Rattle.pkcs1_params.specs.Spellings.{IsMask, IsSpelling, HasNoSpelling, StandsUnder, IsSpellingError, AllFit};
 ghost use Rattle.pkcs1_params.specs.Spellings.{AreUnder, AreMasks, AreAllSpellings, IsListingError};
@@ -11,11 +11,12 @@ ghost use Rattle.pkcs1_params.specs.Spellings.{HasTwoToTheDefaults, encodings_in
 ghost use Rattle.pkcs1_params.specs.Meanings.{IsTheShortest, IsWritingError};
 ghost use Rattle.pkcs1_params.specs.Algorithms.{AlgorithmOf};
 ghost use Rattle.pkcs1_params.specs.DefaultBits.{bits_of};
-ghost use Rattle.pkcs1_params.specs.Parts.{FieldValue, AreNumbered, defaults_in, fields_with, Fielded, HasFields};
-ghost use Rattle.pkcs1_params.specs.Parts.{written_fields};
+ghost use Rattle.pkcs1_params.specs.Parts.{FieldValue, AreNumbered, defaults_in, defaults_with, fields_with, Fielded};
+ghost use Rattle.pkcs1_params.specs.Parts.{HasFields, written_fields};
 ghost use Rattle.pkcs1_params.specs.MaskedValues.{MaskedValue, InRange, FieldContents, MaskedValueContents, HasMasked};
-ghost use Rattle.pkcs1_params.specs.MaskedValues.{written_masked};
+ghost use Rattle.pkcs1_params.specs.MaskedValues.{masked_read, written_masked};
 ghost use Rattle.pkcs1_params.specs.Laws.MaskedValues.{masked_means_one, masked_of_bytes, masked_relates, masked_least};
+ghost use Rattle.pkcs1_params.specs.Laws.MaskedValues.{masked_reads};
 
 use crate::contents::{append_contents, contents_len, prepend_contents};
 use crate::error::Result;
@@ -44,6 +45,11 @@ pub trait EncodeParams: Copy + Drop {
 
     ghost fields_mean_one: { MeansOne (FieldContents values) };
 
+    /// What reads the fields, and that it reads nothing else.
+    ghost read: { Reading Params };
+
+    ghost reads: { ReadsContents (FieldContents values) read };
+
     /// The fields, in order.
     fn fields(self) -> Self::Fields
         ensures are { Self.Fields.values result ≡ values (params self) }
@@ -52,7 +58,7 @@ pub trait EncodeParams: Copy + Drop {
     /// The first field in an encoding that is written though it equals its default. The result is meaningful only if
     /// the encoding is known to be one of these parameters.
     fn written_default(self, bytes: &[u8]) -> Option<TagNumber>
-        ensures { WalksOver (defaults_in (values (params self))) bytes.now (option_map number_in result) };
+        ensures { option_map number_in result ≡ first_default (defaults_with values (params self)) bytes.now };
 
     /// Does nothing: its contract says that there are contents under each mask, of fewer than 2^64 octets.
     final fn lemma_is_held(self)
@@ -137,6 +143,10 @@ impl<T: EncodeParams> Contents for Spelling<T> {
     ghost has_contents = { HasMasked T.values };
 
     ghost written_contents = { written_masked T.values };
+
+    ghost read = { masked_read T.values T.read };
+
+    ghost reads = { masked_reads T.values T.numbered T.reads };
 
     ghost means_one = { masked_means_one T.values T.numbered T.fields_mean_one };
 

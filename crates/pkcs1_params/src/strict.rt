@@ -1,8 +1,8 @@
 //! Strict reading: encodings in which a default is written are rejected.
-ghost use Rattle.std.specs.Prelude.{OnOk, OnErr};
+ghost use Rattle.std.specs.Prelude.{◌≡◌, OnOk, OnErr};
 ghost use Rattle.der_core.specs.Words.{Means, IsShortest};
-ghost use Rattle.spki_core.specs.Words.{NamesNumber, NamesDefault, number_in};
-ghost use Rattle.pkcs1_params.specs.Words.{fields_with, Fielded, IsAsn1, ErrsExactly};
+ghost use Rattle.spki_core.specs.Words.{first_default, noncanonical, number_in, unless_found};
+ghost use Rattle.pkcs1_params.specs.Words.{defaults_with, Fielded, IsAsn1, ErrsAs};
 
 use crate::error::{Error, Result};
 use crate::spelling::EncodeParams;
@@ -10,7 +10,7 @@ use der_core::{ErrorKind, Tag, TagNumber};
 
 /// The error for a field that is written though it equals its default.
 fn is_written(number: TagNumber) -> Error
-    ensures { IsAsn1 (λ e. NamesNumber (number_in number) e.kind) result }
+    ensures { IsAsn1 (λ e. e.kind ≡ noncanonical (number_in number)) result }
 {
     let tag = Tag::context(number);
     Error::Asn1(der_core::Error::new(ErrorKind::Noncanonical { tag }))
@@ -22,7 +22,8 @@ pub(crate) fn reject_defaults<T: EncodeParams>(params: T, bytes: &[u8]) -> Resul
     requires { Means (Fielded T.values) bytes.now (T.params params) }
     ensures ok { OnOk result (IsShortest (Fielded T.values) (T.params params) bytes.now) }
     ensures err { OnErr result (IsShortest (Fielded T.values) (T.params params) bytes.now → ⊥) }
-    ensures exact { ErrsExactly (NamesDefault (fields_with T.values (T.params params))) bytes.now result }
+    ensures exact { let v = T.params params in
+        ErrsAs (λ _. v) (unless_found (first_default (defaults_with T.values v) bytes.now) v) result }
 {
     match params.written_default(bytes) {
         Some(number) => Err(is_written(number)),

@@ -1,8 +1,8 @@
 //! The trailer field of RSASSA-PSS.
 ghost use Rattle.std.specs.Prelude.{◌≡◌, ℕ, ◌∷◌, [], refl};
 ghost use Rattle.der_core.specs.Words.{integer_contents};
-ghost use Rattle.pkcs1_params.specs.Words.{TrailerContents, trailer_means_one, trailer_of_bytes, trailer_relates};
-ghost use Rattle.pkcs1_params.specs.Words.{trailer_shortest};
+ghost use Rattle.pkcs1_params.specs.Words.{TrailerContents, trailer_means_one, trailer_of_bytes, trailer_read};
+ghost use Rattle.pkcs1_params.specs.Words.{trailer_reads, trailer_relates, trailer_shortest};
 
 use der_core::{
     BackWriter, Contents, DecodeValue, EncodeValue, EqualByValue, ErrorKind, Header, IntegerTag,
@@ -37,6 +37,10 @@ impl Contents for TrailerField {
 
     ghost written_contents = { λ n. integer_contents (n ∷ []) };
 
+    ghost read = { trailer_read };
+
+    ghost reads = { trailer_reads };
+
     ghost means_one = { trailer_means_one };
 
     ghost contents_of_bytes = { trailer_of_bytes };
@@ -51,11 +55,7 @@ impl EqualByValue for TrailerField {
 }
 
 impl<'a, M: Memory> DecodeValue<&'a [u8], M> for TrailerField {
-    ghost use Rattle.pkcs1_params.specs.Words.{TrailerFault, trailer_fault_none, trailer_fault_first};
-
     ghost may_allocate = { λ _. ⊥ };
-
-    ghost fault = { TrailerFault };
 
     fn decode_value<R: Reader<&'a [u8]>>(
         memory: M,
@@ -67,10 +67,6 @@ impl<'a, M: Memory> DecodeValue<&'a [u8], M> for TrailerField {
             _ => Err(reader.error(ErrorKind::Value { tag: Tag::INTEGER })),
         }
     }
-
-    ghost fault_none = { trailer_fault_none };
-
-    ghost fault_first = { trailer_fault_first };
 }
 
 impl EncodeValue for TrailerField {

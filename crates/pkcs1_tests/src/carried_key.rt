@@ -1,6 +1,6 @@
 //! A key type of a caller, which implements the traits of keys.
 ghost use Rattle.std.specs.Prelude.{◌≡◌, List, ℕ, IfOk, IfErr};
-ghost use Rattle.der_core.specs.Words.{IsDocument, encoding_of, Rejects};
+ghost use Rattle.der_core.specs.Words.{IsDocument, encoding_of, NoValueOrMemory};
 ghost use Rattle.der_core.specs.declared.error.ErrorKind.TheVariants.{OutOfMemory};
 ghost use Rattle.pkcs1_params.specs.Words.{IsAsn1};
 
@@ -48,12 +48,12 @@ impl EncodeRsaPrivateKey for CarriedKey {
     ghost written_as = { λ key bytes. key.bytes.items ≡ bytes };
 
     ghost unwritten_by = { λ key. let is_document = IsDocument key.bytes.items in
-        IsAsn1 (λ e. Rejects e.kind is_document (is_document → ⊥)) };
+        IsAsn1 (λ e. NoValueOrMemory e.kind is_document (is_document → ⊥)) };
 
     fn to_pkcs1_der(&self, alloc: Global) -> Result<SecretDocument>
         ensures encoding { IfOk result (λ document. self.now.bytes.items ≡ encoding_of document) }
         ensures err { let is_document = IsDocument self.now.bytes.items in
-            IfErr result (IsAsn1 (λ e. Rejects e.kind is_document (is_document → ⊥))) }
+            IfErr result (IsAsn1 (λ e. NoValueOrMemory e.kind is_document (is_document → ⊥))) }
     {
         Ok(SecretDocument::from_der(alloc, self.bytes.as_slice())?)
     }
@@ -63,12 +63,12 @@ impl EncodeRsaPublicKey for CarriedKey {
     ghost written_as = { λ key bytes. key.bytes.items ≡ bytes };
 
     ghost unwritten_by = { λ key. let is_document = IsDocument key.bytes.items in
-        IsAsn1 (λ e. Rejects e.kind is_document (is_document → ⊥)) };
+        IsAsn1 (λ e. NoValueOrMemory e.kind is_document (is_document → ⊥)) };
 
     fn to_pkcs1_der(&self, alloc: Global) -> Result<Document>
         ensures encoding { IfOk result (λ document. self.now.bytes.items ≡ encoding_of document) }
         ensures err { let is_document = IsDocument self.now.bytes.items in
-            IfErr result (IsAsn1 (λ e. Rejects e.kind is_document (is_document → ⊥))) }
+            IfErr result (IsAsn1 (λ e. NoValueOrMemory e.kind is_document (is_document → ⊥))) }
     {
         Ok(Document::from_der(alloc, self.bytes.as_slice())?)
     }

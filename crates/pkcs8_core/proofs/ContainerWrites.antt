@@ -7,11 +7,13 @@ use Rattle.der_core.specs.Document.{Means, HasEncoding, IsAlone, IsShortest, Why
 use Rattle.der_core.specs.Document.{too_long, no_room, another}
 use Rattle.der_core.specs.Encodings.{AtMostOne, AreBytes}
 use Rattle.der_core.specs.Integer.{Small, integer_contents}
-use Rattle.der_core.specs.Laws.Encodings.{tlv_at_most_one, tlv_made, joins_at_most_one}
-use Rattle.der_core.specs.Laws.Fronts.{front_is}
+use Rattle.der_core.specs.Laws.Encodings.{tlv_at_most_one, joins_at_most_one}
+use Rattle.der_core.proofs.Encodings.{tlv_made}
+use Rattle.der_core.proofs.FrontsAreUnique.{front_is}
 use Rattle.der_core.specs.Laws.Input.{are_bytes}
 use Rattle.der_core.specs.Laws.Integer.{small_at_most_one}
-use Rattle.der_core.specs.Laws.OctetString.{octets_at_most_one, octet_string_at_most_one}
+use Rattle.der_core.specs.Laws.OctetString.{octets_at_most_one}
+use Rattle.der_core.proofs.OctetString.{octet_string_at_most_one}
 use Rattle.der_core.specs.Laws.ShortEncodings.{tlv_short}
 use Rattle.der_core.specs.Length.{limit}
 use Rattle.der_core.specs.OctetString.{OctetContents, OctetString}
@@ -24,10 +26,10 @@ use Rattle.spki_core.specs.AlgorithmIdentifier.{HasPlain, PlainAlgorithm, writte
 use Rattle.spki_core.specs.AlgorithmValue.{algorithm_of}
 use Rattle.spki_core.specs.AnyRefValue.{any_of}
 use Rattle.spki_core.specs.Laws.AlgorithmEncodings.{plain_at_most_one, optional_at_most_one}
-use Rattle.spki_core.specs.Laws.Held.{any_held, identifier_held, plain_held}
+use Rattle.spki_core.specs.Laws.HaveEncodings.{any_held, identifier_held, plain_held}
 use Rattle.spki_core.specs.ObjectIdentifierValue.{own_octets_of}
 use Rattle.pkcs8_core.specs.Container.{Info, AttributesEncoding, InfoContents, PrivateKeyInfo, WhyContainerNotWritten}
-use Rattle.pkcs8_core.specs.Held.{attributes_of}
+use Rattle.pkcs8_core.specs.ContainerValue.{attributes_of}
 use Rattle.pkcs8_core.specs.declared.attributes.Attributes.{Attributes}
 use Rattle.pkcs8_core.specs.declared.info.PrivateKeyInfoRef.{PrivateKeyInfoRef}
 

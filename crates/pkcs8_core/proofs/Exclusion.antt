@@ -6,7 +6,7 @@ use Rattle.der_core.specs.Document.{Excludes}
 use Rattle.der_core.specs.Encodings.{Then}
 use Rattle.der_core.specs.Laws.Encodings.{tlv_split}
 use Rattle.der_core.specs.Tlv.{Tlv}
-use Rattle.pkcs1_params.specs.Laws.Parameters.{sequences_exclude}
+use Rattle.pkcs1_params.proofs.Parameters.{sequences_exclude}
 use Rattle.pkcs1_params.specs.Parameters.{RsaPssParams, pss_fields, RsaOaepParams, oaep_fields}
 use Rattle.pkcs1.specs.Keys.{RsaPublicKey, RsaPrivateKey}
 use Rattle.pkcs8_core.specs.Container.{PrivateKeyInfo}

@@ -1,3 +1,5 @@
 pub mod ContainerWrites
 mod Exclusion
 pub mod RsaHeld
+pub mod Container
+pub mod ContainerReadings

@@ -1,20 +1,23 @@
 -- RSA keys in containers.
-use Rattle.std.proofs.Common.{◌≡◌, ℕ, List, ⊎_elim, inl, inr, subst}
+use Rattle.std.proofs.Common.{◌≡◌, ℕ, List, ⊎_elim, inl, inr, subst, sym, ap, ◌∙◌}
+use Rattle.der_core.specs.Readings.{◌>>=◌}
 use Rattle.std.specs.Prelude.{Result, Ok, Err, IfOk, IfErr, OnErr}
-use Rattle.der_core.specs.declared.error.ErrorKind.{ErrorKind}
 use Rattle.der_core.specs.Document.{Means}
-use Rattle.der_core.specs.Faults.{IsTheFault}
-use Rattle.der_core.specs.Reading.{Rejects}
+use Rattle.der_core.specs.Reading.{ReadsAll, NoValueOrMemory}
+use Rattle.der_core.specs.declared.error.Error as der
+use Rattle.pkcs1_params.proofs.FaultsTold.{the_meaning}
+use Rattle.pkcs8_core.specs.ContainerValue.{info_of}
+use Rattle.pkcs8_core.proofs.Container.{info_delimited}
+use Rattle.pkcs8_core.specs.declared.info.PrivateKeyInfoRef.{PrivateKeyInfoRef}
 use Rattle.pkcs1.specs.Allocating.{MayAllocate}
-use Rattle.pkcs1.specs.KeyFaults.{RsaPrivateKeyFault}
+use Rattle.pkcs1.specs.KeyReadings.{rsa_private_key}
 use Rattle.pkcs1.specs.Keys.{PrivateKey, RsaPrivateKey}
 use Rattle.pkcs1_params.specs.Errors.{IsAsn1}
 use Rattle.pkcs1_params.specs.declared.error.Error.{Error}
-use Rattle.pkcs1_params.specs.Laws.Errors.{asn1_as}
-use Rattle.pkcs1_params.specs.Meanings.{ErrsExactly, ErrsOrAsks, IsNoSentence, IsTheMeaning, IsTheOnly}
+use Rattle.pkcs1_params.proofs.Errors.{asn1_as}
+use Rattle.pkcs1_params.specs.Meanings.{IsNoSentence, IsTheMeaning, IsTheOnly}
 use Rattle.pkcs8_core.specs.Container.{Info, PrivateKeyInfo}
-use Rattle.pkcs8_core.specs.ContainerFaults.{RsaFault}
-use Rattle.pkcs8_core.specs.Laws.ContainerFaults.{rsa_is}
+use Rattle.pkcs8_core.specs.ContainerReadings.{rsa_held, rsa_only}
 use Rattle.pkcs8_core.specs.Rsa.{HoldsRsa, RsaPrivateKeyInfo, rsa_encryption}
 
 module _ (info : Info) (q : List ℕ) (same : q ≡ info.private_key) (agrees : info.algorithm ≡ rsa_encryption) where
@@ -30,31 +33,24 @@ module _ (info : Info) (q : List ℕ) (same : q ≡ info.private_key) (agrees : 
   none_held (Err e) f = λ key h. f key (rw same h.1)
 
   pub rejected_held : {X : Type 0} (r : Result X Error)
-      → IfErr r (IsAsn1 (λ e. Rejects e.kind (MayAllocate q)
+      → IfErr r (IsAsn1 (λ e. NoValueOrMemory e.kind (MayAllocate q)
       ((key : PrivateKey (List ℕ)) → Means RsaPrivateKey q key → ⊥)))
-      → IfErr r (IsAsn1 (λ e. Rejects e.kind (MayAllocate info.private_key)
+      → IfErr r (IsAsn1 (λ e. NoValueOrMemory e.kind (MayAllocate info.private_key)
       ((key : PrivateKey (List ℕ)) → HoldsRsa info key → ⊥)))
   rejected_held (Ok x) f = tt
   rejected_held (Err e) f =
       asn1_as (λ a. ⊎_elim (λ w. inl (w.0, rw (← same) w.1)) (λ w. inr (w.0, λ key h. w.1 key (rw same h.1)))) e f
 
-  -- The algorithm agrees, so the fault is that of the key.
-  key_fault : (kind : ErrorKind) → RsaFault kind info → RsaPrivateKeyFault kind q
-  key_fault kind (inl failure) = absurd (rsa_is info.algorithm kind failure agrees)
-  key_fault kind (inr fault) = rw same fault.1
+  -- The algorithm agrees, so the function gives what is read of the key.
+  pub read_held : rsa_held info ≡ rsa_private_key q
+  read_held =
+      ap (λ a. rsa_only a >>= λ _. rsa_private_key info.private_key) agrees ∙ ap rsa_private_key (sym same)
 
-  the_fault_held : (kind : ErrorKind) → IsTheFault RsaPrivateKeyFault q kind → IsTheFault RsaFault info kind
-  the_fault_held kind fault = (fault.0, inr (agrees, rw (← same) fault.1), λ other f. fault.2 other (key_fault other f))
-
-  pub fault_held : {X : Type 0} (r : Result X Error) → ErrsExactly RsaPrivateKeyFault q r → ErrsExactly RsaFault info r
-  fault_held (Ok x) f = λ kind fault. f kind (key_fault kind fault)
-  fault_held (Err e) f = asn1_as (λ a. the_fault_held a.kind) e f
-
-  pub faulty_held : {X : Type 0} (r : Result X Error) → ErrsOrAsks RsaPrivateKeyFault q (MayAllocate q) r
-      → ErrsOrAsks RsaFault info ((info.algorithm ≡ rsa_encryption) × MayAllocate info.private_key) r
-  faulty_held (Ok x) f = λ kind fault. f kind (key_fault kind fault)
-  faulty_held (Err e) f =
-      asn1_as (λ a. ⊎_elim (λ w. inl (w.0, (agrees, rw (← same) w.1))) (λ fault. inr (the_fault_held a.kind fault))) e f
+-- A whole slice that was read means the container.
+pub container_meant : (may : List ℕ → Type 0) (bytes : List ℕ) (r : Result PrivateKeyInfoRef der.Error)
+    → ReadsAll info_of PrivateKeyInfo may r bytes → IfOk r (λ info. IsTheMeaning PrivateKeyInfo bytes (info_of info))
+container_meant may bytes (Ok x) means = the_meaning info_delimited (info_of x) bytes means
+container_meant may bytes (Err e) none = tt
 
 -- What is said of the container that an encoding means, is said of the encoding.
 module _ (encoding : List ℕ) (info : Info) (is : IsTheMeaning PrivateKeyInfo encoding info) where

@@ -1,3 +1,3 @@
--- Lemmas on the definitions, which proofs here and in the crates above may cite.
+-- Laws that contracts and ghost members name, and what those rest on. Other lemmas are in proofs/.
 pub mod Container
-pub mod ContainerFaults
+pub mod ContainerReadings

@@ -1,7 +1,7 @@
 pub mod Tags
 pub mod Container
-pub mod Held
+pub mod ContainerValue
 pub mod Rsa
-pub mod ContainerFaults
+pub mod ContainerReadings
 pub mod Laws
 pub mod Words

@@ -2,6 +2,8 @@
 ghost use Rattle.std.specs.Prelude.{◌≡◌, ◌<◌, ◌^◌, ℕ, List, length, slice_index};
 ghost use Rattle.der_core.specs.Words.{OctetContents, octets_mean_one, octets_of_bytes, octets_relate, octets_shortest};
 ghost use Rattle.der_core.specs.Words.{AreBytes};
+ghost use Rattle.der_core.specs.Readings.{octets_of_all};
+ghost use Rattle.der_core.specs.Laws.Readings.{octets_read};
 ghost use Rattle.pkcs8_core.specs.Tags.{attributes_tag};
 
 use pkcs1::der::{
@@ -27,7 +29,7 @@ pub struct Attributes<'a> {
 }
 
 impl<'a> Attributes<'a> {
-    ghost use Rattle.pkcs8_core.specs.Held.{attributes_of};
+    ghost use Rattle.pkcs8_core.specs.ContainerValue.{attributes_of};
 
     /// Attributes with these contents.
     pub(crate) fn new(bytes: &'a [u8]) -> Attributes<'a>
@@ -38,7 +40,7 @@ impl<'a> Attributes<'a> {
 }
 
 impl Contents for Attributes<'_> {
-    ghost use Rattle.pkcs8_core.specs.Held.{attributes_of};
+    ghost use Rattle.pkcs8_core.specs.ContainerValue.{attributes_of};
 
     ghost Value = { List ℕ };
 
@@ -53,6 +55,10 @@ impl Contents for Attributes<'_> {
     ghost means_one = { octets_mean_one };
 
     ghost contents_of_bytes = { octets_of_bytes };
+
+    ghost read = { octets_of_all };
+
+    ghost reads = { octets_read };
 }
 
 impl TaggedBy for Attributes<'_> {
@@ -60,11 +66,7 @@ impl TaggedBy for Attributes<'_> {
 }
 
 impl<'a, M: Memory> DecodeValue<&'a [u8], M> for Attributes<'a> {
-    ghost use Rattle.der_core.specs.Words.{NoFault, no_fault_none, no_fault_first};
-
     ghost may_allocate = { λ _. ⊥ };
-
-    ghost fault = { NoFault };
 
     fn decode_value<R: Reader<&'a [u8]>>(
         _memory: M,
@@ -74,10 +76,6 @@ impl<'a, M: Memory> DecodeValue<&'a [u8], M> for Attributes<'a> {
         let bytes = reader.read_slice(header.length)?;
         Ok(Attributes::new(bytes))
     }
-
-    ghost fault_none = { no_fault_none _ };
-
-    ghost fault_first = { no_fault_first };
 }
 
 impl EncodeValue for Attributes<'_> {

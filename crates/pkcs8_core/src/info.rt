@@ -1,9 +1,10 @@
 //! PKCS #8 containers of private keys.
 ghost use Rattle.std.specs.Prelude.{◌≡◌, ◌≤◌, ◌+◌, ℕ, List, length, take, drop, IfOk, IfErr, OnErr, refl};
 ghost use Rattle.std.specs.Option.{option_map};
-ghost use Rattle.der_core.specs.Words.{AtMostOne, Excludes, FailsExactly, HasEncoding, IsAlone, Means};
-ghost use Rattle.der_core.specs.Words.{WritesEncodings, as_parts, encode_error};
-ghost use Rattle.pkcs8_core.specs.Words.{Info, InfoContents, PrivateKeyInfo, PrivateKeyInfoFault};
+ghost use Rattle.der_core.specs.Words.{AtMostOne, Answers, Excludes, HasEncoding, IsAlone, Means};
+ghost use Rattle.der_core.specs.Words.{WritesEncodings, as_parts, encode_error, made_errs};
+ghost use Rattle.pkcs8_core.specs.Words.{Info, InfoContents, PrivateKeyInfo, info_read, info_reads, of_info_parts};
+ghost use Rattle.pkcs8_core.specs.Words.{private_key_info};
 ghost use Rattle.pkcs8_core.specs.Words.{WhyContainerNotWritten, attributes_of, info_means_one, info_of, info_parts};
 ghost use Rattle.pkcs8_core.specs.Words.{slice_now};
 ghost use Rattle.der_core.specs.declared.error.ErrorKind as der;
@@ -72,6 +73,10 @@ impl Contents for PrivateKeyInfoRef<'_> {
 
     ghost means_one = { info_means_one };
 
+    ghost read = { info_read };
+
+    ghost reads = { info_reads };
+
     ghost contents_of_bytes = { λ info. ⟦<InfoParts<'static> as Contents>⟧.contents_of_bytes (info_parts info) };
 }
 
@@ -96,6 +101,8 @@ impl<'a> InParts for PrivateKeyInfoRef<'a> {
     }
 
     ghost is_parts = { λ info. as_parts _ _ _ (info_parts info) };
+
+    ghost errs = { made_errs of_info_parts _ };
 }
 
 impl EncodeInParts for PrivateKeyInfoRef<'_> {
@@ -179,7 +186,7 @@ impl<'a> TryFrom<&'a [u8]> for PrivateKeyInfoRef<'a> {
     fn try_from(bytes: &'a [u8]) -> Result<PrivateKeyInfoRef<'a>>
         ensures ok { IfOk result (λ info. IsTheMeaning PrivateKeyInfo bytes.now (info_of info)) }
         ensures err { OnErr result (IsNoSentence PrivateKeyInfo bytes.now) }
-        ensures exact { FailsExactly PrivateKeyInfoFault bytes.now result }
+        ensures exact { Answers info_of result (private_key_info bytes.now) }
     {
         lemma_containers_take_no_memory::<NoMemory>();
         PrivateKeyInfoRef::from_der(NoMemory, bytes)

@@ -5,12 +5,12 @@ use Rattle.der_core.specs.Integer.{Small}
 use Rattle.der_core.specs.Laws.Integer.{small_delimited}
 use Rattle.der_core.specs.Laws.Lists.{same_cons}
 use Rattle.der_core.specs.Encodings.{Joins}
-use Rattle.der_core.specs.Laws.WrittenOut.{known_tlv, known_front, known_whole, small_byte, no_bytes_rejected}
-use Rattle.der_core.specs.Laws.WrittenOut.{other_tag_rejected, no_part_rejected}
+use Rattle.der_core.proofs.WorkedLengths.{known_tlv, known_front, known_whole, small_byte, no_bytes_rejected}
+use Rattle.der_core.proofs.WorkedLengths.{other_tag_rejected, no_part_rejected}
 use Rattle.spki_core.specs.ContextSpecific.{Numbered, ContextSpecific}
 use Rattle.spki_core.specs.Explicit.{Field, field, Defaultable, FieldSequence, HaveDefaults, MaskedField, Masked}
 use Rattle.spki_core.specs.Explicit.{AllExplicit, FieldRead, FieldRejected, left_out, written, forced}
-use Rattle.spki_core.specs.Laws.KnownFields.{left_out_field, written_field, field_written}
+use Rattle.spki_core.proofs.KnownFields.{left_out_field, written_field, field_written}
 
 -- a203020114
 tag_2 : ContextSpecific Small (record { number = 2; value = 20 }) (0xa2 ∷ 0x03 ∷ 0x02 ∷ 0x01 ∷ 0x14 ∷ [])

@@ -1,4 +1,9 @@
 pub mod Octets
-pub mod Anys
 pub mod FieldRows
 pub mod Copies
+pub mod MappedValues
+pub mod Fields
+pub mod KnownFields
+pub mod Readings
+pub mod Spellings
+pub mod StrictWalk

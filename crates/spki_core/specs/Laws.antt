@@ -1,18 +1,16 @@
--- Lemmas on the definitions, which proofs here and in the crates above may cite.
+-- Laws that contracts and ghost members name, and what those rest on. Other lemmas are in proofs/.
 pub mod AlgorithmEncodings
 pub mod Algorithms
 pub mod AnyEncodings
-pub mod Carried
+pub mod MappedValues
 pub mod ContextSpecific
-pub mod Faults
-pub mod FieldReads
+pub mod Readings
 pub mod FieldEncodings
+pub mod FieldReadings
 pub mod Fields
-pub mod Held
+pub mod HaveEncodings
 pub mod Identifiers
-pub mod KnownFields
 pub mod Masks
-pub mod Spellings
 pub mod StrictWalk
 pub mod AnyValues
 pub mod IdentifierTest

@@ -4,7 +4,6 @@ pub mod AlgorithmIdentifier
 pub mod ContextSpecific
 pub mod Explicit
 pub mod FieldWriting
-pub mod FieldReading
 pub mod Allocating
 pub mod ObjectIdentifierValue
 pub mod AnyRefValue
@@ -14,6 +13,6 @@ pub mod HashAlgorithms
 pub mod IdentifierTest
 pub mod StrictFields
 pub mod Masks
-pub mod Faults
+pub mod Readings
 pub mod Laws
 pub mod Words

@@ -1,16 +1,16 @@
 -- Fields with defaults, which are not to be written if they equal them (X.690 11.5).
-use Rattle.std.specs.Prelude.{ℕ, Bool, true, false, List, [], ◌∷◌, ◌++◌, ◌≡◌, ◌+◌, ◌⊎◌, map, Option, Some, None}
-use Rattle.der_core.specs.Tag.{context_tag, sequence_tag}
-use Rattle.der_core.specs.Document.{Means}
-use Rattle.der_core.specs.Reading.{NoneIn}
+use Rattle.std.specs.Prelude.{ℕ, Bool, true, false, List, [], ◌∷◌, ◌≡◌, ◌+◌, ◌⊎◌, map, Option, Some, None}
+use Rattle.std.specs.Prelude.{Result, Ok, Err, if◌then◌else◌}
+use Rattle.der_core.specs.Tag.{context_tag, is_allowed, sequence_tag}
 use Rattle.der_core.specs.Encodings.{Then, Joins}
+use Rattle.der_core.specs.Readings.{Reading, ◌>>=◌, checked, is_next, whole}
 use Rattle.der_core.specs.Tlv.{Tlv}
-use Rattle.der_core.specs.declared.tag.Tag.{Tag}
 use Rattle.der_core.specs.declared.tag.TagNumber.{TagNumber}
 use Rattle.der_core.specs.declared.error.ErrorKind.{ErrorKind}
-use Rattle.der_core.specs.declared.error.ErrorKind.TheVariants.{Noncanonical}
-use Rattle.spki_core.specs.Any.{TagAndContents, Any}
-use Rattle.spki_core.specs.Explicit.{Field, Explicit, Defaultable, IsNext}
+use Rattle.der_core.specs.declared.error.ErrorKind.TheVariants.{Noncanonical, TagUnknown}
+use Rattle.spki_core.specs.Any.{TagAndContents}
+use Rattle.spki_core.specs.Explicit.{Field, Explicit, Defaultable}
+use Rattle.spki_core.specs.Readings.{any}
 
 -- A field in its shortest form: a default is left out.
 abbrev pub Short : Field → List ℕ → Type 0
@@ -26,27 +26,41 @@ FirstWritten (f ∷ fields) n contents =
 abbrev pub WritesDefault : List Field → ℕ → List ℕ → Type 0
 WritesDefault fields n encoding = Tlv sequence_tag (FirstWritten fields n) encoding
 
--- The error names the tag [n].
-abbrev pub NamesNumber : ℕ → ErrorKind → Type 0
-NamesNumber n kind = (tag : Tag) × (kind ≡ Noncanonical tag) × (tag.octet ≡ context_tag n)
+-- What a walk finds behind an encoding of any tag, and in its contents.
+abbrev pub behind_any : (List ℕ → Option ℕ) → Result (TagAndContents × List ℕ) ErrorKind → Option ℕ
+behind_any walk (Ok p) = walk p.1
+behind_any walk (Err k) = None
 
--- The error names the tag of the first default that is written.
-abbrev pub NamesDefault : List Field → ErrorKind → List ℕ → Type 0
-NamesDefault fields kind encoding = (n : ℕ) × NamesNumber n kind × WritesDefault fields n encoding
+abbrev pub inside_any : (List ℕ → Option ℕ) → Result TagAndContents ErrorKind → Option ℕ
+inside_any walk (Ok v) = walk v.contents
+inside_any walk (Err k) = None
 
--- A walk over the contents, from the field [n] on, knowing for each field whether it equals its default. A default is
--- looked for by its octet, and each other field is skipped as an encoding of any tag.
-abbrev pub Walked : ℕ → List Bool → List ℕ → Option ℕ → Type 0
-Walked n [] c found = found ≡ None
-Walked n (true ∷ ds) c found = (IsNext n c × (found ≡ Some n)) ⊎ ((IsNext n c → ⊥) × Walked (n + 1) ds c found)
-Walked n (false ∷ ds) c found =
-    ((v : TagAndContents) × (x : List ℕ) × (rest : List ℕ) × Any v x × (c ≡ x ++ rest) × Walked (n + 1) ds rest found)
-    ⊎ (NoneIn Any c × (found ≡ None))
+-- A walk over the contents, from the field [n] on, knowing for each field whether it equals its default: the first
+-- default that is written. A default is looked for by its octet, and each other field is skipped as an encoding of any
+-- tag.
+abbrev pub walked : ℕ → List Bool → List ℕ → Option ℕ
+walked n [] c = None
+walked n (true ∷ ds) c = if is_next (context_tag n) c then Some n else walked (n + 1) ds c
+walked n (false ∷ ds) c = behind_any (walked (n + 1) ds) (any c)
+
+-- A walk over the contents of a whole encoding.
+abbrev pub first_default : List Bool → List ℕ → Option ℕ
+first_default ds encoding = inside_any (walked 0 ds) (whole any encoding)
 
 abbrev pub number_in : TagNumber → ℕ
 number_in number = number.value
 
--- A walk over the contents of an encoding.
-abbrev pub WalksOver : List Bool → List ℕ → Option ℕ → Type 0
-WalksOver ds encoding found =
-    (c : List ℕ) → Means Any encoding (record { tag = sequence_tag; contents = c }) → Walked 0 ds c found
+-- The error that names the tag [n].
+abbrev pub noncanonical : ℕ → ErrorKind
+noncanonical n =
+    checked (is_allowed (context_tag n)) (λ ok. Noncanonical (record { octet = context_tag n; allowed = ok }))
+    (TagUnknown (context_tag n))
+
+-- The value, unless a default is found that is written.
+abbrev pub unless_found : {V : Type 0} → Option ℕ → V → Result V ErrorKind
+unless_found None v = Ok v
+unless_found (Some n) v = Err (noncanonical n)
+
+-- Strict reading: a value that is read, in whose encoding no default is written.
+abbrev pub strict : {V : Type 0} → (V → List Bool) → Reading V → Reading V
+strict defaults read bytes = read bytes >>= λ v. unless_found (first_default (defaults v) bytes) v

@@ -1,25 +1,24 @@
 -- The words that contracts cite, from all files of specs.
 pub use Rattle.spki_core.specs.AlgorithmIdentifier.{Algorithm, AlgorithmContents, HasAlgorithm, PlainAlgorithm}
 pub use Rattle.spki_core.specs.AlgorithmIdentifier.{same_mask, same_plain, written_algorithm}
-pub use Rattle.spki_core.specs.AlgorithmValue.{algorithm_in, algorithm_of, algorithm_with, mask_in, mask_of, viewed_with}
+pub use Rattle.spki_core.specs.AlgorithmValue.{algorithm_in, algorithm_of, algorithm_with, mask_in, mask_of}
+pub use Rattle.spki_core.specs.AlgorithmValue.{viewed_with}
 pub use Rattle.spki_core.specs.Allocating.{AllocatesForParameters, FieldAllocates, NothingAskedAlone}
 pub use Rattle.spki_core.specs.Any.{Any, TagAndContents, null_value}
 pub use Rattle.spki_core.specs.AnyRefValue.{any_of}
 pub use Rattle.spki_core.specs.ContextSpecific.{ContextSpecific, HasNumbered, Numbered, written_numbered}
 pub use Rattle.spki_core.specs.Explicit.{Field, HaveDefaults, Masked}
-pub use Rattle.spki_core.specs.Faults.{AlgorithmFault, AnyFault, ExplicitFault, OtherAnyFault}
-pub use Rattle.spki_core.specs.FieldReading.{ReadsField}
+pub use Rattle.spki_core.specs.Readings.{algorithm_read, any, any_as, defaulted, explicit, identifier_read, numbered}
 pub use Rattle.spki_core.specs.FieldWriting.{HasField, written_field}
 pub use Rattle.spki_core.specs.HashAlgorithms.{IsHash}
 pub use Rattle.spki_core.specs.Masks.{out_under, rest_under}
 pub use Rattle.spki_core.specs.ObjectIdentifierValue.{octets_of, own_octets_of}
 pub use Rattle.spki_core.specs.OwnedAnyValue.{own_any_of}
-pub use Rattle.spki_core.specs.StrictFields.{NamesDefault, NamesNumber, Walked, WalksOver, number_in}
+pub use Rattle.spki_core.specs.StrictFields.{first_default, noncanonical, number_in, strict, unless_found, walked}
 pub use Rattle.spki_core.specs.Laws.Algorithms.{algorithm_decides, algorithm_means_one, algorithm_of_bytes}
 pub use Rattle.spki_core.specs.Laws.Algorithms.{algorithm_relates, algorithm_shortest}
 pub use Rattle.spki_core.specs.Laws.AnyEncodings.{any_delimited}
 pub use Rattle.spki_core.specs.Laws.AnyValues.{holds_decides, holds_itself}
 pub use Rattle.spki_core.specs.Laws.ContextSpecific.{numbered_delimited, numbered_of_bytes, numbered_relates}
 pub use Rattle.spki_core.specs.Laws.ContextSpecific.{numbered_shortest}
-pub use Rattle.spki_core.specs.Laws.Faults.{algorithm_fault_first, algorithm_fault_none, any_fault_first}
-pub use Rattle.spki_core.specs.Laws.Faults.{any_fault_none}
+pub use Rattle.spki_core.specs.Laws.Readings.{algorithm_reads, any_reads, identifier_reads, numbered_reads}

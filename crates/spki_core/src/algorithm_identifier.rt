@@ -53,7 +53,7 @@ impl<O: fmt::Debug, P: fmt::Debug> fmt::Debug for AlgorithmIdentifierOf<O, P> {
 }
 
 impl<O: IdentifierValue, P: Encoding> Contents for AlgorithmIdentifierOf<O, P> {
-    ghost use Rattle.spki_core.specs.Words.{algorithm_in};
+    ghost use Rattle.spki_core.specs.Words.{algorithm_in, algorithm_read, algorithm_reads};
 
     ghost Value = { Algorithm P.Value };
 
@@ -64,6 +64,10 @@ impl<O: IdentifierValue, P: Encoding> Contents for AlgorithmIdentifierOf<O, P> {
     ghost has_contents = { HasAlgorithm P.has_encoding };
 
     ghost written_contents = { written_algorithm P.written_encoding };
+
+    ghost read = { algorithm_read P.read_front };
+
+    ghost reads = { algorithm_reads P.reads_front P.delimited };
 
     ghost means_one = { algorithm_means_one P.encoding P.delimited };
 
@@ -87,11 +91,7 @@ impl<P: EqualByValue> EqualByValue for AlgorithmIdentifier<P> {
 
 impl<'a, M: Memory, O: ReadIdentifier<'a>, P: Decode<&'a [u8], M>> DecodeValue<&'a [u8], M>
     for AlgorithmIdentifierOf<O, P> {
-    ghost use Rattle.spki_core.specs.Words.{AlgorithmFault, algorithm_fault_none, algorithm_fault_first};
-
     ghost may_allocate = { AllocatesForParameters P.Decode.may_allocate };
-
-    ghost fault = { AlgorithmFault P.encoding P.Decode.fault };
 
     #[inline(always)]
     fn decode_value<R: Reader<&'a [u8]>>(
@@ -104,11 +104,6 @@ impl<'a, M: Memory, O: ReadIdentifier<'a>, P: Decode<&'a [u8], M>> DecodeValue<&
         )?;
         Ok(O::keep(AlgorithmView { oid, parameters }))
     }
-
-    ghost fault_none = { algorithm_fault_none P.encoding P.Decode.fault P.delimited P.Decode.fault_none };
-
-    ghost fault_first = { let none = P.Decode.fault_none in
-        algorithm_fault_first P.encoding P.Decode.fault P.delimited none P.Decode.fault_first };
 }
 
 /// Reading an identifier without parameters never asks for memory, whatever type they would have. It does nothing: the

@@ -1,7 +1,8 @@
 //! Encodings of any tag.
 ghost use Rattle.std.specs.Prelude.{◌≡◌, ◌≤◌, ◌<◌, ℕ, [], length, slice_index, refl, ⊤, IfOk, IsOk, IfErr, IsTrue};
-ghost use Rattle.der_core.specs.Words.{limit, is_allowed, FailsOrAsks, ReadsFront, Rejects};
-ghost use Rattle.spki_core.specs.Faults.{AnyFault, OtherAnyFault};
+ghost use Rattle.der_core.specs.Words.{limit, is_allowed, ReadsFront, NoValueOrMemory, Returns};
+ghost use Rattle.spki_core.specs.Readings.{any, any_as};
+ghost use Rattle.spki_core.specs.Laws.Readings.{any_reads};
 ghost use Rattle.spki_core.specs.Any.{TagAndContents, IsAny, Any, null_value, written_any};
 ghost use Rattle.spki_core.specs.Laws.AnyEncodings.{any_delimited, any_of_bytes, any_relates, any_shortest};
 
@@ -109,10 +110,10 @@ impl<'a> AnyRef<'a> {
             IfOk result (λ value. (any.tag ≡ T.TAG.octet) × T.contents (T.value value) any.contents) }
         ensures err { let any = any_of self.entry in
             let no_value : Type 0 = (value : T.Value) → any.tag ≡ T.TAG.octet → T.contents value any.contents → ⊥ in
-            IfErr result (λ e. Rejects e.kind (T.may_allocate any.contents) no_value) }
-        ensures exact { let any = any_of self.entry in
-            let asked = (any.tag ≡ T.TAG.octet) × T.may_allocate any.contents in
-            FailsOrAsks (OtherAnyFault T.TAG T.DecodeValue.fault) any asked result }
+            IfErr result (λ e. NoValueOrMemory e.kind (T.may_allocate any.contents) no_value) }
+        ensures exact { let held = any_of self.entry in
+            let asked = (held.tag ≡ T.TAG.octet) × T.may_allocate held.contents in
+            Returns T.value (any_as T.TAG T.read held) asked result }
     {
         if self.tag() != T::TAG {
             return Err(Error::new(ErrorKind::TagUnexpected {
@@ -157,17 +158,17 @@ impl Encoding for AnyRef<'_> {
 
     ghost written_encoding = { written_any };
 
+    ghost read_front = { any };
+
+    ghost reads_front = { any_reads };
+
     ghost delimited = { any_delimited };
 
     ghost encoding_of_bytes = { any_of_bytes };
 }
 
 impl<'a, M: Memory> Decode<&'a [u8], M> for AnyRef<'a> {
-    ghost use Rattle.spki_core.specs.Laws.Faults.{any_fault_none, any_fault_first};
-
     ghost may_allocate = { λ _. ⊥ };
-
-    ghost fault = { AnyFault };
 
     #[inline(always)]
     fn decode<R: Reader<&'a [u8]>>(_memory: M, reader: &mut R) -> Result<AnyRef<'a>> {
@@ -180,17 +181,13 @@ impl<'a, M: Memory> Decode<&'a [u8], M> for AnyRef<'a> {
         reader.finish()?;
         Ok(any)
     }
-
-    ghost fault_none = { any_fault_none };
-
-    ghost fault_first = { any_fault_first };
 }
 
 /// Reads the encoding at the front of what is left.
 #[inline(always)]
 fn read_any<'a, R: Reader<&'a [u8]>>(reader: &mut R) -> Result<AnyRef<'a>>
-    ensures { ReadsFront (λ (any : AnyRef). record { tag = any.tag.octet; contents = any.contents.now })
-        Any AnyFault (λ _. ⊥) result (R.left reader.old) (R.left reader.new) }
+    ensures { ReadsFront (λ (held : AnyRef). record { tag = held.tag.octet; contents = held.contents.now })
+        any (λ _. ⊥) result (R.left reader.old) (R.left reader.new) }
 {
     let header = Header::decode(reader)?;
     let contents = reader.read_slice(header.length)?;
@@ -240,7 +237,7 @@ impl<'a> TryClone for AnyRef<'a> {
 pub trait AnyValue: EqualByValue + Encode {
     ghost use Rattle.spki_core.specs.AnyRefValue.{any_of};
     ghost use Rattle.spki_core.specs.Laws.AnyValues.{HoldsAny};
-    ghost use Rattle.spki_core.specs.Laws.Held.{AreAnyHeld};
+    ghost use Rattle.spki_core.specs.Laws.HaveEncodings.{AreAnyHeld};
     ghost use Rattle.spki_core.specs.Laws.WritesAs.{WritesAs};
 
     /// The tag and contents that are held.
@@ -250,10 +247,13 @@ pub trait AnyValue: EqualByValue + Encode {
     fn as_any_ref(&self) -> AnyRef<'_>
         ensures { any_of result ≡ any self.now };
 
+    /// The tag and contents are those of the value's encodings.
     ghost holds: { HoldsAny Self.value Self.encoding Self.any };
 
+    /// What is written is the encoding of the tag and contents.
     ghost writes: { WritesAs Self.value Self.has_encoding Self.written_encoding Self.any IsAny written_any };
 
+    /// The tag and contents that are held have an encoding.
     ghost held: { AreAnyHeld Self.any };
 }
 
@@ -266,7 +266,7 @@ impl EqualByValue for AnyRef<'_> {
 impl AnyValue for AnyRef<'_> {
     ghost use Rattle.spki_core.specs.AnyRefValue.{any_of};
     ghost use Rattle.spki_core.specs.Laws.AnyValues.{holds_itself};
-    ghost use Rattle.spki_core.specs.Laws.Held.{any_held};
+    ghost use Rattle.spki_core.specs.Laws.HaveEncodings.{any_held};
     ghost use Rattle.spki_core.specs.Laws.WritesAs.{writes_itself};
 
     ghost any = { any_of };

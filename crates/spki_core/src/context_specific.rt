@@ -1,8 +1,10 @@
 //! Values inside explicit context-specific tags (X.690 8.14.2).
 ghost use Rattle.std.specs.Prelude.{◌≡◌, ◌+◌};
-ghost use Rattle.der_core.specs.Words.{context_tag, Tlv, EncodingFault, AloneFault, ReadsFront, ReadsOptional};
+ghost use Rattle.std.specs.Option.{option_map};
+ghost use Rattle.der_core.specs.Words.{context_tag, Tlv, ReadsFront, alone, optional, tagged};
 ghost use Rattle.der_core.specs.Words.{AllocatesIn, TellsNext};
-ghost use Rattle.spki_core.specs.Words.{FieldAllocates, ExplicitFault, Numbered, ContextSpecific, HasNumbered};
+ghost use Rattle.spki_core.specs.Words.{FieldAllocates, explicit, numbered, numbered_reads, Numbered, ContextSpecific};
+ghost use Rattle.spki_core.specs.Words.{HasNumbered};
 ghost use Rattle.spki_core.specs.Words.{written_numbered, numbered_delimited, numbered_of_bytes, numbered_relates};
 ghost use Rattle.spki_core.specs.Words.{numbered_shortest};
 
@@ -38,6 +40,10 @@ impl<'b, T: Encoding> Encoding for ContextSpecificRef<'b, T> {
     ghost has_encoding = { HasNumbered T.has_encoding };
 
     ghost written_encoding = { written_numbered T.written_encoding };
+
+    ghost read_front = { numbered T.read_front };
+
+    ghost reads_front = { numbered_reads T.reads_front };
 
     ghost delimited = { numbered_delimited T.encoding T.delimited };
 
@@ -89,9 +95,8 @@ pub fn read_context_specific<'a, T: Decode<&'a [u8], M>, M: Memory, R: Reader<&'
 ) -> Result<Option<T>>
     ensures { let tag = context_tag number.value in
         let may = FieldAllocates number.value T.Decode.may_allocate in
-        let fault = ExplicitFault number.value (AloneFault T.encoding T.Decode.fault) in
-        let before = R.left reader.old in
-        ReadsOptional tag T.value (λ v. Tlv tag (T.encoding v)) fault may result before (R.left reader.new) }
+        let at = optional tag (explicit number.value T.read_front) in
+        ReadsFront (option_map T.value) at may result (R.left reader.old) (R.left reader.new) }
 {
     if !is_field_next(reader, number)? {
         return Ok(None);
@@ -107,11 +112,9 @@ pub fn read_explicit<'a, T: Decode<&'a [u8], M>, M: Memory, R: Reader<&'a [u8]>>
     reader: &mut R,
     number: TagNumber,
 ) -> Result<T>
-    ensures { let tag = context_tag number.value in
-        let may = FieldAllocates number.value T.Decode.may_allocate in
-        let fault = ExplicitFault number.value (AloneFault T.encoding T.Decode.fault) in
-        let before = R.left reader.old in
-        ReadsFront T.value (λ v. Tlv tag (T.encoding v)) fault may result before (R.left reader.new) }
+    ensures { let may = FieldAllocates number.value T.Decode.may_allocate in
+        let at = explicit number.value T.read_front in
+        ReadsFront T.value at may result (R.left reader.old) (R.left reader.new) }
 {
     read_inside(memory, reader, Tag::context(number))
 }
@@ -124,9 +127,8 @@ fn read_inside<'a, T: Decode<&'a [u8], M>, M: Memory, R: Reader<&'a [u8]>>(
     tag: Tag,
 ) -> Result<T>
     ensures { let may = Tlv tag.octet (AllocatesIn T.Decode.may_allocate) in
-        let fault = EncodingFault tag (AloneFault T.encoding T.Decode.fault) in
-        let before = R.left reader.old in
-        ReadsFront T.value (λ v. Tlv tag.octet (T.encoding v)) fault may result before (R.left reader.new) }
+        let at = tagged tag (alone T.read_front) in
+        ReadsFront T.value at may result (R.left reader.old) (R.left reader.new) }
 {
     let header = Header::decode_likely(reader, tag)?;
     if header.tag != tag {

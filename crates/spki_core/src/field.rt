@@ -1,7 +1,7 @@
 //! Explicit fields with defaults (X.690 8.14.2, 11.5).
 ghost use Rattle.std.specs.Prelude.{◌≤◌, ◌+◌, length};
-ghost use Rattle.der_core.specs.Words.{limit, free_of, Prepends, Counts, Appends, context_tag, tlv, AloneFault};
-ghost use Rattle.spki_core.specs.Words.{ExplicitFault, ReadsField, HasField, written_field};
+ghost use Rattle.der_core.specs.Words.{limit, free_of, Prepends, Counts, Appends, context_tag, tlv, ReadsFront};
+ghost use Rattle.spki_core.specs.Words.{FieldAllocates, defaulted, HasField, written_field};
 
 use crate::context_specific::{ContextSpecificRef, is_field_next, read_explicit};
 use der_core::{
@@ -17,9 +17,9 @@ pub fn read_field<'a, T: Decode<&'a [u8], M>, M: Memory, R: Reader<&'a [u8]>>(
     number: TagNumber,
     default: T,
 ) -> Result<T>
-    ensures { let fault = ExplicitFault number.value (AloneFault T.encoding T.Decode.fault) in
-        ReadsField number.value T.value T.encoding (T.value default) fault T.Decode.may_allocate result
-        (R.left reader.old) (R.left reader.new) }
+    ensures { let may = FieldAllocates number.value T.Decode.may_allocate in
+        let at = defaulted number.value T.read_front (T.value default) in
+        ReadsFront T.value at may result (R.left reader.old) (R.left reader.new) }
 {
     if is_field_next(reader, number)? {
         read_explicit(memory, reader, number)

@@ -2,6 +2,9 @@
 ghost use Rattle.std.specs.Prelude.{◌≡◌, ℕ, ◌<◌, List, length, slice_index, IsTrue, IfOk, IfErr};
 ghost use Rattle.spki_core.specs.IdentifierTest as specs;
 ghost use Rattle.spki_core.specs.ObjectIdentifier.{IsIdentifier, IdentifierContents};
+ghost use Rattle.der_core.specs.Words.{Answers};
+ghost use Rattle.spki_core.specs.Readings.{identifier_read};
+ghost use Rattle.spki_core.specs.Laws.Readings.{identifier_reads};
 ghost use Rattle.spki_core.specs.Laws.Identifiers.{identifier_means_one, identifier_contents_of_bytes};
 ghost use Rattle.spki_core.specs.Laws.Identifiers.{identifier_contents_relate, identifier_contents_shortest};
 
@@ -38,6 +41,7 @@ impl<'a> IdentifierView<'a> {
     pub fn from_bytes(bytes: &'a [u8]) -> Result<IdentifierView<'a>>
         ensures ok { IfOk result (λ oid. IsIdentifier bytes.now × (octets_of oid ≡ bytes.now)) }
         ensures err { IfErr result (λ e. (e.kind ≡ ErrorKind.OidMalformed) × (IsIdentifier bytes.now → ⊥)) }
+        ensures exact { Answers octets_of result (identifier_read bytes.now) }
     {
         if !is_identifier(bytes) {
             return Err(Error::new(ErrorKind::OidMalformed));
@@ -86,12 +90,13 @@ pub trait IdentifierValue: Sized {
     fn as_identifier_view(&self) -> IdentifierView<'_>
         ensures { octets_of result ≡ octets self.now };
 
+    /// What is held is the contents of an object identifier.
     ghost identifies: { (oid : Self) → IsIdentifier (octets oid) };
 }
 
 impl<'a> IdentifierValue for IdentifierView<'a> {
     ghost use Rattle.spki_core.specs.ObjectIdentifierValue.{octets_of};
-    ghost use Rattle.spki_core.specs.Laws.Held.{viewed_held};
+    ghost use Rattle.spki_core.specs.Laws.HaveEncodings.{viewed_held};
 
     ghost octets = { octets_of };
 
@@ -121,6 +126,10 @@ impl Contents for IdentifierView<'_> {
 
     ghost written_contents = { λ oid. oid };
 
+    ghost read = { identifier_read };
+
+    ghost reads = { identifier_reads };
+
     ghost means_one = { identifier_means_one };
 
     ghost contents_of_bytes = { identifier_contents_of_bytes };
@@ -131,12 +140,7 @@ impl TaggedBy for IdentifierView<'_> {
 }
 
 impl<'a, M: Memory> DecodeValue<&'a [u8], M> for IdentifierView<'a> {
-    ghost use Rattle.spki_core.specs.Faults.{IdentifierFault};
-    ghost use Rattle.spki_core.specs.Laws.Faults.{identifier_fault_none, identifier_fault_first};
-
     ghost may_allocate = { λ _. ⊥ };
-
-    ghost fault = { IdentifierFault };
 
     #[inline(always)]
     fn decode_value<R: Reader<&'a [u8]>>(
@@ -150,10 +154,6 @@ impl<'a, M: Memory> DecodeValue<&'a [u8], M> for IdentifierView<'a> {
             Err(e) => Err(reader.error(e.kind())),
         }
     }
-
-    ghost fault_none = { identifier_fault_none };
-
-    ghost fault_first = { identifier_fault_first };
 }
 
 impl EncodeValue for IdentifierView<'_> {

@@ -2,6 +2,9 @@
 ghost use Rattle.std.specs.Prelude.{◌≡◌, ℕ, ◌≤◌, ◌<◌, List, length, take, slice_index, IsTrue, IfOk, IfErr};
 ghost use Rattle.spki_core.specs.IdentifierTest as specs;
 ghost use Rattle.spki_core.specs.ObjectIdentifier.{IsIdentifier, IdentifierContents};
+ghost use Rattle.der_core.specs.Words.{Answers};
+ghost use Rattle.spki_core.specs.Readings.{identifier_read};
+ghost use Rattle.spki_core.specs.Laws.Readings.{identifier_reads};
 ghost use Rattle.spki_core.specs.Laws.Identifiers.{identifier_means_one, identifier_contents_of_bytes};
 ghost use Rattle.spki_core.specs.Laws.Identifiers.{identifier_contents_relate, identifier_contents_shortest};
 ghost use Rattle.std.proofs.Common.{rules};
@@ -52,6 +55,7 @@ pub trait AssociatedOid {
     /// The contents octets of the identifier.
     ghost contents: { List ℕ };
 
+    /// They are the contents of an object identifier.
     ghost valid: { IsTrue (specs.is_identifier contents) };
 
     /// The contents octets of the identifier (X.690 8.19), without tag and length.
@@ -90,6 +94,7 @@ impl ObjectIdentifier {
     pub fn from_bytes(bytes: &[u8]) -> Result<ObjectIdentifier>
         ensures ok { IfOk result (λ oid. IsIdentifier bytes.now × (own_octets_of oid ≡ bytes.now)) }
         ensures err { IfErr result (λ e. (e.kind ≡ ErrorKind.OidMalformed) × (IsIdentifier bytes.now → ⊥)) }
+        ensures exact { Answers own_octets_of result (identifier_read bytes.now) }
     {
         if !is_identifier(bytes) {
             return Err(Error::new(ErrorKind::OidMalformed));
@@ -119,7 +124,7 @@ impl ObjectIdentifier {
 
 impl IdentifierValue for ObjectIdentifier {
     ghost use Rattle.spki_core.specs.ObjectIdentifierValue.{own_octets_of};
-    ghost use Rattle.spki_core.specs.Laws.Held.{identifier_held};
+    ghost use Rattle.spki_core.specs.Laws.HaveEncodings.{identifier_held};
 
     ghost octets = { own_octets_of };
 
@@ -186,6 +191,10 @@ impl Contents for ObjectIdentifier {
 
     ghost written_contents = { λ oid. oid };
 
+    ghost read = { identifier_read };
+
+    ghost reads = { identifier_reads };
+
     ghost means_one = { identifier_means_one };
 
     ghost contents_of_bytes = { identifier_contents_of_bytes };
@@ -203,12 +212,7 @@ impl EqualByValue for ObjectIdentifier {
 }
 
 impl<'a, M: Memory> DecodeValue<&'a [u8], M> for ObjectIdentifier {
-    ghost use Rattle.spki_core.specs.Faults.{IdentifierFault};
-    ghost use Rattle.spki_core.specs.Laws.Faults.{identifier_fault_none, identifier_fault_first};
-
     ghost may_allocate = { λ _. ⊥ };
-
-    ghost fault = { IdentifierFault };
 
     fn decode_value<R: Reader<&'a [u8]>>(
         _memory: M,
@@ -221,10 +225,6 @@ impl<'a, M: Memory> DecodeValue<&'a [u8], M> for ObjectIdentifier {
             Err(e) => Err(reader.error(e.kind())),
         }
     }
-
-    ghost fault_none = { identifier_fault_none };
-
-    ghost fault_first = { identifier_fault_first };
 }
 
 impl EncodeValue for ObjectIdentifier {

@@ -1,6 +1,8 @@
 //! Encodings of any tag that own their contents.
 ghost use Rattle.std.specs.Prelude.{◌≡◌, ◌≤◌, ◌<◌, ◌⊎◌, ℕ, length, slice_index, IfOk, IfErr};
 ghost use Rattle.der_core.specs.Words.{limit};
+ghost use Rattle.spki_core.specs.Readings.{any};
+ghost use Rattle.spki_core.specs.Laws.Readings.{any_reads};
 ghost use Rattle.spki_core.specs.Any.{TagAndContents, IsAny, written_any};
 ghost use Rattle.spki_core.specs.Any as grammar;
 ghost use Rattle.spki_core.specs.Laws.AnyEncodings.{any_delimited, any_of_bytes, any_relates, any_shortest};
@@ -65,18 +67,17 @@ impl Encoding for Any {
 
     ghost written_encoding = { written_any };
 
+    ghost read_front = { any };
+
+    ghost reads_front = { any_reads };
+
     ghost delimited = { any_delimited };
 
     ghost encoding_of_bytes = { any_of_bytes };
 }
 
 impl<'a> Decode<&'a [u8], Global> for Any {
-    ghost use Rattle.spki_core.specs.Faults.{AnyFault};
-    ghost use Rattle.spki_core.specs.Laws.Faults.{any_fault_none, any_fault_first};
-
     ghost may_allocate = { λ b. (v : TagAndContents) × grammar.Any v b };
-
-    ghost fault = { AnyFault };
 
     fn decode<R: Reader<&'a [u8]>>(memory: Global, reader: &mut R) -> Result<Any> {
         let any = AnyRef::decode(NoMemory, reader)?;
@@ -90,10 +91,6 @@ impl<'a> Decode<&'a [u8], Global> for Any {
         let any = AnyRef::from_der(NoMemory, bytes)?;
         Any::copy_of(memory, any.tag(), any.value())
     }
-
-    ghost fault_none = { any_fault_none };
-
-    ghost fault_first = { any_fault_first };
 }
 
 impl Encode for Any {
@@ -123,7 +120,7 @@ impl EqualByValue for Any {
 impl AnyValue for Any {
     ghost use Rattle.spki_core.specs.OwnedAnyValue.{own_any_of};
     ghost use Rattle.spki_core.specs.Laws.AnyValues.{holds_itself};
-    ghost use Rattle.spki_core.specs.Laws.Held.{own_any_held};
+    ghost use Rattle.spki_core.specs.Laws.HaveEncodings.{own_any_held};
     ghost use Rattle.spki_core.specs.Laws.WritesAs.{writes_itself};
 
     ghost any = { own_any_of };

@@ -17,8 +17,8 @@ use Rattle.statement.specs.Statement.{tlv, limit, IsSubidentifier, IsIdentifier,
 use Rattle.statement.specs.Statement.{IfPresent, Algorithm, algorithm, IsAlgorithm, sha1, mgf1_sha1, empty_label}
 use Rattle.statement.proofs.Der.{tlv_same}
 pub use Rattle.statement.specs.Library.{any as any_to, algorithm as algorithm_to}
-pub use Rattle.statement.specs.Laws.Values.{any_from, algorithm_from, plain_from, plain_to, plain_back, plain_forth}
-pub use Rattle.statement.specs.Laws.Values.{mask_from, mask_to, mask_back, mask_forth}
+pub use Rattle.statement.proofs.Values.{any_from, algorithm_from, plain_from, plain_to, plain_back, plain_forth}
+pub use Rattle.statement.proofs.Values.{mask_from, mask_to, mask_back, mask_forth}
 
 -- One with such parameters: a hash function, a label source. One with one of these: a mask generation function.
 abbrev pub plain : Algorithm TagAndContents → List ℕ

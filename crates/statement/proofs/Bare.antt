@@ -10,7 +10,7 @@ use Rattle.spki_core.specs.AlgorithmIdentifier as algorithms
 use Rattle.pkcs1_params.specs.Allocating.{HasOctets, HasParameters, HashesHaveOctets, OwnedPssAllocates}
 use Rattle.pkcs1_params.specs.Allocating.{OwnedOaepAllocates}
 use Rattle.pkcs1_params.specs.Parameters as parameters
-use Rattle.pkcs1_params.specs.Laws.ParameterFaults.{pss_told, oaep_told}
+use Rattle.pkcs1_params.specs.Laws.Parameters.{pss_delimited, oaep_delimited}
 use Rattle.statement.specs.Statement.{TagAndContents, Algorithm, IfPresent, IsBare, PssParameters, OaepParameters}
 use Rattle.statement.proofs.Algorithms.{any_to, plain_to, mask_to}
 use Rattle.statement.proofs.Pss as pss
@@ -54,7 +54,7 @@ pss_asked bytes (x, rest, is, t) p m bare =
     let (w, held, has) = t.holds in
     let there : parameters.RsaPssParams w x =
     record { octets = t.octets; contents = t.contents; counted = t.counted; holds = held; written = t.written } in
-    let same = (pss_told.delimited.one (pss.to p) w bytes [] x rest m.1 there (append-nil bytes ∙ is)).1 in
+    let same = (pss_delimited.one (pss.to p) w bytes [] x rest m.1 there (append-nil bytes ∙ is)).1 in
     bare_hashes p.hash p.mask_gen bare.0 bare.1
     (subst (λ (w : parameters.PssParameters). HashesHaveOctets w.hash w.mask_gen) (sym same) has)
 
@@ -70,6 +70,6 @@ oaep_asked bytes (x, rest, is, t) p m bare =
     let (w, held, has) = t.holds in
     let there : parameters.RsaOaepParams w x =
     record { octets = t.octets; contents = t.contents; counted = t.counted; holds = held; written = t.written } in
-    let same = (oaep_told.delimited.one (oaep.to p) w bytes [] x rest m.1 there (append-nil bytes ∙ is)).1 in
+    let same = (oaep_delimited.one (oaep.to p) w bytes [] x rest m.1 there (append-nil bytes ∙ is)).1 in
     bare_oaep p bare (subst (λ (w : parameters.OaepParameters).
     HashesHaveOctets w.hash w.mask_gen ⊎ HasParameters HasOctets w.p_source) (sym same) has)

@@ -13,7 +13,7 @@ use Rattle.statement.proofs.Der.{tlv_is, tlv_made, tlv_fit, small_integer, small
 use Rattle.statement.proofs.Algorithms.{plain, IsPlain, plain_from, plain_to, plain_written}
 use Rattle.statement.proofs.PrivateKeys as private
 pub use Rattle.statement.specs.Library.{container as to}
-pub use Rattle.statement.specs.Laws.Values.{container_from as from, container_back as back}
+pub use Rattle.statement.proofs.Values.{container_from as from, container_back as back}
 
 -- The attributes.
 attributes_is : (o : Option (List ℕ)) (b : List ℕ) → Optional AttributesEncoding o b → b ≡ optional (tlv 160) o

@@ -4,7 +4,7 @@ use Rattle.der_core.specs.Document.{Means}
 use Rattle.der_core.specs.Encodings.{Joins}
 use Rattle.der_core.specs.Integer.{Integer}
 use Rattle.pkcs1.specs.Keys as keys
-use Rattle.pkcs1.specs.Laws.PrivateKey.{joins_take}
+use Rattle.pkcs1.proofs.PrivateKey.{joins_take}
 use Rattle.pkcs1_params.specs.Parameters as parameters
 use Rattle.pkcs8_core.specs.Container as container
 use Rattle.statement.specs.Statement.{PublicKey, PrivateKey, PssParameters, OaepParameters, Container}

@@ -1,17 +1,16 @@
 -- What was read of readers and sources.
-use Rattle.std.proofs.Common.{ℕ, List, ◌≡◌, ◌≢◌, ◌<◌, ◌≤◌, ◌+◌, ◌++◌, length, refl, subst, inl, inr, Some, None}
+use Rattle.std.proofs.Common.{ℕ, List, ◌≡◌, ◌≢◌, ◌<◌, ◌≤◌, ◌+◌, ◌++◌, length, refl, sym, subst, inl, inr, Some, None, ◌∙◌}
 use Rattle.std.proofs.Common.{Result, Ok, Err}
 use Rattle.std.specs.Io.KnownBytes.{Consumes, IsAtEnd}
 use Rattle.std.specs.Prelude.{IfErr, IfOk, ◌⊎◌, Option}
 use Rattle.der_core.specs.Carrying.{piece, ReadsDocument}
 use Rattle.der_core.specs.Document.{Means, IsDocument}
-use Rattle.der_core.specs.Faults.{AreNone}
-use Rattle.der_core.specs.Input.{Input, left_in}
-use Rattle.der_core.specs.Reading.{ReadsFront, NoneIn}
+use Rattle.der_core.specs.Input.{Input, left_in, read_from}
+use Rattle.der_core.specs.Reading.{ReadsFront}
+use Rattle.der_core.specs.Readings.{FrontReading, ReadsFronts}
 use Rattle.der_core.specs.SourcesSinks.{OneFailed}
 use Rattle.der_core.specs.declared.document.DocumentOf.{DocumentOf}
 use Rattle.der_core.specs.declared.error.Error.{Error}
-use Rattle.der_core.specs.declared.error.ErrorKind.{ErrorKind}
 use Rattle.der_core.specs.declared.error.ErrorKind.TheVariants.{File, OutOfMemory, Overflow}
 use Rattle.statement.specs.Held.{document_of}
 use Rattle.statement.specs.Statement.{AreOctets, limit, sequence}
@@ -19,18 +18,20 @@ use Rattle.statement.proofs.Beginnings.{opened}
 use Rattle.statement.proofs.Der.{tlv_made}
 
 pub unread : {X W V : Type 0} (value : X → W) (Encoding : W → List ℕ → Type 0) (encodes : V → List ℕ → Type 0)
-    (fault : ErrorKind → List ℕ → Type 0) (may : List ℕ → Type 0) → AreNone (NoneIn Encoding) fault
+    (at : FrontReading W) (may : List ℕ → Type 0) → ReadsFronts Encoding at
     → ((v : V) (bytes : List ℕ) → encodes v bytes → (w : W) × Means Encoding bytes w) → (r : Result X Error)
-    (before after : Input) → length (left_in before) ≤ limit → ReadsFront value Encoding fault may r before after
+    (before after : Input) → length (left_in before) ≤ limit → ReadsFront value at may r before after
     → IfErr r (λ e. (after ≡ None) × (e.kind ≢ OutOfMemory → (v : V) (bytes rest : List ℕ)
     → before ≡ Some (bytes ++ rest) → encodes v bytes → ⊥))
-unread value Encoding encodes fault may none each (Ok x) before after few h = tt
-unread value Encoding encodes fault may none each (Err e) before after few (failed, by, faulty) = (
+unread value Encoding encodes at may law each (Ok x) before after few h = tt
+unread value Encoding encodes at may law each (Err e) before after few (failed, faulty) = (
   failed,
-  λ other v bytes rest is p. elim (faulty (bytes ++ rest) is) [
+  λ other v bytes rest is p. elim faulty [
     | inl memory ↦ other memory.0
     | inr f ↦ let (w, m) = each v bytes p in
-        (none e.kind (bytes ++ rest) (subst (λ i. length (left_in i) ≤ limit) is few) f).1 w bytes rest refl m.1
+        let within : length (bytes ++ rest) ≤ limit = subst (λ i. length (left_in i) ≤ limit) is few in
+        let fault : at (bytes ++ rest) ≡ Err e.kind = subst (λ i. read_from i at ≡ Err e.kind) is f in
+        let no = sym (law.takes (bytes ++ rest) bytes rest w within refl m.1) ∙ fault in cc
   ],
 )
 

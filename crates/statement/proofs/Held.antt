@@ -17,7 +17,7 @@ use Rattle.pkcs1.specs.declared.private_key.other_prime_info.OtherPrimeInfo.{Oth
 use Rattle.pkcs1.specs.declared.view.RsaPrivateKeyView.{RsaPrivateKeyView}
 use Rattle.pkcs1.specs.ViewParts.{view_of}
 use Rattle.pkcs1.specs.OtherPrimesLeft.{others_left-is}
-use Rattle.pkcs8_core.specs.Held as containers
+use Rattle.pkcs8_core.specs.ContainerValue as containers
 use Rattle.pkcs8_core.specs.declared.info.PrivateKeyInfoRef.{PrivateKeyInfoRef}
 use Rattle.pkcs1_params.specs.PssValue.{pss_in, pss_with, pss_viewed}
 use Rattle.pkcs1_params.specs.OaepValue.{oaep_in, oaep_with, oaep_viewed}

@@ -8,14 +8,14 @@ use Rattle.der_core.specs.Document.{Means}
 use Rattle.der_core.specs.Document as documents
 use Rattle.der_core.specs.Encodings.{Is}
 use Rattle.der_core.specs.Laws.Encodings.{joins_last, last_holds}
-use Rattle.der_core.specs.Laws.Growing.{tlv_grows}
+use Rattle.der_core.proofs.ContentsShorter.{tlv_grows}
 use Rattle.der_core.specs.Tlv.{Tlv}
 use Rattle.spki_core.specs.Laws.IdentifierTest.{is_identifier-sound}
 use Rattle.spki_core.specs.ObjectIdentifier.{IsIdentifier}
 use Rattle.pkcs1_params.specs.Algorithms.{AlgorithmOf}
 use Rattle.pkcs1_params.specs.Meanings.{IsTheMeaning, IsTheShortest, IsTheOnly}
-use Rattle.pkcs1_params.specs.Laws.Algorithms.{parameters_in, with_encoded, parameters_shorter, identifier_made}
-use Rattle.pkcs1_params.specs.Laws.Algorithms.{identifier_grows, same_parameters}
+use Rattle.pkcs1_params.proofs.AlgorithmsLaws.{parameters_in, with_encoded, parameters_shorter, identifier_made}
+use Rattle.pkcs1_params.proofs.AlgorithmsLaws.{identifier_grows, same_parameters}
 use Rattle.statement.specs.Statement.{tlv, sequence, limit, AlgorithmEncoding, IsShortest, Field, Fields, FieldsUnder}
 use Rattle.statement.specs.Statement.{Algorithm, TagAndContents, Decodes}
 use Rattle.statement.specs.Statement.{SequenceOf, longest, AreAll, TwoToTheDefaults, TwoToTheDefaultsIn, id_rsassa_pss}

@@ -18,11 +18,9 @@ mod Writing
 mod Each
 mod OtherPrimes
 mod Readings
-mod ReadingsLists
-mod ReadingsNumbers
 mod ReadingsKeys
 mod ReadingsParameters
-mod ReadingsContainer
-mod ReadingsContainedKey
-mod ReadingsIdentified
 mod ReadingsRows
+pub mod Octets
+pub mod Shortest
+pub mod Values

@@ -5,9 +5,9 @@ use Rattle.statement.specs.Statement.{IsOaep, oaep_fields}
 use Rattle.statement.proofs.Algorithms.{plain_from, plain_to, plain_forth, mask_from, mask_to}
 use Rattle.statement.proofs.Algorithms.{mask_forth, plain_written, mask_written, sha1_is, mgf1_is, label_is}
 use Rattle.statement.proofs.Fields.{Sides, matches, made, value_is}
-use Rattle.statement.specs.Laws.Values.{oaep_back}
+use Rattle.statement.proofs.Values.{oaep_back}
 pub use Rattle.statement.specs.Library.{oaep as to}
-pub use Rattle.statement.specs.Laws.Values.{oaep_from as from}
+pub use Rattle.statement.proofs.Values.{oaep_from as from}
 
 pub sides : Sides from to library.oaep_fields oaep_fields IsOaep
 sides = record {

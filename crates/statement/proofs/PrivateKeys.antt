@@ -11,15 +11,15 @@ use Rattle.der_core.specs.Integer.{Integer, IsCanonical, Small, integer_contents
 use Rattle.der_core.specs.Laws.SmallNumbers.{small_relates}
 use Rattle.pkcs1.specs.Keys as keys
 use Rattle.pkcs1.specs.Keys.{PrivateKeyContents, RsaPrivateKey, OtherPrimeInfo, OtherPrimeInfos, version_of}
-use Rattle.pkcs1.specs.Laws.PrivateKey.{joins_put, joins_take}
+use Rattle.pkcs1.proofs.PrivateKey.{joins_put, joins_take}
 use Rattle.statement.specs.Statement.{octets, tlv, integer, integers, limit, optional, IfPresent, OtherPrime}
 use Rattle.statement.specs.Statement.{other_primes, sequence, PrivateKey, PrivateKeyEncoding, version}
 use Rattle.statement.proofs.Der.{tlv_is, tlv_made, tlv_fit, integer_is, integer_made, small_integer, small_octets}
 use Rattle.statement.proofs.Der.{joins_are, joins_made}
-use Rattle.statement.specs.Laws.Octets.{number_octets}
+use Rattle.statement.proofs.Octets.{number_octets}
 pub use Rattle.statement.specs.Library.{private_key as key_of, other_prime as other_of}
-pub use Rattle.statement.specs.Laws.Values.{private_key_from as numbers, other_prime_from as other_numbers}
-pub use Rattle.statement.specs.Laws.Values.{private_key_back as back}
+pub use Rattle.statement.proofs.Values.{private_key_from as numbers, other_prime_from as other_numbers}
+pub use Rattle.statement.proofs.Values.{private_key_back as back}
 
 abbrev other_prime : OtherPrime → List ℕ
 other_prime o = sequence (integers (o.prime ∷ o.exponent ∷ o.coefficient ∷ []))

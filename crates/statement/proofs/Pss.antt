@@ -7,9 +7,9 @@ use Rattle.statement.proofs.Der.{small_integer, small_made}
 use Rattle.statement.proofs.Algorithms.{Written, plain_from, plain_to, plain_forth, mask_from, mask_to}
 use Rattle.statement.proofs.Algorithms.{mask_forth, plain_written, mask_written, sha1_is, mgf1_is}
 use Rattle.statement.proofs.Fields.{Sides, matches, made, value_is}
-use Rattle.statement.specs.Laws.Values.{pss_back}
+use Rattle.statement.proofs.Values.{pss_back}
 pub use Rattle.statement.specs.Library.{pss as to}
-pub use Rattle.statement.specs.Laws.Values.{pss_from as from}
+pub use Rattle.statement.proofs.Values.{pss_from as from}
 
 abbrev itself : ℕ → ℕ
 itself n = n

@@ -6,9 +6,9 @@ use Rattle.der_core.specs.Integer.{Integer, IsCanonical}
 use Rattle.pkcs1.specs.Keys as keys
 use Rattle.statement.specs.Statement.{octets, integer, integers, sequence, limit, PublicKey, PublicKeyEncoding}
 use Rattle.statement.proofs.Der.{tlv_is, tlv_fit, tlv_made, integer_is, integer_made, joins_are, joins_made}
-use Rattle.statement.specs.Laws.Octets.{number_octets}
+use Rattle.statement.proofs.Octets.{number_octets}
 pub use Rattle.statement.specs.Library.{public_key as key_of}
-pub use Rattle.statement.specs.Laws.Values.{public_key_from as numbers, public_key_back as back}
+pub use Rattle.statement.proofs.Values.{public_key_from as numbers, public_key_back as back}
 
 pub forth : (key : keys.PublicKey (List ℕ)) → IsCanonical key.modulus → IsCanonical key.public_exponent
     → key_of (numbers key) ≡ key

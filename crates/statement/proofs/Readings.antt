@@ -1,257 +1,282 @@
--- Readings that are put together: if each part gives what the grammar and its faults say, so does the whole.
-use Rattle.std.proofs.Common.{ℕ, Bool, true, false, List, [], ◌∷◌, ◌++◌, ◌≡◌, ◌≢◌, ◌<◌, ◌≤◌, ◌==◌, length, drop, refl}
-use Rattle.std.proofs.Common.{sym, ap, ◌∙◌, arith, inl, inr, length-append, append-nil, Result, Ok, Err}
-use Rattle.std.proofs.Common.{Option, Some, None}
-use Rattle.std.proofs.Math.Seq.{take-append_seam, drop-append_seam}
-use Rattle.std.proofs.lemmas.Bool.Decides.{nat_tests}
-use Rattle.std.specs.Prelude.{nat_lt, if◌then◌else◌, IfOk}
-use Rattle.der_core.specs.Document.{Means}
-use Rattle.der_core.specs.Encodings.{AreBytes, Then}
-use Rattle.der_core.specs.Faults.{EncodingFault, in_header, other_tag, too_short, in_contents, ThenFault, EndFault}
-use Rattle.der_core.specs.Faults.{AloneFault, WholeFault, FailsExactly}
-use Rattle.der_core.specs.Headers.{HeaderEncoding}
-use Rattle.der_core.specs.Input.{header_at, front_of}
-use Rattle.der_core.specs.Laws.Headers.{header_complete, tlv_header}
-use Rattle.der_core.specs.Laws.Tags.{same_tag}
-use Rattle.der_core.specs.Tag.{is_allowed}
-use Rattle.der_core.specs.Tlv.{Tlv}
-use Rattle.der_core.specs.declared.error.Error as der
+-- Readings that differ in their values alone: one reads what another reads, and gives what is made of its value.
+use Rattle.std.proofs.Common.{ℕ, zero, suc, Bool, true, false, List, [], ◌∷◌, ◌≡◌, map, length, refl, sym, ap, ◌∙◌}
+use Rattle.std.proofs.Common.{Option, Some, None, Result, Ok, Err}
+use Rattle.std.specs.Option.{option_map}
 use Rattle.der_core.specs.declared.error.ErrorKind.{ErrorKind}
-use Rattle.der_core.specs.declared.error.ErrorKind.TheVariants.{Incomplete, TagUnexpected, TagUnknown, TrailingData}
 use Rattle.der_core.specs.declared.tag.Tag.{Tag}
+use Rattle.der_core.specs.Input.{header_at, front_of}
+use Rattle.der_core.specs.IntegerReading.{Answers}
+use Rattle.der_core.specs.Readings.{FrontReading, Reading, alone, by_tag, chain, checked, contents_behind, ended}
+use Rattle.der_core.specs.Readings.{front_made, front_parts, is_next, items, items_within, last, made, optional, parts}
+use Rattle.der_core.specs.Readings.{such, tagged, whole, ◌>>=◌}
+use Rattle.der_core.specs.Tag.{context_tag, is_allowed}
+use Rattle.der_core.specs.declared.error.Error as der
+use Rattle.spki_core.specs.Readings.{defaulted, explicit}
+use Rattle.pkcs1_params.specs.Meanings.{ErrsAs, TellsFault}
 use Rattle.pkcs1_params.specs.declared.error.Error.{Error}
 use Rattle.pkcs1_params.specs.declared.error.Error.TheVariants as error
-use Rattle.pkcs1_params.specs.Meanings.{ErrsExactly, IsTheOnly, TellsFault}
-use Rattle.statement.specs.Statement.{limit}
-use Rattle.statement.specs.Reading.{Reading, ◌>>=◌, chain, ended, such, checked, unexpected, behind_header, tagged}
-use Rattle.statement.specs.Reading.{whole, Returns, ReturnsDer, fault_in}
+use Rattle.statement.specs.Reading.{Returns, ReturnsDer, fault_in}
+use Rattle.std.specs.Prelude.{if◌then◌else◌, nat_lt}
+use Rattle.der_core.specs.declared.error.ErrorKind.TheVariants.{Overflow, TagUnknown}
+use Rattle.der_core.specs.Length.{limit}
 
--- Bytes that a slice can hold, and so their parts.
-abbrev pub Slice : List ℕ → Type 0
-Slice c = (length c ≤ limit) × AreBytes c
+-- `read` gives what `make` makes of what `from` gives.
+pub record Makes {A B : Type 0} (make : A → B) (from : Reading A) (read : Reading B) : Type 0 where
+  pub same : (c : List ℕ) → read c ≡ made make from c
 
-back_bytes : (x y : List ℕ) → AreBytes (x ++ y) → AreBytes y
-back_bytes [] y b = b
-back_bytes (a ∷ x) y b = back_bytes x y b.1
+pub record MakesFront {A B : Type 0} (make : A → B) (from : FrontReading A) (read : FrontReading B) : Type 0 where
+  pub same : (c : List ℕ) → read c ≡ front_made make from c
 
-front_bytes : (x y : List ℕ) → AreBytes (x ++ y) → AreBytes x
-front_bytes [] y b = tt
-front_bytes (a ∷ x) y b = (b.0, front_bytes x y b.1)
+-- Of one result.
+made_twice : {A B C : Type 0} (f : A → B) (g : B → C) (r : Result A ErrorKind)
+    → (r >>= λ a. Ok (f a)) >>= (λ b. Ok (g b)) ≡ (r >>= λ a. Ok (g (f a)))
+made_twice f g (Ok a) = refl
+made_twice f g (Err k) = refl
 
-pub behind : {c : List ℕ} (x rest : List ℕ) → c ≡ x ++ rest → Slice c → Slice rest
-behind {c} x rest is s = (omega (arith, s.0, ap length is, length-append x rest), back_bytes x rest (rw is at s.1))
+pub through : {A B C : Type 0} (f : A → B) (g : B → C) {from : Reading A} {read : Reading C}
+    → Makes (λ a. g (f a)) from read → Makes g (made f from) read
+through f g {from = from} law = record { same = λ c. law.same c ∙ sym (made_twice f g (from c)) }
 
-pub front : {c : List ℕ} (x rest : List ℕ) → c ≡ x ++ rest → Slice c → Slice x
-front {c} x rest is s = (omega (arith, s.0, ap length is, length-append x rest), front_bytes x rest (rw is at s.1))
+pub made_makes : {A B C : Type 0} {g : A → B} {from : Reading A} {read : Reading B} (f : B → C) → Makes g from read
+    → Makes (λ a. f (g a)) from (made f read)
+made_makes {g = g} {from = from} f law = record {
+  same = λ c. ap (λ r. r >>= λ b. Ok (f b)) (law.same c) ∙ made_twice g f (from c);
+}
 
--- What the grammar says is read, and what has a fault isn't.
-pub record Takes {W : Type 0} (Contents : List ℕ → Type 0) (read : Reading W) (w : W) : Type 0 where
-  pub takes : (c : List ℕ) → Slice c → Contents c → read c ≡ Ok (w, [])
+pub unchanged : {A : Type 0} (at : FrontReading A) → MakesFront (λ a. a) at at
+unchanged {A} at = record { same = λ c. go (at c) }
+  where
+    go : (r : Result (A × List ℕ) ErrorKind) → r ≡ front_made (λ a. a) (λ _. r) []
+    go (Ok p) = refl
+    go (Err k) = refl
 
-pub record Rejects {W : Type 0} (Fault : ErrorKind → List ℕ → Type 0) (read : Reading W) : Type 0 where
-  pub rejects : (k : ErrorKind) (c : List ℕ) → Slice c → Fault k c → read c ≡ Err k
+module _ {A B C D : Type 0} {make : A → B} {from : FrontReading A} {at : FrontReading B}
+    (law : MakesFront make from at) where
+  -- A part, and what depends on it.
+  chained : (f : C → D) (later : B → Reading D) (behind : A → Reading C)
+      → ((a : A) → Makes f (behind a) (later (make a))) → (r : Result (A × List ℕ) ErrorKind) (c : List ℕ)
+      → chain (front_made make (λ _. r)) later c ≡ made f (chain (λ _. r) behind) c
+  chained f later behind more (Ok p) c = (more p.0).same p.1
+  chained f later behind more (Err k) c = refl
 
--- The same of encodings at the front.
-pub record Reads {V W : Type 0} (Encoding : V → List ℕ → Type 0) (Fault : ErrorKind → List ℕ → Type 0) (value : V → W)
-    (at : Reading W) : Type 0 where
-  pub not_empty : (v : V) (x : List ℕ) → Encoding v x → 0 < length x
-  pub takes : (v : V) (x c rest : List ℕ) → Slice c → Encoding v x → c ≡ x ++ rest → at c ≡ Ok (value v, rest)
-  pub rejects : (k : ErrorKind) (c : List ℕ) → Slice c → Fault k c → at c ≡ Err k
+  pub then_makes : (f : C → D) (later : B → Reading D) (behind : A → Reading C)
+      → ((a : A) → Makes f (behind a) (later (make a))) → Makes f (chain from behind) (chain at later)
+  then_makes f later behind more = record {
+    same = λ c. ap (λ r. chain (λ _. r) later c) (law.same c) ∙ chained f later behind more (from c) c;
+  }
 
--- One part, then others.
-pub chain_ok : {A B : Type 0} (at : Reading A) (later : A → Reading B) {c rest : List ℕ} {a : A} → at c ≡ Ok (a, rest)
-    → chain at later c ≡ later a rest
-unfolding chain
-chain_ok at later e = ap (λ r. r >>= λ p. later p.0 p.1) e
-
-pub chain_err : {A B : Type 0} (at : Reading A) (later : A → Reading B) {c : List ℕ} {k : ErrorKind} → at c ≡ Err k
-    → chain at later c ≡ Err k
-unfolding chain
-chain_err at later e = ap (λ r. r >>= λ p. later p.0 p.1) e
-
-module _ {A B W : Type 0} {Encoding : A → List ℕ → Type 0} {Fault : ErrorKind → List ℕ → Type 0} {value : A → B}
-    {at : Reading B} (law : Reads Encoding Fault value at) (later : B → Reading W) where
-  pub then_takes : {Rest : List ℕ → Type 0} {w : W} (a : A) → Takes Rest (later (value a)) w
-      → Takes (Then (Encoding a) Rest) (chain at later) w
-  then_takes a more =
-      record {
-        takes = λ c s (x, rest, p, q, is). chain_ok at later (law.takes a x c rest s p is)
-            ∙ more.takes rest (behind x rest is s) q;
-      }
-
-  pub then_rejects : {RestFault : A → ErrorKind → List ℕ → Type 0}
-      → ((a : A) (x : List ℕ) → Encoding a x → Rejects (RestFault a) (later (value a)))
-      → Rejects (ThenFault Encoding Fault RestFault) (chain at later)
-  then_rejects {RestFault} more = record { rejects = go }
+  -- A part of a row.
+  pub part_makes : (f : A × C → D) (later : B → Reading D) (rest : Reading C)
+      → ((a : A) → Makes (λ x. let p : A × C = (a, x) in f p) rest (later (make a)))
+      → Makes f (parts from rest) (chain at later)
+  part_makes f later rest more = record {
+    same = λ c. ap (λ r. chain (λ _. r) later c) (law.same c) ∙ in_row (from c) c;
+  }
     where
-      go : (k : ErrorKind) (c : List ℕ) → Slice c → ThenFault Encoding Fault RestFault k c → chain at later c ≡ Err k
-      go k c s (inl f) = chain_err at later (law.rejects k c s f)
-      go k c s (inr (a, (x, rest, p, f, is))) =
-          chain_ok at later (law.takes a x c rest s p is) ∙ (more a x p).rejects k rest (behind x rest is s) f
+      in_row : (r : Result (A × List ℕ) ErrorKind) (c : List ℕ)
+          → chain (front_made make (λ _. r)) later c ≡ made f (parts (λ _. r) rest) c
+      in_row (Ok p) c =
+          let pair : C → A × C = λ x. (p.0, x) in (more p.0).same p.1 ∙ sym (made_twice pair f (rest p.1))
+      in_row (Err k) c = refl
+
+  -- A part of a row in front of what depends on the row.
+  pub front_makes : {E : Type 0} (f : E → D) (later : B → Reading D) (rest : FrontReading C)
+      (behind : A × C → Reading E)
+      → ((a : A) → Makes f (chain rest (λ x. let p : A × C = (a, x) in behind p)) (later (make a)))
+      → Makes f (chain (front_parts from rest) behind) (chain at later)
+  front_makes {E} f later rest behind more = record {
+    same = λ c. ap (λ r. chain (λ _. r) later c) (law.same c) ∙ in_front (from c) c;
+  }
+    where
+      row : (a : A) (r : Result (C × List ℕ) ErrorKind)
+          → (r >>= λ q. let p : A × C = (a, q.0) in behind p q.1)
+          ≡ ((r >>= λ q. let p : (A × C) × List ℕ = ((a, q.0), q.1) in Ok p) >>= λ q. behind q.0 q.1)
+      row a (Ok q) = refl
+      row a (Err k) = refl
+
+      in_front : (r : Result (A × List ℕ) ErrorKind) (c : List ℕ)
+          → chain (front_made make (λ _. r)) later c ≡ made f (chain (front_parts (λ _. r) rest) behind) c
+      in_front (Ok p) c =
+          (more p.0).same p.1 ∙ ap (λ r. r >>= λ e. Ok (f e)) (row p.0 (rest p.1))
+      in_front (Err k) c = refl
 
 -- The end.
-pub end_err : {V : Type 0} (v : V) (c : List ℕ) → 0 < length c → ended v c ≡ Err TrailingData
-unfolding ended
-end_err v [] l = absurd (omega (arith, l))
-end_err v (x ∷ xs) l = refl
-
-pub end_ok : {V : Type 0} (v : V) (c : List ℕ) → c ≡ [] → ended v c ≡ Ok (v, [])
-unfolding ended
-end_ok v c e = ap (ended v) e
-
-pub end_takes : {V : Type 0} (v : V) → Takes (λ c. c ≡ []) (ended v) v
-end_takes v = record { takes = λ c s e. end_ok v c e }
-
-pub end_rejects : {V : Type 0} (v : V) → Rejects EndFault (ended v)
-end_rejects v = record { rejects = λ k c s f. end_err v c f.0 ∙ ap (λ e. Err e) (sym f.1) }
-
--- One encoding alone.
-module _ {V W : Type 0} {Encoding : V → List ℕ → Type 0} {Fault : ErrorKind → List ℕ → Type 0} {value : V → W}
-    {at : Reading W} (law : Reads Encoding Fault value at) where
-  pub alone_takes : (v : V) → Takes (Encoding v) (chain at ended) (value v)
-  alone_takes v =
-      record {
-        takes = λ c s p. chain_ok at ended (law.takes v c c [] s p (sym (append-nil c)))
-            ∙ end_ok (value v) [] refl;
-      }
-
-  pub alone_rejects : Rejects (AloneFault Encoding Fault) (chain at ended)
-  alone_rejects = then_rejects law _ (λ v _ _. end_rejects (value v))
-
-  pub whole_takes : (v : V) (c : List ℕ) → AreBytes c → Means Encoding c v → whole at c ≡ Ok (value v, [])
-  unfolding whole
-  whole_takes v c b m =
-      let no : nat_lt limit (length c) ≡ false = grind (arith, nat_tests, m.0) in
-      rw no ((alone_takes v).takes c (m.0, b) m.1)
-
-  pub whole_rejects : (k : ErrorKind) (c : List ℕ) → AreBytes c → WholeFault Encoding Fault k c → whole at c ≡ Err k
-  unfolding whole
-  whole_rejects k c b (inl (long, kind)) =
-      let yes : nat_lt limit (length c) ≡ true = grind (arith, nat_tests, long) in
-      rw yes (ap (λ e. Err e) (sym kind))
-  whole_rejects k c b (inr (within, f)) =
-      let no : nat_lt limit (length c) ≡ false = grind (arith, nat_tests, within) in
-      rw no (alone_rejects.rejects k c (within, b) f)
-
--- What a call returned that keeps its contract: the function gave it.
-module _ {X V W Read : Type 0} (held : X → V) (value : V → W) (holds : X → W)
-    (same : (x : X) → value (held x) ≡ holds x) (Means : V → Type 0) (Fault : ErrorKind → Read → Type 0) (read : Read)
-    (given : Result (W × List ℕ) ErrorKind)
-    (takes : (v : V) → Means v → given ≡ Ok (value v, [])) (rejects : (k : ErrorKind) → Fault k read → given ≡ Err k)
+pub end_makes : {A B : Type 0} (f : A → B) (a : A) → Makes f (ended a) (ended (f a))
+end_makes f a = record { same = at_end }
   where
-    pub returned : (r : Result X Error) → IfOk r (λ x. IsTheOnly Means (held x)) → ErrsExactly Fault read r
-        → Returns holds given r
-    returned (Ok x) ok err = takes (held x) ok.0 ∙ ap (λ w. Ok (w, [])) (same x)
-    returned (Err (error.Asn1 e)) ok err = rejects e.kind err.1
-    returned (Err error.Crypto) ok err = absurd err
-    returned (Err error.KeyMalformed) ok err = absurd err
-    returned (Err error.Version) ok err = absurd err
+    at_end : (c : List ℕ) → ended (f a) c ≡ made f (ended a) c
+    at_end [] = refl
+    at_end (x ∷ xs) = refl
 
-    pub returned_der : (r : Result X der.Error) → IfOk r (λ x. IsTheOnly Means (held x)) → FailsExactly Fault read r
-        → ReturnsDer holds given r
-    returned_der (Ok x) ok err = takes (held x) ok.0 ∙ ap (λ w. Ok (w, [])) (same x)
-    returned_der (Err e) ok err = rejects e.kind err.1
+module _ {A B : Type 0} {make : A → B} {from : Reading A} {read : Reading B} (law : Makes make from read) where
+  -- A test of the value.
+  pub such_makes : (before : A → Bool) (test : B → Bool) (k : ErrorKind) → ((a : A) → test (make a) ≡ before a)
+      → Makes make (such before k from) (such test k read)
+  such_makes before test k agree = record {
+    same = λ c. ap (λ r. r >>= λ b. if test b then Ok b else Err k) (law.same c) ∙ tested (from c);
+  }
+    where
+      chosen : (b : Bool) (a : A) → (if b then Ok (make a) else Err k) ≡ (if b then Ok a else Err k) >>= λ x. Ok (make x)
+      chosen true a = refl
+      chosen false a = refl
+
+      tested : (r : Result A ErrorKind)
+          → ((r >>= λ a. Ok (make a)) >>= λ b. if test b then Ok b else Err k)
+          ≡ ((r >>= λ a. if before a then Ok a else Err k) >>= λ x. Ok (make x))
+      tested (Ok a) = ap (λ t. if t then Ok (make a) else Err k) (agree a) ∙ chosen (before a) a
+      tested (Err e) = refl
+
+  -- A tag in front.
+  pub tagged_makes : (tag : Tag) → MakesFront make (tagged tag from) (tagged tag read)
+  tagged_makes tag = record { same = λ c. behind (header_at c) }
+    where
+      inner : (r : Result A ErrorKind) (rest : List ℕ)
+          → front_made make (λ _. r >>= λ v. let p : A × List ℕ = (v, rest) in Ok p) []
+          ≡ (r >>= λ a. Ok (make a)) >>= λ v. let p : B × List ℕ = (v, rest) in Ok p
+      inner (Ok a) rest = refl
+      inner (Err k) rest = refl
+
+      opened : (r : Result (List ℕ × List ℕ) ErrorKind)
+          → (r >>= λ p. read p.0 >>= λ v. let q : B × List ℕ = (v, p.1) in Ok q)
+          ≡ front_made make (λ _. r >>= λ p. from p.0 >>= λ v. let q : A × List ℕ = (v, p.1) in Ok q) []
+      opened (Ok p) =
+          ap (λ r. r >>= λ v. let q : B × List ℕ = (v, p.1) in Ok q) (law.same p.0) ∙ sym (inner (from p.0) p.1)
+      opened (Err k) = refl
+
+      behind : (r : Result ((ℕ × ℕ) × List ℕ) ErrorKind)
+          → (r >>= λ h. contents_behind tag h >>= λ p. read p.0 >>= λ v. let q : B × List ℕ = (v, p.1) in Ok q)
+          ≡ front_made make (λ _. r >>= λ h. contents_behind tag h >>= λ p. from p.0
+          >>= λ v. let q : A × List ℕ = (v, p.1) in Ok q) []
+      behind (Ok h) = opened (contents_behind tag h)
+      behind (Err k) = refl
+
+-- Any tag in front, whose contents are read by it.
+pub by_tag_makes : {A B : Type 0} (make : A → B) (from : ℕ → Reading A) (read : ℕ → Reading B)
+    → ((t : ℕ) → Makes make (from t) (read t)) → MakesFront make (by_tag from) (by_tag read)
+by_tag_makes {A} {B} make from read law = record { same = λ c. behind (header_at c) }
+  where
+    inner : (r : Result A ErrorKind) (rest : List ℕ)
+        → front_made make (λ _. r >>= λ v. let p : A × List ℕ = (v, rest) in Ok p) []
+        ≡ (r >>= λ a. Ok (make a)) >>= λ v. let p : B × List ℕ = (v, rest) in Ok p
+    inner (Ok a) rest = refl
+    inner (Err k) rest = refl
+
+    opened : (t : ℕ) (r : Result (List ℕ × List ℕ) ErrorKind)
+        → (r >>= λ p. read t p.0 >>= λ v. let q : B × List ℕ = (v, p.1) in Ok q)
+        ≡ front_made make (λ _. r >>= λ p. from t p.0 >>= λ v. let q : A × List ℕ = (v, p.1) in Ok q) []
+    opened t (Ok p) =
+        ap (λ r. r >>= λ v. let q : B × List ℕ = (v, p.1) in Ok q) ((law t).same p.0) ∙ sym (inner (from t p.0) p.1)
+    opened t (Err k) = refl
+
+    behind : (r : Result ((ℕ × ℕ) × List ℕ) ErrorKind)
+        → (r >>= λ h. front_of h.0.1 h.1 >>= λ p. read h.0.0 p.0 >>= λ v. let q : B × List ℕ = (v, p.1) in Ok q)
+        ≡ front_made make (λ _. r >>= λ h. front_of h.0.1 h.1 >>= λ p. from h.0.0 p.0
+        >>= λ v. let q : A × List ℕ = (v, p.1) in Ok q) []
+    behind (Ok h) = opened h.0.0 (front_of h.0.1 h.1)
+    behind (Err k) = refl
+
+module _ {A B : Type 0} {make : A → B} {from : FrontReading A} {at : FrontReading B} (law : MakesFront make from at)
+  where
+    pub alone_makes : Makes make (alone from) (alone at)
+    alone_makes = then_makes law make ended ended (λ a. end_makes make a)
+
+    pub whole_makes : Makes make (whole from) (whole at)
+    whole_makes = record {
+      same = λ c. ap (λ r. if nat_lt limit (length c) then Err Overflow else r) (alone_makes.same c)
+          ∙ chosen (nat_lt limit (length c)) (alone from c);
+    }
+      where
+        chosen : (b : Bool) (r : Result A ErrorKind)
+            → (if b then Err Overflow else (r >>= λ a. Ok (make a)))
+            ≡ (if b then Err Overflow else r) >>= λ a. Ok (make a)
+        chosen true r = refl
+        chosen false r = refl
+
+    -- A last part that is there or not, and one that is known by its tag.
+    pub last_makes : Makes (option_map make) (last from) (last at)
+    last_makes = record { same = go }
+      where
+        go : (c : List ℕ) → last at c ≡ made (option_map make) (last from) c
+        go [] = refl
+        go (x ∷ xs) =
+            ap (λ r. r >>= λ b. Ok (Some b)) (alone_makes.same (x ∷ xs))
+            ∙ made_twice make Some (alone from (x ∷ xs)) ∙ sym (made_twice Some (option_map make) (alone from (x ∷ xs)))
+
+    pub optional_makes : (octet : ℕ) → MakesFront (option_map make) (optional octet from) (optional octet at)
+    optional_makes octet = record { same = λ c. go c (is_next octet c) }
+      where
+        there : (r : Result (A × List ℕ) ErrorKind)
+            → (front_made make (λ _. r) [] >>= λ p. let q : Option B × List ℕ = (Some p.0, p.1) in Ok q)
+            ≡ front_made (option_map make) (λ _. r >>= λ p. let q : Option A × List ℕ = (Some p.0, p.1) in Ok q) []
+        there (Ok p) = refl
+        there (Err k) = refl
+
+        go : (c : List ℕ) (b : Bool)
+            → (if b then (at c >>= λ p. let q : Option B × List ℕ = (Some p.0, p.1) in Ok q)
+            else (let q : Option B × List ℕ = (None, c) in Ok q))
+            ≡ front_made (option_map make) (λ _. if b then (from c >>= λ p. let q : Option A × List ℕ = (Some p.0, p.1) in Ok q)
+            else (let q : Option A × List ℕ = (None, c) in Ok q)) c
+        go c true = ap (λ r. r >>= λ p. let q : Option B × List ℕ = (Some p.0, p.1) in Ok q) (law.same c) ∙ there (from c)
+        go c false = refl
+
+    -- The items of a list.
+    pub items_makes : Makes (map make) (items from) (items at)
+    items_makes = record { same = λ c. (within (length c)).same c }
+      where
+        within : (n : ℕ) → Makes (map make) (items_within n from) (items_within n at)
+        within n = record { same = go n }
+          where
+            go : (n : ℕ) (c : List ℕ) → items_within n at c ≡ made (map make) (items_within n from) c
+            go n [] = refl
+            go zero (x ∷ xs) = refl
+            go (suc n) (x ∷ xs) =
+                (then_makes law (map make) (λ v. made (λ vs. v ∷ vs) (items_within n at))
+                (λ v. made (λ vs. v ∷ vs) (items_within n from)) (λ v. record {
+                  same = λ c. ap (λ r. r >>= λ vs. Ok (make v ∷ vs)) (go n c)
+                      ∙ made_twice (map make) (λ vs. make v ∷ vs) (items_within n from c)
+                      ∙ sym (made_twice (λ vs. v ∷ vs) (map make) (items_within n from c));
+                })).same (x ∷ xs)
+
+    -- A field with a default.
+    pub defaulted_makes : (n : ℕ) (default : A) → MakesFront make (defaulted n from default) (defaulted n at (make default))
+    defaulted_makes n default = record { same = λ c. go c (is_next (context_tag n) c) }
+      where
+        chosen : (b : Bool) (f : b ≡ true → Result (A × List ℕ) ErrorKind) (g : b ≡ true → Result (B × List ℕ) ErrorKind)
+            (k : ErrorKind) → ((q : b ≡ true) → g q ≡ front_made make (λ _. f q) [])
+            → checked b g (Err k) ≡ front_made make (λ _. checked b f (Err k)) []
+        chosen true f g k same = same (λ i. true)
+        chosen false f g k same = refl
+
+        go : (c : List ℕ) (b : Bool)
+            → (if b then explicit n at c else (let q : B × List ℕ = (make default, c) in Ok q))
+            ≡ front_made make (λ _. if b then explicit n from c
+            else (let q : A × List ℕ = (default, c) in Ok q)) []
+        go c true =
+            chosen (is_allowed (context_tag n))
+            (λ ok. tagged (record { octet = context_tag n; allowed = ok }) (alone from) c)
+            (λ ok. tagged (record { octet = context_tag n; allowed = ok }) (alone at) c) (TagUnknown (context_tag n))
+            (λ ok. (tagged_makes alone_makes (record { octet = context_tag n; allowed = ok })).same c)
+        go c false = refl
+
+-- What a call returned: what the function gives.
+module _ {X A B : Type 0} (of : X → A) {make : A → B} {value : X → B} (holds : (x : X) → make (of x) ≡ value x)
+    {from : Reading A} {read : Reading B} (law : Makes make from read) (bytes : List ℕ) where
+  pub returned : (r : Result X Error) → ErrsAs of (from bytes) r → Returns value (read bytes) r
+  returned (Ok x) p = law.same bytes ∙ ap (λ r. r >>= λ a. Ok (make a)) p ∙ ap (λ b. Ok b) (holds x)
+  returned (Err (error.Asn1 e)) p = law.same bytes ∙ ap (λ r. r >>= λ a. Ok (make a)) p
+  returned (Err error.Crypto) p = p
+  returned (Err error.KeyMalformed) p = p
+  returned (Err error.Version) p = p
+
+  pub returned_der : (r : Result X der.Error) → Answers of r (from bytes) → ReturnsDer value (read bytes) r
+  returned_der (Ok x) p = law.same bytes ∙ ap (λ r. r >>= λ a. Ok (make a)) p ∙ ap (λ b. Ok b) (holds x)
+  returned_der (Err e) p = law.same bytes ∙ ap (λ r. r >>= λ a. Ok (make a)) p
 
 -- What a call that tells only the fault returned.
-pub told : {V W : Type 0} (Grammar : V → List ℕ → Type 0) (Fault : ErrorKind → List ℕ → Type 0) (value : V → W)
-    (bytes : List ℕ) (given : Result (W × List ℕ) ErrorKind)
-    → ((v : V) → Means Grammar bytes v → given ≡ Ok (value v, [])) → ((k : ErrorKind) → Fault k bytes → given ≡ Err k)
-    → (r : Option ErrorKind) → TellsFault Grammar Fault bytes r → r ≡ fault_in given
-told Grammar Fault value bytes given takes rejects None t = sym (ap fault_in (takes t.0.0 t.0.1))
-told Grammar Fault value bytes given takes rejects (Some k) t = sym (ap fault_in (rejects k t.1.1))
-
--- A tag.
-pub checked_as : {X : Type 0} (b : Bool) (f : b ≡ true → X) (x : X) → b ≡ true → (q : b ≡ true) × (checked b f x ≡ f q)
-checked_as true f x p = (refl, refl)
-checked_as false f x p = cc
-
-pub other_is : {V : Type 0} (tag actual : Tag)
-    → ◌≡◌ {A = Result V ErrorKind} (unexpected tag actual.octet) (Err (TagUnexpected tag actual))
-other_is tag actual =
-    let r =
-    checked_as (is_allowed actual.octet)
-    (λ ok. Err (TagUnexpected tag (record { octet = actual.octet; allowed = ok }))) (Err (TagUnknown actual.octet))
-    actual.allowed in
-    r.1 ∙ ap (λ t. Err (TagUnexpected tag t)) (same_tag (record { octet = actual.octet; allowed = r.0 }) actual refl)
-
-pub front_taken : (c rest : List ℕ) → front_of (length c) (c ++ rest) ≡ Ok (c, rest)
-front_taken c rest =
-    let enough : nat_lt (length (c ++ rest)) (length c) ≡ false = grind (arith, nat_tests, length-append c rest) in
-    rw enough (ap (λ x. Ok (x, drop (length c) (c ++ rest))) (take-append_seam c rest)
-    ∙ ap (λ y. Ok (c, y)) (drop-append_seam c rest))
-
-pub front_short : (n : ℕ) (rest : List ℕ) → length rest < n → front_of n rest ≡ Err Incomplete
-front_short n rest l = let few : nat_lt (length rest) n ≡ true = grind (arith, nat_tests, l) in rw few refl
-
-pub read_header : {t n : ℕ} (c header rest : List ℕ) → HeaderEncoding (t, n) header → c ≡ header ++ rest
-    → header_at c ≡ Ok ((t, n), rest)
-read_header {t} {n} c header rest h is = ap header_at is ∙ header_complete (t, n) header rest h
-
-module _ {W : Type 0} (tag : Tag) (contents : Reading W) where
-  behind_same : (c rest : List ℕ)
-      → behind_header tag contents (tag.octet, length c) (c ++ rest) ≡ (contents c >>= λ q. Ok (q.0, rest))
-  behind_same c rest =
-      let is : (tag.octet == tag.octet) ≡ true = grind (arith, nat_tests) in
-      rw is (ap (λ r. r >>= λ p. contents p.0 >>= λ q. Ok (q.0, p.1)) (front_taken c rest))
-
-  behind_short : (n : ℕ) (rest : List ℕ) → length rest < n
-      → behind_header tag contents (tag.octet, n) rest ≡ Err Incomplete
-  behind_short n rest l =
-      let is : (tag.octet == tag.octet) ≡ true = grind (arith, nat_tests) in
-      rw is (ap (λ r. r >>= λ p. contents p.0 >>= λ q. Ok (q.0, p.1)) (front_short n rest l))
-
-  behind_other : (actual : Tag) (n : ℕ) (rest : List ℕ) → actual.octet ≢ tag.octet
-      → behind_header tag contents (actual.octet, n) rest ≡ Err (TagUnexpected tag actual)
-  behind_other actual n rest ne =
-      let no : (actual.octet == tag.octet) ≡ false = grind (arith, nat_tests, ne) in
-      rw no (other_is tag actual)
-
-  module _ {V : Type 0} {Contents : V → List ℕ → Type 0} {Fault : ErrorKind → List ℕ → Type 0} {value : V → W}
-      (takes : (v : V) → Takes (Contents v) contents (value v)) (rejects : Rejects Fault contents) where
-    contents_take : (v : V) (c rest : List ℕ) → Slice c → Contents v c
-        → behind_header tag contents (tag.octet, length c) (c ++ rest) ≡ Ok (value v, rest)
-    contents_take v c rest s p = behind_same c rest ∙ ap (λ r. r >>= λ q. Ok (q.0, rest)) ((takes v).takes c s p)
-
-    encoding_take : (v : V) (x c rest : List ℕ) → Slice c → Tlv tag.octet (Contents v) x → c ≡ x ++ rest
-        → tagged tag contents c ≡ Ok (value v, rest)
-    unfolding tagged
-    encoding_take v x c rest s p is =
-        let s' = behind (tag.octet ∷ p.octets) p.contents p.written (front x rest is s) in
-        chain_ok header_at (behind_header tag contents) (tlv_header tag.octet x c rest tag.allowed s.0 p is)
-        ∙ contents_take v p.contents rest s' p.holds
-
-    encoding_reject : (k : ErrorKind) (c : List ℕ) → Slice c → EncodingFault tag Fault k c
-        → tagged tag contents c ≡ Err k
-    unfolding tagged
-    encoding_reject k c s (in_header e) = chain_err header_at (behind_header tag contents) e
-    encoding_reject k c s (other_tag actual n header rest h is ne kind) =
-        chain_ok header_at (behind_header tag contents) (read_header c header rest h is) ∙ behind_other actual n rest ne
-        ∙ ap (λ e. Err e) (sym kind)
-    encoding_reject k c s (too_short n header rest h is few kind) =
-        chain_ok header_at (behind_header tag contents) (read_header c header rest h is) ∙ behind_short n rest few
-        ∙ ap (λ e. Err e) (sym kind)
-    encoding_reject k c s (in_contents header x rest h is f) =
-        chain_ok header_at (behind_header tag contents) (read_header c header (x ++ rest) h is)
-        ∙ behind_same x rest ∙ ap (λ r. r >>= λ q. Ok (q.0, rest))
-        (rejects.rejects k x (front x rest refl (behind header (x ++ rest) is s)) f)
-
-    pub tagged_reads : Reads (λ v. Tlv tag.octet (Contents v)) (EncodingFault tag Fault) value (tagged tag contents)
-    tagged_reads = record {
-      not_empty = λ v x p. omega (arith, ap length p.written);
-      takes = encoding_take;
-      rejects = encoding_reject;
-    }
-
--- A test of the value.
-module _ {V : Type 0} (test : V → Bool) (failure : ErrorKind) (at : Reading V) {c : List ℕ} where
-  pub such_ok : {v : V} {rest : List ℕ} → at c ≡ Ok (v, rest) → test v ≡ true → such test failure at c ≡ Ok (v, rest)
-  unfolding such
-  such_ok {v} {rest} e t = ap (λ r. r >>= λ p. if test p.0 then Ok p else Err failure) e ∙ rw t refl
-
-  pub such_not : {v : V} {rest : List ℕ} → at c ≡ Ok (v, rest) → test v ≡ false → such test failure at c ≡ Err failure
-  unfolding such
-  such_not {v} {rest} e t = ap (λ r. r >>= λ p. if test p.0 then Ok p else Err failure) e ∙ rw t refl
-
-  pub such_err : {k : ErrorKind} → at c ≡ Err k → such test failure at c ≡ Err k
-  unfolding such
-  such_err e = ap (λ r. r >>= λ p. if test p.0 then Ok p else Err failure) e
+pub told : {A B : Type 0} {make : A → B} {from : Reading A} {read : Reading B} → Makes make from read
+    → (Grammar : A → List ℕ → Type 0) (bytes : List ℕ) (r : Option ErrorKind) → TellsFault Grammar from bytes r
+    → r ≡ fault_in (read bytes)
+told {make = make} law Grammar bytes None t =
+    sym (ap fault_in (law.same bytes ∙ ap (λ r. r >>= λ a. Ok (make a)) t.2))
+told {make = make} law Grammar bytes (Some k) t =
+    sym (ap fault_in (law.same bytes ∙ ap (λ r. r >>= λ a. Ok (make a)) t.1))

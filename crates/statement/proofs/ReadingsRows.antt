@@ -11,8 +11,9 @@ use Rattle.der_core.specs.declared.error.ErrorKind.TheVariants.{ParametersMissin
 use Rattle.der_core.specs.declared.error.ErrorKind.TheVariants.{TrailingData, Value}
 use Rattle.statement.specs.Statement.{PublicKey, PrivateKey, OtherPrime, PssParameters, OaepParameters, Algorithm}
 use Rattle.statement.specs.Statement.{TagAndContents, Container, rsa_encryption, sha1, mgf1_sha1, empty_label}
-use Rattle.statement.specs.Reading.{Reading, chain, ended, such, present, items_within, tagged, whole, field, octets_in}
-use Rattle.statement.specs.Reading.{integer_in, small_in, identifier_in, any, algorithm, public_key, private_key}
+use Rattle.der_core.specs.Readings.{Reading, alone, tagged}
+use Rattle.spki_core.specs.Readings.{identifier_read}
+use Rattle.statement.specs.Reading.{any, algorithm, public_key, private_key}
 use Rattle.statement.specs.Reading.{container, contained_key, pss, oaep, pss_algorithm, oaep_algorithm}
 
 digit : ℕ → ℕ
@@ -25,7 +26,7 @@ bytes_of (a ∷ []) = []
 bytes_of (a ∷ b ∷ digits) = (16 * digit a + digit b) ∷ bytes_of digits
 
 abbrev Mean : {V : Type 0} → Reading V → List (List ℕ × V) → Type 0
-Mean read rows = map (λ row. read (bytes_of row.0)) rows ≡ map (λ row. Ok (row.1, [])) rows
+Mean read rows = map (λ row. read (bytes_of row.0)) rows ≡ map (λ row. Ok row.1) rows
 
 abbrev AreRejected : {V : Type 0} → Reading V → List (List ℕ × ErrorKind) → Type 0
 AreRejected read rows = map (λ row. read (bytes_of row.0)) rows ≡ map (λ row. Err row.1) rows
@@ -43,8 +44,7 @@ public_keys : Mean public_key (
     ∷ (codes "30818602818040" ++ (replicate 254 0x30 ++ codes "020103"), numbers (256 ^ 127 * 64) 3)
     ∷ []
     )
-unfolding bytes_of digit header_at length_at chain ended such present items_within tagged whole field integer_in
-    small_in identifier_in any octets_in
+unfolding bytes_of digit header_at length_at
 public_keys = refl
 
 no_public_keys : AreRejected public_key (
@@ -77,8 +77,7 @@ no_public_keys : AreRejected public_key (
     ∷ (codes "3006020107020180", Value integer)
     ∷ []
     )
-unfolding bytes_of digit header_at length_at chain ended such present items_within tagged whole field integer_in
-    small_in identifier_in any octets_in
+unfolding bytes_of digit header_at length_at
 no_public_keys = refl
 
 -- == RSAPrivateKey ==
@@ -111,8 +110,7 @@ private_keys : Mean private_key (
     )
     ∷ []
     )
-unfolding bytes_of digit header_at length_at chain ended such present items_within tagged whole field integer_in
-    small_in identifier_in any octets_in
+unfolding bytes_of digit header_at length_at
 private_keys = refl
 
 no_private_keys : AreRejected private_key (
@@ -130,13 +128,12 @@ no_private_keys : AreRejected private_key (
     ∷ (codes "302702010002010702010302010502010b02010d020102020104020106300a30080201110201020201", Incomplete)
     ∷ []
     )
-unfolding bytes_of digit header_at length_at chain ended such present items_within tagged whole field integer_in
-    small_in identifier_in any octets_in
+unfolding bytes_of digit header_at length_at
 no_private_keys = refl
 
 -- == Identifiers, any encoding, AlgorithmIdentifier ==
 abbrev identifier : Reading (List ℕ)
-identifier = tagged object_identifier identifier_in
+identifier = alone (tagged object_identifier identifier_read)
 
 -- Identifiers that end within a subidentifier, begin one with 80, have no octet.
 no_identifiers : AreRejected identifier (
@@ -145,81 +142,72 @@ no_identifiers : AreRejected identifier (
     ∷ (codes "0600", OidMalformed)
     ∷ []
     )
-unfolding bytes_of digit header_at length_at chain ended such present items_within tagged whole field integer_in
-    small_in identifier_in any octets_in
+unfolding bytes_of digit header_at length_at
 no_identifiers = refl
 
 -- At most 39 octets.
-longest_identifier : identifier (0x06 ∷ 39 ∷ replicate 39 1) ≡ Ok (replicate 39 1, [])
-unfolding bytes_of digit header_at length_at chain ended such present items_within tagged whole field integer_in
-    small_in identifier_in any octets_in
+longest_identifier : identifier (0x06 ∷ 39 ∷ replicate 39 1) ≡ Ok (replicate 39 1)
+unfolding bytes_of digit header_at length_at
 longest_identifier = refl
 
 longer_identifier : identifier (0x06 ∷ 40 ∷ replicate 40 1) ≡ Err OidMalformed
-unfolding bytes_of digit header_at length_at chain ended such present items_within tagged whole field integer_in
-    small_in identifier_in any octets_in
+unfolding bytes_of digit header_at length_at
 longer_identifier = refl
 
 abbrev plain_any : ℕ → List ℕ → TagAndContents
 plain_any tag contents = record { tag = tag; contents = contents }
 
-encodings : Mean any (
+encodings : Mean (alone any) (
     (codes "0500", plain_any 5 [])
     ∷ (codes "050100", plain_any 5 (0x00 ∷ []))
     ∷ []
     )
-unfolding bytes_of digit header_at length_at chain ended such present items_within tagged whole field integer_in
-    small_in identifier_in any octets_in
+unfolding bytes_of digit header_at length_at
 encodings = refl
 
-no_encodings : AreRejected any (
+no_encodings : AreRejected (alone any) (
     (codes "0000", TagUnknown 0)
     ∷ (codes "1f00", TagUnknown 0x1f)
     ∷ []
     )
-unfolding bytes_of digit header_at length_at chain ended such present items_within tagged whole field integer_in
-    small_in identifier_in any octets_in
+unfolding bytes_of digit header_at length_at
 no_encodings = refl
 
 abbrev algorithm_with : {P : Type 0} → List ℕ → Option P → Algorithm P
 algorithm_with oid parameters = record { oid = oid; parameters = parameters }
 
-algorithms : Mean (algorithm any) (
+algorithms : Mean (alone (algorithm any)) (
     (codes "300906052b0e03021a0500", sha1)
     ∷ (codes "300706052b0e03021a", algorithm_with sha1.oid None)
     ∷ (codes "300d06092a864886f70d0101010500", rsa_encryption)
     ∷ []
     )
-unfolding bytes_of digit header_at length_at chain ended such present items_within tagged whole field integer_in
-    small_in identifier_in any octets_in
+unfolding bytes_of digit header_at length_at
 algorithms = refl
 
-no_algorithms : AreRejected (algorithm any) (
+no_algorithms : AreRejected (alone (algorithm any)) (
     (codes "3000", Incomplete)
     ∷ (codes "30020600", OidMalformed)
     ∷ (codes "30022b00", TagUnexpected object_identifier (record { octet = 0x2b; allowed = refl }))
     ∷ (codes "300f06092a864886f70d01010105000500", TrailingData)
     ∷ []
     )
-unfolding bytes_of digit header_at length_at chain ended such present items_within tagged whole field integer_in
-    small_in identifier_in any octets_in
+unfolding bytes_of digit header_at length_at
 no_algorithms = refl
 
-mask_algorithms : Mean (algorithm (algorithm any)) (
+mask_algorithms : Mean (alone (algorithm (algorithm any))) (
     (codes "301606092a864886f70d010108300906052b0e03021a0500", mgf1_sha1)
     ∷ (codes "300b06092a864886f70d010108", algorithm_with mgf1_sha1.oid None)
     ∷ []
     )
-unfolding bytes_of digit header_at length_at chain ended such present items_within tagged whole field integer_in
-    small_in identifier_in any octets_in
+unfolding bytes_of digit header_at length_at
 mask_algorithms = refl
 
-no_mask_algorithms : AreRejected (algorithm (algorithm any)) (
+no_mask_algorithms : AreRejected (alone (algorithm (algorithm any))) (
     (codes "300d06092a864886f70d0101080500", TagUnexpected sequence null)
     ∷ []
     )
-unfolding bytes_of digit header_at length_at chain ended such present items_within tagged whole field integer_in
-    small_in identifier_in any octets_in
+unfolding bytes_of digit header_at length_at
 no_mask_algorithms = refl
 
 -- == RSASSA-PSS-params and RSAES-OAEP-params, alone and in their algorithm identifiers ==
@@ -240,8 +228,7 @@ pss_params : Mean pss (
     ∷ (codes "300ba009300706052b0e03021a", pss_with (algorithm_with sha1.oid None) 20)
     ∷ []
     )
-unfolding bytes_of digit header_at length_at chain ended such present items_within tagged whole field integer_in
-    small_in identifier_in any octets_in
+unfolding bytes_of digit header_at length_at
 pss_params = refl
 
 no_pss_params : AreRejected pss (
@@ -273,8 +260,7 @@ no_pss_params : AreRejected pss (
     ∷ (codes "300da00b300906052b0e03021a0502", Incomplete)
     ∷ []
     )
-unfolding bytes_of digit header_at length_at chain ended such present items_within tagged whole field integer_in
-    small_in identifier_in any octets_in
+unfolding bytes_of digit header_at length_at
 no_pss_params = refl
 
 oaep_params : Mean oaep (
@@ -286,8 +272,7 @@ oaep_params : Mean oaep (
     )
     ∷ []
     )
-unfolding bytes_of digit header_at length_at chain ended such present items_within tagged whole field integer_in
-    small_in identifier_in any octets_in
+unfolding bytes_of digit header_at length_at
 oaep_params = refl
 
 no_oaep_params : AreRejected oaep (
@@ -299,8 +284,7 @@ no_oaep_params : AreRejected oaep (
     ∷ (codes "3005a203020114", TagUnexpected sequence integer)
     ∷ []
     )
-unfolding bytes_of digit header_at length_at chain ended such present items_within tagged whole field integer_in
-    small_in identifier_in any octets_in
+unfolding bytes_of digit header_at length_at
 no_oaep_params = refl
 
 pss_algorithms : Mean pss_algorithm (
@@ -308,8 +292,7 @@ pss_algorithms : Mean pss_algorithm (
     ∷ (codes "301206092a864886f70d01010a3005a203020114", pss_with sha1 20)
     ∷ []
     )
-unfolding bytes_of digit header_at length_at chain ended such present items_within tagged whole field integer_in
-    small_in identifier_in any octets_in
+unfolding bytes_of digit header_at length_at
 pss_algorithms = refl
 
 no_pss_algorithms : AreRejected pss_algorithm (
@@ -318,16 +301,14 @@ no_pss_algorithms : AreRejected pss_algorithm (
     ∷ (codes "300d06092a864886f70d01010a0500", TagUnexpected sequence null)
     ∷ []
     )
-unfolding bytes_of digit header_at length_at chain ended such present items_within tagged whole field integer_in
-    small_in identifier_in any octets_in
+unfolding bytes_of digit header_at length_at
 no_pss_algorithms = refl
 
 oaep_algorithms : Mean oaep_algorithm (
     (codes "300d06092a864886f70d0101073000", oaep_with empty_label)
     ∷ []
     )
-unfolding bytes_of digit header_at length_at chain ended such present items_within tagged whole field integer_in
-    small_in identifier_in any octets_in
+unfolding bytes_of digit header_at length_at
 oaep_algorithms = refl
 
 -- == PrivateKeyInfo, and the key in it ==
@@ -342,8 +323,7 @@ containers : Mean container (
     (codes "300d020100300406022a030402050a", small_container)
     ∷ []
     )
-unfolding bytes_of digit header_at length_at chain ended such present items_within tagged whole field integer_in
-    small_in identifier_in any octets_in
+unfolding bytes_of digit header_at length_at
 containers = refl
 
 no_containers : AreRejected container (
@@ -356,8 +336,7 @@ no_containers : AreRejected container (
     ∷ (codes "300f020100300406022a030402050a0500", TrailingData)
     ∷ []
     )
-unfolding bytes_of digit header_at length_at chain ended such present items_within tagged whole field integer_in
-    small_in identifier_in any octets_in
+unfolding bytes_of digit header_at length_at
 no_containers = refl
 
 no_contained_keys : AreRejected contained_key (
@@ -366,6 +345,5 @@ no_contained_keys : AreRejected contained_key (
     ∷ (codes "3016020100300d06092a864886f70d010101050004023006", Incomplete)
     ∷ []
     )
-unfolding bytes_of digit header_at length_at chain ended such present items_within tagged whole field integer_in
-    small_in identifier_in any octets_in
+unfolding bytes_of digit header_at length_at
 no_contained_keys = refl

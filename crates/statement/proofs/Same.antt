@@ -1,9 +1,9 @@
 -- Two encodings of one value, by the shortest ones.
 use Rattle.std.proofs.Common.{ℕ, List, ◌≡◌, sym, subst, ap, ◌∙◌, arith, inl, inr}
 use Rattle.der_core.specs.Laws.Shortest as laws
-use Rattle.pkcs1.specs.Laws.PublicKeys.{public_delimited}
-use Rattle.pkcs1.specs.Laws.PrivateKeys.{private_delimited}
-use Rattle.pkcs1_params.specs.Laws.Algorithms.{algorithm_of_delimited}
+use Rattle.pkcs1.proofs.PublicKeys.{public_delimited}
+use Rattle.pkcs1.proofs.PrivateKeys.{private_delimited}
+use Rattle.pkcs1_params.proofs.AlgorithmsLaws.{algorithm_of_delimited}
 use Rattle.pkcs1_params.specs.Laws.Parameters.{pss_delimited, oaep_delimited}
 use Rattle.pkcs1_params.specs.Parameters.{RsaPssParams, RsaOaepParams}
 use Rattle.der_core.specs.Document.{Means}
@@ -14,7 +14,7 @@ use Rattle.statement.specs.Statement.{OaepAlgorithmEncoding, ContainerEncoding}
 use Rattle.statement.proofs.PublicKeys as keys
 use Rattle.statement.proofs.PrivateKeys as private
 use Rattle.statement.proofs.Containers as containers
-use Rattle.pkcs8_core.specs.Laws.Container.{info_delimited}
+use Rattle.pkcs8_core.proofs.Container.{info_delimited}
 use Rattle.statement.proofs.Fields as fields
 use Rattle.statement.proofs.Pss as pss
 use Rattle.statement.proofs.Oaep as oaep

@@ -11,7 +11,7 @@ use Rattle.der_core.specs.Document.{WhyNotWritten}
 use Rattle.der_core.specs.Document as documents
 use Rattle.der_core.specs.Writing.{WritesEncodings, WritesLeast, encode_error}
 use Rattle.der_core.specs.Laws.Integer.{holds_canonical}
-use Rattle.der_core.specs.Laws.NotWritten.{shortest_is}
+use Rattle.der_core.proofs.NotWritten.{shortest_is}
 use Rattle.der_core.specs.UintRefValue.{bytes_of}
 use Rattle.der_core.specs.UintValue.{own_bytes_of}
 use Rattle.der_core.specs.Integer.{IsCanonical}
@@ -28,13 +28,13 @@ use Rattle.pkcs1.specs.PrivateKeyValue.{private_key_with, others_of, other_of, L
 use Rattle.pkcs1.specs.declared.public_key.RsaPublicKey.{RsaPublicKey}
 use Rattle.pkcs1.specs.declared.private_key.other_prime_info.OtherPrimeInfo.{OtherPrimeInfo}
 use Rattle.pkcs8_core.specs.Container.{PrivateKeyInfo}
-use Rattle.pkcs8_core.specs.Held.{info_of}
+use Rattle.pkcs8_core.specs.ContainerValue.{info_of}
 use Rattle.pkcs8_core.specs.declared.info.PrivateKeyInfoRef.{PrivateKeyInfoRef}
 use Rattle.statement.specs.Statement.{limit, IsShortest, Encodes, PublicKeyEncoding, PrivateKeyEncoding}
 use Rattle.statement.specs.Statement.{ContainerEncoding}
 use Rattle.statement.specs.Held.{rsa_public_key, rsa_private_key}
 use Rattle.statement.specs.Held.{private_key_info_ref}
-use Rattle.statement.specs.Laws.Shortest.{shortest}
+use Rattle.statement.proofs.Shortest.{shortest}
 use Rattle.statement.specs.Library.{Agree}
 use Rattle.statement.proofs.Der.{moved, equal_by, none_fits}
 use Rattle.statement.proofs.OutOfMemory.{IsMemory}

@@ -4,4 +4,3 @@ pub mod Held
 pub mod Made
 pub mod Reading
 pub mod Library
-pub mod Laws

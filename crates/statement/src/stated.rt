@@ -9,7 +9,7 @@ ghost use Rattle.der_core.specs.Laws.Integer.{holds_canonical};
 ghost use Rattle.pkcs1.specs.Keys as keys;
 ghost use Rattle.pkcs1.specs.Words.{public_key_of, private_key_of};
 ghost use Rattle.pkcs8_core.specs.Container.{PrivateKeyInfo};
-ghost use Rattle.pkcs8_core.specs.Held.{info_of};
+ghost use Rattle.pkcs8_core.specs.ContainerValue.{info_of};
 ghost use Rattle.statement.specs.Library as library;
 ghost use Rattle.statement.specs.Held.{uint_ref, uint, any_ref, any, object_identifier, identifier_view};
 ghost use Rattle.statement.specs.Held.{rsa_public_key, rsa_private_key, pss_params_of, oaep_params_of};

@@ -1,9 +1,10 @@
 -- What copying a key does.
-use Rattle.std.specs.Prelude.{◌≡◌, ◌⊎◌, ℕ, List, Option, Some, None}
+use Rattle.std.specs.Prelude.{◌≡◌, ◌⊎◌, ℕ, List, Option, Some, None, Err}
 use Rattle.der_core.specs.declared.error.ErrorKind.{ErrorKind}
 use Rattle.der_core.specs.declared.error.ErrorKind.TheVariants.{File}
 use Rattle.der_core.specs.Carrying.{WhyDocumentNotRead}
 use Rattle.der_core.specs.Files.{FileFault, FileGives}
+use Rattle.der_core.specs.Readings.{Reading}
 use Rattle.der_core.specs.SourcesSinks.{GivesAll}
 use Rattle.pkcs1.specs.KeyEncodings.{IsSentence}
 
@@ -13,13 +14,12 @@ abbrev pub CopiesKey : {V Place : Type 0} → (V → List ℕ → Type 0) → Op
 CopiesKey Grammar before after Takes output = (encoding : List ℕ) × GivesAll before after encoding
     × IsSentence Grammar encoding × (place : _) × (output ≡ Some place) × Takes place encoding
 
--- No key was read: reading stopped, or all that the source gave is no document; or it has this first fault as a key,
--- and no read failed.
-abbrev pub WhyKeyNotRead : (ErrorKind → List ℕ → Type 0) → ErrorKind → Option (List ℕ) → Option (List ℕ) → ℕ → ℕ
-    → Type 0
-WhyKeyNotRead KeyFault e before after failures failures2 =
+-- No key was read: reading stopped, or all that the source gave is no document; or no read failed, and the function
+-- that reads a key gives this error.
+abbrev pub WhyKeyNotRead : {V : Type 0} → Reading V → ErrorKind → Option (List ℕ) → Option (List ℕ) → ℕ → ℕ → Type 0
+WhyKeyNotRead read e before after failures failures2 =
     WhyDocumentNotRead e before after failures failures2
-    ⊎ ((failures2 ≡ failures) × (encoding : List ℕ) × GivesAll before after encoding × KeyFault e encoding)
+    ⊎ ((failures2 ≡ failures) × (encoding : List ℕ) × GivesAll before after encoding × (read encoding ≡ Err e))
 
 -- The encoding of a key was read, and no read failed; but the place was used up before, or refused the encoding.
 abbrev pub WhyKeyNotWritten : {V Place : Type 0} → (V → List ℕ → Type 0) → ErrorKind → Option (List ℕ)
@@ -40,11 +40,11 @@ abbrev pub CopiesAt : {V F : Type 0} → (V → List ℕ → Type 0) → (List �
     → (List ℕ → List ℕ → Type 0) → List ℕ → List ℕ → Type 0
 CopiesAt Grammar opens remaining Takes input output = CopiesFile Grammar (opens input) remaining (Takes output)
 
--- Why a file isn't copied: what it gave has this fault as a document or as a key, or it failed, or memory ran out for
+-- Why a file isn't copied: what it gave is no document or no key, with this error, or it failed, or memory ran out for
 -- it; or it gave the encoding of a key, which the other file refused.
-abbrev pub WhyNotCopied : {V F : Type 0} → (V → List ℕ → Type 0) → (ErrorKind → List ℕ → Type 0) → ErrorKind
+abbrev pub WhyNotCopied : {V F : Type 0} → (V → List ℕ → Type 0) → Reading V → ErrorKind
     → (Option F → Type 0) → (F → Option (List ℕ)) → (F → ℕ) → (List ℕ → Type 0) → Type 0
-WhyNotCopied Grammar KeyFault e Opens remaining failures Refuses =
+WhyNotCopied Grammar read e Opens remaining failures Refuses =
     FileFault Opens remaining failures e
-    ⊎ ((bytes : List ℕ) × FileGives Opens remaining bytes × KeyFault e bytes)
+    ⊎ ((bytes : List ℕ) × FileGives Opens remaining bytes × (read bytes ≡ Err e))
     ⊎ ((e ≡ File) × CopiesFile Grammar Opens remaining Refuses)

@@ -2,7 +2,7 @@
 ghost use Rattle.std.specs.Prelude.{◌≡◌, ◌⊎◌, IfOk, IfErr, OnOk};
 ghost use Rattle.std.specs.Path.{path_bytes};
 ghost use Rattle.der_core.specs.Words.{FileRefuses, FileTakes, GivesAll, encoding_of};
-ghost use Rattle.pkcs1.specs.Words.{IsSentence, RsaPrivateKey, RsaPublicKey, RsaPrivateKeyFault, RsaPublicKeyFault};
+ghost use Rattle.pkcs1.specs.Words.{IsSentence, RsaPrivateKey, RsaPublicKey, rsa_private_key, rsa_public_key};
 ghost use Rattle.pkcs1_params.specs.Words.{IsAsn1};
 ghost use Rattle.tool_core.specs.Words.{CopiesFile, CopiesKey, WhyKeyNotRead, WhyKeyNotWritten, WhyNotCopied};
 
@@ -17,7 +17,7 @@ fn read_public_key<R: Source>(alloc: Global, source: &mut R) -> Result<Document>
     ensures ok { IfOk result (λ document. GivesAll (R.remaining source.old) (R.remaining source.new)
         (encoding_of document) × IsSentence RsaPublicKey (encoding_of document)) }
     ensures quiet { OnOk result (R.failures source.new ≡ R.failures source.old) }
-    ensures err { IfErr result (IsAsn1 (λ e. WhyKeyNotRead RsaPublicKeyFault e.kind (R.remaining source.old)
+    ensures err { IfErr result (IsAsn1 (λ e. WhyKeyNotRead rsa_public_key e.kind (R.remaining source.old)
         (R.remaining source.new) (R.failures source.old) (R.failures source.new))) }
 {
     let document = Document::read_from(alloc, source)?;
@@ -30,7 +30,7 @@ fn read_private_key<R: Source>(alloc: Global, source: &mut R) -> Result<SecretDo
     ensures ok { IfOk result (λ secret. GivesAll (R.remaining source.old) (R.remaining source.new)
         (encoding_of secret) × IsSentence RsaPrivateKey (encoding_of secret)) }
     ensures quiet { OnOk result (R.failures source.new ≡ R.failures source.old) }
-    ensures err { IfErr result (IsAsn1 (λ e. WhyKeyNotRead RsaPrivateKeyFault e.kind (R.remaining source.old)
+    ensures err { IfErr result (IsAsn1 (λ e. WhyKeyNotRead rsa_private_key e.kind (R.remaining source.old)
         (R.remaining source.new) (R.failures source.old) (R.failures source.new))) }
 {
     let secret = SecretDocument::read_from(alloc, source)?;
@@ -49,7 +49,7 @@ pub fn copy_public_key<R: Source, P: Place>(
         P.takes output.old) }
     ensures quiet { OnOk result (R.failures source.new ≡ R.failures source.old) }
     ensures err { IfErr result (IsAsn1 (λ e.
-        (WhyKeyNotRead RsaPublicKeyFault e.kind (R.remaining source.old) (R.remaining source.new)
+        (WhyKeyNotRead rsa_public_key e.kind (R.remaining source.old) (R.remaining source.new)
         (R.failures source.old) (R.failures source.new) × (output.new ≡ output.old))
         ⊎ WhyKeyNotWritten RsaPublicKey e.kind (R.remaining source.old) (R.remaining source.new)
         (R.failures source.old) (R.failures source.new) P.refuses output.old)) }
@@ -72,7 +72,7 @@ pub fn copy_private_key<R: Source, P: Place>(
         P.takes output.old) }
     ensures quiet { OnOk result (R.failures source.new ≡ R.failures source.old) }
     ensures err { IfErr result (IsAsn1 (λ e.
-        (WhyKeyNotRead RsaPrivateKeyFault e.kind (R.remaining source.old) (R.remaining source.new)
+        (WhyKeyNotRead rsa_private_key e.kind (R.remaining source.old) (R.remaining source.new)
         (R.failures source.old) (R.failures source.new) × (output.new ≡ output.old))
         ⊎ WhyKeyNotWritten RsaPrivateKey e.kind (R.remaining source.old) (R.remaining source.new)
         (R.failures source.old) (R.failures source.new) P.refuses output.old)) }
@@ -95,7 +95,7 @@ pub fn copy_pub<F: FileSystem>(
         OnOk result (CopiesFile RsaPublicKey (F.opens (path_bytes input.entry)) F.Opened.remaining
         (takes F.Created.contents F.Created.is_flushed)) }
     ensures err { let refuses = FileRefuses (F.creates (path_bytes output.entry)) F.Created.is_closed in
-        IfErr result (IsAsn1 (λ e. WhyNotCopied RsaPublicKey RsaPublicKeyFault e.kind
+        IfErr result (IsAsn1 (λ e. WhyNotCopied RsaPublicKey rsa_public_key e.kind
         (F.opens (path_bytes input.entry)) F.Opened.remaining F.Opened.failures
         (refuses F.Created.contents F.Created.failures))) }
 {
@@ -114,7 +114,7 @@ pub fn copy_priv<F: FileSystem>(
         OnOk result (CopiesFile RsaPrivateKey (F.opens (path_bytes input.entry)) F.Opened.remaining
         (takes F.Created.contents F.Created.is_flushed)) }
     ensures err { let refuses = FileRefuses (F.creates (path_bytes output.entry)) F.Created.is_closed in
-        IfErr result (IsAsn1 (λ e. WhyNotCopied RsaPrivateKey RsaPrivateKeyFault e.kind
+        IfErr result (IsAsn1 (λ e. WhyNotCopied RsaPrivateKey rsa_private_key e.kind
         (F.opens (path_bytes input.entry)) F.Opened.remaining F.Opened.failures
         (refuses F.Created.contents F.Created.failures))) }
 {

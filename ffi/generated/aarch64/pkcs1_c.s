@@ -11639,7 +11639,7 @@
 .LBB20_130:
 	cmp	w10, #0
 	mov	w8, wzr
-	mov	w11, wzr
+	mov	w9, wzr
 	csel	w1, wzr, w1, ne
 	csel	w12, w5, w12, ne
 	cbz	w21, .LBB20_134
@@ -11652,107 +11652,107 @@
 	cbz	w10, .LBB20_135
 	mvn	w9, w8
 	add	w8, w8, w25
-	mov	w1, wzr
+	mov	w10, #7
 	cmp	w25, w9
-	mov	w9, #7
-	cset	w11, ls
-	csel	w12, wzr, w9, ls
+	mov	w1, wzr
+	cset	w9, ls
+	csel	w12, wzr, w10, ls
 	csel	w8, w8, wzr, ls
 	cbnz	w21, .LBB20_136
 .LBB20_134:
-	cmp	w11, #0
-	mov	w9, wzr
+	cmp	w9, #0
 	mov	w8, wzr
+	mov	w10, wzr
 	csel	w1, wzr, w1, ne
 	csel	w12, w2, w12, ne
 	cbz	w7, .LBB20_138
 	b	.LBB20_140
 .LBB20_135:
 	mov	w8, wzr
-	mov	w11, wzr
+	mov	w9, wzr
 	cbz	w21, .LBB20_134
 .LBB20_136:
-	cbz	w11, .LBB20_139
+	cbz	w9, .LBB20_139
 	mvn	w9, w8
 	add	w8, w8, w19
-	mov	w10, #7
-	cmp	w19, w9
 	mov	w1, wzr
-	cset	w9, ls
-	csel	w12, wzr, w10, ls
+	cmp	w19, w9
+	mov	w9, #7
+	cset	w10, ls
+	csel	w12, wzr, w9, ls
 	csel	w8, w8, wzr, ls
 	cbnz	w7, .LBB20_140
 .LBB20_138:
-	cmp	w9, #0
+	cmp	w10, #0
 	mov	w8, wzr
-	mov	w10, wzr
+	mov	w9, wzr
 	csel	w1, wzr, w1, ne
 	csel	w12, w4, w12, ne
 	cbz	w16, .LBB20_142
 	b	.LBB20_144
 .LBB20_139:
-	mov	w9, wzr
 	mov	w8, wzr
+	mov	w10, wzr
 	cbz	w7, .LBB20_138
 .LBB20_140:
-	cbz	w9, .LBB20_143
+	cbz	w10, .LBB20_143
 	mvn	w9, w8
 	add	w8, w8, w3
-	mov	w1, wzr
+	mov	w10, #7
 	cmp	w3, w9
-	mov	w9, #7
-	cset	w10, ls
-	csel	w12, wzr, w9, ls
+	mov	w1, wzr
+	cset	w9, ls
+	csel	w12, wzr, w10, ls
 	csel	w8, w8, wzr, ls
 	cbnz	w16, .LBB20_144
 .LBB20_142:
-	cmp	w10, #0
+	cmp	w9, #0
 	mov	w8, wzr
-	mov	w9, wzr
+	mov	w10, wzr
 	csel	w1, wzr, w1, ne
 	csel	w12, w28, w12, ne
 	cbz	w27, .LBB20_146
 	b	.LBB20_148
 .LBB20_143:
 	mov	w8, wzr
-	mov	w10, wzr
+	mov	w9, wzr
 	cbz	w16, .LBB20_142
 .LBB20_144:
-	cbz	w10, .LBB20_147
+	cbz	w9, .LBB20_147
 	mvn	w9, w8
 	add	w8, w8, w30
-	mov	w10, #7
-	cmp	w30, w9
 	mov	w1, wzr
-	cset	w9, ls
-	csel	w12, wzr, w10, ls
+	cmp	w30, w9
+	mov	w9, #7
+	cset	w10, ls
+	csel	w12, wzr, w9, ls
 	csel	w8, w8, wzr, ls
 	cbnz	w27, .LBB20_148
 .LBB20_146:
-	cmp	w9, #0
+	cmp	w10, #0
 	mov	w8, wzr
-	mov	w10, wzr
+	mov	w9, wzr
 	csel	w1, wzr, w1, ne
 	csel	w12, w18, w12, ne
 	b	.LBB20_151
 .LBB20_147:
 	mov	w8, wzr
-	mov	w9, wzr
+	mov	w10, wzr
 	cbz	w27, .LBB20_146
 .LBB20_148:
-	cbz	w9, .LBB20_150
+	cbz	w10, .LBB20_150
 	mvn	w9, w8
 	add	w8, w8, w17
-	mov	w1, wzr
+	mov	w10, #7
 	cmp	w17, w9
-	mov	w9, #7
-	cset	w10, ls
-	csel	w12, wzr, w9, ls
+	mov	w1, wzr
+	cset	w9, ls
+	csel	w12, wzr, w10, ls
 	csel	w8, w8, wzr, ls
 	b	.LBB20_151
 .LBB20_150:
 	mov	w8, wzr
-	mov	w10, wzr
+	mov	w9, wzr
 .LBB20_151:
 	ldp	x20, x19, [sp, #112]
 	ldr	x30, [sp, #32]
@@ -11762,7 +11762,7 @@
 	ldp	x28, x27, [sp, #48]
 	add	sp, sp, #128
 	cbz	w15, .LBB20_157
-	tbz	w10, #0, .LBB20_158
+	tbz	w9, #0, .LBB20_158
 	cmn	w8, w13
 	b.hs	.LBB20_159
 	add	w9, w8, w13
@@ -11777,7 +11777,7 @@
 	mov	w10, #2
 	b	.LBB20_163
 .LBB20_157:
-	cmp	w10, #0
+	cmp	w9, #0
 	mov	w9, #1
 	csel	w1, wzr, w1, ne
 	csel	w12, w14, w12, ne
@@ -14257,8 +14257,8 @@ pkcs1_c_status_text:
 	.cfi_startproc
 	cmp	w0, #21
 	b.hi	.LBB35_2
-	adrp	x9, .Lswitch.table.pkcs1_c_status_text.181.rel
-	add	x9, x9, :lo12:.Lswitch.table.pkcs1_c_status_text.181.rel
+	adrp	x9, .Lswitch.table.pkcs1_c_status_text.177.rel
+	add	x9, x9, :lo12:.Lswitch.table.pkcs1_c_status_text.177.rel
 	adrp	x8, .Lswitch.table.pkcs1_c_status_text
 	add	x8, x8, :lo12:.Lswitch.table.pkcs1_c_status_text
 	ldrsw	x10, [x9, w0, uxtw #2]
@@ -23637,33 +23637,33 @@ pkcs1_c_pss_params_encode:
 	.xword	49
 	.size	.Lswitch.table.pkcs1_c_status_text, 176
 
-	.type	.Lswitch.table.pkcs1_c_status_text.181.rel,@object
-	.section	.rodata..Lswitch.table.pkcs1_c_status_text.181.rel,"a",@progbits
+	.type	.Lswitch.table.pkcs1_c_status_text.177.rel,@object
+	.section	.rodata..Lswitch.table.pkcs1_c_status_text.177.rel,"a",@progbits
 	.p2align	2, 0x0
-.Lswitch.table.pkcs1_c_status_text.181.rel:
-	.word	.Lstatic.2-.Lswitch.table.pkcs1_c_status_text.181.rel
-	.word	.Lstatic.3-.Lswitch.table.pkcs1_c_status_text.181.rel
-	.word	.Lstatic.4-.Lswitch.table.pkcs1_c_status_text.181.rel
-	.word	.Lstatic.5-.Lswitch.table.pkcs1_c_status_text.181.rel
-	.word	.Lstatic.6-.Lswitch.table.pkcs1_c_status_text.181.rel
-	.word	.Lstatic.7-.Lswitch.table.pkcs1_c_status_text.181.rel
-	.word	.Lstatic.8-.Lswitch.table.pkcs1_c_status_text.181.rel
-	.word	.Lstatic.9-.Lswitch.table.pkcs1_c_status_text.181.rel
-	.word	.Lstatic.10-.Lswitch.table.pkcs1_c_status_text.181.rel
-	.word	.Lstatic.11-.Lswitch.table.pkcs1_c_status_text.181.rel
-	.word	.Lstatic.12-.Lswitch.table.pkcs1_c_status_text.181.rel
-	.word	.Lstatic.13-.Lswitch.table.pkcs1_c_status_text.181.rel
-	.word	.Lstatic.14-.Lswitch.table.pkcs1_c_status_text.181.rel
-	.word	.Lstatic.15-.Lswitch.table.pkcs1_c_status_text.181.rel
-	.word	.Lstatic.16-.Lswitch.table.pkcs1_c_status_text.181.rel
-	.word	.Lstatic.17-.Lswitch.table.pkcs1_c_status_text.181.rel
-	.word	.Lstatic.18-.Lswitch.table.pkcs1_c_status_text.181.rel
-	.word	.Lstatic.19-.Lswitch.table.pkcs1_c_status_text.181.rel
-	.word	.Lstatic.21-.Lswitch.table.pkcs1_c_status_text.181.rel
-	.word	.Lstatic.21-.Lswitch.table.pkcs1_c_status_text.181.rel
-	.word	.Lstatic.21-.Lswitch.table.pkcs1_c_status_text.181.rel
-	.word	.Lstatic.20-.Lswitch.table.pkcs1_c_status_text.181.rel
-	.size	.Lswitch.table.pkcs1_c_status_text.181.rel, 88
+.Lswitch.table.pkcs1_c_status_text.177.rel:
+	.word	.Lstatic.2-.Lswitch.table.pkcs1_c_status_text.177.rel
+	.word	.Lstatic.3-.Lswitch.table.pkcs1_c_status_text.177.rel
+	.word	.Lstatic.4-.Lswitch.table.pkcs1_c_status_text.177.rel
+	.word	.Lstatic.5-.Lswitch.table.pkcs1_c_status_text.177.rel
+	.word	.Lstatic.6-.Lswitch.table.pkcs1_c_status_text.177.rel
+	.word	.Lstatic.7-.Lswitch.table.pkcs1_c_status_text.177.rel
+	.word	.Lstatic.8-.Lswitch.table.pkcs1_c_status_text.177.rel
+	.word	.Lstatic.9-.Lswitch.table.pkcs1_c_status_text.177.rel
+	.word	.Lstatic.10-.Lswitch.table.pkcs1_c_status_text.177.rel
+	.word	.Lstatic.11-.Lswitch.table.pkcs1_c_status_text.177.rel
+	.word	.Lstatic.12-.Lswitch.table.pkcs1_c_status_text.177.rel
+	.word	.Lstatic.13-.Lswitch.table.pkcs1_c_status_text.177.rel
+	.word	.Lstatic.14-.Lswitch.table.pkcs1_c_status_text.177.rel
+	.word	.Lstatic.15-.Lswitch.table.pkcs1_c_status_text.177.rel
+	.word	.Lstatic.16-.Lswitch.table.pkcs1_c_status_text.177.rel
+	.word	.Lstatic.17-.Lswitch.table.pkcs1_c_status_text.177.rel
+	.word	.Lstatic.18-.Lswitch.table.pkcs1_c_status_text.177.rel
+	.word	.Lstatic.19-.Lswitch.table.pkcs1_c_status_text.177.rel
+	.word	.Lstatic.21-.Lswitch.table.pkcs1_c_status_text.177.rel
+	.word	.Lstatic.21-.Lswitch.table.pkcs1_c_status_text.177.rel
+	.word	.Lstatic.21-.Lswitch.table.pkcs1_c_status_text.177.rel
+	.word	.Lstatic.20-.Lswitch.table.pkcs1_c_status_text.177.rel
+	.size	.Lswitch.table.pkcs1_c_status_text.177.rel, 88
 
 	.ident	"rattle logic=dac8208d650f15bf3e2dc313a14fa4c783a3acf887bdfab66e1714b038d9e11b"
 	.section	".note.GNU-stack","",@progbits

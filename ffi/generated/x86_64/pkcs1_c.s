@@ -12193,30 +12193,30 @@
 	addl	%edx, %eax
 	xorl	%r9d, %r9d
 	cmpl	%ecx, %edx
-	setbe	%cl
+	setbe	%dl
 	movl	$7, %ebp
 	cmovbel	%r9d, %ebp
 	cmoval	%r9d, %eax
-	movl	%eax, %edx
+	movl	%eax, %ecx
 .LBB20_107:
 	cmpb	$0, -48(%rsp)
 	je	.LBB20_110
 .LBB20_108:
 	xorl	%eax, %eax
 	movl	$0, %esi
-	testb	%cl, %cl
+	testb	%dl, %dl
 	je	.LBB20_111
-	movl	%edx, %eax
+	movl	%ecx, %eax
 	notl	%eax
-	movl	-80(%rsp), %ecx
-	addl	%ecx, %edx
+	movl	-80(%rsp), %edx
+	addl	%edx, %ecx
 	xorl	%r9d, %r9d
-	cmpl	%eax, %ecx
+	cmpl	%eax, %edx
 	setbe	%sil
 	movl	$7, %ebp
 	cmovbel	%r9d, %ebp
-	cmoval	%r9d, %edx
-	movl	%edx, %eax
+	cmoval	%r9d, %ecx
+	movl	%ecx, %eax
 .LBB20_111:
 	cmpb	$0, -44(%rsp)
 	je	.LBB20_114
@@ -12336,7 +12336,7 @@
 .LBB20_110:
 	movzbl	%r9b, %r9d
 	xorl	%eax, %eax
-	testb	%cl, %cl
+	testb	%dl, %dl
 	cmovnel	%eax, %r9d
 	movzbl	-64(%rsp), %ecx
 	movzbl	%bpl, %ebp
@@ -14956,7 +14956,7 @@ pkcs1_c_status_text:
 	movl	%edi, %ecx
 	leaq	.Lswitch.table.pkcs1_c_status_text(%rip), %rax
 	movq	(%rax,%rcx,8), %rax
-	leaq	.Lswitch.table.pkcs1_c_status_text.181.rel(%rip), %rdx
+	leaq	.Lswitch.table.pkcs1_c_status_text.177.rel(%rip), %rdx
 	movslq	(%rdx,%rcx,4), %rcx
 	addq	%rdx, %rcx
 	movq	%rcx, (%rsi)
@@ -25460,33 +25460,33 @@ pkcs1_c_pss_params_encode:
 	.quad	49
 	.size	.Lswitch.table.pkcs1_c_status_text, 176
 
-	.type	.Lswitch.table.pkcs1_c_status_text.181.rel,@object
-	.section	.rodata..Lswitch.table.pkcs1_c_status_text.181.rel,"a",@progbits
+	.type	.Lswitch.table.pkcs1_c_status_text.177.rel,@object
+	.section	.rodata..Lswitch.table.pkcs1_c_status_text.177.rel,"a",@progbits
 	.p2align	2, 0x0
-.Lswitch.table.pkcs1_c_status_text.181.rel:
-	.long	.Lstatic.2-.Lswitch.table.pkcs1_c_status_text.181.rel
-	.long	.Lstatic.3-.Lswitch.table.pkcs1_c_status_text.181.rel
-	.long	.Lstatic.4-.Lswitch.table.pkcs1_c_status_text.181.rel
-	.long	.Lstatic.5-.Lswitch.table.pkcs1_c_status_text.181.rel
-	.long	.Lstatic.6-.Lswitch.table.pkcs1_c_status_text.181.rel
-	.long	.Lstatic.7-.Lswitch.table.pkcs1_c_status_text.181.rel
-	.long	.Lstatic.8-.Lswitch.table.pkcs1_c_status_text.181.rel
-	.long	.Lstatic.9-.Lswitch.table.pkcs1_c_status_text.181.rel
-	.long	.Lstatic.10-.Lswitch.table.pkcs1_c_status_text.181.rel
-	.long	.Lstatic.11-.Lswitch.table.pkcs1_c_status_text.181.rel
-	.long	.Lstatic.12-.Lswitch.table.pkcs1_c_status_text.181.rel
-	.long	.Lstatic.13-.Lswitch.table.pkcs1_c_status_text.181.rel
-	.long	.Lstatic.14-.Lswitch.table.pkcs1_c_status_text.181.rel
-	.long	.Lstatic.15-.Lswitch.table.pkcs1_c_status_text.181.rel
-	.long	.Lstatic.16-.Lswitch.table.pkcs1_c_status_text.181.rel
-	.long	.Lstatic.17-.Lswitch.table.pkcs1_c_status_text.181.rel
-	.long	.Lstatic.18-.Lswitch.table.pkcs1_c_status_text.181.rel
-	.long	.Lstatic.19-.Lswitch.table.pkcs1_c_status_text.181.rel
-	.long	.Lstatic.21-.Lswitch.table.pkcs1_c_status_text.181.rel
-	.long	.Lstatic.21-.Lswitch.table.pkcs1_c_status_text.181.rel
-	.long	.Lstatic.21-.Lswitch.table.pkcs1_c_status_text.181.rel
-	.long	.Lstatic.20-.Lswitch.table.pkcs1_c_status_text.181.rel
-	.size	.Lswitch.table.pkcs1_c_status_text.181.rel, 88
+.Lswitch.table.pkcs1_c_status_text.177.rel:
+	.long	.Lstatic.2-.Lswitch.table.pkcs1_c_status_text.177.rel
+	.long	.Lstatic.3-.Lswitch.table.pkcs1_c_status_text.177.rel
+	.long	.Lstatic.4-.Lswitch.table.pkcs1_c_status_text.177.rel
+	.long	.Lstatic.5-.Lswitch.table.pkcs1_c_status_text.177.rel
+	.long	.Lstatic.6-.Lswitch.table.pkcs1_c_status_text.177.rel
+	.long	.Lstatic.7-.Lswitch.table.pkcs1_c_status_text.177.rel
+	.long	.Lstatic.8-.Lswitch.table.pkcs1_c_status_text.177.rel
+	.long	.Lstatic.9-.Lswitch.table.pkcs1_c_status_text.177.rel
+	.long	.Lstatic.10-.Lswitch.table.pkcs1_c_status_text.177.rel
+	.long	.Lstatic.11-.Lswitch.table.pkcs1_c_status_text.177.rel
+	.long	.Lstatic.12-.Lswitch.table.pkcs1_c_status_text.177.rel
+	.long	.Lstatic.13-.Lswitch.table.pkcs1_c_status_text.177.rel
+	.long	.Lstatic.14-.Lswitch.table.pkcs1_c_status_text.177.rel
+	.long	.Lstatic.15-.Lswitch.table.pkcs1_c_status_text.177.rel
+	.long	.Lstatic.16-.Lswitch.table.pkcs1_c_status_text.177.rel
+	.long	.Lstatic.17-.Lswitch.table.pkcs1_c_status_text.177.rel
+	.long	.Lstatic.18-.Lswitch.table.pkcs1_c_status_text.177.rel
+	.long	.Lstatic.19-.Lswitch.table.pkcs1_c_status_text.177.rel
+	.long	.Lstatic.21-.Lswitch.table.pkcs1_c_status_text.177.rel
+	.long	.Lstatic.21-.Lswitch.table.pkcs1_c_status_text.177.rel
+	.long	.Lstatic.21-.Lswitch.table.pkcs1_c_status_text.177.rel
+	.long	.Lstatic.20-.Lswitch.table.pkcs1_c_status_text.177.rel
+	.size	.Lswitch.table.pkcs1_c_status_text.177.rel, 88
 
 	.ident	"rattle logic=dac8208d650f15bf3e2dc313a14fa4c783a3acf887bdfab66e1714b038d9e11b"
 	.section	".note.GNU-stack","",@progbits

@@ -1,32 +1,14 @@
 -- Contents that were read whole, and the number in them.
-use Rattle.std.proofs.Common.{◌≡◌, ℕ, ◌<◌, ◌≤◌, List, [], ◌∷◌, length, take, drop, take_all, refl, sym, ap, ◌∙◌, arith}
-use Rattle.std.proofs.Common.{inl, inr, Result, Ok, Err, Some, None, false, suc, zero}
+use Rattle.std.proofs.Common.{◌≡◌, ℕ, ◌<◌, ◌≤◌, List, [], ◌∷◌, refl, ap, arith}
+use Rattle.std.proofs.Common.{inl, inr, Result, Ok, Err, suc, zero}
 use Rattle.std.specs.Prelude.{nat_lt, ◌==◌}
 use Rattle.std.specs.Int.Digits.{number_from_digits}
 use Rattle.std.proofs.lemmas.Bool.Decides.{nat_tests}
-use Rattle.std.proofs.lemmas.Grind.{common_steps}
-use Rattle.der_core.specs.Input.{Input, read_from, front_of}
-use Rattle.der_core.specs.Laws.Input.{ok_pair}
 use Rattle.der_core.specs.Integer.{IsCanonical, IntegerContents, SmallContents}
 use Rattle.der_core.specs.IntegerReading.{integer_of, as_small, small_of}
 use Rattle.der_core.specs.Laws.LengthReading.{chosen}
 use Rattle.der_core.specs.Encodings.{AreBytes}
 use Rattle.der_core.specs.declared.error.ErrorKind.{ErrorKind}
-use Rattle.der_core.specs.Reading.{HoldsBytes}
-
-pub empty_is : (x : List ℕ) → length x ≡ 0 → x ≡ []
-empty_is [] e = refl
-empty_is (b ∷ x) e = absurd (omega (arith, e))
-
--- All that was left was read, and nothing is left.
-pub all_taken : (before : Input) (n : ℕ) (bytes rest : List ℕ) → HoldsBytes before n
-    → read_from before (front_of n) ≡ Ok (bytes, rest) → (before ≡ Some bytes) × (rest ≡ [])
-all_taken None n bytes rest h r = absurd h
-all_taken (Some c) n bytes rest h r =
-    let room : nat_lt (length c) n ≡ false = grind (arith, nat_tests, h) in
-    let p = ok_pair (take n c) bytes (drop n c) rest (rw room at r) in
-    let none : length rest ≡ 0 = rw (← p.1) (grind (arith, common_steps, h)) in
-    (ap (λ l. Some l) (sym (take_all n c (omega (arith, h))) ∙ p.0), empty_is rest none)
 
 one_octet : (x : ℕ) → AreBytes (x ∷ []) → IsCanonical (x ∷ [])
 one_octet zero b = inl refl

@@ -1,17 +1,17 @@
 -- What the parts of an encoding say of the whole.
-use Rattle.std.proofs.Common.{ℕ, List, [], ◌∷◌, ◌++◌, ◌≡◌, ◌<◌, ◌≤◌, ◌+◌, ◌^◌, length, refl, sym, ap, ◌∙◌, arith, map}
+use Rattle.std.proofs.Common.{ℕ, List, [], ◌∷◌, ◌++◌, ◌≡◌, ◌<◌, ◌≤◌, ◌^◌, length, refl, sym, ap, ◌∙◌, arith, map}
 use Rattle.std.proofs.Common.{append_assoc, length-append, append-nil}
 use Rattle.std.proofs.lemmas.List.{append_cancel_left}
 use Rattle.der_core.specs.Length.{IsLength, length_octets}
 use Rattle.std.specs.Prelude.{IsTrue}
 use Rattle.der_core.specs.Tag.{is_allowed}
 use Rattle.der_core.specs.Laws.Tags.{allowed_below}
-use Rattle.der_core.specs.Encodings.{AreBytes, Is, Joins, Then, IsDelimited, IsOfBytes, MeansOne, AtMostOne}
+use Rattle.der_core.specs.Encodings.{AreBytes, Joins, Then, IsDelimited, IsOfBytes, MeansOne, AtMostOne}
 use Rattle.der_core.specs.Tlv.{Tlv, tlv}
 use Rattle.der_core.specs.Writing.{IsLeast}
 use Rattle.der_core.specs.Laws.Lists.{same_cons, cons_path, same_fronts}
-use Rattle.der_core.specs.Laws.Length.{length_split, length_same, length_grows, length_made, length_octets-are}
-use Rattle.der_core.specs.Laws.Length.{length_octets-only, length_octets-within, length_few, length_of_bytes}
+use Rattle.der_core.specs.Laws.Length.{length_split, length_same, length_grows, length_octets-are, length_octets-only}
+use Rattle.der_core.specs.Laws.Length.{length_octets-within, length_of_bytes}
 
 -- Two encodings at the front of the same bytes are one encoding, with one tag and contents that both hold of.
 pub tlv_split : {t u : ℕ} {P Q : List ℕ → Type 0} (x y x' y' : List ℕ) → Tlv t P x → Tlv u Q x' → x ++ y ≡ x' ++ y'
@@ -57,11 +57,6 @@ joins_at_most_one (P ∷ ps) m x y (a, b, p, i, e) (a', b', q, j, f) =
     let r = joins_at_most_one ps m.1 b b' i j in
     rw (e, f, s, r)
 
-pub map_at_most_one : {V : Type 0} (Grammar : V → List ℕ → Type 0) → ((v : V) → AtMostOne (Grammar v)) → (vs : List V)
-    → AllAtMostOne (map Grammar vs)
-map_at_most_one Grammar m [] = tt
-map_at_most_one Grammar m (v ∷ vs) = (m v, map_at_most_one Grammar m vs)
-
 -- A delimited part in front of two splits of the same bytes.
 pub then_step : {V : Type 0} {Grammar : V → List ℕ → Type 0} → IsDelimited Grammar
     → {Ps Qs : List ℕ → Type 0} (v w : V) (c : List ℕ) → Then (Grammar v) Ps c → Then (Grammar w) Qs c
@@ -84,13 +79,6 @@ joins_map Grammar d (v ∷ vs) [] c (x, y, q, j, f) e =
 joins_map Grammar d (v ∷ vs) (w ∷ ws) c p q =
     let s = then_step d v w c p q in
     cons_path s.0 (joins_map Grammar d vs ws s.1 s.2 s.3)
-
--- Contents that aren't too long have an encoding.
-pub tlv_made : (t : ℕ) (P : List ℕ → Type 0) (c : List ℕ) → P c → length c < 2 ^ 128
-    → (encoding : List ℕ) × (p : Tlv t P encoding) × (p.contents ≡ c)
-tlv_made t P c p l =
-    let o = length_made (length c) l in
-    (t ∷ o.0 ++ c, record { octets = o.0; contents = c; counted = o.1; holds = p; written = refl }, refl)
 
 -- What is written.
 module _ {V : Type 0} (tag : ℕ) (Contents : V → List ℕ → Type 0) (written : V → List ℕ) where
@@ -156,22 +144,6 @@ joins_last c (x, y, p, e, h) = let same : c ≡ x = h ∙ ap (λ l. x ++ l) e �
 
 pub last_holds : {P : List ℕ → Type 0} (x : List ℕ) → P x → Joins (P ∷ []) x
 last_holds x p = (x, [], p, refl, sym (append-nil x))
-
--- An encoding is little longer than its contents.
-pub tlv_little_longer : {t : ℕ} {P : List ℕ → Type 0} (encoding : List ℕ) (p : Tlv t P encoding)
-    → length encoding ≤ length p.contents + 128
-tlv_little_longer encoding p =
-    rw p.written (omega (arith, length_few (length p.contents) p.octets p.counted, length-append p.octets p.contents))
-
--- The length of an encoding, by that of its contents.
-pub tlv_length : (n t : ℕ) (c encoding : List ℕ) → length c ≡ n → Tlv t (Is c) encoding
-    → length encoding ≡ 1 + length (length_octets n) + n
-tlv_length n t c encoding e p =
-    let same : p.contents ≡ c = p.holds in
-    let count : length p.contents ≡ n = ap length same ∙ e in
-    let counted : IsLength n p.octets = rw count at p.counted in
-    let form : p.octets ≡ length_octets n = length_octets-only n p.octets counted in
-    omega (arith, ap length p.written, ap length form, count, length-append p.octets p.contents)
 
 -- Bytes joined are bytes.
 pub bytes_append : (x y : List ℕ) → AreBytes x → AreBytes y → AreBytes (x ++ y)

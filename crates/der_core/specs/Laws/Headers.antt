@@ -1,19 +1,18 @@
 -- Laws of headers and encodings.
 use Rattle.std.proofs.Common.{◌≡◌, ℕ, ◌-◌, ◌≤◌, List, [], ◌∷◌, ◌++◌, length, take, refl, sym, ap, ◌∙◌, arith}
-use Rattle.std.proofs.Common.{length-append, append_assoc, inr, ⊎_elim, Result, Ok, Err, true, Some, None}
+use Rattle.std.proofs.Common.{length-append, append_assoc, ⊎_elim, Result, Ok, Err, true}
 use Rattle.std.specs.Prelude.{nat_lt, ◌==◌, IsTrue}
 use Rattle.std.specs.Int.Digits.{number_from_digits}
 use Rattle.der_core.specs.Encodings.{AreBytes}
 use Rattle.der_core.specs.Length.{IsLength, limit}
 use Rattle.der_core.specs.Tlv.{Tlv}
-use Rattle.der_core.specs.Headers.{LengthEncoding, HeaderEncoding}
-use Rattle.der_core.specs.Reading.{ReadsEncoding, TellsOfBytes}
-use Rattle.der_core.specs.declared.error.Error.{Error}
+use Rattle.der_core.specs.Headers.{HeaderEncoding}
+use Rattle.der_core.specs.Reading.{TellsOfBytes}
 use Rattle.der_core.specs.Tag.{is_allowed}
 use Rattle.der_core.specs.declared.error.ErrorKind.{ErrorKind}
 use Rattle.der_core.specs.declared.error.ErrorKind.TheVariants.{Incomplete, IndefiniteLength, Overflow, Overlength}
 use Rattle.der_core.specs.declared.error.ErrorKind.TheVariants.{TagUnknown}
-use Rattle.der_core.specs.Input.{Input, left_in, Reads, is_overlong, long_length_at, length_at, header_at, with_tag}
+use Rattle.der_core.specs.Input.{is_overlong, long_length_at, length_at, header_at, with_tag}
 use Rattle.der_core.specs.Laws.Tells.{guard_tells, is_incomplete}
 use Rattle.der_core.specs.Laws.Input.{ok_pair}
 use Rattle.der_core.specs.Laws.LengthReading.{chosen, length_at-sound, length_at-complete}
@@ -70,7 +69,7 @@ long_length_at-tells m b k e =
     (guard_tells (nat_lt limit (number_from_digits 256 (take m b))) Overflow k _ (λ no. cc, λ no. cc, λ no. cc)
     (λ is. cc))) e
 
-length_at-tells : (b : List ℕ) (k : ErrorKind) → length_at b ≡ Err k → TellsOfBytes k
+pub length_at-tells : (b : List ℕ) (k : ErrorKind) → length_at b ≡ Err k → TellsOfBytes k
 unfolding length_at
 length_at-tells [] k e = is_incomplete (let same : Incomplete ≡ k = cc in sym same)
 length_at-tells (x ∷ b) k e =
@@ -91,51 +90,7 @@ header_at-tells (x ∷ b) k e =
     (λ w. let is = w.1 in let same : TagUnknown x ≡ k = cc in (λ no. cc, λ no. cc, λ no. cc))
     (chosen (is_allowed x) _ _ _ e)
 
--- If f reads exactly the encodings, then a call that returns what f reads is one that ReadsEncoding describes.
-module _ {Y : Type 0} (f : List ℕ → Result (Y × List ℕ) ErrorKind) (encoding : Y → List ℕ → Type 0)
-    (sound : (i rest : List ℕ) (y : Y) → AreBytes i → f i ≡ Ok (y, rest)
-    → (b : List ℕ) × (i ≡ b ++ rest) × encoding y b)
-    (complete : (y : Y) (b rest : List ℕ) → encoding y b → f (b ++ rest) ≡ Ok (y, rest))
-    (tells : (i : List ℕ) (k : ErrorKind) → f i ≡ Err k → TellsOfBytes k) where
-  pub exact_reads : {X : Type 0} (view : X → Y) (r : Result X Error) (before after : Input) → AreBytes (left_in before)
-      → Reads view r before after f → ReadsEncoding view encoding (λ _. ⊥) r before after
-  exact_reads view (Ok x) None after bytes h = let no = h.1 in cc
-  exact_reads view (Ok x) (Some i) after bytes h =
-      let p = sound i h.0 (view x) bytes h.1 in
-      (p.0, h.0, ap (λ l. Some l) p.1, h.2, p.2)
-  exact_reads view (Err e) None after bytes h = let kind = h.0 in (h.1, λ _. cc, λ i is. cc)
-  exact_reads view (Err e) (Some i) after bytes h = (
-    h.1,
-    λ none. cc,
-    λ j is.
-        let same : i ≡ j = cc in
-        inr (
-          tells i e.kind h.0,
-          λ y b rest split t.
-              let found : f i ≡ Ok (y, rest) = ap f (same ∙ split) ∙ complete y b rest t in
-              let no = sym h.0 ∙ found in cc,
-        ),
-  )
-
-length_sound : (i rest : List ℕ) (n : ℕ) → AreBytes i → length_at i ≡ Ok (n, rest)
-    → (b : List ℕ) × (i ≡ b ++ rest) × LengthEncoding n b
-length_sound i rest n bytes e = let p = length_at-sound i rest n bytes e in (p.0, p.2, (p.3, p.1))
-
-pub length_reads : {X : Type 0} (view : X → ℕ) (r : Result X Error) (before after : Input) → AreBytes (left_in before)
-    → Reads view r before after length_at → ReadsEncoding view LengthEncoding (λ _. ⊥) r before after
-length_reads =
-    exact_reads length_at LengthEncoding length_sound (λ n b rest t. length_at-complete n b rest t.1 t.0)
-    length_at-tells
-
 pub header_sound : (i rest : List ℕ) (h : ℕ × ℕ) → AreBytes i → header_at i ≡ Ok (h, rest)
     → (b : List ℕ) × (i ≡ b ++ rest) × HeaderEncoding h b
 header_sound i rest h bytes e =
     let p = header_at-sound i rest h.0 h.1 bytes e in (h.0 ∷ p.0, p.2, (p.4, p.0, (p.3, p.1), refl))
-
-pub header_complete : (h : ℕ × ℕ) (b rest : List ℕ) → HeaderEncoding h b → header_at (b ++ rest) ≡ Ok (h, rest)
-header_complete h b rest t = rw t.3 (header_at-complete h.0 h.1 t.1 rest t.0 t.2.1 t.2.0)
-
-pub header_reads : {X : Type 0} (view : X → ℕ × ℕ) (r : Result X Error) (before after : Input)
-    → AreBytes (left_in before) → Reads view r before after header_at
-    → ReadsEncoding view HeaderEncoding (λ _. ⊥) r before after
-header_reads = exact_reads header_at HeaderEncoding header_sound header_complete header_at-tells

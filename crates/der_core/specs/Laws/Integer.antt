@@ -1,6 +1,5 @@
 -- INTEGER: each encoding means one number, and each number has one encoding.
-use Rattle.std.proofs.Common.{take_all, ℕ, suc, List, [], ◌∷◌, ◌≡◌, ◌<◌, ◌≤◌, ◌-◌, ◌+◌, ◌^◌, length, get_or, take, drop}
-use Rattle.std.proofs.Common.{refl, sym, ap, ◌∙◌, arith, inl, inr}
+use Rattle.std.proofs.Common.{ℕ, suc, List, [], ◌∷◌, ◌≡◌, ◌<◌, ◌≤◌, length, refl, sym, ap, ◌∙◌, arith, inl, inr}
 use Rattle.std.specs.Prelude.{slice_index}
 use Rattle.std.specs.Int.Digits.{number_from_digits}
 use Rattle.der_core.specs.Tag.{integer_tag}
@@ -14,7 +13,7 @@ use Rattle.std.proofs.lemmas.Bool.Decides.{nat_tests}
 use Rattle.std.specs.Prelude.{nat_lt, true, false}
 use Rattle.der_core.specs.Laws.Lists.{same_cons}
 use Rattle.der_core.specs.Laws.Numbers.{base256_same, base256_pos}
-use Rattle.der_core.specs.Laws.Encodings.{tlv_delimited, tlv_at_most_one, tlv_made, tlv_little_longer}
+use Rattle.der_core.specs.Laws.Encodings.{tlv_delimited, tlv_at_most_one}
 
 first_of_same : (x y : List ℕ) → x ≡ y → slice_index x 0 ≡ slice_index y 0
 first_of_same x y e = ap (λ z. slice_index z 0) e
@@ -40,9 +39,6 @@ contents_at_most_one n x y (p, inl a) (q, inl b) = a.1 ∙ sym b.1
 contents_at_most_one n x y (p, inl a) (q, inr b) = absurd (omega arith)
 contents_at_most_one n x y (p, inr a) (q, inl b) = absurd (omega arith)
 contents_at_most_one n x y (p, inr a) (q, inr b) = a.1 ∙ sym b.1
-
-pub integer_at_most_one : (bytes : List ℕ) → AtMostOne (Integer bytes)
-integer_at_most_one bytes = tlv_at_most_one integer_tag (IntegerContents bytes) (contents_at_most_one bytes)
 
 -- A number has one list of canonical bytes.
 pub canonical_same : (x y : List ℕ) → IsCanonical x → IsCanonical y
@@ -89,10 +85,10 @@ holds_canonical (x ∷ []) h = elim (cases_lt 0 x) [
 holds_canonical (x ∷ y ∷ ys) h = inr (are_bytes (x ∷ y ∷ ys) h.2, h.1 (omega arith))
 
 -- What is written.
-written_small : (bytes : List ℕ) → slice_index bytes 0 < 128 → integer_contents bytes ≡ bytes
+pub written_small : (bytes : List ℕ) → slice_index bytes 0 < 128 → integer_contents bytes ≡ bytes
 written_small bytes h = let e : nat_lt (slice_index bytes 0) 128 ≡ true = grind (arith, nat_tests) in rw e refl
 
-written_large : (bytes : List ℕ) → 128 ≤ slice_index bytes 0 → integer_contents bytes ≡ 0 ∷ bytes
+pub written_large : (bytes : List ℕ) → 128 ≤ slice_index bytes 0 → integer_contents bytes ≡ 0 ∷ bytes
 written_large bytes h = let e : nat_lt (slice_index bytes 0) 128 ≡ false = grind (arith, nat_tests) in rw e refl
 
 pub integer_relates : (bytes : List ℕ) → IsCanonical bytes → IntegerContents bytes (integer_contents bytes)
@@ -107,29 +103,6 @@ integer_shortest bytes c p =
     let same : c ≡ integer_contents bytes =
     contents_at_most_one bytes c (integer_contents bytes) p (integer_relates bytes p.0) in
     (p.0, omega (arith, ap length same), (λ (_ : length c ≤ length (integer_contents bytes)). same))
-
--- What is left behind a padding zero.
-pub tail_holds : (xs : List ℕ) → 2 ≤ length xs → 128 ≤ get_or xs 1 0 → ((i : ℕ) → get_or xs i 0 < 256)
-    → HoldsNumber (take (length xs - 1) (drop 1 xs))
-tail_holds [] n h b = absurd (omega (arith, n))
-tail_holds (x ∷ []) n h b = absurd (omega (arith, n))
-tail_holds (x ∷ y ∷ ys) n h b =
-    let e : take (length (x ∷ y ∷ ys) - 1) (y ∷ ys) ≡ y ∷ ys =
-    take_all (length (x ∷ y ∷ ys) - 1) (y ∷ ys) (omega arith) in
-    rw e (omega arith, (λ _. omega (arith, h)), λ i. b (suc i))
-
--- A number has an encoding, which is little longer than the number.
-pub integer_made : (bytes : List ℕ) → IsCanonical bytes → length bytes < 2 ^ 64
-    → (encoding : List ℕ) × Integer bytes encoding × (length encoding < 2 ^ 65)
-integer_made bytes p h =
-    let few : length (integer_contents bytes) ≤ length bytes + 1 = elim (cases_lt (slice_index bytes 0) 128) [
-      | inl l ↦ omega (arith, ap length (written_small bytes l))
-      | inr l ↦ omega (arith, ap length (written_large bytes l))
-    ] in
-    let made =
-    tlv_made integer_tag (IntegerContents bytes) (integer_contents bytes) (integer_relates bytes p)
-    (omega (arith, few, h)) in
-    (made.0, made.1, omega (arith, few, h, ap length made.2, tlv_little_longer made.0 made.1))
 
 -- Contents of numbers are bytes.
 canonical_of_bytes : (bytes : List ℕ) → IsCanonical bytes → AreBytes bytes

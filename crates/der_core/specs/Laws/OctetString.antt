@@ -2,7 +2,7 @@
 use Rattle.std.proofs.Common.{ℕ, List, ◌≤◌, length, refl, sym, ap, ◌∙◌, arith}
 use Rattle.der_core.specs.Tag.{octet_string_tag}
 use Rattle.der_core.specs.Encodings.{AreBytes, AtMostOne, IsDelimited, MeansOne, IsOfBytes}
-use Rattle.der_core.specs.Laws.Encodings.{tlv_at_most_one, tlv_delimited}
+use Rattle.der_core.specs.Laws.Encodings.{tlv_delimited}
 use Rattle.der_core.specs.OctetString.{OctetContents, OctetString}
 use Rattle.der_core.specs.Writing.{IsLeast}
 
@@ -23,6 +23,3 @@ octet_string_delimited = tlv_delimited octet_string_tag OctetContents octets_mea
 
 pub octets_at_most_one : (octets : List ℕ) → AtMostOne (OctetContents octets)
 octets_at_most_one octets x y p q = p.1 ∙ sym q.1
-
-pub octet_string_at_most_one : (octets : List ℕ) → AtMostOne (OctetString octets)
-octet_string_at_most_one octets = tlv_at_most_one octet_string_tag (OctetContents octets) (octets_at_most_one octets)

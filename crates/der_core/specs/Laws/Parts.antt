@@ -1,25 +1,15 @@
 -- Parts in a row: what the laws of a first part and of what follows say of both.
-use Rattle.std.proofs.Common.{ℕ, List, [], ◌≤◌, ◌≡◌, length, refl, sym, ap, ◌∙◌, arith, length-append, Option, Some, Result, Ok, Err, inl, inr}
-use Rattle.std.specs.Prelude.{IfOk, OnOk, OnErr, ◌++◌, drop}
-use Rattle.der_core.specs.Laws.Fronts.{front_is, rest_is}
-use Rattle.der_core.specs.declared.error.Error.{Error}
-use Rattle.der_core.specs.Document.{Means, IsMeaning, IsShortest, IsWrittenAlone}
-use Rattle.der_core.specs.Laws.Shortest.{means_one}
-use Rattle.der_core.specs.declared.error.ErrorKind.{ErrorKind}
+use Rattle.std.proofs.Common.{ℕ, List, [], ◌≤◌, ◌≡◌, length, refl, sym, ap, ◌∙◌, arith, length-append, Option, inl}
+use Rattle.std.proofs.Common.{inr}
 use Rattle.der_core.specs.Encodings.{IsDelimited, IsOfBytes, MeansOne, AtMostOne}
-use Rattle.der_core.specs.Faults.{AreNone, AreFirst, EncodingFault, LastFault, TaggedLastFault}
-use Rattle.der_core.specs.declared.tag.Tag.{Tag}
-use Rattle.der_core.specs.Tlv.{Tlv}
-use Rattle.der_core.specs.Input.{Input}
-use Rattle.der_core.specs.Optional.{Optional, HasOptional, written_optional}
-use Rattle.der_core.specs.Reading.{AllocatesLast, NoneHas, NoneIn, ReadsAll}
+use Rattle.der_core.specs.Optional.{HasOptional, written_optional}
+use Rattle.der_core.specs.Reading.{AllocatesLast}
 use Rattle.der_core.specs.Writing.{WritesEncodings, WritesLeast}
 use Rattle.der_core.specs.Laws.Encodings.{then_step, then_of_bytes, then_holds, then_least, last_of_bytes, last_holds}
 use Rattle.der_core.specs.Laws.Encodings.{last_least, joins_last}
-use Rattle.der_core.specs.Laws.Faults.{then_fault_none, then_fault_first, last_fault_none, tagged_last_none}
 use Rattle.der_core.specs.Laws.Optional.{optional_at_most_one, optional_of_bytes, optional_relates}
 use Rattle.der_core.specs.Laws.Optional.{optional_shortest}
-use Rattle.der_core.specs.Parts.{PartsContents, NoParts, HaveParts, written_parts, PartsFault, LastContents, AllocatesInParts}
+use Rattle.der_core.specs.Parts.{PartsContents, NoParts, HaveParts, written_parts, LastContents, AllocatesInParts}
 
 module _ {A B : Type 0} (First : A → List ℕ → Type 0) (Rest : B → List ℕ → Type 0) where
   pub parts_mean_one : IsDelimited First → MeansOne Rest → MeansOne (PartsContents First Rest)
@@ -35,17 +25,6 @@ module _ {A B : Type 0} (First : A → List ℕ → Type 0) (Rest : B → List �
       → AtMostOne (PartsContents First Rest v)
   parts_at_most_one first rest v x y (a, b, p, i, e) (c, d, q, j, f) =
       let s = first v.0 a c p q in let r = rest v.1 b d i j in rw (e, f, s, r)
-
-  module _ (Fault RestFault : ErrorKind → List ℕ → Type 0) (d : IsDelimited First)
-      (none : AreNone (NoneIn First) Fault) where
-    pub parts_fault_none : AreNone (NoneHas Rest) RestFault
-        → AreNone (NoneHas (PartsContents First Rest)) (PartsFault First Fault RestFault)
-    parts_fault_none rest =
-        then_fault_none First Fault (λ _. RestFault) d none (λ (v : A × B). v.0) (λ v. Rest v.1)
-        (λ a k c within fault. let told = rest k c within fault in (told.0, λ v _ p. told.1 v.1 p))
-
-    pub parts_fault_first : AreFirst Fault → AreFirst RestFault → AreFirst (PartsFault First Fault RestFault)
-    parts_fault_first first rest = then_fault_first First Fault (λ _. RestFault) d none first (λ _. rest)
 
   module _ (has : A → Type 0) (rest_has : B → Type 0) (encoding : A → List ℕ) (rest : B → List ℕ) where
     pub parts_relate : WritesEncodings First has encoding → WritesEncodings Rest rest_has rest
@@ -92,11 +71,6 @@ module _ {P : Type 0} (Parts : P → List ℕ → Type 0) (Have : P → Type 0) 
 
   module _ {V : Type 0} (contents : V → List ℕ → Type 0) (has : V → Type 0) (written : V → List ℕ)
       (is : (v : V) → IsParts (contents v) (has v) (written v) Parts Have write) where
-    pub in_parts_none : (Fault : ErrorKind → List ℕ → Type 0) → AreNone (NoneHas Parts) Fault
-        → AreNone (NoneHas contents) Fault
-    in_parts_none Fault none k c within fault =
-        let told = none k c within fault in (told.0, λ v p. told.1 (is v).parts ((is v).in_parts c p))
-
     pub in_parts_at_most_one : ((p : P) → AtMostOne (Parts p)) → (v : V) → AtMostOne (contents v)
     in_parts_at_most_one one v x y p q =
         let t = is v in one t.parts x y (t.in_parts x p) (t.in_parts y q)
@@ -118,11 +92,6 @@ module _ {V : Type 0} (Grammar : V → List ℕ → Type 0) where
   pub last_part_at_most_one : ((v : V) → AtMostOne (Grammar v)) → (v : Option V) → AtMostOne (LastContents Grammar v)
   last_part_at_most_one one v x y p q = optional_at_most_one Grammar one v x y (joins_last x p) (joins_last y q)
 
-  pub last_part_none : (Fault : ErrorKind → List ℕ → Type 0) → IsDelimited Grammar → AreNone (NoneIn Grammar) Fault
-      → AreNone (NoneHas (LastContents Grammar)) (LastFault Grammar Fault)
-  last_part_none Fault d none k c within fault =
-      let told = last_fault_none Grammar Fault d none k c within fault in (told.0, λ v p. told.1 v (joins_last c p))
-
   module _ (has : V → Type 0) (encoding : V → List ℕ) where
     pub last_part_relates : WritesEncodings Grammar has encoding
         → WritesEncodings (LastContents Grammar) (HasOptional has) (written_optional encoding)
@@ -134,21 +103,6 @@ module _ {V : Type 0} (Grammar : V → List ℕ → Type 0) where
     last_part_shortest least v c p =
         last_least (written_optional encoding v) (optional_shortest Grammar has encoding least v) c p
 
-  -- as `decode_last` gives it
-  pub last_gives : {before after : Input} (v : Option V)
-      → ((c : List ℕ) × (before ≡ Some c) × (after ≡ Some []) × Optional Grammar v c)
-      → (c : List ℕ) × (before ≡ Some c) × (after ≡ Some []) × LastContents Grammar v c
-  last_gives v g = (g.0, g.1, g.2, last_holds g.0 g.3)
-
--- A last part that is known by its tag.
-pub last_by_tag_none : {V : Type 0} (tag : Tag) (Contents : V → List ℕ → Type 0) (Fault : ErrorKind → List ℕ → Type 0)
-    → MeansOne Contents → AreNone (NoneHas Contents) Fault
-    → AreNone (NoneHas (LastContents (λ v. Tlv tag.octet (Contents v))))
-    (TaggedLastFault tag (λ v. Tlv tag.octet (Contents v)) (EncodingFault tag Fault))
-last_by_tag_none tag Contents Fault means none k c within fault =
-    let told = tagged_last_none tag Contents Fault means none k c within fault in
-    (told.0, λ v p. told.1 v (joins_last c p))
-
 -- Where no part asks for memory.
 pub parts_ask_none : {A : Type 0} (First : A → List ℕ → Type 0) {first rest : List ℕ → Type 0}
     → ((b : List ℕ) → first b → ⊥) → ((c : List ℕ) → rest c → ⊥) → (c : List ℕ) → AllocatesInParts First first rest c → ⊥
@@ -157,26 +111,3 @@ parts_ask_none First none behind c (inr (v, (x, y, t, w, is))) = behind y w
 
 pub last_part_asks_none : {may : List ℕ → Type 0} → ((b : List ℕ) → may b → ⊥) → (c : List ℕ) → AllocatesLast may c → ⊥
 last_part_asks_none none c w = none w.1.0 w.1.3
-
--- What a whole slice means, if it means something, where no memory is asked for.
-module _ {X V : Type 0} (value : X → V) (Grammar : V → List ℕ → Type 0) (may : List ℕ → Type 0) (b : List ℕ) where
-  pub reads_meaning : IsDelimited Grammar → (r : Result X Error) → ReadsAll value Grammar may r b
-      → IfOk r (λ x. IsMeaning Grammar b (value x))
-  reads_meaning d (Ok x) p = (p, λ w q. means_one d w (value x) b q.1 p.1)
-  reads_meaning d (Err e) p = tt
-
-  pub reads_none : ((a : List ℕ) → may a → ⊥) → (r : Result X Error) → ReadsAll value Grammar may r b
-      → OnErr r ((v : V) → Means Grammar b v → ⊥)
-  reads_none never (Ok x) p = tt
-  reads_none never (Err e) (inl w) = absurd (never w.1.0 w.1.3)
-  reads_none never (Err e) (inr w) = w.1
-
--- A value with at most one encoding, written to the front of a slice.
-pub written_alone : {V : Type 0} (Grammar : V → List ℕ → Type 0) (v : V) (encoding old new : List ℕ) (r : Result ℕ Error)
-    → AtMostOne (Grammar v) → IfOk r (λ n. (n ≡ length encoding) × (new ≡ encoding ++ drop n old))
-    → OnOk r (IsShortest Grammar v encoding) → IfOk r (IsWrittenAlone Grammar v old new)
-written_alone Grammar v encoding old new (Ok n) one made s =
-    let rest = rest_is encoding old new n made.0 made.1 in
-    let is = front_is encoding old new n made.0 made.1 in
-    (rest.0, rw is s, rw is (λ other p. one other encoding p.1 s.spells.1), rest.1)
-written_alone Grammar v encoding old new (Err e) one made s = tt

@@ -1,15 +1,8 @@
--- Rows of parts with what is written of them, put together part by part; and contents that are a row in front of others
--- that depend on it.
-use Rattle.std.proofs.Common.{ℕ, List, [], ◌++◌, ◌≡◌, refl, sym, ap, ◌∙◌, append_assoc, inl, inr, ⊎_elim, Option, Some}
-use Rattle.std.proofs.Common.{None}
-use Rattle.std.specs.Prelude.{◌⊎◌}
-use Rattle.der_core.specs.declared.error.ErrorKind.{ErrorKind}
+-- Rows of parts with what is written of them, put together part by part; and a row that is in front of a rest.
+use Rattle.std.proofs.Common.{ℕ, List, [], ◌++◌, ◌≡◌, refl, sym, ap, ◌∙◌, append_assoc, Option}
 use Rattle.der_core.specs.Encodings.{Then}
-use Rattle.der_core.specs.Faults.{ThenFault}
-use Rattle.der_core.specs.Input.{Input}
 use Rattle.der_core.specs.Optional.{HasOptional, written_optional}
-use Rattle.der_core.specs.Parts.{AllocatesInFront, HaveParts, LastContents, NoParts, PartsContents, written_parts}
-use Rattle.der_core.specs.Reading.{AllocatesBehind}
+use Rattle.der_core.specs.Parts.{HaveParts, LastContents, NoParts, PartsContents, written_parts}
 use Rattle.der_core.specs.SequenceOf.{AllHave, ItemsContents, all_encodings}
 use Rattle.der_core.specs.Tlv.{Tlv, tlv}
 use Rattle.der_core.specs.Writing.{WritesEncodings, WritesLeast}
@@ -17,7 +10,6 @@ use Rattle.der_core.specs.Laws.Encodings.{tlv_relates, tlv_shortest}
 use Rattle.der_core.specs.Laws.Parts.{last_part_relates, last_part_shortest, no_parts_relate, no_parts_shortest}
 use Rattle.der_core.specs.Laws.Parts.{parts_relate, parts_shortest}
 use Rattle.der_core.specs.Laws.SequenceOf.{items_relate, items_shortest}
-use Rattle.der_core.specs.Laws.Sequences.{ContentsFaulty, ContentsGive, some_same}
 
 -- Contents, which values have some, what is written of these, and that it is their shortest.
 pub record Written (V : Type 0) : Type 1 where
@@ -120,40 +112,3 @@ nothing_before c t = ([], c, refl, t, refl)
 
 pub behind_nothing : {T : List ℕ → Type 0} (c : List ℕ) → Then (λ b. b ≡ []) T c → T c
 behind_nothing c (a, b, e, t, is) = rw (is ∙ ap (λ l. l ++ b) e) t
-
--- Reading a row, and then what depends on it.
-module _ {A : Type 0} (Row : A → List ℕ → Type 0) (RowFault : ErrorKind → List ℕ → Type 0)
-    (Behind : A → ErrorKind → List ℕ → Type 0) (asked later : List ℕ → Type 0) where
-  pub front_faults : {e : ErrorKind} {before after : Input} → ContentsFaulty RowFault asked e before after
-      → ContentsFaulty (ThenFault Row RowFault Behind) (AllocatesInFront Row asked later) e before after
-  front_faults fails = (fails.0, λ c is. ⊎_elim (λ w. inl (w.0, inl w.1)) (λ f. inr (inl f)) (fails.1 c is))
-
-  pub later_faults : {e : ErrorKind} {before mid after : Input} (x : A)
-      → ((i : List ℕ) → before ≡ Some i → Then (Row x) (λ rest. mid ≡ Some rest) i)
-      → ContentsFaulty (Behind x) later e mid after
-      → ContentsFaulty (ThenFault Row RowFault Behind) (AllocatesInFront Row asked later) e before after
-  later_faults x gives fails = (
-    fails.0,
-    λ c is.
-        let g = gives c is in
-        ⊎_elim
-        (λ w. inl (w.0, inr (x, (g.0, g.1, g.2, w.1, g.4))))
-        (λ f. inr (inr (x, (g.0, g.1, g.2, f, g.4))))
-        (fails.1 g.1 g.3),
-  )
-
--- The same, with more said of the bytes that need memory.
-pub faults_asking : (Fault : ErrorKind → List ℕ → Type 0) {asked wanted : List ℕ → Type 0} {e : ErrorKind}
-    {before after : Input} → ((c : List ℕ) → asked c → wanted c) → ContentsFaulty Fault asked e before after
-    → ContentsFaulty Fault wanted e before after
-faults_asking Fault told fails = (fails.0, λ c is. ⊎_elim (λ w. inl (w.0, told c w.1)) inr (fails.1 c is))
-
--- The row and what depends on it were all that was left.
-pub all_gives : {Row Rest : List ℕ → Type 0} {mid after : Input} (before : Input)
-    → (before ≡ None → mid ≡ None) × ((i : List ℕ) → before ≡ Some i → Then Row (λ rest. mid ≡ Some rest) i)
-    → ContentsGive Rest mid after → ContentsGive (Then Row Rest) before after
-all_gives None gives more = let no : ◌≡◌ {A = Input} None (Some more.0) = sym (gives.0 refl) ∙ more.1 in cc
-all_gives (Some i) gives more =
-    let g = gives.1 i refl in
-    let same : g.1 ≡ more.0 = some_same g.1 more.0 (sym g.3 ∙ more.1) in
-    (i, refl, more.2, (g.0, g.1, g.2, rw same more.3, g.4))

@@ -1,8 +1,8 @@
 //! Unsigned numbers that own their bytes.
 ghost use Rattle.std.specs.Prelude.{◌≡◌, ◌≤◌, ◌<◌, ◌⊎◌, ℕ, List, length, OnOk, IfOk, IfErr};
 ghost use Rattle.der_core.specs.Length.{limit};
-ghost use Rattle.der_core.specs.Faults.{IntegerFault};
-ghost use Rattle.der_core.specs.Laws.Faults.{integer_fault_none, integer_fault_first};
+ghost use Rattle.der_core.specs.Laws.Readings.{integer_reads};
+ghost use Rattle.der_core.specs.IntegerReading.{integer_of};
 ghost use Rattle.der_core.specs.Integer.{HoldsNumber, IsCanonical, AreCanonicalOf, IntegerContents, integer_contents};
 ghost use Rattle.der_core.specs.IntegerReading.{WhyNoNumber, IsOutOfMemoryForNumber};
 ghost use Rattle.der_core.specs.Laws.Integer.{integer_means_one, integer_of_bytes, integer_relates, integer_shortest};
@@ -95,6 +95,10 @@ impl Contents for Uint {
 
     ghost written_contents = { integer_contents };
 
+    ghost read = { integer_of };
+
+    ghost reads = { integer_reads };
+
     ghost means_one = { integer_means_one };
 
     ghost contents_of_bytes = { integer_of_bytes };
@@ -115,8 +119,6 @@ impl<'a> DecodeValue<&'a [u8], Global> for Uint {
 
     ghost may_allocate = { λ c. (bytes : List ℕ) × IntegerContents bytes c };
 
-    ghost fault = { IntegerFault };
-
     fn decode_value<R: Reader<&'a [u8]>>(
         memory: Global,
         reader: &mut R,
@@ -128,10 +130,6 @@ impl<'a> DecodeValue<&'a [u8], Global> for Uint {
             Err(e) => Err(reader.error(e.kind())),
         }
     }
-
-    ghost fault_none = { integer_fault_none };
-
-    ghost fault_first = { integer_fault_first };
 }
 
 impl EncodeValue for Uint {

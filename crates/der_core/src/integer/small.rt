@@ -1,6 +1,6 @@
 //! INTEGER from 0 to 255, as `u8`.
 ghost use Rattle.std.specs.Prelude.{◌≤◌, ◌<◌, ℕ, ◌∷◌, [], length};
-ghost use Rattle.der_core.specs.Words.{limit, SmallFault, small_fault_none, small_fault_first, SmallContents};
+ghost use Rattle.der_core.specs.Words.{limit, small_reads, SmallContents};
 ghost use Rattle.der_core.specs.Words.{integer_contents, Answers, small_of, small_means_one, small_of_bytes};
 ghost use Rattle.der_core.specs.Words.{small_relates, small_shortest};
 
@@ -41,6 +41,10 @@ impl Contents for u8 {
 
     ghost written_contents = { λ n. integer_contents (n ∷ []) };
 
+    ghost read = { small_of };
+
+    ghost reads = { small_reads };
+
     ghost means_one = { small_means_one };
 
     ghost contents_of_bytes = { small_of_bytes };
@@ -59,8 +63,6 @@ impl EqualByValue for u8 {
 impl<'a, M: Memory> DecodeValue<&'a [u8], M> for u8 {
     ghost may_allocate = { λ _. ⊥ };
 
-    ghost fault = { SmallFault };
-
     #[inline(always)]
     fn decode_value<R: Reader<&'a [u8]>>(_memory: M, reader: &mut R, header: Header) -> Result<u8> {
         let contents = reader.read_slice(header.length)?;
@@ -69,10 +71,6 @@ impl<'a, M: Memory> DecodeValue<&'a [u8], M> for u8 {
             Err(e) => Err(reader.error(e.kind())),
         }
     }
-
-    ghost fault_none = { small_fault_none };
-
-    ghost fault_first = { small_fault_first };
 }
 
 impl EncodeValue for u8 {

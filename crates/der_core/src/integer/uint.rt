@@ -2,8 +2,7 @@
 ghost use Rattle.std.specs.Prelude.{◌≡◌, ◌≤◌, ◌<◌, ℕ, List, length, slice_index, OnOk, IfOk, IfErr, IsOk, ⊤};
 ghost use Rattle.std.specs.Int.Digits.{number_from_digits};
 ghost use Rattle.der_core.specs.Length.{limit};
-ghost use Rattle.der_core.specs.Faults.{IntegerFault};
-ghost use Rattle.der_core.specs.Laws.Faults.{integer_fault_none, integer_fault_first};
+ghost use Rattle.der_core.specs.Laws.Readings.{integer_reads};
 ghost use Rattle.der_core.specs.Integer.{HoldsNumber, IsCanonical, AreCanonicalOf, IntegerContents, integer_contents};
 ghost use Rattle.der_core.specs.IntegerReading.{integer_of, Answers, WhyNoNumber};
 ghost use Rattle.der_core.specs.Laws.Integer.{integer_means_one, integer_of_bytes, integer_relates, integer_shortest};
@@ -154,6 +153,10 @@ impl<'a> Contents for UintRef<'a> {
 
     ghost written_contents = { integer_contents };
 
+    ghost read = { integer_of };
+
+    ghost reads = { integer_reads };
+
     ghost means_one = { integer_means_one };
 
     ghost contents_of_bytes = { integer_of_bytes };
@@ -174,8 +177,6 @@ impl<'a, M: Memory> DecodeValue<&'a [u8], M> for UintRef<'a> {
 
     ghost may_allocate = { λ _. ⊥ };
 
-    ghost fault = { IntegerFault };
-
     fn decode_value<R: Reader<&'a [u8]>>(
         _memory: M,
         reader: &mut R,
@@ -187,10 +188,6 @@ impl<'a, M: Memory> DecodeValue<&'a [u8], M> for UintRef<'a> {
             Err(e) => Err(reader.error(e.kind())),
         }
     }
-
-    ghost fault_none = { integer_fault_none };
-
-    ghost fault_first = { integer_fault_first };
 }
 
 impl EncodeValue for UintRef<'_> {

@@ -2,7 +2,7 @@
 ghost use Rattle.std.specs.Prelude.{◌≡◌, ◌≤◌, length, List, ℕ, take, drop, IfOk, IfErr, IsOk, IsErrAnd, OnErr, None};
 ghost use Rattle.der_core.specs.Words.{Means, IsShortest, WhyNotWritten, AllocatesIn, sequence_tag, sequence, Tlv};
 ghost use Rattle.der_core.specs.Words.{encode_error};
-ghost use Rattle.pkcs1.specs.Words.{AllocatesForKey, PrivateKeyEncodingFault, RsaPrivateKeyFault, PrivateKey};
+ghost use Rattle.pkcs1.specs.Words.{AllocatesForKey, PrivateKey, private_key, rsa_private_key};
 ghost use Rattle.pkcs1.specs.Words.{PrivateKeyEncoding, IsOnlyEncoding, IsReadingError, WhyNoDocument};
 ghost use Rattle.pkcs1.specs.Words.{private_key_with, ListsNone, HasPrivateKey};
 ghost use Rattle.pkcs1.specs.Keys as grammar;
@@ -18,7 +18,7 @@ impl<U: Encode> RsaPrivateKey<U> {
     ghost use Rattle.der_core.specs.Words.{encoding_of};
 
     /// As `encode_into`. It looks for an empty list of other primes first, so its contract says the tag of `Value`.
-    fn encode_front(&self, out: &mut [u8]) -> crate::Result<usize>
+    fn encode_naming_tag(&self, out: &mut [u8]) -> crate::Result<usize>
         ensures shortest { let key = private_key_with U.value self.now in
             IfOk result (λ n. IsShortest (PrivateKeyEncoding U.encoding) key (take n out.new)) }
         ensures rest { IfOk result (λ n. (n ≤ length out.new) × (drop n out.new ≡ drop n out.old)) }
@@ -73,7 +73,7 @@ impl<U> RsaPrivateKey<U> {
             IfErr result (IsReadingError (PrivateKeyEncoding U.encoding) bytes asked) }
         ensures exact { let bytes = octets_of octets.entry in
             let asked = AllocatesIn (Tlv sequence_tag (AllocatesForKey U.encoding U.Decode.may_allocate)) bytes in
-            ErrsOrAsks (PrivateKeyEncodingFault U.encoding U.Decode.fault) bytes asked result }
+            ErrsOrAsks (private_key_with U.value) (private_key U.read_front bytes) asked result }
         ensures two_primes { ((encoding : List ℕ) → U.Decode.may_allocate encoding → ⊥)
             → (key : PrivateKey U.Value) → key.other_prime_infos ≡ None
             → Means (PrivateKeyEncoding U.encoding) (octets_of octets.entry) key → IsOk result }
@@ -87,14 +87,14 @@ impl<'a> RsaPrivateKey<UintRef<'a>> {
 
     /// Decodes a whole slice, as `from_der` does; the contract is stated over the grammar of private keys. Returns
     /// `OutOfMemory` only if a SEQUENCE that begins with an OtherPrimeInfo follows the eighth number.
-    pub fn decode_key(memory: Global, bytes: &'a [u8]) -> crate::Result<RsaPrivateKey<UintRef<'a>>>
+    pub fn decode_key(alloc: Global, bytes: &'a [u8]) -> crate::Result<RsaPrivateKey<UintRef<'a>>>
         ensures ok { IfOk result (λ key. IsTheMeaning grammar.RsaPrivateKey bytes.now (private_key_of key)) }
         ensures err { IfErr result (IsReadingError grammar.RsaPrivateKey bytes.now (MayAllocate bytes.now)) }
-        ensures exact { ErrsOrAsks RsaPrivateKeyFault bytes.now (MayAllocate bytes.now) result }
+        ensures exact { ErrsOrAsks private_key_of (rsa_private_key bytes.now) (MayAllocate bytes.now) result }
         ensures two_primes { (key : PrivateKey (List ℕ))
             → key.other_prime_infos ≡ None → Means grammar.RsaPrivateKey bytes.now key → IsOk result }
     {
-        Ok(RsaPrivateKey::from_der(memory, bytes)?)
+        Ok(RsaPrivateKey::from_der(alloc, bytes)?) // its numbers are parts of the bytes
     }
 
     /// Writes the key's only encoding to the front of a slice and returns its length, as `encode_into` does; the
@@ -110,7 +110,7 @@ impl<'a> RsaPrivateKey<UintRef<'a>> {
         ensures no_primes { ListsNone self.now.other_prime_infos
             → IsErrAnd result (IsAsn1 (λ e. e.kind ≡ ErrorKind.Value sequence)) }
     {
-        self.encode_front(out)
+        self.encode_naming_tag(out)
     }
 }
 
@@ -124,9 +124,10 @@ impl RsaPrivateKey<Uint> {
         ensures ok { let is_meaning = IsTheMeaning grammar.RsaPrivateKey bytes.now in
             IfOk result (λ key. is_meaning (private_key_with own_bytes_of key)) }
         ensures err { IfErr result (IsReadingError grammar.RsaPrivateKey bytes.now (OwnedKeyAllocates bytes.now)) }
-        ensures exact { ErrsOrAsks RsaPrivateKeyFault bytes.now (OwnedKeyAllocates bytes.now) result }
+        ensures exact { let asked = OwnedKeyAllocates bytes.now in
+            ErrsOrAsks (private_key_with own_bytes_of) (rsa_private_key bytes.now) asked result }
     {
-        Ok(RsaPrivateKey::from_der(alloc, bytes)?)
+        Ok(RsaPrivateKey::from_der(alloc, bytes)?) // its numbers are copies
     }
 
     /// Writes the key's only encoding to the front of a slice, as `encode_key` of `RsaPrivateKeyRef` does.
@@ -140,6 +141,6 @@ impl RsaPrivateKey<Uint> {
         ensures no_primes { ListsNone self.now.other_prime_infos
             → IsErrAnd result (IsAsn1 (λ e. e.kind ≡ ErrorKind.Value sequence)) }
     {
-        self.encode_front(out)
+        self.encode_naming_tag(out)
     }
 }

@@ -1,10 +1,9 @@
 //! Other primes of private keys.
 ghost use Rattle.std.specs.Prelude.{◌≡◌, List, ℕ, ◌↔◌, IsTrue, None, IfOk, IsOk, IfErr, refl};
-ghost use Rattle.der_core.specs.Words.{ReadsOrFaults};
-ghost use Rattle.der_core.specs.Words.{as_parts};
-ghost use Rattle.pkcs1.specs.Words.{OthersFault, AllocatesInOthers, OtherPrime, OtherPrimeContents, other_parts};
-ghost use Rattle.pkcs1.specs.Words.{OthersOf, HasOther, written_other, other_means_one};
-ghost use Rattle.pkcs1.specs.Words.{other_of, others_of, ListsNone, number_of};
+ghost use Rattle.der_core.specs.Words.{ReadsWhole, as_parts, made_errs};
+ghost use Rattle.pkcs1.specs.Words.{AllocatesInOthers, HasOther, ListsNone, OtherPrime, OtherPrimeContents, number_of};
+ghost use Rattle.pkcs1.specs.Words.{of_other_parts, other_means_one, other_of, other_parts, other_read, other_reads};
+ghost use Rattle.pkcs1.specs.Words.{others_of, others_read, written_other};
 
 use crate::version::Version;
 use der_core::{
@@ -65,6 +64,10 @@ impl<U: Encoding> Contents for OtherPrimeInfo<U> {
 
     ghost written_contents = { written_other U.written_encoding };
 
+    ghost read = { other_read U.read_front };
+
+    ghost reads = { other_reads U.reads_front };
+
     ghost means_one = { other_means_one U.delimited };
 
     ghost contents_of_bytes = { λ other. ⟦<(U, (U, (U, ()))) as Contents>⟧.contents_of_bytes (other_parts other) };
@@ -102,6 +105,8 @@ impl<U: Encoding> InParts for OtherPrimeInfo<U> {
             coefficient,
         }
     }
+
+    ghost errs = { made_errs of_other_parts _ };
 
     ghost is_parts = { λ other. as_parts _ _ _ (other_parts other) };
 }
@@ -151,10 +156,9 @@ pub(crate) fn read_other_primes<'a, U: Decode<&'a [u8], Global>, R: Reader<&'a [
     reader: &mut R,
     version: Version,
 ) -> Result<Option<OtherPrimeInfos<U>>>
-    ensures { let grammar = OthersOf U.encoding (number_of version) in
-        let fault = OthersFault U.encoding U.Decode.fault (number_of version) in
-        let may = AllocatesInOthers U.encoding U.Decode.may_allocate in
-        ReadsOrFaults (others_of U.value) grammar fault may result (R.left reader.old) (R.left reader.new) }
+    ensures { let may = AllocatesInOthers U.encoding U.Decode.may_allocate in
+        let read = others_read U.read_front (number_of version) in
+        ReadsWhole (others_of U.value) read may result (R.left reader.old) (R.left reader.new) }
 {
     let others: Option<OtherPrimeInfos<U>> = decode_optional(memory, reader)?;
     if version.is_multi() != others.is_some() {

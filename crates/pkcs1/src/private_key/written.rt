@@ -3,8 +3,10 @@
 ghost use Rattle.std.specs.Prelude.{List, Option};
 ghost use Rattle.der_core.specs.Words.{LastContents, as_written};
 ghost use Rattle.pkcs1.specs.Words.{CrtContents, CrtRow, HasCrt, HasOthers, OtherPrime, OtherPrimeList, crt};
-ghost use Rattle.pkcs1.specs.Words.{crt_means_one, crt_of_bytes, crt_parts, others_mean_one, others_of, others_of_bytes};
+ghost use Rattle.pkcs1.specs.Words.{crt_means_one, crt_of_bytes, crt_parts, others_mean_one, others_of};
+ghost use Rattle.pkcs1.specs.Words.{others_of_bytes};
 ghost use Rattle.pkcs1.specs.Words.{others_part, private_key_with, written_crt, written_others};
+ghost use Rattle.pkcs1.specs.Words.{crt_read, crt_reads, last_others, last_others_read};
 
 use super::RsaPrivateKey;
 use super::other_prime_info::{OtherPrimeInfos, lists_none};
@@ -28,12 +30,17 @@ impl<'b, U: Encoding> Contents for OthersPart<'b, U> {
 
     ghost written_contents = { written_others U.written_encoding };
 
+    ghost read = { last_others U.read_front };
+
+    ghost reads = { last_others_read U.reads_front U.delimited };
+
     ghost means_one = { others_mean_one U.delimited };
 
     ghost contents_of_bytes = { others_of_bytes U.encoding U.encoding_of_bytes };
 }
 
 impl<'b, U: Encode> EncodeValue for OthersPart<'b, U> {
+    #[inline(always)]
     fn value_len(&self) -> Result<Length> {
         if lists_none(self.0) {
             return Err(Error::new(ErrorKind::Value { tag: Tag::SEQUENCE }));
@@ -41,10 +48,12 @@ impl<'b, U: Encode> EncodeValue for OthersPart<'b, U> {
         Last::borrowed(self.0).value_len()
     }
 
+    #[inline(always)]
     fn append_value<W: Writer>(&self, writer: &mut W) -> Result<()> {
         Last::borrowed(self.0).append_value(writer)
     }
 
+    #[inline(always)]
     fn prepend_value(&self, writer: &mut BackWriter<'_>) {
         Last::borrowed(self.0).prepend_value(writer);
     }
@@ -71,12 +80,17 @@ impl<'b, U: Encoding> Contents for CrtParts<'b, U> {
 
     ghost written_contents = { written_crt U.written_encoding };
 
+    ghost read = { crt_read U.read_front };
+
+    ghost reads = { crt_reads U.reads_front U.delimited };
+
     ghost means_one = { crt_means_one U.delimited };
 
     ghost contents_of_bytes = { crt_of_bytes U.encoding U.encoding_of_bytes };
 }
 
 impl<'b, U: Encode> EncodeValue for CrtParts<'b, U> {
+    #[inline(always)]
     fn value_len(&self) -> Result<Length> {
         let key = self.0;
         let last = (
@@ -86,6 +100,7 @@ impl<'b, U: Encode> EncodeValue for CrtParts<'b, U> {
         (Borrowed(&key.exponent1), (Borrowed(&key.exponent2), last)).value_len()
     }
 
+    #[inline(always)]
     fn append_value<W: Writer>(&self, writer: &mut W) -> Result<()> {
         let key = self.0;
         let last = (
@@ -95,6 +110,7 @@ impl<'b, U: Encode> EncodeValue for CrtParts<'b, U> {
         (Borrowed(&key.exponent1), (Borrowed(&key.exponent2), last)).append_value(writer)
     }
 
+    #[inline(always)]
     fn prepend_value(&self, writer: &mut BackWriter<'_>) {
         let key = self.0;
         let last = (

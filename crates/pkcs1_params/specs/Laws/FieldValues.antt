@@ -5,7 +5,7 @@ use Rattle.der_core.specs.Integer.{SmallContents}
 use Rattle.der_core.specs.Laws.Integer.{small_of_bytes, small_at_most_one}
 use Rattle.der_core.specs.Encodings.{AreBytes, AtMostOne}
 use Rattle.der_core.specs.Laws.Encodings.{tlv_of_bytes}
-use Rattle.der_core.specs.Laws.Growing.{tlv_recast}
+use Rattle.der_core.specs.Laws.ContentsShorter.{tlv_recast}
 use Rattle.spki_core.specs.Laws.AlgorithmEncodings.{plain_at_most_one, mask_at_most_one}
 use Rattle.spki_core.specs.Laws.FieldEncodings.{AreLater, AreOfBytes}
 use Rattle.spki_core.specs.Laws.Fields.{AreInOrder}
@@ -13,7 +13,7 @@ use Rattle.spki_core.specs.Laws.StrictWalk.{Marked}
 use Rattle.pkcs1_params.specs.Laws.HashFields.{plain_of_bytes, mask_of_bytes}
 use Rattle.pkcs1_params.specs.Parameters.{TrailerContents, TrailerField}
 use Rattle.pkcs1_params.specs.Parts.{FieldValue, hash_field, mask_gen_field, salt_len_field, trailer_field}
-use Rattle.pkcs1_params.specs.Parts.{p_source_field, part_of, fields_in, fields_with, defaults_in, AreNumbered}
+use Rattle.pkcs1_params.specs.Parts.{p_source_field, part_of, fields_in, defaults_in, AreNumbered}
 use Rattle.pkcs1_params.specs.Laws.SmallFields.{trailer_of_bytes}
 
 number_small : (v : FieldValue) → (part_of v).field.number ≤ 30
@@ -62,7 +62,3 @@ pub marked : (values : List FieldValue) (n : ℕ) → AreNumbered n values
     → Marked n (fields_in values) (defaults_in values)
 marked [] n numbered = tt
 marked (v ∷ values) n numbered = (numbered.0, (part_of v).decides, marked values (n + 1) numbered.1)
-
-pub ordered : {V : Type 0} (values : V → List FieldValue) → ((v : V) → AreNumbered 0 (values v)) → (v : V)
-    → AreInOrder (fields_with values v)
-ordered values numbered v = in_order (values v) 0 (numbered v)

@@ -1,6 +1,6 @@
 -- Fields as they are written: their defaults are counted, and with none of them they are contents, and the shortest.
-use Rattle.std.proofs.Common.{ℕ, suc, List, [], ◌∷◌, ◌++◌, ◌≡◌, ◌≤◌, ◌<◌, ◌+◌, ◌^◌, length, map, refl, sym, ap, ◌∙◌}
-use Rattle.std.proofs.Common.{append-nil, append_assoc, arith, inl, inr, true, false}
+use Rattle.std.proofs.Common.{ℕ, suc, List, [], ◌∷◌, ◌≡◌, ◌≤◌, ◌<◌, ◌+◌, ◌^◌, length, map, refl, arith, inl, inr}
+use Rattle.std.proofs.Common.{true, false}
 use Rattle.std.proofs.lemmas.Nat.{pow_pos}
 use Rattle.std.specs.Prelude.{Bool}
 use Rattle.std.specs.Bool.{Decides}
@@ -52,13 +52,9 @@ field_least f encoding false d least c (inl p) = let no : false ≡ true = d.1 p
 field_least f {has} encoding false d least c (inr p) =
     tlv_shortest (context_tag f.number) (λ (_ : Unit {0}). f.Inner) (λ _. encoding) (λ _. has) (λ _. least) tt c p
 
-rest_zero : (b : Bool) → rest_under b 0 ≡ 0
+pub rest_zero : (b : Bool) → rest_under b 0 ≡ 0
 rest_zero true = refl
 rest_zero false = refl
-
-out_zero : (b : Bool) → out_under b 0 ≡ b
-out_zero true = refl
-out_zero false = refl
 
 pub parts_shortest : (parts : List Part) (c : List ℕ) → Joins (map Defaultable (fields_of parts)) c
     → IsLeast (has_under parts 0) (written_under parts 0) c
@@ -67,30 +63,6 @@ parts_shortest (p ∷ parts) c j =
     rw (rest_zero p.is_default)
     (then_least (written_field (out_under p.is_default 0) p.field.number p.encoding) (written_under parts 0)
     (field_least p.field p.encoding p.is_default p.decides p.least) (parts_shortest parts) c j)
-
-pub written_last : (parts : List Part) (p : Part)
-    → written_under (parts ++ p ∷ []) 0 ≡ written_under parts 0 ++ written_field p.is_default p.field.number p.encoding
-written_last [] p =
-    append-nil (written_field (out_under p.is_default 0) p.field.number p.encoding)
-    ∙ ap (λ b. written_field b p.field.number p.encoding) (out_zero p.is_default)
-written_last (q ∷ parts) p =
-    let a = written_field (out_under q.is_default 0) q.field.number q.encoding in
-    let w = written_field p.is_default p.field.number p.encoding in
-    rw (rest_zero q.is_default) (ap (λ r. a ++ r) (written_last parts p)
-    ∙ sym (append_assoc a (written_under parts 0) w))
-
-abbrev pub AllHave : List Part → Type 0
-AllHave [] = Unit {0}
-AllHave (p ∷ parts) = p.has × AllHave parts
-
-field_has : {has : Type 0} (out : Bool) → has → HasField out has
-field_has true h = tt
-field_has false h = h
-
-pub have_under : (parts : List Part) (mask : ℕ) → AllHave parts → has_under parts mask
-have_under [] mask all = tt
-have_under (p ∷ parts) mask all =
-    (field_has (out_under p.is_default mask) all.0, have_under parts (rest_under p.is_default mask) all.1)
 
 -- Every value has a number of defaults.
 pub pss_defaults : (p : PssParameters) → (k : ℕ) × HaveDefaults (pss_fields p) k

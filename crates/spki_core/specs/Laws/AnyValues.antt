@@ -1,7 +1,7 @@
 -- A type that holds a tag with contents octets, whatever its values mean.
 use Rattle.std.proofs.Common.{List, ℕ, Bool, ◌≡◌, ◌∙◌, refl, sym, ap, Decides}
 use Rattle.spki_core.specs.Any.{TagAndContents, Any}
-use Rattle.spki_core.specs.Laws.Carried.{Carried, same_carried}
+use Rattle.spki_core.specs.Laws.MappedValues.{Carried, same_carried}
 
 -- Its values are tags with contents, and have the same encodings.
 pub record HoldsAny {X V : Type 0} (value : X → V) (encoding : V → List ℕ → Type 0) (any : X → TagAndContents) : Type 0

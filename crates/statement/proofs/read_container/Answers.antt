@@ -1,5 +1,5 @@
 use Rattle.std.proofs.Common.{sym, ap, ◌∙◌}
-use Rattle.pkcs8_core.specs.Held.{info_of}
+use Rattle.pkcs8_core.specs.ContainerValue.{info_of}
 use Rattle.statement.specs.Statement.{ContainerEncoding}
 use Rattle.statement.proofs.Der.{moved}
 use Rattle.statement.proofs.Held.{container_holds}

@@ -2,7 +2,7 @@ use Rattle.der_core.specs.UintRefValue.{bytes_of}
 use Rattle.pkcs1.specs.Keys.{RsaPrivateKey}
 use Rattle.pkcs1.specs.PrivateKeyValue.{private_key_of}
 use Rattle.statement.specs.Held.{uint_ref, rsa_private_key}
-use Rattle.statement.specs.Laws.Shortest.{shortest}
+use Rattle.statement.proofs.Shortest.{shortest}
 use Rattle.statement.specs.Statement.{PrivateKeyEncoding}
 use Rattle.statement.proofs.Writing.{unfit, private_same, borrowed_canonical}
 use Rattle.statement.proofs.write_private_key.Goals as goal

@@ -2,7 +2,7 @@ use Rattle.der_core.specs.UintRefValue.{bytes_of}
 use Rattle.pkcs1.specs.Keys.{RsaPublicKey}
 use Rattle.pkcs1.specs.PublicKeyValue.{public_key_of}
 use Rattle.statement.specs.Held.{uint_ref, rsa_public_key}
-use Rattle.statement.specs.Laws.Shortest.{shortest}
+use Rattle.statement.proofs.Shortest.{shortest}
 use Rattle.statement.specs.Statement.{PublicKeyEncoding}
 use Rattle.statement.proofs.Writing.{unfit, public_same, borrowed_canonical}
 use Rattle.statement.proofs.write_public_key.Goals as goal

@@ -1,4 +1,4 @@
-use Rattle.der_core.specs.Laws.Parts.{written_alone}
+use Rattle.der_core.proofs.PartsLaws.{written_alone}
 use Rattle.der_core.proofs.one_encoding.write_only.Goals as goal
 
 pub returns-clause-ok : goal.returns-clause-ok

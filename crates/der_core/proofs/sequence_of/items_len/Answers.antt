@@ -1,6 +1,6 @@
 use Rattle.std.proofs.Common.{subst}
 use Rattle.der_core.specs.Writing.{Counts}
-use Rattle.der_core.specs.Laws.Items.{counts_more}
+use Rattle.der_core.proofs.Items.{counts_more}
 use Rattle.der_core.proofs.sequence_of.items_len.Goals as goal
 
 pub loop-item-preserved : goal.loop-item-preserved

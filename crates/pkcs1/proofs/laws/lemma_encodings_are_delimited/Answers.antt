@@ -1,5 +1,5 @@
-use Rattle.pkcs1.specs.Laws.PublicKeys.{public_delimited}
-use Rattle.pkcs1.specs.Laws.PrivateKeys.{private_delimited}
+use Rattle.pkcs1.proofs.PublicKeys.{public_delimited}
+use Rattle.pkcs1.proofs.PrivateKeys.{private_delimited}
 use Rattle.pkcs1_params.specs.Laws.Parameters.{pss_delimited, oaep_delimited}
 use Rattle.pkcs1.proofs.laws.lemma_encodings_are_delimited.Goals as goal
 

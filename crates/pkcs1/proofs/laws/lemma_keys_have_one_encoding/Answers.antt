@@ -1,5 +1,5 @@
-use Rattle.pkcs1.specs.Laws.PublicKeys.{public_at_most_one}
-use Rattle.pkcs1.specs.Laws.PrivateKeys.{private_at_most_one}
+use Rattle.pkcs1.proofs.PublicKeys.{public_at_most_one}
+use Rattle.pkcs1.proofs.PrivateKeys.{private_at_most_one}
 use Rattle.pkcs1.proofs.laws.lemma_keys_have_one_encoding.Goals as goal
 
 pub returns-clause-public : goal.returns-clause-public

@@ -1,6 +1,6 @@
-use Rattle.der_core.specs.Laws.Shortest.{same_by_shortest}
-use Rattle.pkcs1.specs.Laws.PublicKeys.{public_delimited}
-use Rattle.pkcs1.specs.Laws.PrivateKeys.{private_delimited}
+use Rattle.der_core.proofs.Shortest.{same_by_shortest}
+use Rattle.pkcs1.proofs.PublicKeys.{public_delimited}
+use Rattle.pkcs1.proofs.PrivateKeys.{private_delimited}
 use Rattle.pkcs1.proofs.laws.lemma_same_keys_have_the_same_encoding.Goals as goal
 
 pub returns-clause-public : goal.returns-clause-public

@@ -1,4 +1,4 @@
-use Rattle.pkcs1.specs.Laws.PrivateKeys.{keys_exclude}
+use Rattle.pkcs1.proofs.PrivateKeys.{keys_exclude}
 use Rattle.pkcs1.proofs.Exclusion.{public_pss, public_oaep, private_pss, private_oaep}
 use Rattle.pkcs1.proofs.laws.lemma_types_exclude_each_other.Goals as goal
 

@@ -1,18 +1,12 @@
-use Rattle.std.proofs.lemmas.Result.{err_from_is_err_and}
-use Rattle.pkcs1.specs.KeyFaults.{RsaPrivateKeyFault}
+use Rattle.pkcs1.specs.KeyReadings.{rsa_private_key}
 use Rattle.der_core.specs.DocumentValue.{encoding_of}
-use Rattle.pkcs1.specs.Laws.KeyFaults.{private_key_told}
 use Rattle.pkcs1.specs.Keys.{RsaPrivateKey}
-use Rattle.der_core.specs.Faults.{IsTheFault}
-use Rattle.pkcs1.proofs.Reencoded.{comes_out, is_sentence, is_memory_error, memory_wanted, more_asked}
+use Rattle.pkcs1.proofs.Reencoded.{comes_out, is_memory_error, memory_wanted}
 use Rattle.pkcs1.proofs.reencode.reencode_private_key.Goals as goal
 
 pub returns-clause-same : goal.returns-clause-same
 returns-clause-same c =
     comes_out RsaPrivateKey _ _ c.in_ok-from_pkcs1_der.ensures.ok.0 encoding_of _ c.to_pkcs1_der.ensures.encoding
-
-pub returns-clause-sentence : goal.returns-clause-sentence
-returns-clause-sentence c = is_sentence RsaPrivateKey _ _ c.in_ok-from_pkcs1_der.ensures.ok.0 c.to_pkcs1_der.result
 
 pub returns-clause-err : goal.returns-clause-err
 returns-clause-err c =
@@ -20,12 +14,5 @@ returns-clause-err c =
 
 pub returns-clause-exact : goal.returns-clause-exact
 returns-clause-exact c =
-    memory_wanted RsaPrivateKey _ _ c.in_ok-from_pkcs1_der.ensures.ok.0 _ RsaPrivateKeyFault
-    (λ kind fault. private_key_told.none kind _ fault _ c.in_ok-from_pkcs1_der.ensures.ok.0) _
-    c.to_pkcs1_der.ensures.err
-
-pub returns-in_err-from_pkcs1_der-clause-exact : goal.returns-in_err-from_pkcs1_der-clause-exact
-returns-in_err-from_pkcs1_der-clause-exact c =
-    let p = err_from_is_err_and c.from_residual.result c.from_residual.ensures.1 in
-    rw (p.1, p.2) (more_asked _ _ (IsTheFault RsaPrivateKeyFault c.args.bytes.now) _
-    c.in_err-from_pkcs1_der.ensures.exact)
+    memory_wanted RsaPrivateKey _ _ c.in_ok-from_pkcs1_der.ensures.ok.0 encoding_of _ rsa_private_key
+    c.in_ok-from_pkcs1_der.ensures.exact _ c.to_pkcs1_der.ensures.encoding c.to_pkcs1_der.ensures.err

@@ -2,7 +2,8 @@ use Rattle.std.proofs.Common.{◌∙◌, sym, ap, subst}
 use Rattle.der_core.specs.Document.{Means}
 use Rattle.pkcs1.specs.Keys.{RsaPrivateKey}
 use Rattle.pkcs8_core.specs.Container.{Info}
-use Rattle.pkcs8_core.specs.ContainerFaults.{RsaPrivateKeyInfoFault}
+use Rattle.pkcs8_core.specs.ContainerReadings.{rsa_private_key_info}
+use Rattle.pkcs8_core.proofs.ContainerReadings.{rsa_private_key_info_reads}
 use Rattle.pkcs1_c.proofs.NotWritten.{status_exact}
 use Rattle.pkcs1_c.specs.StructValues.{private_key_seen}
 use Rattle.pkcs1_c.proofs.container.pkcs1_c_private_key_info_decode.Goals as goal
@@ -19,4 +20,4 @@ returns-in-Ok-clause-one_key c = λ _ other m.
 
 pub returns-in-Err-clause-exact : goal.returns-in-Err-clause-exact
 returns-in-Err-clause-exact c =
-    status_exact RsaPrivateKeyInfoFault c.args.encoding.now c.in-Err.error _ c.status.ensures c.in-Err.ensures.exact
+    status_exact (rsa_private_key_info c.args.encoding.now) (rsa_private_key_info_reads.tells c.args.encoding.now) c.in-Err.error _ c.status.ensures c.in-Err.ensures.exact

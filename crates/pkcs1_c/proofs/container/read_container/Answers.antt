@@ -1,12 +1,14 @@
-use Rattle.std.proofs.Common.{subst}
+use Rattle.std.proofs.Common.{ap, subst}
 use Rattle.std.specs.Prelude.{Ok, Err}
 use Rattle.std.proofs.lemmas.Result.{err_from_is_err_and}
-use Rattle.pkcs8_core.specs.Container.{PrivateKeyInfo}
-use Rattle.pkcs8_core.specs.ContainerFaults.{PrivateKeyInfoFault, RsaFault}
+use Rattle.der_core.specs.Readings.{◌>>=◌}
+use Rattle.pkcs1.specs.ViewParts.{view_of}
+use Rattle.pkcs1.specs.declared.view.RsaPrivateKeyView.{RsaPrivateKeyView}
+use Rattle.pkcs8_core.specs.ContainerReadings.{private_key_info, rsa_held}
 use Rattle.pkcs8_core.specs.Rsa.{HoldsRsa, RsaPrivateKeyInfo}
-use Rattle.pkcs1_params.specs.Laws.Errors.{on_err}
+use Rattle.pkcs1_params.proofs.Errors.{on_err}
 use Rattle.pkcs1_params.specs.Meanings.{IsNoSentence}
-use Rattle.pkcs1_params.specs.Laws.FaultsTold.{fault_before, errs_behind}
+use Rattle.pkcs1_params.proofs.FaultsTold.{errs_behind}
 use Rattle.pkcs1_c.proofs.container.read_container.Goals as goal
 
 pub returns-in_err-info-clause-err : goal.returns-in_err-info-clause-err
@@ -23,18 +25,15 @@ returns-in_err-view-clause-err c =
 pub returns-in_err-info-clause-exact : goal.returns-in_err-info-clause-exact
 returns-in_err-info-clause-exact c =
     let p = err_from_is_err_and c.from_residual.result c.from_residual.ensures.1 in
-    let e = c.in_err-info.ensures in
-    rw (p.1, p.2) (fault_before PrivateKeyInfo PrivateKeyInfoFault c.args.encoding.now RsaFault e.err _ e.exact)
+    rw (p.1, p.2) (ap (λ r. r >>= rsa_held) c.in_err-info.ensures.exact)
 
 pub returns-in_err-view-clause-exact : goal.returns-in_err-view-clause-exact
 returns-in_err-view-clause-exact c =
     let p = err_from_is_err_and c.from_residual-in_err-view.result c.from_residual-in_err-view.ensures.1 in
-    let r = c.in_ok-info.ensures in
-    rw (p.1, p.2) (errs_behind PrivateKeyInfo PrivateKeyInfoFault c.args.encoding.now RsaFault _ r.ok r.exact
-    {X = Unit {0}} (Err _) c.in_err-view.ensures.exact)
+    rw (p.1, p.2) (errs_behind {X = RsaPrivateKeyView} view_of (private_key_info c.args.encoding.now) rsa_held _
+    c.in_ok-info.ensures.exact (Err _) c.in_err-view.ensures.exact)
 
 pub returns-clause-exact : goal.returns-clause-exact
 returns-clause-exact c =
-    let r = c.in_ok-info.ensures in
-    errs_behind PrivateKeyInfo PrivateKeyInfoFault c.args.encoding.now RsaFault _ r.ok r.exact {X = Unit {0}} (Ok tt)
+    errs_behind view_of (private_key_info c.args.encoding.now) rsa_held _ c.in_ok-info.ensures.exact (Ok c.in_ok-view.view)
     c.in_ok-view.ensures.exact

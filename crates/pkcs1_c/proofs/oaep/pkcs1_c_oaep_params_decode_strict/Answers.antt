@@ -1,4 +1,8 @@
-use Rattle.pkcs1_params.specs.ParameterFaults.{StrictOaepFault}
+use Rattle.pkcs1_params.specs.ParameterReadings.{strict_oaep_params}
+use Rattle.pkcs1_params.specs.ParameterReadings.{rsa_oaep_params}
+use Rattle.pkcs1_params.specs.Parts.{defaults_with, oaep_values}
+use Rattle.pkcs1_params.proofs.FaultsTell.{strict_tells}
+use Rattle.pkcs1_params.proofs.ParameterReadings.{rsa_oaep_params_reads}
 use Rattle.pkcs1_c.proofs.NotWritten.{status_exact}
 use Rattle.pkcs1_c.proofs.oaep.pkcs1_c_oaep_params_decode_strict.Goals as goal
 
@@ -7,4 +11,7 @@ returns-in-Ok-clause-ok c = λ _. rw c.to_c_oaep.ensures.seen c.in-Ok.ensures.ok
 
 pub returns-in-Err-clause-exact : goal.returns-in-Err-clause-exact
 returns-in-Err-clause-exact c =
-    status_exact StrictOaepFault c.args.encoding.now c.in-Err.error _ c.status.ensures c.in-Err.ensures.exact
+    let bytes = c.args.encoding.now in
+    status_exact (strict_oaep_params bytes)
+    (strict_tells (defaults_with oaep_values) rsa_oaep_params rsa_oaep_params_reads.tells bytes)
+    c.in-Err.error _ c.status.ensures c.in-Err.ensures.exact

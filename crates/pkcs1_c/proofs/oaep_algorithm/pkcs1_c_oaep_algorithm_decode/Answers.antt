@@ -1,4 +1,7 @@
-use Rattle.pkcs1_params.specs.Algorithms.{RsaOaepAlgorithmFault}
+use Rattle.pkcs1_params.specs.Algorithms.{rsa_oaep_algorithm}
+use Rattle.pkcs1_params.specs.Algorithms.{id_rsaes_oaep}
+use Rattle.pkcs1_params.specs.Laws.ParameterReadings.{oaep_reads}
+use Rattle.pkcs1_params.proofs.FaultsTell.{whole_algorithm_tells}
 use Rattle.pkcs1_c.proofs.NotWritten.{status_exact}
 use Rattle.pkcs1_c.proofs.oaep_algorithm.pkcs1_c_oaep_algorithm_decode.Goals as goal
 
@@ -7,4 +10,7 @@ returns-in-Ok-clause-ok c = λ _. rw c.to_c_oaep.ensures.seen c.in-Ok.ensures.ok
 
 pub returns-in-Err-clause-exact : goal.returns-in-Err-clause-exact
 returns-in-Err-clause-exact c =
-    status_exact RsaOaepAlgorithmFault c.args.encoding.now c.in-Err.error _ c.status.ensures c.in-Err.ensures.exact
+    let bytes = c.args.encoding.now in
+    status_exact (rsa_oaep_algorithm bytes)
+    (whole_algorithm_tells oaep_reads id_rsaes_oaep bytes)
+    c.in-Err.error _ c.status.ensures c.in-Err.ensures.exact

@@ -7,7 +7,7 @@ use Rattle.pkcs1_c.specs.Status.{status_of}
 use Rattle.pkcs1_c.specs.StructValues.{other_prime_seen}
 use Rattle.pkcs1_c.specs.StructErrors.{NumbersError, others_numbers}
 use Rattle.pkcs1_c.proofs.Given.{err_handed}
-use Rattle.pkcs1_c.proofs.HeldKeys.{items_none}
+use Rattle.pkcs1_c.proofs.GivenKeys.{items_none}
 use Rattle.pkcs1_c.proofs.Lists.{others_step}
 use Rattle.pkcs1_c.proofs.StructErrors.{others_at}
 use Rattle.pkcs1_c.proofs.private_key.from_c_other_primes.Goals as goal

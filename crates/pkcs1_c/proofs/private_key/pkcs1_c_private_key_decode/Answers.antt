@@ -1,4 +1,5 @@
-use Rattle.pkcs1.specs.KeyFaults.{RsaPrivateKeyFault}
+use Rattle.pkcs1.specs.KeyReadings.{rsa_private_key}
+use Rattle.pkcs1.proofs.KeyReadings.{rsa_private_key_reads}
 use Rattle.std.proofs.Common.{◌∙◌, sym}
 use Rattle.pkcs1_c.proofs.NotWritten.{status_exact}
 use Rattle.pkcs1_c.specs.StructValues.{private_key_seen}
@@ -11,4 +12,4 @@ returns-in-Ok-clause-one c = λ _ other m.
 
 pub returns-in-Err-clause-exact : goal.returns-in-Err-clause-exact
 returns-in-Err-clause-exact c =
-    status_exact RsaPrivateKeyFault c.args.encoding.now c.in-Err.error _ c.status.ensures c.in-Err.ensures.exact
+    status_exact (rsa_private_key c.args.encoding.now) (rsa_private_key_reads.tells c.args.encoding.now) c.in-Err.error _ c.status.ensures c.in-Err.ensures.exact

@@ -2,15 +2,15 @@ use Rattle.std.proofs.Common.{ℕ, List, ◌≡◌, ◌≢◌, length, sym, refl
 use Rattle.pkcs1.specs.Keys.{RsaPrivateKey}
 use Rattle.pkcs1.specs.PrivateKeyValue.{private_key_with}
 use Rattle.pkcs1_c.specs.NumberValue.{number_of}
-use Rattle.pkcs1.specs.Laws.KeyEncodings.{only_encoding}
-use Rattle.pkcs1.specs.Laws.PrivateKeys.{private_at_most_one, private_delimited}
+use Rattle.pkcs1.proofs.KeyEncodings.{only_encoding}
+use Rattle.pkcs1.proofs.PrivateKeys.{private_at_most_one, private_delimited}
 use Rattle.pkcs1_c.specs.declared.private_key.PrivateKey.{PrivateKey}
 use Rattle.pkcs1_c.specs.declared.private_key.OtherPrime.{OtherPrime}
 use Rattle.pkcs1_c.specs.Given.{IsGiven}
 use Rattle.pkcs1_c.specs.StructErrors.{GivenError, PartThen, NumbersError, given_numbers}
 use Rattle.pkcs1_c.specs.Writes.{IsGivenEncoding}
-use Rattle.pkcs1_c.proofs.HeldKeys.{given_same, given_written, numbers_refused, private_fits, private_held}
-use Rattle.pkcs1_c.proofs.HeldKeys.{private_some}
+use Rattle.pkcs1_c.proofs.GivenKeys.{given_same, given_written, numbers_refused, private_fits, private_held}
+use Rattle.pkcs1_c.proofs.GivenKeys.{private_some}
 use Rattle.pkcs1_c.proofs.StructErrors.{given_one, numbers_part, part_one, unless_part}
 use Rattle.pkcs1_c.proofs.Writes.{behind_part, part_refused, no_memory_asked}
 use Rattle.pkcs1_c.proofs.private_key.pkcs1_c_private_key_encode.Goals as goal

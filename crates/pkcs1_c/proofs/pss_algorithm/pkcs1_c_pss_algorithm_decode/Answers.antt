@@ -1,4 +1,7 @@
-use Rattle.pkcs1_params.specs.Algorithms.{RsaPssAlgorithmFault}
+use Rattle.pkcs1_params.specs.Algorithms.{rsa_pss_algorithm}
+use Rattle.pkcs1_params.specs.Algorithms.{id_rsassa_pss}
+use Rattle.pkcs1_params.specs.Laws.ParameterReadings.{pss_reads}
+use Rattle.pkcs1_params.proofs.FaultsTell.{whole_algorithm_tells}
 use Rattle.pkcs1_c.proofs.NotWritten.{status_exact}
 use Rattle.pkcs1_c.proofs.pss_algorithm.pkcs1_c_pss_algorithm_decode.Goals as goal
 
@@ -7,4 +10,7 @@ returns-in-Ok-clause-ok c = λ _. rw c.to_c_pss.ensures.seen c.in-Ok.ensures.ok
 
 pub returns-in-Err-clause-exact : goal.returns-in-Err-clause-exact
 returns-in-Err-clause-exact c =
-    status_exact RsaPssAlgorithmFault c.args.encoding.now c.in-Err.error _ c.status.ensures c.in-Err.ensures.exact
+    let bytes = c.args.encoding.now in
+    status_exact (rsa_pss_algorithm bytes)
+    (whole_algorithm_tells pss_reads id_rsassa_pss bytes)
+    c.in-Err.error _ c.status.ensures c.in-Err.ensures.exact

@@ -1,4 +1,5 @@
-use Rattle.pkcs1.specs.KeyFaults.{RsaPublicKeyFault}
+use Rattle.pkcs1.specs.KeyReadings.{rsa_public_key}
+use Rattle.pkcs1.proofs.KeyReadings.{rsa_public_key_reads}
 use Rattle.pkcs1_c.proofs.NotWritten.{status_exact}
 use Rattle.pkcs1_c.proofs.public_key.pkcs1_c_public_key_decode.Goals as goal
 
@@ -8,4 +9,4 @@ returns-in-Ok-clause-ok c =
 
 pub returns-in-Err-clause-exact : goal.returns-in-Err-clause-exact
 returns-in-Err-clause-exact c =
-    status_exact RsaPublicKeyFault c.args.encoding.now c.in-Err.error _ c.status.ensures c.in-Err.ensures.exact
+    status_exact (rsa_public_key c.args.encoding.now) (rsa_public_key_reads.tells c.args.encoding.now) c.in-Err.error _ c.status.ensures c.in-Err.ensures.exact

@@ -1,12 +1,12 @@
 use Rattle.pkcs1.specs.Keys.{RsaPublicKey}
 use Rattle.pkcs1.specs.PublicKeyValue.{public_key_with}
 use Rattle.pkcs1_c.specs.NumberValue.{number_of}
-use Rattle.pkcs1.specs.Laws.PublicKeys.{public_only}
+use Rattle.pkcs1.proofs.PublicKeys.{public_only}
 use Rattle.pkcs1_c.specs.Numbers.{ArePublicNumbers}
 use Rattle.pkcs1_c.specs.StructValues.{public_key_seen}
 use Rattle.pkcs1_c.specs.StructErrors.{two_numbers}
 use Rattle.pkcs1_c.proofs.Given.{public_same}
-use Rattle.pkcs1_c.proofs.HeldKeys.{given_written, numbers_refused, public_fits, public_held, public_some}
+use Rattle.pkcs1_c.proofs.GivenKeys.{given_written, numbers_refused, public_fits, public_held, public_some}
 use Rattle.pkcs1_c.proofs.public_key.pkcs1_c_public_key_encode.Goals as goal
 
 pub write_encoding-requires : goal.write_encoding-requires

@@ -1,4 +1,4 @@
-use Rattle.der_core.specs.Laws.Fronts.{front_is, rest_is}
+use Rattle.der_core.proofs.FrontsAreUnique.{front_is, rest_is}
 use Rattle.pkcs1_c.proofs.NotWritten.{kind_writing}
 use Rattle.pkcs1_c.proofs.Writes.{not_written, written}
 use Rattle.pkcs1_c.proofs.written.write_encoding.Goals as goal

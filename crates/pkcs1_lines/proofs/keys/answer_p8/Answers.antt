@@ -1,7 +1,7 @@
 use Rattle.std.proofs.Common.{inr, refl}
 use Rattle.std.proofs.lemmas.Result.{on_ok_weaker}
 use Rattle.pkcs1.specs.ViewParts.{view_of}
-use Rattle.pkcs8_core.specs.Held.{info_of}
+use Rattle.pkcs8_core.specs.ContainerValue.{info_of}
 use Rattle.pkcs1_lines.specs.Told.{p8_answer}
 use Rattle.pkcs1_lines.proofs.keys.answer_p8.Goals as goal
 

@@ -2,7 +2,7 @@ use Rattle.std.proofs.Common.{sym, subst}
 use Rattle.der_core.specs.Document.{IsShortest}
 use Rattle.pkcs1.specs.Keys.{RsaPrivateKey}
 use Rattle.pkcs1.specs.ViewParts.{view_of, viewed_encoding}
-use Rattle.pkcs1.specs.Laws.PrivateKeys.{private_at_most_one}
+use Rattle.pkcs1.proofs.PrivateKeys.{private_at_most_one}
 use Rattle.pkcs1_lines.specs.Told.{priv_answer}
 use Rattle.pkcs1_lines.proofs.PutBehind.{told, only_shortest}
 use Rattle.pkcs1_lines.proofs.keys.answer_priv.Goals as goal

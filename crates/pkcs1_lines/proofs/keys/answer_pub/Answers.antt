@@ -1,6 +1,6 @@
 use Rattle.pkcs1.specs.Keys.{RsaPublicKey}
 use Rattle.pkcs1.specs.PublicKeyValue.{public_key_of}
-use Rattle.pkcs1.specs.Laws.PublicKeys.{public_at_most_one}
+use Rattle.pkcs1.proofs.PublicKeys.{public_at_most_one}
 use Rattle.pkcs1_lines.specs.Told.{pub_answer}
 use Rattle.pkcs1_lines.proofs.PutBehind.{told, only_shortest}
 use Rattle.pkcs1_lines.proofs.keys.answer_pub.Goals as goal

@@ -1,5 +1,5 @@
 use Rattle.std.proofs.Common.{◌≡◌, subst}
-use Rattle.pkcs8_core.specs.Held.{info_of}
+use Rattle.pkcs8_core.specs.ContainerValue.{info_of}
 use Rattle.pkcs8_core.specs.Rsa.{HoldsRsa}
 use Rattle.pkcs1_lines.proofs.keys.read_container.Goals as goal
 

@@ -4,7 +4,7 @@ use Rattle.der_core.specs.Laws.Encodings.{tlv_delimited}
 use Rattle.der_core.specs.Laws.Shortest.{means_one}
 use Rattle.der_core.specs.Writing.{encode_error}
 use Rattle.spki_core.specs.AlgorithmValue.{viewed_with}
-use Rattle.pkcs1_params.specs.Laws.Algorithms.{algorithm_of_delimited}
+use Rattle.pkcs1_params.proofs.AlgorithmsLaws.{algorithm_of_delimited}
 use Rattle.pkcs1_params.specs.MaskedValues.{FieldContents}
 use Rattle.pkcs1_params.specs.Parts.{Fielded}
 use Rattle.pkcs1_params.proofs.Algorithms.{front_of, why_not_of}

@@ -1,5 +1,5 @@
 use Rattle.std.proofs.Common.{⊎_elim}
-use Rattle.pkcs1_params.specs.Laws.Algorithms.{parameters_in}
+use Rattle.pkcs1_params.proofs.AlgorithmsLaws.{parameters_in}
 use Rattle.pkcs1_params.specs.Parts.{Fielded}
 use Rattle.pkcs1_params.proofs.Algorithms.{is_any, behind}
 use Rattle.pkcs1_params.proofs.algorithm.encoded_parameters.Goals as goal

@@ -2,7 +2,7 @@ use Rattle.std.proofs.Common.{◌≡◌, ◌∙◌, sym, arith, refl, subst}
 use Rattle.std.proofs.lemmas.Bool.Decides.{nat_tests}
 use Rattle.der_core.specs.Writing.{Counts}
 use Rattle.pkcs1_params.specs.Parts.{HasFields, written_fields}
-use Rattle.pkcs1_params.proofs.Unchanged.{none_written}
+use Rattle.pkcs1_params.proofs.AllDefaults.{none_written}
 use Rattle.pkcs1_params.proofs.contents.contents_len.Goals as goal
 
 pub returns-then-mask-eq0 : goal.returns-then-mask-eq0

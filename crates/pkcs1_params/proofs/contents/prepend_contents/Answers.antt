@@ -4,7 +4,7 @@ use Rattle.std.proofs.lemmas.List.{take-append-drop}
 use Rattle.der_core.specs.BackWriters.{free_of, Prepends}
 use Rattle.der_core.specs.Length.{limit}
 use Rattle.pkcs1_params.specs.Parts.{HasFields, written_fields}
-use Rattle.pkcs1_params.proofs.Unchanged.{none_written}
+use Rattle.pkcs1_params.proofs.AllDefaults.{none_written}
 use Rattle.pkcs1_params.proofs.contents.prepend_contents.Goals as goal
 
 pub returns-then-mask-eq0 : goal.returns-then-mask-eq0

@@ -1,12 +1,9 @@
-use Rattle.der_core.specs.Laws.Whole.{no_memory}
-use Rattle.pkcs1_params.specs.Laws.ParameterFaults.{pss_told}
+use Rattle.pkcs1_params.proofs.FaultsTold.{no_memory, none_read}
+use Rattle.pkcs1_params.proofs.ParameterReadings.{rsa_pss_params_reads}
 use Rattle.pkcs1_params.proofs.NothingAsked.{pss_asks}
 use Rattle.pkcs1_params.proofs.faults.fault_of_pss_params.Goals as goal
-
-pub returns-in-Ok : goal.returns-in-Ok
-returns-in-Ok c = ((_, c.in-Ok.ensures.encoding), c.in-Ok.ensures.exact)
 
 pub returns-in-Err : goal.returns-in-Err
 returns-in-Err c =
     let fault = no_memory (pss_asks _) c.in-Err.ensures.exact in
-    rw c.kind.ensures ((λ v means. pss_told.none _ _ fault.1 v means), fault)
+    rw c.kind.ensures (none_read rsa_pss_params_reads _ _ fault, fault)

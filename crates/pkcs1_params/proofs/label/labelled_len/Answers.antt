@@ -4,7 +4,7 @@ use Rattle.der_core.specs.Tlv.{tlv}
 use Rattle.pkcs1_params.specs.OaepValue.{oaep_of, labelled}
 use Rattle.pkcs1_params.specs.Parameters.{OaepParameters}
 use Rattle.pkcs1_params.specs.Parts.{oaep_values, HasFields, written_fields}
-use Rattle.spki_core.specs.Laws.Held.{identifier_held}
+use Rattle.spki_core.specs.Laws.HaveEncodings.{identifier_held}
 use Rattle.pkcs1_params.proofs.Labels.{counts_as, labelled_counted, labelled_held}
 use Rattle.pkcs1_params.proofs.label.labelled_len.Goals as goal
 

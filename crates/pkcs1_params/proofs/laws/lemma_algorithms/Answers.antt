@@ -1,8 +1,13 @@
-use Rattle.der_core.specs.Laws.Shortest.{same_by_shortest}
+use Rattle.der_core.proofs.Shortest.{same_by_shortest}
 use Rattle.pkcs1_params.specs.Algorithms.{id_rsassa_pss, id_rsaes_oaep}
-use Rattle.pkcs1_params.specs.Laws.Algorithms.{algorithm_of_delimited, counted_in}
-use Rattle.pkcs1_params.specs.Laws.Parameters.{pss_delimited, oaep_delimited, pss_in_order, oaep_in_order}
+use Rattle.pkcs1_params.proofs.AlgorithmsLaws.{algorithm_of_delimited, counted_in}
+use Rattle.pkcs1_params.specs.Laws.Parameters.{pss_delimited, oaep_delimited}
+use Rattle.pkcs1_params.proofs.Parameters.{pss_in_order, oaep_in_order}
 use Rattle.pkcs1_params.specs.Parameters.{RsaPssParams, RsaOaepParams, pss_fields, oaep_fields}
+use Rattle.pkcs1_params.specs.Algorithms.{rsa_oaep_algorithm, rsa_pss_algorithm}
+use Rattle.pkcs1_params.specs.Laws.ParameterReadings.{oaep_reads, pss_reads}
+use Rattle.pkcs1_params.specs.Parts.{defaults_with, oaep_values, pss_values}
+use Rattle.pkcs1_params.proofs.FaultsTell.{strict_algorithm_tells, whole_algorithm_tells}
 use Rattle.pkcs1_params.proofs.laws.lemma_algorithms.Goals as goal
 
 pub returns-clause-pss : goal.returns-clause-pss
@@ -22,3 +27,12 @@ returns-clause-count_pss c = counted_in pss_fields pss_in_order id_rsassa_pss
 
 pub returns-clause-count_oaep : goal.returns-clause-count_oaep
 returns-clause-count_oaep c = counted_in oaep_fields oaep_in_order id_rsaes_oaep
+
+pub returns-clause-faults_pss : goal.returns-clause-faults_pss
+returns-clause-faults_pss c =
+    strict_algorithm_tells (defaults_with pss_values) rsa_pss_algorithm (whole_algorithm_tells pss_reads id_rsassa_pss)
+
+pub returns-clause-faults_oaep : goal.returns-clause-faults_oaep
+returns-clause-faults_oaep c =
+    strict_algorithm_tells (defaults_with oaep_values) rsa_oaep_algorithm
+    (whole_algorithm_tells oaep_reads id_rsaes_oaep)

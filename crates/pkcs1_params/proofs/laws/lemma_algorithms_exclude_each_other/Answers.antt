@@ -1,6 +1,6 @@
 use Rattle.spki_core.specs.Any.{Any}
 use Rattle.pkcs1_params.specs.Algorithms.{id_rsassa_pss, id_rsaes_oaep}
-use Rattle.pkcs1_params.specs.Laws.Algorithms.{identifiers_exclude_fields, other_identifiers}
+use Rattle.pkcs1_params.proofs.AlgorithmsLaws.{identifiers_exclude_fields, other_identifiers}
 use Rattle.pkcs1_params.specs.Parameters.{RsaPssParams, RsaOaepParams, pss_fields, oaep_fields}
 use Rattle.pkcs1_params.proofs.laws.lemma_algorithms_exclude_each_other.Goals as goal
 

@@ -1,11 +1,16 @@
-use Rattle.der_core.specs.Laws.Shortest.{same_by_shortest}
-use Rattle.spki_core.specs.Laws.Fields.{defaults_same}
-use Rattle.spki_core.specs.Laws.Spellings.{masks_are_members}
+use Rattle.der_core.proofs.Shortest.{same_by_shortest}
+use Rattle.spki_core.proofs.Fields.{defaults_same}
+use Rattle.spki_core.proofs.Spellings.{masks_are_members}
 use Rattle.pkcs1_params.specs.Parameters.{pss_fields}
 use Rattle.pkcs1_params.proofs.ParameterSpellings.{each_has_one_mask, each_mask_has_one, shortest_has_no_defaults}
 use Rattle.pkcs1_params.proofs.ParameterSpellings.{accepted_fits}
-use Rattle.pkcs1_params.specs.Laws.Parameters.{pss_delimited, pss_in_order}
+use Rattle.pkcs1_params.specs.Laws.Parameters.{pss_delimited}
+use Rattle.pkcs1_params.proofs.Parameters.{pss_in_order}
 use Rattle.pkcs1_params.specs.Laws.Parts.{pss_defaults}
+use Rattle.pkcs1_params.proofs.ParameterReadings.{rsa_pss_params_reads}
+use Rattle.pkcs1_params.specs.ParameterReadings.{rsa_pss_params}
+use Rattle.pkcs1_params.specs.Parts.{defaults_with, pss_values}
+use Rattle.pkcs1_params.proofs.FaultsTell.{strict_tells}
 use Rattle.pkcs1_params.proofs.laws.lemma_pss_spellings.Goals as goal
 
 pub returns-clause-defaults : goal.returns-clause-defaults
@@ -28,3 +33,6 @@ returns-clause-count c = masks_are_members pss_fields pss_in_order
 
 pub returns-clause-same : goal.returns-clause-same
 returns-clause-same c = same_by_shortest pss_delimited
+
+pub returns-clause-faults : goal.returns-clause-faults
+returns-clause-faults c = strict_tells (defaults_with pss_values) rsa_pss_params rsa_pss_params_reads.tells

@@ -1,7 +1,7 @@
 use Rattle.std.proofs.Common.{ℕ, suc, ◌≡◌, ◌<◌, ◌-◌, ◌*◌, ◌%◌, ◌^◌, inl, inr, arith}
 use Rattle.std.proofs.lemmas.Nat.{one_shl, pow_pos}
 use Rattle.std.proofs.lemmas.Result.{err_from_is_err_and}
-use Rattle.pkcs1_params.specs.Laws.FieldValues.{ordered}
+use Rattle.pkcs1_params.proofs.FieldValues.{ordered}
 use Rattle.pkcs1_params.specs.Parts.{fields_with}
 use Rattle.pkcs1_params.proofs.Masks.{in_range, all_fit, none_fit, are_all}
 use Rattle.pkcs1_params.proofs.spelling.all_spellings.Goals as goal

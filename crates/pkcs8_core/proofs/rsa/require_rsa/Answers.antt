@@ -1,9 +1,10 @@
 use Rattle.std.specs.Prelude.{not}
-use Rattle.std.proofs.Common.{true, false, eqb, ◌≡◌, ◌∙◌, sym, ap, ℕ, length}
+use Rattle.std.proofs.Common.{true, false, eqb, ◌≡◌, ◌∙◌, sym, ap, ℕ, length, Err}
 use Rattle.der_core.specs.declared.error.Error.{Error}
 use Rattle.spki_core.specs.Any.{TagAndContents}
+use Rattle.spki_core.specs.AlgorithmValue.{algorithm_of}
 use Rattle.spki_core.specs.AnyRefValue.{any_of}
-use Rattle.pkcs8_core.specs.Rsa.{other}
+use Rattle.pkcs8_core.proofs.ContainerReadings.{rsa_other}
 use Rattle.pkcs8_core.proofs.rsa.require_rsa.Goals as goal
 use Rattle.pkcs8_core.proofs.rsa.require_rsa.Goals.{then-ne-via-then-ne, then-ne-via-else-ne+then-not-is_empty}
 
@@ -13,10 +14,10 @@ ne_refl t e h = let no : true ≡ not (eqb 5 5) = rw e at h in cc
 not_empty : (n : ℕ) → n ≡ 0 → false ≡ eqb n 0 → ⊥
 not_empty n e h = let no : false ≡ eqb 0 0 = rw e at h in cc
 
-pub returns-then-ne-clause-err : goal.returns-then-ne-clause-err
-returns-then-ne-clause-err c =
+pub returns-then-ne-clause-exact : goal.returns-then-ne-clause-exact
+returns-then-ne-clause-exact c =
     let any = c.in_ok-parameters.parameters in
-    other c.tag-then-ne.result (any_of any) (ap (λ (e : Error). e.kind) c.new.ensures)
+    rsa_other (algorithm_of c.args.algorithm.now) (any_of any) c.tag-then-ne.result
     (c.in_ok-assert_algorithm_oid.ensures.ok.1 ∙ c.rsa_encryption_oid.ensures) c.in_ok-parameters.ensures.ok
     c.tag-then-ne.ensures
     (elim c.then-ne.branch [
@@ -26,3 +27,4 @@ returns-then-ne-clause-err c =
           ap length (w.value.ensures.contents ∙ ap (λ (v : TagAndContents). v.contents) null) in
           not_empty _ none (sym w.if-not-is_empty.true ∙ w.is_empty.ensures)
     ])
+    ∙ ap (λ (e : Error). Err e.kind) (sym c.new.ensures)

@@ -1,16 +1,19 @@
-use Rattle.std.proofs.Common.{arith, ◌≡◌, length}
+use Rattle.std.proofs.Common.{arith, rules, ◌≡◌, length, sym}
 use Rattle.std.proofs.lemmas.Bool.Decides.{nat_tests}
 use Rattle.std.proofs.lemmas.List.{nil_from_length}
-use Rattle.spki_core.specs.Laws.StrictWalk.{walked_skip, walked_end}
+use Rattle.der_core.specs.Laws.Input.{are_bytes}
+use Rattle.der_core.specs.Laws.Readings.{behind_within}
+use Rattle.spki_core.specs.Laws.Readings.{any_reads}
+use Rattle.spki_core.proofs.StrictWalk.{walked_end}
 use Rattle.spki_core.proofs.strict.+first_written.Goals as goal
-
-pub returns-in-Ok : goal.returns-in-Ok
-returns-in-Ok t c =
-    let f =
-    c.in-Ok.ensures.ok in walked_skip _ _ _ f.0 _ _ _ c.in-len1-up.len_at_least c.if-not-default.true f.1 f.2
-    c.first_written.ensures
 
 pub returns-then-is_empty : goal.returns-then-is_empty
 returns-then-is_empty t c =
     let none : length c.args.contents.now ≡ 0 = grind (arith, nat_tests, c.if-is_empty.true, c.is_empty.ensures) in
-    rw (nil_from_length _ none) (walked_end c.args.number c.args.defaults.now)
+    rw (nil_from_length _ none) (sym (walked_end c.args.number c.args.defaults.now))
+
+pub first_written-requires : goal.first_written-requires
+first_written-requires t c =
+    let bytes = are_bytes _ (λ i. omega (arith, c.type_inv.contents i)) in
+    let x = any_reads.gives c.args.contents.now c.in-Ok.rest.now _ bytes c.in-Ok.ensures in
+    (search rules, (behind_within x.0 c.in-Ok.rest.now x.1 c.requires.fits, search rules))

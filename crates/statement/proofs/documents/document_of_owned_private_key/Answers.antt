@@ -4,7 +4,7 @@ use Rattle.pkcs1.specs.PrivateKeyValue.{private_key_with}
 use Rattle.statement.specs.Statement.{PrivateKeyEncoding}
 use Rattle.statement.specs.Held.{uint, rsa_private_key}
 use Rattle.statement.proofs.OutOfMemory.{refused}
-use Rattle.statement.specs.Laws.Shortest.{shortest}
+use Rattle.statement.proofs.Shortest.{shortest}
 use Rattle.statement.proofs.Writing.{unmade, none_made, made_of, private_same, owned_canonical}
 use Rattle.statement.proofs.documents.document_of_owned_private_key.Goals as goal
 

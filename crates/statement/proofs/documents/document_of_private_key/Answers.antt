@@ -4,7 +4,7 @@ use Rattle.pkcs1.specs.PrivateKeyValue.{private_key_of}
 use Rattle.statement.specs.Statement.{PrivateKeyEncoding}
 use Rattle.statement.specs.Held.{uint_ref, rsa_private_key}
 use Rattle.statement.proofs.OutOfMemory.{refused}
-use Rattle.statement.specs.Laws.Shortest.{shortest}
+use Rattle.statement.proofs.Shortest.{shortest}
 use Rattle.statement.proofs.Writing.{unmade, none_made, made_of, private_same, borrowed_canonical}
 use Rattle.statement.proofs.documents.document_of_private_key.Goals as goal
 

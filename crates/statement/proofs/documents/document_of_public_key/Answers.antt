@@ -3,7 +3,7 @@ use Rattle.pkcs1.specs.PublicKeyValue.{public_key_with}
 use Rattle.statement.specs.Statement.{PublicKeyEncoding}
 use Rattle.statement.specs.Held.{rsa_public_key}
 use Rattle.statement.proofs.OutOfMemory.{refused}
-use Rattle.statement.specs.Laws.Shortest.{shortest}
+use Rattle.statement.proofs.Shortest.{shortest}
 use Rattle.statement.proofs.Writing.{unmade, none_made, made_of, public_held}
 use Rattle.statement.proofs.documents.document_of_public_key.Goals as goal
 

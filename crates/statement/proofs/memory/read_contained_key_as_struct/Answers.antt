@@ -1,6 +1,6 @@
 use Rattle.std.proofs.Common.{ℕ, List, ◌≡◌, sym, ap, ◌∙◌, map}
 use Rattle.std.specs.Option.{option_map}
-use Rattle.der_core.specs.Reading.{Rejects, TellsOfBytes}
+use Rattle.der_core.specs.Reading.{NoValueOrMemory, TellsOfBytes}
 use Rattle.der_core.specs.UintRefValue.{bytes_of}
 use Rattle.spki_core.specs.AnyRefValue.{any_of}
 use Rattle.pkcs1.specs.Allocating.{MayAllocate}
@@ -8,7 +8,7 @@ use Rattle.pkcs1.specs.Keys as keys
 use Rattle.pkcs1.specs.PrivateKeyValue.{private_key_of}
 use Rattle.pkcs1_params.specs.Errors.{IsAsn1}
 use Rattle.pkcs1_params.specs.Meanings.{IsTheOnly}
-use Rattle.pkcs8_core.specs.Held.{info_of}
+use Rattle.pkcs8_core.specs.ContainerValue.{info_of}
 use Rattle.pkcs8_core.specs.Rsa.{HoldsRsa}
 use Rattle.statement.specs.Statement.{PrivateKey, PrivateKeyEncoding, rsa_encryption}
 use Rattle.statement.specs.Held.{rsa_private_key, uint_ref, private_key_info_ref}
@@ -37,7 +37,7 @@ returns-clause-read c =
       ),
       λ w p. sym (back w) ∙ ap numbers (ok.1 (key_of w) (ok.0.0, means w bytes p.1)) ∙ private_holds bytes_of key,
     ))
-    (IsAsn1 (λ e. Rejects e.kind (MayAllocate bytes) none)) c.rsa_key.ensures.err
+    (IsAsn1 (λ e. NoValueOrMemory e.kind (MayAllocate bytes) none)) c.rsa_key.ensures.err
     (λ e err other v p. rejected (λ x. TellsOfBytes x.kind) _ _ e err other (key_of v)
     (sym (plain_forth info.algorithm) ∙ ap plain_to (a ∙ p.0), means v bytes p.1))
 

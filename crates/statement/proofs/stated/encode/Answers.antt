@@ -1,4 +1,4 @@
-use Rattle.statement.specs.Laws.Shortest.{shortest}
+use Rattle.statement.proofs.Shortest.{shortest}
 use Rattle.statement.proofs.Writing.{unwritten, written}
 use Rattle.statement.proofs.stated.encode.Goals as goal
 

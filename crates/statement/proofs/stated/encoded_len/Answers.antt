@@ -1,5 +1,5 @@
 use Rattle.std.proofs.Common.{sym, ◌∙◌, arith}
-use Rattle.statement.specs.Laws.Shortest.{shortest}
+use Rattle.statement.proofs.Shortest.{shortest}
 use Rattle.statement.proofs.Writing.{uncounted, written}
 use Rattle.statement.proofs.stated.encoded_len.Goals as goal
 

@@ -3,7 +3,7 @@ use Rattle.der_core.specs.Length.{limit}
 use Rattle.der_core.specs.Tlv.{Tlv, tlv}
 use Rattle.der_core.specs.Document.{IsDocument, IsShortest}
 use Rattle.der_core.specs.Laws.Encodings.{tlv_relates, tlv_shortest}
-use Rattle.der_core.specs.Laws.NotWritten.{shortest_is}
+use Rattle.der_core.proofs.NotWritten.{shortest_is}
 use Rattle.der_core.proofs.Documents.{written_document, written_over}
 use Rattle.der_core.proofs.document.DocumentOf.encode_msg.Goals as goal
 

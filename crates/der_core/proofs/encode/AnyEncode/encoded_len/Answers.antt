@@ -1,6 +1,6 @@
 use Rattle.der_core.specs.Tlv.{Tlv}
 use Rattle.der_core.specs.Laws.Encodings.{tlv_shortest}
-use Rattle.der_core.specs.Laws.NotWritten.{uncounted}
+use Rattle.der_core.proofs.NotWritten.{uncounted}
 use Rattle.der_core.proofs.encode.AnyEncode.encoded_len.Goals as goal
 
 pub returns-clause-err : goal.returns-clause-err

@@ -1,19 +1,13 @@
-use Rattle.std.proofs.Common.{refl, sym, ap, ◌∙◌, inr}
+use Rattle.std.proofs.Common.{ap, refl, ◌∙◌, inr}
 use Rattle.der_core.specs.declared.error.ErrorKind.TheVariants as kind
-use Rattle.der_core.specs.Laws.Sequences.{some_same}
 use Rattle.der_core.specs.Laws.Tags.{same_tag}
 use Rattle.der_core.specs.Tags.{integer}
+use Rattle.der_core.proofs.ReadSteps.{expected_fails}
 use Rattle.der_core.proofs.expected.ExpectedDecodeValueRefSliceU8.decode_value.Goals as goal
 
 pub returns-then-branch : goal.returns-then-branch
-returns-then-branch g c =
-    let r = c.in_ok-decode_value.ensures in (
-      c.error.ensures.failed,
-      λ all is. inr
-          (inr (
-            c.in_ok-decode_value.field-0,
-            rw (some_same all r.0 (sym is ∙ r.1)) r.3,
-            c.if-branch.true,
-            c.error.ensures.value ∙ ap kind.Value (same_tag _ integer refl),
-          )),
-    )
+returns-then-branch g c = (
+  c.error.ensures.failed,
+  inr (expected_fails _ _ _ (g.R.BytesLeft.left c.args.reader.now) c.in_ok-decode_value.ensures.0 c.if-branch.true
+      (c.error.ensures.value ∙ ap kind.Value (same_tag _ integer refl))),
+)

@@ -1,7 +1,10 @@
-use Rattle.der_core.specs.Laws.FrontParts.{row_gives}
+use Rattle.std.proofs.lemmas.Result.{err_from_is_err_and}
+use Rattle.der_core.proofs.ReadSteps.{row_fails}
 use Rattle.der_core.proofs.front.Tuple2DecodeFrontRefSliceU8.decode_front.Goals as goal
 
-pub returns : goal.returns
-returns g c =
-    row_gives g.A.Encoding.encoding g.B.Contents.contents (g.A.Encoding.value c.in_ok-first.first)
-    (g.B.Contents.value c.in_ok-rest.rest) c.in_ok-first.ensures c.in_ok-rest.ensures
+pub returns-in_err-rest : goal.returns-in_err-rest
+returns-in_err-rest g c =
+    let p = err_from_is_err_and c.from_residual-in_err-rest.result c.from_residual-in_err-rest.ensures.1 in
+    rw (p.1, p.2)
+    (row_fails g.A.Encoding.reads_front g.B.FrontRow.read_row _ _ _ _ _ _ _
+    (g.R.BytesLeft.bytes c.args.reader.now) c.in_ok-first.ensures c.in_err-rest.ensures)

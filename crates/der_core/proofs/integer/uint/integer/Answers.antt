@@ -1,6 +1,6 @@
 use Rattle.std.proofs.Common.{refl, ap, arith, length, ◌<◌}
 use Rattle.std.proofs.lemmas.Bool.Decides.{nat_tests}
-use Rattle.der_core.specs.Laws.Integer.{tail_holds}
+use Rattle.der_core.proofs.IntegerLaws.{tail_holds}
 use Rattle.der_core.proofs.IntegerFaults.{is_empty, is_negative, is_padded}
 use Rattle.der_core.proofs.integer.uint.integer.Goals as goal
 

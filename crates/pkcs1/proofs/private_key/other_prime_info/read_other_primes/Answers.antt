@@ -6,13 +6,11 @@ use Rattle.std.specs.declared.vec.Vec.{Vec}
 use Rattle.der_core.specs.declared.error.ErrorKind.TheVariants as kind
 use Rattle.der_core.specs.Laws.Tags.{same_tag}
 use Rattle.der_core.specs.Tags.{integer, sequence}
-use Rattle.der_core.specs.Tlv.{Tlv}
-use Rattle.pkcs1.specs.Allocating.{AllocatesInOther, AllocatesInOthers}
 use Rattle.pkcs1.specs.declared.private_key.other_prime_info.OtherPrimeInfo.{OtherPrimeInfo}
-use Rattle.der_core.specs.Reading.{AllocatesForItems}
-use Rattle.pkcs1.specs.Keys.{OtherPrime, OtherPrimeInfo as grammar_info}
+use Rattle.pkcs1.specs.Allocating.{AllocatesInOthers}
+use Rattle.pkcs1.specs.Keys.{OtherPrime}
 use Rattle.pkcs1.specs.PrivateKeyValue.{other_of}
-use Rattle.pkcs1.proofs.OtherReads.{agree, others_faults, disagree_faults, empty_faults, more_faults, others_given}
+use Rattle.pkcs1.proofs.OtherReads.{disagree_fails, empty_fails, more_fails, others_give}
 use Rattle.pkcs1.proofs.private_key.other_prime_info.read_other_primes.Goals as goal
 
 abbrev items : {U V : Type 0} → (U → V) → Vec (OtherPrimeInfo U) Global → List (OtherPrime V)
@@ -24,46 +22,32 @@ count v = length v.items
 counts : {U V : Type 0} (value : U → V) (v : Vec (OtherPrimeInfo U) Global) → length (items value v) ≡ count v
 counts value v = length-map v.items (other_of value)
 
-pub returns-in_err-others : goal.returns-in_err-others
-returns-in_err-others g c =
-    let p = err_from_is_err_and c.from_residual.result c.from_residual.ensures.1 in
-    rw (p.1, p.2) (others_faults (items g.U.Encoding.value) count (counts g.U.Encoding.value) g.U.Encoding.encoding
-    g.U.Decode.fault (Tlv 48 (AllocatesForItems (grammar_info g.U.Encoding.encoding)
-    (Tlv 48 (AllocatesInOther g.U.Encoding.encoding g.U.Decode.may_allocate))))
-    (AllocatesInOthers g.U.Encoding.encoding g.U.Decode.may_allocate) _ (λ c w. w) c.in_err-others.ensures)
-
 pub returns-then-is_multi-is_some : goal.returns-then-is_multi-is_some
 returns-then-is_multi-is_some g c =
-    disagree_faults (items g.U.Encoding.value) count (counts g.U.Encoding.value) g.U.Encoding.encoding g.U.Decode.fault
-    (λ _. ⊥) (AllocatesInOthers g.U.Encoding.encoding g.U.Decode.may_allocate) _ _ _ c.is_multi.ensures
-    c.is_some.ensures c.if-is_multi-is_some.true c.in_ok-others.ensures
-    (c.error.ensures.failed, c.error.ensures.value ∙ ap kind.Value (same_tag _ integer refl))
+    disagree_fails (items g.U.Encoding.value) count (counts g.U.Encoding.value) g.U.Encoding.read_front c.args.version
+    (AllocatesInOthers g.U.Encoding.encoding g.U.Decode.may_allocate) c.in_ok-others.others _ _ _ c.in_ok-others.ensures
+    c.is_multi.ensures c.is_some.ensures _ c.if-is_multi-is_some.true c.error.ensures.failed
+    (c.error.ensures.value ∙ ap kind.Value (same_tag _ integer refl))
 
 pub returns-then-lists_none : goal.returns-then-lists_none
 returns-then-lists_none g c =
-    empty_faults (items g.U.Encoding.value) count (counts g.U.Encoding.value) g.U.Encoding.encoding g.U.Decode.fault
-    (λ _. ⊥) (AllocatesInOthers g.U.Encoding.encoding g.U.Decode.may_allocate) _ _ _ c.lists_none.ensures
-    c.if-lists_none.true c.in_ok-others.ensures
-    (agree (items g.U.Encoding.value) count (counts g.U.Encoding.value) _ c.is_multi.ensures c.is_some.ensures
-    c.if-is_multi-is_some.false) (
-      c.error-then-lists_none.ensures.failed,
-      c.error-then-lists_none.ensures.value
-          ∙ ap kind.Value (same_tag _ sequence refl),
-    )
+    empty_fails (items g.U.Encoding.value) count (counts g.U.Encoding.value) g.U.Encoding.read_front c.args.version
+    (AllocatesInOthers g.U.Encoding.encoding g.U.Decode.may_allocate) c.in_ok-others.others _ _ _ c.in_ok-others.ensures
+    c.is_multi.ensures c.is_some.ensures c.if-is_multi-is_some.false c.lists_none.ensures _ c.if-lists_none.true
+    c.error-then-lists_none.ensures.failed
+    (c.error-then-lists_none.ensures.value ∙ ap kind.Value (same_tag _ sequence refl))
 
 pub returns-in_err-finish : goal.returns-in_err-finish
 returns-in_err-finish g c =
     let p = err_from_is_err_and c.from_residual-in_err-finish.result c.from_residual-in_err-finish.ensures.1 in
-    rw (p.1, p.2) (more_faults (items g.U.Encoding.value) count (counts g.U.Encoding.value) g.U.Encoding.encoding
-    g.U.Decode.fault (λ _. ⊥) (AllocatesInOthers g.U.Encoding.encoding g.U.Decode.may_allocate) _ _ _
-    c.lists_none.ensures c.if-lists_none.false c.in_ok-others.ensures
-    (agree (items g.U.Encoding.value) count (counts g.U.Encoding.value) _ c.is_multi.ensures c.is_some.ensures
-    c.if-is_multi-is_some.false) c.in_err-finish.ensures)
+    rw (p.1, p.2) (more_fails (items g.U.Encoding.value) count (counts g.U.Encoding.value) g.U.Encoding.read_front
+    c.args.version (AllocatesInOthers g.U.Encoding.encoding g.U.Decode.may_allocate) c.in_ok-others.others _ _ _
+    c.in_ok-others.ensures c.is_multi.ensures c.is_some.ensures c.if-is_multi-is_some.false c.lists_none.ensures _
+    c.if-lists_none.false c.in_err-finish.ensures)
 
 pub returns : goal.returns
 returns g c =
-    others_given (items g.U.Encoding.value) count (counts g.U.Encoding.value) g.U.Encoding.encoding g.U.Decode.fault
-    (λ _. ⊥) (AllocatesInOthers g.U.Encoding.encoding g.U.Decode.may_allocate) _ _ c.lists_none.ensures
-    c.if-lists_none.false c.in_ok-others.ensures
-    (agree (items g.U.Encoding.value) count (counts g.U.Encoding.value) _ c.is_multi.ensures c.is_some.ensures
-    c.if-is_multi-is_some.false) c.in_ok-finish.ensures
+    others_give (items g.U.Encoding.value) count (counts g.U.Encoding.value) g.U.Encoding.read_front c.args.version
+    (AllocatesInOthers g.U.Encoding.encoding g.U.Decode.may_allocate) c.in_ok-others.others
+    (g.R.BytesLeft.left c.args.reader.now) _ _ c.in_ok-others.ensures c.is_multi.ensures c.is_some.ensures
+    c.if-is_multi-is_some.false c.lists_none.ensures c.if-lists_none.false c.in_ok-finish.ensures

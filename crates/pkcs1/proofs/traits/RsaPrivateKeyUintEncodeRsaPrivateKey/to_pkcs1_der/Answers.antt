@@ -1,6 +1,6 @@
 use Rattle.der_core.specs.UintValue.{own_bytes_of}
 use Rattle.pkcs1.specs.PrivateKeyValue.{private_key_with}
-use Rattle.pkcs1.specs.Laws.HeldKeys.{own_held}
+use Rattle.pkcs1.proofs.KeysHaveEncodings.{own_held}
 use Rattle.pkcs1.proofs.NotWritten.{document_only, unwritten_held}
 use Rattle.pkcs1.proofs.traits.RsaPrivateKeyUintEncodeRsaPrivateKey.to_pkcs1_der.Goals as goal
 

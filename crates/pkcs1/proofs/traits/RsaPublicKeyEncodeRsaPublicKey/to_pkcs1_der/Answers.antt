@@ -3,7 +3,7 @@ use Rattle.der_core.specs.Laws.Integer.{holds_canonical}
 use Rattle.pkcs1.specs.Keys.{RsaPublicKey}
 use Rattle.pkcs1.specs.PublicKeyValue.{public_key_of}
 use Rattle.pkcs1.proofs.NotWritten.{unwritten_as, public_written}
-use Rattle.pkcs1.specs.Laws.PublicKeys.{public_only, public_made}
+use Rattle.pkcs1.proofs.PublicKeys.{public_only, public_made}
 use Rattle.pkcs1.proofs.traits.RsaPublicKeyEncodeRsaPublicKey.to_pkcs1_der.Goals as goal
 
 pub returns-clause-encoding : goal.returns-clause-encoding

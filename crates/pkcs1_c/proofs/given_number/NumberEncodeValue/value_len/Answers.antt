@@ -1,6 +1,6 @@
 use Rattle.std.proofs.Common.{ℕ, List, ◌∷◌, ◌+◌, ◌≡◌, length, arith, Bool, true, false, nat_lt}
 use Rattle.std.specs.Prelude.{slice_index, if◌then◌else◌}
-use Rattle.der_core.specs.Laws.IntegerLengths.{counts_integer}
+use Rattle.der_core.proofs.IntegerLengths.{counts_integer}
 use Rattle.pkcs1_c.proofs.given_number.NumberEncodeValue.value_len.Goals as goal
 
 counted : (bytes : List ℕ) (low : Bool)

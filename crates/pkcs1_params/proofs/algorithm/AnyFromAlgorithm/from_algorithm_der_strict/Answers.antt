@@ -1,9 +1,9 @@
 use Rattle.std.proofs.Common.{refl, Ok, Err}
 use Rattle.std.proofs.lemmas.Result.{err_from_is_err_and}
-use Rattle.pkcs1_params.specs.Algorithms.{AlgorithmOfFault, NotIdentified}
-use Rattle.pkcs1_params.specs.Laws.Algorithms.{shortest_inside, shortest_outside}
-use Rattle.pkcs1_params.specs.Parts.{Fielded, fields_with}
-use Rattle.pkcs1_params.proofs.Algorithms.{inside, strict_before, strict_behind}
+use Rattle.pkcs1_params.specs.Algorithms.{whole_algorithm}
+use Rattle.pkcs1_params.proofs.AlgorithmsLaws.{shortest_inside, shortest_outside}
+use Rattle.pkcs1_params.specs.Parts.{Fielded, defaults_with}
+use Rattle.pkcs1_params.proofs.Algorithms.{inside, strict_behind}
 use Rattle.pkcs1_params.proofs.algorithm.AnyFromAlgorithm.from_algorithm_der_strict.Goals as goal
 
 pub reject_defaults-requires : goal.reject_defaults-requires
@@ -17,15 +17,6 @@ pub returns-in_err-params-clause-err : goal.returns-in_err-params-clause-err
 returns-in_err-params-clause-err g c =
     let p = err_from_is_err_and c.from_residual.result c.from_residual.ensures.1 in
     rw p.1 (λ v s. c.in_err-params.ensures.err v s.spells)
-
-pub returns-in_err-params-clause-exact : goal.returns-in_err-params-clause-exact
-returns-in_err-params-clause-exact g c =
-    let p = err_from_is_err_and c.from_residual.result c.from_residual.ensures.1 in
-    let t = g.T.AlgorithmParams in
-    let oid = g.T.Oid.AssociatedOid.contents in
-    let e = c.in_err-params.ensures in
-    rw (p.1, p.2) (strict_before (Fielded t.values) (fields_with t.values)
-    (AlgorithmOfFault (NotIdentified oid t.fault)) oid _ e.err _ e.exact)
 
 pub returns-in_err-reject_defaults-clause-err : goal.returns-in_err-reject_defaults-clause-err
 returns-in_err-reject_defaults-clause-err g c =
@@ -45,10 +36,9 @@ returns-in_err-reject_defaults-clause-exact g c =
     c.from_residual-in_err-reject_defaults.ensures.1 in
     let t = g.T.AlgorithmParams in
     let oid = g.T.Oid.AssociatedOid.contents in
-    let r = c.in_ok-params.ensures in
     rw (p.1, p.2)
-    (strict_behind (Fielded t.values) (fields_with t.values) (AlgorithmOfFault (NotIdentified oid t.fault)) oid _ _ r.ok
-    r.exact _ c.encoded_parameters.ensures {X = Unit {0}} (Err _) c.in_err-reject_defaults.ensures.exact)
+    (strict_behind {X = Unit {0}} (defaults_with t.values) (whole_algorithm oid t.read) oid _ _ _
+    c.in_ok-params.ensures.exact c.encoded_parameters.ensures (Err _) c.in_err-reject_defaults.ensures.exact)
 
 pub returns-clause-ok : goal.returns-clause-ok
 returns-clause-ok g c =
@@ -62,6 +52,5 @@ pub returns-clause-exact : goal.returns-clause-exact
 returns-clause-exact g c =
     let t = g.T.AlgorithmParams in
     let oid = g.T.Oid.AssociatedOid.contents in
-    let r = c.in_ok-params.ensures in
-    strict_behind (Fielded t.values) (fields_with t.values) (AlgorithmOfFault (NotIdentified oid t.fault)) oid _ _ r.ok
-    r.exact _ c.encoded_parameters.ensures {X = Unit {0}} (Ok tt) c.in_ok-reject_defaults.ensures.exact
+    strict_behind {X = Unit {0}} (defaults_with t.values) (whole_algorithm oid t.read) oid _ _ _
+    c.in_ok-params.ensures.exact c.encoded_parameters.ensures (Ok tt) c.in_ok-reject_defaults.ensures.exact

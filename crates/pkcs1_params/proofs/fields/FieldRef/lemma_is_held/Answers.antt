@@ -1,5 +1,5 @@
 use Rattle.std.proofs.Common.{arith, refl}
-use Rattle.pkcs1_params.specs.Laws.HeldFields.{number_short}
+use Rattle.pkcs1_params.proofs.FieldsHaveEncodings.{number_short}
 use Rattle.pkcs1_params.proofs.fields.FieldRef.lemma_is_held.Goals as goal
 
 pub returns-in-Hash : goal.returns-in-Hash

@@ -1,6 +1,6 @@
 use Rattle.std.proofs.Common.{refl}
 use Rattle.std.proofs.lemmas.Result.{err_from_is_err_and}
-use Rattle.der_core.specs.Laws.StoppedWriting.{appends_in_front, appends_behind}
+use Rattle.der_core.proofs.StoppedWriting.{appends_in_front, appends_behind}
 use Rattle.pkcs1_params.proofs.fields.FieldThenFields.append.Goals as goal
 
 pub returns-in_err-encode-clause-appends : goal.returns-in_err-encode-clause-appends

@@ -3,7 +3,7 @@ use Rattle.der_core.specs.Length.{limit}
 use Rattle.spki_core.specs.FieldWriting.{written_field}
 use Rattle.spki_core.specs.Masks.{out_under, rest_under}
 use Rattle.pkcs1_params.specs.FieldRefs.{part_in}
-use Rattle.pkcs1_params.specs.Laws.HeldFields.{field_held, field_short}
+use Rattle.pkcs1_params.proofs.FieldsHaveEncodings.{field_held, field_short}
 use Rattle.pkcs1_params.specs.Parts.{written_fields}
 use Rattle.pkcs1_params.proofs.fields.FieldThenFields.lemma_are_held.Goals as goal
 

@@ -1,5 +1,5 @@
 use Rattle.std.proofs.Common.{◌≡◌, false}
-use Rattle.der_core.specs.Laws.Counting.{counts_joined}
+use Rattle.der_core.proofs.Counting.{counts_joined}
 use Rattle.spki_core.specs.FieldWriting.{written_field}
 use Rattle.spki_core.specs.Masks.{out_under, rest_under}
 use Rattle.pkcs1_params.specs.FieldRefs.{part_in}

@@ -1,5 +1,6 @@
 use Rattle.std.proofs.Common.{◌≡◌}
-use Rattle.spki_core.specs.Laws.Carried.{algorithm_carried, same_carried}
+use Rattle.spki_core.specs.Laws.MappedValues.{same_carried}
+use Rattle.spki_core.proofs.MappedValues.{algorithm_carried}
 use Rattle.spki_core.specs.AlgorithmValue.{algorithm_with}
 use Rattle.pkcs1_params.proofs.oaep.RsaOaepParamsTryClone.try_clone.Goals as goal
 

@@ -1,28 +1,14 @@
-use Rattle.std.proofs.Common.{◌∙◌, subst, sym}
-use Rattle.std.proofs.lemmas.Result.{err_from_is_err_and}
-use Rattle.spki_core.specs.Any.{Any}
-use Rattle.spki_core.specs.Faults.{AnyFault}
+use Rattle.std.proofs.Common.{◌∙◌}
 use Rattle.pkcs1_params.specs.Allocating.{OwnedOaepAllocates}
-use Rattle.pkcs1_params.specs.ParameterFaults.{OaepFault}
-use Rattle.pkcs1_params.specs.Parameters.{OaepContents}
+use Rattle.pkcs1_params.specs.Laws.ParameterReadings.{oaep_reads}
 use Rattle.pkcs1_params.specs.OaepValue.{oaep_of}
-use Rattle.pkcs1_params.proofs.MemoryAsked.{read_fails, copy_fails}
-use Rattle.pkcs1_params.proofs.NothingAsked.{oaep_contents_ask}
+use Rattle.pkcs1_params.proofs.MemoryAsked.{copy_fails}
 use Rattle.pkcs1_params.proofs.owned.RsaOaepParamsAnyDecodeValueRefSliceU8Global.decode_value.Goals as goal
-
-pub returns-in_err-params : goal.returns-in_err-params
-returns-in_err-params g c =
-    let p = err_from_is_err_and c.from_residual.result c.from_residual.ensures.1 in
-    rw (p.1, p.2) (read_fails (OaepFault Any AnyFault) OwnedOaepAllocates _ _ _ _ oaep_contents_ask
-    c.in_err-params.ensures)
 
 pub returns-in-Err : goal.returns-in-Err
 returns-in-Err g c =
     let read = oaep_of c.in_ok-params.params in
     let w = c.in-Err.ensures.err in
-    copy_fails (OaepFault Any AnyFault) OwnedOaepAllocates _ _ _ (OaepContents read) _ c.in_ok-params.ensures
-    (λ b contents. (read, contents, w.1)) c.error.ensures.failed (c.error.ensures.value ∙ c.kind.ensures ∙ w.0)
-
-pub returns-in-Ok : goal.returns-in-Ok
-returns-in-Ok g c =
-    let h = c.in_ok-params.ensures in (h.0, h.1, h.2, subst (λ v. OaepContents v h.0) (sym c.in-Ok.ensures.ok) h.3)
+    copy_fails oaep_reads OwnedOaepAllocates _ _ _ read (g.R.BytesLeft.bytes c.args.reader.now)
+    c.in_ok-params.ensures.0 (λ b contents. (read, contents, w.1)) c.error.ensures.failed
+    (c.error.ensures.value ∙ c.kind.ensures ∙ w.0)

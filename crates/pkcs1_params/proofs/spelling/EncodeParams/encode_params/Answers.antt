@@ -1,12 +1,12 @@
 use Rattle.std.proofs.lemmas.Result.{IfOk-weaker}
 use Rattle.der_core.specs.Laws.Shortest.{means_one}
 use Rattle.der_core.specs.Laws.Encodings.{tlv_delimited}
-use Rattle.pkcs1_params.specs.Laws.FieldValues.{ordered}
+use Rattle.pkcs1_params.proofs.FieldValues.{ordered}
 use Rattle.pkcs1_params.specs.MaskedValues.{FieldContents}
 use Rattle.pkcs1_params.specs.Parts.{fields_with}
 use Rattle.pkcs1_params.proofs.Masks.{zero_in_range, zero_is_shortest, not_written, if_err_as}
 use Rattle.pkcs1_params.proofs.ParameterSpellings.{two_to_the_defaults}
-use Rattle.spki_core.specs.Laws.Spellings.{masked_spells}
+use Rattle.spki_core.proofs.Spellings.{masked_spells}
 use Rattle.pkcs1_params.proofs.spelling.EncodeParams.encode_params.Goals as goal
 
 pub encode_spelling_into-requires : goal.encode_spelling_into-requires

@@ -1,9 +1,9 @@
 use Rattle.std.proofs.Common.{arith}
 use Rattle.std.proofs.lemmas.Result.{err_from_is_err_and}
-use Rattle.der_core.specs.Laws.Fronts.{front_is, rest_is}
+use Rattle.der_core.proofs.FrontsAreUnique.{front_is, rest_is}
 use Rattle.der_core.specs.Tlv.{tlv}
 use Rattle.spki_core.specs.Laws.Masks.{parts_relate}
-use Rattle.pkcs1_params.specs.Laws.FieldValues.{ordered}
+use Rattle.pkcs1_params.proofs.FieldValues.{ordered}
 use Rattle.pkcs1_params.specs.Parts.{parts_of, fields_with, written_fields}
 use Rattle.pkcs1_params.proofs.Masks.{stands_under, unspelled_as, in_range, encoding_under}
 use Rattle.pkcs1_params.proofs.spelling.EncodeParams.encode_spelling_into.Goals as goal

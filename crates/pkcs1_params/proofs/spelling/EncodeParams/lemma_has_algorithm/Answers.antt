@@ -1,5 +1,5 @@
 use Rattle.std.proofs.Common.{◌≡◌}
-use Rattle.spki_core.specs.Laws.Held.{viewed_held}
+use Rattle.spki_core.specs.Laws.HaveEncodings.{viewed_held}
 use Rattle.spki_core.specs.ObjectIdentifier.{IsIdentifier}
 use Rattle.spki_core.specs.ObjectIdentifierValue.{octets_of}
 use Rattle.pkcs1_params.specs.Laws.MaskedValues.{contents_relate}

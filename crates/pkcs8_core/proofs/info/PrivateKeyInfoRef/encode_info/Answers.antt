@@ -1,4 +1,4 @@
-use Rattle.pkcs8_core.specs.Held.{info_of}
+use Rattle.pkcs8_core.specs.ContainerValue.{info_of}
 use Rattle.pkcs8_core.proofs.ContainerWrites.{alone, if_unwritten}
 use Rattle.pkcs8_core.proofs.info.PrivateKeyInfoRef.encode_info.Goals as goal
 

@@ -1,7 +1,7 @@
 use Rattle.std.proofs.Common.{arith}
 use Rattle.der_core.specs.Laws.Input.{are_bytes}
 use Rattle.der_core.specs.OctetStringRefValue.{octets_of}
-use Rattle.pkcs8_core.specs.Held.{info_of}
+use Rattle.pkcs8_core.specs.ContainerValue.{info_of}
 use Rattle.pkcs8_core.proofs.ContainerWrites.{algorithm_held, attributes_held, few_held, has_encoding}
 use Rattle.pkcs8_core.proofs.info.PrivateKeyInfoRef.lemma_has_encoding.Goals as goal
 

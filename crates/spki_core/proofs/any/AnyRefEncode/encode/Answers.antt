@@ -1,8 +1,8 @@
 use Rattle.std.proofs.Common.{arith, rules, ap, ◌≡◌, ◌+◌, ◌<◌, ◌≤◌, ◌++◌, length, length-append}
 use Rattle.std.proofs.lemmas.Result.{err_from_is_err_and}
 use Rattle.der_core.specs.Length.{limit, length_octets}
-use Rattle.der_core.specs.Laws.NotWritten.{stopped}
-use Rattle.der_core.specs.Laws.StoppedWriting.{appends_nothing, appends_at_once, appends_behind}
+use Rattle.der_core.proofs.NotWritten.{stopped}
+use Rattle.der_core.proofs.StoppedWriting.{appends_nothing, appends_at_once, appends_behind}
 use Rattle.spki_core.specs.Any.{Any, written_any}
 use Rattle.spki_core.specs.Laws.AnyEncodings.{any_relates, any_shortest}
 use Rattle.spki_core.specs.AnyRefValue.{any_of}

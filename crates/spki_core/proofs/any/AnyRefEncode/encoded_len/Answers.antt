@@ -1,5 +1,5 @@
-use Rattle.der_core.specs.Laws.Counting.{counts_encoding}
-use Rattle.der_core.specs.Laws.NotWritten.{uncounted}
+use Rattle.der_core.proofs.Counting.{counts_encoding}
+use Rattle.der_core.proofs.NotWritten.{uncounted}
 use Rattle.spki_core.specs.Any.{Any}
 use Rattle.spki_core.specs.Laws.AnyEncodings.{any_shortest}
 use Rattle.spki_core.specs.AnyRefValue.{any_of}

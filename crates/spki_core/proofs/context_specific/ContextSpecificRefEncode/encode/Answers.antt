@@ -2,8 +2,8 @@ use Rattle.std.proofs.Common.{arith, rules, ap, ◌≡◌, ◌+◌, ◌<◌, ◌
 use Rattle.std.proofs.lemmas.Result.{err_from_is_err_and}
 use Rattle.der_core.specs.Length.{limit, length_octets}
 use Rattle.der_core.specs.Tlv.{tlv}
-use Rattle.der_core.specs.Laws.NotWritten.{stopped}
-use Rattle.der_core.specs.Laws.StoppedWriting.{appends_nothing, appends_too_long, appends_behind}
+use Rattle.der_core.proofs.NotWritten.{stopped}
+use Rattle.der_core.proofs.StoppedWriting.{appends_nothing, appends_too_long, appends_behind}
 use Rattle.spki_core.specs.ContextSpecific.{Numbered, ContextSpecific}
 use Rattle.spki_core.specs.Laws.ContextSpecific.{numbered_relates, numbered_shortest}
 use Rattle.spki_core.proofs.context_specific.ContextSpecificRefEncode.encode.Goals as goal

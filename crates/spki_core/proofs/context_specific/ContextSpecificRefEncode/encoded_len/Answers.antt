@@ -1,6 +1,6 @@
 use Rattle.std.proofs.Common.{◌+◌}
-use Rattle.der_core.specs.Laws.Counting.{counts_encoding}
-use Rattle.der_core.specs.Laws.NotWritten.{uncounted}
+use Rattle.der_core.proofs.Counting.{counts_encoding}
+use Rattle.der_core.proofs.NotWritten.{uncounted}
 use Rattle.spki_core.specs.ContextSpecific.{Numbered, ContextSpecific}
 use Rattle.spki_core.specs.Laws.ContextSpecific.{numbered_shortest}
 use Rattle.spki_core.proofs.context_specific.ContextSpecificRefEncode.encoded_len.Goals as goal

@@ -1,4 +1,4 @@
-use Rattle.pkcs8_core.specs.Held.{info_of}
+use Rattle.pkcs8_core.specs.ContainerValue.{info_of}
 use Rattle.statement.proofs.Containers.{from, to, means}
 use Rattle.statement.proofs.Each.{container_forth}
 use Rattle.statement.proofs.Held.{container_holds}

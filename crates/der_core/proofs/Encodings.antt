@@ -1,0 +1,36 @@
+-- An encoding of given contents: there is one, and how long it is. And grammars that a list of values is mapped to.
+use Rattle.std.proofs.Common.{ℕ, List, [], ◌∷◌, ◌++◌, ◌≡◌, ◌<◌, ◌≤◌, ◌+◌, ◌^◌, length, refl, ap, ◌∙◌, arith, map}
+use Rattle.std.proofs.Common.{length-append}
+use Rattle.der_core.specs.Length.{IsLength, length_octets}
+use Rattle.der_core.specs.Encodings.{Is, AtMostOne}
+use Rattle.der_core.specs.Tlv.{Tlv}
+use Rattle.der_core.specs.Laws.Length.{length_made, length_octets-only, length_few}
+use Rattle.der_core.specs.Laws.Encodings.{AllAtMostOne}
+
+pub map_at_most_one : {V : Type 0} (Grammar : V → List ℕ → Type 0) → ((v : V) → AtMostOne (Grammar v)) → (vs : List V)
+    → AllAtMostOne (map Grammar vs)
+map_at_most_one Grammar m [] = tt
+map_at_most_one Grammar m (v ∷ vs) = (m v, map_at_most_one Grammar m vs)
+
+-- Contents that aren't too long have an encoding.
+pub tlv_made : (t : ℕ) (P : List ℕ → Type 0) (c : List ℕ) → P c → length c < 2 ^ 128
+    → (encoding : List ℕ) × (p : Tlv t P encoding) × (p.contents ≡ c)
+tlv_made t P c p l =
+    let o = length_made (length c) l in
+    (t ∷ o.0 ++ c, record { octets = o.0; contents = c; counted = o.1; holds = p; written = refl }, refl)
+
+-- An encoding is little longer than its contents.
+pub tlv_little_longer : {t : ℕ} {P : List ℕ → Type 0} (encoding : List ℕ) (p : Tlv t P encoding)
+    → length encoding ≤ length p.contents + 128
+tlv_little_longer encoding p =
+    rw p.written (omega (arith, length_few (length p.contents) p.octets p.counted, length-append p.octets p.contents))
+
+-- The length of an encoding, by that of its contents.
+pub tlv_length : (n t : ℕ) (c encoding : List ℕ) → length c ≡ n → Tlv t (Is c) encoding
+    → length encoding ≡ 1 + length (length_octets n) + n
+tlv_length n t c encoding e p =
+    let same : p.contents ≡ c = p.holds in
+    let count : length p.contents ≡ n = ap length same ∙ e in
+    let counted : IsLength n p.octets = rw count at p.counted in
+    let form : p.octets ≡ length_octets n = length_octets-only n p.octets counted in
+    omega (arith, ap length p.written, ap length form, count, length-append p.octets p.contents)

@@ -1,0 +1,268 @@
+-- Reading with `?`: each step of the code is one lemma.
+use Rattle.std.proofs.Common.{ℕ, Bool, true, false, List, [], ◌∷◌, ◌++◌, ◌≡◌, ◌≢◌, ◌≤◌, ◌==◌, length, take}
+use Rattle.std.proofs.Common.{drop, refl, sym, ap, ◌∙◌, arith, inl, inr, ⊎_elim, append_assoc, length-take, append-nil}
+use Rattle.std.proofs.Common.{take_all}
+use Rattle.std.proofs.Common.{Result, Ok, Err, Some, None}
+use Rattle.std.proofs.lemmas.Bool.Decides.{nat_tests}
+use Rattle.std.proofs.lemmas.List.{take-append-drop}
+use Rattle.std.specs.Prelude.{nat_lt, not, eqb, if◌then◌else◌, IfOk, IfErr}
+use Rattle.der_core.specs.declared.error.Error.{Error}
+use Rattle.der_core.specs.declared.error.ErrorKind.{ErrorKind}
+use Rattle.der_core.specs.declared.error.ErrorKind.TheVariants.{OutOfMemory, TagUnexpected, Value}
+use Rattle.der_core.specs.declared.tag.Tag.{Tag}
+use Rattle.der_core.specs.Document.{Means}
+use Rattle.der_core.specs.Encodings.{AreBytes}
+use Rattle.der_core.specs.Input.{Input, left_in, read_from, header_at, inner_of, end_of, front_of}
+use Rattle.der_core.specs.IntegerReading.{small_of}
+use Rattle.der_core.specs.Laws.Headers.{header_at-sound}
+use Rattle.der_core.specs.Laws.Input.{ok_pair}
+use Rattle.der_core.specs.Laws.LengthReading.{chosen}
+use Rattle.der_core.proofs.TaggedReadings.{other_behind}
+use Rattle.der_core.specs.Length.{limit}
+use Rattle.der_core.specs.Parts.{AllocatesInParts}
+use Rattle.der_core.specs.Reading.{AllocatesBehind, AllocatesIn, Asks, FaultOrMemory, Returns, ReadsAll}
+use Rattle.der_core.specs.Readings.{Reading, FrontReading, ◌>>=◌, chain, ended, expected, front_parts, made, parts}
+use Rattle.der_core.specs.Readings.{such, alone, tagged}
+use Rattle.der_core.specs.Readings.{contents_behind, inside, whole, ReadsContents, ReadsFronts}
+use Rattle.der_core.specs.Tags.{integer}
+use Rattle.der_core.specs.Tlv.{Tlv}
+
+pub some_same : (a b : List ℕ) (e : ◌≡◌ {A = Input} (Some a) (Some b)) → a ≡ b
+some_same a b e = cc
+
+-- What a call ensures of an error, and of a value with what is left.
+abbrev pub Fails : {R : Type 0} → Reading R → (List ℕ → Type 0) → ErrorKind → Input → Input → Type 0
+Fails read asked e before after = (after ≡ None) × FaultOrMemory e (Asks asked before) (read_from before read ≡ Err e)
+
+abbrev pub Gives : {V : Type 0} → FrontReading V → V → Input → Input → Type 0
+Gives at v before after = (rest : List ℕ) × (read_from before at ≡ Ok (v, rest)) × (after ≡ Some rest)
+
+-- A function with the same faults, of contents that may ask for memory wherever the first ones may.
+pub fails_so : {A B : Type 0} (read : Reading A) (other : Reading B)
+    → ((k : ErrorKind) (c : List ℕ) → read c ≡ Err k → other c ≡ Err k) → (asked more : List ℕ → Type 0)
+    → ((c : List ℕ) → asked c → more c) → (e : ErrorKind) (before after : Input) → Fails read asked e before after
+    → Fails other more e before after
+fails_so read other errs asked more to e None after (failed, inl w) = (failed, inl w)
+fails_so read other errs asked more to e (Some c) after (failed, inl w) = (failed, inl (w.0, to c w.1))
+fails_so read other errs asked more to e None after (failed, inr p) = (failed, inr (let q = p in cc))
+fails_so read other errs asked more to e (Some c) after (failed, inr p) = (failed, inr (errs e c p))
+
+-- Contents may ask for memory that were read.
+pub asks_read : {V : Type 0} {contents : V → List ℕ → Type 0} {read : Reading V} → ReadsContents contents read
+    → (v : V) (before : Input) → AreBytes (left_in before) → read_from before read ≡ Ok v
+    → Asks (λ c. (w : V) × contents w c) before
+asks_read law v None bytes p = cc
+asks_read law v (Some c) bytes p = (v, law.gives c v bytes p)
+
+-- Behind a first part, what the chain gives is what follows it.
+pub chain_from : {A B : Type 0} (at : FrontReading A) (behind : A → Reading B) (x : A) (before mid : Input)
+    → Gives at x before mid → read_from before (chain at behind) ≡ read_from mid (behind x)
+chain_from at behind x None mid (rest, p, is) = let never = p in cc
+chain_from at behind x (Some i) mid (rest, p, is) = ap (λ r. r >>= λ q. behind q.0 q.1) p ∙ (rw is refl)
+
+-- A value that was read and doesn't pass the test.
+pub such_fails : {V : Type 0} (read : Reading V) (test : V → Bool) (failure e : ErrorKind) (v : V) (before : Input)
+    → read_from before read ≡ Ok v → test v ≡ false → e ≡ failure → read_from before (such test failure read) ≡ Err e
+such_fails read test failure e v None p isnt kind = let q = p in cc
+such_fails read test failure e v (Some c) p isnt kind =
+    ap (λ r. r >>= λ v. if test v then Ok v else Err failure) p ∙ rw isnt (ap (λ k. Err k) (sym kind))
+
+-- A number that isn't the expected one.
+pub expected_fails : (n v : ℕ) (e : ErrorKind) (before : Input) → read_from before small_of ≡ Ok v → v ≢ n
+    → e ≡ Value integer → read_from before (expected n) ≡ Err e
+expected_fails n v e None p ne kind = let q = p in cc
+expected_fails n v e (Some c) p ne kind =
+    let no : (v == n) ≡ false = grind (arith, nat_tests, ne) in
+    ap (λ r. (r >>= λ v. if v == n then Ok v else Err (Value integer)) >>= λ _. Ok tt) p
+    ∙ rw no (ap (λ k. Err k) (sym kind))
+
+-- A value that has the contents of the parts that were read.
+pub parts_taken : {A B : Type 0} {Parts : A → List ℕ → Type 0} {row : Reading A} {contents : B → List ℕ → Type 0}
+    {read : Reading B} → ReadsContents Parts row → ReadsContents contents read → (a : A) (b : B)
+    → ((c : List ℕ) → Parts a c → contents b c) → (before : Input) → AreBytes (left_in before)
+    → length (left_in before) ≤ limit → read_from before row ≡ Ok a → read_from before read ≡ Ok b
+parts_taken parts law a b to None bytes within p = let q = p in cc
+parts_taken parts law a b to (Some c) bytes within p = law.takes c b within (to c (parts.gives c a bytes p))
+
+-- A row at the front, of which what follows the first part has a fault.
+pub row_fails : {A B : Type 0} {First : A → List ℕ → Type 0} {at : FrontReading A} → ReadsFronts First at
+    → (row : FrontReading B) (first rest : List ℕ → Type 0) (a : A) (e : ErrorKind) (before mid after : Input)
+    → AreBytes (left_in before) → Gives at a before mid → Fails row rest e mid after
+    → Fails (front_parts at row) (AllocatesInParts First first rest) e before after
+row_fails law row first rest a e None mid after bytes (left, p, is) fails = let no = p in cc
+row_fails law row first rest a e (Some i) mid after bytes (left, p, is) (failed, inl w) =
+    let s = law.gives i left a bytes p in (failed, inl (w.0, inr (a, (s.0, left, s.2, rw is at w.1, s.1))))
+row_fails law row first rest a e (Some i) mid after bytes (left, p, is) (failed, inr q) = (
+  failed,
+  inr
+      (ap (λ r. r >>= λ p. row p.1 >>= λ q. Ok ((p.0, q.0), q.1)) p
+      ∙ ap (λ r. r >>= λ q. Ok ((a, q.0), q.1)) (rw is at q)),
+)
+
+-- Behind a row that was read, what the chain gives is what follows it.
+pub row_from : {A B : Type 0} (row : FrontReading A) (behind : A → Reading B) (x : A) (before mid : Input)
+    → (before ≡ None → mid ≡ None)
+    × ((i : List ℕ) → before ≡ Some i → (rest : List ℕ) × (row i ≡ Ok (x, rest)) × (mid ≡ Some rest))
+    → read_from before (chain row behind) ≡ read_from mid (behind x)
+row_from row behind x None mid f = rw (f.0 refl) refl
+row_from row behind x (Some i) mid f =
+    let r = f.1 i refl in ap (λ r. r >>= λ q. behind q.0 q.1) r.1 ∙ (rw r.2 refl)
+
+-- A first part that asks for no memory, and what follows it.
+pub behind_fails : {A B C : Type 0} {First : A → List ℕ → Type 0} {at : FrontReading A} → ReadsFronts First at
+    → (rest : Reading B) (make : A × B → C) (later : List ℕ → Type 0) (x : A) (before mid after : Input) (e : ErrorKind)
+    → AreBytes (left_in before) → Gives at x before mid → Fails rest later e mid after
+    → Fails (made make (parts at rest)) (AllocatesBehind First later) e before after
+behind_fails law rest make later x None mid after e bytes (left, p, is) fails = let no = p in cc
+behind_fails law rest make later x (Some i) mid after e bytes (left, p, is) (failed, inl w) =
+    let s = law.gives i left x bytes p in (failed, inl (w.0, (x, (s.0, left, s.2, rw is at w.1, s.1))))
+behind_fails law rest make later x (Some i) mid after e bytes (left, p, is) (failed, inr q) = (
+  failed,
+  inr
+      (ap (λ r. (r >>= λ p. rest p.1 >>= λ b. Ok (p.0, b)) >>= λ a. Ok (make a)) p
+      ∙ ap (λ r. (r >>= λ b. Ok (x, b)) >>= λ a. Ok (make a)) (rw is at q)),
+)
+
+-- What was read at the front, by the grammar, and that memory may be asked for it. A fault, where none is asked for.
+module _ {V : Type 0} {encoding : V → List ℕ → Type 0} {at : FrontReading V} (law : ReadsFronts encoding at) where
+  pub front_gives : (x : V) (before after : Input) → AreBytes (left_in before) → Gives at x before after
+      → (b : List ℕ) × (rest : List ℕ) × (before ≡ Some (b ++ rest)) × (after ≡ Some rest) × encoding x b
+  front_gives x None after bytes (rest, p, is) = let no = p in cc
+  front_gives x (Some i) after bytes (rest, p, is) =
+      let s = law.gives i rest x bytes p in (s.0, rest, ap (λ l. Some l) s.1, is, s.2)
+
+  pub front_asks : (x : V) (before after : Input) → AreBytes (left_in before) → Gives at x before after
+      → Asks (AllocatesIn (λ b. (v : V) × encoding v b)) before
+  front_asks x None after bytes (rest, p, is) = let no = p in cc
+  front_asks x (Some i) after bytes (rest, p, is) =
+      let s = law.gives i rest x bytes p in (s.0, rest, s.1, (x, s.2))
+
+pub front_errs : {V : Type 0} (at : FrontReading V) (e : ErrorKind) (before : Input) (b : List ℕ) → before ≡ Some b
+    → FaultOrMemory e (Asks (AllocatesIn (λ _. ⊥)) before) (read_from before at ≡ Err e) → at b ≡ Err e
+front_errs at e None b is faulty = let no = is in cc
+front_errs at e (Some i) b is (inl w) = absurd w.1.3
+front_errs at e (Some i) b is (inr p) = ap at (sym (some_same i b is)) ∙ p
+
+pub all_front : (mid : Input) (r c rest : List ℕ) (n : ℕ) → mid ≡ Some r → n ≡ length (left_in mid)
+    → read_from mid (front_of n) ≡ Ok (c, rest) → c ≡ r
+all_front None r c rest n is len e = let no = is in cc
+all_front (Some l) r c rest n is len e =
+    let same : l ≡ r = some_same l r is in
+    ⊎_elim (λ w. let no = w.1 in cc)
+    (λ w.
+    let parts = ok_pair (take n l) c (drop n l) rest w.1 in sym parts.0 ∙ take_all n l (omega (arith, len)) ∙ same)
+    (chosen (nat_lt (length l) n) _ _ _ e)
+
+-- A value that is copied once it was read whole.
+pub copy_returns : {X V : Type 0} (value : X → V) (encoding : V → List ℕ → Type 0) (given : Result V ErrorKind)
+    (b : List ℕ) (v : V) → Means encoding b v → given ≡ Ok v → (r : Result X Error) → IfOk r (λ x. value x ≡ v)
+    → IfErr r (λ e. e.kind ≡ OutOfMemory)
+    → Returns value given (AllocatesIn (λ c. (w : V) × encoding w c) b) r
+copy_returns value encoding given b v means is (Ok x) same memory = is ∙ ap (λ w. Ok w) (sym same)
+copy_returns value encoding given b v means is (Err e) same memory =
+    inl (memory, (b, [], sym (append-nil b), (v, means.1)))
+
+-- An encoding, by its header.
+not_is : (b : Bool) → not b ≡ true → b ≡ false
+not_is true e = cc
+not_is false e = refl
+
+not_isnt : (b : Bool) → not b ≡ false → b ≡ true
+not_isnt true e = refl
+not_isnt false e = cc
+
+pub ne_true : (r : Bool) (a b t : ℕ) → r ≡ true → r ≡ not (eqb a b) → b ≡ t → a ≢ t
+ne_true r a b t e f g h = let no : eqb a b ≡ false = not_is (eqb a b) (sym (sym e ∙ f)) in grind (arith, nat_tests)
+
+pub ne_false : (r : Bool) (a b t : ℕ) → r ≡ false → r ≡ not (eqb a b) → b ≡ t → a ≡ t
+ne_false r a b t e f g = let yes : eqb a b ≡ true = not_isnt (eqb a b) (sym (sym e ∙ f)) in grind (arith, nat_tests)
+
+inner_is : (n : ℕ) (left rest : List ℕ) (inner : Input) → inner_of n left ≡ Ok (inner, rest)
+    → (nat_lt (length left) n ≡ false) × (inner ≡ Some (take n left)) × (rest ≡ drop n left)
+inner_is n left rest inner is =
+    ⊎_elim (λ w. let no = w.1 in cc)
+    (λ w. let parts = ok_pair (Some (take n left)) inner (drop n left) rest w.1 in (w.0, sym parts.0, sym parts.1))
+    (chosen (nat_lt (length left) n) _ _ _ is)
+
+module _ {V : Type 0} (tag : Tag) (read : Reading V) (may : List ℕ → Type 0) where
+  pub tag_fails : {n : ℕ} (before mid after : Input) (e : ErrorKind) (actual : Tag)
+      → Gives header_at (actual.octet, n) before mid → actual.octet ≢ tag.octet → e ≡ TagUnexpected tag actual
+      → after ≡ None → Fails (tagged tag read) (AllocatesIn (Tlv tag.octet may)) e before after
+  tag_fails None mid after e actual (rest, p, is) ne kind failed = let no = p in cc
+  tag_fails {n} (Some i) mid after e actual (rest, p, is) ne kind failed = (
+    failed,
+    inr
+        (ap (λ r. r >>= λ h. contents_behind tag h >>= inside read) p
+        ∙ ap (λ r. r >>= inside read) (other_behind tag actual n rest ne) ∙ ap (λ k. Err k) (sym kind)),
+  )
+
+  -- the encoding whose contents ask for memory
+  front_of_tlv : (i left : List ℕ) (n : ℕ) → AreBytes i → header_at i ≡ Ok ((tag.octet, n), left)
+      → nat_lt (length left) n ≡ false → may (take n left) → AllocatesIn (Tlv tag.octet may) i
+  front_of_tlv i left n bytes p room asks =
+      let head = header_at-sound i left tag.octet n bytes p in
+      let c = take n left in
+      let enough : n ≤ length left = grind (arith, nat_tests, room) in
+      let len : length c ≡ n = simp length-take (omega arith) in
+      let all : i ≡ (tag.octet ∷ head.0 ++ c) ++ drop n left =
+      head.2 ∙ ap (λ l. tag.octet ∷ head.0 ++ l) (sym (take-append-drop n left))
+      ∙ ap (λ l. tag.octet ∷ l) (sym (append_assoc head.0 c (drop n left))) in (
+        tag.octet ∷ head.0 ++ c,
+        drop n left,
+        all,
+        record { octets = head.0; contents = c; counted = rw len head.1; holds = asks; written = refl },
+      )
+
+  pub value_fails : (before mid inner mid2 ended after : Input) (e : ErrorKind) (t n : ℕ) → AreBytes (left_in before)
+      → Gives header_at (t, n) before mid → t ≡ tag.octet → Gives (inner_of n) inner mid mid2
+      → Fails read may e inner ended → after ≡ None
+      → Fails (tagged tag read) (AllocatesIn (Tlv tag.octet may)) e before after
+  value_fails None mid inner mid2 ended after e t n bytes (left, p, is) same (rest, q, are) fails failed =
+      let no = p in cc
+  value_fails (Some i) mid inner mid2 ended after e t n bytes (left, p, is) same (rest, q, are) fails failed =
+      let s = inner_is n left rest inner (rw is at q) in
+      let head : header_at i ≡ Ok ((tag.octet, n), left) = p ∙ ap (λ o. Ok ((o, n), left)) same in
+      let octet : (tag.octet == tag.octet) ≡ true = grind (arith, nat_tests) in
+      let here : contents_behind tag ((tag.octet, n), left) ≡ Ok (take n left, drop n left) = rw (octet, s.0) refl in (
+        failed,
+        ⊎_elim
+            (λ w. inl (w.0, front_of_tlv i left n bytes head s.0 (rw s.1 at w.1)))
+            (λ f.
+            let g : read (take n left) ≡ Err e = rw s.1 at f in
+            inr
+            (ap (λ r. r >>= λ h. contents_behind tag h >>= inside read) head ∙ ap (λ r. r >>= inside read) here
+            ∙ ap (λ r. r >>= λ v. Ok (v, drop n left)) g))
+            fails.1,
+      )
+
+-- Bytes behind an encoding that has to be alone, and behind that of a whole slice.
+ended_fails : {V : Type 0} (v : V) {e : ErrorKind} (rest : List ℕ) → end_of rest ≡ Err e → ended v rest ≡ Err e
+ended_fails v [] p = cc
+ended_fails v (x ∷ xs) p = let q = p in cc
+
+pub alone_fails : {V : Type 0} (at : FrontReading V) (asked : List ℕ → Type 0) (before mid after : Input)
+    (e : ErrorKind) (v : V) → Gives at v before mid → read_from mid end_of ≡ Err e → after ≡ None
+    → Fails (alone at) asked e before after
+alone_fails at asked None mid after e v (rest, p, is) ends failed = let no = p in cc
+alone_fails at asked (Some i) mid after e v (rest, p, is) ends failed =
+    (failed, inr (ap (λ r. r >>= λ p. ended p.0 p.1) p ∙ ended_fails v rest (rw is at ends)))
+
+pub whole_trailing : {V : Type 0} (at : FrontReading V) (before mid : Input) (b : List ℕ) (e : ErrorKind) (v : V)
+    → before ≡ Some b → length (left_in before) ≤ limit → Gives at v before mid → read_from mid end_of ≡ Err e
+    → whole at b ≡ Err e
+whole_trailing at before mid b e v is within (rest, p, left) ends =
+    let few : length b ≤ limit = rw is at within in
+    let no : nat_lt limit (length b) ≡ false = grind (arith, nat_tests, few) in
+    rw no (ap (λ r. r >>= λ p. ended p.0 p.1) (rw is at p) ∙ ended_fails v rest (rw left at ends))
+
+-- The grammar of what was returned.
+module _ {X V : Type 0} (value : X → V) {encoding : V → List ℕ → Type 0} (at : FrontReading V) (b : List ℕ)
+    (law : ReadsContents (λ v b. Means encoding b v) (whole at)) where
+  none_meant : {e : ErrorKind} → whole at b ≡ Err e → (v : V) → Means encoding b v → ⊥
+  none_meant e v m = let no = sym e ∙ law.takes b v m.0 m in cc
+
+  pub reads_all : (may : List ℕ → Type 0) (r : Result X Error) → AreBytes b
+      → Returns value (whole at b) (AllocatesIn may b) r → ReadsAll value encoding may r b
+  reads_all may (Ok x) bytes p = law.gives b (value x) bytes p
+  reads_all may (Err e) bytes (inl w) = inl w
+  reads_all may (Err e) bytes (inr p) = inr (law.tells b e.kind p, none_meant p)

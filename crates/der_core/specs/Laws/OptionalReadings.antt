@@ -1,0 +1,80 @@
+-- Reading by functions: a part that is there if its tag is next.
+use Rattle.std.proofs.Common.{ℕ, true, List, [], ◌++◌, ◌≡◌, ◌⊎◌, ◌≤◌, length, refl, sym, ap, ◌∙◌, arith, inl, inr}
+use Rattle.std.proofs.Common.{⊎_elim, append-nil, Ok, Err, Option, Some, None}
+use Rattle.std.proofs.lemmas.Bool.Decides.{nat_tests}
+use Rattle.der_core.specs.declared.error.ErrorKind.{ErrorKind}
+use Rattle.der_core.specs.declared.tag.Tag.{Tag}
+use Rattle.der_core.specs.Laws.Encodings.{joins_last, last_holds}
+use Rattle.der_core.specs.Laws.Input.{ok_pair}
+use Rattle.der_core.specs.Laws.LengthReading.{chosen}
+use Rattle.der_core.specs.Laws.Readings.{bind_err, bind_ok, carry, ended_is, ended_tells}
+use Rattle.der_core.specs.Laws.TaggedReadings.{tagged_reads}
+use Rattle.der_core.specs.Length.{limit}
+use Rattle.der_core.specs.Optional.{Optional}
+use Rattle.der_core.specs.Parts.{LastContents}
+use Rattle.der_core.specs.Reading.{TellsOfBytes}
+use Rattle.der_core.specs.Readings.{Reading, FrontReading, ReadsContents, ReadsFronts, ◌>>=◌, alone, ended, is_next}
+use Rattle.der_core.specs.Readings.{optional}
+use Rattle.der_core.specs.Readings.{tagged}
+use Rattle.der_core.specs.Tlv.{Tlv}
+
+module _ {V : Type 0} (t : ℕ) (at : FrontReading V) (i : List ℕ) where
+  pub optional_is : (o : Option V) (rest : List ℕ) → optional t at i ≡ Ok (o, rest)
+      → ((o ≡ None) × (i ≡ rest)) ⊎ ((v : V) × (o ≡ Some v) × (at i ≡ Ok (v, rest)))
+  optional_is o rest e =
+      ⊎_elim
+      (λ w.
+      let s = bind_ok (at i) _ w.1 in
+      let q = ok_pair (Some s.0.0) o s.0.1 rest s.2 in
+      inr (s.0.0, sym q.0, s.1 ∙ ap (λ r. Ok (s.0.0, r)) q.1))
+      (λ w. let q = ok_pair None o i rest w.1 in inl (sym q.0, q.1))
+      (chosen (is_next t i) _ _ _ e)
+
+  pub optional_takes : (v : V) (rest : List ℕ) → is_next t i ≡ true → at i ≡ Ok (v, rest)
+      → optional t at i ≡ Ok (Some v, rest)
+  optional_takes v rest first e = rw first (ap (λ r. r >>= λ p. Ok (Some p.0, p.1)) e)
+
+  pub optional_tells : ((k : ErrorKind) → at i ≡ Err k → TellsOfBytes k) → (k : ErrorKind) → optional t at i ≡ Err k
+      → TellsOfBytes k
+  optional_tells tells k e =
+      ⊎_elim (λ w. ⊎_elim (tells k) (λ s. let no = s.2 in cc) (bind_err (at i) _ w.1)) (λ w. let no = w.1 in cc)
+      (chosen (is_next t i) _ _ _ e)
+
+-- The last part that is known by its tag.
+module _ {V : Type 0} (tag : Tag) {contents : V → List ℕ → Type 0} {read : Reading V}
+    (law : ReadsContents contents read) where
+  abbrev Encoding : V → List ℕ → Type 0
+  Encoding v = Tlv tag.octet (contents v)
+
+  abbrev at : FrontReading V
+  at = tagged tag read
+
+  reads : ReadsFronts Encoding at
+  reads = tagged_reads tag law
+
+  takes : (c : List ℕ) (v : Option V) → length c ≤ limit → Optional Encoding v c
+      → alone (optional tag.octet at) c ≡ Ok v
+  takes c None within p = ap (alone (optional tag.octet at)) p
+  takes c (Some v) within p =
+      let first : is_next tag.octet c ≡ true = rw p.written (grind (arith, nat_tests)) in
+      ap (λ r. r >>= λ p. ended p.0 p.1)
+      (optional_takes tag.octet at c v [] first (reads.takes c c [] v within (sym (append-nil c)) p))
+
+  pub last_by_tag_reads : ReadsContents (LastContents (λ v. Tlv tag.octet (contents v)))
+      (alone (optional tag.octet (tagged tag read)))
+  last_by_tag_reads = record {
+    gives = λ c v b e.
+        let s = bind_ok (optional tag.octet at c) (λ p. ended p.0 p.1) e in
+        let end = ended_is s.0.0 v s.0.1 s.2 in
+        ⊎_elim
+        (λ w. carry (LastContents Encoding) (sym w.0 ∙ end.1) (sym (w.1 ∙ end.0)) (last_holds [] refl))
+        (λ w.
+        let x = reads.gives c s.0.1 w.0 b w.2 in
+        let all : c ≡ x.0 = x.1 ∙ ap (λ y. x.0 ++ y) end.0 ∙ append-nil x.0 in
+        carry (LastContents Encoding) (sym w.1 ∙ end.1) refl (last_holds c (carry Encoding refl (sym all) x.2)))
+        (optional_is tag.octet at c s.0.0 s.0.1 s.1);
+    takes = λ c v within p. takes c v within (joins_last c p);
+    tells = λ c k e.
+        ⊎_elim (optional_tells tag.octet at c (reads.tells c) k) (λ s. ended_tells s.0.0 s.0.1 k s.2)
+        (bind_err (optional tag.octet at c) (λ p. ended p.0 p.1) e);
+  }

@@ -1,0 +1,99 @@
+-- Keys as functions of the bytes (RFC 8017 A.1.1, A.1.2): the key, or the kind of the first fault.
+use Rattle.std.specs.Prelude.{ℕ, Bool, true, false, List, [], ◌∷◌, ◌==◌, nat_lt, not, if◌then◌else◌, Option, Some, None}
+use Rattle.std.specs.Prelude.{Err}
+use Rattle.der_core.specs.declared.error.ErrorKind.TheVariants.{Value}
+use Rattle.der_core.specs.IntegerReading.{integer_of, small_of}
+use Rattle.der_core.specs.Readings.{FrontReading, Reading, alone, chain, ended, front_done, front_parts, items, made}
+use Rattle.der_core.specs.Readings.{no_parts, optional, parts, such, tagged, whole}
+use Rattle.der_core.specs.Tags.{integer, sequence}
+use Rattle.pkcs1.specs.Keys.{CrtRow, Eight, OtherPrime, PrivateKey, PublicKey, version_of}
+
+-- An INTEGER, as its canonical bytes.
+abbrev pub number : FrontReading (List ℕ)
+number = tagged integer integer_of
+
+-- The contents of a public key.
+abbrev pub of_public_parts : {Number : Type 0} → Number × (Number × Unit {0}) → PublicKey Number
+of_public_parts p = record { modulus = p.0; public_exponent = p.1.0 }
+
+abbrev pub public_key_read : {Number : Type 0} → FrontReading Number → Reading (PublicKey Number)
+public_key_read at = made of_public_parts (parts at (parts at no_parts))
+
+-- A whole slice, as a public key.
+abbrev pub rsa_public_key : Reading (PublicKey (List ℕ))
+rsa_public_key = whole (tagged sequence (public_key_read number))
+
+-- The version of a private key, 0 or 1.
+abbrev pub version_read : Reading ℕ
+version_read = such (λ n. nat_lt n 2) (Value integer) small_of
+
+-- One of the other primes, and their list.
+abbrev pub of_other_parts : {Number : Type 0} → Number × (Number × (Number × Unit {0})) → OtherPrime Number
+of_other_parts p = record { prime = p.0; exponent = p.1.0; coefficient = p.1.1.0 }
+
+abbrev pub other_read : {Number : Type 0} → FrontReading Number → Reading (OtherPrime Number)
+other_read at = made of_other_parts (parts at (parts at (parts at no_parts)))
+
+abbrev pub primes_read : {Number : Type 0} → FrontReading Number → Reading (List (OtherPrime Number))
+primes_read at = items (tagged sequence (other_read at))
+
+abbrev pub lists_none : {Number : Type 0} → Option (List (OtherPrime Number)) → Bool
+lists_none None = false
+lists_none (Some []) = true
+lists_none (Some (other ∷ others)) = false
+
+-- Behind the other primes: whether they agree with the version, and then that there are some, and nothing else.
+abbrev pub agreed : {Number : Type 0} → ℕ → Option (List (OtherPrime Number))
+    → Reading (Option (List (OtherPrime Number)))
+agreed version primes bytes =
+    if version == version_of primes
+    then (if lists_none primes then Err (Value sequence) else ended primes bytes)
+    else Err (Value integer)
+
+-- What follows the eight numbers of a private key of this version.
+abbrev pub others_read : {Number : Type 0} → FrontReading Number → ℕ → Reading (Option (List (OtherPrime Number)))
+others_read at version = chain (optional sequence.octet (tagged sequence (primes_read at))) (agreed version)
+
+-- The version and the eight numbers; and the key of such a row and of other primes.
+abbrev pub front_read : {Number : Type 0} → FrontReading Number → FrontReading (ℕ × Eight Number (Unit {0}))
+front_read at =
+    front_parts (tagged integer version_read)
+    (front_parts at (front_parts at (front_parts at (front_parts at (front_parts at (front_parts at (front_parts at
+    (front_parts at front_done))))))))
+
+abbrev pub key_from : {Number : Type 0} → Eight Number (Unit {0}) → Option (List (OtherPrime Number))
+    → PrivateKey Number
+key_from numbers primes = record {
+  modulus = numbers.0;
+  public_exponent = numbers.1.0;
+  private_exponent = numbers.1.1.0;
+  prime1 = numbers.1.1.1.0;
+  prime2 = numbers.1.1.1.1.0;
+  exponent1 = numbers.1.1.1.1.1.0;
+  exponent2 = numbers.1.1.1.1.1.1.0;
+  coefficient = numbers.1.1.1.1.1.1.1.0;
+  other_prime_infos = primes;
+}
+
+abbrev pub private_key_read : {Number : Type 0} → FrontReading Number → Reading (PrivateKey Number)
+private_key_read at = chain (front_read at) (λ front. made (key_from front.1) (others_read at front.0))
+
+-- A whole slice, as a private key of numbers of any type, and of INTEGERs.
+abbrev pub private_key : {Number : Type 0} → FrontReading Number → Reading (PrivateKey Number)
+private_key at = whole (tagged sequence (private_key_read at))
+
+abbrev pub rsa_private_key : Reading (PrivateKey (List ℕ))
+rsa_private_key = private_key number
+
+-- The bytes themselves, where the function reads them.
+abbrev pub kept : {V : Type 0} → Reading V → Reading (List ℕ)
+kept read bytes = made (λ _. bytes) read bytes
+
+-- The other primes as a last part by itself, and the end of a private key.
+abbrev pub last_others : {Number : Type 0} → FrontReading Number → Reading (Option (List (OtherPrime Number)))
+last_others at =
+    such (λ primes. not (lists_none primes)) (Value sequence)
+    (alone (optional sequence.octet (tagged sequence (primes_read at))))
+
+abbrev pub crt_read : {Number : Type 0} → FrontReading Number → Reading (CrtRow Number)
+crt_read at = parts at (parts at (parts at (last_others at)))

@@ -1,9 +1,0 @@
-use Rattle.pkcs1_params.specs.Algorithms.{RsaPssAlgorithm, RsaPssAlgorithmFault}
-use Rattle.pkcs1_params.specs.Laws.FaultsTold.{fault_told}
-use Rattle.pkcs1_params.proofs.pss_algorithm.fault_of_pss_algorithm.Goals as goal
-
-pub returns-in-Err-Asn1 : goal.returns-in-Err-Asn1
-returns-in-Err-Asn1 c =
-    let e = c.in-Err-Asn1.ensures in
-    fault_told RsaPssAlgorithm RsaPssAlgorithmFault c.args.bytes.now c.in-Err-Asn1.field-0 c.in-Err-Asn1.error _
-    c.in-Err-Asn1.field-0-is c.kind.ensures e.err e.exact

@@ -1,0 +1,53 @@
+-- Containers as functions of the bytes (RFC 5208 5): the container, or the RSA key in it, or the kind of the first fault.
+use Rattle.std.specs.Prelude.{ℕ, List, [], ◌==◌, ◌&&◌, Option, Some, None, Result, Ok, Err, if◌then◌else◌}
+use Rattle.std.specs.Str.{bytes_eq}
+use Rattle.der_core.specs.declared.error.ErrorKind.{ErrorKind}
+use Rattle.der_core.specs.declared.error.ErrorKind.TheVariants as kind
+use Rattle.der_core.specs.Readings.{Reading, ◌>>=◌, alone, checked, expected, made, octets_of_all, optional, parts}
+use Rattle.der_core.specs.Readings.{tagged, whole}
+use Rattle.der_core.specs.Tag.{is_allowed}
+use Rattle.der_core.specs.Tags.{integer, octet_string, sequence}
+use Rattle.spki_core.specs.AlgorithmIdentifier.{Algorithm}
+use Rattle.spki_core.specs.Any.{TagAndContents}
+use Rattle.spki_core.specs.Readings.{algorithm_read, any}
+use Rattle.pkcs1_params.specs.Parameters.{id_rsa_encryption}
+use Rattle.pkcs1.specs.KeyReadings.{rsa_private_key}
+use Rattle.pkcs1.specs.Keys.{PrivateKey}
+use Rattle.pkcs8_core.specs.Container.{Info}
+use Rattle.pkcs8_core.specs.Tags.{attributes_tag}
+
+-- The attributes, whose contents aren't looked at.
+abbrev pub attributes : Reading (Option (List ℕ))
+attributes = alone (optional attributes_tag.octet (tagged attributes_tag octets_of_all))
+
+-- A container, whose version is 0.
+abbrev pub of_info_parts : Unit {0} × (Algorithm TagAndContents × (List ℕ × Option (List ℕ))) → Info
+of_info_parts p = record { algorithm = p.1.0; private_key = p.1.1.0; attributes = p.1.1.1 }
+
+abbrev pub info_read : Reading Info
+info_read =
+    made of_info_parts (parts (tagged integer (expected 0)) (parts (tagged sequence (algorithm_read any))
+    (parts (tagged octet_string octets_of_all) attributes)))
+
+-- A whole slice, as a container.
+abbrev pub private_key_info : Reading Info
+private_key_info = whole (tagged sequence info_read)
+
+-- The algorithm is rsaEncryption with NULL (RFC 8017 A.1).
+abbrev pub null_only : Option TagAndContents → Result (Unit {0}) ErrorKind
+null_only None = Err kind.ParametersMissing
+null_only (Some v) =
+    if v.tag == 5 && bytes_eq v.contents [] then Ok tt
+    else checked (is_allowed v.tag) (λ ok. Err (kind.Value (record { octet = v.tag; allowed = ok })))
+    (Err (kind.TagUnknown v.tag))
+
+abbrev pub rsa_only : Algorithm TagAndContents → Result (Unit {0}) ErrorKind
+rsa_only a = if bytes_eq a.oid id_rsa_encryption then null_only a.parameters else Err kind.OidUnknown
+
+-- The RSA key that a container holds.
+abbrev pub rsa_held : Info → Result (PrivateKey (List ℕ)) ErrorKind
+rsa_held info = rsa_only info.algorithm >>= λ _. rsa_private_key info.private_key
+
+-- A whole slice, as a container of an RSA key.
+abbrev pub rsa_private_key_info : Reading (PrivateKey (List ℕ))
+rsa_private_key_info bytes = private_key_info bytes >>= rsa_held

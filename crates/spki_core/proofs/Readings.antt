@@ -1,0 +1,53 @@
+-- What the functions give for an encoding of any tag that has to be of one type.
+use Rattle.std.proofs.Common.{ℕ, false, List, ◌≡◌, sym, ap, ◌∙◌, arith, subst, ⊎_elim, Ok}
+use Rattle.std.proofs.Common.{Err, Some, Result, ◌≢◌}
+use Rattle.std.proofs.lemmas.Bool.Decides.{nat_tests}
+use Rattle.std.specs.Prelude.{◌==◌, IfOk}
+use Rattle.der_core.specs.declared.error.ErrorKind.{ErrorKind}
+use Rattle.der_core.specs.declared.error.ErrorKind.TheVariants.{TagUnexpected}
+use Rattle.der_core.specs.declared.tag.Tag.{Tag}
+use Rattle.der_core.specs.declared.error.Error.{Error}
+use Rattle.der_core.specs.Encodings.{AreBytes}
+use Rattle.der_core.specs.Input.{Input}
+use Rattle.der_core.specs.Laws.LengthReading.{chosen}
+use Rattle.der_core.specs.Laws.TaggedReadings.{unexpected_tells}
+use Rattle.der_core.proofs.TaggedReadings.{other_is}
+use Rattle.der_core.specs.Reading.{ReadsFront, ReadsWhole, TellsOfBytes}
+use Rattle.der_core.specs.Readings.{FrontReading, Reading, alone, tagged, unexpected, ReadsContents}
+use Rattle.der_core.specs.Tag.{context_tag}
+use Rattle.der_core.specs.Tlv.{Tlv}
+use Rattle.spki_core.specs.Any.{TagAndContents}
+use Rattle.spki_core.specs.Readings.{any_as, explicit}
+use Rattle.spki_core.specs.Laws.Readings.{explicit_is}
+
+-- Where a type with a tag of its own is expected.
+module _ {V : Type 0} {contents : V → List ℕ → Type 0} {read : Reading V} (tag : Tag)
+    (law : ReadsContents contents read) (v : TagAndContents) where
+  pub any_as_tells : (k : ErrorKind) → any_as tag read v ≡ Err k → TellsOfBytes k
+  any_as_tells k e =
+      ⊎_elim (λ w. law.tells v.contents k w.1) (λ w. unexpected_tells tag v.tag k w.1)
+      (chosen (v.tag == tag.octet) _ _ _ e)
+
+-- Another tag than that of the type; and a call that read the contents of the type's tag.
+pub any_as_other : {V : Type 0} (tag : Tag) (read : Reading V) (v : TagAndContents) (actual : Tag) (e : ErrorKind)
+    → v.tag ≢ tag.octet → actual.octet ≡ v.tag → e ≡ TagUnexpected tag actual → any_as tag read v ≡ Err e
+any_as_other tag read v actual e other is kind =
+    let isnt : (v.tag == tag.octet) ≡ false = grind (arith, nat_tests, other) in
+    rw isnt (ap (unexpected tag) (sym is) ∙ other_is tag actual ∙ ap (λ k. Err k) (sym kind))
+
+pub read_as_any : {X V : Type 0} {contents : V → List ℕ → Type 0} {read : Reading V} (value : X → V) (tag : Tag)
+    → ReadsContents contents read → (v : TagAndContents) (may : List ℕ → Type 0) → AreBytes v.contents
+    → v.tag ≡ tag.octet → (before after : Input) → before ≡ Some v.contents → (r : Result X Error)
+    → ReadsWhole value read may r before after → IfOk r (λ x. (v.tag ≡ tag.octet) × contents (value x) v.contents)
+read_as_any value tag law v may bytes same before after is (Ok x) p =
+    (same, law.gives v.contents (value x) bytes (rw is at p.0))
+read_as_any value tag law v may bytes same before after is (Err e) p = tt
+
+-- Where the tag of a number was read.
+pub reads_at_tag : {X V : Type 0} (value : X → V) (at : FrontReading V) (may : List ℕ → Type 0) (n : ℕ) (tag : Tag)
+    → tag.octet ≡ context_tag n → (r : Result X Error) (before after : Input)
+    → ReadsFront value (tagged tag (alone at)) (Tlv tag.octet may) r before after
+    → ReadsFront value (explicit n at) (Tlv (context_tag n) may) r before after
+reads_at_tag value at may n tag is r before after reads =
+    subst (λ f. ReadsFront value f (Tlv (context_tag n) may) r before after) (λ j i. sym (explicit_is at n tag i is) j)
+    (subst (λ o. ReadsFront value (tagged tag (alone at)) (Tlv o may) r before after) is reads)
