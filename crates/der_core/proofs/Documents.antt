@@ -5,7 +5,7 @@ use Rattle.der_core.specs.Encodings.{AreBytes, IsOfBytes}
 use Rattle.der_core.specs.Tlv.{Tlv, tlv}
 use Rattle.der_core.specs.Length.{limit}
 use Rattle.der_core.specs.Document.{Means, IsDocument}
-use Rattle.der_core.specs.Carrying.{GivesNone}
+use Rattle.der_core.specs.Transfer.{GivesNone}
 use Rattle.der_core.specs.Readings.{read_document}
 use Rattle.der_core.specs.SourcesSinks.{GivesAll}
 use Rattle.der_core.specs.Reading.{NoValueOrMemory, AllocatesIn, FaultOrMemory, TellsOfBytes}

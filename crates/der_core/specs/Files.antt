@@ -5,7 +5,7 @@ use Rattle.der_core.specs.declared.error.Error.{Error}
 use Rattle.der_core.specs.declared.error.ErrorKind.{ErrorKind}
 use Rattle.der_core.specs.declared.error.ErrorKind.TheVariants.{File}
 use Rattle.der_core.specs.ErrorKinds.{IsFile}
-use Rattle.der_core.specs.Carrying.{WhyDocumentNotRead}
+use Rattle.der_core.specs.Transfer.{WhyDocumentNotRead}
 use Rattle.der_core.specs.SourcesSinks.{AppendsFront, GivesAll, OneFailed}
 
 -- A file was obtained; or none was, and the error is `File`.

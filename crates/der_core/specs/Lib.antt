@@ -21,9 +21,9 @@ pub mod SliceWriters
 pub mod BackWriters
 pub mod EncodeToSlice
 pub mod SourcesSinks
-pub mod Carrying
+pub mod Transfer
 pub mod Files
-pub mod Wrap
+pub mod StdIo
 pub mod ErrorKinds
 pub mod Optional
 pub mod OctetString

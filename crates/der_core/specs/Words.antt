@@ -1,6 +1,6 @@
 -- The words that contracts cite, from all files of specs.
 pub use Rattle.der_core.specs.BackWriters.{Prepends, free_of}
-pub use Rattle.der_core.specs.Carrying.{WhyReadingStopped, WritesAll, piece}
+pub use Rattle.der_core.specs.Transfer.{WhyReadingStopped, WritesAll, piece}
 pub use Rattle.der_core.specs.Document.{Excludes, HasEncoding, IsAlone, IsDocument, IsMeaning, IsShortest}
 pub use Rattle.der_core.specs.Document.{IsWrittenAlone, Means, SameByShortest, WhyNotCounted, WhyNotWritten}
 pub use Rattle.der_core.specs.DocumentValue.{encoding_of}
@@ -33,7 +33,7 @@ pub use Rattle.der_core.specs.Tags.{integer, object_identifier, sequence}
 pub use Rattle.der_core.specs.Tlv.{Tlv, tlv}
 pub use Rattle.der_core.specs.UintRefValue.{bytes_of}
 pub use Rattle.der_core.specs.UintValue.{own_bytes_of}
-pub use Rattle.der_core.specs.Wrap.{IsCreated, IsOpened, read_faults, reader_of, write_faults, writer_of}
+pub use Rattle.der_core.specs.StdIo.{IsCreated, IsOpened, read_faults, reader_of, write_faults, writer_of}
 pub use Rattle.der_core.specs.Writing.{Appends, Counts, WritesEncodings, WritesLeast, encode_error, is_no_encoding}
 pub use Rattle.der_core.specs.Writing.{joined}
 pub use Rattle.der_core.specs.Laws.Encodings.{joins_map, tlv_at_most_one, tlv_delimited, tlv_of_bytes, tlv_relates}

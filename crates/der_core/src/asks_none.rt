@@ -5,6 +5,7 @@ ghost use Rattle.der_core.specs.Words.{Answers, IsMeaning, Means, last_part_asks
 use crate::decode::{Decode, DecodeValue};
 use crate::error::Result;
 use crate::expected::Expected;
+use crate::grammar::FixedTag;
 use crate::integer::UintRef;
 use crate::last_part::{Last, LastByTag};
 use crate::memory::NoMemory;
@@ -12,7 +13,6 @@ use crate::octet_string::OctetStringRef;
 use crate::parts::DecodeParts;
 use crate::reader::Octets;
 use crate::record::InParts;
-use crate::types::FixedTag;
 
 /// Contents that are read without memory.
 pub trait ContentsAskNone<B: Octets>: DecodeValue<B, NoMemory> {

@@ -3,8 +3,8 @@
 use crate::back_writer::BackWriter;
 use crate::encode::Encode;
 use crate::error::Result;
+use crate::grammar::Encoding;
 use crate::length::Length;
-use crate::types::Encoding;
 use crate::writer::Writer;
 
 /// A borrowed value, which is encoded as the value itself.

@@ -6,12 +6,12 @@ ghost use Rattle.der_core.specs.Words.{optional, tagged, whole};
 ghost use Rattle.std.specs.Option.{option_map};
 
 use crate::error::{ErrorKind, Result};
+use crate::grammar::{Contents, Encoding, FixedTag};
 use crate::header::Header;
 use crate::memory::Memory;
 use crate::reader::{Octets, Reader, reject_if_failed};
 use crate::slice_reader::SliceReader;
 use crate::tag::Tag;
-use crate::types::{Contents, Encoding, FixedTag};
 
 /// A type whose values are read from their contents octets.
 pub trait DecodeValue<B: Octets, M: Memory>: Contents + Sized + Drop {

@@ -1,7 +1,7 @@
 //! Documents: whole SEQUENCEs, whose contents aren't looked at.
 ghost use Rattle.std.specs.Prelude.{◌≡◌, ◌≢◌, ◌≤◌, [], length, refl, ⊤, IfOk, IfErr, OnOk};
 ghost use Rattle.std.specs.Path.{path_bytes};
-ghost use Rattle.der_core.specs.Carrying.{ReadsDocument, WritesAll};
+ghost use Rattle.der_core.specs.Transfer.{ReadsDocument, WritesAll};
 ghost use Rattle.der_core.specs.Files.{FileFault, FileGives, FileRefuses, FileTakes};
 ghost use Rattle.der_core.specs.Document.{IsDocument};
 ghost use Rattle.der_core.specs.Laws.Document.{IsDocument-prop};
@@ -15,17 +15,17 @@ ghost use Rattle.der_core.specs.Encodings.{AreBytes};
 ghost use Rattle.der_core.specs.Tlv.{Tlv, tlv};
 
 use crate::back_writer::BackWriter;
-use crate::carry::{read_all, write_all};
 use crate::decode::{Decode, DecodeValue};
 use crate::encode::{Encode, EncodeValue};
 use crate::error::{Error, ErrorKind, Result};
 use crate::file_system::FileSystem;
+use crate::grammar::{Contents, FixedTag, Sequence, SequenceTag, TaggedBy};
 use crate::header::Header;
 use crate::length::Length;
 use crate::memory::{NoMemory, copy_of};
 use crate::reader::Reader;
 use crate::source_sink::{Close, Sink, Source};
-use crate::types::{Contents, FixedTag, Sequence, SequenceTag, TaggedBy};
+use crate::transfer::{read_all, write_all};
 use std::alloc::Global;
 use std::fmt;
 use std::marker::PhantomData;

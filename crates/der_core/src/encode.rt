@@ -7,9 +7,9 @@ ghost use Rattle.std.specs.Borrow.{sem};
 
 use crate::back_writer::BackWriter;
 use crate::error::{Error, ErrorKind, Result};
+use crate::grammar::{Contents, Encoding, FixedTag};
 use crate::header::Header;
 use crate::length::Length;
-use crate::types::{Contents, Encoding, FixedTag};
 use crate::writer::Writer;
 
 /// A type whose values are written as contents octets.

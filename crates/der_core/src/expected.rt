@@ -7,12 +7,12 @@ use crate::back_writer::BackWriter;
 use crate::decode::DecodeValue;
 use crate::encode::EncodeValue;
 use crate::error::{ErrorKind, Result};
+use crate::grammar::{Contents, IntegerTag, TaggedBy};
 use crate::header::Header;
 use crate::length::Length;
 use crate::memory::Memory;
 use crate::reader::Reader;
 use crate::tag::Tag;
-use crate::types::{Contents, IntegerTag, TaggedBy};
 use crate::writer::Writer;
 
 /// The INTEGER `N`. Another number is `Value` of INTEGER.

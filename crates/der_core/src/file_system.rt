@@ -5,7 +5,7 @@ ghost use Rattle.der_core.specs.Words.{Obtains, read_faults, write_faults};
 
 use crate::error::Result;
 use crate::source_sink::{Close, Source};
-use crate::wrap::{FromRead, ToWrite};
+use crate::std_io::{FromRead, ToWrite};
 use std::fs::File;
 use std::path::Path;
 use std::rt::Files;

@@ -7,9 +7,9 @@ ghost use Rattle.der_core.specs.Words.{no_parts_told_apart, parts_told_apart};
 
 use crate::decode::Decode;
 use crate::error::Result;
+use crate::grammar::Encoding;
 use crate::memory::Memory;
 use crate::reader::{Octets, Reader};
-use crate::types::Encoding;
 
 /// A row of parts, each of which is there, at the front of contents that go on behind it.
 pub trait FrontRow {

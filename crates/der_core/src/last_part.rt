@@ -11,11 +11,11 @@ use crate::borrowed::Borrowed;
 use crate::decode::{Decode, DecodeValue, decode_optional};
 use crate::encode::{Encode, EncodeValue};
 use crate::error::Result;
+use crate::grammar::{Contents, Encoding, FixedTag};
 use crate::length::Length;
 use crate::memory::Memory;
 use crate::parts::DecodeParts;
 use crate::reader::Reader;
-use crate::types::{Contents, Encoding, FixedTag};
 use crate::writer::Writer;
 
 /// An OPTIONAL last part: one encoding, or nothing. Whatever is left is read as the part.

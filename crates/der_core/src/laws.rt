@@ -16,12 +16,12 @@ ghost use Rattle.der_core.specs.declared.tag.TagNumber as tags;
 
 use crate::document::{DocumentOf, Open};
 use crate::error::{Error, ErrorKind};
+use crate::grammar::{Contents, Encoding};
 use crate::header::Header;
 use crate::integer::UintRef;
 use crate::length::Length;
 use crate::octet_string::OctetStringRef;
 use crate::tag::{Tag, TagNumber};
-use crate::types::{Contents, Encoding};
 
 /// Lengths compare as their numbers.
 pub fn lemma_lengths_compare_by_number()

@@ -11,7 +11,6 @@
 mod asks_none;
 mod back_writer;
 mod borrowed;
-mod carry;
 mod decode;
 mod document;
 mod encode;
@@ -19,6 +18,7 @@ mod error;
 mod expected;
 mod file_system;
 mod front;
+mod grammar;
 mod header;
 mod integer;
 mod last_part;
@@ -33,16 +33,15 @@ mod record;
 mod sequence_of;
 mod slice_reader;
 mod source_sink;
+mod std_io;
 mod tag;
+mod transfer;
 mod try_clone;
-mod types;
-mod wrap;
 mod writer;
 
 pub use asks_none::{AsksNone, ContentsAskNone, PartsAskNone, read_borrowed};
 pub use back_writer::BackWriter;
 pub use borrowed::Borrowed;
-pub use carry::{put_all, read_all};
 pub use decode::{Decode, DecodeValue, decode_optional, is_tag_next};
 pub use document::{Document, DocumentOf, Open, Secret, SecretDocument, write_over};
 pub use encode::{Encode, EncodeValue, joined_len};
@@ -50,6 +49,10 @@ pub use error::{Error, ErrorKind, Result};
 pub use expected::Expected;
 pub use file_system::FileSystem;
 pub use front::{DecodeFront, FrontRow};
+pub use grammar::{
+    Contents, Encoding, EqualByValue, FixedTag, IntegerTag, Sequence, SequenceTag, TagMarker,
+    TaggedBy,
+};
 pub use header::Header;
 pub use integer::{AsUintRef, Uint, UintRef};
 pub use last_part::{Last, LastByTag, decode_last, decode_whole};
@@ -67,11 +70,8 @@ pub use reader::{BytesLeft, Octets, Reader};
 pub use record::{EncodeInParts, InParts, Record};
 pub use slice_reader::SliceReader;
 pub use source_sink::{Close, Sink, Source};
+pub use std_io::{FromRead, ToWrite};
 pub use tag::{Tag, TagNumber};
+pub use transfer::{put_all, read_all};
 pub use try_clone::TryClone;
-pub use types::{
-    Contents, Encoding, EqualByValue, FixedTag, IntegerTag, Sequence, SequenceTag, TagMarker,
-    TaggedBy,
-};
-pub use wrap::{FromRead, ToWrite};
 pub use writer::{SliceWriter, Writer};

@@ -12,12 +12,12 @@ use crate::back_writer::BackWriter;
 use crate::decode::DecodeValue;
 use crate::encode::EncodeValue;
 use crate::error::{Error, ErrorKind, Result};
+use crate::grammar::{Contents, EqualByValue, TagMarker, TaggedBy};
 use crate::header::Header;
 use crate::length::Length;
 use crate::memory::Memory;
 use crate::reader::Reader;
 use crate::tag::Tag;
-use crate::types::{Contents, EqualByValue, TagMarker, TaggedBy};
 use crate::writer::Writer;
 
 /// An OCTET STRING of at most `Length::MAX` octets. It borrows them.

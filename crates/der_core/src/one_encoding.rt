@@ -8,11 +8,11 @@ ghost use Rattle.der_core.specs.Words.{tlv_at_most_one};
 use crate::encode::Encode;
 use crate::error::Result;
 use crate::expected::Expected;
+use crate::grammar::{Contents, Encoding, FixedTag};
 use crate::integer::{Uint, UintRef};
 use crate::last_part::{Last, LastByTag};
 use crate::octet_string::OctetStringRef;
 use crate::record::InParts;
-use crate::types::{Contents, Encoding, FixedTag};
 
 /// Contents of which each value has at most one.
 pub trait OneContents: Contents {

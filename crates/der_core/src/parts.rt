@@ -10,10 +10,10 @@ use crate::back_writer::BackWriter;
 use crate::decode::Decode;
 use crate::encode::{Encode, EncodeValue, joined_len};
 use crate::error::Result;
+use crate::grammar::{Contents, Encoding};
 use crate::length::Length;
 use crate::memory::Memory;
 use crate::reader::{Octets, Reader};
-use crate::types::{Contents, Encoding};
 use crate::writer::Writer;
 
 /// Contents that are read to the end of what is left.

@@ -8,12 +8,12 @@ use crate::back_writer::BackWriter;
 use crate::decode::DecodeValue;
 use crate::encode::EncodeValue;
 use crate::error::Result;
+use crate::grammar::{Contents, Sequence, SequenceTag, TaggedBy};
 use crate::header::Header;
 use crate::length::Length;
 use crate::memory::Memory;
 use crate::parts::DecodeParts;
 use crate::reader::Reader;
-use crate::types::{Contents, Sequence, SequenceTag, TaggedBy};
 use crate::writer::Writer;
 
 /// A type whose contents are a row of parts.

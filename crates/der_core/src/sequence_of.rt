@@ -8,10 +8,10 @@ use crate::back_writer::BackWriter;
 use crate::decode::{Decode, DecodeValue};
 use crate::encode::{Encode, EncodeValue, joined_len};
 use crate::error::{ErrorKind, Result};
+use crate::grammar::{Contents, Encoding, SequenceTag, TaggedBy};
 use crate::header::Header;
 use crate::length::Length;
 use crate::reader::Reader;
-use crate::types::{Contents, Encoding, SequenceTag, TaggedBy};
 use crate::writer::Writer;
 use std::alloc::Global;
 

@@ -3,7 +3,7 @@ ghost use Rattle.std.specs.Prelude.{◌≡◌, length, IfOk, IsOk, IfErr};
 ghost use Rattle.der_core.specs.declared.error.ErrorKind.{ErrorKind};
 
 use crate::error::Result;
-use crate::types::Encoding;
+use crate::grammar::Encoding;
 use std::alloc::Global;
 
 /// A type whose values are copied into allocated memory.

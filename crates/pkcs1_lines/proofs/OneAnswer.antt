@@ -19,7 +19,7 @@ use Rattle.pkcs1.specs.KeyEncodings.{IsSentence}
 use Rattle.pkcs1_params.specs.Meanings.{IsNoSentence}
 use Rattle.pkcs1_lines.specs.Answer.{Answered, Tells, TellsParameters, SaysWhether, TellsStrict, TellsSame}
 use Rattle.pkcs1_lines.specs.Answer.{TellsSpellings, RsaPrivateKeyInfo, TellsContainer, WordAnswer, PairAnswer}
-use Rattle.pkcs1_lines.specs.Answer.{AnswerTo, Answer, Answers}
+use Rattle.pkcs1_lines.specs.Answer.{AnswerTo, Answer, Outputs}
 use Rattle.pkcs1_lines.specs.Told.{pub_answer, priv_answer, p8_answer, pss_answer, oaep_answer, spell_answer}
 use Rattle.pkcs1_lines.proofs.Spelled.{same_encodings}
 
@@ -163,7 +163,7 @@ module _ (laws : Laws) where
   pub answers_at_most_one : (line : List ℕ) → AtMostOne (Answer line)
   answers_at_most_one line a b p q = answer_to_one (asked_by line) a b p q
 
-  pub output_at_most_one : (lines : List (List ℕ)) → AtMostOne (Answers lines)
+  pub output_at_most_one : (lines : List (List ℕ)) → AtMostOne (Outputs lines)
   output_at_most_one [] a b p q = p ∙ sym q
   output_at_most_one (line ∷ lines) a b p q =
       let answer : p.0 ≡ q.0 = answers_at_most_one line p.0 q.0 p.2 q.2 in

@@ -100,11 +100,11 @@ abbrev pub Answer : List ℕ → List ℕ → Type 0
 Answer line answer = AnswerTo (asked_by line) answer
 
 -- the output for lines: that for each, followed by a line feed
-abbrev pub Answers : List (List ℕ) → List ℕ → Type 0
-Answers [] output = output ≡ []
-Answers (line ∷ lines) output =
-    (answer : List ℕ) × (more : List ℕ) × Answer line answer × Answers lines more × (output ≡ answer ++ 10 ∷ more)
+abbrev pub Outputs : List (List ℕ) → List ℕ → Type 0
+Outputs [] output = output ≡ []
+Outputs (line ∷ lines) output =
+    (answer : List ℕ) × (more : List ℕ) × Answer line answer × Outputs lines more × (output ≡ answer ++ 10 ∷ more)
 
 -- the output for an input
 abbrev pub Output : List ℕ → List ℕ → Type 0
-Output input output = Answers (lines_of input) output
+Output input output = Outputs (lines_of input) output

@@ -1,5 +1,5 @@
 -- The words that contracts cite, from all files of specs.
-pub use Rattle.pkcs1_lines.specs.Answer.{Answer, Answers, Output, PairAnswer, RsaPrivateKeyInfo, Tells, TellsContainer}
+pub use Rattle.pkcs1_lines.specs.Answer.{Answer, Output, Outputs, PairAnswer, RsaPrivateKeyInfo, Tells, TellsContainer}
 pub use Rattle.pkcs1_lines.specs.Answer.{TellsParameters, TellsSame, TellsSpellings, TellsStrict, WordAnswer}
 pub use Rattle.pkcs1_lines.specs.Lines.{lines_of, parts_of}
 pub use Rattle.pkcs1_lines.specs.MemoryErrors.{IsMemoryError}

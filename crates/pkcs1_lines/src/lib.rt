@@ -11,7 +11,7 @@ mod keys;
 mod laws;
 mod lines;
 mod parameter_answers;
-mod parameters;
+mod parameter_text;
 mod request;
 mod shortest;
 mod verdict;

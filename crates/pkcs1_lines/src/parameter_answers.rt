@@ -5,7 +5,7 @@ ghost use Rattle.pkcs1_lines.specs.Words.{Puts, TellsParameters, TellsSame, Tell
 ghost use Rattle.pkcs1_lines.specs.Words.{spell_answer};
 
 use crate::digits::{put_field, put_number};
-use crate::parameters::Parameters;
+use crate::parameter_text::Parameters;
 use crate::shortest::shortest;
 use crate::verdict::{put_refused, put_verdict};
 use std::alloc::{AllocError, Global};

@@ -1,4 +1,5 @@
-//! Contents octets of parameters, under a mask that says which of their defaults are written. `changed` is `changed_in`.
+//! Contents octets of parameters, under a mask that says which of their defaults are written. `non_defaults` is what
+//! `non_defaults_in` returns.
 ghost use Rattle.std.specs.Prelude.{◌≡◌, ◌≤◌, length};
 ghost use Rattle.der_core.specs.Words.{Appends, Counts, Prepends, free_of, limit};
 ghost use Rattle.pkcs1_params.specs.DefaultBits.{bits_of};
@@ -10,51 +11,51 @@ use der_core::{BackWriter, Length, Result, Writer};
 
 /// Their length.
 #[inline(always)]
-pub(crate) fn contents_len<T: EncodeParams>(params: T, changed: u8, mask: u8) -> Result<Length>
-    requires { changed ≡ bits_of (defaults_in (T.values (T.params params))) }
+pub(crate) fn contents_len<T: EncodeParams>(params: T, non_defaults: u8, mask: u8) -> Result<Length>
+    requires { non_defaults ≡ bits_of (defaults_in (T.values (T.params params))) }
     ensures { let values = T.values (T.params params) in
         Counts (HasFields values mask) (written_fields values mask) result }
 {
-    if changed == 0 && mask == 0 {
+    if non_defaults == 0 && mask == 0 {
         return Ok(Length::ZERO);
     }
-    params.fields().len(changed, mask)
+    params.fields().len(non_defaults, mask)
 }
 
 /// Appends them.
 #[inline(always)]
 pub(crate) fn append_contents<T: EncodeParams, W: Writer>(
     params: T,
-    changed: u8,
+    non_defaults: u8,
     mask: u8,
     writer: &mut W,
 ) -> Result<()>
-    requires changed { changed ≡ bits_of (defaults_in (T.values (T.params params))) }
+    requires non_defaults { non_defaults ≡ bits_of (defaults_in (T.values (T.params params))) }
     requires has { HasFields (T.values (T.params params)) mask }
     requires fits { length (written_fields (T.values (T.params params)) mask) ≤ limit }
     ensures appends { let values = T.values (T.params params) in
         Appends (HasFields values mask) (written_fields values mask) W.room W.written writer.old writer.new result }
     ensures kept { W.keeps writer.old writer.new }
 {
-    params.fields().append(changed, mask, writer)
+    params.fields().append(non_defaults, mask, writer)
 }
 
 /// Writes them in front of what is filled.
 #[inline(always)]
 pub(crate) fn prepend_contents<T: EncodeParams>(
     params: T,
-    changed: u8,
+    non_defaults: u8,
     mask: u8,
     writer: &mut BackWriter<'_>,
 )
-    requires changed { changed ≡ bits_of (defaults_in (T.values (T.params params))) }
+    requires non_defaults { non_defaults ≡ bits_of (defaults_in (T.values (T.params params))) }
     requires has { HasFields (T.values (T.params params)) mask }
     requires fits { length (written_fields (T.values (T.params params)) mask) ≤ limit }
     requires room { length (written_fields (T.values (T.params params)) mask) ≤ free_of writer.old }
     ensures { Prepends (written_fields (T.values (T.params params)) mask) writer.old writer.new }
 {
-    if changed == 0 && mask == 0 {
+    if non_defaults == 0 && mask == 0 {
         return;
     }
-    params.fields().prepend(changed, mask, writer);
+    params.fields().prepend(non_defaults, mask, writer);
 }

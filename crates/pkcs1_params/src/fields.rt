@@ -57,7 +57,7 @@ impl<Plain: PlainHolder, Mask: MaskHolder> FieldRef<'_, Plain, Mask> {
     }
 
     /// Does nothing: its contract says that the value has an encoding, little longer than the limit.
-    fn lemma_is_held(&self)
+    fn lemma_has_encoding(&self)
         ensures { let part = part_in Plain.plain Mask.mask self.now in
             part.has × (length part.encoding ≤ limit + 718) }
     {
@@ -127,7 +127,7 @@ impl<Plain: PlainHolder, Mask: MaskHolder> FieldRef<'_, Plain, Mask> {
 
 /// Whether the field is left out, and the mask for the later ones.
 #[inline(always)]
-pub(crate) fn under(default: bool, mask: u8) -> (bool, u8)
+pub(crate) fn take_mask_bit(default: bool, mask: u8) -> (bool, u8)
     ensures { result ≡ (out_under default mask, rest_under default mask) }
 {
     if default {
@@ -139,17 +139,17 @@ pub(crate) fn under(default: bool, mask: u8) -> (bool, u8)
 
 /// Whether the field has its default, and the bits for the later ones.
 #[inline(always)]
-fn split_changed<Plain: PlainHolder, Mask: MaskHolder, L: Fields>(
-    changed: u8,
+fn split_non_defaults<Plain: PlainHolder, Mask: MaskHolder, L: Fields>(
+    non_defaults: u8,
     _field: &FieldRef<'_, Plain, Mask>,
     _later: &L,
 ) -> (bool, u8)
     requires { let part = part_in Plain.plain Mask.mask _field.now in
-        changed ≡ bit_of part.is_default + 2 * bits_of (defaults_in (L.values _later.now)) }
+        non_defaults ≡ bit_of part.is_default + 2 * bits_of (defaults_in (L.values _later.now)) }
     ensures { let part = part_in Plain.plain Mask.mask _field.now in
         result ≡ (part.is_default, bits_of (defaults_in (L.values _later.now))) }
 {
-    (changed % 2 == 0, changed / 2)
+    (non_defaults % 2 == 0, non_defaults / 2)
 }
 
 /// Fields with their values, in order. Each list has a type of its own, so that code for it has no loop.
@@ -157,12 +157,12 @@ pub trait Fields: Drop {
     ghost values: { Self → List FieldValue };
 
     /// Does nothing: its contract says that there are contents under each mask, and bounds their length.
-    fn lemma_are_held(&self)
+    fn lemma_have_encodings(&self)
         ensures { (mask : ℕ) → HasFields (values self.now) mask
             × (length (written_fields (values self.now) mask) ≤ length (values self.now) * (limit + 846)) };
 
     /// Which fields differ from their defaults, as bits: bit j is that of field j.
-    fn changed(&self) -> u8
+    fn non_defaults(&self) -> u8
         requires { length (values self.now) ≤ 7 }
         ensures is { result ≡ bits_of (defaults_in (values self.now)) }
         ensures few { result < 2 ^ length (values self.now) };
@@ -173,14 +173,14 @@ pub trait Fields: Drop {
         ensures count { HaveDefaults (fields_in (values self.now)) result }
         ensures few { result ≤ length (values self.now) };
 
-    /// The length of the fields under a mask. Bit j of `changed` says whether field j differs from its default.
-    fn len(&self, changed: u8, mask: u8) -> Result<Length>
-        requires { changed ≡ bits_of (defaults_in (values self.now)) }
+    /// The length of the fields under a mask. Bit j of `non_defaults` says whether field j differs from its default.
+    fn len(&self, non_defaults: u8, mask: u8) -> Result<Length>
+        requires { non_defaults ≡ bits_of (defaults_in (values self.now)) }
         ensures { Counts (HasFields (values self.now) mask) (written_fields (values self.now) mask) result };
 
     /// Appends the fields under a mask.
-    fn append<W: Writer>(&self, changed: u8, mask: u8, writer: &mut W) -> Result<()>
-        requires changed { changed ≡ bits_of (defaults_in (values self.now)) }
+    fn append<W: Writer>(&self, non_defaults: u8, mask: u8, writer: &mut W) -> Result<()>
+        requires non_defaults { non_defaults ≡ bits_of (defaults_in (values self.now)) }
         requires has { HasFields (values self.now) mask }
         requires fits { length (written_fields (values self.now) mask) ≤ limit }
         ensures appends { let octets = written_fields (values self.now) mask in
@@ -188,8 +188,8 @@ pub trait Fields: Drop {
         ensures kept { W.keeps writer.old writer.new };
 
     /// Writes the fields under a mask in front of what is filled, the last one first.
-    fn prepend(&self, changed: u8, mask: u8, writer: &mut BackWriter<'_>)
-        requires changed { changed ≡ bits_of (defaults_in (values self.now)) }
+    fn prepend(&self, non_defaults: u8, mask: u8, writer: &mut BackWriter<'_>)
+        requires non_defaults { non_defaults ≡ bits_of (defaults_in (values self.now)) }
         requires has { HasFields (values self.now) mask }
         requires fits { length (written_fields (values self.now) mask) ≤ limit }
         requires room { length (written_fields (values self.now) mask) ≤ free_of writer.old }
@@ -210,10 +210,10 @@ pub struct FieldThen<'b, Plain, Mask, L> {
 impl Fields for NoField {
     ghost values = { λ _. [] };
 
-    fn lemma_are_held(&self) {}
+    fn lemma_have_encodings(&self) {}
 
     #[inline(always)]
-    fn changed(&self) -> u8 {
+    fn non_defaults(&self) -> u8 {
         0
     }
 
@@ -223,30 +223,30 @@ impl Fields for NoField {
     }
 
     #[inline(always)]
-    fn len(&self, _changed: u8, _mask: u8) -> Result<Length> {
+    fn len(&self, _non_defaults: u8, _mask: u8) -> Result<Length> {
         Ok(Length::ZERO)
     }
 
     #[inline(always)]
-    fn append<W: Writer>(&self, _changed: u8, _mask: u8, _writer: &mut W) -> Result<()> {
+    fn append<W: Writer>(&self, _non_defaults: u8, _mask: u8, _writer: &mut W) -> Result<()> {
         Ok(())
     }
 
     #[inline(always)]
-    fn prepend(&self, _changed: u8, _mask: u8, _writer: &mut BackWriter<'_>) {}
+    fn prepend(&self, _non_defaults: u8, _mask: u8, _writer: &mut BackWriter<'_>) {}
 }
 
 impl<Plain: PlainHolder, Mask: MaskHolder, L: Fields> Fields for FieldThen<'_, Plain, Mask, L> {
     ghost values = { λ fields. value_of Plain.plain Mask.mask fields.first ∷ L.values fields.later };
 
-    fn lemma_are_held(&self) {
-        self.first.lemma_is_held();
-        self.later.lemma_are_held();
+    fn lemma_have_encodings(&self) {
+        self.first.lemma_has_encoding();
+        self.later.lemma_have_encodings();
     }
 
     #[inline(always)]
-    fn changed(&self) -> u8 {
-        u8::from(!self.first.is_default()) + 2 * self.later.changed()
+    fn non_defaults(&self) -> u8 {
+        u8::from(!self.first.is_default()) + 2 * self.later.non_defaults()
     }
 
     #[inline(always)]
@@ -255,10 +255,10 @@ impl<Plain: PlainHolder, Mask: MaskHolder, L: Fields> Fields for FieldThen<'_, P
     }
 
     #[inline(always)]
-    fn len(&self, changed: u8, mask: u8) -> Result<Length> {
-        let (default, changed) = split_changed(changed, &self.first, &self.later);
-        let (left_out, mask) = under(default, mask);
-        let later = self.later.len(changed, mask);
+    fn len(&self, non_defaults: u8, mask: u8) -> Result<Length> {
+        let (default, non_defaults) = split_non_defaults(non_defaults, &self.first, &self.later);
+        let (left_out, mask) = take_mask_bit(default, mask);
+        let later = self.later.len(non_defaults, mask);
         if left_out {
             later
         } else {
@@ -267,18 +267,18 @@ impl<Plain: PlainHolder, Mask: MaskHolder, L: Fields> Fields for FieldThen<'_, P
     }
 
     #[inline(always)]
-    fn append<W: Writer>(&self, changed: u8, mask: u8, writer: &mut W) -> Result<()> {
-        let (default, changed) = split_changed(changed, &self.first, &self.later);
-        let (left_out, mask) = under(default, mask);
+    fn append<W: Writer>(&self, non_defaults: u8, mask: u8, writer: &mut W) -> Result<()> {
+        let (default, non_defaults) = split_non_defaults(non_defaults, &self.first, &self.later);
+        let (left_out, mask) = take_mask_bit(default, mask);
         self.first.encode(left_out, writer)?;
-        self.later.append(changed, mask, writer)
+        self.later.append(non_defaults, mask, writer)
     }
 
     #[inline(always)]
-    fn prepend(&self, changed: u8, mask: u8, writer: &mut BackWriter<'_>) {
-        let (default, changed) = split_changed(changed, &self.first, &self.later);
-        let (left_out, mask) = under(default, mask);
-        self.later.prepend(changed, mask, writer);
+    fn prepend(&self, non_defaults: u8, mask: u8, writer: &mut BackWriter<'_>) {
+        let (default, non_defaults) = split_non_defaults(non_defaults, &self.first, &self.later);
+        let (left_out, mask) = take_mask_bit(default, mask);
+        self.later.prepend(non_defaults, mask, writer);
         if !left_out {
             self.first.prepend(writer);
         }

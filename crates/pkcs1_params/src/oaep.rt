@@ -10,7 +10,7 @@ use crate::error::Result;
 use crate::hash_fields::{MaskGenOf, mgf1_with, with_null};
 use crate::hash_functions::Sha1;
 use crate::p_source::empty_source;
-use crate::spelling::changed_in;
+use crate::spelling::non_defaults_in;
 use der_core::{
     BackWriter, Contents, EncodeValue, EqualByValue, Length, Memory, NoMemory, Sequence,
     SequenceTag, TaggedBy, TryClone, Writer,
@@ -52,7 +52,7 @@ pub type RsaOaepParamsRef<'a> = RsaOaepParams<AnyRef<'a>>;
 /// RSAES-OAEP parameters whose algorithms have owned parameters.
 pub type RsaOaepParamsOwned = RsaOaepParams<Any>;
 
-/// RSAES-OAEP parameters over their encoding, whose octets are their identifiers. Only `keep` copies them.
+/// RSAES-OAEP parameters over their encoding, whose octets are their identifiers. Only `to_params` copies them.
 pub type RsaOaepParamsView<'a> = OaepParamsOf<IdentifierView<'a>, AnyRef<'a>>;
 
 impl<O: IdentifierValue, P: AnyValue> Contents for OaepParamsOf<O, P> {
@@ -85,15 +85,15 @@ impl<'a, O, P> Sequence<'a> for OaepParamsOf<O, P> {
 
 impl<O: IdentifierValue, P: AnyValue> EncodeValue for OaepParamsOf<O, P> {
     fn value_len(&self) -> der_core::Result<Length> {
-        contents_len(self, changed_in(self), 0)
+        contents_len(self, non_defaults_in(self), 0)
     }
 
     fn append_value<W: Writer>(&self, writer: &mut W) -> der_core::Result<()> {
-        append_contents(self, changed_in(self), 0, writer)
+        append_contents(self, non_defaults_in(self), 0, writer)
     }
 
     fn prepend_value(&self, writer: &mut BackWriter<'_>) {
-        prepend_contents(self, changed_in(self), 0, writer);
+        prepend_contents(self, non_defaults_in(self), 0, writer);
     }
 
     ghost contents_relate = { contents_relate oaep_values };

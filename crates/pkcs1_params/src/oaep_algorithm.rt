@@ -9,7 +9,7 @@ ghost use Rattle.pkcs1_params.specs.Words.{with_parameters, oaep_values, oaep_in
 
 use crate::algorithm::{AlgorithmParams, FromAlgorithm, decode_borrowed, encode_identifier};
 use crate::error::{Error, Result};
-use crate::kept::ReadParams;
+use crate::from_view::ReadParams;
 use crate::oaep::{OaepParamsOf, RsaOaepParamsView};
 use crate::spelling::EncodeParams;
 use crate::strict;
@@ -58,7 +58,7 @@ impl<'a, O: ReadParams<'a>> AlgorithmParams<'a> for OaepParamsOf<O, AnyRef<'a>> 
 
     fn from_any(any: AnyRef<'a>) -> der_core::Result<OaepParamsOf<O, AnyRef<'a>>> {
         let view = decode_borrowed::<RsaOaepParamsView<'a>>(any)?;
-        Ok(O::keep_oaep(view))
+        Ok(O::oaep_from_view(view))
     }
 
     fn reject_defaults(&self, encoding: &[u8]) -> Result<()> {

@@ -10,9 +10,9 @@ ghost use Rattle.pkcs1_params.specs.Parameters as grammar;
 
 use crate::defaults::is_empty_sequence;
 use crate::error::{Error, Result};
+use crate::from_view::ReadParams;
 use crate::hash_fields::{mgf1_with, with_null};
 use crate::hash_functions::Sha1;
-use crate::kept::ReadParams;
 use crate::oaep::{OaepParamsOf, RsaOaepParams, RsaOaepParamsRef, RsaOaepParamsView};
 use crate::p_source::empty_source;
 use crate::strict::reject_defaults;
@@ -22,10 +22,10 @@ use spki_core::{AnyRef, IdentifierValue, ObjectIdentifier, read_field};
 impl<'a> RsaOaepParamsView<'a> {
     /// The parameters as a struct that holds its identifiers.
     #[inline(always)]
-    pub fn keep(self) -> RsaOaepParamsRef<'a>
+    pub fn to_params(self) -> RsaOaepParamsRef<'a>
         ensures { oaep_of result ≡ oaep_viewed self.entry }
     {
-        ObjectIdentifier::keep_oaep(self)
+        ObjectIdentifier::oaep_from_view(self)
     }
 }
 
@@ -43,7 +43,7 @@ impl<'a, O: ReadParams<'a>> OaepParamsOf<O, AnyRef<'a>> {
     {
         let view = RsaOaepParamsView::try_from(bytes)?;
         reject_defaults(&view, bytes)?;
-        Ok(O::keep_oaep(view))
+        Ok(O::oaep_from_view(view))
     }
 }
 
@@ -75,7 +75,7 @@ impl<'a, O: ReadParams<'a>> TryFrom<&'a [u8]> for OaepParamsOf<O, AnyRef<'a>> {
             return Ok(OaepParamsOf::default());
         }
         let view = RsaOaepParamsView::from_der(NoMemory, bytes)?;
-        Ok(O::keep_oaep(view))
+        Ok(O::oaep_from_view(view))
     }
 }
 
@@ -107,7 +107,7 @@ impl<'a, M: Memory, O: ReadParams<'a>> DecodeValue<&'a [u8], M> for OaepParamsOf
             empty_source::<_, _, _>(NoMemory),
         )?;
         reader.finish()?;
-        Ok(O::keep_oaep(RsaOaepParamsView {
+        Ok(O::oaep_from_view(RsaOaepParamsView {
             hash,
             mask_gen,
             p_source,

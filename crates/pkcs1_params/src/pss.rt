@@ -11,7 +11,7 @@ use crate::contents::{append_contents, contents_len, prepend_contents};
 use crate::error::Result;
 use crate::hash_fields::{MaskGenOf, mgf1_with, with_null};
 use crate::hash_functions::Sha1;
-use crate::spelling::changed_in;
+use crate::spelling::non_defaults_in;
 use crate::trailer_field::TrailerField;
 use der_core::{
     BackWriter, Contents, EncodeValue, EqualByValue, Length, Memory, NoMemory, Sequence,
@@ -57,7 +57,7 @@ pub type RsaPssParamsRef<'a> = RsaPssParams<AnyRef<'a>>;
 /// RSASSA-PSS parameters whose algorithms have owned parameters.
 pub type RsaPssParamsOwned = RsaPssParams<Any>;
 
-/// RSASSA-PSS parameters over their encoding, whose octets are their identifiers. Only `keep` copies them.
+/// RSASSA-PSS parameters over their encoding, whose octets are their identifiers. Only `to_params` copies them.
 pub type RsaPssParamsView<'a> = PssParamsOf<IdentifierView<'a>, AnyRef<'a>>;
 
 impl<O: IdentifierValue, P: AnyValue> Contents for PssParamsOf<O, P> {
@@ -90,15 +90,15 @@ impl<'a, O, P> Sequence<'a> for PssParamsOf<O, P> {
 
 impl<O: IdentifierValue, P: AnyValue> EncodeValue for PssParamsOf<O, P> {
     fn value_len(&self) -> der_core::Result<Length> {
-        contents_len(self, changed_in(self), 0)
+        contents_len(self, non_defaults_in(self), 0)
     }
 
     fn append_value<W: Writer>(&self, writer: &mut W) -> der_core::Result<()> {
-        append_contents(self, changed_in(self), 0, writer)
+        append_contents(self, non_defaults_in(self), 0, writer)
     }
 
     fn prepend_value(&self, writer: &mut BackWriter<'_>) {
-        prepend_contents(self, changed_in(self), 0, writer);
+        prepend_contents(self, non_defaults_in(self), 0, writer);
     }
 
     ghost contents_relate = { contents_relate pss_values };

@@ -9,7 +9,7 @@ ghost use Rattle.pkcs1_params.specs.Words.{with_parameters, pss_values, pss_in};
 
 use crate::algorithm::{AlgorithmParams, FromAlgorithm, decode_borrowed, encode_identifier};
 use crate::error::{Error, Result};
-use crate::kept::ReadParams;
+use crate::from_view::ReadParams;
 use crate::pss::{PssParamsOf, RsaPssParamsView};
 use crate::spelling::EncodeParams;
 use crate::strict;
@@ -58,7 +58,7 @@ impl<'a, O: ReadParams<'a>> AlgorithmParams<'a> for PssParamsOf<O, AnyRef<'a>> {
 
     fn from_any(any: AnyRef<'a>) -> der_core::Result<PssParamsOf<O, AnyRef<'a>>> {
         let view = decode_borrowed::<RsaPssParamsView<'a>>(any)?;
-        Ok(O::keep_pss(view))
+        Ok(O::pss_from_view(view))
     }
 
     fn reject_defaults(&self, encoding: &[u8]) -> Result<()> {

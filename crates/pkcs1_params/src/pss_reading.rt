@@ -8,9 +8,9 @@ ghost use Rattle.pkcs1_params.specs.Parameters as grammar;
 
 use crate::defaults::is_empty_sequence;
 use crate::error::{Error, Result};
+use crate::from_view::ReadParams;
 use crate::hash_fields::{mgf1_with, with_null};
 use crate::hash_functions::Sha1;
-use crate::kept::ReadParams;
 use crate::pss::{PssParamsOf, RsaPssParams, RsaPssParamsRef, RsaPssParamsView};
 use crate::strict::reject_defaults;
 use crate::trailer_field::TrailerField;
@@ -20,10 +20,10 @@ use spki_core::{AnyRef, IdentifierValue, ObjectIdentifier, read_field};
 impl<'a> RsaPssParamsView<'a> {
     /// The parameters as a struct that holds its identifiers.
     #[inline(always)]
-    pub fn keep(self) -> RsaPssParamsRef<'a>
+    pub fn to_params(self) -> RsaPssParamsRef<'a>
         ensures { pss_of result ≡ pss_viewed self.entry }
     {
-        ObjectIdentifier::keep_pss(self)
+        ObjectIdentifier::pss_from_view(self)
     }
 }
 
@@ -41,7 +41,7 @@ impl<'a, O: ReadParams<'a>> PssParamsOf<O, AnyRef<'a>> {
     {
         let view = RsaPssParamsView::try_from(bytes)?;
         reject_defaults(&view, bytes)?;
-        Ok(O::keep_pss(view))
+        Ok(O::pss_from_view(view))
     }
 }
 
@@ -73,7 +73,7 @@ impl<'a, O: ReadParams<'a>> TryFrom<&'a [u8]> for PssParamsOf<O, AnyRef<'a>> {
             return Ok(PssParamsOf::default());
         }
         let view = RsaPssParamsView::from_der(NoMemory, bytes)?;
-        Ok(O::keep_pss(view))
+        Ok(O::pss_from_view(view))
     }
 }
 
@@ -106,7 +106,7 @@ impl<'a, M: Memory, O: ReadParams<'a>> DecodeValue<&'a [u8], M> for PssParamsOf<
         )?;
         let trailer_field = read_field(memory, reader, TagNumber::new(3), TrailerField::BC)?;
         reader.finish()?;
-        Ok(O::keep_pss(RsaPssParamsView {
+        Ok(O::pss_from_view(RsaPssParamsView {
             hash,
             mask_gen,
             salt_len,

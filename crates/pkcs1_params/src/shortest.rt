@@ -10,7 +10,7 @@ ghost use Rattle.pkcs1_params.specs.MaskedValues.{FieldContents};
 ghost use Rattle.pkcs1_params.specs.Parts.{Fielded, HasFields, defaults_in, written_fields};
 
 use crate::contents::{append_contents, contents_len, prepend_contents};
-use crate::spelling::{EncodeParams, changed_in};
+use crate::spelling::{EncodeParams, non_defaults_in};
 use der_core::{BackWriter, Contents, EncodeValue, Length, Result, SequenceTag, TaggedBy, Writer};
 use spki_core::{AlgorithmView, AssociatedOid, IdentifierValue, IdentifierView};
 
@@ -20,8 +20,8 @@ use spki_core::{AlgorithmView, AssociatedOid, IdentifierValue, IdentifierView};
 pub struct Shortest<T: EncodeParams> {
     /// The parameters.
     pub params: T,
-    pub(crate) changed: u8,
-    ghost known: { changed ≡ bits_of (defaults_in (T.values (T.params params))) },
+    pub(crate) non_defaults: u8,
+    ghost known: { non_defaults ≡ bits_of (defaults_in (T.values (T.params params))) },
 }
 
 impl<T: EncodeParams> Shortest<T> {
@@ -32,7 +32,7 @@ impl<T: EncodeParams> Shortest<T> {
     {
         Shortest {
             params,
-            changed: changed_in(params),
+            non_defaults: non_defaults_in(params),
         }
     }
 
@@ -47,7 +47,7 @@ impl<T: EncodeParams> Shortest<T> {
             oid: IdentifierView::named::<D>(),
             parameters: Some(Shortest {
                 params,
-                changed: changed_in(params),
+                non_defaults: non_defaults_in(params),
             }),
         }
     }
@@ -79,15 +79,15 @@ impl<T: EncodeParams> TaggedBy for Shortest<T> {
 
 impl<T: EncodeParams> EncodeValue for Shortest<T> {
     fn value_len(&self) -> Result<Length> {
-        contents_len(self.params, self.changed, 0)
+        contents_len(self.params, self.non_defaults, 0)
     }
 
     fn append_value<W: Writer>(&self, writer: &mut W) -> Result<()> {
-        append_contents(self.params, self.changed, 0, writer)
+        append_contents(self.params, self.non_defaults, 0, writer)
     }
 
     fn prepend_value(&self, writer: &mut BackWriter<'_>) {
-        prepend_contents(self.params, self.changed, 0, writer);
+        prepend_contents(self.params, self.non_defaults, 0, writer);
     }
 
     ghost contents_relate = { contents_relate T.values };

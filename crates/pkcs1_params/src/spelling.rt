@@ -61,25 +61,25 @@ pub trait EncodeParams: Copy + Drop {
         ensures { option_map number_in result ≡ first_default (defaults_with values (params self)) bytes.now };
 
     /// Does nothing: its contract says that there are contents under each mask, of fewer than 2^64 octets.
-    final fn lemma_is_held(self)
+    final fn lemma_has_contents(self)
         ensures { let values = Self.values (Self.params self) in
             (mask : ℕ) → HasFields values mask × (length (written_fields values mask) < 2 ^ 64) }
     {
-        self.fields().lemma_are_held();
+        self.fields().lemma_have_encodings();
     }
 
     /// Does nothing: its contract says that there is an encoding.
     final fn lemma_has_encoding(self)
         ensures { HasEncoding (Fielded Self.values) (Self.params self) }
     {
-        self.lemma_is_held();
+        self.lemma_has_contents();
     }
 
     /// Does nothing: its contract says that there is an algorithm identifier of D with them.
     final fn lemma_has_algorithm<D: AssociatedOid>(self)
         ensures { HasEncoding (AlgorithmOf D.contents (Fielded Self.values)) (Self.params self) }
     {
-        self.lemma_is_held();
+        self.lemma_has_contents();
         let _oid = IdentifierView::named::<D>();
     }
 
@@ -97,7 +97,7 @@ pub trait EncodeParams: Copy + Drop {
         ensures unchanged { OnErr result (out.new ≡ out.old) }
         ensures err { IfErr result (IsWritingError (Fielded Self.values) (Self.params self) (length out.old)) }
     {
-        self.lemma_is_held();
+        self.lemma_has_contents();
         self.encode_spelling_into(0, out)
     }
 
@@ -113,10 +113,10 @@ pub trait EncodeParams: Copy + Drop {
         ensures err { let fields = fields_with Self.values (Self.params self) in
             IfErr result (IsSpellingError fields mask (length out.old)) }
     {
-        self.lemma_is_held();
+        self.lemma_has_contents();
         let spelling = Spelling {
             params: self,
-            changed: changed_in(self),
+            non_defaults: non_defaults_in(self),
             mask,
         };
         Ok(spelling.encode_into(out)?)
@@ -127,10 +127,10 @@ pub trait EncodeParams: Copy + Drop {
 #[derive(Drop)]
 pub(crate) struct Spelling<T: EncodeParams> {
     params: T,
-    changed: u8,
+    non_defaults: u8,
     mask: u8,
     ghost range: { InRange (fields_with T.values (T.params params)) mask },
-    ghost known: { changed ≡ bits_of (defaults_in (T.values (T.params params))) },
+    ghost known: { non_defaults ≡ bits_of (defaults_in (T.values (T.params params))) },
 }
 
 impl<T: EncodeParams> Contents for Spelling<T> {
@@ -159,15 +159,15 @@ impl<T: EncodeParams> TaggedBy for Spelling<T> {
 
 impl<T: EncodeParams> EncodeValue for Spelling<T> {
     fn value_len(&self) -> der_core::Result<Length> {
-        contents_len(self.params, self.changed, self.mask)
+        contents_len(self.params, self.non_defaults, self.mask)
     }
 
     fn append_value<W: Writer>(&self, writer: &mut W) -> der_core::Result<()> {
-        append_contents(self.params, self.changed, self.mask, writer)
+        append_contents(self.params, self.non_defaults, self.mask, writer)
     }
 
     fn prepend_value(&self, writer: &mut BackWriter<'_>) {
-        prepend_contents(self.params, self.changed, self.mask, writer);
+        prepend_contents(self.params, self.non_defaults, self.mask, writer);
     }
 
     ghost contents_relate = { masked_relates T.values };
@@ -177,10 +177,10 @@ impl<T: EncodeParams> EncodeValue for Spelling<T> {
 
 /// Which fields differ from their defaults, as bits: bit j is that of field j.
 #[inline(always)]
-pub(crate) fn changed_in<T: EncodeParams>(params: T) -> u8
+pub(crate) fn non_defaults_in<T: EncodeParams>(params: T) -> u8
     ensures { result ≡ bits_of (defaults_in (T.values (T.params params))) }
 {
-    params.fields().changed()
+    params.fields().non_defaults()
 }
 
 /// How many fields equal their defaults.
@@ -208,7 +208,7 @@ impl<T: EncodeParams> Spelling<T> {
         ensures err { let none = HasNoSpelling (fields_with T.values (T.params self.now.params)) self.now.mask in
             IfErr result (λ e. (e.kind ≡ ErrorKind.Overflow) × none) }
     {
-        self.params.lemma_is_held();
+        self.params.lemma_has_contents();
         Ok(self.encoded_len()?.to_usize())
     }
 
@@ -229,11 +229,11 @@ impl<T: EncodeParams> Spelling<T> {
 /// The encodings under the masks below `count`, in order.
 fn encodings_under<T: EncodeParams>(
     params: T,
-    changed: u8,
+    non_defaults: u8,
     count: u8,
     alloc: Global,
 ) -> der_core::Result<Vec<Vec<u8>>>
-    requires changed { changed ≡ bits_of (defaults_in (T.values (T.params params))) }
+    requires non_defaults { non_defaults ≡ bits_of (defaults_in (T.values (T.params params))) }
     requires masks { AreMasks (fields_with T.values (T.params params)) count }
     ensures ok { IfOk result (λ encodings. AreUnder (fields_with T.values (T.params params)) count
         (encodings_in encodings)) }
@@ -243,7 +243,7 @@ fn encodings_under<T: EncodeParams>(
     for mask in 0..count {
         let spelling = Spelling {
             params,
-            changed,
+            non_defaults,
             mask,
         };
         encodings.push(spelling.to_vec(alloc)?)?;
@@ -259,12 +259,12 @@ pub(crate) fn all_spellings<T: EncodeParams>(params: T, alloc: Global) -> Result
     ensures err { IfErr result (IsListingError (fields_with T.values (T.params params))) }
 {
     let count = 1u8 << count_defaults(params);
-    let changed = changed_in(params);
+    let non_defaults = non_defaults_in(params);
     let longest = Spelling {
         params,
-        changed,
+        non_defaults,
         mask: count - 1,
     };
     longest.len()?;
-    Ok(encodings_under(params, changed, count, alloc)?)
+    Ok(encodings_under(params, non_defaults, count, alloc)?)
 }

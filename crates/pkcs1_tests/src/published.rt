@@ -1,10 +1,10 @@
 //! The public half of a key from OpenSSL, compared with what OpenSSL writes.
 use crate::checks::equal;
 use der_core::{Error, ErrorKind, Tag};
+use examples::publish;
 use std::fs;
 use std::path::Path;
 use std::test::Fail;
-use uses::publish;
 
 /// Made by `openssl genrsa -traditional 512`, and written by `openssl rsa -traditional -outform DER`.
 const PRIVATE: &[u8] = &[

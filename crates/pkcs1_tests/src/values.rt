@@ -78,7 +78,7 @@ fn views_of_parameters_are_kept_and_written(rt: HostRuntime) -> Result<(), Fail>
     let pss = RsaPssParamsView::from_der_strict(&salted)?;
     equal(
         &rt,
-        pss.keep(),
+        pss.to_params(),
         RsaPssParamsRef::try_from(salted.as_slice())?,
     );
     equal(&rt, (pss.salt_len, pss.default_fields()), (32, 3));
@@ -86,7 +86,7 @@ fn views_of_parameters_are_kept_and_written(rt: HostRuntime) -> Result<(), Fail>
     let length = pss.encode_params(&mut slice)?;
     equal(&rt, &slice[..length], salted.as_slice());
     let oaep = RsaOaepParamsView::try_from([0x30, 0x00].as_slice())?;
-    equal(&rt, oaep.keep(), RsaOaepParamsRef::default());
+    equal(&rt, oaep.to_params(), RsaOaepParamsRef::default());
     Ok(())
 }
 

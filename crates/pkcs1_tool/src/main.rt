@@ -7,15 +7,15 @@ ghost use Rattle.std.specs.Prelude.{◌≡◌, ℕ, List, Bool, is_ok};
 ghost use Rattle.der_core.specs.Words.{FileTakes, GivesAll};
 ghost use Rattle.pkcs1.specs.Words.{RsaPrivateKey, RsaPublicKey};
 ghost use Rattle.pkcs1_lines.specs.Words.{lines_of};
-ghost use Rattle.tool_core.specs.Words.{CopiesAt, IsDone, Writes, status_of};
+ghost use Rattle.pkcs1_program.specs.Words.{CopiesAt, IsDone, Writes, status_of};
 
 use der_core::{FileSystem, FromRead, Sink, Source, ToWrite};
+pub use pkcs1_program::{Fault, Plan, behind_name, copy_priv, copy_pub, plan_of, run, status};
 use std::alloc::Global;
 use std::fmt::Display;
 use std::path::Path;
 use std::process::ExitCode;
 use std::{env, io};
-pub use tool_core::{Fault, Plan, behind_name, copy_priv, copy_pub, plan_of, run, status};
 
 const USAGE: &str = "usage: pkcs1_tool [copy pub|priv IN OUT]";
 

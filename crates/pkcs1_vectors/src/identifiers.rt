@@ -66,7 +66,7 @@ pub fn pss_algorithm(to: &mut Told, bytes: &[u8]) {
     pss(
         to,
         bytes,
-        RsaPssParamsView::from_algorithm_der(bytes).map(RsaPssParamsView::keep),
+        RsaPssParamsView::from_algorithm_der(bytes).map(RsaPssParamsView::to_params),
     );
     compared(
         to,
@@ -82,7 +82,7 @@ pub fn pss_strict(to: &mut Told, bytes: &[u8]) {
     pss(
         to,
         bytes,
-        RsaPssParamsView::from_algorithm_der_strict(bytes).map(RsaPssParamsView::keep),
+        RsaPssParamsView::from_algorithm_der_strict(bytes).map(RsaPssParamsView::to_params),
     );
 }
 
@@ -95,7 +95,7 @@ pub fn oaep_algorithm(to: &mut Told, bytes: &[u8]) {
     oaep(
         to,
         bytes,
-        RsaOaepParamsView::from_algorithm_der(bytes).map(RsaOaepParamsView::keep),
+        RsaOaepParamsView::from_algorithm_der(bytes).map(RsaOaepParamsView::to_params),
     );
     compared(
         to,
@@ -115,7 +115,7 @@ pub fn oaep_strict(to: &mut Told, bytes: &[u8]) {
     oaep(
         to,
         bytes,
-        RsaOaepParamsView::from_algorithm_der_strict(bytes).map(RsaOaepParamsView::keep),
+        RsaOaepParamsView::from_algorithm_der_strict(bytes).map(RsaOaepParamsView::to_params),
     );
 }
 

@@ -72,7 +72,10 @@ impl Shown for Any {
 
 impl<O: IdentifierValue, P: Shown> Shown for AlgorithmIdentifierOf<O, P> {
     fn shown(&self, to: &mut Told) {
-        self.oid.as_identifier_view().keep().shown(to);
+        self.oid
+            .as_identifier_view()
+            .to_object_identifier()
+            .shown(to);
         to.text("/");
         match &self.parameters {
             Some(parameters) => parameters.shown(to),

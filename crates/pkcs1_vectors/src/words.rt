@@ -10,6 +10,7 @@ use crate::{
     algorithms, asked, containers, errors, identifiers, keys, lengths, parameters, values,
 };
 use der_core::{OctetStringRef, Uint, UintRef};
+use examples::is_accepted;
 use pkcs1::{
     OtherPrimeInfo, RsaOaepParamsOwned, RsaOaepParamsRef, RsaOaepParamsView, RsaPrivateKeyOwned,
     RsaPrivateKeyRef, RsaPssParamsOwned, RsaPssParamsRef, RsaPssParamsView, RsaPublicKeyRef, Sha1,
@@ -17,7 +18,6 @@ use pkcs1::{
 };
 use pkcs8_core::PrivateKeyInfoRef;
 use spki_core::{AlgorithmIdentifier, AlgorithmIdentifierRef, Any, AnyRef, ObjectIdentifier};
-use uses::is_accepted;
 
 /// Words without parameters.
 pub fn alone(to: &mut Told, word: &str) -> bool {

@@ -40,7 +40,8 @@ pub type AlgorithmIdentifier<P> = AlgorithmIdentifierOf<ObjectIdentifier, P>;
 /// An algorithm identifier with borrowed parameters of any tag.
 pub type AlgorithmIdentifierRef<'a> = AlgorithmIdentifier<AnyRef<'a>>;
 
-/// An algorithm identifier that borrows the octets of its object identifier. Only `keep` copies them.
+/// An algorithm identifier that borrows the octets of its object identifier. Only `to_algorithm_identifier` copies
+/// them.
 pub type AlgorithmView<'a, P> = AlgorithmIdentifierOf<IdentifierView<'a>, P>;
 
 impl<O: fmt::Debug, P: fmt::Debug> fmt::Debug for AlgorithmIdentifierOf<O, P> {
@@ -102,7 +103,7 @@ impl<'a, M: Memory, O: ReadIdentifier<'a>, P: Decode<&'a [u8], M>> DecodeValue<&
         let (oid, Last(parameters)) = <(IdentifierView<'a>, Last<P>)>::decode_parts(
             memory, reader,
         )?;
-        Ok(O::keep(AlgorithmView { oid, parameters }))
+        Ok(O::algorithm_from_view(AlgorithmView { oid, parameters }))
     }
 }
 
@@ -170,11 +171,11 @@ impl<'a, P> AlgorithmView<'a, P> {
 
     /// Copies the octets of the identifier.
     #[inline(always)]
-    pub fn keep(self) -> AlgorithmIdentifier<P>
+    pub fn to_algorithm_identifier(self) -> AlgorithmIdentifier<P>
         ensures oid { own_octets_of result.oid ≡ octets_of self.entry.oid }
         ensures parameters { result.parameters ≡ self.entry.parameters }
     {
-        ObjectIdentifier::keep(self)
+        ObjectIdentifier::algorithm_from_view(self)
     }
 }
 
@@ -183,23 +184,23 @@ pub trait ReadIdentifier<'a>: IdentifierValue + Drop {
     ghost use Rattle.spki_core.specs.Words.{octets_of};
 
     /// The algorithm of a view.
-    fn keep<P>(algorithm: AlgorithmView<'a, P>) -> AlgorithmIdentifierOf<Self, P>
+    fn algorithm_from_view<P>(algorithm: AlgorithmView<'a, P>) -> AlgorithmIdentifierOf<Self, P>
         ensures oid { Self.octets result.oid ≡ octets_of algorithm.entry.oid }
         ensures parameters { result.parameters ≡ algorithm.entry.parameters };
 }
 
 impl<'a> ReadIdentifier<'a> for IdentifierView<'a> {
     #[inline(always)]
-    fn keep<P>(algorithm: AlgorithmView<'a, P>) -> AlgorithmView<'a, P> {
+    fn algorithm_from_view<P>(algorithm: AlgorithmView<'a, P>) -> AlgorithmView<'a, P> {
         algorithm
     }
 }
 
 impl<'a> ReadIdentifier<'a> for ObjectIdentifier {
     #[inline(always)]
-    fn keep<P>(algorithm: AlgorithmView<'a, P>) -> AlgorithmIdentifier<P> {
+    fn algorithm_from_view<P>(algorithm: AlgorithmView<'a, P>) -> AlgorithmIdentifier<P> {
         AlgorithmIdentifier {
-            oid: algorithm.oid.keep(),
+            oid: algorithm.oid.to_object_identifier(),
             parameters: algorithm.parameters,
         }
     }

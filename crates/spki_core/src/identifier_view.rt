@@ -16,7 +16,7 @@ use der_core::{
     Reader, Result, TaggedBy, Writer,
 };
 
-/// An object identifier over its contents octets (X.690 8.19). Only `keep` copies them.
+/// An object identifier over its contents octets (X.690 8.19). Only `to_object_identifier` copies them.
 #[derive(Clone, Copy, Drop)]
 pub struct IdentifierView<'a> {
     octets: &'a [u8],
@@ -68,7 +68,7 @@ impl<'a> IdentifierView<'a> {
 
     /// Copies the octets.
     #[inline(always)]
-    pub fn keep(self) -> ObjectIdentifier
+    pub fn to_object_identifier(self) -> ObjectIdentifier
         ensures { own_octets_of result ≡ octets_of self.entry }
     {
         ObjectIdentifier::new(self.octets)

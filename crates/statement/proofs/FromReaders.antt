@@ -3,7 +3,7 @@ use Rattle.std.proofs.Common.{ℕ, List, ◌≡◌, ◌≢◌, ◌<◌, ◌≤�
 use Rattle.std.proofs.Common.{Result, Ok, Err}
 use Rattle.std.specs.Io.KnownBytes.{Consumes, IsAtEnd}
 use Rattle.std.specs.Prelude.{IfErr, IfOk, ◌⊎◌, Option}
-use Rattle.der_core.specs.Carrying.{piece, ReadsDocument}
+use Rattle.der_core.specs.Transfer.{piece, ReadsDocument}
 use Rattle.der_core.specs.Document.{Means, IsDocument}
 use Rattle.der_core.specs.Input.{Input, left_in, read_from}
 use Rattle.der_core.specs.Reading.{ReadsFront}

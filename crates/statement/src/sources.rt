@@ -7,7 +7,7 @@ ghost use Rattle.std.specs.Prelude.{ℕ, List, ◌≡◌, ◌≢◌, ◌<◌, �
 ghost use Rattle.std.specs.Prelude.{IfOk, OnOk, IfErr};
 ghost use Rattle.std.specs.Io.KnownBytes.{Appends, Consumes, IsAtEnd};
 ghost use Rattle.der_core.specs.declared.error.ErrorKind.TheVariants.{File, OutOfMemory, Overflow};
-ghost use Rattle.der_core.specs.Carrying.{piece};
+ghost use Rattle.der_core.specs.Transfer.{piece};
 ghost use Rattle.der_core.specs.SourcesSinks.{OneFailed};
 ghost use Rattle.statement.specs.Held.{document_of};
 ghost use Rattle.statement.specs.Statement.{AreOctets, limit, sequence};

@@ -36,10 +36,10 @@ pub fn view_pss_params_strictly<'a>(bytes: &'a [u8]) -> Option<RsaPssParamsView<
 }
 
 /// The struct of a view means the same.
-pub fn keep_pss_params<'a>(view: RsaPssParamsView<'a>) -> RsaPssParamsRef<'a>
+pub fn pss_params_of_view<'a>(view: RsaPssParamsView<'a>) -> RsaPssParamsRef<'a>
     ensures { rsa_pss_params any_ref result ≡ rsa_pss_params_view view.entry }
 {
-    view.keep()
+    view.to_params()
 }
 
 /// Reads a slice exactly if it encodes OAEP parameters, as the ones that it encodes.
@@ -63,8 +63,8 @@ pub fn view_oaep_params_strictly<'a>(bytes: &'a [u8]) -> Option<RsaOaepParamsVie
 }
 
 /// The struct of a view means the same.
-pub fn keep_oaep_params<'a>(view: RsaOaepParamsView<'a>) -> RsaOaepParamsRef<'a>
+pub fn oaep_params_of_view<'a>(view: RsaOaepParamsView<'a>) -> RsaOaepParamsRef<'a>
     ensures { rsa_oaep_params any_ref result ≡ rsa_oaep_params_view view.entry }
 {
-    view.keep()
+    view.to_params()
 }

@@ -12,12 +12,12 @@ use crate::back_writer::BackWriter;
 use crate::decode::DecodeValue;
 use crate::encode::EncodeValue;
 use crate::error::{ErrorKind, Result};
+use crate::grammar::{Contents, EqualByValue, IntegerTag, TaggedBy};
 use crate::header::Header;
 use crate::length::Length;
 use crate::memory::copy_of;
 use crate::reader::Reader;
 use crate::try_clone::TryClone;
-use crate::types::{Contents, EqualByValue, IntegerTag, TaggedBy};
 use crate::writer::Writer;
 use std::alloc::Global;
 

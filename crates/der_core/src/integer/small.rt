@@ -8,13 +8,13 @@ use crate::back_writer::BackWriter;
 use crate::decode::DecodeValue;
 use crate::encode::EncodeValue;
 use crate::error::{Error, ErrorKind, Result};
+use crate::grammar::{Contents, EqualByValue, IntegerTag, TaggedBy};
 use crate::header::Header;
 use crate::integer::uint::integer;
 use crate::length::Length;
 use crate::memory::Memory;
 use crate::reader::Reader;
 use crate::tag::Tag;
-use crate::types::{Contents, EqualByValue, IntegerTag, TaggedBy};
 use crate::writer::Writer;
 
 /// The number with these contents octets.

@@ -9,7 +9,7 @@ pub returns-then-mask-eq0 : goal.returns-then-mask-eq0
 returns-then-mask-eq0 g c =
     let mask : c.args.mask ≡ 0 = grind (arith, nat_tests) in
     let none = none_written (g.T.EncodeParams.values (g.T.EncodeParams.params c.args.params))
-    (sym c.requires ∙ c.if-changed-eq0.true) in
+    (sym c.requires ∙ c.if-non_defaults-eq0.true) in
     rw (mask, none.1) (none.0, refl, omega arith)
 
 pub returns : goal.returns

@@ -11,7 +11,7 @@ pub returns-then-mask-eq0 : goal.returns-then-mask-eq0
 returns-then-mask-eq0 g c =
     let mask : c.args.mask ≡ 0 = grind (arith, nat_tests) in
     let none = none_written (g.T.EncodeParams.values (g.T.EncodeParams.params c.args.params))
-    (sym c.requires.changed ∙ c.if-changed-eq0.true) in
+    (sym c.requires.non_defaults ∙ c.if-non_defaults-eq0.true) in
     rw (mask, none.1) (refl, omega arith, sym (take-append-drop c.args.writer.now.free c.args.writer.now.slice.now))
 
 pub prepend-requires-clause-has : goal.prepend-requires-clause-has

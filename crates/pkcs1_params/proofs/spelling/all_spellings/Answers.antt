@@ -20,7 +20,7 @@ invariant_of-longest g c =
     record {
       range = in_range (fields_with t.values (t.params c.args.params)) (1 * 2 ^ k % 256 - 1)
           (k, known.count, omega (arith, last k known.few));
-      known = c.changed_in-changed.ensures;
+      known = c.non_defaults_in-non_defaults.ensures;
     }
 
 pub returns-in_err-len-clause-err : goal.returns-in_err-len-clause-err
@@ -42,7 +42,7 @@ encodings_under-requires g c =
     let k = c.count_defaults-count.result in
     let known = c.count_defaults-count.ensures in
     record {
-      changed = c.changed_in-changed.ensures;
+      non_defaults = c.non_defaults_in-non_defaults.ensures;
       masks = (
         k,
         known.count,

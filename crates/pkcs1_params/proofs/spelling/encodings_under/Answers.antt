@@ -14,7 +14,7 @@ invariant_of-spelling g c =
     record {
       range = mask_in_range (fields_with t.values (t.params c.args.params)) c.args.count c.loop-mask.mask
           c.requires.masks c.loop-mask-test.true;
-      known = c.requires.changed;
+      known = c.requires.non_defaults;
     }
 
 pub returns-in_err-to_vec-clause-err : goal.returns-in_err-to_vec-clause-err

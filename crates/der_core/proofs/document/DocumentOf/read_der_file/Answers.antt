@@ -1,6 +1,6 @@
 use Rattle.std.specs.Prelude.{◌≢◌, Result, Ok, Err, IfErr}
 use Rattle.std.proofs.Common.{ℕ, List, Option, inl, inr}
-use Rattle.der_core.specs.Carrying.{ReadsDocument}
+use Rattle.der_core.specs.Transfer.{ReadsDocument}
 use Rattle.der_core.specs.declared.error.Error.{Error}
 use Rattle.der_core.specs.declared.error.ErrorKind.TheVariants.{NoRoom}
 use Rattle.der_core.proofs.TaggedReadings.{document_reads}

@@ -10,8 +10,8 @@ pub returns-else-left_out : goal.returns-else-left_out
 returns-else-left_out g c =
     let p = part_in g.Plain.PlainHolder.plain g.Mask.MaskHolder.mask c.args.self.now.first in
     let written : out_under p.is_default c.args.mask ≡ false =
-    rw (c.under-left_out.ensures, c.split_changed-default.ensures) at c.if-left_out.false in
-    let later = rw (c.under-left_out.ensures, c.split_changed-default.ensures) at c.len-later.ensures in
+    rw (c.take_mask_bit-left_out.ensures, c.split_non_defaults-default.ensures) at c.if-left_out.false in
+    let later = rw (c.take_mask_bit-left_out.ensures, c.split_non_defaults-default.ensures) at c.len-later.ensures in
     rw (c.joined_len.ensures, written)
     (counts_joined (written_field false p.field.number p.encoding)
     (written_fields (g.L.Fields.values c.args.self.now.later) (rest_under p.is_default c.args.mask)) (λ x y. (x, y))

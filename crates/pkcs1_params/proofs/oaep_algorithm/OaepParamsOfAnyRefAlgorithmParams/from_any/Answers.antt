@@ -7,5 +7,5 @@ use Rattle.pkcs1_params.proofs.oaep_algorithm.OaepParamsOfAnyRefAlgorithmParams.
 pub returns-clause-ok : goal.returns-clause-ok
 returns-clause-ok g c =
     let any = any_of c.args.any in
-    subst (λ p. (any.tag ≡ sequence_tag) × OaepContents p any.contents) (sym c.keep_oaep.ensures)
+    subst (λ p. (any.tag ≡ sequence_tag) × OaepContents p any.contents) (sym c.oaep_from_view.ensures)
     c.in_ok-view.ensures.ok

@@ -52,4 +52,4 @@ returns g c =
     (field_gives hash later c.with_null.ensures c.new.ensures _ c.in_ok-hash.ensures
     (field_gives mask alone c.mgf1_with.ensures c.new-2.ensures _ c.in_ok-mask_gen.ensures
     (field_gives source [] c.empty_source.ensures c.new-3.ensures _ c.in_ok-p_source.ensures end.0))) in
-    (read ∙ ap (λ v. Ok v) (sym c.keep_oaep.ensures), end.1)
+    (read ∙ ap (λ v. Ok v) (sym c.oaep_from_view.ensures), end.1)

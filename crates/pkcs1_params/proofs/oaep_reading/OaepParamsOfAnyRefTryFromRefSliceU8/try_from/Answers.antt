@@ -16,4 +16,4 @@ returns-then-is_empty_sequence-clause-exact g c =
     rsa_oaep_params_reads.takes _ _ means.0 means
 
 pub returns-clause-ok : goal.returns-clause-ok
-returns-clause-ok g c = rw c.keep_oaep.ensures (the_meaning oaep_delimited _ _ c.in_ok-view.ensures.encoding)
+returns-clause-ok g c = rw c.oaep_from_view.ensures (the_meaning oaep_delimited _ _ c.in_ok-view.ensures.encoding)

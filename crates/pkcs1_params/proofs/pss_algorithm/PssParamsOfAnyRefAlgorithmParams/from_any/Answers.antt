@@ -7,4 +7,4 @@ use Rattle.pkcs1_params.proofs.pss_algorithm.PssParamsOfAnyRefAlgorithmParams.fr
 pub returns-clause-ok : goal.returns-clause-ok
 returns-clause-ok g c =
     let any = any_of c.args.any in
-    subst (λ p. (any.tag ≡ sequence_tag) × PssContents p any.contents) (sym c.keep_pss.ensures) c.in_ok-view.ensures.ok
+    subst (λ p. (any.tag ≡ sequence_tag) × PssContents p any.contents) (sym c.pss_from_view.ensures) c.in_ok-view.ensures.ok

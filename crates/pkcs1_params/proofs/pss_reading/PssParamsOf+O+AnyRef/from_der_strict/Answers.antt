@@ -10,4 +10,4 @@ returns-in_err-reject_defaults-clause-err g c =
     c.in_err-reject_defaults.ensures.err (rw same at s))
 
 pub returns-clause-ok : goal.returns-clause-ok
-returns-clause-ok g c = rw c.keep_pss.ensures (c.in_ok-reject_defaults.ensures.ok, c.in_ok-view.ensures.ok.1)
+returns-clause-ok g c = rw c.pss_from_view.ensures (c.in_ok-reject_defaults.ensures.ok, c.in_ok-view.ensures.ok.1)

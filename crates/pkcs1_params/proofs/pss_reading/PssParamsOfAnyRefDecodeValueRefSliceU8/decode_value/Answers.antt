@@ -67,4 +67,4 @@ returns g c =
     (field_gives mask numbers c.mgf1_with.ensures c.new-2.ensures _ c.in_ok-mask_gen.ensures
     (field_gives salt (trailer ∷ []) refl c.new-3.ensures _ c.in_ok-salt_len.ensures
     (field_gives trailer [] refl c.new-4.ensures _ c.in_ok-trailer_field.ensures end.0)))) in
-    (read ∙ ap (λ v. Ok v) (sym c.keep_pss.ensures), end.1)
+    (read ∙ ap (λ v. Ok v) (sym c.pss_from_view.ensures), end.1)

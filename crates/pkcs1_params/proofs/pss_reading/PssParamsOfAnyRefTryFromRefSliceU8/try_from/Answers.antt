@@ -16,4 +16,4 @@ returns-then-is_empty_sequence-clause-exact g c =
     rsa_pss_params_reads.takes _ _ means.0 means
 
 pub returns-clause-ok : goal.returns-clause-ok
-returns-clause-ok g c = rw c.keep_pss.ensures (the_meaning pss_delimited _ _ c.in_ok-view.ensures.encoding)
+returns-clause-ok g c = rw c.pss_from_view.ensures (the_meaning pss_delimited _ _ c.in_ok-view.ensures.encoding)

@@ -38,4 +38,4 @@ pub returns-clause-err : goal.returns-clause-err
 returns-clause-err g c =
     let t = g.Self.EncodeParams in
     if_err_as c.encode_spelling_into.result (not_written t.values t.numbered (t.params c.args.self) _
-    (c.lemma_is_held.ensures 0)) c.encode_spelling_into.ensures.err
+    (c.lemma_has_contents.ensures 0)) c.encode_spelling_into.ensures.err

@@ -14,7 +14,7 @@ invariant_of-spelling g c =
     g.Self.EncodeParams in record {
       range = in_range (fields_with t.values (t.params c.args.self)) c.args.mask
           c.requires;
-      known = c.changed_in.ensures;
+      known = c.non_defaults_in.ensures;
     }
 
 pub returns-in_err-encode_into-clause-err : goal.returns-in_err-encode_into-clause-err
@@ -24,7 +24,7 @@ returns-in_err-encode_into-clause-err g c =
     let p = c.args.self in
     let mask = c.args.mask in
     let v = t.params p in
-    let held = c.lemma_is_held.ensures mask in
+    let held = c.lemma_has_contents.ensures mask in
     let made =
     encoding_under (fields_with t.values v) mask (written_fields (t.values v) mask)
     (parts_relate (parts_of (t.values v)) c.requires.0 mask c.requires.1 c.requires.2 held.0

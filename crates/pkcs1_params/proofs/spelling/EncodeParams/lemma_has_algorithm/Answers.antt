@@ -14,6 +14,6 @@ returns g c =
     let is : octets_of c.named-oid.result ≡ oid = c.named-oid.ensures in
     let identifier : IsIdentifier oid = rw is at (viewed_held c.named-oid.result) in
     let t = g.Self.EncodeParams in
-    let held = c.lemma_is_held.ensures 0 in
+    let held = c.lemma_has_contents.ensures 0 in
     has_algorithm 48 (FieldContents t.values) (λ p. HasFields (t.values p) 0) (λ p. written_fields (t.values p) 0) oid
     (contents_relate t.values) identifier (t.params c.args.self) held.0 held.1

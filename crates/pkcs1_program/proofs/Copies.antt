@@ -1,0 +1,72 @@
+-- Copying a key stops.
+use Rattle.std.proofs.Common.{◌≡◌, ◌⊎◌, ℕ, List, inl, inr, sym, Option, Some}
+use Rattle.std.specs.Prelude.{Result, Err, IfErr}
+use Rattle.std.proofs.lemmas.Option.{none-some, same_Some}
+use Rattle.std.proofs.lemmas.Result.{IfErr-weaker}
+use Rattle.der_core.specs.declared.error.Error as der
+use Rattle.der_core.specs.declared.error.ErrorKind.{ErrorKind}
+use Rattle.der_core.specs.Readings.{Reading}
+use Rattle.der_core.specs.SourcesSinks.{GivesAll}
+use Rattle.pkcs1_params.specs.declared.error.Error.{Error}
+use Rattle.pkcs1_params.specs.declared.error.Error.TheVariants as error
+use Rattle.pkcs1_params.specs.Errors.{IsAsn1}
+use Rattle.pkcs1_program.specs.Copied.{WhyKeyNotRead, WhyKeyNotWritten, WhyNotCopied}
+
+-- What is said of an error of the library below says more.
+pub asn1_by : (P Q : der.Error → Type 0) → ((a : der.Error) → P a → Q a) → (e : Error) → IsAsn1 P e → IsAsn1 Q e
+asn1_by P Q f (error.Asn1 a) h = f a h
+asn1_by P Q f error.Crypto h = absurd h
+asn1_by P Q f error.KeyMalformed h = absurd h
+asn1_by P Q f error.Version h = absurd h
+
+-- What came is rejected as a key.
+pub no_key : {V : Type 0} (read : Reading V) (e : Error) (encoding : List ℕ)
+    (before after : Option (List ℕ)) (failures failures2 : ℕ)
+    → failures2 ≡ failures → GivesAll before after encoding → IsAsn1 (λ a. read encoding ≡ Err a.kind) e
+    → IsAsn1 (λ a. WhyKeyNotRead read a.kind before after failures failures2) e
+no_key read e encoding before after failures failures2 same gives fault =
+    asn1_by _ _ (λ a f. inr (same, encoding, gives, f)) e fault
+
+-- Why a key isn't copied from an opened file to a place is why the file isn't copied.
+stopped : {V F Place : Type 0} (Grammar : V → List ℕ → Type 0) (read : Reading V)
+    (Opens : Option F → Type 0) (remaining : F → Option (List ℕ)) (failures : F → ℕ) (source source2 : F)
+    (At : Place → List ℕ → Type 0) (Refuses : List ℕ → Type 0) (place : Place) (Unused : Type 0) (e : ErrorKind)
+    → Opens (Some source) → ((bytes : List ℕ) → At place bytes → Refuses bytes)
+    → (WhyKeyNotRead read e (remaining source) (remaining source2) (failures source) (failures source2) × Unused)
+    ⊎ WhyKeyNotWritten Grammar e (remaining source) (remaining source2) (failures source) (failures source2) At
+    (Some place)
+    → WhyNotCopied Grammar read e Opens remaining failures Refuses
+stopped Grammar read Opens remaining failures source source2 At Refuses place Unused e opens refuses
+    (inl (inl document, _)) =
+    inl (inr (source, source2, opens, document))
+stopped Grammar read Opens remaining failures source source2 At Refuses place Unused e opens refuses
+    (inl (inr (_, encoding, gives, fault), _)) =
+    inr (inl (encoding, (source, source2, opens, gives), fault))
+stopped Grammar read Opens remaining failures source source2 At Refuses place Unused e opens refuses
+    (inr (file, _, encoding, gives, is, inl none)) =
+    absurd (none-some place (sym none))
+stopped Grammar read Opens remaining failures source source2 At Refuses place Unused e opens refuses
+    (inr (file, _, encoding, gives, is, inr (other, same, refused))) =
+    inr (inr (
+      file,
+      (
+        encoding,
+        (source, source2, opens, gives),
+        is,
+        refuses encoding (rw (same_Some place other same) refused),
+      ),
+    ))
+
+pub not_copied : {X V F Place : Type 0} (Grammar : V → List ℕ → Type 0) (read : Reading V)
+    (Opens : Option F → Type 0) (remaining : F → Option (List ℕ)) (failures : F → ℕ) (source source2 : F)
+    (At : Place → List ℕ → Type 0) (Refuses : List ℕ → Type 0) (place : Place) (Unused : Type 0) (r : Result X Error)
+    → IfErr r (IsAsn1 (λ e.
+    (WhyKeyNotRead read e.kind (remaining source) (remaining source2) (failures source) (failures source2) × Unused)
+    ⊎ WhyKeyNotWritten Grammar e.kind (remaining source) (remaining source2) (failures source) (failures source2) At
+    (Some place)))
+    → Opens (Some source) → ((bytes : List ℕ) → At place bytes → Refuses bytes)
+    → IfErr r (IsAsn1 (λ e. WhyNotCopied Grammar read e.kind Opens remaining failures Refuses))
+not_copied Grammar read Opens remaining failures source source2 At Refuses place Unused r h opens refuses =
+    IfErr-weaker r _ _ (λ error. asn1_by _ _ (λ e.
+    stopped Grammar read Opens remaining failures source source2 At Refuses place Unused e.kind opens refuses)
+    error) h

@@ -1,0 +1,11 @@
+use Rattle.std.proofs.lemmas.Result.{err_from_is_err_and}
+use Rattle.pkcs1.specs.KeyReadings.{rsa_private_key}
+use Rattle.pkcs1_program.proofs.Copies.{no_key}
+use Rattle.pkcs1_program.proofs.copy.read_private_key.Goals as goal
+
+pub returns-in_err-try_from-clause-err : goal.returns-in_err-try_from-clause-err
+returns-in_err-try_from-clause-err g c =
+    let p = err_from_is_err_and c.from_residual-in_err-try_from.result c.from_residual-in_err-try_from.ensures.1 in
+    let reads = c.in_ok-secret.ensures in
+    rw (p.1, p.2) (no_key rsa_private_key _ _ _ _ _ _ reads.1 reads.0
+    (rw c.as_bytes.ensures.encoding at c.in_err-try_from.ensures.exact))
