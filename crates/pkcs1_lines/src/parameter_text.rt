@@ -19,11 +19,13 @@ pub trait Parameters<'a>: Encode + Drop + Sized {
     /// The type of what values mean.
     ghost Meaning: { Type 0 };
 
+    /// What a value means.
     ghost meaning: { Self → Meaning };
 
     /// The grammar of what a value means.
     ghost grammar: { Meaning → List ℕ → Type 0 };
 
+    /// The fields of what a value means, in order.
     ghost fields: { Meaning → List Field };
 
     /// The output for a value, given how many of its fields equal their defaults, and its encoding.
@@ -59,10 +61,11 @@ pub trait Parameters<'a>: Encode + Drop + Sized {
     /// The fields of each value that equal their defaults can be counted.
     ghost counted: { (params : Meaning) → (k : ℕ) × HaveDefaults (fields params) k };
 
-    /// What `Encode` writes is an encoding of `grammar`, and the shortest one.
+    /// An encoding of a value in `grammar` is one for `Encode`.
     ghost means_as: { (params : Self) (encoding : List ℕ)
         → Means grammar encoding (meaning params) → Means Self.encoding encoding (Self.value params) };
 
+    /// The shortest encoding of a value for `Encode` is the shortest in `grammar`.
     ghost shortest_as: { (params : Self) (encoding : List ℕ)
         → IsShortest Self.encoding (Self.value params) encoding → IsShortest grammar (meaning params) encoding };
 }

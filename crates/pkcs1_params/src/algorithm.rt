@@ -25,16 +25,19 @@ pub trait AlgorithmParams<'a>: Sized + Drop {
     /// What the parameters mean.
     ghost Params: { Type 0 };
 
+    /// What a value means.
     ghost params: { Self → Params };
 
     /// The fields of their SEQUENCE.
     ghost values: { Params → List FieldValue };
 
+    /// Contents octets mean at most one value.
     ghost fields_mean_one: { MeansOne (FieldContents values) };
 
-    /// What reads their contents octets, and that it reads nothing else.
+    /// The value with these contents octets, or the kind of error of their first fault.
     ghost read: { Reading Params };
 
+    /// The function reads the contents of the fields and no others, and its faults are about the bytes.
     ghost reads: { ReadsContents (FieldContents values) read };
 
     /// Reads the parameters of an algorithm: `TagUnexpected` if they are no SEQUENCE.
@@ -45,7 +48,7 @@ pub trait AlgorithmParams<'a>: Sized + Drop {
             OnErr result ((v : Params) → any.tag ≡ sequence_tag → FieldContents values v any.contents → ⊥) }
         ensures exact { Answers params result (any_as sequence read (any_of any.entry)) };
 
-    /// NoValueOrMemory an encoding of the parameters in which a default is written: `Noncanonical` with the tag of the first.
+    /// Rejects an encoding of the parameters in which a default is written: `Noncanonical` with the tag of the first.
     fn reject_defaults(&self, encoding: &[u8]) -> Result<()>
         requires { Means (Fielded values) encoding.now (params self.now) }
         ensures ok { OnOk result (IsShortest (Fielded values) (params self.now) encoding.now) }

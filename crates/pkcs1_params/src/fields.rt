@@ -154,6 +154,7 @@ fn split_non_defaults<Plain: PlainHolder, Mask: MaskHolder, L: Fields>(
 
 /// Fields with their values, in order. Each list has a type of its own, so that code for it has no loop.
 pub trait Fields: Drop {
+    /// The values of the fields, in order.
     ghost values: { Self → List FieldValue };
 
     /// Does nothing: its contract says that there are contents under each mask, and bounds their length.

@@ -24,8 +24,10 @@ pub trait PlainHolder: Encode {
     fn is_default_source(&self) -> bool
         ensures { result ≡ same_plain (plain self.now) empty_label };
 
+    /// A value is written exactly if what it holds is, and in the same octets.
     ghost writes: { WritesAs Self.value Self.has_encoding Self.written_encoding plain HasPlain written_plain };
 
+    /// What is held has an encoding, little longer than the limit.
     ghost held: { AreHeld plain HasPlain written_plain (limit + 423) };
 }
 
@@ -66,8 +68,10 @@ pub trait MaskHolder: Encode {
     fn is_default(&self) -> bool
         ensures { result ≡ same_mask (mask self.now) mgf1_sha1 };
 
+    /// A value is written exactly if what it holds is, and in the same octets.
     ghost writes: { WritesAs Self.value Self.has_encoding Self.written_encoding mask HasMask written_mask };
 
+    /// What is held has an encoding, little longer than the limit.
     ghost held: { AreHeld mask HasMask written_mask (limit + 718) };
 }
 

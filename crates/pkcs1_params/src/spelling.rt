@@ -36,18 +36,22 @@ pub trait EncodeParams: Copy + Drop {
     /// What the parameters mean.
     ghost Params: { Type 0 };
 
+    /// What a value means.
     ghost params: { Self → Params };
 
     /// The fields of their SEQUENCE.
     ghost values: { Params → List FieldValue };
 
+    /// The fields are numbered from 0 on, one by one.
     ghost numbered: { (p : Params) → AreNumbered 0 (values p) };
 
+    /// Contents octets mean at most one value.
     ghost fields_mean_one: { MeansOne (FieldContents values) };
 
-    /// What reads the fields, and that it reads nothing else.
+    /// The value with these contents octets, or the kind of error of their first fault.
     ghost read: { Reading Params };
 
+    /// The function reads the contents of the fields and no others, and its faults are about the bytes.
     ghost reads: { ReadsContents (FieldContents values) read };
 
     /// The fields, in order.

@@ -13,7 +13,7 @@ use pkcs1::spki::AlgorithmIdentifierRef;
 use pkcs1::{RsaPrivateKeyRef, RsaPrivateKeyView, rsa_encryption_oid};
 use std::alloc::Global;
 
-/// NoValueOrMemory each algorithm but rsaEncryption with NULL.
+/// Rejects each algorithm but rsaEncryption with NULL.
 fn require_rsa(algorithm: &AlgorithmIdentifierRef<'_>) -> Result<()>
     ensures ok { IfOk result (λ _. algorithm_of algorithm.now ≡ rsa_encryption) }
     ensures exact { Answers (λ done. done) result (rsa_only (algorithm_of algorithm.now)) }

@@ -29,6 +29,7 @@ pub trait HoldsIdentifier: IdentifierValue {
     /// Its octets.
     ghost oid: { Self → List ℕ };
 
+    /// They are what the library says that it holds.
     ghost is_oid: { (held : Self) → Self.octets held ≡ oid held };
 }
 
@@ -49,6 +50,7 @@ pub trait HoldsTagged: AnyValue {
     /// The tag and the contents.
     ghost tagged: { Self → TagAndContents };
 
+    /// They are what the library says that it holds.
     ghost is_tagged: { (held : Self) → Self.any held ≡ library.any (tagged held) };
 }
 
@@ -69,8 +71,10 @@ pub trait HoldsNumber: AsUintRef {
     /// The number.
     ghost whole: { Self → ℕ };
 
+    /// It is the number with the octets that the library says.
     ghost is_whole: { (held : Self) → number_from_digits 256 (Self.number held) ≡ whole held };
 
+    /// These octets have no needless zero in front.
     ghost canonical: { (held : Self) → IsCanonical (Self.number held) };
 }
 
@@ -92,6 +96,7 @@ impl HoldsNumber for Uint {
 
 /// A type of the library whose values mean values of the statement.
 pub trait Stated: Encode + Sized {
+    /// The type of what values mean.
     ghost Meaning: { Type 0 };
 
     /// What a value means.
