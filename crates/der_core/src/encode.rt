@@ -166,6 +166,7 @@ impl<T: EncodeValue + FixedTag> Encode for T {
         encode_tlv(self, writer)
     }
 
+    #[inline(always)]
     fn prepend(&self, writer: &mut BackWriter<'_>) {
         let before = writer.filled_len();
         self.prepend_value(writer);

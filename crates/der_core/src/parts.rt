@@ -110,7 +110,8 @@ impl EncodeValue for () {
 impl<A: Encode, B: EncodeValue> EncodeValue for (A, B) {
     #[inline(always)]
     fn value_len(&self) -> Result<Length> {
-        joined_len(self.0.encoded_len(), self.1.value_len())
+        let rest = self.1.value_len(); // counted first, so that one sum is kept and not each part's length
+        joined_len(self.0.encoded_len(), rest)
     }
 
     #[inline(always)]

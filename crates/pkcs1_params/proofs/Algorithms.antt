@@ -2,7 +2,9 @@
 use Rattle.std.proofs.Common.{ℕ, Bool, List, [], ◌++◌, ◌≡◌, ◌∙◌, ◌<◌, ◌≤◌, ◌+◌, ◌-◌, ◌^◌, length}
 use Rattle.std.proofs.Common.{take, drop, refl, sym, ap, Some, arith, length-append}
 use Rattle.std.proofs.Math.Seq.{drop-append_seam}
-use Rattle.std.specs.Prelude.{Result, Ok, Err, IfOk, OnErr}
+use Rattle.std.specs.Prelude.{Result, Ok, Err, IfOk, OnErr, false, true, not}
+use Rattle.std.specs.Str.{bytes_eq}
+use Rattle.std.proofs.lemmas.Slice.Eq.{bytes_eq-Decides}
 use Rattle.der_core.specs.Document.{Means, HasEncoding, IsShortest, WhyNotWritten, EncodeError, no_encoding, too_long}
 use Rattle.der_core.specs.Document.{no_room, another}
 use Rattle.der_core.specs.Encodings.{Is, IsOfBytes, MeansOne, Then}
@@ -47,6 +49,13 @@ use Rattle.pkcs1_params.specs.declared.error.Error.{Error}
 -- Reading an identifier with borrowed parameters never asks for memory.
 pub identifier_asks : (b : List ℕ) → AllocatesIn (AlgorithmAllocates (λ _. ⊥)) b → ⊥
 identifier_asks b w = let h = w.3.holds in let l = h.1.3 in l.1.3
+
+-- Slices that don't differ are equal, and so are the lists that they are known to hold.
+pub unequal_false : {b : Bool} {x y : List ℕ} {u v : List ℕ} → b ≡ false → b ≡ not (bytes_eq x y) → x ≡ u → y ≡ v
+    → u ≡ v
+unequal_false {b} {x} {y} off is left right =
+    let same : bytes_eq x y ≡ true = grind arith in
+    sym left ∙ (bytes_eq-Decides x y).0 same ∙ right
 
 -- The identifier agrees and has parameters, so the value is theirs.
 module _ {oid : List ℕ} {a : Algorithm TagAndContents} {any : TagAndContents} (agrees : a.oid ≡ oid)

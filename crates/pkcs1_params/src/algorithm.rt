@@ -2,7 +2,7 @@
 ghost use Rattle.std.specs.Prelude.{◌≡◌, ◌≤◌, ◌<◌, ◌^◌, ℕ, List, length, take, drop, IfOk, IfErr, OnOk, OnErr};
 ghost use Rattle.der_core.specs.Words.{HasEncoding, IsShortest, Means, Is, MeansOne, sequence_tag, sequence, Tlv};
 ghost use Rattle.der_core.specs.Words.{Answers, Reading, ReadsContents};
-ghost use Rattle.spki_core.specs.Words.{algorithm_of, viewed_with, any_as, any_of, first_default, unless_found};
+ghost use Rattle.spki_core.specs.Words.{algorithm_in, algorithm_of, any_as, any_of, first_default, unless_found};
 ghost use Rattle.pkcs1_params.specs.Words.{AlgorithmOf, Identifies, identified, strict_algorithm, whole_algorithm};
 ghost use Rattle.pkcs1_params.specs.Words.{FieldContents, ErrsAs, IsNoSentence, IsNoShortest, IsTheMeaning};
 ghost use Rattle.pkcs1_params.specs.Words.{IsTheOnly, IsTheShortest, IsWritingError, with_parameters, FieldValue};
@@ -13,8 +13,8 @@ use crate::shortest::Shortest;
 use crate::spelling::EncodeParams;
 use der_core::{Decode, DecodeValue, Encode, ErrorKind, FixedTag, NoMemory};
 use spki_core::{
-    AlgorithmIdentifierRef, AlgorithmView, AnyRef, AssociatedOid, IdentifierValue, IdentifierView,
-    ObjectIdentifier,
+    AlgorithmIdentifierOf, AlgorithmIdentifierRef, AlgorithmView, AnyRef, AssociatedOid,
+    IdentifierValue,
 };
 
 /// Borrowed parameters of an algorithm.
@@ -91,22 +91,40 @@ pub trait FromAlgorithm<'a>: AlgorithmParams<'a> {
 
 impl<'a, T: AlgorithmParams<'a>> FromAlgorithm<'a> for T {
     fn from_algorithm(algorithm: &AlgorithmIdentifierRef<'a>) -> Result<T> {
-        algorithm.assert_algorithm_oid(ObjectIdentifier::of::<T::Oid>())?;
-        match algorithm.parameters {
-            Some(any) => Ok(T::from_any(any)?),
-            None => Err(Error::Asn1(der_core::Error::new(ErrorKind::ParametersMissing))),
-        }
+        from_identifier(algorithm)
     }
 
     fn from_algorithm_der(bytes: &'a [u8]) -> Result<T> {
-        let algorithm = AlgorithmIdentifierRef::from_der(NoMemory, bytes)?;
-        T::from_algorithm(&algorithm)
+        let algorithm = AlgorithmView::from_der(NoMemory, bytes)?;
+        from_identifier(&algorithm)
     }
 
     fn from_algorithm_der_strict(bytes: &'a [u8]) -> Result<T> {
         let params = T::from_algorithm_der(bytes)?;
         params.reject_defaults(encoded_parameters::<T>(bytes))?;
         Ok(params)
+    }
+}
+
+/// The parameters in an algorithm identifier, whatever holds its object identifier.
+#[inline(always)]
+fn from_identifier<'a, O: IdentifierValue, T: AlgorithmParams<'a>>(
+    algorithm: &AlgorithmIdentifierOf<O, AnyRef<'a>>,
+) -> Result<T>
+    ensures ok { let a = algorithm_in O.octets any_of algorithm.now in
+        IfOk result (λ p. IsTheOnly (Identifies T.Oid.contents (FieldContents T.values) a) (T.params p)) }
+    ensures err { let a = algorithm_in O.octets any_of algorithm.now in
+        OnErr result ((v : T.Params) → Identifies T.Oid.contents (FieldContents T.values) a v → ⊥) }
+    ensures exact { let a = algorithm_in O.octets any_of algorithm.now in
+        ErrsAs T.params (identified T.Oid.contents T.read a) result }
+{
+    let oid = algorithm.oid.as_identifier_view();
+    if oid.as_bytes() != T::Oid::octets() {
+        return Err(Error::Asn1(der_core::Error::new(ErrorKind::OidUnknown)));
+    }
+    match algorithm.parameters {
+        Some(any) => Ok(T::from_any(any)?),
+        None => Err(Error::Asn1(der_core::Error::new(ErrorKind::ParametersMissing))),
     }
 }
 

@@ -1,10 +1,10 @@
 -- Steps of the test for identifiers.
 use Rattle.std.specs.Prelude.{Bool, true, false, ◌==◌, nat_lt}
-use Rattle.std.proofs.Common.{ℕ, zero, suc, List, [], ◌∷◌, ◌≡◌, ◌≢◌, ◌<◌, ◌+◌, ◌⊎◌, inl, inr, length, take, drop}
-use Rattle.std.proofs.Common.{get_or, slice_index, refl, ap, ◌∙◌, arith}
+use Rattle.std.proofs.Common.{ℕ, zero, suc, List, [], ◌∷◌, ◌≡◌, ◌≢◌, ◌<◌, ◌≤◌, ◌+◌, ◌-◌, ◌⊎◌, inl, inr, length}
+use Rattle.std.proofs.Common.{take, drop, get_or, slice_index, refl, ap, ◌∙◌, arith}
 use Rattle.std.proofs.lemmas.List.{at_drop_more}
 use Rattle.std.proofs.lemmas.Bool.Decides.{nat_tests}
-use Rattle.spki_core.specs.IdentifierTest.{ends_well, starts_at}
+use Rattle.spki_core.specs.IdentifierTest.{ends_well, starts_at, has_no_128}
 
 goes_on : (start : Bool) (b : ℕ) (bs : List ℕ) → (start ≡ false) ⊎ (b ≢ 128)
     → ends_well start (b ∷ bs) ≡ ends_well (nat_lt b 128) bs
@@ -21,6 +21,21 @@ pub next : (c : List ℕ) (i : ℕ) → i < length c → (starts_at c i ≡ fals
 next c i l h is =
     is ∙ at_drop_more (ends_well (starts_at c i)) c i 0 l ∙ goes_on (starts_at c i) (get_or c i 0) (drop (i + 1) c) h
     ∙ ap (λ s. ends_well s (drop (i + 1) c)) (after c i)
+
+plain_from : (s : Bool) (n : ℕ) (c : List ℕ) → length c ≡ suc n → has_no_128 (take n c) ≡ true → slice_index c n < 128
+    → ends_well s c ≡ true
+plain_from s n [] e h l = grind arith
+plain_from true zero (b ∷ []) e h l = grind (arith, nat_tests)
+plain_from false zero (b ∷ []) e h l = grind (arith, nat_tests)
+plain_from s zero (b ∷ x ∷ xs) e h l = grind arith
+plain_from s (suc n) (b ∷ bs) e h l =
+    let differs : b ≢ 128 = grind (arith, nat_tests) in
+    let later : has_no_128 (take n bs) ≡ true = grind (arith, nat_tests) in
+    goes_on s b bs (inr differs) ∙ plain_from (nat_lt b 128) n bs (omega arith) later l
+
+pub ends_plain : (c : List ℕ) → 1 ≤ length c → has_no_128 (take (length c - 1) c) ≡ true
+    → slice_index c (length c - 1) < 128 → (0 < length c) × (ends_well true c ≡ true)
+ends_plain c some h l = (omega arith, plain_from true (length c - 1) c (omega arith) h l)
 
 -- What is taken of octets are octets.
 pub taken_bytes : (n : ℕ) (xs : List ℕ) → ((i : ℕ) → slice_index xs i < 256) → (i : ℕ) → slice_index (take n xs) i < 256

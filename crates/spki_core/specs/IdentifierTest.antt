@@ -7,6 +7,11 @@ abbrev pub ends_well : Bool → List ℕ → Bool
 ends_well start [] = start
 ends_well start (b ∷ bs) = not (start && b == 128) && ends_well (nat_lt b 128) bs
 
+-- No octet is 128.
+abbrev pub has_no_128 : List ℕ → Bool
+has_no_128 [] = true
+has_no_128 (b ∷ bs) = not (b == 128) && has_no_128 bs
+
 -- A subidentifier starts at the index: no octets precede it, or the last of a subidentifier does.
 abbrev pub starts_at : List ℕ → ℕ → Bool
 starts_at c zero = true

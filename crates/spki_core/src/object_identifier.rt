@@ -1,5 +1,5 @@
 //! Object identifiers.
-ghost use Rattle.std.specs.Prelude.{◌≡◌, ℕ, ◌≤◌, ◌<◌, List, length, take, slice_index, IsTrue, IfOk, IfErr};
+ghost use Rattle.std.specs.Prelude.{◌≡◌, ℕ, ◌≤◌, ◌<◌, List, length, take, slice_index, IsTrue, IfOk, IfErr, true};
 ghost use Rattle.spki_core.specs.IdentifierTest as specs;
 ghost use Rattle.spki_core.specs.ObjectIdentifier.{IsIdentifier, IdentifierContents};
 ghost use Rattle.der_core.specs.Words.{Answers};
@@ -38,8 +38,56 @@ fn is_start(octets: &[u8], index: usize) -> bool
     index == 0 || octets[index - 1] < 0x80
 }
 
+/// Whether no octet is 80, eight or four at a time.
+fn has_no_80(octets: &[u8]) -> bool
+    ensures { result ≡ specs.has_no_128 octets.now }
+{
+    match octets {
+        [a, b, c, d, e, f, g, h, later @ ..] => {
+            let eight = (*a != 0x80)
+                & (*b != 0x80)
+                & (*c != 0x80)
+                & (*d != 0x80)
+                & (*e != 0x80)
+                & (*f != 0x80)
+                & (*g != 0x80)
+                & (*h != 0x80);
+            eight && has_no_80(later)
+        }
+        [a, b, c, d, later @ ..] => {
+            let four = (*a != 0x80) & (*b != 0x80) & (*c != 0x80) & (*d != 0x80);
+            four && has_no_80(later)
+        }
+        [a, later @ ..] => *a != 0x80 && has_no_80(later),
+        [] => true,
+    }
+}
+
+/// Whether these are whole subidentifiers, for sure: no octet is 80, and the last one ends a subidentifier.
+#[inline(always)]
+fn ends_plainly(octets: &[u8]) -> bool
+    ensures { IsTrue result → (0 < length octets.now) × (specs.ends_well true octets.now ≡ true) }
+{
+    match octets {
+        [front @ .., last] => *last < 0x80 && has_no_80(front),
+        [] => false,
+    }
+}
+
 /// Whether the octets are one or more whole subidentifiers, of at most 39 octets together.
+#[inline(always)]
 pub(crate) fn is_identifier(octets: &[u8]) -> bool
+    ensures { result ≡ specs.is_identifier octets.now }
+{
+    if ends_plainly(octets) {
+        octets.len() <= 39
+    } else {
+        is_identifier_by_octets(octets)
+    }
+}
+
+/// The same, octet by octet.
+fn is_identifier_by_octets(octets: &[u8]) -> bool
     ensures { result ≡ specs.is_identifier octets.now }
 {
     for index in 0..octets.len() {

@@ -1,0 +1,5 @@
+use Rattle.std.proofs.Common.{length}
+use Rattle.spki_core.proofs.object_identifier.+has_no_80.Given as goal
+
+abbrev pub decreases-has_no_80 : goal.decreases-has_no_80
+decreases-has_no_80 l = length l.octets.now
