@@ -1,5 +1,5 @@
 pub mod Algorithms
-pub mod EmptySequences
+pub mod ShortSequences
 pub mod ParameterRows
 pub mod ParameterSpellings
 pub mod Masks
@@ -13,6 +13,7 @@ pub mod NothingAsked
 pub mod MemoryAsked
 pub mod AllDefaults
 pub mod AlgorithmsLaws
+pub mod UsualParameters
 pub mod Errors
 pub mod FaultsTold
 pub mod FieldValues

@@ -16,5 +16,6 @@ pub mod FieldReadings
 pub mod ParameterReadings
 pub mod DefaultBits
 pub mod Algorithms
+pub mod UsualParameters
 pub mod Laws
 pub mod Words

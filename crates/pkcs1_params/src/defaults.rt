@@ -3,7 +3,7 @@ ghost use Rattle.std.specs.Prelude.{◌≡◌, ◌∷◌, [], IsTrue};
 ghost use Rattle.der_core.specs.Words.{sequence_tag};
 
 /// Whether this is a SEQUENCE without contents, in which every field has its default.
-#[tactic(auto, using(crate::proofs::EmptySequences::two_octets))]
+#[tactic(auto, using(crate::proofs::ShortSequences::two_octets))]
 pub(crate) fn is_empty_sequence(bytes: &[u8]) -> bool
     ensures { IsTrue result → bytes.now ≡ sequence_tag ∷ 0 ∷ [] }
 {

@@ -13,7 +13,8 @@ use crate::from_view::ReadParams;
 use crate::oaep::{OaepParamsOf, RsaOaepParamsView};
 use crate::spelling::EncodeParams;
 use crate::strict;
-use der_core::{Borrowed, ErrorKind};
+use crate::usual::usual_oaep;
+use der_core::{Borrowed, ErrorKind, Tag};
 use spki_core::{
     AlgorithmView, AnyRef, AnyValue, AssociatedOid, IdentifierValue, IdentifierView,
     ObjectIdentifier,
@@ -57,6 +58,11 @@ impl<'a, O: ReadParams<'a>> AlgorithmParams<'a> for OaepParamsOf<O, AnyRef<'a>> 
     ghost reads = { oaep_reads };
 
     fn from_any(any: AnyRef<'a>) -> der_core::Result<OaepParamsOf<O, AnyRef<'a>>> {
+        if any.tag() == Tag::SEQUENCE {
+            if let Some(view) = usual_oaep(any.value()) {
+                return Ok(O::oaep_from_view(view));
+            }
+        }
         let view = decode_borrowed::<RsaOaepParamsView<'a>>(any)?;
         Ok(O::oaep_from_view(view))
     }

@@ -16,6 +16,7 @@ use crate::hash_functions::Sha1;
 use crate::oaep::{OaepParamsOf, RsaOaepParams, RsaOaepParamsRef, RsaOaepParamsView};
 use crate::p_source::empty_source;
 use crate::strict::reject_defaults;
+use crate::usual::usual_oaep_encoding;
 use der_core::{Decode, DecodeValue, Header, Memory, NoMemory, Reader, TagNumber};
 use spki_core::{AnyRef, IdentifierValue, ObjectIdentifier, read_field};
 
@@ -73,6 +74,9 @@ impl<'a, O: ReadParams<'a>> TryFrom<&'a [u8]> for OaepParamsOf<O, AnyRef<'a>> {
     {
         if is_empty_sequence(bytes) {
             return Ok(OaepParamsOf::default());
+        }
+        if let Some(view) = usual_oaep_encoding(bytes) {
+            return Ok(O::oaep_from_view(view));
         }
         let view = RsaOaepParamsView::from_der(NoMemory, bytes)?;
         Ok(O::oaep_from_view(view))

@@ -13,7 +13,8 @@ use crate::from_view::ReadParams;
 use crate::pss::{PssParamsOf, RsaPssParamsView};
 use crate::spelling::EncodeParams;
 use crate::strict;
-use der_core::{Borrowed, ErrorKind};
+use crate::usual::usual_pss;
+use der_core::{Borrowed, ErrorKind, Tag};
 use spki_core::{
     AlgorithmView, AnyRef, AnyValue, AssociatedOid, IdentifierValue, IdentifierView,
     ObjectIdentifier,
@@ -57,6 +58,11 @@ impl<'a, O: ReadParams<'a>> AlgorithmParams<'a> for PssParamsOf<O, AnyRef<'a>> {
     ghost reads = { pss_reads };
 
     fn from_any(any: AnyRef<'a>) -> der_core::Result<PssParamsOf<O, AnyRef<'a>>> {
+        if any.tag() == Tag::SEQUENCE {
+            if let Some(view) = usual_pss(any.value()) {
+                return Ok(O::pss_from_view(view));
+            }
+        }
         let view = decode_borrowed::<RsaPssParamsView<'a>>(any)?;
         Ok(O::pss_from_view(view))
     }

@@ -14,6 +14,7 @@ use crate::hash_functions::Sha1;
 use crate::pss::{PssParamsOf, RsaPssParams, RsaPssParamsRef, RsaPssParamsView};
 use crate::strict::reject_defaults;
 use crate::trailer_field::TrailerField;
+use crate::usual::usual_pss_encoding;
 use der_core::{Decode, DecodeValue, Header, Memory, NoMemory, Reader, TagNumber};
 use spki_core::{AnyRef, IdentifierValue, ObjectIdentifier, read_field};
 
@@ -71,6 +72,9 @@ impl<'a, O: ReadParams<'a>> TryFrom<&'a [u8]> for PssParamsOf<O, AnyRef<'a>> {
     {
         if is_empty_sequence(bytes) {
             return Ok(PssParamsOf::default());
+        }
+        if let Some(view) = usual_pss_encoding(bytes) {
+            return Ok(O::pss_from_view(view));
         }
         let view = RsaPssParamsView::from_der(NoMemory, bytes)?;
         Ok(O::pss_from_view(view))

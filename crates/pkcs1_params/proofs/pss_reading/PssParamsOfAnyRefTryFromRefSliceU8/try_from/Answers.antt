@@ -1,3 +1,5 @@
+use Rattle.std.proofs.Common.{arith}
+use Rattle.der_core.specs.Laws.Input.{are_bytes}
 use Rattle.pkcs1_params.proofs.FaultsTold.{the_meaning}
 use Rattle.pkcs1_params.specs.Laws.Parameters.{pss_delimited}
 use Rattle.pkcs1_params.proofs.ParameterReadings.{rsa_pss_params_reads}
@@ -16,4 +18,9 @@ returns-then-is_empty_sequence-clause-exact g c =
     rsa_pss_params_reads.takes _ _ means.0 means
 
 pub returns-clause-ok : goal.returns-clause-ok
-returns-clause-ok g c = rw c.pss_from_view.ensures (the_meaning pss_delimited _ _ c.in_ok-view.ensures.encoding)
+returns-clause-ok g c = rw c.pss_from_view-2.ensures (the_meaning pss_delimited _ _ c.in_ok-view.ensures.encoding)
+
+pub returns-in-Some-clause-ok : goal.returns-in-Some-clause-ok
+returns-in-Some-clause-ok g c =
+    let bytes = are_bytes _ (λ i. omega (arith, c.type_inv.bytes i)) in
+    rw c.pss_from_view.ensures (the_meaning pss_delimited _ _ (rsa_pss_params_reads.gives _ _ bytes c.in-Some.ensures))

@@ -1,0 +1,129 @@
+//! Parameters that begin with SHA-256, SHA-384 or SHA-512, with NULL, and MGF1 with the same hash function. Most do, so
+//! their octets are compared before they are read field by field.
+ghost use Rattle.std.specs.Prelude.{◌≡◌, ◌<◌, ◌∷◌, [], Ok, IfSome, length};
+ghost use Rattle.der_core.specs.Words.{sequence_tag};
+ghost use Rattle.spki_core.specs.Words.{any_of, viewed_with};
+ghost use Rattle.pkcs1_params.specs.Words.{AreUsual, oaep_read, oaep_viewed, pss_read, pss_viewed};
+ghost use Rattle.pkcs1_params.specs.Words.{rsa_oaep_params, rsa_pss_params};
+
+use crate::hash_fields::with_null;
+use crate::hash_functions::{Mgf1, Sha256, Sha384, Sha512};
+use crate::oaep::RsaOaepParamsView;
+use crate::p_source::empty_source;
+use crate::pss::RsaPssParamsView;
+use crate::trailer_field::TrailerField;
+use der_core::NoMemory;
+use spki_core::{AlgorithmView, AnyRef, IdentifierValue, IdentifierView};
+
+/// hashAlgorithm and maskGenAlgorithm with SHA-256.
+const SHA256_FIELDS: &[u8] = &[
+    0xa0, 0x0f, 0x30, 0x0d, 0x06, 0x09, 0x60, 0x86, 0x48, 0x01, 0x65, 0x03, 0x04, 0x02, 0x01, 0x05,
+    0x00, 0xa1, 0x1c, 0x30, 0x1a, 0x06, 0x09, 0x2a, 0x86, 0x48, 0x86, 0xf7, 0x0d, 0x01, 0x01, 0x08,
+    0x30, 0x0d, 0x06, 0x09, 0x60, 0x86, 0x48, 0x01, 0x65, 0x03, 0x04, 0x02, 0x01, 0x05, 0x00,
+];
+
+/// The same with SHA-384.
+const SHA384_FIELDS: &[u8] = &[
+    0xa0, 0x0f, 0x30, 0x0d, 0x06, 0x09, 0x60, 0x86, 0x48, 0x01, 0x65, 0x03, 0x04, 0x02, 0x02, 0x05,
+    0x00, 0xa1, 0x1c, 0x30, 0x1a, 0x06, 0x09, 0x2a, 0x86, 0x48, 0x86, 0xf7, 0x0d, 0x01, 0x01, 0x08,
+    0x30, 0x0d, 0x06, 0x09, 0x60, 0x86, 0x48, 0x01, 0x65, 0x03, 0x04, 0x02, 0x02, 0x05, 0x00,
+];
+
+/// The same with SHA-512.
+const SHA512_FIELDS: &[u8] = &[
+    0xa0, 0x0f, 0x30, 0x0d, 0x06, 0x09, 0x60, 0x86, 0x48, 0x01, 0x65, 0x03, 0x04, 0x02, 0x03, 0x05,
+    0x00, 0xa1, 0x1c, 0x30, 0x1a, 0x06, 0x09, 0x2a, 0x86, 0x48, 0x86, 0xf7, 0x0d, 0x01, 0x01, 0x08,
+    0x30, 0x0d, 0x06, 0x09, 0x60, 0x86, 0x48, 0x01, 0x65, 0x03, 0x04, 0x02, 0x03, 0x05, 0x00,
+];
+
+/// The hash function of both fields, if these are their octets.
+fn usual_hash<'a>(fields: &[u8]) -> Option<AlgorithmView<'a, AnyRef<'a>>>
+    ensures { IfSome result (λ hash. AreUsual (viewed_with any_of hash) fields.now) }
+{
+    match fields.get(14).copied() {
+        Some(1) if fields == SHA256_FIELDS => Some(with_null::<Sha256, _, _, _>(NoMemory)),
+        Some(2) if fields == SHA384_FIELDS => Some(with_null::<Sha384, _, _, _>(NoMemory)),
+        Some(3) if fields == SHA512_FIELDS => Some(with_null::<Sha512, _, _, _>(NoMemory)),
+        _ => None,
+    }
+}
+
+/// The salt length in these octets of its field, if it is below 128.
+#[inline(always)]
+fn usual_salt(field: &[u8]) -> Option<u8>
+    ensures { IfSome result (λ s. (s < 128) × (field.now ≡ 0xa2 ∷ 0x03 ∷ 0x02 ∷ 0x01 ∷ s ∷ [])) }
+{
+    match field {
+        [0xa2, 0x03, 0x02, 0x01, salt_len] if *salt_len < 0x80 => Some(*salt_len),
+        _ => None,
+    }
+}
+
+/// The parameters with these contents octets, if they are the two fields and a salt length below 128.
+#[inline(always)]
+pub(crate) fn usual_pss<'a>(contents: &[u8]) -> Option<RsaPssParamsView<'a>>
+    ensures read { IfSome result (λ v. pss_read contents.now ≡ Ok (pss_viewed v)) }
+    ensures count { IfSome result (λ _. length contents.now ≡ 52) }
+{
+    if contents.len() != 52 {
+        return None;
+    }
+    let (fields, field) = contents.split_at(47);
+    let salt_len = usual_salt(field)?;
+    let hash = usual_hash(fields)?;
+    Some(RsaPssParamsView {
+        hash,
+        mask_gen: AlgorithmView {
+            oid: IdentifierView::named::<Mgf1>(),
+            parameters: Some(hash),
+        },
+        salt_len,
+        trailer_field: TrailerField::BC,
+    })
+}
+
+/// The parameters with these contents octets, if they are the two fields.
+#[inline(always)]
+pub(crate) fn usual_oaep<'a>(contents: &[u8]) -> Option<RsaOaepParamsView<'a>>
+    ensures read { IfSome result (λ v. oaep_read contents.now ≡ Ok (oaep_viewed v)) }
+    ensures count { IfSome result (λ _. length contents.now ≡ 47) }
+{
+    let hash = usual_hash(contents)?;
+    Some(RsaOaepParamsView {
+        hash,
+        mask_gen: AlgorithmView {
+            oid: IdentifierView::named::<Mgf1>(),
+            parameters: Some(hash),
+        },
+        p_source: empty_source(NoMemory),
+    })
+}
+
+/// What follows the tag of SEQUENCE and a length of one octet, if these octets begin with them.
+#[inline(always)]
+#[tactic(auto, using(crate::proofs::ShortSequences::header_and_rest))]
+fn behind_header(bytes: &[u8], length: u8) -> Option<&[u8]>
+    ensures { IfSome result (λ contents. bytes.now ≡ sequence_tag ∷ length ∷ contents.now) }
+{
+    if bytes.len() >= 2 && bytes[0] == 0x30 && bytes[1] == length {
+        Some(&bytes[2..])
+    } else {
+        None
+    }
+}
+
+/// The parameters with this encoding, as of `usual_pss`.
+#[inline(always)]
+pub(crate) fn usual_pss_encoding<'a>(bytes: &[u8]) -> Option<RsaPssParamsView<'a>>
+    ensures { IfSome result (λ v. rsa_pss_params bytes.now ≡ Ok (pss_viewed v)) }
+{
+    usual_pss(behind_header(bytes, 52)?)
+}
+
+/// The parameters with this encoding, as of `usual_oaep`.
+#[inline(always)]
+pub(crate) fn usual_oaep_encoding<'a>(bytes: &[u8]) -> Option<RsaOaepParamsView<'a>>
+    ensures { IfSome result (λ v. rsa_oaep_params bytes.now ≡ Ok (oaep_viewed v)) }
+{
+    usual_oaep(behind_header(bytes, 47)?)
+}
