@@ -1,17 +1,27 @@
 #!/usr/bin/env bash
-# Fails where an example of docs/USING.md doesn't stand, word for word, in one file of the code that the gate proves or runs.
+# Fails where an example of README.md, docs/ or a crate's README doesn't stand, word for word but for spaces in front of a
+# line, in one file of the code that the gate proves or runs. Blocks of `sh` are run by check_commands.sh, `text` is none.
 set -eu
 cd "$(dirname "$0")/.."
 exec python3 - <<'END'
 import glob, re, sys
 
-CODE = {'rattle': 'crates/*/src/*.rt', 'antt': 'crates/*/[ps]*/**/*.antt', 'c': 'ffi/c/*.c',
-        'rust': 'ffi/rust/examples/*.rs'}
-examples = re.findall(r'^```(\w+)\n(.*?)^```$', open('docs/USING.md').read(), re.M | re.S)
-missing = [text for language, text in examples
-           if not any(text in open(file).read() for file in glob.glob(CODE[language], recursive=True))]
-for text in missing:
-    print('docs/USING.md: this example stands nowhere in the code:\n' + text)
-print(f'{len(examples)} examples, {len(missing)} of them not in the code')
-sys.exit(bool(missing) or not examples)
+CODE = {'rattle': ['crates/*/src/*.rt'], 'antt': ['crates/*/[ps]*/**/*.antt'], 'c': ['ffi/c/*.c'],
+        'rust': ['ffi/rust/examples/*.rs', 'ffi/rust/README.md'], 'toml': ['ffi/rust/README.md'], 'sh': [], 'text': []}
+
+def plain(text):
+    return re.sub(r'(?m)^ +', '', text)
+
+code = {language: [plain(open(file).read()) for pattern in patterns for file in glob.glob(pattern, recursive=True)]
+        for language, patterns in CODE.items()}
+count, missing = 0, 0
+for document in ['README.md', *glob.glob('docs/*.md'), *glob.glob('crates/*/README.md')]:
+    for language, text in re.findall(r'^```(\w*)\n(.*?)^```$', open(document).read(), re.M | re.S):
+        count += 1
+        if language in ('sh', 'text') or any(plain(text) in file for file in code.get(language, [])):
+            continue
+        missing += 1
+        print(f'{document}: this example stands nowhere in the code:\n{text}')
+print(f'{count} examples, {missing} of them not in the code')
+sys.exit(bool(missing) or not count)
 END

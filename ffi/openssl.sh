@@ -53,6 +53,7 @@ for key in 2:2048 3:2048 4:4096; do
     does public_half "$room/key.der" "$room/pub.der"
     does open_container "$room/p8.der" "$room/key.der" \
         "modulus of $((${key#*:} / 8)) octets, ${key%:*} primes, without attributes"
+    does make_container "$room/key.der" "$room/p8.der"
     openssl rsa -in "$room/key.pem" -noout -modulus | sed 's/Modulus=//' | tr A-F a-f > "$room/modulus"
     "$1/read_key" pub "$room/pub.der" | sed -n 's/^n=//p' | cmp - "$room/modulus"
 done
@@ -75,6 +76,10 @@ for salt in 20 32 -1; do
     of_params "$room/certificate.der"
     again pss "$room/params.der"
     says "$room/certificate.der" "SHA-256, a salt of ${salt/-1/32} octets"
+    for folder in "${folders[@]}"; do
+        "$folder/make_params" "$room/made"
+        [ "$salt" = 20 ] || cmp "$room/made" "$room/algorithm.der"
+    done
 done
 openssl req -new -key "$room/key.pem" -subj /CN=a -sha1 -sigopt rsa_padding_mode:pss -sigopt rsa_pss_saltlen:20 \
     -outform DER -out "$room/request.der"

@@ -38,7 +38,8 @@ reads() {
 for command in 'rsa -in' 'rsa -pubin'; do
     grep -q "openssl $command" "$1" || stop "$1 has no command: openssl $command .."
 done
-sed 's/\\-/-/g' "$@" | grep -oE 'openssl [a-z0-9]+ -[^`#|"]*' | sed 's/ *$//' | sort -u > "$room/commands"
+# Those that write a file; docs/check_commands.sh runs the others, which write to a pipe.
+sed 's/\\-/-/g' "$@" | grep -oE 'openssl [a-z0-9]+ -[^`#|"]*' | grep -e ' -out ' | sed 's/ *$//' | sort -u > "$room/commands"
 cd "$room"
 openssl genrsa -out pkcs8.pem 2048 2> log
 openssl rsa -in pkcs8.pem -traditional -out traditional.pem 2> log
@@ -54,12 +55,17 @@ while read -r command; do
         'openssl rsa '*' -traditional '*) inputs='pkcs8.pem traditional.pem pss.pem' kind=priv ;;
         'openssl pkcs8 '*) inputs='pkcs8.pem traditional.pem' kind=p8 ;;
         'openssl asn1parse '*) inputs=certificate.pem kind=algorithm ;;
+        'openssl x509 '*' -pubkey '*) inputs=certificate.pem kind=certificate ;;
         *) stop "$command: what is it for?" ;;
     esac
     for input in $inputs; do
         run "$command" "$input"
         if [ $kind = algorithm ]; then
             "$examples/signature_algorithm" made > log 2>&1 || stop "$command: isn't read: $(cat log)"
+            continue
+        fi
+        if [ $kind = certificate ]; then
+            cmp made public.pem || stop "$command: gives another key"
             continue
         fi
         public=$([[ $input != *public* ]] || echo -pubin)

@@ -31,7 +31,7 @@ for compiler in "$CXX" $clangxx; do
     "$room/header"
 done
 for compiler in $clang "$CC"; do
-    for name in test sizes modulus read_key public_half open_container signature_algorithm; do
+    for name in test sizes modulus read_key public_half open_container make_container make_params signature_algorithm; do
         "$compiler" -std=c99 "${flags[@]}" "$here/c/$name.c" "$out/libpkcs1.a" -o "$room/$name"
     done
     "$room/test" "$statuses"

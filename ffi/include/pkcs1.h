@@ -1,40 +1,78 @@
-/* Decodes and encodes DER: RSA keys and RSA algorithm parameters (PKCS #1, RFC 8017), RSA keys in PKCS #8 (RFC 5208).
- * Only binary DER: no PEM, no SubjectPublicKeyInfo ("BEGIN PUBLIC KEY"), nothing encrypted, no RSA-PSS key
- *   (id-RSASSA-PSS) in PKCS #8. OpenSSL makes each key readable, first a private one, then a public one:
+/* RSA keys and RSA algorithm parameters in DER, as PKCS #1 (RFC 8017) and PKCS #8 (RFC 5208) have them.
+ *
+ * A FIRST CALL
+ *
+ *     struct pkcs1_public_key key;
+ *     uint32_t status = pkcs1_public_key_decode(der, der_len, &key);
+ *     if (status != PKCS1_OK)
+ *         fprintf(stderr, "%s\n", pkcs1_strerror(status));
+ *
+ *     cc program.c $(pkg-config --cflags --libs libpkcs1)
+ *
+ * Where the library is in a folder that the loader doesn't know, add -Wl,-rpath,FOLDER.
+ *
+ * WHAT IT READS
+ *
+ * Only DER, the binary form. It doesn't read PEM, and nothing encrypted. OpenSSL converts a private key in PEM, an
+ * encrypted one, or one under id-RSASSA-PSS:
  *     openssl rsa -in IN -traditional -outform DER -out OUT
+ * It doesn't read SubjectPublicKeyInfo, which in PEM is "BEGIN PUBLIC KEY". OpenSSL converts that too:
  *     openssl rsa -pubin -in IN -RSAPublicKey_out -outform DER -out OUT
- * No salt length over 255: with SHA-256, not what OpenSSL 3.0 writes by default for keys over 2313 bits
- *   (-sigopt rsa_pss_saltlen:digest is read).
+ * It reads no salt length over 255. With SHA-256, OpenSSL 3.0 writes such a one by default for keys over 2313 bits.
+ * What it writes with -sigopt rsa_pss_saltlen:digest is read.
  *
- * Status: a decoder or encoder returns PKCS1_OK or an error of the enum below, which pkcs1_strerror describes.
- * Decoders (.._decode): `der` is one whole encoding. On PKCS1_OK the struct holds the value that it encodes. An error
- *   means that no value of the type has this encoding, and what the call would have filled is unchanged. The status is
- *   that of the first fault from the left. An AlgorithmIdentifier and a container are read twice: first the whole
- *   SEQUENCE, then which algorithm it is, whether it has parameters, and what is in the parameters or in the key. So
- *   30 03 06 01 2a 00 is PKCS1_TRAILING_DATA, not PKCS1_OID_UNKNOWN.
- * Encoders (.._encode): on PKCS1_OK the first `*len` octets of `out` are the DER of the value, and the rest is
- *   unchanged. On PKCS1_NO_ROOM `*len` is the length that is needed: call with a null `out` and room 0 to get it. On
- *   another error the value has no encoding of at most 4294967295 octets (or memory has run out), and `*len` is
- *   unchanged: the status is that of the first field, in their order, that can't be held, as a number without octets or
- *   an identifier that isn't one, or PKCS1_OVERFLOW if each can, but the encoding is too long. On any error `out` is
- *   unchanged.
- * Structs: one that a call fills may be uninitialised, as in `struct pkcs1_public_key key;`. One that a call reads must
- *   have its fields set, but `data` may be null if `len` is 0, and the fields after a false `has_..` in its struct
- *   aren't read. `{0}` is such a struct (`{}` in C++).
- * Numbers are unsigned, most significant octet first. Encoders accept leading zeros, and need at least one octet;
- *   decoders give no leading zeros (the number 0 is one octet).
- * Lifetimes: decoders copy nothing. A `pkcs1_bytes` that a decoder fills, of a number or an identifier too, points into
- *   `der` (or into the library, for a default that the encoding leaves out), is never null, and must not be freed. No
- *   call keeps a pointer.
- * Overlap: `out`, `*len` and what a decoder fills must not overlap each other or any other argument.
+ * Only the encoding is checked. Nothing checks that the modulus is the product of the primes, or that a key is strong.
+ *
+ * DECODERS
+ *
+ * They are the calls .._decode and .._decode_strict.
+ * Input: `der` is one whole encoding, with nothing behind it.
+ * PKCS1_OK: the struct holds the value that `der` encodes.
+ * Any other status: no value of the type has this encoding, but for strict decoders. What the call would have filled is
+ *   unchanged. The status is that of the first fault from the left.
+ * Order of faults: an AlgorithmIdentifier or a PKCS #8 container is read whole first. Then comes which algorithm it is,
+ *   then whether it has parameters, then what is in the parameters or in the key. So 30 03 06 01 2a 00 is
+ *   PKCS1_TRAILING_DATA, not PKCS1_OID_UNKNOWN. The version of a private key is compared behind its primes.
+ * Strict decoders: they also reject a default that is written out, which the others accept. They look for one when all
+ *   else is right.
+ * Lifetimes: nothing is copied. A `pkcs1_bytes` that a decoder fills points into `der`, or into the library for a
+ *   default that the encoding leaves out. This is so of numbers and identifiers too. Keep `der` as long as you use it.
+ *   Free nothing. It is never null.
+ * Numbers: unsigned, most significant octet first, without leading zeros. The number 0 is one octet.
+ *
+ * ENCODERS
+ *
+ * They are the calls .._encode.
+ * PKCS1_OK: the first `*len` octets of `out` are the DER of the value. The rest of `out` is unchanged.
+ * PKCS1_NO_ROOM: `out` is too short, and `*len` is the length that is needed. A call with a null `out` and room 0 asks
+ *   for that length.
+ * Any other status: nothing was written, and `*len` is unchanged. The value has no encoding of at most 4294967295
+ *   octets. The status is that of the first field, in their order, that can't be held, such as a number without octets.
+ *   If each can, the encoding is too long, and it is PKCS1_OVERFLOW.
+ * pkcs1_private_key_encode: if there aren't as many other primes as the key says, it is PKCS1_OTHER_PRIMES. If there
+ *   are any, it may be PKCS1_OUT_OF_MEMORY in place of every other status.
+ * pkcs1_private_key_info_encode: the key that it is given is read first. If that fails, the status is that of decoding.
+ * Errors: after any of them `out` is unchanged.
+ * Numbers: leading zeros are accepted. There must be at least one octet.
+ *
+ * WHAT YOU PASS
+ *
+ * Structs that a call fills: they may be uninitialised.
+ * Structs that a call reads: their fields must be set. Start from `{0}`, in C++ from `{}`. `data` may be null if `len`
+ *   is 0. The fields after a false `has_..` aren't read.
  * Null: `der`, `others`, `out` and `label` may be null if their length is 0. No other argument may be null.
- * Threads: the calls share no state and take no locks, so any of them may run at the same time.
- *   If the octets that `data` or `der` points to change during a call (shared memory), the call still returns, reads
- *   nothing outside them and writes nothing outside `out[0..room]`, `*len` (at most `room` on PKCS1_OK) and what it
- *   fills, but its status and what it writes mean nothing. Structs, lengths and pointers must not change.
- * Memory: only pkcs1_private_key_encode allocates, for a key of more than two primes, and frees it before it returns.
+ * Overlap: `out`, `*len` and what a decoder fills must not overlap each other or any other argument. Nor may they
+ *   overlap the octets that a struct points to.
  *
- * Only the encoding is checked: not that the modulus is the product of the primes, nor that a key is strong enough. */
+ * WHAT THE CALLS DO BESIDES
+ *
+ * Threads: the calls share no state and take no locks, so any of them may run at the same time.
+ * Shared memory: the octets that `der` or `data` points to may change during a call. Structs, lengths and pointers must
+ *   not. The call still returns, and reads nothing outside these octets. It writes nothing outside `out[0..room]`,
+ *   `*len` and what it fills. On PKCS1_OK `*len` is at most `room`. What it returns and writes then means nothing.
+ * Pointers: no call keeps one.
+ * Memory: only pkcs1_private_key_encode allocates, for a key of more than two primes. It frees it before it returns.
+ * Secrets: nothing is wiped from memory, and nothing is promised about the time that a call takes. */
 #ifndef PKCS1_H
 #define PKCS1_H
 
@@ -53,31 +91,31 @@ extern "C" {
 enum pkcs1_status {
     PKCS1_OK = 0,
     PKCS1_FAILED = 1,              /* not returned by these calls */
-    PKCS1_INCOMPLETE = 2,          /* empty or cut off: a length says more octets than there are, or a field is missing */
+    PKCS1_INCOMPLETE = 2,          /* empty, cut off, or a field is missing */
     PKCS1_INDEFINITE_LENGTH = 3,   /* BER with an indefinite length, which isn't DER */
     PKCS1_LENGTH = 4,              /* a number without octets */
-    PKCS1_NONCANONICAL = 5,        /* not DER: needless zeros in front of a number; .._strict: a default is written out */
+    PKCS1_NONCANONICAL = 5,        /* not DER: needless zeros in front of a number. .._strict: a default written out */
     PKCS1_OID_MALFORMED = 6,       /* an identifier that is empty, cut off, not in shortest form, or over 39 octets */
-    PKCS1_OID_UNKNOWN = 7,         /* PKCS #8 with a key that isn't RSA, or an RSA key under id-RSASSA-PSS (RSA-PSS);
-                                      .._algorithm_..: another algorithm */
-    PKCS1_OVERFLOW = 8,            /* a length past 4294967295 */
-    PKCS1_OVERLENGTH = 9,          /* not DER: a length in more octets than it needs */
-    PKCS1_PARAMETERS_MISSING = 10, /* an algorithm without parameters: rsaEncryption has NULL, the others their own */
+    PKCS1_OID_UNKNOWN = 7,         /* another algorithm. In PKCS #8 a key that isn't RSA, or one under id-RSASSA-PSS */
+    PKCS1_OVERFLOW = 8,            /* a length past 4294967295, or in more than four octets whatever it is */
+    PKCS1_OVERLENGTH = 9,          /* not DER: a length in more octets than it needs, up to four */
+    PKCS1_PARAMETERS_MISSING = 10, /* an algorithm without parameters. rsaEncryption has NULL, others their own */
     PKCS1_TAG_UNEXPECTED = 11,     /* another type: PEM, PKCS #8, SubjectPublicKeyInfo or an encrypted key, perhaps */
     PKCS1_TAG_UNKNOWN = 12,        /* not DER of these types: a tag octet that none of them has */
-    PKCS1_TRAILING_DATA = 13,      /* octets follow the value, or a field follows that the type doesn't have there: a
-                                      private key read as a public one, perhaps */
-    PKCS1_VALUE = 14,              /* a negative number; a version, salt length, trailer field or NULL that isn't allowed */
+    PKCS1_TRAILING_DATA = 13,      /* octets follow the value, or a field that the type doesn't have there: a private
+                                      key read as a public one, perhaps, or an AlgorithmIdentifier as parameters */
+    PKCS1_VALUE = 14,              /* a negative number, or a version, salt length, trailer field or NULL that isn't
+                                      allowed: a public key read as a private one, perhaps */
     PKCS1_NO_ROOM = 15,            /* `out` is too short: `*len` is the length that is needed */
     PKCS1_FILE = 16,               /* not returned by these calls */
     PKCS1_OUT_OF_MEMORY = 17,      /* only from pkcs1_private_key_encode, with other primes */
     PKCS1_OTHER_PRIMES = 21        /* writing: key->other_primes isn't others_len */
 };
 
-/* A description in English, with what the input may be instead, as a static string. Any number may be given. */
+/* A description in English, as a static string. It names what the input may be instead. Any number may be given. */
 const char *pkcs1_strerror(uint32_t status);
 
-/* The version of the library as a static string, "0.8.0"; the macros above are the version of the header. */
+/* The version of the library as a static string, "0.8.0". The macros above are the version of the header. */
 const char *pkcs1_version(void);
 
 struct pkcs1_bytes {
@@ -102,7 +140,7 @@ struct pkcs1_other_prime {
 };
 
 /* The decoder puts the first `others_room` of the other primes into `others`, and leaves any further elements
- * unchanged; key->other_primes is how many there are, which may be more. The encoder needs all of them: if `others_len`
+ * unchanged. key->other_primes is how many there are, which may be more. The encoder needs all of them. If `others_len`
  * isn't key->other_primes, it returns PKCS1_OTHER_PRIMES. */
 uint32_t pkcs1_private_key_decode(const uint8_t *der, size_t der_len, struct pkcs1_private_key *key,
                                   struct pkcs1_other_prime *others, size_t others_room);
@@ -125,7 +163,7 @@ uint32_t pkcs1_private_key_info_encode(const struct pkcs1_private_key_info *info
 
 /* ---- Algorithms ---- */
 
-/* Identifiers are the contents octets of an OBJECT IDENTIFIER (X.690 8.19). */
+/* Identifiers are the contents octets of an OBJECT IDENTIFIER (X.690 8.19): at most 39. */
 extern const struct pkcs1_bytes pkcs1_oid_sha1, pkcs1_oid_sha224, pkcs1_oid_sha256, pkcs1_oid_sha384, pkcs1_oid_sha512;
 extern const struct pkcs1_bytes pkcs1_oid_sha512_224, pkcs1_oid_sha512_256;
 extern const struct pkcs1_bytes pkcs1_oid_mgf1, pkcs1_oid_p_specified, pkcs1_oid_rsa_encryption;
@@ -134,8 +172,8 @@ extern const struct pkcs1_bytes pkcs1_oid_rsassa_pss, pkcs1_oid_rsaes_oaep;
 /* Whether both are the same identifier. */
 bool pkcs1_oid_equal(const struct pkcs1_bytes *left, const struct pkcs1_bytes *right);
 
-/* An AlgorithmIdentifier. Neither the type nor the contents of its parameters are checked. If there are none, a decoder
- * sets `tag` to 0 and `parameters` to empty. */
+/* The AlgorithmIdentifier of a hash function or of a source. Neither the type nor the contents of its parameters are
+ * checked. If there are none, a decoder sets `tag` to 0 and `parameters` to empty. */
 struct pkcs1_algorithm {
     struct pkcs1_bytes oid;
     bool has_parameters; /* false: no octet follows the identifier, which isn't the same as NULL here */
@@ -143,12 +181,13 @@ struct pkcs1_algorithm {
     struct pkcs1_bytes parameters; /* their contents; of NULL: none */
 };
 
-/* Whether the algorithm is the hash function with this identifier, with NULL or without parameters: both mean the same
+/* Whether the algorithm is the hash function with this identifier, with NULL or without parameters. Both mean the same
  * (RFC 4055 2.1), and both are met. */
 bool pkcs1_algorithm_is(const struct pkcs1_algorithm *algorithm, const struct pkcs1_bytes *oid);
 
-/* If there is no hash function, a decoder sets `hash` to empty: `hash.oid.len` is 0. Even MGF1 may be without one,
- * which a verifier should reject. */
+/* A mask generation function, whose parameters are the AlgorithmIdentifier of a hash function, or absent. If they are
+ * absent, a decoder sets `hash` to empty: `hash.oid.len` is 0. Even MGF1 may be without one, which a verifier should
+ * reject. */
 struct pkcs1_mask_gen {
     struct pkcs1_bytes oid;
     bool has_hash;
@@ -168,7 +207,7 @@ struct pkcs1_pss_params {
 struct pkcs1_oaep_params {
     struct pkcs1_algorithm hash;
     struct pkcs1_mask_gen mask_gen;
-    struct pkcs1_algorithm p_source; /* pSpecified: the label, if the tag is 0x04; other tags are accepted too */
+    struct pkcs1_algorithm p_source; /* pSpecified: the label, if the tag is 0x04. Other tags are accepted too. */
 };
 
 /* Sets all fields for one hash function: MGF1 with the same one, and both with NULL parameters. The octets of the
@@ -177,17 +216,17 @@ void pkcs1_pss_params_init(struct pkcs1_pss_params *params, const struct pkcs1_b
 void pkcs1_oaep_params_init(struct pkcs1_oaep_params *params, const struct pkcs1_bytes *hash, const uint8_t *label,
                             size_t label_len);
 
-/* Whether the hash function has the identifier `hash`, and the mask generation function is MGF1 with the same one: both
- * as pkcs1_algorithm_is tells it, so with NULL or without parameters. */
+/* Whether the hash function has the identifier `hash`, and the mask generation function is MGF1 with the same one. Each
+ * may have NULL parameters or none. */
 bool pkcs1_pss_is(const struct pkcs1_pss_params *params, const struct pkcs1_bytes *hash);
 bool pkcs1_oaep_is(const struct pkcs1_oaep_params *params, const struct pkcs1_bytes *hash);
 
-/* Sets `label` to the octets of the label, which may be none, and returns true, if the source is pSpecified with an
- * OCTET STRING. Another source has no label: returns false, and `label` is unchanged. The octets aren't copied. */
+/* If the source is pSpecified with an OCTET STRING, sets `label` to its octets, which may be none, and returns true.
+ * Another source has no label. Then it returns false, and `label` is unchanged. The octets aren't copied. */
 bool pkcs1_oaep_label(const struct pkcs1_oaep_params *params, struct pkcs1_bytes *label);
 
 /* Encoders leave out each field that has its default, as DER requires (X.690 11.5). Decoders also accept a default that
- * is written out; .._decode_strict returns PKCS1_NONCANONICAL for it. */
+ * is written out. For it .._decode_strict returns PKCS1_NONCANONICAL. */
 uint32_t pkcs1_pss_params_decode(const uint8_t *der, size_t der_len, struct pkcs1_pss_params *params);
 uint32_t pkcs1_pss_params_decode_strict(const uint8_t *der, size_t der_len, struct pkcs1_pss_params *params);
 uint32_t pkcs1_pss_params_encode(const struct pkcs1_pss_params *params, uint8_t *out, size_t room, size_t *len);
@@ -196,8 +235,8 @@ uint32_t pkcs1_oaep_params_decode_strict(const uint8_t *der, size_t der_len, str
 uint32_t pkcs1_oaep_params_encode(const struct pkcs1_oaep_params *params, uint8_t *out, size_t room, size_t *len);
 
 /* The same of the whole AlgorithmIdentifier: id-RSASSA-PSS with its parameters, as a certificate's signatureAlgorithm,
- * or id-RSAES-OAEP with its parameters, as in CMS (RFC 4055 3.1, 4.1). Another identifier is PKCS1_OID_UNKNOWN, one
- * without parameters PKCS1_PARAMETERS_MISSING. */
+ * or id-RSAES-OAEP with its parameters, as in CMS (RFC 4055 3.1, 4.1). For another identifier they return
+ * PKCS1_OID_UNKNOWN, for one without parameters PKCS1_PARAMETERS_MISSING. */
 uint32_t pkcs1_pss_algorithm_decode(const uint8_t *der, size_t der_len, struct pkcs1_pss_params *params);
 uint32_t pkcs1_pss_algorithm_decode_strict(const uint8_t *der, size_t der_len, struct pkcs1_pss_params *params);
 uint32_t pkcs1_pss_algorithm_encode(const struct pkcs1_pss_params *params, uint8_t *out, size_t room, size_t *len);

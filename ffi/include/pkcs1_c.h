@@ -1,8 +1,9 @@
-/* The proved calls, on which those of pkcs1.h are built; most callers want pkcs1.h. They do the same, but require more:
- * each struct passed to them must hold valid values, even one that a decoder only fills. In it each `bool` must be 0 or
- * 1, and no `pkcs1_bytes` may be null: PKCS1_NO_BYTES is an empty one. The fields after a false `has_..` must be
- * valid too; an encoder doesn't read them, and a decoder sets them to empty. `der`, `others`, `out` and `oid` may not be
- * null, not even if their length is 0. */
+/* The proved calls, on which those of pkcs1.h are built. Most callers want pkcs1.h. These do the same and require more.
+ *
+ * Structs: each must hold valid values, even one that a decoder only fills. In it each `bool` must be 0 or 1, and no
+ *   `pkcs1_bytes` may be null. PKCS1_NO_BYTES is an empty one.
+ * Fields after a false `has_..`: they must be valid too. An encoder doesn't read them. A decoder sets them to empty.
+ * Null: `der`, `others`, `out` and `oid` may not be null, not even if their length is 0. */
 #ifndef PKCS1_C_H
 #define PKCS1_C_H
 
@@ -46,7 +47,7 @@ bool pkcs1_c_algorithm_is(const struct pkcs1_algorithm *algorithm, const uint8_t
 bool pkcs1_c_pss_is(const struct pkcs1_pss_params *params, const uint8_t *oid, size_t oid_len);
 bool pkcs1_c_oaep_is(const struct pkcs1_oaep_params *params, const uint8_t *oid, size_t oid_len);
 
-/* Whether the source is pSpecified with an OCTET STRING, whose octets are then in `label`; else it is unchanged. */
+/* Whether the source is pSpecified with an OCTET STRING. If so, its octets are in `label`. If not, it is unchanged. */
 bool pkcs1_c_oaep_label(const struct pkcs1_oaep_params *params, struct pkcs1_bytes *label);
 
 /* These set `text` to a static string with a zero at the end, which `len` counts. */

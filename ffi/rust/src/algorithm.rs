@@ -123,7 +123,7 @@ impl fmt::Debug for Any<'_> {
 pub struct Algorithm<'a> {
     /// The object identifier of the algorithm.
     pub oid: ObjectIdentifier<'a>,
-    /// Its parameters; `None` isn't the same as NULL.
+    /// Its parameters, which aren't checked. `None` isn't the same as NULL.
     pub parameters: Option<Any<'a>>,
 }
 
@@ -141,8 +141,8 @@ impl<'a> Algorithm<'a> {
         Algorithm { oid, parameters: Some(Any::NULL) }
     }
 
-    /// Whether this is the hash function with this identifier, with NULL or without parameters: both mean the same
-    /// (RFC 4055 2.1), and both are met, but `==` tells them apart.
+    /// Whether this is the hash function with this identifier, with NULL or without parameters. Both mean the same
+    /// (RFC 4055 2.1), and both are met. `==` tells them apart.
     ///
     /// ```
     /// use pkcs1_proved::{Algorithm, ObjectIdentifier};
@@ -172,9 +172,9 @@ impl<'a> Algorithm<'a> {
 /// A mask generation function, and the hash function that it uses.
 #[derive(Clone, Copy, Debug, PartialEq, Eq, Hash)]
 pub struct MaskGen<'a> {
-    /// The object identifier of the function; RFC 8017 defines only MGF1.
+    /// The object identifier of the function. RFC 8017 defines only MGF1.
     pub oid: ObjectIdentifier<'a>,
-    /// The hash function.
+    /// The hash function. A verifier should reject `None`, as `uses_hash` does.
     pub hash: Option<Algorithm<'a>>,
 }
 

@@ -25,32 +25,33 @@ macro_rules! errors {
 errors! {
     /// Not returned by this crate.
     FAILED = 1;
-    /// The input is empty or cut off: a length says more octets than there are, or a field is missing.
+    /// The input is empty or cut off, or a field is missing.
     INCOMPLETE = 2;
     /// BER with an indefinite length, which isn't DER.
     INDEFINITE_LENGTH = 3;
     /// A number without octets.
     LENGTH = 4;
-    /// Not DER: needless leading zeros of a number; in strict decoding, a default that is written out.
+    /// Not DER: needless leading zeros of a number. In strict decoding, a default that is written out.
     NONCANONICAL = 5;
     /// An identifier that is empty, cut off, not in shortest form, or of more than 39 octets.
     OID_MALFORMED = 6;
-    /// PKCS #8 with a key that isn't RSA, or an RSA key under id-RSASSA-PSS (RSA-PSS); an identifier of another
-    /// algorithm.
+    /// Another algorithm. In PKCS #8 a key that isn't RSA, or an RSA key under id-RSASSA-PSS.
     OID_UNKNOWN = 7;
-    /// A length above 4294967295.
+    /// A length above 4294967295, or in more than four octets whatever it is.
     OVERFLOW = 8;
-    /// Not DER: a length in more octets than it needs.
+    /// Not DER: a length in more octets than it needs, up to four.
     OVERLENGTH = 9;
-    /// An algorithm without parameters: rsaEncryption has NULL, the others their own.
+    /// An algorithm without parameters. rsaEncryption has NULL, the others their own.
     PARAMETERS_MISSING = 10;
     /// Another type: PEM, PKCS #8, SubjectPublicKeyInfo or an encrypted key, perhaps.
     TAG_UNEXPECTED = 11;
     /// Not DER of these types: a tag octet that none of them has.
     TAG_UNKNOWN = 12;
-    /// Octets follow the value, or a field that it doesn't have: a private key read as a public one, perhaps.
+    /// Octets follow the value, or a field that it doesn't have: a private key read as a public one, perhaps, or an
+    /// algorithm identifier read as parameters.
     TRAILING_DATA = 13;
-    /// A negative number; a version, salt length, trailer field or NULL that isn't allowed.
+    /// A negative number, or a version, salt length, trailer field or NULL that isn't allowed: a public key read as a
+    /// private one, perhaps.
     VALUE = 14;
     /// The DER is longer than the output.
     NO_ROOM = 15;

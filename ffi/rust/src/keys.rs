@@ -6,7 +6,7 @@ use alloc::vec::Vec;
 use core::fmt;
 
 /// A public key (RFC 8017 A.1.1). The numbers are unsigned, most significant octet first. Decoding gives no leading
-/// zeros; encoding accepts them. Equality compares the octets. `Debug` shortens long numbers.
+/// zeros, and encoding accepts them. Equality compares the octets. `Debug` shortens long numbers.
 #[derive(Clone, Copy, PartialEq, Eq, Hash)]
 pub struct PublicKey<'a> {
     /// n.
@@ -29,7 +29,7 @@ impl<'a> PublicKey<'a> {
     ///
     /// # Errors
     ///
-    /// The slice isn't one whole encoding of a public key.
+    /// The slice isn't one whole encoding of a public key. `Error::TRAILING_DATA`: it is a private key, perhaps.
     pub fn from_der(der: &'a [u8]) -> Result<PublicKey<'a>, Error> {
         let key = raw::PublicKey::decode(der)?;
         Ok(PublicKey { modulus: key.modulus.get(), public_exponent: key.public_exponent.get() })
@@ -120,13 +120,14 @@ impl<'a> PrivateKey<'a> {
     ///
     /// # Errors
     ///
-    /// The slice isn't one whole encoding of a private key, or `Error::OUT_OF_MEMORY` for one of more than two primes.
+    /// The slice isn't one whole encoding of a private key. `Error::VALUE`: it is a public key, perhaps. For a key of
+    /// more than two primes also `Error::OUT_OF_MEMORY`.
     pub fn from_der(der: &'a [u8]) -> Result<PrivateKey<'a>, Error> {
         let key = raw::private_key(der, &mut [])?;
         PrivateKey::seen(der, &key)
     }
 
-    /// The public half of the private key in `der`; its other primes are counted, not listed.
+    /// The public half of the private key in `der`. Its other primes are counted, not listed.
     pub(crate) fn public_half(der: &'a [u8]) -> Result<PublicKey<'a>, Error> {
         let key = raw::private_key(der, &mut [])?;
         Ok(PublicKey { modulus: key.modulus.get(), public_exponent: key.public_exponent.get() })

@@ -7,11 +7,11 @@ use alloc::vec::Vec;
 /// encoding leaves out a field that has its default. A recipient looks at `uses_hash` and `label`.
 #[derive(Clone, Copy, Debug, PartialEq, Eq, Hash)]
 pub struct OaepParams<'a> {
-    /// The hash function; SHA-1 is the default.
+    /// The hash function. SHA-1 is the default.
     pub hash: Algorithm<'a>,
-    /// The mask generation function; MGF1 with SHA-1 is the default.
+    /// The mask generation function. MGF1 with SHA-1 is the default.
     pub mask_gen: MaskGen<'a>,
-    /// The source of the label; the default is pSpecified with an empty label.
+    /// The source of the label. The default is pSpecified with an empty label.
     pub p_source: Algorithm<'a>,
 }
 
@@ -45,7 +45,7 @@ impl<'a> OaepParams<'a> {
         OaepParams { hash, mask_gen: MaskGen::mgf1(hash), p_source }
     }
 
-    /// Decodes parameters from the whole slice. Accepts a default that is written out.
+    /// Decodes parameters from the whole slice. Accepts a default that is written out, which DER forbids.
     ///
     /// ```
     /// use pkcs1_proved::{OaepParams, ObjectIdentifier};
@@ -57,7 +57,8 @@ impl<'a> OaepParams<'a> {
     ///
     /// # Errors
     ///
-    /// The slice isn't one whole encoding of parameters.
+    /// The slice isn't one whole encoding of parameters. `Error::TRAILING_DATA`: it is their algorithm identifier,
+    /// perhaps.
     pub fn from_der(der: &'a [u8]) -> Result<OaepParams<'a>, Error> {
         raw::OaepParams::decode(der).map(OaepParams::seen)
     }
@@ -94,7 +95,7 @@ impl<'a> OaepParams<'a> {
     ///
     /// # Errors
     ///
-    /// The slice isn't one whole encoding of such an identifier; `Error::OID_UNKNOWN` for another algorithm,
+    /// The slice isn't one whole encoding of such an identifier. For another algorithm it is `Error::OID_UNKNOWN`, and
     /// `Error::PARAMETERS_MISSING` if there are no parameters.
     pub fn from_algorithm_der(der: &'a [u8]) -> Result<OaepParams<'a>, Error> {
         raw::OaepAlgorithm::decode(der).map(|raw| OaepParams::seen(raw.0))

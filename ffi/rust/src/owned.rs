@@ -59,7 +59,7 @@ pub struct OaepParamsBuf {
 macro_rules! lent {
     ($($type:ident lends $borrowed:ident by $call:ident: $what:literal;)*) => {
         $(impl $type {
-            #[doc = concat!("The ", $what, " from this value.")]
+            #[doc = concat!("The ", $what, " from this value. Each call decodes its octets again.")]
             #[must_use]
             pub fn $call(&self) -> $borrowed<'_> {
                 $borrowed::from_der(&self.der).expect("these octets were decoded before")
@@ -141,7 +141,7 @@ impl PrivateKeyBuf {
         }
     }
 
-    /// The key, which borrows from this value.
+    /// The key, which borrows from this value. Each call decodes its octets again.
     ///
     /// ```
     /// use pkcs1_proved::PrivateKeyBuf;

@@ -16,9 +16,9 @@ pub enum TrailerField {
 /// encoding leaves out a field that has its default. A verifier looks at `uses_hash` and `salt_len`.
 #[derive(Clone, Copy, Debug, PartialEq, Eq, Hash)]
 pub struct PssParams<'a> {
-    /// The hash function; SHA-1 is the default.
+    /// The hash function. SHA-1 is the default.
     pub hash: Algorithm<'a>,
-    /// The mask generation function; MGF1 with SHA-1 is the default.
+    /// The mask generation function. MGF1 with SHA-1 is the default.
     pub mask_gen: MaskGen<'a>,
     /// The length of the salt in octets, at most 255.
     pub salt_len: u8,
@@ -45,7 +45,7 @@ impl<'a> PssParams<'a> {
         PssParams { hash, mask_gen: MaskGen::mgf1(hash), salt_len, trailer_field: TrailerField::BC }
     }
 
-    /// Decodes parameters from the whole slice. Accepts a default that is written out.
+    /// Decodes parameters from the whole slice. Accepts a default that is written out, which DER forbids.
     ///
     /// ```
     /// use pkcs1_proved::PssParams;
@@ -58,7 +58,8 @@ impl<'a> PssParams<'a> {
     ///
     /// # Errors
     ///
-    /// The slice isn't one whole encoding of parameters.
+    /// The slice isn't one whole encoding of parameters. `Error::TRAILING_DATA`: it is their algorithm identifier,
+    /// perhaps.
     pub fn from_der(der: &'a [u8]) -> Result<PssParams<'a>, Error> {
         raw::PssParams::decode(der).map(PssParams::seen)
     }
@@ -96,7 +97,7 @@ impl<'a> PssParams<'a> {
     ///
     /// # Errors
     ///
-    /// The slice isn't one whole encoding of such an identifier; `Error::OID_UNKNOWN` for another algorithm,
+    /// The slice isn't one whole encoding of such an identifier. For another algorithm it is `Error::OID_UNKNOWN`, and
     /// `Error::PARAMETERS_MISSING` if there are no parameters.
     pub fn from_algorithm_der(der: &'a [u8]) -> Result<PssParams<'a>, Error> {
         raw::PssAlgorithm::decode(der).map(|raw| PssParams::seen(raw.0))
