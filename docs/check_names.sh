@@ -1,7 +1,7 @@
 #!/usr/bin/env bash
 # Fails where a document names in backquotes a file, call, type, clause or definition that isn't there, or links to what
 # isn't. A word is there if it stands in code, not in a comment or in proofs/. In tables, `src/` and `specs/` head files
-# of the crate in the heading, with their "definitions"; "calls" have the "clauses" beside them.
+# of the crate in the heading, with their "definitions". check_promises.sh has clauses.
 set -eu
 cd "$(dirname "$0")/.."
 exec python3 - <<'END'
@@ -11,7 +11,7 @@ ALLOWED = set('rt selftest umask start_lib bazel holes lemma'.split())
 PLACEHOLDER = r'[A-Z0-9]+|[0-9a-f]*\d[0-9a-f]*|\w'
 COMMENT = {'.rt': r'//.*', '.rs': r'//.*', '.c': r'/[/*].*', '.h': r'/\*.*', '.antt': r'--.*'}
 
-paths, code, clauses, wrong = set(), {}, {}, []
+paths, code, wrong = set(), {}, []
 for folder, inner, files in os.walk('.'):
     inner[:] = set(inner) - {'.git', 'out', 'target'}
     paths.update(os.path.relpath(os.path.join(folder, name)) for name in inner + files)
@@ -21,11 +21,6 @@ for path in filter(os.path.isfile, paths):
         continue
     lines = [re.sub(COMMENT.get(kind, r'^\s*#.*'), '', line) for line in open(path, errors='replace')]
     code[path] = set(re.findall(r'\w+', ''.join(lines)))
-    for line in lines if kind == '.rt' else []:
-        if call := re.match(r'\s*(?:[\w()"]+ )*fn (\w+)', line):
-            stated = clauses.setdefault(call[1], set())
-        elif clause := re.match(r'\s*ensures\*? (\w+)', line):
-            stated.add(clause[1])
 words = ALLOWED.union(*code.values())
 
 def names(text):
@@ -55,16 +50,6 @@ def check_files(head, cells):
     for name in names(cells[1]) if head[1] == 'definitions' else []:
         re.search(rf'(?m)^(?:(?:abbrev|pub|record|data|unfoldable) )*{name}\b', declared) or say('definition there', name)
 
-def check_clauses(named, cells):
-    calls = {name: fnmatch.filter(clauses, re.findall(r'[\w*]+', name)[-1]) for name in names(cells[1])}
-    found = {call for matches in calls.values() for call in matches}
-    for name in calls:
-        calls[name] or say('call', name)
-    for call in found:
-        named and clauses[call] and named.isdisjoint(clauses[call]) and say('clause of ' + call, ', '.join(named))
-    for clause in named.difference(*(clauses[call] for call in found)):
-        say('clause of these calls', clause)
-
 def headings(path):
     return {re.sub(r'[^\w -]', '', line.strip('# \n').lower()).replace(' ', '-') for line in open(path) if line[0] == '#'}
 
@@ -82,7 +67,6 @@ for document in documents:
         special = bool(cells) and head[0] in ('the Rust crate', '`src/`', '`specs/`')
         if cells and cells != head and set(cells) != {'---'}:
             special and head[0][0] == '`' and check_files(head, cells)
-            head[1:] == ['calls', 'clauses'] and check_clauses(set(names(cells[2])), cells)
         for name in names(' '.join(cells[special:]) if cells else line):
             check_name(name)
         for path, heading in re.findall(r'\]\((?!https?:)([^)#]*)#?([^)]*)\)', line):
