@@ -417,6 +417,8 @@ static void texts(void) {
                  "bytes follow the value, or a field that it does not have: a private key read as a public one, "
                  "perhaps") == 0);
     CHECK(strstr(pkcs1_strerror(PKCS1_TAG_UNEXPECTED), "PEM") != NULL);
+    CHECK(strstr(pkcs1_strerror(PKCS1_VALUE), "a public key, perhaps") != NULL);
+    CHECK(strstr(pkcs1_strerror(PKCS1_OVERFLOW), "more than four octets") != NULL);
     CHECK(strcmp(pkcs1_strerror(0), "no error") == 0 && strcmp(pkcs1_strerror(1000), "another error") == 0);
     CHECK(strcmp(pkcs1_strerror(PKCS1_OTHER_PRIMES), "the other primes are not as many as the key says") == 0);
 }

@@ -98,7 +98,7 @@ fn status_octets(status: u32) -> &'static [u8]
             b"the object identifier is malformed: empty, cut off, not in shortest form, or over 39 octets\0",
         7 =>
             b"the object identifier is another one: another algorithm, or PKCS #8 with no RSA key or an RSA-PSS key\0",
-        8 => b"a length passes the limit of 4294967295 octets\0",
+        8 => b"a length passes the limit of 4294967295 octets, or stands in more than four octets\0",
         9 => b"the length is not in shortest form: this is not DER\0",
         10 =>
             b"the algorithm parameters are missing: rsaEncryption needs NULL, RSASSA-PSS and RSAES-OAEP a SEQUENCE\0",
@@ -108,7 +108,7 @@ fn status_octets(status: u32) -> &'static [u8]
         13 =>
             b"bytes follow the value, or a field that it does not have: a private key read as a public one, perhaps\0",
         14 =>
-            b"the value is not allowed: negative, a salt length over 255, another version, trailer field or NULL\0",
+            b"the value is not allowed: negative, salt over 255, another version, trailer or NULL; a public key, perhaps\0",
         15 => b"there is too little room for the encoding\0",
         16 => b"a read or a write failed\0",
         17 => b"no memory was found\0",

@@ -10,7 +10,7 @@ ghost use Rattle.pkcs8_core.specs.Words.{rsa_held, rsa_only, rsa_private_key_inf
 use crate::info::PrivateKeyInfoRef;
 use pkcs1::der::{Error, ErrorKind, Result, Tag};
 use pkcs1::spki::AlgorithmIdentifierRef;
-use pkcs1::{ALGORITHM_OID, RsaPrivateKeyRef, RsaPrivateKeyView};
+use pkcs1::{RsaPrivateKeyRef, RsaPrivateKeyView, rsa_encryption_oid};
 use std::alloc::Global;
 
 /// Rejects each algorithm but rsaEncryption with NULL.
@@ -18,9 +18,7 @@ fn require_rsa(algorithm: &AlgorithmIdentifierRef<'_>) -> Result<()>
     ensures ok { IfOk result (λ _. algorithm_of algorithm.now ≡ rsa_encryption) }
     ensures exact { Answers (λ done. done) result (rsa_only (algorithm_of algorithm.now)) }
 {
-    if algorithm.oid.as_bytes() != ALGORITHM_OID {
-        return Err(Error::new(ErrorKind::OidUnknown));
-    }
+    algorithm.assert_algorithm_oid(rsa_encryption_oid())?;
     let parameters = algorithm.parameters_any()?;
     if parameters.tag() != Tag::NULL || !parameters.value().is_empty() {
         return Err(Error::new(ErrorKind::Value {

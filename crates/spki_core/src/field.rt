@@ -56,7 +56,6 @@ pub fn encode_field<T: Encode, W: Writer>(
 }
 
 /// Writes a field in front of what is filled.
-#[inline(always)]
 pub fn prepend_field<T: Encode>(tag_number: TagNumber, value: &T, writer: &mut BackWriter<'_>)
     requires has { T.has_encoding (T.value value.now) }
     requires fits { length (tlv (context_tag tag_number.value) (T.written_encoding (T.value value.now))) ≤ limit }

@@ -1,10 +1,9 @@
 use Rattle.std.specs.Prelude.{not}
-use Rattle.std.proofs.Common.{true, false, eqb, ◌≡◌, ◌∙◌, refl, sym, ap, ℕ, length, Err}
+use Rattle.std.proofs.Common.{true, false, eqb, ◌≡◌, ◌∙◌, sym, ap, ℕ, length, Err}
 use Rattle.der_core.specs.declared.error.Error.{Error}
 use Rattle.spki_core.specs.Any.{TagAndContents}
 use Rattle.spki_core.specs.AlgorithmValue.{algorithm_of}
 use Rattle.spki_core.specs.AnyRefValue.{any_of}
-use Rattle.pkcs1_params.proofs.Algorithms.{unequal_false}
 use Rattle.pkcs8_core.proofs.ContainerReadings.{rsa_other}
 use Rattle.pkcs8_core.proofs.rsa.require_rsa.Goals as goal
 use Rattle.pkcs8_core.proofs.rsa.require_rsa.Goals.{then-ne-via-then-ne, then-ne-via-else-ne+then-not-is_empty}
@@ -18,9 +17,8 @@ not_empty n e h = let no : false ≡ eqb 0 0 = rw e at h in cc
 pub returns-then-ne-clause-exact : goal.returns-then-ne-clause-exact
 returns-then-ne-clause-exact c =
     let any = c.in_ok-parameters.parameters in
-    let names = unequal_false c.if-ne.false c.ne.ensures c.as_bytes.ensures.octets refl in
     rsa_other (algorithm_of c.args.algorithm.now) (any_of any) c.tag-then-ne.result
-    names c.in_ok-parameters.ensures.ok
+    (c.in_ok-assert_algorithm_oid.ensures.ok.1 ∙ c.rsa_encryption_oid.ensures) c.in_ok-parameters.ensures.ok
     c.tag-then-ne.ensures
     (elim c.then-ne.branch [
       | then-ne-via-then-ne w ↦ λ null. let tag : c.tag.result.octet ≡ 5 =
