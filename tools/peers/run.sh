@@ -112,7 +112,7 @@ speed() {
     rm -rf times.* callgrind && mkdir callgrind
     for it in 1 2 3 4 5; do
         ./peers speed corpus "${named[@]}" > "times.$it"
-        [ -n "${ONLY:-}" ] || ./peers_go speed corpus > "times.go$it"
+        [ -n "${ONLY:-}" ] || GOMAXPROCS=1 ./peers_go speed corpus > "times.go$it"
     done
     valgrind --tool=callgrind --callgrind-out-file=callgrind/out ./peers instructions corpus "${named[@]}" \
         > callgrind.log 2>&1 || stop "callgrind failed: $PWD/callgrind.log tells why"

@@ -6,6 +6,7 @@ import collections
 import sys
 
 KINDS = ("keys", "keys", "keys", "parameters", "parameters", "parameters", "parameters", "PKCS #8")
+NOT_DER = {"False": "all that isn't DER: ", "True": "all that is DER: "}
 REJECTED, WRITTEN_ALIKE, NO_SUCH_TYPE = b"029"
 
 
@@ -55,8 +56,8 @@ def count(inputs, names, answers):
     for (kind, damage), answer in zip(inputs, answers):
         if answer == NO_SUCH_TYPE:
             continue
-        _, name, group, _, _ = names[damage]
-        for heading in (group, (name, KINDS[kind])):
+        _, name, group, _, is_der = names[damage]
+        for heading in (group, (name, KINDS[kind]), NOT_DER[is_der] + KINDS[kind]):
             accepted.add(heading, answer != REJECTED)
         if chr(answer) in "234":
             written.add(("valid" if damage == 0 else "damaged") + " " + KINDS[kind], answer == WRITTEN_ALIKE)
@@ -75,13 +76,15 @@ def main():
             counts[name.rsplit("answers.", 1)[1].replace("_", " ")] = count(inputs, names, file.read())
     kinds = dict.fromkeys(KINDS)
     if is_long:
-        rows = {(name, kind): f"{kind}: {name} ({rule})" for _, name, _, rule, _ in names for kind in kinds}
+        lines = {(name, kind): f"{kind}: {name} ({rule})" for _, name, _, rule, _ in names for kind in kinds}
     else:
-        rows = {group: group + (" *" if is_der == "True" else "") for *_, group, _, is_der in names}
-        rows["valid"] = "valid"
+        lines = {NOT_DER["False"] + kind: NOT_DER["False"] + kind for kind in kinds}
+        lines.update((group, group + (" *" if is_der == "True" else "")) for *_, group, _, is_der in names)
+        lines["valid"] = "valid"
+    lines = {heading: shown for heading, shown in lines.items() if any(it.all[heading] for it, _ in counts.values())}
     print("Per cent accepted. *: DER of the type.\n")
-    print_table("damage", counts, ([shown, *(accepted.per_cent(row) for accepted, _ in counts.values())]
-                                   for row, shown in rows.items() if any(it.all[row] for it, _ in counts.values())))
+    print_table("damage", counts, ([shown, *(accepted.per_cent(heading) for accepted, _ in counts.values())]
+                                   for heading, shown in lines.items()))
     print("Per cent written as the same octets, of those accepted and written (how many).\n")
     writers = {name: written for name, (_, written) in counts.items() if written.all}
     groups = [f"{what} {kind}" for what in ("valid", "damaged") for kind in kinds]

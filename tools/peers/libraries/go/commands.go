@@ -84,11 +84,14 @@ func check(corpus string, to string) {
 		processorTime().Seconds(), runtime.Version())
 }
 
-// nanoseconds of one call, from calls that take 6 milliseconds together.
+// leastTime of a round, so long that each round has its share of collecting garbage.
+const leastTime = 20 * time.Millisecond
+
+// nanoseconds of one call, from calls that take at least leastTime together.
 func nanoseconds(f call, input []byte, write bool) float64 {
 	done := 0
 	var taken time.Duration
-	for step := 1; taken < 6*time.Millisecond; step *= 2 {
+	for step := 1; taken < leastTime; step *= 2 {
 		began := processorTime()
 		for i := 0; i < step; i++ {
 			if accepted, _ := f(input, write); !accepted {

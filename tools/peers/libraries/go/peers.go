@@ -1,4 +1,4 @@
-// peers.go check CORPUS OUT | speed PREFIX: Go's crypto/x509 for keys and PKCS #8, and its encoding/asn1 for parameters,
+// peers.go check CORPUS OUT | speed PREFIX: Go's crypto/x509 for keys and PKCS #8, and encoding/asn1 for parameters,
 // with the types below. crypto/x509 has such types of its own for PSS, but doesn't export them. Output as of harness/.
 package main
 
