@@ -1,0 +1,52 @@
+/* What the libraries and the parts of the harness share. */
+#ifndef PEERS_H
+#define PEERS_H
+#include <stddef.h>
+#include <stdint.h>
+
+#ifdef __cplusplus
+extern "C" {
+#endif
+
+enum { PUBLIC_KEY, PRIVATE_KEY, MULTI_PRIME_KEY, PSS, PSS_ALGORITHM, OAEP, OAEP_ALGORITHM, PKCS8, TYPES };
+enum answer { PANICKED = -1, REJECTED, ACCEPTED, NOT_WRITTEN };
+
+/* Reads one whole input. If it is accepted and `out` isn't null, writes the value again and sets `*len`. Answers as the
+ * enum above says. */
+typedef int call(const uint8_t *der, size_t der_len, uint8_t *out, size_t room, size_t *len);
+
+struct library {
+    const char *name;
+    call *calls[TYPES]; /* null: it doesn't have the type */
+    int writes[TYPES];  /* whether the call writes too */
+};
+extern const struct library *const libraries[];
+extern const size_t library_count;
+const struct library *library_named(const char *name);
+
+/* ---- inputs.c ---- */
+
+extern uint8_t out[1 << 20];
+/* A file of inputs has before each a head of 6 octets: type, damage and length. */
+enum { HEAD = 6 };
+uint8_t *read_file(const char *name, size_t *len);
+uint32_t length_at(const uint8_t *head);
+/* A copy that ends where a page that can't be read begins. */
+const uint8_t *before_the_end(const uint8_t *input, size_t len);
+/* The seconds of processor time that this process took. */
+double processor_seconds(void);
+
+/* ---- the commands of main.c, whose arguments are those after the command ---- */
+
+int check(int count, char **arguments);
+int change(int count, char **arguments);
+int speed(int count, char **arguments);
+int instructions(int count, char **arguments);
+int allocations(int count, char **arguments);
+
+void rust_quiet(void); /* Rust prints no panics */
+
+#ifdef __cplusplus
+}
+#endif
+#endif

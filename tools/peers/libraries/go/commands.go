@@ -1,0 +1,120 @@
+package main
+
+import (
+	"bytes"
+	"encoding/binary"
+	"fmt"
+	"os"
+	"runtime"
+	"syscall"
+	"time"
+	"unsafe"
+)
+
+// cases are what speed is taken on, with their types.
+var cases = []struct {
+	name string
+	kind int
+}{{"public2048", 0}, {"public4096", 0}, {"private2048", 1}, {"private4096", 1}, {"multiprime2048", 2}, {"pss", 3},
+	{"pss_algorithm", 4}, {"oaep", 5}}
+
+func readFile(name string) []byte {
+	octets, err := os.ReadFile(name)
+	if err != nil {
+		panic(err)
+	}
+	return octets
+}
+
+// tried calls, and tells of a panic.
+func tried(f call, input []byte, write bool) (accepted bool, out []byte, panicked interface{}) {
+	defer func() {
+		if panicked = recover(); panicked != nil {
+			accepted, out = false, nil
+		}
+	}()
+	accepted, out = f(input, write)
+	return
+}
+
+// digit tells of one input what check.c tells.
+func digit(f call, input []byte, panics *int) byte {
+	accepted, _, panicked := tried(f, input, false)
+	if panicked != nil {
+		*panics++
+	}
+	if !accepted {
+		return '0'
+	}
+	_, out, panicked := tried(f, input, true)
+	switch {
+	case panicked != nil || out == nil:
+		return '4'
+	case bytes.Equal(out, input):
+		return '2'
+	default:
+		return '3'
+	}
+}
+
+// processorTime is what this process took, in all threads.
+func processorTime() time.Duration {
+	const clockProcess = 2
+	var it syscall.Timespec
+	syscall.Syscall(syscall.SYS_CLOCK_GETTIME, clockProcess, uintptr(unsafe.Pointer(&it)), 0)
+	return time.Duration(it.Nano())
+}
+
+func check(corpus string, to string) {
+	var answers []byte
+	accepted, panics := 0, 0
+	for rest := readFile(corpus); len(rest) > 0; {
+		end := 6 + int(binary.LittleEndian.Uint32(rest[2:]))
+		answer := digit(calls[rest[0]], append([]byte(nil), rest[6:end]...), &panics)
+		if answer != '0' {
+			accepted++
+		}
+		answers = append(answers, answer)
+		rest = rest[end:]
+	}
+	if err := os.WriteFile(to, answers, 0644); err != nil {
+		panic(err)
+	}
+	fmt.Printf("%-16s %d inputs, %d accepted, %d panics, %.1f s (%s)\n", "Go", len(answers), accepted, panics,
+		processorTime().Seconds(), runtime.Version())
+}
+
+// leastTime of a round, so long that each round has its share of collecting garbage.
+const leastTime = 20 * time.Millisecond
+
+// nanoseconds of one call, from calls that take at least leastTime together.
+func nanoseconds(f call, input []byte, write bool) float64 {
+	done := 0
+	var taken time.Duration
+	for step := 1; taken < leastTime; step *= 2 {
+		began := processorTime()
+		for i := 0; i < step; i++ {
+			if accepted, _ := f(input, write); !accepted {
+				panic("a case is rejected")
+			}
+		}
+		taken += processorTime() - began
+		done += step
+	}
+	return float64(taken.Nanoseconds()) / float64(done)
+}
+
+func speed(prefix string) {
+	for _, it := range cases {
+		input := readFile(prefix + "." + it.name)
+		for written := 0; written < 2; written++ {
+			best := nanoseconds(calls[it.kind], input, written == 1)
+			for round := 1; round < 9; round++ {
+				if it := nanoseconds(calls[it.kind], input, written == 1); it < best {
+					best = it
+				}
+			}
+			fmt.Printf("Go|%s|%d|%.1f\n", it.name, written, best)
+		}
+	}
+}

@@ -1,0 +1,95 @@
+#!/usr/bin/env python3
+"""damages.py CORPUS ANSWERS..: what each library accepts of each group of damages, and what it then writes.
+
+In Markdown. With --all first, a line for each damage and kind of type. A file of answers is named answers.LIBRARY."""
+import collections
+import sys
+
+KINDS = ("keys", "keys", "keys", "parameters", "parameters", "parameters", "parameters", "PKCS #8")
+NOT_DER = {"False": "all that isn't DER: ", "True": "all that is DER: "}
+REJECTED, WRITTEN_ALIKE, NO_SUCH_TYPE = b"029"
+
+
+def records(path):
+    with open(path, "rb") as file:
+        data = file.read()
+    at = 0
+    while at < len(data):
+        yield data[at], data[at + 1]
+        at += 6 + int.from_bytes(data[at + 2 : at + 6], "little")
+
+
+class Counts:
+    """For one library, how many inputs there were under each heading, and of how many it was so."""
+
+    def __init__(self):
+        self.all, self.those = collections.Counter(), collections.Counter()
+
+    def add(self, heading, is_one):
+        self.all[heading] += 1
+        self.those[heading] += is_one
+
+    def per_cent(self, heading):
+        count, those = self.all[heading], self.those[heading]
+        if count == 0:
+            return "-"
+        share = 100 * those / count
+        if those in (0, count) or 1 <= share <= 99:
+            return f"{share:.0f}"
+        return f"{share:.1f}"
+
+    def per_cent_of(self, heading):
+        return f"{self.per_cent(heading)} ({self.all[heading]})" if self.all[heading] else "-"
+
+
+def print_table(first, libraries, lines):
+    print(f"| {first} | {' | '.join(libraries)} |\n|---|{'---|' * len(libraries)}")
+    for line in lines:
+        print("| " + " | ".join(line) + " |")
+    print()
+
+
+def count(inputs, names, answers):
+    """Of one library: what is accepted, by damage and kind and by group, and what is written alike."""
+    accepted, written = Counts(), Counts()
+    assert len(answers) == len(inputs)
+    for (kind, damage), answer in zip(inputs, answers):
+        if answer == NO_SUCH_TYPE:
+            continue
+        _, name, group, _, is_der = names[damage]
+        for heading in (group, (name, KINDS[kind]), NOT_DER[is_der] + KINDS[kind]):
+            accepted.add(heading, answer != REJECTED)
+        if chr(answer) in "234":
+            written.add(("valid" if damage == 0 else "damaged") + " " + KINDS[kind], answer == WRITTEN_ALIKE)
+    return accepted, written
+
+
+def main():
+    is_long = sys.argv[1] == "--all"
+    corpus, *files = sys.argv[2 if is_long else 1 :]
+    with open(corpus + ".names", encoding="utf-8") as file:
+        names = [line.rstrip("\n").split("\t") for line in file]
+    inputs = list(records(corpus))
+    counts = {}
+    for name in files:
+        with open(name, "rb") as file:
+            counts[name.rsplit("answers.", 1)[1].replace("_", " ")] = count(inputs, names, file.read())
+    kinds = dict.fromkeys(KINDS)
+    if is_long:
+        lines = {(name, kind): f"{kind}: {name} ({rule})" for _, name, _, rule, _ in names for kind in kinds}
+    else:
+        lines = {NOT_DER["False"] + kind: NOT_DER["False"] + kind for kind in kinds}
+        lines.update((group, group + (" *" if is_der == "True" else "")) for *_, group, _, is_der in names)
+        lines["valid"] = "valid"
+    lines = {heading: shown for heading, shown in lines.items() if any(it.all[heading] for it, _ in counts.values())}
+    print("Per cent accepted. *: DER of the type.\n")
+    print_table("damage", counts, ([shown, *(accepted.per_cent(heading) for accepted, _ in counts.values())]
+                                   for heading, shown in lines.items()))
+    print("Per cent written as the same octets, of those accepted and written (how many).\n")
+    writers = {name: written for name, (_, written) in counts.items() if written.all}
+    groups = [f"{what} {kind}" for what in ("valid", "damaged") for kind in kinds]
+    print_table("inputs", writers, ([group, *(it.per_cent_of(group) for it in writers.values())] for group in groups))
+
+
+if __name__ == "__main__":
+    main()
