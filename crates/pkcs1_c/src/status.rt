@@ -98,7 +98,8 @@ fn status_octets(status: u32) -> &'static [u8]
             b"the object identifier is malformed: empty, cut off, not in shortest form, or over 39 octets\0",
         7 =>
             b"the object identifier is another one: another algorithm, or PKCS #8 with no RSA key or an RSA-PSS key\0",
-        8 => b"a length passes the limit of 4294967295 octets, or stands in more than four octets\0",
+        8 =>
+            b"a length passes the limit of 4294967295 octets, or stands in more than four octets\0",
         9 => b"the length is not in shortest form: this is not DER\0",
         10 =>
             b"the algorithm parameters are missing: rsaEncryption needs NULL, RSASSA-PSS and RSAES-OAEP a SEQUENCE\0",
