@@ -21,6 +21,8 @@
  * It reads no salt length over 255. With SHA-256, OpenSSL 3.0 writes such a one by default for keys over 2313 bits.
  * What it writes with -sigopt rsa_pss_saltlen:digest is read.
  *
+ * The calls of pkcs1_c.h below these are proved. These, in ffi/c/pkcs1.c, are tested.
+ *
  * Only the encoding is checked. Nothing checks that the modulus is the product of the primes, or that a key is strong.
  *
  * DECODERS
@@ -50,7 +52,7 @@
  *   octets. The status is that of the first field, in their order, that can't be held, such as a number without octets.
  *   If each can, the encoding is too long, and it is PKCS1_OVERFLOW.
  * pkcs1_private_key_encode: if there aren't as many other primes as the key says, it is PKCS1_OTHER_PRIMES. If there
- *   are any, it may be PKCS1_OUT_OF_MEMORY in place of every other status.
+ *   are any, it may be PKCS1_OUT_OF_MEMORY in place of every status but that one.
  * pkcs1_private_key_info_encode: the key that it is given is read first. If that fails, the status is that of decoding.
  * Errors: after any of them `out` is unchanged.
  * Numbers: leading zeros are accepted. There must be at least one octet.

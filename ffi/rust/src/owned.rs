@@ -117,7 +117,8 @@ pub struct PrivateKeyBuf {
 
 impl PrivateKeyBuf {
     /// Decodes the key in an unencrypted PKCS #8 container, from all octets, and keeps those of the key. Doesn't
-    /// allocate.
+    /// allocate. Behind the key, within the capacity of [`into_der`](PrivateKeyBuf::into_der), stand octets of the
+    /// container and of the key: who wipes the key wipes them too.
     ///
     /// ```
     /// use pkcs1_proved::PrivateKeyBuf;
