@@ -1,12 +1,24 @@
 -- Strict reading of parameters.
-use Rattle.std.proofs.Common.{ℕ, List, ◌≡◌, Some, None, Option}
+use Rattle.std.proofs.Common.{ℕ, Bool, true, false, List, [], ◌∷◌, ◌≡◌, ◌+◌, refl, sym, Some, None, Option}
 use Rattle.der_core.specs.Document.{Means, IsShortest}
-use Rattle.spki_core.specs.StrictFields.{first_default}
+use Rattle.der_core.specs.Input.{header_at, length_at}
+use Rattle.spki_core.specs.StrictFields.{first_default, walked}
 use Rattle.spki_core.proofs.StrictWalk.{FoundIn, encoding_finds, none_found, found_longer}
 use Rattle.pkcs1_params.specs.Laws.FieldValues.{fields_of_bytes, in_order, marked}
 use Rattle.pkcs1_params.proofs.FieldValues.{ordered}
 use Rattle.pkcs1_params.specs.Laws.Parts.{parts_counted}
 use Rattle.pkcs1_params.specs.Parts.{FieldValue, Fielded, AreNumbered, defaults_with, fields_with, parts_of}
+
+-- Nothing is found in a SEQUENCE without contents.
+nothing_walked : (n : ℕ) (ds : List Bool) → walked n ds [] ≡ None
+unfolding header_at
+nothing_walked n [] = refl
+nothing_walked n (true ∷ ds) = nothing_walked (n + 1) ds
+nothing_walked n (false ∷ ds) = refl
+
+pub none_in_empty : (ds : List Bool) (b : List ℕ) → b ≡ 0x30 ∷ 0x00 ∷ [] → None ≡ first_default ds b
+unfolding header_at length_at
+none_in_empty ds b is = rw is (sym (nothing_walked 0 ds))
 
 -- What is found in an encoding of a value.
 module _ {V : Type 0} (values : V → List FieldValue) (numbered : (v : V) → AreNumbered 0 (values v)) (v : V)

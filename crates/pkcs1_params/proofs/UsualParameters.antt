@@ -1,34 +1,42 @@
--- Parameters that begin with the usual two fields: what reads parameters computes them.
-use Rattle.std.proofs.Common.{ℕ, List, [], ◌∷◌, ◌++◌, ◌≡◌, ◌<◌, refl, inl, inr, Ok, true, false, arith, length, take, drop}
-use Rattle.std.proofs.Common.{◌∙◌, ap, sym}
+-- Parameters that begin with the usual two fields: what reads parameters computes them, and finds no default in them.
+use Rattle.std.proofs.Common.{ℕ, List, [], ◌∷◌, ◌++◌, ◌≡◌, ◌≢◌, ◌<◌, ◌∙◌, refl, ap, sym, inl, inr, Ok, true, false}
+use Rattle.std.proofs.Common.{arith, length, take, drop, Option, None, eqb}
 use Rattle.std.specs.Int.Digits.{number_from_digits}
-use Rattle.std.specs.Prelude.{nat_lt, IfSome, Option, Some, None}
+use Rattle.std.specs.Prelude.{nat_lt}
 use Rattle.std.proofs.lemmas.Bool.Decides.{nat_tests}
+use Rattle.std.proofs.lemmas.List.{drop_all, take-append-drop, take_all}
 use Rattle.der_core.specs.Input.{header_at, length_at}
+use Rattle.der_core.specs.Document.{Means}
+use Rattle.der_core.specs.Laws.Readings.{ok_same}
 use Rattle.der_core.specs.Length.{limit}
 use Rattle.der_core.specs.Readings.{Reading, tagged, whole}
 use Rattle.der_core.specs.Tags.{sequence}
-use Rattle.std.proofs.lemmas.List.{drop_all, take-append-drop, take_all}
 use Rattle.spki_core.specs.AlgorithmIdentifier.{Algorithm}
-use Rattle.spki_core.specs.Any.{TagAndContents, null_value}
-use Rattle.pkcs1_params.specs.HashFunctions.{id_sha256, id_sha384, id_sha512}
-use Rattle.pkcs1_params.specs.ParameterReadings.{pss_read, oaep_read}
-use Rattle.pkcs1_params.specs.Parameters.{id_mgf1, with_parameters, empty_label, PssParameters, OaepParameters}
-use Rattle.pkcs1_params.specs.UsualParameters.{AreUsual, fields_with_hash}
-
-abbrev salt_field : ℕ → List ℕ
-salt_field s = 0xa2 ∷ 0x03 ∷ 0x02 ∷ 0x01 ∷ s ∷ []
-
-abbrev pss_with_hash : Algorithm TagAndContents → ℕ → PssParameters
-pss_with_hash hash s =
-    record { hash = hash; mask_gen = with_parameters id_mgf1 hash; salt_len = s; trailer_field = 1 }
-
-abbrev oaep_with_hash : Algorithm TagAndContents → OaepParameters
-oaep_with_hash hash = record { hash = hash; mask_gen = with_parameters id_mgf1 hash; p_source = empty_label }
+use Rattle.spki_core.specs.Any.{TagAndContents}
+use Rattle.spki_core.specs.Readings.{any_as}
+use Rattle.spki_core.specs.StrictFields.{first_default}
+use Rattle.pkcs1_params.specs.ParameterReadings.{pss_read, oaep_read, rsa_oaep_params, rsa_pss_params}
+use Rattle.pkcs1_params.specs.Parameters.{PssParameters, OaepParameters, RsaOaepParams, RsaPssParams}
+use Rattle.pkcs1_params.proofs.ParameterReadings.{rsa_oaep_params_reads, rsa_pss_params_reads}
+use Rattle.pkcs1_params.specs.Parts.{defaults_with, oaep_values, pss_values}
+use Rattle.pkcs1_params.specs.UsualParameters.{AreUsual, IsUsualOaep, IsUsualOaepEncoding, IsUsualPss}
+use Rattle.pkcs1_params.specs.UsualParameters.{IsUsualPssEncoding, oaep_with_hash, pss_with_hash, salt_field}
 
 pub joined : (n : ℕ) (c front back last : List ℕ) → front ≡ take n c → back ≡ drop n c → back ≡ last → c ≡ front ++ last
 joined n c front back last f b l =
     sym (take-append-drop n c) ∙ ap (λ x. x ++ drop n c) (sym f) ∙ ap (λ x. front ++ x) (sym b ∙ l)
+
+-- A SEQUENCE of fewer than 128 octets alone in a slice is read as its contents are.
+whole_sequence : {V : Type 0} (read : Reading V) (v : V) (n : ℕ) (c b : List ℕ) → n < 128 → length c ≡ n
+    → b ≡ 0x30 ∷ n ∷ c → read c ≡ Ok v → whole (tagged sequence read) b ≡ Ok v
+unfolding header_at length_at
+whole_sequence read v n c b few count is value =
+    let test : nat_lt n 128 ≡ true = grind (arith, nat_tests) in
+    let within : nat_lt limit (length (0x30 ∷ n ∷ c)) ≡ false = grind (arith, nat_tests) in
+    let there : nat_lt (length c) n ≡ false = grind (arith, nat_tests) in
+    let all : take n c ≡ c = take_all n c (omega (arith, count)) in
+    let none : drop n c ≡ [] = drop_all n c (omega (arith, count)) in
+    rw (is, within, test, there, all, none, value) refl
 
 -- A salt length of one octet is read as that octet.
 module _ (s : ℕ) (small : s < 128) where
@@ -41,34 +49,87 @@ module _ (s : ℕ) (small : s < 128) where
   is_byte : nat_lt (number_from_digits 256 (s ∷ [])) 256 ≡ true
   is_byte = let byte : nat_lt s 256 ≡ true = grind (arith, nat_tests) in rw number byte
 
-  pub pss_usual : (hash : Algorithm TagAndContents) (fields contents : List ℕ) → AreUsual hash fields
-      → contents ≡ fields ++ salt_field s → pss_read contents ≡ Ok (pss_with_hash hash s)
+  pss_read_usual : (hash : Algorithm TagAndContents) (fields : List ℕ) → AreUsual hash fields
+      → pss_read (fields ++ salt_field s) ≡ Ok (pss_with_hash hash s)
   unfolding header_at length_at
-  pss_usual hash fields contents (oid, inl n, h, f) c = rw (c, h, f, n, is_small, is_byte, number) refl
-  pss_usual hash fields contents (oid, inr (inl n), h, f) c = rw (c, h, f, n, is_small, is_byte, number) refl
-  pss_usual hash fields contents (oid, inr (inr n), h, f) c = rw (c, h, f, n, is_small, is_byte, number) refl
+  pss_read_usual hash fields (oid, inl n, h, f) = rw (h, f, n, is_small, is_byte, number) refl
+  pss_read_usual hash fields (oid, inr (inl n), h, f) = rw (h, f, n, is_small, is_byte, number) refl
+  pss_read_usual hash fields (oid, inr (inr n), h, f) = rw (h, f, n, is_small, is_byte, number) refl
 
-pub oaep_usual : (hash : Algorithm TagAndContents) (fields : List ℕ) → AreUsual hash fields
+oaep_read_usual : (hash : Algorithm TagAndContents) (fields : List ℕ) → AreUsual hash fields
     → oaep_read fields ≡ Ok (oaep_with_hash hash)
 unfolding header_at length_at
-oaep_usual hash fields (oid, inl n, h, f) = rw (h, f, n) refl
-oaep_usual hash fields (oid, inr (inl n), h, f) = rw (h, f, n) refl
-oaep_usual hash fields (oid, inr (inr n), h, f) = rw (h, f, n) refl
+oaep_read_usual hash fields (oid, inl n, h, f) = rw (h, f, n) refl
+oaep_read_usual hash fields (oid, inr (inl n), h, f) = rw (h, f, n) refl
+oaep_read_usual hash fields (oid, inr (inr n), h, f) = rw (h, f, n) refl
 
--- A SEQUENCE of fewer than 128 octets alone in a slice is read as its contents are.
-pub whole_sequence : {V : Type 0} (read : Reading V) (v : V) (n : ℕ) (c b : List ℕ) → n < 128 → length c ≡ n
-    → b ≡ 0x30 ∷ n ∷ c → read c ≡ Ok v → whole (tagged sequence read) b ≡ Ok v
+pss_count : (p : PssParameters) (c : List ℕ) → IsUsualPss p c → length c ≡ 52
+pss_count p c (fields, (oid, inl n, h, f), small, is, at) = rw (at, f, n) refl
+pss_count p c (fields, (oid, inr (inl n), h, f), small, is, at) = rw (at, f, n) refl
+pss_count p c (fields, (oid, inr (inr n), h, f), small, is, at) = rw (at, f, n) refl
+
+oaep_count : (p : OaepParameters) (c : List ℕ) → IsUsualOaep p c → length c ≡ 47
+oaep_count p c ((oid, inl n, h, f), is) = rw (f, n) refl
+oaep_count p c ((oid, inr (inl n), h, f), is) = rw (f, n) refl
+oaep_count p c ((oid, inr (inr n), h, f), is) = rw (f, n) refl
+
+pub pss_usual : (p : PssParameters) (c : List ℕ) → IsUsualPss p c → pss_read c ≡ Ok p
+pss_usual p c (fields, usual, small, is, at) =
+    ap pss_read at ∙ pss_read_usual p.salt_len small p.hash fields usual ∙ ap (λ x. Ok x) (sym is)
+
+pub oaep_usual : (p : OaepParameters) (c : List ℕ) → IsUsualOaep p c → oaep_read c ≡ Ok p
+oaep_usual p c (usual, is) = oaep_read_usual p.hash c usual ∙ ap (λ x. Ok x) (sym is)
+
+pub pss_usual_encoding : (p : PssParameters) (b : List ℕ) → IsUsualPssEncoding p b → rsa_pss_params b ≡ Ok p
+pss_usual_encoding p b (c, is, usual) =
+    whole_sequence pss_read p 52 c b (omega arith) (pss_count p c usual) is (pss_usual p c usual)
+
+pub oaep_usual_encoding : (p : OaepParameters) (b : List ℕ) → IsUsualOaepEncoding p b → rsa_oaep_params b ≡ Ok p
+oaep_usual_encoding p b (c, is, usual) =
+    whole_sequence oaep_read p 47 c b (omega arith) (oaep_count p c usual) is (oaep_usual p c usual)
+
+-- A tag with contents that are read.
+pub any_read : {V : Type 0} (read : Reading V) (any : TagAndContents) (v : V) → any.tag ≡ 48 → read any.contents ≡ Ok v
+    → any_as sequence read any ≡ Ok v
+any_read read any v tag is = rw (tag, is) refl
+
+-- No default is written in them, unless it is the salt length.
+module _ (s : ℕ) (other : s ≢ 20) where
+  isnt_default : eqb s 20 ≡ false
+  isnt_default = grind (arith, nat_tests)
+
+  pss_walk : (hash : Algorithm TagAndContents) (fields : List ℕ) → AreUsual hash fields
+      → first_default (defaults_with pss_values (pss_with_hash hash s)) (0x30 ∷ 52 ∷ fields ++ salt_field s) ≡ None
+  unfolding header_at length_at
+  pss_walk hash fields (oid, inl n, h, f) = rw (h, f, n, isnt_default) refl
+  pss_walk hash fields (oid, inr (inl n), h, f) = rw (h, f, n, isnt_default) refl
+  pss_walk hash fields (oid, inr (inr n), h, f) = rw (h, f, n, isnt_default) refl
+
+oaep_walk : (hash : Algorithm TagAndContents) (fields : List ℕ) → AreUsual hash fields
+    → first_default (defaults_with oaep_values (oaep_with_hash hash)) (0x30 ∷ 47 ∷ fields) ≡ None
 unfolding header_at length_at
-whole_sequence read v n c b few count is value =
-    let test : nat_lt n 128 ≡ true = grind (arith, nat_tests) in
-    let within : nat_lt limit (length (0x30 ∷ n ∷ c)) ≡ false = grind (arith, nat_tests) in
-    let there : nat_lt (length c) n ≡ false = grind (arith, nat_tests) in
-    let all : take n c ≡ c = take_all n c (omega (arith, count)) in
-    let none : drop n c ≡ [] = drop_all n c (omega (arith, count)) in
-    rw (is, within, test, there, all, none, value) refl
+oaep_walk hash fields (oid, inl n, h, f) = rw (h, f, n) refl
+oaep_walk hash fields (oid, inr (inl n), h, f) = rw (h, f, n) refl
+oaep_walk hash fields (oid, inr (inr n), h, f) = rw (h, f, n) refl
 
-pub whole_usual : {X V : Type 0} (view : X → V) (read : Reading V) (n : ℕ) (c b : List ℕ) → n < 128 → b ≡ 0x30 ∷ n ∷ c
-    → (r : Option X) → IfSome r (λ x. read c ≡ Ok (view x)) → IfSome r (λ _. length c ≡ n)
-    → IfSome r (λ x. whole (tagged sequence read) b ≡ Ok (view x))
-whole_usual view read n c b few is None value count = tt
-whole_usual view read n c b few is (Some x) value count = whole_sequence read (view x) n c b few count is value
+-- So none is found in what means a value that was read of them.
+pub pss_writes_none : (p q : PssParameters) (b : List ℕ) → Means RsaPssParams b p → IsUsualPssEncoding q b
+    → p.salt_len ≢ 20 → None ≡ first_default (defaults_with pss_values p) b
+pss_writes_none p q b means (c, is, (fields, usual, small, known, at)) other =
+    let same : q ≡ p = ok_same (sym (pss_usual_encoding q b (c, is, (fields, usual, small, known, at)))
+    ∙ rsa_pss_params_reads.takes b p means.0 means) in
+    let of = sym same ∙ known in
+    sym (ap (λ v. first_default (defaults_with pss_values v) b) of
+    ∙ ap (first_default (defaults_with pss_values (pss_with_hash q.hash q.salt_len))) is
+    ∙ ap (λ x. first_default (defaults_with pss_values (pss_with_hash q.hash q.salt_len)) (0x30 ∷ 52 ∷ x)) at
+    ∙ pss_walk q.salt_len (λ default. other (ap (λ (v : PssParameters). v.salt_len) (sym same) ∙ default)) q.hash fields
+    usual)
+
+pub oaep_writes_none : (p q : OaepParameters) (b : List ℕ) → Means RsaOaepParams b p → IsUsualOaepEncoding q b
+    → None ≡ first_default (defaults_with oaep_values p) b
+oaep_writes_none p q b means (c, is, (usual, known)) =
+    let same : q ≡ p = ok_same (sym (oaep_usual_encoding q b (c, is, (usual, known)))
+    ∙ rsa_oaep_params_reads.takes b p means.0 means) in
+    sym (ap (λ v. first_default (defaults_with oaep_values v) b) (sym same ∙ known)
+    ∙ ap (first_default (defaults_with oaep_values (oaep_with_hash q.hash))) is
+    ∙ oaep_walk q.hash c usual)

@@ -1,10 +1,10 @@
 -- hashAlgorithm and maskGenAlgorithm of SHA-256, SHA-384 or SHA-512, with NULL, and MGF1 with the same hash function
 -- (RFC 8017 A.2.1, A.2.3, B.1): most parameters begin with them.
-use Rattle.std.specs.Prelude.{ℕ, List, [], ◌∷◌, ◌++◌, ◌≡◌, ◌⊎◌}
+use Rattle.std.specs.Prelude.{ℕ, List, [], ◌∷◌, ◌++◌, ◌≡◌, ◌<◌, ◌⊎◌}
 use Rattle.spki_core.specs.AlgorithmIdentifier.{Algorithm}
 use Rattle.spki_core.specs.Any.{TagAndContents, null_value}
 use Rattle.pkcs1_params.specs.HashFunctions.{id_sha256, id_sha384, id_sha512}
-use Rattle.pkcs1_params.specs.Parameters.{id_mgf1, with_parameters}
+use Rattle.pkcs1_params.specs.Parameters.{empty_label, id_mgf1, with_parameters, OaepParameters, PssParameters}
 
 -- The encoding of a hash function whose identifier has nine octets, with NULL.
 abbrev pub hash_with_null : List ℕ → List ℕ
@@ -20,3 +20,31 @@ abbrev pub AreUsual : Algorithm TagAndContents → List ℕ → Type 0
 AreUsual hash fields =
     (oid : List ℕ) × ((oid ≡ id_sha256) ⊎ ((oid ≡ id_sha384) ⊎ (oid ≡ id_sha512)))
     × (hash ≡ with_parameters oid null_value) × (fields ≡ fields_with_hash oid)
+
+-- The parameters with this hash function, and no field behind a salt length.
+abbrev pub pss_with_hash : Algorithm TagAndContents → ℕ → PssParameters
+pss_with_hash hash s =
+    record { hash = hash; mask_gen = with_parameters id_mgf1 hash; salt_len = s; trailer_field = 1 }
+
+abbrev pub oaep_with_hash : Algorithm TagAndContents → OaepParameters
+oaep_with_hash hash = record { hash = hash; mask_gen = with_parameters id_mgf1 hash; p_source = empty_label }
+
+-- The octets of a salt length below 128 in its field.
+abbrev pub salt_field : ℕ → List ℕ
+salt_field s = 0xa2 ∷ 0x03 ∷ 0x02 ∷ 0x01 ∷ s ∷ []
+
+-- Contents octets that are both fields, and for PSS a salt length.
+abbrev pub IsUsualPss : PssParameters → List ℕ → Type 0
+IsUsualPss p contents =
+    (fields : List ℕ) × AreUsual p.hash fields × (p.salt_len < 128) × (p ≡ pss_with_hash p.hash p.salt_len)
+    × (contents ≡ fields ++ salt_field p.salt_len)
+
+abbrev pub IsUsualOaep : OaepParameters → List ℕ → Type 0
+IsUsualOaep p contents = AreUsual p.hash contents × (p ≡ oaep_with_hash p.hash)
+
+-- The same as whole encodings.
+abbrev pub IsUsualPssEncoding : PssParameters → List ℕ → Type 0
+IsUsualPssEncoding p bytes = (contents : List ℕ) × (bytes ≡ 0x30 ∷ 52 ∷ contents) × IsUsualPss p contents
+
+abbrev pub IsUsualOaepEncoding : OaepParameters → List ℕ → Type 0
+IsUsualOaepEncoding p bytes = (contents : List ℕ) × (bytes ≡ 0x30 ∷ 47 ∷ contents) × IsUsualOaep p contents

@@ -13,7 +13,7 @@ use crate::from_view::ReadParams;
 use crate::oaep::{OaepParamsOf, RsaOaepParamsView};
 use crate::spelling::EncodeParams;
 use crate::strict;
-use crate::usual::usual_oaep;
+use crate::usual::{usual_oaep, usual_oaep_encoding};
 use der_core::{Borrowed, ErrorKind, Tag};
 use spki_core::{
     AlgorithmView, AnyRef, AnyValue, AssociatedOid, IdentifierValue, IdentifierView,
@@ -68,6 +68,9 @@ impl<'a, O: ReadParams<'a>> AlgorithmParams<'a> for OaepParamsOf<O, AnyRef<'a>> 
     }
 
     fn reject_defaults(&self, encoding: &[u8]) -> Result<()> {
+        if let Some(_usual) = usual_oaep_encoding(encoding) {
+            return Ok(()); // the hash functions aren't defaults, and the source is left out
+        }
         strict::reject_defaults(self, encoding)
     }
 }

@@ -8,6 +8,7 @@ ghost use Rattle.pkcs1_params.specs.Words.{oaep_in};
 ghost use Rattle.spki_core.specs.Words.{any_of};
 ghost use Rattle.pkcs1_params.specs.Parameters as grammar;
 
+use crate::algorithm::AlgorithmParams;
 use crate::defaults::is_empty_sequence;
 use crate::error::{Error, Result};
 use crate::from_view::ReadParams;
@@ -15,7 +16,6 @@ use crate::hash_fields::{mgf1_with, with_null};
 use crate::hash_functions::Sha1;
 use crate::oaep::{OaepParamsOf, RsaOaepParams, RsaOaepParamsRef, RsaOaepParamsView};
 use crate::p_source::empty_source;
-use crate::strict::reject_defaults;
 use crate::usual::usual_oaep_encoding;
 use der_core::{Decode, DecodeValue, Header, Memory, NoMemory, Reader, TagNumber};
 use spki_core::{AnyRef, IdentifierValue, ObjectIdentifier, read_field};
@@ -43,7 +43,7 @@ impl<'a, O: ReadParams<'a>> OaepParamsOf<O, AnyRef<'a>> {
         ensures exact { ErrsAs (oaep_in O.octets any_of) (strict_oaep_params bytes.now) result }
     {
         let view = RsaOaepParamsView::try_from(bytes)?;
-        reject_defaults(&view, bytes)?;
+        view.reject_defaults(bytes)?;
         Ok(O::oaep_from_view(view))
     }
 }

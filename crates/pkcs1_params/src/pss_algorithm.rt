@@ -10,10 +10,10 @@ ghost use Rattle.pkcs1_params.specs.Words.{with_parameters, pss_values, pss_in};
 use crate::algorithm::{AlgorithmParams, FromAlgorithm, decode_borrowed, encode_identifier};
 use crate::error::{Error, Result};
 use crate::from_view::ReadParams;
-use crate::pss::{PssParamsOf, RsaPssParamsView};
+use crate::pss::{PssParamsOf, RsaPssParamsRef, RsaPssParamsView};
 use crate::spelling::EncodeParams;
 use crate::strict;
-use crate::usual::usual_pss;
+use crate::usual::{usual_pss, usual_pss_encoding};
 use der_core::{Borrowed, ErrorKind, Tag};
 use spki_core::{
     AlgorithmView, AnyRef, AnyValue, AssociatedOid, IdentifierValue, IdentifierView,
@@ -68,6 +68,11 @@ impl<'a, O: ReadParams<'a>> AlgorithmParams<'a> for PssParamsOf<O, AnyRef<'a>> {
     }
 
     fn reject_defaults(&self, encoding: &[u8]) -> Result<()> {
+        if self.salt_len != RsaPssParamsRef::SALT_LEN_DEFAULT {
+            if let Some(_usual) = usual_pss_encoding(encoding) {
+                return Ok(()); // the hash functions aren't defaults, and the trailer field is left out
+            }
+        }
         strict::reject_defaults(self, encoding)
     }
 }

@@ -6,13 +6,13 @@ ghost use Rattle.pkcs1_params.specs.Words.{pss_in, pss_of, pss_viewed};
 ghost use Rattle.spki_core.specs.Words.{any_of};
 ghost use Rattle.pkcs1_params.specs.Parameters as grammar;
 
+use crate::algorithm::AlgorithmParams;
 use crate::defaults::is_empty_sequence;
 use crate::error::{Error, Result};
 use crate::from_view::ReadParams;
 use crate::hash_fields::{mgf1_with, with_null};
 use crate::hash_functions::Sha1;
 use crate::pss::{PssParamsOf, RsaPssParams, RsaPssParamsRef, RsaPssParamsView};
-use crate::strict::reject_defaults;
 use crate::trailer_field::TrailerField;
 use crate::usual::usual_pss_encoding;
 use der_core::{Decode, DecodeValue, Header, Memory, NoMemory, Reader, TagNumber};
@@ -41,7 +41,7 @@ impl<'a, O: ReadParams<'a>> PssParamsOf<O, AnyRef<'a>> {
         ensures exact { ErrsAs (pss_in O.octets any_of) (strict_pss_params bytes.now) result }
     {
         let view = RsaPssParamsView::try_from(bytes)?;
-        reject_defaults(&view, bytes)?;
+        view.reject_defaults(bytes)?;
         Ok(O::pss_from_view(view))
     }
 }

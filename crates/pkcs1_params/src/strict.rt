@@ -4,6 +4,7 @@ ghost use Rattle.der_core.specs.Words.{Means, IsShortest};
 ghost use Rattle.spki_core.specs.Words.{first_default, noncanonical, number_in, unless_found};
 ghost use Rattle.pkcs1_params.specs.Words.{defaults_with, Fielded, IsAsn1, ErrsAs};
 
+use crate::defaults::is_empty_sequence;
 use crate::error::{Error, Result};
 use crate::spelling::EncodeParams;
 use der_core::{ErrorKind, Tag, TagNumber};
@@ -25,6 +26,9 @@ pub(crate) fn reject_defaults<T: EncodeParams>(params: T, bytes: &[u8]) -> Resul
     ensures exact { let v = T.params params in
         ErrsAs (λ _. v) (unless_found (first_default (defaults_with T.values v) bytes.now) v) result }
 {
+    if is_empty_sequence(bytes) {
+        return Ok(());
+    }
     match params.written_default(bytes) {
         Some(number) => Err(is_written(number)),
         None => Ok(()),

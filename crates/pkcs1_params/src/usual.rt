@@ -1,10 +1,10 @@
 //! Parameters that begin with SHA-256, SHA-384 or SHA-512, with NULL, and MGF1 with the same hash function. Most do, so
 //! their octets are compared before they are read field by field.
-ghost use Rattle.std.specs.Prelude.{◌≡◌, ◌<◌, ◌∷◌, [], Ok, IfSome, length};
+ghost use Rattle.std.specs.Prelude.{◌≡◌, ◌<◌, ◌∷◌, [], IfSome};
 ghost use Rattle.der_core.specs.Words.{sequence_tag};
 ghost use Rattle.spki_core.specs.Words.{any_of, viewed_with};
-ghost use Rattle.pkcs1_params.specs.Words.{AreUsual, oaep_read, oaep_viewed, pss_read, pss_viewed};
-ghost use Rattle.pkcs1_params.specs.Words.{rsa_oaep_params, rsa_pss_params};
+ghost use Rattle.pkcs1_params.specs.Words.{AreUsual, IsUsualOaep, IsUsualOaepEncoding, IsUsualPss, IsUsualPssEncoding};
+ghost use Rattle.pkcs1_params.specs.Words.{oaep_viewed, pss_viewed};
 
 use crate::hash_fields::with_null;
 use crate::hash_functions::{Mgf1, Sha256, Sha384, Sha512};
@@ -62,8 +62,7 @@ fn usual_salt(field: &[u8]) -> Option<u8>
 /// The parameters with these contents octets, if they are the two fields and a salt length below 128.
 #[inline(always)]
 pub(crate) fn usual_pss<'a>(contents: &[u8]) -> Option<RsaPssParamsView<'a>>
-    ensures read { IfSome result (λ v. pss_read contents.now ≡ Ok (pss_viewed v)) }
-    ensures count { IfSome result (λ _. length contents.now ≡ 52) }
+    ensures { IfSome result (λ v. IsUsualPss (pss_viewed v) contents.now) }
 {
     if contents.len() != 52 {
         return None;
@@ -85,8 +84,7 @@ pub(crate) fn usual_pss<'a>(contents: &[u8]) -> Option<RsaPssParamsView<'a>>
 /// The parameters with these contents octets, if they are the two fields.
 #[inline(always)]
 pub(crate) fn usual_oaep<'a>(contents: &[u8]) -> Option<RsaOaepParamsView<'a>>
-    ensures read { IfSome result (λ v. oaep_read contents.now ≡ Ok (oaep_viewed v)) }
-    ensures count { IfSome result (λ _. length contents.now ≡ 47) }
+    ensures { IfSome result (λ v. IsUsualOaep (oaep_viewed v) contents.now) }
 {
     let hash = usual_hash(contents)?;
     Some(RsaOaepParamsView {
@@ -115,7 +113,7 @@ fn behind_header(bytes: &[u8], length: u8) -> Option<&[u8]>
 /// The parameters with this encoding, as of `usual_pss`.
 #[inline(always)]
 pub(crate) fn usual_pss_encoding<'a>(bytes: &[u8]) -> Option<RsaPssParamsView<'a>>
-    ensures { IfSome result (λ v. rsa_pss_params bytes.now ≡ Ok (pss_viewed v)) }
+    ensures { IfSome result (λ v. IsUsualPssEncoding (pss_viewed v) bytes.now) }
 {
     usual_pss(behind_header(bytes, 52)?)
 }
@@ -123,7 +121,7 @@ pub(crate) fn usual_pss_encoding<'a>(bytes: &[u8]) -> Option<RsaPssParamsView<'a
 /// The parameters with this encoding, as of `usual_oaep`.
 #[inline(always)]
 pub(crate) fn usual_oaep_encoding<'a>(bytes: &[u8]) -> Option<RsaOaepParamsView<'a>>
-    ensures { IfSome result (λ v. rsa_oaep_params bytes.now ≡ Ok (oaep_viewed v)) }
+    ensures { IfSome result (λ v. IsUsualOaepEncoding (oaep_viewed v) bytes.now) }
 {
     usual_oaep(behind_header(bytes, 47)?)
 }

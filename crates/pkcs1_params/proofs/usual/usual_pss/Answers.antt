@@ -1,8 +1,9 @@
-use Rattle.pkcs1_params.proofs.UsualParameters.{joined, pss_usual}
+use Rattle.std.proofs.Common.{refl}
+use Rattle.pkcs1_params.proofs.UsualParameters.{joined}
 use Rattle.pkcs1_params.proofs.usual.usual_pss.Goals as goal
 
-pub returns-clause-read : goal.returns-clause-read
-returns-clause-read c =
+pub returns : goal.returns
+returns c =
     let salt = c.in_ok-salt_len.ensures in
     let whole = joined 47 _ _ _ _ c.split_at.ensures.front c.split_at.ensures.back salt.1 in
-    rw c.named.ensures (pss_usual _ salt.0 _ _ _ c.in_ok-hash.ensures whole)
+    (_, c.in_ok-hash.ensures, salt.0, rw c.named.ensures refl, whole)

@@ -4,6 +4,7 @@ use Rattle.pkcs1_params.proofs.FaultsTold.{the_meaning}
 use Rattle.pkcs1_params.specs.Laws.Parameters.{oaep_delimited}
 use Rattle.pkcs1_params.proofs.ParameterReadings.{rsa_oaep_params_reads}
 use Rattle.pkcs1_params.proofs.ParameterRows.{oaep_by_default}
+use Rattle.pkcs1_params.proofs.UsualParameters.{oaep_usual_encoding}
 use Rattle.pkcs1_params.proofs.oaep_reading.OaepParamsOfAnyRefTryFromRefSliceU8.try_from.Goals as goal
 
 pub returns-then-is_empty_sequence-clause-ok : goal.returns-then-is_empty_sequence-clause-ok
@@ -23,4 +24,8 @@ returns-clause-ok g c = rw c.oaep_from_view-2.ensures (the_meaning oaep_delimite
 pub returns-in-Some-clause-ok : goal.returns-in-Some-clause-ok
 returns-in-Some-clause-ok g c =
     let bytes = are_bytes _ (λ i. omega (arith, c.type_inv.bytes i)) in
-    rw c.oaep_from_view.ensures (the_meaning oaep_delimited _ _ (rsa_oaep_params_reads.gives _ _ bytes c.in-Some.ensures))
+    let read = oaep_usual_encoding _ _ c.in-Some.ensures in
+    rw c.oaep_from_view.ensures (the_meaning oaep_delimited _ _ (rsa_oaep_params_reads.gives _ _ bytes read))
+
+pub returns-in-Some-clause-exact : goal.returns-in-Some-clause-exact
+returns-in-Some-clause-exact g c = rw c.oaep_from_view.ensures (oaep_usual_encoding _ _ c.in-Some.ensures)
