@@ -7146,11 +7146,17 @@ static void f_pkcs1_params_strict_reject_defaults_297cddf97b264c(P v_a0, P v_a1,
     ALIGNED(1) unsigned char m_v_r3_i[3];
     u8 p_v_r4_0_i_i;
     u8 p_v_r4_0_i3_i;
-    u8 p_v_r8_sroa_0_0_i_i11;
-    u8 p_v_r5_sroa_6_0;
-    u8 p_v_r5_sroa_8_0;
+    u8 p_v_r8_sroa_0_0_i_i25;
+    u8 p_v_r6_sroa_6_0;
+    u8 p_v_r6_sroa_8_0;
     P v_r6_i_i;
     P v_r3_i;
+    u1 v_r13_i;
+    u8 v_r20_i;
+    u1 v_r22_i;
+    P v_r30_i;
+    u8 v_r32_i;
+    u1 v_r34_i;
     P v_r14_i_i;
     u8 v_r16_i_i;
     u1 v_0;
@@ -7229,8 +7235,8 @@ static void f_pkcs1_params_strict_reject_defaults_297cddf97b264c(P v_a0, P v_a1,
     u1 v_r7_i_i25_i;
     u8 v_5;
     u8 v_r4_0_i3_i;
-    P v_r30_i;
-    P v_r32_i;
+    P v_r30_i15;
+    P v_r32_i16;
     u8 v_r14_i26_i;
     u1 v_6;
     P v_r5_sroa_2_0_r15_sroa_idx_i_i;
@@ -7242,15 +7248,32 @@ static void f_pkcs1_params_strict_reject_defaults_297cddf97b264c(P v_a0, P v_a1,
     u1 v_7;
     u8 v_r29_i_i;
     u8 v_r4_i_i;
-    u8 v_r8_sroa_0_0_i_i11;
-    u8 v_r5_sroa_6_0;
-    u8 v_r5_sroa_8_0;
-    P v_r33;
-    P v_r35;
-    P v_r37;
-    P v_r39;
+    u8 v_r8_sroa_0_0_i_i25;
+    u8 v_r6_sroa_6_0;
+    u8 v_r6_sroa_8_0;
+    P v_r50;
+    P v_r52;
+    P v_r54;
+    P v_r56;
     v_r6_i_i = m_v_r6_i_i;
     v_r3_i = m_v_r3_i;
+    v_r13_i = v_a3 == 2u;
+    if (v_r13_i) { goto L_join_3_i; } else { goto L_join_3; }
+L_join_3_i:;
+    v_r20_i = get_u8(v_a2);
+    v_r22_i = v_r20_i == 48u;
+    if (v_r22_i) { goto L_pkcs1_params_defaults_is_empty_sequence_exit; } else { goto L_join_3; }
+L_pkcs1_params_defaults_is_empty_sequence_exit:;
+    v_r30_i = v_a2 + 1;
+    v_r32_i = get_u8(v_r30_i);
+    v_r34_i = v_r32_i == 0u;
+    if (v_r34_i) { goto L_then_1; } else { goto L_join_3; }
+L_common_ret:;
+    return;
+L_then_1:;
+    fill(v_a0, 0u, 5u);
+    { goto L_common_ret; }
+L_join_3:;
     v_r14_i_i = v_a1 + 16;
     v_r16_i_i = get_u8(v_r14_i_i);
     v_0 = v_r16_i_i == 1u;
@@ -7374,17 +7397,17 @@ L_then_1_i_i22_i:;
 L_pkcs1_params_holders_AlgorithmIdentifierOfPlainHol__2:;
     v_r4_0_i3_i = p_v_r4_0_i3_i;
     put_u8(v_r3_i, v_r4_0_i_i);
-    v_r30_i = v_r3_i + 1;
-    put_u8(v_r30_i, v_r18_i);
-    v_r32_i = v_r3_i + 2;
-    put_u8(v_r32_i, v_r4_0_i3_i);
+    v_r30_i15 = v_r3_i + 1;
+    put_u8(v_r30_i15, v_r18_i);
+    v_r32_i16 = v_r3_i + 2;
+    put_u8(v_r32_i16, v_r4_0_i3_i);
     fill(v_r6_i_i, 0u, 32u);
     f_spki_core_any_AnyRefDecodeRefSliceU8_from_der_45c7(v_r6_i_i, v_a2, v_a3);
     v_r14_i26_i = get_u8(v_r6_i_i);
     v_6 = v_r14_i26_i == 0u;
     if (v_6) { goto L_pkcs1_params_oaep_spelling_RefOaepParamsOfEncodePa; } else { goto L_pkcs1_params_oaep_spelling_RefOaepParamsOfEncodePa__2; }
 L_pkcs1_params_oaep_spelling_RefOaepParamsOfEncodePa__2:;
-    { p_v_r8_sroa_0_0_i_i11 = 0u; p_v_r5_sroa_6_0 = 0u; p_v_r5_sroa_8_0 = 0u; goto L_join_4; }
+    { p_v_r8_sroa_0_0_i_i25 = 0u; p_v_r6_sroa_6_0 = 0u; p_v_r6_sroa_8_0 = 0u; goto L_join_7; }
 L_pkcs1_params_oaep_spelling_RefOaepParamsOfEncodePa:;
     v_r5_sroa_2_0_r15_sroa_idx_i_i = v_r6_i_i + 16;
     v_r5_sroa_2_0_copyload_i_i = get_P(v_r5_sroa_2_0_r15_sroa_idx_i_i);
@@ -7393,25 +7416,25 @@ L_pkcs1_params_oaep_spelling_RefOaepParamsOfEncodePa:;
     v_r27_i_i = f_spki_core_strict_first_written(v_r5_sroa_2_0_copyload_i_i, v_r5_sroa_3_0_copyload_i_i, 0u, v_r3_i, 3u);
     v_r28_i_i = v_r27_i_i.f0;
     v_7 = v_r28_i_i == 1u;
-    if (v_7) { goto L_arm_1; } else { p_v_r8_sroa_0_0_i_i11 = v_r28_i_i; p_v_r5_sroa_6_0 = 0u; p_v_r5_sroa_8_0 = 0u; goto L_join_4; }
-L_arm_1:;
+    if (v_7) { goto L_arm_4; } else { p_v_r8_sroa_0_0_i_i25 = v_r28_i_i; p_v_r6_sroa_6_0 = 0u; p_v_r6_sroa_8_0 = 0u; goto L_join_7; }
+L_arm_4:;
     v_r29_i_i = v_r27_i_i.f1;
     v_r4_i_i = (u8)((u32)(v_r29_i_i) + (u32)(160u));
-    { p_v_r8_sroa_0_0_i_i11 = 1u; p_v_r5_sroa_6_0 = 4u; p_v_r5_sroa_8_0 = v_r4_i_i; goto L_join_4; }
-L_join_4:;
-    v_r8_sroa_0_0_i_i11 = p_v_r8_sroa_0_0_i_i11;
-    v_r5_sroa_6_0 = p_v_r5_sroa_6_0;
-    v_r5_sroa_8_0 = p_v_r5_sroa_8_0;
-    put_u8(v_a0, v_r8_sroa_0_0_i_i11);
-    v_r33 = v_a0 + 1;
-    put_u8(v_r33, 0u);
-    v_r35 = v_a0 + 2;
-    put_u8(v_r35, v_r5_sroa_6_0);
-    v_r37 = v_a0 + 3;
-    put_u8(v_r37, v_r5_sroa_8_0);
-    v_r39 = v_a0 + 4;
-    put_u8(v_r39, 0u);
-    return;
+    { p_v_r8_sroa_0_0_i_i25 = 1u; p_v_r6_sroa_6_0 = 4u; p_v_r6_sroa_8_0 = v_r4_i_i; goto L_join_7; }
+L_join_7:;
+    v_r8_sroa_0_0_i_i25 = p_v_r8_sroa_0_0_i_i25;
+    v_r6_sroa_6_0 = p_v_r6_sroa_6_0;
+    v_r6_sroa_8_0 = p_v_r6_sroa_8_0;
+    put_u8(v_a0, v_r8_sroa_0_0_i_i25);
+    v_r50 = v_a0 + 1;
+    put_u8(v_r50, 0u);
+    v_r52 = v_a0 + 2;
+    put_u8(v_r52, v_r6_sroa_6_0);
+    v_r54 = v_a0 + 3;
+    put_u8(v_r54, v_r6_sroa_8_0);
+    v_r56 = v_a0 + 4;
+    put_u8(v_r56, 0u);
+    { goto L_common_ret; }
 }
 static u1 f_pkcs1_params_holders_AlgorithmIdentifierOfAlgorith(P v_a0) {
     u1 p_v_r4_0;
@@ -19453,11 +19476,17 @@ static void f_pkcs1_params_strict_reject_defaults_2a8ca97c434130(P v_a0, P v_a1,
     ALIGNED(8) unsigned char m_v_r6_i_i[32];
     ALIGNED(1) unsigned char m_v_r3_i[4];
     u8 p_v_r4_0_i_i;
-    u8 p_v_r8_sroa_0_0_i_i9;
-    u8 p_v_r5_sroa_6_0;
-    u8 p_v_r5_sroa_8_0;
+    u8 p_v_r8_sroa_0_0_i_i23;
+    u8 p_v_r6_sroa_6_0;
+    u8 p_v_r6_sroa_8_0;
     P v_r6_i_i;
     P v_r3_i;
+    u1 v_r13_i;
+    u8 v_r20_i;
+    u1 v_r22_i;
+    P v_r30_i;
+    u8 v_r32_i;
+    u1 v_r34_i;
     P v_r14_i_i;
     u8 v_r16_i_i;
     u1 v_0;
@@ -19489,9 +19518,9 @@ static void f_pkcs1_params_strict_reject_defaults_2a8ca97c434130(P v_a0, P v_a1,
     u8 v_2;
     u8 v_r4_0_i_i;
     P v_r18_i;
-    u1 v_r20_i;
+    u1 v_r20_i15;
     u8 v_r21_i;
-    P v_r22_i;
+    P v_r22_i16;
     u8 v_r23_i;
     u1 v_r25_i;
     u8 v_r26_i;
@@ -19509,15 +19538,32 @@ static void f_pkcs1_params_strict_reject_defaults_2a8ca97c434130(P v_a0, P v_a1,
     u1 v_4;
     u8 v_r29_i_i;
     u8 v_r4_i_i;
-    u8 v_r8_sroa_0_0_i_i9;
-    u8 v_r5_sroa_6_0;
-    u8 v_r5_sroa_8_0;
-    P v_r33;
-    P v_r35;
-    P v_r37;
-    P v_r39;
+    u8 v_r8_sroa_0_0_i_i23;
+    u8 v_r6_sroa_6_0;
+    u8 v_r6_sroa_8_0;
+    P v_r50;
+    P v_r52;
+    P v_r54;
+    P v_r56;
     v_r6_i_i = m_v_r6_i_i;
     v_r3_i = m_v_r3_i;
+    v_r13_i = v_a3 == 2u;
+    if (v_r13_i) { goto L_join_3_i; } else { goto L_join_3; }
+L_join_3_i:;
+    v_r20_i = get_u8(v_a2);
+    v_r22_i = v_r20_i == 48u;
+    if (v_r22_i) { goto L_pkcs1_params_defaults_is_empty_sequence_exit; } else { goto L_join_3; }
+L_pkcs1_params_defaults_is_empty_sequence_exit:;
+    v_r30_i = v_a2 + 1;
+    v_r32_i = get_u8(v_r30_i);
+    v_r34_i = v_r32_i == 0u;
+    if (v_r34_i) { goto L_then_1; } else { goto L_join_3; }
+L_common_ret:;
+    return;
+L_then_1:;
+    fill(v_a0, 0u, 5u);
+    { goto L_common_ret; }
+L_join_3:;
     v_r14_i_i = v_a1 + 16;
     v_r16_i_i = get_u8(v_r14_i_i);
     v_0 = v_r16_i_i == 1u;
@@ -19567,10 +19613,10 @@ L_then_1_i_i_i:;
 L_pkcs1_params_holders_AlgorithmIdentifierOfPlainHol:;
     v_r4_0_i_i = p_v_r4_0_i_i;
     v_r18_i = v_a1 + 48;
-    v_r20_i = f_pkcs1_params_holders_AlgorithmIdentifierOfAlgorith(v_r18_i);
-    v_r21_i = (u8)v_r20_i;
-    v_r22_i = v_a1 + 120;
-    v_r23_i = get_u8(v_r22_i);
+    v_r20_i15 = f_pkcs1_params_holders_AlgorithmIdentifierOfAlgorith(v_r18_i);
+    v_r21_i = (u8)v_r20_i15;
+    v_r22_i16 = v_a1 + 120;
+    v_r23_i = get_u8(v_r22_i16);
     v_r25_i = v_r23_i == 20u;
     v_r26_i = (u8)v_r25_i;
     put_u8(v_r3_i, v_r4_0_i_i);
@@ -19586,7 +19632,7 @@ L_pkcs1_params_holders_AlgorithmIdentifierOfPlainHol:;
     v_3 = v_r14_i1_i == 0u;
     if (v_3) { goto L_pkcs1_params_pss_spelling_RefPssParamsOfEncodePara; } else { goto L_pkcs1_params_pss_spelling_RefPssParamsOfEncodePara__2; }
 L_pkcs1_params_pss_spelling_RefPssParamsOfEncodePara__2:;
-    { p_v_r8_sroa_0_0_i_i9 = 0u; p_v_r5_sroa_6_0 = 0u; p_v_r5_sroa_8_0 = 0u; goto L_join_4; }
+    { p_v_r8_sroa_0_0_i_i23 = 0u; p_v_r6_sroa_6_0 = 0u; p_v_r6_sroa_8_0 = 0u; goto L_join_7; }
 L_pkcs1_params_pss_spelling_RefPssParamsOfEncodePara:;
     v_r5_sroa_2_0_r15_sroa_idx_i_i = v_r6_i_i + 16;
     v_r5_sroa_2_0_copyload_i_i = get_P(v_r5_sroa_2_0_r15_sroa_idx_i_i);
@@ -19595,25 +19641,25 @@ L_pkcs1_params_pss_spelling_RefPssParamsOfEncodePara:;
     v_r27_i_i = f_spki_core_strict_first_written(v_r5_sroa_2_0_copyload_i_i, v_r5_sroa_3_0_copyload_i_i, 0u, v_r3_i, 4u);
     v_r28_i_i = v_r27_i_i.f0;
     v_4 = v_r28_i_i == 1u;
-    if (v_4) { goto L_arm_1; } else { p_v_r8_sroa_0_0_i_i9 = v_r28_i_i; p_v_r5_sroa_6_0 = 0u; p_v_r5_sroa_8_0 = 0u; goto L_join_4; }
-L_arm_1:;
+    if (v_4) { goto L_arm_4; } else { p_v_r8_sroa_0_0_i_i23 = v_r28_i_i; p_v_r6_sroa_6_0 = 0u; p_v_r6_sroa_8_0 = 0u; goto L_join_7; }
+L_arm_4:;
     v_r29_i_i = v_r27_i_i.f1;
     v_r4_i_i = (u8)((u32)(v_r29_i_i) + (u32)(160u));
-    { p_v_r8_sroa_0_0_i_i9 = 1u; p_v_r5_sroa_6_0 = 4u; p_v_r5_sroa_8_0 = v_r4_i_i; goto L_join_4; }
-L_join_4:;
-    v_r8_sroa_0_0_i_i9 = p_v_r8_sroa_0_0_i_i9;
-    v_r5_sroa_6_0 = p_v_r5_sroa_6_0;
-    v_r5_sroa_8_0 = p_v_r5_sroa_8_0;
-    put_u8(v_a0, v_r8_sroa_0_0_i_i9);
-    v_r33 = v_a0 + 1;
-    put_u8(v_r33, 0u);
-    v_r35 = v_a0 + 2;
-    put_u8(v_r35, v_r5_sroa_6_0);
-    v_r37 = v_a0 + 3;
-    put_u8(v_r37, v_r5_sroa_8_0);
-    v_r39 = v_a0 + 4;
-    put_u8(v_r39, 0u);
-    return;
+    { p_v_r8_sroa_0_0_i_i23 = 1u; p_v_r6_sroa_6_0 = 4u; p_v_r6_sroa_8_0 = v_r4_i_i; goto L_join_7; }
+L_join_7:;
+    v_r8_sroa_0_0_i_i23 = p_v_r8_sroa_0_0_i_i23;
+    v_r6_sroa_6_0 = p_v_r6_sroa_6_0;
+    v_r6_sroa_8_0 = p_v_r6_sroa_8_0;
+    put_u8(v_a0, v_r8_sroa_0_0_i_i23);
+    v_r50 = v_a0 + 1;
+    put_u8(v_r50, 0u);
+    v_r52 = v_a0 + 2;
+    put_u8(v_r52, v_r6_sroa_6_0);
+    v_r54 = v_a0 + 3;
+    put_u8(v_r54, v_r6_sroa_8_0);
+    v_r56 = v_a0 + 4;
+    put_u8(v_r56, 0u);
+    { goto L_common_ret; }
 }
 static void f_pkcs1_params_pss_reading_PssParamsOfAnyRefDecodeVa(P v_a0, P v_a1) {
     ALIGNED(8) unsigned char m_v_r6_i2453[24];
@@ -27962,11 +28008,13 @@ L_pkcs1_c_oaep_algorithm_pkcs1_c_oaep_algorithm_deco:;
     return v_r6_0_i;
 }
 u32 pkcs1_c_oaep_algorithm_decode_strict(P v_a0, u64 v_a1, P v_a2) {
+    ALIGNED(8) unsigned char m_v_r7_i_i_i_i_i[56];
     ALIGNED(1) unsigned char m_v_r0_i_i_i[5];
     ALIGNED(8) unsigned char m_v_r4_i_i_i[32];
+    ALIGNED(8) unsigned char m_v_r3_i_i[168];
     ALIGNED(8) unsigned char m_v_r8_i_i[176];
-    u64 p_v_r6_sroa_4_0_i_i_i;
-    P p_v_r6_sroa_0_0_i_i_i;
+    P p_v_r6_sroa_0_0_i72_i_i;
+    u64 p_v_r6_sroa_4_0_i71_i_i;
     P p_v_r5_sroa_61_0_i_i_i;
     u64 p_v_r5_sroa_8_0_i_i_i;
     u8 p_v_r5_sroa_9_0_i_i_i;
@@ -27976,8 +28024,10 @@ u32 pkcs1_c_oaep_algorithm_decode_strict(P v_a0, u64 v_a1, P v_a2) {
     u8 p_v_r5_sroa_5_0_ph_i;
     u8 p_v_r5_sroa_8_0_ph_i;
     u32 p_v_r6_0_i;
+    P v_r7_i_i_i_i_i;
     P v_r0_i_i_i;
     P v_r4_i_i_i;
+    P v_r3_i_i;
     P v_r8_i_i;
     u1 v_r1;
     u64 v_r3;
@@ -27995,66 +28045,76 @@ u32 pkcs1_c_oaep_algorithm_decode_strict(P v_a0, u64 v_a1, P v_a2) {
     P v_r19_i_i_i_i;
     u64 v_r5_sroa_4_0_i_i_i_i;
     P v_r5_sroa_0_0_i_i_i_i;
-    u64 v_r6_sroa_4_0_i_i_i;
-    P v_r6_sroa_0_0_i_i_i;
-    u8 v_2;
-    P v_r7_i3_i_i;
+    u1 v_r19_i2_i_i_i;
+    u8 v_r26_i3_i_i_i;
+    u1 v_r28_i_i_i_i;
+    P v_r36_i_i_i_i;
+    u8 v_r38_i_i_i_i;
+    u1 v_r40_i_i_i_i;
+    P v_r48_i_i_i_i;
+    u64 v_r51_i_i_i_i;
+    u8 v_r2_i5_i_i_i;
+    u1 v_2;
+    P v_r6_sroa_0_0_i72_i_i;
+    u64 v_r6_sroa_4_0_i71_i_i;
     u8 v_3;
-    P v_r9_i4_i_i;
+    P v_r23_i_i_i;
     u8 v_4;
-    u1 v_5;
+    P v_r25_i_i_i;
+    u8 v_5;
+    u1 v_6;
     P v_r5_i_i_i;
     u8 v_r1_sroa_5_2_copyload_i_i_i;
     P v_r3_i_i_i;
     u8 v_r1_sroa_3_1_copyload_i_i_i;
     P v_r5_sroa_17_sroa_1_3_copyload_i;
-    P v_r5_sroa_17_sroa_5_3_r11_i_i_sroa_idx_i;
+    P v_r5_sroa_17_sroa_5_3_r3_i_sroa_idx_i;
     u64 v_r5_sroa_17_sroa_5_3_copyload_i;
-    P v_r5_sroa_17_sroa_6_3_r11_i_i_sroa_idx_i;
+    P v_r5_sroa_17_sroa_6_3_r3_i_sroa_idx_i;
     u8 v_r5_sroa_17_sroa_6_3_copyload_i;
-    P v_r5_sroa_17_sroa_8_3_r11_i_i_sroa_idx_i;
+    P v_r5_sroa_17_sroa_8_3_r3_i_sroa_idx_i;
     u64 v_r5_sroa_17_sroa_8_3_copyload_i;
-    P v_r5_sroa_17_sroa_9_3_r11_i_i_sroa_idx_i;
+    P v_r5_sroa_17_sroa_9_3_r3_i_sroa_idx_i;
     P v_r5_sroa_17_sroa_9_3_copyload_i;
-    P v_r5_sroa_17_sroa_10_3_r11_i_i_sroa_idx_i;
+    P v_r5_sroa_17_sroa_10_3_r3_i_sroa_idx_i;
     u64 v_r5_sroa_17_sroa_10_3_copyload_i;
-    P v_r5_sroa_17_sroa_11_3_r11_i_i_sroa_idx_i;
+    P v_r5_sroa_17_sroa_11_3_r3_i_sroa_idx_i;
     P v_r5_sroa_17_sroa_11_3_copyload_i;
-    P v_r5_sroa_17_sroa_12_3_r11_i_i_sroa_idx_i;
+    P v_r5_sroa_17_sroa_12_3_r3_i_sroa_idx_i;
     u64 v_r5_sroa_17_sroa_12_3_copyload_i;
-    P v_r5_sroa_17_sroa_13_3_r11_i_i_sroa_idx_i;
+    P v_r5_sroa_17_sroa_13_3_r3_i_sroa_idx_i;
     u8 v_r5_sroa_17_sroa_13_3_copyload_i;
-    P v_r5_sroa_17_sroa_15_3_r11_i_i_sroa_idx_i;
+    P v_r5_sroa_17_sroa_15_3_r3_i_sroa_idx_i;
     P v_r5_sroa_17_sroa_15_3_copyload_i;
-    P v_r5_sroa_17_sroa_16_3_r11_i_i_sroa_idx_i;
+    P v_r5_sroa_17_sroa_16_3_r3_i_sroa_idx_i;
     u64 v_r5_sroa_17_sroa_16_3_copyload_i;
-    P v_r5_sroa_17_sroa_17_3_r11_i_i_sroa_idx_i;
+    P v_r5_sroa_17_sroa_17_3_r3_i_sroa_idx_i;
     u8 v_r5_sroa_17_sroa_17_3_copyload_i;
-    P v_r5_sroa_17_sroa_19_3_r11_i_i_sroa_idx_i;
+    P v_r5_sroa_17_sroa_19_3_r3_i_sroa_idx_i;
     u64 v_r5_sroa_17_sroa_19_3_copyload_i;
-    P v_r5_sroa_17_sroa_20_3_r11_i_i_sroa_idx_i;
+    P v_r5_sroa_17_sroa_20_3_r3_i_sroa_idx_i;
     P v_r5_sroa_17_sroa_20_3_copyload_i;
-    P v_r5_sroa_17_sroa_21_3_r11_i_i_sroa_idx_i;
+    P v_r5_sroa_17_sroa_21_3_r3_i_sroa_idx_i;
     u64 v_r5_sroa_17_sroa_21_3_copyload_i;
-    P v_r5_sroa_17_sroa_22_3_r11_i_i_sroa_idx_i;
+    P v_r5_sroa_17_sroa_22_3_r3_i_sroa_idx_i;
     P v_r5_sroa_17_sroa_22_3_copyload_i;
-    P v_r5_sroa_17_sroa_23_3_r11_i_i_sroa_idx_i;
+    P v_r5_sroa_17_sroa_23_3_r3_i_sroa_idx_i;
     u64 v_r5_sroa_17_sroa_23_3_copyload_i;
-    P v_r5_sroa_17_sroa_24_3_r11_i_i_sroa_idx_i;
+    P v_r5_sroa_17_sroa_24_3_r3_i_sroa_idx_i;
     u8 v_r5_sroa_17_sroa_24_3_copyload_i;
-    P v_r5_sroa_17_sroa_26_3_r11_i_i_sroa_idx_i;
+    P v_r5_sroa_17_sroa_26_3_r3_i_sroa_idx_i;
     u64 v_r5_sroa_17_sroa_26_3_copyload_i;
-    P v_r5_sroa_17_sroa_27_3_r11_i_i_sroa_idx_i;
+    P v_r5_sroa_17_sroa_27_3_r3_i_sroa_idx_i;
     P v_r5_sroa_17_sroa_27_3_copyload_i;
-    P v_r5_sroa_17_sroa_28_3_r11_i_i_sroa_idx_i;
+    P v_r5_sroa_17_sroa_28_3_r3_i_sroa_idx_i;
     u64 v_r5_sroa_17_sroa_28_3_copyload_i;
-    u1 v_6;
+    u1 v_7;
     u8 v_r4_i_i_i_i_i;
     u8 v_r5_sroa_6_0_i_i_i;
     P v_r5_sroa_81_0_i_i_i;
     u64 v_r5_sroa_10_0_i_i_i;
-    u1 v_7;
     u1 v_8;
+    u1 v_9;
     u8 v_r4_i_i_i_i_i_i;
     P v_r5_sroa_61_0_i_i_i;
     u64 v_r5_sroa_8_0_i_i_i;
@@ -28062,7 +28122,7 @@ u32 pkcs1_c_oaep_algorithm_decode_strict(P v_a0, u64 v_a1, P v_a2) {
     u8 v_r5_sroa_10_0_i6_i_i;
     P v_r5_sroa_12_0_i_i_i;
     u64 v_r5_sroa_13_0_i_i_i;
-    u1 v_9;
+    u1 v_10;
     u8 v_r4_i_i_i21_i_i;
     u8 v_r5_sroa_6_0_i24_i_i;
     P v_r5_sroa_81_0_i25_i_i;
@@ -28096,8 +28156,10 @@ u32 pkcs1_c_oaep_algorithm_decode_strict(P v_a0, u64 v_a1, P v_a2) {
     u32 v_switch_idx_cast_i_i_i;
     u32 v_switch_offset_i_i_i;
     u32 v_r6_0_i;
+    v_r7_i_i_i_i_i = m_v_r7_i_i_i_i_i;
     v_r0_i_i_i = m_v_r0_i_i_i;
     v_r4_i_i_i = m_v_r4_i_i_i;
+    v_r3_i_i = m_v_r3_i_i;
     v_r8_i_i = m_v_r8_i_i;
     v_r1 = v_a0 == (P)0;
     v_r3 = v_r1 ? 4096u : 0u;
@@ -28109,12 +28171,15 @@ u32 pkcs1_c_oaep_algorithm_decode_strict(P v_a0, u64 v_a1, P v_a2) {
     if (v_0) { goto L_arm_1_i_i; } else { goto L_arm_2_i_i; }
 L_arm_1_i_i:;
     v_r11_i_i_i = v_r8_i_i + 8;
+    copy(v_r3_i_i, v_r11_i_i_i, 168u);
     fill(v_r4_i_i_i, 0u, 32u);
     f_spki_core_any_AnyRefDecodeRefSliceU8_from_der_45c7(v_r4_i_i_i, v_r4, v_a1);
     v_r17_i_i_i = get_u8(v_r4_i_i_i);
     v_1 = v_r17_i_i_i == 0u;
-    if (v_1) { goto L_arm_1_i2_i_i; } else { p_v_r6_sroa_4_0_i_i_i = 0u; p_v_r6_sroa_0_0_i_i_i = (P)f_static_27; goto L_pkcs1_params_algorithm_encoded_parameters_0b66342f; }
-L_arm_1_i2_i_i:;
+    if (v_1) { goto L_pkcs1_params_algorithm_encoded_parameters_0b66342f; } else { goto L_pkcs1_params_algorithm_encoded_parameters_0b66342f__2; }
+L_pkcs1_params_algorithm_encoded_parameters_0b66342f__2:;
+    { p_v_r6_sroa_0_0_i72_i_i = (P)f_static_27; p_v_r6_sroa_4_0_i71_i_i = 0u; goto L_pkcs1_params_oaep_algorithm_OaepParamsOfAnyRefAlgo; }
+L_pkcs1_params_algorithm_encoded_parameters_0b66342f:;
     v_r3_sroa_2_0_r18_sroa_idx_i_i_i = v_r4_i_i_i + 16;
     v_r3_sroa_2_0_copyload_i_i_i = get_P(v_r3_sroa_2_0_r18_sroa_idx_i_i_i);
     v_r3_sroa_3_0_r18_sroa_idx_i_i_i = v_r4_i_i_i + 24;
@@ -28123,18 +28188,37 @@ L_arm_1_i2_i_i:;
     v_r19_i_i_i_i = v_r3_sroa_2_0_copyload_i_i_i + 11;
     v_r5_sroa_4_0_i_i_i_i = v_r3_sroa_3_0_copyload_i_i_i > 11u ? v_r3_sroa_3_0_copyload_i_i_i - 11u : 0u;
     v_r5_sroa_0_0_i_i_i_i = v_r14_i_i_i_i ? v_r19_i_i_i_i : (P)f_static_27;
-    { p_v_r6_sroa_4_0_i_i_i = v_r5_sroa_4_0_i_i_i_i; p_v_r6_sroa_0_0_i_i_i = v_r5_sroa_0_0_i_i_i_i; goto L_pkcs1_params_algorithm_encoded_parameters_0b66342f; }
-L_pkcs1_params_algorithm_encoded_parameters_0b66342f:;
-    v_r6_sroa_4_0_i_i_i = p_v_r6_sroa_4_0_i_i_i;
-    v_r6_sroa_0_0_i_i_i = p_v_r6_sroa_0_0_i_i_i;
-    f_pkcs1_params_strict_reject_defaults_297cddf97b264c(v_r0_i_i_i, v_r11_i_i_i, v_r6_sroa_0_0_i_i_i, v_r6_sroa_4_0_i_i_i);
-    v_2 = get_u8(v_r0_i_i_i);
-    v_r7_i3_i_i = v_r0_i_i_i + 1;
-    v_3 = get_u8(v_r7_i3_i_i);
-    v_r9_i4_i_i = v_r0_i_i_i + 2;
-    v_4 = get_u8(v_r9_i4_i_i);
-    v_5 = v_2 == 0u;
-    if (v_5) { goto L_arm_1_i; } else { p_v_r5_sroa_5_0_ph_i = v_3; p_v_r5_sroa_8_0_ph_i = v_4; goto L_arm_2_i; }
+    v_r19_i2_i_i_i = v_r5_sroa_4_0_i_i_i_i > 1u;
+    if (v_r19_i2_i_i_i) { goto L_then_2_i_i_i_i; } else { p_v_r6_sroa_0_0_i72_i_i = v_r5_sroa_0_0_i_i_i_i; p_v_r6_sroa_4_0_i71_i_i = v_r5_sroa_4_0_i_i_i_i; goto L_pkcs1_params_oaep_algorithm_OaepParamsOfAnyRefAlgo; }
+L_then_2_i_i_i_i:;
+    v_r26_i3_i_i_i = get_u8(v_r5_sroa_0_0_i_i_i_i);
+    v_r28_i_i_i_i = v_r26_i3_i_i_i == 48u;
+    if (v_r28_i_i_i_i) { goto L_then_5_i_i_i_i; } else { p_v_r6_sroa_0_0_i72_i_i = v_r5_sroa_0_0_i_i_i_i; p_v_r6_sroa_4_0_i71_i_i = v_r5_sroa_4_0_i_i_i_i; goto L_pkcs1_params_oaep_algorithm_OaepParamsOfAnyRefAlgo; }
+L_then_5_i_i_i_i:;
+    v_r36_i_i_i_i = v_r5_sroa_0_0_i_i_i_i + 1;
+    v_r38_i_i_i_i = get_u8(v_r36_i_i_i_i);
+    v_r40_i_i_i_i = v_r38_i_i_i_i == 47u;
+    if (v_r40_i_i_i_i) { goto L_arm_1_i_i_i_i; } else { p_v_r6_sroa_0_0_i72_i_i = v_r5_sroa_0_0_i_i_i_i; p_v_r6_sroa_4_0_i71_i_i = v_r5_sroa_4_0_i_i_i_i; goto L_pkcs1_params_oaep_algorithm_OaepParamsOfAnyRefAlgo; }
+L_arm_1_i_i_i_i:;
+    v_r48_i_i_i_i = v_r5_sroa_0_0_i_i_i_i + 2;
+    v_r51_i_i_i_i = (u64)((u64)(v_r5_sroa_4_0_i_i_i_i) + (u64)(18446744073709551614ull));
+    f_pkcs1_params_usual_usual_hash(v_r7_i_i_i_i_i, v_r48_i_i_i_i, v_r51_i_i_i_i);
+    v_r2_i5_i_i_i = get_u8(v_r7_i_i_i_i_i);
+    v_2 = v_r2_i5_i_i_i == 1u;
+    if (v_2) { goto L_pkcs1_params_oaep_algorithm_OaepParamsOfAnyRefAlgo__2; } else { p_v_r6_sroa_0_0_i72_i_i = v_r5_sroa_0_0_i_i_i_i; p_v_r6_sroa_4_0_i71_i_i = v_r5_sroa_4_0_i_i_i_i; goto L_pkcs1_params_oaep_algorithm_OaepParamsOfAnyRefAlgo; }
+L_pkcs1_params_oaep_algorithm_OaepParamsOfAnyRefAlgo__2:;
+    { goto L_arm_1_i; }
+L_pkcs1_params_oaep_algorithm_OaepParamsOfAnyRefAlgo:;
+    v_r6_sroa_0_0_i72_i_i = p_v_r6_sroa_0_0_i72_i_i;
+    v_r6_sroa_4_0_i71_i_i = p_v_r6_sroa_4_0_i71_i_i;
+    f_pkcs1_params_strict_reject_defaults_297cddf97b264c(v_r0_i_i_i, v_r3_i_i, v_r6_sroa_0_0_i72_i_i, v_r6_sroa_4_0_i71_i_i);
+    v_3 = get_u8(v_r0_i_i_i);
+    v_r23_i_i_i = v_r0_i_i_i + 1;
+    v_4 = get_u8(v_r23_i_i_i);
+    v_r25_i_i_i = v_r0_i_i_i + 2;
+    v_5 = get_u8(v_r25_i_i_i);
+    v_6 = v_3 == 0u;
+    if (v_6) { goto L_arm_1_i; } else { p_v_r5_sroa_5_0_ph_i = v_4; p_v_r5_sroa_8_0_ph_i = v_5; goto L_arm_2_i; }
 L_arm_2_i_i:;
     v_r5_i_i_i = v_r8_i_i + 2;
     v_r1_sroa_5_2_copyload_i_i_i = get_u8(v_r5_i_i_i);
@@ -28142,57 +28226,57 @@ L_arm_2_i_i:;
     v_r1_sroa_3_1_copyload_i_i_i = get_u8(v_r3_i_i_i);
     { p_v_r5_sroa_5_0_ph_i = v_r1_sroa_3_1_copyload_i_i_i; p_v_r5_sroa_8_0_ph_i = v_r1_sroa_5_2_copyload_i_i_i; goto L_arm_2_i; }
 L_arm_1_i:;
-    v_r5_sroa_17_sroa_1_3_copyload_i = get_P(v_r11_i_i_i);
-    v_r5_sroa_17_sroa_5_3_r11_i_i_sroa_idx_i = v_r8_i_i + 16;
-    v_r5_sroa_17_sroa_5_3_copyload_i = get_u64(v_r5_sroa_17_sroa_5_3_r11_i_i_sroa_idx_i);
-    v_r5_sroa_17_sroa_6_3_r11_i_i_sroa_idx_i = v_r8_i_i + 24;
-    v_r5_sroa_17_sroa_6_3_copyload_i = get_u8(v_r5_sroa_17_sroa_6_3_r11_i_i_sroa_idx_i);
-    v_r5_sroa_17_sroa_8_3_r11_i_i_sroa_idx_i = v_r8_i_i + 32;
-    v_r5_sroa_17_sroa_8_3_copyload_i = get_u64(v_r5_sroa_17_sroa_8_3_r11_i_i_sroa_idx_i);
-    v_r5_sroa_17_sroa_9_3_r11_i_i_sroa_idx_i = v_r8_i_i + 40;
-    v_r5_sroa_17_sroa_9_3_copyload_i = get_P(v_r5_sroa_17_sroa_9_3_r11_i_i_sroa_idx_i);
-    v_r5_sroa_17_sroa_10_3_r11_i_i_sroa_idx_i = v_r8_i_i + 48;
-    v_r5_sroa_17_sroa_10_3_copyload_i = get_u64(v_r5_sroa_17_sroa_10_3_r11_i_i_sroa_idx_i);
-    v_r5_sroa_17_sroa_11_3_r11_i_i_sroa_idx_i = v_r8_i_i + 56;
-    v_r5_sroa_17_sroa_11_3_copyload_i = get_P(v_r5_sroa_17_sroa_11_3_r11_i_i_sroa_idx_i);
-    v_r5_sroa_17_sroa_12_3_r11_i_i_sroa_idx_i = v_r8_i_i + 64;
-    v_r5_sroa_17_sroa_12_3_copyload_i = get_u64(v_r5_sroa_17_sroa_12_3_r11_i_i_sroa_idx_i);
-    v_r5_sroa_17_sroa_13_3_r11_i_i_sroa_idx_i = v_r8_i_i + 72;
-    v_r5_sroa_17_sroa_13_3_copyload_i = get_u8(v_r5_sroa_17_sroa_13_3_r11_i_i_sroa_idx_i);
-    v_r5_sroa_17_sroa_15_3_r11_i_i_sroa_idx_i = v_r8_i_i + 80;
-    v_r5_sroa_17_sroa_15_3_copyload_i = get_P(v_r5_sroa_17_sroa_15_3_r11_i_i_sroa_idx_i);
-    v_r5_sroa_17_sroa_16_3_r11_i_i_sroa_idx_i = v_r8_i_i + 88;
-    v_r5_sroa_17_sroa_16_3_copyload_i = get_u64(v_r5_sroa_17_sroa_16_3_r11_i_i_sroa_idx_i);
-    v_r5_sroa_17_sroa_17_3_r11_i_i_sroa_idx_i = v_r8_i_i + 96;
-    v_r5_sroa_17_sroa_17_3_copyload_i = get_u8(v_r5_sroa_17_sroa_17_3_r11_i_i_sroa_idx_i);
-    v_r5_sroa_17_sroa_19_3_r11_i_i_sroa_idx_i = v_r8_i_i + 104;
-    v_r5_sroa_17_sroa_19_3_copyload_i = get_u64(v_r5_sroa_17_sroa_19_3_r11_i_i_sroa_idx_i);
-    v_r5_sroa_17_sroa_20_3_r11_i_i_sroa_idx_i = v_r8_i_i + 112;
-    v_r5_sroa_17_sroa_20_3_copyload_i = get_P(v_r5_sroa_17_sroa_20_3_r11_i_i_sroa_idx_i);
-    v_r5_sroa_17_sroa_21_3_r11_i_i_sroa_idx_i = v_r8_i_i + 120;
-    v_r5_sroa_17_sroa_21_3_copyload_i = get_u64(v_r5_sroa_17_sroa_21_3_r11_i_i_sroa_idx_i);
-    v_r5_sroa_17_sroa_22_3_r11_i_i_sroa_idx_i = v_r8_i_i + 128;
-    v_r5_sroa_17_sroa_22_3_copyload_i = get_P(v_r5_sroa_17_sroa_22_3_r11_i_i_sroa_idx_i);
-    v_r5_sroa_17_sroa_23_3_r11_i_i_sroa_idx_i = v_r8_i_i + 136;
-    v_r5_sroa_17_sroa_23_3_copyload_i = get_u64(v_r5_sroa_17_sroa_23_3_r11_i_i_sroa_idx_i);
-    v_r5_sroa_17_sroa_24_3_r11_i_i_sroa_idx_i = v_r8_i_i + 144;
-    v_r5_sroa_17_sroa_24_3_copyload_i = get_u8(v_r5_sroa_17_sroa_24_3_r11_i_i_sroa_idx_i);
-    v_r5_sroa_17_sroa_26_3_r11_i_i_sroa_idx_i = v_r8_i_i + 152;
-    v_r5_sroa_17_sroa_26_3_copyload_i = get_u64(v_r5_sroa_17_sroa_26_3_r11_i_i_sroa_idx_i);
-    v_r5_sroa_17_sroa_27_3_r11_i_i_sroa_idx_i = v_r8_i_i + 160;
-    v_r5_sroa_17_sroa_27_3_copyload_i = get_P(v_r5_sroa_17_sroa_27_3_r11_i_i_sroa_idx_i);
-    v_r5_sroa_17_sroa_28_3_r11_i_i_sroa_idx_i = v_r8_i_i + 168;
-    v_r5_sroa_17_sroa_28_3_copyload_i = get_u64(v_r5_sroa_17_sroa_28_3_r11_i_i_sroa_idx_i);
-    v_6 = v_r5_sroa_17_sroa_6_3_copyload_i == 0u;
+    v_r5_sroa_17_sroa_1_3_copyload_i = get_P(v_r3_i_i);
+    v_r5_sroa_17_sroa_5_3_r3_i_sroa_idx_i = v_r3_i_i + 8;
+    v_r5_sroa_17_sroa_5_3_copyload_i = get_u64(v_r5_sroa_17_sroa_5_3_r3_i_sroa_idx_i);
+    v_r5_sroa_17_sroa_6_3_r3_i_sroa_idx_i = v_r3_i_i + 16;
+    v_r5_sroa_17_sroa_6_3_copyload_i = get_u8(v_r5_sroa_17_sroa_6_3_r3_i_sroa_idx_i);
+    v_r5_sroa_17_sroa_8_3_r3_i_sroa_idx_i = v_r3_i_i + 24;
+    v_r5_sroa_17_sroa_8_3_copyload_i = get_u64(v_r5_sroa_17_sroa_8_3_r3_i_sroa_idx_i);
+    v_r5_sroa_17_sroa_9_3_r3_i_sroa_idx_i = v_r3_i_i + 32;
+    v_r5_sroa_17_sroa_9_3_copyload_i = get_P(v_r5_sroa_17_sroa_9_3_r3_i_sroa_idx_i);
+    v_r5_sroa_17_sroa_10_3_r3_i_sroa_idx_i = v_r3_i_i + 40;
+    v_r5_sroa_17_sroa_10_3_copyload_i = get_u64(v_r5_sroa_17_sroa_10_3_r3_i_sroa_idx_i);
+    v_r5_sroa_17_sroa_11_3_r3_i_sroa_idx_i = v_r3_i_i + 48;
+    v_r5_sroa_17_sroa_11_3_copyload_i = get_P(v_r5_sroa_17_sroa_11_3_r3_i_sroa_idx_i);
+    v_r5_sroa_17_sroa_12_3_r3_i_sroa_idx_i = v_r3_i_i + 56;
+    v_r5_sroa_17_sroa_12_3_copyload_i = get_u64(v_r5_sroa_17_sroa_12_3_r3_i_sroa_idx_i);
+    v_r5_sroa_17_sroa_13_3_r3_i_sroa_idx_i = v_r3_i_i + 64;
+    v_r5_sroa_17_sroa_13_3_copyload_i = get_u8(v_r5_sroa_17_sroa_13_3_r3_i_sroa_idx_i);
+    v_r5_sroa_17_sroa_15_3_r3_i_sroa_idx_i = v_r3_i_i + 72;
+    v_r5_sroa_17_sroa_15_3_copyload_i = get_P(v_r5_sroa_17_sroa_15_3_r3_i_sroa_idx_i);
+    v_r5_sroa_17_sroa_16_3_r3_i_sroa_idx_i = v_r3_i_i + 80;
+    v_r5_sroa_17_sroa_16_3_copyload_i = get_u64(v_r5_sroa_17_sroa_16_3_r3_i_sroa_idx_i);
+    v_r5_sroa_17_sroa_17_3_r3_i_sroa_idx_i = v_r3_i_i + 88;
+    v_r5_sroa_17_sroa_17_3_copyload_i = get_u8(v_r5_sroa_17_sroa_17_3_r3_i_sroa_idx_i);
+    v_r5_sroa_17_sroa_19_3_r3_i_sroa_idx_i = v_r3_i_i + 96;
+    v_r5_sroa_17_sroa_19_3_copyload_i = get_u64(v_r5_sroa_17_sroa_19_3_r3_i_sroa_idx_i);
+    v_r5_sroa_17_sroa_20_3_r3_i_sroa_idx_i = v_r3_i_i + 104;
+    v_r5_sroa_17_sroa_20_3_copyload_i = get_P(v_r5_sroa_17_sroa_20_3_r3_i_sroa_idx_i);
+    v_r5_sroa_17_sroa_21_3_r3_i_sroa_idx_i = v_r3_i_i + 112;
+    v_r5_sroa_17_sroa_21_3_copyload_i = get_u64(v_r5_sroa_17_sroa_21_3_r3_i_sroa_idx_i);
+    v_r5_sroa_17_sroa_22_3_r3_i_sroa_idx_i = v_r3_i_i + 120;
+    v_r5_sroa_17_sroa_22_3_copyload_i = get_P(v_r5_sroa_17_sroa_22_3_r3_i_sroa_idx_i);
+    v_r5_sroa_17_sroa_23_3_r3_i_sroa_idx_i = v_r3_i_i + 128;
+    v_r5_sroa_17_sroa_23_3_copyload_i = get_u64(v_r5_sroa_17_sroa_23_3_r3_i_sroa_idx_i);
+    v_r5_sroa_17_sroa_24_3_r3_i_sroa_idx_i = v_r3_i_i + 136;
+    v_r5_sroa_17_sroa_24_3_copyload_i = get_u8(v_r5_sroa_17_sroa_24_3_r3_i_sroa_idx_i);
+    v_r5_sroa_17_sroa_26_3_r3_i_sroa_idx_i = v_r3_i_i + 144;
+    v_r5_sroa_17_sroa_26_3_copyload_i = get_u64(v_r5_sroa_17_sroa_26_3_r3_i_sroa_idx_i);
+    v_r5_sroa_17_sroa_27_3_r3_i_sroa_idx_i = v_r3_i_i + 152;
+    v_r5_sroa_17_sroa_27_3_copyload_i = get_P(v_r5_sroa_17_sroa_27_3_r3_i_sroa_idx_i);
+    v_r5_sroa_17_sroa_28_3_r3_i_sroa_idx_i = v_r3_i_i + 160;
+    v_r5_sroa_17_sroa_28_3_copyload_i = get_u64(v_r5_sroa_17_sroa_28_3_r3_i_sroa_idx_i);
+    v_7 = v_r5_sroa_17_sroa_6_3_copyload_i == 0u;
     v_r4_i_i_i_i_i = (u8)(v_r5_sroa_17_sroa_8_3_copyload_i);
-    v_r5_sroa_6_0_i_i_i = v_6 ? 0u : v_r4_i_i_i_i_i;
-    v_r5_sroa_81_0_i_i_i = v_6 ? (P)f_static_27 : v_r5_sroa_17_sroa_9_3_copyload_i;
-    v_r5_sroa_10_0_i_i_i = v_6 ? 0u : v_r5_sroa_17_sroa_10_3_copyload_i;
-    v_7 = v_r5_sroa_17_sroa_13_3_copyload_i == 0u;
-    if (v_7) { p_v_r5_sroa_61_0_i_i_i = (P)f_static_27; p_v_r5_sroa_8_0_i_i_i = 0u; p_v_r5_sroa_9_0_i_i_i = 0u; p_v_r5_sroa_10_0_i6_i_i = 0u; p_v_r5_sroa_12_0_i_i_i = (P)f_static_27; p_v_r5_sroa_13_0_i_i_i = 0u; goto L_pkcs1_c_algorithm_to_c_mask_gen_exit_i_i; } else { goto L_arm_2_i5_i_i; }
+    v_r5_sroa_6_0_i_i_i = v_7 ? 0u : v_r4_i_i_i_i_i;
+    v_r5_sroa_81_0_i_i_i = v_7 ? (P)f_static_27 : v_r5_sroa_17_sroa_9_3_copyload_i;
+    v_r5_sroa_10_0_i_i_i = v_7 ? 0u : v_r5_sroa_17_sroa_10_3_copyload_i;
+    v_8 = v_r5_sroa_17_sroa_13_3_copyload_i == 0u;
+    if (v_8) { p_v_r5_sroa_61_0_i_i_i = (P)f_static_27; p_v_r5_sroa_8_0_i_i_i = 0u; p_v_r5_sroa_9_0_i_i_i = 0u; p_v_r5_sroa_10_0_i6_i_i = 0u; p_v_r5_sroa_12_0_i_i_i = (P)f_static_27; p_v_r5_sroa_13_0_i_i_i = 0u; goto L_pkcs1_c_algorithm_to_c_mask_gen_exit_i_i; } else { goto L_arm_2_i5_i_i; }
 L_arm_2_i5_i_i:;
-    v_8 = v_r5_sroa_17_sroa_17_3_copyload_i == 0u;
-    if (v_8) { p_v_r5_sroa_61_0_i_i_i = v_r5_sroa_17_sroa_15_3_copyload_i; p_v_r5_sroa_8_0_i_i_i = v_r5_sroa_17_sroa_16_3_copyload_i; p_v_r5_sroa_9_0_i_i_i = 0u; p_v_r5_sroa_10_0_i6_i_i = 0u; p_v_r5_sroa_12_0_i_i_i = (P)f_static_27; p_v_r5_sroa_13_0_i_i_i = 0u; goto L_pkcs1_c_algorithm_to_c_mask_gen_exit_i_i; } else { goto L_arm_2_i_i_i_i; }
+    v_9 = v_r5_sroa_17_sroa_17_3_copyload_i == 0u;
+    if (v_9) { p_v_r5_sroa_61_0_i_i_i = v_r5_sroa_17_sroa_15_3_copyload_i; p_v_r5_sroa_8_0_i_i_i = v_r5_sroa_17_sroa_16_3_copyload_i; p_v_r5_sroa_9_0_i_i_i = 0u; p_v_r5_sroa_10_0_i6_i_i = 0u; p_v_r5_sroa_12_0_i_i_i = (P)f_static_27; p_v_r5_sroa_13_0_i_i_i = 0u; goto L_pkcs1_c_algorithm_to_c_mask_gen_exit_i_i; } else { goto L_arm_2_i_i_i_i; }
 L_arm_2_i_i_i_i:;
     v_r4_i_i_i_i_i_i = (u8)(v_r5_sroa_17_sroa_19_3_copyload_i);
     { p_v_r5_sroa_61_0_i_i_i = v_r5_sroa_17_sroa_15_3_copyload_i; p_v_r5_sroa_8_0_i_i_i = v_r5_sroa_17_sroa_16_3_copyload_i; p_v_r5_sroa_9_0_i_i_i = v_r5_sroa_17_sroa_17_3_copyload_i; p_v_r5_sroa_10_0_i6_i_i = v_r4_i_i_i_i_i_i; p_v_r5_sroa_12_0_i_i_i = v_r5_sroa_17_sroa_20_3_copyload_i; p_v_r5_sroa_13_0_i_i_i = v_r5_sroa_17_sroa_21_3_copyload_i; goto L_pkcs1_c_algorithm_to_c_mask_gen_exit_i_i; }
@@ -28203,11 +28287,11 @@ L_pkcs1_c_algorithm_to_c_mask_gen_exit_i_i:;
     v_r5_sroa_10_0_i6_i_i = p_v_r5_sroa_10_0_i6_i_i;
     v_r5_sroa_12_0_i_i_i = p_v_r5_sroa_12_0_i_i_i;
     v_r5_sroa_13_0_i_i_i = p_v_r5_sroa_13_0_i_i_i;
-    v_9 = v_r5_sroa_17_sroa_24_3_copyload_i == 0u;
+    v_10 = v_r5_sroa_17_sroa_24_3_copyload_i == 0u;
     v_r4_i_i_i21_i_i = (u8)(v_r5_sroa_17_sroa_26_3_copyload_i);
-    v_r5_sroa_6_0_i24_i_i = v_9 ? 0u : v_r4_i_i_i21_i_i;
-    v_r5_sroa_81_0_i25_i_i = v_9 ? (P)f_static_27 : v_r5_sroa_17_sroa_27_3_copyload_i;
-    v_r5_sroa_10_0_i26_i_i = v_9 ? 0u : v_r5_sroa_17_sroa_28_3_copyload_i;
+    v_r5_sroa_6_0_i24_i_i = v_10 ? 0u : v_r4_i_i_i21_i_i;
+    v_r5_sroa_81_0_i25_i_i = v_10 ? (P)f_static_27 : v_r5_sroa_17_sroa_27_3_copyload_i;
+    v_r5_sroa_10_0_i26_i_i = v_10 ? 0u : v_r5_sroa_17_sroa_28_3_copyload_i;
     put_P(v_a2, v_r5_sroa_17_sroa_1_3_copyload_i);
     v_r7_sroa_3_0_a2_sroa_idx_i = v_a2 + 8;
     put_u64(v_r7_sroa_3_0_a2_sroa_idx_i, v_r5_sroa_17_sroa_5_3_copyload_i);
@@ -28262,13 +28346,13 @@ L_arm_2_i:;
     v_r5_sroa_5_0_ph_i = p_v_r5_sroa_5_0_ph_i;
     v_r5_sroa_8_0_ph_i = p_v_r5_sroa_8_0_ph_i;
     switch (v_r5_sroa_5_0_ph_i) {
-    case 0u: { goto L_arm_1_i5_i; }
+    case 0u: { goto L_arm_1_i6_i; }
     case 1u: { p_v_r6_0_i = 18u; goto L_pkcs1_c_oaep_algorithm_pkcs1_c_oaep_algorithm_deco; }
     case 2u: { goto L_arm_3_i_i; }
     case 3u: { goto L_arm_4_i_i; }
     default: { goto L_noarm_5_i_i; }
     }
-L_arm_1_i5_i:;
+L_arm_1_i6_i:;
     v_switch_idx_cast_i_i_i = (u32)v_r5_sroa_8_0_ph_i;
     v_switch_offset_i_i_i = (u32)((u32)(v_switch_idx_cast_i_i_i) + (u32)(1u));
     { p_v_r6_0_i = v_switch_offset_i_i_i; goto L_pkcs1_c_oaep_algorithm_pkcs1_c_oaep_algorithm_deco; }
@@ -28287,8 +28371,8 @@ u32 pkcs1_c_oaep_params_decode(P v_a0, u64 v_a1, P v_a2) {
     ALIGNED(8) unsigned char m_v_r30_i74_i_i[176];
     ALIGNED(8) unsigned char m_v_r7_i_i_i_i[56];
     u8 p_v_r38_i_i_i;
-    u64 p_v_r4_i23_sroa_12_21508_i_i;
-    P p_v_r4_i23_sroa_0_21506_i_i;
+    u64 p_v_r4_i23_sroa_12_21549_i_i;
+    P p_v_r4_i23_sroa_0_21547_i_i;
     u64 p_v_r12_sroa_10_0_i_i_i;
     u32 p_v_r0_i44_sroa_9_0_ph_i_i;
     P p_v_r5_sroa_144_0_ph_i;
@@ -28373,8 +28457,8 @@ u32 pkcs1_c_oaep_params_decode(P v_a0, u64 v_a1, P v_a2) {
     P v_r30_i145_i_i;
     u8 v_r32_i146_i_i;
     u1 v_r34_i147_i_i;
-    u1 v_r19_i20_i_i;
-    u8 v_r26_i21_pr_pre_i_i;
+    u1 v_r19_i6_i_i;
+    u8 v_r26_i7_pr_pre_i_i;
     u1 v_0;
     P v_r36_i_i_phi_trans_insert_i;
     u8 v_r38_i_i_pre_i;
@@ -28461,8 +28545,8 @@ u32 pkcs1_c_oaep_params_decode(P v_a0, u64 v_a1, P v_a2) {
     u8 v_r177_i_i_i_i;
     u64 v_r179_i_i_i_i;
     u64 v_r182_i_i_i_i;
-    u64 v_r4_i23_sroa_12_21508_i_i;
-    P v_r4_i23_sroa_0_21506_i_i;
+    u64 v_r4_i23_sroa_12_21549_i_i;
+    P v_r4_i23_sroa_0_21547_i_i;
     u64 v_r12_sroa_10_0_i_i_i;
     u64 v_r3_i25_i_i_i_i;
     u1 v_r39_i_i380_i_i;
@@ -28644,11 +28728,11 @@ L_pkcs1_params_defaults_is_empty_sequence_exit_i_i:;
     v_r34_i147_i_i = v_r32_i146_i_i == 0u;
     if (v_r34_i147_i_i) { p_v_r3_sroa_35_sroa_0_0_extract_trunc151_i = 1u; p_v_r3_sroa_23_sroa_0_0_extract_trunc149_i = 1u; p_v_r3_sroa_17_sroa_0_0_extract_trunc147_i = 1u; p_v_r3_sroa_5_sroa_0_0_extract_trunc145_i = 1u; p_v_r5_sroa_76_0_ph143_i = 0u; p_v_r5_sroa_73_0_ph141_i = (P)f_static_27; p_v_r5_sroa_70_0_ph139_i = 4u; p_v_r5_sroa_64_0_ph137_i = 9u; p_v_r5_sroa_61_0_ph135_i = (P)f_static_0; p_v_r5_sroa_58_0_ph133_i = 0u; p_v_r5_sroa_55_0_ph131_i = (P)f_static_27; p_v_r5_sroa_52_0_ph129_i = 5u; p_v_r5_sroa_46_0_ph127_i = 5u; p_v_r5_sroa_43_0_ph125_i = (P)f_static_31; p_v_r5_sroa_37_0_ph123_i = 9u; p_v_r5_sroa_34_0_ph121_i = (P)f_static_30; p_v_r5_sroa_31_0_ph120_i = 0u; p_v_r5_sroa_28_0_ph119_i = (P)f_static_27; p_v_r5_sroa_25_0_ph118_i = 5u; p_v_r5_sroa_19_0_ph116_i = 5u; p_v_r5_sroa_144_0_ph114_i = (P)f_static_31; goto L_arm_2_i_i_i; } else { p_v_r38_i_i_i = v_r32_i146_i_i; goto L_then_5_i_i_i; }
 L_join_3_i_i:;
-    v_r19_i20_i_i = v_a1 > 1u;
-    if (v_r19_i20_i_i) { goto L_then_2_i_i_i; } else { goto L_join_3_i_i_i_i; }
+    v_r19_i6_i_i = v_a1 > 1u;
+    if (v_r19_i6_i_i) { goto L_then_2_i_i_i; } else { goto L_join_3_i_i_i_i; }
 L_then_2_i_i_i:;
-    v_r26_i21_pr_pre_i_i = get_u8(v_r4);
-    v_0 = v_r26_i21_pr_pre_i_i == 48u;
+    v_r26_i7_pr_pre_i_i = get_u8(v_r4);
+    v_0 = v_r26_i7_pr_pre_i_i == 48u;
     if (v_0) { goto L_then_2_i_i_then_5_i_i_crit_edge_i; } else { goto L_join_7_i_i; }
 L_then_2_i_i_then_5_i_i_crit_edge_i:;
     v_r36_i_i_phi_trans_insert_i = v_r4 + 1;
@@ -28715,7 +28799,7 @@ L_arm_1_i59_i_i_i:;
     if (v_r51_i62_i_i_i) { goto L_then_5_i_i_i_i; } else { goto L_join_7_i63_i_i_i; }
 L_then_5_i_i_i_i:;
     v_r56_i73_i_i_i = (u64)v_r29_i220_i_i;
-    { p_v_r4_i23_sroa_12_21508_i_i = v_r19_i_i_i219_i_i; p_v_r4_i23_sroa_0_21506_i_i = v_r16_i_i_i218_i_i; p_v_r12_sroa_10_0_i_i_i = v_r56_i73_i_i_i; goto L_arm_1_i104_i_i; }
+    { p_v_r4_i23_sroa_12_21549_i_i = v_r19_i_i_i219_i_i; p_v_r4_i23_sroa_0_21547_i_i = v_r16_i_i_i218_i_i; p_v_r12_sroa_10_0_i_i_i = v_r56_i73_i_i_i; goto L_arm_1_i104_i_i; }
 L_join_7_i63_i_i_i:;
     v_r68_i64_i_i_i = v_r29_i220_i_i == 128u;
     if (v_r68_i64_i_i_i) { p_v_r0_i44_sroa_9_0_ph_i_i = 3u; goto L_arm_6_i_i_i; } else { goto L_join_10_i_i_i_i; }
@@ -28745,7 +28829,7 @@ L_der_core_length_is_overlong_exit_i_i:;
     if (v_r30_i297_i_i) { p_v_r0_i44_sroa_9_0_ph_i_i = 9u; goto L_arm_6_i_i_i; } else { goto L_then_5_i80_i_i_i; }
 L_then_5_i80_i_i_i:;
     v_r71_i_i_i_i = (u64)v_r28_i296_i_i;
-    { p_v_r4_i23_sroa_12_21508_i_i = v_r19_i_i267_i_i; p_v_r4_i23_sroa_0_21506_i_i = v_r16_i_i266_i_i; p_v_r12_sroa_10_0_i_i_i = v_r71_i_i_i_i; goto L_arm_1_i104_i_i; }
+    { p_v_r4_i23_sroa_12_21549_i_i = v_r19_i_i267_i_i; p_v_r4_i23_sroa_0_21547_i_i = v_r16_i_i266_i_i; p_v_r12_sroa_10_0_i_i_i = v_r71_i_i_i_i; goto L_arm_1_i104_i_i; }
 L_join_7_i82_i_i_i:;
     v_r74_i83_i_i_i = v_r106_i_i_i_i < 3u;
     if (v_r74_i83_i_i_i) { goto L_then_8_i106_i_i_i; } else { goto L_join_10_i84_i_i_i; }
@@ -28756,7 +28840,7 @@ L_then_8_i106_i_i_i:;
     v_r91_i_i136_i_i = get_u8(v_r81_i107_i_i_i);
     v_r93_i110_i_i_i = (u64)v_r91_i_i136_i_i;
     v_r96_i111_i_i_i = (u64)((u64)(v_r89_i_i135_i_i) | (u64)(v_r93_i110_i_i_i));
-    { p_v_r4_i23_sroa_12_21508_i_i = v_r19_i_i267_i_i; p_v_r4_i23_sroa_0_21506_i_i = v_r16_i_i266_i_i; p_v_r12_sroa_10_0_i_i_i = v_r96_i111_i_i_i; goto L_arm_1_i104_i_i; }
+    { p_v_r4_i23_sroa_12_21549_i_i = v_r19_i_i267_i_i; p_v_r4_i23_sroa_0_21547_i_i = v_r16_i_i266_i_i; p_v_r12_sroa_10_0_i_i_i = v_r96_i111_i_i_i; goto L_arm_1_i104_i_i; }
 L_join_10_i84_i_i_i:;
     v_r99_i85_i_i_i = v_r106_i_i_i_i == 3u;
     if (v_r99_i85_i_i_i) { goto L_then_11_i95_i_i_i; } else { goto L_join_13_i86_i_i_i; }
@@ -28772,7 +28856,7 @@ L_then_11_i95_i_i_i:;
     v_r128_i_i_i_i = get_u8(v_r108_i97_i_i_i);
     v_r130_i105_i_i_i = (u64)v_r128_i_i_i_i;
     v_r133_i_i_i_i = (u64)((u64)(v_r126_i104_i_i_i) | (u64)(v_r130_i105_i_i_i));
-    { p_v_r4_i23_sroa_12_21508_i_i = v_r19_i_i267_i_i; p_v_r4_i23_sroa_0_21506_i_i = v_r16_i_i266_i_i; p_v_r12_sroa_10_0_i_i_i = v_r133_i_i_i_i; goto L_arm_1_i104_i_i; }
+    { p_v_r4_i23_sroa_12_21549_i_i = v_r19_i_i267_i_i; p_v_r4_i23_sroa_0_21547_i_i = v_r16_i_i266_i_i; p_v_r12_sroa_10_0_i_i_i = v_r133_i_i_i_i; goto L_arm_1_i104_i_i; }
 L_join_13_i86_i_i_i:;
     v_r136_i87_i_i_i = v_r106_i_i_i_i < 5u;
     if (v_r136_i87_i_i_i) { goto L_then_14_i_i_i_i; } else { goto L_join_16_i_i_i_i; }
@@ -28793,21 +28877,21 @@ L_then_14_i_i_i_i:;
     v_r177_i_i_i_i = get_u8(v_r147_i90_i_i_i);
     v_r179_i_i_i_i = (u64)v_r177_i_i_i_i;
     v_r182_i_i_i_i = (u64)((u64)(v_r175_i_i_i_i) | (u64)(v_r179_i_i_i_i));
-    { p_v_r4_i23_sroa_12_21508_i_i = v_r19_i_i267_i_i; p_v_r4_i23_sroa_0_21506_i_i = v_r16_i_i266_i_i; p_v_r12_sroa_10_0_i_i_i = v_r182_i_i_i_i; goto L_arm_1_i104_i_i; }
+    { p_v_r4_i23_sroa_12_21549_i_i = v_r19_i_i267_i_i; p_v_r4_i23_sroa_0_21547_i_i = v_r16_i_i266_i_i; p_v_r12_sroa_10_0_i_i_i = v_r182_i_i_i_i; goto L_arm_1_i104_i_i; }
 L_join_16_i_i_i_i:;
     __builtin_trap();
     __builtin_trap();
 L_arm_1_i104_i_i:;
-    v_r4_i23_sroa_12_21508_i_i = p_v_r4_i23_sroa_12_21508_i_i;
-    v_r4_i23_sroa_0_21506_i_i = p_v_r4_i23_sroa_0_21506_i_i;
+    v_r4_i23_sroa_12_21549_i_i = p_v_r4_i23_sroa_12_21549_i_i;
+    v_r4_i23_sroa_0_21547_i_i = p_v_r4_i23_sroa_0_21547_i_i;
     v_r12_sroa_10_0_i_i_i = p_v_r12_sroa_10_0_i_i_i;
     if (v_r8_i22_i_i_i) { goto L_join_3_i_i377_i_i; } else { p_v_r0_i44_sroa_9_0_ph_i_i = 11u; goto L_arm_6_i_i_i; }
 L_join_3_i_i377_i_i:;
     v_r3_i25_i_i_i_i = (u64)((u64)(v_r12_sroa_10_0_i_i_i) & (u64)(4294967295ull));
-    v_r39_i_i380_i_i = v_r4_i23_sroa_12_21508_i_i < v_r3_i25_i_i_i_i;
+    v_r39_i_i380_i_i = v_r4_i23_sroa_12_21549_i_i < v_r3_i25_i_i_i_i;
     if (v_r39_i_i380_i_i) { p_v_r0_i44_sroa_9_0_ph_i_i = 2u; goto L_arm_6_i_i_i; } else { goto L_arm_8_i109_i_i; }
 L_arm_8_i109_i_i:;
-    put_P(v_r6_i61_i_i, v_r4_i23_sroa_0_21506_i_i);
+    put_P(v_r6_i61_i_i, v_r4_i23_sroa_0_21547_i_i);
     v_r29_i73_sroa_5_0_r6_i61_sroa_idx_i_i = v_r6_i61_i_i + 8;
     put_u64(v_r29_i73_sroa_5_0_r6_i61_sroa_idx_i_i, v_r3_i25_i_i_i_i);
     v_r29_i73_sroa_6_0_r6_i61_sroa_idx_i_i = v_r6_i61_i_i + 16;
@@ -28865,7 +28949,7 @@ L_join_3_i455_i_i:;
     v_r9_i64_sroa_23_0_copyload_i_i = get_P(v_r9_i64_sroa_23_0_r106_i_sroa_idx_i_i);
     v_r9_i64_sroa_24_0_r106_i_sroa_idx_i_i = v_r30_i74_i_i + 168;
     v_r9_i64_sroa_24_0_copyload_i_i = get_u64(v_r9_i64_sroa_24_0_r106_i_sroa_idx_i_i);
-    v_r7_i_i456_i_i = v_r4_i23_sroa_12_21508_i_i == v_r3_i25_i_i_i_i;
+    v_r7_i_i456_i_i = v_r4_i23_sroa_12_21549_i_i == v_r3_i25_i_i_i_i;
     if (v_r7_i_i456_i_i) { p_v_r5_sroa_144_0_ph_i = v_r9_i64_sroa_0_0_copyload_i_i; p_v_r5_sroa_19_0_ph_i = v_r9_i64_sroa_5_0_copyload_i_i; p_v_r5_sroa_22_0_ph_i = v_r9_i64_sroa_6_0_copyload_i_i; p_v_r5_sroa_25_0_ph_i = v_r9_i64_sroa_7_0_copyload_i_i; p_v_r5_sroa_28_0_ph_i = v_r9_i64_sroa_8_0_copyload_i_i; p_v_r5_sroa_31_0_ph_i = v_r9_i64_sroa_9_0_copyload_i_i; p_v_r5_sroa_34_0_ph_i = v_r9_i64_sroa_10_0_copyload_i_i; p_v_r5_sroa_37_0_ph_i = v_r9_i64_sroa_11_0_copyload_i_i; p_v_r5_sroa_40_0_ph_i = v_r9_i64_sroa_12_0_copyload_i_i; p_v_r5_sroa_43_0_ph_i = v_r9_i64_sroa_13_0_copyload_i_i; p_v_r5_sroa_46_0_ph_i = v_r9_i64_sroa_14_0_copyload_i_i; p_v_r5_sroa_49_0_ph_i = v_r9_i64_sroa_15_0_copyload_i_i; p_v_r5_sroa_52_0_ph_i = v_r9_i64_sroa_16_0_copyload_i_i; p_v_r5_sroa_55_0_ph_i = v_r9_i64_sroa_17_0_copyload_i_i; p_v_r5_sroa_58_0_ph_i = v_r9_i64_sroa_18_0_copyload_i_i; p_v_r5_sroa_61_0_ph_i = v_r9_i64_sroa_19_0_copyload_i_i; p_v_r5_sroa_64_0_ph_i = v_r9_i64_sroa_20_0_copyload_i_i; p_v_r5_sroa_67_0_ph_i = v_r9_i64_sroa_21_0_copyload_i_i; p_v_r5_sroa_70_0_ph_i = v_r9_i64_sroa_22_0_copyload_i_i; p_v_r5_sroa_73_0_ph_i = v_r9_i64_sroa_23_0_copyload_i_i; p_v_r5_sroa_76_0_ph_i = v_r9_i64_sroa_24_0_copyload_i_i; goto L_arm_1_i; } else { p_v_r6_0_i = 13u; goto L_pkcs1_c_oaep_pkcs1_c_oaep_params_decode_exit; }
 L_arm_6_i_i_i:;
     v_r0_i44_sroa_9_0_ph_i_i = p_v_r0_i44_sroa_9_0_ph_i_i;
@@ -29019,17 +29103,19 @@ L_pkcs1_c_oaep_pkcs1_c_oaep_params_decode_exit:;
     return v_r6_0_i;
 }
 u32 pkcs1_c_oaep_params_decode_strict(P v_a0, u64 v_a1, P v_a2) {
+    ALIGNED(8) unsigned char m_v_r7_i_i_i2_i_i[56];
+    ALIGNED(1) unsigned char m_v_r0_i3_i_i[5];
     ALIGNED(8) unsigned char m_v_r6_i61_i_i_i[24];
     ALIGNED(8) unsigned char m_v_r30_i74_i_i_i[176];
     ALIGNED(8) unsigned char m_v_r7_i_i_i_i_i[56];
     ALIGNED(8) unsigned char m_v_r3_i_i[168];
-    ALIGNED(1) unsigned char m_v_r11_i_i[5];
     u8 p_v_r38_i_i_i_i;
-    u64 p_v_r4_i23_sroa_12_21508_i_i_i;
-    P p_v_r4_i23_sroa_0_21506_i_i_i;
+    u64 p_v_r4_i23_sroa_12_21549_i_i_i;
+    P p_v_r4_i23_sroa_0_21547_i_i_i;
     u64 p_v_r12_sroa_10_0_i_i_i_i;
     u8 p_v_r0_i44_sroa_9_0_ph_i_i_i;
-    P p_v_r8_sroa_1428_0_ph_i_i;
+    u1 p_v_r26_i3_i_i_i;
+    P p_v_r8_sroa_1450_0_ph_i_i;
     u64 p_v_r8_sroa_19_0_ph_i_i;
     u64 p_v_r8_sroa_22_0_ph_i_i;
     u64 p_v_r8_sroa_25_0_ph_i_i;
@@ -29057,13 +29143,14 @@ u32 pkcs1_c_oaep_params_decode_strict(P v_a0, u64 v_a1, P v_a2) {
     u8 p_v_r5_sroa_10_0_i6_i_i;
     P p_v_r5_sroa_12_0_i_i_i;
     u64 p_v_r5_sroa_13_0_i_i_i;
-    u8 p_v_r5_sroa_8_0_ph81_i;
+    u8 p_v_r5_sroa_8_0_ph80_i;
     u32 p_v_r6_0_i;
+    P v_r7_i_i_i2_i_i;
+    P v_r0_i3_i_i;
     P v_r6_i61_i_i_i;
     P v_r30_i74_i_i_i;
     P v_r7_i_i_i_i_i;
     P v_r3_i_i;
-    P v_r11_i_i;
     u1 v_r1;
     u64 v_r3;
     P v_r4;
@@ -29073,8 +29160,8 @@ u32 pkcs1_c_oaep_params_decode_strict(P v_a0, u64 v_a1, P v_a2) {
     P v_r30_i145_i_i_i;
     u8 v_r32_i146_i_i_i;
     u1 v_r34_i147_i_i_i;
-    u1 v_r19_i20_i_i_i;
-    u8 v_r26_i21_pr_pre_i_i_i;
+    u1 v_r19_i6_i_i_i;
+    u8 v_r26_i7_pr_pre_i_i_i;
     u1 v_0;
     P v_r36_i_i_phi_trans_insert_i_i;
     u8 v_r38_i_i_pre_i_i;
@@ -29097,6 +29184,8 @@ u32 pkcs1_c_oaep_params_decode_strict(P v_a0, u64 v_a1, P v_a2) {
     P v_r13_sroa_8_i_sroa_6_0_r11_i165_sroa_idx_i_i_i;
     u64 v_r13_sroa_8_i_sroa_6_0_copyload_i_i_i;
     u64 v_r24_i_i_i_i_i;
+    u8 v_r26_i3_i_pre_i_i;
+    u1 v_2;
     u1 v_r16_i169_i_i_i;
     u1 v_r39_i_i184_i_i_i;
     P v_r16_i_i_i_i_i_i;
@@ -29104,8 +29193,8 @@ u32 pkcs1_c_oaep_params_decode_strict(P v_a0, u64 v_a1, P v_a2) {
     u1 v_r8_i22_i_i_i_i;
     u8 v_r9_i199_i_i_i;
     u1 v_r11_i200_i_i_i;
-    u8 v_2;
-    u1 v_3;
+    u8 v_3;
+    u1 v_4;
     u1 v_r2_0_in_i_not_i_i_i;
     u1 v_r39_i_i215_i_i_i;
     P v_r16_i_i_i218_i_i_i;
@@ -29161,17 +29250,17 @@ u32 pkcs1_c_oaep_params_decode_strict(P v_a0, u64 v_a1, P v_a2) {
     u8 v_r177_i_i_i_i_i;
     u64 v_r179_i_i_i_i_i;
     u64 v_r182_i_i_i_i_i;
-    u64 v_r4_i23_sroa_12_21508_i_i_i;
-    P v_r4_i23_sroa_0_21506_i_i_i;
+    u64 v_r4_i23_sroa_12_21549_i_i_i;
+    P v_r4_i23_sroa_0_21547_i_i_i;
     u64 v_r12_sroa_10_0_i_i_i_i;
     u64 v_r3_i25_i_i_i_i_i;
     u1 v_r39_i_i380_i_i_i;
     P v_r29_i73_sroa_5_0_r6_i61_sroa_idx_i_i_i;
     P v_r29_i73_sroa_6_0_r6_i61_sroa_idx_i_i_i;
     u8 v_r105_i_i_i_i;
-    u1 v_4;
+    u1 v_5;
     P v_r124_i_i_i_i;
-    u8 v_5;
+    u8 v_6;
     P v_r106_i_i_i_i;
     P v_r9_i64_sroa_0_0_copyload_i_i_i;
     P v_r9_i64_sroa_5_0_r106_i_sroa_idx_i_i_i;
@@ -29216,7 +29305,8 @@ u32 pkcs1_c_oaep_params_decode_strict(P v_a0, u64 v_a1, P v_a2) {
     u64 v_r9_i64_sroa_24_0_copyload_i_i_i;
     u1 v_r7_i_i456_i_i_i;
     u8 v_r0_i44_sroa_9_0_ph_i_i_i;
-    P v_r8_sroa_1428_0_ph_i_i;
+    u1 v_r26_i3_i_i_i;
+    P v_r8_sroa_1450_0_ph_i_i;
     u64 v_r8_sroa_19_0_ph_i_i;
     u64 v_r8_sroa_22_0_ph_i_i;
     u64 v_r8_sroa_25_0_ph_i_i;
@@ -29257,20 +29347,31 @@ u32 pkcs1_c_oaep_params_decode_strict(P v_a0, u64 v_a1, P v_a2) {
     P v_r9_sroa_20_0_r3_sroa_idx_i_i;
     P v_r9_sroa_21_0_r3_sroa_idx_i_i;
     P v_r9_sroa_22_0_r3_sroa_idx_i_i;
-    u8 v_r1_sroa_0_0_copyload_i2_i_i;
-    u1 v_6;
     u8 v_7;
     u8 v_8;
     u8 v_9;
     u8 v_10;
-    u8 v_r8_sroa_8_0_i_i;
+    P v_r36_i_i6_i_i;
+    u8 v_r38_i_i7_i_i;
+    u1 v_r40_i_i8_i_i;
+    P v_r48_i_i10_i_i;
+    u64 v_r51_i_i11_i_i;
+    u8 v_r2_i5_i_i_i;
     u1 v_11;
+    u8 v_12;
+    P v_r23_i_i_i;
+    u8 v_13;
+    P v_r25_i_i_i;
+    u8 v_14;
+    u1 v_15;
+    u8 v_r8_sroa_8_0_i_i;
+    u1 v_16;
     u8 v_r4_i_i_i_i_i;
     u8 v_r5_sroa_6_0_i_i_i;
     P v_r5_sroa_81_0_i_i_i;
     u64 v_r5_sroa_10_0_i_i_i;
-    u1 v_12;
-    u1 v_13;
+    u1 v_17;
+    u1 v_18;
     u8 v_r4_i_i_i_i_i_i;
     P v_r5_sroa_61_0_i_i_i;
     u64 v_r5_sroa_8_0_i_i_i;
@@ -29278,7 +29379,7 @@ u32 pkcs1_c_oaep_params_decode_strict(P v_a0, u64 v_a1, P v_a2) {
     u8 v_r5_sroa_10_0_i6_i_i;
     P v_r5_sroa_12_0_i_i_i;
     u64 v_r5_sroa_13_0_i_i_i;
-    u1 v_14;
+    u1 v_19;
     u8 v_r4_i_i_i21_i_i;
     u8 v_r5_sroa_6_0_i24_i_i;
     P v_r5_sroa_81_0_i25_i_i;
@@ -29307,19 +29408,16 @@ u32 pkcs1_c_oaep_params_decode_strict(P v_a0, u64 v_a1, P v_a2) {
     P v_r7_sroa_24_0_a2_sroa_idx_i;
     P v_r7_sroa_25_0_a2_sroa_idx_i;
     P v_r7_sroa_26_0_a2_sroa_idx_i;
-    P v_r5_i7_i_i;
-    u8 v_r1_sroa_5_2_copyload_i8_i_i;
-    P v_r3_i9_i_i;
-    u8 v_r1_sroa_3_1_copyload_i10_i_i;
-    u8 v_r5_sroa_8_0_ph81_i;
+    u8 v_r5_sroa_8_0_ph80_i;
     u32 v_switch_idx_cast_i_i_i;
     u32 v_switch_offset_i_i_i;
     u32 v_r6_0_i;
+    v_r7_i_i_i2_i_i = m_v_r7_i_i_i2_i_i;
+    v_r0_i3_i_i = m_v_r0_i3_i_i;
     v_r6_i61_i_i_i = m_v_r6_i61_i_i_i;
     v_r30_i74_i_i_i = m_v_r30_i74_i_i_i;
     v_r7_i_i_i_i_i = m_v_r7_i_i_i_i_i;
     v_r3_i_i = m_v_r3_i_i;
-    v_r11_i_i = m_v_r11_i_i;
     v_r1 = v_a0 == (P)0;
     v_r3 = v_r1 ? 4096u : 0u;
     v_r4 = (P)((uintptr_t)v_a0 + (u64)(v_r3));
@@ -29333,13 +29431,13 @@ L_pkcs1_params_defaults_is_empty_sequence_exit_i_i_i:;
     v_r30_i145_i_i_i = v_r4 + 1;
     v_r32_i146_i_i_i = get_u8(v_r30_i145_i_i_i);
     v_r34_i147_i_i_i = v_r32_i146_i_i_i == 0u;
-    if (v_r34_i147_i_i_i) { p_v_r8_sroa_1428_0_ph_i_i = (P)f_static_31; p_v_r8_sroa_19_0_ph_i_i = 5u; p_v_r8_sroa_22_0_ph_i_i = 1u; p_v_r8_sroa_25_0_ph_i_i = 5u; p_v_r8_sroa_28_0_ph_i_i = (P)f_static_27; p_v_r8_sroa_31_0_ph_i_i = 0u; p_v_r8_sroa_34_0_ph_i_i = (P)f_static_30; p_v_r8_sroa_37_0_ph_i_i = 9u; p_v_r8_sroa_40_0_ph_i_i = 1u; p_v_r8_sroa_43_0_ph_i_i = (P)f_static_31; p_v_r8_sroa_46_0_ph_i_i = 5u; p_v_r8_sroa_49_0_ph_i_i = 1u; p_v_r8_sroa_52_0_ph_i_i = 5u; p_v_r8_sroa_55_0_ph_i_i = (P)f_static_27; p_v_r8_sroa_58_0_ph_i_i = 0u; p_v_r8_sroa_61_0_ph_i_i = (P)f_static_0; p_v_r8_sroa_64_0_ph_i_i = 9u; p_v_r8_sroa_67_0_ph_i_i = 1u; p_v_r8_sroa_70_0_ph_i_i = 4u; p_v_r8_sroa_73_0_ph_i_i = (P)f_static_27; p_v_r8_sroa_76_0_ph_i_i = 0u; goto L_arm_1_i_i; } else { p_v_r38_i_i_i_i = v_r32_i146_i_i_i; goto L_then_5_i_i_i_i; }
+    if (v_r34_i147_i_i_i) { p_v_r26_i3_i_i_i = 1u; p_v_r8_sroa_1450_0_ph_i_i = (P)f_static_31; p_v_r8_sroa_19_0_ph_i_i = 5u; p_v_r8_sroa_22_0_ph_i_i = 1u; p_v_r8_sroa_25_0_ph_i_i = 5u; p_v_r8_sroa_28_0_ph_i_i = (P)f_static_27; p_v_r8_sroa_31_0_ph_i_i = 0u; p_v_r8_sroa_34_0_ph_i_i = (P)f_static_30; p_v_r8_sroa_37_0_ph_i_i = 9u; p_v_r8_sroa_40_0_ph_i_i = 1u; p_v_r8_sroa_43_0_ph_i_i = (P)f_static_31; p_v_r8_sroa_46_0_ph_i_i = 5u; p_v_r8_sroa_49_0_ph_i_i = 1u; p_v_r8_sroa_52_0_ph_i_i = 5u; p_v_r8_sroa_55_0_ph_i_i = (P)f_static_27; p_v_r8_sroa_58_0_ph_i_i = 0u; p_v_r8_sroa_61_0_ph_i_i = (P)f_static_0; p_v_r8_sroa_64_0_ph_i_i = 9u; p_v_r8_sroa_67_0_ph_i_i = 1u; p_v_r8_sroa_70_0_ph_i_i = 4u; p_v_r8_sroa_73_0_ph_i_i = (P)f_static_27; p_v_r8_sroa_76_0_ph_i_i = 0u; goto L_then_2_i_i4_i_i; } else { p_v_r38_i_i_i_i = v_r32_i146_i_i_i; goto L_then_5_i_i_i_i; }
 L_join_3_i_i_i:;
-    v_r19_i20_i_i_i = v_a1 > 1u;
-    if (v_r19_i20_i_i_i) { goto L_then_2_i_i_i_i; } else { goto L_join_3_i_i_i_i_i; }
+    v_r19_i6_i_i_i = v_a1 > 1u;
+    if (v_r19_i6_i_i_i) { goto L_then_2_i_i_i_i; } else { goto L_join_3_i_i_i_i_i; }
 L_then_2_i_i_i_i:;
-    v_r26_i21_pr_pre_i_i_i = get_u8(v_r4);
-    v_0 = v_r26_i21_pr_pre_i_i_i == 48u;
+    v_r26_i7_pr_pre_i_i_i = get_u8(v_r4);
+    v_0 = v_r26_i7_pr_pre_i_i_i == 48u;
     if (v_0) { goto L_then_2_i_i_then_5_i_i_crit_edge_i_i; } else { goto L_join_7_i_i_i; }
 L_then_2_i_i_then_5_i_i_crit_edge_i_i:;
     v_r36_i_i_phi_trans_insert_i_i = v_r4 + 1;
@@ -29372,7 +29470,9 @@ L_arm_4_i_i_i:;
     v_r13_sroa_8_i_sroa_6_0_r11_i165_sroa_idx_i_i_i = v_r7_i_i_i_i_i + 48;
     v_r13_sroa_8_i_sroa_6_0_copyload_i_i_i = get_u64(v_r13_sroa_8_i_sroa_6_0_r11_i165_sroa_idx_i_i_i);
     v_r24_i_i_i_i_i = (u64)v_r8_i160_i_i_i;
-    { p_v_r8_sroa_1428_0_ph_i_i = v_r13_sroa_4_i_sroa_3_7_copyload_i_i_i; p_v_r8_sroa_19_0_ph_i_i = v_r13_sroa_4_i_sroa_5_7_copyload_i_i_i; p_v_r8_sroa_22_0_ph_i_i = v_r24_i_i_i_i_i; p_v_r8_sroa_25_0_ph_i_i = v_r13_sroa_8_i_sroa_0_0_copyload_i_i_i; p_v_r8_sroa_28_0_ph_i_i = v_r13_sroa_8_i_sroa_5_0_copyload_i_i_i; p_v_r8_sroa_31_0_ph_i_i = v_r13_sroa_8_i_sroa_6_0_copyload_i_i_i; p_v_r8_sroa_34_0_ph_i_i = (P)f_static_30; p_v_r8_sroa_37_0_ph_i_i = 9u; p_v_r8_sroa_40_0_ph_i_i = 1u; p_v_r8_sroa_43_0_ph_i_i = v_r13_sroa_4_i_sroa_3_7_copyload_i_i_i; p_v_r8_sroa_46_0_ph_i_i = v_r13_sroa_4_i_sroa_5_7_copyload_i_i_i; p_v_r8_sroa_49_0_ph_i_i = v_r24_i_i_i_i_i; p_v_r8_sroa_52_0_ph_i_i = v_r13_sroa_8_i_sroa_0_0_copyload_i_i_i; p_v_r8_sroa_55_0_ph_i_i = v_r13_sroa_8_i_sroa_5_0_copyload_i_i_i; p_v_r8_sroa_58_0_ph_i_i = v_r13_sroa_8_i_sroa_6_0_copyload_i_i_i; p_v_r8_sroa_61_0_ph_i_i = (P)f_static_0; p_v_r8_sroa_64_0_ph_i_i = 9u; p_v_r8_sroa_67_0_ph_i_i = 1u; p_v_r8_sroa_70_0_ph_i_i = 4u; p_v_r8_sroa_73_0_ph_i_i = (P)f_static_27; p_v_r8_sroa_76_0_ph_i_i = 0u; goto L_arm_1_i_i; }
+    v_r26_i3_i_pre_i_i = get_u8(v_r4);
+    v_2 = v_r26_i3_i_pre_i_i == 48u;
+    { p_v_r26_i3_i_i_i = v_2; p_v_r8_sroa_1450_0_ph_i_i = v_r13_sroa_4_i_sroa_3_7_copyload_i_i_i; p_v_r8_sroa_19_0_ph_i_i = v_r13_sroa_4_i_sroa_5_7_copyload_i_i_i; p_v_r8_sroa_22_0_ph_i_i = v_r24_i_i_i_i_i; p_v_r8_sroa_25_0_ph_i_i = v_r13_sroa_8_i_sroa_0_0_copyload_i_i_i; p_v_r8_sroa_28_0_ph_i_i = v_r13_sroa_8_i_sroa_5_0_copyload_i_i_i; p_v_r8_sroa_31_0_ph_i_i = v_r13_sroa_8_i_sroa_6_0_copyload_i_i_i; p_v_r8_sroa_34_0_ph_i_i = (P)f_static_30; p_v_r8_sroa_37_0_ph_i_i = 9u; p_v_r8_sroa_40_0_ph_i_i = 1u; p_v_r8_sroa_43_0_ph_i_i = v_r13_sroa_4_i_sroa_3_7_copyload_i_i_i; p_v_r8_sroa_46_0_ph_i_i = v_r13_sroa_4_i_sroa_5_7_copyload_i_i_i; p_v_r8_sroa_49_0_ph_i_i = v_r24_i_i_i_i_i; p_v_r8_sroa_52_0_ph_i_i = v_r13_sroa_8_i_sroa_0_0_copyload_i_i_i; p_v_r8_sroa_55_0_ph_i_i = v_r13_sroa_8_i_sroa_5_0_copyload_i_i_i; p_v_r8_sroa_58_0_ph_i_i = v_r13_sroa_8_i_sroa_6_0_copyload_i_i_i; p_v_r8_sroa_61_0_ph_i_i = (P)f_static_0; p_v_r8_sroa_64_0_ph_i_i = 9u; p_v_r8_sroa_67_0_ph_i_i = 1u; p_v_r8_sroa_70_0_ph_i_i = 4u; p_v_r8_sroa_73_0_ph_i_i = (P)f_static_27; p_v_r8_sroa_76_0_ph_i_i = 0u; goto L_then_2_i_i4_i_i; }
 L_join_7_i_i_i:;
     v_r16_i169_i_i_i = v_a1 < 4294967296ull;
     if (v_r16_i169_i_i_i) { goto L_join_3_i_i_i_thread_i_i; } else { p_v_r8_sroa_8_0_i_i = 7u; goto L_arm_2_thread_i; }
@@ -29391,9 +29491,9 @@ L_arm_1_i_i123_i_i_i:;
 L_der_core_header_tag_of_exit_i_i_i_i:;
     v_r9_i199_i_i_i = (u8)((u32)(v_r29_i186_i_i_i) & (u32)(31u));
     v_r11_i200_i_i_i = v_r9_i199_i_i_i != 31u;
-    v_2 = (u8)((u32)(v_r29_i186_i_i_i) & (u32)(223u));
-    v_3 = v_2 != 0u;
-    v_r2_0_in_i_not_i_i_i = (u1)(((u32)(v_r11_i200_i_i_i) & (u32)(v_3)) & 1);
+    v_3 = (u8)((u32)(v_r29_i186_i_i_i) & (u32)(223u));
+    v_4 = v_3 != 0u;
+    v_r2_0_in_i_not_i_i_i = (u1)(((u32)(v_r11_i200_i_i_i) & (u32)(v_4)) & 1);
     if (v_r2_0_in_i_not_i_i_i) { goto L_join_3_i_i212_i_i_i; } else { p_v_r0_i44_sroa_9_0_ph_i_i_i = 11u; goto L_arm_6_i_i_i_i; }
 L_join_3_i_i212_i_i_i:;
     v_r39_i_i215_i_i_i = v_a1 == 1u;
@@ -29406,7 +29506,7 @@ L_arm_1_i59_i_i_i_i:;
     if (v_r51_i62_i_i_i_i) { goto L_then_5_i_i_i_i_i; } else { goto L_join_7_i63_i_i_i_i; }
 L_then_5_i_i_i_i_i:;
     v_r56_i73_i_i_i_i = (u64)v_r29_i220_i_i_i;
-    { p_v_r4_i23_sroa_12_21508_i_i_i = v_r19_i_i_i219_i_i_i; p_v_r4_i23_sroa_0_21506_i_i_i = v_r16_i_i_i218_i_i_i; p_v_r12_sroa_10_0_i_i_i_i = v_r56_i73_i_i_i_i; goto L_arm_1_i104_i_i_i; }
+    { p_v_r4_i23_sroa_12_21549_i_i_i = v_r19_i_i_i219_i_i_i; p_v_r4_i23_sroa_0_21547_i_i_i = v_r16_i_i_i218_i_i_i; p_v_r12_sroa_10_0_i_i_i_i = v_r56_i73_i_i_i_i; goto L_arm_1_i104_i_i_i; }
 L_join_7_i63_i_i_i_i:;
     v_r68_i64_i_i_i_i = v_r29_i220_i_i_i == 128u;
     if (v_r68_i64_i_i_i_i) { p_v_r0_i44_sroa_9_0_ph_i_i_i = 2u; goto L_arm_6_i_i_i_i; } else { goto L_join_10_i_i_i_i_i; }
@@ -29436,7 +29536,7 @@ L_der_core_length_is_overlong_exit_i_i_i:;
     if (v_r30_i297_i_i_i) { p_v_r0_i44_sroa_9_0_ph_i_i_i = 8u; goto L_arm_6_i_i_i_i; } else { goto L_then_5_i80_i_i_i_i; }
 L_then_5_i80_i_i_i_i:;
     v_r71_i_i_i_i_i = (u64)v_r28_i296_i_i_i;
-    { p_v_r4_i23_sroa_12_21508_i_i_i = v_r19_i_i267_i_i_i; p_v_r4_i23_sroa_0_21506_i_i_i = v_r16_i_i266_i_i_i; p_v_r12_sroa_10_0_i_i_i_i = v_r71_i_i_i_i_i; goto L_arm_1_i104_i_i_i; }
+    { p_v_r4_i23_sroa_12_21549_i_i_i = v_r19_i_i267_i_i_i; p_v_r4_i23_sroa_0_21547_i_i_i = v_r16_i_i266_i_i_i; p_v_r12_sroa_10_0_i_i_i_i = v_r71_i_i_i_i_i; goto L_arm_1_i104_i_i_i; }
 L_join_7_i82_i_i_i_i:;
     v_r74_i83_i_i_i_i = v_r106_i_i_i_i_i < 3u;
     if (v_r74_i83_i_i_i_i) { goto L_then_8_i106_i_i_i_i; } else { goto L_join_10_i84_i_i_i_i; }
@@ -29447,7 +29547,7 @@ L_then_8_i106_i_i_i_i:;
     v_r91_i_i136_i_i_i = get_u8(v_r81_i107_i_i_i_i);
     v_r93_i110_i_i_i_i = (u64)v_r91_i_i136_i_i_i;
     v_r96_i111_i_i_i_i = (u64)((u64)(v_r89_i_i135_i_i_i) | (u64)(v_r93_i110_i_i_i_i));
-    { p_v_r4_i23_sroa_12_21508_i_i_i = v_r19_i_i267_i_i_i; p_v_r4_i23_sroa_0_21506_i_i_i = v_r16_i_i266_i_i_i; p_v_r12_sroa_10_0_i_i_i_i = v_r96_i111_i_i_i_i; goto L_arm_1_i104_i_i_i; }
+    { p_v_r4_i23_sroa_12_21549_i_i_i = v_r19_i_i267_i_i_i; p_v_r4_i23_sroa_0_21547_i_i_i = v_r16_i_i266_i_i_i; p_v_r12_sroa_10_0_i_i_i_i = v_r96_i111_i_i_i_i; goto L_arm_1_i104_i_i_i; }
 L_join_10_i84_i_i_i_i:;
     v_r99_i85_i_i_i_i = v_r106_i_i_i_i_i == 3u;
     if (v_r99_i85_i_i_i_i) { goto L_then_11_i95_i_i_i_i; } else { goto L_join_13_i86_i_i_i_i; }
@@ -29463,7 +29563,7 @@ L_then_11_i95_i_i_i_i:;
     v_r128_i_i_i_i_i = get_u8(v_r108_i97_i_i_i_i);
     v_r130_i105_i_i_i_i = (u64)v_r128_i_i_i_i_i;
     v_r133_i_i_i_i_i = (u64)((u64)(v_r126_i104_i_i_i_i) | (u64)(v_r130_i105_i_i_i_i));
-    { p_v_r4_i23_sroa_12_21508_i_i_i = v_r19_i_i267_i_i_i; p_v_r4_i23_sroa_0_21506_i_i_i = v_r16_i_i266_i_i_i; p_v_r12_sroa_10_0_i_i_i_i = v_r133_i_i_i_i_i; goto L_arm_1_i104_i_i_i; }
+    { p_v_r4_i23_sroa_12_21549_i_i_i = v_r19_i_i267_i_i_i; p_v_r4_i23_sroa_0_21547_i_i_i = v_r16_i_i266_i_i_i; p_v_r12_sroa_10_0_i_i_i_i = v_r133_i_i_i_i_i; goto L_arm_1_i104_i_i_i; }
 L_join_13_i86_i_i_i_i:;
     v_r136_i87_i_i_i_i = v_r106_i_i_i_i_i < 5u;
     if (v_r136_i87_i_i_i_i) { goto L_then_14_i_i_i_i_i; } else { goto L_join_16_i_i_i_i_i; }
@@ -29484,33 +29584,33 @@ L_then_14_i_i_i_i_i:;
     v_r177_i_i_i_i_i = get_u8(v_r147_i90_i_i_i_i);
     v_r179_i_i_i_i_i = (u64)v_r177_i_i_i_i_i;
     v_r182_i_i_i_i_i = (u64)((u64)(v_r175_i_i_i_i_i) | (u64)(v_r179_i_i_i_i_i));
-    { p_v_r4_i23_sroa_12_21508_i_i_i = v_r19_i_i267_i_i_i; p_v_r4_i23_sroa_0_21506_i_i_i = v_r16_i_i266_i_i_i; p_v_r12_sroa_10_0_i_i_i_i = v_r182_i_i_i_i_i; goto L_arm_1_i104_i_i_i; }
+    { p_v_r4_i23_sroa_12_21549_i_i_i = v_r19_i_i267_i_i_i; p_v_r4_i23_sroa_0_21547_i_i_i = v_r16_i_i266_i_i_i; p_v_r12_sroa_10_0_i_i_i_i = v_r182_i_i_i_i_i; goto L_arm_1_i104_i_i_i; }
 L_join_16_i_i_i_i_i:;
     __builtin_trap();
     __builtin_trap();
 L_arm_1_i104_i_i_i:;
-    v_r4_i23_sroa_12_21508_i_i_i = p_v_r4_i23_sroa_12_21508_i_i_i;
-    v_r4_i23_sroa_0_21506_i_i_i = p_v_r4_i23_sroa_0_21506_i_i_i;
+    v_r4_i23_sroa_12_21549_i_i_i = p_v_r4_i23_sroa_12_21549_i_i_i;
+    v_r4_i23_sroa_0_21547_i_i_i = p_v_r4_i23_sroa_0_21547_i_i_i;
     v_r12_sroa_10_0_i_i_i_i = p_v_r12_sroa_10_0_i_i_i_i;
     if (v_r8_i22_i_i_i_i) { goto L_join_3_i_i377_i_i_i; } else { p_v_r0_i44_sroa_9_0_ph_i_i_i = 10u; goto L_arm_6_i_i_i_i; }
 L_join_3_i_i377_i_i_i:;
     v_r3_i25_i_i_i_i_i = (u64)((u64)(v_r12_sroa_10_0_i_i_i_i) & (u64)(4294967295ull));
-    v_r39_i_i380_i_i_i = v_r4_i23_sroa_12_21508_i_i_i < v_r3_i25_i_i_i_i_i;
+    v_r39_i_i380_i_i_i = v_r4_i23_sroa_12_21549_i_i_i < v_r3_i25_i_i_i_i_i;
     if (v_r39_i_i380_i_i_i) { p_v_r0_i44_sroa_9_0_ph_i_i_i = 1u; goto L_arm_6_i_i_i_i; } else { goto L_arm_8_i109_i_i_i; }
 L_arm_8_i109_i_i_i:;
-    put_P(v_r6_i61_i_i_i, v_r4_i23_sroa_0_21506_i_i_i);
+    put_P(v_r6_i61_i_i_i, v_r4_i23_sroa_0_21547_i_i_i);
     v_r29_i73_sroa_5_0_r6_i61_sroa_idx_i_i_i = v_r6_i61_i_i_i + 8;
     put_u64(v_r29_i73_sroa_5_0_r6_i61_sroa_idx_i_i_i, v_r3_i25_i_i_i_i_i);
     v_r29_i73_sroa_6_0_r6_i61_sroa_idx_i_i_i = v_r6_i61_i_i_i + 16;
     put_u64(v_r29_i73_sroa_6_0_r6_i61_sroa_idx_i_i_i, 0u);
     f_pkcs1_params_oaep_reading_OaepParamsOfAnyRefDecode(v_r30_i74_i_i_i, v_r6_i61_i_i_i);
     v_r105_i_i_i_i = get_u8(v_r30_i74_i_i_i);
-    v_4 = v_r105_i_i_i_i == 0u;
-    if (v_4) { goto L_join_3_i455_i_i_i; } else { goto L_arm_12_i_i_i_i; }
+    v_5 = v_r105_i_i_i_i == 0u;
+    if (v_5) { goto L_join_3_i455_i_i_i; } else { goto L_arm_12_i_i_i_i; }
 L_arm_12_i_i_i_i:;
     v_r124_i_i_i_i = v_r30_i74_i_i_i + 1;
-    v_5 = get_u8(v_r124_i_i_i_i);
-    { p_v_r0_i44_sroa_9_0_ph_i_i_i = v_5; goto L_arm_6_i_i_i_i; }
+    v_6 = get_u8(v_r124_i_i_i_i);
+    { p_v_r0_i44_sroa_9_0_ph_i_i_i = v_6; goto L_arm_6_i_i_i_i; }
 L_join_3_i455_i_i_i:;
     v_r106_i_i_i_i = v_r30_i74_i_i_i + 8;
     v_r9_i64_sroa_0_0_copyload_i_i_i = get_P(v_r106_i_i_i_i);
@@ -29554,13 +29654,14 @@ L_join_3_i455_i_i_i:;
     v_r9_i64_sroa_23_0_copyload_i_i_i = get_P(v_r9_i64_sroa_23_0_r106_i_sroa_idx_i_i_i);
     v_r9_i64_sroa_24_0_r106_i_sroa_idx_i_i_i = v_r30_i74_i_i_i + 168;
     v_r9_i64_sroa_24_0_copyload_i_i_i = get_u64(v_r9_i64_sroa_24_0_r106_i_sroa_idx_i_i_i);
-    v_r7_i_i456_i_i_i = v_r4_i23_sroa_12_21508_i_i_i == v_r3_i25_i_i_i_i_i;
-    if (v_r7_i_i456_i_i_i) { p_v_r8_sroa_1428_0_ph_i_i = v_r9_i64_sroa_0_0_copyload_i_i_i; p_v_r8_sroa_19_0_ph_i_i = v_r9_i64_sroa_5_0_copyload_i_i_i; p_v_r8_sroa_22_0_ph_i_i = v_r9_i64_sroa_6_0_copyload_i_i_i; p_v_r8_sroa_25_0_ph_i_i = v_r9_i64_sroa_7_0_copyload_i_i_i; p_v_r8_sroa_28_0_ph_i_i = v_r9_i64_sroa_8_0_copyload_i_i_i; p_v_r8_sroa_31_0_ph_i_i = v_r9_i64_sroa_9_0_copyload_i_i_i; p_v_r8_sroa_34_0_ph_i_i = v_r9_i64_sroa_10_0_copyload_i_i_i; p_v_r8_sroa_37_0_ph_i_i = v_r9_i64_sroa_11_0_copyload_i_i_i; p_v_r8_sroa_40_0_ph_i_i = v_r9_i64_sroa_12_0_copyload_i_i_i; p_v_r8_sroa_43_0_ph_i_i = v_r9_i64_sroa_13_0_copyload_i_i_i; p_v_r8_sroa_46_0_ph_i_i = v_r9_i64_sroa_14_0_copyload_i_i_i; p_v_r8_sroa_49_0_ph_i_i = v_r9_i64_sroa_15_0_copyload_i_i_i; p_v_r8_sroa_52_0_ph_i_i = v_r9_i64_sroa_16_0_copyload_i_i_i; p_v_r8_sroa_55_0_ph_i_i = v_r9_i64_sroa_17_0_copyload_i_i_i; p_v_r8_sroa_58_0_ph_i_i = v_r9_i64_sroa_18_0_copyload_i_i_i; p_v_r8_sroa_61_0_ph_i_i = v_r9_i64_sroa_19_0_copyload_i_i_i; p_v_r8_sroa_64_0_ph_i_i = v_r9_i64_sroa_20_0_copyload_i_i_i; p_v_r8_sroa_67_0_ph_i_i = v_r9_i64_sroa_21_0_copyload_i_i_i; p_v_r8_sroa_70_0_ph_i_i = v_r9_i64_sroa_22_0_copyload_i_i_i; p_v_r8_sroa_73_0_ph_i_i = v_r9_i64_sroa_23_0_copyload_i_i_i; p_v_r8_sroa_76_0_ph_i_i = v_r9_i64_sroa_24_0_copyload_i_i_i; goto L_arm_1_i_i; } else { p_v_r8_sroa_8_0_i_i = 12u; goto L_arm_2_thread_i; }
+    v_r7_i_i456_i_i_i = v_r4_i23_sroa_12_21549_i_i_i == v_r3_i25_i_i_i_i_i;
+    if (v_r7_i_i456_i_i_i) { p_v_r26_i3_i_i_i = 1u; p_v_r8_sroa_1450_0_ph_i_i = v_r9_i64_sroa_0_0_copyload_i_i_i; p_v_r8_sroa_19_0_ph_i_i = v_r9_i64_sroa_5_0_copyload_i_i_i; p_v_r8_sroa_22_0_ph_i_i = v_r9_i64_sroa_6_0_copyload_i_i_i; p_v_r8_sroa_25_0_ph_i_i = v_r9_i64_sroa_7_0_copyload_i_i_i; p_v_r8_sroa_28_0_ph_i_i = v_r9_i64_sroa_8_0_copyload_i_i_i; p_v_r8_sroa_31_0_ph_i_i = v_r9_i64_sroa_9_0_copyload_i_i_i; p_v_r8_sroa_34_0_ph_i_i = v_r9_i64_sroa_10_0_copyload_i_i_i; p_v_r8_sroa_37_0_ph_i_i = v_r9_i64_sroa_11_0_copyload_i_i_i; p_v_r8_sroa_40_0_ph_i_i = v_r9_i64_sroa_12_0_copyload_i_i_i; p_v_r8_sroa_43_0_ph_i_i = v_r9_i64_sroa_13_0_copyload_i_i_i; p_v_r8_sroa_46_0_ph_i_i = v_r9_i64_sroa_14_0_copyload_i_i_i; p_v_r8_sroa_49_0_ph_i_i = v_r9_i64_sroa_15_0_copyload_i_i_i; p_v_r8_sroa_52_0_ph_i_i = v_r9_i64_sroa_16_0_copyload_i_i_i; p_v_r8_sroa_55_0_ph_i_i = v_r9_i64_sroa_17_0_copyload_i_i_i; p_v_r8_sroa_58_0_ph_i_i = v_r9_i64_sroa_18_0_copyload_i_i_i; p_v_r8_sroa_61_0_ph_i_i = v_r9_i64_sroa_19_0_copyload_i_i_i; p_v_r8_sroa_64_0_ph_i_i = v_r9_i64_sroa_20_0_copyload_i_i_i; p_v_r8_sroa_67_0_ph_i_i = v_r9_i64_sroa_21_0_copyload_i_i_i; p_v_r8_sroa_70_0_ph_i_i = v_r9_i64_sroa_22_0_copyload_i_i_i; p_v_r8_sroa_73_0_ph_i_i = v_r9_i64_sroa_23_0_copyload_i_i_i; p_v_r8_sroa_76_0_ph_i_i = v_r9_i64_sroa_24_0_copyload_i_i_i; goto L_then_2_i_i4_i_i; } else { p_v_r8_sroa_8_0_i_i = 12u; goto L_arm_2_thread_i; }
 L_arm_6_i_i_i_i:;
     v_r0_i44_sroa_9_0_ph_i_i_i = p_v_r0_i44_sroa_9_0_ph_i_i_i;
     { p_v_r8_sroa_8_0_i_i = v_r0_i44_sroa_9_0_ph_i_i_i; goto L_arm_2_thread_i; }
-L_arm_1_i_i:;
-    v_r8_sroa_1428_0_ph_i_i = p_v_r8_sroa_1428_0_ph_i_i;
+L_then_2_i_i4_i_i:;
+    v_r26_i3_i_i_i = p_v_r26_i3_i_i_i;
+    v_r8_sroa_1450_0_ph_i_i = p_v_r8_sroa_1450_0_ph_i_i;
     v_r8_sroa_19_0_ph_i_i = p_v_r8_sroa_19_0_ph_i_i;
     v_r8_sroa_22_0_ph_i_i = p_v_r8_sroa_22_0_ph_i_i;
     v_r8_sroa_25_0_ph_i_i = p_v_r8_sroa_25_0_ph_i_i;
@@ -29581,7 +29682,7 @@ L_arm_1_i_i:;
     v_r8_sroa_70_0_ph_i_i = p_v_r8_sroa_70_0_ph_i_i;
     v_r8_sroa_73_0_ph_i_i = p_v_r8_sroa_73_0_ph_i_i;
     v_r8_sroa_76_0_ph_i_i = p_v_r8_sroa_76_0_ph_i_i;
-    put_P(v_r3_i_i, v_r8_sroa_1428_0_ph_i_i);
+    put_P(v_r3_i_i, v_r8_sroa_1450_0_ph_i_i);
     v_r9_sroa_3_0_r3_sroa_idx_i_i = v_r3_i_i + 8;
     put_u64(v_r9_sroa_3_0_r3_sroa_idx_i_i, v_r8_sroa_19_0_ph_i_i);
     v_r9_sroa_4_0_r3_sroa_idx_i_i = v_r3_i_i + 16;
@@ -29622,28 +29723,48 @@ L_arm_1_i_i:;
     put_P(v_r9_sroa_21_0_r3_sroa_idx_i_i, v_r8_sroa_73_0_ph_i_i);
     v_r9_sroa_22_0_r3_sroa_idx_i_i = v_r3_i_i + 160;
     put_u64(v_r9_sroa_22_0_r3_sroa_idx_i_i, v_r8_sroa_76_0_ph_i_i);
-    f_pkcs1_params_strict_reject_defaults_297cddf97b264c(v_r11_i_i, v_r3_i_i, v_r4, v_a1);
-    v_r1_sroa_0_0_copyload_i2_i_i = get_u8(v_r11_i_i);
-    v_6 = v_r1_sroa_0_0_copyload_i2_i_i == 0u;
     v_7 = (u8)(v_r8_sroa_22_0_ph_i_i);
     v_8 = (u8)(v_r8_sroa_40_0_ph_i_i);
     v_9 = (u8)(v_r8_sroa_49_0_ph_i_i);
     v_10 = (u8)(v_r8_sroa_67_0_ph_i_i);
-    if (v_6) { goto L_arm_1_i; } else { goto L_arm_2_i; }
+    if (v_r26_i3_i_i_i) { goto L_then_5_i_i5_i_i; } else { goto L_pkcs1_params_oaep_algorithm_OaepParamsOfAnyRefAlgo; }
+L_then_5_i_i5_i_i:;
+    v_r36_i_i6_i_i = v_r4 + 1;
+    v_r38_i_i7_i_i = get_u8(v_r36_i_i6_i_i);
+    v_r40_i_i8_i_i = v_r38_i_i7_i_i == 47u;
+    if (v_r40_i_i8_i_i) { goto L_arm_1_i_i9_i_i; } else { goto L_pkcs1_params_oaep_algorithm_OaepParamsOfAnyRefAlgo; }
+L_arm_1_i_i9_i_i:;
+    v_r48_i_i10_i_i = v_r4 + 2;
+    v_r51_i_i11_i_i = (u64)((u64)(v_a1) + (u64)(18446744073709551614ull));
+    f_pkcs1_params_usual_usual_hash(v_r7_i_i_i2_i_i, v_r48_i_i10_i_i, v_r51_i_i11_i_i);
+    v_r2_i5_i_i_i = get_u8(v_r7_i_i_i2_i_i);
+    v_11 = v_r2_i5_i_i_i == 1u;
+    if (v_11) { goto L_pkcs1_params_oaep_algorithm_OaepParamsOfAnyRefAlgo__2; } else { goto L_pkcs1_params_oaep_algorithm_OaepParamsOfAnyRefAlgo; }
+L_pkcs1_params_oaep_algorithm_OaepParamsOfAnyRefAlgo__2:;
+    { goto L_arm_1_i; }
+L_pkcs1_params_oaep_algorithm_OaepParamsOfAnyRefAlgo:;
+    f_pkcs1_params_strict_reject_defaults_297cddf97b264c(v_r0_i3_i_i, v_r3_i_i, v_r4, v_a1);
+    v_12 = get_u8(v_r0_i3_i_i);
+    v_r23_i_i_i = v_r0_i3_i_i + 1;
+    v_13 = get_u8(v_r23_i_i_i);
+    v_r25_i_i_i = v_r0_i3_i_i + 2;
+    v_14 = get_u8(v_r25_i_i_i);
+    v_15 = v_12 == 0u;
+    if (v_15) { goto L_arm_1_i; } else { goto L_arm_2_i; }
 L_arm_2_thread_i:;
     v_r8_sroa_8_0_i_i = p_v_r8_sroa_8_0_i_i;
-    { p_v_r5_sroa_8_0_ph81_i = v_r8_sroa_8_0_i_i; goto L_arm_1_i2_i; }
+    { p_v_r5_sroa_8_0_ph80_i = v_r8_sroa_8_0_i_i; goto L_arm_1_i_i; }
 L_arm_1_i:;
-    v_11 = v_7 == 0u;
+    v_16 = v_7 == 0u;
     v_r4_i_i_i_i_i = (u8)(v_r8_sroa_25_0_ph_i_i);
-    v_r5_sroa_6_0_i_i_i = v_11 ? 0u : v_r4_i_i_i_i_i;
-    v_r5_sroa_81_0_i_i_i = v_11 ? (P)f_static_27 : v_r8_sroa_28_0_ph_i_i;
-    v_r5_sroa_10_0_i_i_i = v_11 ? 0u : v_r8_sroa_31_0_ph_i_i;
-    v_12 = v_8 == 0u;
-    if (v_12) { p_v_r5_sroa_61_0_i_i_i = (P)f_static_27; p_v_r5_sroa_8_0_i_i_i = 0u; p_v_r5_sroa_9_0_i_i_i = 0u; p_v_r5_sroa_10_0_i6_i_i = 0u; p_v_r5_sroa_12_0_i_i_i = (P)f_static_27; p_v_r5_sroa_13_0_i_i_i = 0u; goto L_pkcs1_c_algorithm_to_c_mask_gen_exit_i_i; } else { goto L_arm_2_i5_i_i; }
+    v_r5_sroa_6_0_i_i_i = v_16 ? 0u : v_r4_i_i_i_i_i;
+    v_r5_sroa_81_0_i_i_i = v_16 ? (P)f_static_27 : v_r8_sroa_28_0_ph_i_i;
+    v_r5_sroa_10_0_i_i_i = v_16 ? 0u : v_r8_sroa_31_0_ph_i_i;
+    v_17 = v_8 == 0u;
+    if (v_17) { p_v_r5_sroa_61_0_i_i_i = (P)f_static_27; p_v_r5_sroa_8_0_i_i_i = 0u; p_v_r5_sroa_9_0_i_i_i = 0u; p_v_r5_sroa_10_0_i6_i_i = 0u; p_v_r5_sroa_12_0_i_i_i = (P)f_static_27; p_v_r5_sroa_13_0_i_i_i = 0u; goto L_pkcs1_c_algorithm_to_c_mask_gen_exit_i_i; } else { goto L_arm_2_i5_i_i; }
 L_arm_2_i5_i_i:;
-    v_13 = v_9 == 0u;
-    if (v_13) { p_v_r5_sroa_61_0_i_i_i = v_r8_sroa_43_0_ph_i_i; p_v_r5_sroa_8_0_i_i_i = v_r8_sroa_46_0_ph_i_i; p_v_r5_sroa_9_0_i_i_i = 0u; p_v_r5_sroa_10_0_i6_i_i = 0u; p_v_r5_sroa_12_0_i_i_i = (P)f_static_27; p_v_r5_sroa_13_0_i_i_i = 0u; goto L_pkcs1_c_algorithm_to_c_mask_gen_exit_i_i; } else { goto L_arm_2_i_i_i_i; }
+    v_18 = v_9 == 0u;
+    if (v_18) { p_v_r5_sroa_61_0_i_i_i = v_r8_sroa_43_0_ph_i_i; p_v_r5_sroa_8_0_i_i_i = v_r8_sroa_46_0_ph_i_i; p_v_r5_sroa_9_0_i_i_i = 0u; p_v_r5_sroa_10_0_i6_i_i = 0u; p_v_r5_sroa_12_0_i_i_i = (P)f_static_27; p_v_r5_sroa_13_0_i_i_i = 0u; goto L_pkcs1_c_algorithm_to_c_mask_gen_exit_i_i; } else { goto L_arm_2_i_i_i_i; }
 L_arm_2_i_i_i_i:;
     v_r4_i_i_i_i_i_i = (u8)(v_r8_sroa_52_0_ph_i_i);
     { p_v_r5_sroa_61_0_i_i_i = v_r8_sroa_43_0_ph_i_i; p_v_r5_sroa_8_0_i_i_i = v_r8_sroa_46_0_ph_i_i; p_v_r5_sroa_9_0_i_i_i = v_9; p_v_r5_sroa_10_0_i6_i_i = v_r4_i_i_i_i_i_i; p_v_r5_sroa_12_0_i_i_i = v_r8_sroa_55_0_ph_i_i; p_v_r5_sroa_13_0_i_i_i = v_r8_sroa_58_0_ph_i_i; goto L_pkcs1_c_algorithm_to_c_mask_gen_exit_i_i; }
@@ -29654,12 +29775,12 @@ L_pkcs1_c_algorithm_to_c_mask_gen_exit_i_i:;
     v_r5_sroa_10_0_i6_i_i = p_v_r5_sroa_10_0_i6_i_i;
     v_r5_sroa_12_0_i_i_i = p_v_r5_sroa_12_0_i_i_i;
     v_r5_sroa_13_0_i_i_i = p_v_r5_sroa_13_0_i_i_i;
-    v_14 = v_10 == 0u;
+    v_19 = v_10 == 0u;
     v_r4_i_i_i21_i_i = (u8)(v_r8_sroa_70_0_ph_i_i);
-    v_r5_sroa_6_0_i24_i_i = v_14 ? 0u : v_r4_i_i_i21_i_i;
-    v_r5_sroa_81_0_i25_i_i = v_14 ? (P)f_static_27 : v_r8_sroa_73_0_ph_i_i;
-    v_r5_sroa_10_0_i26_i_i = v_14 ? 0u : v_r8_sroa_76_0_ph_i_i;
-    put_P(v_a2, v_r8_sroa_1428_0_ph_i_i);
+    v_r5_sroa_6_0_i24_i_i = v_19 ? 0u : v_r4_i_i_i21_i_i;
+    v_r5_sroa_81_0_i25_i_i = v_19 ? (P)f_static_27 : v_r8_sroa_73_0_ph_i_i;
+    v_r5_sroa_10_0_i26_i_i = v_19 ? 0u : v_r8_sroa_76_0_ph_i_i;
+    put_P(v_a2, v_r8_sroa_1450_0_ph_i_i);
     v_r7_sroa_3_0_a2_sroa_idx_i = v_a2 + 8;
     put_u64(v_r7_sroa_3_0_a2_sroa_idx_i, v_r8_sroa_19_0_ph_i_i);
     v_r7_sroa_4_0_a2_sroa_idx_i = v_a2 + 16;
@@ -29710,20 +29831,16 @@ L_pkcs1_c_algorithm_to_c_mask_gen_exit_i_i:;
     put_u64(v_r7_sroa_26_0_a2_sroa_idx_i, v_r5_sroa_10_0_i26_i_i);
     { p_v_r6_0_i = 0u; goto L_pkcs1_c_oaep_pkcs1_c_oaep_params_decode_strict_exi; }
 L_arm_2_i:;
-    v_r5_i7_i_i = v_r11_i_i + 2;
-    v_r1_sroa_5_2_copyload_i8_i_i = get_u8(v_r5_i7_i_i);
-    v_r3_i9_i_i = v_r11_i_i + 1;
-    v_r1_sroa_3_1_copyload_i10_i_i = get_u8(v_r3_i9_i_i);
-    switch (v_r1_sroa_3_1_copyload_i10_i_i) {
-    case 0u: { p_v_r5_sroa_8_0_ph81_i = v_r1_sroa_5_2_copyload_i8_i_i; goto L_arm_1_i2_i; }
+    switch (v_13) {
+    case 0u: { p_v_r5_sroa_8_0_ph80_i = v_14; goto L_arm_1_i_i; }
     case 1u: { p_v_r6_0_i = 18u; goto L_pkcs1_c_oaep_pkcs1_c_oaep_params_decode_strict_exi; }
     case 2u: { goto L_arm_3_i_i; }
     case 3u: { goto L_arm_4_i_i; }
     default: { goto L_noarm_5_i_i; }
     }
-L_arm_1_i2_i:;
-    v_r5_sroa_8_0_ph81_i = p_v_r5_sroa_8_0_ph81_i;
-    v_switch_idx_cast_i_i_i = (u32)v_r5_sroa_8_0_ph81_i;
+L_arm_1_i_i:;
+    v_r5_sroa_8_0_ph80_i = p_v_r5_sroa_8_0_ph80_i;
+    v_switch_idx_cast_i_i_i = (u32)v_r5_sroa_8_0_ph80_i;
     v_switch_offset_i_i_i = (u32)((u32)(v_switch_idx_cast_i_i_i) + (u32)(1u));
     { p_v_r6_0_i = v_switch_offset_i_i_i; goto L_pkcs1_c_oaep_pkcs1_c_oaep_params_decode_strict_exi; }
 L_arm_3_i_i:;
@@ -32092,11 +32209,14 @@ L_pkcs1_c_pss_algorithm_pkcs1_c_pss_algorithm_decode:;
     return v_r6_0_i;
 }
 u32 pkcs1_c_pss_algorithm_decode_strict(P v_a0, u64 v_a1, P v_a2) {
+    ALIGNED(8) unsigned char m_v_r18_i_i_i_i_i[56];
     ALIGNED(1) unsigned char m_v_r0_i_i_i[5];
     ALIGNED(8) unsigned char m_v_r4_i_i_i[32];
+    ALIGNED(8) unsigned char m_v_r3_i_i[128];
     ALIGNED(8) unsigned char m_v_r8_i_i[136];
-    u64 p_v_r6_sroa_4_0_i_i_i;
-    P p_v_r6_sroa_0_0_i_i_i;
+    P p_v_r6_sroa_0_0_i72_i_i;
+    u64 p_v_r6_sroa_4_0_i71_i_i;
+    u8 p_v_r5_sroa_17_sroa_22_3_copyload_i;
     P p_v_r5_sroa_61_0_i_i_i;
     u64 p_v_r5_sroa_8_0_i_i_i;
     u8 p_v_r5_sroa_9_0_i_i_i;
@@ -32106,8 +32226,10 @@ u32 pkcs1_c_pss_algorithm_decode_strict(P v_a0, u64 v_a1, P v_a2) {
     u8 p_v_r5_sroa_5_0_ph_i;
     u8 p_v_r5_sroa_8_0_ph_i;
     u32 p_v_r6_0_i;
+    P v_r18_i_i_i_i_i;
     P v_r0_i_i_i;
     P v_r4_i_i_i;
+    P v_r3_i_i;
     P v_r8_i_i;
     u1 v_r1;
     u64 v_r3;
@@ -32125,56 +32247,86 @@ u32 pkcs1_c_pss_algorithm_decode_strict(P v_a0, u64 v_a1, P v_a2) {
     P v_r19_i_i_i_i;
     u64 v_r5_sroa_4_0_i_i_i_i;
     P v_r5_sroa_0_0_i_i_i_i;
-    u64 v_r6_sroa_4_0_i_i_i;
-    P v_r6_sroa_0_0_i_i_i;
-    u8 v_2;
     P v_r7_i3_i_i;
+    u8 v_r8_i_i_i;
+    u1 v_r10_not_i_i_i;
+    u1 v_r19_i_i_i_i_i;
+    u1 v_or_cond_i_i_i;
+    u8 v_r26_i_i_i_i_i;
+    u1 v_r28_i_i_i_i_i;
+    P v_r36_i_i_i_i_i;
+    u8 v_r38_i_i_i_i_i;
+    u1 v_r40_i_i_i_i_i;
+    P v_r48_i_i_i_i_i;
+    u1 v_r29_not_i_i_i_i_i;
+    P v_r16_i3_i_i_i;
+    u8 v_r33_i_i_i_i_i;
+    u1 v_cond_i_i_i_i_i;
+    P v_r36_i7_i_i_i_i;
+    u8 v_r38_i8_i_i_i_i;
+    u1 v_cond1_i_i_i_i_i;
+    P v_r41_i_i_i_i_i;
+    u8 v_r43_i_i_i_i_i;
+    u1 v_cond2_i_i_i_i_i;
+    P v_r46_i9_i_i_i_i;
+    u8 v_r48_i10_i_i_i_i;
+    u1 v_cond3_i_i_i_i_i;
+    P v_r51_i11_i_i_i_i;
+    u8 v_r54_i_i_i_i_i;
+    u1 v_r56_i_i_i_i_i;
+    u8 v_r2_i4_i_i_i;
+    u1 v_2;
+    P v_r6_sroa_0_0_i72_i_i;
+    u64 v_r6_sroa_4_0_i71_i_i;
     u8 v_3;
-    P v_r9_i4_i_i;
+    P v_r32_i_i_i;
     u8 v_4;
-    u1 v_5;
+    P v_r34_i_i_i;
+    u8 v_5;
+    u1 v_6;
+    P v_r5_sroa_17_sroa_22_3_r3_i_sroa_idx_phi_trans_inser;
+    u8 v_r5_sroa_17_sroa_22_3_copyload_pre_i;
     P v_r5_i_i_i;
     u8 v_r1_sroa_5_2_copyload_i_i_i;
     P v_r3_i_i_i;
     u8 v_r1_sroa_3_1_copyload_i_i_i;
-    P v_r5_sroa_17_sroa_1_3_copyload_i;
-    P v_r5_sroa_17_sroa_5_3_r11_i_i_sroa_idx_i;
-    u64 v_r5_sroa_17_sroa_5_3_copyload_i;
-    P v_r5_sroa_17_sroa_6_3_r11_i_i_sroa_idx_i;
-    u8 v_r5_sroa_17_sroa_6_3_copyload_i;
-    P v_r5_sroa_17_sroa_8_3_r11_i_i_sroa_idx_i;
-    u64 v_r5_sroa_17_sroa_8_3_copyload_i;
-    P v_r5_sroa_17_sroa_9_3_r11_i_i_sroa_idx_i;
-    P v_r5_sroa_17_sroa_9_3_copyload_i;
-    P v_r5_sroa_17_sroa_10_3_r11_i_i_sroa_idx_i;
-    u64 v_r5_sroa_17_sroa_10_3_copyload_i;
-    P v_r5_sroa_17_sroa_11_3_r11_i_i_sroa_idx_i;
-    P v_r5_sroa_17_sroa_11_3_copyload_i;
-    P v_r5_sroa_17_sroa_12_3_r11_i_i_sroa_idx_i;
-    u64 v_r5_sroa_17_sroa_12_3_copyload_i;
-    P v_r5_sroa_17_sroa_13_3_r11_i_i_sroa_idx_i;
-    u8 v_r5_sroa_17_sroa_13_3_copyload_i;
-    P v_r5_sroa_17_sroa_15_3_r11_i_i_sroa_idx_i;
-    P v_r5_sroa_17_sroa_15_3_copyload_i;
-    P v_r5_sroa_17_sroa_16_3_r11_i_i_sroa_idx_i;
-    u64 v_r5_sroa_17_sroa_16_3_copyload_i;
-    P v_r5_sroa_17_sroa_17_3_r11_i_i_sroa_idx_i;
-    u8 v_r5_sroa_17_sroa_17_3_copyload_i;
-    P v_r5_sroa_17_sroa_19_3_r11_i_i_sroa_idx_i;
-    u64 v_r5_sroa_17_sroa_19_3_copyload_i;
-    P v_r5_sroa_17_sroa_20_3_r11_i_i_sroa_idx_i;
-    P v_r5_sroa_17_sroa_20_3_copyload_i;
-    P v_r5_sroa_17_sroa_21_3_r11_i_i_sroa_idx_i;
-    u64 v_r5_sroa_17_sroa_21_3_copyload_i;
-    P v_r5_sroa_17_sroa_22_3_r11_i_i_sroa_idx_i;
     u8 v_r5_sroa_17_sroa_22_3_copyload_i;
-    u1 v_6;
+    P v_r5_sroa_17_sroa_1_3_copyload_i;
+    P v_r5_sroa_17_sroa_5_3_r3_i_sroa_idx_i;
+    u64 v_r5_sroa_17_sroa_5_3_copyload_i;
+    P v_r5_sroa_17_sroa_6_3_r3_i_sroa_idx_i;
+    u8 v_r5_sroa_17_sroa_6_3_copyload_i;
+    P v_r5_sroa_17_sroa_8_3_r3_i_sroa_idx_i;
+    u64 v_r5_sroa_17_sroa_8_3_copyload_i;
+    P v_r5_sroa_17_sroa_9_3_r3_i_sroa_idx_i;
+    P v_r5_sroa_17_sroa_9_3_copyload_i;
+    P v_r5_sroa_17_sroa_10_3_r3_i_sroa_idx_i;
+    u64 v_r5_sroa_17_sroa_10_3_copyload_i;
+    P v_r5_sroa_17_sroa_11_3_r3_i_sroa_idx_i;
+    P v_r5_sroa_17_sroa_11_3_copyload_i;
+    P v_r5_sroa_17_sroa_12_3_r3_i_sroa_idx_i;
+    u64 v_r5_sroa_17_sroa_12_3_copyload_i;
+    P v_r5_sroa_17_sroa_13_3_r3_i_sroa_idx_i;
+    u8 v_r5_sroa_17_sroa_13_3_copyload_i;
+    P v_r5_sroa_17_sroa_15_3_r3_i_sroa_idx_i;
+    P v_r5_sroa_17_sroa_15_3_copyload_i;
+    P v_r5_sroa_17_sroa_16_3_r3_i_sroa_idx_i;
+    u64 v_r5_sroa_17_sroa_16_3_copyload_i;
+    P v_r5_sroa_17_sroa_17_3_r3_i_sroa_idx_i;
+    u8 v_r5_sroa_17_sroa_17_3_copyload_i;
+    P v_r5_sroa_17_sroa_19_3_r3_i_sroa_idx_i;
+    u64 v_r5_sroa_17_sroa_19_3_copyload_i;
+    P v_r5_sroa_17_sroa_20_3_r3_i_sroa_idx_i;
+    P v_r5_sroa_17_sroa_20_3_copyload_i;
+    P v_r5_sroa_17_sroa_21_3_r3_i_sroa_idx_i;
+    u64 v_r5_sroa_17_sroa_21_3_copyload_i;
+    u1 v_7;
     u8 v_r4_i_i_i_i_i;
     u8 v_r5_sroa_6_0_i_i_i;
     P v_r5_sroa_81_0_i_i_i;
     u64 v_r5_sroa_10_0_i_i_i;
-    u1 v_7;
     u1 v_8;
+    u1 v_9;
     u8 v_r4_i_i_i_i_i_i;
     P v_r5_sroa_61_0_i_i_i;
     u64 v_r5_sroa_8_0_i_i_i;
@@ -32207,8 +32359,10 @@ u32 pkcs1_c_pss_algorithm_decode_strict(P v_a0, u64 v_a1, P v_a2) {
     u32 v_switch_idx_cast_i_i_i;
     u32 v_switch_offset_i_i_i;
     u32 v_r6_0_i;
+    v_r18_i_i_i_i_i = m_v_r18_i_i_i_i_i;
     v_r0_i_i_i = m_v_r0_i_i_i;
     v_r4_i_i_i = m_v_r4_i_i_i;
+    v_r3_i_i = m_v_r3_i_i;
     v_r8_i_i = m_v_r8_i_i;
     v_r1 = v_a0 == (P)0;
     v_r3 = v_r1 ? 4096u : 0u;
@@ -32220,12 +32374,15 @@ u32 pkcs1_c_pss_algorithm_decode_strict(P v_a0, u64 v_a1, P v_a2) {
     if (v_0) { goto L_arm_1_i_i; } else { goto L_arm_2_i_i; }
 L_arm_1_i_i:;
     v_r11_i_i_i = v_r8_i_i + 8;
+    copy(v_r3_i_i, v_r11_i_i_i, 128u);
     fill(v_r4_i_i_i, 0u, 32u);
     f_spki_core_any_AnyRefDecodeRefSliceU8_from_der_45c7(v_r4_i_i_i, v_r4, v_a1);
     v_r17_i_i_i = get_u8(v_r4_i_i_i);
     v_1 = v_r17_i_i_i == 0u;
-    if (v_1) { goto L_arm_1_i2_i_i; } else { p_v_r6_sroa_4_0_i_i_i = 0u; p_v_r6_sroa_0_0_i_i_i = (P)f_static_27; goto L_pkcs1_params_algorithm_encoded_parameters_3009f45a; }
-L_arm_1_i2_i_i:;
+    if (v_1) { goto L_pkcs1_params_algorithm_encoded_parameters_3009f45a; } else { goto L_pkcs1_params_algorithm_encoded_parameters_3009f45a__2; }
+L_pkcs1_params_algorithm_encoded_parameters_3009f45a__2:;
+    { p_v_r6_sroa_0_0_i72_i_i = (P)f_static_27; p_v_r6_sroa_4_0_i71_i_i = 0u; goto L_pkcs1_params_pss_algorithm_PssParamsOfAnyRefAlgori; }
+L_pkcs1_params_algorithm_encoded_parameters_3009f45a:;
     v_r3_sroa_2_0_r18_sroa_idx_i_i_i = v_r4_i_i_i + 16;
     v_r3_sroa_2_0_copyload_i_i_i = get_P(v_r3_sroa_2_0_r18_sroa_idx_i_i_i);
     v_r3_sroa_3_0_r18_sroa_idx_i_i_i = v_r4_i_i_i + 24;
@@ -32234,18 +32391,74 @@ L_arm_1_i2_i_i:;
     v_r19_i_i_i_i = v_r3_sroa_2_0_copyload_i_i_i + 11;
     v_r5_sroa_4_0_i_i_i_i = v_r3_sroa_3_0_copyload_i_i_i > 11u ? v_r3_sroa_3_0_copyload_i_i_i - 11u : 0u;
     v_r5_sroa_0_0_i_i_i_i = v_r14_i_i_i_i ? v_r19_i_i_i_i : (P)f_static_27;
-    { p_v_r6_sroa_4_0_i_i_i = v_r5_sroa_4_0_i_i_i_i; p_v_r6_sroa_0_0_i_i_i = v_r5_sroa_0_0_i_i_i_i; goto L_pkcs1_params_algorithm_encoded_parameters_3009f45a; }
-L_pkcs1_params_algorithm_encoded_parameters_3009f45a:;
-    v_r6_sroa_4_0_i_i_i = p_v_r6_sroa_4_0_i_i_i;
-    v_r6_sroa_0_0_i_i_i = p_v_r6_sroa_0_0_i_i_i;
-    f_pkcs1_params_strict_reject_defaults_2a8ca97c434130(v_r0_i_i_i, v_r11_i_i_i, v_r6_sroa_0_0_i_i_i, v_r6_sroa_4_0_i_i_i);
-    v_2 = get_u8(v_r0_i_i_i);
-    v_r7_i3_i_i = v_r0_i_i_i + 1;
-    v_3 = get_u8(v_r7_i3_i_i);
-    v_r9_i4_i_i = v_r0_i_i_i + 2;
-    v_4 = get_u8(v_r9_i4_i_i);
-    v_5 = v_2 == 0u;
-    if (v_5) { goto L_arm_1_i; } else { p_v_r5_sroa_5_0_ph_i = v_3; p_v_r5_sroa_8_0_ph_i = v_4; goto L_arm_2_i; }
+    v_r7_i3_i_i = v_r3_i_i + 120;
+    v_r8_i_i_i = get_u8(v_r7_i3_i_i);
+    v_r10_not_i_i_i = v_r8_i_i_i != 20u;
+    v_r19_i_i_i_i_i = v_r5_sroa_4_0_i_i_i_i > 1u;
+    v_or_cond_i_i_i = (u1)(((u32)(v_r19_i_i_i_i_i) & (u32)(v_r10_not_i_i_i)) & 1);
+    if (v_or_cond_i_i_i) { goto L_then_2_i_i_i_i_i; } else { p_v_r6_sroa_0_0_i72_i_i = v_r5_sroa_0_0_i_i_i_i; p_v_r6_sroa_4_0_i71_i_i = v_r5_sroa_4_0_i_i_i_i; goto L_pkcs1_params_pss_algorithm_PssParamsOfAnyRefAlgori; }
+L_then_2_i_i_i_i_i:;
+    v_r26_i_i_i_i_i = get_u8(v_r5_sroa_0_0_i_i_i_i);
+    v_r28_i_i_i_i_i = v_r26_i_i_i_i_i == 48u;
+    if (v_r28_i_i_i_i_i) { goto L_then_5_i_i_i_i_i; } else { p_v_r6_sroa_0_0_i72_i_i = v_r5_sroa_0_0_i_i_i_i; p_v_r6_sroa_4_0_i71_i_i = v_r5_sroa_4_0_i_i_i_i; goto L_pkcs1_params_pss_algorithm_PssParamsOfAnyRefAlgori; }
+L_then_5_i_i_i_i_i:;
+    v_r36_i_i_i_i_i = v_r5_sroa_0_0_i_i_i_i + 1;
+    v_r38_i_i_i_i_i = get_u8(v_r36_i_i_i_i_i);
+    v_r40_i_i_i_i_i = v_r38_i_i_i_i_i == 52u;
+    if (v_r40_i_i_i_i_i) { goto L_arm_1_i_i_i_i; } else { p_v_r6_sroa_0_0_i72_i_i = v_r5_sroa_0_0_i_i_i_i; p_v_r6_sroa_4_0_i71_i_i = v_r5_sroa_4_0_i_i_i_i; goto L_pkcs1_params_pss_algorithm_PssParamsOfAnyRefAlgori; }
+L_arm_1_i_i_i_i:;
+    v_r48_i_i_i_i_i = v_r5_sroa_0_0_i_i_i_i + 2;
+    v_r29_not_i_i_i_i_i = v_r5_sroa_4_0_i_i_i_i == 54u;
+    if (v_r29_not_i_i_i_i_i) { goto L_then_6_i_i_i_i_i; } else { goto L_pkcs1_params_usual_usual_pss_encoding_exit_thread_; }
+L_then_6_i_i_i_i_i:;
+    v_r16_i3_i_i_i = v_r5_sroa_0_0_i_i_i_i + 49;
+    v_r33_i_i_i_i_i = get_u8(v_r16_i3_i_i_i);
+    v_cond_i_i_i_i_i = v_r33_i_i_i_i_i == 162u;
+    if (v_cond_i_i_i_i_i) { goto L_arm_9_i6_i_i_i_i; } else { goto L_pkcs1_params_usual_usual_pss_encoding_exit_thread_; }
+L_arm_9_i6_i_i_i_i:;
+    v_r36_i7_i_i_i_i = v_r5_sroa_0_0_i_i_i_i + 50;
+    v_r38_i8_i_i_i_i = get_u8(v_r36_i7_i_i_i_i);
+    v_cond1_i_i_i_i_i = v_r38_i8_i_i_i_i == 3u;
+    if (v_cond1_i_i_i_i_i) { goto L_arm_12_i_i_i_i_i; } else { goto L_pkcs1_params_usual_usual_pss_encoding_exit_thread_; }
+L_arm_12_i_i_i_i_i:;
+    v_r41_i_i_i_i_i = v_r5_sroa_0_0_i_i_i_i + 51;
+    v_r43_i_i_i_i_i = get_u8(v_r41_i_i_i_i_i);
+    v_cond2_i_i_i_i_i = v_r43_i_i_i_i_i == 2u;
+    if (v_cond2_i_i_i_i_i) { goto L_arm_15_i_i_i_i_i; } else { goto L_pkcs1_params_usual_usual_pss_encoding_exit_thread_; }
+L_arm_15_i_i_i_i_i:;
+    v_r46_i9_i_i_i_i = v_r5_sroa_0_0_i_i_i_i + 52;
+    v_r48_i10_i_i_i_i = get_u8(v_r46_i9_i_i_i_i);
+    v_cond3_i_i_i_i_i = v_r48_i10_i_i_i_i == 1u;
+    if (v_cond3_i_i_i_i_i) { goto L_arm_18_i_i_i_i_i; } else { goto L_pkcs1_params_usual_usual_pss_encoding_exit_thread_; }
+L_arm_18_i_i_i_i_i:;
+    v_r51_i11_i_i_i_i = v_r5_sroa_0_0_i_i_i_i + 53;
+    v_r54_i_i_i_i_i = get_u8(v_r51_i11_i_i_i_i);
+    v_r56_i_i_i_i_i = (u8)(v_r54_i_i_i_i_i ^ ((u8)1 << 7)) > (u8)(255u ^ ((u8)1 << 7));
+    if (v_r56_i_i_i_i_i) { goto L_arm_4_i_i_i_i_i; } else { goto L_pkcs1_params_usual_usual_pss_encoding_exit_thread_; }
+L_arm_4_i_i_i_i_i:;
+    f_pkcs1_params_usual_usual_hash(v_r18_i_i_i_i_i, v_r48_i_i_i_i_i, 47u);
+    v_r2_i4_i_i_i = get_u8(v_r18_i_i_i_i_i);
+    v_2 = v_r2_i4_i_i_i == 1u;
+    if (v_2) { goto L_pkcs1_params_pss_algorithm_PssParamsOfAnyRefAlgori__2; } else { goto L_pkcs1_params_usual_usual_pss_encoding_exit_thread_; }
+L_pkcs1_params_usual_usual_pss_encoding_exit_thread_:;
+    { p_v_r6_sroa_0_0_i72_i_i = v_r5_sroa_0_0_i_i_i_i; p_v_r6_sroa_4_0_i71_i_i = v_r5_sroa_4_0_i_i_i_i; goto L_pkcs1_params_pss_algorithm_PssParamsOfAnyRefAlgori; }
+L_pkcs1_params_pss_algorithm_PssParamsOfAnyRefAlgori__2:;
+    { p_v_r5_sroa_17_sroa_22_3_copyload_i = v_r8_i_i_i; goto L_arm_1_i; }
+L_pkcs1_params_pss_algorithm_PssParamsOfAnyRefAlgori:;
+    v_r6_sroa_0_0_i72_i_i = p_v_r6_sroa_0_0_i72_i_i;
+    v_r6_sroa_4_0_i71_i_i = p_v_r6_sroa_4_0_i71_i_i;
+    f_pkcs1_params_strict_reject_defaults_2a8ca97c434130(v_r0_i_i_i, v_r3_i_i, v_r6_sroa_0_0_i72_i_i, v_r6_sroa_4_0_i71_i_i);
+    v_3 = get_u8(v_r0_i_i_i);
+    v_r32_i_i_i = v_r0_i_i_i + 1;
+    v_4 = get_u8(v_r32_i_i_i);
+    v_r34_i_i_i = v_r0_i_i_i + 2;
+    v_5 = get_u8(v_r34_i_i_i);
+    v_6 = v_3 == 0u;
+    if (v_6) { goto L_pkcs1_params_pss_algorithm_PssParamsOfAnyRefAlgori__3; } else { p_v_r5_sroa_5_0_ph_i = v_4; p_v_r5_sroa_8_0_ph_i = v_5; goto L_arm_2_i; }
+L_pkcs1_params_pss_algorithm_PssParamsOfAnyRefAlgori__3:;
+    v_r5_sroa_17_sroa_22_3_r3_i_sroa_idx_phi_trans_inser = v_r3_i_i + 120;
+    v_r5_sroa_17_sroa_22_3_copyload_pre_i = get_u8(v_r5_sroa_17_sroa_22_3_r3_i_sroa_idx_phi_trans_inser);
+    { p_v_r5_sroa_17_sroa_22_3_copyload_i = v_r5_sroa_17_sroa_22_3_copyload_pre_i; goto L_arm_1_i; }
 L_arm_2_i_i:;
     v_r5_i_i_i = v_r8_i_i + 2;
     v_r1_sroa_5_2_copyload_i_i_i = get_u8(v_r5_i_i_i);
@@ -32253,47 +32466,46 @@ L_arm_2_i_i:;
     v_r1_sroa_3_1_copyload_i_i_i = get_u8(v_r3_i_i_i);
     { p_v_r5_sroa_5_0_ph_i = v_r1_sroa_3_1_copyload_i_i_i; p_v_r5_sroa_8_0_ph_i = v_r1_sroa_5_2_copyload_i_i_i; goto L_arm_2_i; }
 L_arm_1_i:;
-    v_r5_sroa_17_sroa_1_3_copyload_i = get_P(v_r11_i_i_i);
-    v_r5_sroa_17_sroa_5_3_r11_i_i_sroa_idx_i = v_r8_i_i + 16;
-    v_r5_sroa_17_sroa_5_3_copyload_i = get_u64(v_r5_sroa_17_sroa_5_3_r11_i_i_sroa_idx_i);
-    v_r5_sroa_17_sroa_6_3_r11_i_i_sroa_idx_i = v_r8_i_i + 24;
-    v_r5_sroa_17_sroa_6_3_copyload_i = get_u8(v_r5_sroa_17_sroa_6_3_r11_i_i_sroa_idx_i);
-    v_r5_sroa_17_sroa_8_3_r11_i_i_sroa_idx_i = v_r8_i_i + 32;
-    v_r5_sroa_17_sroa_8_3_copyload_i = get_u64(v_r5_sroa_17_sroa_8_3_r11_i_i_sroa_idx_i);
-    v_r5_sroa_17_sroa_9_3_r11_i_i_sroa_idx_i = v_r8_i_i + 40;
-    v_r5_sroa_17_sroa_9_3_copyload_i = get_P(v_r5_sroa_17_sroa_9_3_r11_i_i_sroa_idx_i);
-    v_r5_sroa_17_sroa_10_3_r11_i_i_sroa_idx_i = v_r8_i_i + 48;
-    v_r5_sroa_17_sroa_10_3_copyload_i = get_u64(v_r5_sroa_17_sroa_10_3_r11_i_i_sroa_idx_i);
-    v_r5_sroa_17_sroa_11_3_r11_i_i_sroa_idx_i = v_r8_i_i + 56;
-    v_r5_sroa_17_sroa_11_3_copyload_i = get_P(v_r5_sroa_17_sroa_11_3_r11_i_i_sroa_idx_i);
-    v_r5_sroa_17_sroa_12_3_r11_i_i_sroa_idx_i = v_r8_i_i + 64;
-    v_r5_sroa_17_sroa_12_3_copyload_i = get_u64(v_r5_sroa_17_sroa_12_3_r11_i_i_sroa_idx_i);
-    v_r5_sroa_17_sroa_13_3_r11_i_i_sroa_idx_i = v_r8_i_i + 72;
-    v_r5_sroa_17_sroa_13_3_copyload_i = get_u8(v_r5_sroa_17_sroa_13_3_r11_i_i_sroa_idx_i);
-    v_r5_sroa_17_sroa_15_3_r11_i_i_sroa_idx_i = v_r8_i_i + 80;
-    v_r5_sroa_17_sroa_15_3_copyload_i = get_P(v_r5_sroa_17_sroa_15_3_r11_i_i_sroa_idx_i);
-    v_r5_sroa_17_sroa_16_3_r11_i_i_sroa_idx_i = v_r8_i_i + 88;
-    v_r5_sroa_17_sroa_16_3_copyload_i = get_u64(v_r5_sroa_17_sroa_16_3_r11_i_i_sroa_idx_i);
-    v_r5_sroa_17_sroa_17_3_r11_i_i_sroa_idx_i = v_r8_i_i + 96;
-    v_r5_sroa_17_sroa_17_3_copyload_i = get_u8(v_r5_sroa_17_sroa_17_3_r11_i_i_sroa_idx_i);
-    v_r5_sroa_17_sroa_19_3_r11_i_i_sroa_idx_i = v_r8_i_i + 104;
-    v_r5_sroa_17_sroa_19_3_copyload_i = get_u64(v_r5_sroa_17_sroa_19_3_r11_i_i_sroa_idx_i);
-    v_r5_sroa_17_sroa_20_3_r11_i_i_sroa_idx_i = v_r8_i_i + 112;
-    v_r5_sroa_17_sroa_20_3_copyload_i = get_P(v_r5_sroa_17_sroa_20_3_r11_i_i_sroa_idx_i);
-    v_r5_sroa_17_sroa_21_3_r11_i_i_sroa_idx_i = v_r8_i_i + 120;
-    v_r5_sroa_17_sroa_21_3_copyload_i = get_u64(v_r5_sroa_17_sroa_21_3_r11_i_i_sroa_idx_i);
-    v_r5_sroa_17_sroa_22_3_r11_i_i_sroa_idx_i = v_r8_i_i + 128;
-    v_r5_sroa_17_sroa_22_3_copyload_i = get_u8(v_r5_sroa_17_sroa_22_3_r11_i_i_sroa_idx_i);
-    v_6 = v_r5_sroa_17_sroa_6_3_copyload_i == 0u;
+    v_r5_sroa_17_sroa_22_3_copyload_i = p_v_r5_sroa_17_sroa_22_3_copyload_i;
+    v_r5_sroa_17_sroa_1_3_copyload_i = get_P(v_r3_i_i);
+    v_r5_sroa_17_sroa_5_3_r3_i_sroa_idx_i = v_r3_i_i + 8;
+    v_r5_sroa_17_sroa_5_3_copyload_i = get_u64(v_r5_sroa_17_sroa_5_3_r3_i_sroa_idx_i);
+    v_r5_sroa_17_sroa_6_3_r3_i_sroa_idx_i = v_r3_i_i + 16;
+    v_r5_sroa_17_sroa_6_3_copyload_i = get_u8(v_r5_sroa_17_sroa_6_3_r3_i_sroa_idx_i);
+    v_r5_sroa_17_sroa_8_3_r3_i_sroa_idx_i = v_r3_i_i + 24;
+    v_r5_sroa_17_sroa_8_3_copyload_i = get_u64(v_r5_sroa_17_sroa_8_3_r3_i_sroa_idx_i);
+    v_r5_sroa_17_sroa_9_3_r3_i_sroa_idx_i = v_r3_i_i + 32;
+    v_r5_sroa_17_sroa_9_3_copyload_i = get_P(v_r5_sroa_17_sroa_9_3_r3_i_sroa_idx_i);
+    v_r5_sroa_17_sroa_10_3_r3_i_sroa_idx_i = v_r3_i_i + 40;
+    v_r5_sroa_17_sroa_10_3_copyload_i = get_u64(v_r5_sroa_17_sroa_10_3_r3_i_sroa_idx_i);
+    v_r5_sroa_17_sroa_11_3_r3_i_sroa_idx_i = v_r3_i_i + 48;
+    v_r5_sroa_17_sroa_11_3_copyload_i = get_P(v_r5_sroa_17_sroa_11_3_r3_i_sroa_idx_i);
+    v_r5_sroa_17_sroa_12_3_r3_i_sroa_idx_i = v_r3_i_i + 56;
+    v_r5_sroa_17_sroa_12_3_copyload_i = get_u64(v_r5_sroa_17_sroa_12_3_r3_i_sroa_idx_i);
+    v_r5_sroa_17_sroa_13_3_r3_i_sroa_idx_i = v_r3_i_i + 64;
+    v_r5_sroa_17_sroa_13_3_copyload_i = get_u8(v_r5_sroa_17_sroa_13_3_r3_i_sroa_idx_i);
+    v_r5_sroa_17_sroa_15_3_r3_i_sroa_idx_i = v_r3_i_i + 72;
+    v_r5_sroa_17_sroa_15_3_copyload_i = get_P(v_r5_sroa_17_sroa_15_3_r3_i_sroa_idx_i);
+    v_r5_sroa_17_sroa_16_3_r3_i_sroa_idx_i = v_r3_i_i + 80;
+    v_r5_sroa_17_sroa_16_3_copyload_i = get_u64(v_r5_sroa_17_sroa_16_3_r3_i_sroa_idx_i);
+    v_r5_sroa_17_sroa_17_3_r3_i_sroa_idx_i = v_r3_i_i + 88;
+    v_r5_sroa_17_sroa_17_3_copyload_i = get_u8(v_r5_sroa_17_sroa_17_3_r3_i_sroa_idx_i);
+    v_r5_sroa_17_sroa_19_3_r3_i_sroa_idx_i = v_r3_i_i + 96;
+    v_r5_sroa_17_sroa_19_3_copyload_i = get_u64(v_r5_sroa_17_sroa_19_3_r3_i_sroa_idx_i);
+    v_r5_sroa_17_sroa_20_3_r3_i_sroa_idx_i = v_r3_i_i + 104;
+    v_r5_sroa_17_sroa_20_3_copyload_i = get_P(v_r5_sroa_17_sroa_20_3_r3_i_sroa_idx_i);
+    v_r5_sroa_17_sroa_21_3_r3_i_sroa_idx_i = v_r3_i_i + 112;
+    v_r5_sroa_17_sroa_21_3_copyload_i = get_u64(v_r5_sroa_17_sroa_21_3_r3_i_sroa_idx_i);
+    v_7 = v_r5_sroa_17_sroa_6_3_copyload_i == 0u;
     v_r4_i_i_i_i_i = (u8)(v_r5_sroa_17_sroa_8_3_copyload_i);
-    v_r5_sroa_6_0_i_i_i = v_6 ? 0u : v_r4_i_i_i_i_i;
-    v_r5_sroa_81_0_i_i_i = v_6 ? (P)f_static_27 : v_r5_sroa_17_sroa_9_3_copyload_i;
-    v_r5_sroa_10_0_i_i_i = v_6 ? 0u : v_r5_sroa_17_sroa_10_3_copyload_i;
-    v_7 = v_r5_sroa_17_sroa_13_3_copyload_i == 0u;
-    if (v_7) { p_v_r5_sroa_61_0_i_i_i = (P)f_static_27; p_v_r5_sroa_8_0_i_i_i = 0u; p_v_r5_sroa_9_0_i_i_i = 0u; p_v_r5_sroa_10_0_i6_i_i = 0u; p_v_r5_sroa_12_0_i_i_i = (P)f_static_27; p_v_r5_sroa_13_0_i_i_i = 0u; goto L_pkcs1_c_pss_to_c_pss_exit_i; } else { goto L_arm_2_i5_i_i; }
+    v_r5_sroa_6_0_i_i_i = v_7 ? 0u : v_r4_i_i_i_i_i;
+    v_r5_sroa_81_0_i_i_i = v_7 ? (P)f_static_27 : v_r5_sroa_17_sroa_9_3_copyload_i;
+    v_r5_sroa_10_0_i_i_i = v_7 ? 0u : v_r5_sroa_17_sroa_10_3_copyload_i;
+    v_8 = v_r5_sroa_17_sroa_13_3_copyload_i == 0u;
+    if (v_8) { p_v_r5_sroa_61_0_i_i_i = (P)f_static_27; p_v_r5_sroa_8_0_i_i_i = 0u; p_v_r5_sroa_9_0_i_i_i = 0u; p_v_r5_sroa_10_0_i6_i_i = 0u; p_v_r5_sroa_12_0_i_i_i = (P)f_static_27; p_v_r5_sroa_13_0_i_i_i = 0u; goto L_pkcs1_c_pss_to_c_pss_exit_i; } else { goto L_arm_2_i5_i_i; }
 L_arm_2_i5_i_i:;
-    v_8 = v_r5_sroa_17_sroa_17_3_copyload_i == 0u;
-    if (v_8) { p_v_r5_sroa_61_0_i_i_i = v_r5_sroa_17_sroa_15_3_copyload_i; p_v_r5_sroa_8_0_i_i_i = v_r5_sroa_17_sroa_16_3_copyload_i; p_v_r5_sroa_9_0_i_i_i = 0u; p_v_r5_sroa_10_0_i6_i_i = 0u; p_v_r5_sroa_12_0_i_i_i = (P)f_static_27; p_v_r5_sroa_13_0_i_i_i = 0u; goto L_pkcs1_c_pss_to_c_pss_exit_i; } else { goto L_arm_2_i_i_i_i; }
+    v_9 = v_r5_sroa_17_sroa_17_3_copyload_i == 0u;
+    if (v_9) { p_v_r5_sroa_61_0_i_i_i = v_r5_sroa_17_sroa_15_3_copyload_i; p_v_r5_sroa_8_0_i_i_i = v_r5_sroa_17_sroa_16_3_copyload_i; p_v_r5_sroa_9_0_i_i_i = 0u; p_v_r5_sroa_10_0_i6_i_i = 0u; p_v_r5_sroa_12_0_i_i_i = (P)f_static_27; p_v_r5_sroa_13_0_i_i_i = 0u; goto L_pkcs1_c_pss_to_c_pss_exit_i; } else { goto L_arm_2_i_i_i_i; }
 L_arm_2_i_i_i_i:;
     v_r4_i_i_i_i_i_i = (u8)(v_r5_sroa_17_sroa_19_3_copyload_i);
     { p_v_r5_sroa_61_0_i_i_i = v_r5_sroa_17_sroa_15_3_copyload_i; p_v_r5_sroa_8_0_i_i_i = v_r5_sroa_17_sroa_16_3_copyload_i; p_v_r5_sroa_9_0_i_i_i = v_r5_sroa_17_sroa_17_3_copyload_i; p_v_r5_sroa_10_0_i6_i_i = v_r4_i_i_i_i_i_i; p_v_r5_sroa_12_0_i_i_i = v_r5_sroa_17_sroa_20_3_copyload_i; p_v_r5_sroa_13_0_i_i_i = v_r5_sroa_17_sroa_21_3_copyload_i; goto L_pkcs1_c_pss_to_c_pss_exit_i; }
@@ -32350,13 +32562,13 @@ L_arm_2_i:;
     v_r5_sroa_5_0_ph_i = p_v_r5_sroa_5_0_ph_i;
     v_r5_sroa_8_0_ph_i = p_v_r5_sroa_8_0_ph_i;
     switch (v_r5_sroa_5_0_ph_i) {
-    case 0u: { goto L_arm_1_i4_i; }
+    case 0u: { goto L_arm_1_i5_i; }
     case 1u: { p_v_r6_0_i = 18u; goto L_pkcs1_c_pss_algorithm_pkcs1_c_pss_algorithm_decode; }
     case 2u: { goto L_arm_3_i_i; }
     case 3u: { goto L_arm_4_i_i; }
     default: { goto L_noarm_5_i_i; }
     }
-L_arm_1_i4_i:;
+L_arm_1_i5_i:;
     v_switch_idx_cast_i_i_i = (u32)v_r5_sroa_8_0_ph_i;
     v_switch_offset_i_i_i = (u32)((u32)(v_switch_idx_cast_i_i_i) + (u32)(1u));
     { p_v_r6_0_i = v_switch_offset_i_i_i; goto L_pkcs1_c_pss_algorithm_pkcs1_c_pss_algorithm_decode; }
@@ -32374,8 +32586,8 @@ u32 pkcs1_c_pss_params_decode(P v_a0, u64 v_a1, P v_a2) {
     ALIGNED(8) unsigned char m_v_r6_i43_i_i[24];
     ALIGNED(8) unsigned char m_v_r30_i56_i_i[136];
     ALIGNED(8) unsigned char m_v_r18_i_i_i_i[56];
-    u64 p_v_r4_i_sroa_12_21459_i_i;
-    P p_v_r4_i_sroa_0_21457_i_i;
+    u64 p_v_r4_i_sroa_12_21527_i_i;
+    P p_v_r4_i_sroa_0_21525_i_i;
     u64 p_v_r12_sroa_10_0_i_i_i;
     u32 p_v_r0_i27_sroa_9_0_ph_i_i;
     P p_v_r5_sroa_144_0_ph_i;
@@ -32545,8 +32757,8 @@ u32 pkcs1_c_pss_params_decode(P v_a0, u64 v_a1, P v_a2) {
     u8 v_r177_i_i_i_i;
     u64 v_r179_i_i_i_i;
     u64 v_r182_i_i_i_i;
-    u64 v_r4_i_sroa_12_21459_i_i;
-    P v_r4_i_sroa_0_21457_i_i;
+    u64 v_r4_i_sroa_12_21527_i_i;
+    P v_r4_i_sroa_0_21525_i_i;
     u64 v_r12_sroa_10_0_i_i_i;
     u64 v_r3_i25_i_i_i_i;
     u1 v_r39_i_i381_i_i;
@@ -32792,7 +33004,7 @@ L_arm_1_i59_i_i_i:;
     if (v_r51_i62_i_i_i) { goto L_then_5_i_i142_i_i; } else { goto L_join_7_i63_i_i_i; }
 L_then_5_i_i142_i_i:;
     v_r56_i73_i_i_i = (u64)v_r29_i221_i_i;
-    { p_v_r4_i_sroa_12_21459_i_i = v_r19_i_i_i220_i_i; p_v_r4_i_sroa_0_21457_i_i = v_r16_i_i_i219_i_i; p_v_r12_sroa_10_0_i_i_i = v_r56_i73_i_i_i; goto L_arm_1_i84_i_i; }
+    { p_v_r4_i_sroa_12_21527_i_i = v_r19_i_i_i220_i_i; p_v_r4_i_sroa_0_21525_i_i = v_r16_i_i_i219_i_i; p_v_r12_sroa_10_0_i_i_i = v_r56_i73_i_i_i; goto L_arm_1_i84_i_i; }
 L_join_7_i63_i_i_i:;
     v_r68_i64_i_i_i = v_r29_i221_i_i == 128u;
     if (v_r68_i64_i_i_i) { p_v_r0_i27_sroa_9_0_ph_i_i = 3u; goto L_arm_6_i_i_i; } else { goto L_join_10_i_i_i_i; }
@@ -32822,7 +33034,7 @@ L_der_core_length_is_overlong_exit_i_i:;
     if (v_r30_i298_i_i) { p_v_r0_i27_sroa_9_0_ph_i_i = 9u; goto L_arm_6_i_i_i; } else { goto L_then_5_i80_i_i_i; }
 L_then_5_i80_i_i_i:;
     v_r71_i_i133_i_i = (u64)v_r28_i297_i_i;
-    { p_v_r4_i_sroa_12_21459_i_i = v_r19_i_i268_i_i; p_v_r4_i_sroa_0_21457_i_i = v_r16_i_i267_i_i; p_v_r12_sroa_10_0_i_i_i = v_r71_i_i133_i_i; goto L_arm_1_i84_i_i; }
+    { p_v_r4_i_sroa_12_21527_i_i = v_r19_i_i268_i_i; p_v_r4_i_sroa_0_21525_i_i = v_r16_i_i267_i_i; p_v_r12_sroa_10_0_i_i_i = v_r71_i_i133_i_i; goto L_arm_1_i84_i_i; }
 L_join_7_i82_i_i_i:;
     v_r74_i83_i_i_i = v_r106_i_i_i_i < 3u;
     if (v_r74_i83_i_i_i) { goto L_then_8_i106_i_i_i; } else { goto L_join_10_i84_i_i_i; }
@@ -32833,7 +33045,7 @@ L_then_8_i106_i_i_i:;
     v_r91_i_i_i_i = get_u8(v_r81_i107_i_i_i);
     v_r93_i110_i_i_i = (u64)v_r91_i_i_i_i;
     v_r96_i111_i_i_i = (u64)((u64)(v_r89_i_i_i_i) | (u64)(v_r93_i110_i_i_i));
-    { p_v_r4_i_sroa_12_21459_i_i = v_r19_i_i268_i_i; p_v_r4_i_sroa_0_21457_i_i = v_r16_i_i267_i_i; p_v_r12_sroa_10_0_i_i_i = v_r96_i111_i_i_i; goto L_arm_1_i84_i_i; }
+    { p_v_r4_i_sroa_12_21527_i_i = v_r19_i_i268_i_i; p_v_r4_i_sroa_0_21525_i_i = v_r16_i_i267_i_i; p_v_r12_sroa_10_0_i_i_i = v_r96_i111_i_i_i; goto L_arm_1_i84_i_i; }
 L_join_10_i84_i_i_i:;
     v_r99_i85_i_i_i = v_r106_i_i_i_i == 3u;
     if (v_r99_i85_i_i_i) { goto L_then_11_i95_i_i_i; } else { goto L_join_13_i86_i_i_i; }
@@ -32849,7 +33061,7 @@ L_then_11_i95_i_i_i:;
     v_r128_i_i_i_i = get_u8(v_r108_i97_i_i_i);
     v_r130_i105_i_i_i = (u64)v_r128_i_i_i_i;
     v_r133_i_i_i_i = (u64)((u64)(v_r126_i104_i_i_i) | (u64)(v_r130_i105_i_i_i));
-    { p_v_r4_i_sroa_12_21459_i_i = v_r19_i_i268_i_i; p_v_r4_i_sroa_0_21457_i_i = v_r16_i_i267_i_i; p_v_r12_sroa_10_0_i_i_i = v_r133_i_i_i_i; goto L_arm_1_i84_i_i; }
+    { p_v_r4_i_sroa_12_21527_i_i = v_r19_i_i268_i_i; p_v_r4_i_sroa_0_21525_i_i = v_r16_i_i267_i_i; p_v_r12_sroa_10_0_i_i_i = v_r133_i_i_i_i; goto L_arm_1_i84_i_i; }
 L_join_13_i86_i_i_i:;
     v_r136_i87_i_i_i = v_r106_i_i_i_i < 5u;
     if (v_r136_i87_i_i_i) { goto L_then_14_i_i_i_i; } else { goto L_join_16_i_i_i_i; }
@@ -32870,21 +33082,21 @@ L_then_14_i_i_i_i:;
     v_r177_i_i_i_i = get_u8(v_r147_i90_i_i_i);
     v_r179_i_i_i_i = (u64)v_r177_i_i_i_i;
     v_r182_i_i_i_i = (u64)((u64)(v_r175_i_i_i_i) | (u64)(v_r179_i_i_i_i));
-    { p_v_r4_i_sroa_12_21459_i_i = v_r19_i_i268_i_i; p_v_r4_i_sroa_0_21457_i_i = v_r16_i_i267_i_i; p_v_r12_sroa_10_0_i_i_i = v_r182_i_i_i_i; goto L_arm_1_i84_i_i; }
+    { p_v_r4_i_sroa_12_21527_i_i = v_r19_i_i268_i_i; p_v_r4_i_sroa_0_21525_i_i = v_r16_i_i267_i_i; p_v_r12_sroa_10_0_i_i_i = v_r182_i_i_i_i; goto L_arm_1_i84_i_i; }
 L_join_16_i_i_i_i:;
     __builtin_trap();
     __builtin_trap();
 L_arm_1_i84_i_i:;
-    v_r4_i_sroa_12_21459_i_i = p_v_r4_i_sroa_12_21459_i_i;
-    v_r4_i_sroa_0_21457_i_i = p_v_r4_i_sroa_0_21457_i_i;
+    v_r4_i_sroa_12_21527_i_i = p_v_r4_i_sroa_12_21527_i_i;
+    v_r4_i_sroa_0_21525_i_i = p_v_r4_i_sroa_0_21525_i_i;
     v_r12_sroa_10_0_i_i_i = p_v_r12_sroa_10_0_i_i_i;
     if (v_r8_i22_i_i_i) { goto L_join_3_i_i378_i_i; } else { p_v_r0_i27_sroa_9_0_ph_i_i = 11u; goto L_arm_6_i_i_i; }
 L_join_3_i_i378_i_i:;
     v_r3_i25_i_i_i_i = (u64)((u64)(v_r12_sroa_10_0_i_i_i) & (u64)(4294967295ull));
-    v_r39_i_i381_i_i = v_r4_i_sroa_12_21459_i_i < v_r3_i25_i_i_i_i;
+    v_r39_i_i381_i_i = v_r4_i_sroa_12_21527_i_i < v_r3_i25_i_i_i_i;
     if (v_r39_i_i381_i_i) { p_v_r0_i27_sroa_9_0_ph_i_i = 2u; goto L_arm_6_i_i_i; } else { goto L_arm_8_i89_i_i; }
 L_arm_8_i89_i_i:;
-    put_P(v_r6_i43_i_i, v_r4_i_sroa_0_21457_i_i);
+    put_P(v_r6_i43_i_i, v_r4_i_sroa_0_21525_i_i);
     v_r29_i55_sroa_5_0_r6_i43_sroa_idx_i_i = v_r6_i43_i_i + 8;
     put_u64(v_r29_i55_sroa_5_0_r6_i43_sroa_idx_i_i, v_r3_i25_i_i_i_i);
     v_r29_i55_sroa_6_0_r6_i43_sroa_idx_i_i = v_r6_i43_i_i + 16;
@@ -32932,7 +33144,7 @@ L_join_3_i456_i_i:;
     v_r9_i46_sroa_18_0_copyload_i_i = get_u64(v_r9_i46_sroa_18_0_r106_i_sroa_idx_i_i);
     v_r9_i46_sroa_19_0_r106_i_sroa_idx_i_i = v_r30_i56_i_i + 128;
     v_r9_i46_sroa_19_0_copyload_i_i = get_u8(v_r9_i46_sroa_19_0_r106_i_sroa_idx_i_i);
-    v_r7_i_i457_i_i = v_r4_i_sroa_12_21459_i_i == v_r3_i25_i_i_i_i;
+    v_r7_i_i457_i_i = v_r4_i_sroa_12_21527_i_i == v_r3_i25_i_i_i_i;
     if (v_r7_i_i457_i_i) { goto L_arm_8_i_i; } else { p_v_r6_0_i = 13u; goto L_pkcs1_c_pss_pkcs1_c_pss_params_decode_exit; }
 L_arm_6_i_i_i:;
     v_r0_i27_sroa_9_0_ph_i_i = p_v_r0_i27_sroa_9_0_ph_i_i;
@@ -33059,18 +33271,19 @@ L_pkcs1_c_pss_pkcs1_c_pss_params_decode_exit:;
     return v_r6_0_i;
 }
 u32 pkcs1_c_pss_params_decode_strict(P v_a0, u64 v_a1, P v_a2) {
+    ALIGNED(8) unsigned char m_v_r18_i_i_i2_i_i[56];
+    ALIGNED(1) unsigned char m_v_r0_i3_i_i[5];
     ALIGNED(8) unsigned char m_v_r6_i43_i_i_i[24];
     ALIGNED(8) unsigned char m_v_r30_i56_i_i_i[136];
     ALIGNED(2) unsigned char m_v_r15_i18_sroa_11_sroa_21_i_i_i[6];
     ALIGNED(8) unsigned char m_v_r18_i_i_i_i_i[56];
     ALIGNED(8) unsigned char m_v_r3_i_i[128];
     ALIGNED(2) unsigned char m_v_r8_sroa_67_i_i[6];
-    ALIGNED(1) unsigned char m_v_r11_i_i[5];
-    u64 p_v_r4_i_sroa_12_21459_i_i_i;
-    P p_v_r4_i_sroa_0_21457_i_i_i;
+    u64 p_v_r4_i_sroa_12_21527_i_i_i;
+    P p_v_r4_i_sroa_0_21525_i_i_i;
     u64 p_v_r12_sroa_10_0_i_i_i_i;
     u8 p_v_r0_i27_sroa_9_0_ph_i_i_i;
-    P p_v_r8_sroa_1428_0_ph_i_i;
+    P p_v_r8_sroa_1469_0_ph_i_i;
     u64 p_v_r8_sroa_19_0_ph_i_i;
     u64 p_v_r8_sroa_22_0_ph_i_i;
     u64 p_v_r8_sroa_25_0_ph_i_i;
@@ -33094,15 +33307,16 @@ u32 pkcs1_c_pss_params_decode_strict(P v_a0, u64 v_a1, P v_a2) {
     u8 p_v_r5_sroa_10_0_i6_i_i;
     P p_v_r5_sroa_12_0_i_i_i;
     u64 p_v_r5_sroa_13_0_i_i_i;
-    u8 p_v_r5_sroa_8_0_ph66_i;
+    u8 p_v_r5_sroa_8_0_ph67_i;
     u32 p_v_r6_0_i;
+    P v_r18_i_i_i2_i_i;
+    P v_r0_i3_i_i;
     P v_r6_i43_i_i_i;
     P v_r30_i56_i_i_i;
     P v_r15_i18_sroa_11_sroa_21_i_i_i;
     P v_r18_i_i_i_i_i;
     P v_r3_i_i;
     P v_r8_sroa_67_i_i;
-    P v_r11_i_i;
     u1 v_r1;
     u64 v_r3;
     P v_r4;
@@ -33213,8 +33427,8 @@ u32 pkcs1_c_pss_params_decode_strict(P v_a0, u64 v_a1, P v_a2) {
     u8 v_r177_i_i_i_i_i;
     u64 v_r179_i_i_i_i_i;
     u64 v_r182_i_i_i_i_i;
-    u64 v_r4_i_sroa_12_21459_i_i_i;
-    P v_r4_i_sroa_0_21457_i_i_i;
+    u64 v_r4_i_sroa_12_21527_i_i_i;
+    P v_r4_i_sroa_0_21525_i_i_i;
     u64 v_r12_sroa_10_0_i_i_i_i;
     u64 v_r3_i25_i_i_i_i_i;
     u1 v_r39_i_i381_i_i_i;
@@ -33261,7 +33475,7 @@ u32 pkcs1_c_pss_params_decode_strict(P v_a0, u64 v_a1, P v_a2) {
     P v_r9_i46_sroa_21_0_r106_i_sroa_idx_i_i_i;
     u1 v_r7_i_i457_i_i_i;
     u8 v_r0_i27_sroa_9_0_ph_i_i_i;
-    P v_r8_sroa_1428_0_ph_i_i;
+    P v_r8_sroa_1469_0_ph_i_i;
     u64 v_r8_sroa_19_0_ph_i_i;
     u64 v_r8_sroa_22_0_ph_i_i;
     u64 v_r8_sroa_25_0_ph_i_i;
@@ -33295,19 +33509,48 @@ u32 pkcs1_c_pss_params_decode_strict(P v_a0, u64 v_a1, P v_a2) {
     P v_r9_sroa_17_0_r3_sroa_idx_i_i;
     P v_r9_sroa_18_0_r3_sroa_idx_i_i;
     P v_r9_sroa_19_0_r3_sroa_idx_i_i;
-    u8 v_r1_sroa_0_0_copyload_i2_i_i;
-    u1 v_6;
+    u1 v_r10_not_i_not_i_i;
+    u8 v_6;
     u8 v_7;
     u8 v_8;
-    u8 v_9;
+    u8 v_r26_i_i_i_i_i;
+    u1 v_r28_i_i_i_i_i;
+    P v_r36_i_i_i10_i_i;
+    u8 v_r38_i_i_i11_i_i;
+    u1 v_r40_i_i_i12_i_i;
+    P v_r48_i_i_i14_i_i;
+    u1 v_r29_not_i_i_i15_i_i;
+    P v_r16_i3_i_i_i;
+    u8 v_r33_i_i_i17_i_i;
+    u1 v_cond_i_i_i18_i_i;
+    P v_r36_i7_i_i20_i_i;
+    u8 v_r38_i8_i_i21_i_i;
+    u1 v_cond1_i_i_i22_i_i;
+    P v_r41_i_i_i24_i_i;
+    u8 v_r43_i_i_i25_i_i;
+    u1 v_cond2_i_i_i26_i_i;
+    P v_r46_i9_i_i28_i_i;
+    u8 v_r48_i10_i_i29_i_i;
+    u1 v_cond3_i_i_i30_i_i;
+    P v_r51_i11_i_i32_i_i;
+    u8 v_r54_i_i_i33_i_i;
+    u1 v_r56_i_i_i34_i_i;
+    u8 v_r2_i4_i_i_i;
+    u1 v_9;
+    u8 v_10;
+    P v_r32_i_i_i;
+    u8 v_11;
+    P v_r34_i7_i_i;
+    u8 v_12;
+    u1 v_13;
     u8 v_r13_sroa_6_0_ph_i_i_i;
-    u1 v_10;
+    u1 v_14;
     u8 v_r4_i_i_i_i_i;
     u8 v_r5_sroa_6_0_i_i_i;
     P v_r5_sroa_81_0_i_i_i;
     u64 v_r5_sroa_10_0_i_i_i;
-    u1 v_11;
-    u1 v_12;
+    u1 v_15;
+    u1 v_16;
     u8 v_r4_i_i_i_i_i_i;
     P v_r5_sroa_61_0_i_i_i;
     u64 v_r5_sroa_8_0_i_i_i;
@@ -33335,21 +33578,18 @@ u32 pkcs1_c_pss_params_decode_strict(P v_a0, u64 v_a1, P v_a2) {
     P v_r7_sroa_20_0_a2_sroa_idx_i;
     P v_r7_sroa_21_0_a2_sroa_idx_i;
     P v_r7_sroa_22_0_a2_sroa_idx_i;
-    P v_r5_i7_i_i;
-    u8 v_r1_sroa_5_2_copyload_i8_i_i;
-    P v_r3_i9_i_i;
-    u8 v_r1_sroa_3_1_copyload_i10_i_i;
-    u8 v_r5_sroa_8_0_ph66_i;
+    u8 v_r5_sroa_8_0_ph67_i;
     u32 v_switch_idx_cast_i_i_i;
     u32 v_switch_offset_i_i_i;
     u32 v_r6_0_i;
+    v_r18_i_i_i2_i_i = m_v_r18_i_i_i2_i_i;
+    v_r0_i3_i_i = m_v_r0_i3_i_i;
     v_r6_i43_i_i_i = m_v_r6_i43_i_i_i;
     v_r30_i56_i_i_i = m_v_r30_i56_i_i_i;
     v_r15_i18_sroa_11_sroa_21_i_i_i = m_v_r15_i18_sroa_11_sroa_21_i_i_i;
     v_r18_i_i_i_i_i = m_v_r18_i_i_i_i_i;
     v_r3_i_i = m_v_r3_i_i;
     v_r8_sroa_67_i_i = m_v_r8_sroa_67_i_i;
-    v_r11_i_i = m_v_r11_i_i;
     v_r1 = v_a0 == (P)0;
     v_r3 = v_r1 ? 4096u : 0u;
     v_r4 = (P)((uintptr_t)v_a0 + (u64)(v_r3));
@@ -33358,18 +33598,18 @@ u32 pkcs1_c_pss_params_decode_strict(P v_a0, u64 v_a1, P v_a2) {
 L_join_3_i_i_i_i:;
     v_r20_i145_i_i_i = get_u8(v_r4);
     v_r22_i_i_i_i = v_r20_i145_i_i_i == 48u;
-    if (v_r22_i_i_i_i) { goto L_pkcs1_params_defaults_is_empty_sequence_exit_i_i_i; } else { goto L_join_3_i_i182_i_thread89_i_i; }
+    if (v_r22_i_i_i_i) { goto L_pkcs1_params_defaults_is_empty_sequence_exit_i_i_i; } else { goto L_join_3_i_i182_i_thread130_i_i; }
 L_pkcs1_params_defaults_is_empty_sequence_exit_i_i_i:;
     v_r30_i146_i_i_i = v_r4 + 1;
     v_r32_i147_i_i_i = get_u8(v_r30_i146_i_i_i);
     switch (v_r32_i147_i_i_i) {
     case 0u: { goto L_then_1_i_i_i; }
     case 52u: { goto L_arm_1_i_i_thread_i_i; }
-    default: { goto L_join_3_i_i182_i_thread89_i_i; }
+    default: { goto L_join_3_i_i182_i_thread130_i_i; }
     }
 L_then_1_i_i_i:;
     fill(v_r8_sroa_67_i_i, 0u, 6u);
-    { p_v_r8_sroa_1428_0_ph_i_i = (P)f_static_31; p_v_r8_sroa_19_0_ph_i_i = 5u; p_v_r8_sroa_22_0_ph_i_i = 1u; p_v_r8_sroa_25_0_ph_i_i = 5u; p_v_r8_sroa_28_0_ph_i_i = (P)f_static_27; p_v_r8_sroa_31_0_ph_i_i = 0u; p_v_r8_sroa_34_0_ph_i_i = (P)f_static_30; p_v_r8_sroa_37_0_ph_i_i = 9u; p_v_r8_sroa_40_0_ph_i_i = 1u; p_v_r8_sroa_43_0_ph_i_i = (P)f_static_31; p_v_r8_sroa_46_0_ph_i_i = 5u; p_v_r8_sroa_49_0_ph_i_i = 1u; p_v_r8_sroa_52_0_ph_i_i = 5u; p_v_r8_sroa_55_0_ph_i_i = (P)f_static_27; p_v_r8_sroa_58_0_ph_i_i = 0u; p_v_r8_sroa_61_0_ph_i_i = 20u; p_v_r8_sroa_64_0_ph_i_i = 0u; goto L_arm_1_i_i; }
+    { p_v_r8_sroa_1469_0_ph_i_i = (P)f_static_31; p_v_r8_sroa_19_0_ph_i_i = 5u; p_v_r8_sroa_22_0_ph_i_i = 1u; p_v_r8_sroa_25_0_ph_i_i = 5u; p_v_r8_sroa_28_0_ph_i_i = (P)f_static_27; p_v_r8_sroa_31_0_ph_i_i = 0u; p_v_r8_sroa_34_0_ph_i_i = (P)f_static_30; p_v_r8_sroa_37_0_ph_i_i = 9u; p_v_r8_sroa_40_0_ph_i_i = 1u; p_v_r8_sroa_43_0_ph_i_i = (P)f_static_31; p_v_r8_sroa_46_0_ph_i_i = 5u; p_v_r8_sroa_49_0_ph_i_i = 1u; p_v_r8_sroa_52_0_ph_i_i = 5u; p_v_r8_sroa_55_0_ph_i_i = (P)f_static_27; p_v_r8_sroa_58_0_ph_i_i = 0u; p_v_r8_sroa_61_0_ph_i_i = 20u; p_v_r8_sroa_64_0_ph_i_i = 0u; goto L_arm_1_i_i; }
 L_join_3_i_i_i:;
     v_r19_i_i_i_i_i = v_a1 > 1u;
     if (v_r19_i_i_i_i_i) { goto L_then_2_i_i_i_i_i; } else { goto L_join_3_i_i182_i_i_i; }
@@ -33435,11 +33675,11 @@ L_arm_4_i_i_i:;
     v_r13_sroa_8_i_sroa_6_0_copyload_i_i_i = get_u64(v_r13_sroa_8_i_sroa_6_0_r11_i167_sroa_idx_i_i_i);
     v_r73_i_i_i_i_i = (u64)v_r8_i162_i_i_i;
     fill(v_r8_sroa_67_i_i, 0u, 6u);
-    { p_v_r8_sroa_1428_0_ph_i_i = v_r13_sroa_4_i_sroa_3_7_copyload_i_i_i; p_v_r8_sroa_19_0_ph_i_i = v_r13_sroa_4_i_sroa_5_7_copyload_i_i_i; p_v_r8_sroa_22_0_ph_i_i = v_r73_i_i_i_i_i; p_v_r8_sroa_25_0_ph_i_i = v_r13_sroa_8_i_sroa_0_0_copyload_i_i_i; p_v_r8_sroa_28_0_ph_i_i = v_r13_sroa_8_i_sroa_5_0_copyload_i_i_i; p_v_r8_sroa_31_0_ph_i_i = v_r13_sroa_8_i_sroa_6_0_copyload_i_i_i; p_v_r8_sroa_34_0_ph_i_i = (P)f_static_30; p_v_r8_sroa_37_0_ph_i_i = 9u; p_v_r8_sroa_40_0_ph_i_i = 1u; p_v_r8_sroa_43_0_ph_i_i = v_r13_sroa_4_i_sroa_3_7_copyload_i_i_i; p_v_r8_sroa_46_0_ph_i_i = v_r13_sroa_4_i_sroa_5_7_copyload_i_i_i; p_v_r8_sroa_49_0_ph_i_i = v_r73_i_i_i_i_i; p_v_r8_sroa_52_0_ph_i_i = v_r13_sroa_8_i_sroa_0_0_copyload_i_i_i; p_v_r8_sroa_55_0_ph_i_i = v_r13_sroa_8_i_sroa_5_0_copyload_i_i_i; p_v_r8_sroa_58_0_ph_i_i = v_r13_sroa_8_i_sroa_6_0_copyload_i_i_i; p_v_r8_sroa_61_0_ph_i_i = v_r54_i_i_i_i_i; p_v_r8_sroa_64_0_ph_i_i = 0u; goto L_arm_1_i_i; }
+    { p_v_r8_sroa_1469_0_ph_i_i = v_r13_sroa_4_i_sroa_3_7_copyload_i_i_i; p_v_r8_sroa_19_0_ph_i_i = v_r13_sroa_4_i_sroa_5_7_copyload_i_i_i; p_v_r8_sroa_22_0_ph_i_i = v_r73_i_i_i_i_i; p_v_r8_sroa_25_0_ph_i_i = v_r13_sroa_8_i_sroa_0_0_copyload_i_i_i; p_v_r8_sroa_28_0_ph_i_i = v_r13_sroa_8_i_sroa_5_0_copyload_i_i_i; p_v_r8_sroa_31_0_ph_i_i = v_r13_sroa_8_i_sroa_6_0_copyload_i_i_i; p_v_r8_sroa_34_0_ph_i_i = (P)f_static_30; p_v_r8_sroa_37_0_ph_i_i = 9u; p_v_r8_sroa_40_0_ph_i_i = 1u; p_v_r8_sroa_43_0_ph_i_i = v_r13_sroa_4_i_sroa_3_7_copyload_i_i_i; p_v_r8_sroa_46_0_ph_i_i = v_r13_sroa_4_i_sroa_5_7_copyload_i_i_i; p_v_r8_sroa_49_0_ph_i_i = v_r73_i_i_i_i_i; p_v_r8_sroa_52_0_ph_i_i = v_r13_sroa_8_i_sroa_0_0_copyload_i_i_i; p_v_r8_sroa_55_0_ph_i_i = v_r13_sroa_8_i_sroa_5_0_copyload_i_i_i; p_v_r8_sroa_58_0_ph_i_i = v_r13_sroa_8_i_sroa_6_0_copyload_i_i_i; p_v_r8_sroa_61_0_ph_i_i = v_r54_i_i_i_i_i; p_v_r8_sroa_64_0_ph_i_i = 0u; goto L_arm_1_i_i; }
 L_join_7_i_i_i:;
     v_r16_i169_i_i_i = v_a1 < 4294967296ull;
     if (v_r16_i169_i_i_i) { goto L_arm_1_i_i_i_sink_split_i_i; } else { p_v_r13_sroa_6_0_ph_i_i_i = 7u; goto L_arm_2_thread_i; }
-L_join_3_i_i182_i_thread89_i_i:;
+L_join_3_i_i182_i_thread130_i_i:;
     { goto L_arm_1_i_i_i_sink_split_i_i; }
 L_join_3_i_i182_i_i_i:;
     fill(v_r30_i56_i_i_i, 0u, 136u);
@@ -33471,7 +33711,7 @@ L_arm_1_i59_i_i_i_i:;
     if (v_r51_i62_i_i_i_i) { goto L_then_5_i_i142_i_i_i; } else { goto L_join_7_i63_i_i_i_i; }
 L_then_5_i_i142_i_i_i:;
     v_r56_i73_i_i_i_i = (u64)v_r29_i221_i_i_i;
-    { p_v_r4_i_sroa_12_21459_i_i_i = v_r19_i_i_i220_i_i_i; p_v_r4_i_sroa_0_21457_i_i_i = v_r16_i_i_i219_i_i_i; p_v_r12_sroa_10_0_i_i_i_i = v_r56_i73_i_i_i_i; goto L_arm_1_i84_i_i_i; }
+    { p_v_r4_i_sroa_12_21527_i_i_i = v_r19_i_i_i220_i_i_i; p_v_r4_i_sroa_0_21525_i_i_i = v_r16_i_i_i219_i_i_i; p_v_r12_sroa_10_0_i_i_i_i = v_r56_i73_i_i_i_i; goto L_arm_1_i84_i_i_i; }
 L_join_7_i63_i_i_i_i:;
     v_r68_i64_i_i_i_i = v_r29_i221_i_i_i == 128u;
     if (v_r68_i64_i_i_i_i) { p_v_r0_i27_sroa_9_0_ph_i_i_i = 2u; goto L_arm_6_i_i_i_i; } else { goto L_join_10_i_i_i_i_i; }
@@ -33501,7 +33741,7 @@ L_der_core_length_is_overlong_exit_i_i_i:;
     if (v_r30_i298_i_i_i) { p_v_r0_i27_sroa_9_0_ph_i_i_i = 8u; goto L_arm_6_i_i_i_i; } else { goto L_then_5_i80_i_i_i_i; }
 L_then_5_i80_i_i_i_i:;
     v_r71_i_i133_i_i_i = (u64)v_r28_i297_i_i_i;
-    { p_v_r4_i_sroa_12_21459_i_i_i = v_r19_i_i268_i_i_i; p_v_r4_i_sroa_0_21457_i_i_i = v_r16_i_i267_i_i_i; p_v_r12_sroa_10_0_i_i_i_i = v_r71_i_i133_i_i_i; goto L_arm_1_i84_i_i_i; }
+    { p_v_r4_i_sroa_12_21527_i_i_i = v_r19_i_i268_i_i_i; p_v_r4_i_sroa_0_21525_i_i_i = v_r16_i_i267_i_i_i; p_v_r12_sroa_10_0_i_i_i_i = v_r71_i_i133_i_i_i; goto L_arm_1_i84_i_i_i; }
 L_join_7_i82_i_i_i_i:;
     v_r74_i83_i_i_i_i = v_r106_i_i_i_i_i < 3u;
     if (v_r74_i83_i_i_i_i) { goto L_then_8_i106_i_i_i_i; } else { goto L_join_10_i84_i_i_i_i; }
@@ -33512,7 +33752,7 @@ L_then_8_i106_i_i_i_i:;
     v_r91_i_i_i_i_i = get_u8(v_r81_i107_i_i_i_i);
     v_r93_i110_i_i_i_i = (u64)v_r91_i_i_i_i_i;
     v_r96_i111_i_i_i_i = (u64)((u64)(v_r89_i_i_i_i_i) | (u64)(v_r93_i110_i_i_i_i));
-    { p_v_r4_i_sroa_12_21459_i_i_i = v_r19_i_i268_i_i_i; p_v_r4_i_sroa_0_21457_i_i_i = v_r16_i_i267_i_i_i; p_v_r12_sroa_10_0_i_i_i_i = v_r96_i111_i_i_i_i; goto L_arm_1_i84_i_i_i; }
+    { p_v_r4_i_sroa_12_21527_i_i_i = v_r19_i_i268_i_i_i; p_v_r4_i_sroa_0_21525_i_i_i = v_r16_i_i267_i_i_i; p_v_r12_sroa_10_0_i_i_i_i = v_r96_i111_i_i_i_i; goto L_arm_1_i84_i_i_i; }
 L_join_10_i84_i_i_i_i:;
     v_r99_i85_i_i_i_i = v_r106_i_i_i_i_i == 3u;
     if (v_r99_i85_i_i_i_i) { goto L_then_11_i95_i_i_i_i; } else { goto L_join_13_i86_i_i_i_i; }
@@ -33528,7 +33768,7 @@ L_then_11_i95_i_i_i_i:;
     v_r128_i_i_i_i_i = get_u8(v_r108_i97_i_i_i_i);
     v_r130_i105_i_i_i_i = (u64)v_r128_i_i_i_i_i;
     v_r133_i_i_i_i_i = (u64)((u64)(v_r126_i104_i_i_i_i) | (u64)(v_r130_i105_i_i_i_i));
-    { p_v_r4_i_sroa_12_21459_i_i_i = v_r19_i_i268_i_i_i; p_v_r4_i_sroa_0_21457_i_i_i = v_r16_i_i267_i_i_i; p_v_r12_sroa_10_0_i_i_i_i = v_r133_i_i_i_i_i; goto L_arm_1_i84_i_i_i; }
+    { p_v_r4_i_sroa_12_21527_i_i_i = v_r19_i_i268_i_i_i; p_v_r4_i_sroa_0_21525_i_i_i = v_r16_i_i267_i_i_i; p_v_r12_sroa_10_0_i_i_i_i = v_r133_i_i_i_i_i; goto L_arm_1_i84_i_i_i; }
 L_join_13_i86_i_i_i_i:;
     v_r136_i87_i_i_i_i = v_r106_i_i_i_i_i < 5u;
     if (v_r136_i87_i_i_i_i) { goto L_then_14_i_i_i_i_i; } else { goto L_join_16_i_i_i_i_i; }
@@ -33549,21 +33789,21 @@ L_then_14_i_i_i_i_i:;
     v_r177_i_i_i_i_i = get_u8(v_r147_i90_i_i_i_i);
     v_r179_i_i_i_i_i = (u64)v_r177_i_i_i_i_i;
     v_r182_i_i_i_i_i = (u64)((u64)(v_r175_i_i_i_i_i) | (u64)(v_r179_i_i_i_i_i));
-    { p_v_r4_i_sroa_12_21459_i_i_i = v_r19_i_i268_i_i_i; p_v_r4_i_sroa_0_21457_i_i_i = v_r16_i_i267_i_i_i; p_v_r12_sroa_10_0_i_i_i_i = v_r182_i_i_i_i_i; goto L_arm_1_i84_i_i_i; }
+    { p_v_r4_i_sroa_12_21527_i_i_i = v_r19_i_i268_i_i_i; p_v_r4_i_sroa_0_21525_i_i_i = v_r16_i_i267_i_i_i; p_v_r12_sroa_10_0_i_i_i_i = v_r182_i_i_i_i_i; goto L_arm_1_i84_i_i_i; }
 L_join_16_i_i_i_i_i:;
     __builtin_trap();
     __builtin_trap();
 L_arm_1_i84_i_i_i:;
-    v_r4_i_sroa_12_21459_i_i_i = p_v_r4_i_sroa_12_21459_i_i_i;
-    v_r4_i_sroa_0_21457_i_i_i = p_v_r4_i_sroa_0_21457_i_i_i;
+    v_r4_i_sroa_12_21527_i_i_i = p_v_r4_i_sroa_12_21527_i_i_i;
+    v_r4_i_sroa_0_21525_i_i_i = p_v_r4_i_sroa_0_21525_i_i_i;
     v_r12_sroa_10_0_i_i_i_i = p_v_r12_sroa_10_0_i_i_i_i;
     if (v_r8_i22_i_i_i_i) { goto L_join_3_i_i378_i_i_i; } else { p_v_r0_i27_sroa_9_0_ph_i_i_i = 10u; goto L_arm_6_i_i_i_i; }
 L_join_3_i_i378_i_i_i:;
     v_r3_i25_i_i_i_i_i = (u64)((u64)(v_r12_sroa_10_0_i_i_i_i) & (u64)(4294967295ull));
-    v_r39_i_i381_i_i_i = v_r4_i_sroa_12_21459_i_i_i < v_r3_i25_i_i_i_i_i;
+    v_r39_i_i381_i_i_i = v_r4_i_sroa_12_21527_i_i_i < v_r3_i25_i_i_i_i_i;
     if (v_r39_i_i381_i_i_i) { p_v_r0_i27_sroa_9_0_ph_i_i_i = 1u; goto L_arm_6_i_i_i_i; } else { goto L_arm_8_i89_i_i_i; }
 L_arm_8_i89_i_i_i:;
-    put_P(v_r6_i43_i_i_i, v_r4_i_sroa_0_21457_i_i_i);
+    put_P(v_r6_i43_i_i_i, v_r4_i_sroa_0_21525_i_i_i);
     v_r29_i55_sroa_5_0_r6_i43_sroa_idx_i_i_i = v_r6_i43_i_i_i + 8;
     put_u64(v_r29_i55_sroa_5_0_r6_i43_sroa_idx_i_i_i, v_r3_i25_i_i_i_i_i);
     v_r29_i55_sroa_6_0_r6_i43_sroa_idx_i_i_i = v_r6_i43_i_i_i + 16;
@@ -33613,16 +33853,16 @@ L_join_3_i456_i_i_i:;
     v_r9_i46_sroa_20_0_copyload_i_i_i = get_u8(v_r9_i46_sroa_20_0_r106_i_sroa_idx_i_i_i);
     v_r9_i46_sroa_21_0_r106_i_sroa_idx_i_i_i = v_r30_i56_i_i_i + 130;
     copy(v_r15_i18_sroa_11_sroa_21_i_i_i, v_r9_i46_sroa_21_0_r106_i_sroa_idx_i_i_i, 6u);
-    v_r7_i_i457_i_i_i = v_r4_i_sroa_12_21459_i_i_i == v_r3_i25_i_i_i_i_i;
+    v_r7_i_i457_i_i_i = v_r4_i_sroa_12_21527_i_i_i == v_r3_i25_i_i_i_i_i;
     if (v_r7_i_i457_i_i_i) { goto L_arm_8_i_i_i; } else { p_v_r13_sroa_6_0_ph_i_i_i = 12u; goto L_arm_2_thread_i; }
 L_arm_6_i_i_i_i:;
     v_r0_i27_sroa_9_0_ph_i_i_i = p_v_r0_i27_sroa_9_0_ph_i_i_i;
     { p_v_r13_sroa_6_0_ph_i_i_i = v_r0_i27_sroa_9_0_ph_i_i_i; goto L_arm_2_thread_i; }
 L_arm_8_i_i_i:;
     copy(v_r8_sroa_67_i_i, v_r15_i18_sroa_11_sroa_21_i_i_i, 6u);
-    { p_v_r8_sroa_1428_0_ph_i_i = v_r9_i46_sroa_0_0_copyload_i_i_i; p_v_r8_sroa_19_0_ph_i_i = v_r9_i46_sroa_5_0_copyload_i_i_i; p_v_r8_sroa_22_0_ph_i_i = v_r9_i46_sroa_6_0_copyload_i_i_i; p_v_r8_sroa_25_0_ph_i_i = v_r9_i46_sroa_7_0_copyload_i_i_i; p_v_r8_sroa_28_0_ph_i_i = v_r9_i46_sroa_8_0_copyload_i_i_i; p_v_r8_sroa_31_0_ph_i_i = v_r9_i46_sroa_9_0_copyload_i_i_i; p_v_r8_sroa_34_0_ph_i_i = v_r9_i46_sroa_10_0_copyload_i_i_i; p_v_r8_sroa_37_0_ph_i_i = v_r9_i46_sroa_11_0_copyload_i_i_i; p_v_r8_sroa_40_0_ph_i_i = v_r9_i46_sroa_12_0_copyload_i_i_i; p_v_r8_sroa_43_0_ph_i_i = v_r9_i46_sroa_13_0_copyload_i_i_i; p_v_r8_sroa_46_0_ph_i_i = v_r9_i46_sroa_14_0_copyload_i_i_i; p_v_r8_sroa_49_0_ph_i_i = v_r9_i46_sroa_15_0_copyload_i_i_i; p_v_r8_sroa_52_0_ph_i_i = v_r9_i46_sroa_16_0_copyload_i_i_i; p_v_r8_sroa_55_0_ph_i_i = v_r9_i46_sroa_17_0_copyload_i_i_i; p_v_r8_sroa_58_0_ph_i_i = v_r9_i46_sroa_18_0_copyload_i_i_i; p_v_r8_sroa_61_0_ph_i_i = v_r9_i46_sroa_19_0_copyload_i_i_i; p_v_r8_sroa_64_0_ph_i_i = v_r9_i46_sroa_20_0_copyload_i_i_i; goto L_arm_1_i_i; }
+    { p_v_r8_sroa_1469_0_ph_i_i = v_r9_i46_sroa_0_0_copyload_i_i_i; p_v_r8_sroa_19_0_ph_i_i = v_r9_i46_sroa_5_0_copyload_i_i_i; p_v_r8_sroa_22_0_ph_i_i = v_r9_i46_sroa_6_0_copyload_i_i_i; p_v_r8_sroa_25_0_ph_i_i = v_r9_i46_sroa_7_0_copyload_i_i_i; p_v_r8_sroa_28_0_ph_i_i = v_r9_i46_sroa_8_0_copyload_i_i_i; p_v_r8_sroa_31_0_ph_i_i = v_r9_i46_sroa_9_0_copyload_i_i_i; p_v_r8_sroa_34_0_ph_i_i = v_r9_i46_sroa_10_0_copyload_i_i_i; p_v_r8_sroa_37_0_ph_i_i = v_r9_i46_sroa_11_0_copyload_i_i_i; p_v_r8_sroa_40_0_ph_i_i = v_r9_i46_sroa_12_0_copyload_i_i_i; p_v_r8_sroa_43_0_ph_i_i = v_r9_i46_sroa_13_0_copyload_i_i_i; p_v_r8_sroa_46_0_ph_i_i = v_r9_i46_sroa_14_0_copyload_i_i_i; p_v_r8_sroa_49_0_ph_i_i = v_r9_i46_sroa_15_0_copyload_i_i_i; p_v_r8_sroa_52_0_ph_i_i = v_r9_i46_sroa_16_0_copyload_i_i_i; p_v_r8_sroa_55_0_ph_i_i = v_r9_i46_sroa_17_0_copyload_i_i_i; p_v_r8_sroa_58_0_ph_i_i = v_r9_i46_sroa_18_0_copyload_i_i_i; p_v_r8_sroa_61_0_ph_i_i = v_r9_i46_sroa_19_0_copyload_i_i_i; p_v_r8_sroa_64_0_ph_i_i = v_r9_i46_sroa_20_0_copyload_i_i_i; goto L_arm_1_i_i; }
 L_arm_1_i_i:;
-    v_r8_sroa_1428_0_ph_i_i = p_v_r8_sroa_1428_0_ph_i_i;
+    v_r8_sroa_1469_0_ph_i_i = p_v_r8_sroa_1469_0_ph_i_i;
     v_r8_sroa_19_0_ph_i_i = p_v_r8_sroa_19_0_ph_i_i;
     v_r8_sroa_22_0_ph_i_i = p_v_r8_sroa_22_0_ph_i_i;
     v_r8_sroa_25_0_ph_i_i = p_v_r8_sroa_25_0_ph_i_i;
@@ -33639,7 +33879,7 @@ L_arm_1_i_i:;
     v_r8_sroa_58_0_ph_i_i = p_v_r8_sroa_58_0_ph_i_i;
     v_r8_sroa_61_0_ph_i_i = p_v_r8_sroa_61_0_ph_i_i;
     v_r8_sroa_64_0_ph_i_i = p_v_r8_sroa_64_0_ph_i_i;
-    put_P(v_r3_i_i, v_r8_sroa_1428_0_ph_i_i);
+    put_P(v_r3_i_i, v_r8_sroa_1469_0_ph_i_i);
     v_r9_sroa_3_0_r3_sroa_idx_i_i = v_r3_i_i + 8;
     put_u64(v_r9_sroa_3_0_r3_sroa_idx_i_i, v_r8_sroa_19_0_ph_i_i);
     v_r9_sroa_4_0_r3_sroa_idx_i_i = v_r3_i_i + 16;
@@ -33674,30 +33914,84 @@ L_arm_1_i_i:;
     put_u8(v_r9_sroa_18_0_r3_sroa_idx_i_i, v_r8_sroa_64_0_ph_i_i);
     v_r9_sroa_19_0_r3_sroa_idx_i_i = v_r3_i_i + 122;
     copy(v_r9_sroa_19_0_r3_sroa_idx_i_i, v_r8_sroa_67_i_i, 6u);
-    f_pkcs1_params_strict_reject_defaults_2a8ca97c434130(v_r11_i_i, v_r3_i_i, v_r4, v_a1);
-    v_r1_sroa_0_0_copyload_i2_i_i = get_u8(v_r11_i_i);
-    v_6 = v_r1_sroa_0_0_copyload_i2_i_i == 0u;
-    v_7 = (u8)(v_r8_sroa_22_0_ph_i_i);
-    v_8 = (u8)(v_r8_sroa_40_0_ph_i_i);
-    v_9 = (u8)(v_r8_sroa_49_0_ph_i_i);
-    if (v_6) { goto L_arm_1_i; } else { goto L_arm_2_i; }
+    v_r10_not_i_not_i_i = v_r8_sroa_61_0_ph_i_i == 20u;
+    v_6 = (u8)(v_r8_sroa_22_0_ph_i_i);
+    v_7 = (u8)(v_r8_sroa_40_0_ph_i_i);
+    v_8 = (u8)(v_r8_sroa_49_0_ph_i_i);
+    if (v_r10_not_i_not_i_i) { goto L_pkcs1_params_pss_algorithm_PssParamsOfAnyRefAlgori; } else { goto L_then_2_i_i_i8_i_i; }
+L_then_2_i_i_i8_i_i:;
+    v_r26_i_i_i_i_i = get_u8(v_r4);
+    v_r28_i_i_i_i_i = v_r26_i_i_i_i_i == 48u;
+    if (v_r28_i_i_i_i_i) { goto L_then_5_i_i_i9_i_i; } else { goto L_pkcs1_params_pss_algorithm_PssParamsOfAnyRefAlgori; }
+L_then_5_i_i_i9_i_i:;
+    v_r36_i_i_i10_i_i = v_r4 + 1;
+    v_r38_i_i_i11_i_i = get_u8(v_r36_i_i_i10_i_i);
+    v_r40_i_i_i12_i_i = v_r38_i_i_i11_i_i == 52u;
+    if (v_r40_i_i_i12_i_i) { goto L_arm_1_i_i13_i_i; } else { goto L_pkcs1_params_pss_algorithm_PssParamsOfAnyRefAlgori; }
+L_arm_1_i_i13_i_i:;
+    v_r48_i_i_i14_i_i = v_r4 + 2;
+    v_r29_not_i_i_i15_i_i = v_a1 == 54u;
+    if (v_r29_not_i_i_i15_i_i) { goto L_then_6_i_i_i16_i_i; } else { goto L_pkcs1_params_usual_usual_pss_encoding_exit_thread_; }
+L_then_6_i_i_i16_i_i:;
+    v_r16_i3_i_i_i = v_r4 + 49;
+    v_r33_i_i_i17_i_i = get_u8(v_r16_i3_i_i_i);
+    v_cond_i_i_i18_i_i = v_r33_i_i_i17_i_i == 162u;
+    if (v_cond_i_i_i18_i_i) { goto L_arm_9_i6_i_i19_i_i; } else { goto L_pkcs1_params_usual_usual_pss_encoding_exit_thread_; }
+L_arm_9_i6_i_i19_i_i:;
+    v_r36_i7_i_i20_i_i = v_r4 + 50;
+    v_r38_i8_i_i21_i_i = get_u8(v_r36_i7_i_i20_i_i);
+    v_cond1_i_i_i22_i_i = v_r38_i8_i_i21_i_i == 3u;
+    if (v_cond1_i_i_i22_i_i) { goto L_arm_12_i_i_i23_i_i; } else { goto L_pkcs1_params_usual_usual_pss_encoding_exit_thread_; }
+L_arm_12_i_i_i23_i_i:;
+    v_r41_i_i_i24_i_i = v_r4 + 51;
+    v_r43_i_i_i25_i_i = get_u8(v_r41_i_i_i24_i_i);
+    v_cond2_i_i_i26_i_i = v_r43_i_i_i25_i_i == 2u;
+    if (v_cond2_i_i_i26_i_i) { goto L_arm_15_i_i_i27_i_i; } else { goto L_pkcs1_params_usual_usual_pss_encoding_exit_thread_; }
+L_arm_15_i_i_i27_i_i:;
+    v_r46_i9_i_i28_i_i = v_r4 + 52;
+    v_r48_i10_i_i29_i_i = get_u8(v_r46_i9_i_i28_i_i);
+    v_cond3_i_i_i30_i_i = v_r48_i10_i_i29_i_i == 1u;
+    if (v_cond3_i_i_i30_i_i) { goto L_arm_18_i_i_i31_i_i; } else { goto L_pkcs1_params_usual_usual_pss_encoding_exit_thread_; }
+L_arm_18_i_i_i31_i_i:;
+    v_r51_i11_i_i32_i_i = v_r4 + 53;
+    v_r54_i_i_i33_i_i = get_u8(v_r51_i11_i_i32_i_i);
+    v_r56_i_i_i34_i_i = (u8)(v_r54_i_i_i33_i_i ^ ((u8)1 << 7)) > (u8)(255u ^ ((u8)1 << 7));
+    if (v_r56_i_i_i34_i_i) { goto L_arm_4_i_i_i35_i_i; } else { goto L_pkcs1_params_usual_usual_pss_encoding_exit_thread_; }
+L_arm_4_i_i_i35_i_i:;
+    f_pkcs1_params_usual_usual_hash(v_r18_i_i_i2_i_i, v_r48_i_i_i14_i_i, 47u);
+    v_r2_i4_i_i_i = get_u8(v_r18_i_i_i2_i_i);
+    v_9 = v_r2_i4_i_i_i == 1u;
+    if (v_9) { goto L_pkcs1_params_pss_algorithm_PssParamsOfAnyRefAlgori__2; } else { goto L_pkcs1_params_usual_usual_pss_encoding_exit_thread_; }
+L_pkcs1_params_usual_usual_pss_encoding_exit_thread_:;
+    { goto L_pkcs1_params_pss_algorithm_PssParamsOfAnyRefAlgori; }
+L_pkcs1_params_pss_algorithm_PssParamsOfAnyRefAlgori__2:;
+    { goto L_arm_1_i; }
+L_pkcs1_params_pss_algorithm_PssParamsOfAnyRefAlgori:;
+    f_pkcs1_params_strict_reject_defaults_2a8ca97c434130(v_r0_i3_i_i, v_r3_i_i, v_r4, v_a1);
+    v_10 = get_u8(v_r0_i3_i_i);
+    v_r32_i_i_i = v_r0_i3_i_i + 1;
+    v_11 = get_u8(v_r32_i_i_i);
+    v_r34_i7_i_i = v_r0_i3_i_i + 2;
+    v_12 = get_u8(v_r34_i7_i_i);
+    v_13 = v_10 == 0u;
+    if (v_13) { goto L_arm_1_i; } else { goto L_arm_2_i; }
 L_arm_2_thread_i:;
     v_r13_sroa_6_0_ph_i_i_i = p_v_r13_sroa_6_0_ph_i_i_i;
-    { p_v_r5_sroa_8_0_ph66_i = v_r13_sroa_6_0_ph_i_i_i; goto L_arm_1_i2_i; }
+    { p_v_r5_sroa_8_0_ph67_i = v_r13_sroa_6_0_ph_i_i_i; goto L_arm_1_i3_i; }
 L_arm_1_i:;
-    v_10 = v_7 == 0u;
+    v_14 = v_6 == 0u;
     v_r4_i_i_i_i_i = (u8)(v_r8_sroa_25_0_ph_i_i);
-    v_r5_sroa_6_0_i_i_i = v_10 ? 0u : v_r4_i_i_i_i_i;
-    v_r5_sroa_81_0_i_i_i = v_10 ? (P)f_static_27 : v_r8_sroa_28_0_ph_i_i;
-    v_r5_sroa_10_0_i_i_i = v_10 ? 0u : v_r8_sroa_31_0_ph_i_i;
-    v_11 = v_8 == 0u;
-    if (v_11) { p_v_r5_sroa_61_0_i_i_i = (P)f_static_27; p_v_r5_sroa_8_0_i_i_i = 0u; p_v_r5_sroa_9_0_i_i_i = 0u; p_v_r5_sroa_10_0_i6_i_i = 0u; p_v_r5_sroa_12_0_i_i_i = (P)f_static_27; p_v_r5_sroa_13_0_i_i_i = 0u; goto L_pkcs1_c_pss_to_c_pss_exit_i; } else { goto L_arm_2_i5_i_i; }
+    v_r5_sroa_6_0_i_i_i = v_14 ? 0u : v_r4_i_i_i_i_i;
+    v_r5_sroa_81_0_i_i_i = v_14 ? (P)f_static_27 : v_r8_sroa_28_0_ph_i_i;
+    v_r5_sroa_10_0_i_i_i = v_14 ? 0u : v_r8_sroa_31_0_ph_i_i;
+    v_15 = v_7 == 0u;
+    if (v_15) { p_v_r5_sroa_61_0_i_i_i = (P)f_static_27; p_v_r5_sroa_8_0_i_i_i = 0u; p_v_r5_sroa_9_0_i_i_i = 0u; p_v_r5_sroa_10_0_i6_i_i = 0u; p_v_r5_sroa_12_0_i_i_i = (P)f_static_27; p_v_r5_sroa_13_0_i_i_i = 0u; goto L_pkcs1_c_pss_to_c_pss_exit_i; } else { goto L_arm_2_i5_i_i; }
 L_arm_2_i5_i_i:;
-    v_12 = v_9 == 0u;
-    if (v_12) { p_v_r5_sroa_61_0_i_i_i = v_r8_sroa_43_0_ph_i_i; p_v_r5_sroa_8_0_i_i_i = v_r8_sroa_46_0_ph_i_i; p_v_r5_sroa_9_0_i_i_i = 0u; p_v_r5_sroa_10_0_i6_i_i = 0u; p_v_r5_sroa_12_0_i_i_i = (P)f_static_27; p_v_r5_sroa_13_0_i_i_i = 0u; goto L_pkcs1_c_pss_to_c_pss_exit_i; } else { goto L_arm_2_i_i_i_i; }
+    v_16 = v_8 == 0u;
+    if (v_16) { p_v_r5_sroa_61_0_i_i_i = v_r8_sroa_43_0_ph_i_i; p_v_r5_sroa_8_0_i_i_i = v_r8_sroa_46_0_ph_i_i; p_v_r5_sroa_9_0_i_i_i = 0u; p_v_r5_sroa_10_0_i6_i_i = 0u; p_v_r5_sroa_12_0_i_i_i = (P)f_static_27; p_v_r5_sroa_13_0_i_i_i = 0u; goto L_pkcs1_c_pss_to_c_pss_exit_i; } else { goto L_arm_2_i_i_i_i; }
 L_arm_2_i_i_i_i:;
     v_r4_i_i_i_i_i_i = (u8)(v_r8_sroa_52_0_ph_i_i);
-    { p_v_r5_sroa_61_0_i_i_i = v_r8_sroa_43_0_ph_i_i; p_v_r5_sroa_8_0_i_i_i = v_r8_sroa_46_0_ph_i_i; p_v_r5_sroa_9_0_i_i_i = v_9; p_v_r5_sroa_10_0_i6_i_i = v_r4_i_i_i_i_i_i; p_v_r5_sroa_12_0_i_i_i = v_r8_sroa_55_0_ph_i_i; p_v_r5_sroa_13_0_i_i_i = v_r8_sroa_58_0_ph_i_i; goto L_pkcs1_c_pss_to_c_pss_exit_i; }
+    { p_v_r5_sroa_61_0_i_i_i = v_r8_sroa_43_0_ph_i_i; p_v_r5_sroa_8_0_i_i_i = v_r8_sroa_46_0_ph_i_i; p_v_r5_sroa_9_0_i_i_i = v_8; p_v_r5_sroa_10_0_i6_i_i = v_r4_i_i_i_i_i_i; p_v_r5_sroa_12_0_i_i_i = v_r8_sroa_55_0_ph_i_i; p_v_r5_sroa_13_0_i_i_i = v_r8_sroa_58_0_ph_i_i; goto L_pkcs1_c_pss_to_c_pss_exit_i; }
 L_pkcs1_c_pss_to_c_pss_exit_i:;
     v_r5_sroa_61_0_i_i_i = p_v_r5_sroa_61_0_i_i_i;
     v_r5_sroa_8_0_i_i_i = p_v_r5_sroa_8_0_i_i_i;
@@ -33705,11 +33999,11 @@ L_pkcs1_c_pss_to_c_pss_exit_i:;
     v_r5_sroa_10_0_i6_i_i = p_v_r5_sroa_10_0_i6_i_i;
     v_r5_sroa_12_0_i_i_i = p_v_r5_sroa_12_0_i_i_i;
     v_r5_sroa_13_0_i_i_i = p_v_r5_sroa_13_0_i_i_i;
-    put_P(v_a2, v_r8_sroa_1428_0_ph_i_i);
+    put_P(v_a2, v_r8_sroa_1469_0_ph_i_i);
     v_r7_sroa_3_0_a2_sroa_idx_i = v_a2 + 8;
     put_u64(v_r7_sroa_3_0_a2_sroa_idx_i, v_r8_sroa_19_0_ph_i_i);
     v_r7_sroa_4_0_a2_sroa_idx_i = v_a2 + 16;
-    put_u8(v_r7_sroa_4_0_a2_sroa_idx_i, v_7);
+    put_u8(v_r7_sroa_4_0_a2_sroa_idx_i, v_6);
     v_r7_sroa_5_0_a2_sroa_idx_i = v_a2 + 17;
     put_u8(v_r7_sroa_5_0_a2_sroa_idx_i, v_r5_sroa_6_0_i_i_i);
     v_r7_sroa_6_0_a2_sroa_idx_i = v_a2 + 18;
@@ -33723,7 +34017,7 @@ L_pkcs1_c_pss_to_c_pss_exit_i:;
     v_r7_sroa_10_0_a2_sroa_idx_i = v_a2 + 48;
     put_u64(v_r7_sroa_10_0_a2_sroa_idx_i, v_r8_sroa_37_0_ph_i_i);
     v_r7_sroa_11_0_a2_sroa_idx_i = v_a2 + 56;
-    put_u8(v_r7_sroa_11_0_a2_sroa_idx_i, v_8);
+    put_u8(v_r7_sroa_11_0_a2_sroa_idx_i, v_7);
     v_r7_sroa_12_0_a2_sroa_idx_i = v_a2 + 57;
     fill(v_r7_sroa_12_0_a2_sroa_idx_i, 0u, 7u);
     v_r7_sroa_13_0_a2_sroa_idx_i = v_a2 + 64;
@@ -33748,20 +34042,16 @@ L_pkcs1_c_pss_to_c_pss_exit_i:;
     fill(v_r7_sroa_22_0_a2_sroa_idx_i, 0u, 6u);
     { p_v_r6_0_i = 0u; goto L_pkcs1_c_pss_pkcs1_c_pss_params_decode_strict_exit; }
 L_arm_2_i:;
-    v_r5_i7_i_i = v_r11_i_i + 2;
-    v_r1_sroa_5_2_copyload_i8_i_i = get_u8(v_r5_i7_i_i);
-    v_r3_i9_i_i = v_r11_i_i + 1;
-    v_r1_sroa_3_1_copyload_i10_i_i = get_u8(v_r3_i9_i_i);
-    switch (v_r1_sroa_3_1_copyload_i10_i_i) {
-    case 0u: { p_v_r5_sroa_8_0_ph66_i = v_r1_sroa_5_2_copyload_i8_i_i; goto L_arm_1_i2_i; }
+    switch (v_11) {
+    case 0u: { p_v_r5_sroa_8_0_ph67_i = v_12; goto L_arm_1_i3_i; }
     case 1u: { p_v_r6_0_i = 18u; goto L_pkcs1_c_pss_pkcs1_c_pss_params_decode_strict_exit; }
     case 2u: { goto L_arm_3_i_i; }
     case 3u: { goto L_arm_4_i_i; }
     default: { goto L_noarm_5_i_i; }
     }
-L_arm_1_i2_i:;
-    v_r5_sroa_8_0_ph66_i = p_v_r5_sroa_8_0_ph66_i;
-    v_switch_idx_cast_i_i_i = (u32)v_r5_sroa_8_0_ph66_i;
+L_arm_1_i3_i:;
+    v_r5_sroa_8_0_ph67_i = p_v_r5_sroa_8_0_ph67_i;
+    v_switch_idx_cast_i_i_i = (u32)v_r5_sroa_8_0_ph67_i;
     v_switch_offset_i_i_i = (u32)((u32)(v_switch_idx_cast_i_i_i) + (u32)(1u));
     { p_v_r6_0_i = v_switch_offset_i_i_i; goto L_pkcs1_c_pss_pkcs1_c_pss_params_decode_strict_exit; }
 L_arm_3_i_i:;
