@@ -1,5 +1,5 @@
 -- RSA keys in containers.
-use Rattle.std.specs.Prelude.{ℕ, List, ◌≡◌}
+use Rattle.std.specs.Prelude.{ℕ, List, ◌≡◌, Option}
 use Rattle.der_core.specs.Document.{Means}
 use Rattle.spki_core.specs.Any.{TagAndContents, null_value}
 use Rattle.spki_core.specs.AlgorithmIdentifier.{Algorithm}
@@ -10,6 +10,10 @@ use Rattle.pkcs8_core.specs.Container.{Info, PrivateKeyInfo}
 -- rsaEncryption with NULL (RFC 8017 A.1).
 abbrev pub rsa_encryption : Algorithm TagAndContents
 rsa_encryption = with_parameters id_rsa_encryption null_value
+
+-- A container of these octets as the RSA key, with these attributes.
+abbrev pub with_rsa_key : List ℕ → Option (List ℕ) → Info
+with_rsa_key key attributes = record { algorithm = rsa_encryption; private_key = key; attributes = attributes }
 
 -- The container holds this RSA key.
 abbrev pub HoldsRsa : Info → PrivateKey (List ℕ) → Type 0

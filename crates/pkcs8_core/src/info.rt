@@ -14,6 +14,8 @@ ghost use Rattle.pkcs1.specs.Keys as keys;
 ghost use Rattle.pkcs1_params.specs.Parameters as parameters;
 
 use crate::attributes::Attributes;
+use crate::usual::usual_parts;
+use pkcs1::algorithm_id;
 use pkcs1::der::{
     BackWriter, Borrowed, Contents, Decode, Encode, EncodeInParts, EncodeValue, Error, Expected,
     InParts, Last, LastByTag, Length, Memory, NoMemory, OctetStringRef, Result, Sequence,
@@ -188,6 +190,13 @@ impl<'a> TryFrom<&'a [u8]> for PrivateKeyInfoRef<'a> {
         ensures err { OnErr result (IsNoSentence PrivateKeyInfo bytes.now) }
         ensures exact { Answers info_of result (private_key_info bytes.now) }
     {
+        if let Some((private_key, attributes)) = usual_parts(bytes) {
+            return Ok(PrivateKeyInfoRef {
+                algorithm: algorithm_id(),
+                private_key,
+                attributes,
+            });
+        }
         lemma_containers_take_no_memory::<NoMemory>();
         PrivateKeyInfoRef::from_der(NoMemory, bytes)
     }

@@ -5,6 +5,7 @@ mod attributes;
 mod faults;
 mod info;
 mod rsa;
+mod usual;
 
 pub use faults::fault_of_private_key_info;
 pub use info::{

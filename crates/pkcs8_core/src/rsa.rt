@@ -8,6 +8,7 @@ ghost use Rattle.pkcs8_core.specs.Words.{HoldsRsa, Info, PrivateKeyInfo, RsaPriv
 ghost use Rattle.pkcs8_core.specs.Words.{rsa_held, rsa_only, rsa_private_key_info};
 
 use crate::info::PrivateKeyInfoRef;
+use crate::usual::usual_parts;
 use pkcs1::der::{Error, ErrorKind, Result, Tag};
 use pkcs1::spki::AlgorithmIdentifierRef;
 use pkcs1::{RsaPrivateKeyRef, RsaPrivateKeyView, rsa_encryption_oid};
@@ -67,6 +68,9 @@ pub fn rsa_from_pkcs8_der<'a>(bytes: &'a [u8]) -> pkcs1::Result<RsaPrivateKeyVie
     ensures err { OnErr result (IsNoSentence RsaPrivateKeyInfo bytes.now) }
     ensures exact { ErrsAs view_of (rsa_private_key_info bytes.now) result }
 {
+    if let Some((private_key, _attributes)) = usual_parts(bytes) {
+        return RsaPrivateKeyView::try_from(private_key.as_bytes());
+    }
     let info = PrivateKeyInfoRef::try_from(bytes)?;
     info.rsa_view()
 }
